@@ -1,0 +1,42 @@
+use borrow.Author.Needs.{needs}
+use mathlib.Core.Path.{_≡_, refl, sym}
+use mathlib.Core.Logic.{⊎-elim}
+use Prim.Native.Nat.{_≤_, _+_}
+use native.Mathlib.Omega.{arith}
+use Rattle.settings.specs.Times.{nextCount, timeOf, maxCount}
+use Rattle.settings.specs.TimeLaws.{Draws, draw-passed, draw-refused, draw-given}
+use Rattle.settings.proofs.Clock.draw.Statement.{statement}
+use Rattle.settings.proofs.Clock.draw.Tie as tie
+
+refusal-requires : tie.Need-refusal-requires
+refusal-requires c κs = search needs
+
+returns : tie.Need-returns
+returns c = search (needs, draw-refused)
+
+passed : (c : tie.Else1) → Draws (c .before .before .args .self) (c .before .before .args .reading)
+passed c = search (needs, draw-passed)
+
+add-least : tie.Need-add-least
+add-least c = omega (arith, passed (c .before))
+
+counted : (c : tie.Joined2) → c .if2 .count ≡ nextCount (c .before .before .before .before .args .self .last) (c .before .before .before .before .args .reading)
+unfolding nextCount
+counted c = ⊎-elim (λ w. omega arith) (λ w. omega arith) (c .if2 .came)
+
+small : (c : tie.Joined2) → c .if2 .count ≤ 1099511627775
+unfolding nextCount
+small c = omega (arith, counted c, passed (c .before .before))
+
+mul-t8 : tie.Need-mul-t8
+mul-t8 c = omega (arith, small (c .before))
+
+add-t9 : tie.Need-add-t9
+add-t9 c = omega (arith, small (c .before .before), passed (c .before .before .before .before))
+
+returns-2 : tie.Need-returns-2
+unfolding timeOf
+returns-2 c = search (needs, draw-given, counted (c .before .before))
+
+pub draw-spec : {M : Type 1} → statement M
+draw-spec = tie.close (tie.spec refusal-requires returns add-least mul-t8 add-t9 returns-2)

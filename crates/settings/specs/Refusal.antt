@@ -1,0 +1,59 @@
+-- Document 01, "Refused by number, lowest first": the twelve numbers. 0 stands for "not refused".
+-- A refusal returns its number alone, and every image, record and buffer keeps its bytes.
+use mathlib.Core.Bool.{Bool, cond}
+use Prim.Native.Nat.{ℕ}
+
+abbrev pub passed : ℕ
+passed = 0
+
+-- the given number, unless the test holds
+abbrev pub refuseUnless : Bool → ℕ → ℕ
+refuseUnless ok number = cond ok passed number
+
+-- a setting outside its range
+abbrev pub badSetting : ℕ
+badSetting = 1
+
+-- a lent buffer whose length differs from what the settings require
+abbrev pub badLength : ℕ
+badLength = 2
+
+-- a brick number not below n, a coordinator number above 15, or a view's place not below its count
+abbrev pub badNumber : ℕ
+badNumber = 3
+
+-- a brick set for decoding that isn't m different bricks
+abbrev pub badBrickSet : ℕ
+badBrickSet = 4
+
+-- an image block whose check fails
+abbrev pub badCheck : ℕ
+badCheck = 5
+
+-- an image or coordinator record that breaks a rule
+abbrev pub badRecord : ℕ
+badRecord = 6
+
+-- a clock reading above 2^40 - 1
+abbrev pub badReading : ℕ
+badReading = 7
+
+-- a coordinator whose last count is 2^40 - 1
+abbrev pub clockSpent : ℕ
+clockSpent = 8
+
+-- a start while an operation runs
+abbrev pub busy : ℕ
+busy = 9
+
+-- a message or reply of unknown kind, or with a field outside its range
+abbrev pub badMessage : ℕ
+badMessage = 10
+
+-- a reply not of the running operation and round, from a brick already counted, or with a block against the rules
+abbrev pub strayReply : ℕ
+strayReply = 11
+
+-- a bench line that doesn't read, or that names or would send what it may not
+abbrev pub badLine : ℕ
+badLine = 12
