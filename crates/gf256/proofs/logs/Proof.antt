@@ -1,0 +1,12 @@
+use Rattle.gf256.specs.Computed.{every}
+use Rattle.gf256.specs.Product.{plus, twice}
+use Rattle.gf256.specs.TableLaws.{logsRight, indexRight, doublings, logs-by-test}
+use Rattle.gf256.proofs.logs.Statement.{statement}
+use Rattle.gf256.proofs.logs.Tie as tie
+
+returns : tie.Need-returns
+unfolding logsRight indexRight doublings every twice plus
+returns c = logs-by-test _ tt
+
+pub logs-spec : {M : Type 1} → statement M
+logs-spec = tie.close (tie.spec returns)

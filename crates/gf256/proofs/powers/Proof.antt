@@ -1,0 +1,11 @@
+use Rattle.gf256.specs.Product.{plus, twice}
+use Rattle.gf256.specs.TableLaws.{powersRight, chained, powers-by-test}
+use Rattle.gf256.proofs.powers.Statement.{statement}
+use Rattle.gf256.proofs.powers.Tie as tie
+
+returns : tie.Need-returns
+unfolding powersRight chained twice plus
+returns c = powers-by-test _ tt
+
+pub powers-spec : {M : Type 1} → statement M
+powers-spec = tie.close (tie.spec returns)
