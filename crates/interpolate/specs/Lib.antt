@@ -1,0 +1,10 @@
+-- Definitions: Bytes (the field), Values (what is computed). Laws: the others.
+pub mod BitLaws
+pub mod Bytes
+pub mod PlaceLaws
+pub mod RowLaws
+pub mod Rows
+pub mod SumLaws
+pub mod Tabulate
+pub mod Values
+pub mod WeightLaws
