@@ -1,7 +1,9 @@
 -- Definitions: Bytes (the field), Values (what is computed). Laws: the others.
 pub mod BitLaws
+pub mod BlockLaws
 pub mod Bytes
 pub mod PlaceLaws
+pub mod Polynomials
 pub mod RowLaws
 pub mod Rows
 pub mod SumLaws
