@@ -17,13 +17,13 @@ pub index-below : (j k size p : ℕ) → j < k → p < size → j * size + p < k
 index-below j k size p hj hp = let h = mul-le-mul-right size hj in let s = suc-mul j size in omega arith
 
 pub byte-stacked : (k size : ℕ) (f : ℕ → List ℕ) → ((i : ℕ) → length (f i) ≡ size) → (j p : ℕ) → j < k → p < size
-  → byteAt size (stacked k f) j p ≡ getD (f j) p 0
+    → byteAt size (stacked k f) j p ≡ getD (f j) p 0
 unfolding byteAt stacked
 byte-stacked zero size f h j p hj hp = absurd (not-suc-le-zero hj)
 byte-stacked (suc k) size f h j p hj hp = by (ℕ-discrete j k) (byte-stacked k size f h j p)
   where
     by : Dec (j ≡ k) → (j < k → p < size → getD (stacked k f) (j * size + p) 0 ≡ getD (f j) p 0)
-      → getD (stacked k f ++ f k) (j * size + p) 0 ≡ getD (f j) p 0
+        → getD (stacked k f ++ f k) (j * size + p) 0 ≡ getD (f j) p 0
     by (yes e) ih =
         ap (λ (i : ℕ). getD (stacked k f ++ f k) i 0)
         (let q = ap (λ (i : ℕ). i * size) e in let l = length-stacked k size f h in let g : j * size + p ≡ length (stacked k f) + p = omega arith in g)
@@ -35,7 +35,7 @@ byte-stacked (suc k) size f h j p hj hp = by (ℕ-discrete j k) (byte-stacked k 
 
 -- a row of k blocks that has these bytes is these blocks
 pub stacked-by : (k size : ℕ) (f : ℕ → List ℕ) (l : List ℕ) → 0 < size → ((i : ℕ) → length (f i) ≡ size) → length l ≡ k * size
-  → ((j p : ℕ) → j < k → p < size → byteAt size l j p ≡ getD (f j) p 0) → l ≡ stacked k f
+    → ((j p : ℕ) → j < k → p < size → byteAt size l j p ≡ getD (f j) p 0) → l ≡ stacked k f
 unfolding byteAt
 stacked-by k size f l pos hf e h =
     ext-getD 0 l (stacked k f) (e ∙ sym (length-stacked k size f hf)) (λ i u. at i (omega arith))
@@ -57,7 +57,7 @@ length-blocksAt points size blocks count = length-stacked count size (blockAt po
 
 -- byte p of block x is the value at x
 pub blocks-byte : (points : List ℕ) (size : ℕ) (blocks : List ℕ) (count x p : ℕ) → x < count → p < size
-  → byteAt size (blocksAt points size blocks count) x p ≡ valueAt points size blocks x p
+    → byteAt size (blocksAt points size blocks count) x p ≡ valueAt points size blocks x p
 unfolding blocksAt blockAt
 blocks-byte points size blocks count x p hx hp =
     byte-stacked count size (blockAt points size blocks) (length-blockAt points size blocks) x p hx hp
@@ -65,7 +65,7 @@ blocks-byte points size blocks count x p hx hp =
 
 -- a row of blocks with these values is these blocks
 pub blocks-by : (points : List ℕ) (size : ℕ) (blocks l : List ℕ) (count : ℕ) → 0 < size → length l ≡ count * size
-  → ((x p : ℕ) → x < count → p < size → byteAt size l x p ≡ valueAt points size blocks x p) → l ≡ blocksAt points size blocks count
+    → ((x p : ℕ) → x < count → p < size → byteAt size l x p ≡ valueAt points size blocks x p) → l ≡ blocksAt points size blocks count
 unfolding blocksAt blockAt
 blocks-by points size blocks l count pos e h =
     stacked-by count size (blockAt points size blocks) l pos (length-blockAt points size blocks) e

@@ -21,7 +21,7 @@ module _ (points : List ℕ) (size : ℕ) (blocks : List ℕ) (p : ℕ) (small :
   pub a-polynomial : (c : List Byte) × Through points size blocks p c
   a-polynomial =
       let e = exists-through bytes (length points) (λ (i : ℕ). byte (getD points i 0)) (λ (i : ℕ). byte (byteAt size blocks i p))
-                (different-points points (length points) small (set .differ)) in
+      (different-points points (length points) small (set .differ)) in
       (e .0, record { degree = e .1; at = e .2 })
 
   -- only one,
@@ -36,4 +36,4 @@ module _ (points : List ℕ) (size : ℕ) (blocks : List ℕ) (p : ℕ) (small :
   value-of-polynomial c h x =
       ap (λ (b : Byte). b .0)
       (interpolates bytes (length points) (λ (i : ℕ). byte (getD points i 0)) (λ (i : ℕ). byte (byteAt size blocks i p)) c
-        (different-points points (length points) small (set .differ)) (le-of-eq (h .degree)) (h .at) (byte x))
+      (different-points points (length points) small (set .differ)) (le-of-eq (h .degree)) (h .at) (byte x))

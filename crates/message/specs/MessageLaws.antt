@@ -37,17 +37,17 @@ reply-bad n r v h e t = reply-is n r 10 h (rw (← e, t))
 
 -- A message's three rules; a, b and c are what the tests gave.
 pub message-passed : (n m : ℕ) (msg : Message) (a b c : Bool) → a ≡ validTime (msg .time) → a ≡ true → b ≡ roundRight (msg .round) → b ≡ true
-  → c ≡ kindRight n m msg → c ≡ true → 0 ≡ messageRefusal n m msg
+    → c ≡ kindRight n m msg → c ≡ true → 0 ≡ messageRefusal n m msg
 unfolding messageRefusal
 message-passed n m msg a b c ea ta eb tb ec tc = rw (← ea, ← eb, ← ec, ta, tb, tc)
 
 pub message-kind : (n m : ℕ) (msg : Message) (a b c : Bool) → a ≡ validTime (msg .time) → a ≡ true → b ≡ roundRight (msg .round) → b ≡ true
-  → c ≡ kindRight n m msg → c ≡ false → 10 ≡ messageRefusal n m msg
+    → c ≡ kindRight n m msg → c ≡ false → 10 ≡ messageRefusal n m msg
 unfolding messageRefusal
 message-kind n m msg a b c ea ta eb tb ec tc = rw (← ea, ← eb, ← ec, ta, tb, tc)
 
 pub message-round : (n m : ℕ) (msg : Message) (a b : Bool) → a ≡ validTime (msg .time) → a ≡ true → b ≡ roundRight (msg .round) → b ≡ false
-  → 10 ≡ messageRefusal n m msg
+    → 10 ≡ messageRefusal n m msg
 unfolding messageRefusal
 message-round n m msg a b ea ta eb tb = rw (← ea, ← eb, ta, tb)
 
@@ -68,11 +68,11 @@ pub reply-time : (r : Reply) (a : Bool) → 1 ≤ r .kind → r .kind ≤ 4 → 
 reply-time r a l h ea ta = sym (reply-rest r l h ∙ rw (← ea, ta))
 
 pub reply-round : (r : Reply) (a b : Bool) → 1 ≤ r .kind → r .kind ≤ 4 → a ≡ validTime (r .time) → a ≡ true → b ≡ roundRight (r .round) → b ≡ false
-  → false ≡ replyRight r
+    → false ≡ replyRight r
 reply-round r a b l h ea ta eb tb = sym (reply-rest r l h ∙ rw (← ea, ← eb, ta, tb))
 
 pub reply-found : (r : Reply) (a b v : Bool) → 1 ≤ r .kind → r .kind ≤ 4 → a ≡ validTime (r .time) → a ≡ true → b ≡ roundRight (r .round) → b ≡ true
-  → v ≡ foundRight (r .found) → v ≡ replyRight r
+    → v ≡ foundRight (r .found) → v ≡ replyRight r
 reply-found r a b v l h ea ta eb tb e = e ∙ sym (reply-rest r l h ∙ rw (← ea, ← eb, ta, tb))
 
 pub found-zero : (t : ℕ) (v : Bool) → t ≡ 0 → v ≡ eqb t 0 → v ≡ foundRight t

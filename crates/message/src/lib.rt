@@ -9,10 +9,15 @@ ghost use Rattle.message.specs.Flags.{members, flagsWithin, brickSet};
 ghost use Rattle.message.specs.Messages.{roundRight, kindRight, messageRefusal, foundRight, replyRight, replyRefusal};
 
 pub const READ: u8 = 1;
+
 pub const ORDER: u8 = 2;
+
 pub const ORDER_READ: u8 = 3;
+
 pub const WRITE: u8 = 4;
+
 pub const TRIM: u8 = 5;
+
 pub const LAST_ROUND: u64 = 1000;
 
 // max: Order-and-read only. targets: Read only, a flag a brick.

@@ -32,7 +32,7 @@ loop-less : tie.Need-loop-less Inv-loop μ-loop
 loop-less c = omega arith
 
 loop-again : tie.Need-loop-again Inv-loop μ-loop
-loop-again c = 
+loop-again c =
     let l = c .before .before .loop in
     ⊎-elim
     (λ w. (w .1 ∙ members-yes _ _ _ (l .inv .0) (w .0 .taken), omega arith, omega (arith, w .1)))

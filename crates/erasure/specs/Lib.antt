@@ -1,0 +1,6 @@
+-- Definitions: Code, Refusals. Laws and theorems: the others.
+pub mod Code
+pub mod ListLaws
+pub mod PassedLaws
+pub mod RefusalLaws
+pub mod Refusals
