@@ -118,9 +118,9 @@ pub extern "C" fn stripe_encode(
     ensures { λ r. ⌜ r ≡ encodeRefusal n m size (length (now («data» .entry))) (length (now (coded .entry))) ⌝ }
     ensures { λ r. ⌜ now (coded .exit) ≡ encodedBuffer n m size (now («data» .entry)) (now (coded .entry)) ⌝ }
 {
-    let bad = encode_refusal(n, m, size, data.len(), coded.len());
-    if bad != 0 {
-        return bad;
+    let number = encode_refusal(n, m, size, data.len(), coded.len());
+    if number != 0 {
+        return number;
     }
     encode_into(n, m, size, data, coded);
     0
@@ -139,9 +139,9 @@ pub extern "C" fn stripe_decode(
     ensures { λ r. ⌜ r ≡ decodeRefusal n m size (now (bricks .entry)) (length (now (blocks .entry))) (length (now («data» .entry))) ⌝ }
     ensures { λ r. ⌜ now («data» .exit) ≡ decodedBuffer n m size (now (bricks .entry)) (now (blocks .entry)) (now («data» .entry)) ⌝ }
 {
-    let bad = decode_refusal(n, m, size, bricks, blocks.len(), data.len());
-    if bad != 0 {
-        return bad;
+    let reason = decode_refusal(n, m, size, bricks, blocks.len(), data.len());
+    if reason != 0 {
+        return reason;
     }
     decode_into(m, size, bricks, blocks, data);
     0

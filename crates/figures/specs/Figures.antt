@@ -5,7 +5,12 @@ use mathlib.Core.Bool.{Bool, true, false, _&&_}
 use mathlib.Core.List.{List, [], _∷_}
 use Prim.Native.Nat.{ℕ, _+_, _*_, _^_, _-_}
 use lib.Dec.{T, eqb, eqb→eq}
-use Rattle.gf256.specs.Product.{plus, twice, shiftAdd, product}
+use lib.ListN.{getD}
+use Rattle.erasure.specs.Code.{firstPoints, codedOf, decodedOf}
+use Rattle.gf256.specs.Product.{plus, twice, shiftAdd, product, inverseBelow, inverse}
+use Rattle.interpolate.specs.Tabulate.{tabulate, stacked}
+use Rattle.interpolate.specs.Values.{byteAt, valueAt, blockAt, blocksAt}
+use Rattle.poly.specs.Polynomial.{pick, sub, sum, factor, basisTo, basis, interpolated}
 use Rattle.settings.specs.Ranges.{quorum, faults, inRange, bricksInRange, sizeInRange, capacityInRange, settingsRefusal}
 use Rattle.settings.specs.Times.{maxCount, timeOf, nextCount, drawRefusal, advanced, drawOf}
 use Rattle.settings.specs.declared.Clock.{Clock}
@@ -46,6 +51,13 @@ figures =
     ∷ row (product 2 128) 29
     ∷ row (product 2 142) 1
     ∷ row (product 3 3) 5
+    -- m 2, n 4: data 5, 9 gives parity 29, 17; blocks 2 and 3 give 5, 9.
+    ∷ row (getD (codedOf 4 2 1 (5 ∷ 9 ∷ [])) 0 0) 5
+    ∷ row (getD (codedOf 4 2 1 (5 ∷ 9 ∷ [])) 1 0) 9
+    ∷ row (getD (codedOf 4 2 1 (5 ∷ 9 ∷ [])) 2 0) 29
+    ∷ row (getD (codedOf 4 2 1 (5 ∷ 9 ∷ [])) 3 0) 17
+    ∷ row (getD (decodedOf 2 1 (2 ∷ 3 ∷ []) (29 ∷ 17 ∷ [])) 0 0) 5
+    ∷ row (getD (decodedOf 2 1 (2 ∷ 3 ∷ []) (29 ∷ 17 ∷ [])) 1 0) 9
     -- Last 5, reading 3, coordinator 0: time 96. Last 0, reading 0, coordinator 2: 18.
     ∷ row (drawFor 0 5 3) 96
     ∷ row (drawFor 2 0 0) 18
@@ -77,5 +89,6 @@ held (r ∷ rows) t = go (eqb (r .given) (r .figure)) (eqb→eq (r .given) (r .f
 -- The starred figures, one theorem over the table.
 pub figures-hold : Hold figures
 unfolding figures agree timeOrNumber drawFor refusalFor quorum faults product shiftAdd twice plus
+    firstPoints codedOf decodedOf inverseBelow inverse tabulate stacked byteAt valueAt blockAt blocksAt pick sub sum factor basisTo basis interpolated
     settingsRefusal inRange bricksInRange sizeInRange capacityInRange maxCount timeOf nextCount drawRefusal advanced drawOf
 figures-hold = held figures tt

@@ -229,14 +229,14 @@ fn combine(
     let size = out.len();
     let top = numerator_of(logs, points, x);
     clear(out);
-    let mut i = 0;
+    let mut j = 0;
     let mut at = 0;
-    while i < points.len() {
-        let s = weight_log(logs, points, sums, top, x, i);
+    while j < points.len() {
+        let s = weight_log(logs, points, sums, top, x, j);
         let end = at + size;
         add_scaled(powers, s, &blocks[at..end], out);
         at = end;
-        i += 1;
+        j += 1;
     }
 }
 

@@ -11,11 +11,11 @@ use Rattle.interpolate.proofs.combine.Statement.{statement}
 use Rattle.interpolate.proofs.combine.Tie as tie
 
 abbrev Inv-loop : tie.InvT-loop
-Inv-loop powers logs points sums blocks x out₀ size top i₀ at₀ out i at =
-    (out ≡ tabulate size (partial points size blocks x i)) × (at ≡ i * size) × (i ≤ length points)
+Inv-loop powers logs points sums blocks x out₀ size top j₀ at₀ out j at =
+    (out ≡ tabulate size (partial points size blocks x j)) × (at ≡ j * size) × (j ≤ length points)
 
 abbrev μ-loop : tie.MeasureT-loop
-μ-loop powers logs points sums blocks x out₀ size top i₀ at₀ out i at = length points - i
+μ-loop powers logs points sums blocks x out₀ size top j₀ at₀ out j at = length points - j
 
 numerator-of-requires : tie.Need-numerator-of-requires Inv-loop μ-loop
 numerator-of-requires c κs = c .before .before .before .pre .1 .0 .set .few
@@ -32,7 +32,7 @@ within : (c : tie.In-loop Inv-loop μ-loop)
 within c =
     let s = c .before .before .before .before .before .before .before .before .before .before in
     let h = mul-le-mul-right (length (s .args .out .now)) (c .loop-test .taken) in
-    omega (arith, h, suc-mul (c .before .loop .i) (length (s .args .out .now)), c .before .loop .inv .1, s .pre .1 .1 .1)
+    omega (arith, h, suc-mul (c .before .loop .j) (length (s .args .out .now)), c .before .loop .inv .1, s .pre .1 .1 .1)
 
 weight-log-requires : tie.Need-weight-log-requires Inv-loop μ-loop
 weight-log-requires c κs =
@@ -59,8 +59,8 @@ add-scaled-requires c κs =
     let l = c .before .before .before .before .loop in
     (s .pre .0, (c .before .before .weight-log .ensures .0, part-length (length (s .args .out .now)) (s .args .blocks .now) (l .at) e ∙ sym (ap length (l .inv .0) ∙ length-tabulate _ _)))
 
-add-i : tie.Need-add-i Inv-loop μ-loop
-add-i c = omega arith
+add-j : tie.Need-add-j Inv-loop μ-loop
+add-j c = omega arith
 
 loop-less : tie.Need-loop-less Inv-loop μ-loop
 loop-less c = omega arith
@@ -70,7 +70,7 @@ loop-again c =
     let s = c .before .before .before .before .before .before .before .before .before .before .before .before .before .before .before .before in
     let l = c .before .before .before .before .before .before .before .loop in
     let size = length (s .args .out .now) in (
-      row-step (s .args .points .now) size (s .args .blocks .now) (l .out) _ (s .args .x) (l .i) (l .at) _ (λ k. c .before .before .before .before .before .before .before .before .before .before .before .before .before .before .shared-slice-known2 .given k .fits) (l .inv .1) (l .inv .0)
+      row-step (s .args .points .now) size (s .args .blocks .now) (l .out) _ (s .args .x) (l .j) (l .at) _ (λ k. c .before .before .before .before .before .before .before .before .before .before .before .before .before .before .shared-slice-known2 .given k .fits) (l .inv .1) (l .inv .0)
           (c .before .before .before .before .before .weight-log .ensures .1) (c .before .before .add-scaled .ensures),
       omega (arith, l .inv .1),
       omega arith,
@@ -97,7 +97,7 @@ combine-spec =
     part-add-scaled-start
     part-add-scaled-end
     add-scaled-requires
-    add-i
+    add-j
     loop-less
     loop-again
     same-length
