@@ -8,6 +8,7 @@ mod c {
         pub fn probe_power(k: usize) -> u8;
         pub fn probe_log(a: u8) -> u8;
         pub fn probe_quorum(n: usize, m: usize) -> usize;
+        pub fn probe_time(t: u64) -> bool;
         pub fn probe_settings(n: usize, m: usize, size: usize, capacity: usize) -> u32;
         pub fn stripe_encode(
             n: usize,
@@ -56,6 +57,10 @@ pub fn log(a: u8) -> u8 {
 
 pub fn quorum(n: usize, m: usize) -> usize {
     unsafe { c::probe_quorum(n, m) }
+}
+
+pub fn is_time(t: u64) -> bool {
+    unsafe { c::probe_time(t) }
 }
 
 pub fn settings(n: usize, m: usize, size: usize, capacity: usize) -> u32 {

@@ -51,6 +51,13 @@ fn settings_in_and_around_their_ranges() {
     }
 }
 
+#[test]
+fn valid_times_at_the_borders() {
+    for border in [0, 1, 15, 16, 17, (1 << 44) - 1, 1 << 44, (1 << 44) + 1, u64::MAX] {
+        assert_eq!(proved::is_time(border), settings::valid_time(border), "{border}");
+    }
+}
+
 /// Both clocks on one draw, the buffer filled with a pattern that a refusal must leave.
 fn compare_draw(coordinator: u64, last: u64, reading: u64) {
     let mut out = [7, 9];

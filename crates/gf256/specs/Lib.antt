@@ -1,4 +1,4 @@
--- Definitions: Product, Tables. Laws: XorLaws, ProductLaws, FieldLaws, TableLaws.
+-- Definitions: Product (the field), Tables (what the two tables hold). Laws: the modules named ..Laws; Computed carries a test over a table to its entries.
 pub mod Computed
 pub mod FieldLaws
 pub mod LookupLaws

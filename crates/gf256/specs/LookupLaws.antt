@@ -4,7 +4,7 @@ use mathlib.Core.List.{List}
 use Prim.Native.Nat.{ℕ, zero, suc, _+_, _-_, _≤_, _<_}
 use native.Mathlib.Omega.{arith}
 use lib.ListN.{getD}
-use Rattle.gf256.specs.Product.{product, doubled, power, inverse}
+use Rattle.gf256.specs.Product.{product, doubled, power, inverse, quotient}
 use Rattle.gf256.specs.ProductLaws.{product-zero, zero-product, product-one}
 use Rattle.gf256.specs.TableLaws.{power-byte, power-add, power-cycle}
 use Rattle.gf256.specs.Tables.{IsPowers, IsLogs}
@@ -18,6 +18,10 @@ right-zero a b e = sym (product-zero a) ∙ ap (λ (x : ℕ). product a x) (sym 
 
 pub of-zero : (a : ℕ) → a ≡ 0 → 0 ≡ inverse a
 of-zero a e = sym inverse-zero ∙ ap inverse (sym e)
+
+pub quotient-is : (a b c r : ℕ) → c ≡ inverse b → r ≡ product a c → r ≡ quotient a b
+unfolding quotient
+quotient-is a b c r e f = f ∙ ap (product a) e
 
 -- logarithms alone
 module _ (l : List ℕ) (hl : IsLogs l) (a : ℕ) (na : a ≡ 0 → ⊥) (la : a < 256) where

@@ -1,6 +1,6 @@
 -- Powers of 2: their sums, their cycle of 255, and the tests that show a table right.
 use mathlib.Core.Path.{_≡_, refl, sym, ap, subst, _∙_}
-use mathlib.Core.Bool.{Bool, true, false, cond, _&&_, _||_}
+use mathlib.Core.Bool.{Bool, true, false, cond, _&&_}
 use mathlib.Core.List.{List, [], _∷_}
 use Prim.Native.Nat.{ℕ, zero, suc, _+_, _*_, _/_, _%_, _≤_, _<_}
 use native.Mathlib.Nat.{le-of-suc-le-suc, not-suc-le-zero, add-comm}
@@ -59,9 +59,9 @@ chained a (x ∷ xs) = eqb x a && chained (twice a) xs
 unfoldable pub powersRight : List ℕ → Bool
 powersRight table = eqb (length table) 255 && chained 1 table
 
--- The rule of the table of logarithms, as a test over the whole table: 256 entries, each but the first the index of its place among the powers.
+-- The rule of the table of logarithms, as a test over the whole table: 256 entries, 0 first, each other the index of its place among the powers.
 unfoldable pub indexRight : List ℕ → ℕ → ℕ → Bool
-indexRight powers a x = eqb a 0 || (ltb x 255 && eqb (getD powers x 0) a)
+indexRight powers a x = cond (eqb a 0) (eqb x 0) (ltb x 255 && eqb (getD powers x 0) a)
 
 unfoldable pub logsRight : List ℕ → Bool
 logsRight table = eqb (length table) 256 && every (indexRight (doublings 255 1)) 0 table
@@ -74,9 +74,9 @@ right : (a b : Bool) → T (a && b) → T b
 right true b t = t
 right false b t = absurd t
 
-other : (a b : Bool) → T (a || b) → (T a → ⊥) → T b
-other true b t n = absurd (n tt)
-other false b t n = t
+other : (a b c : Bool) → T (cond a b c) → (T a → ⊥) → T c
+other true b c t n = absurd (n tt)
+other false b c t n = t
 
 chained-at : (a : ℕ) (xs : List ℕ) → T (chained a xs) → (k : ℕ) → k < length xs → getD xs k 0 ≡ doubled k a
 unfolding chained doubled
@@ -98,9 +98,13 @@ powers-by-test table t =
 index-right : (a x : ℕ) → T (indexRight (doublings 255 1) a x) → 0 < a → (x < 255) × (power x ≡ a)
 unfolding indexRight power
 index-right a x t h =
-    let u = other (eqb a 0) (ltb x 255 && eqb (getD (doublings 255 1) x 0) a) t (λ z. let e = eqb→eq a 0 z in omega arith) in
+    let u = other (eqb a 0) (eqb x 0) (ltb x 255 && eqb (getD (doublings 255 1) x 0) a) t (λ z. let e = eqb→eq a 0 z in omega arith) in
     let l = ltb→lt x 255 (left (ltb x 255) (eqb (getD (doublings 255 1) x 0) a) u) in
     (l, sym (doublings-at 255 1 x l) ∙ eqb→eq (getD (doublings 255 1) x 0) a (right (ltb x 255) (eqb (getD (doublings 255 1) x 0) a) u))
+
+first : (x : ℕ) → T (indexRight (doublings 255 1) 0 x) → T (eqb x 0)
+unfolding indexRight
+first x t = t
 
 pub logs-by-test : (table : List ℕ) → T (logsRight table) → IsLogs table
 unfolding logsRight
@@ -109,6 +113,7 @@ logs-by-test table t =
     let passes = at-entry (indexRight (doublings 255 1)) table (right (eqb (length table) 256) (every (indexRight (doublings 255 1)) 0 table) t) in
     record {
       size = size;
+      none = eqb→eq (getD table 0 0) 0 (first (getD table 0 0) (passes 0 (omega arith)));
       below = λ a h l. index-right a (getD table a 0) (passes a (omega arith)) h .0;
       entry = λ a h l. index-right a (getD table a 0) (passes a (omega arith)) h .1;
     }
@@ -119,7 +124,8 @@ placeOf a [] = 0
 placeOf a (x ∷ xs) = let r = suc (placeOf a xs) in cond (eqb x a) 0 r
 
 unfoldable pub hasLog : ℕ → Bool
-hasLog a = indexRight (doublings 255 1) a (placeOf a (doublings 255 1))
+hasLog zero = true
+hasLog (suc a) = indexRight (doublings 255 1) (suc a) (placeOf (suc a) (doublings 255 1))
 
 all-have-logs : (k : ℕ) → k < 256 → T (hasLog k)
 unfolding hasLog allBelow indexRight placeOf doublings twice plus
@@ -128,6 +134,7 @@ all-have-logs k h = at-below hasLog 256 tt k h
 -- every byte but 0 is a power of 2
 pub log-exists : (a : ℕ) → 0 < a → a < 256 → (k : ℕ) × (k < 255) × (power k ≡ a)
 unfolding hasLog
-log-exists a h l =
-    let e = index-right a (placeOf a (doublings 255 1)) (all-have-logs a l) h in
-    (placeOf a (doublings 255 1), e .0, e .1)
+log-exists zero h l = absurd (not-suc-le-zero h)
+log-exists (suc a) h l =
+    let e = index-right (suc a) (placeOf (suc a) (doublings 255 1)) (all-have-logs (suc a) l) h in
+    (placeOf (suc a) (doublings 255 1), e .0, e .1)

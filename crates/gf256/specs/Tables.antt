@@ -10,8 +10,9 @@ pub record IsPowers (table : List ℕ) : Type 0 where
   pub size : length table ≡ 255
   pub entry : (k : ℕ) → k < 255 → getD table k 0 ≡ power k
 
--- entry a is the number below 255 whose power a is; 0 has no logarithm, and its entry is not read
+-- entry a is the number below 255 whose power a is; 0 has no logarithm: its entry is 0 and is not read
 pub record IsLogs (table : List ℕ) : Type 0 where
   pub size : length table ≡ 256
+  pub none : getD table 0 0 ≡ 0
   pub below : (a : ℕ) → 0 < a → a < 256 → getD table a 0 < 255
   pub entry : (a : ℕ) → 0 < a → a < 256 → power (getD table a 0) ≡ a

@@ -3,6 +3,7 @@ ghost use mathlib.Core.Path.{_≡_};
 ghost use Rattle.gf256.specs.Product.{product, inverse, quotient};
 ghost use Rattle.probe.specs.Probe.{powerOrZero, IsLog, settingsNumber, drawNumber, drawBuffer};
 ghost use Rattle.settings.specs.Ranges.{quorum};
+ghost use Rattle.settings.specs.Times.{validTime};
 use settings::Clock;
 use settings::Draw;
 use settings::Settings;
@@ -61,6 +62,14 @@ pub extern "C" fn probe_quorum(n: usize, m: usize) -> usize
     ensures { λ r. ⌜ r ≡ quorum n m ⌝ }
 {
     settings::quorum_of(n, m)
+}
+
+// Whether a number is a valid time.
+#[no_mangle]
+pub extern "C" fn probe_time(t: u64) -> bool
+    ensures { λ r. ⌜ r ≡ validTime t ⌝ }
+{
+    settings::is_time(t)
 }
 
 // The refusal of four settings.

@@ -1,4 +1,4 @@
--- What the contracts of this crate cite. Definitions: Refusal, Ranges, Times, Quorum. Laws: the modules named Laws.
+-- Definitions: Refusal, Ranges (with the quorum), Times, Count. Laws: the modules named ..Laws, and Draws.
 pub mod Count
 pub mod Draws
 pub mod QuorumLaws

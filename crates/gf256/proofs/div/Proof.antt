@@ -1,5 +1,5 @@
 use borrow.Author.Needs.{needs}
-use Rattle.gf256.specs.Product.{quotient}
+use Rattle.gf256.specs.LookupLaws.{quotient-is}
 use Rattle.gf256.proofs.div.Statement.{statement}
 use Rattle.gf256.proofs.div.Tie as tie
 
@@ -16,8 +16,7 @@ mul-by-requires : tie.Need-mul-by-requires
 mul-by-requires c κs = search needs
 
 returns : tie.Need-returns
-unfolding quotient
-returns c = cc
+returns c = search (needs, quotient-is)
 
 pub div-spec : {M : Type 1} → statement M
 div-spec =

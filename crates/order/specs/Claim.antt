@@ -1,0 +1,93 @@
+-- The claim: the operations on a stripe have one order.
+-- It is said of a flat list of what is seen of a run, operations beginning and ending, in the order of the events.
+-- How a stripe is kept is no part of it.
+use mathlib.Core.Path.{_≡_}
+use mathlib.Core.Logic.{_≢_}
+use mathlib.Core.List.{List, [], _∷_, List·Memᴰ}
+use Prim.Native.Nat.{ℕ}
+
+-- The plain stripe: what an operation of each kind does to it, and what that operation gives at its place.
+pub record Plain : Type 1 where
+  pub Kind : Type 0
+  pub Stripe : Type 0
+  pub Given : Type 0
+  pub zeros : Stripe
+  pub effect : Kind → Stripe → Stripe
+  pub gives : Kind → Stripe → Given
+
+-- Document 01's operations on a stripe, and what they give: ok, or the bytes that were read.
+pub data Action (S : Type 0) : Type 0 where
+  read : Action S
+  write : S → Action S
+
+pub data Answer (S : Type 0) : Type 0 where
+  ok : Answer S
+  bytes : S → Answer S
+
+-- "A write sets it to its bytes." "A read gives it as it stands and changes nothing."
+unfoldable pub changed : {S : Type 0} → Action S → S → S
+changed read s = s
+changed (write v) s = v
+
+unfoldable pub given : {S : Type 0} → Action S → S → Answer S
+given read s = bytes s
+given (write v) s = ok
+
+-- The plain stripe of document 01, by its zeros. A read or a write of one block will be one more kind.
+abbrev pub stripe : (S : Type 0) → S → Plain
+stripe S z = record { Kind = Action S; Stripe = S; Given = Answer S; zeros = z; effect = changed; gives = given }
+
+-- How an operation ends. "It is finished at the event that answers ok or gives what was read, aborted at the event that
+-- answers abort, cut at a crash of its coordinator before either."
+pub data Outcome (P : Plain) : Type 0 where
+  finished : P .Given → Outcome P
+  aborted : Outcome P
+  cut : Outcome P
+
+-- One thing seen: the operation of this time begins, or ends. A time names one operation.
+pub data Seen (P : Plain) : Type 0 where
+  began : ℕ → P .Kind → Seen P
+  ended : ℕ → Outcome P → Seen P
+
+-- An operation as it is fed to the plain stripe.
+pub record Op (P : Plain) : Type 0 where
+  pub time : ℕ
+  pub kind : P .Kind
+
+infix 50 _∈_
+abbrev pub _∈_ : {A : Type 0} → A → List A → Type 0
+_∈_ a l = List·Memᴰ a l
+
+-- a stands in the list, and b after it
+pub data Before {A : Type 0} (a b : A) : List A → Type 0 where
+  here : {x : A} {l : List A} → a ≡ x → b ∈ l → Before a b (x ∷ l)
+  later : {x : A} {l : List A} → Before a b l → Before a b (x ∷ l)
+
+-- No operation twice.
+unfoldable pub Once : {P : Plain} → List (Op P) → Type 0
+Once [] = Unit {0}
+Once {P} (o ∷ os) = ((x : Op P) → x ∈ os → o .time ≢ x .time) × Once os
+
+-- The plain stripe stands at s and is fed the operations in order: each that finished gave what the stripe gives at its place.
+unfoldable pub Right : {P : Plain} → List (Seen P) → P .Stripe → List (Op P) → Type 0
+Right l s [] = Unit {0}
+Right {P} l s (o ∷ os) =
+    ((g : P .Given) → Seen.ended (o .time) (finished g) ∈ l → g ≡ P .gives (o .kind) s) × Right l (P .effect (o .kind) s) os
+
+-- Demand 3, of what is seen of a run.
+pub record OneOrder (P : Plain) (l : List (Seen P)) : Type 0 where
+  -- a time names one operation: none begins twice
+  pub named : (t : ℕ) (k k′ : P .Kind) → ¬ Before (Seen.began t k) (Seen.began t k′) l
+  -- "the operations on a stripe have one order": a list of operations ..
+  pub order : List (Op P)
+  -- .. that began, each with the kind and bytes that it began with
+  pub begun : (o : Op P) → o ∈ order → Seen.began (o .time) (o .kind) ∈ l
+  -- "stand in it once"
+  pub once : Once order
+  -- "all finished reads and writes stand in it .., with some of those aborted, cut short or still running"
+  pub all : (t : ℕ) (g : P .Given) → Seen.ended t (finished g) ∈ l → (o : Op P) × (o .time ≡ t) × (o ∈ order)
+  -- "each finished read gave, byte for byte, what the writes before it in that order left where it reads, zeros where none wrote"
+  pub right : Right l (P .zeros) order
+  -- "what ended, by answer, abort or crash, before another began stands ahead of it or nowhere"
+  pub ahead : (x y : Op P) (r : Outcome P) (k : P .Kind) → x ∈ order → y ∈ order
+      → Before (Seen.ended (x .time) r) (Seen.began (y .time) k) l → Before x y order

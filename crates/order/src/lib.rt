@@ -1,0 +1,1 @@
+// No code: definitions and theorems about histories.
