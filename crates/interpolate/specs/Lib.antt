@@ -1,4 +1,4 @@
--- Definitions: Bytes (the field), Values (what is computed). Laws: the others.
+-- Definitions: Bytes (the field), Tabulate (lists by a rule), Values (what is computed), Rows (the inner functions). Theorem: Polynomials. Laws: the others.
 pub mod BitLaws
 pub mod BlockLaws
 pub mod Bytes

@@ -1,4 +1,4 @@
--- Definitions: Kinds, Messages. Laws: FlagLaws, MessageLaws.
+-- Definitions: Kinds, Flags (sets of bricks), Messages. Laws: FlagLaws, MessageLaws.
 pub mod FlagLaws
 pub mod Flags
 pub mod Kinds

@@ -65,7 +65,7 @@ impl Settings {
 pub fn quorum_of(n: usize, m: usize) -> usize
     ensures { λ r. ⌜ r ≡ quorum n m ⌝ }
 {
-    if n < m {
+    if n <= m {
         return n;
     }
     n - (n - m) / 2
