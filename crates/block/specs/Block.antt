@@ -4,7 +4,7 @@ use mathlib.Core.List.{List, [], _∷_, _++_}
 use Prim.Native.Nat.{ℕ, zero, suc, _+_, _-_, _*_, _%_}
 use lib.Dec.{eqb}
 use lib.ListN.{length, take, drop, replicate}
-use Rattle.little.specs.Little.{little, number}
+use Rattle.little.specs.Little.{little}
 use Rattle.settings.specs.declared.Settings.{Settings}
 
 -- the sum of the bytes, the first one k times, the next k + 1 times, and so on
@@ -24,9 +24,16 @@ sealed body = little 2 (checkOf body) ++ body
 unfoldable pub unchecked : List ℕ → List ℕ
 unchecked body = 0 ∷ 0 ∷ body
 
--- whether a block's check holds
+-- whether two lists of bytes are the same
+unfoldable pub same : List ℕ → List ℕ → Bool
+same [] [] = true
+same [] (y ∷ ys) = false
+same (x ∷ xs) [] = false
+same (x ∷ xs) (y ∷ ys) = eqb x y && same xs ys
+
+-- whether a block's check holds: bytes 0 and 1 are those of the check
 unfoldable pub checked : List ℕ → Bool
-checked block = eqb (number (take 2 block)) (checkOf (drop 2 block))
+checked block = same (take 2 block) (little 2 (checkOf (drop 2 block)))
 
 unfoldable pub zeros : ℕ → List ℕ
 zeros k = replicate k 0
@@ -63,13 +70,6 @@ unusedBody = unusedKind ∷ zeros 509
 
 unfoldable pub unusedBlock : List ℕ
 unusedBlock = sealed unusedBody
-
--- whether two lists of bytes are the same
-unfoldable pub same : List ℕ → List ℕ → Bool
-same [] [] = true
-same [] (y ∷ ys) = false
-same (x ∷ xs) [] = false
-same (x ∷ xs) (y ∷ ys) = eqb x y && same xs ys
 
 -- a list with other bytes placed into it from a place on
 unfoldable pub put : ℕ → List ℕ → List ℕ → List ℕ

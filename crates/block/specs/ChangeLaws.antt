@@ -10,10 +10,12 @@ use lib.Dec.{eqb}
 use lib.ListN.{length, take, drop, getD, set}
 use lib.Arith.{lt-of-le-ne}
 use borrow.Author.Tests.{eq-eqb, ne-eqb, eqb-true, not-true, eqb-false}
-use Rattle.little.specs.Little.{number}
-use Rattle.little.specs.LittleLaws.{Bytes}
+use Rattle.little.specs.Little.{little, number}
+use Rattle.little.specs.LittleLaws.{Bytes, number-little, limit-2}
 use Rattle.settings.specs.RangeLaws.{and-left, and-right}
-use Rattle.block.specs.Block.{weighted, checkOf, checked}
+use Rattle.block.specs.Block.{weighted, checkOf, checked, same}
+use Rattle.block.specs.SameLaws.{same-true, unsame}
+use Rattle.block.specs.CheckLaws.{check-high}
 
 -- 65521 has no divisor from 2 to 255: one computed test
 unfoldable undivided : ℕ → Bool
@@ -86,19 +88,26 @@ body-changes bs j v n bytes h hv ne e = go (decLt v (getD bs j 0))
         apart (1 + j) (getD bs j 0) v (omega arith) (omega arith) (bytes-at bs j bytes) hv (omega arith) (weighted 1 bs) (weighted 1 (set bs j v))
         (sym s) (sym e)
 
+check-of-bytes : (c d : ℕ) → c < 65521 → d < 65521 → little 2 c ≡ little 2 d → c ≡ d
+check-of-bytes c d hc hd e =
+    sym (number-little 2 c (subst (λ (k : ℕ). c < k) (sym limit-2) (omega arith)))
+    ∙ ap number e
+    ∙ number-little 2 d (subst (λ (k : ℕ). d < k) (sym limit-2) (omega arith))
+
 -- The check of a block with one byte changed does not hold.
 pub change-unchecked : (l : List ℕ) (i v : ℕ) → length l ≡ 512 → Bytes l → i < 512 → v < 256 → (v ≡ getD l i 0 → ⊥)
     → checked l ≡ true → checked (set l i v) ≡ false
-unfolding checked Bytes number
+unfolding checked Bytes
 change-unchecked [] i v n bytes h hv ne c = absurd (omega arith)
 change-unchecked (x ∷ []) i v n bytes h hv ne c = absurd (omega arith)
 change-unchecked (x ∷ y ∷ bs) zero v n bytes h hv ne c =
-    let e = eqb-true (x + 256 * (y + 256 * 0)) (checkOf bs) c in
-    ne-eqb (v + 256 * (y + 256 * 0)) (checkOf bs) (λ q. ne (omega (arith, e, q)))
+    let e = same-true (x ∷ y ∷ []) (little 2 (checkOf bs)) c in
+    unsame (v ∷ y ∷ []) (little 2 (checkOf bs)) (λ q. ne (cc))
 change-unchecked (x ∷ y ∷ bs) (suc zero) v n bytes h hv ne c =
-    let e = eqb-true (x + 256 * (y + 256 * 0)) (checkOf bs) c in
-    ne-eqb (x + 256 * (v + 256 * 0)) (checkOf bs) (λ q. ne (omega (arith, e, q)))
+    let e = same-true (x ∷ y ∷ []) (little 2 (checkOf bs)) c in
+    unsame (x ∷ v ∷ []) (little 2 (checkOf bs)) (λ q. ne (cc))
 change-unchecked (x ∷ y ∷ bs) (suc (suc j)) v n bytes h hv ne c =
-    let e = eqb-true (x + 256 * (y + 256 * 0)) (checkOf bs) c in
-    ne-eqb (x + 256 * (y + 256 * 0)) (checkOf (set bs j v))
-    (λ q. body-changes bs j v (omega arith) (bytes .1 .1) (omega arith) hv ne (sym q ∙ e))
+    let e = same-true (x ∷ y ∷ []) (little 2 (checkOf bs)) c in
+    unsame (x ∷ y ∷ []) (little 2 (checkOf (set bs j v)))
+    (λ q. body-changes bs j v (omega arith) (bytes .1 .1) (omega arith) hv ne
+    (check-of-bytes (checkOf (set bs j v)) (checkOf bs) (check-high (set bs j v)) (check-high bs) (sym q ∙ e)))

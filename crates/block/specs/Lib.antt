@@ -3,5 +3,6 @@ pub mod Block
 pub mod ChangeLaws
 pub mod CheckLaws
 pub mod Figures
+pub mod LayoutLaws
 pub mod SameLaws
 pub mod StoreLaws

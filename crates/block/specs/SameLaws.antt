@@ -28,6 +28,13 @@ same-refl (x ∷ xs) = rw (eq-eqb x x refl, same-refl xs)
 pub same-of : (a b : List ℕ) → a ≡ b → same a b ≡ true
 same-of a b e = subst (λ (x : List ℕ). same a x ≡ true) e (same-refl a)
 
+pub unsame : (a b : List ℕ) → (a ≡ b → ⊥) → same a b ≡ false
+unsame a b ne = go (same a b) refl
+  where
+    go : (t : Bool) → same a b ≡ t → same a b ≡ false
+    go true e = absurd (ne (same-true a b e))
+    go false e = e
+
 -- what holds while two blocks are compared, at offset p: with no difference so far the rest decides, else they differ
 pub record Comparing (a b : List ℕ) (differ p : ℕ) : Type 0 where
   pub low : 2 ≤ p

@@ -4,8 +4,9 @@ ghost use mathlib.Core.List.{_++_};
 ghost use Prim.Native.Nat.{_+_, _-_, _≤_, _<_, _^_};
 ghost use lib.ListN.{length, take, drop};
 ghost use Rattle.settings.specs.RangeLaws.{SettingsRange};
-ghost use Rattle.block.specs.Block.{checkOf, sealed, unchecked, headBody, headBlock, entryBody, entryBlock, unusedBody, unusedBlock, zeros, same, put};
+ghost use Rattle.block.specs.Block.{checkOf, checked, sealed, unchecked, headBody, headBlock, entryBody, entryBlock, unusedBody, unusedBlock, zeros, same, put};
 use little::byte;
+use little::read2;
 use settings::Settings;
 
 // The check of a block: of its bytes from offset 2 on.
@@ -22,6 +23,16 @@ pub fn check_of(b: &[u8]) -> u32
         p += 1;
     }
     sum % 65521
+}
+
+// Whether a block's check holds.
+pub fn check_holds(b: &[u8]) -> bool
+    requires { ⌜ length (now b) ≡ 512 ⌝ }
+    ensures { λ r. ⌜ r ≡ checked (now (b .entry)) ⌝ }
+{
+    let found = read2(b, 0);
+    let check = check_of(b) as u64;
+    found == check
 }
 
 // A block with its check placed in front.
