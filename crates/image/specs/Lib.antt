@@ -2,6 +2,7 @@
 pub mod Brick
 pub mod Every
 pub mod FitLaws
+pub mod HubLaws
 pub mod Image
 pub mod ImageLaws
 pub mod Opening

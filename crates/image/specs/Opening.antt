@@ -8,12 +8,15 @@ use Rattle.settings.specs.Ranges.{inRange}
 use Rattle.settings.specs.Refusal.{passed, badSetting, badLength, badNumber}
 use Rattle.settings.specs.declared.Settings.{Settings}
 use Rattle.block.specs.Block.{same, headBody, entryBody, unusedBody}
-use Rattle.image.specs.Brick.{Brick, count, timeAt, savedTime, countSound}
+use Rattle.image.specs.Brick.{Brick, count, timeAt, newest, savedTime, countSound}
 use Rattle.image.specs.Image.{imageSize}
 use Rattle.image.specs.Parse.{heldIn, Parsed, Opens, Refuses}
 use Rattle.image.specs.declared.Entry.{Entry}
 use Rattle.image.specs.declared.Holding.the-variants.{Held}
+use Rattle.image.specs.declared.Answer.{Answer}
 use Rattle.image.specs.declared.Answer.the-variants.{Opened, Refused}
+use Rattle.image.specs.declared.Shown.{Shown}
+use Rattle.image.specs.declared.Shown.the-variants.{Values}
 use Rattle.image.specs.declared.Opening.{Opening}
 
 -- n values in a row
@@ -43,6 +46,16 @@ noBlank i = blank
 unfoldable pub opening : Parsed → Opening
 opening (Opens x) = record { answer = Opened (record { count = count x; promise = x .promise }); log = workingLog x }
 opening (Refuses k) = record { answer = Refused k; log = rowOf noBlank 32 }
+
+-- the number in an answer, 0 in one that opened
+unfoldable pub answerNumber : Answer → ℕ
+answerNumber (Opened head) = 0
+answerNumber (Refused k) = k
+
+-- the service panel: the promise and the newest time, or the refusal
+unfoldable pub panelOf : Parsed → Shown
+panelOf (Opens x) = Values (record { promise = x .promise; newest = newest x })
+panelOf (Refuses k) = Shown.Refused k
 
 -- the first refusals of whatever is lent an image: 1 a setting, 2 the length, 3 the brick's number
 unfoldable pub lendingRefusal : Settings → ℕ → ℕ → ℕ

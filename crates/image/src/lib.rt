@@ -8,7 +8,7 @@ ghost use Rattle.block.specs.Block.{same, unusedBody, entryBody};
 ghost use Rattle.image.specs.Brick.{savedTime};
 ghost use Rattle.image.specs.Image.{imageSize};
 ghost use Rattle.image.specs.Parse.{heldIn, parse, Refuses};
-ghost use Rattle.image.specs.Opening.{blank, entryFor, opening, rises, headFits, slotFits, lendingRefusal};
+ghost use Rattle.image.specs.Opening.{answerNumber, entryFor, opening, panelOf, rises, headFits, slotFits, lendingRefusal};
 ghost use Rattle.image.specs.ScanLaws.{Scanned};
 use block::check_holds;
 use block::entry_fields;
@@ -256,4 +256,42 @@ pub fn open(s: Settings, brick: usize, image: &[u8]) -> Opening
         }),
         log: log,
     }
+}
+
+// The number of a refused answer, 0 for an opened one.
+pub fn number_of(a: Answer) -> u32
+    ensures { λ r. ⌜ r ≡ answerNumber a ⌝ }
+{
+    match a {
+        Answer::Opened(_) => 0,
+        Answer::Refused(number) => number,
+    }
+}
+
+// What the service panel shows of a brick.
+pub struct Panel {
+    pub promise: u64,
+    pub newest: u64,
+}
+
+pub enum Shown {
+    Values(Panel),
+    Refused(u32),
+}
+
+// A brick's promise and its newest time, from its image.
+pub fn show(s: Settings, brick: usize, image: &[u8]) -> Shown
+    ensures { λ r. ⌜ r ≡ panelOf (parse s brick (now (image .entry))) ⌝ }
+{
+    let o = open(s, brick, image);
+    let answer = o.answer;
+    let Answer::Opened(head) = answer else {
+        return Shown::Refused(number_of(answer));
+    };
+    let log = o.log;
+    let last = log[head.count - 1];
+    Shown::Values(Panel {
+        promise: head.promise,
+        newest: last.time,
+    })
 }

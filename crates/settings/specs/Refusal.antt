@@ -1,7 +1,8 @@
 -- Document 01, "Refused by number, lowest first": the twelve numbers. 0 stands for "not refused".
 -- A refusal returns its number alone, and every image, record and buffer keeps its bytes.
 use mathlib.Core.Bool.{Bool, cond}
-use Prim.Native.Nat.{ℕ}
+use mathlib.Core.List.{List, [], _∷_}
+use Prim.Native.Nat.{ℕ, zero, suc}
 
 abbrev pub passed : ℕ
 passed = 0
@@ -9,6 +10,12 @@ passed = 0
 -- the given number, unless the test holds
 abbrev pub refuseUnless : Bool → ℕ → ℕ
 refuseUnless ok number = cond ok passed number
+
+-- "lowest first": of a routine's checks, in the order in which they are made, the first that refuses
+unfoldable pub firstRefusal : List ℕ → ℕ
+firstRefusal [] = passed
+firstRefusal (zero ∷ rest) = firstRefusal rest
+firstRefusal (suc k ∷ rest) = suc k
 
 -- a setting outside its range
 abbrev pub badSetting : ℕ

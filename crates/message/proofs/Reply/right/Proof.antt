@@ -1,0 +1,45 @@
+use Rattle.message.specs.MessageLaws.{reply-low, reply-high, reply-time, reply-round, reply-found, found-zero, found-time}
+use borrow.Author.Needs.{needs}
+use Rattle.message.proofs.Reply.right.Statement.{statement}
+use Rattle.message.proofs.Reply.right.Tie as tie
+
+returns : tie.Need-returns
+returns c = search (needs, reply-low)
+
+returns-2 : tie.Need-returns-2
+returns-2 c = search (needs, reply-high)
+
+is-time-requires : tie.Need-is-time-requires
+is-time-requires c κs = search needs
+
+round-right-requires : tie.Need-round-right-requires
+round-right-requires c κs = search needs
+
+is-time-requires-2 : tie.Need-is-time-requires-2
+is-time-requires-2 c κs = search needs
+
+returns-3 : tie.Need-returns-3
+returns-3 c = search (needs, reply-found, found-zero)
+
+returns-4 : tie.Need-returns-4
+returns-4 c = search (needs, reply-found, found-time)
+
+returns-5 : tie.Need-returns-5
+returns-5 c = search (needs, reply-round)
+
+returns-6 : tie.Need-returns-6
+returns-6 c = search (needs, reply-time)
+
+pub right-spec : {M : Type 1} → statement M
+right-spec =
+    tie.close
+    (tie.spec
+    returns
+    returns-2
+    is-time-requires
+    round-right-requires
+    is-time-requires-2
+    returns-3
+    returns-4
+    returns-5
+    returns-6)

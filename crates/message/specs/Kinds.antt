@@ -1,0 +1,21 @@
+-- Document 01, "What a brick does": the five messages. A reply has the kind of the message that it answers; Trim has none.
+use Prim.Native.Nat.{ℕ}
+
+abbrev pub readKind : ℕ
+readKind = 1
+
+abbrev pub orderKind : ℕ
+orderKind = 2
+
+abbrev pub orderReadKind : ℕ
+orderReadKind = 3
+
+abbrev pub writeKind : ℕ
+writeKind = 4
+
+abbrev pub trimKind : ℕ
+trimKind = 5
+
+-- "if a round 1,001 would be sent"
+abbrev pub lastRound : ℕ
+lastRound = 1000

@@ -1,0 +1,84 @@
+-- The ways through the refusals of messages and replies.
+use mathlib.Core.Path.{_≡_, refl, sym, ap, _∙_}
+use mathlib.Core.Bool.{Bool, true, false, _&&_}
+use mathlib.Core.List.{[], _∷_}
+use Prim.Native.Nat.{ℕ, _≤_, _<_}
+use native.Mathlib.Omega.{arith}
+use lib.Dec.{eqb, leb, ltb}
+use borrow.Author.Tests.{lt-ltb, le-ltb, le-leb, lt-leb, eq-eqb, ne-eqb}
+use Rattle.message.specs.Messages.{roundRight, kindRight, messageRefusal, foundRight, replyRight, replyRefusal}
+use Rattle.message.specs.declared.Message.{Message}
+use Rattle.message.specs.declared.Reply.{Reply}
+use Rattle.settings.specs.Refusal.{firstRefusal, refuseUnless}
+use Rattle.settings.specs.Times.{validTime}
+
+-- a reply of a known kind: its time, round and found time are left
+pub reply-rest : (r : Reply) → 1 ≤ r .kind → r .kind ≤ 4 → replyRight r ≡ validTime (r .time) && roundRight (r .round) && foundRight (r .found)
+unfolding replyRight
+reply-rest r a b = rw (le-leb 1 (r .kind) a, le-leb (r .kind) 4 b)
+
+pub reply-brick : (n : ℕ) (r : Reply) → n ≤ r .brick → 3 ≡ replyRefusal n r
+unfolding replyRefusal firstRefusal
+reply-brick n r h = rw (le-ltb (r .brick) n h)
+
+pub reply-is : (n : ℕ) (r : Reply) (v : ℕ) → r .brick < n → v ≡ refuseUnless (replyRight r) 10 → v ≡ replyRefusal n r
+unfolding replyRefusal firstRefusal
+reply-is n r v h e = rw (lt-ltb (r .brick) n h) (e ∙ go (replyRight r))
+  where
+    go : (b : Bool) → refuseUnless b 10 ≡ firstRefusal (refuseUnless b 10 ∷ [])
+    go true = refl
+    go false = refl
+
+pub reply-passed : (n : ℕ) (r : Reply) (v : Bool) → r .brick < n → v ≡ replyRight r → v ≡ true → 0 ≡ replyRefusal n r
+reply-passed n r v h e t = reply-is n r 0 h (rw (← e, t))
+
+pub reply-bad : (n : ℕ) (r : Reply) (v : Bool) → r .brick < n → v ≡ replyRight r → v ≡ false → 10 ≡ replyRefusal n r
+reply-bad n r v h e t = reply-is n r 10 h (rw (← e, t))
+
+-- A message's three rules; a, b and c are what the tests gave.
+pub message-passed : (n m : ℕ) (msg : Message) (a b c : Bool) → a ≡ validTime (msg .time) → a ≡ true → b ≡ roundRight (msg .round) → b ≡ true
+    → c ≡ kindRight n m msg → c ≡ true → 0 ≡ messageRefusal n m msg
+unfolding messageRefusal
+message-passed n m msg a b c ea ta eb tb ec tc = rw (← ea, ← eb, ← ec, ta, tb, tc)
+
+pub message-kind : (n m : ℕ) (msg : Message) (a b c : Bool) → a ≡ validTime (msg .time) → a ≡ true → b ≡ roundRight (msg .round) → b ≡ true
+    → c ≡ kindRight n m msg → c ≡ false → 10 ≡ messageRefusal n m msg
+unfolding messageRefusal
+message-kind n m msg a b c ea ta eb tb ec tc = rw (← ea, ← eb, ← ec, ta, tb, tc)
+
+pub message-round : (n m : ℕ) (msg : Message) (a b : Bool) → a ≡ validTime (msg .time) → a ≡ true → b ≡ roundRight (msg .round) → b ≡ false
+    → 10 ≡ messageRefusal n m msg
+unfolding messageRefusal
+message-round n m msg a b ea ta eb tb = rw (← ea, ← eb, ta, tb)
+
+pub message-time : (n m : ℕ) (msg : Message) (a : Bool) → a ≡ validTime (msg .time) → a ≡ false → 10 ≡ messageRefusal n m msg
+unfolding messageRefusal
+message-time n m msg a ea ta = rw (← ea, ta)
+
+-- A reply's rules likewise.
+pub reply-low : (r : Reply) → r .kind < 1 → false ≡ replyRight r
+unfolding replyRight
+reply-low r h = rw (lt-leb 1 (r .kind) h)
+
+pub reply-high : (r : Reply) → 1 ≤ r .kind → 4 < r .kind → false ≡ replyRight r
+unfolding replyRight
+reply-high r a h = rw (le-leb 1 (r .kind) a, lt-leb (r .kind) 4 h)
+
+pub reply-time : (r : Reply) (a : Bool) → 1 ≤ r .kind → r .kind ≤ 4 → a ≡ validTime (r .time) → a ≡ false → false ≡ replyRight r
+reply-time r a l h ea ta = sym (reply-rest r l h ∙ rw (← ea, ta))
+
+pub reply-round : (r : Reply) (a b : Bool) → 1 ≤ r .kind → r .kind ≤ 4 → a ≡ validTime (r .time) → a ≡ true → b ≡ roundRight (r .round) → b ≡ false
+    → false ≡ replyRight r
+reply-round r a b l h ea ta eb tb = sym (reply-rest r l h ∙ rw (← ea, ← eb, ta, tb))
+
+pub reply-found : (r : Reply) (a b v : Bool) → 1 ≤ r .kind → r .kind ≤ 4 → a ≡ validTime (r .time) → a ≡ true → b ≡ roundRight (r .round) → b ≡ true
+    → v ≡ foundRight (r .found) → v ≡ replyRight r
+reply-found r a b v l h ea ta eb tb e = e ∙ sym (reply-rest r l h ∙ rw (← ea, ← eb, ta, tb))
+
+pub found-zero : (t : ℕ) (v : Bool) → t ≡ 0 → v ≡ eqb t 0 → v ≡ foundRight t
+unfolding foundRight
+found-zero t v e f = f ∙ rw (eq-eqb t 0 e)
+
+pub found-time : (t : ℕ) (v : Bool) → (t ≡ 0 → ⊥) → v ≡ validTime t → v ≡ foundRight t
+unfolding foundRight
+found-time t v n e = e ∙ rw (ne-eqb t 0 n)

@@ -1,0 +1,40 @@
+-- What a message and a reply may hold: refusal 10, "a message or reply of unknown kind, with a time that isn't valid (0 passes only as the
+-- newest or entry time in a reply), a max outside 0 to 2^44, a round outside 1 to 1,000, or Read targets that aren't m different bricks".
+-- A field that a kind has no use for is not looked at.
+use mathlib.Core.Bool.{Bool, cond, not, _&&_, _||_}
+use mathlib.Core.List.{List, [], _∷_}
+use Prim.Native.Nat.{ℕ}
+use lib.Dec.{eqb, leb, ltb}
+use Rattle.message.specs.Flags.{brickSet}
+use Rattle.message.specs.Kinds.{readKind, orderReadKind, writeKind, trimKind, lastRound}
+use Rattle.message.specs.declared.Message.{Message}
+use Rattle.message.specs.declared.Reply.{Reply}
+use Rattle.settings.specs.Refusal.{refuseUnless, firstRefusal, badNumber, badMessage}
+use Rattle.settings.specs.Times.{validTime, noUpperEnd}
+
+unfoldable pub roundRight : ℕ → Bool
+roundRight round = leb 1 round && leb round lastRound
+
+-- the rules that a kind adds: Order-and-read has a max, Read has m different targets
+unfoldable pub kindRight : ℕ → ℕ → Message → Bool
+kindRight n m msg =
+    cond (eqb (msg .kind) orderReadKind) (leb (msg .max) noUpperEnd)
+    (cond (eqb (msg .kind) readKind) (brickSet (msg .targets) n m) (leb readKind (msg .kind) && leb (msg .kind) trimKind))
+
+unfoldable pub messageRefusal : ℕ → ℕ → Message → ℕ
+messageRefusal n m msg = refuseUnless (validTime (msg .time) && roundRight (msg .round) && kindRight n m msg) badMessage
+
+-- the newest or entry time in a reply
+unfoldable pub foundRight : ℕ → Bool
+foundRight t = eqb t 0 || validTime t
+
+-- a reply's own fields; its brick is refusal 3
+unfoldable pub replyRight : Reply → Bool
+replyRight r = leb readKind (r .kind) && leb (r .kind) writeKind && validTime (r .time) && roundRight (r .round) && foundRight (r .found)
+
+unfoldable pub replyRefusal : ℕ → Reply → ℕ
+replyRefusal n r =
+    firstRefusal
+    (refuseUnless (ltb (r .brick) n) badNumber
+    ∷ refuseUnless (replyRight r) badMessage
+    ∷ [])
