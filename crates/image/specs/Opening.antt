@@ -12,6 +12,7 @@ use Rattle.image.specs.Brick.{Brick, count, timeAt, newest, savedTime, c
 use Rattle.image.specs.Image.{imageSize}
 use Rattle.image.specs.Parse.{heldIn, Parsed, Opens, Refuses}
 use Rattle.image.specs.declared.Entry.{Entry}
+use Rattle.image.specs.declared.Holding.{Holding}
 use Rattle.image.specs.declared.Holding.the-variants.{Held}
 use Rattle.image.specs.declared.Answer.{Answer}
 use Rattle.image.specs.declared.Answer.the-variants.{Opened, Refused}
@@ -34,6 +35,10 @@ entryFor time i n = cond (ltb i n) (record { time = time; holding = Held (i + 1)
 
 unfoldable pub entryOf : Brick → ℕ → Entry
 entryOf x i = entryFor (timeAt x i) i (count x)
+
+-- the place that an entry of the working log names
+unfoldable pub placeIn : Holding → ℕ
+placeIn (Held place) = place
 
 -- the working log: the brick's entries, then blanks
 unfoldable pub workingLog : Brick → List Entry

@@ -8,7 +8,7 @@ ghost use Rattle.block.specs.Block.{same, unusedBody, entryBody};
 ghost use Rattle.image.specs.Brick.{savedTime};
 ghost use Rattle.image.specs.Image.{imageSize};
 ghost use Rattle.image.specs.Parse.{heldIn, parse, Refuses};
-ghost use Rattle.image.specs.Opening.{answerNumber, entryFor, opening, panelOf, rises, headFits, slotFits, lendingRefusal};
+ghost use Rattle.image.specs.Opening.{answerNumber, entryFor, opening, panelOf, placeIn, rises, headFits, slotFits, lendingRefusal};
 ghost use Rattle.image.specs.ScanLaws.{Scanned};
 use block::check_holds;
 use block::entry_fields;
@@ -53,6 +53,15 @@ struct Scan {
     checks: bool,
     fits: bool,
     log: [Entry; 32],
+}
+
+// The place that an entry names.
+pub fn place_of(h: Holding) -> usize
+    ensures { λ r. ⌜ r ≡ placeIn h ⌝ }
+{
+    match h {
+        Holding::Held(place) => place,
+    }
 }
 
 // Whether a number is 0 or a valid time.
