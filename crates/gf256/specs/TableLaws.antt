@@ -2,7 +2,7 @@
 use mathlib.Core.Path.{_≡_, refl, sym, ap, subst, _∙_}
 use mathlib.Core.Bool.{Bool, true, false, cond, _&&_, _||_}
 use mathlib.Core.List.{List, [], _∷_}
-use Prim.Native.Nat.{ℕ, zero, suc, _+_, _≤_, _<_}
+use Prim.Native.Nat.{ℕ, zero, suc, _+_, _*_, _/_, _%_, _≤_, _<_}
 use native.Mathlib.Nat.{le-of-suc-le-suc, not-suc-le-zero, add-comm}
 use native.Mathlib.Omega.{arith}
 use lib.Dec.{T, ltb, eqb, ltb→lt, eqb→eq}
@@ -26,6 +26,14 @@ power-add j k =
 pub power-cycle : (k : ℕ) → power (k + 255) ≡ power k
 unfolding power doubled twice plus
 power-cycle k = doubled-add k 255 1
+
+-- a remainder by 255 is as good
+pub power-mod : (s : ℕ) → power (s % 255) ≡ power s
+power-mod s = sym (turns (s / 255) (s % 255)) ∙ ap power (let e : s % 255 + s / 255 * 255 ≡ s = omega arith in e)
+  where
+    turns : (k r : ℕ) → power (r + k * 255) ≡ power r
+    turns zero r = ap power (let e : r + 0 * 255 ≡ r = omega arith in e)
+    turns (suc k) r = ap power (let e : r + suc k * 255 ≡ (r + k * 255) + 255 = omega arith in e) ∙ power-cycle (r + k * 255) ∙ turns k r
 
 -- a, and its doublings, n in all
 unfoldable pub doublings : ℕ → ℕ → List ℕ

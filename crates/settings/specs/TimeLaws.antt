@@ -5,7 +5,7 @@ use Prim.Native.Nat.{ℕ, suc, _+_, _-_, _*_, _%_, _^_, _≤_, _<_, max}
 use native.Mathlib.Omega.{arith}
 use lib.Dec.{leb, ltb}
 use borrow.Author.Tests.{lt-ltb, le-ltb, lt-leb, le-leb, ltb-true, ltb-false, leb-true, leb-false}
-use Rattle.settings.specs.Times.{maxCount, noUpperEnd, timeOf, validTime, nextCount, drawRefusal, advanced, drawOf}
+use Rattle.settings.specs.Times.{maxCount, noUpperEnd, timeOf, validTime, nextCount, drawRefusal, advanced, drawOf, numberOf}
 use Rattle.settings.specs.declared.Clock.{Clock}
 use Rattle.settings.specs.declared.Draw.{Draw}
 use Rattle.settings.specs.declared.Draw.the-variants.{Drawn, Refused}
@@ -105,3 +105,14 @@ pub drawn-differ : (c d : Clock) (r s t u : ℕ) (c′ d′ : Clock) → drawOf 
     → (c .coordinator ≡ d .coordinator → ⊥) → t ≡ u → ⊥
 drawn-differ c d r s t u c′ d′ e f different same =
     different (sym (drawn-own c r t c′ e) ∙ ap (λ (x : ℕ). x % 16) same ∙ drawn-own d s u d′ f)
+
+-- an answer's number is the refusal's
+pub draw-number : (c : Clock) (reading : ℕ) → numberOf (drawOf c reading) ≡ drawRefusal c reading
+unfolding drawOf numberOf
+draw-number c reading = go (leb (drawRefusal c reading) 0) refl
+  where
+    go : (b : Bool) → leb (drawRefusal c reading) 0 ≡ b
+        → numberOf (cond b (Drawn (timeOf (nextCount (c .last) reading) (c .coordinator)) (advanced c reading)) (Refused (drawRefusal c reading)))
+        ≡ drawRefusal c reading
+    go true l = omega (arith, leb-true (drawRefusal c reading) 0 l)
+    go false l = refl

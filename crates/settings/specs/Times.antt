@@ -46,3 +46,8 @@ drawOf c reading =
     cond (leb (drawRefusal c reading) passed)
     (Drawn (timeOf (nextCount (c .last) reading) (c .coordinator)) (advanced c reading))
     (Refused (drawRefusal c reading))
+
+-- The paper's number for each answer of a clock: 0 for a time, else the refusal's.
+unfoldable pub numberOf : Draw → ℕ
+numberOf (Drawn t next) = passed
+numberOf (Refused number) = number

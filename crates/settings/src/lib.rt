@@ -1,8 +1,7 @@
 // The settings of a set, the quorum, and times (document 01, "Settings and the code", "Times").
 ghost use mathlib.Core.Path.{_≡_};
 ghost use Rattle.settings.specs.Ranges.{settingsRefusal, codeRefusal, quorum};
-ghost use Rattle.settings.specs.Times.{drawOf, drawRefusal, validTime};
-ghost use lib.Dec.{T};
+ghost use Rattle.settings.specs.Times.{drawOf, drawRefusal, numberOf, validTime};
 
 // The largest count of a time, 2^40 - 1.
 pub const MAX_COUNT: u64 = 1099511627775;
@@ -121,6 +120,18 @@ impl Clock {
                 last: count,
             },
         )
+    }
+}
+
+impl Draw {
+    // The number of the refusal, 0 for a time.
+    pub fn number(self) -> u32
+        ensures { λ r. ⌜ r ≡ numberOf self ⌝ }
+    {
+        match self {
+            Draw::Drawn(_, _) => 0,
+            Draw::Refused(number) => number,
+        }
     }
 }
 

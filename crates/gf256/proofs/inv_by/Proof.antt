@@ -13,7 +13,7 @@ element-copy-out-s : tie.Need-element-copy-out-s
 element-copy-out-s c = search needs
 
 log-a : (c : tie.Else1) → getD (c .before .args .logs .now) (c .before .args .a) 0 < 255
-log-a c = let s = c .before in log-below (s .args .powers .now) (s .args .logs .now) (s .pre .0) (s .pre .1) (s .args .a) (c .if1 .left) (s .fits .a .fits)
+log-a c = let s = c .before in log-below (s .args .logs .now) (s .pre .1) (s .args .a) (c .if1 .left) (s .fits .a .fits)
 
 cast-s : tie.Need-cast-s
 cast-s c = omega (arith, log-a (c .before))

@@ -17,10 +17,10 @@ element-copy-out-s c = search needs
 
 -- both logarithms are below 255
 log-a : (c : tie.Else2) → getD (c .before .before .args .logs .now) (c .before .before .args .a) 0 < 255
-log-a c = let s = c .before .before in log-below (s .args .powers .now) (s .args .logs .now) (s .pre .0) (s .pre .1) (s .args .a) (c .before .if1 .left) (s .fits .a .fits)
+log-a c = let s = c .before .before in log-below (s .args .logs .now) (s .pre .1) (s .args .a) (c .before .if1 .left) (s .fits .a .fits)
 
 log-b : (c : tie.Else2) → getD (c .before .before .args .logs .now) (c .before .before .args .b) 0 < 255
-log-b c = let s = c .before .before in log-below (s .args .powers .now) (s .args .logs .now) (s .pre .0) (s .pre .1) (s .args .b) (c .if2 .left) (s .fits .b .fits)
+log-b c = let s = c .before .before in log-below (s .args .logs .now) (s .pre .1) (s .args .b) (c .if2 .left) (s .fits .b .fits)
 
 cast-s : tie.Need-cast-s
 cast-s c = omega (arith, log-a (c .before))

@@ -1,0 +1,24 @@
+use native.Mathlib.Omega.{arith}
+use lib.ListN.{length}
+use mathlib.Core.List.{List}
+use mathlib.Core.Path.{_≡_, refl, sym, ap, _∙_}
+use Prim.Native.Nat.{ℕ, _*_, _≤_}
+use Rattle.erasure.specs.Code.{decodedOf}
+use borrow.Author.Needs.{needs}
+use Rattle.erasure.proofs.decode_into.Statement.{statement}
+use Rattle.erasure.proofs.decode_into.Tie as tie
+
+interpolate-requires : tie.Need-interpolate-requires
+interpolate-requires c κs =
+    let s = c .before .before .before .before in
+    (s .pre .0, (s .pre .1 .1 .0 ∙ ap (λ (k : ℕ). k * s .args .size) (sym (s .pre .1 .0)), (s .pre .1 .1 .1, omega (arith, s .pre .0 .few, s .pre .1 .0))))
+
+same-length : tie.Need-same-length
+same-length c = search needs
+
+returns : tie.Need-returns
+unfolding decodedOf
+returns c = c .before .before .interpolate .ensures
+
+pub decode-into-spec : {M : Type 1} → statement M
+decode-into-spec = tie.close (tie.spec interpolate-requires same-length returns)

@@ -1,0 +1,148 @@
+// The erasure code (document 01, "Settings and the code"): encode and decode, and their C entry points.
+ghost use mathlib.Core.Path.{_≡_};
+ghost use mathlib.Core.Bool.{true};
+ghost use Prim.Native.Nat.{ℕ, _*_, _≤_};
+ghost use lib.ListN.{length};
+ghost use Rattle.erasure.specs.Code.{codedOf, decodedOf};
+ghost use Rattle.erasure.specs.Refusals.{allBelow, allDifferent, encodeRefusal, decodeRefusal, encodedBuffer, decodedBuffer};
+ghost use Rattle.erasure.specs.PassedLaws.{Encodes};
+ghost use Rattle.interpolate.specs.RowLaws.{PointSet};
+
+// Whether every brick of a list is below n.
+pub fn all_below(bricks: &[u8], n: usize) -> bool
+    ensures { λ r. ⌜ r ≡ allBelow (now (bricks .entry)) n ⌝ }
+{
+    let mut t = bricks;
+    while 0 < t.len() {
+        if n <= t[0] as usize {
+            return false;
+        }
+        t = &t[1..];
+    }
+    true
+}
+
+// Whether no brick of a list stands twice.
+pub fn all_different(bricks: &[u8]) -> bool
+    ensures { λ r. ⌜ r ≡ allDifferent (now (bricks .entry)) ⌝ }
+{
+    let mut t = bricks;
+    while 0 < t.len() {
+        let rest = &t[1..];
+        if interpolate::position(rest, t[0]) < rest.len() {
+            return false;
+        }
+        t = rest;
+    }
+    true
+}
+
+// The refusal of encoding, 0 for none: stripe and coded are the buffers' lengths.
+pub fn encode_refusal(n: usize, m: usize, size: usize, stripe: usize, coded: usize) -> u32
+    ensures { λ r. ⌜ r ≡ encodeRefusal n m size stripe coded ⌝ }
+{
+    let bad = settings::code_refusal(n, m, size);
+    if bad != 0 {
+        return bad;
+    }
+    if stripe != m * size {
+        return 2;
+    }
+    if coded != n * size {
+        return 2;
+    }
+    0
+}
+
+// The refusal of decoding, 0 for none: blocks and stripe are the buffers' lengths.
+pub fn decode_refusal(
+    n: usize,
+    m: usize,
+    size: usize,
+    bricks: &[u8],
+    blocks: usize,
+    stripe: usize,
+) -> u32
+    ensures { λ r. ⌜ r ≡ decodeRefusal n m size (now (bricks .entry)) blocks stripe ⌝ }
+{
+    let bad = settings::code_refusal(n, m, size);
+    if bad != 0 {
+        return bad;
+    }
+    if blocks != m * size {
+        return 2;
+    }
+    if stripe != m * size {
+        return 2;
+    }
+    if all_below(bricks, n) {} else {
+        return 3;
+    }
+    if bricks.len() != m {
+        return 4;
+    }
+    if all_different(bricks) {
+        return 0;
+    }
+    4
+}
+
+// The n coded blocks of m data blocks.
+pub fn encode_into(n: usize, m: usize, size: usize, stripe: &[u8], coded: &mut [u8])
+    requires { ⌜ Encodes n m size (length (now stripe)) (length (now coded)) ⌝ }
+    ensures { λ _. ⌜ now (coded .exit) ≡ codedOf n m size (now (stripe .entry)) ⌝ }
+{
+    let points = [0u8, 1, 2, 3, 4, 5, 6, 7, 8, 9, 10, 11, 12, 13, 14, 15];
+    interpolate::interpolate(&points[..m], size, stripe, n, coded)
+}
+
+// The m data blocks from the blocks of m different bricks, in the bricks' order.
+pub fn decode_into(m: usize, size: usize, bricks: &[u8], blocks: &[u8], stripe: &mut [u8])
+    requires { ⌜ PointSet (now bricks) ⌝ }
+    requires { ⌜ length (now bricks) ≡ m ⌝ }
+    requires { ⌜ (length (now blocks) ≡ m * size) × (length (now stripe) ≡ m * size) ⌝ }
+    ensures { λ _. ⌜ now (stripe .exit) ≡ decodedOf m size (now (bricks .entry)) (now (blocks .entry)) ⌝ }
+{
+    interpolate::interpolate(bricks, size, blocks, m, stripe)
+}
+
+// Encodes, or gives the number of the refusal and leaves the buffer.
+#[no_mangle]
+pub extern "C" fn stripe_encode(
+    n: usize,
+    m: usize,
+    size: usize,
+    data: &[u8],
+    coded: &mut [u8],
+) -> u32
+    ensures { λ r. ⌜ r ≡ encodeRefusal n m size (length (now («data» .entry))) (length (now (coded .entry))) ⌝ }
+    ensures { λ r. ⌜ now (coded .exit) ≡ encodedBuffer n m size (now («data» .entry)) (now (coded .entry)) ⌝ }
+{
+    let number = encode_refusal(n, m, size, data.len(), coded.len());
+    if number != 0 {
+        return number;
+    }
+    encode_into(n, m, size, data, coded);
+    0
+}
+
+// Decodes, or gives the number of the refusal and leaves the buffer.
+#[no_mangle]
+pub extern "C" fn stripe_decode(
+    n: usize,
+    m: usize,
+    size: usize,
+    bricks: &[u8],
+    blocks: &[u8],
+    data: &mut [u8],
+) -> u32
+    ensures { λ r. ⌜ r ≡ decodeRefusal n m size (now (bricks .entry)) (length (now (blocks .entry))) (length (now («data» .entry))) ⌝ }
+    ensures { λ r. ⌜ now («data» .exit) ≡ decodedBuffer n m size (now (bricks .entry)) (now (blocks .entry)) (now («data» .entry)) ⌝ }
+{
+    let reason = decode_refusal(n, m, size, bricks, blocks.len(), data.len());
+    if reason != 0 {
+        return reason;
+    }
+    decode_into(m, size, bricks, blocks, data);
+    0
+}

@@ -1,0 +1,104 @@
+use borrow.Author.Needs.{needs}
+use native.Mathlib.Nat.{zero-mul, suc-mul, mul-le-mul-right, le-refl}
+use native.Mathlib.Numerals.{add-one}
+use native.Mathlib.Omega.{arith}
+use lib.ListN.{length, getD, take, drop}
+use mathlib.Core.Path.{_≡_, refl, sym, ap, ap₂, _∙_}
+use Prim.Native.Nat.{ℕ, suc, _+_, _*_, _-_, _≤_, _<_}
+use Rattle.interpolate.specs.RowLaws.{partial, row-none, row-step, row-all, part-length}
+use Rattle.interpolate.specs.Tabulate.{tabulate, length-tabulate}
+use Rattle.interpolate.proofs.combine.Statement.{statement}
+use Rattle.interpolate.proofs.combine.Tie as tie
+
+abbrev Inv-loop : tie.InvT-loop
+Inv-loop powers logs points sums blocks x out₀ size top j₀ at₀ out j at =
+    (out ≡ tabulate size (partial points size blocks x j)) × (at ≡ j * size) × (j ≤ length points)
+
+abbrev μ-loop : tie.MeasureT-loop
+μ-loop powers logs points sums blocks x out₀ size top j₀ at₀ out j at = length points - j
+
+numerator-of-requires : tie.Need-numerator-of-requires Inv-loop μ-loop
+numerator-of-requires c κs = c .before .before .before .pre .1 .0 .set .few
+
+clear-requires : tie.Need-clear-requires Inv-loop μ-loop
+clear-requires c κs = search needs
+
+loop-holds : tie.Need-loop-holds Inv-loop μ-loop
+loop-holds c = (c .before .before .clear .ensures ∙ row-none _ _ _ _, sym (zero-mul _), omega arith)
+
+-- the next block is within the blocks
+within : (c : tie.In-loop Inv-loop μ-loop)
+    → c .before .loop .at + length (c .before .before .before .before .before .before .before .before .before .before .args .out .now) ≤ length (c .before .before .before .before .before .before .before .before .before .before .args .blocks .now)
+within c =
+    let s = c .before .before .before .before .before .before .before .before .before .before in
+    let h = mul-le-mul-right (length (s .args .out .now)) (c .loop-test .taken) in
+    omega (arith, h, suc-mul (c .before .loop .j) (length (s .args .out .now)), c .before .loop .inv .1, s .pre .1 .1 .1)
+
+weight-log-requires : tie.Need-weight-log-requires Inv-loop μ-loop
+weight-log-requires c κs =
+    let s = c .before .before .before .before .before .before .before .before .before .before in
+    let top = c .before .before .before .before .before .before .numerator-of .ensures in
+    (s .pre .1 .0, (s .pre .1 .1 .0, (top .0, (c .loop-test .taken, top .1))))
+
+add-end : tie.Need-add-end Inv-loop μ-loop
+add-end c = omega (arith, within (c .before))
+
+sub-add-scaled : tie.Need-sub-add-scaled Inv-loop μ-loop
+sub-add-scaled c = omega arith
+
+part-add-scaled-start : tie.Need-part-add-scaled-start Inv-loop μ-loop
+part-add-scaled-start c = omega arith
+
+part-add-scaled-end : tie.Need-part-add-scaled-end Inv-loop μ-loop
+part-add-scaled-end c = omega (arith, within (c .before))
+
+add-scaled-requires : tie.Need-add-scaled-requires Inv-loop μ-loop
+add-scaled-requires c κs =
+    let s = c .before .before .before .before .before .before .before .before .before .before .before .before .before in
+    let e = within (c .before .before .before) in
+    let l = c .before .before .before .before .loop in
+    (s .pre .0, (c .before .before .weight-log .ensures .0, part-length (length (s .args .out .now)) (s .args .blocks .now) (l .at) e ∙ sym (ap length (l .inv .0) ∙ length-tabulate _ _)))
+
+add-j : tie.Need-add-j Inv-loop μ-loop
+add-j c = omega arith
+
+loop-less : tie.Need-loop-less Inv-loop μ-loop
+loop-less c = omega arith
+
+loop-again : tie.Need-loop-again Inv-loop μ-loop
+loop-again c =
+    let s = c .before .before .before .before .before .before .before .before .before .before .before .before .before .before .before .before in
+    let l = c .before .before .before .before .before .before .before .loop in
+    let size = length (s .args .out .now) in (
+      row-step (s .args .points .now) size (s .args .blocks .now) (l .out) _ (s .args .x) (l .j) (l .at) _ (λ k. c .before .before .before .before .before .before .before .before .before .before .before .before .before .before .shared-slice-known2 .given k .fits) (l .inv .1) (l .inv .0)
+          (c .before .before .before .before .before .weight-log .ensures .1) (c .before .before .add-scaled .ensures),
+      omega (arith, l .inv .1),
+      omega arith,
+    )
+
+same-length : tie.Need-same-length Inv-loop μ-loop
+same-length c = ap length (c .before .loop .inv .0) ∙ length-tabulate _ _
+
+returns : tie.Need-returns Inv-loop μ-loop
+returns c = row-all _ _ _ _ _ _ (c .loop-test .left) (c .before .loop .inv .2) (c .before .loop .inv .0)
+
+pub combine-spec : {M : Type 1} → statement M
+combine-spec =
+    tie.close
+    (tie.spec
+    Inv-loop
+    μ-loop
+    numerator-of-requires
+    clear-requires
+    loop-holds
+    weight-log-requires
+    add-end
+    sub-add-scaled
+    part-add-scaled-start
+    part-add-scaled-end
+    add-scaled-requires
+    add-j
+    loop-less
+    loop-again
+    same-length
+    returns)

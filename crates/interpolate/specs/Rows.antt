@@ -1,0 +1,28 @@
+-- What the inner functions give.
+use mathlib.Core.Bool.{cond}
+use mathlib.Core.List.{List, [], _∷_}
+use Prim.Native.Nat.{ℕ, zero, suc, _+_, _-_}
+use lib.Dec.{eqb}
+use lib.ListN.{length, getD}
+use Rattle.gf256.specs.Product.{plus, product, power}
+use Rattle.interpolate.specs.Tabulate.{tabulate}
+
+-- the place of the first x in a list, its length if there is none
+unfoldable pub firstPlace : List ℕ → ℕ → ℕ
+firstPlace [] x = 0
+firstPlace (b ∷ bs) x = cond (eqb b x) 0 (suc (firstPlace bs x))
+
+-- a block and another one times w, added byte by byte
+unfoldable pub scaled : ℕ → List ℕ → List ℕ → List ℕ
+scaled w from to = tabulate (length to) (λ (p : ℕ). plus (getD to p 0) (product w (getD from p 0)))
+
+-- the sum of the logarithms of x − b over the first k points b
+unfoldable pub numerator : List ℕ → List ℕ → ℕ → ℕ → ℕ
+numerator logs points x zero = 0
+numerator logs points x (suc k) = numerator logs points x k + getD logs (plus x (getD points k 0)) 0
+
+-- the sum of 255 less the logarithms of b − c, over the first k points c but b, which is point i
+unfoldable pub denominator : List ℕ → List ℕ → ℕ → ℕ → ℕ
+denominator logs points i zero = 0
+denominator logs points i (suc k) =
+    denominator logs points i k + cond (eqb k i) 0 (255 - getD logs (plus (getD points i 0) (getD points k 0)) 0)

@@ -1,0 +1,25 @@
+-- What a code computes (document 01, "Settings and the code"): blocks as values of polynomials, byte position by byte position.
+use mathlib.Core.List.{List}
+use Prim.Native.Nat.{ℕ, _+_, _*_}
+use lib.ListN.{length, getD}
+use Rattle.interpolate.specs.Bytes.{bytes, byte}
+use Rattle.interpolate.specs.Tabulate.{tabulate, stacked}
+use Rattle.poly.specs.Polynomial.{interpolated}
+
+-- byte p of block i, in a row of blocks of `size` bytes
+unfoldable pub byteAt : ℕ → List ℕ → ℕ → ℕ → ℕ
+byteAt size blocks i p = getD blocks (i * size + p) 0
+
+-- At byte position p, the value at point x of the polynomial that has, at each point of the list, that point's byte.
+-- `interpolated` is Lagrange's value; that it is the value of the one polynomial of degree below m is proved in Polynomials.
+unfoldable pub valueAt : List ℕ → ℕ → List ℕ → ℕ → ℕ → ℕ
+valueAt points size blocks x p =
+    interpolated bytes (length points) (λ (i : ℕ). byte (getD points i 0)) (λ (i : ℕ). byte (byteAt size blocks i p)) (byte x) .0
+
+-- the block at point x
+unfoldable pub blockAt : List ℕ → ℕ → List ℕ → ℕ → List ℕ
+blockAt points size blocks x = tabulate size (valueAt points size blocks x)
+
+-- the blocks at points 0 to count − 1, one after the other
+unfoldable pub blocksAt : List ℕ → ℕ → List ℕ → ℕ → List ℕ
+blocksAt points size blocks count = stacked count (blockAt points size blocks)

@@ -1,0 +1,484 @@
+//! One event at one coordinator: a start, a reply, a crash.
+
+use crate::brick::{Message, Reply, ORDER, ORDER_READ, READ, TRIM, WRITE};
+use crate::code;
+use crate::settings::{
+    coordinator_of, count_of, draw, quorum, valid_time, Refusal, Shape, LAST_COORDINATOR,
+    LAST_COUNT, LAST_ROUND, NO_UPPER_END,
+};
+
+#[derive(Clone, Copy, Debug, PartialEq, Eq)]
+pub enum Kind {
+    Read,
+    Write,
+}
+
+/// What a coordinator keeps. A crash leaves only the last count.
+#[derive(Clone, Debug, PartialEq, Eq)]
+pub struct Record {
+    pub shape: Shape,
+    pub number: u64,
+    pub last: u64,
+    pub running: Option<Running>,
+}
+
+/// The running operation and its open round.
+#[derive(Clone, Debug, PartialEq, Eq)]
+pub struct Running {
+    pub kind: Kind,
+    pub time: u64,
+    pub round: u64,
+    /// The kind of the messages of the open round.
+    pub open: u8,
+    /// Of an Order-and-read round; 0 in others.
+    pub max: u64,
+    /// The first target of a read; 0 in a write.
+    pub first: u64,
+    /// The data of a write, or what a read in its Write round recovered.
+    pub stripe: Vec<u8>,
+    /// The bricks that a read in its Write round decoded from.
+    pub bricks: Vec<u8>,
+    /// The replies counted in the open round.
+    pub replies: Vec<Reply>,
+}
+
+/// How an operation ended.
+#[derive(Clone, Debug, PartialEq, Eq)]
+pub enum Outcome {
+    /// A write that finished.
+    Ok,
+    /// A read that finished: the stripe, and the m bricks decoded from.
+    Stripe {
+        data: Vec<u8>,
+        bricks: Vec<u8>,
+    },
+    Abort,
+    Cut,
+}
+
+/// An operation that ended.
+#[derive(Clone, Debug, PartialEq, Eq)]
+pub struct Ended {
+    pub coordinator: u64,
+    pub kind: Kind,
+    pub time: u64,
+    pub outcome: Outcome,
+}
+
+/// What one event does besides changing the record: the messages sent, either
+/// none or one to each brick by its number, and the operation that ended.
+#[derive(Clone, Debug, Default, PartialEq, Eq)]
+pub struct Step {
+    pub sent: Vec<Message>,
+    pub ended: Option<Ended>,
+}
+
+impl Record {
+    /// An idle coordinator that drew no time yet.
+    pub fn fresh(shape: Shape, number: u64) -> Record {
+        Record {
+            shape,
+            number,
+            last: 0,
+            running: None,
+        }
+    }
+
+    /// Whether some rule is broken, under the settings and number given.
+    fn breaks_a_rule(&self, shape: Shape, number: u64) -> bool {
+        self.shape != shape
+            || self.number != number
+            || self.last > LAST_COUNT
+            || self
+                .running
+                .as_ref()
+                .is_some_and(|running| running.breaks_a_rule(shape, number, self.last))
+    }
+}
+
+impl Running {
+    fn breaks_a_rule(&self, shape: Shape, number: u64, last: u64) -> bool {
+        let timed = valid_time(self.time)
+            && coordinator_of(self.time) == number
+            && count_of(self.time) == last;
+        let rounded = (1..=LAST_ROUND).contains(&self.round);
+        let open = (self.replies.len() as u64) < quorum_of(shape);
+        let counted = (0..self.replies.len()).all(|i| self.counted_reply_fits(shape, i));
+        !(timed && rounded && self.round_fits(shape) && open && counted)
+    }
+
+    /// Whether the open round is one of the operation's, with the fields it needs.
+    fn round_fits(&self, shape: Shape) -> bool {
+        let empty = self.stripe.is_empty() && self.bricks.is_empty();
+        let full = self.stripe.len() == shape.data_len();
+        match (self.kind, self.open) {
+            (Kind::Write, ORDER | WRITE) => {
+                let round = if self.open == ORDER { 1 } else { 2 };
+                self.round == round
+                    && full
+                    && self.bricks.is_empty()
+                    && self.max == 0
+                    && self.first == 0
+            }
+            (Kind::Read, READ) => self.round == 1 && empty && self.max == 0 && self.first < shape.n,
+            (Kind::Read, ORDER_READ) => {
+                self.round >= 2 && empty && self.max_fits() && self.first < shape.n
+            }
+            (Kind::Read, WRITE) => {
+                let decoded = full && shape.is_brick_set(&self.bricks);
+                self.round >= 3 && decoded && self.max == 0 && self.first < shape.n
+            }
+            _ => false,
+        }
+    }
+
+    /// The first recovery round has no upper end, each later one a time found.
+    fn max_fits(&self) -> bool {
+        if self.round == 2 {
+            self.max == NO_UPPER_END
+        } else {
+            valid_time(self.max)
+        }
+    }
+
+    fn counted_reply_fits(&self, shape: Shape, i: usize) -> bool {
+        let reply = &self.replies[i];
+        reply.brick < shape.n
+            && self.replies[..i]
+                .iter()
+                .all(|other| other.brick != reply.brick)
+            && block_length_fits(shape, reply)
+            && reply.refusal().is_none()
+            && self.answers(shape, reply)
+    }
+
+    fn targets(&self, shape: Shape) -> Vec<u8> {
+        (0..shape.m)
+            .map(|i| ((self.first + i) % shape.n) as u8)
+            .collect()
+    }
+
+    /// Whether a reply is of this operation and round, with a block and a time
+    /// as the round's rules have them.
+    fn answers(&self, shape: Shape, reply: &Reply) -> bool {
+        let of_the_round =
+            reply.time == self.time && reply.round == self.round && reply.kind == self.open;
+        let held = reply.block.is_some();
+        let fits = match self.open {
+            READ => {
+                let target = self
+                    .targets(shape)
+                    .iter()
+                    .any(|&b| u64::from(b) == reply.brick);
+                held == (reply.yes && target)
+            }
+            ORDER_READ if reply.yes => held || reply.found == 0,
+            _ => !held && reply.found == 0,
+        };
+        of_the_round && fits
+    }
+
+    /// Opens the next round; none is open after round 1,000.
+    fn open_round(&mut self, shape: Shape, open: u8, max: u64) -> Option<Vec<Message>> {
+        if self.round == LAST_ROUND {
+            return None;
+        }
+        self.round += 1;
+        self.open = open;
+        self.max = max;
+        self.replies.clear();
+        Some(self.messages(shape))
+    }
+
+    /// The messages of the open round, by brick.
+    fn messages(&self, shape: Shape) -> Vec<Message> {
+        let mut message = Message::plain(self.open, self.time, self.round);
+        match self.open {
+            READ => message.targets = self.targets(shape),
+            ORDER_READ => message.max = self.max,
+            _ => {}
+        }
+        let mut messages = vec![message; shape.n as usize];
+        if self.open == WRITE {
+            let coded = encode(shape, &self.stripe);
+            for (j, message) in messages.iter_mut().enumerate() {
+                message.block = shape.block(&coded, j).to_vec();
+            }
+        }
+        messages
+    }
+
+    fn trims(&self, shape: Shape) -> Vec<Message> {
+        vec![Message::plain(TRIM, self.time, self.round); shape.n as usize]
+    }
+}
+
+/// What the q-th reply of a round leads to.
+enum Decision {
+    Next(Vec<Message>),
+    End(Outcome, Vec<Message>),
+}
+
+fn abort() -> Decision {
+    Decision::End(Outcome::Abort, Vec::new())
+}
+
+fn next_or_abort(messages: Option<Vec<Message>>) -> Decision {
+    messages.map_or_else(abort, Decision::Next)
+}
+
+fn quorum_of(shape: Shape) -> u64 {
+    quorum(shape.n, shape.m).expect("the shape is in range")
+}
+
+fn encode(shape: Shape, data: &[u8]) -> Vec<u8> {
+    code::encode(shape.n, shape.m, shape.size, data).expect("the stripe has the settings' length")
+}
+
+fn block_length_fits(shape: Shape, reply: &Reply) -> bool {
+    reply
+        .block
+        .as_ref()
+        .is_none_or(|block| block.len() as u64 == shape.size)
+}
+
+/// Starts a write. Refused: 1 settings, 2 the length of the data, 3 coordinator,
+/// 6 the record, 7 the reading, 8 no count left, 9 an operation runs.
+pub fn start_write(
+    shape: Shape,
+    number: u64,
+    record: &mut Record,
+    reading: u64,
+    data: &[u8],
+) -> Result<Step, Refusal> {
+    if shape.refusal().is_some() {
+        return Err(1);
+    }
+    if data.len() != shape.data_len() {
+        return Err(2);
+    }
+    start(shape, number, record, reading, Kind::Write, 0, data)
+}
+
+/// Starts a read whose targets are counted from brick `first`. Refused: 1
+/// settings, 3 coordinator or brick, 6 the record, 7 the reading, 8 no count
+/// left, 9 an operation runs.
+pub fn start_read(
+    shape: Shape,
+    number: u64,
+    record: &mut Record,
+    reading: u64,
+    first: u64,
+) -> Result<Step, Refusal> {
+    if shape.refusal().is_some() {
+        return Err(1);
+    }
+    if first >= shape.n {
+        return Err(3);
+    }
+    start(shape, number, record, reading, Kind::Read, first, &[])
+}
+
+fn start(
+    shape: Shape,
+    number: u64,
+    record: &mut Record,
+    reading: u64,
+    kind: Kind,
+    first: u64,
+    data: &[u8],
+) -> Result<Step, Refusal> {
+    check_record(shape, number, record)?;
+    let (time, last) = draw(number, record.last, reading)?;
+    if record.running.is_some() {
+        return Err(9);
+    }
+    let running = Running {
+        kind,
+        time,
+        round: 1,
+        open: if kind == Kind::Read { READ } else { ORDER },
+        max: 0,
+        first,
+        stripe: data.to_vec(),
+        bricks: Vec::new(),
+        replies: Vec::new(),
+    };
+    let sent = running.messages(shape);
+    record.last = last;
+    record.running = Some(running);
+    Ok(Step { sent, ended: None })
+}
+
+/// Takes a reply. Refused: 1 settings, 2 the length of the block, 3 coordinator
+/// or brick, 6 the record, 10 and 11 the reply.
+pub fn take_reply(
+    shape: Shape,
+    number: u64,
+    record: &mut Record,
+    reply: &Reply,
+) -> Result<Step, Refusal> {
+    if shape.refusal().is_some() {
+        return Err(1);
+    }
+    if !block_length_fits(shape, reply) {
+        return Err(2);
+    }
+    if reply.brick >= shape.n {
+        return Err(3);
+    }
+    check_record(shape, number, record)?;
+    if let Some(refusal) = reply.refusal() {
+        return Err(refusal);
+    }
+    let Some(running) = record.running.as_mut() else {
+        return Err(11);
+    };
+    let counted = running
+        .replies
+        .iter()
+        .any(|other| other.brick == reply.brick);
+    if counted || !running.answers(shape, reply) {
+        return Err(11);
+    }
+    running.replies.push(reply.clone());
+    if (running.replies.len() as u64) < quorum_of(shape) {
+        return Ok(Step::default());
+    }
+    match decide(shape, running) {
+        Decision::Next(sent) => Ok(Step { sent, ended: None }),
+        Decision::End(outcome, sent) => Ok(Step {
+            sent,
+            ended: end(record, outcome),
+        }),
+    }
+}
+
+/// A crash: the coordinator is idle and keeps its count; a running operation
+/// is cut. Refused: 1 settings, 3 coordinator, 6 the record.
+pub fn crash(shape: Shape, number: u64, record: &mut Record) -> Result<Step, Refusal> {
+    if shape.refusal().is_some() {
+        return Err(1);
+    }
+    check_record(shape, number, record)?;
+    Ok(Step {
+        sent: Vec::new(),
+        ended: end(record, Outcome::Cut),
+    })
+}
+
+/// Refusals 3 (coordinator) and 6 (record).
+fn check_record(shape: Shape, number: u64, record: &Record) -> Result<(), Refusal> {
+    if number > LAST_COORDINATOR {
+        return Err(3);
+    }
+    if record.breaks_a_rule(shape, number) {
+        return Err(6);
+    }
+    Ok(())
+}
+
+/// Ends the running operation, if there is one.
+fn end(record: &mut Record, outcome: Outcome) -> Option<Ended> {
+    let running = record.running.take()?;
+    Some(Ended {
+        coordinator: record.number,
+        kind: running.kind,
+        time: running.time,
+        outcome,
+    })
+}
+
+/// Decides a round in which q replies are counted.
+fn decide(shape: Shape, running: &mut Running) -> Decision {
+    let all_yes = running.replies.iter().all(|reply| reply.yes);
+    match running.open {
+        READ => decide_read(shape, running, all_yes),
+        _ if !all_yes => abort(),
+        ORDER => next_or_abort(running.open_round(shape, WRITE, 0)),
+        ORDER_READ => decide_recovery(shape, running),
+        _ => Decision::End(finished(running), running.trims(shape)),
+    }
+}
+
+/// The outcome of an operation whose Write round is finished.
+fn finished(running: &Running) -> Outcome {
+    match running.kind {
+        Kind::Write => Outcome::Ok,
+        Kind::Read => Outcome::Stripe {
+            data: running.stripe.clone(),
+            bricks: running.bricks.clone(),
+        },
+    }
+}
+
+fn decide_read(shape: Shape, running: &mut Running, all_yes: bool) -> Decision {
+    let newest = running.replies[0].found;
+    let same = running.replies.iter().all(|reply| reply.found == newest);
+    let targets = running.targets(shape);
+    let blocks: Option<Vec<&[u8]>> = targets
+        .iter()
+        .map(|&brick| block_of(&running.replies, brick))
+        .collect();
+    match blocks {
+        Some(blocks) if all_yes && same => {
+            let data = decode(shape, &targets, &blocks.concat());
+            Decision::End(
+                Outcome::Stripe {
+                    data,
+                    bricks: targets,
+                },
+                Vec::new(),
+            )
+        }
+        _ => next_or_abort(running.open_round(shape, ORDER_READ, NO_UPPER_END)),
+    }
+}
+
+fn decide_recovery(shape: Shape, running: &mut Running) -> Decision {
+    let holding = running.replies.iter().filter(|reply| reply.block.is_some());
+    let Some(highest) = holding.map(|reply| reply.found).max() else {
+        return abort();
+    };
+    let chosen: Vec<Reply> = running
+        .replies
+        .iter()
+        .filter(|reply| reply.block.is_some() && reply.found == highest)
+        .cloned()
+        .collect();
+    if chosen.len() as u64 >= shape.m {
+        (running.bricks, running.stripe) = recover(shape, &chosen);
+        return next_or_abort(running.open_round(shape, WRITE, 0));
+    }
+    if highest == 0 {
+        return abort();
+    }
+    next_or_abort(running.open_round(shape, ORDER_READ, highest))
+}
+
+/// The first m bricks by number, and the stripe that their blocks decode to.
+fn recover(shape: Shape, chosen: &[Reply]) -> (Vec<u8>, Vec<u8>) {
+    let mut bricks: Vec<u8> = chosen.iter().map(|reply| reply.brick as u8).collect();
+    bricks.sort_unstable();
+    bricks.truncate(shape.m as usize);
+    let blocks: Vec<&[u8]> = bricks
+        .iter()
+        .filter_map(|&brick| block_of(chosen, brick))
+        .collect();
+    let data = decode(shape, &bricks, &blocks.concat());
+    (bricks, data)
+}
+
+/// The block in the reply of a brick.
+fn block_of(replies: &[Reply], brick: u8) -> Option<&[u8]> {
+    replies
+        .iter()
+        .find(|reply| reply.brick == u64::from(brick))?
+        .block
+        .as_deref()
+}
+
+fn decode(shape: Shape, bricks: &[u8], blocks: &[u8]) -> Vec<u8> {
+    code::decode(shape.n, shape.m, shape.size, bricks, blocks)
+        .expect("m blocks of different bricks")
+}

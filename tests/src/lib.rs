@@ -1,0 +1,16 @@
+//! A second implementation of the stripe register, written from document 01
+//! alone, to compare with. It favours short definitions over speed.
+
+#![deny(unsafe_code)]
+
+pub mod bench;
+pub mod brick;
+pub mod code;
+pub mod coordinator;
+pub mod field;
+pub mod image;
+#[allow(unsafe_code)]
+pub mod proved;
+pub mod rng;
+pub mod script;
+pub mod settings;

@@ -1,0 +1,337 @@
+//! One message at one brick.
+
+use jilbagum_tests::brick::*;
+use jilbagum_tests::image::{fresh, parse, write, Entry, State, BLOCK};
+use jilbagum_tests::rng::Rng;
+use jilbagum_tests::settings::{Refusal, Settings, NO_UPPER_END};
+
+fn settings() -> Settings {
+    Settings::new(4, 2, 1, 3)
+}
+
+/// The image of brick 1 with a promise and entries (time, byte).
+fn image(promise: u64, log: &[(u64, u8)]) -> Vec<u8> {
+    let log = log
+        .iter()
+        .map(|&(time, byte)| Entry {
+            time,
+            block: vec![byte],
+        })
+        .collect();
+    write(settings(), 1, &State { promise, log }).unwrap()
+}
+
+fn state(image: &[u8]) -> (u64, Vec<(u64, u8)>) {
+    let state = parse(settings(), 1, image).unwrap();
+    (
+        state.promise,
+        state
+            .log
+            .iter()
+            .map(|entry| (entry.time, entry.block[0]))
+            .collect(),
+    )
+}
+
+fn read(time: u64, targets: &[u8]) -> Message {
+    Message {
+        targets: targets.to_vec(),
+        ..Message::plain(READ, time, 1)
+    }
+}
+
+fn order_read(time: u64, max: u64) -> Message {
+    Message {
+        max,
+        ..Message::plain(ORDER_READ, time, 2)
+    }
+}
+
+fn store(time: u64, byte: u8) -> Message {
+    Message {
+        block: vec![byte],
+        ..Message::plain(WRITE, time, 2)
+    }
+}
+
+/// The answer of brick 1: yes or no, the time given, the block's byte.
+fn answer(image: &mut [u8], message: &Message) -> (bool, u64, Option<u8>) {
+    let reply = take(settings(), 1, image, message).unwrap().unwrap();
+    assert_eq!((reply.kind, reply.brick), (message.kind, 1));
+    assert_eq!((reply.time, reply.round), (message.time, message.round));
+    (reply.yes, reply.found, reply.block.map(|block| block[0]))
+}
+
+/// The message is refused and the image keeps its bytes.
+fn refused(settings: Settings, brick: u64, image: &[u8], message: &Message) -> Refusal {
+    let mut changed = image.to_vec();
+    let refusal = take(settings, brick, &mut changed, message).unwrap_err();
+    assert_eq!(changed, image);
+    refusal
+}
+
+#[test]
+fn read_says_yes_unless_a_promise_is_ahead() {
+    let log = [(0, 5), (32, 6)];
+    for (promise, yes) in [(0, true), (31, true), (32, true), (33, false)] {
+        let mut image = image(promise, &log);
+        let before = image.clone();
+        assert_eq!(
+            answer(&mut image, &read(64, &[0, 1])),
+            (yes, 32, yes.then_some(6))
+        );
+        assert_eq!(
+            answer(&mut image, &read(64, &[1, 3])),
+            (yes, 32, yes.then_some(6))
+        );
+        assert_eq!(answer(&mut image, &read(16, &[3, 0])), (yes, 32, None));
+        assert_eq!(image, before);
+    }
+}
+
+#[test]
+fn order_promises_a_time_above_newest_and_not_below_the_promise() {
+    let log = [(0, 5), (32, 6)];
+    for (promise, time, yes) in [
+        (0, 32, false),
+        (0, 33, true),
+        (0, 31, false),
+        (40, 39, false),
+        (40, 40, true),
+        (40, 41, true),
+    ] {
+        let mut image = image(promise, &log);
+        assert_eq!(
+            answer(&mut image, &Message::plain(ORDER, time, 1)),
+            (yes, 0, None)
+        );
+        assert_eq!(
+            state(&image),
+            (if yes { time } else { promise }, log.to_vec())
+        );
+    }
+}
+
+#[test]
+fn order_and_read_finds_the_highest_entry_under_max() {
+    let log = [(0, 5), (32, 6), (48, 7)];
+    for (max, found, byte) in [
+        (NO_UPPER_END, 48, Some(7)),
+        (49, 48, Some(7)),
+        (48, 32, Some(6)),
+        (33, 32, Some(6)),
+        (32, 0, Some(5)),
+        (1, 0, Some(5)),
+        (0, 0, None),
+    ] {
+        let mut image = image(40, &log);
+        assert_eq!(
+            answer(&mut image, &order_read(64, max)),
+            (true, found, byte),
+            "max {max}"
+        );
+        assert_eq!(state(&image), (64, log.to_vec()));
+    }
+    let mut trimmed = image(0, &[(32, 6)]);
+    assert_eq!(answer(&mut trimmed, &order_read(64, 32)), (true, 0, None));
+}
+
+#[test]
+fn order_and_read_gives_nothing_on_a_no() {
+    for (promise, time) in [(0, 48), (0, 47), (65, 64)] {
+        let mut image = image(promise, &[(0, 5), (48, 7)]);
+        let before = image.clone();
+        assert_eq!(
+            answer(&mut image, &order_read(time, NO_UPPER_END)),
+            (false, 0, None)
+        );
+        assert_eq!(image, before);
+    }
+}
+
+#[test]
+fn write_appends_and_leaves_the_promise() {
+    for (promise, time, yes) in [
+        (0, 32, false),
+        (0, 33, true),
+        (0, 31, false),
+        (40, 39, false),
+        (40, 40, true),
+        (40, 41, true),
+    ] {
+        let mut image = image(promise, &[(0, 5), (32, 6)]);
+        assert_eq!(answer(&mut image, &store(time, 9)), (yes, 0, None));
+        let log = if yes {
+            vec![(0, 5), (32, 6), (time, 9)]
+        } else {
+            vec![(0, 5), (32, 6)]
+        };
+        assert_eq!(state(&image), (promise, log));
+    }
+}
+
+#[test]
+fn a_full_log_says_no_until_a_trim() {
+    let mut image = image(0, &[(0, 5), (32, 6), (48, 7)]);
+    let before = image.clone();
+    assert_eq!(answer(&mut image, &store(64, 9)), (false, 0, None));
+    assert_eq!(image, before);
+    assert_eq!(
+        take(settings(), 1, &mut image, &Message::plain(TRIM, 32, 2)),
+        Ok(None)
+    );
+    assert_eq!(answer(&mut image, &store(64, 9)), (true, 0, None));
+    assert_eq!(state(&image), (0, vec![(32, 6), (48, 7), (64, 9)]));
+}
+
+#[test]
+fn trim_drops_what_is_under_its_time_but_never_the_newest() {
+    let log = [(0, 5), (32, 6), (48, 7)];
+    for (time, kept) in [(16, 1), (32, 1), (33, 2), (48, 2), (49, 2), (1000, 2)] {
+        let mut image = image(40, &log);
+        assert_eq!(
+            take(settings(), 1, &mut image, &Message::plain(TRIM, time, 2)),
+            Ok(None)
+        );
+        assert_eq!(state(&image), (40, log[kept..].to_vec()), "trim {time}");
+    }
+    // A freed block of the image is an unused block again.
+    let mut image = image(40, &log);
+    take(settings(), 1, &mut image, &Message::plain(TRIM, 48, 2)).unwrap();
+    assert_eq!(image[2 * BLOCK..2 * BLOCK + 3], [1, 0, 0]);
+}
+
+#[test]
+fn refused_messages() {
+    let image = image(0, &[(0, 5)]);
+    let fine = read(64, &[0, 1]);
+    let refused_10 = [
+        Message {
+            kind: 0,
+            ..fine.clone()
+        },
+        Message {
+            kind: 6,
+            ..fine.clone()
+        },
+        Message {
+            kind: 255,
+            ..fine.clone()
+        },
+        Message {
+            time: 0,
+            ..fine.clone()
+        },
+        Message {
+            time: 15,
+            ..fine.clone()
+        },
+        Message {
+            time: 1 << 44,
+            ..fine.clone()
+        },
+        Message {
+            round: 0,
+            ..fine.clone()
+        },
+        Message {
+            round: 1001,
+            ..fine.clone()
+        },
+        Message {
+            round: u64::MAX,
+            ..fine.clone()
+        },
+        read(64, &[]),
+        read(64, &[1]),
+        read(64, &[0, 1, 2]),
+        read(64, &[1, 1]),
+        read(64, &[1, 4]),
+        read(64, &[255, 0]),
+        order_read(64, NO_UPPER_END + 1),
+        order_read(64, u64::MAX),
+        Message::plain(ORDER, 15, 1),
+        Message::plain(TRIM, 0, 1),
+        Message::plain(TRIM, 64, 0),
+        Message {
+            round: 1001,
+            ..store(64, 1)
+        },
+    ];
+    for message in &refused_10 {
+        assert_eq!(refused(settings(), 1, &image, message), 10, "{message:?}");
+    }
+    for message in [
+        Message {
+            round: 1000,
+            ..fine.clone()
+        },
+        read(16, &[3, 2]),
+        order_read((1 << 44) - 1, NO_UPPER_END),
+    ] {
+        assert!(take(settings(), 1, &mut image.clone(), &message).is_ok());
+    }
+}
+
+#[test]
+fn refused_lowest_first() {
+    let senseless = Message::plain(0, 0, 0);
+    let ruled = fresh(settings(), 0).unwrap();
+    assert_eq!(refused(settings(), 1, &ruled, &senseless), 6);
+    let mut torn = ruled.clone();
+    torn[600] ^= 1;
+    assert_eq!(refused(settings(), 1, &torn, &senseless), 5);
+    assert_eq!(refused(settings(), 4, &torn, &senseless), 3);
+    assert_eq!(refused(settings(), 4, &torn[1..], &senseless), 2);
+    assert_eq!(
+        refused(Settings::new(4, 2, 0, 3), 4, &torn[1..], &senseless),
+        1
+    );
+    // A Write block of another length.
+    for block in [vec![], vec![0; 2]] {
+        let message = Message {
+            block,
+            ..Message::plain(WRITE, 0, 0)
+        };
+        assert_eq!(refused(settings(), 4, &torn, &message), 2);
+        assert_eq!(refused(Settings::new(4, 5, 1, 3), 4, &torn, &message), 1);
+    }
+}
+
+/// Random messages, many of them senseless: a refusal changes nothing, and what
+/// is taken leaves an image that opens, with the newest time never falling.
+#[test]
+fn random_messages() {
+    let mut rng = Rng::printed(5);
+    let mut image = image(0, &[(0, 5)]);
+    for _ in 0..20_000 {
+        let before = image.clone();
+        let message = Message {
+            kind: rng.below(7) as u8,
+            time: if rng.once_in(20) {
+                rng.number()
+            } else {
+                rng.below(400)
+            },
+            round: rng.below(1003),
+            max: if rng.once_in(3) {
+                NO_UPPER_END + rng.below(2)
+            } else {
+                rng.below(400)
+            },
+            targets: (0..rng.between(1, 3)).map(|_| rng.below(5) as u8).collect(),
+            block: vec![rng.byte(); if rng.once_in(10) { 2 } else { 1 }],
+        };
+        let newest = state(&before).1.last().unwrap().0;
+        match take(settings(), 1, &mut image, &message) {
+            Err(number) => {
+                assert!(number == 2 || number == 10);
+                assert_eq!(image, before);
+            }
+            Ok(_) => assert!(state(&image).1.last().unwrap().0 >= newest),
+        }
+        if newest > 350 {
+            image = crate::image(0, &[(0, 5)]);
+        }
+    }
+}

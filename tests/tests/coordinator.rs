@@ -1,0 +1,884 @@
+//! Starts, replies and crashes at one coordinator.
+
+use jilbagum_tests::brick::*;
+use jilbagum_tests::code::encode;
+use jilbagum_tests::coordinator::*;
+use jilbagum_tests::rng::Rng;
+use jilbagum_tests::settings::{Refusal, Shape, LAST_COUNT, NO_UPPER_END};
+
+/// n 4, m 2, blocks of 1 byte: the quorum is 3.
+fn shape() -> Shape {
+    Shape::new(4, 2, 1)
+}
+
+fn fresh() -> Record {
+    Record::fresh(shape(), 1)
+}
+
+/// Coordinator 1 writing bytes 5, 9 at time 17.
+fn writing() -> Record {
+    let mut record = fresh();
+    start_write(shape(), 1, &mut record, 1, &[5, 9]).unwrap();
+    record
+}
+
+/// Coordinator 1 reading at time 17 with targets 3 and 0.
+fn reading() -> Record {
+    let mut record = fresh();
+    start_read(shape(), 1, &mut record, 1, 3).unwrap();
+    record
+}
+
+/// A reply to coordinator 1 at time 17.
+fn reply(kind: u8, round: u64, brick: u64, yes: bool, found: u64, block: Option<u8>) -> Reply {
+    Reply {
+        kind,
+        brick,
+        time: 17,
+        round,
+        yes,
+        found,
+        block: block.map(|byte| vec![byte]),
+    }
+}
+
+fn take(record: &mut Record, reply: Reply) -> Step {
+    take_reply(shape(), 1, record, &reply).unwrap()
+}
+
+/// The reply is refused and the record keeps its content.
+fn refused(record: &Record, reply: &Reply) -> Refusal {
+    let mut changed = record.clone();
+    let refusal = take_reply(shape(), 1, &mut changed, reply).unwrap_err();
+    assert_eq!(&changed, record);
+    refusal
+}
+
+/// Takes replies, the last of which decides; those before do nothing visible.
+fn take_all(record: &mut Record, replies: Vec<Reply>) -> Step {
+    let count = replies.len();
+    let steps: Vec<Step> = replies
+        .into_iter()
+        .map(|reply| take(record, reply))
+        .collect();
+    assert!(steps[..count - 1]
+        .iter()
+        .all(|step| *step == Step::default()));
+    steps.into_iter().next_back().unwrap()
+}
+
+fn yes_from(kind: u8, round: u64, bricks: &[u64]) -> Vec<Reply> {
+    bricks
+        .iter()
+        .map(|&brick| reply(kind, round, brick, true, 0, None))
+        .collect()
+}
+
+fn outcome(step: &Step) -> Outcome {
+    let ended = step.ended.clone().expect("the operation ended");
+    assert_eq!((ended.coordinator, ended.time), (1, 17));
+    ended.outcome
+}
+
+fn stripe(data: &[u8], bricks: &[u8]) -> Outcome {
+    Outcome::Stripe {
+        data: data.to_vec(),
+        bricks: bricks.to_vec(),
+    }
+}
+
+/// A read in its first recovery round.
+fn recovering() -> Record {
+    let mut record = reading();
+    let step = take_all(
+        &mut record,
+        vec![
+            reply(READ, 1, 0, false, 0, None),
+            reply(READ, 1, 1, true, 0, None),
+            reply(READ, 1, 2, true, 0, None),
+        ],
+    );
+    assert_eq!(
+        step.sent,
+        vec![
+            Message {
+                max: NO_UPPER_END,
+                ..Message::plain(ORDER_READ, 17, 2)
+            };
+            4
+        ]
+    );
+    assert_eq!(step.ended, None);
+    record
+}
+
+#[test]
+fn a_write_orders_then_writes_then_trims() {
+    let mut record = fresh();
+    let step = start_write(shape(), 1, &mut record, 1, &[5, 9]).unwrap();
+    assert_eq!(
+        step,
+        Step {
+            sent: vec![Message::plain(ORDER, 17, 1); 4],
+            ended: None
+        }
+    );
+    assert_eq!(record.last, 1);
+
+    let step = take_all(&mut record, yes_from(ORDER, 1, &[3, 0, 2]));
+    let coded = encode(4, 2, 1, &[5, 9]).unwrap();
+    let blocks: Vec<Message> = coded
+        .iter()
+        .map(|&byte| Message {
+            block: vec![byte],
+            ..Message::plain(WRITE, 17, 2)
+        })
+        .collect();
+    assert_eq!(
+        step,
+        Step {
+            sent: blocks,
+            ended: None
+        }
+    );
+
+    let step = take_all(&mut record, yes_from(WRITE, 2, &[1, 3, 0]));
+    assert_eq!(step.sent, vec![Message::plain(TRIM, 17, 2); 4]);
+    assert_eq!(outcome(&step), Outcome::Ok);
+    assert_eq!(step.ended.unwrap().kind, Kind::Write);
+    assert_eq!(record, Record { last: 1, ..fresh() });
+}
+
+#[test]
+fn the_qth_reply_decides_an_abort() {
+    for place in 0..3 {
+        let mut replies = yes_from(ORDER, 1, &[3, 0, 2]);
+        replies[place].yes = false;
+        let mut record = writing();
+        let step = take_all(&mut record, replies);
+        assert_eq!(outcome(&step), Outcome::Abort);
+        assert!(step.sent.is_empty());
+        assert_eq!(record, Record { last: 1, ..fresh() });
+    }
+    let mut record = writing();
+    take_all(&mut record, yes_from(ORDER, 1, &[0, 1, 2]));
+    let mut replies = yes_from(WRITE, 2, &[0, 1, 3]);
+    replies[0].yes = false;
+    let step = take_all(&mut record, replies);
+    assert_eq!(outcome(&step), Outcome::Abort);
+    assert!(step.sent.is_empty());
+}
+
+#[test]
+fn a_read_of_one_round() {
+    let mut record = fresh();
+    let step = start_read(shape(), 1, &mut record, 1, 3).unwrap();
+    assert_eq!(
+        step.sent,
+        vec![
+            Message {
+                targets: vec![3, 0],
+                ..Message::plain(READ, 17, 1)
+            };
+            4
+        ]
+    );
+    let step = take_all(
+        &mut record,
+        vec![
+            reply(READ, 1, 0, true, 40, Some(5)),
+            reply(READ, 1, 2, true, 40, None),
+            reply(READ, 1, 3, true, 40, Some(17)),
+        ],
+    );
+    assert_eq!(outcome(&step), stripe(&[5, 9], &[3, 0]));
+    assert!(step.sent.is_empty());
+    assert_eq!(record, Record { last: 1, ..fresh() });
+}
+
+#[test]
+fn a_read_recovers_otherwise() {
+    let fine = [
+        reply(READ, 1, 0, true, 40, Some(5)),
+        reply(READ, 1, 2, true, 40, None),
+        reply(READ, 1, 3, true, 40, Some(17)),
+    ];
+    let with = |other: Reply| {
+        let place = fine
+            .iter()
+            .position(|reply| reply.brick == other.brick)
+            .unwrap_or(2);
+        let mut replies = fine.to_vec();
+        replies[place] = other;
+        replies
+    };
+    for replies in [
+        with(reply(READ, 1, 2, false, 40, None)),
+        with(reply(READ, 1, 2, true, 24, None)),
+        with(reply(READ, 1, 3, false, 40, None)),
+        with(reply(READ, 1, 3, true, 24, Some(17))),
+        with(reply(READ, 1, 1, true, 40, None)),
+    ] {
+        let mut record = reading();
+        let step = take_all(&mut record, replies);
+        assert_eq!(
+            step.sent,
+            vec![
+                Message {
+                    max: NO_UPPER_END,
+                    ..Message::plain(ORDER_READ, 17, 2)
+                };
+                4
+            ]
+        );
+        assert_eq!(step.ended, None);
+    }
+}
+
+#[test]
+fn recovery_writes_back_what_it_found() {
+    let mut record = recovering();
+    let step = take_all(
+        &mut record,
+        vec![
+            reply(ORDER_READ, 2, 3, true, 16, Some(17)),
+            reply(ORDER_READ, 2, 2, true, 16, Some(29)),
+            reply(ORDER_READ, 2, 1, true, 0, Some(0)),
+        ],
+    );
+    let blocks: Vec<u8> = step.sent.iter().map(|message| message.block[0]).collect();
+    assert_eq!(blocks, [5, 9, 29, 17]);
+    assert!(step
+        .sent
+        .iter()
+        .all(|message| (message.kind, message.time, message.round) == (WRITE, 17, 3)));
+    let step = take_all(&mut record, yes_from(WRITE, 3, &[0, 1, 2]));
+    assert_eq!(outcome(&step), stripe(&[5, 9], &[2, 3]));
+    assert_eq!(step.sent, vec![Message::plain(TRIM, 17, 3); 4]);
+}
+
+#[test]
+fn recovery_names_the_first_m_bricks_by_number() {
+    let mut record = recovering();
+    let coded = encode(4, 2, 1, &[5, 9]).unwrap();
+    let replies =
+        [3, 1, 2].map(|brick| reply(ORDER_READ, 2, brick, true, 16, Some(coded[brick as usize])));
+    take_all(&mut record, replies.to_vec());
+    let step = take_all(&mut record, yes_from(WRITE, 3, &[0, 1, 2]));
+    assert_eq!(outcome(&step), stripe(&[5, 9], &[1, 2]));
+}
+
+#[test]
+fn recovery_looks_further_down() {
+    let mut record = recovering();
+    let step = take_all(
+        &mut record,
+        vec![
+            reply(ORDER_READ, 2, 0, true, 0, Some(0)),
+            reply(ORDER_READ, 2, 1, true, 16, Some(7)),
+            reply(ORDER_READ, 2, 2, true, 0, Some(0)),
+        ],
+    );
+    assert_eq!(
+        step.sent,
+        vec![
+            Message {
+                max: 16,
+                ..Message::plain(ORDER_READ, 17, 3)
+            };
+            4
+        ]
+    );
+    let step = take_all(
+        &mut record,
+        vec![
+            reply(ORDER_READ, 3, 1, true, 0, Some(0)),
+            reply(ORDER_READ, 3, 2, true, 0, Some(0)),
+            reply(ORDER_READ, 3, 3, true, 0, None),
+        ],
+    );
+    assert_eq!((step.sent[0].kind, step.sent[0].round), (WRITE, 4));
+    let step = take_all(&mut record, yes_from(WRITE, 4, &[0, 1, 2]));
+    assert_eq!(outcome(&step), stripe(&[0, 0], &[1, 2]));
+    assert_eq!(step.sent, vec![Message::plain(TRIM, 17, 4); 4]);
+}
+
+#[test]
+fn recovery_aborts() {
+    let none = |brick| reply(ORDER_READ, 2, brick, true, 0, None);
+    let zero = |brick| reply(ORDER_READ, 2, brick, true, 0, Some(0));
+    let no = |brick| reply(ORDER_READ, 2, brick, false, 0, None);
+    for replies in [
+        vec![none(0), none(1), none(2)],
+        vec![none(0), zero(1), none(2)],
+        vec![zero(0), zero(1), no(2)],
+    ] {
+        let mut record = recovering();
+        let step = take_all(&mut record, replies);
+        assert_eq!(outcome(&step), Outcome::Abort);
+        assert!(step.sent.is_empty());
+    }
+    let mut record = recovering();
+    take_all(&mut record, vec![zero(0), zero(1), none(2)]);
+    let mut replies = yes_from(WRITE, 3, &[0, 1, 2]);
+    replies[2].yes = false;
+    assert_eq!(outcome(&take_all(&mut record, replies)), Outcome::Abort);
+}
+
+/// A read whose recovery stands in the given round.
+fn recovering_in(round: u64) -> Record {
+    let mut record = recovering();
+    let time = |round: u64| (1 << 20) - 16 * round;
+    for round in 2..round {
+        let single = |brick, found| reply(ORDER_READ, round, brick, true, found, Some(0));
+        let step = take_all(
+            &mut record,
+            vec![single(0, time(round)), single(1, 0), single(2, 0)],
+        );
+        let next = Message {
+            max: time(round),
+            ..Message::plain(ORDER_READ, 17, round + 1)
+        };
+        assert_eq!(step.sent, vec![next; 4]);
+    }
+    record
+}
+
+#[test]
+fn no_round_after_1000() {
+    let last = recovering_in(1000);
+    let single = |brick, found| reply(ORDER_READ, 1000, brick, true, found, Some(0));
+    // Neither a further recovery round nor the Write round may be round 1,001.
+    for found in [16, 0] {
+        let mut record = last.clone();
+        let step = take_all(
+            &mut record,
+            vec![single(0, found), single(1, 0), single(2, 0)],
+        );
+        assert_eq!(outcome(&step), Outcome::Abort);
+        assert!(step.sent.is_empty());
+    }
+    let mut record = recovering_in(999);
+    let zeros = [0, 1, 2].map(|brick| reply(ORDER_READ, 999, brick, true, 0, Some(0)));
+    let step = take_all(&mut record, zeros.to_vec());
+    assert_eq!((step.sent[3].kind, step.sent[3].round), (WRITE, 1000));
+    let step = take_all(&mut record, yes_from(WRITE, 1000, &[0, 1, 2]));
+    assert_eq!(outcome(&step), stripe(&[0, 0], &[0, 1]));
+    assert_eq!(step.sent, vec![Message::plain(TRIM, 17, 1000); 4]);
+}
+
+#[test]
+fn a_crash_cuts_and_keeps_the_count() {
+    for mut record in [writing(), reading(), recovering()] {
+        let kind = record.running.as_ref().unwrap().kind;
+        let step = crash(shape(), 1, &mut record).unwrap();
+        assert_eq!(outcome(&step), Outcome::Cut);
+        assert_eq!(step.ended.unwrap().kind, kind);
+        assert!(step.sent.is_empty());
+        assert_eq!(record, Record { last: 1, ..fresh() });
+        assert_eq!(crash(shape(), 1, &mut record), Ok(Step::default()));
+        assert_eq!(record, Record { last: 1, ..fresh() });
+        let step = start_write(shape(), 1, &mut record, 0, &[0, 0]).unwrap();
+        assert_eq!(step.sent[0].time, 2 * 16 + 1);
+    }
+}
+
+#[test]
+fn starts_refused_lowest_first() {
+    let write = |shape, number, record: &Record, reading, data: &[u8]| {
+        let mut changed = record.clone();
+        let refusal = start_write(shape, number, &mut changed, reading, data).unwrap_err();
+        assert_eq!(&changed, record);
+        refusal
+    };
+    let read = |shape, number, record: &Record, reading, first| {
+        let mut changed = record.clone();
+        let refusal = start_read(shape, number, &mut changed, reading, first).unwrap_err();
+        assert_eq!(&changed, record);
+        refusal
+    };
+    let late = 1 << 40;
+    let running = writing();
+    assert_eq!(write(shape(), 1, &running, 0, &[1, 2]), 9);
+    assert_eq!(read(shape(), 1, &running, 0, 0), 9);
+
+    let mut spent = fresh();
+    start_read(shape(), 1, &mut spent, LAST_COUNT, 0).unwrap();
+    assert_eq!(write(shape(), 1, &spent, 0, &[1, 2]), 8);
+    assert_eq!(read(shape(), 1, &spent, 0, 0), 8);
+    assert_eq!(write(shape(), 1, &spent, late, &[1, 2]), 7);
+    assert_eq!(read(shape(), 1, &spent, late, 0), 7);
+
+    let broken = Record {
+        last: late,
+        ..spent.clone()
+    };
+    assert_eq!(write(shape(), 1, &broken, late, &[1, 2]), 6);
+    assert_eq!(read(shape(), 1, &broken, late, 0), 6);
+    assert_eq!(write(shape(), 16, &broken, late, &[1, 2]), 3);
+    assert_eq!(read(shape(), 16, &broken, late, 0), 3);
+    assert_eq!(read(shape(), 1, &broken, late, 4), 3);
+    assert_eq!(write(shape(), 16, &broken, late, &[1]), 2);
+    assert_eq!(write(shape(), 16, &broken, late, &[1, 2, 3]), 2);
+    let past = Shape::new(4, 5, 1);
+    assert_eq!(write(past, 16, &broken, late, &[1]), 1);
+    assert_eq!(read(past, 16, &broken, late, 4), 1);
+
+    assert!(start_read(shape(), 1, &mut fresh(), LAST_COUNT, 3).is_ok());
+    let mut last = Record::fresh(shape(), 15);
+    assert!(start_read(shape(), 15, &mut last, 0, 0).is_ok());
+}
+
+#[test]
+fn crashes_refused_lowest_first() {
+    let broken = Record {
+        last: 1 << 40,
+        ..fresh()
+    };
+    let refusal = |shape, number| {
+        let mut changed = broken.clone();
+        let refusal = crash(shape, number, &mut changed).unwrap_err();
+        assert_eq!(changed, broken);
+        refusal
+    };
+    assert_eq!(refusal(shape(), 1), 6);
+    assert_eq!(refusal(shape(), 16), 3);
+    assert_eq!(refusal(Shape::new(0, 0, 0), 16), 1);
+}
+
+#[test]
+fn replies_refused_lowest_first() {
+    let mut record = writing();
+    let fine = reply(ORDER, 1, 2, true, 0, None);
+    let senseless = Reply {
+        kind: 9,
+        ..fine.clone()
+    };
+    assert_eq!(refused(&record, &senseless), 10);
+    record.last = 1 << 40;
+    assert_eq!(refused(&record, &senseless), 6);
+    let past_n = Reply {
+        brick: 4,
+        ..senseless
+    };
+    assert_eq!(refused(&record, &past_n), 3);
+    assert_eq!(take_reply(shape(), 16, &mut record, &fine), Err(3));
+    for block in [vec![], vec![0; 2]] {
+        let long = Reply {
+            block: Some(block),
+            ..past_n.clone()
+        };
+        assert_eq!(refused(&record, &long), 2);
+        assert_eq!(
+            take_reply(Shape::new(4, 2, 0), 1, &mut record, &long),
+            Err(1)
+        );
+    }
+}
+
+#[test]
+fn replies_refused_10() {
+    let fine = reply(ORDER, 1, 2, true, 0, None);
+    let refused_10 = [
+        Reply {
+            kind: 0,
+            ..fine.clone()
+        },
+        Reply {
+            kind: TRIM,
+            ..fine.clone()
+        },
+        Reply {
+            kind: 6,
+            ..fine.clone()
+        },
+        Reply {
+            time: 0,
+            ..fine.clone()
+        },
+        Reply {
+            time: 15,
+            ..fine.clone()
+        },
+        Reply {
+            time: 1 << 44,
+            ..fine.clone()
+        },
+        Reply {
+            round: 0,
+            ..fine.clone()
+        },
+        Reply {
+            round: 1001,
+            ..fine.clone()
+        },
+        Reply {
+            found: 1,
+            ..fine.clone()
+        },
+        Reply {
+            found: 15,
+            ..fine.clone()
+        },
+        Reply {
+            found: 1 << 44,
+            ..fine.clone()
+        },
+    ];
+    for record in [writing(), reading(), fresh()] {
+        for reply in &refused_10 {
+            assert_eq!(refused(&record, reply), 10, "{reply:?}");
+        }
+    }
+}
+
+#[test]
+fn replies_refused_11() {
+    let fine = reply(ORDER, 1, 2, true, 0, None);
+    assert_eq!(refused(&fresh(), &fine), 11);
+    let mut record = writing();
+    let of_another = [
+        Reply {
+            time: 33,
+            ..fine.clone()
+        },
+        Reply {
+            time: 16,
+            ..fine.clone()
+        },
+        Reply {
+            round: 2,
+            ..fine.clone()
+        },
+        Reply {
+            round: 1000,
+            ..fine.clone()
+        },
+        Reply {
+            kind: READ,
+            ..fine.clone()
+        },
+        Reply {
+            kind: ORDER_READ,
+            ..fine.clone()
+        },
+        Reply {
+            kind: WRITE,
+            ..fine.clone()
+        },
+        Reply {
+            found: 16,
+            ..fine.clone()
+        },
+        Reply {
+            block: Some(vec![1]),
+            ..fine.clone()
+        },
+        Reply {
+            yes: false,
+            found: 16,
+            ..fine.clone()
+        },
+    ];
+    for reply in &of_another {
+        assert_eq!(refused(&record, reply), 11, "{reply:?}");
+    }
+    take(&mut record, fine.clone());
+    assert_eq!(refused(&record, &fine), 11);
+    assert_eq!(
+        refused(
+            &record,
+            &Reply {
+                yes: false,
+                ..fine.clone()
+            }
+        ),
+        11
+    );
+    take(
+        &mut record,
+        Reply {
+            brick: 0,
+            ..fine.clone()
+        },
+    );
+    take(
+        &mut record,
+        Reply {
+            brick: 1,
+            ..fine.clone()
+        },
+    );
+    assert_eq!(
+        refused(&record, &Reply { brick: 3, ..fine }),
+        11,
+        "late reply of round 1"
+    );
+    let stored = reply(WRITE, 2, 3, true, 0, None);
+    assert_eq!(
+        refused(
+            &record,
+            &Reply {
+                found: 16,
+                ..stored.clone()
+            }
+        ),
+        11
+    );
+    assert_eq!(
+        refused(
+            &record,
+            &Reply {
+                block: Some(vec![1]),
+                ..stored
+            }
+        ),
+        11
+    );
+}
+
+#[test]
+fn blocks_of_read_replies() {
+    // Targets are 3 and 0.
+    for (brick, yes, block, fits) in [
+        (0, true, Some(1), true),
+        (0, true, None, false),
+        (0, false, None, true),
+        (0, false, Some(1), false),
+        (1, true, None, true),
+        (1, true, Some(1), false),
+        (1, false, None, true),
+        (1, false, Some(1), false),
+    ] {
+        for found in [0, 16] {
+            let reply = reply(READ, 1, brick, yes, found, block);
+            let taken = take_reply(shape(), 1, &mut reading(), &reply);
+            assert_eq!(
+                taken,
+                if fits { Ok(Step::default()) } else { Err(11) },
+                "{reply:?}"
+            );
+        }
+    }
+}
+
+#[test]
+fn blocks_of_order_and_read_replies() {
+    for (yes, found, block, fits) in [
+        (true, 16, Some(1), true),
+        (true, 0, Some(1), true),
+        (true, 0, None, true),
+        (true, 16, None, false),
+        (false, 0, None, true),
+        (false, 0, Some(1), false),
+        (false, 16, None, false),
+        (false, 16, Some(1), false),
+    ] {
+        let reply = reply(ORDER_READ, 2, 1, yes, found, block);
+        let taken = take_reply(shape(), 1, &mut recovering(), &reply);
+        assert_eq!(
+            taken,
+            if fits { Ok(Step::default()) } else { Err(11) },
+            "{reply:?}"
+        );
+    }
+}
+
+/// The record is refused by every routine, and unchanged.
+fn breaks_a_rule(record: &Record) -> bool {
+    let mut changed = record.clone();
+    let results = [
+        start_read(shape(), 1, &mut changed, 0, 0),
+        start_write(shape(), 1, &mut changed, 0, &[0, 0]),
+        take_reply(shape(), 1, &mut changed, &reply(ORDER, 1, 0, true, 0, None)),
+        crash(shape(), 1, &mut changed.clone()),
+    ];
+    let count = results.iter().filter(|&result| *result == Err(6)).count();
+    assert!(count == 0 || count == 4);
+    assert!(count == 0 || changed == *record);
+    count == 4
+}
+
+/// The record with its running operation changed.
+fn with(mut record: Record, change: impl FnOnce(&mut Running)) -> Record {
+    change(record.running.as_mut().unwrap());
+    record
+}
+
+#[test]
+fn broken_records() {
+    let storing = || {
+        let mut record = recovering();
+        let zeros = [0, 1, 2].map(|brick| reply(ORDER_READ, 2, brick, true, 0, Some(0)));
+        take_all(&mut record, zeros.to_vec());
+        record
+    };
+    for record in [
+        fresh(),
+        writing(),
+        reading(),
+        recovering(),
+        recovering_in(3),
+        recovering_in(1000),
+        storing(),
+    ] {
+        assert!(!breaks_a_rule(&record));
+    }
+    let order = |brick| reply(ORDER, 1, brick, true, 0, None);
+    let broken = [
+        Record {
+            shape: Shape::new(4, 1, 1),
+            ..fresh()
+        },
+        Record {
+            number: 2,
+            ..fresh()
+        },
+        Record {
+            last: LAST_COUNT + 1,
+            ..fresh()
+        },
+        Record {
+            last: 2,
+            ..writing()
+        },
+        Record {
+            last: 0,
+            ..writing()
+        },
+        with(writing(), |r| r.time = 18),
+        with(writing(), |r| r.time = 33),
+        with(writing(), |r| r.time = 1),
+        with(writing(), |r| r.round = 0),
+        with(writing(), |r| r.round = 2),
+        with(writing(), |r| r.open = READ),
+        with(writing(), |r| r.open = WRITE),
+        with(writing(), |r| r.open = 0),
+        with(writing(), |r| r.open = TRIM),
+        with(writing(), |r| r.kind = Kind::Read),
+        with(writing(), |r| r.max = 16),
+        with(writing(), |r| r.first = 1),
+        with(writing(), |r| r.stripe.push(0)),
+        with(writing(), |r| r.stripe.clear()),
+        with(writing(), |r| r.bricks = vec![0, 1]),
+        with(writing(), |r| {
+            r.replies = vec![order(0), order(1), order(2)]
+        }),
+        with(writing(), |r| r.replies = vec![order(0), order(0)]),
+        with(writing(), |r| r.replies = vec![order(4)]),
+        with(writing(), |r| {
+            r.replies = vec![Reply {
+                time: 33,
+                ..order(0)
+            }]
+        }),
+        with(writing(), |r| {
+            r.replies = vec![Reply {
+                round: 2,
+                ..order(0)
+            }]
+        }),
+        with(writing(), |r| {
+            r.replies = vec![Reply {
+                kind: WRITE,
+                ..order(0)
+            }]
+        }),
+        with(writing(), |r| {
+            r.replies = vec![Reply {
+                found: 3,
+                ..order(0)
+            }]
+        }),
+        with(writing(), |r| {
+            r.replies = vec![Reply {
+                block: Some(vec![0]),
+                ..order(0)
+            }]
+        }),
+        with(reading(), |r| r.kind = Kind::Write),
+        with(reading(), |r| r.first = 4),
+        with(reading(), |r| r.round = 2),
+        with(reading(), |r| r.max = NO_UPPER_END),
+        with(reading(), |r| r.stripe = vec![0, 0]),
+        with(reading(), |r| {
+            r.replies = vec![reply(READ, 1, 0, true, 0, None)]
+        }),
+        with(reading(), |r| {
+            r.replies = vec![Reply {
+                block: Some(vec![0, 0]),
+                ..reply(READ, 1, 0, true, 0, Some(0))
+            }]
+        }),
+        with(recovering(), |r| r.round = 1),
+        with(recovering(), |r| r.round = 3),
+        with(recovering(), |r| r.max = 16),
+        with(recovering(), |r| r.max = NO_UPPER_END + 1),
+        with(recovering(), |r| r.bricks = vec![0, 1]),
+        with(recovering_in(1000), |r| r.round = 1001),
+        with(recovering_in(3), |r| r.max = NO_UPPER_END),
+        with(recovering_in(3), |r| r.max = 15),
+        with(storing(), |r| r.round = 2),
+        with(storing(), |r| r.max = 16),
+        with(storing(), |r| r.first = 4),
+        with(storing(), |r| r.stripe = vec![0]),
+        with(storing(), |r| r.bricks = vec![0]),
+        with(storing(), |r| r.bricks = vec![1, 1]),
+        with(storing(), |r| r.bricks = vec![1, 4]),
+    ];
+    for record in &broken {
+        assert!(breaks_a_rule(record), "{record:?}");
+    }
+    let two = with(writing(), |r| r.replies = vec![order(0), order(1)]);
+    assert!(!breaks_a_rule(&two));
+}
+
+/// Random replies, many of them senseless: a refusal changes nothing, and what
+/// is taken leaves a record that breaks no rule.
+#[test]
+fn random_replies() {
+    let mut rng = Rng::printed(6);
+    let mut record = fresh();
+    let mut ended = 0;
+    for _ in 0..20_000 {
+        if record.running.is_none() {
+            if rng.once_in(2) {
+                start_read(shape(), 1, &mut record, 0, rng.below(4)).unwrap();
+            } else {
+                start_write(shape(), 1, &mut record, 0, &rng.bytes(2)).unwrap();
+            }
+        }
+        let running = record.running.clone().unwrap();
+        let odd = rng.once_in(5);
+        let reply = Reply {
+            kind: if odd {
+                rng.below(7) as u8
+            } else {
+                running.open
+            },
+            brick: rng.below(if odd { 6 } else { 4 }),
+            time: if odd { rng.below(1000) } else { running.time },
+            round: if odd { rng.below(1003) } else { running.round },
+            yes: !rng.once_in(12),
+            found: if rng.once_in(2) { 0 } else { rng.below(200) },
+            block: if rng.once_in(2) {
+                None
+            } else {
+                Some(vec![rng.byte(); if odd { 2 } else { 1 }])
+            },
+        };
+        let before = record.clone();
+        match take_reply(shape(), 1, &mut record, &reply) {
+            Err(number) => {
+                assert!([2, 3, 10, 11].contains(&number));
+                assert_eq!(record, before);
+            }
+            Ok(step) => {
+                assert!(!breaks_a_rule(&record));
+                assert!(step.sent.is_empty() || step.sent.len() == 4);
+                ended += u64::from(step.ended.is_some());
+            }
+        }
+    }
+    assert!(ended > 100);
+}
