@@ -1,0 +1,61 @@
+-- One message at one brick: the answer, the image and the reply's buffer afterwards, refused calls included.
+use mathlib.Core.Bool.{Bool, cond}
+use mathlib.Core.List.{List, [], _∷_}
+use Prim.Native.Nat.{ℕ}
+use lib.Dec.{eqb}
+use lib.ListN.{length}
+use Rattle.settings.specs.Ranges.{settingsRefusal}
+use Rattle.settings.specs.Refusal.{passed, refuseUnless, firstRefusal, badLength}
+use Rattle.settings.specs.declared.Settings.{Settings}
+use Rattle.message.specs.Kinds.{trimKind}
+use Rattle.message.specs.Messages.{messageRefusal}
+use Rattle.message.specs.declared.Message.{Message}
+use Rattle.image.specs.Brick.{Brick}
+use Rattle.image.specs.Image.{imageOf}
+use Rattle.image.specs.Parse.{Parsed, Opens, Refuses, parse, openRefusal}
+use Rattle.brick.specs.Steps.{placeFor, replyTo, after, blockAfter}
+use Rattle.brick.specs.declared.Given.{Given}
+use Rattle.brick.specs.declared.Given.the-variants.{Answered, Silent, Refused}
+
+-- the settings, then the lengths of the two blocks
+unfoldable pub blocksRefusal : Settings → ℕ → ℕ → ℕ
+blocksRefusal s blockLength outLength =
+    firstRefusal
+    (settingsRefusal s
+    ∷ refuseUnless (eqb blockLength (s .size)) badLength
+    ∷ refuseUnless (eqb outLength (s .size)) badLength
+    ∷ [])
+
+-- why a message is refused, lowest number first: the settings and the blocks' lengths, the image, the message itself
+unfoldable pub receiveRefusal : Settings → ℕ → List ℕ → Message → ℕ → ℕ → ℕ
+receiveRefusal s brick bytes msg blockLength outLength =
+    firstRefusal (blocksRefusal s blockLength outLength ∷ openRefusal s brick bytes ∷ messageRefusal (s .n) (s .m) msg ∷ [])
+
+-- the answer, and what the image and the reply's buffer hold afterwards
+pub record Outcome : Type 0 where
+  pub given : Given
+  pub image : List ℕ
+  pub out : List ℕ
+
+-- "A refusal returns its number alone and every image, record and buffer keeps its bytes."
+unfoldable pub refusedWith : ℕ → List ℕ → List ℕ → Outcome
+refusedWith number bytes out = record { given = Refused number; image = bytes; out = out }
+
+-- "Trim t: no reply"
+unfoldable pub givenBy : Settings → ℕ → Brick → Message → Given
+givenBy s brick x msg = cond (eqb (msg .kind) trimKind) Silent (Answered (replyTo s brick x msg))
+
+unfoldable pub acted : Settings → ℕ → Message → List ℕ → List ℕ → List ℕ → Parsed → Outcome
+acted s brick msg block bytes out (Opens x) =
+    record {
+      given = givenBy s brick x msg;
+      image = imageOf s brick (after s x msg block);
+      out = blockAfter x (placeFor brick x msg) out;
+    }
+acted s brick msg block bytes out (Refuses number) = refusedWith number bytes out
+
+unfoldable pub outcome : Settings → ℕ → List ℕ → Message → List ℕ → List ℕ → Outcome
+outcome s brick bytes msg block out =
+    cond (eqb (receiveRefusal s brick bytes msg (length block) (length out)) passed)
+    (acted s brick msg block bytes out (parse s brick bytes))
+    (refusedWith (receiveRefusal s brick bytes msg (length block) (length out)) bytes out)

@@ -1,0 +1,344 @@
+// One message at one brick (document 01, "What a brick does").
+ghost use mathlib.Core.Path.{_≡_};
+ghost use mathlib.Core.Bool.{_&&_};
+ghost use Prim.Native.Nat.{_+_, _*_, _≤_, _<_};
+ghost use lib.Dec.{leb, ltb};
+ghost use lib.ListN.{length};
+ghost use Rattle.message.specs.Flags.{member};
+ghost use Rattle.image.specs.Brick.{count};
+ghost use Rattle.image.specs.Image.{imageOf};
+ghost use Rattle.image.specs.Parse.{brickIn};
+ghost use Rattle.image.specs.Opening.{workingLog};
+ghost use Rattle.saving.specs.Saving.{without};
+ghost use Rattle.brick.specs.Steps.{orderYes, ordered, writeYes, written, placeFor, foundFor, yesTo, after, blockAfter};
+ghost use Rattle.brick.specs.Receive.{blocksRefusal, givenBy, outcome};
+ghost use Rattle.brick.specs.LookLaws.{Ready, Ahead, Cut, underIn, placeOf, timeOf, planOf, readPlace, Planned, gaveOf};
+use block::store;
+use image::Answer;
+use image::Entry;
+use image::number_of;
+use image::open;
+use image::place_of;
+use message::Message;
+use message::ORDER_READ;
+use message::READ;
+use message::Reply;
+use message::TRIM;
+use message::WRITE;
+use saving::clear_blocks;
+use saving::shift_blocks;
+use saving::write_entry;
+use saving::write_head;
+use settings::Settings;
+
+// What is known of an opened brick: how many entries, its promise and its newest time.
+pub struct Known {
+    pub count: usize,
+    pub promise: u64,
+    pub newest: u64,
+}
+
+// The answer to a message.
+pub enum Given {
+    Answered(Reply),
+    Silent,
+    Refused(u32),
+}
+
+// What a message asks for, found in the working log: the block that goes with the reply, by its number in the image, 0 for none;
+// the time that the reply names; the entries that a Trim drops.
+struct Plan {
+    place: usize,
+    found: u64,
+    cut: usize,
+}
+
+// Whether an Order of that time is granted.
+fn order_yes(newest: u64, promise: u64, time: u64) -> bool
+    ensures { λ r. ⌜ r ≡ ltb newest time && leb promise time ⌝ }
+{
+    if newest < time {
+        return promise <= time;
+    }
+    false
+}
+
+// The head with another promise, where that is granted.
+fn order(s: Settings, brick: usize, image: &mut [u8], k: Known, time: u64) -> bool
+    requires { ⌜ Ready s brick (now image) k ⌝ }
+    ensures { λ r. ⌜ r ≡ orderYes (brickIn s (now (image .entry))) time ⌝ }
+    ensures { λ r. ⌜ now (image .exit) ≡ imageOf s brick (ordered (brickIn s (now (image .entry))) time) ⌝ }
+{
+    if order_yes(k.newest, k.promise, time) {} else {
+        return false;
+    }
+    write_head(s, brick, image, k.count, time);
+    true
+}
+
+// An entry more, where that is granted.
+fn write(s: Settings, brick: usize, image: &mut [u8], k: Known, time: u64, block: &[u8]) -> bool
+    requires { ⌜ Ready s brick (now image) k ⌝ }
+    requires { ⌜ length (now block) ≡ s .size ⌝ }
+    ensures { λ r. ⌜ r ≡ writeYes s (brickIn s (now (image .entry))) time ⌝ }
+    ensures { λ r. ⌜ now (image .exit) ≡ imageOf s brick (written s (brickIn s (now (image .entry))) time (now (block .entry))) ⌝ }
+{
+    if order_yes(k.newest, k.promise, time) {} else {
+        return false;
+    }
+    if s.capacity <= k.count {
+        return false;
+    }
+    let n = k.count + 1;
+    write_entry(image, 512 * n, time, block);
+    write_head(s, brick, image, n, k.promise);
+    true
+}
+
+// How many entries a Trim drops: those under its time, other than the newest.
+fn cut_for(log: [Entry; 32], count: usize, time: u64) -> usize
+    requires { ⌜ (1 ≤ count) × (count ≤ 32) ⌝ }
+    ensures { λ r. ⌜ Cut log count time r ⌝ }
+{
+    let last = count - 1;
+    let mut d: usize = 0;
+    while d < last {
+        let e = log[d];
+        if time <= e.time {
+            return d;
+        }
+        d += 1;
+    }
+    d
+}
+
+// The entries from number d on, kept.
+fn trim(s: Settings, brick: usize, image: &mut [u8], k: Known, d: usize)
+    requires { ⌜ Ready s brick (now image) k ⌝ }
+    requires { ⌜ d < k .count ⌝ }
+    ensures { λ _. ⌜ now (image .exit) ≡ imageOf s brick (without (brickIn s (now (image .entry))) d) ⌝ }
+{
+    if d == 0 {
+        return;
+    }
+    let kept = k.count - d;
+    shift_blocks(image, d, kept);
+    clear_blocks(image, kept + 1, k.count + 1);
+    write_head(s, brick, image, kept, k.promise);
+}
+
+// The highest entry under max: its place in the log and 1, 0 for none.
+fn look_under(log: [Entry; 32], count: usize, max: u64) -> usize
+    requires { ⌜ count ≤ 32 ⌝ }
+    ensures { λ r. ⌜ r ≡ underIn log max count ⌝ }
+{
+    let mut n = count;
+    while 0 < n {
+        let i = n - 1;
+        let e = log[i];
+        if e.time < max {
+            return n;
+        }
+        n = i;
+    }
+    0
+}
+
+// The block and the time of an entry, 0 for none.
+fn entry_plan(log: [Entry; 32], n: usize) -> Plan
+    requires { ⌜ n ≤ 32 ⌝ }
+    ensures { λ r. ⌜ r ≡ planOf (placeOf log n) (timeOf log n) 0 ⌝ }
+{
+    if n == 0 {
+        return Plan {
+            place: 0,
+            found: 0,
+            cut: 0,
+        };
+    }
+    let e = log[n - 1];
+    let h = e.holding;
+    Plan {
+        place: place_of(h),
+        found: e.time,
+        cut: 0,
+    }
+}
+
+// Whether a brick is a target.
+fn is_target(targets: [u8; 16], brick: usize) -> bool
+    requires { ⌜ brick < 16 ⌝ }
+    ensures { λ r. ⌜ r ≡ member targets brick ⌝ }
+{
+    targets[brick] == 1
+}
+
+// The newest block, where Read is granted and the brick is a target; else 0.
+fn read_place(k: Known, targets: [u8; 16], brick: usize) -> usize
+    requires { ⌜ brick < 16 ⌝ }
+    ensures { λ r. ⌜ r ≡ readPlace k targets brick ⌝ }
+{
+    if k.newest < k.promise {
+        return 0;
+    }
+    if is_target(targets, brick) {
+        return k.count;
+    }
+    0
+}
+
+// What a message asks for.
+fn plan_for(log: [Entry; 32], k: Known, msg: Message, brick: usize) -> Plan
+    requires { ⌜ (1 ≤ k .count) × (k .count ≤ 32) ⌝ }
+    requires { ⌜ brick < 16 ⌝ }
+    ensures { λ r. ⌜ Planned log k msg brick r ⌝ }
+{
+    if msg.kind == TRIM {
+        let d = cut_for(log, k.count, msg.time);
+        return Plan {
+            place: 0,
+            found: 0,
+            cut: d,
+        };
+    }
+    if msg.kind == READ {
+        let targets = msg.targets;
+        let p = read_place(k, targets, brick);
+        return Plan {
+            place: p,
+            found: k.newest,
+            cut: 0,
+        };
+    }
+    if msg.kind == ORDER_READ {
+        if order_yes(k.newest, k.promise, msg.time) {
+            let n = look_under(log, k.count, msg.max);
+            return entry_plan(log, n);
+        }
+    }
+    Plan {
+        place: 0,
+        found: 0,
+        cut: 0,
+    }
+}
+
+// A block of the image copied into the reply's buffer.
+fn give(image: &[u8], size: usize, place: usize, out: &mut [u8])
+    requires { ⌜ (length (now out) ≡ size) × (size ≤ 256) × (512 * (place + 1) ≤ length (now image)) ⌝ }
+    ensures { λ _. ⌜ now (out .exit) ≡ gaveOf (now (image .entry)) size place (now (out .entry)) ⌝ }
+{
+    if place == 0 {
+        return;
+    }
+    let a = 512 * place + 16;
+    let e = a + size;
+    store(out, 0, &image[a..e]);
+}
+
+// What a message other than Trim changes.
+fn change(s: Settings, brick: usize, image: &mut [u8], k: Known, msg: Message, block: &[u8]) -> bool
+    requires { ⌜ Ready s brick (now image) k ⌝ }
+    requires { ⌜ length (now block) ≡ s .size ⌝ }
+    requires { ⌜ (msg .kind ≡ 5 → ⊥) ⌝ }
+    ensures { λ r. ⌜ r ≡ yesTo s (brickIn s (now (image .entry))) msg ⌝ }
+    ensures { λ r. ⌜ now (image .exit) ≡ imageOf s brick (after s (brickIn s (now (image .entry))) msg (now (block .entry))) ⌝ }
+{
+    if msg.kind == READ {
+        return k.promise <= k.newest;
+    }
+    if msg.kind == WRITE {
+        return write(s, brick, image, k, msg.time, block);
+    }
+    order(s, brick, image, k, msg.time)
+}
+
+// The answer to a message that is not refused, and what it changes.
+fn act(
+    s: Settings,
+    brick: usize,
+    image: &mut [u8],
+    k: Known,
+    p: Plan,
+    msg: Message,
+    block: &[u8],
+    out: &mut [u8],
+) -> Given
+    requires { ⌜ Ready s brick (now image) k ⌝ }
+    requires { ⌜ Ahead brick (brickIn s (now image)) k msg p ⌝ }
+    requires { ⌜ (length (now block) ≡ s .size) × (length (now out) ≡ s .size) ⌝ }
+    ensures { λ r. ⌜ r ≡ givenBy s brick (brickIn s (now (image .entry))) msg ⌝ }
+    ensures { λ r. ⌜ now (image .exit) ≡ imageOf s brick (after s (brickIn s (now (image .entry))) msg (now (block .entry))) ⌝ }
+    ensures { λ r. ⌜ now (out .exit) ≡ blockAfter (brickIn s (now (image .entry))) (placeFor brick (brickIn s (now (image .entry))) msg) (now (out .entry)) ⌝ }
+{
+    if msg.kind == TRIM {
+        trim(s, brick, image, k, p.cut);
+        return Given::Silent;
+    }
+    let place = p.place;
+    give(image, s.size, place, out);
+    let granted = change(s, brick, image, k, msg, block);
+    Given::Answered(Reply {
+        kind: msg.kind,
+        brick: brick,
+        time: msg.time,
+        round: msg.round,
+        yes: granted,
+        found: p.found,
+        held: place != 0,
+    })
+}
+
+// 1 for a setting, 2 for a block or a buffer of another length, 0 for none.
+fn blocks_refusal(s: Settings, block: usize, out: usize) -> u32
+    ensures { λ r. ⌜ r ≡ blocksRefusal s block out ⌝ }
+{
+    let bad = s.refusal();
+    if bad != 0 {
+        return bad;
+    }
+    if block != s.size {
+        return 2;
+    }
+    if out != s.size {
+        return 2;
+    }
+    0
+}
+
+// One message at one brick: the reply, with its block in the lent buffer, or silence, or one refusal; the image is changed in place.
+pub fn receive(
+    s: Settings,
+    brick: usize,
+    image: &mut [u8],
+    msg: Message,
+    block: &[u8],
+    out: &mut [u8],
+) -> Given
+    ensures { λ r. ⌜ r ≡ outcome s brick (now (image .entry)) msg (now (block .entry)) (now (out .entry)) .given ⌝ }
+    ensures { λ r. ⌜ now (image .exit) ≡ outcome s brick (now (image .entry)) msg (now (block .entry)) (now (out .entry)) .image ⌝ }
+    ensures { λ r. ⌜ now (out .exit) ≡ outcome s brick (now (image .entry)) msg (now (block .entry)) (now (out .entry)) .out ⌝ }
+{
+    let bad = blocks_refusal(s, block.len(), out.len());
+    if bad != 0 {
+        return Given::Refused(bad);
+    }
+    let o = open(s, brick, image);
+    let answer = o.answer;
+    let Answer::Opened(head) = answer else {
+        return Given::Refused(number_of(answer));
+    };
+    let wrong = msg.refusal(s.n, s.m);
+    if wrong != 0 {
+        return Given::Refused(wrong);
+    }
+    let log = o.log;
+    let last = log[head.count - 1];
+    let k = Known {
+        count: head.count,
+        promise: head.promise,
+        newest: last.time,
+    };
+    let p = plan_for(log, k, msg, brick);
+    act(s, brick, image, k, p, msg, block, out)
+}

@@ -1,0 +1,62 @@
+-- Document 01, "What a brick does": the abstract brick.
+use mathlib.Core.Bool.{Bool, _&&_, _||_}
+use mathlib.Core.List.{List, [], _∷_}
+use Prim.Native.Nat.{ℕ, _-_}
+use lib.Dec.{leb, ltb, eqb}
+use lib.ListN.{length, getD}
+use Rattle.settings.specs.Times.{validTime}
+use Rattle.settings.specs.declared.Settings.{Settings}
+use Rattle.block.specs.Block.{zeros}
+use Rattle.image.specs.Every.{every}
+
+-- "entries (time, block)"
+pub record LogEntry : Type 0 where
+  pub time : ℕ
+  pub block : List ℕ
+
+-- "State: a promised time, and a log of entries (time, block) in rising time."
+pub record Brick : Type 0 where
+  pub promise : ℕ
+  pub log : List LogEntry
+
+unfoldable pub count : Brick → ℕ
+count x = length (x .log)
+
+-- what stands where no entry is
+unfoldable pub noEntry : LogEntry
+noEntry = record { time = 0; block = [] }
+
+-- the time and the block of the entry at a place of the log, counted from 0
+unfoldable pub timeAt : Brick → ℕ → ℕ
+timeAt x i = getD (x .log) i noEntry .time
+
+unfoldable pub heldAt : Brick → ℕ → List ℕ
+heldAt x i = getD (x .log) i noEntry .block
+
+-- "'Newest' is the last entry's time."
+unfoldable pub newest : Brick → ℕ
+newest x = timeAt x (count x - 1)
+
+-- "Fresh: promise 0, one entry of time 0 with a zero block."
+unfoldable pub fresh : Settings → Brick
+fresh s = record { promise = 0; log = record { time = 0; block = zeros (s .size) } ∷ [] }
+
+-- "Promise and entry times are 0 or valid times."
+unfoldable pub savedTime : ℕ → Bool
+savedTime t = eqb t 0 || validTime t
+
+-- "entries in rising time": each above the one before it
+unfoldable pub risesAt : Brick → ℕ → Bool
+risesAt x i = eqb i 0 || ltb (timeAt x (i - 1)) (timeAt x i)
+
+-- an entry as a brick may hold it
+unfoldable pub entrySound : Settings → Brick → ℕ → Bool
+entrySound s x i = savedTime (timeAt x i) && risesAt x i && eqb (length (heldAt x i)) (s .size)
+
+-- "entry count (1 to capacity)"
+unfoldable pub countSound : Settings → ℕ → Bool
+countSound s n = leb 1 n && leb n (s .capacity)
+
+-- a brick's promise and log keep to these rules
+unfoldable pub sound : Settings → Brick → Bool
+sound s x = countSound s (count x) && savedTime (x .promise) && every (entrySound s x) (count x)

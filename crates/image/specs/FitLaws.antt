@@ -1,0 +1,101 @@
+-- The ways through the tests on single blocks.
+use mathlib.Core.Path.{_≡_, refl, sym, ap, subst, _∙_}
+use mathlib.Core.Bool.{Bool, true, false, cond, not, _&&_, _||_}
+use mathlib.Core.List.{List, [], _∷_}
+use Prim.Native.Nat.{ℕ, zero, suc, _+_, _-_, _*_, _≤_, _<_}
+use native.Mathlib.Omega.{arith}
+use lib.Dec.{leb, ltb, eqb}
+use lib.ListN.{length, take, drop}
+use borrow.Author.Tests.{lt-ltb, le-ltb, le-leb, lt-leb, eq-eqb, ne-eqb}
+use Rattle.settings.specs.Ranges.{inRange, settingsRefusal}
+use Rattle.settings.specs.Refusal.{refuseUnless}
+use Rattle.settings.specs.declared.Settings.{Settings}
+use Rattle.block.specs.Block.{same, unchecked, headBody, entryBody, unusedBody}
+use Rattle.image.specs.Brick.{savedTime, countSound}
+use Rattle.image.specs.Image.{imageSize}
+use Rattle.image.specs.Parse.{heldIn}
+use Rattle.image.specs.Opening.{rises, headFits, slotFits, lendingRefusal}
+
+pub or-false : (a : Bool) → a && false ≡ false
+or-false true = refl
+or-false false = refl
+
+-- a comparison with a block that was built
+pub same-built : (b body t : List ℕ) (r : Bool) → b ≡ unchecked body → r ≡ same (drop 2 t) (drop 2 b) → r ≡ same (drop 2 t) body
+unfolding unchecked
+same-built b body t r e f = f ∙ ap (λ (x : List ℕ). same (drop 2 t) (drop 2 x)) e
+
+module _ (s : Settings) (brick : ℕ) (t : List ℕ) (n promise : ℕ) where
+  pub head-few : n < 1 → false ≡ headFits s brick t n promise
+  unfolding headFits countSound
+  head-few h = rw (lt-leb 1 n h) refl
+
+  pub head-many : s .capacity < n → false ≡ headFits s brick t n promise
+  unfolding headFits countSound
+  head-many h = rw (lt-leb n (s .capacity) h, or-false) refl
+
+  pub head-time : (v : Bool) → v ≡ savedTime promise → v ≡ false → false ≡ headFits s brick t n promise
+  unfolding headFits
+  head-time v e f = rw (sym e ∙ f, or-false) refl
+
+  pub head-rest : (v r : Bool) (b : List ℕ) → 1 ≤ n → n ≤ s .capacity → v ≡ savedTime promise → v ≡ true
+      → b ≡ unchecked (headBody s brick n promise) → r ≡ same (drop 2 t) (drop 2 b) → r ≡ headFits s brick t n promise
+  unfolding headFits countSound
+  head-rest v r b h₁ h₂ e f k g =
+      same-built b (headBody s brick n promise) t r k g ∙ sym (rw (le-leb 1 n h₁, le-leb n (s .capacity) h₂, sym e ∙ f) refl)
+
+module _ (size : ℕ) (t : List ℕ) (time i n last : ℕ) where
+  pub slot-unused : (r : Bool) → n ≤ i → r ≡ same (drop 2 t) unusedBody → r ≡ slotFits size t time i n last
+  unfolding slotFits
+  slot-unused r h e = e ∙ sym (rw (le-ltb i n h) refl)
+
+  pub slot-time : (v : Bool) → i < n → v ≡ savedTime time → v ≡ false → false ≡ slotFits size t time i n last
+  unfolding slotFits
+  slot-time v h e f = rw (lt-ltb i n h, sym e ∙ f) refl
+
+  pub slot-rises : (v : Bool) → i < n → v ≡ rises i last time → v ≡ false → false ≡ slotFits size t time i n last
+  unfolding slotFits
+  slot-rises v h e f = rw (lt-ltb i n h, sym e ∙ f, or-false) refl
+
+  pub slot-entry : (v w r : Bool) → i < n → v ≡ savedTime time → v ≡ true → w ≡ rises i last time → w ≡ true
+      → r ≡ same (drop 2 t) (entryBody time (heldIn size t)) → r ≡ slotFits size t time i n last
+  unfolding slotFits
+  slot-entry v w r h e f g k q = q ∙ sym (rw (lt-ltb i n h, sym e ∙ f, sym g ∙ k) refl)
+
+-- the part of a block that holds the entry's bytes
+pub held-part : (size : ℕ) (t : List ℕ) → take (16 + size - 16) (drop 16 t) ≡ heldIn size t
+unfolding heldIn
+held-part size t = let e : 16 + size - 16 ≡ size = omega arith in ap (λ (k : ℕ). take k (drop 16 t)) e
+
+pub entry-same : (size time : ℕ) (t b : List ℕ) (r : Bool) → b ≡ unchecked (entryBody time (take (16 + size - 16) (drop 16 t)))
+    → r ≡ same (drop 2 t) (drop 2 b) → r ≡ same (drop 2 t) (entryBody time (heldIn size t))
+entry-same size time t b r e f = same-built b (entryBody time (heldIn size t)) t r (e ∙ ap (λ (x : List ℕ). unchecked (entryBody time x)) (held-part size t)) f
+
+module _ (s : Settings) (brick len : ℕ) where
+  ranged : (k : ℕ) → k ≡ settingsRefusal s → k ≡ 0 → inRange s ≡ true
+  unfolding settingsRefusal
+  ranged k e z = go (inRange s) refl
+    where
+      go : (b : Bool) → inRange s ≡ b → inRange s ≡ true
+      go true q = q
+      go false q = let w = ap (λ (b : Bool). refuseUnless b 1) q in absurd (omega (arith, e, z, w))
+
+  pub lending-1 : (k : ℕ) → k ≡ settingsRefusal s → (k ≡ 0 → ⊥) → 1 ≡ lendingRefusal s brick len
+  unfolding lendingRefusal settingsRefusal
+  lending-1 k e z = go (inRange s) refl
+    where
+      go : (b : Bool) → inRange s ≡ b → _≡_ {A = ℕ} 1 (cond (not (inRange s)) 1 (cond (not (eqb len (imageSize s))) 2 (cond (leb (s .n) brick) 3 0)))
+      go true q = let w = ap (λ (b : Bool). refuseUnless b 1) q in absurd (z (e ∙ w))
+      go false q = rw q refl
+
+  pub lending-2 : (k : ℕ) → k ≡ settingsRefusal s → k ≡ 0 → (len ≡ 512 * (s .capacity + 1) → ⊥) → 2 ≡ lendingRefusal s brick len
+  unfolding lendingRefusal imageSize
+  lending-2 k e z h = rw (ranged k e z, ne-eqb len (512 * (s .capacity + 1)) h) refl
+
+  pub lending-3 : (k : ℕ) → k ≡ settingsRefusal s → k ≡ 0 → len ≡ 512 * (s .capacity + 1) → s .n ≤ brick → 3 ≡ lendingRefusal s brick len
+  unfolding lendingRefusal imageSize
+  lending-3 k e z h l = rw (ranged k e z, eq-eqb len (512 * (s .capacity + 1)) h, le-leb (s .n) brick l) refl
+
+  pub lending-0 : (k : ℕ) → k ≡ settingsRefusal s → k ≡ 0 → len ≡ 512 * (s .capacity + 1) → brick < s .n → 0 ≡ lendingRefusal s brick len
+  unfolding lendingRefusal imageSize
+  lending-0 k e z h l = rw (ranged k e z, eq-eqb len (512 * (s .capacity + 1)) h, lt-leb (s .n) brick l) refl

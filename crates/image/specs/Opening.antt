@@ -1,0 +1,81 @@
+-- The answer of an opening, in the code's own records, and the tests that the code makes on single blocks.
+use mathlib.Core.Bool.{Bool, cond, not, _&&_, _||_}
+use mathlib.Core.List.{List, [], _∷_, _++_}
+use Prim.Native.Nat.{ℕ, zero, suc, _+_, _*_}
+use lib.Dec.{leb, ltb, eqb}
+use lib.ListN.{length, drop}
+use Rattle.settings.specs.Ranges.{inRange}
+use Rattle.settings.specs.Refusal.{passed, badSetting, badLength, badNumber}
+use Rattle.settings.specs.declared.Settings.{Settings}
+use Rattle.block.specs.Block.{same, headBody, entryBody, unusedBody}
+use Rattle.image.specs.Brick.{Brick, count, timeAt, newest, savedTime, countSound}
+use Rattle.image.specs.Image.{imageSize}
+use Rattle.image.specs.Parse.{heldIn, Parsed, Opens, Refuses}
+use Rattle.image.specs.declared.Entry.{Entry}
+use Rattle.image.specs.declared.Holding.{Holding}
+use Rattle.image.specs.declared.Holding.the-variants.{Held}
+use Rattle.image.specs.declared.Answer.{Answer}
+use Rattle.image.specs.declared.Answer.the-variants.{Opened, Refused}
+use Rattle.image.specs.declared.Shown.{Shown}
+use Rattle.image.specs.declared.Shown.the-variants.{Values}
+use Rattle.image.specs.declared.Opening.{Opening}
+
+-- n values in a row
+unfoldable pub rowOf : (ℕ → Entry) → ℕ → List Entry
+rowOf f zero = []
+rowOf f (suc k) = rowOf f k ++ f k ∷ []
+
+-- what stands in the working log where no entry is
+unfoldable pub blank : Entry
+blank = record { time = 0; holding = Held 0 }
+
+-- "an entry names .. a held block's place": entry i of a log has its block in block i + 1 of the image
+unfoldable pub entryFor : ℕ → ℕ → ℕ → Entry
+entryFor time i n = cond (ltb i n) (record { time = time; holding = Held (i + 1) }) blank
+
+unfoldable pub entryOf : Brick → ℕ → Entry
+entryOf x i = entryFor (timeAt x i) i (count x)
+
+-- the place that an entry of the working log names
+unfoldable pub placeIn : Holding → ℕ
+placeIn (Held place) = place
+
+-- the working log: the brick's entries, then blanks
+unfoldable pub workingLog : Brick → List Entry
+workingLog x = rowOf (entryOf x) 32
+
+unfoldable pub noBlank : ℕ → Entry
+noBlank i = blank
+
+-- what the code answers: the count and the promise, and the working log; or the number of the refusal, and blanks
+unfoldable pub opening : Parsed → Opening
+opening (Opens x) = record { answer = Opened (record { count = count x; promise = x .promise }); log = workingLog x }
+opening (Refuses k) = record { answer = Refused k; log = rowOf noBlank 32 }
+
+-- the number in an answer, 0 in one that opened
+unfoldable pub answerNumber : Answer → ℕ
+answerNumber (Opened head) = 0
+answerNumber (Refused k) = k
+
+-- the service panel: the promise and the newest time, or the refusal
+unfoldable pub panelOf : Parsed → Shown
+panelOf (Opens x) = Values (record { promise = x .promise; newest = newest x })
+panelOf (Refuses k) = Shown.Refused k
+
+-- the first refusals of whatever is lent an image: 1 a setting, 2 the length, 3 the brick's number
+unfoldable pub lendingRefusal : Settings → ℕ → ℕ → ℕ
+lendingRefusal s brick len =
+    cond (not (inRange s)) badSetting (cond (not (eqb len (imageSize s))) badLength (cond (leb (s .n) brick) badNumber passed))
+
+-- the time of entry i is above the one before it
+unfoldable pub rises : ℕ → ℕ → ℕ → Bool
+rises i last time = eqb i 0 || ltb last time
+
+-- the head, from its kind on, with that count and that promise
+unfoldable pub headFits : Settings → ℕ → List ℕ → ℕ → ℕ → Bool
+headFits s brick t n promise = countSound s n && savedTime promise && same (drop 2 t) (headBody s brick n promise)
+
+-- the block of entry i of n, from its kind on: an entry, or unused
+unfoldable pub slotFits : ℕ → List ℕ → ℕ → ℕ → ℕ → ℕ → Bool
+slotFits size t time i n last =
+    cond (ltb i n) (savedTime time && rises i last time && same (drop 2 t) (entryBody time (heldIn size t))) (same (drop 2 t) unusedBody)

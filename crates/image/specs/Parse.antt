@@ -1,0 +1,70 @@
+-- Opening a saved brick: the brick that the bytes are the image of, or one refusal.
+use mathlib.Core.Bool.{Bool, cond, not, _&&_}
+use mathlib.Core.List.{List, [], _∷_}
+use Prim.Native.Nat.{ℕ, zero, suc, _+_, _*_}
+use lib.Dec.{leb, eqb}
+use lib.ListN.{length, take, drop}
+use Rattle.settings.specs.Ranges.{inRange}
+use Rattle.settings.specs.Refusal.{passed, badSetting, badLength, badNumber, badCheck, badRecord}
+use Rattle.settings.specs.declared.Settings.{Settings}
+use Rattle.little.specs.Little.{number}
+use Rattle.block.specs.Block.{checked, same}
+use Rattle.image.specs.Brick.{Brick, LogEntry, sound}
+use Rattle.image.specs.Every.{every}
+use Rattle.image.specs.Image.{imageOf, imageSize}
+
+-- block k of some bytes
+unfoldable pub blockAt : List ℕ → ℕ → List ℕ
+blockAt bytes k = take 512 (drop (512 * k) bytes)
+
+-- "Block 0 is the head: .. 10–11 entry count (1 to capacity), 12–19 promise."
+unfoldable pub countIn : List ℕ → ℕ
+countIn head = number (take 2 (drop 10 head))
+
+unfoldable pub promiseIn : List ℕ → ℕ
+promiseIn head = number (take 8 (drop 12 head))
+
+-- "entries in rising time: 4–11 time, 12–13 block size, block from 16"
+unfoldable pub timeIn : List ℕ → ℕ
+timeIn block = number (take 8 (drop 4 block))
+
+unfoldable pub heldIn : ℕ → List ℕ → List ℕ
+heldIn size block = take size (drop 16 block)
+
+unfoldable pub entryIn : ℕ → List ℕ → LogEntry
+entryIn size block = record { time = timeIn block; block = heldIn size block }
+
+-- the entries in n blocks from block k on
+unfoldable pub entriesIn : ℕ → List ℕ → ℕ → ℕ → List LogEntry
+entriesIn size bytes k zero = []
+entriesIn size bytes k (suc n) = entryIn size (blockAt bytes k) ∷ entriesIn size bytes (suc k) n
+
+-- the brick whose fields stand in some bytes
+unfoldable pub brickIn : Settings → List ℕ → Brick
+brickIn s bytes = record { promise = promiseIn (blockAt bytes 0); log = entriesIn (s .size) bytes 1 (countIn (blockAt bytes 0)) }
+
+-- whether the check of block k holds
+unfoldable pub checkedAt : List ℕ → ℕ → Bool
+checkedAt bytes k = checked (blockAt bytes k)
+
+-- whether the bytes are, to the last one, the image of a brick that keeps to the rules
+unfoldable pub isImage : Settings → ℕ → List ℕ → Bool
+isImage s brick bytes = sound s (brickIn s bytes) && same (imageOf s brick (brickIn s bytes)) bytes
+
+-- Why an image doesn't open, lowest number first: 1 a setting outside its range, 2 a wrong length, 3 a brick number not below n,
+-- 5 a block whose check fails, 6 anything else that no brick's image has.
+unfoldable pub openRefusal : Settings → ℕ → List ℕ → ℕ
+openRefusal s brick bytes =
+    cond (not (inRange s)) badSetting
+    (cond (not (eqb (length bytes) (imageSize s))) badLength
+    (cond (leb (s .n) brick) badNumber
+    (cond (not (every (checkedAt bytes) (s .capacity + 1))) badCheck
+    (cond (not (isImage s brick bytes)) badRecord passed))))
+
+pub data Parsed : Type 0 where
+  Opens : Brick → Parsed
+  Refuses : ℕ → Parsed
+
+unfoldable pub parse : Settings → ℕ → List ℕ → Parsed
+parse s brick bytes =
+    cond (eqb (openRefusal s brick bytes) passed) (Opens (brickIn s bytes)) (Refuses (openRefusal s brick bytes))

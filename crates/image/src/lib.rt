@@ -1,0 +1,306 @@
+// The saved brick (document 01, "The saved brick").
+ghost use mathlib.Core.Path.{_≡_};
+ghost use mathlib.Core.Bool.{_&&_};
+ghost use Prim.Native.Nat.{_+_, _*_, _≤_, _<_};
+ghost use lib.ListN.{length, take, drop};
+ghost use Rattle.settings.specs.RangeLaws.{SettingsRange};
+ghost use Rattle.block.specs.Block.{same, unusedBody, entryBody};
+ghost use Rattle.image.specs.Brick.{savedTime};
+ghost use Rattle.image.specs.Image.{imageSize};
+ghost use Rattle.image.specs.Parse.{heldIn, parse, Refuses};
+ghost use Rattle.image.specs.Opening.{answerNumber, entryFor, opening, panelOf, placeIn, rises, headFits, slotFits, lendingRefusal};
+ghost use Rattle.image.specs.ScanLaws.{Scanned};
+use block::check_holds;
+use block::entry_fields;
+use block::head_fields;
+use block::same_body;
+use little::read2;
+use little::read8;
+use settings::Settings;
+use settings::is_time;
+
+// What an entry of the log names: the place of a held block, as its number among the blocks of the image.
+pub enum Holding {
+    Held(usize),
+}
+
+// An entry of the working log.
+pub struct Entry {
+    pub time: u64,
+    pub holding: Holding,
+}
+
+// What the head says: how many entries, and the promise.
+pub struct Head {
+    pub count: usize,
+    pub promise: u64,
+}
+
+// The answer of an opening.
+pub enum Answer {
+    Opened(Head),
+    Refused(u32),
+}
+
+// An opened brick, with its working log beside the answer.
+pub struct Opening {
+    pub answer: Answer,
+    pub log: [Entry; 32],
+}
+
+// What reading the blocks after the head gives: whether their checks hold, whether they are as the head says, and the log.
+struct Scan {
+    checks: bool,
+    fits: bool,
+    log: [Entry; 32],
+}
+
+// The place that an entry names.
+pub fn place_of(h: Holding) -> usize
+    ensures { λ r. ⌜ r ≡ placeIn h ⌝ }
+{
+    match h {
+        Holding::Held(place) => place,
+    }
+}
+
+// Whether a number is 0 or a valid time.
+fn saved_time(t: u64) -> bool
+    ensures { λ r. ⌜ r ≡ savedTime t ⌝ }
+{
+    if t == 0 {
+        return true;
+    }
+    is_time(t)
+}
+
+// Whether the time of entry i is above the one before it.
+fn rising(i: usize, last: u64, time: u64) -> bool
+    ensures { λ r. ⌜ r ≡ rises i last time ⌝ }
+{
+    if i == 0 {
+        return true;
+    }
+    last < time
+}
+
+// An entry of the working log: entry i of `count`, or a blank.
+fn entry_for(time: u64, i: usize, count: usize) -> Entry
+    requires { ⌜ i < 32 ⌝ }
+    ensures { λ r. ⌜ r ≡ entryFor time i count ⌝ }
+{
+    if i < count {
+        return Entry {
+            time: time,
+            holding: Holding::Held(i + 1),
+        };
+    }
+    Entry {
+        time: 0,
+        holding: Holding::Held(0),
+    }
+}
+
+fn both(a: bool, b: bool) -> bool
+    ensures { λ r. ⌜ r ≡ a && b ⌝ }
+{
+    if a {
+        return b;
+    }
+    false
+}
+
+// Whether a block is unused, from its kind on.
+fn unused_fits(t: &[u8]) -> bool
+    requires { ⌜ length (now t) ≡ 512 ⌝ }
+    ensures { λ r. ⌜ r ≡ same (drop 2 (now (t .entry))) unusedBody ⌝ }
+{
+    let b = [0u8; 512];
+    same_body(t, &b)
+}
+
+// Whether a block is, from its kind on, the entry of that time with the bytes that stand there.
+fn entry_fits(size: usize, t: &[u8], time: u64) -> bool
+    requires { ⌜ (size ≤ 256) × (length (now t) ≡ 512) ⌝ }
+    ensures { λ r. ⌜ r ≡ same (drop 2 (now (t .entry))) (entryBody time (heldIn size (now (t .entry)))) ⌝ }
+{
+    let e = 16 + size;
+    let b = entry_fields(time, &t[16..e]);
+    same_body(t, &b)
+}
+
+// Whether the block of entry i, or the unused block in its place, is as it should be.
+fn slot_fits(size: usize, t: &[u8], time: u64, i: usize, count: usize, last: u64) -> bool
+    requires { ⌜ (size ≤ 256) × (length (now t) ≡ 512) ⌝ }
+    ensures { λ r. ⌜ r ≡ slotFits size (now (t .entry)) time i count last ⌝ }
+{
+    if count <= i {
+        return unused_fits(t);
+    }
+    if saved_time(time) {} else {
+        return false;
+    }
+    if rising(i, last, time) {} else {
+        return false;
+    }
+    entry_fits(size, t, time)
+}
+
+// Whether the head is as it should be, from its kind on.
+fn head_fits(s: Settings, brick: usize, t: &[u8], count: usize, promise: u64) -> bool
+    requires { ⌜ SettingsRange s ⌝ }
+    requires { ⌜ brick < s .n ⌝ }
+    requires { ⌜ length (now t) ≡ 512 ⌝ }
+    ensures { λ r. ⌜ r ≡ headFits s brick (now (t .entry)) count promise ⌝ }
+{
+    if count < 1 {
+        return false;
+    }
+    if s.capacity < count {
+        return false;
+    }
+    if saved_time(promise) {} else {
+        return false;
+    }
+    let b = head_fields(s, brick, count, promise);
+    same_body(t, &b)
+}
+
+// 1, 2 or 3, or 0 for none of them.
+pub fn lending_refusal(s: Settings, brick: usize, len: usize) -> u32
+    ensures { λ r. ⌜ r ≡ lendingRefusal s brick len ⌝ }
+{
+    let bad = s.refusal();
+    if bad != 0 {
+        return 1;
+    }
+    if len != 512 * (s.capacity + 1) {
+        return 2;
+    }
+    if s.n <= brick {
+        return 3;
+    }
+    0
+}
+
+// The blocks after the head, each read once, against a count.
+fn read_blocks(s: Settings, image: &[u8], count: usize) -> Scan
+    requires { ⌜ SettingsRange s ⌝ }
+    requires { ⌜ length (now image) ≡ imageSize s ⌝ }
+    ensures { λ r. ⌜ Scanned (s .size) (s .capacity) (now (image .entry)) count (r .checks) (r .fits) (r .log) ⌝ }
+{
+    let size = s.size;
+    let capacity = s.capacity;
+    let nothing = entry_for(0, 0, 0);
+    let mut log = [nothing; 32];
+    let mut fits = true;
+    let mut last: u64 = 0;
+    let mut i: usize = 0;
+    let mut at: usize = 512;
+    while i < capacity {
+        let e = at + 512;
+        let t = &image[at..e];
+        if check_holds(t) {} else {
+            return Scan {
+                checks: false,
+                fits: false,
+                log: log,
+            };
+        }
+        let time = read8(t, 4);
+        let fit = slot_fits(size, t, time, i, count, last);
+        fits = both(fits, fit);
+        let entry = entry_for(time, i, count);
+        log[i] = entry;
+        last = time;
+        i += 1;
+        at = e;
+    }
+    Scan {
+        checks: true,
+        fits: fits,
+        log: log,
+    }
+}
+
+// A refusal, and a log of blanks.
+fn refused(number: u32) -> Opening
+    ensures { λ r. ⌜ r ≡ opening (Refuses number) ⌝ }
+{
+    let nothing = entry_for(0, 0, 0);
+    let log = [nothing; 32];
+    Opening {
+        answer: Answer::Refused(number),
+        log: log,
+    }
+}
+
+// Opens a saved brick: each block is read once.
+pub fn open(s: Settings, brick: usize, image: &[u8]) -> Opening
+    ensures { λ r. ⌜ r ≡ opening (parse s brick (now (image .entry))) ⌝ }
+{
+    let bad = lending_refusal(s, brick, image.len());
+    if bad != 0 {
+        return refused(bad);
+    }
+    let t = &image[0..512];
+    if check_holds(t) {} else {
+        return refused(5);
+    }
+    let count = read2(t, 10) as usize;
+    let promise = read8(t, 12);
+    let head = head_fits(s, brick, t, count, promise);
+    let rest = read_blocks(s, image, count);
+    if rest.checks {} else {
+        return refused(5);
+    }
+    if both(head, rest.fits) {} else {
+        return refused(6);
+    }
+    let log = rest.log;
+    Opening {
+        answer: Answer::Opened(Head {
+            count: count,
+            promise: promise,
+        }),
+        log: log,
+    }
+}
+
+// The number of a refused answer, 0 for an opened one.
+pub fn number_of(a: Answer) -> u32
+    ensures { λ r. ⌜ r ≡ answerNumber a ⌝ }
+{
+    match a {
+        Answer::Opened(_) => 0,
+        Answer::Refused(number) => number,
+    }
+}
+
+// What the service panel shows of a brick.
+pub struct Panel {
+    pub promise: u64,
+    pub newest: u64,
+}
+
+pub enum Shown {
+    Values(Panel),
+    Refused(u32),
+}
+
+// A brick's promise and its newest time, from its image.
+pub fn show(s: Settings, brick: usize, image: &[u8]) -> Shown
+    ensures { λ r. ⌜ r ≡ panelOf (parse s brick (now (image .entry))) ⌝ }
+{
+    let o = open(s, brick, image);
+    let answer = o.answer;
+    let Answer::Opened(head) = answer else {
+        return Shown::Refused(number_of(answer));
+    };
+    let log = o.log;
+    let last = log[head.count - 1];
+    Shown::Values(Panel {
+        promise: head.promise,
+        newest: last.time,
+    })
+}

@@ -1,0 +1,3 @@
+-- Little-endian numbers. Definitions: Little. Laws: LittleLaws.
+pub mod Little
+pub mod LittleLaws

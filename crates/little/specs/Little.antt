@@ -1,0 +1,17 @@
+-- Document 01, "The saved brick": "numbers little-endian".
+use mathlib.Core.List.{List, [], _∷_}
+use Prim.Native.Nat.{ℕ, zero, suc, _+_, _*_, _/_, _%_}
+
+-- the lowest byte of a number
+unfoldable pub byteOf : ℕ → ℕ
+byteOf n = n % 256
+
+-- the k bytes of a number, lowest first
+unfoldable pub little : ℕ → ℕ → List ℕ
+little zero n = []
+little (suc k) n = byteOf n ∷ little k (n / 256)
+
+-- the number that bytes stand for, lowest first
+unfoldable pub number : List ℕ → ℕ
+number [] = 0
+number (b ∷ bs) = b + 256 * number bs

@@ -1,0 +1,27 @@
+-- What the lent image holds after a fresh brick was asked for, and the changes of an abstract brick.
+use mathlib.Core.Bool.{cond}
+use mathlib.Core.List.{List, [], _∷_, _++_}
+use Prim.Native.Nat.{ℕ}
+use lib.Dec.{eqb}
+use lib.ListN.{length, drop}
+use Rattle.settings.specs.Refusal.{passed}
+use Rattle.settings.specs.declared.Settings.{Settings}
+use Rattle.image.specs.Brick.{Brick, fresh}
+use Rattle.image.specs.Image.{imageOf}
+use Rattle.image.specs.Opening.{lendingRefusal}
+
+-- a fresh brick's image, or the bytes as they were where it is refused
+unfoldable pub freshAfter : Settings → ℕ → List ℕ → List ℕ
+freshAfter s brick bytes = cond (eqb (lendingRefusal s brick (length bytes)) passed) (imageOf s brick (fresh s)) bytes
+
+-- "the promise becomes t"
+unfoldable pub promised : Brick → ℕ → Brick
+promised x t = record { promise = t; log = x .log }
+
+-- "then it is appended. The promise is left as it is."
+unfoldable pub appended : Brick → ℕ → List ℕ → Brick
+appended x t block = record { promise = x .promise; log = x .log ++ record { time = t; block = block } ∷ [] }
+
+-- without the first d entries
+unfoldable pub without : Brick → ℕ → Brick
+without x d = record { promise = x .promise; log = drop d (x .log) }

@@ -1,0 +1,3 @@
+-- The view of a saved brick. Definitions: View. Laws: ViewLaws.
+pub mod View
+pub mod ViewLaws
