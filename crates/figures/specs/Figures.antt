@@ -6,10 +6,12 @@ use mathlib.Core.List.{List, [], _∷_}
 use Prim.Native.Nat.{ℕ, _+_, _*_, _^_, _-_}
 use lib.Dec.{T, eqb, eqb→eq}
 use lib.ListN.{getD}
+use Rattle.block.specs.Block.{weighted, checkOf, zeros, headKind, headBody, entryKind, entryBody}
 use Rattle.erasure.specs.Code.{firstPoints, codedOf, decodedOf}
 use Rattle.gf256.specs.Product.{plus, twice, shiftAdd, product, inverseBelow, inverse}
 use Rattle.interpolate.specs.Tabulate.{tabulate, stacked}
 use Rattle.interpolate.specs.Values.{byteAt, valueAt, blockAt, blocksAt}
+use Rattle.little.specs.Little.{byteOf, little}
 use Rattle.poly.specs.Polynomial.{pick, sub, sum, factor, basisTo, basis, interpolated}
 use Rattle.settings.specs.Ranges.{quorum, faults, inRange, bricksInRange, sizeInRange, capacityInRange, settingsRefusal}
 use Rattle.settings.specs.Times.{maxCount, timeOf, nextCount, drawRefusal, advanced, drawOf}
@@ -58,6 +60,9 @@ figures =
     ∷ row (getD (codedOf 4 2 1 (5 ∷ 9 ∷ [])) 3 0) 17
     ∷ row (getD (decodedOf 2 1 (2 ∷ 3 ∷ []) (29 ∷ 17 ∷ [])) 0 0) 5
     ∷ row (getD (decodedOf 2 1 (2 ∷ 3 ∷ []) (29 ∷ 17 ∷ [])) 1 0) 9
+    -- Check of the fresh head for n 3, m 1, brick 0, capacity 4, size 1: 55; of its entry: 14.
+    ∷ row (checkOf (headBody (record { n = 3; m = 1; size = 1; capacity = 4 }) 0 1 0)) 55
+    ∷ row (checkOf (entryBody 0 (0 ∷ []))) 14
     -- Last 5, reading 3, coordinator 0: time 96. Last 0, reading 0, coordinator 2: 18.
     ∷ row (drawFor 0 5 3) 96
     ∷ row (drawFor 2 0 0) 18
@@ -89,6 +94,6 @@ held (r ∷ rows) t = go (eqb (r .given) (r .figure)) (eqb→eq (r .given) (r .f
 -- The starred figures, one theorem over the table.
 pub figures-hold : Hold figures
 unfolding figures agree timeOrNumber drawFor refusalFor quorum faults product shiftAdd twice plus
-    firstPoints codedOf decodedOf inverseBelow inverse tabulate stacked byteAt valueAt blockAt blocksAt pick sub sum factor basisTo basis interpolated
+    weighted checkOf zeros headKind headBody entryKind entryBody byteOf little firstPoints codedOf decodedOf inverseBelow inverse tabulate stacked byteAt valueAt blockAt blocksAt pick sub sum factor basisTo basis interpolated
     settingsRefusal inRange bricksInRange sizeInRange capacityInRange maxCount timeOf nextCount drawRefusal advanced drawOf
 figures-hold = held figures tt
