@@ -125,12 +125,13 @@ pub fn entry(time: u64, block: &[u8]) -> [u8; 512]
     seal(entry_fields(time, block))
 }
 
-// An unused block: 510 zeros, then the check placed in front.
+// An unused block: 510 zeros, and the check of 1 placed in front.
 pub fn unused() -> [u8; 512]
     ensures { λ r. ⌜ r ≡ unusedBlock ⌝ }
 {
-    let b = [0u8; 512];
-    seal(b)
+    let mut b = [0u8; 512];
+    b[0] = 1;
+    b
 }
 
 // Whether two blocks are the same from offset 2 on.

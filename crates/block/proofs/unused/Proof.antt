@@ -1,19 +1,20 @@
-use Rattle.block.specs.Block.{unusedBlock, unusedBody, unusedKind, zeros}
+use mathlib.Core.Path.{sym}
+use Rattle.block.specs.Block.{zeros}
+use Rattle.block.specs.Figures.{unused-is}
 use borrow.Author.Needs.{needs}
 use Rattle.block.proofs.unused.Statement.{statement}
 use Rattle.block.proofs.unused.Tie as tie
 use Rattle.block.proofs.unused.Reads as reads
 use Rattle.block.proofs.unused.Lts as lts
-use Rattle.block.proofs.seal.Reads as seal-reads
 
--- src/lib.rt:122:5
-seal-requires : tie.Need-seal-requires
-seal-requires c κs = search needs
+-- src/lib.rt:133:5
+array-write-b : tie.Need-array-write-b
+array-write-b c = search needs
 
--- src/lib.rt:118:1
+-- src/lib.rt:129:1
 returns : tie.Need-returns
-unfolding unusedBlock unusedBody unusedKind zeros
-returns c = c .seal .ensures
+unfolding zeros
+returns c = sym unused-is
 
 pub unused-spec : {M : Type 1} → statement M
-unused-spec = tie.close (tie.spec seal-requires returns)
+unused-spec = tie.close (tie.spec array-write-b returns)
