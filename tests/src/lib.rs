@@ -9,6 +9,7 @@ pub mod code;
 pub mod coordinator;
 pub mod field;
 pub mod image;
+pub mod inplace;
 #[allow(unsafe_code)]
 pub mod proved;
 pub mod rng;

@@ -31,6 +31,47 @@ mod c {
             data: *mut u8,
             data_len: usize,
         ) -> u32;
+        pub fn brick_fresh(
+            n: usize,
+            m: usize,
+            size: usize,
+            capacity: usize,
+            brick: usize,
+            image: *mut u8,
+            image_len: usize,
+        ) -> u32;
+        pub fn brick_panel(
+            n: usize,
+            m: usize,
+            size: usize,
+            capacity: usize,
+            brick: usize,
+            image: *const u8,
+            image_len: usize,
+            times: *mut u64,
+            times_len: usize,
+        ) -> u32;
+        pub fn brick_receive(
+            n: usize,
+            m: usize,
+            size: usize,
+            capacity: usize,
+            brick: usize,
+            image: *mut u8,
+            image_len: usize,
+            kind: u8,
+            time: u64,
+            round: u64,
+            max: u64,
+            targets: *const u8,
+            targets_len: usize,
+            block: *const u8,
+            block_len: usize,
+            out: *mut u8,
+            out_len: usize,
+            reply: *mut u64,
+            reply_len: usize,
+        ) -> u32;
         pub fn probe_draw(coordinator: u64, last: u64, reading: u64, out: *mut u64, len: usize) -> u32;
     }
 }
@@ -78,4 +119,40 @@ pub fn encode(n: usize, m: usize, size: usize, data: &[u8], coded: &mut [u8]) ->
 pub fn decode(n: usize, m: usize, size: usize, bricks: &[u8], blocks: &[u8], data: &mut [u8]) -> u32 {
     let (b, k) = (bricks.as_ptr(), blocks.as_ptr());
     unsafe { c::stripe_decode(n, m, size, b, bricks.len(), k, blocks.len(), data.as_mut_ptr(), data.len()) }
+}
+
+/// Four settings: n, m, block size, log capacity.
+pub type Four = (usize, usize, usize, usize);
+
+pub fn fresh((n, m, size, capacity): Four, brick: usize, image: &mut [u8]) -> u32 {
+    unsafe { c::brick_fresh(n, m, size, capacity, brick, image.as_mut_ptr(), image.len()) }
+}
+
+pub fn panel((n, m, size, capacity): Four, brick: usize, image: &[u8], times: &mut [u64]) -> u32 {
+    let (i, t) = (image.as_ptr(), times.as_mut_ptr());
+    unsafe { c::brick_panel(n, m, size, capacity, brick, i, image.len(), t, times.len()) }
+}
+
+/// A message's numbers: kind, time, round, max.
+pub type Asked = (u8, u64, u64, u64);
+
+/// One message at one brick: 0 a reply, 100 silence, else the refusal.
+#[allow(clippy::too_many_arguments)]
+pub fn receive(
+    (n, m, size, capacity): Four,
+    brick: usize,
+    image: &mut [u8],
+    (kind, time, round, max): Asked,
+    targets: &[u8],
+    block: &[u8],
+    out: &mut [u8],
+    reply: &mut [u64],
+) -> u32 {
+    let (i, t, b, o, r) = (image.as_mut_ptr(), targets.as_ptr(), block.as_ptr(), out.as_mut_ptr(), reply.as_mut_ptr());
+    unsafe {
+        c::brick_receive(
+            n, m, size, capacity, brick, i, image.len(), kind, time, round, max, t, targets.len(), b, block.len(), o,
+            out.len(), r, reply.len(),
+        )
+    }
 }

@@ -1,0 +1,178 @@
+//! The proved brick against the independent one: images, replies and refusals, byte for byte.
+
+use jilbagum_tests::{brick, image, proved, rng::Rng, settings::Settings};
+
+fn settings((n, m, size, capacity): proved::Four) -> Settings {
+    Settings::new(n as u64, m as u64, size as u64, capacity as u64)
+}
+
+/// The flags of a list of bricks; a list with a repeat or a brick past 15 has no flags.
+fn flags(targets: &[u8]) -> Option<[u8; 16]> {
+    let mut flags = [0; 16];
+    for &t in targets {
+        if t > 15 || flags[t as usize] == 1 {
+            return None;
+        }
+        flags[t as usize] = 1;
+    }
+    Some(flags)
+}
+
+/// Both bricks on one message. Every buffer is compared, and a refusal or a reply without a block must leave the block's buffer.
+fn compare(four: proved::Four, number: usize, bytes: &mut Vec<u8>, message: &brick::Message) -> u32 {
+    let Some(targets) = flags(&message.targets) else { return 10 };
+    let size = four.2.min(512);
+    let block = if message.kind == brick::WRITE { message.block.clone() } else { vec![0; size] };
+    let (mut ours, mut theirs) = (bytes.clone(), bytes.clone());
+    let (mut out, mut reply) = (vec![0xEE; size], [77; 7]);
+    let asked = (message.kind, message.time, message.round, message.max);
+    let answer = proved::receive(four, number, &mut ours, asked, &targets, &block, &mut out, &mut reply);
+    let seen = format!("{four:?} brick {number} {message:?}");
+    let mut left = vec![0xEE; size];
+    match brick::take(settings(four), number as u64, &mut theirs, message) {
+        Err(refusal) => assert_eq!((answer, reply), (u32::from(refusal), [77; 7]), "{seen}"),
+        Ok(None) => assert_eq!((answer, reply), (100, [77; 7]), "{seen}"),
+        Ok(Some(r)) => {
+            let held = u64::from(r.block.is_some());
+            let fields = [u64::from(r.kind), r.brick, r.time, r.round, u64::from(r.yes), r.found, held];
+            assert_eq!((answer, reply), (0, fields), "{seen}");
+            left = r.block.unwrap_or(left);
+        }
+    }
+    assert_eq!(out, left, "{seen}");
+    assert!(ours == theirs, "images differ after {seen}");
+    *bytes = ours;
+    answer
+}
+
+fn fresh(four: proved::Four, number: usize) -> Vec<u8> {
+    let mut bytes = vec![0xDD; 512 * (four.3 + 1)];
+    assert_eq!(proved::fresh(four, number, &mut bytes), 0);
+    assert_eq!(bytes, image::fresh(settings(four), number as u64).unwrap());
+    bytes
+}
+
+/// A message, mostly sensible, sometimes not.
+fn random_message(rng: &mut Rng, (n, m, size, _): proved::Four) -> brick::Message {
+    let time = match rng.below(12) {
+        0 => rng.number(),
+        1 => rng.below(20),
+        _ => 16 + rng.below(60) * 8,
+    };
+    let count = if rng.once_in(10) { rng.below(5) as usize } else { m };
+    let among = if rng.once_in(12) { 16 } else { n };
+    let mut targets: Vec<u8> = rng.shuffled(among).into_iter().map(|b| b as u8).collect();
+    targets.truncate(count);
+    brick::Message {
+        kind: if rng.once_in(15) { rng.byte() } else { 1 + rng.below(5) as u8 },
+        time,
+        round: if rng.once_in(12) { rng.below(2) * 1001 } else { 1 + rng.below(1000) },
+        max: match rng.below(5) {
+            0 => 1 << 44,
+            1 => (1 << 44) + rng.below(2),
+            2 => 0,
+            _ => 16 + rng.below(60) * 8,
+        },
+        targets,
+        block: rng.bytes(size),
+    }
+}
+
+#[test]
+fn long_runs_of_messages() {
+    let mut rng = Rng::printed(21);
+    let mut answers = [0_usize; 128];
+    for _ in 0..300 {
+        let n = 1 + rng.below(16) as usize;
+        let sizes = [1, 2, 7, 64, 255, 256];
+        let four = (n, 1 + rng.below(n as u64) as usize, sizes[rng.below(6) as usize], 2 + rng.below(31) as usize);
+        let number = rng.below(n as u64) as usize;
+        let mut bytes = fresh(four, number);
+        for _ in 0..60 {
+            let message = random_message(&mut rng, four);
+            answers[compare(four, number, &mut bytes, &message) as usize] += 1;
+            let mut times = [0; 2];
+            assert_eq!(proved::panel(four, number, &bytes, &mut times), 0);
+            let state = image::parse(settings(four), number as u64, &bytes).unwrap();
+            assert_eq!(times, [state.promise, state.newest()]);
+        }
+    }
+    assert!(answers[0] > 5000 && answers[100] > 500 && answers[10] > 500, "{answers:?}");
+}
+
+#[test]
+fn every_changed_byte_of_a_small_image() {
+    let four = (3, 1, 1, 2);
+    let mut bytes = fresh(four, 1);
+    let write = brick::Message { block: vec![9], ..brick::Message::plain(brick::WRITE, 33, 2) };
+    compare(four, 1, &mut bytes, &write);
+    let read = brick::Message { targets: vec![1], ..brick::Message::plain(brick::READ, 49, 1) };
+    for at in 0..bytes.len() {
+        for change in 1..=255_u8 {
+            let mut damaged = bytes.clone();
+            damaged[at] ^= change;
+            let (mut out, mut reply) = ([0], [0; 7]);
+            let kept = damaged.clone();
+            let answer = proved::receive(four, 1, &mut damaged, (1, 49, 1, 0), &flags(&[1]).unwrap(), &[0], &mut out, &mut reply);
+            assert_eq!((answer, &damaged), (5, &kept), "byte {at} by {change}");
+        }
+    }
+    assert_eq!(compare(four, 1, &mut bytes, &read), 0);
+}
+
+/// The check of a block, made right again after damage, so that refusal 6 is reached.
+fn reseal(block: &mut [u8]) {
+    let sum: u64 = 1 + (2..512).map(|p| (p as u64 - 1) * u64::from(block[p])).sum::<u64>();
+    block[..2].copy_from_slice(&((sum % 65521) as u16).to_le_bytes());
+}
+
+#[test]
+fn damaged_images() {
+    let mut rng = Rng::printed(22);
+    let mut answers = [0_usize; 128];
+    for _ in 0..4000 {
+        let four = (5, 3, [1, 64, 256][rng.below(3) as usize], 2 + rng.below(5) as usize);
+        let mut bytes = fresh(four, 2);
+        for _ in 0..rng.below(4) {
+            let message = random_message(&mut rng, four);
+            compare(four, 2, &mut bytes, &message);
+        }
+        for _ in 0..1 + rng.below(2) {
+            let at = if rng.once_in(2) { rng.below(bytes.len() as u64) } else { rng.below(4) * 512 + rng.below(24) } as usize;
+            let at = at % bytes.len();
+            bytes[at] = if rng.once_in(2) { rng.byte() } else { bytes[at] ^ 1 };
+            if !rng.once_in(4) {
+                let block = at / 512 * 512;
+                reseal(&mut bytes[block..block + 512]);
+            }
+        }
+        if rng.once_in(20) {
+            bytes.pop();
+        }
+        let message = random_message(&mut rng, four);
+        let brick = if rng.once_in(10) { rng.below(8) as usize } else { 2 };
+        answers[compare(four, brick, &mut bytes, &message) as usize] += 1;
+    }
+    for number in [0, 2, 3, 5, 6, 100] {
+        assert!(answers[number] > 20, "{number}: {answers:?}");
+    }
+}
+
+#[test]
+fn settings_and_lengths() {
+    let mut bytes = fresh((3, 1, 4, 3), 0);
+    let message = brick::Message { targets: vec![0], ..brick::Message::plain(brick::READ, 16, 1) };
+    for four in [(0, 0, 4, 3), (17, 1, 4, 3), (3, 4, 4, 3), (3, 1, 0, 3), (3, 1, 257, 3), (3, 1, 4, 1), (3, 1, 4, 33)] {
+        assert_eq!(compare(four, 0, &mut bytes, &message), 1);
+    }
+    let (mut out, mut reply, targets) = ([0; 4], [0; 7], flags(&[0]).unwrap());
+    let four = (3, 1, 4, 3);
+    let asked = (1, 16, 1, 0);
+    assert_eq!(proved::receive(four, 0, &mut bytes, asked, &targets, &[0; 3], &mut out, &mut reply), 2);
+    assert_eq!(proved::receive(four, 0, &mut bytes, asked, &targets, &[0; 4], &mut out[..3], &mut reply), 2);
+    assert_eq!(proved::receive(four, 0, &mut bytes, asked, &targets[..15], &[0; 4], &mut out, &mut reply), 2);
+    assert_eq!(proved::receive(four, 0, &mut bytes, asked, &targets, &[0; 4], &mut out, &mut reply[..6]), 2);
+    assert_eq!(proved::receive(four, 0, &mut bytes, asked, &targets, &[0; 4], &mut out, &mut reply), 0);
+    let mut times = [0; 3];
+    assert_eq!(proved::panel(four, 0, &bytes, &mut times), 2);
+}
