@@ -23,6 +23,8 @@ use Rattle.brick.specs.Steps.{under, lookup, timeFor, placeFor, foundFor
 use Rattle.saving.specs.Saving.{without}
 use Rattle.brick.specs.declared.Known.{Known}
 use Rattle.brick.specs.declared.Plan.{Plan}
+use Rattle.brick.specs.declared.Looked.{Looked}
+use Rattle.brick.specs.declared.Looked.the-variants.{Under, Nothing}
 
 -- an opened image, with what is known of its brick
 pub record Ready (s : Settings) (brick : ℕ) (l : List ℕ) (k : Known) : Type 0 where
@@ -42,10 +44,17 @@ unfoldable pub underIn : List Entry → ℕ → ℕ → ℕ
 underIn log max zero = 0
 underIn log max (suc i) = cond (ltb (getD log i blankEntry .time) max) (suc i) (underIn log max i)
 
+-- the answer of a lookup: the entry by its place and 1, none for 0
+unfoldable pub lookedIn : List Entry → ℕ → Looked
+lookedIn log zero = Nothing
+lookedIn log (suc i) = Under (getD log i blankEntry)
+
 -- turn by turn, from the newest down
-pub under-found : (log : List Entry) (max n i : ℕ) → n ≡ suc i → getD log i blankEntry .time < max → n ≡ underIn log max n
-unfolding underIn
-under-found log max n i e h = e ∙ sym (ap (λ (k : ℕ). underIn log max k) e ∙ rw (lt-ltb (getD log i blankEntry .time) max h) refl)
+pub under-found : (log : List Entry) (max n i count : ℕ) → n ≡ suc i → getD log i blankEntry .time < max → underIn log max n ≡ underIn log max count
+    → Under (getD log i blankEntry) ≡ lookedIn log (underIn log max count)
+unfolding underIn lookedIn
+under-found log max n i count e h w =
+    sym (ap (λ (k : ℕ). lookedIn log (underIn log max k)) e ∙ rw (lt-ltb (getD log i blankEntry .time) max h) refl) ∙ ap (λ (k : ℕ). lookedIn log k) w
 
 pub under-high : (log : List Entry) (max n : ℕ) → underIn log max n ≤ n
 unfolding underIn
@@ -91,14 +100,26 @@ timeOf log n = cond (eqb n 0) 0 (getD log (n - 1) blankEntry .time)
 unfoldable pub planOf : ℕ → ℕ → ℕ → Plan
 planOf place found cut = record { place = place; found = found; cut = cut }
 
-pub plan-none : (log : List Entry) (n : ℕ) → n ≡ 0 → record { place = 0; found = 0; cut = 0 } ≡ planOf (placeOf log n) (timeOf log n) 0
-unfolding planOf placeOf timeOf
-plan-none log n e = rw (eq-eqb n 0 e) refl
+-- the plan for the answer of a lookup
+unfoldable pub planIn : Looked → Plan
+planIn (Under e) = planOf (placeIn (e .holding)) (e .time) 0
+planIn Nothing = planOf 0 0 0
 
-pub plan-entry : (log : List Entry) (n place : ℕ) → (n ≡ 0 → ⊥) → place ≡ placeIn (getD log (n - 1) blankEntry .holding)
-    → record { place = place; found = getD log (n - 1) blankEntry .time; cut = 0 } ≡ planOf (placeOf log n) (timeOf log n) 0
-unfolding planOf placeOf timeOf
-plan-entry log n place e p = rw (ne-eqb n 0 e) (ap (λ (q : ℕ). record { place = q; found = getD log (n - 1) blankEntry .time; cut = 0 }) p)
+pub plan-none : (f : Looked) → f ≡ Nothing → record { place = 0; found = 0; cut = 0 } ≡ planIn f
+unfolding planIn planOf
+plan-none f e = sym (ap planIn e)
+
+pub plan-entry : (f : Looked) (e : Entry) (place : ℕ) → f ≡ Under e → place ≡ placeIn (e .holding) → record { place = place; found = e .time; cut = 0 } ≡ planIn f
+unfolding planIn planOf
+plan-entry f e place h p = ap (λ (q : ℕ). record { place = q; found = e .time; cut = 0 }) p ∙ sym (ap planIn h)
+
+pub plan-looked : (log : List Entry) (n : ℕ) → planIn (lookedIn log n) ≡ planOf (placeOf log n) (timeOf log n) 0
+unfolding planIn lookedIn planOf placeOf timeOf
+plan-looked log zero = refl
+plan-looked log (suc i) =
+    let m : suc i - 1 ≡ i = omega arith in
+    rw (ne-eqb (suc i) 0 (λ q. omega (arith, q)))
+    (ap (λ (k : ℕ). record { place = placeIn (getD log k blankEntry .holding); found = getD log k blankEntry .time; cut = 0 }) (sym m))
 
 pub place-brick : (x : Brick) (n : ℕ) → n ≤ count x → count x ≤ 32 → placeOf (workingLog x) n ≡ n
 unfolding placeOf placeIn
@@ -154,12 +175,14 @@ planned-read log k msg brick p e h =
       others = λ a b. absurd (a e);
     }
 
-pub planned-look : (log : List Entry) (k : Known) (msg : Message) (brick n : ℕ) (v : Bool) (p : Plan) → msg .kind ≡ 3
-    → v ≡ ltb (k .newest) (msg .time) && leb (k .promise) (msg .time) → v ≡ true → n ≡ underIn log (msg .max) (k .count)
-    → p ≡ planOf (placeOf log n) (timeOf log n) 0 → Planned log k msg brick p
+pub planned-look : (log : List Entry) (k : Known) (msg : Message) (brick : ℕ) (v : Bool) (f : Looked) (p : Plan) → msg .kind ≡ 3
+    → v ≡ ltb (k .newest) (msg .time) && leb (k .promise) (msg .time) → v ≡ true → f ≡ lookedIn log (underIn log (msg .max) (k .count))
+    → p ≡ planIn f → Planned log k msg brick p
 unfolding underFor planOf
-planned-look log k msg brick n v p e ev t en ep =
-    let u : n ≡ cond (ltb (k .newest) (msg .time) && leb (k .promise) (msg .time)) (underIn log (msg .max) (k .count)) 0 = en ∙ sym (rw (sym ev ∙ t) refl) in
+planned-look log k msg brick v f p e ev t ef eq =
+    let n : ℕ = underIn log (msg .max) (k .count) in
+    let u : n ≡ cond (ltb (k .newest) (msg .time) && leb (k .promise) (msg .time)) (underIn log (msg .max) (k .count)) 0 = sym (rw (sym ev ∙ t) refl) in
+    let ep : p ≡ planOf (placeOf log n) (timeOf log n) 0 = eq ∙ ap planIn ef ∙ plan-looked log n in
     record {
       cuts = λ q. absurd (omega (arith, e, q));
       reads = λ q. absurd (omega (arith, e, q));
@@ -207,9 +230,9 @@ gave-block l size place a out after z n e h w =
     ∙ is
     ∙ sym (rw (ne-eqb place 0 z) refl)
 
-pub under-none : (log : List Entry) (max n count : ℕ) → n ≤ 0 → underIn log max n ≡ underIn log max count → 0 ≡ underIn log max count
-unfolding underIn
-under-none log max n count h e = let z : n ≡ 0 = omega arith in ap (λ (k : ℕ). underIn log max k) (sym z) ∙ e
+pub under-none : (log : List Entry) (max n count : ℕ) → n ≤ 0 → underIn log max n ≡ underIn log max count → Nothing ≡ lookedIn log (underIn log max count)
+unfolding underIn lookedIn
+under-none log max n count h e = let z : n ≡ 0 = omega arith in ap (λ (k : ℕ). lookedIn log (underIn log max k)) (sym z) ∙ ap (λ (k : ℕ). lookedIn log k) e
 
 -- the ways of Read
 pub read-target : (k : Known) (targets : List ℕ) (brick : ℕ) (v : Bool) → k .promise ≤ k .newest → v ≡ member targets brick → v ≡ true → k .count ≡ readPlace k targets brick

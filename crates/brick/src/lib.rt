@@ -12,7 +12,7 @@ ghost use Rattle.image.specs.Opening.{workingLog};
 ghost use Rattle.saving.specs.Saving.{without};
 ghost use Rattle.brick.specs.Steps.{orderYes, ordered, writeYes, written, placeFor, foundFor, yesTo, after, blockAfter};
 ghost use Rattle.brick.specs.Receive.{blocksRefusal, givenBy, outcome};
-ghost use Rattle.brick.specs.LookLaws.{Ready, Ahead, Cut, underIn, placeOf, timeOf, planOf, readPlace, Planned, gaveOf};
+ghost use Rattle.brick.specs.LookLaws.{Ready, Ahead, Cut, underIn, lookedIn, planIn, readPlace, Planned, gaveOf};
 use block::store;
 use image::Answer;
 use image::Entry;
@@ -43,6 +43,12 @@ pub enum Given {
     Answered(Reply),
     Silent,
     Refused(u32),
+}
+
+// The answer of a lookup: the entry that was found, or none.
+enum Looked {
+    Under(Entry),
+    Nothing,
 }
 
 // What a message asks for, found in the working log: the block that goes with the reply, by its number in the image, 0 for none;
@@ -127,36 +133,34 @@ fn trim(s: Settings, brick: usize, image: &mut [u8], k: Known, d: usize)
     write_head(s, brick, image, kept, k.promise);
 }
 
-// The highest entry under max: its place in the log and 1, 0 for none.
-fn look_under(log: [Entry; 32], count: usize, max: u64) -> usize
+// The highest entry under max.
+fn look_under(log: [Entry; 32], count: usize, max: u64) -> Looked
     requires { ⌜ count ≤ 32 ⌝ }
-    ensures { λ r. ⌜ r ≡ underIn log max count ⌝ }
+    ensures { λ r. ⌜ r ≡ lookedIn log (underIn log max count) ⌝ }
 {
     let mut n = count;
     while 0 < n {
         let i = n - 1;
         let e = log[i];
         if e.time < max {
-            return n;
+            return Looked::Under(e);
         }
         n = i;
     }
-    0
+    Looked::Nothing
 }
 
-// The block and the time of an entry, 0 for none.
-fn entry_plan(log: [Entry; 32], n: usize) -> Plan
-    requires { ⌜ n ≤ 32 ⌝ }
-    ensures { λ r. ⌜ r ≡ planOf (placeOf log n) (timeOf log n) 0 ⌝ }
+// The block and the time of the entry that a lookup gave, 0 for none.
+fn entry_plan(found: Looked) -> Plan
+    ensures { λ r. ⌜ r ≡ planIn found ⌝ }
 {
-    if n == 0 {
+    let Looked::Under(e) = found else {
         return Plan {
             place: 0,
             found: 0,
             cut: 0,
         };
-    }
-    let e = log[n - 1];
+    };
     let h = e.holding;
     Plan {
         place: place_of(h),
@@ -212,8 +216,8 @@ fn plan_for(log: [Entry; 32], k: Known, msg: Message, brick: usize) -> Plan
     }
     if msg.kind == ORDER_READ {
         if order_yes(k.newest, k.promise, msg.time) {
-            let n = look_under(log, k.count, msg.max);
-            return entry_plan(log, n);
+            let looked = look_under(log, k.count, msg.max);
+            return entry_plan(looked);
         }
     }
     Plan {

@@ -33,7 +33,7 @@ array-copy-out-e c = omega arith
 -- src/lib.rt:140:13
 returns : tie.Need-returns Inv-loop μ-loop
 unfolding blankEntry
-returns c = under-found _ _ _ (c .before .before .before .before .loop .n - 1) (omega arith) (c .if1 .taken) ∙ c .before .before .before .before .loop .inv .1
+returns c = under-found _ _ _ (c .before .before .before .before .loop .n - 1) _ (omega arith) (c .if1 .taken) (c .before .before .before .before .loop .inv .1)
 
 -- src/lib.rt:136:5
 loop-less : tie.Need-loop-less Inv-loop μ-loop

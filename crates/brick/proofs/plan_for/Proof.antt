@@ -1,5 +1,5 @@
 use native.Mathlib.Omega.{arith}
-use Rattle.brick.specs.LookLaws.{under-high, planned-trim, planned-read, planned-look, planned-no, planned-none}
+use Rattle.brick.specs.LookLaws.{planned-trim, planned-read, planned-look, planned-no, planned-none}
 use borrow.Author.Needs.{needs}
 use Rattle.brick.proofs.plan_for.Statement.{statement}
 use Rattle.brick.proofs.plan_for.Tie as tie
@@ -37,7 +37,7 @@ look-under-requires c κs = search needs
 
 -- src/lib.rt:216:13
 entry-plan-requires : tie.Need-entry-plan-requires
-entry-plan-requires c κs = omega (arith, c .look-under .ensures, under-high (c .before .before .before .before .before .before .before .before .before .args .log) (c .before .before .before .before .before .before .before .before .before .args .msg .max) (c .before .before .before .before .before .before .before .before .before .args .k .count))
+entry-plan-requires c κs = search needs
 
 -- src/lib.rt:216:13
 returns-3 : tie.Need-returns-3
