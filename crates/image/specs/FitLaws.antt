@@ -8,7 +8,7 @@ use lib.Dec.{leb, ltb, eqb}
 use lib.ListN.{length, take, drop}
 use borrow.Author.Tests.{lt-ltb, le-ltb, le-leb, lt-leb, eq-eqb, ne-eqb}
 use Rattle.settings.specs.Ranges.{inRange, settingsRefusal}
-use Rattle.settings.specs.Refusal.{refuseUnless}
+use Rattle.settings.specs.Refusal.{refuseUnless, firstRefusal}
 use Rattle.settings.specs.declared.Settings.{Settings}
 use Rattle.block.specs.Block.{same, unchecked, headBody, entryBody, unusedBody}
 use Rattle.image.specs.Brick.{savedTime, countSound}
@@ -81,21 +81,21 @@ module _ (s : Settings) (brick len : ℕ) where
       go false q = let w = ap (λ (b : Bool). refuseUnless b 1) q in absurd (omega (arith, e, z, w))
 
   pub lending-1 : (k : ℕ) → k ≡ settingsRefusal s → (k ≡ 0 → ⊥) → 1 ≡ lendingRefusal s brick len
-  unfolding lendingRefusal settingsRefusal
+  unfolding lendingRefusal firstRefusal settingsRefusal
   lending-1 k e z = go (inRange s) refl
     where
-      go : (b : Bool) → inRange s ≡ b → _≡_ {A = ℕ} 1 (cond (not (inRange s)) 1 (cond (not (eqb len (imageSize s))) 2 (cond (leb (s .n) brick) 3 0)))
+      go : (b : Bool) → inRange s ≡ b → _≡_ {A = ℕ} 1 (firstRefusal (refuseUnless (inRange s) 1 ∷ refuseUnless (eqb len (imageSize s)) 2 ∷ refuseUnless (ltb brick (s .n)) 3 ∷ []))
       go true q = let w = ap (λ (b : Bool). refuseUnless b 1) q in absurd (z (e ∙ w))
       go false q = rw q refl
 
   pub lending-2 : (k : ℕ) → k ≡ settingsRefusal s → k ≡ 0 → (len ≡ 512 * (s .capacity + 1) → ⊥) → 2 ≡ lendingRefusal s brick len
-  unfolding lendingRefusal imageSize
+  unfolding lendingRefusal firstRefusal imageSize
   lending-2 k e z h = rw (ranged k e z, ne-eqb len (512 * (s .capacity + 1)) h) refl
 
   pub lending-3 : (k : ℕ) → k ≡ settingsRefusal s → k ≡ 0 → len ≡ 512 * (s .capacity + 1) → s .n ≤ brick → 3 ≡ lendingRefusal s brick len
-  unfolding lendingRefusal imageSize
-  lending-3 k e z h l = rw (ranged k e z, eq-eqb len (512 * (s .capacity + 1)) h, le-leb (s .n) brick l) refl
+  unfolding lendingRefusal firstRefusal imageSize
+  lending-3 k e z h l = rw (ranged k e z, eq-eqb len (512 * (s .capacity + 1)) h, le-ltb brick (s .n) l) refl
 
   pub lending-0 : (k : ℕ) → k ≡ settingsRefusal s → k ≡ 0 → len ≡ 512 * (s .capacity + 1) → brick < s .n → 0 ≡ lendingRefusal s brick len
-  unfolding lendingRefusal imageSize
-  lending-0 k e z h l = rw (ranged k e z, eq-eqb len (512 * (s .capacity + 1)) h, lt-leb (s .n) brick l) refl
+  unfolding lendingRefusal firstRefusal imageSize
+  lending-0 k e z h l = rw (ranged k e z, eq-eqb len (512 * (s .capacity + 1)) h, lt-ltb brick (s .n) l) refl

@@ -10,8 +10,9 @@ use lib.ListN.{length, take, drop, replicate}
 use lib.Seq.{append-snoc}
 use native.Mathlib.Nat.{add-zero}
 use native.Mathlib.Decide.{decLt}
-use borrow.Author.Tests.{le-ltb, leb-true, leb-false, eqb-true}
+use borrow.Author.Tests.{ltb-true, le-ltb, leb-true, leb-false, eqb-true}
 use Rattle.settings.specs.Ranges.{inRange}
+use Rattle.settings.specs.Refusal.{refuseUnless, firstRefusal}
 use Rattle.settings.specs.RangeLaws.{SettingsRange, and-left, and-right}
 use Rattle.settings.specs.declared.Settings.{Settings}
 use Rattle.block.specs.Block.{checked}
@@ -36,27 +37,27 @@ pub record Lent (s : Settings) (brick len : ℕ) : Type 0 where
   pub brick-low : brick < s .n
 
 pub lent : (s : Settings) (brick len k : ℕ) → k ≡ lendingRefusal s brick len → k ≡ 0 → Lent s brick len
-unfolding lendingRefusal
-lent s brick len k e z = go (inRange s) (eqb len (imageSize s)) (leb (s .n) brick) refl refl refl (sym e ∙ z)
+unfolding lendingRefusal firstRefusal
+lent s brick len k e z = go (inRange s) (eqb len (imageSize s)) (ltb brick (s .n)) refl refl refl (sym e ∙ z)
   where
-    go : (a b c : Bool) → inRange s ≡ a → eqb len (imageSize s) ≡ b → leb (s .n) brick ≡ c
-        → _≡_ {A = ℕ} (cond (not a) 1 (cond (not b) 2 (cond c 3 0))) 0 → Lent s brick len
+    go : (a b c : Bool) → inRange s ≡ a → eqb len (imageSize s) ≡ b → ltb brick (s .n) ≡ c
+        → _≡_ {A = ℕ} (firstRefusal (refuseUnless a 1 ∷ refuseUnless b 2 ∷ refuseUnless c 3 ∷ [])) 0 → Lent s brick len
     go false b c ea eb ec r = absurd (omega arith)
     go true false c ea eb ec r = absurd (omega arith)
-    go true true true ea eb ec r = absurd (omega arith)
-    go true true false ea eb ec r =
-        record { in-range = ea; range = range-of s ea; long = eqb-true len (imageSize s) eb; brick-low = leb-false (s .n) brick ec }
+    go true true false ea eb ec r = absurd (omega arith)
+    go true true true ea eb ec r =
+        record { in-range = ea; range = range-of s ea; long = eqb-true len (imageSize s) eb; brick-low = ltb-true brick (s .n) ec }
 
 pub lending-parse : (s : Settings) (brick : ℕ) (l : List ℕ) (k : ℕ) → k ≡ lendingRefusal s brick (length l) → (k ≡ 0 → ⊥) → parse s brick l ≡ Refuses k
-unfolding lendingRefusal openRefusal
-lending-parse s brick l k e z = parse-refuses s brick l k (go (inRange s) (eqb (length l) (imageSize s)) (leb (s .n) brick) e) z
+unfolding lendingRefusal openRefusal firstRefusal
+lending-parse s brick l k e z = parse-refuses s brick l k (go (inRange s) (eqb (length l) (imageSize s)) (ltb brick (s .n)) e) z
   where
-    go : (a b c : Bool) → k ≡ cond (not a) 1 (cond (not b) 2 (cond c 3 0))
-        → cond (not a) 1 (cond (not b) 2 (cond c 3 (cond (not (every (checkedAt l) (s .capacity + 1))) 5 (cond (not (isImage s brick l)) 6 0)))) ≡ k
+    go : (a b c : Bool) → k ≡ firstRefusal (refuseUnless a 1 ∷ refuseUnless b 2 ∷ refuseUnless c 3 ∷ [])
+        → firstRefusal (refuseUnless a 1 ∷ refuseUnless b 2 ∷ refuseUnless c 3 ∷ refuseUnless (every (checkedAt l) (s .capacity + 1)) 5 ∷ refuseUnless (isImage s brick l) 6 ∷ []) ≡ k
     go false b c r = sym r
     go true false c r = sym r
-    go true true true r = sym r
-    go true true false r = absurd (z r)
+    go true true false r = sym r
+    go true true true r = absurd (z r)
 
 pub open-lending : (s : Settings) (brick : ℕ) (l : List ℕ) (k : ℕ) (r : Opening) → k ≡ lendingRefusal s brick (length l) → (k ≡ 0 → ⊥)
     → r ≡ opening (Refuses k) → r ≡ opening (parse s brick l)

@@ -1,11 +1,11 @@
 -- The answer of an opening, in the code's own records, and the tests that the code makes on single blocks.
-use mathlib.Core.Bool.{Bool, cond, not, _&&_, _||_}
+use mathlib.Core.Bool.{Bool, cond, _&&_, _||_}
 use mathlib.Core.List.{List, [], _∷_, _++_}
 use Prim.Native.Nat.{ℕ, zero, suc, _+_, _*_}
-use lib.Dec.{leb, ltb, eqb}
+use lib.Dec.{ltb, eqb}
 use lib.ListN.{length, drop}
 use Rattle.settings.specs.Ranges.{inRange}
-use Rattle.settings.specs.Refusal.{passed, badSetting, badLength, badNumber}
+use Rattle.settings.specs.Refusal.{refuseUnless, firstRefusal, badSetting, badLength, badNumber}
 use Rattle.settings.specs.declared.Settings.{Settings}
 use Rattle.block.specs.Block.{same, headBody, entryBody, unusedBody}
 use Rattle.image.specs.Brick.{Brick, count, timeAt, newest, savedTime, countSound}
@@ -65,7 +65,11 @@ panelOf (Refuses k) = Shown.Refused k
 -- the first refusals of whatever is lent an image: 1 a setting, 2 the length, 3 the brick's number
 unfoldable pub lendingRefusal : Settings → ℕ → ℕ → ℕ
 lendingRefusal s brick len =
-    cond (not (inRange s)) badSetting (cond (not (eqb len (imageSize s))) badLength (cond (leb (s .n) brick) badNumber passed))
+    firstRefusal
+    (refuseUnless (inRange s) badSetting
+    ∷ refuseUnless (eqb len (imageSize s)) badLength
+    ∷ refuseUnless (ltb brick (s .n)) badNumber
+    ∷ [])
 
 -- the time of entry i is above the one before it
 unfoldable pub rises : ℕ → ℕ → ℕ → Bool

@@ -1,11 +1,11 @@
 -- Opening a saved brick: the brick that the bytes are the image of, or one refusal.
-use mathlib.Core.Bool.{Bool, cond, not, _&&_}
+use mathlib.Core.Bool.{Bool, cond, _&&_}
 use mathlib.Core.List.{List, [], _∷_}
 use Prim.Native.Nat.{ℕ, zero, suc, _+_, _*_}
-use lib.Dec.{leb, eqb}
+use lib.Dec.{ltb, eqb}
 use lib.ListN.{length, take, drop}
 use Rattle.settings.specs.Ranges.{inRange}
-use Rattle.settings.specs.Refusal.{passed, badSetting, badLength, badNumber, badCheck, badRecord}
+use Rattle.settings.specs.Refusal.{passed, refuseUnless, firstRefusal, badSetting, badLength, badNumber, badCheck, badRecord}
 use Rattle.settings.specs.declared.Settings.{Settings}
 use Rattle.little.specs.Little.{number}
 use Rattle.block.specs.Block.{checked, same}
@@ -55,11 +55,13 @@ isImage s brick bytes = sound s (brickIn s bytes) && same (imageOf s brick (bric
 -- 5 a block whose check fails, 6 anything else that no brick's image has.
 unfoldable pub openRefusal : Settings → ℕ → List ℕ → ℕ
 openRefusal s brick bytes =
-    cond (not (inRange s)) badSetting
-    (cond (not (eqb (length bytes) (imageSize s))) badLength
-    (cond (leb (s .n) brick) badNumber
-    (cond (not (every (checkedAt bytes) (s .capacity + 1))) badCheck
-    (cond (not (isImage s brick bytes)) badRecord passed))))
+    firstRefusal
+    (refuseUnless (inRange s) badSetting
+    ∷ refuseUnless (eqb (length bytes) (imageSize s)) badLength
+    ∷ refuseUnless (ltb brick (s .n)) badNumber
+    ∷ refuseUnless (every (checkedAt bytes) (s .capacity + 1)) badCheck
+    ∷ refuseUnless (isImage s brick bytes) badRecord
+    ∷ [])
 
 pub data Parsed : Type 0 where
   Opens : Brick → Parsed

@@ -8,10 +8,10 @@ use native.Mathlib.Nat.{add-zero, add-suc}
 use lib.Dec.{leb, ltb, eqb}
 use lib.ListN.{length, take, drop, getD, set, length-set}
 use lib.Seq.{ext-getD, drop-set-add, take-set-lt, take-take}
-use borrow.Author.Tests.{lt-ltb, le-leb, lt-leb, leb-false, eqb-true, eq-eqb, ne-eqb}
+use borrow.Author.Tests.{le-ltb, ltb-true, lt-ltb, le-leb, lt-leb, leb-false, eqb-true, eq-eqb, ne-eqb}
 use Rattle.settings.specs.Ranges.{inRange, settingsRefusal}
 use Rattle.settings.specs.RangeLaws.{SettingsRange, settings-passed, and-left, and-right}
-use Rattle.settings.specs.Refusal.{badCheck, badRecord}
+use Rattle.settings.specs.Refusal.{refuseUnless, firstRefusal, badCheck, badRecord}
 use Rattle.settings.specs.declared.Settings.{Settings}
 use Rattle.little.specs.Little.{number}
 use Rattle.little.specs.LittleLaws.{Bytes}
@@ -98,30 +98,30 @@ module _ (s : Settings) (brick : ℕ) (x : Brick) (range : SettingsRange s) (r :
 -- The ways through the refusal of an image.
 module _ (s : Settings) (brick : ℕ) (l : List ℕ) where
   pub refusal-1 : inRange s ≡ false → openRefusal s brick l ≡ 1
-  unfolding openRefusal
+  unfolding openRefusal firstRefusal
   refusal-1 a = rw a refl
 
   pub refusal-2 : inRange s ≡ true → (length l ≡ imageSize s → ⊥) → openRefusal s brick l ≡ 2
-  unfolding openRefusal
+  unfolding openRefusal firstRefusal
   refusal-2 a b = rw (a, ne-eqb (length l) (imageSize s) b) refl
 
   pub refusal-3 : inRange s ≡ true → length l ≡ imageSize s → s .n ≤ brick → openRefusal s brick l ≡ 3
-  unfolding openRefusal
-  refusal-3 a b c = rw (a, eq-eqb (length l) (imageSize s) b, le-leb (s .n) brick c) refl
+  unfolding openRefusal firstRefusal
+  refusal-3 a b c = rw (a, eq-eqb (length l) (imageSize s) b, le-ltb brick (s .n) c) refl
 
   pub refusal-5 : inRange s ≡ true → length l ≡ imageSize s → brick < s .n → every (checkedAt l) (s .capacity + 1) ≡ false → openRefusal s brick l ≡ 5
-  unfolding openRefusal
-  refusal-5 a b c d = rw (a, eq-eqb (length l) (imageSize s) b, lt-leb (s .n) brick c, d) refl
+  unfolding openRefusal firstRefusal
+  refusal-5 a b c d = rw (a, eq-eqb (length l) (imageSize s) b, lt-ltb brick (s .n) c, d) refl
 
   pub refusal-6 : inRange s ≡ true → length l ≡ imageSize s → brick < s .n → every (checkedAt l) (s .capacity + 1) ≡ true
       → isImage s brick l ≡ false → openRefusal s brick l ≡ 6
-  unfolding openRefusal
-  refusal-6 a b c d e = rw (a, eq-eqb (length l) (imageSize s) b, lt-leb (s .n) brick c, d, e) refl
+  unfolding openRefusal firstRefusal
+  refusal-6 a b c d e = rw (a, eq-eqb (length l) (imageSize s) b, lt-ltb brick (s .n) c, d, e) refl
 
   pub refusal-0 : inRange s ≡ true → length l ≡ imageSize s → brick < s .n → every (checkedAt l) (s .capacity + 1) ≡ true
       → isImage s brick l ≡ true → openRefusal s brick l ≡ 0
-  unfolding openRefusal
-  refusal-0 a b c d e = rw (a, eq-eqb (length l) (imageSize s) b, lt-leb (s .n) brick c, d, e) refl
+  unfolding openRefusal firstRefusal
+  refusal-0 a b c d e = rw (a, eq-eqb (length l) (imageSize s) b, lt-ltb brick (s .n) c, d, e) refl
 
   pub parse-refuses : (k : ℕ) → openRefusal s brick l ≡ k → (k ≡ 0 → ⊥) → parse s brick l ≡ Refuses k
   unfolding parse
@@ -144,29 +144,29 @@ module _ (s : Settings) (brick : ℕ) (l : List ℕ) where
 
   -- What opens is the image of what it opens to.
   pub opened : (x : Brick) → parse s brick l ≡ Opens x → Opened x
-  unfolding parse openRefusal isImage
+  unfolding parse openRefusal firstRefusal isImage
   opened x e =
-      go (inRange s) (eqb (length l) (imageSize s)) (leb (s .n) brick) (every (checkedAt l) (s .capacity + 1))
+      go (inRange s) (eqb (length l) (imageSize s)) (ltb brick (s .n)) (every (checkedAt l) (s .capacity + 1))
       (sound s (brickIn s l)) (same (imageOf s brick (brickIn s l)) l) refl refl refl refl refl refl e
     where
-      go : (a b c d f g : Bool) → inRange s ≡ a → eqb (length l) (imageSize s) ≡ b → leb (s .n) brick ≡ c → every (checkedAt l) (s .capacity + 1) ≡ d
+      go : (a b c d f g : Bool) → inRange s ≡ a → eqb (length l) (imageSize s) ≡ b → ltb brick (s .n) ≡ c → every (checkedAt l) (s .capacity + 1) ≡ d
           → sound s (brickIn s l) ≡ f → same (imageOf s brick (brickIn s l)) l ≡ g
-          → (let r : ℕ = cond (not a) 1 (cond (not b) 2 (cond c 3 (cond (not d) 5 (cond (not (f && g)) 6 0)))) in
+          → (let r : ℕ = firstRefusal (refuseUnless a 1 ∷ refuseUnless b 2 ∷ refuseUnless c 3 ∷ refuseUnless d 5 ∷ refuseUnless (f && g) 6 ∷ []) in
           cond (eqb r 0) (Opens (brickIn s l)) (Refuses r)) ≡ Opens x
           → Opened x
       go false b c d f g ea eb ec ed ef eg h = let z : _≡_ {A = ℕ} 0 1 = cc in absurd (omega arith)
       go true false c d f g ea eb ec ed ef eg h = let z : _≡_ {A = ℕ} 0 1 = cc in absurd (omega arith)
-      go true true true d f g ea eb ec ed ef eg h = let z : _≡_ {A = ℕ} 0 1 = cc in absurd (omega arith)
-      go true true false false f g ea eb ec ed ef eg h = let z : _≡_ {A = ℕ} 0 1 = cc in absurd (omega arith)
-      go true true false true false g ea eb ec ed ef eg h = let z : _≡_ {A = ℕ} 0 1 = cc in absurd (omega arith)
-      go true true false true true false ea eb ec ed ef eg h = let z : _≡_ {A = ℕ} 0 1 = cc in absurd (omega arith)
-      go true true false true true true ea eb ec ed ef eg h =
+      go true true false d f g ea eb ec ed ef eg h = let z : _≡_ {A = ℕ} 0 1 = cc in absurd (omega arith)
+      go true true true false f g ea eb ec ed ef eg h = let z : _≡_ {A = ℕ} 0 1 = cc in absurd (omega arith)
+      go true true true true false g ea eb ec ed ef eg h = let z : _≡_ {A = ℕ} 0 1 = cc in absurd (omega arith)
+      go true true true true true false ea eb ec ed ef eg h = let z : _≡_ {A = ℕ} 0 1 = cc in absurd (omega arith)
+      go true true true true true true ea eb ec ed ef eg h =
           let i : x ≡ brickIn s l = cc in
           record {
             in-range = ea;
             range = range-of s ea;
             long = eqb-true (length l) (imageSize s) eb;
-            brick-low = leb-false (s .n) brick ec;
+            brick-low = ltb-true brick (s .n) ec;
             checks = ed;
             is-read = i;
             keeps = subst (λ (y : Brick). Sound s y) (sym i) (soundness s (brickIn s l) ef);

@@ -1,0 +1,1 @@
+// No code: theorems about the steps of a coordinator, for runs of the set.

@@ -1,0 +1,8 @@
+-- Definitions: Records, Rules, Sound. Laws: Each, RuleLaws, SoundLaws.
+pub mod Each
+pub mod Records
+pub mod Rules
+pub mod RuleLaws
+pub mod Sound
+pub mod SoundLaws
+pub mod SoundParts

@@ -1,0 +1,34 @@
+-- The records with nothing in them. A field without meaning is 0.
+use lib.ListN.{replicate}
+use mathlib.Core.List.{List}
+use Prim.Native.Nat.{ℕ}
+use Rattle.coord_record.specs.declared.Coordinator.{Coordinator}
+use Rattle.coord_record.specs.declared.Op.{Op}
+use Rattle.coord_record.specs.declared.Tally.{Tally}
+use Rattle.settings.specs.declared.Clock.{Clock}
+
+-- what runs: nothing, a read, a write
+abbrev pub idleKind : ℕ
+idleKind = 0
+
+abbrev pub readingKind : ℕ
+readingKind = 1
+
+abbrev pub writingKind : ℕ
+writingKind = 2
+
+-- no operation
+unfoldable pub noOp : Op
+noOp = record { kind = 0; phase = 0; time = 0; round = 0; max = 0; first = 0 }
+
+-- no brick named
+unfoldable pub noBricks : List ℕ
+noBricks = replicate 16 0
+
+-- an open round before its first reply
+unfoldable pub nothingCounted : Tally
+nothingCounted = record { counted = replicate 16 0; granted = replicate 16 0; held = replicate 16 0; found = replicate 16 0 }
+
+-- "A crash makes the coordinator idle and keeps its count."
+unfoldable pub idleWith : Clock → Coordinator
+idleWith clock = record { clock = clock; op = noOp; tally = nothingCounted; bricks = noBricks }

@@ -1,0 +1,63 @@
+-- Refusal 6: "a field outside its range, .. an open round with q or more replies counted, a time of another coordinator".
+use mathlib.Core.Bool.{Bool, cond, _&&_}
+use Prim.Native.Nat.{ℕ}
+use lib.Dec.{eqb, leb, ltb}
+use Rattle.coord_record.specs.Records.{idleKind, readingKind, writingKind}
+use Rattle.coord_record.specs.Rules.{tallyRight, bricksRight}
+use Rattle.coord_record.specs.declared.Coordinator.{Coordinator}
+use Rattle.coord_record.specs.declared.Op.{Op}
+use Rattle.message.specs.Flags.{members}
+use Rattle.message.specs.Kinds.{readKind, orderKind, orderReadKind, writeKind, lastRound}
+use Rattle.settings.specs.Ranges.{quorum}
+use Rattle.settings.specs.declared.Clock.{Clock}
+use Rattle.settings.specs.Times.{maxCount, noUpperEnd, timeOf, validTime}
+
+-- "Order-and-read with max 2^44 .. With fewer, repeat with max = that time": the first recovery round is round 2
+unfoldable pub maxRight : ℕ → ℕ → Bool
+maxRight round max = cond (eqb round 2) (eqb max noUpperEnd) (validTime max)
+
+-- "decode and store by a Write round"
+unfoldable pub storedRight : Op → Bool
+storedRight op = eqb (op .phase) writeKind && leb 3 (op .round) && leb (op .round) lastRound && eqb (op .max) 0
+
+-- a read: a Read round, then Order-and-read rounds, then a Write round
+unfoldable pub readRight : Op → Bool
+readRight op =
+    cond (eqb (op .phase) readKind) (eqb (op .round) 1 && eqb (op .max) 0)
+    (cond (eqb (op .phase) orderReadKind) (leb 2 (op .round) && leb (op .round) lastRound && maxRight (op .round) (op .max))
+    (storedRight op))
+
+-- a write: "Order round, then a Write round"
+unfoldable pub writeRight : Op → Bool
+writeRight op =
+    eqb (op .first) 0 && eqb (op .max) 0
+    && cond (eqb (op .phase) orderKind) (eqb (op .round) 1) (eqb (op .phase) writeKind && eqb (op .round) 2)
+
+-- no operation: no phase, round, max or first
+unfoldable pub unsetOp : Op → Bool
+unsetOp op = eqb (op .phase) 0 && eqb (op .round) 0 && eqb (op .max) 0 && eqb (op .first) 0
+
+unfoldable pub opRight : Op → Bool
+opRight op =
+    cond (eqb (op .kind) idleKind) (unsetOp op)
+    (cond (eqb (op .kind) readingKind) (readRight op) (eqb (op .kind) writingKind && writeRight op))
+
+-- the running operation has the time that was drawn last
+unfoldable pub timeRight : ℕ → ℕ → Clock → Bool
+timeRight kind time clock =
+    cond (eqb kind idleKind) (eqb time 0) (leb 1 (clock .last) && eqb time (timeOf (clock .last) (clock .coordinator)))
+
+-- how many bricks are named: m by a read in its Write round
+unfoldable pub namedCount : ℕ → Op → ℕ
+namedCount m op = cond (eqb (op .kind) readingKind && eqb (op .phase) writeKind) m 0
+
+-- the bricks named, the replies counted, and fewer of these than a quorum
+unfoldable pub filledRight : ℕ → ℕ → Coordinator → Bool
+filledRight n m c =
+    bricksRight n (namedCount m (c .op)) (c .bricks) && tallyRight n m (c .op .phase) (c .op .first) (c .tally)
+    && ltb (members (c .tally .counted) n) (quorum n m)
+
+unfoldable pub sound : ℕ → ℕ → Coordinator → Bool
+sound n m c =
+    leb (c .clock .coordinator) 15 && leb (c .clock .last) maxCount && ltb (c .op .first) n
+    && opRight (c .op) && timeRight (c .op .kind) (c .op .time) (c .clock) && filledRight n m c

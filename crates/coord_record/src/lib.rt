@@ -1,0 +1,429 @@
+// The record of a coordinator (document 01, "What a coordinator does"), by value in small parts, and which records are sound (refusal 6).
+// The blocks of the replies and the stripe are lent beside it.
+ghost use mathlib.Core.Path.{_≡_};
+ghost use mathlib.Core.Bool.{Bool};
+ghost use Prim.Native.Nat.{_≤_, _<_};
+ghost use Rattle.coord_record.specs.Records.{noOp, nothingCounted, idleWith, noBricks};
+ghost use Rattle.coord_record.specs.Rules.{isTarget, blockRight, countedRight, entryRight, tallyRight, brickRight, bricksRight};
+ghost use Rattle.message.specs.Messages.{foundRight};
+ghost use Rattle.coord_record.specs.Sound.{maxRight, storedRight, readRight, writeRight, unsetOp, opRight, timeRight, namedCount, filledRight, sound};
+ghost use Rattle.settings.specs.Times.{maxCount};
+use message::ORDER;
+use message::ORDER_READ;
+use message::READ;
+use message::WRITE;
+use settings::Clock;
+
+// What runs.
+pub const IDLE: u8 = 0;
+
+pub const READING: u8 = 1;
+
+pub const WRITING: u8 = 2;
+
+// The running operation. phase: the kind of the open round's messages. max: of an Order-and-read round. first: the brick that a
+// read's targets are counted upward from. A field without meaning is 0.
+pub struct Op {
+    pub kind: u8,
+    pub phase: u8,
+    pub time: u64,
+    pub round: u64,
+    pub max: u64,
+    pub first: usize,
+}
+
+// The replies counted in the open round, an entry a brick, 0 where none is counted: counted, said yes, holds a block, the time found.
+pub struct Tally {
+    pub counted: [u8; 16],
+    pub granted: [u8; 16],
+    pub held: [u8; 16],
+    pub found: [u64; 16],
+}
+
+// bricks: the m bricks that a read in its Write round decoded from, rising; else 0.
+pub struct Coordinator {
+    pub clock: Clock,
+    pub op: Op,
+    pub tally: Tally,
+    pub bricks: [u8; 16],
+}
+
+// No operation.
+pub fn no_op() -> Op
+    ensures { λ r. ⌜ r ≡ noOp ⌝ }
+{
+    Op {
+        kind: IDLE,
+        phase: 0,
+        time: 0,
+        round: 0,
+        max: 0,
+        first: 0,
+    }
+}
+
+// No reply counted.
+pub fn nothing_counted() -> Tally
+    ensures { λ r. ⌜ r ≡ nothingCounted ⌝ }
+{
+    Tally {
+        counted: [0u8; 16],
+        granted: [0u8; 16],
+        held: [0u8; 16],
+        found: [0u64; 16],
+    }
+}
+
+// An idle coordinator with a clock.
+pub fn idle_with(clock: Clock) -> Coordinator
+    ensures { λ r. ⌜ r ≡ idleWith clock ⌝ }
+{
+    let op = no_op();
+    let tally = nothing_counted();
+    Coordinator {
+        clock,
+        op,
+        tally,
+        bricks: [0u8; 16],
+    }
+}
+
+// Whether a brick is among the m counted upward from the first, wrapping at n.
+pub fn is_target(n: usize, m: usize, first: usize, b: usize) -> bool
+    requires { ⌜ first ≤ n ⌝ }
+    ensures { λ r. ⌜ r ≡ isTarget n m first b ⌝ }
+{
+    if first <= b {
+        return b - first < m;
+    }
+    n - first + b < m
+}
+
+// Whether a reply has a block, and a time, as the rules of its round have them.
+pub fn block_right(phase: u8, target: bool, granted: bool, held: bool, found: u64) -> bool
+    ensures { λ r. ⌜ r ≡ blockRight phase target granted held found ⌝ }
+{
+    if phase == READ {
+        if granted {
+            if target {
+                return held;
+            }
+            return !held;
+        }
+        return !held;
+    }
+    if held {
+        if phase == ORDER_READ {
+            return granted;
+        }
+        return false;
+    }
+    found == 0
+}
+
+// Whether a reply may have found a time: 0 or a valid one.
+fn found_right(t: u64) -> bool
+    ensures { λ r. ⌜ r ≡ foundRight t ⌝ }
+{
+    if t == 0 {
+        return true;
+    }
+    settings::is_time(t)
+}
+
+// Whether what is kept of a counted brick is right.
+fn counted_right(
+    n: usize,
+    m: usize,
+    phase: u8,
+    first: usize,
+    b: usize,
+    granted: u8,
+    held: u8,
+    found: u64,
+) -> bool
+    requires { ⌜ first ≤ n ⌝ }
+    ensures { λ r. ⌜ r ≡ countedRight n m phase first b granted held found ⌝ }
+{
+    if phase <= 0 {
+        return false;
+    }
+    if n <= b {
+        return false;
+    }
+    if 1 < granted {
+        return false;
+    }
+    if 1 < held {
+        return false;
+    }
+    if found_right(found) {
+        let target = is_target(n, m, first, b);
+        return block_right(phase, target, granted == 1, held == 1, found);
+    }
+    false
+}
+
+// Whether what is kept of a brick is right.
+fn entry_right(
+    n: usize,
+    m: usize,
+    phase: u8,
+    first: usize,
+    b: usize,
+    counted: u8,
+    granted: u8,
+    held: u8,
+    found: u64,
+) -> bool
+    requires { ⌜ first ≤ n ⌝ }
+    ensures { λ r. ⌜ r ≡ entryRight n m phase first b counted granted held found ⌝ }
+{
+    if counted == 0 {
+        if granted != 0 {
+            return false;
+        }
+        if held != 0 {
+            return false;
+        }
+        return found == 0;
+    }
+    if counted != 1 {
+        return false;
+    }
+    counted_right(n, m, phase, first, b, granted, held, found)
+}
+
+// Whether what is kept of each brick is right.
+fn tally_right(n: usize, m: usize, phase: u8, first: usize, t: Tally) -> bool
+    requires { ⌜ first ≤ n ⌝ }
+    ensures { λ r. ⌜ r ≡ tallyRight n m phase first t ⌝ }
+{
+    let counted = t.counted;
+    let granted = t.granted;
+    let held = t.held;
+    let found = t.found;
+    let mut b = 0;
+    while b < 16 {
+        if entry_right(
+            n,
+            m,
+            phase,
+            first,
+            b,
+            counted[b],
+            granted[b],
+            held[b],
+            found[b],
+        ) {
+            b += 1;
+        } else {
+            return false;
+        }
+    }
+    true
+}
+
+// Whether a place of a list of k bricks in rising order is right.
+fn brick_right(n: usize, k: usize, i: usize, before: u8, here: u8) -> bool
+    ensures { λ r. ⌜ r ≡ brickRight n k i before here ⌝ }
+{
+    if i < k {
+        if n <= here as usize {
+            return false;
+        }
+        if i == 0 {
+            return true;
+        }
+        return before < here;
+    }
+    here == 0
+}
+
+// Whether a list of k bricks is in rising order, and 0 past them.
+fn bricks_right(n: usize, k: usize, bricks: [u8; 16]) -> bool
+    ensures { λ r. ⌜ r ≡ bricksRight n k bricks ⌝ }
+{
+    let mut before = bricks[0];
+    let mut i = 0;
+    while i < 16 {
+        let here = bricks[i];
+        if brick_right(n, k, i, before, here) {
+            before = here;
+            i += 1;
+        } else {
+            return false;
+        }
+    }
+    true
+}
+
+// Whether max is that of an Order-and-read round.
+fn max_right(round: u64, max: u64) -> bool
+    ensures { λ r. ⌜ r ≡ maxRight round max ⌝ }
+{
+    if round == 2 {
+        return max == settings::NO_UPPER_END;
+    }
+    settings::is_time(max)
+}
+
+// Whether round and max are those of a read's phase.
+fn read_right(op: Op) -> bool
+    ensures { λ r. ⌜ r ≡ readRight op ⌝ }
+{
+    if op.phase == READ {
+        if op.round == 1 {
+            return op.max == 0;
+        }
+        return false;
+    }
+    if op.phase == ORDER_READ {
+        if op.round < 2 {
+            return false;
+        }
+        if message::LAST_ROUND < op.round {
+            return false;
+        }
+        return max_right(op.round, op.max);
+    }
+    stored_right(op)
+}
+
+// The same of a read's Write round.
+fn stored_right(op: Op) -> bool
+    ensures { λ r. ⌜ r ≡ storedRight op ⌝ }
+{
+    if op.phase != WRITE {
+        return false;
+    }
+    if op.round < 3 {
+        return false;
+    }
+    if message::LAST_ROUND < op.round {
+        return false;
+    }
+    op.max == 0
+}
+
+// Whether round, max and first are those of a write's phase.
+fn write_right(op: Op) -> bool
+    ensures { λ r. ⌜ r ≡ writeRight op ⌝ }
+{
+    if op.first != 0 {
+        return false;
+    }
+    if op.max != 0 {
+        return false;
+    }
+    if op.phase == ORDER {
+        return op.round == 1;
+    }
+    if op.phase != WRITE {
+        return false;
+    }
+    op.round == 2
+}
+
+// Whether no field is set.
+fn unset(op: Op) -> bool
+    ensures { λ r. ⌜ r ≡ unsetOp op ⌝ }
+{
+    if op.phase != 0 {
+        return false;
+    }
+    if op.round != 0 {
+        return false;
+    }
+    if op.max != 0 {
+        return false;
+    }
+    op.first == 0
+}
+
+// Whether phase, round, max and first fit the kind of operation.
+fn op_right(op: Op) -> bool
+    ensures { λ r. ⌜ r ≡ opRight op ⌝ }
+{
+    if op.kind == IDLE {
+        return unset(op);
+    }
+    if op.kind == READING {
+        return read_right(op);
+    }
+    if op.kind == WRITING {
+        return write_right(op);
+    }
+    false
+}
+
+// Whether the operation's time is the one drawn last.
+fn time_right(kind: u8, time: u64, clock: Clock) -> bool
+    requires { ⌜ clock .last ≤ maxCount ⌝ }
+    requires { ⌜ clock .coordinator ≤ 15 ⌝ }
+    ensures { λ r. ⌜ r ≡ timeRight kind time clock ⌝ }
+{
+    if kind == IDLE {
+        return time == 0;
+    }
+    if clock.last < 1 {
+        return false;
+    }
+    time == clock.last * 16 + clock.coordinator
+}
+
+// How many bricks are named.
+fn named_count(m: usize, op: Op) -> usize
+    ensures { λ r. ⌜ r ≡ namedCount m op ⌝ }
+{
+    if op.kind == READING {
+        if op.phase == WRITE {
+            return m;
+        }
+    }
+    0
+}
+
+impl Coordinator {
+    // Whether the bricks named and the tally keep their rules.
+    fn filled_right(self, n: usize, m: usize) -> bool
+        requires { ⌜ n ≤ 16 ⌝ }
+        requires { ⌜ self .op .first < n ⌝ }
+        ensures { λ r. ⌜ r ≡ filledRight n m self ⌝ }
+    {
+        let op = self.op;
+        let tally = self.tally;
+        let bricks = self.bricks;
+        if bricks_right(n, named_count(m, op), bricks) {
+            if tally_right(n, m, op.phase, op.first, tally) {
+                let counted = tally.counted;
+                return message::members_of(counted, n) < settings::quorum_of(n, m);
+            }
+        }
+        false
+    }
+
+    // Whether the record keeps every rule. n is at most 16.
+    pub fn sound(self, n: usize, m: usize) -> bool
+        requires { ⌜ n ≤ 16 ⌝ }
+        ensures { λ r. ⌜ r ≡ sound n m self ⌝ }
+    {
+        let clock = self.clock;
+        let op = self.op;
+        if 15 < clock.coordinator {
+            return false;
+        }
+        if settings::MAX_COUNT < clock.last {
+            return false;
+        }
+        if n <= op.first {
+            return false;
+        }
+        if op_right(op) {
+            if time_right(op.kind, op.time, clock) {
+                return self.filled_right(n, m);
+            }
+        }
+        false
+    }
+}

@@ -1,0 +1,49 @@
+use Rattle.coordinator.specs.CheckLaws.{take-code, take-lengths, take-brick, take-rest, ranged, few-bricks}
+use borrow.Author.Needs.{needs}
+use Rattle.coordinator.proofs.take_refusal.Statement.{statement}
+use Rattle.coordinator.proofs.take_refusal.Tie as tie
+use Rattle.coordinator.proofs.take_refusal.Reads as reads
+use Rattle.coordinator.proofs.take_refusal.Lts as lts
+use Rattle.coordinator.proofs.lengths_right.Reads as lengths-right-reads
+use Rattle.coordinator.proofs.stray_refusal.Reads as stray-refusal-reads
+use Rattle.settings.proofs.code_refusal.Reads as code-refusal-reads
+
+-- src/lib.rt:142:9
+code-refusal-requires : tie.Need-code-refusal-requires
+code-refusal-requires c κs = search needs
+
+-- src/lib.rt:144:9
+returns : tie.Need-returns
+returns c = search (needs, take-code)
+
+-- src/lib.rt:146:8
+lengths-right-requires : tie.Need-lengths-right-requires
+lengths-right-requires c κs = ranged _ _ _ _ (c .before .code-refusal .ensures) (c .if1 .left)
+
+-- src/lib.rt:147:9
+returns-2 : tie.Need-returns-2
+returns-2 c = search (needs, take-lengths)
+
+-- src/lib.rt:150:9
+returns-3 : tie.Need-returns-3
+returns-3 c = search (needs, take-brick)
+
+-- src/lib.rt:152:5
+stray-refusal-requires : tie.Need-stray-refusal-requires
+stray-refusal-requires c κs = (few-bricks _ _ _ _ (c .before .before .before .before .before .code-refusal .ensures) (c .before .before .before .before .if1 .left), c .if3 .left)
+
+-- src/lib.rt:129:1
+returns-4 : tie.Need-returns-4
+returns-4 c = search (needs, take-rest)
+
+pub take-refusal-spec : {M : Type 1} → statement M
+take-refusal-spec =
+    tie.close
+    (tie.spec
+    code-refusal-requires
+    returns
+    lengths-right-requires
+    returns-2
+    returns-3
+    stray-refusal-requires
+    returns-4)

@@ -1,0 +1,49 @@
+-- What is decided in a round, by its phase.
+use mathlib.Core.Path.{_≡_, refl}
+use mathlib.Core.Bool.{Bool, true, false, cond, _||_}
+use Prim.Native.Nat.{ℕ}
+use native.Mathlib.Omega.{arith}
+use lib.Dec.{leb, ltb, eqb}
+use borrow.Author.Tests.{eq-eqb, ne-eqb}
+use Rattle.settings.specs.Count.{count}
+use Rattle.settings.specs.Times.{noUpperEnd}
+use Rattle.message.specs.Flags.{members}
+use Rattle.coord_record.specs.Each.{some}
+use Rattle.coord_record.specs.declared.Op.{Op}
+use Rattle.coord_record.specs.declared.Tally.{Tally}
+use Rattle.coord_rounds.specs.Counting.{saidNo, highest, otherTime, missing, atTimes}
+use Rattle.coord_rounds.specs.Deciding.{decidedRead, unlessSpent, decidedAt, decidedRecovery, decided}
+use Rattle.coord_rounds.specs.declared.Decision.{Decision}
+use Rattle.coord_rounds.specs.declared.Decision.the-variants.{Abort, Give, Look, Store, Recover, Finish}
+
+module _ (n m : ℕ) (op : Op) (t : Tally) where
+  pub decided-reading : op .phase ≡ 1
+      → decided n m op t
+      ≡ cond
+        (some (saidNo (t .counted) (t .granted)) n
+        || some (otherTime (t .counted) (t .found) (highest (t .counted) (t .found) n)) n
+        || some (missing n m (op .first) (t .counted)) n)
+        (Look noUpperEnd) Give
+  unfolding decided decidedRead
+  decided-reading e = rw (eq-eqb (op .phase) 1 e) refl
+
+  pub decided-ordering : op .phase ≡ 2 → decided n m op t ≡ cond (some (saidNo (t .counted) (t .granted)) n) Abort Store
+  unfolding decided
+  decided-ordering e = rw (ne-eqb (op .phase) 1 (λ q. omega (arith, q)), eq-eqb (op .phase) 2 e) refl
+
+  pub decided-looking : op .phase ≡ 3
+      → decided n m op t
+      ≡ cond (some (saidNo (t .counted) (t .granted)) n) Abort
+        (cond (eqb (members (t .held) n) 0) Abort
+        (cond (leb m (count (atTimes (t .held) (t .found) (highest (t .held) (t .found) n)) n))
+        (cond (ltb (op .round) 1000) (Recover (highest (t .held) (t .found) n)) Abort)
+        (cond (eqb (highest (t .held) (t .found) n) 0) Abort
+        (cond (ltb (op .round) 1000) (Look (highest (t .held) (t .found) n)) Abort))))
+  unfolding decided decidedRecovery decidedAt unlessSpent
+  decided-looking e =
+      rw (ne-eqb (op .phase) 1 (λ q. omega (arith, q)), ne-eqb (op .phase) 2 (λ q. omega (arith, q)), eq-eqb (op .phase) 3 e) refl
+
+  pub decided-storing : op .phase ≡ 4 → decided n m op t ≡ cond (some (saidNo (t .counted) (t .granted)) n) Abort Finish
+  unfolding decided
+  decided-storing e =
+      rw (ne-eqb (op .phase) 1 (λ q. omega (arith, q)), ne-eqb (op .phase) 2 (λ q. omega (arith, q)), ne-eqb (op .phase) 3 (λ q. omega (arith, q))) refl

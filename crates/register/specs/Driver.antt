@@ -1,0 +1,229 @@
+-- Why the runs are the code's: whoever calls the routines, and does with their answers what a driver does, moves through `run`.
+-- A brick's routine gives `outcome`, a coordinator's the parts `answerOf`, `blocksAfter`, `stripeAfter`, `codedAfter` of its step: so their
+-- contracts say. From these parts alone the world's next state is made.
+use mathlib.Core.Path.{_≡_, refl, sym, ap, ap₂, fun-ext, _∙_}
+use mathlib.Core.Bool.{Bool, true, false, cond}
+use mathlib.Core.List.{List, [], _∷_, _++_, append-nil}
+use Prim.Native.Nat.{ℕ, zero, suc, _*_, _%_}
+use lib.Dec.{leb, ltb, eqb}
+use lib.ListN.{length, replicate}
+use borrow.Author.Tests.{eqb-true}
+use Rattle.settings.specs.Ranges.{quorum}
+use Rattle.settings.specs.Times.{drawOf}
+use Rattle.settings.specs.declared.Clock.{Clock}
+use Rattle.settings.specs.declared.Draw.{Draw}
+use Rattle.settings.specs.declared.Draw.the-variants.{Drawn, Refused}
+use Rattle.settings.specs.declared.Settings.{Settings}
+use Rattle.message.specs.Flags.{members}
+use Rattle.message.specs.Kinds.{writeKind}
+use Rattle.message.specs.declared.Message.{Message}
+use Rattle.message.specs.declared.Reply.{Reply}
+use Rattle.brick.specs.Receive.{Outcome, outcome}
+use Rattle.coord_record.specs.Records.{noBricks}
+use Rattle.coord_rounds.specs.Deciding.{decided}
+use Rattle.coord_rounds.specs.declared.Decision.{Decision}
+use Rattle.coord_rounds.specs.declared.Decision.the-variants.{Abort, Give, Look, Store, Recover, Finish}
+use Rattle.coord_acts.specs.Acts.{blockOf, nextRound, ending, acted, counting, waitingOr, starting}
+use Rattle.coord_acts.specs.Steps.{
+  Held,
+  Broadcast,
+  Went,
+  Step,
+  refused,
+  went,
+  checked,
+  nothingSeen,
+  cutSeen,
+  sentCount,
+  sentMessage,
+  sentBlocks,
+  answerOf,
+  blocksAfter,
+  stripeAfter,
+  codedAfter,
+}
+use Rattle.coord_acts.specs.declared.Answer.{Answer}
+use Rattle.coordinator.specs.Rules.{takeStep, crashStep, crashed, drawnThen, writeStep, readStep}
+use Rattle.order.specs.Claim.{Seen}
+use Rattle.register.specs.Runs.{
+  plain,
+  Item,
+  message,
+  reply,
+  World,
+  Event,
+  startWrite,
+  startRead,
+  crashes,
+  Moved,
+  unmoved,
+  putAt,
+  seenOf,
+  blockFor,
+  toAll,
+  broadcasts,
+  coordinated,
+  received,
+  arriving,
+  step,
+}
+
+-- What a driver does with a coordinator's answer, and the buffers it had lent: it keeps the record, sends the message to all n bricks
+-- with the blocks of the output buffer, and notes what is seen.
+unfoldable pub driven : (s : Settings) → World → ℕ → Answer → (blocks stripe coded : List ℕ) → Moved s
+driven s w c a blocks stripe coded =
+    record {
+      world = record {
+        images = w .images;
+        up = w .up;
+        coordinators = putAt (w .coordinators) c (record { state = a .next; blocks = blocks; stripe = stripe });
+        sent = w .sent ++ cond (eqb (a .sent) 0) [] (toAll s (record { message = a .message; blocks = coded }) (s .n));
+      };
+      seen = seenOf s (a .seen) stripe;
+    }
+
+-- one broadcast at most
+pub data AtMostOne : List Broadcast → Type 0 where
+  none : AtMostOne []
+  one : (b : Broadcast) → AtMostOne (b ∷ [])
+
+-- a step that sends one broadcast at most
+abbrev pub Short : Step → Type 0
+Short (refused number) = Unit {0}
+Short (went w) = AtMostOne (w .sent)
+
+put-same : {A : Type 0} (f : ℕ → A) (c : ℕ) → putAt f c (f c) ≡ f
+unfolding putAt
+put-same f c = fun-ext (λ j. go j (eqb j c) refl)
+  where
+    go : (j : ℕ) (b : Bool) → eqb j c ≡ b → cond b (f c) (f j) ≡ f j
+    go j true e = ap f (sym (eqb-true j c e))
+    go j false e = refl
+
+-- only a Write round has blocks
+same-block : (s : Settings) (b : Broadcast) (old : List ℕ) (j : ℕ)
+    → blockFor s b j ≡ blockFor s (record { message = b .message; blocks = cond (eqb (b .message .kind) writeKind) (b .blocks) old }) j
+unfolding blockFor
+same-block s b old j = go (eqb (b .message .kind) 4)
+  where
+    go : (a : Bool) → cond a (blockOf (s .size) (b .blocks) j) (replicate (s .size) 0) ≡ cond a (blockOf (s .size) (cond a (b .blocks) old) j) (replicate (s .size) 0)
+    go true = refl
+    go false = refl
+
+same-items : (s : Settings) (b : Broadcast) (old : List ℕ) (k : ℕ)
+    → toAll s b k ≡ toAll s (record { message = b .message; blocks = cond (eqb (b .message .kind) writeKind) (b .blocks) old }) k
+unfolding toAll
+same-items s b old zero = refl
+same-items s b old (suc k) =
+    ap₂ (λ (l : List Item) (block : List ℕ). l ++ message k (b .message) block ∷ []) (same-items s b old k) (same-block s b old k)
+
+same-sent : (s : Settings) (old : List ℕ) {l : List Broadcast} → AtMostOne l
+    → broadcasts s l ≡ cond (eqb (sentCount l) 0) [] (toAll s (record { message = sentMessage l; blocks = sentBlocks l old }) (s .n))
+unfolding broadcasts sentCount sentMessage sentBlocks
+same-sent s old none = refl
+same-sent s old (one b) = append-nil (toAll s b (s .n)) ∙ same-items s b old (s .n)
+
+-- A coordinator's step in the world is what the driver makes of the routine's answer and buffers.
+pub coordinated-is-driven : (s : Settings) (w : World) (c : ℕ) (p : Step) (old : List ℕ) → Short p
+    → coordinated s w c p
+    ≡ driven s w c (answerOf (w .coordinators c .state) p) (blocksAfter (w .coordinators c) p) (stripeAfter (w .coordinators c) p) (codedAfter old p)
+unfolding coordinated driven unmoved answerOf blocksAfter stripeAfter codedAfter nothingSeen seenOf
+coordinated-is-driven s w c (refused number) old h =
+    ap₂ (λ (f : ℕ → Held) (l : List Item). makes f l []) (sym (put-same (w .coordinators) c)) (sym (append-nil (w .sent)))
+  where
+    makes : (ℕ → Held) → List Item → List (Seen (plain s)) → Moved s
+    makes f l seen = record { world = record { images = w .images; up = w .up; coordinators = f; sent = l }; seen = seen }
+coordinated-is-driven s w c (went g) old h =
+    ap (λ (l : List Item). makes (putAt (w .coordinators) c (g .next)) (w .sent ++ l) (seenOf s (g .seen) (g .next .stripe))) (same-sent s old h)
+  where
+    makes : (ℕ → Held) → List Item → List (Seen (plain s)) → Moved s
+    makes f l seen = record { world = record { images = w .images; up = w .up; coordinators = f; sent = l }; seen = seen }
+
+-- the routines send one broadcast at most
+checked-short : (k : ℕ) (p : Step) → Short p → Short (checked k p)
+unfolding checked
+checked-short k p h = go (leb k 0)
+  where
+    go : (a : Bool) → Short (cond a p (refused k))
+    go true = h
+    go false = tt
+
+drawn-short : (d : Draw) (f : ℕ → Clock → Went) → ((t : ℕ) (c : Clock) → AtMostOne (f t c .sent)) → Short (drawnThen d f)
+unfolding drawnThen
+drawn-short (Drawn t c) f h = h t c
+drawn-short (Refused k) f h = tt
+
+module _ (n m size : ℕ) (k : Held) where
+  acted-short : (d : Decision) → AtMostOne (acted n m size k d .sent)
+  unfolding acted nextRound ending
+  acted-short Abort = none
+  acted-short Give = none
+  acted-short (Look max) = one _
+  acted-short Store = one _
+  acted-short (Recover t) = one _
+  acted-short Finish = one _
+
+  waiting-short : AtMostOne (waitingOr n m size k .sent)
+  unfolding waitingOr
+  waiting-short = go (ltb (members (k .state .tally .counted) n) (quorum n m))
+    where
+      go : (a : Bool)
+          → AtMostOne (cond a (record { next = k; sent = []; seen = nothingSeen }) (acted n m size k (decided n m (k .state .op) (k .state .tally))) .sent)
+      go true = none
+      go false = acted-short (decided n m (k .state .op) (k .state .tally))
+
+  pub write-short : (reading : ℕ) (content : List ℕ) → Short (writeStep n m size k reading content)
+  unfolding writeStep starting
+  write-short reading content = checked-short _ _ (drawn-short (drawOf (k .state .clock) reading) _ (λ t c. one _))
+
+  pub read-short : (reading first : ℕ) → Short (readStep n m size k reading first)
+  unfolding readStep starting
+  read-short reading first = checked-short _ _ (drawn-short (drawOf (k .state .clock) reading) _ (λ t c. one _))
+
+  pub crash-short : Short (crashStep n m size k)
+  unfolding crashStep crashed ending
+  crash-short = checked-short _ (went (crashed k)) (go (eqb (k .state .op .kind) 0))
+    where
+      go : (a : Bool) → AtMostOne (cond a (record { next = k; sent = []; seen = nothingSeen }) (ending k (k .stripe) [] cutSeen noBricks) .sent)
+      go true = none
+      go false = none
+
+pub take-short : (n m size : ℕ) (k : Held) (r : Reply) (block : List ℕ) (coded : ℕ) → Short (takeStep n m size k r block coded)
+unfolding takeStep
+take-short n m size k r block coded = checked-short _ (went (waitingOr n m size (counting size k r block))) (waiting-short n m size (counting size k r block))
+
+-- The events of a run, as calls: each is what the driver makes of the routine's answer. A reply, a start, a crash:
+module _ (s : Settings) (w : World) (old : List ℕ) where
+  -- what the driver makes of a routine whose contract gives the parts of this step
+  abbrev pub called : ℕ → Step → Moved s
+  called c p =
+      driven s w c (answerOf (w .coordinators c .state) p) (blocksAfter (w .coordinators c) p) (stripeAfter (w .coordinators c) p) (codedAfter old p)
+
+  pub reply-called : (r : Reply) (block : List ℕ)
+      → arriving s w (reply r block)
+      ≡ called (r .time % 16) (takeStep (s .n) (s .m) (s .size) (w .coordinators (r .time % 16)) r block (s .n * s .size))
+  unfolding arriving
+  reply-called r block =
+      coordinated-is-driven s w (r .time % 16) _ old
+      (take-short (s .n) (s .m) (s .size) (w .coordinators (r .time % 16)) r block (s .n * s .size))
+
+  pub write-called : (c reading : ℕ) (content : List ℕ) (small : _)
+      → step s w (startWrite c reading content small) ≡ called c (writeStep (s .n) (s .m) (s .size) (w .coordinators c) reading content)
+  unfolding step
+  write-called c reading content small =
+      coordinated-is-driven s w c _ old (write-short (s .n) (s .m) (s .size) (w .coordinators c) reading content)
+
+  pub read-called : (c reading first : ℕ)
+      → step s w (startRead c reading first) ≡ called c (readStep (s .n) (s .m) (s .size) (w .coordinators c) reading first)
+  unfolding step
+  read-called c reading first = coordinated-is-driven s w c _ old (read-short (s .n) (s .m) (s .size) (w .coordinators c) reading first)
+
+  pub crash-called : (c : ℕ) → step s w (crashes c) ≡ called c (crashStep (s .n) (s .m) (s .size) (w .coordinators c))
+  unfolding step
+  crash-called c = coordinated-is-driven s w c _ old (crash-short (s .n) (s .m) (s .size) (w .coordinators c))
+
+  -- and a message at a brick that is up, by the answer, the image and the reply's buffer that its routine leaves
+  pub message-called : (b : ℕ) (msg : Message) (block : List ℕ) → w .up b ≡ true
+      → arriving s w (message b msg block) ≡ received s w b (outcome s b (w .images b) msg block (replicate (s .size) 0))
+  unfolding arriving
+  message-called b msg block e = rw e refl

@@ -1,0 +1,182 @@
+-- Document 01, "A run and its order": the set, its events, and what is seen of a run. Each event works on what the one before left, by the
+-- very definitions that the contracts of a brick and of a coordinator cite.
+use mathlib.Core.Bool.{Bool, true, false, cond}
+use mathlib.Core.List.{List, [], _∷_, _++_}
+use Prim.Native.Nat.{ℕ, zero, suc, _*_, _%_}
+use lib.Dec.{eqb, ltb}
+use lib.ListN.{replicate}
+use Rattle.settings.specs.declared.Settings.{Settings}
+use Rattle.settings.specs.declared.Clock.{Clock}
+use Rattle.little.specs.LittleLaws.{Bytes}
+use Rattle.message.specs.Kinds.{writeKind}
+use Rattle.message.specs.declared.Message.{Message}
+use Rattle.message.specs.declared.Reply.{Reply}
+use Rattle.image.specs.Brick
+use Rattle.image.specs.Image.{imageOf}
+use Rattle.brick.specs.Receive.{Outcome, outcome}
+use Rattle.brick.specs.declared.Given.{Given}
+use Rattle.brick.specs.declared.Given.the-variants.{Answered, Silent, Refused}
+use Rattle.coord_record.specs.Records.{readingKind, idleWith}
+use Rattle.coord_acts.specs.Acts.{blockOf}
+use Rattle.coord_acts.specs.Steps.{Held, Broadcast, Went, Step, refused, went, beganSeen, okSeen, readSeen, abortedSeen, cutSeen}
+use Rattle.coord_acts.specs.declared.Seen.{Seen as Shown}
+use Rattle.coordinator.specs.Rules.{takeStep, crashStep, writeStep, readStep}
+use Rattle.order.specs.Claim.{Plain, Action, read, write, ok, bytes, stripe, finished, aborted, cut, Seen, OneOrder}
+
+-- "The plain stripe is m blocks, zeros at first."
+unfoldable pub zeroStripe : Settings → List ℕ
+zeroStripe s = replicate (s .m * s .size) 0
+
+abbrev pub plain : Settings → Plain
+plain s = stripe (List ℕ) (zeroStripe s)
+
+-- What was sent: a message to a brick, or a reply, which goes to the coordinator in its time; each with its block.
+pub data Item : Type 0 where
+  message : ℕ → Message → List ℕ → Item
+  reply : Reply → List ℕ → Item
+
+-- "images, coordinator records, sent messages and up or down bricks": the images by brick, the coordinators with their buffers by number,
+-- what was sent in the order of sending.
+pub record World : Type 0 where
+  pub images : ℕ → List ℕ
+  pub up : ℕ → Bool
+  pub coordinators : ℕ → Held
+  pub sent : List Item
+
+-- "fresh images, all bricks up, 16 idle coordinators with last count 0, nothing sent"
+-- (a coordinator above 15 is refused by each routine, as 3, and so never does anything)
+unfoldable pub idle : Settings → ℕ → Held
+idle s c =
+    record {
+      state = idleWith (record { coordinator = c; last = 0 });
+      blocks = replicate (s .n * s .size) 0;
+      stripe = replicate (s .m * s .size) 0;
+    }
+
+unfoldable pub fresh : Settings → World
+fresh s = record { images = λ (b : ℕ). imageOf s b (Brick.fresh s); up = λ (b : ℕ). true; coordinators = idle s; sent = [] }
+
+-- "a read or write started at a coordinator with any clock reading" (a write with its bytes, a read with the brick that its targets are
+-- counted from), "a sent message reaching its brick, a sent reply reaching its coordinator" (both by place among what was sent, from 0),
+-- "a coordinator's crash, a brick going down or coming up"
+pub data Event : Type 0 where
+  startWrite : (coordinator reading : ℕ) (content : List ℕ) → Bytes content → Event
+  startRead : (coordinator reading first : ℕ) → Event
+  arrives : ℕ → Event
+  crashes : ℕ → Event
+  goesDown : ℕ → Event
+  comesUp : ℕ → Event
+
+-- What an event leaves, and what is seen of it: an operation beginning or ending, or nothing.
+pub record Moved (s : Settings) : Type 0 where
+  pub world : World
+  pub seen : List (Seen (plain s))
+
+-- nothing is changed and nothing is seen
+unfoldable pub unmoved : (s : Settings) → World → Moved s
+unmoved s w = record { world = w; seen = [] }
+
+-- a function with another value at one place
+unfoldable pub putAt : {A : Type 0} → (ℕ → A) → ℕ → A → ℕ → A
+putAt f k a j = cond (eqb j k) a (f j)
+
+-- "An operation is a start that isn't refused; it begins there. It is finished at the event that answers ok or gives what was read,
+-- aborted at the event that answers abort, cut at a crash of its coordinator before either". The stripe is the buffer beside the record.
+unfoldable pub seenOf : (s : Settings) → Shown → List ℕ → List (Seen (plain s))
+seenOf s e kept =
+    cond (eqb (e .what) beganSeen) (Seen.began (e .time) (cond (eqb (e .kind) readingKind) read (write kept)) ∷ [])
+    (cond (eqb (e .what) okSeen) (Seen.ended (e .time) (finished ok) ∷ [])
+    (cond (eqb (e .what) readSeen) (Seen.ended (e .time) (finished (bytes kept)) ∷ [])
+    (cond (eqb (e .what) abortedSeen) (Seen.ended (e .time) aborted ∷ [])
+    (cond (eqb (e .what) cutSeen) (Seen.ended (e .time) cut ∷ []) []))))
+
+-- the block that goes to brick b with a broadcast: its own in a Write round; other messages have no use for theirs
+unfoldable pub blockFor : Settings → Broadcast → ℕ → List ℕ
+blockFor s c b = cond (eqb (c .message .kind) writeKind) (blockOf (s .size) (c .blocks) b) (replicate (s .size) 0)
+
+-- a broadcast is one message to each of the first k bricks
+unfoldable pub toAll : Settings → Broadcast → ℕ → List Item
+toAll s c zero = []
+toAll s c (suc k) = toAll s c k ++ message k (c .message) (blockFor s c k) ∷ []
+
+unfoldable pub broadcasts : Settings → List Broadcast → List Item
+broadcasts s [] = []
+broadcasts s (c ∷ cs) = toAll s c (s .n) ++ broadcasts s cs
+
+-- What a coordinator's routine does in the world; "refused events .. change nothing".
+unfoldable pub coordinated : (s : Settings) → World → ℕ → Step → Moved s
+coordinated s w c (refused number) = unmoved s w
+coordinated s w c (went g) =
+    record {
+      world = record {
+        images = w .images;
+        up = w .up;
+        coordinators = putAt (w .coordinators) c (g .next);
+        sent = w .sent ++ broadcasts s (g .sent);
+      };
+      seen = seenOf s (g .seen) (g .next .stripe);
+    }
+
+-- What a brick's routine does in the world.
+unfoldable pub repliedWith : Given → List ℕ → List Item
+repliedWith (Answered r) out = reply r out ∷ []
+repliedWith Silent out = []
+repliedWith (Refused number) out = []
+
+unfoldable pub received : (s : Settings) → World → ℕ → Outcome → Moved s
+received s w b o =
+    record {
+      world = record {
+        images = putAt (w .images) b (o .image);
+        up = w .up;
+        coordinators = w .coordinators;
+        sent = w .sent ++ repliedWith (o .given) (o .out);
+      };
+      seen = [];
+    }
+
+-- "What was sent arrives unaltered, in any order, any number of times or never; at a down brick it is lost."
+unfoldable pub arriving : (s : Settings) → World → Item → Moved s
+arriving s w (message b msg block) =
+    cond (w .up b) (received s w b (outcome s b (w .images b) msg block (replicate (s .size) 0))) (unmoved s w)
+arriving s w (reply r block) =
+    coordinated s w (r .time % 16)
+    (takeStep (s .n) (s .m) (s .size) (w .coordinators (r .time % 16)) r block (s .n * s .size))
+
+-- the item at a place, if so many were sent: "one naming a message not sent so far" changes nothing
+unfoldable pub arrivingAt : (s : Settings) → World → List Item → ℕ → Moved s
+arrivingAt s w [] k = unmoved s w
+arrivingAt s w (i ∷ is) zero = arriving s w i
+arrivingAt s w (i ∷ is) (suc k) = arrivingAt s w is k
+
+-- a brick goes down or comes up; refused, as 3, if there is no such brick
+unfoldable pub standing : (s : Settings) → World → ℕ → Bool → Moved s
+standing s w b how =
+    cond (ltb b (s .n))
+    (record { world = record { images = w .images; up = putAt (w .up) b how; coordinators = w .coordinators; sent = w .sent }; seen = [] })
+    (unmoved s w)
+
+unfoldable pub step : (s : Settings) → World → Event → Moved s
+step s w (startWrite c reading content small) =
+    coordinated s w c (writeStep (s .n) (s .m) (s .size) (w .coordinators c) reading content)
+step s w (startRead c reading first) = coordinated s w c (readStep (s .n) (s .m) (s .size) (w .coordinators c) reading first)
+step s w (arrives k) = arrivingAt s w (w .sent) k
+step s w (crashes c) = coordinated s w c (crashStep (s .n) (s .m) (s .size) (w .coordinators c))
+step s w (goesDown b) = standing s w b false
+step s w (comesUp b) = standing s w b true
+
+-- one event after what came before
+unfoldable pub next : (s : Settings) → Moved s → Event → Moved s
+next s r e = record { world = step s (r .world) e .world; seen = r .seen ++ step s (r .world) e .seen }
+
+unfoldable pub runFrom : (s : Settings) → Moved s → List Event → Moved s
+runFrom s r [] = r
+runFrom s r (e ∷ es) = runFrom s (next s r e) es
+
+-- "A run is a list of events on one set .. It starts fresh".
+unfoldable pub run : (s : Settings) → List Event → Moved s
+run s events = runFrom s (unmoved s (fresh s)) events
+
+-- Demand 3 of a run.
+abbrev pub RunHasOneOrder : (s : Settings) → List Event → Type 0
+RunHasOneOrder s events = OneOrder (plain s) (run s events .seen)
