@@ -1,4 +1,4 @@
--- try
+-- Document 01, "The bench": its worked case as a list of events, computed by the checker on `run`: cut, 00, 00. To compute, every definition is opened.
 use mathlib.Core.Path.{_≡_, refl}
 use mathlib.Core.List.{List, [], _∷_}
 use Prim.Native.Nat.{ℕ}

@@ -43,15 +43,16 @@ Goes s g r m = (h : Hist s) × Inv s g h (joined s r m)
 -- an event that changes nothing
 pub goes-unmoved : (s : Settings) (g : SettingsRange s) (h : Hist s) (r : Moved s) → Inv s g h r → Goes s g r (unmoved s (r .world))
 unfolding unmoved
-goes-unmoved s g h r i =
-    (h,
-    record {
-      valid = i .valid;
-      seen-is = i .seen-is ∙ sym (append-nil (r .seen));
-      bricks = i .bricks;
-      items = i .items;
-      coordinators = i .coordinators;
-    })
+goes-unmoved s g h r i = (
+  h,
+  record {
+    valid = i .valid;
+    seen-is = i .seen-is ∙ sym (append-nil (r .seen));
+    bricks = i .bricks;
+    items = i .items;
+    coordinators = i .coordinators;
+  },
+)
 
 -- a function with another value at one place
 pub put-here : {A : Type 0} (f : ℕ → A) (k : ℕ) (a : A) → putAt f k a k ≡ a
@@ -66,9 +67,16 @@ put-there f k a j n = rw (ne-eqb j k n) refl
 pub in-range : (s : Settings) → SettingsRange s → inRange s ≡ true
 unfolding inRange bricksInRange sizeInRange capacityInRange
 in-range s g =
-    rw (le-leb 1 (s .n) (g .code .n-low), le-leb (s .n) 16 (g .code .n-high), le-leb 1 (s .m) (g .code .m-low), le-leb (s .m) (s .n) (g .code .m-high),
-    le-leb 1 (s .size) (g .code .size-low), le-leb (s .size) 256 (g .code .size-high), le-leb 2 (s .capacity) (g .capacity-low),
-    le-leb (s .capacity) 32 (g .capacity-high)) refl
+    rw (
+      le-leb 1 (s .n) (g .code .n-low),
+      le-leb (s .n) 16 (g .code .n-high),
+      le-leb 1 (s .m) (g .code .m-low),
+      le-leb (s .m) (s .n) (g .code .m-high),
+      le-leb 1 (s .size) (g .code .size-low),
+      le-leb (s .size) 256 (g .code .size-high),
+      le-leb 2 (s .capacity) (g .capacity-low),
+      le-leb (s .capacity) 32 (g .capacity-high),
+    ) refl
 
 -- a chain of checks that none refuses
 pub first-passed : (k : ℕ) (l : List ℕ) → firstRefusal (k ∷ l) ≡ 0 → (k ≡ 0) × (firstRefusal l ≡ 0)
@@ -158,10 +166,11 @@ module _ (s : Settings) (g : SettingsRange s) (h : Hist s) (r : Moved s) (i : In
 
       acts : Received s g h (r .world .sent) b x msg block out
           → Goes s g r (received s (r .world) b (Receive.acted s b msg block image out (Opens x)))
-      acts w =
-          (w .later,
-          brick-moved b (Receive.acted s b msg block image out (Opens x)) (w .later) (w .grows)
-          (record { state = after s x msg block; saved = refl; sound = w .sound; keeps = w .keeps }) (λ k m. answered k (eqb (msg .kind) 5) refl m))
+      acts w = (
+        w .later,
+        brick-moved b (Receive.acted s b msg block image out (Opens x)) (w .later) (w .grows)
+            (record { state = after s x msg block; saved = refl; sound = w .sound; keeps = w .keeps }) (λ k m. answered k (eqb (msg .kind) 5) refl m),
+      )
         where
           answered : (k : Item) (a : Bool) → eqb (msg .kind) 5 ≡ a
               → k ∈ repliedWith (cond a Silent (Answered (replyTo s b x msg))) (blockAfter x (placeFor b x msg) out)

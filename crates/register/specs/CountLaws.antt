@@ -15,6 +15,7 @@ use Rattle.settings.specs.Count.{one-if}
 use Rattle.settings.specs.Ranges.{codeRefusal}
 use Rattle.settings.specs.RangeLaws.{SettingsRange, and-left, and-right}
 use Rattle.settings.specs.Refusal.{refuseUnless, firstRefusal}
+use Rattle.settings.specs.Times.{validTime}
 use Rattle.settings.specs.declared.Settings.{Settings}
 use Rattle.message.specs.Flags.{member}
 use Rattle.message.specs.Messages.{roundRight, foundRight, replyRight, replyRefusal}
@@ -39,6 +40,7 @@ pub record Taken (s : Settings) (k : Held) (r : Reply) (block : List ℕ) : Type
   pub coordinator-low : k .state .clock .coordinator ≤ 15
   pub sound-is : sound (s .n) (s .m) (k .state) ≡ true
   pub kind-low : 1 ≤ r .kind
+  pub found-right : foundRight (r .found) ≡ true
   pub kind-is : r .kind ≡ k .state .op .phase
   pub time-is : r .time ≡ k .state .op .time
   pub round-is : r .round ≡ k .state .op .round
@@ -73,6 +75,7 @@ taken s k r block coded e =
       coordinator-low = leb-true (k .state .clock .coordinator) 15 (unless-passed (leb (k .state .clock .coordinator) 15) 2 (d .0));
       sound-is = unless-passed (sound (s .n) (s .m) (k .state)) 5 (f .0);
       kind-low = leb-true 1 (r .kind) (and-left _ _ (and-left _ _ (and-left _ _ (and-left _ _ rep))));
+      found-right = and-right (leb 1 (r .kind) && leb (r .kind) 4 && validTime (r .time) && roundRight (r .round)) _ rep;
       kind-is = eqb-true (r .kind) (k .state .op .phase) (and-left _ _ a3);
       time-is = eqb-true (r .time) (k .state .op .time) (and-right (eqb (r .kind) (k .state .op .phase)) _ a3);
       round-is = eqb-true (r .round) (k .state .op .round) (and-right (eqb (r .kind) (k .state .op .phase) && eqb (r .time) (k .state .op .time)) _ a2);

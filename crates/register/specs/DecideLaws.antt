@@ -52,15 +52,15 @@ fit op e l = go (eqb (op .kind) 0) (eqb (op .kind) 1) refl refl e
   where
     go : (a b : Bool) → eqb (op .kind) 0 ≡ a → eqb (op .kind) 1 ≡ b
         → cond a (eqb (op .phase) 0 && eqb (op .round) 0 && eqb (op .max) 0 && eqb (op .first) 0)
-          (cond b (readRight op) (eqb (op .kind) 2 && writeRight op)) ≡ true
+        (cond b (readRight op) (eqb (op .kind) 2 && writeRight op)) ≡ true
         → Fit op
     go true b ea eb q = absurd (omega (arith, eqb-true (op .phase) 0 (and-left _ _ (and-left _ _ (and-left _ _ q)))))
     go false true ea eb q = read-phase (eqb (op .phase) 1) (eqb (op .phase) 3) refl refl q
       where
         read-phase : (x y : Bool) → eqb (op .phase) 1 ≡ x → eqb (op .phase) 3 ≡ y
             → cond x (eqb (op .round) 1 && eqb (op .max) 0)
-              (cond y (leb 2 (op .round) && leb (op .round) 1000 && maxRight (op .round) (op .max))
-              (eqb (op .phase) 4 && leb 3 (op .round) && leb (op .round) 1000 && eqb (op .max) 0)) ≡ true
+            (cond y (leb 2 (op .round) && leb (op .round) 1000 && maxRight (op .round) (op .max))
+            (eqb (op .phase) 4 && leb 3 (op .round) && leb (op .round) 1000 && eqb (op .max) 0)) ≡ true
             → Fit op
         read-phase true y ex ey w = reading (eqb-true (op .kind) 1 eb) (eqb-true (op .phase) 1 ex)
         read-phase false true ex ey w = looking (eqb-true (op .kind) 1 eb) (eqb-true (op .phase) 3 ey)
@@ -100,7 +100,7 @@ sound-op s k e =
   where
     time : (a : Bool) → eqb (k .state .op .kind) 0 ≡ a
         → cond a (eqb (k .state .op .time) 0)
-          (leb 1 (k .state .clock .last) && eqb (k .state .op .time) (k .state .clock .last * 16 + k .state .clock .coordinator)) ≡ true
+        (leb 1 (k .state .clock .last) && eqb (k .state .op .time) (k .state .clock .last * 16 + k .state .clock .coordinator)) ≡ true
         → k .state .clock .last ≤ 2 ^ 40 - 1 → 1 ≤ k .state .op .kind → k .state .clock .coordinator ≤ 15 → k .state .op .time < 2 ^ 44
     time true ea q l p w = absurd (omega (arith, eqb-true (k .state .op .kind) 0 ea))
     time false ea q l p w =
@@ -182,7 +182,7 @@ module _ (s : Settings) (g : SettingsRange s) (h : Hist s) (sent : List Item) (c
 
       messages : (b : ℕ) → b < s .n
           → MessageInv s g later b (roundMessage (nextOp (k .state .op) 4 0) noBricks)
-            (blockFor s (record { message = roundMessage (nextOp (k .state .op) 4 0) noBricks; blocks = codedOf (s .n) (s .m) (s .size) stripe }) b)
+          (blockFor s (record { message = roundMessage (nextOp (k .state .op) 4 0) noBricks; blocks = codedOf (s .n) (s .m) (s .size) stripe }) b)
       messages b l =
           unfold roundMessage nextOp blockFor in
           (record {
@@ -257,7 +257,7 @@ module _ (s : Settings) (g : SettingsRange s) (h : Hist s) (sent : List Item) (c
       → some (saidNo (k .state .tally .counted) (k .state .tally .granted)) (s .n) ≡ false
       → quorum (s .n) (s .m) ≤ members (k .state .tally .counted) (s .n)
       → Turned s g h sent c
-        (ending k (k .stripe) (record { message = trimMessage (k .state .op); blocks = [] } ∷ []) (finishedSeen (k .state .op)) (k .state .bricks))
+      (ending k (k .stripe) (record { message = trimMessage (k .state .op); blocks = [] } ∷ []) (finishedSeen (k .state .op)) (k .state .bricks))
   unfolding changed given
   does-finish (inl kind) phase yeses enough =
       let many = stored-quorum phase yeses enough in
@@ -266,9 +266,10 @@ module _ (s : Settings) (g : SettingsRange s) (h : Hist s) (sent : List Item) (c
       (record {
         known = now .known;
         running = now .unended;
-        answer =
-            (inr many,
-            record { kind = read; asked = now .reads kind; keeps = λ z. refl; stripe = k .stripe; value = now .storing phase .1; bytes = refl });
+        answer = (
+          inr many,
+          record { kind = read; asked = now .reads kind; keeps = λ z. refl; stripe = k .stripe; value = now .storing phase .1; bytes = refl },
+        );
       })
       (unfold ending seenOf shows outcome finishedSeen in rw (eq-eqb (k .state .op .kind) 1 kind) refl)
       (trims many (recovered (bytes (k .stripe)))) owns

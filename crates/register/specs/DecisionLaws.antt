@@ -20,10 +20,10 @@ module _ (n m : ℕ) (op : Op) (t : Tally) where
   pub decided-reading : op .phase ≡ 1
       → decided n m op t
       ≡ cond
-        (some (saidNo (t .counted) (t .granted)) n
-        || some (otherTime (t .counted) (t .found) (highest (t .counted) (t .found) n)) n
-        || some (missing n m (op .first) (t .counted)) n)
-        (Look noUpperEnd) Give
+      (some (saidNo (t .counted) (t .granted)) n
+      || some (otherTime (t .counted) (t .found) (highest (t .counted) (t .found) n)) n
+      || some (missing n m (op .first) (t .counted)) n)
+      (Look noUpperEnd) Give
   unfolding decided decidedRead
   decided-reading e = rw (eq-eqb (op .phase) 1 e) refl
 
@@ -34,11 +34,11 @@ module _ (n m : ℕ) (op : Op) (t : Tally) where
   pub decided-looking : op .phase ≡ 3
       → decided n m op t
       ≡ cond (some (saidNo (t .counted) (t .granted)) n) Abort
-        (cond (eqb (members (t .held) n) 0) Abort
-        (cond (leb m (count (atTimes (t .held) (t .found) (highest (t .held) (t .found) n)) n))
-        (cond (ltb (op .round) 1000) (Recover (highest (t .held) (t .found) n)) Abort)
-        (cond (eqb (highest (t .held) (t .found) n) 0) Abort
-        (cond (ltb (op .round) 1000) (Look (highest (t .held) (t .found) n)) Abort))))
+      (cond (eqb (members (t .held) n) 0) Abort
+      (cond (leb m (count (atTimes (t .held) (t .found) (highest (t .held) (t .found) n)) n))
+      (cond (ltb (op .round) 1000) (Recover (highest (t .held) (t .found) n)) Abort)
+      (cond (eqb (highest (t .held) (t .found) n) 0) Abort
+      (cond (ltb (op .round) 1000) (Look (highest (t .held) (t .found) n)) Abort))))
   unfolding decided decidedRecovery decidedAt unlessSpent
   decided-looking e =
       rw (ne-eqb (op .phase) 1 (λ q. omega (arith, q)), ne-eqb (op .phase) 2 (λ q. omega (arith, q)), eq-eqb (op .phase) 3 e) refl

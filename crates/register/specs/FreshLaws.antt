@@ -98,14 +98,15 @@ module _ (s : Settings) (g : SettingsRange s) where
       record {
         bounded = λ t p. absurd (in-none p);
         entries = λ e m.
-            subst (λ (z : LogEntry). Stands {P = plain s} [] b (z .time) × Means s [] (z .time) b (z .block)) (sym (List·Memᴰ·eq-of-singleton m))
-            (inl refl,
-            record {
-              full = replicate (s .m * s .size) 0;
-              value = Val.fresh;
-              proper = zero-stripe s g;
-              coded = zeros-are (s .size) ∙ zero-block s g b l;
-            });
+            subst (λ (z : LogEntry). Stands {P = plain s} [] b (z .time) × Means s [] (z .time) b (z .block)) (sym (List·Memᴰ·eq-of-singleton m)) (
+              inl refl,
+              record {
+                full = replicate (s .m * s .size) 0;
+                value = Val.fresh;
+                proper = zero-stripe s g;
+                coded = zeros-are (s .size) ∙ zero-block s g b l;
+              },
+            );
         kept = λ u w. keep u w;
       }
     where

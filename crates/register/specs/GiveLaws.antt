@@ -38,17 +38,18 @@ module _ (s : Settings) (g : SettingsRange s) (h : Hist s) (sent : List Item) (c
       → some (otherTime (k .state .tally .counted) (k .state .tally .found) (highest (k .state .tally .counted) (k .state .tally .found) (s .n))) (s .n) ≡ false
       → some (missing (s .n) (s .m) (k .state .op .first) (k .state .tally .counted)) (s .n) ≡ false
       → Turned s g h sent c
-        (ending k (stripeFrom (s .m) (s .size) (targetRow (s .n) (s .m) (k .state .op .first)) (k .blocks)) [] readSeen (targetRow (s .n) (s .m) (k .state .op .first)))
+      (ending k (stripeFrom (s .m) (s .size) (targetRow (s .n) (s .m) (k .state .op .first)) (k .blocks)) [] readSeen (targetRow (s .n) (s .m) (k .state .op .first)))
   unfolding changed given
   does-give kind phase yeses same there =
       ends s g h sent c k i v (one-round newest (bytes stripe)) stripe [] readSeen row (r .own)
       (record {
         known = r .known;
         running = r .unended;
-        answer =
-            (r .unsent (λ e. omega (arith, e)),
-            quorum-of s g h sent c k v i items n (λ (b : ℕ). In (showed b (k .state .op .time) newest) h) enough shown,
-            record { kind = read; asked = r .reads kind; keeps = λ z. refl; stripe = d .0; value = d .1; bytes = ap bytes (d .3) });
+        answer = (
+          r .unsent (λ e. omega (arith, e)),
+          quorum-of s g h sent c k v i items n (λ (b : ℕ). In (showed b (k .state .op .time) newest) h) enough shown,
+          record { kind = read; asked = r .reads kind; keeps = λ z. refl; stripe = d .0; value = d .1; bytes = ap bytes (d .3) },
+        );
       })
       (unfold ending seenOf shows outcome in refl)
       (λ z m. absurd (unfold broadcasts in List·Memᴰ·not-nil m)) (λ b msg block m. absurd (unfold broadcasts in List·Memᴰ·not-nil m))

@@ -22,3 +22,6 @@ pub mod OrderUse
 pub mod Corollaries
 pub mod Bench
 pub mod Driver
+pub mod RecordLaws
+pub mod RecordEvent
+pub mod NeverRefused

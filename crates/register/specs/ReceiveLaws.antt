@@ -64,7 +64,7 @@ sensible n m msg e = go (validTime (msg .time)) (roundRight (msg .round)) (eqb (
   where
     go : (a b c d : Bool) → validTime (msg .time) ≡ a → eqb (msg .kind) 3 ≡ c → eqb (msg .kind) 1 ≡ d
         → refuseUnless
-          (a && b && cond c (leb (msg .max) noUpperEnd) (cond d (brickSet (msg .targets) n m) (leb 1 (msg .kind) && leb (msg .kind) 5))) 10 ≡ 0
+        (a && b && cond c (leb (msg .max) noUpperEnd) (cond d (brickSet (msg .targets) n m) (leb 1 (msg .kind) && leb (msg .kind) 5))) 10 ≡ 0
         → Sensible msg
     go false b c d ea ec ed q = absurd (omega arith)
     go true false c d ea ec ed q = absurd (omega arith)
@@ -350,9 +350,10 @@ module _ {s : Settings} {g : SettingsRange s} {h : Hist s} {sent : List Item} {b
 
           has : Stands later b (foundFor b x msg) × Means s later (foundFor b x msg) b (cond (eqb (placeFor b x msg) 0) out (heldAt x (placeFor b x msg - 1)))
           has =
-              subst (λ (c : ℕ). Stands later b c × Means s later c b (cond (eqb (placeFor b x msg) 0) out (heldAt x (placeFor b x msg - 1)))) (sym found)
-              (stands-up (above whole) (there .0),
-              subst (λ (c : List ℕ). Means s later (timeAt x j) b c) (sym block-at) (means-up (above whole) (there .1)))
+              subst (λ (c : ℕ). Stands later b c × Means s later c b (cond (eqb (placeFor b x msg) 0) out (heldAt x (placeFor b x msg - 1)))) (sym found) (
+                stands-up (above whole) (there .0),
+                subst (λ (c : List ℕ). Means s later (timeAt x j) b c) (sym block-at) (means-up (above whole) (there .1)),
+              )
 
           held : not (eqb (placeFor b x msg) 0) ≡ true
           held = rw (ne-eqb (placeFor b x msg) 0 (λ a. omega (arith, a, q))) refl

@@ -60,13 +60,16 @@ pub means-decode : (s : Settings) (g : SettingsRange s) (h : Hist s) → Valid (
     → ((j : ℕ) → j < s .m → Means s h t (getD row j 0) (blockOf (s .size) blocks (getD row j 0)))
     → (full : List ℕ) × Val h t full × Stripe (s .m) (s .size) full × (stripeFrom (s .m) (s .size) row blocks ≡ full)
 means-decode s g h v t row blocks r f =
-    let z = f 0 (g .code .m-low) in
-    (z .full, z .value, z .proper,
-    decoded (s .n) (s .m) (s .size) row blocks (z .full) (g .code) r (z .proper)
-    (λ j l.
-    let w = f j l in
-    w .coded
-    ∙ ap (λ (x : List ℕ). blockOf (s .size) (codedOf (s .n) (s .m) (s .size) x) (getD row j 0)) (one-value v (w .value) (z .value) refl)))
+    let z = f 0 (g .code .m-low) in (
+      z .full,
+      z .value,
+      z .proper,
+      decoded (s .n) (s .m) (s .size) row blocks (z .full) (g .code) r (z .proper)
+          (λ j l.
+          let w = f j l in
+          w .coded
+          ∙ ap (λ (x : List ℕ). blockOf (s .size) (codedOf (s .n) (s .m) (s .size) x) (getD row j 0)) (one-value v (w .value) (z .value) refl)),
+    )
 
 -- the highest time among the replies that hold a block
 abbrev pub topOf : Settings → Held → ℕ
@@ -179,19 +182,20 @@ module _ (s : Settings) (g : SettingsRange s) (h : Hist s) (sent : List Item) (c
         let m = now s g h sent c k v i items n .holds b held in
         let x = counts-at b m in
         let w = reply-at s g h sent c k v i items n b m .finds (said-yes s g h sent c k v i items n yeses b m) (x .kind-is ∙ phase) (x .held-is ∙ held) in
-        let f : x .from .found ≡ topOf s k = x .found-is ∙ time in
-        (omega (arith, w .0, f, x .time-is),
-        subst (λ (u : ℕ). Stands h b u) f (subst (λ (z : ℕ). Stands h z (x .from .found)) (x .brick-is) (w .1)),
-        subst (λ (u : ℕ). Means s h u b (blockOf (s .size) (k .blocks) b)) f
-        (subst (λ (z : ℕ). Means s h (x .from .found) z (blockOf (s .size) (k .blocks) b)) (x .brick-is)
-        (subst (λ (l : List ℕ). Means s h (x .from .found) (x .from .brick) l) (sym (x .block-is (x .held-is ∙ held))) (w .2))))
+        let f : x .from .found ≡ topOf s k = x .found-is ∙ time in (
+          omega (arith, w .0, f, x .time-is),
+          subst (λ (u : ℕ). Stands h b u) f (subst (λ (z : ℕ). Stands h z (x .from .found)) (x .brick-is) (w .1)),
+          subst (λ (u : ℕ). Means s h u b (blockOf (s .size) (k .blocks) b)) f
+              (subst (λ (z : ℕ). Means s h (x .from .found) z (blockOf (s .size) (k .blocks) b)) (x .brick-is)
+              (subst (λ (l : List ℕ). Means s h (x .from .found) (x .from .brick) l) (sym (x .block-is (x .held-is ∙ held))) (w .2))),
+        )
 
     -- the Write round of a recovered stripe
     pub does-recover : k .state .op .kind ≡ 1 → s .m ≤ count (atTimes (k .state .tally .held) (k .state .tally .found) (topOf s k)) (s .n)
         → Turned s g h sent c
-          (nextRound k 4 0 (picked (k .state .tally .held) (k .state .tally .found) (topOf s k) (s .n) (s .m))
-          (stripeFrom (s .m) (s .size) (picked (k .state .tally .held) (k .state .tally .found) (topOf s k) (s .n) (s .m)) (k .blocks))
-          (codedOf (s .n) (s .m) (s .size) (stripeFrom (s .m) (s .size) (picked (k .state .tally .held) (k .state .tally .found) (topOf s k) (s .n) (s .m)) (k .blocks))))
+        (nextRound k 4 0 (picked (k .state .tally .held) (k .state .tally .found) (topOf s k) (s .n) (s .m))
+        (stripeFrom (s .m) (s .size) (picked (k .state .tally .held) (k .state .tally .found) (topOf s k) (s .n) (s .m)) (k .blocks))
+        (codedOf (s .n) (s .m) (s .size) (stripeFrom (s .m) (s .size) (picked (k .state .tally .held) (k .state .tally .found) (topOf s k) (s .n) (s .m)) (k .blocks))))
     unfolding picked changed
     does-recover kind many =
         launches s g h sent c k v i items n (over (topOf s k)) row stripe

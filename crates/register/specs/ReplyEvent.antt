@@ -102,9 +102,9 @@ module _ (s : Settings) (g : SettingsRange s) (h : Hist s) (sent : List Item) (c
           → some (saidNo (k .state .tally .counted) (k .state .tally .granted)) (s .n) ≡ x
           → leb (s .m) (count (atTimes (k .state .tally .held) (k .state .tally .found) (topOf s k)) (s .n)) ≡ y
           → Turned s g h sent c
-            (acted (s .n) (s .m) (s .size) k
-            (cond x Abort
-            (cond w Abort (cond y (cond f (Recover (topOf s k)) Abort) (cond z Abort (cond f (Look (topOf s k)) Abort))))))
+          (acted (s .n) (s .m) (s .size) k
+          (cond x Abort
+          (cond w Abort (cond y (cond f (Recover (topOf s k)) Abort) (cond z Abort (cond f (Look (topOf s k)) Abort))))))
       go true w y z f ex ey = abort
       go false true y z f ex ey = abort
       go false false true z false ex ey = abort
@@ -162,8 +162,8 @@ reply-arrives s g h r i a block was = go (leb refusal 0) refl
 
     decides : Taken s k a block → (b : Bool) → ltb (members (after .state .tally .counted) (s .n)) (quorum (s .n) (s .m)) ≡ b
         → Turned s g h (r .world .sent) c
-          (cond b (record { next = after; sent = []; seen = nothingSeen })
-          (acted (s .n) (s .m) (s .size) after (decided (s .n) (s .m) (after .state .op) (after .state .tally))))
+        (cond b (record { next = after; sent = []; seen = nothingSeen })
+        (acted (s .n) (s .m) (s .size) after (decided (s .n) (s .m) (after .state .op) (after .state .tally))))
     decides t true e = stays s g h (r .world .sent) c after (counting-keeps s g h (r .world .sent) c k a block (i .coordinators c) t was) (i .valid)
     decides t false e =
         let o = sound-op s k (t .sound-is) in

@@ -93,7 +93,7 @@ module _ (s : Settings) (g : SettingsRange s) (h : Hist s) (sent : List Item) (c
       → (phase ≡ 4 → Launched h′ (k .state .op .time) × Val h′ (k .state .op .time) stripe × Stripe (s .m) (s .size) stripe)
       → ((b : ℕ) → b < s .n
       → MessageInv s g h′ b (roundMessage (nextOp (k .state .op) phase max) noBricks)
-        (blockFor s (record { message = roundMessage (nextOp (k .state .op) phase max) noBricks; blocks = coded }) b))
+      (blockFor s (record { message = roundMessage (nextOp (k .state .op) phase max) noBricks; blocks = coded }) b))
       → Turned s g h sent c (nextRound k phase max bricks stripe coded)
   unfolding nextRound opened seenOf nothingSeen nothingCounted nextOp roundMessage
   opens n h′ phase max bricks stripe coded turns same unended unsent writes cleared storing messages =

@@ -64,21 +64,22 @@ module _ (s : Settings) (g : SettingsRange s) where
     where
       go : (a : Bool)
           → Goes s g r
-            (cond a
-            (record {
-              world = record { images = r .world .images; up = putAt (r .world .up) b how; coordinators = r .world .coordinators; sent = r .world .sent };
-              seen = [];
-            })
-            (unmoved s (r .world)))
-      go true =
-          (h,
-          record {
-            valid = i .valid;
-            seen-is = i .seen-is ∙ sym (append-nil (r .seen));
-            bricks = i .bricks;
-            items = i .items;
-            coordinators = i .coordinators;
+          (cond a
+          (record {
+            world = record { images = r .world .images; up = putAt (r .world .up) b how; coordinators = r .world .coordinators; sent = r .world .sent };
+            seen = [];
           })
+          (unmoved s (r .world)))
+      go true = (
+        h,
+        record {
+          valid = i .valid;
+          seen-is = i .seen-is ∙ sym (append-nil (r .seen));
+          bricks = i .bricks;
+          items = i .items;
+          coordinators = i .coordinators;
+        },
+      )
       go false = goes-unmoved s g h r i
 
   -- what holds goes on to hold after each event,

@@ -97,16 +97,17 @@ pub record Turned (s : Settings) (g : SettingsRange s) (h : Hist s) (sent : List
 pub goes-turned : (s : Settings) (g : SettingsRange s) (h : Hist s) (r : Moved s) → Inv s g h r → (c : ℕ) (w : Went)
     → Turned s g h (r .world .sent) c w → Goes s g r (coordinated s (r .world) c (went w))
 unfolding coordinated
-goes-turned s g h r i c w t =
-    (t .later,
-    record {
-      valid = t .turns .valid;
-      seen-is = t .turns .seen-more ∙ ap (λ (z : List (Seen (plain s))). z ++ seenOf s (w .seen) (w .next .stripe)) (i .seen-is);
-      bricks = λ b l. let x = i .bricks b l in
-          record { state = x .state; saved = x .saved; sound = x .sound; keeps = t .turns .bricks b (x .state) (x .keeps) };
-      items = λ k m. item k (List·Memᴰ·append-cases (r .world .sent) m);
-      coordinators = λ c′. at c′ (eqb c′ c) refl;
-    })
+goes-turned s g h r i c w t = (
+  t .later,
+  record {
+    valid = t .turns .valid;
+    seen-is = t .turns .seen-more ∙ ap (λ (z : List (Seen (plain s))). z ++ seenOf s (w .seen) (w .next .stripe)) (i .seen-is);
+    bricks = λ b l. let x = i .bricks b l in
+        record { state = x .state; saved = x .saved; sound = x .sound; keeps = t .turns .bricks b (x .state) (x .keeps) };
+    items = λ k m. item k (List·Memᴰ·append-cases (r .world .sent) m);
+    coordinators = λ c′. at c′ (eqb c′ c) refl;
+  },
+)
   where
     new : List Item
     new = broadcasts s (w .sent)
