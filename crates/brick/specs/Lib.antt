@@ -2,6 +2,7 @@
 pub mod ActLaws
 pub mod BrickLaws
 pub mod LookLaws
+pub mod Numbers
 pub mod OutcomeLaws
 pub mod Receive
 pub mod Steps

@@ -5,6 +5,7 @@ pub mod FitLaws
 pub mod HubLaws
 pub mod Image
 pub mod ImageLaws
+pub mod Numbers
 pub mod Opening
 pub mod OpenLaws
 pub mod Parse
