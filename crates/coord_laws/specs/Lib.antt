@@ -1,4 +1,6 @@
 -- Theorems about the steps of a coordinator. Soundness: every record that a routine leaves is sound.
+pub mod BlockLaws
 pub mod OpCases
+pub mod RunLaws
 pub mod Soundness
 pub mod TallyLaws

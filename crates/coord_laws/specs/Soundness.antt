@@ -262,7 +262,7 @@ waiting-good n m size h r f = go (ltb (members (h .state .tally .counted) n) (qu
     go false e = acted-good n m size h r f
 
 -- a step that is not refused passed its checks
-passes : (k : ℕ) (s : Step) (w : Went) → checked k s ≡ went w → (k ≡ 0) × (s ≡ went w)
+pub passes : (k : ℕ) (s : Step) (w : Went) → checked k s ≡ went w → (k ≡ 0) × (s ≡ went w)
 unfolding checked
 passes k s w e = go (leb k 0) refl e
   where
@@ -275,7 +275,7 @@ unfolding firstRefusal
 passed-first zero rest e = refl
 passed-first (suc k) rest e = e
 
-same-went : (v w : Went) → went v ≡ went w → v ≡ w
+pub same-went : (v w : Went) → went v ≡ went w → v ≡ w
 same-went v w e = cc
 
 -- EVERY RECORD THAT A ROUTINE LEAVES IS SOUND. A reply:
@@ -313,7 +313,7 @@ drawn-right kind t reading clock next k e =
     let g = gave clock reading t next e in
     rw (ne-eqb kind 0 k, le-leb 1 (next .last) (omega (arith, g .count)), eq-eqb t (timeOf (next .last) (next .coordinator)) (g .time ∙ ap (timeOf (next .last)) (sym (g .same))))
 
-drawn-low : (t reading : ℕ) (clock next : Clock) → drawOf clock reading ≡ Drawn t next → (next .coordinator ≤ 15) × (next .last ≤ maxCount)
+pub drawn-low : (t reading : ℕ) (clock next : Clock) → drawOf clock reading ≡ Drawn t next → (next .coordinator ≤ 15) × (next .last ≤ maxCount)
 unfolding nextCount maxCount
 drawn-low t reading clock next e =
     let g = gave clock reading t next e in
@@ -349,7 +349,7 @@ unfolding opRight readRight firstOp namedCount
 first-read m t first = (refl, refl)
 
 -- what a draw led to
-drawn-went : (d : Draw) (f : ℕ → Clock → Went) (w : Went) → drawnThen d f ≡ went w → (t : ℕ) × (next : Clock) × (d ≡ Drawn t next) × (f t next ≡ w)
+pub drawn-went : (d : Draw) (f : ℕ → Clock → Went) (w : Went) → drawnThen d f ≡ went w → (t : ℕ) × (next : Clock) × (d ≡ Drawn t next) × (f t next ≡ w)
 unfolding drawnThen
 drawn-went (Drawn t next) f w e = (t, next, refl, same-went (f t next) w e)
 drawn-went (Refused k) f w e = absurd (let z : _≡_ {A = ℕ} 0 1 = cc in omega arith)
