@@ -1,25 +1,23 @@
--- Document 01, "The bench": its worked case as a list of events, computed by the checker on `run`: cut, 00, 00. To compute, every definition is opened.
+-- Document 01's bench case, and a write that is read back, as lists of events: computed on `run`, images and all.
 use mathlib.Core.Path.{_≡_, refl}
 use mathlib.Core.List.{List, [], _∷_}
-use Prim.Native.Nat.{ℕ}
 use native.Mathlib.Omega.{arith}
 use Rattle.little.specs.LittleLaws.{Bytes}
 use Rattle.settings.specs.declared.Settings.{Settings}
-use Rattle.order.specs.Claim.{read, write, bytes, finished, cut, Seen}
-use Rattle.register.specs.Runs.{plain, Event, startWrite, startRead, arrives, crashes, goesDown, comesUp, run}
+use Rattle.order.specs.Claim.{read, write, ok, bytes, finished, cut, Seen}
+use Rattle.register.specs.Opened.{all-open}
+use Rattle.register.specs.Runs.{Event, startWrite, startRead, arrives, crashes, goesDown, comesUp, run}
 
-unfoldable pub all-open : Unit {0}
-unfolding Rattle.settings.specs.Count.count Rattle.settings.specs.Count.common Rattle.settings.specs.Draws.following Rattle.settings.specs.Draws.draws Rattle.settings.specs.Draws.Rising Rattle.settings.specs.Ranges.bricksInRange Rattle.settings.specs.Ranges.sizeInRange Rattle.settings.specs.Ranges.capacityInRange Rattle.settings.specs.Ranges.inRange Rattle.settings.specs.Ranges.settingsRefusal Rattle.settings.specs.Ranges.codeRefusal Rattle.settings.specs.Ranges.faults Rattle.settings.specs.Ranges.quorum Rattle.settings.specs.Refusal.firstRefusal Rattle.settings.specs.Times.maxCount Rattle.settings.specs.Times.noUpperEnd Rattle.settings.specs.Times.timeOf Rattle.settings.specs.Times.validTime Rattle.settings.specs.Times.nextCount Rattle.settings.specs.Times.drawRefusal Rattle.settings.specs.Times.advanced Rattle.settings.specs.Times.drawOf Rattle.settings.specs.Times.numberOf Rattle.message.specs.Flags.member Rattle.message.specs.Flags.members Rattle.message.specs.Flags.flagsWithin Rattle.message.specs.Flags.brickSet Rattle.message.specs.Messages.roundRight Rattle.message.specs.Messages.kindRight Rattle.message.specs.Messages.messageRefusal Rattle.message.specs.Messages.foundRight Rattle.message.specs.Messages.replyRight Rattle.message.specs.Messages.replyRefusal Rattle.little.specs.Little.byteOf Rattle.little.specs.Little.little Rattle.little.specs.Little.number Rattle.little.specs.LittleLaws.Bytes Rattle.little.specs.LittleLaws.limit Rattle.block.specs.Block.weighted Rattle.block.specs.Block.checkOf Rattle.block.specs.Block.sealed Rattle.block.specs.Block.unchecked Rattle.block.specs.Block.same Rattle.block.specs.Block.checked Rattle.block.specs.Block.zeros Rattle.block.specs.Block.unusedKind Rattle.block.specs.Block.headKind Rattle.block.specs.Block.entryKind Rattle.block.specs.Block.headBody Rattle.block.specs.Block.headBlock Rattle.block.specs.Block.entryBody Rattle.block.specs.Block.entryBlock Rattle.block.specs.Block.unusedBody Rattle.block.specs.Block.unusedBlock Rattle.block.specs.Block.put Rattle.image.specs.Brick.count Rattle.image.specs.Brick.noEntry Rattle.image.specs.Brick.timeAt Rattle.image.specs.Brick.heldAt Rattle.image.specs.Brick.newest Rattle.image.specs.Brick.fresh Rattle.image.specs.Brick.savedTime Rattle.image.specs.Brick.risesAt Rattle.image.specs.Brick.entrySound Rattle.image.specs.Brick.countSound Rattle.image.specs.Brick.sound Rattle.image.specs.Every.every Rattle.image.specs.Image.blockOf Rattle.image.specs.Image.stacked Rattle.image.specs.Image.imageOf Rattle.image.specs.Image.imageSize Rattle.image.specs.Opening.rowOf Rattle.image.specs.Opening.blank Rattle.image.specs.Opening.entryFor Rattle.image.specs.Opening.entryOf Rattle.image.specs.Opening.placeIn Rattle.image.specs.Opening.workingLog Rattle.image.specs.Opening.noBlank Rattle.image.specs.Opening.opening Rattle.image.specs.Opening.answerNumber Rattle.image.specs.Opening.panelOf Rattle.image.specs.Opening.lendingRefusal Rattle.image.specs.Opening.rises Rattle.image.specs.Opening.headFits Rattle.image.specs.Opening.slotFits Rattle.image.specs.Parse.blockAt Rattle.image.specs.Parse.countIn Rattle.image.specs.Parse.promiseIn Rattle.image.specs.Parse.timeIn Rattle.image.specs.Parse.heldIn Rattle.image.specs.Parse.entryIn Rattle.image.specs.Parse.entriesIn Rattle.image.specs.Parse.brickIn Rattle.image.specs.Parse.checkedAt Rattle.image.specs.Parse.isImage Rattle.image.specs.Parse.openRefusal Rattle.image.specs.Parse.parse Rattle.image.specs.ScanLaws.checkAfter Rattle.image.specs.ScanLaws.slotAt Rattle.image.specs.ScanLaws.entryAt Rattle.saving.specs.BlocksLaws.placed Rattle.saving.specs.BlocksLaws.clearedOf Rattle.saving.specs.BlocksLaws.shiftedOf Rattle.saving.specs.Saving.freshAfter Rattle.saving.specs.Saving.promised Rattle.saving.specs.Saving.appended Rattle.saving.specs.Saving.without Rattle.brick.specs.Receive.blocksRefusal Rattle.brick.specs.Receive.receiveRefusal Rattle.brick.specs.Receive.refusedWith Rattle.brick.specs.Receive.givenBy Rattle.brick.specs.Receive.acted Rattle.brick.specs.Receive.outcome Rattle.brick.specs.Steps.aboveNewest Rattle.brick.specs.Steps.notBelowPromise Rattle.brick.specs.Steps.hasFree Rattle.brick.specs.Steps.readYes Rattle.brick.specs.Steps.orderYes Rattle.brick.specs.Steps.writeYes Rattle.brick.specs.Steps.ordered Rattle.brick.specs.Steps.written Rattle.brick.specs.Steps.trimmed Rattle.brick.specs.Steps.trimmedTo Rattle.brick.specs.Steps.under Rattle.brick.specs.Steps.lookup Rattle.brick.specs.Steps.placeFor Rattle.brick.specs.Steps.timeFor Rattle.brick.specs.Steps.foundFor Rattle.brick.specs.Steps.yesTo Rattle.brick.specs.Steps.replyTo Rattle.brick.specs.Steps.after Rattle.brick.specs.Steps.blockAfter Rattle.gf256.specs.Computed.allBelow Rattle.gf256.specs.Computed.every Rattle.gf256.specs.Product.plus Rattle.gf256.specs.Product.twice Rattle.gf256.specs.Product.shiftAdd Rattle.gf256.specs.Product.product Rattle.gf256.specs.Product.doubled Rattle.gf256.specs.Product.power Rattle.gf256.specs.Product.inverseBelow Rattle.gf256.specs.Product.inverse Rattle.gf256.specs.Product.quotient Rattle.gf256.specs.TableLaws.doublings Rattle.gf256.specs.TableLaws.chained Rattle.gf256.specs.TableLaws.powersRight Rattle.gf256.specs.TableLaws.indexRight Rattle.gf256.specs.TableLaws.logsRight Rattle.gf256.specs.TableLaws.placeOf Rattle.gf256.specs.TableLaws.hasLog Rattle.poly.specs.BasisLaws.basisPoly Rattle.poly.specs.CoefficientLaws.plus Rattle.poly.specs.CoefficientLaws.scale Rattle.poly.specs.CoefficientLaws.minus Rattle.poly.specs.CoefficientLaws.timesRoot Rattle.poly.specs.CoefficientLaws.sumOf Rattle.poly.specs.Polynomial.pick Rattle.poly.specs.Polynomial.sub Rattle.poly.specs.Polynomial.eval Rattle.poly.specs.Polynomial.Different Rattle.poly.specs.Polynomial.sum Rattle.poly.specs.Polynomial.factor Rattle.poly.specs.Polynomial.basisTo Rattle.poly.specs.Polynomial.basis Rattle.poly.specs.Polynomial.interpolated Rattle.poly.specs.RootLaws.suffixes Rattle.interpolate.specs.RowLaws.weight Rattle.interpolate.specs.RowLaws.partial Rattle.interpolate.specs.Rows.firstPlace Rattle.interpolate.specs.Rows.scaled Rattle.interpolate.specs.Rows.numerator Rattle.interpolate.specs.Rows.denominator Rattle.interpolate.specs.Tabulate.tabulate Rattle.interpolate.specs.Tabulate.stacked Rattle.interpolate.specs.Values.byteAt Rattle.interpolate.specs.Values.valueAt Rattle.interpolate.specs.Values.blockAt Rattle.interpolate.specs.Values.blocksAt Rattle.interpolate.specs.WeightLaws.others Rattle.erasure.specs.Code.firstPoints Rattle.erasure.specs.Code.codedOf Rattle.erasure.specs.Code.decodedOf Rattle.erasure.specs.Refusals.allBelow Rattle.erasure.specs.Refusals.stands Rattle.erasure.specs.Refusals.allDifferent Rattle.erasure.specs.Refusals.encodeRefusal Rattle.erasure.specs.Refusals.decodeRefusal Rattle.erasure.specs.Refusals.unlessRefused Rattle.erasure.specs.Refusals.encodedBuffer Rattle.erasure.specs.Refusals.decodedBuffer Rattle.erasure.specs.Theorems.blockOf Rattle.erasure.specs.Theorems.blocksOf Rattle.coord_record.specs.Each.each Rattle.coord_record.specs.Each.some Rattle.coord_record.specs.Records.noOp Rattle.coord_record.specs.Records.noBricks Rattle.coord_record.specs.Records.nothingCounted Rattle.coord_record.specs.Records.idleWith Rattle.coord_record.specs.Rules.above Rattle.coord_record.specs.Rules.isTarget Rattle.coord_record.specs.Rules.blockRight Rattle.coord_record.specs.Rules.countedRight Rattle.coord_record.specs.Rules.entryRight Rattle.coord_record.specs.Rules.tallyRight Rattle.coord_record.specs.Rules.brickRight Rattle.coord_record.specs.Rules.bricksRight Rattle.coord_record.specs.Sound.maxRight Rattle.coord_record.specs.Sound.storedRight Rattle.coord_record.specs.Sound.readRight Rattle.coord_record.specs.Sound.writeRight Rattle.coord_record.specs.Sound.unsetOp Rattle.coord_record.specs.Sound.opRight Rattle.coord_record.specs.Sound.timeRight Rattle.coord_record.specs.Sound.namedCount Rattle.coord_record.specs.Sound.filledRight Rattle.coord_record.specs.Sound.sound Rattle.coord_rounds.specs.Counting.saidNo Rattle.coord_rounds.specs.Counting.highest Rattle.coord_rounds.specs.Counting.otherTime Rattle.coord_rounds.specs.Counting.missing Rattle.coord_rounds.specs.Counting.atTime Rattle.coord_rounds.specs.Counting.atTimes Rattle.coord_rounds.specs.Counting.passing Rattle.coord_rounds.specs.Counting.inRow Rattle.coord_rounds.specs.Counting.picked Rattle.coord_rounds.specs.Counting.upward Rattle.coord_rounds.specs.Counting.targetRow Rattle.coord_rounds.specs.Counting.targetFlag Rattle.coord_rounds.specs.Counting.targetFlags Rattle.coord_rounds.specs.Deciding.answers Rattle.coord_rounds.specs.Deciding.tallied Rattle.coord_rounds.specs.Deciding.decidedRead Rattle.coord_rounds.specs.Deciding.unlessSpent Rattle.coord_rounds.specs.Deciding.decidedAt Rattle.coord_rounds.specs.Deciding.decidedRecovery Rattle.coord_rounds.specs.Deciding.decided Rattle.coord_acts.specs.Acts.blockOf Rattle.coord_acts.specs.Acts.gathered Rattle.coord_acts.specs.Acts.stripeFrom Rattle.coord_acts.specs.Acts.roundMessage Rattle.coord_acts.specs.Acts.trimMessage Rattle.coord_acts.specs.Acts.nextOp Rattle.coord_acts.specs.Acts.opened Rattle.coord_acts.specs.Acts.nextRound Rattle.coord_acts.specs.Acts.ending Rattle.coord_acts.specs.Acts.finishedSeen Rattle.coord_acts.specs.Acts.acted Rattle.coord_acts.specs.Acts.placed Rattle.coord_acts.specs.Acts.withTally Rattle.coord_acts.specs.Acts.counting Rattle.coord_acts.specs.Acts.waitingOr Rattle.coord_acts.specs.Acts.firstOp Rattle.coord_acts.specs.Acts.starting Rattle.coord_acts.specs.Steps.checked Rattle.coord_acts.specs.Steps.nothingSeen Rattle.coord_acts.specs.Steps.noMessage Rattle.coord_acts.specs.Steps.sentCount Rattle.coord_acts.specs.Steps.sentMessage Rattle.coord_acts.specs.Steps.sentBlocks Rattle.coord_acts.specs.Steps.answerOf Rattle.coord_acts.specs.Steps.blocksAfter Rattle.coord_acts.specs.Steps.stripeAfter Rattle.coord_acts.specs.Steps.codedAfter Rattle.coord_acts.specs.Steps.after Rattle.coordinator.specs.Checks.recordChecks Rattle.coordinator.specs.Checks.startChecks Rattle.coordinator.specs.Checks.writeRefusal Rattle.coordinator.specs.Checks.readRefusal Rattle.coordinator.specs.Checks.lengthsRight Rattle.coordinator.specs.Checks.strayChecks Rattle.coordinator.specs.Checks.takeRefusal Rattle.coordinator.specs.Checks.crashRefusal Rattle.coordinator.specs.Rules.takeStep Rattle.coordinator.specs.Rules.crashed Rattle.coordinator.specs.Rules.crashStep Rattle.coordinator.specs.Rules.drawnThen Rattle.coordinator.specs.Rules.writeStep Rattle.coordinator.specs.Rules.readStep Rattle.register.specs.Runs.zeroStripe Rattle.register.specs.Runs.idle Rattle.register.specs.Runs.fresh Rattle.register.specs.Runs.unmoved Rattle.register.specs.Runs.putAt Rattle.register.specs.Runs.seenOf Rattle.register.specs.Runs.blockFor Rattle.register.specs.Runs.toAll Rattle.register.specs.Runs.broadcasts Rattle.register.specs.Runs.coordinated Rattle.register.specs.Runs.repliedWith Rattle.register.specs.Runs.received Rattle.register.specs.Runs.arriving Rattle.register.specs.Runs.arrivingAt Rattle.register.specs.Runs.standing Rattle.register.specs.Runs.step Rattle.register.specs.Runs.next Rattle.register.specs.Runs.runFrom Rattle.register.specs.Runs.run
-all-open = tt
-
-abbrev small : Settings
+-- `set 3 1 1 4`
+abbrev pub small : Settings
 small = record { n = 3; m = 1; size = 1; capacity = 4 }
 
 ten : Bytes (10 ∷ [])
 unfolding Bytes
 ten = (omega arith, tt)
 
-bench : List Event
+-- the lines of the bench case; what the bench numbers from 1 stands here at a place from 0
+pub bench : List Event
 bench =
     startWrite 0 1 (10 ∷ []) ten
     ∷ arrives 0
@@ -58,7 +56,8 @@ bench =
     ∷ arrives 41
     ∷ []
 
-bench-seen : run small bench .seen
+-- "0 write 16 cut", "1 read 33 00", "1 read 49 00"
+pub bench-seen : run small bench .seen
     ≡ Seen.began 16 (write (10 ∷ []))
     ∷ Seen.ended 16 cut
     ∷ Seen.began 33 read
@@ -68,3 +67,22 @@ bench-seen : run small bench .seen
     ∷ []
 unfolding all-open bench
 bench-seen = refl
+
+-- a write of 0a that finishes, then a read of one round
+pub written-then-read : List Event
+written-then-read =
+    startWrite 0 1 (10 ∷ []) ten
+    ∷ arrives 0 ∷ arrives 1 ∷ arrives 3 ∷ arrives 4
+    ∷ arrives 5 ∷ arrives 6 ∷ arrives 8 ∷ arrives 9
+    ∷ startRead 1 2 0
+    ∷ arrives 13 ∷ arrives 14 ∷ arrives 16 ∷ arrives 17
+    ∷ []
+
+pub written-is-seen : run small written-then-read .seen
+    ≡ Seen.began 16 (write (10 ∷ []))
+    ∷ Seen.ended 16 (finished ok)
+    ∷ Seen.began 33 read
+    ∷ Seen.ended 33 (finished (bytes (10 ∷ [])))
+    ∷ []
+unfolding all-open written-then-read
+written-is-seen = refl

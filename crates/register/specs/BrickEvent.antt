@@ -1,11 +1,11 @@
 -- A message reaches its brick: what holds of the world goes on to hold.
 use mathlib.Core.Path.{_≡_, refl, sym, ap, subst, _∙_}
 use mathlib.Core.Logic.{_⊎_, inl, inr}
-use mathlib.Core.Bool.{Bool, true, false, cond, not, _&&_}
-use mathlib.Core.List.{List, [], _∷_, _++_, append-nil, Memᴰ·append-left, List·Memᴰ·not-nil, List·Memᴰ·append-cases, List·Memᴰ·eq-of-singleton}
-use Prim.Native.Nat.{ℕ, zero, suc, _≤_, _<_}
+use mathlib.Core.Bool.{Bool, true, false, cond}
+use mathlib.Core.List.{List, [], _∷_, _++_, append-nil, List·Memᴰ·not-nil, List·Memᴰ·append-cases, List·Memᴰ·eq-of-singleton}
+use Prim.Native.Nat.{ℕ, zero, suc, _<_}
 use native.Mathlib.Omega.{arith}
-use lib.Dec.{leb, eqb}
+use lib.Dec.{eqb}
 use lib.ListN.{length, replicate}
 use borrow.Author.Tests.{le-leb, eqb-true, eqb-false, eq-eqb, ne-eqb}
 use Rattle.settings.specs.Ranges.{inRange, bricksInRange, sizeInRange, capacityInRange, settingsRefusal}
@@ -14,23 +14,20 @@ use Rattle.settings.specs.Refusal.{refuseUnless, firstRefusal}
 use Rattle.settings.specs.declared.Settings.{Settings}
 use Rattle.message.specs.Messages.{messageRefusal}
 use Rattle.message.specs.declared.Message.{Message}
-use Rattle.message.specs.declared.Reply.{Reply}
 use Rattle.image.specs.Brick.{Brick}
-use Rattle.image.specs.Image.{imageOf}
-use Rattle.image.specs.Parse.{Parsed, Opens, Refuses, parse, openRefusal}
+use Rattle.image.specs.Parse.{Parsed, Opens, parse, openRefusal}
 use Rattle.image.specs.ParseLaws.{parse-image}
-use Rattle.image.specs.SoundLaws.{Sound}
 use Rattle.brick.specs.Receive
 use Rattle.brick.specs.Receive.{Outcome, outcome, blocksRefusal, receiveRefusal, refusedWith, givenBy}
 use Rattle.brick.specs.Steps.{placeFor, replyTo, after, blockAfter}
 use Rattle.brick.specs.declared.Given.{Given}
 use Rattle.brick.specs.declared.Given.the-variants.{Answered, Silent, Refused}
 use Rattle.order.specs.Claim.{_∈_}
-use Rattle.register.specs.Runs.{plain, Item, message, reply, World, Moved, unmoved, putAt, repliedWith, received, arriving}
-use Rattle.register.specs.Invariant.{quorums, Hist, BrickInv, ItemInv, ImageInv, CoordinatorInv, Inv}
-use Rattle.register.specs.UpLaws.{Within, within-more, item-up, Quiet, coordinator-sent}
+use Rattle.register.specs.Runs.{Item, message, Moved, unmoved, putAt, repliedWith, received, arriving}
+use Rattle.register.specs.Invariant.{Hist, ItemInv, ImageInv, Inv}
+use Rattle.register.specs.UpLaws.{within-more, item-up, coordinator-sent}
 use Rattle.register.specs.BrickLaws.{Grows, grows-not}
-use Rattle.register.specs.ReceiveLaws.{Sensible, sensible, Received, any-received}
+use Rattle.register.specs.ReceiveLaws.{sensible, Received, any-received}
 
 -- what came before, and what one event leaves and shows
 abbrev pub joined : (s : Settings) → Moved s → Moved s → Moved s

@@ -1,30 +1,30 @@
 -- One message at one brick: the history grows by one fact at most, and what holds of the brick and of its reply.
-use mathlib.Core.Path.{_≡_, refl, sym, ap, subst, _∙_}
+use mathlib.Core.Path.{_≡_, refl, sym, subst}
 use mathlib.Core.Logic.{_⊎_, inl, inr}
-use mathlib.Core.Bool.{Bool, true, false, cond, not, _&&_}
+use mathlib.Core.Bool.{Bool, true, false, cond}
 use mathlib.Core.List.{List, [], _∷_, _++_, append-nil, Memᴰ·append-left, Memᴰ·append-right, List·Memᴰ·head, List·Memᴰ·append-cases, List·Memᴰ·eq-of-singleton}
-use Prim.Native.Nat.{ℕ, zero, suc, _+_, _-_, _≤_, _<_}
+use Prim.Native.Nat.{ℕ, zero, suc, _-_, _≤_, _<_}
 use native.Mathlib.Omega.{arith}
-use lib.Dec.{leb, ltb, eqb}
-use lib.ListN.{length, getD}
-use borrow.Author.Tests.{ltb-true, ltb-false, leb-true, eq-eqb, ne-eqb}
+use lib.Dec.{ltb}
+use lib.ListN.{length}
+use borrow.Author.Tests.{ltb-true, ltb-false, leb-true}
 use Rattle.settings.specs.RangeLaws.{SettingsRange, and-left, and-right}
 use Rattle.settings.specs.declared.Settings.{Settings}
-use Rattle.image.specs.Brick.{Brick, LogEntry, noEntry, count, timeAt, heldAt, newest}
+use Rattle.image.specs.Brick.{Brick, LogEntry, count, timeAt, heldAt, newest}
 use Rattle.image.specs.SoundLaws.{Sound}
 use Rattle.saving.specs.Saving
 use Rattle.brick.specs.Steps.{aboveNewest, notBelowPromise, hasFree, readYes, orderYes, writeYes, trimmed, trimmedTo, under}
 use Rattle.order.specs.Claim.{_∈_}
-use Rattle.order.specs.Facts.{Fact, began, promised, launched, stored, showed, ended, seen, shows}
+use Rattle.order.specs.Facts.{Fact, promised, stored, showed, seen, shows}
 use Rattle.order.specs.Places.{Suf, whole, above, In}
-use Rattle.order.specs.PlaceLaws.{in-suf, in-above, in-top}
+use Rattle.order.specs.PlaceLaws.{in-top}
 use Rattle.order.specs.Valid.{Began, Launched, Committed, Gone, OkPromised, OkStored, OkShowed, Ok, Valid, next}
 use Rattle.order.specs.GoneLaws.{gone-up}
 use Rattle.coord_acts.specs.Steps.{Held}
 use Rattle.register.specs.Runs.{plain, Item}
 use Rattle.register.specs.Invariant.{quorums, Hist, Means, Stands, BrickInv, CoordinatorInv}
 use Rattle.register.specs.UpLaws.{in-cons, means-up, stands-up, AtBrick, AtCoordinator, brick-up, coordinator-up}
-use Rattle.register.specs.LogLaws.{at-member, member-at, Rises, rises-at, Proper, proper, trimmed-in, trimmed-keeps, at-most-newest, newest-entry}
+use Rattle.register.specs.LogLaws.{trimmed-in, trimmed-keeps, newest-entry}
 
 -- The history grows by what concerns brick b alone, and nothing is seen of it.
 pub record Grows (s : Settings) (g : SettingsRange s) (b : ℕ) (h h′ : Hist s) : Type 0 where

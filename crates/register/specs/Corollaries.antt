@@ -1,6 +1,6 @@
 -- What demand 3 means for a dealer, of any run.
-use mathlib.Core.Path.{_≡_, refl, ap, _∙_}
-use mathlib.Core.Logic.{_≢_, _⊎_, inl, inr}
+use mathlib.Core.Path.{_≡_}
+use mathlib.Core.Logic.{_≢_, _⊎_}
 use mathlib.Core.Bool.{Bool, true, false, cond}
 use mathlib.Core.List.{List, [], _∷_}
 use Prim.Native.Nat.{ℕ, zero, suc, _%_, _≤_}
@@ -12,30 +12,7 @@ use Rattle.settings.specs.declared.Settings.{Settings}
 use Rattle.coord_acts.specs.Steps.{Step, refused, went}
 use Rattle.coord_acts.specs.declared.Seen.{Seen as Shown}
 use Rattle.order.specs.Claim.{write, ok, bytes, finished, Seen, _∈_}
-use Rattle.register.specs.Runs.{
-  plain,
-  Item,
-  message,
-  reply,
-  World,
-  Event,
-  startWrite,
-  startRead,
-  arrives,
-  crashes,
-  goesDown,
-  comesUp,
-  Moved,
-  unmoved,
-  seenOf,
-  coordinated,
-  received,
-  arriving,
-  arrivingAt,
-  standing,
-  step,
-  run,
-}
+use Rattle.register.specs.Runs.{Item, message, reply, World, Event, startWrite, startRead, arrives, crashes, goesDown, comesUp, Moved, unmoved, seenOf, coordinated, received, arriving, arrivingAt, standing, step, run}
 use Rattle.register.specs.OrderUse.{EndedBefore, reads-agree, written-is-read}
 use Rattle.register.specs.Theorem.{every-run-has-one-order}
 

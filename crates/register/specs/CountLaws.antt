@@ -1,20 +1,20 @@
 -- A reply is counted: what it satisfies when it is not refused, and what is kept of it.
 use mathlib.Core.Path.{_≡_, refl, sym, ap, subst, _∙_}
-use mathlib.Core.Logic.{_≢_, _⊎_, inl, inr}
+use mathlib.Core.Logic.{_≢_}
 use mathlib.Core.Bool.{Bool, true, false, cond, not, _&&_, _||_}
-use mathlib.Core.List.{List, [], _∷_, _++_}
-use Prim.Native.Nat.{ℕ, zero, suc, _+_, _-_, _*_, _≤_, _<_}
+use mathlib.Core.List.{List, _++_}
+use Prim.Native.Nat.{ℕ, suc, _+_, _-_, _*_, _≤_, _<_}
 use native.Mathlib.Omega.{arith}
 use native.Mathlib.Nat.{mul-le-mul-right, suc-mul}
 use native.Mathlib.Decide.{decLt, ℕ-discrete}
 use lib.Dec.{leb, ltb, eqb}
 use lib.ListN.{length, getD, take, drop, set, length-append, length-take, length-drop, length-set, List·getD-append}
 use lib.Seq.{ext-getD, getD-take, getD-drop, getD-set-same, getD-set-other, take-at, drop-at, getD-append-add, length-take-le}
-use borrow.Author.Tests.{leb-true, ltb-true, eqb-true, eqb-false, eq-eqb, ne-eqb, not-true}
+use borrow.Author.Tests.{leb-true, ltb-true, eqb-true, not-true}
 use Rattle.settings.specs.Count.{one-if}
 use Rattle.settings.specs.Ranges.{codeRefusal}
 use Rattle.settings.specs.RangeLaws.{SettingsRange, and-left, and-right}
-use Rattle.settings.specs.Refusal.{refuseUnless, firstRefusal}
+use Rattle.settings.specs.Refusal.{refuseUnless}
 use Rattle.settings.specs.Times.{validTime}
 use Rattle.settings.specs.declared.Settings.{Settings}
 use Rattle.message.specs.Flags.{member}
@@ -22,14 +22,13 @@ use Rattle.message.specs.Messages.{roundRight, foundRight, replyRight, replyRef
 use Rattle.message.specs.declared.Reply.{Reply}
 use Rattle.coord_record.specs.Rules.{isTarget, blockRight}
 use Rattle.coord_record.specs.Sound.{sound}
-use Rattle.coord_record.specs.declared.Tally.{Tally}
 use Rattle.coord_rounds.specs.Deciding.{answers, tallied}
 use Rattle.coord_acts.specs.Acts.{blockOf, placed, withTally, counting}
 use Rattle.coord_acts.specs.Steps.{Held}
 use Rattle.coordinator.specs.Checks.{recordChecks, strayChecks, lengthsRight, takeRefusal}
 use Rattle.order.specs.Claim.{_∈_}
 use Rattle.register.specs.Runs.{Item, reply}
-use Rattle.register.specs.Invariant.{Hist, CountedInv, Wide, Running, CoordinatorInv}
+use Rattle.register.specs.Invariant.{Hist, CountedInv, Running, CoordinatorInv}
 use Rattle.register.specs.BrickEvent.{first-passed, unless-passed}
 
 -- what a reply that is not refused satisfies

@@ -1,7 +1,7 @@
 -- A coordinator crashes: what holds of the world goes on to hold.
 use mathlib.Core.Path.{_≡_, refl}
 use mathlib.Core.Bool.{Bool, true, false, cond}
-use mathlib.Core.List.{List, [], _∷_, List·Memᴰ·not-nil}
+use mathlib.Core.List.{[], List·Memᴰ·not-nil}
 use Prim.Native.Nat.{ℕ}
 use lib.Dec.{leb, eqb}
 use borrow.Author.Tests.{eqb-false}
@@ -9,11 +9,11 @@ use Rattle.settings.specs.RangeLaws.{SettingsRange}
 use Rattle.settings.specs.declared.Settings.{Settings}
 use Rattle.coord_record.specs.Records.{noBricks}
 use Rattle.coord_acts.specs.Acts.{ending}
-use Rattle.coord_acts.specs.Steps.{Held, Went, refused, went, checked, nothingSeen, cutSeen}
+use Rattle.coord_acts.specs.Steps.{Held, refused, went, checked, nothingSeen, cutSeen}
 use Rattle.coordinator.specs.Checks.{crashRefusal}
 use Rattle.coordinator.specs.Rules.{crashed, crashStep}
 use Rattle.order.specs.Facts.{cut, shows, outcome}
-use Rattle.register.specs.Runs.{plain, Moved, seenOf, broadcasts, coordinated}
+use Rattle.register.specs.Runs.{Moved, seenOf, broadcasts, coordinated}
 use Rattle.register.specs.Invariant.{Hist, Inv}
 use Rattle.register.specs.BrickEvent.{Goes}
 use Rattle.register.specs.TurnLaws.{Turned, goes-turned, goes-refused}

@@ -1,41 +1,38 @@
 -- The q-th reply decides: an abort, the Write round of a write, the end after a Write round.
 use mathlib.Core.Path.{_≡_, refl, sym, ap, subst, _∙_}
 use mathlib.Core.Logic.{_⊎_, inl, inr}
-use mathlib.Core.Bool.{Bool, true, false, cond, not, _&&_, _||_}
+use mathlib.Core.Bool.{Bool, true, false, cond, not, _&&_}
 use mathlib.Core.List.{List, [], _∷_, _++_, List·Memᴰ·not-nil}
-use Prim.Native.Nat.{ℕ, zero, suc, _+_, _*_, _^_, _-_, _%_, _≤_, _<_}
+use Prim.Native.Nat.{ℕ, _+_, _*_, _^_, _-_, _%_, _≤_, _<_}
 use native.Mathlib.Omega.{arith}
 use lib.Dec.{T, leb, ltb, eqb}
-use lib.ListN.{length, getD}
-use borrow.Author.Tests.{leb-true, ltb-true, eqb-true, eqb-false, eq-eqb, ne-eqb}
-use Rattle.settings.specs.Count.{count}
+use borrow.Author.Tests.{leb-true, ltb-true, eqb-true, eq-eqb, ne-eqb}
 use Rattle.settings.specs.Ranges.{quorum}
 use Rattle.settings.specs.RangeLaws.{SettingsRange, and-left, and-right}
 use Rattle.settings.specs.Times.{maxCount, noUpperEnd, timeOf}
 use Rattle.settings.specs.declared.Settings.{Settings}
 use Rattle.message.specs.Flags.{member, members}
 use Rattle.message.specs.declared.Message.{Message}
-use Rattle.message.specs.declared.Reply.{Reply}
 use Rattle.erasure.specs.Code.{codedOf}
 use Rattle.erasure.specs.Theorems.{Stripe}
 use Rattle.coord_record.specs.Each.{some, some-at}
 use Rattle.coord_record.specs.Records.{noBricks}
-use Rattle.coord_record.specs.Sound.{maxRight, storedRight, readRight, writeRight, unsetOp, opRight, timeRight, filledRight, sound}
+use Rattle.coord_record.specs.Sound.{maxRight, storedRight, readRight, writeRight, unsetOp, opRight, timeRight, sound}
 use Rattle.coord_record.specs.declared.Op.{Op}
 use Rattle.coord_rounds.specs.Counting.{saidNo}
-use Rattle.coord_acts.specs.Acts.{blockOf, roundMessage, trimMessage, nextOp, nextRound, ending, finishedSeen}
-use Rattle.coord_acts.specs.Steps.{Held, Broadcast, Went, nothingSeen, abortedSeen}
-use Rattle.order.specs.Claim.{Action, read, write, ok, bytes, changed, given, Seen, _∈_}
-use Rattle.order.specs.Facts.{Source, itself, over, End, written, recovered, aborted, Fact, began, promised, launched, stored, ended, shows, outcome}
+use Rattle.coord_acts.specs.Acts.{roundMessage, trimMessage, nextOp, nextRound, ending, finishedSeen}
+use Rattle.coord_acts.specs.Steps.{Held, abortedSeen}
+use Rattle.order.specs.Claim.{Action, read, write, ok, bytes, changed, given, _∈_}
+use Rattle.order.specs.Facts.{Source, itself, End, written, recovered, aborted, Fact, began, promised, launched, stored, ended, shows, outcome}
 use Rattle.order.specs.Places.{whole, above, In}
 use Rattle.order.specs.PlaceLaws.{in-above, in-top}
 use Rattle.order.specs.Quorums.{Many}
-use Rattle.order.specs.Valid.{Began, Launched, Ended, Val, sets, OkLaunched, Valid, next}
+use Rattle.order.specs.Valid.{Began, Val, sets, OkLaunched, Valid}
 use Rattle.order.specs.FactLaws.{committed-up}
 use Rattle.register.specs.Runs.{plain, Item, message, reply, seenOf, blockFor, broadcasts}
-use Rattle.register.specs.Invariant.{quorums, Hist, MessageInv, ReplyInv, ItemInv, CountedInv, Running, CoordinatorInv}
+use Rattle.register.specs.Invariant.{quorums, Hist, MessageInv, ReplyInv, ItemInv, Running, CoordinatorInv}
 use Rattle.register.specs.UpLaws.{in-cons}
-use Rattle.register.specs.TurnLaws.{Turns, turns-launched, in-broadcast, Turned}
+use Rattle.register.specs.TurnLaws.{turns-launched, in-broadcast, Turned}
 use Rattle.register.specs.RoundLaws.{time-of, ends, opens}
 
 -- how phase and kind of a running operation go together

@@ -1,6 +1,6 @@
 -- What is decided in a round, by its phase.
 use mathlib.Core.Path.{_≡_, refl}
-use mathlib.Core.Bool.{Bool, true, false, cond, _||_}
+use mathlib.Core.Bool.{cond, _||_}
 use Prim.Native.Nat.{ℕ}
 use native.Mathlib.Omega.{arith}
 use lib.Dec.{leb, ltb, eqb}
@@ -13,7 +13,6 @@ use Rattle.coord_record.specs.declared.Op.{Op}
 use Rattle.coord_record.specs.declared.Tally.{Tally}
 use Rattle.coord_rounds.specs.Counting.{saidNo, highest, otherTime, missing, atTimes}
 use Rattle.coord_rounds.specs.Deciding.{decidedRead, unlessSpent, decidedAt, decidedRecovery, decided}
-use Rattle.coord_rounds.specs.declared.Decision.{Decision}
 use Rattle.coord_rounds.specs.declared.Decision.the-variants.{Abort, Give, Look, Store, Recover, Finish}
 
 module _ (n m : ℕ) (op : Op) (t : Tally) where

@@ -2,21 +2,20 @@
 use mathlib.Core.Path.{_≡_, refl, sym, ap, ap₂, subst, _∙_}
 use mathlib.Core.Logic.{_⊎_, inl, inr}
 use mathlib.Core.Bool.{Bool, true, false, cond}
-use mathlib.Core.List.{List, [], _∷_, _++_, append-nil}
+use mathlib.Core.List.{List, [], _∷_, _++_}
 use Prim.Native.Nat.{ℕ, zero, suc, _+_, _-_, _*_, _≤_, _<_}
 use native.Mathlib.Omega.{arith}
-use native.Mathlib.Decide.{decLt, ℕ-discrete}
-use lib.Dec.{leb, ltb}
-use lib.ListN.{length, getD, take, drop, length-append, length-take, List·getD-append}
+use native.Mathlib.Decide.{decLt}
+use lib.Dec.{ltb}
+use lib.ListN.{length, getD, take, drop, length-append, List·getD-append}
 use lib.Seq.{getD-take, getD-at, length-take-le}
-use borrow.Author.Tests.{lt-ltb, le-ltb, ltb-true, ltb-false, le-leb, lt-leb, leb-true, leb-false}
+use borrow.Author.Tests.{lt-ltb, ltb-true, ltb-false, le-leb, lt-leb}
 use Rattle.settings.specs.Count.{count, one-if}
 use Rattle.settings.specs.RangeLaws.{CodeRange}
-use Rattle.interpolate.specs.RowLaws.{PointSet}
-use Rattle.interpolate.specs.Tabulate.{tabulate, stacked, length-tabulate, getD-tabulate}
+use Rattle.interpolate.specs.Tabulate.{stacked, length-tabulate, getD-tabulate}
 use Rattle.erasure.specs.Code.{codedOf, decodedOf}
 use Rattle.erasure.specs.Theorems
-use Rattle.erasure.specs.Theorems.{blocksOf, Stripe, Bricks, decode-encode}
+use Rattle.erasure.specs.Theorems.{blocksOf, Stripe, decode-encode}
 use Rattle.coord_record.specs.Rules.{above, isTarget}
 use Rattle.coord_rounds.specs.Counting.{passing, inRow, upward, targetRow}
 use Rattle.coord_acts.specs.Acts.{blockOf, gathered, stripeFrom}

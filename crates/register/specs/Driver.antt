@@ -6,7 +6,7 @@ use mathlib.Core.Bool.{Bool, true, false, cond}
 use mathlib.Core.List.{List, [], _∷_, _++_, append-nil}
 use Prim.Native.Nat.{ℕ, zero, suc, _*_, _%_}
 use lib.Dec.{leb, ltb, eqb}
-use lib.ListN.{length, replicate}
+use lib.ListN.{replicate}
 use borrow.Author.Tests.{eqb-true}
 use Rattle.settings.specs.Ranges.{quorum}
 use Rattle.settings.specs.Times.{drawOf}
@@ -18,7 +18,7 @@ use Rattle.message.specs.Flags.{members}
 use Rattle.message.specs.Kinds.{writeKind}
 use Rattle.message.specs.declared.Message.{Message}
 use Rattle.message.specs.declared.Reply.{Reply}
-use Rattle.brick.specs.Receive.{Outcome, outcome}
+use Rattle.brick.specs.Receive.{outcome}
 use Rattle.coord_record.specs.Records.{noBricks}
 use Rattle.coord_rounds.specs.Deciding.{decided}
 use Rattle.coord_rounds.specs.declared.Decision.{Decision}
@@ -45,28 +45,7 @@ use Rattle.coord_acts.specs.Steps.{
 use Rattle.coord_acts.specs.declared.Answer.{Answer}
 use Rattle.coordinator.specs.Rules.{takeStep, crashStep, crashed, drawnThen, writeStep, readStep}
 use Rattle.order.specs.Claim.{Seen}
-use Rattle.register.specs.Runs.{
-  plain,
-  Item,
-  message,
-  reply,
-  World,
-  Event,
-  startWrite,
-  startRead,
-  crashes,
-  Moved,
-  unmoved,
-  putAt,
-  seenOf,
-  blockFor,
-  toAll,
-  broadcasts,
-  coordinated,
-  received,
-  arriving,
-  step,
-}
+use Rattle.register.specs.Runs.{plain, Item, message, reply, World, startWrite, startRead, crashes, Moved, unmoved, putAt, seenOf, blockFor, toAll, broadcasts, coordinated, received, arriving, step}
 
 -- What a driver does with a coordinator's answer, and the buffers it had lent: it keeps the record, sends the message to all n bricks
 -- with the blocks of the output buffer, and notes what is seen.

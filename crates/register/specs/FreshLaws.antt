@@ -1,9 +1,8 @@
 -- What holds of a fresh set.
 use mathlib.Core.Path.{_≡_, refl, sym, ap, subst, _∙_}
 use mathlib.Core.Logic.{_⊎_, inl, inr}
-use mathlib.Core.Bool.{Bool, true, false}
 use mathlib.Core.List.{List, [], _∷_, List·Memᴰ·head, List·Memᴰ·not-nil, List·Memᴰ·eq-of-singleton}
-use Prim.Native.Nat.{ℕ, zero, suc, _+_, _-_, _*_, _≤_, _<_}
+use Prim.Native.Nat.{ℕ, _+_, _*_, _<_}
 use native.Mathlib.Omega.{arith}
 use native.Mathlib.Decide.{decLt}
 use native.Mathlib.Nat.{mul-le-mul-right, suc-mul}
@@ -25,8 +24,8 @@ use Rattle.order.specs.Claim.{Plain, _∈_}
 use Rattle.order.specs.Facts.{Fact, seen}
 use Rattle.order.specs.Places.{Suf, In}
 use Rattle.order.specs.Valid.{start, Val, Gone}
-use Rattle.register.specs.Runs.{plain, zeroStripe, Item, idle, Moved, unmoved, fresh}
-use Rattle.register.specs.Invariant.{quorums, Hist, Means, Stands, BrickInv, ImageInv, CoordinatorInv, Inv}
+use Rattle.register.specs.Runs.{plain, zeroStripe, idle, unmoved, fresh}
+use Rattle.register.specs.Invariant.{quorums, Means, Stands, BrickInv, CoordinatorInv, Inv}
 use Rattle.register.specs.LogLaws.{Rises, sound-of}
 use Rattle.register.specs.StartEvent.{wide-none}
 

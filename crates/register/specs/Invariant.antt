@@ -1,9 +1,9 @@
 -- What holds of the world at each moment of a run, with the history of the run so far: for each brick, for each item sent, for each coordinator.
 use mathlib.Core.Path.{_≡_}
 use mathlib.Core.Logic.{_⊎_}
-use mathlib.Core.Bool.{Bool, true, false}
-use mathlib.Core.List.{List, [], _∷_}
-use Prim.Native.Nat.{ℕ, _+_, _*_, _%_, _≤_, _<_}
+use mathlib.Core.Bool.{true}
+use mathlib.Core.List.{List}
+use Prim.Native.Nat.{ℕ, _%_, _≤_, _<_}
 use lib.ListN.{length, getD}
 use Rattle.settings.specs.Ranges.{quorum}
 use Rattle.settings.specs.RangeLaws.{SettingsRange}
@@ -24,12 +24,12 @@ use Rattle.coord_record.specs.Rules.{isTarget, blockRight}
 use Rattle.coord_record.specs.declared.Tally.{Tally}
 use Rattle.coord_acts.specs.Acts.{blockOf}
 use Rattle.coord_acts.specs.Steps.{Held}
-use Rattle.order.specs.Claim.{Plain, read, write, Seen, _∈_}
+use Rattle.order.specs.Claim.{Plain, read, write, _∈_}
 use Rattle.order.specs.Facts.{began, promised, stored, showed, History, seen}
 use Rattle.order.specs.Places.{In}
 use Rattle.order.specs.Quorums.{Quorums}
 use Rattle.order.specs.Valid.{Began, Launched, Ended, PromisedUpTo, Val, Committed, Gone, Valid}
-use Rattle.register.specs.Runs.{plain, Item, message, reply, World, Moved}
+use Rattle.register.specs.Runs.{plain, Item, message, reply, Moved}
 
 -- The quorums of a setting.
 abbrev pub quorums : (s : Settings) → SettingsRange s → Quorums

@@ -2,14 +2,14 @@
 use mathlib.Core.Path.{_≡_, refl, sym, ap, subst, _∙_}
 use mathlib.Core.Bool.{Bool, true, false, cond, _&&_}
 use mathlib.Core.List.{List, [], _∷_}
-use Prim.Native.Nat.{ℕ, zero, suc, _+_, _*_, _%_, _≤_, _<_}
+use Prim.Native.Nat.{ℕ, zero, suc, _*_, _%_, _≤_, _<_}
 use native.Mathlib.Omega.{arith}
 use lib.Dec.{leb, ltb, eqb}
-use lib.ListN.{length, replicate, length-replicate}
-use borrow.Author.Tests.{leb-true, ltb-true, eqb-true, eqb-false}
+use lib.ListN.{length, length-replicate}
+use borrow.Author.Tests.{ltb-true, eqb-true, eqb-false}
 use Rattle.settings.specs.Ranges.{codeRefusal, quorum, settingsRefusal}
-use Rattle.settings.specs.RangeLaws.{SettingsRange, settings-passed, and-left, and-right}
-use Rattle.settings.specs.Refusal.{refuseUnless, firstRefusal}
+use Rattle.settings.specs.RangeLaws.{SettingsRange, settings-passed, and-left}
+use Rattle.settings.specs.Refusal.{refuseUnless}
 use Rattle.settings.specs.Times.{maxCount, drawOf}
 use Rattle.settings.specs.declared.Clock.{Clock}
 use Rattle.settings.specs.declared.Draw.{Draw}
@@ -18,16 +18,16 @@ use Rattle.settings.specs.declared.Settings.{Settings}
 use Rattle.message.specs.Flags.{members}
 use Rattle.message.specs.declared.Reply.{Reply}
 use Rattle.image.specs.Brick.{Brick}
-use Rattle.image.specs.Parse.{Opens, parse, openRefusal}
+use Rattle.image.specs.Parse.{Opens, parse}
 use Rattle.image.specs.ParseLaws.{parse-image}
-use Rattle.coord_record.specs.Records.{noBricks, idleWith}
+use Rattle.coord_record.specs.Records.{noBricks}
 use Rattle.coord_record.specs.Rules.{tallyRight}
 use Rattle.coord_record.specs.Sound.{opRight, readRight, writeRight, sound}
 use Rattle.coord_rounds.specs.Counting.{targetFlags}
 use Rattle.coord_rounds.specs.Deciding.{tallied, decided}
 use Rattle.coord_acts.specs.Acts.{placed, ending, acted, withTally, counting, waitingOr, firstOp, starting}
 use Rattle.coord_acts.specs.Steps.{Held, Went, Step, refused, went, checked, nothingSeen, cutSeen}
-use Rattle.coordinator.specs.Checks.{writeRefusal, readRefusal, takeRefusal, crashRefusal}
+use Rattle.coordinator.specs.Checks.{writeRefusal, readRefusal, crashRefusal}
 use Rattle.coordinator.specs.Rules.{takeStep, crashed, crashStep, drawnThen, writeStep, readStep}
 use Rattle.register.specs.Runs.{
   Item,
@@ -60,7 +60,7 @@ use Rattle.register.specs.Invariant.{Hist, Wide, Inv}
 use Rattle.register.specs.BrickEvent.{put-here, put-there, in-range, first-passed, unless-passed}
 use Rattle.register.specs.StartEvent.{passes}
 use Rattle.register.specs.CountLaws.{Taken, taken, placed-length}
-use Rattle.register.specs.DecideLaws.{Fit, sound-op}
+use Rattle.register.specs.DecideLaws.{sound-op}
 use Rattle.register.specs.FreshLaws.{fresh-holds}
 use Rattle.register.specs.RecordLaws.{Parts, parts, whole, tally-counted}
 use Rattle.register.specs.RecordEvent.{Fine, idle-sound, start-fine, decision-fine}

@@ -2,14 +2,14 @@
 use mathlib.Core.Path.{_≡_, refl, sym, ap, subst, _∙_}
 use mathlib.Core.Logic.{_⊎_, inl, inr}
 use mathlib.Core.Bool.{Bool, true, false, cond, not, _&&_}
-use mathlib.Core.List.{List, [], _∷_}
-use Prim.Native.Nat.{ℕ, zero, suc, _+_, _-_, _≤_, _<_}
+use mathlib.Core.List.{List, _∷_}
+use Prim.Native.Nat.{ℕ, suc, _-_, _≤_, _<_}
 use native.Mathlib.Omega.{arith}
 use native.Mathlib.Decide.{ℕ-discrete}
-use lib.Dec.{leb, ltb, eqb}
+use lib.Dec.{leb, eqb}
 use lib.ListN.{length, getD}
 use borrow.Author.Tests.{leb-true, leb-false, eqb-true, eq-eqb, ne-eqb}
-use Rattle.settings.specs.RangeLaws.{SettingsRange, and-left, and-right}
+use Rattle.settings.specs.RangeLaws.{SettingsRange}
 use Rattle.settings.specs.Refusal.{refuseUnless}
 use Rattle.settings.specs.Times.{validTime, noUpperEnd}
 use Rattle.settings.specs.declared.Settings.{Settings}
@@ -25,7 +25,7 @@ use Rattle.order.specs.Claim.{_∈_}
 use Rattle.order.specs.Facts.{Fact, promised, stored, showed}
 use Rattle.order.specs.Places.{whole, above, In}
 use Rattle.order.specs.PlaceLaws.{in-top}
-use Rattle.order.specs.Valid.{Gone, Valid, next}
+use Rattle.order.specs.Valid.{Gone, Valid}
 use Rattle.order.specs.GoneLaws.{gone-up}
 use Rattle.register.specs.Runs.{plain, Item, message}
 use Rattle.register.specs.Invariant.{quorums, Hist, Means, Stands, BrickInv, MessageInv, Looked, ReplyInv}

@@ -1,24 +1,20 @@
 -- In a run from fresh no record is refused as 6, no buffer as 2: each routine leaves a sound record and buffers of their length.
 use mathlib.Core.Path.{_≡_, refl, sym, ap, subst, _∙_}
-use mathlib.Core.Logic.{_≢_, _⊎_, inl, inr}
-use mathlib.Core.Bool.{Bool, true, false, cond, not, _&&_, _||_}
-use mathlib.Core.List.{List, [], _∷_}
-use Prim.Native.Nat.{ℕ, zero, suc, _+_, _*_, _^_, _-_, _≤_, _<_}
+use mathlib.Core.Bool.{Bool, true, false, cond, _&&_, _||_}
+use mathlib.Core.List.{List, []}
+use Prim.Native.Nat.{ℕ, _+_, _*_, _≤_, _<_}
 use native.Mathlib.Omega.{arith}
 use lib.Dec.{leb, ltb, eqb}
-use lib.ListN.{length, getD, replicate, length-replicate}
-use borrow.Author.Tests.{leb-true, leb-false, ltb-true, eqb-true, eqb-false, lt-ltb, le-leb, eq-eqb, ne-eqb}
+use lib.ListN.{length}
+use borrow.Author.Tests.{leb-true, ltb-true, eqb-true, eqb-false, le-leb, eq-eqb, ne-eqb}
 use Rattle.settings.specs.Count.{count}
-use Rattle.settings.specs.Ranges.{quorum}
 use Rattle.settings.specs.RangeLaws.{SettingsRange, and-left, and-right}
-use Rattle.settings.specs.Times.{maxCount, noUpperEnd, timeOf, validTime, drawOf, nextCount}
+use Rattle.settings.specs.Times.{maxCount, noUpperEnd, timeOf, drawOf, nextCount}
 use Rattle.settings.specs.TimeLaws.{gave}
 use Rattle.settings.specs.declared.Clock.{Clock}
 use Rattle.settings.specs.declared.Draw.the-variants.{Drawn}
 use Rattle.settings.specs.declared.Settings.{Settings}
-use Rattle.message.specs.Flags.{member, members}
-use Rattle.message.specs.Messages.{foundRight}
-use Rattle.message.specs.declared.Reply.{Reply}
+use Rattle.message.specs.Flags.{members}
 use Rattle.interpolate.specs.BlockLaws.{length-blocksAt}
 use Rattle.erasure.specs.Code.{decodedOf}
 use Rattle.coord_record.specs.Each.{some}
@@ -26,16 +22,15 @@ use Rattle.coord_record.specs.Records.{nothingCounted, noBricks, noOp, idleWith
 use Rattle.coord_record.specs.Rules.{bricksRight, tallyRight}
 use Rattle.coord_record.specs.Sound.{maxRight, storedRight, readRight, writeRight, unsetOp, namedCount, opRight, timeRight, sound}
 use Rattle.coord_record.specs.declared.Op.{Op}
-use Rattle.coord_record.specs.declared.Tally.{Tally}
 use Rattle.coord_rounds.specs.Counting.{saidNo, highest, otherTime, missing, atTimes, picked, targetRow}
-use Rattle.coord_rounds.specs.Deciding.{tallied, decided}
+use Rattle.coord_rounds.specs.Deciding.{decided}
 use Rattle.coord_rounds.specs.declared.Decision.{Decision}
 use Rattle.coord_rounds.specs.declared.Decision.the-variants.{Abort, Give, Look, Store, Recover, Finish}
 use Rattle.coord_acts.specs.Acts.{stripeFrom, gathered, nextOp, opened, nextRound, ending, acted, firstOp, starting}
-use Rattle.coord_acts.specs.Steps.{Held, Broadcast, Went}
+use Rattle.coord_acts.specs.Steps.{Held, Broadcast}
 use Rattle.register.specs.DecideLaws.{Fit, reading, looking, restoring, ordering, storing}
 use Rattle.register.specs.DecisionLaws.{decided-reading, decided-ordering, decided-looking, decided-storing}
-use Rattle.register.specs.RecordLaws.{Parts, parts, whole, tally-none, bricks-none, few-none, highest-valid, bricks-picked}
+use Rattle.register.specs.RecordLaws.{whole, tally-none, bricks-none, few-none, highest-valid, bricks-picked}
 
 -- a coordinator that the next routine opens
 pub record Fine (s : Settings) (k : Held) : Type 0 where

@@ -1,15 +1,15 @@
 -- The q-th reply decides: another round of recovery, or the Write round of a recovered stripe.
 use mathlib.Core.Path.{_≡_, refl, sym, ap, subst, _∙_}
 use mathlib.Core.Logic.{_⊎_, inl, inr}
-use mathlib.Core.Bool.{Bool, true, false, cond, not, _&&_}
+use mathlib.Core.Bool.{Bool, true, false, cond, _&&_}
 use mathlib.Core.List.{List, [], _∷_}
-use Prim.Native.Nat.{ℕ, zero, suc, _+_, _*_, _≤_, _<_, max}
+use Prim.Native.Nat.{ℕ, zero, suc, _≤_, _<_, max}
 use native.Mathlib.Omega.{arith}
-use native.Mathlib.Decide.{decLt, decLe, ℕ-discrete}
+use native.Mathlib.Decide.{decLt, ℕ-discrete}
 use lib.Dec.{T, eqb}
-use lib.ListN.{getD, take}
+use lib.ListN.{getD}
 use borrow.Author.Tests.{eqb-true, eq-eqb}
-use Rattle.settings.specs.Count.{count, count-witness}
+use Rattle.settings.specs.Count.{count}
 use Rattle.settings.specs.Ranges.{quorum}
 use Rattle.settings.specs.RangeLaws.{SettingsRange, and-left, and-right}
 use Rattle.settings.specs.declared.Settings.{Settings}
@@ -18,10 +18,10 @@ use Rattle.erasure.specs.Code.{codedOf}
 use Rattle.erasure.specs.Theorems.{Stripe}
 use Rattle.coord_record.specs.Each.{some}
 use Rattle.coord_record.specs.Records.{noBricks}
-use Rattle.coord_rounds.specs.Counting.{saidNo, highest, atTime, atTimes, passing, picked}
+use Rattle.coord_rounds.specs.Counting.{saidNo, highest, atTime, atTimes, picked}
 use Rattle.coord_acts.specs.Acts.{blockOf, stripeFrom, roundMessage, nextOp, nextRound}
 use Rattle.coord_acts.specs.Steps.{Held}
-use Rattle.order.specs.Claim.{read, changed, _∈_}
+use Rattle.order.specs.Claim.{changed, _∈_}
 use Rattle.order.specs.Facts.{over, promised, launched, stored}
 use Rattle.order.specs.Places.{whole, above, In}
 use Rattle.order.specs.PlaceLaws.{suf-below, in-suf, in-above, in-top}
@@ -30,8 +30,8 @@ use Rattle.order.specs.Valid.{Launched, Val, onto, Gone, Valid}
 use Rattle.order.specs.FactLaws.{ok-at}
 use Rattle.order.specs.GoneLaws.{round-gone}
 use Rattle.order.specs.ValueLaws.{val-up, one-value}
-use Rattle.register.specs.Runs.{Item, message, reply, blockFor}
-use Rattle.register.specs.Invariant.{quorums, Hist, Means, Stands, MessageInv, ItemInv, CountedInv, Looked, Running, CoordinatorInv}
+use Rattle.register.specs.Runs.{Item}
+use Rattle.register.specs.Invariant.{quorums, Hist, Means, Stands, ItemInv, CountedInv, Looked, Running, CoordinatorInv}
 use Rattle.register.specs.TurnLaws.{turns-not, Turned}
 use Rattle.register.specs.RoundLaws.{opens}
 use Rattle.register.specs.DecodeLaws.{Row, decoded, picked-passes, picked-row}

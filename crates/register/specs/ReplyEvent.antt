@@ -1,66 +1,42 @@
 -- A reply reaches its coordinator: what holds of the world goes on to hold.
-use mathlib.Core.Path.{_≡_, refl, sym, ap, subst, _∙_}
-use mathlib.Core.Logic.{_⊎_, inl, inr}
-use mathlib.Core.Bool.{Bool, true, false, cond, not, _&&_, _||_}
-use mathlib.Core.List.{List, [], _∷_, List·Memᴰ·not-nil}
-use Prim.Native.Nat.{ℕ, zero, suc, _+_, _*_, _%_, _≤_, _<_}
+use mathlib.Core.Path.{_≡_, refl, sym, subst}
+use mathlib.Core.Logic.{inl, inr}
+use mathlib.Core.Bool.{Bool, true, false, cond, _||_}
+use mathlib.Core.List.{List, []}
+use Prim.Native.Nat.{ℕ, _*_, _%_, _≤_, _<_}
 use native.Mathlib.Omega.{arith}
 use lib.Dec.{leb, ltb, eqb}
-use lib.ListN.{length, getD}
-use borrow.Author.Tests.{leb-true, leb-false, ltb-false, eqb-true, eq-eqb, ne-eqb}
+use lib.ListN.{length}
+use borrow.Author.Tests.{leb-true, leb-false, ltb-false}
 use Rattle.settings.specs.Count.{count}
 use Rattle.settings.specs.Ranges.{quorum}
 use Rattle.settings.specs.RangeLaws.{SettingsRange}
 use Rattle.settings.specs.Times.{noUpperEnd}
 use Rattle.settings.specs.declared.Settings.{Settings}
-use Rattle.message.specs.Flags.{member, members}
+use Rattle.message.specs.Flags.{members}
 use Rattle.message.specs.declared.Reply.{Reply}
-use Rattle.erasure.specs.Code.{codedOf}
-use Rattle.erasure.specs.Theorems.{Stripe}
-use Rattle.coord_record.specs.Each.{some, some-at}
-use Rattle.coord_record.specs.Records.{noBricks}
-use Rattle.coord_record.specs.Rules.{isTarget, blockRight}
-use Rattle.coord_record.specs.declared.Op.{Op}
-use Rattle.coord_rounds.specs.Counting.{saidNo, highest, otherTime, missing, atTimes, picked, targetRow}
-use Rattle.coord_rounds.specs.Deciding.{tallied, decidedRead, unlessSpent, decidedAt, decidedRecovery, decided}
+use Rattle.coord_record.specs.Each.{some}
+use Rattle.coord_rounds.specs.Counting.{saidNo, highest, otherTime, missing, atTimes}
+use Rattle.coord_rounds.specs.Deciding.{decided}
 use Rattle.coord_rounds.specs.declared.Decision.{Decision}
 use Rattle.coord_rounds.specs.declared.Decision.the-variants.{Abort, Give, Look, Store, Recover, Finish}
-use Rattle.coord_acts.specs.Acts.{blockOf, stripeFrom, ending, acted, withTally, counting, waitingOr}
-use Rattle.coord_acts.specs.Steps.{Held, Went, Step, refused, went, checked, nothingSeen, readSeen}
+use Rattle.coord_acts.specs.Acts.{acted, withTally, counting, waitingOr}
+use Rattle.coord_acts.specs.Steps.{Held, refused, went, checked, nothingSeen}
 use Rattle.coordinator.specs.Checks.{takeRefusal}
 use Rattle.coordinator.specs.Rules.{takeStep}
-use Rattle.order.specs.Claim.{read, bytes, changed, given, _∈_}
-use Rattle.order.specs.Facts.{one-round, showed, shows, outcome}
-use Rattle.order.specs.Places.{In}
-use Rattle.order.specs.Quorums.{Many}
-use Rattle.order.specs.Valid.{Val, Gone, Valid}
-use Rattle.register.specs.Runs.{plain, Item, message, reply, World, Moved, seenOf, broadcasts, coordinated, arriving}
-use Rattle.register.specs.Invariant.{quorums, Hist, Means, ItemInv, CountedInv, Running, CoordinatorInv, Inv}
+use Rattle.order.specs.Claim.{_∈_}
+use Rattle.order.specs.Valid.{Valid}
+use Rattle.register.specs.Runs.{Item, reply, Moved, coordinated, arriving}
+use Rattle.register.specs.Invariant.{quorums, Hist, ItemInv, CoordinatorInv, Inv}
 use Rattle.register.specs.BrickEvent.{Goes}
 use Rattle.register.specs.TurnLaws.{Turned, goes-turned, goes-refused}
 use Rattle.register.specs.StartEvent.{passes}
-use Rattle.register.specs.RoundLaws.{stays, ends}
+use Rattle.register.specs.RoundLaws.{stays}
 use Rattle.register.specs.CountLaws.{Taken, taken, counting-keeps}
 use Rattle.register.specs.GiveLaws.{does-give}
 use Rattle.register.specs.DecisionLaws.{decided-reading, decided-ordering, decided-looking, decided-storing}
-use Rattle.register.specs.DecideLaws.{
-  Fit,
-  reading,
-  looking,
-  restoring,
-  ordering,
-  storing,
-  SoundOp,
-  sound-op,
-  now,
-  reply-at,
-  said-yes,
-  quorum-of,
-  does-abort,
-  does-store,
-  does-finish,
-}
-use Rattle.register.specs.RecoverLaws.{topOf, means-decode, does-look, gone-from, does-recover}
+use Rattle.register.specs.DecideLaws.{Fit, reading, looking, restoring, ordering, storing, sound-op, does-abort, does-store, does-finish}
+use Rattle.register.specs.RecoverLaws.{topOf, does-look, gone-from, does-recover}
 
 module _ (s : Settings) (g : SettingsRange s) (h : Hist s) (sent : List Item) (c : ℕ) (k : Held) (v : Valid (quorums s g) h)
     (i : CoordinatorInv s g h sent c k) (items : (z : Item) → z ∈ sent → ItemInv s g h sent z) (n : k .state .op .kind ≡ 0 → ⊥)

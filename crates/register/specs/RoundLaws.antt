@@ -1,27 +1,23 @@
 -- An operation ends, or its next round is sent: what holds of its coordinator and of what is sent.
 use mathlib.Core.Path.{_≡_, refl, sym, ap, subst, _∙_}
 use mathlib.Core.Logic.{_⊎_, inl, inr}
-use mathlib.Core.Bool.{Bool, true, false, cond}
 use mathlib.Core.List.{List, [], _∷_, _++_, append-nil, List·Memᴰ·not-nil, List·Memᴰ·append-cases}
-use Prim.Native.Nat.{ℕ, zero, suc, _+_, _*_, _%_, _≤_, _<_}
+use Prim.Native.Nat.{ℕ, _+_, _%_, _≤_, _<_}
 use native.Mathlib.Omega.{arith}
-use lib.Dec.{eqb}
-use lib.ListN.{replicate}
 use Rattle.settings.specs.RangeLaws.{SettingsRange}
-use Rattle.settings.specs.Times.{timeOf}
 use Rattle.settings.specs.declared.Settings.{Settings}
 use Rattle.message.specs.declared.Message.{Message}
 use Rattle.erasure.specs.Theorems.{Stripe}
 use Rattle.coord_record.specs.Records.{nothingCounted, noBricks, noOp, idleWith}
 use Rattle.coord_acts.specs.Acts.{roundMessage, nextOp, opened, nextRound, ending}
-use Rattle.coord_acts.specs.Steps.{Held, Broadcast, Went, nothingSeen}
-use Rattle.order.specs.Claim.{Action, read, write, Seen, _∈_}
-use Rattle.order.specs.Facts.{End, Fact, began, launched, ended, shows}
-use Rattle.order.specs.Places.{whole, above, In}
-use Rattle.order.specs.PlaceLaws.{in-suf, in-above, in-top}
+use Rattle.coord_acts.specs.Steps.{Held, Broadcast, nothingSeen}
+use Rattle.order.specs.Claim.{Action, write, _∈_}
+use Rattle.order.specs.Facts.{End, Fact, began, ended, shows}
+use Rattle.order.specs.Places.{In}
+use Rattle.order.specs.PlaceLaws.{in-suf}
 use Rattle.order.specs.Valid.{Began, Launched, Ended, Val, Gone, OkEnded, Valid}
 use Rattle.register.specs.Runs.{plain, Item, message, reply, seenOf, blockFor, broadcasts}
-use Rattle.register.specs.Invariant.{quorums, Hist, MessageInv, ItemInv, Wide, Asked, Running, CoordinatorInv}
+use Rattle.register.specs.Invariant.{quorums, Hist, MessageInv, ItemInv, Asked, Running, CoordinatorInv}
 use Rattle.register.specs.UpLaws.{in-cons}
 use Rattle.register.specs.TurnLaws.{Turns, turns-not, turns-ended, in-broadcast, Turned}
 use Rattle.register.specs.StartEvent.{none-member, wide-none}

@@ -6,7 +6,6 @@ use Prim.Native.Nat.{ℕ, zero, suc, _*_, _%_}
 use lib.Dec.{eqb, ltb}
 use lib.ListN.{replicate}
 use Rattle.settings.specs.declared.Settings.{Settings}
-use Rattle.settings.specs.declared.Clock.{Clock}
 use Rattle.little.specs.LittleLaws.{Bytes}
 use Rattle.message.specs.Kinds.{writeKind}
 use Rattle.message.specs.declared.Message.{Message}
@@ -18,10 +17,10 @@ use Rattle.brick.specs.declared.Given.{Given}
 use Rattle.brick.specs.declared.Given.the-variants.{Answered, Silent, Refused}
 use Rattle.coord_record.specs.Records.{readingKind, idleWith}
 use Rattle.coord_acts.specs.Acts.{blockOf}
-use Rattle.coord_acts.specs.Steps.{Held, Broadcast, Went, Step, refused, went, beganSeen, okSeen, readSeen, abortedSeen, cutSeen}
+use Rattle.coord_acts.specs.Steps.{Held, Broadcast, Step, refused, went, beganSeen, okSeen, readSeen, abortedSeen, cutSeen}
 use Rattle.coord_acts.specs.declared.Seen.{Seen as Shown}
 use Rattle.coordinator.specs.Rules.{takeStep, crashStep, writeStep, readStep}
-use Rattle.order.specs.Claim.{Plain, Action, read, write, ok, bytes, stripe, finished, aborted, cut, Seen, OneOrder}
+use Rattle.order.specs.Claim.{Plain, read, write, ok, bytes, stripe, finished, aborted, cut, Seen, OneOrder}
 
 -- "The plain stripe is m blocks, zeros at first."
 unfoldable pub zeroStripe : Settings → List ℕ

@@ -2,43 +2,42 @@
 use mathlib.Core.Path.{_≡_, refl, sym, ap, subst, _∙_}
 use mathlib.Core.Logic.{_⊎_, inl, inr}
 use mathlib.Core.Bool.{Bool, true, false, cond, _&&_}
-use mathlib.Core.List.{List, [], _∷_, _++_, append-nil, List·Memᴰ·not-nil, List·Memᴰ·append-cases}
-use Prim.Native.Nat.{ℕ, zero, suc, _+_, _*_, _%_, _≤_, _<_}
+use mathlib.Core.List.{List, [], _∷_, _++_, List·Memᴰ·append-cases}
+use Prim.Native.Nat.{ℕ, zero, suc, _*_, _%_, _≤_, _<_}
 use native.Mathlib.Omega.{arith}
 use native.Mathlib.Decide.{decLt}
 use lib.Dec.{leb, eqb}
-use lib.ListN.{length, getD, replicate, getD-replicate, List·getD-eq-default, length-replicate}
-use borrow.Author.Tests.{leb-true, eqb-true, eqb-false, eq-eqb, ne-eqb}
+use lib.ListN.{length, getD, replicate, getD-replicate, List·getD-eq-default}
+use borrow.Author.Tests.{leb-true, eqb-true, eq-eqb, ne-eqb}
 use Rattle.settings.specs.Ranges.{codeRefusal}
-use Rattle.settings.specs.RangeLaws.{SettingsRange, and-left, and-right}
-use Rattle.settings.specs.Refusal.{refuseUnless, firstRefusal}
+use Rattle.settings.specs.RangeLaws.{SettingsRange, and-left}
+use Rattle.settings.specs.Refusal.{refuseUnless}
 use Rattle.settings.specs.Times.{timeOf, drawOf}
-use Rattle.settings.specs.TimeLaws.{gave, drawn-valid, drawn-above, drawn-own}
+use Rattle.settings.specs.TimeLaws.{gave, drawn-above, drawn-own}
 use Rattle.settings.specs.declared.Clock.{Clock}
 use Rattle.settings.specs.declared.Draw.{Draw}
 use Rattle.settings.specs.declared.Draw.the-variants.{Drawn, Refused}
 use Rattle.settings.specs.declared.Settings.{Settings}
 use Rattle.little.specs.LittleLaws.{Bytes}
 use Rattle.message.specs.Flags.{member}
-use Rattle.message.specs.declared.Message.{Message}
 use Rattle.erasure.specs.Theorems.{Stripe}
-use Rattle.coord_record.specs.Records.{nothingCounted, noBricks, noOp, idleWith}
+use Rattle.coord_record.specs.Records.{nothingCounted, noBricks}
 use Rattle.coord_rounds.specs.Counting.{targetFlags}
-use Rattle.coord_acts.specs.Acts.{roundMessage, ending, firstOp, starting}
-use Rattle.coord_acts.specs.Steps.{Held, Broadcast, Went, Step, refused, went, checked, nothingSeen}
-use Rattle.coordinator.specs.Checks.{writeRefusal, readRefusal, crashRefusal}
-use Rattle.coordinator.specs.Rules.{drawnThen, writeStep, readStep, crashed, crashStep}
+use Rattle.coord_acts.specs.Acts.{roundMessage, firstOp, starting}
+use Rattle.coord_acts.specs.Steps.{Held, Broadcast, Went, refused, checked}
+use Rattle.coordinator.specs.Checks.{writeRefusal, readRefusal}
+use Rattle.coordinator.specs.Rules.{drawnThen, writeStep, readStep}
 use Rattle.order.specs.Claim.{Action, read, write, Seen, _∈_}
-use Rattle.order.specs.Facts.{Source, End, cut, Fact, began, launched, ended, shows, outcome}
-use Rattle.order.specs.Places.{whole, above, In}
-use Rattle.order.specs.PlaceLaws.{suf-below, in-suf, in-above, in-top}
-use Rattle.order.specs.Valid.{Began, Launched, Ended, OkBegan, OkEnded, Valid}
+use Rattle.order.specs.Facts.{Source, End, Fact, began, launched, ended}
+use Rattle.order.specs.Places.{In}
+use Rattle.order.specs.PlaceLaws.{suf-below, in-suf, in-top}
+use Rattle.order.specs.Valid.{Began, Valid}
 use Rattle.order.specs.FactLaws.{ok-at}
-use Rattle.register.specs.Runs.{plain, Item, message, reply, World, Moved, seenOf, blockFor, broadcasts, coordinated}
+use Rattle.register.specs.Runs.{plain, Item, message, reply, Moved, seenOf, blockFor, broadcasts, coordinated}
 use Rattle.register.specs.Invariant.{quorums, Hist, MessageInv, ItemInv, Wide, Asked, Running, CoordinatorInv, Inv}
 use Rattle.register.specs.UpLaws.{in-cons}
 use Rattle.register.specs.BrickEvent.{Goes, first-passed, unless-passed}
-use Rattle.register.specs.TurnLaws.{Turns, turns-not, turns-began, turns-ended, in-broadcast, Turned, goes-turned, goes-refused}
+use Rattle.register.specs.TurnLaws.{Turns, turns-began, in-broadcast, Turned, goes-turned, goes-refused}
 
 -- no brick is counted in a new round
 pub none-member : (b : ℕ) → member (replicate 16 0) b ≡ true → ⊥

@@ -1,43 +1,17 @@
 -- Demand 3: every run has one order.
 use mathlib.Core.Path.{_≡_, refl, subst}
-use mathlib.Core.Logic.{_⊎_, inl, inr}
 use mathlib.Core.Bool.{Bool, true, false, cond}
-use mathlib.Core.List.{List, [], _∷_, _++_, append-nil, List·Memᴰ·head, List·Memᴰ·tail}
+use mathlib.Core.List.{List, [], _∷_, append-nil, List·Memᴰ·head, List·Memᴰ·tail}
 use mathlib.Core.Path.{sym, _∙_}
 use Prim.Native.Nat.{ℕ, zero, suc}
 use lib.Dec.{ltb}
 use Rattle.settings.specs.Ranges.{settingsRefusal}
 use Rattle.settings.specs.RangeLaws.{SettingsRange, settings-passed}
 use Rattle.settings.specs.declared.Settings.{Settings}
-use Rattle.order.specs.Claim.{Seen, OneOrder, _∈_}
+use Rattle.order.specs.Claim.{OneOrder, _∈_}
 use Rattle.order.specs.Facts.{seen}
 use Rattle.order.specs.Theorem.{one-order}
-use Rattle.register.specs.Runs.{
-  plain,
-  Item,
-  message,
-  reply,
-  World,
-  fresh,
-  Event,
-  startWrite,
-  startRead,
-  arrives,
-  crashes,
-  goesDown,
-  comesUp,
-  Moved,
-  unmoved,
-  putAt,
-  arriving,
-  arrivingAt,
-  standing,
-  step,
-  next,
-  runFrom,
-  run,
-  RunHasOneOrder,
-}
+use Rattle.register.specs.Runs.{plain, Item, message, reply, fresh, Event, startWrite, startRead, arrives, crashes, goesDown, comesUp, Moved, unmoved, putAt, arriving, arrivingAt, standing, step, next, runFrom, run, RunHasOneOrder}
 use Rattle.register.specs.Invariant.{Hist, Inv}
 use Rattle.register.specs.BrickEvent.{Goes, goes-unmoved, message-arrives}
 use Rattle.register.specs.StartEvent.{write-starts, read-starts}

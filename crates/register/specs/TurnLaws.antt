@@ -1,9 +1,9 @@
 -- One event at one coordinator: the history grows by one fact at most, and how the world goes on.
 use mathlib.Core.Path.{_≡_, refl, sym, ap, subst, _∙_}
 use mathlib.Core.Logic.{_⊎_, inl, inr}
-use mathlib.Core.Bool.{Bool, true, false, cond}
+use mathlib.Core.Bool.{Bool, true, false}
 use mathlib.Core.List.{List, [], _∷_, _++_, append-nil, List·Memᴰ·not-nil, List·Memᴰ·append-cases, List·Memᴰ·eq-of-singleton}
-use Prim.Native.Nat.{ℕ, zero, suc, _%_, _≤_, _<_}
+use Prim.Native.Nat.{ℕ, zero, suc, _%_, _<_}
 use native.Mathlib.Omega.{arith}
 use lib.Dec.{eqb}
 use borrow.Author.Tests.{eqb-true, eqb-false}
@@ -11,15 +11,15 @@ use Rattle.settings.specs.RangeLaws.{SettingsRange}
 use Rattle.settings.specs.declared.Settings.{Settings}
 use Rattle.message.specs.declared.Message.{Message}
 use Rattle.image.specs.Brick.{Brick}
-use Rattle.coord_acts.specs.Steps.{Held, Broadcast, Went, Step, refused, went}
+use Rattle.coord_acts.specs.Steps.{Held, Broadcast, Went, refused, went}
 use Rattle.order.specs.Claim.{Action, Seen, _∈_}
 use Rattle.order.specs.Facts.{Source, End, Fact, began, launched, ended, seen, shows}
 use Rattle.order.specs.Places.{Suf, whole, above}
 use Rattle.order.specs.Valid.{OkBegan, OkLaunched, OkEnded, Ok, Valid, next}
-use Rattle.register.specs.Runs.{plain, Item, message, reply, World, Moved, unmoved, putAt, seenOf, blockFor, toAll, broadcasts, coordinated}
-use Rattle.register.specs.Invariant.{quorums, Hist, BrickInv, ItemInv, ImageInv, CoordinatorInv, Inv}
-use Rattle.register.specs.UpLaws.{Within, within-more, item-up, AtBrick, AtCoordinator, brick-up, coordinator-up, Quiet, coordinator-sent}
-use Rattle.register.specs.BrickEvent.{joined, Goes, goes-unmoved, put-here, put-there}
+use Rattle.register.specs.Runs.{plain, Item, message, Moved, putAt, seenOf, blockFor, toAll, broadcasts, coordinated}
+use Rattle.register.specs.Invariant.{quorums, Hist, BrickInv, ItemInv, CoordinatorInv, Inv}
+use Rattle.register.specs.UpLaws.{within-more, item-up, AtBrick, AtCoordinator, brick-up, coordinator-up, Quiet, coordinator-sent}
+use Rattle.register.specs.BrickEvent.{Goes, goes-unmoved, put-here, put-there}
 
 -- The history grows by what concerns coordinator c alone, and this is seen of it.
 pub record Turns (s : Settings) (g : SettingsRange s) (c : ℕ) (h h′ : Hist s) (shown : List (Seen (plain s))) : Type 0 where

@@ -1,10 +1,9 @@
 -- What holds goes on to hold: under more facts, and with more sent.
-use mathlib.Core.Path.{_≡_, refl, subst, sym, ap, _∙_}
+use mathlib.Core.Path.{_≡_, refl, subst, ap, _∙_}
 use mathlib.Core.Logic.{_⊎_, inl, inr}
-use mathlib.Core.Bool.{Bool, true, false}
-use mathlib.Core.List.{List, [], _∷_, _++_, Memᴰ·append-left, Memᴰ·append-right}
-use Prim.Native.Nat.{ℕ, _+_, _*_, _%_, _≤_, _<_}
-use native.Mathlib.Omega.{arith}
+use mathlib.Core.Bool.{true}
+use mathlib.Core.List.{List, _∷_, _++_, Memᴰ·append-left}
+use Prim.Native.Nat.{ℕ, _%_, _≤_, _<_}
 use Rattle.settings.specs.RangeLaws.{SettingsRange}
 use Rattle.settings.specs.declared.Settings.{Settings}
 use Rattle.message.specs.Kinds.{orderReadKind}
@@ -16,7 +15,7 @@ use Rattle.order.specs.Claim.{Plain, _∈_}
 use Rattle.order.specs.Facts.{Fact, began, promised, launched, stored, showed, ended, History}
 use Rattle.order.specs.Places.{Suf, whole, above, In}
 use Rattle.order.specs.PlaceLaws.{suf-cons, in-suf, in-above}
-use Rattle.order.specs.Valid.{Began, Launched, Ended, Gone, Valid}
+use Rattle.order.specs.Valid.{Began, Gone, Valid}
 use Rattle.order.specs.FactLaws.{committed-up}
 use Rattle.order.specs.StoreLaws.{stored-before}
 use Rattle.order.specs.GoneLaws.{gone-up}
