@@ -2,5 +2,7 @@
 pub mod BlockLaws
 pub mod OpCases
 pub mod RunLaws
+pub mod SentLaws
 pub mod Soundness
 pub mod TallyLaws
+pub mod TargetLaws

@@ -7,7 +7,7 @@ use Prim.Native.Nat.{ℕ, zero, suc, _+_, _-_, _*_, _≤_, _<_, max}
 use native.Mathlib.Omega.{arith}
 use lib.Dec.{eqb, leb, ltb}
 use lib.ListN.{length}
-use borrow.Author.Tests.{eqb-true}
+use borrow.Author.Tests.{eqb-true, ltb-true, ltb-false}
 use Rattle.coord_acts.specs.Acts.{nextOp, opened, nextRound, ending, roundMessage, trimMessage, finishedSeen, acted, withTally, counting, waitingOr, firstOp, starting}
 use Rattle.coord_acts.specs.Steps.{Held, Broadcast, Went, Step, refused, went, nothingSeen, abortedSeen, readSeen, okSeen, cutSeen, beganSeen}
 use Rattle.coord_acts.specs.declared.Seen.{Seen}
@@ -162,3 +162,23 @@ read-begins n m size h reading first w e =
       subst (Begins h 1) (d .3) (begins h reading 1 1 first (d .0) (d .1) (h .stripe) (targetFlags n m first) (d .2)),
       subst (λ (v : Went). v .sent ≡ record { message = roundMessage (v .next .state .op) (targetFlags n m first); blocks = [] } ∷ []) (d .3) refl,
     )
+
+-- A reply that is counted waits for more, or is the q-th and decides.
+pub take-cases : (n m size : ℕ) (h : Held) (r : Reply) (block : List ℕ) (coded : ℕ) (w : Went) → takeStep n m size h r block coded ≡ went w
+    → ((members (counting size h r block .state .tally .counted) n < quorum n m) × (record { next = counting size h r block; sent = []; seen = nothingSeen } ≡ w))
+    ⊎ ((quorum n m ≤ members (counting size h r block .state .tally .counted) n)
+    × (acted n m size (counting size h r block) (decided n m (counting size h r block .state .op) (counting size h r block .state .tally)) ≡ w))
+unfolding waitingOr
+take-cases n m size h r block coded w e = go (counting size h r block) (took n m size h r block coded w e .is)
+  where
+    by : (c : Held) (b : Bool) → ltb (members (c .state .tally .counted) n) (quorum n m) ≡ b
+        → cond b (record { next = c; sent = []; seen = nothingSeen }) (acted n m size c (decided n m (c .state .op) (c .state .tally))) ≡ w
+        → ((members (c .state .tally .counted) n < quorum n m) × (record { next = c; sent = []; seen = nothingSeen } ≡ w))
+        ⊎ ((quorum n m ≤ members (c .state .tally .counted) n) × (acted n m size c (decided n m (c .state .op) (c .state .tally)) ≡ w))
+    by c true l q = inl (ltb-true (members (c .state .tally .counted) n) (quorum n m) l, q)
+    by c false l q = inr (ltb-false (members (c .state .tally .counted) n) (quorum n m) l, q)
+
+    go : (c : Held) → waitingOr n m size c ≡ w
+        → ((members (c .state .tally .counted) n < quorum n m) × (record { next = c; sent = []; seen = nothingSeen } ≡ w))
+        ⊎ ((quorum n m ≤ members (c .state .tally .counted) n) × (acted n m size c (decided n m (c .state .op) (c .state .tally)) ≡ w))
+    go c q = by c (ltb (members (c .state .tally .counted) n) (quorum n m)) refl q

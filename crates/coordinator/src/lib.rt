@@ -300,7 +300,8 @@ pub fn start_write(
     bytes: &[u8],
     stripe: &mut [u8],
 ) -> Answer
-    ensures { λ r. ⌜ ((blocks : List ℕ) → (r ≡ answerOf c (writeStep n m size (heldOf c blocks (now (stripe .entry))) reading (now (bytes .entry)))) × (now (stripe .exit) ≡ stripeAfter (heldOf c blocks (now (stripe .entry))) (writeStep n m size (heldOf c blocks (now (stripe .entry))) reading (now (bytes .entry))))) ⌝ }
+    ensures { λ r. ⌜ ((blocks : List ℕ) → r ≡ answerOf c (writeStep n m size (heldOf c blocks (now (stripe .entry))) reading (now (bytes .entry)))) ⌝ }
+    ensures { λ r. ⌜ ((blocks : List ℕ) → now (stripe .exit) ≡ stripeAfter (heldOf c blocks (now (stripe .entry))) (writeStep n m size (heldOf c blocks (now (stripe .entry))) reading (now (bytes .entry)))) ⌝ }
 {
     let bad = write_refusal(n, m, size, c, reading, bytes.len(), stripe.len());
     if bad != 0 {
