@@ -1,0 +1,1 @@
+// What the bench has sent, kept in lent buffers.
