@@ -132,8 +132,8 @@ module _ (k : ℕ) (row flags block numbers bytes : List ℕ)
       record {
         same-numbers = put-before (k * 8) (k * 8) row numbers (omega arith) (omega arith);
         same-bytes =
-          put-before (k * 24 + 16) (k * 24) block (put (k * 24) flags bytes) (omega arith) (omega (arith, flags-put))
-          ∙ put-before (k * 24) (k * 24) flags bytes (omega arith) (omega arith);
+            put-before (k * 24 + 16) (k * 24) block (put (k * 24) flags bytes) (omega arith) (omega (arith, flags-put))
+            ∙ put-before (k * 24) (k * 24) flags bytes (omega arith) (omega arith);
       }
 
   items-stored : (size : ℕ) (item : Item) → length block ≡ size
@@ -145,6 +145,12 @@ module _ (k : ℕ) (row flags block numbers bytes : List ℕ)
       ∙ ap₂ (λ (l : List Item) (i : Item). l ++ i ∷ [])
       (items-below k numbers bytes (numbersWith k row numbers) (bytesWith k flags block bytes) stored-below size k (omega arith) (omega arith)) f
 
+-- two stores make a row of bytes, and one a row of numbers
+pub bytes-stored : (k : ℕ) (flags block bytes mid bytes′ : List ℕ) → mid ≡ put (k * 24) flags bytes → bytes′ ≡ put (k * 24 + 16) block mid
+    → bytes′ ≡ bytesWith k flags block bytes
+unfolding bytesWith
+bytes-stored k flags block bytes mid bytes′ e f = f ∙ ap (put (k * 24 + 16) block) e
+
 -- a message's row is read back as the message
 message-read : (k brick : ℕ) (msg : Message) (block numbers bytes : List ℕ) → msg .kind < 256 → length (msg .targets) ≡ 16 → length block ≤ 8
     → k * 8 + 8 ≤ length numbers → k * 24 + 24 ≤ length bytes → (size : ℕ) → length block ≡ size
@@ -153,7 +159,7 @@ unfolding itemAt messageAt replyAt messageRow
 message-read k brick msg block numbers bytes hk nf nb hn hb size e =
     let row = messageRow brick msg in
     let n : (i : ℕ) → i < 8 → numberAt (numbersWith k row numbers) k i ≡ getD row i 0
-        = number-stored k row (msg .targets) block numbers bytes refl nf nb hn hb in
+    = number-stored k row (msg .targets) block numbers bytes refl nf nb hn hb in
     let n0 = n 0 (omega arith) in
     let n1 = n 1 (omega arith) in
     let n2 = n 2 (omega arith) in
@@ -164,3 +170,89 @@ message-read k brick msg block numbers bytes hk nf nb hn hb size e =
     let d = block-stored k row (msg .targets) block numbers bytes refl nf nb hn hb size e in
     let m : msg .kind % 256 ≡ msg .kind = mod-eq-of-lt hk in
     rw (n0, n1, n2, n3, n4, n5, f, d, m)
+
+-- a reply's row is read back as the reply
+one-is : (b : Bool) → eqb (one-if b) 1 ≡ b
+one-is true = refl
+one-is false = refl
+
+no-flags-length : length noFlags ≡ 16
+unfolding noFlags zeros
+no-flags-length = refl
+
+reply-read : (k : ℕ) (r : Reply) (block numbers bytes : List ℕ) → r .kind < 256 → length block ≤ 8
+    → k * 8 + 8 ≤ length numbers → k * 24 + 24 ≤ length bytes → (size : ℕ) → length block ≡ size
+    → itemAt size (numbersWith k (replyRow r) numbers) (bytesWith k noFlags block bytes) k ≡ reply r block
+unfolding itemAt messageAt replyAt replyRow
+reply-read k r block numbers bytes hk nb hn hb size e =
+    let row = replyRow r in
+    let nf = no-flags-length in
+    let n : (i : ℕ) → i < 8 → numberAt (numbersWith k row numbers) k i ≡ getD row i 0
+    = number-stored k row noFlags block numbers bytes refl nf nb hn hb in
+    let n0 = n 0 (omega arith) in
+    let n1 = n 1 (omega arith) in
+    let n2 = n 2 (omega arith) in
+    let n3 = n 3 (omega arith) in
+    let n4 = n 4 (omega arith) in
+    let n5 = n 5 (omega arith) in
+    let n6 = n 6 (omega arith) in
+    let n7 = n 7 (omega arith) in
+    let d = block-stored k row noFlags block numbers bytes refl nf nb hn hb size e in
+    let m : r .kind % 256 ≡ r .kind = mod-eq-of-lt hk in
+    rw (n0, n1, n2, n3, n4, n5, n6, n7, d, m, one-is (r .yes), one-is (r .held))
+
+-- what the stores of a message and of a reply leave
+pub message-added : (k brick : ℕ) (msg : Message) (block numbers bytes numbers′ bytes′ : List ℕ) → msg .kind < 256 → length (msg .targets) ≡ 16
+    → length block ≤ 8 → k * 8 + 8 ≤ length numbers → k * 24 + 24 ≤ length bytes
+    → numbers′ ≡ numbersWith k (messageRow brick msg) numbers → bytes′ ≡ bytesWith k (msg .targets) block bytes
+    → Added k block numbers bytes numbers′ bytes′ (message brick msg block)
+unfolding messageRow
+message-added k brick msg block numbers bytes numbers′ bytes′ hk nf nb hn hb en eb =
+    record {
+      items = λ size e. (
+          ap₂ (λ (n b : List ℕ). itemsOf size n b (k + 1)) en eb
+          ∙ items-stored k (messageRow brick msg) (msg .targets) block numbers bytes refl nf nb hn hb size (message brick msg block) e
+          (message-read k brick msg block numbers bytes hk nf nb hn hb size e)
+          );
+    }
+
+pub reply-added : (k : ℕ) (r : Reply) (block numbers bytes numbers′ bytes′ : List ℕ) → r .kind < 256
+    → length block ≤ 8 → k * 8 + 8 ≤ length numbers → k * 24 + 24 ≤ length bytes
+    → numbers′ ≡ numbersWith k (replyRow r) numbers → bytes′ ≡ bytesWith k noFlags block bytes
+    → Added k block numbers bytes numbers′ bytes′ (reply r block)
+unfolding replyRow
+reply-added k r block numbers bytes numbers′ bytes′ hk nb hn hb en eb =
+    record {
+      items = λ size e. (
+          ap₂ (λ (n b : List ℕ). itemsOf size n b (k + 1)) en eb
+          ∙ items-stored k (replyRow r) noFlags block numbers bytes refl no-flags-length nb hn hb size (reply r block) e
+          (reply-read k r block numbers bytes hk nb hn hb size e)
+          );
+    }
+
+pub message-put : (k brick kind : ℕ) (msg : Message) (block numbers bytes numbers′ bytes′ : List ℕ) → kind ≡ msg .kind → kind < 256
+    → length (msg .targets) ≡ 16 → length block ≤ 8 → k * 8 + 8 ≤ length numbers → k * 24 + 24 ≤ length bytes
+    → numbers′ ≡ put (k * 8) (0 ∷ brick ∷ kind ∷ msg .time ∷ msg .round ∷ msg .max ∷ 0 ∷ 0 ∷ []) numbers
+    → bytes′ ≡ bytesWith k (msg .targets) block bytes
+    → (numbers′ ≡ numbersWith k (messageRow brick msg) numbers)
+    × ((bytes′ ≡ bytesWith k (msg .targets) block bytes)
+    × Added k block numbers bytes numbers′ bytes′ (message brick msg block))
+unfolding numbersWith messageRow
+message-put k brick kind msg block numbers bytes numbers′ bytes′ ek hk nf nb hn hb en eb =
+    let e : numbers′ ≡ numbersWith k (messageRow brick msg) numbers
+    = en ∙ ap (λ (x : ℕ). put (k * 8) (0 ∷ brick ∷ x ∷ msg .time ∷ msg .round ∷ msg .max ∷ 0 ∷ 0 ∷ []) numbers) ek in
+    (e, (eb, message-added k brick msg block numbers bytes numbers′ bytes′ (omega arith) nf nb hn hb e eb))
+
+pub reply-put : (k kind y h : ℕ) (r : Reply) (block numbers bytes numbers′ bytes′ : List ℕ) → kind ≡ r .kind → kind < 256
+    → y ≡ one-if (r .yes) → h ≡ one-if (r .held)
+    → length block ≤ 8 → k * 8 + 8 ≤ length numbers → k * 24 + 24 ≤ length bytes
+    → numbers′ ≡ put (k * 8) (1 ∷ r .brick ∷ kind ∷ r .time ∷ r .round ∷ r .found ∷ y ∷ h ∷ []) numbers
+    → bytes′ ≡ bytesWith k noFlags block bytes
+    → (numbers′ ≡ numbersWith k (replyRow r) numbers)
+    × ((bytes′ ≡ bytesWith k noFlags block bytes)
+    × Added k block numbers bytes numbers′ bytes′ (reply r block))
+unfolding numbersWith replyRow
+reply-put k kind y h r block numbers bytes numbers′ bytes′ ek hk ey eh nb hn hb en eb =
+    let e : numbers′ ≡ numbersWith k (replyRow r) numbers
+    = en ∙ rw (ek, ey, eh) in
+    (e, (eb, reply-added k r block numbers bytes numbers′ bytes′ (omega arith) nb hn hb e eb))

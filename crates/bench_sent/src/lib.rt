@@ -1,1 +1,91 @@
-// What the bench has sent, kept in lent buffers.
+// What the bench has sent, kept in lent buffers: item k has a row of 8 numbers at k * 8 (tag, brick, kind, time, round, max or found,
+// yes, held) and a row of 24 bytes at k * 24 (16 target flags, then the block).
+ghost use mathlib.Core.Path.{_≡_};
+ghost use Prim.Native.Nat.{_+_, _*_, _≤_, _<_};
+ghost use lib.ListN.{length};
+ghost use Rattle.block.specs.Block.{put};
+ghost use Rattle.register.specs.Runs.{message, reply};
+ghost use Rattle.settings.specs.Count.{one-if};
+ghost use Rattle.bench_sent.specs.Sent.{messageRow, replyRow, numbersWith, bytesWith, noFlags};
+ghost use Rattle.bench_sent.specs.SentLaws.{Added};
+use message::Message;
+use message::Reply;
+
+// Numbers copied into a buffer from a place on.
+fn store_row(numbers: &mut [u64], at: usize, row: &[u64])
+    requires { ⌜ at + length (now row) ≤ length (now numbers) ⌝ }
+    ensures { λ _. ⌜ now (numbers .exit) ≡ put at (now (row .entry)) (now (numbers .entry)) ⌝ }
+{
+    let mut i: usize = 0;
+    while i < row.len() {
+        numbers[at + i] = row[i];
+        i += 1;
+    }
+}
+
+// A row's flags, and its block behind them.
+fn store_bytes(k: usize, flags: [u8; 16], block: &[u8], bytes: &mut [u8])
+    requires { ⌜ (length (now block) ≤ 8) × (k * 24 + 24 ≤ length (now bytes)) ⌝ }
+    ensures { λ _. ⌜ now (bytes .exit) ≡ bytesWith k flags (now (block .entry)) (now (bytes .entry)) ⌝ }
+{
+    let at = k * 24;
+    let from = at + 16;
+    block::store(bytes, at, &flags);
+    block::store(bytes, from, block)
+}
+
+// A byte as a larger number.
+fn wide(x: u8) -> u64
+    ensures { λ r. ⌜ (r ≡ x) × (r < 256) ⌝ }
+{
+    x as u64
+}
+
+// 1 for true, 0 for false.
+fn flag(b: bool) -> u64
+    ensures { λ r. ⌜ r ≡ one-if b ⌝ }
+{
+    if b {
+        return 1;
+    }
+    0
+}
+
+// A message to a brick, kept in row k.
+pub fn put_message(
+    k: usize,
+    brick: usize,
+    msg: Message,
+    block: &[u8],
+    numbers: &mut [u64],
+    bytes: &mut [u8],
+)
+    requires { ⌜ (length (now block) ≤ 8) × (k * 8 + 8 ≤ length (now numbers)) × (k * 24 + 24 ≤ length (now bytes)) ⌝ }
+    ensures { λ _. ⌜ now (numbers .exit) ≡ numbersWith k (messageRow brick msg) (now (numbers .entry)) ⌝ }
+    ensures { λ _. ⌜ now (bytes .exit) ≡ bytesWith k (msg .targets) (now (block .entry)) (now (bytes .entry)) ⌝ }
+    ensures { λ _. ⌜ Added k (now (block .entry)) (now (numbers .entry)) (now (bytes .entry)) (now (numbers .exit)) (now (bytes .exit)) (message brick msg (now (block .entry))) ⌝ }
+{
+    let kind = wide(msg.kind);
+    let to = brick as u64;
+    let row = [0, to, kind, msg.time, msg.round, msg.max, 0, 0];
+    let targets = msg.targets;
+    store_row(numbers, k * 8, &row);
+    store_bytes(k, targets, block, bytes)
+}
+
+// A reply, kept in row k.
+pub fn put_reply(k: usize, r: Reply, block: &[u8], numbers: &mut [u64], bytes: &mut [u8])
+    requires { ⌜ (length (now block) ≤ 8) × (k * 8 + 8 ≤ length (now numbers)) × (k * 24 + 24 ≤ length (now bytes)) ⌝ }
+    ensures { λ _. ⌜ now (numbers .exit) ≡ numbersWith k (replyRow r) (now (numbers .entry)) ⌝ }
+    ensures { λ _. ⌜ now (bytes .exit) ≡ bytesWith k noFlags (now (block .entry)) (now (bytes .entry)) ⌝ }
+    ensures { λ _. ⌜ Added k (now (block .entry)) (now (numbers .entry)) (now (bytes .entry)) (now (numbers .exit)) (now (bytes .exit)) (reply r (now (block .entry))) ⌝ }
+{
+    let kind = wide(r.kind);
+    let from = r.brick as u64;
+    let agreed = flag(r.yes);
+    let held = flag(r.held);
+    let row = [1, from, kind, r.time, r.round, r.found, agreed, held];
+    let none = [0u8; 16];
+    store_row(numbers, k * 8, &row);
+    store_bytes(k, none, block, bytes)
+}
