@@ -1,11 +1,13 @@
 -- What the bench has sent, kept in two lent buffers. Item k has a row of 8 numbers at k * 8: tag (0 a message, 1 a reply), brick, kind, time,
 -- round, max of a message or found of a reply, yes, held; and a row of 24 bytes at k * 24: 16 target flags, then the block.
-use mathlib.Core.Bool.{cond}
+use mathlib.Core.Path.{_≡_}
+use mathlib.Core.Bool.{Bool, cond, not}
 use mathlib.Core.List.{List, [], _∷_, _++_}
-use Prim.Native.Nat.{ℕ, zero, suc, _+_, _*_, _%_}
+use Prim.Native.Nat.{ℕ, zero, suc, _+_, _*_, _%_, _≤_}
 use lib.Dec.{eqb}
-use lib.ListN.{getD, take, drop}
+use lib.ListN.{length, getD, take, drop}
 use Rattle.block.specs.Block.{zeros, put}
+use Rattle.message.specs.Kinds.{writeKind}
 use Rattle.message.specs.declared.Message.{Message}
 use Rattle.message.specs.declared.Reply.{Reply}
 use Rattle.register.specs.Runs.{Item, message, reply}
@@ -14,6 +16,10 @@ use Rattle.settings.specs.Count.{one-if}
 -- number i of row k
 unfoldable pub numberAt : List ℕ → ℕ → ℕ → ℕ
 numberAt numbers k i = getD numbers (k * 8 + i) 0
+
+-- whether row k is a reply, by its tag
+unfoldable pub isReply : List ℕ → ℕ → Bool
+isReply numbers k = not (eqb (numberAt numbers k 0) 0)
 
 -- the 16 target flags of row k
 unfoldable pub flagsAt : List ℕ → ℕ → List ℕ
@@ -50,9 +56,9 @@ replyAt numbers k =
 -- the item that row k stands for
 unfoldable pub itemAt : ℕ → List ℕ → List ℕ → ℕ → Item
 itemAt size numbers bytes k =
-    cond (eqb (numberAt numbers k 0) 0)
-    (message (numberAt numbers k 1) (messageAt numbers bytes k) (blockAt size bytes k))
+    cond (isReply numbers k)
     (reply (replyAt numbers k) (blockAt size bytes k))
+    (message (numberAt numbers k 1) (messageAt numbers bytes k) (blockAt size bytes k))
 
 -- the items of the first k rows, in their order
 unfoldable pub itemsOf : ℕ → List ℕ → List ℕ → ℕ → List Item
@@ -76,3 +82,7 @@ bytesWith k flags block bytes = put (k * 24 + 16) block (put (k * 24) flags byte
 -- no targets: the flags of a reply's row
 unfoldable pub noFlags : List ℕ
 noFlags = zeros 16
+
+-- the blocks of n bricks are there, if they are sent: with a Write
+pub record Coded (n size : ℕ) (msg : Message) (coded : List ℕ) : Type 0 where
+  pub enough : msg .kind ≡ writeKind → n * size ≤ length coded

@@ -1,6 +1,6 @@
 -- Rows stored and read back.
 use mathlib.Core.Path.{_≡_, refl, sym, ap, ap₂, subst, _∙_}
-use mathlib.Core.Bool.{Bool, true, false, cond}
+use mathlib.Core.Bool.{Bool, true, false, cond, not}
 use mathlib.Core.List.{List, [], _∷_, _++_, append-assoc}
 use Prim.Native.Nat.{ℕ, zero, suc, _+_, _-_, _*_, _%_, _≤_, _<_}
 use native.Mathlib.Omega.{arith}
@@ -14,7 +14,7 @@ use Rattle.message.specs.declared.Message.{Message}
 use Rattle.message.specs.declared.Reply.{Reply}
 use Rattle.register.specs.Runs.{Item, message, reply}
 use Rattle.settings.specs.Count.{one-if}
-use Rattle.bench_sent.specs.Sent.{numberAt, flagsAt, blockAt, messageAt, replyAt, itemAt, itemsOf, messageRow, replyRow, numbersWith, bytesWith, noFlags}
+use Rattle.bench_sent.specs.Sent.{numberAt, isReply, Coded, flagsAt, blockAt, messageAt, replyAt, itemAt, itemsOf, messageRow, replyRow, numbersWith, bytesWith, noFlags}
 
 -- what was put is found there, and what stands before it is as it was
 put-is : (at : ℕ) (row l : List ℕ) → put at row l ≡ take at l ++ (row ++ drop (at + length row) l)
@@ -81,7 +81,7 @@ module _ (k : ℕ) (numbers bytes numbers′ bytes′ : List ℕ) (b : Below k n
   block-below size j hs hj = cut-same (j * 24 + 16) size (k * 24) bytes bytes′ (omega arith) (b .same-bytes)
 
   item-below : (size j : ℕ) → size ≤ 8 → j < k → itemAt size numbers′ bytes′ j ≡ itemAt size numbers bytes j
-  unfolding itemAt messageAt replyAt
+  unfolding itemAt isReply messageAt replyAt
   item-below size j hs hj =
       let n0 = number-below j 0 hj (omega arith) in
       let n1 = number-below j 1 hj (omega arith) in
@@ -155,7 +155,7 @@ bytes-stored k flags block bytes mid bytes′ e f = f ∙ ap (put (k * 24 + 16) 
 message-read : (k brick : ℕ) (msg : Message) (block numbers bytes : List ℕ) → msg .kind < 256 → length (msg .targets) ≡ 16 → length block ≤ 8
     → k * 8 + 8 ≤ length numbers → k * 24 + 24 ≤ length bytes → (size : ℕ) → length block ≡ size
     → itemAt size (numbersWith k (messageRow brick msg) numbers) (bytesWith k (msg .targets) block bytes) k ≡ message brick msg block
-unfolding itemAt messageAt replyAt messageRow
+unfolding itemAt isReply messageAt replyAt messageRow
 message-read k brick msg block numbers bytes hk nf nb hn hb size e =
     let row = messageRow brick msg in
     let n : (i : ℕ) → i < 8 → numberAt (numbersWith k row numbers) k i ≡ getD row i 0
@@ -183,7 +183,7 @@ no-flags-length = refl
 reply-read : (k : ℕ) (r : Reply) (block numbers bytes : List ℕ) → r .kind < 256 → length block ≤ 8
     → k * 8 + 8 ≤ length numbers → k * 24 + 24 ≤ length bytes → (size : ℕ) → length block ≡ size
     → itemAt size (numbersWith k (replyRow r) numbers) (bytesWith k noFlags block bytes) k ≡ reply r block
-unfolding itemAt messageAt replyAt replyRow
+unfolding itemAt isReply messageAt replyAt replyRow
 reply-read k r block numbers bytes hk nb hn hb size e =
     let row = replyRow r in
     let nf = no-flags-length in
@@ -256,3 +256,46 @@ reply-put k kind y h r block numbers bytes numbers′ bytes′ ek hk ey eh nb hn
     let e : numbers′ ≡ numbersWith k (replyRow r) numbers
     = en ∙ rw (ek, ey, eh) in
     (e, (eb, reply-added k r block numbers bytes numbers′ bytes′ (omega arith) nb hn hb e eb))
+
+-- a row as its reader takes it apart
+pub item-message : (size k b : ℕ) (msg : Message) (block numbers bytes : List ℕ) → isReply numbers k ≡ false → b ≡ numberAt numbers k 1
+    → msg ≡ messageAt numbers bytes k → block ≡ blockAt size bytes k → itemAt size numbers bytes k ≡ message b msg block
+unfolding itemAt
+item-message size k b msg block numbers bytes t eb em e = rw (t, eb, em, e)
+
+pub item-reply : (size k : ℕ) (r : Reply) (block numbers bytes : List ℕ) → isReply numbers k ≡ true
+    → r ≡ replyAt numbers k → block ≡ blockAt size bytes k → itemAt size numbers bytes k ≡ reply r block
+unfolding itemAt
+item-reply size k r block numbers bytes t er e = rw (t, er, e)
+
+-- a row's block, as code cuts it out
+pub block-cut : (size k from till : ℕ) (bytes : List ℕ) → from ≡ k * 24 + 16 → till ≡ from + size
+    → take (till - from) (drop from bytes) ≡ blockAt size bytes k
+unfolding blockAt
+block-cut size k from till bytes ef et =
+    let e : till - from ≡ size = omega arith in
+    ap₂ (λ (a b : ℕ). take a (drop b bytes)) e ef
+
+pub flags-cut : (k : ℕ) (bytes flags : List ℕ) → flags ≡ take (k * 24 + 16 - k * 24) (drop (k * 24) bytes) → flags ≡ flagsAt bytes k
+unfolding flagsAt
+flags-cut k bytes flags f =
+    let e : k * 24 + 16 - k * 24 ≡ 16 = omega arith in
+    f ∙ ap (λ (a : ℕ). take a (drop (k * 24) bytes)) e
+
+-- the parts of a row make the message, and the reply
+pub message-of : (k kind time round max : ℕ) (targets numbers bytes : List ℕ) → kind ≡ numberAt numbers k 2 % 256
+    → time ≡ numberAt numbers k 3 → round ≡ numberAt numbers k 4 → max ≡ numberAt numbers k 5 → targets ≡ flagsAt bytes k
+    → record { kind = kind; time = time; round = round; max = max; targets = targets } ≡ messageAt numbers bytes k
+unfolding messageAt
+message-of k kind time round max targets numbers bytes e2 e3 e4 e5 f = rw (e2, e3, e4, e5, f)
+
+pub reply-of : (k kind brick time round found y h : ℕ) (numbers : List ℕ) → kind ≡ numberAt numbers k 2 % 256
+    → brick ≡ numberAt numbers k 1 → time ≡ numberAt numbers k 3 → round ≡ numberAt numbers k 4 → found ≡ numberAt numbers k 5
+    → y ≡ numberAt numbers k 6 → h ≡ numberAt numbers k 7
+    → record { kind = kind; brick = brick; time = time; round = round; yes = eqb y 1; found = found; held = eqb h 1 } ≡ replyAt numbers k
+unfolding replyAt
+reply-of k kind brick time round found y h numbers e2 e1 e3 e4 e5 e6 e7 = rw (e2, e1, e3, e4, e5, e6, e7)
+
+pub is-reply : (k tag : ℕ) (numbers : List ℕ) → tag ≡ numberAt numbers k 0 → not (eqb tag 0) ≡ isReply numbers k
+unfolding isReply
+is-reply k tag numbers e = rw e

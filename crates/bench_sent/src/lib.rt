@@ -1,12 +1,12 @@
 // What the bench has sent, kept in lent buffers: item k has a row of 8 numbers at k * 8 (tag, brick, kind, time, round, max or found,
 // yes, held) and a row of 24 bytes at k * 24 (16 target flags, then the block).
 ghost use mathlib.Core.Path.{_≡_};
-ghost use Prim.Native.Nat.{_+_, _*_, _≤_, _<_};
+ghost use Prim.Native.Nat.{_+_, _*_, _%_, _≤_, _<_};
 ghost use lib.ListN.{length};
 ghost use Rattle.block.specs.Block.{put};
 ghost use Rattle.register.specs.Runs.{message, reply};
 ghost use Rattle.settings.specs.Count.{one-if};
-ghost use Rattle.bench_sent.specs.Sent.{messageRow, replyRow, numbersWith, bytesWith, noFlags};
+ghost use Rattle.bench_sent.specs.Sent.{numberAt, isReply, flagsAt, messageAt, replyAt, messageRow, replyRow, numbersWith, bytesWith, noFlags};
 ghost use Rattle.bench_sent.specs.SentLaws.{Added};
 use message::Message;
 use message::Reply;
@@ -88,4 +88,91 @@ pub fn put_reply(k: usize, r: Reply, block: &[u8], numbers: &mut [u64], bytes: &
     let none = [0u8; 16];
     store_row(numbers, k * 8, &row);
     store_bytes(k, none, block, bytes)
+}
+
+// One number of row k.
+fn number_at(numbers: &[u64], k: usize, i: usize) -> u64
+    requires { ⌜ (i < 8) × (k * 8 + 8 ≤ length (now numbers)) ⌝ }
+    ensures { λ r. ⌜ r ≡ numberAt (now (numbers .entry)) k i ⌝ }
+{
+    numbers[k * 8 + i]
+}
+
+// Whether row k is a reply.
+pub fn is_reply(numbers: &[u64], k: usize) -> bool
+    requires { ⌜ k * 8 + 8 ≤ length (now numbers) ⌝ }
+    ensures { λ r. ⌜ r ≡ isReply (now (numbers .entry)) k ⌝ }
+{
+    number_at(numbers, k, 0) != 0
+}
+
+// The brick that a message goes to.
+pub fn brick_at(numbers: &[u64], k: usize) -> usize
+    requires { ⌜ k * 8 + 8 ≤ length (now numbers) ⌝ }
+    ensures { λ r. ⌜ r ≡ numberAt (now (numbers .entry)) k 1 ⌝ }
+{
+    number_at(numbers, k, 1) as usize
+}
+
+// The kind of row k.
+fn kind_at(numbers: &[u64], k: usize) -> u8
+    requires { ⌜ k * 8 + 8 ≤ length (now numbers) ⌝ }
+    ensures { λ r. ⌜ r ≡ numberAt (now (numbers .entry)) k 2 % 256 ⌝ }
+{
+    let kind = number_at(numbers, k, 2);
+    (kind % 256) as u8
+}
+
+// The target flags of row k.
+fn flags_at(bytes: &[u8], k: usize) -> [u8; 16]
+    requires { ⌜ k * 24 + 24 ≤ length (now bytes) ⌝ }
+    ensures { λ r. ⌜ r ≡ flagsAt (now (bytes .entry)) k ⌝ }
+{
+    let at = k * 24;
+    let end = at + 16;
+    let mut flags = [0u8; 16];
+    coord_acts::copy(&bytes[at..end], &mut flags);
+    flags
+}
+
+// The message of row k.
+pub fn message_at(numbers: &[u64], bytes: &[u8], k: usize) -> Message
+    requires { ⌜ (k * 8 + 8 ≤ length (now numbers)) × (k * 24 + 24 ≤ length (now bytes)) ⌝ }
+    ensures { λ r. ⌜ r ≡ messageAt (now (numbers .entry)) (now (bytes .entry)) k ⌝ }
+{
+    let kind = kind_at(numbers, k);
+    let time = number_at(numbers, k, 3);
+    let round = number_at(numbers, k, 4);
+    let max = number_at(numbers, k, 5);
+    let targets = flags_at(bytes, k);
+    Message {
+        kind: kind,
+        time: time,
+        round: round,
+        max: max,
+        targets: targets,
+    }
+}
+
+// The reply of row k.
+pub fn reply_at(numbers: &[u64], k: usize) -> Reply
+    requires { ⌜ k * 8 + 8 ≤ length (now numbers) ⌝ }
+    ensures { λ r. ⌜ r ≡ replyAt (now (numbers .entry)) k ⌝ }
+{
+    let kind = kind_at(numbers, k);
+    let brick = brick_at(numbers, k);
+    let time = number_at(numbers, k, 3);
+    let round = number_at(numbers, k, 4);
+    let found = number_at(numbers, k, 5);
+    let agreed = number_at(numbers, k, 6) == 1;
+    let held = number_at(numbers, k, 7) == 1;
+    Reply {
+        kind: kind,
+        brick: brick,
+        time: time,
+        round: round,
+        yes: agreed,
+        found: found,
+        held: held,
+    }
 }
