@@ -1,3 +1,4 @@
 -- What the bench has sent, in lent buffers. Definitions: Sent. Laws: SentLaws.
 pub mod Sent
 pub mod SentLaws
+pub mod SendLaws

@@ -10,8 +10,9 @@ use Rattle.block.specs.Block.{zeros, put}
 use Rattle.message.specs.Kinds.{writeKind}
 use Rattle.message.specs.declared.Message.{Message}
 use Rattle.message.specs.declared.Reply.{Reply}
-use Rattle.register.specs.Runs.{Item, message, reply}
+use Rattle.register.specs.Runs.{Item, message, reply, toAll}
 use Rattle.settings.specs.Count.{one-if}
+use Rattle.settings.specs.declared.Settings.{Settings}
 
 -- number i of row k
 unfoldable pub numberAt : List ℕ → ℕ → ℕ → ℕ
@@ -83,6 +84,15 @@ bytesWith k flags block bytes = put (k * 24 + 16) block (put (k * 24) flags byte
 unfoldable pub noFlags : List ℕ
 noFlags = zeros 16
 
+-- after a store at row k, the items are those before and one more
+pub record Added (k : ℕ) (block numbers bytes numbers′ bytes′ : List ℕ) (item : Item) : Type 0 where
+  pub items : (size : ℕ) → length block ≡ size → itemsOf size numbers′ bytes′ (k + 1) ≡ itemsOf size numbers bytes k ++ item ∷ []
+
 -- the blocks of n bricks are there, if they are sent: with a Write
 pub record Coded (n size : ℕ) (msg : Message) (coded : List ℕ) : Type 0 where
   pub enough : msg .kind ≡ writeKind → n * size ≤ length coded
+
+-- after a broadcast from row k on, the items are those before and the message to each of the first n bricks
+pub record Sends (k n size : ℕ) (msg : Message) (coded numbers bytes numbers′ bytes′ : List ℕ) : Type 0 where
+  pub items : (s : Settings) → s .size ≡ size
+      → itemsOf size numbers′ bytes′ (k + n) ≡ itemsOf size numbers bytes k ++ toAll s (record { message = msg; blocks = coded }) n

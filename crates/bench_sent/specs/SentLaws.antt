@@ -14,7 +14,7 @@ use Rattle.message.specs.declared.Message.{Message}
 use Rattle.message.specs.declared.Reply.{Reply}
 use Rattle.register.specs.Runs.{Item, message, reply}
 use Rattle.settings.specs.Count.{one-if}
-use Rattle.bench_sent.specs.Sent.{numberAt, isReply, Coded, flagsAt, blockAt, messageAt, replyAt, itemAt, itemsOf, messageRow, replyRow, numbersWith, bytesWith, noFlags}
+use Rattle.bench_sent.specs.Sent.{Added, numberAt, isReply, flagsAt, blockAt, messageAt, replyAt, itemAt, itemsOf, messageRow, replyRow, numbersWith, bytesWith, noFlags}
 
 -- what was put is found there, and what stands before it is as it was
 put-is : (at : ℕ) (row l : List ℕ) → put at row l ≡ take at l ++ (row ++ drop (at + length row) l)
@@ -100,10 +100,6 @@ module _ (k : ℕ) (numbers bytes numbers′ bytes′ : List ℕ) (b : Below k n
   items-below size zero hs hj = refl
   items-below size (suc j) hs hj =
       ap₂ (λ (l : List Item) (i : Item). l ++ i ∷ []) (items-below size j hs (omega arith)) (item-below size j hs (omega arith))
-
--- after a store at row k, the items are those before and one more
-pub record Added (k : ℕ) (block numbers bytes numbers′ bytes′ : List ℕ) (item : Item) : Type 0 where
-  pub items : (size : ℕ) → length block ≡ size → itemsOf size numbers′ bytes′ (k + 1) ≡ itemsOf size numbers bytes k ++ item ∷ []
 
 module _ (k : ℕ) (row flags block numbers bytes : List ℕ)
     (nr : length row ≡ 8) (nf : length flags ≡ 16) (nb : length block ≤ 8)

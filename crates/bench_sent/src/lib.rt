@@ -6,8 +6,8 @@ ghost use lib.ListN.{length};
 ghost use Rattle.block.specs.Block.{put};
 ghost use Rattle.register.specs.Runs.{message, reply};
 ghost use Rattle.settings.specs.Count.{one-if};
-ghost use Rattle.bench_sent.specs.Sent.{numberAt, isReply, flagsAt, messageAt, replyAt, messageRow, replyRow, numbersWith, bytesWith, noFlags};
-ghost use Rattle.bench_sent.specs.SentLaws.{Added};
+ghost use Rattle.bench_sent.specs.Sent.{Added, Coded, Sends, numberAt, isReply, flagsAt, messageAt, replyAt, messageRow, replyRow, numbersWith, bytesWith, noFlags};
+ghost use Rattle.bench_sent.specs.SendLaws.{One};
 use message::Message;
 use message::Reply;
 
@@ -174,5 +174,51 @@ pub fn reply_at(numbers: &[u64], k: usize) -> Reply
         yes: agreed,
         found: found,
         held: held,
+    }
+}
+
+// A message to brick j in a row, with its block of a Write, or with zeros.
+fn send_one(
+    at: usize,
+    j: usize,
+    size: usize,
+    msg: Message,
+    coded: &[u8],
+    numbers: &mut [u64],
+    bytes: &mut [u8],
+)
+    requires { ⌜ (size ≤ 8) × (at * 8 + 8 ≤ length (now numbers)) × (at * 24 + 24 ≤ length (now bytes)) ⌝ }
+    requires { ⌜ Coded (j + 1) size msg (now coded) ⌝ }
+    ensures { λ _. ⌜ One at j size msg (now (coded .entry)) (now (numbers .entry)) (now (bytes .entry)) (now (numbers .exit)) (now (bytes .exit)) ⌝ }
+{
+    if msg.kind == message::WRITE {
+        let from = j * size;
+        let till = from + size;
+        put_message(at, j, msg, &coded[from..till], numbers, bytes);
+        return;
+    }
+    let none = [0u8; 8];
+    put_message(at, j, msg, &none[..size], numbers, bytes)
+}
+
+// A message to each of n bricks, in n rows from row k on.
+pub fn send_all(
+    n: usize,
+    size: usize,
+    k: usize,
+    msg: Message,
+    coded: &[u8],
+    numbers: &mut [u64],
+    bytes: &mut [u8],
+)
+    requires { ⌜ (size ≤ 8) × ((k + n) * 8 ≤ length (now numbers)) × ((k + n) * 24 ≤ length (now bytes)) ⌝ }
+    requires { ⌜ Coded n size msg (now coded) ⌝ }
+    ensures { λ _. ⌜ Sends k n size msg (now (coded .entry)) (now (numbers .entry)) (now (bytes .entry)) (now (numbers .exit)) (now (bytes .exit)) ⌝ }
+    ensures { λ _. ⌜ (length (now (numbers .exit)) ≡ length (now (numbers .entry))) × (length (now (bytes .exit)) ≡ length (now (bytes .entry))) ⌝ }
+{
+    let mut j = 0;
+    while j < n {
+        send_one(k + j, j, size, msg, coded, numbers, bytes);
+        j += 1;
     }
 }
