@@ -1,0 +1,5 @@
+-- What the bench prints. Definitions: Printing. Laws: WrittenLaws, TextLaws, PrintLaws.
+pub mod Printing
+pub mod PrintLaws
+pub mod TextLaws
+pub mod WrittenLaws
