@@ -1,4 +1,5 @@
--- What the bench prints. Definitions: Printing. Laws: WrittenLaws, TextLaws, PrintLaws.
+-- What the bench prints. Definitions: Printing. Laws: WrittenLaws, TextLaws, LineLaws, PrintLaws.
+pub mod LineLaws
 pub mod Printing
 pub mod PrintLaws
 pub mod TextLaws
