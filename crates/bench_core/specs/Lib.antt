@@ -1,0 +1,3 @@
+-- Definitions: Content, Play.
+pub mod Content
+pub mod Play
