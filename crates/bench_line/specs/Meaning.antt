@@ -1,6 +1,6 @@
 -- What the code's answer stands for, and what a caller has of it.
 use mathlib.Core.Path.{_≡_}
-use mathlib.Core.Bool.{Bool, true, false, cond}
+use mathlib.Core.Bool.{Bool, true, false, cond, _&&_}
 use mathlib.Core.List.{List, [], _∷_}
 use Prim.Native.Nat.{ℕ, suc, _+_, _*_, _≤_, _<_}
 use lib.Dec.{eqb, leb}
@@ -25,6 +25,19 @@ use Rattle.bench_line.specs.Lines.{
   downLine,
   upLine,
   noLine,
+  setOf,
+  writeOf,
+  readOf,
+  carryOf,
+  oneOf,
+  setText,
+  writeText,
+  readText,
+  carryText,
+  crashText,
+  downText,
+  upText,
+  same,
 }
 use Rattle.bench_line.specs.declared.Line as code
 use Rattle.bench_line.specs.declared.Line.the-variants.{Set, Write, Read, Carry, Crash, Down, Up, Unread}
@@ -122,3 +135,31 @@ pub record AloneOf (ws : List (List ℕ)) (r : Numeral) : Type 0 where
 pub record Place (l : List ℕ) (at : ℕ) : Type 0 where
   pub high : at ≤ length l + 1
   pub short : length l ≤ longest
+
+-- one word, a hex word
+unfoldable pub hexAlone : List (List ℕ) → Bool
+hexAlone ws = eqb (length ws) 1 && hexWord (getD ws 0 [])
+
+-- whether the rest of a line from a place on is one
+pub record HexesFrom (l : List ℕ) (at : ℕ) (r : Bool) : Type 0 where
+  pub tests : r ≡ hexAlone (wordsFrom l at)
+  pub within : r ≡ true → at ≤ length l
+  pub digits : r ≡ true → hexWord (drop at l) ≡ true
+  pub only : r ≡ true → wordsFrom l at ≡ drop at l ∷ []
+
+-- the first word as a number, 0 for one that no line begins with
+unfoldable pub commandNumber : List ℕ → ℕ
+commandNumber w =
+    cond (same w setText) 1
+    (cond (same w writeText) 2
+    (cond (same w readText) 3
+    (cond (same w carryText) 4 (cond (same w crashText) 5 (cond (same w downText) 6 (cond (same w upText) 7 0))))))
+
+-- what such a line says
+unfoldable pub byNumber : ℕ → List (List ℕ) → Line
+byNumber k ws =
+    cond (eqb k 1) (setOf ws)
+    (cond (eqb k 2) (writeOf ws)
+    (cond (eqb k 3) (readOf ws)
+    (cond (eqb k 4) (carryOf ws)
+    (cond (eqb k 5) (oneOf crashLine ws) (cond (eqb k 6) (oneOf downLine ws) (cond (eqb k 7) (oneOf upLine ws) noLine))))))

@@ -17,7 +17,7 @@ use Rattle.bench_line.specs.declared.Number.{Number}
 use Rattle.bench_line.specs.declared.Numeral.{Numeral}
 use Rattle.bench_line.specs.declared.Piece.{Piece}
 
-clash : false ≡ true → ⊥
+pub clash : false ≡ true → ⊥
 clash e = let z : _≡_ {A = ℕ} 0 1 = cc in omega arith
 
 -- a word that is no number, whatever value the answer has
@@ -89,7 +89,7 @@ module _ (w : List ℕ) (value i : ℕ) (s : NumeralSo w value i) where
         value-is = λ z. sym (ap (valueAfter value) n) ∙ s .sum;
       }
 
-and-true : (a b : Bool) → a && b ≡ true → (a ≡ true) × (b ≡ true)
+pub and-true : (a b : Bool) → a && b ≡ true → (a ≡ true) × (b ≡ true)
 and-true true b e = (refl, e)
 and-true false b e = absurd (clash e)
 
