@@ -1,11 +1,9 @@
 -- The lines that are printed, one law per way of a routine, and how long they are.
-use mathlib.Core.Path.{_≡_, refl, sym, ap, _∙_}
-use mathlib.Core.Bool.{Bool, true, false, cond}
+use mathlib.Core.Path.{_≡_, sym}
 use mathlib.Core.List.{List, [], _∷_, _++_, append-assoc}
-use Prim.Native.Nat.{ℕ, _+_, _*_, _≤_, _<_}
+use Prim.Native.Nat.{ℕ, _+_, _≤_, _<_}
 use native.Mathlib.Omega.{arith}
 use borrow.Author.Tests.{eq-eqb, ne-eqb, lt-ltb, le-ltb, le-leb, lt-leb}
-use lib.Dec.{eqb}
 use lib.ListN.{length, length-append}
 use Rattle.coord_record.specs.Records.{readingKind}
 use Rattle.coord_acts.specs.Steps.{okSeen, readSeen, abortedSeen, cutSeen}
@@ -27,12 +25,13 @@ use Rattle.bench_print.specs.Printing.{
   lineText,
   isEnd,
   endedText,
+  written,
 }
-use Rattle.bench_print.specs.TextLaws.{decimal-short, hex-length}
+use Rattle.bench_print.specs.TextLaws.{decimal-short}
 use Rattle.bench_print.specs.WrittenLaws.{Placed, placed-both, placed-as, placed-nothing}
 
 -- the line of a refusal
-pub refused-placed : (k at : ℕ) (old o1 o2 out : List ℕ) (r1 r2 r : ℕ) → at ≤ length old
+refused-placed : (k at : ℕ) (old o1 o2 out : List ℕ) (r1 r2 r : ℕ) → at ≤ length old
     → Placed at (refusedWord ++ space ∷ []) old o1 r1 → Placed r1 (decimal k) o1 o2 r2 → Placed r2 (newline ∷ []) o2 out r
     → Placed at (refusedText k) old out r
 unfolding refusedText refusedWord
@@ -107,10 +106,31 @@ pub ended-line : (c : ℕ) (seen : Seen) (stripe : List ℕ) → okSeen ≤ seen
 unfolding endedText isEnd
 ended-line c seen stripe h l = rw (le-ltb (seen .what) okSeen h, le-leb (seen .what) cutSeen l)
 
-pub ended-silent : (c at : ℕ) (seen : Seen) (stripe old : List ℕ) → endedText c seen stripe ≡ [] → Placed at (endedText c seen stripe) old old at
-ended-silent c at seen stripe old e = placed-as at [] (endedText c seen stripe) old old at (sym e) (placed-nothing at old)
+-- what the public routines ensure
+abbrev pub Printed : ℕ → List ℕ → List ℕ → List ℕ → ℕ → Type 0
+Printed at text old out r = (r ≡ at + length text) × ((out ≡ written at text old) × (r ≤ at + 128))
 
-pub ended-placed : (c at : ℕ) (seen : Seen) (stripe old out : List ℕ) (r : ℕ) → okSeen ≤ seen .what → seen .what ≤ cutSeen
-    → Placed at (lineText c (seen .kind) (seen .time) (seen .what) stripe) old out r → Placed at (endedText c seen stripe) old out r
-ended-placed c at seen stripe old out r h l p =
-    placed-as at (lineText c (seen .kind) (seen .time) (seen .what) stripe) (endedText c seen stripe) old out r (sym (ended-line c seen stripe h l)) p
+silent : (at : ℕ) (text old : List ℕ) → text ≡ [] → Printed at text old old at
+silent at text old e =
+    let p = placed-as at [] text old old at (sym e) (placed-nothing at old) in
+    (p .next-is, (p .holds, omega arith))
+
+pub printed-before : (c at : ℕ) (seen : Seen) (stripe old : List ℕ) → seen .what < okSeen → Printed at (endedText c seen stripe) old old at
+printed-before c at seen stripe old h = silent at (endedText c seen stripe) old (ended-before c seen stripe h)
+
+pub printed-past : (c at : ℕ) (seen : Seen) (stripe old : List ℕ) → cutSeen < seen .what → Printed at (endedText c seen stripe) old old at
+printed-past c at seen stripe old h = silent at (endedText c seen stripe) old (ended-past c seen stripe h)
+
+pub printed-line : (c at : ℕ) (seen : Seen) (stripe old out : List ℕ) (r : ℕ) → okSeen ≤ seen .what → seen .what ≤ cutSeen
+    → Placed at (lineText c (seen .kind) (seen .time) (seen .what) stripe) old out r → r ≤ at + 113
+    → Printed at (endedText c seen stripe) old out r
+printed-line c at seen stripe old out r h l p b =
+    let q = placed-as at (lineText c (seen .kind) (seen .time) (seen .what) stripe) (endedText c seen stripe) old out r (sym (ended-line c seen stripe h l)) p in
+    (q .next-is, (q .holds, omega arith))
+
+pub printed-refused : (k at : ℕ) (old o1 o2 out : List ℕ) (r1 r2 r : ℕ) → at ≤ length old
+    → Placed at (refusedWord ++ space ∷ []) old o1 r1 → Placed r1 (decimal k) o1 o2 r2 → Placed r2 (newline ∷ []) o2 out r
+    → Printed at (refusedText k) old out r
+printed-refused k at old o1 o2 out r1 r2 r h p q s =
+    let a = refused-placed k at old o1 o2 out r1 r2 r h p q s in
+    (a .next-is, (a .holds, omega (arith, a .next-is, refused-short k)))

@@ -1,13 +1,13 @@
 -- Texts and their lengths, one law per way of a routine.
 use mathlib.Core.Path.{_≡_, refl, sym, ap, ap₂, _∙_}
 use mathlib.Core.Bool.{Bool, true, false, cond}
-use mathlib.Core.List.{List, [], _∷_, _++_, append-assoc}
+use mathlib.Core.List.{List, [], _∷_, _++_}
 use Prim.Native.Nat.{ℕ, zero, suc, _+_, _*_, _/_, _%_, _≤_, _<_}
 use native.Mathlib.Omega.{arith}
 use native.Mathlib.Numerals.{add-one}
 use borrow.Author.Tests.{lt-ltb, le-ltb, ltb-true, ltb-false}
 use lib.Dec.{ltb}
-use lib.ListN.{length, take, drop, getD, length-append, length-take}
+use lib.ListN.{length, take, getD, length-append, length-take}
 use lib.Seq.{take-suc, take-all}
 use Rattle.bench_print.specs.Printing.{digit, digitsFrom, decimal, hexDigit, hexText}
 use Rattle.bench_print.specs.WrittenLaws.{Placed, placed-both, placed-as, placed-nothing}

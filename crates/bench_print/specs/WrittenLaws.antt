@@ -1,7 +1,7 @@
 -- A text written into a list: nothing, one more byte, one text after another.
 use mathlib.Core.Path.{_≡_, refl, sym, ap, ap₂, subst, _∙_}
 use mathlib.Core.List.{List, [], _∷_, _++_, append-assoc}
-use Prim.Native.Nat.{ℕ, zero, suc, _+_, _-_, _≤_, _<_}
+use Prim.Native.Nat.{ℕ, _+_, _≤_, _<_}
 use native.Mathlib.Omega.{arith}
 use native.Mathlib.Numerals.{add-one, unary-clauses}
 use lib.ListN.{length, take, drop, getD, set, length-append, length-set, length-take, length-drop, take-append-drop}
@@ -15,18 +15,23 @@ written-nothing at old = simp (append-assoc, unary-clauses) (take-append-drop at
 head-length : (at : ℕ) (a old : List ℕ) → at ≤ length old → length (take at old ++ a) ≡ at + length a
 head-length at a old h = simp (length-append, length-take) (omega arith)
 
+-- what stands up to the next place: what stood before, and the text
+pub written-front : (at : ℕ) (text old : List ℕ) → at ≤ length old → take (at + length text) (written at text old) ≡ take at old ++ text
+unfolding written
+written-front at text old h =
+    take-at (take at old ++ text) (drop (at + length text) old) (at + length text) (head-length at text old h)
+
 pub written-both : (at : ℕ) (a b old : List ℕ) → at ≤ length old → written (at + length a) b (written at a old) ≡ written at (a ++ b) old
 unfolding written
 written-both at a b old h =
     let n = head-length at a old h in
-    let head : take (at + length a) (take at old ++ a ++ drop (at + length a) old) ≡ take at old ++ a = take-at (take at old ++ a) (drop (at + length a) old) (at + length a) n in
     let end : at + length a + length b ≡ at + length (a ++ b) = omega (arith, length-append a b) in
     let rest : drop (at + length a + length b) (take at old ++ a ++ drop (at + length a) old) ≡ drop (at + length (a ++ b)) old
     = ap (λ (k : ℕ). drop (k + length b) (take at old ++ a ++ drop (at + length a) old)) (sym n)
     ∙ drop-append-add (take at old ++ a) (drop (at + length a) old) (length b)
     ∙ drop-drop (length b) (at + length a) old
     ∙ ap (λ (k : ℕ). drop k old) end in
-    ap₂ (λ (x y : List ℕ). x ++ b ++ y) head rest
+    ap₂ (λ (x y : List ℕ). x ++ b ++ y) (written-front at a old h) rest
     ∙ ap (λ (x : List ℕ). x ++ drop (at + length (a ++ b)) old) (append-assoc (take at old) a b)
 
 pub written-length : (at : ℕ) (text old : List ℕ) → at + length text ≤ length old → length (written at text old) ≡ length old

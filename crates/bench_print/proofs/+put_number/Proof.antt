@@ -62,7 +62,11 @@ put-number-returns : (t : ℕ) → put-number-lts.Need-returns (
   put-number-below t,
   put-number.Post,
 ) (put-number-at t) put-number.Post
-put-number-returns t c = number-one _ _ _ _ _ _ (c .before .before .before .before .before .if1 .taken) (c .before .before .before .before .digit-of .ensures) (c .before .before .put-byte .ensures)
+put-number-returns t c =
+    number-one _ _ _ _ _ _
+    (c .before .before .before .before .before .if1 .taken)
+    (c .before .before .before .before .digit-of .ensures)
+    (c .before .before .put-byte .ensures)
 
 put-number-put-number-requires : (t : ℕ) → put-number-lts.Need-put-number-requires (
   digit-of-reads.Asked,
@@ -92,7 +96,13 @@ put-number-put-byte-requires-2 : (t : ℕ) → put-number-lts.Need-put-byte-requ
   put-number-below t,
   put-number.Post,
 ) (put-number-at t) put-number.Post
-put-number-put-byte-requires-2 t c κs = omega (arith, number-more-long (c .before .before .before .before .before .before .before .before .args .k) (c .before .before .before .before .before .before .if1 .left) (omega arith))
+put-number-put-byte-requires-2 t c κs =
+    omega (
+      arith,
+      number-more-long
+          (c .before .before .before .before .before .before .before .before .args .k)
+          (c .before .before .before .before .before .before .if1 .left) (omega arith),
+    )
 
 put-number-same-length-2 : (t : ℕ) → put-number-lts.Need-same-length-2 (
   digit-of-reads.Asked,
@@ -112,7 +122,12 @@ put-number-returns-2 : (t : ℕ) → put-number-lts.Need-returns-2 (
   put-number-below t,
   put-number.Post,
 ) (put-number-at t) put-number.Post
-put-number-returns-2 t c = number-more _ _ _ _ _ _ _ _ (c .before .before .before .before .before .before .before .before .before .if1 .left) (omega arith) (omega arith) (c .before .before .before .before .digit-of2 .ensures) (c .before .before .before .before .before .before .before .put-number .ensures) (c .before .before .put-byte2 .ensures)
+put-number-returns-2 t c =
+    number-more _ _ _ _ _ _ _ _
+    (c .before .before .before .before .before .before .before .before .before .if1 .left) (omega arith) (omega arith)
+    (c .before .before .before .before .digit-of2 .ensures)
+    (c .before .before .before .before .before .before .before .put-number .ensures)
+    (c .before .before .put-byte2 .ensures)
 
 pub +put-number-spec : {M : Type 1} → statement M
 +put-number-spec = close μ-put-number λ t. put-number-lts.spec (

@@ -29,7 +29,18 @@ same-length-2 : tie.Need-same-length-2
 same-length-2 c = search needs
 
 returns-2 : tie.Need-returns-2
-returns-2 c = (end-read _ _ _ _ _ _ _ _ (c .before .before .before .before .before .before .before .before .before .if1 .left) (c .before .before .before .before .before .before .before .before .if2 .taken) (omega arith) (c .before .before .before .before .before .before .put-hex .ensures) (c .before .before .put-byte .ensures), omega (arith, hex-length (c .before .before .before .before .before .before .before .before .before .before .before .before .args .stripe .now)))
+returns-2 c = (
+  end-read _ _ _ _ _ _ _ _
+      (c .before .before .before .before .before .before .before .before .before .if1 .left)
+      (c .before .before .before .before .before .before .before .before .if2 .taken) (omega arith)
+      (c .before .before .before .before .before .before .put-hex .ensures)
+      (c .before .before .put-byte .ensures),
+  omega (
+    arith,
+    hex-length
+        (c .before .before .before .before .before .before .before .before .before .before .before .before .args .stripe .now),
+  ),
+)
 
 slice-aggregate-put-word-2 : tie.Need-slice-aggregate-put-word-2
 slice-aggregate-put-word-2 c = search needs
@@ -42,7 +53,14 @@ same-length-3 c = search needs
 
 returns-3 : tie.Need-returns-3
 unfolding abortWord
-returns-3 c = (end-aborted _ _ _ _ _ _ (c .before .before .before .before .before .before .before .if1 .left) (c .before .before .before .before .before .before .if2 .left) (c .before .before .before .before .before .if3 .taken) (c .before .before .put-word2 .ensures), omega arith)
+returns-3 c = (
+  end-aborted _ _ _ _ _ _
+      (c .before .before .before .before .before .before .before .if1 .left)
+      (c .before .before .before .before .before .before .if2 .left)
+      (c .before .before .before .before .before .if3 .taken)
+      (c .before .before .put-word2 .ensures),
+  omega arith,
+)
 
 slice-aggregate-put-word-3 : tie.Need-slice-aggregate-put-word-3
 slice-aggregate-put-word-3 c = search needs
@@ -55,7 +73,14 @@ same-length-4 c = search needs
 
 returns-4 : tie.Need-returns-4
 unfolding cutWord
-returns-4 c = (end-cut _ _ _ _ _ _ (c .before .before .before .before .before .before .before .if1 .left) (c .before .before .before .before .before .before .if2 .left) (c .before .before .before .before .before .if3 .left) (c .before .before .put-word3 .ensures), omega arith)
+returns-4 c = (
+  end-cut _ _ _ _ _ _
+      (c .before .before .before .before .before .before .before .if1 .left)
+      (c .before .before .before .before .before .before .if2 .left)
+      (c .before .before .before .before .before .if3 .left)
+      (c .before .before .put-word3 .ensures),
+  omega arith,
+)
 
 pub put-end-spec : {M : Type 1} → statement M
 put-end-spec =

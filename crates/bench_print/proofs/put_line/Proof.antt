@@ -20,7 +20,14 @@ same-length : tie.Need-same-length
 same-length c = search needs
 
 returns : tie.Need-returns
-returns c = (line-placed _ _ _ _ _ _ _ _ _ _ _ _ _ _ _ (omega arith) (c .before .before .before .before .before .before .before .before .before .before .before .before .before .before .put-spaced .ensures .0) (c .before .before .before .before .before .before .before .before .before .before .put-kind .ensures .0) (c .before .before .before .before .before .before .put-spaced2 .ensures .0) (c .before .before .put-end .ensures .0), omega arith)
+returns c = (
+  line-placed _ _ _ _ _ _ _ _ _ _ _ _ _ _ _ (omega arith)
+      (c .before .before .before .before .before .before .before .before .before .before .before .before .before .before .put-spaced .ensures .0)
+      (c .before .before .before .before .before .before .before .before .before .before .put-kind .ensures .0)
+      (c .before .before .before .before .before .before .put-spaced2 .ensures .0)
+      (c .before .before .put-end .ensures .0),
+  omega arith,
+)
 
 pub put-line-spec : {M : Type 1} → statement M
 put-line-spec =

@@ -1,7 +1,7 @@
 use native.Mathlib.Omega.{arith}
 use Rattle.bench_print.specs.Printing.{refusedWord}
 use Rattle.bench_print.specs.TextLaws.{decimal-short}
-use Rattle.bench_print.specs.LineLaws.{refused-placed, refused-short}
+use Rattle.bench_print.specs.LineLaws.{printed-refused}
 use borrow.Author.Needs.{needs}
 use Rattle.bench_print.proofs.put_refused.Statement.{statement}
 use Rattle.bench_print.proofs.put_refused.Tie as tie
@@ -23,7 +23,11 @@ same-length c = search needs
 
 returns : tie.Need-returns
 unfolding refusedWord
-returns c = let p = refused-placed (c .before .before .before .before .before .before .before .before .before .before .before .before .before .before .args .number) _ _ _ _ _ _ _ _ (omega arith) (c .before .before .before .before .before .before .before .before .before .before .put-word .ensures) (c .before .before .before .before .before .before .put-number .ensures) (c .before .before .put-byte .ensures) in (p .next-is, (p .holds, omega (arith, p .next-is, refused-short (c .before .before .before .before .before .before .before .before .before .before .before .before .before .before .args .number))))
+returns c =
+    printed-refused _ _ _ _ _ _ _ _ _ (omega arith)
+    (c .before .before .before .before .before .before .before .before .before .before .put-word .ensures)
+    (c .before .before .before .before .before .before .put-number .ensures)
+    (c .before .before .put-byte .ensures)
 
 pub put-refused-spec : {M : Type 1} → statement M
 put-refused-spec =

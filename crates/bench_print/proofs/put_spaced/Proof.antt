@@ -15,7 +15,16 @@ same-length : tie.Need-same-length
 same-length c = search needs
 
 returns : tie.Need-returns
-returns c = (placed-both _ _ _ _ _ _ _ _ (omega arith) (c .before .before .before .before .before .before .put-number .ensures) (c .before .before .put-byte .ensures), omega (arith, decimal-short (c .before .before .before .before .before .before .before .before .before .args .k)))
+returns c = (
+  placed-both _ _ _ _ _ _ _ _ (omega arith)
+      (c .before .before .before .before .before .before .put-number .ensures)
+      (c .before .before .put-byte .ensures),
+  omega (
+    arith,
+    decimal-short
+        (c .before .before .before .before .before .before .before .before .before .args .k),
+  ),
+)
 
 pub put-spaced-spec : {M : Type 1} → statement M
 put-spaced-spec = tie.close (tie.spec put-number-requires put-byte-requires same-length returns)
