@@ -8,6 +8,7 @@ ghost use Rattle.register.specs.Runs.{message, reply};
 ghost use Rattle.settings.specs.Count.{one-if};
 ghost use Rattle.bench_sent.specs.Sent.{Added, Coded, Sends, numberAt, isReply, flagsAt, messageAt, replyAt, messageRow, replyRow, numbersWith, bytesWith, noFlags};
 ghost use Rattle.bench_sent.specs.SendLaws.{One};
+use little::wide;
 use message::Message;
 use message::Reply;
 
@@ -32,13 +33,6 @@ fn store_bytes(k: usize, flags: [u8; 16], block: &[u8], bytes: &mut [u8])
     let from = at + 16;
     block::store(bytes, at, &flags);
     block::store(bytes, from, block)
-}
-
-// A byte as a larger number.
-fn wide(x: u8) -> u64
-    ensures { λ r. ⌜ (r ≡ x) × (r < 256) ⌝ }
-{
-    x as u64
 }
 
 // 1 for true, 0 for false.

@@ -6,7 +6,7 @@ use Rattle.bench_sent.proofs.put_message.Reads as reads
 use Rattle.bench_sent.proofs.put_message.Lts as lts
 use Rattle.bench_sent.proofs.store_bytes.Reads as store-bytes-reads
 use Rattle.bench_sent.proofs.store_row.Reads as store-row-reads
-use Rattle.bench_sent.proofs.wide.Reads as wide-reads
+use Rattle.little.proofs.wide.Reads as wide-reads
 
 wide-requires : tie.Need-wide-requires
 wide-requires c κs = search needs
