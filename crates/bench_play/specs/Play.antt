@@ -29,7 +29,7 @@ use Rattle.bench_line.specs.Lines.{
   reads,
 }
 use Rattle.bench_print.specs.Printing.{refusedText, endedText}
-use Rattle.bench_core.specs.Content.{counted, content, content-small}
+use Rattle.bench_play.specs.Content.{counted, content, content-small}
 
 -- "message 127"
 abbrev pub lastMessage : ℕ

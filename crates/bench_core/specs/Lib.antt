@@ -1,3 +1,0 @@
--- Definitions: Content, Play.
-pub mod Content
-pub mod Play
