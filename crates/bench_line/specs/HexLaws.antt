@@ -13,7 +13,8 @@ use lib.ListN.{length, getD, take, drop, set, length-set, length-drop, drop-of-l
 use lib.Seq.{drop-cons, ext-getD, getD-drop, getD-set-same, getD-set-other}
 use borrow.Author.Tests.{ne-eqb, eqb-true, lt-leb, le-leb, leb-true}
 use Rattle.bench_line.specs.Lines.{every, longer, words, isDigit, isLower, isUpper, isHex, hexValue, hexWord, bytesOf}
-use Rattle.bench_line.specs.Meaning.{wordsFrom, wordLength, HexesFrom, hexAlone}
+use Rattle.bench_line.specs.Meaning.{wordsFrom}
+use Rattle.bench_line.specs.Steps.{wordLength, HexesFrom, hexAlone}
 use Rattle.bench_line.specs.NumberLaws.{clash, and-true}
 use Rattle.bench_line.specs.WordLaws.{from-here, from-none, words-split}
 use Rattle.little.specs.LittleLaws.{Bytes}

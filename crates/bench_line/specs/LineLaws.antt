@@ -42,24 +42,8 @@ use Rattle.bench_line.specs.Lines.{
   readsWords,
   reads,
 }
-use Rattle.bench_line.specs.Meaning.{
-  wordsFrom,
-  wordLength,
-  lineOf,
-  CarryFrom,
-  HexFrom,
-  Sound,
-  ReadAs,
-  startsNumber,
-  others,
-  Taken,
-  NumberFrom,
-  AloneOf,
-  HexesFrom,
-  hexAlone,
-  commandNumber,
-  byNumber,
-}
+use Rattle.bench_line.specs.Meaning.{wordsFrom, lineOf, CarryFrom, HexFrom, Sound}
+use Rattle.bench_line.specs.Steps.{wordLength, ReadAs, startsNumber, others, Taken, NumberFrom, AloneOf, HexesFrom, hexAlone, commandNumber, byNumber}
 use Rattle.bench_line.specs.NumberLaws.{clash, and-true, fails, passes, shifted, from-some}
 use Rattle.bench_line.specs.WordLaws.{from-here, from-none, split-at-end}
 use Rattle.bench_line.specs.declared.Line as code

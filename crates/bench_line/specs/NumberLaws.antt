@@ -11,7 +11,8 @@ use lib.ListN.{length, getD, take, drop, length-take, drop-of-length-le}
 use lib.Seq.{drop-cons}
 use borrow.Author.Tests.{lt-leb, le-leb, leb-true}
 use Rattle.bench_line.specs.Lines.{every, words, isDigit, numberWord, valueAfter, valueOf, numbersOf, areNumbers, numberIn}
-use Rattle.bench_line.specs.Meaning.{wordsFrom, wordLength, startsNumber, others, Taken, NumeralOf, NumberFrom, AloneOf, CarryFrom, NumberAt}
+use Rattle.bench_line.specs.Meaning.{wordsFrom, CarryFrom, NumberAt}
+use Rattle.bench_line.specs.Steps.{wordLength, startsNumber, others, Taken, NumeralOf, NumberFrom, AloneOf}
 use Rattle.bench_line.specs.WordLaws.{from-here, from-none, words-split, end-within, split-at-end}
 use Rattle.bench_line.specs.declared.Number.{Number}
 use Rattle.bench_line.specs.declared.Numeral.{Numeral}

@@ -11,7 +11,8 @@ use lib.ListN.{length, getD, take, drop, length-drop, drop-of-length-le}
 use lib.Seq.{drop-cons, drop-drop, drop-length}
 use borrow.Author.Tests.{eq-eqb, ne-eqb, lt-ltb, le-ltb, lt-leb, le-leb}
 use Rattle.bench_line.specs.Lines.{every, longer, words, same}
-use Rattle.bench_line.specs.Meaning.{wordsFrom, wordLength}
+use Rattle.bench_line.specs.Meaning.{wordsFrom}
+use Rattle.bench_line.specs.Steps.{wordLength}
 
 pub from-here : (l : List ℕ) (at : ℕ) → at ≤ length l → wordsFrom l at ≡ words (drop at l)
 unfolding wordsFrom
