@@ -1,10 +1,10 @@
 -- What a caller has of an answer, by its case; and the numbers of a carry line, one at a time.
-use mathlib.Core.Path.{_≡_, refl, sym, ap, subst, _∙_}
+use mathlib.Core.Path.{_≡_, sym, ap, subst, _∙_}
 use mathlib.Core.List.{List, [], _∷_}
 use Prim.Native.Nat.{ℕ, _+_, _≤_, _<_}
 use native.Mathlib.Omega.{arith}
 use lib.ListN.{length, drop}
-use Rattle.bench_line.specs.Lines.{words, numbersOf, setLine, writeLine, readLine, carryLine, crashLine, downLine, upLine, noLine, reads}
+use Rattle.bench_line.specs.Lines.{numbersOf, setLine, writeLine, readLine, carryLine, crashLine, downLine, upLine, noLine, reads}
 use Rattle.bench_line.specs.Meaning.{wordsFrom, lineOf, CarryFrom, HexFrom, Sound, NumberAt}
 use Rattle.bench_line.specs.WordLaws.{from-here, from-none}
 use Rattle.bench_line.specs.declared.Line as code

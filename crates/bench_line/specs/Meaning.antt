@@ -5,23 +5,7 @@ use mathlib.Core.List.{List, [], _∷_}
 use Prim.Native.Nat.{ℕ, _+_, _≤_, _<_}
 use lib.Dec.{leb}
 use lib.ListN.{length, drop}
-use Rattle.bench_line.specs.Lines.{
-  every,
-  longest,
-  words,
-  numberWord,
-  numbersOf,
-  hexWord,
-  Line,
-  setLine,
-  writeLine,
-  readLine,
-  carryLine,
-  crashLine,
-  downLine,
-  upLine,
-  noLine,
-}
+use Rattle.bench_line.specs.Lines.{every, longest, words, numberWord, numbersOf, hexWord, Line, setLine, writeLine, readLine, carryLine, crashLine, downLine, upLine, noLine}
 use Rattle.bench_line.specs.declared.Line as code
 use Rattle.bench_line.specs.declared.Line.the-variants.{Set, Write, Read, Carry, Crash, Down, Up, Unread}
 use Rattle.bench_line.specs.declared.Number.{Number}

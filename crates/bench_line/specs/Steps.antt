@@ -5,33 +5,7 @@ use mathlib.Core.List.{List, [], _∷_}
 use Prim.Native.Nat.{ℕ, suc, _+_, _≤_, _<_}
 use lib.Dec.{eqb}
 use lib.ListN.{length, getD, drop}
-use Rattle.bench_line.specs.Lines.{
-  longest,
-  space,
-  numberWord,
-  areNumbers,
-  numberIn,
-  valueOf,
-  hexWord,
-  Line,
-  crashLine,
-  downLine,
-  upLine,
-  noLine,
-  setOf,
-  writeOf,
-  readOf,
-  carryOf,
-  oneOf,
-  setText,
-  writeText,
-  readText,
-  carryText,
-  crashText,
-  downText,
-  upText,
-  same,
-}
+use Rattle.bench_line.specs.Lines.{longest, space, numberWord, areNumbers, numberIn, valueOf, hexWord, Line, crashLine, downLine, upLine, noLine, setOf, writeOf, readOf, carryOf, oneOf, setText, writeText, readText, carryText, crashText, downText, upText, same}
 use Rattle.bench_line.specs.Meaning.{wordsFrom, lineOf, Sound}
 use Rattle.bench_line.specs.declared.Line as code
 use Rattle.bench_line.specs.declared.Numeral.{Numeral}
@@ -52,6 +26,7 @@ unfoldable pub startsNumber : List (List ℕ) → Bool
 startsNumber [] = false
 startsNumber (w ∷ ws) = numberWord w
 
+-- the words after the first
 unfoldable pub others : List (List ℕ) → List (List ℕ)
 others [] = []
 others (w ∷ ws) = ws
@@ -62,6 +37,7 @@ pub record Taken (ws rest : List (List ℕ)) (good : Bool) (value : ℕ) : Type 
   pub rest-is : good ≡ true → rest ≡ others ws
   pub value-is : good ≡ true → value ≡ numberIn ws 0
 
+-- a word read as a number
 pub record NumeralOf (w : List ℕ) (r : Numeral) : Type 0 where
   pub tests : r .good ≡ numberWord w
   pub value-is : r .good ≡ true → r .value ≡ valueOf w
