@@ -7,7 +7,10 @@ use native.Mathlib.Omega.{arith}
 use lib.Dec.{eqb, eqb·suc-suc}
 use lib.ListN.{length, getD, take, drop, length-take}
 use borrow.Author.Tests.{ne-eqb, lt-leb, le-leb}
-use Rattle.bench_line.specs.Lines.{every, words, numberWord, numbersOf, hexWord, areNumbers, Line, carryLine, crashLine, downLine, upLine, noLine, setOf, writeWords, writeOf, readOf, carryOf, oneOf, setText, writeText, readText, carryText, crashText, downText, upText, same, commandOf, readsWords, reads}
+use Rattle.bench_line.specs.Lines.{every, words, numberWord, numbersOf, hexWord, areNumbers, Line, carryLine, crashLine}
+use Rattle.bench_line.specs.Lines.{downLine, upLine, noLine, setOf, writeWords, writeOf, readOf, carryOf, oneOf, setText}
+use Rattle.bench_line.specs.Lines.{writeText, readText, carryText, crashText, downText, upText, same, commandOf, readsWords}
+use Rattle.bench_line.specs.Lines.{reads}
 use Rattle.bench_line.specs.Meaning.{wordsFrom, lineOf, Sound}
 use Rattle.bench_line.specs.Steps.{wordLength, ReadAs, startsNumber, others, NumberFrom, AloneOf, HexesFrom, hexAlone, commandNumber, byNumber}
 use Rattle.bench_line.specs.NumberLaws.{clash, and-true, fails, passes, shifted, from-some}

@@ -5,7 +5,9 @@ use mathlib.Core.List.{List, [], _∷_}
 use Prim.Native.Nat.{ℕ, suc, _+_, _≤_, _<_}
 use lib.Dec.{eqb}
 use lib.ListN.{length, getD, drop}
-use Rattle.bench_line.specs.Lines.{longest, space, numberWord, areNumbers, numberIn, valueOf, hexWord, Line, crashLine, downLine, upLine, noLine, setOf, writeOf, readOf, carryOf, oneOf, setText, writeText, readText, carryText, crashText, downText, upText, same}
+use Rattle.bench_line.specs.Lines.{longest, space, numberWord, areNumbers, numberIn, valueOf, hexWord, Line, crashLine}
+use Rattle.bench_line.specs.Lines.{downLine, upLine, noLine, setOf, writeOf, readOf, carryOf, oneOf, setText, writeText}
+use Rattle.bench_line.specs.Lines.{readText, carryText, crashText, downText, upText, same}
 use Rattle.bench_line.specs.Meaning.{wordsFrom, lineOf, Sound}
 use Rattle.bench_line.specs.declared.Line as code
 use Rattle.bench_line.specs.declared.Numeral.{Numeral}
