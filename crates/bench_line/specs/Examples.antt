@@ -1,52 +1,12 @@
 -- Lines that read, and lines that do not, computed.
 use mathlib.Core.Path.{_≡_, refl}
-use mathlib.Core.List.{List, [], _∷_}
-use Prim.Native.Nat.{ℕ}
+use mathlib.Core.List.{[], _∷_}
 use lib.ListN.{replicate}
-use Rattle.bench_line.specs.Lines.{
-  every,
-  longer,
-  words,
-  isDigit,
-  numberWord,
-  valueAfter,
-  valueOf,
-  numbersOf,
-  isLower,
-  isUpper,
-  isHex,
-  hexValue,
-  hexWord,
-  bytesOf,
-  Line,
-  setLine,
-  writeLine,
-  readLine,
-  carryLine,
-  crashLine,
-  downLine,
-  upLine,
-  noLine,
-  areNumbers,
-  numberIn,
-  setOf,
-  writeWords,
-  writeOf,
-  readOf,
-  carryOf,
-  oneOf,
-  setText,
-  writeText,
-  readText,
-  carryText,
-  crashText,
-  downText,
-  upText,
-  same,
-  commandOf,
-  readsWords,
-  reads,
-}
+use Rattle.bench_line.specs.Lines.{every, longer, words, isDigit, numberWord, valueAfter, valueOf, numbersOf, isLower}
+use Rattle.bench_line.specs.Lines.{isUpper, isHex, hexValue, hexWord, bytesOf, setLine, writeLine, readLine, carryLine}
+use Rattle.bench_line.specs.Lines.{crashLine, downLine, upLine, noLine, areNumbers, numberIn, setOf, writeWords, writeOf}
+use Rattle.bench_line.specs.Lines.{readOf, carryOf, oneOf, setText, writeText, readText, carryText, crashText, downText}
+use Rattle.bench_line.specs.Lines.{upText, same, commandOf, readsWords, reads}
 
 -- every definition, opened
 unfoldable opened : Unit {0}

@@ -1,6 +1,6 @@
 -- Hex digits, hex words, and the bytes that they stand for.
 use mathlib.Core.Path.{_≡_, refl, sym, ap, ap₂, _∙_}
-use mathlib.Core.Bool.{Bool, true, false, cond, _&&_, _||_}
+use mathlib.Core.Bool.{Bool, true, false, cond, _&&_}
 use mathlib.Core.List.{List, [], _∷_}
 use Prim.Native.Nat.{ℕ, zero, suc, _+_, _-_, _*_, _/_, _≤_, _<_}
 use native.Mathlib.Nat.{not-suc-le-zero}
@@ -11,11 +11,12 @@ use lib.Dec.{eqb, leb}
 use lib.Arith.{lt-of-le-ne}
 use lib.ListN.{length, getD, take, drop, set, length-set, length-drop, drop-of-length-le}
 use lib.Seq.{drop-cons, ext-getD, getD-drop, getD-set-same, getD-set-other}
-use borrow.Author.Tests.{ne-eqb, eqb-true, lt-leb, le-leb, leb-true}
+use borrow.Author.Tests.{ne-eqb, eqb-true, le-leb, leb-true}
 use Rattle.bench_line.specs.Lines.{every, longer, words, isDigit, isLower, isUpper, isHex, hexValue, hexWord, bytesOf}
-use Rattle.bench_line.specs.Meaning.{wordsFrom, wordLength, HexesFrom, hexAlone}
+use Rattle.bench_line.specs.Meaning.{wordsFrom}
+use Rattle.bench_line.specs.Steps.{wordLength, HexesFrom, hexAlone}
 use Rattle.bench_line.specs.NumberLaws.{clash, and-true}
-use Rattle.bench_line.specs.WordLaws.{from-here, from-none, words-split}
+use Rattle.bench_line.specs.WordLaws.{from-here, words-split}
 use Rattle.little.specs.LittleLaws.{Bytes}
 
 -- The ways through the tests of a byte; b, c and d are what they gave.

@@ -1,65 +1,18 @@
 -- The ways through a line.
-use mathlib.Core.Path.{_≡_, refl, sym, ap, ap₂, subst, _∙_}
+use mathlib.Core.Path.{_≡_, refl, sym, ap, subst, _∙_}
 use mathlib.Core.Bool.{Bool, true, false, cond, _&&_}
 use mathlib.Core.List.{List, [], _∷_}
-use Prim.Native.Nat.{ℕ, zero, suc, _+_, _-_, _*_, _≤_, _<_}
+use Prim.Native.Nat.{ℕ, suc, _+_, _-_, _≤_, _<_}
 use native.Mathlib.Omega.{arith}
-use lib.Dec.{eqb, leb, eqb·suc-suc}
+use lib.Dec.{eqb, eqb·suc-suc}
 use lib.ListN.{length, getD, take, drop, length-take}
 use borrow.Author.Tests.{ne-eqb, lt-leb, le-leb}
-use Rattle.bench_line.specs.Lines.{
-  every,
-  words,
-  numberWord,
-  numbersOf,
-  hexWord,
-  areNumbers,
-  numberIn,
-  Line,
-  setLine,
-  writeLine,
-  readLine,
-  carryLine,
-  crashLine,
-  downLine,
-  upLine,
-  noLine,
-  setOf,
-  writeWords,
-  writeOf,
-  readOf,
-  carryOf,
-  oneOf,
-  setText,
-  writeText,
-  readText,
-  carryText,
-  crashText,
-  downText,
-  upText,
-  same,
-  commandOf,
-  readsWords,
-  reads,
-}
-use Rattle.bench_line.specs.Meaning.{
-  wordsFrom,
-  wordLength,
-  lineOf,
-  CarryFrom,
-  HexFrom,
-  Sound,
-  ReadAs,
-  startsNumber,
-  others,
-  Taken,
-  NumberFrom,
-  AloneOf,
-  HexesFrom,
-  hexAlone,
-  commandNumber,
-  byNumber,
-}
+use Rattle.bench_line.specs.Lines.{every, words, numberWord, numbersOf, hexWord, areNumbers, Line, carryLine, crashLine}
+use Rattle.bench_line.specs.Lines.{downLine, upLine, noLine, setOf, writeWords, writeOf, readOf, carryOf, oneOf, setText}
+use Rattle.bench_line.specs.Lines.{writeText, readText, carryText, crashText, downText, upText, same, commandOf, readsWords}
+use Rattle.bench_line.specs.Lines.{reads}
+use Rattle.bench_line.specs.Meaning.{wordsFrom, lineOf, Sound}
+use Rattle.bench_line.specs.Steps.{wordLength, ReadAs, startsNumber, others, NumberFrom, AloneOf, HexesFrom, hexAlone, commandNumber, byNumber}
 use Rattle.bench_line.specs.NumberLaws.{clash, and-true, fails, passes, shifted, from-some}
 use Rattle.bench_line.specs.WordLaws.{from-here, from-none, split-at-end}
 use Rattle.bench_line.specs.declared.Line as code

@@ -1,19 +1,19 @@
 -- A word as a number, a digit at a time; and the numbers of a line, one at a time.
 use mathlib.Core.Path.{_≡_, refl, sym, ap, ap₂, _∙_}
-use mathlib.Core.Bool.{Bool, true, false, cond, _&&_}
+use mathlib.Core.Bool.{Bool, true, false, _&&_}
 use mathlib.Core.List.{List, [], _∷_}
-use Prim.Native.Nat.{ℕ, zero, suc, _+_, _-_, _*_, _^_, _≤_, _<_}
+use Prim.Native.Nat.{ℕ, suc, _+_, _-_, _*_, _^_, _≤_, _<_}
 use native.Mathlib.Nat.{not-suc-le-zero, pow-le-pow-right}
 use native.Mathlib.Numerals.{add-one}
 use native.Mathlib.Omega.{arith}
-use lib.Dec.{eqb, leb, ltb, eqb·zero-suc, eqb·suc-zero, eqb·suc-suc}
+use lib.Dec.{eqb, leb, eqb·zero-suc, eqb·suc-zero, eqb·suc-suc}
 use lib.ListN.{length, getD, take, drop, length-take, drop-of-length-le}
 use lib.Seq.{drop-cons}
 use borrow.Author.Tests.{lt-leb, le-leb, leb-true}
-use Rattle.bench_line.specs.Lines.{every, words, isDigit, numberWord, valueAfter, valueOf, numbersOf, areNumbers, numberIn}
-use Rattle.bench_line.specs.Meaning.{wordsFrom, wordLength, startsNumber, others, Taken, NumeralOf, NumberFrom, AloneOf, CarryFrom, NumberAt}
-use Rattle.bench_line.specs.WordLaws.{from-here, from-none, words-split, end-within, split-at-end}
-use Rattle.bench_line.specs.declared.Number.{Number}
+use Rattle.bench_line.specs.Lines.{every, isDigit, numberWord, valueAfter, valueOf, numbersOf, areNumbers, numberIn}
+use Rattle.bench_line.specs.Meaning.{wordsFrom, CarryFrom, NumberAt}
+use Rattle.bench_line.specs.Steps.{wordLength, startsNumber, others, NumeralOf, NumberFrom, AloneOf}
+use Rattle.bench_line.specs.WordLaws.{and-false, from-here, from-none, words-split, end-within, split-at-end}
 use Rattle.bench_line.specs.declared.Numeral.{Numeral}
 use Rattle.bench_line.specs.declared.Piece.{Piece}
 
@@ -92,10 +92,6 @@ module _ (w : List ℕ) (value i : ℕ) (s : NumeralSo w value i) where
 pub and-true : (a b : Bool) → a && b ≡ true → (a ≡ true) × (b ≡ true)
 and-true true b e = (refl, e)
 and-true false b e = absurd (clash e)
-
-and-false : (b : Bool) → b && false ≡ false
-and-false true = refl
-and-false false = refl
 
 number-some : (w : List ℕ) → numberWord w ≡ true → 1 ≤ length w
 unfolding numberWord

@@ -2,16 +2,17 @@
 use mathlib.Core.Path.{_≡_, refl, sym, ap, ap₂, _∙_}
 use mathlib.Core.Bool.{Bool, true, false, cond, _&&_}
 use mathlib.Core.List.{List, [], _∷_}
-use Prim.Native.Nat.{ℕ, zero, suc, _+_, _-_, _*_, _≤_, _<_}
+use Prim.Native.Nat.{ℕ, zero, suc, _+_, _-_, _≤_, _<_}
 use native.Mathlib.Nat.{not-suc-le-zero}
 use native.Mathlib.Numerals.{add-one}
 use native.Mathlib.Omega.{arith}
-use lib.Dec.{eqb, leb, ltb, leb·suc-suc}
+use lib.Dec.{eqb, leb·suc-suc}
 use lib.ListN.{length, getD, take, drop, length-drop, drop-of-length-le}
-use lib.Seq.{drop-cons, drop-drop, drop-length}
-use borrow.Author.Tests.{eq-eqb, ne-eqb, lt-ltb, le-ltb, lt-leb, le-leb}
-use Rattle.bench_line.specs.Lines.{every, longer, words, same}
-use Rattle.bench_line.specs.Meaning.{wordsFrom, wordLength}
+use lib.Seq.{drop-cons}
+use borrow.Author.Tests.{eq-eqb, ne-eqb, lt-leb, le-leb}
+use Rattle.bench_line.specs.Lines.{longer, words, same}
+use Rattle.bench_line.specs.Meaning.{wordsFrom}
+use Rattle.bench_line.specs.Steps.{wordLength}
 
 pub from-here : (l : List ℕ) (at : ℕ) → at ≤ length l → wordsFrom l at ≡ words (drop at l)
 unfolding wordsFrom
@@ -107,7 +108,7 @@ pub record SameSo (a b : List ℕ) (i : ℕ) : Type 0 where
   pub low : i ≤ length a
   pub so-far : same (drop i a) (drop i b) ≡ same a b
 
-and-false : (b : Bool) → b && false ≡ false
+pub and-false : (b : Bool) → b && false ≡ false
 and-false true = refl
 and-false false = refl
 

@@ -5,7 +5,8 @@ ghost use lib.Dec.{leb};
 ghost use Prim.Native.Nat.{_+_, _*_, _≤_, _<_};
 ghost use lib.ListN.{length, drop};
 ghost use Rattle.bench_line.specs.Lines.{every, numberWord, isHex, hexValue, bytesOf, crashLine, downLine, upLine, setOf, writeOf, readOf, carryOf, oneOf, same, reads};
-ghost use Rattle.bench_line.specs.Meaning.{wordsFrom, lineOf, CarryFrom, Sound, ReadAs, NumberAt, wordLength, NumeralOf, NumberFrom, AloneOf, HexesFrom, commandNumber, byNumber, Place};
+ghost use Rattle.bench_line.specs.Meaning.{wordsFrom, lineOf, CarryFrom, Sound, NumberAt};
+ghost use Rattle.bench_line.specs.Steps.{ReadAs, wordLength, NumeralOf, NumberFrom, AloneOf, HexesFrom, commandNumber, byNumber, Place};
 
 pub const LONGEST: usize = 1000;
 

@@ -1,5 +1,4 @@
 use borrow.Author.Needs.{needs}
-use native.Mathlib.Omega.{arith}
 use Rattle.bench_line.specs.LineLaws.{one-not, down-is}
 use Rattle.bench_line.proofs.down_from.Statement.{statement}
 use Rattle.bench_line.proofs.down_from.Tie as tie

@@ -11,7 +11,7 @@ sub-result : tie.Need-sub-result
 sub-result c = omega (arith, bounds 48 57 (c .before .before .args .x) _ (c .before .within .ensures) (c .if1 .taken))
 
 returns : tie.Need-returns
-returns c = value-digit (c .before .before .args .x) _ (c .before .within .ensures) (c .if1 .taken)
+returns c = omega (arith, value-digit (c .before .before .args .x) _ (c .before .within .ensures) (c .if1 .taken))
 
 within-requires-2 : tie.Need-within-requires-2
 within-requires-2 c κs = search needs
@@ -21,7 +21,8 @@ sub-result-2 c = omega (arith, bounds 97 102 (c .before .before .before .before 
 
 returns-2 : tie.Need-returns-2
 returns-2 c =
-    value-lower (c .before .before .before .before .args .x) _ _ (c .before .before .before .within .ensures) (c .before .before .if1 .left) (c .before .within2 .ensures) (c .if2 .taken)
+    let q = c .before .before in
+    omega (arith, value-lower (q .before .before .args .x) _ _ (q .before .within .ensures) (q .if1 .left) (c .before .within2 .ensures) (c .if2 .taken))
 
 within-requires-3 : tie.Need-within-requires-3
 within-requires-3 c κs = search needs
@@ -31,8 +32,10 @@ sub-result-3 c = omega (arith, bounds 65 70 (c .before .before .before .before .
 
 returns-3 : tie.Need-returns-3
 returns-3 c =
-    let q = c .before .before .before in
-    value-upper (c .before .before .before .before .before .before .args .x) _ _ _ (q .before .before .within .ensures) (q .before .if1 .left) (q .within2 .ensures) (c .before .before .if2 .left) (c .before .within3 .ensures) (c .if3 .taken)
+    let q = c .before .before in
+    let e = q .before .within2 .ensures in
+    let d = q .before .before in
+    omega (arith, value-upper (d .before .before .args .x) _ _ _ (d .before .within .ensures) (d .if1 .left) e (q .if2 .left) (c .before .within3 .ensures) (c .if3 .taken))
 
 returns-4 : tie.Need-returns-4
 returns-4 c = (search (needs, value-none), omega arith)

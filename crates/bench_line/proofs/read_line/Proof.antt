@@ -8,7 +8,7 @@ use Rattle.bench_line.proofs.read_line.Statement.{statement}
 use Rattle.bench_line.proofs.read_line.Tie as tie
 
 returns : tie.Need-returns
-returns c = search (needs, line-long)
+returns c = line-long _ (omega arith)
 
 word-end-requires : tie.Need-word-end-requires
 word-end-requires c κs = search needs
@@ -33,10 +33,10 @@ add-read-rest c = omega (arith, inside (c .before .before))
 
 read-rest-requires : tie.Need-read-rest-requires
 read-rest-requires c κs =
-    (record { high = omega (arith, inside (c .before .before)); short = c .before .before .before .if1 .left }, λ n. carry-place _ _ _ (c .command-of .ensures) n)
+    (record { high = omega (arith, inside (c .before .before)); short = omega arith }, λ n. carry-place _ _ _ (c .command-of .ensures) n)
 
 returns-2 : tie.Need-returns-2
-returns-2 c = line-read _ _ _ _ (c .before .before .before .before .if1 .left) (c .before .before .before .word-end .ensures) (c .before .command-of .ensures) (c .read-rest .ensures)
+returns-2 c = line-read _ _ _ _ (omega arith) (c .before .before .before .word-end .ensures) (c .before .command-of .ensures) (c .read-rest .ensures)
 
 pub read-line-spec : {M : Type 1} → statement M
 read-line-spec =

@@ -1,5 +1,4 @@
 use borrow.Author.Needs.{needs}
-use native.Mathlib.Omega.{arith}
 use borrow.Author.Tests.{lt-leb, le-leb}
 use Rattle.bench_line.proofs.within.Statement.{statement}
 use Rattle.bench_line.proofs.within.Tie as tie
