@@ -54,7 +54,7 @@ bench-fits s e =
     record {
       in-range = r;
       range = g;
-      small = record { bricks = n; blocks-fit = mul-le-mul n z; stripe-fits = mul-le-mul m z; log-fits = k; image-fits = omega arith };
+      small = record { bricks = n; size-fits = z; blocks-fit = mul-le-mul n z; stripe-fits = mul-le-mul m z; log-fits = k; image-fits = omega arith };
     }
 
 pub bench-passed : (s : Settings) (k : ℕ) → k ≡ benchRefusal s → k ≡ 0 → Fits s

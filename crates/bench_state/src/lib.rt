@@ -73,6 +73,7 @@ pub fn new_bench(s: Settings) -> Bench
 pub fn with_coordinator(b: Bench, c: usize, next: Coordinator, sent: usize) -> Bench
     requires { ⌜ c < 4 ⌝ }
     ensures { λ r. ⌜ r ≡ withCoordinator b c next sent ⌝ }
+    ensures { λ _. ⌜ length (b .coordinators) ≡ 4 ⌝ }
 {
     let mut all = b.coordinators;
     all[c] = next;

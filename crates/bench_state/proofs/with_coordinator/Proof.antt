@@ -1,3 +1,4 @@
+use Rattle.bench_state.specs.PartLaws.{length-mapped}
 use Rattle.bench_state.specs.State.{withCoordinator}
 use borrow.Author.Needs.{needs}
 use Rattle.bench_state.proofs.with_coordinator.Statement.{statement}
@@ -16,7 +17,7 @@ array-set-from-all c = search needs
 -- src/lib.rt:73:1
 returns : tie.Need-returns
 unfolding withCoordinator
-returns c = cc
+returns c = (cc, search (needs, length-mapped))
 
 pub with-coordinator-spec : {M : Type 1} → statement M
 with-coordinator-spec = tie.close (tie.spec mul-all array-set-from-all returns)

@@ -1,0 +1,3 @@
+-- Definitions: Answers. Laws: AnswerLaws.
+pub mod AnswerLaws
+pub mod Answers
