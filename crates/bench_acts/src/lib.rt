@@ -2,14 +2,21 @@
 // what they answer counts only where its messages stay within message 127.
 ghost use mathlib.Core.Path.{_≡_};
 ghost use mathlib.Core.List.{List};
-ghost use Prim.Native.Nat.{ℕ, _+_, _*_, _≤_, _<_};
+ghost use mathlib.Core.Bool.{true};
+ghost use Prim.Native.Nat.{ℕ, _+_, _*_, _%_, _≤_, _<_};
 ghost use lib.ListN.{length};
+ghost use Rattle.bench_acts.specs.ActedLaws.{Acted};
 ghost use Rattle.bench_acts.specs.AnswerLaws.{Round, Seats, Copies, Answers};
 ghost use Rattle.bench_acts.specs.Answers.{sentAfter};
+ghost use Rattle.bench_sent.specs.Sent.{isReply, replyAt, blockAt};
+ghost use Rattle.coord_acts.specs.Steps.{Held};
+ghost use Rattle.coordinator.specs.Rules.{takeStep, crashStep, writeStep, readStep};
+ghost use Rattle.register.specs.Runs.{startWrite, startRead, arrives, crashes};
 use bench_play::After;
 use bench_state::Bench;
 use coord_acts::Answer;
 use message::Message;
+use message::Reply;
 use settings::Settings;
 
 // How many messages are sent after a round, or after none.
@@ -117,4 +124,89 @@ fn commit(
         at,
         out,
     )
+}
+
+// A read starts, on copies of what the coordinator keeps.
+fn read_with(
+    b: Bench,
+    c: usize,
+    clock: u64,
+    brick: usize,
+    blocks: &mut [u8],
+    stripe: &mut [u8],
+    kept: &mut [u8],
+    numbers: &mut [u64],
+    bytes: &mut [u8],
+    out: &mut [u8],
+) -> After
+    requires { ⌜ Seats b c (now kept) (now numbers) (now bytes) 0 (now out) ⌝ }
+    requires { ⌜ Copies (b .settings) (now blocks) (now stripe) (now blocks) ⌝ }
+    ensures { λ r. ⌜ Acted b c (startRead c clock brick) (λ (h : Held). readStep (b .settings .n) (b .settings .m) (b .settings .size) h clock brick) (now (kept .entry)) (now (numbers .entry)) (now (bytes .entry)) 0 (now (out .entry)) r (now (kept .exit)) (now (numbers .exit)) (now (bytes .exit)) (now (out .exit)) ⌝ }
+{
+    bench_state::fetch(c, kept, blocks, stripe);
+    let s = b.settings;
+    let old = bench_state::coordinator_at(b, c);
+    let a = coordinator::start_read(s.n, s.m, s.size, old, clock, brick);
+    commit(b, c, a, blocks, stripe, blocks, kept, numbers, bytes, 0, out)
+}
+
+// A crash, on copies of what the coordinator keeps.
+fn crash_with(
+    b: Bench,
+    c: usize,
+    blocks: &mut [u8],
+    stripe: &mut [u8],
+    kept: &mut [u8],
+    numbers: &mut [u64],
+    bytes: &mut [u8],
+    out: &mut [u8],
+) -> After
+    requires { ⌜ Seats b c (now kept) (now numbers) (now bytes) 0 (now out) ⌝ }
+    requires { ⌜ Copies (b .settings) (now blocks) (now stripe) (now blocks) ⌝ }
+    ensures { λ r. ⌜ Acted b c (crashes c) (λ (h : Held). crashStep (b .settings .n) (b .settings .m) (b .settings .size) h) (now (kept .entry)) (now (numbers .entry)) (now (bytes .entry)) 0 (now (out .entry)) r (now (kept .exit)) (now (numbers .exit)) (now (bytes .exit)) (now (out .exit)) ⌝ }
+{
+    bench_state::fetch(c, kept, blocks, stripe);
+    let s = b.settings;
+    let old = bench_state::coordinator_at(b, c);
+    let a = coordinator::crash(s.n, s.m, s.size, old);
+    commit(b, c, a, blocks, stripe, blocks, kept, numbers, bytes, 0, out)
+}
+
+// A reply in row k, on copies of what the coordinator keeps.
+fn reply_with(
+    b: Bench,
+    k: usize,
+    c: usize,
+    reply: Reply,
+    blocks: &mut [u8],
+    stripe: &mut [u8],
+    coded: &mut [u8],
+    kept: &mut [u8],
+    numbers: &mut [u64],
+    bytes: &mut [u8],
+    at: usize,
+    out: &mut [u8],
+) -> After
+    requires { ⌜ Seats b c (now kept) (now numbers) (now bytes) at (now out) ⌝ }
+    requires { ⌜ Copies (b .settings) (now blocks) (now stripe) (now coded) ⌝ }
+    requires { ⌜ (k < b .sent) × (isReply (now numbers) k ≡ true) × (reply ≡ replyAt (now numbers) k) × (c ≡ reply .time % 16) ⌝ }
+    ensures { λ r. ⌜ Acted b c (arrives k) (λ (h : Held). takeStep (b .settings .n) (b .settings .m) (b .settings .size) h reply (blockAt (b .settings .size) (now (bytes .entry)) k) (b .settings .n * b .settings .size)) (now (kept .entry)) (now (numbers .entry)) (now (bytes .entry)) at (now (out .entry)) r (now (kept .exit)) (now (numbers .exit)) (now (bytes .exit)) (now (out .exit)) ⌝ }
+{
+    bench_state::fetch(c, kept, blocks, stripe);
+    let s = b.settings;
+    let old = bench_state::coordinator_at(b, c);
+    let from = k * 24 + 16;
+    let till = from + s.size;
+    let a = coordinator::take_reply(
+        s.n,
+        s.m,
+        s.size,
+        old,
+        reply,
+        &bytes[from..till],
+        blocks,
+        stripe,
+        coded,
+    );
+    commit(b, c, a, blocks, stripe, coded, kept, numbers, bytes, at, out)
 }
