@@ -40,6 +40,7 @@ pub record Fits (s : Settings) : Type 0 where
   pub in-range : inRange s ≡ true
   pub range : SettingsRange s
   pub small : Small s
+  pub size-fits : s .size ≤ 8
 
 pub bench-fits : (s : Settings) → benchRange s ≡ true → Fits s
 unfolding benchRange settingsRefusal imageSize
@@ -54,7 +55,8 @@ bench-fits s e =
     record {
       in-range = r;
       range = g;
-      small = record { bricks = n; size-fits = z; blocks-fit = mul-le-mul n z; stripe-fits = mul-le-mul m z; log-fits = k; image-fits = omega arith };
+      small = record { bricks = n; blocks-fit = mul-le-mul n z; stripe-fits = mul-le-mul m z; log-fits = k; image-fits = omega arith };
+      size-fits = z;
     }
 
 pub bench-passed : (s : Settings) (k : ℕ) → k ≡ benchRefusal s → k ≡ 0 → Fits s

@@ -37,7 +37,6 @@ zero-part at k n h =
 -- what the bench asks of its settings, as numbers
 pub record Small (s : Settings) : Type 0 where
   pub bricks : s .n ≤ 4
-  pub size-fits : s .size ≤ 8
   pub blocks-fit : s .n * s .size ≤ 32
   pub stripe-fits : s .m * s .size ≤ 32
   pub log-fits : s .capacity ≤ 4

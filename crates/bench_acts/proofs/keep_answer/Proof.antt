@@ -18,7 +18,7 @@ send-requires c κs =
     let s = c .before .before .before .before .before .before .before .before .before .before .before in
     let p = s .pre .0 in
     (
-      (p .fits .small .size-fits, subst (λ (k : ℕ). k ≤ 127) (s .pre .1 .1 .1) (s .pre .1 .1 .2), le-of-eq (sym (s .pre .1 .0 .coded-long))),
+      (p .fits .size-fits, subst (λ (k : ℕ). k ≤ 127) (s .pre .1 .1 .1) (s .pre .1 .1 .2), le-of-eq (sym (s .pre .1 .0 .coded-long))),
       (p .numbers-long, p .bytes-long),
     )
 
