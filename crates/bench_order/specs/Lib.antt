@@ -1,0 +1,4 @@
+pub mod Script
+pub mod Told
+pub mod Parts
+pub mod PrintedLaws
