@@ -5,3 +5,5 @@ pub mod PrintedLaws
 pub mod PartLaws
 pub mod ScriptTheorem
 pub mod LimitTheorem
+pub mod WorkedCase
+pub mod CutLaws
