@@ -19,7 +19,7 @@ part-few : (s : Settings) (w : World) (p : Played) → Part s w p → Few w → 
 unfolding refuses passes happens andThen
 part-few s w p (refusing _ number) h = h
 part-few s w p (passing _) h = h
-part-few s w p (happening _ e c kind f) h = f h
+part-few s w p (happening _ e c kind f o) h = f h
 part-few s w p (both _ q r a b) h = part-few s (q .world) r b (part-few s w q a h)
 
 -- a set, if there is one, has sent 127 messages at most

@@ -19,7 +19,7 @@ use Rattle.brick.specs.declared.Given.{Given}
 use Rattle.brick.specs.declared.Given.the-variants.{Answered, Silent, Refused}
 use Rattle.coord_acts.specs.Steps.{Step, refused, went, Went}
 use Rattle.coordinator.specs.Rules.{takeStep, crashStep, writeStep, readStep}
-use Rattle.order.specs.Claim.{Seen}
+use Rattle.order.specs.Claim.{Outcome as Ending, Seen}
 use Rattle.register.specs.Runs.{
   plain,
   Item,
@@ -71,8 +71,8 @@ use Rattle.bench_play.specs.Play.{
   plays,
 }
 use Rattle.bench_order.specs.Told.{told}
-use Rattle.bench_order.specs.Parts.{Few, Part, refusing, passing, happening, both}
-use Rattle.bench_order.specs.PrintedLaws.{Agrees, printed-is-seen, take-agrees, crash-agrees, write-agrees, read-agrees}
+use Rattle.bench_order.specs.Parts.{Few, Ran, Part, refusing, passing, happening, both}
+use Rattle.bench_order.specs.PrintedLaws.{Agrees, printed-is-seen, end-ran, take-agrees, crash-agrees, write-agrees, read-agrees}
 
 -- "Trim t: no reply"
 refused-not-answered : (number : ℕ) (bytes out : List ℕ) (r : Reply) → refusedWith number bytes out .given ≡ Answered r → ⊥
@@ -121,11 +121,12 @@ unless-went false (went v) g e = absurd (let z : _≡_ {A = ℕ} 0 1 = cc in ome
 module _ (s : Settings) (w : World) where
   -- an event that prints what is seen at it
   printing : (e : Event) (c kind : ℕ) (text : List ℕ) → told s c kind (step s w e .seen) ≡ text → (Few w → Few (step s w e .world))
+      → ((time : ℕ) (how : Ending (plain s)) → step s w e .seen ≡ Seen.ended time how ∷ [] → Ran (w .coordinators c .state .op) kind time)
       → Part s w (happens s w e text)
-  printing e c kind text q f = subst (λ (l : List ℕ). Part s w (happens s w e l)) q (happening w e c kind f)
+  printing e c kind text q f o = subst (λ (l : List ℕ). Part s w (happens s w e l)) q (happening w e c kind f o)
 
   -- an event at a coordinator
-  acts-part : (e : Event) (c : ℕ) (st : Step) → ((g : Went) → st ≡ went g → (step s w e ≡ coordinated s w c (went g)) × Agrees (g .seen))
+  acts-part : (e : Event) (c : ℕ) (st : Step) → ((g : Went) → st ≡ went g → (step s w e ≡ coordinated s w c (went g)) × Agrees (w .coordinators c .state .op) (g .seen))
       → Part s w (acts s w e c st)
   unfolding acts coordinated Few
   acts-part e c (refused number) f = refusing w number
@@ -135,8 +136,11 @@ module _ (s : Settings) (w : World) where
           → Part s w (cond b (happens s w e (endedText c (g .seen) (g .next .stripe))) (refuses w badLine))
       go true q =
           printing e c (g .seen .kind) _
-          (ap (λ (v : Moved s). told s c (g .seen .kind) (v .seen)) (f g refl .0) ∙ printed-is-seen s c (g .seen) (g .next .stripe) (f g refl .1))
+          (ap (λ (v : Moved s). told s c (g .seen .kind) (v .seen)) (f g refl .0) ∙ printed-is-seen s (w .coordinators c .state .op) c (g .seen) (g .next .stripe) (f g refl .1))
           (λ h. leb-true _ lastMessage q)
+          (λ time how z.
+          end-ran s (w .coordinators c .state .op) (g .seen) (g .next .stripe) time how (f g refl .1)
+          (ap (λ (v : Moved s). v .seen) (sym (f g refl .0)) ∙ z))
       go false q = refusing w badLine
 
   at-part : (c : ℕ) (p : Played) → Part s w p → Part s w (atCoordinator w c p)
@@ -181,7 +185,9 @@ module _ (s : Settings) (w : World) where
 
   quiet : (e : Event) → Quiet (step s w e) → Part s w (happens s w e [])
   unfolding told
-  quiet e q = printing e 0 0 [] (ap (told s 0 0) (q .0)) (q .1)
+  quiet e q =
+      printing e 0 0 [] (ap (told s 0 0) (q .0)) (q .1)
+      (λ time how z. absurd (let l : _≡_ {A = ℕ} 0 1 = ap length (sym (q .0) ∙ z) in omega arith))
 
   -- a brick goes down or comes up
   standing-quiet : (b : ℕ) (how : Bool) → Quiet (standing s w b how)

@@ -25,18 +25,18 @@ StandsFor waiting events = events ≡ []
 StandsFor (playing s w) events = (benchRange s ≡ true) × (w ≡ run s events .world)
 
 -- some events, then more
-run-from-both : (s : Settings) (r : Moved s) (es fs : List Event) → runFrom s r (es ++ fs) ≡ runFrom s (runFrom s r es) fs
+pub run-from-both : (s : Settings) (r : Moved s) (es fs : List Event) → runFrom s r (es ++ fs) ≡ runFrom s (runFrom s r es) fs
 unfolding runFrom
 run-from-both s r [] fs = refl
 run-from-both s r (e ∷ es) fs = run-from-both s (next s r e) es fs
 
 -- what a part of a line leaves is what its events leave, whatever was seen before
-part-runs : (s : Settings) (w : World) (p : Played) → Part s w p → (seen : List (Seen (plain s)))
+pub part-runs : (s : Settings) (w : World) (p : Played) → Part s w p → (seen : List (Seen (plain s)))
     → runFrom s (record { world = w; seen = seen }) (p .events) .world ≡ p .world
 unfolding refuses passes happens andThen runFrom next
 part-runs s w p (refusing _ number) seen = refl
 part-runs s w p (passing _) seen = refl
-part-runs s w p (happening _ e c kind f) seen = refl
+part-runs s w p (happening _ e c kind f o) seen = refl
 part-runs s w p (both _ q r a b) seen =
     let m = runFrom s (record { world = w; seen = seen }) (q .events) in
     ap (λ (v : Moved s). v .world) (run-from-both s (record { world = w; seen = seen }) (q .events) (r .events))
@@ -70,7 +70,7 @@ first-stands (upLine b) = refl
 first-stands noLine = refl
 
 -- one line
-turn-stands : (stage : Stage) (events : List Event) (line : Line) → StandsFor stage events
+pub turn-stands : (stage : Stage) (events : List Event) (line : Line) → StandsFor stage events
     → StandsFor (turn stage line .stage) (events ++ turn stage line .events)
 unfolding turn StandsFor run
 turn-stands waiting events line e =
@@ -98,7 +98,7 @@ unfolding script StandsFor
 every-script-is-a-run input = lines-stand waiting [] (lines input) refl
 
 -- settings within the bench's limits are in range
-bench-in-range : (s : Settings) → benchRange s ≡ true → settingsRefusal s ≡ 0
+pub bench-in-range : (s : Settings) → benchRange s ≡ true → settingsRefusal s ≡ 0
 unfolding settingsRefusal
 bench-in-range s e = ap (λ (b : Bool). refuseUnless b badSetting) (bench-fits s e .in-range)
 
