@@ -2,7 +2,7 @@
 use mathlib.Core.Path.{_≡_, refl, sym, ap, subst, _∙_}
 use mathlib.Core.Bool.{Bool, true, false, cond, _||_}
 use mathlib.Core.List.{List, [], _∷_, _++_, append-nil}
-use Prim.Native.Nat.{ℕ, zero, suc, _+_, _*_, _%_, _≤_, _<_}
+use Prim.Native.Nat.{ℕ, zero, suc, _*_, _%_, _≤_, _<_}
 use native.Mathlib.Omega.{arith}
 use lib.Dec.{eqb, leb, ltb}
 use lib.ListN.{length, length-append, replicate}
@@ -18,7 +18,7 @@ use Rattle.brick.specs.Steps.{replyTo}
 use Rattle.brick.specs.declared.Given.{Given}
 use Rattle.brick.specs.declared.Given.the-variants.{Answered, Silent, Refused}
 use Rattle.coord_acts.specs.Steps.{Step, refused, went, Went}
-use Rattle.coordinator.specs.Rules.{takeStep, crashStep, writeStep, readStep}
+use Rattle.coordinator.specs.Rules.{writeStep}
 use Rattle.order.specs.Claim.{Outcome as Ending, Seen}
 use Rattle.register.specs.Runs.{
   plain,
@@ -35,8 +35,6 @@ use Rattle.register.specs.Runs.{
   comesUp,
   Moved,
   unmoved,
-  putAt,
-  seenOf,
   coordinated,
   repliedWith,
   received,
@@ -66,7 +64,6 @@ use Rattle.bench_play.specs.Play.{
   carries,
   carriesAt,
   carried,
-  andThen,
   carriedAll,
   plays,
 }

@@ -2,10 +2,10 @@
 use mathlib.Core.Path.{_≡_, refl, sym, ap, subst, _∙_}
 use mathlib.Core.Logic.{_⊎_, inl, inr}
 use mathlib.Core.Bool.{Bool, true, false, cond, _&&_}
-use mathlib.Core.List.{List, [], _∷_, _++_, append-nil}
+use mathlib.Core.List.{List, [], _∷_, append-nil}
 use Prim.Native.Nat.{ℕ, zero, suc, _≤_}
 use native.Mathlib.Omega.{arith}
-use lib.Dec.{eqb, leb, ltb}
+use lib.Dec.{eqb, ltb}
 use borrow.Author.Tests.{eqb-true, eqb-false, eq-eqb, ne-eqb, le-ltb, lt-leb}
 use Rattle.settings.specs.RangeLaws.{and-left}
 use Rattle.settings.specs.Refusal.{firstRefusal}
@@ -34,7 +34,7 @@ use Rattle.order.specs.Claim.{Outcome, Seen, began, ended}
 use Rattle.register.specs.DecideLaws.{Fit, reading, looking, restoring, ordering, storing, fit}
 use Rattle.register.specs.RecordLaws.{parts}
 use Rattle.register.specs.Runs.{plain, seenOf}
-use Rattle.bench_print.specs.Printing.{readWord, writeWord, kindWord, endWord, lineText, isEnd, endedText}
+use Rattle.bench_print.specs.Printing.{kindWord, endWord, lineText, isEnd, endedText}
 use Rattle.bench_order.specs.Parts.{Ran}
 use Rattle.bench_order.specs.Told.{endLine, toldEnd, told}
 

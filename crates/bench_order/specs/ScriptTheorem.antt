@@ -13,7 +13,7 @@ use Rattle.register.specs.Theorem.{every-run-has-one-order}
 use Rattle.bench_line.specs.Lines.{Line, setLine, writeLine, readLine, carryLine, crashLine, downLine, upLine, noLine, reads}
 use Rattle.bench_state.specs.RangeLaws.{bench-fits}
 use Rattle.bench_state.specs.State.{benchRange}
-use Rattle.bench_play.specs.Play.{Played, refuses, passes, happens, andThen, plays, Stage, waiting, playing, Turn, waits, begins, first, turn}
+use Rattle.bench_play.specs.Play.{Played, refuses, passes, happens, andThen, plays, Stage, waiting, playing, waits, begins, first, turn}
 use Rattle.bench_order.specs.Script.{lines, stays, follows, playsLines, script}
 use Rattle.bench_order.specs.Parts.{Part, refusing, passing, happening, both}
 use Rattle.bench_order.specs.PartLaws.{every-line-by-parts}
