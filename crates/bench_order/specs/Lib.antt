@@ -1,0 +1,17 @@
+-- A script on the bench is a run of the set.
+
+-- What a reader believes: a script; what is told of a run; and that every script is a run with one order, prints what is seen of it, and sends
+-- 127 messages at most.
+pub mod Script
+pub mod Told
+pub mod Report
+pub mod ScriptTheorem
+pub mod ReportTheorem
+pub mod LimitTheorem
+-- How the input is cut into lines; document 01's case, computed from its bytes.
+pub mod CutLaws
+pub mod WorkedCase
+-- A line, part by part; what is printed at an event is what is seen there.
+pub mod Parts
+pub mod PartLaws
+pub mod PrintedLaws
