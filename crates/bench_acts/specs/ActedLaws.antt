@@ -18,7 +18,8 @@ use Rattle.coordinator.specs.Rules.{takeStep, crashStep, writeStep, readStep}
 use Rattle.register.specs.Driver.{Short, write-short, read-short, crash-short, take-short}
 use Rattle.register.specs.Runs.{World, Event, startWrite, startRead, arrives, crashes, reply, step, coordinated, arriving}
 use Rattle.bench_sent.specs.RunLaws.{arrives-item}
-use Rattle.bench_sent.specs.Sent.{itemsOf, itemAt}
+use Rattle.bench_sent.specs.Sent.{itemsOf, itemAt, isReply, replyAt, blockAt}
+use Rattle.bench_sent.specs.SentLaws.{item-reply}
 use Rattle.bench_state.specs.State.{worldOf, heldAt, idleAt}
 use Rattle.bench_state.specs.declared.Bench.{Bench}
 use Rattle.bench_play.specs.Play.{acts}
@@ -167,3 +168,20 @@ module _ (b : Bench) (c : ℕ) (kept numbers bytes : List ℕ) (at : ℕ) (out :
         (eb′ ∙ ap (λ (x : Held). blocksAfter x (takeStep n m size (heldOf old blocks stripe) reply′ block (length coded))) same ∙ ap (blocksAfter here) q)
         (es′ ∙ ap (λ (x : Held). stripeAfter x (takeStep n m size (heldOf old blocks stripe) reply′ block (length coded))) same ∙ ap (stripeAfter here) q)
         (ec′ ∙ ap (codedAfter coded) q) h
+
+    -- the same, by what the code read from the row
+    pub acted-row : (k : ℕ) (reply′ : Reply) (cut : List ℕ) (a : Answer) (coded blocks′ stripe′ coded′ : List ℕ) → k < b .sent
+        → isReply numbers k ≡ true → reply′ ≡ replyAt numbers k → cut ≡ blockAt (b .settings .size) bytes k
+        → c ≡ reply′ .time % 16 → length coded ≡ b .settings .n * b .settings .size
+        → a ≡ answerOf old (takeStep (b .settings .n) (b .settings .m) (b .settings .size) (heldOf old blocks stripe) reply′ cut (length coded))
+        → blocks′ ≡ blocksAfter (heldOf old blocks stripe) (takeStep (b .settings .n) (b .settings .m) (b .settings .size) (heldOf old blocks stripe) reply′ cut (length coded))
+        → stripe′ ≡ stripeAfter (heldOf old blocks stripe) (takeStep (b .settings .n) (b .settings .m) (b .settings .size) (heldOf old blocks stripe) reply′ cut (length coded))
+        → coded′ ≡ codedAfter coded (takeStep (b .settings .n) (b .settings .m) (b .settings .size) (heldOf old blocks stripe) reply′ cut (length coded))
+        → Answers b c a blocks′ stripe′ coded′ kept numbers bytes at out r kept′ numbers′ bytes′ out′
+        → Acted b c (arrives k)
+        (λ (h : Held). takeStep (b .settings .n) (b .settings .m) (b .settings .size) h reply′ (blockAt (b .settings .size) bytes k) (b .settings .n * b .settings .size))
+        kept numbers bytes at out r kept′ numbers′ bytes′ out′
+    acted-row k reply′ cut a coded blocks′ stripe′ coded′ l t er e ec long ea eb′ es′ ec′ h =
+        subst
+        (λ (x : List ℕ). Acted b c (arrives k) (λ (h : Held). takeStep (b .settings .n) (b .settings .m) (b .settings .size) h reply′ x (b .settings .n * b .settings .size)) kept numbers bytes at out r kept′ numbers′ bytes′ out′)
+        e (acted-reply k reply′ cut a coded blocks′ stripe′ coded′ l (item-reply (b .settings .size) k reply′ cut numbers bytes t er e) ec long ea eb′ es′ ec′ h)

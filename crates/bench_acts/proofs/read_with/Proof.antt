@@ -1,3 +1,7 @@
+use mathlib.Core.Path.{ap, _∙_}
+use Prim.Native.Nat.{ℕ, _+_, _*_}
+use lib.ListN.{take, drop}
+use Rattle.bench_acts.specs.ActedLaws.{acted-read}
 use borrow.Author.Needs.{needs}
 use Rattle.bench_acts.proofs.read_with.Statement.{statement}
 use Rattle.bench_acts.proofs.read_with.Tie as tie
@@ -22,15 +26,19 @@ start-read-requires c κs = search needs
 
 -- src/lib.rt:150:5
 commit-requires : tie.Need-commit-requires
-commit-requires c κs = ?
+commit-requires c κs =
+    let s = c .before .before .before .before .before .before .before .before .before .before .before .before .before .before .before .before .before .before .before .before .before .before .before in
+    let f = c .before .before .before .before .before .before .before .before .before .before .before .before .before .fetch .kept in
+    let long = f .1 .1 .0 ∙ s .pre .1 .blocks-long in
+    (s .pre .0, record { blocks-long = long; stripe-long = f .1 .1 .1 .0 ∙ s .pre .1 .stripe-long; coded-long = long })
 
 -- src/lib.rt:130:1
 same-length : tie.Need-same-length
-same-length c = ?
+same-length c = c .before .before .before .before .before .before .before .before .before .before .before .before .before .before .before .before .before .before .before .before .before .before .fetch .kept .1 .1 .0
 
 -- src/lib.rt:130:1
 same-length-2 : tie.Need-same-length-2
-same-length-2 c = ?
+same-length-2 c = c .before .before .before .before .before .before .before .before .before .before .before .before .before .before .before .before .before .before .before .before .before .before .fetch .kept .1 .1 .1 .0
 
 -- src/lib.rt:130:1
 same-length-3 : tie.Need-same-length-3
@@ -50,7 +58,14 @@ same-length-6 c = search needs
 
 -- src/lib.rt:130:1
 returns : tie.Need-returns
-returns c = ?
+returns c =
+    let s = c .before .before .before .before .before .before .before .before .before .before .before .before .before .before .before .before .before .before .before .before .before .before .before .before .before .before .before .before .before .before .before .before in
+    let k = s .args .kept .now in
+    acted-read (s .args .b) (s .args .c) k (s .args .numbers .now) (s .args .bytes .now) 0 (s .args .out .now) _ _ _ _ _ _ _ _ (s .pre .0 .low)
+    (c .before .before .before .before .before .before .before .before .before .before .before .before .before .before .before .before .coordinator-at .ensures .0)
+    (c .before .before .before .before .before .before .before .before .before .before .before .before .before .before .before .before .before .before .before .before .before .before .fetch .ensures .0 ∙ ap (λ (j : ℕ). take j (drop (s .args .c * 64) k)) (s .pre .1 .blocks-long))
+    (c .before .before .before .before .before .before .before .before .before .before .before .before .before .before .before .before .before .before .before .before .before .before .fetch .ensures .1 ∙ ap (λ (j : ℕ). take j (drop (s .args .c * 64 + 32) k)) (s .pre .1 .stripe-long))
+    (s .args .clock) (s .args .brick) _ (c .before .before .before .before .before .before .before .before .before .before .before .before .before .before .before .start-read .ensures) (c .before .before .before .before .before .before .before .before .commit .ensures)
 
 pub read-with-spec : {M : Type 1} → statement M
 read-with-spec =

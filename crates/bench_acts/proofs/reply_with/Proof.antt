@@ -1,3 +1,9 @@
+use mathlib.Core.Path.{refl, ap, _∙_}
+use Prim.Native.Nat.{ℕ, _+_, _*_}
+use native.Mathlib.Omega.{arith}
+use lib.ListN.{take, drop}
+use Rattle.bench_sent.specs.SentLaws.{block-cut}
+use Rattle.bench_acts.specs.ActedLaws.{acted-row}
 use borrow.Author.Needs.{needs}
 use Rattle.bench_acts.proofs.reply_with.Statement.{statement}
 use Rattle.bench_acts.proofs.reply_with.Tie as tie
@@ -18,15 +24,15 @@ coordinator-at-requires c κs = search needs
 
 -- src/lib.rt:198:16
 mul-from : tie.Need-mul-from
-mul-from c = ?
+mul-from c = let s = c .before .before .before .before .before .before .before .before .before .before .before .before .before .before .before .before .before in omega (arith, s .pre .0 .few, s .pre .1 .1 .0)
 
 -- src/lib.rt:198:16
 add-from : tie.Need-add-from
-add-from c = ?
+add-from c = let s = c .before .before .before .before .before .before .before .before .before .before .before .before .before .before .before .before .before in omega (arith, s .pre .0 .few, s .pre .1 .1 .0)
 
 -- src/lib.rt:199:16
 add-till : tie.Need-add-till
-add-till c = ?
+add-till c = let s = c .before .before .before .before .before .before .before .before .before .before .before .before .before .before .before .before .before .before in omega (arith, s .pre .0 .few, s .pre .1 .1 .0, s .pre .0 .fits .size-fits)
 
 -- src/lib.rt:206:9
 sub-take-reply : tie.Need-sub-take-reply
@@ -38,7 +44,7 @@ part-take-reply-start c = search needs
 
 -- src/lib.rt:206:9
 part-take-reply-end : tie.Need-part-take-reply-end
-part-take-reply-end c = ?
+part-take-reply-end c = let s = c .before .before .before .before .before .before .before .before .before .before .before .before .before .before .before .before .before .before .before in omega (arith, s .pre .0 .few, s .pre .1 .1 .0, s .pre .0 .fits .size-fits, s .pre .0 .bytes-long)
 
 -- src/lib.rt:200:9
 take-reply-requires : tie.Need-take-reply-requires
@@ -46,15 +52,26 @@ take-reply-requires c κs = search needs
 
 -- src/lib.rt:211:5
 commit-requires : tie.Need-commit-requires
-commit-requires c κs = ?
+commit-requires c κs =
+    let s = c .before .before .before .before .before .before .before .before .before .before .before .before .before .before .before .before .before .before .before .before .before .before .before .before .before .before .before .before .before .before .before .before .before .before .before .before .before in
+    let f = c .before .before .before .before .before .before .before .before .before .before .before .before .before .before .before .before .before .before .before .before .before .before .before .before .before .before .fetch .kept in
+    let t = c .before .before .before .before .before .before .before .before .before .before .before .before .before .take-reply .kept in
+    (
+      s .pre .0,
+      record {
+        blocks-long = t .1 .1 .1 .1 .1 .1 .0 ∙ f .1 .1 .0 ∙ s .pre .1 .0 .blocks-long;
+        stripe-long = t .1 .1 .1 .1 .1 .1 .1 .0 ∙ f .1 .1 .1 .0 ∙ s .pre .1 .0 .stripe-long;
+        coded-long = t .1 .1 .1 .1 .1 .1 .1 .1 .0 ∙ s .pre .1 .0 .coded-long;
+      },
+    )
 
 -- src/lib.rt:176:1
 same-length : tie.Need-same-length
-same-length c = ?
+same-length c = c .before .before .before .before .before .before .before .before .before .before .before .before .before .before .before .before .before .before .before .before .before .before .take-reply .kept .1 .1 .1 .1 .1 .1 .0 ∙ c .before .before .before .before .before .before .before .before .before .before .before .before .before .before .before .before .before .before .before .before .before .before .before .before .before .before .before .before .before .before .before .before .before .before .before .fetch .kept .1 .1 .0
 
 -- src/lib.rt:176:1
 same-length-2 : tie.Need-same-length-2
-same-length-2 c = ?
+same-length-2 c = c .before .before .before .before .before .before .before .before .before .before .before .before .before .before .before .before .before .before .before .before .before .before .take-reply .kept .1 .1 .1 .1 .1 .1 .1 .0 ∙ c .before .before .before .before .before .before .before .before .before .before .before .before .before .before .before .before .before .before .before .before .before .before .before .before .before .before .before .before .before .before .before .before .before .before .before .fetch .kept .1 .1 .1 .0
 
 -- src/lib.rt:176:1
 same-length-3 : tie.Need-same-length-3
@@ -78,7 +95,18 @@ same-length-7 c = search needs
 
 -- src/lib.rt:176:1
 returns : tie.Need-returns
-returns c = ?
+returns c =
+    let s = c .before .before .before .before .before .before .before .before .before .before .before .before .before .before .before .before .before .before .before .before .before .before .before .before .before .before .before .before .before .before .before .before .before .before .before .before .before .before .before .before .before .before .before .before .before .before in
+    let k = s .args .kept .now in
+    let z = s .args .b .settings .size in
+    let e = c .before .before .before .before .before .before .before .before .before .before .before .before .before .before .before .before .before .before .before .before .before .before .take-reply .ensures in
+    acted-row (s .args .b) (s .args .c) k (s .args .numbers .now) (s .args .bytes .now) (s .args .at) (s .args .out .now) _ _ _ _ _ _ _ _ (s .pre .0 .low)
+    (c .before .before .before .before .before .before .before .before .before .before .before .before .before .before .before .before .before .before .before .before .before .before .before .before .before .before .before .before .before .coordinator-at .ensures .0)
+    (c .before .before .before .before .before .before .before .before .before .before .before .before .before .before .before .before .before .before .before .before .before .before .before .before .before .before .before .before .before .before .before .before .before .before .before .fetch .ensures .0 ∙ ap (λ (j : ℕ). take j (drop (s .args .c * 64) k)) (s .pre .1 .0 .blocks-long))
+    (c .before .before .before .before .before .before .before .before .before .before .before .before .before .before .before .before .before .before .before .before .before .before .before .before .before .before .before .before .before .before .before .before .before .before .before .fetch .ensures .1 ∙ ap (λ (j : ℕ). take j (drop (s .args .c * 64 + 32) k)) (s .pre .1 .0 .stripe-long))
+    (s .args .k) (s .args .reply) _ _ (s .args .coded .now) _ _ _ (s .pre .1 .1 .0) (s .pre .1 .1 .1) (s .pre .1 .1 .2)
+    (block-cut z (s .args .k) (s .args .k * 24 + 16) (s .args .k * 24 + 16 + z) (s .args .bytes .now) refl refl)
+    (s .pre .1 .1 .3) (s .pre .1 .0 .coded-long) (e .0) (e .1 .0) (e .1 .1 .0) (e .1 .1 .1) (c .before .before .before .before .before .before .before .before .commit .ensures)
 
 pub reply-with-spec : {M : Type 1} → statement M
 reply-with-spec =
