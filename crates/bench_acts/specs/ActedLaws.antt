@@ -1,12 +1,13 @@
 -- An event at a coordinator, by the copies that the routine worked on.
 use mathlib.Core.Path.{_≡_, refl, sym, ap, subst, _∙_}
-use mathlib.Core.Bool.{Bool, true, false, cond}
+use mathlib.Core.Bool.{Bool, true, false, cond, not, _&&_}
 use mathlib.Core.List.{List, [], _∷_}
 use Prim.Native.Nat.{ℕ, _+_, _*_, _%_, _≤_, _<_}
 use native.Mathlib.Omega.{arith}
 use lib.Dec.{eqb, ltb}
 use lib.ListN.{length, getD, take, drop}
-use borrow.Author.Tests.{lt-ltb}
+use borrow.Author.Tests.{lt-ltb, le-ltb, eqb-true}
+use Rattle.settings.specs.RangeLaws.{and-left, and-right}
 use Rattle.settings.specs.declared.Settings.{Settings}
 use Rattle.little.specs.LittleLaws.{Bytes}
 use Rattle.message.specs.declared.Reply.{Reply}
@@ -16,14 +17,15 @@ use Rattle.coord_acts.specs.Steps.{Held, Step, refused, went, answerOf, blocksA
 use Rattle.coord_acts.specs.declared.Answer.{Answer}
 use Rattle.coordinator.specs.Rules.{takeStep, crashStep, writeStep, readStep}
 use Rattle.register.specs.Driver.{Short, write-short, read-short, crash-short, take-short}
-use Rattle.register.specs.Runs.{World, Event, startWrite, startRead, arrives, crashes, reply, step, coordinated, arriving}
+use Rattle.register.specs.Runs.{Item, World, Event, startWrite, startRead, arrives, crashes, reply, step, coordinated, arriving}
 use Rattle.bench_sent.specs.RunLaws.{arrives-item}
 use Rattle.bench_sent.specs.Sent.{itemsOf, itemAt, isReply, replyAt, blockAt}
 use Rattle.bench_sent.specs.SentLaws.{item-reply}
 use Rattle.bench_state.specs.State.{worldOf, heldAt, idleAt}
 use Rattle.bench_state.specs.declared.Bench.{Bench}
-use Rattle.bench_play.specs.Play.{acts}
-use Rattle.bench_play.specs.Turning.{lent, worldIn, Turned}
+use Rattle.bench_play.specs.Content.{counted, content, content-small}
+use Rattle.bench_play.specs.Play.{Played, acts, refuses, unlessShort, atCoordinator, writes, starts, crashesAt, carries}
+use Rattle.bench_play.specs.Turning.{Lent, lent, worldIn, Turned}
 use Rattle.bench_play.specs.declared.After.{After}
 use Rattle.bench_acts.specs.Answers.{answered}
 use Rattle.bench_acts.specs.AnswerLaws.{Numbered, answered-is-acts, Answers}
@@ -49,6 +51,27 @@ pub record Acted (b : Bench) (c : ℕ) (e : Event) (p : Held → Step) (kept num
       → Turned b (lent images kept numbers bytes) at out
       (acts (b .settings) (worldIn b (lent images kept numbers bytes)) e c (p (worldIn b (lent images kept numbers bytes) .coordinators c)))
       r (lent images kept′ numbers′ bytes′) out′
+
+-- a start that is refused stays so, and one that is not is refused for its digits
+short-refuses : (s : Settings) (w : World) (e : Event) (c : ℕ) (st : Coordinator) (q : Step) (a : Answer) (ok : Bool) → a ≡ answerOf st q → Numbered q
+    → eqb (a .refusal) 0 && not ok ≡ true → acts s w e c (unlessShort ok q) ≡ refuses w 12
+unfolding acts unlessShort answerOf
+short-refuses s w e c st (refused k) a ok ea n h =
+    absurd (n (eqb-true k 0 (sym (ap (λ (x : Answer). eqb (x .refusal) 0) ea) ∙ and-left (eqb (a .refusal) 0) (not ok) h)))
+short-refuses s w e c st (went g) a ok ea n h = go ok (and-right (eqb (a .refusal) 0) (not ok) h)
+  where
+    go : (t : Bool) → not t ≡ true → acts s w e c (cond t (went g) (refused 12)) ≡ refuses w 12
+    go true z = let y : _≡_ {A = ℕ} 0 1 = cc in absurd (omega arith)
+    go false z = refl
+
+short-same : (st : Coordinator) (q : Step) (a : Answer) (ok : Bool) → a ≡ answerOf st q → eqb (a .refusal) 0 && not ok ≡ false → unlessShort ok q ≡ q
+unfolding unlessShort answerOf
+short-same st (refused k) a ok ea h = refl
+short-same st (went g) a ok ea h = go ok (sym (ap (λ (x : Answer). eqb (x .refusal) 0 && not ok) ea) ∙ h)
+  where
+    go : (t : Bool) → true && not t ≡ false → cond t (went g) (refused 12) ≡ went g
+    go true z = refl
+    go false z = let y : _≡_ {A = ℕ} 0 1 = cc in absurd (omega arith)
 
 module _ (b : Bench) (c : ℕ) (kept numbers bytes : List ℕ) (at : ℕ) (out : List ℕ) (r : After) (kept′ numbers′ bytes′ out′ : List ℕ) where
   -- what coordinator c keeps
@@ -143,6 +166,66 @@ module _ (b : Bench) (c : ℕ) (kept numbers bytes : List ℕ) (at : ℕ) (out :
         (blocks-are ∙ sym (write-blocks n m size here clock content)) (ew blocks ∙ ap (λ (x : Held). stripeAfter x (writeStep n m size x clock content)) same)
         (sym (write-coded n m size here clock content blocks)) h
 
+    -- a write with a wrong count of digits, after the numbers of its start
+    pub short-write : (clock : ℕ) (digits cont : List ℕ) (a : Answer) (ok : Bool) → cont ≡ content (b .settings) digits → ok ≡ counted (b .settings) digits
+        → ((x : List ℕ) → a ≡ answerOf old (writeStep (b .settings .n) (b .settings .m) (b .settings .size) (heldOf old x stripe) clock cont))
+        → eqb (a .refusal) 0 && not ok ≡ true → ((l : Lent) → Turned b l at out (refuses (worldIn b l) 12) r l out′)
+        → Acted b c (startWrite c clock (content (b .settings) digits) (content-small (b .settings) digits))
+        (λ (h : Held). unlessShort (counted (b .settings) digits) (writeStep (b .settings .n) (b .settings .m) (b .settings .size) h clock (content (b .settings) digits)))
+        kept numbers bytes at out r kept numbers bytes out′
+    unfolding worldIn worldOf
+    short-write clock digits cont a ok e eo′ ea q t =
+        let n = b .settings .n in
+        let m = b .settings .m in
+        let size = b .settings .size in
+        let step-is =
+            ea blocks ∙ ap (λ (x : List ℕ). answerOf old (writeStep n m size (heldOf old blocks stripe) clock x)) e
+            ∙ ap (λ (x : Coordinator). answerOf x (writeStep n m size (heldOf old blocks stripe) clock (content (b .settings) digits))) old-is
+            ∙ ap (λ (x : Held). answerOf (here .state) (writeStep n m size x clock (content (b .settings) digits))) same
+        in
+        record {
+          turned = λ images.
+            subst (λ (x : _). Turned b (lent images kept numbers bytes) at out x r (lent images kept numbers bytes) out′)
+            (sym
+            (short-refuses (b .settings) (worldIn b (lent images kept numbers bytes)) (startWrite c clock (content (b .settings) digits) (content-small (b .settings) digits)) c (here .state)
+            (writeStep n m size here clock (content (b .settings) digits)) a (counted (b .settings) digits) step-is (write-numbered n m size here clock (content (b .settings) digits))
+            (ap (λ (x : Bool). eqb (a .refusal) 0 && not x) (sym eo′) ∙ q)))
+            (t (lent images kept numbers bytes));
+        }
+
+    -- and any other
+    pub whole-write : (clock : ℕ) (digits cont : List ℕ) (a : Answer) (ok : Bool) (stripe′ : List ℕ) → cont ≡ content (b .settings) digits → ok ≡ counted (b .settings) digits
+        → ((x : List ℕ) → a ≡ answerOf old (writeStep (b .settings .n) (b .settings .m) (b .settings .size) (heldOf old x stripe) clock cont))
+        → ((x : List ℕ) → stripe′ ≡ stripeAfter (heldOf old x stripe) (writeStep (b .settings .n) (b .settings .m) (b .settings .size) (heldOf old x stripe) clock cont))
+        → eqb (a .refusal) 0 && not ok ≡ false
+        → Answers b c a blocks stripe′ blocks kept numbers bytes at out r kept′ numbers′ bytes′ out′
+        → Acted b c (startWrite c clock (content (b .settings) digits) (content-small (b .settings) digits))
+        (λ (h : Held). unlessShort (counted (b .settings) digits) (writeStep (b .settings .n) (b .settings .m) (b .settings .size) h clock (content (b .settings) digits)))
+        kept numbers bytes at out r kept′ numbers′ bytes′ out′
+    unfolding worldIn worldOf
+    whole-write clock digits cont a ok stripe′ e eo′ ea ew q h =
+        let n = b .settings .n in
+        let m = b .settings .m in
+        let size = b .settings .size in
+        let cs = content (b .settings) digits in
+        let step-is =
+            ea blocks
+            ∙ ap (λ (y : List ℕ). answerOf old (writeStep n m size (heldOf old blocks stripe) clock y)) e
+            ∙ ap (λ (x : Coordinator). answerOf x (writeStep n m size (heldOf old blocks stripe) clock cs)) old-is
+            ∙ ap (λ (x : Held). answerOf (here .state) (writeStep n m size x clock cs)) same
+        in
+        record {
+          turned = λ images.
+            subst
+            (λ (x : Step).
+            Turned b (lent images kept numbers bytes) at out
+            (acts (b .settings) (worldIn b (lent images kept numbers bytes)) (startWrite c clock cs (content-small (b .settings) digits)) c x) r (lent images kept′ numbers′ bytes′) out′)
+            (sym (short-same (here .state) (writeStep n m size here clock cs) a (counted (b .settings) digits) step-is (ap (λ (x : Bool). eqb (a .refusal) 0 && not x) (sym eo′) ∙ q)))
+            (acted-write clock cs (content-small (b .settings) digits) a stripe′
+            (λ (x : List ℕ). ea x ∙ ap (λ (y : List ℕ). answerOf old (writeStep n m size (heldOf old x stripe) clock y)) e)
+            (λ (x : List ℕ). ew x ∙ ap (λ (y : List ℕ). stripeAfter (heldOf old x stripe) (writeStep n m size (heldOf old x stripe) clock y)) e) h .turned images);
+        }
+
     -- a reply in row k
     pub acted-reply : (k : ℕ) (reply′ : Reply) (block : List ℕ) (a : Answer) (coded blocks′ stripe′ coded′ : List ℕ) → k < b .sent
         → itemAt (b .settings .size) numbers bytes k ≡ reply reply′ block → c ≡ reply′ .time % 16 → length coded ≡ b .settings .n * b .settings .size
@@ -185,3 +268,81 @@ module _ (b : Bench) (c : ℕ) (kept numbers bytes : List ℕ) (at : ℕ) (out :
         subst
         (λ (x : List ℕ). Acted b c (arrives k) (λ (h : Held). takeStep (b .settings .n) (b .settings .m) (b .settings .size) h reply′ x (b .settings .n * b .settings .size)) kept numbers bytes at out r kept′ numbers′ bytes′ out′)
         e (acted-reply k reply′ cut a coded blocks′ stripe′ coded′ l (item-reply (b .settings .size) k reply′ cut numbers bytes t er e) ec long ea eb′ es′ ec′ h)
+
+-- an event has been played, whatever the images are
+pub record Plays (b : Bench) (p : World → Played) (kept numbers bytes : List ℕ) (at : ℕ) (out : List ℕ) (r : After) (kept′ numbers′ bytes′ out′ : List ℕ) : Type 0 where
+  pub turned : (images : List ℕ)
+      → Turned b (lent images kept numbers bytes) at out (p (worldIn b (lent images kept numbers bytes))) r (lent images kept′ numbers′ bytes′) out′
+
+module _ (b : Bench) (c : ℕ) (kept numbers bytes : List ℕ) (at : ℕ) (out : List ℕ) (r : After) where
+  -- a coordinator past the bench's
+  past-at : (q : World → Played) (out′ : List ℕ) → 4 ≤ c → ((l : Lent) → Turned b l at out (refuses (worldIn b l) 3) r l out′)
+      → Plays b (λ (w : World). atCoordinator w c (q w)) kept numbers bytes at out r kept numbers bytes out′
+  unfolding atCoordinator
+  past-at q out′ h t = record { turned = λ images. rw (le-ltb c 4 h) (t (lent images kept numbers bytes)) }
+
+  here-at : (e : Event) (p : Held → Step) (kept′ numbers′ bytes′ out′ : List ℕ) → c < 4 → Acted b c e p kept numbers bytes at out r kept′ numbers′ bytes′ out′
+      → Plays b (λ (w : World). atCoordinator w c (acts (b .settings) w e c (p (w .coordinators c)))) kept numbers bytes at out r kept′ numbers′ bytes′ out′
+  unfolding atCoordinator
+  here-at e p kept′ numbers′ bytes′ out′ h a = record { turned = λ images. rw (lt-ltb c 4 h) (a .turned images) }
+
+  pub read-past : (clock brick : ℕ) (out′ : List ℕ) → 4 ≤ c → ((l : Lent) → Turned b l at out (refuses (worldIn b l) 3) r l out′)
+      → Plays b (λ (w : World). starts (b .settings) w c clock brick) kept numbers bytes at out r kept numbers bytes out′
+  unfolding starts
+  read-past clock brick out′ h t = past-at _ out′ h t
+
+  pub read-here : (clock brick : ℕ) (kept′ numbers′ bytes′ out′ : List ℕ) → c < 4
+      → Acted b c (startRead c clock brick) (λ (h : Held). readStep (b .settings .n) (b .settings .m) (b .settings .size) h clock brick) kept numbers bytes at out r kept′ numbers′ bytes′ out′
+      → Plays b (λ (w : World). starts (b .settings) w c clock brick) kept numbers bytes at out r kept′ numbers′ bytes′ out′
+  unfolding starts
+  read-here clock brick kept′ numbers′ bytes′ out′ h a = here-at _ _ kept′ numbers′ bytes′ out′ h a
+
+  pub crash-past : (out′ : List ℕ) → 4 ≤ c → ((l : Lent) → Turned b l at out (refuses (worldIn b l) 3) r l out′)
+      → Plays b (λ (w : World). crashesAt (b .settings) w c) kept numbers bytes at out r kept numbers bytes out′
+  unfolding crashesAt
+  crash-past out′ h t = past-at _ out′ h t
+
+  pub crash-here : (kept′ numbers′ bytes′ out′ : List ℕ) → c < 4
+      → Acted b c (crashes c) (λ (h : Held). crashStep (b .settings .n) (b .settings .m) (b .settings .size) h) kept numbers bytes at out r kept′ numbers′ bytes′ out′
+      → Plays b (λ (w : World). crashesAt (b .settings) w c) kept numbers bytes at out r kept′ numbers′ bytes′ out′
+  unfolding crashesAt
+  crash-here kept′ numbers′ bytes′ out′ h a = here-at _ (λ (x : Held). crashStep (b .settings .n) (b .settings .m) (b .settings .size) x) kept′ numbers′ bytes′ out′ h a
+
+  pub write-past : (clock : ℕ) (digits out′ : List ℕ) → 4 ≤ c → ((l : Lent) → Turned b l at out (refuses (worldIn b l) 3) r l out′)
+      → Plays b (λ (w : World). writes (b .settings) w c clock digits) kept numbers bytes at out r kept numbers bytes out′
+  unfolding writes
+  write-past clock digits out′ h t = past-at _ out′ h t
+
+  pub write-here : (clock : ℕ) (digits kept′ numbers′ bytes′ out′ : List ℕ) → c < 4
+      → Acted b c (startWrite c clock (content (b .settings) digits) (content-small (b .settings) digits))
+      (λ (h : Held). unlessShort (counted (b .settings) digits) (writeStep (b .settings .n) (b .settings .m) (b .settings .size) h clock (content (b .settings) digits)))
+      kept numbers bytes at out r kept′ numbers′ bytes′ out′
+      → Plays b (λ (w : World). writes (b .settings) w c clock digits) kept numbers bytes at out r kept′ numbers′ bytes′ out′
+  unfolding writes
+  write-here clock digits kept′ numbers′ bytes′ out′ h a =
+      here-at _ (λ (x : Held). unlessShort (counted (b .settings) digits) (writeStep (b .settings .n) (b .settings .m) (b .settings .size) x clock (content (b .settings) digits)))
+      kept′ numbers′ bytes′ out′ h a
+
+-- a reply in row k
+module _ (b : Bench) (k : ℕ) (kept numbers bytes : List ℕ) (at : ℕ) (out : List ℕ) (r : After) (reply′ : Reply)
+    (t : isReply numbers k ≡ true) (er : reply′ ≡ replyAt numbers k) where
+  item-here : itemAt (b .settings .size) numbers bytes k ≡ reply reply′ (blockAt (b .settings .size) bytes k)
+  item-here = item-reply (b .settings .size) k reply′ (blockAt (b .settings .size) bytes k) numbers bytes t er refl
+
+  pub reply-past : (out′ : List ℕ) → 4 ≤ reply′ .time % 16 → ((l : Lent) → Turned b l at out (refuses (worldIn b l) 3) r l out′)
+      → Plays b (λ (w : World). carries (b .settings) w k (itemAt (b .settings .size) numbers bytes k)) kept numbers bytes at out r kept numbers bytes out′
+  unfolding carries
+  reply-past out′ h z =
+      subst (λ (i : Item). Plays b (λ (w : World). carries (b .settings) w k i) kept numbers bytes at out r kept numbers bytes out′) (sym item-here)
+      (past-at b (reply′ .time % 16) kept numbers bytes at out r _ out′ h z)
+
+  pub reply-here : (kept′ numbers′ bytes′ out′ : List ℕ) → reply′ .time % 16 < 4
+      → Acted b (reply′ .time % 16) (arrives k)
+      (λ (h : Held). takeStep (b .settings .n) (b .settings .m) (b .settings .size) h reply′ (blockAt (b .settings .size) bytes k) (b .settings .n * b .settings .size))
+      kept numbers bytes at out r kept′ numbers′ bytes′ out′
+      → Plays b (λ (w : World). carries (b .settings) w k (itemAt (b .settings .size) numbers bytes k)) kept numbers bytes at out r kept′ numbers′ bytes′ out′
+  unfolding carries
+  reply-here kept′ numbers′ bytes′ out′ h a =
+      subst (λ (i : Item). Plays b (λ (w : World). carries (b .settings) w k i) kept numbers bytes at out r kept′ numbers′ bytes′ out′) (sym item-here)
+      (here-at b (reply′ .time % 16) kept numbers bytes at out r (arrives k)
+      (λ (x : Held). takeStep (b .settings .n) (b .settings .m) (b .settings .size) x reply′ (blockAt (b .settings .size) bytes k) (b .settings .n * b .settings .size)) kept′ numbers′ bytes′ out′ h a)

@@ -2,12 +2,16 @@
 // what they answer counts only where its messages stay within message 127.
 ghost use mathlib.Core.Path.{_≡_};
 ghost use mathlib.Core.List.{List};
-ghost use mathlib.Core.Bool.{true};
+ghost use mathlib.Core.Bool.{true, cond, not, _&&_};
 ghost use Prim.Native.Nat.{ℕ, _+_, _*_, _%_, _≤_, _<_};
-ghost use lib.ListN.{length};
+ghost use lib.Dec.{eqb};
+ghost use lib.ListN.{length, drop, replicate};
 ghost use Rattle.bench_acts.specs.ActedLaws.{Acted};
 ghost use Rattle.bench_acts.specs.AnswerLaws.{Round, Seats, Copies, Answers};
 ghost use Rattle.bench_acts.specs.Answers.{sentAfter};
+ghost use Rattle.bench_line.specs.Lines.{bytesOf};
+ghost use Rattle.bench_play.specs.Content.{counted, content as content-of, content-small};
+ghost use Rattle.bench_play.specs.Play.{unlessShort};
 ghost use Rattle.bench_sent.specs.Sent.{isReply, replyAt, blockAt};
 ghost use Rattle.coord_acts.specs.Steps.{Held};
 ghost use Rattle.coordinator.specs.Rules.{takeStep, crashStep, writeStep, readStep};
@@ -209,4 +213,58 @@ fn reply_with(
         coded,
     );
     commit(b, c, a, blocks, stripe, coded, kept, numbers, bytes, at, out)
+}
+
+// Whether a start that is not refused has a wrong count of digits.
+fn is_short(refusal: u32, right: bool) -> bool
+    ensures { λ r. ⌜ r ≡ (eqb refusal 0 && not right) ⌝ }
+{
+    if refusal == 0 {
+        return !right;
+    }
+    false
+}
+
+// The bytes of a write from its hex digits, and whether there are two for each; else the buffer is kept.
+fn read_content(line: &[u8], hex: usize, content: &mut [u8]) -> bool
+    requires { ⌜ (hex ≤ length (now line)) × (length (now content) ≤ 32) ⌝ }
+    ensures { λ r. ⌜ r ≡ eqb (length (drop hex (now (line .entry)))) (2 * length (now (content .entry))) ⌝ }
+    ensures { λ r. ⌜ now (content .exit) ≡ cond r (bytesOf (drop hex (now (line .entry)))) (now (content .entry)) ⌝ }
+{
+    if line.len() - hex != 2 * content.len() {
+        return false;
+    }
+    bench_line::hex_bytes(line, hex, content);
+    true
+}
+
+// A write starts, on copies of what the coordinator keeps and with a buffer of zeros for its bytes.
+fn write_with(
+    b: Bench,
+    c: usize,
+    clock: u64,
+    line: &[u8],
+    hex: usize,
+    content: &mut [u8],
+    blocks: &mut [u8],
+    stripe: &mut [u8],
+    kept: &mut [u8],
+    numbers: &mut [u64],
+    bytes: &mut [u8],
+    out: &mut [u8],
+) -> After
+    requires { ⌜ Seats b c (now kept) (now numbers) (now bytes) 0 (now out) ⌝ }
+    requires { ⌜ Copies (b .settings) (now blocks) (now stripe) (now blocks) ⌝ }
+    requires { ⌜ (hex ≤ length (now line)) × (now content ≡ replicate (b .settings .m * b .settings .size) 0) ⌝ }
+    ensures { λ r. ⌜ Acted b c (startWrite c clock (content-of (b .settings) (drop hex (now (line .entry)))) (content-small (b .settings) (drop hex (now (line .entry))))) (λ (h : Held). unlessShort (counted (b .settings) (drop hex (now (line .entry)))) (writeStep (b .settings .n) (b .settings .m) (b .settings .size) h clock (content-of (b .settings) (drop hex (now (line .entry)))))) (now (kept .entry)) (now (numbers .entry)) (now (bytes .entry)) 0 (now (out .entry)) r (now (kept .exit)) (now (numbers .exit)) (now (bytes .exit)) (now (out .exit)) ⌝ }
+{
+    let right = read_content(line, hex, content);
+    bench_state::fetch(c, kept, blocks, stripe);
+    let s = b.settings;
+    let old = bench_state::coordinator_at(b, c);
+    let a = coordinator::start_write(s.n, s.m, s.size, old, clock, content, stripe);
+    if is_short(a.refusal, right) {
+        return bench_play::refuse(b, 12, 0, out);
+    }
+    commit(b, c, a, blocks, stripe, blocks, kept, numbers, bytes, 0, out)
 }
