@@ -87,14 +87,14 @@ module _ (b : Bench) (c : ℕ) (kept numbers bytes : List ℕ) (at : ℕ) (out :
   acted-by e p a blocks stripe coded old q short numbered ea eb es ec h =
       record {
         turned = λ images.
-          (let w = worldIn b (lent images kept numbers bytes) in
-          subst (λ (x : _). Turned b (lent images kept numbers bytes) at out x r (lent images kept′ numbers′ bytes′) out′)
-          (ap (λ (x : Answer). answered (b .settings) w e c x blocks stripe coded) ea
-          ∙ ap (λ (x : List ℕ). answered (b .settings) w e c (answerOf (here .state) (p here)) x stripe coded) eb
-          ∙ ap (λ (x : List ℕ). answered (b .settings) w e c (answerOf (here .state) (p here)) (blocksAfter here (p here)) x coded) es
-          ∙ ap (λ (x : List ℕ). answered (b .settings) w e c (answerOf (here .state) (p here)) (blocksAfter here (p here)) (stripeAfter here (p here)) x) ec
-          ∙ answered-is-acts (b .settings) w e c (p here) old short numbered (q images))
-          (h .turned images e));
+            (let w = worldIn b (lent images kept numbers bytes) in
+            subst (λ (x : _). Turned b (lent images kept numbers bytes) at out x r (lent images kept′ numbers′ bytes′) out′)
+            (ap (λ (x : Answer). answered (b .settings) w e c x blocks stripe coded) ea
+            ∙ ap (λ (x : List ℕ). answered (b .settings) w e c (answerOf (here .state) (p here)) x stripe coded) eb
+            ∙ ap (λ (x : List ℕ). answered (b .settings) w e c (answerOf (here .state) (p here)) (blocksAfter here (p here)) x coded) es
+            ∙ ap (λ (x : List ℕ). answered (b .settings) w e c (answerOf (here .state) (p here)) (blocksAfter here (p here)) (stripeAfter here (p here)) x) ec
+            ∙ answered-is-acts (b .settings) w e c (p here) old short numbered (q images))
+            (h .turned images e));
       }
 
   -- the copies are what the coordinator keeps
@@ -179,18 +179,18 @@ module _ (b : Bench) (c : ℕ) (kept numbers bytes : List ℕ) (at : ℕ) (out :
         let m = b .settings .m in
         let size = b .settings .size in
         let step-is =
-            ea blocks ∙ ap (λ (x : List ℕ). answerOf old (writeStep n m size (heldOf old blocks stripe) clock x)) e
-            ∙ ap (λ (x : Coordinator). answerOf x (writeStep n m size (heldOf old blocks stripe) clock (content (b .settings) digits))) old-is
-            ∙ ap (λ (x : Held). answerOf (here .state) (writeStep n m size x clock (content (b .settings) digits))) same
+        ea blocks ∙ ap (λ (x : List ℕ). answerOf old (writeStep n m size (heldOf old blocks stripe) clock x)) e
+        ∙ ap (λ (x : Coordinator). answerOf x (writeStep n m size (heldOf old blocks stripe) clock (content (b .settings) digits))) old-is
+        ∙ ap (λ (x : Held). answerOf (here .state) (writeStep n m size x clock (content (b .settings) digits))) same
         in
         record {
           turned = λ images.
-            subst (λ (x : _). Turned b (lent images kept numbers bytes) at out x r (lent images kept numbers bytes) out′)
-            (sym
-            (short-refuses (b .settings) (worldIn b (lent images kept numbers bytes)) (startWrite c clock (content (b .settings) digits) (content-small (b .settings) digits)) c (here .state)
-            (writeStep n m size here clock (content (b .settings) digits)) a (counted (b .settings) digits) step-is (write-numbered n m size here clock (content (b .settings) digits))
-            (ap (λ (x : Bool). eqb (a .refusal) 0 && not x) (sym eo′) ∙ q)))
-            (t (lent images kept numbers bytes));
+              subst (λ (x : _). Turned b (lent images kept numbers bytes) at out x r (lent images kept numbers bytes) out′)
+              (sym
+              (short-refuses (b .settings) (worldIn b (lent images kept numbers bytes)) (startWrite c clock (content (b .settings) digits) (content-small (b .settings) digits)) c (here .state)
+              (writeStep n m size here clock (content (b .settings) digits)) a (counted (b .settings) digits) step-is (write-numbered n m size here clock (content (b .settings) digits))
+              (ap (λ (x : Bool). eqb (a .refusal) 0 && not x) (sym eo′) ∙ q)))
+              (t (lent images kept numbers bytes));
         }
 
     -- and any other
@@ -209,21 +209,21 @@ module _ (b : Bench) (c : ℕ) (kept numbers bytes : List ℕ) (at : ℕ) (out :
         let size = b .settings .size in
         let cs = content (b .settings) digits in
         let step-is =
-            ea blocks
-            ∙ ap (λ (y : List ℕ). answerOf old (writeStep n m size (heldOf old blocks stripe) clock y)) e
-            ∙ ap (λ (x : Coordinator). answerOf x (writeStep n m size (heldOf old blocks stripe) clock cs)) old-is
-            ∙ ap (λ (x : Held). answerOf (here .state) (writeStep n m size x clock cs)) same
+        ea blocks
+        ∙ ap (λ (y : List ℕ). answerOf old (writeStep n m size (heldOf old blocks stripe) clock y)) e
+        ∙ ap (λ (x : Coordinator). answerOf x (writeStep n m size (heldOf old blocks stripe) clock cs)) old-is
+        ∙ ap (λ (x : Held). answerOf (here .state) (writeStep n m size x clock cs)) same
         in
         record {
           turned = λ images.
-            subst
-            (λ (x : Step).
-            Turned b (lent images kept numbers bytes) at out
-            (acts (b .settings) (worldIn b (lent images kept numbers bytes)) (startWrite c clock cs (content-small (b .settings) digits)) c x) r (lent images kept′ numbers′ bytes′) out′)
-            (sym (short-same (here .state) (writeStep n m size here clock cs) a (counted (b .settings) digits) step-is (ap (λ (x : Bool). eqb (a .refusal) 0 && not x) (sym eo′) ∙ q)))
-            (acted-write clock cs (content-small (b .settings) digits) a stripe′
-            (λ (x : List ℕ). ea x ∙ ap (λ (y : List ℕ). answerOf old (writeStep n m size (heldOf old x stripe) clock y)) e)
-            (λ (x : List ℕ). ew x ∙ ap (λ (y : List ℕ). stripeAfter (heldOf old x stripe) (writeStep n m size (heldOf old x stripe) clock y)) e) h .turned images);
+              subst
+              (λ (x : Step).
+              Turned b (lent images kept numbers bytes) at out
+              (acts (b .settings) (worldIn b (lent images kept numbers bytes)) (startWrite c clock cs (content-small (b .settings) digits)) c x) r (lent images kept′ numbers′ bytes′) out′)
+              (sym (short-same (here .state) (writeStep n m size here clock cs) a (counted (b .settings) digits) step-is (ap (λ (x : Bool). eqb (a .refusal) 0 && not x) (sym eo′) ∙ q)))
+              (acted-write clock cs (content-small (b .settings) digits) a stripe′
+              (λ (x : List ℕ). ea x ∙ ap (λ (y : List ℕ). answerOf old (writeStep n m size (heldOf old x stripe) clock y)) e)
+              (λ (x : List ℕ). ew x ∙ ap (λ (y : List ℕ). stripeAfter (heldOf old x stripe) (writeStep n m size (heldOf old x stripe) clock y)) e) h .turned images);
         }
 
     -- a reply in row k

@@ -5,7 +5,8 @@ use mathlib.Core.List.{List, [], _∷_, _++_, append-nil}
 use Prim.Native.Nat.{ℕ, zero, suc, _+_, _*_, _≤_, _<_}
 use native.Mathlib.Omega.{arith}
 use lib.Dec.{eqb, leb}
-use lib.ListN.{length, set, length-append}
+use lib.ListN.{length, set, take, replicate, length-append, length-replicate, getD-replicate}
+use lib.Seq.{ext-getD, length-take-le, getD-take}
 use borrow.Author.Tests.{eq-eqb, ne-eqb, le-leb, lt-leb, eqb-true}
 use Rattle.settings.specs.declared.Settings.{Settings}
 use Rattle.message.specs.declared.Message.{Message}
@@ -112,8 +113,8 @@ module _ (b : Bench) (l : Lent) (e : Event) (c : ℕ) (a : Answer) (blocks strip
       rw (eq-eqb (a .refusal) 0 z, le-leb (length (made .sent)) 127 (let m = made-sent in omega arith))
       (record {
         world-is = ap₂ make
-          (ap (heldAt (b .settings) (set (b .coordinators) c (a .next))) ek ∙ held-put (b .settings) (fits .small) (b .coordinators) (l .kept) blocks stripe c (a .next) low four long eb es)
-          (ap (itemsOf (b .settings .size) numbers′ bytes′) q ∙ round .items);
+            (ap (heldAt (b .settings) (set (b .coordinators) c (a .next))) ek ∙ held-put (b .settings) (fits .small) (b .coordinators) (l .kept) blocks stripe c (a .next) low four long eb es)
+            (ap (itemsOf (b .settings .size) numbers′ bytes′) q ∙ round .items);
         settings-kept = refl;
         few = few;
         text-is = eo;
@@ -170,10 +171,33 @@ module _ (b : Bench) (c : ℕ) (a : Answer) (blocks stripe coded kept numbers by
   answers-kept sent used bench out′ kept′ numbers′ bytes′ copies z q few round ek eu eo short eb four =
       record {
         turned = λ images e.
-          subst
-          (λ (x : Bench). Turned b (lent images kept numbers bytes) at out (answered (b .settings) (worldIn b (lent images kept numbers bytes)) e c a blocks stripe coded)
-          (record { bench = x; used = used }) (lent images kept′ numbers′ bytes′) out′)
-          (sym eb)
-          (answered-kept b (lent images kept numbers bytes) e c a blocks stripe coded at sent used out out′ kept′ numbers′ bytes′ z q few (seats .fits) (seats .low) four
-          (seats .kept-long) (copies .blocks-long) (copies .stripe-long) round ek eu eo short);
+            subst
+            (λ (x : Bench). Turned b (lent images kept numbers bytes) at out (answered (b .settings) (worldIn b (lent images kept numbers bytes)) e c a blocks stripe coded)
+            (record { bench = x; used = used }) (lent images kept′ numbers′ bytes′) out′)
+            (sym eb)
+            (answered-kept b (lent images kept numbers bytes) e c a blocks stripe coded at sent used out out′ kept′ numbers′ bytes′ z q few (seats .fits) (seats .low) four
+            (seats .kept-long) (copies .blocks-long) (copies .stripe-long) round ek eu eo short);
       }
+
+-- the same at another coordinator
+pub seat-at : (b : Bench) (c d : ℕ) (kept numbers bytes : List ℕ) (at : ℕ) (out : List ℕ) → Seats b c kept numbers bytes at out → d < 4 → Seats b d kept numbers bytes at out
+seat-at b c d kept numbers bytes at out s h =
+    record {
+      fits = s .fits;
+      few = s .few;
+      low = h;
+      kept-long = s .kept-long;
+      numbers-long = s .numbers-long;
+      bytes-long = s .bytes-long;
+      room = s .room;
+    }
+
+-- the front of a buffer of 32 zeros
+pub front-zeros : (k : ℕ) → k ≤ 32 → take {A = ℕ} k (replicate 32 0) ≡ replicate k 0
+front-zeros k h =
+    let t = length-take-le k (replicate {A = ℕ} 32 0) h in
+    ext-getD 0 (take k (replicate 32 0)) (replicate k 0) (t ∙ sym (length-replicate k 0))
+    (λ i u. getD-take k (replicate 32 0) i 0 (omega arith) ∙ getD-replicate 32 i 0 0 (omega arith) ∙ sym (getD-replicate k i 0 0 (omega arith)))
+
+pub front-long : (k : ℕ) → k ≤ 32 → k ≡ length (take {A = ℕ} k (replicate 32 0))
+front-long k h = sym (length-take-le k (replicate {A = ℕ} 32 0) h)

@@ -6,16 +6,16 @@ ghost use mathlib.Core.Bool.{true, cond, not, _&&_};
 ghost use Prim.Native.Nat.{ℕ, _+_, _*_, _%_, _≤_, _<_};
 ghost use lib.Dec.{eqb};
 ghost use lib.ListN.{length, drop, replicate};
-ghost use Rattle.bench_acts.specs.ActedLaws.{Acted};
+ghost use Rattle.bench_acts.specs.ActedLaws.{Acted, Plays};
 ghost use Rattle.bench_acts.specs.AnswerLaws.{Round, Seats, Copies, Answers};
 ghost use Rattle.bench_acts.specs.Answers.{sentAfter};
 ghost use Rattle.bench_line.specs.Lines.{bytesOf};
 ghost use Rattle.bench_play.specs.Content.{counted, content as content-of, content-small};
-ghost use Rattle.bench_play.specs.Play.{unlessShort};
-ghost use Rattle.bench_sent.specs.Sent.{isReply, replyAt, blockAt};
+ghost use Rattle.bench_play.specs.Play.{unlessShort, writes, starts, crashesAt, carries};
+ghost use Rattle.bench_sent.specs.Sent.{isReply, replyAt, blockAt, itemAt};
 ghost use Rattle.coord_acts.specs.Steps.{Held};
 ghost use Rattle.coordinator.specs.Rules.{takeStep, crashStep, writeStep, readStep};
-ghost use Rattle.register.specs.Runs.{startWrite, startRead, arrives, crashes};
+ghost use Rattle.register.specs.Runs.{World, startWrite, startRead, arrives, crashes};
 use bench_play::After;
 use bench_state::Bench;
 use coord_acts::Answer;
@@ -82,10 +82,7 @@ fn keep_answer(
     let used = bench_print::put_ended(c, seen, stripe, at, out);
     let next = a.next;
     let bench = bench_state::with_coordinator(b, c, next, sent);
-    After {
-        bench,
-        used,
-    }
+    After { bench, used }
 }
 
 // The same, unless it is refused or would send past message 127.
@@ -151,7 +148,19 @@ fn read_with(
     let s = b.settings;
     let old = bench_state::coordinator_at(b, c);
     let a = coordinator::start_read(s.n, s.m, s.size, old, clock, brick);
-    commit(b, c, a, blocks, stripe, blocks, kept, numbers, bytes, 0, out)
+    commit(
+        b,
+        c,
+        a,
+        blocks,
+        stripe,
+        blocks,
+        kept,
+        numbers,
+        bytes,
+        0,
+        out,
+    )
 }
 
 // A crash, on copies of what the coordinator keeps.
@@ -173,7 +182,19 @@ fn crash_with(
     let s = b.settings;
     let old = bench_state::coordinator_at(b, c);
     let a = coordinator::crash(s.n, s.m, s.size, old);
-    commit(b, c, a, blocks, stripe, blocks, kept, numbers, bytes, 0, out)
+    commit(
+        b,
+        c,
+        a,
+        blocks,
+        stripe,
+        blocks,
+        kept,
+        numbers,
+        bytes,
+        0,
+        out,
+    )
 }
 
 // A reply in row k, on copies of what the coordinator keeps.
@@ -212,7 +233,19 @@ fn reply_with(
         stripe,
         coded,
     );
-    commit(b, c, a, blocks, stripe, coded, kept, numbers, bytes, at, out)
+    commit(
+        b,
+        c,
+        a,
+        blocks,
+        stripe,
+        coded,
+        kept,
+        numbers,
+        bytes,
+        at,
+        out,
+    )
 }
 
 // Whether a start that is not refused has a wrong count of digits.
@@ -266,5 +299,172 @@ fn write_with(
     if is_short(a.refusal, right) {
         return bench_play::refuse(b, 12, 0, out);
     }
-    commit(b, c, a, blocks, stripe, blocks, kept, numbers, bytes, 0, out)
+    commit(
+        b,
+        c,
+        a,
+        blocks,
+        stripe,
+        blocks,
+        kept,
+        numbers,
+        bytes,
+        0,
+        out,
+    )
+}
+
+// "`read c clock brick`".
+pub fn read_at(
+    b: Bench,
+    c: u64,
+    clock: u64,
+    brick: u64,
+    kept: &mut [u8],
+    numbers: &mut [u64],
+    bytes: &mut [u8],
+    out: &mut [u8],
+) -> After
+    requires { ⌜ Seats b 0 (now kept) (now numbers) (now bytes) 0 (now out) ⌝ }
+    ensures { λ r. ⌜ Plays b (λ (w : World). starts (b .settings) w c clock brick) (now (kept .entry)) (now (numbers .entry)) (now (bytes .entry)) 0 (now (out .entry)) r (now (kept .exit)) (now (numbers .exit)) (now (bytes .exit)) (now (out .exit)) ⌝ }
+{
+    if 4 <= c {
+        return bench_play::refuse(b, 3, 0, out);
+    }
+    let s = b.settings;
+    let data = s.m * s.size;
+    let all = s.n * s.size;
+    let mut blocks = [0u8; 32];
+    let mut stripe = [0u8; 32];
+    let first = brick as usize;
+    let seat = c as usize;
+    read_with(
+        b,
+        seat,
+        clock,
+        first,
+        &mut blocks[..all],
+        &mut stripe[..data],
+        kept,
+        numbers,
+        bytes,
+        out,
+    )
+}
+
+// "`crash c`".
+pub fn crash_at(
+    b: Bench,
+    c: u64,
+    kept: &mut [u8],
+    numbers: &mut [u64],
+    bytes: &mut [u8],
+    out: &mut [u8],
+) -> After
+    requires { ⌜ Seats b 0 (now kept) (now numbers) (now bytes) 0 (now out) ⌝ }
+    ensures { λ r. ⌜ Plays b (λ (w : World). crashesAt (b .settings) w c) (now (kept .entry)) (now (numbers .entry)) (now (bytes .entry)) 0 (now (out .entry)) r (now (kept .exit)) (now (numbers .exit)) (now (bytes .exit)) (now (out .exit)) ⌝ }
+{
+    if 4 <= c {
+        return bench_play::refuse(b, 3, 0, out);
+    }
+    let s = b.settings;
+    let data = s.m * s.size;
+    let all = s.n * s.size;
+    let mut blocks = [0u8; 32];
+    let mut stripe = [0u8; 32];
+    let seat = c as usize;
+    crash_with(
+        b,
+        seat,
+        &mut blocks[..all],
+        &mut stripe[..data],
+        kept,
+        numbers,
+        bytes,
+        out,
+    )
+}
+
+// "`write c clock hex`": the digits begin at a place of the line.
+pub fn write_at(
+    b: Bench,
+    c: u64,
+    clock: u64,
+    line: &[u8],
+    hex: usize,
+    kept: &mut [u8],
+    numbers: &mut [u64],
+    bytes: &mut [u8],
+    out: &mut [u8],
+) -> After
+    requires { ⌜ Seats b 0 (now kept) (now numbers) (now bytes) 0 (now out) ⌝ }
+    requires { ⌜ hex ≤ length (now line) ⌝ }
+    ensures { λ r. ⌜ Plays b (λ (w : World). writes (b .settings) w c clock (drop hex (now (line .entry)))) (now (kept .entry)) (now (numbers .entry)) (now (bytes .entry)) 0 (now (out .entry)) r (now (kept .exit)) (now (numbers .exit)) (now (bytes .exit)) (now (out .exit)) ⌝ }
+{
+    if 4 <= c {
+        return bench_play::refuse(b, 3, 0, out);
+    }
+    let s = b.settings;
+    let data = s.m * s.size;
+    let all = s.n * s.size;
+    let mut content = [0u8; 32];
+    let mut blocks = [0u8; 32];
+    let mut stripe = [0u8; 32];
+    let seat = c as usize;
+    write_with(
+        b,
+        seat,
+        clock,
+        line,
+        hex,
+        &mut content[..data],
+        &mut blocks[..all],
+        &mut stripe[..data],
+        kept,
+        numbers,
+        bytes,
+        out,
+    )
+}
+
+// A carried reply, in row k.
+pub fn carry_reply(
+    b: Bench,
+    k: usize,
+    kept: &mut [u8],
+    numbers: &mut [u64],
+    bytes: &mut [u8],
+    at: usize,
+    out: &mut [u8],
+) -> After
+    requires { ⌜ Seats b 0 (now kept) (now numbers) (now bytes) at (now out) ⌝ }
+    requires { ⌜ (k < b .sent) × (isReply (now numbers) k ≡ true) ⌝ }
+    ensures { λ r. ⌜ Plays b (λ (w : World). carries (b .settings) w k (itemAt (b .settings .size) (now (numbers .entry)) (now (bytes .entry)) k)) (now (kept .entry)) (now (numbers .entry)) (now (bytes .entry)) at (now (out .entry)) r (now (kept .exit)) (now (numbers .exit)) (now (bytes .exit)) (now (out .exit)) ⌝ }
+{
+    let reply = bench_sent::reply_at(numbers, k);
+    let c = reply.time % 16;
+    if 4 <= c {
+        return bench_play::refuse(b, 3, at, out);
+    }
+    let s = b.settings;
+    let data = s.m * s.size;
+    let all = s.n * s.size;
+    let mut blocks = [0u8; 32];
+    let mut stripe = [0u8; 32];
+    let mut coded = [0u8; 32];
+    let seat = c as usize;
+    reply_with(
+        b,
+        k,
+        seat,
+        reply,
+        &mut blocks[..all],
+        &mut stripe[..data],
+        &mut coded[..all],
+        kept,
+        numbers,
+        bytes,
+        at,
+        out,
+    )
 }

@@ -18,8 +18,5 @@ pub fn refuse(b: Bench, number: u32, at: usize, out: &mut [u8]) -> After
     ensures { λ r. ⌜ ((l : Lent) → Turned b l at (now (out .entry)) (refuses (worldIn b l) number) r l (now (out .exit))) ⌝ }
 {
     let used = bench_print::put_refused(number, at, out);
-    After {
-        bench: b,
-        used,
-    }
+    After { bench: b, used }
 }

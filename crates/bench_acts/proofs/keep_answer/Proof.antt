@@ -16,8 +16,7 @@ use Rattle.bench_state.proofs.with_coordinator.Reads as with-coordinator-reads
 send-requires : tie.Need-send-requires
 send-requires c κs =
     let s = c .before .before .before .before .before .before .before .before .before .before .before in
-    let p = s .pre .0 in
-    (
+    let p = s .pre .0 in (
       (p .fits .size-fits, subst (λ (k : ℕ). k ≤ 127) (s .pre .1 .1 .1) (s .pre .1 .1 .2), le-of-eq (sym (s .pre .1 .0 .coded-long))),
       (p .numbers-long, p .bytes-long),
     )
@@ -26,8 +25,7 @@ send-requires c κs =
 keep-requires : tie.Need-keep-requires
 keep-requires c κs =
     let s = c .before .before .before .before .before .before .before .before .before .before .before .before .before .before .before .before .before in
-    let p = s .pre .0 in
-    (
+    let p = s .pre .0 in (
       (p .low, p .kept-long),
       (subst (λ (k : ℕ). k ≤ 32) (sym (s .pre .1 .0 .blocks-long)) (p .fits .small .blocks-fit), subst (λ (k : ℕ). k ≤ 32) (sym (s .pre .1 .0 .stripe-long)) (p .fits .small .stripe-fits)),
     )

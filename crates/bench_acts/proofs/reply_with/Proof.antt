@@ -55,8 +55,7 @@ commit-requires : tie.Need-commit-requires
 commit-requires c κs =
     let s = c .before .before .before .before .before .before .before .before .before .before .before .before .before .before .before .before .before .before .before .before .before .before .before .before .before .before .before .before .before .before .before .before .before .before .before .before .before in
     let f = c .before .before .before .before .before .before .before .before .before .before .before .before .before .before .before .before .before .before .before .before .before .before .before .before .before .before .fetch .kept in
-    let t = c .before .before .before .before .before .before .before .before .before .before .before .before .before .take-reply .kept in
-    (
+    let t = c .before .before .before .before .before .before .before .before .before .before .before .before .before .take-reply .kept in (
       s .pre .0,
       record {
         blocks-long = t .1 .1 .1 .1 .1 .1 .0 ∙ f .1 .1 .0 ∙ s .pre .1 .0 .blocks-long;

@@ -82,8 +82,7 @@ commit-requires : tie.Need-commit-requires
 commit-requires c κs =
     let s = c .before .before .before .before .before .before .before .before .before .before .before .before .before .before .before .before .before .before .before .before .before .before .before .before .before .before .before .before .before .before .before .before .before .before .before in
     let f = c .before .before .before .before .before .before .before .before .before .before .before .before .before .before .before .before .before .before .before .fetch .kept in
-    let long = f .1 .1 .0 ∙ s .pre .1 .0 .blocks-long in
-    (
+    let long = f .1 .1 .0 ∙ s .pre .1 .0 .blocks-long in (
       s .pre .0,
       record { blocks-long = long; stripe-long = c .before .before .before .before .before .before .before .before .before .before .start-write .kept .1 .1 .1 .1 .1 .1 .0 ∙ f .1 .1 .1 .0 ∙ s .pre .1 .0 .stripe-long; coded-long = long },
     )
