@@ -1,0 +1,3 @@
+-- Definitions: Lining. Laws: CarryLaws.
+pub mod CarryLaws
+pub mod Lining

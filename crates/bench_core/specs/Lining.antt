@@ -1,0 +1,47 @@
+-- A whole line: the bench's stage as its record and buffers have it, and what a line does to them.
+use mathlib.Core.Path.{_≡_}
+use mathlib.Core.Bool.{Bool, cond, _&&_, _||_}
+use mathlib.Core.List.{List, [], _∷_}
+use Prim.Native.Nat.{ℕ, _≤_}
+use lib.Dec.{eqb, leb}
+use lib.ListN.{length}
+use Rattle.settings.specs.Refusal.{refuseUnless, firstRefusal, badSetting, badLength, badRecord}
+use Rattle.bench_line.specs.Lines.{reads}
+use Rattle.bench_play.specs.Play.{Played, Stage, waiting, playing, Turn, turn, lastMessage}
+use Rattle.bench_play.specs.Turning.{Lent, worldIn}
+use Rattle.bench_play.specs.declared.After.{After}
+use Rattle.bench_print.specs.Printing.{written}
+use Rattle.bench_state.specs.State.{benchRange}
+use Rattle.bench_state.specs.declared.Bench.{Bench}
+
+-- the record of no set has n = 0
+unfoldable pub stageOf : Bench → Lent → Stage
+stageOf b l = cond (eqb (b .settings .n) 0) waiting (playing (b .settings) (worldIn b l))
+
+-- the lengths of the lent buffers: images, what the coordinators keep, the rows' numbers and bytes, and the printed text
+unfoldable pub lengthsRight : ℕ → ℕ → ℕ → ℕ → ℕ → Bool
+lengthsRight images kept numbers bytes out =
+    eqb images 10240 && eqb kept 256 && eqb numbers 1016 && eqb bytes 3048 && eqb out 65536
+
+-- What a record and buffers that are no bench's are refused with, before the line is looked at: 1 settings past the limits,
+-- 2 a length, 6 more messages than 127.
+unfoldable pub benchRefused : Bench → ℕ → ℕ → ℕ → ℕ → ℕ → ℕ
+benchRefused b images kept numbers bytes out =
+    firstRefusal
+    (refuseUnless (eqb (b .settings .n) 0 || benchRange (b .settings)) badSetting
+    ∷ refuseUnless (lengthsRight images kept numbers bytes out) badLength
+    ∷ refuseUnless (leb (b .sent) lastMessage) badRecord
+    ∷ [])
+
+-- one line, as its bytes read; a refused call does nothing
+unfoldable pub heard : ℕ → Stage → List ℕ → Turn
+heard refusal stage line = cond (eqb refusal 0) (turn stage (reads line)) (record { stage = stage; events = []; printed = [] })
+
+-- a line or a part of one at the beginning of the printed text
+pub record Lined (b : Bench) (l : Lent) (out : List ℕ) (p : Played) (r : After) (l′ : Lent) (out′ : List ℕ) : Type 0 where
+  pub world-is : worldIn (r .bench) l′ ≡ p .world
+  pub settings-kept : r .bench .settings ≡ b .settings
+  pub few : r .bench .sent ≤ 127
+  pub text-is : out′ ≡ written 0 (p .printed) out
+  pub used-is : r .used ≡ length (p .printed)
+  pub within : r .used ≤ 65536
