@@ -1,3 +1,4 @@
--- Definitions: Lining. Laws: CarryLaws.
+-- Definitions: Lining. Laws: CarryLaws, TurnLaws.
 pub mod CarryLaws
 pub mod Lining
+pub mod TurnLaws
