@@ -6,14 +6,17 @@ ghost use Prim.Native.Nat.{ℕ, _+_, _≤_};
 ghost use lib.Dec.{eqb};
 ghost use lib.ListN.{length};
 ghost use Rattle.bench_core.specs.Lining.{Lined};
-ghost use Rattle.bench_line.specs.Lines.{numbersOf};
-ghost use Rattle.bench_line.specs.Meaning.{wordsFrom, CarryFrom};
-ghost use Rattle.bench_play.specs.Play.{carried, carriedAll, switches};
+ghost use Rattle.bench_core.specs.TurnLaws.{First};
+ghost use Rattle.bench_line.specs.Lines.{numbersOf, reads};
+ghost use Rattle.bench_line.specs.Meaning.{wordsFrom, CarryFrom, lineOf, Sound};
+ghost use Rattle.bench_play.specs.Play.{carried, carriedAll, switches, plays};
 ghost use Rattle.bench_play.specs.Turning.{Lent, lent, worldIn, Ready, Turned};
 ghost use Rattle.bench_state.specs.RangeLaws.{Fits};
 ghost use Rattle.register.specs.Runs.{goesDown, comesUp};
+use bench_line::Line;
 use bench_play::After;
 use bench_state::Bench;
+use settings::Settings;
 
 // A brick goes down (0) or comes up (1).
 fn switch_at(b: Bench, brick: u64, flag: u8, out: &mut [u8]) -> After
@@ -88,4 +91,78 @@ fn carry_all(
         place = k.end + 1;
     }
     r
+}
+
+// A line while no set is accepted: what its bytes read as is given.
+fn play_first(
+    b: Bench,
+    l: Line,
+    line: &[u8],
+    images: &mut [u8],
+    kept: &mut [u8],
+    out: &mut [u8],
+) -> After
+    requires { ⌜ (lineOf l (now line) ≡ reads (now line)) × Sound l (now line) ⌝ }
+    requires { ⌜ (b .settings .n ≡ 0) × (b .sent ≤ 127) ⌝ }
+    requires { ⌜ (length (now images) ≡ 10240) × (length (now kept) ≡ 256) × (length (now out) ≡ 65536) ⌝ }
+    ensures { λ r. ⌜ First (reads (now (line .entry))) (now (out .entry)) r (now (images .exit)) (now (kept .exit)) (now (out .exit)) ⌝ }
+{
+    match l {
+        Line::Set(n, m, size, capacity) => {
+            let s = Settings {
+                n: n as usize,
+                m: m as usize,
+                size: size as usize,
+                capacity: capacity as usize,
+            };
+            let bad = bench_state::bench_refusal(s);
+            if bad != 0 {
+                return bench_play::refuse(b, 1, 0, out);
+            }
+            let bench = bench_state::set_up(s, images, kept);
+            After {
+                bench,
+                used: 0,
+            }
+        }
+        Line::Write(_, _, _) => bench_play::refuse(b, 12, 0, out),
+        Line::Read(_, _, _) => bench_play::refuse(b, 12, 0, out),
+        Line::Carry(_) => bench_play::refuse(b, 12, 0, out),
+        Line::Crash(_) => bench_play::refuse(b, 12, 0, out),
+        Line::Down(_) => bench_play::refuse(b, 12, 0, out),
+        Line::Up(_) => bench_play::refuse(b, 12, 0, out),
+        Line::Unread => bench_play::refuse(b, 12, 0, out),
+    }
+}
+
+// A line after an accepted set.
+fn play_next(
+    b: Bench,
+    l: Line,
+    line: &[u8],
+    images: &mut [u8],
+    kept: &mut [u8],
+    numbers: &mut [u64],
+    bytes: &mut [u8],
+    out: &mut [u8],
+) -> After
+    requires { ⌜ (lineOf l (now line) ≡ reads (now line)) × Sound l (now line) ⌝ }
+    requires { ⌜ Ready b (lent (now images) (now kept) (now numbers) (now bytes)) ⌝ }
+    requires { ⌜ length (now out) ≡ 65536 ⌝ }
+    ensures { λ r. ⌜ Lined b (lent (now (images .entry)) (now (kept .entry)) (now (numbers .entry)) (now (bytes .entry))) (now (out .entry)) (plays (b .settings) (worldIn b (lent (now (images .entry)) (now (kept .entry)) (now (numbers .entry)) (now (bytes .entry)))) (reads (now (line .entry)))) r (lent (now (images .exit)) (now (kept .exit)) (now (numbers .exit)) (now (bytes .exit))) (now (out .exit)) ⌝ }
+{
+    match l {
+        Line::Set(_, _, _, _) => bench_play::refuse(b, 12, 0, out),
+        Line::Write(c, clock, hex) => {
+            bench_acts::write_at(b, c, clock, line, hex, kept, numbers, bytes, out)
+        }
+        Line::Read(c, clock, brick) => {
+            bench_acts::read_at(b, c, clock, brick, kept, numbers, bytes, out)
+        }
+        Line::Carry(first) => carry_all(b, line, first, images, kept, numbers, bytes, out),
+        Line::Crash(c) => bench_acts::crash_at(b, c, kept, numbers, bytes, out),
+        Line::Down(brick) => switch_at(b, brick, 0, out),
+        Line::Up(brick) => switch_at(b, brick, 1, out),
+        Line::Unread => bench_play::refuse(b, 12, 0, out),
+    }
 }
