@@ -155,23 +155,23 @@ module _ (b : Bench) (l : Lent) (line : List ℕ) (first : ℕ) (out : List ℕ)
         settings-kept = t .settings-kept ∙ c .settings-kept;
         out-long = eo ∙ c .out-long;
         text-is =
-          t .text-is
-          ∙ ap (λ (x : Played). written (r .used) (x .printed) out′) same
-          ∙ ap₂ (λ (u : ℕ) (o : List ℕ). written u (p .printed) o) (c .used-is) (c .text-is)
-          ∙ ap (λ (u : ℕ). written u (p .printed) (written 0 (c .text) out)) (let e : length (c .text) ≡ 0 + length (c .text) = omega arith in e)
-          ∙ written-both 0 (c .text) (p .printed) out (omega arith);
+            t .text-is
+            ∙ ap (λ (x : Played). written (r .used) (x .printed) out′) same
+            ∙ ap₂ (λ (u : ℕ) (o : List ℕ). written u (p .printed) o) (c .used-is) (c .text-is)
+            ∙ ap (λ (u : ℕ). written u (p .printed) (written 0 (c .text) out)) (let e : length (c .text) ≡ 0 + length (c .text) = omega arith in e)
+            ∙ written-both 0 (c .text) (p .printed) out (omega arith);
         used-is =
-          t .used-is ∙ ap (λ (x : Played). r .used + length (x .printed)) same ∙ ap (λ (u : ℕ). u + length (p .printed)) (c .used-is)
-          ∙ sym (length-append (c .text) (p .printed));
+            t .used-is ∙ ap (λ (x : Played). r .used + length (x .printed)) same ∙ ap (λ (u : ℕ). u + length (p .printed)) (c .used-is)
+            ∙ sym (length-append (c .text) (p .printed));
         room = (let a = t .short in let d = c .room in let e = n .starts in omega arith);
         rest = rest-next line place k n;
         world-so =
-          c .world-so ∙ ap (λ (ks : List ℕ). carriedAll s (worldIn (r .bench) l′) ks .world) split
-          ∙ ap (λ (w : World). carriedAll s w later .world) (sym now-at);
+            c .world-so ∙ ap (λ (ks : List ℕ). carriedAll s (worldIn (r .bench) l′) ks .world) split
+            ∙ ap (λ (w : World). carriedAll s w later .world) (sym now-at);
         printed-so =
-          c .printed-so ∙ ap (λ (ks : List ℕ). c .text ++ carriedAll s (worldIn (r .bench) l′) ks .printed) split
-          ∙ ap (λ (w : World). c .text ++ (p .printed ++ carriedAll s w later .printed)) (sym now-at)
-          ∙ sym (append-assoc (c .text) (p .printed) _);
+            c .printed-so ∙ ap (λ (ks : List ℕ). c .text ++ carriedAll s (worldIn (r .bench) l′) ks .printed) split
+            ∙ ap (λ (w : World). c .text ++ (p .printed ++ carriedAll s w later .printed)) (sym now-at)
+            ∙ sym (append-assoc (c .text) (p .printed) _);
       }
 
   -- no number is left
@@ -183,7 +183,7 @@ module _ (b : Bench) (l : Lent) (line : List ℕ) (first : ℕ) (out : List ℕ)
       let s = b .settings in
       let none = rest-none line place h in
       let all : carriedAll s (worldIn b l) (numbersOf (wordsFrom line first)) .printed ≡ c .text =
-          c .printed-so ∙ ap (λ (ks : List ℕ). c .text ++ carriedAll s (worldIn (r .bench) l′) ks .printed) none ∙ append-nil (c .text)
+      c .printed-so ∙ ap (λ (ks : List ℕ). c .text ++ carriedAll s (worldIn (r .bench) l′) ks .printed) none ∙ append-nil (c .text)
       in
       record {
         world-is = sym (c .world-so ∙ ap (λ (ks : List ℕ). carriedAll s (worldIn (r .bench) l′) ks .world) none);

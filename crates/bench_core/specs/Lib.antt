@@ -1,4 +1,5 @@
--- Definitions: Lining. Laws: CarryLaws, TurnLaws.
+-- Definitions: Lining. Laws: CarryLaws, TurnLaws, RefusalLaws.
 pub mod CarryLaws
 pub mod Lining
+pub mod RefusalLaws
 pub mod TurnLaws

@@ -13,6 +13,7 @@ use Rattle.bench_play.specs.declared.After.{After}
 use Rattle.bench_print.specs.Printing.{written}
 use Rattle.bench_state.specs.State.{benchRange}
 use Rattle.bench_state.specs.declared.Bench.{Bench}
+use Rattle.bench_core.specs.declared.Outcome.{Outcome}
 
 -- the record of no set has n = 0
 unfoldable pub stageOf : Bench → Lent → Stage
@@ -36,6 +37,16 @@ benchRefused b images kept numbers bytes out =
 -- one line, as its bytes read; a refused call does nothing
 unfoldable pub heard : ℕ → Stage → List ℕ → Turn
 heard refusal stage line = cond (eqb refusal 0) (turn stage (reads line)) (record { stage = stage; events = []; printed = [] })
+
+-- A whole call: the refusal, the stage after it, what is printed; a refused call leaves everything, and an accepted one leaves a bench that is accepted again.
+pub record Called (b : Bench) (l : Lent) (line out : List ℕ) (r : Outcome) (l′ : Lent) (out′ : List ℕ) : Type 0 where
+  pub refusal-is : r .refusal ≡ benchRefused b (length (l .images)) (length (l .kept)) (length (l .numbers)) (length (l .bytes)) (length out)
+  pub stage-is : stageOf (r .bench) l′ ≡ heard (r .refusal) (stageOf b l) line .stage
+  pub text-is : out′ ≡ written 0 (heard (r .refusal) (stageOf b l) line .printed) out
+  pub used-is : r .used ≡ length (heard (r .refusal) (stageOf b l) line .printed)
+  pub within : r .used ≤ length out
+  pub refused-keeps : (r .refusal ≡ 0 → ⊥) → (r .bench ≡ b) × (l′ ≡ l) × (out′ ≡ out)
+  pub accepted-again : r .refusal ≡ 0 → benchRefused (r .bench) (length (l′ .images)) (length (l′ .kept)) (length (l′ .numbers)) (length (l′ .bytes)) (length out′) ≡ 0
 
 -- a line or a part of one at the beginning of the printed text
 pub record Lined (b : Bench) (l : Lent) (out : List ℕ) (p : Played) (r : After) (l′ : Lent) (out′ : List ℕ) : Type 0 where

@@ -102,17 +102,17 @@ module _ (b : Bench) (out out′ : List ℕ) (r : After) (none : b .settings .n 
   waits-so number said images kept e t =
       record {
         staged = λ numbers bytes.
-          (let d = turned-lined b (lent images kept numbers bytes) (lent images kept numbers bytes) out out′ _ r (t (lent images kept numbers bytes)) in
-          let zero-n = ap (λ (s : Settings). s .n) (d .settings-kept) ∙ none in
-          subst (λ (x : Turn). Staged x out r (lent images kept numbers bytes) out′) (sym e)
-          (record {
-            stage-is = rw (eq-eqb (r .bench .settings .n) 0 zero-n) refl;
-            few = d .few;
-            right = rw (eq-eqb (r .bench .settings .n) 0 zero-n) refl;
-            text-is = d .text-is;
-            used-is = d .used-is;
-            within = d .within;
-          }));
+            (let d = turned-lined b (lent images kept numbers bytes) (lent images kept numbers bytes) out out′ _ r (t (lent images kept numbers bytes)) in
+            let zero-n = ap (λ (s : Settings). s .n) (d .settings-kept) ∙ none in
+            subst (λ (x : Turn). Staged x out r (lent images kept numbers bytes) out′) (sym e)
+            (record {
+              stage-is = rw (eq-eqb (r .bench .settings .n) 0 zero-n) refl;
+              few = d .few;
+              right = rw (eq-eqb (r .bench .settings .n) 0 zero-n) refl;
+              text-is = d .text-is;
+              used-is = d .used-is;
+              within = d .within;
+            }));
       }
 
   module _ (said : Line) (images kept : List ℕ) (t : (l : Lent) → Turned b l 0 out (refuses (worldIn b l) 12) r l out′) where
@@ -165,28 +165,32 @@ unfolding first begins benchRefusal stageOf worldIn freshBench itemsOf
 first-set s bad out bench said images kept e eb z ef ew =
     record {
       staged = λ numbers bytes.
-        subst (λ (x : Turn). Staged x out (record { bench = bench; used = 0 }) (lent images kept numbers bytes) out) (sym (ap first e ∙ begun (benchRange s) refl eb))
-        (subst (λ (x : Bench). Staged fresh-turn out (record { bench = x; used = 0 }) (lent images kept numbers bytes) out) (sym ef)
-        (record {
-          stage-is = rw (ne-eqb (s .n) 0 (λ q. absurd (omega (arith, in-limits .range .code .n-low))))
-            (ap (playing s) (ap (λ (x : Bench). worldOf x images kept []) (sym ef) ∙ ew));
-          few = omega arith;
-          right = rw (limits, ne-eqb (s .n) 0 (λ q. absurd (omega (arith, in-limits .range .code .n-low)))) refl;
-          text-is = sym (written-nothing 0 out);
-          used-is = refl;
-          within = omega arith;
-        }));
+          subst (λ (x : Turn). Staged x out (record { bench = bench; used = 0 }) (lent images kept numbers bytes) out) (sym (ap first e ∙ begun (benchRange s) refl eb))
+          (subst (λ (x : Bench). Staged fresh-turn out (record { bench = x; used = 0 }) (lent images kept numbers bytes) out) (sym ef)
+          (record {
+            stage-is = rw (ne-eqb (s .n) 0 (λ q. absurd (omega (arith, in-limits .range .code .n-low))))
+                (ap (playing s) (ap (λ (x : Bench). worldOf x images kept []) (sym ef) ∙ ew));
+            few = omega arith;
+            right = rw (limits, ne-eqb (s .n) 0 (λ q. absurd (omega (arith, in-limits .range .code .n-low)))) refl;
+            text-is = sym (written-nothing 0 out);
+            used-is = refl;
+            within = omega arith;
+          }));
     }
   where
     fresh-turn : Turn
     fresh-turn = record { stage = playing s (fresh s); events = []; printed = [] }
+
     tested : (x : Bool) → bad ≡ refuseUnless x 1 → x ≡ true
     tested true q = refl
     tested false q = absurd (omega arith)
+
     limits : benchRange s ≡ true
     limits = tested (benchRange s) eb
+
     in-limits : Fits s
     in-limits = bench-fits s limits
+
     begun : (x : Bool) → benchRange s ≡ x → bad ≡ refuseUnless x 1 → cond x fresh-turn (waits 1) ≡ fresh-turn
     begun true q d = refl
     begun false q d = absurd (omega arith)

@@ -1,17 +1,18 @@
 // Playing the bench's lines (document 01, "The bench") over the proved routines.
 ghost use mathlib.Core.Path.{_≡_};
-ghost use mathlib.Core.Bool.{cond};
+ghost use mathlib.Core.Bool.{cond, _||_};
 ghost use mathlib.Core.List.{List};
 ghost use Prim.Native.Nat.{ℕ, _+_, _≤_};
 ghost use lib.Dec.{eqb};
 ghost use lib.ListN.{length};
-ghost use Rattle.bench_core.specs.Lining.{Lined};
+ghost use Rattle.bench_core.specs.Lining.{Lined, stageOf, lengthsRight, benchRefused, Called};
 ghost use Rattle.bench_core.specs.TurnLaws.{First};
 ghost use Rattle.bench_line.specs.Lines.{numbersOf, reads};
 ghost use Rattle.bench_line.specs.Meaning.{wordsFrom, CarryFrom, lineOf, Sound};
-ghost use Rattle.bench_play.specs.Play.{carried, carriedAll, switches, plays};
+ghost use Rattle.bench_play.specs.Play.{carried, carriedAll, switches, plays, waiting};
 ghost use Rattle.bench_play.specs.Turning.{Lent, lent, worldIn, Ready, Turned};
 ghost use Rattle.bench_state.specs.RangeLaws.{Fits};
+ghost use Rattle.bench_state.specs.State.{benchRange};
 ghost use Rattle.register.specs.Runs.{goesDown, comesUp};
 use bench_line::Line;
 use bench_play::After;
@@ -29,10 +30,7 @@ fn switch_at(b: Bench, brick: u64, flag: u8, out: &mut [u8]) -> After
         return bench_play::refuse(b, 3, 0, out);
     }
     let bench = bench_state::with_up(b, place, flag);
-    After {
-        bench,
-        used: 0,
-    }
+    After { bench, used: 0 }
 }
 
 // One carried number.
@@ -79,10 +77,7 @@ fn carry_all(
     requires { ⌜ CarryFrom (now line) first × (length (now out) ≡ 65536) ⌝ }
     ensures { λ r. ⌜ Lined b (lent (now (images .entry)) (now (kept .entry)) (now (numbers .entry)) (now (bytes .entry))) (now (out .entry)) (carriedAll (b .settings) (worldIn b (lent (now (images .entry)) (now (kept .entry)) (now (numbers .entry)) (now (bytes .entry)))) (numbersOf (wordsFrom (now (line .entry)) first))) r (lent (now (images .exit)) (now (kept .exit)) (now (numbers .exit)) (now (bytes .exit))) (now (out .exit)) ⌝ }
 {
-    let mut r = After {
-        bench: b,
-        used: 0,
-    };
+    let mut r = After { bench: b, used: 0 };
     let mut place = first;
     while place <= line.len() {
         let k = bench_line::number_at(line, place);
@@ -120,10 +115,7 @@ fn play_first(
                 return bench_play::refuse(b, 1, 0, out);
             }
             let bench = bench_state::set_up(s, images, kept);
-            After {
-                bench,
-                used: 0,
-            }
+            After { bench, used: 0 }
         }
         Line::Write(_, _, _) => bench_play::refuse(b, 12, 0, out),
         Line::Read(_, _, _) => bench_play::refuse(b, 12, 0, out),
@@ -164,5 +156,130 @@ fn play_next(
         Line::Down(brick) => switch_at(b, brick, 0, out),
         Line::Up(brick) => switch_at(b, brick, 1, out),
         Line::Unread => bench_play::refuse(b, 12, 0, out),
+    }
+}
+
+// The bench after a whole line: a refusal's number, 0 for none, the record, and how many bytes are printed.
+pub struct Outcome {
+    pub refusal: u32,
+    pub bench: Bench,
+    pub used: usize,
+}
+
+// Whether settings are those of no set, or within the bench's limits.
+fn settings_right(s: Settings) -> bool
+    ensures { λ r. ⌜ r ≡ (eqb (s .n) 0 || benchRange s) ⌝ }
+{
+    if s.n == 0 {
+        return true;
+    }
+    bench_state::bench_refusal(s) == 0
+}
+
+// Whether the lent buffers have their lengths.
+fn lengths_right(images: usize, kept: usize, numbers: usize, bytes: usize, out: usize) -> bool
+    ensures { λ r. ⌜ r ≡ lengthsRight images kept numbers bytes out ⌝ }
+{
+    if images != 10240 {
+        return false;
+    }
+    if kept != 256 {
+        return false;
+    }
+    if numbers != 1016 {
+        return false;
+    }
+    if bytes != 3048 {
+        return false;
+    }
+    if out != 65536 {
+        return false;
+    }
+    true
+}
+
+// The refusal of a record and buffers that are no bench's, 0 for none.
+fn bench_refused(
+    b: Bench,
+    images: usize,
+    kept: usize,
+    numbers: usize,
+    bytes: usize,
+    out: usize,
+) -> u32
+    ensures { λ r. ⌜ r ≡ benchRefused b images kept numbers bytes out ⌝ }
+{
+    let s = b.settings;
+    if settings_right(s) {} else {
+        return 1;
+    }
+    if lengths_right(images, kept, numbers, bytes, out) {} else {
+        return 2;
+    }
+    if 127 < b.sent {
+        return 6;
+    }
+    0
+}
+
+// The bench before its first line: no set.
+pub fn no_set() -> Bench
+    ensures { λ r. ⌜ ((l : Lent) → stageOf r l ≡ waiting) ⌝ }
+    ensures { λ r. ⌜ benchRefused r 10240 256 1016 3048 65536 ≡ 0 ⌝ }
+{
+    let none = Settings {
+        n: 0,
+        m: 0,
+        size: 0,
+        capacity: 0,
+    };
+    bench_state::new_bench(none)
+}
+
+// One line, without its newline, as document 01 has it: what is printed stands at the beginning of out. Refused before the line is looked
+// at, with nothing changed: 1 settings past the limits, 2 a length, 6 more messages than 127.
+pub fn play_line(
+    b: Bench,
+    line: &[u8],
+    images: &mut [u8],
+    kept: &mut [u8],
+    numbers: &mut [u64],
+    bytes: &mut [u8],
+    out: &mut [u8],
+) -> Outcome
+    ensures { λ r. ⌜ Called b (lent (now (images .entry)) (now (kept .entry)) (now (numbers .entry)) (now (bytes .entry))) (now (line .entry)) (now (out .entry)) r (lent (now (images .exit)) (now (kept .exit)) (now (numbers .exit)) (now (bytes .exit))) (now (out .exit)) ⌝ }
+{
+    let bad = bench_refused(
+        b,
+        images.len(),
+        kept.len(),
+        numbers.len(),
+        bytes.len(),
+        out.len(),
+    );
+    if bad != 0 {
+        return Outcome {
+            refusal: bad,
+            bench: b,
+            used: 0,
+        };
+    }
+    let l = bench_line::read_line(line);
+    let s = b.settings;
+    if s.n == 0 {
+        let first = play_first(b, l, line, images, kept, out);
+        let begun = first.bench;
+        return Outcome {
+            refusal: 0,
+            bench: begun,
+            used: first.used,
+        };
+    }
+    let r = play_next(b, l, line, images, kept, numbers, bytes, out);
+    let bench = r.bench;
+    Outcome {
+        refusal: 0,
+        bench,
+        used: r.used,
     }
 }

@@ -52,8 +52,7 @@ is-reply-requires c κs = search needs
 -- src/lib.rt:59:9
 carry-reply-requires : tie.Need-carry-reply-requires
 carry-reply-requires c κs =
-    let s = c .before .before .before .before .before .before .before .before .before .before .before .before .before .before .before in
-    (
+    let s = c .before .before .before .before .before .before .before .before .before .before .before .before .before .before .before in (
       ready-seats (s .args .b) (lent (s .args .images .now) (s .args .kept .now) (s .args .numbers .now) (s .args .bytes .now)) (s .args .at) (s .args .out .now) (s .pre .0) (s .pre .1),
       (omega (arith, c .before .before .before .before .before .before .before .before .before .if1 .left, c .before .before .before .before .before .before .before .if2 .left), sym (c .before .before .before .before .before .is-reply .ensures) ∙ c .before .before .before .before .if3 .taken),
     )
@@ -84,8 +83,7 @@ returns-3 c =
 -- src/lib.rt:61:5
 carry-message-requires : tie.Need-carry-message-requires
 carry-message-requires c κs =
-    let s = c .before .before .before .before .before .before .before .before .before .before .before .before .before .before .before in
-    (
+    let s = c .before .before .before .before .before .before .before .before .before .before .before .before .before .before .before in (
       (ready-lends (s .args .b) (lent (s .args .images .now) (s .args .kept .now) (s .args .numbers .now) (s .args .bytes .now)) (s .pre .0), omega (arith, c .before .before .before .before .before .before .before .before .before .if1 .left, c .before .before .before .before .before .before .before .if2 .left)),
       (sym (c .before .before .before .before .before .is-reply .ensures) ∙ c .before .before .before .before .if3 .left, s .pre .1),
     )
