@@ -1,10 +1,10 @@
 // Playing the bench's lines (document 01, "The bench") over the proved routines.
 ghost use mathlib.Core.Path.{_≡_};
 ghost use mathlib.Core.Bool.{cond, _||_};
-ghost use mathlib.Core.List.{List};
+ghost use mathlib.Core.List.{List, [], _∷_, _++_};
 ghost use Prim.Native.Nat.{ℕ, _+_, _≤_};
 ghost use lib.Dec.{eqb};
-ghost use lib.ListN.{length};
+ghost use lib.ListN.{length, take};
 ghost use Rattle.bench_core.specs.Lining.{Lined, stageOf, lengthsRight, benchRefused, Called};
 ghost use Rattle.bench_core.specs.TurnLaws.{First};
 ghost use Rattle.bench_line.specs.Lines.{numbersOf, reads};
@@ -282,4 +282,17 @@ pub fn play_line(
         bench,
         used: r.used,
     }
+}
+
+// A byte more of a line that has not ended: its first 1,001 bytes are kept, since a longer line reads as nothing anyway.
+pub fn add_byte(line: &mut [u8], held: usize, byte: u8) -> usize
+    requires { ⌜ (held ≤ 1001) × (length (now line) ≡ 1001) ⌝ }
+    ensures { λ r. ⌜ take r (now (line .exit)) ≡ take 1001 (take held (now (line .entry)) ++ byte ∷ []) ⌝ }
+    ensures { λ r. ⌜ r ≤ 1001 ⌝ }
+{
+    if 1001 <= held {
+        return held;
+    }
+    line[held] = byte;
+    held + 1
 }

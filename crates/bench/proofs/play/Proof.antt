@@ -1,0 +1,67 @@
+use borrow.Author.Needs.{needs}
+use Rattle.bench.proofs.play.Statement.{statement}
+use Rattle.bench.proofs.play.Tie as tie
+use Rattle.bench.proofs.play.Reads as reads
+use Rattle.bench.proofs.play.Lts as lts
+use Rattle.bench_core.proofs.play_line.Reads as play-line-reads
+use Rattle.io.proofs.write_all.Reads as write-all-reads
+
+-- src/main.rt:58:38
+slice-aggregate-play-line : tie.Need-slice-aggregate-play-line
+slice-aggregate-play-line c = ?
+
+-- src/main.rt:58:9
+play-line-requires : tie.Need-play-line-requires
+play-line-requires c κs = search needs
+
+-- src/main.rt:60:40
+slice-reshare-prefix-write-all : tie.Need-slice-reshare-prefix-write-all
+slice-reshare-prefix-write-all c = search needs
+
+-- src/main.rt:60:40
+slice-aggregate-write-all : tie.Need-slice-aggregate-write-all
+slice-aggregate-write-all c = ?
+
+-- src/main.rt:60:5
+write-all-requires : tie.Need-write-all-requires
+write-all-requires c κs = search needs
+
+-- src/main.rt:46:1
+same-length : tie.Need-same-length
+same-length c = search needs
+
+-- src/main.rt:46:1
+same-length-2 : tie.Need-same-length-2
+same-length-2 c = search needs
+
+-- src/main.rt:46:1
+same-length-3 : tie.Need-same-length-3
+same-length-3 c = search needs
+
+-- src/main.rt:46:1
+same-length-4 : tie.Need-same-length-4
+same-length-4 c = search needs
+
+-- src/main.rt:46:1
+same-length-5 : tie.Need-same-length-5
+same-length-5 c = search needs
+
+-- src/main.rt:46:1
+returns : tie.Need-returns
+returns c = search needs
+
+pub play-spec : {M : Type 1} → statement M
+play-spec =
+    tie.close
+    (tie.spec
+    slice-aggregate-play-line
+    play-line-requires
+    slice-reshare-prefix-write-all
+    slice-aggregate-write-all
+    write-all-requires
+    same-length
+    same-length-2
+    same-length-3
+    same-length-4
+    same-length-5
+    returns)
