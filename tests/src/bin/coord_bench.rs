@@ -1,6 +1,7 @@
 //! Whole operations through one coordinator and n bricks in memory: the proved entry points beside a coordinator and bricks written by
 //! hand that work in place, in one run, in turn. Every message goes to all n bricks and every reply to the coordinator, those too that
-//! come after a round is decided. Prints microseconds an operation, coordinator and bricks together, and the coordinator's part alone.
+//! come after a round is decided. Prints microseconds an operation, coordinator and bricks together, beside bricks that test zeros byte
+//! by byte (as the brick's benchmark has them) and beside bricks that test them with wide instructions; then the coordinator's part alone.
 
 use jilbagum_tests::inplace::Brick;
 use jilbagum_tests::inplace_coordinator::{Act, Coordinator, Message, Reply};
@@ -182,11 +183,13 @@ fn start(bricks: &[Brick], n: usize, m: usize, size: usize, partial: usize, stri
 
 fn main() {
     let samples: usize = std::env::args().nth(1).map_or(200, |a| a.parse().expect("a number of samples"));
-    println!("   n   m size  operation                        ours us  by hand us  ratio | coordinator: ours us  by hand us  ratio");
-    let mut most: f64 = 0.0;
+    println!("                                           whole operation, us                       coordinator alone, us");
+    println!("   n   m size  operation                       ours  by hand ratio     wide ratio       ours  by hand ratio");
+    let mut most: [f64; 2] = [0.0; 2];
     for (n, m, size) in [(5, 3, 256), (16, 8, 256)] {
-        let bricks = || -> Vec<Brick> {
-            (0..n).map(|b| Brick { n: n as u8, m: m as u8, size, capacity: CAPACITY, brick: b as u8 }).collect()
+        let bricks = |wide| -> Vec<Brick> {
+            let brick = |b: usize| Brick { n: n as u8, m: m as u8, size, capacity: CAPACITY, brick: b as u8, wide };
+            (0..n).map(brick).collect()
         };
         let data: Vec<u8> = (0..m * size).map(|k| (k * 37 + k / 256) as u8).collect();
         let old: Vec<u8> = (0..m * size).map(|k| (k * 91 + 5) as u8).collect();
@@ -198,7 +201,7 @@ fn main() {
             ("read, three recovery rounds", Op::Read, 3, 5),
         ];
         for (name, op, partial, last_round) in cases {
-            let images = start(&bricks(), n, m, size, partial, &old);
+            let images = start(&bricks(false), n, m, size, partial, &old);
             let mut ours = Ours {
                 three: (n, m, size),
                 images: images.clone(),
@@ -209,51 +212,61 @@ fn main() {
                 outs: vec![vec![0; size]; n],
                 replies: vec![[0; 7]; n],
             };
-            let mut hand = Hand {
-                bricks: bricks(),
+            let mut hands = [false, true].map(|wide| Hand {
+                bricks: bricks(wide),
                 images: images.clone(),
                 coordinator: Coordinator::new(n, m, size, 3),
                 outs: vec![vec![0; size]; n],
                 replies: vec![Reply::default(); n],
-            };
-            let (lent, coordinator) = (ours.lent.clone(), hand.coordinator.clone());
-            let mut best = [f64::MAX; 4];
+            });
+            let (lent, coordinator) = (ours.lent.clone(), hands[0].coordinator.clone());
+            // Ours, by hand, by hand with wide tests; then the coordinators of the first two.
+            let mut best = [f64::MAX; 5];
             for sample in 0..samples {
                 let watch = sample % 2 == 1;
-                let mut sum = [Duration::ZERO; 4];
+                let mut sum = [Duration::ZERO; 5];
                 let times = 10;
                 for _ in 0..times {
                     // The start again, not timed.
                     ours.lent.clone_from(&lent);
-                    hand.coordinator.clone_from(&coordinator);
                     for b in 0..n {
                         ours.images[b].copy_from_slice(&images[b]);
-                        hand.images[b].copy_from_slice(&images[b]);
+                    }
+                    for hand in &mut hands {
+                        hand.coordinator.clone_from(&coordinator);
+                        for b in 0..n {
+                            hand.images[b].copy_from_slice(&images[b]);
+                        }
                     }
                     let a = ours.run(op, &data, watch);
-                    let b = hand.run(op, &data, size, watch);
-                    for (sum, spent) in sum.iter_mut().zip([a.whole, b.whole, a.coordinator, b.coordinator]) {
+                    let [b, c] = &mut hands;
+                    let (b, c) = (b.run(op, &data, size, watch), c.run(op, &data, size, watch));
+                    let spent = [a.whole, b.whole, c.whole, a.coordinator, b.coordinator];
+                    for (sum, spent) in sum.iter_mut().zip(spent) {
                         *sum += spent;
                     }
                 }
                 for (k, sum) in sum.iter().enumerate() {
-                    if (k >= 2) == watch {
-                        best[k] = best[k].min(sum.as_nanos() as f64 / 1000.0 / times as f64);
+                    if (k >= 3) == watch {
+                        best[k] = best[k].min(sum.as_nanos() as f64 / 1000.0 / f64::from(times));
                     }
                 }
             }
             let wanted = if op == Op::Write { &data } else { &old };
-            assert!(ours.stripe == *wanted && hand.coordinator.stripe == *wanted, "the stripe");
-            assert!(ours.images == hand.images, "the bricks");
+            for hand in &hands {
+                assert!(ours.stripe == *wanted && hand.coordinator.stripe == *wanted, "the stripe");
+                assert!(ours.images == hand.images, "the bricks");
+            }
             assert_eq!(ours.lent.sent[2], last_round, "the rounds");
-            let [a, b, c, d] = best;
+            let [a, b, c, d, e] = best;
             println!(
-                "{n:4} {m:3} {size:4}  {name:28} {a:11.1} {b:11.1} {:6.2} | {c:20.1} {d:11.1} {:6.2}",
+                "{n:4} {m:3} {size:4}  {name:27} {a:8.1} {b:8.1} {:5.2} {c:8.1} {:5.2} {d:10.1} {e:8.1} {:5.2}",
                 a / b,
-                c / d
+                a / c,
+                d / e
             );
-            most = most.max(a / b);
+            most = [most[0].max(a / b), most[1].max(a / c)];
         }
     }
-    println!("greatest ratio of a whole operation {most:.2}");
+    println!("greatest ratio of a whole operation {:.2}, beside wide tests of zeros {:.2}", most[0], most[1]);
 }
