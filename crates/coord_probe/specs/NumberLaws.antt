@@ -254,3 +254,7 @@ read-back c la lb lc lf ld =
     let e4 = row-later 32 (t .counted) r1 la ∙ row-later 16 (t .granted) r2 lb ∙ row-later 0 (t .held) (c .bricks) lc ∙ row-only (c .bricks) ld in
     let e5 = row-only (t .found) lf in
     sym (record-is (recordNumbers c) (recordBytes c) (t .found) (t .counted) (t .granted) (t .held) (c .bricks) (sym e5) (sym e1) (sym e2) (sym e3) (sym e4))
+
+-- what is said of a record holds of an equal one
+pub moved : {A : Type 0} (f : Coordinator → A) (c d : Coordinator) (a : A) → a ≡ f c → c ≡ d → a ≡ f d
+moved f c d a e q = e ∙ ap f q

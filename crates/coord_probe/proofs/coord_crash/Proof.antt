@@ -1,6 +1,5 @@
 use mathlib.Core.List.{List, []}
-use mathlib.Core.Path.{_≡_, sym, ap, _∙_}
-use mathlib.Core.Bool.{true}
+use mathlib.Core.Path.{sym, _∙_}
 use lib.ListN.{length}
 use Rattle.coord_acts.specs.ActLaws.{heldOf}
 use Rattle.coord_acts.specs.Steps.{answerOf}
@@ -8,7 +7,7 @@ use Rattle.coord_acts.specs.declared.Answer.{Answer}
 use Rattle.coord_record.specs.declared.Coordinator.{Coordinator}
 use Rattle.coordinator.specs.Rules.{crashStep}
 use Rattle.coord_probe.specs.Numbers.{recordNumbers, recordBytes, answerNumbers, answerBytes}
-use Rattle.coord_probe.specs.NumberLaws.{Lengths, lengths, short-number, short-buffer, whole-number, whole-buffer, said-number, said-buffer}
+use Rattle.coord_probe.specs.NumberLaws.{Lengths, lengths, short-number, short-buffer, whole-number, whole-buffer, said-number, said-buffer, moved}
 use borrow.Author.Needs.{needs}
 use Rattle.coord_probe.proofs.coord_crash.Statement.{statement}
 use Rattle.coord_probe.proofs.coord_crash.Tie as tie
@@ -52,9 +51,10 @@ returns-2 c =
     let s = c .before .before .before .before .before .before .before .before .before .before .before .before .before .before .before .before .before .before .before .before .before .before .before .args in
     let e = sym (c .before .before .before .before .before .before .before .before .before .before .before .before .before .before .before .before .before .before .lent-right .ensures) ∙ c .before .before .before .before .before .before .before .before .before .before .before .before .before .before .before .before .before .if1 .taken in
     let q = c .before .before .before .before .before .before .before .before .before .before .before .before .before .before .record-of .ensures in
+    let k = c .before .before .before .before .before .before .before .before .before .before .before .before .before .before .record-of .result in
     let w = c .before .before .before .before .before .before .before .before .before .before .before .before .before .crash .ensures in
     let p = c .before .before .before .before .before .before .before .before .put-answer .ensures in
-    let a : _≡_ {A = Answer} _ _ = w [] [] ∙ ap (λ (x : Coordinator). answerOf x (crashStep (s .n) (s .m) (s .size) (heldOf x [] []))) q in (
+    let a = moved {A = Answer} (λ (x : Coordinator). answerOf x (crashStep (s .n) (s .m) (s .size) (heldOf x [] []))) k _ _ (w [] []) q in (
       whole-number _ _ _ e (said-number _ _ _ a (p .0)),
       (
         whole-buffer _ _ _ _ e (said-buffer (λ (x : Answer). recordNumbers (x .next)) _ _ _ _ a (p .1 .0)),

@@ -1,6 +1,6 @@
+use Prim.Native.Nat.{ℕ}
 use mathlib.Core.List.{List, []}
-use mathlib.Core.Path.{_≡_, sym, ap, _∙_}
-use mathlib.Core.Bool.{true}
+use mathlib.Core.Path.{sym, _∙_}
 use lib.ListN.{length}
 use Rattle.coord_acts.specs.ActLaws.{heldOf}
 use Rattle.coord_acts.specs.Steps.{answerOf, blocksAfter, stripeAfter, codedAfter}
@@ -8,7 +8,7 @@ use Rattle.coord_acts.specs.declared.Answer.{Answer}
 use Rattle.coord_record.specs.declared.Coordinator.{Coordinator}
 use Rattle.coordinator.specs.Rules.{takeStep}
 use Rattle.coord_probe.specs.Numbers.{recordNumbers, recordBytes, answerNumbers, answerBytes, replyFor}
-use Rattle.coord_probe.specs.NumberLaws.{Lengths, lengths, short-number, short-buffer, whole-number, whole-buffer, said-number, said-buffer}
+use Rattle.coord_probe.specs.NumberLaws.{Lengths, lengths, short-number, short-buffer, whole-number, whole-buffer, said-number, said-buffer, moved}
 use borrow.Author.Needs.{needs}
 use Rattle.coord_probe.proofs.coord_take_reply.Statement.{statement}
 use Rattle.coord_probe.proofs.coord_take_reply.Tie as tie
@@ -61,9 +61,10 @@ returns-2 c =
     let s = c .before .before .before .before .before .before .before .before .before .before .before .before .before .before .before .before .before .before .before .before .before .before .before .before .before .before .before .before .before .before .before .before .before .before .before .before .args in
     let e = sym (c .before .before .before .before .before .before .before .before .before .before .before .before .before .before .before .before .before .before .before .before .before .before .before .before .before .before .before .lent-right .ensures) ∙ c .before .before .before .before .before .before .before .before .before .before .before .before .before .before .before .before .before .before .before .before .before .before .before .before .before .before .if1 .taken in
     let q = c .before .before .before .before .before .before .before .before .before .before .before .before .before .before .before .before .before .before .before .before .before .before .before .record-of .ensures in
+    let k = c .before .before .before .before .before .before .before .before .before .before .before .before .before .before .before .before .before .before .before .before .before .before .before .record-of .result in
     let w = c .before .before .before .before .before .before .before .before .before .before .before .before .before .before .before .before .before .before .before .take-reply .ensures in
     let p = c .before .before .before .before .before .before .before .before .put-answer .ensures in
-    let a : _≡_ {A = Answer} _ _ = w .0 ∙ ap (λ (x : Coordinator). answerOf x (takeStep (s .n) (s .m) (s .size) (heldOf x (s .blocks .now) (s .stripe .now)) (replyFor (s .kind) (s .brick) (s .time) (s .round) (s .yes) (s .found) (s .has)) (s .block .now) (length (s .coded .now)))) q in (
+    let a = moved {A = Answer} (λ (x : Coordinator). answerOf x (takeStep (s .n) (s .m) (s .size) (heldOf x (s .blocks .now) (s .stripe .now)) (replyFor (s .kind) (s .brick) (s .time) (s .round) (s .yes) (s .found) (s .has)) (s .block .now) (length (s .coded .now)))) k _ _ (w .0) q in (
       whole-number _ _ _ e (said-number _ _ _ a (p .0)),
       (
         whole-buffer _ _ _ _ e (said-buffer (λ (x : Answer). recordNumbers (x .next)) _ _ _ _ a (p .1 .0)),
@@ -71,7 +72,7 @@ returns-2 c =
           whole-buffer _ _ _ _ e (said-buffer (λ (x : Answer). recordBytes (x .next)) _ _ _ _ a (p .1 .1 .0)),
           (
             whole-buffer _ _ _ _ e (said-buffer answerNumbers _ _ _ _ a (p .1 .1 .1 .0)),
-            (whole-buffer _ _ _ _ e (said-buffer answerBytes _ _ _ _ a (p .1 .1 .1 .1)), (whole-buffer _ _ _ _ e (w .1 .0 ∙ ap (λ (x : Coordinator). blocksAfter (heldOf x (s .blocks .now) (s .stripe .now)) (takeStep (s .n) (s .m) (s .size) (heldOf x (s .blocks .now) (s .stripe .now)) (replyFor (s .kind) (s .brick) (s .time) (s .round) (s .yes) (s .found) (s .has)) (s .block .now) (length (s .coded .now)))) q), (whole-buffer _ _ _ _ e (w .1 .1 .0 ∙ ap (λ (x : Coordinator). stripeAfter (heldOf x (s .blocks .now) (s .stripe .now)) (takeStep (s .n) (s .m) (s .size) (heldOf x (s .blocks .now) (s .stripe .now)) (replyFor (s .kind) (s .brick) (s .time) (s .round) (s .yes) (s .found) (s .has)) (s .block .now) (length (s .coded .now)))) q), whole-buffer _ _ _ _ e (w .1 .1 .1 ∙ ap (λ (x : Coordinator). codedAfter (s .coded .now) (takeStep (s .n) (s .m) (s .size) (heldOf x (s .blocks .now) (s .stripe .now)) (replyFor (s .kind) (s .brick) (s .time) (s .round) (s .yes) (s .found) (s .has)) (s .block .now) (length (s .coded .now)))) q)))),
+            (whole-buffer _ _ _ _ e (said-buffer answerBytes _ _ _ _ a (p .1 .1 .1 .1)), (whole-buffer _ _ _ _ e (moved {A = List ℕ} (λ (x : Coordinator). blocksAfter (heldOf x (s .blocks .now) (s .stripe .now)) (takeStep (s .n) (s .m) (s .size) (heldOf x (s .blocks .now) (s .stripe .now)) (replyFor (s .kind) (s .brick) (s .time) (s .round) (s .yes) (s .found) (s .has)) (s .block .now) (length (s .coded .now)))) k _ _ (w .1 .0) q), (whole-buffer _ _ _ _ e (moved {A = List ℕ} (λ (x : Coordinator). stripeAfter (heldOf x (s .blocks .now) (s .stripe .now)) (takeStep (s .n) (s .m) (s .size) (heldOf x (s .blocks .now) (s .stripe .now)) (replyFor (s .kind) (s .brick) (s .time) (s .round) (s .yes) (s .found) (s .has)) (s .block .now) (length (s .coded .now)))) k _ _ (w .1 .1 .0) q), whole-buffer _ _ _ _ e (moved {A = List ℕ} (λ (x : Coordinator). codedAfter (s .coded .now) (takeStep (s .n) (s .m) (s .size) (heldOf x (s .blocks .now) (s .stripe .now)) (replyFor (s .kind) (s .brick) (s .time) (s .round) (s .yes) (s .found) (s .has)) (s .block .now) (length (s .coded .now)))) k _ _ (w .1 .1 .1) q)))),
           ),
         ),
       ),
