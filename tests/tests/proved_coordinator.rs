@@ -190,6 +190,18 @@ fn answer(shape: Shape, event: &Event, record: &Record, step: &Step) -> (Vec<u64
     (sent, shown)
 }
 
+/// Why a recovery is aborted by a reply.
+fn recovery_abort(c: &Coordinator, reply: &Reply) -> &'static str {
+    let bytes = &c.lent.bytes;
+    if !reply.yes || (0..16).any(|b| bytes[2 + b] == 1 && bytes[18 + b] == 0) {
+        "recovery aborted by a no"
+    } else if reply.block.is_none() && bytes[34..50].iter().all(|&held| held == 0) {
+        "recovery aborted without a block"
+    } else {
+        "recovery aborted at time 0 on few bricks"
+    }
+}
+
 /// What the lent coordinator must be after an event, and the number returned.
 fn expected(shape: Shape, c: &Coordinator, event: &Event, tally: &mut Tally) -> (Coordinator, u32, Step) {
     let mut after = c.clone();
@@ -231,6 +243,7 @@ fn expected(shape: Shape, c: &Coordinator, event: &Event, tally: &mut Tally) -> 
         (Event::Reply(_), Some((ORDER_READ, round)), _) => format!("recovery round {}", round.min(5)),
         (Event::Reply(_), Some((WRITE, round)), _) => format!("write round {}", round.min(5)),
         (Event::Reply(r), _, Some(Outcome::Abort)) if r.round == 1000 => "abort at round 1000".to_string(),
+        (Event::Reply(r), _, Some(Outcome::Abort)) if before == ORDER_READ => recovery_abort(c, r).to_string(),
         (Event::Reply(_), _, Some(Outcome::Abort)) => format!("abort in phase {before}"),
         (Event::Reply(_), _, Some(Outcome::Ok)) => "written".to_string(),
         (Event::Reply(r), _, Some(Outcome::Stripe { .. })) if r.kind == READ => "read in one round".to_string(),
@@ -427,10 +440,10 @@ fn schedules_with_bricks() {
         &[
             "write begins", "read begins", "waits", "cut", "idle crash", "written", "read in one round", "recovered",
             "recovery round 2", "recovery round 3", "recovery round 4", "recovery round 5", "write round 2",
-            "write round 3", "write round 4", "write round 5", "abort in phase 2", "abort in phase 3", "refusal 11",
+            "write round 3", "write round 4", "write round 5", "abort in phase 2", "recovery aborted by a no",
+            "abort in phase 4", "refusal 11",
         ],
     );
-    tally.expect(3, &["abort in phase 4"]);
 }
 
 /// A reply to the open round, right by its rules; sometimes with one field changed.
@@ -443,6 +456,8 @@ fn some_reply(shape: Shape, c: &Coordinator, times: &[u64], rng: &mut Rng) -> Re
     let found = times[rng.below(times.len() as u64) as usize];
     let held = match kind {
         READ => yes && target,
+        // In some operations few bricks hold a block.
+        ORDER_READ if numbers[1] % 4 == 0 => yes && rng.once_in(4),
         ORDER_READ => yes && !rng.once_in(8),
         _ => false,
     };
@@ -523,10 +538,12 @@ fn events_of_every_sort() {
         &[
             "write begins", "read begins", "waits", "cut", "idle crash", "read in one round", "recovered", "written",
             "recovery round 2", "recovery round 3", "write round 2", "write round 3", "abort at round 1000",
-            "abort in phase 2", "abort in phase 3", "abort in phase 4", "refusal 1", "refusal 2", "refusal 3",
+            "abort in phase 2", "abort in phase 4", "recovery aborted by a no", "recovery aborted without a block",
+            "refusal 1", "refusal 2", "refusal 3",
             "refusal 7", "refusal 8", "refusal 9", "refusal 10", "refusal 11",
         ],
     );
+    tally.expect(10, &["recovery aborted at time 0 on few bricks"]);
 }
 
 /// The same event where one lent buffer has another length, or at other settings.
