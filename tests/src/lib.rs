@@ -10,6 +10,7 @@ pub mod coordinator;
 pub mod field;
 pub mod image;
 pub mod inplace;
+pub mod inplace_coordinator;
 #[allow(unsafe_code)]
 pub mod proved;
 pub mod rng;
