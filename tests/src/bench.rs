@@ -109,7 +109,8 @@ impl Bench {
     /// How many rounds of a kind were sent, Trims too.
     pub fn rounds(&self, kind: u8) -> usize {
         let Some(set) = &self.set else { return 0 };
-        let of_kind = |sent: &&Sent| matches!(sent, Sent::ToBrick(0, message) if message.kind == kind);
+        let of_kind =
+            |sent: &&Sent| matches!(sent, Sent::ToBrick(0, message) if message.kind == kind);
         set.sent.iter().filter(of_kind).count()
     }
 }

@@ -63,7 +63,10 @@ fn settings(edges: &mut Edges) {
     }
     // One more than a multiple of 2^8, 2^16, 2^32.
     for wide in ["257", "65537", "4294967297"] {
-        edges.say(&format!("set {wide} 1 1 2; set 1 {wide} 1 2; set 1 1 {wide} 2; set 2 1 1 {wide}"), "refused 1; refused 1; refused 1; refused 1");
+        edges.say(
+            &format!("set {wide} 1 1 2; set 1 {wide} 1 2; set 1 1 {wide} 2; set 2 1 1 {wide}"),
+            "refused 1; refused 1; refused 1; refused 1",
+        );
     }
     for n in 1..=4 {
         for m in 1..=n {
@@ -77,10 +80,15 @@ fn settings(edges: &mut Edges) {
             }
         }
     }
-    for line in ["write 0 1 0a", "read 0 1 0", "carry 1", "carry 1 2 3", "crash 0", "down 0", "up 0", "crash 9", "", "set", "set 1 1 1", "x"] {
+    for line in
+        ["write 0 1 0a", "read 0 1 0", "carry 1", "carry 1 2 3", "crash 0", "down 0", "up 0", "crash 9", "", "set", "set 1 1 1", "x"]
+    {
         edges.say(&format!("{line}; set 1 1 1 2; {line}x; set 1 1 1 2"), "refused 12; refused 12; refused 12");
     }
-    edges.say("set 1 1 1 2; set 1 1 1 2; set 9 9 9 9; set 0 0 0 0; set 1; set", "refused 12; refused 12; refused 12; refused 12; refused 12");
+    edges.say(
+        "set 1 1 1 2; set 1 1 1 2; set 9 9 9 9; set 0 0 0 0; set 1; set",
+        "refused 12; refused 12; refused 12; refused 12; refused 12",
+    );
     edges.say("set 0004 0000000000000000002 08 004; read 0 1 3; read 0 1 3; read 0 1 4", "refused 9; refused 3");
 }
 
@@ -88,7 +96,10 @@ fn numbers(edges: &mut Edges) {
     for n in 1..=4 {
         let set = format!("set {n} 1 1 2");
         for past in [format!("{n}"), format!("{}", n + 1)].into_iter().chain(WIDE.map(String::from)) {
-            edges.say(&format!("{set}; down {past}; up {past}; read 0 1 {past}; read 4 1 {past}"), "refused 3; refused 3; refused 3; refused 3");
+            edges.say(
+                &format!("{set}; down {past}; up {past}; read 0 1 {past}; read 4 1 {past}"),
+                "refused 3; refused 3; refused 3; refused 3",
+            );
         }
         edges.say(&format!("{set}; down {0}; down {0}; up {0}; up {0}; read 0 1 {0}; crash 0", n - 1), "0 read 16 cut");
     }
@@ -106,7 +117,8 @@ fn numbers(edges: &mut Edges) {
         let printed = |text: &str, past: &str| if number == 0 { text.to_string() } else { past.to_string() };
         edges.say(&format!("set {} 1 1 2; set 1 1 1 2", word("1")), &printed("refused 12", "refused 12"));
         edges.say(&format!("set 1 1 1 2; crash {}", word("4")), &printed("refused 3", "refused 12"));
-        edges.say(&format!("set 1 1 1 2; down {}; up {}", word("1"), word("1")), &printed("refused 3; refused 3", "refused 12; refused 12"));
+        edges
+            .say(&format!("set 1 1 1 2; down {}; up {}", word("1"), word("1")), &printed("refused 3; refused 3", "refused 12; refused 12"));
         for (a, b, c) in [("0", "1", "0"), ("1", "0", "0"), ("0", "0", "1")] {
             let pick = |flag: &str, digit: &str| if flag == "1" { word(digit) } else { digit.to_string() };
             edges.say(
@@ -120,7 +132,10 @@ fn numbers(edges: &mut Edges) {
         edges.say(&format!("set 1 1 1 2; carry {} 1", word("7")), &printed("refused 12; refused 12", "refused 12"));
     }
     for many in ["18446744073709551616", "18446744073709551617", "10000000000000000000", "99999999999999999999"] {
-        edges.say(&format!("set 1 1 1 2; crash {many}; read 0 {many} 0; carry 1 {many}; down {many}"), "refused 12; refused 12; refused 12; refused 12");
+        edges.say(
+            &format!("set 1 1 1 2; crash {many}; read 0 {many} 0; carry 1 {many}; down {many}"),
+            "refused 12; refused 12; refused 12; refused 12",
+        );
     }
     edges.say("set 1 1 1 2; carry 9999999999999999999 9999999999999999999 0 1", "refused 12; refused 12; refused 12; refused 12");
     // A word that doesn't read: nothing of the line is carried.
@@ -135,20 +150,33 @@ fn clocks(edges: &mut Edges) {
         let past = format!("read {c} 0 0; write {c} 5 0a; read {c} 1099511627776 0; read {c} 0 2; write {c} 0 0");
         edges.say(&format!("{start}; {past}"), &format!("{c} read {last} cut; refused 8; refused 8; refused 7; refused 3; refused 8"));
         // While it runs, 8 comes before 9.
-        edges.say(&format!("set 2 1 1 2; write {c} 1099511627775 0a; read {c} 0 0; crash {c}"), &format!("refused 8; {c} write {last} cut"));
+        edges
+            .say(&format!("set 2 1 1 2; write {c} 1099511627775 0a; read {c} 0 0; crash {c}"), &format!("refused 8; {c} write {last} cut"));
         // The last but one count, then the last.
         edges.say(
             &format!("set 2 1 1 2; read {c} 1099511627774 0; crash {c}; read {c} 0 0; crash {c}; read {c} 0 0"),
             &format!("{c} read {} cut; {c} read {last} cut; refused 8", last - 16),
         );
-        edges.say(&format!("set 2 1 1 2; read {c} 0 0; crash {c}; read {c} 0 0; crash {c}"), &format!("{c} read {} cut; {c} read {} cut", 16 + c, 32 + c));
+        edges.say(
+            &format!("set 2 1 1 2; read {c} 0 0; crash {c}; read {c} 0 0; crash {c}"),
+            &format!("{c} read {} cut; {c} read {} cut", 16 + c, 32 + c),
+        );
     }
     for past in ["1099511627776", "1099511627777", "2199023255553", "9223372036854775808", "9999999999999999999"] {
-        edges.say(&format!("set 2 1 1 2; read 0 {past} 0; write 1 {past} 0a; write 1 {past} 0; read 4 {past} 0; read 0 {past} 2"), "refused 7; refused 7; refused 7; refused 3; refused 3");
+        edges.say(
+            &format!("set 2 1 1 2; read 0 {past} 0; write 1 {past} 0a; write 1 {past} 0; read 4 {past} 0; read 0 {past} 2"),
+            "refused 7; refused 7; refused 7; refused 3; refused 3",
+        );
     }
     // A refused start leaves the count; a crash keeps it.
-    edges.say("set 1 1 1 2; write 0 9 0; write 0 9 0a0; read 0 9 1; write 0 1 0a; crash 0; read 0 0 0; crash 0", "refused 12; refused 12; refused 3; 0 write 16 cut; 0 read 32 cut");
-    edges.say("set 2 1 1 2; read 0 1 0; read 0 1099511627776 0; read 0 9 0; write 0 9 0; write 0 9 0a; read 0 9 2; crash 0; read 0 0 0; crash 0", "refused 7; refused 9; refused 9; refused 9; refused 3; 0 read 16 cut; 0 read 32 cut");
+    edges.say(
+        "set 1 1 1 2; write 0 9 0; write 0 9 0a0; read 0 9 1; write 0 1 0a; crash 0; read 0 0 0; crash 0",
+        "refused 12; refused 12; refused 3; 0 write 16 cut; 0 read 32 cut",
+    );
+    edges.say(
+        "set 2 1 1 2; read 0 1 0; read 0 1099511627776 0; read 0 9 0; write 0 9 0; write 0 9 0a; read 0 9 2; crash 0; read 0 0 0; crash 0",
+        "refused 7; refused 9; refused 9; refused 9; refused 3; 0 read 16 cut; 0 read 32 cut",
+    );
 }
 
 fn hex(edges: &mut Edges) {
@@ -163,16 +191,33 @@ fn hex(edges: &mut Edges) {
                 &format!("{printed}{}refused 3; refused 7; refused 9", if count == right { "0 write 16 cut; " } else { "" }),
             );
             // A character that is no digit: the line doesn't read, whatever else.
-            edges.say(&format!("set {n} {m} {size} 2; write 4 1 {zeros}g; write 4 1 g{zeros}; write 4 1 0x{zeros}"), "refused 12; refused 12; refused 12");
+            edges.say(
+                &format!("set {n} {m} {size} 2; write 4 1 {zeros}g; write 4 1 g{zeros}; write 4 1 0x{zeros}"),
+                "refused 12; refused 12; refused 12",
+            );
         }
     }
-    for (given, shown) in [("abcdef", "abcdef"), ("ABCDEF", "abcdef"), ("aBcDeF", "abcdef"), ("012345", "012345"), ("6789aF", "6789af"), ("00ff00", "00ff00"), ("0a0B0c", "0a0b0c")] {
-        edges.say(&format!("set 1 1 3 2; write 0 1 {given}; carry 1 2 3 4; read 0 1 0; carry 6 7"), &format!("0 write 16 ok; 0 read 32 {shown}"));
+    for (given, shown) in [
+        ("abcdef", "abcdef"),
+        ("ABCDEF", "abcdef"),
+        ("aBcDeF", "abcdef"),
+        ("012345", "012345"),
+        ("6789aF", "6789af"),
+        ("00ff00", "00ff00"),
+        ("0a0B0c", "0a0b0c"),
+    ] {
+        edges.say(
+            &format!("set 1 1 3 2; write 0 1 {given}; carry 1 2 3 4; read 0 1 0; carry 6 7"),
+            &format!("0 write 16 ok; 0 read 32 {shown}"),
+        );
     }
     // Every byte value in a stripe, through write and read.
     for k in 0..32 {
         let bytes: String = (0..8).map(|j| format!("{:02x}", 8 * k + j)).collect();
-        edges.say(&format!("set 1 1 8 2; write 0 1 {}; carry 1 2 3 4 5; read 0 1 0; carry 6 7", bytes.to_uppercase()), &format!("0 write 16 ok; 0 read 32 {bytes}"));
+        edges.say(
+            &format!("set 1 1 8 2; write 0 1 {}; carry 1 2 3 4 5; read 0 1 0; carry 6 7", bytes.to_uppercase()),
+            &format!("0 write 16 ok; 0 read 32 {bytes}"),
+        );
     }
 }
 
@@ -191,10 +236,25 @@ fn forms(edges: &mut Edges) {
         }
     }
     for line in ["set 9 9 9 9", "write 9 1 0a", "read 9 1 0", "carry 9", "carry 9 9", "crash 9", "down 9", "up 9"] {
-        let mut broken = vec![format!(" {line}"), format!("{line} "), line.replacen(' ', "  ", 1), line.replacen(' ', "\t", 1), format!("{line}\r")];
+        let mut broken =
+            vec![format!(" {line}"), format!("{line} "), line.replacen(' ', "  ", 1), line.replacen(' ', "\t", 1), format!("{line}\r")];
         broken.extend([line.replace(' ', ""), line.to_uppercase(), format!("{}{}", line[..1].to_uppercase(), &line[1..])]);
-        broken.extend([format!("\u{feff}{line}"), format!("{line};"), format!("{line} #"), format!("\"{line}\""), line.replacen(' ', "\u{a0}", 1)]);
-        broken.extend([format!("x{line}"), line[1..].to_string(), line.replacen(' ', "x ", 1), format!("{line}\0"), format!("\0{line}"), line.replacen(' ', " -", 1), line.replacen(' ', " +", 1)]);
+        broken.extend([
+            format!("\u{feff}{line}"),
+            format!("{line};"),
+            format!("{line} #"),
+            format!("\"{line}\""),
+            line.replacen(' ', "\u{a0}", 1),
+        ]);
+        broken.extend([
+            format!("x{line}"),
+            line[1..].to_string(),
+            line.replacen(' ', "x ", 1),
+            format!("{line}\0"),
+            format!("\0{line}"),
+            line.replacen(' ', " -", 1),
+            line.replacen(' ', " +", 1),
+        ]);
         if let Some(at) = line.rfind(' ') {
             broken.push(format!("{} {}", &line[..at], &line[at..]));
             broken.push(format!("{}.0", line));
@@ -203,7 +263,28 @@ fn forms(edges: &mut Edges) {
             edges.raw(&format!("{text:?}"), format!("set 1 1 1 2\n{text}\n"), refused(&[12]));
         }
     }
-    for line in ["quit", "help", "s", "se", "sett 1 1 1 2", "carr 1", "carryy 1", "wr 0 1 0a", "writes 0 1 0a", "rea 0 1 0", "u 0", "upp 0", "dow 0", "downn 0", "0", "1 2", "carry x", "carry", "carry ", "carry  1"] {
+    for line in [
+        "quit",
+        "help",
+        "s",
+        "se",
+        "sett 1 1 1 2",
+        "carr 1",
+        "carryy 1",
+        "wr 0 1 0a",
+        "writes 0 1 0a",
+        "rea 0 1 0",
+        "u 0",
+        "upp 0",
+        "dow 0",
+        "downn 0",
+        "0",
+        "1 2",
+        "carry x",
+        "carry",
+        "carry ",
+        "carry  1",
+    ] {
         edges.raw(line, format!("set 1 1 1 2\n{line}\n"), refused(&[12]));
     }
 }
@@ -242,7 +323,19 @@ fn bytes(edges: &mut Edges) {
 fn lengths(edges: &mut Edges) {
     let set = "set 1 1 1 2\n";
     // A write with many digits is 3 if it reads.
-    for (length, number) in [(999, 3), (1000, 3), (1001, 12), (1002, 12), (1024, 12), (1025, 12), (2000, 12), (2001, 12), (4096, 12), (65_536, 12), (1_000_000, 12)] {
+    for (length, number) in [
+        (999, 3),
+        (1000, 3),
+        (1001, 12),
+        (1002, 12),
+        (1024, 12),
+        (1025, 12),
+        (2000, 12),
+        (2001, 12),
+        (4096, 12),
+        (65_536, 12),
+        (1_000_000, 12),
+    ] {
         let line = format!("write 4 1 {}", "a".repeat(length - 10));
         edges.raw(&format!("write of {length}"), format!("{set}{line}\ncrash 4\n"), refused(&[number, 3]));
         edges.raw(&format!("write of {length} at the end"), format!("{set}crash 4\n{line}"), refused(&[3, number]));
@@ -289,7 +382,11 @@ fn ends(edges: &mut Edges) {
     edges.raw("CR before newlines", "set 1 1 1 2\r\nread 0 1 0\r\ncrash 0\r\n", refused(&[12, 12, 12]));
     edges.raw("CR for newlines", "set 1 1 1 2\rread 0 1 0\rcrash 0\r", refused(&[12]));
     edges.raw("many blank lines", "\n".repeat(30_000), refused(&vec![12; 30_000]));
-    edges.raw("blank lines between", format!("{}set 1 1 1 2{}crash 4", "\n".repeat(777), "\n".repeat(1500)), refused(&[12; 777]) + &refused(&[12; 1499]) + "refused 3\n");
+    edges.raw(
+        "blank lines between",
+        format!("{}set 1 1 1 2{}crash 4", "\n".repeat(777), "\n".repeat(1500)),
+        refused(&[12; 777]) + &refused(&[12; 1499]) + "refused 3\n",
+    );
 }
 
 /// Sent messages near 127, by starts, replies, rounds and Trims.
@@ -316,9 +413,19 @@ fn limit(edges: &mut Edges) {
             put("Trims", format!("{stored}{}carry {last}\ncarry {last}\ncarry{}\n", pump(last, wanted), list(last + 1, n)));
             let fast = format!("{read}carry{}\ncarry{}\n", list(1, q), list(n + 1, q - 1));
             put("one round", format!("{fast}{}carry {}\n", pump(n + q, wanted), n + q));
-            let late = format!("{set}write 0 5 0a\ncarry{}\nwrite 1 1 0b\ncarry{}\ncarry{}\n", list(1, n), list(2 * n + 1, q), list(3 * n + 1, q - 1));
+            let late = format!(
+                "{set}write 0 5 0a\ncarry{}\nwrite 1 1 0b\ncarry{}\ncarry{}\n",
+                list(1, n),
+                list(2 * n + 1, q),
+                list(3 * n + 1, q - 1)
+            );
             put("abort", format!("{late}{}carry {}\n", pump(3 * n + q, wanted), 3 * n + q));
-            let promised = format!("{set}write 0 1 0a\ncarry{}\nread 1 2 0\ncarry{}\ncarry{}\n", list(1, n), list(2 * n + 1, q), list(3 * n + 1, q - 1));
+            let promised = format!(
+                "{set}write 0 1 0a\ncarry{}\nread 1 2 0\ncarry{}\ncarry{}\n",
+                list(1, n),
+                list(2 * n + 1, q),
+                list(3 * n + 1, q - 1)
+            );
             put("recovery", format!("{promised}{}carry {}\n", pump(3 * n + q, wanted), 3 * n + q));
             let recovers = format!("{promised}carry {}\n", 3 * n + q);
             let opened = 4 * n + q;
@@ -332,7 +439,10 @@ fn limit(edges: &mut Edges) {
     }
     // Trims are carried at 127, and a second set of them isn't sent.
     edges.say(
-        &format!("set 1 1 1 2; write 0 1 0a; carry 1 2 3 4 5{}; carry 5 5 5; carry 1; read 1 1 0; down 0; carry 1 5", "; carry 1".repeat(122)),
+        &format!(
+            "set 1 1 1 2; write 0 1 0a; carry 1 2 3 4 5{}; carry 5 5 5; carry 1; read 1 1 0; down 0; carry 1 5",
+            "; carry 1".repeat(122)
+        ),
         "0 write 16 ok; refused 12; refused 12",
     );
 }

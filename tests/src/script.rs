@@ -148,7 +148,20 @@ struct Open {
 /// A script in which operations mostly go on to their end: rounds are carried
 /// as far as a quorum, some are cut in their Write round, clocks mostly rise.
 pub fn schedule(rng: &mut Rng) -> Vec<u8> {
-    let shapes = [(1, 1), (2, 1), (2, 2), (3, 1), (3, 1), (3, 2), (3, 3), (4, 1), (4, 2), (4, 2), (4, 3), (4, 4)];
+    let shapes = [
+        (1, 1),
+        (2, 1),
+        (2, 2),
+        (3, 1),
+        (3, 1),
+        (3, 2),
+        (3, 3),
+        (4, 1),
+        (4, 2),
+        (4, 2),
+        (4, 3),
+        (4, 4),
+    ];
     let (n, m) = shapes[rng.below(shapes.len() as u64) as usize];
     let (size, capacity) = (rng.between(1, 8), rng.between(2, 4));
     let mut script = Script {
@@ -220,7 +233,9 @@ impl Plan {
                 let c = running[rng.below(running.len() as u64) as usize];
                 self.crash(c);
             }
-            _ if running.len() < self.at_once && (running.is_empty() || rng.once_in(8)) => self.start(rng),
+            _ if running.len() < self.at_once && (running.is_empty() || rng.once_in(8)) => {
+                self.start(rng)
+            }
             _ if !running.is_empty() => {
                 let c = running[rng.below(running.len() as u64) as usize];
                 self.go_on(rng, c);
@@ -230,23 +245,39 @@ impl Plan {
     }
 
     fn start(&mut self, rng: &mut Rng) {
-        let Some(c) = rng.shuffled(4).into_iter().find(|&c| !self.open[c].runs) else { return };
-        self.clock = if self.rising { self.clock + 1 } else { rng.below(20) };
+        let Some(c) = rng.shuffled(4).into_iter().find(|&c| !self.open[c].runs) else {
+            return;
+        };
+        self.clock = if self.rising {
+            self.clock + 1
+        } else {
+            rng.below(20)
+        };
         let before = self.script.bench.sent();
         let line = if rng.once_in(2) {
-            let hex: String = rng.bytes(self.script.stripe).iter().map(|byte| format!("{byte:02x}")).collect();
+            let hex: String = rng
+                .bytes(self.script.stripe)
+                .iter()
+                .map(|byte| format!("{byte:02x}"))
+                .collect();
             format!("write {c} {} {hex}", self.clock)
         } else {
             format!("read {c} {} {}", self.clock, rng.below(self.script.n))
         };
         self.script.add(line);
         let round: Vec<usize> = (before + 1..=self.script.bench.sent()).collect();
-        self.open[c] = Open { runs: !round.is_empty(), round, replies: Vec::new() };
+        self.open[c] = Open {
+            runs: !round.is_empty(),
+            round,
+            replies: Vec::new(),
+        };
     }
 
     /// Carries some messages of the round, or the replies to them.
     fn go_on(&mut self, rng: &mut Rng, c: usize) {
-        if self.open[c].replies.len() >= self.quorum || (self.open[c].round.is_empty() && !self.open[c].replies.is_empty()) {
+        if self.open[c].replies.len() >= self.quorum
+            || (self.open[c].round.is_empty() && !self.open[c].replies.is_empty())
+        {
             self.answer(rng, c);
             return;
         }
@@ -263,7 +294,11 @@ impl Plan {
         let mut picked = Vec::new();
         for k in 0..count {
             // Mostly the first ones, so that some bricks fall behind.
-            let at = if rng.once_in(3) { rng.below((round.len()) as u64) as usize } else { 0 };
+            let at = if rng.once_in(3) {
+                rng.below((round.len()) as u64) as usize
+            } else {
+                0
+            };
             picked.push(round.remove(at));
             if rng.once_in(40) {
                 picked.push(picked[k]);
@@ -288,7 +323,11 @@ impl Plan {
             }
         } else if !sent.is_empty() {
             self.leave(c);
-            self.open[c] = Open { runs: true, round: sent, replies: Vec::new() };
+            self.open[c] = Open {
+                runs: true,
+                round: sent,
+                replies: Vec::new(),
+            };
         }
     }
 
@@ -297,7 +336,9 @@ impl Plan {
         let before = self.script.bench.sent();
         let words: String = numbers.iter().map(|number| format!(" {number}")).collect();
         let printed = self.script.add(format!("carry{words}"));
-        let ended = printed.split(|&byte| byte == b'\n').any(|line| line.first().is_some_and(u8::is_ascii_digit));
+        let ended = printed
+            .split(|&byte| byte == b'\n')
+            .any(|line| line.first().is_some_and(u8::is_ascii_digit));
         (ended, (before + 1..=self.script.bench.sent()).collect())
     }
 
@@ -316,9 +357,37 @@ impl Plan {
 /// Words as a script has them, in no sensible order.
 fn soup(rng: &mut Rng) -> Vec<u8> {
     let words: [&[u8]; 31] = [
-        b"set", b"write", b"read", b"carry", b"crash", b"down", b"up", b"0", b"1", b"2", b"3", b"4", b"5", b"8", b"9",
-        b"127", b"128", b"0a", b"FF", b"0g", b"00000000000000000001", b"9999999999999999999", b"1099511627775",
-        b"1099511627776", b"", b"-1", b"1\r", b"\t", b"\0", b"\xff", b"Read",
+        b"set",
+        b"write",
+        b"read",
+        b"carry",
+        b"crash",
+        b"down",
+        b"up",
+        b"0",
+        b"1",
+        b"2",
+        b"3",
+        b"4",
+        b"5",
+        b"8",
+        b"9",
+        b"127",
+        b"128",
+        b"0a",
+        b"FF",
+        b"0g",
+        b"00000000000000000001",
+        b"9999999999999999999",
+        b"1099511627775",
+        b"1099511627776",
+        b"",
+        b"-1",
+        b"1\r",
+        b"\t",
+        b"\0",
+        b"\xff",
+        b"Read",
     ];
     let mut text = Vec::new();
     if !rng.once_in(4) {
@@ -367,12 +436,21 @@ fn mutate(rng: &mut Rng, mut text: Vec<u8>) -> Vec<u8> {
             }
             5 => {
                 // A line cut off.
-                let end = text[at..].iter().position(|&byte| byte == b'\n').map_or(text.len(), |k| at + k);
+                let end = text[at..]
+                    .iter()
+                    .position(|&byte| byte == b'\n')
+                    .map_or(text.len(), |k| at + k);
                 text.drain(at..end);
             }
             6 => {
-                let mut lines: Vec<Vec<u8>> = text.split(|&byte| byte == b'\n').map(<[u8]>::to_vec).collect();
-                let (a, b) = (rng.below(lines.len() as u64) as usize, rng.below(lines.len() as u64) as usize);
+                let mut lines: Vec<Vec<u8>> = text
+                    .split(|&byte| byte == b'\n')
+                    .map(<[u8]>::to_vec)
+                    .collect();
+                let (a, b) = (
+                    rng.below(lines.len() as u64) as usize,
+                    rng.below(lines.len() as u64) as usize,
+                );
                 match rng.below(3) {
                     0 => lines.swap(a, b),
                     1 => lines.insert(a, lines[b].clone()),
@@ -421,7 +499,13 @@ pub fn mixed(rng: &mut Rng) -> (&'static str, Vec<u8>) {
             let bytes = rng.bytes(count);
             // A newline now and then, more often than by chance.
             let often = rng.between(2, 60);
-            ("bytes", bytes.into_iter().map(|byte| if rng.once_in(often) { b'\n' } else { byte }).collect())
+            (
+                "bytes",
+                bytes
+                    .into_iter()
+                    .map(|byte| if rng.once_in(often) { b'\n' } else { byte })
+                    .collect(),
+            )
         }
     }
 }

@@ -79,21 +79,29 @@ fn brute_order(operations: &[Operation], stripe: usize) -> Option<Vec<usize>> {
     search(operations, &mut list, &vec![0; stripe]).then_some(list)
 }
 
-/// The same for longer runs: what may follow depends only on the set of those before and on the stripe, so no such pair is tried twice.
+/// The same for longer runs. What may follow depends only on the set of those before and on the stripe, so no such pair is tried twice.
+/// An unfinished write whose bytes no read gave may be taken out of an order: no read stands between it and the next write.
 fn has_order(operations: &[Operation], stripe: usize) -> bool {
-    assert!(operations.len() < 64);
-    let finished: u64 = (0..operations.len()).filter(|&i| operations[i].finished()).map(|i| 1 << i).sum();
-    let mut seen = HashSet::new();
+    let seen = |o: &Operation| o.write.as_deref().is_some_and(|bytes| operations.iter().any(|r| r.gave() == Some(bytes)));
+    let operations: Vec<Operation> = operations.iter().filter(|o| o.finished() || seen(o)).cloned().collect();
+    let count = operations.len();
+    assert!(count < 64);
+    let finished: u64 = (0..count).filter(|&i| operations[i].finished()).map(|i| 1 << i).sum();
+    // Those that finished before each began: one of them that isn't in the set never will be.
+    let needed =
+        |i: usize| -> u64 { (0..count).filter(|&j| operations[j].ended_before(&operations[i])).map(|j| 1 << j).sum::<u64>() & finished };
+    let needed: Vec<u64> = (0..count).map(needed).collect();
+    let mut tried = HashSet::new();
     let mut open = vec![(0_u64, vec![0; stripe])];
     while let Some((set, content)) = open.pop() {
         if set & finished == finished {
             return true;
         }
-        for i in (0..operations.len()).filter(|i| set >> i & 1 == 0) {
-            let list = (0..operations.len()).filter(|j| set >> j & 1 == 1);
-            if may_follow(operations, list, &content, i) {
+        for i in (0..count).filter(|i| set >> i & 1 == 0 && needed[*i] & !set == 0) {
+            let list = (0..count).filter(|j| set >> j & 1 == 1);
+            if may_follow(&operations, list, &content, i) {
                 let after = (set | 1 << i, operations[i].write.clone().unwrap_or_else(|| content.clone()));
-                if seen.insert(after.clone()) {
+                if tried.insert(after.clone()) {
                     open.push(after);
                 }
             }
@@ -388,7 +396,11 @@ impl World {
         let n = self.four.0;
         let running = self.running();
         if once(rng, faults.crash) {
-            let c = if running.is_empty() || rng.once_in(8) { rng.below(16) as usize } else { running[rng.below(running.len() as u64) as usize] };
+            let c = if running.is_empty() || rng.once_in(8) {
+                rng.below(16) as usize
+            } else {
+                running[rng.below(running.len() as u64) as usize]
+            };
             self.crash(c);
         }
         if once(rng, faults.down) {
@@ -460,7 +472,9 @@ impl World {
             assert!(self.event < 200_000, "a run without an end");
             self.step(most, rng);
             let busy = self.running().len();
-            if self.fresh.is_empty() && (self.operations.len() >= most || busy >= self.faults.beside || busy as u64 >= self.faults.coordinators) {
+            if self.fresh.is_empty()
+                && (self.operations.len() >= most || busy >= self.faults.beside || busy as u64 >= self.faults.coordinators)
+            {
                 self.unstick(rng);
                 idle += 1;
             }
@@ -492,6 +506,13 @@ impl World {
         let all = &self.operations;
         tally.add("runs", 1);
         tally.add("operations", all.len());
+        let runs_at =
+            |event: usize| all.iter().filter(|o| o.began <= event && o.ended.as_ref().is_none_or(|(end, _)| *end > event)).count();
+        let at_once = all.iter().map(|o| runs_at(o.began)).max().unwrap_or(0);
+        tally.add("run with 3 or more at once", usize::from(at_once >= 3));
+        tally.add("run with 8 or more at once", usize::from(at_once >= 8));
+        tally.add("run of 10 to 16 bricks", usize::from(self.four.0 >= 10));
+        tally.add("run with m above 1", usize::from(self.four.1 > 1));
         for o in all {
             let kind = match (&o.write, o.ended.as_ref().map(|(_, end)| end)) {
                 (Some(_), Some(End::Wrote)) => "written",
@@ -567,14 +588,24 @@ fn story(seed: u64, world: &World) -> String {
 }
 
 const OFTEN: [&str; 12] = [
-    "written", "write aborted", "write cut", "read in one round", "read recovered", "read recovered by more rounds", "read aborted", "read cut",
-    "cut write seen", "cut write stored, stayed away", "other unfinished write seen", "other unfinished write stored, stayed away",
+    "written",
+    "write aborted",
+    "write cut",
+    "read in one round",
+    "read recovered",
+    "read recovered by more rounds",
+    "read aborted",
+    "read cut",
+    "cut write seen",
+    "cut write stored, stayed away",
+    "other unfinished write seen",
+    "other unfinished write stored, stayed away",
 ];
 
 #[test]
 fn small_runs_by_brute_force() {
     let mut tally = Tally::default();
-    for seed in 100_000..110_000 {
+    for seed in 100_000..125_000 {
         let world = some_run(seed, 5, 2, |_| ());
         assert!(world.operations.len() <= 7);
         let stripe = world.four.1 * world.four.2;
@@ -584,20 +615,21 @@ fn small_runs_by_brute_force() {
         world.note(&mut tally);
     }
     println!("{:?}", tally.0);
-    tally.expect(150, &OFTEN);
-    tally.expect(5, &["read running", "write running"]);
+    tally.expect(300, &OFTEN);
+    tally.expect(20, &["read running", "write running"]);
 }
 
 #[test]
 fn longer_runs() {
     let mut tally = Tally::default();
-    for seed in 200_000..201_000 {
+    for seed in 200_000..208_000 {
         let world = some_run(seed, 22, 2, |_| ());
         assert!(has_order(&world.operations, world.four.1 * world.four.2), "{}", story(seed, &world));
         world.note(&mut tally);
     }
     println!("{:?}", tally.0);
-    tally.expect(20, &OFTEN);
+    tally.expect(100, &OFTEN);
+    tally.expect(100, &["run with 3 or more at once", "run with 8 or more at once", "run of 10 to 16 bricks", "run with m above 1"]);
 }
 
 /// A set that breaks a rule of runs has runs without an order, and both searches say so alike.
@@ -619,7 +651,9 @@ fn broken_sets_are_noticed() {
     let clocks = broken(310_000..312_000, |faults| (faults.broken, faults.coordinators, faults.short) = (Break::ClocksForget, 1, 2));
     let hollow = broken(320_000..321_000, |faults| faults.broken = Break::Hollow);
     let no_write_back = broken(330_000..332_000, |faults| (faults.broken, faults.short, faults.down) = (Break::NoWriteBack, 2, 20));
-    println!("without an order: forgetful bricks {forget}, forgetful clocks {clocks}, hollow writes {hollow}, no write back {no_write_back}");
+    println!(
+        "without an order: forgetful bricks {forget}, forgetful clocks {clocks}, hollow writes {hollow}, no write back {no_write_back}"
+    );
     assert!(forget > 20 && clocks > 5 && hollow > 20 && no_write_back > 20);
 }
 
@@ -697,7 +731,8 @@ fn changed_reads_are_noticed() {
 /// Kinds as the lent answers have them.
 #[test]
 fn a_run_by_hand() {
-    let faults = Faults { lost: 0, again: 0, crash: 0, down: 0, short: 0, rising: true, beside: 1, coordinators: 16, broken: Break::Nothing };
+    let faults =
+        Faults { lost: 0, again: 0, crash: 0, down: 0, short: 0, rising: true, beside: 1, coordinators: 16, broken: Break::Nothing };
     let mut world = World::new((5, 3, 2, 4), faults);
     let mut rng = Rng::new(1);
     for write in [true, false] {

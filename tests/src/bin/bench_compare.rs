@@ -23,6 +23,8 @@ const WORKERS: usize = 2;
 const PATIENCE: Duration = Duration::from_secs(60);
 /// What a pipe surely takes without a reader.
 const PIPE: usize = 32_768;
+/// No more than this is read past the expected output.
+const TOO_MUCH: usize = 100_000;
 const MOST_SHOWN: usize = 5;
 
 /// How the program is given its input.
@@ -44,8 +46,8 @@ enum Job {
 /// What happened, by kind.
 type Tally = BTreeMap<String, usize>;
 
-/// Programs that run, by worker, with their start.
-type Running = Vec<Mutex<Option<(Child, Instant)>>>;
+/// The program that a worker runs, with its start.
+type Slot = Mutex<Option<(Child, Instant)>>;
 
 fn main() {
     let began = Instant::now();
@@ -59,7 +61,7 @@ fn main() {
         Some(seed) => vec![Job::Random(seed as u64), Job::Pieced(seed as u64)],
         None => jobs(here),
     };
-    let running: Running = (0..WORKERS).map(|_| Mutex::new(None)).collect();
+    let running: Vec<Slot> = (0..WORKERS).map(|_| Mutex::new(None)).collect();
     let (next, done) = (AtomicUsize::new(0), AtomicUsize::new(0));
     let wrong = Mutex::new(Vec::new());
     let tally = Mutex::new(Tally::new());
@@ -99,7 +101,12 @@ fn main() {
     let counts: Vec<String> = tally.iter().map(|(kind, count)| format!("{kind} {count}")).collect();
     let seconds = began.elapsed().as_secs_f64();
     let failed = wrong.len() + missing.len();
-    println!("bench: {} of {} scripts played, {failed} wrong, {seconds:.1} s; {}", tally.get("scripts").unwrap_or(&0), jobs.len(), counts.join(", "));
+    println!(
+        "bench: {} of {} scripts played, {failed} wrong, {seconds:.1} s; {}",
+        tally.get("scripts").unwrap_or(&0),
+        jobs.len(),
+        counts.join(", ")
+    );
     exit(i32::from(failed > 0));
 }
 
@@ -107,9 +114,9 @@ fn number(variable: &str) -> Option<usize> {
     std::env::var(variable).ok()?.parse().ok()
 }
 
-/// Every script there is; the long ones first.
+/// Every script there is.
 fn jobs(here: &Path) -> Vec<Job> {
-    let mut jobs = long_inputs();
+    let mut jobs = Vec::new();
     for (name, script, expected) in edges::all() {
         let feed = if name.starts_with("chunk") { Feed::File } else { Feed::Whole };
         jobs.push(Job::Fixed(name, script, expected.map(String::into_bytes), feed));
@@ -127,6 +134,7 @@ fn jobs(here: &Path) -> Vec<Job> {
         cases += 1;
     }
     assert!(cases >= 56, "cases are missing");
+    jobs.extend(long_inputs());
     jobs.extend((0..PIECED_SCRIPTS as u64).map(|k| Job::Pieced(1_000_000 + k)));
     jobs.extend((0..number("SCRIPTS").unwrap_or(RANDOM_SCRIPTS) as u64).map(|k| Job::Random(2_000_000 + k)));
     jobs
@@ -157,7 +165,7 @@ fn long_inputs() -> Vec<Job> {
 }
 
 /// Plays a job on both benches; a report if they differ.
-fn play(program: &Path, job: &Job, slot: &Mutex<Option<(Child, Instant)>>, tally: &mut Tally) -> Result<(), String> {
+fn play(program: &Path, job: &Job, slot: &Slot, tally: &mut Tally) -> Result<(), String> {
     let (name, input, written, feed) = match job {
         Job::Fixed(name, input, written, feed) => (name.clone(), input.clone(), written.clone(), *feed),
         Job::Random(seed) => {
@@ -177,7 +185,7 @@ fn play(program: &Path, job: &Job, slot: &Mutex<Option<(Child, Instant)>>, tally
     if written.is_some_and(|written| written != expected) {
         return Err(format!("{name}: the independent bench doesn't print what is written down"));
     }
-    let (printed, ended) = run(program, &input, feed, slot).map_err(|error| format!("{name}: {error}"))?;
+    let (printed, ended) = run(program, &input, feed, expected.len() + TOO_MUCH, slot).map_err(|error| format!("{name}: {error}"))?;
     if printed == expected && ended.is_none() {
         return Ok(());
     }
@@ -213,16 +221,36 @@ fn note(tally: &mut Tally, bench: &Bench, printed: &[u8]) {
 /// Kinds that must have occurred, and didn't often enough.
 fn missing(tally: &Tally) -> Vec<String> {
     let often = [
-        "write ok", "write abort", "write cut", "read finished", "read zeros", "read abort", "read cut", "read recovered", "recovery rounds",
-        "refused 1", "refused 3", "refused 7", "refused 8", "refused 9", "refused 11", "refused 12", "sent 127", "schedule", "random", "mutated",
-        "words", "bytes", "in pieces",
+        "write ok",
+        "write abort",
+        "write cut",
+        "read finished",
+        "read zeros",
+        "read abort",
+        "read cut",
+        "read recovered",
+        "recovery rounds",
+        "refused 1",
+        "refused 3",
+        "refused 7",
+        "refused 8",
+        "refused 9",
+        "refused 11",
+        "refused 12",
+        "sent 127",
+        "schedule",
+        "random",
+        "mutated",
+        "words",
+        "bytes",
+        "in pieces",
     ];
     let few = |kind: &&str| tally.get(*kind).copied().unwrap_or(0) < 200;
     often.into_iter().filter(few).map(String::from).collect()
 }
 
-/// Runs the program on an input: what it prints, and how it ended if not well.
-fn run(program: &Path, input: &[u8], feed: Feed, slot: &Mutex<Option<(Child, Instant)>>) -> io::Result<(Vec<u8>, Option<String>)> {
+/// Runs the program on an input: what it prints, up to a limit, and how it ended if not well.
+fn run(program: &Path, input: &[u8], feed: Feed, limit: usize, slot: &Slot) -> io::Result<(Vec<u8>, Option<String>)> {
     let mut command = Command::new(program);
     command.stdout(Stdio::piped()).stderr(Stdio::piped());
     if let Feed::File = feed {
@@ -235,7 +263,7 @@ fn run(program: &Path, input: &[u8], feed: Feed, slot: &Mutex<Option<(Child, Ins
         command.stdin(Stdio::piped());
     }
     let mut child = command.spawn()?;
-    let (stdin, mut stdout, mut stderr) = (child.stdin.take(), child.stdout.take().expect("a pipe"), child.stderr.take().expect("a pipe"));
+    let (stdin, stdout, mut stderr) = (child.stdin.take(), child.stdout.take().expect("a pipe"), child.stderr.take().expect("a pipe"));
     *slot.lock().unwrap() = Some((child, Instant::now()));
     let mut printed = Vec::new();
     let mut complaint = Vec::new();
@@ -244,14 +272,23 @@ fn run(program: &Path, input: &[u8], feed: Feed, slot: &Mutex<Option<(Child, Ins
             Some(mut pipe) => write_in(&mut pipe, input, feed).is_err(),
             None => false,
         };
+        let take = || {
+            stdout.take(limit as u64).read_to_end(&mut printed)?;
+            if printed.len() == limit {
+                slot.lock().unwrap().as_mut().expect("the child").0.kill()?;
+            }
+            io::Result::Ok(())
+        };
+        // What fits into the pipe is written before anything is read.
         let unread = if input.len() <= PIPE {
-            give()
+            let unread = give();
+            take()?;
+            unread
         } else {
             let writer = scope.spawn(give);
-            stdout.read_to_end(&mut printed)?;
+            take()?;
             writer.join().expect("the writer")
         };
-        stdout.read_to_end(&mut printed)?;
         stderr.read_to_end(&mut complaint)?;
         io::Result::Ok(unread)
     })?;
@@ -284,7 +321,7 @@ fn write_in(pipe: &mut impl Write, input: &[u8], feed: Feed) -> io::Result<()> {
 }
 
 /// Ends programs that run too long; their output then differs.
-fn end_slow_ones(running: &Running) {
+fn end_slow_ones(running: &[Slot]) {
     for slot in running {
         if let Some((child, began)) = slot.lock().unwrap().as_mut() {
             if began.elapsed() > PATIENCE {
@@ -296,7 +333,9 @@ fn end_slow_ones(running: &Running) {
 }
 
 fn report(name: &str, input: &[u8], printed: &[u8], expected: &[u8], ended: Option<String>) -> String {
-    let rows = |text: &[u8]| -> Vec<String> { text.split_inclusive(|&byte| byte == b'\n').map(|row| String::from_utf8_lossy(row).escape_debug().take(200).collect()).collect() };
+    let rows = |text: &[u8]| -> Vec<String> {
+        text.split_inclusive(|&byte| byte == b'\n').map(|row| String::from_utf8_lossy(row).escape_debug().take(200).collect()).collect()
+    };
     let (ours, theirs) = (rows(printed), rows(expected));
     let at = ours.iter().zip(&theirs).position(|(a, b)| a != b).unwrap_or(ours.len().min(theirs.len()));
     let show = |rows: &[String]| rows.get(at).map_or("nothing more".to_string(), |row| format!("\"{row}\""));
