@@ -118,8 +118,13 @@ fn number(variable: &str) -> Option<usize> {
 fn jobs(here: &Path) -> Vec<Job> {
     let mut jobs = Vec::new();
     for (name, script, expected) in edges::all() {
+        let expected = expected.map(String::into_bytes);
         let feed = if name.starts_with("chunk") { Feed::File } else { Feed::Whole };
-        jobs.push(Job::Fixed(name, script, expected.map(String::into_bytes), feed));
+        if (500..70_000).contains(&script.len()) {
+            let pieces = Feed::Pieces(jobs.len() as u64);
+            jobs.push(Job::Fixed(format!("{name}, in pieces"), script.clone(), expected.clone(), pieces));
+        }
+        jobs.push(Job::Fixed(name, script, expected, feed));
     }
     let mut cases = 0;
     let mut paths: Vec<PathBuf> = fs::read_dir(here.join("cases")).expect("the cases").map(|entry| entry.expect("a case").path()).collect();
