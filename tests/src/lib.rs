@@ -7,6 +7,7 @@ pub mod bench;
 pub mod brick;
 pub mod code;
 pub mod coordinator;
+pub mod edges;
 pub mod field;
 pub mod image;
 pub mod inplace;

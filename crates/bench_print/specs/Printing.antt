@@ -1,0 +1,93 @@
+-- Document 01, "The bench": "It prints per ended operation: coordinator, kind, time, then ok, the stripe in lower-case hexadecimal,
+-- abort or cut; per refusal, `refused` and the number". A text is the list of its bytes.
+use mathlib.Core.Bool.{Bool, false, cond}
+use mathlib.Core.List.{List, [], _∷_, _++_}
+use Prim.Native.Nat.{ℕ, zero, suc, _+_, _/_, _%_}
+use lib.Dec.{eqb, ltb, leb}
+use lib.ListN.{length, take, drop}
+use Rattle.coord_record.specs.Records.{readingKind}
+use Rattle.coord_acts.specs.Steps.{okSeen, readSeen, abortedSeen, cutSeen}
+use Rattle.coord_acts.specs.declared.Seen.{Seen}
+
+-- a space, and the end of a line
+abbrev pub space : ℕ
+space = 32
+
+abbrev pub newline : ℕ
+newline = 10
+
+-- "refused"
+unfoldable pub refusedWord : List ℕ
+refusedWord = 114 ∷ 101 ∷ 102 ∷ 117 ∷ 115 ∷ 101 ∷ 100 ∷ []
+
+-- "read"
+unfoldable pub readWord : List ℕ
+readWord = 114 ∷ 101 ∷ 97 ∷ 100 ∷ []
+
+-- "write"
+unfoldable pub writeWord : List ℕ
+writeWord = 119 ∷ 114 ∷ 105 ∷ 116 ∷ 101 ∷ []
+
+-- "ok"
+unfoldable pub okWord : List ℕ
+okWord = 111 ∷ 107 ∷ []
+
+-- "abort"
+unfoldable pub abortWord : List ℕ
+abortWord = 97 ∷ 98 ∷ 111 ∷ 114 ∷ 116 ∷ []
+
+-- "cut"
+unfoldable pub cutWord : List ℕ
+cutWord = 99 ∷ 117 ∷ 116 ∷ []
+
+-- a digit: "0" is 48
+abbrev pub digit : ℕ → ℕ
+digit k = 48 + k
+
+-- the digits of a number without leading zeros, at most as many as the fuel
+unfoldable pub digitsFrom : ℕ → ℕ → List ℕ
+digitsFrom zero k = []
+digitsFrom (suc fuel) k = cond (ltb k 10) (digit k ∷ []) (digitsFrom fuel (k / 10) ++ digit (k % 10) ∷ [])
+
+-- a number in decimal; twenty digits are enough for 64 bits
+unfoldable pub decimal : ℕ → List ℕ
+decimal k = digitsFrom 20 k
+
+-- a hexadecimal digit: "0" is 48, "a" is 97, which is 87 + 10
+unfoldable pub hexDigit : ℕ → ℕ
+hexDigit k = cond (ltb k 10) (48 + k) (87 + k)
+
+-- two digits a byte
+unfoldable pub hexText : List ℕ → List ℕ
+hexText [] = []
+hexText (b ∷ bytes) = hexDigit (b / 16) ∷ hexDigit (b % 16) ∷ hexText bytes
+
+-- the line of a refusal
+unfoldable pub refusedText : ℕ → List ℕ
+refusedText k = refusedWord ++ space ∷ decimal k ++ newline ∷ []
+
+unfoldable pub kindWord : ℕ → List ℕ
+kindWord kind = cond (eqb kind readingKind) readWord writeWord
+
+-- how an operation ended: ok, the stripe read, aborted, or cut
+unfoldable pub endWord : ℕ → List ℕ → List ℕ
+endWord what stripe =
+    cond (eqb what okSeen) okWord
+    (cond (eqb what readSeen) (hexText stripe) (cond (eqb what abortedSeen) abortWord cutWord))
+
+-- the line of an operation that ended
+unfoldable pub lineText : ℕ → ℕ → ℕ → ℕ → List ℕ → List ℕ
+lineText c kind time what stripe =
+    decimal c ++ space ∷ kindWord kind ++ space ∷ decimal time ++ space ∷ endWord what stripe ++ newline ∷ []
+
+-- whether what is seen is the end of an operation: neither nothing nor a beginning
+unfoldable pub isEnd : ℕ → Bool
+isEnd what = cond (ltb what okSeen) false (leb what cutSeen)
+
+-- what is printed at the coordinator c
+unfoldable pub endedText : ℕ → Seen → List ℕ → List ℕ
+endedText c seen stripe = cond (isEnd (seen .what)) (lineText c (seen .kind) (seen .time) (seen .what) stripe) []
+
+-- a list with a text in place of what it had from a place on
+unfoldable pub written : ℕ → List ℕ → List ℕ → List ℕ
+written at text old = take at old ++ text ++ drop (at + length text) old

@@ -1,0 +1,172 @@
+// What the bench prints (document 01, "The bench"): a line per ended operation and per refusal, written into a lent buffer from a place on.
+ghost use mathlib.Core.Path.{_≡_};
+ghost use mathlib.Core.List.{[], _∷_, _++_};
+ghost use Prim.Native.Nat.{_+_, _≤_, _<_};
+ghost use lib.ListN.{length};
+ghost use Rattle.bench_print.specs.Printing.{space, newline, digit, decimal, hexDigit, hexText, refusedText, kindWord, endWord, lineText, endedText, written};
+ghost use Rattle.bench_print.specs.WrittenLaws.{Placed};
+use coord_acts::ABORTED;
+use coord_acts::CUT;
+use coord_acts::OK;
+use coord_acts::STRIPE;
+use coord_acts::Seen;
+use coord_record::READING;
+
+// One byte.
+fn put_byte(b: u8, at: usize, out: &mut [u8]) -> usize
+    requires { ⌜ at < length (now out) ⌝ }
+    ensures { λ r. ⌜ Placed at (b ∷ []) (now (out .entry)) (now (out .exit)) r ⌝ }
+{
+    out[at] = b;
+    at + 1
+}
+
+// A word.
+fn put_word(word: &[u8], at: usize, out: &mut [u8]) -> usize
+    requires { ⌜ at + length (now word) ≤ length (now out) ⌝ }
+    ensures { λ r. ⌜ Placed at (now (word .entry)) (now (out .entry)) (now (out .exit)) r ⌝ }
+{
+    let mut i: usize = 0;
+    while i < word.len() {
+        out[at + i] = word[i];
+        i += 1;
+    }
+    at + i
+}
+
+// A digit of a number.
+fn digit_of(k: u64) -> u8
+    requires { ⌜ k < 10 ⌝ }
+    ensures { λ r. ⌜ r ≡ digit k ⌝ }
+{
+    (48 + k) as u8
+}
+
+// A number in decimal.
+fn put_number(k: u64, at: usize, out: &mut [u8]) -> usize
+    requires { ⌜ at + length (decimal k) ≤ length (now out) ⌝ }
+    ensures { λ r. ⌜ Placed at (decimal k) (now (out .entry)) (now (out .exit)) r ⌝ }
+{
+    if k < 10 {
+        return put_byte(digit_of(k), at, out);
+    }
+    let to = put_number(k / 10, at, out);
+    put_byte(digit_of(k % 10), to, out)
+}
+
+// A digit of a byte.
+fn hex_digit(k: u8) -> u8
+    requires { ⌜ k < 16 ⌝ }
+    ensures { λ r. ⌜ r ≡ hexDigit k ⌝ }
+{
+    if k < 10 {
+        return 48 + k;
+    }
+    87 + k
+}
+
+// Bytes in hexadecimal.
+fn put_hex(bytes: &[u8], at: usize, out: &mut [u8]) -> usize
+    requires { ⌜ at + length (hexText (now bytes)) ≤ length (now out) ⌝ }
+    ensures { λ r. ⌜ Placed at (hexText (now (bytes .entry))) (now (out .entry)) (now (out .exit)) r ⌝ }
+{
+    let mut i: usize = 0;
+    let mut to = at;
+    while i < bytes.len() {
+        let b = bytes[i];
+        to = put_byte(hex_digit(b / 16), to, out);
+        to = put_byte(hex_digit(b % 16), to, out);
+        i += 1;
+    }
+    to
+}
+
+// The line of a refusal.
+pub fn put_refused(number: u32, at: usize, out: &mut [u8]) -> usize
+    requires { ⌜ at + 128 ≤ length (now out) ⌝ }
+    ensures { λ r. ⌜ r ≡ at + length (refusedText number) ⌝ }
+    ensures { λ _. ⌜ now (out .exit) ≡ written at (refusedText number) (now (out .entry)) ⌝ }
+    ensures { λ r. ⌜ r ≤ at + 128 ⌝ }
+{
+    let word = put_word(b"refused ", at, out);
+    let to = put_number(number as u64, word, out);
+    put_byte(b'\n', to, out)
+}
+
+// A number and a space.
+fn put_spaced(k: u64, at: usize, out: &mut [u8]) -> usize
+    requires { ⌜ at + 21 ≤ length (now out) ⌝ }
+    ensures { λ r. ⌜ Placed at (decimal k ++ space ∷ []) (now (out .entry)) (now (out .exit)) r ⌝ }
+    ensures { λ r. ⌜ r ≤ at + 21 ⌝ }
+{
+    let to = put_number(k, at, out);
+    put_byte(b' ', to, out)
+}
+
+// The kind of an operation and a space.
+fn put_kind(kind: u8, at: usize, out: &mut [u8]) -> usize
+    requires { ⌜ at + 6 ≤ length (now out) ⌝ }
+    ensures { λ r. ⌜ Placed at (kindWord kind ++ space ∷ []) (now (out .entry)) (now (out .exit)) r ⌝ }
+    ensures { λ r. ⌜ r ≤ at + 6 ⌝ }
+{
+    if kind == READING {
+        return put_word(b"read ", at, out);
+    }
+    put_word(b"write ", at, out)
+}
+
+// How an operation ended, and the end of the line.
+fn put_end(what: u8, stripe: &[u8], at: usize, out: &mut [u8]) -> usize
+    requires { ⌜ (at + 65 ≤ length (now out)) × (length (now stripe) ≤ 32) ⌝ }
+    ensures { λ r. ⌜ Placed at (endWord what (now (stripe .entry)) ++ newline ∷ []) (now (out .entry)) (now (out .exit)) r ⌝ }
+    ensures { λ r. ⌜ r ≤ at + 65 ⌝ }
+{
+    if what == OK {
+        return put_word(b"ok\n", at, out);
+    }
+    if what == STRIPE {
+        let to = put_hex(stripe, at, out);
+        return put_byte(b'\n', to, out);
+    }
+    if what == ABORTED {
+        return put_word(b"abort\n", at, out);
+    }
+    put_word(b"cut\n", at, out)
+}
+
+// The line of an operation that ended.
+fn put_line(
+    c: usize,
+    kind: u8,
+    time: u64,
+    what: u8,
+    stripe: &[u8],
+    at: usize,
+    out: &mut [u8],
+) -> usize
+    requires { ⌜ (at + 128 ≤ length (now out)) × (length (now stripe) ≤ 32) ⌝ }
+    ensures { λ r. ⌜ Placed at (lineText c kind time what (now (stripe .entry))) (now (out .entry)) (now (out .exit)) r ⌝ }
+    ensures { λ r. ⌜ r ≤ at + 113 ⌝ }
+{
+    let first = put_spaced(c as u64, at, out);
+    let second = put_kind(kind, first, out);
+    let third = put_spaced(time, second, out);
+    put_end(what, stripe, third, out)
+}
+
+// What is printed of what is seen at the coordinator c: nothing, or the line of the operation that ended.
+pub fn put_ended(c: usize, seen: Seen, stripe: &[u8], at: usize, out: &mut [u8]) -> usize
+    requires { ⌜ (at + 128 ≤ length (now out)) × (length (now stripe) ≤ 32) ⌝ }
+    ensures { λ r. ⌜ r ≡ at + length (endedText c seen (now (stripe .entry))) ⌝ }
+    ensures { λ _. ⌜ now (out .exit) ≡ written at (endedText c seen (now (stripe .entry))) (now (out .entry)) ⌝ }
+    ensures { λ r. ⌜ r ≤ at + 128 ⌝ }
+{
+    let what = seen.what;
+    if what < OK {
+        return at;
+    }
+    if CUT < what {
+        return at;
+    }
+    put_line(c, seen.kind, seen.time, what, stripe, at, out)
+}

@@ -1,0 +1,16 @@
+use borrow.Author.Needs.{needs}
+use Rattle.bench_sent.specs.SentLaws.{is-reply}
+use Rattle.bench_sent.proofs.is_reply.Statement.{statement}
+use Rattle.bench_sent.proofs.is_reply.Tie as tie
+use Rattle.bench_sent.proofs.is_reply.Reads as reads
+use Rattle.bench_sent.proofs.is_reply.Lts as lts
+use Rattle.bench_sent.proofs.number_at.Reads as number-at-reads
+
+number-at-requires : tie.Need-number-at-requires
+number-at-requires c κs = search needs
+
+returns : tie.Need-returns
+returns c = search (needs, is-reply)
+
+pub is-reply-spec : {M : Type 1} → statement M
+is-reply-spec = tie.close (tie.spec number-at-requires returns)

@@ -1,0 +1,38 @@
+use borrow.Author.Needs.{needs}
+use Rattle.bench_sent.specs.SentLaws.{message-of}
+use Rattle.bench_sent.proofs.message_at.Statement.{statement}
+use Rattle.bench_sent.proofs.message_at.Tie as tie
+use Rattle.bench_sent.proofs.message_at.Reads as reads
+use Rattle.bench_sent.proofs.message_at.Lts as lts
+use Rattle.bench_sent.proofs.flags_at.Reads as flags-at-reads
+use Rattle.bench_sent.proofs.kind_at.Reads as kind-at-reads
+use Rattle.bench_sent.proofs.number_at.Reads as number-at-reads
+
+kind-at-requires : tie.Need-kind-at-requires
+kind-at-requires c κs = search needs
+
+number-at-requires : tie.Need-number-at-requires
+number-at-requires c κs = search needs
+
+number-at-requires-2 : tie.Need-number-at-requires-2
+number-at-requires-2 c κs = search needs
+
+number-at-requires-3 : tie.Need-number-at-requires-3
+number-at-requires-3 c κs = search needs
+
+flags-at-requires : tie.Need-flags-at-requires
+flags-at-requires c κs = search needs
+
+returns : tie.Need-returns
+returns c = search (needs, message-of)
+
+pub message-at-spec : {M : Type 1} → statement M
+message-at-spec =
+    tie.close
+    (tie.spec
+    kind-at-requires
+    number-at-requires
+    number-at-requires-2
+    number-at-requires-3
+    flags-at-requires
+    returns)

@@ -1,0 +1,27 @@
+use mathlib.Core.Path.{refl}
+use borrow.Author.Needs.{needs}
+use Rattle.bench_sent.specs.Sent.{numberAt}
+use Rattle.bench_sent.proofs.number_at.Statement.{statement}
+use Rattle.bench_sent.proofs.number_at.Tie as tie
+use Rattle.bench_sent.proofs.number_at.Reads as reads
+use Rattle.bench_sent.proofs.number_at.Lts as lts
+
+mul-result : tie.Need-mul-result
+mul-result c = search needs
+
+add-result : tie.Need-add-result
+add-result c = search needs
+
+mul-result-2 : tie.Need-mul-result-2
+mul-result-2 c = search needs
+
+shared-slice-read-result : tie.Need-shared-slice-read-result
+shared-slice-read-result c = search needs
+
+returns : tie.Need-returns
+unfolding numberAt
+returns c = refl
+
+pub number-at-spec : {M : Type 1} → statement M
+number-at-spec =
+    tie.close (tie.spec mul-result add-result mul-result-2 shared-slice-read-result returns)

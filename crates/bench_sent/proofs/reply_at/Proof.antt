@@ -1,0 +1,46 @@
+use borrow.Author.Needs.{needs}
+use Rattle.bench_sent.specs.SentLaws.{reply-of}
+use Rattle.bench_sent.proofs.reply_at.Statement.{statement}
+use Rattle.bench_sent.proofs.reply_at.Tie as tie
+use Rattle.bench_sent.proofs.reply_at.Reads as reads
+use Rattle.bench_sent.proofs.reply_at.Lts as lts
+use Rattle.bench_sent.proofs.brick_at.Reads as brick-at-reads
+use Rattle.bench_sent.proofs.kind_at.Reads as kind-at-reads
+use Rattle.bench_sent.proofs.number_at.Reads as number-at-reads
+
+kind-at-requires : tie.Need-kind-at-requires
+kind-at-requires c κs = search needs
+
+brick-at-requires : tie.Need-brick-at-requires
+brick-at-requires c κs = search needs
+
+number-at-requires : tie.Need-number-at-requires
+number-at-requires c κs = search needs
+
+number-at-requires-2 : tie.Need-number-at-requires-2
+number-at-requires-2 c κs = search needs
+
+number-at-requires-3 : tie.Need-number-at-requires-3
+number-at-requires-3 c κs = search needs
+
+number-at-requires-4 : tie.Need-number-at-requires-4
+number-at-requires-4 c κs = search needs
+
+number-at-requires-5 : tie.Need-number-at-requires-5
+number-at-requires-5 c κs = search needs
+
+returns : tie.Need-returns
+returns c = search (needs, reply-of)
+
+pub reply-at-spec : {M : Type 1} → statement M
+reply-at-spec =
+    tie.close
+    (tie.spec
+    kind-at-requires
+    brick-at-requires
+    number-at-requires
+    number-at-requires-2
+    number-at-requires-3
+    number-at-requires-4
+    number-at-requires-5
+    returns)

@@ -1,0 +1,29 @@
+use Rattle.bench_state.specs.PartLaws.{any-default, length-mapped}
+use borrow.Author.Needs.{needs, below-length}
+use mathlib.Core.Path.{_≡_}
+use lib.ListN.{length}
+use Rattle.bench_state.proofs.coordinator_at.Statement.{statement}
+use Rattle.bench_state.proofs.coordinator_at.Tie as tie
+use Rattle.bench_state.proofs.coordinator_at.Reads as reads
+use Rattle.bench_state.proofs.coordinator_at.Lts as lts
+
+all-there : (s : lts.Start reads.Pre reads.Post) → length (s .args .b .coordinators) ≡ 4
+all-there s = search (needs, length-mapped)
+
+-- src/lib.rt:127:5
+mul-result : tie.Need-mul-result
+mul-result c = search needs
+
+-- src/lib.rt:127:5
+array-copy-out-result : tie.Need-array-copy-out-result
+array-copy-out-result c = search needs
+
+-- src/lib.rt:122:1
+returns : tie.Need-returns
+returns c =
+    let s = c .before .before in
+    let long = all-there s in
+    (any-default (s .args .b .coordinators) (s .args .c) _ _ (below-length _ (s .args .b .coordinators) (s .args .c) 4 long (s .pre)), long)
+
+pub coordinator-at-spec : {M : Type 1} → statement M
+coordinator-at-spec = tie.close (tie.spec mul-result array-copy-out-result returns)

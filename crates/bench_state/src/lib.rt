@@ -1,0 +1,196 @@
+// The bench's set between two lines (document 01, "The bench"): a record by value, with the bricks' images and what the coordinators keep
+// in lent buffers.
+ghost use mathlib.Core.Path.{_≡_};
+ghost use mathlib.Core.Bool.{true};
+ghost use mathlib.Core.List.{List, []};
+ghost use Prim.Native.Nat.{ℕ, _+_, _*_, _≤_, _<_};
+ghost use lib.ListN.{length, getD, take, drop, replicate};
+ghost use Rattle.bench_state.specs.State.{idleAt, freshBench, withCoordinator, withSent, withUp, keptWith, benchRefusal, worldOf};
+ghost use Rattle.bench_state.specs.StateLaws.{Small};
+ghost use Rattle.bench_state.specs.FillLaws.{Begun};
+ghost use Rattle.register.specs.Runs.{fresh};
+ghost use Rattle.settings.specs.Ranges.{inRange};
+use coord_record::Coordinator;
+use settings::Clock;
+use settings::Settings;
+
+// settings: n is 0 while no set is accepted. up: 1 for a brick that is up. sent: how many messages were sent.
+pub struct Bench {
+    pub settings: Settings,
+    pub up: [u8; 4],
+    pub coordinators: [Coordinator; 4],
+    pub sent: usize,
+}
+
+// 1 where a setting is outside its range or the bench's limits, else 0.
+pub fn bench_refusal(s: Settings) -> u32
+    ensures { λ r. ⌜ r ≡ benchRefusal s ⌝ }
+{
+    let bad = s.refusal();
+    if bad != 0 {
+        return 1;
+    }
+    if 4 < s.n {
+        return 1;
+    }
+    if 8 < s.size {
+        return 1;
+    }
+    if 4 < s.capacity {
+        return 1;
+    }
+    0
+}
+
+// An idle coordinator that drew no time yet.
+fn new_coordinator(c: u64) -> Coordinator
+    ensures { λ r. ⌜ r ≡ idleAt c ⌝ }
+{
+    let clock = Clock {
+        coordinator: c,
+        last: 0,
+    };
+    coord_record::idle_with(clock)
+}
+
+// The record of a set that begins.
+pub fn new_bench(s: Settings) -> Bench
+    ensures { λ r. ⌜ r ≡ freshBench s ⌝ }
+{
+    let a = new_coordinator(0);
+    let b = new_coordinator(1);
+    let c = new_coordinator(2);
+    let d = new_coordinator(3);
+    Bench {
+        settings: s,
+        up: [1u8; 4],
+        coordinators: [a, b, c, d],
+        sent: 0,
+    }
+}
+
+// The record with another coordinator and number of messages.
+pub fn with_coordinator(b: Bench, c: usize, next: Coordinator, sent: usize) -> Bench
+    requires { ⌜ c < 4 ⌝ }
+    ensures { λ r. ⌜ r ≡ withCoordinator b c next sent ⌝ }
+{
+    let mut all = b.coordinators;
+    all[c] = next;
+    let up = b.up;
+    let settings = b.settings;
+    Bench {
+        settings,
+        up,
+        coordinators: all,
+        sent,
+    }
+}
+
+// The record with another number of messages.
+pub fn with_sent(b: Bench, sent: usize) -> Bench
+    ensures { λ r. ⌜ r ≡ withSent b sent ⌝ }
+{
+    let all = b.coordinators;
+    let up = b.up;
+    let settings = b.settings;
+    Bench {
+        settings,
+        up,
+        coordinators: all,
+        sent,
+    }
+}
+
+// The record with a brick up (1) or down (0).
+pub fn with_up(b: Bench, brick: usize, flag: u8) -> Bench
+    requires { ⌜ brick < 4 ⌝ }
+    ensures { λ r. ⌜ r ≡ withUp b brick flag ⌝ }
+    ensures { λ _. ⌜ length (b .up) ≡ 4 ⌝ }
+{
+    let mut up = b.up;
+    up[brick] = flag;
+    let all = b.coordinators;
+    let settings = b.settings;
+    Bench {
+        settings,
+        up,
+        coordinators: all,
+        sent: b.sent,
+    }
+}
+
+// A coordinator's record.
+pub fn coordinator_at(b: Bench, c: usize) -> Coordinator
+    requires { ⌜ c < 4 ⌝ }
+    ensures { λ r. ⌜ r ≡ getD (b .coordinators) c (idleAt c) ⌝ }
+    ensures { λ _. ⌜ length (b .coordinators) ≡ 4 ⌝ }
+{
+    let all = b.coordinators;
+    all[c]
+}
+
+// What a coordinator keeps, copied out.
+pub fn fetch(c: usize, kept: &[u8], blocks: &mut [u8], stripe: &mut [u8])
+    requires { ⌜ (c < 4) × (length (now kept) ≡ 256) ⌝ }
+    requires { ⌜ (length (now blocks) ≤ 32) × (length (now stripe) ≤ 32) ⌝ }
+    ensures { λ _. ⌜ now (blocks .exit) ≡ take (length (now (blocks .entry))) (drop (c * 64) (now (kept .entry))) ⌝ }
+    ensures { λ _. ⌜ now (stripe .exit) ≡ take (length (now (stripe .entry))) (drop (c * 64 + 32) (now (kept .entry))) ⌝ }
+{
+    let at = c * 64;
+    let end = at + blocks.len();
+    coord_acts::copy(&kept[at..end], blocks);
+    let from = at + 32;
+    let till = from + stripe.len();
+    coord_acts::copy(&kept[from..till], stripe)
+}
+
+// What a coordinator keeps, stored.
+pub fn keep(c: usize, blocks: &[u8], stripe: &[u8], kept: &mut [u8])
+    requires { ⌜ (c < 4) × (length (now kept) ≡ 256) ⌝ }
+    requires { ⌜ (length (now blocks) ≤ 32) × (length (now stripe) ≤ 32) ⌝ }
+    ensures { λ _. ⌜ now (kept .exit) ≡ keptWith c (now (blocks .entry)) (now (stripe .entry)) (now (kept .entry)) ⌝ }
+{
+    let at = c * 64;
+    let end = at + blocks.len();
+    coord_acts::copy(blocks, &mut kept[at..end]);
+    let from = at + 32;
+    let till = from + stripe.len();
+    coord_acts::copy(stripe, &mut kept[from..till])
+}
+
+// Zeros in what the coordinators keep.
+fn clear(kept: &mut [u8])
+    ensures { λ _. ⌜ now (kept .exit) ≡ replicate (length (now (kept .entry))) 0 ⌝ }
+{
+    let mut i = 0;
+    while i < kept.len() {
+        kept[i] = 0;
+        i += 1;
+    }
+}
+
+// A fresh image for each brick.
+fn fresh_images(s: Settings, images: &mut [u8])
+    requires { ⌜ (inRange s ≡ true) × Small s ⌝ }
+    requires { ⌜ length (now images) ≡ 10240 ⌝ }
+    ensures { λ _. ⌜ Begun s (now (images .exit)) (s .n) ⌝ }
+{
+    let mut b = 0;
+    while b < s.n {
+        let at = b * 2560;
+        let end = at + 512 * (s.capacity + 1);
+        saving::write_fresh(s, b, &mut images[at..end]);
+        b += 1;
+    }
+}
+
+// A set begins.
+pub fn set_up(s: Settings, images: &mut [u8], kept: &mut [u8]) -> Bench
+    requires { ⌜ (inRange s ≡ true) × Small s ⌝ }
+    requires { ⌜ (length (now images) ≡ 10240) × (length (now kept) ≡ 256) ⌝ }
+    ensures { λ r. ⌜ (r ≡ freshBench s) × (worldOf r (now (images .exit)) (now (kept .exit)) [] ≡ fresh s) ⌝ }
+{
+    fresh_images(s, images);
+    clear(kept);
+    new_bench(s)
+}
