@@ -60,11 +60,7 @@ pub struct Bench {
 
 /// Plays a script and gives all that is printed.
 pub fn play(input: &[u8]) -> Vec<u8> {
-    let mut bench = Bench::default();
-    lines(input)
-        .into_iter()
-        .flat_map(|line| bench.line(line))
-        .collect()
+    Bench::default().play(input)
 }
 
 /// The lines of an input; a newline at its end starts no further line.
@@ -77,6 +73,14 @@ fn lines(input: &[u8]) -> Vec<&[u8]> {
 }
 
 impl Bench {
+    /// Plays the lines of an input and gives all that they print.
+    pub fn play(&mut self, input: &[u8]) -> Vec<u8> {
+        lines(input)
+            .into_iter()
+            .flat_map(|line| self.line(line))
+            .collect()
+    }
+
     /// Plays one line, without its newline, and gives what it prints.
     pub fn line(&mut self, line: &[u8]) -> Vec<u8> {
         let mut printed = String::new();
@@ -100,6 +104,14 @@ impl Bench {
     /// The number of the last message sent.
     pub fn sent(&self) -> usize {
         self.set.as_ref().map_or(0, |set| set.sent.len())
+    }
+
+    /// How many rounds of a kind were sent, Trims too.
+    pub fn rounds(&self, kind: u8) -> usize {
+        let Some(set) = &self.set else { return 0 };
+        let of_kind =
+            |sent: &&Sent| matches!(sent, Sent::ToBrick(0, message) if message.kind == kind);
+        set.sent.iter().filter(of_kind).count()
     }
 }
 

@@ -103,8 +103,9 @@ impl Running {
             && count_of(self.time) == last;
         let rounded = (1..=LAST_ROUND).contains(&self.round);
         let open = (self.replies.len() as u64) < quorum_of(shape);
-        let counted = (0..self.replies.len()).all(|i| self.counted_reply_fits(shape, i));
-        !(timed && rounded && self.round_fits(shape) && open && counted)
+        // Last, since targets are counted from a first brick that is in range only then.
+        let counted = || (0..self.replies.len()).all(|i| self.counted_reply_fits(shape, i));
+        !(timed && rounded && self.round_fits(shape) && open && counted())
     }
 
     /// Whether the open round is one of the operation's, with the fields it needs.

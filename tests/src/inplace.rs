@@ -9,6 +9,8 @@ pub struct Brick {
     pub size: usize,
     pub capacity: usize,
     pub brick: u8,
+    /// Whether zeros are tested over a whole part at once, which the compiler turns into wide instructions, or byte by byte.
+    pub wide: bool,
 }
 
 /// What an image says of its brick.
@@ -34,11 +36,15 @@ fn log_time(t: u64) -> bool {
     t == 0 || (16..1 << 44).contains(&t)
 }
 
-fn zero(bytes: &[u8]) -> bool {
-    bytes.iter().all(|&b| b == 0)
-}
-
 impl Brick {
+    fn zero(&self, bytes: &[u8]) -> bool {
+        if self.wide {
+            bytes.iter().fold(0, |sum, &b| sum | b) == 0
+        } else {
+            bytes.iter().all(|&b| b == 0)
+        }
+    }
+
     pub fn open(&self, image: &[u8]) -> Option<Opened> {
         let mut opened = Opened { count: 0, promise: 0, times: [0; 32] };
         let mut fits = image.len() == BLOCK * (self.capacity + 1);
@@ -53,18 +59,18 @@ impl Brick {
                     && number(&block[8..10]) == self.size as u64
                     && (1..=self.capacity).contains(&opened.count)
                     && log_time(opened.promise)
-                    && zero(&block[20..]);
+                    && self.zero(&block[20..]);
             } else if k <= opened.count {
                 let time = number(&block[4..12]);
                 fits &= block[2..4] == [2, 0]
                     && log_time(time)
                     && (k == 1 || opened.times[k - 2] < time)
                     && number(&block[12..14]) == self.size as u64
-                    && zero(&block[14..16])
-                    && zero(&block[16 + self.size..]);
+                    && self.zero(&block[14..16])
+                    && self.zero(&block[16 + self.size..]);
                 opened.times[k - 1] = time;
             } else {
-                fits &= zero(&block[2..]);
+                fits &= self.zero(&block[2..]);
             }
         }
         fits.then_some(opened)

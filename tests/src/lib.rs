@@ -7,9 +7,11 @@ pub mod bench;
 pub mod brick;
 pub mod code;
 pub mod coordinator;
+pub mod edges;
 pub mod field;
 pub mod image;
 pub mod inplace;
+pub mod inplace_coordinator;
 #[allow(unsafe_code)]
 pub mod proved;
 pub mod rng;

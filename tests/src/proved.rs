@@ -72,6 +72,84 @@ mod c {
             reply: *mut u64,
             reply_len: usize,
         ) -> u32;
+        #[allow(clippy::too_many_arguments)]
+        pub fn coord_start_write(
+            n: usize,
+            m: usize,
+            size: usize,
+            numbers: *mut u64,
+            numbers_len: usize,
+            bytes: *mut u8,
+            bytes_len: usize,
+            sent: *mut u64,
+            sent_len: usize,
+            shown: *mut u8,
+            shown_len: usize,
+            reading: u64,
+            given: *const u8,
+            given_len: usize,
+            stripe: *mut u8,
+            stripe_len: usize,
+        ) -> u32;
+        #[allow(clippy::too_many_arguments)]
+        pub fn coord_start_read(
+            n: usize,
+            m: usize,
+            size: usize,
+            numbers: *mut u64,
+            numbers_len: usize,
+            bytes: *mut u8,
+            bytes_len: usize,
+            sent: *mut u64,
+            sent_len: usize,
+            shown: *mut u8,
+            shown_len: usize,
+            reading: u64,
+            first: usize,
+        ) -> u32;
+        #[allow(clippy::too_many_arguments)]
+        pub fn coord_take_reply(
+            n: usize,
+            m: usize,
+            size: usize,
+            numbers: *mut u64,
+            numbers_len: usize,
+            bytes: *mut u8,
+            bytes_len: usize,
+            sent: *mut u64,
+            sent_len: usize,
+            shown: *mut u8,
+            shown_len: usize,
+            kind: u8,
+            brick: usize,
+            time: u64,
+            round: u64,
+            yes: bool,
+            found: u64,
+            has: bool,
+            block: *const u8,
+            block_len: usize,
+            blocks: *mut u8,
+            blocks_len: usize,
+            stripe: *mut u8,
+            stripe_len: usize,
+            coded: *mut u8,
+            coded_len: usize,
+        ) -> u32;
+        #[allow(clippy::too_many_arguments)]
+        pub fn coord_crash(
+            n: usize,
+            m: usize,
+            size: usize,
+            numbers: *mut u64,
+            numbers_len: usize,
+            bytes: *mut u8,
+            bytes_len: usize,
+            sent: *mut u64,
+            sent_len: usize,
+            shown: *mut u8,
+            shown_len: usize,
+        ) -> u32;
         pub fn probe_draw(coordinator: u64, last: u64, reading: u64, out: *mut u64, len: usize) -> u32;
     }
 }
@@ -153,6 +231,75 @@ pub fn receive(
         c::brick_receive(
             n, m, size, capacity, brick, i, image.len(), kind, time, round, max, t, targets.len(), b, block.len(), o,
             out.len(), r, reply.len(),
+        )
+    }
+}
+
+/// Three settings of a coordinator: n, m, block size.
+pub type Three = (usize, usize, usize);
+
+/// What every routine of a coordinator is lent: the record's 22 numbers and 66 bytes, the answer's 5 numbers and 35 bytes.
+#[derive(Clone, Debug, PartialEq, Eq)]
+pub struct Lent {
+    pub numbers: Vec<u64>,
+    pub bytes: Vec<u8>,
+    pub sent: Vec<u64>,
+    pub shown: Vec<u8>,
+}
+
+impl Lent {
+    /// An idle coordinator that drew no time yet.
+    pub fn fresh(coordinator: u64) -> Lent {
+        let mut numbers = vec![0; 22];
+        numbers[0] = coordinator;
+        Lent { numbers, bytes: vec![0; 66], sent: vec![0; 5], shown: vec![0; 35] }
+    }
+}
+
+/// A reply's numbers: kind, brick, time, round, yes, found, and whether it holds a block.
+pub type Replied = (u8, usize, u64, u64, bool, u64, bool);
+
+pub fn start_write((n, m, size): Three, l: &mut Lent, reading: u64, given: &[u8], stripe: &mut [u8]) -> u32 {
+    let (a, b, c, d) = (l.numbers.as_mut_ptr(), l.bytes.as_mut_ptr(), l.sent.as_mut_ptr(), l.shown.as_mut_ptr());
+    let (g, s) = (given.as_ptr(), stripe.as_mut_ptr());
+    unsafe {
+        c::coord_start_write(
+            n, m, size, a, l.numbers.len(), b, l.bytes.len(), c, l.sent.len(), d, l.shown.len(), reading, g,
+            given.len(), s, stripe.len(),
+        )
+    }
+}
+
+pub fn start_read((n, m, size): Three, l: &mut Lent, reading: u64, first: usize) -> u32 {
+    let (a, b, c, d) = (l.numbers.as_mut_ptr(), l.bytes.as_mut_ptr(), l.sent.as_mut_ptr(), l.shown.as_mut_ptr());
+    unsafe {
+        c::coord_start_read(
+            n, m, size, a, l.numbers.len(), b, l.bytes.len(), c, l.sent.len(), d, l.shown.len(), reading, first,
+        )
+    }
+}
+
+pub fn crash((n, m, size): Three, l: &mut Lent) -> u32 {
+    let (a, b, c, d) = (l.numbers.as_mut_ptr(), l.bytes.as_mut_ptr(), l.sent.as_mut_ptr(), l.shown.as_mut_ptr());
+    unsafe { c::coord_crash(n, m, size, a, l.numbers.len(), b, l.bytes.len(), c, l.sent.len(), d, l.shown.len()) }
+}
+
+#[allow(clippy::too_many_arguments)]
+pub fn take_reply(
+    (n, m, size): Three,
+    l: &mut Lent,
+    (kind, brick, time, round, yes, found, has): Replied,
+    block: &[u8],
+    blocks: &mut [u8],
+    stripe: &mut [u8],
+    coded: &mut [u8],
+) -> u32 {
+    let (a, b, c, d) = (l.numbers.as_mut_ptr(), l.bytes.as_mut_ptr(), l.sent.as_mut_ptr(), l.shown.as_mut_ptr());
+    let (e, f, g, h) = (block.as_ptr(), blocks.as_mut_ptr(), stripe.as_mut_ptr(), coded.as_mut_ptr());
+    unsafe {
+        c::coord_take_reply(
+            n, m, size, a, l.numbers.len(), b, l.bytes.len(), c, l.sent.len(), d, l.shown.len(), kind, brick, time,
+            round, yes, found, has, e, block.len(), f, blocks.len(), g, stripe.len(), h, coded.len(),
         )
     }
 }

@@ -4,5 +4,6 @@ pub mod ChangeLaws
 pub mod CheckLaws
 pub mod Figures
 pub mod LayoutLaws
+pub mod RowLaws
 pub mod SameLaws
 pub mod StoreLaws

@@ -4,23 +4,66 @@ ghost use mathlib.Core.List.{_++_};
 ghost use Prim.Native.Nat.{_+_, _-_, _≤_, _<_, _^_};
 ghost use lib.ListN.{length, take, drop};
 ghost use Rattle.settings.specs.RangeLaws.{SettingsRange};
-ghost use Rattle.block.specs.Block.{checkOf, checked, sealed, unchecked, headBody, headBlock, entryBody, entryBlock, unusedBody, unusedBlock, zeros, same, put};
+ghost use Rattle.block.specs.RowLaws.{total};
+ghost use Rattle.block.specs.Block.{weighted, checkOf, checked, sealed, unchecked, headBody, headBlock, entryBody, entryBlock, unusedBody, unusedBlock, zeros, same, put};
 use little::byte;
 use little::read2;
 use settings::Settings;
 
-// The check of a block: of its bytes from offset 2 on.
+// The sum of the bytes of a row.
+fn plain_sum(t: &[u8]) -> u32
+    requires { ⌜ length (now t) ≡ 64 ⌝ }
+    ensures { λ r. ⌜ (r ≡ total (now (t .entry))) × (r ≤ 16320) ⌝ }
+{
+    let mut part: u32 = 0;
+    let mut i: usize = 0;
+    while i < 64 {
+        part += t[i] as u32;
+        i += 1;
+    }
+    part
+}
+
+// The sum of the bytes of a row, the first one once, the next one twice, and so on.
+fn rising_sum(b: &[u8]) -> u32
+    requires { ⌜ length (now b) ≤ 64 ⌝ }
+    ensures { λ r. ⌜ (r ≡ weighted 1 (now (b .entry))) × (r ≤ 1044480) ⌝ }
+{
+    let mut rise: u32 = 0;
+    let mut weight: u32 = 1;
+    let mut p: usize = 0;
+    while p < b.len() {
+        rise += weight * (b[p] as u32);
+        weight += 1;
+        p += 1;
+    }
+    rise
+}
+
+// The part of a row in the check, where its first byte counts once more than `past` times.
+fn row_sum(t: &[u8], past: u32) -> u32
+    requires { ⌜ length (now t) ≡ 64 ⌝ }
+    requires { ⌜ past ≤ 446 ⌝ }
+    ensures { λ r. ⌜ (r ≡ weighted (past + 1) (now (t .entry))) × (r ≤ 8323200) ⌝ }
+{
+    rising_sum(t) + past * plain_sum(t)
+}
+
+// The check of a block: of its bytes from offset 2 on. In rows of 64 bytes, whose weights the compiler knows.
 pub fn check_of(b: &[u8]) -> u32
     requires { ⌜ length (now b) ≡ 512 ⌝ }
     ensures { λ r. ⌜ r ≡ checkOf (drop 2 (now (b .entry))) ⌝ }
 {
     let mut sum: u32 = 1;
-    let mut weight: u32 = 1;
-    let mut p: usize = 2;
-    while p < 512 {
-        sum += weight * (b[p] as u32);
-        weight += 1;
-        p += 1;
+    sum += rising_sum(&b[2..64]);
+    let mut past: u32 = 62;
+    let mut at: usize = 64;
+    while at < 512 {
+        let e = at + 64;
+        let t = &b[at..e];
+        sum += row_sum(t, past);
+        past += 64;
+        at = e;
     }
     sum % 65521
 }
@@ -140,7 +183,7 @@ pub fn same_body(a: &[u8], b: &[u8]) -> bool
     requires { ⌜ length (now b) ≡ 512 ⌝ }
     ensures { λ r. ⌜ r ≡ same (drop 2 (now (a .entry))) (drop 2 (now (b .entry))) ⌝ }
 {
-    let mut differ: u32 = 0;
+    let mut differ: u8 = 0;
     let mut p: usize = 2;
     while p < 512 {
         if a[p] != b[p] {

@@ -25,7 +25,7 @@ fn main() {
     let mut most: f64 = 0.0;
     for capacity in [4, 32] {
         let four = (5, 3, 256, capacity);
-        let hand = Brick { n: 5, m: 3, size: 256, capacity, brick: 1 };
+        let hand = Brick { n: 5, m: 3, size: 256, capacity, brick: 1, wide: false };
         let block: Vec<u8> = (0..=255).collect();
         let mut image = vec![0; 512 * (capacity + 1)];
         assert_eq!(proved::fresh(four, 1, &mut image), 0);

@@ -1,65 +1,86 @@
-use Prim.Native.Nat.{_-_, _*_, _≤_, _<_}
-use lib.ListN.{getD}
+use Prim.Native.Nat.{_+_, _-_, _≤_}
 use native.Mathlib.Omega.{arith}
 use borrow.Author.Needs.{needs}
-use Rattle.block.specs.CheckLaws.{Summing, summing-none, summing-more, summing-all, product-high}
+use Rattle.block.specs.RowLaws.{Rows, rows-first, first-length, row-within, row-length, rows-more, rows-all}
 use Rattle.block.proofs.check_of.Statement.{statement}
 use Rattle.block.proofs.check_of.Tie as tie
 use Rattle.block.proofs.check_of.Reads as reads
 use Rattle.block.proofs.check_of.Lts as lts
+use Rattle.block.proofs.rising_sum.Reads as rising-sum-reads
+use Rattle.block.proofs.row_sum.Reads as row-sum-reads
 
 abbrev Inv-loop : tie.InvT-loop
-Inv-loop b sum₀ weight₀ p₀ sum weight p = Summing b sum weight p
+Inv-loop b sum₀ past₀ at₀ sum past at = Rows b sum past at
 
 abbrev μ-loop : tie.MeasureT-loop
-μ-loop b sum₀ weight₀ p₀ sum weight p = 512 - p
+μ-loop b sum₀ past₀ at₀ sum past at = 512 - at
 
--- src/lib.rt:19:5
-loop-holds : tie.Need-loop-holds Inv-loop μ-loop
-loop-holds c = summing-none _
+-- src/lib.rt:58:23
+sub-rising-sum : tie.Need-sub-rising-sum Inv-loop μ-loop
+sub-rising-sum c = search needs
 
--- src/lib.rt:20:26
-shared-slice-read-sum : tie.Need-shared-slice-read-sum Inv-loop μ-loop
-shared-slice-read-sum c = omega arith
+-- src/lib.rt:58:23
+part-rising-sum-start : tie.Need-part-rising-sum-start Inv-loop μ-loop
+part-rising-sum-start c = search needs
 
-byte : (c : tie.After-shared-slice-known Inv-loop μ-loop) → getD (c .before .before .before .args .b .now) (c .before .before .loop .p) 0 < 256
-byte c = omega (arith, c .shared-slice-known .given (c .before .before .loop .p))
+-- src/lib.rt:58:23
+part-rising-sum-end : tie.Need-part-rising-sum-end Inv-loop μ-loop
+part-rising-sum-end c = search needs
 
-high : (c : tie.After-shared-slice-known Inv-loop μ-loop)
-    → c .before .before .loop .weight * getD (c .before .before .before .args .b .now) (c .before .before .loop .p) 0 ≤ 130050
-high c = product-high _ _ (omega arith) (byte c)
+-- src/lib.rt:58:12
+rising-sum-requires : tie.Need-rising-sum-requires Inv-loop μ-loop
+rising-sum-requires c κs = first-length (c .before .before .args .b .now) (c .before .before .pre)
 
--- src/lib.rt:20:26
-cast-sum : tie.Need-cast-sum Inv-loop μ-loop
-cast-sum c = omega (arith, c .shared-slice-known .given (c .before .before .loop .p))
-
--- src/lib.rt:20:16
-mul-sum : tie.Need-mul-sum Inv-loop μ-loop
-mul-sum c = omega (arith, high c)
-
--- src/lib.rt:20:9
+-- src/lib.rt:58:5
 add-sum : tie.Need-add-sum Inv-loop μ-loop
-add-sum c = omega (arith, high c)
+add-sum c = omega (arith, c .rising-sum .ensures .1)
 
--- src/lib.rt:21:9
-add-weight : tie.Need-add-weight Inv-loop μ-loop
-add-weight c = omega arith
+-- src/lib.rt:61:5
+loop-holds : tie.Need-loop-holds Inv-loop μ-loop
+loop-holds c = rows-first _ _ (c .rising-sum .ensures .0) (c .rising-sum .ensures .1)
 
--- src/lib.rt:22:9
-add-p : tie.Need-add-p Inv-loop μ-loop
-add-p c = omega arith
+within : (c : tie.In-loop Inv-loop μ-loop) → c .before .loop .at + 64 ≤ 512
+within c = row-within _ _ _ _ (c .loop-test .taken) (c .before .loop .inv)
 
--- src/lib.rt:19:5
+-- src/lib.rt:62:17
+add-e : tie.Need-add-e Inv-loop μ-loop
+add-e c = omega arith
+
+-- src/lib.rt:63:17
+sub-t : tie.Need-sub-t Inv-loop μ-loop
+sub-t c = omega arith
+
+-- src/lib.rt:63:17
+part-t-start : tie.Need-part-t-start Inv-loop μ-loop
+part-t-start c = omega (arith, within c)
+
+-- src/lib.rt:63:17
+part-t-end : tie.Need-part-t-end Inv-loop μ-loop
+part-t-end c = omega (arith, within c)
+
+-- src/lib.rt:64:16
+row-sum-requires : tie.Need-row-sum-requires Inv-loop μ-loop
+row-sum-requires c κs = (row-length _ _ (c .before .before .before .before .before .before .pre) (within (c .before)), omega (arith, within (c .before), c .before .before .loop .inv .weighs))
+
+-- src/lib.rt:64:9
+add-sum-2 : tie.Need-add-sum-2 Inv-loop μ-loop
+add-sum-2 c = omega (arith, c .row-sum .ensures .1, c .before .before .before .loop .inv .bound)
+
+-- src/lib.rt:65:9
+add-past : tie.Need-add-past Inv-loop μ-loop
+add-past c = omega arith
+
+-- src/lib.rt:61:5
 loop-less : tie.Need-loop-less Inv-loop μ-loop
 loop-less c = omega arith
 
--- src/lib.rt:19:5
+-- src/lib.rt:61:5
 loop-again : tie.Need-loop-again Inv-loop μ-loop
-loop-again c = summing-more _ _ _ _ (c .before .before .before .pre) (byte c) (c .before .loop-test .taken) (c .before .before .loop .inv)
+loop-again c = rows-more _ _ _ _ _ (c .before .before .loop-test .taken) (c .row-sum .ensures .0) (c .row-sum .ensures .1) (c .before .before .before .loop .inv)
 
--- src/lib.rt:12:1
+-- src/lib.rt:53:1
 returns : tie.Need-returns Inv-loop μ-loop
-returns c = summing-all _ _ _ _ (c .before .before .pre) (c .loop-test .left) (c .before .loop .inv)
+returns c = rows-all _ _ _ _ (c .before .before .before .before .before .pre) (c .loop-test .left) (c .before .loop .inv)
 
 pub check-of-spec : {M : Type 1} → statement M
 check-of-spec =
@@ -67,13 +88,19 @@ check-of-spec =
     (tie.spec
     Inv-loop
     μ-loop
-    loop-holds
-    shared-slice-read-sum
-    cast-sum
-    mul-sum
+    sub-rising-sum
+    part-rising-sum-start
+    part-rising-sum-end
+    rising-sum-requires
     add-sum
-    add-weight
-    add-p
+    loop-holds
+    add-e
+    sub-t
+    part-t-start
+    part-t-end
+    row-sum-requires
+    add-sum-2
+    add-past
     loop-less
     loop-again
     returns)
