@@ -1,14 +1,15 @@
 // The bench (document 01): reads standard input to its end, whatever it holds, plays each line as it comes, and prints what the line
 // prints. All that it does with a line is bench_core's.
 ghost use mathlib.Core.Path.{_≡_};
-ghost use Prim.Native.Nat.{_≤_};
+ghost use Prim.Native.Nat.{_≤_, _<_};
 ghost use lib.ListN.{length};
 use bench_state::Bench;
 
-// The bench, and how many bytes of a line are kept that has not ended yet.
+// The bench, how many bytes of a line are kept that has not ended yet, and whether the input may go on.
 struct Fed {
     bench: Bench,
     length: usize,
+    more: bool,
 }
 
 // Buffers of zeros; only their lengths are told, which lending them needs.
@@ -81,12 +82,14 @@ fn take(
         return Fed {
             bench: next,
             length: 0,
+            more: true,
         };
     }
     let longer = bench_core::add_byte(line, held, byte);
     Fed {
         bench: b,
         length: longer,
+        more: true,
     }
 }
 
@@ -108,6 +111,7 @@ fn feed(
     let mut fed = Fed {
         bench: b,
         length: held,
+        more: true,
     };
     let mut i = 0;
     while i < chunk.len() {
@@ -128,8 +132,93 @@ fn feed(
     fed
 }
 
-// Readings until the input ends or fails; then a last line without a newline. A proved loop has to end, so it counts down from a number
-// that no run uses up.
+// One reading, and its bytes played; none at the end of the input, or where reading fails.
+fn read_some(
+    b: Bench,
+    held: usize,
+    chunk: &mut [u8],
+    line: &mut [u8],
+    images: &mut [u8],
+    kept: &mut [u8],
+    numbers: &mut [u64],
+    bytes: &mut [u8],
+    out: &mut [u8],
+) -> Fed
+    requires { ⌜ (held ≤ 1001) × (length (now line) ≡ 1001) ⌝ }
+    ensures { λ r. ⌜ r .length ≤ 1001 ⌝ }
+{
+    let got = libc::read(libc::STDIN_FILENO, chunk);
+    let n = io::count(got, chunk);
+    if n == 0 {
+        return Fed {
+            bench: b,
+            length: held,
+            more: false,
+        };
+    }
+    feed(
+        b,
+        held,
+        &chunk[..n],
+        line,
+        images,
+        kept,
+        numbers,
+        bytes,
+        out,
+    )
+}
+
+// How many readings may follow.
+fn turns_left(turns: u64, more: bool) -> u64
+    requires { ⌜ 1 ≤ turns ⌝ }
+    ensures { λ r. ⌜ r < turns ⌝ }
+{
+    if more {
+        return turns - 1;
+    }
+    0
+}
+
+// Readings until the input ends. A proved loop has to end, so it counts down from a number that no run uses up.
+fn read_all(
+    chunk: &mut [u8],
+    line: &mut [u8],
+    images: &mut [u8],
+    kept: &mut [u8],
+    numbers: &mut [u64],
+    bytes: &mut [u8],
+    out: &mut [u8],
+) -> Fed
+    requires { ⌜ length (now line) ≡ 1001 ⌝ }
+    ensures { λ r. ⌜ r .length ≤ 1001 ⌝ }
+{
+    let none = bench_core::no_set();
+    let mut fed = Fed {
+        bench: none,
+        length: 0,
+        more: true,
+    };
+    let mut turns = u64::MAX;
+    while turns > 0 {
+        let bench = fed.bench;
+        fed = read_some(
+            bench,
+            fed.length,
+            chunk,
+            line,
+            images,
+            kept,
+            numbers,
+            bytes,
+            out,
+        );
+        turns = turns_left(turns, fed.more);
+    }
+    fed
+}
+
+// All lines of the input; a last one may have no newline.
 fn play_all(
     chunk: &mut [u8],
     line: &mut [u8],
@@ -141,37 +230,13 @@ fn play_all(
 )
     requires { ⌜ length (now line) ≡ 1001 ⌝ }
 {
-    let none = bench_core::no_set();
-    let mut fed = Fed {
-        bench: none,
-        length: 0,
-    };
-    let mut turns = u64::MAX;
-    while turns > 0 {
-        let got = libc::read(libc::STDIN_FILENO, chunk);
-        let n = io::count(got, chunk);
-        if n == 0 {
-            break;
-        }
-        let bench = fed.bench;
-        fed = feed(
-            bench,
-            fed.length,
-            &chunk[..n],
-            line,
-            images,
-            kept,
-            numbers,
-            bytes,
-            out,
-        );
-        turns -= 1;
-    }
+    let fed = read_all(chunk, line, images, kept, numbers, bytes, out);
     let held = fed.length;
-    if 0 < held {
-        let bench = fed.bench;
-        play(bench, line, held, images, kept, numbers, bytes, out);
+    if held == 0 {
+        return;
     }
+    let bench = fed.bench;
+    play(bench, line, held, images, kept, numbers, bytes, out);
 }
 
 fn main() {

@@ -1,3 +1,6 @@
+use mathlib.Core.Path.{sym}
+use native.Mathlib.Omega.{arith}
+use lib.Seq.{length-take-le}
 use borrow.Author.Needs.{needs}
 use Rattle.bench.proofs.play.Statement.{statement}
 use Rattle.bench.proofs.play.Tie as tie
@@ -8,7 +11,7 @@ use Rattle.io.proofs.write_all.Reads as write-all-reads
 
 -- src/main.rt:58:38
 slice-aggregate-play-line : tie.Need-slice-aggregate-play-line
-slice-aggregate-play-line c = ?
+slice-aggregate-play-line c = sym (length-take-le _ (c .before .before .before .before .before .before .before .args .line .now) (c .before .before .before .before .before .before .before .pre))
 
 -- src/main.rt:58:9
 play-line-requires : tie.Need-play-line-requires
@@ -16,11 +19,14 @@ play-line-requires c κs = search needs
 
 -- src/main.rt:60:40
 slice-reshare-prefix-write-all : tie.Need-slice-reshare-prefix-write-all
-slice-reshare-prefix-write-all c = search needs
+slice-reshare-prefix-write-all c =
+    let s = c .before .before .before .before .before .before .before .before .before .before .before .before .before .before .before .before .before .before .before .before .before .before .before in
+    let p = c .before .before .before .before .before .before .before .before .before .before .play-line in
+    omega (arith, p .ensures .within, p .kept .1 .1 .1 .1 .1 .1 .0)
 
 -- src/main.rt:60:40
 slice-aggregate-write-all : tie.Need-slice-aggregate-write-all
-slice-aggregate-write-all c = ?
+slice-aggregate-write-all c = sym (length-take-le _ (c .before .before .before .before .before .before .before .before .before .before .before .play-line .last .1 .1 .1 .1 .1 .1 .0) (slice-reshare-prefix-write-all (c .before)))
 
 -- src/main.rt:60:5
 write-all-requires : tie.Need-write-all-requires

@@ -1,0 +1,108 @@
+use mathlib.Core.Path.{_≡_, refl, _∙_}
+use Prim.Native.Nat.{_≤_}
+use native.Mathlib.Omega.{arith}
+use borrow.Author.Needs.{needs}
+use lib.ListN.{length}
+use Rattle.bench.proofs.read_all.Statement.{statement}
+use Rattle.bench.proofs.read_all.Tie as tie
+use Rattle.bench.proofs.read_all.Reads as reads
+use Rattle.bench.proofs.read_all.Lts as lts
+use Rattle.bench.proofs.read_some.Reads as read-some-reads
+use Rattle.bench.proofs.turns_left.Reads as turns-left-reads
+use Rattle.bench_core.proofs.no_set.Reads as no-set-reads
+
+abbrev Inv-loop : tie.InvT-loop
+Inv-loop chunk₀ line₀ images₀ kept₀ numbers₀ bytes₀ out₀ fed₀ turns₀ chunk line images kept numbers bytes out fed turns =
+    (fed .length ≤ 1001) × (length chunk ≡ length chunk₀) × (length line ≡ length line₀) × (length images ≡ length images₀) × (length kept ≡ length kept₀)
+    × (length numbers ≡ length numbers₀) × (length bytes ≡ length bytes₀) × (length out ≡ length out₀)
+
+abbrev μ-loop : tie.MeasureT-loop
+μ-loop chunk₀ line₀ images₀ kept₀ numbers₀ bytes₀ out₀ fed₀ turns₀ chunk line images kept numbers bytes out fed turns = turns
+
+-- src/main.rt:186:9
+no-set-requires : tie.Need-no-set-requires Inv-loop μ-loop
+no-set-requires c κs = search needs
+
+-- src/main.rt:193:5
+loop-holds : tie.Need-loop-holds Inv-loop μ-loop
+loop-holds c = (omega arith, refl, refl, refl, refl, refl, refl, refl)
+
+-- src/main.rt:195:9
+read-some-requires : tie.Need-read-some-requires Inv-loop μ-loop
+read-some-requires c κs = let v = c .before .before .before .before .before .before .before .before .before .loop .inv in (v .0, v .2 ∙ c .before .before .before .before .before .before .before .before .before .before .before .before .before .before .before .before .before .before .pre)
+
+-- src/main.rt:206:9
+turns-left-requires : tie.Need-turns-left-requires Inv-loop μ-loop
+turns-left-requires c κs = c .before .before .before .before .before .before .before .before .before .before .before .before .before .before .before .before .before .before .before .before .before .before .before .loop-test .taken
+
+-- src/main.rt:193:5
+loop-less : tie.Need-loop-less Inv-loop μ-loop
+loop-less c = c .turns-left .ensures
+
+-- src/main.rt:193:5
+loop-again : tie.Need-loop-again Inv-loop μ-loop
+loop-again c =
+    let v = c .before .before .before .before .before .before .before .before .before .before .before .before .before .before .before .before .before .before .before .before .before .before .before .before .before .loop .inv in
+    let k = c .before .before .before .before .before .before .before .before .before .before .before .before .before .before .before .read-some .kept in (
+      c .before .before .before .before .before .before .before .before .before .before .before .before .before .before .before .read-some .ensures,
+      k .1 .1 .0 ∙ v .1,
+      k .1 .1 .1 .0 ∙ v .2,
+      k .1 .1 .1 .1 .0 ∙ v .3,
+      k .1 .1 .1 .1 .1 .0 ∙ v .4,
+      k .1 .1 .1 .1 .1 .1 .0 ∙ v .5,
+      k .1 .1 .1 .1 .1 .1 .1 .0 ∙ v .6,
+      k .1 .1 .1 .1 .1 .1 .1 .1 .0 ∙ v .7,
+    )
+
+-- src/main.rt:174:1
+same-length : tie.Need-same-length Inv-loop μ-loop
+same-length c = c .before .loop .inv .1
+
+-- src/main.rt:174:1
+same-length-2 : tie.Need-same-length-2 Inv-loop μ-loop
+same-length-2 c = c .before .loop .inv .2
+
+-- src/main.rt:174:1
+same-length-3 : tie.Need-same-length-3 Inv-loop μ-loop
+same-length-3 c = c .before .loop .inv .3
+
+-- src/main.rt:174:1
+same-length-4 : tie.Need-same-length-4 Inv-loop μ-loop
+same-length-4 c = c .before .loop .inv .4
+
+-- src/main.rt:174:1
+same-length-5 : tie.Need-same-length-5 Inv-loop μ-loop
+same-length-5 c = c .before .loop .inv .5
+
+-- src/main.rt:174:1
+same-length-6 : tie.Need-same-length-6 Inv-loop μ-loop
+same-length-6 c = c .before .loop .inv .6
+
+-- src/main.rt:174:1
+same-length-7 : tie.Need-same-length-7 Inv-loop μ-loop
+same-length-7 c = c .before .loop .inv .7
+
+-- src/main.rt:174:1
+returns : tie.Need-returns Inv-loop μ-loop
+returns c = c .before .loop .inv .0
+
+pub read-all-spec : {M : Type 1} → statement M
+read-all-spec =
+    tie.close
+    (tie.spec
+    Inv-loop
+    μ-loop
+    no-set-requires
+    loop-holds
+    read-some-requires
+    turns-left-requires
+    loop-less
+    loop-again
+    same-length
+    same-length-2
+    same-length-3
+    same-length-4
+    same-length-5
+    same-length-6
+    same-length-7
+    returns)
