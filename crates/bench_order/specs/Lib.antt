@@ -8,6 +8,7 @@ pub mod Report
 pub mod ScriptTheorem
 pub mod ReportTheorem
 pub mod LimitTheorem
+pub mod Calls
 -- How the input is cut into lines; document 01's case, computed from its bytes.
 pub mod CutLaws
 pub mod WorkedCase
