@@ -51,6 +51,19 @@ mod c {
             times: *mut u64,
             times_len: usize,
         ) -> u32;
+        #[allow(clippy::too_many_arguments)]
+        pub fn brick_entry(
+            n: usize,
+            m: usize,
+            size: usize,
+            capacity: usize,
+            brick: usize,
+            image: *const u8,
+            image_len: usize,
+            place: usize,
+            found: *mut u64,
+            found_len: usize,
+        ) -> u32;
         pub fn brick_receive(
             n: usize,
             m: usize,
@@ -209,6 +222,12 @@ pub fn fresh((n, m, size, capacity): Four, brick: usize, image: &mut [u8]) -> u3
 pub fn panel((n, m, size, capacity): Four, brick: usize, image: &[u8], times: &mut [u64]) -> u32 {
     let (i, t) = (image.as_ptr(), times.as_mut_ptr());
     unsafe { c::brick_panel(n, m, size, capacity, brick, i, image.len(), t, times.len()) }
+}
+
+/// The view's entry at a place: its time and the place of its block.
+pub fn entry((n, m, size, capacity): Four, brick: usize, image: &[u8], place: usize, found: &mut [u64]) -> u32 {
+    let (i, f) = (image.as_ptr(), found.as_mut_ptr());
+    unsafe { c::brick_entry(n, m, size, capacity, brick, i, image.len(), place, f, found.len()) }
 }
 
 /// A message's numbers: kind, time, round, max.

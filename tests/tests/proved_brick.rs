@@ -158,6 +158,84 @@ fn damaged_images() {
     }
 }
 
+/// The proved view against the independent state at every place from 0 to capacity + 1 and at the last number; a refusal must leave the buffer.
+fn look_everywhere(four: proved::Four, number: usize, bytes: &[u8], answers: &mut [usize; 7]) {
+    let state = image::parse(settings(four), number as u64, bytes);
+    for place in (0..=four.3 + 1).chain([usize::MAX]) {
+        let mut found = [77; 2];
+        let answer = proved::entry(four, number, bytes, place, &mut found);
+        let seen = format!("{four:?} brick {number} place {place}");
+        match state.as_ref().map_err(|&refusal| refusal).and_then(|s| s.entry(place as u64)) {
+            Err(refusal) => assert_eq!((answer, found), (u32::from(refusal), [77; 2]), "{seen}"),
+            Ok(entry) => {
+                assert_eq!((answer, found[0]), (0, entry.time), "{seen}");
+                assert_eq!(found[1], place as u64 + 1, "{seen}");
+                let at = found[1] as usize * image::BLOCK + 16;
+                assert_eq!(bytes[at..at + four.2], entry.block, "{seen}");
+            }
+        }
+        answers[answer as usize] += 1;
+    }
+}
+
+#[test]
+fn views_of_every_place() {
+    let mut rng = Rng::printed(23);
+    let (mut whole, mut hurt, mut other) = ([0_usize; 7], [0_usize; 7], [0_usize; 7]);
+    let mut full = 0;
+    for run in 0..400 {
+        let n = 1 + rng.below(16) as usize;
+        let sizes = [1, 2, 7, 64, 255, 256];
+        let four = (n, 1 + rng.below(n as u64) as usize, sizes[rng.below(6) as usize], 2 + rng.below(31) as usize);
+        let number = rng.below(n as u64) as usize;
+        let mut bytes = fresh(four, number);
+        look_everywhere(four, number, &bytes, &mut whole);
+        let mut time = 16;
+        for _ in 0..4 {
+            for _ in 0..rng.below(20) {
+                // Every other run only writes, in rising time, so that logs grow long and full.
+                time += 1 + rng.below(40);
+                let rising = brick::Message { block: rng.bytes(four.2), ..brick::Message::plain(brick::WRITE, time, 1) };
+                let message = if run % 2 == 0 { rising } else { random_message(&mut rng, four) };
+                compare(four, number, &mut bytes, &message);
+            }
+            look_everywhere(four, number, &bytes, &mut whole);
+            full += usize::from(image::parse(settings(four), number as u64, &bytes).unwrap().log.len() == four.3);
+            // A changed byte, near the front of a block or anywhere; its check made right again or not.
+            let mut damaged = bytes.clone();
+            let block = rng.below(four.3 as u64 + 1) as usize * 512;
+            let within = if rng.once_in(2) { 24 } else { 512 };
+            let at = block + rng.below(within) as usize;
+            damaged[at] ^= 1 + rng.below(255) as u8;
+            if rng.once_in(2) {
+                reseal(&mut damaged[block..block + 512]);
+            }
+            look_everywhere(four, number, &damaged, &mut hurt);
+        }
+        // Another brick, other settings, another length.
+        let (n, m, size, capacity) = four;
+        for brick in 0..=n + 1 {
+            look_everywhere(four, brick, &bytes, &mut other);
+        }
+        for four in [(n + 1, m, size, capacity), (n, m + 1, size, capacity), (n, m, size + 1, capacity)] {
+            look_everywhere(four, number, &bytes, &mut other);
+        }
+        for four in [(n, m, size, capacity + 1), (n, 0, size, capacity), (n, m, 257, capacity), (n, m, size, 33)] {
+            look_everywhere(four, number, &bytes, &mut other);
+        }
+        look_everywhere(four, number, &bytes[1..], &mut other);
+        for length in [0, 1, 3] {
+            let mut found = vec![77; length];
+            assert_eq!(proved::entry(four, number, &bytes, 0, &mut found), 2);
+            assert_eq!(found, vec![77; length]);
+        }
+    }
+    assert!(full > 100 && whole[0] > 5000 && whole[3] > 5000, "{full} {whole:?}");
+    assert_eq!(whole[0] + whole[3], whole.iter().sum::<usize>(), "{whole:?}");
+    assert!([0, 3, 5, 6].iter().all(|&k| hurt[k] > 100), "{hurt:?}");
+    assert!([1, 2, 3, 6].iter().all(|&k| other[k] > 1000), "{other:?}");
+}
+
 #[test]
 fn settings_and_lengths() {
     let mut bytes = fresh((3, 1, 4, 3), 0);

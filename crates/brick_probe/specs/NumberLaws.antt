@@ -8,14 +8,19 @@ use lib.Dec.{eqb}
 use lib.ListN.{length, getD, set}
 use borrow.Author.Tests.{eq-eqb, ne-eqb}
 use Rattle.interpolate.specs.Tabulate.{tabulate, tabulate-by}
-use Rattle.brick_probe.specs.Numbers.{replyNumbers, givenNumber, givenBuffer, shownNumber, shownBuffer, numberIf, bufferIf, lent}
+use Rattle.brick_probe.specs.Numbers.{replyNumbers, givenNumber, givenBuffer, shownNumber, shownBuffer, entryBuffer, numberIf, bufferIf, lent}
 use Rattle.brick.specs.declared.Given.{Given}
 use Rattle.brick.specs.declared.Given.the-variants.{Answered, Silent, Refused}
+use Rattle.image.specs.Opening.{placeIn}
+use Rattle.image.specs.declared.Entry.{Entry}
 use Rattle.image.specs.declared.Panel.{Panel}
 use Rattle.image.specs.declared.Shown.{Shown}
 use Rattle.image.specs.declared.Shown.the-variants.{Values}
 use Rattle.message.specs.declared.Reply.{Reply}
 use Rattle.settings.specs.Count.{one-if}
+use Rattle.view.specs.Numbers.{foundNumber}
+use Rattle.view.specs.declared.Found.{Found}
+use Rattle.view.specs.declared.Found.the-variants.{At}
 
 -- seven stores fill a buffer of seven
 pub seven : (l : List ℕ) (a b c d e f g : ℕ) → length l ≡ 7
@@ -65,6 +70,24 @@ pub panel-refused : (times : List ℕ) (s r : Shown) (k : ℕ) → length times 
     → (k ≡ numberIf (eqb (length times) 2) (shownNumber s)) × (times ≡ bufferIf (eqb (length times) 2) (shownBuffer s times) times)
 unfolding numberIf bufferIf shownNumber shownBuffer
 panel-refused times s r k h e f = rw (eq-eqb (length times) 2 h, ← e, f) (refl, refl)
+
+-- the ways through the view
+pub entry-short : (found : List ℕ) (s : Found) → (length found ≡ 2 → ⊥)
+    → (2 ≡ numberIf (eqb (length found) 2) (foundNumber s)) × (found ≡ bufferIf (eqb (length found) 2) (entryBuffer s found) found)
+unfolding numberIf bufferIf
+entry-short found s h = rw (ne-eqb (length found) 2 h) (refl, refl)
+
+pub entry-there : (found : List ℕ) (s r : Found) (x : Entry) (k : ℕ) → length found ≡ 2 → r ≡ s → r ≡ At x → k ≡ placeIn (x .holding)
+    → (0 ≡ numberIf (eqb (length found) 2) (foundNumber s))
+    × (set (set found 0 (x .time)) 1 k ≡ bufferIf (eqb (length found) 2) (entryBuffer s found) found)
+unfolding numberIf bufferIf foundNumber entryBuffer
+entry-there found s r x k h e f g =
+    rw (eq-eqb (length found) 2 h, ← e, f) (refl, two found (x .time) k h ∙ ap (λ (a : ℕ). x .time ∷ a ∷ []) g)
+
+pub entry-refused : (found : List ℕ) (s r : Found) (k : ℕ) → length found ≡ 2 → r ≡ s → r ≡ Found.Refused k
+    → (k ≡ numberIf (eqb (length found) 2) (foundNumber s)) × (found ≡ bufferIf (eqb (length found) 2) (entryBuffer s found) found)
+unfolding numberIf bufferIf foundNumber entryBuffer
+entry-refused found s r k h e f = rw (eq-eqb (length found) 2 h, ← e, f) (refl, refl)
 
 -- the ways through what a brick gave
 pub given-reply : (g : Given) (r : Reply) (old new : List ℕ) → g ≡ Answered r → new ≡ replyNumbers r → (0 ≡ givenNumber g) × (new ≡ givenBuffer g old)

@@ -7,6 +7,7 @@ use lib.ListN.{length}
 use Rattle.brick.specs.Receive.{outcome}
 use Rattle.brick.specs.declared.Given.{Given}
 use Rattle.brick.specs.declared.Given.the-variants.{Answered, Silent, Refused}
+use Rattle.image.specs.Opening.{placeIn}
 use Rattle.image.specs.declared.Shown.{Shown}
 use Rattle.image.specs.declared.Shown.the-variants.{Values}
 use Rattle.message.specs.declared.Message.{Message}
@@ -14,6 +15,8 @@ use Rattle.message.specs.declared.Reply.{Reply}
 use Rattle.settings.specs.Count.{one-if}
 use Rattle.settings.specs.Refusal.{badLength}
 use Rattle.settings.specs.declared.Settings.{Settings}
+use Rattle.view.specs.declared.Found.{Found}
+use Rattle.view.specs.declared.Found.the-variants.{At}
 
 abbrev pub settingsFor : ℕ → ℕ → ℕ → ℕ → Settings
 settingsFor n m size capacity = record { n = n; m = m; size = size; capacity = capacity }
@@ -42,6 +45,11 @@ shownNumber (Shown.Refused number) = number
 unfoldable pub shownBuffer : Shown → List ℕ → List ℕ
 shownBuffer (Values p) old = p .promise ∷ p .newest ∷ []
 shownBuffer (Shown.Refused number) old = old
+
+-- the entry's time and the place of its block, or the buffer as it was
+unfoldable pub entryBuffer : Found → List ℕ → List ℕ
+entryBuffer (At e) old = e .time ∷ placeIn (e .holding) ∷ []
+entryBuffer (Found.Refused number) old = old
 
 -- a buffer or number behind a test of the boundary's own buffers
 unfoldable pub numberIf : Bool → ℕ → ℕ

@@ -4,16 +4,20 @@ ghost use lib.Dec.{eqb};
 ghost use mathlib.Core.Bool.{_&&_};
 ghost use lib.ListN.{length};
 ghost use Rattle.brick.specs.Receive.{outcome};
-ghost use Rattle.brick_probe.specs.Numbers.{settingsFor, replyNumbers, givenNumber, givenBuffer, shownNumber, shownBuffer, numberIf, bufferIf, messageFor, lent};
+ghost use Rattle.brick_probe.specs.Numbers.{settingsFor, replyNumbers, givenNumber, givenBuffer, shownNumber, shownBuffer, entryBuffer, numberIf, bufferIf, messageFor, lent};
 ghost use Rattle.image.specs.Opening.{lendingRefusal, panelOf};
 ghost use Rattle.image.specs.Parse.{parse};
 ghost use Rattle.saving.specs.Saving.{freshAfter};
 ghost use Rattle.settings.specs.Count.{one-if};
+ghost use Rattle.view.specs.Numbers.{foundNumber};
+ghost use Rattle.view.specs.View.{foundOf};
 use brick::Given;
 use image::Shown;
+use image::place_of;
 use message::Message;
 use message::Reply;
 use settings::Settings;
+use view::Found;
 
 fn flag(b: bool) -> u64
     ensures { λ r. ⌜ r ≡ one-if b ⌝ }
@@ -77,6 +81,43 @@ pub extern "C" fn brick_panel(
             0
         }
         Shown::Refused(number) => number,
+    }
+}
+
+// The view's entry at a place, into a buffer of two numbers: its time and the place of its block.
+#[no_mangle]
+pub extern "C" fn brick_entry(
+    n: usize,
+    m: usize,
+    size: usize,
+    capacity: usize,
+    brick: usize,
+    image: &[u8],
+    place: usize,
+    found: &mut [u64],
+) -> u32
+    ensures { λ r. ⌜ r ≡ numberIf (eqb (length (now (found .entry))) 2) (foundNumber (foundOf (parse (settingsFor n m size capacity) brick (now (image .entry))) place)) ⌝ }
+    ensures { λ r. ⌜ now (found .exit) ≡ bufferIf (eqb (length (now (found .entry))) 2) (entryBuffer (foundOf (parse (settingsFor n m size capacity) brick (now (image .entry))) place) (now (found .entry))) (now (found .entry)) ⌝ }
+{
+    if found.len() != 2 {
+        return 2;
+    }
+    let s = Settings {
+        n: n,
+        m: m,
+        size: size,
+        capacity: capacity,
+    };
+    let seen = view::look(s, brick, image, place);
+    match seen {
+        Found::At(e) => {
+            let holding = e.holding;
+            let held = place_of(holding);
+            found[0] = e.time;
+            found[1] = held as u64;
+            0
+        }
+        Found::Refused(number) => number,
     }
 }
 
