@@ -267,7 +267,7 @@ const LOGS: [u8; 256] = [
     0,
     0,
     1,
-    25,
+    25, // the logarithm of 3
     2,
     50,
     26,
