@@ -9,7 +9,7 @@ use Rattle.coord_acts.specs.Steps.{Held, Broadcast, Went, Step, refused,
 use Rattle.coord_acts.specs.declared.Answer.{Answer}
 use Rattle.coord_record.specs.Records.{idleWith, noBricks}
 use Rattle.coord_record.specs.declared.Coordinator.{Coordinator}
-use Rattle.coord_rounds.specs.Counting.{picked, targetRow, atTimes}
+use Rattle.coord_counts.specs.Counting.{picked, targetRow, atTimes}
 use Rattle.coord_record.specs.declared.Op.{Op}
 use Rattle.coord_record.specs.declared.Tally.{Tally}
 use Rattle.coord_rounds.specs.Deciding.{decided}
@@ -22,7 +22,7 @@ use Rattle.message.specs.declared.Message.{Message}
 use Rattle.settings.specs.RangeLaws.{CodeRange}
 use Rattle.settings.specs.Count.{count}
 use lib.ListN.{length, take}
-use Rattle.coord_rounds.specs.RowSets.{target-set, target-below, picked-set, picked-below}
+use Rattle.coord_counts.specs.RowSets.{target-set, target-below, picked-set, picked-below}
 use Rattle.coord_acts.specs.BufferLaws.{InPlace, in-place}
 use Rattle.interpolate.specs.RowLaws.{PointSet}
 

@@ -10,7 +10,7 @@ use Rattle.coord_record.specs.Records.{readingKind, idleWith, nothingCounted, n
 use Rattle.coord_record.specs.declared.Coordinator.{Coordinator}
 use Rattle.coord_record.specs.declared.Op.{Op}
 use Rattle.coord_record.specs.declared.Tally.{Tally}
-use Rattle.coord_rounds.specs.Counting.{picked, targetRow}
+use Rattle.coord_counts.specs.Counting.{picked, targetRow}
 use Rattle.coord_rounds.specs.Deciding.{tallied, decided}
 use Rattle.coord_rounds.specs.declared.Decision.{Decision}
 use Rattle.coord_rounds.specs.declared.Decision.the-variants.{Abort, Give, Look, Store, Recover, Finish}

@@ -6,7 +6,7 @@ ghost use lib.ListN.{length, take};
 ghost use Rattle.coord_acts.specs.ActLaws.{Ready, Acted, openAnswer, endAnswer, heldOf};
 ghost use Rattle.coord_acts.specs.Acts.{gathered, stripeFrom, placed, roundMessage, trimMessage, nextOp, finishedSeen};
 ghost use Rattle.coord_record.specs.Records.{noBricks};
-ghost use Rattle.coord_rounds.specs.Counting.{picked, targetRow, atTimes};
+ghost use Rattle.coord_counts.specs.Counting.{picked, targetRow, atTimes};
 ghost use Rattle.coord_rounds.specs.Deciding.{decided};
 ghost use Rattle.erasure.specs.Code.{codedOf};
 ghost use Rattle.message.specs.Kinds.{writeKind};
@@ -254,7 +254,7 @@ fn give(n: usize, m: usize, size: usize, c: Coordinator, blocks: &[u8], stripe: 
     ensures { λ r. ⌜ now (stripe .exit) ≡ stripeFrom m size (targetRow n m (c .op .first)) (now (blocks .entry)) ⌝ }
 {
     let op = c.op;
-    let row = coord_rounds::target_row(n, m, op.first);
+    let row = coord_counts::target_row(n, m, op.first);
     decode_from(m, size, row, blocks, stripe);
     end(c, STRIPE, row, 0, no_message())
 }
@@ -277,7 +277,7 @@ fn recover(
 {
     let held = t.held;
     let found = t.found;
-    let row = coord_rounds::pick(held, found, time, n, m);
+    let row = coord_counts::pick(held, found, time, n, m);
     decode_from(m, size, row, blocks, stripe);
     row
 }

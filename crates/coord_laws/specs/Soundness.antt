@@ -24,10 +24,10 @@ use Rattle.coord_record.specs.SoundParts.{SoundParts, sound-from, sound-parts}
 use Rattle.coord_record.specs.declared.Coordinator.{Coordinator}
 use Rattle.coord_record.specs.declared.Op.{Op}
 use Rattle.coord_record.specs.declared.Tally.{Tally}
-use Rattle.coord_rounds.specs.Counting.{highest, atTimes, passing, inRow, picked, targetFlags}
+use Rattle.coord_counts.specs.Counting.{highest, atTimes, passing, inRow, picked, targetFlags}
 use Rattle.coord_rounds.specs.Deciding.{answers, tallied, decided}
 use Rattle.coord_rounds.specs.Decisions.{Says, Lowers, Recovers, found-time, holders, decided-says}
-use Rattle.coord_rounds.specs.RowSets.{picked-below, picked-rises, picked-long}
+use Rattle.coord_counts.specs.RowSets.{picked-below, picked-rises, picked-long}
 use Rattle.coord_rounds.specs.declared.Decision.{Decision}
 use Rattle.coord_rounds.specs.declared.Decision.the-variants.{Abort, Give, Look, Store, Recover, Finish}
 use Rattle.interpolate.specs.Tabulate.{getD-tabulate}

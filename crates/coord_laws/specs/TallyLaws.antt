@@ -15,7 +15,7 @@ use Rattle.coord_record.specs.Each.{each, each-all, each-at}
 use Rattle.coord_record.specs.Rules.{isTarget, blockRight, countedRight, entryRight, tallyRight}
 use Rattle.coord_record.specs.declared.Op.{Op}
 use Rattle.coord_record.specs.declared.Tally.{Tally}
-use Rattle.coord_rounds.specs.Counting.{highest}
+use Rattle.coord_counts.specs.Counting.{highest}
 use Rattle.coord_rounds.specs.Deciding.{answers, tallied}
 use Rattle.message.specs.Flags.{member, members}
 use Rattle.message.specs.Messages.{roundRight, foundRight, replyRight, replyRefusal}

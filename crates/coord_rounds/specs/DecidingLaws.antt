@@ -10,7 +10,7 @@ use Rattle.coord_record.specs.Each.{some}
 use Rattle.coord_record.specs.Rules.{isTarget, blockRight}
 use Rattle.coord_record.specs.declared.Op.{Op}
 use Rattle.coord_record.specs.declared.Tally.{Tally}
-use Rattle.coord_rounds.specs.Counting.{saidNo, otherTime, missing, highest, atTimes}
+use Rattle.coord_counts.specs.Counting.{saidNo, otherTime, missing, highest, atTimes}
 use Rattle.coord_rounds.specs.Deciding.{answers, decidedRead, unlessSpent, decidedAt, decidedRecovery, decided}
 use Rattle.coord_rounds.specs.declared.Decision.{Decision}
 use Rattle.coord_rounds.specs.declared.Decision.the-variants.{Abort, Give, Look, Store, Recover, Finish}

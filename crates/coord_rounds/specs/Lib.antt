@@ -1,8 +1,4 @@
--- Definitions: Counting, Deciding. Laws: the others.
-pub mod Counting
-pub mod CountingLaws
+-- Definitions: Deciding. Laws: the others.
 pub mod Deciding
 pub mod Decisions
 pub mod DecidingLaws
-pub mod RowLaws
-pub mod RowSets

@@ -7,7 +7,7 @@ use lib.ListN.{length}
 use Rattle.coord_acts.specs.Acts.{counting, waitingOr, ending, firstOp, starting}
 use Rattle.coord_acts.specs.Steps.{Held, Went, Step, refused, went, checked, nothingSeen, cutSeen}
 use Rattle.coord_record.specs.Records.{idleKind, readingKind, writingKind, noBricks}
-use Rattle.coord_rounds.specs.Counting.{targetFlags}
+use Rattle.coord_counts.specs.Counting.{targetFlags}
 use Rattle.coordinator.specs.Checks.{writeRefusal, readRefusal, takeRefusal, crashRefusal}
 use Rattle.message.specs.Kinds.{readKind, orderKind}
 use Rattle.message.specs.declared.Reply.{Reply}

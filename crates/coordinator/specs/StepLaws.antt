@@ -18,7 +18,7 @@ use Rattle.coord_record.specs.SoundParts.{SoundParts, sound-parts, round-high}
 use Rattle.coord_record.specs.declared.Coordinator.{Coordinator}
 use Rattle.coord_record.specs.declared.Op.{Op}
 use Rattle.coord_record.specs.declared.Tally.{Tally}
-use Rattle.coord_rounds.specs.Counting.{targetFlags}
+use Rattle.coord_counts.specs.Counting.{targetFlags}
 use Rattle.coord_rounds.specs.Deciding.{answers, tallied, decided}
 use Rattle.coord_rounds.specs.declared.Decision.{Decision}
 use Rattle.coord_rounds.specs.declared.Decision.the-variants.{Abort, Give, Look, Store, Recover, Finish}

@@ -339,7 +339,7 @@ pub fn start_read(
         return refuse(c, drawn.number());
     };
     let op = first_op(READING, READ, time, first);
-    let targets = coord_rounds::target_flags(n, m, first);
+    let targets = coord_counts::target_flags(n, m, first);
     begin(next, op, targets)
 }
 

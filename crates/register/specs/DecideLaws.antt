@@ -19,7 +19,7 @@ use Rattle.coord_record.specs.Each.{some, some-at}
 use Rattle.coord_record.specs.Records.{noBricks}
 use Rattle.coord_record.specs.Sound.{maxRight, storedRight, readRight, writeRight, unsetOp, opRight, timeRight, sound}
 use Rattle.coord_record.specs.declared.Op.{Op}
-use Rattle.coord_rounds.specs.Counting.{saidNo}
+use Rattle.coord_counts.specs.Counting.{saidNo}
 use Rattle.coord_acts.specs.Acts.{roundMessage, trimMessage, nextOp, nextRound, ending, finishedSeen}
 use Rattle.coord_acts.specs.Steps.{Held, abortedSeen}
 use Rattle.order.specs.Claim.{Action, read, write, ok, bytes, changed, given, _∈_}

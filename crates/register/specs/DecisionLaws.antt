@@ -11,7 +11,7 @@ use Rattle.message.specs.Flags.{members}
 use Rattle.coord_record.specs.Each.{some}
 use Rattle.coord_record.specs.declared.Op.{Op}
 use Rattle.coord_record.specs.declared.Tally.{Tally}
-use Rattle.coord_rounds.specs.Counting.{saidNo, highest, otherTime, missing, atTimes}
+use Rattle.coord_counts.specs.Counting.{saidNo, highest, otherTime, missing, atTimes}
 use Rattle.coord_rounds.specs.Deciding.{decidedRead, unlessSpent, decidedAt, decidedRecovery, decided}
 use Rattle.coord_rounds.specs.declared.Decision.the-variants.{Abort, Give, Look, Store, Recover, Finish}
 

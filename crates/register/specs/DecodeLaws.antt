@@ -17,7 +17,7 @@ use Rattle.erasure.specs.Code.{codedOf, decodedOf}
 use Rattle.erasure.specs.Theorems
 use Rattle.erasure.specs.Theorems.{blocksOf, Stripe, decode-encode}
 use Rattle.coord_record.specs.Rules.{above, isTarget}
-use Rattle.coord_rounds.specs.Counting.{passing, inRow, upward, targetRow}
+use Rattle.coord_counts.specs.Counting.{passing, inRow, upward, targetRow}
 use Rattle.coord_acts.specs.Acts.{blockOf, gathered, stripeFrom}
 
 stacked-cong : (k : ℕ) (f g : ℕ → List ℕ) → ((i : ℕ) → i < k → f i ≡ g i) → stacked k f ≡ stacked k g

@@ -14,7 +14,7 @@ use Rattle.message.specs.Flags.{member, members}
 use Rattle.erasure.specs.Theorems.{Stripe}
 use Rattle.coord_record.specs.Each.{some, some-at}
 use Rattle.coord_record.specs.Rules.{isTarget, blockRight}
-use Rattle.coord_rounds.specs.Counting.{saidNo, highest, otherTime, missing, targetRow}
+use Rattle.coord_counts.specs.Counting.{saidNo, highest, otherTime, missing, targetRow}
 use Rattle.coord_acts.specs.Acts.{blockOf, stripeFrom, ending}
 use Rattle.coord_acts.specs.Steps.{Held, readSeen}
 use Rattle.order.specs.Claim.{read, bytes, changed, given, _∈_}

@@ -23,7 +23,7 @@ use Rattle.image.specs.ParseLaws.{parse-image}
 use Rattle.coord_record.specs.Records.{noBricks}
 use Rattle.coord_record.specs.Rules.{tallyRight}
 use Rattle.coord_record.specs.Sound.{opRight, readRight, writeRight, sound}
-use Rattle.coord_rounds.specs.Counting.{targetFlags}
+use Rattle.coord_counts.specs.Counting.{targetFlags}
 use Rattle.coord_rounds.specs.Deciding.{tallied, decided}
 use Rattle.coord_acts.specs.Acts.{placed, ending, acted, withTally, counting, waitingOr, firstOp, starting}
 use Rattle.coord_acts.specs.Steps.{Held, Went, Step, refused, went, checked, nothingSeen, cutSeen}

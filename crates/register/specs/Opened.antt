@@ -49,7 +49,7 @@ unfolding Rattle.coord_record.specs.Each.each Rattle.coord_record.specs.Each.s
 coord-record-open = tt
 
 unfoldable pub coord-rounds-open : Unit {0}
-unfolding Rattle.coord_rounds.specs.Counting.saidNo Rattle.coord_rounds.specs.Counting.highest Rattle.coord_rounds.specs.Counting.otherTime Rattle.coord_rounds.specs.Counting.missing Rattle.coord_rounds.specs.Counting.atTime Rattle.coord_rounds.specs.Counting.atTimes Rattle.coord_rounds.specs.Counting.passing Rattle.coord_rounds.specs.Counting.inRow Rattle.coord_rounds.specs.Counting.picked Rattle.coord_rounds.specs.Counting.upward Rattle.coord_rounds.specs.Counting.targetRow Rattle.coord_rounds.specs.Counting.targetFlag Rattle.coord_rounds.specs.Counting.targetFlags Rattle.coord_rounds.specs.Deciding.answers Rattle.coord_rounds.specs.Deciding.tallied Rattle.coord_rounds.specs.Deciding.decidedRead Rattle.coord_rounds.specs.Deciding.unlessSpent Rattle.coord_rounds.specs.Deciding.decidedAt Rattle.coord_rounds.specs.Deciding.decidedRecovery Rattle.coord_rounds.specs.Deciding.decided
+unfolding Rattle.coord_counts.specs.Counting.saidNo Rattle.coord_counts.specs.Counting.highest Rattle.coord_counts.specs.Counting.otherTime Rattle.coord_counts.specs.Counting.missing Rattle.coord_counts.specs.Counting.atTime Rattle.coord_counts.specs.Counting.atTimes Rattle.coord_counts.specs.Counting.passing Rattle.coord_counts.specs.Counting.inRow Rattle.coord_counts.specs.Counting.picked Rattle.coord_counts.specs.Counting.upward Rattle.coord_counts.specs.Counting.targetRow Rattle.coord_counts.specs.Counting.targetFlag Rattle.coord_counts.specs.Counting.targetFlags Rattle.coord_rounds.specs.Deciding.answers Rattle.coord_rounds.specs.Deciding.tallied Rattle.coord_rounds.specs.Deciding.decidedRead Rattle.coord_rounds.specs.Deciding.unlessSpent Rattle.coord_rounds.specs.Deciding.decidedAt Rattle.coord_rounds.specs.Deciding.decidedRecovery Rattle.coord_rounds.specs.Deciding.decided
 coord-rounds-open = tt
 
 unfoldable pub coord-acts-open : Unit {0}

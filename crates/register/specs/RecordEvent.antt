@@ -22,7 +22,7 @@ use Rattle.coord_record.specs.Records.{nothingCounted, noBricks, noOp, idleWith
 use Rattle.coord_record.specs.Rules.{bricksRight, tallyRight}
 use Rattle.coord_record.specs.Sound.{maxRight, storedRight, readRight, writeRight, unsetOp, namedCount, opRight, timeRight, sound}
 use Rattle.coord_record.specs.declared.Op.{Op}
-use Rattle.coord_rounds.specs.Counting.{saidNo, highest, otherTime, missing, atTimes, picked, targetRow}
+use Rattle.coord_counts.specs.Counting.{saidNo, highest, otherTime, missing, atTimes, picked, targetRow}
 use Rattle.coord_rounds.specs.Deciding.{decided}
 use Rattle.coord_rounds.specs.declared.Decision.{Decision}
 use Rattle.coord_rounds.specs.declared.Decision.the-variants.{Abort, Give, Look, Store, Recover, Finish}

@@ -26,7 +26,7 @@ use Rattle.coord_record.specs.Rules.{isTarget, blockRight, countedRight, entryR
 use Rattle.coord_record.specs.Sound.{namedCount, opRight, timeRight, filledRight, sound}
 use Rattle.coord_record.specs.declared.Coordinator.{Coordinator}
 use Rattle.coord_record.specs.declared.Tally.{Tally}
-use Rattle.coord_rounds.specs.Counting.{highest, atTimes, passing, inRow, picked}
+use Rattle.coord_counts.specs.Counting.{highest, atTimes, passing, inRow, picked}
 use Rattle.coord_rounds.specs.Deciding.{tallied}
 use Rattle.register.specs.Invariant.{Wide}
 use Rattle.register.specs.StartEvent.{none-member}

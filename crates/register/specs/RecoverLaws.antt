@@ -18,7 +18,7 @@ use Rattle.erasure.specs.Code.{codedOf}
 use Rattle.erasure.specs.Theorems.{Stripe}
 use Rattle.coord_record.specs.Each.{some}
 use Rattle.coord_record.specs.Records.{noBricks}
-use Rattle.coord_rounds.specs.Counting.{saidNo, highest, atTime, atTimes, picked}
+use Rattle.coord_counts.specs.Counting.{saidNo, highest, atTime, atTimes, picked}
 use Rattle.coord_acts.specs.Acts.{blockOf, stripeFrom, roundMessage, nextOp, nextRound}
 use Rattle.coord_acts.specs.Steps.{Held}
 use Rattle.order.specs.Claim.{changed, _∈_}

@@ -16,7 +16,7 @@ use Rattle.settings.specs.declared.Settings.{Settings}
 use Rattle.message.specs.Flags.{members}
 use Rattle.message.specs.declared.Reply.{Reply}
 use Rattle.coord_record.specs.Each.{some}
-use Rattle.coord_rounds.specs.Counting.{saidNo, highest, otherTime, missing, atTimes}
+use Rattle.coord_counts.specs.Counting.{saidNo, highest, otherTime, missing, atTimes}
 use Rattle.coord_rounds.specs.Deciding.{decided}
 use Rattle.coord_rounds.specs.declared.Decision.{Decision}
 use Rattle.coord_rounds.specs.declared.Decision.the-variants.{Abort, Give, Look, Store, Recover, Finish}

@@ -22,7 +22,7 @@ use Rattle.little.specs.LittleLaws.{Bytes}
 use Rattle.message.specs.Flags.{member}
 use Rattle.erasure.specs.Theorems.{Stripe}
 use Rattle.coord_record.specs.Records.{nothingCounted, noBricks}
-use Rattle.coord_rounds.specs.Counting.{targetFlags}
+use Rattle.coord_counts.specs.Counting.{targetFlags}
 use Rattle.coord_acts.specs.Acts.{roundMessage, firstOp, starting}
 use Rattle.coord_acts.specs.Steps.{Held, Broadcast, Went, refused, checked}
 use Rattle.coordinator.specs.Checks.{writeRefusal, readRefusal}

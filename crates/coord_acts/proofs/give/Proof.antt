@@ -9,7 +9,7 @@ use Rattle.coord_acts.proofs.give.Lts as lts
 use Rattle.coord_acts.proofs.decode_from.Reads as decode-from-reads
 use Rattle.coord_acts.proofs.end.Reads as end-reads
 use Rattle.coord_acts.proofs.no_message.Reads as no-message-reads
-use Rattle.coord_rounds.proofs.target_row.Reads as target-row-reads
+use Rattle.coord_counts.proofs.target_row.Reads as target-row-reads
 
 -- src/lib.rt:250:9
 target-row-requires : tie.Need-target-row-requires

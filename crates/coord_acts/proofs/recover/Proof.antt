@@ -6,7 +6,7 @@ use Rattle.coord_acts.proofs.recover.Tie as tie
 use Rattle.coord_acts.proofs.recover.Reads as reads
 use Rattle.coord_acts.proofs.recover.Lts as lts
 use Rattle.coord_acts.proofs.decode_from.Reads as decode-from-reads
-use Rattle.coord_rounds.proofs.pick.Reads as pick-reads
+use Rattle.coord_counts.proofs.pick.Reads as pick-reads
 
 -- src/lib.rt:284:9
 pick-requires : tie.Need-pick-requires

@@ -4,10 +4,10 @@ use Rattle.coord_rounds.proofs.decide.Statement.{statement}
 use Rattle.coord_rounds.proofs.decide.Tie as tie
 use Rattle.coord_rounds.proofs.decide.Reads as reads
 use Rattle.coord_rounds.proofs.decide.Lts as lts
-use Rattle.coord_rounds.proofs.any_no.Reads as any-no-reads
+use Rattle.coord_counts.proofs.any_no.Reads as any-no-reads
 use Rattle.coord_rounds.proofs.decide_at.Reads as decide-at-reads
 use Rattle.coord_rounds.proofs.decide_read.Reads as decide-read-reads
-use Rattle.coord_rounds.proofs.highest_of.Reads as highest-of-reads
+use Rattle.coord_counts.proofs.highest_of.Reads as highest-of-reads
 use Rattle.message.proofs.members_of.Reads as members-of-reads
 
 -- src/lib.rt:308:9

@@ -4,7 +4,7 @@ use Rattle.coord_rounds.proofs.decide_at.Statement.{statement}
 use Rattle.coord_rounds.proofs.decide_at.Tie as tie
 use Rattle.coord_rounds.proofs.decide_at.Reads as reads
 use Rattle.coord_rounds.proofs.decide_at.Lts as lts
-use Rattle.coord_rounds.proofs.count_at.Reads as count-at-reads
+use Rattle.coord_counts.proofs.count_at.Reads as count-at-reads
 
 -- src/lib.rt:286:13
 count-at-requires : tie.Need-count-at-requires

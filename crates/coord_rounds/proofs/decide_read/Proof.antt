@@ -5,10 +5,10 @@ use Rattle.coord_rounds.proofs.decide_read.Statement.{statement}
 use Rattle.coord_rounds.proofs.decide_read.Tie as tie
 use Rattle.coord_rounds.proofs.decide_read.Reads as reads
 use Rattle.coord_rounds.proofs.decide_read.Lts as lts
-use Rattle.coord_rounds.proofs.any_missing.Reads as any-missing-reads
-use Rattle.coord_rounds.proofs.any_no.Reads as any-no-reads
-use Rattle.coord_rounds.proofs.any_other.Reads as any-other-reads
-use Rattle.coord_rounds.proofs.highest_of.Reads as highest-of-reads
+use Rattle.coord_counts.proofs.any_missing.Reads as any-missing-reads
+use Rattle.coord_counts.proofs.any_no.Reads as any-no-reads
+use Rattle.coord_counts.proofs.any_other.Reads as any-other-reads
+use Rattle.coord_counts.proofs.highest_of.Reads as highest-of-reads
 
 -- src/lib.rt:266:8
 any-no-requires : tie.Need-any-no-requires

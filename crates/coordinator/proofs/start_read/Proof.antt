@@ -5,7 +5,7 @@ use Rattle.coordinator.proofs.start_read.Statement.{statement}
 use Rattle.coordinator.proofs.start_read.Tie as tie
 use Rattle.coordinator.proofs.start_read.Reads as reads
 use Rattle.coordinator.proofs.start_read.Lts as lts
-use Rattle.coord_rounds.proofs.target_flags.Reads as target-flags-reads
+use Rattle.coord_counts.proofs.target_flags.Reads as target-flags-reads
 use Rattle.coordinator.proofs.begin.Reads as begin-reads
 use Rattle.coordinator.proofs.first_op.Reads as first-op-reads
 use Rattle.coordinator.proofs.read_refusal.Reads as read-refusal-reads

@@ -7,14 +7,14 @@ use mathlib.Core.Path.{_≡_, refl, sym, ap, subst, _∙_}
 use mathlib.Core.Bool.{Bool, true, false}
 use mathlib.Core.List.{List}
 use Prim.Native.Nat.{ℕ, _+_, _-_, _≤_, _<_}
-use Rattle.coord_rounds.specs.Counting.{atTimes, upward, targetFlag, targetFlags}
-use Rattle.coord_rounds.specs.RowLaws.{Picks, picks-none, picks-not, picks-full, picks-more, picks-all, picks-same, targets-none, targets-all, flags-all}
+use Rattle.coord_counts.specs.Counting.{atTimes, upward, targetFlag, targetFlags}
+use Rattle.coord_counts.specs.RowLaws.{Picks, picks-none, picks-not, picks-full, picks-more, picks-all, picks-same, targets-none, targets-all, flags-all}
 use Rattle.interpolate.specs.Tabulate.{Filled, filled-none, filled-more, filled-all}
-use Rattle.coord_rounds.proofs.pick.Statement.{statement}
-use Rattle.coord_rounds.proofs.pick.Tie as tie
-use Rattle.coord_rounds.proofs.pick.Reads as reads
-use Rattle.coord_rounds.proofs.pick.Lts as lts
-use Rattle.coord_rounds.proofs.at_time.Reads as at-time-reads
+use Rattle.coord_counts.proofs.pick.Statement.{statement}
+use Rattle.coord_counts.proofs.pick.Tie as tie
+use Rattle.coord_counts.proofs.pick.Reads as reads
+use Rattle.coord_counts.proofs.pick.Lts as lts
+use Rattle.coord_counts.proofs.at_time.Reads as at-time-reads
 
 abbrev Inv-loop : tie.InvT-loop
 Inv-loop time n m flags found row₀ k₀ b₀ row k b =

@@ -7,14 +7,14 @@ use mathlib.Core.Path.{_≡_, refl, sym, ap, subst, _∙_}
 use mathlib.Core.Bool.{Bool, true, false}
 use mathlib.Core.List.{List}
 use Prim.Native.Nat.{ℕ, _+_, _-_, _≤_, _<_}
-use Rattle.coord_rounds.specs.Counting.{atTimes, upward, targetFlag, targetFlags}
-use Rattle.coord_rounds.specs.RowLaws.{Picks, picks-none, picks-not, picks-full, picks-more, picks-all, targets-none, targets-all, flags-all}
+use Rattle.coord_counts.specs.Counting.{atTimes, upward, targetFlag, targetFlags}
+use Rattle.coord_counts.specs.RowLaws.{Picks, picks-none, picks-not, picks-full, picks-more, picks-all, targets-none, targets-all, flags-all}
 use Rattle.interpolate.specs.Tabulate.{Filled, filled-none, filled-more, filled-all}
-use Rattle.coord_rounds.proofs.target_flags.Statement.{statement}
-use Rattle.coord_rounds.proofs.target_flags.Tie as tie
-use Rattle.coord_rounds.proofs.target_flags.Reads as reads
-use Rattle.coord_rounds.proofs.target_flags.Lts as lts
-use Rattle.coord_rounds.proofs.target_flag.Reads as target-flag-reads
+use Rattle.coord_counts.proofs.target_flags.Statement.{statement}
+use Rattle.coord_counts.proofs.target_flags.Tie as tie
+use Rattle.coord_counts.proofs.target_flags.Reads as reads
+use Rattle.coord_counts.proofs.target_flags.Lts as lts
+use Rattle.coord_counts.proofs.target_flag.Reads as target-flag-reads
 
 abbrev Inv-loop : tie.InvT-loop
 Inv-loop n m first flags₀ b₀ flags b =

@@ -11,7 +11,7 @@ use lib.Dec.{ltb}
 use lib.ListN.{length, getD, take, length-append, length-take, List·getD-append}
 use lib.Seq.{getD-at, getD-take, length-take-le}
 use borrow.Author.Tests.{lt-ltb, ltb-true, ltb-false}
-use Rattle.coord_rounds.specs.Counting.{passing, inRow, picked, atTimes, upward, targetRow}
+use Rattle.coord_counts.specs.Counting.{passing, inRow, picked, atTimes, upward, targetRow}
 use Rattle.interpolate.specs.RowLaws.{PointSet}
 use Rattle.interpolate.specs.Tabulate.{tabulate, length-tabulate, getD-tabulate}
 use Rattle.settings.specs.Count.{count, one-if}

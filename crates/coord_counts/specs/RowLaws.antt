@@ -13,7 +13,7 @@ use lib.ListN.{length, getD, take, set, replicate, length-append, length-take, l
 use lib.Seq.{take-all, take-append-le, getD-at, getD-take, getD-set-same, getD-set-other}
 use borrow.Author.Tests.{lt-ltb, le-ltb, ltb-true, ltb-false}
 use Rattle.coord_record.specs.Rules.{isTarget}
-use Rattle.coord_rounds.specs.Counting.{passing, inRow, picked, atTimes, upward, targetRow, targetFlag, targetFlags}
+use Rattle.coord_counts.specs.Counting.{passing, inRow, picked, atTimes, upward, targetRow, targetFlag, targetFlags}
 use Rattle.interpolate.specs.Tabulate.{tabulate, Filled, tabulate-by, length-tabulate, getD-tabulate}
 use Rattle.settings.specs.Count.{count, one-if}
 

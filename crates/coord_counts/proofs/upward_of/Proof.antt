@@ -1,9 +1,9 @@
-use Rattle.coord_rounds.specs.RowLaws.{up-within, up-wrapped}
+use Rattle.coord_counts.specs.RowLaws.{up-within, up-wrapped}
 use borrow.Author.Needs.{needs}
-use Rattle.coord_rounds.proofs.upward_of.Statement.{statement}
-use Rattle.coord_rounds.proofs.upward_of.Tie as tie
-use Rattle.coord_rounds.proofs.upward_of.Reads as reads
-use Rattle.coord_rounds.proofs.upward_of.Lts as lts
+use Rattle.coord_counts.proofs.upward_of.Statement.{statement}
+use Rattle.coord_counts.proofs.upward_of.Tie as tie
+use Rattle.coord_counts.proofs.upward_of.Reads as reads
+use Rattle.coord_counts.proofs.upward_of.Lts as lts
 
 -- src/lib.rt:151:13
 add-b : tie.Need-add-b

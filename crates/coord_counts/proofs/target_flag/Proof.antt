@@ -1,9 +1,9 @@
-use Rattle.coord_rounds.specs.RowLaws.{flag-target, flag-none, flag-beyond}
+use Rattle.coord_counts.specs.RowLaws.{flag-target, flag-none, flag-beyond}
 use borrow.Author.Needs.{needs}
-use Rattle.coord_rounds.proofs.target_flag.Statement.{statement}
-use Rattle.coord_rounds.proofs.target_flag.Tie as tie
-use Rattle.coord_rounds.proofs.target_flag.Reads as reads
-use Rattle.coord_rounds.proofs.target_flag.Lts as lts
+use Rattle.coord_counts.proofs.target_flag.Statement.{statement}
+use Rattle.coord_counts.proofs.target_flag.Tie as tie
+use Rattle.coord_counts.proofs.target_flag.Reads as reads
+use Rattle.coord_counts.proofs.target_flag.Lts as lts
 use Rattle.coord_record.proofs.is_target.Reads as is-target-reads
 
 -- src/lib.rt:179:12

@@ -1,10 +1,10 @@
-use Rattle.coord_rounds.specs.Counting.{atTime}
+use Rattle.coord_counts.specs.Counting.{atTime}
 use borrow.Author.Tests.{eq-eqb, ne-eqb}
 use borrow.Author.Needs.{needs}
-use Rattle.coord_rounds.proofs.at_time.Statement.{statement}
-use Rattle.coord_rounds.proofs.at_time.Tie as tie
-use Rattle.coord_rounds.proofs.at_time.Reads as reads
-use Rattle.coord_rounds.proofs.at_time.Lts as lts
+use Rattle.coord_counts.proofs.at_time.Statement.{statement}
+use Rattle.coord_counts.proofs.at_time.Tie as tie
+use Rattle.coord_counts.proofs.at_time.Reads as reads
+use Rattle.coord_counts.proofs.at_time.Lts as lts
 
 -- src/lib.rt:69:9
 returns : tie.Need-returns

@@ -7,14 +7,14 @@ use mathlib.Core.Logic.{⊎-elim}
 use mathlib.Core.Path.{_≡_, refl, sym, ap, _∙_}
 use mathlib.Core.Bool.{Bool, true, false}
 use Prim.Native.Nat.{ℕ, _+_, _-_, _≤_, _<_}
-use Rattle.coord_rounds.specs.Counting.{saidNo, otherTime, missing, highest, atTime, atTimes}
-use Rattle.coord_rounds.specs.CountingLaws.{said-no, not-counted, said-yes, other-time, none-counted, same-time, is-missing, no-target, is-counted, found-some, found-none, highest-out, highest-under, highest-over, highest-all, count-yes, count-no, count-all}
+use Rattle.coord_counts.specs.Counting.{saidNo, otherTime, missing, highest, atTime, atTimes}
+use Rattle.coord_counts.specs.CountingLaws.{said-no, not-counted, said-yes, other-time, none-counted, same-time, is-missing, no-target, is-counted, found-some, found-none, highest-out, highest-under, highest-over, highest-all, count-yes, count-no, count-all}
 use Rattle.settings.specs.Count.{count}
-use Rattle.coord_rounds.proofs.count_at.Statement.{statement}
-use Rattle.coord_rounds.proofs.count_at.Tie as tie
-use Rattle.coord_rounds.proofs.count_at.Reads as reads
-use Rattle.coord_rounds.proofs.count_at.Lts as lts
-use Rattle.coord_rounds.proofs.at_time.Reads as at-time-reads
+use Rattle.coord_counts.proofs.count_at.Statement.{statement}
+use Rattle.coord_counts.proofs.count_at.Tie as tie
+use Rattle.coord_counts.proofs.count_at.Reads as reads
+use Rattle.coord_counts.proofs.count_at.Lts as lts
+use Rattle.coord_counts.proofs.at_time.Reads as at-time-reads
 
 abbrev Inv-loop : tie.InvT-loop
 Inv-loop time n flags found sum₀ b₀ sum b =

@@ -7,13 +7,13 @@ use mathlib.Core.Logic.{⊎-elim}
 use mathlib.Core.Path.{_≡_, refl, sym, ap, _∙_}
 use mathlib.Core.Bool.{Bool, true, false}
 use Prim.Native.Nat.{ℕ, _+_, _-_, _≤_, _<_}
-use Rattle.coord_rounds.specs.Counting.{saidNo, otherTime, missing, highest, atTime, atTimes}
-use Rattle.coord_rounds.specs.CountingLaws.{said-no, not-counted, said-yes, other-time, none-counted, same-time, is-missing, no-target, is-counted, found-some, found-none, highest-out, highest-under, highest-over, highest-all, count-yes, count-no, count-all}
+use Rattle.coord_counts.specs.Counting.{saidNo, otherTime, missing, highest, atTime, atTimes}
+use Rattle.coord_counts.specs.CountingLaws.{said-no, not-counted, said-yes, other-time, none-counted, same-time, is-missing, no-target, is-counted, found-some, found-none, highest-out, highest-under, highest-over, highest-all, count-yes, count-no, count-all}
 use Rattle.settings.specs.Count.{count}
-use Rattle.coord_rounds.proofs.any_missing.Statement.{statement}
-use Rattle.coord_rounds.proofs.any_missing.Tie as tie
-use Rattle.coord_rounds.proofs.any_missing.Reads as reads
-use Rattle.coord_rounds.proofs.any_missing.Lts as lts
+use Rattle.coord_counts.proofs.any_missing.Statement.{statement}
+use Rattle.coord_counts.proofs.any_missing.Tie as tie
+use Rattle.coord_counts.proofs.any_missing.Reads as reads
+use Rattle.coord_counts.proofs.any_missing.Lts as lts
 use Rattle.coord_record.proofs.is_target.Reads as is-target-reads
 
 abbrev Inv-loop : tie.InvT-loop
