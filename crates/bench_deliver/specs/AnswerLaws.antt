@@ -12,7 +12,7 @@ use Rattle.message.specs.declared.Message.{Message}
 use Rattle.message.specs.declared.Reply.{Reply}
 use Rattle.image.specs.Parse.{Parsed, Opens, Refuses, parse}
 use Rattle.brick.specs.Receive.{outcome, acted, givenBy, refusedWith, receiveRefusal}
-use Rattle.brick.specs.Steps.{replyTo}
+use Rattle.brick_plan.specs.Steps.{replyTo}
 use Rattle.brick.specs.declared.Given.{Given}
 use Rattle.brick.specs.declared.Given.the-variants.{Answered, Silent, Refused}
 use Rattle.register.specs.Runs.{reply, repliedWith}

@@ -14,7 +14,7 @@ use Rattle.message.specs.declared.Message.{Message}
 use Rattle.message.specs.declared.Reply.{Reply}
 use Rattle.image.specs.Parse.{Parsed, Opens, Refuses, parse}
 use Rattle.brick.specs.Receive.{Outcome, receiveRefusal, refusedWith, givenBy, acted, outcome}
-use Rattle.brick.specs.Steps.{replyTo}
+use Rattle.brick_plan.specs.Steps.{replyTo}
 use Rattle.brick.specs.declared.Given.{Given}
 use Rattle.brick.specs.declared.Given.the-variants.{Answered, Silent, Refused}
 use Rattle.coord_acts.specs.Steps.{Step, refused, went, Went}

@@ -23,9 +23,9 @@ use Rattle.settings.specs.Refusal.{refuseUnless}
 use Rattle.message.specs.Messages.{messageRefusal, roundRight, kindRight}
 use Rattle.image.specs.Opening.{workingLog}
 use borrow.Author.Count.{below-more}
-use Rattle.brick.specs.LookLaws.{Cut, cut-at, cut-last, blankEntry}
+use Rattle.brick_plan.specs.LookLaws.{Cut, cut-at, cut-last, blankEntry}
 use Rattle.saving.specs.StepLaws.{without-count, without-time, without-held, appended-count, appended-time-old, appended-held-old, appended-time-new, appended-held-new}
-use Rattle.brick.specs.Steps.{aboveNewest, notBelowPromise, hasFree, readYes, orderYes, writeYes, ordered, written, trimmed, trimmedTo, under, lookup, yesTo, after}
+use Rattle.brick_plan.specs.Steps.{aboveNewest, notBelowPromise, hasFree, readYes, orderYes, writeYes, ordered, written, trimmed, trimmedTo, under, lookup, yesTo, after}
 use Rattle.brick.specs.TrimLaws.{rises-next, rises-add, cut-trims}
 
 -- the brick after a message, by its kind

@@ -15,7 +15,7 @@ use Rattle.message.specs.declared.Message.{Message}
 use Rattle.image.specs.Parse.{Parsed, Opens, Refuses, brickIn, parse, openRefusal}
 use Rattle.image.specs.ParseLaws.{parse-opens}
 use Rattle.image.specs.Brick.{Brick}
-use Rattle.brick.specs.Steps.{replyTo}
+use Rattle.brick_plan.specs.Steps.{replyTo}
 use Rattle.brick.specs.Receive.{blocksRefusal, receiveRefusal, refusedWith, givenBy, acted, outcome}
 use Rattle.brick.specs.declared.Given.{Given}
 use Rattle.brick.specs.declared.Given.the-variants.{Answered, Silent, Refused}

@@ -29,12 +29,12 @@ use Rattle.image.specs.declared.Head.{Head}
 use Rattle.image.specs.declared.Opening.{Opening}
 use Rattle.image.specs.declared.Answer.the-variants.{Refused as Failed}
 use Rattle.saving.specs.Saving.{without}
-use Rattle.brick.specs.Steps.{notBelowPromise, aboveNewest, readYes, orderYes, lookup, trimmedTo, timeFor, placeFor, foundFor, yesTo, replyTo, after, blockAfter}
+use Rattle.brick_plan.specs.Steps.{notBelowPromise, aboveNewest, readYes, orderYes, lookup, trimmedTo, timeFor, placeFor, foundFor, yesTo, replyTo, after, blockAfter}
 use Rattle.brick.specs.Receive.{blocksRefusal, receiveRefusal, Outcome, refusedWith, givenBy, acted, outcome}
-use Rattle.brick.specs.LookLaws.{Ready, Ahead, Planned, Cut, blankEntry, underIn, under-brick, under-high, underFor, placeOf, timeOf, place-brick, time-brick, readPlace, gaveOf}
+use Rattle.brick_plan.specs.LookLaws.{Ready, Ahead, Planned, Cut, blankEntry, underIn, under-brick, under-high, underFor, placeOf, timeOf, place-brick, time-brick, readPlace, gaveOf}
 use Rattle.brick.specs.TrimLaws.{cut-trims}
-use Rattle.brick.specs.declared.Known.{Known}
-use Rattle.brick.specs.declared.Plan.{Plan}
+use Rattle.brick_plan.specs.declared.Known.{Known}
+use Rattle.brick_plan.specs.declared.Plan.{Plan}
 use Rattle.brick.specs.declared.Given.{Given}
 use Rattle.brick.specs.declared.Given.the-variants.{Answered, Silent, Refused}
 

@@ -16,8 +16,8 @@ use Rattle.image.specs.HubLaws.{log-at}
 use Rattle.image.specs.Opening.{workingLog}
 use Rattle.image.specs.declared.Entry.{Entry}
 use Rattle.saving.specs.Saving.{without}
-use Rattle.brick.specs.Steps.{trimmed, trimmedTo}
-use Rattle.brick.specs.LookLaws.{Cut, blankEntry}
+use Rattle.brick_plan.specs.Steps.{trimmed, trimmedTo}
+use Rattle.brick_plan.specs.LookLaws.{Cut, blankEntry}
 
 -- times rise
 pub rises-next : (s : Settings) (x : Brick) → Sound s x → (i : ℕ) → suc i < count x → timeAt x i < timeAt x (suc i)

@@ -1,260 +1,31 @@
 // One message at one brick (document 01, "What a brick does").
 ghost use mathlib.Core.Path.{_≡_};
-ghost use mathlib.Core.Bool.{_&&_};
-ghost use Prim.Native.Nat.{_+_, _*_, _≤_, _<_};
-ghost use lib.Dec.{leb, ltb};
 ghost use lib.ListN.{length};
-ghost use Rattle.message.specs.Flags.{member};
 ghost use Rattle.image.specs.Brick.{count};
 ghost use Rattle.image.specs.Image.{imageOf};
 ghost use Rattle.image.specs.Parse.{brickIn};
-ghost use Rattle.image.specs.Opening.{workingLog};
-ghost use Rattle.saving.specs.Saving.{without};
-ghost use Rattle.brick.specs.Steps.{orderYes, ordered, writeYes, written, placeFor, foundFor, yesTo, after, blockAfter};
+ghost use Rattle.brick_plan.specs.Steps.{placeFor, after, blockAfter};
 ghost use Rattle.brick.specs.Receive.{blocksRefusal, givenBy, outcome};
-ghost use Rattle.brick.specs.LookLaws.{Ready, Ahead, Cut, underIn, lookedIn, planIn, readPlace, Planned, gaveOf};
-use block::store;
+ghost use Rattle.brick_plan.specs.LookLaws.{Ready, Ahead};
+use brick_change::change;
+use brick_change::give;
+use brick_change::trim;
+use brick_plan::Known;
+use brick_plan::Plan;
+use brick_plan::plan_for;
 use image::Answer;
-use image::Entry;
 use image::number_of;
 use image::open;
-use image::place_of;
 use message::Message;
-use message::ORDER_READ;
-use message::READ;
 use message::Reply;
 use message::TRIM;
-use message::WRITE;
-use saving::clear_blocks;
-use saving::shift_blocks;
-use saving::write_entry;
-use saving::write_head;
 use settings::Settings;
-
-// What is known of an opened brick: how many entries, its promise and its newest time.
-pub struct Known {
-    pub count: usize,
-    pub promise: u64,
-    pub newest: u64,
-}
 
 // The answer to a message.
 pub enum Given {
     Answered(Reply),
     Silent,
     Refused(u32),
-}
-
-// The answer of a lookup: the entry that was found, or none.
-enum Looked {
-    Under(Entry),
-    Nothing,
-}
-
-// What a message asks for, found in the working log: the block that goes with the reply, by its number in the image, 0 for none;
-// the time that the reply names; the entries that a Trim drops.
-struct Plan {
-    place: usize,
-    found: u64,
-    cut: usize,
-}
-
-// Whether an Order of that time is granted.
-fn order_yes(newest: u64, promise: u64, time: u64) -> bool
-    ensures { λ r. ⌜ r ≡ ltb newest time && leb promise time ⌝ }
-{
-    if newest < time {
-        return promise <= time;
-    }
-    false
-}
-
-// The head with another promise, where that is granted.
-fn order(s: Settings, brick: usize, image: &mut [u8], k: Known, time: u64) -> bool
-    requires { ⌜ Ready s brick (now image) k ⌝ }
-    ensures { λ r. ⌜ r ≡ orderYes (brickIn s (now (image .entry))) time ⌝ }
-    ensures { λ r. ⌜ now (image .exit) ≡ imageOf s brick (ordered (brickIn s (now (image .entry))) time) ⌝ }
-{
-    if order_yes(k.newest, k.promise, time) {} else {
-        return false;
-    }
-    write_head(s, brick, image, k.count, time);
-    true
-}
-
-// An entry more, where that is granted.
-fn write(s: Settings, brick: usize, image: &mut [u8], k: Known, time: u64, block: &[u8]) -> bool
-    requires { ⌜ Ready s brick (now image) k ⌝ }
-    requires { ⌜ length (now block) ≡ s .size ⌝ }
-    ensures { λ r. ⌜ r ≡ writeYes s (brickIn s (now (image .entry))) time ⌝ }
-    ensures { λ r. ⌜ now (image .exit) ≡ imageOf s brick (written s (brickIn s (now (image .entry))) time (now (block .entry))) ⌝ }
-{
-    if order_yes(k.newest, k.promise, time) {} else {
-        return false;
-    }
-    if s.capacity <= k.count {
-        return false;
-    }
-    let n = k.count + 1;
-    write_entry(image, 512 * n, time, block);
-    write_head(s, brick, image, n, k.promise);
-    true
-}
-
-// How many entries a Trim drops: those under its time, other than the newest.
-fn cut_for(log: [Entry; 32], count: usize, time: u64) -> usize
-    requires { ⌜ (1 ≤ count) × (count ≤ 32) ⌝ }
-    ensures { λ r. ⌜ Cut log count time r ⌝ }
-{
-    let last = count - 1;
-    let mut d: usize = 0;
-    while d < last {
-        let e = log[d];
-        if time <= e.time {
-            return d;
-        }
-        d += 1;
-    }
-    d
-}
-
-// The entries from number d on, kept.
-fn trim(s: Settings, brick: usize, image: &mut [u8], k: Known, d: usize)
-    requires { ⌜ Ready s brick (now image) k ⌝ }
-    requires { ⌜ d < k .count ⌝ }
-    ensures { λ _. ⌜ now (image .exit) ≡ imageOf s brick (without (brickIn s (now (image .entry))) d) ⌝ }
-{
-    if d == 0 {
-        return;
-    }
-    let kept = k.count - d;
-    shift_blocks(image, d, kept);
-    clear_blocks(image, kept + 1, k.count + 1);
-    write_head(s, brick, image, kept, k.promise);
-}
-
-// The highest entry under max.
-fn look_under(log: [Entry; 32], count: usize, max: u64) -> Looked
-    requires { ⌜ count ≤ 32 ⌝ }
-    ensures { λ r. ⌜ r ≡ lookedIn log (underIn log max count) ⌝ }
-{
-    let mut n = count;
-    while 0 < n {
-        let i = n - 1;
-        let e = log[i];
-        if e.time < max {
-            return Looked::Under(e);
-        }
-        n = i;
-    }
-    Looked::Nothing
-}
-
-// The block and the time of the entry that a lookup gave, 0 for none.
-fn entry_plan(found: Looked) -> Plan
-    ensures { λ r. ⌜ r ≡ planIn found ⌝ }
-{
-    let Looked::Under(e) = found else {
-        return Plan {
-            place: 0,
-            found: 0,
-            cut: 0,
-        };
-    };
-    let h = e.holding;
-    Plan {
-        place: place_of(h),
-        found: e.time,
-        cut: 0,
-    }
-}
-
-// Whether a brick is a target.
-fn is_target(targets: [u8; 16], brick: usize) -> bool
-    requires { ⌜ brick < 16 ⌝ }
-    ensures { λ r. ⌜ r ≡ member targets brick ⌝ }
-{
-    targets[brick] == 1
-}
-
-// The newest block, where Read is granted and the brick is a target; else 0.
-fn read_place(k: Known, targets: [u8; 16], brick: usize) -> usize
-    requires { ⌜ brick < 16 ⌝ }
-    ensures { λ r. ⌜ r ≡ readPlace k targets brick ⌝ }
-{
-    if k.newest < k.promise {
-        return 0;
-    }
-    if is_target(targets, brick) {
-        return k.count;
-    }
-    0
-}
-
-// What a message asks for.
-fn plan_for(log: [Entry; 32], k: Known, msg: Message, brick: usize) -> Plan
-    requires { ⌜ (1 ≤ k .count) × (k .count ≤ 32) ⌝ }
-    requires { ⌜ brick < 16 ⌝ }
-    ensures { λ r. ⌜ Planned log k msg brick r ⌝ }
-{
-    if msg.kind == TRIM {
-        let d = cut_for(log, k.count, msg.time);
-        return Plan {
-            place: 0,
-            found: 0,
-            cut: d,
-        };
-    }
-    if msg.kind == READ {
-        let targets = msg.targets;
-        let p = read_place(k, targets, brick);
-        return Plan {
-            place: p,
-            found: k.newest,
-            cut: 0,
-        };
-    }
-    if msg.kind == ORDER_READ {
-        if order_yes(k.newest, k.promise, msg.time) {
-            let looked = look_under(log, k.count, msg.max);
-            return entry_plan(looked);
-        }
-    }
-    Plan {
-        place: 0,
-        found: 0,
-        cut: 0,
-    }
-}
-
-// A block of the image copied into the reply's buffer.
-fn give(image: &[u8], size: usize, place: usize, out: &mut [u8])
-    requires { ⌜ (length (now out) ≡ size) × (size ≤ 256) × (512 * (place + 1) ≤ length (now image)) ⌝ }
-    ensures { λ _. ⌜ now (out .exit) ≡ gaveOf (now (image .entry)) size place (now (out .entry)) ⌝ }
-{
-    if place == 0 {
-        return;
-    }
-    let a = 512 * place + 16;
-    let e = a + size;
-    store(out, 0, &image[a..e]);
-}
-
-// What a message other than Trim changes.
-fn change(s: Settings, brick: usize, image: &mut [u8], k: Known, msg: Message, block: &[u8]) -> bool
-    requires { ⌜ Ready s brick (now image) k ⌝ }
-    requires { ⌜ length (now block) ≡ s .size ⌝ }
-    requires { ⌜ (msg .kind ≡ 5 → ⊥) ⌝ }
-    ensures { λ r. ⌜ r ≡ yesTo s (brickIn s (now (image .entry))) msg ⌝ }
-    ensures { λ r. ⌜ now (image .exit) ≡ imageOf s brick (after s (brickIn s (now (image .entry))) msg (now (block .entry))) ⌝ }
-{
-    if msg.kind == READ {
-        return k.promise <= k.newest;
-    }
-    if msg.kind == WRITE {
-        return write(s, brick, image, k, msg.time, block);
-    }
-    order(s, brick, image, k, msg.time)
 }
 
 // The answer to a message that is not refused, and what it changes.

@@ -13,7 +13,7 @@ use Rattle.settings.specs.declared.Settings.{Settings}
 use Rattle.image.specs.Brick.{Brick, LogEntry, count, timeAt, heldAt, newest}
 use Rattle.image.specs.SoundLaws.{Sound}
 use Rattle.saving.specs.Saving
-use Rattle.brick.specs.Steps.{aboveNewest, notBelowPromise, hasFree, readYes, orderYes, writeYes, trimmed, trimmedTo, under}
+use Rattle.brick_plan.specs.Steps.{aboveNewest, notBelowPromise, hasFree, readYes, orderYes, writeYes, trimmed, trimmedTo, under}
 use Rattle.order.specs.Claim.{_∈_}
 use Rattle.order.specs.Facts.{Fact, promised, stored, showed, seen, shows}
 use Rattle.order.specs.Places.{Suf, whole, above, In}

@@ -13,7 +13,7 @@ use Rattle.settings.specs.declared.Settings.{Settings}
 use Rattle.image.specs.Brick.{Brick, LogEntry, noEntry, count, timeAt, heldAt, newest, savedTime, risesAt}
 use Rattle.image.specs.SoundLaws.{Sound}
 use Rattle.saving.specs.Saving.{promised, appended}
-use Rattle.brick.specs.Steps.{trimmed, trimmedTo}
+use Rattle.brick_plan.specs.Steps.{trimmed, trimmedTo}
 use Rattle.order.specs.Claim.{_∈_}
 
 -- the entry at a place is a member, and a member has a place

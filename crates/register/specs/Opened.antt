@@ -25,7 +25,7 @@ unfolding Rattle.saving.specs.Saving.freshAfter Rattle.saving.specs.Saving.pro
 saving-open = tt
 
 unfoldable pub brick-open : Unit {0}
-unfolding Rattle.brick.specs.Receive.blocksRefusal Rattle.brick.specs.Receive.receiveRefusal Rattle.brick.specs.Receive.refusedWith Rattle.brick.specs.Receive.givenBy Rattle.brick.specs.Receive.acted Rattle.brick.specs.Receive.outcome Rattle.brick.specs.Steps.aboveNewest Rattle.brick.specs.Steps.notBelowPromise Rattle.brick.specs.Steps.hasFree Rattle.brick.specs.Steps.readYes Rattle.brick.specs.Steps.orderYes Rattle.brick.specs.Steps.writeYes Rattle.brick.specs.Steps.ordered Rattle.brick.specs.Steps.written Rattle.brick.specs.Steps.trimmed Rattle.brick.specs.Steps.trimmedTo Rattle.brick.specs.Steps.under Rattle.brick.specs.Steps.lookup Rattle.brick.specs.Steps.placeFor Rattle.brick.specs.Steps.timeFor Rattle.brick.specs.Steps.foundFor Rattle.brick.specs.Steps.yesTo Rattle.brick.specs.Steps.replyTo Rattle.brick.specs.Steps.after Rattle.brick.specs.Steps.blockAfter
+unfolding Rattle.brick.specs.Receive.blocksRefusal Rattle.brick.specs.Receive.receiveRefusal Rattle.brick.specs.Receive.refusedWith Rattle.brick.specs.Receive.givenBy Rattle.brick.specs.Receive.acted Rattle.brick.specs.Receive.outcome Rattle.brick_plan.specs.Steps.aboveNewest Rattle.brick_plan.specs.Steps.notBelowPromise Rattle.brick_plan.specs.Steps.hasFree Rattle.brick_plan.specs.Steps.readYes Rattle.brick_plan.specs.Steps.orderYes Rattle.brick_plan.specs.Steps.writeYes Rattle.brick_plan.specs.Steps.ordered Rattle.brick_plan.specs.Steps.written Rattle.brick_plan.specs.Steps.trimmed Rattle.brick_plan.specs.Steps.trimmedTo Rattle.brick_plan.specs.Steps.under Rattle.brick_plan.specs.Steps.lookup Rattle.brick_plan.specs.Steps.placeFor Rattle.brick_plan.specs.Steps.timeFor Rattle.brick_plan.specs.Steps.foundFor Rattle.brick_plan.specs.Steps.yesTo Rattle.brick_plan.specs.Steps.replyTo Rattle.brick_plan.specs.Steps.after Rattle.brick_plan.specs.Steps.blockAfter
 brick-open = tt
 
 unfoldable pub gf256-open : Unit {0}

@@ -20,7 +20,7 @@ use Rattle.message.specs.declared.Reply.{Reply}
 use Rattle.image.specs.Brick.{Brick, LogEntry, noEntry, count, timeAt, heldAt, newest, savedTime}
 use Rattle.image.specs.SoundLaws.{Sound}
 use Rattle.saving.specs.Saving
-use Rattle.brick.specs.Steps.{readYes, orderYes, writeYes, ordered, written, trimmedTo, under, lookup, placeFor, timeFor, foundFor, yesTo, replyTo, after, blockAfter}
+use Rattle.brick_plan.specs.Steps.{readYes, orderYes, writeYes, ordered, written, trimmedTo, under, lookup, placeFor, timeFor, foundFor, yesTo, replyTo, after, blockAfter}
 use Rattle.order.specs.Claim.{_∈_}
 use Rattle.order.specs.Facts.{Fact, promised, stored, showed}
 use Rattle.order.specs.Places.{whole, above, In}

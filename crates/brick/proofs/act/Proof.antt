@@ -6,9 +6,9 @@ use Rattle.brick.proofs.act.Statement.{statement}
 use Rattle.brick.proofs.act.Tie as tie
 use Rattle.brick.proofs.act.Reads as reads
 use Rattle.brick.proofs.act.Lts as lts
-use Rattle.brick.proofs.change.Reads as change-reads
-use Rattle.brick.proofs.give.Reads as give-reads
-use Rattle.brick.proofs.trim.Reads as trim-reads
+use Rattle.brick_change.proofs.change.Reads as change-reads
+use Rattle.brick_change.proofs.give.Reads as give-reads
+use Rattle.brick_change.proofs.trim.Reads as trim-reads
 
 -- src/lib.rt:269:9
 trim-requires : tie.Need-trim-requires

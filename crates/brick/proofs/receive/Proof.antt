@@ -1,6 +1,6 @@
 use native.Mathlib.Omega.{arith}
 use Rattle.image.specs.HubLaws.{Hub, hub}
-use Rattle.brick.specs.LookLaws.{blankEntry}
+use Rattle.brick_plan.specs.LookLaws.{blankEntry}
 use Rattle.brick.specs.OutcomeLaws.{blocks-passed, ends-early, ends-unopened, ends-wrong, ends-acted, ready, ahead, log-is, hub-reads}
 use borrow.Author.Needs.{needs}
 use Rattle.brick.proofs.receive.Statement.{statement}
@@ -9,7 +9,7 @@ use Rattle.brick.proofs.receive.Reads as reads
 use Rattle.brick.proofs.receive.Lts as lts
 use Rattle.brick.proofs.act.Reads as act-reads
 use Rattle.brick.proofs.blocks_refusal.Reads as blocks-refusal-reads
-use Rattle.brick.proofs.plan_for.Reads as plan-for-reads
+use Rattle.brick_plan.proofs.plan_for.Reads as plan-for-reads
 use Rattle.image.proofs.number_of.Reads as number-of-reads
 use Rattle.image.proofs.open.Reads as open-reads
 use Rattle.message.proofs.Message.refusal.Reads as refusal-reads

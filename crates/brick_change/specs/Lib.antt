@@ -1,0 +1,2 @@
+-- Laws: ActLaws.
+pub mod ActLaws
