@@ -62,7 +62,7 @@ module _ (s : Settings) (g : SettingsRange s) where
   step-goes h r i (startWrite c reading content small) = write-starts s g h r i c reading content small
   step-goes h r i (startRead c reading first) = read-starts s g h r i c reading first
   step-goes h r i (arrives k) = place-arrives h r i (r .world .sent) (λ z m. m) k
-  step-goes h r i (crashes c) = crash-goes s g h r i c
+  step-goes h r i (crashes c left) = crash-goes s g h r i c left
   step-goes h r i (goesDown b) = stands h r i b false
   step-goes h r i (comesUp b) = stands h r i b true
 
