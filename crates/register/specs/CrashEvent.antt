@@ -47,7 +47,7 @@ left-by s (lost blocks stripe) k P p f = go (buffersFit s blocks stripe) refl
     go true e = let w = long s blocks stripe e in f blocks stripe (w .0) (w .1)
     go false e = p
 
--- an idle coordinator is sure of nothing in its buffers
+-- nothing is asked of an idle coordinator's buffers
 left-turned : (s : Settings) (g : SettingsRange s) (h : Hist s) (sent : List Item) (c : ℕ) (left : Left) (w : Went)
     → w .next .state .op .kind ≡ 0 → ((a b : List ℕ) → seenOf s (w .seen) a ≡ seenOf s (w .seen) b) → Turned s g h sent c w
     → Turned s g h sent c (record { next = leaving s left (w .next); sent = w .sent; seen = w .seen })

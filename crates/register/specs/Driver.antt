@@ -46,7 +46,32 @@ use Rattle.coord_acts.specs.Steps.{
 use Rattle.coord_acts.specs.declared.Answer.{Answer}
 use Rattle.coordinator.specs.Rules.{takeStep, crashStep, crashed, drawnThen, writeStep, readStep}
 use Rattle.order.specs.Claim.{Seen}
-use Rattle.register.specs.Runs.{plain, Item, message, reply, World, startWrite, startRead, untouched, lost, crashes, Moved, unmoved, putAt, seenOf, blockFor, toAll, broadcasts, coordinated, received, arriving, buffersFit, leaving, leftBy, step}
+use Rattle.register.specs.Runs.{
+  plain,
+  Item,
+  message,
+  reply,
+  World,
+  startWrite,
+  startRead,
+  untouched,
+  lost,
+  crashes,
+  Moved,
+  unmoved,
+  putAt,
+  seenOf,
+  blockFor,
+  toAll,
+  broadcasts,
+  coordinated,
+  received,
+  arriving,
+  buffersFit,
+  leaving,
+  leftBy,
+  step,
+}
 
 -- What a driver does with a coordinator's answer, and the buffers it had lent: it keeps the record, sends the message to all n bricks
 -- with the blocks of the output buffer, and notes what is seen.
@@ -119,13 +144,13 @@ coordinated-is-driven s w c (went g) old h =
     makes : (ℕ → Held) → List Item → List (Seen (plain s)) → Moved s
     makes f l seen = record { world = record { images = w .images; up = w .up; coordinators = f; sent = l }; seen = seen }
 
--- a crash that leaves the buffers
+-- what a crash leaves: the buffers as they were,
 pub left-untouched : (s : Settings) (p : Step) → leftBy s untouched p ≡ p
 unfolding leftBy leaving
 left-untouched s (refused number) = refl
 left-untouched s (went g) = refl
 
--- and one that loses them
+-- or other lists of the right lengths
 left-lost : (s : Settings) (blocks stripe : List ℕ) (h : Held) → length blocks ≡ s .n * s .size → length stripe ≡ s .m * s .size
     → leaving s (lost blocks stripe) h ≡ record { state = h .state; blocks = blocks; stripe = stripe }
 unfolding leaving buffersFit
@@ -206,7 +231,7 @@ pub take-short : (n m size : ℕ) (k : Held) (r : Reply) (block : List ℕ) (cod
 unfolding takeStep
 take-short n m size k r block coded = checked-short _ (went (waitingOr n m size (counting size k r block))) (waiting-short n m size (counting size k r block))
 
--- The events of a run, as calls: each is what the driver makes of the routine's answer. A reply, a start, a crash:
+-- The events of a run, as calls: each is what the driver makes of the routine's answer. A reply, a start:
 module _ (s : Settings) (w : World) (old : List ℕ) where
   -- what the driver makes of a routine whose contract gives the parts of this step
   abbrev pub called : ℕ → Step → Moved s

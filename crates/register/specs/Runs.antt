@@ -164,7 +164,8 @@ standing s w b how =
 unfoldable pub buffersFit : Settings → (blocks stripe : List ℕ) → Bool
 buffersFit s blocks stripe = eqb (length blocks) (s .n * s .size) && eqb (length stripe) (s .m * s .size)
 
--- "A crash makes the coordinator idle and keeps its count": so much is sure of the record. The buffers beside it may hold anything that fits.
+-- "A crash makes the coordinator idle and keeps its count": so much is sure of the record. The buffers beside it may hold any lists that
+-- fit (others are passed over); so may those of an idle coordinator, at whose crash nothing is seen.
 unfoldable pub leaving : Settings → Left → Held → Held
 leaving s untouched h = h
 leaving s (lost blocks stripe) h = cond (buffersFit s blocks stripe) (record { state = h .state; blocks = blocks; stripe = stripe }) h

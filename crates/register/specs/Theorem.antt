@@ -76,7 +76,7 @@ module _ (s : Settings) (g : SettingsRange s) where
   unfolding run
   run-holds events = from-holds (unmoved s (fresh s)) ([], fresh-holds s g) events
 
--- For every settings in range and every list of events, the operations have one order.
+-- For every settings in range and every list of events, whatever its crashes leave in the buffers, the operations have one order.
 pub every-run-has-one-order : (s : Settings) → settingsRefusal s ≡ 0 → (events : List Event) → RunHasOneOrder s events
 every-run-has-one-order s e events =
     let w = run-holds s (settings-passed s e) events in
