@@ -175,6 +175,8 @@ struct Faults {
     down: u64,
     /// A coordinator that has sent a Write round crashes after a few of its messages.
     short: u64,
+    /// A crash takes the bytes of the coordinator's lent buffers: they hold others then.
+    buffers: u64,
     rising: bool,
     /// How many operations run beside each other at most.
     beside: usize,
@@ -213,6 +215,8 @@ struct World {
     event: usize,
     clock: u64,
     used: HashSet<Vec<u8>>,
+    /// Crashes that took the bytes of the lent buffers.
+    overwritten: usize,
     faults: Faults,
 }
 
@@ -242,6 +246,7 @@ impl World {
             event: 0,
             clock: 0,
             used: HashSet::from([vec![0; m * size]]),
+            overwritten: 0,
             faults,
         }
     }
@@ -325,12 +330,17 @@ impl World {
         }
     }
 
-    fn crash(&mut self, c: usize) {
+    fn crash(&mut self, c: usize, rng: &mut Rng) {
         self.event += 1;
         let three = self.three();
         let lent = &mut self.coordinators[c].lent;
         assert_eq!(proved::crash(three, lent), 0);
         self.after(c);
+        if once(rng, self.faults.buffers) {
+            let Coordinator { blocks, stripe, coded, .. } = &mut self.coordinators[c];
+            [blocks, stripe, coded].into_iter().for_each(|buffer| *buffer = rng.bytes(buffer.len()));
+            self.overwritten += 1;
+        }
         if self.faults.broken == Break::ClocksForget {
             self.coordinators[c].lent = Lent::fresh(c as u64);
         }
@@ -401,7 +411,7 @@ impl World {
             } else {
                 running[rng.below(running.len() as u64) as usize]
             };
-            self.crash(c);
+            self.crash(c, rng);
         }
         if once(rng, faults.down) {
             self.switch(rng.below(n as u64) as usize, false);
@@ -444,7 +454,7 @@ impl World {
             if rng.once_in(2) {
                 self.fresh.retain(|&place| !(rounds..rounds + n).contains(&place));
             }
-            self.crash((time % 16) as usize);
+            self.crash((time % 16) as usize, rng);
         }
     }
 
@@ -452,7 +462,7 @@ impl World {
     fn unstick(&mut self, rng: &mut Rng) {
         for c in self.running() {
             if rng.once_in(2) {
-                self.crash(c);
+                self.crash(c, rng);
             } else {
                 let time = self.coordinators[c].lent.numbers[2];
                 let of_it = |sent: &Sent| match sent {
@@ -482,7 +492,7 @@ impl World {
         // Mostly all are cut that still run; some run on beside the last reads.
         for c in self.running() {
             if !rng.once_in(4) {
-                self.crash(c);
+                self.crash(c, rng);
             }
         }
         (0..self.four.0).for_each(|b| self.switch(b, true));
@@ -506,6 +516,7 @@ impl World {
         let all = &self.operations;
         tally.add("runs", 1);
         tally.add("operations", all.len());
+        tally.add("crash with other bytes in the buffers", self.overwritten);
         let runs_at =
             |event: usize| all.iter().filter(|o| o.began <= event && o.ended.as_ref().is_none_or(|(end, _)| *end > event)).count();
         let at_once = all.iter().map(|o| runs_at(o.began)).max().unwrap_or(0);
@@ -564,6 +575,7 @@ fn some_faults(rng: &mut Rng) -> Faults {
         crash: pick(rng, &[0, 0, 300, 100]),
         down: pick(rng, &[0, 0, 60, 20]),
         short: pick(rng, &[0, 4, 2, 1]),
+        buffers: pick(rng, &[0, 2, 1]),
         rising: !rng.once_in(4),
         beside: pick(rng, &[1, 1, 1, 2, 3, 16]) as usize,
         coordinators: pick(rng, &[1, 2, 3, 16, 16]),
@@ -617,6 +629,7 @@ fn small_runs_by_brute_force() {
     println!("{:?}", tally.0);
     tally.expect(300, &OFTEN);
     tally.expect(20, &["read running", "write running"]);
+    tally.expect(1000, &["crash with other bytes in the buffers"]);
 }
 
 #[test]
@@ -630,6 +643,7 @@ fn longer_runs() {
     println!("{:?}", tally.0);
     tally.expect(100, &OFTEN);
     tally.expect(100, &["run with 3 or more at once", "run with 8 or more at once", "run of 10 to 16 bricks", "run with m above 1"]);
+    tally.expect(1000, &["crash with other bytes in the buffers"]);
 }
 
 /// A set that breaks a rule of runs has runs without an order, and both searches say so alike.
@@ -731,8 +745,18 @@ fn changed_reads_are_noticed() {
 /// Kinds as the lent answers have them.
 #[test]
 fn a_run_by_hand() {
-    let faults =
-        Faults { lost: 0, again: 0, crash: 0, down: 0, short: 0, rising: true, beside: 1, coordinators: 16, broken: Break::Nothing };
+    let faults = Faults {
+        lost: 0,
+        again: 0,
+        crash: 0,
+        down: 0,
+        short: 0,
+        buffers: 0,
+        rising: true,
+        beside: 1,
+        coordinators: 16,
+        broken: Break::Nothing,
+    };
     let mut world = World::new((5, 3, 2, 4), faults);
     let mut rng = Rng::new(1);
     for write in [true, false] {

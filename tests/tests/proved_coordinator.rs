@@ -324,6 +324,16 @@ impl World {
         self.messages.extend(step.sent.into_iter().enumerate());
     }
 
+    /// A crash; half of them take the bytes of the lent buffers, which hold others then.
+    fn crash(&mut self, at: usize, rng: &mut Rng, tally: &mut Tally) {
+        self.event(at, &Event::Crash, tally);
+        if rng.once_in(2) {
+            let Coordinator { blocks, stripe, coded, .. } = &mut self.coordinators[at];
+            [blocks, stripe, coded].into_iter().for_each(|buffer| *buffer = rng.bytes(buffer.len()));
+            tally.add("buffers overwritten");
+        }
+    }
+
     fn idle(&self, at: usize) -> bool {
         self.coordinators[at].lent.bytes[0] == 0
     }
@@ -388,7 +398,7 @@ impl World {
         }
         self.messages.clear();
         self.replies.clear();
-        self.event(at, &Event::Crash, tally);
+        self.crash(at, rng, tally);
     }
 }
 
@@ -412,7 +422,7 @@ fn schedules_with_bricks() {
                     }
                     world.settle(12, &mut rng, &mut tally);
                 }
-                3 => world.event(at, &Event::Crash, &mut tally),
+                3 => world.crash(at, &mut rng, &mut tally),
                 _ => {
                     if world.idle(at) {
                         world.start(at, &mut rng, &mut tally);
@@ -428,7 +438,7 @@ fn schedules_with_bricks() {
             }
             for at in 0..3 {
                 if !world.idle(at) && rng.once_in(2) {
-                    world.event(at, &Event::Crash, &mut tally);
+                    world.crash(at, &mut rng, &mut tally);
                 }
             }
             world.messages.clear();
@@ -438,8 +448,8 @@ fn schedules_with_bricks() {
     tally.expect(
         20,
         &[
-            "write begins", "read begins", "waits", "cut", "idle crash", "written", "read in one round", "recovered",
-            "recovery round 2", "recovery round 3", "recovery round 4", "recovery round 5", "write round 2",
+            "write begins", "read begins", "waits", "cut", "idle crash", "buffers overwritten", "written",
+            "read in one round", "recovered", "recovery round 2", "recovery round 3", "recovery round 4", "recovery round 5", "write round 2",
             "write round 3", "write round 4", "write round 5", "abort in phase 2", "recovery aborted by a no",
             "abort in phase 4", "refusal 11",
         ],

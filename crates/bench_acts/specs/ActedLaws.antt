@@ -16,8 +16,8 @@ use Rattle.coord_acts.specs.ActLaws.{heldOf}
 use Rattle.coord_acts.specs.Steps.{Held, Step, refused, went, answerOf, blocksAfter, stripeAfter, codedAfter}
 use Rattle.coord_acts.specs.declared.Answer.{Answer}
 use Rattle.coordinator.specs.Rules.{takeStep, crashStep, writeStep, readStep}
-use Rattle.register.specs.Driver.{Short, write-short, read-short, crash-short, take-short}
-use Rattle.register.specs.Runs.{Item, World, Event, startWrite, startRead, arrives, crashes, reply, step, coordinated, arriving}
+use Rattle.register.specs.Driver.{Short, left-untouched, write-short, read-short, crash-short, take-short}
+use Rattle.register.specs.Runs.{Item, World, untouched, Event, startWrite, startRead, arrives, crashes, reply, step, coordinated, arriving}
 use Rattle.bench_sent.specs.RunLaws.{arrives-item}
 use Rattle.bench_sent.specs.Sent.{itemsOf, itemAt, isReply, replyAt, blockAt}
 use Rattle.bench_sent.specs.SentLaws.{item-reply}
@@ -139,13 +139,14 @@ module _ (b : Bench) (c : ℕ) (kept numbers bytes : List ℕ) (at : ℕ) (out :
     pub acted-crash : (a : Answer)
         → ((x y : List ℕ) → a ≡ answerOf old (crashStep (b .settings .n) (b .settings .m) (b .settings .size) (heldOf old x y)))
         → Answers b c a blocks stripe blocks kept numbers bytes at out r kept′ numbers′ bytes′ out′
-        → Acted b c (crashes c) (λ (h : Held). crashStep (b .settings .n) (b .settings .m) (b .settings .size) h) kept numbers bytes at out r kept′ numbers′ bytes′ out′
+        → Acted b c (crashes c untouched) (λ (h : Held). crashStep (b .settings .n) (b .settings .m) (b .settings .size) h) kept numbers bytes at out r kept′ numbers′ bytes′ out′
     unfolding step worldIn worldOf
     acted-crash a ea h =
         let n = b .settings .n in
         let m = b .settings .m in
         let size = b .settings .size in
-        acted-by (crashes c) (λ (x : Held). crashStep n m size x) a blocks stripe blocks blocks (λ images. refl)
+        acted-by (crashes c untouched) (λ (x : Held). crashStep n m size x) a blocks stripe blocks blocks
+        (λ images. ap (coordinated (b .settings) (worldIn b (lent images kept numbers bytes)) c) (left-untouched (b .settings) (crashStep n m size here)))
         (crash-short n m size here) (crash-numbered n m size here)
         (ea blocks stripe ∙ ap (λ (x : Coordinator). answerOf x (crashStep n m size (heldOf old blocks stripe))) old-is ∙ ap (λ (x : Held). answerOf (here .state) (crashStep n m size x)) same)
         (blocks-are ∙ sym (crash-blocks n m size here)) (stripe-is ∙ sym (crash-stripe n m size here)) (sym (crash-coded n m size here blocks)) h
@@ -303,7 +304,7 @@ module _ (b : Bench) (c : ℕ) (kept numbers bytes : List ℕ) (at : ℕ) (out :
   crash-past out′ h t = past-at _ out′ h t
 
   pub crash-here : (kept′ numbers′ bytes′ out′ : List ℕ) → c < 4
-      → Acted b c (crashes c) (λ (h : Held). crashStep (b .settings .n) (b .settings .m) (b .settings .size) h) kept numbers bytes at out r kept′ numbers′ bytes′ out′
+      → Acted b c (crashes c untouched) (λ (h : Held). crashStep (b .settings .n) (b .settings .m) (b .settings .size) h) kept numbers bytes at out r kept′ numbers′ bytes′ out′
       → Plays b (λ (w : World). crashesAt (b .settings) w c) kept numbers bytes at out r kept′ numbers′ bytes′ out′
   unfolding crashesAt
   crash-here kept′ numbers′ bytes′ out′ h a = here-at _ (λ (x : Held). crashStep (b .settings .n) (b .settings .m) (b .settings .size) x) kept′ numbers′ bytes′ out′ h a

@@ -15,7 +15,7 @@ ghost use Rattle.bench_play.specs.Play.{unlessShort, writes, starts, crashesAt,
 ghost use Rattle.bench_sent.specs.Sent.{isReply, replyAt, blockAt, itemAt};
 ghost use Rattle.coord_acts.specs.Steps.{Held};
 ghost use Rattle.coordinator.specs.Rules.{takeStep, crashStep, writeStep, readStep};
-ghost use Rattle.register.specs.Runs.{World, startWrite, startRead, arrives, crashes};
+ghost use Rattle.register.specs.Runs.{World, startWrite, startRead, arrives, untouched, crashes};
 use bench_play::After;
 use bench_state::Bench;
 use coord_acts::Answer;
@@ -176,7 +176,7 @@ fn crash_with(
 ) -> After
     requires { ⌜ Seats b c (now kept) (now numbers) (now bytes) 0 (now out) ⌝ }
     requires { ⌜ Copies (b .settings) (now blocks) (now stripe) (now blocks) ⌝ }
-    ensures { λ r. ⌜ Acted b c (crashes c) (λ (h : Held). crashStep (b .settings .n) (b .settings .m) (b .settings .size) h) (now (kept .entry)) (now (numbers .entry)) (now (bytes .entry)) 0 (now (out .entry)) r (now (kept .exit)) (now (numbers .exit)) (now (bytes .exit)) (now (out .exit)) ⌝ }
+    ensures { λ r. ⌜ Acted b c (crashes c untouched) (λ (h : Held). crashStep (b .settings .n) (b .settings .m) (b .settings .size) h) (now (kept .entry)) (now (numbers .entry)) (now (bytes .entry)) 0 (now (out .entry)) r (now (kept .exit)) (now (numbers .exit)) (now (bytes .exit)) (now (out .exit)) ⌝ }
 {
     bench_state::fetch(c, kept, blocks, stripe);
     let s = b.settings;

@@ -26,6 +26,7 @@ use Rattle.register.specs.Runs.{
   message,
   reply,
   World,
+  untouched,
   Event,
   startWrite,
   startRead,
@@ -43,6 +44,7 @@ use Rattle.register.specs.Runs.{
   standing,
   step,
 }
+use Rattle.register.specs.Driver.{left-untouched}
 use Rattle.bench_line.specs.Lines.{Line, setLine, writeLine, readLine, carryLine, crashLine, downLine, upLine, noLine}
 use Rattle.bench_print.specs.Printing.{endedText}
 use Rattle.bench_play.specs.Content.{content, content-small, counted}
@@ -170,7 +172,8 @@ module _ (s : Settings) (w : World) where
   unfolding crashesAt step
   crashes-part c =
       at-part c _
-      (acts-part (crashes c) c _ (λ g e. (ap (coordinated s w c) e, crash-agrees (s .n) (s .m) (s .size) (w .coordinators c) g e)))
+      (acts-part (crashes c untouched) c _
+      (λ g e. (ap (coordinated s w c) (left-untouched s _ ∙ e), crash-agrees (s .n) (s .m) (s .size) (w .coordinators c) g e)))
 
   -- nothing is seen, and no message is sent past 127
   abbrev Quiet : Moved s → Type 0

@@ -13,7 +13,7 @@ use Rattle.brick.specs.declared.Given.{Given}
 use Rattle.brick.specs.declared.Given.the-variants.{Answered, Silent, Refused}
 use Rattle.coord_acts.specs.Steps.{Step, refused, went}
 use Rattle.coordinator.specs.Rules.{takeStep, crashStep, writeStep, readStep}
-use Rattle.register.specs.Runs.{Item, message, reply, World, Event, startWrite, startRead, arrives, crashes, goesDown, comesUp, fresh, step}
+use Rattle.register.specs.Runs.{Item, message, reply, World, untouched, Event, startWrite, startRead, arrives, crashes, goesDown, comesUp, fresh, step}
 use Rattle.bench_state.specs.State.{benchRange}
 use Rattle.bench_line.specs.Lines.{
   Line,
@@ -83,9 +83,9 @@ unfoldable pub starts : Settings → World → ℕ → ℕ → ℕ → Played
 starts s w c clock brick =
     atCoordinator w c (acts s w (startRead c clock brick) c (readStep (s .n) (s .m) (s .size) (w .coordinators c) clock brick))
 
--- "`crash c`"
+-- "`crash c`": the bench still has the buffers after it
 unfoldable pub crashesAt : Settings → World → ℕ → Played
-crashesAt s w c = atCoordinator w c (acts s w (crashes c) c (crashStep (s .n) (s .m) (s .size) (w .coordinators c)))
+crashesAt s w c = atCoordinator w c (acts s w (crashes c untouched) c (crashStep (s .n) (s .m) (s .size) (w .coordinators c)))
 
 -- "`down b`, `up b`"; "brick .. numbers past them are refusal 3"
 unfoldable pub switches : Settings → World → ℕ → Event → Played

@@ -6,7 +6,7 @@ use Rattle.little.specs.LittleLaws.{Bytes}
 use Rattle.settings.specs.declared.Settings.{Settings}
 use Rattle.order.specs.Claim.{read, write, ok, bytes, finished, cut, Seen}
 use Rattle.register.specs.Opened.{all-open}
-use Rattle.register.specs.Runs.{Event, startWrite, startRead, arrives, crashes, goesDown, comesUp, run}
+use Rattle.register.specs.Runs.{untouched, Event, startWrite, startRead, arrives, crashes, goesDown, comesUp, run}
 
 -- `set 3 1 1 4`
 abbrev pub small : Settings
@@ -25,7 +25,7 @@ bench =
     ∷ arrives 1
     ∷ arrives 4
     ∷ arrives 5
-    ∷ crashes 0
+    ∷ crashes 0 untouched
     ∷ goesDown 0
     ∷ startRead 1 2 1
     ∷ arrives 10

@@ -83,6 +83,6 @@ module _ (s : Settings) (w : World) where
   one-thing-seen (startWrite c reading content small) = coordinated-one c _
   one-thing-seen (startRead c reading first) = coordinated-one c _
   one-thing-seen (arrives k) = at-one (w .sent) k
-  one-thing-seen (crashes c) = coordinated-one c _
+  one-thing-seen (crashes c left) = coordinated-one c _
   one-thing-seen (goesDown b) = standing-one b false
   one-thing-seen (comesUp b) = standing-one b true

@@ -5,9 +5,10 @@ use mathlib.Core.Path.{_≡_, refl, sym, ap, ap₂, fun-ext, _∙_}
 use mathlib.Core.Bool.{Bool, true, false, cond}
 use mathlib.Core.List.{List, [], _∷_, _++_, append-nil}
 use Prim.Native.Nat.{ℕ, zero, suc, _*_, _%_}
+use native.Mathlib.Omega.{arith}
 use lib.Dec.{leb, ltb, eqb}
-use lib.ListN.{replicate}
-use borrow.Author.Tests.{eqb-true}
+use lib.ListN.{length, replicate}
+use borrow.Author.Tests.{eqb-true, eq-eqb, leb-false}
 use Rattle.settings.specs.Ranges.{quorum}
 use Rattle.settings.specs.Times.{drawOf}
 use Rattle.settings.specs.declared.Clock.{Clock}
@@ -45,7 +46,32 @@ use Rattle.coord_acts.specs.Steps.{
 use Rattle.coord_acts.specs.declared.Answer.{Answer}
 use Rattle.coordinator.specs.Rules.{takeStep, crashStep, crashed, drawnThen, writeStep, readStep}
 use Rattle.order.specs.Claim.{Seen}
-use Rattle.register.specs.Runs.{plain, Item, message, reply, World, startWrite, startRead, crashes, Moved, unmoved, putAt, seenOf, blockFor, toAll, broadcasts, coordinated, received, arriving, step}
+use Rattle.register.specs.Runs.{
+  plain,
+  Item,
+  message,
+  reply,
+  World,
+  startWrite,
+  startRead,
+  untouched,
+  lost,
+  crashes,
+  Moved,
+  unmoved,
+  putAt,
+  seenOf,
+  blockFor,
+  toAll,
+  broadcasts,
+  coordinated,
+  received,
+  arriving,
+  buffersFit,
+  leaving,
+  leftBy,
+  step,
+}
 
 -- What a driver does with a coordinator's answer, and the buffers it had lent: it keeps the record, sends the message to all n bricks
 -- with the blocks of the output buffer, and notes what is seen.
@@ -118,6 +144,36 @@ coordinated-is-driven s w c (went g) old h =
     makes : (ℕ → Held) → List Item → List (Seen (plain s)) → Moved s
     makes f l seen = record { world = record { images = w .images; up = w .up; coordinators = f; sent = l }; seen = seen }
 
+-- what a crash leaves: the buffers as they were,
+pub left-untouched : (s : Settings) (p : Step) → leftBy s untouched p ≡ p
+unfolding leftBy leaving
+left-untouched s (refused number) = refl
+left-untouched s (went g) = refl
+
+-- or other lists of the right lengths
+left-lost : (s : Settings) (blocks stripe : List ℕ) (h : Held) → length blocks ≡ s .n * s .size → length stripe ≡ s .m * s .size
+    → leaving s (lost blocks stripe) h ≡ record { state = h .state; blocks = blocks; stripe = stripe }
+unfolding leaving buffersFit
+left-lost s blocks stripe h eb es = simp (eq-eqb _ _ eb, eq-eqb _ _ es)
+
+lost-is-driven : (s : Settings) (w : World) (c : ℕ) (blocks stripe old : List ℕ) → length blocks ≡ s .n * s .size → length stripe ≡ s .m * s .size
+    → (k : ℕ) (g : Went) → AtMostOne (g .sent) → answerOf (w .coordinators c .state) (checked k (went g)) .refusal ≡ 0
+    → coordinated s w c (leftBy s (lost blocks stripe) (checked k (went g)))
+    ≡ driven s w c (answerOf (w .coordinators c .state) (checked k (went g))) blocks stripe (codedAfter old (checked k (went g)))
+unfolding checked leftBy answerOf blocksAfter stripeAfter codedAfter
+lost-is-driven s w c blocks stripe old eb es k g h = go (leb k 0) refl
+  where
+    then : Held → Went
+    then x = record { next = x; sent = g .sent; seen = g .seen }
+
+    go : (a : Bool) → leb k 0 ≡ a → answerOf (w .coordinators c .state) (cond a (went g) (refused k)) .refusal ≡ 0
+        → coordinated s w c (leftBy s (lost blocks stripe) (cond a (went g) (refused k)))
+        ≡ driven s w c (answerOf (w .coordinators c .state) (cond a (went g) (refused k))) blocks stripe (codedAfter old (cond a (went g) (refused k)))
+    go true e q =
+        ap (λ (x : Held). coordinated s w c (went (then x))) (left-lost s blocks stripe (g .next) eb es)
+        ∙ coordinated-is-driven s w c (went (then (record { state = g .next .state; blocks = blocks; stripe = stripe }))) old h
+    go false e q = let z = leb-false k 0 e in absurd (omega (arith, z, q))
+
 -- the routines send one broadcast at most
 checked-short : (k : ℕ) (p : Step) → Short p → Short (checked k p)
 unfolding checked
@@ -159,19 +215,23 @@ module _ (n m size : ℕ) (k : Held) where
   unfolding readStep starting
   read-short reading first = checked-short _ _ (drawn-short (drawOf (k .state .clock) reading) _ (λ t c. one _))
 
-  pub crash-short : Short (crashStep n m size k)
-  unfolding crashStep crashed ending
-  crash-short = checked-short _ (went (crashed k)) (go (eqb (k .state .op .kind) 0))
+  crashed-short : AtMostOne (crashed k .sent)
+  unfolding crashed ending
+  crashed-short = go (eqb (k .state .op .kind) 0)
     where
       go : (a : Bool) → AtMostOne (cond a (record { next = k; sent = []; seen = nothingSeen }) (ending k (k .stripe) [] cutSeen noBricks) .sent)
       go true = none
       go false = none
 
+  pub crash-short : Short (crashStep n m size k)
+  unfolding crashStep
+  crash-short = checked-short _ (went (crashed k)) crashed-short
+
 pub take-short : (n m size : ℕ) (k : Held) (r : Reply) (block : List ℕ) (coded : ℕ) → Short (takeStep n m size k r block coded)
 unfolding takeStep
 take-short n m size k r block coded = checked-short _ (went (waitingOr n m size (counting size k r block))) (waiting-short n m size (counting size k r block))
 
--- The events of a run, as calls: each is what the driver makes of the routine's answer. A reply, a start, a crash:
+-- The events of a run, as calls: each is what the driver makes of the routine's answer. A reply, a start:
 module _ (s : Settings) (w : World) (old : List ℕ) where
   -- what the driver makes of a routine whose contract gives the parts of this step
   abbrev pub called : ℕ → Step → Moved s
@@ -197,9 +257,23 @@ module _ (s : Settings) (w : World) (old : List ℕ) where
   unfolding step
   read-called c reading first = coordinated-is-driven s w c _ old (read-short (s .n) (s .m) (s .size) (w .coordinators c) reading first)
 
-  pub crash-called : (c : ℕ) → step s w (crashes c) ≡ called c (crashStep (s .n) (s .m) (s .size) (w .coordinators c))
+  -- a crash, if the driver still has the buffers
+  pub crash-called : (c : ℕ) → step s w (crashes c untouched) ≡ called c (crashStep (s .n) (s .m) (s .size) (w .coordinators c))
   unfolding step
-  crash-called c = coordinated-is-driven s w c _ old (crash-short (s .n) (s .m) (s .size) (w .coordinators c))
+  crash-called c =
+      ap (coordinated s w c) (left-untouched s (crashStep (s .n) (s .m) (s .size) (w .coordinators c)))
+      ∙ coordinated-is-driven s w c _ old (crash-short (s .n) (s .m) (s .size) (w .coordinators c))
+
+  -- and if it lost them, and goes on with the record that the routine gave and with any bytes in buffers of the right lengths
+  pub lost-called : (c : ℕ) (blocks stripe : List ℕ) → length blocks ≡ s .n * s .size → length stripe ≡ s .m * s .size
+      → answerOf (w .coordinators c .state) (crashStep (s .n) (s .m) (s .size) (w .coordinators c)) .refusal ≡ 0
+      → step s w (crashes c (lost blocks stripe))
+      ≡ driven s w c (answerOf (w .coordinators c .state) (crashStep (s .n) (s .m) (s .size) (w .coordinators c)))
+      blocks stripe (codedAfter old (crashStep (s .n) (s .m) (s .size) (w .coordinators c)))
+  unfolding step crashStep
+  lost-called c blocks stripe eb es accepted =
+      lost-is-driven s w c blocks stripe old eb es _ (crashed (w .coordinators c))
+      (crashed-short (s .n) (s .m) (s .size) (w .coordinators c)) accepted
 
   -- and a message at a brick that is up, by the answer, the image and the reply's buffer that its routine leaves
   pub message-called : (b : ℕ) (msg : Message) (block : List ℕ) → w .up b ≡ true

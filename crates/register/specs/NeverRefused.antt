@@ -1,4 +1,4 @@
--- In a run from fresh no image is refused as 2, 5 or 6, no record as 6, and no buffer beside a record as 2.
+-- In a run from fresh no image is refused as 2, 5 or 6, no record as 6, no buffer beside a record as 2, and no crash.
 use mathlib.Core.Path.{_≡_, refl, sym, ap, subst, _∙_}
 use mathlib.Core.Bool.{Bool, true, false, cond, _&&_}
 use mathlib.Core.List.{List, [], _∷_}
@@ -6,10 +6,10 @@ use Prim.Native.Nat.{ℕ, zero, suc, _*_, _%_, _≤_, _<_}
 use native.Mathlib.Omega.{arith}
 use lib.Dec.{leb, ltb, eqb}
 use lib.ListN.{length, length-replicate}
-use borrow.Author.Tests.{ltb-true, eqb-true, eqb-false}
+use borrow.Author.Tests.{ltb-true, eqb-true, eqb-false, le-leb}
 use Rattle.settings.specs.Ranges.{codeRefusal, quorum, settingsRefusal}
-use Rattle.settings.specs.RangeLaws.{SettingsRange, settings-passed, and-left}
-use Rattle.settings.specs.Refusal.{refuseUnless}
+use Rattle.settings.specs.RangeLaws.{SettingsRange, settings-passed, settings-code, and-left}
+use Rattle.settings.specs.Refusal.{refuseUnless, firstRefusal}
 use Rattle.settings.specs.Times.{maxCount, drawOf}
 use Rattle.settings.specs.declared.Clock.{Clock}
 use Rattle.settings.specs.declared.Draw.{Draw}
@@ -26,8 +26,8 @@ use Rattle.coord_record.specs.Sound.{opRight, readRight, writeRight, sound}
 use Rattle.coord_counts.specs.Counting.{targetFlags}
 use Rattle.coord_rounds.specs.Deciding.{tallied, decided}
 use Rattle.coord_acts.specs.Acts.{placed, ending, acted, withTally, counting, waitingOr, firstOp, starting}
-use Rattle.coord_acts.specs.Steps.{Held, Went, Step, refused, went, checked, nothingSeen, cutSeen}
-use Rattle.coordinator.specs.Checks.{writeRefusal, readRefusal, crashRefusal}
+use Rattle.coord_acts.specs.Steps.{Held, Went, Step, refused, went, checked, nothingSeen, cutSeen, answerOf}
+use Rattle.coordinator.specs.Checks.{recordChecks, writeRefusal, readRefusal, crashRefusal}
 use Rattle.coordinator.specs.Rules.{takeStep, crashed, crashStep, drawnThen, writeStep, readStep}
 use Rattle.register.specs.Runs.{
   Item,
@@ -36,6 +36,7 @@ use Rattle.register.specs.Runs.{
   World,
   idle,
   fresh,
+  Left,
   Event,
   startWrite,
   startRead,
@@ -51,6 +52,8 @@ use Rattle.register.specs.Runs.{
   arriving,
   arrivingAt,
   standing,
+  leaving,
+  leftBy,
   step,
   next,
   runFrom,
@@ -59,6 +62,7 @@ use Rattle.register.specs.Runs.{
 use Rattle.register.specs.Invariant.{Hist, Wide, Inv}
 use Rattle.register.specs.BrickEvent.{put-here, put-there, in-range, first-passed, unless-passed}
 use Rattle.register.specs.StartEvent.{passes}
+use Rattle.register.specs.CrashEvent.{left-by}
 use Rattle.register.specs.CountLaws.{Taken, taken, placed-length}
 use Rattle.register.specs.DecideLaws.{sound-op}
 use Rattle.register.specs.FreshLaws.{fresh-holds}
@@ -114,6 +118,11 @@ take-fine s g k r block t w f = go (ltb (members (after .state .tally .counted) 
         unfold counting withTally in
         (decision-fine s g after (p .coordinator-low) (p .last-low) (p .first-low) (p .op-is) (p .time-is) tally (long (r .held) refl) (f .stripe-long)
         (sound-op s k (t .sound-is) .fits phase))
+
+-- a crash: the buffers keep their lengths
+left-fine : (s : Settings) (left : Left) (k : Held) → Fine s k → Fine s (leaving s left k)
+left-fine s left k f =
+    left-by s left k (Fine s) f (λ blocks stripe eb es. record { sound-is = f .sound-is; blocks-long = eb; stripe-long = es })
 
 -- each coordinator of the world
 abbrev pub AllFine : (s : Settings) → World → Type 0
@@ -206,6 +215,14 @@ module _ (s : Settings) (g : SettingsRange s) where
               stripe-long = f c l .stripe-long;
             })
 
+    crash-left-fine : (c : ℕ) (left : Left) → FineStep s c (leftBy s left (crashStep (s .n) (s .m) (s .size) (r .world .coordinators c)))
+    unfolding leftBy
+    crash-left-fine c left = go (crashStep (s .n) (s .m) (s .size) (r .world .coordinators c)) (crash-fine c)
+      where
+        go : (p : Step) → FineStep s c p → FineStep s c (leftBy s left p)
+        go (refused number) h = h
+        go (went q) h = λ l. left-fine s left (q .next) (h l)
+
     reply-fine : (a : Reply) (block : List ℕ)
         → FineStep s (a .time % 16) (takeStep (s .n) (s .m) (s .size) (r .world .coordinators (a .time % 16)) a block (s .n * s .size))
     unfolding takeStep
@@ -244,7 +261,7 @@ module _ (s : Settings) (g : SettingsRange s) where
     step-fine (startWrite c reading content small) = coordinated-fine (r .world) c _ f (write-fine c reading content)
     step-fine (startRead c reading first) = coordinated-fine (r .world) c _ f (read-fine c reading first)
     step-fine (arrives k) = place-fine (r .world .sent) k
-    step-fine (crashes c) = coordinated-fine (r .world) c _ f (crash-fine c)
+    step-fine (crashes c left) = coordinated-fine (r .world) c _ f (crash-left-fine c left)
     step-fine (goesDown b) = stand-fine b false
     step-fine (comesUp b) = stand-fine b true
 
@@ -264,6 +281,24 @@ records-open s e events =
       blocks-long = length-replicate (s .n * s .size) 0;
       stripe-long = length-replicate (s .m * s .size) 0;
     }) events
+
+code-accepted : (s : Settings) → settingsRefusal s ≡ 0 → codeRefusal (s .n) (s .m) (s .size) ≡ 0
+code-accepted s e = go (eqb (codeRefusal (s .n) (s .m) (s .size)) 0) refl
+  where
+    go : (a : Bool) → eqb (codeRefusal (s .n) (s .m) (s .size)) 0 ≡ a → codeRefusal (s .n) (s .m) (s .size) ≡ 0
+    go true q = eqb-true _ 0 q
+    go false q = absurd (let z = settings-code s _ refl (eqb-false _ 0 q) in omega (arith, z, e))
+
+crash-accepted : (s : Settings) (k : Held) → settingsRefusal s ≡ 0 → Fine s k → answerOf (k .state) (crashStep (s .n) (s .m) (s .size) k) .refusal ≡ 0
+unfolding crashStep crashRefusal recordChecks firstRefusal checked answerOf
+crash-accepted s k e f =
+    let p = parts (s .n) (s .m) (k .state) (f .sound-is) in
+    rw (code-accepted s e, le-leb (k .state .clock .coordinator) 15 (p .coordinator-low), f .sound-is) refl
+
+-- No crash of one of the 16 coordinators is refused.
+pub crashes-accepted : (s : Settings) → settingsRefusal s ≡ 0 → (events : List Event) (c : ℕ) → c ≤ 15
+    → answerOf (run s events .world .coordinators c .state) (crashStep (s .n) (s .m) (s .size) (run s events .world .coordinators c)) .refusal ≡ 0
+crashes-accepted s e events c l = crash-accepted s (run s events .world .coordinators c) e (records-open s e events c l)
 
 -- No image is refused, as 2, 5 or 6: each opens as the brick that was saved.
 pub images-open : (s : Settings) → settingsRefusal s ≡ 0 → (events : List Event) (b : ℕ) → b < s .n

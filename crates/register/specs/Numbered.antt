@@ -26,6 +26,7 @@ use Rattle.register.specs.Runs.{
   World,
   idle,
   fresh,
+  Left,
   Event,
   startWrite,
   startRead,
@@ -41,6 +42,7 @@ use Rattle.register.specs.Runs.{
   arriving,
   arrivingAt,
   standing,
+  leftBy,
   step,
   next,
   runFrom,
@@ -104,6 +106,12 @@ module _ (n m size c : ℕ) (k : Held) (number : k .state .clock .coordinator �
       let d = first-passed (refuseUnless (leb (k .state .clock .coordinator) 15) 3) _ (a .1) in
       low-number (d .0))
 
+-- what a crash leaves in the buffers is no matter
+left-low : (s : Settings) (left : Left) (c : ℕ) (p : Step) → LowStep c p → LowStep c (leftBy s left p)
+unfolding leftBy
+left-low s left c (refused number) l = l
+left-low s left c (went g) l = l
+
 -- coordinator c is still as at first
 abbrev Still : (s : Settings) → ℕ → World → Type 0
 Still s c w = w .coordinators c ≡ idle s c
@@ -145,8 +153,9 @@ module _ (s : Settings) (g : SettingsRange s) (c : ℕ) (high : 15 < c) where
     step-still (startRead d reading first) =
         coordinated-still (r .world) d _ (read-low (s .n) (s .m) (s .size) d (r .world .coordinators d) (i .coordinators d .number) reading first) e
     step-still (arrives k) = place-still (r .world .sent) k
-    step-still (crashes d) =
-        coordinated-still (r .world) d _ (crash-low (s .n) (s .m) (s .size) d (r .world .coordinators d) (i .coordinators d .number)) e
+    step-still (crashes d left) =
+        coordinated-still (r .world) d _
+        (left-low s left d _ (crash-low (s .n) (s .m) (s .size) d (r .world .coordinators d) (i .coordinators d .number))) e
     step-still (goesDown b) = stand-still b false
     step-still (comesUp b) = stand-still b true
 

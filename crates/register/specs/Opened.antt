@@ -61,7 +61,7 @@ unfolding Rattle.coordinator.specs.Checks.recordChecks Rattle.coordinator.spec
 coordinator-open = tt
 
 unfoldable pub register-open : Unit {0}
-unfolding Rattle.register.specs.Runs.zeroStripe Rattle.register.specs.Runs.idle Rattle.register.specs.Runs.fresh Rattle.register.specs.Runs.unmoved Rattle.register.specs.Runs.putAt Rattle.register.specs.Runs.seenOf Rattle.register.specs.Runs.blockFor Rattle.register.specs.Runs.toAll Rattle.register.specs.Runs.broadcasts Rattle.register.specs.Runs.coordinated Rattle.register.specs.Runs.repliedWith Rattle.register.specs.Runs.received Rattle.register.specs.Runs.arriving Rattle.register.specs.Runs.arrivingAt Rattle.register.specs.Runs.standing Rattle.register.specs.Runs.step Rattle.register.specs.Runs.next Rattle.register.specs.Runs.runFrom Rattle.register.specs.Runs.run
+unfolding Rattle.register.specs.Runs.zeroStripe Rattle.register.specs.Runs.idle Rattle.register.specs.Runs.fresh Rattle.register.specs.Runs.unmoved Rattle.register.specs.Runs.putAt Rattle.register.specs.Runs.seenOf Rattle.register.specs.Runs.blockFor Rattle.register.specs.Runs.toAll Rattle.register.specs.Runs.broadcasts Rattle.register.specs.Runs.coordinated Rattle.register.specs.Runs.repliedWith Rattle.register.specs.Runs.received Rattle.register.specs.Runs.arriving Rattle.register.specs.Runs.arrivingAt Rattle.register.specs.Runs.standing Rattle.register.specs.Runs.buffersFit Rattle.register.specs.Runs.leaving Rattle.register.specs.Runs.leftBy Rattle.register.specs.Runs.step Rattle.register.specs.Runs.next Rattle.register.specs.Runs.runFrom Rattle.register.specs.Runs.run
 register-open = tt
 
 unfoldable pub all-open : Unit {0}

@@ -1,10 +1,10 @@
 -- Document 01, "A run and its order": the set, its events, and what is seen of a run. Each event works on what the one before left, by the
 -- very definitions that the contracts of a brick and of a coordinator cite.
-use mathlib.Core.Bool.{Bool, true, false, cond}
+use mathlib.Core.Bool.{Bool, true, false, cond, _&&_}
 use mathlib.Core.List.{List, [], _∷_, _++_}
 use Prim.Native.Nat.{ℕ, zero, suc, _*_, _%_}
 use lib.Dec.{eqb, ltb}
-use lib.ListN.{replicate}
+use lib.ListN.{length, replicate}
 use Rattle.settings.specs.declared.Settings.{Settings}
 use Rattle.little.specs.LittleLaws.{Bytes}
 use Rattle.message.specs.Kinds.{writeKind}
@@ -55,14 +55,19 @@ idle s c =
 unfoldable pub fresh : Settings → World
 fresh s = record { images = λ (b : ℕ). imageOf s b (Brick.fresh s); up = λ (b : ℕ). true; coordinators = idle s; sent = [] }
 
+-- What a crash leaves in the buffers beside a coordinator's record: what lay there, or anything else.
+pub data Left : Type 0 where
+  untouched : Left
+  lost : (blocks stripe : List ℕ) → Left
+
 -- "a read or write started at a coordinator with any clock reading" (a write with its bytes, a read with the brick that its targets are
 -- counted from), "a sent message reaching its brick, a sent reply reaching its coordinator" (both by place among what was sent, from 0),
--- "a coordinator's crash, a brick going down or coming up"
+-- "a coordinator's crash" (with what it leaves in the buffers), "a brick going down or coming up"
 pub data Event : Type 0 where
   startWrite : (coordinator reading : ℕ) (content : List ℕ) → Bytes content → Event
   startRead : (coordinator reading first : ℕ) → Event
   arrives : ℕ → Event
-  crashes : ℕ → Event
+  crashes : (coordinator : ℕ) → Left → Event
   goesDown : ℕ → Event
   comesUp : ℕ → Event
 
@@ -155,12 +160,27 @@ standing s w b how =
     (record { world = record { images = w .images; up = putAt (w .up) b how; coordinators = w .coordinators; sent = w .sent }; seen = [] })
     (unmoved s w)
 
+-- lists of the lengths that the settings ask for: n blocks of replies, m of the stripe
+unfoldable pub buffersFit : Settings → (blocks stripe : List ℕ) → Bool
+buffersFit s blocks stripe = eqb (length blocks) (s .n * s .size) && eqb (length stripe) (s .m * s .size)
+
+-- "A crash makes the coordinator idle and keeps its count": so much is sure of the record. The buffers beside it may hold any lists that
+-- fit (others are passed over); so may those of an idle coordinator, at whose crash nothing is seen.
+unfoldable pub leaving : Settings → Left → Held → Held
+leaving s untouched h = h
+leaving s (lost blocks stripe) h = cond (buffersFit s blocks stripe) (record { state = h .state; blocks = blocks; stripe = stripe }) h
+
+-- the same of the crash's step: what it sends and shows stays, and a refused one changes nothing
+unfoldable pub leftBy : Settings → Left → Step → Step
+leftBy s left (refused number) = refused number
+leftBy s left (went g) = went (record { next = leaving s left (g .next); sent = g .sent; seen = g .seen })
+
 unfoldable pub step : (s : Settings) → World → Event → Moved s
 step s w (startWrite c reading content small) =
     coordinated s w c (writeStep (s .n) (s .m) (s .size) (w .coordinators c) reading content)
 step s w (startRead c reading first) = coordinated s w c (readStep (s .n) (s .m) (s .size) (w .coordinators c) reading first)
 step s w (arrives k) = arrivingAt s w (w .sent) k
-step s w (crashes c) = coordinated s w c (crashStep (s .n) (s .m) (s .size) (w .coordinators c))
+step s w (crashes c left) = coordinated s w c (leftBy s left (crashStep (s .n) (s .m) (s .size) (w .coordinators c)))
 step s w (goesDown b) = standing s w b false
 step s w (comesUp b) = standing s w b true
 

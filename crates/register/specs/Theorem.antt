@@ -62,7 +62,7 @@ module _ (s : Settings) (g : SettingsRange s) where
   step-goes h r i (startWrite c reading content small) = write-starts s g h r i c reading content small
   step-goes h r i (startRead c reading first) = read-starts s g h r i c reading first
   step-goes h r i (arrives k) = place-arrives h r i (r .world .sent) (λ z m. m) k
-  step-goes h r i (crashes c) = crash-goes s g h r i c
+  step-goes h r i (crashes c left) = crash-goes s g h r i c left
   step-goes h r i (goesDown b) = stands h r i b false
   step-goes h r i (comesUp b) = stands h r i b true
 
@@ -76,7 +76,7 @@ module _ (s : Settings) (g : SettingsRange s) where
   unfolding run
   run-holds events = from-holds (unmoved s (fresh s)) ([], fresh-holds s g) events
 
--- For every settings in range and every list of events, the operations have one order.
+-- For every settings in range and every list of events, whatever its crashes leave in the buffers, the operations have one order.
 pub every-run-has-one-order : (s : Settings) → settingsRefusal s ≡ 0 → (events : List Event) → RunHasOneOrder s events
 every-run-has-one-order s e events =
     let w = run-holds s (settings-passed s e) events in
