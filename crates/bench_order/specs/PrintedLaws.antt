@@ -21,7 +21,7 @@ use Rattle.coord_rounds.specs.declared.Decision.the-variants.{Abort, Give, Look
 use Rattle.coord_acts.specs.Acts.{acted, ending, nextRound, finishedSeen, waitingOr, counting, withTally}
 use Rattle.coord_acts.specs.Steps.{Held, Went, went, nothingSeen, beganSeen, okSeen, readSeen, cutSeen}
 use Rattle.coord_acts.specs.declared.Seen.{Seen as Shown}
-use Rattle.coordinator.specs.Checks.{recordChecks, crashRefusal}
+use Rattle.coord_checks.specs.Checks.{recordChecks, crashRefusal}
 use Rattle.coordinator.specs.Rules.{takeStep, crashed, crashStep, writeStep, readStep}
 use Rattle.coord_laws.specs.OpCases.{in-read}
 use Rattle.coord_laws.specs.RunLaws.{took, write-begins, read-begins}

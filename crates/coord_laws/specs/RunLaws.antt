@@ -21,7 +21,7 @@ use Rattle.coord_counts.specs.Counting.{targetFlags}
 use Rattle.coord_rounds.specs.Deciding.{decided}
 use Rattle.coord_rounds.specs.declared.Decision.{Decision}
 use Rattle.coord_rounds.specs.declared.Decision.the-variants.{Abort, Give, Look, Store, Recover, Finish}
-use Rattle.coordinator.specs.Checks.{writeRefusal, readRefusal, takeRefusal, crashRefusal}
+use Rattle.coord_checks.specs.Checks.{writeRefusal, readRefusal, takeRefusal, crashRefusal}
 use Rattle.coordinator.specs.Rules.{drawnThen, writeStep, readStep, takeStep, crashed, crashStep}
 use Rattle.coordinator.specs.StepLaws.{Takes, take-passed}
 use Rattle.erasure.specs.Code.{codedOf}

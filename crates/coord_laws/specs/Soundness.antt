@@ -11,7 +11,7 @@ use borrow.Author.Tests.{eq-eqb, ne-eqb, le-leb, lt-ltb, le-ltb, eqb-true, eqb-f
 use Rattle.coord_acts.specs.ActLaws.{heldOf}
 use Rattle.coord_acts.specs.Acts.{nextOp, opened, nextRound, ending, acted, withTally, counting, waitingOr, firstOp, starting}
 use Rattle.coord_acts.specs.Steps.{Held, Went, Step, refused, went, checked, nothingSeen, cutSeen}
-use Rattle.coordinator.specs.Checks.{recordChecks, writeRefusal, readRefusal, takeRefusal, crashRefusal}
+use Rattle.coord_checks.specs.Checks.{recordChecks, writeRefusal, readRefusal, takeRefusal, crashRefusal}
 use Rattle.coordinator.specs.Rules.{drawnThen, writeStep, readStep, takeStep, crashed, crashStep}
 use Rattle.coordinator.specs.StepLaws.{Takes, take-passed, first-low}
 use Rattle.coord_laws.specs.OpCases.{clash, InRead, InOrder, InRecovery, in-read, in-order, in-recovery, first-recovery, next-recovery, write-stores, read-stores}

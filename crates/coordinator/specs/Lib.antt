@@ -1,5 +1,3 @@
--- Definitions: Checks, Rules. Laws and theorems: the others.
-pub mod CheckLaws
-pub mod Checks
+-- Definitions: Rules. Laws and theorems: the others.
 pub mod Rules
 pub mod StepLaws

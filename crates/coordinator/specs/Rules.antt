@@ -8,7 +8,7 @@ use Rattle.coord_acts.specs.Acts.{counting, waitingOr, ending, firstOp, startin
 use Rattle.coord_acts.specs.Steps.{Held, Went, Step, refused, went, checked, nothingSeen, cutSeen}
 use Rattle.coord_record.specs.Records.{idleKind, readingKind, writingKind, noBricks}
 use Rattle.coord_counts.specs.Counting.{targetFlags}
-use Rattle.coordinator.specs.Checks.{writeRefusal, readRefusal, takeRefusal, crashRefusal}
+use Rattle.coord_checks.specs.Checks.{writeRefusal, readRefusal, takeRefusal, crashRefusal}
 use Rattle.message.specs.Kinds.{readKind, orderKind}
 use Rattle.message.specs.declared.Reply.{Reply}
 use Rattle.settings.specs.Times.{drawOf}

@@ -25,7 +25,7 @@ use Rattle.coord_record.specs.Sound.{sound}
 use Rattle.coord_rounds.specs.Deciding.{answers, tallied}
 use Rattle.coord_acts.specs.Acts.{blockOf, placed, withTally, counting}
 use Rattle.coord_acts.specs.Steps.{Held}
-use Rattle.coordinator.specs.Checks.{recordChecks, strayChecks, lengthsRight, takeRefusal}
+use Rattle.coord_checks.specs.Checks.{recordChecks, strayChecks, lengthsRight, takeRefusal}
 use Rattle.order.specs.Claim.{_∈_}
 use Rattle.register.specs.Runs.{Item, reply}
 use Rattle.register.specs.Invariant.{Hist, CountedInv, Running, CoordinatorInv}

@@ -13,7 +13,7 @@ use Rattle.settings.specs.declared.Settings.{Settings}
 use Rattle.coord_record.specs.Records.{noBricks, noOp, idleWith}
 use Rattle.coord_acts.specs.Acts.{ending}
 use Rattle.coord_acts.specs.Steps.{Held, Went, refused, went, checked, nothingSeen, cutSeen}
-use Rattle.coordinator.specs.Checks.{crashRefusal}
+use Rattle.coord_checks.specs.Checks.{crashRefusal}
 use Rattle.coordinator.specs.Rules.{crashed, crashStep}
 use Rattle.order.specs.Claim.{Seen}
 use Rattle.order.specs.Facts.{cut, shows, outcome}

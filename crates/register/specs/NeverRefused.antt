@@ -27,7 +27,7 @@ use Rattle.coord_counts.specs.Counting.{targetFlags}
 use Rattle.coord_rounds.specs.Deciding.{tallied, decided}
 use Rattle.coord_acts.specs.Acts.{placed, ending, acted, withTally, counting, waitingOr, firstOp, starting}
 use Rattle.coord_acts.specs.Steps.{Held, Went, Step, refused, went, checked, nothingSeen, cutSeen, answerOf}
-use Rattle.coordinator.specs.Checks.{recordChecks, writeRefusal, readRefusal, crashRefusal}
+use Rattle.coord_checks.specs.Checks.{recordChecks, writeRefusal, readRefusal, crashRefusal}
 use Rattle.coordinator.specs.Rules.{takeStep, crashed, crashStep, drawnThen, writeStep, readStep}
 use Rattle.register.specs.Runs.{
   Item,

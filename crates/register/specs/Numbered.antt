@@ -17,7 +17,7 @@ use Rattle.settings.specs.declared.Draw.the-variants.{Drawn, Refused}
 use Rattle.settings.specs.declared.Settings.{Settings}
 use Rattle.message.specs.declared.Reply.{Reply}
 use Rattle.coord_acts.specs.Steps.{Held, Went, Step, refused, went, checked}
-use Rattle.coordinator.specs.Checks.{recordChecks, startChecks, writeRefusal, readRefusal, crashRefusal}
+use Rattle.coord_checks.specs.Checks.{recordChecks, startChecks, writeRefusal, readRefusal, crashRefusal}
 use Rattle.coordinator.specs.Rules.{takeStep, crashed, crashStep, drawnThen, writeStep, readStep}
 use Rattle.register.specs.Runs.{
   Item,

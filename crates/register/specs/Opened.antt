@@ -57,7 +57,7 @@ unfolding Rattle.coord_acts.specs.Acts.blockOf Rattle.coord_acts.specs.Acts.ga
 coord-acts-open = tt
 
 unfoldable pub coordinator-open : Unit {0}
-unfolding Rattle.coordinator.specs.Checks.recordChecks Rattle.coordinator.specs.Checks.startChecks Rattle.coordinator.specs.Checks.writeRefusal Rattle.coordinator.specs.Checks.readRefusal Rattle.coordinator.specs.Checks.lengthsRight Rattle.coordinator.specs.Checks.strayChecks Rattle.coordinator.specs.Checks.takeRefusal Rattle.coordinator.specs.Checks.crashRefusal Rattle.coordinator.specs.Rules.takeStep Rattle.coordinator.specs.Rules.crashed Rattle.coordinator.specs.Rules.crashStep Rattle.coordinator.specs.Rules.drawnThen Rattle.coordinator.specs.Rules.writeStep Rattle.coordinator.specs.Rules.readStep
+unfolding Rattle.coord_checks.specs.Checks.recordChecks Rattle.coord_checks.specs.Checks.startChecks Rattle.coord_checks.specs.Checks.writeRefusal Rattle.coord_checks.specs.Checks.readRefusal Rattle.coord_checks.specs.Checks.lengthsRight Rattle.coord_checks.specs.Checks.strayChecks Rattle.coord_checks.specs.Checks.takeRefusal Rattle.coord_checks.specs.Checks.crashRefusal Rattle.coordinator.specs.Rules.takeStep Rattle.coordinator.specs.Rules.crashed Rattle.coordinator.specs.Rules.crashStep Rattle.coordinator.specs.Rules.drawnThen Rattle.coordinator.specs.Rules.writeStep Rattle.coordinator.specs.Rules.readStep
 coordinator-open = tt
 
 unfoldable pub register-open : Unit {0}

@@ -22,7 +22,7 @@ use Rattle.coord_rounds.specs.declared.Decision.{Decision}
 use Rattle.coord_rounds.specs.declared.Decision.the-variants.{Abort, Give, Look, Store, Recover, Finish}
 use Rattle.coord_acts.specs.Acts.{acted, withTally, counting, waitingOr}
 use Rattle.coord_acts.specs.Steps.{Held, refused, went, checked, nothingSeen}
-use Rattle.coordinator.specs.Checks.{takeRefusal}
+use Rattle.coord_checks.specs.Checks.{takeRefusal}
 use Rattle.coordinator.specs.Rules.{takeStep}
 use Rattle.order.specs.Claim.{_∈_}
 use Rattle.order.specs.Valid.{Valid}

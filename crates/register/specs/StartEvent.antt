@@ -25,7 +25,7 @@ use Rattle.coord_record.specs.Records.{nothingCounted, noBricks}
 use Rattle.coord_counts.specs.Counting.{targetFlags}
 use Rattle.coord_acts.specs.Acts.{roundMessage, firstOp, starting}
 use Rattle.coord_acts.specs.Steps.{Held, Broadcast, Went, refused, checked}
-use Rattle.coordinator.specs.Checks.{writeRefusal, readRefusal}
+use Rattle.coord_checks.specs.Checks.{writeRefusal, readRefusal}
 use Rattle.coordinator.specs.Rules.{drawnThen, writeStep, readStep}
 use Rattle.order.specs.Claim.{Action, read, write, Seen, _∈_}
 use Rattle.order.specs.Facts.{Source, End, Fact, began, launched, ended}

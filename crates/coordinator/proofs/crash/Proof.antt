@@ -9,7 +9,7 @@ use Rattle.coordinator.proofs.crash.Reads as reads
 use Rattle.coordinator.proofs.crash.Lts as lts
 use Rattle.coord_acts.proofs.end.Reads as end-reads
 use Rattle.coord_acts.proofs.no_message.Reads as no-message-reads
-use Rattle.coordinator.proofs.crash_refusal.Reads as crash-refusal-reads
+use Rattle.coord_checks.proofs.crash_refusal.Reads as crash-refusal-reads
 use Rattle.coordinator.proofs.kept.Reads as kept-reads
 use Rattle.coordinator.proofs.refuse.Reads as refuse-reads
 

@@ -8,7 +8,7 @@ use Rattle.coordinator.proofs.start_read.Lts as lts
 use Rattle.coord_counts.proofs.target_flags.Reads as target-flags-reads
 use Rattle.coordinator.proofs.begin.Reads as begin-reads
 use Rattle.coordinator.proofs.first_op.Reads as first-op-reads
-use Rattle.coordinator.proofs.read_refusal.Reads as read-refusal-reads
+use Rattle.coord_checks.proofs.read_refusal.Reads as read-refusal-reads
 use Rattle.coordinator.proofs.refuse.Reads as refuse-reads
 use Rattle.settings.proofs.Clock.draw.Reads as draw-reads
 use Rattle.settings.proofs.Draw.number.Reads as number-reads

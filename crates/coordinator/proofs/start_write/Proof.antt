@@ -10,7 +10,7 @@ use Rattle.coord_acts.proofs.copy.Reads as copy-reads
 use Rattle.coordinator.proofs.begin.Reads as begin-reads
 use Rattle.coordinator.proofs.first_op.Reads as first-op-reads
 use Rattle.coordinator.proofs.refuse.Reads as refuse-reads
-use Rattle.coordinator.proofs.write_refusal.Reads as write-refusal-reads
+use Rattle.coord_checks.proofs.write_refusal.Reads as write-refusal-reads
 use Rattle.settings.proofs.Clock.draw.Reads as draw-reads
 use Rattle.settings.proofs.Draw.number.Reads as number-reads
 

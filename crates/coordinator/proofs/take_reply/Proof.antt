@@ -12,7 +12,7 @@ use Rattle.coord_rounds.proofs.tally_with.Reads as tally-with-reads
 use Rattle.coordinator.proofs.keep.Reads as keep-reads
 use Rattle.coordinator.proofs.kept.Reads as kept-reads
 use Rattle.coordinator.proofs.refuse.Reads as refuse-reads
-use Rattle.coordinator.proofs.take_refusal.Reads as take-refusal-reads
+use Rattle.coord_checks.proofs.take_refusal.Reads as take-refusal-reads
 use Rattle.coordinator.proofs.with_tally.Reads as with-tally-reads
 use Rattle.message.proofs.members_of.Reads as members-of-reads
 use Rattle.settings.proofs.quorum_of.Reads as quorum-of-reads

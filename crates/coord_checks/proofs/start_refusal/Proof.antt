@@ -1,10 +1,10 @@
-use Rattle.coordinator.specs.CheckLaws.{start-record, start-late, start-busy, start-passes}
+use Rattle.coord_checks.specs.CheckLaws.{start-record, start-late, start-busy, start-passes}
 use borrow.Author.Needs.{needs}
-use Rattle.coordinator.proofs.start_refusal.Statement.{statement}
-use Rattle.coordinator.proofs.start_refusal.Tie as tie
-use Rattle.coordinator.proofs.start_refusal.Reads as reads
-use Rattle.coordinator.proofs.start_refusal.Lts as lts
-use Rattle.coordinator.proofs.record_refusal.Reads as record-refusal-reads
+use Rattle.coord_checks.proofs.start_refusal.Statement.{statement}
+use Rattle.coord_checks.proofs.start_refusal.Tie as tie
+use Rattle.coord_checks.proofs.start_refusal.Reads as reads
+use Rattle.coord_checks.proofs.start_refusal.Lts as lts
+use Rattle.coord_checks.proofs.record_refusal.Reads as record-refusal-reads
 use Rattle.settings.proofs.Clock.refusal.Reads as refusal-reads
 
 -- src/lib.rt:37:9

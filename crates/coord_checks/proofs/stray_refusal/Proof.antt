@@ -1,12 +1,12 @@
-use Rattle.coordinator.specs.CheckLaws.{stray-record, stray-wrong, stray-answers, stray-not, first-within}
+use Rattle.coord_checks.specs.CheckLaws.{stray-record, stray-wrong, stray-answers, stray-not, first-within}
 use native.Mathlib.Omega.{arith}
 use borrow.Author.Needs.{needs}
-use Rattle.coordinator.proofs.stray_refusal.Statement.{statement}
-use Rattle.coordinator.proofs.stray_refusal.Tie as tie
-use Rattle.coordinator.proofs.stray_refusal.Reads as reads
-use Rattle.coordinator.proofs.stray_refusal.Lts as lts
+use Rattle.coord_checks.proofs.stray_refusal.Statement.{statement}
+use Rattle.coord_checks.proofs.stray_refusal.Tie as tie
+use Rattle.coord_checks.proofs.stray_refusal.Reads as reads
+use Rattle.coord_checks.proofs.stray_refusal.Lts as lts
 use Rattle.coord_rounds.proofs.reply_answers.Reads as reply-answers-reads
-use Rattle.coordinator.proofs.record_refusal.Reads as record-refusal-reads
+use Rattle.coord_checks.proofs.record_refusal.Reads as record-refusal-reads
 use Rattle.message.proofs.Reply.refusal.Reads as refusal-reads
 
 -- src/lib.rt:161:9

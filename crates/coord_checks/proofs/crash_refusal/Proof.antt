@@ -1,10 +1,10 @@
-use Rattle.coordinator.specs.CheckLaws.{crash-code, crash-record, few-bricks}
+use Rattle.coord_checks.specs.CheckLaws.{crash-code, crash-record, few-bricks}
 use borrow.Author.Needs.{needs}
-use Rattle.coordinator.proofs.crash_refusal.Statement.{statement}
-use Rattle.coordinator.proofs.crash_refusal.Tie as tie
-use Rattle.coordinator.proofs.crash_refusal.Reads as reads
-use Rattle.coordinator.proofs.crash_refusal.Lts as lts
-use Rattle.coordinator.proofs.record_refusal.Reads as record-refusal-reads
+use Rattle.coord_checks.proofs.crash_refusal.Statement.{statement}
+use Rattle.coord_checks.proofs.crash_refusal.Tie as tie
+use Rattle.coord_checks.proofs.crash_refusal.Reads as reads
+use Rattle.coord_checks.proofs.crash_refusal.Lts as lts
+use Rattle.coord_checks.proofs.record_refusal.Reads as record-refusal-reads
 use Rattle.settings.proofs.code_refusal.Reads as code-refusal-reads
 
 -- src/lib.rt:181:9

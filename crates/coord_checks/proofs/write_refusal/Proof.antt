@@ -1,11 +1,11 @@
-use Rattle.coordinator.specs.CheckLaws.{write-code, write-bytes, write-stripe, write-start, ranged, few-bricks, lengths-fit}
+use Rattle.coord_checks.specs.CheckLaws.{write-code, write-bytes, write-stripe, write-start, ranged, few-bricks, lengths-fit}
 use native.Mathlib.Omega.{arith}
 use borrow.Author.Needs.{needs}
-use Rattle.coordinator.proofs.write_refusal.Statement.{statement}
-use Rattle.coordinator.proofs.write_refusal.Tie as tie
-use Rattle.coordinator.proofs.write_refusal.Reads as reads
-use Rattle.coordinator.proofs.write_refusal.Lts as lts
-use Rattle.coordinator.proofs.start_refusal.Reads as start-refusal-reads
+use Rattle.coord_checks.proofs.write_refusal.Statement.{statement}
+use Rattle.coord_checks.proofs.write_refusal.Tie as tie
+use Rattle.coord_checks.proofs.write_refusal.Reads as reads
+use Rattle.coord_checks.proofs.write_refusal.Lts as lts
+use Rattle.coord_checks.proofs.start_refusal.Reads as start-refusal-reads
 use Rattle.settings.proofs.code_refusal.Reads as code-refusal-reads
 
 -- src/lib.rt:65:9

@@ -1,10 +1,10 @@
-use Rattle.coordinator.specs.CheckLaws.{read-code, read-first, read-start, few-bricks}
+use Rattle.coord_checks.specs.CheckLaws.{read-code, read-first, read-start, few-bricks}
 use borrow.Author.Needs.{needs}
-use Rattle.coordinator.proofs.read_refusal.Statement.{statement}
-use Rattle.coordinator.proofs.read_refusal.Tie as tie
-use Rattle.coordinator.proofs.read_refusal.Reads as reads
-use Rattle.coordinator.proofs.read_refusal.Lts as lts
-use Rattle.coordinator.proofs.start_refusal.Reads as start-refusal-reads
+use Rattle.coord_checks.proofs.read_refusal.Statement.{statement}
+use Rattle.coord_checks.proofs.read_refusal.Tie as tie
+use Rattle.coord_checks.proofs.read_refusal.Reads as reads
+use Rattle.coord_checks.proofs.read_refusal.Lts as lts
+use Rattle.coord_checks.proofs.start_refusal.Reads as start-refusal-reads
 use Rattle.settings.proofs.code_refusal.Reads as code-refusal-reads
 
 -- src/lib.rt:89:9

@@ -11,7 +11,7 @@ use Rattle.coord_record.specs.Sound.{sound}
 use Rattle.coord_record.specs.SoundParts.{SoundParts, sound-parts}
 use Rattle.coord_record.specs.declared.Coordinator.{Coordinator}
 use Rattle.coord_rounds.specs.Deciding.{answers}
-use Rattle.coordinator.specs.Checks.{recordChecks, startChecks, writeRefusal, readRefusal, lengthsRight, strayChecks, takeRefusal, crashRefusal}
+use Rattle.coord_checks.specs.Checks.{recordChecks, startChecks, writeRefusal, readRefusal, lengthsRight, strayChecks, takeRefusal, crashRefusal}
 use Rattle.message.specs.Messages.{replyRefusal}
 use Rattle.message.specs.declared.Reply.{Reply}
 use Rattle.settings.specs.RangeLaws.{CodeRange, code-passed, and-left, and-right}

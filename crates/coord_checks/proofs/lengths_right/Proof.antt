@@ -1,10 +1,10 @@
-use Rattle.coordinator.specs.CheckLaws.{lengths-blocks, lengths-stripe, lengths-coded, lengths-held, lengths-none, lengths-fit}
+use Rattle.coord_checks.specs.CheckLaws.{lengths-blocks, lengths-stripe, lengths-coded, lengths-held, lengths-none, lengths-fit}
 use native.Mathlib.Omega.{arith}
 use borrow.Author.Needs.{needs}
-use Rattle.coordinator.proofs.lengths_right.Statement.{statement}
-use Rattle.coordinator.proofs.lengths_right.Tie as tie
-use Rattle.coordinator.proofs.lengths_right.Reads as reads
-use Rattle.coordinator.proofs.lengths_right.Lts as lts
+use Rattle.coord_checks.proofs.lengths_right.Statement.{statement}
+use Rattle.coord_checks.proofs.lengths_right.Tie as tie
+use Rattle.coord_checks.proofs.lengths_right.Reads as reads
+use Rattle.coord_checks.proofs.lengths_right.Lts as lts
 
 -- src/lib.rt:113:18
 mul-if1 : tie.Need-mul-if1

@@ -1,9 +1,9 @@
-use Rattle.coordinator.specs.CheckLaws.{record-number, record-broken, record-zero}
+use Rattle.coord_checks.specs.CheckLaws.{record-number, record-broken, record-zero}
 use borrow.Author.Needs.{needs}
-use Rattle.coordinator.proofs.record_refusal.Statement.{statement}
-use Rattle.coordinator.proofs.record_refusal.Tie as tie
-use Rattle.coordinator.proofs.record_refusal.Reads as reads
-use Rattle.coordinator.proofs.record_refusal.Lts as lts
+use Rattle.coord_checks.proofs.record_refusal.Statement.{statement}
+use Rattle.coord_checks.proofs.record_refusal.Tie as tie
+use Rattle.coord_checks.proofs.record_refusal.Reads as reads
+use Rattle.coord_checks.proofs.record_refusal.Lts as lts
 use Rattle.coord_record.proofs.Coordinator.sound.Reads as sound-reads
 
 -- src/lib.rt:24:9

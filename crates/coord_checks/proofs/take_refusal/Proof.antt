@@ -1,11 +1,11 @@
-use Rattle.coordinator.specs.CheckLaws.{take-code, take-lengths, take-brick, take-rest, ranged, few-bricks}
+use Rattle.coord_checks.specs.CheckLaws.{take-code, take-lengths, take-brick, take-rest, ranged, few-bricks}
 use borrow.Author.Needs.{needs}
-use Rattle.coordinator.proofs.take_refusal.Statement.{statement}
-use Rattle.coordinator.proofs.take_refusal.Tie as tie
-use Rattle.coordinator.proofs.take_refusal.Reads as reads
-use Rattle.coordinator.proofs.take_refusal.Lts as lts
-use Rattle.coordinator.proofs.lengths_right.Reads as lengths-right-reads
-use Rattle.coordinator.proofs.stray_refusal.Reads as stray-refusal-reads
+use Rattle.coord_checks.proofs.take_refusal.Statement.{statement}
+use Rattle.coord_checks.proofs.take_refusal.Tie as tie
+use Rattle.coord_checks.proofs.take_refusal.Reads as reads
+use Rattle.coord_checks.proofs.take_refusal.Lts as lts
+use Rattle.coord_checks.proofs.lengths_right.Reads as lengths-right-reads
+use Rattle.coord_checks.proofs.stray_refusal.Reads as stray-refusal-reads
 use Rattle.settings.proofs.code_refusal.Reads as code-refusal-reads
 
 -- src/lib.rt:142:9

@@ -1,0 +1,3 @@
+-- Definitions: Checks. Laws: CheckLaws.
+pub mod CheckLaws
+pub mod Checks
