@@ -1,6 +1,2 @@
--- Definitions: Answers. Laws: AnswerLaws, StepLaws, ShortLaws, ActedLaws.
-pub mod ActedLaws
-pub mod AnswerLaws
-pub mod Answers
+-- Laws: ShortLaws.
 pub mod ShortLaws
-pub mod StepLaws

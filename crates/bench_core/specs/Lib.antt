@@ -1,5 +1,4 @@
--- Definitions: Lining. Laws: CarryLaws, TurnLaws, RefusalLaws, HeldLaws.
-pub mod CarryLaws
+-- Definitions: Lining. Laws: TurnLaws, RefusalLaws, HeldLaws.
 pub mod HeldLaws
 pub mod Lining
 pub mod RefusalLaws

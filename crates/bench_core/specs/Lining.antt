@@ -7,9 +7,8 @@ use lib.Dec.{eqb, leb}
 use lib.ListN.{length}
 use Rattle.settings.specs.Refusal.{refuseUnless, firstRefusal, badSetting, badLength, badRecord}
 use Rattle.bench_line.specs.Lines.{reads}
-use Rattle.bench_play.specs.Play.{Played, Stage, waiting, playing, Turn, turn, lastMessage}
+use Rattle.bench_play.specs.Play.{Stage, waiting, playing, Turn, turn, lastMessage}
 use Rattle.bench_play.specs.Turning.{Lent, worldIn}
-use Rattle.bench_play.specs.declared.After.{After}
 use Rattle.bench_print.specs.Printing.{written}
 use Rattle.bench_state.specs.State.{benchRange}
 use Rattle.bench_state.specs.declared.Bench.{Bench}
@@ -47,12 +46,3 @@ pub record Called (b : Bench) (l : Lent) (line out : List ℕ) (r : Outcome) (l�
   pub within : r .used ≤ length out
   pub refused-keeps : (r .refusal ≡ 0 → ⊥) → (r .bench ≡ b) × (l′ ≡ l) × (out′ ≡ out)
   pub accepted-again : r .refusal ≡ 0 → benchRefused (r .bench) (length (l′ .images)) (length (l′ .kept)) (length (l′ .numbers)) (length (l′ .bytes)) (length out′) ≡ 0
-
--- a line or a part of one at the beginning of the printed text
-pub record Lined (b : Bench) (l : Lent) (out : List ℕ) (p : Played) (r : After) (l′ : Lent) (out′ : List ℕ) : Type 0 where
-  pub world-is : worldIn (r .bench) l′ ≡ p .world
-  pub settings-kept : r .bench .settings ≡ b .settings
-  pub few : r .bench .sent ≤ 127
-  pub text-is : out′ ≡ written 0 (p .printed) out
-  pub used-is : r .used ≡ length (p .printed)
-  pub within : r .used ≤ 65536

@@ -19,7 +19,8 @@ use Rattle.bench_print.specs.WrittenLaws.{written-nothing}
 use Rattle.bench_state.specs.RangeLaws.{Fits, bench-fits}
 use Rattle.bench_state.specs.State.{benchRange, benchRefusal, freshBench}
 use Rattle.bench_state.specs.declared.Bench.{Bench}
-use Rattle.bench_core.specs.Lining.{stageOf, lengthsRight, benchRefused, heard, Lined, Called}
+use Rattle.bench_carry.specs.CarryLaws.{Lined}
+use Rattle.bench_core.specs.Lining.{stageOf, lengthsRight, benchRefused, heard, Called}
 use Rattle.bench_core.specs.TurnLaws.{Staged, First, lined-staged}
 
 -- settings of no set, or within the limits

@@ -39,8 +39,8 @@ use Rattle.bench_state.specs.RangeLaws.{Fits, bench-fits}
 use Rattle.bench_state.specs.State.{benchRange, benchRefusal, worldOf, freshBench}
 use Rattle.bench_state.specs.declared.Bench.{Bench}
 use Rattle.register.specs.Runs.{World, goesDown, comesUp, fresh}
-use Rattle.bench_core.specs.CarryLaws.{turned-lined}
-use Rattle.bench_core.specs.Lining.{stageOf, lengthsRight, benchRefused, heard, Lined}
+use Rattle.bench_carry.specs.CarryLaws.{Lined, turned-lined}
+use Rattle.bench_core.specs.Lining.{stageOf, lengthsRight, benchRefused, heard}
 
 -- a line after an accepted set, by what it says
 module _ (b : Bench) (l l′ : Lent) (out out′ : List ℕ) (r : After) (said : Line) where

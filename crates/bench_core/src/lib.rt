@@ -1,92 +1,24 @@
 // Playing the bench's lines (document 01, "The bench") over the proved routines.
 ghost use mathlib.Core.Path.{_≡_};
-ghost use mathlib.Core.Bool.{cond, _||_};
-ghost use mathlib.Core.List.{List, [], _∷_, _++_};
-ghost use Prim.Native.Nat.{ℕ, _+_, _≤_};
+ghost use mathlib.Core.Bool.{_||_};
+ghost use mathlib.Core.List.{[], _∷_, _++_};
+ghost use Prim.Native.Nat.{_+_, _≤_};
 ghost use lib.Dec.{eqb};
 ghost use lib.ListN.{length, take};
-ghost use Rattle.bench_core.specs.Lining.{Lined, stageOf, lengthsRight, benchRefused, Called};
+ghost use Rattle.bench_carry.specs.CarryLaws.{Lined};
+ghost use Rattle.bench_core.specs.Lining.{stageOf, lengthsRight, benchRefused, Called};
 ghost use Rattle.bench_core.specs.TurnLaws.{First};
-ghost use Rattle.bench_line.specs.Lines.{numbersOf, reads};
-ghost use Rattle.bench_line.specs.Meaning.{wordsFrom, CarryFrom, lineOf, Sound};
-ghost use Rattle.bench_play.specs.Play.{carried, carriedAll, switches, plays, waiting};
-ghost use Rattle.bench_play.specs.Turning.{Lent, lent, worldIn, Ready, Turned};
-ghost use Rattle.bench_state.specs.RangeLaws.{Fits};
+ghost use Rattle.bench_line.specs.Lines.{reads};
+ghost use Rattle.bench_line.specs.Meaning.{lineOf, Sound};
+ghost use Rattle.bench_play.specs.Play.{plays, waiting};
+ghost use Rattle.bench_play.specs.Turning.{Lent, lent, worldIn, Ready};
 ghost use Rattle.bench_state.specs.State.{benchRange};
-ghost use Rattle.register.specs.Runs.{goesDown, comesUp};
+use bench_carry::carry_all;
+use bench_carry::switch_at;
 use bench_line::Line;
 use bench_play::After;
 use bench_state::Bench;
 use settings::Settings;
-
-// A brick goes down (0) or comes up (1).
-fn switch_at(b: Bench, brick: u64, flag: u8, out: &mut [u8]) -> After
-    requires { ⌜ Fits (b .settings) × (b .sent ≤ 127) × (length (now out) ≡ 65536) ⌝ }
-    ensures { λ r. ⌜ ((l : Lent) → Lined b l (now (out .entry)) (switches (b .settings) (worldIn b l) brick (cond (eqb flag 1) (comesUp brick) (goesDown brick))) r l (now (out .exit))) ⌝ }
-{
-    let s = b.settings;
-    let place = brick as usize;
-    if s.n <= place {
-        return bench_play::refuse(b, 3, 0, out);
-    }
-    let bench = bench_state::with_up(b, place, flag);
-    After { bench, used: 0 }
-}
-
-// One carried number.
-fn carry_one(
-    b: Bench,
-    number: u64,
-    images: &mut [u8],
-    kept: &mut [u8],
-    numbers: &mut [u64],
-    bytes: &mut [u8],
-    at: usize,
-    out: &mut [u8],
-) -> After
-    requires { ⌜ Ready b (lent (now images) (now kept) (now numbers) (now bytes)) ⌝ }
-    requires { ⌜ at + 128 ≤ length (now out) ⌝ }
-    ensures { λ r. ⌜ Turned b (lent (now (images .entry)) (now (kept .entry)) (now (numbers .entry)) (now (bytes .entry))) at (now (out .entry)) (carried (b .settings) (worldIn b (lent (now (images .entry)) (now (kept .entry)) (now (numbers .entry)) (now (bytes .entry)))) number) r (lent (now (images .exit)) (now (kept .exit)) (now (numbers .exit)) (now (bytes .exit))) (now (out .exit)) ⌝ }
-{
-    if number == 0 {
-        return bench_play::refuse(b, 12, at, out);
-    }
-    let last = number as usize;
-    if b.sent < last {
-        return bench_play::refuse(b, 12, at, out);
-    }
-    let k = last - 1;
-    if bench_sent::is_reply(numbers, k) {
-        return bench_acts::carry_reply(b, k, kept, numbers, bytes, at, out);
-    }
-    bench_deliver::carry_message(b, k, images, numbers, bytes, at, out)
-}
-
-// The numbers of a carry line, left to right.
-fn carry_all(
-    b: Bench,
-    line: &[u8],
-    first: usize,
-    images: &mut [u8],
-    kept: &mut [u8],
-    numbers: &mut [u64],
-    bytes: &mut [u8],
-    out: &mut [u8],
-) -> After
-    requires { ⌜ Ready b (lent (now images) (now kept) (now numbers) (now bytes)) ⌝ }
-    requires { ⌜ CarryFrom (now line) first × (length (now out) ≡ 65536) ⌝ }
-    ensures { λ r. ⌜ Lined b (lent (now (images .entry)) (now (kept .entry)) (now (numbers .entry)) (now (bytes .entry))) (now (out .entry)) (carriedAll (b .settings) (worldIn b (lent (now (images .entry)) (now (kept .entry)) (now (numbers .entry)) (now (bytes .entry)))) (numbersOf (wordsFrom (now (line .entry)) first))) r (lent (now (images .exit)) (now (kept .exit)) (now (numbers .exit)) (now (bytes .exit))) (now (out .exit)) ⌝ }
-{
-    let mut r = After { bench: b, used: 0 };
-    let mut place = first;
-    while place <= line.len() {
-        let k = bench_line::number_at(line, place);
-        let bench = r.bench;
-        r = carry_one(bench, k.value, images, kept, numbers, bytes, r.used, out);
-        place = k.end + 1;
-    }
-    r
-}
 
 // A line while no set is accepted: what its bytes read as is given.
 fn play_first(

@@ -72,7 +72,14 @@ pub fn write_refusal(
 }
 
 // The refusal of a read, 0 for none.
-pub fn read_refusal(n: usize, m: usize, size: usize, c: Coordinator, reading: u64, first: usize) -> u32
+pub fn read_refusal(
+    n: usize,
+    m: usize,
+    size: usize,
+    c: Coordinator,
+    reading: u64,
+    first: usize,
+) -> u32
     ensures { λ r. ⌜ r ≡ readRefusal n m size c reading first ⌝ }
 {
     let bad = settings::code_refusal(n, m, size);

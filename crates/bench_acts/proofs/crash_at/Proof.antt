@@ -1,6 +1,6 @@
 use mathlib.Core.Path.{sym}
-use Rattle.bench_acts.specs.ActedLaws.{crash-past, crash-here}
-use Rattle.bench_acts.specs.AnswerLaws.{seat-at, front-long}
+use Rattle.bench_commit.specs.ActedLaws.{crash-past, crash-here}
+use Rattle.bench_commit.specs.AnswerLaws.{seat-at, front-long}
 use borrow.Author.Needs.{needs}
 use Rattle.bench_acts.proofs.crash_at.Statement.{statement}
 use Rattle.bench_acts.proofs.crash_at.Tie as tie

@@ -1,13 +1,13 @@
 use mathlib.Core.Path.{ap, _∙_}
 use Prim.Native.Nat.{ℕ, _+_, _*_}
 use lib.ListN.{take, drop}
-use Rattle.bench_acts.specs.ActedLaws.{acted-read}
+use Rattle.bench_commit.specs.ActedLaws.{acted-read}
 use borrow.Author.Needs.{needs}
 use Rattle.bench_acts.proofs.read_with.Statement.{statement}
 use Rattle.bench_acts.proofs.read_with.Tie as tie
 use Rattle.bench_acts.proofs.read_with.Reads as reads
 use Rattle.bench_acts.proofs.read_with.Lts as lts
-use Rattle.bench_acts.proofs.commit.Reads as commit-reads
+use Rattle.bench_commit.proofs.commit.Reads as commit-reads
 use Rattle.bench_state.proofs.coordinator_at.Reads as coordinator-at-reads
 use Rattle.bench_state.proofs.fetch.Reads as fetch-reads
 use Rattle.coordinator.proofs.start_read.Reads as start-read-reads

@@ -1,7 +1,7 @@
 use mathlib.Core.Path.{sym}
 use lib.ListN.{drop}
-use Rattle.bench_acts.specs.ActedLaws.{write-past, write-here}
-use Rattle.bench_acts.specs.AnswerLaws.{seat-at, front-long, front-zeros}
+use Rattle.bench_commit.specs.ActedLaws.{write-past, write-here}
+use Rattle.bench_commit.specs.AnswerLaws.{seat-at, front-long, front-zeros}
 use borrow.Author.Needs.{needs}
 use Rattle.bench_acts.proofs.write_at.Statement.{statement}
 use Rattle.bench_acts.proofs.write_at.Tie as tie

@@ -1,14 +1,14 @@
 use mathlib.Core.Path.{sym, ap, subst, _∙_}
 use Prim.Native.Nat.{ℕ, _+_, _*_, _≤_}
 use lib.ListN.{take, drop}
-use Rattle.bench_acts.specs.ActedLaws.{short-write, whole-write}
+use Rattle.bench_commit.specs.ActedLaws.{short-write, whole-write}
 use Rattle.bench_acts.specs.ShortLaws.{content-long, count-is, content-is}
 use borrow.Author.Needs.{needs}
 use Rattle.bench_acts.proofs.write_with.Statement.{statement}
 use Rattle.bench_acts.proofs.write_with.Tie as tie
 use Rattle.bench_acts.proofs.write_with.Reads as reads
 use Rattle.bench_acts.proofs.write_with.Lts as lts
-use Rattle.bench_acts.proofs.commit.Reads as commit-reads
+use Rattle.bench_commit.proofs.commit.Reads as commit-reads
 use Rattle.bench_acts.proofs.is_short.Reads as is-short-reads
 use Rattle.bench_acts.proofs.read_content.Reads as read-content-reads
 use Rattle.bench_play.proofs.refuse.Reads as refuse-reads

@@ -2,7 +2,7 @@ use native.Mathlib.Omega.{arith}
 use Rattle.bench_line.specs.CallerLaws.{said-set, said-write, said-read, said-carry, said-crash, said-down, said-up, said-nothing, hex-place, number-place}
 use Rattle.bench_line.specs.Lines.{reads}
 use Rattle.bench_play.specs.Turning.{lent}
-use Rattle.bench_core.specs.CarryLaws.{ready-seats}
+use Rattle.bench_carry.specs.CarryLaws.{ready-seats}
 use Rattle.bench_core.specs.TurnLaws.{line-set, line-write, line-read, line-carry, line-crash, line-down, line-up, line-nothing}
 use borrow.Author.Needs.{needs}
 use Rattle.bench_core.proofs.play_next.Statement.{statement}
@@ -12,8 +12,8 @@ use Rattle.bench_core.proofs.play_next.Lts as lts
 use Rattle.bench_acts.proofs.crash_at.Reads as crash-at-reads
 use Rattle.bench_acts.proofs.read_at.Reads as read-at-reads
 use Rattle.bench_acts.proofs.write_at.Reads as write-at-reads
-use Rattle.bench_core.proofs.carry_all.Reads as carry-all-reads
-use Rattle.bench_core.proofs.switch_at.Reads as switch-at-reads
+use Rattle.bench_carry.proofs.carry_all.Reads as carry-all-reads
+use Rattle.bench_carry.proofs.switch_at.Reads as switch-at-reads
 use Rattle.bench_play.proofs.refuse.Reads as refuse-reads
 
 -- src/lib.rt:155:63

@@ -1,0 +1,2 @@
+-- Laws: CarryLaws.
+pub mod CarryLaws

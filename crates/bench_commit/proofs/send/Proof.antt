@@ -1,0 +1,37 @@
+use native.Mathlib.Omega.{arith}
+use Rattle.bench_sent.specs.RunLaws.{coded-long}
+use Rattle.bench_commit.specs.AnswerLaws.{round-none, round-one, sent-more}
+use borrow.Author.Needs.{needs}
+use Rattle.bench_commit.proofs.send.Statement.{statement}
+use Rattle.bench_commit.proofs.send.Tie as tie
+use Rattle.bench_commit.proofs.send.Reads as reads
+use Rattle.bench_commit.proofs.send.Lts as lts
+use Rattle.bench_sent.proofs.send_all.Reads as send-all-reads
+
+-- src/lib.rt:44:9
+returns : tie.Need-returns
+returns c = let s = c .before .before .before .before in round-none (s .args .s) _ _ _ _ _ _ (c .if1 .taken)
+
+-- src/lib.rt:46:5
+send-all-requires : tie.Need-send-all-requires
+send-all-requires c κs =
+    let s = c .before .before .before .before .before .before in
+    let p = s .pre .0 in
+    let m = sent-more (s .args .s .n) (s .args .sent) (s .args .rounds) (c .before .before .if1 .left) in
+    let q = s .pre .1 in
+    ((p .0, omega (arith, m, p .1, q .0), omega (arith, m, p .1, q .1)), coded-long _ _ _ _ (p .2))
+
+-- src/lib.rt:30:1
+same-length : tie.Need-same-length
+same-length c = search needs
+
+-- src/lib.rt:30:1
+same-length-2 : tie.Need-same-length-2
+same-length-2 c = search needs
+
+-- src/lib.rt:30:1
+returns-2 : tie.Need-returns-2
+returns-2 c = let s = c .before .before .before .before .before .before .before .before .before .before .before in round-one (s .args .s) _ _ _ _ _ _ _ _ (c .before .before .before .before .before .before .before .if1 .left) (c .before .before .before .before .send-all .ensures .0)
+
+pub send-spec : {M : Type 1} → statement M
+send-spec = tie.close (tie.spec returns send-all-requires same-length same-length-2 returns-2)

@@ -1,0 +1,5 @@
+-- Definitions: Answers. Laws: AnswerLaws, StepLaws, ActedLaws.
+pub mod ActedLaws
+pub mod AnswerLaws
+pub mod Answers
+pub mod StepLaws

@@ -1,0 +1,115 @@
+// What a coordinator's routine answered, on the bench: kept, sent and printed, where its messages stay within message 127 (document 01, "The bench").
+ghost use mathlib.Core.Path.{_≡_};
+ghost use Prim.Native.Nat.{_+_, _*_, _≤_, _<_};
+ghost use lib.ListN.{length};
+ghost use Rattle.bench_commit.specs.AnswerLaws.{Round, Seats, Copies, Answers};
+ghost use Rattle.bench_commit.specs.Answers.{sentAfter};
+use bench_play::After;
+use bench_state::Bench;
+use coord_acts::Answer;
+use message::Message;
+use settings::Settings;
+
+// How many messages are sent after a round, or after none.
+fn sent_after(n: usize, sent: usize, rounds: usize) -> usize
+    requires { ⌜ sent + n ≤ 1000 ⌝ }
+    ensures { λ r. ⌜ r ≡ sentAfter n sent rounds ⌝ }
+{
+    if rounds == 0 {
+        return sent;
+    }
+    sent + n
+}
+
+// A round sent, or none.
+fn send(
+    s: Settings,
+    sent: usize,
+    rounds: usize,
+    msg: Message,
+    coded: &[u8],
+    numbers: &mut [u64],
+    bytes: &mut [u8],
+)
+    requires { ⌜ (s .size ≤ 8) × (sentAfter (s .n) sent rounds ≤ 127) × (s .n * s .size ≤ length (now coded)) ⌝ }
+    requires { ⌜ (length (now numbers) ≡ 1016) × (length (now bytes) ≡ 3048) ⌝ }
+    ensures { λ _. ⌜ Round s sent rounds msg (now (coded .entry)) (now (numbers .entry)) (now (bytes .entry)) (now (numbers .exit)) (now (bytes .exit)) ⌝ }
+{
+    if rounds == 0 {
+        return;
+    }
+    bench_sent::send_all(s.n, s.size, sent, msg, coded, numbers, bytes)
+}
+
+// What a coordinator's routine answered, with the buffers it left, is kept, sent and printed.
+fn keep_answer(
+    b: Bench,
+    c: usize,
+    a: Answer,
+    sent: usize,
+    blocks: &[u8],
+    stripe: &[u8],
+    coded: &[u8],
+    kept: &mut [u8],
+    numbers: &mut [u64],
+    bytes: &mut [u8],
+    at: usize,
+    out: &mut [u8],
+) -> After
+    requires { ⌜ Seats b c (now kept) (now numbers) (now bytes) at (now out) ⌝ }
+    requires { ⌜ Copies (b .settings) (now blocks) (now stripe) (now coded) ⌝ }
+    requires { ⌜ (a .refusal ≡ 0) × (sent ≡ sentAfter (b .settings .n) (b .sent) (a .sent)) × (sent ≤ 127) ⌝ }
+    ensures { λ r. ⌜ Answers b c a (now (blocks .entry)) (now (stripe .entry)) (now (coded .entry)) (now (kept .entry)) (now (numbers .entry)) (now (bytes .entry)) at (now (out .entry)) r (now (kept .exit)) (now (numbers .exit)) (now (bytes .exit)) (now (out .exit)) ⌝ }
+{
+    let s = b.settings;
+    let msg = a.message;
+    send(s, b.sent, a.sent, msg, coded, numbers, bytes);
+    bench_state::keep(c, blocks, stripe, kept);
+    let seen = a.seen;
+    let used = bench_print::put_ended(c, seen, stripe, at, out);
+    let next = a.next;
+    let bench = bench_state::with_coordinator(b, c, next, sent);
+    After { bench, used }
+}
+
+// The same, unless it is refused or would send past message 127.
+pub fn commit(
+    b: Bench,
+    c: usize,
+    a: Answer,
+    blocks: &[u8],
+    stripe: &[u8],
+    coded: &[u8],
+    kept: &mut [u8],
+    numbers: &mut [u64],
+    bytes: &mut [u8],
+    at: usize,
+    out: &mut [u8],
+) -> After
+    requires { ⌜ Seats b c (now kept) (now numbers) (now bytes) at (now out) ⌝ }
+    requires { ⌜ Copies (b .settings) (now blocks) (now stripe) (now coded) ⌝ }
+    ensures { λ r. ⌜ Answers b c a (now (blocks .entry)) (now (stripe .entry)) (now (coded .entry)) (now (kept .entry)) (now (numbers .entry)) (now (bytes .entry)) at (now (out .entry)) r (now (kept .exit)) (now (numbers .exit)) (now (bytes .exit)) (now (out .exit)) ⌝ }
+{
+    if a.refusal != 0 {
+        return bench_play::refuse(b, a.refusal, at, out);
+    }
+    let s = b.settings;
+    let sent = sent_after(s.n, b.sent, a.sent);
+    if 127 < sent {
+        return bench_play::refuse(b, 12, at, out);
+    }
+    keep_answer(
+        b,
+        c,
+        a,
+        sent,
+        blocks,
+        stripe,
+        coded,
+        kept,
+        numbers,
+        bytes,
+        at,
+        out,
+    )
+}
