@@ -1,3 +1,4 @@
+use native.Mathlib.Omega.{arith}
 use mathlib.Core.Path.{sym}
 use Rattle.bench_commit.specs.ActedLaws.{read-past, read-here}
 use Rattle.bench_commit.specs.AnswerLaws.{seat-at, front-long}
@@ -21,7 +22,7 @@ same-length c = search needs
 returns : tie.Need-returns
 returns c =
     let s = c .before .before .before .before .before .before .before .before .before in
-    read-past (s .args .b) (s .args .c) (s .args .kept .now) (s .args .numbers .now) (s .args .bytes .now) 0 (s .args .out .now) _ (s .args .clock) (s .args .brick) _ (c .before .before .before .before .if1 .taken) (c .before .before .refuse .ensures)
+    read-past (s .args .b) (s .args .c) (s .args .kept .now) (s .args .numbers .now) (s .args .bytes .now) 0 (s .args .out .now) _ (s .args .clock) (s .args .brick) _ (omega (arith, c .before .before .before .before .if1 .taken)) (c .before .before .refuse .ensures)
 
 -- src/lib.rt:290:16
 mul-data : tie.Need-mul-data

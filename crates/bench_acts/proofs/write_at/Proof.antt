@@ -1,3 +1,4 @@
+use native.Mathlib.Omega.{arith}
 use mathlib.Core.Path.{sym}
 use lib.ListN.{drop}
 use Rattle.bench_commit.specs.ActedLaws.{write-past, write-here}
@@ -22,7 +23,7 @@ same-length c = search needs
 returns : tie.Need-returns
 returns c =
     let s = c .before .before .before .before .before .before .before .before .before .before in
-    write-past (s .args .b) (s .args .c) (s .args .kept .now) (s .args .numbers .now) (s .args .bytes .now) 0 (s .args .out .now) _ (s .args .clock) (drop (s .args .hex) (s .args .line .now)) _ (c .before .before .before .before .if1 .taken) (c .before .before .refuse .ensures)
+    write-past (s .args .b) (s .args .c) (s .args .kept .now) (s .args .numbers .now) (s .args .bytes .now) 0 (s .args .out .now) _ (s .args .clock) (drop (s .args .hex) (s .args .line .now)) _ (omega (arith, c .before .before .before .before .if1 .taken)) (c .before .before .refuse .ensures)
 
 -- src/lib.rt:363:16
 mul-data : tie.Need-mul-data
