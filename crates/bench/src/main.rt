@@ -5,10 +5,13 @@ ghost use Prim.Native.Nat.{_≤_, _<_};
 ghost use lib.ListN.{length};
 use bench_state::Bench;
 
-// The bench, how many bytes of a line are kept that has not ended yet, and whether the input may go on.
-struct Fed {
-    bench: Bench,
-    length: usize,
+// Where the reading stands: the next byte of the chunk, and how many it holds; how many bytes of a line are kept, and whether a newline
+// ended it; whether the input may go on.
+struct Reader {
+    at: usize,
+    filled: usize,
+    held: usize,
+    whole: bool,
     more: bool,
 }
 
@@ -43,133 +46,53 @@ fn new_line() -> [u8; 1001]
     [0; 1001]
 }
 
-// A line that ended, played and printed.
-fn play(
-    b: Bench,
-    line: &[u8],
-    held: usize,
-    images: &mut [u8],
-    kept: &mut [u8],
-    numbers: &mut [u64],
-    bytes: &mut [u8],
-    out: &mut [u8],
-) -> Bench
-    requires { ⌜ held ≤ length (now line) ⌝ }
-{
-    let r = bench_core::play_line(b, &line[..held], images, kept, numbers, bytes, out);
-    let used = r.used;
-    io::write_all(libc::STDOUT_FILENO, &out[..used]);
-    r.bench
-}
-
-// One byte of the input: a newline ends a line.
-fn take(
-    b: Bench,
-    held: usize,
-    byte: u8,
-    line: &mut [u8],
-    images: &mut [u8],
-    kept: &mut [u8],
-    numbers: &mut [u64],
-    bytes: &mut [u8],
-    out: &mut [u8],
-) -> Fed
-    requires { ⌜ (held ≤ 1001) × (length (now line) ≡ 1001) ⌝ }
-    ensures { λ r. ⌜ r .length ≤ 1001 ⌝ }
-{
-    if byte == 10 {
-        let next = play(b, line, held, images, kept, numbers, bytes, out);
-        return Fed {
-            bench: next,
-            length: 0,
-            more: true,
-        };
-    }
-    let longer = bench_core::add_byte(line, held, byte);
-    Fed {
-        bench: b,
-        length: longer,
-        more: true,
-    }
-}
-
-// The bytes of one reading.
-fn feed(
-    b: Bench,
-    held: usize,
-    chunk: &[u8],
-    line: &mut [u8],
-    images: &mut [u8],
-    kept: &mut [u8],
-    numbers: &mut [u64],
-    bytes: &mut [u8],
-    out: &mut [u8],
-) -> Fed
-    requires { ⌜ (held ≤ 1001) × (length (now line) ≡ 1001) ⌝ }
-    ensures { λ r. ⌜ r .length ≤ 1001 ⌝ }
-{
-    let mut fed = Fed {
-        bench: b,
-        length: held,
-        more: true,
-    };
-    let mut i = 0;
-    while i < chunk.len() {
-        let bench = fed.bench;
-        fed = take(
-            bench,
-            fed.length,
-            chunk[i],
-            line,
-            images,
-            kept,
-            numbers,
-            bytes,
-            out,
-        );
-        i += 1;
-    }
-    fed
-}
-
-// One reading, and its bytes played; none at the end of the input, or where reading fails.
-fn read_some(
-    b: Bench,
-    held: usize,
-    chunk: &mut [u8],
-    line: &mut [u8],
-    images: &mut [u8],
-    kept: &mut [u8],
-    numbers: &mut [u64],
-    bytes: &mut [u8],
-    out: &mut [u8],
-) -> Fed
-    requires { ⌜ (held ≤ 1001) × (length (now line) ≡ 1001) ⌝ }
-    ensures { λ r. ⌜ r .length ≤ 1001 ⌝ }
+// One reading; no byte at the end of the input, or where reading fails.
+fn refill(held: usize, chunk: &mut [u8]) -> Reader
+    requires { ⌜ held ≤ 1001 ⌝ }
+    ensures { λ r. ⌜ (r .filled ≤ length (now (chunk .entry))) × (r .held ≤ 1001) ⌝ }
 {
     let got = libc::read(libc::STDIN_FILENO, chunk);
     let n = io::count(got, chunk);
-    if n == 0 {
-        return Fed {
-            bench: b,
-            length: held,
-            more: false,
-        };
-    }
-    feed(
-        b,
+    Reader {
+        at: 0,
+        filled: n,
         held,
-        &chunk[..n],
-        line,
-        images,
-        kept,
-        numbers,
-        bytes,
-        out,
-    )
+        whole: false,
+        more: n != 0,
+    }
 }
 
-// How many readings may follow.
+// One byte of the input, after a reading where none is left: a newline ends a line.
+fn next_byte(r: Reader, chunk: &mut [u8], line: &mut [u8]) -> Reader
+    requires { ⌜ (r .filled ≤ length (now chunk)) × (r .held ≤ 1001) × (length (now line) ≡ 1001) ⌝ }
+    ensures { λ q. ⌜ (q .filled ≤ length (now (chunk .entry))) × (q .held ≤ 1001) ⌝ }
+{
+    if r.filled <= r.at {
+        return refill(r.held, chunk);
+    }
+    let at = r.at;
+    let byte = chunk[at];
+    let next = at + 1;
+    if byte == 10 {
+        return Reader {
+            at: next,
+            filled: r.filled,
+            held: r.held,
+            whole: true,
+            more: true,
+        };
+    }
+    let longer = bench_core::add_byte(line, r.held, byte);
+    Reader {
+        at: next,
+        filled: r.filled,
+        held: longer,
+        whole: false,
+        more: true,
+    }
+}
+
+// How many turns may follow.
 fn turns_left(turns: u64, more: bool) -> u64
     requires { ⌜ 1 ≤ turns ⌝ }
     ensures { λ r. ⌜ r < turns ⌝ }
@@ -180,42 +103,64 @@ fn turns_left(turns: u64, more: bool) -> u64
     0
 }
 
-// Readings until the input ends. A proved loop has to end, so it counts down from a number that no run uses up.
-fn read_all(
-    chunk: &mut [u8],
-    line: &mut [u8],
+// Whether a line goes on.
+fn goes_on(r: Reader) -> bool {
+    if r.whole {
+        return false;
+    }
+    r.more
+}
+
+// The bytes of one line. A proved loop has to end, so it counts down from a number that no run uses up.
+fn next_line(r: Reader, chunk: &mut [u8], line: &mut [u8]) -> Reader
+    requires { ⌜ (r .filled ≤ length (now chunk)) × (length (now line) ≡ 1001) ⌝ }
+    ensures { λ q. ⌜ (q .filled ≤ length (now (chunk .entry))) × (q .held ≤ 1001) ⌝ }
+{
+    let mut q = Reader {
+        at: r.at,
+        filled: r.filled,
+        held: 0,
+        whole: false,
+        more: true,
+    };
+    let mut turns = u64::MAX;
+    while turns > 0 {
+        q = next_byte(q, chunk, line);
+        let on = goes_on(q);
+        turns = turns_left(turns, on);
+    }
+    q
+}
+
+// Whether there is a line to play: one that a newline ended, or the last bytes of the input.
+fn is_line(r: Reader) -> bool {
+    if r.whole {
+        return true;
+    }
+    r.held != 0
+}
+
+// A line, played and printed.
+fn play(
+    b: Bench,
+    r: Reader,
+    line: &[u8],
     images: &mut [u8],
     kept: &mut [u8],
     numbers: &mut [u64],
     bytes: &mut [u8],
     out: &mut [u8],
-) -> Fed
-    requires { ⌜ length (now line) ≡ 1001 ⌝ }
-    ensures { λ r. ⌜ r .length ≤ 1001 ⌝ }
+) -> Bench
+    requires { ⌜ r .held ≤ length (now line) ⌝ }
 {
-    let none = bench_core::no_set();
-    let mut fed = Fed {
-        bench: none,
-        length: 0,
-        more: true,
-    };
-    let mut turns = u64::MAX;
-    while turns > 0 {
-        let bench = fed.bench;
-        fed = read_some(
-            bench,
-            fed.length,
-            chunk,
-            line,
-            images,
-            kept,
-            numbers,
-            bytes,
-            out,
-        );
-        turns = turns_left(turns, fed.more);
+    if is_line(r) {} else {
+        return b;
     }
-    fed
+    let held = r.held;
+    let o = bench_core::play_line(b, &line[..held], images, kept, numbers, bytes, out);
+    let used = o.used;
+    io::write_all(libc::STDOUT_FILENO, &out[..used]);
+    o.bench
 }
 
 // All lines of the input; a last one may have no newline.
@@ -230,13 +175,20 @@ fn play_all(
 )
     requires { ⌜ length (now line) ≡ 1001 ⌝ }
 {
-    let fed = read_all(chunk, line, images, kept, numbers, bytes, out);
-    let held = fed.length;
-    if held == 0 {
-        return;
+    let mut b = bench_core::no_set();
+    let mut r = Reader {
+        at: 0,
+        filled: 0,
+        held: 0,
+        whole: false,
+        more: true,
+    };
+    let mut turns = u64::MAX;
+    while turns > 0 {
+        r = next_line(r, chunk, line);
+        b = play(b, r, line, images, kept, numbers, bytes, out);
+        turns = turns_left(turns, r.more);
     }
-    let bench = fed.bench;
-    play(bench, line, held, images, kept, numbers, bytes, out);
 }
 
 fn main() {

@@ -1,89 +1,110 @@
+use mathlib.Core.Path.{_≡_, refl, _∙_}
+use Prim.Native.Nat.{_≤_}
 use native.Mathlib.Omega.{arith}
 use borrow.Author.Needs.{needs}
+use lib.ListN.{length}
 use Rattle.bench.proofs.play_all.Statement.{statement}
 use Rattle.bench.proofs.play_all.Tie as tie
 use Rattle.bench.proofs.play_all.Reads as reads
 use Rattle.bench.proofs.play_all.Lts as lts
+use Rattle.bench.proofs.next_line.Reads as next-line-reads
 use Rattle.bench.proofs.play.Reads as play-reads
-use Rattle.bench.proofs.read_all.Reads as read-all-reads
+use Rattle.bench.proofs.turns_left.Reads as turns-left-reads
+use Rattle.bench_core.proofs.no_set.Reads as no-set-reads
 
--- src/main.rt:223:9
-read-all-requires : tie.Need-read-all-requires
-read-all-requires c κs = search needs
+abbrev Inv-loop : tie.InvT-loop
+Inv-loop chunk₀ line₀ images₀ kept₀ numbers₀ bytes₀ out₀ b₀ r₀ turns₀ chunk line images kept numbers bytes out b r turns =
+    (r .filled ≤ length chunk₀) × (length chunk ≡ length chunk₀) × (length line ≡ length line₀) × (length images ≡ length images₀) × (length kept ≡ length kept₀)
+    × (length numbers ≡ length numbers₀) × (length bytes ≡ length bytes₀) × (length out ≡ length out₀)
 
--- src/main.rt:226:9
-same-length : tie.Need-same-length
-same-length c = search needs
+abbrev μ-loop : tie.MeasureT-loop
+μ-loop chunk₀ line₀ images₀ kept₀ numbers₀ bytes₀ out₀ b₀ r₀ turns₀ chunk line images kept numbers bytes out b r turns = turns
 
--- src/main.rt:226:9
-same-length-2 : tie.Need-same-length-2
-same-length-2 c = search needs
+-- src/main.rt:178:9
+no-set-requires : tie.Need-no-set-requires Inv-loop μ-loop
+no-set-requires c κs = search needs
 
--- src/main.rt:226:9
-same-length-3 : tie.Need-same-length-3
-same-length-3 c = search needs
+-- src/main.rt:187:5
+loop-holds : tie.Need-loop-holds Inv-loop μ-loop
+loop-holds c = (omega arith, refl, refl, refl, refl, refl, refl, refl)
 
--- src/main.rt:226:9
-same-length-4 : tie.Need-same-length-4
-same-length-4 c = search needs
+-- src/main.rt:188:9
+next-line-requires : tie.Need-next-line-requires Inv-loop μ-loop
+next-line-requires c κs = let v = c .before .before .before .loop .inv in (omega (arith, v .0, v .1), v .2 ∙ c .before .before .before .before .before .before .before .before .before .before .before .before .pre)
 
--- src/main.rt:226:9
-same-length-5 : tie.Need-same-length-5
-same-length-5 c = search needs
+-- src/main.rt:189:9
+play-requires : tie.Need-play-requires Inv-loop μ-loop
+play-requires c κs = let k = c .before .before .before .before .before .before .before .before .before .before .next-line in omega (arith, k .ensures .1, k .kept .1 .1 .0, c .before .before .before .before .before .before .before .before .before .before .before .before .before .before .loop .inv .2, c .before .before .before .before .before .before .before .before .before .before .before .before .before .before .before .before .before .before .before .before .before .before .before .pre)
 
--- src/main.rt:226:9
-same-length-6 : tie.Need-same-length-6
-same-length-6 c = search needs
+-- src/main.rt:190:9
+turns-left-requires : tie.Need-turns-left-requires Inv-loop μ-loop
+turns-left-requires c κs = c .before .before .before .before .before .before .before .before .before .before .before .before .before .before .before .before .before .before .before .before .before .before .before .before .loop-test .taken
 
--- src/main.rt:226:9
-same-length-7 : tie.Need-same-length-7
-same-length-7 c = search needs
+-- src/main.rt:187:5
+loop-less : tie.Need-loop-less Inv-loop μ-loop
+loop-less c = c .turns-left .ensures
 
--- src/main.rt:226:9
-returns : tie.Need-returns
+-- src/main.rt:187:5
+loop-again : tie.Need-loop-again Inv-loop μ-loop
+loop-again c =
+    let v = c .before .before .before .before .before .before .before .before .before .before .before .before .before .before .before .before .before .before .before .before .before .before .before .before .before .before .loop .inv in
+    let k = c .before .before .before .before .before .before .before .before .before .before .before .before .before .before .before .before .before .before .before .before .before .before .next-line in
+    let p = c .before .before .before .before .before .before .before .before .before .before .before .play .kept in (
+      omega (arith, k .ensures .0, v .1),
+      k .kept .1 .0 ∙ v .1,
+      k .kept .1 .1 .0 ∙ v .2,
+      p .1 .1 .1 .0 ∙ v .3,
+      p .1 .1 .1 .1 .0 ∙ v .4,
+      p .1 .1 .1 .1 .1 .0 ∙ v .5,
+      p .1 .1 .1 .1 .1 .1 .0 ∙ v .6,
+      p .1 .1 .1 .1 .1 .1 .1 .0 ∙ v .7,
+    )
+
+-- src/main.rt:167:1
+same-length : tie.Need-same-length Inv-loop μ-loop
+same-length c = c .before .loop .inv .1
+
+-- src/main.rt:167:1
+same-length-2 : tie.Need-same-length-2 Inv-loop μ-loop
+same-length-2 c = c .before .loop .inv .2
+
+-- src/main.rt:167:1
+same-length-3 : tie.Need-same-length-3 Inv-loop μ-loop
+same-length-3 c = c .before .loop .inv .3
+
+-- src/main.rt:167:1
+same-length-4 : tie.Need-same-length-4 Inv-loop μ-loop
+same-length-4 c = c .before .loop .inv .4
+
+-- src/main.rt:167:1
+same-length-5 : tie.Need-same-length-5 Inv-loop μ-loop
+same-length-5 c = c .before .loop .inv .5
+
+-- src/main.rt:167:1
+same-length-6 : tie.Need-same-length-6 Inv-loop μ-loop
+same-length-6 c = c .before .loop .inv .6
+
+-- src/main.rt:167:1
+same-length-7 : tie.Need-same-length-7 Inv-loop μ-loop
+same-length-7 c = c .before .loop .inv .7
+
+-- src/main.rt:167:1
+returns : tie.Need-returns Inv-loop μ-loop
 returns c = search needs
-
--- src/main.rt:229:5
-play-requires : tie.Need-play-requires
-play-requires c κs = let r = c .before .before .before .before .before .before .before .before .before .before .before .before .before .before .before .before .before .before .before .before .before .before .read-all in omega (arith, r .ensures, r .kept .1 .0, c .before .before .before .before .before .before .before .before .before .before .before .before .before .before .before .before .before .before .before .before .before .before .before .before .before .before .before .before .before .before .before .before .before .before .before .before .before .pre)
-
--- src/main.rt:212:1
-same-length-8 : tie.Need-same-length-8
-same-length-8 c = search needs
-
--- src/main.rt:212:1
-same-length-9 : tie.Need-same-length-9
-same-length-9 c = search needs
-
--- src/main.rt:212:1
-same-length-10 : tie.Need-same-length-10
-same-length-10 c = search needs
-
--- src/main.rt:212:1
-same-length-11 : tie.Need-same-length-11
-same-length-11 c = search needs
-
--- src/main.rt:212:1
-same-length-12 : tie.Need-same-length-12
-same-length-12 c = search needs
-
--- src/main.rt:212:1
-same-length-13 : tie.Need-same-length-13
-same-length-13 c = search needs
-
--- src/main.rt:212:1
-same-length-14 : tie.Need-same-length-14
-same-length-14 c = search needs
-
--- src/main.rt:212:1
-returns-2 : tie.Need-returns-2
-returns-2 c = search needs
 
 pub play-all-spec : {M : Type 1} → statement M
 play-all-spec =
     tie.close
     (tie.spec
-    read-all-requires
+    Inv-loop
+    μ-loop
+    no-set-requires
+    loop-holds
+    next-line-requires
+    play-requires
+    turns-left-requires
+    loop-less
+    loop-again
     same-length
     same-length-2
     same-length-3
@@ -91,13 +112,4 @@ play-all-spec =
     same-length-5
     same-length-6
     same-length-7
-    returns
-    play-requires
-    same-length-8
-    same-length-9
-    same-length-10
-    same-length-11
-    same-length-12
-    same-length-13
-    same-length-14
-    returns-2)
+    returns)
