@@ -413,19 +413,14 @@ fn limit(edges: &mut Edges) {
             put("Trims", format!("{stored}{}carry {last}\ncarry {last}\ncarry{}\n", pump(last, wanted), list(last + 1, n)));
             let fast = format!("{read}carry{}\ncarry{}\n", list(1, q), list(n + 1, q - 1));
             put("one round", format!("{fast}{}carry {}\n", pump(n + q, wanted), n + q));
-            let late = format!(
-                "{set}write 0 5 0a\ncarry{}\nwrite 1 1 0b\ncarry{}\ncarry{}\n",
-                list(1, n),
-                list(2 * n + 1, q),
-                list(3 * n + 1, q - 1)
-            );
+            // A write is ordered at all bricks and left there; another operation then lacks its q-th reply.
+            let second = |write: &str, other: &str| {
+                let (promise, asks, replies) = (list(1, n), list(2 * n + 1, q), list(3 * n + 1, q - 1));
+                format!("{set}{write}\ncarry{promise}\n{other}\ncarry{asks}\ncarry{replies}\n")
+            };
+            let late = second("write 0 5 0a", "write 1 1 0b");
             put("abort", format!("{late}{}carry {}\n", pump(3 * n + q, wanted), 3 * n + q));
-            let promised = format!(
-                "{set}write 0 1 0a\ncarry{}\nread 1 2 0\ncarry{}\ncarry{}\n",
-                list(1, n),
-                list(2 * n + 1, q),
-                list(3 * n + 1, q - 1)
-            );
+            let promised = second("write 0 1 0a", "read 1 2 0");
             put("recovery", format!("{promised}{}carry {}\n", pump(3 * n + q, wanted), 3 * n + q));
             let recovers = format!("{promised}carry {}\n", 3 * n + q);
             let opened = 4 * n + q;

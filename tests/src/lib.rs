@@ -17,3 +17,4 @@ pub mod proved;
 pub mod rng;
 pub mod script;
 pub mod settings;
+pub mod tally;

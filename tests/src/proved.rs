@@ -1,5 +1,7 @@
 //! The proved routines, through their C entry points. Nothing here computes: each function hands its arguments over.
 
+use crate::rng::Rng;
+
 mod c {
     extern "C" {
         pub fn probe_mul(a: u8, b: u8) -> u8;
@@ -10,160 +12,52 @@ mod c {
         pub fn probe_quorum(n: usize, m: usize) -> usize;
         pub fn probe_time(t: u64) -> bool;
         pub fn probe_settings(n: usize, m: usize, size: usize, capacity: usize) -> u32;
-        pub fn stripe_encode(
-            n: usize,
-            m: usize,
-            size: usize,
-            data: *const u8,
-            data_len: usize,
-            coded: *mut u8,
-            coded_len: usize,
-        ) -> u32;
-        #[allow(clippy::too_many_arguments)]
-        pub fn stripe_decode(
-            n: usize,
-            m: usize,
-            size: usize,
-            bricks: *const u8,
-            bricks_len: usize,
-            blocks: *const u8,
-            blocks_len: usize,
-            data: *mut u8,
-            data_len: usize,
-        ) -> u32;
-        pub fn brick_fresh(
-            n: usize,
-            m: usize,
-            size: usize,
-            capacity: usize,
-            brick: usize,
-            image: *mut u8,
-            image_len: usize,
-        ) -> u32;
-        pub fn brick_panel(
-            n: usize,
-            m: usize,
-            size: usize,
-            capacity: usize,
-            brick: usize,
-            image: *const u8,
-            image_len: usize,
-            times: *mut u64,
-            times_len: usize,
-        ) -> u32;
-        #[allow(clippy::too_many_arguments)]
-        pub fn brick_entry(
-            n: usize,
-            m: usize,
-            size: usize,
-            capacity: usize,
-            brick: usize,
-            image: *const u8,
-            image_len: usize,
-            place: usize,
-            found: *mut u64,
-            found_len: usize,
-        ) -> u32;
-        pub fn brick_receive(
-            n: usize,
-            m: usize,
-            size: usize,
-            capacity: usize,
-            brick: usize,
-            image: *mut u8,
-            image_len: usize,
-            kind: u8,
-            time: u64,
-            round: u64,
-            max: u64,
-            targets: *const u8,
-            targets_len: usize,
-            block: *const u8,
-            block_len: usize,
-            out: *mut u8,
-            out_len: usize,
-            reply: *mut u64,
-            reply_len: usize,
-        ) -> u32;
-        #[allow(clippy::too_many_arguments)]
-        pub fn coord_start_write(
-            n: usize,
-            m: usize,
-            size: usize,
-            numbers: *mut u64,
-            numbers_len: usize,
-            bytes: *mut u8,
-            bytes_len: usize,
-            sent: *mut u64,
-            sent_len: usize,
-            shown: *mut u8,
-            shown_len: usize,
-            reading: u64,
-            given: *const u8,
-            given_len: usize,
-            stripe: *mut u8,
-            stripe_len: usize,
-        ) -> u32;
-        #[allow(clippy::too_many_arguments)]
-        pub fn coord_start_read(
-            n: usize,
-            m: usize,
-            size: usize,
-            numbers: *mut u64,
-            numbers_len: usize,
-            bytes: *mut u8,
-            bytes_len: usize,
-            sent: *mut u64,
-            sent_len: usize,
-            shown: *mut u8,
-            shown_len: usize,
-            reading: u64,
-            first: usize,
-        ) -> u32;
-        #[allow(clippy::too_many_arguments)]
-        pub fn coord_take_reply(
-            n: usize,
-            m: usize,
-            size: usize,
-            numbers: *mut u64,
-            numbers_len: usize,
-            bytes: *mut u8,
-            bytes_len: usize,
-            sent: *mut u64,
-            sent_len: usize,
-            shown: *mut u8,
-            shown_len: usize,
-            kind: u8,
-            brick: usize,
-            time: u64,
-            round: u64,
-            yes: bool,
-            found: u64,
-            has: bool,
-            block: *const u8,
-            block_len: usize,
-            blocks: *mut u8,
-            blocks_len: usize,
-            stripe: *mut u8,
-            stripe_len: usize,
-            coded: *mut u8,
-            coded_len: usize,
-        ) -> u32;
-        #[allow(clippy::too_many_arguments)]
-        pub fn coord_crash(
-            n: usize,
-            m: usize,
-            size: usize,
-            numbers: *mut u64,
-            numbers_len: usize,
-            bytes: *mut u8,
-            bytes_len: usize,
-            sent: *mut u64,
-            sent_len: usize,
-            shown: *mut u8,
-            shown_len: usize,
-        ) -> u32;
         pub fn probe_draw(coordinator: u64, last: u64, reading: u64, out: *mut u64, len: usize) -> u32;
+    }
+
+    /// Routines that take the same arguments first, then their own.
+    macro_rules! routines {
+        ($first:tt $($name:ident $own:tt)*) => { extern "C" { $(routine!($name $first $own);)* } };
+    }
+    macro_rules! routine {
+        ($name:ident ($($first:ident: $type:ty),*) ($($own:ident: $kind:ty),*)) => {
+            pub fn $name($($first: $type,)* $($own: $kind),*) -> u32;
+        };
+    }
+
+    routines! {
+        (n: usize, m: usize, size: usize)
+        stripe_encode(data: *const u8, data_len: usize, coded: *mut u8, coded_len: usize)
+        stripe_decode(
+            bricks: *const u8, bricks_len: usize, blocks: *const u8, blocks_len: usize, data: *mut u8, data_len: usize
+        )
+    }
+
+    routines! {
+        (n: usize, m: usize, size: usize, capacity: usize, brick: usize)
+        brick_fresh(image: *mut u8, image_len: usize)
+        brick_panel(image: *const u8, image_len: usize, times: *mut u64, times_len: usize)
+        brick_entry(image: *const u8, image_len: usize, place: usize, found: *mut u64, found_len: usize)
+        brick_receive(
+            image: *mut u8, image_len: usize, kind: u8, time: u64, round: u64, max: u64, targets: *const u8,
+            targets_len: usize, block: *const u8, block_len: usize, out: *mut u8, out_len: usize, reply: *mut u64,
+            reply_len: usize
+        )
+    }
+
+    routines! {
+        (
+            n: usize, m: usize, size: usize, numbers: *mut u64, numbers_len: usize, bytes: *mut u8, bytes_len: usize,
+            sent: *mut u64, sent_len: usize, shown: *mut u8, shown_len: usize
+        )
+        coord_start_write(reading: u64, given: *const u8, given_len: usize, stripe: *mut u8, stripe_len: usize)
+        coord_start_read(reading: u64, first: usize)
+        coord_take_reply(
+            kind: u8, brick: usize, time: u64, round: u64, yes: bool, found: u64, has: bool, block: *const u8,
+            block_len: usize, blocks: *mut u8, blocks_len: usize, stripe: *mut u8, stripe_len: usize, coded: *mut u8,
+            coded_len: usize
+        )
+        coord_crash()
     }
 }
 
@@ -275,50 +169,62 @@ impl Lent {
     }
 }
 
+/// A coordinator as it is lent: the four buffers, the blocks of replies, the stripe, the n coded blocks.
+#[derive(Clone, Debug, PartialEq, Eq)]
+pub struct Coordinator {
+    pub lent: Lent,
+    pub blocks: Vec<u8>,
+    pub stripe: Vec<u8>,
+    pub coded: Vec<u8>,
+}
+
+impl Coordinator {
+    /// Other bytes in the buffers beside the record, as a crash may leave them.
+    pub fn overwrite(&mut self, rng: &mut Rng) {
+        for buffer in [&mut self.blocks, &mut self.stripe, &mut self.coded] {
+            *buffer = rng.bytes(buffer.len());
+        }
+    }
+}
+
 /// A reply's numbers: kind, brick, time, round, yes, found, and whether it holds a block.
 pub type Replied = (u8, usize, u64, u64, bool, u64, bool);
 
-pub fn start_write((n, m, size): Three, l: &mut Lent, reading: u64, given: &[u8], stripe: &mut [u8]) -> u32 {
-    let (a, b, c, d) = (l.numbers.as_mut_ptr(), l.bytes.as_mut_ptr(), l.sent.as_mut_ptr(), l.shown.as_mut_ptr());
-    let (g, s) = (given.as_ptr(), stripe.as_mut_ptr());
-    unsafe {
-        c::coord_start_write(
-            n, m, size, a, l.numbers.len(), b, l.bytes.len(), c, l.sent.len(), d, l.shown.len(), reading, g,
-            given.len(), s, stripe.len(),
-        )
-    }
+/// Calls a routine of a coordinator: on the settings, what is lent, and its own arguments.
+macro_rules! call {
+    ($routine:ident, $three:expr, $lent:expr $(, $own:expr)*) => {{
+        let ((n, m, size), l): (Three, &mut Lent) = ($three, $lent);
+        let (a, b, c, d) = (l.numbers.as_mut_ptr(), l.bytes.as_mut_ptr(), l.sent.as_mut_ptr(), l.shown.as_mut_ptr());
+        let (e, f, g, h) = (l.numbers.len(), l.bytes.len(), l.sent.len(), l.shown.len());
+        unsafe { c::$routine(n, m, size, a, e, b, f, c, g, d, h $(, $own)*) }
+    }};
 }
 
-pub fn start_read((n, m, size): Three, l: &mut Lent, reading: u64, first: usize) -> u32 {
-    let (a, b, c, d) = (l.numbers.as_mut_ptr(), l.bytes.as_mut_ptr(), l.sent.as_mut_ptr(), l.shown.as_mut_ptr());
-    unsafe {
-        c::coord_start_read(
-            n, m, size, a, l.numbers.len(), b, l.bytes.len(), c, l.sent.len(), d, l.shown.len(), reading, first,
-        )
-    }
+pub fn start_write(three: Three, lent: &mut Lent, reading: u64, given: &[u8], stripe: &mut [u8]) -> u32 {
+    call!(coord_start_write, three, lent, reading, given.as_ptr(), given.len(), stripe.as_mut_ptr(), stripe.len())
 }
 
-pub fn crash((n, m, size): Three, l: &mut Lent) -> u32 {
-    let (a, b, c, d) = (l.numbers.as_mut_ptr(), l.bytes.as_mut_ptr(), l.sent.as_mut_ptr(), l.shown.as_mut_ptr());
-    unsafe { c::coord_crash(n, m, size, a, l.numbers.len(), b, l.bytes.len(), c, l.sent.len(), d, l.shown.len()) }
+pub fn start_read(three: Three, lent: &mut Lent, reading: u64, first: usize) -> u32 {
+    call!(coord_start_read, three, lent, reading, first)
+}
+
+pub fn crash(three: Three, lent: &mut Lent) -> u32 {
+    call!(coord_crash, three, lent)
 }
 
 #[allow(clippy::too_many_arguments)]
 pub fn take_reply(
-    (n, m, size): Three,
-    l: &mut Lent,
+    three: Three,
+    lent: &mut Lent,
     (kind, brick, time, round, yes, found, has): Replied,
     block: &[u8],
     blocks: &mut [u8],
     stripe: &mut [u8],
     coded: &mut [u8],
 ) -> u32 {
-    let (a, b, c, d) = (l.numbers.as_mut_ptr(), l.bytes.as_mut_ptr(), l.sent.as_mut_ptr(), l.shown.as_mut_ptr());
-    let (e, f, g, h) = (block.as_ptr(), blocks.as_mut_ptr(), stripe.as_mut_ptr(), coded.as_mut_ptr());
-    unsafe {
-        c::coord_take_reply(
-            n, m, size, a, l.numbers.len(), b, l.bytes.len(), c, l.sent.len(), d, l.shown.len(), kind, brick, time,
-            round, yes, found, has, e, block.len(), f, blocks.len(), g, stripe.len(), h, coded.len(),
-        )
-    }
+    let (i, j, k, l) = (block.as_ptr(), blocks.as_mut_ptr(), stripe.as_mut_ptr(), coded.as_mut_ptr());
+    call!(
+        coord_take_reply, three, lent, kind, brick, time, round, yes, found, has, i, block.len(), j, blocks.len(), k,
+        stripe.len(), l, coded.len()
+    )
 }

@@ -89,17 +89,20 @@ fn read_says_yes_unless_a_promise_is_ahead() {
     }
 }
 
+/// A promise, a time, and whether a brick whose newest time is 32 takes that time.
+const AFTER_32: [(u64, u64, bool); 6] = [
+    (0, 32, false),
+    (0, 33, true),
+    (0, 31, false),
+    (40, 39, false),
+    (40, 40, true),
+    (40, 41, true),
+];
+
 #[test]
 fn order_promises_a_time_above_newest_and_not_below_the_promise() {
     let log = [(0, 5), (32, 6)];
-    for (promise, time, yes) in [
-        (0, 32, false),
-        (0, 33, true),
-        (0, 31, false),
-        (40, 39, false),
-        (40, 40, true),
-        (40, 41, true),
-    ] {
+    for (promise, time, yes) in AFTER_32 {
         let mut image = image(promise, &log);
         assert_eq!(
             answer(&mut image, &Message::plain(ORDER, time, 1)),
@@ -151,14 +154,7 @@ fn order_and_read_gives_nothing_on_a_no() {
 
 #[test]
 fn write_appends_and_leaves_the_promise() {
-    for (promise, time, yes) in [
-        (0, 32, false),
-        (0, 33, true),
-        (0, 31, false),
-        (40, 39, false),
-        (40, 40, true),
-        (40, 41, true),
-    ] {
+    for (promise, time, yes) in AFTER_32 {
         let mut image = image(promise, &[(0, 5), (32, 6)]);
         assert_eq!(answer(&mut image, &store(time, 9)), (yes, 0, None));
         let log = if yes {

@@ -87,6 +87,31 @@ fn stripe(data: &[u8], bricks: &[u8]) -> Outcome {
     }
 }
 
+/// Takes replies, the last of which ends the operation aborted.
+fn aborts(record: &mut Record, replies: Vec<Reply>) {
+    let step = take_all(record, replies);
+    assert_eq!(outcome(&step), Outcome::Abort);
+    assert!(step.sent.is_empty());
+}
+
+/// The messages of an Order-and-read round.
+fn order_reads(max: u64, round: u64) -> Vec<Message> {
+    let message = Message {
+        max,
+        ..Message::plain(ORDER_READ, 17, round)
+    };
+    vec![message; 4]
+}
+
+/// Replies with which a read ends after one round.
+fn fine() -> Vec<Reply> {
+    vec![
+        reply(READ, 1, 0, true, 40, Some(5)),
+        reply(READ, 1, 2, true, 40, None),
+        reply(READ, 1, 3, true, 40, Some(17)),
+    ]
+}
+
 /// A read in its first recovery round.
 fn recovering() -> Record {
     let mut record = reading();
@@ -98,16 +123,7 @@ fn recovering() -> Record {
             reply(READ, 1, 2, true, 0, None),
         ],
     );
-    assert_eq!(
-        step.sent,
-        vec![
-            Message {
-                max: NO_UPPER_END,
-                ..Message::plain(ORDER_READ, 17, 2)
-            };
-            4
-        ]
-    );
+    assert_eq!(step.sent, order_reads(NO_UPPER_END, 2));
     assert_eq!(step.ended, None);
     record
 }
@@ -155,18 +171,14 @@ fn the_qth_reply_decides_an_abort() {
         let mut replies = yes_from(ORDER, 1, &[3, 0, 2]);
         replies[place].yes = false;
         let mut record = writing();
-        let step = take_all(&mut record, replies);
-        assert_eq!(outcome(&step), Outcome::Abort);
-        assert!(step.sent.is_empty());
+        aborts(&mut record, replies);
         assert_eq!(record, Record { last: 1, ..fresh() });
     }
     let mut record = writing();
     take_all(&mut record, yes_from(ORDER, 1, &[0, 1, 2]));
     let mut replies = yes_from(WRITE, 2, &[0, 1, 3]);
     replies[0].yes = false;
-    let step = take_all(&mut record, replies);
-    assert_eq!(outcome(&step), Outcome::Abort);
-    assert!(step.sent.is_empty());
+    aborts(&mut record, replies);
 }
 
 #[test]
@@ -183,14 +195,7 @@ fn a_read_of_one_round() {
             4
         ]
     );
-    let step = take_all(
-        &mut record,
-        vec![
-            reply(READ, 1, 0, true, 40, Some(5)),
-            reply(READ, 1, 2, true, 40, None),
-            reply(READ, 1, 3, true, 40, Some(17)),
-        ],
-    );
+    let step = take_all(&mut record, fine());
     assert_eq!(outcome(&step), stripe(&[5, 9], &[3, 0]));
     assert!(step.sent.is_empty());
     assert_eq!(record, Record { last: 1, ..fresh() });
@@ -198,17 +203,12 @@ fn a_read_of_one_round() {
 
 #[test]
 fn a_read_recovers_otherwise() {
-    let fine = [
-        reply(READ, 1, 0, true, 40, Some(5)),
-        reply(READ, 1, 2, true, 40, None),
-        reply(READ, 1, 3, true, 40, Some(17)),
-    ];
     let with = |other: Reply| {
-        let place = fine
+        let mut replies = fine();
+        let place = replies
             .iter()
             .position(|reply| reply.brick == other.brick)
             .unwrap_or(2);
-        let mut replies = fine.to_vec();
         replies[place] = other;
         replies
     };
@@ -221,16 +221,7 @@ fn a_read_recovers_otherwise() {
     ] {
         let mut record = reading();
         let step = take_all(&mut record, replies);
-        assert_eq!(
-            step.sent,
-            vec![
-                Message {
-                    max: NO_UPPER_END,
-                    ..Message::plain(ORDER_READ, 17, 2)
-                };
-                4
-            ]
-        );
+        assert_eq!(step.sent, order_reads(NO_UPPER_END, 2));
         assert_eq!(step.ended, None);
     }
 }
@@ -279,16 +270,7 @@ fn recovery_looks_further_down() {
             reply(ORDER_READ, 2, 2, true, 0, Some(0)),
         ],
     );
-    assert_eq!(
-        step.sent,
-        vec![
-            Message {
-                max: 16,
-                ..Message::plain(ORDER_READ, 17, 3)
-            };
-            4
-        ]
-    );
+    assert_eq!(step.sent, order_reads(16, 3));
     let step = take_all(
         &mut record,
         vec![
@@ -313,16 +295,13 @@ fn recovery_aborts() {
         vec![none(0), zero(1), none(2)],
         vec![zero(0), zero(1), no(2)],
     ] {
-        let mut record = recovering();
-        let step = take_all(&mut record, replies);
-        assert_eq!(outcome(&step), Outcome::Abort);
-        assert!(step.sent.is_empty());
+        aborts(&mut recovering(), replies);
     }
     let mut record = recovering();
     take_all(&mut record, vec![zero(0), zero(1), none(2)]);
     let mut replies = yes_from(WRITE, 3, &[0, 1, 2]);
     replies[2].yes = false;
-    assert_eq!(outcome(&take_all(&mut record, replies)), Outcome::Abort);
+    aborts(&mut record, replies);
 }
 
 /// A read whose recovery stands in the given round.
@@ -335,11 +314,7 @@ fn recovering_in(round: u64) -> Record {
             &mut record,
             vec![single(0, time(round)), single(1, 0), single(2, 0)],
         );
-        let next = Message {
-            max: time(round),
-            ..Message::plain(ORDER_READ, 17, round + 1)
-        };
-        assert_eq!(step.sent, vec![next; 4]);
+        assert_eq!(step.sent, order_reads(time(round), round + 1));
     }
     record
 }
@@ -350,13 +325,8 @@ fn no_round_after_1000() {
     let single = |brick, found| reply(ORDER_READ, 1000, brick, true, found, Some(0));
     // Neither a further recovery round nor the Write round may be round 1,001.
     for found in [16, 0] {
-        let mut record = last.clone();
-        let step = take_all(
-            &mut record,
-            vec![single(0, found), single(1, 0), single(2, 0)],
-        );
-        assert_eq!(outcome(&step), Outcome::Abort);
-        assert!(step.sent.is_empty());
+        let replies = vec![single(0, found), single(1, 0), single(2, 0)];
+        aborts(&mut last.clone(), replies);
     }
     let mut record = recovering_in(999);
     let zeros = [0, 1, 2].map(|brick| reply(ORDER_READ, 999, brick, true, 0, Some(0)));
@@ -725,6 +695,7 @@ fn broken_records() {
         assert!(!breaks_a_rule(&record));
     }
     let order = |brick| reply(ORDER, 1, brick, true, 0, None);
+    let counted = |record, replies: &[Reply]| with(record, |r| r.replies = replies.to_vec());
     let broken = [
         Record {
             shape: Shape::new(4, 1, 1),
@@ -761,55 +732,21 @@ fn broken_records() {
         with(writing(), |r| r.stripe.push(0)),
         with(writing(), |r| r.stripe.clear()),
         with(writing(), |r| r.bricks = vec![0, 1]),
-        with(writing(), |r| {
-            r.replies = vec![order(0), order(1), order(2)]
-        }),
-        with(writing(), |r| r.replies = vec![order(0), order(0)]),
-        with(writing(), |r| r.replies = vec![order(4)]),
-        with(writing(), |r| {
-            r.replies = vec![Reply {
-                time: 33,
-                ..order(0)
-            }]
-        }),
-        with(writing(), |r| {
-            r.replies = vec![Reply {
-                round: 2,
-                ..order(0)
-            }]
-        }),
-        with(writing(), |r| {
-            r.replies = vec![Reply {
-                kind: WRITE,
-                ..order(0)
-            }]
-        }),
-        with(writing(), |r| {
-            r.replies = vec![Reply {
-                found: 3,
-                ..order(0)
-            }]
-        }),
-        with(writing(), |r| {
-            r.replies = vec![Reply {
-                block: Some(vec![0]),
-                ..order(0)
-            }]
-        }),
+        counted(writing(), &[order(0), order(1), order(2)]),
+        counted(writing(), &[order(0), order(0)]),
+        counted(writing(), &[order(4)]),
+        counted(writing(), &[Reply { time: 33, ..order(0) }]),
+        counted(writing(), &[Reply { round: 2, ..order(0) }]),
+        counted(writing(), &[Reply { kind: WRITE, ..order(0) }]),
+        counted(writing(), &[Reply { found: 3, ..order(0) }]),
+        counted(writing(), &[Reply { block: Some(vec![0]), ..order(0) }]),
         with(reading(), |r| r.kind = Kind::Write),
         with(reading(), |r| r.first = 4),
         with(reading(), |r| r.round = 2),
         with(reading(), |r| r.max = NO_UPPER_END),
         with(reading(), |r| r.stripe = vec![0, 0]),
-        with(reading(), |r| {
-            r.replies = vec![reply(READ, 1, 0, true, 0, None)]
-        }),
-        with(reading(), |r| {
-            r.replies = vec![Reply {
-                block: Some(vec![0, 0]),
-                ..reply(READ, 1, 0, true, 0, Some(0))
-            }]
-        }),
+        counted(reading(), &[reply(READ, 1, 0, true, 0, None)]),
+        counted(reading(), &[Reply { block: Some(vec![0, 0]), ..reply(READ, 1, 0, true, 0, Some(0)) }]),
         with(recovering(), |r| r.round = 1),
         with(recovering(), |r| r.round = 3),
         with(recovering(), |r| r.max = 16),
@@ -829,7 +766,7 @@ fn broken_records() {
     for record in &broken {
         assert!(breaks_a_rule(record), "{record:?}");
     }
-    let two = with(writing(), |r| r.replies = vec![order(0), order(1)]);
+    let two = counted(writing(), &[order(0), order(1)]);
     assert!(!breaks_a_rule(&two));
 }
 

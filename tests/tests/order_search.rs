@@ -1,8 +1,9 @@
 //! Random runs of the proved bricks and coordinators, at general settings, each searched for an order as document 01 asks for.
 
-use jilbagum_tests::proved::{self, Four, Lent, Replied};
+use jilbagum_tests::proved::{self, Coordinator, Four, Lent, Replied};
 use jilbagum_tests::rng::Rng;
-use std::collections::{BTreeMap, HashSet};
+use jilbagum_tests::tally::Tally;
+use std::collections::HashSet;
 
 const READ: u8 = 1;
 const ORDER_READ: u8 = 3;
@@ -122,23 +123,6 @@ fn is_order(operations: &[Operation], list: &[usize], stripe: usize) -> bool {
     right
 }
 
-/// How often each kind of outcome occurred.
-#[derive(Default)]
-struct Tally(BTreeMap<&'static str, usize>);
-
-impl Tally {
-    fn add(&mut self, what: &'static str, more: usize) {
-        *self.0.entry(what).or_default() += more;
-    }
-
-    fn expect(&self, least: usize, names: &[&'static str]) {
-        for name in names {
-            let count = self.0.get(name).copied().unwrap_or(0);
-            assert!(count >= least, "{name}: {count} of {least} in {:?}", self.0);
-        }
-    }
-}
-
 #[derive(Clone)]
 struct Message {
     brick: usize,
@@ -157,13 +141,6 @@ struct Reply {
 enum Sent {
     To(Message),
     Back(Reply),
-}
-
-struct Coordinator {
-    lent: Lent,
-    blocks: Vec<u8>,
-    stripe: Vec<u8>,
-    coded: Vec<u8>,
 }
 
 /// What goes wrong in a run: each is "once in so many", 0 for never.
@@ -337,8 +314,7 @@ impl World {
         assert_eq!(proved::crash(three, lent), 0);
         self.after(c);
         if once(rng, self.faults.buffers) {
-            let Coordinator { blocks, stripe, coded, .. } = &mut self.coordinators[c];
-            [blocks, stripe, coded].into_iter().for_each(|buffer| *buffer = rng.bytes(buffer.len()));
+            self.coordinators[c].overwrite(rng);
             self.overwritten += 1;
         }
         if self.faults.broken == Break::ClocksForget {

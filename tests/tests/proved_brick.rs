@@ -52,6 +52,14 @@ fn fresh(four: proved::Four, number: usize) -> Vec<u8> {
     bytes
 }
 
+/// Settings in range, and the number of a brick.
+fn some_brick(rng: &mut Rng) -> (proved::Four, usize) {
+    let n = 1 + rng.below(16) as usize;
+    let sizes = [1, 2, 7, 64, 255, 256];
+    let four = (n, 1 + rng.below(n as u64) as usize, sizes[rng.below(6) as usize], 2 + rng.below(31) as usize);
+    (four, rng.below(n as u64) as usize)
+}
+
 /// A message, mostly sensible, sometimes not.
 fn random_message(rng: &mut Rng, (n, m, size, _): proved::Four) -> brick::Message {
     let time = match rng.below(12) {
@@ -83,10 +91,7 @@ fn long_runs_of_messages() {
     let mut rng = Rng::printed(21);
     let mut answers = [0_usize; 128];
     for _ in 0..300 {
-        let n = 1 + rng.below(16) as usize;
-        let sizes = [1, 2, 7, 64, 255, 256];
-        let four = (n, 1 + rng.below(n as u64) as usize, sizes[rng.below(6) as usize], 2 + rng.below(31) as usize);
-        let number = rng.below(n as u64) as usize;
+        let (four, number) = some_brick(&mut rng);
         let mut bytes = fresh(four, number);
         for _ in 0..60 {
             let message = random_message(&mut rng, four);
@@ -184,10 +189,7 @@ fn views_of_every_place() {
     let (mut whole, mut hurt, mut other) = ([0_usize; 7], [0_usize; 7], [0_usize; 7]);
     let mut full = 0;
     for run in 0..400 {
-        let n = 1 + rng.below(16) as usize;
-        let sizes = [1, 2, 7, 64, 255, 256];
-        let four = (n, 1 + rng.below(n as u64) as usize, sizes[rng.below(6) as usize], 2 + rng.below(31) as usize);
-        let number = rng.below(n as u64) as usize;
+        let (four, number) = some_brick(&mut rng);
         let mut bytes = fresh(four, number);
         look_everywhere(four, number, &bytes, &mut whole);
         let mut time = 16;

@@ -2,37 +2,11 @@
 
 use jilbagum_tests::brick::{self, Message, Reply, ORDER_READ, READ, WRITE};
 use jilbagum_tests::coordinator::{self, Kind, Outcome, Record, Running, Step};
-use jilbagum_tests::proved::{self, Lent};
+use jilbagum_tests::proved::{self, Coordinator, Lent};
 use jilbagum_tests::rng::Rng;
 use jilbagum_tests::settings::{Refusal, Settings, Shape, LAST_COUNT, NO_UPPER_END};
 use jilbagum_tests::image;
-use std::collections::BTreeMap;
-
-/// How often each kind of outcome occurred.
-#[derive(Default)]
-struct Tally(BTreeMap<String, usize>);
-
-impl Tally {
-    fn add(&mut self, what: impl Into<String>) {
-        *self.0.entry(what.into()).or_default() += 1;
-    }
-
-    fn expect(&self, least: usize, names: &[&str]) {
-        for name in names {
-            let count = self.0.get(*name).copied().unwrap_or(0);
-            assert!(count >= least, "{name}: {count} of {least} in {:?}", self.0);
-        }
-    }
-}
-
-/// A coordinator as it is lent: the four buffers, the blocks of replies, the stripe, the n coded blocks.
-#[derive(Clone, Debug, PartialEq, Eq)]
-struct Coordinator {
-    lent: Lent,
-    blocks: Vec<u8>,
-    stripe: Vec<u8>,
-    coded: Vec<u8>,
-}
+use jilbagum_tests::tally::Tally;
 
 #[derive(Clone, Debug)]
 enum Event {
@@ -208,7 +182,7 @@ fn expected(shape: Shape, c: &Coordinator, event: &Event, tally: &mut Tally) -> 
     let before = c.lent.bytes.get(1).copied().unwrap_or(0);
     let (record, step) = match judged(shape, c, event) {
         Err(number) => {
-            tally.add(format!("refusal {number}"));
+            tally.add(format!("refusal {number}"), 1);
             return (after, u32::from(number), Step::default());
         }
         Ok(done) => done,
@@ -234,7 +208,7 @@ fn expected(shape: Shape, c: &Coordinator, event: &Event, tally: &mut Tally) -> 
         after.stripe.clone_from(data);
     }
     let (sent, ended) = (step.sent.first().map(|message| (message.kind, message.round)), outcome);
-    tally.add(match (event, sent, ended) {
+    let kind = match (event, sent, ended) {
         (Event::Write(..), ..) => "write begins".to_string(),
         (Event::Read(..), ..) => "read begins".to_string(),
         (Event::Crash, _, Some(_)) => "cut".to_string(),
@@ -249,7 +223,8 @@ fn expected(shape: Shape, c: &Coordinator, event: &Event, tally: &mut Tally) -> 
         (Event::Reply(r), _, Some(Outcome::Stripe { .. })) if r.kind == READ => "read in one round".to_string(),
         (Event::Reply(_), _, Some(Outcome::Stripe { .. })) => "recovered".to_string(),
         other => format!("{other:?}"),
-    });
+    };
+    tally.add(kind, 1);
     (after, 0, step)
 }
 
@@ -328,9 +303,8 @@ impl World {
     fn crash(&mut self, at: usize, rng: &mut Rng, tally: &mut Tally) {
         self.event(at, &Event::Crash, tally);
         if rng.once_in(2) {
-            let Coordinator { blocks, stripe, coded, .. } = &mut self.coordinators[at];
-            [blocks, stripe, coded].into_iter().for_each(|buffer| *buffer = rng.bytes(buffer.len()));
-            tally.add("buffers overwritten");
+            self.coordinators[at].overwrite(rng);
+            tally.add("buffers overwritten", 1);
         }
     }
 
