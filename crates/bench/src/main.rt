@@ -1,7 +1,9 @@
 // The bench (document 01): reads standard input to its end, whatever it holds, plays each line as it comes, and prints what the line
 // prints. All that it does with a line is bench_core's.
 ghost use mathlib.Core.Path.{_≡_};
+ghost use mathlib.Core.Bool.{not, _&&_, _||_};
 ghost use Prim.Native.Nat.{_≤_, _<_};
+ghost use lib.Dec.{ltb};
 ghost use lib.ListN.{length};
 use bench_state::Bench;
 
@@ -104,7 +106,9 @@ fn turns_left(turns: u64, more: bool) -> u64
 }
 
 // Whether a line goes on.
-fn goes_on(r: Reader) -> bool {
+fn goes_on(r: Reader) -> bool
+    ensures { λ q. ⌜ q ≡ not (r .whole) && r .more ⌝ }
+{
     if r.whole {
         return false;
     }
@@ -133,11 +137,13 @@ fn next_line(r: Reader, chunk: &mut [u8], line: &mut [u8]) -> Reader
 }
 
 // Whether there is a line to play: one that a newline ended, or the last bytes of the input.
-fn is_line(r: Reader) -> bool {
+fn is_line(r: Reader) -> bool
+    ensures { λ q. ⌜ q ≡ r .whole || ltb 0 (r .held) ⌝ }
+{
     if r.whole {
         return true;
     }
-    r.held != 0
+    0 < r.held
 }
 
 // A line, played and printed.
