@@ -19,6 +19,7 @@ use Rattle.message.specs.declared.Reply.{Reply}
 use Rattle.coord_acts.specs.Steps.{Held, Went, Step, refused, went, checked}
 use Rattle.coord_checks.specs.Checks.{recordChecks, startChecks, writeRefusal, readRefusal, crashRefusal}
 use Rattle.coordinator.specs.Rules.{takeStep, crashed, crashStep, drawnThen, writeStep, readStep}
+use Rattle.coordinator.specs.StepLaws.{take-passed}
 use Rattle.register.specs.Runs.{
   Item,
   message,
@@ -51,7 +52,6 @@ use Rattle.register.specs.Runs.{
 use Rattle.register.specs.Invariant.{Hist, Inv}
 use Rattle.register.specs.BrickEvent.{put-there, first-passed, unless-passed}
 use Rattle.register.specs.StartEvent.{passes}
-use Rattle.register.specs.CountLaws.{taken}
 use Rattle.register.specs.FreshLaws.{fresh-holds}
 use Rattle.register.specs.Theorem.{step-goes}
 
@@ -133,8 +133,8 @@ module _ (s : Settings) (g : SettingsRange s) (c : ℕ) (high : 15 < c) where
     item-still (reply a block) =
         coordinated-still (r .world) (a .time % 16) _
         (checked-low (a .time % 16) _ (went _)
-        (λ w. let t = taken s (r .world .coordinators (a .time % 16)) a block (s .n * s .size) w in
-        let l = t .coordinator-low in let z = i .coordinators (a .time % 16) .number in omega arith)) e
+        (λ w. let t = take-passed (s .n) (s .m) (s .size) (r .world .coordinators (a .time % 16) .state) a _ _ _ (s .n * s .size) _ refl w in
+        let l = t .parts .number-low in let z = i .coordinators (a .time % 16) .number in omega arith)) e
 
     place-still : (l : List Item) (k : ℕ) → Still s c (arrivingAt s (r .world) l k .world)
     unfolding arrivingAt unmoved

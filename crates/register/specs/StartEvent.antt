@@ -5,9 +5,8 @@ use mathlib.Core.Bool.{Bool, true, false, cond, _&&_}
 use mathlib.Core.List.{List, [], _∷_, _++_, List·Memᴰ·append-cases}
 use Prim.Native.Nat.{ℕ, zero, suc, _*_, _%_, _≤_, _<_}
 use native.Mathlib.Omega.{arith}
-use native.Mathlib.Decide.{decLt}
 use lib.Dec.{leb, eqb}
-use lib.ListN.{length, getD, replicate, getD-replicate, List·getD-eq-default}
+use lib.ListN.{length, getD, replicate}
 use borrow.Author.Tests.{leb-true, eqb-true, eq-eqb, ne-eqb}
 use Rattle.settings.specs.Ranges.{codeRefusal}
 use Rattle.settings.specs.RangeLaws.{SettingsRange, and-left}
@@ -27,6 +26,8 @@ use Rattle.coord_acts.specs.Acts.{roundMessage, firstOp, starting}
 use Rattle.coord_acts.specs.Steps.{Held, Broadcast, Went, refused, checked}
 use Rattle.coord_checks.specs.Checks.{writeRefusal, readRefusal}
 use Rattle.coordinator.specs.Rules.{drawnThen, writeStep, readStep}
+use Rattle.coord_laws.specs.Soundness.{none-sized}
+use Rattle.coord_laws.specs.TallyLaws.{zeros-at}
 use Rattle.order.specs.Claim.{Action, read, write, Seen, _∈_}
 use Rattle.order.specs.Facts.{Source, End, Fact, began, launched, ended}
 use Rattle.order.specs.Places.{In}
@@ -34,7 +35,7 @@ use Rattle.order.specs.PlaceLaws.{suf-below, in-suf, in-top}
 use Rattle.order.specs.Valid.{Began, Valid}
 use Rattle.order.specs.FactLaws.{ok-at}
 use Rattle.register.specs.Runs.{plain, Item, message, reply, Moved, seenOf, blockFor, broadcasts, coordinated}
-use Rattle.register.specs.Invariant.{quorums, Hist, MessageInv, ItemInv, Wide, Asked, Running, CoordinatorInv, Inv}
+use Rattle.register.specs.Invariant.{quorums, Hist, MessageInv, ItemInv, Asked, Running, CoordinatorInv, Inv}
 use Rattle.register.specs.UpLaws.{in-cons}
 use Rattle.register.specs.BrickEvent.{Goes, first-passed, unless-passed}
 use Rattle.register.specs.TurnLaws.{Turns, turns-began, in-broadcast, Turned, goes-turned, goes-refused}
@@ -42,15 +43,7 @@ use Rattle.register.specs.TurnLaws.{Turns, turns-began, in-broadcast, Tu
 -- no brick is counted in a new round
 pub none-member : (b : ℕ) → member (replicate 16 0) b ≡ true → ⊥
 unfolding member
-none-member b e = let w = by (decLt b 16) in let q = eqb-true (getD (replicate 16 0) b 0) 1 e in omega arith
-  where
-    by : Dec (b < 16) → _≡_ {A = ℕ} (getD (replicate 16 0) b 0) 0
-    by (yes l) = getD-replicate 16 b 0 0 l
-    by (no l) = List·getD-eq-default (replicate 16 0) 0 {n = b} (omega arith)
-
-pub wide-none : Wide nothingCounted
-unfolding nothingCounted
-wide-none = record { counted = refl; granted = refl; held = refl; found = refl }
+none-member b e = let w = zeros-at 16 b in let q = eqb-true (getD (replicate 16 0) b 0) 1 e in omega arith
 
 -- a write's bytes
 pub byte-below : (l : List ℕ) → Bytes l → (i : ℕ) → getD l i 0 < 256
@@ -88,7 +81,7 @@ module _ (s : Settings) (g : SettingsRange s) (h : Hist s) (sent : List Item) (c
         keeps = record {
           number = gave (k .state .clock) reading t clock d .same ∙ i .number;
           used = λ u w m. used u m (w .0) (in-cons (w .1));
-          wide = wide-none;
+          sized = none-sized;
           runs = λ n. running;
         };
         items = λ z m. let w = in-broadcast s sending z m in subst (ItemInv s g later (sent ++ broadcasts s (sending ∷ []))) (sym (w .2)) (asks (w .0) (w .1));
