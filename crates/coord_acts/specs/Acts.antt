@@ -15,6 +15,7 @@ use Rattle.coord_rounds.specs.Deciding.{tallied, decided}
 use Rattle.coord_rounds.specs.declared.Decision.{Decision}
 use Rattle.coord_rounds.specs.declared.Decision.the-variants.{Abort, Give, Look, Store, Recover, Finish}
 use Rattle.erasure.specs.Code.{codedOf, decodedOf}
+use Rattle.erasure.specs.Theorems.{blockOf}
 use Rattle.interpolate.specs.Tabulate.{stacked}
 use Rattle.message.specs.Flags.{members}
 use Rattle.message.specs.Kinds.{orderReadKind, writeKind, trimKind}
@@ -22,10 +23,6 @@ use Rattle.message.specs.declared.Message.{Message}
 use Rattle.message.specs.declared.Reply.{Reply}
 use Rattle.settings.specs.Ranges.{quorum}
 use Rattle.settings.specs.declared.Clock.{Clock}
-
--- brick b's block among blocks in a row
-unfoldable pub blockOf : ℕ → List ℕ → ℕ → List ℕ
-blockOf size blocks b = take size (drop (b * size) blocks)
 
 -- the blocks of the first m bricks of a row, one after the other, and the stripe that they decode to
 unfoldable pub gathered : ℕ → ℕ → List ℕ → List ℕ → List ℕ

@@ -8,7 +8,8 @@ use Rattle.erasure.specs.Code.{decodedOf}
 use native.Mathlib.Omega.{arith}
 use lib.ListN.{length, getD, take, drop}
 use borrow.Rule.Slice.PartMut.{putMid, postOf, post-is}
-use Rattle.coord_acts.specs.Acts.{blockOf, gathered, stripeFrom, placed}
+use Rattle.erasure.specs.Theorems.{blockOf}
+use Rattle.coord_acts.specs.Acts.{gathered, stripeFrom, placed}
 use Rattle.interpolate.specs.RowLaws.{Stacked, stacked-none, stacked-more, stacked-all, part-length}
 use Rattle.interpolate.specs.Tabulate.{stacked}
 

@@ -7,10 +7,9 @@ use native.Mathlib.Nat.{mul-le-mul-right, suc-mul, not-suc-le-zero, le-refl}
 use native.Mathlib.Omega.{arith}
 use lib.ListN.{length, getD, take, drop, length-append, length-take, length-drop, List·getD-append}
 use lib.Seq.{ext-getD, getD-take, getD-drop, getD-append-add, length-take-le, take-at, drop-at}
-use Rattle.coord_acts.specs.Acts.{blockOf, gathered, stripeFrom, placed}
+use Rattle.coord_acts.specs.Acts.{gathered, stripeFrom, placed}
 use Rattle.erasure.specs.Code.{codedOf, decodedOf}
-use Rattle.erasure.specs.Theorems.{Stripe, Bricks, blocksOf, decode-encode}
-use Rattle.erasure.specs.Theorems as theorems
+use Rattle.erasure.specs.Theorems.{blockOf, Stripe, Bricks, blocksOf, decode-encode}
 use Rattle.interpolate.specs.RowLaws.{PointSet}
 use Rattle.interpolate.specs.Tabulate.{stacked}
 use Rattle.settings.specs.RangeLaws.{CodeRange}
@@ -83,16 +82,16 @@ stacked-ext (suc k) f g h =
 -- THE STRIPE IS READ BACK: m different bricks whose blocks are those of a coded stripe decode to that stripe.
 pub stripe-read : (n m size : ℕ) (row blocks stripe : List ℕ) → CodeRange n m size → Stripe m size stripe → length row ≡ 16 → PointSet (take m row)
     → ((i : ℕ) → i < m → getD row i 0 < n)
-    → ((i : ℕ) → i < m → blockOf size blocks (getD row i 0) ≡ theorems.blockOf size (codedOf n m size stripe) (getD row i 0))
+    → ((i : ℕ) → i < m → blockOf size blocks (getD row i 0) ≡ blockOf size (codedOf n m size stripe) (getD row i 0))
     → stripeFrom m size row blocks ≡ stripe
 unfolding stripeFrom gathered blocksOf
 stripe-read n m size row blocks stripe r s l p b h =
     let few : m ≤ 16 = omega (arith, r .m-high, r .n-high) in
     let long-row = length-take-le m row (omega arith) in
-    let agree : stacked m (λ (i : ℕ). blockOf size blocks (getD row i 0)) ≡ stacked (length (take m row)) (λ (i : ℕ). theorems.blockOf size (codedOf n m size stripe) (getD (take m row) i 0)) =
-    stacked-ext m (λ (i : ℕ). blockOf size blocks (getD row i 0)) (λ (i : ℕ). theorems.blockOf size (codedOf n m size stripe) (getD (take m row) i 0))
-    (λ i u. h i u ∙ ap (theorems.blockOf size (codedOf n m size stripe)) (sym (getD-take m row i 0 u)))
-    ∙ ap (λ (k : ℕ). stacked k (λ (i : ℕ). theorems.blockOf size (codedOf n m size stripe) (getD (take m row) i 0))) (sym long-row)
+    let agree : stacked m (λ (i : ℕ). blockOf size blocks (getD row i 0)) ≡ stacked (length (take m row)) (λ (i : ℕ). blockOf size (codedOf n m size stripe) (getD (take m row) i 0)) =
+    stacked-ext m (λ (i : ℕ). blockOf size blocks (getD row i 0)) (λ (i : ℕ). blockOf size (codedOf n m size stripe) (getD (take m row) i 0))
+    (λ i u. h i u ∙ ap (blockOf size (codedOf n m size stripe)) (sym (getD-take m row i 0 u)))
+    ∙ ap (λ (k : ℕ). stacked k (λ (i : ℕ). blockOf size (codedOf n m size stripe) (getD (take m row) i 0))) (sym long-row)
     in
     let bricks : Bricks n m (take m row) =
     record {

@@ -16,7 +16,8 @@ use Rattle.settings.specs.declared.Settings.{Settings}
 use Rattle.message.specs.Flags.{member}
 use Rattle.message.specs.declared.Reply.{Reply}
 use Rattle.coord_rounds.specs.Deciding.{tallied}
-use Rattle.coord_acts.specs.Acts.{blockOf, placed, withTally, counting}
+use Rattle.erasure.specs.Theorems.{blockOf}
+use Rattle.coord_acts.specs.Acts.{placed, withTally, counting}
 use Rattle.coord_acts.specs.Steps.{Held, Went}
 use Rattle.coordinator.specs.StepLaws.{place-fits}
 use Rattle.coord_laws.specs.BlockLaws.{placed-same, placed-other}

@@ -16,10 +16,9 @@ use Rattle.image.specs.Brick
 use Rattle.image.specs.Brick.{LogEntry, savedTime}
 use Rattle.image.specs.SoundLaws.{Sound}
 use Rattle.erasure.specs.Code.{codedOf}
-use Rattle.erasure.specs.Theorems.{Stripe}
+use Rattle.erasure.specs.Theorems.{blockOf, Stripe}
 use Rattle.erasure.specs.MoreTheorems.{coded-of-zeros}
 use Rattle.coord_record.specs.Records.{noOp, idleWith}
-use Rattle.coord_acts.specs.Acts.{blockOf}
 use Rattle.coord_laws.specs.Soundness.{none-sized}
 use Rattle.order.specs.Claim.{Plain, _∈_}
 use Rattle.order.specs.Facts.{Fact, seen}

@@ -18,10 +18,9 @@ use Rattle.image.specs.Brick.{Brick, LogEntry}
 use Rattle.image.specs.Image.{imageOf}
 use Rattle.image.specs.SoundLaws.{Sound}
 use Rattle.erasure.specs.Code.{codedOf}
-use Rattle.erasure.specs.Theorems.{Stripe}
+use Rattle.erasure.specs.Theorems.{blockOf, Stripe}
 use Rattle.coord_record.specs.Records.{idleKind, readingKind, writingKind}
 use Rattle.coord_record.specs.Rules.{isTarget, blockRight}
-use Rattle.coord_acts.specs.Acts.{blockOf}
 use Rattle.coord_acts.specs.Steps.{Held}
 use Rattle.coord_laws.specs.TallyLaws.{Sized}
 use Rattle.order.specs.Claim.{Plain, read, write, _∈_}

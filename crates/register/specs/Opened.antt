@@ -41,7 +41,7 @@ unfolding Rattle.interpolate.specs.Tabulate.tabulate Rattle.interpolate.specs.
 interpolate-open = tt
 
 unfoldable pub erasure-open : Unit {0}
-unfolding Rattle.erasure.specs.Code.firstPoints Rattle.erasure.specs.Code.codedOf Rattle.erasure.specs.Code.decodedOf
+unfolding Rattle.erasure.specs.Code.firstPoints Rattle.erasure.specs.Code.codedOf Rattle.erasure.specs.Code.decodedOf Rattle.erasure.specs.Theorems.blockOf
 erasure-open = tt
 
 unfoldable pub coord-record-open : Unit {0}
@@ -53,7 +53,7 @@ unfolding Rattle.coord_counts.specs.Counting.saidNo Rattle.coord_counts.specs.
 coord-rounds-open = tt
 
 unfoldable pub coord-acts-open : Unit {0}
-unfolding Rattle.coord_acts.specs.Acts.blockOf Rattle.coord_acts.specs.Acts.gathered Rattle.coord_acts.specs.Acts.stripeFrom Rattle.coord_acts.specs.Acts.roundMessage Rattle.coord_acts.specs.Acts.trimMessage Rattle.coord_acts.specs.Acts.nextOp Rattle.coord_acts.specs.Acts.opened Rattle.coord_acts.specs.Acts.nextRound Rattle.coord_acts.specs.Acts.ending Rattle.coord_acts.specs.Acts.finishedSeen Rattle.coord_acts.specs.Acts.acted Rattle.coord_acts.specs.Acts.placed Rattle.coord_acts.specs.Acts.withTally Rattle.coord_acts.specs.Acts.counting Rattle.coord_acts.specs.Acts.waitingOr Rattle.coord_acts.specs.Acts.firstOp Rattle.coord_acts.specs.Acts.starting Rattle.coord_acts.specs.Steps.checked Rattle.coord_acts.specs.Steps.nothingSeen Rattle.coord_acts.specs.Steps.noMessage Rattle.coord_acts.specs.Steps.sentCount Rattle.coord_acts.specs.Steps.sentMessage Rattle.coord_acts.specs.Steps.sentBlocks Rattle.coord_acts.specs.Steps.answerOf Rattle.coord_acts.specs.Steps.blocksAfter Rattle.coord_acts.specs.Steps.stripeAfter Rattle.coord_acts.specs.Steps.codedAfter Rattle.coord_acts.specs.Steps.after
+unfolding Rattle.coord_acts.specs.Acts.gathered Rattle.coord_acts.specs.Acts.stripeFrom Rattle.coord_acts.specs.Acts.roundMessage Rattle.coord_acts.specs.Acts.trimMessage Rattle.coord_acts.specs.Acts.nextOp Rattle.coord_acts.specs.Acts.opened Rattle.coord_acts.specs.Acts.nextRound Rattle.coord_acts.specs.Acts.ending Rattle.coord_acts.specs.Acts.finishedSeen Rattle.coord_acts.specs.Acts.acted Rattle.coord_acts.specs.Acts.placed Rattle.coord_acts.specs.Acts.withTally Rattle.coord_acts.specs.Acts.counting Rattle.coord_acts.specs.Acts.waitingOr Rattle.coord_acts.specs.Acts.firstOp Rattle.coord_acts.specs.Acts.starting Rattle.coord_acts.specs.Steps.checked Rattle.coord_acts.specs.Steps.nothingSeen Rattle.coord_acts.specs.Steps.noMessage Rattle.coord_acts.specs.Steps.sentCount Rattle.coord_acts.specs.Steps.sentMessage Rattle.coord_acts.specs.Steps.sentBlocks Rattle.coord_acts.specs.Steps.answerOf Rattle.coord_acts.specs.Steps.blocksAfter Rattle.coord_acts.specs.Steps.stripeAfter Rattle.coord_acts.specs.Steps.codedAfter Rattle.coord_acts.specs.Steps.after
 coord-acts-open = tt
 
 unfoldable pub coordinator-open : Unit {0}

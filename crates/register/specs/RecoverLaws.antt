@@ -15,12 +15,11 @@ use Rattle.settings.specs.RangeLaws.{SettingsRange, and-left, and-right}
 use Rattle.settings.specs.declared.Settings.{Settings}
 use Rattle.message.specs.Flags.{member, members}
 use Rattle.erasure.specs.Code.{codedOf}
-use Rattle.erasure.specs.Theorems as theorems
-use Rattle.erasure.specs.Theorems.{Stripe}
+use Rattle.erasure.specs.Theorems.{blockOf, Stripe}
 use Rattle.coord_record.specs.Each.{some}
 use Rattle.coord_record.specs.Records.{noBricks}
 use Rattle.coord_counts.specs.Counting.{saidNo, highest, atTime, atTimes, picked}
-use Rattle.coord_acts.specs.Acts.{blockOf, stripeFrom, roundMessage, nextOp, nextRound}
+use Rattle.coord_acts.specs.Acts.{stripeFrom, roundMessage, nextOp, nextRound}
 use Rattle.coord_acts.specs.Steps.{Held}
 use Rattle.coord_counts.specs.RowSets.{picked-gave}
 use Rattle.coord_laws.specs.BlockLaws.{stripe-read}
@@ -62,7 +61,6 @@ count-none (suc n) = let w = count-none n in omega arith
 pub means-decode : (s : Settings) (g : SettingsRange s) (h : Hist s) → Valid (quorums s g) h → (t : ℕ) (row blocks : List ℕ) → Row (s .n) (s .m) row
     → ((j : ℕ) → j < s .m → Means s h t (getD row j 0) (blockOf (s .size) blocks (getD row j 0)))
     → (full : List ℕ) × Val h t full × Stripe (s .m) (s .size) full × (stripeFrom (s .m) (s .size) row blocks ≡ full)
-unfolding blockOf theorems.blockOf
 means-decode s g h v t row blocks r f =
     let z = f 0 (g .code .m-low) in (
       z .full,
