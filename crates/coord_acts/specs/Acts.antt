@@ -1,11 +1,12 @@
 -- Document 01, "What a coordinator does": what a decision does, and how an operation begins and ends.
 use mathlib.Core.Bool.{Bool, cond}
-use mathlib.Core.List.{List, [], _∷_, _++_}
+use mathlib.Core.List.{List, [], _∷_}
 use Prim.Native.Nat.{ℕ, _+_, _*_}
 use lib.Dec.{eqb, ltb}
-use lib.ListN.{getD, take, drop}
+use lib.ListN.{getD, take}
 use Rattle.coord_acts.specs.Steps.{Held, Broadcast, Went, nothingSeen, beganSeen, okSeen, readSeen, abortedSeen}
 use Rattle.coord_acts.specs.declared.Seen.{Seen}
+use Rattle.block.specs.Block.{put}
 use Rattle.coord_record.specs.Records.{readingKind, idleWith, nothingCounted, noBricks}
 use Rattle.coord_record.specs.declared.Coordinator.{Coordinator}
 use Rattle.coord_record.specs.declared.Op.{Op}
@@ -90,7 +91,7 @@ acted n m size h Finish =
 
 -- a reply's block in its place
 unfoldable pub placed : ℕ → ℕ → List ℕ → List ℕ → List ℕ
-placed size b block blocks = take (b * size) blocks ++ (block ++ drop (b * size + size) blocks)
+placed size b block blocks = put (b * size) block blocks
 
 -- "The first reply of a brick in a round counts"
 unfoldable pub withTally : Coordinator → Tally → Coordinator

@@ -5,7 +5,6 @@ use mathlib.Core.Bool.{Bool, true, false, cond}
 use mathlib.Core.List.{List}
 use Prim.Native.Nat.{ℕ, _+_, _*_, _≤_, _<_}
 use native.Mathlib.Omega.{arith}
-use native.Mathlib.Nat.{mul-le-mul-right, suc-mul}
 use native.Mathlib.Decide.{ℕ-discrete}
 use lib.Dec.{eqb}
 use lib.ListN.{length, set}
@@ -39,10 +38,6 @@ member-same l b y h = ap (λ (z : ℕ). eqb z 1) (getD-set-same l b (one-if y) 0
 pub member-other : (l : List ℕ) (b j v : ℕ) → j ≢ b → member (set l b v) j ≡ member l j
 unfolding member
 member-other l b j v n = ap (λ (z : ℕ). eqb z 1) (getD-set-other l b j v 0 n)
-
--- a brick's block lies within the blocks
-fits : (n size b : ℕ) (blocks : List ℕ) → length blocks ≡ n * size → b < n → b * size + size ≤ length blocks
-fits n size b blocks long low = let h = mul-le-mul-right size low in let q = suc-mul b size in omega arith
 
 -- A reply that is not refused is counted.
 pub counting-keeps : (s : Settings) (g : SettingsRange s) (h : Hist s) (sent : List Item) (c : ℕ) (k : Held) (r : Reply) (block : List ℕ) (coded : ℕ) (w : Went)
@@ -82,12 +77,11 @@ counting-keeps s g h sent c k r block coded w i t was =
     here true e q = placed-same (s .size) (r .brick) block (k .blocks) (t .takes .block-length e) (place-fits _ _ _ _ _ _ _ _ _ (t .takes))
     here false e q = let z : _≡_ {A = ℕ} 0 1 = cc in absurd (omega arith)
 
-    there : (a : Bool) → r .held ≡ a → (b : ℕ) → b < s .n → b ≢ r .brick
+    there : (a : Bool) → r .held ≡ a → (b : ℕ) → b ≢ r .brick
         → blockOf (s .size) (cond a (placed (s .size) (r .brick) block (k .blocks)) (k .blocks)) b ≡ blockOf (s .size) (k .blocks) b
-    there true e b l n =
-        placed-other (s .size) (r .brick) b block (k .blocks) (t .takes .block-length e) (place-fits _ _ _ _ _ _ _ _ _ (t .takes))
-        (fits (s .n) (s .size) b (k .blocks) (t .takes .blocks-length) l) n
-    there false e b l n = refl
+    there true e b n =
+        placed-other (s .size) (r .brick) b block (k .blocks) (t .takes .block-length e) (place-fits _ _ _ _ _ _ _ _ _ (t .takes)) n
+    there false e b n = refl
 
     new : CountedInv s sent after (r .brick)
     new =
@@ -121,7 +115,7 @@ counting-keeps s g h sent c k r block coded w i t was =
           yes-is = x .yes-is ∙ sym (member-other granted (r .brick) b (one-if (r .yes)) n);
           held-is = x .held-is ∙ sym (member-other held (r .brick) b (one-if (r .held)) n);
           found-is = x .found-is ∙ sym (getD-set-other found (r .brick) b (r .found) 0 n);
-          block-is = λ e. there (r .held) refl b (x .low) n ∙ x .block-is e;
+          block-is = λ e. there (r .held) refl b n ∙ x .block-is e;
           right = x .right;
         }
 

@@ -10,10 +10,11 @@ use lib.ListN.{length, take, drop, getD, set, length-take, length-drop}
 use native.Mathlib.Nat.{zero-add}
 use borrow.Author.Tests.{lt-ltb, le-ltb, le-leb, lt-leb, eq-eqb, ne-eqb, ltb-true, ltb-false, leb-true, leb-false, eqb-true, eqb-false}
 use Rattle.block.specs.Block.{put, entryBlock, unusedBlock, zeros}
+use Rattle.block.specs.PutLaws.{put-length}
 use Rattle.block.specs.StoreLaws.{Pasted, pasted-all, pasted-more, zeros-drop, zeros-take, zeros-length}
 use Rattle.block.specs.LayoutLaws.{unused-length}
 use Rattle.image.specs.Image.{stacked}
-use Rattle.image.specs.ImageLaws.{Even, stacked-at, stacked-length, stacked-of, stacked-ext, stacked-put, block-length, put-length}
+use Rattle.image.specs.ImageLaws.{Even, stacked-at, stacked-length, stacked-of, stacked-ext, stacked-put, block-length}
 use Rattle.image.specs.Parse.{blockAt}
 
 -- the bytes l are n blocks, block k being g k
