@@ -1,20 +1,20 @@
 -- Rows stored and read back.
 use mathlib.Core.Path.{_≡_, refl, sym, ap, ap₂, subst, _∙_}
-use mathlib.Core.Bool.{Bool, true, false, cond, not}
-use mathlib.Core.List.{List, [], _∷_, _++_, append-assoc}
+use mathlib.Core.Bool.{true, false, cond, not}
+use mathlib.Core.List.{List, [], _∷_, _++_}
 use Prim.Native.Nat.{ℕ, zero, suc, _+_, _-_, _*_, _%_, _≤_, _<_}
 use native.Mathlib.Omega.{arith}
 use native.Mathlib.Nat.{mod-eq-of-lt}
 use native.Mathlib.Numerals.{add-one, unary-clauses}
 use lib.Dec.{eqb}
-use lib.ListN.{length, take, drop, getD, length-append, length-drop, length-take, List·getD-append}
-use lib.Seq.{length-take-le, take-append-le, take-take, take-nil, getD-append-add, getD-take, take-at, drop-at}
+use lib.ListN.{length, take, drop, getD, List·getD-append}
+use lib.Seq.{length-take-le, getD-append-add, getD-take}
 use Rattle.block.specs.Block.{zeros, put}
 use Rattle.block.specs.PutLaws.{put-is, put-length, put-in, put-first, cut-same}
 use Rattle.message.specs.declared.Message.{Message}
 use Rattle.message.specs.declared.Reply.{Reply}
 use Rattle.register.specs.Runs.{Item, message, reply}
-use Rattle.settings.specs.Count.{one-if}
+use Rattle.settings.specs.Count.{one-if, one-is}
 use Rattle.bench_sent.specs.Sent.{Added, numberAt, isReply, flagsAt, blockAt, messageAt, replyAt, itemAt, itemsOf, messageRow, replyRow, numbersWith, bytesWith, noFlags}
 
 -- a number that was put is found there
@@ -135,10 +135,6 @@ message-read k brick msg block numbers bytes hk nf nb hn hb size e =
     rw (n0, n1, n2, n3, n4, n5, f, d, m)
 
 -- a reply's row is read back as the reply
-one-is : (b : Bool) → eqb (one-if b) 1 ≡ b
-one-is true = refl
-one-is false = refl
-
 no-flags-length : length noFlags ≡ 16
 unfolding noFlags zeros
 no-flags-length = refl

@@ -38,18 +38,17 @@ put-first at n x l hn h =
     ∙ take-take n at l hn
 
 -- a part depends only on what stands before its end
-cut-take : (p n : ℕ) (l : List ℕ) → take n (drop p l) ≡ drop p (take (p + n) l)
-cut-take zero n l = let e : n ≡ 0 + n = omega arith in ap (λ (m : ℕ). take m l) e
-cut-take (suc p) n [] =
-    take-nil n ∙ ap (drop (suc p)) (sym (take-nil (suc p + n)))
-cut-take (suc p) n (x ∷ l) =
-    let e : suc (p + n) ≡ suc p + n = omega arith in
-    cut-take p n l ∙ ap (λ (m : ℕ). drop (suc p) (take m (x ∷ l))) e
+pub drop-take : (p n : ℕ) (l : List ℕ) → drop p (take (p + n) l) ≡ take n (drop p l)
+drop-take zero n l = let e : 0 + n ≡ n = omega arith in ap (λ (m : ℕ). take m l) e
+drop-take (suc p) n [] = ap (drop (suc p)) (take-nil (suc p + n)) ∙ sym (take-nil n)
+drop-take (suc p) n (x ∷ l) =
+    let e : suc p + n ≡ suc (p + n) = omega arith in
+    ap (λ (m : ℕ). drop (suc p) (take m (x ∷ l))) e ∙ drop-take p n l
 
 pub cut-same : (p n e : ℕ) (l l′ : List ℕ) → p + n ≤ e → take e l′ ≡ take e l → take n (drop p l′) ≡ take n (drop p l)
 cut-same p n e l l′ h s =
     let shorter : take (p + n) l′ ≡ take (p + n) l = sym (take-take (p + n) e l′ h) ∙ ap (take (p + n)) s ∙ take-take (p + n) e l h in
-    cut-take p n l′ ∙ ap (drop p) shorter ∙ sym (cut-take p n l)
+    sym (drop-take p n l′) ∙ ap (drop p) shorter ∙ drop-take p n l
 
 pub put-before : (at b k : ℕ) (x l : List ℕ) → b + k ≤ at → at ≤ length l → take k (drop b (put at x l)) ≡ take k (drop b l)
 put-before at b k x l h f = cut-same b k at l (put at x l) h (put-first at at x l (omega arith) f)

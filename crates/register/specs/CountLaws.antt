@@ -3,13 +3,13 @@ use mathlib.Core.Path.{_≡_, refl, sym, ap, subst, _∙_}
 use mathlib.Core.Logic.{_≢_}
 use mathlib.Core.Bool.{Bool, true, false, cond}
 use mathlib.Core.List.{List}
-use Prim.Native.Nat.{ℕ, _+_, _*_, _≤_, _<_}
+use Prim.Native.Nat.{ℕ, _<_}
 use native.Mathlib.Omega.{arith}
 use native.Mathlib.Decide.{ℕ-discrete}
 use lib.Dec.{eqb}
 use lib.ListN.{length, set}
 use lib.Seq.{getD-set-same, getD-set-other}
-use Rattle.settings.specs.Count.{one-if}
+use Rattle.settings.specs.Count.{one-if, one-is}
 use Rattle.settings.specs.RangeLaws.{SettingsRange}
 use Rattle.settings.specs.declared.Settings.{Settings}
 use Rattle.message.specs.Flags.{member}
@@ -29,11 +29,7 @@ use Rattle.register.specs.Invariant.{Hist, CountedInv, Running, Coordina
 -- flags after one is set
 pub member-same : (l : List ℕ) (b : ℕ) (y : Bool) → b < length l → member (set l b (one-if y)) b ≡ y
 unfolding member
-member-same l b y h = ap (λ (z : ℕ). eqb z 1) (getD-set-same l b (one-if y) 0 h) ∙ go y
-  where
-    go : (y : Bool) → eqb (one-if y) 1 ≡ y
-    go true = refl
-    go false = refl
+member-same l b y h = ap (λ (z : ℕ). eqb z 1) (getD-set-same l b (one-if y) 0 h) ∙ one-is y
 
 pub member-other : (l : List ℕ) (b j v : ℕ) → j ≢ b → member (set l b v) j ≡ member l j
 unfolding member

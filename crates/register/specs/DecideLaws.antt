@@ -15,7 +15,7 @@ use Rattle.message.specs.Flags.{member, members}
 use Rattle.message.specs.declared.Message.{Message}
 use Rattle.erasure.specs.Code.{codedOf}
 use Rattle.erasure.specs.Theorems.{Stripe}
-use Rattle.coord_record.specs.Each.{some, some-at}
+use Rattle.settings.specs.Each.{some, some-at}
 use Rattle.coord_record.specs.Records.{noBricks}
 use Rattle.coord_record.specs.Sound.{maxRight, storedRight, readRight, writeRight, unsetOp, opRight, timeRight}
 use Rattle.coord_record.specs.SoundParts.{SoundParts}
@@ -33,8 +33,8 @@ use Rattle.order.specs.FactLaws.{committed-up}
 use Rattle.register.specs.Runs.{plain, Item, message, reply, seenOf, blockFor, broadcasts}
 use Rattle.register.specs.Invariant.{quorums, Hist, MessageInv, ReplyInv, ItemInv, Running, CoordinatorInv}
 use Rattle.register.specs.UpLaws.{in-cons}
-use Rattle.register.specs.TurnLaws.{turns-launched, in-broadcast, Turned}
-use Rattle.register.specs.RoundLaws.{time-of, ends, opens}
+use Rattle.register.specs.TurnLaws.{time-of, turns-launched, in-broadcast, Turned}
+use Rattle.register.specs.RoundLaws.{ends, opens}
 
 -- how phase and kind of a running operation go together
 pub data Fit (op : Op) : Type 0 where

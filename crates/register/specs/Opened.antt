@@ -17,7 +17,7 @@ unfolding Rattle.block.specs.Block.weighted Rattle.block.specs.Block.checkOf R
 block-open = tt
 
 unfoldable pub image-open : Unit {0}
-unfolding Rattle.image.specs.Brick.count Rattle.image.specs.Brick.noEntry Rattle.image.specs.Brick.timeAt Rattle.image.specs.Brick.heldAt Rattle.image.specs.Brick.newest Rattle.image.specs.Brick.fresh Rattle.image.specs.Brick.savedTime Rattle.image.specs.Brick.risesAt Rattle.image.specs.Brick.entrySound Rattle.image.specs.Brick.countSound Rattle.image.specs.Brick.sound Rattle.image.specs.Every.every Rattle.image.specs.Image.blockOf Rattle.image.specs.Image.stacked Rattle.image.specs.Image.imageOf Rattle.image.specs.Image.imageSize Rattle.image.specs.Parse.blockAt Rattle.image.specs.Parse.countIn Rattle.image.specs.Parse.promiseIn Rattle.image.specs.Parse.timeIn Rattle.image.specs.Parse.heldIn Rattle.image.specs.Parse.entryIn Rattle.image.specs.Parse.entriesIn Rattle.image.specs.Parse.brickIn Rattle.image.specs.Parse.checkedAt Rattle.image.specs.Parse.isImage Rattle.image.specs.Parse.openRefusal Rattle.image.specs.Parse.parse
+unfolding Rattle.image.specs.Brick.count Rattle.image.specs.Brick.noEntry Rattle.image.specs.Brick.timeAt Rattle.image.specs.Brick.heldAt Rattle.image.specs.Brick.newest Rattle.image.specs.Brick.fresh Rattle.image.specs.Brick.savedTime Rattle.image.specs.Brick.risesAt Rattle.image.specs.Brick.entrySound Rattle.image.specs.Brick.countSound Rattle.image.specs.Brick.sound Rattle.image.specs.Image.blockOf Rattle.image.specs.Image.stacked Rattle.image.specs.Image.imageOf Rattle.image.specs.Image.imageSize Rattle.image.specs.Parse.blockAt Rattle.image.specs.Parse.countIn Rattle.image.specs.Parse.promiseIn Rattle.image.specs.Parse.timeIn Rattle.image.specs.Parse.heldIn Rattle.image.specs.Parse.entryIn Rattle.image.specs.Parse.entriesIn Rattle.image.specs.Parse.brickIn Rattle.image.specs.Parse.checkedAt Rattle.image.specs.Parse.isImage Rattle.image.specs.Parse.openRefusal Rattle.image.specs.Parse.parse
 image-open = tt
 
 unfoldable pub saving-open : Unit {0}
@@ -45,7 +45,7 @@ unfolding Rattle.erasure.specs.Code.firstPoints Rattle.erasure.specs.Code.code
 erasure-open = tt
 
 unfoldable pub coord-record-open : Unit {0}
-unfolding Rattle.coord_record.specs.Each.each Rattle.coord_record.specs.Each.some Rattle.coord_record.specs.Records.noOp Rattle.coord_record.specs.Records.noBricks Rattle.coord_record.specs.Records.nothingCounted Rattle.coord_record.specs.Records.idleWith Rattle.coord_record.specs.Rules.above Rattle.coord_record.specs.Rules.isTarget Rattle.coord_record.specs.Rules.blockRight Rattle.coord_record.specs.Rules.countedRight Rattle.coord_record.specs.Rules.entryRight Rattle.coord_record.specs.Rules.tallyRight Rattle.coord_record.specs.Rules.brickRight Rattle.coord_record.specs.Rules.bricksRight Rattle.coord_record.specs.Sound.maxRight Rattle.coord_record.specs.Sound.storedRight Rattle.coord_record.specs.Sound.readRight Rattle.coord_record.specs.Sound.writeRight Rattle.coord_record.specs.Sound.unsetOp Rattle.coord_record.specs.Sound.opRight Rattle.coord_record.specs.Sound.timeRight Rattle.coord_record.specs.Sound.namedCount Rattle.coord_record.specs.Sound.filledRight Rattle.coord_record.specs.Sound.sound
+unfolding Rattle.settings.specs.Each.each Rattle.settings.specs.Each.some Rattle.coord_record.specs.Records.noOp Rattle.coord_record.specs.Records.noBricks Rattle.coord_record.specs.Records.nothingCounted Rattle.coord_record.specs.Records.idleWith Rattle.coord_record.specs.Rules.above Rattle.coord_record.specs.Rules.isTarget Rattle.coord_record.specs.Rules.blockRight Rattle.coord_record.specs.Rules.countedRight Rattle.coord_record.specs.Rules.entryRight Rattle.coord_record.specs.Rules.tallyRight Rattle.coord_record.specs.Rules.brickRight Rattle.coord_record.specs.Rules.bricksRight Rattle.coord_record.specs.Sound.maxRight Rattle.coord_record.specs.Sound.storedRight Rattle.coord_record.specs.Sound.readRight Rattle.coord_record.specs.Sound.writeRight Rattle.coord_record.specs.Sound.unsetOp Rattle.coord_record.specs.Sound.opRight Rattle.coord_record.specs.Sound.timeRight Rattle.coord_record.specs.Sound.namedCount Rattle.coord_record.specs.Sound.filledRight Rattle.coord_record.specs.Sound.sound
 coord-record-open = tt
 
 unfoldable pub coord-rounds-open : Unit {0}

@@ -16,7 +16,7 @@ use Rattle.settings.specs.declared.Settings.{Settings}
 use Rattle.message.specs.Flags.{member, members}
 use Rattle.erasure.specs.Code.{codedOf}
 use Rattle.erasure.specs.Theorems.{blockOf, Stripe}
-use Rattle.coord_record.specs.Each.{some}
+use Rattle.settings.specs.Each.{some}
 use Rattle.coord_record.specs.Records.{noBricks}
 use Rattle.coord_counts.specs.Counting.{saidNo, highest, atTime, atTimes, picked}
 use Rattle.coord_acts.specs.Acts.{stripeFrom, roundMessage, nextOp, nextRound}

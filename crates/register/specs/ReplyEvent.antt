@@ -14,7 +14,7 @@ use Rattle.settings.specs.Times.{noUpperEnd}
 use Rattle.settings.specs.declared.Settings.{Settings}
 use Rattle.message.specs.Flags.{members}
 use Rattle.message.specs.declared.Reply.{Reply}
-use Rattle.coord_record.specs.Each.{some}
+use Rattle.settings.specs.Each.{some}
 use Rattle.coord_counts.specs.Counting.{saidNo, highest, otherTime, missing, atTimes}
 use Rattle.coord_rounds.specs.Deciding.{decided}
 use Rattle.coord_rounds.specs.declared.Decision.{Decision}

@@ -20,20 +20,8 @@ use Rattle.order.specs.Valid.{Began, Launched, Ended, Val, Gone, OkEnded, Valid
 use Rattle.register.specs.Runs.{plain, Item, message, reply, seenOf, blockFor, broadcasts}
 use Rattle.register.specs.Invariant.{quorums, Hist, MessageInv, ItemInv, Asked, Running, CoordinatorInv}
 use Rattle.register.specs.UpLaws.{in-cons}
-use Rattle.register.specs.TurnLaws.{Turns, turns-not, turns-ended, in-broadcast, Turned}
+use Rattle.register.specs.TurnLaws.{time-of, kind-of, round-of, Turns, turns-not, turns-ended, in-broadcast, Turned}
 use Rattle.register.specs.StartEvent.{none-member}
-
-unfoldable pub time-of : Item → ℕ
-time-of (message b msg block) = msg .time
-time-of (reply r block) = 0
-
-unfoldable pub kind-of : Item → ℕ
-kind-of (message b msg block) = msg .kind
-kind-of (reply r block) = 0
-
-unfoldable pub round-of : Item → ℕ
-round-of (message b msg block) = msg .round
-round-of (reply r block) = 0
 
 unfoldable pub max-of : Item → ℕ
 max-of (message b msg block) = msg .max
