@@ -20,7 +20,7 @@ use Rattle.bench_play.specs.Play.{Played, refuses, passes, happens, switches, c
 use Rattle.bench_play.specs.Turning.{Lent, lent, worldIn, Ready, Turned}
 use Rattle.bench_play.specs.declared.After.{After}
 use Rattle.bench_print.specs.Printing.{written}
-use Rattle.bench_print.specs.WrittenLaws.{written-nothing, written-both, written-length}
+use Rattle.bench_print.specs.WrittenLaws.{written-nothing, written-both}
 use Rattle.bench_sent.specs.RunLaws.{items-length}
 use Rattle.bench_sent.specs.Sent.{itemsOf, itemAt}
 use Rattle.bench_state.specs.RangeLaws.{Fits}

@@ -16,7 +16,9 @@ use Rattle.brick.specs.declared.Given.{Given}
 use Rattle.brick.specs.declared.Given.the-variants.{Answered, Silent, Refused}
 use Rattle.coord_acts.specs.Steps.{Held}
 use Rattle.register.specs.Runs.{Item, World, Moved, message, arrives, arriving, received, repliedWith, putAt, step}
-use Rattle.bench_state.specs.PartLaws.{pasted, pasted-is, any-default}
+use Rattle.block.specs.Block.{put}
+use Rattle.block.specs.PutLaws.{put-mid}
+use Rattle.bench_state.specs.PartLaws.{any-default}
 use Rattle.bench_state.specs.State.{imagesOf, upOf, heldAt, worldOf}
 use Rattle.bench_state.specs.StateLaws.{image-put}
 use Rattle.bench_state.specs.declared.Bench.{Bench}
@@ -142,21 +144,21 @@ module _ (b : Bench) (k brick : ℕ) (msg : Message) (images numbers bytes : Lis
         ∙ ap (λ (v : Outcome). delivered s w k (v .given)) outcome-at
 
     module _ (new block numbers′ bytes′ : List ℕ) (at : ℕ) (out out′ : List ℕ) (r : After) (ei : new ≡ o .image) (eo : block ≡ o .out) (long : length new ≡ imageSize s) where
-      images-put : imagesOf s (pasted (brick * 2560) new images) ≡ putAt (imagesOf s images) brick (o .image)
+      images-put : imagesOf s (put (brick * 2560) new images) ≡ putAt (imagesOf s images) brick (o .image)
       images-put =
           image-put s (l .fits .small) images new brick (q .there) long (l .images-long)
           ∙ ap (putAt (imagesOf s images) brick) ei
 
       -- an answer or silence: the event happens
       happened : (g : Given) → g ≡ o .given → toldOf g ≡ [] → Settled b g block numbers bytes at out r numbers′ bytes′ out′
-          → Turned b (lent images kept numbers bytes) at out (happens s w (arrives k) []) r (lent (pasted (brick * 2560) new images) kept numbers′ bytes′) out′
+          → Turned b (lent images kept numbers bytes) at out (happens s w (arrives k) []) r (lent (put (brick * 2560) new images) kept numbers′ bytes′) out′
       unfolding happens received
       happened g e t d =
           record {
             world-is =
-                d .world-is (pasted (brick * 2560) new images) kept
-                ∙ ap₂ (λ (v : Given) (x : List ℕ). worldOf b (pasted (brick * 2560) new images) kept (itemsOf (s .size) numbers bytes (b .sent) ++ repliedWith v x)) e eo
-                ∙ world-with b images kept numbers bytes (pasted (brick * 2560) new images) (o .image) brick (repliedWith (o .given) (o .out)) images-put
+                d .world-is (put (brick * 2560) new images) kept
+                ∙ ap₂ (λ (v : Given) (x : List ℕ). worldOf b (put (brick * 2560) new images) kept (itemsOf (s .size) numbers bytes (b .sent) ++ repliedWith v x)) e eo
+                ∙ world-with b images kept numbers bytes (put (brick * 2560) new images) (o .image) brick (repliedWith (o .given) (o .out)) images-put
                 ∙ sym (ap (λ (m : Moved s). m .world) arrives-is);
             settings-kept = d .settings-kept;
             few = d .few;
@@ -167,13 +169,13 @@ module _ (b : Bench) (k brick : ℕ) (msg : Message) (images numbers bytes : Lis
 
       -- a refusal: the image kept its bytes
       refused-there : (n : ℕ) → Refused n ≡ o .given → Settled b (Refused n) block numbers bytes at out r numbers′ bytes′ out′
-          → Turned b (lent images kept numbers bytes) at out (refuses w n) r (lent (pasted (brick * 2560) new images) kept numbers′ bytes′) out′
+          → Turned b (lent images kept numbers bytes) at out (refuses w n) r (lent (put (brick * 2560) new images) kept numbers′ bytes′) out′
       unfolding refuses repliedWith toldOf imageSize
       refused-there n e d =
           record {
             world-is =
-                d .world-is (pasted (brick * 2560) new images) kept
-                ∙ world-same b images kept numbers bytes (pasted (brick * 2560) new images) back;
+                d .world-is (put (brick * 2560) new images) kept
+                ∙ world-same b images kept numbers bytes (put (brick * 2560) new images) back;
             settings-kept = d .settings-kept;
             few = d .few;
             text-is = d .text-is;
@@ -184,23 +186,23 @@ module _ (b : Bench) (k brick : ℕ) (msg : Message) (images numbers bytes : Lis
           same : new ≡ image
           same = ei ∙ refusal-keeps s brick image msg (blockAt (s .size) bytes k) (replicate (s .size) 0) n (sym e)
 
-          back : pasted (brick * 2560) new images ≡ images
+          back : put (brick * 2560) new images ≡ images
           back =
-              ap (λ (x : List ℕ). pasted (brick * 2560) x images) same
-              ∙ sym (pasted-is (brick * 2560) (brick * 2560 + imageSize s) images image (omega arith) (image-long ∙ (omega arith)))
+              ap (λ (x : List ℕ). put (brick * 2560) x images) same
+              ∙ sym (put-mid (brick * 2560) (brick * 2560 + imageSize s) images image (omega arith) (image-long ∙ (omega arith)))
               ∙ ap (λ (j : ℕ). putMid (brick * 2560) j images image) (let z : brick * 2560 + imageSize s - brick * 2560 ≡ imageSize s = omega arith in z)
               ∙ put-same (brick * 2560) (imageSize s) images
 
       delivered-by : (g : Given) → g ≡ o .given → Settled b g block numbers bytes at out r numbers′ bytes′ out′
-          → Turned b (lent images kept numbers bytes) at out (carries s w k (itemAt (s .size) numbers bytes k)) r (lent (pasted (brick * 2560) new images) kept numbers′ bytes′) out′
+          → Turned b (lent images kept numbers bytes) at out (carries s w k (itemAt (s .size) numbers bytes k)) r (lent (put (brick * 2560) new images) kept numbers′ bytes′) out′
       unfolding delivered toldOf
       delivered-by g e d =
-          subst (λ (p : Played). Turned b (lent images kept numbers bytes) at out p r (lent (pasted (brick * 2560) new images) kept numbers′ bytes′) out′)
+          subst (λ (p : Played). Turned b (lent images kept numbers bytes) at out p r (lent (put (brick * 2560) new images) kept numbers′ bytes′) out′)
           (ap (delivered s w k) e ∙ sym carries-is)
           (by g e d)
         where
           by : (g : Given) → g ≡ o .given → Settled b g block numbers bytes at out r numbers′ bytes′ out′
-              → Turned b (lent images kept numbers bytes) at out (delivered s w k g) r (lent (pasted (brick * 2560) new images) kept numbers′ bytes′) out′
+              → Turned b (lent images kept numbers bytes) at out (delivered s w k g) r (lent (put (brick * 2560) new images) kept numbers′ bytes′) out′
           by (Answered a) e d = happened (Answered a) e refl d
           by Silent e d = happened Silent e refl d
           by (Refused n) e d = refused-there n e d
@@ -233,7 +235,7 @@ module _ (b : Bench) (k brick : ℕ) (msg : Message) (images numbers bytes : Lis
   deliver-settled new block zeros numbers′ bytes′ at out out′ r g ez eg ei eo long d kept =
       let c = code-outcome zeros ez in
       subst (λ (i : List ℕ). Turned b (lent images kept numbers bytes) at out (carries s w′ k (itemAt (s .size) numbers bytes k)) r (lent i kept numbers′ bytes′) out′)
-      (sym (pasted-is (brick * 2560) (brick * 2560 + 512 * (s .capacity + 1)) images new (omega arith) (size ∙ sym cut)))
+      (sym (put-mid (brick * 2560) (brick * 2560 + 512 * (s .capacity + 1)) images new (omega arith) (size ∙ sym cut)))
       (delivered-by kept new block numbers′ bytes′ at out out′ r (ei ∙ ap (λ (v : Outcome). v .image) c) (eo ∙ ap (λ (v : Outcome). v .out) c) size g (eg ∙ ap (λ (v : Outcome). v .given) c) d)
     where
       w′ : World

@@ -16,6 +16,7 @@ use Rattle.bench_state.specs.declared.Bench.{Bench}
 use Rattle.bench_core.specs.Lining.{stageOf, benchRefused, heard, Called}
 use Rattle.bench_core.specs.declared.Outcome.{Outcome}
 use Rattle.bench_order.specs.Script.{lines, stays, follows, playsLines, script}
+use Rattle.block.specs.Block.{put}
 
 -- Calls for some lines, from a record and buffers to others, and the text printed: of each call the first `used` bytes of its buffer.
 pub data Calls : Bench → Lent → List ℕ → List (List ℕ) → List ℕ → Bench → Lent → List ℕ → Type 0 where
@@ -40,7 +41,7 @@ module _ (b : Bench) (l : Lent) (line out : List ℕ) (r : Outcome) (l′ : Lent
   call-stage = c .stage-is ∙ ap (λ (x : Turn). x .stage) heard-so
 
   call-text : take (r .used) out′ ≡ turn (stageOf b l) (reads line) .printed
-  unfolding written
+  unfolding put
   call-text =
       let p = heard (r .refusal) (stageOf b l) line .printed in
       ap₂ (λ (k : ℕ) (o : List ℕ). take k o) (c .used-is ∙ (let e : length p ≡ 0 + length p = omega arith in e)) (c .text-is)

@@ -8,10 +8,10 @@ use native.Mathlib.Omega.{arith}
 use lib.Dec.{eqb, ltb}
 use borrow.Author.Tests.{eqb-true, eqb-false, eq-eqb, ne-eqb, le-ltb, lt-leb}
 use Rattle.settings.specs.RangeLaws.{and-left}
-use Rattle.settings.specs.Refusal.{firstRefusal}
 use Rattle.settings.specs.declared.Settings.{Settings}
 use Rattle.coord_record.specs.Records.{readingKind, noBricks}
 use Rattle.coord_record.specs.Sound.{unsetOp, readRight, writeRight, opRight}
+use Rattle.coord_record.specs.SoundParts.{sound-parts}
 use Rattle.coord_record.specs.declared.Coordinator.{Coordinator}
 use Rattle.coord_record.specs.declared.Op.{Op}
 use Rattle.coord_rounds.specs.Deciding.{decided}
@@ -29,10 +29,10 @@ use Rattle.coord_laws.specs.Soundness.{passes, same-went}
 use Rattle.message.specs.Flags.{members}
 use Rattle.message.specs.declared.Reply.{Reply}
 use Rattle.settings.specs.Ranges.{codeRefusal, quorum}
+use Rattle.settings.specs.RefusalLaws.{passed-rest}
 use Rattle.coordinator.specs.StepLaws.{record-passes}
 use Rattle.order.specs.Claim.{Outcome, Seen, began, ended}
 use Rattle.register.specs.DecideLaws.{Fit, reading, looking, restoring, ordering, storing, fit}
-use Rattle.register.specs.RecordLaws.{parts}
 use Rattle.register.specs.Runs.{plain, seenOf}
 use Rattle.bench_print.specs.Printing.{kindWord, endWord, lineText, isEnd, endedText}
 use Rattle.bench_order.specs.Parts.{Ran}
@@ -192,15 +192,10 @@ take-agrees n m size h r block coded g e =
     (fit-known (h .state .op) (fit (h .state .op) o (omega (arith, t .answer .of-phase, t .reply .kind-low)))))
 
 -- a crash,
-passed-rest : (k : ℕ) (l : List ℕ) → firstRefusal (k ∷ l) ≡ 0 → firstRefusal l ≡ 0
-unfolding firstRefusal
-passed-rest zero l e = e
-passed-rest (suc k) l e = absurd (omega arith)
-
 crash-right : (n m size : ℕ) (c : Coordinator) → crashRefusal n m size c ≡ 0 → opRight (c .op) ≡ true
 unfolding crashRefusal
 crash-right n m size c e =
-    parts n m c (record-passes n m c [] (passed-rest (codeRefusal n m size) (recordChecks n m c []) e) .0 .is-sound) .op-is
+    sound-parts n m c (record-passes n m c [] (passed-rest (codeRefusal n m size) (recordChecks n m c []) e) .0 .is-sound) .op-right
 
 pub crash-agrees : (n m size : ℕ) (h : Held) (g : Went) → crashStep n m size h ≡ went g → Agrees (h .state .op) (g .seen)
 unfolding crashStep crashed ending

@@ -15,7 +15,7 @@ unfolding Rattle.bench_line.specs.Lines.areNumbers Rattle.bench_line.specs.Lin
 bench-line-open = tt
 
 unfoldable bench-print-open : Unit {0}
-unfolding Rattle.bench_print.specs.Printing.refusedWord Rattle.bench_print.specs.Printing.readWord Rattle.bench_print.specs.Printing.writeWord Rattle.bench_print.specs.Printing.okWord Rattle.bench_print.specs.Printing.abortWord Rattle.bench_print.specs.Printing.cutWord Rattle.bench_print.specs.Printing.digitsFrom Rattle.bench_print.specs.Printing.decimal Rattle.bench_print.specs.Printing.hexDigit Rattle.bench_print.specs.Printing.hexText Rattle.bench_print.specs.Printing.refusedText Rattle.bench_print.specs.Printing.kindWord Rattle.bench_print.specs.Printing.endWord Rattle.bench_print.specs.Printing.lineText Rattle.bench_print.specs.Printing.isEnd Rattle.bench_print.specs.Printing.endedText Rattle.bench_print.specs.Printing.written
+unfolding Rattle.bench_print.specs.Printing.refusedWord Rattle.bench_print.specs.Printing.readWord Rattle.bench_print.specs.Printing.writeWord Rattle.bench_print.specs.Printing.okWord Rattle.bench_print.specs.Printing.abortWord Rattle.bench_print.specs.Printing.cutWord Rattle.bench_print.specs.Printing.digitsFrom Rattle.bench_print.specs.Printing.decimal Rattle.bench_print.specs.Printing.hexDigit Rattle.bench_print.specs.Printing.hexText Rattle.bench_print.specs.Printing.refusedText Rattle.bench_print.specs.Printing.kindWord Rattle.bench_print.specs.Printing.endWord Rattle.bench_print.specs.Printing.lineText Rattle.bench_print.specs.Printing.isEnd Rattle.bench_print.specs.Printing.endedText
 bench-print-open = tt
 
 unfoldable bench-state-open : Unit {0}

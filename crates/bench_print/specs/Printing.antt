@@ -4,7 +4,7 @@ use mathlib.Core.Bool.{Bool, false, cond}
 use mathlib.Core.List.{List, [], _∷_, _++_}
 use Prim.Native.Nat.{ℕ, zero, suc, _+_, _/_, _%_}
 use lib.Dec.{eqb, ltb, leb}
-use lib.ListN.{length, take, drop}
+use Rattle.block.specs.Block.{put}
 use Rattle.coord_record.specs.Records.{readingKind}
 use Rattle.coord_acts.specs.Steps.{okSeen, readSeen, abortedSeen, cutSeen}
 use Rattle.coord_acts.specs.declared.Seen.{Seen}
@@ -89,5 +89,5 @@ unfoldable pub endedText : ℕ → Seen → List ℕ → List ℕ
 endedText c seen stripe = cond (isEnd (seen .what)) (lineText c (seen .kind) (seen .time) (seen .what) stripe) []
 
 -- a list with a text in place of what it had from a place on
-unfoldable pub written : ℕ → List ℕ → List ℕ → List ℕ
-written at text old = take at old ++ text ++ drop (at + length text) old
+abbrev pub written : ℕ → List ℕ → List ℕ → List ℕ
+written at text old = put at text old

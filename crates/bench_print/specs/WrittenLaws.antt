@@ -4,12 +4,14 @@ use mathlib.Core.List.{List, [], _∷_, _++_, append-assoc}
 use Prim.Native.Nat.{ℕ, _+_, _≤_, _<_}
 use native.Mathlib.Omega.{arith}
 use native.Mathlib.Numerals.{add-one, unary-clauses}
-use lib.ListN.{length, take, drop, getD, set, length-append, length-set, length-take, length-drop, take-append-drop}
+use lib.ListN.{length, take, drop, getD, set, length-append, length-set, length-take, take-append-drop}
 use lib.Seq.{take-at, drop-append-add, drop-drop, set-split, take-suc, take-all}
+use Rattle.block.specs.Block.{put}
+use Rattle.block.specs.PutLaws.{put-length}
 use Rattle.bench_print.specs.Printing.{written}
 
 pub written-nothing : (at : ℕ) (old : List ℕ) → written at [] old ≡ old
-unfolding written
+unfolding put
 written-nothing at old = simp (append-assoc, unary-clauses) (take-append-drop at old)
 
 head-length : (at : ℕ) (a old : List ℕ) → at ≤ length old → length (take at old ++ a) ≡ at + length a
@@ -17,12 +19,12 @@ head-length at a old h = simp (length-append, length-take) (omega arith)
 
 -- what stands up to the next place: what stood before, and the text
 pub written-front : (at : ℕ) (text old : List ℕ) → at ≤ length old → take (at + length text) (written at text old) ≡ take at old ++ text
-unfolding written
+unfolding put
 written-front at text old h =
     take-at (take at old ++ text) (drop (at + length text) old) (at + length text) (head-length at text old h)
 
 pub written-both : (at : ℕ) (a b old : List ℕ) → at ≤ length old → written (at + length a) b (written at a old) ≡ written at (a ++ b) old
-unfolding written
+unfolding put
 written-both at a b old h =
     let n = head-length at a old h in
     let end : at + length a + length b ≡ at + length (a ++ b) = omega (arith, length-append a b) in
@@ -34,12 +36,8 @@ written-both at a b old h =
     ap₂ (λ (x y : List ℕ). x ++ b ++ y) (written-front at a old h) rest
     ∙ ap (λ (x : List ℕ). x ++ drop (at + length (a ++ b)) old) (append-assoc (take at old) a b)
 
-pub written-length : (at : ℕ) (text old : List ℕ) → at + length text ≤ length old → length (written at text old) ≡ length old
-unfolding written
-written-length at text old h = simp (length-append, length-take, length-drop) (omega arith)
-
 pub written-byte : (at b : ℕ) (old : List ℕ) → at < length old → set old at b ≡ written at (b ∷ []) old
-unfolding written
+unfolding put
 written-byte at b old h = rw (add-one, append-assoc) (set-split old at b h)
 
 -- A text was written from a place on, and the next place is past it.
@@ -65,7 +63,7 @@ pub placed-nothing : (at : ℕ) (old : List ℕ) → Placed at [] old old at
 placed-nothing at old = record { next-is = omega arith; holds = sym (written-nothing at old) }
 
 pub placed-length : (at : ℕ) (text old out : List ℕ) (r : ℕ) → at + length text ≤ length old → Placed at text old out r → length out ≡ length old
-placed-length at text old out r h p = ap length (p .holds) ∙ written-length at text old h
+placed-length at text old out r h p = ap length (p .holds) ∙ put-length at text old h
 
 -- The first i bytes of a word were written.
 pub record Wording (at : ℕ) (word old : List ℕ) (i : ℕ) (out : List ℕ) : Type 0 where

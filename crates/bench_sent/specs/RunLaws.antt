@@ -7,7 +7,7 @@ use native.Mathlib.Omega.{arith}
 use native.Mathlib.Decide.{decLt}
 use lib.Dec.{eqb}
 use lib.ListN.{length, length-append, replicate}
-use Rattle.coord_acts.specs.Acts.{blockOf}
+use Rattle.erasure.specs.Theorems.{blockOf}
 use Rattle.coord_acts.specs.Steps.{Broadcast, sentBlocks, sentMessage}
 use Rattle.message.specs.Kinds.{writeKind}
 use Rattle.message.specs.declared.Message.{Message}

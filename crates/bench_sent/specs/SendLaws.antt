@@ -11,7 +11,7 @@ use lib.ListN.{length, take, drop, replicate}
 use borrow.Author.Tests.{eq-eqb, ne-eqb}
 use Rattle.block.specs.Block.{zeros}
 use Rattle.block.specs.StoreLaws.{zeros-take, zeros-length}
-use Rattle.coord_acts.specs.Acts.{blockOf}
+use Rattle.erasure.specs.Theorems.{blockOf}
 use Rattle.interpolate.specs.RowLaws.{part-length}
 use Rattle.message.specs.Kinds.{writeKind}
 use Rattle.message.specs.declared.Message.{Message}

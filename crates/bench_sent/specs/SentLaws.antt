@@ -1,26 +1,23 @@
 -- Rows stored and read back.
 use mathlib.Core.Path.{_≡_, refl, sym, ap, ap₂, subst, _∙_}
-use mathlib.Core.Bool.{Bool, true, false, cond, not}
-use mathlib.Core.List.{List, [], _∷_, _++_, append-assoc}
+use mathlib.Core.Bool.{true, false, cond, not}
+use mathlib.Core.List.{List, [], _∷_, _++_}
 use Prim.Native.Nat.{ℕ, zero, suc, _+_, _-_, _*_, _%_, _≤_, _<_}
 use native.Mathlib.Omega.{arith}
 use native.Mathlib.Nat.{mod-eq-of-lt}
 use native.Mathlib.Numerals.{add-one, unary-clauses}
 use lib.Dec.{eqb}
-use lib.ListN.{length, take, drop, getD, length-append, length-drop, length-take, List·getD-append}
-use lib.Seq.{length-take-le, take-append-le, take-take, take-nil, getD-append-add, getD-take, take-at, drop-at}
+use lib.ListN.{length, take, drop, getD, List·getD-append}
+use lib.Seq.{length-take-le, getD-append-add, getD-take}
 use Rattle.block.specs.Block.{zeros, put}
+use Rattle.block.specs.PutLaws.{put-is, put-length, put-in, put-first, cut-same}
 use Rattle.message.specs.declared.Message.{Message}
 use Rattle.message.specs.declared.Reply.{Reply}
 use Rattle.register.specs.Runs.{Item, message, reply}
-use Rattle.settings.specs.Count.{one-if}
+use Rattle.settings.specs.Count.{one-if, one-is}
 use Rattle.bench_sent.specs.Sent.{Added, numberAt, isReply, flagsAt, blockAt, messageAt, replyAt, itemAt, itemsOf, messageRow, replyRow, numbersWith, bytesWith, noFlags}
 
--- what was put is found there, and what stands before it is as it was
-put-is : (at : ℕ) (row l : List ℕ) → put at row l ≡ take at l ++ (row ++ drop (at + length row) l)
-unfolding put
-put-is at row l = append-assoc (take at l) row (drop (at + length row) l)
-
+-- a number that was put is found there
 pub put-read : (at i : ℕ) (row l : List ℕ) → at ≤ length l → i < length row → getD (put at row l) (at + i) 0 ≡ getD row i 0
 put-read at i row l h hi =
     let n = length-take-le at l h in
@@ -28,36 +25,6 @@ put-read at i row l h hi =
     ∙ ap (λ (k : ℕ). getD (take at l ++ (row ++ drop (at + length row) l)) (k + i) 0) (sym n)
     ∙ getD-append-add (take at l) (row ++ drop (at + length row) l) i 0
     ∙ List·getD-append row (drop (at + length row) l) 0 i hi
-
-pub put-cut : (at n : ℕ) (row l : List ℕ) → at ≤ length l → length row ≡ n → take n (drop at (put at row l)) ≡ row
-put-cut at n row l h e =
-    ap (λ (x : List ℕ). take n (drop at x)) (put-is at row l)
-    ∙ ap (take n) (drop-at (take at l) (row ++ drop (at + length row) l) at (length-take-le at l h))
-    ∙ take-at row (drop (at + length row) l) n e
-
-pub put-before : (at n : ℕ) (row l : List ℕ) → n ≤ at → at ≤ length l → take n (put at row l) ≡ take n l
-put-before at n row l hn h =
-    ap (take n) (put-is at row l)
-    ∙ take-append-le n (take at l) (row ++ drop (at + length row) l) (omega (arith, length-take-le at l h))
-    ∙ take-take n at l hn
-
-pub put-length : (at : ℕ) (row l : List ℕ) → at + length row ≤ length l → length (put at row l) ≡ length l
-unfolding put
-put-length at row l h = simp (length-append, length-take, length-drop) (omega arith)
-
--- a part depends only on what stands before its end
-cut-take : (p n : ℕ) (l : List ℕ) → take n (drop p l) ≡ drop p (take (p + n) l)
-cut-take zero n l = let e : n ≡ 0 + n = omega arith in ap (λ (m : ℕ). take m l) e
-cut-take (suc p) n [] =
-    take-nil n ∙ ap (drop (suc p)) (sym (take-nil (suc p + n)))
-cut-take (suc p) n (x ∷ l) =
-    let e : suc (p + n) ≡ suc p + n = omega arith in
-    cut-take p n l ∙ ap (λ (m : ℕ). drop (suc p) (take m (x ∷ l))) e
-
-pub cut-same : (p n e : ℕ) (l l′ : List ℕ) → p + n ≤ e → take e l′ ≡ take e l → take n (drop p l′) ≡ take n (drop p l)
-cut-same p n e l l′ h s =
-    let shorter : take (p + n) l′ ≡ take (p + n) l = sym (take-take (p + n) e l′ h) ∙ ap (take (p + n)) s ∙ take-take (p + n) e l h in
-    cut-take p n l′ ∙ ap (drop p) shorter ∙ sym (cut-take p n l)
 
 -- the rows before row k are as they were
 pub record Below (k : ℕ) (numbers bytes numbers′ bytes′ : List ℕ) : Type 0 where
@@ -115,21 +82,21 @@ module _ (k : ℕ) (row flags block numbers bytes : List ℕ)
   unfolding flagsAt bytesWith
   flags-stored =
       cut-same (k * 24) 16 (k * 24 + 16) (put (k * 24) flags bytes) (put (k * 24 + 16) block (put (k * 24) flags bytes)) (omega arith)
-      (put-before (k * 24 + 16) (k * 24 + 16) block (put (k * 24) flags bytes) (omega arith) (omega (arith, flags-put)))
-      ∙ put-cut (k * 24) 16 flags bytes (omega arith) nf
+      (put-first (k * 24 + 16) (k * 24 + 16) block (put (k * 24) flags bytes) (omega arith) (omega (arith, flags-put)))
+      ∙ put-in (k * 24) 16 flags bytes nf (omega arith)
 
   block-stored : (size : ℕ) → length block ≡ size → blockAt size (bytesWith k flags block bytes) k ≡ block
   unfolding blockAt bytesWith
-  block-stored size e = put-cut (k * 24 + 16) size block (put (k * 24) flags bytes) (omega (arith, flags-put)) e
+  block-stored size e = put-in (k * 24 + 16) size block (put (k * 24) flags bytes) e (omega (arith, flags-put))
 
   stored-below : Below k numbers bytes (numbersWith k row numbers) (bytesWith k flags block bytes)
   unfolding numbersWith bytesWith
   stored-below =
       record {
-        same-numbers = put-before (k * 8) (k * 8) row numbers (omega arith) (omega arith);
+        same-numbers = put-first (k * 8) (k * 8) row numbers (omega arith) (omega arith);
         same-bytes =
-            put-before (k * 24 + 16) (k * 24) block (put (k * 24) flags bytes) (omega arith) (omega (arith, flags-put))
-            ∙ put-before (k * 24) (k * 24) flags bytes (omega arith) (omega arith);
+            put-first (k * 24 + 16) (k * 24) block (put (k * 24) flags bytes) (omega arith) (omega (arith, flags-put))
+            ∙ put-first (k * 24) (k * 24) flags bytes (omega arith) (omega arith);
       }
 
   items-stored : (size : ℕ) (item : Item) → length block ≡ size
@@ -168,10 +135,6 @@ message-read k brick msg block numbers bytes hk nf nb hn hb size e =
     rw (n0, n1, n2, n3, n4, n5, f, d, m)
 
 -- a reply's row is read back as the reply
-one-is : (b : Bool) → eqb (one-if b) 1 ≡ b
-one-is true = refl
-one-is false = refl
-
 no-flags-length : length noFlags ≡ 16
 unfolding noFlags zeros
 no-flags-length = refl

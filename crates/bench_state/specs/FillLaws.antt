@@ -19,7 +19,8 @@ use Rattle.settings.specs.Ranges.{inRange}
 use Rattle.settings.specs.declared.Settings.{Settings}
 use Rattle.image.specs.Brick
 use Rattle.image.specs.Image.{imageOf, imageSize}
-use Rattle.bench_state.specs.PartLaws.{pasted, pasted-is, pasted-length, pasted-in, pasted-before}
+use Rattle.block.specs.Block.{put}
+use Rattle.block.specs.PutLaws.{put-mid, put-length, put-in, put-before}
 use Rattle.bench_state.specs.State.{worldOf, freshBench}
 use Rattle.bench_state.specs.StateLaws.{Small, fresh-world}
 use Rattle.bench_state.specs.declared.Bench.{Bench}
@@ -41,21 +42,21 @@ pub begun-none : (s : Settings) (images : List ℕ) → length images ≡ 10240 
 begun-none s images e = record { long = e; images-fresh = λ b h. absurd (not-suc-le-zero h) }
 
 pub begun-more : (s : Settings) (images new : List ℕ) (k : ℕ) → Small s → Begun s images k → k < s .n → length new ≡ imageSize s
-    → new ≡ imageOf s k (Brick.fresh s) → Begun s (pasted (k * 2560) new images) (k + 1)
+    → new ≡ imageOf s k (Brick.fresh s) → Begun s (put (k * 2560) new images) (k + 1)
 begun-more s images new k small h l e f =
     record {
-      long = pasted-length (k * 2560) new images (let a = small .bricks in let b = small .image-fits in let c = h .long in omega arith) ∙ h .long;
+      long = put-length (k * 2560) new images (let a = small .bricks in let b = small .image-fits in let c = h .long in omega arith) ∙ h .long;
       images-fresh = λ b u. by b (eq-or-lt-of-le (let v : b ≤ k = omega arith in v));
     }
   where
-    by : (b : ℕ) → (b ≡ k) ⊎ (b < k) → take (imageSize s) (drop (b * 2560) (pasted (k * 2560) new images)) ≡ imageOf s b (Brick.fresh s)
+    by : (b : ℕ) → (b ≡ k) ⊎ (b < k) → take (imageSize s) (drop (b * 2560) (put (k * 2560) new images)) ≡ imageOf s b (Brick.fresh s)
     by b (inl q) =
-        ap (λ (j : ℕ). take (imageSize s) (drop (j * 2560) (pasted (k * 2560) new images))) q
-        ∙ pasted-in (k * 2560) (imageSize s) new images e (let a = small .bricks in let c = h .long in omega arith)
+        ap (λ (j : ℕ). take (imageSize s) (drop (j * 2560) (put (k * 2560) new images))) q
+        ∙ put-in (k * 2560) (imageSize s) new images e (let a = small .bricks in let c = h .long in omega arith)
         ∙ f
         ∙ ap (λ (j : ℕ). imageOf s j (Brick.fresh s)) (sym q)
     by b (inr v) =
-        pasted-before (k * 2560) (b * 2560) (imageSize s) new images (let i = small .image-fits in omega arith)
+        put-before (k * 2560) (b * 2560) (imageSize s) new images (let i = small .image-fits in omega arith)
         (let a = small .bricks in let i = small .image-fits in let c = h .long in omega arith)
         ∙ h .images-fresh b v
 
@@ -72,7 +73,7 @@ begun-stored s images new k len small r h l e el f =
     let long : length (take (k * 2560 + len - k * 2560) (drop (k * 2560) images)) ≡ 512 * (s .capacity + 1) =
     length-take-le (k * 2560 + len - k * 2560) (drop (k * 2560) images) (let d = length-drop (k * 2560) images in omega arith) ∙ (omega arith)
     in
-    subst (λ (i : List ℕ). Begun s i (k + 1)) (sym (pasted-is (k * 2560) (k * 2560 + len) images new (omega arith) (omega arith)))
+    subst (λ (i : List ℕ). Begun s i (k + 1)) (sym (put-mid (k * 2560) (k * 2560 + len) images new (omega arith) (omega arith)))
     (begun-more s images new k small h l (el ∙ long)
     (f ∙ ap (λ (n : ℕ). cond (eqb n 0) (imageOf s k (Brick.fresh s)) (take (k * 2560 + len - k * 2560) (drop (k * 2560) images))) (passes (take (k * 2560 + len - k * 2560) (drop (k * 2560) images)) long)))
   where

@@ -10,6 +10,7 @@ use Rattle.settings.specs.Ranges.{inRange, settingsRefusal}
 use Rattle.settings.specs.RangeLaws.{SettingsRange, settings-passed, and-left, and-right}
 use Rattle.settings.specs.Refusal.{refuseUnless}
 use Rattle.settings.specs.declared.Settings.{Settings}
+use Rattle.settings.specs.RefusalLaws.{tested}
 use Rattle.image.specs.Image.{imageSize}
 use Rattle.bench_state.specs.State.{benchRange, benchRefusal}
 use Rattle.bench_state.specs.StateLaws.{Small}
@@ -30,10 +31,6 @@ bench-rest s k v e h r = r ∙ go (inRange s) (leb (s .n) 4 && leb (s .size) 8 &
     go : (a b : Bool) → k ≡ refuseUnless a 1 → refuseUnless b 1 ≡ refuseUnless (a && b) 1
     go true b d = refl
     go false b d = absurd (omega arith)
-
-tested : (b : Bool) → refuseUnless b 1 ≡ 0 → b ≡ true
-tested true e = refl
-tested false e = absurd (omega arith)
 
 -- what settings within the limits satisfy
 pub record Fits (s : Settings) : Type 0 where
@@ -61,4 +58,4 @@ bench-fits s e =
 
 pub bench-passed : (s : Settings) (k : ℕ) → k ≡ benchRefusal s → k ≡ 0 → Fits s
 unfolding benchRefusal
-bench-passed s k e z = bench-fits s (tested (benchRange s) (sym e ∙ z))
+bench-passed s k e z = bench-fits s (tested (benchRange s) 0 (sym e ∙ z))

@@ -14,7 +14,7 @@ use Rattle.coord_record.specs.Records.{idleWith}
 use Rattle.coord_record.specs.declared.Coordinator.{Coordinator}
 use Rattle.coord_acts.specs.Steps.{Held}
 use Rattle.register.specs.Runs.{Item, World, idle}
-use Rattle.bench_state.specs.PartLaws.{pasted}
+use Rattle.block.specs.Block.{put}
 use Rattle.bench_state.specs.declared.Bench.{Bench}
 
 -- "n at most 4, capacity at most 4, block size at most 8"; "Settings past the bench's limits are refusal 1"
@@ -79,4 +79,4 @@ withUp b brick flag = record { settings = b .settings; up = set (b .up) brick fl
 
 -- what the coordinators keep, with another's reply blocks and stripe
 unfoldable pub keptWith : ℕ → List ℕ → List ℕ → List ℕ → List ℕ
-keptWith c blocks stripe kept = pasted (c * 64 + 32) stripe (pasted (c * 64) blocks kept)
+keptWith c blocks stripe kept = put (c * 64 + 32) stripe (put (c * 64) blocks kept)

@@ -17,7 +17,8 @@ use Rattle.image.specs.Image.{imageOf, imageSize}
 use Rattle.coord_record.specs.declared.Coordinator.{Coordinator}
 use Rattle.coord_acts.specs.Steps.{Held}
 use Rattle.register.specs.Runs.{Item, World, idle, fresh, putAt}
-use Rattle.bench_state.specs.PartLaws.{pasted, pasted-length, pasted-in, pasted-before, pasted-behind}
+use Rattle.block.specs.Block.{put}
+use Rattle.block.specs.PutLaws.{put-length, put-in, put-before, put-behind}
 use Rattle.bench_state.specs.State.{imagesOf, upOf, idleAt, heldAt, worldOf, freshBench, withCoordinator, withUp, keptWith}
 use Rattle.bench_state.specs.declared.Bench.{Bench}
 
@@ -95,20 +96,20 @@ module _ (s : Settings) (small : Small s) where
 
   -- brick b has another image
   pub image-put : (images new : List ℕ) (b : ℕ) → b < s .n → length new ≡ imageSize s → length images ≡ 10240
-      → imagesOf s (pasted (b * 2560) new images) ≡ putAt (imagesOf s images) b new
+      → imagesOf s (put (b * 2560) new images) ≡ putAt (imagesOf s images) b new
   unfolding imagesOf putAt
   image-put images new b l e n = fun-ext (λ j. by j (ℕ-discrete j b) (decLt j (s .n)))
     where
-      by : (j : ℕ) → Dec (j ≡ b) → Dec (j < s .n) → imagesOf s (pasted (b * 2560) new images) j ≡ putAt (imagesOf s images) b new j
+      by : (j : ℕ) → Dec (j ≡ b) → Dec (j < s .n) → imagesOf s (put (b * 2560) new images) j ≡ putAt (imagesOf s images) b new j
       by j (yes q) u =
           rw (eq-eqb j b q, q, lt-ltb b (s .n) l)
-          (pasted-in (b * 2560) (imageSize s) new images e (let k = small .bricks in omega arith))
+          (put-in (b * 2560) (imageSize s) new images e (let k = small .bricks in omega arith))
       by j (no q) (no u) = rw (ne-eqb j b q, le-ltb j (s .n) (omega arith)) refl
       by j (no q) (yes u) = rw (ne-eqb j b q, lt-ltb j (s .n) u) (apart (decLt j b))
         where
-          apart : Dec (j < b) → take (imageSize s) (drop (j * 2560) (pasted (b * 2560) new images)) ≡ take (imageSize s) (drop (j * 2560) images)
-          apart (yes v) = pasted-before (b * 2560) (j * 2560) (imageSize s) new images (let k = small .image-fits in omega arith) (let k = small .image-fits in let m = small .bricks in omega arith)
-          apart (no v) = pasted-behind (b * 2560) (j * 2560) (imageSize s) new images (let k = small .image-fits in omega arith) (let k = small .image-fits in let m = small .bricks in omega arith)
+          apart : Dec (j < b) → take (imageSize s) (drop (j * 2560) (put (b * 2560) new images)) ≡ take (imageSize s) (drop (j * 2560) images)
+          apart (yes v) = put-before (b * 2560) (j * 2560) (imageSize s) new images (let k = small .image-fits in omega arith) (let k = small .image-fits in let m = small .bricks in omega arith)
+          apart (no v) = put-behind (b * 2560) (j * 2560) (imageSize s) new images (let k = small .image-fits in omega arith) (let k = small .image-fits in let m = small .bricks in omega arith)
 
   -- coordinator c has another record, other reply blocks and another stripe
   pub held-put : (cs : List Coordinator) (kept blocks stripe : List ℕ) (c : ℕ) (next : Coordinator) → c < 4 → length cs ≡ 4 → length kept ≡ 256
@@ -118,18 +119,18 @@ module _ (s : Settings) (small : Small s) where
   held-put cs kept blocks stripe c next l n k eb es = fun-ext (λ j. by j (ℕ-discrete j c) (decLt j 4))
     where
       first : List ℕ
-      first = pasted (c * 64) blocks kept
+      first = put (c * 64) blocks kept
 
       long : length first ≡ 256
-      long = pasted-length (c * 64) blocks kept (let q = small .blocks-fit in omega arith) ∙ k
+      long = put-length (c * 64) blocks kept (let q = small .blocks-fit in omega arith) ∙ k
 
       by : (j : ℕ) → Dec (j ≡ c) → Dec (j < 4) → heldAt s (set cs c next) (keptWith c blocks stripe kept) j ≡ putAt (heldAt s cs kept) c (holding next blocks stripe) j
       by j (yes q) u =
           rw (eq-eqb j c q, q, lt-ltb c 4 l, getD-set-same cs c next (idleAt c) (omega arith))
           (ap₂ (holding next)
-          (pasted-before (c * 64 + 32) (c * 64) (s .n * s .size) stripe first (let p = small .blocks-fit in omega arith) (let p = small .stripe-fits in let w = long in omega arith)
-          ∙ pasted-in (c * 64) (s .n * s .size) blocks kept eb (omega arith))
-          (pasted-in (c * 64 + 32) (s .m * s .size) stripe first es (let w = long in omega arith)))
+          (put-before (c * 64 + 32) (c * 64) (s .n * s .size) stripe first (let p = small .blocks-fit in omega arith) (let p = small .stripe-fits in let w = long in omega arith)
+          ∙ put-in (c * 64) (s .n * s .size) blocks kept eb (omega arith))
+          (put-in (c * 64 + 32) (s .m * s .size) stripe first es (let w = long in omega arith)))
       by j (no q) (no u) = rw (ne-eqb j c q, le-ltb j 4 (omega arith)) refl
       by j (no q) (yes u) =
           rw (ne-eqb j c q, lt-ltb j 4 u, getD-set-other cs c j next (idleAt j) q)
@@ -143,13 +144,13 @@ module _ (s : Settings) (small : Small s) where
           apart-stripe (yes v) = inl (let p = small .stripe-fits in omega arith)
           apart-stripe (no v) = inr (omega arith)
 
-          other : (at len : ℕ) → (at + len ≤ c * 64) ⊎ (c * 64 + 64 ≤ at) → take len (drop at (pasted (c * 64 + 32) stripe first)) ≡ take len (drop at kept)
+          other : (at len : ℕ) → (at + len ≤ c * 64) ⊎ (c * 64 + 64 ≤ at) → take len (drop at (put (c * 64 + 32) stripe first)) ≡ take len (drop at kept)
           other at len (inl v) =
-              pasted-before (c * 64 + 32) at len stripe first (omega arith) (let p = small .stripe-fits in let w = long in omega arith)
-              ∙ pasted-before (c * 64) at len blocks kept v (let p = small .blocks-fit in omega arith)
+              put-before (c * 64 + 32) at len stripe first (omega arith) (let p = small .stripe-fits in let w = long in omega arith)
+              ∙ put-before (c * 64) at len blocks kept v (let p = small .blocks-fit in omega arith)
           other at len (inr v) =
-              pasted-behind (c * 64 + 32) at len stripe first (let p = small .stripe-fits in omega arith) (let w = long in omega arith)
-              ∙ pasted-behind (c * 64) at len blocks kept (let p = small .blocks-fit in omega arith) (omega arith)
+              put-behind (c * 64 + 32) at len stripe first (let p = small .stripe-fits in omega arith) (let w = long in omega arith)
+              ∙ put-behind (c * 64) at len blocks kept (let p = small .blocks-fit in omega arith) (omega arith)
 
 -- brick b has another flag
 pub up-put : (up : List ℕ) (b flag : ℕ) → b < length up → upOf (set up b flag) ≡ putAt (upOf up) b (eqb flag 1)

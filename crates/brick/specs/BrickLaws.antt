@@ -21,9 +21,9 @@ use Rattle.image.specs.SoundLaws.{Sound, EntrySound}
 use Rattle.saving.specs.Saving.{promised, appended, without}
 use Rattle.settings.specs.Refusal.{refuseUnless}
 use Rattle.message.specs.Messages.{messageRefusal, roundRight, kindRight}
-use Rattle.image.specs.Opening.{workingLog}
+use Rattle.image.specs.Opening.{workingLog, blank}
 use borrow.Author.Count.{below-more}
-use Rattle.brick_plan.specs.LookLaws.{Cut, cut-at, cut-last, blankEntry}
+use Rattle.brick_plan.specs.LookLaws.{Cut, cut-at, cut-last}
 use Rattle.saving.specs.StepLaws.{without-count, without-time, without-held, appended-count, appended-time-old, appended-held-old, appended-time-new, appended-held-new}
 use Rattle.brick_plan.specs.Steps.{aboveNewest, notBelowPromise, hasFree, readYes, orderYes, writeYes, ordered, written, trimmed, trimmedTo, under, lookup, yesTo, after}
 use Rattle.brick.specs.TrimLaws.{rises-next, rises-add, cut-trims}
@@ -292,7 +292,7 @@ unfolding newest
 newest-at x n e = ap (λ (k : ℕ). timeAt x k) e
 
 -- A brick that keeps to the rules keeps to them after any message that is not refused.
-saved-valid : (t : ℕ) → validTime t ≡ true → savedTime t ≡ true
+pub saved-valid : (t : ℕ) → validTime t ≡ true → savedTime t ≡ true
 unfolding savedTime
 saved-valid t e = go (eqb t 0)
   where
@@ -412,12 +412,12 @@ without-sound s x d r h =
         }
 
 -- there is a cut
-cut-exists : (x : Brick) (t fuel d : ℕ) → d + suc fuel ≡ count x → ((i : ℕ) → i < d → getD (workingLog x) i blankEntry .time < t)
+cut-exists : (x : Brick) (t fuel d : ℕ) → d + suc fuel ≡ count x → ((i : ℕ) → i < d → getD (workingLog x) i blank .time < t)
     → (e : ℕ) × Cut (workingLog x) (count x) t e
 cut-exists x t zero d m b = (d, cut-last (workingLog x) (count x) t d (omega arith) (omega arith) (omega arith) b)
-cut-exists x t (suc fuel) d m b = go (decLt (getD (workingLog x) d blankEntry .time) t) (λ w. cut-exists x t fuel (d + 1) (omega arith) (below-more (λ (i : ℕ). getD (workingLog x) i blankEntry .time < t) d b w))
+cut-exists x t (suc fuel) d m b = go (decLt (getD (workingLog x) d blank .time) t) (λ w. cut-exists x t fuel (d + 1) (omega arith) (below-more (λ (i : ℕ). getD (workingLog x) i blank .time < t) d b w))
   where
-    go : Dec (getD (workingLog x) d blankEntry .time < t) → (getD (workingLog x) d blankEntry .time < t → (e : ℕ) × Cut (workingLog x) (count x) t e)
+    go : Dec (getD (workingLog x) d blank .time < t) → (getD (workingLog x) d blank .time < t → (e : ℕ) × Cut (workingLog x) (count x) t e)
         → (e : ℕ) × Cut (workingLog x) (count x) t e
     go (yes w) f = f w
     go (no w) f = (d, cut-at (workingLog x) (count x) t d (omega arith) b (omega arith))

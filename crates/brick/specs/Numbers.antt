@@ -1,16 +1,15 @@
 -- The brick's answer by this paper's number.
 use mathlib.Core.Path.{_≡_, refl, sym, ap, _∙_}
 use mathlib.Core.Bool.{Bool, true, false, cond}
-use mathlib.Core.List.{List, [], _∷_}
-use Prim.Native.Nat.{ℕ, zero, suc}
-use native.Mathlib.Omega.{arith}
+use mathlib.Core.List.{List}
+use Prim.Native.Nat.{ℕ}
 use lib.Dec.{eqb}
 use lib.ListN.{length}
 use borrow.Author.Tests.{eqb-true}
-use Rattle.settings.specs.Refusal.{passed, firstRefusal}
+use Rattle.settings.specs.Refusal.{passed}
 use Rattle.settings.specs.declared.Settings.{Settings}
+use Rattle.settings.specs.RefusalLaws.{passed-first, passed-rest}
 use Rattle.message.specs.Kinds.{trimKind}
-use Rattle.message.specs.Messages.{messageRefusal}
 use Rattle.message.specs.declared.Message.{Message}
 use Rattle.image.specs.Parse.{Parsed, Opens, Refuses, brickIn, parse, openRefusal}
 use Rattle.image.specs.ParseLaws.{parse-opens}
@@ -36,17 +35,10 @@ acted-number s brick msg block bytes out x = go (eqb (msg .kind) trimKind)
     go true = refl
     go false = refl
 
--- of three checks that all pass, the second does
-second-passed : (a b c : ℕ) → firstRefusal (a ∷ b ∷ c ∷ []) ≡ 0 → b ≡ 0
-unfolding firstRefusal
-second-passed zero zero c e = refl
-second-passed zero (suc b) c e = absurd (omega arith)
-second-passed (suc a) b c e = absurd (omega arith)
-
 image-opens : (s : Settings) (brick : ℕ) (bytes : List ℕ) (msg : Message) (a b : ℕ) → receiveRefusal s brick bytes msg a b ≡ 0
     → openRefusal s brick bytes ≡ 0
 unfolding receiveRefusal
-image-opens s brick bytes msg a b e = second-passed (blocksRefusal s a b) (openRefusal s brick bytes) (messageRefusal (s .n) (s .m) msg) e
+image-opens s brick bytes msg a b e = passed-first (openRefusal s brick bytes) _ (passed-rest (blocksRefusal s a b) _ e)
 
 -- The answer's number is the first refusal's.
 pub outcome-number : (s : Settings) (brick : ℕ) (bytes : List ℕ) (msg : Message) (block out : List ℕ)

@@ -4,7 +4,6 @@ use mathlib.Core.Bool.{Bool, true, false, cond, not, _&&_}
 use mathlib.Core.List.{List, [], _∷_}
 use Prim.Native.Nat.{ℕ, zero, suc, _+_, _-_, _*_, _≤_, _<_}
 use native.Mathlib.Omega.{arith}
-use native.Mathlib.Nat.{suc-add}
 use native.Mathlib.Decide.{ℕ-discrete}
 use lib.Dec.{leb, ltb, eqb}
 use lib.ListN.{length, take, drop, getD}
@@ -13,6 +12,7 @@ use borrow.Author.Tests.{eq-eqb, ne-eqb, eqb-true, eqb-false}
 use Rattle.settings.specs.Ranges.{settingsRefusal}
 use Rattle.settings.specs.Refusal.{firstRefusal, refuseUnless}
 use Rattle.settings.specs.declared.Settings.{Settings}
+use Rattle.settings.specs.RefusalLaws.{first-stop, first-pass}
 use Rattle.message.specs.Flags.{member}
 use Rattle.message.specs.Messages.{messageRefusal}
 use Rattle.message.specs.declared.Message.{Message}
@@ -22,7 +22,7 @@ use Rattle.image.specs.Image.{imageOf, imageSize}
 use Rattle.image.specs.Parse.{Parsed, Opens, Refuses, parse, openRefusal, blockAt, countIn, brickIn, heldIn}
 use Rattle.image.specs.ParseLaws.{Opened, opened, count-in}
 use Rattle.image.specs.TestLaws.{held-in}
-use Rattle.image.specs.Opening.{workingLog, opening, answerNumber}
+use Rattle.image.specs.Opening.{workingLog, opening, answerNumber, blank}
 use Rattle.image.specs.HubLaws.{Hub, turned, log-at}
 use Rattle.image.specs.declared.Entry.{Entry}
 use Rattle.image.specs.declared.Head.{Head}
@@ -31,22 +31,17 @@ use Rattle.image.specs.declared.Answer.the-variants.{Refused as Failed}
 use Rattle.saving.specs.Saving.{without}
 use Rattle.brick_plan.specs.Steps.{notBelowPromise, aboveNewest, readYes, orderYes, lookup, trimmedTo, timeFor, placeFor, foundFor, yesTo, replyTo, after, blockAfter}
 use Rattle.brick.specs.Receive.{blocksRefusal, receiveRefusal, Outcome, refusedWith, givenBy, acted, outcome}
-use Rattle.brick_plan.specs.LookLaws.{Ready, Ahead, Planned, Cut, blankEntry, underIn, under-brick, under-high, underFor, placeOf, timeOf, place-brick, time-brick, readPlace, gaveOf}
+use Rattle.brick_plan.specs.LookLaws.{Ready, Ahead, Planned, Cut, underIn, under-brick, under-high, underFor, placeOf, timeOf, place-brick, time-brick, readPlace, gaveOf}
 use Rattle.brick.specs.TrimLaws.{cut-trims}
 use Rattle.brick_plan.specs.declared.Known.{Known}
 use Rattle.brick_plan.specs.declared.Plan.{Plan}
 use Rattle.brick.specs.declared.Given.{Given}
 use Rattle.brick.specs.declared.Given.the-variants.{Answered, Silent, Refused}
+use Rattle.block.specs.PutLaws.{drop-take}
 
 -- the first refusal of a list
 pub first-is : (a k : ℕ) (rest : List ℕ) → k ≡ a → (k ≡ 0 → ⊥) → firstRefusal (a ∷ rest) ≡ k
-unfolding firstRefusal
-first-is zero k rest e h = absurd (h e)
-first-is (suc a) k rest e h = sym e
-
-pub first-later : (k : ℕ) (rest : List ℕ) → k ≡ 0 → firstRefusal (k ∷ rest) ≡ firstRefusal rest
-unfolding firstRefusal
-first-later k rest e = ap (λ (j : ℕ). firstRefusal (j ∷ rest)) e
+first-is a k rest e h = sym (e ∙ first-stop a rest (λ z. h (e ∙ z)))
 
 -- the ways of the first checks
 module _ (s : Settings) (block out k : ℕ) (e : k ≡ settingsRefusal s) where
@@ -121,7 +116,7 @@ module _ (s : Settings) (brick : ℕ) (l : List ℕ) (msg : Message) (block out 
     ends-unopened o j n e f g =
         let q = open-number s brick l n (turned (parse s brick l) o j n e f g) in
         ends-refused n
-        (first-later (blocksRefusal s (length block) (length out)) (openRefusal s brick l ∷ messageRefusal (s .n) (s .m) msg ∷ []) (sym ek ∙ zk)
+        (first-pass (blocksRefusal s (length block) (length out)) (openRefusal s brick l ∷ messageRefusal (s .n) (s .m) msg ∷ []) (sym ek ∙ zk)
         ∙ first-is (openRefusal s brick l) n (messageRefusal (s .n) (s .m) msg ∷ []) (sym (q .0)) (q .1))
         (q .1)
 
@@ -129,8 +124,8 @@ module _ (s : Settings) (brick : ℕ) (l : List ℕ) (msg : Message) (block out 
       rest : receiveRefusal s brick l msg (length block) (length out) ≡ firstRefusal (w ∷ [])
       unfolding receiveRefusal
       rest =
-          first-later (blocksRefusal s (length block) (length out)) (openRefusal s brick l ∷ messageRefusal (s .n) (s .m) msg ∷ []) (sym ek ∙ zk)
-          ∙ first-later (openRefusal s brick l) (messageRefusal (s .n) (s .m) msg ∷ []) (open-zero s brick l x is)
+          first-pass (blocksRefusal s (length block) (length out)) (openRefusal s brick l ∷ messageRefusal (s .n) (s .m) msg ∷ []) (sym ek ∙ zk)
+          ∙ first-pass (openRefusal s brick l) (messageRefusal (s .n) (s .m) msg ∷ []) (open-zero s brick l x is)
           ∙ ap (λ (j : ℕ). firstRefusal (j ∷ [])) (sym ew)
 
       pub ends-wrong : (w ≡ 0 → ⊥) → Ends (outcome s brick l msg block out) (Refused w) l out
@@ -140,13 +135,13 @@ module _ (s : Settings) (brick : ℕ) (l : List ℕ) (msg : Message) (block out 
           → out′ ≡ blockAfter x (placeFor brick x msg) out → Ends (outcome s brick l msg block out) g image out′
       unfolding outcome acted firstRefusal
       ends-acted z g image out′ eg ei eo =
-          let r : receiveRefusal s brick l msg (length block) (length out) ≡ 0 = rest ∙ first-later w [] z in
+          let r : receiveRefusal s brick l msg (length block) (length out) ≡ 0 = rest ∙ first-pass w [] z in
           let o : outcome s brick l msg block out ≡ acted s brick msg block l out (Opens x) = rw (r, is) refl in
           (eg ∙ sym (ap (λ (v : Outcome). v .given) o), (ei ∙ sym (ap (λ (v : Outcome). v .image) o), eo ∙ sym (ap (λ (v : Outcome). v .out) o)))
 
 -- an opened image, and the plan that was made in its log
 pub ready : (s : Settings) (brick : ℕ) (l : List ℕ) (o : Opening) (h : Head) → Hub s brick l o h
-    → Ready s brick l (record { count = h .count; promise = h .promise; newest = getD (o .log) (h .count - 1) blankEntry .time })
+    → Ready s brick l (record { count = h .count; promise = h .promise; newest = getD (o .log) (h .count - 1) blank .time })
 unfolding newest
 ready s brick l o h u =
     let e = u .saved .is-read in
@@ -156,9 +151,9 @@ ready s brick l o h u =
       counts = c;
       promises = u .promises ∙ ap (λ (y : Brick). y .promise) e;
       newests =
-          ap (λ (k : ℕ). getD (o .log) (k - 1) blankEntry .time) (u .counts)
-          ∙ ap (λ (g : List Entry). getD g (count (u .x) - 1) blankEntry .time) (u .logs)
-          ∙ ap (λ (v : Entry). v .time) (log-at (u .x) (count (u .x) - 1) blankEntry (omega (arith, u .low, u .counts)) (omega (arith, u .most, u .counts)))
+          ap (λ (k : ℕ). getD (o .log) (k - 1) blank .time) (u .counts)
+          ∙ ap (λ (g : List Entry). getD g (count (u .x) - 1) blank .time) (u .logs)
+          ∙ ap (λ (v : Entry). v .time) (log-at (u .x) (count (u .x) - 1) blank (omega (arith, u .low, u .counts)) (omega (arith, u .most, u .counts)))
           ∙ ap (λ (y : Brick). timeAt y (count y - 1)) e;
       low = u .low;
       high = u .high;
@@ -254,15 +249,6 @@ ahead s brick l k log msg p r e q = go (ℕ-discrete (msg .kind) 1) (ℕ-discret
         made (w .0 ∙ place-none s brick l k r msg a b) (w .1 ∙ found-none s brick l k r msg a b) (omega (arith, w .0))
 
 -- the bytes of a held block
-drop-take : (a b : ℕ) (l : List ℕ) → drop a (take (a + b) l) ≡ take b (drop a l)
-drop-take zero b l = let e : 0 + b ≡ b = omega arith in ap (λ (k : ℕ). take k l) e
-drop-take (suc a) b [] = ap (λ (k : ℕ). drop (suc a) (take k [])) (suc-add a b) ∙ nothing b
-  where
-    nothing : (b : ℕ) → _≡_ {A = List ℕ} [] (take b [])
-    nothing zero = refl
-    nothing (suc b) = refl
-drop-take (suc a) b (x ∷ l) = ap (λ (k : ℕ). drop (suc a) (take k (x ∷ l))) (suc-add a b) ∙ drop-take a b l
-
 held-bytes : (l : List ℕ) (size p : ℕ) → size ≤ 256 → take size (drop (512 * p + 16) l) ≡ heldIn size (blockAt l p)
 unfolding heldIn blockAt
 held-bytes l size p h =

@@ -13,11 +13,11 @@ use Rattle.settings.specs.declared.Settings.{Settings}
 use Rattle.image.specs.Brick.{Brick, LogEntry, noEntry, count, timeAt, risesAt}
 use Rattle.image.specs.SoundLaws.{Sound}
 use Rattle.image.specs.HubLaws.{log-at}
-use Rattle.image.specs.Opening.{workingLog}
+use Rattle.image.specs.Opening.{workingLog, blank}
 use Rattle.image.specs.declared.Entry.{Entry}
 use Rattle.saving.specs.Saving.{without}
 use Rattle.brick_plan.specs.Steps.{trimmed, trimmedTo}
-use Rattle.brick_plan.specs.LookLaws.{Cut, blankEntry}
+use Rattle.brick_plan.specs.LookLaws.{Cut}
 
 -- times rise
 pub rises-next : (s : Settings) (x : Brick) → Sound s x → (i : ℕ) → suc i < count x → timeAt x i < timeAt x (suc i)
@@ -61,8 +61,8 @@ cut-trims s x t d r c q =
     ap (λ (l : List LogEntry). record { promise = x .promise; log = l })
     (trimmed-front t (x .log) d (q .low) (λ i h. subst (λ (k : ℕ). k < t) (time i (omega (arith, h, q .low))) (q .before i h)) ∙ kept)
   where
-    time : (i : ℕ) → i < count x → getD (workingLog x) i blankEntry .time ≡ timeAt x i
-    time i h = ap (λ (v : Entry). v .time) (log-at x i blankEntry h c)
+    time : (i : ℕ) → i < count x → getD (workingLog x) i blank .time ≡ timeAt x i
+    time i h = ap (λ (v : Entry). v .time) (log-at x i blank h c)
 
     rest : (i : ℕ) → i + 1 < length (drop d (x .log)) → t ≤ getD (drop d (x .log)) i noEntry .time
     rest i h =

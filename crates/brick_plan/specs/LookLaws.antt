@@ -12,10 +12,9 @@ use Rattle.image.specs.Brick.{Brick, LogEntry, count, timeAt, heldAt, newest}
 use Rattle.image.specs.Parse.{brickIn}
 use Rattle.image.specs.ParseLaws.{Opened}
 use Rattle.settings.specs.declared.Settings.{Settings}
-use Rattle.image.specs.Opening.{workingLog, placeIn}
+use Rattle.image.specs.Opening.{workingLog, placeIn, blank}
 use Rattle.image.specs.HubLaws.{log-at}
 use Rattle.image.specs.declared.Entry.{Entry}
-use Rattle.image.specs.declared.Holding.the-variants.{Held}
 use Rattle.block.specs.Block.{put}
 use Rattle.message.specs.Flags.{member}
 use Rattle.message.specs.declared.Message.{Message}
@@ -36,66 +35,63 @@ pub record Ready (s : Settings) (brick : ℕ) (l : List ℕ) (k : Known) : Type 
   pub high : k .count ≤ s .capacity
   pub most : s .capacity ≤ 32
 
-unfoldable pub blankEntry : Entry
-blankEntry = record { time = 0; holding = Held 0 }
-
 -- the lookup in the working log
 unfoldable pub underIn : List Entry → ℕ → ℕ → ℕ
 underIn log max zero = 0
-underIn log max (suc i) = cond (ltb (getD log i blankEntry .time) max) (suc i) (underIn log max i)
+underIn log max (suc i) = cond (ltb (getD log i blank .time) max) (suc i) (underIn log max i)
 
 -- the answer of a lookup: the entry by its place and 1, none for 0
 unfoldable pub lookedIn : List Entry → ℕ → Looked
 lookedIn log zero = Nothing
-lookedIn log (suc i) = Under (getD log i blankEntry)
+lookedIn log (suc i) = Under (getD log i blank)
 
 -- turn by turn, from the newest down
-pub under-found : (log : List Entry) (max n i count : ℕ) → n ≡ suc i → getD log i blankEntry .time < max → underIn log max n ≡ underIn log max count
-    → Under (getD log i blankEntry) ≡ lookedIn log (underIn log max count)
+pub under-found : (log : List Entry) (max n i count : ℕ) → n ≡ suc i → getD log i blank .time < max → underIn log max n ≡ underIn log max count
+    → Under (getD log i blank) ≡ lookedIn log (underIn log max count)
 unfolding underIn lookedIn
 under-found log max n i count e h w =
-    sym (ap (λ (k : ℕ). lookedIn log (underIn log max k)) e ∙ rw (lt-ltb (getD log i blankEntry .time) max h) refl) ∙ ap (λ (k : ℕ). lookedIn log k) w
+    sym (ap (λ (k : ℕ). lookedIn log (underIn log max k)) e ∙ rw (lt-ltb (getD log i blank .time) max h) refl) ∙ ap (λ (k : ℕ). lookedIn log k) w
 
 pub under-high : (log : List Entry) (max n : ℕ) → underIn log max n ≤ n
 unfolding underIn
 under-high log max zero = omega arith
-under-high log max (suc i) = go (ltb (getD log i blankEntry .time) max) (under-high log max i)
+under-high log max (suc i) = go (ltb (getD log i blank .time) max) (under-high log max i)
   where
     go : (b : Bool) → underIn log max i ≤ i → cond b (suc i) (underIn log max i) ≤ suc i
     go true h = omega arith
     go false h = omega arith
 
-pub under-down : (log : List Entry) (max n i : ℕ) → n ≡ suc i → max ≤ getD log i blankEntry .time → underIn log max n ≡ underIn log max i
+pub under-down : (log : List Entry) (max n i : ℕ) → n ≡ suc i → max ≤ getD log i blank .time → underIn log max n ≡ underIn log max i
 unfolding underIn
-under-down log max n i e h = ap (λ (k : ℕ). underIn log max k) e ∙ rw (le-ltb (getD log i blankEntry .time) max h) refl
+under-down log max n i e h = ap (λ (k : ℕ). underIn log max k) e ∙ rw (le-ltb (getD log i blank .time) max h) refl
 
 -- ... is the lookup in the brick
 pub under-brick : (x : Brick) (max n : ℕ) → n ≤ count x → count x ≤ 32 → underIn (workingLog x) max n ≡ under x max n
 unfolding underIn under
 under-brick x max zero h c = refl
 under-brick x max (suc i) h c =
-    let e = log-at x i blankEntry (omega arith) c in
+    let e = log-at x i blank (omega arith) c in
     ap (λ (a : ℕ). cond (ltb a max) (suc i) (underIn (workingLog x) max i)) (ap (λ (v : Entry). v .time) e)
     ∙ ap (λ (r : ℕ). cond (ltb (timeAt x i) max) (suc i) r) (under-brick x max i (omega arith) c)
 
 -- how many entries a Trim drops: d is not the last, those before it are under t, and it is not unless it is the last
 pub record Cut (log : List Entry) (n t d : ℕ) : Type 0 where
   pub low : d < n
-  pub before : (i : ℕ) → i < d → getD log i blankEntry .time < t
-  pub here : d + 1 < n → t ≤ getD log d blankEntry .time
+  pub before : (i : ℕ) → i < d → getD log i blank .time < t
+  pub here : d + 1 < n → t ≤ getD log d blank .time
 
-pub cut-at : (log : List Entry) (n t d : ℕ) → d + 1 < n → ((i : ℕ) → i < d → getD log i blankEntry .time < t) → t ≤ getD log d blankEntry .time → Cut log n t d
+pub cut-at : (log : List Entry) (n t d : ℕ) → d + 1 < n → ((i : ℕ) → i < d → getD log i blank .time < t) → t ≤ getD log d blank .time → Cut log n t d
 cut-at log n t d h b e = record { low = omega arith; before = b; here = λ _. e }
 
-pub cut-last : (log : List Entry) (n t d : ℕ) → 1 ≤ n → d < n → n ≤ d + 1 → ((i : ℕ) → i < d → getD log i blankEntry .time < t) → Cut log n t d
+pub cut-last : (log : List Entry) (n t d : ℕ) → 1 ≤ n → d < n → n ≤ d + 1 → ((i : ℕ) → i < d → getD log i blank .time < t) → Cut log n t d
 cut-last log n t d h l m b = record { low = l; before = b; here = λ w. absurd (omega (arith, w)) }
 
 -- the block and the time of an entry by its place and 1, 0 for none
 unfoldable pub placeOf : List Entry → ℕ → ℕ
-placeOf log n = cond (eqb n 0) 0 (placeIn (getD log (n - 1) blankEntry .holding))
+placeOf log n = cond (eqb n 0) 0 (placeIn (getD log (n - 1) blank .holding))
 
 unfoldable pub timeOf : List Entry → ℕ → ℕ
-timeOf log n = cond (eqb n 0) 0 (getD log (n - 1) blankEntry .time)
+timeOf log n = cond (eqb n 0) 0 (getD log (n - 1) blank .time)
 
 unfoldable pub planOf : ℕ → ℕ → ℕ → Plan
 planOf place found cut = record { place = place; found = found; cut = cut }
@@ -119,7 +115,7 @@ plan-looked log zero = refl
 plan-looked log (suc i) =
     let m : suc i - 1 ≡ i = omega arith in
     rw (ne-eqb (suc i) 0 (λ q. omega (arith, q)))
-    (ap (λ (k : ℕ). record { place = placeIn (getD log k blankEntry .holding); found = getD log k blankEntry .time; cut = 0 }) (sym m))
+    (ap (λ (k : ℕ). record { place = placeIn (getD log k blank .holding); found = getD log k blank .time; cut = 0 }) (sym m))
 
 pub place-brick : (x : Brick) (n : ℕ) → n ≤ count x → count x ≤ 32 → placeOf (workingLog x) n ≡ n
 unfolding placeOf placeIn
@@ -127,8 +123,8 @@ place-brick x zero h c = refl
 place-brick x (suc i) h c =
     let m : suc i - 1 ≡ i = omega arith in
     rw (ne-eqb (suc i) 0 (λ q. omega (arith, q)))
-    (ap (λ (k : ℕ). placeIn (getD (workingLog x) k blankEntry .holding)) m
-    ∙ ap (λ (v : Entry). placeIn (v .holding)) (log-at x i blankEntry (omega arith) c) ∙ add-one i)
+    (ap (λ (k : ℕ). placeIn (getD (workingLog x) k blank .holding)) m
+    ∙ ap (λ (v : Entry). placeIn (v .holding)) (log-at x i blank (omega arith) c) ∙ add-one i)
 
 pub time-brick : (x : Brick) (n : ℕ) → n ≤ count x → count x ≤ 32 → timeOf (workingLog x) n ≡ timeFor x n
 unfolding timeOf timeFor
@@ -136,8 +132,8 @@ time-brick x zero h c = refl
 time-brick x (suc i) h c =
     let m : suc i - 1 ≡ i = omega arith in
     rw (ne-eqb (suc i) 0 (λ q. omega (arith, q)))
-    (ap (λ (k : ℕ). getD (workingLog x) k blankEntry .time) m
-    ∙ ap (λ (v : Entry). v .time) (log-at x i blankEntry (omega arith) c)
+    (ap (λ (k : ℕ). getD (workingLog x) k blank .time) m
+    ∙ ap (λ (v : Entry). v .time) (log-at x i blank (omega arith) c)
     ∙ ap (λ (k : ℕ). timeAt x k) (sym m))
 
 -- the block that Read gives

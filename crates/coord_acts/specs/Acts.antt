@@ -1,11 +1,12 @@
 -- Document 01, "What a coordinator does": what a decision does, and how an operation begins and ends.
 use mathlib.Core.Bool.{Bool, cond}
-use mathlib.Core.List.{List, [], _∷_, _++_}
+use mathlib.Core.List.{List, [], _∷_}
 use Prim.Native.Nat.{ℕ, _+_, _*_}
 use lib.Dec.{eqb, ltb}
-use lib.ListN.{getD, take, drop}
+use lib.ListN.{getD, take}
 use Rattle.coord_acts.specs.Steps.{Held, Broadcast, Went, nothingSeen, beganSeen, okSeen, readSeen, abortedSeen}
 use Rattle.coord_acts.specs.declared.Seen.{Seen}
+use Rattle.block.specs.Block.{put}
 use Rattle.coord_record.specs.Records.{readingKind, idleWith, nothingCounted, noBricks}
 use Rattle.coord_record.specs.declared.Coordinator.{Coordinator}
 use Rattle.coord_record.specs.declared.Op.{Op}
@@ -15,6 +16,7 @@ use Rattle.coord_rounds.specs.Deciding.{tallied, decided}
 use Rattle.coord_rounds.specs.declared.Decision.{Decision}
 use Rattle.coord_rounds.specs.declared.Decision.the-variants.{Abort, Give, Look, Store, Recover, Finish}
 use Rattle.erasure.specs.Code.{codedOf, decodedOf}
+use Rattle.erasure.specs.Theorems.{blockOf}
 use Rattle.interpolate.specs.Tabulate.{stacked}
 use Rattle.message.specs.Flags.{members}
 use Rattle.message.specs.Kinds.{orderReadKind, writeKind, trimKind}
@@ -22,10 +24,6 @@ use Rattle.message.specs.declared.Message.{Message}
 use Rattle.message.specs.declared.Reply.{Reply}
 use Rattle.settings.specs.Ranges.{quorum}
 use Rattle.settings.specs.declared.Clock.{Clock}
-
--- brick b's block among blocks in a row
-unfoldable pub blockOf : ℕ → List ℕ → ℕ → List ℕ
-blockOf size blocks b = take size (drop (b * size) blocks)
 
 -- the blocks of the first m bricks of a row, one after the other, and the stripe that they decode to
 unfoldable pub gathered : ℕ → ℕ → List ℕ → List ℕ → List ℕ
@@ -93,7 +91,7 @@ acted n m size h Finish =
 
 -- a reply's block in its place
 unfoldable pub placed : ℕ → ℕ → List ℕ → List ℕ → List ℕ
-placed size b block blocks = take (b * size) blocks ++ (block ++ drop (b * size + size) blocks)
+placed size b block blocks = put (b * size) block blocks
 
 -- "The first reply of a brick in a round counts"
 unfoldable pub withTally : Coordinator → Tally → Coordinator

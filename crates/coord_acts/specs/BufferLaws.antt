@@ -7,8 +7,11 @@ use lib.Seq.{take-at}
 use Rattle.erasure.specs.Code.{decodedOf}
 use native.Mathlib.Omega.{arith}
 use lib.ListN.{length, getD, take, drop}
-use borrow.Rule.Slice.PartMut.{putMid, postOf, post-is}
-use Rattle.coord_acts.specs.Acts.{blockOf, gathered, stripeFrom, placed}
+use borrow.Rule.Slice.PartMut.{putMid}
+use Rattle.block.specs.Block.{put}
+use Rattle.block.specs.PutLaws.{put-mid}
+use Rattle.erasure.specs.Theorems.{blockOf}
+use Rattle.coord_acts.specs.Acts.{gathered, stripeFrom, placed}
 use Rattle.interpolate.specs.RowLaws.{Stacked, stacked-none, stacked-more, stacked-all, part-length}
 use Rattle.interpolate.specs.Tabulate.{stacked}
 
@@ -17,13 +20,12 @@ pub record InPlace (m size : ℕ) (bricks blocks : List ℕ) : Type 0 where
   pub within : (i : ℕ) → i < m → getD bricks i 0 * size + size ≤ length blocks
 
 -- a part of the blocks replaced
-pub place-is : (size b at : ℕ) (block blocks ys : List ℕ) → at ≡ b * size → ys ≡ block
+pub place-is : (size b at : ℕ) (block blocks ys : List ℕ) → length block ≡ size → at ≡ b * size → ys ≡ block
     → putMid at (at + size - at) blocks ys ≡ placed size b block blocks
 unfolding placed
-place-is size b at block blocks ys e f =
-    ap (λ (l : List ℕ). take at blocks ++ (ys ++ l)) (post-is at (at + size) blocks (omega arith))
-    ∙ ap (λ (l : List ℕ). take at blocks ++ (l ++ drop (at + size) blocks)) f
-    ∙ ap (λ (k : ℕ). take k blocks ++ (block ++ drop (k + size) blocks)) e
+place-is size b at block blocks ys n e f =
+    ap (putMid at (at + size - at) blocks) f ∙ put-mid at (at + size) blocks block (omega arith) (omega arith)
+    ∙ ap (λ (k : ℕ). put k block blocks) e
 
 -- a brick's block, as the code cuts it out
 pub block-here : (m size i b : ℕ) (bricks blocks : List ℕ) → InPlace m size bricks blocks → i < m → b ≡ getD bricks i 0 → b * size + size ≤ length blocks

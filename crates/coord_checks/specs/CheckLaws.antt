@@ -2,7 +2,7 @@
 use mathlib.Core.Path.{_≡_, refl, sym, ap, _∙_}
 use mathlib.Core.Bool.{Bool, true, false, cond, not, _&&_, _||_}
 use mathlib.Core.List.{List, [], _∷_}
-use Prim.Native.Nat.{ℕ, zero, suc, _*_, _≤_, _<_}
+use Prim.Native.Nat.{ℕ, _*_, _≤_, _<_}
 use native.Mathlib.Nat.{mul-le-mul-right}
 use native.Mathlib.Omega.{arith}
 use lib.Dec.{eqb, leb, ltb}
@@ -18,16 +18,7 @@ use Rattle.settings.specs.RangeLaws.{CodeRange, code-passed, and-left, and-righ
 use Rattle.settings.specs.Ranges.{codeRefusal}
 use Rattle.settings.specs.Refusal.{firstRefusal, refuseUnless}
 use Rattle.settings.specs.Times.{drawRefusal}
-
--- A check that refuses, and one that passes
-pub first-stop : (k : ℕ) (rest : List ℕ) → (k ≡ 0 → ⊥) → k ≡ firstRefusal (k ∷ rest)
-unfolding firstRefusal
-first-stop zero rest h = absurd (h refl)
-first-stop (suc k) rest h = refl
-
-pub first-pass : (k : ℕ) (rest : List ℕ) → k ≡ 0 → firstRefusal (k ∷ rest) ≡ firstRefusal rest
-unfolding firstRefusal
-first-pass k rest e = rw e
+use Rattle.settings.specs.RefusalLaws.{first-stop}
 
 -- the checks of a record
 module _ (n m : ℕ) (c : Coordinator) (more : List ℕ) where

@@ -9,7 +9,7 @@ use native.Mathlib.Omega.{arith}
 use lib.Dec.{eqb, leb, ltb}
 use lib.ListN.{getD}
 use borrow.Author.Tests.{eq-eqb, ne-eqb, le-leb, lt-leb, lt-ltb, le-ltb}
-use Rattle.coord_record.specs.Each.{some, some-found, some-none}
+use Rattle.settings.specs.Each.{some, some-found, some-none}
 use Rattle.coord_record.specs.Rules.{isTarget}
 use Rattle.coord_counts.specs.Counting.{saidNo, otherTime, missing, highest, atTime, atTimes}
 use Rattle.message.specs.Flags.{member}

@@ -1,9 +1,9 @@
 -- Every record that a routine leaves is sound (refusal 6 never meets a record that came from here), and its arrays keep their sizes.
 use mathlib.Core.Path.{_≡_, refl, sym, ap, subst, _∙_}
 use mathlib.Core.Bool.{Bool, true, false, cond, not, _&&_, _||_}
-use mathlib.Core.List.{List, [], _∷_}
+use mathlib.Core.List.{List, []}
 use mathlib.Core.Logic.{_⊎_, inl, inr}
-use Prim.Native.Nat.{ℕ, zero, suc, _+_, _-_, _*_, _^_, _≤_, _<_, max}
+use Prim.Native.Nat.{ℕ, _+_, _-_, _*_, _^_, _≤_, _<_, max}
 use native.Mathlib.Omega.{arith}
 use lib.Dec.{eqb, leb, ltb}
 use lib.ListN.{length, getD, take, replicate, length-take, List·getD-eq-default}
@@ -16,7 +16,7 @@ use Rattle.coordinator.specs.Rules.{drawnThen, writeStep, readStep, takeStep, c
 use Rattle.coordinator.specs.StepLaws.{Takes, take-passed, first-low}
 use Rattle.coord_laws.specs.OpCases.{clash, InRead, InOrder, InRecovery, in-read, in-order, in-recovery, first-recovery, next-recovery, write-stores, read-stores}
 use Rattle.coord_laws.specs.TallyLaws.{Answering, answering, ReplyParts, reply-parts, Sized, tallied-sized, tallied-right, zeros-at, zeros-counted, highest-valid}
-use Rattle.coord_record.specs.Each.{each, each-all}
+use Rattle.settings.specs.Each.{each-all}
 use Rattle.coord_record.specs.Records.{noOp, noBricks, nothingCounted, idleWith}
 use Rattle.coord_record.specs.Rules.{entryRight, tallyRight, brickRight, bricksRight}
 use Rattle.coord_record.specs.Sound.{opRight, unsetOp, readRight, writeRight, timeRight, namedCount, sound}
@@ -36,13 +36,13 @@ use Rattle.message.specs.declared.Reply.{Reply}
 use Rattle.settings.specs.Count.{count}
 use Rattle.settings.specs.QuorumLaws.{quorum-low}
 use Rattle.settings.specs.RangeLaws.{CodeRange, code-passed}
-use Rattle.settings.specs.Refusal.{firstRefusal}
 use Rattle.settings.specs.Ranges.{quorum, codeRefusal}
 use Rattle.settings.specs.TimeLaws.{Gave, gave}
 use Rattle.settings.specs.Times.{maxCount, noUpperEnd, timeOf, validTime, nextCount, drawOf}
 use Rattle.settings.specs.declared.Clock.{Clock}
 use Rattle.settings.specs.declared.Draw.{Draw}
 use Rattle.settings.specs.declared.Draw.the-variants.{Drawn, Refused}
+use Rattle.settings.specs.RefusalLaws.{passed-first}
 
 -- sound, with arrays of 16 places
 pub record Good (n m : ℕ) (c : Coordinator) : Type 0 where
@@ -269,11 +269,6 @@ passes k s w e = go (leb k 0) refl e
     go : (b : Bool) → leb k 0 ≡ b → cond b s (refused k) ≡ went w → (k ≡ 0) × (s ≡ went w)
     go true l q = ((let z = leb-true k 0 l in omega arith), q)
     go false l q = absurd (let z : _≡_ {A = ℕ} 0 1 = cc in omega arith)
-
-passed-first : (k : ℕ) (rest : List ℕ) → firstRefusal (k ∷ rest) ≡ 0 → k ≡ 0
-unfolding firstRefusal
-passed-first zero rest e = refl
-passed-first (suc k) rest e = e
 
 pub same-went : (v w : Went) → went v ≡ went w → v ≡ w
 same-went v w e = cc

@@ -1,5 +1,5 @@
 -- A tally: which replies are counted, none counted, one more counted, the highest time found.
-use mathlib.Core.Path.{_≡_, refl, sym, ap, subst, _∙_}
+use mathlib.Core.Path.{_≡_, refl, ap, subst, _∙_}
 use mathlib.Core.Bool.{Bool, true, false, cond, not, _&&_, _||_}
 use mathlib.Core.List.{List, [], _∷_}
 use mathlib.Core.Logic.{_⊎_, inl, inr, ⊎-elim}
@@ -9,9 +9,9 @@ use native.Mathlib.Omega.{arith}
 use lib.Dec.{eqb, leb, ltb}
 use lib.ListN.{length, getD, set, replicate, length-set}
 use lib.Seq.{getD-set-same, getD-set-other}
-use borrow.Author.Tests.{eq-eqb, ne-eqb, le-leb, lt-ltb, eqb-true, eqb-false, leb-true, ltb-true}
+use borrow.Author.Tests.{lt-ltb, eqb-true, leb-true, ltb-true, not-true}
 use Rattle.coord_laws.specs.OpCases.{clash}
-use Rattle.coord_record.specs.Each.{each, each-all, each-at}
+use Rattle.settings.specs.Each.{each-all, each-at}
 use Rattle.coord_record.specs.Rules.{isTarget, blockRight, countedRight, entryRight, tallyRight}
 use Rattle.coord_record.specs.declared.Op.{Op}
 use Rattle.coord_record.specs.declared.Tally.{Tally}
@@ -20,7 +20,7 @@ use Rattle.coord_rounds.specs.Deciding.{answers, tallied}
 use Rattle.message.specs.Flags.{member, members}
 use Rattle.message.specs.Messages.{roundRight, foundRight, replyRight, replyRefusal}
 use Rattle.message.specs.declared.Reply.{Reply}
-use Rattle.settings.specs.Count.{count, one-if}
+use Rattle.settings.specs.Count.{count, one-if, one-is}
 use Rattle.settings.specs.RangeLaws.{and-left, and-right}
 use Rattle.settings.specs.Refusal.{firstRefusal, refuseUnless}
 use Rattle.settings.specs.Times.{validTime}
@@ -32,10 +32,6 @@ pub record Answering (n m : ℕ) (op : Op) (t : Tally) (r : Reply) : Type 0 wher
   pub of-round : r .round ≡ op .round
   pub not-counted : member (t .counted) (r .brick) ≡ false
   pub block-right : blockRight (op .phase) (isTarget n m (op .first) (r .brick)) (r .yes) (r .held) (r .found) ≡ true
-
-not-true : (b : Bool) → not b ≡ true → b ≡ false
-not-true true e = sym e
-not-true false e = refl
 
 pub answering : (n m : ℕ) (op : Op) (t : Tally) (r : Reply) → answers n m op t r ≡ true → Answering n m op t r
 unfolding answers
@@ -125,10 +121,6 @@ flag-low : (b : Bool) → leb (one-if b) 1 ≡ true
 flag-low true = refl
 flag-low false = refl
 
-flag-is : (b : Bool) → eqb (one-if b) 1 ≡ b
-flag-is true = refl
-flag-is false = refl
-
 kept-right : (n m : ℕ) (op : Op) (t : Tally) (r : Reply) → ReplyParts n r → Answering n m op t r
     → entryRight n m (op .phase) (op .first) (r .brick) 1 (one-if (r .yes)) (one-if (r .held)) (r .found) ≡ true
 unfolding entryRight countedRight
@@ -139,8 +131,8 @@ kept-right n m op t r p a =
       flag-low (r .yes),
       flag-low (r .held),
       p .found-right,
-      flag-is (r .yes),
-      flag-is (r .held),
+      one-is (r .yes),
+      one-is (r .held),
     ) (a .block-right)
 
 -- the tally with it is right

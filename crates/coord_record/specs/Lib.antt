@@ -1,5 +1,4 @@
 -- Definitions: Records, Rules, Sound. Laws: Each, RuleLaws, SoundLaws.
-pub mod Each
 pub mod Records
 pub mod Rules
 pub mod RuleLaws

@@ -7,11 +7,10 @@ use lib.Dec.{eqb, leb, ltb}
 use borrow.Author.Tests.{lt-ltb, le-ltb, le-leb, lt-leb, eq-eqb, ne-eqb}
 use lib.ListN.{getD}
 use mathlib.Core.List.{List}
-use Rattle.coord_record.specs.Each.{each-all, each-at, each-not}
+use Rattle.settings.specs.Each.{each-all, each-not}
 use Rattle.coord_record.specs.Rules.{above, isTarget, blockRight, countedRight, entryRight, tallyRight, brickRight, bricksRight}
 use Rattle.coord_record.specs.declared.Tally.{Tally}
 use Rattle.message.specs.Messages.{foundRight}
-use Rattle.settings.specs.Times.{validTime}
 
 pub target-up : (n m first b : ℕ) → first ≤ b → ltb (b - first) m ≡ isTarget n m first b
 unfolding isTarget above
@@ -58,10 +57,6 @@ block-none phase found target granted held p h = rw (ne-eqb phase 1 p, h) (go (e
 pub found-zero : (t : ℕ) → t ≡ 0 → true ≡ foundRight t
 unfolding foundRight
 found-zero t e = rw (eq-eqb t 0 e)
-
-pub found-time : (t : ℕ) (v : Bool) → (t ≡ 0 → ⊥) → v ≡ validTime t → v ≡ foundRight t
-unfolding foundRight
-found-time t v n e = rw (ne-eqb t 0 n) e
 
 -- what a counted entry's tests gave, in their order
 pub counted-idle : (n m phase first b granted held found : ℕ) → phase ≤ 0 → false ≡ countedRight n m phase first b granted held found

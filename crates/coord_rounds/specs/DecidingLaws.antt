@@ -6,7 +6,7 @@ use native.Mathlib.Omega.{arith}
 use lib.Dec.{eqb, leb, ltb}
 use lib.ListN.{getD}
 use borrow.Author.Tests.{eq-eqb, ne-eqb, le-leb, lt-leb, lt-ltb, le-ltb}
-use Rattle.coord_record.specs.Each.{some}
+use Rattle.settings.specs.Each.{some}
 use Rattle.coord_record.specs.Rules.{isTarget, blockRight}
 use Rattle.coord_record.specs.declared.Op.{Op}
 use Rattle.coord_record.specs.declared.Tally.{Tally}

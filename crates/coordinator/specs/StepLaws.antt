@@ -2,7 +2,7 @@
 use mathlib.Core.Path.{_≡_, refl, sym, ap, subst, _∙_}
 use mathlib.Core.Bool.{Bool, true, false, cond, not, _&&_, _||_}
 use mathlib.Core.List.{List, [], _∷_}
-use Prim.Native.Nat.{ℕ, zero, suc, _+_, _*_, _≤_, _<_}
+use Prim.Native.Nat.{ℕ, _+_, _*_, _≤_, _<_}
 use native.Mathlib.Nat.{mul-le-mul-right, suc-mul}
 use native.Mathlib.Omega.{arith}
 use lib.Dec.{eqb, leb, ltb}
@@ -22,7 +22,7 @@ use Rattle.coord_counts.specs.Counting.{targetFlags}
 use Rattle.coord_rounds.specs.Deciding.{answers, tallied, decided}
 use Rattle.coord_rounds.specs.declared.Decision.{Decision}
 use Rattle.coord_rounds.specs.declared.Decision.the-variants.{Abort, Give, Look, Store, Recover, Finish}
-use Rattle.coord_checks.specs.CheckLaws.{Recorded, record-passed, first-pass}
+use Rattle.coord_checks.specs.CheckLaws.{Recorded, record-passed}
 use Rattle.coord_checks.specs.Checks.{recordChecks, startChecks, writeRefusal, readRefusal, lengthsRight, strayChecks, takeRefusal, crashRefusal}
 use Rattle.coordinator.specs.Rules.{drawnThen, writeStep, readStep, takeStep, crashed, crashStep}
 use Rattle.message.specs.Flags.{members}
@@ -35,6 +35,7 @@ use Rattle.settings.specs.Times.{drawOf, drawRefusal, numberOf}
 use Rattle.settings.specs.declared.Clock.{Clock}
 use Rattle.settings.specs.declared.Draw.{Draw}
 use Rattle.settings.specs.declared.Draw.the-variants.{Drawn, Refused}
+use Rattle.settings.specs.RefusalLaws.{passed-first, passed-rest, tested}
 
 -- nothing sent and nothing seen
 unfoldable pub keptAnswer : Coordinator → Answer
@@ -62,21 +63,6 @@ checked-stop k bad s e h = rw (← e, lt-leb bad 0 (omega arith))
 pub checked-pass : (k bad : ℕ) (s : Step) → bad ≡ k → bad ≡ 0 → checked k s ≡ s
 unfolding checked
 checked-pass k bad s e z = rw (← e, z)
-
--- the first of a list of checks that passes, passes, and so does the rest
-passed-first : (k : ℕ) (rest : List ℕ) → firstRefusal (k ∷ rest) ≡ 0 → k ≡ 0
-unfolding firstRefusal
-passed-first zero rest e = refl
-passed-first (suc k) rest e = e
-
-passed-rest : (k : ℕ) (rest : List ℕ) → firstRefusal (k ∷ rest) ≡ 0 → firstRefusal rest ≡ 0
-unfolding firstRefusal
-passed-rest zero rest e = e
-passed-rest (suc k) rest e = absurd (omega arith)
-
-tested : (b : Bool) (k : ℕ) → refuseUnless b (suc k) ≡ 0 → b ≡ true
-tested true k e = refl
-tested false k e = absurd (omega arith)
 
 -- a record that passes
 low-sound : (n m : ℕ) (c : Coordinator) → leb (c .clock .coordinator) 15 ≡ true → sound n m c ≡ true → firstRefusal (recordChecks n m c []) ≡ 0

@@ -9,7 +9,7 @@ use native.Mathlib.Omega.{arith}
 use lib.Dec.{T, eqb, ltb, eqb→eq}
 use lib.ListN.{length, getD, take}
 use lib.Seq.{getD-take, length-take-le}
-use borrow.Author.Tests.{eq-eqb, eqb-true}
+use borrow.Author.Tests.{eq-eqb, eqb-true, not-true}
 use Rattle.erasure.specs.Code.{firstPoints}
 use Rattle.erasure.specs.Refusals.{allBelow, stands, allDifferent, encodeRefusal, decodeRefusal}
 use Rattle.gf256.specs.Computed.{every, at-entry}
@@ -17,7 +17,8 @@ use Rattle.interpolate.specs.RowLaws.{PointSet}
 use Rattle.interpolate.specs.Tabulate.{tabulate, length-tabulate, getD-tabulate, tabulate-by}
 use Rattle.settings.specs.Ranges.{codeRefusal}
 use Rattle.settings.specs.RangeLaws.{CodeRange, code-passed, and-left, and-right}
-use Rattle.settings.specs.Refusal.{refuseUnless, firstRefusal}
+use Rattle.settings.specs.Refusal.{refuseUnless}
+use Rattle.settings.specs.RefusalLaws.{passed-first, passed-rest, tested}
 
 stands-nowhere : (x : ℕ) (l : List ℕ) → stands x l ≡ false → (k : ℕ) → k < length l → getD l k 0 ≡ x → ⊥
 unfolding stands
@@ -30,16 +31,12 @@ stands-nowhere x (b ∷ bs) e k h q = go (eqb b x) refl e (stands-nowhere x bs) 
     go false et f ih zero l r = let z : false ≡ true = sym et ∙ eq-eqb b x r in let w : _≡_ {A = ℕ} 0 1 = cc in omega arith
     go false et f ih (suc k) l r = ih f k (le-of-suc-le-suc l) r
 
-not-true-is : (b : Bool) → not b ≡ true → b ≡ false
-not-true-is true e = sym e
-not-true-is false e = refl
-
 -- different bricks, by their places
 apart : (l : List ℕ) → allDifferent l ≡ true → (i j : ℕ) → i < j → j < length l → getD l i 0 ≡ getD l j 0 → ⊥
 unfolding allDifferent
 apart [] e i j h u q = not-suc-le-zero u
 apart (b ∷ bs) e i zero h u q = not-suc-le-zero h
-apart (b ∷ bs) e zero (suc j) h u q = stands-nowhere b bs (not-true-is _ (and-left _ _ e)) j (le-of-suc-le-suc u) (sym q)
+apart (b ∷ bs) e zero (suc j) h u q = stands-nowhere b bs (not-true _ (and-left _ _ e)) j (le-of-suc-le-suc u) (sym q)
 apart (b ∷ bs) e (suc i) (suc j) h u q = apart bs (and-right (not (stands b bs)) _ e) i j (le-of-suc-le-suc h) (le-of-suc-le-suc u) q
 
 pub different-set : (l : List ℕ) → allDifferent l ≡ true → length l ≤ 16 → PointSet l
@@ -84,20 +81,6 @@ pub record Decodes (n m size : ℕ) (bricks : List ℕ) (blocks stripe : ℕ) : 
   pub below : allBelow bricks n ≡ true
   pub count : length bricks ≡ m
   pub set : PointSet bricks
-
-passed-first : (k : ℕ) (rest : List ℕ) → firstRefusal (k ∷ rest) ≡ 0 → k ≡ 0
-unfolding firstRefusal
-passed-first zero rest e = refl
-passed-first (suc k) rest e = e
-
-passed-rest : (k : ℕ) (rest : List ℕ) → firstRefusal (k ∷ rest) ≡ 0 → firstRefusal rest ≡ 0
-unfolding firstRefusal
-passed-rest zero rest e = e
-passed-rest (suc k) rest e = absurd (omega arith)
-
-tested : (b : Bool) (k : ℕ) → refuseUnless b (suc k) ≡ 0 → b ≡ true
-tested true k e = refl
-tested false k e = absurd (omega arith)
 
 pub encode-passed : (n m size s c : ℕ) → encodeRefusal n m size s c ≡ 0 → Encodes n m size s c
 unfolding encodeRefusal

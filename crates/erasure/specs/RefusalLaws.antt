@@ -1,8 +1,8 @@
 -- The ways through the refusals: k, a and d are what the called tests gave.
-use mathlib.Core.Path.{_≡_, refl, sym, ap, _∙_}
+use mathlib.Core.Path.{_≡_, sym, ap, _∙_}
 use mathlib.Core.Bool.{Bool, true, false, _&&_}
 use mathlib.Core.List.{List, [], _∷_}
-use Prim.Native.Nat.{ℕ, zero, suc, _*_, _≤_}
+use Prim.Native.Nat.{ℕ, _*_, _≤_}
 use native.Mathlib.Nat.{mul-le-mul}
 use native.Mathlib.Omega.{arith}
 use lib.Dec.{eqb}
@@ -12,20 +12,11 @@ use Rattle.erasure.specs.Refusals.{allBelow, allDifferent, encodeRefusal
 use Rattle.settings.specs.Ranges.{codeRefusal}
 use Rattle.settings.specs.RangeLaws.{CodeRange, code-passed, and-left, and-right}
 use Rattle.settings.specs.Refusal.{refuseUnless, firstRefusal}
-
--- the first check refuses; or it passes and the others decide
-first-refuses : (k : ℕ) (rest : List ℕ) → (k ≡ 0 → ⊥) → k ≡ firstRefusal (k ∷ rest)
-unfolding firstRefusal
-first-refuses zero rest h = absurd (h refl)
-first-refuses (suc k) rest h = refl
-
-first-passes : (k : ℕ) (rest : List ℕ) → k ≡ 0 → firstRefusal (k ∷ rest) ≡ firstRefusal rest
-unfolding firstRefusal
-first-passes k rest h = rw h
+use Rattle.settings.specs.RefusalLaws.{first-stop}
 
 pub encode-settings : (n m size s c k : ℕ) → k ≡ codeRefusal n m size → (k ≡ 0 → ⊥) → k ≡ encodeRefusal n m size s c
 unfolding encodeRefusal
-encode-settings n m size s c k e h = e ∙ first-refuses (codeRefusal n m size) _ (λ z. h (e ∙ z))
+encode-settings n m size s c k e h = e ∙ first-stop (codeRefusal n m size) _ (λ z. h (e ∙ z))
 
 pub encode-stripe : (n m size s c k : ℕ) → k ≡ codeRefusal n m size → k ≡ 0 → (s ≡ m * size → ⊥) → 2 ≡ encodeRefusal n m size s c
 unfolding encodeRefusal firstRefusal
@@ -41,7 +32,7 @@ encode-passes n m size s c k e z a h = rw (← e, z, eq-eqb s (m * size) a, eq-e
 
 pub decode-settings : (n m size : ℕ) (bricks : List ℕ) (b s k : ℕ) → k ≡ codeRefusal n m size → (k ≡ 0 → ⊥) → k ≡ decodeRefusal n m size bricks b s
 unfolding decodeRefusal
-decode-settings n m size bricks b s k e h = e ∙ first-refuses (codeRefusal n m size) _ (λ z. h (e ∙ z))
+decode-settings n m size bricks b s k e h = e ∙ first-stop (codeRefusal n m size) _ (λ z. h (e ∙ z))
 
 pub decode-blocks : (n m size : ℕ) (bricks : List ℕ) (b s k : ℕ) → k ≡ codeRefusal n m size → k ≡ 0 → (b ≡ m * size → ⊥)
     → 2 ≡ decodeRefusal n m size bricks b s

@@ -7,7 +7,7 @@ use native.Mathlib.Nat.{le-of-suc-le-suc, not-suc-le-zero, add-comm}
 use native.Mathlib.Omega.{arith}
 use lib.Dec.{T, ltb, eqb, ltb→lt, eqb→eq}
 use lib.ListN.{length, getD}
-use Rattle.gf256.specs.Computed.{allBelow, at-below, every, at-entry}
+use Rattle.gf256.specs.Computed.{allBelow, at-below, every, at-entry, left, right}
 use Rattle.gf256.specs.Product.{plus, twice, product, doubled, power}
 use Rattle.gf256.specs.ProductLaws.{doubled-byte, product-doubled, doubled-add}
 use Rattle.gf256.specs.Tables.{IsPowers, IsLogs}
@@ -65,14 +65,6 @@ indexRight powers a x = cond (eqb a 0) (eqb x 0) (ltb x 255 && eqb (getD powers 
 
 unfoldable pub logsRight : List ℕ → Bool
 logsRight table = eqb (length table) 256 && every (indexRight (doublings 255 1)) 0 table
-
-left : (a b : Bool) → T (a && b) → T a
-left true b t = tt
-left false b t = t
-
-right : (a b : Bool) → T (a && b) → T b
-right true b t = t
-right false b t = absurd t
 
 other : (a b c : Bool) → T (cond a b c) → (T a → ⊥) → T c
 other true b c t n = absurd (n tt)

@@ -7,7 +7,7 @@ use lib.ListN.{length, getD}
 use Rattle.settings.specs.Times.{validTime}
 use Rattle.settings.specs.declared.Settings.{Settings}
 use Rattle.block.specs.Block.{zeros}
-use Rattle.image.specs.Every.{every}
+use Rattle.settings.specs.Each.{each}
 
 -- "entries (time, block)"
 pub record LogEntry : Type 0 where
@@ -59,4 +59,4 @@ countSound s n = leb 1 n && leb n (s .capacity)
 
 -- a brick's promise and log keep to these rules
 unfoldable pub sound : Settings → Brick → Bool
-sound s x = countSound s (count x) && savedTime (x .promise) && every (entrySound s x) (count x)
+sound s x = countSound s (count x) && savedTime (x .promise) && each (entrySound s x) (count x)

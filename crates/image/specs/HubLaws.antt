@@ -22,7 +22,7 @@ use Rattle.image.specs.declared.Answer.the-variants.{Opened, Refused}
 use Rattle.image.specs.declared.Shown.{Shown}
 use Rattle.image.specs.declared.Shown.the-variants.{Values}
 
-row-length : (f : ℕ → Entry) (k : ℕ) → length (rowOf f k) ≡ k
+pub row-length : (f : ℕ → Entry) (k : ℕ) → length (rowOf f k) ≡ k
 unfolding rowOf
 row-length f zero = refl
 row-length f (suc k) = let a = length-append (rowOf f k) (f k ∷ []) in let ih = row-length f k in omega arith

@@ -106,12 +106,3 @@ stacked-put f g (suc n) j ef eg h e =
         let low : j < n = lt-of-le-ne (omega arith) q in
         put-append (512 * j) (g j) (stacked f n) (f n) (omega (arith, long, eg j h))
         ∙ ap₂ (λ (a b : List ℕ). a ++ b) (ih low (λ k b ne. e k (omega arith) ne)) (e n (le-refl _) (λ w. q (sym w)))
-
-pub put-length : (at : ℕ) (b l : List ℕ) → at + length b ≤ length l → length (put at b l) ≡ length l
-unfolding put
-put-length at b l h =
-    let a = length-append (take at l ++ b) (drop (at + length b) l) in
-    let c = length-append (take at l) b in
-    let t = length-take at l in
-    let d = length-drop (at + length b) l in
-    omega arith

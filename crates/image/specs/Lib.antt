@@ -1,6 +1,5 @@
 -- The saved brick. Definitions: Brick (the abstract brick), Image (its blocks), Parse (opening). Laws: the modules named Laws.
 pub mod Brick
-pub mod Every
 pub mod FitLaws
 pub mod HubLaws
 pub mod Image

@@ -17,7 +17,7 @@ use Rattle.settings.specs.RangeLaws.{SettingsRange, and-left, and-right}
 use Rattle.settings.specs.declared.Settings.{Settings}
 use Rattle.block.specs.Block.{checked}
 use Rattle.image.specs.Brick.{Brick, count, timeAt, countSound}
-use Rattle.image.specs.Every.{every, every-at, every-all, every-fails}
+use Rattle.settings.specs.Each.{each, each-at, each-all, each-not}
 use Rattle.image.specs.Image.{imageSize}
 use Rattle.image.specs.Parse.{blockAt, countIn, promiseIn, timeIn, brickIn, checkedAt, isImage, openRefusal, Parsed, Opens, Refuses, parse}
 use Rattle.image.specs.ParseLaws.{range-of, count-in, refusal-0, refusal-5, refusal-6, parse-opens, parse-refuses}
@@ -53,7 +53,7 @@ unfolding lendingRefusal openRefusal firstRefusal
 lending-parse s brick l k e z = parse-refuses s brick l k (go (inRange s) (eqb (length l) (imageSize s)) (ltb brick (s .n)) e) z
   where
     go : (a b c : Bool) → k ≡ firstRefusal (refuseUnless a 1 ∷ refuseUnless b 2 ∷ refuseUnless c 3 ∷ [])
-        → firstRefusal (refuseUnless a 1 ∷ refuseUnless b 2 ∷ refuseUnless c 3 ∷ refuseUnless (every (checkedAt l) (s .capacity + 1)) 5 ∷ refuseUnless (isImage s brick l) 6 ∷ []) ≡ k
+        → firstRefusal (refuseUnless a 1 ∷ refuseUnless b 2 ∷ refuseUnless c 3 ∷ refuseUnless (each (checkedAt l) (s .capacity + 1)) 5 ∷ refuseUnless (isImage s brick l) 6 ∷ []) ≡ k
     go false b c r = sym r
     go true false c r = sym r
     go true true false r = sym r
@@ -64,20 +64,20 @@ pub open-lending : (s : Settings) (brick : ℕ) (l : List ℕ) (k : ℕ) (r : Op
 open-lending s brick l k r e z q = q ∙ ap opening (sym (lending-parse s brick l k e z))
 
 -- all checks: the head's and the others
-checks-all : (l : List ℕ) (n : ℕ) → checkedAt l 0 ≡ true → every (checkAfter l) n ≡ true → every (checkedAt l) (n + 1) ≡ true
+checks-all : (l : List ℕ) (n : ℕ) → checkedAt l 0 ≡ true → each (checkAfter l) n ≡ true → each (checkedAt l) (n + 1) ≡ true
 unfolding checkAfter
-checks-all l n h t = every-all (checkedAt l) (n + 1) each
+checks-all l n h t = each-all (checkedAt l) (n + 1) each
   where
     each : (k : ℕ) → k < n + 1 → checkedAt l k ≡ true
     each zero b = h
-    each (suc i) b = ap (λ (k : ℕ). checkedAt l k) (sym (add-one i)) ∙ every-at (checkAfter l) n i t (omega arith)
+    each (suc i) b = ap (λ (k : ℕ). checkedAt l k) (sym (add-one i)) ∙ each-at (checkAfter l) n i t (omega arith)
 
-checks-fail : (l : List ℕ) (n : ℕ) → every (checkAfter l) n ≡ false → every (checkedAt l) (n + 1) ≡ false
+checks-fail : (l : List ℕ) (n : ℕ) → each (checkAfter l) n ≡ false → each (checkedAt l) (n + 1) ≡ false
 unfolding checkAfter
-checks-fail l n f = go (every (checkedAt l) (n + 1)) refl
+checks-fail l n f = go (each (checkedAt l) (n + 1)) refl
   where
-    go : (b : Bool) → every (checkedAt l) (n + 1) ≡ b → every (checkedAt l) (n + 1) ≡ false
-    go true e = e ∙ sym (every-all (checkAfter l) n (λ i h. every-at (checkedAt l) (n + 1) (i + 1) e (omega (arith, h)))) ∙ f
+    go : (b : Bool) → each (checkedAt l) (n + 1) ≡ b → each (checkedAt l) (n + 1) ≡ false
+    go true e = e ∙ sym (each-all (checkAfter l) n (λ i h. each-at (checkedAt l) (n + 1) (i + 1) e (omega (arith, h)))) ∙ f
     go false e = e
 
 -- the working log that the loop made
@@ -132,7 +132,7 @@ module _ (s : Settings) (brick : ℕ) (l t : List ℕ) (e : Lent s brick (length
   open-unchecked r f q =
       q ∙ ap opening (sym (parse-refuses s brick l 5
       (refusal-5 s brick l (e .in-range) (e .long) (e .brick-low)
-      (every-fails (checkedAt l) (s .capacity + 1) 0 (omega arith) (sym (ap checked first) ∙ sym hold ∙ f)))
+      (each-not (checkedAt l) (s .capacity + 1) 0 (omega arith) (sym (ap checked first) ∙ sym hold ∙ f)))
       (λ z. omega (arith, z))))
 
   module _ (held : holds ≡ true) (n promise : ℕ) (en : n ≡ countIn t) (ep : promise ≡ promiseIn t)
@@ -144,7 +144,7 @@ module _ (s : Settings) (brick : ℕ) (l t : List ℕ) (e : Lent s brick (length
         (refusal-5 s brick l (e .in-range) (e .long) (e .brick-low) (checks-fail l (s .capacity) (sym (scan .all-checked) ∙ f)))
         (λ z. omega (arith, z))))
 
-    all-checks : checks ≡ true → every (checkedAt l) (s .capacity + 1) ≡ true
+    all-checks : checks ≡ true → each (checkedAt l) (s .capacity + 1) ≡ true
     unfolding checkedAt
     all-checks c = checks-all l (s .capacity) (sym (ap checked first) ∙ sym hold ∙ held) (sym (scan .all-checked) ∙ c)
 
@@ -159,7 +159,7 @@ module _ (s : Settings) (brick : ℕ) (l t : List ℕ) (e : Lent s brick (length
         ap₂ (λ (a b : Bool). a && b)
         (eh ∙ ap (λ (b : List ℕ). headFits s brick b n promise) first
         ∙ ap₂ (λ (a b : ℕ). headFits s brick (blockAt l 0) a b) n-is promise-is)
-        (scan .all-fit c ∙ ap (λ (k : ℕ). every (slotAt (s .size) l k) (s .capacity)) n-is)
+        (scan .all-fit c ∙ ap (λ (k : ℕ). each (slotAt (s .size) l k) (s .capacity)) n-is)
         ∙ tests-image s brick l (e .range) (e .long) (all-checks c)
 
     -- 6: the head or another block is not as it should be

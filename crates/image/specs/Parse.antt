@@ -10,7 +10,7 @@ use Rattle.settings.specs.declared.Settings.{Settings}
 use Rattle.little.specs.Little.{number}
 use Rattle.block.specs.Block.{checked, same}
 use Rattle.image.specs.Brick.{Brick, LogEntry, sound}
-use Rattle.image.specs.Every.{every}
+use Rattle.settings.specs.Each.{each}
 use Rattle.image.specs.Image.{imageOf, imageSize}
 
 -- block k of some bytes
@@ -59,7 +59,7 @@ openRefusal s brick bytes =
     (refuseUnless (inRange s) badSetting
     ∷ refuseUnless (eqb (length bytes) (imageSize s)) badLength
     ∷ refuseUnless (ltb brick (s .n)) badNumber
-    ∷ refuseUnless (every (checkedAt bytes) (s .capacity + 1)) badCheck
+    ∷ refuseUnless (each (checkedAt bytes) (s .capacity + 1)) badCheck
     ∷ refuseUnless (isImage s brick bytes) badRecord
     ∷ [])
 

@@ -21,7 +21,7 @@ use Rattle.block.specs.CheckLaws.{sealed-checked}
 use Rattle.block.specs.SameLaws.{same-true, same-of}
 use Rattle.block.specs.ChangeLaws.{change-unchecked}
 use Rattle.image.specs.Brick.{Brick, LogEntry, noEntry, count, timeAt, heldAt, fresh, sound}
-use Rattle.image.specs.Every.{every, every-at, every-all, every-fails}
+use Rattle.settings.specs.Each.{each, each-all}
 use Rattle.image.specs.Image.{blockOf, imageOf, imageSize}
 use Rattle.image.specs.ImageLaws.{block-length}
 use Rattle.image.specs.Parse.{blockAt, countIn, promiseIn, timeIn, heldIn, entryIn, entriesIn, brickIn, checkedAt, isImage, openRefusal, Parsed, Opens, Refuses, parse}
@@ -109,16 +109,16 @@ module _ (s : Settings) (brick : ℕ) (l : List ℕ) where
   unfolding openRefusal firstRefusal
   refusal-3 a b c = rw (a, eq-eqb (length l) (imageSize s) b, le-ltb brick (s .n) c) refl
 
-  pub refusal-5 : inRange s ≡ true → length l ≡ imageSize s → brick < s .n → every (checkedAt l) (s .capacity + 1) ≡ false → openRefusal s brick l ≡ 5
+  pub refusal-5 : inRange s ≡ true → length l ≡ imageSize s → brick < s .n → each (checkedAt l) (s .capacity + 1) ≡ false → openRefusal s brick l ≡ 5
   unfolding openRefusal firstRefusal
   refusal-5 a b c d = rw (a, eq-eqb (length l) (imageSize s) b, lt-ltb brick (s .n) c, d) refl
 
-  pub refusal-6 : inRange s ≡ true → length l ≡ imageSize s → brick < s .n → every (checkedAt l) (s .capacity + 1) ≡ true
+  pub refusal-6 : inRange s ≡ true → length l ≡ imageSize s → brick < s .n → each (checkedAt l) (s .capacity + 1) ≡ true
       → isImage s brick l ≡ false → openRefusal s brick l ≡ 6
   unfolding openRefusal firstRefusal
   refusal-6 a b c d e = rw (a, eq-eqb (length l) (imageSize s) b, lt-ltb brick (s .n) c, d, e) refl
 
-  pub refusal-0 : inRange s ≡ true → length l ≡ imageSize s → brick < s .n → every (checkedAt l) (s .capacity + 1) ≡ true
+  pub refusal-0 : inRange s ≡ true → length l ≡ imageSize s → brick < s .n → each (checkedAt l) (s .capacity + 1) ≡ true
       → isImage s brick l ≡ true → openRefusal s brick l ≡ 0
   unfolding openRefusal firstRefusal
   refusal-0 a b c d e = rw (a, eq-eqb (length l) (imageSize s) b, lt-ltb brick (s .n) c, d, e) refl
@@ -137,7 +137,7 @@ module _ (s : Settings) (brick : ℕ) (l : List ℕ) where
     pub range : SettingsRange s
     pub long : length l ≡ imageSize s
     pub brick-low : brick < s .n
-    pub checks : every (checkedAt l) (s .capacity + 1) ≡ true
+    pub checks : each (checkedAt l) (s .capacity + 1) ≡ true
     pub is-read : x ≡ brickIn s l
     pub keeps : Sound s x
     pub is-image : l ≡ imageOf s brick x
@@ -146,10 +146,10 @@ module _ (s : Settings) (brick : ℕ) (l : List ℕ) where
   pub opened : (x : Brick) → parse s brick l ≡ Opens x → Opened x
   unfolding parse openRefusal firstRefusal isImage
   opened x e =
-      go (inRange s) (eqb (length l) (imageSize s)) (ltb brick (s .n)) (every (checkedAt l) (s .capacity + 1))
+      go (inRange s) (eqb (length l) (imageSize s)) (ltb brick (s .n)) (each (checkedAt l) (s .capacity + 1))
       (sound s (brickIn s l)) (same (imageOf s brick (brickIn s l)) l) refl refl refl refl refl refl e
     where
-      go : (a b c d f g : Bool) → inRange s ≡ a → eqb (length l) (imageSize s) ≡ b → ltb brick (s .n) ≡ c → every (checkedAt l) (s .capacity + 1) ≡ d
+      go : (a b c d f g : Bool) → inRange s ≡ a → eqb (length l) (imageSize s) ≡ b → ltb brick (s .n) ≡ c → each (checkedAt l) (s .capacity + 1) ≡ d
           → sound s (brickIn s l) ≡ f → same (imageOf s brick (brickIn s l)) l ≡ g
           → (let r : ℕ = firstRefusal (refuseUnless a 1 ∷ refuseUnless b 2 ∷ refuseUnless c 3 ∷ refuseUnless d 5 ∷ refuseUnless (f && g) 6 ∷ []) in
           cond (eqb r 0) (Opens (brickIn s l)) (Refuses r)) ≡ Opens x
@@ -196,5 +196,5 @@ parse-image s brick x a b r =
     rw (back, sound-again s x r, same-of (imageOf s brick x) (imageOf s brick x) refl) refl in
     parse-opens s brick (imageOf s brick x)
     (refusal-0 s brick (imageOf s brick x) a (image-length s brick x range r) b
-    (every-all (checkedAt (imageOf s brick x)) (s .capacity + 1) (image-checked s brick x range r)) is)
+    (each-all (checkedAt (imageOf s brick x)) (s .capacity + 1) (image-checked s brick x range r)) is)
     ∙ ap Opens back

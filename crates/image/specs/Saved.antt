@@ -15,7 +15,7 @@ use Rattle.block.specs.Block.{checked, zeros}
 use Rattle.block.specs.StoreLaws.{zeros-length}
 use Rattle.block.specs.ChangeLaws.{change-unchecked}
 use Rattle.image.specs.Brick.{Brick, noEntry, count, timeAt, heldAt, fresh, savedTime, risesAt, sound}
-use Rattle.image.specs.Every.{every, every-at, every-fails}
+use Rattle.settings.specs.Each.{each-at, each-not}
 use Rattle.image.specs.Image.{imageOf, imageSize}
 use Rattle.image.specs.ImageLaws.{block-length}
 use Rattle.image.specs.Parse.{blockAt, checkedAt, Opens, Refuses, parse}
@@ -64,7 +64,7 @@ one-byte-changed s brick bytes x i v e b h hv ne =
     let m = length-set bytes i v in
     parse-refuses s brick (set bytes i v) 5
     (refusal-5 s brick (set bytes i v) (o .in-range) (m ∙ o .long) (o .brick-low)
-    (every-fails (checkedAt (set bytes i v)) (s .capacity + 1) (i / 512) (omega (arith, o .long)) fails))
+    (each-not (checkedAt (set bytes i v)) (s .capacity + 1) (i / 512) (omega (arith, o .long)) fails))
     (λ z. omega (arith, z))
   where
     at : 512 * (i / 512) + i % 512 ≡ i
@@ -80,7 +80,7 @@ one-byte-changed s brick bytes x i v e b h hv ne =
         (block-length bytes (s .capacity + 1) (i / 512) (o .long) low)
         (block-bytes bytes (i / 512) b) (omega arith) hv
         (λ q. ne (q ∙ block-byte bytes (i / 512) (i % 512) (omega arith) ∙ ap (λ (k : ℕ). getD bytes k 0) at))
-        (every-at (checkedAt bytes) (s .capacity + 1) (i / 512) (o .checks) low)
+        (each-at (checkedAt bytes) (s .capacity + 1) (i / 512) (o .checks) low)
 
 fresh-sound : (s : Settings) → inRange s ≡ true → Sound s (fresh s)
 unfolding fresh count timeAt heldAt savedTime risesAt

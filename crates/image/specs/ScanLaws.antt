@@ -6,15 +6,16 @@ use Prim.Native.Nat.{ℕ, zero, suc, _+_, _-_, _*_, _≤_, _<_}
 use native.Mathlib.Omega.{arith}
 use native.Mathlib.Numerals.{add-one}
 use lib.Dec.{leb, ltb, eqb}
-use lib.ListN.{length, take, drop, set, getD, replicate, length-append, length-replicate}
+use lib.ListN.{length, take, drop, set, getD, replicate, length-replicate}
 use lib.Seq.{set-at}
 use borrow.Author.Tests.{lt-ltb, le-ltb, ne-eqb}
 use Rattle.block.specs.Block.{checked}
-use Rattle.image.specs.Every.{every, every-none, every-more, every-at, every-fails}
+use Rattle.settings.specs.Each.{each, each-none, each-more, each-not}
 use Rattle.image.specs.ImageLaws.{block-length}
 use Rattle.image.specs.Parse.{blockAt, checkedAt, timeIn}
 use Rattle.image.specs.Opening.{rowOf, blank, entryFor, rises, slotFits}
 use Rattle.image.specs.declared.Entry.{Entry}
+use Rattle.image.specs.HubLaws.{row-length}
 
 -- the check of the block of entry i
 unfoldable pub checkAfter : List ℕ → ℕ → Bool
@@ -30,16 +31,16 @@ entryAt l n i = entryFor (timeIn (blockAt l (i + 1))) i n
 
 -- what the loop gives
 pub record Scanned (size cap : ℕ) (l : List ℕ) (n : ℕ) (checks fits : Bool) (log : List Entry) : Type 0 where
-  pub all-checked : checks ≡ every (checkAfter l) cap
-  pub all-fit : checks ≡ true → fits ≡ every (slotAt size l n) cap
+  pub all-checked : checks ≡ each (checkAfter l) cap
+  pub all-fit : checks ≡ true → fits ≡ each (slotAt size l n) cap
   pub the-log : checks ≡ true → log ≡ rowOf (entryAt l n) cap ++ replicate (32 - cap) blank
 
 -- what holds before block i + 1 is read
 pub record Scanning (size cap : ℕ) (l : List ℕ) (n : ℕ) (fits : Bool) (last i at : ℕ) (log : List Entry) : Type 0 where
   pub low : i ≤ cap
   pub place : at ≡ 512 * (i + 1)
-  pub so-checked : every (checkAfter l) i ≡ true
-  pub so-fit : fits ≡ every (slotAt size l n) i
+  pub so-checked : each (checkAfter l) i ≡ true
+  pub so-fit : fits ≡ each (slotAt size l n) i
   pub before : 0 < i → last ≡ timeIn (blockAt l i)
   pub logged : log ≡ rowOf (entryAt l n) i ++ replicate (32 - i) blank
 
@@ -50,8 +51,8 @@ scanning-none size cap l n b log e k =
     record {
       low = omega arith;
       place = refl;
-      so-checked = every-none (checkAfter l);
-      so-fit = sym (every-none (slotAt size l n));
+      so-checked = each-none (checkAfter l);
+      so-fit = sym (each-none (slotAt size l n));
       before = λ h. absurd (omega (arith, h));
       logged = k ∙ ap (λ (x : Entry). replicate 32 x) e;
     }
@@ -60,11 +61,6 @@ scanning-none size cap l n b log e k =
 pub part-is : (l : List ℕ) (at k : ℕ) → at ≡ 512 * k → take (at + 512 - at) (drop at l) ≡ blockAt l k
 unfolding blockAt
 part-is l at k e = let n : at + 512 - at ≡ 512 = omega arith in ap₂ (λ (a b : ℕ). take a (drop b l)) n e
-
-row-length : (f : ℕ → Entry) (k : ℕ) → length (rowOf f k) ≡ k
-unfolding rowOf
-row-length f zero = refl
-row-length f (suc k) = let a = length-append (rowOf f k) (f k ∷ []) in let ih = row-length f k in omega arith
 
 -- one more entry of the log
 row-more : (f : ℕ → Entry) (i : ℕ) (log : List Entry) → i < 32 → log ≡ rowOf f i ++ replicate (32 - i) blank
@@ -97,8 +93,8 @@ module _ (size cap : ℕ) (l : List ℕ) (n : ℕ) (fits : Bool) (last i at : �
       record {
         low = omega arith;
         place = omega (arith, r .place);
-        so-checked = every-more (checkAfter l) i ∙ rw (r .so-checked) (sym (ap checked et) ∙ sym eh ∙ h1);
-        so-fit = eb ∙ ap₂ (λ (a b : Bool). a && b) (r .so-fit) fit-is ∙ sym (every-more (slotAt size l n) i);
+        so-checked = each-more (checkAfter l) i ∙ rw (r .so-checked) (sym (ap checked et) ∙ sym eh ∙ h1);
+        so-fit = eb ∙ ap₂ (λ (a b : Bool). a && b) (r .so-fit) fit-is ∙ sym (each-more (slotAt size l n) i);
         before = λ z. tm;
         logged = ap (λ (x : Entry). set log i x) (ee ∙ ap (λ (k : ℕ). entryFor k i n) tm)
             ∙ row-more (entryAt l n) i log (omega arith) (r .logged);
@@ -109,7 +105,7 @@ module _ (size cap : ℕ) (l : List ℕ) (n : ℕ) (fits : Bool) (last i at : �
   unfolding checkAfter checkedAt
   scan-unchecked t holds fits′ log′ et eh h0 =
       record {
-        all-checked = sym (every-fails (checkAfter l) cap i h (sym (ap checked et) ∙ sym eh ∙ h0));
+        all-checked = sym (each-not (checkAfter l) cap i h (sym (ap checked et) ∙ sym eh ∙ h0));
         all-fit = λ z. absurd (clash z);
         the-log = λ z. absurd (clash z);
       }
@@ -122,8 +118,8 @@ pub scanned-all : (size cap : ℕ) (l : List ℕ) (n : ℕ) (fits : Bool) (last 
 scanned-all size cap l n fits last i at log h r =
     let e : i ≡ cap = omega (arith, r .low) in
     record {
-      all-checked = sym (ap (λ (k : ℕ). every (checkAfter l) k) (sym e) ∙ r .so-checked);
-      all-fit = λ z. r .so-fit ∙ ap (λ (k : ℕ). every (slotAt size l n) k) e;
+      all-checked = sym (ap (λ (k : ℕ). each (checkAfter l) k) (sym e) ∙ r .so-checked);
+      all-fit = λ z. r .so-fit ∙ ap (λ (k : ℕ). each (slotAt size l n) k) e;
       the-log = λ z. r .logged ∙ ap (λ (k : ℕ). rowOf (entryAt l n) k ++ replicate (32 - k) blank) e;
     }
 

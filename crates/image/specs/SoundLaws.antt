@@ -14,7 +14,7 @@ use Rattle.settings.specs.declared.Settings.{Settings}
 use Rattle.block.specs.Block.{headBlock, entryBlock, unusedBlock}
 use Rattle.block.specs.LayoutLaws.{head-length, entry-length, unused-length}
 use Rattle.image.specs.Brick.{Brick, LogEntry, count, timeAt, heldAt, savedTime, risesAt, entrySound, countSound, sound}
-use Rattle.image.specs.Every.{every, every-at, every-all}
+use Rattle.settings.specs.Each.{each, each-at, each-all}
 use Rattle.image.specs.Image.{blockOf, stacked, imageOf, imageSize}
 use Rattle.image.specs.ImageLaws.{Even, stacked-at, stacked-length}
 use Rattle.image.specs.Parse.{blockAt}
@@ -58,14 +58,14 @@ soundness s x e =
       count-high = leb-true (count x) (s .capacity) (and-right (leb 1 (count x)) _ c);
       promise-saved = and-right (countSound s (count x)) _ a;
       entries = λ i h. entry-soundness s x i
-          (every-at (entrySound s x) (count x) i (and-right (countSound s (count x) && savedTime (x .promise)) _ e) h);
+          (each-at (entrySound s x) (count x) i (and-right (countSound s (count x) && savedTime (x .promise)) _ e) h);
     }
 
 pub sound-again : (s : Settings) (x : Brick) → Sound s x → sound s x ≡ true
 unfolding sound countSound entrySound
 sound-again s x r =
     rw (le-leb 1 (count x) (r .count-low), le-leb (count x) (s .capacity) (r .count-high), r .promise-saved)
-    (every-all (entrySound s x) (count x) each)
+    (each-all (entrySound s x) (count x) each)
   where
     each : (i : ℕ) → i < count x → savedTime (timeAt x i) && risesAt x i && eqb (length (heldAt x i)) (s .size) ≡ true
     each i h = let n = r .entries i h in rw (n .saved, n .rises, eq-eqb _ _ (n .sized)) refl

@@ -14,7 +14,7 @@ use Rattle.block.specs.Block.{checked, sealed, same, headBody, headBlock, entry
 use Rattle.block.specs.CheckLaws.{checked-sealed, sealed-body}
 use Rattle.block.specs.SameLaws.{same-true, same-of}
 use Rattle.image.specs.Brick.{Brick, LogEntry, noEntry, count, timeAt, heldAt, savedTime, risesAt, countSound, sound}
-use Rattle.image.specs.Every.{every, every-at, every-all}
+use Rattle.settings.specs.Each.{each, each-at, each-all}
 use Rattle.image.specs.Image.{blockOf, stacked, imageOf, imageSize}
 use Rattle.image.specs.ImageLaws.{stacked-ext, stacked-of, block-length}
 use Rattle.image.specs.Parse.{blockAt, countIn, promiseIn, timeIn, heldIn, entryIn, entriesIn, brickIn, checkedAt, isImage}
@@ -110,14 +110,14 @@ rises-in s l (suc i) h =
     ap₂ (λ (a b : ℕ). eqb (suc i) 0 || ltb a b) before (time-in s l (suc i) h)
 
 module _ (s : Settings) (brick : ℕ) (l : List ℕ) (range : SettingsRange s) (long : length l ≡ imageSize s)
-    (checks : every (checkedAt l) (s .capacity + 1) ≡ true) where
+    (checks : each (checkedAt l) (s .capacity + 1) ≡ true) where
   blocks : (k : ℕ) → k < s .capacity + 1 → length (blockAt l k) ≡ 512
   unfolding imageSize
   blocks k h = block-length l (s .capacity + 1) k long h
 
   sealed-at : (k : ℕ) (body : List ℕ) → k < s .capacity + 1 → drop 2 (blockAt l k) ≡ body → blockAt l k ≡ sealed body
   unfolding checkedAt
-  sealed-at k body h e = checked-sealed (blockAt l k) body (blocks k h) (every-at (checkedAt l) (s .capacity + 1) k checks h) e
+  sealed-at k body h e = checked-sealed (blockAt l k) body (blocks k h) (each-at (checkedAt l) (s .capacity + 1) k checks h) e
 
   n : ℕ
   n = countIn (blockAt l 0)
@@ -126,7 +126,7 @@ module _ (s : Settings) (brick : ℕ) (l : List ℕ) (range : SettingsRange s) (
   x = brickIn s l
 
   -- the tests pass: the fields make a brick that keeps to the rules
-  slots-sound : countSound s n ≡ true → savedTime (promiseIn (blockAt l 0)) ≡ true → every (slotAt (s .size) l n) (s .capacity) ≡ true → Sound s x
+  slots-sound : countSound s n ≡ true → savedTime (promiseIn (blockAt l 0)) ≡ true → each (slotAt (s .size) l n) (s .capacity) ≡ true → Sound s x
   unfolding n x slotAt countSound brickIn
   slots-sound c p slots =
       let few = leb-true 1 n (and-left _ _ c) in
@@ -142,7 +142,7 @@ module _ (s : Settings) (brick : ℕ) (l : List ℕ) (range : SettingsRange s) (
       each : (i : ℕ) → i < n → i < s .capacity → EntrySound s x i
       each i h b =
           let q = slot-parts (s .size) (blockAt l (i + 1)) (timeIn (blockAt l (i + 1))) i n (timeIn (blockAt l i)) h
-          (every-at (slotAt (s .size) l n) (s .capacity) i slots b) in
+          (each-at (slotAt (s .size) l n) (s .capacity) i slots b) in
           record {
             saved = ap savedTime (time-in s l i h) ∙ q .saved;
             rises = rises-in s l i h ∙ q .rising;
@@ -151,7 +151,7 @@ module _ (s : Settings) (brick : ℕ) (l : List ℕ) (range : SettingsRange s) (
 
   -- ... whose blocks stand there
   block-same : countSound s n ≡ true → drop 2 (blockAt l 0) ≡ headBody s brick n (promiseIn (blockAt l 0))
-      → every (slotAt (s .size) l n) (s .capacity) ≡ true → (k : ℕ) → k < s .capacity + 1 → blockOf s brick x k ≡ blockAt l k
+      → each (slotAt (s .size) l n) (s .capacity) ≡ true → (k : ℕ) → k < s .capacity + 1 → blockOf s brick x k ≡ blockAt l k
   unfolding n x slotAt brickIn headBlock
   block-same c head slots zero h =
       block-0 s brick x
@@ -166,7 +166,7 @@ module _ (s : Settings) (brick : ℕ) (l : List ℕ) (range : SettingsRange s) (
       one = ap (λ (k : ℕ). blockAt l k) (sym (add-one i))
 
       here : slotFits (s .size) (blockAt l (i + 1)) (timeIn (blockAt l (i + 1))) i n (timeIn (blockAt l i)) ≡ true
-      here = every-at (slotAt (s .size) l n) (s .capacity) i slots b
+      here = each-at (slotAt (s .size) l n) (s .capacity) i slots b
 
       go : (t : Bool) → ltb i n ≡ t → blockOf s brick x (suc i) ≡ blockAt l (suc i)
       go true e =
@@ -224,17 +224,17 @@ module _ (s : Settings) (brick : ℕ) (l : List ℕ) (range : SettingsRange s) (
       ∙ ap (λ (k : ℕ). headBody s brick k (x .promise)) m))
 
   image-tests : Sound s x → imageOf s brick x ≡ l
-      → headFits s brick (blockAt l 0) n (promiseIn (blockAt l 0)) && every (slotAt (s .size) l n) (s .capacity) ≡ true
+      → headFits s brick (blockAt l 0) n (promiseIn (blockAt l 0)) && each (slotAt (s .size) l n) (s .capacity) ≡ true
   image-tests r e =
       and-both (headFits s brick (blockAt l 0) n (promiseIn (blockAt l 0))) _ (image-head r e)
-      (every-all (slotAt (s .size) l n) (s .capacity) (image-slot r e))
+      (each-all (slotAt (s .size) l n) (s .capacity) (image-slot r e))
 
-  pub tests-image : headFits s brick (blockAt l 0) (countIn (blockAt l 0)) (promiseIn (blockAt l 0)) && every (slotAt (s .size) l (countIn (blockAt l 0))) (s .capacity)
+  pub tests-image : headFits s brick (blockAt l 0) (countIn (blockAt l 0)) (promiseIn (blockAt l 0)) && each (slotAt (s .size) l (countIn (blockAt l 0))) (s .capacity)
       ≡ isImage s brick l
   unfolding n x headFits isImage imageSize imageOf
   tests-image = both-ways _ _ there back
     where
-      there : headFits s brick (blockAt l 0) n (promiseIn (blockAt l 0)) && every (slotAt (s .size) l n) (s .capacity) ≡ true
+      there : headFits s brick (blockAt l 0) n (promiseIn (blockAt l 0)) && each (slotAt (s .size) l n) (s .capacity) ≡ true
           → sound s x && same (imageOf s brick x) l ≡ true
       there e =
           let f = and-left (headFits s brick (blockAt l 0) n (promiseIn (blockAt l 0))) _ e in
@@ -247,7 +247,7 @@ module _ (s : Settings) (brick : ℕ) (l : List ℕ) (range : SettingsRange s) (
           (same-of _ _ (stacked-ext (blockOf s brick x) (blockAt l) (s .capacity + 1) (block-same c head slots) ∙ stacked-of l (s .capacity + 1) long))
 
       back : sound s x && same (imageOf s brick x) l ≡ true
-          → headFits s brick (blockAt l 0) n (promiseIn (blockAt l 0)) && every (slotAt (s .size) l n) (s .capacity) ≡ true
+          → headFits s brick (blockAt l 0) n (promiseIn (blockAt l 0)) && each (slotAt (s .size) l n) (s .capacity) ≡ true
       back e =
           let r = soundness s x (and-left (sound s x) _ e) in
           let same-l = same-true (imageOf s brick x) l (and-right (sound s x) _ e) in

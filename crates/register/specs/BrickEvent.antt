@@ -3,7 +3,7 @@ use mathlib.Core.Path.{_≡_, refl, sym, ap, subst, _∙_}
 use mathlib.Core.Logic.{_⊎_, inl, inr}
 use mathlib.Core.Bool.{Bool, true, false, cond}
 use mathlib.Core.List.{List, [], _∷_, _++_, append-nil, List·Memᴰ·not-nil, List·Memᴰ·append-cases, List·Memᴰ·eq-of-singleton}
-use Prim.Native.Nat.{ℕ, zero, suc, _<_}
+use Prim.Native.Nat.{ℕ, _<_}
 use native.Mathlib.Omega.{arith}
 use lib.Dec.{eqb}
 use lib.ListN.{length, replicate}
@@ -12,6 +12,7 @@ use Rattle.settings.specs.Ranges.{inRange, bricksInRange, sizeInRange, capacity
 use Rattle.settings.specs.RangeLaws.{SettingsRange}
 use Rattle.settings.specs.Refusal.{refuseUnless, firstRefusal}
 use Rattle.settings.specs.declared.Settings.{Settings}
+use Rattle.settings.specs.RefusalLaws.{passed-first, passed-rest, tested}
 use Rattle.message.specs.Messages.{messageRefusal}
 use Rattle.message.specs.declared.Message.{Message}
 use Rattle.image.specs.Brick.{Brick}
@@ -77,13 +78,7 @@ in-range s g =
 
 -- a chain of checks that none refuses
 pub first-passed : (k : ℕ) (l : List ℕ) → firstRefusal (k ∷ l) ≡ 0 → (k ≡ 0) × (firstRefusal l ≡ 0)
-unfolding firstRefusal
-first-passed zero l e = (refl, e)
-first-passed (suc k) l e = absurd (omega arith)
-
-pub unless-passed : (a : Bool) (k : ℕ) → refuseUnless a (suc k) ≡ 0 → a ≡ true
-unless-passed true k e = refl
-unless-passed false k e = absurd (omega arith)
+first-passed k l e = (passed-first k l e, passed-rest k l e)
 
 -- a reply is no message
 no-message : (given : Given) (out : List ℕ) (b : ℕ) (msg : Message) (block : List ℕ) → message b msg block ∈ repliedWith given out → ⊥
@@ -187,7 +182,7 @@ module _ (s : Settings) (g : SettingsRange s) (h : Hist s) (r : Moved s) (i : In
           let p = first-passed (settingsRefusal s) _ (a .0) in
           let q = first-passed (refuseUnless (eqb (length block) (s .size)) 2) _ (p .1) in
           any-received out (i .valid) (i .bricks b low .keeps) (i .bricks b low .sound) (i .items (message b msg block) was)
-          (sensible (s .n) (s .m) msg (d .0)) was (eqb-true (length block) (s .size) (unless-passed (eqb (length block) (s .size)) 1 (q .0)))
+          (sensible (s .n) (s .m) msg (d .0)) was (eqb-true (length block) (s .size) (tested (eqb (length block) (s .size)) 1 (q .0)))
 
       decide : (a : Bool) → eqb refusal 0 ≡ a
           → Goes s g r (received s (r .world) b (cond a (Receive.acted s b msg block image out (parse s b image)) (refusedWith refusal image out)))

@@ -57,7 +57,7 @@ left-turned s g h sent c left w e same t =
     record {
       later = t .later;
       turns = subst (λ (z : List (Seen (plain s))). Turns s g c h (t .later) z) (same (w .next .stripe) stripe) (t .turns);
-      keeps = record { number = t .keeps .number; used = t .keeps .used; wide = t .keeps .wide; runs = λ n. absurd (n e) };
+      keeps = record { number = t .keeps .number; used = t .keeps .used; sized = t .keeps .sized; runs = λ n. absurd (n e) };
       items = t .items;
       own = t .own;
     })

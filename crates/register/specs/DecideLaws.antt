@@ -5,8 +5,8 @@ use mathlib.Core.Bool.{Bool, true, false, cond, not, _&&_}
 use mathlib.Core.List.{List, [], _∷_, _++_, List·Memᴰ·not-nil}
 use Prim.Native.Nat.{ℕ, _+_, _*_, _^_, _-_, _%_, _≤_, _<_}
 use native.Mathlib.Omega.{arith}
-use lib.Dec.{T, leb, ltb, eqb}
-use borrow.Author.Tests.{leb-true, ltb-true, eqb-true, eq-eqb, ne-eqb}
+use lib.Dec.{T, leb, eqb}
+use borrow.Author.Tests.{eqb-true, eq-eqb, ne-eqb}
 use Rattle.settings.specs.Ranges.{quorum}
 use Rattle.settings.specs.RangeLaws.{SettingsRange, and-left, and-right}
 use Rattle.settings.specs.Times.{maxCount, noUpperEnd, timeOf}
@@ -15,9 +15,10 @@ use Rattle.message.specs.Flags.{member, members}
 use Rattle.message.specs.declared.Message.{Message}
 use Rattle.erasure.specs.Code.{codedOf}
 use Rattle.erasure.specs.Theorems.{Stripe}
-use Rattle.coord_record.specs.Each.{some, some-at}
+use Rattle.settings.specs.Each.{some, some-at}
 use Rattle.coord_record.specs.Records.{noBricks}
-use Rattle.coord_record.specs.Sound.{maxRight, storedRight, readRight, writeRight, unsetOp, opRight, timeRight, sound}
+use Rattle.coord_record.specs.Sound.{maxRight, storedRight, readRight, writeRight, unsetOp, opRight, timeRight}
+use Rattle.coord_record.specs.SoundParts.{SoundParts}
 use Rattle.coord_record.specs.declared.Op.{Op}
 use Rattle.coord_counts.specs.Counting.{saidNo}
 use Rattle.coord_acts.specs.Acts.{roundMessage, trimMessage, nextOp, nextRound, ending, finishedSeen}
@@ -32,8 +33,8 @@ use Rattle.order.specs.FactLaws.{committed-up}
 use Rattle.register.specs.Runs.{plain, Item, message, reply, seenOf, blockFor, broadcasts}
 use Rattle.register.specs.Invariant.{quorums, Hist, MessageInv, ReplyInv, ItemInv, Running, CoordinatorInv}
 use Rattle.register.specs.UpLaws.{in-cons}
-use Rattle.register.specs.TurnLaws.{turns-launched, in-broadcast, Turned}
-use Rattle.register.specs.RoundLaws.{time-of, ends, opens}
+use Rattle.register.specs.TurnLaws.{time-of, turns-launched, in-broadcast, Turned}
+use Rattle.register.specs.RoundLaws.{ends, opens}
 
 -- how phase and kind of a running operation go together
 pub data Fit (op : Op) : Type 0 where
@@ -76,33 +77,25 @@ fit op e l = go (eqb (op .kind) 0) (eqb (op .kind) 1) refl refl e
 pub record SoundOp (s : Settings) (k : Held) : Type 0 where
   pub fits : 1 ≤ k .state .op .phase → Fit (k .state .op)
   pub first-low : k .state .op .first < s .n
-  pub time-high : 1 ≤ k .state .op .kind → k .state .clock .coordinator ≤ 15 → k .state .op .time < noUpperEnd
+  pub time-high : 1 ≤ k .state .op .kind → k .state .op .time < noUpperEnd
 
-pub sound-op : (s : Settings) (k : Held) → sound (s .n) (s .m) (k .state) ≡ true → SoundOp s k
-unfolding sound timeRight timeOf maxCount noUpperEnd
-sound-op s k e =
-    let a = and-left (leb (k .state .clock .coordinator) 15 && leb (k .state .clock .last) maxCount && ltb (k .state .op .first) (s .n) && opRight (k .state .op) && timeRight (k .state .op .kind) (k .state .op .time) (k .state .clock)) _ e in
-    let b = and-left (leb (k .state .clock .coordinator) 15 && leb (k .state .clock .last) maxCount && ltb (k .state .op .first) (s .n) && opRight (k .state .op)) _ a in
-    let t = and-right (leb (k .state .clock .coordinator) 15 && leb (k .state .clock .last) maxCount && ltb (k .state .op .first) (s .n) && opRight (k .state .op)) _ a in
-    let c = and-left (leb (k .state .clock .coordinator) 15 && leb (k .state .clock .last) maxCount && ltb (k .state .op .first) (s .n)) _ b in
-    let o = and-right (leb (k .state .clock .coordinator) 15 && leb (k .state .clock .last) maxCount && ltb (k .state .op .first) (s .n)) _ b in
-    let d = and-left (leb (k .state .clock .coordinator) 15 && leb (k .state .clock .last) maxCount) _ c in
-    let f = and-right (leb (k .state .clock .coordinator) 15 && leb (k .state .clock .last) maxCount) _ c in
-    let l = leb-true (k .state .clock .last) maxCount (and-right (leb (k .state .clock .coordinator) 15) _ d) in
+pub sound-op : (s : Settings) (k : Held) → SoundParts (s .n) (s .m) (k .state) → SoundOp s k
+unfolding timeRight timeOf maxCount noUpperEnd
+sound-op s k p =
     record {
-      fits = fit (k .state .op) o;
-      first-low = ltb-true (k .state .op .first) (s .n) f;
-      time-high = λ p w. time (eqb (k .state .op .kind) 0) refl t l p w;
+      fits = fit (k .state .op) (p .op-right);
+      first-low = p .first-low;
+      time-high = λ l. time (eqb (k .state .op .kind) 0) refl (p .time-right) (p .last-low) l;
     }
   where
     time : (a : Bool) → eqb (k .state .op .kind) 0 ≡ a
         → cond a (eqb (k .state .op .time) 0)
         (leb 1 (k .state .clock .last) && eqb (k .state .op .time) (k .state .clock .last * 16 + k .state .clock .coordinator)) ≡ true
-        → k .state .clock .last ≤ 2 ^ 40 - 1 → 1 ≤ k .state .op .kind → k .state .clock .coordinator ≤ 15 → k .state .op .time < 2 ^ 44
-    time true ea q l p w = absurd (omega (arith, eqb-true (k .state .op .kind) 0 ea))
-    time false ea q l p w =
+        → k .state .clock .last ≤ 2 ^ 40 - 1 → 1 ≤ k .state .op .kind → k .state .op .time < 2 ^ 44
+    time true ea q l w = absurd (omega (arith, eqb-true (k .state .op .kind) 0 ea))
+    time false ea q l w =
         let z = eqb-true (k .state .op .time) (k .state .clock .last * 16 + k .state .clock .coordinator) (and-right (leb 1 (k .state .clock .last)) _ q) in
-        omega arith
+        omega (arith, p .number-low)
 
 -- tests on bricks
 pub true-T : (a : Bool) → a ≡ true → T a

@@ -24,7 +24,8 @@ use Rattle.coord_record.specs.Records.{noBricks}
 use Rattle.coord_rounds.specs.Deciding.{decided}
 use Rattle.coord_rounds.specs.declared.Decision.{Decision}
 use Rattle.coord_rounds.specs.declared.Decision.the-variants.{Abort, Give, Look, Store, Recover, Finish}
-use Rattle.coord_acts.specs.Acts.{blockOf, nextRound, ending, acted, counting, waitingOr, starting}
+use Rattle.erasure.specs.Theorems.{blockOf}
+use Rattle.coord_acts.specs.Acts.{nextRound, ending, acted, counting, waitingOr, starting}
 use Rattle.coord_acts.specs.Steps.{
   Held,
   Broadcast,

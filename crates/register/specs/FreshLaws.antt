@@ -16,10 +16,10 @@ use Rattle.image.specs.Brick
 use Rattle.image.specs.Brick.{LogEntry, savedTime}
 use Rattle.image.specs.SoundLaws.{Sound}
 use Rattle.erasure.specs.Code.{codedOf}
-use Rattle.erasure.specs.Theorems.{Stripe}
+use Rattle.erasure.specs.Theorems.{blockOf, Stripe}
 use Rattle.erasure.specs.MoreTheorems.{coded-of-zeros}
 use Rattle.coord_record.specs.Records.{noOp, idleWith}
-use Rattle.coord_acts.specs.Acts.{blockOf}
+use Rattle.coord_laws.specs.Soundness.{none-sized}
 use Rattle.order.specs.Claim.{Plain, _∈_}
 use Rattle.order.specs.Facts.{Fact, seen}
 use Rattle.order.specs.Places.{Suf, In}
@@ -27,7 +27,6 @@ use Rattle.order.specs.Valid.{start, Val, Gone}
 use Rattle.register.specs.Runs.{plain, zeroStripe, idle, unmoved, fresh}
 use Rattle.register.specs.Invariant.{quorums, Means, Stands, BrickInv, CoordinatorInv, Inv}
 use Rattle.register.specs.LogLaws.{Rises, sound-of}
-use Rattle.register.specs.StartEvent.{wide-none}
 
 -- nothing stands in an empty history
 pub in-none : {P : Plain} {f : Fact P} → In f [] → ⊥
@@ -117,7 +116,7 @@ module _ (s : Settings) (g : SettingsRange s) where
   fresh-coordinator : (c : ℕ) → CoordinatorInv s g [] [] c (idle s c)
   unfolding idle idleWith noOp
   fresh-coordinator c =
-      record { number = refl; used = λ t w m. absurd (in-none (w .1)); wide = wide-none; runs = λ n. absurd (n refl) }
+      record { number = refl; used = λ t w m. absurd (in-none (w .1)); sized = none-sized; runs = λ n. absurd (n refl) }
 
   pub fresh-holds : Inv s g [] (unmoved s (fresh s))
   unfolding unmoved fresh seen

@@ -11,11 +11,11 @@ use Rattle.settings.specs.Ranges.{quorum}
 use Rattle.settings.specs.RangeLaws.{SettingsRange}
 use Rattle.settings.specs.declared.Settings.{Settings}
 use Rattle.message.specs.Flags.{member, members}
-use Rattle.erasure.specs.Theorems.{Stripe}
-use Rattle.coord_record.specs.Each.{some, some-at}
+use Rattle.erasure.specs.Theorems.{blockOf, Stripe}
+use Rattle.settings.specs.Each.{some, some-at}
 use Rattle.coord_record.specs.Rules.{isTarget, blockRight}
 use Rattle.coord_counts.specs.Counting.{saidNo, highest, otherTime, missing, targetRow}
-use Rattle.coord_acts.specs.Acts.{blockOf, stripeFrom, ending}
+use Rattle.coord_acts.specs.Acts.{stripeFrom, ending}
 use Rattle.coord_acts.specs.Steps.{Held, readSeen}
 use Rattle.order.specs.Claim.{read, bytes, changed, given, _∈_}
 use Rattle.order.specs.Facts.{one-round, showed, shows, outcome}

@@ -4,7 +4,7 @@ use mathlib.Core.Logic.{_⊎_}
 use mathlib.Core.Bool.{true}
 use mathlib.Core.List.{List}
 use Prim.Native.Nat.{ℕ, _%_, _≤_, _<_}
-use lib.ListN.{length, getD}
+use lib.ListN.{getD}
 use Rattle.settings.specs.Ranges.{quorum}
 use Rattle.settings.specs.RangeLaws.{SettingsRange}
 use Rattle.settings.specs.QuorumLaws.{quorum-twice}
@@ -18,12 +18,11 @@ use Rattle.image.specs.Brick.{Brick, LogEntry}
 use Rattle.image.specs.Image.{imageOf}
 use Rattle.image.specs.SoundLaws.{Sound}
 use Rattle.erasure.specs.Code.{codedOf}
-use Rattle.erasure.specs.Theorems.{Stripe}
+use Rattle.erasure.specs.Theorems.{blockOf, Stripe}
 use Rattle.coord_record.specs.Records.{idleKind, readingKind, writingKind}
 use Rattle.coord_record.specs.Rules.{isTarget, blockRight}
-use Rattle.coord_record.specs.declared.Tally.{Tally}
-use Rattle.coord_acts.specs.Acts.{blockOf}
 use Rattle.coord_acts.specs.Steps.{Held}
+use Rattle.coord_laws.specs.TallyLaws.{Sized}
 use Rattle.order.specs.Claim.{Plain, read, write, _∈_}
 use Rattle.order.specs.Facts.{began, promised, stored, showed, History, seen}
 use Rattle.order.specs.Places.{In}
@@ -115,13 +114,6 @@ pub record CountedInv (s : Settings) (sent : List Item) (k : Held) (b : ℕ) : T
   pub block-is : from .held ≡ true → blockOf (s .size) (k .blocks) b ≡ block
   pub right : blockRight (k .state .op .phase) (isTarget (s .n) (s .m) (k .state .op .first) b) (from .yes) (from .held) (from .found) ≡ true
 
--- The lists of a tally have a place for each brick.
-pub record Wide (t : Tally) : Type 0 where
-  pub counted : length (t .counted) ≡ 16
-  pub granted : length (t .granted) ≡ 16
-  pub held : length (t .held) ≡ 16
-  pub found : length (t .found) ≡ 16
-
 -- What was sent asks of an operation: an Order-and-read of its time is of an earlier round, or of this one with this max.
 abbrev pub Asked : List Item → (time round phase max : ℕ) → Type 0
 Asked sent time round phase max =
@@ -150,7 +142,7 @@ pub record CoordinatorInv (s : Settings) (g : SettingsRange s) (h : Hist s) (sen
   pub number : k .state .clock .coordinator ≡ c
   -- the times it used are at most its last
   pub used : (t : ℕ) → Began h t → t % 16 ≡ c → t ≤ timeOf (k .state .clock .last) c
-  pub wide : Wide (k .state .tally)
+  pub sized : Sized (k .state .tally)
   pub runs : (k .state .op .kind ≡ idleKind → ⊥) → Running s g h sent c k
 
 -- The image of brick b is the saved form of a brick that keeps its rules.

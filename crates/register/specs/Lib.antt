@@ -34,6 +34,3 @@ pub mod ReplyEvent
 pub mod FreshLaws
 -- What one order means for reads and writes.
 pub mod OrderUse
--- Records stay sound.
-pub mod RecordLaws
-pub mod RecordEvent

@@ -1,34 +1,40 @@
 -- In a run from fresh no image is refused as 2, 5 or 6, no record as 6, no buffer beside a record as 2, and no crash.
 use mathlib.Core.Path.{_≡_, refl, sym, ap, subst, _∙_}
-use mathlib.Core.Bool.{Bool, true, false, cond, _&&_}
+use mathlib.Core.Bool.{Bool, true, false, cond}
 use mathlib.Core.List.{List, [], _∷_}
 use Prim.Native.Nat.{ℕ, zero, suc, _*_, _%_, _≤_, _<_}
 use native.Mathlib.Omega.{arith}
-use lib.Dec.{leb, ltb, eqb}
+use lib.Dec.{ltb, eqb}
 use lib.ListN.{length, length-replicate}
-use borrow.Author.Tests.{ltb-true, eqb-true, eqb-false, le-leb}
+use borrow.Author.Tests.{eqb-true, eqb-false, le-leb}
 use Rattle.settings.specs.Ranges.{codeRefusal, quorum, settingsRefusal}
-use Rattle.settings.specs.RangeLaws.{SettingsRange, settings-passed, settings-code, and-left}
-use Rattle.settings.specs.Refusal.{refuseUnless, firstRefusal}
+use Rattle.settings.specs.RangeLaws.{SettingsRange, settings-passed, settings-code}
+use Rattle.settings.specs.Refusal.{firstRefusal}
 use Rattle.settings.specs.Times.{maxCount, drawOf}
 use Rattle.settings.specs.declared.Clock.{Clock}
-use Rattle.settings.specs.declared.Draw.{Draw}
-use Rattle.settings.specs.declared.Draw.the-variants.{Drawn, Refused}
 use Rattle.settings.specs.declared.Settings.{Settings}
 use Rattle.message.specs.Flags.{members}
 use Rattle.message.specs.declared.Reply.{Reply}
+use Rattle.interpolate.specs.BlockLaws.{length-blocksAt}
+use Rattle.erasure.specs.Code.{decodedOf}
 use Rattle.image.specs.Brick.{Brick}
 use Rattle.image.specs.Parse.{Opens, parse}
 use Rattle.image.specs.ParseLaws.{parse-image}
 use Rattle.coord_record.specs.Records.{noBricks}
-use Rattle.coord_record.specs.Rules.{tallyRight}
-use Rattle.coord_record.specs.Sound.{opRight, readRight, writeRight, sound}
+use Rattle.coord_record.specs.Sound.{sound}
+use Rattle.coord_record.specs.SoundParts.{sound-parts}
 use Rattle.coord_counts.specs.Counting.{targetFlags}
-use Rattle.coord_rounds.specs.Deciding.{tallied, decided}
-use Rattle.coord_acts.specs.Acts.{placed, ending, acted, withTally, counting, waitingOr, firstOp, starting}
+use Rattle.coord_rounds.specs.Deciding.{decided}
+use Rattle.coord_rounds.specs.declared.Decision.{Decision}
+use Rattle.coord_rounds.specs.declared.Decision.the-variants.{Abort, Give, Look, Store, Recover, Finish}
+use Rattle.coord_acts.specs.Acts.{gathered, stripeFrom, placed, nextRound, ending, acted, counting, waitingOr, firstOp, starting}
 use Rattle.coord_acts.specs.Steps.{Held, Went, Step, refused, went, checked, nothingSeen, cutSeen, answerOf}
 use Rattle.coord_checks.specs.Checks.{recordChecks, writeRefusal, readRefusal, crashRefusal}
 use Rattle.coordinator.specs.Rules.{takeStep, crashed, crashStep, drawnThen, writeStep, readStep}
+use Rattle.coordinator.specs.StepLaws.{place-fits, write-lengths}
+use Rattle.coord_laws.specs.BlockLaws.{placed-long}
+use Rattle.coord_laws.specs.RunLaws.{Took, took}
+use Rattle.coord_laws.specs.Soundness.{Good, idle-good, passes, same-went, drawn-went, write-good, read-good, take-good, crash-good, good-sound}
 use Rattle.register.specs.Runs.{
   Item,
   message,
@@ -59,65 +65,59 @@ use Rattle.register.specs.Runs.{
   runFrom,
   run,
 }
-use Rattle.register.specs.Invariant.{Hist, Wide, Inv}
-use Rattle.register.specs.BrickEvent.{put-here, put-there, in-range, first-passed, unless-passed}
-use Rattle.register.specs.StartEvent.{passes}
+use Rattle.register.specs.Invariant.{Hist, Inv}
+use Rattle.register.specs.BrickEvent.{put-here, put-there, in-range}
 use Rattle.register.specs.CrashEvent.{left-by}
-use Rattle.register.specs.CountLaws.{Taken, taken, placed-length}
-use Rattle.register.specs.DecideLaws.{sound-op}
 use Rattle.register.specs.FreshLaws.{fresh-holds}
-use Rattle.register.specs.RecordLaws.{Parts, parts, whole, tally-counted}
-use Rattle.register.specs.RecordEvent.{Fine, idle-sound, start-fine, decision-fine}
 use Rattle.register.specs.Theorem.{step-goes, run-holds}
 
--- a reply
-take-fine : (s : Settings) (g : SettingsRange s) (k : Held) (r : Reply) (block : List ℕ) → Taken s k r block → Wide (k .state .tally) → Fine s k
-    → Fine s (waitingOr (s .n) (s .m) (s .size) (counting (s .size) k r block) .next)
+-- a coordinator that the next routine opens
+pub record Fine (s : Settings) (k : Held) : Type 0 where
+  pub sound-is : sound (s .n) (s .m) (k .state) ≡ true
+  pub blocks-long : length (k .blocks) ≡ s .n * s .size
+  pub stripe-long : length (k .stripe) ≡ s .m * s .size
+
+-- its buffers
+abbrev Long : Settings → Held → Type 0
+Long s k = (length (k .blocks) ≡ s .n * s .size) × (length (k .stripe) ≡ s .m * s .size)
+
+fine : (s : Settings) (k : Held) → Good (s .n) (s .m) (k .state) → Long s k → Fine s k
+fine s k g l = record { sound-is = good-sound (s .n) (s .m) (k .state) g; blocks-long = l .0; stripe-long = l .1 }
+
+-- what a decision leaves in the buffers
+decoded-long : (m size : ℕ) (row blocks : List ℕ) → length (stripeFrom m size row blocks) ≡ m * size
+unfolding stripeFrom decodedOf
+decoded-long m size row blocks = length-blocksAt _ size (gathered m size row blocks) m
+
+acted-long : (s : Settings) (k : Held) → Long s k → (d : Decision) → Long s (acted (s .n) (s .m) (s .size) k d .next)
+unfolding acted ending nextRound
+acted-long s k l Abort = l
+acted-long s k l Give = (l .0, decoded-long (s .m) (s .size) _ (k .blocks))
+acted-long s k l (Look max) = l
+acted-long s k l Store = l
+acted-long s k l (Recover time) = (l .0, decoded-long (s .m) (s .size) _ (k .blocks))
+acted-long s k l Finish = l
+
+waiting-long : (s : Settings) (k : Held) → Long s k → Long s (waitingOr (s .n) (s .m) (s .size) k .next)
 unfolding waitingOr
-take-fine s g k r block t w f = go (ltb (members (after .state .tally .counted) (s .n)) (quorum (s .n) (s .m))) refl
+waiting-long s k l = go (ltb (members (k .state .tally .counted) (s .n)) (quorum (s .n) (s .m)))
   where
-    after : Held
-    after = counting (s .size) k r block
+    go : (a : Bool)
+        → Long s
+        (cond a (record { next = k; sent = []; seen = nothingSeen }) (acted (s .n) (s .m) (s .size) k (decided (s .n) (s .m) (k .state .op) (k .state .tally))) .next)
+    go true = l
+    go false = acted-long s k l (decided (s .n) (s .m) (k .state .op) (k .state .tally))
 
-    p : Parts (s .n) (s .m) (k .state)
-    p = parts (s .n) (s .m) (k .state) (t .sound-is)
-
-    phase : 1 ≤ k .state .op .phase
-    phase = omega (arith, t .kind-low, t .kind-is)
-
-    tally : tallyRight (s .n) (s .m) (k .state .op .phase) (k .state .op .first) (tallied (k .state .tally) r) ≡ true
-    tally = tally-counted (s .n) (s .m) (k .state .op .phase) (k .state .op .first) (k .state .tally) r w
-        (let a = t .brick-low in let b = g .code .n-high in omega arith) (p .tally-is) phase (t .brick-low) (t .found-right) (t .right)
-
-    long : (a : Bool) → r .held ≡ a → length (cond a (placed (s .size) (r .brick) block (k .blocks)) (k .blocks)) ≡ s .n * s .size
-    long true e = placed-length (s .n) (s .size) (r .brick) block (k .blocks) (t .blocks-long) (t .block-long e) (t .brick-low) ∙ t .blocks-long
-    long false e = t .blocks-long
-
-    go : (a : Bool) → ltb (members (after .state .tally .counted) (s .n)) (quorum (s .n) (s .m)) ≡ a
-        → Fine s
-        (cond a (record { next = after; sent = []; seen = nothingSeen })
-        (acted (s .n) (s .m) (s .size) after (decided (s .n) (s .m) (after .state .op) (after .state .tally))) .next)
+-- a reply's block in its place
+counting-long : (s : Settings) (k : Held) (r : Reply) (block : List ℕ) (coded : ℕ) (w : Went) → Took (s .n) (s .m) (s .size) k r block coded w
+    → Long s (counting (s .size) k r block)
+unfolding counting
+counting-long s k r block coded w t = (go (r .held) refl, t .takes .stripe-length)
+  where
+    go : (a : Bool) → r .held ≡ a → length (cond a (placed (s .size) (r .brick) block (k .blocks)) (k .blocks)) ≡ s .n * s .size
     go true e =
-        unfold counting withTally in
-        (record {
-          sound-is = whole (s .n) (s .m) (after .state)
-              (record {
-                coordinator-low = p .coordinator-low;
-                last-low = p .last-low;
-                first-low = p .first-low;
-                op-is = p .op-is;
-                time-is = p .time-is;
-                bricks-are = p .bricks-are;
-                tally-is = tally;
-                few = ltb-true (members (after .state .tally .counted) (s .n)) (quorum (s .n) (s .m)) e;
-              });
-          blocks-long = long (r .held) refl;
-          stripe-long = f .stripe-long;
-        })
-    go false e =
-        unfold counting withTally in
-        (decision-fine s g after (p .coordinator-low) (p .last-low) (p .first-low) (p .op-is) (p .time-is) tally (long (r .held) refl) (f .stripe-long)
-        (sound-op s k (t .sound-is) .fits phase))
+        placed-long (s .size) (r .brick) block (k .blocks) (t .takes .block-length e) (place-fits _ _ _ _ _ _ _ _ _ (t .takes)) ∙ t .takes .blocks-length
+    go false e = t .takes .blocks-length
 
 -- a crash: the buffers keep their lengths
 left-fine : (s : Settings) (left : Left) (k : Held) → Fine s k → Fine s (leaving s left k)
@@ -130,8 +130,7 @@ AllFine s w = (c : ℕ) → c ≤ 15 → Fine s (w .coordinators c)
 
 -- a step that leaves its coordinator fine
 abbrev FineStep : Settings → ℕ → Step → Type 0
-FineStep s c (refused number) = Unit {0}
-FineStep s c (went g) = c ≤ 15 → Fine s (g .next)
+FineStep s c p = (w : Went) → p ≡ went w → c ≤ 15 → Fine s (w .next)
 
 module _ (s : Settings) (g : SettingsRange s) where
   coordinated-fine : (w : World) (c : ℕ) (p : Step) → AllFine s w → FineStep s c p → AllFine s (coordinated s w c p .world)
@@ -143,95 +142,65 @@ module _ (s : Settings) (g : SettingsRange s) where
       at c′ l true e =
           let z = eqb-true c′ c e in
           subst (λ (j : ℕ). Fine s (putAt (w .coordinators) c (q .next) j)) (sym z)
-          (subst (Fine s) (sym (put-here (w .coordinators) c (q .next))) (h (omega (arith, z))))
+          (subst (Fine s) (sym (put-here (w .coordinators) c (q .next))) (h q refl (omega (arith, z))))
       at c′ l false e = subst (Fine s) (sym (put-there (w .coordinators) c (q .next) c′ (eqb-false c′ c e))) (f c′ l)
 
-  checked-fine : (c k : ℕ) (p : Step) → (k ≡ 0 → FineStep s c p) → FineStep s c (checked k p)
-  unfolding checked
-  checked-fine c k p h = go (leb k 0) refl
-    where
-      go : (a : Bool) → leb k 0 ≡ a → FineStep s c (cond a p (refused k))
-      go true e = h (passes k e)
-      go false e = tt
-
-  drawn-fine : (c : ℕ) (d : Draw) (f : ℕ → Clock → Went) → ((t : ℕ) (clock : Clock) → d ≡ Drawn t clock → c ≤ 15 → Fine s (f t clock .next)) → FineStep s c (drawnThen d f)
-  unfolding drawnThen
-  drawn-fine c (Drawn t clock) f h = h t clock refl
-  drawn-fine c (Refused number) f h = tt
-
   module _ (h : Hist s) (r : Moved s) (i : Inv s g h r) (f : AllFine s (r .world)) where
+    good : (c : ℕ) → c ≤ 15 → Good (s .n) (s .m) (r .world .coordinators c .state)
+    good c l =
+        record { parts = sound-parts (s .n) (s .m) (r .world .coordinators c .state) (f c l .sound-is); sizes = i .coordinators c .sized }
+
     write-fine : (c reading : ℕ) (content : List ℕ) → FineStep s c (writeStep (s .n) (s .m) (s .size) (r .world .coordinators c) reading content)
-    unfolding writeStep writeRefusal
-    write-fine c reading content =
-        checked-fine c (writeRefusal (s .n) (s .m) (s .size) (r .world .coordinators c .state) reading (length content) (length (r .world .coordinators c .stripe)))
-        (drawnThen (drawOf (r .world .coordinators c .state .clock) reading) begin)
-        (λ e. drawn-fine c (drawOf (r .world .coordinators c .state .clock) reading) begin
-        (λ t clock d l.
-        start-fine s g (r .world .coordinators c) reading t clock 2 2 0 content noBricks d (g .code .n-low) (unfold opRight writeRight firstOp in refl)
-        (λ q. omega (arith, q)) (λ q. omega (arith, q)) (f c l .blocks-long)
-        (let a = first-passed (codeRefusal (s .n) (s .m) (s .size)) _ e in
-        let b = first-passed (refuseUnless (eqb (length content) (s .m * s .size) && eqb (length (r .world .coordinators c .stripe)) (s .m * s .size)) 2) _ (a .1) in
-        eqb-true (length content) (s .m * s .size)
-        (and-left _ _ (unless-passed (eqb (length content) (s .m * s .size) && eqb (length (r .world .coordinators c .stripe)) (s .m * s .size)) 1 (b .0))))))
-      where
-        begin : ℕ → Clock → Went
-        begin time clock = starting (r .world .coordinators c) clock (firstOp 2 2 time 0) content noBricks
+    unfolding writeStep starting
+    write-fine c reading content w e l =
+        let k = r .world .coordinators c in
+        let begin : ℕ → Clock → Went = λ time clock. starting k clock (firstOp 2 2 time 0) content noBricks in
+        let p = passes (writeRefusal (s .n) (s .m) (s .size) (k .state) reading (length content) (length (k .stripe))) (drawnThen (drawOf (k .state .clock) reading) begin) w e in
+        fine s (w .next) (write-good (s .n) (s .m) (s .size) k reading content w e)
+        (subst (λ (v : Went). Long s (v .next)) (drawn-went (drawOf (k .state .clock) reading) begin w (p .1) .3) (
+          f c l .blocks-long,
+          write-lengths (s .n) (s .m) (s .size) (k .state) reading (length content) (length (k .stripe)) _ refl (p .0) ∙ f c l .stripe-long,
+        ))
 
     read-fine : (c reading first : ℕ) → FineStep s c (readStep (s .n) (s .m) (s .size) (r .world .coordinators c) reading first)
-    unfolding readStep readRefusal
-    read-fine c reading first =
-        checked-fine c (readRefusal (s .n) (s .m) (s .size) (r .world .coordinators c .state) reading first)
-        (drawnThen (drawOf (r .world .coordinators c .state .clock) reading) begin)
-        (λ e. drawn-fine c (drawOf (r .world .coordinators c .state .clock) reading) begin
-        (λ t clock d l.
-        start-fine s g (r .world .coordinators c) reading t clock 1 1 first (r .world .coordinators c .stripe) (targetFlags (s .n) (s .m) first) d
-        (let a = first-passed (codeRefusal (s .n) (s .m) (s .size)) _ e in
-        let b = first-passed (refuseUnless (ltb first (s .n)) 3) _ (a .1) in
-        ltb-true first (s .n) (unless-passed (ltb first (s .n)) 2 (b .0)))
-        (unfold opRight readRight firstOp in refl)
-        (λ q. omega (arith, q)) (λ q. omega (arith, q)) (f c l .blocks-long) (f c l .stripe-long)))
-      where
-        begin : ℕ → Clock → Went
-        begin time clock =
-            starting (r .world .coordinators c) clock (firstOp 1 1 time first) (r .world .coordinators c .stripe) (targetFlags (s .n) (s .m) first)
+    unfolding readStep starting
+    read-fine c reading first w e l =
+        let k = r .world .coordinators c in
+        let begin : ℕ → Clock → Went = λ time clock. starting k clock (firstOp 1 1 time first) (k .stripe) (targetFlags (s .n) (s .m) first) in
+        let p = passes (readRefusal (s .n) (s .m) (s .size) (k .state) reading first) (drawnThen (drawOf (k .state .clock) reading) begin) w e in
+        fine s (w .next) (read-good (s .n) (s .m) (s .size) k reading first w e)
+        (subst (λ (v : Went). Long s (v .next)) (drawn-went (drawOf (k .state .clock) reading) begin w (p .1) .3) (f c l .blocks-long, f c l .stripe-long))
 
     crash-fine : (c : ℕ) → FineStep s c (crashStep (s .n) (s .m) (s .size) (r .world .coordinators c))
-    unfolding crashStep crashed
-    crash-fine c =
-        checked-fine c (crashRefusal (s .n) (s .m) (s .size) (r .world .coordinators c .state)) (went (crashed (r .world .coordinators c)))
-        (λ e l. go l (eqb (r .world .coordinators c .state .op .kind) 0))
+    unfolding crashStep crashed ending
+    crash-fine c w e l =
+        fine s (w .next) (crash-good (s .n) (s .m) (s .size) k w (good c l) e)
+        (subst (λ (v : Went). Long s (v .next)) (same-went (crashed k) w (passes (crashRefusal (s .n) (s .m) (s .size) (k .state)) (went (crashed k)) w e .1))
+        (go (eqb (k .state .op .kind) 0)))
       where
         k : Held
         k = r .world .coordinators c
 
-        go : c ≤ 15 → (a : Bool) → Fine s (cond a (record { next = k; sent = []; seen = nothingSeen }) (ending k (k .stripe) [] cutSeen noBricks) .next)
-        go l true = f c l
-        go l false =
-            let p = parts (s .n) (s .m) (k .state) (f c l .sound-is) in
-            unfold ending in
-            (record {
-              sound-is = idle-sound s g (k .state .clock) (p .coordinator-low) (p .last-low);
-              blocks-long = f c l .blocks-long;
-              stripe-long = f c l .stripe-long;
-            })
+        go : (a : Bool) → Long s (cond a (record { next = k; sent = []; seen = nothingSeen }) (ending k (k .stripe) [] cutSeen noBricks) .next)
+        go true = (f c l .blocks-long, f c l .stripe-long)
+        go false = (f c l .blocks-long, f c l .stripe-long)
 
     crash-left-fine : (c : ℕ) (left : Left) → FineStep s c (leftBy s left (crashStep (s .n) (s .m) (s .size) (r .world .coordinators c)))
     unfolding leftBy
     crash-left-fine c left = go (crashStep (s .n) (s .m) (s .size) (r .world .coordinators c)) (crash-fine c)
       where
         go : (p : Step) → FineStep s c p → FineStep s c (leftBy s left p)
-        go (refused number) h = h
-        go (went q) h = λ l. left-fine s left (q .next) (h l)
+        go (refused number) h w e l = absurd (let z : _≡_ {A = ℕ} 0 1 = cc in omega arith)
+        go (went q) h w e l = subst (λ (v : Went). Fine s (v .next)) (same-went _ w e) (left-fine s left (q .next) (h q refl l))
 
     reply-fine : (a : Reply) (block : List ℕ)
         → FineStep s (a .time % 16) (takeStep (s .n) (s .m) (s .size) (r .world .coordinators (a .time % 16)) a block (s .n * s .size))
-    unfolding takeStep
-    reply-fine a block =
-        checked-fine (a .time % 16) _ (went (waitingOr (s .n) (s .m) (s .size) (counting (s .size) k a block)))
-        (λ e l. take-fine s g k a block (taken s k a block (s .n * s .size) e) (i .coordinators (a .time % 16) .wide) (f (a .time % 16) l))
-      where
-        k : Held
-        k = r .world .coordinators (a .time % 16)
+    reply-fine a block w e l =
+        let k = r .world .coordinators (a .time % 16) in
+        let t = took (s .n) (s .m) (s .size) k a block (s .n * s .size) w e in
+        fine s (w .next) (take-good (s .n) (s .m) (s .size) k a block (s .n * s .size) w (good (a .time % 16) l) e)
+        (subst (λ (v : Went). Long s (v .next)) (t .is)
+        (waiting-long s (counting (s .size) k a block) (counting-long s k a block (s .n * s .size) w t)))
 
     item-fine : (z : Item) → AllFine s (arriving s (r .world) z .world)
     unfolding arriving received unmoved
@@ -277,7 +246,7 @@ records-open s e events =
     let g = settings-passed s e in
     from-fine s g (unmoved s (fresh s)) ([], fresh-holds s g)
     (λ c l. record {
-      sound-is = idle-sound s g (record { coordinator = c; last = 0 }) l (omega arith);
+      sound-is = good-sound (s .n) (s .m) _ (idle-good (s .n) (s .m) (s .size) (record { coordinator = c; last = 0 }) (g .code) l (omega arith));
       blocks-long = length-replicate (s .n * s .size) 0;
       stripe-long = length-replicate (s .m * s .size) 0;
     }) events
@@ -292,8 +261,8 @@ code-accepted s e = go (eqb (codeRefusal (s .n) (s .m) (s .size)) 0) refl
 crash-accepted : (s : Settings) (k : Held) → settingsRefusal s ≡ 0 → Fine s k → answerOf (k .state) (crashStep (s .n) (s .m) (s .size) k) .refusal ≡ 0
 unfolding crashStep crashRefusal recordChecks firstRefusal checked answerOf
 crash-accepted s k e f =
-    let p = parts (s .n) (s .m) (k .state) (f .sound-is) in
-    rw (code-accepted s e, le-leb (k .state .clock .coordinator) 15 (p .coordinator-low), f .sound-is) refl
+    let p = sound-parts (s .n) (s .m) (k .state) (f .sound-is) in
+    rw (code-accepted s e, le-leb (k .state .clock .coordinator) 15 (p .number-low), f .sound-is) refl
 
 -- No crash of one of the 16 coordinators is refused.
 pub crashes-accepted : (s : Settings) → settingsRefusal s ≡ 0 → (events : List Event) (c : ℕ) → c ≤ 15

@@ -15,10 +15,12 @@ use Rattle.settings.specs.declared.Clock.{Clock}
 use Rattle.settings.specs.declared.Draw.{Draw}
 use Rattle.settings.specs.declared.Draw.the-variants.{Drawn, Refused}
 use Rattle.settings.specs.declared.Settings.{Settings}
+use Rattle.settings.specs.RefusalLaws.{tested}
 use Rattle.message.specs.declared.Reply.{Reply}
 use Rattle.coord_acts.specs.Steps.{Held, Went, Step, refused, went, checked}
 use Rattle.coord_checks.specs.Checks.{recordChecks, startChecks, writeRefusal, readRefusal, crashRefusal}
 use Rattle.coordinator.specs.Rules.{takeStep, crashed, crashStep, drawnThen, writeStep, readStep}
+use Rattle.coordinator.specs.StepLaws.{take-passed}
 use Rattle.register.specs.Runs.{
   Item,
   message,
@@ -49,9 +51,8 @@ use Rattle.register.specs.Runs.{
   run,
 }
 use Rattle.register.specs.Invariant.{Hist, Inv}
-use Rattle.register.specs.BrickEvent.{put-there, first-passed, unless-passed}
+use Rattle.register.specs.BrickEvent.{put-there, first-passed}
 use Rattle.register.specs.StartEvent.{passes}
-use Rattle.register.specs.CountLaws.{taken}
 use Rattle.register.specs.FreshLaws.{fresh-holds}
 use Rattle.register.specs.Theorem.{step-goes}
 
@@ -75,7 +76,7 @@ drawn-low c (Refused number) f l = tt
 
 module _ (n m size c : ℕ) (k : Held) (number : k .state .clock .coordinator ≡ c) where
   low-number : refuseUnless (leb (k .state .clock .coordinator) 15) 3 ≡ 0 → c ≤ 15
-  low-number e = let w = leb-true (k .state .clock .coordinator) 15 (unless-passed (leb (k .state .clock .coordinator) 15) 2 e) in omega arith
+  low-number e = let w = leb-true (k .state .clock .coordinator) 15 (tested (leb (k .state .clock .coordinator) 15) 2 e) in omega arith
 
   write-low : (reading : ℕ) (content : List ℕ) → LowStep c (writeStep n m size k reading content)
   unfolding writeStep writeRefusal startChecks recordChecks
@@ -133,8 +134,8 @@ module _ (s : Settings) (g : SettingsRange s) (c : ℕ) (high : 15 < c) where
     item-still (reply a block) =
         coordinated-still (r .world) (a .time % 16) _
         (checked-low (a .time % 16) _ (went _)
-        (λ w. let t = taken s (r .world .coordinators (a .time % 16)) a block (s .n * s .size) w in
-        let l = t .coordinator-low in let z = i .coordinators (a .time % 16) .number in omega arith)) e
+        (λ w. let t = take-passed (s .n) (s .m) (s .size) (r .world .coordinators (a .time % 16) .state) a _ _ _ (s .n * s .size) _ refl w in
+        let l = t .parts .number-low in let z = i .coordinators (a .time % 16) .number in omega arith)) e
 
     place-still : (l : List Item) (k : ℕ) → Still s c (arrivingAt s (r .world) l k .world)
     unfolding arrivingAt unmoved

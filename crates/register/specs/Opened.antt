@@ -17,7 +17,7 @@ unfolding Rattle.block.specs.Block.weighted Rattle.block.specs.Block.checkOf R
 block-open = tt
 
 unfoldable pub image-open : Unit {0}
-unfolding Rattle.image.specs.Brick.count Rattle.image.specs.Brick.noEntry Rattle.image.specs.Brick.timeAt Rattle.image.specs.Brick.heldAt Rattle.image.specs.Brick.newest Rattle.image.specs.Brick.fresh Rattle.image.specs.Brick.savedTime Rattle.image.specs.Brick.risesAt Rattle.image.specs.Brick.entrySound Rattle.image.specs.Brick.countSound Rattle.image.specs.Brick.sound Rattle.image.specs.Every.every Rattle.image.specs.Image.blockOf Rattle.image.specs.Image.stacked Rattle.image.specs.Image.imageOf Rattle.image.specs.Image.imageSize Rattle.image.specs.Parse.blockAt Rattle.image.specs.Parse.countIn Rattle.image.specs.Parse.promiseIn Rattle.image.specs.Parse.timeIn Rattle.image.specs.Parse.heldIn Rattle.image.specs.Parse.entryIn Rattle.image.specs.Parse.entriesIn Rattle.image.specs.Parse.brickIn Rattle.image.specs.Parse.checkedAt Rattle.image.specs.Parse.isImage Rattle.image.specs.Parse.openRefusal Rattle.image.specs.Parse.parse
+unfolding Rattle.image.specs.Brick.count Rattle.image.specs.Brick.noEntry Rattle.image.specs.Brick.timeAt Rattle.image.specs.Brick.heldAt Rattle.image.specs.Brick.newest Rattle.image.specs.Brick.fresh Rattle.image.specs.Brick.savedTime Rattle.image.specs.Brick.risesAt Rattle.image.specs.Brick.entrySound Rattle.image.specs.Brick.countSound Rattle.image.specs.Brick.sound Rattle.image.specs.Image.blockOf Rattle.image.specs.Image.stacked Rattle.image.specs.Image.imageOf Rattle.image.specs.Image.imageSize Rattle.image.specs.Parse.blockAt Rattle.image.specs.Parse.countIn Rattle.image.specs.Parse.promiseIn Rattle.image.specs.Parse.timeIn Rattle.image.specs.Parse.heldIn Rattle.image.specs.Parse.entryIn Rattle.image.specs.Parse.entriesIn Rattle.image.specs.Parse.brickIn Rattle.image.specs.Parse.checkedAt Rattle.image.specs.Parse.isImage Rattle.image.specs.Parse.openRefusal Rattle.image.specs.Parse.parse
 image-open = tt
 
 unfoldable pub saving-open : Unit {0}
@@ -41,11 +41,11 @@ unfolding Rattle.interpolate.specs.Tabulate.tabulate Rattle.interpolate.specs.
 interpolate-open = tt
 
 unfoldable pub erasure-open : Unit {0}
-unfolding Rattle.erasure.specs.Code.firstPoints Rattle.erasure.specs.Code.codedOf Rattle.erasure.specs.Code.decodedOf
+unfolding Rattle.erasure.specs.Code.firstPoints Rattle.erasure.specs.Code.codedOf Rattle.erasure.specs.Code.decodedOf Rattle.erasure.specs.Theorems.blockOf
 erasure-open = tt
 
 unfoldable pub coord-record-open : Unit {0}
-unfolding Rattle.coord_record.specs.Each.each Rattle.coord_record.specs.Each.some Rattle.coord_record.specs.Records.noOp Rattle.coord_record.specs.Records.noBricks Rattle.coord_record.specs.Records.nothingCounted Rattle.coord_record.specs.Records.idleWith Rattle.coord_record.specs.Rules.above Rattle.coord_record.specs.Rules.isTarget Rattle.coord_record.specs.Rules.blockRight Rattle.coord_record.specs.Rules.countedRight Rattle.coord_record.specs.Rules.entryRight Rattle.coord_record.specs.Rules.tallyRight Rattle.coord_record.specs.Rules.brickRight Rattle.coord_record.specs.Rules.bricksRight Rattle.coord_record.specs.Sound.maxRight Rattle.coord_record.specs.Sound.storedRight Rattle.coord_record.specs.Sound.readRight Rattle.coord_record.specs.Sound.writeRight Rattle.coord_record.specs.Sound.unsetOp Rattle.coord_record.specs.Sound.opRight Rattle.coord_record.specs.Sound.timeRight Rattle.coord_record.specs.Sound.namedCount Rattle.coord_record.specs.Sound.filledRight Rattle.coord_record.specs.Sound.sound
+unfolding Rattle.settings.specs.Each.each Rattle.settings.specs.Each.some Rattle.coord_record.specs.Records.noOp Rattle.coord_record.specs.Records.noBricks Rattle.coord_record.specs.Records.nothingCounted Rattle.coord_record.specs.Records.idleWith Rattle.coord_record.specs.Rules.above Rattle.coord_record.specs.Rules.isTarget Rattle.coord_record.specs.Rules.blockRight Rattle.coord_record.specs.Rules.countedRight Rattle.coord_record.specs.Rules.entryRight Rattle.coord_record.specs.Rules.tallyRight Rattle.coord_record.specs.Rules.brickRight Rattle.coord_record.specs.Rules.bricksRight Rattle.coord_record.specs.Sound.maxRight Rattle.coord_record.specs.Sound.storedRight Rattle.coord_record.specs.Sound.readRight Rattle.coord_record.specs.Sound.writeRight Rattle.coord_record.specs.Sound.unsetOp Rattle.coord_record.specs.Sound.opRight Rattle.coord_record.specs.Sound.timeRight Rattle.coord_record.specs.Sound.namedCount Rattle.coord_record.specs.Sound.filledRight Rattle.coord_record.specs.Sound.sound
 coord-record-open = tt
 
 unfoldable pub coord-rounds-open : Unit {0}
@@ -53,7 +53,7 @@ unfolding Rattle.coord_counts.specs.Counting.saidNo Rattle.coord_counts.specs.
 coord-rounds-open = tt
 
 unfoldable pub coord-acts-open : Unit {0}
-unfolding Rattle.coord_acts.specs.Acts.blockOf Rattle.coord_acts.specs.Acts.gathered Rattle.coord_acts.specs.Acts.stripeFrom Rattle.coord_acts.specs.Acts.roundMessage Rattle.coord_acts.specs.Acts.trimMessage Rattle.coord_acts.specs.Acts.nextOp Rattle.coord_acts.specs.Acts.opened Rattle.coord_acts.specs.Acts.nextRound Rattle.coord_acts.specs.Acts.ending Rattle.coord_acts.specs.Acts.finishedSeen Rattle.coord_acts.specs.Acts.acted Rattle.coord_acts.specs.Acts.placed Rattle.coord_acts.specs.Acts.withTally Rattle.coord_acts.specs.Acts.counting Rattle.coord_acts.specs.Acts.waitingOr Rattle.coord_acts.specs.Acts.firstOp Rattle.coord_acts.specs.Acts.starting Rattle.coord_acts.specs.Steps.checked Rattle.coord_acts.specs.Steps.nothingSeen Rattle.coord_acts.specs.Steps.noMessage Rattle.coord_acts.specs.Steps.sentCount Rattle.coord_acts.specs.Steps.sentMessage Rattle.coord_acts.specs.Steps.sentBlocks Rattle.coord_acts.specs.Steps.answerOf Rattle.coord_acts.specs.Steps.blocksAfter Rattle.coord_acts.specs.Steps.stripeAfter Rattle.coord_acts.specs.Steps.codedAfter Rattle.coord_acts.specs.Steps.after
+unfolding Rattle.coord_acts.specs.Acts.gathered Rattle.coord_acts.specs.Acts.stripeFrom Rattle.coord_acts.specs.Acts.roundMessage Rattle.coord_acts.specs.Acts.trimMessage Rattle.coord_acts.specs.Acts.nextOp Rattle.coord_acts.specs.Acts.opened Rattle.coord_acts.specs.Acts.nextRound Rattle.coord_acts.specs.Acts.ending Rattle.coord_acts.specs.Acts.finishedSeen Rattle.coord_acts.specs.Acts.acted Rattle.coord_acts.specs.Acts.placed Rattle.coord_acts.specs.Acts.withTally Rattle.coord_acts.specs.Acts.counting Rattle.coord_acts.specs.Acts.waitingOr Rattle.coord_acts.specs.Acts.firstOp Rattle.coord_acts.specs.Acts.starting Rattle.coord_acts.specs.Steps.checked Rattle.coord_acts.specs.Steps.nothingSeen Rattle.coord_acts.specs.Steps.noMessage Rattle.coord_acts.specs.Steps.sentCount Rattle.coord_acts.specs.Steps.sentMessage Rattle.coord_acts.specs.Steps.sentBlocks Rattle.coord_acts.specs.Steps.answerOf Rattle.coord_acts.specs.Steps.blocksAfter Rattle.coord_acts.specs.Steps.stripeAfter Rattle.coord_acts.specs.Steps.codedAfter Rattle.coord_acts.specs.Steps.after
 coord-acts-open = tt
 
 unfoldable pub coordinator-open : Unit {0}

@@ -17,7 +17,7 @@ use Rattle.message.specs.Flags.{member, brickSet}
 use Rattle.message.specs.Messages.{roundRight, kindRight, messageRefusal}
 use Rattle.message.specs.declared.Message.{Message}
 use Rattle.message.specs.declared.Reply.{Reply}
-use Rattle.image.specs.Brick.{Brick, LogEntry, noEntry, count, timeAt, heldAt, newest, savedTime}
+use Rattle.image.specs.Brick.{Brick, LogEntry, noEntry, count, timeAt, heldAt, newest}
 use Rattle.image.specs.SoundLaws.{Sound}
 use Rattle.saving.specs.Saving
 use Rattle.brick_plan.specs.Steps.{readYes, orderYes, writeYes, ordered, written, trimmedTo, under, lookup, placeFor, timeFor, foundFor, yesTo, replyTo, after, blockAfter}
@@ -51,6 +51,7 @@ use Rattle.register.specs.BrickLaws.{
   entry,
   found-under,
 }
+use Rattle.brick.specs.BrickLaws.{saved-valid}
 
 -- what a message that is not refused satisfies
 pub record Sensible (msg : Message) : Type 0 where
@@ -77,14 +78,6 @@ sensible n m msg e = go (validTime (msg .time)) (roundRight (msg .round)) (eqb (
         last true false ex ey w = absurd (omega arith)
         last true true ex ey w =
             record { time-valid = ea; kind-low = leb-true 1 (msg .kind) ex; kind-high = leb-true (msg .kind) 5 ey }
-
-saved-valid : (t : ℕ) → validTime t ≡ true → savedTime t ≡ true
-unfolding savedTime
-saved-valid t e = go (eqb t 0) e
-  where
-    go : (a : Bool) {b : Bool} → b ≡ true → mathlib.Core.Bool._||_ a b ≡ true
-    go true q = refl
-    go false q = q
 
 -- What a message leaves.
 pub record Received (s : Settings) (g : SettingsRange s) (h : Hist s) (sent : List Item) (b : ℕ) (x : Brick) (msg : Message) (block out : List ℕ) : Type 0 where

@@ -15,12 +15,14 @@ use Rattle.settings.specs.RangeLaws.{SettingsRange, and-left, and-right}
 use Rattle.settings.specs.declared.Settings.{Settings}
 use Rattle.message.specs.Flags.{member, members}
 use Rattle.erasure.specs.Code.{codedOf}
-use Rattle.erasure.specs.Theorems.{Stripe}
-use Rattle.coord_record.specs.Each.{some}
+use Rattle.erasure.specs.Theorems.{blockOf, Stripe}
+use Rattle.settings.specs.Each.{some}
 use Rattle.coord_record.specs.Records.{noBricks}
 use Rattle.coord_counts.specs.Counting.{saidNo, highest, atTime, atTimes, picked}
-use Rattle.coord_acts.specs.Acts.{blockOf, stripeFrom, roundMessage, nextOp, nextRound}
+use Rattle.coord_acts.specs.Acts.{stripeFrom, roundMessage, nextOp, nextRound}
 use Rattle.coord_acts.specs.Steps.{Held}
+use Rattle.coord_counts.specs.RowSets.{picked-gave}
+use Rattle.coord_laws.specs.BlockLaws.{stripe-read}
 use Rattle.order.specs.Claim.{changed, _∈_}
 use Rattle.order.specs.Facts.{over, promised, launched, stored}
 use Rattle.order.specs.Places.{whole, above, In}
@@ -34,7 +36,7 @@ use Rattle.register.specs.Runs.{Item}
 use Rattle.register.specs.Invariant.{quorums, Hist, Means, Stands, ItemInv, CountedInv, Looked, Running, CoordinatorInv}
 use Rattle.register.specs.TurnLaws.{turns-not, Turned}
 use Rattle.register.specs.RoundLaws.{opens}
-use Rattle.register.specs.DecodeLaws.{Row, decoded, picked-passes, picked-row}
+use Rattle.register.specs.DecodeLaws.{Row, picked-row}
 use Rattle.register.specs.DecideLaws.{true-T, T-true, now, reply-at, said-yes, quorum-of, launches}
 
 -- no time found is above the highest
@@ -64,7 +66,7 @@ means-decode s g h v t row blocks r f =
       z .full,
       z .value,
       z .proper,
-      decoded (s .n) (s .m) (s .size) row blocks (z .full) (g .code) r (z .proper)
+      stripe-read (s .n) (s .m) (s .size) row blocks (z .full) (g .code) (z .proper) (r .long) (r .set) (r .below)
           (λ j l.
           let w = f j l in
           w .coded
@@ -225,12 +227,15 @@ module _ (s : Settings) (g : SettingsRange s) (h : Hist s) (sent : List Item) (c
         few : s .m ≤ 16
         few = let a = g .code .m-high in let b = g .code .n-high in omega arith
 
+        passes : (j : ℕ) → j < s .m → p (getD row j 0) ≡ true
+        passes = picked-gave (k .state .tally .held) (k .state .tally .found) (topOf s k) (s .n) (s .m) many few
+
         d : (full : List ℕ) × Val h (topOf s k) full × Stripe (s .m) (s .size) full × (stripe ≡ full)
-        d = means-decode s g h v (topOf s k) row (k .blocks) (picked-row p (s .n) (s .m) few many)
-            (λ j l. gave (getD row j 0) (picked-passes p (s .n) (s .m) few many j l) .2)
+        d = means-decode s g h v (topOf s k) row (k .blocks) (picked-row (k .state .tally .held) (k .state .tally .found) (topOf s k) (s .n) (s .m) many few)
+            (λ j l. gave (getD row j 0) (passes j l) .2)
 
         first : (topOf s k < k .state .op .time) × Stands h (getD row 0 0) (topOf s k) × Means s h (topOf s k) (getD row 0 0) (blockOf (s .size) (k .blocks) (getD row 0 0))
-        first = gave (getD row 0 0) (picked-passes p (s .n) (s .m) few many 0 (g .code .m-low))
+        first = gave (getD row 0 0) (passes 0 (g .code .m-low))
 
         launched-or-zero : Stands h (getD row 0 0) (topOf s k) → (topOf s k ≡ 0) ⊎ Launched h (topOf s k)
         launched-or-zero (inl e) = inl e

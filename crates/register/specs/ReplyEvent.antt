@@ -6,7 +6,6 @@ use mathlib.Core.List.{List, []}
 use Prim.Native.Nat.{ℕ, _*_, _%_, _≤_, _<_}
 use native.Mathlib.Omega.{arith}
 use lib.Dec.{leb, ltb, eqb}
-use lib.ListN.{length}
 use borrow.Author.Tests.{leb-true, leb-false, ltb-false}
 use Rattle.settings.specs.Count.{count}
 use Rattle.settings.specs.Ranges.{quorum}
@@ -15,24 +14,23 @@ use Rattle.settings.specs.Times.{noUpperEnd}
 use Rattle.settings.specs.declared.Settings.{Settings}
 use Rattle.message.specs.Flags.{members}
 use Rattle.message.specs.declared.Reply.{Reply}
-use Rattle.coord_record.specs.Each.{some}
+use Rattle.settings.specs.Each.{some}
 use Rattle.coord_counts.specs.Counting.{saidNo, highest, otherTime, missing, atTimes}
 use Rattle.coord_rounds.specs.Deciding.{decided}
 use Rattle.coord_rounds.specs.declared.Decision.{Decision}
 use Rattle.coord_rounds.specs.declared.Decision.the-variants.{Abort, Give, Look, Store, Recover, Finish}
 use Rattle.coord_acts.specs.Acts.{acted, withTally, counting, waitingOr}
-use Rattle.coord_acts.specs.Steps.{Held, refused, went, checked, nothingSeen}
-use Rattle.coord_checks.specs.Checks.{takeRefusal}
+use Rattle.coord_acts.specs.Steps.{Held, Went, Step, refused, went, nothingSeen}
 use Rattle.coordinator.specs.Rules.{takeStep}
+use Rattle.coord_laws.specs.RunLaws.{Took, took}
 use Rattle.order.specs.Claim.{_∈_}
 use Rattle.order.specs.Valid.{Valid}
 use Rattle.register.specs.Runs.{Item, reply, Moved, coordinated, arriving}
 use Rattle.register.specs.Invariant.{quorums, Hist, ItemInv, CoordinatorInv, Inv}
 use Rattle.register.specs.BrickEvent.{Goes}
 use Rattle.register.specs.TurnLaws.{Turned, goes-turned, goes-refused}
-use Rattle.register.specs.StartEvent.{passes}
 use Rattle.register.specs.RoundLaws.{stays}
-use Rattle.register.specs.CountLaws.{Taken, taken, counting-keeps}
+use Rattle.register.specs.CountLaws.{counting-keeps}
 use Rattle.register.specs.GiveLaws.{does-give}
 use Rattle.register.specs.DecisionLaws.{decided-reading, decided-ordering, decided-looking, decided-storing}
 use Rattle.register.specs.DecideLaws.{Fit, reading, looking, restoring, ordering, storing, sound-op, does-abort, does-store, does-finish}
@@ -121,8 +119,8 @@ module _ (s : Settings) (g : SettingsRange s) (h : Hist s) (sent : List Item) (c
 -- a reply reaches its coordinator
 pub reply-arrives : (s : Settings) (g : SettingsRange s) (h : Hist s) (r : Moved s) → Inv s g h r → (a : Reply) (block : List ℕ)
     → reply a block ∈ r .world .sent → Goes s g r (arriving s (r .world) (reply a block))
-unfolding arriving takeStep checked
-reply-arrives s g h r i a block was = go (leb refusal 0) refl
+unfolding arriving
+reply-arrives s g h r i a block was = go (takeStep (s .n) (s .m) (s .size) k a block (s .n * s .size)) refl
   where
     c : ℕ
     c = a .time % 16
@@ -130,25 +128,23 @@ reply-arrives s g h r i a block was = go (leb refusal 0) refl
     k : Held
     k = r .world .coordinators c
 
-    refusal : ℕ
-    refusal = takeRefusal (s .n) (s .m) (s .size) (k .state) a (length block) (length (k .blocks)) (length (k .stripe)) (s .n * s .size)
-
     after : Held
     after = counting (s .size) k a block
 
-    decides : Taken s k a block → (b : Bool) → ltb (members (after .state .tally .counted) (s .n)) (quorum (s .n) (s .m)) ≡ b
+    decides : (w : Went) → Took (s .n) (s .m) (s .size) k a block (s .n * s .size) w → (b : Bool) → ltb (members (after .state .tally .counted) (s .n)) (quorum (s .n) (s .m)) ≡ b
         → Turned s g h (r .world .sent) c
         (cond b (record { next = after; sent = []; seen = nothingSeen })
         (acted (s .n) (s .m) (s .size) after (decided (s .n) (s .m) (after .state .op) (after .state .tally))))
-    decides t true e = stays s g h (r .world .sent) c after (counting-keeps s g h (r .world .sent) c k a block (i .coordinators c) t was) (i .valid)
-    decides t false e =
-        let o = sound-op s k (t .sound-is) in
-        let p : 1 ≤ k .state .op .phase = omega (arith, t .kind-low, t .kind-is) in
+    decides w t true e =
+        stays s g h (r .world .sent) c after (counting-keeps s g h (r .world .sent) c k a block (s .n * s .size) w (i .coordinators c) t was) (i .valid)
+    decides w t false e =
+        let o = sound-op s k (t .takes .parts) in
+        let p : 1 ≤ k .state .op .phase = omega (arith, t .reply .kind-low, t .answer .of-phase) in
         let f = o .fits p in
         unfold counting withTally in
-        (does-decide s g h (r .world .sent) c after (i .valid) (counting-keeps s g h (r .world .sent) c k a block (i .coordinators c) t was) (i .items)
+        (does-decide s g h (r .world .sent) c after (i .valid) (counting-keeps s g h (r .world .sent) c k a block (s .n * s .size) w (i .coordinators c) t was) (i .items)
         (busy f) (o .first-low) (ltb-false (members (after .state .tally .counted) (s .n)) (quorum (s .n) (s .m)) e) f
-        (o .time-high (kind-low f) (t .coordinator-low)))
+        (o .time-high (kind-low f)))
       where
         kind-low : Fit (k .state .op) → 1 ≤ k .state .op .kind
         kind-low (reading q p) = omega arith
@@ -160,9 +156,8 @@ reply-arrives s g h r i a block was = go (leb refusal 0) refl
         busy : Fit (k .state .op) → k .state .op .kind ≡ 0 → ⊥
         busy f q = omega (arith, kind-low f)
 
-    go : (b : Bool) → leb refusal 0 ≡ b
-        → Goes s g r (coordinated s (r .world) c (cond b (went (waitingOr (s .n) (s .m) (s .size) after)) (refused refusal)))
-    go true e =
-        goes-turned s g h r i c (waitingOr (s .n) (s .m) (s .size) after)
-        (unfold waitingOr in decides (taken s k a block (s .n * s .size) (passes refusal e)) _ refl)
-    go false e = goes-refused s g h r i c refusal
+    go : (p : Step) → takeStep (s .n) (s .m) (s .size) k a block (s .n * s .size) ≡ p → Goes s g r (coordinated s (r .world) c p)
+    go (went w) e =
+        let t = took (s .n) (s .m) (s .size) k a block (s .n * s .size) w e in
+        goes-turned s g h r i c w (subst (Turned s g h (r .world .sent) c) (t .is) (unfold waitingOr in decides w t _ refl))
+    go (refused number) e = goes-refused s g h r i c number

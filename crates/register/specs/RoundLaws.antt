@@ -11,6 +11,7 @@ use Rattle.erasure.specs.Theorems.{Stripe}
 use Rattle.coord_record.specs.Records.{nothingCounted, noBricks, noOp, idleWith}
 use Rattle.coord_acts.specs.Acts.{roundMessage, nextOp, opened, nextRound, ending}
 use Rattle.coord_acts.specs.Steps.{Held, Broadcast, nothingSeen}
+use Rattle.coord_laws.specs.Soundness.{none-sized}
 use Rattle.order.specs.Claim.{Action, write, _∈_}
 use Rattle.order.specs.Facts.{End, Fact, began, ended, shows}
 use Rattle.order.specs.Places.{In}
@@ -19,20 +20,8 @@ use Rattle.order.specs.Valid.{Began, Launched, Ended, Val, Gone, OkEnded, Valid
 use Rattle.register.specs.Runs.{plain, Item, message, reply, seenOf, blockFor, broadcasts}
 use Rattle.register.specs.Invariant.{quorums, Hist, MessageInv, ItemInv, Asked, Running, CoordinatorInv}
 use Rattle.register.specs.UpLaws.{in-cons}
-use Rattle.register.specs.TurnLaws.{Turns, turns-not, turns-ended, in-broadcast, Turned}
-use Rattle.register.specs.StartEvent.{none-member, wide-none}
-
-unfoldable pub time-of : Item → ℕ
-time-of (message b msg block) = msg .time
-time-of (reply r block) = 0
-
-unfoldable pub kind-of : Item → ℕ
-kind-of (message b msg block) = msg .kind
-kind-of (reply r block) = 0
-
-unfoldable pub round-of : Item → ℕ
-round-of (message b msg block) = msg .round
-round-of (reply r block) = 0
+use Rattle.register.specs.TurnLaws.{time-of, kind-of, round-of, Turns, turns-not, turns-ended, in-broadcast, Turned}
+use Rattle.register.specs.StartEvent.{none-member}
 
 unfoldable pub max-of : Item → ℕ
 max-of (message b msg block) = msg .max
@@ -67,7 +56,7 @@ module _ (s : Settings) (g : SettingsRange s) (h : Hist s) (sent : List Item) (c
         keeps = record {
           number = i .number;
           used = λ u w m. i .used u (old u (w .0) (in-cons (w .1))) m;
-          wide = wide-none;
+          sized = none-sized;
           runs = λ n. absurd (n refl);
         };
         items = items;
@@ -96,7 +85,7 @@ module _ (s : Settings) (g : SettingsRange s) (h : Hist s) (sent : List Item) (c
       record {
         later = h′;
         turns = turns;
-        keeps = record { number = i .number; used = λ u w m. i .used u (same u w) m; wide = wide-none; runs = λ _. running };
+        keeps = record { number = i .number; used = λ u w m. i .used u (same u w) m; sized = none-sized; runs = λ _. running };
         items = λ z m. let w = in-broadcast s sending z m in
             subst (ItemInv s g h′ (sent ++ broadcasts s (sending ∷ []))) (sym (w .2)) (messages (w .0) (w .1));
         own = λ b msg block m. let w = in-broadcast s sending (message b msg block) m in

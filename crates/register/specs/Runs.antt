@@ -16,7 +16,7 @@ use Rattle.brick.specs.Receive.{Outcome, outcome}
 use Rattle.brick.specs.declared.Given.{Given}
 use Rattle.brick.specs.declared.Given.the-variants.{Answered, Silent, Refused}
 use Rattle.coord_record.specs.Records.{readingKind, idleWith}
-use Rattle.coord_acts.specs.Acts.{blockOf}
+use Rattle.erasure.specs.Theorems.{blockOf}
 use Rattle.coord_acts.specs.Steps.{Held, Broadcast, Step, refused, went, beganSeen, okSeen, readSeen, abortedSeen, cutSeen}
 use Rattle.coord_acts.specs.declared.Seen.{Seen as Shown}
 use Rattle.coordinator.specs.Rules.{takeStep, crashStep, writeStep, readStep}

@@ -5,9 +5,8 @@ use mathlib.Core.Bool.{Bool, true, false, cond, _&&_}
 use mathlib.Core.List.{List, [], _∷_, _++_, List·Memᴰ·append-cases}
 use Prim.Native.Nat.{ℕ, zero, suc, _*_, _%_, _≤_, _<_}
 use native.Mathlib.Omega.{arith}
-use native.Mathlib.Decide.{decLt}
 use lib.Dec.{leb, eqb}
-use lib.ListN.{length, getD, replicate, getD-replicate, List·getD-eq-default}
+use lib.ListN.{length, getD, replicate}
 use borrow.Author.Tests.{leb-true, eqb-true, eq-eqb, ne-eqb}
 use Rattle.settings.specs.Ranges.{codeRefusal}
 use Rattle.settings.specs.RangeLaws.{SettingsRange, and-left}
@@ -18,6 +17,7 @@ use Rattle.settings.specs.declared.Clock.{Clock}
 use Rattle.settings.specs.declared.Draw.{Draw}
 use Rattle.settings.specs.declared.Draw.the-variants.{Drawn, Refused}
 use Rattle.settings.specs.declared.Settings.{Settings}
+use Rattle.settings.specs.RefusalLaws.{tested}
 use Rattle.little.specs.LittleLaws.{Bytes}
 use Rattle.message.specs.Flags.{member}
 use Rattle.erasure.specs.Theorems.{Stripe}
@@ -27,30 +27,24 @@ use Rattle.coord_acts.specs.Acts.{roundMessage, firstOp, starting}
 use Rattle.coord_acts.specs.Steps.{Held, Broadcast, Went, refused, checked}
 use Rattle.coord_checks.specs.Checks.{writeRefusal, readRefusal}
 use Rattle.coordinator.specs.Rules.{drawnThen, writeStep, readStep}
+use Rattle.coord_laws.specs.Soundness.{none-sized}
+use Rattle.coord_laws.specs.TallyLaws.{zeros-at}
 use Rattle.order.specs.Claim.{Action, read, write, Seen, _∈_}
 use Rattle.order.specs.Facts.{Source, End, Fact, began, launched, ended}
 use Rattle.order.specs.Places.{In}
 use Rattle.order.specs.PlaceLaws.{suf-below, in-suf, in-top}
 use Rattle.order.specs.Valid.{Began, Valid}
 use Rattle.order.specs.FactLaws.{ok-at}
-use Rattle.register.specs.Runs.{plain, Item, message, reply, Moved, seenOf, blockFor, broadcasts, coordinated}
-use Rattle.register.specs.Invariant.{quorums, Hist, MessageInv, ItemInv, Wide, Asked, Running, CoordinatorInv, Inv}
+use Rattle.register.specs.Runs.{plain, Item, message, Moved, seenOf, blockFor, broadcasts, coordinated}
+use Rattle.register.specs.Invariant.{quorums, Hist, MessageInv, ItemInv, Asked, Running, CoordinatorInv, Inv}
 use Rattle.register.specs.UpLaws.{in-cons}
-use Rattle.register.specs.BrickEvent.{Goes, first-passed, unless-passed}
-use Rattle.register.specs.TurnLaws.{Turns, turns-began, in-broadcast, Turned, goes-turned, goes-refused}
+use Rattle.register.specs.BrickEvent.{Goes, first-passed}
+use Rattle.register.specs.TurnLaws.{time-of, kind-of, Turns, turns-began, in-broadcast, Turned, goes-turned, goes-refused}
 
 -- no brick is counted in a new round
 pub none-member : (b : ℕ) → member (replicate 16 0) b ≡ true → ⊥
 unfolding member
-none-member b e = let w = by (decLt b 16) in let q = eqb-true (getD (replicate 16 0) b 0) 1 e in omega arith
-  where
-    by : Dec (b < 16) → _≡_ {A = ℕ} (getD (replicate 16 0) b 0) 0
-    by (yes l) = getD-replicate 16 b 0 0 l
-    by (no l) = List·getD-eq-default (replicate 16 0) 0 {n = b} (omega arith)
-
-pub wide-none : Wide nothingCounted
-unfolding nothingCounted
-wide-none = record { counted = refl; granted = refl; held = refl; found = refl }
+none-member b e = let w = zeros-at 16 b in let q = eqb-true (getD (replicate 16 0) b 0) 1 e in omega arith
 
 -- a write's bytes
 pub byte-below : (l : List ℕ) → Bytes l → (i : ℕ) → getD l i 0 < 256
@@ -88,12 +82,12 @@ module _ (s : Settings) (g : SettingsRange s) (h : Hist s) (sent : List Item) (c
         keeps = record {
           number = gave (k .state .clock) reading t clock d .same ∙ i .number;
           used = λ u w m. used u m (w .0) (in-cons (w .1));
-          wide = wide-none;
+          sized = none-sized;
           runs = λ n. running;
         };
         items = λ z m. let w = in-broadcast s sending z m in subst (ItemInv s g later (sent ++ broadcasts s (sending ∷ []))) (sym (w .2)) (asks (w .0) (w .1));
         own = λ b msg block m. let w = in-broadcast s sending (message b msg block) m in
-            let e : msg .time ≡ t = ap time-of (w .2) in ap (λ (u : ℕ). u % 16) e ∙ own-time;
+            let e : msg .time ≡ t = unfold time-of in ap time-of (w .2) in ap (λ (u : ℕ). u % 16) e ∙ own-time;
       }
     where
       action : Action (List ℕ)
@@ -104,14 +98,6 @@ module _ (s : Settings) (g : SettingsRange s) (h : Hist s) (sent : List Item) (c
 
       sending : Broadcast
       sending = record { message = record { kind = phase; time = t; round = 1; max = 0; targets = targets }; blocks = [] }
-
-      time-of : Item → ℕ
-      time-of (message b msg block) = msg .time
-      time-of (reply r block) = 0
-
-      kind-of : Item → ℕ
-      kind-of (message b msg block) = msg .kind
-      kind-of (reply r block) = 0
 
       turns : Turns s g c h later (Seen.began t action ∷ [])
       turns = turns-began s g c h v t action (record { positive = time-low; new = λ a w. new-time (a, w) }) own-time (Seen.began t action ∷ []) refl
@@ -154,7 +140,7 @@ module _ (s : Settings) (g : SettingsRange s) (h : Hist s) (sent : List Item) (c
           go : (message b msg block ∈ sent) ⊎ (message b msg block ∈ broadcasts s (sending ∷ [])) → (msg .round ≤ 1) × (msg .round ≡ 1 → (phase ≡ 3) × (msg .max ≡ 0))
           go (inl p) = absurd (new-time (subst (Began h) q (items (message b msg block) p .asks (omega arith))))
           go (inr p) = let w = in-broadcast s sending (message b msg block) p in
-              let f : msg .kind ≡ phase = ap kind-of (w .2) in absurd (omega arith)
+              let f : msg .kind ≡ phase = unfold kind-of in ap kind-of (w .2) in absurd (omega arith)
 
       running : Running s g later (sent ++ broadcasts s (sending ∷ [])) c
           (record {
@@ -209,7 +195,7 @@ module _ (s : Settings) (g : SettingsRange s) (h : Hist s) (r : Moved s) (i : In
       go true e =
           let a = first-passed (codeRefusal (s .n) (s .m) (s .size)) _ (passes refusal e) in
           let b = first-passed (refuseUnless (eqb (length content) (s .m * s .size) && eqb (length (k .stripe)) (s .m * s .size)) 2) _ (a .1) in
-          let l = unless-passed (eqb (length content) (s .m * s .size) && eqb (length (k .stripe)) (s .m * s .size)) 1 (b .0) in
+          let l = tested (eqb (length content) (s .m * s .size) && eqb (length (k .stripe)) (s .m * s .size)) 1 (b .0) in
           draws (eqb-true (length content) (s .m * s .size) (and-left _ _ l)) (drawOf (k .state .clock) reading) refl
 
   -- a read starts

@@ -16,10 +16,23 @@ use Rattle.order.specs.Claim.{Action, Seen, _∈_}
 use Rattle.order.specs.Facts.{Source, End, Fact, began, launched, ended, seen, shows}
 use Rattle.order.specs.Places.{Suf, whole, above}
 use Rattle.order.specs.Valid.{OkBegan, OkLaunched, OkEnded, Ok, Valid, next}
-use Rattle.register.specs.Runs.{plain, Item, message, Moved, putAt, seenOf, blockFor, toAll, broadcasts, coordinated}
+use Rattle.register.specs.Runs.{plain, Item, message, reply, Moved, putAt, seenOf, blockFor, toAll, broadcasts, coordinated}
 use Rattle.register.specs.Invariant.{quorums, Hist, BrickInv, ItemInv, CoordinatorInv, Inv}
 use Rattle.register.specs.UpLaws.{within-more, item-up, AtBrick, AtCoordinator, brick-up, coordinator-up, Quiet, coordinator-sent}
 use Rattle.register.specs.BrickEvent.{Goes, goes-unmoved, put-here, put-there}
+
+-- the fields of a message among the items
+unfoldable pub time-of : Item → ℕ
+time-of (message b msg block) = msg .time
+time-of (reply r block) = 0
+
+unfoldable pub kind-of : Item → ℕ
+kind-of (message b msg block) = msg .kind
+kind-of (reply r block) = 0
+
+unfoldable pub round-of : Item → ℕ
+round-of (message b msg block) = msg .round
+round-of (reply r block) = 0
 
 -- The history grows by what concerns coordinator c alone, and this is seen of it.
 pub record Turns (s : Settings) (g : SettingsRange s) (c : ℕ) (h h′ : Hist s) (shown : List (Seen (plain s))) : Type 0 where

@@ -1,5 +1,5 @@
 -- Bytes by their blocks, and what single writes do to them.
-use mathlib.Core.Path.{_≡_, refl, sym, ap, ap₂, subst, _∙_}
+use mathlib.Core.Path.{_≡_, refl, sym, ap, subst, _∙_}
 use mathlib.Core.Bool.{Bool, true, false, cond, _&&_}
 use mathlib.Core.List.{List, [], _∷_, _++_, append-nil}
 use Prim.Native.Nat.{ℕ, zero, suc, _+_, _-_, _*_, _≤_, _<_}
@@ -10,10 +10,11 @@ use lib.ListN.{length, take, drop, getD, set, length-take, length-drop}
 use native.Mathlib.Nat.{zero-add}
 use borrow.Author.Tests.{lt-ltb, le-ltb, le-leb, lt-leb, eq-eqb, ne-eqb, ltb-true, ltb-false, leb-true, leb-false, eqb-true, eqb-false}
 use Rattle.block.specs.Block.{put, entryBlock, unusedBlock, zeros}
+use Rattle.block.specs.PutLaws.{put-length}
 use Rattle.block.specs.StoreLaws.{Pasted, pasted-all, pasted-more, zeros-drop, zeros-take, zeros-length}
 use Rattle.block.specs.LayoutLaws.{unused-length}
 use Rattle.image.specs.Image.{stacked}
-use Rattle.image.specs.ImageLaws.{Even, stacked-at, stacked-length, stacked-of, stacked-ext, stacked-put, block-length, put-length}
+use Rattle.image.specs.ImageLaws.{Even, stacked-at, stacked-length, stacked-of, stacked-ext, stacked-put, block-length}
 use Rattle.image.specs.Parse.{blockAt}
 
 -- the bytes l are n blocks, block k being g k
@@ -210,10 +211,6 @@ copied-all part b i n h p =
     append-zeros l = append-nil l
 
 -- the part of the image that is copied
-pub part-of : (l : List ℕ) (from k : ℕ) → from ≡ 512 * k → take (from + 512 - from) (drop from l) ≡ blockAt l k
-unfolding blockAt
-part-of l from k e = let n : from + 512 - from ≡ 512 = omega arith in ap₂ (λ (a b : ℕ). take a (drop b l)) n e
-
 pub copied-more : (d s l : List ℕ) (i : ℕ) → i < length s → Pasted d s 0 i l → Pasted d s 0 (i + 1) (set l i (getD s i 0))
 copied-more d s l i h p = subst (λ (k : ℕ). Pasted d s 0 (i + 1) (set l k (getD s i 0))) (zero-add i) (pasted-more d s l 0 i h p)
 

@@ -4,11 +4,15 @@ use mathlib.Core.Bool.{Bool, true, false, _&&_}
 use Prim.Native.Nat.{ℕ, zero, suc, _+_, _≤_, _<_}
 use native.Mathlib.Omega.{arith}
 use native.Mathlib.Nat.{le-refl}
-use lib.Dec.{T}
+use lib.Dec.{T, eqb}
 
 abbrev pub one-if : Bool → ℕ
 one-if true = 1
 one-if false = 0
+
+pub one-is : (b : Bool) → eqb (one-if b) 1 ≡ b
+one-is true = refl
+one-is false = refl
 
 -- how many bricks b < n pass the test
 unfoldable pub count : (ℕ → Bool) → ℕ → ℕ

@@ -1,9 +1,11 @@
--- Definitions: Refusal, Ranges (with the quorum), Times, Count. Laws: the modules named ..Laws, and Draws.
+-- Definitions: Refusal, Ranges (with the quorum), Times, Count, Each. Laws: the modules named ..Laws, and Draws.
 pub mod Count
 pub mod Draws
+pub mod Each
 pub mod QuorumLaws
 pub mod RangeLaws
 pub mod Ranges
 pub mod Refusal
+pub mod RefusalLaws
 pub mod TimeLaws
 pub mod Times

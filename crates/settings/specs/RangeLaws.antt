@@ -7,6 +7,7 @@ use lib.Dec.{leb}
 use borrow.Author.Tests.{leb-true}
 use Rattle.settings.specs.Ranges.{bricksInRange, sizeInRange, capacityInRange, inRange, settingsRefusal, codeRefusal}
 use Rattle.settings.specs.Refusal.{refuseUnless}
+use Rattle.settings.specs.RefusalLaws.{tested}
 use Rattle.settings.specs.declared.Settings.{Settings}
 
 -- n, m and the block size in range
@@ -32,10 +33,6 @@ pub and-right : (a b : Bool) → a && b ≡ true → b ≡ true
 and-right true b e = e
 and-right false b e = let z : _≡_ {A = ℕ} 0 1 = cc in absurd (omega arith)
 
-tested : (b : Bool) → refuseUnless b 1 ≡ 0 → b ≡ true
-tested true e = refl
-tested false e = absurd (omega arith)
-
 in-code-range : (n m size : ℕ) → bricksInRange n m && sizeInRange size ≡ true → CodeRange n m size
 unfolding bricksInRange sizeInRange
 in-code-range n m size e =
@@ -53,13 +50,13 @@ in-code-range n m size e =
 -- what n, m and size that pass satisfy
 pub code-passed : (n m size : ℕ) → codeRefusal n m size ≡ 0 → CodeRange n m size
 unfolding codeRefusal
-code-passed n m size e = in-code-range n m size (tested _ e)
+code-passed n m size e = in-code-range n m size (tested _ 0 e)
 
 -- what settings that pass satisfy
 pub settings-passed : (s : Settings) → settingsRefusal s ≡ 0 → SettingsRange s
 unfolding settingsRefusal inRange capacityInRange
 settings-passed s e =
-    let t = tested _ e in
+    let t = tested _ 0 e in
     let c = and-right (bricksInRange (s .n) (s .m) && sizeInRange (s .size)) _ t in
     record {
       code = in-code-range (s .n) (s .m) (s .size) (and-left _ _ t);

@@ -1,10 +1,9 @@
 -- The view of an image that opened gives the brick's entries.
 use mathlib.Core.Path.{_≡_, refl, sym, ap, subst, _∙_}
 use mathlib.Core.Bool.{Bool, true, false, cond}
-use mathlib.Core.List.{List, [], _∷_}
-use Prim.Native.Nat.{ℕ, zero, suc, _+_, _-_, _*_, _/_, _≤_, _<_}
+use mathlib.Core.List.{List}
+use Prim.Native.Nat.{ℕ, _+_, _-_, _*_, _/_, _≤_, _<_}
 use native.Mathlib.Omega.{arith}
-use native.Mathlib.Nat.{suc-add}
 use lib.Dec.{leb}
 use lib.ListN.{length, take, drop}
 use lib.Seq.{take-take, drop-drop}
@@ -25,18 +24,7 @@ use Rattle.image.specs.declared.Answer.the-variants.{Refused as Failed}
 use Rattle.view.specs.View.{foundOf, foundAt}
 use Rattle.view.specs.declared.Found.{Found}
 use Rattle.view.specs.declared.Found.the-variants.{At, Refused}
-
-drop-take : (a b : ℕ) (l : List ℕ) → drop a (take (a + b) l) ≡ take b (drop a l)
-drop-take zero b l = ap (λ (k : ℕ). take k l) (omega′ b)
-  where
-    omega′ : (b : ℕ) → 0 + b ≡ b
-    omega′ b = omega arith
-drop-take (suc a) b [] = ap (λ (k : ℕ). drop (suc a) (take k [])) (suc-add a b) ∙ nothing b
-  where
-    nothing : (b : ℕ) → _≡_ {A = List ℕ} [] (take b [])
-    nothing zero = refl
-    nothing (suc b) = refl
-drop-take (suc a) b (x ∷ l) = ap (λ (k : ℕ). drop (suc a) (take k (x ∷ l))) (suc-add a b) ∙ drop-take a b l
+use Rattle.block.specs.PutLaws.{drop-take}
 
 -- the time field, read from the whole image
 pub time-there : (l : List ℕ) (k at time : ℕ) → at ≡ 512 * k + 4 → time ≡ number (take 8 (drop at l)) → time ≡ timeIn (blockAt l k)

@@ -1,7 +1,7 @@
 use native.Mathlib.Omega.{arith}
 use Prim.Native.Nat.{_+_, _*_}
 use lib.ListN.{length}
-use Rattle.bench_state.specs.PartLaws.{two-pasted}
+use Rattle.bench_state.specs.PartLaws.{two-put}
 use Rattle.bench_state.specs.State.{keptWith}
 use borrow.Author.Needs.{needs}
 use Rattle.bench_state.proofs.keep.Statement.{statement}
@@ -70,7 +70,7 @@ returns c =
     let at = s .args .c * 64 in
     let x = s .args .blocks .now in
     let y = s .args .stripe .now in
-    two-pasted at (at + length x) (at + 32) (at + 32 + length y) x y (s .args .kept .now) _ _ (c .before .before .before .before .before .before .copy .ensures) (c .before .before .copy2 .ensures)
+    two-put at (at + length x) (at + 32) (at + 32 + length y) x y (s .args .kept .now) _ _ (c .before .before .before .before .before .before .copy .ensures) (c .before .before .copy2 .ensures)
     (omega arith) (omega arith) (omega arith) (omega arith)
 
 pub keep-spec : {M : Type 1} → statement M

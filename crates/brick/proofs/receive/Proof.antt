@@ -1,6 +1,5 @@
 use native.Mathlib.Omega.{arith}
 use Rattle.image.specs.HubLaws.{Hub, hub}
-use Rattle.brick_plan.specs.LookLaws.{blankEntry}
 use Rattle.brick.specs.OutcomeLaws.{blocks-passed, ends-early, ends-unopened, ends-wrong, ends-acted, ready, ahead, log-is, hub-reads}
 use borrow.Author.Needs.{needs}
 use Rattle.brick.proofs.receive.Statement.{statement}
@@ -12,6 +11,7 @@ use Rattle.brick.proofs.blocks_refusal.Reads as blocks-refusal-reads
 use Rattle.brick_plan.proofs.plan_for.Reads as plan-for-reads
 use Rattle.image.proofs.number_of.Reads as number-of-reads
 use Rattle.image.proofs.open.Reads as open-reads
+use Rattle.image.specs.Opening.{blank}
 use Rattle.message.proofs.Message.refusal.Reads as refusal-reads
 
 -- src/lib.rt:309:9
@@ -81,7 +81,7 @@ plan-for-requires c κs =
 
 -- src/lib.rt:330:5
 act-requires : tie.Need-act-requires
-unfolding blankEntry
+unfolding blank
 act-requires c κs =
     let u = the-hub (c .before .before .before .before .before .before .before .before .before) in
     let r = ready _ _ _ _ _ u in

@@ -4,14 +4,15 @@ use native.Mathlib.Omega.{arith}
 use borrow.Author.Needs.{needs}
 use borrow.Author.Count.{below-none, below-more}
 use lib.ListN.{getD}
-use Rattle.brick_plan.specs.LookLaws.{Cut, cut-at, cut-last, blankEntry}
+use Rattle.brick_plan.specs.LookLaws.{Cut, cut-at, cut-last}
 use Rattle.brick_plan.proofs.cut_for.Statement.{statement}
 use Rattle.brick_plan.proofs.cut_for.Tie as tie
 use Rattle.brick_plan.proofs.cut_for.Reads as reads
 use Rattle.brick_plan.proofs.cut_for.Lts as lts
+use Rattle.image.specs.Opening.{blank}
 
 abbrev Inv-loop : tie.InvT-loop
-Inv-loop count time log last d₀ d = (d ≤ last) × ((i : ℕ) → i < d → getD log i blankEntry .time < time)
+Inv-loop count time log last d₀ d = (d ≤ last) × ((i : ℕ) → i < d → getD log i blank .time < time)
 
 abbrev μ-loop : tie.MeasureT-loop
 μ-loop count time log last d₀ d = last - d
@@ -34,7 +35,7 @@ array-copy-out-e c = omega arith
 
 -- src/lib.rt:106:13
 returns : tie.Need-returns Inv-loop μ-loop
-unfolding blankEntry
+unfolding blank
 returns c = cut-at _ _ _ _ (omega arith) (c .before .before .before .before .loop .inv .1) (c .if1 .taken)
 
 -- src/lib.rt:108:9
@@ -47,7 +48,7 @@ loop-less c = omega arith
 
 -- src/lib.rt:103:5
 loop-again : tie.Need-loop-again Inv-loop μ-loop
-unfolding blankEntry
+unfolding blank
 loop-again c = (omega arith, below-more _ _ (c .before .before .before .before .loop .inv .1) (c .if1 .left))
 
 -- src/lib.rt:97:1

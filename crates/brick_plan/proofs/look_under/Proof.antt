@@ -2,11 +2,12 @@ use mathlib.Core.Path.{_≡_, refl, sym, _∙_}
 use Prim.Native.Nat.{_-_, _≤_}
 use native.Mathlib.Omega.{arith}
 use borrow.Author.Needs.{needs}
-use Rattle.brick_plan.specs.LookLaws.{underIn, under-found, under-down, under-none, blankEntry}
+use Rattle.brick_plan.specs.LookLaws.{underIn, under-found, under-down, under-none}
 use Rattle.brick_plan.proofs.look_under.Statement.{statement}
 use Rattle.brick_plan.proofs.look_under.Tie as tie
 use Rattle.brick_plan.proofs.look_under.Reads as reads
 use Rattle.brick_plan.proofs.look_under.Lts as lts
+use Rattle.image.specs.Opening.{blank}
 
 abbrev Inv-loop : tie.InvT-loop
 Inv-loop count max log n₀ n = (n ≤ count) × (underIn log max n ≡ underIn log max count)
@@ -32,7 +33,7 @@ array-copy-out-e c = omega arith
 
 -- src/lib.rt:140:13
 returns : tie.Need-returns Inv-loop μ-loop
-unfolding blankEntry
+unfolding blank
 returns c = under-found _ _ _ (c .before .before .before .before .loop .n - 1) _ (omega arith) (c .if1 .taken) (c .before .before .before .before .loop .inv .1)
 
 -- src/lib.rt:136:5
@@ -41,7 +42,7 @@ loop-less c = omega arith
 
 -- src/lib.rt:136:5
 loop-again : tie.Need-loop-again Inv-loop μ-loop
-unfolding blankEntry
+unfolding blank
 loop-again c = (omega arith, sym (under-down _ _ _ (c .before .before .before .before .loop .n - 1) (omega arith) (c .if1 .left)) ∙ c .before .before .before .before .loop .inv .1)
 
 -- src/lib.rt:131:1

@@ -4,7 +4,8 @@ use lib.ListN.{getD, length, take, drop}
 use mathlib.Core.Path.{_≡_, refl, sym, ap, _∙_}
 use mathlib.Core.List.{List}
 use Prim.Native.Nat.{ℕ, _+_, _-_, _*_, _≤_, _<_}
-use Rattle.coord_acts.specs.Acts.{blockOf, gathered}
+use Rattle.erasure.specs.Theorems.{blockOf}
+use Rattle.coord_acts.specs.Acts.{gathered}
 use Rattle.coord_acts.specs.BufferLaws.{InPlace, block-here, block-cut, next-within}
 use Rattle.interpolate.specs.RowLaws.{Stacked, stacked-none, stacked-more, stacked-all, part-length}
 use Rattle.coord_acts.proofs.gather.Statement.{statement}

@@ -37,7 +37,7 @@ same-length c = search needs
 
 -- src/lib.rt:86:1
 returns : tie.Need-returns
-returns c = place-is _ _ _ _ _ _ refl (c .before .before .copy .ensures)
+returns c = place-is _ _ _ _ _ _ (search needs) refl (c .before .before .copy .ensures)
 
 pub place-spec : {M : Type 1} → statement M
 place-spec =

@@ -4,7 +4,8 @@ use native.Mathlib.Omega.{arith}
 use borrow.Author.Needs.{needs}
 use lib.ListN.{length, take, drop}
 use Rattle.image.specs.Parse.{blockAt}
-use Rattle.saving.specs.BlocksLaws.{Shifting, shifting-none, shifting-more, shifted-all, part-of, block-long}
+use Rattle.image.specs.ScanLaws.{part-is}
+use Rattle.saving.specs.BlocksLaws.{Shifting, shifting-none, shifting-more, shifted-all, block-long}
 use Rattle.saving.proofs.shift_blocks.Statement.{statement}
 use Rattle.saving.proofs.shift_blocks.Tie as tie
 use Rattle.saving.proofs.shift_blocks.Reads as reads
@@ -56,7 +57,7 @@ long c = block-long _ _ (omega arith)
 
 -- src/lib.rt:77:17
 copied-requires : tie.Need-copied-requires Inv-loop μ-loop
-copied-requires c κs = ap length (part-of _ _ _ refl) ∙ long c
+copied-requires c κs = ap length (part-is _ _ _ refl) ∙ long c
 
 -- src/lib.rt:78:29
 add-store : tie.Need-add-store Inv-loop μ-loop
@@ -74,7 +75,7 @@ slice-aggregate-store c = search needs
 store-requires : tie.Need-store-requires Inv-loop μ-loop
 store-requires c κs =
     let a = c .before .before .before in
-    let n : length (c .before .before .copied .result) ≡ 512 = ap length (c .before .before .copied .ensures ∙ part-of _ _ _ refl) ∙ long a in
+    let n : length (c .before .before .copied .result) ≡ 512 = ap length (c .before .before .copied .ensures ∙ part-is _ _ _ refl) ∙ long a in
     omega arith
 
 -- src/lib.rt:79:9
@@ -90,7 +91,7 @@ loop-again : tie.Need-loop-again Inv-loop μ-loop
 loop-again c =
     let a = c .before .before .before .before .before in
     let t = a .before .before .before .before in
-    (omega arith, shifting-more _ _ _ _ _ _ (omega arith) (a .copied .ensures ∙ part-of _ _ _ refl) (c .before .before .store .ensures) (t .loop .inv .1))
+    (omega arith, shifting-more _ _ _ _ _ _ (omega arith) (a .copied .ensures ∙ part-is _ _ _ refl) (c .before .before .store .ensures) (t .loop .inv .1))
 
 -- src/lib.rt:69:1
 same-length : tie.Need-same-length Inv-loop μ-loop

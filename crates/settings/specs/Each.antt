@@ -2,8 +2,9 @@
 use mathlib.Core.Path.{_≡_, refl, sym, ap, _∙_}
 use mathlib.Core.Bool.{Bool, true, false, _&&_, _||_}
 use mathlib.Core.Logic.{_⊎_, inl, inr}
-use Prim.Native.Nat.{ℕ, zero, suc, _≤_, _<_}
+use Prim.Native.Nat.{ℕ, zero, suc, _+_, _<_}
 use native.Mathlib.Nat.{le-of-suc-le-suc, not-suc-le-zero, eq-or-lt-of-le, le-refl}
+use native.Mathlib.Numerals.{add-one}
 use native.Mathlib.Omega.{arith}
 
 -- the rule holds for each b < k
@@ -15,6 +16,14 @@ each p (suc k) = each p k && p k
 unfoldable pub some : (ℕ → Bool) → ℕ → Bool
 some p zero = false
 some p (suc k) = some p k || p k
+
+pub each-none : (p : ℕ → Bool) → each p 0 ≡ true
+unfolding each
+each-none p = refl
+
+pub each-more : (p : ℕ → Bool) (k : ℕ) → each p (k + 1) ≡ each p k && p k
+unfolding each
+each-more p k = rw add-one
 
 pub each-all : (p : ℕ → Bool) (k : ℕ) → ((i : ℕ) → i < k → p i ≡ true) → each p k ≡ true
 unfolding each
