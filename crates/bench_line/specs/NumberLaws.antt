@@ -1,6 +1,6 @@
 -- A word as a number, a digit at a time; and the numbers of a line, one at a time.
 use mathlib.Core.Path.{_≡_, refl, sym, ap, ap₂, _∙_}
-use mathlib.Core.Bool.{Bool, true, false, _&&_}
+use mathlib.Core.Bool.{Bool, true, false, _&&_, and-false}
 use mathlib.Core.List.{List, [], _∷_}
 use Prim.Native.Nat.{ℕ, suc, _+_, _-_, _*_, _^_, _≤_, _<_}
 use native.Mathlib.Nat.{not-suc-le-zero, pow-le-pow-right}
@@ -13,7 +13,7 @@ use borrow.Author.Tests.{lt-leb, le-leb, leb-true}
 use Rattle.bench_line.specs.Lines.{every, isDigit, numberWord, valueAfter, valueOf, numbersOf, areNumbers, numberIn}
 use Rattle.bench_line.specs.Meaning.{wordsFrom, CarryFrom, NumberAt}
 use Rattle.bench_line.specs.Steps.{wordLength, startsNumber, others, NumeralOf, NumberFrom, AloneOf}
-use Rattle.bench_line.specs.WordLaws.{and-false, from-here, from-none, words-split, end-within, split-at-end}
+use Rattle.bench_line.specs.WordLaws.{from-here, from-none, words-split, end-within, split-at-end}
 use Rattle.bench_line.specs.declared.Numeral.{Numeral}
 use Rattle.bench_line.specs.declared.Piece.{Piece}
 

@@ -23,7 +23,7 @@ use Rattle.coord_acts.specs.Steps.{Held, Went, went, nothingSeen, beganSeen, ok
 use Rattle.coord_acts.specs.declared.Seen.{Seen as Shown}
 use Rattle.coord_checks.specs.Checks.{recordChecks, crashRefusal}
 use Rattle.coordinator.specs.Rules.{takeStep, crashed, crashStep, writeStep, readStep}
-use Rattle.coord_laws.specs.OpCases.{in-read}
+use Rattle.coord_laws.specs.OpCases.{in-read, Fit, reading, looking, restoring, ordering, storing, fit}
 use Rattle.coord_laws.specs.RunLaws.{took, write-begins, read-begins}
 use Rattle.coord_laws.specs.Soundness.{passes, same-went}
 use Rattle.message.specs.Flags.{members}
@@ -32,7 +32,6 @@ use Rattle.settings.specs.Ranges.{codeRefusal, quorum}
 use Rattle.settings.specs.RefusalLaws.{passed-rest}
 use Rattle.coordinator.specs.StepLaws.{record-passes}
 use Rattle.order.specs.Claim.{Outcome, Seen, began, ended}
-use Rattle.register.specs.DecideLaws.{Fit, reading, looking, restoring, ordering, storing, fit}
 use Rattle.register.specs.Runs.{plain, seenOf}
 use Rattle.bench_print.specs.Printing.{kindWord, endWord, lineText, isEnd, endedText}
 use Rattle.bench_order.specs.Parts.{Ran}
@@ -174,11 +173,11 @@ kind-known op e n = go (eqb (op .kind) 0) (eqb (op .kind) 1) refl refl e
     go false false ea eb h = inr (eqb-true (op .kind) 2 (and-left (eqb (op .kind) 2) (writeRight op) h))
 
 fit-known : (op : Op) → Fit op → (op .kind ≡ 1) ⊎ (op .kind ≡ 2)
-fit-known op (reading k p) = inl k
-fit-known op (looking k p) = inl k
-fit-known op (restoring k p) = inl k
-fit-known op (ordering k p) = inr k
-fit-known op (storing k p) = inr k
+fit-known op (reading k p _) = inl k
+fit-known op (looking k p _ _) = inl k
+fit-known op (restoring k p _) = inl k
+fit-known op (ordering k p _ _) = inr k
+fit-known op (storing k p _) = inr k
 
 -- a reply,
 pub take-agrees : (n m size : ℕ) (h : Held) (r : Reply) (block : List ℕ) (coded : ℕ) (g : Went) → takeStep n m size h r block coded ≡ went g
@@ -189,7 +188,7 @@ take-agrees n m size h r block coded g e =
     let o = t .takes .parts .op-right in
     subst (λ (v : Went). Agrees (h .state .op) (v .seen)) (t .is)
     (waiting-agrees n m size (counting size h r block) o
-    (fit-known (h .state .op) (fit (h .state .op) o (omega (arith, t .answer .of-phase, t .reply .kind-low)))))
+    (fit-known (h .state .op) (fit (h .state .op) o (λ _ z. omega (arith, t .answer .of-phase, t .reply .kind-low, z)))))
 
 -- a crash,
 crash-right : (n m size : ℕ) (c : Coordinator) → crashRefusal n m size c ≡ 0 → opRight (c .op) ≡ true

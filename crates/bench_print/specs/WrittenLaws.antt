@@ -7,7 +7,6 @@ use native.Mathlib.Numerals.{add-one, unary-clauses}
 use lib.ListN.{length, take, drop, getD, set, length-append, length-set, length-take, take-append-drop}
 use lib.Seq.{take-at, drop-append-add, drop-drop, set-split, take-suc, take-all}
 use Rattle.block.specs.Block.{put}
-use Rattle.block.specs.PutLaws.{put-length}
 use Rattle.bench_print.specs.Printing.{written}
 
 pub written-nothing : (at : ℕ) (old : List ℕ) → written at [] old ≡ old
@@ -61,9 +60,6 @@ placed-byte at b old h = record { next-is = refl; holds = written-byte at b old 
 
 pub placed-nothing : (at : ℕ) (old : List ℕ) → Placed at [] old old at
 placed-nothing at old = record { next-is = omega arith; holds = sym (written-nothing at old) }
-
-pub placed-length : (at : ℕ) (text old out : List ℕ) (r : ℕ) → at + length text ≤ length old → Placed at text old out r → length out ≡ length old
-placed-length at text old out r h p = ap length (p .holds) ∙ put-length at text old h
 
 -- The first i bytes of a word were written.
 pub record Wording (at : ℕ) (word old : List ℕ) (i : ℕ) (out : List ℕ) : Type 0 where

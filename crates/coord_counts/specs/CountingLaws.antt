@@ -1,6 +1,6 @@
 -- Counting, one brick at a time.
-use mathlib.Core.Path.{_≡_, refl, sym, ap, _∙_}
-use mathlib.Core.Bool.{Bool, true, false, cond, not, _&&_}
+use mathlib.Core.Path.{_≡_, sym, ap, _∙_}
+use mathlib.Core.Bool.{Bool, true, false, cond, not, _&&_, and-false}
 use mathlib.Core.List.{List}
 use Prim.Native.Nat.{ℕ, zero, suc, _+_, _-_, _≤_, _<_, max}
 use native.Mathlib.Nat.{add-zero}
@@ -28,11 +28,7 @@ not-counted counted granted b e = rw (ne-eqb (getD counted b 0) 1 e)
 
 pub said-yes : (counted granted : List ℕ) (b : ℕ) → getD granted b 0 ≡ 1 → saidNo counted granted b ≡ false
 unfolding saidNo member
-said-yes counted granted b e = rw (eq-eqb (getD granted b 0) 1 e) (go (eqb (getD counted b 0) 1))
-  where
-    go : (a : Bool) → a && false ≡ false
-    go true = refl
-    go false = refl
+said-yes counted granted b e = rw (eq-eqb (getD granted b 0) 1 e) (and-false (eqb (getD counted b 0) 1))
 
 pub other-time : (counted found : List ℕ) (time b : ℕ) → getD counted b 0 ≡ 1 → (getD found b 0 ≡ time → ⊥) → otherTime counted found time b ≡ true
 unfolding otherTime member
@@ -44,11 +40,7 @@ none-counted counted found time b e = rw (ne-eqb (getD counted b 0) 1 e)
 
 pub same-time : (counted found : List ℕ) (time b : ℕ) → getD found b 0 ≡ time → otherTime counted found time b ≡ false
 unfolding otherTime member
-same-time counted found time b e = rw (eq-eqb (getD found b 0) time e) (go (eqb (getD counted b 0) 1))
-  where
-    go : (a : Bool) → a && false ≡ false
-    go true = refl
-    go false = refl
+same-time counted found time b e = rw (eq-eqb (getD found b 0) time e) (and-false (eqb (getD counted b 0) 1))
 
 pub is-missing : (n m first : ℕ) (counted : List ℕ) (b : ℕ) (t : Bool) → t ≡ isTarget n m first b → t ≡ true → (getD counted b 0 ≡ 1 → ⊥)
     → missing n m first counted b ≡ true
@@ -61,11 +53,7 @@ no-target n m first counted b t e z = rw (← e, z)
 
 pub is-counted : (n m first : ℕ) (counted : List ℕ) (b : ℕ) → getD counted b 0 ≡ 1 → missing n m first counted b ≡ false
 unfolding missing member
-is-counted n m first counted b e = rw (eq-eqb (getD counted b 0) 1 e) (go (isTarget n m first b))
-  where
-    go : (a : Bool) → a && false ≡ false
-    go true = refl
-    go false = refl
+is-counted n m first counted b e = rw (eq-eqb (getD counted b 0) 1 e) (and-false (isTarget n m first b))
 
 -- a search that found one, and one that passed all
 pub found-some : (p : ℕ → Bool) (n b : ℕ) → b < n → p b ≡ true → true ≡ some p n

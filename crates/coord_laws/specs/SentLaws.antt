@@ -7,9 +7,9 @@ use native.Mathlib.Omega.{arith}
 use lib.Dec.{eqb, leb, ltb}
 use borrow.Author.Tests.{eq-eqb, ne-eqb, le-leb, lt-ltb, leb-true, ltb-true, eqb-true, eqb-false}
 use Rattle.coord_acts.specs.Acts.{roundMessage, trimMessage}
-use Rattle.coord_laws.specs.OpCases.{clash}
+use Rattle.coord_laws.specs.OpCases.{Fit, reading, looking, restoring, ordering, storing, fit}
 use Rattle.coord_laws.specs.Soundness.{Good}
-use Rattle.coord_record.specs.Sound.{maxRight, storedRight, readRight, writeRight, unsetOp, opRight, timeRight}
+use Rattle.coord_record.specs.Sound.{maxRight, opRight, timeRight}
 use Rattle.coord_record.specs.SoundParts.{SoundParts, round-high}
 use Rattle.coord_record.specs.declared.Coordinator.{Coordinator}
 use Rattle.coord_record.specs.declared.Op.{Op}
@@ -35,55 +35,21 @@ max-high round max e = go (eqb round 2) e
     go false q = let z = ltb-true max noUpperEnd (and-right (leb (timeOf 1 0) max) (ltb max noUpperEnd) q) in omega arith
 
 pub running : (op : Op) → opRight op ≡ true → (op .kind ≡ 0 → ⊥) → Running op
-unfolding opRight readRight storedRight writeRight
-running op e k =
-    go (eqb (op .kind) 0) (eqb (op .kind) 1) (eqb (op .phase) 1) (eqb (op .phase) 3) (eqb (op .phase) 4) (eqb (op .phase) 2) refl refl refl refl refl e
+running op e k = go (fit op e (λ z _. k z))
   where
-    one : op .phase ≡ 1 → op .round ≡ 1 → Running op
-    one p r = record { phase-low = omega arith; phase-high = omega arith; round-low = omega arith; max-low = λ q. absurd (omega arith) }
-
-    two : op .phase ≡ 2 → op .round ≡ 1 → Running op
-    two p r = record { phase-low = omega arith; phase-high = omega arith; round-low = omega arith; max-low = λ q. absurd (omega arith) }
-
-    three : op .phase ≡ 3 → 2 ≤ op .round → op .max ≤ noUpperEnd → Running op
-    three p r h = record { phase-low = omega arith; phase-high = omega arith; round-low = omega arith; max-low = λ q. h }
-
-    four : op .phase ≡ 4 → 2 ≤ op .round → Running op
-    four p r = record { phase-low = omega arith; phase-high = omega arith; round-low = omega arith; max-low = λ q. absurd (omega arith) }
-
-    go : (k0 k1 p1 p3 p4 p2 : Bool) → eqb (op .kind) 0 ≡ k0 → eqb (op .phase) 1 ≡ p1 → eqb (op .phase) 3 ≡ p3 → eqb (op .phase) 4 ≡ p4 → eqb (op .phase) 2 ≡ p2
-        → cond k0 (unsetOp op)
-        (cond k1
-        (cond p1 (eqb (op .round) 1 && eqb (op .max) 0)
-        (cond p3 (leb 2 (op .round) && leb (op .round) 1000 && maxRight (op .round) (op .max)) (p4 && leb 3 (op .round) && leb (op .round) 1000 && eqb (op .max) 0)))
-        (eqb (op .kind) 2 && (eqb (op .first) 0 && eqb (op .max) 0 && cond p2 (eqb (op .round) 1) (p4 && eqb (op .round) 2))))
-        ≡ true → Running op
-    go true k1 p1 p3 p4 p2 e0 e1 e3 e4 e2 q = absurd (k (eqb-true (op .kind) 0 e0))
-    go false true true p3 p4 p2 e0 e1 e3 e4 e2 q =
-        one (eqb-true (op .phase) 1 e1) (eqb-true (op .round) 1 (and-left (eqb (op .round) 1) (eqb (op .max) 0) q))
-    go false true false true p4 p2 e0 e1 e3 e4 e2 q =
-        three (eqb-true (op .phase) 3 e3)
-        (leb-true 2 (op .round) (and-left (leb 2 (op .round)) (leb (op .round) 1000) (and-left (leb 2 (op .round) && leb (op .round) 1000) (maxRight (op .round) (op .max)) q)))
-        (max-high (op .round) (op .max) (and-right (leb 2 (op .round) && leb (op .round) 1000) (maxRight (op .round) (op .max)) q))
-    go false true false false true p2 e0 e1 e3 e4 e2 q =
-        four (eqb-true (op .phase) 4 e4)
-        (let z = leb-true 3 (op .round) (and-left (leb 3 (op .round)) (leb (op .round) 1000) (and-left (leb 3 (op .round) && leb (op .round) 1000) (eqb (op .max) 0) q)) in omega arith)
-    go false true false false false p2 e0 e1 e3 e4 e2 q = clash q
-    go false false p1 p3 p4 true e0 e1 e3 e4 e2 q =
-        two (eqb-true (op .phase) 2 e2)
-        (eqb-true (op .round) 1 (and-right (eqb (op .first) 0 && eqb (op .max) 0) (eqb (op .round) 1) (and-right (eqb (op .kind) 2) (eqb (op .first) 0 && eqb (op .max) 0 && eqb (op .round) 1) q)))
-    go false false p1 p3 true false e0 e1 e3 e4 e2 q =
-        four (eqb-true (op .phase) 4 e4)
-        (let z = eqb-true (op .round) 2 (and-right (eqb (op .first) 0 && eqb (op .max) 0) (eqb (op .round) 2) (and-right (eqb (op .kind) 2) (eqb (op .first) 0 && eqb (op .max) 0 && eqb (op .round) 2) q)) in omega arith)
-    go false false p1 p3 false false e0 e1 e3 e4 e2 q =
-        clash (and-right (eqb (op .first) 0 && eqb (op .max) 0) false (and-right (eqb (op .kind) 2) (eqb (op .first) 0 && eqb (op .max) 0 && false) q))
+    go : Fit op → Running op
+    go (reading k p r) = record { phase-low = omega arith; phase-high = omega arith; round-low = omega arith; max-low = λ q. absurd (omega arith) }
+    go (looking k p r m) = record { phase-low = omega arith; phase-high = omega arith; round-low = omega arith; max-low = λ q. max-high (op .round) (op .max) m }
+    go (restoring k p r) = record { phase-low = omega arith; phase-high = omega arith; round-low = omega arith; max-low = λ q. absurd (omega arith) }
+    go (ordering k p r f) = record { phase-low = omega arith; phase-high = omega arith; round-low = omega arith; max-low = λ q. absurd (omega arith) }
+    go (storing k p r) = record { phase-low = omega arith; phase-high = omega arith; round-low = omega arith; max-low = λ q. absurd (omega arith) }
 
 -- its time is valid
 valid-of : (time : ℕ) (clock : Clock) → 1 ≤ clock .last → time ≡ timeOf (clock .last) (clock .coordinator) → clock .coordinator ≤ 15 → clock .last ≤ maxCount → validTime time ≡ true
 unfolding validTime noUpperEnd timeOf maxCount
 valid-of time clock l e a b = rw (le-leb 16 time (omega arith), lt-ltb time (2 ^ 44) (omega arith))
 
-time-valid : (kind time : ℕ) (clock : Clock) → timeRight kind time clock ≡ true → (kind ≡ 0 → ⊥) → clock .coordinator ≤ 15 → clock .last ≤ maxCount → validTime time ≡ true
+pub time-valid : (kind time : ℕ) (clock : Clock) → timeRight kind time clock ≡ true → (kind ≡ 0 → ⊥) → clock .coordinator ≤ 15 → clock .last ≤ maxCount → validTime time ≡ true
 unfolding timeRight
 time-valid kind time clock e k a b = go (eqb kind 0) refl e
   where

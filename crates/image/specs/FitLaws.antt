@@ -1,6 +1,6 @@
 -- The ways through the tests on single blocks.
 use mathlib.Core.Path.{_≡_, refl, sym, ap, subst, _∙_}
-use mathlib.Core.Bool.{Bool, true, false, cond, not, _&&_, _||_}
+use mathlib.Core.Bool.{Bool, true, false, cond, not, _||_, and-false}
 use mathlib.Core.List.{List, [], _∷_}
 use Prim.Native.Nat.{ℕ, zero, suc, _+_, _-_, _*_, _≤_, _<_}
 use native.Mathlib.Omega.{arith}
@@ -16,10 +16,6 @@ use Rattle.image.specs.Image.{imageSize}
 use Rattle.image.specs.Parse.{heldIn}
 use Rattle.image.specs.Opening.{rises, headFits, slotFits, lendingRefusal}
 
-pub or-false : (a : Bool) → a && false ≡ false
-or-false true = refl
-or-false false = refl
-
 -- a comparison with a block that was built
 pub same-built : (b body t : List ℕ) (r : Bool) → b ≡ unchecked body → r ≡ same (drop 2 t) (drop 2 b) → r ≡ same (drop 2 t) body
 unfolding unchecked
@@ -32,11 +28,11 @@ module _ (s : Settings) (brick : ℕ) (t : List ℕ) (n promise : ℕ) where
 
   pub head-many : s .capacity < n → false ≡ headFits s brick t n promise
   unfolding headFits countSound
-  head-many h = rw (lt-leb n (s .capacity) h, or-false) refl
+  head-many h = rw (lt-leb n (s .capacity) h, and-false) refl
 
   pub head-time : (v : Bool) → v ≡ savedTime promise → v ≡ false → false ≡ headFits s brick t n promise
   unfolding headFits
-  head-time v e f = rw (sym e ∙ f, or-false) refl
+  head-time v e f = rw (sym e ∙ f, and-false) refl
 
   pub head-rest : (v r : Bool) (b : List ℕ) → 1 ≤ n → n ≤ s .capacity → v ≡ savedTime promise → v ≡ true
       → b ≡ unchecked (headBody s brick n promise) → r ≡ same (drop 2 t) (drop 2 b) → r ≡ headFits s brick t n promise
@@ -55,7 +51,7 @@ module _ (size : ℕ) (t : List ℕ) (time i n last : ℕ) where
 
   pub slot-rises : (v : Bool) → i < n → v ≡ rises i last time → v ≡ false → false ≡ slotFits size t time i n last
   unfolding slotFits
-  slot-rises v h e f = rw (lt-ltb i n h, sym e ∙ f, or-false) refl
+  slot-rises v h e f = rw (lt-ltb i n h, sym e ∙ f, and-false) refl
 
   pub slot-entry : (v w r : Bool) → i < n → v ≡ savedTime time → v ≡ true → w ≡ rises i last time → w ≡ true
       → r ≡ same (drop 2 t) (entryBody time (heldIn size t)) → r ≡ slotFits size t time i n last

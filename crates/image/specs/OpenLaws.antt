@@ -21,7 +21,6 @@ use Rattle.settings.specs.Each.{each, each-at, each-all, each-not}
 use Rattle.image.specs.Image.{imageSize}
 use Rattle.image.specs.Parse.{blockAt, countIn, promiseIn, timeIn, brickIn, checkedAt, isImage, openRefusal, Parsed, Opens, Refuses, parse}
 use Rattle.image.specs.ParseLaws.{range-of, count-in, refusal-0, refusal-5, refusal-6, parse-opens, parse-refuses}
-use Rattle.image.specs.FitLaws.{or-false}
 use Rattle.image.specs.Opening.{rowOf, blank, noBlank, entryFor, entryOf, workingLog, opening, lendingRefusal, headFits}
 use Rattle.image.specs.ScanLaws.{checkAfter, slotAt, entryAt, Scanned}
 use Rattle.image.specs.TestLaws.{tests-image, time-in}

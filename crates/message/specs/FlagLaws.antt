@@ -1,6 +1,6 @@
 -- Flags, one more at a time.
-use mathlib.Core.Path.{_≡_, refl, sym, ap, ap₂, _∙_}
-use mathlib.Core.Bool.{Bool, true, false, _&&_}
+use mathlib.Core.Path.{_≡_, sym, ap, ap₂, _∙_}
+use mathlib.Core.Bool.{Bool, true, false, and-false}
 use mathlib.Core.List.{List}
 use Prim.Native.Nat.{ℕ, zero, suc, _+_, _-_, _≤_, _<_}
 use native.Mathlib.Nat.{add-zero, add-suc}
@@ -31,10 +31,6 @@ within-more flags n i e h = rw (add-one i, e, le-leb (getD flags i 0) (one-if (l
 spoilt : (flags : List ℕ) (n i k : ℕ) → one-if (ltb i n) < getD flags i 0 → flagsWithin flags n (suc i + k) ≡ false
 unfolding flagsWithin
 spoilt flags n i zero h = rw (add-zero (suc i), lt-leb (getD flags i 0) (one-if (ltb i n)) h) (and-false (flagsWithin flags n i))
-  where
-    and-false : (b : Bool) → b && false ≡ false
-    and-false true = refl
-    and-false false = refl
 spoilt flags n i (suc k) h = rw (add-suc (suc i) k, spoilt flags n i k h)
 
 pub within-not : (flags : List ℕ) (n i : ℕ) → i < 16 → one-if (ltb i n) < getD flags i 0 → false ≡ flagsWithin flags n 16

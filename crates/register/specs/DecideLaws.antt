@@ -1,15 +1,15 @@
 -- The q-th reply decides: an abort, the Write round of a write, the end after a Write round.
 use mathlib.Core.Path.{_≡_, refl, sym, ap, subst, _∙_}
 use mathlib.Core.Logic.{_⊎_, inl, inr}
-use mathlib.Core.Bool.{Bool, true, false, cond, not, _&&_}
+use mathlib.Core.Bool.{Bool, true, false, not, _&&_}
 use mathlib.Core.List.{List, [], _∷_, _++_, List·Memᴰ·not-nil}
-use Prim.Native.Nat.{ℕ, _+_, _*_, _^_, _-_, _%_, _≤_, _<_}
+use Prim.Native.Nat.{ℕ, _+_, _-_, _%_, _≤_, _<_}
 use native.Mathlib.Omega.{arith}
-use lib.Dec.{T, leb, eqb}
-use borrow.Author.Tests.{eqb-true, eq-eqb, ne-eqb}
+use lib.Dec.{T, leb}
+use borrow.Author.Tests.{eq-eqb, ne-eqb, ltb-true}
 use Rattle.settings.specs.Ranges.{quorum}
-use Rattle.settings.specs.RangeLaws.{SettingsRange, and-left, and-right}
-use Rattle.settings.specs.Times.{maxCount, noUpperEnd, timeOf}
+use Rattle.settings.specs.RangeLaws.{SettingsRange, and-right}
+use Rattle.settings.specs.Times.{noUpperEnd, validTime, timeOf}
 use Rattle.settings.specs.declared.Settings.{Settings}
 use Rattle.message.specs.Flags.{member, members}
 use Rattle.message.specs.declared.Message.{Message}
@@ -17,9 +17,7 @@ use Rattle.erasure.specs.Code.{codedOf}
 use Rattle.erasure.specs.Theorems.{Stripe}
 use Rattle.settings.specs.Each.{some, some-at}
 use Rattle.coord_record.specs.Records.{noBricks}
-use Rattle.coord_record.specs.Sound.{maxRight, storedRight, readRight, writeRight, unsetOp, opRight, timeRight}
 use Rattle.coord_record.specs.SoundParts.{SoundParts}
-use Rattle.coord_record.specs.declared.Op.{Op}
 use Rattle.coord_counts.specs.Counting.{saidNo}
 use Rattle.coord_acts.specs.Acts.{roundMessage, trimMessage, nextOp, nextRound, ending, finishedSeen}
 use Rattle.coord_acts.specs.Steps.{Held, abortedSeen}
@@ -35,43 +33,8 @@ use Rattle.register.specs.Invariant.{quorums, Hist, MessageInv, ReplyInv
 use Rattle.register.specs.UpLaws.{in-cons}
 use Rattle.register.specs.TurnLaws.{time-of, turns-launched, in-broadcast, Turned}
 use Rattle.register.specs.RoundLaws.{ends, opens}
-
--- how phase and kind of a running operation go together
-pub data Fit (op : Op) : Type 0 where
-  reading : op .kind ≡ 1 → op .phase ≡ 1 → Fit op
-  looking : op .kind ≡ 1 → op .phase ≡ 3 → Fit op
-  restoring : op .kind ≡ 1 → op .phase ≡ 4 → Fit op
-  ordering : op .kind ≡ 2 → op .phase ≡ 2 → Fit op
-  storing : op .kind ≡ 2 → op .phase ≡ 4 → Fit op
-
-pub fit : (op : Op) → opRight op ≡ true → 1 ≤ op .phase → Fit op
-unfolding opRight unsetOp readRight storedRight writeRight
-fit op e l = go (eqb (op .kind) 0) (eqb (op .kind) 1) refl refl e
-  where
-    go : (a b : Bool) → eqb (op .kind) 0 ≡ a → eqb (op .kind) 1 ≡ b
-        → cond a (eqb (op .phase) 0 && eqb (op .round) 0 && eqb (op .max) 0 && eqb (op .first) 0)
-        (cond b (readRight op) (eqb (op .kind) 2 && writeRight op)) ≡ true
-        → Fit op
-    go true b ea eb q = absurd (omega (arith, eqb-true (op .phase) 0 (and-left _ _ (and-left _ _ (and-left _ _ q)))))
-    go false true ea eb q = read-phase (eqb (op .phase) 1) (eqb (op .phase) 3) refl refl q
-      where
-        read-phase : (x y : Bool) → eqb (op .phase) 1 ≡ x → eqb (op .phase) 3 ≡ y
-            → cond x (eqb (op .round) 1 && eqb (op .max) 0)
-            (cond y (leb 2 (op .round) && leb (op .round) 1000 && maxRight (op .round) (op .max))
-            (eqb (op .phase) 4 && leb 3 (op .round) && leb (op .round) 1000 && eqb (op .max) 0)) ≡ true
-            → Fit op
-        read-phase true y ex ey w = reading (eqb-true (op .kind) 1 eb) (eqb-true (op .phase) 1 ex)
-        read-phase false true ex ey w = looking (eqb-true (op .kind) 1 eb) (eqb-true (op .phase) 3 ey)
-        read-phase false false ex ey w = restoring (eqb-true (op .kind) 1 eb) (eqb-true (op .phase) 4 (and-left _ _ (and-left _ _ (and-left _ _ w))))
-    go false false ea eb q =
-        write-phase (eqb (op .phase) 2) refl (and-right (eqb (op .first) 0 && eqb (op .max) 0) _ (and-right (eqb (op .kind) 2) _ q))
-      where
-        kind : op .kind ≡ 2
-        kind = eqb-true (op .kind) 2 (and-left _ _ q)
-
-        write-phase : (x : Bool) → eqb (op .phase) 2 ≡ x → cond x (eqb (op .round) 1) (eqb (op .phase) 4 && eqb (op .round) 2) ≡ true → Fit op
-        write-phase true ex w = ordering kind (eqb-true (op .phase) 2 ex)
-        write-phase false ex w = storing kind (eqb-true (op .phase) 4 (and-left _ _ w))
+use Rattle.coord_laws.specs.OpCases.{Fit, fit}
+use Rattle.coord_laws.specs.SentLaws.{time-valid}
 
 -- what a sound record says of its operation
 pub record SoundOp (s : Settings) (k : Held) : Type 0 where
@@ -80,22 +43,14 @@ pub record SoundOp (s : Settings) (k : Held) : Type 0 where
   pub time-high : 1 ≤ k .state .op .kind → k .state .op .time < noUpperEnd
 
 pub sound-op : (s : Settings) (k : Held) → SoundParts (s .n) (s .m) (k .state) → SoundOp s k
-unfolding timeRight timeOf maxCount noUpperEnd
+unfolding validTime
 sound-op s k p =
     record {
-      fits = fit (k .state .op) (p .op-right);
+      fits = λ l. fit (k .state .op) (p .op-right) (λ _ z. omega arith);
       first-low = p .first-low;
-      time-high = λ l. time (eqb (k .state .op .kind) 0) refl (p .time-right) (p .last-low) l;
+      time-high = λ l. ltb-true (k .state .op .time) noUpperEnd
+          (and-right (leb (timeOf 1 0) (k .state .op .time)) _ (time-valid (k .state .op .kind) (k .state .op .time) (k .state .clock) (p .time-right) (λ z. omega arith) (p .number-low) (p .last-low)));
     }
-  where
-    time : (a : Bool) → eqb (k .state .op .kind) 0 ≡ a
-        → cond a (eqb (k .state .op .time) 0)
-        (leb 1 (k .state .clock .last) && eqb (k .state .op .time) (k .state .clock .last * 16 + k .state .clock .coordinator)) ≡ true
-        → k .state .clock .last ≤ 2 ^ 40 - 1 → 1 ≤ k .state .op .kind → k .state .op .time < 2 ^ 44
-    time true ea q l w = absurd (omega (arith, eqb-true (k .state .op .kind) 0 ea))
-    time false ea q l w =
-        let z = eqb-true (k .state .op .time) (k .state .clock .last * 16 + k .state .clock .coordinator) (and-right (leb 1 (k .state .clock .last)) _ q) in
-        omega (arith, p .number-low)
 
 -- tests on bricks
 pub true-T : (a : Bool) → a ≡ true → T a

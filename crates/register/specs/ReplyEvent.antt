@@ -23,6 +23,7 @@ use Rattle.coord_acts.specs.Acts.{acted, withTally, counting, waitingOr}
 use Rattle.coord_acts.specs.Steps.{Held, Went, Step, refused, went, nothingSeen}
 use Rattle.coordinator.specs.Rules.{takeStep}
 use Rattle.coord_laws.specs.RunLaws.{Took, took}
+use Rattle.coord_laws.specs.OpCases.{Fit, reading, looking, restoring, ordering, storing}
 use Rattle.order.specs.Claim.{_∈_}
 use Rattle.order.specs.Valid.{Valid}
 use Rattle.register.specs.Runs.{Item, reply, Moved, coordinated, arriving}
@@ -33,7 +34,7 @@ use Rattle.register.specs.RoundLaws.{stays}
 use Rattle.register.specs.CountLaws.{counting-keeps}
 use Rattle.register.specs.GiveLaws.{does-give}
 use Rattle.register.specs.DecisionLaws.{decided-reading, decided-ordering, decided-looking, decided-storing}
-use Rattle.register.specs.DecideLaws.{Fit, reading, looking, restoring, ordering, storing, sound-op, does-abort, does-store, does-finish}
+use Rattle.register.specs.DecideLaws.{sound-op, does-abort, does-store, does-finish}
 use Rattle.register.specs.RecoverLaws.{topOf, does-look, gone-from, does-recover}
 
 module _ (s : Settings) (g : SettingsRange s) (h : Hist s) (sent : List Item) (c : ℕ) (k : Held) (v : Valid (quorums s g) h)
@@ -46,7 +47,7 @@ module _ (s : Settings) (g : SettingsRange s) (h : Hist s) (sent : List Item) (c
   does-decide : Fit (k .state .op) → k .state .op .time < noUpperEnd
       → Turned s g h sent c (acted (s .n) (s .m) (s .size) k (decided (s .n) (s .m) (k .state .op) (k .state .tally)))
   unfolding acted turned
-  does-decide (reading kind phase) high =
+  does-decide (reading kind phase _) high =
       subst turned (sym (decided-reading (s .n) (s .m) (k .state .op) (k .state .tally) phase))
       (go (some (saidNo (k .state .tally .counted) (k .state .tally .granted)) (s .n))
       (some (otherTime (k .state .tally .counted) (k .state .tally .found) (highest (k .state .tally .counted) (k .state .tally .found) (s .n))) (s .n))
@@ -64,7 +65,7 @@ module _ (s : Settings) (g : SettingsRange s) (h : Hist s) (sent : List Item) (c
       go false true z ex ey ez = look
       go false false true ex ey ez = look
       go false false false ex ey ez = does-give s g h sent c k v i items n low enough kind phase ex ey ez
-  does-decide (looking kind phase) high =
+  does-decide (looking kind phase _ _) high =
       subst turned (sym (decided-looking (s .n) (s .m) (k .state .op) (k .state .tally) phase))
       (go (some (saidNo (k .state .tally .counted) (k .state .tally .granted)) (s .n)) (eqb (members (k .state .tally .held) (s .n)) 0)
       (leb (s .m) (count (atTimes (k .state .tally .held) (k .state .tally .found) (topOf s k)) (s .n))) (eqb (topOf s k) 0) (ltb (k .state .op .round) 1000) refl refl)
@@ -91,7 +92,7 @@ module _ (s : Settings) (g : SettingsRange s) (h : Hist s) (sent : List Item) (c
           does-look s g h sent c k v i items n (topOf s k) (λ e. omega (arith, e))
           (gone-from s g h sent c k v i items n phase ex enough
           (leb-false (s .m) (count (atTimes (k .state .tally .held) (k .state .tally .found) (topOf s k)) (s .n)) ey))
-  does-decide (restoring kind phase) high =
+  does-decide (restoring kind phase _) high =
       subst turned (sym (decided-storing (s .n) (s .m) (k .state .op) (k .state .tally) phase))
       (go (some (saidNo (k .state .tally .counted) (k .state .tally .granted)) (s .n)) refl)
     where
@@ -99,7 +100,7 @@ module _ (s : Settings) (g : SettingsRange s) (h : Hist s) (sent : List Item) (c
           → Turned s g h sent c (acted (s .n) (s .m) (s .size) k (cond x Abort Finish))
       go true e = does-abort s g h sent c k v i items n
       go false e = does-finish s g h sent c k v i items n (inl kind) phase e enough
-  does-decide (ordering kind phase) high =
+  does-decide (ordering kind phase _ _) high =
       subst turned (sym (decided-ordering (s .n) (s .m) (k .state .op) (k .state .tally) phase))
       (go (some (saidNo (k .state .tally .counted) (k .state .tally .granted)) (s .n)) refl)
     where
@@ -107,7 +108,7 @@ module _ (s : Settings) (g : SettingsRange s) (h : Hist s) (sent : List Item) (c
           → Turned s g h sent c (acted (s .n) (s .m) (s .size) k (cond x Abort Store))
       go true e = does-abort s g h sent c k v i items n
       go false e = does-store s g h sent c k v i items n kind phase e enough
-  does-decide (storing kind phase) high =
+  does-decide (storing kind phase _) high =
       subst turned (sym (decided-storing (s .n) (s .m) (k .state .op) (k .state .tally) phase))
       (go (some (saidNo (k .state .tally .counted) (k .state .tally .granted)) (s .n)) refl)
     where
@@ -147,11 +148,11 @@ reply-arrives s g h r i a block was = go (takeStep (s .n) (s .m) (s .size) k a b
         (o .time-high (kind-low f)))
       where
         kind-low : Fit (k .state .op) → 1 ≤ k .state .op .kind
-        kind-low (reading q p) = omega arith
-        kind-low (looking q p) = omega arith
-        kind-low (restoring q p) = omega arith
-        kind-low (ordering q p) = omega arith
-        kind-low (storing q p) = omega arith
+        kind-low (reading q p _) = omega arith
+        kind-low (looking q p _ _) = omega arith
+        kind-low (restoring q p _) = omega arith
+        kind-low (ordering q p _ _) = omega arith
+        kind-low (storing q p _) = omega arith
 
         busy : Fit (k .state .op) → k .state .op .kind ≡ 0 → ⊥
         busy f q = omega (arith, kind-low f)
