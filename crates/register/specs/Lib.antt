@@ -4,11 +4,10 @@
 pub mod Runs
 pub mod Theorem
 pub mod Corollaries
--- The runs are the code's; nothing that is kept is ever refused; the bench case, computed.
+-- The runs are the code's; nothing that is kept is ever refused; all definitions opened, for runs that are computed.
 pub mod Driver
 pub mod NeverRefused
 pub mod Numbered
-pub mod Bench
 pub mod Opened
 -- The invariant, and what goes on to hold under more facts and more items.
 pub mod Invariant
