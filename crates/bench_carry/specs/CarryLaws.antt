@@ -6,9 +6,8 @@ use Prim.Native.Nat.{ℕ, zero, suc, _+_, _-_, _*_, _≤_, _<_}
 use native.Mathlib.Omega.{arith}
 use native.Mathlib.Decide.{decLt}
 use native.Mathlib.Nat.{not-suc-le-zero}
-use lib.Dec.{eqb, ltb}
-use lib.ListN.{length, set, length-append}
-use lib.Seq.{getD-at}
+use lib.Dec.{eqb}
+use lib.ListN.{length, length-append}
 use borrow.Author.Tests.{lt-ltb, le-ltb}
 use Rattle.settings.specs.declared.Settings.{Settings}
 use Rattle.bench_commit.specs.AnswerLaws.{Seats}
@@ -17,17 +16,17 @@ use Rattle.bench_line.specs.Lines.{numbersOf}
 use Rattle.bench_line.specs.Meaning.{wordsFrom, CarryFrom, NumberAt}
 use Rattle.bench_line.specs.declared.Number.{Number}
 use Rattle.bench_play.specs.Play.{Played, refuses, passes, happens, switches, carries, carriesAt, carried, andThen, carriedAll}
-use Rattle.bench_play.specs.Turning.{Lent, lent, worldIn, Ready, Turned}
+use Rattle.bench_play.specs.Turning.{Lent, worldIn, Ready, Turned}
 use Rattle.bench_play.specs.declared.After.{After}
 use Rattle.bench_print.specs.Printing.{written}
 use Rattle.bench_print.specs.WrittenLaws.{written-nothing, written-both}
 use Rattle.bench_sent.specs.RunLaws.{items-length}
 use Rattle.bench_sent.specs.Sent.{itemsOf, itemAt}
 use Rattle.bench_state.specs.RangeLaws.{Fits}
-use Rattle.bench_state.specs.State.{worldOf, upOf, withUp}
+use Rattle.bench_state.specs.State.{worldOf, withUp}
 use Rattle.bench_state.specs.StateLaws.{up-put}
 use Rattle.bench_state.specs.declared.Bench.{Bench}
-use Rattle.register.specs.Runs.{Item, World, Event, goesDown, comesUp, step, standing, putAt}
+use Rattle.register.specs.Runs.{Item, World, Event, goesDown, comesUp, step, standing}
 
 -- a line or a part of one at the beginning of the printed text
 pub record Lined (b : Bench) (l : Lent) (out : List ℕ) (p : Played) (r : After) (l′ : Lent) (out′ : List ℕ) : Type 0 where

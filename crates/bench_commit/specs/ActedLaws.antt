@@ -1,10 +1,10 @@
 -- An event at a coordinator, by the copies that the routine worked on.
 use mathlib.Core.Path.{_≡_, refl, sym, ap, subst, _∙_}
 use mathlib.Core.Bool.{Bool, true, false, cond, not, _&&_}
-use mathlib.Core.List.{List, [], _∷_}
+use mathlib.Core.List.{List, []}
 use Prim.Native.Nat.{ℕ, _+_, _*_, _%_, _≤_, _<_}
 use native.Mathlib.Omega.{arith}
-use lib.Dec.{eqb, ltb}
+use lib.Dec.{eqb}
 use lib.ListN.{length, getD, take, drop}
 use borrow.Author.Tests.{lt-ltb, le-ltb, eqb-true}
 use Rattle.settings.specs.RangeLaws.{and-left, and-right}
@@ -19,7 +19,7 @@ use Rattle.coordinator.specs.Rules.{takeStep, crashStep, writeStep, readStep}
 use Rattle.register.specs.Driver.{Short, left-untouched, write-short, read-short, crash-short, take-short}
 use Rattle.register.specs.Runs.{Item, World, untouched, Event, startWrite, startRead, arrives, crashes, reply, step, coordinated, arriving}
 use Rattle.bench_sent.specs.RunLaws.{arrives-item}
-use Rattle.bench_sent.specs.Sent.{itemsOf, itemAt, isReply, replyAt, blockAt}
+use Rattle.bench_sent.specs.Sent.{itemAt, isReply, replyAt, blockAt}
 use Rattle.bench_sent.specs.SentLaws.{item-reply}
 use Rattle.bench_state.specs.State.{worldOf, heldAt, idleAt}
 use Rattle.bench_state.specs.declared.Bench.{Bench}

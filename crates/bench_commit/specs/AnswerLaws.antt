@@ -7,15 +7,13 @@ use native.Mathlib.Omega.{arith}
 use lib.Dec.{eqb, leb}
 use lib.ListN.{length, set, take, replicate, length-append, length-replicate, getD-replicate}
 use lib.Seq.{ext-getD, length-take-le, getD-take}
-use borrow.Author.Tests.{eq-eqb, ne-eqb, le-leb, lt-leb, eqb-true}
+use borrow.Author.Tests.{eq-eqb, ne-eqb, le-leb, lt-leb}
 use Rattle.settings.specs.declared.Settings.{Settings}
 use Rattle.message.specs.declared.Message.{Message}
-use Rattle.coord_record.specs.declared.Coordinator.{Coordinator}
 use Rattle.coord_acts.specs.Steps.{Held, Broadcast, Step, refused, went, answerOf, blocksAfter, stripeAfter, codedAfter}
 use Rattle.coord_acts.specs.declared.Answer.{Answer}
-use Rattle.coord_acts.specs.declared.Seen.{Seen}
 use Rattle.register.specs.Driver.{driven, Short, coordinated-is-driven}
-use Rattle.register.specs.Runs.{Item, World, Event, Moved, step, coordinated, toAll, putAt}
+use Rattle.register.specs.Runs.{Item, World, Event, Moved, step, coordinated, toAll}
 use Rattle.bench_print.specs.Printing.{endedText, written}
 use Rattle.bench_sent.specs.RunLaws.{items-length}
 use Rattle.bench_sent.specs.Sent.{itemsOf, Sends}
@@ -23,7 +21,7 @@ use Rattle.bench_state.specs.RangeLaws.{Fits}
 use Rattle.bench_state.specs.State.{worldOf, heldAt, withCoordinator, keptWith}
 use Rattle.bench_state.specs.StateLaws.{held-put}
 use Rattle.bench_state.specs.declared.Bench.{Bench}
-use Rattle.bench_play.specs.Play.{Played, refuses, happens, acts}
+use Rattle.bench_play.specs.Play.{refuses, happens, acts}
 use Rattle.bench_play.specs.Turning.{Lent, lent, worldIn, Turned}
 use Rattle.bench_play.specs.declared.After.{After}
 use Rattle.bench_commit.specs.Answers.{answered, sentAfter}

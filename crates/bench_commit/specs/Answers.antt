@@ -1,5 +1,5 @@
 -- What the answer of a coordinator's routine does on the bench, as the runs' driver makes it.
-use mathlib.Core.Bool.{Bool, cond}
+use mathlib.Core.Bool.{cond}
 use mathlib.Core.List.{List, [], _∷_}
 use Prim.Native.Nat.{ℕ, _+_}
 use lib.Dec.{eqb, leb}

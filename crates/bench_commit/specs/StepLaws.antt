@@ -1,11 +1,10 @@
 -- What the four steps of a coordinator keep, and that their refusals have numbers.
-use mathlib.Core.Path.{_≡_, refl, sym, ap, subst, _∙_}
+use mathlib.Core.Path.{_≡_, refl}
 use mathlib.Core.Bool.{Bool, true, false, cond}
-use mathlib.Core.List.{List, [], _∷_}
-use Prim.Native.Nat.{ℕ, _*_}
+use mathlib.Core.List.{List, []}
+use Prim.Native.Nat.{ℕ}
 use native.Mathlib.Omega.{arith}
 use lib.Dec.{eqb, leb}
-use lib.ListN.{length}
 use borrow.Author.Tests.{leb-false}
 use Rattle.settings.specs.Times.{drawRefusal, drawOf, timeOf, nextCount, advanced}
 use Rattle.settings.specs.declared.Clock.{Clock}

@@ -1,16 +1,13 @@
 -- A line that has not ended: its first 1,001 bytes are enough.
-use mathlib.Core.Path.{_≡_, refl, sym, ap, subst, _∙_}
-use mathlib.Core.Bool.{Bool, true, false, cond}
+use mathlib.Core.Path.{_≡_, refl, sym, ap, _∙_}
 use mathlib.Core.List.{List, [], _∷_, _++_}
 use Prim.Native.Nat.{ℕ, zero, suc, _+_, _≤_, _<_}
 use native.Mathlib.Omega.{arith}
 use native.Mathlib.Decide.{decLe}
-use native.Mathlib.Numerals.{add-one}
-use lib.Dec.{leb}
-use lib.ListN.{length, set, take, drop, length-append, length-set}
-use lib.Seq.{take-all, take-at, length-take-le, take-append-le}
-use borrow.Author.Tests.{lt-leb, le-leb}
-use Rattle.bench_line.specs.Lines.{Line, noLine, words, readsWords, reads}
+use lib.ListN.{length, set, take, length-append}
+use lib.Seq.{take-all, take-at, length-take-le}
+use borrow.Author.Tests.{lt-leb}
+use Rattle.bench_line.specs.Lines.{reads}
 
 -- a line of which 1,001 bytes are kept reads as the whole
 pub reads-held : (l : List ℕ) → reads (take 1001 l) ≡ reads l

@@ -2,7 +2,7 @@
 use mathlib.Core.Path.{_≡_, refl, sym, ap, subst, _∙_}
 use mathlib.Core.Bool.{Bool, true, false, cond, _&&_, _||_}
 use mathlib.Core.List.{List, [], _∷_}
-use Prim.Native.Nat.{ℕ, zero, suc, _+_, _≤_, _<_}
+use Prim.Native.Nat.{ℕ, _≤_, _<_}
 use native.Mathlib.Omega.{arith}
 use lib.Dec.{eqb, leb}
 use lib.ListN.{length}
@@ -11,12 +11,11 @@ use Rattle.settings.specs.RangeLaws.{and-left, and-right}
 use Rattle.settings.specs.Refusal.{refuseUnless, firstRefusal}
 use Rattle.settings.specs.declared.Settings.{Settings}
 use Rattle.bench_line.specs.Lines.{reads}
-use Rattle.bench_play.specs.Play.{Stage, waiting, playing, Turn, first, turn, plays}
+use Rattle.bench_play.specs.Play.{waiting, playing, Turn, turn, plays}
 use Rattle.bench_play.specs.Turning.{Lent, lent, worldIn, Ready}
 use Rattle.bench_play.specs.declared.After.{After}
-use Rattle.bench_print.specs.Printing.{written}
 use Rattle.bench_print.specs.WrittenLaws.{written-nothing}
-use Rattle.bench_state.specs.RangeLaws.{Fits, bench-fits}
+use Rattle.bench_state.specs.RangeLaws.{bench-fits}
 use Rattle.bench_state.specs.State.{benchRange, benchRefusal, freshBench}
 use Rattle.bench_state.specs.declared.Bench.{Bench}
 use Rattle.bench_carry.specs.CarryLaws.{Lined}

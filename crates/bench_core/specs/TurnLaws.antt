@@ -1,46 +1,27 @@
 -- The ways through a line.
 use mathlib.Core.Path.{_≡_, refl, sym, ap, subst, _∙_}
-use mathlib.Core.Bool.{Bool, true, false, cond, _&&_, _||_}
-use mathlib.Core.List.{List, [], _∷_}
-use Prim.Native.Nat.{ℕ, zero, suc, _+_, _≤_, _<_}
+use mathlib.Core.Bool.{Bool, true, false, cond, _||_}
+use mathlib.Core.List.{List, []}
+use Prim.Native.Nat.{ℕ, _≤_}
 use native.Mathlib.Omega.{arith}
-use lib.Dec.{eqb, leb, ltb}
-use lib.ListN.{length, drop}
-use borrow.Author.Tests.{eq-eqb, ne-eqb, le-leb, lt-leb, leb-true, eqb-true}
-use Rattle.settings.specs.RangeLaws.{and-left, and-right}
-use Rattle.settings.specs.Refusal.{refuseUnless, firstRefusal}
+use lib.Dec.{eqb}
+use lib.ListN.{length}
+use borrow.Author.Tests.{eq-eqb, ne-eqb}
+use Rattle.settings.specs.Refusal.{refuseUnless}
 use Rattle.settings.specs.declared.Settings.{Settings}
-use Rattle.bench_line.specs.Lines.{Line, setLine, writeLine, readLine, carryLine, crashLine, downLine, upLine, noLine, numbersOf, reads}
-use Rattle.bench_line.specs.Meaning.{wordsFrom}
-use Rattle.bench_play.specs.Play.{
-  Played,
-  refuses,
-  writes,
-  starts,
-  crashesAt,
-  switches,
-  carriedAll,
-  plays,
-  Stage,
-  waiting,
-  playing,
-  Turn,
-  waits,
-  begins,
-  first,
-  turn,
-}
-use Rattle.bench_play.specs.Turning.{Lent, lent, worldIn, Ready, Turned}
+use Rattle.bench_line.specs.Lines.{Line, setLine, writeLine, readLine, carryLine, crashLine, downLine, upLine, noLine}
+use Rattle.bench_play.specs.Play.{Played, refuses, writes, starts, crashesAt, switches, carriedAll, plays, playing, Turn, waits, begins, first, turn}
+use Rattle.bench_play.specs.Turning.{Lent, lent, worldIn, Turned}
 use Rattle.bench_play.specs.declared.After.{After}
-use Rattle.bench_print.specs.Printing.{refusedText, written}
+use Rattle.bench_print.specs.Printing.{written}
 use Rattle.bench_print.specs.WrittenLaws.{written-nothing}
 use Rattle.bench_sent.specs.Sent.{itemsOf}
 use Rattle.bench_state.specs.RangeLaws.{Fits, bench-fits}
 use Rattle.bench_state.specs.State.{benchRange, benchRefusal, worldOf, freshBench}
 use Rattle.bench_state.specs.declared.Bench.{Bench}
-use Rattle.register.specs.Runs.{World, goesDown, comesUp, fresh}
+use Rattle.register.specs.Runs.{goesDown, comesUp, fresh}
 use Rattle.bench_carry.specs.CarryLaws.{Lined, turned-lined}
-use Rattle.bench_core.specs.Lining.{stageOf, lengthsRight, benchRefused, heard}
+use Rattle.bench_core.specs.Lining.{stageOf}
 
 -- a line after an accepted set, by what it says
 module _ (b : Bench) (l l′ : Lent) (out out′ : List ℕ) (r : After) (said : Line) where

@@ -1,14 +1,12 @@
 -- Why a script is what the code plays: whoever calls bench_core's routine for each line of an input, one after the other on what the call
 -- before left, and prints the bytes that each call says it used, prints the script's text and has the script's stage.
-use mathlib.Core.Path.{_≡_, refl, sym, ap, ap₂, _∙_}
+use mathlib.Core.Path.{_≡_, refl, ap, ap₂, _∙_}
 use mathlib.Core.List.{List, [], _∷_, _++_}
-use Prim.Native.Nat.{ℕ, _+_, _≤_}
+use Prim.Native.Nat.{ℕ, _+_}
 use native.Mathlib.Omega.{arith}
-use lib.Dec.{eqb}
 use lib.ListN.{length, take}
 use borrow.Author.Tests.{eq-eqb}
 use Rattle.bench_line.specs.Lines.{reads}
-use Rattle.bench_print.specs.Printing.{written}
 use Rattle.bench_print.specs.WrittenLaws.{written-front}
 use Rattle.bench_play.specs.Play.{Stage, waiting, Turn, turn}
 use Rattle.bench_play.specs.Turning.{Lent}

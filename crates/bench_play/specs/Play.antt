@@ -1,5 +1,5 @@
 -- Document 01, "The bench": what a line does to the set, and what it prints. A line's events are played by the runs' own `step`.
-use mathlib.Core.Bool.{Bool, true, false, cond, _&&_, _||_}
+use mathlib.Core.Bool.{Bool, cond, _||_}
 use mathlib.Core.List.{List, [], _∷_, _++_}
 use Prim.Native.Nat.{ℕ, zero, suc, _*_, _%_}
 use lib.Dec.{eqb, leb, ltb}
@@ -15,19 +15,7 @@ use Rattle.coord_acts.specs.Steps.{Step, refused, went}
 use Rattle.coordinator.specs.Rules.{takeStep, crashStep, writeStep, readStep}
 use Rattle.register.specs.Runs.{Item, message, reply, World, untouched, Event, startWrite, startRead, arrives, crashes, goesDown, comesUp, fresh, step}
 use Rattle.bench_state.specs.State.{benchRange}
-use Rattle.bench_line.specs.Lines.{
-  Line,
-  setLine,
-  writeLine,
-  readLine,
-  carryLine,
-  crashLine,
-  downLine,
-  upLine,
-  noLine,
-  bytesOf,
-  reads,
-}
+use Rattle.bench_line.specs.Lines.{Line, setLine, writeLine, readLine, carryLine, crashLine, downLine, upLine, noLine}
 use Rattle.bench_print.specs.Printing.{refusedText, endedText}
 use Rattle.bench_play.specs.Content.{counted, content, content-small}
 

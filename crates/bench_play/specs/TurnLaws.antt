@@ -1,5 +1,5 @@
 -- The short ways: one refusal, or nothing.
-use mathlib.Core.Path.{_≡_, refl, sym, ap, _∙_}
+use mathlib.Core.Path.{_≡_, refl, sym}
 use mathlib.Core.List.{List, []}
 use Prim.Native.Nat.{ℕ, _+_, _≤_}
 use native.Mathlib.Omega.{arith}
@@ -7,9 +7,8 @@ use lib.ListN.{length}
 use Rattle.bench_print.specs.Printing.{refusedText, written}
 use Rattle.bench_print.specs.WrittenLaws.{written-nothing}
 use Rattle.bench_state.specs.declared.Bench.{Bench}
-use Rattle.bench_play.specs.Play.{Played, refuses, passes}
+use Rattle.bench_play.specs.Play.{refuses, passes}
 use Rattle.bench_play.specs.Turning.{Lent, worldIn, Turned}
-use Rattle.bench_play.specs.declared.After.{After}
 
 -- one refusal
 pub turned-refused : (b : Bench) (l : Lent) (at number used : ℕ) (out out′ : List ℕ) → b .sent ≤ 127 → used ≡ at + length (refusedText number)

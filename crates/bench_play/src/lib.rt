@@ -1,5 +1,4 @@
 // The bench's turns (document 01, "The bench"): the answer of a part of a line, and the short ways: one refusal, or nothing.
-ghost use mathlib.Core.Path.{_≡_};
 ghost use Prim.Native.Nat.{_+_, _≤_};
 ghost use lib.ListN.{length};
 ghost use Rattle.bench_play.specs.Play.{refuses};

@@ -1,6 +1,5 @@
--- What the bench prints. Definitions: Printing. Laws: WrittenLaws, TextLaws, LineLaws, PrintLaws.
+-- What the bench prints. Definitions: Printing.
 pub mod LineLaws
 pub mod Printing
-pub mod PrintLaws
 pub mod TextLaws
 pub mod WrittenLaws

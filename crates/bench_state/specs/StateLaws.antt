@@ -1,26 +1,24 @@
 -- The world after a set began, and after one coordinator, image or flag has changed.
 use mathlib.Core.Path.{_≡_, refl, sym, ap, ap₂, fun-ext, _∙_}
-use mathlib.Core.Bool.{Bool, true, false, cond}
+use mathlib.Core.Bool.{Bool, true, cond}
 use mathlib.Core.List.{List, [], _∷_}
 use mathlib.Core.Logic.{_⊎_, inl, inr}
-use Prim.Native.Nat.{ℕ, zero, suc, _+_, _-_, _*_, _≤_, _<_}
+use Prim.Native.Nat.{ℕ, zero, suc, _+_, _*_, _≤_, _<_}
 use native.Mathlib.Omega.{arith}
 use native.Mathlib.Decide.{ℕ-discrete, decLt}
-use native.Mathlib.Nat.{mul-le-mul-right, mul-le-mul, suc-mul}
-use lib.Dec.{eqb, leb, ltb}
-use lib.ListN.{length, getD, set, take, drop, replicate, getD-replicate, length-replicate, length-drop, length-set}
+use lib.Dec.{eqb}
+use lib.ListN.{length, getD, set, take, drop, replicate, getD-replicate, length-replicate, length-drop}
 use lib.Seq.{ext-getD, length-take-le, getD-take, getD-drop, getD-set-same, getD-set-other}
-use borrow.Author.Tests.{eq-eqb, ne-eqb, lt-ltb, le-ltb, ltb-true, ltb-false}
+use borrow.Author.Tests.{eq-eqb, ne-eqb, lt-ltb, le-ltb}
 use Rattle.settings.specs.declared.Settings.{Settings}
 use Rattle.image.specs.Brick
 use Rattle.image.specs.Image.{imageOf, imageSize}
 use Rattle.coord_record.specs.declared.Coordinator.{Coordinator}
 use Rattle.coord_acts.specs.Steps.{Held}
-use Rattle.register.specs.Runs.{Item, World, idle, fresh, putAt}
+use Rattle.register.specs.Runs.{World, idle, fresh, putAt}
 use Rattle.block.specs.Block.{put}
 use Rattle.block.specs.PutLaws.{put-length, put-in, put-before, put-behind}
-use Rattle.bench_state.specs.State.{imagesOf, upOf, idleAt, heldAt, worldOf, freshBench, withCoordinator, withUp, keptWith}
-use Rattle.bench_state.specs.declared.Bench.{Bench}
+use Rattle.bench_state.specs.State.{imagesOf, upOf, idleAt, heldAt, worldOf, freshBench, keptWith}
 
 -- a part of a list of zeros is zeros
 zero-part : (at k n : ℕ) → at + k ≤ n → take {A = ℕ} k (drop at (replicate n 0)) ≡ replicate k 0

@@ -2,8 +2,8 @@
 // in lent buffers.
 ghost use mathlib.Core.Path.{_≡_};
 ghost use mathlib.Core.Bool.{true};
-ghost use mathlib.Core.List.{List, []};
-ghost use Prim.Native.Nat.{ℕ, _+_, _*_, _≤_, _<_};
+ghost use mathlib.Core.List.{[]};
+ghost use Prim.Native.Nat.{_+_, _*_, _≤_, _<_};
 ghost use lib.ListN.{length, getD, take, drop, replicate};
 ghost use Rattle.bench_state.specs.State.{idleAt, freshBench, withCoordinator, withSent, withUp, keptWith, benchRefusal, worldOf};
 ghost use Rattle.bench_state.specs.StateLaws.{Small};

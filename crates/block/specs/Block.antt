@@ -1,7 +1,7 @@
 -- Document 01, "The saved brick": one block of 512 bytes. After the check, at bytes 0 and 1, come its 510 other bytes, its body.
 use mathlib.Core.Bool.{Bool, true, false, _&&_}
 use mathlib.Core.List.{List, [], _∷_, _++_}
-use Prim.Native.Nat.{ℕ, zero, suc, _+_, _-_, _*_, _%_}
+use Prim.Native.Nat.{ℕ, suc, _+_, _-_, _*_, _%_}
 use lib.Dec.{eqb}
 use lib.ListN.{length, take, drop, replicate}
 use Rattle.little.specs.Little.{little}

@@ -1,19 +1,19 @@
 -- Document 01: "A one-byte change in any block is refused." A block whose check holds has none that holds after a change of one byte.
-use mathlib.Core.Path.{_≡_, refl, sym, ap, ap₂, subst, _∙_}
+use mathlib.Core.Path.{_≡_, refl, sym, ap, subst, _∙_}
 use mathlib.Core.Bool.{Bool, true, false, _&&_, not}
-use mathlib.Core.List.{List, [], _∷_, _++_}
+use mathlib.Core.List.{List, [], _∷_}
 use Prim.Native.Nat.{ℕ, zero, suc, _+_, _-_, _*_, _%_, _≤_, _<_}
 use native.Mathlib.Omega.{arith}
 use native.Mathlib.Decide.{decLt, ℕ-discrete}
 use native.Mathlib.Nat.{mul-le-mul, mul-mod-left, mul-add, add-zero}
 use lib.Dec.{eqb}
-use lib.ListN.{length, take, drop, getD, set}
+use lib.ListN.{length, getD, set}
 use lib.Arith.{lt-of-le-ne}
-use borrow.Author.Tests.{eq-eqb, ne-eqb, eqb-true, not-true, eqb-false}
+use borrow.Author.Tests.{not-true, eqb-false}
 use Rattle.little.specs.Little.{little, number}
 use Rattle.little.specs.LittleLaws.{Bytes, number-little, limit-2}
 use Rattle.settings.specs.RangeLaws.{and-left, and-right}
-use Rattle.block.specs.Block.{weighted, checkOf, checked, same}
+use Rattle.block.specs.Block.{weighted, checkOf, checked}
 use Rattle.block.specs.SameLaws.{same-true, unsame}
 use Rattle.block.specs.CheckLaws.{check-high}
 

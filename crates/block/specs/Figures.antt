@@ -1,6 +1,6 @@
 -- Document 01, "Figures to hold it to": the checks of a fresh head and its entry, for n 3, m 1, brick 0, capacity 4, size 1.
 use mathlib.Core.Path.{_≡_, refl}
-use mathlib.Core.List.{[], _∷_, _++_}
+use mathlib.Core.List.{[], _∷_}
 use Rattle.little.specs.Little.{little, byteOf}
 use Rattle.block.specs.Block.{weighted, checkOf, sealed, zeros, headKind, headBody, entryKind, entryBody, unusedKind, unusedBody, unusedBlock}
 

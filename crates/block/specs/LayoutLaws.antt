@@ -1,14 +1,14 @@
 -- Each kind of block has 512 bytes, and its fields are read back from it.
-use mathlib.Core.Path.{_≡_, refl, sym, ap, subst, _∙_}
-use mathlib.Core.List.{List, [], _∷_, _++_}
-use Prim.Native.Nat.{ℕ, zero, suc, _+_, _-_, _^_, _≤_, _<_}
+use mathlib.Core.Path.{_≡_, sym, ap, subst, _∙_}
+use mathlib.Core.List.{List, []}
+use Prim.Native.Nat.{ℕ, _+_, _-_, _^_, _≤_, _<_}
 use native.Mathlib.Omega.{arith}
 use lib.ListN.{length, take, drop, length-append}
 use lib.Seq.{take-at}
 use Rattle.little.specs.Little.{little, number}
 use Rattle.little.specs.LittleLaws.{number-little, limit-2, limit-8}
 use Rattle.settings.specs.declared.Settings.{Settings}
-use Rattle.block.specs.Block.{sealed, checkOf, zeros, headKind, headBody, headBlock, entryKind, entryBody, entryBlock, unusedKind, unusedBody, unusedBlock}
+use Rattle.block.specs.Block.{sealed, zeros, headBody, headBlock, entryBody, entryBlock, unusedBody, unusedBlock}
 use Rattle.block.specs.CheckLaws.{sealed-length}
 use Rattle.block.specs.StoreLaws.{zeros-length}
 

@@ -1,15 +1,15 @@
 -- The stores that make a block, as the lists that they leave.
-use mathlib.Core.Path.{_≡_, refl, sym, ap, ap₂, subst, _∙_}
+use mathlib.Core.Path.{_≡_, sym, ap, _∙_}
 use mathlib.Core.List.{List, [], _∷_, _++_}
-use Prim.Native.Nat.{ℕ, zero, suc, _+_, _-_, _*_, _/_, _%_, _≤_, _<_}
+use Prim.Native.Nat.{ℕ, _+_, _-_, _/_, _≤_, _<_}
 use native.Mathlib.Omega.{arith}
-use lib.ListN.{length, take, drop, getD, set, replicate, length-replicate, replicate-append-replicate}
+use lib.ListN.{length, take, drop, getD, set, length-replicate, replicate-append-replicate}
 use lib.Seq.{take-at, drop-at, take-length, paste, paste-zero, paste-suc, length-paste}
 use native.Mathlib.Numerals.{add-one}
-use Rattle.little.specs.Little.{little, byteOf}
+use Rattle.little.specs.Little.{byteOf}
 use Rattle.little.specs.LittleLaws.{little-2, little-8}
 use Rattle.settings.specs.declared.Settings.{Settings}
-use Rattle.block.specs.Block.{weighted, checkOf, sealed, unchecked, zeros, headKind, headBody, entryKind, entryBody, put}
+use Rattle.block.specs.Block.{checkOf, sealed, unchecked, zeros, headKind, headBody, entryKind, entryBody, put}
 
 pub head-stored : (s : Settings) (brick count promise z0 z1 c0 c1 p0 p1 p2 p3 p4 p5 p6 p7 : ℕ)
     → z0 ≡ byteOf (s .size) → z1 ≡ byteOf (s .size / 256)

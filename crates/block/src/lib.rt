@@ -1,11 +1,11 @@
 // The 512-byte block of a saved brick (document 01, "The saved brick").
 ghost use mathlib.Core.Path.{_≡_};
 ghost use mathlib.Core.List.{_++_};
-ghost use Prim.Native.Nat.{_+_, _-_, _≤_, _<_, _^_};
-ghost use lib.ListN.{length, take, drop};
+ghost use Prim.Native.Nat.{_+_, _-_, _≤_, _<_};
+ghost use lib.ListN.{length, drop};
 ghost use Rattle.settings.specs.RangeLaws.{SettingsRange};
 ghost use Rattle.block.specs.RowLaws.{total};
-ghost use Rattle.block.specs.Block.{weighted, checkOf, checked, sealed, unchecked, headBody, headBlock, entryBody, entryBlock, unusedBody, unusedBlock, zeros, same, put};
+ghost use Rattle.block.specs.Block.{weighted, checkOf, checked, sealed, unchecked, headBody, headBlock, entryBody, entryBlock, unusedBlock, zeros, same, put};
 use little::byte;
 use little::read2;
 use settings::Settings;

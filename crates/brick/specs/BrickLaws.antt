@@ -6,9 +6,9 @@ use Prim.Native.Nat.{ℕ, zero, suc, _+_, _-_, _≤_, _<_}
 use native.Mathlib.Omega.{arith}
 use native.Mathlib.Decide.{ℕ-discrete, decLt}
 use lib.Arith.{lt-of-le-ne}
-use lib.Dec.{leb, ltb, eqb}
+use lib.Dec.{ltb, eqb}
 use lib.ListN.{length, getD}
-use borrow.Author.Tests.{lt-ltb, le-ltb, ltb-true, ltb-false, leb-true, eq-eqb, ne-eqb, eqb-true, eqb-false}
+use borrow.Author.Tests.{lt-ltb, le-ltb, ltb-true, ltb-false, leb-true, eq-eqb, ne-eqb}
 use Rattle.settings.specs.RangeLaws.{and-left, and-right}
 use Rattle.settings.specs.Times.{validTime}
 use Rattle.settings.specs.declared.Settings.{Settings}
@@ -25,7 +25,7 @@ use Rattle.image.specs.Opening.{workingLog, blank}
 use borrow.Author.Count.{below-more}
 use Rattle.brick_plan.specs.LookLaws.{Cut, cut-at, cut-last}
 use Rattle.saving.specs.StepLaws.{without-count, without-time, without-held, appended-count, appended-time-old, appended-held-old, appended-time-new, appended-held-new}
-use Rattle.brick_plan.specs.Steps.{aboveNewest, notBelowPromise, hasFree, readYes, orderYes, writeYes, ordered, written, trimmed, trimmedTo, under, lookup, yesTo, after}
+use Rattle.brick_plan.specs.Steps.{aboveNewest, notBelowPromise, hasFree, orderYes, writeYes, ordered, written, trimmed, trimmedTo, under, lookup, yesTo, after}
 use Rattle.brick.specs.TrimLaws.{rises-next, rises-add, cut-trims}
 
 -- the brick after a message, by its kind

@@ -11,7 +11,7 @@ use Rattle.settings.specs.declared.Settings.{Settings}
 use Rattle.settings.specs.RefusalLaws.{passed-first, passed-rest}
 use Rattle.message.specs.Kinds.{trimKind}
 use Rattle.message.specs.declared.Message.{Message}
-use Rattle.image.specs.Parse.{Parsed, Opens, Refuses, brickIn, parse, openRefusal}
+use Rattle.image.specs.Parse.{Parsed, Opens, brickIn, parse, openRefusal}
 use Rattle.image.specs.ParseLaws.{parse-opens}
 use Rattle.image.specs.Brick.{Brick}
 use Rattle.brick_plan.specs.Steps.{replyTo}

@@ -16,11 +16,10 @@ use Rattle.settings.specs.RefusalLaws.{first-stop, first-pass}
 use Rattle.message.specs.Flags.{member}
 use Rattle.message.specs.Messages.{messageRefusal}
 use Rattle.message.specs.declared.Message.{Message}
-use Rattle.message.specs.declared.Reply.{Reply}
 use Rattle.image.specs.Brick.{Brick, count, timeAt, heldAt, newest}
-use Rattle.image.specs.Image.{imageOf, imageSize}
-use Rattle.image.specs.Parse.{Parsed, Opens, Refuses, parse, openRefusal, blockAt, countIn, brickIn, heldIn}
-use Rattle.image.specs.ParseLaws.{Opened, opened, count-in}
+use Rattle.image.specs.Image.{imageOf}
+use Rattle.image.specs.Parse.{Opens, Refuses, parse, openRefusal, blockAt, countIn, brickIn, heldIn}
+use Rattle.image.specs.ParseLaws.{Opened, count-in}
 use Rattle.image.specs.TestLaws.{held-in}
 use Rattle.image.specs.Opening.{workingLog, opening, answerNumber, blank}
 use Rattle.image.specs.HubLaws.{Hub, turned, log-at}

@@ -1,5 +1,5 @@
 -- One message at one brick: the answer, the image and the reply's buffer afterwards, refused calls included.
-use mathlib.Core.Bool.{Bool, cond}
+use mathlib.Core.Bool.{cond}
 use mathlib.Core.List.{List, [], _∷_}
 use Prim.Native.Nat.{ℕ}
 use lib.Dec.{eqb}

@@ -1,19 +1,19 @@
 -- The ways through the steps of a brick, at its image.
 use mathlib.Core.Path.{_≡_, refl, sym, ap, ap₂, subst, _∙_}
-use mathlib.Core.Bool.{Bool, true, false, cond, _&&_}
-use mathlib.Core.List.{List, [], _∷_}
-use Prim.Native.Nat.{ℕ, zero, suc, _+_, _-_, _*_, _≤_, _<_}
+use mathlib.Core.Bool.{Bool, true, false, _&&_}
+use mathlib.Core.List.{List, []}
+use Prim.Native.Nat.{ℕ, _+_, _-_, _*_, _≤_, _<_}
 use native.Mathlib.Omega.{arith}
-use lib.Dec.{leb, ltb, eqb}
-use lib.ListN.{length, take, drop}
+use lib.Dec.{leb, ltb}
+use lib.ListN.{length, drop}
 use borrow.Author.Tests.{lt-ltb, le-ltb, eq-eqb, ne-eqb}
 use Rattle.message.specs.declared.Message.{Message}
 use Rattle.settings.specs.declared.Settings.{Settings}
 use Rattle.block.specs.Block.{put, headBlock, entryBlock}
-use Rattle.image.specs.Brick.{Brick, count, timeAt, heldAt, newest}
-use Rattle.image.specs.Image.{imageOf, imageSize}
+use Rattle.image.specs.Brick.{Brick, count}
+use Rattle.image.specs.Image.{imageOf}
 use Rattle.image.specs.Parse.{brickIn}
-use Rattle.saving.specs.Saving.{promised, appended, without}
+use Rattle.saving.specs.Saving.{without}
 use Rattle.saving.specs.BlocksLaws.{Blocks, shiftedOf, clearedOf}
 use Rattle.saving.specs.StepLaws.{promise-written, append-written, without-written}
 use Rattle.brick_plan.specs.Steps.{aboveNewest, notBelowPromise, hasFree, readYes, orderYes, writeYes, ordered, written, yesTo, after}

@@ -1,14 +1,14 @@
 -- What the working log shows of the brick: the newest time, the lookup, the cut of a Trim.
-use mathlib.Core.Path.{_≡_, refl, sym, ap, ap₂, subst, _∙_}
+use mathlib.Core.Path.{_≡_, refl, sym, ap, ap₂, _∙_}
 use mathlib.Core.Bool.{Bool, true, false, cond, _&&_}
-use mathlib.Core.List.{List, [], _∷_, _++_, append-nil}
+use mathlib.Core.List.{List, [], _++_, append-nil}
 use Prim.Native.Nat.{ℕ, zero, suc, _+_, _-_, _*_, _≤_, _<_}
 use native.Mathlib.Omega.{arith}
 use native.Mathlib.Numerals.{add-one}
 use lib.Dec.{leb, ltb, eqb}
 use lib.ListN.{length, take, drop, getD, length-take, length-drop, drop-of-length-le}
-use borrow.Author.Tests.{lt-ltb, le-ltb, le-leb, lt-leb, eq-eqb, ne-eqb}
-use Rattle.image.specs.Brick.{Brick, LogEntry, count, timeAt, heldAt, newest}
+use borrow.Author.Tests.{lt-ltb, le-ltb, le-leb, eq-eqb, ne-eqb}
+use Rattle.image.specs.Brick.{Brick, count, timeAt, newest}
 use Rattle.image.specs.Parse.{brickIn}
 use Rattle.image.specs.ParseLaws.{Opened}
 use Rattle.settings.specs.declared.Settings.{Settings}
@@ -18,7 +18,7 @@ use Rattle.image.specs.declared.Entry.{Entry}
 use Rattle.block.specs.Block.{put}
 use Rattle.message.specs.Flags.{member}
 use Rattle.message.specs.declared.Message.{Message}
-use Rattle.brick_plan.specs.Steps.{under, lookup, timeFor, placeFor, foundFor, trimmedTo}
+use Rattle.brick_plan.specs.Steps.{under, timeFor, placeFor, foundFor, trimmedTo}
 use Rattle.saving.specs.Saving.{without}
 use Rattle.brick_plan.specs.declared.Known.{Known}
 use Rattle.brick_plan.specs.declared.Plan.{Plan}
@@ -151,26 +151,6 @@ pub record Planned (log : List Entry) (k : Known) (msg : Message) (brick : ℕ) 
   pub looks : msg .kind ≡ 3 → (p .place ≡ placeOf log (underFor log k msg)) × (p .found ≡ timeOf log (underFor log k msg))
   pub others : (msg .kind ≡ 1 → ⊥) → (msg .kind ≡ 3 → ⊥) → (p .place ≡ 0) × (p .found ≡ 0)
 
-pub planned-trim : (log : List Entry) (k : Known) (msg : Message) (brick d : ℕ) → msg .kind ≡ 5 → Cut log (k .count) (msg .time) d
-    → Planned log k msg brick (record { place = 0; found = 0; cut = d })
-planned-trim log k msg brick d e c =
-    record {
-      cuts = λ _. c;
-      reads = λ q. absurd (omega (arith, e, q));
-      looks = λ q. absurd (omega (arith, e, q));
-      others = λ a b. (refl, refl);
-    }
-
-pub planned-read : (log : List Entry) (k : Known) (msg : Message) (brick p : ℕ) → msg .kind ≡ 1 → p ≡ readPlace k (msg .targets) brick
-    → Planned log k msg brick (record { place = p; found = k .newest; cut = 0 })
-planned-read log k msg brick p e h =
-    record {
-      cuts = λ q. absurd (omega (arith, e, q));
-      reads = λ q. (h, refl);
-      looks = λ q. absurd (omega (arith, e, q));
-      others = λ a b. absurd (a e);
-    }
-
 pub planned-look : (log : List Entry) (k : Known) (msg : Message) (brick : ℕ) (v : Bool) (f : Looked) (p : Plan) → msg .kind ≡ 3
     → v ≡ ltb (k .newest) (msg .time) && leb (k .promise) (msg .time) → v ≡ true → f ≡ lookedIn log (underIn log (msg .max) (k .count))
     → p ≡ planIn f → Planned log k msg brick p
@@ -196,11 +176,6 @@ planned-no log k msg brick v e ev t =
       looks = λ q. (rw (sym ev ∙ t) refl, rw (sym ev ∙ t) refl);
       others = λ a b. (refl, refl);
     }
-
-pub planned-none : (log : List Entry) (k : Known) (msg : Message) (brick : ℕ) → (msg .kind ≡ 5 → ⊥) → (msg .kind ≡ 1 → ⊥) → (msg .kind ≡ 3 → ⊥)
-    → Planned log k msg brick (record { place = 0; found = 0; cut = 0 })
-planned-none log k msg brick a b c =
-    record { cuts = λ q. absurd (a q); reads = λ q. absurd (b q); looks = λ q. absurd (c q); others = λ d e. (refl, refl) }
 
 -- the bytes of a block of the image, or what the buffer held
 unfoldable pub gaveOf : List ℕ → ℕ → ℕ → List ℕ → List ℕ

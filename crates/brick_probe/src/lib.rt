@@ -1,7 +1,6 @@
 // The brick at a C boundary of numbers and slices, for the tests and benchmarks that compare it with other code.
 ghost use mathlib.Core.Path.{_≡_};
 ghost use lib.Dec.{eqb};
-ghost use mathlib.Core.Bool.{_&&_};
 ghost use lib.ListN.{length};
 ghost use Rattle.brick.specs.Receive.{outcome};
 ghost use Rattle.brick_probe.specs.Numbers.{settingsFor, replyNumbers, givenNumber, givenBuffer, shownNumber, shownBuffer, entryBuffer, numberIf, bufferIf, messageFor, lent};

@@ -1,11 +1,10 @@
 -- The ways through what a decision does.
 use mathlib.Core.Path.{_≡_, refl, sym, ap, subst, _∙_}
-use mathlib.Core.Bool.{Bool, true, false, cond}
-use mathlib.Core.List.{List, [], _∷_}
+use mathlib.Core.List.{List, []}
 use Prim.Native.Nat.{ℕ, _*_, _≤_, _<_}
 use native.Mathlib.Omega.{arith}
 use Rattle.coord_acts.specs.Acts.{stripeFrom, roundMessage, trimMessage, nextOp, opened, nextRound, ending, finishedSeen, acted}
-use Rattle.coord_acts.specs.Steps.{Held, Broadcast, Went, Step, refused, went, nothingSeen, noMessage, okSeen, readSeen, abortedSeen, sentCount, sentMessage, sentBlocks, answerOf}
+use Rattle.coord_acts.specs.Steps.{Held, went, nothingSeen, noMessage, readSeen, abortedSeen, sentCount, sentMessage, sentBlocks, answerOf}
 use Rattle.coord_acts.specs.declared.Answer.{Answer}
 use Rattle.coord_record.specs.Records.{idleWith, noBricks}
 use Rattle.coord_record.specs.declared.Coordinator.{Coordinator}

@@ -1,11 +1,10 @@
 -- Document 01, "What a coordinator does": what a decision does, and how an operation begins and ends.
-use mathlib.Core.Bool.{Bool, cond}
+use mathlib.Core.Bool.{cond}
 use mathlib.Core.List.{List, [], _∷_}
 use Prim.Native.Nat.{ℕ, _+_, _*_}
 use lib.Dec.{eqb, ltb}
 use lib.ListN.{getD, take}
 use Rattle.coord_acts.specs.Steps.{Held, Broadcast, Went, nothingSeen, beganSeen, okSeen, readSeen, abortedSeen}
-use Rattle.coord_acts.specs.declared.Seen.{Seen}
 use Rattle.block.specs.Block.{put}
 use Rattle.coord_record.specs.Records.{readingKind, idleWith, nothingCounted, noBricks}
 use Rattle.coord_record.specs.declared.Coordinator.{Coordinator}

@@ -1,7 +1,7 @@
 -- Blocks in lent buffers.
-use mathlib.Core.Path.{_≡_, refl, sym, ap, _∙_}
+use mathlib.Core.Path.{_≡_, ap, _∙_}
 use mathlib.Core.List.{List, _++_}
-use Prim.Native.Nat.{ℕ, suc, _+_, _-_, _*_, _≤_, _<_}
+use Prim.Native.Nat.{ℕ, _+_, _-_, _*_, _≤_, _<_}
 use native.Mathlib.Nat.{suc-mul, mul-le-mul-right}
 use lib.Seq.{take-at}
 use Rattle.erasure.specs.Code.{decodedOf}
@@ -12,8 +12,6 @@ use Rattle.block.specs.Block.{put}
 use Rattle.block.specs.PutLaws.{put-mid}
 use Rattle.erasure.specs.Theorems.{blockOf}
 use Rattle.coord_acts.specs.Acts.{gathered, stripeFrom, placed}
-use Rattle.interpolate.specs.RowLaws.{Stacked, stacked-none, stacked-more, stacked-all, part-length}
-use Rattle.interpolate.specs.Tabulate.{stacked}
 
 -- the block of each of the first m bricks of a row is within the blocks
 pub record InPlace (m size : ℕ) (bricks blocks : List ℕ) : Type 0 where

@@ -1,9 +1,8 @@
 -- What one event at a coordinator gives: a refusal, or the later coordinator, a list of broadcasts to all n bricks, and what is seen.
-use mathlib.Core.Bool.{Bool, cond}
+use mathlib.Core.Bool.{cond}
 use mathlib.Core.List.{List, [], _∷_}
 use Prim.Native.Nat.{ℕ}
 use lib.Dec.{eqb, leb}
-use lib.ListN.{replicate}
 use Rattle.coord_record.specs.Records.{noBricks}
 use Rattle.coord_record.specs.declared.Coordinator.{Coordinator}
 use Rattle.coord_acts.specs.declared.Answer.{Answer}

@@ -5,7 +5,6 @@ ghost use Prim.Native.Nat.{_+_, _*_, _≤_, _<_};
 ghost use lib.ListN.{length, take};
 ghost use Rattle.coord_acts.specs.ActLaws.{Ready, Acted, openAnswer, endAnswer, heldOf};
 ghost use Rattle.coord_acts.specs.Acts.{gathered, stripeFrom, placed, roundMessage, trimMessage, nextOp, finishedSeen};
-ghost use Rattle.coord_record.specs.Records.{noBricks};
 ghost use Rattle.coord_counts.specs.Counting.{picked, targetRow, atTimes};
 ghost use Rattle.coord_rounds.specs.Deciding.{decided};
 ghost use Rattle.erasure.specs.Code.{codedOf};

@@ -1,22 +1,19 @@
 -- Counting, one brick at a time.
 use mathlib.Core.Path.{_≡_, sym, ap, _∙_}
-use mathlib.Core.Bool.{Bool, true, false, cond, not, _&&_, and-false}
+use mathlib.Core.Bool.{Bool, true, false, and-false}
 use mathlib.Core.List.{List}
-use Prim.Native.Nat.{ℕ, zero, suc, _+_, _-_, _≤_, _<_, max}
+use Prim.Native.Nat.{ℕ, _+_, _≤_, _<_}
 use native.Mathlib.Nat.{add-zero}
 use native.Mathlib.Numerals.{add-one}
 use native.Mathlib.Omega.{arith}
-use lib.Dec.{eqb, leb, ltb}
+use lib.Dec.{eqb}
 use lib.ListN.{getD}
-use borrow.Author.Tests.{eq-eqb, ne-eqb, le-leb, lt-leb, lt-ltb, le-ltb}
+use borrow.Author.Tests.{eq-eqb, ne-eqb}
 use Rattle.settings.specs.Each.{some, some-found, some-none}
 use Rattle.coord_record.specs.Rules.{isTarget}
-use Rattle.coord_counts.specs.Counting.{saidNo, otherTime, missing, highest, atTime, atTimes}
+use Rattle.coord_counts.specs.Counting.{saidNo, otherTime, missing, highest}
 use Rattle.message.specs.Flags.{member}
-use Rattle.settings.specs.Count.{count, one-if}
-
-and-not : (a b : Bool) → a ≡ true → b ≡ false → a && not b ≡ true
-and-not a b e f = rw (e, f)
+use Rattle.settings.specs.Count.{count}
 
 pub said-no : (counted granted : List ℕ) (b : ℕ) → getD counted b 0 ≡ 1 → (getD granted b 0 ≡ 1 → ⊥) → saidNo counted granted b ≡ true
 unfolding saidNo member

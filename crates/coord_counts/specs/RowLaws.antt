@@ -1,21 +1,18 @@
 -- Rows of bricks, one more at a time, and that they hold different bricks.
-use mathlib.Core.Path.{_≡_, refl, sym, ap, _∙_, subst}
-use mathlib.Core.Bool.{Bool, true, false, cond, _&&_}
+use mathlib.Core.Path.{_≡_, refl, sym, ap, _∙_}
+use mathlib.Core.Bool.{Bool, true, false, cond}
 use mathlib.Core.List.{List, [], _∷_, _++_, append-nil}
-use mathlib.Core.Logic.{_⊎_, inl, inr}
-use Prim.Native.Nat.{ℕ, zero, suc, _+_, _-_, _≤_, _<_, min}
+use Prim.Native.Nat.{ℕ, zero, suc, _+_, _-_, _≤_, _<_}
 use native.Mathlib.Decide.{ℕ-discrete, decLt}
-use native.Mathlib.Nat.{not-suc-le-zero, le-of-suc-le-suc, eq-or-lt-of-le}
 use native.Mathlib.Numerals.{add-one}
 use native.Mathlib.Omega.{arith}
-use lib.Dec.{eqb, leb, ltb}
-use lib.ListN.{length, getD, take, set, replicate, length-append, length-take, length-set, length-replicate, getD-replicate, List·getD-append, List·getD-eq-default}
-use lib.Seq.{take-all, take-append-le, getD-at, getD-take, getD-set-same, getD-set-other}
+use lib.Dec.{ltb}
+use lib.ListN.{length, getD, take, set, replicate, length-append, length-take, length-set, getD-replicate, List·getD-append, List·getD-eq-default}
+use lib.Seq.{take-all, take-append-le, getD-at, getD-set-same, getD-set-other}
 use borrow.Author.Tests.{lt-ltb, le-ltb, ltb-true, ltb-false}
 use Rattle.coord_record.specs.Rules.{isTarget}
 use Rattle.coord_counts.specs.Counting.{passing, inRow, picked, atTimes, upward, targetRow, targetFlag, targetFlags}
 use Rattle.interpolate.specs.Tabulate.{tabulate, Filled, tabulate-by, length-tabulate, getD-tabulate}
-use Rattle.settings.specs.Count.{count, one-if}
 
 -- the row so far: the first m of those that pass below b, and how many they are
 pub record Picks (p : ℕ → Bool) (m b : ℕ) (row : List ℕ) (k : ℕ) : Type 0 where
@@ -103,9 +100,6 @@ up-within n first i h = rw (lt-ltb (first + i) n h)
 pub up-wrapped : (n first i : ℕ) → n ≤ first + i → first + i - n ≡ upward n first i
 unfolding upward
 up-wrapped n first i h = rw (le-ltb (first + i) n h)
-
-pub targets-none : (n m first : ℕ) → Filled (upward n first) (replicate 16 0) (replicate 16 0) 0
-targets-none n m first = record { size = refl; done = λ i h. absurd (not-suc-le-zero h); rest = λ i h. refl }
 
 pub targets-all : (n m first i : ℕ) (row : List ℕ) → Filled (upward n first) (replicate 16 0) row i → m ≤ i → i ≤ m → m ≤ 16 → row ≡ targetRow n m first
 unfolding targetRow

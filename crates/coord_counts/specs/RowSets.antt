@@ -3,17 +3,17 @@ use mathlib.Core.Path.{_≡_, refl, sym, ap, _∙_, subst}
 use mathlib.Core.Bool.{Bool, true, false, cond}
 use mathlib.Core.List.{List, [], _∷_, _++_, append-nil}
 use mathlib.Core.Logic.{_⊎_, inl, inr}
-use Prim.Native.Nat.{ℕ, zero, suc, _+_, _-_, _≤_, _<_, min}
+use Prim.Native.Nat.{ℕ, zero, suc, _+_, _-_, _≤_, _<_}
 use native.Mathlib.Decide.{decLt}
 use native.Mathlib.Nat.{not-suc-le-zero}
 use native.Mathlib.Omega.{arith}
 use lib.Dec.{ltb}
-use lib.ListN.{length, getD, take, length-append, length-take, List·getD-append}
+use lib.ListN.{length, getD, take, length-append, List·getD-append}
 use lib.Seq.{getD-at, getD-take, length-take-le}
 use borrow.Author.Tests.{lt-ltb, ltb-true, ltb-false}
 use Rattle.coord_counts.specs.Counting.{passing, inRow, picked, atTimes, upward, targetRow}
 use Rattle.interpolate.specs.RowLaws.{PointSet}
-use Rattle.interpolate.specs.Tabulate.{tabulate, length-tabulate, getD-tabulate}
+use Rattle.interpolate.specs.Tabulate.{length-tabulate, getD-tabulate}
 use Rattle.settings.specs.Count.{count, one-if}
 
 -- one more brick: as it was below, the brick itself at the end

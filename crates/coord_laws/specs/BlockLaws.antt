@@ -1,11 +1,11 @@
 -- The reply blocks and the stripe: a block put in its place stands there and the others are as they were; m right blocks give the stripe.
-use mathlib.Core.Path.{_≡_, refl, sym, ap, subst, _∙_}
-use mathlib.Core.List.{List, [], _∷_, _++_}
-use Prim.Native.Nat.{ℕ, zero, suc, _+_, _-_, _*_, _≤_, _<_}
+use mathlib.Core.Path.{_≡_, refl, sym, ap, _∙_}
+use mathlib.Core.List.{List, [], _++_}
+use Prim.Native.Nat.{ℕ, zero, suc, _+_, _*_, _≤_, _<_}
 use native.Mathlib.Decide.{decLt}
-use native.Mathlib.Nat.{mul-le-mul-right, suc-mul, not-suc-le-zero, le-refl}
+use native.Mathlib.Nat.{mul-le-mul-right, suc-mul, le-refl}
 use native.Mathlib.Omega.{arith}
-use lib.ListN.{length, getD, take, drop, length-take}
+use lib.ListN.{length, getD, take, drop}
 use lib.Seq.{getD-take, length-take-le}
 use Rattle.block.specs.Block.{put}
 use Rattle.block.specs.PutLaws.{put-length, put-in, put-before, put-behind}

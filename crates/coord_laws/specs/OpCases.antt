@@ -1,9 +1,9 @@
 -- What the phase of a sound operation says of its kind, round and max.
-use mathlib.Core.Path.{_≡_, refl, sym, ap, _∙_}
+use mathlib.Core.Path.{_≡_, refl}
 use mathlib.Core.Bool.{Bool, true, false, cond, _&&_}
 use Prim.Native.Nat.{ℕ, _+_, _≤_, _<_}
 use native.Mathlib.Omega.{arith}
-use lib.Dec.{eqb, leb, ltb}
+use lib.Dec.{eqb, leb}
 use borrow.Author.Tests.{eq-eqb, ne-eqb, le-leb, leb-true, eqb-true}
 use Rattle.coord_acts.specs.Acts.{nextOp}
 use Rattle.coord_record.specs.Sound.{maxRight, storedRight, readRight, writeRight, unsetOp, opRight}

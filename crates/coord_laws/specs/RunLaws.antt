@@ -1,38 +1,25 @@
 -- What a run reads off a coordinator's step: what was counted, what is sent, what is seen, how the clock moves.
-use mathlib.Core.Path.{_≡_, refl, sym, ap, subst, _∙_}
-use mathlib.Core.Bool.{Bool, true, false, cond}
-use mathlib.Core.List.{List, [], _∷_, _++_}
-use mathlib.Core.Logic.{_⊎_, inl, inr}
-use Prim.Native.Nat.{ℕ, zero, suc, _+_, _-_, _*_, _≤_, _<_, max}
+use mathlib.Core.Path.{_≡_, refl, sym, ap, subst}
+use mathlib.Core.List.{List, [], _∷_}
+use mathlib.Core.Logic.{_⊎_}
+use Prim.Native.Nat.{ℕ, _<_}
 use native.Mathlib.Omega.{arith}
-use lib.Dec.{eqb, leb, ltb}
 use lib.ListN.{length}
-use borrow.Author.Tests.{eqb-true, ltb-true, ltb-false}
-use Rattle.coord_acts.specs.Acts.{nextOp, opened, nextRound, ending, roundMessage, trimMessage, finishedSeen, acted, withTally, counting, waitingOr, firstOp, starting}
-use Rattle.coord_acts.specs.Steps.{Held, Broadcast, Went, Step, refused, went, nothingSeen, abortedSeen, readSeen, okSeen, cutSeen, beganSeen}
-use Rattle.coord_acts.specs.declared.Seen.{Seen}
-use Rattle.coord_laws.specs.Soundness.{passes, same-went, drawn-went, drawn-low}
+use Rattle.coord_acts.specs.Acts.{roundMessage, trimMessage, counting, waitingOr, firstOp, starting}
+use Rattle.coord_acts.specs.Steps.{Held, Went, went, beganSeen}
+use Rattle.coord_laws.specs.Soundness.{passes, same-went, drawn-went}
 use Rattle.coord_laws.specs.TallyLaws.{Answering, answering, ReplyParts, reply-parts}
-use Rattle.coord_record.specs.Records.{idleWith, noBricks}
-use Rattle.coord_record.specs.declared.Coordinator.{Coordinator}
+use Rattle.coord_record.specs.Records.{noBricks}
 use Rattle.coord_record.specs.declared.Op.{Op}
-use Rattle.coord_record.specs.declared.Tally.{Tally}
 use Rattle.coord_counts.specs.Counting.{targetFlags}
-use Rattle.coord_rounds.specs.Deciding.{decided}
-use Rattle.coord_rounds.specs.declared.Decision.{Decision}
-use Rattle.coord_rounds.specs.declared.Decision.the-variants.{Abort, Give, Look, Store, Recover, Finish}
-use Rattle.coord_checks.specs.Checks.{writeRefusal, readRefusal, takeRefusal, crashRefusal}
-use Rattle.coordinator.specs.Rules.{drawnThen, writeStep, readStep, takeStep, crashed, crashStep}
+use Rattle.coord_checks.specs.Checks.{writeRefusal, readRefusal, takeRefusal}
+use Rattle.coordinator.specs.Rules.{drawnThen, writeStep, readStep, takeStep}
 use Rattle.coordinator.specs.StepLaws.{Takes, take-passed}
 use Rattle.erasure.specs.Code.{codedOf}
-use Rattle.message.specs.Flags.{members}
-use Rattle.message.specs.declared.Message.{Message}
 use Rattle.message.specs.declared.Reply.{Reply}
-use Rattle.settings.specs.Ranges.{quorum}
-use Rattle.settings.specs.TimeLaws.{Gave, gave}
+use Rattle.settings.specs.TimeLaws.{gave}
 use Rattle.settings.specs.Times.{timeOf, nextCount, drawOf}
 use Rattle.settings.specs.declared.Clock.{Clock}
-use Rattle.settings.specs.declared.Draw.{Draw}
 use Rattle.settings.specs.declared.Draw.the-variants.{Drawn}
 
 -- A reply that is not refused: the checks passed; it is of the running operation and round, from a brick not counted before.
@@ -67,63 +54,6 @@ pub record Trims (op : Op) (w : Went) : Type 0 where
 
 unfoldable pub Sends : ℕ → ℕ → ℕ → Op → Went → Type 0
 Sends n m size op w = (w .sent ≡ []) ⊎ (Round n m size w ⊎ Trims op w)
-
-acted-sends : (n m size : ℕ) (h : Held) (d : Decision) → Sends n m size (h .state .op) (acted n m size h d)
-unfolding Sends acted ending nextRound opened nextOp
-acted-sends n m size h Abort = inl refl
-acted-sends n m size h Give = inl refl
-acted-sends n m size h (Look max) = inr (inl (record { blocks = []; sent-is = refl; coded-is = λ q. absurd (omega arith) }))
-acted-sends n m size h Store = inr (inl (record { blocks = codedOf n m size (h .stripe); sent-is = refl; coded-is = λ q. refl }))
-acted-sends n m size h (Recover time) =
-    inr (inl (record { blocks = codedOf n m size (acted n m size h (Recover time) .next .stripe); sent-is = refl; coded-is = λ q. refl }))
-acted-sends n m size h Finish = inr (inr (record { sent-is = refl }))
-
-waiting-sends : (n m size : ℕ) (h : Held) → Sends n m size (h .state .op) (waitingOr n m size h)
-unfolding waitingOr Sends
-waiting-sends n m size h = go (ltb (members (h .state .tally .counted) n) (quorum n m))
-  where
-    go : (b : Bool) → Sends n m size (h .state .op) (cond b (record { next = h; sent = []; seen = nothingSeen }) (acted n m size h (decided n m (h .state .op) (h .state .tally))))
-    go true = inl refl
-    go false = acted-sends n m size h (decided n m (h .state .op) (h .state .tally))
-
-pub take-sends : (n m size : ℕ) (h : Held) (r : Reply) (block : List ℕ) (coded : ℕ) (w : Went) → takeStep n m size h r block coded ≡ went w
-    → Sends n m size (h .state .op) w
-unfolding counting withTally
-take-sends n m size h r block coded w e =
-    subst (Sends n m size (h .state .op)) (took n m size h r block coded w e .is) (waiting-sends n m size (counting size h r block))
-
--- the clock: only a start moves it
-acted-clock : (n m size : ℕ) (h : Held) (d : Decision) → acted n m size h d .next .state .clock ≡ h .state .clock
-unfolding acted ending nextRound opened idleWith
-acted-clock n m size h Abort = refl
-acted-clock n m size h Give = refl
-acted-clock n m size h (Look max) = refl
-acted-clock n m size h Store = refl
-acted-clock n m size h (Recover time) = refl
-acted-clock n m size h Finish = refl
-
-waiting-clock : (n m size : ℕ) (h : Held) → waitingOr n m size h .next .state .clock ≡ h .state .clock
-unfolding waitingOr
-waiting-clock n m size h = go (ltb (members (h .state .tally .counted) n) (quorum n m))
-  where
-    go : (b : Bool) → cond b (record { next = h; sent = []; seen = nothingSeen }) (acted n m size h (decided n m (h .state .op) (h .state .tally))) .next .state .clock ≡ h .state .clock
-    go true = refl
-    go false = acted-clock n m size h (decided n m (h .state .op) (h .state .tally))
-
-pub take-clock : (n m size : ℕ) (h : Held) (r : Reply) (block : List ℕ) (coded : ℕ) (w : Went) → takeStep n m size h r block coded ≡ went w
-    → w .next .state .clock ≡ h .state .clock
-unfolding counting withTally
-take-clock n m size h r block coded w e =
-    ap (λ (v : Went). v .next .state .clock) (sym (took n m size h r block coded w e .is)) ∙ waiting-clock n m size (counting size h r block)
-
--- "A crash makes the coordinator idle and keeps its count."
-pub crash-clock : (n m size : ℕ) (h : Held) (w : Went) → crashStep n m size h ≡ went w → w .next .state .clock ≡ h .state .clock
-unfolding crashStep crashed ending idleWith
-crash-clock n m size h w e = go (eqb (h .state .op .kind) 0) (passes (crashRefusal n m size (h .state)) (went (crashed h)) w e .1)
-  where
-    go : (b : Bool) → went (cond b (record { next = h; sent = []; seen = nothingSeen }) (ending h (h .stripe) [] cutSeen noBricks)) ≡ went w → w .next .state .clock ≡ h .state .clock
-    go true q = ap (λ (v : Went). v .next .state .clock) (sym (same-went (record { next = h; sent = []; seen = nothingSeen }) w q))
-    go false q = ap (λ (v : Went). v .next .state .clock) (sym (same-went (ending h (h .stripe) [] cutSeen noBricks) w q))
 
 -- A start draws a time: it is the time of the count that the clock now has, which is above the old one; that operation is seen to begin.
 pub record Begins (h : Held) (kind : ℕ) (w : Went) : Type 0 where
@@ -162,23 +92,3 @@ read-begins n m size h reading first w e =
       subst (Begins h 1) (d .3) (begins h reading 1 1 first (d .0) (d .1) (h .stripe) (targetFlags n m first) (d .2)),
       subst (λ (v : Went). v .sent ≡ record { message = roundMessage (v .next .state .op) (targetFlags n m first); blocks = [] } ∷ []) (d .3) refl,
     )
-
--- A reply that is counted waits for more, or is the q-th and decides.
-pub take-cases : (n m size : ℕ) (h : Held) (r : Reply) (block : List ℕ) (coded : ℕ) (w : Went) → takeStep n m size h r block coded ≡ went w
-    → ((members (counting size h r block .state .tally .counted) n < quorum n m) × (record { next = counting size h r block; sent = []; seen = nothingSeen } ≡ w))
-    ⊎ ((quorum n m ≤ members (counting size h r block .state .tally .counted) n)
-    × (acted n m size (counting size h r block) (decided n m (counting size h r block .state .op) (counting size h r block .state .tally)) ≡ w))
-unfolding waitingOr
-take-cases n m size h r block coded w e = go (counting size h r block) (took n m size h r block coded w e .is)
-  where
-    by : (c : Held) (b : Bool) → ltb (members (c .state .tally .counted) n) (quorum n m) ≡ b
-        → cond b (record { next = c; sent = []; seen = nothingSeen }) (acted n m size c (decided n m (c .state .op) (c .state .tally))) ≡ w
-        → ((members (c .state .tally .counted) n < quorum n m) × (record { next = c; sent = []; seen = nothingSeen } ≡ w))
-        ⊎ ((quorum n m ≤ members (c .state .tally .counted) n) × (acted n m size c (decided n m (c .state .op) (c .state .tally)) ≡ w))
-    by c true l q = inl (ltb-true (members (c .state .tally .counted) n) (quorum n m) l, q)
-    by c false l q = inr (ltb-false (members (c .state .tally .counted) n) (quorum n m) l, q)
-
-    go : (c : Held) → waitingOr n m size c ≡ w
-        → ((members (c .state .tally .counted) n < quorum n m) × (record { next = c; sent = []; seen = nothingSeen } ≡ w))
-        ⊎ ((quorum n m ≤ members (c .state .tally .counted) n) × (acted n m size c (decided n m (c .state .op) (c .state .tally)) ≡ w))
-    go c q = by c (ltb (members (c .state .tally .counted) n) (quorum n m)) refl q

@@ -1,16 +1,16 @@
 -- What a coordinator sends, a brick does not refuse: every message of an open round of a good record passes refusal 10.
-use mathlib.Core.Path.{_≡_, refl, sym, ap, subst, _∙_}
+use mathlib.Core.Path.{_≡_, refl}
 use mathlib.Core.Bool.{Bool, true, false, cond, _&&_}
 use mathlib.Core.List.{List}
-use Prim.Native.Nat.{ℕ, _+_, _*_, _^_, _≤_, _<_}
+use Prim.Native.Nat.{ℕ, _^_, _≤_}
 use native.Mathlib.Omega.{arith}
 use lib.Dec.{eqb, leb, ltb}
-use borrow.Author.Tests.{eq-eqb, ne-eqb, le-leb, lt-ltb, leb-true, ltb-true, eqb-true, eqb-false}
-use Rattle.coord_acts.specs.Acts.{roundMessage, trimMessage}
+use borrow.Author.Tests.{le-leb, lt-ltb, leb-true, ltb-true, eqb-true}
+use Rattle.coord_acts.specs.Acts.{roundMessage}
 use Rattle.coord_laws.specs.OpCases.{Fit, reading, looking, restoring, ordering, storing, fit}
 use Rattle.coord_laws.specs.Soundness.{Good}
 use Rattle.coord_record.specs.Sound.{maxRight, opRight, timeRight}
-use Rattle.coord_record.specs.SoundParts.{SoundParts, round-high}
+use Rattle.coord_record.specs.SoundParts.{round-high}
 use Rattle.coord_record.specs.declared.Coordinator.{Coordinator}
 use Rattle.coord_record.specs.declared.Op.{Op}
 use Rattle.message.specs.Flags.{brickSet}

@@ -1,33 +1,32 @@
 -- Every record that a routine leaves is sound (refusal 6 never meets a record that came from here), and its arrays keep their sizes.
 use mathlib.Core.Path.{_≡_, refl, sym, ap, subst, _∙_}
-use mathlib.Core.Bool.{Bool, true, false, cond, not, _&&_, _||_}
+use mathlib.Core.Bool.{Bool, true, false, cond, _&&_, _||_}
 use mathlib.Core.List.{List, []}
 use mathlib.Core.Logic.{_⊎_, inl, inr}
-use Prim.Native.Nat.{ℕ, _+_, _-_, _*_, _^_, _≤_, _<_, max}
+use Prim.Native.Nat.{ℕ, _-_, _≤_, _<_, max}
 use native.Mathlib.Omega.{arith}
 use lib.Dec.{eqb, leb, ltb}
 use lib.ListN.{length, getD, take, replicate, length-take, List·getD-eq-default}
-use borrow.Author.Tests.{eq-eqb, ne-eqb, le-leb, lt-ltb, le-ltb, eqb-true, eqb-false, leb-true, ltb-true, ltb-false}
-use Rattle.coord_acts.specs.ActLaws.{heldOf}
+use borrow.Author.Tests.{eq-eqb, ne-eqb, le-leb, lt-ltb, le-ltb, eqb-false, leb-true, ltb-true, ltb-false}
 use Rattle.coord_acts.specs.Acts.{nextOp, opened, nextRound, ending, acted, withTally, counting, waitingOr, firstOp, starting}
 use Rattle.coord_acts.specs.Steps.{Held, Went, Step, refused, went, checked, nothingSeen, cutSeen}
 use Rattle.coord_checks.specs.Checks.{recordChecks, writeRefusal, readRefusal, takeRefusal, crashRefusal}
 use Rattle.coordinator.specs.Rules.{drawnThen, writeStep, readStep, takeStep, crashed, crashStep}
-use Rattle.coordinator.specs.StepLaws.{Takes, take-passed, first-low}
-use Rattle.coord_laws.specs.OpCases.{clash, InRead, InOrder, InRecovery, in-read, in-order, in-recovery, first-recovery, next-recovery, write-stores, read-stores}
+use Rattle.coordinator.specs.StepLaws.{take-passed, first-low}
+use Rattle.coord_laws.specs.OpCases.{in-read, in-order, in-recovery, first-recovery, next-recovery, write-stores, read-stores}
 use Rattle.coord_laws.specs.TallyLaws.{Answering, answering, ReplyParts, reply-parts, Sized, tallied-sized, tallied-right, zeros-at, zeros-counted, highest-valid}
 use Rattle.settings.specs.Each.{each-all}
 use Rattle.coord_record.specs.Records.{noOp, noBricks, nothingCounted, idleWith}
 use Rattle.coord_record.specs.Rules.{entryRight, tallyRight, brickRight, bricksRight}
 use Rattle.coord_record.specs.Sound.{opRight, unsetOp, readRight, writeRight, timeRight, namedCount, sound}
-use Rattle.coord_record.specs.SoundParts.{SoundParts, sound-from, sound-parts}
+use Rattle.coord_record.specs.SoundParts.{SoundParts, sound-from}
 use Rattle.coord_record.specs.declared.Coordinator.{Coordinator}
 use Rattle.coord_record.specs.declared.Op.{Op}
 use Rattle.coord_record.specs.declared.Tally.{Tally}
-use Rattle.coord_counts.specs.Counting.{highest, atTimes, passing, inRow, picked, targetFlags}
-use Rattle.coord_rounds.specs.Deciding.{answers, tallied, decided}
+use Rattle.coord_counts.specs.Counting.{atTimes, passing, inRow, picked, targetFlags}
+use Rattle.coord_rounds.specs.Deciding.{tallied, decided}
 use Rattle.coord_rounds.specs.Decisions.{Says, Lowers, Recovers, found-time, holders, decided-says}
-use Rattle.coord_counts.specs.RowSets.{picked-below, picked-rises, picked-long}
+use Rattle.coord_counts.specs.RowSets.{picked-below, picked-rises}
 use Rattle.coord_rounds.specs.declared.Decision.{Decision}
 use Rattle.coord_rounds.specs.declared.Decision.the-variants.{Abort, Give, Look, Store, Recover, Finish}
 use Rattle.interpolate.specs.Tabulate.{getD-tabulate}
@@ -37,7 +36,7 @@ use Rattle.settings.specs.Count.{count}
 use Rattle.settings.specs.QuorumLaws.{quorum-low}
 use Rattle.settings.specs.RangeLaws.{CodeRange, code-passed}
 use Rattle.settings.specs.Ranges.{quorum, codeRefusal}
-use Rattle.settings.specs.TimeLaws.{Gave, gave}
+use Rattle.settings.specs.TimeLaws.{gave}
 use Rattle.settings.specs.Times.{maxCount, noUpperEnd, timeOf, validTime, nextCount, drawOf}
 use Rattle.settings.specs.declared.Clock.{Clock}
 use Rattle.settings.specs.declared.Draw.{Draw}

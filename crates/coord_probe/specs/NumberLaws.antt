@@ -1,6 +1,6 @@
 -- Buffers filled row by row, and the ways through a routine at the boundary.
 use mathlib.Core.Path.{_≡_, refl, sym, ap, _∙_}
-use mathlib.Core.Bool.{Bool, true, false, cond, _&&_}
+use mathlib.Core.Bool.{Bool, true, false}
 use mathlib.Core.List.{List, [], _∷_, _++_, append-assoc, append-nil}
 use Prim.Native.Nat.{ℕ, _+_, _-_, _≤_}
 use native.Mathlib.Omega.{arith}
@@ -8,9 +8,9 @@ use lib.Dec.{eqb}
 use lib.ListN.{length, getD, set, take, drop, length-append, length-drop, length-set}
 use lib.Seq.{take-append-add, drop-append-add, take-at}
 use borrow.Author.Tests.{eq-eqb, ne-eqb, eqb-true}
-use borrow.Rule.Slice.PartMut.{putMid, postOf, post-is}
+use borrow.Rule.Slice.PartMut.{putMid, post-is}
 use Rattle.interpolate.specs.Tabulate.{tabulate, tabulate-by}
-use Rattle.coord_probe.specs.Numbers.{recordFor, recordNumbers, recordBytes, answerNumbers, answerBytes, lentLengths, saidOr, numberIf, bufferIf, rowPut, rowAt}
+use Rattle.coord_probe.specs.Numbers.{recordFor, recordNumbers, recordBytes, lentLengths, saidOr, numberIf, bufferIf, rowPut, rowAt}
 use Rattle.coord_acts.specs.declared.Answer.{Answer}
 use Rattle.coord_record.specs.declared.Coordinator.{Coordinator}
 use Rattle.settings.specs.RangeLaws.{and-left, and-right}

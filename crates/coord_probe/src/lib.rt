@@ -1,7 +1,7 @@
 // The coordinator at a C boundary of numbers and slices, for the tests and benchmarks that compare it with other code. Every routine is
 // lent four buffers: the record's 22 numbers and 66 bytes, and the answer's 5 numbers and 35 bytes. A refusal leaves them as they were.
 ghost use mathlib.Core.Path.{_≡_};
-ghost use mathlib.Core.List.{List, []};
+ghost use mathlib.Core.List.{[]};
 ghost use Prim.Native.Nat.{_+_, _≤_};
 ghost use lib.ListN.{length};
 ghost use Rattle.coord_acts.specs.Steps.{blocksAfter, stripeAfter, codedAfter};

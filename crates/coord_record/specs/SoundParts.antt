@@ -1,10 +1,10 @@
 -- What a sound record satisfies, rule by rule.
-use mathlib.Core.Path.{_≡_, refl, sym, ap, _∙_}
+use mathlib.Core.Path.{_≡_, refl, _∙_}
 use mathlib.Core.Bool.{Bool, true, false, cond, _&&_}
 use Prim.Native.Nat.{ℕ, _≤_, _<_}
 use native.Mathlib.Omega.{arith}
 use lib.Dec.{eqb, leb, ltb}
-use borrow.Author.Tests.{lt-ltb, le-leb, leb-true, ltb-true, eqb-true, eqb-false}
+use borrow.Author.Tests.{lt-ltb, le-leb, leb-true, ltb-true, eqb-true}
 use Rattle.coord_record.specs.Rules.{tallyRight, bricksRight}
 use Rattle.coord_record.specs.Sound.{maxRight, storedRight, readRight, writeRight, unsetOp, opRight, timeRight, namedCount, filledRight, sound}
 use Rattle.coord_record.specs.declared.Coordinator.{Coordinator}

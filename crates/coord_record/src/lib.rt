@@ -1,9 +1,8 @@
 // The record of a coordinator (document 01, "What a coordinator does"), by value in small parts, and which records are sound (refusal 6).
 // The blocks of the replies and the stripe are lent beside it.
 ghost use mathlib.Core.Path.{_≡_};
-ghost use mathlib.Core.Bool.{Bool};
 ghost use Prim.Native.Nat.{_≤_, _<_};
-ghost use Rattle.coord_record.specs.Records.{noOp, nothingCounted, idleWith, noBricks};
+ghost use Rattle.coord_record.specs.Records.{noOp, nothingCounted, idleWith};
 ghost use Rattle.coord_record.specs.Rules.{isTarget, blockRight, countedRight, entryRight, tallyRight, brickRight, bricksRight};
 ghost use Rattle.message.specs.Messages.{foundRight};
 ghost use Rattle.coord_record.specs.Sound.{maxRight, storedRight, readRight, writeRight, unsetOp, opRight, timeRight, namedCount, filledRight, sound};

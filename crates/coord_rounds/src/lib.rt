@@ -1,8 +1,6 @@
 // The rounds of a coordinator (document 01, "What a coordinator does"): which replies count, and what the q-th decides.
 ghost use mathlib.Core.Path.{_≡_};
-ghost use mathlib.Core.Bool.{true};
 ghost use Prim.Native.Nat.{_≤_, _<_};
-ghost use Rattle.coord_counts.specs.Counting.{highest};
 ghost use Rattle.coord_rounds.specs.Deciding.{answers, tallied, decidedRead, decidedAt, decided};
 ghost use Rattle.settings.specs.Count.{one-if};
 use coord_counts::any_missing;

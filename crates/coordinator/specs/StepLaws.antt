@@ -1,5 +1,5 @@
 -- The ways through a step.
-use mathlib.Core.Path.{_≡_, refl, sym, ap, subst, _∙_}
+use mathlib.Core.Path.{_≡_, refl, sym, ap, _∙_}
 use mathlib.Core.Bool.{Bool, true, false, cond, not, _&&_, _||_}
 use mathlib.Core.List.{List, [], _∷_}
 use Prim.Native.Nat.{ℕ, _+_, _*_, _≤_, _<_}
@@ -7,12 +7,12 @@ use native.Mathlib.Nat.{mul-le-mul-right, suc-mul}
 use native.Mathlib.Omega.{arith}
 use lib.Dec.{eqb, leb, ltb}
 use lib.ListN.{length}
-use borrow.Author.Tests.{eq-eqb, ne-eqb, le-leb, lt-leb, lt-ltb, le-ltb, eqb-true, ltb-true, leb-false}
+use borrow.Author.Tests.{eq-eqb, ne-eqb, lt-leb, lt-ltb, le-ltb, eqb-true, ltb-true}
 use Rattle.coord_acts.specs.ActLaws.{heldOf, endAnswer, Ready, Acted}
 use Rattle.coord_acts.specs.Acts.{roundMessage, placed, withTally, counting, waitingOr, acted, ending, nextRound, firstOp, starting}
 use Rattle.coord_acts.specs.Steps.{Held, Went, Step, refused, went, checked, nothingSeen, noMessage, beganSeen, cutSeen, sentCount, sentMessage, sentBlocks, answerOf, blocksAfter, stripeAfter, codedAfter}
 use Rattle.coord_acts.specs.declared.Answer.{Answer}
-use Rattle.coord_record.specs.Records.{idleWith, nothingCounted, noBricks}
+use Rattle.coord_record.specs.Records.{nothingCounted, noBricks}
 use Rattle.coord_record.specs.Sound.{sound}
 use Rattle.coord_record.specs.SoundParts.{SoundParts, sound-parts, round-high}
 use Rattle.coord_record.specs.declared.Coordinator.{Coordinator}
@@ -23,7 +23,7 @@ use Rattle.coord_rounds.specs.Deciding.{answers, tallied, decided}
 use Rattle.coord_rounds.specs.declared.Decision.{Decision}
 use Rattle.coord_rounds.specs.declared.Decision.the-variants.{Abort, Give, Look, Store, Recover, Finish}
 use Rattle.coord_checks.specs.CheckLaws.{Recorded, record-passed}
-use Rattle.coord_checks.specs.Checks.{recordChecks, startChecks, writeRefusal, readRefusal, lengthsRight, strayChecks, takeRefusal, crashRefusal}
+use Rattle.coord_checks.specs.Checks.{recordChecks, writeRefusal, readRefusal, lengthsRight, strayChecks, takeRefusal, crashRefusal}
 use Rattle.coordinator.specs.Rules.{drawnThen, writeStep, readStep, takeStep, crashed, crashStep}
 use Rattle.message.specs.Flags.{members}
 use Rattle.message.specs.Messages.{replyRefusal}
@@ -31,7 +31,7 @@ use Rattle.message.specs.declared.Reply.{Reply}
 use Rattle.settings.specs.RangeLaws.{CodeRange, code-passed, and-left, and-right}
 use Rattle.settings.specs.Ranges.{codeRefusal, quorum}
 use Rattle.settings.specs.Refusal.{firstRefusal, refuseUnless}
-use Rattle.settings.specs.Times.{drawOf, drawRefusal, numberOf}
+use Rattle.settings.specs.Times.{drawOf, numberOf}
 use Rattle.settings.specs.declared.Clock.{Clock}
 use Rattle.settings.specs.declared.Draw.{Draw}
 use Rattle.settings.specs.declared.Draw.the-variants.{Drawn, Refused}

@@ -1,23 +1,21 @@
 -- Further laws of the code: data blocks are their own coded blocks, zeros code to zeros, the code is linear, and all coded blocks of a stripe
 -- lie on one polynomial a byte position.
-use mathlib.Core.Path.{_≡_, refl, sym, ap, ap₂, subst, _∙_}
+use mathlib.Core.Path.{_≡_, refl, sym, ap, ap₂, _∙_}
 use mathlib.Core.List.{List}
 use Prim.Native.Nat.{ℕ, _+_, _*_, _≤_, _<_}
 use native.Mathlib.Decide.{decLt}
-use native.Mathlib.Nat.{mul-le-mul-right, suc-mul}
 use native.Mathlib.Omega.{arith}
-use lib.ListN.{length, getD, take, drop, replicate, getD-replicate, length-replicate, length-drop, List·getD-eq-default}
-use lib.Seq.{ext-getD, length-take-le}
+use lib.ListN.{length, getD, replicate, getD-replicate, length-replicate, List·getD-eq-default}
 use Rattle.erasure.specs.Code.{firstPoints, codedOf}
 use Rattle.erasure.specs.PassedLaws.{length-first}
 use Rattle.erasure.specs.Theorems.{first-at, first-small, first-differ, coded-byte, value-is}
 use Rattle.gf256.specs.Product.{plus, product}
 use Rattle.gf256.specs.ProductLaws.{product-byte}
 use Rattle.gf256.specs.XorLaws.{plus-byte}
-use Rattle.interpolate.specs.BlockLaws.{index-below, length-blocksAt, blocks-by, value-byte}
-use Rattle.interpolate.specs.Bytes.{Byte, byte, bytes, same, below, byte-small}
-use Rattle.interpolate.specs.RowLaws.{different-points, part-byte}
-use Rattle.interpolate.specs.Values.{byteAt, valueAt}
+use Rattle.interpolate.specs.BlockLaws.{blocks-by}
+use Rattle.interpolate.specs.Bytes.{Byte, byte, bytes, same, byte-small}
+use Rattle.interpolate.specs.RowLaws.{different-points}
+use Rattle.interpolate.specs.Values.{byteAt}
 use Rattle.interpolate.specs.WeightLaws.{pointsOf}
 use Rattle.poly.specs.Laws.{interpolated-at, interpolated-cong, interpolated-linear, interpolated-zero, on-one-polynomial}
 use Rattle.poly.specs.Polynomial.{eval, interpolated}

@@ -2,11 +2,11 @@
 use mathlib.Core.Path.{_≡_, refl, sym, ap, subst, _∙_}
 use mathlib.Core.Bool.{Bool, true, false, cond, not, _&&_}
 use mathlib.Core.List.{List, [], _∷_}
-use Prim.Native.Nat.{ℕ, zero, suc, _+_, _*_, _≤_, _<_}
+use Prim.Native.Nat.{ℕ, zero, suc, _*_, _≤_, _<_}
 use native.Mathlib.Decide.{decLt}
 use native.Mathlib.Nat.{le-of-suc-le-suc, not-suc-le-zero}
 use native.Mathlib.Omega.{arith}
-use lib.Dec.{T, eqb, ltb, eqb→eq}
+use lib.Dec.{eqb, eqb→eq}
 use lib.ListN.{length, getD, take}
 use lib.Seq.{getD-take, length-take-le}
 use borrow.Author.Tests.{eq-eqb, eqb-true, not-true}
@@ -14,7 +14,7 @@ use Rattle.erasure.specs.Code.{firstPoints}
 use Rattle.erasure.specs.Refusals.{allBelow, stands, allDifferent, encodeRefusal, decodeRefusal}
 use Rattle.gf256.specs.Computed.{every, at-entry}
 use Rattle.interpolate.specs.RowLaws.{PointSet}
-use Rattle.interpolate.specs.Tabulate.{tabulate, length-tabulate, getD-tabulate, tabulate-by}
+use Rattle.interpolate.specs.Tabulate.{length-tabulate, getD-tabulate, tabulate-by}
 use Rattle.settings.specs.Ranges.{codeRefusal}
 use Rattle.settings.specs.RangeLaws.{CodeRange, code-passed, and-left, and-right}
 use Rattle.settings.specs.Refusal.{refuseUnless}

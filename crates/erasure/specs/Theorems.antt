@@ -1,24 +1,22 @@
 -- What the code promises.
-use mathlib.Core.Path.{_≡_, refl, sym, ap, ap₂, subst, _∙_}
-use mathlib.Core.Bool.{Bool, true, false}
+use mathlib.Core.Path.{_≡_, sym, ap, subst, _∙_}
 use mathlib.Core.List.{List}
-use Prim.Native.Nat.{ℕ, zero, suc, _+_, _*_, _%_, _≤_, _<_}
+use Prim.Native.Nat.{ℕ, _+_, _*_, _≤_, _<_}
 use native.Mathlib.Decide.{decLt}
 use native.Mathlib.Nat.{mul-le-mul-right, suc-mul}
 use native.Mathlib.Omega.{arith}
-use lib.ListN.{length, getD, take, drop, replicate, getD-replicate, length-replicate, length-drop, List·getD-eq-default}
-use lib.Seq.{ext-getD, length-take-le}
+use lib.ListN.{length, getD, take, drop, length-drop, List·getD-eq-default}
+use lib.Seq.{length-take-le}
 use Rattle.erasure.specs.Code.{firstPoints, codedOf, decodedOf}
-use Rattle.erasure.specs.PassedLaws.{first-set, length-first}
-use Rattle.gf256.specs.Product.{plus, product}
-use Rattle.interpolate.specs.BlockLaws.{index-below, byte-stacked, stacked-by, length-blocksAt, blocks-byte, blocks-by, value-byte}
+use Rattle.erasure.specs.PassedLaws.{length-first}
+use Rattle.interpolate.specs.BlockLaws.{byte-stacked, length-blocksAt, blocks-byte, blocks-by, value-byte}
 use Rattle.interpolate.specs.Bytes.{Byte, byte, bytes, same, byte-small}
-use Rattle.interpolate.specs.RowLaws.{PointSet, different-points, part-byte, part-length}
-use Rattle.interpolate.specs.Tabulate.{tabulate, stacked, length-tabulate, getD-tabulate, length-stacked}
-use Rattle.interpolate.specs.Values.{byteAt, valueAt, blockAt, blocksAt}
+use Rattle.interpolate.specs.RowLaws.{PointSet, different-points, part-byte}
+use Rattle.interpolate.specs.Tabulate.{stacked, getD-tabulate}
+use Rattle.interpolate.specs.Values.{byteAt, valueAt}
 use Rattle.interpolate.specs.WeightLaws.{pointsOf}
-use Rattle.poly.specs.Laws.{round-trip, recovered, interpolated-at, interpolated-cong, interpolated-linear, interpolated-zero, on-one-polynomial}
-use Rattle.poly.specs.Polynomial.{eval, basis, interpolated}
+use Rattle.poly.specs.Laws.{recovered}
+use Rattle.poly.specs.Polynomial.{interpolated}
 
 -- block j of a row of blocks
 unfoldable pub blockOf : ℕ → List ℕ → ℕ → List ℕ

@@ -1,7 +1,7 @@
 // The erasure code (document 01, "Settings and the code"): encode and decode, and their C entry points.
 ghost use mathlib.Core.Path.{_≡_};
 ghost use mathlib.Core.Bool.{true};
-ghost use Prim.Native.Nat.{ℕ, _*_, _≤_};
+ghost use Prim.Native.Nat.{_*_};
 ghost use lib.ListN.{length};
 ghost use Rattle.erasure.specs.Code.{codedOf, decodedOf};
 ghost use Rattle.erasure.specs.Refusals.{allBelow, allDifferent, encodeRefusal, decodeRefusal, encodedBuffer, decodedBuffer};

@@ -3,7 +3,7 @@
 use mathlib.Core.Path.{_≡_}
 use mathlib.Core.Bool.{Bool, true, false, _&&_}
 use mathlib.Core.List.{List, [], _∷_}
-use Prim.Native.Nat.{ℕ, _+_, _*_, _^_, _-_}
+use Prim.Native.Nat.{ℕ, _*_, _^_, _-_}
 use lib.Dec.{T, eqb, eqb→eq}
 use lib.ListN.{getD}
 use Rattle.block.specs.Block.{weighted, checkOf, zeros, headKind, headBody, entryKind, entryBody}
@@ -15,7 +15,6 @@ use Rattle.little.specs.Little.{byteOf, little}
 use Rattle.poly.specs.Polynomial.{pick, sub, sum, factor, basisTo, basis, interpolated}
 use Rattle.settings.specs.Ranges.{quorum, faults, inRange, bricksInRange, sizeInRange, capacityInRange, settingsRefusal}
 use Rattle.settings.specs.Times.{maxCount, timeOf, nextCount, drawRefusal, advanced, drawOf}
-use Rattle.settings.specs.declared.Clock.{Clock}
 use Rattle.settings.specs.declared.Draw.{Draw}
 use Rattle.settings.specs.declared.Draw.the-variants.{Drawn, Refused}
 

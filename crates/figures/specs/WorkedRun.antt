@@ -4,7 +4,7 @@ use mathlib.Core.List.{List, [], _∷_}
 use native.Mathlib.Omega.{arith}
 use Rattle.little.specs.LittleLaws.{Bytes}
 use Rattle.settings.specs.declared.Settings.{Settings}
-use Rattle.order.specs.Claim.{read, write, ok, bytes, finished, cut, Seen}
+use Rattle.order.specs.Claim.{read, write, bytes, finished, cut, Seen}
 use Rattle.register.specs.Opened.{all-open}
 use Rattle.register.specs.Runs.{untouched, Event, startWrite, startRead, arrives, crashes, goesDown, comesUp, run}
 
@@ -67,22 +67,3 @@ pub bench-seen : run small bench .seen
     ∷ []
 unfolding all-open bench
 bench-seen = refl
-
--- a write of 0a that finishes, then a read of one round
-pub written-then-read : List Event
-written-then-read =
-    startWrite 0 1 (10 ∷ []) ten
-    ∷ arrives 0 ∷ arrives 1 ∷ arrives 3 ∷ arrives 4
-    ∷ arrives 5 ∷ arrives 6 ∷ arrives 8 ∷ arrives 9
-    ∷ startRead 1 2 0
-    ∷ arrives 13 ∷ arrives 14 ∷ arrives 16 ∷ arrives 17
-    ∷ []
-
-pub written-is-seen : run small written-then-read .seen
-    ≡ Seen.began 16 (write (10 ∷ []))
-    ∷ Seen.ended 16 (finished ok)
-    ∷ Seen.began 33 read
-    ∷ Seen.ended 33 (finished (bytes (10 ∷ [])))
-    ∷ []
-unfolding all-open written-then-read
-written-is-seen = refl

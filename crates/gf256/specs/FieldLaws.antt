@@ -6,8 +6,8 @@ use native.Mathlib.Nat.{not-suc-le-zero, add-comm, add-assoc}
 use native.Mathlib.Omega.{arith}
 use lib.Dec.{eqb}
 use borrow.Author.Tests.{eqb-true, eq-eqb}
-use Rattle.gf256.specs.Product.{plus, twice, shiftAdd, product, doubled, power, inverseBelow, inverse, quotient}
-use Rattle.gf256.specs.ProductLaws.{product-byte, product-plus-left, product-plus-right, product-zero, zero-product, product-one}
+use Rattle.gf256.specs.Product.{plus, twice, shiftAdd, product, doubled, power, inverseBelow, inverse}
+use Rattle.gf256.specs.ProductLaws.{product-zero, zero-product, product-one}
 use Rattle.gf256.specs.TableLaws.{power-byte, power-add, power-cycle, log-exists}
 
 pub product-comm : (a b : ℕ) → a < 256 → b < 256 → product a b ≡ product b a

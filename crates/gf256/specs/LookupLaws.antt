@@ -1,11 +1,11 @@
 -- What a product and an inverse are by the two tables: one law for each way through a look-up.
-use mathlib.Core.Path.{_≡_, refl, sym, ap, ap₂, _∙_}
+use mathlib.Core.Path.{_≡_, sym, ap, ap₂, _∙_}
 use mathlib.Core.List.{List}
-use Prim.Native.Nat.{ℕ, zero, suc, _+_, _-_, _≤_, _<_}
+use Prim.Native.Nat.{ℕ, _+_, _-_, _≤_, _<_}
 use native.Mathlib.Omega.{arith}
 use lib.ListN.{getD}
 use Rattle.gf256.specs.Product.{product, doubled, power, inverse, quotient}
-use Rattle.gf256.specs.ProductLaws.{product-zero, zero-product, product-one}
+use Rattle.gf256.specs.ProductLaws.{product-zero, zero-product}
 use Rattle.gf256.specs.TableLaws.{power-byte, power-add, power-cycle}
 use Rattle.gf256.specs.Tables.{IsPowers, IsLogs}
 use Rattle.gf256.specs.FieldLaws.{power-inverse, product-inverse, inverse-byte, inverse-unique, inverse-zero}

@@ -1,14 +1,14 @@
 -- Laws of the product: it stays among bytes, keeps sums on both sides, and doubling goes in and out.
 use mathlib.Core.Path.{_≡_, refl, sym, ap, ap₂, subst, _∙_}
 use mathlib.Core.Bool.{Bool}
-use Prim.Native.Nat.{ℕ, zero, suc, _+_, _*_, _/_, _%_, _^_, _≤_, _<_}
+use Prim.Native.Nat.{ℕ, zero, suc, _+_, _*_, _/_, _%_, _^_, _<_}
 use native.Mathlib.Nat.{zero-mul, one-mul, mul-zero, zero-add, suc-add, pow-suc}
 use native.Mathlib.Omega.{arith}
-use lib.Bits.{bitXor, xor-shifted}
-use lib.Dec.{T, ltb, eqb, ltb→lt, eqb→eq}
+use lib.Bits.{xor-shifted}
+use lib.Dec.{ltb, eqb, ltb→lt, eqb→eq}
 use Rattle.gf256.specs.Computed.{allBelow, at-below}
 use Rattle.gf256.specs.Product.{plus, twice, shiftAdd, product, doubled}
-use Rattle.gf256.specs.XorLaws.{plus-assoc, plus-comm, plus-self, plus-zero, zero-plus, plus-byte, plus-swap, plus-half, plus-odd, bit-plus, bit-times, twice-plus, twice-zero, twice-small}
+use Rattle.gf256.specs.XorLaws.{plus-zero, zero-plus, plus-byte, plus-swap, plus-half, plus-odd, bit-plus, bit-times, twice-plus, twice-zero, twice-small}
 
 twice-fits : ℕ → Bool
 twice-fits a = ltb (twice a) 256

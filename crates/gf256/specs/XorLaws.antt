@@ -1,18 +1,11 @@
 -- Laws of exclusive or and of doubling.
-use mathlib.Core.Path.{_≡_, refl, sym, ap, ap₂, _∙_, subst}
-use mathlib.Core.Logic.{_⊎_, inl, inr}
-use Prim.Native.Nat.{ℕ, zero, suc, _+_, _*_, _/_, _%_, _^_, _≤_, _<_}
+use mathlib.Core.Path.{_≡_, refl, sym, ap, ap₂, _∙_}
+use Prim.Native.Nat.{ℕ, zero, suc, _+_, _*_, _/_, _%_, _^_, _<_}
 use native.Mathlib.Nat.{mod-lt, zero-mul, one-mul}
 use native.Mathlib.Omega.{arith}
 use lib.Arith.{bin-ind}
-use lib.Bits.{bitXor, differ, xor-step, xor-comm, xor-self, xor-zero-l, xor-zero-r, xor-lt, xor-block, xor-shr, xor-mod, xor-shifted}
+use lib.Bits.{bitXor, differ, xor-step, xor-comm, xor-self, xor-zero-l, xor-zero-r, xor-lt, xor-block, xor-shr, xor-mod}
 use Rattle.gf256.specs.Product.{plus, polynomial, twice}
-
--- a bit is 0 or 1
-pub bit-cases : (a : ℕ) → a < 2 → (a ≡ 0) ⊎ (a ≡ 1)
-bit-cases zero h = inl refl
-bit-cases (suc zero) h = inr refl
-bit-cases (suc (suc a)) h = absurd (omega arith)
 
 differ-assoc : (x y z : ℕ) → x < 2 → y < 2 → z < 2 → differ (differ x y) z ≡ differ x (differ y z)
 differ-assoc zero y z hx hy hz = refl

@@ -1,6 +1,5 @@
 -- What a caller of `open` learns from its answer.
-use mathlib.Core.Path.{_≡_, refl, sym, ap, subst, _∙_}
-use mathlib.Core.Bool.{Bool, true, false, cond}
+use mathlib.Core.Path.{_≡_, refl, sym, ap, _∙_}
 use mathlib.Core.List.{List, [], _∷_, _++_}
 use Prim.Native.Nat.{ℕ, zero, suc, _+_, _-_, _≤_, _<_}
 use native.Mathlib.Omega.{arith}
@@ -13,7 +12,7 @@ use Rattle.settings.specs.declared.Settings.{Settings}
 use Rattle.image.specs.Brick.{Brick, count, timeAt, newest}
 use Rattle.image.specs.Parse.{Parsed, Opens, Refuses, parse}
 use Rattle.image.specs.ParseLaws.{opened}
-use Rattle.image.specs.Opening.{rowOf, blank, entryFor, entryOf, workingLog, opening, answerNumber, panelOf}
+use Rattle.image.specs.Opening.{rowOf, entryFor, entryOf, workingLog, opening, answerNumber, panelOf}
 use Rattle.image.specs.declared.Entry.{Entry}
 use Rattle.image.specs.declared.Head.{Head}
 use Rattle.image.specs.declared.Holding.the-variants.{Held}

@@ -1,9 +1,8 @@
 -- Document 01, "The saved brick": "capacity + 1 blocks of 512 bytes".
-use mathlib.Core.Bool.{Bool, cond}
+use mathlib.Core.Bool.{cond}
 use mathlib.Core.List.{List, [], _++_}
 use Prim.Native.Nat.{ℕ, zero, suc, _+_, _*_}
 use lib.Dec.{ltb}
-use lib.ListN.{length, take, drop}
 use Rattle.settings.specs.declared.Settings.{Settings}
 use Rattle.block.specs.Block.{headBlock, entryBlock, unusedBlock}
 use Rattle.image.specs.Brick.{Brick, count, timeAt, heldAt}

@@ -1,5 +1,5 @@
 -- "If an answer is an enum, a definition gives this paper's number and values for each of its cases": the answers of an opening and of the panel.
-use mathlib.Core.Path.{_≡_, refl, sym, ap, _∙_}
+use mathlib.Core.Path.{_≡_, refl, sym, _∙_}
 use mathlib.Core.Bool.{Bool, true, false, cond}
 use mathlib.Core.List.{List}
 use Prim.Native.Nat.{ℕ}

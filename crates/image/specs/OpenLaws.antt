@@ -1,25 +1,25 @@
 -- The ways through an opening.
-use mathlib.Core.Path.{_≡_, refl, sym, ap, ap₂, subst, _∙_}
-use mathlib.Core.Bool.{Bool, true, false, cond, not, _&&_}
-use mathlib.Core.List.{List, [], _∷_, _++_, append-assoc, append-nil}
-use Prim.Native.Nat.{ℕ, zero, suc, _+_, _-_, _*_, _≤_, _<_}
+use mathlib.Core.Path.{_≡_, refl, sym, ap, ap₂, _∙_}
+use mathlib.Core.Bool.{Bool, true, false, _&&_}
+use mathlib.Core.List.{List, [], _∷_, _++_, append-nil}
+use Prim.Native.Nat.{ℕ, zero, suc, _+_, _-_, _≤_, _<_}
 use native.Mathlib.Omega.{arith}
 use native.Mathlib.Numerals.{add-one}
 use lib.Dec.{leb, ltb, eqb}
-use lib.ListN.{length, take, drop, replicate}
+use lib.ListN.{length, replicate}
 use lib.Seq.{append-snoc}
 use native.Mathlib.Nat.{add-zero}
 use native.Mathlib.Decide.{decLt}
-use borrow.Author.Tests.{ltb-true, le-ltb, leb-true, leb-false, eqb-true}
+use borrow.Author.Tests.{ltb-true, le-ltb, leb-true, eqb-true}
 use Rattle.settings.specs.Ranges.{inRange}
 use Rattle.settings.specs.Refusal.{refuseUnless, firstRefusal}
 use Rattle.settings.specs.RangeLaws.{SettingsRange, and-left, and-right}
 use Rattle.settings.specs.declared.Settings.{Settings}
 use Rattle.block.specs.Block.{checked}
-use Rattle.image.specs.Brick.{Brick, count, timeAt, countSound}
+use Rattle.image.specs.Brick.{count, timeAt, countSound}
 use Rattle.settings.specs.Each.{each, each-at, each-all, each-not}
 use Rattle.image.specs.Image.{imageSize}
-use Rattle.image.specs.Parse.{blockAt, countIn, promiseIn, timeIn, brickIn, checkedAt, isImage, openRefusal, Parsed, Opens, Refuses, parse}
+use Rattle.image.specs.Parse.{blockAt, countIn, promiseIn, timeIn, brickIn, checkedAt, isImage, openRefusal, Refuses, parse}
 use Rattle.image.specs.ParseLaws.{range-of, count-in, refusal-0, refusal-5, refusal-6, parse-opens, parse-refuses}
 use Rattle.image.specs.Opening.{rowOf, blank, noBlank, entryFor, entryOf, workingLog, opening, lendingRefusal, headFits}
 use Rattle.image.specs.ScanLaws.{checkAfter, slotAt, entryAt, Scanned}

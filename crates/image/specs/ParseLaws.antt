@@ -1,30 +1,27 @@
 -- Opening what was saved gives it back; what opens is what was saved; one changed byte is refused.
-use mathlib.Core.Path.{_≡_, refl, sym, ap, ap₂, subst, _∙_}
-use mathlib.Core.Bool.{Bool, true, false, cond, not, _&&_}
-use mathlib.Core.List.{List, [], _∷_, _++_}
-use Prim.Native.Nat.{ℕ, zero, suc, _+_, _-_, _*_, _/_, _%_, _^_, _≤_, _<_}
+use mathlib.Core.Path.{_≡_, refl, sym, ap, subst, _∙_}
+use mathlib.Core.Bool.{Bool, true, false, cond, _&&_}
+use mathlib.Core.List.{List, [], _∷_}
+use Prim.Native.Nat.{ℕ, zero, suc, _+_, _≤_, _<_}
 use native.Mathlib.Omega.{arith}
-use native.Mathlib.Nat.{add-zero, add-suc}
-use lib.Dec.{leb, ltb, eqb}
-use lib.ListN.{length, take, drop, getD, set, length-set}
-use lib.Seq.{ext-getD, drop-set-add, take-set-lt, take-take}
-use borrow.Author.Tests.{le-ltb, ltb-true, lt-ltb, le-leb, lt-leb, leb-false, eqb-true, eq-eqb, ne-eqb}
+use native.Mathlib.Nat.{add-zero}
+use lib.Dec.{ltb, eqb}
+use lib.ListN.{length, take, drop, getD}
+use lib.Seq.{ext-getD}
+use borrow.Author.Tests.{le-ltb, ltb-true, lt-ltb, eqb-true, eq-eqb, ne-eqb}
 use Rattle.settings.specs.Ranges.{inRange, settingsRefusal}
-use Rattle.settings.specs.RangeLaws.{SettingsRange, settings-passed, and-left, and-right}
-use Rattle.settings.specs.Refusal.{refuseUnless, firstRefusal, badCheck, badRecord}
+use Rattle.settings.specs.RangeLaws.{SettingsRange, settings-passed}
+use Rattle.settings.specs.Refusal.{refuseUnless, firstRefusal}
 use Rattle.settings.specs.declared.Settings.{Settings}
 use Rattle.little.specs.Little.{number}
-use Rattle.little.specs.LittleLaws.{Bytes}
-use Rattle.block.specs.Block.{headBlock, entryBlock, checked, same, sealed, entryBody, headBody, unusedBlock, unusedBody}
+use Rattle.block.specs.Block.{headBlock, entryBlock, checked, same, entryBody, headBody, unusedBlock, unusedBody}
 use Rattle.block.specs.LayoutLaws.{head-count, head-promise, entry-time, entry-held}
 use Rattle.block.specs.CheckLaws.{sealed-checked}
 use Rattle.block.specs.SameLaws.{same-true, same-of}
-use Rattle.block.specs.ChangeLaws.{change-unchecked}
-use Rattle.image.specs.Brick.{Brick, LogEntry, noEntry, count, timeAt, heldAt, fresh, sound}
+use Rattle.image.specs.Brick.{Brick, noEntry, count, timeAt, heldAt, sound}
 use Rattle.settings.specs.Each.{each, each-all}
 use Rattle.image.specs.Image.{blockOf, imageOf, imageSize}
-use Rattle.image.specs.ImageLaws.{block-length}
-use Rattle.image.specs.Parse.{blockAt, countIn, promiseIn, timeIn, heldIn, entryIn, entriesIn, brickIn, checkedAt, isImage, openRefusal, Parsed, Opens, Refuses, parse}
+use Rattle.image.specs.Parse.{blockAt, countIn, promiseIn, timeIn, heldIn, entryIn, entriesIn, brickIn, checkedAt, isImage, openRefusal, Opens, Refuses, parse}
 use Rattle.image.specs.SoundLaws.{Sound, soundness, sound-again, saved-high, block-0, block-held, image-block, image-length}
 
 pub range-of : (s : Settings) → inRange s ≡ true → SettingsRange s
@@ -97,14 +94,6 @@ module _ (s : Settings) (brick : ℕ) (x : Brick) (range : SettingsRange s) (r :
 
 -- The ways through the refusal of an image.
 module _ (s : Settings) (brick : ℕ) (l : List ℕ) where
-  pub refusal-1 : inRange s ≡ false → openRefusal s brick l ≡ 1
-  unfolding openRefusal firstRefusal
-  refusal-1 a = rw a refl
-
-  pub refusal-2 : inRange s ≡ true → (length l ≡ imageSize s → ⊥) → openRefusal s brick l ≡ 2
-  unfolding openRefusal firstRefusal
-  refusal-2 a b = rw (a, ne-eqb (length l) (imageSize s) b) refl
-
   pub refusal-3 : inRange s ≡ true → length l ≡ imageSize s → s .n ≤ brick → openRefusal s brick l ≡ 3
   unfolding openRefusal firstRefusal
   refusal-3 a b c = rw (a, eq-eqb (length l) (imageSize s) b, le-ltb brick (s .n) c) refl

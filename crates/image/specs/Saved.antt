@@ -1,25 +1,24 @@
 -- The promises of the saved brick, in one place: there and back, one changed byte, and a fresh image.
-use mathlib.Core.Path.{_≡_, refl, sym, ap, subst, _∙_}
-use mathlib.Core.Bool.{Bool, true, false, _||_}
+use mathlib.Core.Path.{_≡_, refl, sym, ap, _∙_}
+use mathlib.Core.Bool.{true, false}
 use mathlib.Core.List.{List, [], _∷_}
-use Prim.Native.Nat.{ℕ, zero, suc, _+_, _-_, _*_, _/_, _%_, _≤_, _<_}
+use Prim.Native.Nat.{ℕ, zero, suc, _+_, _*_, _/_, _%_, _<_}
 use native.Mathlib.Omega.{arith}
-use lib.Dec.{eqb}
 use lib.ListN.{length, take, drop, getD, set, length-set}
 use lib.Seq.{drop-set-add, take-set-lt, getD-take, getD-drop}
 use Rattle.settings.specs.Ranges.{inRange}
 use Rattle.settings.specs.Refusal.{badCheck}
 use Rattle.settings.specs.declared.Settings.{Settings}
 use Rattle.little.specs.LittleLaws.{Bytes}
-use Rattle.block.specs.Block.{checked, zeros}
+use Rattle.block.specs.Block.{checked}
 use Rattle.block.specs.StoreLaws.{zeros-length}
 use Rattle.block.specs.ChangeLaws.{change-unchecked}
-use Rattle.image.specs.Brick.{Brick, noEntry, count, timeAt, heldAt, fresh, savedTime, risesAt, sound}
+use Rattle.image.specs.Brick.{Brick, count, timeAt, heldAt, fresh, savedTime, risesAt, sound}
 use Rattle.settings.specs.Each.{each-at, each-not}
 use Rattle.image.specs.Image.{imageOf, imageSize}
 use Rattle.image.specs.ImageLaws.{block-length}
 use Rattle.image.specs.Parse.{blockAt, checkedAt, Opens, Refuses, parse}
-use Rattle.image.specs.ParseLaws.{Opened, opened, parse-image, parse-refuses, refusal-5, range-of}
+use Rattle.image.specs.ParseLaws.{opened, parse-image, parse-refuses, refusal-5, range-of}
 use Rattle.image.specs.SoundLaws.{Sound, soundness}
 
 -- What was saved opens as it was.

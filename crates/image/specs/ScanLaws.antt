@@ -1,14 +1,12 @@
 -- The loop over the blocks after the head.
-use mathlib.Core.Path.{_≡_, refl, sym, ap, ap₂, subst, _∙_}
-use mathlib.Core.Bool.{Bool, true, false, cond, _&&_, _||_}
-use mathlib.Core.List.{List, [], _∷_, _++_, append-assoc, append-nil}
+use mathlib.Core.Path.{_≡_, refl, sym, ap, ap₂, _∙_}
+use mathlib.Core.Bool.{Bool, true, false, _&&_}
+use mathlib.Core.List.{List, [], _∷_, _++_, append-assoc}
 use Prim.Native.Nat.{ℕ, zero, suc, _+_, _-_, _*_, _≤_, _<_}
 use native.Mathlib.Omega.{arith}
 use native.Mathlib.Numerals.{add-one}
-use lib.Dec.{leb, ltb, eqb}
-use lib.ListN.{length, take, drop, set, getD, replicate, length-replicate}
+use lib.ListN.{length, take, drop, set, replicate}
 use lib.Seq.{set-at}
-use borrow.Author.Tests.{lt-ltb, le-ltb, ne-eqb}
 use Rattle.block.specs.Block.{checked}
 use Rattle.settings.specs.Each.{each, each-none, each-more, each-not}
 use Rattle.image.specs.ImageLaws.{block-length}

@@ -1,21 +1,20 @@
 -- What a brick that keeps to the rules satisfies, field by field, and its blocks.
-use mathlib.Core.Path.{_≡_, refl, sym, ap, ap₂, subst, _∙_}
+use mathlib.Core.Path.{_≡_, refl}
 use mathlib.Core.Bool.{Bool, true, false, cond, _&&_, _||_}
-use mathlib.Core.List.{List, [], _∷_, _++_}
-use Prim.Native.Nat.{ℕ, zero, suc, _+_, _-_, _*_, _^_, _≤_, _<_}
+use mathlib.Core.List.{[]}
+use Prim.Native.Nat.{ℕ, zero, suc, _+_, _*_, _^_, _≤_, _<_}
 use native.Mathlib.Omega.{arith}
-use native.Mathlib.Numerals.{add-one}
 use lib.Dec.{leb, ltb, eqb}
-use lib.ListN.{length, take, drop, getD}
+use lib.ListN.{length}
 use borrow.Author.Tests.{lt-ltb, le-ltb, le-leb, leb-true, ltb-true, eqb-true, eq-eqb}
 use Rattle.settings.specs.RangeLaws.{SettingsRange, and-left, and-right}
 use Rattle.settings.specs.Times.{validTime, noUpperEnd, timeOf}
 use Rattle.settings.specs.declared.Settings.{Settings}
 use Rattle.block.specs.Block.{headBlock, entryBlock, unusedBlock}
 use Rattle.block.specs.LayoutLaws.{head-length, entry-length, unused-length}
-use Rattle.image.specs.Brick.{Brick, LogEntry, count, timeAt, heldAt, savedTime, risesAt, entrySound, countSound, sound}
+use Rattle.image.specs.Brick.{Brick, count, timeAt, heldAt, savedTime, risesAt, entrySound, countSound, sound}
 use Rattle.settings.specs.Each.{each, each-at, each-all}
-use Rattle.image.specs.Image.{blockOf, stacked, imageOf, imageSize}
+use Rattle.image.specs.Image.{blockOf, imageOf, imageSize}
 use Rattle.image.specs.ImageLaws.{Even, stacked-at, stacked-length}
 use Rattle.image.specs.Parse.{blockAt}
 

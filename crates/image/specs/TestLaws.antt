@@ -1,23 +1,23 @@
 -- The tests on single blocks, taken together, are the test that the bytes are a brick's image.
-use mathlib.Core.Path.{_≡_, refl, sym, ap, ap₂, subst, _∙_}
-use mathlib.Core.Bool.{Bool, true, false, cond, _&&_, _||_}
-use mathlib.Core.List.{List, [], _∷_, _++_}
-use Prim.Native.Nat.{ℕ, zero, suc, _+_, _-_, _*_, _≤_, _<_}
+use mathlib.Core.Path.{_≡_, refl, sym, ap, ap₂, _∙_}
+use mathlib.Core.Bool.{Bool, true, false, _&&_, _||_}
+use mathlib.Core.List.{List, []}
+use Prim.Native.Nat.{ℕ, zero, suc, _+_, _-_, _≤_, _<_}
 use native.Mathlib.Omega.{arith}
 use native.Mathlib.Numerals.{add-one}
 use lib.Dec.{leb, ltb, eqb}
-use lib.ListN.{length, take, drop, getD, length-take, length-drop}
+use lib.ListN.{length, drop, length-take, length-drop}
 use borrow.Author.Tests.{lt-ltb, le-ltb, le-leb, leb-true, ltb-true, ltb-false}
 use Rattle.settings.specs.RangeLaws.{SettingsRange, and-left, and-right}
 use Rattle.settings.specs.declared.Settings.{Settings}
-use Rattle.block.specs.Block.{checked, sealed, same, headBody, headBlock, entryBody, entryBlock, unusedBody, unusedBlock}
+use Rattle.block.specs.Block.{sealed, same, headBody, headBlock, entryBody, entryBlock, unusedBody, unusedBlock}
 use Rattle.block.specs.CheckLaws.{checked-sealed, sealed-body}
 use Rattle.block.specs.SameLaws.{same-true, same-of}
-use Rattle.image.specs.Brick.{Brick, LogEntry, noEntry, count, timeAt, heldAt, savedTime, risesAt, countSound, sound}
+use Rattle.image.specs.Brick.{Brick, LogEntry, count, timeAt, heldAt, savedTime, risesAt, countSound, sound}
 use Rattle.settings.specs.Each.{each, each-at, each-all}
-use Rattle.image.specs.Image.{blockOf, stacked, imageOf, imageSize}
+use Rattle.image.specs.Image.{blockOf, imageOf, imageSize}
 use Rattle.image.specs.ImageLaws.{stacked-ext, stacked-of, block-length}
-use Rattle.image.specs.Parse.{blockAt, countIn, promiseIn, timeIn, heldIn, entryIn, entriesIn, brickIn, checkedAt, isImage}
+use Rattle.image.specs.Parse.{blockAt, countIn, promiseIn, timeIn, heldIn, entryIn, brickIn, checkedAt, isImage}
 use Rattle.image.specs.ParseLaws.{entries-at, count-in}
 use Rattle.image.specs.Opening.{rises, headFits, slotFits}
 use Rattle.image.specs.ScanLaws.{slotAt}

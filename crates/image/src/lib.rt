@@ -2,7 +2,7 @@
 ghost use mathlib.Core.Path.{_≡_};
 ghost use mathlib.Core.Bool.{_&&_};
 ghost use Prim.Native.Nat.{_+_, _*_, _≤_, _<_};
-ghost use lib.ListN.{length, take, drop};
+ghost use lib.ListN.{length, drop};
 ghost use Rattle.settings.specs.RangeLaws.{SettingsRange};
 ghost use Rattle.block.specs.Block.{same, unusedBody, entryBody};
 ghost use Rattle.image.specs.Brick.{savedTime};

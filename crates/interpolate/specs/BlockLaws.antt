@@ -1,14 +1,14 @@
 -- Blocks in a row, byte by byte.
-use mathlib.Core.Path.{_≡_, refl, sym, ap, ap₂, subst, _∙_}
-use mathlib.Core.List.{List, [], _∷_, _++_}
-use Prim.Native.Nat.{ℕ, zero, suc, _+_, _*_, _/_, _%_, _≤_, _<_}
+use mathlib.Core.Path.{_≡_, sym, ap, subst, _∙_}
+use mathlib.Core.List.{List, [], _++_}
+use Prim.Native.Nat.{ℕ, zero, suc, _+_, _*_, _/_, _%_, _<_}
 use native.Mathlib.Decide.{ℕ-discrete}
-use native.Mathlib.Nat.{not-suc-le-zero, zero-mul, suc-mul, mul-le-mul-right, div-add-mod', div-lt-iff-lt-mul, mod-lt}
+use native.Mathlib.Nat.{not-suc-le-zero, suc-mul, mul-le-mul-right, div-add-mod', div-lt-iff-lt-mul, mod-lt}
 use native.Mathlib.Omega.{arith}
-use lib.ListN.{length, getD, take, drop, List·getD-append}
+use lib.ListN.{length, getD, List·getD-append}
 use lib.Seq.{ext-getD, getD-append-add}
-use Rattle.interpolate.specs.Bytes.{Byte, byte, bytes, below}
-use Rattle.interpolate.specs.Tabulate.{tabulate, stacked, length-tabulate, getD-tabulate, length-stacked}
+use Rattle.interpolate.specs.Bytes.{byte, bytes, below}
+use Rattle.interpolate.specs.Tabulate.{stacked, length-tabulate, getD-tabulate, length-stacked}
 use Rattle.interpolate.specs.Values.{byteAt, valueAt, blockAt, blocksAt}
 use Rattle.poly.specs.Polynomial.{interpolated}
 

@@ -1,5 +1,5 @@
 -- Bytes as a field (document 01: "Bytes are elements of the 256-element field"): numbers below 256 with the sum and product of `gf256`.
-use mathlib.Core.Path.{_≡_, refl, sym, ap, _∙_}
+use mathlib.Core.Path.{_≡_}
 use mathlib.Core.HLevel.{Σ-prop-path}
 use Prim.Native.Nat.{ℕ, _<_, _%_}
 use native.Mathlib.Omega.{arith}

@@ -2,14 +2,14 @@
 -- of exactly one polynomial of degree below m"): the given bytes lie on exactly one polynomial with m coefficients, and `valueAt` is its value.
 use mathlib.Core.Path.{_≡_, sym, ap, _∙_}
 use mathlib.Core.List.{List}
-use Prim.Native.Nat.{ℕ, _≤_, _<_}
+use Prim.Native.Nat.{ℕ, _<_}
 use native.Mathlib.Nat.{le-of-eq}
 use lib.ListN.{length, getD}
 use Rattle.interpolate.specs.Bytes.{Byte, byte, bytes}
 use Rattle.interpolate.specs.RowLaws.{PointSet, different-points}
 use Rattle.interpolate.specs.Values.{byteAt, valueAt}
-use Rattle.poly.specs.Laws.{exists-through, unique, interpolates, on-one-polynomial}
-use Rattle.poly.specs.Polynomial.{eval, interpolated}
+use Rattle.poly.specs.Laws.{exists-through, unique, interpolates}
+use Rattle.poly.specs.Polynomial.{eval}
 
 -- The polynomial with coefficients c has, at each given point, that point's byte of position p.
 pub record Through (points : List ℕ) (size : ℕ) (blocks : List ℕ) (p : ℕ) (c : List Byte) : Type 0 where

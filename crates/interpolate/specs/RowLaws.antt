@@ -1,7 +1,7 @@
 -- A row of a code, block by block: the sum of the given blocks, each times its weight.
 use mathlib.Core.Path.{_≡_, refl, sym, ap, ap₂, _∙_}
 use mathlib.Core.List.{List, _++_, append-assoc}
-use Prim.Native.Nat.{ℕ, zero, suc, _+_, _-_, _*_, _%_, _≤_, _<_}
+use Prim.Native.Nat.{ℕ, suc, _+_, _-_, _*_, _%_, _≤_, _<_}
 use native.Mathlib.Nat.{zero-mul, suc-mul, mul-le-mul-right}
 use native.Mathlib.Numerals.{add-one}
 use native.Mathlib.Omega.{arith}
@@ -11,7 +11,7 @@ use lib.Seq.{getD-take, getD-drop, length-take-le, take-all, take-at}
 use borrow.Rule.Slice.PartMut.{putMid, postOf, same-len-mid}
 use lib.ListN.{length-append, length-drop}
 use Rattle.gf256.specs.Product.{plus, product, power}
-use Rattle.gf256.specs.Tables.{IsPowers, IsLogs}
+use Rattle.gf256.specs.Tables.{IsLogs}
 use Rattle.interpolate.specs.Bytes.{Byte, byte, bytes, byte-small}
 use Rattle.interpolate.specs.PlaceLaws.{place-is, place-not}
 use Rattle.interpolate.specs.Rows.{firstPlace, scaled, numerator, denominator}

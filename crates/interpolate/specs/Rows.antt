@@ -4,7 +4,7 @@ use mathlib.Core.List.{List, [], _∷_}
 use Prim.Native.Nat.{ℕ, zero, suc, _+_, _-_}
 use lib.Dec.{eqb}
 use lib.ListN.{length, getD}
-use Rattle.gf256.specs.Product.{plus, product, power}
+use Rattle.gf256.specs.Product.{plus, product}
 use Rattle.interpolate.specs.Tabulate.{tabulate}
 
 -- the place of the first x in a list, its length if there is none

@@ -1,15 +1,15 @@
 -- Lagrange's weights by logarithms: at a point x that is none of the given ones, the weight of point i is 2 to a sum of logarithms.
 use mathlib.Core.Path.{_≡_, refl, sym, ap, ap₂, _∙_}
-use mathlib.Core.Bool.{Bool, true, false, cond}
+use mathlib.Core.Bool.{cond}
 use mathlib.Core.List.{List}
 use Prim.Native.Nat.{ℕ, zero, suc, _+_, _-_, _%_, _≤_, _<_}
 use native.Mathlib.Decide.{ℕ-discrete}
 use native.Mathlib.Nat.{not-suc-le-zero, add-zero}
 use native.Mathlib.Omega.{arith}
 use lib.Dec.{eqb}
-use lib.ListN.{length, getD}
+use lib.ListN.{getD}
 use borrow.Author.Tests.{eq-eqb, ne-eqb}
-use Rattle.gf256.specs.LookupLaws.{log-below, log-power, inverse-is}
+use Rattle.gf256.specs.LookupLaws.{log-power, inverse-is}
 use Rattle.gf256.specs.Product.{plus, product, doubled, power, inverse}
 use Rattle.gf256.specs.TableLaws.{power-add, power-mod}
 use Rattle.gf256.specs.Tables.{IsLogs}

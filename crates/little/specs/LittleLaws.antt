@@ -1,5 +1,5 @@
 -- Little-endian numbers there and back, and the ways that a reader goes.
-use mathlib.Core.Path.{_≡_, refl, sym, ap, ap₂, subst, _∙_}
+use mathlib.Core.Path.{_≡_, refl, sym, ap, ap₂, _∙_}
 use mathlib.Core.List.{List, [], _∷_, _++_}
 use Prim.Native.Nat.{ℕ, zero, suc, _+_, _*_, _/_, _%_, _^_, _≤_, _<_}
 use native.Mathlib.Omega.{arith}
@@ -24,11 +24,6 @@ unfolding little
 little-length zero n = refl
 little-length (suc k) n = ap suc (little-length k (n / 256))
 
-pub little-bytes : (k n : ℕ) → Bytes (little k n)
-unfolding little Bytes byteOf
-little-bytes zero n = tt
-little-bytes (suc k) n = (omega arith, little-bytes k (n / 256))
-
 -- a number below the limit is what its bytes stand for
 pub number-little : (k n : ℕ) → n < limit k → number (little k n) ≡ n
 unfolding little number limit byteOf
@@ -46,14 +41,6 @@ little-number (b ∷ bs) h =
     let e0 : (b + 256 * number bs) % 256 ≡ b = omega arith in
     let e1 : (b + 256 * number bs) / 256 ≡ number bs = omega arith in
     ap₂ (λ (x : ℕ) (xs : List ℕ). x ∷ xs) e0 (ap (λ (x : ℕ). little (length bs) x) e1 ∙ little-number bs (h .1))
-
-pub number-limit : (bs : List ℕ) → Bytes bs → number bs < limit (length bs)
-unfolding number limit Bytes
-number-limit [] h = omega arith
-number-limit (b ∷ bs) h =
-    let h0 : b < 256 = h .0 in
-    let ih = number-limit bs (h .1) in
-    omega arith
 
 -- the limits of the widths that are used
 pub limit-2 : limit 2 ≡ 65536

@@ -1,6 +1,6 @@
 // Little-endian numbers (document 01, "The saved brick": "numbers little-endian").
 ghost use mathlib.Core.Path.{_≡_};
-ghost use Prim.Native.Nat.{_+_, _≤_, _<_, _^_};
+ghost use Prim.Native.Nat.{_+_, _≤_, _<_};
 ghost use lib.ListN.{length, take, drop};
 ghost use Rattle.little.specs.Little.{number, byteOf};
 

@@ -1,8 +1,8 @@
 -- What a message and a reply may hold: refusal 10, "a message or reply of unknown kind, with a time that isn't valid (0 passes only as the
 -- newest or entry time in a reply), a max outside 0 to 2^44, a round outside 1 to 1,000, or Read targets that aren't m different bricks".
 -- A field that a kind has no use for is not looked at.
-use mathlib.Core.Bool.{Bool, cond, not, _&&_, _||_}
-use mathlib.Core.List.{List, [], _∷_}
+use mathlib.Core.Bool.{Bool, cond, _&&_, _||_}
+use mathlib.Core.List.{[], _∷_}
 use Prim.Native.Nat.{ℕ}
 use lib.Dec.{eqb, leb, ltb}
 use Rattle.message.specs.Flags.{brickSet}

@@ -1,12 +1,11 @@
 // Messages and replies (document 01, "What a brick does", "What a coordinator does"): structs by value with a number for their kind,
 // so that an unknown kind can be refused. A block goes beside them in a slice.
 ghost use mathlib.Core.Path.{_≡_};
-ghost use mathlib.Core.Bool.{Bool};
 ghost use Prim.Native.Nat.{_≤_};
 ghost use lib.Dec.{ltb};
 ghost use Rattle.settings.specs.Count.{one-if};
 ghost use Rattle.message.specs.Flags.{members, flagsWithin, brickSet};
-ghost use Rattle.message.specs.Messages.{roundRight, kindRight, messageRefusal, foundRight, replyRight, replyRefusal};
+ghost use Rattle.message.specs.Messages.{roundRight, kindRight, messageRefusal, replyRight, replyRefusal};
 
 pub const READ: u8 = 1;
 

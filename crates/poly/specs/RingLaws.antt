@@ -56,20 +56,9 @@ module _ (F : Field) where
   pub neg-unique : (a b : carrier) → add a b ≡ zero → b ≡ neg a
   neg-unique a b e = add-cancel a b (neg a) (e ∙ sym (add-neg a))
 
-  -- −0 = 0.
-  pub neg-zero : neg zero ≡ zero
-  neg-zero = sym (neg-unique zero zero (add-zero zero))
-
   -- −(−a) = a.
   pub neg-neg : (a : carrier) → neg (neg a) ≡ a
   neg-neg a = sym (neg-unique (neg a) a (neg-add a))
-
-  -- −(a + b) = −a + −b.
-  pub neg-of-add : (a b : carrier) → neg (add a b) ≡ add (neg a) (neg b)
-  neg-of-add a b = sym (neg-unique (add a b) (add (neg a) (neg b)) gone)
-    where
-      gone : add (add a b) (add (neg a) (neg b)) ≡ zero
-      gone = add-assoc a b _ ∙ rw (add-left-comm b (neg a) (neg b), add-neg b, add-zero) (add-neg a)
 
   -- a · −b = −(a · b).
   pub mul-neg : (a b : carrier) → mul a (neg b) ≡ neg (mul a b)
@@ -88,11 +77,6 @@ module _ (F : Field) where
   unfolding sub
   sub-self a = add-neg a
 
-  -- a − 0 = a.
-  pub sub-zero : (a : carrier) → sub F a zero ≡ a
-  unfolding sub
-  sub-zero a = simp (sub, neg-zero, add-zero)
-
   -- Numbers whose difference is zero are equal.
   pub sub-eq : (a b : carrier) → sub F a b ≡ zero → a ≡ b
   unfolding sub
@@ -107,11 +91,6 @@ module _ (F : Field) where
   unfolding sub
   sub-mul a b c = distrib-right a (neg b) c ∙ rw neg-mul
 
-  -- a · (b − c) = a·b − a·c.
-  pub mul-sub : (a b c : carrier) → mul a (sub F b c) ≡ sub F (mul a b) (mul a c)
-  unfolding sub
-  mul-sub a b c = distrib a b (neg c) ∙ rw mul-neg
-
   -- 1/a · (a · b) = b, if a is not zero.
   pub inv-mul-mul : (a b : carrier) → (a ≡ zero → ⊥) → mul (inv a) (mul a b) ≡ b
   inv-mul-mul a b n = sym (mul-assoc (inv a) a b) ∙ rw (mul-comm (inv a) a, mul-inv a n) (one-mul b)
@@ -123,18 +102,3 @@ module _ (F : Field) where
   -- If a product is zero and one factor is not, the other is.
   pub other-is-zero : (a b : carrier) → (a ≡ zero → ⊥) → mul a b ≡ zero → b ≡ zero
   other-is-zero a b n e = mul-cancel a b zero n (e ∙ sym (mul-zero a))
-
-  -- Only 1/a makes one with a.
-  pub inv-unique : (a b : carrier) → (a ≡ zero → ⊥) → mul a b ≡ one → b ≡ inv a
-  inv-unique a b n e = mul-cancel a b (inv a) n (e ∙ sym (mul-inv a n))
-
-  -- A product of numbers that are not zero is not zero.
-  pub mul-nonzero : (a b : carrier) → (a ≡ zero → ⊥) → (b ≡ zero → ⊥) → mul a b ≡ zero → ⊥
-  mul-nonzero a b n k e = k (other-is-zero a b n e)
-
-  -- 1/(a · b) = 1/a · 1/b, if neither is zero.
-  pub inv-of-mul : (a b : carrier) → (a ≡ zero → ⊥) → (b ≡ zero → ⊥) → inv (mul a b) ≡ mul (inv a) (inv b)
-  inv-of-mul a b n k = sym (inv-unique (mul a b) (mul (inv a) (inv b)) (mul-nonzero a b n k) both)
-    where
-      both : mul (mul a b) (mul (inv a) (inv b)) ≡ one
-      both = mul-assoc a b _ ∙ rw (mul-left-comm b (inv a) (inv b), mul-inv b k, mul-one) (mul-inv a n)

@@ -1,5 +1,5 @@
 -- The 16 coordinators are all there are: one above 15 is refused by each routine, as 3, and stays as it was.
-use mathlib.Core.Path.{_≡_, refl, sym, subst, _∙_}
+use mathlib.Core.Path.{_≡_, refl, _∙_}
 use mathlib.Core.Bool.{Bool, true, false, cond, _&&_}
 use mathlib.Core.List.{List, [], _∷_}
 use Prim.Native.Nat.{ℕ, zero, suc, _*_, _%_, _≤_, _<_}
@@ -16,40 +16,11 @@ use Rattle.settings.specs.declared.Draw.{Draw}
 use Rattle.settings.specs.declared.Draw.the-variants.{Drawn, Refused}
 use Rattle.settings.specs.declared.Settings.{Settings}
 use Rattle.settings.specs.RefusalLaws.{tested}
-use Rattle.message.specs.declared.Reply.{Reply}
 use Rattle.coord_acts.specs.Steps.{Held, Went, Step, refused, went, checked}
 use Rattle.coord_checks.specs.Checks.{recordChecks, startChecks, writeRefusal, readRefusal, crashRefusal}
 use Rattle.coordinator.specs.Rules.{takeStep, crashed, crashStep, drawnThen, writeStep, readStep}
 use Rattle.coordinator.specs.StepLaws.{take-passed}
-use Rattle.register.specs.Runs.{
-  Item,
-  message,
-  reply,
-  World,
-  idle,
-  fresh,
-  Left,
-  Event,
-  startWrite,
-  startRead,
-  arrives,
-  crashes,
-  goesDown,
-  comesUp,
-  Moved,
-  unmoved,
-  putAt,
-  coordinated,
-  received,
-  arriving,
-  arrivingAt,
-  standing,
-  leftBy,
-  step,
-  next,
-  runFrom,
-  run,
-}
+use Rattle.register.specs.Runs.{Item, message, reply, World, idle, fresh, Left, Event, startWrite, startRead, arrives, crashes, goesDown, comesUp, Moved, unmoved, coordinated, received, arriving, arrivingAt, standing, leftBy, step, next, runFrom, run}
 use Rattle.register.specs.Invariant.{Hist, Inv}
 use Rattle.register.specs.BrickEvent.{put-there, first-passed}
 use Rattle.register.specs.StartEvent.{passes}

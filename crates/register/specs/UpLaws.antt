@@ -21,28 +21,11 @@ use Rattle.order.specs.StoreLaws.{stored-before}
 use Rattle.order.specs.GoneLaws.{gone-up}
 use Rattle.order.specs.ValueLaws.{val-up}
 use Rattle.register.specs.Runs.{plain, Item, message, reply}
-use Rattle.register.specs.Invariant.{
-  quorums,
-  Hist,
-  Means,
-  Stands,
-  BrickInv,
-  MessageInv,
-  Looked,
-  ReplyInv,
-  ItemInv,
-  CountedInv,
-  Running,
-  CoordinatorInv,
-  ImageInv,
-}
+use Rattle.register.specs.Invariant.{quorums, Hist, Means, Stands, BrickInv, MessageInv, Looked, ReplyInv, ItemInv, CountedInv, Running, CoordinatorInv}
 
 -- all that stands in the one list stands in the other
 abbrev pub Within : List Item → List Item → Type 0
 Within a b = (i : Item) → i ∈ a → i ∈ b
-
-pub within-same : (a : List Item) → Within a a
-within-same a i m = m
 
 pub within-more : (a b : List Item) → Within a (a ++ b)
 within-more a b i m = Memᴰ·append-left b m
@@ -156,9 +139,6 @@ module _ {s : Settings} {g : SettingsRange s} {h : Hist s} {f : Fact (plain s)} 
           → ((e : LogEntry) × (e ∈ x .log) × (e .time ≡ u)) ⊎ Gone (quorums s g) (f ∷ h) u
       keep u (inl w) = inl w
       keep u (inr w) = inr (gone-up v (above whole) w)
-
-  pub image-up : {b : ℕ} {image : List ℕ} → (AtBrick b f → ⊥) → ImageInv s g h b image → ImageInv s g (f ∷ h) b image
-  image-up other i = record { state = i .state; saved = i .saved; sound = i .sound; keeps = brick-up other (i .keeps) }
 
   -- a coordinator after a fact that does not concern it
   running-up : {sent : List Item} {c : ℕ} {k : Held} → (AtCoordinator c f → ⊥) → Running s g h sent c k → Running s g (f ∷ h) sent c k

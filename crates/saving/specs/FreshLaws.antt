@@ -1,19 +1,17 @@
 -- A fresh image, block by block.
-use mathlib.Core.Path.{_≡_, refl, sym, ap, subst, _∙_}
-use mathlib.Core.Bool.{Bool, true, false, cond, _&&_}
-use mathlib.Core.List.{List, [], _∷_, _++_}
-use Prim.Native.Nat.{ℕ, zero, suc, _+_, _-_, _*_, _≤_, _<_}
+use mathlib.Core.Path.{_≡_, refl, sym, subst, _∙_}
+use mathlib.Core.List.{List, []}
+use Prim.Native.Nat.{ℕ, zero, suc, _+_, _<_}
 use native.Mathlib.Omega.{arith}
-use lib.Dec.{leb, ltb, eqb}
 use lib.ListN.{length}
 use borrow.Author.Tests.{lt-ltb, le-ltb, le-leb, eq-eqb, ne-eqb}
 use Rattle.settings.specs.RangeLaws.{SettingsRange}
 use Rattle.settings.specs.declared.Settings.{Settings}
-use Rattle.block.specs.Block.{put, headBlock, entryBlock, unusedBlock, zeros}
+use Rattle.block.specs.Block.{put, headBlock, entryBlock, zeros}
 use Rattle.block.specs.LayoutLaws.{head-length, entry-length}
 use Rattle.block.specs.StoreLaws.{zeros-length}
 use Rattle.image.specs.Brick.{count, timeAt, heldAt, fresh}
-use Rattle.image.specs.Image.{blockOf, stacked, imageOf, imageSize}
+use Rattle.image.specs.Image.{blockOf, imageOf, imageSize}
 use Rattle.image.specs.Opening.{lendingRefusal}
 use Rattle.image.specs.Parse.{blockAt}
 use Rattle.saving.specs.BlocksLaws.{Blocks, blocks-of, blocks-put, blocks-ext, blocks-is, placed, clearedOf}

@@ -1,22 +1,21 @@
 -- The image after each change of a brick: which blocks were written.
-use mathlib.Core.Path.{_≡_, refl, sym, ap, ap₂, subst, _∙_}
-use mathlib.Core.Bool.{Bool, true, false, cond, _&&_}
-use mathlib.Core.List.{List, [], _∷_, _++_}
+use mathlib.Core.Path.{_≡_, refl, sym, ap, ap₂, _∙_}
+use mathlib.Core.Bool.{cond, _&&_}
+use mathlib.Core.List.{List, [], _∷_}
 use Prim.Native.Nat.{ℕ, zero, suc, _+_, _-_, _*_, _≤_, _<_}
 use native.Mathlib.Omega.{arith}
-use native.Mathlib.Numerals.{add-one}
-use native.Mathlib.Decide.{ℕ-discrete, decLt, decLe}
-use lib.Dec.{leb, ltb, eqb}
-use lib.ListN.{length, drop, getD, length-append, length-drop, List·getD-append}
+use native.Mathlib.Decide.{ℕ-discrete, decLt}
+use lib.Dec.{leb, ltb}
+use lib.ListN.{length, getD, length-append, length-drop, List·getD-append}
 use lib.Seq.{getD-at, getD-drop}
-use borrow.Author.Tests.{lt-ltb, le-ltb, le-leb, lt-leb, eq-eqb, ne-eqb}
+use borrow.Author.Tests.{lt-ltb, le-ltb, le-leb, lt-leb}
 use Rattle.settings.specs.RangeLaws.{SettingsRange}
 use Rattle.settings.specs.declared.Settings.{Settings}
 use Rattle.block.specs.Block.{put, headBlock, entryBlock, unusedBlock}
 use Rattle.block.specs.LayoutLaws.{head-length, entry-length}
 use Rattle.image.specs.Brick.{Brick, LogEntry, noEntry, count, timeAt, heldAt}
-use Rattle.image.specs.Image.{blockOf, stacked, imageOf, imageSize}
-use Rattle.image.specs.SoundLaws.{Sound, blocks-even, image-length, image-block, block-0, block-held, block-unused}
+use Rattle.image.specs.Image.{blockOf, imageOf, imageSize}
+use Rattle.image.specs.SoundLaws.{Sound, image-length, image-block, block-held, block-unused}
 use Rattle.saving.specs.BlocksLaws.{Blocks, blocks-put, blocks-ext, blocks-is, placed, placed-there, placed-other, clearedOf, shiftedOf}
 use Rattle.saving.specs.Saving.{promised, appended, without}
 

@@ -9,10 +9,6 @@ pub quorum-twice : (n m : ℕ) → m ≤ n → n + m ≤ quorum n m + quorum n m
 unfolding quorum faults
 quorum-twice n m h = omega arith
 
-pub quorum-high : (n m : ℕ) → quorum n m ≤ n
-unfolding quorum faults
-quorum-high n m = omega arith
-
 pub quorum-low : (n m : ℕ) → m ≤ n → m ≤ quorum n m
 unfolding quorum faults
 quorum-low n m h = omega arith

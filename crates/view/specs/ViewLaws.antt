@@ -1,8 +1,8 @@
 -- The view of an image that opened gives the brick's entries.
-use mathlib.Core.Path.{_≡_, refl, sym, ap, subst, _∙_}
+use mathlib.Core.Path.{_≡_, refl, sym, ap, _∙_}
 use mathlib.Core.Bool.{Bool, true, false, cond}
 use mathlib.Core.List.{List}
-use Prim.Native.Nat.{ℕ, _+_, _-_, _*_, _/_, _≤_, _<_}
+use Prim.Native.Nat.{ℕ, _+_, _*_, _/_, _≤_, _<_}
 use native.Mathlib.Omega.{arith}
 use lib.Dec.{leb}
 use lib.ListN.{length, take, drop}
@@ -12,7 +12,7 @@ use Rattle.settings.specs.declared.Settings.{Settings}
 use Rattle.little.specs.Little.{number}
 use Rattle.image.specs.Brick.{Brick, count, timeAt}
 use Rattle.image.specs.Image.{imageSize}
-use Rattle.image.specs.Parse.{Parsed, Opens, Refuses, parse, blockAt, countIn, timeIn, brickIn}
+use Rattle.image.specs.Parse.{Parsed, parse, blockAt, countIn, timeIn}
 use Rattle.image.specs.ParseLaws.{count-in}
 use Rattle.image.specs.TestLaws.{time-in}
 use Rattle.image.specs.Opening.{opening, answerNumber}

@@ -1,14 +1,10 @@
 use borrow.Author.Needs.{needs}
 use Rattle.bench.proofs.is_line.Statement.{statement}
 use Rattle.bench.proofs.is_line.Tie as tie
-use Rattle.bench.proofs.is_line.Reads as reads
-use Rattle.bench.proofs.is_line.Lts as lts
 
--- src/main.rt:144:9
 returns : tie.Need-returns
 returns c = search needs
 
--- src/main.rt:140:1
 returns-2 : tie.Need-returns-2
 returns-2 c = cc
 

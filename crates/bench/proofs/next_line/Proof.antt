@@ -5,11 +5,6 @@ use borrow.Author.Needs.{needs}
 use lib.ListN.{length}
 use Rattle.bench.proofs.next_line.Statement.{statement}
 use Rattle.bench.proofs.next_line.Tie as tie
-use Rattle.bench.proofs.next_line.Reads as reads
-use Rattle.bench.proofs.next_line.Lts as lts
-use Rattle.bench.proofs.goes_on.Reads as goes-on-reads
-use Rattle.bench.proofs.next_byte.Reads as next-byte-reads
-use Rattle.bench.proofs.turns_left.Reads as turns-left-reads
 
 abbrev Inv-loop : tie.InvT-loop
 Inv-loop chunk₀ line₀ q₀ turns₀ chunk line q turns =
@@ -18,39 +13,30 @@ Inv-loop chunk₀ line₀ q₀ turns₀ chunk line q turns =
 abbrev μ-loop : tie.MeasureT-loop
 μ-loop chunk₀ line₀ q₀ turns₀ chunk line q turns = turns
 
--- src/main.rt:127:5
 loop-holds : tie.Need-loop-holds Inv-loop μ-loop
 loop-holds c = (c .before .before .pre .0, omega arith, refl, refl)
 
--- src/main.rt:128:9
 next-byte-requires : tie.Need-next-byte-requires Inv-loop μ-loop
 next-byte-requires c κs = let v = c .before .before .before .loop .inv in (omega (arith, v .0, v .2), v .1, v .3 ∙ c .before .before .before .before .before .before .pre .1)
 
--- src/main.rt:129:13
 goes-on-requires : tie.Need-goes-on-requires Inv-loop μ-loop
 goes-on-requires c κs = search needs
 
--- src/main.rt:130:9
 turns-left-requires : tie.Need-turns-left-requires Inv-loop μ-loop
 turns-left-requires c κs = c .before .before .before .before .before .before .before .before .loop-test .taken
 
--- src/main.rt:127:5
 loop-less : tie.Need-loop-less Inv-loop μ-loop
 loop-less c = c .turns-left .ensures
 
--- src/main.rt:127:5
 loop-again : tie.Need-loop-again Inv-loop μ-loop
 loop-again c = let v = c .before .before .before .before .before .before .before .before .before .before .loop .inv in let k = c .before .before .before .before .before .before .next-byte in (omega (arith, k .ensures .0, v .2), k .ensures .1, k .kept .1 .0 ∙ v .2, k .kept .1 .1 .0 ∙ v .3)
 
--- src/main.rt:115:1
 same-length : tie.Need-same-length Inv-loop μ-loop
 same-length c = c .before .loop .inv .2
 
--- src/main.rt:115:1
 same-length-2 : tie.Need-same-length-2 Inv-loop μ-loop
 same-length-2 c = c .before .loop .inv .3
 
--- src/main.rt:115:1
 returns : tie.Need-returns Inv-loop μ-loop
 returns c = let v = c .before .loop .inv in (v .0, v .1)
 

@@ -4,61 +4,43 @@ use lib.Seq.{length-take-le}
 use borrow.Author.Needs.{needs}
 use Rattle.bench.proofs.play.Statement.{statement}
 use Rattle.bench.proofs.play.Tie as tie
-use Rattle.bench.proofs.play.Reads as reads
-use Rattle.bench.proofs.play.Lts as lts
-use Rattle.bench.proofs.is_line.Reads as is-line-reads
-use Rattle.bench_core.proofs.play_line.Reads as play-line-reads
-use Rattle.io.proofs.write_all.Reads as write-all-reads
 
--- src/main.rt:155:8
 is-line-requires : tie.Need-is-line-requires
 is-line-requires c κs = search needs
 
--- src/main.rt:156:9
 returns : tie.Need-returns
 returns c = search needs
 
--- src/main.rt:159:38
 slice-aggregate-play-line : tie.Need-slice-aggregate-play-line
 slice-aggregate-play-line c = sym (length-take-le _ (c .before .before .before .before .before .before .before .before .before .args .line .now) (c .before .before .before .before .before .before .before .before .before .pre))
 
--- src/main.rt:159:9
 play-line-requires : tie.Need-play-line-requires
 play-line-requires c κs = search needs
 
--- src/main.rt:161:40
 slice-reshare-prefix-write-all : tie.Need-slice-reshare-prefix-write-all
 slice-reshare-prefix-write-all c = let p = c .before .before .before .before .before .before .before .before .before .before .play-line in omega (arith, p .ensures .within, p .kept .1 .1 .1 .1 .1 .1 .0)
 
--- src/main.rt:161:40
 slice-aggregate-write-all : tie.Need-slice-aggregate-write-all
 slice-aggregate-write-all c = sym (length-take-le _ (c .before .before .before .before .before .before .before .before .before .before .before .play-line .last .1 .1 .1 .1 .1 .1 .0) (slice-reshare-prefix-write-all (c .before)))
 
--- src/main.rt:161:5
 write-all-requires : tie.Need-write-all-requires
 write-all-requires c κs = search needs
 
--- src/main.rt:143:1
 same-length : tie.Need-same-length
 same-length c = search needs
 
--- src/main.rt:143:1
 same-length-2 : tie.Need-same-length-2
 same-length-2 c = search needs
 
--- src/main.rt:143:1
 same-length-3 : tie.Need-same-length-3
 same-length-3 c = search needs
 
--- src/main.rt:143:1
 same-length-4 : tie.Need-same-length-4
 same-length-4 c = search needs
 
--- src/main.rt:143:1
 same-length-5 : tie.Need-same-length-5
 same-length-5 c = search needs
 
--- src/main.rt:143:1
 returns-2 : tie.Need-returns-2
 returns-2 c = search needs
 

@@ -5,12 +5,6 @@ use borrow.Author.Needs.{needs}
 use lib.ListN.{length}
 use Rattle.bench.proofs.play_all.Statement.{statement}
 use Rattle.bench.proofs.play_all.Tie as tie
-use Rattle.bench.proofs.play_all.Reads as reads
-use Rattle.bench.proofs.play_all.Lts as lts
-use Rattle.bench.proofs.next_line.Reads as next-line-reads
-use Rattle.bench.proofs.play.Reads as play-reads
-use Rattle.bench.proofs.turns_left.Reads as turns-left-reads
-use Rattle.bench_core.proofs.no_set.Reads as no-set-reads
 
 abbrev Inv-loop : tie.InvT-loop
 Inv-loop chunk₀ line₀ images₀ kept₀ numbers₀ bytes₀ out₀ b₀ r₀ turns₀ chunk line images kept numbers bytes out b r turns =
@@ -20,31 +14,24 @@ Inv-loop chunk₀ line₀ images₀ kept₀ numbers₀ bytes₀ out₀ b₀ r₀
 abbrev μ-loop : tie.MeasureT-loop
 μ-loop chunk₀ line₀ images₀ kept₀ numbers₀ bytes₀ out₀ b₀ r₀ turns₀ chunk line images kept numbers bytes out b r turns = turns
 
--- src/main.rt:178:9
 no-set-requires : tie.Need-no-set-requires Inv-loop μ-loop
 no-set-requires c κs = search needs
 
--- src/main.rt:187:5
 loop-holds : tie.Need-loop-holds Inv-loop μ-loop
 loop-holds c = (omega arith, refl, refl, refl, refl, refl, refl, refl)
 
--- src/main.rt:188:9
 next-line-requires : tie.Need-next-line-requires Inv-loop μ-loop
 next-line-requires c κs = let v = c .before .before .before .loop .inv in (omega (arith, v .0, v .1), v .2 ∙ c .before .before .before .before .before .before .before .before .before .before .before .before .pre)
 
--- src/main.rt:189:9
 play-requires : tie.Need-play-requires Inv-loop μ-loop
 play-requires c κs = let k = c .before .before .before .before .before .before .before .before .before .before .next-line in omega (arith, k .ensures .1, k .kept .1 .1 .0, c .before .before .before .before .before .before .before .before .before .before .before .before .before .before .loop .inv .2, c .before .before .before .before .before .before .before .before .before .before .before .before .before .before .before .before .before .before .before .before .before .before .before .pre)
 
--- src/main.rt:190:9
 turns-left-requires : tie.Need-turns-left-requires Inv-loop μ-loop
 turns-left-requires c κs = c .before .before .before .before .before .before .before .before .before .before .before .before .before .before .before .before .before .before .before .before .before .before .before .before .loop-test .taken
 
--- src/main.rt:187:5
 loop-less : tie.Need-loop-less Inv-loop μ-loop
 loop-less c = c .turns-left .ensures
 
--- src/main.rt:187:5
 loop-again : tie.Need-loop-again Inv-loop μ-loop
 loop-again c =
     let v = c .before .before .before .before .before .before .before .before .before .before .before .before .before .before .before .before .before .before .before .before .before .before .before .before .before .before .loop .inv in
@@ -60,35 +47,27 @@ loop-again c =
       p .1 .1 .1 .1 .1 .1 .1 .0 ∙ v .7,
     )
 
--- src/main.rt:167:1
 same-length : tie.Need-same-length Inv-loop μ-loop
 same-length c = c .before .loop .inv .1
 
--- src/main.rt:167:1
 same-length-2 : tie.Need-same-length-2 Inv-loop μ-loop
 same-length-2 c = c .before .loop .inv .2
 
--- src/main.rt:167:1
 same-length-3 : tie.Need-same-length-3 Inv-loop μ-loop
 same-length-3 c = c .before .loop .inv .3
 
--- src/main.rt:167:1
 same-length-4 : tie.Need-same-length-4 Inv-loop μ-loop
 same-length-4 c = c .before .loop .inv .4
 
--- src/main.rt:167:1
 same-length-5 : tie.Need-same-length-5 Inv-loop μ-loop
 same-length-5 c = c .before .loop .inv .5
 
--- src/main.rt:167:1
 same-length-6 : tie.Need-same-length-6 Inv-loop μ-loop
 same-length-6 c = c .before .loop .inv .6
 
--- src/main.rt:167:1
 same-length-7 : tie.Need-same-length-7 Inv-loop μ-loop
 same-length-7 c = c .before .loop .inv .7
 
--- src/main.rt:167:1
 returns : tie.Need-returns Inv-loop μ-loop
 returns c = search needs
 

@@ -5,50 +5,36 @@ use Rattle.bench_commit.specs.AnswerLaws.{seat-at, front-long}
 use borrow.Author.Needs.{needs}
 use Rattle.bench_acts.proofs.crash_at.Statement.{statement}
 use Rattle.bench_acts.proofs.crash_at.Tie as tie
-use Rattle.bench_acts.proofs.crash_at.Reads as reads
-use Rattle.bench_acts.proofs.crash_at.Lts as lts
-use Rattle.bench_acts.proofs.crash_with.Reads as crash-with-reads
-use Rattle.bench_play.proofs.refuse.Reads as refuse-reads
 
--- src/lib.rt:323:9
 refuse-requires : tie.Need-refuse-requires
 refuse-requires c κs = search needs
 
--- src/lib.rt:323:9
 same-length : tie.Need-same-length
 same-length c = search needs
 
--- src/lib.rt:323:9
 returns : tie.Need-returns
 returns c =
     let s = c .before .before .before .before .before .before .before .before .before in
     crash-past (s .args .b) (s .args .c) (s .args .kept .now) (s .args .numbers .now) (s .args .bytes .now) 0 (s .args .out .now) _ _ (omega (arith, c .before .before .before .before .if1 .taken)) (c .before .before .refuse .ensures)
 
--- src/lib.rt:326:16
 mul-data : tie.Need-mul-data
 mul-data c = search needs
 
--- src/lib.rt:327:15
 mul-all : tie.Need-mul-all
 mul-all c = search needs
 
--- src/lib.rt:334:9
 array-borrow-prefix-blocks : tie.Need-array-borrow-prefix-blocks
 array-borrow-prefix-blocks c = search needs
 
--- src/lib.rt:334:9
 slice-aggregate-crash-with : tie.Need-slice-aggregate-crash-with
 slice-aggregate-crash-with c = front-long _ (c .before .before .before .before .before .before .before .before .before .pre .fits .small .blocks-fit)
 
--- src/lib.rt:335:9
 array-borrow-prefix-stripe : tie.Need-array-borrow-prefix-stripe
 array-borrow-prefix-stripe c = search needs
 
--- src/lib.rt:335:9
 slice-aggregate-crash-with-2 : tie.Need-slice-aggregate-crash-with-2
 slice-aggregate-crash-with-2 c = front-long _ (c .before .before .before .before .before .before .before .before .before .before .pre .fits .small .stripe-fits)
 
--- src/lib.rt:331:5
 crash-with-requires : tie.Need-crash-with-requires
 crash-with-requires c κs =
     let s = c .before .before .before .before .before .before .before .before .before .before .before .before .before .before in
@@ -57,23 +43,18 @@ crash-with-requires c κs =
       record { blocks-long = long; stripe-long = sym (front-long _ (s .pre .fits .small .stripe-fits)); coded-long = long },
     )
 
--- src/lib.rt:311:1
 same-length-2 : tie.Need-same-length-2
 same-length-2 c = search needs
 
--- src/lib.rt:311:1
 same-length-3 : tie.Need-same-length-3
 same-length-3 c = search needs
 
--- src/lib.rt:311:1
 same-length-4 : tie.Need-same-length-4
 same-length-4 c = search needs
 
--- src/lib.rt:311:1
 same-length-5 : tie.Need-same-length-5
 same-length-5 c = search needs
 
--- src/lib.rt:311:1
 returns-2 : tie.Need-returns-2
 returns-2 c =
     let s = c .before .before .before .before .before .before .before .before .before .before .before .before .before .before .before .before .before .before .before .before .before .before .before .before .before in

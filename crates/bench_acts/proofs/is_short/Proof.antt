@@ -2,14 +2,10 @@ use borrow.Author.Needs.{needs}
 use Rattle.bench_acts.specs.ShortLaws.{short-zero, short-other}
 use Rattle.bench_acts.proofs.is_short.Statement.{statement}
 use Rattle.bench_acts.proofs.is_short.Tie as tie
-use Rattle.bench_acts.proofs.is_short.Reads as reads
-use Rattle.bench_acts.proofs.is_short.Lts as lts
 
--- src/lib.rt:223:9
 returns : tie.Need-returns
 returns c = search (needs, short-zero)
 
--- src/lib.rt:219:1
 returns-2 : tie.Need-returns-2
 returns-2 c = search (needs, short-other)
 

@@ -2,31 +2,22 @@ use Rattle.bench_acts.specs.ShortLaws.{digits-wrong, digits-right}
 use borrow.Author.Needs.{needs}
 use Rattle.bench_acts.proofs.read_content.Statement.{statement}
 use Rattle.bench_acts.proofs.read_content.Tie as tie
-use Rattle.bench_acts.proofs.read_content.Reads as reads
-use Rattle.bench_acts.proofs.read_content.Lts as lts
-use Rattle.bench_line.proofs.hex_bytes.Reads as hex-bytes-reads
 
--- src/lib.rt:234:8
 sub-if1 : tie.Need-sub-if1
 sub-if1 c = search needs
 
--- src/lib.rt:234:28
 mul-if1 : tie.Need-mul-if1
 mul-if1 c = search needs
 
--- src/lib.rt:235:9
 returns : tie.Need-returns
 returns c = let s = c .before .before .before in digits-wrong (s .args .line .now) (s .args .content .now) (s .args .hex) (c .if1 .taken)
 
--- src/lib.rt:237:5
 hex-bytes-requires : tie.Need-hex-bytes-requires
 hex-bytes-requires c κs = search needs
 
--- src/lib.rt:229:1
 same-length : tie.Need-same-length
 same-length c = search needs
 
--- src/lib.rt:229:1
 returns-2 : tie.Need-returns-2
 returns-2 c = let s = c .before .before .before .before .before .before .before in digits-right (s .args .line .now) (s .args .content .now) _ (s .args .hex) (c .before .before .before .before .if1 .left) (c .before .before .hex-bytes .ensures)
 

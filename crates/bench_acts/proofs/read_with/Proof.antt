@@ -5,26 +5,16 @@ use Rattle.bench_commit.specs.ActedLaws.{acted-read}
 use borrow.Author.Needs.{needs}
 use Rattle.bench_acts.proofs.read_with.Statement.{statement}
 use Rattle.bench_acts.proofs.read_with.Tie as tie
-use Rattle.bench_acts.proofs.read_with.Reads as reads
-use Rattle.bench_acts.proofs.read_with.Lts as lts
-use Rattle.bench_commit.proofs.commit.Reads as commit-reads
-use Rattle.bench_state.proofs.coordinator_at.Reads as coordinator-at-reads
-use Rattle.bench_state.proofs.fetch.Reads as fetch-reads
-use Rattle.coordinator.proofs.start_read.Reads as start-read-reads
 
--- src/lib.rt:146:5
 fetch-requires : tie.Need-fetch-requires
 fetch-requires c κs = search needs
 
--- src/lib.rt:148:9
 coordinator-at-requires : tie.Need-coordinator-at-requires
 coordinator-at-requires c κs = search needs
 
--- src/lib.rt:149:9
 start-read-requires : tie.Need-start-read-requires
 start-read-requires c κs = search needs
 
--- src/lib.rt:150:5
 commit-requires : tie.Need-commit-requires
 commit-requires c κs =
     let s = c .before .before .before .before .before .before .before .before .before .before .before .before .before .before .before .before .before .before .before .before .before .before .before in
@@ -32,31 +22,24 @@ commit-requires c κs =
     let long = f .1 .1 .0 ∙ s .pre .1 .blocks-long in
     (s .pre .0, record { blocks-long = long; stripe-long = f .1 .1 .1 .0 ∙ s .pre .1 .stripe-long; coded-long = long })
 
--- src/lib.rt:130:1
 same-length : tie.Need-same-length
 same-length c = c .before .before .before .before .before .before .before .before .before .before .before .before .before .before .before .before .before .before .before .before .before .before .fetch .kept .1 .1 .0
 
--- src/lib.rt:130:1
 same-length-2 : tie.Need-same-length-2
 same-length-2 c = c .before .before .before .before .before .before .before .before .before .before .before .before .before .before .before .before .before .before .before .before .before .before .fetch .kept .1 .1 .1 .0
 
--- src/lib.rt:130:1
 same-length-3 : tie.Need-same-length-3
 same-length-3 c = search needs
 
--- src/lib.rt:130:1
 same-length-4 : tie.Need-same-length-4
 same-length-4 c = search needs
 
--- src/lib.rt:130:1
 same-length-5 : tie.Need-same-length-5
 same-length-5 c = search needs
 
--- src/lib.rt:130:1
 same-length-6 : tie.Need-same-length-6
 same-length-6 c = search needs
 
--- src/lib.rt:130:1
 returns : tie.Need-returns
 returns c =
     let s = c .before .before .before .before .before .before .before .before .before .before .before .before .before .before .before .before .before .before .before .before .before .before .before .before .before .before .before .before .before .before .before .before in

@@ -6,58 +6,42 @@ use Rattle.bench_commit.specs.AnswerLaws.{seat-at, front-long, front-zeros}
 use borrow.Author.Needs.{needs}
 use Rattle.bench_acts.proofs.write_at.Statement.{statement}
 use Rattle.bench_acts.proofs.write_at.Tie as tie
-use Rattle.bench_acts.proofs.write_at.Reads as reads
-use Rattle.bench_acts.proofs.write_at.Lts as lts
-use Rattle.bench_acts.proofs.write_with.Reads as write-with-reads
-use Rattle.bench_play.proofs.refuse.Reads as refuse-reads
 
--- src/lib.rt:360:9
 refuse-requires : tie.Need-refuse-requires
 refuse-requires c κs = search needs
 
--- src/lib.rt:360:9
 same-length : tie.Need-same-length
 same-length c = search needs
 
--- src/lib.rt:360:9
 returns : tie.Need-returns
 returns c =
     let s = c .before .before .before .before .before .before .before .before .before .before in
     write-past (s .args .b) (s .args .c) (s .args .kept .now) (s .args .numbers .now) (s .args .bytes .now) 0 (s .args .out .now) _ (s .args .clock) (drop (s .args .hex) (s .args .line .now)) _ (omega (arith, c .before .before .before .before .if1 .taken)) (c .before .before .refuse .ensures)
 
--- src/lib.rt:363:16
 mul-data : tie.Need-mul-data
 mul-data c = search needs
 
--- src/lib.rt:364:15
 mul-all : tie.Need-mul-all
 mul-all c = search needs
 
--- src/lib.rt:375:9
 array-borrow-prefix-content : tie.Need-array-borrow-prefix-content
 array-borrow-prefix-content c = search needs
 
--- src/lib.rt:375:9
 slice-aggregate-write-with : tie.Need-slice-aggregate-write-with
 slice-aggregate-write-with c = front-long _ (c .before .before .before .before .before .before .before .before .before .before .pre .0 .fits .small .stripe-fits)
 
--- src/lib.rt:376:9
 array-borrow-prefix-blocks : tie.Need-array-borrow-prefix-blocks
 array-borrow-prefix-blocks c = search needs
 
--- src/lib.rt:376:9
 slice-aggregate-write-with-2 : tie.Need-slice-aggregate-write-with-2
 slice-aggregate-write-with-2 c = front-long _ (c .before .before .before .before .before .before .before .before .before .before .before .pre .0 .fits .small .blocks-fit)
 
--- src/lib.rt:377:9
 array-borrow-prefix-stripe : tie.Need-array-borrow-prefix-stripe
 array-borrow-prefix-stripe c = search needs
 
--- src/lib.rt:377:9
 slice-aggregate-write-with-3 : tie.Need-slice-aggregate-write-with-3
 slice-aggregate-write-with-3 c = front-long _ (c .before .before .before .before .before .before .before .before .before .before .before .before .pre .0 .fits .small .stripe-fits)
 
--- src/lib.rt:369:5
 write-with-requires : tie.Need-write-with-requires
 write-with-requires c κs =
     let s = c .before .before .before .before .before .before .before .before .before .before .before .before .before .before .before .before in
@@ -69,23 +53,18 @@ write-with-requires c κs =
       ),
     )
 
--- src/lib.rt:344:1
 same-length-2 : tie.Need-same-length-2
 same-length-2 c = search needs
 
--- src/lib.rt:344:1
 same-length-3 : tie.Need-same-length-3
 same-length-3 c = search needs
 
--- src/lib.rt:344:1
 same-length-4 : tie.Need-same-length-4
 same-length-4 c = search needs
 
--- src/lib.rt:344:1
 same-length-5 : tie.Need-same-length-5
 same-length-5 c = search needs
 
--- src/lib.rt:344:1
 returns-2 : tie.Need-returns-2
 returns-2 c =
     let s = c .before .before .before .before .before .before .before .before .before .before .before .before .before .before .before .before .before .before .before .before .before .before .before .before .before .before .before .before in

@@ -6,63 +6,42 @@ use Rattle.bench_acts.specs.ShortLaws.{content-long, count-is, content-i
 use borrow.Author.Needs.{needs}
 use Rattle.bench_acts.proofs.write_with.Statement.{statement}
 use Rattle.bench_acts.proofs.write_with.Tie as tie
-use Rattle.bench_acts.proofs.write_with.Reads as reads
-use Rattle.bench_acts.proofs.write_with.Lts as lts
-use Rattle.bench_commit.proofs.commit.Reads as commit-reads
-use Rattle.bench_acts.proofs.is_short.Reads as is-short-reads
-use Rattle.bench_acts.proofs.read_content.Reads as read-content-reads
-use Rattle.bench_play.proofs.refuse.Reads as refuse-reads
-use Rattle.bench_state.proofs.coordinator_at.Reads as coordinator-at-reads
-use Rattle.bench_state.proofs.fetch.Reads as fetch-reads
-use Rattle.coordinator.proofs.start_write.Reads as start-write-reads
 
--- src/lib.rt:261:9
 read-content-requires : tie.Need-read-content-requires
 read-content-requires c κs =
     let s = c .before .before .before .before .before .before .before .before .before in
     (s .pre .1 .1 .0, subst (λ (k : ℕ). k ≤ 32) (sym (content-long _ (s .args .content .now) (s .pre .1 .1 .1))) (s .pre .0 .fits .small .stripe-fits))
 
--- src/lib.rt:262:5
 fetch-requires : tie.Need-fetch-requires
 fetch-requires c κs = search needs
 
--- src/lib.rt:264:9
 coordinator-at-requires : tie.Need-coordinator-at-requires
 coordinator-at-requires c κs = search needs
 
--- src/lib.rt:265:9
 start-write-requires : tie.Need-start-write-requires
 start-write-requires c κs = search needs
 
--- src/lib.rt:266:8
 is-short-requires : tie.Need-is-short-requires
 is-short-requires c κs = search needs
 
--- src/lib.rt:267:9
 refuse-requires : tie.Need-refuse-requires
 refuse-requires c κs = let s = c .before .before .before .before .before .before .before .before .before .before .before .before .before .before .before .before .before .before .before .before .before .before .before .before .before .before .before .before .before .before in (s .pre .0 .few, s .pre .0 .room)
 
--- src/lib.rt:267:9
 same-length : tie.Need-same-length
 same-length c = c .before .before .before .before .before .before .before .before .before .before .before .before .before .before .before .before .before .before .before .before .before .before .before .read-content .kept .1 .1 .0
 
--- src/lib.rt:267:9
 same-length-2 : tie.Need-same-length-2
 same-length-2 c = c .before .before .before .before .before .before .before .before .before .before .before .before .before .before .before .before .before .fetch .kept .1 .1 .0
 
--- src/lib.rt:267:9
 same-length-3 : tie.Need-same-length-3
 same-length-3 c = search needs
 
--- src/lib.rt:267:9
 same-length-4 : tie.Need-same-length-4
 same-length-4 c = search needs
 
--- src/lib.rt:267:9
 same-length-5 : tie.Need-same-length-5
 same-length-5 c = search needs
 
--- src/lib.rt:267:9
 returns : tie.Need-returns
 returns c =
     let s = c .before .before .before .before .before .before .before .before .before .before .before .before .before .before .before .before .before .before .before .before .before .before .before .before .before .before .before .before .before .before .before .before .before in
@@ -77,7 +56,6 @@ returns c =
     (s .args .clock) digits _ _ _ (content-is x digits (s .args .content .now) _ _ (s .pre .1 .1 .1) (q .0) (q .1))
     (count-is x digits (s .args .content .now) (s .args .content .now) _ (s .pre .1 .1 .1) (q .0)) (c .before .before .before .before .before .before .before .before .start-write .ensures .0) (sym (c .before .before .before .before .before .is-short .ensures) ∙ c .before .before .before .before .if1 .taken) (c .before .before .refuse .ensures)
 
--- src/lib.rt:269:5
 commit-requires : tie.Need-commit-requires
 commit-requires c κs =
     let s = c .before .before .before .before .before .before .before .before .before .before .before .before .before .before .before .before .before .before .before .before .before .before .before .before .before .before .before .before .before .before .before .before .before .before .before in
@@ -87,35 +65,27 @@ commit-requires c κs =
       record { blocks-long = long; stripe-long = c .before .before .before .before .before .before .before .before .before .before .start-write .kept .1 .1 .1 .1 .1 .1 .0 ∙ f .1 .1 .1 .0 ∙ s .pre .1 .0 .stripe-long; coded-long = long },
     )
 
--- src/lib.rt:242:1
 same-length-6 : tie.Need-same-length-6
 same-length-6 c = c .before .before .before .before .before .before .before .before .before .before .before .before .before .before .before .before .before .before .before .before .before .before .before .before .before .before .before .before .before .before .before .before .before .before .read-content .kept .1 .1 .0
 
--- src/lib.rt:242:1
 same-length-7 : tie.Need-same-length-7
 same-length-7 c = c .before .before .before .before .before .before .before .before .before .before .before .before .before .before .before .before .before .before .before .before .before .before .before .before .before .before .before .before .fetch .kept .1 .1 .0
 
--- src/lib.rt:242:1
 same-length-8 : tie.Need-same-length-8
 same-length-8 c = c .before .before .before .before .before .before .before .before .before .before .before .before .before .before .before .before .before .before .before .start-write .kept .1 .1 .1 .1 .1 .1 .0 ∙ c .before .before .before .before .before .before .before .before .before .before .before .before .before .before .before .before .before .before .before .before .before .before .before .before .before .before .before .before .fetch .kept .1 .1 .1 .0
 
--- src/lib.rt:242:1
 same-length-9 : tie.Need-same-length-9
 same-length-9 c = search needs
 
--- src/lib.rt:242:1
 same-length-10 : tie.Need-same-length-10
 same-length-10 c = search needs
 
--- src/lib.rt:242:1
 same-length-11 : tie.Need-same-length-11
 same-length-11 c = search needs
 
--- src/lib.rt:242:1
 same-length-12 : tie.Need-same-length-12
 same-length-12 c = search needs
 
--- src/lib.rt:242:1
 returns-2 : tie.Need-returns-2
 returns-2 c =
     let s = c .before .before .before .before .before .before .before .before .before .before .before .before .before .before .before .before .before .before .before .before .before .before .before .before .before .before .before .before .before .before .before .before .before .before .before .before .before .before .before .before .before .before .before .before in

@@ -6,50 +6,35 @@ use Rattle.bench_carry.specs.CarryLaws.{carried-zero, carried-past, carr
 use borrow.Author.Needs.{needs}
 use Rattle.bench_carry.proofs.carry_one.Statement.{statement}
 use Rattle.bench_carry.proofs.carry_one.Tie as tie
-use Rattle.bench_carry.proofs.carry_one.Reads as reads
-use Rattle.bench_carry.proofs.carry_one.Lts as lts
-use Rattle.bench_reply.proofs.carry_reply.Reads as carry-reply-reads
-use Rattle.bench_deliver.proofs.carry_message.Reads as carry-message-reads
-use Rattle.bench_play.proofs.refuse.Reads as refuse-reads
-use Rattle.bench_sent.proofs.is_reply.Reads as is-reply-reads
 
--- src/lib.rt:51:9
 refuse-requires : tie.Need-refuse-requires
 refuse-requires c κs = search needs
 
--- src/lib.rt:51:9
 same-length : tie.Need-same-length
 same-length c = search needs
 
--- src/lib.rt:51:9
 returns : tie.Need-returns
 returns c =
     let s = c .before .before .before .before .before .before .before .before .before .before in
     carried-zero (s .args .b) (lent (s .args .images .now) (s .args .kept .now) (s .args .numbers .now) (s .args .bytes .now)) (s .args .at) (s .args .out .now) _ (lent (s .args .images .now) (s .args .kept .now) (s .args .numbers .now) (s .args .bytes .now)) _ (s .args .number) (c .before .before .before .before .if1 .taken) (c .before .before .refuse .ensures (lent (s .args .images .now) (s .args .kept .now) (s .args .numbers .now) (s .args .bytes .now)))
 
--- src/lib.rt:55:9
 refuse-requires-2 : tie.Need-refuse-requires-2
 refuse-requires-2 c κs = search needs
 
--- src/lib.rt:55:9
 same-length-2 : tie.Need-same-length-2
 same-length-2 c = search needs
 
--- src/lib.rt:55:9
 returns-2 : tie.Need-returns-2
 returns-2 c =
     let s = c .before .before .before .before .before .before .before .before .before .before .before .before in
     carried-past (s .args .b) (lent (s .args .images .now) (s .args .kept .now) (s .args .numbers .now) (s .args .bytes .now)) (s .args .at) (s .args .out .now) _ (lent (s .args .images .now) (s .args .kept .now) (s .args .numbers .now) (s .args .bytes .now)) _ (s .args .number) (c .before .before .before .before .if2 .taken) (c .before .before .refuse2 .ensures (lent (s .args .images .now) (s .args .kept .now) (s .args .numbers .now) (s .args .bytes .now)))
 
--- src/lib.rt:57:13
 sub-k : tie.Need-sub-k
 sub-k c = search needs
 
--- src/lib.rt:58:8
 is-reply-requires : tie.Need-is-reply-requires
 is-reply-requires c κs = search needs
 
--- src/lib.rt:59:9
 carry-reply-requires : tie.Need-carry-reply-requires
 carry-reply-requires c κs =
     let s = c .before .before .before .before .before .before .before .before .before .before .before .before .before .before .before in (
@@ -57,30 +42,24 @@ carry-reply-requires c κs =
       (omega (arith, c .before .before .before .before .before .before .before .before .before .if1 .left, c .before .before .before .before .before .before .before .if2 .left), sym (c .before .before .before .before .before .is-reply .ensures) ∙ c .before .before .before .before .if3 .taken),
     )
 
--- src/lib.rt:59:9
 same-length-3 : tie.Need-same-length-3
 same-length-3 c = search needs
 
--- src/lib.rt:59:9
 same-length-4 : tie.Need-same-length-4
 same-length-4 c = search needs
 
--- src/lib.rt:59:9
 same-length-5 : tie.Need-same-length-5
 same-length-5 c = search needs
 
--- src/lib.rt:59:9
 same-length-6 : tie.Need-same-length-6
 same-length-6 c = search needs
 
--- src/lib.rt:59:9
 returns-3 : tie.Need-returns-3
 returns-3 c =
     let s = c .before .before .before .before .before .before .before .before .before .before .before .before .before .before .before .before .before .before .before .before .before .before .before .before in
     carried-item (s .args .b) (lent (s .args .images .now) (s .args .kept .now) (s .args .numbers .now) (s .args .bytes .now)) (s .args .at) (s .args .out .now) _ _ _ (s .args .number) _ (c .before .before .before .before .before .before .before .before .before .before .before .before .before .before .before .before .before .before .if1 .left) (c .before .before .before .before .before .before .before .before .before .before .before .before .before .before .before .before .if2 .left) refl
     (c .before .before .before .before .before .before .before .before .carry-reply .ensures .turned (s .args .images .now))
 
--- src/lib.rt:61:5
 carry-message-requires : tie.Need-carry-message-requires
 carry-message-requires c κs =
     let s = c .before .before .before .before .before .before .before .before .before .before .before .before .before .before .before in (
@@ -88,23 +67,18 @@ carry-message-requires c κs =
       (sym (c .before .before .before .before .before .is-reply .ensures) ∙ c .before .before .before .before .if3 .left, s .pre .1),
     )
 
--- src/lib.rt:36:1
 same-length-7 : tie.Need-same-length-7
 same-length-7 c = search needs
 
--- src/lib.rt:36:1
 same-length-8 : tie.Need-same-length-8
 same-length-8 c = search needs
 
--- src/lib.rt:36:1
 same-length-9 : tie.Need-same-length-9
 same-length-9 c = search needs
 
--- src/lib.rt:36:1
 same-length-10 : tie.Need-same-length-10
 same-length-10 c = search needs
 
--- src/lib.rt:36:1
 returns-4 : tie.Need-returns-4
 returns-4 c =
     let s = c .before .before .before .before .before .before .before .before .before .before .before .before .before .before .before .before .before .before .before .before .before .before .before .before in

@@ -3,31 +3,22 @@ use Rattle.bench_carry.specs.CarryLaws.{turned-lined, switch-past, switc
 use borrow.Author.Needs.{needs}
 use Rattle.bench_carry.proofs.switch_at.Statement.{statement}
 use Rattle.bench_carry.proofs.switch_at.Tie as tie
-use Rattle.bench_carry.proofs.switch_at.Reads as reads
-use Rattle.bench_carry.proofs.switch_at.Lts as lts
-use Rattle.bench_play.proofs.refuse.Reads as refuse-reads
-use Rattle.bench_state.proofs.with_up.Reads as with-up-reads
 
--- src/lib.rt:26:9
 refuse-requires : tie.Need-refuse-requires
 refuse-requires c κs = let s = c .before .before .before .before .before in (s .pre .1, omega (arith, s .pre .2))
 
--- src/lib.rt:26:9
 same-length : tie.Need-same-length
 same-length c = search needs
 
--- src/lib.rt:26:9
 returns : tie.Need-returns
 returns c =
     λ l.
     let s = c .before .before .before .before .before .before .before .before in
     turned-lined (s .args .b) l l _ _ _ _ (switch-past (s .args .b) l (s .args .out .now) _ (s .args .brick) _ _ (c .before .before .before .before .if1 .taken) (c .before .before .refuse .ensures l))
 
--- src/lib.rt:28:9
 with-up-requires : tie.Need-with-up-requires
 with-up-requires c κs = let s = c .before .before .before .before in omega (arith, c .if1 .left, s .pre .0 .small .bricks)
 
--- src/lib.rt:19:1
 returns-2 : tie.Need-returns-2
 returns-2 c =
     λ l.

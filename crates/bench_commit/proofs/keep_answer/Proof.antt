@@ -1,18 +1,11 @@
-use mathlib.Core.Path.{_≡_, sym, subst}
+use mathlib.Core.Path.{sym, subst}
 use Prim.Native.Nat.{ℕ, _≤_}
 use native.Mathlib.Nat.{le-of-eq}
 use Rattle.bench_commit.specs.AnswerLaws.{answers-kept}
 use borrow.Author.Needs.{needs}
 use Rattle.bench_commit.proofs.keep_answer.Statement.{statement}
 use Rattle.bench_commit.proofs.keep_answer.Tie as tie
-use Rattle.bench_commit.proofs.keep_answer.Reads as reads
-use Rattle.bench_commit.proofs.keep_answer.Lts as lts
-use Rattle.bench_commit.proofs.send.Reads as send-reads
-use Rattle.bench_print.proofs.put_ended.Reads as put-ended-reads
-use Rattle.bench_state.proofs.keep.Reads as keep-reads
-use Rattle.bench_state.proofs.with_coordinator.Reads as with-coordinator-reads
 
--- src/lib.rt:68:5
 send-requires : tie.Need-send-requires
 send-requires c κs =
     let s = c .before .before .before .before .before .before .before .before .before .before .before in
@@ -21,7 +14,6 @@ send-requires c κs =
       (p .numbers-long, p .bytes-long),
     )
 
--- src/lib.rt:69:5
 keep-requires : tie.Need-keep-requires
 keep-requires c κs =
     let s = c .before .before .before .before .before .before .before .before .before .before .before .before .before .before .before .before .before in
@@ -30,33 +22,26 @@ keep-requires c κs =
       (subst (λ (k : ℕ). k ≤ 32) (sym (s .pre .1 .0 .blocks-long)) (p .fits .small .blocks-fit), subst (λ (k : ℕ). k ≤ 32) (sym (s .pre .1 .0 .stripe-long)) (p .fits .small .stripe-fits)),
     )
 
--- src/lib.rt:71:9
 put-ended-requires : tie.Need-put-ended-requires
 put-ended-requires c κs =
     let s = c .before .before .before .before .before .before .before .before .before .before .before .before .before .before .before .before .before .before .before .before .before .before in
     (s .pre .0 .room, subst (λ (k : ℕ). k ≤ 32) (sym (s .pre .1 .0 .stripe-long)) (s .pre .0 .fits .small .stripe-fits))
 
--- src/lib.rt:73:9
 with-coordinator-requires : tie.Need-with-coordinator-requires
 with-coordinator-requires c κs = c .before .before .before .before .before .before .before .before .before .before .before .before .before .before .before .before .before .before .before .before .before .before .before .before .before .before .pre .0 .low
 
--- src/lib.rt:47:1
 same-length : tie.Need-same-length
 same-length c = search needs
 
--- src/lib.rt:47:1
 same-length-2 : tie.Need-same-length-2
 same-length-2 c = search needs
 
--- src/lib.rt:47:1
 same-length-3 : tie.Need-same-length-3
 same-length-3 c = search needs
 
--- src/lib.rt:47:1
 same-length-4 : tie.Need-same-length-4
 same-length-4 c = search needs
 
--- src/lib.rt:47:1
 returns : tie.Need-returns
 returns c =
     let s = c .before .before .before .before .before .before .before .before .before .before .before .before .before .before .before .before .before .before .before .before .before .before .before .before .before .before .before in

@@ -4,15 +4,10 @@ use Rattle.bench_commit.specs.AnswerLaws.{round-none, round-one, sent-mo
 use borrow.Author.Needs.{needs}
 use Rattle.bench_commit.proofs.send.Statement.{statement}
 use Rattle.bench_commit.proofs.send.Tie as tie
-use Rattle.bench_commit.proofs.send.Reads as reads
-use Rattle.bench_commit.proofs.send.Lts as lts
-use Rattle.bench_sent.proofs.send_all.Reads as send-all-reads
 
--- src/lib.rt:44:9
 returns : tie.Need-returns
 returns c = let s = c .before .before .before .before in round-none (s .args .s) _ _ _ _ _ _ (c .if1 .taken)
 
--- src/lib.rt:46:5
 send-all-requires : tie.Need-send-all-requires
 send-all-requires c κs =
     let s = c .before .before .before .before .before .before in
@@ -21,15 +16,12 @@ send-all-requires c κs =
     let q = s .pre .1 in
     ((p .0, omega (arith, m, p .1, q .0), omega (arith, m, p .1, q .1)), coded-long _ _ _ _ (p .2))
 
--- src/lib.rt:30:1
 same-length : tie.Need-same-length
 same-length c = search needs
 
--- src/lib.rt:30:1
 same-length-2 : tie.Need-same-length-2
 same-length-2 c = search needs
 
--- src/lib.rt:30:1
 returns-2 : tie.Need-returns-2
 returns-2 c = let s = c .before .before .before .before .before .before .before .before .before .before .before in round-one (s .args .s) _ _ _ _ _ _ _ _ (c .before .before .before .before .before .before .before .if1 .left) (c .before .before .before .before .send-all .ensures .0)
 

@@ -3,28 +3,21 @@ use Rattle.bench_core.specs.HeldLaws.{held-full, held-more}
 use borrow.Author.Needs.{needs}
 use Rattle.bench_core.proofs.add_byte.Statement.{statement}
 use Rattle.bench_core.proofs.add_byte.Tie as tie
-use Rattle.bench_core.proofs.add_byte.Reads as reads
-use Rattle.bench_core.proofs.add_byte.Lts as lts
 
--- src/lib.rt:294:9
 returns : tie.Need-returns
 returns c =
     let s = c .before in
     (held-full (s .args .line .now) (s .args .held) (s .args .byte) (s .pre .1) (s .pre .0) (c .if1 .taken), s .pre .0)
 
--- src/lib.rt:296:5
 slice-write-line : tie.Need-slice-write-line
 slice-write-line c = search needs
 
--- src/lib.rt:297:5
 add-result : tie.Need-add-result
 add-result c = search needs
 
--- src/lib.rt:288:1
 same-length : tie.Need-same-length
 same-length c = search needs
 
--- src/lib.rt:288:1
 returns-2 : tie.Need-returns-2
 returns-2 c =
     let s = c .before in

@@ -2,32 +2,22 @@ use Rattle.bench_core.specs.RefusalLaws.{refused-settings, refused-lengt
 use borrow.Author.Needs.{needs}
 use Rattle.bench_core.proofs.bench_refused.Statement.{statement}
 use Rattle.bench_core.proofs.bench_refused.Tie as tie
-use Rattle.bench_core.proofs.bench_refused.Reads as reads
-use Rattle.bench_core.proofs.bench_refused.Lts as lts
-use Rattle.bench_core.proofs.lengths_right.Reads as lengths-right-reads
-use Rattle.bench_core.proofs.settings_right.Reads as settings-right-reads
 
--- src/lib.rt:223:8
 settings-right-requires : tie.Need-settings-right-requires
 settings-right-requires c κs = search needs
 
--- src/lib.rt:224:9
 returns : tie.Need-returns
 returns c = search (needs, refused-settings)
 
--- src/lib.rt:226:8
 lengths-right-requires : tie.Need-lengths-right-requires
 lengths-right-requires c κs = search needs
 
--- src/lib.rt:227:9
 returns-2 : tie.Need-returns-2
 returns-2 c = search (needs, refused-lengths)
 
--- src/lib.rt:230:9
 returns-3 : tie.Need-returns-3
 returns-3 c = search (needs, refused-many)
 
--- src/lib.rt:212:1
 returns-4 : tie.Need-returns-4
 returns-4 c = search (needs, refused-not)
 

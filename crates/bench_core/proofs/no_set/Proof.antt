@@ -3,15 +3,10 @@ use Rattle.bench_core.specs.RefusalLaws.{none-waits, none-accepted}
 use borrow.Author.Needs.{needs}
 use Rattle.bench_core.proofs.no_set.Statement.{statement}
 use Rattle.bench_core.proofs.no_set.Tie as tie
-use Rattle.bench_core.proofs.no_set.Reads as reads
-use Rattle.bench_core.proofs.no_set.Lts as lts
-use Rattle.bench_state.proofs.new_bench.Reads as new-bench-reads
 
--- src/lib.rt:246:5
 new-bench-requires : tie.Need-new-bench-requires
 new-bench-requires c κs = search needs
 
--- src/lib.rt:236:1
 returns : tie.Need-returns
 returns c = (λ l. none-waits _ _ l (c .new-bench .ensures) refl, none-accepted _ _ (c .new-bench .ensures) refl)
 

@@ -7,106 +7,79 @@ use borrow.Author.Needs.{needs}
 use Rattle.bench_core.proofs.play_first.Statement.{statement}
 use Rattle.bench_core.proofs.play_first.Tie as tie
 use Rattle.bench_core.proofs.play_first.Reads as reads
-use Rattle.bench_core.proofs.play_first.Lts as lts
-use Rattle.bench_play.proofs.refuse.Reads as refuse-reads
-use Rattle.bench_state.proofs.bench_refusal.Reads as bench-refusal-reads
-use Rattle.bench_state.proofs.set_up.Reads as set-up-reads
 
--- src/lib.rt:111:19
 enum-known-l : tie.Need-enum-known-l
 enum-known-l c = search needs
 
--- src/lib.rt:118:17
 bench-refusal-requires : tie.Need-bench-refusal-requires
 bench-refusal-requires c κs = search needs
 
--- src/lib.rt:120:17
 refuse-requires : tie.Need-refuse-requires
 refuse-requires c κs = let s = c .before .before .before .before .before .before .before .before .before .before in (s .pre .1 .0 .1, omega (arith, s .pre .1 .1 .2))
 
--- src/lib.rt:120:17
 same-length : tie.Need-same-length
 same-length c = search needs
 
--- src/lib.rt:120:17
 returns : tie.Need-returns
 returns c =
     let s = c .before .before .before .before .before .before .before .before .before .before .before .before .before in
     first-bad (s .args .b) (s .args .out .now) _ _ (s .pre .1 .0 .0) _ _ _ _ _ (reads (s .args .line .now)) (s .args .images .now) (s .args .kept .now)
     (said-set (s .args .l) (s .args .line .now) (s .pre .0 .0) _ _ _ _ (c .before .before .before .before .before .before .before .l .given .1)) (c .before .before .before .before .before .bench-refusal .ensures) (c .before .before .before .before .if1 .taken) (c .before .before .refuse .ensures)
 
--- src/lib.rt:122:17
 set-up-requires : tie.Need-set-up-requires
 set-up-requires c κs =
     let s = c .before .before .before .before .before .before .before .before .before .before .before in
     let f = bench-passed _ _ (c .before .before .before .bench-refusal .ensures) (c .before .before .if1 .left) in
     ((f .in-range, f .small), (s .pre .1 .1 .0, s .pre .1 .1 .1))
 
--- src/lib.rt:128:62
 enum-told : tie.Need-enum-told
 enum-told c = search needs
 
--- src/lib.rt:128:33
 refuse-requires-2 : tie.Need-refuse-requires-2
 refuse-requires-2 c κs = let s = c .before .before .before .before .before .before .before in (s .pre .1 .0 .1, omega (arith, s .pre .1 .1 .2))
 
--- src/lib.rt:129:61
 enum-told-2 : tie.Need-enum-told-2
 enum-told-2 c = search needs
 
--- src/lib.rt:129:32
 refuse-requires-3 : tie.Need-refuse-requires-3
 refuse-requires-3 c κs = let s = c .before .before .before .before .before .before .before in (s .pre .1 .0 .1, omega (arith, s .pre .1 .1 .2))
 
--- src/lib.rt:130:56
 enum-told-3 : tie.Need-enum-told-3
 enum-told-3 c = search needs
 
--- src/lib.rt:130:27
 refuse-requires-4 : tie.Need-refuse-requires-4
 refuse-requires-4 c κs = let s = c .before .before .before .before .before .before .before in (s .pre .1 .0 .1, omega (arith, s .pre .1 .1 .2))
 
--- src/lib.rt:131:56
 enum-told-4 : tie.Need-enum-told-4
 enum-told-4 c = search needs
 
--- src/lib.rt:131:27
 refuse-requires-5 : tie.Need-refuse-requires-5
 refuse-requires-5 c κs = let s = c .before .before .before .before .before .before .before in (s .pre .1 .0 .1, omega (arith, s .pre .1 .1 .2))
 
--- src/lib.rt:132:55
 enum-told-5 : tie.Need-enum-told-5
 enum-told-5 c = search needs
 
--- src/lib.rt:132:26
 refuse-requires-6 : tie.Need-refuse-requires-6
 refuse-requires-6 c κs = let s = c .before .before .before .before .before .before .before in (s .pre .1 .0 .1, omega (arith, s .pre .1 .1 .2))
 
--- src/lib.rt:133:53
 enum-told-6 : tie.Need-enum-told-6
 enum-told-6 c = search needs
 
--- src/lib.rt:133:24
 refuse-requires-7 : tie.Need-refuse-requires-7
 refuse-requires-7 c κs = let s = c .before .before .before .before .before .before .before in (s .pre .1 .0 .1, omega (arith, s .pre .1 .1 .2))
 
--- src/lib.rt:134:54
 enum-told-7 : tie.Need-enum-told-7
 enum-told-7 c = search needs
 
--- src/lib.rt:134:25
 refuse-requires-8 : tie.Need-refuse-requires-8
 refuse-requires-8 c κs = let s = c .before .before .before .before .before .before .before in (s .pre .1 .0 .1, omega (arith, s .pre .1 .1 .2))
 
--- src/lib.rt:97:1
 same-length-2 : tie.Need-same-length-2
 same-length-2 c = search needs
 
--- src/lib.rt:97:1
 same-length-3 : tie.Need-same-length-3
 same-length-3 c = search needs
 
--- src/lib.rt:97:1
 returns-2 : tie.Need-returns-2
 returns-2 c =
     let s = c .before .before .before .before .before .before .before .before .before .before .before .before .before .before .before .before in
@@ -114,71 +87,57 @@ returns-2 c =
     first-set _ _ (s .args .out .now) _ (reads (s .args .line .now)) _ _ (said-set (s .args .l) (s .args .line .now) (s .pre .0 .0) _ _ _ _ (c .before .before .before .before .before .before .before .before .before .before .l .given .1))
     (c .before .before .before .before .before .before .before .before .bench-refusal .ensures) (c .before .before .before .before .before .before .before .if1 .left) (u .0) (u .1)
 
--- src/lib.rt:97:1
 same-length-4 : tie.Need-same-length-4
 same-length-4 c = search needs
 
--- src/lib.rt:97:1
 returns-3 : tie.Need-returns-3
 returns-3 c =
     let s = c .before .before .before .before .before .before .before .before .before .before in
     first-write (s .args .b) (s .args .out .now) _ _ (s .pre .1 .0 .0) (reads (s .args .line .now)) (s .args .images .now) (s .args .kept .now) (c .before .before .refuse2 .ensures) _ _ _ (said-write (s .args .l) (s .args .line .now) (s .pre .0 .0) _ _ _ (c .before .before .before .before .enum-told .given .1))
 
--- src/lib.rt:97:1
 same-length-5 : tie.Need-same-length-5
 same-length-5 c = search needs
 
--- src/lib.rt:97:1
 returns-4 : tie.Need-returns-4
 returns-4 c =
     let s = c .before .before .before .before .before .before .before .before .before .before in
     first-read (s .args .b) (s .args .out .now) _ _ (s .pre .1 .0 .0) (reads (s .args .line .now)) (s .args .images .now) (s .args .kept .now) (c .before .before .refuse3 .ensures) _ _ _ (said-read (s .args .l) (s .args .line .now) (s .pre .0 .0) _ _ _ (c .before .before .before .before .enum-told2 .given .1))
 
--- src/lib.rt:97:1
 same-length-6 : tie.Need-same-length-6
 same-length-6 c = search needs
 
--- src/lib.rt:97:1
 returns-5 : tie.Need-returns-5
 returns-5 c =
     let s = c .before .before .before .before .before .before .before .before .before .before in
     first-carry (s .args .b) (s .args .out .now) _ _ (s .pre .1 .0 .0) (reads (s .args .line .now)) (s .args .images .now) (s .args .kept .now) (c .before .before .refuse4 .ensures) _ (said-carry (s .args .l) (s .args .line .now) (s .pre .0 .0) _ (c .before .before .before .before .enum-told3 .given .1) (s .pre .0 .1))
 
--- src/lib.rt:97:1
 same-length-7 : tie.Need-same-length-7
 same-length-7 c = search needs
 
--- src/lib.rt:97:1
 returns-6 : tie.Need-returns-6
 returns-6 c =
     let s = c .before .before .before .before .before .before .before .before .before .before in
     first-crash (s .args .b) (s .args .out .now) _ _ (s .pre .1 .0 .0) (reads (s .args .line .now)) (s .args .images .now) (s .args .kept .now) (c .before .before .refuse5 .ensures) _ (said-crash (s .args .l) (s .args .line .now) (s .pre .0 .0) _ (c .before .before .before .before .enum-told4 .given .1))
 
--- src/lib.rt:97:1
 same-length-8 : tie.Need-same-length-8
 same-length-8 c = search needs
 
--- src/lib.rt:97:1
 returns-7 : tie.Need-returns-7
 returns-7 c =
     let s = c .before .before .before .before .before .before .before .before .before .before in
     first-down (s .args .b) (s .args .out .now) _ _ (s .pre .1 .0 .0) (reads (s .args .line .now)) (s .args .images .now) (s .args .kept .now) (c .before .before .refuse6 .ensures) _ (said-down (s .args .l) (s .args .line .now) (s .pre .0 .0) _ (c .before .before .before .before .enum-told5 .given .1))
 
--- src/lib.rt:97:1
 same-length-9 : tie.Need-same-length-9
 same-length-9 c = search needs
 
--- src/lib.rt:97:1
 returns-8 : tie.Need-returns-8
 returns-8 c =
     let s = c .before .before .before .before .before .before .before .before .before .before in
     first-up (s .args .b) (s .args .out .now) _ _ (s .pre .1 .0 .0) (reads (s .args .line .now)) (s .args .images .now) (s .args .kept .now) (c .before .before .refuse7 .ensures) _ (said-up (s .args .l) (s .args .line .now) (s .pre .0 .0) _ (c .before .before .before .before .enum-told6 .given .1))
 
--- src/lib.rt:97:1
 same-length-10 : tie.Need-same-length-10
 same-length-10 c = search needs
 
--- src/lib.rt:97:1
 returns-9 : tie.Need-returns-9
 returns-9 c =
     let s = c .before .before .before .before .before .before .before .before .before .before in

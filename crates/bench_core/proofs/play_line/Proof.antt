@@ -4,28 +4,18 @@ use Rattle.bench_core.specs.RefusalLaws.{called-refused, called-first, c
 use borrow.Author.Needs.{needs}
 use Rattle.bench_core.proofs.play_line.Statement.{statement}
 use Rattle.bench_core.proofs.play_line.Tie as tie
-use Rattle.bench_core.proofs.play_line.Reads as reads
-use Rattle.bench_core.proofs.play_line.Lts as lts
-use Rattle.bench_core.proofs.bench_refused.Reads as bench-refused-reads
-use Rattle.bench_core.proofs.play_first.Reads as play-first-reads
-use Rattle.bench_core.proofs.play_next.Reads as play-next-reads
-use Rattle.bench_line.proofs.read_line.Reads as read-line-reads
 
--- src/lib.rt:262:9
 bench-refused-requires : tie.Need-bench-refused-requires
 bench-refused-requires c κs = search needs
 
--- src/lib.rt:271:9
 returns : tie.Need-returns
 returns c =
     let s = c .before .before .before .before .before .before .before .before in
     called-refused (s .args .b) (lent (s .args .images .now) (s .args .kept .now) (s .args .numbers .now) (s .args .bytes .now)) (s .args .line .now) (s .args .out .now) _ (c .before .bench-refused .ensures) (c .if1 .taken)
 
--- src/lib.rt:277:9
 read-line-requires : tie.Need-read-line-requires
 read-line-requires c κs = search needs
 
--- src/lib.rt:280:13
 play-first-requires : tie.Need-play-first-requires
 play-first-requires c κs =
     let s = c .before .before .before .before .before .before .before .before .before .before .before .before .before .before .before in
@@ -33,19 +23,15 @@ play-first-requires c κs =
     let e = c .before .before .before .before .before .before .read-line .ensures in
     ((e .0, e .1), ((c .before .before .before .if2 .taken, a .few), (a .images-long, a .kept-long, a .out-long)))
 
--- src/lib.rt:282:9
 same-length : tie.Need-same-length
 same-length c = search needs
 
--- src/lib.rt:282:9
 same-length-2 : tie.Need-same-length-2
 same-length-2 c = search needs
 
--- src/lib.rt:282:9
 same-length-3 : tie.Need-same-length-3
 same-length-3 c = search needs
 
--- src/lib.rt:282:9
 returns-2 : tie.Need-returns-2
 returns-2 c =
     let s = c .before .before .before .before .before .before .before .before .before .before .before .before .before .before .before .before .before .before .before .before .before .before .before in
@@ -53,7 +39,6 @@ returns-2 c =
     called-first (s .args .b) (lent (s .args .images .now) (s .args .kept .now) (s .args .numbers .now) (s .args .bytes .now)) (s .args .line .now) (s .args .out .now) _ (c .before .before .before .before .before .before .before .play-first .result) _ _ _ (c .before .before .before .before .before .before .before .before .before .before .before .before .before .before .before .before .bench-refused .ensures)
     (c .before .before .before .before .before .before .before .before .before .before .before .before .before .before .before .if1 .left) (c .before .before .before .before .before .before .before .before .before .before .before .if2 .taken) (c .before .before .before .before .before .before .before .play-first .ensures) (k .1 .1 .1 .0) (k .1 .1 .1 .1 .0) (k .1 .1 .1 .1 .1 .0)
 
--- src/lib.rt:288:9
 play-next-requires : tie.Need-play-next-requires
 play-next-requires c κs =
     let s = c .before .before .before .before .before .before .before .before .before .before .before .before .before .before .before .before .before in
@@ -63,27 +48,21 @@ play-next-requires c κs =
     let e = c .before .before .before .before .before .before .before .before .read-line .ensures in
     ((e .0, e .1), (accepted-ready (s .args .b) (lent (s .args .images .now) (s .args .kept .now) (s .args .numbers .now) (s .args .bytes .now)) (length (s .args .out .now)) _ b z (c .before .before .before .before .before .if2 .left), a .out-long))
 
--- src/lib.rt:251:1
 same-length-4 : tie.Need-same-length-4
 same-length-4 c = search needs
 
--- src/lib.rt:251:1
 same-length-5 : tie.Need-same-length-5
 same-length-5 c = search needs
 
--- src/lib.rt:251:1
 same-length-6 : tie.Need-same-length-6
 same-length-6 c = search needs
 
--- src/lib.rt:251:1
 same-length-7 : tie.Need-same-length-7
 same-length-7 c = search needs
 
--- src/lib.rt:251:1
 same-length-8 : tie.Need-same-length-8
 same-length-8 c = search needs
 
--- src/lib.rt:251:1
 returns-3 : tie.Need-returns-3
 returns-3 c =
     let s = c .before .before .before .before .before .before .before .before .before .before .before .before .before .before .before .before .before .before .before .before .before .before .before .before .before .before .before .before .before in

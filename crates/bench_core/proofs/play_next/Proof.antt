@@ -8,209 +8,157 @@ use borrow.Author.Needs.{needs}
 use Rattle.bench_core.proofs.play_next.Statement.{statement}
 use Rattle.bench_core.proofs.play_next.Tie as tie
 use Rattle.bench_core.proofs.play_next.Reads as reads
-use Rattle.bench_core.proofs.play_next.Lts as lts
-use Rattle.bench_acts.proofs.crash_at.Reads as crash-at-reads
-use Rattle.bench_acts.proofs.read_at.Reads as read-at-reads
-use Rattle.bench_acts.proofs.write_at.Reads as write-at-reads
-use Rattle.bench_carry.proofs.carry_all.Reads as carry-all-reads
-use Rattle.bench_carry.proofs.switch_at.Reads as switch-at-reads
-use Rattle.bench_play.proofs.refuse.Reads as refuse-reads
 
--- src/lib.rt:155:63
 enum-told : tie.Need-enum-told
 enum-told c = search needs
 
--- src/lib.rt:155:34
 refuse-requires : tie.Need-refuse-requires
 refuse-requires c κs = let s = c .before .before .before .before .before .before .before .before .before in (s .pre .1 .0 .few, omega (arith, s .pre .1 .1))
 
--- src/lib.rt:156:21
 enum-known-l : tie.Need-enum-known-l
 enum-known-l c = search needs
 
--- src/lib.rt:157:13
 write-at-requires : tie.Need-write-at-requires
 write-at-requires c κs =
     let s = c .before .before .before .before .before .before .before .before .before .before .before .before .before in
     (ready-seats (s .args .b) (lent (s .args .images .now) (s .args .kept .now) (s .args .numbers .now) (s .args .bytes .now)) 0 (s .args .out .now) (s .pre .1 .0) (omega (arith, s .pre .1 .1)), hex-place (s .args .l) (s .args .line .now) _ _ _ (c .before .before .before .before .before .l .given .1) (s .pre .0 .1) .within)
 
--- src/lib.rt:159:20
 enum-known-l-2 : tie.Need-enum-known-l-2
 enum-known-l-2 c = search needs
 
--- src/lib.rt:160:13
 read-at-requires : tie.Need-read-at-requires
 read-at-requires c κs = let s = c .before .before .before .before .before .before .before .before .before .before .before .before .before in ready-seats (s .args .b) (lent (s .args .images .now) (s .args .kept .now) (s .args .numbers .now) (s .args .bytes .now)) 0 (s .args .out .now) (s .pre .1 .0) (omega (arith, s .pre .1 .1))
 
--- src/lib.rt:162:21
 enum-known-l-3 : tie.Need-enum-known-l-3
 enum-known-l-3 c = search needs
 
--- src/lib.rt:162:31
 carry-all-requires : tie.Need-carry-all-requires
 carry-all-requires c κs =
     let s = c .before .before .before .before .before .before .before .before .before .before .before .before .before .before in
     (s .pre .1 .0, (number-place (s .args .l) (s .args .line .now) _ (c .before .before .before .before .before .before .l3 .given .1) (s .pre .0 .1), s .pre .1 .1))
 
--- src/lib.rt:163:21
 enum-known-l-4 : tie.Need-enum-known-l-4
 enum-known-l-4 c = search needs
 
--- src/lib.rt:163:27
 crash-at-requires : tie.Need-crash-at-requires
 crash-at-requires c κs = let s = c .before .before .before .before .before .before .before .before .before .before .before .before .before in ready-seats (s .args .b) (lent (s .args .images .now) (s .args .kept .now) (s .args .numbers .now) (s .args .bytes .now)) 0 (s .args .out .now) (s .pre .1 .0) (omega (arith, s .pre .1 .1))
 
--- src/lib.rt:164:20
 enum-known-l-5 : tie.Need-enum-known-l-5
 enum-known-l-5 c = search needs
 
--- src/lib.rt:164:30
 switch-at-requires : tie.Need-switch-at-requires
 switch-at-requires c κs = let s = c .before .before .before .before .before .before .before .before .before .before in (s .pre .1 .0 .fits, s .pre .1 .0 .few, s .pre .1 .1)
 
--- src/lib.rt:165:18
 enum-known-l-6 : tie.Need-enum-known-l-6
 enum-known-l-6 c = search needs
 
--- src/lib.rt:165:28
 switch-at-requires-2 : tie.Need-switch-at-requires-2
 switch-at-requires-2 c κs = let s = c .before .before .before .before .before .before .before .before .before .before in (s .pre .1 .0 .fits, s .pre .1 .0 .few, s .pre .1 .1)
 
--- src/lib.rt:166:54
 enum-told-2 : tie.Need-enum-told-2
 enum-told-2 c = search needs
 
--- src/lib.rt:166:25
 refuse-requires-2 : tie.Need-refuse-requires-2
 refuse-requires-2 c κs = let s = c .before .before .before .before .before .before .before .before .before in (s .pre .1 .0 .few, omega (arith, s .pre .1 .1))
 
--- src/lib.rt:139:1
 same-length : tie.Need-same-length
 same-length c = search needs
 
--- src/lib.rt:139:1
 returns : tie.Need-returns
 returns c =
     let s = c .before .before .before .before .before .before .before .before .before .before .before .before in
     line-set (s .args .b) (lent (s .args .images .now) (s .args .kept .now) (s .args .numbers .now) (s .args .bytes .now)) _ (s .args .out .now) _ _ (reads (s .args .line .now)) _ _ _ _ (said-set (s .args .l) (s .args .line .now) (s .pre .0 .0) _ _ _ _ (c .before .before .before .before .enum-told .given .1)) (c .before .before .refuse .ensures (lent (s .args .images .now) (s .args .kept .now) (s .args .numbers .now) (s .args .bytes .now)))
 
--- src/lib.rt:139:1
 same-length-2 : tie.Need-same-length-2
 same-length-2 c = search needs
 
--- src/lib.rt:139:1
 same-length-3 : tie.Need-same-length-3
 same-length-3 c = search needs
 
--- src/lib.rt:139:1
 same-length-4 : tie.Need-same-length-4
 same-length-4 c = search needs
 
--- src/lib.rt:139:1
 same-length-5 : tie.Need-same-length-5
 same-length-5 c = search needs
 
--- src/lib.rt:139:1
 returns-2 : tie.Need-returns-2
 returns-2 c =
     let s = c .before .before .before .before .before .before .before .before .before .before .before .before .before .before .before .before .before .before .before .before .before .before in
     line-write (s .args .b) (lent (s .args .images .now) (s .args .kept .now) (s .args .numbers .now) (s .args .bytes .now)) _ (s .args .out .now) _ _ (reads (s .args .line .now)) _ _ _ (said-write (s .args .l) (s .args .line .now) (s .pre .0 .0) _ _ _ (c .before .before .before .before .before .before .before .before .before .before .before .before .before .before .l .given .1)) (c .before .before .before .before .before .before .before .before .write-at .ensures .turned (s .args .images .now))
 
--- src/lib.rt:139:1
 same-length-6 : tie.Need-same-length-6
 same-length-6 c = search needs
 
--- src/lib.rt:139:1
 same-length-7 : tie.Need-same-length-7
 same-length-7 c = search needs
 
--- src/lib.rt:139:1
 same-length-8 : tie.Need-same-length-8
 same-length-8 c = search needs
 
--- src/lib.rt:139:1
 same-length-9 : tie.Need-same-length-9
 same-length-9 c = search needs
 
--- src/lib.rt:139:1
 returns-3 : tie.Need-returns-3
 returns-3 c =
     let s = c .before .before .before .before .before .before .before .before .before .before .before .before .before .before .before .before .before .before .before .before .before .before in
     line-read (s .args .b) (lent (s .args .images .now) (s .args .kept .now) (s .args .numbers .now) (s .args .bytes .now)) _ (s .args .out .now) _ _ (reads (s .args .line .now)) _ _ _ (said-read (s .args .l) (s .args .line .now) (s .pre .0 .0) _ _ _ (c .before .before .before .before .before .before .before .before .before .before .before .before .before .before .l2 .given .1)) (c .before .before .before .before .before .before .before .before .read-at .ensures .turned (s .args .images .now))
 
--- src/lib.rt:139:1
 same-length-10 : tie.Need-same-length-10
 same-length-10 c = search needs
 
--- src/lib.rt:139:1
 same-length-11 : tie.Need-same-length-11
 same-length-11 c = search needs
 
--- src/lib.rt:139:1
 same-length-12 : tie.Need-same-length-12
 same-length-12 c = search needs
 
--- src/lib.rt:139:1
 same-length-13 : tie.Need-same-length-13
 same-length-13 c = search needs
 
--- src/lib.rt:139:1
 same-length-14 : tie.Need-same-length-14
 same-length-14 c = search needs
 
--- src/lib.rt:139:1
 returns-4 : tie.Need-returns-4
 returns-4 c =
     let s = c .before .before .before .before .before .before .before .before .before .before .before .before .before .before .before .before .before .before .before .before .before .before .before .before .before in
     line-carry (s .args .b) (lent (s .args .images .now) (s .args .kept .now) (s .args .numbers .now) (s .args .bytes .now)) _ (s .args .out .now) _ _ (reads (s .args .line .now)) _ (said-carry (s .args .l) (s .args .line .now) (s .pre .0 .0) _ (c .before .before .before .before .before .before .before .before .before .before .before .before .before .before .before .before .before .l3 .given .1) (s .pre .0 .1)) (c .before .before .before .before .before .before .before .before .before .before .carry-all .ensures)
 
--- src/lib.rt:139:1
 same-length-15 : tie.Need-same-length-15
 same-length-15 c = search needs
 
--- src/lib.rt:139:1
 same-length-16 : tie.Need-same-length-16
 same-length-16 c = search needs
 
--- src/lib.rt:139:1
 same-length-17 : tie.Need-same-length-17
 same-length-17 c = search needs
 
--- src/lib.rt:139:1
 same-length-18 : tie.Need-same-length-18
 same-length-18 c = search needs
 
--- src/lib.rt:139:1
 returns-5 : tie.Need-returns-5
 returns-5 c =
     let s = c .before .before .before .before .before .before .before .before .before .before .before .before .before .before .before .before .before .before .before .before .before .before in
     line-crash (s .args .b) (lent (s .args .images .now) (s .args .kept .now) (s .args .numbers .now) (s .args .bytes .now)) _ (s .args .out .now) _ _ (reads (s .args .line .now)) _ (said-crash (s .args .l) (s .args .line .now) (s .pre .0 .0) _ (c .before .before .before .before .before .before .before .before .before .before .before .before .before .before .l4 .given .1)) (c .before .before .before .before .before .before .before .before .crash-at .ensures .turned (s .args .images .now))
 
--- src/lib.rt:139:1
 same-length-19 : tie.Need-same-length-19
 same-length-19 c = search needs
 
--- src/lib.rt:139:1
 returns-6 : tie.Need-returns-6
 returns-6 c =
     let s = c .before .before .before .before .before .before .before .before .before .before .before .before .before in
     line-down (s .args .b) (lent (s .args .images .now) (s .args .kept .now) (s .args .numbers .now) (s .args .bytes .now)) _ (s .args .out .now) _ _ (reads (s .args .line .now)) _ (said-down (s .args .l) (s .args .line .now) (s .pre .0 .0) _ (c .before .before .before .before .before .l5 .given .1)) (c .before .before .switch-at .ensures (lent (s .args .images .now) (s .args .kept .now) (s .args .numbers .now) (s .args .bytes .now)))
 
--- src/lib.rt:139:1
 same-length-20 : tie.Need-same-length-20
 same-length-20 c = search needs
 
--- src/lib.rt:139:1
 returns-7 : tie.Need-returns-7
 returns-7 c =
     let s = c .before .before .before .before .before .before .before .before .before .before .before .before .before in
     line-up (s .args .b) (lent (s .args .images .now) (s .args .kept .now) (s .args .numbers .now) (s .args .bytes .now)) _ (s .args .out .now) _ _ (reads (s .args .line .now)) _ (said-up (s .args .l) (s .args .line .now) (s .pre .0 .0) _ (c .before .before .before .before .before .l6 .given .1)) (c .before .before .switch-at2 .ensures (lent (s .args .images .now) (s .args .kept .now) (s .args .numbers .now) (s .args .bytes .now)))
 
--- src/lib.rt:139:1
 same-length-21 : tie.Need-same-length-21
 same-length-21 c = search needs
 
--- src/lib.rt:139:1
 returns-8 : tie.Need-returns-8
 returns-8 c =
     let s = c .before .before .before .before .before .before .before .before .before .before .before .before in

@@ -7,13 +7,6 @@ use Rattle.bench_deliver.specs.DeliverLaws.{carried-nowhere, carried-los
 use borrow.Author.Needs.{needs}
 use Rattle.bench_deliver.proofs.carry_message.Statement.{statement}
 use Rattle.bench_deliver.proofs.carry_message.Tie as tie
-use Rattle.bench_deliver.proofs.carry_message.Reads as reads
-use Rattle.bench_deliver.proofs.carry_message.Lts as lts
-use Rattle.bench_deliver.proofs.deliver_with.Reads as deliver-with-reads
-use Rattle.bench_deliver.proofs.may_send.Reads as may-send-reads
-use Rattle.bench_play.proofs.refuse.Reads as refuse-reads
-use Rattle.bench_sent.proofs.brick_at.Reads as brick-at-reads
-use Rattle.bench_sent.proofs.message_at.Reads as message-at-reads
 
 -- there is a flag for each brick of the set
 up-there : (s : tie.Start) → length (s .args .b .up) ≡ 4

@@ -4,10 +4,6 @@ use Rattle.bench_deliver.specs.DeliverLaws.{deliver-room, deliver-settle
 use borrow.Author.Needs.{needs}
 use Rattle.bench_deliver.proofs.deliver_with.Statement.{statement}
 use Rattle.bench_deliver.proofs.deliver_with.Tie as tie
-use Rattle.bench_deliver.proofs.deliver_with.Reads as reads
-use Rattle.bench_deliver.proofs.deliver_with.Lts as lts
-use Rattle.bench_deliver.proofs.settle.Reads as settle-reads
-use Rattle.brick.proofs.receive.Reads as receive-reads
 
 mul-start : tie.Need-mul-start
 mul-start c = search needs

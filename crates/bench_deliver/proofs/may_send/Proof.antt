@@ -1,8 +1,6 @@
 use Rattle.bench_deliver.specs.AnswerLaws.{may-trim, may-other}
 use Rattle.bench_deliver.proofs.may_send.Statement.{statement}
 use Rattle.bench_deliver.proofs.may_send.Tie as tie
-use Rattle.bench_deliver.proofs.may_send.Reads as reads
-use Rattle.bench_deliver.proofs.may_send.Lts as lts
 
 returns : tie.Need-returns
 returns c = may-trim (c .before .args .kind) (c .before .args .sent) (c .if1 .taken)

@@ -3,11 +3,6 @@ use Rattle.bench_deliver.specs.AnswerLaws.{room-answered, room-any, sett
 use borrow.Author.Needs.{needs}
 use Rattle.bench_deliver.proofs.settle.Statement.{statement}
 use Rattle.bench_deliver.proofs.settle.Tie as tie
-use Rattle.bench_deliver.proofs.settle.Reads as reads
-use Rattle.bench_deliver.proofs.settle.Lts as lts
-use Rattle.bench_play.proofs.refuse.Reads as refuse-reads
-use Rattle.bench_sent.proofs.put_reply.Reads as put-reply-reads
-use Rattle.bench_state.proofs.with_sent.Reads as with-sent-reads
 
 enum-known-g : tie.Need-enum-known-g
 enum-known-g c = search needs

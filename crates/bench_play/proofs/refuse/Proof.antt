@@ -2,19 +2,13 @@ use Rattle.bench_play.specs.TurnLaws.{turned-refused}
 use borrow.Author.Needs.{needs}
 use Rattle.bench_play.proofs.refuse.Statement.{statement}
 use Rattle.bench_play.proofs.refuse.Tie as tie
-use Rattle.bench_play.proofs.refuse.Reads as reads
-use Rattle.bench_play.proofs.refuse.Lts as lts
-use Rattle.bench_print.proofs.put_refused.Reads as put-refused-reads
 
--- src/lib.rt:20:9
 put-refused-requires : tie.Need-put-refused-requires
 put-refused-requires c κs = search needs
 
--- src/lib.rt:16:1
 same-length : tie.Need-same-length
 same-length c = search needs
 
--- src/lib.rt:16:1
 returns : tie.Need-returns
 returns c =
     λ l.

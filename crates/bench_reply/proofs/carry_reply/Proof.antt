@@ -4,67 +4,48 @@ use Rattle.bench_commit.specs.AnswerLaws.{seat-at, front-long}
 use borrow.Author.Needs.{needs}
 use Rattle.bench_reply.proofs.carry_reply.Statement.{statement}
 use Rattle.bench_reply.proofs.carry_reply.Tie as tie
-use Rattle.bench_reply.proofs.carry_reply.Reads as reads
-use Rattle.bench_reply.proofs.carry_reply.Lts as lts
-use Rattle.bench_reply.proofs.reply_with.Reads as reply-with-reads
-use Rattle.bench_play.proofs.refuse.Reads as refuse-reads
-use Rattle.bench_sent.proofs.reply_at.Reads as reply-at-reads
 
--- src/lib.rt:399:9
 reply-at-requires : tie.Need-reply-at-requires
 reply-at-requires c κs = search needs
 
--- src/lib.rt:402:9
 refuse-requires : tie.Need-refuse-requires
 refuse-requires c κs = search needs
 
--- src/lib.rt:402:9
 same-length : tie.Need-same-length
 same-length c = search needs
 
--- src/lib.rt:402:9
 same-length-2 : tie.Need-same-length-2
 same-length-2 c = search needs
 
--- src/lib.rt:402:9
 returns : tie.Need-returns
 returns c =
     let s = c .before .before .before .before .before .before .before .before .before .before .before .before in
     reply-past (s .args .b) (s .args .k) (s .args .kept .now) (s .args .numbers .now) (s .args .bytes .now) (s .args .at) (s .args .out .now) _ _ (s .pre .1 .1) (c .before .before .before .before .before .before .reply-at .ensures) _ (c .before .before .before .before .if1 .taken) (c .before .before .refuse .ensures)
 
--- src/lib.rt:405:16
 mul-data : tie.Need-mul-data
 mul-data c = search needs
 
--- src/lib.rt:406:15
 mul-all : tie.Need-mul-all
 mul-all c = search needs
 
--- src/lib.rt:416:9
 array-borrow-prefix-blocks : tie.Need-array-borrow-prefix-blocks
 array-borrow-prefix-blocks c = search needs
 
--- src/lib.rt:416:9
 slice-aggregate-reply-with : tie.Need-slice-aggregate-reply-with
 slice-aggregate-reply-with c = front-long _ (c .before .before .before .before .before .before .before .before .before .before .before .before .pre .0 .fits .small .blocks-fit)
 
--- src/lib.rt:417:9
 array-borrow-prefix-stripe : tie.Need-array-borrow-prefix-stripe
 array-borrow-prefix-stripe c = search needs
 
--- src/lib.rt:417:9
 slice-aggregate-reply-with-2 : tie.Need-slice-aggregate-reply-with-2
 slice-aggregate-reply-with-2 c = front-long _ (c .before .before .before .before .before .before .before .before .before .before .before .before .before .pre .0 .fits .small .stripe-fits)
 
--- src/lib.rt:418:9
 array-borrow-prefix-coded : tie.Need-array-borrow-prefix-coded
 array-borrow-prefix-coded c = search needs
 
--- src/lib.rt:418:9
 slice-aggregate-reply-with-3 : tie.Need-slice-aggregate-reply-with-3
 slice-aggregate-reply-with-3 c = front-long _ (c .before .before .before .before .before .before .before .before .before .before .before .before .before .before .pre .0 .fits .small .blocks-fit)
 
--- src/lib.rt:411:5
 reply-with-requires : tie.Need-reply-with-requires
 reply-with-requires c κs =
     let s = c .before .before .before .before .before .before .before .before .before .before .before .before .before .before .before .before .before .before in
@@ -76,23 +57,18 @@ reply-with-requires c κs =
       ),
     )
 
--- src/lib.rt:386:1
 same-length-3 : tie.Need-same-length-3
 same-length-3 c = search needs
 
--- src/lib.rt:386:1
 same-length-4 : tie.Need-same-length-4
 same-length-4 c = search needs
 
--- src/lib.rt:386:1
 same-length-5 : tie.Need-same-length-5
 same-length-5 c = search needs
 
--- src/lib.rt:386:1
 same-length-6 : tie.Need-same-length-6
 same-length-6 c = search needs
 
--- src/lib.rt:386:1
 returns-2 : tie.Need-returns-2
 returns-2 c =
     let s = c .before .before .before .before .before .before .before .before .before .before .before .before .before .before .before .before .before .before .before .before .before .before .before .before .before .before .before .before .before .before in

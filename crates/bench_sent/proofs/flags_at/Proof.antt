@@ -2,9 +2,6 @@ use borrow.Author.Needs.{needs}
 use Rattle.bench_sent.specs.SentLaws.{flags-cut}
 use Rattle.bench_sent.proofs.flags_at.Statement.{statement}
 use Rattle.bench_sent.proofs.flags_at.Tie as tie
-use Rattle.bench_sent.proofs.flags_at.Reads as reads
-use Rattle.bench_sent.proofs.flags_at.Lts as lts
-use Rattle.coord_acts.proofs.copy.Reads as copy-reads
 
 mul-at : tie.Need-mul-at
 mul-at c = search needs

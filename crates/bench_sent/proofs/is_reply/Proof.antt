@@ -2,9 +2,6 @@ use borrow.Author.Needs.{needs}
 use Rattle.bench_sent.specs.SentLaws.{is-reply}
 use Rattle.bench_sent.proofs.is_reply.Statement.{statement}
 use Rattle.bench_sent.proofs.is_reply.Tie as tie
-use Rattle.bench_sent.proofs.is_reply.Reads as reads
-use Rattle.bench_sent.proofs.is_reply.Lts as lts
-use Rattle.bench_sent.proofs.number_at.Reads as number-at-reads
 
 number-at-requires : tie.Need-number-at-requires
 number-at-requires c κs = search needs

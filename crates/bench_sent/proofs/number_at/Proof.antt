@@ -3,8 +3,6 @@ use borrow.Author.Needs.{needs}
 use Rattle.bench_sent.specs.Sent.{numberAt}
 use Rattle.bench_sent.proofs.number_at.Statement.{statement}
 use Rattle.bench_sent.proofs.number_at.Tie as tie
-use Rattle.bench_sent.proofs.number_at.Reads as reads
-use Rattle.bench_sent.proofs.number_at.Lts as lts
 
 mul-result : tie.Need-mul-result
 mul-result c = search needs

@@ -2,11 +2,6 @@ use borrow.Author.Needs.{needs}
 use Rattle.bench_sent.specs.SentLaws.{message-put}
 use Rattle.bench_sent.proofs.put_message.Statement.{statement}
 use Rattle.bench_sent.proofs.put_message.Tie as tie
-use Rattle.bench_sent.proofs.put_message.Reads as reads
-use Rattle.bench_sent.proofs.put_message.Lts as lts
-use Rattle.bench_sent.proofs.store_bytes.Reads as store-bytes-reads
-use Rattle.bench_sent.proofs.store_row.Reads as store-row-reads
-use Rattle.little.proofs.wide.Reads as wide-reads
 
 wide-requires : tie.Need-wide-requires
 wide-requires c κs = search needs

@@ -4,12 +4,6 @@ use borrow.Author.Needs.{needs}
 use Rattle.bench_sent.specs.SentLaws.{reply-put}
 use Rattle.bench_sent.proofs.put_reply.Statement.{statement}
 use Rattle.bench_sent.proofs.put_reply.Tie as tie
-use Rattle.bench_sent.proofs.put_reply.Reads as reads
-use Rattle.bench_sent.proofs.put_reply.Lts as lts
-use Rattle.bench_sent.proofs.flag.Reads as flag-reads
-use Rattle.bench_sent.proofs.store_bytes.Reads as store-bytes-reads
-use Rattle.bench_sent.proofs.store_row.Reads as store-row-reads
-use Rattle.little.proofs.wide.Reads as wide-reads
 
 wide-requires : tie.Need-wide-requires
 wide-requires c κs = search needs

@@ -2,11 +2,6 @@ use borrow.Author.Needs.{needs}
 use Rattle.bench_sent.specs.SentLaws.{reply-of}
 use Rattle.bench_sent.proofs.reply_at.Statement.{statement}
 use Rattle.bench_sent.proofs.reply_at.Tie as tie
-use Rattle.bench_sent.proofs.reply_at.Reads as reads
-use Rattle.bench_sent.proofs.reply_at.Lts as lts
-use Rattle.bench_sent.proofs.brick_at.Reads as brick-at-reads
-use Rattle.bench_sent.proofs.kind_at.Reads as kind-at-reads
-use Rattle.bench_sent.proofs.number_at.Reads as number-at-reads
 
 kind-at-requires : tie.Need-kind-at-requires
 kind-at-requires c κs = search needs

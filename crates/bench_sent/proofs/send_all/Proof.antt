@@ -1,15 +1,11 @@
-use Prim.Native.Nat.{_+_, _-_, _*_, _≤_, _<_}
-use mathlib.Core.Path.{_≡_, refl, _∙_}
+use Prim.Native.Nat.{_-_, _≤_}
+use mathlib.Core.Path.{_≡_, refl}
 use native.Mathlib.Omega.{arith}
 use lib.ListN.{length}
-use borrow.Author.Needs.{needs}
 use Rattle.bench_sent.specs.Sent.{Sends}
 use Rattle.bench_sent.specs.SendLaws.{coded-fewer, sends-none, sends-more, sends-all}
 use Rattle.bench_sent.proofs.send_all.Statement.{statement}
 use Rattle.bench_sent.proofs.send_all.Tie as tie
-use Rattle.bench_sent.proofs.send_all.Reads as reads
-use Rattle.bench_sent.proofs.send_all.Lts as lts
-use Rattle.bench_sent.proofs.send_one.Reads as send-one-reads
 
 abbrev Inv-loop : tie.InvT-loop
 Inv-loop n size k msg coded numbers₀ bytes₀ j₀ numbers bytes j =

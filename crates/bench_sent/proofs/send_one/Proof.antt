@@ -6,9 +6,6 @@ use borrow.Author.Needs.{needs}
 use Rattle.bench_sent.specs.SendLaws.{block-within, sent-write, sent-zeros, eight-cut, eight-long}
 use Rattle.bench_sent.proofs.send_one.Statement.{statement}
 use Rattle.bench_sent.proofs.send_one.Tie as tie
-use Rattle.bench_sent.proofs.send_one.Reads as reads
-use Rattle.bench_sent.proofs.send_one.Lts as lts
-use Rattle.bench_sent.proofs.put_message.Reads as put-message-reads
 
 -- the brick's block is within the blocks
 inside : (c : tie.Then1) → c .before .before .before .before .before .args .j * c .before .before .before .before .before .args .size + c .before .before .before .before .before .args .size ≤ length (c .before .before .before .before .before .args .coded .now)

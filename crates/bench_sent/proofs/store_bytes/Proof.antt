@@ -1,11 +1,7 @@
 use borrow.Author.Needs.{needs}
-use Rattle.bench_sent.specs.Sent.{bytesWith}
 use Rattle.bench_sent.specs.SentLaws.{bytes-stored}
 use Rattle.bench_sent.proofs.store_bytes.Statement.{statement}
 use Rattle.bench_sent.proofs.store_bytes.Tie as tie
-use Rattle.bench_sent.proofs.store_bytes.Reads as reads
-use Rattle.bench_sent.proofs.store_bytes.Lts as lts
-use Rattle.block.proofs.store.Reads as store-reads
 
 mul-at : tie.Need-mul-at
 mul-at c = search needs

@@ -1,12 +1,10 @@
-use Prim.Native.Nat.{_-_, _≤_}
+use Prim.Native.Nat.{_-_}
 use native.Mathlib.Omega.{arith}
 use borrow.Author.Needs.{needs}
 use lib.ListN.{length}
 use Rattle.block.specs.StoreLaws.{Pasted, pasted-none, pasted-more, pasted-length, pasted-all}
 use Rattle.bench_sent.proofs.store_row.Statement.{statement}
 use Rattle.bench_sent.proofs.store_row.Tie as tie
-use Rattle.bench_sent.proofs.store_row.Reads as reads
-use Rattle.bench_sent.proofs.store_row.Lts as lts
 
 abbrev Inv-loop : tie.InvT-loop
 Inv-loop numbers₀ at row i₀ numbers i = Pasted numbers₀ row at i numbers

@@ -3,31 +3,22 @@ use Rattle.bench_state.specs.RangeLaws.{bench-bad, bench-rest}
 use borrow.Author.Needs.{needs}
 use Rattle.bench_state.proofs.bench_refusal.Statement.{statement}
 use Rattle.bench_state.proofs.bench_refusal.Tie as tie
-use Rattle.bench_state.proofs.bench_refusal.Reads as reads
-use Rattle.bench_state.proofs.bench_refusal.Lts as lts
-use Rattle.settings.proofs.Settings.refusal.Reads as refusal-reads
 
--- src/lib.rt:29:9
 refusal-requires : tie.Need-refusal-requires
 refusal-requires c κs = search needs
 
--- src/lib.rt:31:9
 returns : tie.Need-returns
 returns c = search (needs, bench-bad)
 
--- src/lib.rt:34:9
 returns-2 : tie.Need-returns-2
 returns-2 c = search (needs, bench-rest, lt-leb, le-leb)
 
--- src/lib.rt:37:9
 returns-3 : tie.Need-returns-3
 returns-3 c = search (needs, bench-rest, lt-leb, le-leb)
 
--- src/lib.rt:40:9
 returns-4 : tie.Need-returns-4
 returns-4 c = search (needs, bench-rest, lt-leb, le-leb)
 
--- src/lib.rt:26:1
 returns-5 : tie.Need-returns-5
 returns-5 c = search (needs, bench-rest, lt-leb, le-leb)
 

@@ -1,9 +1,8 @@
 use Rattle.bench_state.specs.FillLaws.{zeros-are}
-use borrow.Author.Needs.{needs}
 use native.Mathlib.Omega.{arith}
-use lib.ListN.{length, getD}
-use mathlib.Core.Path.{_≡_, refl, sym, ap, _∙_}
-use Prim.Native.Nat.{ℕ, _-_, _≤_, _<_}
+use lib.ListN.{length}
+use mathlib.Core.Path.{refl, _∙_}
+use Prim.Native.Nat.{ℕ, _-_, _≤_}
 use Rattle.interpolate.specs.Tabulate.{Filled, filled-none, filled-more, filled-all}
 use Rattle.bench_state.proofs.clear.Statement.{statement}
 use Rattle.bench_state.proofs.clear.Tie as tie

@@ -10,15 +10,12 @@ use Rattle.bench_state.proofs.coordinator_at.Lts as lts
 all-there : (s : lts.Start reads.Pre reads.Post) → length (s .args .b .coordinators) ≡ 4
 all-there s = search (needs, length-mapped)
 
--- src/lib.rt:127:5
 mul-result : tie.Need-mul-result
 mul-result c = search needs
 
--- src/lib.rt:127:5
 array-copy-out-result : tie.Need-array-copy-out-result
 array-copy-out-result c = search needs
 
--- src/lib.rt:122:1
 returns : tie.Need-returns
 returns c =
     let s = c .before .before in

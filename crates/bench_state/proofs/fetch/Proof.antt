@@ -5,67 +5,49 @@ use Rattle.bench_state.specs.PartLaws.{part-copied}
 use borrow.Author.Needs.{needs}
 use Rattle.bench_state.proofs.fetch.Statement.{statement}
 use Rattle.bench_state.proofs.fetch.Tie as tie
-use Rattle.bench_state.proofs.fetch.Reads as reads
-use Rattle.bench_state.proofs.fetch.Lts as lts
-use Rattle.coord_acts.proofs.copy.Reads as copy-reads
 
--- src/lib.rt:137:14
 mul-at : tie.Need-mul-at
 mul-at c = search needs
 
--- src/lib.rt:138:15
 add-end : tie.Need-add-end
 add-end c = search needs
 
--- src/lib.rt:139:22
 sub-copy : tie.Need-sub-copy
 sub-copy c = search needs
 
--- src/lib.rt:139:22
 part-copy-start : tie.Need-part-copy-start
 part-copy-start c = search needs
 
--- src/lib.rt:139:22
 part-copy-end : tie.Need-part-copy-end
 part-copy-end c = search needs
 
--- src/lib.rt:139:5
 copy-requires : tie.Need-copy-requires
 copy-requires c κs = search needs
 
--- src/lib.rt:140:16
 add-from : tie.Need-add-from
 add-from c = search needs
 
--- src/lib.rt:141:16
 add-till : tie.Need-add-till
 add-till c = search needs
 
--- src/lib.rt:142:22
 sub-copy-2 : tie.Need-sub-copy-2
 sub-copy-2 c = search needs
 
--- src/lib.rt:142:22
 part-copy-start-2 : tie.Need-part-copy-start-2
 part-copy-start-2 c = search needs
 
--- src/lib.rt:142:22
 part-copy-end-2 : tie.Need-part-copy-end-2
 part-copy-end-2 c = search needs
 
--- src/lib.rt:142:5
 copy-requires-2 : tie.Need-copy-requires-2
 copy-requires-2 c κs = search needs
 
--- src/lib.rt:131:1
 same-length : tie.Need-same-length
 same-length c = search needs
 
--- src/lib.rt:131:1
 same-length-2 : tie.Need-same-length-2
 same-length-2 c = search needs
 
--- src/lib.rt:131:1
 returns : tie.Need-returns
 returns c =
     let s = c .before .before .before .before .before .before .before .before .before .before .before .before .before in

@@ -5,9 +5,6 @@ use native.Mathlib.Omega.{arith}
 use Rattle.bench_state.specs.FillLaws.{Begun, begun-none, begun-stored}
 use Rattle.bench_state.proofs.fresh_images.Statement.{statement}
 use Rattle.bench_state.proofs.fresh_images.Tie as tie
-use Rattle.bench_state.proofs.fresh_images.Reads as reads
-use Rattle.bench_state.proofs.fresh_images.Lts as lts
-use Rattle.saving.proofs.write_fresh.Reads as write-fresh-reads
 
 abbrev Inv-loop : tie.InvT-loop
 Inv-loop s images₀ b₀ images b = Begun s images b × (b ≤ s .n)
@@ -15,51 +12,39 @@ Inv-loop s images₀ b₀ images b = Begun s images b × (b ≤ s .n)
 abbrev μ-loop : tie.MeasureT-loop
 μ-loop s images₀ b₀ images b = s .n - b
 
--- src/lib.rt:177:5
 loop-holds : tie.Need-loop-holds Inv-loop μ-loop
 loop-holds c = (begun-none _ _ (c .before .pre .1), omega arith)
 
--- src/lib.rt:178:18
 mul-at : tie.Need-mul-at Inv-loop μ-loop
 mul-at c = omega arith
 
--- src/lib.rt:179:31
 add-end : tie.Need-add-end Inv-loop μ-loop
 add-end c = let s = c .before .before .before .before .before in omega (arith, s .pre .0 .1 .bricks, s .pre .0 .1 .log-fits)
 
--- src/lib.rt:179:24
 mul-end : tie.Need-mul-end Inv-loop μ-loop
 mul-end c = let s = c .before .before .before .before .before in omega (arith, s .pre .0 .1 .bricks, s .pre .0 .1 .log-fits)
 
--- src/lib.rt:179:19
 add-end-2 : tie.Need-add-end-2 Inv-loop μ-loop
 add-end-2 c = let s = c .before .before .before .before .before in omega (arith, s .pre .0 .1 .bricks, s .pre .0 .1 .log-fits)
 
--- src/lib.rt:180:35
 sub-write-fresh : tie.Need-sub-write-fresh Inv-loop μ-loop
 sub-write-fresh c = omega arith
 
--- src/lib.rt:180:35
 part-write-fresh-start : tie.Need-part-write-fresh-start Inv-loop μ-loop
 part-write-fresh-start c = omega arith
 
--- src/lib.rt:180:35
 part-write-fresh-end : tie.Need-part-write-fresh-end Inv-loop μ-loop
 part-write-fresh-end c = let s = c .before .before .before .before .before in omega (arith, s .pre .0 .1 .bricks, s .pre .0 .1 .log-fits, c .before .before .before .loop .inv .0 .long)
 
--- src/lib.rt:180:9
 write-fresh-requires : tie.Need-write-fresh-requires Inv-loop μ-loop
 write-fresh-requires c κs = search needs
 
--- src/lib.rt:181:9
 add-b : tie.Need-add-b Inv-loop μ-loop
 add-b c = omega arith
 
--- src/lib.rt:177:5
 loop-less : tie.Need-loop-less Inv-loop μ-loop
 loop-less c = omega arith
 
--- src/lib.rt:177:5
 loop-again : tie.Need-loop-again Inv-loop μ-loop
 loop-again c =
     let s = c .before .before .before .before .before .before .before .before .before in
@@ -68,11 +53,9 @@ loop-again c =
       omega arith,
     )
 
--- src/lib.rt:171:1
 same-length : tie.Need-same-length Inv-loop μ-loop
 same-length c = c .before .before .loop .inv .0 .long ∙ sym (c .before .before .before .before .pre .1)
 
--- src/lib.rt:171:1
 returns : tie.Need-returns Inv-loop μ-loop
 returns c = subst (Begun _ _) (let p = c .before .before .loop .inv .1 in let q = c .if1 .left in omega arith) (c .before .before .loop .inv .0)
 

@@ -6,63 +6,46 @@ use Rattle.bench_state.specs.State.{keptWith}
 use borrow.Author.Needs.{needs}
 use Rattle.bench_state.proofs.keep.Statement.{statement}
 use Rattle.bench_state.proofs.keep.Tie as tie
-use Rattle.bench_state.proofs.keep.Reads as reads
-use Rattle.bench_state.proofs.keep.Lts as lts
-use Rattle.coord_acts.proofs.copy.Reads as copy-reads
 
--- src/lib.rt:151:14
 mul-at : tie.Need-mul-at
 mul-at c = search needs
 
--- src/lib.rt:152:15
 add-end : tie.Need-add-end
 add-end c = search needs
 
--- src/lib.rt:153:30
 sub-copy : tie.Need-sub-copy
 sub-copy c = search needs
 
--- src/lib.rt:153:30
 part-copy-start : tie.Need-part-copy-start
 part-copy-start c = search needs
 
--- src/lib.rt:153:30
 part-copy-end : tie.Need-part-copy-end
 part-copy-end c = search needs
 
--- src/lib.rt:153:5
 copy-requires : tie.Need-copy-requires
 copy-requires c κs = search needs
 
--- src/lib.rt:154:16
 add-from : tie.Need-add-from
 add-from c = search needs
 
--- src/lib.rt:155:16
 add-till : tie.Need-add-till
 add-till c = search needs
 
--- src/lib.rt:156:30
 sub-copy-2 : tie.Need-sub-copy-2
 sub-copy-2 c = search needs
 
--- src/lib.rt:156:30
 part-copy-start-2 : tie.Need-part-copy-start-2
 part-copy-start-2 c = search needs
 
--- src/lib.rt:156:30
 part-copy-end-2 : tie.Need-part-copy-end-2
 part-copy-end-2 c = search needs
 
--- src/lib.rt:156:5
 copy-requires-2 : tie.Need-copy-requires-2
 copy-requires-2 c κs = search needs
 
--- src/lib.rt:146:1
 same-length : tie.Need-same-length
 same-length c = search needs
 
--- src/lib.rt:146:1
 returns : tie.Need-returns
 unfolding keptWith
 returns c =

@@ -3,33 +3,22 @@ use Rattle.bench_state.specs.FillLaws.{set-begun}
 use borrow.Author.Needs.{needs}
 use Rattle.bench_state.proofs.set_up.Statement.{statement}
 use Rattle.bench_state.proofs.set_up.Tie as tie
-use Rattle.bench_state.proofs.set_up.Reads as reads
-use Rattle.bench_state.proofs.set_up.Lts as lts
-use Rattle.bench_state.proofs.clear.Reads as clear-reads
-use Rattle.bench_state.proofs.fresh_images.Reads as fresh-images-reads
-use Rattle.bench_state.proofs.new_bench.Reads as new-bench-reads
 
--- src/lib.rt:193:5
 fresh-images-requires : tie.Need-fresh-images-requires
 fresh-images-requires c κs = search needs
 
--- src/lib.rt:194:5
 clear-requires : tie.Need-clear-requires
 clear-requires c κs = search needs
 
--- src/lib.rt:195:5
 new-bench-requires : tie.Need-new-bench-requires
 new-bench-requires c κs = search needs
 
--- src/lib.rt:188:1
 same-length : tie.Need-same-length
 same-length c = search needs
 
--- src/lib.rt:188:1
 same-length-2 : tie.Need-same-length-2
 same-length-2 c = search needs
 
--- src/lib.rt:188:1
 returns : tie.Need-returns
 returns c =
     let s = c .before .before .before .before .before .before .before .before .before .before .before in

@@ -1,10 +1,7 @@
 use Rattle.bench_state.specs.State.{withSent}
 use Rattle.bench_state.proofs.with_sent.Statement.{statement}
 use Rattle.bench_state.proofs.with_sent.Tie as tie
-use Rattle.bench_state.proofs.with_sent.Reads as reads
-use Rattle.bench_state.proofs.with_sent.Lts as lts
 
--- src/lib.rt:90:1
 returns : tie.Need-returns
 unfolding withSent
 returns c = cc

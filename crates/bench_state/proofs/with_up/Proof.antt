@@ -2,14 +2,10 @@ use Rattle.bench_state.specs.State.{withUp}
 use borrow.Author.Needs.{needs}
 use Rattle.bench_state.proofs.with_up.Statement.{statement}
 use Rattle.bench_state.proofs.with_up.Tie as tie
-use Rattle.bench_state.proofs.with_up.Reads as reads
-use Rattle.bench_state.proofs.with_up.Lts as lts
 
--- src/lib.rt:110:5
 array-write-up : tie.Need-array-write-up
 array-write-up c = search needs
 
--- src/lib.rt:105:1
 returns : tie.Need-returns
 unfolding withUp
 returns c = (cc, search needs)

@@ -3,20 +3,13 @@ use Rattle.block.specs.StoreLaws.{sealed-of}
 use borrow.Author.Needs.{needs}
 use Rattle.block.proofs.entry.Statement.{statement}
 use Rattle.block.proofs.entry.Tie as tie
-use Rattle.block.proofs.entry.Reads as reads
-use Rattle.block.proofs.entry.Lts as lts
-use Rattle.block.proofs.entry_fields.Reads as entry-fields-reads
-use Rattle.block.proofs.seal.Reads as seal-reads
 
--- src/lib.rt:114:10
 entry-fields-requires : tie.Need-entry-fields-requires
 entry-fields-requires c κs = search needs
 
--- src/lib.rt:114:5
 seal-requires : tie.Need-seal-requires
 seal-requires c κs = search needs
 
--- src/lib.rt:110:1
 returns : tie.Need-returns
 unfolding entryBlock
 returns c = search (needs, sealed-of)

@@ -1,14 +1,11 @@
-use Rattle.block.specs.StoreLaws.{Pasted, zeros-length, held-all, pasted-none, pasted-more, pasted-length}
-use mathlib.Core.Path.{_≡_, refl}
-use Prim.Native.Nat.{_-_, _≤_}
+use Rattle.block.specs.StoreLaws.{Pasted, zeros-length, held-all, pasted-none, pasted-more}
+use Prim.Native.Nat.{_-_}
 use native.Mathlib.Omega.{arith}
 use borrow.Author.Needs.{needs}
 use lib.ListN.{length}
 use Rattle.block.specs.Block.{zeros}
 use Rattle.block.proofs.held.Statement.{statement}
 use Rattle.block.proofs.held.Tie as tie
-use Rattle.block.proofs.held.Reads as reads
-use Rattle.block.proofs.held.Lts as lts
 
 abbrev Inv-loop : tie.InvT-loop
 Inv-loop block b₀ i₀ b i = Pasted (zeros 512) block 16 i b
@@ -16,36 +13,28 @@ Inv-loop block b₀ i₀ b i = Pasted (zeros 512) block 16 i b
 abbrev μ-loop : tie.MeasureT-loop
 μ-loop block b₀ i₀ b i = length block - i
 
--- src/lib.rt:81:5
 loop-holds : tie.Need-loop-holds Inv-loop μ-loop
 unfolding zeros
 loop-holds c = pasted-none (zeros 512) _ 16 (omega (arith, zeros-length 512))
 
--- src/lib.rt:82:21
 shared-slice-read-b : tie.Need-shared-slice-read-b Inv-loop μ-loop
 shared-slice-read-b c = omega arith
 
--- src/lib.rt:82:11
 add-b : tie.Need-add-b Inv-loop μ-loop
 add-b c = omega arith
 
--- src/lib.rt:82:9
 array-write-b : tie.Need-array-write-b Inv-loop μ-loop
 array-write-b c = search needs
 
--- src/lib.rt:83:9
 add-i : tie.Need-add-i Inv-loop μ-loop
 add-i c = omega arith
 
--- src/lib.rt:81:5
 loop-less : tie.Need-loop-less Inv-loop μ-loop
 loop-less c = omega arith
 
--- src/lib.rt:81:5
 loop-again : tie.Need-loop-again Inv-loop μ-loop
 loop-again c = pasted-more _ _ _ _ _ (c .before .loop-test .taken) (c .before .before .loop .inv)
 
--- src/lib.rt:75:1
 returns : tie.Need-returns Inv-loop μ-loop
 returns c = held-all _ _ _ (c .loop-test .left) (c .before .loop .inv)
 

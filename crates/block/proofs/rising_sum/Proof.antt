@@ -4,8 +4,6 @@ use native.Mathlib.Omega.{arith}
 use Rattle.block.specs.RowLaws.{Rising, rising-none, rising-more, rising-all, product-high}
 use Rattle.block.proofs.rising_sum.Statement.{statement}
 use Rattle.block.proofs.rising_sum.Tie as tie
-use Rattle.block.proofs.rising_sum.Reads as reads
-use Rattle.block.proofs.rising_sum.Lts as lts
 
 abbrev Inv-loop : tie.InvT-loop
 Inv-loop b rise₀ weight₀ p₀ rise weight p = Rising b rise weight p
@@ -13,11 +11,9 @@ Inv-loop b rise₀ weight₀ p₀ rise weight p = Rising b rise weight p
 abbrev μ-loop : tie.MeasureT-loop
 μ-loop b rise₀ weight₀ p₀ rise weight p = length b - p
 
--- src/lib.rt:35:5
 loop-holds : tie.Need-loop-holds Inv-loop μ-loop
 loop-holds c = rising-none _
 
--- src/lib.rt:36:27
 shared-slice-read-rise : tie.Need-shared-slice-read-rise Inv-loop μ-loop
 shared-slice-read-rise c = omega arith
 
@@ -28,35 +24,27 @@ high : (c : tie.After-shared-slice-known Inv-loop μ-loop)
     → c .before .before .loop .weight * getD (c .before .before .before .args .b .now) (c .before .before .loop .p) 0 ≤ 16320
 high c = product-high _ _ (omega arith) (byte c)
 
--- src/lib.rt:36:27
 cast-rise : tie.Need-cast-rise Inv-loop μ-loop
 cast-rise c = omega (arith, c .shared-slice-known .given (c .before .before .loop .p))
 
--- src/lib.rt:36:17
 mul-rise : tie.Need-mul-rise Inv-loop μ-loop
 mul-rise c = omega (arith, high c)
 
--- src/lib.rt:36:9
 add-rise : tie.Need-add-rise Inv-loop μ-loop
 add-rise c = omega (arith, high c)
 
--- src/lib.rt:37:9
 add-weight : tie.Need-add-weight Inv-loop μ-loop
 add-weight c = omega arith
 
--- src/lib.rt:38:9
 add-p : tie.Need-add-p Inv-loop μ-loop
 add-p c = omega arith
 
--- src/lib.rt:35:5
 loop-less : tie.Need-loop-less Inv-loop μ-loop
 loop-less c = omega arith
 
--- src/lib.rt:35:5
 loop-again : tie.Need-loop-again Inv-loop μ-loop
 loop-again c = rising-more _ _ _ _ (c .before .before .before .pre) (byte c) (c .before .loop-test .taken) (c .before .before .loop .inv)
 
--- src/lib.rt:28:1
 returns : tie.Need-returns Inv-loop μ-loop
 returns c = rising-all _ _ _ _ (c .before .before .pre) (c .loop-test .left) (c .before .loop .inv)
 

@@ -1,12 +1,9 @@
 use Prim.Native.Nat.{_-_}
 use native.Mathlib.Omega.{arith}
 use mathlib.Core.Logic.{⊎-elim}
-use borrow.Author.Needs.{needs}
 use Rattle.block.specs.SameLaws.{Comparing, comparing-none, comparing-same, comparing-other, comparing-all}
 use Rattle.block.proofs.same_body.Statement.{statement}
 use Rattle.block.proofs.same_body.Tie as tie
-use Rattle.block.proofs.same_body.Reads as reads
-use Rattle.block.proofs.same_body.Lts as lts
 
 abbrev Inv-loop : tie.InvT-loop
 Inv-loop a b differ₀ p₀ differ p = Comparing a b differ p
@@ -14,27 +11,21 @@ Inv-loop a b differ₀ p₀ differ p = Comparing a b differ p
 abbrev μ-loop : tie.MeasureT-loop
 μ-loop a b differ₀ p₀ differ p = 512 - p
 
--- src/lib.rt:133:5
 loop-holds : tie.Need-loop-holds Inv-loop μ-loop
 loop-holds c = comparing-none _ _
 
--- src/lib.rt:134:12
 shared-slice-read-if1 : tie.Need-shared-slice-read-if1 Inv-loop μ-loop
 shared-slice-read-if1 c = omega arith
 
--- src/lib.rt:134:20
 shared-slice-read-if1-2 : tie.Need-shared-slice-read-if1-2 Inv-loop μ-loop
 shared-slice-read-if1-2 c = omega arith
 
--- src/lib.rt:137:9
 add-p : tie.Need-add-p Inv-loop μ-loop
 add-p c = omega arith
 
--- src/lib.rt:133:5
 loop-less : tie.Need-loop-less Inv-loop μ-loop
 loop-less c = omega arith
 
--- src/lib.rt:133:5
 loop-again : tie.Need-loop-again Inv-loop μ-loop
 loop-again c =
     let s = c .before .before .before .before in
@@ -46,7 +37,6 @@ loop-again c =
     (λ w. comparing-same _ _ na nb _ _ _ (w .1) h (w .0 .left) (s .loop .inv))
     (c .if1 .came)
 
--- src/lib.rt:126:1
 returns : tie.Need-returns Inv-loop μ-loop
 returns c = comparing-all _ _ (c .before .before .pre .0) (c .before .before .pre .1) _ _ (c .loop-test .left) (c .before .loop .inv)
 

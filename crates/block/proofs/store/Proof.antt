@@ -1,12 +1,9 @@
-use Prim.Native.Nat.{_-_, _≤_}
+use Prim.Native.Nat.{_-_}
 use native.Mathlib.Omega.{arith}
-use borrow.Author.Needs.{needs}
 use lib.ListN.{length}
 use Rattle.block.specs.StoreLaws.{Pasted, pasted-none, pasted-more, pasted-length, pasted-all}
 use Rattle.block.proofs.store.Statement.{statement}
 use Rattle.block.proofs.store.Tie as tie
-use Rattle.block.proofs.store.Reads as reads
-use Rattle.block.proofs.store.Lts as lts
 
 abbrev Inv-loop : tie.InvT-loop
 Inv-loop image₀ at b i₀ image i = Pasted image₀ b at i image
@@ -14,39 +11,30 @@ Inv-loop image₀ at b i₀ image i = Pasted image₀ b at i image
 abbrev μ-loop : tie.MeasureT-loop
 μ-loop image₀ at b i₀ image i = length b - i
 
--- src/lib.rt:148:5
 loop-holds : tie.Need-loop-holds Inv-loop μ-loop
 loop-holds c = pasted-none _ _ _ (c .pre)
 
--- src/lib.rt:149:25
 shared-slice-read-image : tie.Need-shared-slice-read-image Inv-loop μ-loop
 shared-slice-read-image c = omega arith
 
--- src/lib.rt:149:15
 add-image : tie.Need-add-image Inv-loop μ-loop
 add-image c = omega arith
 
--- src/lib.rt:149:9
 slice-write-image : tie.Need-slice-write-image Inv-loop μ-loop
 slice-write-image c = omega (arith, pasted-length _ _ _ _ _ (c .before .before .loop .inv))
 
--- src/lib.rt:150:9
 add-i : tie.Need-add-i Inv-loop μ-loop
 add-i c = omega arith
 
--- src/lib.rt:148:5
 loop-less : tie.Need-loop-less Inv-loop μ-loop
 loop-less c = omega arith
 
--- src/lib.rt:148:5
 loop-again : tie.Need-loop-again Inv-loop μ-loop
 loop-again c = pasted-more _ _ _ _ _ (c .before .loop-test .taken) (c .before .before .loop .inv)
 
--- src/lib.rt:143:1
 same-length : tie.Need-same-length Inv-loop μ-loop
 same-length c = pasted-length _ _ _ _ _ (c .before .loop .inv)
 
--- src/lib.rt:143:1
 returns : tie.Need-returns Inv-loop μ-loop
 returns c = pasted-all _ _ _ _ _ (c .loop-test .left) (c .before .loop .inv)
 

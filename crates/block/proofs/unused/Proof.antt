@@ -4,14 +4,10 @@ use Rattle.block.specs.Figures.{unused-is}
 use borrow.Author.Needs.{needs}
 use Rattle.block.proofs.unused.Statement.{statement}
 use Rattle.block.proofs.unused.Tie as tie
-use Rattle.block.proofs.unused.Reads as reads
-use Rattle.block.proofs.unused.Lts as lts
 
--- src/lib.rt:133:5
 array-write-b : tie.Need-array-write-b
 array-write-b c = search needs
 
--- src/lib.rt:129:1
 returns : tie.Need-returns
 unfolding zeros
 returns c = sym unused-is

@@ -4,82 +4,58 @@ use Rattle.brick.specs.OutcomeLaws.{blocks-passed, ends-early, ends-unop
 use borrow.Author.Needs.{needs}
 use Rattle.brick.proofs.receive.Statement.{statement}
 use Rattle.brick.proofs.receive.Tie as tie
-use Rattle.brick.proofs.receive.Reads as reads
-use Rattle.brick.proofs.receive.Lts as lts
-use Rattle.brick.proofs.act.Reads as act-reads
-use Rattle.brick.proofs.blocks_refusal.Reads as blocks-refusal-reads
-use Rattle.brick_plan.proofs.plan_for.Reads as plan-for-reads
-use Rattle.image.proofs.number_of.Reads as number-of-reads
-use Rattle.image.proofs.open.Reads as open-reads
 use Rattle.image.specs.Opening.{blank}
-use Rattle.message.proofs.Message.refusal.Reads as refusal-reads
 
--- src/lib.rt:309:9
 blocks-refusal-requires : tie.Need-blocks-refusal-requires
 blocks-refusal-requires c κs = search needs
 
 the-hub : (c : tie.After-answer) → Hub (c .before .before .before .before .before .before .before .before .before .args .s) (c .before .before .before .before .before .before .before .before .before .args .brick) (c .before .before .before .before .before .before .before .before .before .args .image .now) (c .before .before .«open» .result) (c .answer .given .0 .0)
 the-hub c = hub _ _ _ _ _ (c .before .before .«open» .ensures) (c .answer .given .1)
 
--- src/lib.rt:311:9
 returns : tie.Need-returns
 returns c = ends-early _ _ _ _ _ _ _ (c .before .blocks-refusal .ensures) (c .if1 .taken)
 
--- src/lib.rt:313:9
 open-requires : tie.Need-open-requires
 open-requires c κs = search needs
 
--- src/lib.rt:315:24
 enum-known-answer : tie.Need-enum-known-answer
 enum-known-answer c = search needs
 
--- src/lib.rt:316:31
 enum-told : tie.Need-enum-told
 enum-told c = search needs
 
--- src/lib.rt:316:31
 number-of-requires : tie.Need-number-of-requires
 number-of-requires c κs = search needs
 
--- src/lib.rt:316:9
 same-length : tie.Need-same-length
 same-length c = search needs
 
--- src/lib.rt:316:9
 returns-2 : tie.Need-returns-2
 returns-2 c = ends-unopened _ _ _ _ _ _ _ (c .before .before .before .before .before .before .blocks-refusal .ensures) (c .before .before .before .before .before .if1 .left) _ _ _ (c .before .before .before .«open» .ensures) (c .before .enum-told .given .1) (c .number-of .ensures)
 
--- src/lib.rt:318:9
 refusal-requires : tie.Need-refusal-requires
 refusal-requires c κs = omega (arith, the-hub (c .before) .saved .range .code .n-high)
 
--- src/lib.rt:320:9
 same-length-2 : tie.Need-same-length-2
 same-length-2 c = search needs
 
--- src/lib.rt:320:9
 returns-3 : tie.Need-returns-3
 returns-3 c = ends-wrong _ _ _ _ _ _ _ (c .before .before .before .before .before .before .before .before .blocks-refusal .ensures) (c .before .before .before .before .before .before .before .if1 .left) _ (the-hub (c .before .before .before) .is) _ (c .before .refusal .ensures) (c .if2 .taken)
 
--- src/lib.rt:323:20
 sub-last : tie.Need-sub-last
 sub-last c = omega (arith, the-hub (c .before .before .before .before .before) .low)
 
--- src/lib.rt:323:16
 mul-last : tie.Need-mul-last
 mul-last c = omega (arith, the-hub (c .before .before .before .before .before) .most)
 
--- src/lib.rt:323:16
 array-copy-out-last : tie.Need-array-copy-out-last
 array-copy-out-last c = omega (arith, the-hub (c .before .before .before .before .before) .most, the-hub (c .before .before .before .before .before) .low)
 
--- src/lib.rt:329:9
 plan-for-requires : tie.Need-plan-for-requires
 plan-for-requires c κs =
     let u = the-hub (c .before .before .before .before .before .before) in
     ((u .low, u .most), omega (arith, u .saved .brick-low, u .saved .range .code .n-high))
 
--- src/lib.rt:330:5
 act-requires : tie.Need-act-requires
 unfolding blank
 act-requires c κs =
@@ -88,15 +64,12 @@ act-requires c κs =
     let b = blocks-passed _ _ _ _ (c .before .before .before .before .before .before .before .before .before .before .before .before .before .before .blocks-refusal .ensures) (c .before .before .before .before .before .before .before .before .before .before .before .before .before .if1 .left) in
     (r, (ahead _ _ _ _ _ _ _ r (log-is _ _ _ _ _ u) (c .before .before .plan-for .ensures), (b .0, b .1)))
 
--- src/lib.rt:304:1
 same-length-3 : tie.Need-same-length-3
 same-length-3 c = search needs
 
--- src/lib.rt:304:1
 same-length-4 : tie.Need-same-length-4
 same-length-4 c = search needs
 
--- src/lib.rt:304:1
 returns-4 : tie.Need-returns-4
 returns-4 c =
     let u = the-hub (c .before .before .before .before .before .before .before .before .before .before .before .before .before .before) in

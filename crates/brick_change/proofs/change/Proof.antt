@@ -2,36 +2,25 @@ use Rattle.brick_change.specs.ActLaws.{change-read, change-write, change
 use borrow.Author.Needs.{needs}
 use Rattle.brick_change.proofs.change.Statement.{statement}
 use Rattle.brick_change.proofs.change.Tie as tie
-use Rattle.brick_change.proofs.change.Reads as reads
-use Rattle.brick_change.proofs.change.Lts as lts
-use Rattle.brick_change.proofs.order.Reads as order-reads
-use Rattle.brick_change.proofs.write.Reads as write-reads
 
--- src/lib.rt:248:9
 returns : tie.Need-returns
 returns c = change-read _ _ _ _ (c .before .before .before .before .before .pre .0) _ _ (c .before .if1 .taken)
 
--- src/lib.rt:251:9
 write-requires : tie.Need-write-requires
 write-requires c κs = search needs
 
--- src/lib.rt:251:9
 same-length : tie.Need-same-length
 same-length c = search needs
 
--- src/lib.rt:251:9
 returns-2 : tie.Need-returns-2
 returns-2 c = change-write _ _ _ _ (c .before .before .before .before .before .before .before .before .before .before .pre .0) _ _ _ _ (c .before .before .before .before .if2 .taken) (c .before .before .write .ensures .0) (c .before .before .write .ensures .1)
 
--- src/lib.rt:253:5
 order-requires : tie.Need-order-requires
 order-requires c κs = search needs
 
--- src/lib.rt:240:1
 same-length-2 : tie.Need-same-length-2
 same-length-2 c = search needs
 
--- src/lib.rt:240:1
 returns-3 : tie.Need-returns-3
 returns-3 c = change-order _ _ _ _ (c .before .before .before .before .before .before .before .before .before .before .pre .0) _ _ _ _ (c .before .before .before .before .before .before .before .before .before .before .pre .1 .1) (c .before .before .before .before .before .before .if1 .left) (c .before .before .before .before .if2 .left) (c .before .before .order .ensures .0) (c .before .before .order .ensures .1)
 

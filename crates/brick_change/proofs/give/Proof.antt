@@ -4,47 +4,34 @@ use Rattle.brick_plan.specs.LookLaws.{gave-none, gave-block}
 use borrow.Author.Needs.{needs}
 use Rattle.brick_change.proofs.give.Statement.{statement}
 use Rattle.brick_change.proofs.give.Tie as tie
-use Rattle.brick_change.proofs.give.Reads as reads
-use Rattle.brick_change.proofs.give.Lts as lts
-use Rattle.block.proofs.store.Reads as store-reads
 
--- src/lib.rt:232:9
 returns : tie.Need-returns
 returns c = search (needs, gave-none)
 
--- src/lib.rt:234:13
 mul-a : tie.Need-mul-a
 mul-a c = search needs
 
--- src/lib.rt:234:13
 add-a : tie.Need-add-a
 add-a c = search needs
 
--- src/lib.rt:235:13
 add-e : tie.Need-add-e
 add-e c = search needs
 
--- src/lib.rt:236:19
 sub-store : tie.Need-sub-store
 sub-store c = search needs
 
--- src/lib.rt:236:19
 part-store-start : tie.Need-part-store-start
 part-store-start c = search needs
 
--- src/lib.rt:236:19
 part-store-end : tie.Need-part-store-end
 part-store-end c = search needs
 
--- src/lib.rt:236:5
 store-requires : tie.Need-store-requires
 store-requires c κs = search needs
 
--- src/lib.rt:227:1
 same-length : tie.Need-same-length
 same-length c = search needs
 
--- src/lib.rt:227:1
 returns-2 : tie.Need-returns-2
 returns-2 c = gave-block _ _ _ _ _ _ (c .before .before .before .before .before .if1 .left) (c .before .before .before .before .before .before .before .before .pre .0) refl (omega (arith, c .before .before .before .before .before .before .before .before .pre)) (c .before .before .store .ensures)
 

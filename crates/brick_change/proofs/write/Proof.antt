@@ -1,41 +1,30 @@
-use mathlib.Core.Path.{refl, sym, _∙_}
+use mathlib.Core.Path.{refl}
 use native.Mathlib.Omega.{arith}
 use Rattle.image.specs.Image.{imageSize}
 use Rattle.brick_change.specs.ActLaws.{write-no, write-full, write-yes, write-kept, write-moved}
 use borrow.Author.Needs.{needs}
 use Rattle.brick_change.proofs.write.Statement.{statement}
 use Rattle.brick_change.proofs.write.Tie as tie
-use Rattle.brick_change.proofs.write.Reads as reads
-use Rattle.brick_change.proofs.write.Lts as lts
-use Rattle.brick_plan.proofs.order_yes.Reads as order-yes-reads
-use Rattle.saving.proofs.write_entry.Reads as write-entry-reads
-use Rattle.saving.proofs.write_head.Reads as write-head-reads
 
--- src/lib.rt:83:8
 order-yes-requires : tie.Need-order-yes-requires
 order-yes-requires c κs = search needs
 
--- src/lib.rt:85:9
 returns : tie.Need-returns
 returns c =
     let n = write-no _ _ _ _ (c .before .before .before .before .pre .0) _ _ (c .before .order-yes .ensures) (c .if1 .left) in
     (n, write-kept _ _ _ _ (c .before .before .before .before .pre .0) _ _ n)
 
--- src/lib.rt:90:9
 returns-2 : tie.Need-returns-2
 returns-2 c =
     let n = write-full _ _ _ _ (c .before .before .before .before .before .before .before .pre .0) _ _ (c .before .before .before .before .order-yes .ensures) (c .before .before .before .if1 .taken) (omega (arith, c .if2 .taken)) in
     (n, write-kept _ _ _ _ (c .before .before .before .before .before .before .before .pre .0) _ _ n)
 
--- src/lib.rt:88:13
 add-n : tie.Need-add-n
 add-n c = search needs
 
--- src/lib.rt:92:24
 mul-write-entry : tie.Need-mul-write-entry
 mul-write-entry c = search needs
 
--- src/lib.rt:92:5
 write-entry-requires : tie.Need-write-entry-requires
 unfolding imageSize
 write-entry-requires c κs =
@@ -43,15 +32,12 @@ write-entry-requires c κs =
     let z = c .before .before .before .before .before .before .before .before .pre .1 in
     (omega (arith, r .saved .long, c .before .if2 .left), omega (arith, z, r .saved .range .code .size-high))
 
--- src/lib.rt:93:5
 write-head-requires : tie.Need-write-head-requires
 write-head-requires c κs = search needs
 
--- src/lib.rt:77:1
 same-length : tie.Need-same-length
 same-length c = search needs
 
--- src/lib.rt:77:1
 returns-3 : tie.Need-returns-3
 returns-3 c =
     let start = c .before .before .before .before .before .before .before .before .before .before .before .before .before .before .before in

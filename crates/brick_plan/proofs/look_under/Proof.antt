@@ -1,12 +1,9 @@
 use mathlib.Core.Path.{_≡_, refl, sym, _∙_}
 use Prim.Native.Nat.{_-_, _≤_}
 use native.Mathlib.Omega.{arith}
-use borrow.Author.Needs.{needs}
 use Rattle.brick_plan.specs.LookLaws.{underIn, under-found, under-down, under-none}
 use Rattle.brick_plan.proofs.look_under.Statement.{statement}
 use Rattle.brick_plan.proofs.look_under.Tie as tie
-use Rattle.brick_plan.proofs.look_under.Reads as reads
-use Rattle.brick_plan.proofs.look_under.Lts as lts
 use Rattle.image.specs.Opening.{blank}
 
 abbrev Inv-loop : tie.InvT-loop
@@ -15,37 +12,29 @@ Inv-loop count max log n₀ n = (n ≤ count) × (underIn log max n ≡ underIn 
 abbrev μ-loop : tie.MeasureT-loop
 μ-loop count max log n₀ n = n
 
--- src/lib.rt:136:5
 loop-holds : tie.Need-loop-holds Inv-loop μ-loop
 loop-holds c = (omega arith, refl)
 
--- src/lib.rt:137:17
 sub-i : tie.Need-sub-i Inv-loop μ-loop
 sub-i c = omega arith
 
--- src/lib.rt:138:17
 mul-e : tie.Need-mul-e Inv-loop μ-loop
 mul-e c = omega arith
 
--- src/lib.rt:138:17
 array-copy-out-e : tie.Need-array-copy-out-e Inv-loop μ-loop
 array-copy-out-e c = omega arith
 
--- src/lib.rt:140:13
 returns : tie.Need-returns Inv-loop μ-loop
 unfolding blank
 returns c = under-found _ _ _ (c .before .before .before .before .loop .n - 1) _ (omega arith) (c .if1 .taken) (c .before .before .before .before .loop .inv .1)
 
--- src/lib.rt:136:5
 loop-less : tie.Need-loop-less Inv-loop μ-loop
 loop-less c = omega arith
 
--- src/lib.rt:136:5
 loop-again : tie.Need-loop-again Inv-loop μ-loop
 unfolding blank
 loop-again c = (omega arith, sym (under-down _ _ _ (c .before .before .before .before .loop .n - 1) (omega arith) (c .if1 .left)) ∙ c .before .before .before .before .loop .inv .1)
 
--- src/lib.rt:131:1
 returns-2 : tie.Need-returns-2 Inv-loop μ-loop
 returns-2 c = under-none _ _ _ _ (omega arith) (c .before .loop .inv .1)
 

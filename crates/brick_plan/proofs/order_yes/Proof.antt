@@ -2,14 +2,10 @@ use borrow.Author.Needs.{needs}
 use borrow.Author.Tests.{lt-ltb, le-ltb}
 use Rattle.brick_plan.proofs.order_yes.Statement.{statement}
 use Rattle.brick_plan.proofs.order_yes.Tie as tie
-use Rattle.brick_plan.proofs.order_yes.Reads as reads
-use Rattle.brick_plan.proofs.order_yes.Lts as lts
 
--- src/lib.rt:48:9
 returns : tie.Need-returns
 returns c = search (needs, lt-ltb, le-ltb)
 
--- src/lib.rt:44:1
 returns-2 : tie.Need-returns-2
 returns-2 c = search (needs, lt-ltb, le-ltb)
 

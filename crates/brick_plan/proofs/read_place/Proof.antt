@@ -4,24 +4,17 @@ use Rattle.brick_plan.specs.LookLaws.{readPlace}
 use borrow.Author.Needs.{needs}
 use Rattle.brick_plan.proofs.read_place.Statement.{statement}
 use Rattle.brick_plan.proofs.read_place.Tie as tie
-use Rattle.brick_plan.proofs.read_place.Reads as reads
-use Rattle.brick_plan.proofs.read_place.Lts as lts
-use Rattle.brick_plan.proofs.is_target.Reads as is-target-reads
 
--- src/lib.rt:182:9
 returns : tie.Need-returns
 unfolding readPlace
 returns c = search (needs, lt-leb, le-leb)
 
--- src/lib.rt:184:8
 is-target-requires : tie.Need-is-target-requires
 is-target-requires c κs = search needs
 
--- src/lib.rt:185:9
 returns-2 : tie.Need-returns-2
 returns-2 c = search (needs, read-target)
 
--- src/lib.rt:177:1
 returns-3 : tie.Need-returns-3
 returns-3 c = search (needs, read-other)
 

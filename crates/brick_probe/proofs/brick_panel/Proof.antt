@@ -1,5 +1,3 @@
-use native.Mathlib.Omega.{arith}
-use lib.ListN.{length, length-set}
 use Rattle.brick_probe.specs.NumberLaws.{panel-short, panel-values, panel-refused}
 use borrow.Author.Needs.{needs}
 use Rattle.brick_probe.proofs.brick_panel.Statement.{statement}

@@ -1,5 +1,3 @@
-use native.Mathlib.Omega.{arith}
-use lib.ListN.{length, length-set}
 use mathlib.Core.Path.{sym}
 use Rattle.interpolate.specs.Tabulate.{tabulate}
 use Rattle.brick_probe.specs.NumberLaws.{sixteen}

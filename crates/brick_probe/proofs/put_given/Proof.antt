@@ -1,5 +1,3 @@
-use native.Mathlib.Omega.{arith}
-use lib.ListN.{length, length-set}
 use Rattle.brick_probe.specs.NumberLaws.{given-reply, given-silence, given-refusal}
 use borrow.Author.Needs.{needs}
 use Rattle.brick_probe.proofs.put_given.Statement.{statement}

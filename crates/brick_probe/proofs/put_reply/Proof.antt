@@ -1,5 +1,5 @@
 use native.Mathlib.Omega.{arith}
-use lib.ListN.{length, length-set}
+use lib.ListN.{length-set}
 use Rattle.brick_probe.specs.NumberLaws.{reply-put}
 use borrow.Author.Needs.{needs}
 use Rattle.brick_probe.proofs.put_reply.Statement.{statement}

@@ -1,119 +1,85 @@
-use mathlib.Core.Path.{refl, sym, _∙_}
+use mathlib.Core.Path.{refl, sym}
 use Rattle.coord_record.specs.Records.{noBricks}
 use Rattle.coord_acts.specs.ActLaws.{recover-enough, acted-at, acted-abort, acted-give, acted-look, acted-store, acted-recover, acted-finish, end-by, stripe-by}
 use borrow.Author.Needs.{needs}
 use Rattle.coord_acts.proofs.act.Statement.{statement}
 use Rattle.coord_acts.proofs.act.Tie as tie
-use Rattle.coord_acts.proofs.act.Reads as reads
-use Rattle.coord_acts.proofs.act.Lts as lts
-use Rattle.coord_acts.proofs.end.Reads as end-reads
-use Rattle.coord_acts.proofs.finish.Reads as finish-reads
-use Rattle.coord_acts.proofs.give.Reads as give-reads
-use Rattle.coord_acts.proofs.no_message.Reads as no-message-reads
-use Rattle.coord_acts.proofs.open.Reads as open-reads
-use Rattle.coord_acts.proofs.recover.Reads as recover-reads
-use Rattle.coord_acts.proofs.store.Reads as store-reads
 
--- src/lib.rt:333:44
 enum-told : tie.Need-enum-told
 enum-told c = search needs
 
--- src/lib.rt:333:58
 no-message-requires : tie.Need-no-message-requires
 no-message-requires c κs = search needs
 
--- src/lib.rt:333:28
 end-requires : tie.Need-end-requires
 end-requires c κs = search needs
 
--- src/lib.rt:334:55
 enum-told-2 : tie.Need-enum-told-2
 enum-told-2 c = search needs
 
--- src/lib.rt:334:27
 give-requires : tie.Need-give-requires
 give-requires c κs = search needs
 
--- src/lib.rt:335:24
 enum-known-d : tie.Need-enum-known-d
 enum-known-d c = search needs
 
--- src/lib.rt:335:32
 open-requires : tie.Need-open-requires
 open-requires c κs = search needs
 
--- src/lib.rt:336:49
 enum-told-3 : tie.Need-enum-told-3
 enum-told-3 c = search needs
 
--- src/lib.rt:336:28
 store-requires : tie.Need-store-requires
 store-requires c κs = search needs
 
--- src/lib.rt:337:27
 enum-known-d-2 : tie.Need-enum-known-d-2
 enum-known-d-2 c = search needs
 
--- src/lib.rt:339:17
 recover-requires : tie.Need-recover-requires
 recover-requires c κs = let s = c .before .before .before .before .before .before .before .before in (s .pre .0 .range, ((s .pre .0 .blocks-length, s .pre .0 .stripe-length), recover-enough _ _ _ _ _ _ (c .before .before .before .d2 .given .1) (s .pre .1 .1)))
 
--- src/lib.rt:340:13
 store-requires-2 : tie.Need-store-requires-2
 store-requires-2 c κs = search needs
 
--- src/lib.rt:342:29
 enum-told-4 : tie.Need-enum-told-4
 enum-told-4 c = search needs
 
--- src/lib.rt:342:29
 finish-requires : tie.Need-finish-requires
 finish-requires c κs = search needs
 
--- src/lib.rt:317:1
 returns : tie.Need-returns
 unfolding noBricks
 returns c = acted-at _ _ _ _ _ _ _ _ _ _ (c .before .before .enum-told .given .1) (acted-abort _ _ _ _ _ _ _ _ (end-by _ _ _ _ _ _ _ _ _ (c .end .ensures) refl refl (c .before .no-message .ensures)))
 
--- src/lib.rt:317:1
 same-length : tie.Need-same-length
 same-length c = search needs
 
--- src/lib.rt:317:1
 returns-2 : tie.Need-returns-2
 returns-2 c = acted-at _ _ _ _ _ _ _ _ _ _ (c .before .before .before .before .enum-told2 .given .1) (acted-give _ _ _ _ _ _ _ _ _ _ refl (c .before .before .give .ensures .1) (c .before .before .give .ensures .0))
 
--- src/lib.rt:317:1
 returns-3 : tie.Need-returns-3
 unfolding noBricks
 returns-3 c = acted-at _ _ _ _ _ _ _ _ _ _ (c .before .before .d .given .1) (acted-look _ _ _ _ _ _ _ _ _ (c .«open» .ensures))
 
--- src/lib.rt:317:1
 same-length-2 : tie.Need-same-length-2
 same-length-2 c = search needs
 
--- src/lib.rt:317:1
 same-length-3 : tie.Need-same-length-3
 same-length-3 c = search needs
 
--- src/lib.rt:317:1
 returns-4 : tie.Need-returns-4
 unfolding noBricks
 returns-4 c = acted-at _ _ _ _ _ _ _ _ _ _ (c .before .before .before .before .before .enum-told3 .given .1) (acted-store _ _ _ _ _ _ _ _ _ (c .before .before .store .ensures .1) (c .before .before .store .ensures .0))
 
--- src/lib.rt:317:1
 same-length-4 : tie.Need-same-length-4
 same-length-4 c = search needs
 
--- src/lib.rt:317:1
 same-length-5 : tie.Need-same-length-5
 same-length-5 c = search needs
 
--- src/lib.rt:317:1
 returns-5 : tie.Need-returns-5
 returns-5 c = let r = c .before .before .before .before .before .before .before in acted-at _ _ _ _ _ _ _ _ _ _ (r .before .before .before .before .d2 .given .1) (acted-recover _ _ _ _ _ _ _ _ _ _ _ _ (r .recover .ensures .0) (stripe-by _ _ _ _ _ _ (r .recover .ensures .1) (sym (r .recover .ensures .0))) (c .before .before .store2 .ensures .1) (c .before .before .store2 .ensures .0))
 
--- src/lib.rt:317:1
 returns-6 : tie.Need-returns-6
 returns-6 c = acted-at _ _ _ _ _ _ _ _ _ _ (c .before .enum-told4 .given .1) (acted-finish _ _ _ _ _ _ _ _ _ _ refl refl (c .finish .ensures))
 

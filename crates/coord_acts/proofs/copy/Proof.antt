@@ -1,8 +1,7 @@
-use borrow.Author.Needs.{needs}
 use native.Mathlib.Omega.{arith}
 use lib.ListN.{length, getD}
-use mathlib.Core.Path.{_≡_, refl, sym, ap, _∙_}
-use Prim.Native.Nat.{ℕ, _-_, _≤_, _<_}
+use mathlib.Core.Path.{refl}
+use Prim.Native.Nat.{ℕ, _-_, _≤_}
 use Rattle.interpolate.specs.Tabulate.{Filled, filled-none, filled-more, filled-copy}
 use Rattle.coord_acts.proofs.copy.Statement.{statement}
 use Rattle.coord_acts.proofs.copy.Tie as tie

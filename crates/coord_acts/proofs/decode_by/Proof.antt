@@ -1,31 +1,22 @@
-use native.Mathlib.Omega.{arith}
 use lib.ListN.{length, take, drop}
 use mathlib.Core.List.{_++_}
 use lib.Seq.{length-take-le}
-use mathlib.Core.Path.{_≡_, sym, ap, _∙_}
+use mathlib.Core.Path.{_≡_, sym, _∙_}
 use Prim.Native.Nat.{_*_}
 use Rattle.coord_acts.specs.BufferLaws.{front-long, stripe-from-is}
 use borrow.Author.Needs.{needs}
 use Rattle.coord_acts.proofs.decode_by.Statement.{statement}
 use Rattle.coord_acts.proofs.decode_by.Tie as tie
-use Rattle.coord_acts.proofs.decode_by.Reads as reads
-use Rattle.coord_acts.proofs.decode_by.Lts as lts
-use Rattle.coord_acts.proofs.gather.Reads as gather-reads
-use Rattle.erasure.proofs.decode_into.Reads as decode-into-reads
 
--- src/lib.rt:128:15
 mul-end : tie.Need-mul-end
 mul-end c = search needs
 
--- src/lib.rt:129:37
 slice-relend-prefix-gather : tie.Need-slice-relend-prefix-gather
 slice-relend-prefix-gather c = search needs
 
--- src/lib.rt:129:37
 slice-aggregate-gather : tie.Need-slice-aggregate-gather
 slice-aggregate-gather c = sym (length-take-le _ (c .before .before .before .before .args .work .now) (c .before .before .before .before .pre .0 .1))
 
--- src/lib.rt:129:5
 gather-requires : tie.Need-gather-requires
 gather-requires c κs =
     let s = c .before .before .before .before in
@@ -44,23 +35,18 @@ gathered-front c =
     let s = c .before .before .before .before .before in
     front-long (s .args .m * s .args .size) (c .gather .last .1 .1 .1 .1 .0) (drop (s .args .m * s .args .size) (s .args .work .now)) (gathered-length c)
 
--- src/lib.rt:130:35
 array-share-prefix-bricks : tie.Need-array-share-prefix-bricks
 array-share-prefix-bricks c = search needs
 
--- src/lib.rt:130:35
 slice-aggregate-decode-into : tie.Need-slice-aggregate-decode-into
 slice-aggregate-decode-into c = sym (length-take-le _ (c .before .before .before .before .before .before .before .before .args .t3) (array-share-prefix-bricks (c .before)))
 
--- src/lib.rt:130:49
 slice-reshare-prefix-decode-into : tie.Need-slice-reshare-prefix-decode-into
 slice-reshare-prefix-decode-into c = search needs
 
--- src/lib.rt:130:49
 slice-aggregate-decode-into-2 : tie.Need-slice-aggregate-decode-into-2
 slice-aggregate-decode-into-2 c = sym (gathered-front (c .before .before .before .before))
 
--- src/lib.rt:130:5
 decode-into-requires : tie.Need-decode-into-requires
 decode-into-requires c κs =
     let g = c .before .before .before .before .before in
@@ -72,15 +58,12 @@ decode-into-requires c κs =
       ),
     )
 
--- src/lib.rt:114:1
 same-length : tie.Need-same-length
 same-length c = search needs
 
--- src/lib.rt:114:1
 same-length-2 : tie.Need-same-length-2
 same-length-2 c = search needs
 
--- src/lib.rt:114:1
 returns : tie.Need-returns
 returns c =
     let g = c .before .before .before .before .before .before .before .before in

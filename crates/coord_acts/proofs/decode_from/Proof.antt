@@ -2,23 +2,16 @@ use Rattle.coord_acts.specs.BufferLaws.{room-enough}
 use borrow.Author.Needs.{needs}
 use Rattle.coord_acts.proofs.decode_from.Statement.{statement}
 use Rattle.coord_acts.proofs.decode_from.Tie as tie
-use Rattle.coord_acts.proofs.decode_from.Reads as reads
-use Rattle.coord_acts.proofs.decode_from.Lts as lts
-use Rattle.coord_acts.proofs.decode_by.Reads as decode-by-reads
 
--- src/lib.rt:142:40
 slice-aggregate-decode-by : tie.Need-slice-aggregate-decode-by
 slice-aggregate-decode-by c = search needs
 
--- src/lib.rt:142:5
 decode-by-requires : tie.Need-decode-by-requires
 decode-by-requires c κs = let s = c .before .before .before .before in ((s .pre .0 .0, room-enough _ _ (s .pre .0 .0) (s .pre .0 .1)), s .pre .1)
 
--- src/lib.rt:134:1
 same-length : tie.Need-same-length
 same-length c = search needs
 
--- src/lib.rt:134:1
 returns : tie.Need-returns
 returns c = search needs
 

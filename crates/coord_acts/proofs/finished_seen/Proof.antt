@@ -3,15 +3,11 @@ use borrow.Author.Needs.{needs}
 use borrow.Author.Tests.{eq-eqb, ne-eqb}
 use Rattle.coord_acts.proofs.finished_seen.Statement.{statement}
 use Rattle.coord_acts.proofs.finished_seen.Tie as tie
-use Rattle.coord_acts.proofs.finished_seen.Reads as reads
-use Rattle.coord_acts.proofs.finished_seen.Lts as lts
 
--- src/lib.rt:313:9
 returns : tie.Need-returns
 unfolding finishedSeen
 returns c = search (needs, eq-eqb, ne-eqb)
 
--- src/lib.rt:309:1
 returns-2 : tie.Need-returns-2
 unfolding finishedSeen
 returns-2 c = search (needs, eq-eqb, ne-eqb)

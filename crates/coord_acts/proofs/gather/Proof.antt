@@ -1,19 +1,14 @@
 use borrow.Author.Needs.{needs}
 use native.Mathlib.Omega.{arith}
-use lib.ListN.{getD, length, take, drop}
-use mathlib.Core.Path.{_≡_, refl, sym, ap, _∙_}
-use mathlib.Core.List.{List}
-use Prim.Native.Nat.{ℕ, _+_, _-_, _*_, _≤_, _<_}
+use lib.ListN.{getD, length}
+use mathlib.Core.Path.{sym, ap, _∙_}
+use Prim.Native.Nat.{ℕ, _+_, _-_, _*_, _≤_}
 use Rattle.erasure.specs.Theorems.{blockOf}
 use Rattle.coord_acts.specs.Acts.{gathered}
-use Rattle.coord_acts.specs.BufferLaws.{InPlace, block-here, block-cut, next-within}
+use Rattle.coord_acts.specs.BufferLaws.{block-here, block-cut, next-within}
 use Rattle.interpolate.specs.RowLaws.{Stacked, stacked-none, stacked-more, stacked-all, part-length}
 use Rattle.coord_acts.proofs.gather.Statement.{statement}
 use Rattle.coord_acts.proofs.gather.Tie as tie
-use Rattle.coord_acts.proofs.gather.Reads as reads
-use Rattle.coord_acts.proofs.gather.Lts as lts
-use Rattle.coord_acts.proofs.copy.Reads as copy-reads
-use Rattle.coord_acts.proofs.wide.Reads as wide-reads
 
 abbrev Inv-loop : tie.InvT-loop
 Inv-loop m size blocks out₀ bricks i₀ at₀ out i at =
@@ -22,11 +17,9 @@ Inv-loop m size blocks out₀ bricks i₀ at₀ out i at =
 abbrev μ-loop : tie.MeasureT-loop
 μ-loop m size blocks out₀ bricks i₀ at₀ out i at = m - i
 
--- src/lib.rt:103:5
 loop-holds : tie.Need-loop-holds Inv-loop μ-loop
 loop-holds c = (stacked-none _ _ _, omega arith)
 
--- src/lib.rt:104:25
 array-read-wide : tie.Need-array-read-wide Inv-loop μ-loop
 array-read-wide c = omega arith
 
@@ -47,52 +40,40 @@ to-fits c =
 mul-from : tie.Need-mul-from Inv-loop μ-loop
 mul-from c = record { fits = omega (arith, from-fits c) }
 
--- src/lib.rt:105:20
 add-till : tie.Need-add-till Inv-loop μ-loop
 add-till c = omega (arith, from-fits c)
 
--- src/lib.rt:106:19
 add-end : tie.Need-add-end Inv-loop μ-loop
 add-end c = omega (arith, to-fits (c .before))
 
--- src/lib.rt:107:14
 sub-copy : tie.Need-sub-copy Inv-loop μ-loop
 sub-copy c = omega arith
 
--- src/lib.rt:107:14
 part-copy-start : tie.Need-part-copy-start Inv-loop μ-loop
 part-copy-start c = omega arith
 
--- src/lib.rt:107:14
 part-copy-end : tie.Need-part-copy-end Inv-loop μ-loop
 part-copy-end c = omega (arith, from-fits c)
 
--- src/lib.rt:107:35
 sub-copy-2 : tie.Need-sub-copy-2 Inv-loop μ-loop
 sub-copy-2 c = omega arith
 
--- src/lib.rt:107:35
 part-copy-start-2 : tie.Need-part-copy-start-2 Inv-loop μ-loop
 part-copy-start-2 c = omega arith
 
--- src/lib.rt:107:35
 part-copy-end-2 : tie.Need-part-copy-end-2 Inv-loop μ-loop
 part-copy-end-2 c = omega (arith, to-fits (c .before .before))
 
--- src/lib.rt:107:9
 copy-requires : tie.Need-copy-requires Inv-loop μ-loop
 copy-requires c κs =
     part-length _ _ _ (from-fits (c .before .before)) ∙ sym (part-length _ _ _ (to-fits (c .before .before .before)))
 
--- src/lib.rt:109:9
 add-i : tie.Need-add-i Inv-loop μ-loop
 add-i c = omega arith
 
--- src/lib.rt:103:5
 loop-less : tie.Need-loop-less Inv-loop μ-loop
 loop-less c = omega arith
 
--- src/lib.rt:103:5
 loop-again : tie.Need-loop-again Inv-loop μ-loop
 loop-again c =
     let w = c .before .before .before .before .before in
@@ -104,11 +85,9 @@ loop-again c =
       omega arith,
     )
 
--- src/lib.rt:96:1
 same-length : tie.Need-same-length Inv-loop μ-loop
 same-length c = c .before .loop .inv .0 .size-kept
 
--- src/lib.rt:96:1
 returns : tie.Need-returns Inv-loop μ-loop
 unfolding gathered
 returns c = stacked-all _ _ _ _ _ _ _ (c .before .loop .inv .0) (c .loop-test .left) (c .before .loop .inv .1) (c .before .before .before .before .pre .0 .1)

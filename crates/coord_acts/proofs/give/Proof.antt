@@ -4,34 +4,22 @@ use Rattle.coord_acts.specs.ActLaws.{end-by, target-decodes, stripe-by}
 use borrow.Author.Needs.{needs}
 use Rattle.coord_acts.proofs.give.Statement.{statement}
 use Rattle.coord_acts.proofs.give.Tie as tie
-use Rattle.coord_acts.proofs.give.Reads as reads
-use Rattle.coord_acts.proofs.give.Lts as lts
-use Rattle.coord_acts.proofs.decode_from.Reads as decode-from-reads
-use Rattle.coord_acts.proofs.end.Reads as end-reads
-use Rattle.coord_acts.proofs.no_message.Reads as no-message-reads
-use Rattle.coord_counts.proofs.target_row.Reads as target-row-reads
 
--- src/lib.rt:250:9
 target-row-requires : tie.Need-target-row-requires
 target-row-requires c κs = search needs
 
--- src/lib.rt:251:5
 decode-from-requires : tie.Need-decode-from-requires
 decode-from-requires c κs = let s = c .before .before .before .before .before in let p = s .pre in ((omega (arith, p .range .m-high, p .range .n-high), p .range .size-high), (p .stripe-length, target-decodes _ _ _ _ _ _ (p .range) (p .first-low) (p .blocks-length) (c .before .target-row .ensures)))
 
--- src/lib.rt:252:28
 no-message-requires : tie.Need-no-message-requires
 no-message-requires c κs = search needs
 
--- src/lib.rt:252:5
 end-requires : tie.Need-end-requires
 end-requires c κs = search needs
 
--- src/lib.rt:244:1
 same-length : tie.Need-same-length
 same-length c = search needs
 
--- src/lib.rt:244:1
 returns : tie.Need-returns
 returns c = let w = c .before .before .before .before .before .before in (end-by _ _ _ _ _ _ _ _ _ (c .end .ensures) refl (w .target-row .ensures) (c .before .no-message .ensures), stripe-by _ _ _ _ _ _ (c .before .before .before .before .decode-from .ensures) (w .target-row .ensures))
 

@@ -2,14 +2,10 @@ use Rattle.coord_acts.specs.Acts.{nextOp}
 use borrow.Author.Needs.{needs}
 use Rattle.coord_acts.proofs.next_op.Statement.{statement}
 use Rattle.coord_acts.proofs.next_op.Tie as tie
-use Rattle.coord_acts.proofs.next_op.Reads as reads
-use Rattle.coord_acts.proofs.next_op.Lts as lts
 
--- src/lib.rt:187:16
 add-t4 : tie.Need-add-t4
 add-t4 c = search needs
 
--- src/lib.rt:179:1
 returns : tie.Need-returns
 unfolding nextOp
 returns c = cc

@@ -2,10 +2,7 @@ use Rattle.coord_record.specs.Records.{noBricks}
 use Rattle.coord_acts.specs.Steps.{noMessage}
 use Rattle.coord_acts.proofs.no_message.Statement.{statement}
 use Rattle.coord_acts.proofs.no_message.Tie as tie
-use Rattle.coord_acts.proofs.no_message.Reads as reads
-use Rattle.coord_acts.proofs.no_message.Lts as lts
 
--- src/lib.rt:54:1
 returns : tie.Need-returns
 unfolding noMessage noBricks
 returns c = cc

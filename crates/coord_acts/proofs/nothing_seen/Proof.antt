@@ -2,10 +2,7 @@ use Rattle.coord_record.specs.Records.{noBricks}
 use Rattle.coord_acts.specs.Steps.{nothingSeen}
 use Rattle.coord_acts.proofs.nothing_seen.Statement.{statement}
 use Rattle.coord_acts.proofs.nothing_seen.Tie as tie
-use Rattle.coord_acts.proofs.nothing_seen.Reads as reads
-use Rattle.coord_acts.proofs.nothing_seen.Lts as lts
 
--- src/lib.rt:42:1
 returns : tie.Need-returns
 unfolding nothingSeen noBricks
 returns c = cc

@@ -3,24 +3,16 @@ use Rattle.coord_acts.specs.ActLaws.{picked-decodes, stripe-by}
 use borrow.Author.Needs.{needs}
 use Rattle.coord_acts.proofs.recover.Statement.{statement}
 use Rattle.coord_acts.proofs.recover.Tie as tie
-use Rattle.coord_acts.proofs.recover.Reads as reads
-use Rattle.coord_acts.proofs.recover.Lts as lts
-use Rattle.coord_acts.proofs.decode_from.Reads as decode-from-reads
-use Rattle.coord_counts.proofs.pick.Reads as pick-reads
 
--- src/lib.rt:284:9
 pick-requires : tie.Need-pick-requires
 pick-requires c κs = search needs
 
--- src/lib.rt:285:5
 decode-from-requires : tie.Need-decode-from-requires
 decode-from-requires c κs = let s = c .before .before .before .before .before .before in let p = s .pre in ((omega (arith, p .0 .m-high, p .0 .n-high), p .0 .size-high), (p .1 .0 .1, picked-decodes _ _ _ _ _ _ _ _ (p .0) (p .1 .1) (p .1 .0 .0) (c .before .pick .ensures)))
 
--- src/lib.rt:267:1
 same-length : tie.Need-same-length
 same-length c = search needs
 
--- src/lib.rt:267:1
 returns : tie.Need-returns
 returns c = let w = c .before .before .before .before in (w .pick .ensures, stripe-by _ _ _ _ _ _ (c .before .before .decode-from .ensures) (w .pick .ensures))
 

@@ -1,10 +1,7 @@
 use Rattle.coord_acts.specs.Acts.{roundMessage}
 use Rattle.coord_acts.proofs.round_message.Statement.{statement}
 use Rattle.coord_acts.proofs.round_message.Tie as tie
-use Rattle.coord_acts.proofs.round_message.Reads as reads
-use Rattle.coord_acts.proofs.round_message.Lts as lts
 
--- src/lib.rt:153:1
 returns : tie.Need-returns
 unfolding roundMessage
 returns c = cc

@@ -2,37 +2,25 @@ use Rattle.coord_checks.specs.CheckLaws.{take-code, take-lengths, take-b
 use borrow.Author.Needs.{needs}
 use Rattle.coord_checks.proofs.take_refusal.Statement.{statement}
 use Rattle.coord_checks.proofs.take_refusal.Tie as tie
-use Rattle.coord_checks.proofs.take_refusal.Reads as reads
-use Rattle.coord_checks.proofs.take_refusal.Lts as lts
-use Rattle.coord_checks.proofs.lengths_right.Reads as lengths-right-reads
-use Rattle.coord_checks.proofs.stray_refusal.Reads as stray-refusal-reads
-use Rattle.settings.proofs.code_refusal.Reads as code-refusal-reads
 
--- src/lib.rt:142:9
 code-refusal-requires : tie.Need-code-refusal-requires
 code-refusal-requires c κs = search needs
 
--- src/lib.rt:144:9
 returns : tie.Need-returns
 returns c = search (needs, take-code)
 
--- src/lib.rt:146:8
 lengths-right-requires : tie.Need-lengths-right-requires
 lengths-right-requires c κs = ranged _ _ _ _ (c .before .code-refusal .ensures) (c .if1 .left)
 
--- src/lib.rt:147:9
 returns-2 : tie.Need-returns-2
 returns-2 c = search (needs, take-lengths)
 
--- src/lib.rt:150:9
 returns-3 : tie.Need-returns-3
 returns-3 c = search (needs, take-brick)
 
--- src/lib.rt:152:5
 stray-refusal-requires : tie.Need-stray-refusal-requires
 stray-refusal-requires c κs = (few-bricks _ _ _ _ (c .before .before .before .before .before .code-refusal .ensures) (c .before .before .before .before .if1 .left), c .if3 .left)
 
--- src/lib.rt:129:1
 returns-4 : tie.Need-returns-4
 returns-4 c = search (needs, take-rest)
 

@@ -2,19 +2,14 @@ use borrow.Author.Needs.{needs}
 use borrow.Author.Count.{below-more}
 use native.Mathlib.Omega.{arith}
 use native.Mathlib.Nat.{not-suc-le-zero}
-use lib.ListN.{getD, length}
 use mathlib.Core.Logic.{⊎-elim}
-use mathlib.Core.Path.{_≡_, refl, sym, ap, _∙_}
-use mathlib.Core.Bool.{Bool, true, false}
-use Prim.Native.Nat.{ℕ, _+_, _-_, _≤_, _<_}
-use Rattle.coord_counts.specs.Counting.{saidNo, otherTime, missing, highest, atTime, atTimes}
-use Rattle.coord_counts.specs.CountingLaws.{said-no, not-counted, said-yes, other-time, none-counted, same-time, is-missing, no-target, is-counted, found-some, found-none, highest-out, highest-under, highest-over, highest-all, count-yes, count-no, count-all}
-use Rattle.settings.specs.Count.{count}
+use mathlib.Core.Path.{_≡_}
+use mathlib.Core.Bool.{false}
+use Prim.Native.Nat.{ℕ, _-_, _≤_, _<_}
+use Rattle.coord_counts.specs.Counting.{missing}
+use Rattle.coord_counts.specs.CountingLaws.{is-missing, no-target, is-counted, found-some, found-none}
 use Rattle.coord_counts.proofs.any_missing.Statement.{statement}
 use Rattle.coord_counts.proofs.any_missing.Tie as tie
-use Rattle.coord_counts.proofs.any_missing.Reads as reads
-use Rattle.coord_counts.proofs.any_missing.Lts as lts
-use Rattle.coord_record.proofs.is_target.Reads as is-target-reads
 
 abbrev Inv-loop : tie.InvT-loop
 Inv-loop n m first counted b₀ b =
@@ -23,35 +18,27 @@ Inv-loop n m first counted b₀ b =
 abbrev μ-loop : tie.MeasureT-loop
 μ-loop n m first counted b₀ b = n - b
 
--- src/lib.rt:98:5
 loop-holds : tie.Need-loop-holds Inv-loop μ-loop
 loop-holds c = (omega arith, λ i h. absurd (not-suc-le-zero h))
 
--- src/lib.rt:99:12
 is-target-requires : tie.Need-is-target-requires Inv-loop μ-loop
 is-target-requires c κs = search needs
 
--- src/lib.rt:100:16
 array-read-if2 : tie.Need-array-read-if2 Inv-loop μ-loop
 array-read-if2 c = omega arith
 
--- src/lib.rt:101:17
 returns : tie.Need-returns Inv-loop μ-loop
 returns c = found-some _ _ _ (c .before .before .before .loop-test .taken) (is-missing _ _ _ _ _ _ (c .before .before .is-target .ensures) (c .before .if1 .taken) (c .if2 .taken))
 
--- src/lib.rt:104:9
 add-b : tie.Need-add-b Inv-loop μ-loop
 add-b c = omega arith
 
--- src/lib.rt:98:5
 loop-less : tie.Need-loop-less Inv-loop μ-loop
 loop-less c = omega arith
 
--- src/lib.rt:98:5
 loop-again : tie.Need-loop-again Inv-loop μ-loop
 loop-again c = (omega arith, below-more _ _ (c .before .before .before .loop .inv .1) (⊎-elim (λ w. is-counted _ _ _ _ _ (w .1 .left)) (λ w. no-target _ _ _ _ _ _ (c .before .is-target .ensures) (w .left)) (c .if1 .came)))
 
--- src/lib.rt:92:1
 returns-2 : tie.Need-returns-2 Inv-loop μ-loop
 returns-2 c = found-none _ _ _ (c .loop-test .left) (c .before .loop .inv .1)
 

@@ -3,15 +3,11 @@ use borrow.Author.Tests.{eq-eqb, ne-eqb}
 use borrow.Author.Needs.{needs}
 use Rattle.coord_counts.proofs.at_time.Statement.{statement}
 use Rattle.coord_counts.proofs.at_time.Tie as tie
-use Rattle.coord_counts.proofs.at_time.Reads as reads
-use Rattle.coord_counts.proofs.at_time.Lts as lts
 
--- src/lib.rt:69:9
 returns : tie.Need-returns
 unfolding atTime
 returns c = search (needs, eq-eqb, ne-eqb)
 
--- src/lib.rt:65:1
 returns-2 : tie.Need-returns-2
 unfolding atTime
 returns-2 c = search (needs, eq-eqb, ne-eqb)

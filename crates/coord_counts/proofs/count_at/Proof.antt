@@ -1,20 +1,13 @@
 use borrow.Author.Needs.{needs}
-use borrow.Author.Count.{below-more}
 use native.Mathlib.Omega.{arith}
-use native.Mathlib.Nat.{not-suc-le-zero}
-use lib.ListN.{getD, length}
 use mathlib.Core.Logic.{⊎-elim}
-use mathlib.Core.Path.{_≡_, refl, sym, ap, _∙_}
-use mathlib.Core.Bool.{Bool, true, false}
-use Prim.Native.Nat.{ℕ, _+_, _-_, _≤_, _<_}
-use Rattle.coord_counts.specs.Counting.{saidNo, otherTime, missing, highest, atTime, atTimes}
-use Rattle.coord_counts.specs.CountingLaws.{said-no, not-counted, said-yes, other-time, none-counted, same-time, is-missing, no-target, is-counted, found-some, found-none, highest-out, highest-under, highest-over, highest-all, count-yes, count-no, count-all}
+use mathlib.Core.Path.{_≡_, refl, _∙_}
+use Prim.Native.Nat.{_-_, _≤_}
+use Rattle.coord_counts.specs.Counting.{atTimes}
+use Rattle.coord_counts.specs.CountingLaws.{count-yes, count-no, count-all}
 use Rattle.settings.specs.Count.{count}
 use Rattle.coord_counts.proofs.count_at.Statement.{statement}
 use Rattle.coord_counts.proofs.count_at.Tie as tie
-use Rattle.coord_counts.proofs.count_at.Reads as reads
-use Rattle.coord_counts.proofs.count_at.Lts as lts
-use Rattle.coord_counts.proofs.at_time.Reads as at-time-reads
 
 abbrev Inv-loop : tie.InvT-loop
 Inv-loop time n flags found sum₀ b₀ sum b =
@@ -23,40 +16,31 @@ Inv-loop time n flags found sum₀ b₀ sum b =
 abbrev μ-loop : tie.MeasureT-loop
 μ-loop time n flags found sum₀ b₀ sum b = n - b
 
--- src/lib.rt:116:5
 loop-holds : tie.Need-loop-holds Inv-loop μ-loop
 unfolding count
 loop-holds c = (refl, omega arith, omega arith)
 
--- src/lib.rt:117:20
 array-read-at-time : tie.Need-array-read-at-time Inv-loop μ-loop
 array-read-at-time c = omega arith
 
--- src/lib.rt:117:30
 mul-at-time : tie.Need-mul-at-time Inv-loop μ-loop
 mul-at-time c = omega arith
 
--- src/lib.rt:117:30
 array-read-at-time-2 : tie.Need-array-read-at-time-2 Inv-loop μ-loop
 array-read-at-time-2 c = omega arith
 
--- src/lib.rt:117:12
 at-time-requires : tie.Need-at-time-requires Inv-loop μ-loop
 at-time-requires c κs = search needs
 
--- src/lib.rt:118:13
 add-sum : tie.Need-add-sum Inv-loop μ-loop
 add-sum c = omega arith
 
--- src/lib.rt:120:9
 add-b : tie.Need-add-b Inv-loop μ-loop
 add-b c = omega arith
 
--- src/lib.rt:116:5
 loop-less : tie.Need-loop-less Inv-loop μ-loop
 loop-less c = omega arith
 
--- src/lib.rt:116:5
 loop-again : tie.Need-loop-again Inv-loop μ-loop
 unfolding atTimes
 loop-again c =
@@ -66,7 +50,6 @@ loop-again c =
     (λ w. (w .1 ∙ count-no _ _ _ _ (l .inv .0) (c .before .at-time .ensures) (w .0 .left), omega arith, omega (arith, w .1)))
     (c .if1 .came)
 
--- src/lib.rt:110:1
 returns : tie.Need-returns Inv-loop μ-loop
 returns c = count-all _ _ _ _ (c .before .loop .inv .0) (c .loop-test .left) (c .before .loop .inv .1)
 

@@ -1,19 +1,11 @@
-use borrow.Author.Needs.{needs}
-use borrow.Author.Count.{below-more}
 use native.Mathlib.Omega.{arith}
-use native.Mathlib.Nat.{not-suc-le-zero}
-use lib.ListN.{getD, length}
 use mathlib.Core.Logic.{⊎-elim}
-use mathlib.Core.Path.{_≡_, refl, sym, ap, _∙_}
-use mathlib.Core.Bool.{Bool, true, false}
-use Prim.Native.Nat.{ℕ, _+_, _-_, _≤_, _<_}
-use Rattle.coord_counts.specs.Counting.{saidNo, otherTime, missing, highest, atTime, atTimes}
-use Rattle.coord_counts.specs.CountingLaws.{said-no, not-counted, said-yes, other-time, none-counted, same-time, is-missing, no-target, is-counted, found-some, found-none, highest-out, highest-under, highest-over, highest-all, count-yes, count-no, count-all}
-use Rattle.settings.specs.Count.{count}
+use mathlib.Core.Path.{_≡_, refl, _∙_}
+use Prim.Native.Nat.{_-_, _≤_}
+use Rattle.coord_counts.specs.Counting.{highest}
+use Rattle.coord_counts.specs.CountingLaws.{highest-out, highest-under, highest-over, highest-all}
 use Rattle.coord_counts.proofs.highest_of.Statement.{statement}
 use Rattle.coord_counts.proofs.highest_of.Tie as tie
-use Rattle.coord_counts.proofs.highest_of.Reads as reads
-use Rattle.coord_counts.proofs.highest_of.Lts as lts
 
 abbrev Inv-loop : tie.InvT-loop
 Inv-loop n flags found h₀ b₀ h b =
@@ -22,40 +14,31 @@ Inv-loop n flags found h₀ b₀ h b =
 abbrev μ-loop : tie.MeasureT-loop
 μ-loop n flags found h₀ b₀ h b = n - b
 
--- src/lib.rt:53:5
 loop-holds : tie.Need-loop-holds Inv-loop μ-loop
 unfolding highest
 loop-holds c = (refl, omega arith)
 
--- src/lib.rt:54:12
 array-read-if1 : tie.Need-array-read-if1 Inv-loop μ-loop
 array-read-if1 c = omega arith
 
--- src/lib.rt:55:20
 mul-if2 : tie.Need-mul-if2 Inv-loop μ-loop
 mul-if2 c = omega arith
 
--- src/lib.rt:55:20
 array-read-if2 : tie.Need-array-read-if2 Inv-loop μ-loop
 array-read-if2 c = omega arith
 
--- src/lib.rt:56:21
 mul-h : tie.Need-mul-h Inv-loop μ-loop
 mul-h c = omega arith
 
--- src/lib.rt:56:21
 array-read-h : tie.Need-array-read-h Inv-loop μ-loop
 array-read-h c = omega arith
 
--- src/lib.rt:59:9
 add-b : tie.Need-add-b Inv-loop μ-loop
 add-b c = omega arith
 
--- src/lib.rt:53:5
 loop-less : tie.Need-loop-less Inv-loop μ-loop
 loop-less c = omega arith
 
--- src/lib.rt:53:5
 loop-again : tie.Need-loop-again Inv-loop μ-loop
 loop-again c =
     let l = c .before .before .loop in
@@ -67,7 +50,6 @@ loop-again c =
     v)
     (c .if1 .came)
 
--- src/lib.rt:47:1
 returns : tie.Need-returns Inv-loop μ-loop
 returns c = highest-all _ _ _ _ _ (c .before .loop .inv .0) (c .loop-test .left) (c .before .loop .inv .1)
 

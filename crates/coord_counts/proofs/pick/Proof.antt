@@ -1,20 +1,13 @@
 use borrow.Author.Needs.{needs}
 use native.Mathlib.Omega.{arith}
-use native.Mathlib.Nat.{not-suc-le-zero}
-use lib.ListN.{getD, length, replicate, length-set}
+use lib.ListN.{length, length-set}
 use mathlib.Core.Logic.{⊎-elim}
-use mathlib.Core.Path.{_≡_, refl, sym, ap, subst, _∙_}
-use mathlib.Core.Bool.{Bool, true, false}
-use mathlib.Core.List.{List}
-use Prim.Native.Nat.{ℕ, _+_, _-_, _≤_, _<_}
-use Rattle.coord_counts.specs.Counting.{atTimes, upward, targetFlag, targetFlags}
-use Rattle.coord_counts.specs.RowLaws.{Picks, picks-none, picks-not, picks-full, picks-more, picks-all, picks-same, targets-none, targets-all, flags-all}
-use Rattle.interpolate.specs.Tabulate.{Filled, filled-none, filled-more, filled-all}
+use mathlib.Core.Path.{_≡_, refl, ap, _∙_}
+use Prim.Native.Nat.{_-_, _≤_}
+use Rattle.coord_counts.specs.Counting.{atTimes}
+use Rattle.coord_counts.specs.RowLaws.{Picks, picks-none, picks-not, picks-full, picks-more, picks-all, picks-same}
 use Rattle.coord_counts.proofs.pick.Statement.{statement}
 use Rattle.coord_counts.proofs.pick.Tie as tie
-use Rattle.coord_counts.proofs.pick.Reads as reads
-use Rattle.coord_counts.proofs.pick.Lts as lts
-use Rattle.coord_counts.proofs.at_time.Reads as at-time-reads
 
 abbrev Inv-loop : tie.InvT-loop
 Inv-loop time n m flags found row₀ k₀ b₀ row k b =
@@ -23,47 +16,36 @@ Inv-loop time n m flags found row₀ k₀ b₀ row k b =
 abbrev μ-loop : tie.MeasureT-loop
 μ-loop time n m flags found row₀ k₀ b₀ row k b = n - b
 
--- src/lib.rt:133:5
 loop-holds : tie.Need-loop-holds Inv-loop μ-loop
 loop-holds c = (picks-none _ _, omega arith, omega arith, refl)
 
--- src/lib.rt:134:20
 array-read-at-time : tie.Need-array-read-at-time Inv-loop μ-loop
 array-read-at-time c = omega arith
 
--- src/lib.rt:134:30
 mul-at-time : tie.Need-mul-at-time Inv-loop μ-loop
 mul-at-time c = omega arith
 
--- src/lib.rt:134:30
 array-read-at-time-2 : tie.Need-array-read-at-time-2 Inv-loop μ-loop
 array-read-at-time-2 c = omega arith
 
--- src/lib.rt:134:12
 at-time-requires : tie.Need-at-time-requires Inv-loop μ-loop
 at-time-requires c κs = search needs
 
--- src/lib.rt:136:26
 cast-row : tie.Need-cast-row Inv-loop μ-loop
 cast-row c = omega arith
 
--- src/lib.rt:136:17
 array-write-row : tie.Need-array-write-row Inv-loop μ-loop
 array-write-row c = omega arith
 
--- src/lib.rt:137:17
 add-k : tie.Need-add-k Inv-loop μ-loop
 add-k c = omega arith
 
--- src/lib.rt:140:9
 add-b : tie.Need-add-b Inv-loop μ-loop
 add-b c = omega arith
 
--- src/lib.rt:133:5
 loop-less : tie.Need-loop-less Inv-loop μ-loop
 loop-less c = omega arith
 
--- src/lib.rt:133:5
 loop-again : tie.Need-loop-again Inv-loop μ-loop
 unfolding atTimes
 loop-again c =
@@ -82,7 +64,6 @@ loop-again c =
     v)
     (c .if1 .came)
 
--- src/lib.rt:126:1
 returns : tie.Need-returns Inv-loop μ-loop
 returns c = picks-all _ _ _ _ _ _ _ _ (c .before .loop .inv .0) (c .loop-test .left) (c .before .loop .inv .1)
 

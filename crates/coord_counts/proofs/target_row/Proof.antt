@@ -1,20 +1,12 @@
 use borrow.Author.Needs.{needs}
 use native.Mathlib.Omega.{arith}
-use native.Mathlib.Nat.{not-suc-le-zero}
-use lib.ListN.{getD, length, replicate}
-use mathlib.Core.Logic.{⊎-elim}
-use mathlib.Core.Path.{_≡_, refl, sym, ap, subst, _∙_}
-use mathlib.Core.Bool.{Bool, true, false}
-use mathlib.Core.List.{List}
-use Prim.Native.Nat.{ℕ, _+_, _-_, _≤_, _<_}
-use Rattle.coord_counts.specs.Counting.{atTimes, upward, targetFlag, targetFlags}
-use Rattle.coord_counts.specs.RowLaws.{Picks, picks-none, picks-not, picks-full, picks-more, picks-all, targets-none, targets-all, flags-all}
-use Rattle.interpolate.specs.Tabulate.{Filled, filled-none, filled-more, filled-all}
+use lib.ListN.{replicate}
+use Prim.Native.Nat.{_-_, _≤_}
+use Rattle.coord_counts.specs.Counting.{upward}
+use Rattle.coord_counts.specs.RowLaws.{targets-all}
+use Rattle.interpolate.specs.Tabulate.{Filled, filled-none, filled-more}
 use Rattle.coord_counts.proofs.target_row.Statement.{statement}
 use Rattle.coord_counts.proofs.target_row.Tie as tie
-use Rattle.coord_counts.proofs.target_row.Reads as reads
-use Rattle.coord_counts.proofs.target_row.Lts as lts
-use Rattle.coord_counts.proofs.upward_of.Reads as upward-of-reads
 
 abbrev Inv-loop : tie.InvT-loop
 Inv-loop n m first row₀ i₀ row i =
@@ -23,31 +15,24 @@ Inv-loop n m first row₀ i₀ row i =
 abbrev μ-loop : tie.MeasureT-loop
 μ-loop n m first row₀ i₀ row i = m - i
 
--- src/lib.rt:166:5
 loop-holds : tie.Need-loop-holds Inv-loop μ-loop
 loop-holds c = (filled-none _ _, omega arith)
 
--- src/lib.rt:167:18
 upward-of-requires : tie.Need-upward-of-requires Inv-loop μ-loop
 upward-of-requires c κs = search needs
 
--- src/lib.rt:167:9
 array-write-row : tie.Need-array-write-row Inv-loop μ-loop
 array-write-row c = omega arith
 
--- src/lib.rt:168:9
 add-i : tie.Need-add-i Inv-loop μ-loop
 add-i c = omega arith
 
--- src/lib.rt:166:5
 loop-less : tie.Need-loop-less Inv-loop μ-loop
 loop-less c = omega arith
 
--- src/lib.rt:166:5
 loop-again : tie.Need-loop-again Inv-loop μ-loop
 loop-again c = (filled-more _ _ _ _ _ (c .before .before .loop .inv .0) (omega arith) (c .upward-of .ensures), omega arith)
 
--- src/lib.rt:159:1
 returns : tie.Need-returns Inv-loop μ-loop
 returns c = targets-all _ _ _ _ _ (c .before .loop .inv .0) (c .loop-test .left) (c .before .loop .inv .1) (omega arith)
 

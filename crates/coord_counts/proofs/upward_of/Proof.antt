@@ -2,26 +2,19 @@ use Rattle.coord_counts.specs.RowLaws.{up-within, up-wrapped}
 use borrow.Author.Needs.{needs}
 use Rattle.coord_counts.proofs.upward_of.Statement.{statement}
 use Rattle.coord_counts.proofs.upward_of.Tie as tie
-use Rattle.coord_counts.proofs.upward_of.Reads as reads
-use Rattle.coord_counts.proofs.upward_of.Lts as lts
 
--- src/lib.rt:151:13
 add-b : tie.Need-add-b
 add-b c = search needs
 
--- src/lib.rt:153:16
 cast-result : tie.Need-cast-result
 cast-result c = search needs
 
--- src/lib.rt:153:9
 returns : tie.Need-returns
 returns c = search (needs, up-within)
 
--- src/lib.rt:155:5
 cast-result-2 : tie.Need-cast-result-2
 cast-result-2 c = search needs
 
--- src/lib.rt:146:1
 returns-2 : tie.Need-returns-2
 returns-2 c = search (needs, up-wrapped)
 

@@ -1,4 +1,4 @@
-use mathlib.Core.List.{List, []}
+use mathlib.Core.List.{[]}
 use mathlib.Core.Path.{sym, _∙_}
 use lib.ListN.{length}
 use Rattle.coord_acts.specs.ActLaws.{heldOf}

@@ -1,8 +1,8 @@
 use borrow.Author.Needs.{needs}
 use native.Mathlib.Omega.{arith}
 use lib.ListN.{length, getD}
-use mathlib.Core.Path.{_≡_, refl, sym, ap, _∙_}
-use Prim.Native.Nat.{ℕ, _-_, _≤_, _<_}
+use mathlib.Core.Path.{refl}
+use Prim.Native.Nat.{ℕ, _-_, _≤_}
 use Rattle.interpolate.specs.Tabulate.{Filled, filled-none, filled-more, filled-copy}
 use Rattle.coord_probe.proofs.copy_times.Statement.{statement}
 use Rattle.coord_probe.proofs.copy_times.Tie as tie

@@ -1,6 +1,6 @@
 use native.Mathlib.Omega.{arith}
-use lib.ListN.{length, set, length-set}
-use mathlib.Core.Path.{_≡_, sym, _∙_}
+use lib.ListN.{set, length-set}
+use mathlib.Core.Path.{sym, _∙_}
 use Rattle.coord_probe.specs.Numbers.{recordNumbers}
 use Rattle.coord_probe.specs.NumberLaws.{at-least, six-set, numbers-are}
 use borrow.Author.Needs.{needs}

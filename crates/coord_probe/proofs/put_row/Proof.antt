@@ -3,9 +3,6 @@ use Rattle.coord_probe.specs.NumberLaws.{row-put-is}
 use borrow.Author.Needs.{needs}
 use Rattle.coord_probe.proofs.put_row.Statement.{statement}
 use Rattle.coord_probe.proofs.put_row.Tie as tie
-use Rattle.coord_probe.proofs.put_row.Reads as reads
-use Rattle.coord_probe.proofs.put_row.Lts as lts
-use Rattle.coord_acts.proofs.copy.Reads as copy-reads
 
 add-end : tie.Need-add-end
 add-end c = search needs

@@ -1,5 +1,5 @@
 use native.Mathlib.Omega.{arith}
-use lib.ListN.{length, length-set}
+use lib.ListN.{length-set}
 use Rattle.coord_probe.specs.Numbers.{answerNumbers}
 use Rattle.coord_probe.specs.NumberLaws.{five}
 use borrow.Author.Needs.{needs}

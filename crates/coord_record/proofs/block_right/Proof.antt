@@ -2,30 +2,22 @@ use Rattle.coord_record.specs.RuleLaws.{block-target, block-no-target, b
 use borrow.Author.Needs.{needs}
 use Rattle.coord_record.proofs.block_right.Statement.{statement}
 use Rattle.coord_record.proofs.block_right.Tie as tie
-use Rattle.coord_record.proofs.block_right.Reads as reads
-use Rattle.coord_record.proofs.block_right.Lts as lts
 
--- src/lib.rt:104:17
 returns : tie.Need-returns
 returns c = search (needs, block-target)
 
--- src/lib.rt:106:13
 returns-2 : tie.Need-returns-2
 returns-2 c = search (needs, block-no-target)
 
--- src/lib.rt:108:9
 returns-3 : tie.Need-returns-3
 returns-3 c = search (needs, block-no)
 
--- src/lib.rt:112:13
 returns-4 : tie.Need-returns-4
 returns-4 c = search (needs, block-held)
 
--- src/lib.rt:114:9
 returns-5 : tie.Need-returns-5
 returns-5 c = search (needs, block-present)
 
--- src/lib.rt:98:1
 returns-6 : tie.Need-returns-6
 returns-6 c = search (needs, block-none)
 

@@ -3,25 +3,19 @@ use borrow.Author.Needs.{needs}
 use borrow.Author.Tests.{lt-ltb, le-ltb, lt-leb, le-leb, eq-eqb, ne-eqb}
 use Rattle.coord_record.proofs.brick_right.Statement.{statement}
 use Rattle.coord_record.proofs.brick_right.Tie as tie
-use Rattle.coord_record.proofs.brick_right.Reads as reads
-use Rattle.coord_record.proofs.brick_right.Lts as lts
 
--- src/lib.rt:219:13
 returns : tie.Need-returns
 unfolding brickRight
 returns c = search (needs, lt-ltb, le-ltb, lt-leb, le-leb, eq-eqb, ne-eqb)
 
--- src/lib.rt:222:13
 returns-2 : tie.Need-returns-2
 unfolding brickRight
 returns-2 c = search (needs, lt-ltb, le-ltb, lt-leb, le-leb, eq-eqb, ne-eqb)
 
--- src/lib.rt:224:9
 returns-3 : tie.Need-returns-3
 unfolding brickRight
 returns-3 c = search (needs, lt-ltb, le-ltb, lt-leb, le-leb, eq-eqb, ne-eqb)
 
--- src/lib.rt:214:1
 returns-4 : tie.Need-returns-4
 unfolding brickRight
 returns-4 c = search (needs, lt-ltb, le-ltb, lt-leb, le-leb, eq-eqb, ne-eqb)

@@ -3,16 +3,13 @@ use borrow.Author.Count.{below-more}
 use native.Mathlib.Omega.{arith}
 use native.Mathlib.Nat.{not-suc-le-zero}
 use lib.ListN.{getD}
-use mathlib.Core.Path.{_≡_, refl, sym, ap, _∙_}
-use mathlib.Core.Bool.{true, false}
+use mathlib.Core.Path.{_≡_, refl, sym, ap}
+use mathlib.Core.Bool.{true}
 use Prim.Native.Nat.{ℕ, _+_, _-_, _≤_, _<_}
 use Rattle.coord_record.specs.Rules.{brickRight}
 use Rattle.coord_record.specs.RuleLaws.{bricks-not, brick-here, bricks-all}
 use Rattle.coord_record.proofs.bricks_right.Statement.{statement}
 use Rattle.coord_record.proofs.bricks_right.Tie as tie
-use Rattle.coord_record.proofs.bricks_right.Reads as reads
-use Rattle.coord_record.proofs.bricks_right.Lts as lts
-use Rattle.coord_record.proofs.brick_right.Reads as brick-right-reads
 
 abbrev Inv-loop : tie.InvT-loop
 Inv-loop n k bricks before₀ i₀ before i =
@@ -22,31 +19,24 @@ Inv-loop n k bricks before₀ i₀ before i =
 abbrev μ-loop : tie.MeasureT-loop
 μ-loop n k bricks before₀ i₀ before i = 16 - i
 
--- src/lib.rt:233:22
 array-read-before : tie.Need-array-read-before Inv-loop μ-loop
 array-read-before c = omega arith
 
--- src/lib.rt:235:5
 loop-holds : tie.Need-loop-holds Inv-loop μ-loop
 loop-holds c = (omega arith, refl, λ k h. absurd (not-suc-le-zero h))
 
--- src/lib.rt:236:20
 array-read-here : tie.Need-array-read-here Inv-loop μ-loop
 array-read-here c = omega arith
 
--- src/lib.rt:237:12
 brick-right-requires : tie.Need-brick-right-requires Inv-loop μ-loop
 brick-right-requires c κs = search needs
 
--- src/lib.rt:239:13
 add-i : tie.Need-add-i Inv-loop μ-loop
 add-i c = omega arith
 
--- src/lib.rt:235:5
 loop-less : tie.Need-loop-less Inv-loop μ-loop
 loop-less c = omega arith
 
--- src/lib.rt:235:5
 loop-again : tie.Need-loop-again Inv-loop μ-loop
 loop-again c =
     let l = c .before .before .before .loop in
@@ -56,11 +46,9 @@ loop-again c =
       below-more _ _ (l .inv .2) (brick-here _ _ (c .before .before .before .before .args .t3) _ _ _ (l .inv .1) (c .before .brick-right .ensures) (c .if1 .taken)),
     )
 
--- src/lib.rt:241:13
 returns : tie.Need-returns Inv-loop μ-loop
 returns c = bricks-not _ _ _ _ _ _ (c .before .before .loop-test .taken) (c .before .before .before .loop .inv .1) (c .before .brick-right .ensures) (c .if1 .left)
 
--- src/lib.rt:230:1
 returns-2 : tie.Need-returns-2 Inv-loop μ-loop
 returns-2 c = bricks-all _ _ _ _ (c .loop-test .left) (c .before .loop .inv .2)
 

@@ -3,35 +3,26 @@ use borrow.Author.Tests.{eq-eqb, ne-eqb}
 use borrow.Author.Needs.{needs}
 use Rattle.coord_record.proofs.entry_right.Statement.{statement}
 use Rattle.coord_record.proofs.entry_right.Tie as tie
-use Rattle.coord_record.proofs.entry_right.Reads as reads
-use Rattle.coord_record.proofs.entry_right.Lts as lts
-use Rattle.coord_record.proofs.counted_right.Reads as counted-right-reads
 
--- src/lib.rt:179:13
 returns : tie.Need-returns
 unfolding entryRight
 returns c = search (needs, eq-eqb, ne-eqb)
 
--- src/lib.rt:182:13
 returns-2 : tie.Need-returns-2
 unfolding entryRight
 returns-2 c = search (needs, eq-eqb, ne-eqb)
 
--- src/lib.rt:184:9
 returns-3 : tie.Need-returns-3
 unfolding entryRight
 returns-3 c = search (needs, eq-eqb, ne-eqb)
 
--- src/lib.rt:187:9
 returns-4 : tie.Need-returns-4
 unfolding entryRight
 returns-4 c = search (needs, eq-eqb, ne-eqb)
 
--- src/lib.rt:189:5
 counted-right-requires : tie.Need-counted-right-requires
 counted-right-requires c κs = search needs
 
--- src/lib.rt:163:1
 returns-5 : tie.Need-returns-5
 unfolding entryRight
 returns-5 c = search (needs, eq-eqb, ne-eqb)

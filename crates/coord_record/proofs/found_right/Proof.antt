@@ -3,19 +3,13 @@ use Rattle.message.specs.MessageLaws.{found-time}
 use borrow.Author.Needs.{needs}
 use Rattle.coord_record.proofs.found_right.Statement.{statement}
 use Rattle.coord_record.proofs.found_right.Tie as tie
-use Rattle.coord_record.proofs.found_right.Reads as reads
-use Rattle.coord_record.proofs.found_right.Lts as lts
-use Rattle.settings.proofs.is_time.Reads as is-time-reads
 
--- src/lib.rt:124:9
 returns : tie.Need-returns
 returns c = search (needs, found-zero)
 
--- src/lib.rt:126:5
 is-time-requires : tie.Need-is-time-requires
 is-time-requires c κs = search needs
 
--- src/lib.rt:120:1
 returns-2 : tie.Need-returns-2
 returns-2 c = search (needs, found-time)
 

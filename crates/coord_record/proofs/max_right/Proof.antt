@@ -4,20 +4,14 @@ use borrow.Author.Tests.{lt-ltb, le-ltb, lt-leb, le-leb, eq-eqb, ne-eqb}
 use borrow.Author.Needs.{needs}
 use Rattle.coord_record.proofs.max_right.Statement.{statement}
 use Rattle.coord_record.proofs.max_right.Tie as tie
-use Rattle.coord_record.proofs.max_right.Reads as reads
-use Rattle.coord_record.proofs.max_right.Lts as lts
-use Rattle.settings.proofs.is_time.Reads as is-time-reads
 
--- src/lib.rt:252:9
 returns : tie.Need-returns
 unfolding maxRight noUpperEnd
 returns c = search (needs, lt-ltb, le-ltb, lt-leb, le-leb, eq-eqb, ne-eqb)
 
--- src/lib.rt:254:5
 is-time-requires : tie.Need-is-time-requires
 is-time-requires c κs = search needs
 
--- src/lib.rt:248:1
 returns-2 : tie.Need-returns-2
 unfolding maxRight noUpperEnd
 returns-2 c = search (needs, lt-ltb, le-ltb, lt-leb, le-leb, eq-eqb, ne-eqb)

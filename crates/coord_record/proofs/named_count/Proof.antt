@@ -3,20 +3,15 @@ use borrow.Author.Needs.{needs}
 use borrow.Author.Tests.{lt-ltb, le-ltb, lt-leb, le-leb, eq-eqb, ne-eqb}
 use Rattle.coord_record.proofs.named_count.Statement.{statement}
 use Rattle.coord_record.proofs.named_count.Tie as tie
-use Rattle.coord_record.proofs.named_count.Reads as reads
-use Rattle.coord_record.proofs.named_count.Lts as lts
 
--- src/lib.rt:367:13
 returns : tie.Need-returns
 unfolding namedCount
 returns c = search (needs, lt-ltb, le-ltb, lt-leb, le-leb, eq-eqb, ne-eqb)
 
--- src/lib.rt:362:1
 returns-2 : tie.Need-returns-2
 unfolding namedCount
 returns-2 c = search (needs, lt-ltb, le-ltb, lt-leb, le-leb, eq-eqb, ne-eqb)
 
--- src/lib.rt:362:1
 returns-3 : tie.Need-returns-3
 unfolding namedCount
 returns-3 c = search (needs, lt-ltb, le-ltb, lt-leb, le-leb, eq-eqb, ne-eqb)

@@ -1,10 +1,7 @@
 use Rattle.coord_record.specs.Records.{noOp, nothingCounted, idleWith, noBricks}
 use Rattle.coord_record.proofs.no_op.Statement.{statement}
 use Rattle.coord_record.proofs.no_op.Tie as tie
-use Rattle.coord_record.proofs.no_op.Reads as reads
-use Rattle.coord_record.proofs.no_op.Lts as lts
 
--- src/lib.rt:46:1
 returns : tie.Need-returns
 unfolding noOp nothingCounted idleWith noBricks
 returns c = cc

@@ -3,45 +3,33 @@ use borrow.Author.Tests.{lt-ltb, le-ltb, lt-leb, le-leb, eq-eqb, ne-eqb}
 use borrow.Author.Needs.{needs}
 use Rattle.coord_record.proofs.read_right.Statement.{statement}
 use Rattle.coord_record.proofs.read_right.Tie as tie
-use Rattle.coord_record.proofs.read_right.Reads as reads
-use Rattle.coord_record.proofs.read_right.Lts as lts
-use Rattle.coord_record.proofs.max_right.Reads as max-right-reads
-use Rattle.coord_record.proofs.stored_right.Reads as stored-right-reads
 
--- src/lib.rt:263:13
 returns : tie.Need-returns
 unfolding readRight
 returns c = search (needs, lt-ltb, le-ltb, lt-leb, le-leb, eq-eqb, ne-eqb)
 
--- src/lib.rt:265:9
 returns-2 : tie.Need-returns-2
 unfolding readRight
 returns-2 c = search (needs, lt-ltb, le-ltb, lt-leb, le-leb, eq-eqb, ne-eqb)
 
--- src/lib.rt:269:13
 returns-3 : tie.Need-returns-3
 unfolding readRight
 returns-3 c = search (needs, lt-ltb, le-ltb, lt-leb, le-leb, eq-eqb, ne-eqb)
 
--- src/lib.rt:272:13
 returns-4 : tie.Need-returns-4
 unfolding readRight
 returns-4 c = search (needs, lt-ltb, le-ltb, lt-leb, le-leb, eq-eqb, ne-eqb)
 
--- src/lib.rt:274:9
 max-right-requires : tie.Need-max-right-requires
 max-right-requires c κs = search needs
 
--- src/lib.rt:274:9
 returns-5 : tie.Need-returns-5
 unfolding readRight
 returns-5 c = search (needs, lt-ltb, le-ltb, lt-leb, le-leb, eq-eqb, ne-eqb)
 
--- src/lib.rt:276:5
 stored-right-requires : tie.Need-stored-right-requires
 stored-right-requires c κs = search needs
 
--- src/lib.rt:258:1
 returns-6 : tie.Need-returns-6
 unfolding readRight
 returns-6 c = search (needs, lt-ltb, le-ltb, lt-leb, le-leb, eq-eqb, ne-eqb)

@@ -3,25 +3,19 @@ use borrow.Author.Needs.{needs}
 use borrow.Author.Tests.{lt-ltb, le-ltb, lt-leb, le-leb, eq-eqb, ne-eqb}
 use Rattle.coord_record.proofs.stored_right.Statement.{statement}
 use Rattle.coord_record.proofs.stored_right.Tie as tie
-use Rattle.coord_record.proofs.stored_right.Reads as reads
-use Rattle.coord_record.proofs.stored_right.Lts as lts
 
--- src/lib.rt:284:9
 returns : tie.Need-returns
 unfolding storedRight
 returns c = search (needs, lt-ltb, le-ltb, lt-leb, le-leb, eq-eqb, ne-eqb)
 
--- src/lib.rt:287:9
 returns-2 : tie.Need-returns-2
 unfolding storedRight
 returns-2 c = search (needs, lt-ltb, le-ltb, lt-leb, le-leb, eq-eqb, ne-eqb)
 
--- src/lib.rt:290:9
 returns-3 : tie.Need-returns-3
 unfolding storedRight
 returns-3 c = search (needs, lt-ltb, le-ltb, lt-leb, le-leb, eq-eqb, ne-eqb)
 
--- src/lib.rt:280:1
 returns-4 : tie.Need-returns-4
 unfolding storedRight
 returns-4 c = search (needs, lt-ltb, le-ltb, lt-leb, le-leb, eq-eqb, ne-eqb)

@@ -3,16 +3,13 @@ use borrow.Author.Count.{below-more}
 use native.Mathlib.Omega.{arith}
 use native.Mathlib.Nat.{not-suc-le-zero}
 use lib.ListN.{getD}
-use mathlib.Core.Path.{_≡_, refl, sym, ap, _∙_}
-use mathlib.Core.Bool.{true, false}
-use Prim.Native.Nat.{ℕ, _+_, _-_, _≤_, _<_}
+use mathlib.Core.Path.{_≡_, sym, _∙_}
+use mathlib.Core.Bool.{true}
+use Prim.Native.Nat.{ℕ, _-_, _≤_, _<_}
 use Rattle.coord_record.specs.Rules.{entryRight}
 use Rattle.coord_record.specs.RuleLaws.{tally-not, tally-all}
 use Rattle.coord_record.proofs.tally_right.Statement.{statement}
 use Rattle.coord_record.proofs.tally_right.Tie as tie
-use Rattle.coord_record.proofs.tally_right.Reads as reads
-use Rattle.coord_record.proofs.tally_right.Lts as lts
-use Rattle.coord_record.proofs.entry_right.Reads as entry-right-reads
 
 abbrev Inv-loop : tie.InvT-loop
 Inv-loop n m phase first counted granted held found b₀ b =
@@ -22,53 +19,41 @@ Inv-loop n m phase first counted granted held found b₀ b =
 abbrev μ-loop : tie.MeasureT-loop
 μ-loop n m phase first counted granted held found b₀ b = 16 - b
 
--- src/lib.rt:202:5
 loop-holds : tie.Need-loop-holds Inv-loop μ-loop
 loop-holds c = (omega arith, λ k h. absurd (not-suc-le-zero h))
 
--- src/lib.rt:203:47
 array-read-entry-right : tie.Need-array-read-entry-right Inv-loop μ-loop
 array-read-entry-right c = search needs
 
--- src/lib.rt:203:59
 array-read-entry-right-2 : tie.Need-array-read-entry-right-2 Inv-loop μ-loop
 array-read-entry-right-2 c = search needs
 
--- src/lib.rt:203:71
 array-read-entry-right-3 : tie.Need-array-read-entry-right-3 Inv-loop μ-loop
 array-read-entry-right-3 c = search needs
 
--- src/lib.rt:203:80
 mul-entry-right : tie.Need-mul-entry-right Inv-loop μ-loop
 mul-entry-right c = search needs
 
--- src/lib.rt:203:80
 array-read-entry-right-4 : tie.Need-array-read-entry-right-4 Inv-loop μ-loop
 array-read-entry-right-4 c = search needs
 
--- src/lib.rt:203:12
 entry-right-requires : tie.Need-entry-right-requires Inv-loop μ-loop
 entry-right-requires c κs = search needs
 
--- src/lib.rt:204:13
 add-b : tie.Need-add-b Inv-loop μ-loop
 add-b c = search needs
 
--- src/lib.rt:202:5
 loop-less : tie.Need-loop-less Inv-loop μ-loop
 loop-less c = search needs
 
--- src/lib.rt:202:5
 loop-again : tie.Need-loop-again Inv-loop μ-loop
 loop-again c =
     let l = c .before .before .before .loop in
     (omega arith, below-more _ _ (l .inv .1) (sym (c .if1 .taken) ∙ c .before .entry-right .ensures))
 
--- src/lib.rt:206:13
 returns : tie.Need-returns Inv-loop μ-loop
 returns c = tally-not _ _ _ _ _ _ _ (c .before .before .loop-test .taken) (c .before .entry-right .ensures) (c .if1 .left)
 
--- src/lib.rt:193:1
 returns-2 : tie.Need-returns-2 Inv-loop μ-loop
 returns-2 c = tally-all _ _ _ _ _ _ (c .loop-test .left) (c .before .loop .inv .1)
 

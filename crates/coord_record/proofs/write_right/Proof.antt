@@ -3,30 +3,23 @@ use borrow.Author.Needs.{needs}
 use borrow.Author.Tests.{lt-ltb, le-ltb, lt-leb, le-leb, eq-eqb, ne-eqb}
 use Rattle.coord_record.proofs.write_right.Statement.{statement}
 use Rattle.coord_record.proofs.write_right.Tie as tie
-use Rattle.coord_record.proofs.write_right.Reads as reads
-use Rattle.coord_record.proofs.write_right.Lts as lts
 
--- src/lib.rt:300:9
 returns : tie.Need-returns
 unfolding writeRight
 returns c = search (needs, lt-ltb, le-ltb, lt-leb, le-leb, eq-eqb, ne-eqb)
 
--- src/lib.rt:303:9
 returns-2 : tie.Need-returns-2
 unfolding writeRight
 returns-2 c = search (needs, lt-ltb, le-ltb, lt-leb, le-leb, eq-eqb, ne-eqb)
 
--- src/lib.rt:306:9
 returns-3 : tie.Need-returns-3
 unfolding writeRight
 returns-3 c = search (needs, lt-ltb, le-ltb, lt-leb, le-leb, eq-eqb, ne-eqb)
 
--- src/lib.rt:309:9
 returns-4 : tie.Need-returns-4
 unfolding writeRight
 returns-4 c = search (needs, lt-ltb, le-ltb, lt-leb, le-leb, eq-eqb, ne-eqb)
 
--- src/lib.rt:296:1
 returns-5 : tie.Need-returns-5
 unfolding writeRight
 returns-5 c = search (needs, lt-ltb, le-ltb, lt-leb, le-leb, eq-eqb, ne-eqb)

@@ -2,31 +2,22 @@ use Rattle.coord_rounds.specs.DecidingLaws.{at-recover, at-recover-spent
 use borrow.Author.Needs.{needs}
 use Rattle.coord_rounds.proofs.decide_at.Statement.{statement}
 use Rattle.coord_rounds.proofs.decide_at.Tie as tie
-use Rattle.coord_rounds.proofs.decide_at.Reads as reads
-use Rattle.coord_rounds.proofs.decide_at.Lts as lts
-use Rattle.coord_counts.proofs.count_at.Reads as count-at-reads
 
--- src/lib.rt:286:13
 count-at-requires : tie.Need-count-at-requires
 count-at-requires c κs = search needs
 
--- src/lib.rt:288:13
 returns : tie.Need-returns
 returns c = search (needs, at-recover)
 
--- src/lib.rt:290:9
 returns-2 : tie.Need-returns-2
 returns-2 c = search (needs, at-recover-spent)
 
--- src/lib.rt:293:9
 returns-3 : tie.Need-returns-3
 returns-3 c = search (needs, at-zero)
 
--- src/lib.rt:296:9
 returns-4 : tie.Need-returns-4
 returns-4 c = search (needs, at-look)
 
--- src/lib.rt:280:1
 returns-5 : tie.Need-returns-5
 returns-5 c = search (needs, at-look-spent)
 

@@ -1,47 +1,32 @@
 use Rattle.coord_acts.specs.ActLaws.{end-by}
 use Rattle.coord_record.specs.Records.{noBricks}
-use mathlib.Core.Path.{_≡_, refl, sym, ap, _∙_}
+use mathlib.Core.Path.{refl}
 use Rattle.coordinator.specs.StepLaws.{crash-refused, crash-idle, crash-cut}
 use borrow.Author.Needs.{needs}
 use Rattle.coordinator.proofs.crash.Statement.{statement}
 use Rattle.coordinator.proofs.crash.Tie as tie
-use Rattle.coordinator.proofs.crash.Reads as reads
-use Rattle.coordinator.proofs.crash.Lts as lts
-use Rattle.coord_acts.proofs.end.Reads as end-reads
-use Rattle.coord_acts.proofs.no_message.Reads as no-message-reads
-use Rattle.coord_checks.proofs.crash_refusal.Reads as crash-refusal-reads
-use Rattle.coordinator.proofs.kept.Reads as kept-reads
-use Rattle.coordinator.proofs.refuse.Reads as refuse-reads
 
--- src/lib.rt:339:9
 crash-refusal-requires : tie.Need-crash-refusal-requires
 crash-refusal-requires c κs = search needs
 
--- src/lib.rt:341:9
 refuse-requires : tie.Need-refuse-requires
 refuse-requires c κs = search needs
 
--- src/lib.rt:341:9
 returns : tie.Need-returns
 returns c = λ blocks stripe. crash-refused _ _ _ _ blocks stripe _ (c .before .before .crash-refusal .ensures) _ (c .before .if1 .taken) (c .refuse .ensures)
 
--- src/lib.rt:345:9
 kept-requires : tie.Need-kept-requires
 kept-requires c κs = search needs
 
--- src/lib.rt:345:9
 returns-2 : tie.Need-returns-2
 returns-2 c = λ blocks stripe. crash-idle _ _ _ _ blocks stripe _ (c .before .before .before .before .before .crash-refusal .ensures) _ (c .before .before .before .before .if1 .left) (c .before .if2 .taken) (c .kept .ensures)
 
--- src/lib.rt:347:43
 no-message-requires : tie.Need-no-message-requires
 no-message-requires c κs = search needs
 
--- src/lib.rt:347:5
 end-requires : tie.Need-end-requires
 end-requires c κs = search needs
 
--- src/lib.rt:336:1
 returns-3 : tie.Need-returns-3
 unfolding noBricks
 returns-3 c = λ blocks stripe. crash-cut _ _ _ _ blocks stripe _ (c .before .before .before .before .before .before .crash-refusal .ensures) _ (c .before .before .before .before .before .if1 .left) (c .before .before .if2 .left) (end-by _ _ _ _ _ _ _ _ _ (c .end .ensures) refl refl (c .before .no-message .ensures))

@@ -1,10 +1,7 @@
 use Rattle.coord_acts.specs.Acts.{firstOp}
 use Rattle.coordinator.proofs.first_op.Statement.{statement}
 use Rattle.coordinator.proofs.first_op.Tie as tie
-use Rattle.coordinator.proofs.first_op.Reads as reads
-use Rattle.coordinator.proofs.first_op.Lts as lts
 
--- src/lib.rt:217:1
 returns : tie.Need-returns
 unfolding firstOp
 returns c = cc

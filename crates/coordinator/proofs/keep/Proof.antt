@@ -2,23 +2,16 @@ use Rattle.coordinator.specs.StepLaws.{kept-held, kept-none}
 use borrow.Author.Needs.{needs}
 use Rattle.coordinator.proofs.keep.Statement.{statement}
 use Rattle.coordinator.proofs.keep.Tie as tie
-use Rattle.coordinator.proofs.keep.Reads as reads
-use Rattle.coordinator.proofs.keep.Lts as lts
-use Rattle.coord_acts.proofs.place.Reads as place-reads
 
--- src/lib.rt:263:9
 place-requires : tie.Need-place-requires
 place-requires c κs = let s = c .before .before .before .before in (s .pre .block-length (c .before .if1 .taken), s .pre .within)
 
--- src/lib.rt:258:1
 same-length : tie.Need-same-length
 same-length c = search needs
 
--- src/lib.rt:258:1
 returns : tie.Need-returns
 returns c = kept-held _ _ _ _ _ (c .before .before .before .before .if1 .taken) (c .before .before .place .ensures)
 
--- src/lib.rt:258:1
 returns-2 : tie.Need-returns-2
 returns-2 c = kept-none _ _ _ _ (c .if1 .left)
 

@@ -1,67 +1,45 @@
-use mathlib.Core.Path.{_≡_, refl, sym, ap, _∙_}
+use mathlib.Core.Path.{sym, _∙_}
 use Rattle.coordinator.specs.StepLaws.{read-refused, read-unread, read-begun, first-low, start-by, refused-number}
 use borrow.Author.Needs.{needs}
 use Rattle.coordinator.proofs.start_read.Statement.{statement}
 use Rattle.coordinator.proofs.start_read.Tie as tie
-use Rattle.coordinator.proofs.start_read.Reads as reads
-use Rattle.coordinator.proofs.start_read.Lts as lts
-use Rattle.coord_counts.proofs.target_flags.Reads as target-flags-reads
-use Rattle.coordinator.proofs.begin.Reads as begin-reads
-use Rattle.coordinator.proofs.first_op.Reads as first-op-reads
-use Rattle.coord_checks.proofs.read_refusal.Reads as read-refusal-reads
-use Rattle.coordinator.proofs.refuse.Reads as refuse-reads
-use Rattle.settings.proofs.Clock.draw.Reads as draw-reads
-use Rattle.settings.proofs.Draw.number.Reads as number-reads
 
--- src/lib.rt:321:9
 read-refusal-requires : tie.Need-read-refusal-requires
 read-refusal-requires c κs = search needs
 
--- src/lib.rt:323:9
 refuse-requires : tie.Need-refuse-requires
 refuse-requires c κs = search needs
 
--- src/lib.rt:323:9
 returns : tie.Need-returns
 returns c = λ blocks stripe. read-refused _ _ _ _ _ _ blocks stripe _ (c .before .before .read-refusal .ensures) _ (c .before .if1 .taken) (c .refuse .ensures)
 
--- src/lib.rt:326:9
 draw-requires : tie.Need-draw-requires
 draw-requires c κs = search needs
 
--- src/lib.rt:327:21
 enum-known-drawn : tie.Need-enum-known-drawn
 enum-known-drawn c = search needs
 
--- src/lib.rt:328:26
 enum-told : tie.Need-enum-told
 enum-told c = search needs
 
--- src/lib.rt:328:26
 number-requires : tie.Need-number-requires
 number-requires c κs = search needs
 
--- src/lib.rt:328:9
 refuse-requires-2 : tie.Need-refuse-requires-2
 refuse-requires-2 c κs = search needs
 
--- src/lib.rt:328:9
 returns-2 : tie.Need-returns-2
 returns-2 c = λ blocks stripe. read-unread _ _ _ _ _ _ blocks stripe _ (c .before .before .before .before .before .before .before .read-refusal .ensures) _ _ _ (c .before .before .before .before .before .before .if1 .left) (sym (c .before .before .before .before .draw .ensures) ∙ c .before .before .enum-told .given .1) (refused-number _ _ _ (c .before .before .enum-told .given .1) (c .before .number .ensures)) (c .refuse2 .ensures)
 
--- src/lib.rt:330:9
 first-op-requires : tie.Need-first-op-requires
 first-op-requires c κs = search needs
 
--- src/lib.rt:331:9
 target-flags-requires : tie.Need-target-flags-requires
 target-flags-requires c κs = first-low _ _ _ _ _ _ _ (c .before .before .before .before .before .before .before .read-refusal .ensures) (c .before .before .before .before .before .before .if1 .left)
 
--- src/lib.rt:332:5
 begin-requires : tie.Need-begin-requires
 begin-requires c κs = search needs
 
--- src/lib.rt:311:1
 returns-3 : tie.Need-returns-3
 returns-3 c = λ blocks stripe. read-begun _ _ _ _ _ _ blocks stripe _ (c .before .before .before .before .before .before .before .before .before .read-refusal .ensures) _ _ _ _ (c .before .before .before .before .before .before .before .before .if1 .left) (sym (c .before .before .before .before .before .before .draw .ensures) ∙ c .before .before .before .before .drawn .given .1) (c .before .target-flags .ensures) (start-by _ _ _ _ _ (c .begin .ensures) (c .before .before .first-op .ensures))
 

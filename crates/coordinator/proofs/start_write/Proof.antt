@@ -1,74 +1,51 @@
 use Rattle.coord_record.specs.Records.{noBricks}
-use mathlib.Core.Path.{_≡_, refl, sym, ap, _∙_}
+use mathlib.Core.Path.{sym, _∙_}
 use Rattle.coordinator.specs.StepLaws.{write-refused, write-unread, write-begun, write-lengths, start-by, refused-number}
 use borrow.Author.Needs.{needs}
 use Rattle.coordinator.proofs.start_write.Statement.{statement}
 use Rattle.coordinator.proofs.start_write.Tie as tie
-use Rattle.coordinator.proofs.start_write.Reads as reads
-use Rattle.coordinator.proofs.start_write.Lts as lts
-use Rattle.coord_acts.proofs.copy.Reads as copy-reads
-use Rattle.coordinator.proofs.begin.Reads as begin-reads
-use Rattle.coordinator.proofs.first_op.Reads as first-op-reads
-use Rattle.coordinator.proofs.refuse.Reads as refuse-reads
-use Rattle.coord_checks.proofs.write_refusal.Reads as write-refusal-reads
-use Rattle.settings.proofs.Clock.draw.Reads as draw-reads
-use Rattle.settings.proofs.Draw.number.Reads as number-reads
 
--- src/lib.rt:295:9
 write-refusal-requires : tie.Need-write-refusal-requires
 write-refusal-requires c κs = search needs
 
--- src/lib.rt:297:9
 refuse-requires : tie.Need-refuse-requires
 refuse-requires c κs = search needs
 
--- src/lib.rt:297:9
 returns : tie.Need-returns
 returns c =
     (λ blocks. write-refused _ _ _ _ _ _ blocks _ _ (c .before .before .write-refusal .ensures) _ (c .before .if1 .taken) (c .refuse .ensures) .0, λ blocks. write-refused _ _ _ _ _ _ blocks _ _ (c .before .before .write-refusal .ensures) _ (c .before .if1 .taken) (c .refuse .ensures) .1)
 
--- src/lib.rt:300:9
 draw-requires : tie.Need-draw-requires
 draw-requires c κs = search needs
 
--- src/lib.rt:301:21
 enum-known-drawn : tie.Need-enum-known-drawn
 enum-known-drawn c = search needs
 
--- src/lib.rt:302:26
 enum-told : tie.Need-enum-told
 enum-told c = search needs
 
--- src/lib.rt:302:26
 number-requires : tie.Need-number-requires
 number-requires c κs = search needs
 
--- src/lib.rt:302:9
 refuse-requires-2 : tie.Need-refuse-requires-2
 refuse-requires-2 c κs = search needs
 
--- src/lib.rt:302:9
 returns-2 : tie.Need-returns-2
 returns-2 c =
     (λ blocks. write-unread _ _ _ _ _ _ blocks _ _ (c .before .before .before .before .before .before .before .write-refusal .ensures) _ _ _ (c .before .before .before .before .before .before .if1 .left) (sym (c .before .before .before .before .draw .ensures) ∙ c .before .before .enum-told .given .1) (refused-number _ _ _ (c .before .before .enum-told .given .1) (c .before .number .ensures)) (c .refuse2 .ensures) .0, λ blocks. write-unread _ _ _ _ _ _ blocks _ _ (c .before .before .before .before .before .before .before .write-refusal .ensures) _ _ _ (c .before .before .before .before .before .before .if1 .left) (sym (c .before .before .before .before .draw .ensures) ∙ c .before .before .enum-told .given .1) (refused-number _ _ _ (c .before .before .enum-told .given .1) (c .before .number .ensures)) (c .refuse2 .ensures) .1)
 
--- src/lib.rt:304:5
 copy-requires : tie.Need-copy-requires
 copy-requires c κs = write-lengths _ _ _ _ _ _ _ _ (c .before .before .before .before .before .before .before .write-refusal .ensures) (c .before .before .before .before .before .before .if1 .left)
 
--- src/lib.rt:305:9
 first-op-requires : tie.Need-first-op-requires
 first-op-requires c κs = search needs
 
--- src/lib.rt:306:5
 begin-requires : tie.Need-begin-requires
 begin-requires c κs = search needs
 
--- src/lib.rt:284:1
 same-length : tie.Need-same-length
 same-length c = search needs
 
--- src/lib.rt:284:1
 returns-3 : tie.Need-returns-3
 unfolding noBricks
 returns-3 c =

@@ -4,90 +4,61 @@ use Rattle.coordinator.specs.StepLaws.{Took, stepHere, Takes, keeps, tak
 use borrow.Author.Needs.{needs}
 use Rattle.coordinator.proofs.take_reply.Statement.{statement}
 use Rattle.coordinator.proofs.take_reply.Tie as tie
-use Rattle.coordinator.proofs.take_reply.Reads as reads
-use Rattle.coordinator.proofs.take_reply.Lts as lts
-use Rattle.coord_acts.proofs.act.Reads as act-reads
-use Rattle.coord_rounds.proofs.decide.Reads as decide-reads
-use Rattle.coord_rounds.proofs.tally_with.Reads as tally-with-reads
-use Rattle.coordinator.proofs.keep.Reads as keep-reads
-use Rattle.coordinator.proofs.kept.Reads as kept-reads
-use Rattle.coordinator.proofs.refuse.Reads as refuse-reads
-use Rattle.coord_checks.proofs.take_refusal.Reads as take-refusal-reads
-use Rattle.coordinator.proofs.with_tally.Reads as with-tally-reads
-use Rattle.message.proofs.members_of.Reads as members-of-reads
-use Rattle.settings.proofs.quorum_of.Reads as quorum-of-reads
 
 -- what passing the checks says
 passed : (c : tie.Else1) → Takes (c .before .before .before .before .before .before .args .n) (c .before .before .before .before .before .before .args .m) (c .before .before .before .before .before .before .args .size) (c .before .before .before .before .before .before .args .c) (c .before .before .before .before .before .before .args .reply) (length (c .before .before .before .before .before .before .args .block .now)) (length (c .before .before .before .before .before .before .args .blocks .now)) (length (c .before .before .before .before .before .before .args .stripe .now)) (length (c .before .before .before .before .before .before .args .coded .now))
 passed c = take-passed _ _ _ _ _ _ _ _ _ _ (c .before .take-refusal .ensures) (c .if1 .left)
 
--- src/lib.rt:369:9
 take-refusal-requires : tie.Need-take-refusal-requires
 take-refusal-requires c κs = search needs
 
--- src/lib.rt:381:9
 refuse-requires : tie.Need-refuse-requires
 refuse-requires c κs = search needs
 
--- src/lib.rt:381:9
 returns : tie.Need-returns
 unfolding Took stepHere
 returns c = took-refused _ _ _ _ _ (c .before .before .before .before .before .before .before .args .block .now) (c .before .before .before .before .before .before .before .args .blocks .now) (c .before .before .before .before .before .before .before .args .stripe .now) (c .before .before .before .before .before .before .before .args .coded .now) _ _ (c .before .before .take-refusal .ensures) (c .before .if1 .taken) (c .refuse .ensures)
 
--- src/lib.rt:383:5
 keep-requires : tie.Need-keep-requires
 keep-requires c κs = keeps _ _ _ _ _ _ _ _ _ _ (c .before .before .take-refusal .ensures) (c .before .if1 .left)
 
--- src/lib.rt:385:9
 tally-with-requires : tie.Need-tally-with-requires
 tally-with-requires c κs = omega (arith, passed (c .before .before .before .before .before) .brick-low, passed (c .before .before .before .before .before) .range .n-high)
 
--- src/lib.rt:386:9
 with-tally-requires : tie.Need-with-tally-requires
 with-tally-requires c κs = search needs
 
--- src/lib.rt:388:8
 members-of-requires : tie.Need-members-of-requires
 members-of-requires c κs = passed (c .before .before .before .before .before .before .before .before) .range .n-high
 
--- src/lib.rt:388:42
 quorum-of-requires : tie.Need-quorum-of-requires
 quorum-of-requires c κs = search needs
 
--- src/lib.rt:389:9
 kept-requires : tie.Need-kept-requires
 kept-requires c κs = search needs
 
--- src/lib.rt:389:9
 same-length : tie.Need-same-length
 same-length c = search needs
 
--- src/lib.rt:389:9
 returns-2 : tie.Need-returns-2
 unfolding Took stepHere
 returns-2 c = took-waiting _ _ _ _ _ (c .before .before .before .before .before .before .before .before .before .before .before .before .before .before .before .before .before .before .args .block .now) (c .before .before .before .before .before .before .before .before .before .before .before .before .before .before .before .before .before .before .args .blocks .now) (c .before .before .before .before .before .before .before .before .before .before .before .before .before .before .before .before .before .before .args .stripe .now) (c .before .before .before .before .before .before .before .before .before .before .before .before .before .before .before .before .before .before .args .coded .now) _ (c .before .before .before .before .before .before .before .before .before .before .before .before .before .take-refusal .ensures) (c .before .before .before .before .before .before .before .before .before .before .before .before .if1 .left) _ (c .before .before .before .before .before .before .tally-with .ensures) _ (c .before .before .before .before .before .with-tally .ensures) _ (c .before .before .before .before .before .before .before .before .before .before .keep .ensures) _ _ (c .before .before .before .members-of .ensures) (c .before .before .quorum-of .ensures) _ (c .before .if2 .taken) (c .kept .ensures)
 
--- src/lib.rt:392:9
 decide-requires : tie.Need-decide-requires
 decide-requires c κs = (passed (c .before .before .before .before .before .before .before .before .before .before .before .before) .range .n-high, passed (c .before .before .before .before .before .before .before .before .before .before .before .before) .parts .first-low)
 
--- src/lib.rt:393:5
 act-requires : tie.Need-act-requires
 act-requires c κs = (ready-here _ _ _ _ _ (c .before .before .before .before .before .before .before .before .before .before .before .before .before .before .before .before .before .before .before .before .before .before .args .block .now) (c .before .before .before .before .before .before .before .before .before .before .before .before .before .before .before .before .before .before .before .before .before .before .args .blocks .now) (c .before .before .before .before .before .before .before .before .before .before .before .before .before .before .before .before .before .before .before .before .before .before .args .stripe .now) (c .before .before .before .before .before .before .before .before .before .before .before .before .before .before .before .before .before .before .before .before .before .before .args .coded .now) _ (c .before .before .before .before .before .before .before .before .before .before .before .before .before .before .before .before .before .take-refusal .ensures) (c .before .before .before .before .before .before .before .before .before .before .before .before .before .before .before .before .if1 .left) _ (c .before .before .before .before .before .before .before .before .before .before .tally-with .ensures) _ (c .before .before .before .before .before .before .before .before .before .with-tally .ensures) (c .before .before .before .before .before .before .before .before .before .before .before .before .before .before .keep .last .1 .1 .1 .0) (c .before .before .before .before .before .before .before .before .before .before .before .before .before .before .keep .ensures) (c .before .before .before .before .before .before .before .before .before .before .before .before .before .before .keep .kept .1 .1 .1 .0), (passed (c .before .before .before .before .before .before .before .before .before .before .before .before .before .before .before .before) .coded-length, decided-here _ _ _ _ _ (c .before .before .before .before .before .before .before .before .before .before .before .before .before .before .before .before .before .before .before .before .before .before .args .block .now) (c .before .before .before .before .before .before .before .before .before .before .before .before .before .before .before .before .before .before .before .before .before .before .args .blocks .now) (c .before .before .before .before .before .before .before .before .before .before .before .before .before .before .before .before .before .before .before .before .before .before .args .stripe .now) (c .before .before .before .before .before .before .before .before .before .before .before .before .before .before .before .before .before .before .before .before .before .before .args .coded .now) _ (c .before .before .before .before .before .before .before .before .before .before .before .before .before .before .before .before .before .take-refusal .ensures) (c .before .before .before .before .before .before .before .before .before .before .before .before .before .before .before .before .if1 .left) _ (c .before .before .before .before .before .before .before .before .before .before .tally-with .ensures) _ (c .before .before .before .before .before .before .before .before .before .with-tally .ensures) (c .before .before .before .before .before .before .before .before .before .before .before .before .before .before .keep .last .1 .1 .1 .0) (c .before .before .before .before .before .before .before .before .before .before .before .before .before .before .keep .ensures) _ (c .before .before .before .decide .ensures)))
 
--- src/lib.rt:353:1
 same-length-2 : tie.Need-same-length-2
 same-length-2 c = c .before .before .before .before .before .before .before .before .before .before .before .before .before .before .before .before .before .before .before .keep .kept .1 .1 .1 .0
 
--- src/lib.rt:353:1
 same-length-3 : tie.Need-same-length-3
 same-length-3 c = search needs
 
--- src/lib.rt:353:1
 same-length-4 : tie.Need-same-length-4
 same-length-4 c = search needs
 
--- src/lib.rt:353:1
 returns-3 : tie.Need-returns-3
 unfolding Took stepHere
 returns-3 c = took-acted _ _ _ _ _ (c .before .before .before .before .before .before .before .before .before .before .before .before .before .before .before .before .before .before .before .before .before .before .before .before .before .before .before .args .block .now) (c .before .before .before .before .before .before .before .before .before .before .before .before .before .before .before .before .before .before .before .before .before .before .before .before .before .before .before .args .blocks .now) (c .before .before .before .before .before .before .before .before .before .before .before .before .before .before .before .before .before .before .before .before .before .before .before .before .before .before .before .args .stripe .now) (c .before .before .before .before .before .before .before .before .before .before .before .before .before .before .before .before .before .before .before .before .before .before .before .before .before .before .before .args .coded .now) _ (c .before .before .before .before .before .before .before .before .before .before .before .before .before .before .before .before .before .before .before .before .before .before .take-refusal .ensures) (c .before .before .before .before .before .before .before .before .before .before .before .before .before .before .before .before .before .before .before .before .before .if1 .left) _ (c .before .before .before .before .before .before .before .before .before .before .before .before .before .before .before .tally-with .ensures) _ (c .before .before .before .before .before .before .before .before .before .before .before .before .before .before .with-tally .ensures) _ (c .before .before .before .before .before .before .before .before .before .before .before .before .before .before .before .before .before .before .before .keep .ensures) _ _ (c .before .before .before .before .before .before .before .before .before .before .before .before .members-of .ensures) (c .before .before .before .before .before .before .before .before .before .before .before .quorum-of .ensures) _ _ _ _ (c .before .before .before .before .before .before .before .before .before .before .if2 .left) (c .before .before .before .before .before .before .before .before .decide .ensures) (c .before .before .before .before .act .ensures)

@@ -2,7 +2,7 @@ use lib.ListN.{length, length-take, length-drop}
 use borrow.Author.Needs.{needs}
 use native.Mathlib.Omega.{arith}
 use lib.ListN.{length}
-use mathlib.Core.Path.{_≡_, refl, sym}
+use mathlib.Core.Path.{_≡_, refl}
 use Rattle.erasure.specs.Refusals.{allBelow}
 use Rattle.erasure.specs.ListLaws.{below-rest, below-not, below-end}
 use Rattle.erasure.proofs.all_below.Statement.{statement}

@@ -1,7 +1,6 @@
 use native.Mathlib.Omega.{arith}
-use lib.ListN.{length}
 use mathlib.Core.List.{List}
-use mathlib.Core.Path.{_≡_, refl, sym, ap, _∙_}
+use mathlib.Core.Path.{sym, ap, _∙_}
 use Prim.Native.Nat.{ℕ, _*_, _≤_}
 use Rattle.erasure.specs.Code.{codedOf}
 use Rattle.erasure.specs.PassedLaws.{Encodes, sixteen-set, length-sixteen, first-of-sixteen}

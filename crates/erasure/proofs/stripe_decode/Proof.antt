@@ -1,8 +1,4 @@
-use native.Mathlib.Omega.{arith}
-use lib.ListN.{length}
-use mathlib.Core.List.{List}
-use mathlib.Core.Path.{_≡_, refl, sym, ap, _∙_}
-use Prim.Native.Nat.{ℕ, _*_, _≤_}
+use mathlib.Core.Path.{sym, _∙_}
 use Rattle.erasure.specs.Refusals.{decodedBuffer}
 use Rattle.erasure.specs.RefusalLaws.{refused-leaves, passed-gives}
 use Rattle.erasure.specs.PassedLaws.{decode-passed}

@@ -3,19 +3,14 @@ use Rattle.image.specs.Opening.{entryFor, blank}
 use borrow.Author.Needs.{needs}
 use Rattle.image.proofs.entry_for.Statement.{statement}
 use Rattle.image.proofs.entry_for.Tie as tie
-use Rattle.image.proofs.entry_for.Reads as reads
-use Rattle.image.proofs.entry_for.Lts as lts
 
--- src/lib.rt:87:36
 add-t5 : tie.Need-add-t5
 add-t5 c = search needs
 
--- src/lib.rt:85:9
 returns : tie.Need-returns
 unfolding entryFor blank
 returns c = search (needs, lt-ltb, le-ltb)
 
--- src/lib.rt:80:1
 returns-2 : tie.Need-returns-2
 unfolding entryFor blank
 returns-2 c = search (needs, lt-ltb, le-ltb)

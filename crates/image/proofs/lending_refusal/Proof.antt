@@ -5,38 +5,28 @@ use Rattle.image.specs.FitLaws.{lending-0, lending-1, lending-2, lending
 use borrow.Author.Needs.{needs}
 use Rattle.image.proofs.lending_refusal.Statement.{statement}
 use Rattle.image.proofs.lending_refusal.Tie as tie
-use Rattle.image.proofs.lending_refusal.Reads as reads
-use Rattle.image.proofs.lending_refusal.Lts as lts
-use Rattle.settings.proofs.Settings.refusal.Reads as refusal-reads
 
--- src/lib.rt:168:9
 refusal-requires : tie.Need-refusal-requires
 refusal-requires c κs = search needs
 
--- src/lib.rt:170:9
 returns : tie.Need-returns
 returns c = search (needs, lending-1)
 
 range : (c : tie.After-struct-known) → SettingsRange (c .before .before .before .args .s)
 range c = settings-passed _ (sym (c .before .before .refusal .ensures) ∙ c .before .if1 .left)
 
--- src/lib.rt:172:22
 add-if2 : tie.Need-add-if2
 add-if2 c = omega (arith, range c)
 
--- src/lib.rt:172:15
 mul-if2 : tie.Need-mul-if2
 mul-if2 c = omega (arith, range c)
 
--- src/lib.rt:173:9
 returns-2 : tie.Need-returns-2
 returns-2 c = search (needs, lending-2)
 
--- src/lib.rt:176:9
 returns-3 : tie.Need-returns-3
 returns-3 c = search (needs, lending-3)
 
--- src/lib.rt:165:1
 returns-4 : tie.Need-returns-4
 returns-4 c = search (needs, lending-0)
 

@@ -3,23 +3,17 @@ use Rattle.image.specs.Opening.{answerNumber}
 use borrow.Author.Needs.{needs}
 use Rattle.image.proofs.number_of.Statement.{statement}
 use Rattle.image.proofs.number_of.Tie as tie
-use Rattle.image.proofs.number_of.Reads as reads
-use Rattle.image.proofs.number_of.Lts as lts
 
--- src/lib.rt:266:30
 enum-told : tie.Need-enum-told
 enum-told c = search needs
 
--- src/lib.rt:267:25
 enum-known-a : tie.Need-enum-known-a
 enum-known-a c = search needs
 
--- src/lib.rt:262:1
 returns : tie.Need-returns
 unfolding answerNumber
 returns c = sym (ap answerNumber (c .enum-told .given .1))
 
--- src/lib.rt:262:1
 returns-2 : tie.Need-returns-2
 unfolding answerNumber
 returns-2 c = sym (ap answerNumber (c .before .a .given .1))

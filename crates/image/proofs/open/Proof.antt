@@ -9,22 +9,10 @@ use Rattle.image.specs.OpenLaws.{Lent, lent, open-lending, open-unchecke
 use borrow.Author.Needs.{needs}
 use Rattle.image.proofs.open.Statement.{statement}
 use Rattle.image.proofs.open.Tie as tie
-use Rattle.image.proofs.open.Reads as reads
-use Rattle.image.proofs.open.Lts as lts
-use Rattle.block.proofs.check_holds.Reads as check-holds-reads
-use Rattle.image.proofs.both.Reads as both-reads
-use Rattle.image.proofs.head_fits.Reads as head-fits-reads
-use Rattle.image.proofs.lending_refusal.Reads as lending-refusal-reads
-use Rattle.image.proofs.read_blocks.Reads as read-blocks-reads
-use Rattle.image.proofs.refused.Reads as refused-reads
-use Rattle.little.proofs.read2.Reads as read2-reads
-use Rattle.little.proofs.read8.Reads as read8-reads
 
--- src/lib.rt:238:9
 lending-refusal-requires : tie.Need-lending-refusal-requires
 lending-refusal-requires c κs = search needs
 
--- src/lib.rt:240:9
 refused-requires : tie.Need-refused-requires
 refused-requires c κs = search needs
 
@@ -35,60 +23,47 @@ first-at : (l : List ℕ) → take 512 (drop 0 l) ≡ blockAt l 0
 unfolding blockAt
 first-at l = refl
 
--- src/lib.rt:240:9
 returns : tie.Need-returns
 returns c = open-lending _ _ _ _ _ (c .before .before .lending-refusal .ensures) (c .before .if1 .taken) (c .refused .ensures)
 
--- src/lib.rt:242:13
 sub-t : tie.Need-sub-t
 sub-t c = search needs
 
--- src/lib.rt:242:13
 part-t-start : tie.Need-part-t-start
 part-t-start c = search needs
 
--- src/lib.rt:242:13
 part-t-end : tie.Need-part-t-end
 unfolding imageSize
 part-t-end c = omega (arith, lent-at c)
 
--- src/lib.rt:243:8
 check-holds-requires : tie.Need-check-holds-requires
 check-holds-requires c κs = search needs
 
--- src/lib.rt:245:9
 refused-requires-2 : tie.Need-refused-requires-2
 refused-requires-2 c κs = search needs
 
--- src/lib.rt:245:9
 returns-2 : tie.Need-returns-2
 returns-2 c = open-unchecked _ _ _ _ (lent-at (c .before .before .before .before)) (first-at _) _ (c .before .before .check-holds .ensures) _ (c .before .if2 .left) (c .refused2 .ensures)
 
--- src/lib.rt:247:17
 read2-requires : tie.Need-read2-requires
 read2-requires c κs = search needs
 
--- src/lib.rt:248:9
 read8-requires : tie.Need-read8-requires
 read8-requires c κs = search needs
 
--- src/lib.rt:249:9
 head-fits-requires : tie.Need-head-fits-requires
 head-fits-requires c κs =
     let e = lent-at (c .before .before .before .before .before) in
     (e .range, (e .brick-low, omega arith))
 
--- src/lib.rt:250:9
 read-blocks-requires : tie.Need-read-blocks-requires
 read-blocks-requires c κs =
     let e = lent-at (c .before .before .before .before .before .before) in
     (e .range, e .long)
 
--- src/lib.rt:253:9
 refused-requires-3 : tie.Need-refused-requires-3
 refused-requires-3 c κs = search needs
 
--- src/lib.rt:253:9
 returns-3 : tie.Need-returns-3
 unfolding countIn promiseIn
 returns-3 c =
@@ -96,15 +71,12 @@ returns-3 c =
     let r = h .before .before in
     open-unchecked-later _ _ _ _ (lent-at (r .before .before .before .before)) (first-at _) _ (r .before .before .check-holds .ensures) (r .before .if2 .taken) _ _ (r .read2 .ensures .0) (h .before .read8 .ensures) _ _ _ (c .before .before .read-blocks .ensures) _ (c .before .if3 .left) (c .refused3 .ensures)
 
--- src/lib.rt:255:8
 both-requires : tie.Need-both-requires
 both-requires c κs = search needs
 
--- src/lib.rt:257:9
 refused-requires-4 : tie.Need-refused-requires-4
 refused-requires-4 c κs = search needs
 
--- src/lib.rt:257:9
 returns-4 : tie.Need-returns-4
 unfolding countIn promiseIn
 returns-4 c =
@@ -113,7 +85,6 @@ returns-4 c =
     let r = h .before .before in
     open-unfit _ _ _ _ (lent-at (r .before .before .before .before)) (first-at _) _ (r .before .before .check-holds .ensures) (r .before .if2 .taken) _ _ (r .read2 .ensures .0) (h .before .read8 .ensures) _ _ _ (w .read-blocks .ensures) _ _ (h .head-fits .ensures) (c .before .before .before .if3 .taken) (sym (c .before .before .both .ensures) ∙ c .before .if4 .left) (c .refused4 .ensures)
 
--- src/lib.rt:235:1
 returns-5 : tie.Need-returns-5
 unfolding countIn promiseIn
 returns-5 c =

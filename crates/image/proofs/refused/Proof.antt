@@ -2,15 +2,10 @@ use Rattle.image.specs.OpenLaws.{refused-made}
 use borrow.Author.Needs.{needs}
 use Rattle.image.proofs.refused.Statement.{statement}
 use Rattle.image.proofs.refused.Tie as tie
-use Rattle.image.proofs.refused.Reads as reads
-use Rattle.image.proofs.refused.Lts as lts
-use Rattle.image.proofs.entry_for.Reads as entry-for-reads
 
--- src/lib.rt:226:9
 entry-for-requires : tie.Need-entry-for-requires
 entry-for-requires c κs = search needs
 
--- src/lib.rt:223:1
 returns : tie.Need-returns
 returns c = refused-made _ _ (c .entry-for .ensures)
 

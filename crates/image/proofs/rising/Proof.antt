@@ -3,15 +3,11 @@ use borrow.Author.Tests.{eq-eqb, ne-eqb}
 use Rattle.image.specs.Opening.{rises}
 use Rattle.image.proofs.rising.Statement.{statement}
 use Rattle.image.proofs.rising.Tie as tie
-use Rattle.image.proofs.rising.Reads as reads
-use Rattle.image.proofs.rising.Lts as lts
 
--- src/lib.rt:74:9
 returns : tie.Need-returns
 unfolding rises
 returns c = search (needs, eq-eqb, ne-eqb)
 
--- src/lib.rt:70:1
 returns-2 : tie.Need-returns-2
 unfolding rises
 returns-2 c = search (needs, eq-eqb, ne-eqb)

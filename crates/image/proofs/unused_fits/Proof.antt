@@ -2,19 +2,13 @@ use Rattle.block.specs.Block.{unusedBody, unusedKind, zeros}
 use borrow.Author.Needs.{needs}
 use Rattle.image.proofs.unused_fits.Statement.{statement}
 use Rattle.image.proofs.unused_fits.Tie as tie
-use Rattle.image.proofs.unused_fits.Reads as reads
-use Rattle.image.proofs.unused_fits.Lts as lts
-use Rattle.block.proofs.same_body.Reads as same-body-reads
 
--- src/lib.rt:111:18
 slice-aggregate-same-body : tie.Need-slice-aggregate-same-body
 slice-aggregate-same-body c = search needs
 
--- src/lib.rt:111:5
 same-body-requires : tie.Need-same-body-requires
 same-body-requires c κs = search needs
 
--- src/lib.rt:106:1
 returns : tie.Need-returns
 unfolding unusedBody unusedKind zeros
 returns c = c .same-body .ensures

@@ -2,8 +2,8 @@ use borrow.Author.Needs.{needs}
 use native.Mathlib.Nat.{le-refl}
 use native.Mathlib.Omega.{arith}
 use lib.ListN.{length, getD}
-use mathlib.Core.Path.{_≡_, refl, sym, ap, ap₂, _∙_}
-use Prim.Native.Nat.{ℕ, _-_, _≤_, _<_}
+use mathlib.Core.Path.{ap₂}
+use Prim.Native.Nat.{ℕ, _-_, _≤_}
 use Rattle.gf256.specs.Product.{plus, product}
 use Rattle.interpolate.specs.Rows.{scaled}
 use Rattle.interpolate.specs.Tabulate.{Filled, filled-none, filled-more, filled-all}

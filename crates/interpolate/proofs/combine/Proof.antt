@@ -1,10 +1,9 @@
 use borrow.Author.Needs.{needs}
-use native.Mathlib.Nat.{zero-mul, suc-mul, mul-le-mul-right, le-refl}
-use native.Mathlib.Numerals.{add-one}
+use native.Mathlib.Nat.{zero-mul, suc-mul, mul-le-mul-right}
 use native.Mathlib.Omega.{arith}
-use lib.ListN.{length, getD, take, drop}
-use mathlib.Core.Path.{_≡_, refl, sym, ap, ap₂, _∙_}
-use Prim.Native.Nat.{ℕ, suc, _+_, _*_, _-_, _≤_, _<_}
+use lib.ListN.{length}
+use mathlib.Core.Path.{_≡_, sym, ap, _∙_}
+use Prim.Native.Nat.{_+_, _*_, _-_, _≤_}
 use Rattle.interpolate.specs.RowLaws.{partial, row-none, row-step, row-all, part-length}
 use Rattle.interpolate.specs.Tabulate.{tabulate, length-tabulate}
 use Rattle.interpolate.proofs.combine.Statement.{statement}

@@ -1,10 +1,8 @@
 use borrow.Author.Needs.{needs}
-use native.Mathlib.Nat.{add-zero}
-use native.Mathlib.Numerals.{add-one}
 use native.Mathlib.Omega.{arith}
 use lib.ListN.{length, getD}
-use mathlib.Core.Path.{_≡_, refl, sym, ap, ap₂, _∙_}
-use Prim.Native.Nat.{ℕ, _+_, _*_, _-_, _≤_, _<_}
+use mathlib.Core.Path.{_≡_, refl, _∙_}
+use Prim.Native.Nat.{_*_, _-_, _≤_}
 use mathlib.Core.Logic.{⊎-elim}
 use Rattle.interpolate.specs.Rows.{denominator}
 use Rattle.interpolate.specs.SumLaws.{denominator-more, denominator-skip, denominator-all}

@@ -2,39 +2,28 @@ use Rattle.little.specs.LittleLaws.{number-2}
 use borrow.Author.Needs.{needs}
 use Rattle.little.proofs.read2.Statement.{statement}
 use Rattle.little.proofs.read2.Tie as tie
-use Rattle.little.proofs.read2.Reads as reads
-use Rattle.little.proofs.read2.Lts as lts
-use Rattle.little.proofs.wide.Reads as wide-reads
 
--- src/lib.rt:19:10
 shared-slice-read-wide : tie.Need-shared-slice-read-wide
 shared-slice-read-wide c = search needs
 
--- src/lib.rt:19:5
 wide-requires : tie.Need-wide-requires
 wide-requires c κs = search needs
 
--- src/lib.rt:19:32
 add-wide : tie.Need-add-wide
 add-wide c = search needs
 
--- src/lib.rt:19:30
 shared-slice-read-wide-2 : tie.Need-shared-slice-read-wide-2
 shared-slice-read-wide-2 c = search needs
 
--- src/lib.rt:19:25
 wide-requires-2 : tie.Need-wide-requires-2
 wide-requires-2 c κs = search needs
 
--- src/lib.rt:19:19
 mul-result : tie.Need-mul-result
 mul-result c = search needs
 
--- src/lib.rt:19:5
 add-result : tie.Need-add-result
 add-result c = search needs
 
--- src/lib.rt:15:1
 returns : tie.Need-returns
 returns c = search (needs, number-2)
 

@@ -1,9 +1,5 @@
 use borrow.Author.Needs.{needs}
-use native.Mathlib.Omega.{arith}
-use mathlib.Core.Path.{_≡_, refl, sym, ap, _∙_}
-use Prim.Native.Nat.{ℕ, _+_, _-_, _≤_, _<_}
-use borrow.Author.Tests.{lt-ltb, le-ltb, lt-leb, le-leb}
-use Rattle.settings.specs.Count.{one-if}
+use borrow.Author.Tests.{lt-ltb, le-ltb}
 use Rattle.message.proofs.most.Statement.{statement}
 use Rattle.message.proofs.most.Tie as tie
 

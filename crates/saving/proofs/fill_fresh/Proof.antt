@@ -4,35 +4,24 @@ use Rattle.saving.specs.FreshLaws.{fresh-made}
 use borrow.Author.Needs.{needs}
 use Rattle.saving.proofs.fill_fresh.Statement.{statement}
 use Rattle.saving.proofs.fill_fresh.Tie as tie
-use Rattle.saving.proofs.fill_fresh.Reads as reads
-use Rattle.saving.proofs.fill_fresh.Lts as lts
-use Rattle.saving.proofs.clear_blocks.Reads as clear-blocks-reads
-use Rattle.saving.proofs.write_head.Reads as write-head-reads
-use Rattle.saving.proofs.write_zero_entry.Reads as write-zero-entry-reads
 
--- src/lib.rt:99:5
 write-head-requires : tie.Need-write-head-requires
 write-head-requires c κs = search needs
 
--- src/lib.rt:100:5
 write-zero-entry-requires : tie.Need-write-zero-entry-requires
 unfolding imageSize
 write-zero-entry-requires c κs = omega arith
 
--- src/lib.rt:101:28
 add-clear-blocks : tie.Need-add-clear-blocks
 add-clear-blocks c = search needs
 
--- src/lib.rt:101:5
 clear-blocks-requires : tie.Need-clear-blocks-requires
 unfolding imageSize
 clear-blocks-requires c κs = omega arith
 
--- src/lib.rt:93:1
 same-length : tie.Need-same-length
 same-length c = search needs
 
--- src/lib.rt:93:1
 returns : tie.Need-returns
 returns c =
     let z = c .before .before .before .before .before .before .before in

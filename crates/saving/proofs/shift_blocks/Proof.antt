@@ -1,17 +1,13 @@
 use mathlib.Core.Path.{_≡_, refl, ap, _∙_}
-use Prim.Native.Nat.{_-_, _≤_, _+_, _*_}
+use Prim.Native.Nat.{_-_, _≤_, _+_}
 use native.Mathlib.Omega.{arith}
 use borrow.Author.Needs.{needs}
-use lib.ListN.{length, take, drop}
+use lib.ListN.{length}
 use Rattle.image.specs.Parse.{blockAt}
 use Rattle.image.specs.ScanLaws.{part-is}
 use Rattle.saving.specs.BlocksLaws.{Shifting, shifting-none, shifting-more, shifted-all, block-long}
 use Rattle.saving.proofs.shift_blocks.Statement.{statement}
 use Rattle.saving.proofs.shift_blocks.Tie as tie
-use Rattle.saving.proofs.shift_blocks.Reads as reads
-use Rattle.saving.proofs.shift_blocks.Lts as lts
-use Rattle.block.proofs.store.Reads as store-reads
-use Rattle.saving.proofs.copied.Reads as copied-reads
 
 abbrev Inv-loop : tie.InvT-loop
 Inv-loop image₀ d kept k₀ image k = (k ≤ kept) × Shifting image₀ d k image
@@ -19,35 +15,27 @@ Inv-loop image₀ d kept k₀ image k = (k ≤ kept) × Shifting image₀ d k im
 abbrev μ-loop : tie.MeasureT-loop
 μ-loop image₀ d kept k₀ image k = kept - k
 
--- src/lib.rt:74:5
 loop-holds : tie.Need-loop-holds Inv-loop μ-loop
 loop-holds c = (omega arith, shifting-none _ _)
 
--- src/lib.rt:75:27
 add-from : tie.Need-add-from Inv-loop μ-loop
 add-from c = omega arith
 
--- src/lib.rt:75:27
 add-from-2 : tie.Need-add-from-2 Inv-loop μ-loop
 add-from-2 c = omega arith
 
--- src/lib.rt:75:20
 mul-from : tie.Need-mul-from Inv-loop μ-loop
 mul-from c = omega arith
 
--- src/lib.rt:76:17
 add-e : tie.Need-add-e Inv-loop μ-loop
 add-e c = omega arith
 
--- src/lib.rt:77:24
 sub-copied : tie.Need-sub-copied Inv-loop μ-loop
 sub-copied c = omega arith
 
--- src/lib.rt:77:24
 part-copied-start : tie.Need-part-copied-start Inv-loop μ-loop
 part-copied-start c = omega arith
 
--- src/lib.rt:77:24
 part-copied-end : tie.Need-part-copied-end Inv-loop μ-loop
 part-copied-end c = omega arith
 
@@ -55,49 +43,39 @@ long : (c : tie.After-copied-arg Inv-loop μ-loop)
     → length (blockAt (c .before .before .before .loop .image) (c .before .before .before .before .before .args .d + c .before .before .before .loop .k + 1)) ≡ 512
 long c = block-long _ _ (omega arith)
 
--- src/lib.rt:77:17
 copied-requires : tie.Need-copied-requires Inv-loop μ-loop
 copied-requires c κs = ap length (part-is _ _ _ refl) ∙ long c
 
--- src/lib.rt:78:29
 add-store : tie.Need-add-store Inv-loop μ-loop
 add-store c = omega arith
 
--- src/lib.rt:78:22
 mul-store : tie.Need-mul-store Inv-loop μ-loop
 mul-store c = omega arith
 
--- src/lib.rt:78:37
 slice-aggregate-store : tie.Need-slice-aggregate-store Inv-loop μ-loop
 slice-aggregate-store c = search needs
 
--- src/lib.rt:78:9
 store-requires : tie.Need-store-requires Inv-loop μ-loop
 store-requires c κs =
     let a = c .before .before .before in
     let n : length (c .before .before .copied .result) ≡ 512 = ap length (c .before .before .copied .ensures ∙ part-is _ _ _ refl) ∙ long a in
     omega arith
 
--- src/lib.rt:79:9
 add-k : tie.Need-add-k Inv-loop μ-loop
 add-k c = omega arith
 
--- src/lib.rt:74:5
 loop-less : tie.Need-loop-less Inv-loop μ-loop
 loop-less c = omega arith
 
--- src/lib.rt:74:5
 loop-again : tie.Need-loop-again Inv-loop μ-loop
 loop-again c =
     let a = c .before .before .before .before .before in
     let t = a .before .before .before .before in
     (omega arith, shifting-more _ _ _ _ _ _ (omega arith) (a .copied .ensures ∙ part-is _ _ _ refl) (c .before .before .store .ensures) (t .loop .inv .1))
 
--- src/lib.rt:69:1
 same-length : tie.Need-same-length Inv-loop μ-loop
 same-length c = c .before .loop .inv .1 .long
 
--- src/lib.rt:69:1
 returns : tie.Need-returns Inv-loop μ-loop
 returns c = shifted-all _ _ _ _ _ (omega arith) (c .before .loop .inv .1)
 

@@ -4,30 +4,21 @@ use Rattle.saving.specs.FreshLaws.{fresh-refused, fresh-written}
 use borrow.Author.Needs.{needs}
 use Rattle.saving.proofs.write_fresh.Statement.{statement}
 use Rattle.saving.proofs.write_fresh.Tie as tie
-use Rattle.saving.proofs.write_fresh.Reads as reads
-use Rattle.saving.proofs.write_fresh.Lts as lts
-use Rattle.image.proofs.lending_refusal.Reads as lending-refusal-reads
-use Rattle.saving.proofs.fill_fresh.Reads as fill-fresh-reads
 
--- src/lib.rt:103:9
 lending-refusal-requires : tie.Need-lending-refusal-requires
 lending-refusal-requires c κs = search needs
 
--- src/lib.rt:105:9
 returns : tie.Need-returns
 returns c = (c .before .lending-refusal .ensures, fresh-refused _ _ _ _ (c .before .lending-refusal .ensures) (c .if1 .taken))
 
--- src/lib.rt:107:5
 fill-fresh-requires : tie.Need-fill-fresh-requires
 fill-fresh-requires c κs =
     let e = lent _ _ _ _ (c .before .before .lending-refusal .ensures) (c .before .if1 .left) in
     (e .range, (e .brick-low, e .long))
 
--- src/lib.rt:99:1
 same-length : tie.Need-same-length
 same-length c = search needs
 
--- src/lib.rt:99:1
 returns-2 : tie.Need-returns-2
 returns-2 c =
     let l = c .before .before .before .before .before in

@@ -7,31 +7,22 @@ use Rattle.saving.specs.BlocksLaws.{put-as}
 use borrow.Author.Needs.{needs}
 use Rattle.saving.proofs.write_head.Statement.{statement}
 use Rattle.saving.proofs.write_head.Tie as tie
-use Rattle.saving.proofs.write_head.Reads as reads
-use Rattle.saving.proofs.write_head.Lts as lts
-use Rattle.block.proofs.head.Reads as head-reads
-use Rattle.block.proofs.store.Reads as store-reads
 
--- src/lib.rt:28:13
 head-requires : tie.Need-head-requires
 head-requires c κs = search needs
 
--- src/lib.rt:29:21
 slice-aggregate-store : tie.Need-slice-aggregate-store
 slice-aggregate-store c = search needs
 
--- src/lib.rt:29:5
 store-requires : tie.Need-store-requires
 unfolding imageSize
 store-requires c κs =
     let n : length (c .before .before .head .result) ≡ 512 = ap length (c .before .before .head .ensures) ∙ head-length _ _ _ _ in
     omega arith
 
--- src/lib.rt:22:1
 same-length : tie.Need-same-length
 same-length c = search needs
 
--- src/lib.rt:22:1
 returns : tie.Need-returns
 returns c = search (needs, put-as)
 

@@ -1,35 +1,26 @@
 use mathlib.Core.Path.{subst}
 use Prim.Native.Nat.{ℕ, _≤_}
-use mathlib.Core.Path.{_≡_, sym}
-use native.Mathlib.Omega.{arith}
+use mathlib.Core.Path.{sym}
 use Rattle.block.specs.Block.{zeros}
 use Rattle.saving.specs.BlocksLaws.{zero-entry, zero-length}
 use borrow.Author.Needs.{needs}
 use Rattle.saving.proofs.write_zero_entry.Statement.{statement}
 use Rattle.saving.proofs.write_zero_entry.Tie as tie
-use Rattle.saving.proofs.write_zero_entry.Reads as reads
-use Rattle.saving.proofs.write_zero_entry.Lts as lts
-use Rattle.saving.proofs.write_entry.Reads as write-entry-reads
 
--- src/lib.rt:89:32
 array-share-prefix-zero : tie.Need-array-share-prefix-zero
 array-share-prefix-zero c = search needs
 
--- src/lib.rt:89:32
 slice-aggregate-write-entry : tie.Need-slice-aggregate-write-entry
 unfolding zeros
 slice-aggregate-write-entry c = sym (zero-length _ (c .before .before .before .pre .1))
 
--- src/lib.rt:89:5
 write-entry-requires : tie.Need-write-entry-requires
 unfolding zeros
 write-entry-requires c κs = (c .before .before .before .pre .0, subst (λ (k : ℕ). k ≤ 256) (sym (zero-length _ (c .before .before .before .pre .1))) (c .before .before .before .pre .1))
 
--- src/lib.rt:84:1
 same-length : tie.Need-same-length
 same-length c = search needs
 
--- src/lib.rt:84:1
 returns : tie.Need-returns
 unfolding zeros
 returns c = zero-entry 512 _ _ _ (c .before .before .before .before .before .before .pre .1) (c .before .before .write-entry .ensures)

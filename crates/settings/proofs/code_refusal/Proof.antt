@@ -1,5 +1,5 @@
 use borrow.Author.Needs.{needs}
-use borrow.Author.Tests.{lt-ltb, le-ltb, lt-leb, le-leb}
+use borrow.Author.Tests.{lt-leb, le-leb}
 use Rattle.settings.specs.Ranges.{codeRefusal, bricksInRange, sizeInRange}
 use Rattle.settings.proofs.code_refusal.Statement.{statement}
 use Rattle.settings.proofs.code_refusal.Tie as tie

@@ -2,39 +2,28 @@ use Rattle.view.specs.ViewLaws.{at-short, at-past, at-there}
 use borrow.Author.Needs.{needs}
 use Rattle.view.proofs.entry_at.Statement.{statement}
 use Rattle.view.proofs.entry_at.Tie as tie
-use Rattle.view.proofs.entry_at.Reads as reads
-use Rattle.view.proofs.entry_at.Lts as lts
-use Rattle.little.proofs.read8.Reads as read8-reads
 
--- src/lib.rt:32:9
 returns : tie.Need-returns
 returns c = search (needs, at-short)
 
--- src/lib.rt:35:9
 returns-2 : tie.Need-returns-2
 returns-2 c = search (needs, at-past)
 
--- src/lib.rt:37:21
 add-at : tie.Need-add-at
 add-at c = search needs
 
--- src/lib.rt:37:14
 mul-at : tie.Need-mul-at
 mul-at c = search needs
 
--- src/lib.rt:37:14
 add-at-2 : tie.Need-add-at-2
 add-at-2 c = search needs
 
--- src/lib.rt:38:9
 read8-requires : tie.Need-read8-requires
 read8-requires c κs = search needs
 
--- src/lib.rt:41:32
 add-t6 : tie.Need-add-t6
 add-t6 c = search needs
 
--- src/lib.rt:28:1
 returns-3 : tie.Need-returns-3
 returns-3 c = search (needs, at-there)
 

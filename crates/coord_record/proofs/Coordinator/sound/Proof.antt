@@ -3,50 +3,36 @@ use Rattle.settings.specs.Times.{maxCount}
 use borrow.Author.Needs.{needs}
 use Rattle.coord_record.proofs.Coordinator.sound.Statement.{statement}
 use Rattle.coord_record.proofs.Coordinator.sound.Tie as tie
-use Rattle.coord_record.proofs.Coordinator.sound.Reads as reads
-use Rattle.coord_record.proofs.Coordinator.sound.Lts as lts
-use Rattle.coord_record.proofs.Coordinator.filled_right.Reads as filled-right-reads
-use Rattle.coord_record.proofs.op_right.Reads as op-right-reads
-use Rattle.coord_record.proofs.time_right.Reads as time-right-reads
 
--- src/lib.rt:400:13
 returns : tie.Need-returns
 returns c = search (needs, unsound-coordinator)
 
--- src/lib.rt:403:13
 returns-2 : tie.Need-returns-2
 unfolding maxCount
 returns-2 c = search (needs, unsound-last)
 
--- src/lib.rt:406:13
 returns-3 : tie.Need-returns-3
 unfolding maxCount
 returns-3 c = search (needs, unsound-first)
 
--- src/lib.rt:408:12
 op-right-requires : tie.Need-op-right-requires
 op-right-requires c κs = search needs
 
--- src/lib.rt:409:16
 time-right-requires : tie.Need-time-right-requires
 unfolding maxCount
 time-right-requires c κs = search needs
 
--- src/lib.rt:410:17
 filled-right-requires : tie.Need-filled-right-requires
 filled-right-requires c κs = search needs
 
--- src/lib.rt:410:17
 returns-4 : tie.Need-returns-4
 unfolding maxCount
 returns-4 c = search (needs, sound-filled)
 
--- src/lib.rt:393:5
 returns-5 : tie.Need-returns-5
 unfolding maxCount
 returns-5 c = search (needs, unsound-time)
 
--- src/lib.rt:393:5
 returns-6 : tie.Need-returns-6
 unfolding maxCount
 returns-6 c = search (needs, unsound-op)

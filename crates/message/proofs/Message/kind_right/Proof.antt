@@ -1,5 +1,4 @@
-use native.Mathlib.Omega.{arith}
-use borrow.Author.Tests.{lt-ltb, le-ltb, lt-leb, le-leb, eq-eqb, ne-eqb}
+use borrow.Author.Tests.{lt-leb, le-leb, eq-eqb, ne-eqb}
 use Rattle.message.specs.Messages.{kindRight}
 use Rattle.settings.specs.Times.{noUpperEnd}
 use borrow.Author.Needs.{needs}

@@ -1,9 +1,9 @@
 use borrow.Author.Needs.{needs}
-use mathlib.Core.Path.{_≡_, refl, sym}
+use mathlib.Core.Path.{_≡_}
 use mathlib.Core.Logic.{⊎-elim}
-use Prim.Native.Nat.{_≤_, _+_}
+use Prim.Native.Nat.{_≤_}
 use native.Mathlib.Omega.{arith}
-use Rattle.settings.specs.Times.{nextCount, timeOf, maxCount}
+use Rattle.settings.specs.Times.{nextCount, timeOf}
 use Rattle.settings.specs.TimeLaws.{Draws, draw-passed, draw-refused, draw-given}
 use Rattle.settings.proofs.Clock.draw.Statement.{statement}
 use Rattle.settings.proofs.Clock.draw.Tie as tie
