@@ -131,7 +131,7 @@ fn stands(&Named { text, place, name, in_parentheses }: &Named) -> bool {
     match place {
         Nowhere => false,
         Module(krate, module) => {
-            let text = read(&format!("crates/{krate}/specs/{module}.antt"));
+            let text = read(&format!("crates/{krate}/specs/{module}.antt")) + &read(&format!("crates/{krate}/proofs/Laws/{module}.antt"));
             !text.is_empty() && (name.is_empty() || defines(&text, name) || beside && holds(&text, name))
         }
         Source(krate) if beside && holds(&source(krate), name) => true,

@@ -1,2 +1,1 @@
--- Laws: CarryLaws.
-pub mod CarryLaws
+pub mod Carrying

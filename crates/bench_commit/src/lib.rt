@@ -2,7 +2,7 @@
 ghost use mathlib.Core.Path.{_≡_};
 ghost use Prim.Native.Nat.{_+_, _*_, _≤_, _<_};
 ghost use lib.ListN.{length};
-ghost use Rattle.bench_commit.specs.AnswerLaws.{Round, Seats, Copies, Answers};
+ghost use Rattle.bench_commit.specs.Answers.{Round, Seats, Copies, Answers};
 ghost use Rattle.bench_commit.specs.Answers.{sentAfter};
 use bench_play::After;
 use bench_state::Bench;

@@ -10,13 +10,12 @@ use Rattle.message.specs.declared.Message.{Message}
 use Rattle.brick.specs.declared.Given.{Given}
 use Rattle.brick.specs.declared.Given.the-variants.{Answered, Silent, Refused}
 use Rattle.register.specs.Runs.{message, repliedWith}
-use Rattle.bench_state.specs.RangeLaws.{Fits}
-use Rattle.bench_state.specs.State.{upOf, worldOf}
+use Rattle.bench_state.specs.State.{Fits, upOf, worldOf}
 use Rattle.bench_state.specs.declared.Bench.{Bench}
 use Rattle.bench_sent.specs.Sent.{blockAt, itemAt, itemsOf}
 use Rattle.bench_print.specs.Printing.{refusedText, written}
 use Rattle.bench_play.specs.Play.{lastMessage}
-use Rattle.bench_play.specs.Turning.{Lent, Ready, lent, worldIn}
+use Rattle.bench_play.specs.Turning.{lent, worldIn}
 use Rattle.bench_play.specs.declared.After.{After}
 
 -- a set that is played, without what the coordinators keep, for which a message has no use
@@ -60,8 +59,3 @@ pub record Settled (b : Bench) (g : Given) (block numbers bytes : List ℕ) (at 
   pub text-is : out′ ≡ written at (toldOf g) out
   pub used-is : r .used ≡ at + length (toldOf g)
   pub short : r .used ≤ at + 128
-
--- a set that is ready lends what a message needs
-pub ready-lends : (b : Bench) (l : Lent) → Ready b l → Lends b (l .images) (l .numbers) (l .bytes)
-ready-lends b l r =
-    record { fits = r .fits; few = r .few; images-long = r .images-long; numbers-long = r .numbers-long; bytes-long = r .bytes-long }

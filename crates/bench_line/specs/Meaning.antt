@@ -55,3 +55,8 @@ pub record NumberAt (l : List ℕ) (at : ℕ) (r : Number) : Type 0 where
   pub ends : r .end ≤ length l
   pub splits : numbersOf (words (drop at l)) ≡ r .value ∷ numbersOf (wordsFrom l (r .end + 1))
   pub later : r .end < length l → CarryFrom l (r .end + 1)
+
+-- The loop over the numbers, `while at <= line.len()`: what is left of them from a place on.
+pub record CarryRest (l : List ℕ) (at : ℕ) : Type 0 where
+  pub high : at ≤ length l + 1
+  pub begins : at ≤ length l → CarryFrom l at

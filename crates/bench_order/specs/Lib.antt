@@ -5,13 +5,6 @@
 pub mod Script
 pub mod Told
 pub mod Report
-pub mod ScriptTheorem
-pub mod ReportTheorem
-pub mod LimitTheorem
 pub mod Calls
 -- How the input is cut into lines; document 01's case, computed from its bytes.
 pub mod WorkedCase
--- A line, part by part; what is printed at an event is what is seen there.
-pub mod Parts
-pub mod PartLaws
-pub mod PrintedLaws

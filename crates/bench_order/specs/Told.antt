@@ -3,7 +3,7 @@
 use mathlib.Core.List.{List, [], _∷_, _++_}
 use Prim.Native.Nat.{ℕ}
 use Rattle.settings.specs.declared.Settings.{Settings}
-use Rattle.order.specs.Claim.{ok, bytes, Outcome, finished, aborted, cut, Seen, began, ended}
+use Rattle.order.specs.Claim.{ok, bytes, Outcome, finished, aborted, cut}
 use Rattle.register.specs.Runs.{plain}
 use Rattle.bench_print.specs.Printing.{space, newline, readWord, writeWord, okWord, abortWord, cutWord, decimal, hexText, kindWord}
 
@@ -17,9 +17,3 @@ toldEnd s c kind time (finished ok) = endLine c writeWord time okWord
 toldEnd s c kind time (finished (bytes l)) = endLine c readWord time (hexText l)
 toldEnd s c kind time aborted = endLine c (kindWord kind) time abortWord
 toldEnd s c kind time cut = endLine c (kindWord kind) time cutWord
-
--- a line for each end, at coordinator c, and nothing for a beginning
-unfoldable pub told : (s : Settings) → ℕ → ℕ → List (Seen (plain s)) → List ℕ
-told s c kind [] = []
-told s c kind (began time action ∷ l) = told s c kind l
-told s c kind (ended time how ∷ l) = toldEnd s c kind time how ++ told s c kind l

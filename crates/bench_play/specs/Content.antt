@@ -6,8 +6,8 @@ use lib.Dec.{eqb}
 use lib.ListN.{length, replicate}
 use native.Mathlib.Omega.{arith}
 use Rattle.settings.specs.declared.Settings.{Settings}
-use Rattle.little.specs.LittleLaws.{Bytes}
-use Rattle.bench_line.specs.HexLaws.{bytes-are}
+use Rattle.little.specs.Little.{Bytes}
+use Rattle.bench_line.proofs.Laws.HexLaws.{bytes-are}
 use Rattle.bench_line.specs.Lines.{bytesOf}
 
 -- two hex digits for each stripe byte

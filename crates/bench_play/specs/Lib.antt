@@ -1,5 +1,4 @@
 -- Definitions: Content, Play, Turning. Laws: TurnLaws.
 pub mod Content
 pub mod Play
-pub mod TurnLaws
 pub mod Turning

@@ -6,7 +6,7 @@ use lib.ListN.{length}
 use Rattle.register.specs.Runs.{World}
 use Rattle.bench_print.specs.Printing.{written}
 use Rattle.bench_sent.specs.Sent.{itemsOf}
-use Rattle.bench_state.specs.RangeLaws.{Fits}
+use Rattle.bench_state.specs.State.{Fits}
 use Rattle.bench_state.specs.State.{worldOf}
 use Rattle.bench_state.specs.declared.Bench.{Bench}
 use Rattle.bench_play.specs.Play.{Played}

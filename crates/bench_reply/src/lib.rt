@@ -2,8 +2,8 @@
 ghost use mathlib.Core.Path.{_≡_};
 ghost use mathlib.Core.Bool.{true};
 ghost use Prim.Native.Nat.{_+_, _*_, _%_, _<_};
-ghost use Rattle.bench_commit.specs.ActedLaws.{Acted, Plays};
-ghost use Rattle.bench_commit.specs.AnswerLaws.{Seats, Copies};
+ghost use Rattle.bench_commit.specs.Answers.{Acted, Plays};
+ghost use Rattle.bench_commit.specs.Answers.{Seats, Copies};
 ghost use Rattle.bench_play.specs.Play.{carries};
 ghost use Rattle.bench_sent.specs.Sent.{isReply, replyAt, blockAt, itemAt};
 ghost use Rattle.coord_acts.specs.Steps.{Held};

@@ -10,7 +10,7 @@ use Rattle.block.specs.Block.{zeros, put}
 use Rattle.message.specs.Kinds.{writeKind}
 use Rattle.message.specs.declared.Message.{Message}
 use Rattle.message.specs.declared.Reply.{Reply}
-use Rattle.register.specs.Runs.{Item, message, reply, toAll}
+use Rattle.register.specs.Runs.{Item, message, reply, toAll, blockFor}
 use Rattle.settings.specs.Count.{one-if}
 use Rattle.settings.specs.declared.Settings.{Settings}
 
@@ -96,3 +96,8 @@ pub record Coded (n size : ℕ) (msg : Message) (coded : List ℕ) : Type 0 wher
 pub record Sends (k n size : ℕ) (msg : Message) (coded numbers bytes numbers′ bytes′ : List ℕ) : Type 0 where
   pub items : (s : Settings) → s .size ≡ size
       → itemsOf size numbers′ bytes′ (k + n) ≡ itemsOf size numbers bytes k ++ toAll s (record { message = msg; blocks = coded }) n
+
+-- row at has the message to brick j, with its block
+pub record One (at j size : ℕ) (msg : Message) (coded numbers bytes numbers′ bytes′ : List ℕ) : Type 0 where
+  pub items : (s : Settings) → s .size ≡ size
+      → itemsOf size numbers′ bytes′ (at + 1) ≡ itemsOf size numbers bytes at ++ message j msg (blockFor s (record { message = msg; blocks = coded }) j) ∷ []

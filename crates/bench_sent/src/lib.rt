@@ -7,7 +7,7 @@ ghost use Rattle.block.specs.Block.{put};
 ghost use Rattle.register.specs.Runs.{message, reply};
 ghost use Rattle.settings.specs.Count.{one-if};
 ghost use Rattle.bench_sent.specs.Sent.{Added, Coded, Sends, numberAt, isReply, flagsAt, messageAt, replyAt, messageRow, replyRow, numbersWith, bytesWith, noFlags};
-ghost use Rattle.bench_sent.specs.SendLaws.{One};
+ghost use Rattle.bench_sent.specs.Sent.{One};
 use little::wide;
 use message::Message;
 use message::Reply;

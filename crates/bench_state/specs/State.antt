@@ -1,10 +1,10 @@
 -- What the bench keeps between two lines, and the run's world that it stands for (document 01, "The bench").
-use mathlib.Core.Bool.{Bool, cond, _&&_}
+use mathlib.Core.Bool.{Bool, cond, _&&_, true}
 use mathlib.Core.List.{List, [], _∷_}
-use Prim.Native.Nat.{ℕ, _+_, _*_}
+use Prim.Native.Nat.{ℕ, _+_, _*_, _<_, _≤_}
 use lib.Dec.{eqb, leb, ltb}
-use lib.ListN.{getD, set, take, drop}
-use Rattle.settings.specs.Ranges.{inRange}
+use lib.ListN.{getD, set, take, drop, length}
+use Rattle.settings.specs.Ranges.{inRange, SettingsRange}
 use Rattle.settings.specs.Refusal.{refuseUnless, badSetting}
 use Rattle.settings.specs.declared.Settings.{Settings}
 use Rattle.image.specs.Brick
@@ -12,9 +12,10 @@ use Rattle.image.specs.Image.{imageOf, imageSize}
 use Rattle.coord_record.specs.Records.{idleWith}
 use Rattle.coord_record.specs.declared.Coordinator.{Coordinator}
 use Rattle.coord_acts.specs.Steps.{Held}
-use Rattle.register.specs.Runs.{Item, World, idle}
+use Rattle.register.specs.Runs.{Item, World, idle, fresh}
 use Rattle.block.specs.Block.{put}
 use Rattle.bench_state.specs.declared.Bench.{Bench}
+use mathlib.Core.Path.{_≡_}
 
 -- "n at most 4, capacity at most 4, block size at most 8"; "Settings past the bench's limits are refusal 1"
 unfoldable pub benchRange : Settings → Bool
@@ -79,3 +80,23 @@ withUp b brick flag = record { settings = b .settings; up = set (b .up) brick fl
 -- what the coordinators keep, with another's reply blocks and stripe
 unfoldable pub keptWith : ℕ → List ℕ → List ℕ → List ℕ → List ℕ
 keptWith c blocks stripe kept = put (c * 64 + 32) stripe (put (c * 64) blocks kept)
+
+-- the first k bricks have fresh images
+pub record Begun (s : Settings) (images : List ℕ) (k : ℕ) : Type 0 where
+  pub long : length images ≡ 10240
+  pub images-fresh : (b : ℕ) → b < k → take (imageSize s) (drop (b * 2560) images) ≡ imageOf s b (Brick.fresh s)
+
+-- what the bench asks of its settings, as numbers
+pub record Small (s : Settings) : Type 0 where
+  pub bricks : s .n ≤ 4
+  pub blocks-fit : s .n * s .size ≤ 32
+  pub stripe-fits : s .m * s .size ≤ 32
+  pub log-fits : s .capacity ≤ 4
+  pub image-fits : imageSize s ≤ 2560
+
+-- what settings within the limits satisfy
+pub record Fits (s : Settings) : Type 0 where
+  pub in-range : inRange s ≡ true
+  pub range : SettingsRange s
+  pub small : Small s
+  pub size-fits : s .size ≤ 8

@@ -74,3 +74,8 @@ unusedBlock = sealed unusedBody
 -- a list with other bytes placed into it from a place on
 unfoldable pub put : ℕ → List ℕ → List ℕ → List ℕ
 put at bytes l = take at l ++ bytes ++ drop (at + length bytes) l
+
+-- the sum of the bytes
+unfoldable pub total : List ℕ → ℕ
+total [] = 0
+total (b ∷ bs) = b + total bs

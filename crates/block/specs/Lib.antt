@@ -1,10 +1,2 @@
 -- The 512-byte block. Definitions: Block. Figures: those of document 01. Laws: the other modules.
 pub mod Block
-pub mod ChangeLaws
-pub mod CheckLaws
-pub mod Figures
-pub mod LayoutLaws
-pub mod PutLaws
-pub mod RowLaws
-pub mod SameLaws
-pub mod StoreLaws

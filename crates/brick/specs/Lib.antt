@@ -1,6 +1,3 @@
 -- One message at one brick. Definitions: Steps (on the abstract brick), Receive (with the image and the refusals). Laws: the modules named Laws.
-pub mod BrickLaws
 pub mod Numbers
-pub mod OutcomeLaws
 pub mod Receive
-pub mod TrimLaws

@@ -1,7 +1,7 @@
 -- One message at one brick: the answer, the image and the reply's buffer afterwards, refused calls included.
 use mathlib.Core.Bool.{cond}
 use mathlib.Core.List.{List, [], _∷_}
-use Prim.Native.Nat.{ℕ}
+use Prim.Native.Nat.{ℕ, _≤_, _<_}
 use lib.Dec.{eqb}
 use lib.ListN.{length}
 use Rattle.settings.specs.Ranges.{settingsRefusal}
@@ -10,7 +10,7 @@ use Rattle.settings.specs.declared.Settings.{Settings}
 use Rattle.message.specs.Kinds.{trimKind}
 use Rattle.message.specs.Messages.{messageRefusal}
 use Rattle.message.specs.declared.Message.{Message}
-use Rattle.image.specs.Brick.{Brick}
+use Rattle.image.specs.Brick.{Brick, count, timeAt}
 use Rattle.image.specs.Image.{imageOf}
 use Rattle.image.specs.Parse.{Parsed, Opens, Refuses, parse, openRefusal}
 use Rattle.brick_plan.specs.Steps.{placeFor, replyTo, after, blockAfter}
@@ -59,3 +59,9 @@ outcome s brick bytes msg block out =
     cond (eqb (receiveRefusal s brick bytes msg (length block) (length out)) passed)
     (acted s brick msg block bytes out (parse s brick bytes))
     (refusedWith (receiveRefusal s brick bytes msg (length block) (length out)) bytes out)
+
+-- The lookup under max gives the highest entry below it: entry i, if it gives i + 1.
+pub record Highest (x : Brick) (max i : ℕ) : Type 0 where
+  pub there : i < count x
+  pub below : timeAt x i < max
+  pub highest : (j : ℕ) → j < count x → timeAt x j < max → timeAt x j ≤ timeAt x i

@@ -6,7 +6,7 @@ ghost use Rattle.image.specs.Image.{imageOf};
 ghost use Rattle.image.specs.Parse.{brickIn};
 ghost use Rattle.brick_plan.specs.Steps.{placeFor, after, blockAfter};
 ghost use Rattle.brick.specs.Receive.{blocksRefusal, givenBy, outcome};
-ghost use Rattle.brick_plan.specs.LookLaws.{Ready, Ahead};
+ghost use Rattle.brick_plan.specs.Plans.{Ready, Ahead};
 use brick_change::change;
 use brick_change::give;
 use brick_change::trim;

@@ -7,7 +7,7 @@ ghost use Rattle.image.specs.Image.{imageOf};
 ghost use Rattle.image.specs.Parse.{brickIn};
 ghost use Rattle.saving.specs.Saving.{without};
 ghost use Rattle.brick_plan.specs.Steps.{orderYes, ordered, writeYes, written, yesTo, after};
-ghost use Rattle.brick_plan.specs.LookLaws.{Ready, gaveOf};
+ghost use Rattle.brick_plan.specs.Plans.{Ready, gaveOf};
 use block::store;
 use brick_plan::Known;
 use brick_plan::order_yes;

@@ -88,8 +88,3 @@ stripeAfter h (went w) = w .next .stripe
 unfoldable pub codedAfter : List ℕ → Step → List ℕ
 codedAfter old (refused number) = old
 codedAfter old (went w) = sentBlocks (w .sent) old
-
--- a coordinator with its buffers after a step
-unfoldable pub after : Held → Step → Held
-after h (refused number) = h
-after h (went w) = w .next

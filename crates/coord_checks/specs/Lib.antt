@@ -1,3 +1,2 @@
 -- Definitions: Checks. Laws: CheckLaws.
-pub mod CheckLaws
 pub mod Checks

@@ -4,7 +4,7 @@ ghost use mathlib.Core.Bool.{true};
 ghost use mathlib.Core.List.{[]};
 ghost use Prim.Native.Nat.{_*_, _≤_, _<_};
 ghost use Rattle.coord_checks.specs.Checks.{recordChecks, startChecks, writeRefusal, readRefusal, lengthsRight, strayChecks, takeRefusal, crashRefusal};
-ghost use Rattle.settings.specs.RangeLaws.{CodeRange};
+ghost use Rattle.settings.specs.Ranges.{CodeRange};
 ghost use Rattle.settings.specs.Refusal.{firstRefusal};
 use coord_record::Coordinator;
 use coord_record::IDLE;

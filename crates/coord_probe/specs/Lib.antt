@@ -1,3 +1,2 @@
 -- Definitions: Numbers. Laws: NumberLaws.
-pub mod NumberLaws
 pub mod Numbers

@@ -4,7 +4,7 @@ use mathlib.Core.List.{List, [], _∷_, _++_}
 use Prim.Native.Nat.{ℕ, _+_}
 use lib.Dec.{eqb}
 use lib.ListN.{length, getD, take, drop}
-use Rattle.coord_acts.specs.ActLaws.{heldOf}
+use Rattle.coord_acts.specs.Acts.{heldOf}
 use Rattle.coord_acts.specs.Steps.{Held, Step, answerOf}
 use Rattle.coord_acts.specs.declared.Answer.{Answer}
 use Rattle.coord_record.specs.declared.Coordinator.{Coordinator}

@@ -1,4 +1,3 @@
 -- Definitions: Deciding. Laws: the others.
 pub mod Deciding
 pub mod Decisions
-pub mod DecidingLaws

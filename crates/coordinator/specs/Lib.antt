@@ -1,3 +1,2 @@
 -- Definitions: Rules. Laws and theorems: the others.
 pub mod Rules
-pub mod StepLaws

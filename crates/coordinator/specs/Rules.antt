@@ -1,12 +1,12 @@
 -- Document 01, "What a coordinator does": one step of each routine.
-use mathlib.Core.Bool.{cond}
+use mathlib.Core.Bool.{cond, true}
 use mathlib.Core.List.{List, []}
-use Prim.Native.Nat.{ℕ}
+use Prim.Native.Nat.{ℕ, _+_, _*_, _≤_}
 use lib.Dec.{eqb}
 use lib.ListN.{length}
-use Rattle.coord_acts.specs.Acts.{counting, waitingOr, ending, firstOp, starting}
-use Rattle.coord_acts.specs.Steps.{Held, Went, Step, refused, went, checked, nothingSeen, cutSeen}
-use Rattle.coord_record.specs.Records.{idleKind, readingKind, writingKind, noBricks}
+use Rattle.coord_acts.specs.Acts.{counting, waitingOr, ending, firstOp, starting, roundMessage, placed}
+use Rattle.coord_acts.specs.Steps.{Held, Went, Step, refused, went, checked, nothingSeen, cutSeen, noMessage, beganSeen}
+use Rattle.coord_record.specs.Records.{idleKind, readingKind, writingKind, noBricks, nothingCounted}
 use Rattle.coord_counts.specs.Counting.{targetFlags}
 use Rattle.coord_checks.specs.Checks.{writeRefusal, readRefusal, takeRefusal, crashRefusal}
 use Rattle.message.specs.Kinds.{readKind, orderKind}
@@ -15,6 +15,10 @@ use Rattle.settings.specs.Times.{drawOf}
 use Rattle.settings.specs.declared.Clock.{Clock}
 use Rattle.settings.specs.declared.Draw.{Draw}
 use Rattle.settings.specs.declared.Draw.the-variants.{Drawn, Refused}
+use mathlib.Core.Path.{_≡_}
+use Rattle.coord_acts.specs.declared.Answer.{Answer}
+use Rattle.coord_record.specs.declared.Coordinator.{Coordinator}
+use Rattle.coord_record.specs.declared.Op.{Op}
 
 -- a reply reaches the coordinator
 unfoldable pub takeStep : ℕ → ℕ → ℕ → Held → Reply → List ℕ → ℕ → Step
@@ -48,3 +52,27 @@ readStep n m size h reading first =
     checked (readRefusal n m size (h .state) reading first)
     (drawnThen (drawOf (h .state .clock) reading)
     (λ (time : ℕ) (clock : Clock). starting h clock (firstOp readingKind readKind time first) (h .stripe) (targetFlags n m first)))
+
+-- nothing sent and nothing seen
+unfoldable pub keptAnswer : Coordinator → Answer
+keptAnswer c = record { refusal = 0; next = c; sent = 0; message = noMessage; seen = nothingSeen }
+
+-- an operation begins
+unfoldable pub startAnswer : Clock → Op → List ℕ → Answer
+startAnswer clock op targets =
+    record {
+      refusal = 0;
+      next = record { clock = clock; op = op; tally = nothingCounted; bricks = noBricks };
+      sent = 1;
+      message = roundMessage op targets;
+      seen = record { what = beganSeen; kind = op .kind; time = op .time; bricks = noBricks };
+    }
+
+-- the reply blocks with a reply's own
+unfoldable pub keptBlocks : ℕ → Reply → List ℕ → List ℕ → List ℕ
+keptBlocks size r block blocks = cond (r .held) (placed size (r .brick) block blocks) blocks
+
+-- the same, as the code that keeps it asks
+pub record Keeps (size : ℕ) (r : Reply) (block blocks : ℕ) : Type 0 where
+  pub block-length : r .held ≡ true → block ≡ size
+  pub within : r .brick * size + size ≤ blocks

@@ -1,9 +1,12 @@
 -- Document 01, "Settings and the code": "For each byte position, the m data bytes are the values, at points 0 to m−1, of exactly one
 -- polynomial of degree below m. Coded block j holds its value at point j. Decoding from m different bricks gives the data back."
 use mathlib.Core.List.{List}
-use Prim.Native.Nat.{ℕ}
-use Rattle.interpolate.specs.Tabulate.{tabulate}
+use Prim.Native.Nat.{ℕ, _*_, _≤_, _<_}
+use Rattle.interpolate.specs.Tabulate.{tabulate, stacked}
 use Rattle.interpolate.specs.Values.{blocksAt}
+use mathlib.Core.Path.{_≡_}
+use lib.ListN.{length, getD, take, drop}
+use Rattle.interpolate.specs.Rows.{PointSet}
 
 -- points 0 to m − 1
 unfoldable pub firstPoints : ℕ → List ℕ
@@ -16,3 +19,25 @@ codedOf n m size stripe = blocksAt (firstPoints m) size stripe n
 -- the m data blocks from m bricks' blocks, in the bricks' order: the values at points 0 to m − 1 of the polynomials through them
 unfoldable pub decodedOf : ℕ → ℕ → List ℕ → List ℕ → List ℕ
 decodedOf m size bricks blocks = blocksAt bricks size blocks m
+
+-- block j of a row of blocks
+unfoldable pub blockOf : ℕ → List ℕ → ℕ → List ℕ
+blockOf size blocks j = take size (drop (j * size) blocks)
+
+-- the blocks of the given bricks, in their order: what is handed to decoding
+unfoldable pub blocksOf : ℕ → List ℕ → List ℕ → List ℕ
+blocksOf size coded bricks = stacked (length bricks) (λ (i : ℕ). blockOf size coded (getD bricks i 0))
+
+-- a stripe of m blocks of bytes
+pub record Stripe (m size : ℕ) (stripe : List ℕ) : Type 0 where
+  pub pos : 0 < size
+  pub length-is : length stripe ≡ m * size
+  pub small : (i : ℕ) → getD stripe i 0 < 256
+
+-- m different bricks of n
+pub record Bricks (n m : ℕ) (bricks : List ℕ) : Type 0 where
+  pub some : 0 < n
+  pub few : n ≤ 16
+  pub count : length bricks ≡ m
+  pub set : PointSet bricks
+  pub below : (i : ℕ) → i < m → getD bricks i 0 < n

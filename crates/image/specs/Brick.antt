@@ -1,13 +1,14 @@
 -- Document 01, "What a brick does": the abstract brick.
-use mathlib.Core.Bool.{Bool, _&&_, _||_}
+use mathlib.Core.Bool.{Bool, _&&_, _||_, true}
 use mathlib.Core.List.{List, [], _∷_}
-use Prim.Native.Nat.{ℕ, _-_}
+use Prim.Native.Nat.{ℕ, _-_, _≤_, _<_}
 use lib.Dec.{leb, ltb, eqb}
 use lib.ListN.{length, getD}
 use Rattle.settings.specs.Times.{validTime}
 use Rattle.settings.specs.declared.Settings.{Settings}
 use Rattle.block.specs.Block.{zeros}
 use Rattle.settings.specs.Each.{each}
+use mathlib.Core.Path.{_≡_}
 
 -- "entries (time, block)"
 pub record LogEntry : Type 0 where
@@ -60,3 +61,14 @@ countSound s n = leb 1 n && leb n (s .capacity)
 -- a brick's promise and log keep to these rules
 unfoldable pub sound : Settings → Brick → Bool
 sound s x = countSound s (count x) && savedTime (x .promise) && each (entrySound s x) (count x)
+
+pub record EntrySound (s : Settings) (x : Brick) (i : ℕ) : Type 0 where
+  pub saved : savedTime (timeAt x i) ≡ true
+  pub rises : risesAt x i ≡ true
+  pub sized : length (heldAt x i) ≡ s .size
+
+pub record Sound (s : Settings) (x : Brick) : Type 0 where
+  pub count-low : 1 ≤ count x
+  pub count-high : count x ≤ s .capacity
+  pub promise-saved : savedTime (x .promise) ≡ true
+  pub entries : (i : ℕ) → i < count x → EntrySound s x i

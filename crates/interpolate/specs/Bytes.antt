@@ -3,12 +3,12 @@ use mathlib.Core.Path.{_≡_}
 use mathlib.Core.HLevel.{Σ-prop-path}
 use Prim.Native.Nat.{ℕ, _<_, _%_}
 use native.Mathlib.Omega.{arith}
-use native.Mathlib.Nat.{mod-lt, mod-eq-of-lt}
+use native.Mathlib.Nat.{mod-lt}
 use lib.Dec.{T, T-prop, ltb, ltb→lt, lt→ltb}
 use Rattle.gf256.specs.Product.{plus, product, inverse}
-use Rattle.gf256.specs.XorLaws.{plus-assoc, plus-comm, plus-zero, plus-self, plus-byte}
-use Rattle.gf256.specs.ProductLaws.{product-byte, product-one, product-plus-right}
-use Rattle.gf256.specs.FieldLaws.{product-assoc, product-comm, inverse-byte, product-inverse}
+use Rattle.gf256.proofs.Laws.XorLaws.{plus-assoc, plus-comm, plus-zero, plus-self, plus-byte}
+use Rattle.gf256.proofs.Laws.ProductLaws.{product-byte, product-one, product-plus-right}
+use Rattle.gf256.proofs.Laws.FieldLaws.{product-assoc, product-comm, inverse-byte, product-inverse}
 use Rattle.poly.specs.Field.{Field}
 
 -- a number below 256
@@ -24,9 +24,6 @@ same e = Σ-prop-path (λ n. T-prop (ltb n 256)) e
 
 pub below : (a : Byte) → a .0 < 256
 below a = ltb→lt (a .0) 256 (a .1)
-
-pub byte-small : (n : ℕ) → n < 256 → byte n .0 ≡ n
-byte-small n h = mod-eq-of-lt h
 
 abbrev plusB : Byte → Byte → Byte
 plusB a b = (plus (a .0) (b .0), lt→ltb (plus (a .0) (b .0)) 256 (plus-byte (a .0) (b .0) (below a) (below b)))

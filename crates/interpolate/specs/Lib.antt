@@ -1,12 +1,6 @@
 -- Definitions: Bytes (the field), Tabulate (lists by a rule), Values (what is computed), Rows (the inner functions). Theorem: Polynomials. Laws: the others.
-pub mod BitLaws
-pub mod BlockLaws
 pub mod Bytes
-pub mod PlaceLaws
 pub mod Polynomials
-pub mod RowLaws
 pub mod Rows
-pub mod SumLaws
 pub mod Tabulate
 pub mod Values
-pub mod WeightLaws

@@ -5,7 +5,7 @@ ghost use Prim.Native.Nat.{ℕ, _+_, _-_, _*_, _<_, _≤_};
 ghost use lib.ListN.{length, getD};
 ghost use Rattle.gf256.specs.Product.{product, power, twice};
 ghost use Rattle.gf256.specs.Tables.{IsPowers};
-ghost use Rattle.interpolate.specs.RowLaws.{PointSet, Ready, Denominators, weight};
+ghost use Rattle.interpolate.specs.Rows.{PointSet, Ready, Denominators, weight};
 ghost use Rattle.interpolate.specs.Rows.{firstPlace, scaled, numerator, denominator};
 ghost use Rattle.interpolate.specs.Tabulate.{tabulate};
 ghost use Rattle.interpolate.specs.Values.{blockAt, blocksAt};

@@ -1,3 +1,2 @@
 -- Little-endian numbers. Definitions: Little. Laws: LittleLaws.
 pub mod Little
-pub mod LittleLaws

@@ -1,6 +1,6 @@
 -- Document 01, "The saved brick": "numbers little-endian".
 use mathlib.Core.List.{List, [], _∷_}
-use Prim.Native.Nat.{ℕ, zero, suc, _+_, _*_, _/_, _%_}
+use Prim.Native.Nat.{ℕ, zero, suc, _+_, _*_, _/_, _%_, _<_}
 
 -- the lowest byte of a number
 unfoldable pub byteOf : ℕ → ℕ
@@ -15,3 +15,13 @@ little (suc k) n = byteOf n ∷ little k (n / 256)
 unfoldable pub number : List ℕ → ℕ
 number [] = 0
 number (b ∷ bs) = b + 256 * number bs
+
+-- every element of a list is a byte
+unfoldable pub Bytes : List ℕ → Type 0
+Bytes [] = Unit {0}
+Bytes (b ∷ bs) = (b < 256) × Bytes bs
+
+-- the powers of 256, as the numbers' bounds
+unfoldable pub limit : ℕ → ℕ
+limit zero = 1
+limit (suc k) = 256 * limit k

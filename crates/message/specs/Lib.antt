@@ -1,6 +1,4 @@
 -- Definitions: Kinds, Flags (sets of bricks), Messages. Laws: FlagLaws, MessageLaws.
-pub mod FlagLaws
 pub mod Flags
 pub mod Kinds
-pub mod MessageLaws
 pub mod Messages

@@ -91,3 +91,8 @@ pub record OneOrder (P : Plain) (l : List (Seen P)) : Type 0 where
   -- "what ended, by answer, abort or crash, before another began stands ahead of it or nowhere"
   pub ahead : (x y : Op P) (r : Outcome P) (k : P .Kind) → x ∈ order → y ∈ order
       → Before (Seen.ended (x .time) r) (Seen.began (y .time) k) l → Before x y order
+
+-- the plain stripe after these operations
+unfoldable pub fed : {P : Plain} → P .Stripe → List (Op P) → P .Stripe
+fed s [] = s
+fed {P} s (o ∷ os) = fed (P .effect (o .kind) s) os

@@ -1,9 +1,3 @@
 -- Field and Polynomial say what is meant, Laws what is proved of it. The others are lemmas on the way there.
 pub mod Field
 pub mod Polynomial
-pub mod Laws
-pub mod RingLaws
-pub mod SumLaws
-pub mod CoefficientLaws
-pub mod RootLaws
-pub mod BasisLaws

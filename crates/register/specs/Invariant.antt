@@ -2,27 +2,24 @@
 use mathlib.Core.Path.{_≡_}
 use mathlib.Core.Logic.{_⊎_}
 use mathlib.Core.Bool.{true}
-use mathlib.Core.List.{List}
+use mathlib.Core.List.{List, _++_}
 use Prim.Native.Nat.{ℕ, _%_, _≤_, _<_}
 use lib.ListN.{getD}
-use Rattle.settings.specs.Ranges.{quorum}
-use Rattle.settings.specs.RangeLaws.{SettingsRange}
-use Rattle.settings.specs.QuorumLaws.{quorum-twice}
+use Rattle.settings.specs.Ranges.{quorum, SettingsRange}
+use Rattle.settings.proofs.Laws.QuorumLaws.{quorum-twice}
 use Rattle.settings.specs.Times.{timeOf}
 use Rattle.settings.specs.declared.Settings.{Settings}
 use Rattle.message.specs.Flags.{member}
 use Rattle.message.specs.Kinds.{readKind, orderKind, orderReadKind, writeKind, trimKind}
 use Rattle.message.specs.declared.Message.{Message}
 use Rattle.message.specs.declared.Reply.{Reply}
-use Rattle.image.specs.Brick.{Brick, LogEntry}
+use Rattle.image.specs.Brick.{Brick, LogEntry, Sound}
 use Rattle.image.specs.Image.{imageOf}
-use Rattle.image.specs.SoundLaws.{Sound}
-use Rattle.erasure.specs.Code.{codedOf}
-use Rattle.erasure.specs.Theorems.{blockOf, Stripe}
+use Rattle.erasure.specs.Code.{codedOf, blockOf, Stripe}
 use Rattle.coord_record.specs.Records.{idleKind, readingKind, writingKind}
 use Rattle.coord_record.specs.Rules.{isTarget, blockRight}
 use Rattle.coord_acts.specs.Steps.{Held}
-use Rattle.coord_laws.specs.TallyLaws.{Sized}
+use Rattle.coord_laws.specs.Soundness.{Sized}
 use Rattle.order.specs.Claim.{Plain, read, write, _∈_}
 use Rattle.order.specs.Facts.{began, promised, stored, showed, History, seen}
 use Rattle.order.specs.Places.{In}
@@ -159,3 +156,11 @@ pub record Inv (s : Settings) (g : SettingsRange s) (h : Hist s) (r : Moved s) :
   pub bricks : (b : ℕ) → b < s .n → ImageInv s g h b (r .world .images b)
   pub items : (i : Item) → i ∈ r .world .sent → ItemInv s g h (r .world .sent) i
   pub coordinators : (c : ℕ) → CoordinatorInv s g h (r .world .sent) c (r .world .coordinators c)
+
+-- what came before, and what one event leaves and shows
+abbrev pub joined : (s : Settings) → Moved s → Moved s → Moved s
+joined s r m = record { world = m .world; seen = r .seen ++ m .seen }
+
+-- what holds goes on to hold after an event
+abbrev pub Goes : (s : Settings) (g : SettingsRange s) → Moved s → Moved s → Type 0
+Goes s g r m = (h : Hist s) × Inv s g h (joined s r m)

@@ -2,34 +2,10 @@
 
 -- What a reader believes: the set and its runs; the theorem; what it means for a dealer.
 pub mod Runs
-pub mod Theorem
-pub mod Corollaries
 -- The runs are the code's; nothing that is kept is ever refused; all definitions opened, for runs that are computed.
 pub mod Driver
 pub mod NeverRefused
-pub mod Numbered
-pub mod Opened
 -- The invariant, and what goes on to hold under more facts and more items.
 pub mod Invariant
-pub mod UpLaws
--- One message at one brick.
-pub mod LogLaws
-pub mod BrickLaws
-pub mod ReceiveLaws
-pub mod BrickEvent
--- One event at one coordinator: starts, crashes, replies counted, what the q-th decides.
-pub mod TurnLaws
-pub mod StartEvent
-pub mod RoundLaws
-pub mod CrashEvent
-pub mod CountLaws
-pub mod DecodeLaws
-pub mod DecideLaws
-pub mod RecoverLaws
-pub mod GiveLaws
-pub mod DecisionLaws
-pub mod ReplyEvent
--- The fresh set.
-pub mod FreshLaws
 -- What one order means for reads and writes.
 pub mod OrderUse

@@ -2,10 +2,6 @@
 pub mod Count
 pub mod Draws
 pub mod Each
-pub mod QuorumLaws
-pub mod RangeLaws
 pub mod Ranges
 pub mod Refusal
-pub mod RefusalLaws
-pub mod TimeLaws
 pub mod Times

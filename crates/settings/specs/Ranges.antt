@@ -1,6 +1,6 @@
 -- Document 01, "Settings and the code": the settings' ranges and the quorum.
 use mathlib.Core.Bool.{Bool, _&&_}
-use Prim.Native.Nat.{ℕ, _-_, _/_}
+use Prim.Native.Nat.{ℕ, _-_, _/_, _≤_}
 use lib.Dec.{leb}
 use Rattle.settings.specs.Refusal.{refuseUnless, badSetting}
 use Rattle.settings.specs.declared.Settings.{Settings}
@@ -36,3 +36,18 @@ faults n m = (n - m) / 2
 -- "The quorum is q = n − f"
 unfoldable pub quorum : ℕ → ℕ → ℕ
 quorum n m = n - faults n m
+
+-- n, m and the block size in range
+pub record CodeRange (n m size : ℕ) : Type 0 where
+  pub n-low : 1 ≤ n
+  pub n-high : n ≤ 16
+  pub m-low : 1 ≤ m
+  pub m-high : m ≤ n
+  pub size-low : 1 ≤ size
+  pub size-high : size ≤ 256
+
+-- all four in range
+pub record SettingsRange (s : Settings) : Type 0 where
+  pub code : CodeRange (s .n) (s .m) (s .size)
+  pub capacity-low : 2 ≤ s .capacity
+  pub capacity-high : s .capacity ≤ 32

@@ -1,11 +1,12 @@
 -- Document 01, "Times".
 use mathlib.Core.Bool.{Bool, cond, _&&_}
-use Prim.Native.Nat.{ℕ, _+_, _-_, _*_, _^_, max}
+use Prim.Native.Nat.{ℕ, _+_, _-_, _*_, _^_, max, _≤_, _<_}
 use lib.Dec.{leb, ltb}
 use Rattle.settings.specs.Refusal.{passed, badNumber, badRecord, badReading, clockSpent}
 use Rattle.settings.specs.declared.Clock.{Clock}
 use Rattle.settings.specs.declared.Draw.{Draw}
 use Rattle.settings.specs.declared.Draw.the-variants.{Drawn, Refused}
+use mathlib.Core.Path.{_≡_}
 
 -- "count 1 to 2^40−1"
 unfoldable pub maxCount : ℕ
@@ -51,3 +52,16 @@ drawOf c reading =
 unfoldable pub numberOf : Draw → ℕ
 numberOf (Drawn t next) = passed
 numberOf (Refused number) = number
+
+-- what a clock and a reading that are not refused satisfy
+pub record Draws (c : Clock) (reading : ℕ) : Type 0 where
+  pub coordinator-high : c .coordinator ≤ 15
+  pub last-high : c .last < 2 ^ 40 - 1
+  pub reading-high : reading ≤ 2 ^ 40 - 1
+
+-- What a draw gave: the time of the count, and a clock of the same coordinator whose last count is that count, above the old one.
+pub record Gave (c : Clock) (reading t : ℕ) (next : Clock) : Type 0 where
+  pub drew : Draws c reading
+  pub time : t ≡ timeOf (next .last) (c .coordinator)
+  pub same : next .coordinator ≡ c .coordinator
+  pub count : next .last ≡ nextCount (c .last) reading

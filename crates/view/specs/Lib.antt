@@ -1,4 +1,3 @@
 -- The view of a saved brick. Definitions: View. Laws: ViewLaws.
 pub mod Numbers
 pub mod View
-pub mod ViewLaws

@@ -1,7 +1,7 @@
 use mathlib.Core.Path.{ap, _∙_}
 use Prim.Native.Nat.{ℕ, _+_, _*_}
 use lib.ListN.{take, drop}
-use Rattle.bench_commit.specs.ActedLaws.{acted-crash}
+use Rattle.bench_commit.proofs.Laws.ActedLaws.{acted-crash}
 use borrow.Author.Needs.{needs}
 use Rattle.bench_acts.proofs.crash_with.Statement.{statement}
 use Rattle.bench_acts.proofs.crash_with.Tie as tie

@@ -1,5 +1,5 @@
 use borrow.Author.Needs.{needs}
-use Rattle.bench_acts.specs.ShortLaws.{short-zero, short-other}
+use Rattle.bench_acts.proofs.Laws.ShortLaws.{short-zero, short-other}
 use Rattle.bench_acts.proofs.is_short.Statement.{statement}
 use Rattle.bench_acts.proofs.is_short.Tie as tie
 

@@ -1,4 +1,4 @@
-use Rattle.bench_acts.specs.ShortLaws.{digits-wrong, digits-right}
+use Rattle.bench_acts.proofs.Laws.ShortLaws.{digits-wrong, digits-right}
 use borrow.Author.Needs.{needs}
 use Rattle.bench_acts.proofs.read_content.Statement.{statement}
 use Rattle.bench_acts.proofs.read_content.Tie as tie

@@ -1,8 +1,8 @@
 use mathlib.Core.Path.{sym, ap, subst, _∙_}
 use Prim.Native.Nat.{ℕ, _+_, _*_, _≤_}
 use lib.ListN.{take, drop}
-use Rattle.bench_commit.specs.ActedLaws.{short-write, whole-write}
-use Rattle.bench_acts.specs.ShortLaws.{content-long, count-is, content-is}
+use Rattle.bench_commit.proofs.Laws.ActedLaws.{short-write, whole-write}
+use Rattle.bench_acts.proofs.Laws.ShortLaws.{content-long, count-is, content-is}
 use borrow.Author.Needs.{needs}
 use Rattle.bench_acts.proofs.write_with.Statement.{statement}
 use Rattle.bench_acts.proofs.write_with.Tie as tie

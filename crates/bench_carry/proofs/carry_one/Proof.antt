@@ -1,8 +1,8 @@
 use mathlib.Core.Path.{refl, sym, _∙_}
 use native.Mathlib.Omega.{arith}
-use Rattle.bench_deliver.specs.Deliver.{ready-lends}
+use Rattle.bench_deliver.proofs.Laws.Deliver.{ready-lends}
 use Rattle.bench_play.specs.Turning.{lent}
-use Rattle.bench_carry.specs.CarryLaws.{carried-zero, carried-past, carried-item, ready-seats}
+use Rattle.bench_carry.proofs.Laws.CarryLaws.{carried-zero, carried-past, carried-item, ready-seats}
 use borrow.Author.Needs.{needs}
 use Rattle.bench_carry.proofs.carry_one.Statement.{statement}
 use Rattle.bench_carry.proofs.carry_one.Tie as tie

@@ -1,5 +1,5 @@
 use native.Mathlib.Omega.{arith}
-use Rattle.bench_carry.specs.CarryLaws.{turned-lined, switch-past, switch-flag}
+use Rattle.bench_carry.proofs.Laws.CarryLaws.{turned-lined, switch-past, switch-flag}
 use borrow.Author.Needs.{needs}
 use Rattle.bench_carry.proofs.switch_at.Statement.{statement}
 use Rattle.bench_carry.proofs.switch_at.Tie as tie

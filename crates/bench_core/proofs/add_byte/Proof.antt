@@ -1,5 +1,5 @@
 use native.Mathlib.Omega.{arith}
-use Rattle.bench_core.specs.HeldLaws.{held-full, held-more}
+use Rattle.bench_core.proofs.Laws.HeldLaws.{held-full, held-more}
 use borrow.Author.Needs.{needs}
 use Rattle.bench_core.proofs.add_byte.Statement.{statement}
 use Rattle.bench_core.proofs.add_byte.Tie as tie

@@ -1,8 +1,8 @@
 use native.Mathlib.Omega.{arith}
-use Rattle.bench_line.specs.CallerLaws.{said-set, said-write, said-read, said-carry, said-crash, said-down, said-up, said-nothing}
+use Rattle.bench_line.proofs.Laws.CallerLaws.{said-set, said-write, said-read, said-carry, said-crash, said-down, said-up, said-nothing}
 use Rattle.bench_line.specs.Lines.{reads}
-use Rattle.bench_state.specs.RangeLaws.{bench-passed}
-use Rattle.bench_core.specs.TurnLaws.{first-bad, first-set, first-write, first-read, first-carry, first-crash, first-down, first-up, first-nothing}
+use Rattle.bench_state.proofs.Laws.RangeLaws.{bench-passed}
+use Rattle.bench_core.proofs.Laws.TurnLaws.{first-bad, first-set, first-write, first-read, first-carry, first-crash, first-down, first-up, first-nothing}
 use borrow.Author.Needs.{needs}
 use Rattle.bench_core.proofs.play_first.Statement.{statement}
 use Rattle.bench_core.proofs.play_first.Tie as tie

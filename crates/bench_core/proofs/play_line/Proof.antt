@@ -1,6 +1,6 @@
 use lib.ListN.{length}
 use Rattle.bench_play.specs.Turning.{lent}
-use Rattle.bench_core.specs.RefusalLaws.{called-refused, called-first, called-next, accepted, accepted-ready}
+use Rattle.bench_core.proofs.Laws.RefusalLaws.{called-refused, called-first, called-next, accepted, accepted-ready}
 use borrow.Author.Needs.{needs}
 use Rattle.bench_core.proofs.play_line.Statement.{statement}
 use Rattle.bench_core.proofs.play_line.Tie as tie

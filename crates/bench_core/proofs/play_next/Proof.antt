@@ -1,9 +1,9 @@
 use native.Mathlib.Omega.{arith}
-use Rattle.bench_line.specs.CallerLaws.{said-set, said-write, said-read, said-carry, said-crash, said-down, said-up, said-nothing, hex-place, number-place}
+use Rattle.bench_line.proofs.Laws.CallerLaws.{said-set, said-write, said-read, said-carry, said-crash, said-down, said-up, said-nothing, hex-place, number-place}
 use Rattle.bench_line.specs.Lines.{reads}
 use Rattle.bench_play.specs.Turning.{lent}
-use Rattle.bench_carry.specs.CarryLaws.{ready-seats}
-use Rattle.bench_core.specs.TurnLaws.{line-set, line-write, line-read, line-carry, line-crash, line-down, line-up, line-nothing}
+use Rattle.bench_carry.proofs.Laws.CarryLaws.{ready-seats}
+use Rattle.bench_core.proofs.Laws.TurnLaws.{line-set, line-write, line-read, line-carry, line-crash, line-down, line-up, line-nothing}
 use borrow.Author.Needs.{needs}
 use Rattle.bench_core.proofs.play_next.Statement.{statement}
 use Rattle.bench_core.proofs.play_next.Tie as tie

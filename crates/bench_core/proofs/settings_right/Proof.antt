@@ -1,4 +1,4 @@
-use Rattle.bench_core.specs.RefusalLaws.{right-none, right-some}
+use Rattle.bench_core.proofs.Laws.RefusalLaws.{right-none, right-some}
 use borrow.Author.Needs.{needs}
 use Rattle.bench_core.proofs.settings_right.Statement.{statement}
 use Rattle.bench_core.proofs.settings_right.Tie as tie

@@ -2,8 +2,8 @@ use native.Mathlib.Omega.{arith}
 use Prim.Native.Nat.{_<_}
 use lib.ListN.{length}
 use mathlib.Core.Path.{_≡_, sym, _∙_}
-use Rattle.bench_sent.specs.SendLaws.{eight-cut, eight-long}
-use Rattle.bench_deliver.specs.DeliverLaws.{carried-nowhere, carried-lost, carried-past, item-here, flag-up, flag-down}
+use Rattle.bench_sent.proofs.Laws.SendLaws.{eight-cut, eight-long}
+use Rattle.bench_deliver.proofs.Laws.DeliverLaws.{carried-nowhere, carried-lost, carried-past, item-here, flag-up, flag-down}
 use borrow.Author.Needs.{needs}
 use Rattle.bench_deliver.proofs.carry_message.Statement.{statement}
 use Rattle.bench_deliver.proofs.carry_message.Tie as tie

@@ -1,6 +1,6 @@
 use lib.ListN.{length, length-replicate}
 use mathlib.Core.Path.{ap, _∙_}
-use Rattle.bench_deliver.specs.DeliverLaws.{deliver-room, deliver-settled}
+use Rattle.bench_deliver.proofs.Laws.DeliverLaws.{deliver-room, deliver-settled}
 use borrow.Author.Needs.{needs}
 use Rattle.bench_deliver.proofs.deliver_with.Statement.{statement}
 use Rattle.bench_deliver.proofs.deliver_with.Tie as tie

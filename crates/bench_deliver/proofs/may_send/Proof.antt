@@ -1,4 +1,4 @@
-use Rattle.bench_deliver.specs.AnswerLaws.{may-trim, may-other}
+use Rattle.bench_deliver.proofs.Laws.AnswerLaws.{may-trim, may-other}
 use Rattle.bench_deliver.proofs.may_send.Statement.{statement}
 use Rattle.bench_deliver.proofs.may_send.Tie as tie
 

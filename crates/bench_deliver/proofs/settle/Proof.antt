@@ -1,5 +1,5 @@
 use native.Mathlib.Omega.{arith}
-use Rattle.bench_deliver.specs.AnswerLaws.{room-answered, room-any, settled-answered, settled-silent, settled-refused}
+use Rattle.bench_deliver.proofs.Laws.AnswerLaws.{room-answered, room-any, settled-answered, settled-silent, settled-refused}
 use borrow.Author.Needs.{needs}
 use Rattle.bench_deliver.proofs.settle.Statement.{statement}
 use Rattle.bench_deliver.proofs.settle.Tie as tie

@@ -1,5 +1,5 @@
 use borrow.Author.Needs.{needs}
-use Rattle.bench_line.specs.NumberLaws.{alone-not, alone-more, alone-is}
+use Rattle.bench_line.proofs.Laws.NumberLaws.{alone-not, alone-more, alone-is}
 use Rattle.bench_line.proofs.alone.Statement.{statement}
 use Rattle.bench_line.proofs.alone.Tie as tie
 

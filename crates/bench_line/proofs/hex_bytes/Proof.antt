@@ -2,7 +2,7 @@ use borrow.Author.Needs.{needs}
 use native.Mathlib.Omega.{arith}
 use lib.ListN.{length}
 use Prim.Native.Nat.{_-_}
-use Rattle.bench_line.specs.HexLaws.{HexDone, hex-none, hex-more, hex-all}
+use Rattle.bench_line.proofs.Laws.HexLaws.{HexDone, hex-none, hex-more, hex-all}
 use Rattle.bench_line.proofs.hex_bytes.Statement.{statement}
 use Rattle.bench_line.proofs.hex_bytes.Tie as tie
 

@@ -2,7 +2,7 @@ use borrow.Author.Needs.{needs}
 use native.Mathlib.Omega.{arith}
 use lib.ListN.{length}
 use Prim.Native.Nat.{_-_}
-use Rattle.bench_line.specs.HexLaws.{HexSo, hexes-none, hexes-start, hexes-not, hexes-more, hexes-stop}
+use Rattle.bench_line.proofs.Laws.HexLaws.{HexSo, hexes-none, hexes-start, hexes-not, hexes-more, hexes-stop}
 use Rattle.bench_line.proofs.hex_from.Statement.{statement}
 use Rattle.bench_line.proofs.hex_from.Tie as tie
 

@@ -1,6 +1,6 @@
 use borrow.Author.Needs.{needs}
 use native.Mathlib.Omega.{arith}
-use Rattle.bench_line.specs.HexLaws.{bounds, value-digit, value-lower, value-upper, value-none}
+use Rattle.bench_line.proofs.Laws.HexLaws.{bounds, value-digit, value-lower, value-upper, value-none}
 use Rattle.bench_line.proofs.hex_value.Statement.{statement}
 use Rattle.bench_line.proofs.hex_value.Tie as tie
 

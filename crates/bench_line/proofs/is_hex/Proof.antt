@@ -1,5 +1,5 @@
 use borrow.Author.Needs.{needs}
-use Rattle.bench_line.specs.HexLaws.{hex-digit, hex-lower, hex-upper}
+use Rattle.bench_line.proofs.Laws.HexLaws.{hex-digit, hex-lower, hex-upper}
 use Rattle.bench_line.proofs.is_hex.Statement.{statement}
 use Rattle.bench_line.proofs.is_hex.Tie as tie
 

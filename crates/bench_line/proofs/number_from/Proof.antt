@@ -1,7 +1,7 @@
 use borrow.Author.Needs.{needs}
 use native.Mathlib.Omega.{arith}
-use Rattle.bench_line.specs.NumberLaws.{piece-none, piece-read}
-use Rattle.bench_line.specs.WordLaws.{end-within}
+use Rattle.bench_line.proofs.Laws.NumberLaws.{piece-none, piece-read}
+use Rattle.bench_line.proofs.Laws.WordLaws.{end-within}
 use Rattle.bench_line.proofs.number_from.Statement.{statement}
 use Rattle.bench_line.proofs.number_from.Tie as tie
 

@@ -2,8 +2,8 @@ use borrow.Author.Needs.{needs}
 use native.Mathlib.Omega.{arith}
 use Prim.Native.Nat.{_≤_}
 use lib.ListN.{length}
-use Rattle.bench_line.specs.LineLaws.{carry-place, line-long, line-read}
-use Rattle.bench_line.specs.WordLaws.{end-within}
+use Rattle.bench_line.proofs.Laws.LineLaws.{carry-place, line-long, line-read}
+use Rattle.bench_line.proofs.Laws.WordLaws.{end-within}
 use Rattle.bench_line.proofs.read_line.Statement.{statement}
 use Rattle.bench_line.proofs.read_line.Tie as tie
 

@@ -2,7 +2,7 @@ use borrow.Author.Needs.{needs}
 use native.Mathlib.Omega.{arith}
 use lib.ListN.{length}
 use Prim.Native.Nat.{_-_}
-use Rattle.bench_line.specs.WordLaws.{SameSo, same-lengths, same-start, same-differ, same-more, same-stop}
+use Rattle.bench_line.proofs.Laws.WordLaws.{SameSo, same-lengths, same-start, same-differ, same-more, same-stop}
 use Rattle.bench_line.proofs.same_word.Statement.{statement}
 use Rattle.bench_line.proofs.same_word.Tie as tie
 

@@ -1,5 +1,5 @@
 use borrow.Author.Needs.{needs}
-use Rattle.bench_line.specs.LineLaws.{one-not, up-is}
+use Rattle.bench_line.proofs.Laws.LineLaws.{one-not, up-is}
 use Rattle.bench_line.proofs.up_from.Statement.{statement}
 use Rattle.bench_line.proofs.up_from.Tie as tie
 

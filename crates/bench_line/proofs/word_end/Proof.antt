@@ -2,7 +2,7 @@ use borrow.Author.Needs.{needs}
 use native.Mathlib.Omega.{arith}
 use lib.ListN.{length}
 use Prim.Native.Nat.{_-_}
-use Rattle.bench_line.specs.WordLaws.{WordSo, word-start, word-space, word-more, word-stop}
+use Rattle.bench_line.proofs.Laws.WordLaws.{WordSo, word-start, word-space, word-more, word-stop}
 use Rattle.bench_line.proofs.word_end.Statement.{statement}
 use Rattle.bench_line.proofs.word_end.Tie as tie
 

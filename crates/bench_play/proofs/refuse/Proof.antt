@@ -1,4 +1,4 @@
-use Rattle.bench_play.specs.TurnLaws.{turned-refused}
+use Rattle.bench_play.proofs.Laws.TurnLaws.{turned-refused}
 use borrow.Author.Needs.{needs}
 use Rattle.bench_play.proofs.refuse.Statement.{statement}
 use Rattle.bench_play.proofs.refuse.Tie as tie

@@ -2,7 +2,7 @@
 use Prim.Native.Nat.{ℕ, _<_}
 use native.Mathlib.Omega.{arith}
 use borrow.Author.Needs.{needs}
-use Rattle.bench_print.specs.TextLaws.{number-one, number-more, number-one-long, number-more-long}
+use Rattle.bench_print.proofs.Laws.TextLaws.{number-one, number-more, number-one-long, number-more-long}
 use borrow.Fn.Kinds.{In}
 use borrow.Fn.PlainCycle.{Measures, is, falls, and}
 use Rattle.bench_print.proofs.put_number.Reads as put-number

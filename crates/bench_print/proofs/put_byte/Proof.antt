@@ -1,5 +1,5 @@
 use borrow.Author.Needs.{needs}
-use Rattle.bench_print.specs.WrittenLaws.{placed-byte}
+use Rattle.bench_print.proofs.Laws.WrittenLaws.{placed-byte}
 use Rattle.bench_print.proofs.put_byte.Statement.{statement}
 use Rattle.bench_print.proofs.put_byte.Tie as tie
 

@@ -3,7 +3,7 @@ use Prim.Native.Nat.{_-_}
 use borrow.Author.Needs.{needs}
 use native.Mathlib.Omega.{arith}
 use lib.ListN.{length}
-use Rattle.bench_print.specs.TextLaws.{Hexing, hexing-none, hexing-room, hexing-more, hexing-all}
+use Rattle.bench_print.proofs.Laws.TextLaws.{Hexing, hexing-none, hexing-room, hexing-more, hexing-all}
 use Rattle.bench_print.proofs.put_hex.Statement.{statement}
 use Rattle.bench_print.proofs.put_hex.Tie as tie
 

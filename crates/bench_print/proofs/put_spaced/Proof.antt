@@ -1,6 +1,6 @@
 use native.Mathlib.Omega.{arith}
-use Rattle.bench_print.specs.TextLaws.{decimal-short}
-use Rattle.bench_print.specs.WrittenLaws.{placed-both}
+use Rattle.bench_print.proofs.Laws.TextLaws.{decimal-short}
+use Rattle.bench_print.proofs.Laws.WrittenLaws.{placed-both}
 use borrow.Author.Needs.{needs}
 use Rattle.bench_print.proofs.put_spaced.Statement.{statement}
 use Rattle.bench_print.proofs.put_spaced.Tie as tie

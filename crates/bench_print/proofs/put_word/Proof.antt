@@ -1,7 +1,7 @@
 use Prim.Native.Nat.{_-_}
 use native.Mathlib.Omega.{arith}
 use lib.ListN.{length}
-use Rattle.bench_print.specs.WrittenLaws.{Wording, wording-none, wording-more, wording-all}
+use Rattle.bench_print.proofs.Laws.WrittenLaws.{Wording, wording-none, wording-more, wording-all}
 use Rattle.bench_print.proofs.put_word.Statement.{statement}
 use Rattle.bench_print.proofs.put_word.Tie as tie
 

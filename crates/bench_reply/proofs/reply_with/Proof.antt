@@ -2,8 +2,8 @@ use mathlib.Core.Path.{refl, ap, _∙_}
 use Prim.Native.Nat.{ℕ, _+_, _*_}
 use native.Mathlib.Omega.{arith}
 use lib.ListN.{take, drop}
-use Rattle.bench_sent.specs.SentLaws.{block-cut}
-use Rattle.bench_commit.specs.ActedLaws.{acted-row}
+use Rattle.bench_sent.proofs.Laws.SentLaws.{block-cut}
+use Rattle.bench_commit.proofs.Laws.ActedLaws.{acted-row}
 use borrow.Author.Needs.{needs}
 use Rattle.bench_reply.proofs.reply_with.Statement.{statement}
 use Rattle.bench_reply.proofs.reply_with.Tie as tie

@@ -3,7 +3,7 @@ use mathlib.Core.Path.{_≡_, refl}
 use native.Mathlib.Omega.{arith}
 use lib.ListN.{length}
 use Rattle.bench_sent.specs.Sent.{Sends}
-use Rattle.bench_sent.specs.SendLaws.{coded-fewer, sends-none, sends-more, sends-all}
+use Rattle.bench_sent.proofs.Laws.SendLaws.{coded-fewer, sends-none, sends-more, sends-all}
 use Rattle.bench_sent.proofs.send_all.Statement.{statement}
 use Rattle.bench_sent.proofs.send_all.Tie as tie
 

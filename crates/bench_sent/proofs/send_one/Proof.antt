@@ -3,7 +3,7 @@ use mathlib.Core.Path.{refl, sym}
 use native.Mathlib.Omega.{arith}
 use lib.ListN.{length}
 use borrow.Author.Needs.{needs}
-use Rattle.bench_sent.specs.SendLaws.{block-within, sent-write, sent-zeros, eight-cut, eight-long}
+use Rattle.bench_sent.proofs.Laws.SendLaws.{block-within, sent-write, sent-zeros, eight-cut, eight-long}
 use Rattle.bench_sent.proofs.send_one.Statement.{statement}
 use Rattle.bench_sent.proofs.send_one.Tie as tie
 

@@ -1,9 +1,9 @@
-use Rattle.bench_state.specs.FillLaws.{zeros-are}
+use Rattle.bench_state.proofs.Laws.FillLaws.{zeros-are}
 use native.Mathlib.Omega.{arith}
 use lib.ListN.{length}
 use mathlib.Core.Path.{refl, _∙_}
 use Prim.Native.Nat.{ℕ, _-_, _≤_}
-use Rattle.interpolate.specs.Tabulate.{Filled, filled-none, filled-more, filled-all}
+use Rattle.interpolate.proofs.Laws.Tabulate.{Filled, filled-none, filled-more, filled-all}
 use Rattle.bench_state.proofs.clear.Statement.{statement}
 use Rattle.bench_state.proofs.clear.Tie as tie
 

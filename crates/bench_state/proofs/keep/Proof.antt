@@ -1,7 +1,7 @@
 use native.Mathlib.Omega.{arith}
 use Prim.Native.Nat.{_+_, _*_}
 use lib.ListN.{length}
-use Rattle.bench_state.specs.PartLaws.{two-put}
+use Rattle.bench_state.proofs.Laws.PartLaws.{two-put}
 use Rattle.bench_state.specs.State.{keptWith}
 use borrow.Author.Needs.{needs}
 use Rattle.bench_state.proofs.keep.Statement.{statement}

@@ -1,5 +1,5 @@
 use lib.ListN.{length}
-use Rattle.bench_state.specs.FillLaws.{set-begun}
+use Rattle.bench_state.proofs.Laws.FillLaws.{set-begun}
 use borrow.Author.Needs.{needs}
 use Rattle.bench_state.proofs.set_up.Statement.{statement}
 use Rattle.bench_state.proofs.set_up.Tie as tie

@@ -1,4 +1,4 @@
-use Rattle.bench_state.specs.PartLaws.{length-mapped}
+use Rattle.bench_state.proofs.Laws.PartLaws.{length-mapped}
 use Rattle.bench_state.specs.State.{withCoordinator}
 use borrow.Author.Needs.{needs}
 use Rattle.bench_state.proofs.with_coordinator.Statement.{statement}

@@ -1,6 +1,6 @@
 use native.Mathlib.Omega.{arith}
 use borrow.Author.Needs.{needs}
-use Rattle.block.specs.CheckLaws.{check-held}
+use Rattle.block.proofs.Laws.CheckLaws.{check-held}
 use Rattle.block.proofs.check_holds.Statement.{statement}
 use Rattle.block.proofs.check_holds.Tie as tie
 

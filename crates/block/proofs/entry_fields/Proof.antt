@@ -1,4 +1,4 @@
-use Rattle.block.specs.StoreLaws.{entry-stored}
+use Rattle.block.proofs.Laws.StoreLaws.{entry-stored}
 use borrow.Author.Needs.{needs}
 use Rattle.block.proofs.entry_fields.Statement.{statement}
 use Rattle.block.proofs.entry_fields.Tie as tie

@@ -1,5 +1,5 @@
 use Rattle.block.specs.Block.{headBlock}
-use Rattle.block.specs.StoreLaws.{sealed-of}
+use Rattle.block.proofs.Laws.StoreLaws.{sealed-of}
 use borrow.Author.Needs.{needs}
 use Rattle.block.proofs.head.Statement.{statement}
 use Rattle.block.proofs.head.Tie as tie

@@ -1,5 +1,5 @@
 use Rattle.block.specs.Block.{zeros}
-use Rattle.block.specs.StoreLaws.{head-stored}
+use Rattle.block.proofs.Laws.StoreLaws.{head-stored}
 use borrow.Author.Needs.{needs}
 use Rattle.block.proofs.head_fields.Statement.{statement}
 use Rattle.block.proofs.head_fields.Tie as tie

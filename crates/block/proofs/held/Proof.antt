@@ -1,4 +1,4 @@
-use Rattle.block.specs.StoreLaws.{Pasted, zeros-length, held-all, pasted-none, pasted-more}
+use Rattle.block.proofs.Laws.StoreLaws.{Pasted, zeros-length, held-all, pasted-none, pasted-more}
 use Prim.Native.Nat.{_-_}
 use native.Mathlib.Omega.{arith}
 use borrow.Author.Needs.{needs}

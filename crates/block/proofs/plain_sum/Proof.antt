@@ -1,6 +1,6 @@
 use Prim.Native.Nat.{_-_}
 use native.Mathlib.Omega.{arith}
-use Rattle.block.specs.RowLaws.{Totalling, totalling-none, totalling-more, totalling-all}
+use Rattle.block.proofs.Laws.RowLaws.{Totalling, totalling-none, totalling-more, totalling-all}
 use Rattle.block.proofs.plain_sum.Statement.{statement}
 use Rattle.block.proofs.plain_sum.Tie as tie
 

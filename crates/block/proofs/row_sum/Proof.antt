@@ -1,5 +1,5 @@
 use native.Mathlib.Omega.{arith}
-use Rattle.block.specs.RowLaws.{past-high, row-summed}
+use Rattle.block.proofs.Laws.RowLaws.{past-high, row-summed}
 use borrow.Author.Needs.{needs}
 use Rattle.block.proofs.row_sum.Statement.{statement}
 use Rattle.block.proofs.row_sum.Tie as tie

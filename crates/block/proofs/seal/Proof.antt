@@ -1,4 +1,4 @@
-use Rattle.block.specs.StoreLaws.{sealed-stored}
+use Rattle.block.proofs.Laws.StoreLaws.{sealed-stored}
 use borrow.Author.Needs.{needs}
 use Rattle.block.proofs.seal.Statement.{statement}
 use Rattle.block.proofs.seal.Tie as tie

@@ -1,7 +1,7 @@
 use Prim.Native.Nat.{_-_}
 use native.Mathlib.Omega.{arith}
 use lib.ListN.{length}
-use Rattle.block.specs.StoreLaws.{Pasted, pasted-none, pasted-more, pasted-length, pasted-all}
+use Rattle.block.proofs.Laws.StoreLaws.{Pasted, pasted-none, pasted-more, pasted-length, pasted-all}
 use Rattle.block.proofs.store.Statement.{statement}
 use Rattle.block.proofs.store.Tie as tie
 

@@ -1,6 +1,6 @@
 use mathlib.Core.Path.{sym}
 use Rattle.block.specs.Block.{zeros}
-use Rattle.block.specs.Figures.{unused-is}
+use Rattle.block.proofs.Laws.Figures.{unused-is}
 use borrow.Author.Needs.{needs}
 use Rattle.block.proofs.unused.Statement.{statement}
 use Rattle.block.proofs.unused.Tie as tie

@@ -1,6 +1,6 @@
 use native.Mathlib.Omega.{arith}
 use Rattle.image.specs.Image.{imageSize}
-use Rattle.brick.specs.OutcomeLaws.{acts-trim, acts-reply}
+use Rattle.brick.proofs.Laws.OutcomeLaws.{acts-trim, acts-reply}
 use borrow.Author.Needs.{needs}
 use Rattle.brick.proofs.act.Statement.{statement}
 use Rattle.brick.proofs.act.Tie as tie

@@ -1,4 +1,4 @@
-use Rattle.brick.specs.OutcomeLaws.{blocks-setting, blocks-block, blocks-out, blocks-right}
+use Rattle.brick.proofs.Laws.OutcomeLaws.{blocks-setting, blocks-block, blocks-out, blocks-right}
 use borrow.Author.Needs.{needs}
 use Rattle.brick.proofs.blocks_refusal.Statement.{statement}
 use Rattle.brick.proofs.blocks_refusal.Tie as tie

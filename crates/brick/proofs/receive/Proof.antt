@@ -1,6 +1,7 @@
 use native.Mathlib.Omega.{arith}
-use Rattle.image.specs.HubLaws.{Hub, hub}
-use Rattle.brick.specs.OutcomeLaws.{blocks-passed, ends-early, ends-unopened, ends-wrong, ends-acted, ready, ahead, log-is, hub-reads}
+use Rattle.image.specs.Opening.{Hub}
+use Rattle.image.proofs.Laws.HubLaws.{hub}
+use Rattle.brick.proofs.Laws.OutcomeLaws.{blocks-passed, ends-early, ends-unopened, ends-wrong, ends-acted, ready, ahead, log-is, hub-reads}
 use borrow.Author.Needs.{needs}
 use Rattle.brick.proofs.receive.Statement.{statement}
 use Rattle.brick.proofs.receive.Tie as tie

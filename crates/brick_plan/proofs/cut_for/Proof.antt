@@ -3,7 +3,7 @@ use native.Mathlib.Omega.{arith}
 use borrow.Author.Needs.{needs}
 use borrow.Author.Count.{below-more}
 use lib.ListN.{getD}
-use Rattle.brick_plan.specs.LookLaws.{cut-at, cut-last}
+use Rattle.brick_plan.proofs.Laws.LookLaws.{cut-at, cut-last}
 use Rattle.brick_plan.proofs.cut_for.Statement.{statement}
 use Rattle.brick_plan.proofs.cut_for.Tie as tie
 use Rattle.image.specs.Opening.{blank}

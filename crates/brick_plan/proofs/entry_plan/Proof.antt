@@ -1,4 +1,4 @@
-use Rattle.brick_plan.specs.LookLaws.{plan-none, plan-entry}
+use Rattle.brick_plan.proofs.Laws.LookLaws.{plan-none, plan-entry}
 use borrow.Author.Needs.{needs}
 use Rattle.brick_plan.proofs.entry_plan.Statement.{statement}
 use Rattle.brick_plan.proofs.entry_plan.Tie as tie

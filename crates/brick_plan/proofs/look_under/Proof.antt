@@ -1,7 +1,8 @@
 use mathlib.Core.Path.{_≡_, refl, sym, _∙_}
 use Prim.Native.Nat.{_-_, _≤_}
 use native.Mathlib.Omega.{arith}
-use Rattle.brick_plan.specs.LookLaws.{underIn, under-found, under-down, under-none}
+use Rattle.brick_plan.specs.Plans.{underIn}
+use Rattle.brick_plan.proofs.Laws.LookLaws.{under-found, under-down, under-none}
 use Rattle.brick_plan.proofs.look_under.Statement.{statement}
 use Rattle.brick_plan.proofs.look_under.Tie as tie
 use Rattle.image.specs.Opening.{blank}

@@ -1,4 +1,4 @@
-use Rattle.brick_plan.specs.LookLaws.{planned-look, planned-no}
+use Rattle.brick_plan.proofs.Laws.LookLaws.{planned-look, planned-no}
 use borrow.Author.Needs.{needs}
 use Rattle.brick_plan.proofs.plan_for.Statement.{statement}
 use Rattle.brick_plan.proofs.plan_for.Tie as tie

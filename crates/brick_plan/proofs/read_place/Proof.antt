@@ -1,6 +1,6 @@
-use Rattle.brick_plan.specs.LookLaws.{read-target, read-other}
+use Rattle.brick_plan.proofs.Laws.LookLaws.{read-target, read-other}
 use borrow.Author.Tests.{lt-leb, le-leb}
-use Rattle.brick_plan.specs.LookLaws.{readPlace}
+use Rattle.brick_plan.specs.Plans.{readPlace}
 use borrow.Author.Needs.{needs}
 use Rattle.brick_plan.proofs.read_place.Statement.{statement}
 use Rattle.brick_plan.proofs.read_place.Tie as tie

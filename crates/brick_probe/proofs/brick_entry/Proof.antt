@@ -1,4 +1,4 @@
-use Rattle.brick_probe.specs.NumberLaws.{entry-short, entry-there, entry-refused}
+use Rattle.brick_probe.proofs.Laws.NumberLaws.{entry-short, entry-there, entry-refused}
 use borrow.Author.Needs.{needs}
 use Rattle.brick_probe.proofs.brick_entry.Statement.{statement}
 use Rattle.brick_probe.proofs.brick_entry.Tie as tie

@@ -1,4 +1,4 @@
-use Rattle.brick_probe.specs.NumberLaws.{panel-short, panel-values, panel-refused}
+use Rattle.brick_probe.proofs.Laws.NumberLaws.{panel-short, panel-values, panel-refused}
 use borrow.Author.Needs.{needs}
 use Rattle.brick_probe.proofs.brick_panel.Statement.{statement}
 use Rattle.brick_probe.proofs.brick_panel.Tie as tie

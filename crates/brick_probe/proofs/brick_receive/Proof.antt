@@ -4,7 +4,7 @@ use Prim.Native.Nat.{ℕ}
 use Rattle.brick.specs.Receive.{Outcome, outcome}
 use Rattle.brick.specs.declared.Given.{Given}
 use Rattle.brick_probe.specs.Numbers.{settingsFor, messageFor, givenNumber, givenBuffer}
-use Rattle.brick_probe.specs.NumberLaws.{lent-not-targets, lent-not-reply, lent-both, short-number, short-buffer, whole-number, whole-buffer}
+use Rattle.brick_probe.proofs.Laws.NumberLaws.{lent-not-targets, lent-not-reply, lent-both, short-number, short-buffer, whole-number, whole-buffer}
 use borrow.Author.Needs.{needs}
 use Rattle.brick_probe.proofs.brick_receive.Statement.{statement}
 use Rattle.brick_probe.proofs.brick_receive.Tie as tie

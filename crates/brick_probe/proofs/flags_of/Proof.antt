@@ -1,6 +1,6 @@
 use mathlib.Core.Path.{sym}
 use Rattle.interpolate.specs.Tabulate.{tabulate}
-use Rattle.brick_probe.specs.NumberLaws.{sixteen}
+use Rattle.brick_probe.proofs.Laws.NumberLaws.{sixteen}
 use borrow.Author.Needs.{needs}
 use Rattle.brick_probe.proofs.flags_of.Statement.{statement}
 use Rattle.brick_probe.proofs.flags_of.Tie as tie

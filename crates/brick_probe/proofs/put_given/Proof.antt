@@ -1,4 +1,4 @@
-use Rattle.brick_probe.specs.NumberLaws.{given-reply, given-silence, given-refusal}
+use Rattle.brick_probe.proofs.Laws.NumberLaws.{given-reply, given-silence, given-refusal}
 use borrow.Author.Needs.{needs}
 use Rattle.brick_probe.proofs.put_given.Statement.{statement}
 use Rattle.brick_probe.proofs.put_given.Tie as tie

@@ -1,6 +1,6 @@
 use native.Mathlib.Omega.{arith}
 use lib.ListN.{length-set}
-use Rattle.brick_probe.specs.NumberLaws.{reply-put}
+use Rattle.brick_probe.proofs.Laws.NumberLaws.{reply-put}
 use borrow.Author.Needs.{needs}
 use Rattle.brick_probe.proofs.put_reply.Statement.{statement}
 use Rattle.brick_probe.proofs.put_reply.Tie as tie

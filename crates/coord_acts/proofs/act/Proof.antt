@@ -1,6 +1,6 @@
 use mathlib.Core.Path.{refl, sym}
 use Rattle.coord_record.specs.Records.{noBricks}
-use Rattle.coord_acts.specs.ActLaws.{recover-enough, acted-at, acted-abort, acted-give, acted-look, acted-store, acted-recover, acted-finish, end-by, stripe-by}
+use Rattle.coord_acts.proofs.Laws.ActLaws.{recover-enough, acted-at, acted-abort, acted-give, acted-look, acted-store, acted-recover, acted-finish, end-by, stripe-by}
 use borrow.Author.Needs.{needs}
 use Rattle.coord_acts.proofs.act.Statement.{statement}
 use Rattle.coord_acts.proofs.act.Tie as tie

@@ -2,7 +2,7 @@ use native.Mathlib.Omega.{arith}
 use lib.ListN.{length, getD}
 use mathlib.Core.Path.{refl}
 use Prim.Native.Nat.{ℕ, _-_, _≤_}
-use Rattle.interpolate.specs.Tabulate.{Filled, filled-none, filled-more, filled-copy}
+use Rattle.interpolate.proofs.Laws.Tabulate.{Filled, filled-none, filled-more, filled-copy}
 use Rattle.coord_acts.proofs.copy.Statement.{statement}
 use Rattle.coord_acts.proofs.copy.Tie as tie
 

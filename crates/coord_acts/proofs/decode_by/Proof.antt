@@ -3,7 +3,7 @@ use mathlib.Core.List.{_++_}
 use lib.Seq.{length-take-le}
 use mathlib.Core.Path.{_≡_, sym, _∙_}
 use Prim.Native.Nat.{_*_}
-use Rattle.coord_acts.specs.BufferLaws.{front-long, stripe-from-is}
+use Rattle.coord_acts.proofs.Laws.BufferLaws.{front-long, stripe-from-is}
 use borrow.Author.Needs.{needs}
 use Rattle.coord_acts.proofs.decode_by.Statement.{statement}
 use Rattle.coord_acts.proofs.decode_by.Tie as tie

@@ -1,4 +1,4 @@
-use Rattle.coord_acts.specs.BufferLaws.{room-enough}
+use Rattle.coord_acts.proofs.Laws.BufferLaws.{room-enough}
 use borrow.Author.Needs.{needs}
 use Rattle.coord_acts.proofs.decode_from.Statement.{statement}
 use Rattle.coord_acts.proofs.decode_from.Tie as tie

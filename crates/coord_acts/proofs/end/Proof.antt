@@ -1,4 +1,4 @@
-use Rattle.coord_acts.specs.ActLaws.{endAnswer}
+use Rattle.coord_acts.specs.Acts.{endAnswer}
 use borrow.Author.Needs.{needs}
 use Rattle.coord_acts.proofs.end.Statement.{statement}
 use Rattle.coord_acts.proofs.end.Tie as tie

@@ -1,5 +1,5 @@
 use mathlib.Core.Path.{refl}
-use Rattle.coord_acts.specs.ActLaws.{end-by}
+use Rattle.coord_acts.proofs.Laws.ActLaws.{end-by}
 use borrow.Author.Needs.{needs}
 use Rattle.coord_acts.proofs.finish.Statement.{statement}
 use Rattle.coord_acts.proofs.finish.Tie as tie

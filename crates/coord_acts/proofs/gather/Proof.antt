@@ -3,10 +3,10 @@ use native.Mathlib.Omega.{arith}
 use lib.ListN.{getD, length}
 use mathlib.Core.Path.{sym, ap, _∙_}
 use Prim.Native.Nat.{ℕ, _+_, _-_, _*_, _≤_}
-use Rattle.erasure.specs.Theorems.{blockOf}
+use Rattle.erasure.specs.Code.{blockOf}
 use Rattle.coord_acts.specs.Acts.{gathered}
-use Rattle.coord_acts.specs.BufferLaws.{block-here, block-cut, next-within}
-use Rattle.interpolate.specs.RowLaws.{Stacked, stacked-none, stacked-more, stacked-all, part-length}
+use Rattle.coord_acts.proofs.Laws.BufferLaws.{block-here, block-cut, next-within}
+use Rattle.interpolate.proofs.Laws.RowLaws.{Stacked, stacked-none, stacked-more, stacked-all, part-length}
 use Rattle.coord_acts.proofs.gather.Statement.{statement}
 use Rattle.coord_acts.proofs.gather.Tie as tie
 

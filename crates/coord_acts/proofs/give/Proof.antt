@@ -1,6 +1,6 @@
 use native.Mathlib.Omega.{arith}
 use mathlib.Core.Path.{refl}
-use Rattle.coord_acts.specs.ActLaws.{end-by, target-decodes, stripe-by}
+use Rattle.coord_acts.proofs.Laws.ActLaws.{end-by, target-decodes, stripe-by}
 use borrow.Author.Needs.{needs}
 use Rattle.coord_acts.proofs.give.Statement.{statement}
 use Rattle.coord_acts.proofs.give.Tie as tie

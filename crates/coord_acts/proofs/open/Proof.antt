@@ -1,6 +1,6 @@
 use Rattle.coord_record.specs.Records.{noBricks}
 use Rattle.coord_acts.specs.Acts.{opened}
-use Rattle.coord_acts.specs.ActLaws.{openAnswer}
+use Rattle.coord_acts.specs.Acts.{openAnswer}
 use borrow.Author.Needs.{needs}
 use Rattle.coord_acts.proofs.open.Statement.{statement}
 use Rattle.coord_acts.proofs.open.Tie as tie

@@ -1,5 +1,5 @@
 use mathlib.Core.Path.{refl}
-use Rattle.coord_acts.specs.BufferLaws.{place-is}
+use Rattle.coord_acts.proofs.Laws.BufferLaws.{place-is}
 use borrow.Author.Needs.{needs}
 use Rattle.coord_acts.proofs.place.Statement.{statement}
 use Rattle.coord_acts.proofs.place.Tie as tie

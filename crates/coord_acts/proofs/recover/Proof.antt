@@ -1,5 +1,5 @@
 use native.Mathlib.Omega.{arith}
-use Rattle.coord_acts.specs.ActLaws.{picked-decodes, stripe-by}
+use Rattle.coord_acts.proofs.Laws.ActLaws.{picked-decodes, stripe-by}
 use borrow.Author.Needs.{needs}
 use Rattle.coord_acts.proofs.recover.Statement.{statement}
 use Rattle.coord_acts.proofs.recover.Tie as tie

@@ -1,4 +1,4 @@
-use Rattle.coord_checks.specs.CheckLaws.{read-code, read-first, read-start, few-bricks}
+use Rattle.coord_checks.proofs.Laws.CheckLaws.{read-code, read-first, read-start, few-bricks}
 use borrow.Author.Needs.{needs}
 use Rattle.coord_checks.proofs.read_refusal.Statement.{statement}
 use Rattle.coord_checks.proofs.read_refusal.Tie as tie

@@ -1,4 +1,4 @@
-use Rattle.coord_checks.specs.CheckLaws.{start-record, start-late, start-busy, start-passes}
+use Rattle.coord_checks.proofs.Laws.CheckLaws.{start-record, start-late, start-busy, start-passes}
 use borrow.Author.Needs.{needs}
 use Rattle.coord_checks.proofs.start_refusal.Statement.{statement}
 use Rattle.coord_checks.proofs.start_refusal.Tie as tie

@@ -1,4 +1,4 @@
-use Rattle.coord_checks.specs.CheckLaws.{stray-record, stray-wrong, stray-answers, stray-not, first-within}
+use Rattle.coord_checks.proofs.Laws.CheckLaws.{stray-record, stray-wrong, stray-answers, stray-not, first-within}
 use native.Mathlib.Omega.{arith}
 use borrow.Author.Needs.{needs}
 use Rattle.coord_checks.proofs.stray_refusal.Statement.{statement}

@@ -1,4 +1,4 @@
-use Rattle.coord_checks.specs.CheckLaws.{take-code, take-lengths, take-brick, take-rest, ranged, few-bricks}
+use Rattle.coord_checks.proofs.Laws.CheckLaws.{take-code, take-lengths, take-brick, take-rest, ranged, few-bricks}
 use borrow.Author.Needs.{needs}
 use Rattle.coord_checks.proofs.take_refusal.Statement.{statement}
 use Rattle.coord_checks.proofs.take_refusal.Tie as tie

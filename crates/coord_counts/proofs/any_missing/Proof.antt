@@ -7,7 +7,7 @@ use mathlib.Core.Path.{_≡_}
 use mathlib.Core.Bool.{false}
 use Prim.Native.Nat.{ℕ, _-_, _≤_, _<_}
 use Rattle.coord_counts.specs.Counting.{missing}
-use Rattle.coord_counts.specs.CountingLaws.{is-missing, no-target, is-counted, found-some, found-none}
+use Rattle.coord_counts.proofs.Laws.CountingLaws.{is-missing, no-target, is-counted, found-some, found-none}
 use Rattle.coord_counts.proofs.any_missing.Statement.{statement}
 use Rattle.coord_counts.proofs.any_missing.Tie as tie
 

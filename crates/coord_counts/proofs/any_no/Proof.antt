@@ -6,7 +6,7 @@ use mathlib.Core.Path.{_≡_}
 use mathlib.Core.Bool.{false}
 use Prim.Native.Nat.{ℕ, _-_, _≤_, _<_}
 use Rattle.coord_counts.specs.Counting.{saidNo}
-use Rattle.coord_counts.specs.CountingLaws.{said-no, not-counted, said-yes, found-some, found-none}
+use Rattle.coord_counts.proofs.Laws.CountingLaws.{said-no, not-counted, said-yes, found-some, found-none}
 use Rattle.coord_counts.proofs.any_no.Statement.{statement}
 use Rattle.coord_counts.proofs.any_no.Tie as tie
 

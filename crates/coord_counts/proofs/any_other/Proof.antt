@@ -6,7 +6,7 @@ use mathlib.Core.Path.{_≡_}
 use mathlib.Core.Bool.{false}
 use Prim.Native.Nat.{ℕ, _-_, _≤_, _<_}
 use Rattle.coord_counts.specs.Counting.{otherTime}
-use Rattle.coord_counts.specs.CountingLaws.{other-time, none-counted, same-time, found-some, found-none}
+use Rattle.coord_counts.proofs.Laws.CountingLaws.{other-time, none-counted, same-time, found-some, found-none}
 use Rattle.coord_counts.proofs.any_other.Statement.{statement}
 use Rattle.coord_counts.proofs.any_other.Tie as tie
 

@@ -4,7 +4,7 @@ use mathlib.Core.Logic.{⊎-elim}
 use mathlib.Core.Path.{_≡_, refl, _∙_}
 use Prim.Native.Nat.{_-_, _≤_}
 use Rattle.coord_counts.specs.Counting.{atTimes}
-use Rattle.coord_counts.specs.CountingLaws.{count-yes, count-no, count-all}
+use Rattle.coord_counts.proofs.Laws.CountingLaws.{count-yes, count-no, count-all}
 use Rattle.settings.specs.Count.{count}
 use Rattle.coord_counts.proofs.count_at.Statement.{statement}
 use Rattle.coord_counts.proofs.count_at.Tie as tie

@@ -3,7 +3,7 @@ use mathlib.Core.Logic.{⊎-elim}
 use mathlib.Core.Path.{_≡_, refl, _∙_}
 use Prim.Native.Nat.{_-_, _≤_}
 use Rattle.coord_counts.specs.Counting.{highest}
-use Rattle.coord_counts.specs.CountingLaws.{highest-out, highest-under, highest-over, highest-all}
+use Rattle.coord_counts.proofs.Laws.CountingLaws.{highest-out, highest-under, highest-over, highest-all}
 use Rattle.coord_counts.proofs.highest_of.Statement.{statement}
 use Rattle.coord_counts.proofs.highest_of.Tie as tie
 

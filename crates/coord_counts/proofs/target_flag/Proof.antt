@@ -1,4 +1,4 @@
-use Rattle.coord_counts.specs.RowLaws.{flag-target, flag-none, flag-beyond}
+use Rattle.coord_counts.proofs.Laws.RowLaws.{flag-target, flag-none, flag-beyond}
 use borrow.Author.Needs.{needs}
 use Rattle.coord_counts.proofs.target_flag.Statement.{statement}
 use Rattle.coord_counts.proofs.target_flag.Tie as tie

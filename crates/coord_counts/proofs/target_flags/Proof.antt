@@ -3,8 +3,8 @@ use native.Mathlib.Omega.{arith}
 use lib.ListN.{replicate}
 use Prim.Native.Nat.{_-_, _≤_}
 use Rattle.coord_counts.specs.Counting.{targetFlag}
-use Rattle.coord_counts.specs.RowLaws.{flags-all}
-use Rattle.interpolate.specs.Tabulate.{Filled, filled-none, filled-more}
+use Rattle.coord_counts.proofs.Laws.RowLaws.{flags-all}
+use Rattle.interpolate.proofs.Laws.Tabulate.{Filled, filled-none, filled-more}
 use Rattle.coord_counts.proofs.target_flags.Statement.{statement}
 use Rattle.coord_counts.proofs.target_flags.Tie as tie
 

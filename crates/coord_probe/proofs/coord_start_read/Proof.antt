@@ -1,13 +1,13 @@
 use mathlib.Core.List.{[]}
 use mathlib.Core.Path.{sym, _∙_}
 use lib.ListN.{length}
-use Rattle.coord_acts.specs.ActLaws.{heldOf}
+use Rattle.coord_acts.specs.Acts.{heldOf}
 use Rattle.coord_acts.specs.Steps.{answerOf}
 use Rattle.coord_acts.specs.declared.Answer.{Answer}
 use Rattle.coord_record.specs.declared.Coordinator.{Coordinator}
 use Rattle.coordinator.specs.Rules.{readStep}
 use Rattle.coord_probe.specs.Numbers.{recordNumbers, recordBytes, answerNumbers, answerBytes}
-use Rattle.coord_probe.specs.NumberLaws.{Lengths, lengths, short-number, short-buffer, whole-number, whole-buffer, said-number, said-buffer, moved}
+use Rattle.coord_probe.proofs.Laws.NumberLaws.{Lengths, lengths, short-number, short-buffer, whole-number, whole-buffer, said-number, said-buffer, moved}
 use borrow.Author.Needs.{needs}
 use Rattle.coord_probe.proofs.coord_start_read.Statement.{statement}
 use Rattle.coord_probe.proofs.coord_start_read.Tie as tie

@@ -2,13 +2,13 @@ use Prim.Native.Nat.{ℕ}
 use mathlib.Core.List.{List, []}
 use mathlib.Core.Path.{sym, _∙_}
 use lib.ListN.{length}
-use Rattle.coord_acts.specs.ActLaws.{heldOf}
+use Rattle.coord_acts.specs.Acts.{heldOf}
 use Rattle.coord_acts.specs.Steps.{answerOf, blocksAfter, stripeAfter, codedAfter}
 use Rattle.coord_acts.specs.declared.Answer.{Answer}
 use Rattle.coord_record.specs.declared.Coordinator.{Coordinator}
 use Rattle.coordinator.specs.Rules.{takeStep}
 use Rattle.coord_probe.specs.Numbers.{recordNumbers, recordBytes, answerNumbers, answerBytes, replyFor}
-use Rattle.coord_probe.specs.NumberLaws.{Lengths, lengths, short-number, short-buffer, whole-number, whole-buffer, said-number, said-buffer, moved}
+use Rattle.coord_probe.proofs.Laws.NumberLaws.{Lengths, lengths, short-number, short-buffer, whole-number, whole-buffer, said-number, said-buffer, moved}
 use borrow.Author.Needs.{needs}
 use Rattle.coord_probe.proofs.coord_take_reply.Statement.{statement}
 use Rattle.coord_probe.proofs.coord_take_reply.Tie as tie

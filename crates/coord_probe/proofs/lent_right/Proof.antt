@@ -1,5 +1,5 @@
 use borrow.Author.Needs.{needs}
-use Rattle.coord_probe.specs.NumberLaws.{lent-no-numbers, lent-no-bytes, lent-no-sent, lent-last}
+use Rattle.coord_probe.proofs.Laws.NumberLaws.{lent-no-numbers, lent-no-bytes, lent-no-sent, lent-last}
 use Rattle.coord_probe.proofs.lent_right.Statement.{statement}
 use Rattle.coord_probe.proofs.lent_right.Tie as tie
 

@@ -1,5 +1,5 @@
 use mathlib.Core.Path.{refl, sym}
-use Rattle.coord_probe.specs.NumberLaws.{said-refused, said-given}
+use Rattle.coord_probe.proofs.Laws.NumberLaws.{said-refused, said-given}
 use borrow.Author.Needs.{needs}
 use Rattle.coord_probe.proofs.put_answer.Statement.{statement}
 use Rattle.coord_probe.proofs.put_answer.Tie as tie

@@ -2,7 +2,7 @@ use native.Mathlib.Omega.{arith}
 use lib.ListN.{length, set}
 use mathlib.Core.Path.{_≡_, sym, _∙_}
 use Rattle.coord_probe.specs.Numbers.{recordBytes}
-use Rattle.coord_probe.specs.NumberLaws.{at-least, two-set, bytes-are}
+use Rattle.coord_probe.proofs.Laws.NumberLaws.{at-least, two-set, bytes-are}
 use borrow.Author.Needs.{needs}
 use Rattle.coord_probe.proofs.put_bytes.Statement.{statement}
 use Rattle.coord_probe.proofs.put_bytes.Tie as tie

@@ -2,7 +2,7 @@ use native.Mathlib.Omega.{arith}
 use lib.ListN.{set, length-set}
 use mathlib.Core.Path.{sym, _∙_}
 use Rattle.coord_probe.specs.Numbers.{recordNumbers}
-use Rattle.coord_probe.specs.NumberLaws.{at-least, six-set, numbers-are}
+use Rattle.coord_probe.proofs.Laws.NumberLaws.{at-least, six-set, numbers-are}
 use borrow.Author.Needs.{needs}
 use Rattle.coord_probe.proofs.put_numbers.Statement.{statement}
 use Rattle.coord_probe.proofs.put_numbers.Tie as tie

@@ -1,5 +1,5 @@
 use mathlib.Core.Path.{refl}
-use Rattle.coord_probe.specs.NumberLaws.{row-put-is}
+use Rattle.coord_probe.proofs.Laws.NumberLaws.{row-put-is}
 use borrow.Author.Needs.{needs}
 use Rattle.coord_probe.proofs.put_row.Statement.{statement}
 use Rattle.coord_probe.proofs.put_row.Tie as tie

@@ -1,7 +1,7 @@
 use native.Mathlib.Omega.{arith}
 use lib.ListN.{length-set}
 use Rattle.coord_probe.specs.Numbers.{answerNumbers}
-use Rattle.coord_probe.specs.NumberLaws.{five}
+use Rattle.coord_probe.proofs.Laws.NumberLaws.{five}
 use borrow.Author.Needs.{needs}
 use Rattle.coord_probe.proofs.put_sent.Statement.{statement}
 use Rattle.coord_probe.proofs.put_sent.Tie as tie

@@ -2,7 +2,7 @@ use native.Mathlib.Omega.{arith}
 use lib.ListN.{length, set}
 use mathlib.Core.Path.{_≡_, sym, _∙_}
 use Rattle.coord_probe.specs.Numbers.{answerBytes}
-use Rattle.coord_probe.specs.NumberLaws.{at-least, three-set, shown-are}
+use Rattle.coord_probe.proofs.Laws.NumberLaws.{at-least, three-set, shown-are}
 use borrow.Author.Needs.{needs}
 use Rattle.coord_probe.proofs.put_shown.Statement.{statement}
 use Rattle.coord_probe.proofs.put_shown.Tie as tie

@@ -1,5 +1,5 @@
 use Rattle.coord_probe.specs.Numbers.{rowAt}
-use Rattle.coord_probe.specs.NumberLaws.{record-is}
+use Rattle.coord_probe.proofs.Laws.NumberLaws.{record-is}
 use borrow.Author.Needs.{needs}
 use Rattle.coord_probe.proofs.record_of.Statement.{statement}
 use Rattle.coord_probe.proofs.record_of.Tie as tie

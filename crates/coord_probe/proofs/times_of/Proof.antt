@@ -1,6 +1,6 @@
 use mathlib.Core.Path.{sym}
 use Rattle.interpolate.specs.Tabulate.{tabulate}
-use Rattle.coord_probe.specs.NumberLaws.{sixteen}
+use Rattle.coord_probe.proofs.Laws.NumberLaws.{sixteen}
 use borrow.Author.Needs.{needs}
 use Rattle.coord_probe.proofs.times_of.Statement.{statement}
 use Rattle.coord_probe.proofs.times_of.Tie as tie

@@ -1,4 +1,4 @@
-use Rattle.coord_record.specs.RuleLaws.{block-target, block-no-target, block-no, block-held, block-present, block-none}
+use Rattle.coord_record.proofs.Laws.RuleLaws.{block-target, block-no-target, block-no, block-held, block-present, block-none}
 use borrow.Author.Needs.{needs}
 use Rattle.coord_record.proofs.block_right.Statement.{statement}
 use Rattle.coord_record.proofs.block_right.Tie as tie

@@ -1,4 +1,4 @@
-use Rattle.coord_record.specs.RuleLaws.{counted-idle, counted-beyond, counted-granted, counted-held, counted-found, counted-block}
+use Rattle.coord_record.proofs.Laws.RuleLaws.{counted-idle, counted-beyond, counted-granted, counted-held, counted-found, counted-block}
 use borrow.Author.Needs.{needs}
 use Rattle.coord_record.proofs.counted_right.Statement.{statement}
 use Rattle.coord_record.proofs.counted_right.Tie as tie

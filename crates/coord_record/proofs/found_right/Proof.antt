@@ -1,5 +1,5 @@
-use Rattle.coord_record.specs.RuleLaws.{found-zero}
-use Rattle.message.specs.MessageLaws.{found-time}
+use Rattle.coord_record.proofs.Laws.RuleLaws.{found-zero}
+use Rattle.message.proofs.Laws.MessageLaws.{found-time}
 use borrow.Author.Needs.{needs}
 use Rattle.coord_record.proofs.found_right.Statement.{statement}
 use Rattle.coord_record.proofs.found_right.Tie as tie

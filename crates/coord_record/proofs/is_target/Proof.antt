@@ -1,4 +1,4 @@
-use Rattle.coord_record.specs.RuleLaws.{target-up, target-wrapped}
+use Rattle.coord_record.proofs.Laws.RuleLaws.{target-up, target-wrapped}
 use borrow.Author.Needs.{needs}
 use Rattle.coord_record.proofs.is_target.Statement.{statement}
 use Rattle.coord_record.proofs.is_target.Tie as tie

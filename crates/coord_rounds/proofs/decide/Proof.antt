@@ -1,4 +1,4 @@
-use Rattle.coord_rounds.specs.DecidingLaws.{decide-first, decide-no, decide-ordered, decide-empty, decide-found, decide-stored}
+use Rattle.coord_rounds.proofs.Laws.DecidingLaws.{decide-first, decide-no, decide-ordered, decide-empty, decide-found, decide-stored}
 use borrow.Author.Needs.{needs}
 use Rattle.coord_rounds.proofs.decide.Statement.{statement}
 use Rattle.coord_rounds.proofs.decide.Tie as tie

@@ -1,4 +1,4 @@
-use Rattle.coord_rounds.specs.DecidingLaws.{at-recover, at-recover-spent, at-zero, at-look, at-look-spent}
+use Rattle.coord_rounds.proofs.Laws.DecidingLaws.{at-recover, at-recover-spent, at-zero, at-look, at-look-spent}
 use borrow.Author.Needs.{needs}
 use Rattle.coord_rounds.proofs.decide_at.Statement.{statement}
 use Rattle.coord_rounds.proofs.decide_at.Tie as tie

@@ -1,5 +1,5 @@
 use Rattle.settings.specs.Times.{noUpperEnd}
-use Rattle.coord_rounds.specs.DecidingLaws.{read-no, read-other, read-missing, read-whole}
+use Rattle.coord_rounds.proofs.Laws.DecidingLaws.{read-no, read-other, read-missing, read-whole}
 use borrow.Author.Needs.{needs}
 use Rattle.coord_rounds.proofs.decide_read.Statement.{statement}
 use Rattle.coord_rounds.proofs.decide_read.Tie as tie

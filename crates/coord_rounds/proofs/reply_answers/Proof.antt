@@ -1,4 +1,4 @@
-use Rattle.coord_rounds.specs.DecidingLaws.{other-kind, other-operation, other-round, counted-before, answers-by}
+use Rattle.coord_rounds.proofs.Laws.DecidingLaws.{other-kind, other-operation, other-round, counted-before, answers-by}
 use borrow.Author.Needs.{needs}
 use Rattle.coord_rounds.proofs.reply_answers.Statement.{statement}
 use Rattle.coord_rounds.proofs.reply_answers.Tie as tie

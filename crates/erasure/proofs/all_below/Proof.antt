@@ -4,7 +4,7 @@ use native.Mathlib.Omega.{arith}
 use lib.ListN.{length}
 use mathlib.Core.Path.{_≡_, refl}
 use Rattle.erasure.specs.Refusals.{allBelow}
-use Rattle.erasure.specs.ListLaws.{below-rest, below-not, below-end}
+use Rattle.erasure.proofs.Laws.ListLaws.{below-rest, below-not, below-end}
 use Rattle.erasure.proofs.all_below.Statement.{statement}
 use Rattle.erasure.proofs.all_below.Tie as tie
 

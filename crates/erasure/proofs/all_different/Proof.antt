@@ -3,7 +3,7 @@ use native.Mathlib.Omega.{arith}
 use lib.ListN.{length, length-take, length-drop}
 use mathlib.Core.Path.{_≡_, refl}
 use Rattle.erasure.specs.Refusals.{allDifferent}
-use Rattle.erasure.specs.ListLaws.{different-rest, different-not, different-end}
+use Rattle.erasure.proofs.Laws.ListLaws.{different-rest, different-not, different-end}
 use Rattle.erasure.proofs.all_different.Statement.{statement}
 use Rattle.erasure.proofs.all_different.Tie as tie
 

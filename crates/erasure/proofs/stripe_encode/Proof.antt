@@ -1,7 +1,7 @@
 use mathlib.Core.Path.{sym, _∙_}
 use Rattle.erasure.specs.Refusals.{encodedBuffer}
-use Rattle.erasure.specs.RefusalLaws.{refused-leaves, passed-gives}
-use Rattle.erasure.specs.PassedLaws.{encode-passed}
+use Rattle.erasure.proofs.Laws.RefusalLaws.{refused-leaves, passed-gives}
+use Rattle.erasure.proofs.Laws.PassedLaws.{encode-passed}
 use borrow.Author.Needs.{needs}
 use Rattle.erasure.proofs.stripe_encode.Statement.{statement}
 use Rattle.erasure.proofs.stripe_encode.Tie as tie

@@ -1,5 +1,5 @@
 use borrow.Author.Needs.{needs}
-use Rattle.gf256.specs.LookupLaws.{quotient-is}
+use Rattle.gf256.proofs.Laws.LookupLaws.{quotient-is}
 use Rattle.gf256.proofs.div.Statement.{statement}
 use Rattle.gf256.proofs.div.Tie as tie
 

@@ -2,7 +2,7 @@ use borrow.Author.Needs.{needs}
 use native.Mathlib.Omega.{arith}
 use Prim.Native.Nat.{_<_}
 use lib.ListN.{getD}
-use Rattle.gf256.specs.LookupLaws.{of-zero, log-below, inverse-low, inverse-high}
+use Rattle.gf256.proofs.Laws.LookupLaws.{of-zero, log-below, inverse-low, inverse-high}
 use Rattle.gf256.proofs.inv_by.Statement.{statement}
 use Rattle.gf256.proofs.inv_by.Tie as tie
 

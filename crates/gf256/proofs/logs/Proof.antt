@@ -1,6 +1,7 @@
 use Rattle.gf256.specs.Computed.{every}
 use Rattle.gf256.specs.Product.{plus, twice}
-use Rattle.gf256.specs.TableLaws.{logsRight, indexRight, doublings, logs-by-test}
+use Rattle.gf256.specs.Tables.{logsRight, indexRight, doublings}
+use Rattle.gf256.proofs.Laws.TableLaws.{logs-by-test}
 use Rattle.gf256.proofs.logs.Statement.{statement}
 use Rattle.gf256.proofs.logs.Tie as tie
 

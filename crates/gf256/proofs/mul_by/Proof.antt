@@ -2,7 +2,7 @@ use borrow.Author.Needs.{needs}
 use native.Mathlib.Omega.{arith}
 use Prim.Native.Nat.{_<_}
 use lib.ListN.{getD}
-use Rattle.gf256.specs.LookupLaws.{left-zero, right-zero, log-below, sum-low, sum-high}
+use Rattle.gf256.proofs.Laws.LookupLaws.{left-zero, right-zero, log-below, sum-low, sum-high}
 use Rattle.gf256.proofs.mul_by.Statement.{statement}
 use Rattle.gf256.proofs.mul_by.Tie as tie
 

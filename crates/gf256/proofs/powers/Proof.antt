@@ -1,5 +1,6 @@
 use Rattle.gf256.specs.Product.{plus, twice}
-use Rattle.gf256.specs.TableLaws.{powersRight, chained, powers-by-test}
+use Rattle.gf256.specs.Tables.{powersRight, chained}
+use Rattle.gf256.proofs.Laws.TableLaws.{powers-by-test}
 use Rattle.gf256.proofs.powers.Statement.{statement}
 use Rattle.gf256.proofs.powers.Tie as tie
 

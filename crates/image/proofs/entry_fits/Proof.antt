@@ -1,4 +1,4 @@
-use Rattle.image.specs.FitLaws.{entry-same}
+use Rattle.image.proofs.Laws.FitLaws.{entry-same}
 use borrow.Author.Needs.{needs}
 use Rattle.image.proofs.entry_fits.Statement.{statement}
 use Rattle.image.proofs.entry_fits.Tie as tie

@@ -1,4 +1,4 @@
-use Rattle.image.specs.FitLaws.{head-few, head-many, head-time, head-rest}
+use Rattle.image.proofs.Laws.FitLaws.{head-few, head-many, head-time, head-rest}
 use borrow.Author.Needs.{needs}
 use Rattle.image.proofs.head_fits.Statement.{statement}
 use Rattle.image.proofs.head_fits.Tie as tie

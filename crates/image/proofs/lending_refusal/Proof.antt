@@ -1,7 +1,8 @@
 use mathlib.Core.Path.{sym, _∙_}
-use Rattle.settings.specs.RangeLaws.{SettingsRange, settings-passed}
+use Rattle.settings.specs.Ranges.{SettingsRange}
+use Rattle.settings.proofs.Laws.RangeLaws.{settings-passed}
 use native.Mathlib.Omega.{arith}
-use Rattle.image.specs.FitLaws.{lending-0, lending-1, lending-2, lending-3}
+use Rattle.image.proofs.Laws.FitLaws.{lending-0, lending-1, lending-2, lending-3}
 use borrow.Author.Needs.{needs}
 use Rattle.image.proofs.lending_refusal.Statement.{statement}
 use Rattle.image.proofs.lending_refusal.Tie as tie

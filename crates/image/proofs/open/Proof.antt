@@ -5,7 +5,7 @@ use native.Mathlib.Omega.{arith}
 use lib.ListN.{length, take, drop}
 use Rattle.image.specs.Image.{imageSize}
 use Rattle.image.specs.Parse.{blockAt, countIn, promiseIn}
-use Rattle.image.specs.OpenLaws.{Lent, lent, open-lending, open-unchecked, open-unchecked-later, open-unfit, open-done}
+use Rattle.image.proofs.Laws.OpenLaws.{Lent, lent, open-lending, open-unchecked, open-unchecked-later, open-unfit, open-done}
 use borrow.Author.Needs.{needs}
 use Rattle.image.proofs.open.Statement.{statement}
 use Rattle.image.proofs.open.Tie as tie

@@ -1,14 +1,14 @@
 use Prim.Native.Nat.{_+_}
 use lib.ListN.{take, drop}
 use Rattle.image.specs.Parse.{blockAt, timeIn}
-use Rattle.image.specs.ScanLaws.{part-length}
+use Rattle.image.proofs.Laws.ScanLaws.{part-length}
 use mathlib.Core.Path.{_≡_, refl}
 use Prim.Native.Nat.{_-_}
 use native.Mathlib.Omega.{arith}
 use borrow.Author.Needs.{needs}
 use lib.ListN.{length}
 use Rattle.image.specs.Image.{imageSize}
-use Rattle.image.specs.ScanLaws.{Scanning, scanning-none, scanning-more, scan-unchecked, scanned-all, part-is}
+use Rattle.image.proofs.Laws.ScanLaws.{Scanning, scanning-none, scanning-more, scan-unchecked, scanned-all, part-is}
 use Rattle.image.proofs.read_blocks.Statement.{statement}
 use Rattle.image.proofs.read_blocks.Tie as tie
 

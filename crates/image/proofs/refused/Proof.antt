@@ -1,4 +1,4 @@
-use Rattle.image.specs.OpenLaws.{refused-made}
+use Rattle.image.proofs.Laws.OpenLaws.{refused-made}
 use borrow.Author.Needs.{needs}
 use Rattle.image.proofs.refused.Statement.{statement}
 use Rattle.image.proofs.refused.Tie as tie

@@ -1,4 +1,4 @@
-use Rattle.image.specs.FitLaws.{slot-unused, slot-time, slot-rises, slot-entry}
+use Rattle.image.proofs.Laws.FitLaws.{slot-unused, slot-time, slot-rises, slot-entry}
 use borrow.Author.Needs.{needs}
 use Rattle.image.proofs.slot_fits.Statement.{statement}
 use Rattle.image.proofs.slot_fits.Tie as tie

@@ -2,7 +2,7 @@ use native.Mathlib.Omega.{arith}
 use lib.ListN.{length}
 use mathlib.Core.Path.{refl}
 use Prim.Native.Nat.{ℕ, _-_, _≤_}
-use Rattle.interpolate.specs.Tabulate.{Filled, filled-none, filled-more, filled-all}
+use Rattle.interpolate.proofs.Laws.Tabulate.{Filled, filled-none, filled-more, filled-all}
 use Rattle.interpolate.proofs.clear.Statement.{statement}
 use Rattle.interpolate.proofs.clear.Tie as tie
 

@@ -4,8 +4,9 @@ use native.Mathlib.Omega.{arith}
 use lib.ListN.{length}
 use mathlib.Core.Path.{_≡_, sym, ap, _∙_}
 use Prim.Native.Nat.{_+_, _*_, _-_, _≤_}
-use Rattle.interpolate.specs.RowLaws.{partial, row-none, row-step, row-all, part-length}
-use Rattle.interpolate.specs.Tabulate.{tabulate, length-tabulate}
+use Rattle.interpolate.proofs.Laws.RowLaws.{partial, row-none, row-step, row-all, part-length}
+use Rattle.interpolate.specs.Tabulate.{tabulate}
+use Rattle.interpolate.proofs.Laws.Tabulate.{length-tabulate}
 use Rattle.interpolate.proofs.combine.Statement.{statement}
 use Rattle.interpolate.proofs.combine.Tie as tie
 

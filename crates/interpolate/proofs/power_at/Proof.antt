@@ -1,4 +1,4 @@
-use Rattle.interpolate.specs.BitLaws.{power-high}
+use Rattle.interpolate.proofs.Laws.BitLaws.{power-high}
 use borrow.Author.Needs.{needs}
 use Rattle.interpolate.proofs.power_at.Statement.{statement}
 use Rattle.interpolate.proofs.power_at.Tie as tie

@@ -1,6 +1,6 @@
 use Prim.Native.Nat.{_/_}
 use Rattle.gf256.specs.Product.{plus}
-use Rattle.interpolate.specs.BitLaws.{bit-fits, by-bits}
+use Rattle.interpolate.proofs.Laws.BitLaws.{bit-fits, by-bits}
 use Rattle.interpolate.proofs.times.Statement.{statement}
 use Rattle.interpolate.proofs.times.Tie as tie
 

@@ -1,4 +1,4 @@
-use Rattle.little.specs.LittleLaws.{number-2}
+use Rattle.little.proofs.Laws.LittleLaws.{number-2}
 use borrow.Author.Needs.{needs}
 use Rattle.little.proofs.read2.Statement.{statement}
 use Rattle.little.proofs.read2.Tie as tie

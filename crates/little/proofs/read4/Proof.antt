@@ -1,4 +1,4 @@
-use Rattle.little.specs.LittleLaws.{number-4}
+use Rattle.little.proofs.Laws.LittleLaws.{number-4}
 use borrow.Author.Needs.{needs}
 use Rattle.little.proofs.read4.Statement.{statement}
 use Rattle.little.proofs.read4.Tie as tie

@@ -1,4 +1,4 @@
-use Rattle.little.specs.LittleLaws.{number-8}
+use Rattle.little.proofs.Laws.LittleLaws.{number-8}
 use borrow.Author.Needs.{needs}
 use Rattle.little.proofs.read8.Statement.{statement}
 use Rattle.little.proofs.read8.Tie as tie

@@ -1,4 +1,4 @@
-use Rattle.message.specs.FlagLaws.{brick-set-is, brick-set-not}
+use Rattle.message.proofs.Laws.FlagLaws.{brick-set-is, brick-set-not}
 use borrow.Author.Needs.{needs}
 use Rattle.message.proofs.brick_set.Statement.{statement}
 use Rattle.message.proofs.brick_set.Tie as tie

@@ -4,7 +4,7 @@ use mathlib.Core.Path.{_≡_, refl, sym, ap, _∙_}
 use Prim.Native.Nat.{_-_, _≤_}
 use mathlib.Core.Bool.{true}
 use Rattle.message.specs.Flags.{flagsWithin}
-use Rattle.message.specs.FlagLaws.{within-more, within-not}
+use Rattle.message.proofs.Laws.FlagLaws.{within-more, within-not}
 use Rattle.message.proofs.flags_within.Statement.{statement}
 use Rattle.message.proofs.flags_within.Tie as tie
 

@@ -4,7 +4,7 @@ use Prim.Native.Nat.{_-_, _≤_}
 use mathlib.Core.Logic.{⊎-elim}
 use Rattle.message.specs.Flags.{members}
 use Rattle.settings.specs.Count.{count}
-use Rattle.message.specs.FlagLaws.{members-yes, members-no, members-all}
+use Rattle.message.proofs.Laws.FlagLaws.{members-yes, members-no, members-all}
 use Rattle.message.proofs.members_of.Statement.{statement}
 use Rattle.message.proofs.members_of.Tie as tie
 

@@ -1,5 +1,5 @@
 use Rattle.probe.specs.Probe.{clockOf}
-use Rattle.probe.specs.ProbeLaws.{wrong-length, number-given, refused-buffer, given-buffer, given-number}
+use Rattle.probe.proofs.Laws.ProbeLaws.{wrong-length, number-given, refused-buffer, given-buffer, given-number}
 use borrow.Author.Needs.{needs}
 use Rattle.probe.proofs.probe_draw.Statement.{statement}
 use Rattle.probe.proofs.probe_draw.Tie as tie

@@ -1,11 +1,11 @@
-use Rattle.saving.specs.BlocksLaws.{cleared-all}
+use Rattle.saving.proofs.Laws.BlocksLaws.{cleared-all}
 use mathlib.Core.Path.{_≡_, ap, _∙_}
 use Prim.Native.Nat.{_-_, _≤_}
 use native.Mathlib.Omega.{arith}
 use borrow.Author.Needs.{needs}
 use lib.ListN.{length}
-use Rattle.block.specs.LayoutLaws.{unused-length}
-use Rattle.saving.specs.BlocksLaws.{Clearing, clearing-none, clearing-more}
+use Rattle.block.proofs.Laws.LayoutLaws.{unused-length}
+use Rattle.saving.proofs.Laws.BlocksLaws.{Clearing, clearing-none, clearing-more}
 use Rattle.saving.proofs.clear_blocks.Statement.{statement}
 use Rattle.saving.proofs.clear_blocks.Tie as tie
 

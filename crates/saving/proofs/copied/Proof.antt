@@ -1,9 +1,9 @@
-use Rattle.saving.specs.BlocksLaws.{copied-more}
+use Rattle.saving.proofs.Laws.BlocksLaws.{copied-more}
 use Prim.Native.Nat.{_-_}
 use native.Mathlib.Omega.{arith}
 use Rattle.block.specs.Block.{zeros}
-use Rattle.block.specs.StoreLaws.{Pasted, pasted-none, zeros-length}
-use Rattle.saving.specs.BlocksLaws.{copied-all}
+use Rattle.block.proofs.Laws.StoreLaws.{Pasted, pasted-none, zeros-length}
+use Rattle.saving.proofs.Laws.BlocksLaws.{copied-all}
 use Rattle.saving.proofs.copied.Statement.{statement}
 use Rattle.saving.proofs.copied.Tie as tie
 

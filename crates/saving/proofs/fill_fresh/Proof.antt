@@ -1,6 +1,6 @@
 use native.Mathlib.Omega.{arith}
 use Rattle.image.specs.Image.{imageSize}
-use Rattle.saving.specs.FreshLaws.{fresh-made}
+use Rattle.saving.proofs.Laws.FreshLaws.{fresh-made}
 use borrow.Author.Needs.{needs}
 use Rattle.saving.proofs.fill_fresh.Statement.{statement}
 use Rattle.saving.proofs.fill_fresh.Tie as tie

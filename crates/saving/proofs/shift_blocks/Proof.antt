@@ -4,8 +4,8 @@ use native.Mathlib.Omega.{arith}
 use borrow.Author.Needs.{needs}
 use lib.ListN.{length}
 use Rattle.image.specs.Parse.{blockAt}
-use Rattle.image.specs.ScanLaws.{part-is}
-use Rattle.saving.specs.BlocksLaws.{Shifting, shifting-none, shifting-more, shifted-all, block-long}
+use Rattle.image.proofs.Laws.ScanLaws.{part-is}
+use Rattle.saving.proofs.Laws.BlocksLaws.{Shifting, shifting-none, shifting-more, shifted-all, block-long}
 use Rattle.saving.proofs.shift_blocks.Statement.{statement}
 use Rattle.saving.proofs.shift_blocks.Tie as tie
 

@@ -1,4 +1,4 @@
-use Rattle.saving.specs.BlocksLaws.{put-as}
+use Rattle.saving.proofs.Laws.BlocksLaws.{put-as}
 use borrow.Author.Needs.{needs}
 use Rattle.saving.proofs.write_entry.Statement.{statement}
 use Rattle.saving.proofs.write_entry.Tie as tie

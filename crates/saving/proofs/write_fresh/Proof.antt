@@ -1,6 +1,6 @@
 use mathlib.Core.Path.{sym, _∙_}
-use Rattle.image.specs.OpenLaws.{lent}
-use Rattle.saving.specs.FreshLaws.{fresh-refused, fresh-written}
+use Rattle.image.proofs.Laws.OpenLaws.{lent}
+use Rattle.saving.proofs.Laws.FreshLaws.{fresh-refused, fresh-written}
 use borrow.Author.Needs.{needs}
 use Rattle.saving.proofs.write_fresh.Statement.{statement}
 use Rattle.saving.proofs.write_fresh.Tie as tie

@@ -1,9 +1,9 @@
 use mathlib.Core.Path.{_≡_, ap, _∙_}
 use native.Mathlib.Omega.{arith}
 use lib.ListN.{length}
-use Rattle.block.specs.LayoutLaws.{head-length}
+use Rattle.block.proofs.Laws.LayoutLaws.{head-length}
 use Rattle.image.specs.Image.{imageSize}
-use Rattle.saving.specs.BlocksLaws.{put-as}
+use Rattle.saving.proofs.Laws.BlocksLaws.{put-as}
 use borrow.Author.Needs.{needs}
 use Rattle.saving.proofs.write_head.Statement.{statement}
 use Rattle.saving.proofs.write_head.Tie as tie

@@ -2,7 +2,7 @@ use mathlib.Core.Path.{subst}
 use Prim.Native.Nat.{ℕ, _≤_}
 use mathlib.Core.Path.{sym}
 use Rattle.block.specs.Block.{zeros}
-use Rattle.saving.specs.BlocksLaws.{zero-entry, zero-length}
+use Rattle.saving.proofs.Laws.BlocksLaws.{zero-entry, zero-length}
 use borrow.Author.Needs.{needs}
 use Rattle.saving.proofs.write_zero_entry.Statement.{statement}
 use Rattle.saving.proofs.write_zero_entry.Tie as tie

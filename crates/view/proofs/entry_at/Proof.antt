@@ -1,4 +1,4 @@
-use Rattle.view.specs.ViewLaws.{at-short, at-past, at-there}
+use Rattle.view.proofs.Laws.ViewLaws.{at-short, at-past, at-there}
 use borrow.Author.Needs.{needs}
 use Rattle.view.proofs.entry_at.Statement.{statement}
 use Rattle.view.proofs.entry_at.Tie as tie

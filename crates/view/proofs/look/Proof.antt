@@ -1,5 +1,5 @@
-use Rattle.image.specs.HubLaws.{hub}
-use Rattle.view.specs.ViewLaws.{look-refused, look-there}
+use Rattle.image.proofs.Laws.HubLaws.{hub}
+use Rattle.view.proofs.Laws.ViewLaws.{look-refused, look-there}
 use borrow.Author.Needs.{needs}
 use Rattle.view.proofs.look.Statement.{statement}
 use Rattle.view.proofs.look.Tie as tie

@@ -1,4 +1,4 @@
-use Rattle.message.specs.MessageLaws.{message-passed, message-kind, message-round, message-time}
+use Rattle.message.proofs.Laws.MessageLaws.{message-passed, message-kind, message-round, message-time}
 use borrow.Author.Needs.{needs}
 use Rattle.message.proofs.Message.refusal.Statement.{statement}
 use Rattle.message.proofs.Message.refusal.Tie as tie

@@ -1,4 +1,4 @@
-use Rattle.message.specs.MessageLaws.{reply-brick, reply-passed, reply-bad}
+use Rattle.message.proofs.Laws.MessageLaws.{reply-brick, reply-passed, reply-bad}
 use borrow.Author.Needs.{needs}
 use Rattle.message.proofs.Reply.refusal.Statement.{statement}
 use Rattle.message.proofs.Reply.refusal.Tie as tie

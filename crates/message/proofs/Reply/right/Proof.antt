@@ -1,4 +1,4 @@
-use Rattle.message.specs.MessageLaws.{reply-low, reply-high, reply-time, reply-round, reply-found, found-zero, found-time}
+use Rattle.message.proofs.Laws.MessageLaws.{reply-low, reply-high, reply-time, reply-round, reply-found, found-zero, found-time}
 use borrow.Author.Needs.{needs}
 use Rattle.message.proofs.Reply.right.Statement.{statement}
 use Rattle.message.proofs.Reply.right.Tie as tie

@@ -4,7 +4,8 @@ use mathlib.Core.Logic.{⊎-elim}
 use Prim.Native.Nat.{_≤_}
 use native.Mathlib.Omega.{arith}
 use Rattle.settings.specs.Times.{nextCount, timeOf}
-use Rattle.settings.specs.TimeLaws.{Draws, draw-passed, draw-refused, draw-given}
+use Rattle.settings.specs.Times.{Draws}
+use Rattle.settings.proofs.Laws.TimeLaws.{draw-passed, draw-refused, draw-given}
 use Rattle.settings.proofs.Clock.draw.Statement.{statement}
 use Rattle.settings.proofs.Clock.draw.Tie as tie
 

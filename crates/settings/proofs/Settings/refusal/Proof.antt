@@ -1,7 +1,7 @@
 use borrow.Author.Needs.{needs}
 use borrow.Author.Tests.{lt-leb, le-leb}
 use Rattle.settings.specs.Ranges.{capacityInRange}
-use Rattle.settings.specs.RangeLaws.{settings-code, settings-capacity}
+use Rattle.settings.proofs.Laws.RangeLaws.{settings-code, settings-capacity}
 use Rattle.settings.proofs.Settings.refusal.Statement.{statement}
 use Rattle.settings.proofs.Settings.refusal.Tie as tie
 

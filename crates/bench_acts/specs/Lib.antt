@@ -1,2 +1,0 @@
--- Laws: ShortLaws.
-pub mod ShortLaws

@@ -1,0 +1,241 @@
+-- Laws of `specs/CarryLaws`.
+use mathlib.Core.Path.{_≡_, refl, sym, ap, ap₂, subst, _∙_}
+use mathlib.Core.Bool.{Bool, true, false, cond}
+use mathlib.Core.List.{List, [], _∷_, _++_, append-nil, append-assoc}
+use Prim.Native.Nat.{ℕ, zero, suc, _+_, _-_, _≤_, _<_}
+use native.Mathlib.Omega.{arith}
+use native.Mathlib.Decide.{decLt}
+use native.Mathlib.Nat.{not-suc-le-zero}
+use lib.Dec.{eqb}
+use lib.ListN.{length, length-append}
+use borrow.Author.Tests.{lt-ltb, le-ltb}
+use Rattle.settings.specs.declared.Settings.{Settings}
+use Rattle.bench_commit.specs.Answers.{Seats}
+use Rattle.bench_line.proofs.Laws.CallerLaws.{rest-first, rest-next, rest-splits, rest-none}
+use Rattle.bench_line.specs.Lines.{numbersOf}
+use Rattle.bench_line.specs.Meaning.{wordsFrom, CarryFrom, NumberAt}
+use Rattle.bench_line.specs.declared.Number.{Number}
+use Rattle.bench_play.specs.Play.{Played, refuses, passes, happens, switches, carries, carriesAt, carried, andThen, carriedAll}
+use Rattle.bench_play.specs.Turning.{Lent, worldIn, Ready, Turned}
+use Rattle.bench_play.specs.declared.After.{After}
+use Rattle.bench_print.specs.Printing.{written}
+use Rattle.bench_print.proofs.Laws.WrittenLaws.{written-nothing, written-both}
+use Rattle.bench_sent.proofs.Laws.RunLaws.{items-length}
+use Rattle.bench_sent.specs.Sent.{itemsOf, itemAt}
+use Rattle.bench_state.specs.State.{Fits}
+use Rattle.bench_state.specs.State.{worldOf, withUp}
+use Rattle.bench_state.proofs.Laws.StateLaws.{up-put}
+use Rattle.bench_state.specs.declared.Bench.{Bench}
+use Rattle.register.specs.Runs.{Item, World, Event, goesDown, comesUp, step, standing}
+use Rattle.bench_carry.specs.Carrying.{Lined, Carrying}
+
+-- the item at a place is the one in its row
+carries-append : (s : Settings) (w : World) (k : ℕ) (l : List Item) (i : Item) (j : ℕ) → j < length l → carriesAt s w k (l ++ i ∷ []) j ≡ carriesAt s w k l j
+unfolding carriesAt
+carries-append s w k [] i j h = absurd (not-suc-le-zero h)
+carries-append s w k (x ∷ l) i zero h = refl
+carries-append s w k (x ∷ l) i (suc j) h = carries-append s w k l i j (omega arith)
+
+carries-last : (s : Settings) (w : World) (k : ℕ) (l : List Item) (i : Item) (j : ℕ) → length l ≡ j → carriesAt s w k (l ++ i ∷ []) j ≡ carries s w k i
+unfolding carriesAt
+carries-last s w k [] i zero h = refl
+carries-last s w k [] i (suc j) h = absurd (omega arith)
+carries-last s w k (x ∷ l) i zero h = absurd (omega arith)
+carries-last s w k (x ∷ l) i (suc j) h = carries-last s w k l i j (omega arith)
+
+carries-none : (s : Settings) (w : World) (k : ℕ) (l : List Item) (j : ℕ) → length l ≤ j → carriesAt s w k l j ≡ refuses w 12
+unfolding carriesAt
+carries-none s w k [] j h = refl
+carries-none s w k (x ∷ l) zero h = absurd (omega arith)
+carries-none s w k (x ∷ l) (suc j) h = carries-none s w k l j (omega arith)
+
+carries-item : (s : Settings) (w : World) (place size : ℕ) (numbers bytes : List ℕ) (k j : ℕ) → j < k
+    → carriesAt s w place (itemsOf size numbers bytes k) j ≡ carries s w place (itemAt size numbers bytes j)
+unfolding itemsOf
+carries-item s w place size numbers bytes zero j h = absurd (omega arith)
+carries-item s w place size numbers bytes (suc k) j h = go (decLt j k) (carries-item s w place size numbers bytes k j)
+  where
+    go : Dec (j < k) → (j < k → carriesAt s w place (itemsOf size numbers bytes k) j ≡ carries s w place (itemAt size numbers bytes j))
+        → carriesAt s w place (itemsOf size numbers bytes k ++ itemAt size numbers bytes k ∷ []) j ≡ carries s w place (itemAt size numbers bytes j)
+    go (yes l) ih =
+        carries-append s w place (itemsOf size numbers bytes k) (itemAt size numbers bytes k) j (let e = items-length size numbers bytes k in omega arith) ∙ ih l
+    go (no l) ih =
+        let e : j ≡ k = omega arith in
+        carries-last s w place (itemsOf size numbers bytes k) (itemAt size numbers bytes k) j (items-length size numbers bytes k ∙ sym e)
+        ∙ ap (λ (i : ℕ). carries s w place (itemAt size numbers bytes i)) (sym e)
+
+module _ (b : Bench) (l : Lent) (at : ℕ) (out : List ℕ) (r : After) (l′ : Lent) (out′ : List ℕ) where
+  -- number 0, and one that is not sent yet
+  pub carried-zero : (number : ℕ) → number ≡ 0 → Turned b l at out (refuses (worldIn b l) 12) r l′ out′
+      → Turned b l at out (carried (b .settings) (worldIn b l) number) r l′ out′
+  unfolding carried
+  carried-zero zero e t = t
+  carried-zero (suc k) e t = absurd (omega arith)
+
+  pub carried-past : (number : ℕ) → b .sent < number → Turned b l at out (refuses (worldIn b l) 12) r l′ out′
+      → Turned b l at out (carried (b .settings) (worldIn b l) number) r l′ out′
+  unfolding carried worldIn worldOf
+  carried-past zero e t = absurd (omega arith)
+  carried-past (suc k) e t =
+      subst (λ (p : Played). Turned b l at out p r l′ out′)
+      (sym (carries-none (b .settings) (worldIn b l) k (itemsOf (b .settings .size) (l .numbers) (l .bytes) (b .sent)) k
+      (let q = items-length (b .settings .size) (l .numbers) (l .bytes) (b .sent) in omega arith)))
+      t
+
+  -- one that is sent
+  pub carried-item : (number k : ℕ) → (number ≡ 0 → ⊥) → number ≤ b .sent → k ≡ number - 1
+      → Turned b l at out (carries (b .settings) (worldIn b l) k (itemAt (b .settings .size) (l .numbers) (l .bytes) k)) r l′ out′
+      → Turned b l at out (carried (b .settings) (worldIn b l) number) r l′ out′
+  unfolding carried worldIn worldOf
+  carried-item zero k z h e t = absurd (z refl)
+  carried-item (suc j) k z h e t =
+      let q : k ≡ j = omega arith in
+      subst (λ (p : Played). Turned b l at out p r l′ out′)
+      (ap (λ (i : ℕ). carries (b .settings) (worldIn b l) i (itemAt (b .settings .size) (l .numbers) (l .bytes) i)) q
+      ∙ sym (carries-item (b .settings) (worldIn b l) j (b .settings .size) (l .numbers) (l .bytes) (b .sent) j (omega arith)))
+      t
+
+module _ (b : Bench) (l : Lent) (line : List ℕ) (first : ℕ) (out : List ℕ) where
+  pub carrying-first : Ready b l → CarryFrom line first → Carrying b l line first out first (record { bench = b; used = 0 }) l out
+  carrying-first ready c =
+      record {
+        text = [];
+        ready = ready;
+        settings-kept = refl;
+        out-long = refl;
+        text-is = sym (written-nothing 0 out);
+        used-is = refl;
+        room = omega arith;
+        rest = rest-first line first c;
+        world-so = refl;
+        printed-so = refl;
+      }
+
+  -- one number more
+  pub carrying-next : (place : ℕ) (r r′ : After) (l′ l″ : Lent) (out′ out″ : List ℕ) (k : Number) → place ≤ length line → length out ≡ 65536
+      → Carrying b l line first out place r l′ out′ → NumberAt line place k
+      → Turned (r .bench) l′ (r .used) out′ (carried (r .bench .settings) (worldIn (r .bench) l′) (k .value)) r′ l″ out″
+      → length (l″ .images) ≡ length (l′ .images) → length (l″ .kept) ≡ length (l′ .kept) → length (l″ .numbers) ≡ length (l′ .numbers)
+      → length (l″ .bytes) ≡ length (l′ .bytes) → length out″ ≡ length out′
+      → Carrying b l line first out (k .end + 1) r′ l″ out″
+  unfolding carriedAll andThen
+  carrying-next place r r′ l′ l″ out′ out″ k h long c n t ei ek en eb eo =
+      let s = b .settings in
+      let p = carried s (worldIn (r .bench) l′) (k .value) in
+      let later = numbersOf (wordsFrom line (k .end + 1)) in
+      let split = rest-splits line place k h n in
+      let same : carried (r .bench .settings) (worldIn (r .bench) l′) (k .value) ≡ p = ap (λ (x : Settings). carried x (worldIn (r .bench) l′) (k .value)) (c .settings-kept) in
+      let now-at : worldIn (r′ .bench) l″ ≡ p .world = t .world-is ∙ ap (λ (x : Played). x .world) same in
+      record {
+        text = c .text ++ p .printed;
+        ready = record {
+          fits = subst Fits (sym (t .settings-kept)) (c .ready .fits);
+          few = t .few;
+          images-long = ei ∙ c .ready .images-long;
+          kept-long = ek ∙ c .ready .kept-long;
+          numbers-long = en ∙ c .ready .numbers-long;
+          bytes-long = eb ∙ c .ready .bytes-long;
+        };
+        settings-kept = t .settings-kept ∙ c .settings-kept;
+        out-long = eo ∙ c .out-long;
+        text-is =
+            t .text-is
+            ∙ ap (λ (x : Played). written (r .used) (x .printed) out′) same
+            ∙ ap₂ (λ (u : ℕ) (o : List ℕ). written u (p .printed) o) (c .used-is) (c .text-is)
+            ∙ ap (λ (u : ℕ). written u (p .printed) (written 0 (c .text) out)) (let e : length (c .text) ≡ 0 + length (c .text) = omega arith in e)
+            ∙ written-both 0 (c .text) (p .printed) out (omega arith);
+        used-is =
+            t .used-is ∙ ap (λ (x : Played). r .used + length (x .printed)) same ∙ ap (λ (u : ℕ). u + length (p .printed)) (c .used-is)
+            ∙ sym (length-append (c .text) (p .printed));
+        room = (let a = t .short in let d = c .room in let e = n .starts in omega arith);
+        rest = rest-next line place k n;
+        world-so =
+            c .world-so ∙ ap (λ (ks : List ℕ). carriedAll s (worldIn (r .bench) l′) ks .world) split
+            ∙ ap (λ (w : World). carriedAll s w later .world) (sym now-at);
+        printed-so =
+            c .printed-so ∙ ap (λ (ks : List ℕ). c .text ++ carriedAll s (worldIn (r .bench) l′) ks .printed) split
+            ∙ ap (λ (w : World). c .text ++ (p .printed ++ carriedAll s w later .printed)) (sym now-at)
+            ∙ sym (append-assoc (c .text) (p .printed) _);
+      }
+
+  -- no number is left
+  pub carrying-done : (place : ℕ) (r : After) (l′ : Lent) (out′ : List ℕ) → length line < place → length line ≤ 1000
+      → Carrying b l line first out place r l′ out′
+      → Lined b l out (carriedAll (b .settings) (worldIn b l) (numbersOf (wordsFrom line first))) r l′ out′
+  unfolding carriedAll passes
+  carrying-done place r l′ out′ h short c =
+      let s = b .settings in
+      let none = rest-none line place h in
+      let all : carriedAll s (worldIn b l) (numbersOf (wordsFrom line first)) .printed ≡ c .text =
+      c .printed-so ∙ ap (λ (ks : List ℕ). c .text ++ carriedAll s (worldIn (r .bench) l′) ks .printed) none ∙ append-nil (c .text)
+      in
+      record {
+        world-is = sym (c .world-so ∙ ap (λ (ks : List ℕ). carriedAll s (worldIn (r .bench) l′) ks .world) none);
+        settings-kept = c .settings-kept;
+        few = c .ready .few;
+        text-is = c .text-is ∙ ap (λ (x : List ℕ). written 0 x out) (sym all);
+        used-is = c .used-is ∙ ap length (sym all);
+        within = (let a = c .room in let d = c .rest .high in omega arith);
+      }
+
+-- a brick goes down or comes up
+pub switched : (b : Bench) (l : Lent) (out : List ℕ) (brick flag : ℕ) (e : Event) (bench : Bench) → Fits (b .settings) → b .sent ≤ 127 → brick < b .settings .n
+    → step (b .settings) (worldIn b l) e ≡ standing (b .settings) (worldIn b l) brick (eqb flag 1) → length (b .up) ≡ 4 → bench ≡ withUp b brick flag
+    → Lined b l out (switches (b .settings) (worldIn b l) brick e) (record { bench = bench; used = 0 }) l out
+unfolding switches happens standing worldIn worldOf withUp
+switched b l out brick flag e bench fits few h q four eb =
+    subst (λ (x : Bench). Lined b l out (switches (b .settings) (worldIn b l) brick e) (record { bench = x; used = 0 }) l out) (sym eb)
+    (rw (lt-ltb brick (b .settings .n) h)
+    (record {
+      world-is = ap make (up-put (b .up) brick flag (let a = fits .small .bricks in omega arith)) ∙ sym (rw q (rw (lt-ltb brick (b .settings .n) h) refl));
+      settings-kept = refl;
+      few = few;
+      text-is = sym (written-nothing 0 out);
+      used-is = refl;
+      within = omega arith;
+    }))
+  where
+    make : (ℕ → Bool) → World
+    make f = record { images = worldIn b l .images; up = f; coordinators = worldIn b l .coordinators; sent = worldIn b l .sent }
+
+-- by its flag
+pub switch-flag : (b : Bench) (l : Lent) (out : List ℕ) (brick flag : ℕ) (bench : Bench) → Fits (b .settings) → b .sent ≤ 127 → brick < b .settings .n
+    → length (b .up) ≡ 4 → bench ≡ withUp b brick flag
+    → Lined b l out (switches (b .settings) (worldIn b l) brick (cond (eqb flag 1) (comesUp brick) (goesDown brick))) (record { bench = bench; used = 0 }) l out
+unfolding step
+switch-flag b l out brick flag bench fits few h four eb =
+    switched b l out brick flag (cond (eqb flag 1) (comesUp brick) (goesDown brick)) bench fits few h (go (eqb flag 1)) four eb
+  where
+    go : (t : Bool) → step (b .settings) (worldIn b l) (cond t (comesUp brick) (goesDown brick)) ≡ standing (b .settings) (worldIn b l) brick t
+    go true = refl
+    go false = refl
+
+pub switch-past : (b : Bench) (l : Lent) (out out′ : List ℕ) (brick : ℕ) (e : Event) (r : After) → b .settings .n ≤ brick
+    → Turned b l 0 out (refuses (worldIn b l) 3) r l out′ → Turned b l 0 out (switches (b .settings) (worldIn b l) brick e) r l out′
+unfolding switches
+switch-past b l out out′ brick e r h t = rw (le-ltb brick (b .settings .n) h) t
+
+-- a part of a line at the beginning of the printed text
+pub turned-lined : (b : Bench) (l l′ : Lent) (out out′ : List ℕ) (p : Played) (r : After) → Turned b l 0 out p r l′ out′ → Lined b l out p r l′ out′
+turned-lined b l l′ out out′ p r t =
+    record {
+      world-is = t .world-is;
+      settings-kept = t .settings-kept;
+      few = t .few;
+      text-is = t .text-is;
+      used-is = t .used-is ∙ (let e : 0 + length (p .printed) ≡ length (p .printed) = omega arith in e);
+      within = (let a = t .short in omega arith);
+    }
+
+-- what the parts of a carried number ask, of a set that is ready
+pub ready-seats : (b : Bench) (l : Lent) (at : ℕ) (out : List ℕ) → Ready b l → at + 128 ≤ length out → Seats b 0 (l .kept) (l .numbers) (l .bytes) at out
+ready-seats b l at out r h =
+    record {
+      fits = r .fits;
+      few = r .few;
+      low = omega arith;
+      kept-long = r .kept-long;
+      numbers-long = r .numbers-long;
+      bytes-long = r .bytes-long;
+      room = h;
+    }

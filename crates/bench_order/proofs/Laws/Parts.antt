@@ -1,0 +1,33 @@
+-- What a line does, part by part.
+use mathlib.Core.Path.{_≡_}
+use mathlib.Core.Logic.{_⊎_}
+use mathlib.Core.List.{[], _∷_}
+use Prim.Native.Nat.{ℕ, _≤_}
+use lib.ListN.{length}
+use Rattle.settings.specs.declared.Settings.{Settings}
+use Rattle.coord_record.specs.Records.{readingKind, writingKind}
+use Rattle.coord_record.specs.declared.Op.{Op}
+use Rattle.order.specs.Claim.{Outcome, Seen}
+use Rattle.register.specs.Runs.{plain, World, Event, step}
+use Rattle.bench_play.specs.Play.{lastMessage, Played, refuses, passes, happens, andThen}
+use Rattle.bench_order.proofs.Laws.Told.{told}
+
+-- The operation of this kind and time runs: it is a read or a write.
+pub record Ran (op : Op) (kind time : ℕ) : Type 0 where
+  pub time-is : op .time ≡ time
+  pub kind-is : op .kind ≡ kind
+  pub known : (kind ≡ readingKind) ⊎ (kind ≡ writingKind)
+
+-- "message 127": so many are sent at most
+unfoldable pub Few : World → Type 0
+Few w = length (w .sent) ≤ lastMessage
+
+-- Each part of a line is a refusal, or nothing, or an event that happens by the runs' own step. At such an event the bench prints what is
+-- seen at that very event, of the operation that ran at its coordinator, and sends no message past 127.
+pub data Part (s : Settings) : World → Played → Type 0 where
+  refusing : (w : World) (number : ℕ) → Part s w (refuses w number)
+  passing : (w : World) → Part s w (passes w)
+  happening : (w : World) (e : Event) (c kind : ℕ) → (Few w → Few (step s w e .world))
+      → ((time : ℕ) (how : Outcome (plain s)) → step s w e .seen ≡ Seen.ended time how ∷ [] → Ran (w .coordinators c .state .op) kind time)
+      → Part s w (happens s w e (told s c kind (step s w e .seen)))
+  both : (w : World) (p q : Played) → Part s w p → Part s (p .world) q → Part s w (andThen p q)

@@ -1,0 +1,222 @@
+-- What is printed is what is seen.
+use mathlib.Core.Path.{_≡_, refl, sym, ap, subst, _∙_}
+use mathlib.Core.Logic.{_⊎_, inl, inr}
+use mathlib.Core.Bool.{Bool, true, false, cond, _&&_}
+use mathlib.Core.List.{List, [], _∷_, append-nil}
+use Prim.Native.Nat.{ℕ, zero, suc, _≤_}
+use native.Mathlib.Omega.{arith}
+use lib.Dec.{eqb, ltb}
+use borrow.Author.Tests.{eqb-true, eqb-false, eq-eqb, ne-eqb, le-ltb, lt-leb}
+use Rattle.settings.proofs.Laws.RangeLaws.{and-left}
+use Rattle.settings.specs.declared.Settings.{Settings}
+use Rattle.coord_record.specs.Records.{readingKind, noBricks}
+use Rattle.coord_record.specs.Sound.{unsetOp, readRight, writeRight, opRight}
+use Rattle.coord_record.proofs.Laws.SoundParts.{sound-parts}
+use Rattle.coord_record.specs.declared.Coordinator.{Coordinator}
+use Rattle.coord_record.specs.declared.Op.{Op}
+use Rattle.coord_rounds.specs.Deciding.{decided}
+use Rattle.coord_rounds.specs.Decisions.{Says}
+use Rattle.coord_rounds.proofs.Laws.Decisions.{decided-says}
+use Rattle.coord_rounds.specs.declared.Decision.{Decision}
+use Rattle.coord_rounds.specs.declared.Decision.the-variants.{Abort, Give, Look, Store, Recover, Finish}
+use Rattle.coord_acts.specs.Acts.{acted, ending, nextRound, finishedSeen, waitingOr, counting, withTally}
+use Rattle.coord_acts.specs.Steps.{Held, Went, went, nothingSeen, beganSeen, okSeen, readSeen, cutSeen}
+use Rattle.coord_acts.specs.declared.Seen.{Seen as Shown}
+use Rattle.coord_checks.specs.Checks.{recordChecks, crashRefusal}
+use Rattle.coordinator.specs.Rules.{takeStep, crashed, crashStep, writeStep, readStep}
+use Rattle.coord_laws.proofs.Laws.OpCases.{in-read, Fit, reading, looking, restoring, ordering, storing, fit}
+use Rattle.coord_laws.proofs.Laws.RunLaws.{took, write-begins, read-begins}
+use Rattle.coord_laws.proofs.Laws.Soundness.{passes, same-went}
+use Rattle.message.specs.Flags.{members}
+use Rattle.message.specs.declared.Reply.{Reply}
+use Rattle.settings.specs.Ranges.{codeRefusal, quorum}
+use Rattle.settings.proofs.Laws.RefusalLaws.{passed-rest}
+use Rattle.coordinator.proofs.Laws.StepLaws.{record-passes}
+use Rattle.order.specs.Claim.{Outcome, Seen, began, ended}
+use Rattle.register.specs.Runs.{plain, seenOf}
+use Rattle.bench_print.specs.Printing.{kindWord, endWord, lineText, isEnd, endedText}
+use Rattle.bench_order.proofs.Laws.Parts.{Ran}
+use Rattle.bench_order.specs.Told.{endLine, toldEnd}
+use Rattle.bench_order.proofs.Laws.Told.{told}
+
+-- ok is the end of a write, and the stripe is the end of a read; what ends is the operation that ran
+pub record Agrees (op : Op) (e : Shown) : Type 0 where
+  pub ok-writes : e .what ≡ okSeen → eqb (e .kind) readingKind ≡ false
+  pub bytes-read : e .what ≡ readSeen → eqb (e .kind) readingKind ≡ true
+  pub ends-own : (e .what ≡ 0 → ⊥) → (e .what ≡ beganSeen → ⊥) → Ran op (e .kind) (e .time)
+
+told-by-what : (s : Settings) (op : Op) (c what kind time : ℕ) (bricks kept : List ℕ) → Agrees op (record { what = what; kind = kind; time = time; bricks = bricks })
+    → told s c kind (seenOf s (record { what = what; kind = kind; time = time; bricks = bricks }) kept)
+    ≡ endedText c (record { what = what; kind = kind; time = time; bricks = bricks }) kept
+unfolding told toldEnd endLine seenOf endedText isEnd lineText kindWord endWord
+told-by-what s op c zero kind time bricks kept a = refl
+told-by-what s op c (suc zero) kind time bricks kept a = refl
+told-by-what s op c (suc (suc zero)) kind time bricks kept a = rw (a .ok-writes refl) (append-nil _)
+told-by-what s op c (suc (suc (suc zero))) kind time bricks kept a = rw (a .bytes-read refl) (append-nil _)
+told-by-what s op c (suc (suc (suc (suc zero)))) kind time bricks kept a = append-nil _
+told-by-what s op c (suc (suc (suc (suc (suc zero))))) kind time bricks kept a = append-nil _
+told-by-what s op c (suc (suc (suc (suc (suc (suc k)))))) kind time bricks kept a =
+    rw (
+      ne-eqb (suc (suc (suc (suc (suc (suc k)))))) 1 (λ q. omega (arith, q)),
+      ne-eqb (suc (suc (suc (suc (suc (suc k)))))) 2 (λ q. omega (arith, q)),
+      ne-eqb (suc (suc (suc (suc (suc (suc k)))))) 3 (λ q. omega (arith, q)),
+      ne-eqb (suc (suc (suc (suc (suc (suc k)))))) 4 (λ q. omega (arith, q)),
+      ne-eqb (suc (suc (suc (suc (suc (suc k)))))) 5 (λ q. omega (arith, q)),
+      le-ltb (suc (suc (suc (suc (suc (suc k)))))) 2 (omega arith),
+      lt-leb (suc (suc (suc (suc (suc (suc k)))))) 5 (omega arith),
+    )
+    refl
+
+-- what is printed at an event of coordinator c is the line of what is seen there
+pub printed-is-seen : (s : Settings) (op : Op) (c : ℕ) (e : Shown) (kept : List ℕ) → Agrees op e → told s c (e .kind) (seenOf s e kept) ≡ endedText c e kept
+printed-is-seen s op c e kept a = told-by-what s op c (e .what) (e .kind) (e .time) (e .bricks) kept a
+
+-- what ended is what was shown to end, at its time
+unfoldable endTime : (s : Settings) → List (Seen (plain s)) → ℕ
+endTime s [] = 0
+endTime s (began time action ∷ l) = 0
+endTime s (ended time how ∷ l) = suc time
+
+-- only from 2 on is it an end
+shown-end : (s : Settings) (what time : ℕ) (p q r x y : Seen (plain s)) → endTime s (p ∷ []) ≡ 0 → endTime s (q ∷ []) ≡ suc time → endTime s (r ∷ []) ≡ suc time
+    → endTime s (x ∷ []) ≡ suc time → endTime s (y ∷ []) ≡ suc time → (t : ℕ)
+    → endTime s
+    (cond (eqb what 1) (p ∷ [])
+    (cond (eqb what 2) (q ∷ []) (cond (eqb what 3) (r ∷ []) (cond (eqb what 4) (x ∷ []) (cond (eqb what 5) (y ∷ []) [])))))
+    ≡ suc t
+    → (what ≡ 0 → ⊥) × (what ≡ 1 → ⊥) × (time ≡ t)
+unfolding endTime
+shown-end s what time p q r x y ep eq er ex ey t e =
+    go (eqb what 1) (eqb what 2) (eqb what 3) (eqb what 4) (eqb what 5) refl refl refl refl refl e
+  where
+    at : (k : ℕ) → what ≡ suc (suc k) → suc time ≡ suc t → (what ≡ 0 → ⊥) × (what ≡ 1 → ⊥) × (time ≡ t)
+    at k w h = ((λ z. omega (arith, w, z)), (λ z. omega (arith, w, z)), omega (arith, h))
+
+    go : (a b c d f : Bool) → eqb what 1 ≡ a → eqb what 2 ≡ b → eqb what 3 ≡ c → eqb what 4 ≡ d → eqb what 5 ≡ f
+        → endTime s (cond a (p ∷ []) (cond b (q ∷ []) (cond c (r ∷ []) (cond d (x ∷ []) (cond f (y ∷ []) []))))) ≡ suc t
+        → (what ≡ 0 → ⊥) × (what ≡ 1 → ⊥) × (time ≡ t)
+    go true b c d f ea eb ec ed ef h = absurd (omega (arith, ep, h))
+    go false true c d f ea eb ec ed ef h = at 0 (eqb-true what 2 eb) (sym eq ∙ h)
+    go false false true d f ea eb ec ed ef h = at 1 (eqb-true what 3 ec) (sym er ∙ h)
+    go false false false true f ea eb ec ed ef h = at 2 (eqb-true what 4 ed) (sym ex ∙ h)
+    go false false false false true ea eb ec ed ef h = at 3 (eqb-true what 5 ef) (sym ey ∙ h)
+    go false false false false false ea eb ec ed ef h = absurd (omega (arith, h))
+
+pub end-ran : (s : Settings) (op : Op) (e : Shown) (kept : List ℕ) (time : ℕ) (how : Outcome (plain s)) → Agrees op e
+    → seenOf s e kept ≡ ended time how ∷ [] → Ran op (e .kind) time
+unfolding seenOf endTime
+end-ran s op e kept time how a q =
+    let w = shown-end s (e .what) (e .time) _ _ _ _ _ refl refl refl refl refl time (ap (endTime s) q) in
+    subst (Ran op (e .kind)) (w .2) (a .ends-own (w .0) (w .1))
+
+-- Every routine of a coordinator shows what agrees. Nothing and a beginning agree by themselves:
+nothing-agrees : (op : Op) → Agrees op nothingSeen
+unfolding nothingSeen
+nothing-agrees op = record { ok-writes = λ q. absurd (omega (arith, q)); bytes-read = λ q. absurd (omega (arith, q)); ends-own = λ a b. absurd (a refl) }
+
+began-agrees : (op : Op) (e : Shown) → e .what ≡ beganSeen → Agrees op e
+began-agrees op e w =
+    record { ok-writes = λ q. absurd (omega (arith, w, q)); bytes-read = λ q. absurd (omega (arith, w, q)); ends-own = λ a b. absurd (b w) }
+
+-- an operation that runs, and ends aborted or cut, or finishes
+running : (op : Op) → (op .kind ≡ 1) ⊎ (op .kind ≡ 2) → Ran op (op .kind) (op .time)
+running op k = record { time-is = refl; kind-is = refl; known = k }
+
+short-agrees : (op : Op) (what : ℕ) (bricks : List ℕ) → (op .kind ≡ 1) ⊎ (op .kind ≡ 2) → 4 ≤ what
+    → Agrees op (record { what = what; kind = op .kind; time = op .time; bricks = bricks })
+short-agrees op what bricks k h =
+    record { ok-writes = λ q. absurd (omega (arith, h, q)); bytes-read = λ q. absurd (omega (arith, h, q)); ends-own = λ a b. running op k }
+
+finish-agrees : (op : Op) (bricks : List ℕ) → (op .kind ≡ 1) ⊎ (op .kind ≡ 2)
+    → Agrees op (record { what = finishedSeen op; kind = op .kind; time = op .time; bricks = bricks })
+unfolding finishedSeen
+finish-agrees op bricks k = go (eqb (op .kind) 1) refl
+  where
+    go : (b : Bool) → eqb (op .kind) 1 ≡ b → Agrees op (record { what = cond b 3 2; kind = op .kind; time = op .time; bricks = bricks })
+    go true e = record { ok-writes = λ q. absurd (omega (arith, q)); bytes-read = λ q. e; ends-own = λ a b. running op k }
+    go false e = record { ok-writes = λ q. e; bytes-read = λ q. absurd (omega (arith, q)); ends-own = λ a b. running op k }
+
+acted-agrees : (n m size : ℕ) (h : Held) → opRight (h .state .op) ≡ true → (h .state .op .kind ≡ 1) ⊎ (h .state .op .kind ≡ 2) → (d : Decision)
+    → Says n m (h .state .op) (h .state .tally) d → Agrees (h .state .op) (acted n m size h d .seen)
+unfolding acted ending nextRound Says
+acted-agrees n m size h r k Abort s = short-agrees (h .state .op) 4 noBricks k (omega arith)
+acted-agrees n m size h r k Give s =
+    record {
+      ok-writes = λ q. absurd (omega (arith, q));
+      bytes-read = λ q. eq-eqb (h .state .op .kind) 1 (in-read (h .state .op) r (s .phase-is) .kind-is);
+      ends-own = λ a b. running (h .state .op) k;
+    }
+acted-agrees n m size h r k (Look max) s = nothing-agrees (h .state .op)
+acted-agrees n m size h r k Store s = nothing-agrees (h .state .op)
+acted-agrees n m size h r k (Recover time) s = nothing-agrees (h .state .op)
+acted-agrees n m size h r k Finish s = finish-agrees (h .state .op) (h .state .bricks) k
+
+waiting-agrees : (n m size : ℕ) (h : Held) → opRight (h .state .op) ≡ true → (h .state .op .kind ≡ 1) ⊎ (h .state .op .kind ≡ 2)
+    → Agrees (h .state .op) (waitingOr n m size h .seen)
+unfolding waitingOr
+waiting-agrees n m size h r k = go (ltb (members (h .state .tally .counted) n) (quorum n m))
+  where
+    go : (b : Bool)
+        → Agrees (h .state .op)
+        (cond b (record { next = h; sent = []; seen = nothingSeen }) (acted n m size h (decided n m (h .state .op) (h .state .tally))) .seen)
+    go true = nothing-agrees (h .state .op)
+    go false =
+        acted-agrees n m size h r k (decided n m (h .state .op) (h .state .tally)) (decided-says n m (h .state .op) (h .state .tally))
+
+-- the kinds of a sound record
+kind-known : (op : Op) → opRight op ≡ true → (op .kind ≡ 0 → ⊥) → (op .kind ≡ 1) ⊎ (op .kind ≡ 2)
+unfolding opRight
+kind-known op e n = go (eqb (op .kind) 0) (eqb (op .kind) 1) refl refl e
+  where
+    go : (a b : Bool) → eqb (op .kind) 0 ≡ a → eqb (op .kind) 1 ≡ b
+        → cond a (unsetOp op) (cond b (readRight op) (eqb (op .kind) 2 && writeRight op)) ≡ true → (op .kind ≡ 1) ⊎ (op .kind ≡ 2)
+    go true b ea eb h = absurd (n (eqb-true (op .kind) 0 ea))
+    go false true ea eb h = inl (eqb-true (op .kind) 1 eb)
+    go false false ea eb h = inr (eqb-true (op .kind) 2 (and-left (eqb (op .kind) 2) (writeRight op) h))
+
+fit-known : (op : Op) → Fit op → (op .kind ≡ 1) ⊎ (op .kind ≡ 2)
+fit-known op (reading k p _) = inl k
+fit-known op (looking k p _ _) = inl k
+fit-known op (restoring k p _) = inl k
+fit-known op (ordering k p _ _) = inr k
+fit-known op (storing k p _) = inr k
+
+-- a reply,
+pub take-agrees : (n m size : ℕ) (h : Held) (r : Reply) (block : List ℕ) (coded : ℕ) (g : Went) → takeStep n m size h r block coded ≡ went g
+    → Agrees (h .state .op) (g .seen)
+unfolding counting withTally
+take-agrees n m size h r block coded g e =
+    let t = took n m size h r block coded g e in
+    let o = t .takes .parts .op-right in
+    subst (λ (v : Went). Agrees (h .state .op) (v .seen)) (t .is)
+    (waiting-agrees n m size (counting size h r block) o
+    (fit-known (h .state .op) (fit (h .state .op) o (λ _ z. omega (arith, t .answer .of-phase, t .reply .kind-low, z)))))
+
+-- a crash,
+crash-right : (n m size : ℕ) (c : Coordinator) → crashRefusal n m size c ≡ 0 → opRight (c .op) ≡ true
+unfolding crashRefusal
+crash-right n m size c e =
+    sound-parts n m c (record-passes n m c [] (passed-rest (codeRefusal n m size) (recordChecks n m c []) e) .0 .is-sound) .op-right
+
+pub crash-agrees : (n m size : ℕ) (h : Held) (g : Went) → crashStep n m size h ≡ went g → Agrees (h .state .op) (g .seen)
+unfolding crashStep crashed ending
+crash-agrees n m size h g e =
+    let p = passes (crashRefusal n m size (h .state)) (went (crashed h)) g e in
+    subst (λ (v : Went). Agrees (h .state .op) (v .seen)) (same-went (crashed h) g (p .1))
+    (go (crash-right n m size (h .state) (p .0)) (eqb (h .state .op .kind) 0) refl)
+  where
+    go : opRight (h .state .op) ≡ true → (b : Bool) → eqb (h .state .op .kind) 0 ≡ b
+        → Agrees (h .state .op) (cond b (record { next = h; sent = []; seen = nothingSeen }) (ending h (h .stripe) [] cutSeen noBricks) .seen)
+    go r true q = nothing-agrees (h .state .op)
+    go r false q =
+        short-agrees (h .state .op) 5 noBricks (kind-known (h .state .op) r (eqb-false (h .state .op .kind) 0 q)) (omega arith)
+
+-- the start of a write, and of a read
+pub write-agrees : (n m size : ℕ) (h : Held) (clock : ℕ) (bytes : List ℕ) (g : Went) → writeStep n m size h clock bytes ≡ went g
+    → Agrees (h .state .op) (g .seen)
+write-agrees n m size h clock bytes g e =
+    began-agrees (h .state .op) (g .seen) (ap (λ (v : Shown). v .what) (write-begins n m size h clock bytes g e .0 .seen-is))
+
+pub read-agrees : (n m size : ℕ) (h : Held) (clock first : ℕ) (g : Went) → readStep n m size h clock first ≡ went g → Agrees (h .state .op) (g .seen)
+read-agrees n m size h clock first g e =
+    began-agrees (h .state .op) (g .seen) (ap (λ (v : Shown). v .what) (read-begins n m size h clock first g e .0 .seen-is))

@@ -1,0 +1,13 @@
+-- Laws of `specs/Told`.
+use mathlib.Core.List.{List, [], _∷_, _++_}
+use Prim.Native.Nat.{ℕ}
+use Rattle.settings.specs.declared.Settings.{Settings}
+use Rattle.order.specs.Claim.{Seen, began, ended}
+use Rattle.register.specs.Runs.{plain}
+use Rattle.bench_order.specs.Told.{toldEnd}
+
+-- a line for each end, at coordinator c, and nothing for a beginning
+unfoldable pub told : (s : Settings) → ℕ → ℕ → List (Seen (plain s)) → List ℕ
+told s c kind [] = []
+told s c kind (began time action ∷ l) = told s c kind l
+told s c kind (ended time how ∷ l) = toldEnd s c kind time how ++ told s c kind l

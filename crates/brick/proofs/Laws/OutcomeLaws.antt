@@ -1,0 +1,330 @@
+-- From the answers of the parts to the outcome of a message.
+use mathlib.Core.Path.{_≡_, refl, sym, ap, ap₂, subst, _∙_}
+use mathlib.Core.Bool.{Bool, true, false, cond, not, _&&_}
+use mathlib.Core.List.{List, [], _∷_}
+use Prim.Native.Nat.{ℕ, zero, suc, _+_, _-_, _*_, _≤_, _<_}
+use native.Mathlib.Omega.{arith}
+use native.Mathlib.Decide.{ℕ-discrete}
+use lib.Dec.{leb, ltb, eqb}
+use lib.ListN.{length, take, drop, getD}
+use lib.Seq.{take-take, drop-drop}
+use borrow.Author.Tests.{eq-eqb, ne-eqb, eqb-true, eqb-false}
+use Rattle.settings.specs.Ranges.{settingsRefusal}
+use Rattle.settings.specs.Refusal.{firstRefusal, refuseUnless}
+use Rattle.settings.specs.declared.Settings.{Settings}
+use Rattle.settings.proofs.Laws.RefusalLaws.{first-stop, first-pass}
+use Rattle.message.specs.Flags.{member}
+use Rattle.message.specs.Messages.{messageRefusal}
+use Rattle.message.specs.declared.Message.{Message}
+use Rattle.image.specs.Brick.{Brick, count, timeAt, heldAt, newest}
+use Rattle.image.specs.Image.{imageOf}
+use Rattle.image.specs.Parse.{Opens, Refuses, parse, openRefusal, blockAt, countIn, brickIn, heldIn}
+use Rattle.image.specs.Parse.{Opened}
+use Rattle.image.proofs.Laws.ParseLaws.{count-in}
+use Rattle.image.proofs.Laws.TestLaws.{held-in}
+use Rattle.image.specs.Opening.{workingLog, opening, answerNumber, blank}
+use Rattle.image.specs.Opening.{Hub}
+use Rattle.image.proofs.Laws.HubLaws.{turned, log-at}
+use Rattle.image.specs.declared.Entry.{Entry}
+use Rattle.image.specs.declared.Head.{Head}
+use Rattle.image.specs.declared.Opening.{Opening}
+use Rattle.image.specs.declared.Answer.the-variants.{Refused as Failed}
+use Rattle.saving.specs.Saving.{without}
+use Rattle.brick_plan.specs.Steps.{notBelowPromise, aboveNewest, readYes, orderYes, lookup, trimmedTo, timeFor, placeFor, foundFor, yesTo, replyTo, after, blockAfter}
+use Rattle.brick.specs.Receive.{blocksRefusal, receiveRefusal, Outcome, refusedWith, givenBy, acted, outcome}
+use Rattle.brick_plan.specs.Plans.{Ready, Ahead, Planned, Cut, underIn, underFor, placeOf, timeOf, readPlace, gaveOf}
+use Rattle.brick_plan.proofs.Laws.LookLaws.{under-brick, under-high, place-brick, time-brick}
+use Rattle.brick.proofs.Laws.TrimLaws.{cut-trims}
+use Rattle.brick_plan.specs.declared.Known.{Known}
+use Rattle.brick_plan.specs.declared.Plan.{Plan}
+use Rattle.brick.specs.declared.Given.{Given}
+use Rattle.brick.specs.declared.Given.the-variants.{Answered, Silent, Refused}
+use Rattle.block.proofs.Laws.PutLaws.{drop-take}
+
+-- the first refusal of a list
+pub first-is : (a k : ℕ) (rest : List ℕ) → k ≡ a → (k ≡ 0 → ⊥) → firstRefusal (a ∷ rest) ≡ k
+first-is a k rest e h = sym (e ∙ first-stop a rest (λ z. h (e ∙ z)))
+
+-- the ways of the first checks
+module _ (s : Settings) (block out k : ℕ) (e : k ≡ settingsRefusal s) where
+  pub blocks-setting : (k ≡ 0 → ⊥) → k ≡ blocksRefusal s block out
+  unfolding blocksRefusal
+  blocks-setting h = sym (first-is (settingsRefusal s) k _ e h)
+
+  pub blocks-block : k ≡ 0 → (block ≡ s .size → ⊥) → 2 ≡ blocksRefusal s block out
+  unfolding blocksRefusal firstRefusal
+  blocks-block z h = rw (sym e ∙ z, ne-eqb block (s .size) h) refl
+
+  pub blocks-out : k ≡ 0 → block ≡ s .size → (out ≡ s .size → ⊥) → 2 ≡ blocksRefusal s block out
+  unfolding blocksRefusal firstRefusal
+  blocks-out z b h = rw (sym e ∙ z, eq-eqb block (s .size) b, ne-eqb out (s .size) h) refl
+
+  pub blocks-right : k ≡ 0 → block ≡ s .size → out ≡ s .size → 0 ≡ blocksRefusal s block out
+  unfolding blocksRefusal firstRefusal
+  blocks-right z b h = rw (sym e ∙ z, eq-eqb block (s .size) b, eq-eqb out (s .size) h) refl
+
+-- what passes them
+pub blocks-passed : (s : Settings) (block out k : ℕ) → k ≡ blocksRefusal s block out → k ≡ 0 → (block ≡ s .size) × (out ≡ s .size)
+unfolding blocksRefusal firstRefusal
+blocks-passed s block out k e z = go (settingsRefusal s) (eqb block (s .size)) (eqb out (s .size)) refl refl (sym e ∙ z)
+  where
+    go : (a : ℕ) (b c : Bool) → eqb block (s .size) ≡ b → eqb out (s .size) ≡ c → firstRefusal (a ∷ refuseUnless b 2 ∷ refuseUnless c 2 ∷ []) ≡ 0
+        → (block ≡ s .size) × (out ≡ s .size)
+    go (suc a) b c eb ec r = absurd (omega arith)
+    go zero false c eb ec r = absurd (omega arith)
+    go zero true false eb ec r = absurd (omega arith)
+    go zero true true eb ec r = (eqb-true block (s .size) eb, eqb-true out (s .size) ec)
+
+-- the numbers of an opening
+open-number : (s : Settings) (brick : ℕ) (l : List ℕ) (n : ℕ) → parse s brick l ≡ Refuses n → (openRefusal s brick l ≡ n) × (n ≡ 0 → ⊥)
+unfolding parse
+open-number s brick l n e = go (eqb (openRefusal s brick l) 0) refl e
+  where
+    go : (b : Bool) → eqb (openRefusal s brick l) 0 ≡ b → cond b (Opens (brickIn s l)) (Refuses (openRefusal s brick l)) ≡ Refuses n
+        → (openRefusal s brick l ≡ n) × (n ≡ 0 → ⊥)
+    go true q w = let z : _≡_ {A = ℕ} 0 1 = cc in absurd (omega arith)
+    go false q w =
+        let m : openRefusal s brick l ≡ n = cc in
+        (m, λ z. eqb-false (openRefusal s brick l) 0 q (m ∙ z))
+
+open-zero : (s : Settings) (brick : ℕ) (l : List ℕ) (x : Brick) → parse s brick l ≡ Opens x → openRefusal s brick l ≡ 0
+unfolding parse
+open-zero s brick l x e = go (eqb (openRefusal s brick l) 0) refl e
+  where
+    go : (b : Bool) → eqb (openRefusal s brick l) 0 ≡ b → cond b (Opens (brickIn s l)) (Refuses (openRefusal s brick l)) ≡ Opens x → openRefusal s brick l ≡ 0
+    go true q w = eqb-true (openRefusal s brick l) 0 q
+    go false q w = let z : _≡_ {A = ℕ} 0 1 = cc in absurd (omega arith)
+
+-- the three parts of an outcome
+abbrev pub Ends : Outcome → Given → List ℕ → List ℕ → Type 0
+Ends o g image out = (g ≡ o .given) × ((image ≡ o .image) × (out ≡ o .out))
+
+module _ (s : Settings) (brick : ℕ) (l : List ℕ) (msg : Message) (block out : List ℕ) where
+  -- a refusal changes nothing
+  ends-refused : (n : ℕ) → receiveRefusal s brick l msg (length block) (length out) ≡ n → (n ≡ 0 → ⊥) → Ends (outcome s brick l msg block out) (Refused n) l out
+  unfolding outcome refusedWith
+  ends-refused n e z =
+      let o : outcome s brick l msg block out ≡ refusedWith n l out = rw (e, ne-eqb n 0 z) refl in
+      (sym (ap (λ (w : Outcome). w .given) o), (sym (ap (λ (w : Outcome). w .image) o), sym (ap (λ (w : Outcome). w .out) o)))
+
+  pub ends-early : (k : ℕ) → k ≡ blocksRefusal s (length block) (length out) → (k ≡ 0 → ⊥) → Ends (outcome s brick l msg block out) (Refused k) l out
+  unfolding receiveRefusal
+  ends-early k e z = ends-refused k (first-is (blocksRefusal s (length block) (length out)) k _ e z) z
+
+  module _ (k : ℕ) (ek : k ≡ blocksRefusal s (length block) (length out)) (zk : k ≡ 0) where
+    pub ends-unopened : (o : Opening) (j n : ℕ) → o ≡ opening (parse s brick l) → o .answer ≡ Failed j → n ≡ answerNumber (o .answer)
+        → Ends (outcome s brick l msg block out) (Refused n) l out
+    unfolding receiveRefusal
+    ends-unopened o j n e f g =
+        let q = open-number s brick l n (turned (parse s brick l) o j n e f g) in
+        ends-refused n
+        (first-pass (blocksRefusal s (length block) (length out)) (openRefusal s brick l ∷ messageRefusal (s .n) (s .m) msg ∷ []) (sym ek ∙ zk)
+        ∙ first-is (openRefusal s brick l) n (messageRefusal (s .n) (s .m) msg ∷ []) (sym (q .0)) (q .1))
+        (q .1)
+
+    module _ (x : Brick) (is : parse s brick l ≡ Opens x) (w : ℕ) (ew : w ≡ messageRefusal (s .n) (s .m) msg) where
+      rest : receiveRefusal s brick l msg (length block) (length out) ≡ firstRefusal (w ∷ [])
+      unfolding receiveRefusal
+      rest =
+          first-pass (blocksRefusal s (length block) (length out)) (openRefusal s brick l ∷ messageRefusal (s .n) (s .m) msg ∷ []) (sym ek ∙ zk)
+          ∙ first-pass (openRefusal s brick l) (messageRefusal (s .n) (s .m) msg ∷ []) (open-zero s brick l x is)
+          ∙ ap (λ (j : ℕ). firstRefusal (j ∷ [])) (sym ew)
+
+      pub ends-wrong : (w ≡ 0 → ⊥) → Ends (outcome s brick l msg block out) (Refused w) l out
+      ends-wrong z = ends-refused w (rest ∙ first-is w w [] refl z) z
+
+      pub ends-acted : w ≡ 0 → (g : Given) (image out′ : List ℕ) → g ≡ givenBy s brick x msg → image ≡ imageOf s brick (after s x msg block)
+          → out′ ≡ blockAfter x (placeFor brick x msg) out → Ends (outcome s brick l msg block out) g image out′
+      unfolding outcome acted firstRefusal
+      ends-acted z g image out′ eg ei eo =
+          let r : receiveRefusal s brick l msg (length block) (length out) ≡ 0 = rest ∙ first-pass w [] z in
+          let o : outcome s brick l msg block out ≡ acted s brick msg block l out (Opens x) = rw (r, is) refl in
+          (eg ∙ sym (ap (λ (v : Outcome). v .given) o), (ei ∙ sym (ap (λ (v : Outcome). v .image) o), eo ∙ sym (ap (λ (v : Outcome). v .out) o)))
+
+-- an opened image, and the plan that was made in its log
+pub ready : (s : Settings) (brick : ℕ) (l : List ℕ) (o : Opening) (h : Head) → Hub s brick l o h
+    → Ready s brick l (record { count = h .count; promise = h .promise; newest = getD (o .log) (h .count - 1) blank .time })
+unfolding newest
+ready s brick l o h u =
+    let e = u .saved .is-read in
+    let c : h .count ≡ count (brickIn s l) = u .counts ∙ ap count e in
+    record {
+      saved = subst (λ (y : Brick). Opened s brick l y) e (u .saved);
+      counts = c;
+      promises = u .promises ∙ ap (λ (y : Brick). y .promise) e;
+      newests =
+          ap (λ (k : ℕ). getD (o .log) (k - 1) blank .time) (u .counts)
+          ∙ ap (λ (g : List Entry). getD g (count (u .x) - 1) blank .time) (u .logs)
+          ∙ ap (λ (v : Entry). v .time) (log-at (u .x) (count (u .x) - 1) blank (omega (arith, u .low, u .counts)) (omega (arith, u .most, u .counts)))
+          ∙ ap (λ (y : Brick). timeAt y (count y - 1)) e;
+      low = u .low;
+      high = u .high;
+      most = u .saved .range .capacity-high;
+    }
+
+module _ (s : Settings) (brick : ℕ) (l : List ℕ) (k : Known) (r : Ready s brick l k) (msg : Message) where
+  few : count (brickIn s l) ≤ 32
+  few = omega (arith, r .counts, r .high, r .most)
+
+  place-read : msg .kind ≡ 1 → readPlace k (msg .targets) brick ≡ placeFor brick (brickIn s l) msg
+  unfolding placeFor readPlace readYes notBelowPromise
+  place-read e =
+      rw (eq-eqb (msg .kind) 1 e)
+      (ap₂ (λ (a b : ℕ). cond (leb a b && member (msg .targets) brick) (k .count) 0) (r .promises) (r .newests)
+      ∙ ap (λ (c : ℕ). cond (leb (brickIn s l .promise) (newest (brickIn s l)) && member (msg .targets) brick) c 0) (r .counts))
+
+  found-read : msg .kind ≡ 1 → k .newest ≡ foundFor brick (brickIn s l) msg
+  unfolding foundFor
+  found-read e = rw (eq-eqb (msg .kind) 1 e) (r .newests)
+
+  read-high : readPlace k (msg .targets) brick ≤ k .count
+  unfolding readPlace
+  read-high = go (leb (k .promise) (k .newest) && member (msg .targets) brick)
+    where
+      go : (b : Bool) → cond b (k .count) 0 ≤ k .count
+      go true = omega arith
+      go false = omega arith
+
+  module _ (log : List Entry) (el : log ≡ workingLog (brickIn s l)) where
+    under-is : msg .kind ≡ 3 → underFor log k msg ≡ placeFor brick (brickIn s l) msg
+    unfolding placeFor underFor lookup orderYes aboveNewest notBelowPromise
+    under-is e =
+        rw (ne-eqb (msg .kind) 1 (λ q. omega (arith, e, q)), eq-eqb (msg .kind) 3 e)
+        (ap₂ (λ (a b : ℕ). cond (ltb a (msg .time) && leb b (msg .time)) (underIn log (msg .max) (k .count)) 0) (r .newests) (r .promises)
+        ∙ ap (λ (u : ℕ). cond (ltb (newest (brickIn s l)) (msg .time) && leb (brickIn s l .promise) (msg .time)) u 0)
+        (ap₂ (λ (g : List Entry) (c : ℕ). underIn g (msg .max) c) el (r .counts) ∙ under-brick (brickIn s l) (msg .max) (count (brickIn s l)) (omega arith) few))
+
+    under-low : underFor log k msg ≤ k .count
+    unfolding underFor
+    under-low = go (ltb (k .newest) (msg .time) && leb (k .promise) (msg .time)) (under-high log (msg .max) (k .count))
+      where
+        go : (b : Bool) → underIn log (msg .max) (k .count) ≤ k .count → cond b (underIn log (msg .max) (k .count)) 0 ≤ k .count
+        go true h = h
+        go false h = omega arith
+
+    place-same : placeOf log (underFor log k msg) ≡ underFor log k msg
+    place-same = ap (λ (g : List Entry). placeOf g (underFor log k msg)) el ∙ place-brick (brickIn s l) (underFor log k msg) (omega (arith, under-low, r .counts)) few
+
+    found-look : msg .kind ≡ 3 → timeOf log (underFor log k msg) ≡ foundFor brick (brickIn s l) msg
+    unfolding foundFor
+    found-look e =
+        rw (ne-eqb (msg .kind) 1 (λ q. omega (arith, e, q)))
+        (ap (λ (g : List Entry). timeOf g (underFor log k msg)) el
+        ∙ time-brick (brickIn s l) (underFor log k msg) (omega (arith, under-low, r .counts)) few
+        ∙ ap (λ (n : ℕ). timeFor (brickIn s l) n) (under-is e))
+
+  place-none : (msg .kind ≡ 1 → ⊥) → (msg .kind ≡ 3 → ⊥) → 0 ≡ placeFor brick (brickIn s l) msg
+  unfolding placeFor
+  place-none a b = rw (ne-eqb (msg .kind) 1 a, ne-eqb (msg .kind) 3 b) refl
+
+  found-none : (msg .kind ≡ 1 → ⊥) → (msg .kind ≡ 3 → ⊥) → 0 ≡ foundFor brick (brickIn s l) msg
+  unfolding foundFor timeFor
+  found-none a b = rw (ne-eqb (msg .kind) 1 a, sym (place-none a b)) refl
+
+pub ahead : (s : Settings) (brick : ℕ) (l : List ℕ) (k : Known) (log : List Entry) (msg : Message) (p : Plan) → Ready s brick l k → log ≡ workingLog (brickIn s l)
+    → Planned log k msg brick p → Ahead brick (brickIn s l) k msg p
+ahead s brick l k log msg p r e q = go (ℕ-discrete (msg .kind) 1) (ℕ-discrete (msg .kind) 3)
+  where
+    low : msg .kind ≡ 5 → p .cut < k .count
+    low z = q .cuts z .low
+
+    trims : msg .kind ≡ 5 → trimmedTo (brickIn s l) (msg .time) ≡ without (brickIn s l) (p .cut)
+    trims z =
+        cut-trims s (brickIn s l) (msg .time) (p .cut) (r .saved .keeps) (omega (arith, r .counts, r .high, r .most))
+        (subst (λ (g : List Entry). Cut g (count (brickIn s l)) (msg .time) (p .cut)) e
+        (subst (λ (c : ℕ). Cut log c (msg .time) (p .cut)) (r .counts) (q .cuts z)))
+
+    made : p .place ≡ placeFor brick (brickIn s l) msg → p .found ≡ foundFor brick (brickIn s l) msg → p .place ≤ k .count → Ahead brick (brickIn s l) k msg p
+    made a b c = record { place-is = a; found-is = b; place-high = c; cut-low = low; cut-is = trims }
+
+    go : Dec (msg .kind ≡ 1) → Dec (msg .kind ≡ 3) → Ahead brick (brickIn s l) k msg p
+    go (yes a) b =
+        let w = q .reads a in
+        made (w .0 ∙ place-read s brick l k r msg a) (w .1 ∙ found-read s brick l k r msg a) (omega (arith, w .0, read-high s brick l k r msg))
+    go (no a) (yes b) =
+        let w = q .looks b in
+        let m = place-same s brick l k r msg log e in
+        made (w .0 ∙ m ∙ under-is s brick l k r msg log e b) (w .1 ∙ found-look s brick l k r msg log e b)
+        (omega (arith, w .0, m, under-low s brick l k r msg log e))
+    go (no a) (no b) =
+        let w = q .others a b in
+        made (w .0 ∙ place-none s brick l k r msg a b) (w .1 ∙ found-none s brick l k r msg a b) (omega (arith, w .0))
+
+-- the bytes of a held block
+held-bytes : (l : List ℕ) (size p : ℕ) → size ≤ 256 → take size (drop (512 * p + 16) l) ≡ heldIn size (blockAt l p)
+unfolding heldIn blockAt
+held-bytes l size p h =
+    ap (λ (m : List ℕ). take size m) (sym (drop-drop 16 (512 * p) l))
+    ∙ sym (take-take size 496 (drop 16 (drop (512 * p) l)) (omega arith))
+    ∙ ap (λ (m : List ℕ). take size m) (sym (drop-take 16 496 (drop (512 * p) l)))
+
+pub gave-is : (s : Settings) (brick : ℕ) (l : List ℕ) (k : Known) (place : ℕ) (out : List ℕ) → Ready s brick l k → place ≤ k .count
+    → gaveOf l (s .size) place out ≡ blockAfter (brickIn s l) place out
+unfolding gaveOf blockAfter
+gave-is s brick l k zero out r h = refl
+gave-is s brick l k (suc i) out r h =
+    let m : suc i - 1 ≡ i = omega arith in
+    let low : i < countIn (blockAt l 0) = omega (arith, r .counts, count-in s l) in
+    let n : i + 1 ≡ suc i = omega arith in
+    rw (ne-eqb (suc i) 0 (λ q. omega (arith, q)))
+    (held-bytes l (s .size) (suc i) (r .saved .range .code .size-high)
+    ∙ sym (ap (λ (j : ℕ). heldAt (brickIn s l) j) m ∙ held-in s l i low ∙ ap (λ (j : ℕ). heldIn (s .size) (blockAt l j)) n))
+
+-- the ways of acting
+module _ (s : Settings) (brick : ℕ) (l : List ℕ) (k : Known) (msg : Message) (p : Plan) (block out : List ℕ) (r : Ready s brick l k) (h : Ahead brick (brickIn s l) k msg p) where
+  abbrev pub Acts : Given → List ℕ → List ℕ → Type 0
+  Acts g image out′ =
+      (g ≡ givenBy s brick (brickIn s l) msg)
+      × ((image ≡ imageOf s brick (after s (brickIn s l) msg block)) × (out′ ≡ blockAfter (brickIn s l) (placeFor brick (brickIn s l) msg) out))
+
+  pub acts-trim : (image : List ℕ) → msg .kind ≡ 5 → image ≡ imageOf s brick (without (brickIn s l) (p .cut)) → Acts Silent image out
+  unfolding givenBy after blockAfter
+  acts-trim image e w = (
+    sym (rw (eq-eqb (msg .kind) 5 e) refl),
+    (
+      w ∙ ap (λ (y : Brick). imageOf s brick y) (sym (rw (eq-eqb (msg .kind) 5 e) (h .cut-is e))),
+      sym (rw (sym (place-none s brick l k r msg (λ q. omega (arith, e, q)) (λ q. omega (arith, e, q)))) refl),
+    ),
+  )
+
+  pub acts-reply : (v : Bool) (image out′ : List ℕ) → (msg .kind ≡ 5 → ⊥) → v ≡ yesTo s (brickIn s l) msg
+      → image ≡ imageOf s brick (after s (brickIn s l) msg block) → out′ ≡ gaveOf l (s .size) (p .place) out
+      → Acts (Answered (record {
+        kind = msg .kind;
+        brick = brick;
+        time = msg .time;
+        round = msg .round;
+        yes = v;
+        found = p .found;
+        held = not (eqb (p .place) 0);
+      })) image out′
+  unfolding givenBy replyTo
+  acts-reply v image out′ e ev ei eo = (
+    sym (rw (ne-eqb (msg .kind) 5 e) (sym (reply ev (h .found-is) (ap (λ (n : ℕ). not (eqb n 0)) (h .place-is))))),
+    (
+      ei,
+      eo ∙ gave-is s brick l k (p .place) out r (h .place-high) ∙ ap (λ (n : ℕ). blockAfter (brickIn s l) n out) (h .place-is),
+    ),
+  )
+    where
+      reply : v ≡ yesTo s (brickIn s l) msg → p .found ≡ foundFor brick (brickIn s l) msg → not (eqb (p .place) 0) ≡ not (eqb (placeFor brick (brickIn s l) msg) 0)
+          → _≡_ {A = Given}
+          (Answered (record { kind = msg .kind; brick = brick; time = msg .time; round = msg .round; yes = v; found = p .found; held = not (eqb (p .place) 0) }))
+          (Answered (record {
+            kind = msg .kind;
+            brick = brick;
+            time = msg .time;
+            round = msg .round;
+            yes = yesTo s (brickIn s l) msg;
+            found = foundFor brick (brickIn s l) msg;
+            held = not (eqb (placeFor brick (brickIn s l) msg) 0);
+          }))
+      reply a b c =
+          λ i. Answered (record { kind = msg .kind; brick = brick; time = msg .time; round = msg .round; yes = a i; found = b i; held = c i })
+
+pub log-is : (s : Settings) (brick : ℕ) (l : List ℕ) (o : Opening) (h : Head) → Hub s brick l o h → o .log ≡ workingLog (brickIn s l)
+log-is s brick l o h u = u .logs ∙ ap workingLog (u .saved .is-read)
+
+-- ... at the brick that the hub names
+pub hub-reads : (s : Settings) (brick : ℕ) (l : List ℕ) (o : Opening) (h : Head) → Hub s brick l o h → parse s brick l ≡ Opens (brickIn s l)
+hub-reads s brick l o h u = u .is ∙ ap Opens (u .saved .is-read)

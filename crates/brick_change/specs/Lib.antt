@@ -1,2 +1,0 @@
--- Laws: ActLaws.
-pub mod ActLaws

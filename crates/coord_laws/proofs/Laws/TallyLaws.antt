@@ -1,0 +1,228 @@
+-- Laws of `specs/TallyLaws`.
+use mathlib.Core.Path.{_≡_, refl, ap, _∙_}
+use mathlib.Core.Bool.{Bool, true, false, cond, not, _&&_, _||_}
+use mathlib.Core.List.{List, [], _∷_}
+use mathlib.Core.Logic.{_⊎_, inl, inr}
+use Prim.Native.Nat.{ℕ, zero, suc, _≤_, _<_, max}
+use native.Mathlib.Decide.{ℕ-discrete, decLt}
+use native.Mathlib.Omega.{arith}
+use lib.Dec.{eqb, leb, ltb}
+use lib.ListN.{getD, set, replicate, length-set}
+use lib.Seq.{getD-set-same, getD-set-other}
+use borrow.Author.Tests.{lt-ltb, eqb-true, leb-true, ltb-true, not-true}
+use Rattle.coord_laws.proofs.Laws.OpCases.{clash}
+use Rattle.settings.proofs.Laws.Each.{each-all, each-at}
+use Rattle.coord_record.specs.Rules.{isTarget, blockRight, countedRight, entryRight, tallyRight}
+use Rattle.coord_record.specs.declared.Op.{Op}
+use Rattle.coord_record.specs.declared.Tally.{Tally}
+use Rattle.coord_counts.specs.Counting.{highest}
+use Rattle.coord_rounds.specs.Deciding.{answers, tallied}
+use Rattle.message.specs.Flags.{member, members}
+use Rattle.message.specs.Messages.{roundRight, foundRight, replyRight, replyRefusal}
+use Rattle.message.specs.declared.Reply.{Reply}
+use Rattle.settings.specs.Count.{count, one-if}
+use Rattle.settings.proofs.Laws.Count.{one-is}
+use Rattle.settings.proofs.Laws.RangeLaws.{and-left, and-right}
+use Rattle.settings.specs.Refusal.{firstRefusal, refuseUnless}
+use Rattle.settings.specs.Times.{validTime}
+use Rattle.coord_laws.specs.Soundness.{Sized}
+
+-- A counted reply is of the running operation and round, from a brick not counted before, with a block by the round's rules.
+pub record Answering (n m : ℕ) (op : Op) (t : Tally) (r : Reply) : Type 0 where
+  pub of-phase : r .kind ≡ op .phase
+  pub of-operation : r .time ≡ op .time
+  pub of-round : r .round ≡ op .round
+  pub not-counted : member (t .counted) (r .brick) ≡ false
+  pub block-right : blockRight (op .phase) (isTarget n m (op .first) (r .brick)) (r .yes) (r .held) (r .found) ≡ true
+
+pub answering : (n m : ℕ) (op : Op) (t : Tally) (r : Reply) → answers n m op t r ≡ true → Answering n m op t r
+unfolding answers
+answering n m op t r e =
+    let k = eqb (r .kind) (op .phase) in
+    let o = eqb (r .time) (op .time) in
+    let u = eqb (r .round) (op .round) in
+    let c = not (member (t .counted) (r .brick)) in
+    let b = blockRight (op .phase) (isTarget n m (op .first) (r .brick)) (r .yes) (r .held) (r .found) in
+    let four = and-left (k && o && u && c) b e in
+    let three = and-left (k && o && u) c four in
+    let two = and-left (k && o) u three in
+    record {
+      of-phase = eqb-true (r .kind) (op .phase) (and-left k o two);
+      of-operation = eqb-true (r .time) (op .time) (and-right k o two);
+      of-round = eqb-true (r .round) (op .round) (and-right (k && o) u three);
+      not-counted = not-true (member (t .counted) (r .brick)) (and-right (k && o && u) c four);
+      block-right = and-right (k && o && u && c) b e;
+    }
+
+-- a reply that a brick may give
+pub record ReplyParts (n : ℕ) (r : Reply) : Type 0 where
+  pub brick-low : r .brick < n
+  pub kind-low : 1 ≤ r .kind
+  pub kind-high : r .kind ≤ 4
+  pub time-valid : validTime (r .time) ≡ true
+  pub found-right : foundRight (r .found) ≡ true
+
+right-parts : (n : ℕ) (r : Reply) → r .brick < n → replyRight r ≡ true → ReplyParts n r
+unfolding replyRight
+right-parts n r h e =
+    let l = leb 1 (r .kind) in
+    let k = leb (r .kind) 4 in
+    let v = validTime (r .time) in
+    let u = roundRight (r .round) in
+    let f = foundRight (r .found) in
+    let four = and-left (l && k && v && u) f e in
+    let three = and-left (l && k && v) u four in
+    let two = and-left (l && k) v three in
+    record {
+      brick-low = h;
+      kind-low = leb-true 1 (r .kind) (and-left l k two);
+      kind-high = leb-true (r .kind) 4 (and-right l k two);
+      time-valid = and-right (l && k) v three;
+      found-right = and-right (l && k && v && u) f e;
+    }
+
+pub reply-parts : (n : ℕ) (r : Reply) → replyRefusal n r ≡ 0 → ReplyParts n r
+unfolding replyRefusal firstRefusal
+reply-parts n r e = go (ltb (r .brick) n) (replyRight r) refl refl e
+  where
+    go : (a b : Bool) → ltb (r .brick) n ≡ a → replyRight r ≡ b → firstRefusal (refuseUnless a 3 ∷ refuseUnless b 10 ∷ []) ≡ 0 → ReplyParts n r
+    go true true ea eb q = right-parts n r (ltb-true (r .brick) n ea) eb
+    go true false ea eb q = absurd (omega arith)
+    go false b ea eb q = absurd (omega arith)
+
+pub tallied-sized : (t : Tally) (r : Reply) → Sized t → Sized (tallied t r)
+unfolding tallied
+tallied-sized t r s =
+    record {
+      counted-size = length-set (t .counted) (r .brick) 1 ∙ s .counted-size;
+      granted-size = length-set (t .granted) (r .brick) (one-if (r .yes)) ∙ s .granted-size;
+      held-size = length-set (t .held) (r .brick) (one-if (r .held)) ∙ s .held-size;
+      found-size = length-set (t .found) (r .brick) (r .found) ∙ s .found-size;
+    }
+
+-- none counted
+pub zeros-at : (k b : ℕ) → getD {A = ℕ} (replicate k 0) b 0 ≡ 0
+zeros-at zero b = refl
+zeros-at (suc k) zero = refl
+zeros-at (suc k) (suc b) = zeros-at k b
+
+pub zeros-counted : (n : ℕ) → members (replicate 16 0) n ≡ 0
+unfolding members count member
+zeros-counted zero = refl
+zeros-counted (suc n) = rw (zeros-at 16 n) (let e = zeros-counted n in omega arith)
+
+-- what is kept of a reply that answers is right
+flag-low : (b : Bool) → leb (one-if b) 1 ≡ true
+flag-low true = refl
+flag-low false = refl
+
+kept-right : (n m : ℕ) (op : Op) (t : Tally) (r : Reply) → ReplyParts n r → Answering n m op t r
+    → entryRight n m (op .phase) (op .first) (r .brick) 1 (one-if (r .yes)) (one-if (r .held)) (r .found) ≡ true
+unfolding entryRight countedRight
+kept-right n m op t r p a =
+    rw (
+      lt-ltb 0 (op .phase) (let q = a .of-phase in omega (arith, p .kind-low)),
+      lt-ltb (r .brick) n (p .brick-low),
+      flag-low (r .yes),
+      flag-low (r .held),
+      p .found-right,
+      one-is (r .yes),
+      one-is (r .held),
+    ) (a .block-right)
+
+-- the tally with it is right
+pub tallied-right : (n m : ℕ) (op : Op) (t : Tally) (r : Reply) → n ≤ 16 → Sized t → tallyRight n m (op .phase) (op .first) t ≡ true → ReplyParts n r → Answering n m op t r
+    → tallyRight n m (op .phase) (op .first) (tallied t r) ≡ true
+unfolding tallyRight tallied
+tallied-right n m op t r few s e p a =
+    each-all
+    (λ (b : ℕ). entryRight n m (op .phase) (op .first) b (getD (set (t .counted) (r .brick) 1) b 0) (getD (set (t .granted) (r .brick) (one-if (r .yes))) b 0)
+    (getD (set (t .held) (r .brick) (one-if (r .held))) b 0) (getD (set (t .found) (r .brick) (r .found)) b 0))
+    16 (λ b l. go b l (ℕ-discrete b (r .brick)))
+  where
+    old : (b : ℕ) → b < 16 → entryRight n m (op .phase) (op .first) b (getD (t .counted) b 0) (getD (t .granted) b 0) (getD (t .held) b 0) (getD (t .found) b 0) ≡ true
+    old b l =
+        each-at
+        (λ (b : ℕ). entryRight n m (op .phase) (op .first) b (getD (t .counted) b 0) (getD (t .granted) b 0) (getD (t .held) b 0) (getD (t .found) b 0))
+        16 b e l
+
+    go : (b : ℕ) → b < 16 → Dec (b ≡ r .brick)
+        → entryRight n m (op .phase) (op .first) b (getD (set (t .counted) (r .brick) 1) b 0) (getD (set (t .granted) (r .brick) (one-if (r .yes))) b 0)
+        (getD (set (t .held) (r .brick) (one-if (r .held))) b 0) (getD (set (t .found) (r .brick) (r .found)) b 0) ≡ true
+    go b l (yes q) =
+        let w : r .brick < 16 = omega arith in
+        rw (
+          q,
+          getD-set-same (t .counted) (r .brick) 1 0 (let z = s .counted-size in omega arith),
+          getD-set-same (t .granted) (r .brick) (one-if (r .yes)) 0 (let z = s .granted-size in omega arith),
+          getD-set-same (t .held) (r .brick) (one-if (r .held)) 0 (let z = s .held-size in omega arith),
+          getD-set-same (t .found) (r .brick) (r .found) 0 (let z = s .found-size in omega arith),
+        ) (kept-right n m op t r p a)
+    go b l (no q) =
+        rw (
+          getD-set-other (t .counted) (r .brick) b 1 0 q,
+          getD-set-other (t .granted) (r .brick) b (one-if (r .yes)) 0 q,
+          getD-set-other (t .held) (r .brick) b (one-if (r .held)) 0 q,
+          getD-set-other (t .found) (r .brick) b (r .found) 0 q,
+        ) (old b l)
+
+-- the highest time is 0 or that of a brick of the set
+pub highest-found : (flags found : List ℕ) (n : ℕ)
+    → (highest flags found n ≡ 0) ⊎ ((b : ℕ) × (b < n) × (member flags b ≡ true) × (highest flags found n ≡ getD found b 0))
+unfolding highest
+highest-found flags found zero = inl refl
+highest-found flags found (suc n) = go (member flags n) refl (highest-found flags found n) (decLt (highest flags found n) (getD found n 0))
+  where
+    go : (f : Bool) → member flags n ≡ f
+        → (highest flags found n ≡ 0) ⊎ ((b : ℕ) × (b < n) × (member flags b ≡ true) × (highest flags found n ≡ getD found b 0))
+        → Dec (highest flags found n < getD found n 0)
+        → (cond f (max (highest flags found n) (getD found n 0)) (highest flags found n) ≡ 0)
+        ⊎ ((b : ℕ) × (b < suc n) × (member flags b ≡ true) × (cond f (max (highest flags found n) (getD found n 0)) (highest flags found n) ≡ getD found b 0))
+    go true e ih (yes l) = inr (n, omega arith, e, omega arith)
+    go true e (inl z) (no l) = inl (omega arith)
+    go true e (inr w) (no l) = inr (w .0, omega (arith, w .1), w .2, omega (arith, w .3))
+    go false e (inl z) d = inl z
+    go false e (inr w) d = inr (w .0, omega (arith, w .1), w .2, w .3)
+
+-- a time found that is not 0 is a valid time
+held-found : (n m phase first b counted granted held found : ℕ) → entryRight n m phase first b counted granted held found ≡ true → held ≡ 1 → foundRight found ≡ true
+unfolding entryRight countedRight
+held-found n m phase first b counted granted held found e h = go (eqb counted 0) (rw h at e)
+  where
+    go : (a : Bool)
+        → cond a (eqb granted 0 && false && eqb found 0)
+        (eqb counted 1 && (ltb 0 phase && ltb b n && leb granted 1 && true && foundRight found && blockRight phase (isTarget n m first b) (eqb granted 1) true found))
+        ≡ true → foundRight found ≡ true
+    go true q = clash (and-right (eqb granted 0) false (and-left (eqb granted 0 && false) (eqb found 0) q))
+    go false q =
+        let k = blockRight phase (isTarget n m first b) (eqb granted 1) true found in
+        let c = and-right (eqb counted 1) (ltb 0 phase && ltb b n && leb granted 1 && true && foundRight found && k) q in
+        and-right (ltb 0 phase && ltb b n && leb granted 1 && true) (foundRight found) (and-left (ltb 0 phase && ltb b n && leb granted 1 && true && foundRight found) k c)
+
+found-valid : (t : ℕ) → foundRight t ≡ true → (t ≡ 0 → ⊥) → validTime t ≡ true
+unfolding foundRight
+found-valid t e h = go (eqb t 0) refl e
+  where
+    go : (a : Bool) → eqb t 0 ≡ a → a || validTime t ≡ true → validTime t ≡ true
+    go true ea q = absurd (h (eqb-true t 0 ea))
+    go false ea q = q
+
+pub highest-valid : (n m phase first : ℕ) (t : Tally) → n ≤ 16 → tallyRight n m phase first t ≡ true → (highest (t .held) (t .found) n ≡ 0 → ⊥)
+    → validTime (highest (t .held) (t .found) n) ≡ true
+unfolding tallyRight member
+highest-valid n m phase first t few e h = go (highest-found (t .held) (t .found) n)
+  where
+    go : (highest (t .held) (t .found) n ≡ 0)
+        ⊎ ((b : ℕ) × (b < n) × (member (t .held) b ≡ true) × (highest (t .held) (t .found) n ≡ getD (t .found) b 0))
+        → validTime (highest (t .held) (t .found) n) ≡ true
+    go (inl z) = absurd (h z)
+    go (inr w) =
+        let b = w .0 in
+        let right = each-at
+        (λ (b : ℕ). entryRight n m phase first b (getD (t .counted) b 0) (getD (t .granted) b 0) (getD (t .held) b 0) (getD (t .found) b 0))
+        16 b e (omega (arith, w .1))
+        in
+        found-valid (highest (t .held) (t .found) n)
+        (ap foundRight (w .3)
+        ∙ held-found n m phase first b (getD (t .counted) b 0) (getD (t .granted) b 0) (getD (t .held) b 0) (getD (t .found) b 0) right
+        (eqb-true (getD (t .held) b 0) 1 (w .2))) h

@@ -1,0 +1,84 @@
+-- The targets of a read are m different bricks: the Read message that a start sends passes refusal 10's rule.
+use mathlib.Core.Path.{_≡_, refl, ap, _∙_}
+use mathlib.Core.Bool.{Bool, true, false, cond, _&&_}
+use Prim.Native.Nat.{ℕ, zero, suc, _+_, _-_, _≤_, _<_, min}
+use native.Mathlib.Nat.{add-suc, add-zero, le-refl}
+use native.Mathlib.Omega.{arith}
+use lib.Dec.{eqb, leb, ltb}
+use lib.ListN.{getD}
+use borrow.Author.Tests.{eq-eqb, le-leb, lt-leb, lt-ltb, ltb-true, ltb-false}
+use Rattle.coord_record.specs.Rules.{above, isTarget}
+use Rattle.coord_counts.specs.Counting.{targetFlag, targetFlags}
+use Rattle.interpolate.proofs.Laws.Tabulate.{getD-tabulate}
+use Rattle.message.specs.Flags.{member, members, flagsWithin, brickSet}
+use Rattle.settings.specs.Count.{count, one-if}
+
+-- sets that agree count alike
+pub count-ext : (p r : ℕ → Bool) (n : ℕ) → ((b : ℕ) → b < n → p b ≡ r b) → count p n ≡ count r n
+unfolding count
+count-ext p r zero h = refl
+count-ext p r (suc n) h = rw (count-ext p r n (λ b l. h b (omega arith)), h n (le-refl _))
+
+module _ (n m first : ℕ) (few : n ≤ 16) (within : m ≤ n) (start : first < n) where
+  -- below the first: those that the wrapping reaches
+  low-targets : (k : ℕ) → k ≤ first → count (isTarget n m first) k ≡ min k (m - (n - first))
+  unfolding count isTarget above
+  low-targets zero h = omega arith
+  low-targets (suc k) h = go (ltb (n - first + k) m) refl (low-targets k (omega arith))
+    where
+      go : (b : Bool) → ltb (n - first + k) m ≡ b → count (isTarget n m first) k ≡ min k (m - (n - first))
+          → count (isTarget n m first) k + one-if (ltb (cond (leb first k) (k - first) (n - first + k)) m) ≡ min (suc k) (m - (n - first))
+      go true e ih = let q = ltb-true (n - first + k) m e in rw (lt-leb first k (omega arith), e) (omega arith)
+      go false e ih = let q = ltb-false (n - first + k) m e in rw (lt-leb first k (omega arith), e) (omega arith)
+
+  -- from the first upward
+  high-targets : (j : ℕ) → j ≤ n - first → count (isTarget n m first) (first + j) ≡ min first (m - (n - first)) + min m j
+  unfolding count isTarget above
+  high-targets zero h = ap (count (isTarget n m first)) (add-zero first) ∙ low-targets first (omega arith) ∙ (let z : min first (m - (n - first)) ≡ min first (m - (n - first)) + min m 0 = omega arith in z)
+  high-targets (suc j) h = ap (count (isTarget n m first)) (add-suc first j) ∙ go (ltb (first + j - first) m) refl (high-targets j (omega arith))
+    where
+      go : (b : Bool) → ltb (first + j - first) m ≡ b → count (isTarget n m first) (first + j) ≡ min first (m - (n - first)) + min m j
+          → count (isTarget n m first) (first + j) + one-if (ltb (cond (leb first (first + j)) (first + j - first) (n - first + (first + j))) m)
+          ≡ min first (m - (n - first)) + min m (suc j)
+      go true e ih = let q = ltb-true (first + j - first) m e in rw (le-leb first (first + j) (omega arith), e) (omega arith)
+      go false e ih = let q = ltb-false (first + j - first) m e in rw (le-leb first (first + j) (omega arith), e) (omega arith)
+
+  all-targets : count (isTarget n m first) n ≡ m
+  all-targets =
+      let k : n ≡ first + (n - first) = omega arith in
+      let c = high-targets (n - first) (omega arith) in ap (count (isTarget n m first)) k ∙ (c ∙ (let z : min first (m - (n - first)) + min m (n - first) ≡ m = omega arith in z))
+
+  flag-at : (b : ℕ) → b < 16 → getD (targetFlags n m first) b 0 ≡ targetFlag n m first b
+  unfolding targetFlags
+  flag-at b l = getD-tabulate 16 (targetFlag n m first) b l
+
+  flag-low : (b : ℕ) → targetFlag n m first b ≤ one-if (ltb b n)
+  unfolding targetFlag
+  flag-low b = go (ltb b n) (isTarget n m first b)
+    where
+      go : (x y : Bool) → one-if (x && y) ≤ one-if x
+      go true true = omega arith
+      go true false = omega arith
+      go false y = omega arith
+
+  flags-within : (k : ℕ) → k ≤ 16 → flagsWithin (targetFlags n m first) n k ≡ true
+  unfolding flagsWithin
+  flags-within zero h = refl
+  flags-within (suc k) h =
+      rw (flags-within k (omega arith), flag-at k h, le-leb (targetFlag n m first k) (one-if (ltb k n)) (flag-low k))
+
+  -- the set's members are the targets
+  pub target-member : (b : ℕ) → b < n → member (targetFlags n m first) b ≡ isTarget n m first b
+  unfolding member targetFlag
+  target-member b l = rw (flag-at b (omega arith), lt-ltb b n l) (go (isTarget n m first b))
+    where
+      go : (x : Bool) → eqb (one-if (true && x)) 1 ≡ x
+      go true = refl
+      go false = refl
+
+  -- "Read targets that aren't m different bricks" are refused: these are.
+  pub targets-set : brickSet (targetFlags n m first) n m ≡ true
+  unfolding brickSet members
+  targets-set =
+      rw (flags-within 16 (le-refl _))
+      (eq-eqb (count (member (targetFlags n m first)) n) m (count-ext (member (targetFlags n m first)) (isTarget n m first) n target-member ∙ all-targets))

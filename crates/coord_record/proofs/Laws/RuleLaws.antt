@@ -1,0 +1,129 @@
+-- The ways through the rules of replies.
+use mathlib.Core.Path.{_≡_, refl, sym, ap, _∙_}
+use mathlib.Core.Bool.{Bool, true, false, cond, not, _&&_}
+use Prim.Native.Nat.{ℕ, _+_, _-_, _≤_, _<_}
+use native.Mathlib.Omega.{arith}
+use lib.Dec.{eqb, ltb}
+use borrow.Author.Tests.{lt-ltb, le-ltb, le-leb, lt-leb, eq-eqb, ne-eqb}
+use lib.ListN.{getD}
+use mathlib.Core.List.{List}
+use Rattle.settings.proofs.Laws.Each.{each-all, each-not}
+use Rattle.coord_record.specs.Rules.{above, isTarget, blockRight, countedRight, entryRight, tallyRight, brickRight, bricksRight}
+use Rattle.coord_record.specs.declared.Tally.{Tally}
+use Rattle.message.specs.Messages.{foundRight}
+
+pub target-up : (n m first b : ℕ) → first ≤ b → ltb (b - first) m ≡ isTarget n m first b
+unfolding isTarget above
+target-up n m first b h = rw (le-leb first b h)
+
+pub target-wrapped : (n m first b : ℕ) → b < first → ltb (n - first + b) m ≡ isTarget n m first b
+unfolding isTarget above
+target-wrapped n m first b h = rw (lt-leb first b h)
+
+pub block-target : (phase found : ℕ) (target granted held : Bool) → phase ≡ 1 → granted ≡ true → target ≡ true
+    → held ≡ blockRight phase target granted held found
+unfolding blockRight
+block-target phase found target granted held p g t = rw (eq-eqb phase 1 p, g, t)
+
+pub block-no-target : (phase found : ℕ) (target granted held : Bool) → phase ≡ 1 → granted ≡ true → target ≡ false
+    → not held ≡ blockRight phase target granted held found
+unfolding blockRight
+block-no-target phase found target granted held p g t = rw (eq-eqb phase 1 p, g, t)
+
+pub block-no : (phase found : ℕ) (target granted held : Bool) → phase ≡ 1 → granted ≡ false
+    → not held ≡ blockRight phase target granted held found
+unfolding blockRight
+block-no phase found target granted held p g = rw (eq-eqb phase 1 p, g)
+
+pub block-held : (phase found : ℕ) (target granted held : Bool) → (phase ≡ 1 → ⊥) → held ≡ true → phase ≡ 3
+    → granted ≡ blockRight phase target granted held found
+unfolding blockRight
+block-held phase found target granted held p h q = rw (ne-eqb phase 1 p, eq-eqb phase 3 q, h)
+
+pub block-present : (phase found : ℕ) (target granted held : Bool) → (phase ≡ 1 → ⊥) → held ≡ true → (phase ≡ 3 → ⊥)
+    → false ≡ blockRight phase target granted held found
+unfolding blockRight
+block-present phase found target granted held p h q = rw (ne-eqb phase 1 p, ne-eqb phase 3 q, h)
+
+pub block-none : (phase found : ℕ) (target granted held : Bool) → (phase ≡ 1 → ⊥) → held ≡ false
+    → eqb found 0 ≡ blockRight phase target granted held found
+unfolding blockRight
+block-none phase found target granted held p h = rw (ne-eqb phase 1 p, h) (go (eqb phase 3) (eqb found 0))
+  where
+    go : (a b : Bool) → b ≡ cond a b (true && b)
+    go true b = refl
+    go false b = refl
+
+pub found-zero : (t : ℕ) → t ≡ 0 → true ≡ foundRight t
+unfolding foundRight
+found-zero t e = rw (eq-eqb t 0 e)
+
+-- what a counted entry's tests gave, in their order
+pub counted-idle : (n m phase first b granted held found : ℕ) → phase ≤ 0 → false ≡ countedRight n m phase first b granted held found
+unfolding countedRight
+counted-idle n m phase first b granted held found h = rw (le-ltb 0 phase h)
+
+pub counted-beyond : (n m phase first b granted held found : ℕ) → 0 < phase → n ≤ b → false ≡ countedRight n m phase first b granted held found
+unfolding countedRight
+counted-beyond n m phase first b granted held found p h = rw (lt-ltb 0 phase p, le-ltb b n h)
+
+pub counted-granted : (n m phase first b granted held found : ℕ) → 0 < phase → b < n → 1 < granted
+    → false ≡ countedRight n m phase first b granted held found
+unfolding countedRight
+counted-granted n m phase first b granted held found p h g = rw (lt-ltb 0 phase p, lt-ltb b n h, lt-leb granted 1 g)
+
+pub counted-held : (n m phase first b granted held found : ℕ) → 0 < phase → b < n → granted ≤ 1 → 1 < held
+    → false ≡ countedRight n m phase first b granted held found
+unfolding countedRight
+counted-held n m phase first b granted held found p h g k = rw (lt-ltb 0 phase p, lt-ltb b n h, le-leb granted 1 g, lt-leb held 1 k)
+
+pub counted-found : (n m phase first b granted held found : ℕ) (f : Bool) → 0 < phase → b < n → granted ≤ 1 → held ≤ 1
+    → f ≡ foundRight found → f ≡ false → false ≡ countedRight n m phase first b granted held found
+unfolding countedRight
+counted-found n m phase first b granted held found f p h g k e z =
+    rw (lt-ltb 0 phase p, lt-ltb b n h, le-leb granted 1 g, le-leb held 1 k, ← e, z)
+
+pub counted-block : (n m phase first b granted held found : ℕ) (f t v : Bool) → 0 < phase → b < n → granted ≤ 1 → held ≤ 1
+    → f ≡ foundRight found → f ≡ true → t ≡ isTarget n m first b → v ≡ blockRight phase t (eqb granted 1) (eqb held 1) found
+    → v ≡ countedRight n m phase first b granted held found
+unfolding countedRight
+counted-block n m phase first b granted held found f t v p h g k e z et ev =
+    rw (lt-ltb 0 phase p, lt-ltb b n h, le-leb granted 1 g, le-leb held 1 k, ← e, z, ← et) ev
+
+-- one brick's entry that is not right
+pub tally-not : (n m phase first : ℕ) (t : Tally) (b : ℕ) (v : Bool) → b < 16
+    → v ≡ entryRight n m phase first b (getD (t .counted) b 0) (getD (t .granted) b 0) (getD (t .held) b 0) (getD (t .found) b 0)
+    → v ≡ false → false ≡ tallyRight n m phase first t
+unfolding tallyRight
+tally-not n m phase first t b v l e z =
+    sym (each-not
+    (λ (b : ℕ). entryRight n m phase first b (getD (t .counted) b 0) (getD (t .granted) b 0) (getD (t .held) b 0) (getD (t .found) b 0))
+    16 b l (sym e ∙ z))
+
+pub tally-all : (n m phase first : ℕ) (t : Tally) (b : ℕ) → 16 ≤ b
+    → ((k : ℕ) → k < b
+    → true ≡ entryRight n m phase first k (getD (t .counted) k 0) (getD (t .granted) k 0) (getD (t .held) k 0) (getD (t .found) k 0))
+    → true ≡ tallyRight n m phase first t
+unfolding tallyRight
+tally-all n m phase first t b l h =
+    sym (each-all
+    (λ (b : ℕ). entryRight n m phase first b (getD (t .counted) b 0) (getD (t .granted) b 0) (getD (t .held) b 0) (getD (t .found) b 0))
+    16 (λ i u. sym (h i (omega arith))))
+
+-- the same of the bricks named
+pub bricks-not : (n k : ℕ) (bricks : List ℕ) (i before : ℕ) (v : Bool) → i < 16 → before ≡ getD bricks (i - 1) 0
+    → v ≡ brickRight n k i before (getD bricks i 0) → v ≡ false → false ≡ bricksRight n k bricks
+unfolding bricksRight
+bricks-not n k bricks i before v l e d z =
+    sym (each-not (λ (i : ℕ). brickRight n k i (getD bricks (i - 1) 0) (getD bricks i 0)) 16 i l
+    (sym (d ∙ ap (λ (x : ℕ). brickRight n k i x (getD bricks i 0)) e) ∙ z))
+
+pub brick-here : (n k : ℕ) (bricks : List ℕ) (i before : ℕ) (v : Bool) → before ≡ getD bricks (i - 1) 0
+    → v ≡ brickRight n k i before (getD bricks i 0) → v ≡ true → true ≡ brickRight n k i (getD bricks (i - 1) 0) (getD bricks i 0)
+brick-here n k bricks i before v e d z = sym z ∙ d ∙ ap (λ (x : ℕ). brickRight n k i x (getD bricks i 0)) e
+
+pub bricks-all : (n k : ℕ) (bricks : List ℕ) (b : ℕ) → 16 ≤ b
+    → ((i : ℕ) → i < b → true ≡ brickRight n k i (getD bricks (i - 1) 0) (getD bricks i 0)) → true ≡ bricksRight n k bricks
+unfolding bricksRight
+bricks-all n k bricks b l h =
+    sym (each-all (λ (i : ℕ). brickRight n k i (getD bricks (i - 1) 0) (getD bricks i 0)) 16 (λ i u. sym (h i (omega arith))))

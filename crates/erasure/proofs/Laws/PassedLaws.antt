@@ -1,0 +1,126 @@
+-- Laws of `specs/PassedLaws`.
+use mathlib.Core.Path.{_≡_, refl, sym, ap, subst, _∙_}
+use mathlib.Core.Bool.{Bool, true, false, cond, not, _&&_}
+use mathlib.Core.List.{List, [], _∷_}
+use Prim.Native.Nat.{ℕ, zero, suc, _*_, _≤_, _<_}
+use native.Mathlib.Decide.{decLt}
+use native.Mathlib.Nat.{le-of-suc-le-suc, not-suc-le-zero}
+use native.Mathlib.Omega.{arith}
+use lib.Dec.{eqb, eqb→eq}
+use lib.ListN.{length, getD, take}
+use lib.Seq.{getD-take, length-take-le}
+use borrow.Author.Tests.{eq-eqb, eqb-true, not-true}
+use Rattle.erasure.specs.Code.{firstPoints}
+use Rattle.erasure.specs.Refusals.{allBelow, stands, allDifferent, encodeRefusal, decodeRefusal}
+use Rattle.gf256.specs.Computed.{every}
+use Rattle.gf256.proofs.Laws.Computed.{at-entry}
+use Rattle.interpolate.specs.Rows.{PointSet}
+use Rattle.interpolate.proofs.Laws.Tabulate.{length-tabulate, getD-tabulate, tabulate-by}
+use Rattle.settings.specs.Ranges.{codeRefusal}
+use Rattle.settings.specs.Ranges.{CodeRange}
+use Rattle.settings.proofs.Laws.RangeLaws.{code-passed, and-left, and-right}
+use Rattle.settings.specs.Refusal.{refuseUnless}
+use Rattle.settings.proofs.Laws.RefusalLaws.{passed-first, passed-rest, tested}
+use Rattle.erasure.specs.Refusals.{Encodes}
+
+stands-nowhere : (x : ℕ) (l : List ℕ) → stands x l ≡ false → (k : ℕ) → k < length l → getD l k 0 ≡ x → ⊥
+unfolding stands
+stands-nowhere x [] e k h q = not-suc-le-zero h
+stands-nowhere x (b ∷ bs) e k h q = go (eqb b x) refl e (stands-nowhere x bs) k h q
+  where
+    go : (t : Bool) → eqb b x ≡ t → cond t true (stands x bs) ≡ false → (stands x bs ≡ false → (k : ℕ) → k < length bs → getD bs k 0 ≡ x → ⊥)
+        → (k : ℕ) → k < suc (length bs) → getD (b ∷ bs) k 0 ≡ x → ⊥
+    go true et f ih k l r = let z : _≡_ {A = ℕ} 0 1 = cc in omega arith
+    go false et f ih zero l r = let z : false ≡ true = sym et ∙ eq-eqb b x r in let w : _≡_ {A = ℕ} 0 1 = cc in omega arith
+    go false et f ih (suc k) l r = ih f k (le-of-suc-le-suc l) r
+
+-- different bricks, by their places
+apart : (l : List ℕ) → allDifferent l ≡ true → (i j : ℕ) → i < j → j < length l → getD l i 0 ≡ getD l j 0 → ⊥
+unfolding allDifferent
+apart [] e i j h u q = not-suc-le-zero u
+apart (b ∷ bs) e i zero h u q = not-suc-le-zero h
+apart (b ∷ bs) e zero (suc j) h u q = stands-nowhere b bs (not-true _ (and-left _ _ e)) j (le-of-suc-le-suc u) (sym q)
+apart (b ∷ bs) e (suc i) (suc j) h u q = apart bs (and-right (not (stands b bs)) _ e) i j (le-of-suc-le-suc h) (le-of-suc-le-suc u) q
+
+pub different-set : (l : List ℕ) → allDifferent l ≡ true → length l ≤ 16 → PointSet l
+different-set l e f = record { few = f; differ = λ i j hi hj q. by i j hi hj q (decLt i j) (decLt j i) }
+  where
+    by : (i j : ℕ) → i < length l → j < length l → getD l i 0 ≡ getD l j 0 → Dec (i < j) → Dec (j < i) → i ≡ j
+    by i j hi hj q (yes h) d = absurd (apart l e i j h hj q)
+    by i j hi hj q (no n) (yes h) = absurd (apart l e j i h hi (sym q))
+    by i j hi hj q (no n) (no k) = omega arith
+
+-- the points 0 to m − 1
+pub first-set : (m : ℕ) → m ≤ 16 → PointSet (firstPoints m)
+unfolding firstPoints
+first-set m h =
+    let l = length-tabulate m (λ (i : ℕ). i) in
+    record {
+      few = omega arith;
+      differ = λ i j hi hj q. sym (getD-tabulate m (λ (i : ℕ). i) i (omega arith)) ∙ q ∙ getD-tabulate m (λ (i : ℕ). i) j (omega arith);
+    }
+
+pub length-first : (m : ℕ) → length (firstPoints m) ≡ m
+unfolding firstPoints
+length-first m = length-tabulate m (λ (i : ℕ). i)
+
+-- as the code writes them: the first m of a list whose entry i is i
+pub first-by : (l : List ℕ) (m : ℕ) → length l ≡ 16 → ((i : ℕ) → i < 16 → getD l i 0 ≡ i) → m ≤ 16 → take m l ≡ firstPoints m
+unfolding firstPoints
+first-by l m e h u =
+    tabulate-by m (λ (i : ℕ). i) (take m l) (length-take-le m l (omega arith)) (λ i k. getD-take m l i 0 k ∙ h i (omega arith))
+
+-- a decoding that is not refused
+pub record Decodes (n m size : ℕ) (bricks : List ℕ) (blocks stripe : ℕ) : Type 0 where
+  pub range : CodeRange n m size
+  pub blocks-length : blocks ≡ m * size
+  pub stripe-length : stripe ≡ m * size
+  pub below : allBelow bricks n ≡ true
+  pub count : length bricks ≡ m
+  pub set : PointSet bricks
+
+pub encode-passed : (n m size s c : ℕ) → encodeRefusal n m size s c ≡ 0 → Encodes n m size s c
+unfolding encodeRefusal
+encode-passed n m size s c e =
+    let l = tested (eqb s (m * size) && eqb c (n * size)) 1 (passed-first _ [] (passed-rest (codeRefusal n m size) _ e)) in
+    record {
+      range = code-passed n m size (passed-first (codeRefusal n m size) _ e);
+      stripe-length = eqb-true s (m * size) (and-left _ _ l);
+      coded-length = eqb-true c (n * size) (and-right (eqb s (m * size)) _ l);
+    }
+
+pub decode-passed : (n m size : ℕ) (bricks : List ℕ) (b s : ℕ) → decodeRefusal n m size bricks b s ≡ 0 → Decodes n m size bricks b s
+unfolding decodeRefusal
+decode-passed n m size bricks b s e =
+    let r1 = passed-rest (codeRefusal n m size) _ e in
+    let l = tested (eqb b (m * size) && eqb s (m * size)) 1 (passed-first _ _ r1) in
+    let r2 = passed-rest (refuseUnless (eqb b (m * size) && eqb s (m * size)) 2) _ r1 in
+    let r3 = passed-rest (refuseUnless (allBelow bricks n) 3) _ r2 in
+    let d = tested (eqb (length bricks) m && allDifferent bricks) 3 (passed-first _ [] r3) in
+    let range = code-passed n m size (passed-first (codeRefusal n m size) _ e) in
+    let count = eqb-true (length bricks) m (and-left _ _ d) in
+    record {
+      range = range;
+      blocks-length = eqb-true b (m * size) (and-left _ _ l);
+      stripe-length = eqb-true s (m * size) (and-right (eqb b (m * size)) _ l);
+      below = tested (allBelow bricks n) 2 (passed-first _ _ r2);
+      count = count;
+      set = different-set bricks (and-right (eqb (length bricks) m) _ d) (let a = range .m-high in let c = range .n-high in omega arith);
+    }
+
+-- the sixteen points that the code takes the first m of
+abbrev pub sixteen : List ℕ
+sixteen = 0 ∷ 1 ∷ 2 ∷ 3 ∷ 4 ∷ 5 ∷ 6 ∷ 7 ∷ 8 ∷ 9 ∷ 10 ∷ 11 ∷ 12 ∷ 13 ∷ 14 ∷ 15 ∷ []
+
+counts : ℕ → ℕ → Bool
+counts i x = eqb x i
+
+pub first-of-sixteen : (m : ℕ) → m ≤ 16 → take m sixteen ≡ firstPoints m
+unfolding counts every
+first-of-sixteen m h = first-by sixteen m refl (λ i k. eqb→eq (getD sixteen i 0) i (at-entry counts sixteen tt i k)) h
+
+pub sixteen-set : (m : ℕ) → m ≤ 16 → PointSet (take m sixteen)
+sixteen-set m h = subst PointSet (sym (first-of-sixteen m h)) (first-set m h)
+
+pub length-sixteen : (m : ℕ) → m ≤ 16 → length (take m sixteen) ≡ m
+length-sixteen m h = ap length (first-of-sixteen m h) ∙ length-first m

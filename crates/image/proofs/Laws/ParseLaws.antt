@@ -1,0 +1,182 @@
+-- Laws of `specs/ParseLaws`.
+use mathlib.Core.Path.{_≡_, refl, sym, ap, subst, _∙_}
+use mathlib.Core.Bool.{Bool, true, false, cond, _&&_}
+use mathlib.Core.List.{List, [], _∷_}
+use Prim.Native.Nat.{ℕ, zero, suc, _+_, _≤_, _<_}
+use native.Mathlib.Omega.{arith}
+use native.Mathlib.Nat.{add-zero}
+use lib.Dec.{ltb, eqb}
+use lib.ListN.{length, take, drop, getD}
+use lib.Seq.{ext-getD}
+use borrow.Author.Tests.{le-ltb, ltb-true, lt-ltb, eqb-true, eq-eqb, ne-eqb}
+use Rattle.settings.specs.Ranges.{inRange, settingsRefusal}
+use Rattle.settings.specs.Ranges.{SettingsRange}
+use Rattle.settings.proofs.Laws.RangeLaws.{settings-passed}
+use Rattle.settings.specs.Refusal.{refuseUnless, firstRefusal}
+use Rattle.settings.specs.declared.Settings.{Settings}
+use Rattle.little.specs.Little.{number}
+use Rattle.block.specs.Block.{headBlock, entryBlock, checked, same, entryBody, headBody, unusedBlock, unusedBody}
+use Rattle.block.proofs.Laws.LayoutLaws.{head-count, head-promise, entry-time, entry-held}
+use Rattle.block.proofs.Laws.CheckLaws.{sealed-checked}
+use Rattle.block.proofs.Laws.SameLaws.{same-true, same-of}
+use Rattle.image.specs.Brick.{Brick, noEntry, count, timeAt, heldAt, sound}
+use Rattle.settings.specs.Each.{each}
+use Rattle.settings.proofs.Laws.Each.{each-all}
+use Rattle.image.specs.Image.{blockOf, imageOf, imageSize}
+use Rattle.image.specs.Parse.{blockAt, countIn, promiseIn, timeIn, heldIn, entryIn, entriesIn, brickIn, checkedAt, isImage, openRefusal, Opens, Refuses, parse}
+use Rattle.image.specs.Brick.{Sound}
+use Rattle.image.proofs.Laws.SoundLaws.{soundness, sound-again, saved-high, block-0, block-held, image-block, image-length}
+use Rattle.image.specs.Parse.{Opened}
+
+pub range-of : (s : Settings) → inRange s ≡ true → SettingsRange s
+unfolding settingsRefusal
+range-of s e = settings-passed s (rw e refl)
+
+pub entries-length : (size : ℕ) (l : List ℕ) (k n : ℕ) → length (entriesIn size l k n) ≡ n
+unfolding entriesIn
+entries-length size l k zero = refl
+entries-length size l k (suc n) = ap suc (entries-length size l (suc k) n)
+
+pub entries-at : (size : ℕ) (l : List ℕ) (k n i : ℕ) → i < n → getD (entriesIn size l k n) i noEntry ≡ entryIn size (blockAt l (k + i))
+unfolding entriesIn
+entries-at size l k zero i h = absurd (omega arith)
+entries-at size l k (suc n) zero h = ap (λ (j : ℕ). entryIn size (blockAt l j)) (sym (add-zero k))
+entries-at size l k (suc n) (suc i) h =
+    let e : suc k + i ≡ k + suc i = omega arith in
+    entries-at size l (suc k) n i (omega arith) ∙ ap (λ (j : ℕ). entryIn size (blockAt l j)) e
+
+-- the count of what is read
+pub count-in : (s : Settings) (l : List ℕ) → count (brickIn s l) ≡ countIn (blockAt l 0)
+unfolding count brickIn
+count-in s l = entries-length (s .size) l 1 (countIn (blockAt l 0))
+
+module _ (s : Settings) (brick : ℕ) (x : Brick) (range : SettingsRange s) (r : Sound s x) where
+  head-at : blockAt (imageOf s brick x) 0 ≡ headBlock s brick (count x) (x .promise)
+  head-at = image-block s brick x range r 0 (omega arith) ∙ block-0 s brick x
+
+  count-back : countIn (blockAt (imageOf s brick x) 0) ≡ count x
+  unfolding countIn
+  count-back =
+      ap (λ (h : List ℕ). number (take 2 (drop 10 h))) head-at
+      ∙ head-count s brick (count x) (x .promise) (omega (arith, r .count-high, range .capacity-high))
+
+  promise-back : promiseIn (blockAt (imageOf s brick x) 0) ≡ x .promise
+  unfolding promiseIn
+  promise-back =
+      ap (λ (h : List ℕ). number (take 8 (drop 12 h))) head-at
+      ∙ head-promise s brick (count x) (x .promise) (omega (arith, saved-high (x .promise) (r .promise-saved)))
+
+  entry-back : (i : ℕ) → i < count x → entryIn (s .size) (blockAt (imageOf s brick x) (suc i)) ≡ getD (x .log) i noEntry
+  unfolding entryIn timeIn heldIn timeAt heldAt
+  entry-back i h =
+      let at = image-block s brick x range r (suc i) (omega (arith, r .count-high)) ∙ block-held s brick x i h in
+      let n = r .entries i h in
+      let t : number (take 8 (drop 4 (blockAt (imageOf s brick x) (suc i)))) ≡ timeAt x i =
+      ap (λ (b : List ℕ). number (take 8 (drop 4 b))) at ∙ entry-time (timeAt x i) (heldAt x i) (omega (arith, saved-high (timeAt x i) (n .saved))) in
+      let b : take (s .size) (drop 16 (blockAt (imageOf s brick x) (suc i))) ≡ heldAt x i =
+      ap (λ (b : List ℕ). take (s .size) (drop 16 b)) at ∙ entry-held (timeAt x i) (heldAt x i) (s .size) (n .sized) in
+      λ j. record { time = t j; block = b j }
+
+  log-back : entriesIn (s .size) (imageOf s brick x) 1 (count x) ≡ x .log
+  unfolding count
+  log-back =
+      ext-getD noEntry (entriesIn (s .size) (imageOf s brick x) 1 (count x)) (x .log) (entries-length (s .size) (imageOf s brick x) 1 (count x))
+      (λ i h. each i (subst (λ (k : ℕ). i < k) (entries-length (s .size) (imageOf s brick x) 1 (count x)) h))
+    where
+      each : (i : ℕ) → i < count x → getD (entriesIn (s .size) (imageOf s brick x) 1 (count x)) i noEntry ≡ getD (x .log) i noEntry
+      each i h =
+          let e : 1 + i ≡ suc i = omega arith in
+          entries-at (s .size) (imageOf s brick x) 1 (count x) i h
+          ∙ ap (λ (k : ℕ). entryIn (s .size) (blockAt (imageOf s brick x) k)) e
+          ∙ entry-back i h
+
+  pub brick-back : brickIn s (imageOf s brick x) ≡ x
+  unfolding brickIn
+  brick-back =
+      let l = ap (λ (k : ℕ). entriesIn (s .size) (imageOf s brick x) 1 k) count-back ∙ log-back in
+      λ j. record { promise = promise-back j; log = l j }
+
+-- The ways through the refusal of an image.
+module _ (s : Settings) (brick : ℕ) (l : List ℕ) where
+  pub refusal-3 : inRange s ≡ true → length l ≡ imageSize s → s .n ≤ brick → openRefusal s brick l ≡ 3
+  unfolding openRefusal firstRefusal
+  refusal-3 a b c = rw (a, eq-eqb (length l) (imageSize s) b, le-ltb brick (s .n) c) refl
+
+  pub refusal-5 : inRange s ≡ true → length l ≡ imageSize s → brick < s .n → each (checkedAt l) (s .capacity + 1) ≡ false → openRefusal s brick l ≡ 5
+  unfolding openRefusal firstRefusal
+  refusal-5 a b c d = rw (a, eq-eqb (length l) (imageSize s) b, lt-ltb brick (s .n) c, d) refl
+
+  pub refusal-6 : inRange s ≡ true → length l ≡ imageSize s → brick < s .n → each (checkedAt l) (s .capacity + 1) ≡ true
+      → isImage s brick l ≡ false → openRefusal s brick l ≡ 6
+  unfolding openRefusal firstRefusal
+  refusal-6 a b c d e = rw (a, eq-eqb (length l) (imageSize s) b, lt-ltb brick (s .n) c, d, e) refl
+
+  pub refusal-0 : inRange s ≡ true → length l ≡ imageSize s → brick < s .n → each (checkedAt l) (s .capacity + 1) ≡ true
+      → isImage s brick l ≡ true → openRefusal s brick l ≡ 0
+  unfolding openRefusal firstRefusal
+  refusal-0 a b c d e = rw (a, eq-eqb (length l) (imageSize s) b, lt-ltb brick (s .n) c, d, e) refl
+
+  pub parse-refuses : (k : ℕ) → openRefusal s brick l ≡ k → (k ≡ 0 → ⊥) → parse s brick l ≡ Refuses k
+  unfolding parse
+  parse-refuses k e z = rw (e, ne-eqb k 0 z) refl
+
+  pub parse-opens : openRefusal s brick l ≡ 0 → parse s brick l ≡ Opens (brickIn s l)
+  unfolding parse
+  parse-opens e = rw e refl
+
+  -- What opens is the image of what it opens to.
+  pub opened : (x : Brick) → parse s brick l ≡ Opens x → (Opened s brick l) x
+  unfolding parse openRefusal firstRefusal isImage
+  opened x e =
+      go (inRange s) (eqb (length l) (imageSize s)) (ltb brick (s .n)) (each (checkedAt l) (s .capacity + 1))
+      (sound s (brickIn s l)) (same (imageOf s brick (brickIn s l)) l) refl refl refl refl refl refl e
+    where
+      go : (a b c d f g : Bool) → inRange s ≡ a → eqb (length l) (imageSize s) ≡ b → ltb brick (s .n) ≡ c → each (checkedAt l) (s .capacity + 1) ≡ d
+          → sound s (brickIn s l) ≡ f → same (imageOf s brick (brickIn s l)) l ≡ g
+          → (let r : ℕ = firstRefusal (refuseUnless a 1 ∷ refuseUnless b 2 ∷ refuseUnless c 3 ∷ refuseUnless d 5 ∷ refuseUnless (f && g) 6 ∷ []) in
+          cond (eqb r 0) (Opens (brickIn s l)) (Refuses r)) ≡ Opens x
+          → (Opened s brick l) x
+      go false b c d f g ea eb ec ed ef eg h = let z : _≡_ {A = ℕ} 0 1 = cc in absurd (omega arith)
+      go true false c d f g ea eb ec ed ef eg h = let z : _≡_ {A = ℕ} 0 1 = cc in absurd (omega arith)
+      go true true false d f g ea eb ec ed ef eg h = let z : _≡_ {A = ℕ} 0 1 = cc in absurd (omega arith)
+      go true true true false f g ea eb ec ed ef eg h = let z : _≡_ {A = ℕ} 0 1 = cc in absurd (omega arith)
+      go true true true true false g ea eb ec ed ef eg h = let z : _≡_ {A = ℕ} 0 1 = cc in absurd (omega arith)
+      go true true true true true false ea eb ec ed ef eg h = let z : _≡_ {A = ℕ} 0 1 = cc in absurd (omega arith)
+      go true true true true true true ea eb ec ed ef eg h =
+          let i : x ≡ brickIn s l = cc in
+          record {
+            in-range = ea;
+            range = range-of s ea;
+            long = eqb-true (length l) (imageSize s) eb;
+            brick-low = ltb-true brick (s .n) ec;
+            checks = ed;
+            is-read = i;
+            keeps = subst (λ (y : Brick). Sound s y) (sym i) (soundness s (brickIn s l) ef);
+            is-image = sym (ap (λ (y : Brick). imageOf s brick y) i ∙ same-true _ _ eg);
+          }
+
+-- every block of an image is checked
+image-checked : (s : Settings) (brick : ℕ) (x : Brick) → SettingsRange s → Sound s x → (k : ℕ) → k < s .capacity + 1 → checkedAt (imageOf s brick x) k ≡ true
+unfolding checkedAt blockOf headBlock entryBlock unusedBlock
+image-checked s brick x range r k h = ap checked (image-block s brick x range r k (omega arith)) ∙ go k
+  where
+    go : (k : ℕ) → checked (blockOf s brick x k) ≡ true
+    go zero = sealed-checked (headBody s brick (count x) (x .promise))
+    go (suc i) = pick (ltb i (count x))
+      where
+        pick : (b : Bool) → checked (cond b (entryBlock (timeAt x i) (heldAt x i)) unusedBlock) ≡ true
+        pick true = sealed-checked (entryBody (timeAt x i) (heldAt x i))
+        pick false = sealed-checked unusedBody
+
+-- Saving a brick and opening it gives the brick back.
+pub parse-image : (s : Settings) (brick : ℕ) (x : Brick) → inRange s ≡ true → brick < s .n → Sound s x → parse s brick (imageOf s brick x) ≡ Opens x
+unfolding isImage
+parse-image s brick x a b r =
+    let range = range-of s a in
+    let back = brick-back s brick x range r in
+    let is : sound s (brickIn s (imageOf s brick x)) && same (imageOf s brick (brickIn s (imageOf s brick x))) (imageOf s brick x) ≡ true =
+    rw (back, sound-again s x r, same-of (imageOf s brick x) (imageOf s brick x) refl) refl in
+    parse-opens s brick (imageOf s brick x)
+    (refusal-0 s brick (imageOf s brick x) a (image-length s brick x range r) b
+    (each-all (checkedAt (imageOf s brick x)) (s .capacity + 1) (image-checked s brick x range r)) is)
+    ∙ ap Opens back

@@ -1,0 +1,101 @@
+-- The promises of the saved brick, in one place: there and back, one changed byte, and a fresh image.
+use mathlib.Core.Path.{_≡_, refl, sym, ap, _∙_}
+use mathlib.Core.Bool.{true, false}
+use mathlib.Core.List.{List, [], _∷_}
+use Prim.Native.Nat.{ℕ, zero, suc, _+_, _*_, _/_, _%_, _<_}
+use native.Mathlib.Omega.{arith}
+use lib.ListN.{length, take, drop, getD, set, length-set}
+use lib.Seq.{drop-set-add, take-set-lt, getD-take, getD-drop}
+use Rattle.settings.specs.Ranges.{inRange}
+use Rattle.settings.specs.Refusal.{badCheck}
+use Rattle.settings.specs.declared.Settings.{Settings}
+use Rattle.little.specs.Little.{Bytes}
+use Rattle.block.specs.Block.{checked}
+use Rattle.block.proofs.Laws.StoreLaws.{zeros-length}
+use Rattle.block.proofs.Laws.ChangeLaws.{change-unchecked}
+use Rattle.image.specs.Brick.{Brick, count, timeAt, heldAt, fresh, savedTime, risesAt, sound}
+use Rattle.settings.proofs.Laws.Each.{each-at, each-not}
+use Rattle.image.specs.Image.{imageOf, imageSize}
+use Rattle.image.proofs.Laws.ImageLaws.{block-length}
+use Rattle.image.specs.Parse.{blockAt, checkedAt, Opens, Refuses, parse}
+use Rattle.image.proofs.Laws.ParseLaws.{opened, parse-image, parse-refuses, refusal-5, range-of}
+use Rattle.image.specs.Brick.{Sound}
+use Rattle.image.proofs.Laws.SoundLaws.{soundness}
+
+-- What was saved opens as it was.
+pub saved-opens : (s : Settings) (brick : ℕ) (x : Brick) → inRange s ≡ true → brick < s .n → sound s x ≡ true
+    → parse s brick (imageOf s brick x) ≡ Opens x
+saved-opens s brick x a b r = parse-image s brick x a b (soundness s x r)
+
+-- What opens was saved: the same brick, saved again, is the same bytes.
+pub opened-saves : (s : Settings) (brick : ℕ) (bytes : List ℕ) (x : Brick) → parse s brick bytes ≡ Opens x → imageOf s brick x ≡ bytes
+opened-saves s brick bytes x e = sym (opened s brick bytes x e .is-image)
+
+bytes-take : (n : ℕ) (l : List ℕ) → Bytes l → Bytes (take n l)
+unfolding Bytes
+bytes-take zero l b = tt
+bytes-take (suc n) [] b = tt
+bytes-take (suc n) (x ∷ l) b = (b .0, bytes-take n l (b .1))
+
+bytes-drop : (n : ℕ) (l : List ℕ) → Bytes l → Bytes (drop n l)
+unfolding Bytes
+bytes-drop zero l b = b
+bytes-drop (suc n) [] b = tt
+bytes-drop (suc n) (x ∷ l) b = bytes-drop n l (b .1)
+
+block-set : (l : List ℕ) (j p v : ℕ) → p < 512 → blockAt (set l (512 * j + p) v) j ≡ set (blockAt l j) p v
+unfolding blockAt
+block-set l j p v h = ap (λ (t : List ℕ). take 512 t) (drop-set-add (512 * j) l p v) ∙ take-set-lt 512 (drop (512 * j) l) p v h
+
+block-byte : (l : List ℕ) (j p : ℕ) → p < 512 → getD (blockAt l j) p 0 ≡ getD l (512 * j + p) 0
+unfolding blockAt
+block-byte l j p h = getD-take 512 (drop (512 * j) l) p 0 h ∙ getD-drop (512 * j) l p 0
+
+block-bytes : (l : List ℕ) (j : ℕ) → Bytes l → Bytes (blockAt l j)
+unfolding blockAt
+block-bytes l j b = bytes-take 512 (drop (512 * j) l) (bytes-drop (512 * j) l b)
+
+-- "A one-byte change in any block is refused", and by the number of a check that fails.
+pub one-byte-changed : (s : Settings) (brick : ℕ) (bytes : List ℕ) (x : Brick) (i v : ℕ) → parse s brick bytes ≡ Opens x → Bytes bytes
+    → i < length bytes → v < 256 → (v ≡ getD bytes i 0 → ⊥) → parse s brick (set bytes i v) ≡ Refuses badCheck
+unfolding imageSize checkedAt
+one-byte-changed s brick bytes x i v e b h hv ne =
+    let o = opened s brick bytes x e in
+    let m = length-set bytes i v in
+    parse-refuses s brick (set bytes i v) 5
+    (refusal-5 s brick (set bytes i v) (o .in-range) (m ∙ o .long) (o .brick-low)
+    (each-not (checkedAt (set bytes i v)) (s .capacity + 1) (i / 512) (omega (arith, o .long)) fails))
+    (λ z. omega (arith, z))
+  where
+    at : 512 * (i / 512) + i % 512 ≡ i
+    at = omega arith
+
+    fails : checkedAt (set bytes i v) (i / 512) ≡ false
+    fails =
+        let o = opened s brick bytes x e in
+        let low : i / 512 < s .capacity + 1 = omega (arith, o .long) in
+        ap (λ (k : ℕ). checked (blockAt (set bytes k v) (i / 512))) (sym at)
+        ∙ ap checked (block-set bytes (i / 512) (i % 512) v (omega arith))
+        ∙ change-unchecked (blockAt bytes (i / 512)) (i % 512) v
+        (block-length bytes (s .capacity + 1) (i / 512) (o .long) low)
+        (block-bytes bytes (i / 512) b) (omega arith) hv
+        (λ q. ne (q ∙ block-byte bytes (i / 512) (i % 512) (omega arith) ∙ ap (λ (k : ℕ). getD bytes k 0) at))
+        (each-at (checkedAt bytes) (s .capacity + 1) (i / 512) (o .checks) low)
+
+fresh-sound : (s : Settings) → inRange s ≡ true → Sound s (fresh s)
+unfolding fresh count timeAt heldAt savedTime risesAt
+fresh-sound s a =
+    record {
+      count-low = omega arith;
+      count-high = omega (arith, range-of s a .capacity-low);
+      promise-saved = refl;
+      entries = λ i h. first i h;
+    }
+  where
+    first : (i : ℕ) → i < 1 → Rattle.image.specs.Brick.EntrySound s (fresh s) i
+    first zero h = record { saved = refl; rises = refl; sized = zeros-length (s .size) }
+    first (suc i) h = absurd (omega arith)
+
+-- A fresh image opens.
+pub fresh-opens : (s : Settings) (brick : ℕ) → inRange s ≡ true → brick < s .n → parse s brick (imageOf s brick (fresh s)) ≡ Opens (fresh s)
+fresh-opens s brick a b = parse-image s brick (fresh s) a b (fresh-sound s a)

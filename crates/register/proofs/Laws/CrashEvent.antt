@@ -1,0 +1,100 @@
+-- A coordinator crashes: what holds of the world goes on to hold, whatever lies in the buffers then.
+use mathlib.Core.Path.{_≡_, refl, subst}
+use mathlib.Core.Bool.{Bool, true, false, cond, _&&_}
+use mathlib.Core.Logic.{_↔_}
+use mathlib.Core.List.{List, [], List·Memᴰ·not-nil}
+use Prim.Native.Nat.{ℕ, _*_}
+use native.Mathlib.Omega.{arith}
+use lib.Dec.{leb, eqb}
+use lib.ListN.{length}
+use borrow.Author.Tests.{eqb-true, eqb-false, eq-eqb}
+use Rattle.settings.specs.Ranges.{SettingsRange}
+use Rattle.settings.proofs.Laws.RangeLaws.{and-left, and-right}
+use Rattle.settings.specs.declared.Settings.{Settings}
+use Rattle.coord_record.specs.Records.{noBricks, noOp, idleWith}
+use Rattle.coord_acts.specs.Acts.{ending}
+use Rattle.coord_acts.specs.Steps.{Held, Went, refused, went, checked, nothingSeen, cutSeen}
+use Rattle.coord_checks.specs.Checks.{crashRefusal}
+use Rattle.coordinator.specs.Rules.{crashed, crashStep}
+use Rattle.order.specs.Claim.{Seen}
+use Rattle.order.specs.Facts.{cut, shows, outcome}
+use Rattle.register.specs.Runs.{plain, Left, untouched, lost, Item, Moved, seenOf, broadcasts, coordinated, buffersFit, leaving, leftBy}
+use Rattle.register.specs.Invariant.{Hist, Inv}
+use Rattle.register.specs.Invariant.{Goes}
+use Rattle.register.proofs.Laws.TurnLaws.{Turns, Turned, goes-turned, goes-refused}
+use Rattle.register.proofs.Laws.RoundLaws.{stays, ends}
+
+both-equal : (a b c d : ℕ) → (eqb a b && eqb c d ≡ true) ↔ ((a ≡ b) × (c ≡ d))
+both-equal a b c d = (
+  λ e. (eqb-true a b (and-left (eqb a b) (eqb c d) e), eqb-true c d (and-right (eqb a b) (eqb c d) e)),
+  λ w. rw (eq-eqb a b (w .0), eq-eqb c d (w .1)) refl,
+)
+
+-- both lengths are looked at
+long : (s : Settings) (blocks stripe : List ℕ) → buffersFit s blocks stripe ≡ true → (length blocks ≡ s .n * s .size) × (length stripe ≡ s .m * s .size)
+unfolding buffersFit
+long s blocks stripe e = let w = simp both-equal at e in (omega (arith, w .0), omega (arith, w .1))
+
+-- what a crash leaves: what there was, or the same record with lists of the right lengths
+pub left-by : (s : Settings) (left : Left) (k : Held) (P : Held → Type 0) → P k
+    → ((blocks stripe : List ℕ) → length blocks ≡ s .n * s .size → length stripe ≡ s .m * s .size
+    → P (record { state = k .state; blocks = blocks; stripe = stripe }))
+    → P (leaving s left k)
+unfolding leaving
+left-by s untouched k P p f = p
+left-by s (lost blocks stripe) k P p f = go (buffersFit s blocks stripe) refl
+  where
+    go : (a : Bool) → buffersFit s blocks stripe ≡ a → P (cond a (record { state = k .state; blocks = blocks; stripe = stripe }) k)
+    go true e = let w = long s blocks stripe e in f blocks stripe (w .0) (w .1)
+    go false e = p
+
+-- nothing is asked of an idle coordinator's buffers
+left-turned : (s : Settings) (g : SettingsRange s) (h : Hist s) (sent : List Item) (c : ℕ) (left : Left) (w : Went)
+    → w .next .state .op .kind ≡ 0 → ((a b : List ℕ) → seenOf s (w .seen) a ≡ seenOf s (w .seen) b) → Turned s g h sent c w
+    → Turned s g h sent c (record { next = leaving s left (w .next); sent = w .sent; seen = w .seen })
+left-turned s g h sent c left w e same t =
+    left-by s left (w .next) (λ (k : Held). Turned s g h sent c (record { next = k; sent = w .sent; seen = w .seen })) t
+    (λ blocks stripe eb es.
+    record {
+      later = t .later;
+      turns = subst (λ (z : List (Seen (plain s))). Turns s g c h (t .later) z) (same (w .next .stripe) stripe) (t .turns);
+      keeps = record { number = t .keeps .number; used = t .keeps .used; sized = t .keeps .sized; runs = λ n. absurd (n e) };
+      items = t .items;
+      own = t .own;
+    })
+
+pub crash-goes : (s : Settings) (g : SettingsRange s) (h : Hist s) (r : Moved s) → Inv s g h r → (c : ℕ) (left : Left)
+    → Goes s g r (coordinated s (r .world) c (leftBy s left (crashStep (s .n) (s .m) (s .size) (r .world .coordinators c))))
+unfolding crashStep checked crashed leftBy
+crash-goes s g h r i c left = go (leb refusal 0)
+  where
+    k : Held
+    k = r .world .coordinators c
+
+    refusal : ℕ
+    refusal = crashRefusal (s .n) (s .m) (s .size) (k .state)
+
+    -- after a crash
+    with-left : Went → Went
+    with-left w = record { next = leaving s left (w .next); sent = w .sent; seen = w .seen }
+
+    cuts : (k .state .op .kind ≡ 0 → ⊥) → Turned s g h (r .world .sent) c (ending k (k .stripe) [] cutSeen noBricks)
+    cuts n =
+        let w = i .coordinators c .runs n in
+        ends s g h (r .world .sent) c k (i .coordinators c) (i .valid) cut (k .stripe) [] cutSeen noBricks (w .own)
+        (record { known = w .known; running = w .unended; answer = tt }) (unfold ending seenOf shows outcome in refl)
+        (λ z m. absurd (unfold broadcasts in List·Memᴰ·not-nil m)) (λ b msg block m. absurd (unfold broadcasts in List·Memᴰ·not-nil m))
+
+    busy : (a : Bool) → eqb (k .state .op .kind) 0 ≡ a
+        → Turned s g h (r .world .sent) c
+        (with-left (cond a (record { next = k; sent = []; seen = nothingSeen }) (ending k (k .stripe) [] cutSeen noBricks)))
+    busy true e =
+        left-turned s g h (r .world .sent) c left (record { next = k; sent = []; seen = nothingSeen }) (eqb-true (k .state .op .kind) 0 e)
+        (λ a b. unfold seenOf nothingSeen in refl) (stays s g h (r .world .sent) c k (i .coordinators c) (i .valid))
+    busy false e =
+        left-turned s g h (r .world .sent) c left (ending k (k .stripe) [] cutSeen noBricks) (unfold ending idleWith noOp in refl)
+        (λ a b. unfold seenOf ending in refl) (cuts (eqb-false (k .state .op .kind) 0 e))
+
+    go : (a : Bool) → Goes s g r (coordinated s (r .world) c (leftBy s left (cond a (went (crashed k)) (refused refusal))))
+    go true = goes-turned s g h r i c (with-left (crashed k)) (busy (eqb (k .state .op .kind) 0) refl)
+    go false = goes-refused s g h r i c refusal

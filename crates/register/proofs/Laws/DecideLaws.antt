@@ -1,0 +1,233 @@
+-- The q-th reply decides: an abort, the Write round of a write, the end after a Write round.
+use mathlib.Core.Path.{_≡_, refl, sym, ap, subst, _∙_}
+use mathlib.Core.Logic.{_⊎_, inl, inr}
+use mathlib.Core.Bool.{Bool, true, false, not, _&&_}
+use mathlib.Core.List.{List, [], _∷_, _++_, List·Memᴰ·not-nil}
+use Prim.Native.Nat.{ℕ, _+_, _%_, _≤_, _<_}
+use native.Mathlib.Omega.{arith}
+use lib.Dec.{T, leb}
+use borrow.Author.Tests.{eq-eqb, ne-eqb, ltb-true}
+use Rattle.settings.specs.Ranges.{quorum}
+use Rattle.settings.specs.Ranges.{SettingsRange}
+use Rattle.settings.proofs.Laws.RangeLaws.{and-right}
+use Rattle.settings.specs.Times.{noUpperEnd, validTime, timeOf}
+use Rattle.settings.specs.declared.Settings.{Settings}
+use Rattle.message.specs.Flags.{member, members}
+use Rattle.message.specs.declared.Message.{Message}
+use Rattle.erasure.specs.Code.{codedOf}
+use Rattle.erasure.specs.Code.{Stripe}
+use Rattle.settings.specs.Each.{some}
+use Rattle.settings.proofs.Laws.Each.{some-at}
+use Rattle.coord_record.specs.Records.{noBricks}
+use Rattle.coord_record.specs.SoundParts.{SoundParts}
+use Rattle.coord_counts.specs.Counting.{saidNo}
+use Rattle.coord_acts.specs.Acts.{roundMessage, trimMessage, nextOp, nextRound, ending, finishedSeen}
+use Rattle.coord_acts.specs.Steps.{Held, abortedSeen}
+use Rattle.order.specs.Claim.{Action, read, write, ok, bytes, changed, given, _∈_}
+use Rattle.order.specs.Facts.{Source, itself, End, written, recovered, aborted, Fact, began, promised, launched, stored, ended, shows, outcome}
+use Rattle.order.specs.Places.{whole, above, In}
+use Rattle.order.proofs.Laws.PlaceLaws.{in-above, in-top}
+use Rattle.order.specs.Quorums.{Many}
+use Rattle.order.specs.Valid.{Began, Val, sets, OkLaunched, Valid}
+use Rattle.order.proofs.Laws.FactLaws.{committed-up}
+use Rattle.register.specs.Runs.{plain, Item, message, reply, seenOf, blockFor, broadcasts}
+use Rattle.register.specs.Invariant.{quorums, Hist, MessageInv, ReplyInv, ItemInv, Running, CoordinatorInv}
+use Rattle.register.proofs.Laws.UpLaws.{in-cons}
+use Rattle.register.proofs.Laws.TurnLaws.{time-of, turns-launched, in-broadcast, Turned}
+use Rattle.register.proofs.Laws.RoundLaws.{ends, opens}
+use Rattle.coord_laws.proofs.Laws.OpCases.{Fit, fit}
+use Rattle.coord_laws.proofs.Laws.SentLaws.{time-valid}
+
+-- what a sound record says of its operation
+pub record SoundOp (s : Settings) (k : Held) : Type 0 where
+  pub fits : 1 ≤ k .state .op .phase → Fit (k .state .op)
+  pub first-low : k .state .op .first < s .n
+  pub time-high : 1 ≤ k .state .op .kind → k .state .op .time < noUpperEnd
+
+pub sound-op : (s : Settings) (k : Held) → SoundParts (s .n) (s .m) (k .state) → SoundOp s k
+unfolding validTime
+sound-op s k p =
+    record {
+      fits = λ l. fit (k .state .op) (p .op-right) (λ _ z. omega arith);
+      first-low = p .first-low;
+      time-high = λ l. ltb-true (k .state .op .time) noUpperEnd
+          (and-right (leb (timeOf 1 0) (k .state .op .time)) _ (time-valid (k .state .op .kind) (k .state .op .time) (k .state .clock) (p .time-right) (λ z. omega arith) (p .number-low) (p .last-low)));
+    }
+
+-- tests on bricks
+pub true-T : (a : Bool) → a ≡ true → T a
+true-T true e = tt
+true-T false e = let z : _≡_ {A = ℕ} 0 1 = cc in absurd (omega arith)
+
+pub T-true : (a : Bool) → T a → a ≡ true
+T-true true t = refl
+T-true false t = absurd t
+
+module _ (s : Settings) (g : SettingsRange s) (h : Hist s) (sent : List Item) (c : ℕ) (k : Held) (v : Valid (quorums s g) h)
+    (i : CoordinatorInv s g h sent c k) (items : (z : Item) → z ∈ sent → ItemInv s g h sent z) (n : k .state .op .kind ≡ 0 → ⊥) where
+  -- the running operation
+  pub now : Running s g h sent c k
+  now = i .runs n
+
+  -- a counted brick's reply
+  pub reply-at : (b : ℕ) (m : member (k .state .tally .counted) b ≡ true) → ReplyInv s g h sent (now .counts b m .from) (now .counts b m .block)
+  reply-at b m = items (reply (now .counts b m .from) (now .counts b m .block)) (now .counts b m .was-sent)
+
+  -- no counted brick said no
+  pub said-yes : some (saidNo (k .state .tally .counted) (k .state .tally .granted)) (s .n) ≡ false → (b : ℕ)
+      (m : member (k .state .tally .counted) b ≡ true) → now .counts b m .from .yes ≡ true
+  unfolding saidNo
+  said-yes e b m =
+      now .counts b m .yes-is ∙ go (member (k .state .tally .granted) b) (sym (ap (λ (a : Bool). a && not (member (k .state .tally .granted) b)) m)
+      ∙ some-at (saidNo (k .state .tally .counted) (k .state .tally .granted)) (s .n) b e (now .counts b m .low))
+    where
+      go : (a : Bool) → true && not a ≡ false → a ≡ true
+      go true q = refl
+      go false q = sym q
+
+  -- what each counted brick satisfies, a quorum satisfies
+  unfoldable pub quorum-of : (Q : ℕ → Type 0) → quorum (s .n) (s .m) ≤ members (k .state .tally .counted) (s .n)
+      → ((b : ℕ) → member (k .state .tally .counted) b ≡ true → Q b) → Many (s .n) (quorum (s .n) (s .m)) Q
+  unfolding members
+  quorum-of Q l f =
+      record { set = member (k .state .tally .counted); enough = l; each = λ b w t. f b (T-true (member (k .state .tally .counted) b) t) }
+
+  -- the operation ends aborted
+  pub does-abort : Turned s g h sent c (ending k (k .stripe) [] abortedSeen noBricks)
+  does-abort =
+      ends s g h sent c k i v aborted (k .stripe) [] abortedSeen noBricks (now .own)
+      (record { known = now .known; running = now .unended; answer = tt }) (unfold ending seenOf shows outcome in refl)
+      (λ z m. absurd (unfold broadcasts in List·Memᴰ·not-nil m)) (λ b msg block m. absurd (unfold broadcasts in List·Memᴰ·not-nil m))
+
+  -- a Write round is sent
+  pub launches : (source : Source) (bricks stripe : List ℕ) → OkLaunched (quorums s g) h (k .state .op .time) source
+      → Val (launched (k .state .op .time) source ∷ h) (k .state .op .time) stripe
+      → Stripe (s .m) (s .size) stripe
+      → (k .state .op .kind ≡ 2 → In (began (k .state .op .time) (write stripe)) h)
+      → Turned s g h sent c (nextRound k 4 0 bricks stripe (codedOf (s .n) (s .m) (s .size) stripe))
+  launches source bricks stripe o value proper writes =
+      opens s g h sent c k i n later 4 0 bricks stripe (codedOf (s .n) (s .m) (s .size) stripe)
+      (turns-launched s g c h v (k .state .op .time) source o (now .own) [] refl)
+      (λ u w. old u (w .0) (in-cons (w .1)))
+      (λ w. unended (w .0) (in-cons (w .1)))
+      (λ p. absurd (p refl))
+      (λ e. (in-above (writes e), proper))
+      (λ e. absurd (omega (arith, e)))
+      (λ e. ((source, in-top), value, proper))
+      messages
+    where
+      later : Hist s
+      later = launched (k .state .op .time) source ∷ h
+
+      old : (u : ℕ) (a : Action (List ℕ)) → (_≡_ {A = Fact (plain s)} (began u a) (launched (k .state .op .time) source)) ⊎ In (began u a) h → Began h u
+      old u a (inl q) = let z : _≡_ {A = ℕ} 0 1 = cc in absurd (omega arith)
+      old u a (inr q) = (a, q)
+
+      unended : (e : End (plain s)) → (_≡_ {A = Fact (plain s)} (ended (k .state .op .time) e) (launched (k .state .op .time) source)) ⊎ In (ended (k .state .op .time) e) h → ⊥
+      unended e (inl q) = let z : _≡_ {A = ℕ} 0 1 = cc in omega arith
+      unended e (inr q) = now .unended (e, q)
+
+      messages : (b : ℕ) → b < s .n
+          → MessageInv s g later b (roundMessage (nextOp (k .state .op) 4 0) noBricks)
+          (blockFor s (record { message = roundMessage (nextOp (k .state .op) 4 0) noBricks; blocks = codedOf (s .n) (s .m) (s .size) stripe }) b)
+      messages b l =
+          unfold roundMessage nextOp blockFor in
+          (record {
+            brick-low = l;
+            asks = λ e. absurd (omega (arith, e));
+            stores = λ e. ((source, in-top), record { full = stripe; value = value; proper = proper; coded = refl });
+            trims = λ e. absurd (omega (arith, e));
+          })
+
+  -- the Write round of a write
+  pub does-store : k .state .op .kind ≡ 2 → k .state .op .phase ≡ 2 → some (saidNo (k .state .tally .counted) (k .state .tally .granted)) (s .n) ≡ false
+      → quorum (s .n) (s .m) ≤ members (k .state .tally .counted) (s .n)
+      → Turned s g h sent c (nextRound k 4 0 noBricks (k .stripe) (codedOf (s .n) (s .m) (s .size) (k .stripe)))
+  unfolding changed
+  does-store kind phase yeses enough =
+      let w = now .writes kind in
+      launches itself noBricks (k .stripe)
+      (record {
+        known = now .known;
+        running = now .unended;
+        new = now .unsent (λ e. omega (arith, e));
+        order = quorum-of (λ (b : ℕ). In (promised b (k .state .op .time)) h) enough ordered;
+        source = (write (k .stripe), k .stripe, w .0, λ z. refl);
+      })
+      (sets in-top (in-above (w .0)) (λ z. refl)) (w .1) (λ _. w .0)
+    where
+      ordered : (b : ℕ) → member (k .state .tally .counted) b ≡ true → In (promised b (k .state .op .time)) h
+      ordered b m =
+          let x = now .counts b m in
+          subst (λ (t : ℕ). In (promised b t) h) (x .time-is)
+          (subst (λ (z : ℕ). In (promised z (x .from .time)) h) (x .brick-is) (reply-at b m .orders (said-yes yeses b m) (x .kind-is ∙ phase)))
+
+  -- a quorum stored the operation's time
+  stored-quorum : k .state .op .phase ≡ 4 → some (saidNo (k .state .tally .counted) (k .state .tally .granted)) (s .n) ≡ false
+      → quorum (s .n) (s .m) ≤ members (k .state .tally .counted) (s .n) → Many (s .n) (quorum (s .n) (s .m)) (λ b. In (stored b (k .state .op .time)) h)
+  stored-quorum phase yeses enough = quorum-of (λ (b : ℕ). In (stored b (k .state .op .time)) h) enough stores
+    where
+      stores : (b : ℕ) → member (k .state .tally .counted) b ≡ true → In (stored b (k .state .op .time)) h
+      stores b m =
+          let x = now .counts b m in
+          subst (λ (t : ℕ). In (stored b t) h) (x .time-is)
+          (subst (λ (z : ℕ). In (stored z (x .from .time)) h) (x .brick-is) (reply-at b m .writes (said-yes yeses b m) (x .kind-is ∙ phase)))
+
+  trims : Many (s .n) (quorum (s .n) (s .m)) (λ b. In (stored b (k .state .op .time)) h) → (e : End (plain s)) (z : Item)
+      → z ∈ broadcasts s (record { message = trimMessage (k .state .op); blocks = [] } ∷ [])
+      → ItemInv s g (ended (k .state .op .time) e ∷ h) (sent ++ broadcasts s (record { message = trimMessage (k .state .op); blocks = [] } ∷ [])) z
+  trims many e z m =
+      let w = in-broadcast s (record { message = trimMessage (k .state .op); blocks = [] }) z m in
+      subst (ItemInv s g (ended (k .state .op .time) e ∷ h) (sent ++ broadcasts s (record { message = trimMessage (k .state .op); blocks = [] } ∷ [])))
+      (sym (w .2)) (one (w .0) (w .1))
+    where
+      one : (b : ℕ) → b < s .n
+          → MessageInv s g (ended (k .state .op .time) e ∷ h) b (trimMessage (k .state .op)) (blockFor s (record { message = trimMessage (k .state .op); blocks = [] }) b)
+      one b l =
+          unfold trimMessage in
+          (record {
+            brick-low = l;
+            asks = λ q. absurd (omega (arith, q));
+            stores = λ q. absurd (omega (arith, q));
+            trims = λ q. committed-up (quorums s g) (above whole) (inr many);
+          })
+
+  owns : (b : ℕ) (msg : Message) (block : List ℕ)
+      → message b msg block ∈ broadcasts s (record { message = trimMessage (k .state .op); blocks = [] } ∷ []) → msg .time % 16 ≡ c
+  owns b msg block m =
+      let w = in-broadcast s (record { message = trimMessage (k .state .op); blocks = [] }) (message b msg block) m in
+      let e : msg .time ≡ k .state .op .time = unfold time-of trimMessage in ap time-of (w .2) in
+      ap (λ (u : ℕ). u % 16) e ∙ now .own
+
+  -- the Write round is finished: a write is ok, a read gives its stripe
+  pub does-finish : (k .state .op .kind ≡ 1) ⊎ (k .state .op .kind ≡ 2) → k .state .op .phase ≡ 4
+      → some (saidNo (k .state .tally .counted) (k .state .tally .granted)) (s .n) ≡ false
+      → quorum (s .n) (s .m) ≤ members (k .state .tally .counted) (s .n)
+      → Turned s g h sent c
+      (ending k (k .stripe) (record { message = trimMessage (k .state .op); blocks = [] } ∷ []) (finishedSeen (k .state .op)) (k .state .bricks))
+  unfolding changed given
+  does-finish (inl kind) phase yeses enough =
+      let many = stored-quorum phase yeses enough in
+      ends s g h sent c k i v (recovered (bytes (k .stripe))) (k .stripe) (record { message = trimMessage (k .state .op); blocks = [] } ∷ [])
+      (finishedSeen (k .state .op)) (k .state .bricks) (now .own)
+      (record {
+        known = now .known;
+        running = now .unended;
+        answer = (
+          inr many,
+          record { kind = read; asked = now .reads kind; keeps = λ z. refl; stripe = k .stripe; value = now .storing phase .1; bytes = refl },
+        );
+      })
+      (unfold ending seenOf shows outcome finishedSeen in rw (eq-eqb (k .state .op .kind) 1 kind) refl)
+      (trims many (recovered (bytes (k .stripe)))) owns
+  does-finish (inr kind) phase yeses enough =
+      let many = stored-quorum phase yeses enough in
+      ends s g h sent c k i v (written ok) (k .stripe) (record { message = trimMessage (k .state .op); blocks = [] } ∷ [])
+      (finishedSeen (k .state .op)) (k .state .bricks) (now .own)
+      (record {
+        known = now .known;
+        running = now .unended;
+        answer = (inr many, record { kind = write (k .stripe); asked = now .writes kind .0; blind = λ z. refl });
+      })
+      (unfold ending seenOf shows outcome finishedSeen in rw (ne-eqb (k .state .op .kind) 1 (λ q. omega (arith, q))) refl)
+      (trims many (written ok)) owns

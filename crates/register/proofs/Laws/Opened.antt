@@ -1,0 +1,69 @@
+-- All the definitions that a run computes with, opened at once: `unfolding all-open`.
+
+unfoldable pub settings-open : Unit {0}
+unfolding Rattle.settings.specs.Count.count Rattle.settings.specs.Count.common Rattle.settings.specs.Ranges.bricksInRange Rattle.settings.specs.Ranges.sizeInRange Rattle.settings.specs.Ranges.capacityInRange Rattle.settings.specs.Ranges.inRange Rattle.settings.specs.Ranges.settingsRefusal Rattle.settings.specs.Ranges.codeRefusal Rattle.settings.specs.Ranges.faults Rattle.settings.specs.Ranges.quorum Rattle.settings.specs.Refusal.firstRefusal Rattle.settings.specs.Times.maxCount Rattle.settings.specs.Times.noUpperEnd Rattle.settings.specs.Times.timeOf Rattle.settings.specs.Times.validTime Rattle.settings.specs.Times.nextCount Rattle.settings.specs.Times.drawRefusal Rattle.settings.specs.Times.advanced Rattle.settings.specs.Times.drawOf Rattle.settings.specs.Times.numberOf
+settings-open = tt
+
+unfoldable pub message-open : Unit {0}
+unfolding Rattle.message.specs.Flags.member Rattle.message.specs.Flags.members Rattle.message.specs.Flags.flagsWithin Rattle.message.specs.Flags.brickSet Rattle.message.specs.Messages.roundRight Rattle.message.specs.Messages.kindRight Rattle.message.specs.Messages.messageRefusal Rattle.message.specs.Messages.foundRight Rattle.message.specs.Messages.replyRight Rattle.message.specs.Messages.replyRefusal
+message-open = tt
+
+unfoldable pub little-open : Unit {0}
+unfolding Rattle.little.specs.Little.byteOf Rattle.little.specs.Little.little Rattle.little.specs.Little.number
+little-open = tt
+
+unfoldable pub block-open : Unit {0}
+unfolding Rattle.block.specs.Block.weighted Rattle.block.specs.Block.checkOf Rattle.block.specs.Block.sealed Rattle.block.specs.Block.unchecked Rattle.block.specs.Block.same Rattle.block.specs.Block.checked Rattle.block.specs.Block.zeros Rattle.block.specs.Block.unusedKind Rattle.block.specs.Block.headKind Rattle.block.specs.Block.entryKind Rattle.block.specs.Block.headBody Rattle.block.specs.Block.headBlock Rattle.block.specs.Block.entryBody Rattle.block.specs.Block.entryBlock Rattle.block.specs.Block.unusedBody Rattle.block.specs.Block.unusedBlock Rattle.block.specs.Block.put
+block-open = tt
+
+unfoldable pub image-open : Unit {0}
+unfolding Rattle.image.specs.Brick.count Rattle.image.specs.Brick.noEntry Rattle.image.specs.Brick.timeAt Rattle.image.specs.Brick.heldAt Rattle.image.specs.Brick.newest Rattle.image.specs.Brick.fresh Rattle.image.specs.Brick.savedTime Rattle.image.specs.Brick.risesAt Rattle.image.specs.Brick.entrySound Rattle.image.specs.Brick.countSound Rattle.image.specs.Brick.sound Rattle.image.specs.Image.blockOf Rattle.image.specs.Image.stacked Rattle.image.specs.Image.imageOf Rattle.image.specs.Image.imageSize Rattle.image.specs.Parse.blockAt Rattle.image.specs.Parse.countIn Rattle.image.specs.Parse.promiseIn Rattle.image.specs.Parse.timeIn Rattle.image.specs.Parse.heldIn Rattle.image.specs.Parse.entryIn Rattle.image.specs.Parse.entriesIn Rattle.image.specs.Parse.brickIn Rattle.image.specs.Parse.checkedAt Rattle.image.specs.Parse.isImage Rattle.image.specs.Parse.openRefusal Rattle.image.specs.Parse.parse
+image-open = tt
+
+unfoldable pub saving-open : Unit {0}
+unfolding Rattle.saving.specs.Saving.freshAfter Rattle.saving.specs.Saving.promised Rattle.saving.specs.Saving.appended Rattle.saving.specs.Saving.without
+saving-open = tt
+
+unfoldable pub brick-open : Unit {0}
+unfolding Rattle.brick.specs.Receive.blocksRefusal Rattle.brick.specs.Receive.receiveRefusal Rattle.brick.specs.Receive.refusedWith Rattle.brick.specs.Receive.givenBy Rattle.brick.specs.Receive.acted Rattle.brick.specs.Receive.outcome Rattle.brick_plan.specs.Steps.aboveNewest Rattle.brick_plan.specs.Steps.notBelowPromise Rattle.brick_plan.specs.Steps.hasFree Rattle.brick_plan.specs.Steps.readYes Rattle.brick_plan.specs.Steps.orderYes Rattle.brick_plan.specs.Steps.writeYes Rattle.brick_plan.specs.Steps.ordered Rattle.brick_plan.specs.Steps.written Rattle.brick_plan.specs.Steps.trimmed Rattle.brick_plan.specs.Steps.trimmedTo Rattle.brick_plan.specs.Steps.under Rattle.brick_plan.specs.Steps.lookup Rattle.brick_plan.specs.Steps.placeFor Rattle.brick_plan.specs.Steps.timeFor Rattle.brick_plan.specs.Steps.foundFor Rattle.brick_plan.specs.Steps.yesTo Rattle.brick_plan.specs.Steps.replyTo Rattle.brick_plan.specs.Steps.after Rattle.brick_plan.specs.Steps.blockAfter
+brick-open = tt
+
+unfoldable pub gf256-open : Unit {0}
+unfolding Rattle.gf256.specs.Product.plus Rattle.gf256.specs.Product.twice Rattle.gf256.specs.Product.shiftAdd Rattle.gf256.specs.Product.product Rattle.gf256.specs.Product.doubled Rattle.gf256.specs.Product.power Rattle.gf256.specs.Product.inverseBelow Rattle.gf256.specs.Product.inverse Rattle.gf256.specs.Product.quotient
+gf256-open = tt
+
+unfoldable pub poly-open : Unit {0}
+unfolding Rattle.poly.specs.Polynomial.pick Rattle.poly.specs.Polynomial.sub Rattle.poly.specs.Polynomial.eval Rattle.poly.specs.Polynomial.Different Rattle.poly.specs.Polynomial.sum Rattle.poly.specs.Polynomial.factor Rattle.poly.specs.Polynomial.basisTo Rattle.poly.specs.Polynomial.basis Rattle.poly.specs.Polynomial.interpolated
+poly-open = tt
+
+unfoldable pub interpolate-open : Unit {0}
+unfolding Rattle.interpolate.specs.Tabulate.tabulate Rattle.interpolate.specs.Tabulate.stacked Rattle.interpolate.specs.Values.byteAt Rattle.interpolate.specs.Values.valueAt Rattle.interpolate.specs.Values.blockAt Rattle.interpolate.specs.Values.blocksAt Rattle.interpolate.proofs.Laws.WeightLaws.others
+interpolate-open = tt
+
+unfoldable pub erasure-open : Unit {0}
+unfolding Rattle.erasure.specs.Code.firstPoints Rattle.erasure.specs.Code.codedOf Rattle.erasure.specs.Code.decodedOf Rattle.erasure.specs.Code.blockOf
+erasure-open = tt
+
+unfoldable pub coord-record-open : Unit {0}
+unfolding Rattle.settings.specs.Each.each Rattle.settings.specs.Each.some Rattle.coord_record.specs.Records.noOp Rattle.coord_record.specs.Records.noBricks Rattle.coord_record.specs.Records.nothingCounted Rattle.coord_record.specs.Records.idleWith Rattle.coord_record.specs.Rules.above Rattle.coord_record.specs.Rules.isTarget Rattle.coord_record.specs.Rules.blockRight Rattle.coord_record.specs.Rules.countedRight Rattle.coord_record.specs.Rules.entryRight Rattle.coord_record.specs.Rules.tallyRight Rattle.coord_record.specs.Rules.brickRight Rattle.coord_record.specs.Rules.bricksRight Rattle.coord_record.specs.Sound.maxRight Rattle.coord_record.specs.Sound.storedRight Rattle.coord_record.specs.Sound.readRight Rattle.coord_record.specs.Sound.writeRight Rattle.coord_record.specs.Sound.unsetOp Rattle.coord_record.specs.Sound.opRight Rattle.coord_record.specs.Sound.timeRight Rattle.coord_record.specs.Sound.namedCount Rattle.coord_record.specs.Sound.filledRight Rattle.coord_record.specs.Sound.sound
+coord-record-open = tt
+
+unfoldable pub coord-rounds-open : Unit {0}
+unfolding Rattle.coord_counts.specs.Counting.saidNo Rattle.coord_counts.specs.Counting.highest Rattle.coord_counts.specs.Counting.otherTime Rattle.coord_counts.specs.Counting.missing Rattle.coord_counts.specs.Counting.atTime Rattle.coord_counts.specs.Counting.atTimes Rattle.coord_counts.specs.Counting.passing Rattle.coord_counts.specs.Counting.inRow Rattle.coord_counts.specs.Counting.picked Rattle.coord_counts.specs.Counting.upward Rattle.coord_counts.specs.Counting.targetRow Rattle.coord_counts.specs.Counting.targetFlag Rattle.coord_counts.specs.Counting.targetFlags Rattle.coord_rounds.specs.Deciding.answers Rattle.coord_rounds.specs.Deciding.tallied Rattle.coord_rounds.specs.Deciding.decidedRead Rattle.coord_rounds.specs.Deciding.unlessSpent Rattle.coord_rounds.specs.Deciding.decidedAt Rattle.coord_rounds.specs.Deciding.decidedRecovery Rattle.coord_rounds.specs.Deciding.decided
+coord-rounds-open = tt
+
+unfoldable pub coord-acts-open : Unit {0}
+unfolding Rattle.coord_acts.specs.Acts.gathered Rattle.coord_acts.specs.Acts.stripeFrom Rattle.coord_acts.specs.Acts.roundMessage Rattle.coord_acts.specs.Acts.trimMessage Rattle.coord_acts.specs.Acts.nextOp Rattle.coord_acts.specs.Acts.opened Rattle.coord_acts.specs.Acts.nextRound Rattle.coord_acts.specs.Acts.ending Rattle.coord_acts.specs.Acts.finishedSeen Rattle.coord_acts.specs.Acts.acted Rattle.coord_acts.specs.Acts.placed Rattle.coord_acts.specs.Acts.withTally Rattle.coord_acts.specs.Acts.counting Rattle.coord_acts.specs.Acts.waitingOr Rattle.coord_acts.specs.Acts.firstOp Rattle.coord_acts.specs.Acts.starting Rattle.coord_acts.specs.Steps.checked Rattle.coord_acts.specs.Steps.nothingSeen Rattle.coord_acts.specs.Steps.noMessage Rattle.coord_acts.specs.Steps.sentCount Rattle.coord_acts.specs.Steps.sentMessage Rattle.coord_acts.specs.Steps.sentBlocks Rattle.coord_acts.specs.Steps.answerOf Rattle.coord_acts.specs.Steps.blocksAfter Rattle.coord_acts.specs.Steps.stripeAfter Rattle.coord_acts.specs.Steps.codedAfter Rattle.coord_acts.proofs.Laws.Steps.after
+coord-acts-open = tt
+
+unfoldable pub coordinator-open : Unit {0}
+unfolding Rattle.coord_checks.specs.Checks.recordChecks Rattle.coord_checks.specs.Checks.startChecks Rattle.coord_checks.specs.Checks.writeRefusal Rattle.coord_checks.specs.Checks.readRefusal Rattle.coord_checks.specs.Checks.lengthsRight Rattle.coord_checks.specs.Checks.strayChecks Rattle.coord_checks.specs.Checks.takeRefusal Rattle.coord_checks.specs.Checks.crashRefusal Rattle.coordinator.specs.Rules.takeStep Rattle.coordinator.specs.Rules.crashed Rattle.coordinator.specs.Rules.crashStep Rattle.coordinator.specs.Rules.drawnThen Rattle.coordinator.specs.Rules.writeStep Rattle.coordinator.specs.Rules.readStep
+coordinator-open = tt
+
+unfoldable pub register-open : Unit {0}
+unfolding Rattle.register.specs.Runs.zeroStripe Rattle.register.specs.Runs.idle Rattle.register.specs.Runs.fresh Rattle.register.specs.Runs.unmoved Rattle.register.specs.Runs.putAt Rattle.register.specs.Runs.seenOf Rattle.register.specs.Runs.blockFor Rattle.register.specs.Runs.toAll Rattle.register.specs.Runs.broadcasts Rattle.register.specs.Runs.coordinated Rattle.register.specs.Runs.repliedWith Rattle.register.specs.Runs.received Rattle.register.specs.Runs.arriving Rattle.register.specs.Runs.arrivingAt Rattle.register.specs.Runs.standing Rattle.register.specs.Runs.buffersFit Rattle.register.specs.Runs.leaving Rattle.register.specs.Runs.leftBy Rattle.register.specs.Runs.step Rattle.register.specs.Runs.next Rattle.register.specs.Runs.runFrom Rattle.register.specs.Runs.run
+register-open = tt
+
+unfoldable pub all-open : Unit {0}
+unfolding settings-open message-open little-open block-open image-open saving-open brick-open gf256-open poly-open interpolate-open erasure-open coord-record-open coord-rounds-open coord-acts-open coordinator-open register-open
+all-open = tt

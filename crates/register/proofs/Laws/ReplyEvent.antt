@@ -1,0 +1,164 @@
+-- A reply reaches its coordinator: what holds of the world goes on to hold.
+use mathlib.Core.Path.{_≡_, refl, sym, subst}
+use mathlib.Core.Logic.{inl, inr}
+use mathlib.Core.Bool.{Bool, true, false, cond, _||_}
+use mathlib.Core.List.{List, []}
+use Prim.Native.Nat.{ℕ, _*_, _%_, _≤_, _<_}
+use native.Mathlib.Omega.{arith}
+use lib.Dec.{leb, ltb, eqb}
+use borrow.Author.Tests.{leb-true, leb-false, ltb-false}
+use Rattle.settings.specs.Count.{count}
+use Rattle.settings.specs.Ranges.{quorum}
+use Rattle.settings.specs.Ranges.{SettingsRange}
+use Rattle.settings.specs.Times.{noUpperEnd}
+use Rattle.settings.specs.declared.Settings.{Settings}
+use Rattle.message.specs.Flags.{members}
+use Rattle.message.specs.declared.Reply.{Reply}
+use Rattle.settings.specs.Each.{some}
+use Rattle.coord_counts.specs.Counting.{saidNo, highest, otherTime, missing, atTimes}
+use Rattle.coord_rounds.specs.Deciding.{decided}
+use Rattle.coord_rounds.specs.declared.Decision.{Decision}
+use Rattle.coord_rounds.specs.declared.Decision.the-variants.{Abort, Give, Look, Store, Recover, Finish}
+use Rattle.coord_acts.specs.Acts.{acted, withTally, counting, waitingOr}
+use Rattle.coord_acts.specs.Steps.{Held, Went, Step, refused, went, nothingSeen}
+use Rattle.coordinator.specs.Rules.{takeStep}
+use Rattle.coord_laws.proofs.Laws.RunLaws.{Took, took}
+use Rattle.coord_laws.proofs.Laws.OpCases.{Fit, reading, looking, restoring, ordering, storing}
+use Rattle.order.specs.Claim.{_∈_}
+use Rattle.order.specs.Valid.{Valid}
+use Rattle.register.specs.Runs.{Item, reply, Moved, coordinated, arriving}
+use Rattle.register.specs.Invariant.{quorums, Hist, ItemInv, CoordinatorInv, Inv}
+use Rattle.register.specs.Invariant.{Goes}
+use Rattle.register.proofs.Laws.TurnLaws.{Turned, goes-turned, goes-refused}
+use Rattle.register.proofs.Laws.RoundLaws.{stays}
+use Rattle.register.proofs.Laws.CountLaws.{counting-keeps}
+use Rattle.register.proofs.Laws.GiveLaws.{does-give}
+use Rattle.register.proofs.Laws.DecisionLaws.{decided-reading, decided-ordering, decided-looking, decided-storing}
+use Rattle.register.proofs.Laws.DecideLaws.{sound-op, does-abort, does-store, does-finish}
+use Rattle.register.proofs.Laws.RecoverLaws.{topOf, does-look, gone-from, does-recover}
+
+module _ (s : Settings) (g : SettingsRange s) (h : Hist s) (sent : List Item) (c : ℕ) (k : Held) (v : Valid (quorums s g) h)
+    (i : CoordinatorInv s g h sent c k) (items : (z : Item) → z ∈ sent → ItemInv s g h sent z) (n : k .state .op .kind ≡ 0 → ⊥)
+    (low : k .state .op .first < s .n) (enough : quorum (s .n) (s .m) ≤ members (k .state .tally .counted) (s .n)) where
+  turned : Decision → Type 0
+  turned d = Turned s g h sent c (acted (s .n) (s .m) (s .size) k d)
+
+  -- what the q-th reply decides
+  does-decide : Fit (k .state .op) → k .state .op .time < noUpperEnd
+      → Turned s g h sent c (acted (s .n) (s .m) (s .size) k (decided (s .n) (s .m) (k .state .op) (k .state .tally)))
+  unfolding acted turned
+  does-decide (reading kind phase _) high =
+      subst turned (sym (decided-reading (s .n) (s .m) (k .state .op) (k .state .tally) phase))
+      (go (some (saidNo (k .state .tally .counted) (k .state .tally .granted)) (s .n))
+      (some (otherTime (k .state .tally .counted) (k .state .tally .found) (highest (k .state .tally .counted) (k .state .tally .found) (s .n))) (s .n))
+      (some (missing (s .n) (s .m) (k .state .op .first) (k .state .tally .counted)) (s .n)) refl refl refl)
+    where
+      look : Turned s g h sent c (acted (s .n) (s .m) (s .size) k (Look noUpperEnd))
+      look = does-look s g h sent c k v i items n noUpperEnd (λ e. omega (arith, e)) (λ u l m. absurd (omega arith))
+
+      go : (x y z : Bool)
+          → some (saidNo (k .state .tally .counted) (k .state .tally .granted)) (s .n) ≡ x
+          → some (otherTime (k .state .tally .counted) (k .state .tally .found) (highest (k .state .tally .counted) (k .state .tally .found) (s .n))) (s .n) ≡ y
+          → some (missing (s .n) (s .m) (k .state .op .first) (k .state .tally .counted)) (s .n) ≡ z
+          → Turned s g h sent c (acted (s .n) (s .m) (s .size) k (cond (x || y || z) (Look noUpperEnd) Give))
+      go true y z ex ey ez = look
+      go false true z ex ey ez = look
+      go false false true ex ey ez = look
+      go false false false ex ey ez = does-give s g h sent c k v i items n low enough kind phase ex ey ez
+  does-decide (looking kind phase _ _) high =
+      subst turned (sym (decided-looking (s .n) (s .m) (k .state .op) (k .state .tally) phase))
+      (go (some (saidNo (k .state .tally .counted) (k .state .tally .granted)) (s .n)) (eqb (members (k .state .tally .held) (s .n)) 0)
+      (leb (s .m) (count (atTimes (k .state .tally .held) (k .state .tally .found) (topOf s k)) (s .n))) (eqb (topOf s k) 0) (ltb (k .state .op .round) 1000) refl refl)
+    where
+      abort : Turned s g h sent c (acted (s .n) (s .m) (s .size) k Abort)
+      abort = does-abort s g h sent c k v i items n
+
+      go : (x w y z f : Bool)
+          → some (saidNo (k .state .tally .counted) (k .state .tally .granted)) (s .n) ≡ x
+          → leb (s .m) (count (atTimes (k .state .tally .held) (k .state .tally .found) (topOf s k)) (s .n)) ≡ y
+          → Turned s g h sent c
+          (acted (s .n) (s .m) (s .size) k
+          (cond x Abort
+          (cond w Abort (cond y (cond f (Recover (topOf s k)) Abort) (cond z Abort (cond f (Look (topOf s k)) Abort))))))
+      go true w y z f ex ey = abort
+      go false true y z f ex ey = abort
+      go false false true z false ex ey = abort
+      go false false true z true ex ey =
+          does-recover s g h sent c k v i items n phase ex enough kind
+          (leb-true (s .m) (count (atTimes (k .state .tally .held) (k .state .tally .found) (topOf s k)) (s .n)) ey)
+      go false false false true f ex ey = abort
+      go false false false false false ex ey = abort
+      go false false false false true ex ey =
+          does-look s g h sent c k v i items n (topOf s k) (λ e. omega (arith, e))
+          (gone-from s g h sent c k v i items n phase ex enough
+          (leb-false (s .m) (count (atTimes (k .state .tally .held) (k .state .tally .found) (topOf s k)) (s .n)) ey))
+  does-decide (restoring kind phase _) high =
+      subst turned (sym (decided-storing (s .n) (s .m) (k .state .op) (k .state .tally) phase))
+      (go (some (saidNo (k .state .tally .counted) (k .state .tally .granted)) (s .n)) refl)
+    where
+      go : (x : Bool) → some (saidNo (k .state .tally .counted) (k .state .tally .granted)) (s .n) ≡ x
+          → Turned s g h sent c (acted (s .n) (s .m) (s .size) k (cond x Abort Finish))
+      go true e = does-abort s g h sent c k v i items n
+      go false e = does-finish s g h sent c k v i items n (inl kind) phase e enough
+  does-decide (ordering kind phase _ _) high =
+      subst turned (sym (decided-ordering (s .n) (s .m) (k .state .op) (k .state .tally) phase))
+      (go (some (saidNo (k .state .tally .counted) (k .state .tally .granted)) (s .n)) refl)
+    where
+      go : (x : Bool) → some (saidNo (k .state .tally .counted) (k .state .tally .granted)) (s .n) ≡ x
+          → Turned s g h sent c (acted (s .n) (s .m) (s .size) k (cond x Abort Store))
+      go true e = does-abort s g h sent c k v i items n
+      go false e = does-store s g h sent c k v i items n kind phase e enough
+  does-decide (storing kind phase _) high =
+      subst turned (sym (decided-storing (s .n) (s .m) (k .state .op) (k .state .tally) phase))
+      (go (some (saidNo (k .state .tally .counted) (k .state .tally .granted)) (s .n)) refl)
+    where
+      go : (x : Bool) → some (saidNo (k .state .tally .counted) (k .state .tally .granted)) (s .n) ≡ x
+          → Turned s g h sent c (acted (s .n) (s .m) (s .size) k (cond x Abort Finish))
+      go true e = does-abort s g h sent c k v i items n
+      go false e = does-finish s g h sent c k v i items n (inr kind) phase e enough
+
+-- a reply reaches its coordinator
+pub reply-arrives : (s : Settings) (g : SettingsRange s) (h : Hist s) (r : Moved s) → Inv s g h r → (a : Reply) (block : List ℕ)
+    → reply a block ∈ r .world .sent → Goes s g r (arriving s (r .world) (reply a block))
+unfolding arriving
+reply-arrives s g h r i a block was = go (takeStep (s .n) (s .m) (s .size) k a block (s .n * s .size)) refl
+  where
+    c : ℕ
+    c = a .time % 16
+
+    k : Held
+    k = r .world .coordinators c
+
+    after : Held
+    after = counting (s .size) k a block
+
+    decides : (w : Went) → Took (s .n) (s .m) (s .size) k a block (s .n * s .size) w → (b : Bool) → ltb (members (after .state .tally .counted) (s .n)) (quorum (s .n) (s .m)) ≡ b
+        → Turned s g h (r .world .sent) c
+        (cond b (record { next = after; sent = []; seen = nothingSeen })
+        (acted (s .n) (s .m) (s .size) after (decided (s .n) (s .m) (after .state .op) (after .state .tally))))
+    decides w t true e =
+        stays s g h (r .world .sent) c after (counting-keeps s g h (r .world .sent) c k a block (s .n * s .size) w (i .coordinators c) t was) (i .valid)
+    decides w t false e =
+        let o = sound-op s k (t .takes .parts) in
+        let p : 1 ≤ k .state .op .phase = omega (arith, t .reply .kind-low, t .answer .of-phase) in
+        let f = o .fits p in
+        unfold counting withTally in
+        (does-decide s g h (r .world .sent) c after (i .valid) (counting-keeps s g h (r .world .sent) c k a block (s .n * s .size) w (i .coordinators c) t was) (i .items)
+        (busy f) (o .first-low) (ltb-false (members (after .state .tally .counted) (s .n)) (quorum (s .n) (s .m)) e) f
+        (o .time-high (kind-low f)))
+      where
+        kind-low : Fit (k .state .op) → 1 ≤ k .state .op .kind
+        kind-low (reading q p _) = omega arith
+        kind-low (looking q p _ _) = omega arith
+        kind-low (restoring q p _) = omega arith
+        kind-low (ordering q p _ _) = omega arith
+        kind-low (storing q p _) = omega arith
+
+        busy : Fit (k .state .op) → k .state .op .kind ≡ 0 → ⊥
+        busy f q = omega (arith, kind-low f)
+
+    go : (p : Step) → takeStep (s .n) (s .m) (s .size) k a block (s .n * s .size) ≡ p → Goes s g r (coordinated s (r .world) c p)
+    go (went w) e =
+        let t = took (s .n) (s .m) (s .size) k a block (s .n * s .size) w e in
+        goes-turned s g h r i c w (subst (Turned s g h (r .world .sent) c) (t .is) (unfold waitingOr in decides w t _ refl))
+    go (refused number) e = goes-refused s g h r i c number

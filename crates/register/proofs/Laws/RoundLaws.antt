@@ -1,0 +1,148 @@
+-- An operation ends, or its next round is sent: what holds of its coordinator and of what is sent.
+use mathlib.Core.Path.{_≡_, refl, sym, ap, subst, _∙_}
+use mathlib.Core.Logic.{_⊎_, inl, inr}
+use mathlib.Core.List.{List, [], _∷_, _++_, append-nil, List·Memᴰ·not-nil, List·Memᴰ·append-cases}
+use Prim.Native.Nat.{ℕ, _+_, _%_, _≤_, _<_}
+use native.Mathlib.Omega.{arith}
+use Rattle.settings.specs.Ranges.{SettingsRange}
+use Rattle.settings.specs.declared.Settings.{Settings}
+use Rattle.message.specs.declared.Message.{Message}
+use Rattle.erasure.specs.Code.{Stripe}
+use Rattle.coord_record.specs.Records.{nothingCounted, noBricks, noOp, idleWith}
+use Rattle.coord_acts.specs.Acts.{roundMessage, nextOp, opened, nextRound, ending}
+use Rattle.coord_acts.specs.Steps.{Held, Broadcast, nothingSeen}
+use Rattle.coord_laws.proofs.Laws.Soundness.{none-sized}
+use Rattle.order.specs.Claim.{Action, write, _∈_}
+use Rattle.order.specs.Facts.{End, Fact, began, ended, shows}
+use Rattle.order.specs.Places.{In}
+use Rattle.order.proofs.Laws.PlaceLaws.{in-suf}
+use Rattle.order.specs.Valid.{Began, Launched, Ended, Val, Gone, OkEnded, Valid}
+use Rattle.register.specs.Runs.{plain, Item, message, reply, seenOf, blockFor, broadcasts}
+use Rattle.register.specs.Invariant.{quorums, Hist, MessageInv, ItemInv, Asked, Running, CoordinatorInv}
+use Rattle.register.proofs.Laws.UpLaws.{in-cons}
+use Rattle.register.proofs.Laws.TurnLaws.{time-of, kind-of, round-of, Turns, turns-not, turns-ended, in-broadcast, Turned}
+use Rattle.register.proofs.Laws.StartEvent.{none-member}
+
+unfoldable pub max-of : Item → ℕ
+max-of (message b msg block) = msg .max
+max-of (reply r block) = 0
+
+module _ (s : Settings) (g : SettingsRange s) (h : Hist s) (sent : List Item) (c : ℕ) (k : Held) (i : CoordinatorInv s g h sent c k) where
+  -- nothing is sent and nothing is seen
+  pub stays : Valid (quorums s g) h → Turned s g h sent c (record { next = k; sent = []; seen = nothingSeen })
+  unfolding seenOf nothingSeen broadcasts
+  stays v =
+      record {
+        later = h;
+        turns = turns-not s g c h v [] refl;
+        keeps = subst (λ (z : List Item). CoordinatorInv s g h z c k) (sym (append-nil sent)) i;
+        items = λ z m. absurd (List·Memᴰ·not-nil m);
+        own = λ b msg block m. absurd (List·Memᴰ·not-nil m);
+      }
+
+  -- the operation ends and its coordinator is idle
+  pub ends : Valid (quorums s g) h → (e : End (plain s)) (stripe : List ℕ) (more : List Broadcast) (what : ℕ) (bricks : List ℕ)
+      → k .state .op .time % 16 ≡ c
+      → OkEnded (quorums s g) h (k .state .op .time) e
+      → seenOf s (ending k stripe more what bricks .seen) stripe ≡ shows {P = plain s} (ended (k .state .op .time) e)
+      → ((z : Item) → z ∈ broadcasts s more → ItemInv s g (ended (k .state .op .time) e ∷ h) (sent ++ broadcasts s more) z)
+      → ((b : ℕ) (msg : Message) (block : List ℕ) → message b msg block ∈ broadcasts s more → msg .time % 16 ≡ c)
+      → Turned s g h sent c (ending k stripe more what bricks)
+  unfolding ending idleWith noOp
+  ends v e stripe more what bricks own o shown items owns =
+      record {
+        later = ended (k .state .op .time) e ∷ h;
+        turns = turns-ended s g c h v (k .state .op .time) e o own _ shown;
+        keeps = record {
+          number = i .number;
+          used = λ u w m. i .used u (old u (w .0) (in-cons (w .1))) m;
+          sized = none-sized;
+          runs = λ n. absurd (n refl);
+        };
+        items = items;
+        own = owns;
+      }
+    where
+      old : (u : ℕ) (a : Action (List ℕ)) → (_≡_ {A = Fact (plain s)} (began u a) (ended (k .state .op .time) e)) ⊎ In (began u a) h → Began h u
+      old u a (inl q) = let z : _≡_ {A = ℕ} 0 1 = cc in absurd (omega arith)
+      old u a (inr q) = (a, q)
+
+  -- the next round is sent
+  pub opens : (n : k .state .op .kind ≡ 0 → ⊥) (h′ : Hist s) (phase max : ℕ) (bricks stripe coded : List ℕ)
+      → Turns s g c h h′ []
+      → ((u : ℕ) → Began h′ u → Began h u)
+      → (¬ Ended h′ (k .state .op .time))
+      → ((phase ≡ 4 → ⊥) → ¬ Launched h′ (k .state .op .time))
+      → (k .state .op .kind ≡ 2 → In (began (k .state .op .time) (write stripe)) h′ × Stripe (s .m) (s .size) stripe)
+      → (phase ≡ 3 → (u : ℕ) → max ≤ u → u < k .state .op .time → Gone (quorums s g) h′ u)
+      → (phase ≡ 4 → Launched h′ (k .state .op .time) × Val h′ (k .state .op .time) stripe × Stripe (s .m) (s .size) stripe)
+      → ((b : ℕ) → b < s .n
+      → MessageInv s g h′ b (roundMessage (nextOp (k .state .op) phase max) noBricks)
+      (blockFor s (record { message = roundMessage (nextOp (k .state .op) phase max) noBricks; blocks = coded }) b))
+      → Turned s g h sent c (nextRound k phase max bricks stripe coded)
+  unfolding nextRound opened seenOf nothingSeen nothingCounted nextOp roundMessage
+  opens n h′ phase max bricks stripe coded turns same unended unsent writes cleared storing messages =
+      record {
+        later = h′;
+        turns = turns;
+        keeps = record { number = i .number; used = λ u w m. i .used u (same u w) m; sized = none-sized; runs = λ _. running };
+        items = λ z m. let w = in-broadcast s sending z m in
+            subst (ItemInv s g h′ (sent ++ broadcasts s (sending ∷ []))) (sym (w .2)) (messages (w .0) (w .1));
+        own = λ b msg block m. let w = in-broadcast s sending (message b msg block) m in
+            let e : msg .time ≡ k .state .op .time = unfold time-of in ap time-of (w .2) in ap (λ (u : ℕ). u % 16) e ∙ r .own;
+      }
+    where
+      r : Running s g h sent c k
+      r = i .runs n
+
+      sending : Broadcast
+      sending = record {
+        message = record { kind = phase; time = k .state .op .time; round = k .state .op .round + 1; max = max; targets = noBricks };
+        blocks = coded;
+      }
+
+      asked : Asked (sent ++ broadcasts s (sending ∷ [])) (k .state .op .time) (k .state .op .round + 1) phase max
+      asked b msg block m e q = go (List·Memᴰ·append-cases sent m)
+        where
+          go : (message b msg block ∈ sent) ⊎ (message b msg block ∈ broadcasts s (sending ∷ []))
+              → (msg .round ≤ k .state .op .round + 1) × (msg .round ≡ k .state .op .round + 1 → (phase ≡ 3) × (msg .max ≡ max))
+          go (inl p) = let w = r .asked b msg block p e q in (omega (arith, w .0), λ f. absurd (omega (arith, f, w .0)))
+          go (inr p) =
+              let w = in-broadcast s sending (message b msg block) p in
+              let f : msg .round ≡ k .state .op .round + 1 = unfold round-of in ap round-of (w .2) in
+              let l : msg .kind ≡ phase = unfold kind-of in ap kind-of (w .2) in
+              let j : msg .max ≡ max = unfold max-of in ap max-of (w .2) in
+              (omega arith, λ _. (sym l ∙ e, j))
+
+      running : Running s g h′ (sent ++ broadcasts s (sending ∷ [])) c
+          (record {
+            state = record {
+              clock = k .state .clock;
+              op = record {
+                kind = k .state .op .kind;
+                phase = phase;
+                time = k .state .op .time;
+                round = k .state .op .round + 1;
+                max = max;
+                first = k .state .op .first;
+              };
+              tally = nothingCounted;
+              bricks = bricks;
+            };
+            blocks = k .blocks;
+            stripe = stripe;
+          })
+      running =
+          record {
+            own = r .own;
+            known = (r .known .0, in-suf (turns .longer) (r .known .1));
+            reads = λ e. in-suf (turns .longer) (r .reads e);
+            writes = writes;
+            unended = unended;
+            unsent = unsent;
+            counts = λ b m. absurd (none-member b m);
+            holds = λ b m. absurd (none-member b m);
+            asked = asked;
+            cleared = cleared;
+            storing = storing;
+          }

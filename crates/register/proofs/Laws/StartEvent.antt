@@ -1,0 +1,227 @@
+-- A read or a write starts, and a coordinator crashes: what holds of the world goes on to hold.
+use mathlib.Core.Path.{_≡_, refl, sym, ap, subst, _∙_}
+use mathlib.Core.Logic.{_⊎_, inl, inr}
+use mathlib.Core.Bool.{Bool, true, false, cond, _&&_}
+use mathlib.Core.List.{List, [], _∷_, _++_, List·Memᴰ·append-cases}
+use Prim.Native.Nat.{ℕ, zero, suc, _*_, _%_, _≤_, _<_}
+use native.Mathlib.Omega.{arith}
+use lib.Dec.{leb, eqb}
+use lib.ListN.{length, getD, replicate}
+use borrow.Author.Tests.{leb-true, eqb-true, eq-eqb, ne-eqb}
+use Rattle.settings.specs.Ranges.{codeRefusal}
+use Rattle.settings.specs.Ranges.{SettingsRange}
+use Rattle.settings.proofs.Laws.RangeLaws.{and-left}
+use Rattle.settings.specs.Refusal.{refuseUnless}
+use Rattle.settings.specs.Times.{timeOf, drawOf}
+use Rattle.settings.proofs.Laws.TimeLaws.{gave, drawn-above, drawn-own}
+use Rattle.settings.specs.declared.Clock.{Clock}
+use Rattle.settings.specs.declared.Draw.{Draw}
+use Rattle.settings.specs.declared.Draw.the-variants.{Drawn, Refused}
+use Rattle.settings.specs.declared.Settings.{Settings}
+use Rattle.settings.proofs.Laws.RefusalLaws.{tested}
+use Rattle.little.specs.Little.{Bytes}
+use Rattle.message.specs.Flags.{member}
+use Rattle.erasure.specs.Code.{Stripe}
+use Rattle.coord_record.specs.Records.{nothingCounted, noBricks}
+use Rattle.coord_counts.specs.Counting.{targetFlags}
+use Rattle.coord_acts.specs.Acts.{roundMessage, firstOp, starting}
+use Rattle.coord_acts.specs.Steps.{Held, Broadcast, Went, refused, checked}
+use Rattle.coord_checks.specs.Checks.{writeRefusal, readRefusal}
+use Rattle.coordinator.specs.Rules.{drawnThen, writeStep, readStep}
+use Rattle.coord_laws.proofs.Laws.Soundness.{none-sized}
+use Rattle.coord_laws.proofs.Laws.TallyLaws.{zeros-at}
+use Rattle.order.specs.Claim.{Action, read, write, Seen, _∈_}
+use Rattle.order.specs.Facts.{Source, End, Fact, began, launched, ended}
+use Rattle.order.specs.Places.{In}
+use Rattle.order.proofs.Laws.PlaceLaws.{suf-below, in-suf, in-top}
+use Rattle.order.specs.Valid.{Began, Valid}
+use Rattle.order.proofs.Laws.FactLaws.{ok-at}
+use Rattle.register.specs.Runs.{plain, Item, message, Moved, seenOf, blockFor, broadcasts, coordinated}
+use Rattle.register.specs.Invariant.{quorums, Hist, MessageInv, ItemInv, Asked, Running, CoordinatorInv, Inv}
+use Rattle.register.proofs.Laws.UpLaws.{in-cons}
+use Rattle.register.specs.Invariant.{Goes}
+use Rattle.register.proofs.Laws.BrickEvent.{first-passed}
+use Rattle.register.proofs.Laws.TurnLaws.{time-of, kind-of, Turns, turns-began, in-broadcast, Turned, goes-turned, goes-refused}
+
+-- no brick is counted in a new round
+pub none-member : (b : ℕ) → member (replicate 16 0) b ≡ true → ⊥
+unfolding member
+none-member b e = let w = zeros-at 16 b in let q = eqb-true (getD (replicate 16 0) b 0) 1 e in omega arith
+
+-- a write's bytes
+pub byte-below : (l : List ℕ) → Bytes l → (i : ℕ) → getD l i 0 < 256
+unfolding Bytes
+byte-below [] b i = omega arith
+byte-below (x ∷ l) b zero = b .0
+byte-below (x ∷ l) b (suc i) = byte-below l (b .1) i
+
+module _ (s : Settings) (g : SettingsRange s) (h : Hist s) (sent : List Item) (c : ℕ) (k : Held) (v : Valid (quorums s g) h)
+    (i : CoordinatorInv s g h sent c k) (items : (z : Item) → z ∈ sent → ItemInv s g h sent z)
+    (reading t : ℕ) (clock : Clock) (d : drawOf (k .state .clock) reading ≡ Drawn t clock) where
+  own-time : t % 16 ≡ c
+  own-time = drawn-own (k .state .clock) reading t clock d ∙ i .number
+
+  -- the time is new
+  new-time : Began h t → ⊥
+  new-time w =
+      let a = i .used t w own-time in
+      let b = drawn-above (k .state .clock) reading t clock d in
+      let n = i .number in
+      let e = gave (k .state .clock) reading t clock d .drew .coordinator-high in
+      unfold timeOf in omega (arith, a, b, n, e)
+
+  time-low : 0 < t
+  time-low = let b = drawn-above (k .state .clock) reading t clock d in omega arith
+
+  -- a start in its first round: a Read or an Order round
+  started : (kind phase first : ℕ) (stripe targets : List ℕ) → phase ≤ 2 → (kind ≡ 2 → Stripe (s .m) (s .size) stripe)
+      → Turned s g h sent c (starting k clock (firstOp kind phase t first) stripe targets)
+  unfolding starting firstOp seenOf nothingCounted roundMessage timeOf
+  started kind phase first stripe targets low proper =
+      record {
+        later = later;
+        turns = turns;
+        keeps = record {
+          number = gave (k .state .clock) reading t clock d .same ∙ i .number;
+          used = λ u w m. used u m (w .0) (in-cons (w .1));
+          sized = none-sized;
+          runs = λ n. running;
+        };
+        items = λ z m. let w = in-broadcast s sending z m in subst (ItemInv s g later (sent ++ broadcasts s (sending ∷ []))) (sym (w .2)) (asks (w .0) (w .1));
+        own = λ b msg block m. let w = in-broadcast s sending (message b msg block) m in
+            let e : msg .time ≡ t = unfold time-of in ap time-of (w .2) in ap (λ (u : ℕ). u % 16) e ∙ own-time;
+      }
+    where
+      action : Action (List ℕ)
+      action = cond (eqb kind 1) read (write stripe)
+
+      later : Hist s
+      later = began t action ∷ h
+
+      sending : Broadcast
+      sending = record { message = record { kind = phase; time = t; round = 1; max = 0; targets = targets }; blocks = [] }
+
+      turns : Turns s g c h later (Seen.began t action ∷ [])
+      turns = turns-began s g c h v t action (record { positive = time-low; new = λ a w. new-time (a, w) }) own-time (Seen.began t action ∷ []) refl
+
+      asks : (b : ℕ) → b < s .n → MessageInv s g later b (sending .message) (blockFor s sending b)
+      asks b l =
+          record {
+            brick-low = l;
+            asks = λ _. (action, in-top);
+            stores = λ e. absurd (omega arith);
+            trims = λ e. absurd (omega arith);
+          }
+
+      used : (u : ℕ) → u % 16 ≡ c → (a : Action (List ℕ)) → (_≡_ {A = Fact (plain s)} (began u a) (began t action)) ⊎ In (began u a) h
+          → u ≤ timeOf (clock .last) c
+      used u m a (inl q) =
+          let e : u ≡ t = cc in
+          let f = gave (k .state .clock) reading t clock d .time in
+          let n = i .number in
+          omega (arith, e, f, n)
+      used u m a (inr q) =
+          let w = i .used u (a, q) m in
+          let b = drawn-above (k .state .clock) reading t clock d in
+          let f = gave (k .state .clock) reading t clock d .time in
+          let n = i .number in
+          let e = gave (k .state .clock) reading t clock d .drew .coordinator-high in
+          omega (arith, w, b, f, n, e)
+
+      ended-not : (e : End (plain s)) → (_≡_ {A = Fact (plain s)} (ended t e) (began t action)) ⊎ In (ended t e) h → ⊥
+      ended-not e (inl q) = let z : _≡_ {A = ℕ} 0 1 = cc in omega arith
+      ended-not e (inr q) = let w = ok-at (q .1) v .known in new-time (w .0, in-suf (suf-below (q .1)) (w .1))
+
+      launched-not : (e : Source) → (_≡_ {A = Fact (plain s)} (launched t e) (began t action)) ⊎ In (launched t e) h → ⊥
+      launched-not e (inl q) = let z : _≡_ {A = ℕ} 0 1 = cc in omega arith
+      launched-not e (inr q) = let w = ok-at (q .1) v .known in new-time (w .0, in-suf (suf-below (q .1)) (w .1))
+
+      asked : Asked (sent ++ broadcasts s (sending ∷ [])) t 1 phase 0
+      asked b msg block m e q = go (List·Memᴰ·append-cases sent m)
+        where
+          go : (message b msg block ∈ sent) ⊎ (message b msg block ∈ broadcasts s (sending ∷ [])) → (msg .round ≤ 1) × (msg .round ≡ 1 → (phase ≡ 3) × (msg .max ≡ 0))
+          go (inl p) = absurd (new-time (subst (Began h) q (items (message b msg block) p .asks (omega arith))))
+          go (inr p) = let w = in-broadcast s sending (message b msg block) p in
+              let f : msg .kind ≡ phase = unfold kind-of in ap kind-of (w .2) in absurd (omega arith)
+
+      running : Running s g later (sent ++ broadcasts s (sending ∷ [])) c
+          (record {
+            state = record { clock = clock; op = record { kind = kind; phase = phase; time = t; round = 1; max = 0; first = first }; tally = nothingCounted; bricks = noBricks };
+            blocks = k .blocks;
+            stripe = stripe;
+          })
+      running =
+          record {
+            own = own-time;
+            known = (action, in-top);
+            reads = λ e. subst (λ (a : Action (List ℕ)). In (began t a) later) (rw (eq-eqb kind 1 e) refl) in-top;
+            writes = λ e. (subst (λ (a : Action (List ℕ)). In (began t a) later) (rw (ne-eqb kind 1 (λ q. omega (arith, q))) refl) in-top, proper e);
+            unended = λ w. ended-not (w .0) (in-cons (w .1));
+            unsent = λ p w. launched-not (w .0) (in-cons (w .1));
+            counts = λ b m. absurd (none-member b m);
+            holds = λ b m. absurd (none-member b m);
+            asked = asked;
+            cleared = λ e. absurd (omega arith);
+            storing = λ e. absurd (omega arith);
+          }
+
+-- checks that pass
+pub passes : (k : ℕ) → leb k 0 ≡ true → k ≡ 0
+passes k e = let w = leb-true k 0 e in omega arith
+
+module _ (s : Settings) (g : SettingsRange s) (h : Hist s) (r : Moved s) (i : Inv s g h r) (c : ℕ) where
+  -- a write starts
+  pub write-starts : (reading : ℕ) (content : List ℕ) → Bytes content
+      → Goes s g r (coordinated s (r .world) c (writeStep (s .n) (s .m) (s .size) (r .world .coordinators c) reading content))
+  unfolding writeStep checked drawnThen writeRefusal
+  write-starts reading content small = go (leb refusal 0) refl
+    where
+      k : Held
+      k = r .world .coordinators c
+
+      refusal : ℕ
+      refusal = writeRefusal (s .n) (s .m) (s .size) (k .state) reading (length content) (length (k .stripe))
+
+      begin : ℕ → Clock → Went
+      begin time clock = starting k clock (firstOp 2 2 time 0) content noBricks
+
+      draws : length content ≡ s .m * s .size → (d : Draw) → drawOf (k .state .clock) reading ≡ d → Goes s g r (coordinated s (r .world) c (drawnThen d begin))
+      draws l (Refused number) e = goes-refused s g h r i c number
+      draws l (Drawn t clock) e =
+          goes-turned s g h r i c (begin t clock)
+          (started s g h (r .world .sent) c k (i .valid) (i .coordinators c) (i .items) reading t clock e 2 2 0 content noBricks (omega arith)
+          (λ _. record { pos = g .code .size-low; length-is = l; small = byte-below content small }))
+
+      go : (a : Bool) → leb refusal 0 ≡ a → Goes s g r (coordinated s (r .world) c (cond a (drawnThen (drawOf (k .state .clock) reading) begin) (refused refusal)))
+      go false e = goes-refused s g h r i c refusal
+      go true e =
+          let a = first-passed (codeRefusal (s .n) (s .m) (s .size)) _ (passes refusal e) in
+          let b = first-passed (refuseUnless (eqb (length content) (s .m * s .size) && eqb (length (k .stripe)) (s .m * s .size)) 2) _ (a .1) in
+          let l = tested (eqb (length content) (s .m * s .size) && eqb (length (k .stripe)) (s .m * s .size)) 1 (b .0) in
+          draws (eqb-true (length content) (s .m * s .size) (and-left _ _ l)) (drawOf (k .state .clock) reading) refl
+
+  -- a read starts
+  pub read-starts : (reading first : ℕ)
+      → Goes s g r (coordinated s (r .world) c (readStep (s .n) (s .m) (s .size) (r .world .coordinators c) reading first))
+  unfolding readStep checked drawnThen
+  read-starts reading first = go (leb refusal 0)
+    where
+      k : Held
+      k = r .world .coordinators c
+
+      refusal : ℕ
+      refusal = readRefusal (s .n) (s .m) (s .size) (k .state) reading first
+
+      begin : ℕ → Clock → Went
+      begin time clock = starting k clock (firstOp 1 1 time first) (k .stripe) (targetFlags (s .n) (s .m) first)
+
+      draws : (d : Draw) → drawOf (k .state .clock) reading ≡ d → Goes s g r (coordinated s (r .world) c (drawnThen d begin))
+      draws (Refused number) e = goes-refused s g h r i c number
+      draws (Drawn t clock) e =
+          goes-turned s g h r i c (begin t clock)
+          (started s g h (r .world .sent) c k (i .valid) (i .coordinators c) (i .items) reading t clock e 1 1 first (k .stripe)
+          (targetFlags (s .n) (s .m) first) (omega arith) (λ e. absurd (omega (arith, e))))
+
+      go : (a : Bool) → Goes s g r (coordinated s (r .world) c (cond a (drawnThen (drawOf (k .state .clock) reading) begin) (refused refusal)))
+      go false = goes-refused s g h r i c refusal
+      go true = draws (drawOf (k .state .clock) reading) refl

@@ -1,0 +1,155 @@
+-- One event at one coordinator: the history grows by one fact at most, and how the world goes on.
+use mathlib.Core.Path.{_≡_, refl, sym, ap, subst, _∙_}
+use mathlib.Core.Logic.{_⊎_, inl, inr}
+use mathlib.Core.Bool.{Bool, true, false}
+use mathlib.Core.List.{List, [], _∷_, _++_, append-nil, List·Memᴰ·not-nil, List·Memᴰ·append-cases, List·Memᴰ·eq-of-singleton}
+use Prim.Native.Nat.{ℕ, zero, suc, _%_, _<_}
+use native.Mathlib.Omega.{arith}
+use lib.Dec.{eqb}
+use borrow.Author.Tests.{eqb-true, eqb-false}
+use Rattle.settings.specs.Ranges.{SettingsRange}
+use Rattle.settings.specs.declared.Settings.{Settings}
+use Rattle.message.specs.declared.Message.{Message}
+use Rattle.image.specs.Brick.{Brick}
+use Rattle.coord_acts.specs.Steps.{Held, Broadcast, Went, refused, went}
+use Rattle.order.specs.Claim.{Action, Seen, _∈_}
+use Rattle.order.specs.Facts.{Source, End, Fact, began, launched, ended, seen, shows}
+use Rattle.order.specs.Places.{Suf, whole, above}
+use Rattle.order.specs.Valid.{OkBegan, OkLaunched, OkEnded, Ok, Valid, next}
+use Rattle.register.specs.Runs.{plain, Item, message, reply, Moved, putAt, seenOf, blockFor, toAll, broadcasts, coordinated}
+use Rattle.register.specs.Invariant.{quorums, Hist, BrickInv, ItemInv, CoordinatorInv, Inv}
+use Rattle.register.proofs.Laws.UpLaws.{within-more, item-up, AtBrick, AtCoordinator, brick-up, coordinator-up, Quiet, coordinator-sent}
+use Rattle.register.specs.Invariant.{Goes}
+use Rattle.register.proofs.Laws.BrickEvent.{goes-unmoved, put-here, put-there}
+
+-- the fields of a message among the items
+unfoldable pub time-of : Item → ℕ
+time-of (message b msg block) = msg .time
+time-of (reply r block) = 0
+
+unfoldable pub kind-of : Item → ℕ
+kind-of (message b msg block) = msg .kind
+kind-of (reply r block) = 0
+
+unfoldable pub round-of : Item → ℕ
+round-of (message b msg block) = msg .round
+round-of (reply r block) = 0
+
+-- The history grows by what concerns coordinator c alone, and this is seen of it.
+pub record Turns (s : Settings) (g : SettingsRange s) (c : ℕ) (h h′ : Hist s) (shown : List (Seen (plain s))) : Type 0 where
+  pub valid : Valid (quorums s g) h′
+  pub longer : Suf h h′
+  pub seen-more : seen h′ ≡ seen h ++ shown
+  pub bricks : (b : ℕ) (x : Brick) → BrickInv s g h b x → BrickInv s g h′ b x
+  pub others : (c′ : ℕ) → (c′ ≡ c → ⊥) → (sent : List Item) (k : Held) → CoordinatorInv s g h sent c′ k → CoordinatorInv s g h′ sent c′ k
+
+module _ (s : Settings) (g : SettingsRange s) (c : ℕ) (h : Hist s) (v : Valid (quorums s g) h) where
+  pub turns-not : (shown : List (Seen (plain s))) → shown ≡ [] → Turns s g c h h shown
+  turns-not shown e =
+      record {
+        valid = v;
+        longer = whole;
+        seen-more = sym (append-nil (seen h)) ∙ ap (λ (z : List (Seen (plain s))). seen h ++ z) (sym e);
+        bricks = λ b x i. i;
+        others = λ c′ n sent k i. i;
+      }
+
+  turns-by : (f : Fact (plain s)) → Ok (quorums s g) f h → ((b : ℕ) → AtBrick b f → ⊥) → ((c′ : ℕ) → AtCoordinator c′ f → c′ ≡ c)
+      → (shown : List (Seen (plain s))) → shown ≡ shows f → Turns s g c h (f ∷ h) shown
+  unfolding seen
+  turns-by f o at co shown e =
+      record {
+        valid = next v o;
+        longer = above whole;
+        seen-more = ap (λ (z : List (Seen (plain s))). seen h ++ z) (sym e);
+        bricks = λ b x i. brick-up (next v o) (at b) i;
+        others = λ c′ n sent k i. coordinator-up (next v o) (λ a. n (co c′ a)) i;
+      }
+
+  pub turns-began : (t : ℕ) (k : Action (List ℕ)) → OkBegan h t → t % 16 ≡ c → (shown : List (Seen (plain s)))
+      → shown ≡ Seen.began t k ∷ [] → Turns s g c h (began t k ∷ h) shown
+  unfolding shows
+  turns-began t k o e shown q = turns-by (began t k) o (λ b a. a) (λ c′ a. sym a ∙ e) shown q
+
+  pub turns-launched : (t : ℕ) (k : Source) → OkLaunched (quorums s g) h t k → t % 16 ≡ c → (shown : List (Seen (plain s))) → shown ≡ []
+      → Turns s g c h (launched t k ∷ h) shown
+  unfolding shows
+  turns-launched t k o e shown q = turns-by (launched t k) o (λ b a. a) (λ c′ a. sym a ∙ e) shown q
+
+  pub turns-ended : (t : ℕ) (k : End (plain s)) → OkEnded (quorums s g) h t k → t % 16 ≡ c → (shown : List (Seen (plain s)))
+      → shown ≡ shows {P = plain s} (ended t k) → Turns s g c h (ended t k ∷ h) shown
+  turns-ended t k o e shown q = turns-by (ended t k) o (λ b a. a) (λ c′ a. sym a ∙ e) shown q
+
+-- what a broadcast sends
+pub in-toAll : (s : Settings) (z : Broadcast) (k : ℕ) (i : Item) → i ∈ toAll s z k → (b : ℕ) × (b < k) × (i ≡ message b (z .message) (blockFor s z b))
+unfolding toAll
+in-toAll s z zero i m = absurd (List·Memᴰ·not-nil m)
+in-toAll s z (suc k) i m = go (List·Memᴰ·append-cases (toAll s z k) m) (in-toAll s z k i)
+  where
+    go : (i ∈ toAll s z k) ⊎ (i ∈ (message k (z .message) (blockFor s z k) ∷ [])) → (i ∈ toAll s z k → (b : ℕ) × (b < k) × (i ≡ message b (z .message) (blockFor s z b)))
+        → (b : ℕ) × (b < suc k) × (i ≡ message b (z .message) (blockFor s z b))
+    go (inl p) ih = let w = ih p in (w .0, omega (arith, w .1), w .2)
+    go (inr p) ih = (k, omega arith, List·Memᴰ·eq-of-singleton p)
+
+pub in-broadcast : (s : Settings) (z : Broadcast) (i : Item) → i ∈ broadcasts s (z ∷ [])
+    → (b : ℕ) × (b < s .n) × (i ≡ message b (z .message) (blockFor s z b))
+unfolding broadcasts
+in-broadcast s z i m = go (List·Memᴰ·append-cases (toAll s z (s .n)) m)
+  where
+    go : (i ∈ toAll s z (s .n)) ⊎ (i ∈ []) → (b : ℕ) × (b < s .n) × (i ≡ message b (z .message) (blockFor s z b))
+    go (inl p) = in-toAll s z (s .n) i p
+    go (inr p) = absurd (List·Memᴰ·not-nil p)
+
+-- What an event leaves of coordinator c and what it sends.
+pub record Turned (s : Settings) (g : SettingsRange s) (h : Hist s) (sent : List Item) (c : ℕ) (w : Went) : Type 0 where
+  pub later : Hist s
+  pub turns : Turns s g c h later (seenOf s (w .seen) (w .next .stripe))
+  pub keeps : CoordinatorInv s g later (sent ++ broadcasts s (w .sent)) c (w .next)
+  pub items : (i : Item) → i ∈ broadcasts s (w .sent) → ItemInv s g later (sent ++ broadcasts s (w .sent)) i
+  pub own : (b : ℕ) (msg : Message) (block : List ℕ) → message b msg block ∈ broadcasts s (w .sent) → msg .time % 16 ≡ c
+
+pub goes-turned : (s : Settings) (g : SettingsRange s) (h : Hist s) (r : Moved s) → Inv s g h r → (c : ℕ) (w : Went)
+    → Turned s g h (r .world .sent) c w → Goes s g r (coordinated s (r .world) c (went w))
+unfolding coordinated
+goes-turned s g h r i c w t = (
+  t .later,
+  record {
+    valid = t .turns .valid;
+    seen-is = t .turns .seen-more ∙ ap (λ (z : List (Seen (plain s))). z ++ seenOf s (w .seen) (w .next .stripe)) (i .seen-is);
+    bricks = λ b l. let x = i .bricks b l in
+        record { state = x .state; saved = x .saved; sound = x .sound; keeps = t .turns .bricks b (x .state) (x .keeps) };
+    items = λ k m. item k (List·Memᴰ·append-cases (r .world .sent) m);
+    coordinators = λ c′. at c′ (eqb c′ c) refl;
+  },
+)
+  where
+    new : List Item
+    new = broadcasts s (w .sent)
+
+    item : (k : Item) → (k ∈ r .world .sent) ⊎ (k ∈ new) → ItemInv s g (t .later) (r .world .sent ++ new) k
+    item k (inl m) = item-up s g (t .turns .valid) (t .turns .longer) (within-more (r .world .sent) new) k (i .items k m)
+    item k (inr m) = t .items k m
+
+    quiet : (c′ : ℕ) → (c′ ≡ c → ⊥) → Quiet c′ (r .world .sent) (r .world .sent ++ new)
+    quiet c′ n b msg block m e q = go (List·Memᴰ·append-cases (r .world .sent) m)
+      where
+        go : (message b msg block ∈ r .world .sent) ⊎ (message b msg block ∈ new) → message b msg block ∈ r .world .sent
+        go (inl p) = p
+        go (inr p) = absurd (n (sym q ∙ t .own b msg block p))
+
+    at : (c′ : ℕ) (a : Bool) → eqb c′ c ≡ a → CoordinatorInv s g (t .later) (r .world .sent ++ new) c′ (putAt (r .world .coordinators) c (w .next) c′)
+    at c′ true e =
+        let q = eqb-true c′ c e in
+        subst (λ (z : ℕ). CoordinatorInv s g (t .later) (r .world .sent ++ new) z (putAt (r .world .coordinators) c (w .next) z)) (sym q)
+        (subst (CoordinatorInv s g (t .later) (r .world .sent ++ new) c) (sym (put-here (r .world .coordinators) c (w .next))) (t .keeps))
+    at c′ false e =
+        let n = eqb-false c′ c e in
+        subst (CoordinatorInv s g (t .later) (r .world .sent ++ new) c′) (sym (put-there (r .world .coordinators) c (w .next) c′ n))
+        (coordinator-sent (within-more (r .world .sent) new) (quiet c′ n)
+        (t .turns .others c′ n (r .world .sent) (r .world .coordinators c′) (i .coordinators c′)))
+
+-- a routine that is refused changes nothing
+pub goes-refused : (s : Settings) (g : SettingsRange s) (h : Hist s) (r : Moved s) → Inv s g h r → (c number : ℕ)
+    → Goes s g r (coordinated s (r .world) c (refused number))
+unfolding coordinated
+goes-refused s g h r i c number = goes-unmoved s g h r i

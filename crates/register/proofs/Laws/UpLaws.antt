@@ -1,0 +1,223 @@
+-- What holds goes on to hold: under more facts, and with more sent.
+use mathlib.Core.Path.{_≡_, refl, subst, ap, _∙_}
+use mathlib.Core.Logic.{_⊎_, inl, inr}
+use mathlib.Core.Bool.{true}
+use mathlib.Core.List.{List, _∷_, _++_, Memᴰ·append-left}
+use Prim.Native.Nat.{ℕ, _%_, _≤_, _<_}
+use Rattle.settings.specs.Ranges.{SettingsRange}
+use Rattle.settings.specs.declared.Settings.{Settings}
+use Rattle.message.specs.Kinds.{orderReadKind}
+use Rattle.message.specs.declared.Message.{Message}
+use Rattle.message.specs.declared.Reply.{Reply}
+use Rattle.image.specs.Brick.{Brick, LogEntry}
+use Rattle.coord_acts.specs.Steps.{Held}
+use Rattle.order.specs.Claim.{Plain, _∈_}
+use Rattle.order.specs.Facts.{Fact, began, promised, launched, stored, showed, ended, History}
+use Rattle.order.specs.Places.{Suf, whole, above, In}
+use Rattle.order.proofs.Laws.PlaceLaws.{suf-cons, in-suf, in-above}
+use Rattle.order.specs.Valid.{Began, Gone, Valid}
+use Rattle.order.proofs.Laws.FactLaws.{committed-up}
+use Rattle.order.proofs.Laws.StoreLaws.{stored-before}
+use Rattle.order.proofs.Laws.GoneLaws.{gone-up}
+use Rattle.order.proofs.Laws.ValueLaws.{val-up}
+use Rattle.register.specs.Runs.{plain, Item, message, reply}
+use Rattle.register.specs.Invariant.{quorums, Hist, Means, Stands, BrickInv, MessageInv, Looked, ReplyInv, ItemInv, CountedInv, Running, CoordinatorInv}
+
+-- all that stands in the one list stands in the other
+abbrev pub Within : List Item → List Item → Type 0
+Within a b = (i : Item) → i ∈ a → i ∈ b
+
+pub within-more : (a b : List Item) → Within a (a ++ b)
+within-more a b i m = Memᴰ·append-left b m
+
+-- a fact of a longer history is its newest, or stood there before
+pub in-cons : {P : Plain} {f g : Fact P} {h : History P} → In f (g ∷ h) → (f ≡ g) ⊎ In f h
+in-cons {P} {f} {g} {h} i = go (suf-cons (i .1))
+  where
+    go : (f ∷ (i .0) ≡ g ∷ h) ⊎ Suf (f ∷ (i .0)) h → (f ≡ g) ⊎ In f h
+    go (inl e) = inl (cc)
+    go (inr s) = inr (i .0, s)
+
+pub stands-up : {P : Plain} {a h : History P} {b t : ℕ} → Suf a h → Stands a b t → Stands h b t
+stands-up q (inl e) = inl e
+stands-up q (inr i) = inr (in-suf q i)
+
+module _ {s : Settings} where
+  pub means-up : {a h : Hist s} {t b : ℕ} {block : List ℕ} → Suf a h → Means s a t b block → Means s h t b block
+  means-up q x = record { full = x .full; value = val-up q (x .value); proper = x .proper; coded = x .coded }
+
+module _ {s : Settings} {g : SettingsRange s} {a h : Hist s} (v : Valid (quorums s g) h) (q : Suf a h) where
+  pub message-up : {b : ℕ} {msg : Message} {block : List ℕ} → MessageInv s g a b msg block → MessageInv s g h b msg block
+  message-up x =
+      record {
+        brick-low = x .brick-low;
+        asks = λ l. let w = x .asks l in (w .0, in-suf q (w .1));
+        stores = λ e. let w = x .stores e in ((w .0 .0, in-suf q (w .0 .1)), means-up q (w .1));
+        trims = λ e. committed-up (quorums s g) q (x .trims e);
+      }
+
+  looked-up : {old new : List Item} {r : Reply} → Within old new → In (promised (r .brick) (r .time)) a → Looked s g a old r → Looked s g h new r
+  looked-up {old} {new} {r} w p x =
+      record {
+        asked = x .asked;
+        with-block = x .with-block;
+        was-sent = w _ (x .was-sent);
+        kind-is = x .kind-is;
+        time-is = x .time-is;
+        round-is = x .round-is;
+        nothing-else = λ u l m n. go u (x .nothing-else u l m (before u l n));
+      }
+    where
+      before : (u : ℕ) → u < r .time → Stands h (r .brick) u → Stands a (r .brick) u
+      before u l (inl e) = inl e
+      before u l (inr i) = inr (stored-before v q l p i)
+
+      go : (u : ℕ) → ((r .held ≡ true) × (u ≤ r .found)) ⊎ Gone (quorums s g) a u
+          → ((r .held ≡ true) × (u ≤ r .found)) ⊎ Gone (quorums s g) h u
+      go u (inl y) = inl y
+      go u (inr y) = inr (gone-up v q y)
+
+  pub reply-up : {old new : List Item} {r : Reply} {block : List ℕ} → Within old new → ReplyInv s g a old r block → ReplyInv s g h new r block
+  reply-up w x =
+      record {
+        brick-low = x .brick-low;
+        orders = λ y k. in-suf q (x .orders y k);
+        writes = λ y k. in-suf q (x .writes y k);
+        reads = λ y k. in-suf q (x .reads y k);
+        shows = λ y k d. means-up q (x .shows y k d);
+        looks = λ y k. in-suf q (x .looks y k);
+        finds = λ y k d. let z = x .finds y k d in (z .0, stands-up q (z .1), means-up q (z .2));
+        looked = λ y k. looked-up w (x .looks y k) (x .looked y k);
+      }
+
+pub item-up : (s : Settings) (g : SettingsRange s) {a h : Hist s} {old new : List Item} → Valid (quorums s g) h → Suf a h → Within old new
+    → (i : Item) → ItemInv s g a old i → ItemInv s g h new i
+item-up s g v q w (message b msg block) x = message-up v q x
+item-up s g v q w (reply r block) x = reply-up v q w x
+
+-- The facts that concern what brick b promised and stored.
+abbrev pub AtBrick : {P : Plain} → ℕ → Fact P → Type 0
+AtBrick b (began t k) = ⊥
+AtBrick b (promised b′ t) = b ≡ b′
+AtBrick b (launched t s) = ⊥
+AtBrick b (stored b′ t) = b ≡ b′
+AtBrick b (showed b′ t c) = ⊥
+AtBrick b (ended t e) = ⊥
+
+-- The facts that concern the operations of coordinator c.
+abbrev pub AtCoordinator : {P : Plain} → ℕ → Fact P → Type 0
+AtCoordinator c (began t k) = t % 16 ≡ c
+AtCoordinator c (promised b t) = ⊥
+AtCoordinator c (launched t s) = t % 16 ≡ c
+AtCoordinator c (stored b t) = ⊥
+AtCoordinator c (showed b t x) = ⊥
+AtCoordinator c (ended t e) = t % 16 ≡ c
+
+module _ {s : Settings} {g : SettingsRange s} {h : Hist s} {f : Fact (plain s)} (v : Valid (quorums s g) (f ∷ h)) where
+  -- a brick after a fact that does not concern it
+  pub brick-up : {b : ℕ} {x : Brick} → (AtBrick b f → ⊥) → BrickInv s g h b x → BrickInv s g (f ∷ h) b x
+  brick-up {b} {x} other i =
+      record {
+        bounded = λ t p. bound t (in-cons p);
+        entries = λ e m. let w = i .entries e m in (stands-up (above whole) (w .0), means-up (above whole) (w .1));
+        kept = λ u w. keep u (i .kept u (before u w));
+      }
+    where
+      bound : (t : ℕ) → (promised b t ≡ f) ⊎ In (promised b t) h → t ≤ x .promise
+      bound t (inl e) = absurd (other (subst (AtBrick b) e refl))
+      bound t (inr p) = i .bounded t p
+
+      stood : (u : ℕ) → (stored b u ≡ f) ⊎ In (stored b u) h → Stands h b u
+      stood u (inl e) = absurd (other (subst (AtBrick b) e refl))
+      stood u (inr p) = inr p
+
+      before : (u : ℕ) → Stands (f ∷ h) b u → Stands h b u
+      before u (inl e) = inl e
+      before u (inr p) = stood u (in-cons p)
+
+      keep : (u : ℕ) → ((e : LogEntry) × (e ∈ x .log) × (e .time ≡ u)) ⊎ Gone (quorums s g) h u
+          → ((e : LogEntry) × (e ∈ x .log) × (e .time ≡ u)) ⊎ Gone (quorums s g) (f ∷ h) u
+      keep u (inl w) = inl w
+      keep u (inr w) = inr (gone-up v (above whole) w)
+
+  -- a coordinator after a fact that does not concern it
+  running-up : {sent : List Item} {c : ℕ} {k : Held} → (AtCoordinator c f → ⊥) → Running s g h sent c k → Running s g (f ∷ h) sent c k
+  running-up {sent} {c} {k} other i =
+      record {
+        own = i .own;
+        known = (i .known .0, in-above (i .known .1));
+        reads = λ e. in-above (i .reads e);
+        writes = λ e. let w = i .writes e in (in-above (w .0), w .1);
+        unended = λ w. ended-not (w .0) (in-cons (w .1));
+        unsent = λ p w. launched-not p (w .0) (in-cons (w .1));
+        counts = i .counts;
+        holds = i .holds;
+        asked = i .asked;
+        cleared = λ p u l m. gone-up v (above whole) (i .cleared p u l m);
+        storing = λ p. let w = i .storing p in ((w .0 .0, in-above (w .0 .1)), val-up (above whole) (w .1), w .2);
+      }
+    where
+      ended-not : (e : _) → (ended (k .state .op .time) e ≡ f) ⊎ In (ended (k .state .op .time) e) h → ⊥
+      ended-not e (inl q) = other (subst (AtCoordinator c) q (i .own))
+      ended-not e (inr q) = i .unended (e, q)
+
+      launched-not : (k .state .op .phase ≡ 4 → ⊥) → (e : _) → (launched (k .state .op .time) e ≡ f) ⊎ In (launched (k .state .op .time) e) h → ⊥
+      launched-not p e (inl q) = other (subst (AtCoordinator c) q (i .own))
+      launched-not p e (inr q) = i .unsent p (e, q)
+
+  pub coordinator-up : {sent : List Item} {c : ℕ} {k : Held} → (AtCoordinator c f → ⊥) → CoordinatorInv s g h sent c k
+      → CoordinatorInv s g (f ∷ h) sent c k
+  coordinator-up {sent} {c} {k} other i =
+      record {
+        number = i .number;
+        used = λ t w m. i .used t (earlier t m (w .0) (in-cons (w .1))) m;
+        sized = i .sized;
+        runs = λ n. running-up other (i .runs n);
+      }
+    where
+      earlier : (t : ℕ) → t % 16 ≡ c → (o : _) → (began t o ≡ f) ⊎ In (began t o) h → Began h t
+      earlier t m o (inl q) = absurd (other (subst (AtCoordinator c) q m))
+      earlier t m o (inr q) = (o, q)
+
+-- what is sent anew is no Order-and-read of coordinator c
+abbrev pub Quiet : ℕ → List Item → List Item → Type 0
+Quiet c old new =
+    (b : ℕ) (msg : Message) (block : List ℕ) → message b msg block ∈ new → msg .kind ≡ orderReadKind → msg .time % 16 ≡ c → message b msg block ∈ old
+
+pub counted-sent : {s : Settings} {old new : List Item} {k : Held} {b : ℕ} → Within old new → CountedInv s old k b → CountedInv s new k b
+counted-sent w x =
+    record {
+      from = x .from;
+      block = x .block;
+      was-sent = w _ (x .was-sent);
+      low = x .low;
+      brick-is = x .brick-is;
+      kind-is = x .kind-is;
+      time-is = x .time-is;
+      round-is = x .round-is;
+      yes-is = x .yes-is;
+      held-is = x .held-is;
+      found-is = x .found-is;
+      block-is = x .block-is;
+      right = x .right;
+    }
+
+pub coordinator-sent : {s : Settings} {g : SettingsRange s} {h : Hist s} {old new : List Item} {c : ℕ} {k : Held} → Within old new → Quiet c old new
+    → CoordinatorInv s g h old c k → CoordinatorInv s g h new c k
+coordinator-sent {s} {g} {h} {old} {new} {c} {k} w quiet i = record { number = i .number; used = i .used; sized = i .sized; runs = λ n. go (i .runs n) }
+  where
+    go : Running s g h old c k → Running s g h new c k
+    go r =
+        record {
+          own = r .own;
+          known = r .known;
+          reads = r .reads;
+          writes = r .writes;
+          unended = r .unended;
+          unsent = r .unsent;
+          counts = λ b m. counted-sent w (r .counts b m);
+          holds = r .holds;
+          asked = λ b msg block m e t. r .asked b msg block (quiet b msg block m e (ap (λ (z : ℕ). z % 16) t ∙ r .own)) e t;
+          cleared = r .cleared;
+          storing = r .storing;
+        }
