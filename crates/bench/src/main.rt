@@ -84,7 +84,7 @@ fn next_byte(r: Reader, chunk: &mut [u8], line: &mut [u8]) -> Reader
             more: true,
         };
     }
-    let longer = bench_core::add_byte(line, r.held, byte);
+    let longer = bench_player::add_byte(line, r.held, byte);
     Reader {
         at: next,
         filled: r.filled,
@@ -163,7 +163,7 @@ fn play(
         return b;
     }
     let held = r.held;
-    let o = bench_core::play_line(b, &line[..held], images, kept, numbers, bytes, out);
+    let o = bench_player::play_line(b, &line[..held], images, kept, numbers, bytes, out);
     let used = o.used;
     io::write_all(libc::STDOUT_FILENO, &out[..used]);
     o.bench
@@ -181,7 +181,7 @@ fn play_all(
 )
     requires { ⌜ length (now line) ≡ 1001 ⌝ }
 {
-    let mut b = bench_core::no_set();
+    let mut b = bench_player::no_set();
     let mut r = Reader {
         at: 0,
         filled: 0,

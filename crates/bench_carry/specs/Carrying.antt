@@ -3,11 +3,11 @@ use mathlib.Core.Path.{_≡_}
 use mathlib.Core.List.{List, _++_}
 use Prim.Native.Nat.{ℕ, _+_, _*_, _≤_}
 use lib.ListN.{length}
-use Rattle.bench_line.specs.Meaning.{CarryRest, wordsFrom}
-use Rattle.bench_line.specs.Lines.{numbersOf}
-use Rattle.bench_play.specs.Play.{Played, carriedAll}
-use Rattle.bench_play.specs.Turning.{Lent, worldIn, Ready}
-use Rattle.bench_play.specs.declared.After.{After}
+use Rattle.bench_parse.specs.Meaning.{CarryRest, wordsFrom}
+use Rattle.bench_parse.specs.Lines.{numbersOf}
+use Rattle.bench_rules.specs.Play.{Played, carriedAll}
+use Rattle.bench_rules.specs.Turning.{Lent, worldIn, Ready}
+use Rattle.bench_rules.specs.declared.After.{After}
 use Rattle.bench_print.specs.Printing.{written}
 use Rattle.bench_state.specs.declared.Bench.{Bench}
 

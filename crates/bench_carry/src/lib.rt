@@ -5,13 +5,13 @@ ghost use Prim.Native.Nat.{_+_, _≤_};
 ghost use lib.Dec.{eqb};
 ghost use lib.ListN.{length};
 ghost use Rattle.bench_carry.specs.Carrying.{Lined};
-ghost use Rattle.bench_line.specs.Lines.{numbersOf};
-ghost use Rattle.bench_line.specs.Meaning.{wordsFrom, CarryFrom};
-ghost use Rattle.bench_play.specs.Play.{carried, carriedAll, switches};
-ghost use Rattle.bench_play.specs.Turning.{Lent, lent, worldIn, Ready, Turned};
+ghost use Rattle.bench_parse.specs.Lines.{numbersOf};
+ghost use Rattle.bench_parse.specs.Meaning.{wordsFrom, CarryFrom};
+ghost use Rattle.bench_rules.specs.Play.{carried, carriedAll, switches};
+ghost use Rattle.bench_rules.specs.Turning.{Lent, lent, worldIn, Ready, Turned};
 ghost use Rattle.bench_state.specs.State.{Fits};
 ghost use Rattle.register.specs.Runs.{goesDown, comesUp};
-use bench_play::After;
+use bench_rules::After;
 use bench_state::Bench;
 
 // A brick goes down (0) or comes up (1).
@@ -22,7 +22,7 @@ pub fn switch_at(b: Bench, brick: u64, flag: u8, out: &mut [u8]) -> After
     let s = b.settings;
     let place = brick as usize;
     if s.n <= place {
-        return bench_play::refuse(b, 3, 0, out);
+        return bench_rules::refuse(b, 3, 0, out);
     }
     let bench = bench_state::with_up(b, place, flag);
     After { bench, used: 0 }
@@ -44,17 +44,17 @@ fn carry_one(
     ensures { λ r. ⌜ Turned b (lent (now (images .entry)) (now (kept .entry)) (now (numbers .entry)) (now (bytes .entry))) at (now (out .entry)) (carried (b .settings) (worldIn b (lent (now (images .entry)) (now (kept .entry)) (now (numbers .entry)) (now (bytes .entry)))) number) r (lent (now (images .exit)) (now (kept .exit)) (now (numbers .exit)) (now (bytes .exit))) (now (out .exit)) ⌝ }
 {
     if number == 0 {
-        return bench_play::refuse(b, 12, at, out);
+        return bench_rules::refuse(b, 12, at, out);
     }
     let last = number as usize;
     if b.sent < last {
-        return bench_play::refuse(b, 12, at, out);
+        return bench_rules::refuse(b, 12, at, out);
     }
     let k = last - 1;
     if bench_sent::is_reply(numbers, k) {
-        return bench_reply::carry_reply(b, k, kept, numbers, bytes, at, out);
+        return bench_carry_reply::carry_reply(b, k, kept, numbers, bytes, at, out);
     }
-    bench_deliver::carry_message(b, k, images, numbers, bytes, at, out)
+    bench_carry_message::carry_message(b, k, images, numbers, bytes, at, out)
 }
 
 // The numbers of a carry line, left to right.
@@ -75,7 +75,7 @@ pub fn carry_all(
     let mut r = After { bench: b, used: 0 };
     let mut place = first;
     while place <= line.len() {
-        let k = bench_line::number_at(line, place);
+        let k = bench_parse::number_at(line, place);
         let bench = r.bench;
         r = carry_one(bench, k.value, images, kept, numbers, bytes, r.used, out);
         place = k.end + 1;

@@ -6,15 +6,15 @@ use lib.Dec.{eqb, leb}
 use lib.ListN.{length}
 use Rattle.settings.specs.Refusal.{badLine}
 use Rattle.settings.specs.declared.Settings.{Settings}
-use Rattle.coord_acts.specs.declared.Answer.{Answer}
+use Rattle.coord_apply.specs.declared.Answer.{Answer}
 use Rattle.register.specs.Driver.{driven}
 use Rattle.register.specs.Runs.{World, Event, toAll}
 use Rattle.bench_print.specs.Printing.{endedText}
-use Rattle.bench_play.specs.Play.{Played, refuses, lastMessage, acts}
-use Rattle.coord_acts.specs.Steps.{Held, Step}
+use Rattle.bench_rules.specs.Play.{Played, refuses, lastMessage, acts}
+use Rattle.coord_apply.specs.Steps.{Held, Step}
 use Rattle.bench_state.specs.declared.Bench.{Bench}
-use Rattle.bench_play.specs.Turning.{lent, worldIn, Turned}
-use Rattle.bench_play.specs.declared.After.{After}
+use Rattle.bench_rules.specs.Turning.{lent, worldIn, Turned}
+use Rattle.bench_rules.specs.declared.After.{After}
 use mathlib.Core.Path.{_≡_}
 use Rattle.message.specs.declared.Message.{Message}
 use Rattle.bench_sent.specs.Sent.{itemsOf}

@@ -4,9 +4,9 @@ ghost use Prim.Native.Nat.{_+_, _*_, _≤_, _<_};
 ghost use lib.ListN.{length};
 ghost use Rattle.bench_commit.specs.Answers.{Round, Seats, Copies, Answers};
 ghost use Rattle.bench_commit.specs.Answers.{sentAfter};
-use bench_play::After;
+use bench_rules::After;
 use bench_state::Bench;
-use coord_acts::Answer;
+use coord_apply::Answer;
 use message::Message;
 use settings::Settings;
 
@@ -91,12 +91,12 @@ pub fn commit(
     ensures { λ r. ⌜ Answers b c a (now (blocks .entry)) (now (stripe .entry)) (now (coded .entry)) (now (kept .entry)) (now (numbers .entry)) (now (bytes .entry)) at (now (out .entry)) r (now (kept .exit)) (now (numbers .exit)) (now (bytes .exit)) (now (out .exit)) ⌝ }
 {
     if a.refusal != 0 {
-        return bench_play::refuse(b, a.refusal, at, out);
+        return bench_rules::refuse(b, a.refusal, at, out);
     }
     let s = b.settings;
     let sent = sent_after(s.n, b.sent, a.sent);
     if 127 < sent {
-        return bench_play::refuse(b, 12, at, out);
+        return bench_rules::refuse(b, 12, at, out);
     }
     keep_answer(
         b,

@@ -4,11 +4,11 @@ use mathlib.Core.Path.{_≡_}
 use mathlib.Core.List.{List, [], _∷_, _++_}
 use Prim.Native.Nat.{ℕ, _+_}
 use lib.ListN.{length, take}
-use Rattle.bench_play.specs.Play.{Stage}
-use Rattle.bench_play.specs.Turning.{Lent}
+use Rattle.bench_rules.specs.Play.{Stage}
+use Rattle.bench_rules.specs.Turning.{Lent}
 use Rattle.bench_state.specs.declared.Bench.{Bench}
-use Rattle.bench_core.specs.Lining.{stageOf, benchRefused, Called}
-use Rattle.bench_core.specs.declared.Outcome.{Outcome}
+use Rattle.bench_player.specs.Lining.{stageOf, benchRefused, Called}
+use Rattle.bench_player.specs.declared.Outcome.{Outcome}
 use Rattle.bench_order.specs.Script.{playsLines}
 
 -- Calls for some lines, from a record and buffers to others, and the text printed: of each call the first `used` bytes of its buffer.

@@ -10,7 +10,7 @@ use Rattle.order.specs.Claim.{Action, read, write, Seen, began, ended}
 use Rattle.register.specs.Runs.{plain, Event, Moved, step, next, unmoved, fresh}
 use Rattle.bench_print.specs.Printing.{refusedText}
 use Rattle.bench_order.specs.Told.{toldEnd}
-use Rattle.bench_play.specs.Play.{Stage, waiting, playing}
+use Rattle.bench_rules.specs.Play.{Stage, waiting, playing}
 
 unfoldable pub kindOf : Action (List ℕ) → ℕ
 kindOf read = readingKind

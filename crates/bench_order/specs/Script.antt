@@ -3,9 +3,9 @@ use mathlib.Core.Bool.{cond, true}
 use mathlib.Core.List.{List, [], _∷_, _++_}
 use Prim.Native.Nat.{ℕ}
 use lib.Dec.{eqb}
-use Rattle.bench_line.specs.Lines.{longer, reads}
+use Rattle.bench_parse.specs.Lines.{longer, reads}
 use Rattle.bench_print.specs.Printing.{newline}
-use Rattle.bench_play.specs.Play.{Stage, waiting, Turn, turn, playing}
+use Rattle.bench_rules.specs.Play.{Stage, waiting, Turn, turn, playing}
 use mathlib.Core.Path.{_≡_}
 use Rattle.register.specs.Runs.{Event, run}
 use Rattle.bench_state.specs.State.{benchRange}

@@ -4,10 +4,10 @@ use mathlib.Core.Bool.{Bool, false, cond}
 use mathlib.Core.List.{List, [], _∷_, _++_}
 use Prim.Native.Nat.{ℕ, zero, suc, _+_, _/_, _%_}
 use lib.Dec.{eqb, ltb, leb}
-use Rattle.block.specs.Block.{put}
+use Rattle.image_block.specs.Block.{put}
 use Rattle.coord_record.specs.Records.{readingKind}
-use Rattle.coord_acts.specs.Steps.{okSeen, readSeen, abortedSeen, cutSeen}
-use Rattle.coord_acts.specs.declared.Seen.{Seen}
+use Rattle.coord_apply.specs.Steps.{okSeen, readSeen, abortedSeen, cutSeen}
+use Rattle.coord_apply.specs.declared.Seen.{Seen}
 use mathlib.Core.Path.{_≡_}
 use lib.ListN.{length}
 

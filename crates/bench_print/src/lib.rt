@@ -5,11 +5,11 @@ ghost use Prim.Native.Nat.{_+_, _≤_, _<_};
 ghost use lib.ListN.{length};
 ghost use Rattle.bench_print.specs.Printing.{space, newline, digit, decimal, hexDigit, hexText, refusedText, kindWord, endWord, lineText, endedText, written};
 ghost use Rattle.bench_print.specs.Printing.{Placed};
-use coord_acts::ABORTED;
-use coord_acts::CUT;
-use coord_acts::OK;
-use coord_acts::STRIPE;
-use coord_acts::Seen;
+use coord_apply::ABORTED;
+use coord_apply::CUT;
+use coord_apply::OK;
+use coord_apply::STRIPE;
+use coord_apply::Seen;
 use coord_record::READING;
 
 // One byte.

@@ -11,9 +11,9 @@ use Rattle.image.specs.Brick
 use Rattle.image.specs.Image.{imageOf, imageSize}
 use Rattle.coord_record.specs.Records.{idleWith}
 use Rattle.coord_record.specs.declared.Coordinator.{Coordinator}
-use Rattle.coord_acts.specs.Steps.{Held}
+use Rattle.coord_apply.specs.Steps.{Held}
 use Rattle.register.specs.Runs.{Item, World, idle, fresh}
-use Rattle.block.specs.Block.{put}
+use Rattle.image_block.specs.Block.{put}
 use Rattle.bench_state.specs.declared.Bench.{Bench}
 use mathlib.Core.Path.{_≡_}
 

@@ -139,10 +139,10 @@ pub fn fetch(c: usize, kept: &[u8], blocks: &mut [u8], stripe: &mut [u8])
 {
     let at = c * 64;
     let end = at + blocks.len();
-    coord_acts::copy(&kept[at..end], blocks);
+    coord_apply::copy(&kept[at..end], blocks);
     let from = at + 32;
     let till = from + stripe.len();
-    coord_acts::copy(&kept[from..till], stripe)
+    coord_apply::copy(&kept[from..till], stripe)
 }
 
 // What a coordinator keeps, stored.
@@ -153,10 +153,10 @@ pub fn keep(c: usize, blocks: &[u8], stripe: &[u8], kept: &mut [u8])
 {
     let at = c * 64;
     let end = at + blocks.len();
-    coord_acts::copy(blocks, &mut kept[at..end]);
+    coord_apply::copy(blocks, &mut kept[at..end]);
     let from = at + 32;
     let till = from + stripe.len();
-    coord_acts::copy(stripe, &mut kept[from..till])
+    coord_apply::copy(stripe, &mut kept[from..till])
 }
 
 // Zeros in what the coordinators keep.
@@ -180,7 +180,7 @@ fn fresh_images(s: Settings, images: &mut [u8])
     while b < s.n {
         let at = b * 2560;
         let end = at + 512 * (s.capacity + 1);
-        saving::write_fresh(s, b, &mut images[at..end]);
+        image_write::write_fresh(s, b, &mut images[at..end]);
         b += 1;
     }
 }

@@ -13,7 +13,7 @@ use Rattle.message.specs.declared.Message.{Message}
 use Rattle.image.specs.Brick.{Brick, count, timeAt}
 use Rattle.image.specs.Image.{imageOf}
 use Rattle.image.specs.Parse.{Parsed, Opens, Refuses, parse, openRefusal}
-use Rattle.brick_plan.specs.Steps.{placeFor, replyTo, after, blockAfter}
+use Rattle.brick_log.specs.Steps.{placeFor, replyTo, after, blockAfter}
 use Rattle.brick.specs.declared.Given.{Given}
 use Rattle.brick.specs.declared.Given.the-variants.{Answered, Silent, Refused}
 

@@ -4,11 +4,11 @@ use mathlib.Core.List.{List, []}
 use Prim.Native.Nat.{ℕ, _+_, _*_, _≤_}
 use lib.Dec.{eqb}
 use lib.ListN.{length}
-use Rattle.coord_acts.specs.Acts.{counting, waitingOr, ending, firstOp, starting, roundMessage, placed}
-use Rattle.coord_acts.specs.Steps.{Held, Went, Step, refused, went, checked, nothingSeen, cutSeen, noMessage, beganSeen}
+use Rattle.coord_apply.specs.Acts.{counting, waitingOr, ending, firstOp, starting, roundMessage, placed}
+use Rattle.coord_apply.specs.Steps.{Held, Went, Step, refused, went, checked, nothingSeen, cutSeen, noMessage, beganSeen}
 use Rattle.coord_record.specs.Records.{idleKind, readingKind, writingKind, noBricks, nothingCounted}
-use Rattle.coord_counts.specs.Counting.{targetFlags}
-use Rattle.coord_checks.specs.Checks.{writeRefusal, readRefusal, takeRefusal, crashRefusal}
+use Rattle.coord_tally.specs.Counting.{targetFlags}
+use Rattle.coord_refusals.specs.Checks.{writeRefusal, readRefusal, takeRefusal, crashRefusal}
 use Rattle.message.specs.Kinds.{readKind, orderKind}
 use Rattle.message.specs.declared.Reply.{Reply}
 use Rattle.settings.specs.Times.{drawOf}
@@ -16,7 +16,7 @@ use Rattle.settings.specs.declared.Clock.{Clock}
 use Rattle.settings.specs.declared.Draw.{Draw}
 use Rattle.settings.specs.declared.Draw.the-variants.{Drawn, Refused}
 use mathlib.Core.Path.{_≡_}
-use Rattle.coord_acts.specs.declared.Answer.{Answer}
+use Rattle.coord_apply.specs.declared.Answer.{Answer}
 use Rattle.coord_record.specs.declared.Coordinator.{Coordinator}
 use Rattle.coord_record.specs.declared.Op.{Op}
 

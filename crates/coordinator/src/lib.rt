@@ -4,19 +4,19 @@ ghost use mathlib.Core.Path.{_≡_};
 ghost use mathlib.Core.List.{List};
 ghost use Prim.Native.Nat.{ℕ, _<_};
 ghost use lib.ListN.{length};
-ghost use Rattle.coord_acts.specs.Acts.{heldOf};
-ghost use Rattle.coord_acts.specs.Acts.{withTally, firstOp};
-ghost use Rattle.coord_acts.specs.Steps.{refused, answerOf, blocksAfter, stripeAfter, codedAfter};
+ghost use Rattle.coord_apply.specs.Acts.{heldOf};
+ghost use Rattle.coord_apply.specs.Acts.{withTally, firstOp};
+ghost use Rattle.coord_apply.specs.Steps.{refused, answerOf, blocksAfter, stripeAfter, codedAfter};
 ghost use Rattle.coordinator.specs.Rules.{writeStep, readStep, takeStep, crashStep};
 ghost use Rattle.coordinator.specs.Rules.{keptAnswer, startAnswer, keptBlocks, Keeps};
-use coord_acts::Answer;
-use coord_acts::BEGAN;
-use coord_acts::CUT;
-use coord_acts::Seen;
-use coord_checks::crash_refusal;
-use coord_checks::read_refusal;
-use coord_checks::take_refusal;
-use coord_checks::write_refusal;
+use coord_apply::Answer;
+use coord_apply::BEGAN;
+use coord_apply::CUT;
+use coord_apply::Seen;
+use coord_refusals::crash_refusal;
+use coord_refusals::read_refusal;
+use coord_refusals::take_refusal;
+use coord_refusals::write_refusal;
 use coord_record::Coordinator;
 use coord_record::IDLE;
 use coord_record::Op;
@@ -33,8 +33,8 @@ use settings::Draw;
 fn refuse(c: Coordinator, number: u32) -> Answer
     ensures { λ r. ⌜ r ≡ answerOf c (refused number) ⌝ }
 {
-    let message = coord_acts::no_message();
-    let seen = coord_acts::nothing_seen();
+    let message = coord_apply::no_message();
+    let seen = coord_apply::nothing_seen();
     Answer {
         refusal: number,
         next: c,
@@ -48,8 +48,8 @@ fn refuse(c: Coordinator, number: u32) -> Answer
 fn kept(c: Coordinator) -> Answer
     ensures { λ r. ⌜ r ≡ keptAnswer c ⌝ }
 {
-    let message = coord_acts::no_message();
-    let seen = coord_acts::nothing_seen();
+    let message = coord_apply::no_message();
+    let seen = coord_apply::nothing_seen();
     Answer {
         refusal: 0,
         next: c,
@@ -84,7 +84,7 @@ fn begin(clock: Clock, op: Op, targets: [u8; 16]) -> Answer
         tally,
         bricks: [0u8; 16],
     };
-    let message = coord_acts::round_message(op, targets);
+    let message = coord_apply::round_message(op, targets);
     let seen = Seen {
         what: BEGAN,
         kind: op.kind,
@@ -106,7 +106,7 @@ fn keep(size: usize, reply: Reply, block: &[u8], blocks: &mut [u8])
     ensures { λ _. ⌜ now (blocks .exit) ≡ keptBlocks size reply (now (block .entry)) (now (blocks .entry)) ⌝ }
 {
     if reply.held {
-        coord_acts::place(size, reply.brick, block, blocks)
+        coord_apply::place(size, reply.brick, block, blocks)
     }
 }
 
@@ -148,7 +148,7 @@ pub fn start_write(
     let Draw::Drawn(time, next) = drawn else {
         return refuse(c, drawn.number());
     };
-    coord_acts::copy(bytes, stripe);
+    coord_apply::copy(bytes, stripe);
     let op = first_op(WRITING, ORDER, time, 0);
     begin(next, op, [0u8; 16])
 }
@@ -175,7 +175,7 @@ pub fn start_read(
         return refuse(c, drawn.number());
     };
     let op = first_op(READING, READ, time, first);
-    let targets = coord_counts::target_flags(n, m, first);
+    let targets = coord_tally::target_flags(n, m, first);
     begin(next, op, targets)
 }
 
@@ -191,7 +191,7 @@ pub fn crash(n: usize, m: usize, size: usize, c: Coordinator) -> Answer
     if op.kind == IDLE {
         return kept(c);
     }
-    coord_acts::end(c, CUT, [0u8; 16], 0, coord_acts::no_message())
+    coord_apply::end(c, CUT, [0u8; 16], 0, coord_apply::no_message())
 }
 
 // Takes a reply; block is the one it holds. Refused: 1 settings, 2 a length, 3 the brick or the coordinator's number, 6 the record,
@@ -229,13 +229,13 @@ pub fn take_reply(
     }
     keep(size, reply, block, blocks);
     let old = c.tally;
-    let t = coord_rounds::tally_with(old, reply);
+    let t = coord_decide::tally_with(old, reply);
     let d = with_tally(c, t);
     let counted = t.counted;
     if message::members_of(counted, n) < settings::quorum_of(n, m) {
         return kept(d);
     }
     let op = c.op;
-    let decision = coord_rounds::decide(n, m, op, t);
-    coord_acts::act(n, m, size, d, decision, blocks, stripe, coded)
+    let decision = coord_decide::decide(n, m, op, t);
+    coord_apply::act(n, m, size, d, decision, blocks, stripe, coded)
 }

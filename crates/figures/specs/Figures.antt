@@ -4,7 +4,7 @@ use mathlib.Core.Path.{_≡_}
 use mathlib.Core.List.{List, [], _∷_}
 use Prim.Native.Nat.{ℕ, _*_, _^_, _-_}
 use lib.ListN.{getD}
-use Rattle.block.specs.Block.{checkOf, headBody, entryBody}
+use Rattle.image_block.specs.Block.{checkOf, headBody, entryBody}
 use Rattle.erasure.specs.Code.{codedOf, decodedOf}
 use Rattle.gf256.specs.Product.{product}
 use Rattle.settings.specs.Ranges.{quorum, settingsRefusal}

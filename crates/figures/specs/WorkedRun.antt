@@ -1,7 +1,7 @@
 -- Document 01's bench case, and a write that is read back, as lists of events: computed on `run`, images and all.
 use mathlib.Core.List.{List, [], _∷_}
 use native.Mathlib.Omega.{arith}
-use Rattle.little.specs.Little.{Bytes}
+use Rattle.byte_lists.specs.Little.{Bytes}
 use Rattle.settings.specs.declared.Settings.{Settings}
 use Rattle.register.specs.Runs.{untouched, Event, startWrite, startRead, arrives, crashes, goesDown, comesUp}
 

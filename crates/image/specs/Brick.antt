@@ -6,7 +6,7 @@ use lib.Dec.{leb, ltb, eqb}
 use lib.ListN.{length, getD}
 use Rattle.settings.specs.Times.{validTime}
 use Rattle.settings.specs.declared.Settings.{Settings}
-use Rattle.block.specs.Block.{zeros}
+use Rattle.image_block.specs.Block.{zeros}
 use Rattle.settings.specs.Each.{each}
 use mathlib.Core.Path.{_≡_}
 

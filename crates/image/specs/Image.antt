@@ -4,7 +4,7 @@ use mathlib.Core.List.{List, [], _++_}
 use Prim.Native.Nat.{ℕ, zero, suc, _+_, _*_}
 use lib.Dec.{ltb}
 use Rattle.settings.specs.declared.Settings.{Settings}
-use Rattle.block.specs.Block.{headBlock, entryBlock, unusedBlock}
+use Rattle.image_block.specs.Block.{headBlock, entryBlock, unusedBlock}
 use Rattle.image.specs.Brick.{Brick, count, timeAt, heldAt}
 
 -- "Block 0 is the head", "Blocks 1 to count are entries", the others are unused

@@ -7,7 +7,7 @@ use lib.ListN.{drop, replicate}
 use Rattle.settings.specs.Ranges.{inRange}
 use Rattle.settings.specs.Refusal.{refuseUnless, firstRefusal, badSetting, badLength, badNumber}
 use Rattle.settings.specs.declared.Settings.{Settings}
-use Rattle.block.specs.Block.{same, headBody, entryBody, unusedBody}
+use Rattle.image_block.specs.Block.{same, headBody, entryBody, unusedBody}
 use Rattle.image.specs.Brick.{Brick, count, timeAt, newest, savedTime, countSound}
 use Rattle.image.specs.Image.{imageSize}
 use Rattle.image.specs.Parse.{heldIn, Parsed, Opens, Refuses, parse, blockAt, checkedAt, timeIn}

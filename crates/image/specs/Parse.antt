@@ -7,8 +7,8 @@ use lib.ListN.{length, take, drop}
 use Rattle.settings.specs.Ranges.{inRange, SettingsRange}
 use Rattle.settings.specs.Refusal.{passed, refuseUnless, firstRefusal, badSetting, badLength, badNumber, badCheck, badRecord}
 use Rattle.settings.specs.declared.Settings.{Settings}
-use Rattle.little.specs.Little.{number}
-use Rattle.block.specs.Block.{checked, same}
+use Rattle.byte_lists.specs.Little.{number}
+use Rattle.image_block.specs.Block.{checked, same}
 use Rattle.image.specs.Brick.{Brick, LogEntry, sound, Sound}
 use Rattle.settings.specs.Each.{each}
 use Rattle.image.specs.Image.{imageOf, imageSize}

@@ -6,8 +6,8 @@ use mathlib.Core.List.{List, [], _∷_, _++_}
 use Prim.Native.Nat.{ℕ}
 use lib.Dec.{eqb}
 use Rattle.settings.specs.declared.Settings.{Settings}
-use Rattle.coord_acts.specs.Steps.{Broadcast, Step, refused, went, answerOf, blocksAfter, stripeAfter, codedAfter}
-use Rattle.coord_acts.specs.declared.Answer.{Answer}
+use Rattle.coord_apply.specs.Steps.{Broadcast, Step, refused, went, answerOf, blocksAfter, stripeAfter, codedAfter}
+use Rattle.coord_apply.specs.declared.Answer.{Answer}
 use Rattle.register.specs.Runs.{message, World, Moved, putAt, seenOf, toAll}
 
 -- What a driver does with a coordinator's answer, and the buffers it had lent: it keeps the record, sends the message to all n bricks

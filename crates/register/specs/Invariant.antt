@@ -18,7 +18,7 @@ use Rattle.image.specs.Image.{imageOf}
 use Rattle.erasure.specs.Code.{codedOf, blockOf, Stripe}
 use Rattle.coord_record.specs.Records.{idleKind, readingKind, writingKind}
 use Rattle.coord_record.specs.Rules.{isTarget, blockRight}
-use Rattle.coord_acts.specs.Steps.{Held}
+use Rattle.coord_apply.specs.Steps.{Held}
 use Rattle.coord_laws.specs.Soundness.{Sized}
 use Rattle.order.specs.Claim.{Plain, read, write, _∈_}
 use Rattle.order.specs.Facts.{began, promised, stored, showed, History, seen}

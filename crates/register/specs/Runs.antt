@@ -6,7 +6,7 @@ use Prim.Native.Nat.{ℕ, zero, suc, _*_, _%_}
 use lib.Dec.{eqb, ltb}
 use lib.ListN.{length, replicate}
 use Rattle.settings.specs.declared.Settings.{Settings}
-use Rattle.little.specs.Little.{Bytes}
+use Rattle.byte_lists.specs.Little.{Bytes}
 use Rattle.message.specs.Kinds.{writeKind}
 use Rattle.message.specs.declared.Message.{Message}
 use Rattle.message.specs.declared.Reply.{Reply}
@@ -17,8 +17,8 @@ use Rattle.brick.specs.declared.Given.{Given}
 use Rattle.brick.specs.declared.Given.the-variants.{Answered, Silent, Refused}
 use Rattle.coord_record.specs.Records.{readingKind, idleWith}
 use Rattle.erasure.specs.Code.{blockOf}
-use Rattle.coord_acts.specs.Steps.{Held, Broadcast, Step, refused, went, beganSeen, okSeen, readSeen, abortedSeen, cutSeen}
-use Rattle.coord_acts.specs.declared.Seen.{Seen as Shown}
+use Rattle.coord_apply.specs.Steps.{Held, Broadcast, Step, refused, went, beganSeen, okSeen, readSeen, abortedSeen, cutSeen}
+use Rattle.coord_apply.specs.declared.Seen.{Seen as Shown}
 use Rattle.coordinator.specs.Rules.{takeStep, crashStep, writeStep, readStep}
 use Rattle.order.specs.Claim.{Plain, read, write, ok, bytes, stripe, finished, aborted, cut, Seen, OneOrder}
 

@@ -11,13 +11,13 @@ use lib.ListN.{length, length-append}
 use borrow.Author.Tests.{lt-ltb, le-ltb}
 use Rattle.settings.specs.declared.Settings.{Settings}
 use Rattle.bench_commit.specs.Answers.{Seats}
-use Rattle.bench_line.proofs.Laws.CallerLaws.{rest-first, rest-next, rest-splits, rest-none}
-use Rattle.bench_line.specs.Lines.{numbersOf}
-use Rattle.bench_line.specs.Meaning.{wordsFrom, CarryFrom, NumberAt}
-use Rattle.bench_line.specs.declared.Number.{Number}
-use Rattle.bench_play.specs.Play.{Played, refuses, passes, happens, switches, carries, carriesAt, carried, andThen, carriedAll}
-use Rattle.bench_play.specs.Turning.{Lent, worldIn, Ready, Turned}
-use Rattle.bench_play.specs.declared.After.{After}
+use Rattle.bench_parse.proofs.Laws.CallerLaws.{rest-first, rest-next, rest-splits, rest-none}
+use Rattle.bench_parse.specs.Lines.{numbersOf}
+use Rattle.bench_parse.specs.Meaning.{wordsFrom, CarryFrom, NumberAt}
+use Rattle.bench_parse.specs.declared.Number.{Number}
+use Rattle.bench_rules.specs.Play.{Played, refuses, passes, happens, switches, carries, carriesAt, carried, andThen, carriedAll}
+use Rattle.bench_rules.specs.Turning.{Lent, worldIn, Ready, Turned}
+use Rattle.bench_rules.specs.declared.After.{After}
 use Rattle.bench_print.specs.Printing.{written}
 use Rattle.bench_print.proofs.Laws.WrittenLaws.{written-nothing, written-both}
 use Rattle.bench_sent.proofs.Laws.RunLaws.{items-length}

@@ -9,12 +9,12 @@ use lib.ListN.{length, getD, take, drop}
 use borrow.Author.Tests.{lt-ltb, le-ltb, eqb-true}
 use Rattle.settings.proofs.Laws.RangeLaws.{and-left, and-right}
 use Rattle.settings.specs.declared.Settings.{Settings}
-use Rattle.little.specs.Little.{Bytes}
+use Rattle.byte_lists.specs.Little.{Bytes}
 use Rattle.message.specs.declared.Reply.{Reply}
 use Rattle.coord_record.specs.declared.Coordinator.{Coordinator}
-use Rattle.coord_acts.specs.Acts.{heldOf}
-use Rattle.coord_acts.specs.Steps.{Held, Step, refused, went, answerOf, blocksAfter, stripeAfter, codedAfter}
-use Rattle.coord_acts.specs.declared.Answer.{Answer}
+use Rattle.coord_apply.specs.Acts.{heldOf}
+use Rattle.coord_apply.specs.Steps.{Held, Step, refused, went, answerOf, blocksAfter, stripeAfter, codedAfter}
+use Rattle.coord_apply.specs.declared.Answer.{Answer}
 use Rattle.coordinator.specs.Rules.{takeStep, crashStep, writeStep, readStep}
 use Rattle.register.specs.Driver.{Short}
 use Rattle.register.proofs.Laws.Driver.{left-untouched, write-short, read-short, crash-short, take-short}
@@ -24,10 +24,10 @@ use Rattle.bench_sent.specs.Sent.{itemAt, isReply, replyAt, blockAt}
 use Rattle.bench_sent.proofs.Laws.SentLaws.{item-reply}
 use Rattle.bench_state.specs.State.{worldOf, heldAt, idleAt}
 use Rattle.bench_state.specs.declared.Bench.{Bench}
-use Rattle.bench_play.specs.Content.{counted, content, content-small}
-use Rattle.bench_play.specs.Play.{Played, acts, refuses, unlessShort, atCoordinator, writes, starts, crashesAt, carries}
-use Rattle.bench_play.specs.Turning.{Lent, lent, worldIn, Turned}
-use Rattle.bench_play.specs.declared.After.{After}
+use Rattle.bench_rules.specs.Content.{counted, content, content-small}
+use Rattle.bench_rules.specs.Play.{Played, acts, refuses, unlessShort, atCoordinator, writes, starts, crashesAt, carries}
+use Rattle.bench_rules.specs.Turning.{Lent, lent, worldIn, Turned}
+use Rattle.bench_rules.specs.declared.After.{After}
 use Rattle.bench_commit.specs.Answers.{answered}
 use Rattle.bench_commit.specs.Answers.{Answers}
 use Rattle.bench_commit.proofs.Laws.AnswerLaws.{Numbered, answered-is-acts}

@@ -10,8 +10,8 @@ use lib.Seq.{ext-getD, length-take-le, getD-take}
 use borrow.Author.Tests.{eq-eqb, ne-eqb, le-leb, lt-leb}
 use Rattle.settings.specs.declared.Settings.{Settings}
 use Rattle.message.specs.declared.Message.{Message}
-use Rattle.coord_acts.specs.Steps.{Held, Broadcast, Step, refused, went, answerOf, blocksAfter, stripeAfter, codedAfter}
-use Rattle.coord_acts.specs.declared.Answer.{Answer}
+use Rattle.coord_apply.specs.Steps.{Held, Broadcast, Step, refused, went, answerOf, blocksAfter, stripeAfter, codedAfter}
+use Rattle.coord_apply.specs.declared.Answer.{Answer}
 use Rattle.register.specs.Driver.{driven, Short}
 use Rattle.register.proofs.Laws.Driver.{coordinated-is-driven}
 use Rattle.register.specs.Runs.{Item, World, Event, Moved, step, coordinated, toAll}
@@ -22,9 +22,9 @@ use Rattle.bench_state.specs.State.{Fits}
 use Rattle.bench_state.specs.State.{worldOf, heldAt, withCoordinator, keptWith}
 use Rattle.bench_state.proofs.Laws.StateLaws.{held-put}
 use Rattle.bench_state.specs.declared.Bench.{Bench}
-use Rattle.bench_play.specs.Play.{refuses, happens, acts}
-use Rattle.bench_play.specs.Turning.{Lent, lent, worldIn, Turned}
-use Rattle.bench_play.specs.declared.After.{After}
+use Rattle.bench_rules.specs.Play.{refuses, happens, acts}
+use Rattle.bench_rules.specs.Turning.{Lent, lent, worldIn, Turned}
+use Rattle.bench_rules.specs.declared.After.{After}
 use Rattle.bench_commit.specs.Answers.{answered, sentAfter}
 use Rattle.bench_commit.specs.Answers.{Round, Seats, Copies, Answers}
 

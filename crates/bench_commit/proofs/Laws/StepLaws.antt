@@ -11,8 +11,8 @@ use Rattle.settings.specs.declared.Clock.{Clock}
 use Rattle.settings.specs.declared.Draw.{Draw}
 use Rattle.settings.specs.declared.Draw.the-variants.{Drawn, Refused}
 use Rattle.message.specs.declared.Reply.{Reply}
-use Rattle.coord_acts.specs.Acts.{ending, starting, roundMessage, firstOp}
-use Rattle.coord_acts.specs.Steps.{Held, Went, Step, refused, went, checked, nothingSeen, cutSeen, blocksAfter, stripeAfter, codedAfter, sentBlocks}
+use Rattle.coord_apply.specs.Acts.{ending, starting, roundMessage, firstOp}
+use Rattle.coord_apply.specs.Steps.{Held, Went, Step, refused, went, checked, nothingSeen, cutSeen, blocksAfter, stripeAfter, codedAfter, sentBlocks}
 use Rattle.coord_record.specs.Records.{noBricks}
 use Rattle.coordinator.specs.Rules.{takeStep, crashed, crashStep, drawnThen, writeStep, readStep}
 use Rattle.bench_commit.proofs.Laws.AnswerLaws.{Numbered}

@@ -5,15 +5,15 @@ use Prim.Native.Nat.{ℕ, _+_}
 use native.Mathlib.Omega.{arith}
 use lib.ListN.{length, take}
 use borrow.Author.Tests.{eq-eqb}
-use Rattle.bench_line.specs.Lines.{reads}
+use Rattle.bench_parse.specs.Lines.{reads}
 use Rattle.bench_print.proofs.Laws.WrittenLaws.{written-front}
-use Rattle.bench_play.specs.Play.{Stage, waiting, Turn, turn}
-use Rattle.bench_play.specs.Turning.{Lent}
+use Rattle.bench_rules.specs.Play.{Stage, waiting, Turn, turn}
+use Rattle.bench_rules.specs.Turning.{Lent}
 use Rattle.bench_state.specs.declared.Bench.{Bench}
-use Rattle.bench_core.specs.Lining.{stageOf, heard, Called}
-use Rattle.bench_core.specs.declared.Outcome.{Outcome}
+use Rattle.bench_player.specs.Lining.{stageOf, heard, Called}
+use Rattle.bench_player.specs.declared.Outcome.{Outcome}
 use Rattle.bench_order.specs.Script.{lines, stays, follows, playsLines, script}
-use Rattle.block.specs.Block.{put}
+use Rattle.image_block.specs.Block.{put}
 use Rattle.bench_order.specs.Calls.{Calls, none, call, Taken, Left}
 
 -- one call is one turn, and prints its text

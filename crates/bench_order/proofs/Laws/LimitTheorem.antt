@@ -8,9 +8,9 @@ use mathlib.Core.Path.{_≡_, subst}
 use Rattle.settings.specs.Refusal.{badSetting}
 use Rattle.settings.specs.declared.Settings.{Settings}
 use Rattle.register.specs.Runs.{World, fresh}
-use Rattle.bench_line.specs.Lines.{Line, setLine, writeLine, readLine, carryLine, crashLine, downLine, upLine, noLine, reads}
+use Rattle.bench_parse.specs.Lines.{Line, setLine, writeLine, readLine, carryLine, crashLine, downLine, upLine, noLine, reads}
 use Rattle.bench_state.specs.State.{benchRange}
-use Rattle.bench_play.specs.Play.{Played, refuses, passes, happens, andThen, Stage, waiting, playing, waits, begins, first, turn}
+use Rattle.bench_rules.specs.Play.{Played, refuses, passes, happens, andThen, Stage, waiting, playing, waits, begins, first, turn}
 use Rattle.bench_order.specs.Script.{lines, stays, follows, playsLines, script}
 use Rattle.bench_order.proofs.Laws.Parts.{Few, Part, refusing, passing, happening, both}
 use Rattle.bench_order.proofs.Laws.PartLaws.{every-line-by-parts}

@@ -14,18 +14,18 @@ use Rattle.message.specs.declared.Message.{Message}
 use Rattle.message.specs.declared.Reply.{Reply}
 use Rattle.image.specs.Parse.{Parsed, Opens, Refuses, parse}
 use Rattle.brick.specs.Receive.{Outcome, receiveRefusal, refusedWith, givenBy, acted, outcome}
-use Rattle.brick_plan.specs.Steps.{replyTo}
+use Rattle.brick_log.specs.Steps.{replyTo}
 use Rattle.brick.specs.declared.Given.{Given}
 use Rattle.brick.specs.declared.Given.the-variants.{Answered, Silent, Refused}
-use Rattle.coord_acts.specs.Steps.{Step, refused, went, Went}
+use Rattle.coord_apply.specs.Steps.{Step, refused, went, Went}
 use Rattle.coordinator.specs.Rules.{writeStep}
 use Rattle.order.specs.Claim.{Outcome as Ending, Seen}
 use Rattle.register.specs.Runs.{plain, Item, message, reply, World, untouched, Event, startWrite, startRead, arrives, crashes, goesDown, comesUp, Moved, unmoved, coordinated, repliedWith, received, arriving, arrivingAt, standing, step}
 use Rattle.register.proofs.Laws.Driver.{left-untouched}
-use Rattle.bench_line.specs.Lines.{Line, setLine, writeLine, readLine, carryLine, crashLine, downLine, upLine, noLine}
+use Rattle.bench_parse.specs.Lines.{Line, setLine, writeLine, readLine, carryLine, crashLine, downLine, upLine, noLine}
 use Rattle.bench_print.specs.Printing.{endedText}
-use Rattle.bench_play.specs.Content.{content, content-small, counted}
-use Rattle.bench_play.specs.Play.{lastMessage, Played, refuses, passes, happens, acts, atCoordinator, unlessShort, writes, starts, crashesAt, switches, delivered, reaches, carries, carriesAt, carried, carriedAll, plays}
+use Rattle.bench_rules.specs.Content.{content, content-small, counted}
+use Rattle.bench_rules.specs.Play.{lastMessage, Played, refuses, passes, happens, acts, atCoordinator, unlessShort, writes, starts, crashesAt, switches, delivered, reaches, carries, carriesAt, carried, carriedAll, plays}
 use Rattle.bench_order.proofs.Laws.Told.{told}
 use Rattle.bench_order.proofs.Laws.Parts.{Few, Ran, Part, refusing, passing, happening, both}
 use Rattle.bench_order.proofs.Laws.PrintedLaws.{Agrees, printed-is-seen, end-ran, take-agrees, crash-agrees, write-agrees, read-agrees}

@@ -9,7 +9,7 @@ use Rattle.coord_record.specs.Records.{readingKind, writingKind}
 use Rattle.coord_record.specs.declared.Op.{Op}
 use Rattle.order.specs.Claim.{Outcome, Seen}
 use Rattle.register.specs.Runs.{plain, World, Event, step}
-use Rattle.bench_play.specs.Play.{lastMessage, Played, refuses, passes, happens, andThen}
+use Rattle.bench_rules.specs.Play.{lastMessage, Played, refuses, passes, happens, andThen}
 use Rattle.bench_order.proofs.Laws.Told.{told}
 
 -- The operation of this kind and time runs: it is a read or a write.

@@ -14,15 +14,15 @@ use Rattle.coord_record.specs.Sound.{unsetOp, readRight, writeRight, opRight}
 use Rattle.coord_record.proofs.Laws.SoundParts.{sound-parts}
 use Rattle.coord_record.specs.declared.Coordinator.{Coordinator}
 use Rattle.coord_record.specs.declared.Op.{Op}
-use Rattle.coord_rounds.specs.Deciding.{decided}
-use Rattle.coord_rounds.specs.Decisions.{Says}
-use Rattle.coord_rounds.proofs.Laws.Decisions.{decided-says}
-use Rattle.coord_rounds.specs.declared.Decision.{Decision}
-use Rattle.coord_rounds.specs.declared.Decision.the-variants.{Abort, Give, Look, Store, Recover, Finish}
-use Rattle.coord_acts.specs.Acts.{acted, ending, nextRound, finishedSeen, waitingOr, counting, withTally}
-use Rattle.coord_acts.specs.Steps.{Held, Went, went, nothingSeen, beganSeen, okSeen, readSeen, cutSeen}
-use Rattle.coord_acts.specs.declared.Seen.{Seen as Shown}
-use Rattle.coord_checks.specs.Checks.{recordChecks, crashRefusal}
+use Rattle.coord_decide.specs.Deciding.{decided}
+use Rattle.coord_decide.specs.Decisions.{Says}
+use Rattle.coord_decide.proofs.Laws.Decisions.{decided-says}
+use Rattle.coord_decide.specs.declared.Decision.{Decision}
+use Rattle.coord_decide.specs.declared.Decision.the-variants.{Abort, Give, Look, Store, Recover, Finish}
+use Rattle.coord_apply.specs.Acts.{acted, ending, nextRound, finishedSeen, waitingOr, counting, withTally}
+use Rattle.coord_apply.specs.Steps.{Held, Went, went, nothingSeen, beganSeen, okSeen, readSeen, cutSeen}
+use Rattle.coord_apply.specs.declared.Seen.{Seen as Shown}
+use Rattle.coord_refusals.specs.Checks.{recordChecks, crashRefusal}
 use Rattle.coordinator.specs.Rules.{takeStep, crashed, crashStep, writeStep, readStep}
 use Rattle.coord_laws.proofs.Laws.OpCases.{in-read, Fit, reading, looking, restoring, ordering, storing, fit}
 use Rattle.coord_laws.proofs.Laws.RunLaws.{took, write-begins, read-begins}

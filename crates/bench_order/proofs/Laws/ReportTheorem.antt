@@ -21,10 +21,10 @@ use Rattle.register.proofs.Laws.Corollaries.{one-thing-seen}
 use Rattle.register.specs.Invariant.{Hist, Running, Inv}
 use Rattle.register.specs.Runs.{plain, World, Event, Moved, unmoved, fresh, step, next, runFrom, run}
 use Rattle.register.proofs.Laws.Theorem.{step-goes, run-holds}
-use Rattle.bench_line.specs.Lines.{Line, setLine, writeLine, readLine, carryLine, crashLine, downLine, upLine, noLine, reads}
+use Rattle.bench_parse.specs.Lines.{Line, setLine, writeLine, readLine, carryLine, crashLine, downLine, upLine, noLine, reads}
 use Rattle.bench_print.specs.Printing.{refusedText}
 use Rattle.bench_state.specs.State.{benchRange}
-use Rattle.bench_play.specs.Play.{Played, refuses, passes, happens, andThen, plays, Stage, waiting, playing, waits, begins, first, turn}
+use Rattle.bench_rules.specs.Play.{Played, refuses, passes, happens, andThen, plays, Stage, waiting, playing, waits, begins, first, turn}
 use Rattle.bench_order.specs.Told.{toldEnd}
 use Rattle.bench_order.proofs.Laws.Told.{told}
 use Rattle.bench_order.proofs.Laws.Parts.{Ran, Part, refusing, passing, happening, both}

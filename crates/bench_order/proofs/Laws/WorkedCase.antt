@@ -6,11 +6,11 @@ use Rattle.bench_order.specs.WorkedCase.{worked-input, worked-output}
 
 -- the definitions of the bench, opened
 unfoldable bench-words-open : Unit {0}
-unfolding Rattle.bench_line.specs.Lines.every Rattle.bench_line.specs.Lines.longer Rattle.bench_line.specs.Lines.words Rattle.bench_line.specs.Lines.isDigit Rattle.bench_line.specs.Lines.numberWord Rattle.bench_line.specs.Lines.valueAfter Rattle.bench_line.specs.Lines.valueOf Rattle.bench_line.specs.Lines.numbersOf Rattle.bench_line.specs.Lines.isLower Rattle.bench_line.specs.Lines.isUpper Rattle.bench_line.specs.Lines.isHex Rattle.bench_line.specs.Lines.hexValue Rattle.bench_line.specs.Lines.hexWord Rattle.bench_line.specs.Lines.bytesOf
+unfolding Rattle.bench_parse.specs.Lines.every Rattle.bench_parse.specs.Lines.longer Rattle.bench_parse.specs.Lines.words Rattle.bench_parse.specs.Lines.isDigit Rattle.bench_parse.specs.Lines.numberWord Rattle.bench_parse.specs.Lines.valueAfter Rattle.bench_parse.specs.Lines.valueOf Rattle.bench_parse.specs.Lines.numbersOf Rattle.bench_parse.specs.Lines.isLower Rattle.bench_parse.specs.Lines.isUpper Rattle.bench_parse.specs.Lines.isHex Rattle.bench_parse.specs.Lines.hexValue Rattle.bench_parse.specs.Lines.hexWord Rattle.bench_parse.specs.Lines.bytesOf
 bench-words-open = tt
 
 unfoldable bench-line-open : Unit {0}
-unfolding Rattle.bench_line.specs.Lines.areNumbers Rattle.bench_line.specs.Lines.numberIn Rattle.bench_line.specs.Lines.setOf Rattle.bench_line.specs.Lines.writeWords Rattle.bench_line.specs.Lines.writeOf Rattle.bench_line.specs.Lines.readOf Rattle.bench_line.specs.Lines.carryOf Rattle.bench_line.specs.Lines.oneOf Rattle.bench_line.specs.Lines.setText Rattle.bench_line.specs.Lines.writeText Rattle.bench_line.specs.Lines.readText Rattle.bench_line.specs.Lines.carryText Rattle.bench_line.specs.Lines.crashText Rattle.bench_line.specs.Lines.downText Rattle.bench_line.specs.Lines.upText Rattle.bench_line.specs.Lines.same Rattle.bench_line.specs.Lines.commandOf Rattle.bench_line.specs.Lines.readsWords Rattle.bench_line.specs.Lines.reads
+unfolding Rattle.bench_parse.specs.Lines.areNumbers Rattle.bench_parse.specs.Lines.numberIn Rattle.bench_parse.specs.Lines.setOf Rattle.bench_parse.specs.Lines.writeWords Rattle.bench_parse.specs.Lines.writeOf Rattle.bench_parse.specs.Lines.readOf Rattle.bench_parse.specs.Lines.carryOf Rattle.bench_parse.specs.Lines.oneOf Rattle.bench_parse.specs.Lines.setText Rattle.bench_parse.specs.Lines.writeText Rattle.bench_parse.specs.Lines.readText Rattle.bench_parse.specs.Lines.carryText Rattle.bench_parse.specs.Lines.crashText Rattle.bench_parse.specs.Lines.downText Rattle.bench_parse.specs.Lines.upText Rattle.bench_parse.specs.Lines.same Rattle.bench_parse.specs.Lines.commandOf Rattle.bench_parse.specs.Lines.readsWords Rattle.bench_parse.specs.Lines.reads
 bench-line-open = tt
 
 unfoldable bench-print-open : Unit {0}
@@ -22,7 +22,7 @@ unfolding Rattle.bench_state.specs.State.benchRange
 bench-state-open = tt
 
 unfoldable bench-play-open : Unit {0}
-unfolding Rattle.bench_play.specs.Content.counted Rattle.bench_play.specs.Content.content Rattle.bench_play.specs.Play.refuses Rattle.bench_play.specs.Play.passes Rattle.bench_play.specs.Play.happens Rattle.bench_play.specs.Play.acts Rattle.bench_play.specs.Play.atCoordinator Rattle.bench_play.specs.Play.unlessShort Rattle.bench_play.specs.Play.writes Rattle.bench_play.specs.Play.starts Rattle.bench_play.specs.Play.crashesAt Rattle.bench_play.specs.Play.switches Rattle.bench_play.specs.Play.delivered Rattle.bench_play.specs.Play.reaches Rattle.bench_play.specs.Play.carries Rattle.bench_play.specs.Play.carriesAt Rattle.bench_play.specs.Play.carried Rattle.bench_play.specs.Play.andThen Rattle.bench_play.specs.Play.carriedAll Rattle.bench_play.specs.Play.plays Rattle.bench_play.specs.Play.waits Rattle.bench_play.specs.Play.begins Rattle.bench_play.specs.Play.first Rattle.bench_play.specs.Play.turn
+unfolding Rattle.bench_rules.specs.Content.counted Rattle.bench_rules.specs.Content.content Rattle.bench_rules.specs.Play.refuses Rattle.bench_rules.specs.Play.passes Rattle.bench_rules.specs.Play.happens Rattle.bench_rules.specs.Play.acts Rattle.bench_rules.specs.Play.atCoordinator Rattle.bench_rules.specs.Play.unlessShort Rattle.bench_rules.specs.Play.writes Rattle.bench_rules.specs.Play.starts Rattle.bench_rules.specs.Play.crashesAt Rattle.bench_rules.specs.Play.switches Rattle.bench_rules.specs.Play.delivered Rattle.bench_rules.specs.Play.reaches Rattle.bench_rules.specs.Play.carries Rattle.bench_rules.specs.Play.carriesAt Rattle.bench_rules.specs.Play.carried Rattle.bench_rules.specs.Play.andThen Rattle.bench_rules.specs.Play.carriedAll Rattle.bench_rules.specs.Play.plays Rattle.bench_rules.specs.Play.waits Rattle.bench_rules.specs.Play.begins Rattle.bench_rules.specs.Play.first Rattle.bench_rules.specs.Play.turn
 bench-play-open = tt
 
 unfoldable bench-order-open : Unit {0}

@@ -6,8 +6,8 @@ use native.Mathlib.Omega.{arith}
 use borrow.Author.Tests.{eq-eqb, ne-eqb, lt-ltb, le-ltb, le-leb, lt-leb}
 use lib.ListN.{length, length-append}
 use Rattle.coord_record.specs.Records.{readingKind}
-use Rattle.coord_acts.specs.Steps.{okSeen, readSeen, abortedSeen, cutSeen}
-use Rattle.coord_acts.specs.declared.Seen.{Seen}
+use Rattle.coord_apply.specs.Steps.{okSeen, readSeen, abortedSeen, cutSeen}
+use Rattle.coord_apply.specs.declared.Seen.{Seen}
 use Rattle.bench_print.specs.Printing.{space, newline, decimal, hexText, refusedWord, refusedText, readWord, writeWord, kindWord, okWord, abortWord, cutWord, endWord, lineText, isEnd, endedText, written}
 use Rattle.bench_print.proofs.Laws.TextLaws.{decimal-short}
 use Rattle.bench_print.specs.Printing.{Placed}

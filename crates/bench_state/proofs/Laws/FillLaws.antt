@@ -13,15 +13,15 @@ use borrow.Author.Tests.{eq-eqb, lt-ltb}
 use borrow.Rule.Slice.PartMut.{putMid}
 use Rattle.settings.specs.Refusal.{firstRefusal}
 use Rattle.image.specs.Opening.{lendingRefusal}
-use Rattle.saving.specs.Saving.{freshAfter}
+use Rattle.image_write.specs.Saving.{freshAfter}
 use Rattle.interpolate.specs.Tabulate.{tabulate}
 use Rattle.interpolate.proofs.Laws.Tabulate.{tabulate-by}
 use Rattle.settings.specs.Ranges.{inRange}
 use Rattle.settings.specs.declared.Settings.{Settings}
 use Rattle.image.specs.Brick
 use Rattle.image.specs.Image.{imageOf, imageSize}
-use Rattle.block.specs.Block.{put}
-use Rattle.block.proofs.Laws.PutLaws.{put-mid, put-length, put-in, put-before}
+use Rattle.image_block.specs.Block.{put}
+use Rattle.image_block.proofs.Laws.PutLaws.{put-mid, put-length, put-in, put-before}
 use Rattle.bench_state.specs.State.{worldOf, freshBench}
 use Rattle.bench_state.specs.State.{Small}
 use Rattle.bench_state.proofs.Laws.StateLaws.{fresh-world}

@@ -13,7 +13,7 @@ use Rattle.message.specs.declared.Message.{Message}
 use Rattle.image.specs.Parse.{Parsed, Opens, brickIn, parse, openRefusal}
 use Rattle.image.proofs.Laws.ParseLaws.{parse-opens}
 use Rattle.image.specs.Brick.{Brick}
-use Rattle.brick_plan.specs.Steps.{replyTo}
+use Rattle.brick_log.specs.Steps.{replyTo}
 use Rattle.brick.specs.Receive.{blocksRefusal, receiveRefusal, refusedWith, givenBy, acted, outcome}
 use Rattle.brick.specs.declared.Given.the-variants.{Answered, Silent}
 use Rattle.brick.specs.Numbers.{givenNumber}

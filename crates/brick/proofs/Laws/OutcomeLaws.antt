@@ -29,17 +29,17 @@ use Rattle.image.specs.declared.Entry.{Entry}
 use Rattle.image.specs.declared.Head.{Head}
 use Rattle.image.specs.declared.Opening.{Opening}
 use Rattle.image.specs.declared.Answer.the-variants.{Refused as Failed}
-use Rattle.saving.specs.Saving.{without}
-use Rattle.brick_plan.specs.Steps.{notBelowPromise, aboveNewest, readYes, orderYes, lookup, trimmedTo, timeFor, placeFor, foundFor, yesTo, replyTo, after, blockAfter}
+use Rattle.image_write.specs.Saving.{without}
+use Rattle.brick_log.specs.Steps.{notBelowPromise, aboveNewest, readYes, orderYes, lookup, trimmedTo, timeFor, placeFor, foundFor, yesTo, replyTo, after, blockAfter}
 use Rattle.brick.specs.Receive.{blocksRefusal, receiveRefusal, Outcome, refusedWith, givenBy, acted, outcome}
-use Rattle.brick_plan.specs.Plans.{Ready, Ahead, Planned, Cut, underIn, underFor, placeOf, timeOf, readPlace, gaveOf}
-use Rattle.brick_plan.proofs.Laws.LookLaws.{under-brick, under-high, place-brick, time-brick}
+use Rattle.brick_log.specs.Plans.{Ready, Ahead, Planned, Cut, underIn, underFor, placeOf, timeOf, readPlace, gaveOf}
+use Rattle.brick_log.proofs.Laws.LookLaws.{under-brick, under-high, place-brick, time-brick}
 use Rattle.brick.proofs.Laws.TrimLaws.{cut-trims}
-use Rattle.brick_plan.specs.declared.Known.{Known}
-use Rattle.brick_plan.specs.declared.Plan.{Plan}
+use Rattle.brick_log.specs.declared.Known.{Known}
+use Rattle.brick_log.specs.declared.Plan.{Plan}
 use Rattle.brick.specs.declared.Given.{Given}
 use Rattle.brick.specs.declared.Given.the-variants.{Answered, Silent, Refused}
-use Rattle.block.proofs.Laws.PutLaws.{drop-take}
+use Rattle.image_block.proofs.Laws.PutLaws.{drop-take}
 
 -- the first refusal of a list
 pub first-is : (a k : ℕ) (rest : List ℕ) → k ≡ a → (k ≡ 0 → ⊥) → firstRefusal (a ∷ rest) ≡ k

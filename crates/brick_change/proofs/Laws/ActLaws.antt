@@ -9,16 +9,16 @@ use lib.ListN.{length, drop}
 use borrow.Author.Tests.{lt-ltb, le-ltb, eq-eqb, ne-eqb}
 use Rattle.message.specs.declared.Message.{Message}
 use Rattle.settings.specs.declared.Settings.{Settings}
-use Rattle.block.specs.Block.{put, headBlock, entryBlock}
+use Rattle.image_block.specs.Block.{put, headBlock, entryBlock}
 use Rattle.image.specs.Brick.{Brick, count}
 use Rattle.image.specs.Image.{imageOf}
 use Rattle.image.specs.Parse.{brickIn}
-use Rattle.saving.specs.Saving.{without}
-use Rattle.saving.specs.Saving.{Blocks, shiftedOf, clearedOf}
-use Rattle.saving.proofs.Laws.StepLaws.{promise-written, append-written, without-written}
-use Rattle.brick_plan.specs.Steps.{aboveNewest, notBelowPromise, hasFree, readYes, orderYes, writeYes, ordered, written, yesTo, after}
-use Rattle.brick_plan.specs.Plans.{Ready}
-use Rattle.brick_plan.specs.declared.Known.{Known}
+use Rattle.image_write.specs.Saving.{without}
+use Rattle.image_write.specs.Saving.{Blocks, shiftedOf, clearedOf}
+use Rattle.image_write.proofs.Laws.StepLaws.{promise-written, append-written, without-written}
+use Rattle.brick_log.specs.Steps.{aboveNewest, notBelowPromise, hasFree, readYes, orderYes, writeYes, ordered, written, yesTo, after}
+use Rattle.brick_log.specs.Plans.{Ready}
+use Rattle.brick_log.specs.declared.Known.{Known}
 
 module _ (s : Settings) (brick : ℕ) (l : List ℕ) (k : Known) (r : Ready s brick l k) where
   x : Brick

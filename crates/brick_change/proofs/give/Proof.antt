@@ -1,6 +1,6 @@
 use mathlib.Core.Path.{refl}
 use native.Mathlib.Omega.{arith}
-use Rattle.brick_plan.proofs.Laws.LookLaws.{gave-none, gave-block}
+use Rattle.brick_log.proofs.Laws.LookLaws.{gave-none, gave-block}
 use borrow.Author.Needs.{needs}
 use Rattle.brick_change.proofs.give.Statement.{statement}
 use Rattle.brick_change.proofs.give.Tie as tie

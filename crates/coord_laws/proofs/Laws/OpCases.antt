@@ -5,7 +5,7 @@ use Prim.Native.Nat.{ℕ, _+_, _≤_, _<_}
 use native.Mathlib.Omega.{arith}
 use lib.Dec.{eqb, leb}
 use borrow.Author.Tests.{eq-eqb, ne-eqb, le-leb, leb-true, eqb-true}
-use Rattle.coord_acts.specs.Acts.{nextOp}
+use Rattle.coord_apply.specs.Acts.{nextOp}
 use Rattle.coord_record.specs.Sound.{maxRight, storedRight, readRight, writeRight, unsetOp, opRight}
 use Rattle.coord_record.specs.declared.Op.{Op}
 use Rattle.settings.proofs.Laws.RangeLaws.{and-left, and-right}

@@ -5,14 +5,14 @@ use mathlib.Core.Logic.{_⊎_}
 use Prim.Native.Nat.{ℕ, _<_}
 use native.Mathlib.Omega.{arith}
 use lib.ListN.{length}
-use Rattle.coord_acts.specs.Acts.{roundMessage, trimMessage, counting, waitingOr, firstOp, starting}
-use Rattle.coord_acts.specs.Steps.{Held, Went, went, beganSeen}
+use Rattle.coord_apply.specs.Acts.{roundMessage, trimMessage, counting, waitingOr, firstOp, starting}
+use Rattle.coord_apply.specs.Steps.{Held, Went, went, beganSeen}
 use Rattle.coord_laws.proofs.Laws.Soundness.{passes, same-went, drawn-went}
 use Rattle.coord_laws.proofs.Laws.TallyLaws.{Answering, answering, ReplyParts, reply-parts}
 use Rattle.coord_record.specs.Records.{noBricks}
 use Rattle.coord_record.specs.declared.Op.{Op}
-use Rattle.coord_counts.specs.Counting.{targetFlags}
-use Rattle.coord_checks.specs.Checks.{writeRefusal, readRefusal, takeRefusal}
+use Rattle.coord_tally.specs.Counting.{targetFlags}
+use Rattle.coord_refusals.specs.Checks.{writeRefusal, readRefusal, takeRefusal}
 use Rattle.coordinator.specs.Rules.{drawnThen, writeStep, readStep, takeStep}
 use Rattle.coordinator.proofs.Laws.StepLaws.{Takes, take-passed}
 use Rattle.erasure.specs.Code.{codedOf}

@@ -6,7 +6,7 @@ use Prim.Native.Nat.{ℕ, _^_, _≤_}
 use native.Mathlib.Omega.{arith}
 use lib.Dec.{eqb, leb, ltb}
 use borrow.Author.Tests.{le-leb, lt-ltb, leb-true, ltb-true, eqb-true}
-use Rattle.coord_acts.specs.Acts.{roundMessage}
+use Rattle.coord_apply.specs.Acts.{roundMessage}
 use Rattle.coord_laws.proofs.Laws.OpCases.{Fit, reading, looking, restoring, ordering, storing, fit}
 use Rattle.coord_laws.specs.Soundness.{Good}
 use Rattle.coord_record.specs.Sound.{maxRight, opRight, timeRight}

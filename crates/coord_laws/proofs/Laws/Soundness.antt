@@ -8,9 +8,9 @@ use native.Mathlib.Omega.{arith}
 use lib.Dec.{eqb, leb, ltb}
 use lib.ListN.{length, getD, take, replicate, length-take, List·getD-eq-default}
 use borrow.Author.Tests.{eq-eqb, ne-eqb, le-leb, lt-ltb, le-ltb, eqb-false, leb-true, ltb-true, ltb-false}
-use Rattle.coord_acts.specs.Acts.{nextOp, opened, nextRound, ending, acted, withTally, counting, waitingOr, firstOp, starting}
-use Rattle.coord_acts.specs.Steps.{Held, Went, Step, refused, went, checked, nothingSeen, cutSeen}
-use Rattle.coord_checks.specs.Checks.{recordChecks, writeRefusal, readRefusal, takeRefusal, crashRefusal}
+use Rattle.coord_apply.specs.Acts.{nextOp, opened, nextRound, ending, acted, withTally, counting, waitingOr, firstOp, starting}
+use Rattle.coord_apply.specs.Steps.{Held, Went, Step, refused, went, checked, nothingSeen, cutSeen}
+use Rattle.coord_refusals.specs.Checks.{recordChecks, writeRefusal, readRefusal, takeRefusal, crashRefusal}
 use Rattle.coordinator.specs.Rules.{drawnThen, writeStep, readStep, takeStep, crashed, crashStep}
 use Rattle.coordinator.proofs.Laws.StepLaws.{take-passed, first-low}
 use Rattle.coord_laws.proofs.Laws.OpCases.{in-read, in-order, in-recovery, first-recovery, next-recovery, write-stores, read-stores}
@@ -24,13 +24,13 @@ use Rattle.coord_record.proofs.Laws.SoundParts.{sound-from}
 use Rattle.coord_record.specs.declared.Coordinator.{Coordinator}
 use Rattle.coord_record.specs.declared.Op.{Op}
 use Rattle.coord_record.specs.declared.Tally.{Tally}
-use Rattle.coord_counts.specs.Counting.{atTimes, passing, inRow, picked, targetFlags}
-use Rattle.coord_rounds.specs.Deciding.{tallied, decided}
-use Rattle.coord_rounds.specs.Decisions.{Says, Lowers, Recovers, found-time, holders}
-use Rattle.coord_rounds.proofs.Laws.Decisions.{decided-says}
-use Rattle.coord_counts.proofs.Laws.RowSets.{picked-below, picked-rises}
-use Rattle.coord_rounds.specs.declared.Decision.{Decision}
-use Rattle.coord_rounds.specs.declared.Decision.the-variants.{Abort, Give, Look, Store, Recover, Finish}
+use Rattle.coord_tally.specs.Counting.{atTimes, passing, inRow, picked, targetFlags}
+use Rattle.coord_decide.specs.Deciding.{tallied, decided}
+use Rattle.coord_decide.specs.Decisions.{Says, Lowers, Recovers, found-time, holders}
+use Rattle.coord_decide.proofs.Laws.Decisions.{decided-says}
+use Rattle.coord_tally.proofs.Laws.RowSets.{picked-below, picked-rises}
+use Rattle.coord_decide.specs.declared.Decision.{Decision}
+use Rattle.coord_decide.specs.declared.Decision.the-variants.{Abort, Give, Look, Store, Recover, Finish}
 use Rattle.interpolate.proofs.Laws.Tabulate.{getD-tabulate}
 use Rattle.message.specs.Flags.{members}
 use Rattle.message.specs.declared.Reply.{Reply}

@@ -15,8 +15,8 @@ use Rattle.settings.proofs.Laws.Each.{each-all, each-at}
 use Rattle.coord_record.specs.Rules.{isTarget, blockRight, countedRight, entryRight, tallyRight}
 use Rattle.coord_record.specs.declared.Op.{Op}
 use Rattle.coord_record.specs.declared.Tally.{Tally}
-use Rattle.coord_counts.specs.Counting.{highest}
-use Rattle.coord_rounds.specs.Deciding.{answers, tallied}
+use Rattle.coord_tally.specs.Counting.{highest}
+use Rattle.coord_decide.specs.Deciding.{answers, tallied}
 use Rattle.message.specs.Flags.{member, members}
 use Rattle.message.specs.Messages.{roundRight, foundRight, replyRight, replyRefusal}
 use Rattle.message.specs.declared.Reply.{Reply}

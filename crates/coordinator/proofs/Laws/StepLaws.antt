@@ -8,10 +8,10 @@ use native.Mathlib.Omega.{arith}
 use lib.Dec.{eqb, leb, ltb}
 use lib.ListN.{length}
 use borrow.Author.Tests.{eq-eqb, ne-eqb, lt-leb, lt-ltb, le-ltb, eqb-true, ltb-true}
-use Rattle.coord_acts.specs.Acts.{heldOf, endAnswer, Ready, Acted}
-use Rattle.coord_acts.specs.Acts.{placed, withTally, counting, waitingOr, acted, ending, nextRound, firstOp, starting}
-use Rattle.coord_acts.specs.Steps.{Held, Went, Step, refused, went, checked, nothingSeen, noMessage, cutSeen, sentCount, sentMessage, sentBlocks, answerOf, blocksAfter, stripeAfter, codedAfter}
-use Rattle.coord_acts.specs.declared.Answer.{Answer}
+use Rattle.coord_apply.specs.Acts.{heldOf, endAnswer, Ready, Acted}
+use Rattle.coord_apply.specs.Acts.{placed, withTally, counting, waitingOr, acted, ending, nextRound, firstOp, starting}
+use Rattle.coord_apply.specs.Steps.{Held, Went, Step, refused, went, checked, nothingSeen, noMessage, cutSeen, sentCount, sentMessage, sentBlocks, answerOf, blocksAfter, stripeAfter, codedAfter}
+use Rattle.coord_apply.specs.declared.Answer.{Answer}
 use Rattle.coord_record.specs.Records.{noBricks}
 use Rattle.coord_record.specs.Sound.{sound}
 use Rattle.coord_record.specs.SoundParts.{SoundParts}
@@ -19,12 +19,12 @@ use Rattle.coord_record.proofs.Laws.SoundParts.{sound-parts, round-high}
 use Rattle.coord_record.specs.declared.Coordinator.{Coordinator}
 use Rattle.coord_record.specs.declared.Op.{Op}
 use Rattle.coord_record.specs.declared.Tally.{Tally}
-use Rattle.coord_counts.specs.Counting.{targetFlags}
-use Rattle.coord_rounds.specs.Deciding.{answers, tallied, decided}
-use Rattle.coord_rounds.specs.declared.Decision.{Decision}
-use Rattle.coord_rounds.specs.declared.Decision.the-variants.{Abort, Give, Look, Store, Recover, Finish}
-use Rattle.coord_checks.proofs.Laws.CheckLaws.{Recorded, record-passed}
-use Rattle.coord_checks.specs.Checks.{recordChecks, writeRefusal, readRefusal, lengthsRight, strayChecks, takeRefusal, crashRefusal}
+use Rattle.coord_tally.specs.Counting.{targetFlags}
+use Rattle.coord_decide.specs.Deciding.{answers, tallied, decided}
+use Rattle.coord_decide.specs.declared.Decision.{Decision}
+use Rattle.coord_decide.specs.declared.Decision.the-variants.{Abort, Give, Look, Store, Recover, Finish}
+use Rattle.coord_refusals.proofs.Laws.CheckLaws.{Recorded, record-passed}
+use Rattle.coord_refusals.specs.Checks.{recordChecks, writeRefusal, readRefusal, lengthsRight, strayChecks, takeRefusal, crashRefusal}
 use Rattle.coordinator.specs.Rules.{drawnThen, writeStep, readStep, takeStep, crashed, crashStep}
 use Rattle.message.specs.Flags.{members}
 use Rattle.message.specs.Messages.{replyRefusal}

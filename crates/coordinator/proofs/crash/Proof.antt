@@ -1,4 +1,4 @@
-use Rattle.coord_acts.proofs.Laws.ActLaws.{end-by}
+use Rattle.coord_apply.proofs.Laws.ActLaws.{end-by}
 use Rattle.coord_record.specs.Records.{noBricks}
 use mathlib.Core.Path.{refl}
 use Rattle.coordinator.proofs.Laws.StepLaws.{crash-refused, crash-idle, crash-cut}

@@ -1,4 +1,4 @@
-use Rattle.coord_acts.specs.Acts.{firstOp}
+use Rattle.coord_apply.specs.Acts.{firstOp}
 use Rattle.coordinator.proofs.first_op.Statement.{statement}
 use Rattle.coordinator.proofs.first_op.Tie as tie
 

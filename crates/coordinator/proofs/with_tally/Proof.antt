@@ -1,4 +1,4 @@
-use Rattle.coord_acts.specs.Acts.{withTally}
+use Rattle.coord_apply.specs.Acts.{withTally}
 use Rattle.coordinator.proofs.with_tally.Statement.{statement}
 use Rattle.coordinator.proofs.with_tally.Tie as tie
 

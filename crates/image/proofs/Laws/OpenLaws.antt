@@ -16,7 +16,7 @@ use Rattle.settings.specs.Refusal.{refuseUnless, firstRefusal}
 use Rattle.settings.specs.Ranges.{SettingsRange}
 use Rattle.settings.proofs.Laws.RangeLaws.{and-left, and-right}
 use Rattle.settings.specs.declared.Settings.{Settings}
-use Rattle.block.specs.Block.{checked}
+use Rattle.image_block.specs.Block.{checked}
 use Rattle.image.specs.Brick.{count, timeAt, countSound}
 use Rattle.settings.specs.Each.{each}
 use Rattle.settings.proofs.Laws.Each.{each-at, each-all, each-not}

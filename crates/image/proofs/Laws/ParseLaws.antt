@@ -14,11 +14,11 @@ use Rattle.settings.specs.Ranges.{SettingsRange}
 use Rattle.settings.proofs.Laws.RangeLaws.{settings-passed}
 use Rattle.settings.specs.Refusal.{refuseUnless, firstRefusal}
 use Rattle.settings.specs.declared.Settings.{Settings}
-use Rattle.little.specs.Little.{number}
-use Rattle.block.specs.Block.{headBlock, entryBlock, checked, same, entryBody, headBody, unusedBlock, unusedBody}
-use Rattle.block.proofs.Laws.LayoutLaws.{head-count, head-promise, entry-time, entry-held}
-use Rattle.block.proofs.Laws.CheckLaws.{sealed-checked}
-use Rattle.block.proofs.Laws.SameLaws.{same-true, same-of}
+use Rattle.byte_lists.specs.Little.{number}
+use Rattle.image_block.specs.Block.{headBlock, entryBlock, checked, same, entryBody, headBody, unusedBlock, unusedBody}
+use Rattle.image_block.proofs.Laws.LayoutLaws.{head-count, head-promise, entry-time, entry-held}
+use Rattle.image_block.proofs.Laws.CheckLaws.{sealed-checked}
+use Rattle.image_block.proofs.Laws.SameLaws.{same-true, same-of}
 use Rattle.image.specs.Brick.{Brick, noEntry, count, timeAt, heldAt, sound}
 use Rattle.settings.specs.Each.{each}
 use Rattle.settings.proofs.Laws.Each.{each-all}

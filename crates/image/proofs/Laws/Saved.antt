@@ -9,10 +9,10 @@ use lib.Seq.{drop-set-add, take-set-lt, getD-take, getD-drop}
 use Rattle.settings.specs.Ranges.{inRange}
 use Rattle.settings.specs.Refusal.{badCheck}
 use Rattle.settings.specs.declared.Settings.{Settings}
-use Rattle.little.specs.Little.{Bytes}
-use Rattle.block.specs.Block.{checked}
-use Rattle.block.proofs.Laws.StoreLaws.{zeros-length}
-use Rattle.block.proofs.Laws.ChangeLaws.{change-unchecked}
+use Rattle.byte_lists.specs.Little.{Bytes}
+use Rattle.image_block.specs.Block.{checked}
+use Rattle.image_block.proofs.Laws.StoreLaws.{zeros-length}
+use Rattle.image_block.proofs.Laws.ChangeLaws.{change-unchecked}
 use Rattle.image.specs.Brick.{Brick, count, timeAt, heldAt, fresh, savedTime, risesAt, sound}
 use Rattle.settings.proofs.Laws.Each.{each-at, each-not}
 use Rattle.image.specs.Image.{imageOf, imageSize}

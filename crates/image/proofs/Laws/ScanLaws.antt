@@ -7,7 +7,7 @@ use native.Mathlib.Omega.{arith}
 use native.Mathlib.Numerals.{add-one}
 use lib.ListN.{length, take, drop, set, replicate}
 use lib.Seq.{set-at}
-use Rattle.block.specs.Block.{checked}
+use Rattle.image_block.specs.Block.{checked}
 use Rattle.settings.specs.Each.{each}
 use Rattle.settings.proofs.Laws.Each.{each-none, each-more, each-not}
 use Rattle.image.proofs.Laws.ImageLaws.{block-length}

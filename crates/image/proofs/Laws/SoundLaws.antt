@@ -10,8 +10,8 @@ use Rattle.settings.specs.Ranges.{SettingsRange}
 use Rattle.settings.proofs.Laws.RangeLaws.{and-left, and-right}
 use Rattle.settings.specs.Times.{validTime, noUpperEnd, timeOf}
 use Rattle.settings.specs.declared.Settings.{Settings}
-use Rattle.block.specs.Block.{headBlock, entryBlock, unusedBlock}
-use Rattle.block.proofs.Laws.LayoutLaws.{head-length, entry-length, unused-length}
+use Rattle.image_block.specs.Block.{headBlock, entryBlock, unusedBlock}
+use Rattle.image_block.proofs.Laws.LayoutLaws.{head-length, entry-length, unused-length}
 use Rattle.image.specs.Brick.{Brick, count, timeAt, heldAt, savedTime, risesAt, entrySound, countSound, sound}
 use Rattle.settings.specs.Each.{each}
 use Rattle.settings.proofs.Laws.Each.{each-at, each-all}

@@ -11,9 +11,9 @@ use borrow.Author.Tests.{lt-ltb, le-ltb, le-leb, leb-true, ltb-true, ltb-false}
 use Rattle.settings.specs.Ranges.{SettingsRange}
 use Rattle.settings.proofs.Laws.RangeLaws.{and-left, and-right}
 use Rattle.settings.specs.declared.Settings.{Settings}
-use Rattle.block.specs.Block.{sealed, same, headBody, headBlock, entryBody, entryBlock, unusedBody, unusedBlock}
-use Rattle.block.proofs.Laws.CheckLaws.{checked-sealed, sealed-body}
-use Rattle.block.proofs.Laws.SameLaws.{same-true, same-of}
+use Rattle.image_block.specs.Block.{sealed, same, headBody, headBlock, entryBody, entryBlock, unusedBody, unusedBlock}
+use Rattle.image_block.proofs.Laws.CheckLaws.{checked-sealed, sealed-body}
+use Rattle.image_block.proofs.Laws.SameLaws.{same-true, same-of}
 use Rattle.image.specs.Brick.{Brick, LogEntry, count, timeAt, heldAt, savedTime, risesAt, countSound, sound}
 use Rattle.settings.specs.Each.{each}
 use Rattle.settings.proofs.Laws.Each.{each-at, each-all}

@@ -20,7 +20,7 @@ use Rattle.image.specs.Parse.{Parsed, Opens, parse, openRefusal}
 use Rattle.image.proofs.Laws.ParseLaws.{parse-image}
 use Rattle.brick.specs.Receive
 use Rattle.brick.specs.Receive.{Outcome, outcome, blocksRefusal, receiveRefusal, refusedWith, givenBy}
-use Rattle.brick_plan.specs.Steps.{placeFor, replyTo, after, blockAfter}
+use Rattle.brick_log.specs.Steps.{placeFor, replyTo, after, blockAfter}
 use Rattle.brick.specs.declared.Given.{Given}
 use Rattle.brick.specs.declared.Given.the-variants.{Answered, Silent, Refused}
 use Rattle.order.specs.Claim.{_∈_}

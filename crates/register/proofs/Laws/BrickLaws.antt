@@ -13,15 +13,15 @@ use Rattle.settings.proofs.Laws.RangeLaws.{and-left, and-right}
 use Rattle.settings.specs.declared.Settings.{Settings}
 use Rattle.image.specs.Brick.{Brick, LogEntry, count, timeAt, heldAt, newest}
 use Rattle.image.specs.Brick.{Sound}
-use Rattle.saving.specs.Saving
-use Rattle.brick_plan.specs.Steps.{aboveNewest, notBelowPromise, hasFree, readYes, orderYes, writeYes, trimmed, trimmedTo, under}
+use Rattle.image_write.specs.Saving
+use Rattle.brick_log.specs.Steps.{aboveNewest, notBelowPromise, hasFree, readYes, orderYes, writeYes, trimmed, trimmedTo, under}
 use Rattle.order.specs.Claim.{_∈_}
 use Rattle.order.specs.Facts.{Fact, promised, stored, showed, seen, shows}
 use Rattle.order.specs.Places.{Suf, whole, above, In}
 use Rattle.order.proofs.Laws.PlaceLaws.{in-top}
 use Rattle.order.specs.Valid.{Began, Launched, Committed, Gone, OkPromised, OkStored, OkShowed, Ok, Valid, next}
 use Rattle.order.proofs.Laws.GoneLaws.{gone-up}
-use Rattle.coord_acts.specs.Steps.{Held}
+use Rattle.coord_apply.specs.Steps.{Held}
 use Rattle.register.specs.Runs.{plain, Item}
 use Rattle.register.specs.Invariant.{quorums, Hist, Means, Stands, BrickInv, CoordinatorInv}
 use Rattle.register.proofs.Laws.UpLaws.{in-cons, means-up, stands-up, AtBrick, AtCoordinator, brick-up, coordinator-up}

@@ -9,8 +9,8 @@ use lib.Dec.{eqb, ltb}
 use lib.ListN.{length}
 use Rattle.settings.specs.Ranges.{settingsRefusal}
 use Rattle.settings.specs.declared.Settings.{Settings}
-use Rattle.coord_acts.specs.Steps.{Step, refused, went}
-use Rattle.coord_acts.specs.declared.Seen.{Seen as Shown}
+use Rattle.coord_apply.specs.Steps.{Step, refused, went}
+use Rattle.coord_apply.specs.declared.Seen.{Seen as Shown}
 use Rattle.order.specs.Claim.{write, ok, bytes, finished, Seen, _∈_}
 use Rattle.register.specs.Runs.{Item, message, reply, World, Event, startWrite, startRead, arrives, crashes, goesDown, comesUp, Moved, unmoved, seenOf, coordinated, received, arriving, arrivingAt, standing, step, run}
 use Rattle.register.specs.OrderUse.{EndedBefore}

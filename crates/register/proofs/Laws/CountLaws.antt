@@ -15,10 +15,10 @@ use Rattle.settings.specs.Ranges.{SettingsRange}
 use Rattle.settings.specs.declared.Settings.{Settings}
 use Rattle.message.specs.Flags.{member}
 use Rattle.message.specs.declared.Reply.{Reply}
-use Rattle.coord_rounds.specs.Deciding.{tallied}
+use Rattle.coord_decide.specs.Deciding.{tallied}
 use Rattle.erasure.specs.Code.{blockOf}
-use Rattle.coord_acts.specs.Acts.{placed, withTally, counting}
-use Rattle.coord_acts.specs.Steps.{Held, Went}
+use Rattle.coord_apply.specs.Acts.{placed, withTally, counting}
+use Rattle.coord_apply.specs.Steps.{Held, Went}
 use Rattle.coordinator.proofs.Laws.StepLaws.{place-fits}
 use Rattle.coord_laws.proofs.Laws.BlockLaws.{placed-same, placed-other}
 use Rattle.coord_laws.proofs.Laws.RunLaws.{Took}

@@ -12,9 +12,9 @@ use Rattle.settings.specs.Ranges.{SettingsRange}
 use Rattle.settings.proofs.Laws.RangeLaws.{and-left, and-right}
 use Rattle.settings.specs.declared.Settings.{Settings}
 use Rattle.coord_record.specs.Records.{noBricks, noOp, idleWith}
-use Rattle.coord_acts.specs.Acts.{ending}
-use Rattle.coord_acts.specs.Steps.{Held, Went, refused, went, checked, nothingSeen, cutSeen}
-use Rattle.coord_checks.specs.Checks.{crashRefusal}
+use Rattle.coord_apply.specs.Acts.{ending}
+use Rattle.coord_apply.specs.Steps.{Held, Went, refused, went, checked, nothingSeen, cutSeen}
+use Rattle.coord_refusals.specs.Checks.{crashRefusal}
 use Rattle.coordinator.specs.Rules.{crashed, crashStep}
 use Rattle.order.specs.Claim.{Seen}
 use Rattle.order.specs.Facts.{cut, shows, outcome}

@@ -20,9 +20,9 @@ use Rattle.settings.specs.Each.{some}
 use Rattle.settings.proofs.Laws.Each.{some-at}
 use Rattle.coord_record.specs.Records.{noBricks}
 use Rattle.coord_record.specs.SoundParts.{SoundParts}
-use Rattle.coord_counts.specs.Counting.{saidNo}
-use Rattle.coord_acts.specs.Acts.{roundMessage, trimMessage, nextOp, nextRound, ending, finishedSeen}
-use Rattle.coord_acts.specs.Steps.{Held, abortedSeen}
+use Rattle.coord_tally.specs.Counting.{saidNo}
+use Rattle.coord_apply.specs.Acts.{roundMessage, trimMessage, nextOp, nextRound, ending, finishedSeen}
+use Rattle.coord_apply.specs.Steps.{Held, abortedSeen}
 use Rattle.order.specs.Claim.{Action, read, write, ok, bytes, changed, given, _∈_}
 use Rattle.order.specs.Facts.{Source, itself, End, written, recovered, aborted, Fact, began, promised, launched, stored, ended, shows, outcome}
 use Rattle.order.specs.Places.{whole, above, In}

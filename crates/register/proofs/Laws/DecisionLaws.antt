@@ -11,9 +11,9 @@ use Rattle.message.specs.Flags.{members}
 use Rattle.settings.specs.Each.{some}
 use Rattle.coord_record.specs.declared.Op.{Op}
 use Rattle.coord_record.specs.declared.Tally.{Tally}
-use Rattle.coord_counts.specs.Counting.{saidNo, highest, otherTime, missing, atTimes}
-use Rattle.coord_rounds.specs.Deciding.{decidedRead, unlessSpent, decidedAt, decidedRecovery, decided}
-use Rattle.coord_rounds.specs.declared.Decision.the-variants.{Abort, Give, Look, Store, Recover, Finish}
+use Rattle.coord_tally.specs.Counting.{saidNo, highest, otherTime, missing, atTimes}
+use Rattle.coord_decide.specs.Deciding.{decidedRead, unlessSpent, decidedAt, decidedRecovery, decided}
+use Rattle.coord_decide.specs.declared.Decision.the-variants.{Abort, Give, Look, Store, Recover, Finish}
 
 module _ (n m : ℕ) (op : Op) (t : Tally) where
   pub decided-reading : op .phase ≡ 1

@@ -10,8 +10,8 @@ use borrow.Author.Tests.{lt-ltb, ltb-false, le-leb, lt-leb}
 use Rattle.settings.specs.Count.{count}
 use Rattle.interpolate.specs.Rows.{PointSet}
 use Rattle.coord_record.specs.Rules.{above, isTarget}
-use Rattle.coord_counts.specs.Counting.{upward, targetRow, atTimes, picked}
-use Rattle.coord_counts.proofs.Laws.RowSets.{target-at, target-long, target-below, target-set, picked-long, picked-below, picked-set}
+use Rattle.coord_tally.specs.Counting.{upward, targetRow, atTimes, picked}
+use Rattle.coord_tally.proofs.Laws.RowSets.{target-at, target-long, target-below, target-set, picked-long, picked-below, picked-set}
 
 -- a row names m different bricks of n
 pub record Row (n m : ℕ) (row : List ℕ) : Type 0 where

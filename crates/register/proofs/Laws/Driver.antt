@@ -19,12 +19,12 @@ use Rattle.message.specs.declared.Message.{Message}
 use Rattle.message.specs.declared.Reply.{Reply}
 use Rattle.brick.specs.Receive.{outcome}
 use Rattle.coord_record.specs.Records.{noBricks}
-use Rattle.coord_rounds.specs.Deciding.{decided}
-use Rattle.coord_rounds.specs.declared.Decision.{Decision}
-use Rattle.coord_rounds.specs.declared.Decision.the-variants.{Abort, Give, Look, Store, Recover, Finish}
+use Rattle.coord_decide.specs.Deciding.{decided}
+use Rattle.coord_decide.specs.declared.Decision.{Decision}
+use Rattle.coord_decide.specs.declared.Decision.the-variants.{Abort, Give, Look, Store, Recover, Finish}
 use Rattle.erasure.specs.Code.{blockOf}
-use Rattle.coord_acts.specs.Acts.{nextRound, ending, acted, counting, waitingOr, starting}
-use Rattle.coord_acts.specs.Steps.{Held, Broadcast, Went, Step, refused, went, checked, nothingSeen, cutSeen, sentCount, sentMessage, sentBlocks, answerOf, blocksAfter, stripeAfter, codedAfter}
+use Rattle.coord_apply.specs.Acts.{nextRound, ending, acted, counting, waitingOr, starting}
+use Rattle.coord_apply.specs.Steps.{Held, Broadcast, Went, Step, refused, went, checked, nothingSeen, cutSeen, sentCount, sentMessage, sentBlocks, answerOf, blocksAfter, stripeAfter, codedAfter}
 use Rattle.coordinator.specs.Rules.{takeStep, crashStep, crashed, drawnThen, writeStep, readStep}
 use Rattle.order.specs.Claim.{Seen}
 use Rattle.register.specs.Runs.{plain, Item, message, reply, World, startWrite, startRead, untouched, lost, crashes, Moved, unmoved, putAt, seenOf, blockFor, toAll, broadcasts, coordinated, received, arriving, buffersFit, leaving, leftBy, step}

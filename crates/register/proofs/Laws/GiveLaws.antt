@@ -15,9 +15,9 @@ use Rattle.erasure.specs.Code.{blockOf, Stripe}
 use Rattle.settings.specs.Each.{some}
 use Rattle.settings.proofs.Laws.Each.{some-at}
 use Rattle.coord_record.specs.Rules.{isTarget, blockRight}
-use Rattle.coord_counts.specs.Counting.{saidNo, highest, otherTime, missing, targetRow}
-use Rattle.coord_acts.specs.Acts.{stripeFrom, ending}
-use Rattle.coord_acts.specs.Steps.{Held, readSeen}
+use Rattle.coord_tally.specs.Counting.{saidNo, highest, otherTime, missing, targetRow}
+use Rattle.coord_apply.specs.Acts.{stripeFrom, ending}
+use Rattle.coord_apply.specs.Steps.{Held, readSeen}
 use Rattle.order.specs.Claim.{read, bytes, changed, given, _∈_}
 use Rattle.order.specs.Facts.{one-round, showed, shows, outcome}
 use Rattle.order.specs.Places.{In}

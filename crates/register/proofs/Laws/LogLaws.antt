@@ -12,8 +12,8 @@ use borrow.Author.Tests.{ltb-true, ltb-false, lt-ltb, eqb-true}
 use Rattle.settings.specs.declared.Settings.{Settings}
 use Rattle.image.specs.Brick.{Brick, LogEntry, noEntry, count, timeAt, heldAt, newest, savedTime, risesAt}
 use Rattle.image.specs.Brick.{Sound}
-use Rattle.saving.specs.Saving.{promised, appended}
-use Rattle.brick_plan.specs.Steps.{trimmed, trimmedTo}
+use Rattle.image_write.specs.Saving.{promised, appended}
+use Rattle.brick_log.specs.Steps.{trimmed, trimmedTo}
 use Rattle.order.specs.Claim.{_∈_}
 
 -- the entry at a place is a member, and a member has a place

@@ -23,13 +23,13 @@ use Rattle.image.specs.Parse.{Opens, parse}
 use Rattle.image.proofs.Laws.ParseLaws.{parse-image}
 use Rattle.coord_record.specs.Records.{noBricks}
 use Rattle.coord_record.proofs.Laws.SoundParts.{sound-parts}
-use Rattle.coord_counts.specs.Counting.{targetFlags}
-use Rattle.coord_rounds.specs.Deciding.{decided}
-use Rattle.coord_rounds.specs.declared.Decision.{Decision}
-use Rattle.coord_rounds.specs.declared.Decision.the-variants.{Abort, Give, Look, Store, Recover, Finish}
-use Rattle.coord_acts.specs.Acts.{gathered, stripeFrom, placed, nextRound, ending, acted, counting, waitingOr, firstOp, starting}
-use Rattle.coord_acts.specs.Steps.{Held, Went, Step, refused, went, checked, nothingSeen, cutSeen, answerOf}
-use Rattle.coord_checks.specs.Checks.{recordChecks, writeRefusal, readRefusal, crashRefusal}
+use Rattle.coord_tally.specs.Counting.{targetFlags}
+use Rattle.coord_decide.specs.Deciding.{decided}
+use Rattle.coord_decide.specs.declared.Decision.{Decision}
+use Rattle.coord_decide.specs.declared.Decision.the-variants.{Abort, Give, Look, Store, Recover, Finish}
+use Rattle.coord_apply.specs.Acts.{gathered, stripeFrom, placed, nextRound, ending, acted, counting, waitingOr, firstOp, starting}
+use Rattle.coord_apply.specs.Steps.{Held, Went, Step, refused, went, checked, nothingSeen, cutSeen, answerOf}
+use Rattle.coord_refusals.specs.Checks.{recordChecks, writeRefusal, readRefusal, crashRefusal}
 use Rattle.coordinator.specs.Rules.{takeStep, crashed, crashStep, drawnThen, writeStep, readStep}
 use Rattle.coordinator.proofs.Laws.StepLaws.{place-fits, write-lengths}
 use Rattle.coord_laws.proofs.Laws.BlockLaws.{placed-long}

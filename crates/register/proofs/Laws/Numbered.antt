@@ -17,8 +17,8 @@ use Rattle.settings.specs.declared.Draw.{Draw}
 use Rattle.settings.specs.declared.Draw.the-variants.{Drawn, Refused}
 use Rattle.settings.specs.declared.Settings.{Settings}
 use Rattle.settings.proofs.Laws.RefusalLaws.{tested}
-use Rattle.coord_acts.specs.Steps.{Held, Went, Step, refused, went, checked}
-use Rattle.coord_checks.specs.Checks.{recordChecks, startChecks, writeRefusal, readRefusal, crashRefusal}
+use Rattle.coord_apply.specs.Steps.{Held, Went, Step, refused, went, checked}
+use Rattle.coord_refusals.specs.Checks.{recordChecks, startChecks, writeRefusal, readRefusal, crashRefusal}
 use Rattle.coordinator.specs.Rules.{takeStep, crashed, crashStep, drawnThen, writeStep, readStep}
 use Rattle.coordinator.proofs.Laws.StepLaws.{take-passed}
 use Rattle.register.specs.Runs.{Item, message, reply, World, idle, fresh, Left, Event, startWrite, startRead, arrives, crashes, goesDown, comesUp, Moved, unmoved, coordinated, received, arriving, arrivingAt, standing, leftBy, step, next, runFrom, run}

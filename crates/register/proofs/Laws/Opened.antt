@@ -9,11 +9,11 @@ unfolding Rattle.message.specs.Flags.member Rattle.message.specs.Flags.members
 message-open = tt
 
 unfoldable pub little-open : Unit {0}
-unfolding Rattle.little.specs.Little.byteOf Rattle.little.specs.Little.little Rattle.little.specs.Little.number
+unfolding Rattle.byte_lists.specs.Little.byteOf Rattle.byte_lists.specs.Little.little Rattle.byte_lists.specs.Little.number
 little-open = tt
 
 unfoldable pub block-open : Unit {0}
-unfolding Rattle.block.specs.Block.weighted Rattle.block.specs.Block.checkOf Rattle.block.specs.Block.sealed Rattle.block.specs.Block.unchecked Rattle.block.specs.Block.same Rattle.block.specs.Block.checked Rattle.block.specs.Block.zeros Rattle.block.specs.Block.unusedKind Rattle.block.specs.Block.headKind Rattle.block.specs.Block.entryKind Rattle.block.specs.Block.headBody Rattle.block.specs.Block.headBlock Rattle.block.specs.Block.entryBody Rattle.block.specs.Block.entryBlock Rattle.block.specs.Block.unusedBody Rattle.block.specs.Block.unusedBlock Rattle.block.specs.Block.put
+unfolding Rattle.image_block.specs.Block.weighted Rattle.image_block.specs.Block.checkOf Rattle.image_block.specs.Block.sealed Rattle.image_block.specs.Block.unchecked Rattle.image_block.specs.Block.same Rattle.image_block.specs.Block.checked Rattle.image_block.specs.Block.zeros Rattle.image_block.specs.Block.unusedKind Rattle.image_block.specs.Block.headKind Rattle.image_block.specs.Block.entryKind Rattle.image_block.specs.Block.headBody Rattle.image_block.specs.Block.headBlock Rattle.image_block.specs.Block.entryBody Rattle.image_block.specs.Block.entryBlock Rattle.image_block.specs.Block.unusedBody Rattle.image_block.specs.Block.unusedBlock Rattle.image_block.specs.Block.put
 block-open = tt
 
 unfoldable pub image-open : Unit {0}
@@ -21,11 +21,11 @@ unfolding Rattle.image.specs.Brick.count Rattle.image.specs.Brick.noEntry Ratt
 image-open = tt
 
 unfoldable pub saving-open : Unit {0}
-unfolding Rattle.saving.specs.Saving.freshAfter Rattle.saving.specs.Saving.promised Rattle.saving.specs.Saving.appended Rattle.saving.specs.Saving.without
+unfolding Rattle.image_write.specs.Saving.freshAfter Rattle.image_write.specs.Saving.promised Rattle.image_write.specs.Saving.appended Rattle.image_write.specs.Saving.without
 saving-open = tt
 
 unfoldable pub brick-open : Unit {0}
-unfolding Rattle.brick.specs.Receive.blocksRefusal Rattle.brick.specs.Receive.receiveRefusal Rattle.brick.specs.Receive.refusedWith Rattle.brick.specs.Receive.givenBy Rattle.brick.specs.Receive.acted Rattle.brick.specs.Receive.outcome Rattle.brick_plan.specs.Steps.aboveNewest Rattle.brick_plan.specs.Steps.notBelowPromise Rattle.brick_plan.specs.Steps.hasFree Rattle.brick_plan.specs.Steps.readYes Rattle.brick_plan.specs.Steps.orderYes Rattle.brick_plan.specs.Steps.writeYes Rattle.brick_plan.specs.Steps.ordered Rattle.brick_plan.specs.Steps.written Rattle.brick_plan.specs.Steps.trimmed Rattle.brick_plan.specs.Steps.trimmedTo Rattle.brick_plan.specs.Steps.under Rattle.brick_plan.specs.Steps.lookup Rattle.brick_plan.specs.Steps.placeFor Rattle.brick_plan.specs.Steps.timeFor Rattle.brick_plan.specs.Steps.foundFor Rattle.brick_plan.specs.Steps.yesTo Rattle.brick_plan.specs.Steps.replyTo Rattle.brick_plan.specs.Steps.after Rattle.brick_plan.specs.Steps.blockAfter
+unfolding Rattle.brick.specs.Receive.blocksRefusal Rattle.brick.specs.Receive.receiveRefusal Rattle.brick.specs.Receive.refusedWith Rattle.brick.specs.Receive.givenBy Rattle.brick.specs.Receive.acted Rattle.brick.specs.Receive.outcome Rattle.brick_log.specs.Steps.aboveNewest Rattle.brick_log.specs.Steps.notBelowPromise Rattle.brick_log.specs.Steps.hasFree Rattle.brick_log.specs.Steps.readYes Rattle.brick_log.specs.Steps.orderYes Rattle.brick_log.specs.Steps.writeYes Rattle.brick_log.specs.Steps.ordered Rattle.brick_log.specs.Steps.written Rattle.brick_log.specs.Steps.trimmed Rattle.brick_log.specs.Steps.trimmedTo Rattle.brick_log.specs.Steps.under Rattle.brick_log.specs.Steps.lookup Rattle.brick_log.specs.Steps.placeFor Rattle.brick_log.specs.Steps.timeFor Rattle.brick_log.specs.Steps.foundFor Rattle.brick_log.specs.Steps.yesTo Rattle.brick_log.specs.Steps.replyTo Rattle.brick_log.specs.Steps.after Rattle.brick_log.specs.Steps.blockAfter
 brick-open = tt
 
 unfoldable pub gf256-open : Unit {0}
@@ -49,15 +49,15 @@ unfolding Rattle.settings.specs.Each.each Rattle.settings.specs.Each.some Ratt
 coord-record-open = tt
 
 unfoldable pub coord-rounds-open : Unit {0}
-unfolding Rattle.coord_counts.specs.Counting.saidNo Rattle.coord_counts.specs.Counting.highest Rattle.coord_counts.specs.Counting.otherTime Rattle.coord_counts.specs.Counting.missing Rattle.coord_counts.specs.Counting.atTime Rattle.coord_counts.specs.Counting.atTimes Rattle.coord_counts.specs.Counting.passing Rattle.coord_counts.specs.Counting.inRow Rattle.coord_counts.specs.Counting.picked Rattle.coord_counts.specs.Counting.upward Rattle.coord_counts.specs.Counting.targetRow Rattle.coord_counts.specs.Counting.targetFlag Rattle.coord_counts.specs.Counting.targetFlags Rattle.coord_rounds.specs.Deciding.answers Rattle.coord_rounds.specs.Deciding.tallied Rattle.coord_rounds.specs.Deciding.decidedRead Rattle.coord_rounds.specs.Deciding.unlessSpent Rattle.coord_rounds.specs.Deciding.decidedAt Rattle.coord_rounds.specs.Deciding.decidedRecovery Rattle.coord_rounds.specs.Deciding.decided
+unfolding Rattle.coord_tally.specs.Counting.saidNo Rattle.coord_tally.specs.Counting.highest Rattle.coord_tally.specs.Counting.otherTime Rattle.coord_tally.specs.Counting.missing Rattle.coord_tally.specs.Counting.atTime Rattle.coord_tally.specs.Counting.atTimes Rattle.coord_tally.specs.Counting.passing Rattle.coord_tally.specs.Counting.inRow Rattle.coord_tally.specs.Counting.picked Rattle.coord_tally.specs.Counting.upward Rattle.coord_tally.specs.Counting.targetRow Rattle.coord_tally.specs.Counting.targetFlag Rattle.coord_tally.specs.Counting.targetFlags Rattle.coord_decide.specs.Deciding.answers Rattle.coord_decide.specs.Deciding.tallied Rattle.coord_decide.specs.Deciding.decidedRead Rattle.coord_decide.specs.Deciding.unlessSpent Rattle.coord_decide.specs.Deciding.decidedAt Rattle.coord_decide.specs.Deciding.decidedRecovery Rattle.coord_decide.specs.Deciding.decided
 coord-rounds-open = tt
 
 unfoldable pub coord-acts-open : Unit {0}
-unfolding Rattle.coord_acts.specs.Acts.gathered Rattle.coord_acts.specs.Acts.stripeFrom Rattle.coord_acts.specs.Acts.roundMessage Rattle.coord_acts.specs.Acts.trimMessage Rattle.coord_acts.specs.Acts.nextOp Rattle.coord_acts.specs.Acts.opened Rattle.coord_acts.specs.Acts.nextRound Rattle.coord_acts.specs.Acts.ending Rattle.coord_acts.specs.Acts.finishedSeen Rattle.coord_acts.specs.Acts.acted Rattle.coord_acts.specs.Acts.placed Rattle.coord_acts.specs.Acts.withTally Rattle.coord_acts.specs.Acts.counting Rattle.coord_acts.specs.Acts.waitingOr Rattle.coord_acts.specs.Acts.firstOp Rattle.coord_acts.specs.Acts.starting Rattle.coord_acts.specs.Steps.checked Rattle.coord_acts.specs.Steps.nothingSeen Rattle.coord_acts.specs.Steps.noMessage Rattle.coord_acts.specs.Steps.sentCount Rattle.coord_acts.specs.Steps.sentMessage Rattle.coord_acts.specs.Steps.sentBlocks Rattle.coord_acts.specs.Steps.answerOf Rattle.coord_acts.specs.Steps.blocksAfter Rattle.coord_acts.specs.Steps.stripeAfter Rattle.coord_acts.specs.Steps.codedAfter Rattle.coord_acts.proofs.Laws.Steps.after
+unfolding Rattle.coord_apply.specs.Acts.gathered Rattle.coord_apply.specs.Acts.stripeFrom Rattle.coord_apply.specs.Acts.roundMessage Rattle.coord_apply.specs.Acts.trimMessage Rattle.coord_apply.specs.Acts.nextOp Rattle.coord_apply.specs.Acts.opened Rattle.coord_apply.specs.Acts.nextRound Rattle.coord_apply.specs.Acts.ending Rattle.coord_apply.specs.Acts.finishedSeen Rattle.coord_apply.specs.Acts.acted Rattle.coord_apply.specs.Acts.placed Rattle.coord_apply.specs.Acts.withTally Rattle.coord_apply.specs.Acts.counting Rattle.coord_apply.specs.Acts.waitingOr Rattle.coord_apply.specs.Acts.firstOp Rattle.coord_apply.specs.Acts.starting Rattle.coord_apply.specs.Steps.checked Rattle.coord_apply.specs.Steps.nothingSeen Rattle.coord_apply.specs.Steps.noMessage Rattle.coord_apply.specs.Steps.sentCount Rattle.coord_apply.specs.Steps.sentMessage Rattle.coord_apply.specs.Steps.sentBlocks Rattle.coord_apply.specs.Steps.answerOf Rattle.coord_apply.specs.Steps.blocksAfter Rattle.coord_apply.specs.Steps.stripeAfter Rattle.coord_apply.specs.Steps.codedAfter Rattle.coord_apply.proofs.Laws.Steps.after
 coord-acts-open = tt
 
 unfoldable pub coordinator-open : Unit {0}
-unfolding Rattle.coord_checks.specs.Checks.recordChecks Rattle.coord_checks.specs.Checks.startChecks Rattle.coord_checks.specs.Checks.writeRefusal Rattle.coord_checks.specs.Checks.readRefusal Rattle.coord_checks.specs.Checks.lengthsRight Rattle.coord_checks.specs.Checks.strayChecks Rattle.coord_checks.specs.Checks.takeRefusal Rattle.coord_checks.specs.Checks.crashRefusal Rattle.coordinator.specs.Rules.takeStep Rattle.coordinator.specs.Rules.crashed Rattle.coordinator.specs.Rules.crashStep Rattle.coordinator.specs.Rules.drawnThen Rattle.coordinator.specs.Rules.writeStep Rattle.coordinator.specs.Rules.readStep
+unfolding Rattle.coord_refusals.specs.Checks.recordChecks Rattle.coord_refusals.specs.Checks.startChecks Rattle.coord_refusals.specs.Checks.writeRefusal Rattle.coord_refusals.specs.Checks.readRefusal Rattle.coord_refusals.specs.Checks.lengthsRight Rattle.coord_refusals.specs.Checks.strayChecks Rattle.coord_refusals.specs.Checks.takeRefusal Rattle.coord_refusals.specs.Checks.crashRefusal Rattle.coordinator.specs.Rules.takeStep Rattle.coordinator.specs.Rules.crashed Rattle.coordinator.specs.Rules.crashStep Rattle.coordinator.specs.Rules.drawnThen Rattle.coordinator.specs.Rules.writeStep Rattle.coordinator.specs.Rules.readStep
 coordinator-open = tt
 
 unfoldable pub register-open : Unit {0}

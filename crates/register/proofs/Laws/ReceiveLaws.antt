@@ -19,8 +19,8 @@ use Rattle.message.specs.declared.Message.{Message}
 use Rattle.message.specs.declared.Reply.{Reply}
 use Rattle.image.specs.Brick.{Brick, LogEntry, noEntry, count, timeAt, heldAt, newest}
 use Rattle.image.specs.Brick.{Sound}
-use Rattle.saving.specs.Saving
-use Rattle.brick_plan.specs.Steps.{readYes, orderYes, writeYes, ordered, written, trimmedTo, under, lookup, placeFor, timeFor, foundFor, yesTo, replyTo, after, blockAfter}
+use Rattle.image_write.specs.Saving
+use Rattle.brick_log.specs.Steps.{readYes, orderYes, writeYes, ordered, written, trimmedTo, under, lookup, placeFor, timeFor, foundFor, yesTo, replyTo, after, blockAfter}
 use Rattle.order.specs.Claim.{_∈_}
 use Rattle.order.specs.Facts.{Fact, promised, stored, showed}
 use Rattle.order.specs.Places.{whole, above, In}

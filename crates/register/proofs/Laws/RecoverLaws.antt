@@ -19,10 +19,10 @@ use Rattle.erasure.specs.Code.{codedOf}
 use Rattle.erasure.specs.Code.{blockOf, Stripe}
 use Rattle.settings.specs.Each.{some}
 use Rattle.coord_record.specs.Records.{noBricks}
-use Rattle.coord_counts.specs.Counting.{saidNo, highest, atTime, atTimes, picked}
-use Rattle.coord_acts.specs.Acts.{stripeFrom, roundMessage, nextOp, nextRound}
-use Rattle.coord_acts.specs.Steps.{Held}
-use Rattle.coord_counts.proofs.Laws.RowSets.{picked-gave}
+use Rattle.coord_tally.specs.Counting.{saidNo, highest, atTime, atTimes, picked}
+use Rattle.coord_apply.specs.Acts.{stripeFrom, roundMessage, nextOp, nextRound}
+use Rattle.coord_apply.specs.Steps.{Held}
+use Rattle.coord_tally.proofs.Laws.RowSets.{picked-gave}
 use Rattle.coord_laws.proofs.Laws.BlockLaws.{stripe-read}
 use Rattle.order.specs.Claim.{changed, _∈_}
 use Rattle.order.specs.Facts.{over, promised, launched, stored}

@@ -15,12 +15,12 @@ use Rattle.settings.specs.declared.Settings.{Settings}
 use Rattle.message.specs.Flags.{members}
 use Rattle.message.specs.declared.Reply.{Reply}
 use Rattle.settings.specs.Each.{some}
-use Rattle.coord_counts.specs.Counting.{saidNo, highest, otherTime, missing, atTimes}
-use Rattle.coord_rounds.specs.Deciding.{decided}
-use Rattle.coord_rounds.specs.declared.Decision.{Decision}
-use Rattle.coord_rounds.specs.declared.Decision.the-variants.{Abort, Give, Look, Store, Recover, Finish}
-use Rattle.coord_acts.specs.Acts.{acted, withTally, counting, waitingOr}
-use Rattle.coord_acts.specs.Steps.{Held, Went, Step, refused, went, nothingSeen}
+use Rattle.coord_tally.specs.Counting.{saidNo, highest, otherTime, missing, atTimes}
+use Rattle.coord_decide.specs.Deciding.{decided}
+use Rattle.coord_decide.specs.declared.Decision.{Decision}
+use Rattle.coord_decide.specs.declared.Decision.the-variants.{Abort, Give, Look, Store, Recover, Finish}
+use Rattle.coord_apply.specs.Acts.{acted, withTally, counting, waitingOr}
+use Rattle.coord_apply.specs.Steps.{Held, Went, Step, refused, went, nothingSeen}
 use Rattle.coordinator.specs.Rules.{takeStep}
 use Rattle.coord_laws.proofs.Laws.RunLaws.{Took, took}
 use Rattle.coord_laws.proofs.Laws.OpCases.{Fit, reading, looking, restoring, ordering, storing}

@@ -9,8 +9,8 @@ use Rattle.settings.specs.declared.Settings.{Settings}
 use Rattle.message.specs.declared.Message.{Message}
 use Rattle.erasure.specs.Code.{Stripe}
 use Rattle.coord_record.specs.Records.{nothingCounted, noBricks, noOp, idleWith}
-use Rattle.coord_acts.specs.Acts.{roundMessage, nextOp, opened, nextRound, ending}
-use Rattle.coord_acts.specs.Steps.{Held, Broadcast, nothingSeen}
+use Rattle.coord_apply.specs.Acts.{roundMessage, nextOp, opened, nextRound, ending}
+use Rattle.coord_apply.specs.Steps.{Held, Broadcast, nothingSeen}
 use Rattle.coord_laws.proofs.Laws.Soundness.{none-sized}
 use Rattle.order.specs.Claim.{Action, write, _∈_}
 use Rattle.order.specs.Facts.{End, Fact, began, ended, shows}

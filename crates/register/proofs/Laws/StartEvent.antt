@@ -19,14 +19,14 @@ use Rattle.settings.specs.declared.Draw.{Draw}
 use Rattle.settings.specs.declared.Draw.the-variants.{Drawn, Refused}
 use Rattle.settings.specs.declared.Settings.{Settings}
 use Rattle.settings.proofs.Laws.RefusalLaws.{tested}
-use Rattle.little.specs.Little.{Bytes}
+use Rattle.byte_lists.specs.Little.{Bytes}
 use Rattle.message.specs.Flags.{member}
 use Rattle.erasure.specs.Code.{Stripe}
 use Rattle.coord_record.specs.Records.{nothingCounted, noBricks}
-use Rattle.coord_counts.specs.Counting.{targetFlags}
-use Rattle.coord_acts.specs.Acts.{roundMessage, firstOp, starting}
-use Rattle.coord_acts.specs.Steps.{Held, Broadcast, Went, refused, checked}
-use Rattle.coord_checks.specs.Checks.{writeRefusal, readRefusal}
+use Rattle.coord_tally.specs.Counting.{targetFlags}
+use Rattle.coord_apply.specs.Acts.{roundMessage, firstOp, starting}
+use Rattle.coord_apply.specs.Steps.{Held, Broadcast, Went, refused, checked}
+use Rattle.coord_refusals.specs.Checks.{writeRefusal, readRefusal}
 use Rattle.coordinator.specs.Rules.{drawnThen, writeStep, readStep}
 use Rattle.coord_laws.proofs.Laws.Soundness.{none-sized}
 use Rattle.coord_laws.proofs.Laws.TallyLaws.{zeros-at}

@@ -10,7 +10,7 @@ use Rattle.message.specs.Kinds.{orderReadKind}
 use Rattle.message.specs.declared.Message.{Message}
 use Rattle.message.specs.declared.Reply.{Reply}
 use Rattle.image.specs.Brick.{Brick, LogEntry}
-use Rattle.coord_acts.specs.Steps.{Held}
+use Rattle.coord_apply.specs.Steps.{Held}
 use Rattle.order.specs.Claim.{Plain, _∈_}
 use Rattle.order.specs.Facts.{Fact, began, promised, launched, stored, showed, ended, History}
 use Rattle.order.specs.Places.{Suf, whole, above, In}

@@ -1,3 +1,0 @@
--- The laws of `bench_acts`, for its own proofs and those of the crates above. No contract cites them.
--- Laws: ShortLaws.
-pub mod ShortLaws

@@ -1,0 +1,302 @@
+-- The ways of a carried message, with what the callees gave as variables.
+use mathlib.Core.Path.{_≡_, refl, sym, ap, ap₂, subst, _∙_}
+use mathlib.Core.Bool.{Bool, true, false}
+use mathlib.Core.List.{List, [], _++_, append-nil}
+use Prim.Native.Nat.{ℕ, _+_, _-_, _*_, _≤_, _<_}
+use native.Mathlib.Omega.{arith}
+use lib.ListN.{length, getD, take, drop, replicate, length-drop}
+use lib.Seq.{length-take-le}
+use borrow.Author.Tests.{eq-eqb, ne-eqb, lt-ltb, le-ltb}
+use borrow.Rule.Slice.PartMut.{putMid, put-same}
+use Rattle.settings.specs.declared.Settings.{Settings}
+use Rattle.message.specs.declared.Message.{Message}
+use Rattle.image.specs.Image.{imageSize}
+use Rattle.brick.specs.Receive.{Outcome, outcome}
+use Rattle.brick.specs.declared.Given.{Given}
+use Rattle.brick.specs.declared.Given.the-variants.{Answered, Silent, Refused}
+use Rattle.coord_apply.specs.Steps.{Held}
+use Rattle.register.specs.Runs.{Item, World, Moved, message, arrives, arriving, received, repliedWith, putAt, step}
+use Rattle.image_block.specs.Block.{put}
+use Rattle.image_block.proofs.Laws.PutLaws.{put-mid}
+use Rattle.bench_state.proofs.Laws.PartLaws.{any-default}
+use Rattle.bench_state.specs.State.{imagesOf, upOf, heldAt, worldOf}
+use Rattle.bench_state.proofs.Laws.StateLaws.{image-put}
+use Rattle.bench_state.specs.declared.Bench.{Bench}
+use Rattle.bench_sent.specs.Sent.{isReply, numberAt, messageAt, blockAt, itemAt, itemsOf}
+use Rattle.bench_sent.proofs.Laws.SentLaws.{item-message, block-cut}
+use Rattle.bench_sent.proofs.Laws.RunLaws.{items-length, arrives-item}
+use Rattle.bench_print.specs.Printing.{written}
+use Rattle.bench_rules.specs.Play.{Played, carries, reaches, delivered, happens, refuses, passes}
+use Rattle.bench_rules.specs.Turning.{Lent, lent, worldIn, Turned}
+use Rattle.bench_rules.proofs.Laws.TurnLaws.{turned-nothing}
+use Rattle.bench_rules.specs.declared.After.{After}
+use Rattle.bench_carry_message.proofs.Laws.AnswerLaws.{refusal-keeps, room}
+use Rattle.bench_carry_message.specs.Deliver.{Lends, Reaching, Settled, maySend, sentAfter, toldOf}
+
+-- the ways of `carries` for a message
+module _ (s : Settings) (w : World) (k brick : ℕ) (msg : Message) (block : List ℕ) where
+  no-brick : s .n ≤ brick → carries s w k (message brick msg block) ≡ refuses w 3
+  unfolding carries
+  no-brick h = rw (le-ltb brick (s .n) h) refl
+
+  down : brick < s .n → w .up brick ≡ false → carries s w k (message brick msg block) ≡ passes w
+  unfolding carries
+  down h u = rw (lt-ltb brick (s .n) h, u) refl
+
+  many : brick < s .n → w .up brick ≡ true → maySend (msg .kind) (length (w .sent)) ≡ false → carries s w k (message brick msg block) ≡ refuses w 12
+  unfolding carries reaches maySend
+  many h u m = rw (lt-ltb brick (s .n) h, u, m) refl
+
+  reached : brick < s .n → w .up brick ≡ true → maySend (msg .kind) (length (w .sent)) ≡ true
+      → carries s w k (message brick msg block) ≡ delivered s w k (outcome s brick (w .images brick) msg block (replicate (s .size) 0) .given)
+  unfolding carries reaches maySend
+  reached h u m = rw (lt-ltb brick (s .n) h, u, m) refl
+
+  -- the event itself
+  arriving-up : w .up brick ≡ true
+      → arriving s w (message brick msg block) ≡ received s w brick (outcome s brick (w .images brick) msg block (replicate (s .size) 0))
+  unfolding arriving
+  arriving-up u = rw u refl
+
+-- the fields of the world that the buffers stand for
+module _ (b : Bench) (images kept numbers bytes : List ℕ) where
+  sent-length : length (worldIn b (lent images kept numbers bytes) .sent) ≡ b .sent
+  unfolding worldIn worldOf
+  sent-length = items-length (b .settings .size) numbers bytes (b .sent)
+
+  world-up : (brick : ℕ) (t : Bool) → upOf (b .up) brick ≡ t → worldIn b (lent images kept numbers bytes) .up brick ≡ t
+  unfolding worldIn worldOf
+  world-up brick t e = e
+
+  world-image : (brick : ℕ) → brick < b .settings .n
+      → worldIn b (lent images kept numbers bytes) .images brick ≡ take (imageSize (b .settings)) (drop (brick * 2560) images)
+  unfolding worldIn worldOf imagesOf
+  world-image brick h = rw (lt-ltb brick (b .settings .n) h) refl
+
+  -- an arrival is that of the row's item
+  world-arrives : (k : ℕ) → k < b .sent
+      → step (b .settings) (worldIn b (lent images kept numbers bytes)) (arrives k)
+      ≡ arriving (b .settings) (worldIn b (lent images kept numbers bytes)) (itemAt (b .settings .size) numbers bytes k)
+  unfolding worldIn worldOf step
+  world-arrives k h = arrives-item (b .settings) (worldIn b (lent images kept numbers bytes)) (b .settings .size) numbers bytes (b .sent) k h
+
+-- a world by its fields
+abbrev make : (ℕ → List ℕ) → (ℕ → Bool) → (ℕ → Held) → List Item → World
+make f g h i = record { images = f; up = g; coordinators = h; sent = i }
+
+-- the world after another image and more items, with the same flags and coordinators
+world-with : (b : Bench) (images kept numbers bytes images′ image : List ℕ) (brick : ℕ) (more : List Item)
+    → imagesOf (b .settings) images′ ≡ putAt (imagesOf (b .settings) images) brick image
+    → worldOf b images′ kept (itemsOf (b .settings .size) numbers bytes (b .sent) ++ more)
+    ≡ make (putAt (worldIn b (lent images kept numbers bytes) .images) brick image) (worldIn b (lent images kept numbers bytes) .up)
+    (worldIn b (lent images kept numbers bytes) .coordinators) (worldIn b (lent images kept numbers bytes) .sent ++ more)
+unfolding worldIn worldOf
+world-with b images kept numbers bytes images′ image brick more e =
+    ap (λ (g : ℕ → List ℕ). make g (upOf (b .up)) (heldAt (b .settings) (b .coordinators) kept) (itemsOf (b .settings .size) numbers bytes (b .sent) ++ more)) e
+
+world-same : (b : Bench) (images kept numbers bytes images′ : List ℕ) → images′ ≡ images
+    → worldOf b images′ kept (itemsOf (b .settings .size) numbers bytes (b .sent) ++ []) ≡ worldIn b (lent images kept numbers bytes)
+unfolding worldIn
+world-same b images kept numbers bytes images′ e =
+    ap₂ (λ (g : List ℕ) (i : List Item). worldOf b g kept i) e (append-nil (itemsOf (b .settings .size) numbers bytes (b .sent)))
+
+-- a message that its brick received
+module _ (b : Bench) (k brick : ℕ) (msg : Message) (images numbers bytes : List ℕ) (l : Lends b images numbers bytes) (q : Reaching b numbers bytes k brick msg) where
+  abbrev pub s : Settings
+  s = b .settings
+
+  abbrev pub image : List ℕ
+  image = take (imageSize s) (drop (brick * 2560) images)
+
+  abbrev pub o : Outcome
+  o = outcome s brick image msg (blockAt (s .size) bytes k) (replicate (s .size) 0)
+
+  image-long : length image ≡ imageSize s
+  unfolding imageSize
+  image-long =
+      length-take-le (imageSize s) (drop (brick * 2560) images)
+      (let d = length-drop (brick * 2560) images in
+      let a = l .fits .small .bricks in
+      let c = l .fits .small .log-fits in
+      let t = q .there in
+      let n = l .images-long in
+      omega (arith, c, n))
+
+  module _ (kept : List ℕ) where
+    abbrev pub w : World
+    w = worldIn b (lent images kept numbers bytes)
+
+    outcome-at : outcome s brick (w .images brick) msg (blockAt (s .size) bytes k) (replicate (s .size) 0) ≡ o
+    outcome-at = ap (λ (i : List ℕ). outcome s brick i msg (blockAt (s .size) bytes k) (replicate (s .size) 0)) (world-image b images kept numbers bytes brick (q .there))
+
+    arrives-is : step s w (arrives k) ≡ received s w brick o
+    arrives-is =
+        world-arrives b images kept numbers bytes k (q .sent-before)
+        ∙ ap (arriving s w) (q .item-is)
+        ∙ arriving-up s w k brick msg (blockAt (s .size) bytes k) (world-up b images kept numbers bytes brick true (q .is-up))
+        ∙ ap (received s w brick) outcome-at
+
+    carries-is : carries s w k (itemAt (s .size) numbers bytes k) ≡ delivered s w k (o .given)
+    carries-is =
+        ap (carries s w k) (q .item-is)
+        ∙ reached s w k brick msg (blockAt (s .size) bytes k) (q .there) (world-up b images kept numbers bytes brick true (q .is-up))
+        (ap (maySend (msg .kind)) (sent-length b images kept numbers bytes) ∙ q .may-send)
+        ∙ ap (λ (v : Outcome). delivered s w k (v .given)) outcome-at
+
+    module _ (new block numbers′ bytes′ : List ℕ) (at : ℕ) (out out′ : List ℕ) (r : After) (ei : new ≡ o .image) (eo : block ≡ o .out) (long : length new ≡ imageSize s) where
+      images-put : imagesOf s (put (brick * 2560) new images) ≡ putAt (imagesOf s images) brick (o .image)
+      images-put =
+          image-put s (l .fits .small) images new brick (q .there) long (l .images-long)
+          ∙ ap (putAt (imagesOf s images) brick) ei
+
+      -- an answer or silence: the event happens
+      happened : (g : Given) → g ≡ o .given → toldOf g ≡ [] → Settled b g block numbers bytes at out r numbers′ bytes′ out′
+          → Turned b (lent images kept numbers bytes) at out (happens s w (arrives k) []) r (lent (put (brick * 2560) new images) kept numbers′ bytes′) out′
+      unfolding happens received
+      happened g e t d =
+          record {
+            world-is =
+                d .world-is (put (brick * 2560) new images) kept
+                ∙ ap₂ (λ (v : Given) (x : List ℕ). worldOf b (put (brick * 2560) new images) kept (itemsOf (s .size) numbers bytes (b .sent) ++ repliedWith v x)) e eo
+                ∙ world-with b images kept numbers bytes (put (brick * 2560) new images) (o .image) brick (repliedWith (o .given) (o .out)) images-put
+                ∙ sym (ap (λ (m : Moved s). m .world) arrives-is);
+            settings-kept = d .settings-kept;
+            few = d .few;
+            text-is = subst (λ (x : List ℕ). out′ ≡ written at x out) t (d .text-is);
+            used-is = subst (λ (x : List ℕ). r .used ≡ at + length x) t (d .used-is);
+            short = d .short;
+          }
+
+      -- a refusal: the image kept its bytes
+      refused-there : (n : ℕ) → Refused n ≡ o .given → Settled b (Refused n) block numbers bytes at out r numbers′ bytes′ out′
+          → Turned b (lent images kept numbers bytes) at out (refuses w n) r (lent (put (brick * 2560) new images) kept numbers′ bytes′) out′
+      unfolding refuses repliedWith toldOf imageSize
+      refused-there n e d =
+          record {
+            world-is =
+                d .world-is (put (brick * 2560) new images) kept
+                ∙ world-same b images kept numbers bytes (put (brick * 2560) new images) back;
+            settings-kept = d .settings-kept;
+            few = d .few;
+            text-is = d .text-is;
+            used-is = d .used-is;
+            short = d .short;
+          }
+        where
+          same : new ≡ image
+          same = ei ∙ refusal-keeps s brick image msg (blockAt (s .size) bytes k) (replicate (s .size) 0) n (sym e)
+
+          back : put (brick * 2560) new images ≡ images
+          back =
+              ap (λ (x : List ℕ). put (brick * 2560) x images) same
+              ∙ sym (put-mid (brick * 2560) (brick * 2560 + imageSize s) images image (omega arith) (image-long ∙ (omega arith)))
+              ∙ ap (λ (j : ℕ). putMid (brick * 2560) j images image) (let z : brick * 2560 + imageSize s - brick * 2560 ≡ imageSize s = omega arith in z)
+              ∙ put-same (brick * 2560) (imageSize s) images
+
+      delivered-by : (g : Given) → g ≡ o .given → Settled b g block numbers bytes at out r numbers′ bytes′ out′
+          → Turned b (lent images kept numbers bytes) at out (carries s w k (itemAt (s .size) numbers bytes k)) r (lent (put (brick * 2560) new images) kept numbers′ bytes′) out′
+      unfolding delivered toldOf
+      delivered-by g e d =
+          subst (λ (p : Played). Turned b (lent images kept numbers bytes) at out p r (lent (put (brick * 2560) new images) kept numbers′ bytes′) out′)
+          (ap (delivered s w k) e ∙ sym carries-is)
+          (by g e d)
+        where
+          by : (g : Given) → g ≡ o .given → Settled b g block numbers bytes at out r numbers′ bytes′ out′
+              → Turned b (lent images kept numbers bytes) at out (delivered s w k g) r (lent (put (brick * 2560) new images) kept numbers′ bytes′) out′
+          by (Answered a) e d = happened (Answered a) e refl d
+          by Silent e d = happened Silent e refl d
+          by (Refused n) e d = refused-there n e d
+
+  -- the parts as the code cuts them
+  abbrev pub codeImage : List ℕ
+  codeImage = take (brick * 2560 + 512 * (s .capacity + 1) - brick * 2560) (drop (brick * 2560) images)
+
+  abbrev pub codeBlock : List ℕ
+  codeBlock = take (k * 24 + 16 + s .size - (k * 24 + 16)) (drop (k * 24 + 16) bytes)
+
+  code-outcome : (zeros : List ℕ) → zeros ≡ replicate (s .size) 0 → outcome s brick codeImage msg codeBlock zeros ≡ o
+  unfolding imageSize
+  code-outcome zeros ez =
+      ap (λ (j : ℕ). outcome s brick (take j (drop (brick * 2560) images)) msg codeBlock zeros) cut
+      ∙ ap (λ (x : List ℕ). outcome s brick image msg x zeros) (block-cut (s .size) k (k * 24 + 16) (k * 24 + 16 + s .size) bytes refl refl)
+      ∙ ap (outcome s brick image msg (blockAt (s .size) bytes k)) ez
+    where
+      cut : brick * 2560 + 512 * (s .capacity + 1) - brick * 2560 ≡ 512 * (s .capacity + 1)
+      cut = omega arith
+
+  -- what the brick gave and left, settled
+  pub deliver-settled : (new block zeros numbers′ bytes′ : List ℕ) (at : ℕ) (out out′ : List ℕ) (r : After) (g : Given) → zeros ≡ replicate (s .size) 0
+      → g ≡ outcome s brick codeImage msg codeBlock zeros .given → new ≡ outcome s brick codeImage msg codeBlock zeros .image
+      → block ≡ outcome s brick codeImage msg codeBlock zeros .out → length new ≡ length codeImage
+      → Settled b g block numbers bytes at out r numbers′ bytes′ out′
+      → (kept : List ℕ) → Turned b (lent images kept numbers bytes) at out (carries s (worldIn b (lent images kept numbers bytes)) k (itemAt (s .size) numbers bytes k)) r
+      (lent (putMid (brick * 2560) (brick * 2560 + 512 * (s .capacity + 1) - brick * 2560) images new) kept numbers′ bytes′) out′
+  unfolding imageSize
+  deliver-settled new block zeros numbers′ bytes′ at out out′ r g ez eg ei eo long d kept =
+      let c = code-outcome zeros ez in
+      subst (λ (i : List ℕ). Turned b (lent images kept numbers bytes) at out (carries s w′ k (itemAt (s .size) numbers bytes k)) r (lent i kept numbers′ bytes′) out′)
+      (sym (put-mid (brick * 2560) (brick * 2560 + 512 * (s .capacity + 1)) images new (omega arith) (size ∙ sym cut)))
+      (delivered-by kept new block numbers′ bytes′ at out out′ r (ei ∙ ap (λ (v : Outcome). v .image) c) (eo ∙ ap (λ (v : Outcome). v .out) c) size g (eg ∙ ap (λ (v : Outcome). v .given) c) d)
+    where
+      w′ : World
+      w′ = worldIn b (lent images kept numbers bytes)
+
+      cut : brick * 2560 + 512 * (s .capacity + 1) - brick * 2560 ≡ 512 * (s .capacity + 1)
+      cut = omega arith
+
+      size : length new ≡ 512 * (s .capacity + 1)
+      size = long ∙ ap (λ (j : ℕ). length (take j (drop (brick * 2560) images))) cut ∙ image-long
+
+  -- the limit holds after it
+  pub deliver-room : (zeros : List ℕ) (g : Given) → g ≡ outcome s brick codeImage msg codeBlock zeros .given → sentAfter (b .sent) g ≤ 127
+  deliver-room zeros g e = room s brick codeImage msg codeBlock zeros (b .sent) g (l .few) (q .may-send) e
+
+-- the ways in which it does not come to that
+module _ (b : Bench) (k brick : ℕ) (images numbers bytes : List ℕ) (m : isReply numbers k ≡ false) (eb : brick ≡ numberAt numbers k 1) where
+  pub item-here : (msg : Message) → msg ≡ messageAt numbers bytes k
+      → itemAt (b .settings .size) numbers bytes k ≡ message brick msg (blockAt (b .settings .size) bytes k)
+  item-here msg em = item-message (b .settings .size) k brick msg (blockAt (b .settings .size) bytes k) numbers bytes m eb em refl
+
+  module _ (kept : List ℕ) (at : ℕ) (out out′ : List ℕ) (r : After) where
+    abbrev pub Carried : Type 0
+    Carried =
+        Turned b (lent images kept numbers bytes) at out (carries (b .settings) (worldIn b (lent images kept numbers bytes)) k (itemAt (b .settings .size) numbers bytes k)) r
+        (lent images kept numbers bytes) out′
+
+    by-way : (p : Played) → carries (b .settings) (worldIn b (lent images kept numbers bytes)) k (itemAt (b .settings .size) numbers bytes k) ≡ p
+        → Turned b (lent images kept numbers bytes) at out p r (lent images kept numbers bytes) out′ → Carried
+    by-way p e t = subst (λ (x : Played). Turned b (lent images kept numbers bytes) at out x r (lent images kept numbers bytes) out′) (sym e) t
+
+    pub carried-nowhere : b .settings .n ≤ brick → ((l : Lent) → Turned b l at out (refuses (worldIn b l) 3) r l out′) → Carried
+    carried-nowhere h t =
+        by-way (refuses (worldIn b (lent images kept numbers bytes)) 3)
+        (ap (carries (b .settings) (worldIn b (lent images kept numbers bytes)) k) (item-here (messageAt numbers bytes k) refl)
+        ∙ no-brick (b .settings) (worldIn b (lent images kept numbers bytes)) k brick (messageAt numbers bytes k) (blockAt (b .settings .size) bytes k) h)
+        (t (lent images kept numbers bytes))
+
+    pub carried-past : (msg : Message) → msg ≡ messageAt numbers bytes k → brick < b .settings .n → upOf (b .up) brick ≡ true → maySend (msg .kind) (b .sent) ≡ false
+        → ((l : Lent) → Turned b l at out (refuses (worldIn b l) 12) r l out′) → Carried
+    carried-past msg em h u c t =
+        by-way (refuses (worldIn b (lent images kept numbers bytes)) 12)
+        (ap (carries (b .settings) (worldIn b (lent images kept numbers bytes)) k) (item-here msg em)
+        ∙ many (b .settings) (worldIn b (lent images kept numbers bytes)) k brick msg (blockAt (b .settings .size) bytes k) h
+        (world-up b images kept numbers bytes brick true u) (ap (maySend (msg .kind)) (sent-length b images kept numbers bytes) ∙ c))
+        (t (lent images kept numbers bytes))
+
+  pub carried-lost : (kept : List ℕ) (at : ℕ) (out : List ℕ) → brick < b .settings .n → upOf (b .up) brick ≡ false → b .sent ≤ 127
+      → Carried kept at out out (record { bench = b; used = at })
+  carried-lost kept at out h u f =
+      by-way kept at out out (record { bench = b; used = at }) (passes (worldIn b (lent images kept numbers bytes)))
+      (ap (carries (b .settings) (worldIn b (lent images kept numbers bytes)) k) (item-here (messageAt numbers bytes k) refl)
+      ∙ down (b .settings) (worldIn b (lent images kept numbers bytes)) k brick (messageAt numbers bytes k) (blockAt (b .settings .size) bytes k) h
+      (world-up b images kept numbers bytes brick false u))
+      (turned-nothing b (lent images kept numbers bytes) at out f)
+
+-- a brick's flag as the code reads it
+pub flag-up : (up : List ℕ) (brick d : ℕ) → brick < length up → getD up brick d ≡ 1 → upOf up brick ≡ true
+unfolding upOf
+flag-up up brick d h e = eq-eqb (getD up brick 1) 1 (any-default up brick 1 d h ∙ e)
+
+pub flag-down : (up : List ℕ) (brick d : ℕ) → brick < length up → (getD up brick d ≡ 1 → ⊥) → upOf up brick ≡ false
+unfolding upOf
+flag-down up brick d h e = ne-eqb (getD up brick 1) 1 (λ q. e (any-default up brick d 1 h ∙ q))

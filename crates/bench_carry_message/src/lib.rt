@@ -1,0 +1,127 @@
+// A carried message at its brick (document 01, "The bench"): lost, refused, or received, and its reply sent.
+ghost use mathlib.Core.Path.{_≡_};
+ghost use mathlib.Core.Bool.{false};
+ghost use mathlib.Core.List.{List};
+ghost use Prim.Native.Nat.{ℕ, _+_, _≤_, _<_};
+ghost use lib.ListN.{length, replicate};
+ghost use Rattle.bench_sent.specs.Sent.{isReply, itemAt};
+ghost use Rattle.bench_rules.specs.Play.{carries};
+ghost use Rattle.bench_rules.specs.Turning.{lent, worldIn, Turned};
+ghost use Rattle.bench_carry_message.specs.Deliver.{Lends, Reaching, Settled, maySend, sentAfter};
+use bench_rules::After;
+use bench_rules::refuse;
+use bench_state::Bench;
+use brick::Given;
+use message::Message;
+use message::TRIM;
+
+// What a brick gave: a reply is sent.
+fn settle(
+    b: Bench,
+    g: Given,
+    block: &[u8],
+    numbers: &mut [u64],
+    bytes: &mut [u8],
+    at: usize,
+    out: &mut [u8],
+) -> After
+    requires { ⌜ (sentAfter (b .sent) g ≤ 127) × (length (now block) ≡ b .settings .size) × (b .settings .size ≤ 8) ⌝ }
+    requires { ⌜ (length (now numbers) ≡ 1016) × (length (now bytes) ≡ 3048) × (at + 128 ≤ length (now out)) ⌝ }
+    ensures { λ r. ⌜ Settled b g (now (block .entry)) (now (numbers .entry)) (now (bytes .entry)) at (now (out .entry)) r (now (numbers .exit)) (now (bytes .exit)) (now (out .exit)) ⌝ }
+{
+    match g {
+        Given::Answered(r) => {
+            bench_sent::put_reply(b.sent, r, block, numbers, bytes);
+            let bench = bench_state::with_sent(b, b.sent + 1);
+            After { bench, used: at }
+        }
+        Given::Silent => After { bench: b, used: at },
+        Given::Refused(number) => refuse(b, number, at, out),
+    }
+}
+
+// A message at its brick, which is up, with a buffer of zeros for the reply's block.
+fn deliver_with(
+    b: Bench,
+    k: usize,
+    brick: usize,
+    msg: Message,
+    block: &mut [u8],
+    images: &mut [u8],
+    numbers: &mut [u64],
+    bytes: &mut [u8],
+    at: usize,
+    out: &mut [u8],
+) -> After
+    requires { ⌜ Lends b (now images) (now numbers) (now bytes) × Reaching b (now numbers) (now bytes) k brick msg ⌝ }
+    requires { ⌜ (now block ≡ replicate (b .settings .size) 0) × (at + 128 ≤ length (now out)) ⌝ }
+    ensures { λ r. ⌜ ((kept : List ℕ) → Turned b (lent (now (images .entry)) kept (now (numbers .entry)) (now (bytes .entry))) at (now (out .entry)) (carries (b .settings) (worldIn b (lent (now (images .entry)) kept (now (numbers .entry)) (now (bytes .entry)))) k (itemAt (b .settings .size) (now (numbers .entry)) (now (bytes .entry)) k)) r (lent (now (images .exit)) kept (now (numbers .exit)) (now (bytes .exit))) (now (out .exit))) ⌝ }
+{
+    let s = b.settings;
+    let start = brick * 2560;
+    let end = start + 512 * (s.capacity + 1);
+    let from = k * 24 + 16;
+    let till = from + s.size;
+    let g = brick::receive(
+        s,
+        brick,
+        &mut images[start..end],
+        msg,
+        &bytes[from..till],
+        block,
+    );
+    settle(b, g, block, numbers, bytes, at, out)
+}
+
+// Whether a message may be carried: every one but a Trim sends a reply.
+fn may_send(kind: u8, sent: usize) -> bool
+    ensures { λ r. ⌜ r ≡ maySend kind sent ⌝ }
+{
+    if kind == TRIM {
+        return true;
+    }
+    sent < 127
+}
+
+// A carried message.
+pub fn carry_message(
+    b: Bench,
+    k: usize,
+    images: &mut [u8],
+    numbers: &mut [u64],
+    bytes: &mut [u8],
+    at: usize,
+    out: &mut [u8],
+) -> After
+    requires { ⌜ Lends b (now images) (now numbers) (now bytes) × (k < b .sent) ⌝ }
+    requires { ⌜ (isReply (now numbers) k ≡ false) × (at + 128 ≤ length (now out)) ⌝ }
+    ensures { λ r. ⌜ ((kept : List ℕ) → Turned b (lent (now (images .entry)) kept (now (numbers .entry)) (now (bytes .entry))) at (now (out .entry)) (carries (b .settings) (worldIn b (lent (now (images .entry)) kept (now (numbers .entry)) (now (bytes .entry)))) k (itemAt (b .settings .size) (now (numbers .entry)) (now (bytes .entry)) k)) r (lent (now (images .exit)) kept (now (numbers .exit)) (now (bytes .exit))) (now (out .exit))) ⌝ }
+{
+    let s = b.settings;
+    let brick = bench_sent::brick_at(numbers, k);
+    if s.n <= brick {
+        return refuse(b, 3, at, out);
+    }
+    let up = b.up;
+    if up[brick] != 1 {
+        return After { bench: b, used: at };
+    }
+    let msg = bench_sent::message_at(numbers, bytes, k);
+    if may_send(msg.kind, b.sent) {} else {
+        return refuse(b, 12, at, out);
+    }
+    let mut block = [0u8; 8];
+    let size = s.size;
+    deliver_with(
+        b,
+        k,
+        brick,
+        msg,
+        &mut block[..size],
+        images,
+        numbers,
+        bytes,
+        at,
+        out,
+    )
+}

@@ -1,5 +1,0 @@
--- The laws of `bench_deliver`, for its own proofs and those of the crates above. No contract cites them.
--- Definitions: Deliver. Laws: AnswerLaws, DeliverLaws.
-pub mod AnswerLaws
-pub mod Deliver
-pub mod DeliverLaws

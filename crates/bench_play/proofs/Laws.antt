@@ -1,3 +1,0 @@
--- The laws of `bench_play`, for its own proofs and those of the crates above. No contract cites them.
--- Definitions: Content, Play, Turning. Laws: TurnLaws.
-pub mod TurnLaws

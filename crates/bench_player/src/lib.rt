@@ -1,0 +1,230 @@
+// Playing the bench's lines (document 01, "The bench") over the proved routines.
+ghost use mathlib.Core.Path.{_≡_};
+ghost use mathlib.Core.Bool.{_||_};
+ghost use mathlib.Core.List.{[], _∷_, _++_};
+ghost use Prim.Native.Nat.{_+_, _≤_};
+ghost use lib.Dec.{eqb};
+ghost use lib.ListN.{length, take};
+ghost use Rattle.bench_carry.specs.Carrying.{Lined};
+ghost use Rattle.bench_player.specs.Lining.{stageOf, lengthsRight, benchRefused, Called};
+ghost use Rattle.bench_player.specs.Lining.{First};
+ghost use Rattle.bench_parse.specs.Lines.{reads};
+ghost use Rattle.bench_parse.specs.Meaning.{lineOf, Sound};
+ghost use Rattle.bench_rules.specs.Play.{plays, waiting};
+ghost use Rattle.bench_rules.specs.Turning.{Lent, lent, worldIn, Ready};
+ghost use Rattle.bench_state.specs.State.{benchRange};
+use bench_carry::carry_all;
+use bench_carry::switch_at;
+use bench_parse::Line;
+use bench_rules::After;
+use bench_state::Bench;
+use settings::Settings;
+
+// A line while no set is accepted: what its bytes read as is given.
+fn play_first(
+    b: Bench,
+    l: Line,
+    line: &[u8],
+    images: &mut [u8],
+    kept: &mut [u8],
+    out: &mut [u8],
+) -> After
+    requires { ⌜ (lineOf l (now line) ≡ reads (now line)) × Sound l (now line) ⌝ }
+    requires { ⌜ (b .settings .n ≡ 0) × (b .sent ≤ 127) ⌝ }
+    requires { ⌜ (length (now images) ≡ 10240) × (length (now kept) ≡ 256) × (length (now out) ≡ 65536) ⌝ }
+    ensures { λ r. ⌜ First (reads (now (line .entry))) (now (out .entry)) r (now (images .exit)) (now (kept .exit)) (now (out .exit)) ⌝ }
+{
+    match l {
+        Line::Set(n, m, size, capacity) => {
+            let s = Settings {
+                n: n as usize,
+                m: m as usize,
+                size: size as usize,
+                capacity: capacity as usize,
+            };
+            let bad = bench_state::bench_refusal(s);
+            if bad != 0 {
+                return bench_rules::refuse(b, 1, 0, out);
+            }
+            let bench = bench_state::set_up(s, images, kept);
+            After { bench, used: 0 }
+        }
+        Line::Write(_, _, _) => bench_rules::refuse(b, 12, 0, out),
+        Line::Read(_, _, _) => bench_rules::refuse(b, 12, 0, out),
+        Line::Carry(_) => bench_rules::refuse(b, 12, 0, out),
+        Line::Crash(_) => bench_rules::refuse(b, 12, 0, out),
+        Line::Down(_) => bench_rules::refuse(b, 12, 0, out),
+        Line::Up(_) => bench_rules::refuse(b, 12, 0, out),
+        Line::Unread => bench_rules::refuse(b, 12, 0, out),
+    }
+}
+
+// A line after an accepted set.
+fn play_next(
+    b: Bench,
+    l: Line,
+    line: &[u8],
+    images: &mut [u8],
+    kept: &mut [u8],
+    numbers: &mut [u64],
+    bytes: &mut [u8],
+    out: &mut [u8],
+) -> After
+    requires { ⌜ (lineOf l (now line) ≡ reads (now line)) × Sound l (now line) ⌝ }
+    requires { ⌜ Ready b (lent (now images) (now kept) (now numbers) (now bytes)) ⌝ }
+    requires { ⌜ length (now out) ≡ 65536 ⌝ }
+    ensures { λ r. ⌜ Lined b (lent (now (images .entry)) (now (kept .entry)) (now (numbers .entry)) (now (bytes .entry))) (now (out .entry)) (plays (b .settings) (worldIn b (lent (now (images .entry)) (now (kept .entry)) (now (numbers .entry)) (now (bytes .entry)))) (reads (now (line .entry)))) r (lent (now (images .exit)) (now (kept .exit)) (now (numbers .exit)) (now (bytes .exit))) (now (out .exit)) ⌝ }
+{
+    match l {
+        Line::Set(_, _, _, _) => bench_rules::refuse(b, 12, 0, out),
+        Line::Write(c, clock, hex) => {
+            bench_start::write_at(b, c, clock, line, hex, kept, numbers, bytes, out)
+        }
+        Line::Read(c, clock, brick) => {
+            bench_start::read_at(b, c, clock, brick, kept, numbers, bytes, out)
+        }
+        Line::Carry(first) => carry_all(b, line, first, images, kept, numbers, bytes, out),
+        Line::Crash(c) => bench_start::crash_at(b, c, kept, numbers, bytes, out),
+        Line::Down(brick) => switch_at(b, brick, 0, out),
+        Line::Up(brick) => switch_at(b, brick, 1, out),
+        Line::Unread => bench_rules::refuse(b, 12, 0, out),
+    }
+}
+
+// The bench after a whole line: a refusal's number, 0 for none, the record, and how many bytes are printed.
+pub struct Outcome {
+    pub refusal: u32,
+    pub bench: Bench,
+    pub used: usize,
+}
+
+// Whether settings are those of no set, or within the bench's limits.
+fn settings_right(s: Settings) -> bool
+    ensures { λ r. ⌜ r ≡ (eqb (s .n) 0 || benchRange s) ⌝ }
+{
+    if s.n == 0 {
+        return true;
+    }
+    bench_state::bench_refusal(s) == 0
+}
+
+// Whether the lent buffers have their lengths.
+fn lengths_right(images: usize, kept: usize, numbers: usize, bytes: usize, out: usize) -> bool
+    ensures { λ r. ⌜ r ≡ lengthsRight images kept numbers bytes out ⌝ }
+{
+    if images != 10240 {
+        return false;
+    }
+    if kept != 256 {
+        return false;
+    }
+    if numbers != 1016 {
+        return false;
+    }
+    if bytes != 3048 {
+        return false;
+    }
+    if out != 65536 {
+        return false;
+    }
+    true
+}
+
+// The refusal of a record and buffers that are no bench's, 0 for none.
+fn bench_refused(
+    b: Bench,
+    images: usize,
+    kept: usize,
+    numbers: usize,
+    bytes: usize,
+    out: usize,
+) -> u32
+    ensures { λ r. ⌜ r ≡ benchRefused b images kept numbers bytes out ⌝ }
+{
+    let s = b.settings;
+    if settings_right(s) {} else {
+        return 1;
+    }
+    if lengths_right(images, kept, numbers, bytes, out) {} else {
+        return 2;
+    }
+    if 127 < b.sent {
+        return 6;
+    }
+    0
+}
+
+// The bench before its first line: no set.
+pub fn no_set() -> Bench
+    ensures { λ r. ⌜ ((l : Lent) → stageOf r l ≡ waiting) ⌝ }
+    ensures { λ r. ⌜ benchRefused r 10240 256 1016 3048 65536 ≡ 0 ⌝ }
+{
+    let none = Settings {
+        n: 0,
+        m: 0,
+        size: 0,
+        capacity: 0,
+    };
+    bench_state::new_bench(none)
+}
+
+// One line, without its newline, as document 01 has it: what is printed stands at the beginning of out. Refused before the line is looked
+// at, with nothing changed: 1 settings past the limits, 2 a length, 6 more messages than 127.
+pub fn play_line(
+    b: Bench,
+    line: &[u8],
+    images: &mut [u8],
+    kept: &mut [u8],
+    numbers: &mut [u64],
+    bytes: &mut [u8],
+    out: &mut [u8],
+) -> Outcome
+    ensures { λ r. ⌜ Called b (lent (now (images .entry)) (now (kept .entry)) (now (numbers .entry)) (now (bytes .entry))) (now (line .entry)) (now (out .entry)) r (lent (now (images .exit)) (now (kept .exit)) (now (numbers .exit)) (now (bytes .exit))) (now (out .exit)) ⌝ }
+{
+    let bad = bench_refused(
+        b,
+        images.len(),
+        kept.len(),
+        numbers.len(),
+        bytes.len(),
+        out.len(),
+    );
+    if bad != 0 {
+        return Outcome {
+            refusal: bad,
+            bench: b,
+            used: 0,
+        };
+    }
+    let l = bench_parse::read_line(line);
+    let s = b.settings;
+    if s.n == 0 {
+        let first = play_first(b, l, line, images, kept, out);
+        let begun = first.bench;
+        return Outcome {
+            refusal: 0,
+            bench: begun,
+            used: first.used,
+        };
+    }
+    let r = play_next(b, l, line, images, kept, numbers, bytes, out);
+    let bench = r.bench;
+    Outcome {
+        refusal: 0,
+        bench,
+        used: r.used,
+    }
+}
+
+// A byte more of a line that has not ended: its first 1,001 bytes are kept, since a longer line reads as nothing anyway.
+pub fn add_byte(line: &mut [u8], held: usize, byte: u8) -> usize
+    requires { ⌜ (held ≤ 1001) × (length (now line) ≡ 1001) ⌝ }
+    ensures { λ r. ⌜ take r (now (line .exit)) ≡ take 1001 (take held (now (line .entry)) ++ byte ∷ []) ⌝ }
+    ensures { λ r. ⌜ r ≤ 1001 ⌝ }
+{
+    if 1001 <= held {
+        return held;
+    }
+    line[held] = byte;
+    held + 1
+}

@@ -1,0 +1,21 @@
+// The bench's turns (document 01, "The bench"): the answer of a part of a line, and the short ways: one refusal, or nothing.
+ghost use Prim.Native.Nat.{_+_, _≤_};
+ghost use lib.ListN.{length};
+ghost use Rattle.bench_rules.specs.Play.{refuses};
+ghost use Rattle.bench_rules.specs.Turning.{Lent, worldIn, Turned};
+use bench_state::Bench;
+
+// The bench after a line or a part of one, and how many bytes of the printed text's buffer are used.
+pub struct After {
+    pub bench: Bench,
+    pub used: usize,
+}
+
+// One refusal, printed.
+pub fn refuse(b: Bench, number: u32, at: usize, out: &mut [u8]) -> After
+    requires { ⌜ (b .sent ≤ 127) × (at + 128 ≤ length (now out)) ⌝ }
+    ensures { λ r. ⌜ ((l : Lent) → Turned b l at (now (out .entry)) (refuses (worldIn b l) number) r l (now (out .exit))) ⌝ }
+{
+    let used = bench_print::put_refused(number, at, out);
+    After { bench: b, used }
+}

@@ -1,0 +1,155 @@
+// What a message asks of a brick's log: the place of a block, the time found, the entries that a Trim drops (document 01, "What a brick does").
+ghost use mathlib.Core.Path.{_≡_};
+ghost use mathlib.Core.Bool.{_&&_};
+ghost use Prim.Native.Nat.{_≤_, _<_};
+ghost use lib.Dec.{leb, ltb};
+ghost use Rattle.message.specs.Flags.{member};
+ghost use Rattle.brick_log.specs.Plans.{Cut, underIn, lookedIn, planIn, readPlace, Planned};
+use image::Entry;
+use image::place_of;
+use message::Message;
+use message::ORDER_READ;
+use message::READ;
+use message::TRIM;
+
+// What is known of an opened brick: how many entries, its promise and its newest time.
+pub struct Known {
+    pub count: usize,
+    pub promise: u64,
+    pub newest: u64,
+}
+
+// The answer of a lookup: the entry that was found, or none.
+enum Looked {
+    Under(Entry),
+    Nothing,
+}
+
+// What a message asks for, found in the working log: the block that goes with the reply, by its number in the image, 0 for none;
+// the time that the reply names; the entries that a Trim drops.
+pub struct Plan {
+    pub place: usize,
+    pub found: u64,
+    pub cut: usize,
+}
+
+// Whether an Order of that time is granted.
+pub fn order_yes(newest: u64, promise: u64, time: u64) -> bool
+    ensures { λ r. ⌜ r ≡ ltb newest time && leb promise time ⌝ }
+{
+    if newest < time {
+        return promise <= time;
+    }
+    false
+}
+
+// How many entries a Trim drops: those under its time, other than the newest.
+fn cut_for(log: [Entry; 32], count: usize, time: u64) -> usize
+    requires { ⌜ (1 ≤ count) × (count ≤ 32) ⌝ }
+    ensures { λ r. ⌜ Cut log count time r ⌝ }
+{
+    let last = count - 1;
+    let mut d: usize = 0;
+    while d < last {
+        let e = log[d];
+        if time <= e.time {
+            return d;
+        }
+        d += 1;
+    }
+    d
+}
+
+// The highest entry under max.
+fn look_under(log: [Entry; 32], count: usize, max: u64) -> Looked
+    requires { ⌜ count ≤ 32 ⌝ }
+    ensures { λ r. ⌜ r ≡ lookedIn log (underIn log max count) ⌝ }
+{
+    let mut n = count;
+    while 0 < n {
+        let i = n - 1;
+        let e = log[i];
+        if e.time < max {
+            return Looked::Under(e);
+        }
+        n = i;
+    }
+    Looked::Nothing
+}
+
+// The block and the time of the entry that a lookup gave, 0 for none.
+fn entry_plan(found: Looked) -> Plan
+    ensures { λ r. ⌜ r ≡ planIn found ⌝ }
+{
+    let Looked::Under(e) = found else {
+        return Plan {
+            place: 0,
+            found: 0,
+            cut: 0,
+        };
+    };
+    let h = e.holding;
+    Plan {
+        place: place_of(h),
+        found: e.time,
+        cut: 0,
+    }
+}
+
+// Whether a brick is a target.
+fn is_target(targets: [u8; 16], brick: usize) -> bool
+    requires { ⌜ brick < 16 ⌝ }
+    ensures { λ r. ⌜ r ≡ member targets brick ⌝ }
+{
+    targets[brick] == 1
+}
+
+// The newest block, where Read is granted and the brick is a target; else 0.
+fn read_place(k: Known, targets: [u8; 16], brick: usize) -> usize
+    requires { ⌜ brick < 16 ⌝ }
+    ensures { λ r. ⌜ r ≡ readPlace k targets brick ⌝ }
+{
+    if k.newest < k.promise {
+        return 0;
+    }
+    if is_target(targets, brick) {
+        return k.count;
+    }
+    0
+}
+
+// What a message asks for.
+pub fn plan_for(log: [Entry; 32], k: Known, msg: Message, brick: usize) -> Plan
+    requires { ⌜ (1 ≤ k .count) × (k .count ≤ 32) ⌝ }
+    requires { ⌜ brick < 16 ⌝ }
+    ensures { λ r. ⌜ Planned log k msg brick r ⌝ }
+{
+    if msg.kind == TRIM {
+        let d = cut_for(log, k.count, msg.time);
+        return Plan {
+            place: 0,
+            found: 0,
+            cut: d,
+        };
+    }
+    if msg.kind == READ {
+        let targets = msg.targets;
+        let p = read_place(k, targets, brick);
+        return Plan {
+            place: p,
+            found: k.newest,
+            cut: 0,
+        };
+    }
+    if msg.kind == ORDER_READ {
+        if order_yes(k.newest, k.promise, msg.time) {
+            let looked = look_under(log, k.count, msg.max);
+            return entry_plan(looked);
+        }
+    }
+    Plan {
+        place: 0,
+        found: 0,
+        cut: 0,
+    }
+}

@@ -1,3 +1,0 @@
--- The laws of `brick_probe`, for its own proofs and those of the crates above. No contract cites them.
--- Definitions: Numbers. Laws: NumberLaws.
-pub mod NumberLaws

@@ -1,0 +1,26 @@
+use Rattle.byte_lists.proofs.Laws.LittleLaws.{number-8}
+use borrow.Author.Needs.{needs}
+use Rattle.byte_lists.proofs.read8.Statement.{statement}
+use Rattle.byte_lists.proofs.read8.Tie as tie
+
+read4-requires : tie.Need-read4-requires
+read4-requires c κs = search needs
+
+add-read4 : tie.Need-add-read4
+add-read4 c = search needs
+
+read4-requires-2 : tie.Need-read4-requires-2
+read4-requires-2 c κs = search needs
+
+mul-result : tie.Need-mul-result
+mul-result c = search needs
+
+add-result : tie.Need-add-result
+add-result c = search needs
+
+returns : tie.Need-returns
+returns c = search (needs, number-8)
+
+pub read8-spec : {M : Type 1} → statement M
+read8-spec =
+    tie.close (tie.spec read4-requires add-read4 read4-requires-2 mul-result add-result returns)

@@ -1,5 +1,0 @@
--- The laws of `coord_acts`, for its own proofs and those of the crates above. No contract cites them.
--- Definitions: Steps, Acts. Laws and theorems: the others.
-pub mod ActLaws
-pub mod BufferLaws
-pub mod Steps

@@ -1,0 +1,14 @@
+use Rattle.coord_apply.specs.Acts.{endAnswer}
+use borrow.Author.Needs.{needs}
+use Rattle.coord_apply.proofs.end.Statement.{statement}
+use Rattle.coord_apply.proofs.end.Tie as tie
+
+idle-with-requires : tie.Need-idle-with-requires
+idle-with-requires c κs = search needs
+
+returns : tie.Need-returns
+unfolding endAnswer
+returns c = cc
+
+pub end-spec : {M : Type 1} → statement M
+end-spec = tie.close (tie.spec idle-with-requires returns)

@@ -1,0 +1,21 @@
+use mathlib.Core.Path.{refl}
+use Rattle.coord_apply.proofs.Laws.ActLaws.{end-by}
+use borrow.Author.Needs.{needs}
+use Rattle.coord_apply.proofs.finish.Statement.{statement}
+use Rattle.coord_apply.proofs.finish.Tie as tie
+
+finished-seen-requires : tie.Need-finished-seen-requires
+finished-seen-requires c κs = search needs
+
+trim-message-requires : tie.Need-trim-message-requires
+trim-message-requires c κs = search needs
+
+end-requires : tie.Need-end-requires
+end-requires c κs = search needs
+
+returns : tie.Need-returns
+returns c = end-by _ _ _ _ _ _ _ _ _ (c .end .ensures) (c .before .before .finished-seen .ensures) refl (c .before .trim-message .ensures)
+
+pub finish-spec : {M : Type 1} → statement M
+finish-spec =
+    tie.close (tie.spec finished-seen-requires trim-message-requires end-requires returns)

@@ -1,0 +1,10 @@
+use Rattle.coord_apply.specs.Acts.{roundMessage}
+use Rattle.coord_apply.proofs.round_message.Statement.{statement}
+use Rattle.coord_apply.proofs.round_message.Tie as tie
+
+returns : tie.Need-returns
+unfolding roundMessage
+returns c = cc
+
+pub round-message-spec : {M : Type 1} → statement M
+round-message-spec = tie.close (tie.spec returns)

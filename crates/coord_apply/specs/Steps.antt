@@ -1,0 +1,90 @@
+-- What one event at a coordinator gives: a refusal, or the later coordinator, a list of broadcasts to all n bricks, and what is seen.
+use mathlib.Core.Bool.{cond}
+use mathlib.Core.List.{List, [], _∷_}
+use Prim.Native.Nat.{ℕ}
+use lib.Dec.{eqb, leb}
+use Rattle.coord_record.specs.Records.{noBricks}
+use Rattle.coord_record.specs.declared.Coordinator.{Coordinator}
+use Rattle.coord_apply.specs.declared.Answer.{Answer}
+use Rattle.coord_apply.specs.declared.Seen.{Seen}
+use Rattle.message.specs.Kinds.{writeKind}
+use Rattle.message.specs.declared.Message.{Message}
+
+-- A coordinator with what it keeps in lent buffers: the blocks of the replies, brick b's at b × size, and the stripe.
+pub record Held : Type 0 where
+  pub state : Coordinator
+  pub blocks : List ℕ
+  pub stripe : List ℕ
+
+-- One message to each of the n bricks; a Write round has a block for each, n blocks in a row.
+pub record Broadcast : Type 0 where
+  pub message : Message
+  pub blocks : List ℕ
+
+pub record Went : Type 0 where
+  pub next : Held
+  pub sent : List Broadcast
+  pub seen : Seen
+
+pub data Step : Type 0 where
+  refused : ℕ → Step
+  went : Went → Step
+
+-- "A refusal returns its number alone": the checks come first
+unfoldable pub checked : ℕ → Step → Step
+checked number step = cond (leb number 0) step (refused number)
+
+-- What is seen: nothing, the beginning of an operation, or its end: ok, the stripe read, aborted, cut.
+abbrev pub beganSeen : ℕ
+beganSeen = 1
+
+abbrev pub okSeen : ℕ
+okSeen = 2
+
+abbrev pub readSeen : ℕ
+readSeen = 3
+
+abbrev pub abortedSeen : ℕ
+abortedSeen = 4
+
+abbrev pub cutSeen : ℕ
+cutSeen = 5
+
+unfoldable pub nothingSeen : Seen
+nothingSeen = record { what = 0; kind = 0; time = 0; bricks = noBricks }
+
+unfoldable pub noMessage : Message
+noMessage = record { kind = 0; time = 0; round = 0; max = 0; targets = noBricks }
+
+-- how many broadcasts there are, and the message of the first
+unfoldable pub sentCount : List Broadcast → ℕ
+sentCount [] = 0
+sentCount (b ∷ rest) = 1
+
+unfoldable pub sentMessage : List Broadcast → Message
+sentMessage [] = noMessage
+sentMessage (b ∷ rest) = b .message
+
+-- what the output buffer holds then: the n blocks of a Write round, or what it held
+unfoldable pub sentBlocks : List Broadcast → List ℕ → List ℕ
+sentBlocks [] old = old
+sentBlocks (b ∷ rest) old = cond (eqb (b .message .kind) writeKind) (b .blocks) old
+
+-- the answer of a routine at a coordinator
+unfoldable pub answerOf : Coordinator → Step → Answer
+answerOf c (refused number) = record { refusal = number; next = c; sent = 0; message = noMessage; seen = nothingSeen }
+answerOf c (went w) =
+    record { refusal = 0; next = w .next .state; sent = sentCount (w .sent); message = sentMessage (w .sent); seen = w .seen }
+
+-- the lent buffers after it: a refusal leaves them
+unfoldable pub blocksAfter : Held → Step → List ℕ
+blocksAfter h (refused number) = h .blocks
+blocksAfter h (went w) = w .next .blocks
+
+unfoldable pub stripeAfter : Held → Step → List ℕ
+stripeAfter h (refused number) = h .stripe
+stripeAfter h (went w) = w .next .stripe
+
+unfoldable pub codedAfter : List ℕ → Step → List ℕ
+codedAfter old (refused number) = old
+codedAfter old (went w) = sentBlocks (w .sent) old

@@ -1,3 +1,0 @@
--- The laws of `coord_checks`, for its own proofs and those of the crates above. No contract cites them.
--- Definitions: Checks. Laws: CheckLaws.
-pub mod CheckLaws

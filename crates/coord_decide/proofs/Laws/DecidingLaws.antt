@@ -1,0 +1,121 @@
+-- The ways through a decision: the callees' results as variables.
+use mathlib.Core.Path.{_≡_}
+use mathlib.Core.Bool.{Bool, true, false}
+use Prim.Native.Nat.{ℕ, _≤_, _<_}
+use lib.ListN.{getD}
+use borrow.Author.Tests.{eq-eqb, ne-eqb, le-leb, lt-leb, lt-ltb, le-ltb}
+use Rattle.settings.specs.Each.{some}
+use Rattle.coord_record.specs.Rules.{isTarget, blockRight}
+use Rattle.coord_record.specs.declared.Op.{Op}
+use Rattle.coord_record.specs.declared.Tally.{Tally}
+use Rattle.coord_tally.specs.Counting.{saidNo, otherTime, missing, highest, atTimes}
+use Rattle.coord_decide.specs.Deciding.{answers, decidedRead, unlessSpent, decidedAt, decidedRecovery, decided}
+use Rattle.coord_decide.specs.declared.Decision.{Decision}
+use Rattle.coord_decide.specs.declared.Decision.the-variants.{Abort, Give, Look, Store, Recover, Finish}
+use Rattle.message.specs.Flags.{member, members}
+use Rattle.message.specs.declared.Reply.{Reply}
+use Rattle.settings.specs.Count.{count}
+use Rattle.settings.specs.Times.{noUpperEnd}
+
+-- a reply that answers, test by test
+module _ (n m : ℕ) (op : Op) (t : Tally) (r : Reply) where
+  pub other-kind : (r .kind ≡ op .phase → ⊥) → false ≡ answers n m op t r
+  unfolding answers
+  other-kind a = rw (ne-eqb (r .kind) (op .phase) a)
+
+  pub other-operation : r .kind ≡ op .phase → (r .time ≡ op .time → ⊥) → false ≡ answers n m op t r
+  unfolding answers
+  other-operation a b = rw (eq-eqb (r .kind) (op .phase) a, ne-eqb (r .time) (op .time) b)
+
+  pub other-round : r .kind ≡ op .phase → r .time ≡ op .time → (r .round ≡ op .round → ⊥) → false ≡ answers n m op t r
+  unfolding answers
+  other-round a b d = rw (eq-eqb (r .kind) (op .phase) a, eq-eqb (r .time) (op .time) b, ne-eqb (r .round) (op .round) d)
+
+  pub counted-before : r .kind ≡ op .phase → r .time ≡ op .time → r .round ≡ op .round → getD (t .counted) (r .brick) 0 ≡ 1 → false ≡ answers n m op t r
+  unfolding answers member
+  counted-before a b d e =
+      rw (eq-eqb (r .kind) (op .phase) a, eq-eqb (r .time) (op .time) b, eq-eqb (r .round) (op .round) d, eq-eqb (getD (t .counted) (r .brick) 0) 1 e)
+
+  pub answers-by : (g v : Bool) → r .kind ≡ op .phase → r .time ≡ op .time → r .round ≡ op .round → (getD (t .counted) (r .brick) 0 ≡ 1 → ⊥)
+      → g ≡ isTarget n m (op .first) (r .brick) → v ≡ blockRight (op .phase) g (r .yes) (r .held) (r .found) → v ≡ answers n m op t r
+  unfolding answers member
+  answers-by g v a b d e eg ev =
+      rw (eq-eqb (r .kind) (op .phase) a, eq-eqb (r .time) (op .time) b, eq-eqb (r .round) (op .round) d, ne-eqb (getD (t .counted) (r .brick) 0) 1 e, ← eg) ev
+
+-- a Read round
+module _ (n m : ℕ) (op : Op) (t : Tally) where
+  pub read-no : (a : Bool) → a ≡ some (saidNo (t .counted) (t .granted)) n → a ≡ true → Look noUpperEnd ≡ decidedRead n m op t
+  unfolding decidedRead
+  read-no a ea za = rw (← ea, za)
+
+  pub read-other : (a b : Bool) (h : ℕ) → a ≡ some (saidNo (t .counted) (t .granted)) n → a ≡ false → h ≡ highest (t .counted) (t .found) n
+      → b ≡ some (otherTime (t .counted) (t .found) h) n → b ≡ true → Look noUpperEnd ≡ decidedRead n m op t
+  unfolding decidedRead
+  read-other a b h ea za eh eb zb = rw (← ea, za, ← eh, ← eb, zb)
+
+  pub read-missing : (a b d : Bool) (h : ℕ) → a ≡ some (saidNo (t .counted) (t .granted)) n → a ≡ false → h ≡ highest (t .counted) (t .found) n
+      → b ≡ some (otherTime (t .counted) (t .found) h) n → b ≡ false → d ≡ some (missing n m (op .first) (t .counted)) n → d ≡ true
+      → Look noUpperEnd ≡ decidedRead n m op t
+  unfolding decidedRead
+  read-missing a b d h ea za eh eb zb ed zd = rw (← ea, za, ← eh, ← eb, zb, ← ed, zd)
+
+  pub read-whole : (a b d : Bool) (h : ℕ) → a ≡ some (saidNo (t .counted) (t .granted)) n → a ≡ false → h ≡ highest (t .counted) (t .found) n
+      → b ≡ some (otherTime (t .counted) (t .found) h) n → b ≡ false → d ≡ some (missing n m (op .first) (t .counted)) n → d ≡ false
+      → Give ≡ decidedRead n m op t
+  unfolding decidedRead
+  read-whole a b d h ea za eh eb zb ed zd = rw (← ea, za, ← eh, ← eb, zb, ← ed, zd)
+
+-- an Order-and-read round
+module _ (n m round : ℕ) (t : Tally) (time k : ℕ) (ek : k ≡ count (atTimes (t .held) (t .found) time) n) where
+  pub at-recover : m ≤ k → round < 1000 → Recover time ≡ decidedAt n m round t time
+  unfolding decidedAt unlessSpent
+  at-recover a b = rw (← ek, le-leb m k a, lt-ltb round 1000 b)
+
+  pub at-recover-spent : m ≤ k → 1000 ≤ round → Abort ≡ decidedAt n m round t time
+  unfolding decidedAt unlessSpent
+  at-recover-spent a b = rw (← ek, le-leb m k a, le-ltb round 1000 b)
+
+  pub at-zero : k < m → time ≡ 0 → Abort ≡ decidedAt n m round t time
+  unfolding decidedAt unlessSpent
+  at-zero a b = rw (← ek, lt-leb m k a, eq-eqb time 0 b)
+
+  pub at-look : k < m → (time ≡ 0 → ⊥) → round < 1000 → Look time ≡ decidedAt n m round t time
+  unfolding decidedAt unlessSpent
+  at-look a b d = rw (← ek, lt-leb m k a, ne-eqb time 0 b, lt-ltb round 1000 d)
+
+  pub at-look-spent : k < m → (time ≡ 0 → ⊥) → 1000 ≤ round → Abort ≡ decidedAt n m round t time
+  unfolding decidedAt unlessSpent
+  at-look-spent a b d = rw (← ek, lt-leb m k a, ne-eqb time 0 b, le-ltb round 1000 d)
+
+-- any round
+module _ (n m : ℕ) (op : Op) (t : Tally) where
+  pub decide-first : (d : Decision) → op .phase ≡ 1 → d ≡ decidedRead n m op t → d ≡ decided n m op t
+  unfolding decided
+  decide-first d p e = rw (eq-eqb (op .phase) 1 p) e
+
+  pub decide-no : (a : Bool) → (op .phase ≡ 1 → ⊥) → a ≡ some (saidNo (t .counted) (t .granted)) n → a ≡ true → Abort ≡ decided n m op t
+  unfolding decided
+  decide-no a p ea za = rw (ne-eqb (op .phase) 1 p, ← ea, za)
+
+  pub decide-ordered : (a : Bool) → (op .phase ≡ 1 → ⊥) → a ≡ some (saidNo (t .counted) (t .granted)) n → a ≡ false → op .phase ≡ 2
+      → Store ≡ decided n m op t
+  unfolding decided
+  decide-ordered a p ea za q = rw (ne-eqb (op .phase) 1 p, ← ea, za, eq-eqb (op .phase) 2 q)
+
+  pub decide-empty : (a : Bool) (k : ℕ) → (op .phase ≡ 1 → ⊥) → a ≡ some (saidNo (t .counted) (t .granted)) n → a ≡ false → (op .phase ≡ 2 → ⊥)
+      → op .phase ≡ 3 → k ≡ members (t .held) n → k ≡ 0 → Abort ≡ decided n m op t
+  unfolding decided decidedRecovery
+  decide-empty a k p ea za q w ek zk =
+      rw (ne-eqb (op .phase) 1 p, ← ea, za, ne-eqb (op .phase) 2 q, eq-eqb (op .phase) 3 w, ← ek, eq-eqb k 0 zk)
+
+  pub decide-found : (a : Bool) (k h : ℕ) (d : Decision) → (op .phase ≡ 1 → ⊥) → a ≡ some (saidNo (t .counted) (t .granted)) n → a ≡ false
+      → (op .phase ≡ 2 → ⊥) → op .phase ≡ 3 → k ≡ members (t .held) n → (k ≡ 0 → ⊥) → h ≡ highest (t .held) (t .found) n
+      → d ≡ decidedAt n m (op .round) t h → d ≡ decided n m op t
+  unfolding decided decidedRecovery
+  decide-found a k h d p ea za q w ek zk eh ed =
+      rw (ne-eqb (op .phase) 1 p, ← ea, za, ne-eqb (op .phase) 2 q, eq-eqb (op .phase) 3 w, ← ek, ne-eqb k 0 zk, ← eh) ed
+
+  pub decide-stored : (a : Bool) → (op .phase ≡ 1 → ⊥) → a ≡ some (saidNo (t .counted) (t .granted)) n → a ≡ false → (op .phase ≡ 2 → ⊥)
+      → (op .phase ≡ 3 → ⊥) → Finish ≡ decided n m op t
+  unfolding decided
+  decide-stored a p ea za q w = rw (ne-eqb (op .phase) 1 p, ← ea, za, ne-eqb (op .phase) 2 q, ne-eqb (op .phase) 3 w)

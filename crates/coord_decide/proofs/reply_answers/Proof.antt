@@ -1,0 +1,41 @@
+use Rattle.coord_decide.proofs.Laws.DecidingLaws.{other-kind, other-operation, other-round, counted-before, answers-by}
+use borrow.Author.Needs.{needs}
+use Rattle.coord_decide.proofs.reply_answers.Statement.{statement}
+use Rattle.coord_decide.proofs.reply_answers.Tie as tie
+
+returns : tie.Need-returns
+returns c = search (needs, other-kind)
+
+returns-2 : tie.Need-returns-2
+returns-2 c = search (needs, other-operation)
+
+returns-3 : tie.Need-returns-3
+returns-3 c = search (needs, other-round)
+
+array-read-if4 : tie.Need-array-read-if4
+array-read-if4 c = search needs
+
+returns-4 : tie.Need-returns-4
+returns-4 c = search (needs, counted-before)
+
+is-target-requires : tie.Need-is-target-requires
+is-target-requires c κs = search needs
+
+block-right-requires : tie.Need-block-right-requires
+block-right-requires c κs = search needs
+
+returns-5 : tie.Need-returns-5
+returns-5 c = search (needs, answers-by)
+
+pub reply-answers-spec : {M : Type 1} → statement M
+reply-answers-spec =
+    tie.close
+    (tie.spec
+    returns
+    returns-2
+    returns-3
+    array-read-if4
+    returns-4
+    is-target-requires
+    block-right-requires
+    returns-5)

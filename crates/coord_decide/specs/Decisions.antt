@@ -1,0 +1,68 @@
+-- What each decision says of the round that was decided: the run's proof reads these.
+use mathlib.Core.Path.{_≡_}
+use mathlib.Core.Bool.{false}
+use mathlib.Core.Logic.{_⊎_}
+use Prim.Native.Nat.{ℕ, _≤_, _<_}
+use Rattle.settings.specs.Each.{some}
+use Rattle.coord_record.specs.declared.Op.{Op}
+use Rattle.coord_record.specs.declared.Tally.{Tally}
+use Rattle.coord_tally.specs.Counting.{saidNo, otherTime, missing, highest, atTimes}
+use Rattle.coord_decide.specs.declared.Decision.{Decision}
+use Rattle.coord_decide.specs.declared.Decision.the-variants.{Abort, Give, Look, Store, Recover, Finish}
+use Rattle.message.specs.Flags.{members}
+use Rattle.settings.specs.Count.{count}
+use Rattle.settings.specs.Times.{noUpperEnd}
+
+-- no counted brick said no
+unfoldable pub AllYes : ℕ → Tally → Type 0
+AllYes n t = some (saidNo (t .counted) (t .granted)) n ≡ false
+
+-- the highest time found among the replies that hold a block, and how many of them found a time
+unfoldable pub found-time : ℕ → Tally → ℕ
+found-time n t = highest (t .held) (t .found) n
+
+unfoldable pub holders : ℕ → Tally → ℕ → ℕ
+holders n t time = count (atTimes (t .held) (t .found) time) n
+
+pub record Gives (n m : ℕ) (op : Op) (t : Tally) : Type 0 where
+  pub phase-is : op .phase ≡ 1
+  pub all-yes : AllYes n t
+  pub one-time : some (otherTime (t .counted) (t .found) (highest (t .counted) (t .found) n)) n ≡ false
+  pub targets-in : some (missing n m (op .first) (t .counted)) n ≡ false
+
+pub record Stores (n m : ℕ) (op : Op) (t : Tally) : Type 0 where
+  pub phase-is : op .phase ≡ 2
+  pub all-yes : AllYes n t
+
+pub record Recovers (n m : ℕ) (op : Op) (t : Tally) (time : ℕ) : Type 0 where
+  pub phase-is : op .phase ≡ 3
+  pub all-yes : AllYes n t
+  pub some-held : members (t .held) n ≡ 0 → ⊥
+  pub time-is : time ≡ found-time n t
+  pub enough : m ≤ holders n t time
+  pub round-low : op .round < 1000
+
+-- a further recovery round: the highest time found is the new max
+pub record Lowers (n m : ℕ) (op : Op) (t : Tally) (time : ℕ) : Type 0 where
+  pub phase-is : op .phase ≡ 3
+  pub all-yes : AllYes n t
+  pub some-held : members (t .held) n ≡ 0 → ⊥
+  pub time-is : time ≡ found-time n t
+  pub too-few : holders n t time < m
+  pub not-first : time ≡ 0 → ⊥
+  pub round-low : op .round < 1000
+
+pub record Finishes (n m : ℕ) (op : Op) (t : Tally) : Type 0 where
+  pub not-read : op .phase ≡ 1 → ⊥
+  pub not-order : op .phase ≡ 2 → ⊥
+  pub not-recovery : op .phase ≡ 3 → ⊥
+  pub all-yes : AllYes n t
+
+-- What a decision says.
+unfoldable pub Says : ℕ → ℕ → Op → Tally → Decision → Type 0
+Says n m op t Abort = Unit {0}
+Says n m op t Give = Gives n m op t
+Says n m op t (Look max) = ((op .phase ≡ 1) × (max ≡ noUpperEnd)) ⊎ Lowers n m op t max
+Says n m op t Store = Stores n m op t
+Says n m op t (Recover time) = Recovers n m op t time
+Says n m op t Finish = Finishes n m op t

@@ -1,0 +1,160 @@
+// The rounds of a coordinator (document 01, "What a coordinator does"): which replies count, and what the q-th decides.
+ghost use mathlib.Core.Path.{_≡_};
+ghost use Prim.Native.Nat.{_≤_, _<_};
+ghost use Rattle.coord_decide.specs.Deciding.{answers, tallied, decidedRead, decidedAt, decided};
+ghost use Rattle.settings.specs.Count.{one-if};
+use coord_tally::any_missing;
+use coord_tally::any_no;
+use coord_tally::any_other;
+use coord_tally::count_at;
+use coord_tally::highest_of;
+use coord_record::Op;
+use coord_record::Tally;
+use message::ORDER;
+use message::ORDER_READ;
+use message::READ;
+use message::Reply;
+
+// What the q-th reply of a round decides.
+pub enum Decision {
+    // ended aborted
+    Abort,
+    // a read of one round: decode from the targets and answer
+    Give,
+    // an Order-and-read round with this max
+    Look(u64),
+    // the Write round of a write
+    Store,
+    // decode from bricks that gave this time, then the Write round
+    Recover(u64),
+    // the Write round is finished: answer, and Trim
+    Finish,
+}
+
+// 1 for true.
+fn flag_of(x: bool) -> u8
+    ensures { λ r. ⌜ r ≡ one-if x ⌝ }
+{
+    if x {
+        return 1;
+    }
+    0
+}
+
+// The tally with a reply counted.
+pub fn tally_with(t: Tally, reply: Reply) -> Tally
+    requires { ⌜ reply .brick < 16 ⌝ }
+    ensures { λ r. ⌜ r ≡ tallied t reply ⌝ }
+{
+    let b = reply.brick;
+    let mut counted = t.counted;
+    let mut granted = t.granted;
+    let mut held = t.held;
+    let mut found = t.found;
+    counted[b] = 1;
+    granted[b] = flag_of(reply.yes);
+    held[b] = flag_of(reply.held);
+    found[b] = reply.found;
+    Tally {
+        counted,
+        granted,
+        held,
+        found,
+    }
+}
+
+// Whether a reply is of the running operation and round, of a brick not counted, with a block by the round's rules.
+pub fn reply_answers(n: usize, m: usize, op: Op, t: Tally, reply: Reply) -> bool
+    requires { ⌜ op .first ≤ n ⌝ }
+    requires { ⌜ reply .brick < 16 ⌝ }
+    ensures { λ r. ⌜ r ≡ answers n m op t reply ⌝ }
+{
+    let b = reply.brick;
+    let counted = t.counted;
+    if reply.kind != op.phase {
+        return false;
+    }
+    if reply.time != op.time {
+        return false;
+    }
+    if reply.round != op.round {
+        return false;
+    }
+    if counted[b] == 1 {
+        return false;
+    }
+    let target = coord_record::is_target(n, m, op.first, b);
+    coord_record::block_right(op.phase, target, reply.yes, reply.held, reply.found)
+}
+
+// What the q-th reply of a Read round decides.
+fn decide_read(n: usize, m: usize, op: Op, t: Tally) -> Decision
+    requires { ⌜ n ≤ 16 ⌝ }
+    requires { ⌜ op .first < n ⌝ }
+    ensures { λ r. ⌜ r ≡ decidedRead n m op t ⌝ }
+{
+    let counted = t.counted;
+    let granted = t.granted;
+    let found = t.found;
+    if any_no(counted, granted, n) {
+        return Decision::Look(settings::NO_UPPER_END);
+    }
+    let newest = highest_of(counted, found, n);
+    if any_other(counted, found, newest, n) {
+        return Decision::Look(settings::NO_UPPER_END);
+    }
+    if any_missing(n, m, op.first, counted) {
+        return Decision::Look(settings::NO_UPPER_END);
+    }
+    Decision::Give
+}
+
+// What the q-th reply of an Order-and-read round decides, where a block is held and this is the highest time found.
+fn decide_at(n: usize, m: usize, round: u64, t: Tally, time: u64) -> Decision
+    requires { ⌜ n ≤ 16 ⌝ }
+    ensures { λ r. ⌜ r ≡ decidedAt n m round t time ⌝ }
+{
+    let held = t.held;
+    let found = t.found;
+    if m <= count_at(held, found, time, n) {
+        if round < message::LAST_ROUND {
+            return Decision::Recover(time);
+        }
+        return Decision::Abort;
+    }
+    if time == 0 {
+        return Decision::Abort;
+    }
+    if round < message::LAST_ROUND {
+        return Decision::Look(time);
+    }
+    Decision::Abort
+}
+
+// What the q-th reply of a round decides.
+pub fn decide(n: usize, m: usize, op: Op, t: Tally) -> Decision
+    requires { ⌜ n ≤ 16 ⌝ }
+    requires { ⌜ op .first < n ⌝ }
+    ensures { λ r. ⌜ r ≡ decided n m op t ⌝ }
+{
+    if op.phase == READ {
+        return decide_read(n, m, op, t);
+    }
+    let counted = t.counted;
+    let granted = t.granted;
+    if any_no(counted, granted, n) {
+        return Decision::Abort;
+    }
+    if op.phase == ORDER {
+        return Decision::Store;
+    }
+    if op.phase == ORDER_READ {
+        let held = t.held;
+        let found = t.found;
+        if message::members_of(held, n) == 0 {
+            return Decision::Abort;
+        }
+        return decide_at(n, m, op.round, t, highest_of(held, found, n));
+    }
+    Decision::Finish
+}

@@ -1,0 +1,23 @@
+use Rattle.coord_refusals.proofs.Laws.CheckLaws.{read-code, read-first, read-start, few-bricks}
+use borrow.Author.Needs.{needs}
+use Rattle.coord_refusals.proofs.read_refusal.Statement.{statement}
+use Rattle.coord_refusals.proofs.read_refusal.Tie as tie
+
+code-refusal-requires : tie.Need-code-refusal-requires
+code-refusal-requires c κs = search needs
+
+returns : tie.Need-returns
+returns c = search (needs, read-code)
+
+returns-2 : tie.Need-returns-2
+returns-2 c = search (needs, read-first)
+
+start-refusal-requires : tie.Need-start-refusal-requires
+start-refusal-requires c κs = few-bricks _ _ _ _ (c .before .before .code-refusal .ensures) (c .before .if1 .left)
+
+returns-3 : tie.Need-returns-3
+returns-3 c = search (needs, read-start)
+
+pub read-refusal-spec : {M : Type 1} → statement M
+read-refusal-spec =
+    tie.close (tie.spec code-refusal-requires returns returns-2 start-refusal-requires returns-3)

@@ -1,0 +1,182 @@
+// What a coordinator's routines refuse, before anything changes (document 01, "Refused by number, lowest first").
+ghost use mathlib.Core.Path.{_≡_};
+ghost use mathlib.Core.Bool.{true};
+ghost use mathlib.Core.List.{[]};
+ghost use Prim.Native.Nat.{_*_, _≤_, _<_};
+ghost use Rattle.coord_refusals.specs.Checks.{recordChecks, startChecks, writeRefusal, readRefusal, lengthsRight, strayChecks, takeRefusal, crashRefusal};
+ghost use Rattle.settings.specs.Ranges.{CodeRange};
+ghost use Rattle.settings.specs.Refusal.{firstRefusal};
+use coord_record::Coordinator;
+use coord_record::IDLE;
+use message::Reply;
+
+// 3 for a coordinator number above 15, 6 for a record that is not sound, else 0.
+fn record_refusal(n: usize, m: usize, c: Coordinator) -> u32
+    requires { ⌜ n ≤ 16 ⌝ }
+    ensures { λ r. ⌜ r ≡ firstRefusal (recordChecks n m c []) ⌝ }
+{
+    let clock = c.clock;
+    if 15 < clock.coordinator {
+        return 3;
+    }
+    if c.sound(n, m) {
+        return 0;
+    }
+    6
+}
+
+// What every start asks of the coordinator.
+fn start_refusal(n: usize, m: usize, c: Coordinator, reading: u64) -> u32
+    requires { ⌜ n ≤ 16 ⌝ }
+    ensures { λ r. ⌜ r ≡ firstRefusal (startChecks n m c reading) ⌝ }
+{
+    let broken = record_refusal(n, m, c);
+    if broken != 0 {
+        return broken;
+    }
+    let clock = c.clock;
+    let late = clock.refusal(reading);
+    if late != 0 {
+        return late;
+    }
+    let op = c.op;
+    if op.kind != IDLE {
+        return 9;
+    }
+    0
+}
+
+// The refusal of a write, 0 for none: bytes and stripe are lengths.
+pub fn write_refusal(
+    n: usize,
+    m: usize,
+    size: usize,
+    c: Coordinator,
+    reading: u64,
+    bytes: usize,
+    stripe: usize,
+) -> u32
+    ensures { λ r. ⌜ r ≡ writeRefusal n m size c reading bytes stripe ⌝ }
+{
+    let bad = settings::code_refusal(n, m, size);
+    if bad != 0 {
+        return bad;
+    }
+    if bytes != m * size {
+        return 2;
+    }
+    if stripe != m * size {
+        return 2;
+    }
+    start_refusal(n, m, c, reading)
+}
+
+// The refusal of a read, 0 for none.
+pub fn read_refusal(
+    n: usize,
+    m: usize,
+    size: usize,
+    c: Coordinator,
+    reading: u64,
+    first: usize,
+) -> u32
+    ensures { λ r. ⌜ r ≡ readRefusal n m size c reading first ⌝ }
+{
+    let bad = settings::code_refusal(n, m, size);
+    if bad != 0 {
+        return bad;
+    }
+    if n <= first {
+        return 3;
+    }
+    start_refusal(n, m, c, reading)
+}
+
+// Whether the lent buffers of a reply have the lengths that the settings require.
+fn lengths_right(
+    n: usize,
+    m: usize,
+    size: usize,
+    held: bool,
+    block: usize,
+    blocks: usize,
+    stripe: usize,
+    coded: usize,
+) -> bool
+    requires { ⌜ CodeRange n m size ⌝ }
+    ensures { λ r. ⌜ r ≡ lengthsRight n m size held block blocks stripe coded ⌝ }
+{
+    if blocks != n * size {
+        return false;
+    }
+    if stripe != m * size {
+        return false;
+    }
+    if coded != n * size {
+        return false;
+    }
+    if held {
+        return block == size;
+    }
+    true
+}
+
+// The refusal of a reply, 0 for none: block, blocks, stripe and coded are lengths.
+pub fn take_refusal(
+    n: usize,
+    m: usize,
+    size: usize,
+    c: Coordinator,
+    reply: Reply,
+    block: usize,
+    blocks: usize,
+    stripe: usize,
+    coded: usize,
+) -> u32
+    ensures { λ r. ⌜ r ≡ takeRefusal n m size c reply block blocks stripe coded ⌝ }
+{
+    let bad = settings::code_refusal(n, m, size);
+    if bad != 0 {
+        return bad;
+    }
+    if lengths_right(n, m, size, reply.held, block, blocks, stripe, coded) {} else {
+        return 2;
+    }
+    if n <= reply.brick {
+        return 3;
+    }
+    stray_refusal(n, m, c, reply)
+}
+
+// The refusal of a reply of a brick below n.
+fn stray_refusal(n: usize, m: usize, c: Coordinator, reply: Reply) -> u32
+    requires { ⌜ n ≤ 16 ⌝ }
+    requires { ⌜ reply .brick < n ⌝ }
+    ensures { λ r. ⌜ r ≡ firstRefusal (strayChecks n m c reply) ⌝ }
+{
+    let broken = record_refusal(n, m, c);
+    if broken != 0 {
+        return broken;
+    }
+    let wrong = reply.refusal(n);
+    if wrong != 0 {
+        return wrong;
+    }
+    let op = c.op;
+    let tally = c.tally;
+    if coord_decide::reply_answers(n, m, op, tally, reply) {
+        return 0;
+    }
+    11
+}
+
+// The refusal of a crash, 0 for none.
+pub fn crash_refusal(n: usize, m: usize, size: usize, c: Coordinator) -> u32
+    ensures { λ r. ⌜ r ≡ crashRefusal n m size c ⌝ }
+{
+    let bad = settings::code_refusal(n, m, size);
+    if bad != 0 {
+        return bad;
+    }
+    record_refusal(n, m, c)
+}

@@ -1,4 +1,0 @@
--- The laws of `coord_rounds`, for its own proofs and those of the crates above. No contract cites them.
--- Definitions: Deciding. Laws: the others.
-pub mod Decisions
-pub mod DecidingLaws

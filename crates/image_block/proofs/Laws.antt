@@ -1,0 +1,10 @@
+-- The laws of `image_block`, for its own proofs and those of the crates above. No contract cites them.
+-- The 512-byte block. Definitions: Block. Figures: those of document 01. Laws: the other modules.
+pub mod ChangeLaws
+pub mod CheckLaws
+pub mod Figures
+pub mod LayoutLaws
+pub mod PutLaws
+pub mod RowLaws
+pub mod SameLaws
+pub mod StoreLaws

@@ -1,0 +1,101 @@
+use Rattle.image_block.proofs.Laws.StoreLaws.{entry-stored}
+use borrow.Author.Needs.{needs}
+use Rattle.image_block.proofs.entry_fields.Statement.{statement}
+use Rattle.image_block.proofs.entry_fields.Tie as tie
+
+held-requires : tie.Need-held-requires
+held-requires c κs = search needs
+
+array-write-b : tie.Need-array-write-b
+array-write-b c = search needs
+
+byte-requires : tie.Need-byte-requires
+byte-requires c κs = search needs
+
+array-write-b-2 : tie.Need-array-write-b-2
+array-write-b-2 c = search needs
+
+byte-requires-2 : tie.Need-byte-requires-2
+byte-requires-2 c κs = search needs
+
+array-write-b-3 : tie.Need-array-write-b-3
+array-write-b-3 c = search needs
+
+byte-requires-3 : tie.Need-byte-requires-3
+byte-requires-3 c κs = search needs
+
+array-write-b-4 : tie.Need-array-write-b-4
+array-write-b-4 c = search needs
+
+byte-requires-4 : tie.Need-byte-requires-4
+byte-requires-4 c κs = search needs
+
+array-write-b-5 : tie.Need-array-write-b-5
+array-write-b-5 c = search needs
+
+byte-requires-5 : tie.Need-byte-requires-5
+byte-requires-5 c κs = search needs
+
+array-write-b-6 : tie.Need-array-write-b-6
+array-write-b-6 c = search needs
+
+byte-requires-6 : tie.Need-byte-requires-6
+byte-requires-6 c κs = search needs
+
+array-write-b-7 : tie.Need-array-write-b-7
+array-write-b-7 c = search needs
+
+byte-requires-7 : tie.Need-byte-requires-7
+byte-requires-7 c κs = search needs
+
+array-write-b-8 : tie.Need-array-write-b-8
+array-write-b-8 c = search needs
+
+byte-requires-8 : tie.Need-byte-requires-8
+byte-requires-8 c κs = search needs
+
+array-write-b-9 : tie.Need-array-write-b-9
+array-write-b-9 c = search needs
+
+byte-requires-9 : tie.Need-byte-requires-9
+byte-requires-9 c κs = search needs
+
+array-write-b-10 : tie.Need-array-write-b-10
+array-write-b-10 c = search needs
+
+byte-requires-10 : tie.Need-byte-requires-10
+byte-requires-10 c κs = search needs
+
+array-write-b-11 : tie.Need-array-write-b-11
+array-write-b-11 c = search needs
+
+returns : tie.Need-returns
+returns c = search (needs, entry-stored)
+
+pub entry-fields-spec : {M : Type 1} → statement M
+entry-fields-spec =
+    tie.close
+    (tie.spec
+    held-requires
+    array-write-b
+    byte-requires
+    array-write-b-2
+    byte-requires-2
+    array-write-b-3
+    byte-requires-3
+    array-write-b-4
+    byte-requires-4
+    array-write-b-5
+    byte-requires-5
+    array-write-b-6
+    byte-requires-6
+    array-write-b-7
+    byte-requires-7
+    array-write-b-8
+    byte-requires-8
+    array-write-b-9
+    byte-requires-9
+    array-write-b-10
+    byte-requires-10
+    array-write-b-11
+    returns)

@@ -1,0 +1,81 @@
+-- Document 01, "The saved brick": one block of 512 bytes. After the check, at bytes 0 and 1, come its 510 other bytes, its body.
+use mathlib.Core.Bool.{Bool, true, false, _&&_}
+use mathlib.Core.List.{List, [], _∷_, _++_}
+use Prim.Native.Nat.{ℕ, suc, _+_, _-_, _*_, _%_}
+use lib.Dec.{eqb}
+use lib.ListN.{length, take, drop, replicate}
+use Rattle.byte_lists.specs.Little.{little}
+use Rattle.settings.specs.declared.Settings.{Settings}
+
+-- the sum of the bytes, the first one k times, the next k + 1 times, and so on
+unfoldable pub weighted : ℕ → List ℕ → ℕ
+weighted k [] = 0
+weighted k (b ∷ bs) = k * b + weighted (suc k) bs
+
+-- "the check: (1 + sum over offsets p = 2..511 of (p−1) × byte) mod 65521"
+unfoldable pub checkOf : List ℕ → ℕ
+checkOf body = (1 + weighted 1 body) % 65521
+
+-- "Bytes 0–1 hold the check"
+unfoldable pub sealed : List ℕ → List ℕ
+sealed body = little 2 (checkOf body) ++ body
+
+-- the bytes before the check is placed in front
+unfoldable pub unchecked : List ℕ → List ℕ
+unchecked body = 0 ∷ 0 ∷ body
+
+-- whether two lists of bytes are the same
+unfoldable pub same : List ℕ → List ℕ → Bool
+same [] [] = true
+same [] (y ∷ ys) = false
+same (x ∷ xs) [] = false
+same (x ∷ xs) (y ∷ ys) = eqb x y && same xs ys
+
+-- whether a block's check holds: bytes 0 and 1 are those of the check
+unfoldable pub checked : List ℕ → Bool
+checked block = same (take 2 block) (little 2 (checkOf (drop 2 block)))
+
+unfoldable pub zeros : ℕ → List ℕ
+zeros k = replicate k 0
+
+-- "Byte 2 is the kind: 0 unused, 1 head, 2 entry."
+unfoldable pub unusedKind : ℕ
+unusedKind = 0
+
+unfoldable pub headKind : ℕ
+headKind = 1
+
+unfoldable pub entryKind : ℕ
+entryKind = 2
+
+-- "Block 0 is the head: 4 n, 5 m, 6 brick, 7 capacity, 8–9 block size, 10–11 entry count (1 to capacity), 12–19 promise."
+-- "All other bytes are zero"
+unfoldable pub headBody : Settings → ℕ → ℕ → ℕ → List ℕ
+headBody s brick count promise =
+    headKind ∷ 0 ∷ s .n ∷ s .m ∷ brick ∷ s .capacity ∷ little 2 (s .size) ++ little 2 count ++ little 8 promise ++ zeros 492
+
+unfoldable pub headBlock : Settings → ℕ → ℕ → ℕ → List ℕ
+headBlock s brick count promise = sealed (headBody s brick count promise)
+
+-- "entries in rising time: 4–11 time, 12–13 block size, block from 16"
+unfoldable pub entryBody : ℕ → List ℕ → List ℕ
+entryBody time block = entryKind ∷ 0 ∷ little 8 time ++ little 2 (length block) ++ 0 ∷ 0 ∷ block ++ zeros (496 - length block)
+
+unfoldable pub entryBlock : ℕ → List ℕ → List ℕ
+entryBlock time block = sealed (entryBody time block)
+
+-- "an unused block is 510 zeros after a check of 1"
+unfoldable pub unusedBody : List ℕ
+unusedBody = unusedKind ∷ zeros 509
+
+unfoldable pub unusedBlock : List ℕ
+unusedBlock = sealed unusedBody
+
+-- a list with other bytes placed into it from a place on
+unfoldable pub put : ℕ → List ℕ → List ℕ → List ℕ
+put at bytes l = take at l ++ bytes ++ drop (at + length bytes) l
+
+-- the sum of the bytes
+unfoldable pub total : List ℕ → ℕ
+total [] = 0
+total (b ∷ bs) = b + total bs

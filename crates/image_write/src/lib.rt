@@ -1,0 +1,114 @@
+// Changing a saved brick where it is lent: a fresh one, its head, an entry more, entries less.
+ghost use mathlib.Core.Path.{_≡_};
+ghost use mathlib.Core.List.{List};
+ghost use Prim.Native.Nat.{ℕ, _+_, _*_, _≤_, _<_};
+ghost use lib.ListN.{length};
+ghost use Rattle.settings.specs.Ranges.{SettingsRange};
+ghost use Rattle.image_block.specs.Block.{headBlock, entryBlock, put, zeros};
+ghost use Rattle.image.specs.Image.{imageSize, imageOf};
+ghost use Rattle.image.specs.Brick.{fresh};
+ghost use Rattle.image.specs.Opening.{lendingRefusal};
+ghost use Rattle.image_write.specs.Saving.{freshAfter};
+ghost use Rattle.image_write.specs.Saving.{Blocks, clearedOf, shiftedOf};
+use image_block::entry;
+use image_block::head;
+use image_block::store;
+use image_block::unused;
+use image::lending_refusal;
+use settings::Settings;
+
+// The head, written anew: 512 bytes.
+pub fn write_head(s: Settings, brick: usize, image: &mut [u8], count: usize, promise: u64)
+    requires { ⌜ SettingsRange s ⌝ }
+    requires { ⌜ brick < s .n ⌝ }
+    requires { ⌜ length (now image) ≡ imageSize s ⌝ }
+    ensures { λ _. ⌜ now (image .exit) ≡ put 0 (headBlock s brick count promise) (now (image .entry)) ⌝ }
+{
+    let b = head(s, brick, count, promise);
+    store(image, 0, &b);
+}
+
+// An entry, written from a place on: 512 bytes.
+pub fn write_entry(image: &mut [u8], at: usize, time: u64, block: &[u8])
+    requires { ⌜ (at + 512 ≤ length (now image)) × (length (now block) ≤ 256) ⌝ }
+    ensures { λ _. ⌜ now (image .exit) ≡ put at (entryBlock time (now (block .entry))) (now (image .entry)) ⌝ }
+{
+    let b = entry(time, block);
+    store(image, at, &b);
+}
+
+// The blocks from one number up to another, made unused.
+pub fn clear_blocks(image: &mut [u8], from: usize, to: usize)
+    requires { ⌜ (from ≤ to) × (512 * to ≤ length (now image)) ⌝ }
+    ensures { λ _. ⌜ ((n : ℕ) (g : ℕ → List ℕ) → Blocks g n (now (image .entry)) → Blocks (clearedOf g from to) n (now (image .exit))) ⌝ }
+{
+    let b = unused();
+    let mut k = from;
+    while k < to {
+        store(image, 512 * k, &b);
+        k += 1;
+    }
+}
+
+// A copy of a block.
+fn copied(part: &[u8]) -> [u8; 512]
+    requires { ⌜ length (now part) ≡ 512 ⌝ }
+    ensures { λ r. ⌜ r ≡ now (part .entry) ⌝ }
+{
+    let mut b = [0u8; 512];
+    let mut i: usize = 0;
+    while i < 512 {
+        b[i] = part[i];
+        i += 1;
+    }
+    b
+}
+
+// The entries from number d on, moved down to the front: `kept` blocks.
+pub fn shift_blocks(image: &mut [u8], d: usize, kept: usize)
+    requires { ⌜ 512 * (d + kept + 1) ≤ length (now image) ⌝ }
+    ensures { λ _. ⌜ ((n : ℕ) (g : ℕ → List ℕ) → Blocks g n (now (image .entry)) → Blocks (shiftedOf g d kept) n (now (image .exit))) ⌝ }
+{
+    let mut k: usize = 0;
+    while k < kept {
+        let from = 512 * (d + k + 1);
+        let e = from + 512;
+        let b = copied(&image[from..e]);
+        store(image, 512 * (k + 1), &b);
+        k += 1;
+    }
+}
+
+// The first entry of a fresh brick: time 0, a zero block.
+fn write_zero_entry(image: &mut [u8], size: usize)
+    requires { ⌜ (1024 ≤ length (now image)) × (size ≤ 256) ⌝ }
+    ensures { λ _. ⌜ now (image .exit) ≡ put 512 (entryBlock 0 (zeros size)) (now (image .entry)) ⌝ }
+{
+    let zero = [0u8; 256];
+    write_entry(image, 512, 0, &zero[..size]);
+}
+
+// A fresh brick.
+fn fill_fresh(s: Settings, brick: usize, image: &mut [u8])
+    requires { ⌜ SettingsRange s ⌝ }
+    requires { ⌜ brick < s .n ⌝ }
+    requires { ⌜ length (now image) ≡ imageSize s ⌝ }
+    ensures { λ _. ⌜ now (image .exit) ≡ imageOf s brick (fresh s) ⌝ }
+{
+    write_head(s, brick, image, 1, 0);
+    write_zero_entry(image, s.size);
+    clear_blocks(image, 2, s.capacity + 1);
+}
+
+// Writes a fresh brick into the lent image, or gives the refusal.
+pub fn write_fresh(s: Settings, brick: usize, image: &mut [u8]) -> u32
+    ensures { λ r. ⌜ r ≡ lendingRefusal s brick (length (now (image .entry))) ⌝ }
+    ensures { λ r. ⌜ now (image .exit) ≡ freshAfter s brick (now (image .entry)) ⌝ }
+{
+    let bad = lending_refusal(s, brick, image.len());
+    if bad != 0 {
+        return bad;
+    }
+    fill_fresh(s, brick, image);
+    0
+}

@@ -1,3 +1,0 @@
--- The laws of `little`, for its own proofs and those of the crates above. No contract cites them.
--- Little-endian numbers. Definitions: Little. Laws: LittleLaws.
-pub mod LittleLaws

@@ -1,0 +1,223 @@
+// The brick at a C boundary of numbers and slices, for the tests and benchmarks that compare it with other code.
+ghost use mathlib.Core.Path.{_≡_};
+ghost use lib.Dec.{eqb};
+ghost use lib.ListN.{length};
+ghost use Rattle.brick.specs.Receive.{outcome};
+ghost use Rattle.test_brick.specs.Numbers.{settingsFor, replyNumbers, givenNumber, givenBuffer, shownNumber, shownBuffer, entryBuffer, numberIf, bufferIf, messageFor, lent};
+ghost use Rattle.image.specs.Opening.{lendingRefusal, panelOf};
+ghost use Rattle.image.specs.Parse.{parse};
+ghost use Rattle.image_write.specs.Saving.{freshAfter};
+ghost use Rattle.settings.specs.Count.{one-if};
+ghost use Rattle.image_view.specs.Numbers.{foundNumber};
+ghost use Rattle.image_view.specs.View.{foundOf};
+use brick::Given;
+use image::Shown;
+use image::place_of;
+use message::Message;
+use message::Reply;
+use settings::Settings;
+use image_view::Found;
+
+fn flag(b: bool) -> u64
+    ensures { λ r. ⌜ r ≡ one-if b ⌝ }
+{
+    if b {
+        return 1;
+    }
+    0
+}
+
+// A fresh image.
+#[no_mangle]
+pub extern "C" fn brick_fresh(
+    n: usize,
+    m: usize,
+    size: usize,
+    capacity: usize,
+    brick: usize,
+    image: &mut [u8],
+) -> u32
+    ensures { λ r. ⌜ r ≡ lendingRefusal (settingsFor n m size capacity) brick (length (now (image .entry))) ⌝ }
+    ensures { λ r. ⌜ now (image .exit) ≡ freshAfter (settingsFor n m size capacity) brick (now (image .entry)) ⌝ }
+{
+    let s = Settings {
+        n: n,
+        m: m,
+        size: size,
+        capacity: capacity,
+    };
+    image_write::write_fresh(s, brick, image)
+}
+
+// The panel's two times, into a buffer of two numbers.
+#[no_mangle]
+pub extern "C" fn brick_panel(
+    n: usize,
+    m: usize,
+    size: usize,
+    capacity: usize,
+    brick: usize,
+    image: &[u8],
+    times: &mut [u64],
+) -> u32
+    ensures { λ r. ⌜ r ≡ numberIf (eqb (length (now (times .entry))) 2) (shownNumber (panelOf (parse (settingsFor n m size capacity) brick (now (image .entry))))) ⌝ }
+    ensures { λ r. ⌜ now (times .exit) ≡ bufferIf (eqb (length (now (times .entry))) 2) (shownBuffer (panelOf (parse (settingsFor n m size capacity) brick (now (image .entry)))) (now (times .entry))) (now (times .entry)) ⌝ }
+{
+    if times.len() != 2 {
+        return 2;
+    }
+    let s = Settings {
+        n: n,
+        m: m,
+        size: size,
+        capacity: capacity,
+    };
+    let shown = image::show(s, brick, image);
+    match shown {
+        Shown::Values(p) => {
+            times[0] = p.promise;
+            times[1] = p.newest;
+            0
+        }
+        Shown::Refused(number) => number,
+    }
+}
+
+// The view's entry at a place, into a buffer of two numbers: its time and the place of its block.
+#[no_mangle]
+pub extern "C" fn brick_entry(
+    n: usize,
+    m: usize,
+    size: usize,
+    capacity: usize,
+    brick: usize,
+    image: &[u8],
+    place: usize,
+    found: &mut [u64],
+) -> u32
+    ensures { λ r. ⌜ r ≡ numberIf (eqb (length (now (found .entry))) 2) (foundNumber (foundOf (parse (settingsFor n m size capacity) brick (now (image .entry))) place)) ⌝ }
+    ensures { λ r. ⌜ now (found .exit) ≡ bufferIf (eqb (length (now (found .entry))) 2) (entryBuffer (foundOf (parse (settingsFor n m size capacity) brick (now (image .entry))) place) (now (found .entry))) (now (found .entry)) ⌝ }
+{
+    if found.len() != 2 {
+        return 2;
+    }
+    let s = Settings {
+        n: n,
+        m: m,
+        size: size,
+        capacity: capacity,
+    };
+    let seen = image_view::look(s, brick, image, place);
+    match seen {
+        Found::At(e) => {
+            let holding = e.holding;
+            let held = place_of(holding);
+            found[0] = e.time;
+            found[1] = held as u64;
+            0
+        }
+        Found::Refused(number) => number,
+    }
+}
+
+// A reply into a buffer of seven numbers.
+fn put_reply(r: Reply, reply: &mut [u64])
+    requires { ⌜ length (now reply) ≡ 7 ⌝ }
+    ensures { λ _. ⌜ now (reply .exit) ≡ replyNumbers r ⌝ }
+{
+    reply[0] = r.kind as u64;
+    reply[1] = r.brick as u64;
+    reply[2] = r.time;
+    reply[3] = r.round;
+    reply[4] = flag(r.yes);
+    reply[5] = r.found;
+    reply[6] = flag(r.held);
+}
+
+// What a brick gave, into the reply's buffer: 0 a reply, 100 silence, else the refusal.
+fn put_given(g: Given, reply: &mut [u64]) -> u32
+    requires { ⌜ length (now reply) ≡ 7 ⌝ }
+    ensures { λ r. ⌜ r ≡ givenNumber g ⌝ }
+    ensures { λ r. ⌜ now (reply .exit) ≡ givenBuffer g (now (reply .entry)) ⌝ }
+{
+    match g {
+        Given::Answered(r) => {
+            put_reply(r, reply);
+            0
+        }
+        Given::Silent => 100,
+        Given::Refused(number) => number,
+    }
+}
+
+// Sixteen flags from a slice of sixteen bytes.
+fn flags_of(t: &[u8]) -> [u8; 16]
+    requires { ⌜ length (now t) ≡ 16 ⌝ }
+    ensures { λ r. ⌜ r ≡ now (t .entry) ⌝ }
+{
+    [
+        t[0],
+        t[1],
+        t[2],
+        t[3],
+        t[4],
+        t[5],
+        t[6],
+        t[7],
+        t[8],
+        t[9],
+        t[10],
+        t[11],
+        t[12],
+        t[13],
+        t[14],
+        t[15],
+    ]
+}
+
+// One message at one brick: kind, time, round and max as numbers, 16 flags for the targets, seven numbers for the reply.
+#[no_mangle]
+pub extern "C" fn brick_receive(
+    n: usize,
+    m: usize,
+    size: usize,
+    capacity: usize,
+    brick: usize,
+    image: &mut [u8],
+    kind: u8,
+    time: u64,
+    round: u64,
+    max: u64,
+    targets: &[u8],
+    block: &[u8],
+    out: &mut [u8],
+    reply: &mut [u64],
+) -> u32
+    ensures { λ r. ⌜ r ≡ numberIf (lent (now (targets .entry)) (now (reply .entry))) (givenNumber (outcome (settingsFor n m size capacity) brick (now (image .entry)) (messageFor kind time round max (now (targets .entry))) (now (block .entry)) (now (out .entry)) .given)) ⌝ }
+    ensures { λ r. ⌜ now (image .exit) ≡ bufferIf (lent (now (targets .entry)) (now (reply .entry))) (outcome (settingsFor n m size capacity) brick (now (image .entry)) (messageFor kind time round max (now (targets .entry))) (now (block .entry)) (now (out .entry)) .image) (now (image .entry)) ⌝ }
+    ensures { λ r. ⌜ now (out .exit) ≡ bufferIf (lent (now (targets .entry)) (now (reply .entry))) (outcome (settingsFor n m size capacity) brick (now (image .entry)) (messageFor kind time round max (now (targets .entry))) (now (block .entry)) (now (out .entry)) .out) (now (out .entry)) ⌝ }
+    ensures { λ r. ⌜ now (reply .exit) ≡ bufferIf (lent (now (targets .entry)) (now (reply .entry))) (givenBuffer (outcome (settingsFor n m size capacity) brick (now (image .entry)) (messageFor kind time round max (now (targets .entry))) (now (block .entry)) (now (out .entry)) .given) (now (reply .entry))) (now (reply .entry)) ⌝ }
+{
+    if targets.len() != 16 {
+        return 2;
+    }
+    if reply.len() != 7 {
+        return 2;
+    }
+    let s = Settings {
+        n: n,
+        m: m,
+        size: size,
+        capacity: capacity,
+    };
+    let flags = flags_of(targets);
+    let msg = Message {
+        kind: kind,
+        time: time,
+        round: round,
+        max: max,
+        targets: flags,
+    };
+    let g = brick::receive(s, brick, image, msg, block, out);
+    put_given(g, reply)
+}

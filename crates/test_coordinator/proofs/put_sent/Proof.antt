@@ -1,0 +1,41 @@
+use native.Mathlib.Omega.{arith}
+use lib.ListN.{length-set}
+use Rattle.test_coordinator.specs.Numbers.{answerNumbers}
+use Rattle.test_coordinator.proofs.Laws.NumberLaws.{five}
+use borrow.Author.Needs.{needs}
+use Rattle.test_coordinator.proofs.put_sent.Statement.{statement}
+use Rattle.test_coordinator.proofs.put_sent.Tie as tie
+
+slice-write-out : tie.Need-slice-write-out
+slice-write-out c = search needs
+
+slice-write-out-2 : tie.Need-slice-write-out-2
+slice-write-out-2 c = search needs
+
+slice-write-out-3 : tie.Need-slice-write-out-3
+slice-write-out-3 c = search needs
+
+slice-write-out-4 : tie.Need-slice-write-out-4
+slice-write-out-4 c = simp length-set (omega arith)
+
+slice-write-out-5 : tie.Need-slice-write-out-5
+slice-write-out-5 c = simp length-set (omega arith)
+
+same-length : tie.Need-same-length
+same-length c = search needs
+
+returns : tie.Need-returns
+unfolding answerNumbers
+returns c = five (c .before .before .args .out .now) _ _ _ _ _ (c .before .before .pre)
+
+pub put-sent-spec : {M : Type 1} → statement M
+put-sent-spec =
+    tie.close
+    (tie.spec
+    slice-write-out
+    slice-write-out-2
+    slice-write-out-3
+    slice-write-out-4
+    slice-write-out-5
+    same-length
+    returns)
