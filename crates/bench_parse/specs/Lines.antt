@@ -1,9 +1,10 @@
 -- Document 01, "The bench": the lines, as lists of bytes without the newline.
-use mathlib.Core.Bool.{Bool, true, false, cond, _&&_, _||_}
+use mathlib.Core.Bool.{Bool, true, cond, _&&_, _||_}
 use mathlib.Core.List.{List, [], _∷_, map}
 use Prim.Native.Nat.{ℕ, _+_, _-_, _*_}
 use lib.Dec.{eqb, leb}
 use lib.ListN.{length, getD}
+use Rattle.byte_lists.specs.Lists.{same}
 
 -- whether a test holds of each entry
 unfoldable pub every : {A : Type 0} → (A → Bool) → List A → Bool
@@ -137,13 +138,6 @@ downText = 100 ∷ 111 ∷ 119 ∷ 110 ∷ []
 
 unfoldable pub upText : List ℕ
 upText = 117 ∷ 112 ∷ []
-
--- whether two words are the same
-unfoldable pub same : List ℕ → List ℕ → Bool
-same [] [] = true
-same [] (y ∷ b) = false
-same (x ∷ a) [] = false
-same (x ∷ a) (y ∷ b) = eqb x y && same a b
 
 unfoldable pub commandOf : List ℕ → List (List ℕ) → Line
 commandOf w ws =

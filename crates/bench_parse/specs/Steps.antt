@@ -7,7 +7,8 @@ use lib.Dec.{eqb}
 use lib.ListN.{length, getD, drop}
 use Rattle.bench_parse.specs.Lines.{longest, space, numberWord, areNumbers, numberIn, valueOf, hexWord, Line, crashLine}
 use Rattle.bench_parse.specs.Lines.{downLine, upLine, noLine, setOf, writeOf, readOf, carryOf, oneOf, setText, writeText}
-use Rattle.bench_parse.specs.Lines.{readText, carryText, crashText, downText, upText, same}
+use Rattle.bench_parse.specs.Lines.{readText, carryText, crashText, downText, upText}
+use Rattle.byte_lists.specs.Lists.{same}
 use Rattle.bench_parse.specs.Meaning.{wordsFrom, lineOf, Sound}
 use Rattle.bench_parse.specs.declared.Line as code
 use Rattle.bench_parse.specs.declared.Numeral.{Numeral}

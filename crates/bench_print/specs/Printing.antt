@@ -4,7 +4,7 @@ use mathlib.Core.Bool.{Bool, false, cond}
 use mathlib.Core.List.{List, [], _∷_, _++_}
 use Prim.Native.Nat.{ℕ, zero, suc, _+_, _/_, _%_}
 use lib.Dec.{eqb, ltb, leb}
-use Rattle.image_block.specs.Block.{put}
+use Rattle.byte_lists.specs.Lists.{put}
 use Rattle.coord_record.specs.Records.{readingKind}
 use Rattle.coord_apply.specs.Steps.{okSeen, readSeen, abortedSeen, cutSeen}
 use Rattle.coord_apply.specs.declared.Seen.{Seen}

@@ -3,7 +3,7 @@
 ghost use mathlib.Core.Path.{_≡_};
 ghost use Prim.Native.Nat.{_+_, _*_, _%_, _≤_, _<_};
 ghost use lib.ListN.{length};
-ghost use Rattle.image_block.specs.Block.{put};
+ghost use Rattle.byte_lists.specs.Lists.{put};
 ghost use Rattle.register.specs.Runs.{message, reply};
 ghost use Rattle.settings.specs.Count.{one-if};
 ghost use Rattle.bench_sent.specs.Sent.{Added, Coded, Sends, numberAt, isReply, flagsAt, messageAt, replyAt, messageRow, replyRow, numbersWith, bytesWith, noFlags};
@@ -31,8 +31,8 @@ fn store_bytes(k: usize, flags: [u8; 16], block: &[u8], bytes: &mut [u8])
 {
     let at = k * 24;
     let from = at + 16;
-    image_block::store(bytes, at, &flags);
-    image_block::store(bytes, from, block)
+    byte_lists::store(bytes, at, &flags);
+    byte_lists::store(bytes, from, block)
 }
 
 // 1 for true, 0 for false.
@@ -125,7 +125,7 @@ fn flags_at(bytes: &[u8], k: usize) -> [u8; 16]
     let at = k * 24;
     let end = at + 16;
     let mut flags = [0u8; 16];
-    coord_apply::copy(&bytes[at..end], &mut flags);
+    byte_lists::copy(&bytes[at..end], &mut flags);
     flags
 }
 

@@ -13,7 +13,7 @@ use Rattle.coord_record.specs.Records.{idleWith}
 use Rattle.coord_record.specs.declared.Coordinator.{Coordinator}
 use Rattle.coord_apply.specs.Steps.{Held}
 use Rattle.register.specs.Runs.{Item, World, idle, fresh}
-use Rattle.image_block.specs.Block.{put}
+use Rattle.byte_lists.specs.Lists.{put}
 use Rattle.bench_state.specs.declared.Bench.{Bench}
 use mathlib.Core.Path.{_≡_}
 

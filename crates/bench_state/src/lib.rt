@@ -4,7 +4,7 @@ ghost use mathlib.Core.Path.{_≡_};
 ghost use mathlib.Core.Bool.{true};
 ghost use mathlib.Core.List.{[]};
 ghost use Prim.Native.Nat.{_+_, _*_, _≤_, _<_};
-ghost use lib.ListN.{length, getD, take, drop, replicate};
+ghost use lib.ListN.{length, getD, take, drop};
 ghost use Rattle.bench_state.specs.State.{idleAt, freshBench, withCoordinator, withSent, withUp, keptWith, benchRefusal, worldOf};
 ghost use Rattle.bench_state.specs.State.{Small};
 ghost use Rattle.bench_state.specs.State.{Begun};
@@ -139,10 +139,10 @@ pub fn fetch(c: usize, kept: &[u8], blocks: &mut [u8], stripe: &mut [u8])
 {
     let at = c * 64;
     let end = at + blocks.len();
-    coord_apply::copy(&kept[at..end], blocks);
+    byte_lists::copy(&kept[at..end], blocks);
     let from = at + 32;
     let till = from + stripe.len();
-    coord_apply::copy(&kept[from..till], stripe)
+    byte_lists::copy(&kept[from..till], stripe)
 }
 
 // What a coordinator keeps, stored.
@@ -153,21 +153,10 @@ pub fn keep(c: usize, blocks: &[u8], stripe: &[u8], kept: &mut [u8])
 {
     let at = c * 64;
     let end = at + blocks.len();
-    coord_apply::copy(blocks, &mut kept[at..end]);
+    byte_lists::copy(blocks, &mut kept[at..end]);
     let from = at + 32;
     let till = from + stripe.len();
-    coord_apply::copy(stripe, &mut kept[from..till])
-}
-
-// Zeros in what the coordinators keep.
-fn clear(kept: &mut [u8])
-    ensures { λ _. ⌜ now (kept .exit) ≡ replicate (length (now (kept .entry))) 0 ⌝ }
-{
-    let mut i = 0;
-    while i < kept.len() {
-        kept[i] = 0;
-        i += 1;
-    }
+    byte_lists::copy(stripe, &mut kept[from..till])
 }
 
 // A fresh image for each brick.
@@ -192,6 +181,6 @@ pub fn set_up(s: Settings, images: &mut [u8], kept: &mut [u8]) -> Bench
     ensures { λ r. ⌜ (r ≡ freshBench s) × (worldOf r (now (images .exit)) (now (kept .exit)) [] ≡ fresh s) ⌝ }
 {
     fresh_images(s, images);
-    clear(kept);
+    byte_lists::clear(kept);
     new_bench(s)
 }

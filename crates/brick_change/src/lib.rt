@@ -8,16 +8,16 @@ ghost use Rattle.image.specs.Parse.{brickIn};
 ghost use Rattle.image_write.specs.Saving.{without};
 ghost use Rattle.brick_log.specs.Steps.{orderYes, ordered, writeYes, written, yesTo, after};
 ghost use Rattle.brick_log.specs.Plans.{Ready, gaveOf};
-use image_block::store;
 use brick_log::Known;
 use brick_log::order_yes;
-use message::Message;
-use message::READ;
-use message::WRITE;
+use byte_lists::store;
 use image_write::clear_blocks;
 use image_write::shift_blocks;
 use image_write::write_entry;
 use image_write::write_head;
+use message::Message;
+use message::READ;
+use message::WRITE;
 use settings::Settings;
 
 // The head with another promise, where that is granted.

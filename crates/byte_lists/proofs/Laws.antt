@@ -1,3 +1,9 @@
 -- The laws of `byte_lists`, for its own proofs and those of the crates above. No contract cites them.
 -- Little-endian numbers. Definitions: Little. Laws: LittleLaws.
 pub mod LittleLaws
+pub mod EachLaws
+pub mod TabulateLaws
+pub mod PutLaws
+pub mod SameLaws
+pub mod BoolLaws
+pub mod ZeroLaws

@@ -1,8 +1,9 @@
-// Little-endian numbers (document 01, "The saved brick": "numbers little-endian").
+// Bytes and lists: a byte widened, little-endian numbers (document 01, "The saved brick"), bytes cleared, copied and stored.
 ghost use mathlib.Core.Path.{_≡_};
 ghost use Prim.Native.Nat.{_+_, _≤_, _<_};
 ghost use lib.ListN.{length, take, drop};
 ghost use Rattle.byte_lists.specs.Little.{number, byteOf};
+ghost use Rattle.byte_lists.specs.Lists.{put, zeros};
 
 // A byte as a number of 64 bits.
 pub fn wide(x: u8) -> u64
@@ -44,4 +45,47 @@ pub fn byte(n: u64) -> u8
     ensures { λ r. ⌜ r ≡ byteOf n ⌝ }
 {
     (n % 256) as u8
+}
+
+// A byte as an index.
+pub fn wide_index(x: u8) -> usize
+    ensures { λ r. ⌜ r ≡ x ⌝ }
+    ensures { λ r. ⌜ r < 256 ⌝ }
+{
+    x as usize
+}
+
+// Every byte 0.
+pub fn clear(out: &mut [u8])
+    ensures { λ _. ⌜ now (out .exit) ≡ zeros (length (now (out .entry))) ⌝ }
+{
+    let mut i = 0;
+    while i < out.len() {
+        out[i] = 0;
+        i += 1;
+    }
+}
+
+// Bytes copied into others of the same number.
+pub fn copy(from: &[u8], to: &mut [u8])
+    requires { ⌜ length (now from) ≡ length (now to) ⌝ }
+    ensures { λ _. ⌜ now (to .exit) ≡ now (from .entry) ⌝ }
+{
+    let mut i = 0;
+    while i < to.len() {
+        to[i] = from[i];
+        i += 1;
+    }
+}
+
+// Bytes stored in a list from a place on.
+pub fn store(l: &mut [u8], at: usize, b: &[u8])
+    requires { ⌜ at + length (now b) ≤ length (now l) ⌝ }
+    ensures { λ _. ⌜ now (l .exit) ≡ put at (now (b .entry)) (now (l .entry)) ⌝ }
+{
+    let mut i: usize = 0;
+    while i < b.len() {
+        l[at + i] = b[i];
+        i += 1;
+    }
 }

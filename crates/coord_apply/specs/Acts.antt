@@ -5,7 +5,7 @@ use Prim.Native.Nat.{ℕ, _+_, _*_, _≤_, _<_}
 use lib.Dec.{eqb, ltb}
 use lib.ListN.{getD, take, length}
 use Rattle.coord_apply.specs.Steps.{Held, Broadcast, Went, nothingSeen, beganSeen, okSeen, readSeen, abortedSeen, went, sentBlocks, answerOf}
-use Rattle.image_block.specs.Block.{put}
+use Rattle.byte_lists.specs.Lists.{put}
 use Rattle.coord_record.specs.Records.{readingKind, idleWith, nothingCounted, noBricks}
 use Rattle.coord_record.specs.declared.Coordinator.{Coordinator}
 use Rattle.coord_record.specs.declared.Op.{Op}
@@ -15,7 +15,7 @@ use Rattle.coord_decide.specs.Deciding.{tallied, decided}
 use Rattle.coord_decide.specs.declared.Decision.{Decision}
 use Rattle.coord_decide.specs.declared.Decision.the-variants.{Abort, Give, Look, Store, Recover, Finish}
 use Rattle.erasure.specs.Code.{codedOf, decodedOf, blockOf}
-use Rattle.interpolate.specs.Tabulate.{stacked}
+use Rattle.byte_lists.specs.Lists.{stacked}
 use Rattle.message.specs.Flags.{members}
 use Rattle.message.specs.Kinds.{orderReadKind, writeKind, trimKind}
 use Rattle.message.specs.declared.Message.{Message}

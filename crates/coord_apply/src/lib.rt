@@ -15,10 +15,10 @@ ghost use Rattle.coord_apply.specs.Steps.{nothingSeen, noMessage, readSe
 ghost use Rattle.erasure.specs.Refusals.{Encodes};
 ghost use Rattle.settings.specs.Ranges.{CodeRange};
 ghost use Rattle.interpolate.specs.Rows.{PointSet};
+use coord_decide::Decision;
 use coord_record::Coordinator;
 use coord_record::Op;
 use coord_record::Tally;
-use coord_decide::Decision;
 use message::Message;
 use message::Reply;
 use settings::Clock;
@@ -78,25 +78,6 @@ pub fn no_message() -> Message
     }
 }
 
-// One block copied into another.
-pub fn copy(from: &[u8], to: &mut [u8])
-    requires { ⌜ length (now from) ≡ length (now to) ⌝ }
-    ensures { λ _. ⌜ now (to .exit) ≡ now (from .entry) ⌝ }
-{
-    let mut i = 0;
-    while i < to.len() {
-        to[i] = from[i];
-        i += 1;
-    }
-}
-
-// A byte as a larger number.
-fn wide(x: u8) -> usize
-    ensures { λ r. ⌜ r ≡ x ⌝ }
-{
-    x as usize
-}
-
 // A reply's block in its place.
 pub fn place(size: usize, b: usize, block: &[u8], blocks: &mut [u8])
     requires { ⌜ (length (now block) ≡ size) × (b * size + size ≤ length (now blocks)) ⌝ }
@@ -104,7 +85,7 @@ pub fn place(size: usize, b: usize, block: &[u8], blocks: &mut [u8])
 {
     let at = b * size;
     let end = at + size;
-    copy(block, &mut blocks[at..end])
+    byte_lists::copy(block, &mut blocks[at..end])
 }
 
 // The blocks of the first m bricks of a row, one after the other.
@@ -116,10 +97,10 @@ fn gather(m: usize, size: usize, bricks: [u8; 16], blocks: &[u8], out: &mut [u8]
     let mut i = 0;
     let mut at = 0;
     while i < m {
-        let from = wide(bricks[i]) * size;
+        let from = byte_lists::wide_index(bricks[i]) * size;
         let till = from + size;
         let end = at + size;
-        copy(&blocks[from..till], &mut out[at..end]);
+        byte_lists::copy(&blocks[from..till], &mut out[at..end]);
         at = end;
         i += 1;
     }

@@ -3,7 +3,7 @@ use mathlib.Core.Bool.{Bool, cond, not, _&&_, _||_}
 use Prim.Native.Nat.{ℕ}
 use lib.Dec.{eqb, leb, ltb}
 use lib.ListN.{set}
-use Rattle.settings.specs.Each.{some}
+use Rattle.byte_lists.specs.Each.{some}
 use Rattle.coord_record.specs.Rules.{isTarget, blockRight}
 use Rattle.coord_record.specs.declared.Op.{Op}
 use Rattle.coord_record.specs.declared.Tally.{Tally}

@@ -4,7 +4,7 @@ use mathlib.Core.List.{List}
 use Prim.Native.Nat.{ℕ, _+_, _-_}
 use lib.Dec.{eqb, leb, ltb}
 use lib.ListN.{getD}
-use Rattle.settings.specs.Each.{each}
+use Rattle.byte_lists.specs.Each.{each}
 use Rattle.coord_record.specs.declared.Tally.{Tally}
 use Rattle.message.specs.Kinds.{readKind, orderReadKind}
 use Rattle.message.specs.Messages.{foundRight}

@@ -5,7 +5,7 @@ use Prim.Native.Nat.{ℕ, zero, suc, _+_, _-_, max}
 use lib.Dec.{eqb, ltb}
 use lib.ListN.{getD, take}
 use Rattle.coord_record.specs.Rules.{isTarget}
-use Rattle.interpolate.specs.Tabulate.{tabulate}
+use Rattle.byte_lists.specs.Lists.{tabulate}
 use Rattle.message.specs.Flags.{member}
 use Rattle.settings.specs.Count.{one-if}
 

@@ -2,7 +2,7 @@
 ghost use mathlib.Core.Path.{_≡_};
 ghost use mathlib.Core.Bool.{true};
 ghost use Prim.Native.Nat.{_≤_, _<_};
-ghost use Rattle.settings.specs.Each.{some};
+ghost use Rattle.byte_lists.specs.Each.{some};
 ghost use Rattle.coord_tally.specs.Counting.{saidNo, otherTime, missing, highest, atTime, atTimes, picked, upward, targetRow, targetFlag, targetFlags};
 ghost use Rattle.settings.specs.Count.{count};
 

@@ -13,16 +13,16 @@ use coord_apply::Answer;
 use coord_apply::BEGAN;
 use coord_apply::CUT;
 use coord_apply::Seen;
-use coord_refusals::crash_refusal;
-use coord_refusals::read_refusal;
-use coord_refusals::take_refusal;
-use coord_refusals::write_refusal;
 use coord_record::Coordinator;
 use coord_record::IDLE;
 use coord_record::Op;
 use coord_record::READING;
 use coord_record::Tally;
 use coord_record::WRITING;
+use coord_refusals::crash_refusal;
+use coord_refusals::read_refusal;
+use coord_refusals::take_refusal;
+use coord_refusals::write_refusal;
 use message::ORDER;
 use message::READ;
 use message::Reply;
@@ -148,7 +148,7 @@ pub fn start_write(
     let Draw::Drawn(time, next) = drawn else {
         return refuse(c, drawn.number());
     };
-    coord_apply::copy(bytes, stripe);
+    byte_lists::copy(bytes, stripe);
     let op = first_op(WRITING, ORDER, time, 0);
     begin(next, op, [0u8; 16])
 }

@@ -2,7 +2,7 @@
 -- polynomial of degree below m. Coded block j holds its value at point j. Decoding from m different bricks gives the data back."
 use mathlib.Core.List.{List}
 use Prim.Native.Nat.{ℕ, _*_, _≤_, _<_}
-use Rattle.interpolate.specs.Tabulate.{tabulate, stacked}
+use Rattle.byte_lists.specs.Lists.{tabulate, stacked}
 use Rattle.interpolate.specs.Values.{blocksAt}
 use mathlib.Core.Path.{_≡_}
 use lib.ListN.{length, getD, take, drop}

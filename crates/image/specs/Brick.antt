@@ -6,8 +6,8 @@ use lib.Dec.{leb, ltb, eqb}
 use lib.ListN.{length, getD}
 use Rattle.settings.specs.Times.{validTime}
 use Rattle.settings.specs.declared.Settings.{Settings}
-use Rattle.image_block.specs.Block.{zeros}
-use Rattle.settings.specs.Each.{each}
+use Rattle.byte_lists.specs.Lists.{zeros}
+use Rattle.byte_lists.specs.Each.{each}
 use mathlib.Core.Path.{_≡_}
 
 -- "entries (time, block)"

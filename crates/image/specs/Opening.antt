@@ -7,7 +7,8 @@ use lib.ListN.{drop, replicate}
 use Rattle.settings.specs.Ranges.{inRange}
 use Rattle.settings.specs.Refusal.{refuseUnless, firstRefusal, badSetting, badLength, badNumber}
 use Rattle.settings.specs.declared.Settings.{Settings}
-use Rattle.image_block.specs.Block.{same, headBody, entryBody, unusedBody}
+use Rattle.image_block.specs.Block.{headBody, entryBody, unusedBody}
+use Rattle.byte_lists.specs.Lists.{same}
 use Rattle.image.specs.Brick.{Brick, count, timeAt, newest, savedTime, countSound}
 use Rattle.image.specs.Image.{imageSize}
 use Rattle.image.specs.Parse.{heldIn, Parsed, Opens, Refuses, parse, blockAt, checkedAt, timeIn}
@@ -21,7 +22,7 @@ use Rattle.image.specs.declared.Shown.the-variants.{Values}
 use Rattle.image.specs.declared.Opening.{Opening}
 use mathlib.Core.Path.{_≡_}
 use Rattle.image.specs.declared.Head.{Head}
-use Rattle.settings.specs.Each.{each}
+use Rattle.byte_lists.specs.Each.{each}
 
 -- n values in a row
 unfoldable pub rowOf : (ℕ → Entry) → ℕ → List Entry

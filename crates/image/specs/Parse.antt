@@ -8,9 +8,10 @@ use Rattle.settings.specs.Ranges.{inRange, SettingsRange}
 use Rattle.settings.specs.Refusal.{passed, refuseUnless, firstRefusal, badSetting, badLength, badNumber, badCheck, badRecord}
 use Rattle.settings.specs.declared.Settings.{Settings}
 use Rattle.byte_lists.specs.Little.{number}
-use Rattle.image_block.specs.Block.{checked, same}
+use Rattle.image_block.specs.Block.{checked}
+use Rattle.byte_lists.specs.Lists.{same}
 use Rattle.image.specs.Brick.{Brick, LogEntry, sound, Sound}
-use Rattle.settings.specs.Each.{each}
+use Rattle.byte_lists.specs.Each.{each}
 use Rattle.image.specs.Image.{imageOf, imageSize}
 use mathlib.Core.Path.{_≡_}
 

@@ -4,7 +4,5 @@ pub mod ChangeLaws
 pub mod CheckLaws
 pub mod Figures
 pub mod LayoutLaws
-pub mod PutLaws
 pub mod RowLaws
-pub mod SameLaws
 pub mod StoreLaws

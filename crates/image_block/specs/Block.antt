@@ -1,11 +1,11 @@
 -- Document 01, "The saved brick": one block of 512 bytes. After the check, at bytes 0 and 1, come its 510 other bytes, its body.
-use mathlib.Core.Bool.{Bool, true, false, _&&_}
+use mathlib.Core.Bool.{Bool}
 use mathlib.Core.List.{List, [], _∷_, _++_}
 use Prim.Native.Nat.{ℕ, suc, _+_, _-_, _*_, _%_}
-use lib.Dec.{eqb}
-use lib.ListN.{length, take, drop, replicate}
+use lib.ListN.{length, take, drop}
 use Rattle.byte_lists.specs.Little.{little}
 use Rattle.settings.specs.declared.Settings.{Settings}
+use Rattle.byte_lists.specs.Lists.{zeros, same}
 
 -- the sum of the bytes, the first one k times, the next k + 1 times, and so on
 unfoldable pub weighted : ℕ → List ℕ → ℕ
@@ -24,19 +24,9 @@ sealed body = little 2 (checkOf body) ++ body
 unfoldable pub unchecked : List ℕ → List ℕ
 unchecked body = 0 ∷ 0 ∷ body
 
--- whether two lists of bytes are the same
-unfoldable pub same : List ℕ → List ℕ → Bool
-same [] [] = true
-same [] (y ∷ ys) = false
-same (x ∷ xs) [] = false
-same (x ∷ xs) (y ∷ ys) = eqb x y && same xs ys
-
 -- whether a block's check holds: bytes 0 and 1 are those of the check
 unfoldable pub checked : List ℕ → Bool
 checked block = same (take 2 block) (little 2 (checkOf (drop 2 block)))
-
-unfoldable pub zeros : ℕ → List ℕ
-zeros k = replicate k 0
 
 -- "Byte 2 is the kind: 0 unused, 1 head, 2 entry."
 unfoldable pub unusedKind : ℕ
@@ -70,10 +60,6 @@ unusedBody = unusedKind ∷ zeros 509
 
 unfoldable pub unusedBlock : List ℕ
 unusedBlock = sealed unusedBody
-
--- a list with other bytes placed into it from a place on
-unfoldable pub put : ℕ → List ℕ → List ℕ → List ℕ
-put at bytes l = take at l ++ bytes ++ drop (at + length bytes) l
 
 -- the sum of the bytes
 unfoldable pub total : List ℕ → ℕ

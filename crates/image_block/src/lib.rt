@@ -5,7 +5,8 @@ ghost use Prim.Native.Nat.{_+_, _-_, _≤_, _<_};
 ghost use lib.ListN.{length, drop};
 ghost use Rattle.settings.specs.Ranges.{SettingsRange};
 ghost use Rattle.image_block.specs.Block.{total};
-ghost use Rattle.image_block.specs.Block.{weighted, checkOf, checked, sealed, unchecked, headBody, headBlock, entryBody, entryBlock, unusedBlock, zeros, same, put};
+ghost use Rattle.image_block.specs.Block.{weighted, checkOf, checked, sealed, unchecked, headBody, headBlock, entryBody, entryBlock, unusedBlock};
+ghost use Rattle.byte_lists.specs.Lists.{zeros, same};
 use byte_lists::byte;
 use byte_lists::read2;
 use settings::Settings;
@@ -192,16 +193,4 @@ pub fn same_body(a: &[u8], b: &[u8]) -> bool
         p += 1;
     }
     differ == 0
-}
-
-// Bytes copied into the image from a place on.
-pub fn store(image: &mut [u8], at: usize, b: &[u8])
-    requires { ⌜ at + length (now b) ≤ length (now image) ⌝ }
-    ensures { λ _. ⌜ now (image .exit) ≡ put at (now (b .entry)) (now (image .entry)) ⌝ }
-{
-    let mut i: usize = 0;
-    while i < b.len() {
-        image[at + i] = b[i];
-        i += 1;
-    }
 }

@@ -3,12 +3,12 @@
 ghost use mathlib.Core.Path.{_≡_};
 ghost use Rattle.image.specs.Parse.{parse};
 ghost use Rattle.image_view.specs.View.{foundAt, foundOf};
+use byte_lists::read8;
 use image::Answer;
 use image::Entry;
 use image::Holding;
 use image::number_of;
 use image::open;
-use byte_lists::read8;
 use settings::Settings;
 
 // A checked image and the number of its entries.

@@ -4,17 +4,18 @@ ghost use mathlib.Core.List.{List};
 ghost use Prim.Native.Nat.{ℕ, _+_, _*_, _≤_, _<_};
 ghost use lib.ListN.{length};
 ghost use Rattle.settings.specs.Ranges.{SettingsRange};
-ghost use Rattle.image_block.specs.Block.{headBlock, entryBlock, put, zeros};
+ghost use Rattle.image_block.specs.Block.{headBlock, entryBlock};
+ghost use Rattle.byte_lists.specs.Lists.{put, zeros};
 ghost use Rattle.image.specs.Image.{imageSize, imageOf};
 ghost use Rattle.image.specs.Brick.{fresh};
 ghost use Rattle.image.specs.Opening.{lendingRefusal};
 ghost use Rattle.image_write.specs.Saving.{freshAfter};
 ghost use Rattle.image_write.specs.Saving.{Blocks, clearedOf, shiftedOf};
+use byte_lists::store;
+use image::lending_refusal;
 use image_block::entry;
 use image_block::head;
-use image_block::store;
 use image_block::unused;
-use image::lending_refusal;
 use settings::Settings;
 
 // The head, written anew: 512 bytes.

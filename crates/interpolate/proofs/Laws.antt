@@ -7,5 +7,4 @@ pub mod PlaceLaws
 pub mod Polynomials
 pub mod RowLaws
 pub mod SumLaws
-pub mod Tabulate
 pub mod WeightLaws

@@ -2,5 +2,4 @@
 pub mod Bytes
 pub mod Polynomials
 pub mod Rows
-pub mod Tabulate
 pub mod Values

@@ -5,7 +5,7 @@ use Prim.Native.Nat.{ℕ, zero, suc, _+_, _-_, _≤_, _<_}
 use lib.Dec.{eqb}
 use lib.ListN.{length, getD}
 use Rattle.gf256.specs.Product.{plus, product}
-use Rattle.interpolate.specs.Tabulate.{tabulate}
+use Rattle.byte_lists.specs.Lists.{tabulate}
 use Rattle.interpolate.specs.Bytes.{Byte, byte, bytes}
 use mathlib.Core.Path.{_≡_}
 use Rattle.gf256.specs.Tables.{IsLogs}

@@ -3,7 +3,7 @@ use mathlib.Core.List.{List}
 use Prim.Native.Nat.{ℕ, _+_, _*_}
 use lib.ListN.{length, getD}
 use Rattle.interpolate.specs.Bytes.{bytes, byte}
-use Rattle.interpolate.specs.Tabulate.{tabulate, stacked}
+use Rattle.byte_lists.specs.Lists.{tabulate, stacked}
 use Rattle.poly.specs.Polynomial.{interpolated}
 
 -- byte p of block i, in a row of blocks of `size` bytes

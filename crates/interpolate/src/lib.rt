@@ -7,7 +7,6 @@ ghost use Rattle.gf256.specs.Product.{product, power, twice};
 ghost use Rattle.gf256.specs.Tables.{IsPowers};
 ghost use Rattle.interpolate.specs.Rows.{PointSet, Ready, Denominators, weight};
 ghost use Rattle.interpolate.specs.Rows.{firstPlace, scaled, numerator, denominator};
-ghost use Rattle.interpolate.specs.Tabulate.{tabulate};
 ghost use Rattle.interpolate.specs.Values.{blockAt, blocksAt};
 
 // Where x first stands in a list; the list's length if nowhere.
@@ -53,29 +52,6 @@ fn power_at(powers: &[u8; 255], s: usize) -> u8
         return powers[s];
     }
     powers[s - 255]
-}
-
-// Every byte 0.
-fn clear(out: &mut [u8])
-    ensures { λ _. ⌜ now (out .exit) ≡ tabulate (length (now (out .entry))) (λ (p : ℕ). 0) ⌝ }
-{
-    let mut i = 0;
-    while i < out.len() {
-        out[i] = 0;
-        i += 1;
-    }
-}
-
-// One block copied into another.
-fn copy(from: &[u8], to: &mut [u8])
-    requires { ⌜ length (now from) ≡ length (now to) ⌝ }
-    ensures { λ _. ⌜ now (to .exit) ≡ now (from .entry) ⌝ }
-{
-    let mut i = 0;
-    while i < to.len() {
-        to[i] = from[i];
-        i += 1;
-    }
 }
 
 // A block times w0 added to another; each w is the double of the one before.
@@ -126,20 +102,12 @@ fn add_scaled(powers: &[u8; 255], s: usize, from: &[u8], to: &mut [u8])
     add_multiples(w0, w1, w2, w3, w4, w5, w6, w7, from, to)
 }
 
-// A byte as a larger number.
-fn wide(x: u8) -> usize
-    ensures { λ r. ⌜ r ≡ x ⌝ }
-    ensures { λ r. ⌜ r < 256 ⌝ }
-{
-    x as usize
-}
-
 // The logarithm of a byte.
 fn log_of(logs: &[u8; 256], a: u8) -> usize
     ensures { λ r. ⌜ r ≡ getD (now (logs .entry)) a 0 ⌝ }
     ensures { λ r. ⌜ r < 256 ⌝ }
 {
-    wide(logs[a as usize])
+    byte_lists::wide_index(logs[a as usize])
 }
 
 // The sum of the logarithms of x - b over all points b.
@@ -228,7 +196,7 @@ fn combine(
 {
     let size = out.len();
     let top = numerator_of(logs, points, x);
-    clear(out);
+    byte_lists::clear(out);
     let mut j = 0;
     let mut at = 0;
     while j < points.len() {
@@ -260,7 +228,7 @@ fn row(
     if k < points.len() {
         let at = k * size;
         let end = at + size;
-        copy(&blocks[at..end], out);
+        byte_lists::copy(&blocks[at..end], out);
         return;
     }
     combine(powers, logs, points, sums, blocks, x, out)

@@ -2,7 +2,6 @@
 -- Definitions: Refusal, Ranges (with the quorum), Times, Count, Each. Laws: the modules named ..Laws, and Draws.
 pub mod Count
 pub mod Draws
-pub mod Each
 pub mod QuorumLaws
 pub mod RangeLaws
 pub mod RefusalLaws

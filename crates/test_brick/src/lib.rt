@@ -13,10 +13,10 @@ ghost use Rattle.image_view.specs.View.{foundOf};
 use brick::Given;
 use image::Shown;
 use image::place_of;
+use image_view::Found;
 use message::Message;
 use message::Reply;
 use settings::Settings;
-use image_view::Found;
 
 fn flag(b: bool) -> u64
     ensures { λ r. ⌜ r ≡ one-if b ⌝ }

@@ -135,7 +135,7 @@ fn put_row(row: [u8; 16], at: usize, out: &mut [u8])
     ensures { λ _. ⌜ length row ≡ 16 ⌝ }
 {
     let end = at + 16;
-    coord_apply::copy(&row, &mut out[at..end])
+    byte_lists::copy(&row, &mut out[at..end])
 }
 
 // Sixteen times in their place.

@@ -16,8 +16,8 @@ use Rattle.brick.specs.declared.Given.{Given}
 use Rattle.brick.specs.declared.Given.the-variants.{Answered, Silent, Refused}
 use Rattle.coord_apply.specs.Steps.{Held}
 use Rattle.register.specs.Runs.{Item, World, Moved, message, arrives, arriving, received, repliedWith, putAt, step}
-use Rattle.image_block.specs.Block.{put}
-use Rattle.image_block.proofs.Laws.PutLaws.{put-mid}
+use Rattle.byte_lists.specs.Lists.{put}
+use Rattle.byte_lists.proofs.Laws.PutLaws.{put-mid}
 use Rattle.bench_state.proofs.Laws.PartLaws.{any-default}
 use Rattle.bench_state.specs.State.{imagesOf, upOf, heldAt, worldOf}
 use Rattle.bench_state.proofs.Laws.StateLaws.{image-put}

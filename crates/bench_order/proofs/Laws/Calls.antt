@@ -13,7 +13,7 @@ use Rattle.bench_state.specs.declared.Bench.{Bench}
 use Rattle.bench_player.specs.Lining.{stageOf, heard, Called}
 use Rattle.bench_player.specs.declared.Outcome.{Outcome}
 use Rattle.bench_order.specs.Script.{lines, stays, follows, playsLines, script}
-use Rattle.image_block.specs.Block.{put}
+use Rattle.byte_lists.specs.Lists.{put}
 use Rattle.bench_order.specs.Calls.{Calls, none, call, Taken, Left}
 
 -- one call is one turn, and prints its text

@@ -7,7 +7,7 @@ use Prim.Native.Nat.{ℕ, zero, suc, _≤_}
 use native.Mathlib.Omega.{arith}
 use lib.Dec.{eqb, ltb}
 use borrow.Author.Tests.{eqb-true, eqb-false, eq-eqb, ne-eqb, le-ltb, lt-leb}
-use Rattle.settings.proofs.Laws.RangeLaws.{and-left}
+use Rattle.byte_lists.proofs.Laws.BoolLaws.{and-left}
 use Rattle.settings.specs.declared.Settings.{Settings}
 use Rattle.coord_record.specs.Records.{readingKind, noBricks}
 use Rattle.coord_record.specs.Sound.{unsetOp, readRight, writeRight, opRight}

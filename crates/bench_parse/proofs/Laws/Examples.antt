@@ -6,7 +6,8 @@ use Rattle.bench_parse.specs.Lines.{every, longer, words, isDigit, numbe
 use Rattle.bench_parse.specs.Lines.{isUpper, isHex, hexValue, hexWord, bytesOf, setLine, writeLine, readLine, carryLine}
 use Rattle.bench_parse.specs.Lines.{crashLine, downLine, upLine, noLine, areNumbers, numberIn, setOf, writeWords, writeOf}
 use Rattle.bench_parse.specs.Lines.{readOf, carryOf, oneOf, setText, writeText, readText, carryText, crashText, downText}
-use Rattle.bench_parse.specs.Lines.{upText, same, commandOf, readsWords, reads}
+use Rattle.bench_parse.specs.Lines.{upText, commandOf, readsWords, reads}
+use Rattle.byte_lists.specs.Lists.{same}
 
 -- every definition, opened
 unfoldable opened : Unit {0}

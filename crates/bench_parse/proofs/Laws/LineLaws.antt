@@ -9,7 +9,8 @@ use lib.ListN.{length, getD, take, drop, length-take}
 use borrow.Author.Tests.{ne-eqb, lt-leb, le-leb}
 use Rattle.bench_parse.specs.Lines.{every, words, numberWord, numbersOf, hexWord, areNumbers, Line, carryLine, crashLine}
 use Rattle.bench_parse.specs.Lines.{downLine, upLine, noLine, setOf, writeWords, writeOf, readOf, carryOf, oneOf, setText}
-use Rattle.bench_parse.specs.Lines.{writeText, readText, carryText, crashText, downText, upText, same, commandOf, readsWords}
+use Rattle.bench_parse.specs.Lines.{writeText, readText, carryText, crashText, downText, upText, commandOf, readsWords}
+use Rattle.byte_lists.specs.Lists.{same}
 use Rattle.bench_parse.specs.Lines.{reads}
 use Rattle.bench_parse.specs.Meaning.{wordsFrom, lineOf, Sound}
 use Rattle.bench_parse.specs.Steps.{wordLength, ReadAs, startsNumber, others, NumberFrom, AloneOf, HexesFrom, hexAlone, commandNumber, byNumber}

@@ -10,7 +10,8 @@ use lib.Dec.{eqb, leb·suc-suc}
 use lib.ListN.{length, getD, take, drop, length-drop, drop-of-length-le}
 use lib.Seq.{drop-cons}
 use borrow.Author.Tests.{eq-eqb, ne-eqb, lt-leb, le-leb}
-use Rattle.bench_parse.specs.Lines.{longer, words, same}
+use Rattle.bench_parse.specs.Lines.{longer, words}
+use Rattle.byte_lists.specs.Lists.{same}
 use Rattle.bench_parse.specs.Meaning.{wordsFrom}
 use Rattle.bench_parse.specs.Steps.{wordLength}
 

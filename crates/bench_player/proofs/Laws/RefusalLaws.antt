@@ -7,7 +7,7 @@ use native.Mathlib.Omega.{arith}
 use lib.Dec.{eqb, leb}
 use lib.ListN.{length}
 use borrow.Author.Tests.{eq-eqb, ne-eqb, le-leb, lt-leb, leb-true, eqb-true}
-use Rattle.settings.proofs.Laws.RangeLaws.{and-left, and-right}
+use Rattle.byte_lists.proofs.Laws.BoolLaws.{and-left, and-right}
 use Rattle.settings.specs.Refusal.{refuseUnless, firstRefusal}
 use Rattle.settings.specs.declared.Settings.{Settings}
 use Rattle.bench_parse.specs.Lines.{reads}

@@ -6,7 +6,7 @@ use native.Mathlib.Omega.{arith}
 use native.Mathlib.Numerals.{add-one, unary-clauses}
 use lib.ListN.{length, take, drop, getD, set, length-append, length-set, length-take, take-append-drop}
 use lib.Seq.{take-at, drop-append-add, drop-drop, set-split, take-suc, take-all}
-use Rattle.image_block.specs.Block.{put}
+use Rattle.byte_lists.specs.Lists.{put}
 use Rattle.bench_print.specs.Printing.{written}
 use Rattle.bench_print.specs.Printing.{Placed}
 

@@ -7,8 +7,8 @@ use native.Mathlib.Nat.{suc-mul, mul-le-mul-right}
 use native.Mathlib.Numerals.{add-one}
 use lib.ListN.{length, take, drop, replicate}
 use borrow.Author.Tests.{eq-eqb, ne-eqb}
-use Rattle.image_block.specs.Block.{zeros}
-use Rattle.image_block.proofs.Laws.StoreLaws.{zeros-take, zeros-length}
+use Rattle.byte_lists.specs.Lists.{zeros}
+use Rattle.byte_lists.proofs.Laws.ZeroLaws.{zeros-take, zeros-length}
 use Rattle.erasure.specs.Code.{blockOf}
 use Rattle.interpolate.proofs.Laws.RowLaws.{part-length}
 use Rattle.message.specs.Kinds.{writeKind}

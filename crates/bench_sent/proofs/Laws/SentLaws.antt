@@ -9,8 +9,8 @@ use native.Mathlib.Numerals.{add-one}
 use lib.Dec.{eqb}
 use lib.ListN.{length, take, drop, getD, List·getD-append}
 use lib.Seq.{length-take-le, getD-append-add, getD-take}
-use Rattle.image_block.specs.Block.{zeros, put}
-use Rattle.image_block.proofs.Laws.PutLaws.{put-is, put-length, put-in, put-first, cut-same}
+use Rattle.byte_lists.specs.Lists.{zeros, put}
+use Rattle.byte_lists.proofs.Laws.PutLaws.{put-is, put-length, put-in, put-first, cut-same}
 use Rattle.message.specs.declared.Message.{Message}
 use Rattle.message.specs.declared.Reply.{Reply}
 use Rattle.register.specs.Runs.{Item, message, reply}

@@ -1,4 +1,4 @@
-use Rattle.image_block.specs.Block.{zeros}
+use Rattle.byte_lists.specs.Lists.{zeros}
 use Rattle.bench_sent.specs.Sent.{noFlags}
 use borrow.Author.Needs.{needs}
 use Rattle.bench_sent.proofs.Laws.SentLaws.{reply-put}

@@ -2,7 +2,7 @@ use Prim.Native.Nat.{_-_}
 use native.Mathlib.Omega.{arith}
 use borrow.Author.Needs.{needs}
 use lib.ListN.{length}
-use Rattle.image_block.proofs.Laws.StoreLaws.{Pasted, pasted-none, pasted-more, pasted-length, pasted-all}
+use Rattle.byte_lists.proofs.Laws.PutLaws.{Pasted, pasted-none, pasted-more, pasted-length, pasted-all}
 use Rattle.bench_sent.proofs.store_row.Statement.{statement}
 use Rattle.bench_sent.proofs.store_row.Tie as tie
 

@@ -7,30 +7,26 @@ use Prim.Native.Nat.{ℕ, _+_, _-_, _*_, _≤_, _<_}
 use native.Mathlib.Omega.{arith}
 use native.Mathlib.Nat.{not-suc-le-zero, eq-or-lt-of-le}
 use lib.Dec.{eqb}
-use lib.ListN.{length, take, drop, replicate, getD-replicate, length-replicate, length-drop}
+use lib.ListN.{length, take, drop, length-drop}
 use lib.Seq.{length-take-le}
 use borrow.Author.Tests.{eq-eqb, lt-ltb}
 use borrow.Rule.Slice.PartMut.{putMid}
 use Rattle.settings.specs.Refusal.{firstRefusal}
 use Rattle.image.specs.Opening.{lendingRefusal}
 use Rattle.image_write.specs.Saving.{freshAfter}
-use Rattle.interpolate.specs.Tabulate.{tabulate}
-use Rattle.interpolate.proofs.Laws.Tabulate.{tabulate-by}
 use Rattle.settings.specs.Ranges.{inRange}
 use Rattle.settings.specs.declared.Settings.{Settings}
 use Rattle.image.specs.Brick
 use Rattle.image.specs.Image.{imageOf, imageSize}
-use Rattle.image_block.specs.Block.{put}
-use Rattle.image_block.proofs.Laws.PutLaws.{put-mid, put-length, put-in, put-before}
+use Rattle.byte_lists.specs.Lists.{put, zeros}
+use Rattle.byte_lists.proofs.Laws.ZeroLaws.{zero-list}
+use Rattle.byte_lists.proofs.Laws.PutLaws.{put-mid, put-length, put-in, put-before}
 use Rattle.bench_state.specs.State.{worldOf, freshBench}
 use Rattle.bench_state.specs.State.{Small}
 use Rattle.bench_state.proofs.Laws.StateLaws.{fresh-world}
 use Rattle.bench_state.specs.declared.Bench.{Bench}
 use Rattle.register.specs.Runs.{fresh}
 use Rattle.bench_state.specs.State.{Begun}
-
-pub zeros-are : (n : ℕ) → tabulate n (λ (p : ℕ). 0) ≡ replicate n 0
-zeros-are n = sym (tabulate-by n (λ (p : ℕ). 0) (replicate n 0) (length-replicate n 0) (λ i h. getD-replicate n i 0 0 h))
 
 lending-passes : (s : Settings) (brick len : ℕ) → inRange s ≡ true → len ≡ imageSize s → brick < s .n → lendingRefusal s brick len ≡ 0
 unfolding lendingRefusal firstRefusal
@@ -79,7 +75,7 @@ begun-stored s images new k len small r h l e el f =
     passes t long = lending-passes s k (length t) r long l
 
 -- a set that began, by what the parts of its beginning gave
-pub set-begun : (s : Settings) (b : Bench) (images kept : List ℕ) (k : ℕ) → Small s → b ≡ freshBench s → Begun s images (s .n) → kept ≡ replicate k 0 → k ≡ 256
+pub set-begun : (s : Settings) (b : Bench) (images kept : List ℕ) (k : ℕ) → Small s → b ≡ freshBench s → Begun s images (s .n) → kept ≡ zeros k → k ≡ 256
     → (b ≡ freshBench s) × (worldOf b images kept [] ≡ fresh s)
 set-begun s b images kept k small e h z l =
-    (e, ap (λ (x : Bench). worldOf x images kept []) e ∙ fresh-world s small images kept (h .images-fresh) (z ∙ ap (λ (j : ℕ). replicate j 0) l))
+    (e, ap (λ (x : Bench). worldOf x images kept []) e ∙ fresh-world s small images kept (h .images-fresh) (z ∙ ap (λ (j : ℕ). zeros j) l ∙ zero-list 256))

@@ -6,8 +6,8 @@ use native.Mathlib.Omega.{arith}
 use native.Mathlib.Nat.{not-suc-le-zero}
 use lib.ListN.{length, getD, take, drop, length-map}
 use borrow.Rule.Slice.PartMut.{putMid}
-use Rattle.image_block.specs.Block.{put}
-use Rattle.image_block.proofs.Laws.PutLaws.{put-mid}
+use Rattle.byte_lists.specs.Lists.{put}
+use Rattle.byte_lists.proofs.Laws.PutLaws.{put-mid}
 
 -- what an array of structs tells of its list
 pub length-mapped : (X Y : Type 0) (f : X → Y) (l : List X) (n : ℕ) → length (map f l) ≡ n → length l ≡ n

@@ -7,7 +7,8 @@ use native.Mathlib.Nat.{mul-le-mul}
 use lib.Dec.{leb}
 use borrow.Author.Tests.{leb-true}
 use Rattle.settings.specs.Ranges.{inRange, settingsRefusal}
-use Rattle.settings.proofs.Laws.RangeLaws.{settings-passed, and-left, and-right}
+use Rattle.settings.proofs.Laws.RangeLaws.{settings-passed}
+use Rattle.byte_lists.proofs.Laws.BoolLaws.{and-left, and-right}
 use Rattle.settings.specs.Refusal.{refuseUnless}
 use Rattle.settings.specs.declared.Settings.{Settings}
 use Rattle.settings.proofs.Laws.RefusalLaws.{tested}

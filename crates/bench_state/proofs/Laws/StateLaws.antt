@@ -16,8 +16,8 @@ use Rattle.image.specs.Image.{imageOf, imageSize}
 use Rattle.coord_record.specs.declared.Coordinator.{Coordinator}
 use Rattle.coord_apply.specs.Steps.{Held}
 use Rattle.register.specs.Runs.{World, idle, fresh, putAt}
-use Rattle.image_block.specs.Block.{put}
-use Rattle.image_block.proofs.Laws.PutLaws.{put-length, put-in, put-before, put-behind}
+use Rattle.byte_lists.specs.Lists.{put}
+use Rattle.byte_lists.proofs.Laws.PutLaws.{put-length, put-in, put-before, put-behind}
 use Rattle.bench_state.specs.State.{imagesOf, upOf, idleAt, heldAt, worldOf, freshBench, keptWith}
 use Rattle.bench_state.specs.State.{Small}
 

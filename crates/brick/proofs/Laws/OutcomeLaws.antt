@@ -39,7 +39,7 @@ use Rattle.brick_log.specs.declared.Known.{Known}
 use Rattle.brick_log.specs.declared.Plan.{Plan}
 use Rattle.brick.specs.declared.Given.{Given}
 use Rattle.brick.specs.declared.Given.the-variants.{Answered, Silent, Refused}
-use Rattle.image_block.proofs.Laws.PutLaws.{drop-take}
+use Rattle.byte_lists.proofs.Laws.PutLaws.{drop-take}
 
 -- the first refusal of a list
 pub first-is : (a k : ℕ) (rest : List ℕ) → k ≡ a → (k ≡ 0 → ⊥) → firstRefusal (a ∷ rest) ≡ k

@@ -9,7 +9,8 @@ use lib.ListN.{length, drop}
 use borrow.Author.Tests.{lt-ltb, le-ltb, eq-eqb, ne-eqb}
 use Rattle.message.specs.declared.Message.{Message}
 use Rattle.settings.specs.declared.Settings.{Settings}
-use Rattle.image_block.specs.Block.{put, headBlock, entryBlock}
+use Rattle.image_block.specs.Block.{headBlock, entryBlock}
+use Rattle.byte_lists.specs.Lists.{put}
 use Rattle.image.specs.Brick.{Brick, count}
 use Rattle.image.specs.Image.{imageOf}
 use Rattle.image.specs.Parse.{brickIn}

@@ -12,7 +12,7 @@ use Rattle.image.specs.Brick.{Brick, count, timeAt}
 use Rattle.image.specs.Opening.{workingLog, placeIn, blank}
 use Rattle.image.proofs.Laws.HubLaws.{log-at}
 use Rattle.image.specs.declared.Entry.{Entry}
-use Rattle.image_block.specs.Block.{put}
+use Rattle.byte_lists.specs.Lists.{put}
 use Rattle.message.specs.Flags.{member}
 use Rattle.message.specs.declared.Message.{Message}
 use Rattle.brick_log.specs.Steps.{under, timeFor}

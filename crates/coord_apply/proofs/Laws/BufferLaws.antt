@@ -8,8 +8,8 @@ use Rattle.erasure.specs.Code.{decodedOf}
 use native.Mathlib.Omega.{arith}
 use lib.ListN.{length, getD, take, drop}
 use borrow.Rule.Slice.PartMut.{putMid}
-use Rattle.image_block.specs.Block.{put}
-use Rattle.image_block.proofs.Laws.PutLaws.{put-mid}
+use Rattle.byte_lists.specs.Lists.{put}
+use Rattle.byte_lists.proofs.Laws.PutLaws.{put-mid}
 use Rattle.erasure.specs.Code.{blockOf}
 use Rattle.coord_apply.specs.Acts.{gathered, stripeFrom, placed}
 use Rattle.coord_apply.specs.Acts.{InPlace}

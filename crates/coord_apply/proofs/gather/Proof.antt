@@ -20,17 +20,17 @@ abbrev μ-loop : tie.MeasureT-loop
 loop-holds : tie.Need-loop-holds Inv-loop μ-loop
 loop-holds c = (stacked-none _ _ _, omega arith)
 
-array-read-wide : tie.Need-array-read-wide Inv-loop μ-loop
-array-read-wide c = omega arith
+array-read-wide-index : tie.Need-array-read-wide-index Inv-loop μ-loop
+array-read-wide-index c = omega arith
 
-wide-requires : tie.Need-wide-requires Inv-loop μ-loop
-wide-requires c κs = search needs
+wide-index-requires : tie.Need-wide-index-requires Inv-loop μ-loop
+wide-index-requires c κs = search needs
 
 -- the brick's block is within the blocks, and its place within the output
-from-fits : (c : tie.After-wide Inv-loop μ-loop) → c .wide .result * c .before .before .before .before .before .args .size + c .before .before .before .before .before .args .size ≤ length (c .before .before .before .before .before .args .blocks .now)
+from-fits : (c : tie.After-wide-index Inv-loop μ-loop) → c .wide-index .result * c .before .before .before .before .before .args .size + c .before .before .before .before .before .args .size ≤ length (c .before .before .before .before .before .args .blocks .now)
 from-fits c =
     let s = c .before .before .before .before .before in
-    block-here _ _ (c .before .before .loop .i) _ _ _ (s .pre .1) (c .before .loop-test .taken) (c .wide .ensures)
+    block-here _ _ (c .before .before .loop .i) _ _ _ (s .pre .1) (c .before .loop-test .taken) (c .wide-index .ensures .0)
 
 to-fits : (c : tie.In-loop Inv-loop μ-loop) → c .before .loop .at + c .before .before .before .before .args .size ≤ length (c .before .loop .out)
 to-fits c =
@@ -81,7 +81,7 @@ loop-again c =
     let s = w .before .before .before .before .before in (
       stacked-more _ (s .args .size) _ _ _ _ _ (l .inv .0) (to-fits (w .before))
           (ap length (c .before .before .copy .ensures) ∙ part-length _ _ _ (from-fits w))
-          (c .before .before .copy .ensures ∙ block-cut _ (l .i) _ (s .args .t3) _ (w .wide .ensures)),
+          (c .before .before .copy .ensures ∙ block-cut _ (l .i) _ (s .args .t3) _ (w .wide-index .ensures .0)),
       omega arith,
     )
 
@@ -99,8 +99,8 @@ gather-spec =
     Inv-loop
     μ-loop
     loop-holds
-    array-read-wide
-    wide-requires
+    array-read-wide-index
+    wide-index-requires
     mul-from
     add-till
     add-end

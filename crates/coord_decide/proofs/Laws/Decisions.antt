@@ -5,7 +5,7 @@ use mathlib.Core.Logic.{inl, inr}
 use Prim.Native.Nat.{ℕ}
 use lib.Dec.{eqb, leb, ltb}
 use borrow.Author.Tests.{eqb-true, eqb-false, leb-true, leb-false, ltb-true}
-use Rattle.settings.specs.Each.{some}
+use Rattle.byte_lists.specs.Each.{some}
 use Rattle.coord_record.specs.declared.Op.{Op}
 use Rattle.coord_record.specs.declared.Tally.{Tally}
 use Rattle.coord_tally.specs.Counting.{saidNo, otherTime, missing, highest, atTimes}

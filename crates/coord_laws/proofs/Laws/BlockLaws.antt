@@ -7,14 +7,14 @@ use native.Mathlib.Nat.{mul-le-mul-right, suc-mul, le-refl}
 use native.Mathlib.Omega.{arith}
 use lib.ListN.{length, getD, take, drop}
 use lib.Seq.{getD-take, length-take-le}
-use Rattle.image_block.specs.Block.{put}
-use Rattle.image_block.proofs.Laws.PutLaws.{put-length, put-in, put-before, put-behind}
+use Rattle.byte_lists.specs.Lists.{put}
+use Rattle.byte_lists.proofs.Laws.PutLaws.{put-length, put-in, put-before, put-behind}
 use Rattle.coord_apply.specs.Acts.{gathered, stripeFrom, placed}
 use Rattle.erasure.specs.Code.{codedOf, decodedOf}
 use Rattle.erasure.specs.Code.{blockOf, Stripe, Bricks, blocksOf}
 use Rattle.erasure.proofs.Laws.Theorems.{decode-encode}
 use Rattle.interpolate.specs.Rows.{PointSet}
-use Rattle.interpolate.specs.Tabulate.{stacked}
+use Rattle.byte_lists.specs.Lists.{stacked}
 use Rattle.settings.specs.Ranges.{CodeRange}
 
 -- a brick's own block

@@ -15,7 +15,7 @@ use Rattle.coord_record.specs.declared.Coordinator.{Coordinator}
 use Rattle.coord_record.specs.declared.Op.{Op}
 use Rattle.message.specs.Flags.{brickSet}
 use Rattle.message.specs.Messages.{roundRight, kindRight, messageRefusal}
-use Rattle.settings.proofs.Laws.RangeLaws.{and-left, and-right}
+use Rattle.byte_lists.proofs.Laws.BoolLaws.{and-left, and-right}
 use Rattle.settings.specs.Times.{maxCount, noUpperEnd, timeOf, validTime}
 use Rattle.settings.specs.declared.Clock.{Clock}
 

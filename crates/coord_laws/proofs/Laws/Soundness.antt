@@ -16,7 +16,7 @@ use Rattle.coordinator.proofs.Laws.StepLaws.{take-passed, first-low}
 use Rattle.coord_laws.proofs.Laws.OpCases.{in-read, in-order, in-recovery, first-recovery, next-recovery, write-stores, read-stores}
 use Rattle.coord_laws.specs.Soundness.{Sized}
 use Rattle.coord_laws.proofs.Laws.TallyLaws.{Answering, answering, ReplyParts, reply-parts, tallied-sized, tallied-right, zeros-at, zeros-counted, highest-valid}
-use Rattle.settings.proofs.Laws.Each.{each-all}
+use Rattle.byte_lists.proofs.Laws.EachLaws.{each-all}
 use Rattle.coord_record.specs.Records.{noOp, noBricks, nothingCounted, idleWith}
 use Rattle.coord_record.specs.Rules.{entryRight, tallyRight, brickRight, bricksRight}
 use Rattle.coord_record.specs.Sound.{opRight, unsetOp, readRight, writeRight, timeRight, namedCount, sound}
@@ -31,7 +31,7 @@ use Rattle.coord_decide.proofs.Laws.Decisions.{decided-says}
 use Rattle.coord_tally.proofs.Laws.RowSets.{picked-below, picked-rises}
 use Rattle.coord_decide.specs.declared.Decision.{Decision}
 use Rattle.coord_decide.specs.declared.Decision.the-variants.{Abort, Give, Look, Store, Recover, Finish}
-use Rattle.interpolate.proofs.Laws.Tabulate.{getD-tabulate}
+use Rattle.byte_lists.proofs.Laws.TabulateLaws.{getD-tabulate}
 use Rattle.message.specs.Flags.{members}
 use Rattle.message.specs.declared.Reply.{Reply}
 use Rattle.settings.specs.Count.{count}

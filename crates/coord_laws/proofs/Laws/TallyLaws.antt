@@ -11,7 +11,7 @@ use lib.ListN.{getD, set, replicate, length-set}
 use lib.Seq.{getD-set-same, getD-set-other}
 use borrow.Author.Tests.{lt-ltb, eqb-true, leb-true, ltb-true, not-true}
 use Rattle.coord_laws.proofs.Laws.OpCases.{clash}
-use Rattle.settings.proofs.Laws.Each.{each-all, each-at}
+use Rattle.byte_lists.proofs.Laws.EachLaws.{each-all, each-at}
 use Rattle.coord_record.specs.Rules.{isTarget, blockRight, countedRight, entryRight, tallyRight}
 use Rattle.coord_record.specs.declared.Op.{Op}
 use Rattle.coord_record.specs.declared.Tally.{Tally}
@@ -22,7 +22,7 @@ use Rattle.message.specs.Messages.{roundRight, foundRight, replyRight, replyRef
 use Rattle.message.specs.declared.Reply.{Reply}
 use Rattle.settings.specs.Count.{count, one-if}
 use Rattle.settings.proofs.Laws.Count.{one-is}
-use Rattle.settings.proofs.Laws.RangeLaws.{and-left, and-right}
+use Rattle.byte_lists.proofs.Laws.BoolLaws.{and-left, and-right}
 use Rattle.settings.specs.Refusal.{firstRefusal, refuseUnless}
 use Rattle.settings.specs.Times.{validTime}
 use Rattle.coord_laws.specs.Soundness.{Sized}

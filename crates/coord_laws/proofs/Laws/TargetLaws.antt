@@ -9,7 +9,7 @@ use lib.ListN.{getD}
 use borrow.Author.Tests.{eq-eqb, le-leb, lt-leb, lt-ltb, ltb-true, ltb-false}
 use Rattle.coord_record.specs.Rules.{above, isTarget}
 use Rattle.coord_tally.specs.Counting.{targetFlag, targetFlags}
-use Rattle.interpolate.proofs.Laws.Tabulate.{getD-tabulate}
+use Rattle.byte_lists.proofs.Laws.TabulateLaws.{getD-tabulate}
 use Rattle.message.specs.Flags.{member, members, flagsWithin, brickSet}
 use Rattle.settings.specs.Count.{count, one-if}
 

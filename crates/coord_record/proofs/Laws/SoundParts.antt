@@ -10,7 +10,7 @@ use Rattle.coord_record.specs.Sound.{maxRight, storedRight, readRight, w
 use Rattle.coord_record.specs.declared.Coordinator.{Coordinator}
 use Rattle.coord_record.specs.declared.Op.{Op}
 use Rattle.message.specs.Flags.{members}
-use Rattle.settings.proofs.Laws.RangeLaws.{and-left, and-right}
+use Rattle.byte_lists.proofs.Laws.BoolLaws.{and-left, and-right}
 use Rattle.settings.specs.Ranges.{quorum}
 use Rattle.settings.specs.Times.{maxCount}
 use Rattle.coord_record.specs.SoundParts.{SoundParts}

@@ -9,8 +9,8 @@ use native.Mathlib.Omega.{arith}
 use lib.Dec.{eqb}
 use lib.ListN.{getD}
 use borrow.Author.Tests.{eq-eqb, ne-eqb}
-use Rattle.settings.specs.Each.{some}
-use Rattle.settings.proofs.Laws.Each.{some-found, some-none}
+use Rattle.byte_lists.specs.Each.{some}
+use Rattle.byte_lists.proofs.Laws.EachLaws.{some-found, some-none}
 use Rattle.coord_record.specs.Rules.{isTarget}
 use Rattle.coord_tally.specs.Counting.{saidNo, otherTime, missing, highest}
 use Rattle.message.specs.Flags.{member}

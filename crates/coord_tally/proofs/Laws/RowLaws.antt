@@ -12,8 +12,8 @@ use lib.Seq.{take-all, take-append-le, getD-at, getD-set-same, getD-set-other}
 use borrow.Author.Tests.{lt-ltb, le-ltb, ltb-true, ltb-false}
 use Rattle.coord_record.specs.Rules.{isTarget}
 use Rattle.coord_tally.specs.Counting.{passing, inRow, picked, atTimes, upward, targetRow, targetFlag, targetFlags}
-use Rattle.interpolate.specs.Tabulate.{tabulate}
-use Rattle.interpolate.proofs.Laws.Tabulate.{Filled, tabulate-by, length-tabulate, getD-tabulate}
+use Rattle.byte_lists.specs.Lists.{tabulate}
+use Rattle.byte_lists.proofs.Laws.TabulateLaws.{Filled, tabulate-by, length-tabulate, getD-tabulate}
 
 -- the row so far: the first m of those that pass below b, and how many they are
 pub record Picks (p : ℕ → Bool) (m b : ℕ) (row : List ℕ) (k : ℕ) : Type 0 where

@@ -13,7 +13,7 @@ use lib.Seq.{getD-at, getD-take, length-take-le}
 use borrow.Author.Tests.{lt-ltb, ltb-true, ltb-false}
 use Rattle.coord_tally.specs.Counting.{passing, inRow, picked, atTimes, upward, targetRow}
 use Rattle.interpolate.specs.Rows.{PointSet}
-use Rattle.interpolate.proofs.Laws.Tabulate.{length-tabulate, getD-tabulate}
+use Rattle.byte_lists.proofs.Laws.TabulateLaws.{length-tabulate, getD-tabulate}
 use Rattle.settings.specs.Count.{count, one-if}
 
 -- one more brick: as it was below, the brick itself at the end

@@ -4,7 +4,7 @@ use lib.ListN.{replicate}
 use Prim.Native.Nat.{_-_, _≤_}
 use Rattle.coord_tally.specs.Counting.{upward}
 use Rattle.coord_tally.proofs.Laws.RowLaws.{targets-all}
-use Rattle.interpolate.proofs.Laws.Tabulate.{Filled, filled-none, filled-more}
+use Rattle.byte_lists.proofs.Laws.TabulateLaws.{Filled, filled-none, filled-more}
 use Rattle.coord_tally.proofs.target_row.Statement.{statement}
 use Rattle.coord_tally.proofs.target_row.Tie as tie
 

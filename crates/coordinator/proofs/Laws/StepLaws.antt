@@ -30,7 +30,8 @@ use Rattle.message.specs.Flags.{members}
 use Rattle.message.specs.Messages.{replyRefusal}
 use Rattle.message.specs.declared.Reply.{Reply}
 use Rattle.settings.specs.Ranges.{CodeRange}
-use Rattle.settings.proofs.Laws.RangeLaws.{code-passed, and-left, and-right}
+use Rattle.settings.proofs.Laws.RangeLaws.{code-passed}
+use Rattle.byte_lists.proofs.Laws.BoolLaws.{and-left, and-right}
 use Rattle.settings.specs.Ranges.{codeRefusal, quorum}
 use Rattle.settings.specs.Refusal.{firstRefusal, refuseUnless}
 use Rattle.settings.specs.Times.{drawOf, numberOf}

@@ -15,10 +15,11 @@ use Rattle.erasure.specs.Refusals.{allBelow, stands, allDifferent, encod
 use Rattle.gf256.specs.Computed.{every}
 use Rattle.gf256.proofs.Laws.Computed.{at-entry}
 use Rattle.interpolate.specs.Rows.{PointSet}
-use Rattle.interpolate.proofs.Laws.Tabulate.{length-tabulate, getD-tabulate, tabulate-by}
+use Rattle.byte_lists.proofs.Laws.TabulateLaws.{length-tabulate, getD-tabulate, tabulate-by}
 use Rattle.settings.specs.Ranges.{codeRefusal}
 use Rattle.settings.specs.Ranges.{CodeRange}
-use Rattle.settings.proofs.Laws.RangeLaws.{code-passed, and-left, and-right}
+use Rattle.settings.proofs.Laws.RangeLaws.{code-passed}
+use Rattle.byte_lists.proofs.Laws.BoolLaws.{and-left, and-right}
 use Rattle.settings.specs.Refusal.{refuseUnless}
 use Rattle.settings.proofs.Laws.RefusalLaws.{passed-first, passed-rest, tested}
 use Rattle.erasure.specs.Refusals.{Encodes}

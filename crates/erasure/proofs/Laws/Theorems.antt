@@ -13,7 +13,7 @@ use Rattle.interpolate.proofs.Laws.BlockLaws.{byte-stacked, length-blocksAt, bl
 use Rattle.interpolate.specs.Bytes.{Byte, byte, bytes, same}
 use Rattle.interpolate.proofs.Laws.Bytes.{byte-small}
 use Rattle.interpolate.proofs.Laws.RowLaws.{different-points, part-byte}
-use Rattle.interpolate.proofs.Laws.Tabulate.{getD-tabulate}
+use Rattle.byte_lists.proofs.Laws.TabulateLaws.{getD-tabulate}
 use Rattle.interpolate.specs.Values.{byteAt, valueAt}
 use Rattle.interpolate.specs.Rows.{pointsOf}
 use Rattle.poly.proofs.Laws.Laws.{recovered}

@@ -3,10 +3,11 @@ use mathlib.Core.Path.{_≡_}
 use mathlib.Core.Bool.{Bool, true, false, _&&_}
 use mathlib.Core.List.{List, [], _∷_}
 use lib.Dec.{T, eqb, eqb→eq}
-use Rattle.image_block.specs.Block.{weighted, checkOf, zeros, headKind, headBody, entryKind, entryBody}
+use Rattle.image_block.specs.Block.{weighted, checkOf, headKind, headBody, entryKind, entryBody}
+use Rattle.byte_lists.specs.Lists.{zeros}
 use Rattle.erasure.specs.Code.{firstPoints, codedOf, decodedOf}
 use Rattle.gf256.specs.Product.{plus, twice, shiftAdd, product, inverseBelow, inverse}
-use Rattle.interpolate.specs.Tabulate.{tabulate, stacked}
+use Rattle.byte_lists.specs.Lists.{tabulate, stacked}
 use Rattle.interpolate.specs.Values.{byteAt, valueAt, blockAt, blocksAt}
 use Rattle.byte_lists.specs.Little.{byteOf, little}
 use Rattle.poly.specs.Polynomial.{pick, sub, sum, factor, basisTo, basis, interpolated}

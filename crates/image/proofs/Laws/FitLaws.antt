@@ -10,7 +10,8 @@ use borrow.Author.Tests.{lt-ltb, le-ltb, le-leb, lt-leb, eq-eqb, ne-eqb}
 use Rattle.settings.specs.Ranges.{inRange, settingsRefusal}
 use Rattle.settings.specs.Refusal.{refuseUnless, firstRefusal}
 use Rattle.settings.specs.declared.Settings.{Settings}
-use Rattle.image_block.specs.Block.{same, unchecked, headBody, entryBody, unusedBody}
+use Rattle.image_block.specs.Block.{unchecked, headBody, entryBody, unusedBody}
+use Rattle.byte_lists.specs.Lists.{same}
 use Rattle.image.specs.Brick.{savedTime, countSound}
 use Rattle.image.specs.Image.{imageSize}
 use Rattle.image.specs.Parse.{heldIn}

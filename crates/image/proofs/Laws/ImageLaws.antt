@@ -8,7 +8,7 @@ use native.Mathlib.Decide.{ℕ-discrete}
 use lib.Arith.{lt-of-le-ne}
 use lib.ListN.{length, take, drop, length-append, length-take, length-drop, drop-of-length-le}
 use lib.Seq.{take-all, drop-at, take-at, take-append-le, drop-append-le, take-add}
-use Rattle.image_block.specs.Block.{put}
+use Rattle.byte_lists.specs.Lists.{put}
 use Rattle.image.specs.Image.{stacked}
 use Rattle.image.specs.Parse.{blockAt}
 

@@ -14,12 +14,12 @@ use borrow.Author.Tests.{ltb-true, le-ltb, leb-true, eqb-true}
 use Rattle.settings.specs.Ranges.{inRange}
 use Rattle.settings.specs.Refusal.{refuseUnless, firstRefusal}
 use Rattle.settings.specs.Ranges.{SettingsRange}
-use Rattle.settings.proofs.Laws.RangeLaws.{and-left, and-right}
+use Rattle.byte_lists.proofs.Laws.BoolLaws.{and-left, and-right}
 use Rattle.settings.specs.declared.Settings.{Settings}
 use Rattle.image_block.specs.Block.{checked}
 use Rattle.image.specs.Brick.{count, timeAt, countSound}
-use Rattle.settings.specs.Each.{each}
-use Rattle.settings.proofs.Laws.Each.{each-at, each-all, each-not}
+use Rattle.byte_lists.specs.Each.{each}
+use Rattle.byte_lists.proofs.Laws.EachLaws.{each-at, each-all, each-not}
 use Rattle.image.specs.Image.{imageSize}
 use Rattle.image.specs.Parse.{blockAt, countIn, promiseIn, timeIn, brickIn, checkedAt, isImage, openRefusal, Refuses, parse}
 use Rattle.image.proofs.Laws.ParseLaws.{range-of, count-in, refusal-0, refusal-5, refusal-6, parse-opens, parse-refuses}

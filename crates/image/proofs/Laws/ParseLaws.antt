@@ -15,13 +15,14 @@ use Rattle.settings.proofs.Laws.RangeLaws.{settings-passed}
 use Rattle.settings.specs.Refusal.{refuseUnless, firstRefusal}
 use Rattle.settings.specs.declared.Settings.{Settings}
 use Rattle.byte_lists.specs.Little.{number}
-use Rattle.image_block.specs.Block.{headBlock, entryBlock, checked, same, entryBody, headBody, unusedBlock, unusedBody}
+use Rattle.image_block.specs.Block.{headBlock, entryBlock, checked, entryBody, headBody, unusedBlock, unusedBody}
+use Rattle.byte_lists.specs.Lists.{same}
 use Rattle.image_block.proofs.Laws.LayoutLaws.{head-count, head-promise, entry-time, entry-held}
 use Rattle.image_block.proofs.Laws.CheckLaws.{sealed-checked}
-use Rattle.image_block.proofs.Laws.SameLaws.{same-true, same-of}
+use Rattle.byte_lists.proofs.Laws.SameLaws.{same-true, same-of}
 use Rattle.image.specs.Brick.{Brick, noEntry, count, timeAt, heldAt, sound}
-use Rattle.settings.specs.Each.{each}
-use Rattle.settings.proofs.Laws.Each.{each-all}
+use Rattle.byte_lists.specs.Each.{each}
+use Rattle.byte_lists.proofs.Laws.EachLaws.{each-all}
 use Rattle.image.specs.Image.{blockOf, imageOf, imageSize}
 use Rattle.image.specs.Parse.{blockAt, countIn, promiseIn, timeIn, heldIn, entryIn, entriesIn, brickIn, checkedAt, isImage, openRefusal, Opens, Refuses, parse}
 use Rattle.image.specs.Brick.{Sound}

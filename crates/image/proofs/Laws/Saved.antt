@@ -11,10 +11,10 @@ use Rattle.settings.specs.Refusal.{badCheck}
 use Rattle.settings.specs.declared.Settings.{Settings}
 use Rattle.byte_lists.specs.Little.{Bytes}
 use Rattle.image_block.specs.Block.{checked}
-use Rattle.image_block.proofs.Laws.StoreLaws.{zeros-length}
+use Rattle.byte_lists.proofs.Laws.ZeroLaws.{zeros-length}
 use Rattle.image_block.proofs.Laws.ChangeLaws.{change-unchecked}
 use Rattle.image.specs.Brick.{Brick, count, timeAt, heldAt, fresh, savedTime, risesAt, sound}
-use Rattle.settings.proofs.Laws.Each.{each-at, each-not}
+use Rattle.byte_lists.proofs.Laws.EachLaws.{each-at, each-not}
 use Rattle.image.specs.Image.{imageOf, imageSize}
 use Rattle.image.proofs.Laws.ImageLaws.{block-length}
 use Rattle.image.specs.Parse.{blockAt, checkedAt, Opens, Refuses, parse}

@@ -8,8 +8,8 @@ use native.Mathlib.Numerals.{add-one}
 use lib.ListN.{length, take, drop, set, replicate}
 use lib.Seq.{set-at}
 use Rattle.image_block.specs.Block.{checked}
-use Rattle.settings.specs.Each.{each}
-use Rattle.settings.proofs.Laws.Each.{each-none, each-more, each-not}
+use Rattle.byte_lists.specs.Each.{each}
+use Rattle.byte_lists.proofs.Laws.EachLaws.{each-none, each-more, each-not}
 use Rattle.image.proofs.Laws.ImageLaws.{block-length}
 use Rattle.image.specs.Parse.{blockAt, checkedAt, timeIn}
 use Rattle.image.specs.Opening.{rowOf, blank, entryFor, rises, slotFits}

@@ -7,14 +7,14 @@ use lib.Dec.{leb, ltb, eqb}
 use lib.ListN.{length}
 use borrow.Author.Tests.{lt-ltb, le-ltb, le-leb, leb-true, ltb-true, eqb-true, eq-eqb}
 use Rattle.settings.specs.Ranges.{SettingsRange}
-use Rattle.settings.proofs.Laws.RangeLaws.{and-left, and-right}
+use Rattle.byte_lists.proofs.Laws.BoolLaws.{and-left, and-right}
 use Rattle.settings.specs.Times.{validTime, noUpperEnd, timeOf}
 use Rattle.settings.specs.declared.Settings.{Settings}
 use Rattle.image_block.specs.Block.{headBlock, entryBlock, unusedBlock}
 use Rattle.image_block.proofs.Laws.LayoutLaws.{head-length, entry-length, unused-length}
 use Rattle.image.specs.Brick.{Brick, count, timeAt, heldAt, savedTime, risesAt, entrySound, countSound, sound}
-use Rattle.settings.specs.Each.{each}
-use Rattle.settings.proofs.Laws.Each.{each-at, each-all}
+use Rattle.byte_lists.specs.Each.{each}
+use Rattle.byte_lists.proofs.Laws.EachLaws.{each-at, each-all}
 use Rattle.image.specs.Image.{blockOf, imageOf, imageSize}
 use Rattle.image.proofs.Laws.ImageLaws.{Even, stacked-at, stacked-length}
 use Rattle.image.specs.Parse.{blockAt}

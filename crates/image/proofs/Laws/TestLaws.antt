@@ -9,14 +9,15 @@ use lib.Dec.{leb, ltb, eqb}
 use lib.ListN.{length, drop, length-take, length-drop}
 use borrow.Author.Tests.{lt-ltb, le-ltb, le-leb, leb-true, ltb-true, ltb-false}
 use Rattle.settings.specs.Ranges.{SettingsRange}
-use Rattle.settings.proofs.Laws.RangeLaws.{and-left, and-right}
+use Rattle.byte_lists.proofs.Laws.BoolLaws.{and-left, and-right}
 use Rattle.settings.specs.declared.Settings.{Settings}
-use Rattle.image_block.specs.Block.{sealed, same, headBody, headBlock, entryBody, entryBlock, unusedBody, unusedBlock}
+use Rattle.image_block.specs.Block.{sealed, headBody, headBlock, entryBody, entryBlock, unusedBody, unusedBlock}
+use Rattle.byte_lists.specs.Lists.{same}
 use Rattle.image_block.proofs.Laws.CheckLaws.{checked-sealed, sealed-body}
-use Rattle.image_block.proofs.Laws.SameLaws.{same-true, same-of}
+use Rattle.byte_lists.proofs.Laws.SameLaws.{same-true, same-of}
 use Rattle.image.specs.Brick.{Brick, LogEntry, count, timeAt, heldAt, savedTime, risesAt, countSound, sound}
-use Rattle.settings.specs.Each.{each}
-use Rattle.settings.proofs.Laws.Each.{each-at, each-all}
+use Rattle.byte_lists.specs.Each.{each}
+use Rattle.byte_lists.proofs.Laws.EachLaws.{each-at, each-all}
 use Rattle.image.specs.Image.{blockOf, imageOf, imageSize}
 use Rattle.image.proofs.Laws.ImageLaws.{stacked-ext, stacked-of, block-length}
 use Rattle.image.specs.Parse.{blockAt, countIn, promiseIn, timeIn, heldIn, entryIn, brickIn, checkedAt, isImage}

@@ -1,4 +1,5 @@
-use Rattle.image_block.specs.Block.{unusedBody, unusedKind, zeros}
+use Rattle.image_block.specs.Block.{unusedBody, unusedKind}
+use Rattle.byte_lists.specs.Lists.{zeros}
 use borrow.Author.Needs.{needs}
 use Rattle.image.proofs.unused_fits.Statement.{statement}
 use Rattle.image.proofs.unused_fits.Tie as tie

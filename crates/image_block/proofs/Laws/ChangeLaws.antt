@@ -13,9 +13,9 @@ use borrow.Author.Tests.{not-true, eqb-false}
 use Rattle.byte_lists.specs.Little.{little, number}
 use Rattle.byte_lists.specs.Little.{Bytes}
 use Rattle.byte_lists.proofs.Laws.LittleLaws.{number-little, limit-2}
-use Rattle.settings.proofs.Laws.RangeLaws.{and-left, and-right}
+use Rattle.byte_lists.proofs.Laws.BoolLaws.{and-left, and-right}
 use Rattle.image_block.specs.Block.{weighted, checkOf, checked}
-use Rattle.image_block.proofs.Laws.SameLaws.{same-true, unsame}
+use Rattle.byte_lists.proofs.Laws.SameLaws.{same-true, unsame}
 use Rattle.image_block.proofs.Laws.CheckLaws.{check-high}
 
 -- 65521 has no divisor from 2 to 255: one computed test

@@ -13,8 +13,9 @@ use borrow.Author.Tests.{eq-eqb, ne-eqb}
 use Rattle.byte_lists.specs.Little.{little, number}
 use Rattle.byte_lists.specs.Little.{Bytes}
 use Rattle.byte_lists.proofs.Laws.LittleLaws.{little-length, little-number, number-little, limit-2}
-use Rattle.image_block.specs.Block.{weighted, checkOf, checked, sealed, same}
-use Rattle.image_block.proofs.Laws.SameLaws.{same-true, same-of, same-refl, unsame}
+use Rattle.image_block.specs.Block.{weighted, checkOf, checked, sealed}
+use Rattle.byte_lists.specs.Lists.{same}
+use Rattle.byte_lists.proofs.Laws.SameLaws.{same-true, same-of, same-refl, unsame}
 
 pub check-high : (body : List ℕ) → checkOf body < 65521
 unfolding checkOf

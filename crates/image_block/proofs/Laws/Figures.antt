@@ -2,7 +2,8 @@
 use mathlib.Core.Path.{_≡_, refl}
 use mathlib.Core.List.{[], _∷_}
 use Rattle.byte_lists.specs.Little.{little, byteOf}
-use Rattle.image_block.specs.Block.{weighted, checkOf, sealed, zeros, headKind, headBody, entryKind, entryBody, unusedKind, unusedBody, unusedBlock}
+use Rattle.image_block.specs.Block.{weighted, checkOf, sealed, headKind, headBody, entryKind, entryBody, unusedKind, unusedBody, unusedBlock}
+use Rattle.byte_lists.specs.Lists.{zeros}
 
 pub fresh-head-check : checkOf (headBody (record { n = 3; m = 1; size = 1; capacity = 4 }) 0 1 0) ≡ 55
 unfolding weighted checkOf headBody headKind little byteOf zeros

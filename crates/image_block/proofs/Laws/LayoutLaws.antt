@@ -8,9 +8,10 @@ use lib.Seq.{take-at}
 use Rattle.byte_lists.specs.Little.{little, number}
 use Rattle.byte_lists.proofs.Laws.LittleLaws.{number-little, limit-2, limit-8}
 use Rattle.settings.specs.declared.Settings.{Settings}
-use Rattle.image_block.specs.Block.{sealed, zeros, headBody, headBlock, entryBody, entryBlock, unusedBody, unusedBlock}
+use Rattle.image_block.specs.Block.{sealed, headBody, headBlock, entryBody, entryBlock, unusedBody, unusedBlock}
+use Rattle.byte_lists.specs.Lists.{zeros}
 use Rattle.image_block.proofs.Laws.CheckLaws.{sealed-length}
-use Rattle.image_block.proofs.Laws.StoreLaws.{zeros-length}
+use Rattle.byte_lists.proofs.Laws.ZeroLaws.{zeros-length}
 
 head-body-length : (s : Settings) (brick count promise : ℕ) → length (headBody s brick count promise) ≡ 510
 unfolding headBody little

@@ -1,15 +1,16 @@
 -- The stores that make a block, as the lists that they leave.
-use mathlib.Core.Path.{_≡_, sym, ap, _∙_}
+use mathlib.Core.Path.{_≡_, ap, _∙_}
 use mathlib.Core.List.{List, [], _∷_, _++_}
-use Prim.Native.Nat.{ℕ, _+_, _-_, _/_, _≤_, _<_}
+use Prim.Native.Nat.{ℕ, _+_, _-_, _/_, _≤_}
 use native.Mathlib.Omega.{arith}
-use lib.ListN.{length, take, drop, getD, set, length-replicate, replicate-append-replicate}
-use lib.Seq.{take-at, drop-at, take-length, paste, paste-zero, paste-suc, length-paste}
-use native.Mathlib.Numerals.{add-one}
+use lib.ListN.{length, drop, set}
 use Rattle.byte_lists.specs.Little.{byteOf}
 use Rattle.byte_lists.proofs.Laws.LittleLaws.{little-2, little-8}
 use Rattle.settings.specs.declared.Settings.{Settings}
-use Rattle.image_block.specs.Block.{checkOf, sealed, unchecked, zeros, headKind, headBody, entryKind, entryBody, put}
+use Rattle.image_block.specs.Block.{checkOf, sealed, unchecked, headKind, headBody, entryKind, entryBody}
+use Rattle.byte_lists.specs.Lists.{zeros, put}
+use Rattle.byte_lists.proofs.Laws.ZeroLaws.{zeros-length, zeros-take, zeros-drop}
+use Rattle.byte_lists.proofs.Laws.PutLaws.{Pasted, pasted-all}
 
 pub head-stored : (s : Settings) (brick count promise z0 z1 c0 c1 p0 p1 p2 p3 p4 p5 p6 p7 : ℕ)
     → z0 ≡ byteOf (s .size) → z1 ≡ byteOf (s .size / 256)
@@ -32,53 +33,6 @@ unfolding sealed
 sealed-stored [] check b0 b1 n e e0 e1 = absurd (omega arith)
 sealed-stored (x ∷ []) check b0 b1 n e e0 e1 = absurd (omega arith)
 sealed-stored (x ∷ y ∷ l) check b0 b1 n e e0 e1 = rw (← e, ← little-2 check b0 b1 e0 e1)
-
--- zeros in two parts
-pub zeros-append : (a b : ℕ) → zeros (a + b) ≡ zeros a ++ zeros b
-unfolding zeros
-zeros-append a b = sym (replicate-append-replicate a b 0)
-
-pub zeros-length : (n : ℕ) → length (zeros n) ≡ n
-unfolding zeros
-zeros-length n = length-replicate n 0
-
-pub zeros-take : (n k : ℕ) → k ≤ n → take k (zeros n) ≡ zeros k
-zeros-take n k h =
-    let e : k + (n - k) ≡ n = omega arith in
-    ap (λ (m : ℕ). take k (zeros m)) (sym e) ∙ ap (λ (l : List ℕ). take k l) (zeros-append k (n - k))
-    ∙ take-at (zeros k) (zeros (n - k)) k (zeros-length k)
-
-pub zeros-drop : (n k : ℕ) → k ≤ n → drop k (zeros n) ≡ zeros (n - k)
-zeros-drop n k h =
-    let e : k + (n - k) ≡ n = omega arith in
-    ap (λ (m : ℕ). drop k (zeros m)) (sym e) ∙ ap (λ (l : List ℕ). drop k l) (zeros-append k (n - k))
-    ∙ drop-at (zeros k) (zeros (n - k)) k (zeros-length k)
-
--- a copy of the first i elements of s into d from a place on has left l
-pub record Pasted (d s : List ℕ) (at i : ℕ) (l : List ℕ) : Type 0 where
-  pub within : at + length s ≤ length d
-  pub so-far : i ≤ length s
-  pub left-by : l ≡ paste d at s i
-
-pub pasted-none : (d s : List ℕ) (at : ℕ) → at + length s ≤ length d → Pasted d s at 0 d
-pasted-none d s at h = record { within = h; so-far = omega arith; left-by = paste-zero d at s }
-
-pub pasted-more : (d s l : List ℕ) (at i : ℕ) → i < length s → Pasted d s at i l → Pasted d s at (i + 1) (set l (at + i) (getD s i 0))
-pasted-more d s l at i h p =
-    record {
-      within = p .within;
-      so-far = omega arith;
-      left-by = rw (p .left-by, add-one i) (paste-suc d at s i 0 (omega (arith, p .within)) h);
-    }
-
-pub pasted-length : (d s l : List ℕ) (at i : ℕ) → Pasted d s at i l → length l ≡ length d
-pasted-length d s l at i p = ap length (p .left-by) ∙ length-paste d at s i (omega (arith, p .within, p .so-far)) (p .so-far)
-
-pub pasted-all : (d s l : List ℕ) (at i : ℕ) → length s ≤ i → Pasted d s at i l → l ≡ put at s d
-unfolding put
-pasted-all d s l at i h p =
-    let e : i ≡ length s = omega (arith, p .so-far) in
-    p .left-by ∙ rw (e, take-length s)
 
 -- the loop that places a block among zeros
 pub held-all : (block b : List ℕ) (i : ℕ) → length block ≤ i → Pasted (zeros 512) block 16 i b

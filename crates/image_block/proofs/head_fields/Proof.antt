@@ -1,4 +1,4 @@
-use Rattle.image_block.specs.Block.{zeros}
+use Rattle.byte_lists.specs.Lists.{zeros}
 use Rattle.image_block.proofs.Laws.StoreLaws.{head-stored}
 use borrow.Author.Needs.{needs}
 use Rattle.image_block.proofs.head_fields.Statement.{statement}

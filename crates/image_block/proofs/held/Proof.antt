@@ -1,9 +1,11 @@
-use Rattle.image_block.proofs.Laws.StoreLaws.{Pasted, zeros-length, held-all, pasted-none, pasted-more}
+use Rattle.image_block.proofs.Laws.StoreLaws.{held-all}
+use Rattle.byte_lists.proofs.Laws.PutLaws.{Pasted, pasted-none, pasted-more}
+use Rattle.byte_lists.proofs.Laws.ZeroLaws.{zeros-length}
 use Prim.Native.Nat.{_-_}
 use native.Mathlib.Omega.{arith}
 use borrow.Author.Needs.{needs}
 use lib.ListN.{length}
-use Rattle.image_block.specs.Block.{zeros}
+use Rattle.byte_lists.specs.Lists.{zeros}
 use Rattle.image_block.proofs.held.Statement.{statement}
 use Rattle.image_block.proofs.held.Tie as tie
 

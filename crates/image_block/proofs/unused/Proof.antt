@@ -1,5 +1,5 @@
 use mathlib.Core.Path.{sym}
-use Rattle.image_block.specs.Block.{zeros}
+use Rattle.byte_lists.specs.Lists.{zeros}
 use Rattle.image_block.proofs.Laws.Figures.{unused-is}
 use borrow.Author.Needs.{needs}
 use Rattle.image_block.proofs.unused.Statement.{statement}

@@ -25,7 +25,7 @@ use Rattle.image.specs.declared.Answer.the-variants.{Refused as Failed}
 use Rattle.image_view.specs.View.{foundOf, foundAt}
 use Rattle.image_view.specs.declared.Found.{Found}
 use Rattle.image_view.specs.declared.Found.the-variants.{At, Refused}
-use Rattle.image_block.proofs.Laws.PutLaws.{drop-take}
+use Rattle.byte_lists.proofs.Laws.PutLaws.{drop-take}
 
 -- the time field, read from the whole image
 pub time-there : (l : List ℕ) (k at time : ℕ) → at ≡ 512 * k + 4 → time ≡ number (take 8 (drop at l)) → time ≡ timeIn (blockAt l k)

@@ -35,7 +35,7 @@ use denote.Exit.{yes}
 use Rattle.image_view.specs.declared.View.{View}
 use Rattle.image_view.proofs.View as T
 use Rattle.image_view.proofs.View.Laws as T′
-use Rattle.image_view.proofs.count.Key.{name as #view·count}
+use Rattle.image_view.proofs.count.Key.{name as #image-view·count}
 use Rattle.image_view.proofs.count as cnt
 use Rattle.image_view.proofs.count.Statement as stated
 use Rattle.image_view.proofs.count.Code as code
@@ -82,5 +82,5 @@ pub count-spec : {M : Type 1} → stated.statement M
 unfolding code.routine tablesOf
 count-spec 𝓤 H 𝓜 𝓖 𝓡 =
     entered 𝓤 H (tripleOf 𝓤 H (𝓖 .A) cnt.signature (cnt.spec 𝓤 H (𝓖 .A) (𝓜 .mem) (𝓡 .run)))
-    (tables 𝓤 H 𝓜 𝓡 code.env .C) (tables 𝓤 H 𝓜 𝓡 code.env .Λ) #view·count code.function (code.unfolded 𝓤 H 𝓜 𝓡)
+    (tables 𝓤 H 𝓜 𝓡 code.env .C) (tables 𝓤 H 𝓜 𝓡 code.env .Λ) #image-view·count code.function (code.unfolded 𝓤 H 𝓜 𝓡)
     (count-meets 𝓤 H (𝓖 .A) (givenOf 𝓤 H 𝓜 𝓖) (𝓜 .mem) (𝓡 .run) (tablesOf 𝓤 H 𝓜 (tables 𝓤 H 𝓜 𝓡 code.env)))

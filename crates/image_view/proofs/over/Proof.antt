@@ -37,7 +37,7 @@ use denote.Exit.{yes}
 use Rattle.image_view.specs.declared.View.{View}
 use Rattle.image_view.proofs.View as T
 use Rattle.image_view.proofs.View.Laws as T′
-use Rattle.image_view.proofs.over.Key.{name as #view·over}
+use Rattle.image_view.proofs.over.Key.{name as #image-view·over}
 use Rattle.image_view.proofs.over as over
 use Rattle.image_view.proofs.over.Statement as stated
 use Rattle.image_view.proofs.over.Code as code
@@ -94,5 +94,5 @@ pub over-spec : {M : Type 1} → stated.statement M
 unfolding code.routine tablesOf
 over-spec 𝓤 H 𝓜 𝓖 𝓡 =
     entered 𝓤 H (tripleOf 𝓤 H (𝓖 .A) over.signature (over.spec 𝓤 H (𝓖 .A) (𝓜 .mem) (𝓡 .run)))
-    (tables 𝓤 H 𝓜 𝓡 code.env .C) (tables 𝓤 H 𝓜 𝓡 code.env .Λ) #view·over code.function (code.unfolded 𝓤 H 𝓜 𝓡)
+    (tables 𝓤 H 𝓜 𝓡 code.env .C) (tables 𝓤 H 𝓜 𝓡 code.env .Λ) #image-view·over code.function (code.unfolded 𝓤 H 𝓜 𝓡)
     (over-meets 𝓤 H (𝓖 .A) (givenOf 𝓤 H 𝓜 𝓖) (𝓜 .mem) (𝓡 .run) (tablesOf 𝓤 H 𝓜 (tables 𝓤 H 𝓜 𝓡 code.env)))

@@ -9,9 +9,11 @@ use lib.Dec.{leb, ltb, eqb}
 use lib.ListN.{length, take, drop, getD, set, length-take, length-drop}
 use native.Mathlib.Nat.{zero-add}
 use borrow.Author.Tests.{lt-ltb, le-ltb, le-leb, lt-leb, eq-eqb, ne-eqb, ltb-true, ltb-false, leb-true, leb-false}
-use Rattle.image_block.specs.Block.{put, entryBlock, unusedBlock, zeros}
-use Rattle.image_block.proofs.Laws.PutLaws.{put-length}
-use Rattle.image_block.proofs.Laws.StoreLaws.{Pasted, pasted-all, pasted-more, zeros-drop, zeros-take, zeros-length}
+use Rattle.image_block.specs.Block.{entryBlock, unusedBlock}
+use Rattle.byte_lists.specs.Lists.{put, zeros}
+use Rattle.byte_lists.proofs.Laws.PutLaws.{put-length}
+use Rattle.byte_lists.proofs.Laws.PutLaws.{Pasted, pasted-all, pasted-more}
+use Rattle.byte_lists.proofs.Laws.ZeroLaws.{zeros-drop, zeros-take, zeros-length}
 use Rattle.image_block.proofs.Laws.LayoutLaws.{unused-length}
 use Rattle.image.specs.Image.{stacked}
 use Rattle.image.proofs.Laws.ImageLaws.{Even, stacked-at, stacked-length, stacked-of, stacked-ext, stacked-put, block-length}

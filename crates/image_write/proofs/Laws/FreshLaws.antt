@@ -7,9 +7,10 @@ use lib.ListN.{length}
 use borrow.Author.Tests.{lt-ltb, le-ltb, le-leb, eq-eqb, ne-eqb}
 use Rattle.settings.specs.Ranges.{SettingsRange}
 use Rattle.settings.specs.declared.Settings.{Settings}
-use Rattle.image_block.specs.Block.{put, headBlock, entryBlock, zeros}
+use Rattle.image_block.specs.Block.{headBlock, entryBlock}
+use Rattle.byte_lists.specs.Lists.{put, zeros}
 use Rattle.image_block.proofs.Laws.LayoutLaws.{head-length, entry-length}
-use Rattle.image_block.proofs.Laws.StoreLaws.{zeros-length}
+use Rattle.byte_lists.proofs.Laws.ZeroLaws.{zeros-length}
 use Rattle.image.specs.Brick.{count, timeAt, heldAt, fresh}
 use Rattle.image.specs.Image.{blockOf, imageOf, imageSize}
 use Rattle.image.specs.Opening.{lendingRefusal}

@@ -11,7 +11,8 @@ use lib.Seq.{getD-at, getD-drop}
 use borrow.Author.Tests.{lt-ltb, le-ltb, le-leb, lt-leb}
 use Rattle.settings.specs.Ranges.{SettingsRange}
 use Rattle.settings.specs.declared.Settings.{Settings}
-use Rattle.image_block.specs.Block.{put, headBlock, entryBlock, unusedBlock}
+use Rattle.image_block.specs.Block.{headBlock, entryBlock, unusedBlock}
+use Rattle.byte_lists.specs.Lists.{put}
 use Rattle.image_block.proofs.Laws.LayoutLaws.{head-length, entry-length}
 use Rattle.image.specs.Brick.{Brick, LogEntry, noEntry, count, timeAt, heldAt}
 use Rattle.image.specs.Image.{blockOf, imageOf, imageSize}

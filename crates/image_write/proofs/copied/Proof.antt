@@ -1,8 +1,9 @@
 use Rattle.image_write.proofs.Laws.BlocksLaws.{copied-more}
 use Prim.Native.Nat.{_-_}
 use native.Mathlib.Omega.{arith}
-use Rattle.image_block.specs.Block.{zeros}
-use Rattle.image_block.proofs.Laws.StoreLaws.{Pasted, pasted-none, zeros-length}
+use Rattle.byte_lists.specs.Lists.{zeros}
+use Rattle.byte_lists.proofs.Laws.PutLaws.{Pasted, pasted-none}
+use Rattle.byte_lists.proofs.Laws.ZeroLaws.{zeros-length}
 use Rattle.image_write.proofs.Laws.BlocksLaws.{copied-all}
 use Rattle.image_write.proofs.copied.Statement.{statement}
 use Rattle.image_write.proofs.copied.Tie as tie

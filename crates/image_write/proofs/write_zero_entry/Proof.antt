@@ -1,7 +1,7 @@
 use mathlib.Core.Path.{subst}
 use Prim.Native.Nat.{ℕ, _≤_}
 use mathlib.Core.Path.{sym}
-use Rattle.image_block.specs.Block.{zeros}
+use Rattle.byte_lists.specs.Lists.{zeros}
 use Rattle.image_write.proofs.Laws.BlocksLaws.{zero-entry, zero-length}
 use borrow.Author.Needs.{needs}
 use Rattle.image_write.proofs.write_zero_entry.Statement.{statement}

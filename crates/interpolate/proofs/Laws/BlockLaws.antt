@@ -8,8 +8,8 @@ use native.Mathlib.Omega.{arith}
 use lib.ListN.{length, getD, List·getD-append}
 use lib.Seq.{ext-getD, getD-append-add}
 use Rattle.interpolate.specs.Bytes.{byte, bytes, below}
-use Rattle.interpolate.specs.Tabulate.{stacked}
-use Rattle.interpolate.proofs.Laws.Tabulate.{length-tabulate, getD-tabulate, length-stacked}
+use Rattle.byte_lists.specs.Lists.{stacked}
+use Rattle.byte_lists.proofs.Laws.TabulateLaws.{length-tabulate, getD-tabulate, length-stacked}
 use Rattle.interpolate.specs.Values.{byteAt, valueAt, blockAt, blocksAt}
 use Rattle.poly.specs.Polynomial.{interpolated}
 

@@ -15,8 +15,8 @@ use Rattle.interpolate.specs.Bytes.{Byte, byte, bytes}
 use Rattle.interpolate.proofs.Laws.Bytes.{byte-small}
 use Rattle.interpolate.proofs.Laws.PlaceLaws.{place-is, place-not}
 use Rattle.interpolate.specs.Rows.{firstPlace, scaled, numerator}
-use Rattle.interpolate.specs.Tabulate.{tabulate, stacked}
-use Rattle.interpolate.proofs.Laws.Tabulate.{length-tabulate, getD-tabulate, tabulate-by, tabulate-ext}
+use Rattle.byte_lists.specs.Lists.{tabulate, stacked}
+use Rattle.byte_lists.proofs.Laws.TabulateLaws.{length-tabulate, getD-tabulate, tabulate-by, tabulate-ext}
 use Rattle.interpolate.specs.Values.{byteAt, valueAt, blockAt}
 use Rattle.interpolate.specs.Rows.{pointsOf}
 use Rattle.interpolate.proofs.Laws.WeightLaws.{weight-is}

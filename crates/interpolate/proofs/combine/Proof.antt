@@ -1,3 +1,4 @@
+use Rattle.byte_lists.proofs.Laws.TabulateLaws.{zeros-are}
 use borrow.Author.Needs.{needs}
 use native.Mathlib.Nat.{zero-mul, suc-mul, mul-le-mul-right}
 use native.Mathlib.Omega.{arith}
@@ -5,8 +6,8 @@ use lib.ListN.{length}
 use mathlib.Core.Path.{_≡_, sym, ap, _∙_}
 use Prim.Native.Nat.{_+_, _*_, _-_, _≤_}
 use Rattle.interpolate.proofs.Laws.RowLaws.{partial, row-none, row-step, row-all, part-length}
-use Rattle.interpolate.specs.Tabulate.{tabulate}
-use Rattle.interpolate.proofs.Laws.Tabulate.{length-tabulate}
+use Rattle.byte_lists.specs.Lists.{tabulate}
+use Rattle.byte_lists.proofs.Laws.TabulateLaws.{length-tabulate}
 use Rattle.interpolate.proofs.combine.Statement.{statement}
 use Rattle.interpolate.proofs.combine.Tie as tie
 
@@ -24,7 +25,7 @@ clear-requires : tie.Need-clear-requires Inv-loop μ-loop
 clear-requires c κs = search needs
 
 loop-holds : tie.Need-loop-holds Inv-loop μ-loop
-loop-holds c = (c .before .before .clear .ensures ∙ row-none _ _ _ _, sym (zero-mul _), omega arith)
+loop-holds c = (c .before .before .clear .ensures ∙ sym (zeros-are _) ∙ row-none _ _ _ _, sym (zero-mul _), omega arith)
 
 -- the next block is within the blocks
 within : (c : tie.In-loop Inv-loop μ-loop)

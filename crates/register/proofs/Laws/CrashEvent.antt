@@ -9,7 +9,7 @@ use lib.Dec.{leb, eqb}
 use lib.ListN.{length}
 use borrow.Author.Tests.{eqb-true, eqb-false, eq-eqb}
 use Rattle.settings.specs.Ranges.{SettingsRange}
-use Rattle.settings.proofs.Laws.RangeLaws.{and-left, and-right}
+use Rattle.byte_lists.proofs.Laws.BoolLaws.{and-left, and-right}
 use Rattle.settings.specs.declared.Settings.{Settings}
 use Rattle.coord_record.specs.Records.{noBricks, noOp, idleWith}
 use Rattle.coord_apply.specs.Acts.{ending}

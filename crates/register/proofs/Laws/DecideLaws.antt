@@ -9,15 +9,15 @@ use lib.Dec.{T, leb}
 use borrow.Author.Tests.{eq-eqb, ne-eqb, ltb-true}
 use Rattle.settings.specs.Ranges.{quorum}
 use Rattle.settings.specs.Ranges.{SettingsRange}
-use Rattle.settings.proofs.Laws.RangeLaws.{and-right}
+use Rattle.byte_lists.proofs.Laws.BoolLaws.{and-right}
 use Rattle.settings.specs.Times.{noUpperEnd, validTime, timeOf}
 use Rattle.settings.specs.declared.Settings.{Settings}
 use Rattle.message.specs.Flags.{member, members}
 use Rattle.message.specs.declared.Message.{Message}
 use Rattle.erasure.specs.Code.{codedOf}
 use Rattle.erasure.specs.Code.{Stripe}
-use Rattle.settings.specs.Each.{some}
-use Rattle.settings.proofs.Laws.Each.{some-at}
+use Rattle.byte_lists.specs.Each.{some}
+use Rattle.byte_lists.proofs.Laws.EachLaws.{some-at}
 use Rattle.coord_record.specs.Records.{noBricks}
 use Rattle.coord_record.specs.SoundParts.{SoundParts}
 use Rattle.coord_tally.specs.Counting.{saidNo}

@@ -10,8 +10,8 @@ use lib.ListN.{length, getD, take, drop, replicate, getD-replicate, length-repli
 use lib.Seq.{ext-getD, length-take-le, getD-take, getD-drop}
 use Rattle.settings.specs.Ranges.{SettingsRange}
 use Rattle.settings.specs.declared.Settings.{Settings}
-use Rattle.image_block.specs.Block.{zeros}
-use Rattle.image_block.proofs.Laws.StoreLaws.{zeros-length}
+use Rattle.byte_lists.specs.Lists.{zeros}
+use Rattle.byte_lists.proofs.Laws.ZeroLaws.{zeros-length}
 use Rattle.image.specs.Brick
 use Rattle.image.specs.Brick.{LogEntry, savedTime}
 use Rattle.image.specs.Brick.{Sound}

@@ -12,8 +12,8 @@ use Rattle.settings.specs.Ranges.{SettingsRange}
 use Rattle.settings.specs.declared.Settings.{Settings}
 use Rattle.message.specs.Flags.{member, members}
 use Rattle.erasure.specs.Code.{blockOf, Stripe}
-use Rattle.settings.specs.Each.{some}
-use Rattle.settings.proofs.Laws.Each.{some-at}
+use Rattle.byte_lists.specs.Each.{some}
+use Rattle.byte_lists.proofs.Laws.EachLaws.{some-at}
 use Rattle.coord_record.specs.Rules.{isTarget, blockRight}
 use Rattle.coord_tally.specs.Counting.{saidNo, highest, otherTime, missing, targetRow}
 use Rattle.coord_apply.specs.Acts.{stripeFrom, ending}

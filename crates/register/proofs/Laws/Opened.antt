@@ -13,7 +13,7 @@ unfolding Rattle.byte_lists.specs.Little.byteOf Rattle.byte_lists.specs.Little
 little-open = tt
 
 unfoldable pub block-open : Unit {0}
-unfolding Rattle.image_block.specs.Block.weighted Rattle.image_block.specs.Block.checkOf Rattle.image_block.specs.Block.sealed Rattle.image_block.specs.Block.unchecked Rattle.image_block.specs.Block.same Rattle.image_block.specs.Block.checked Rattle.image_block.specs.Block.zeros Rattle.image_block.specs.Block.unusedKind Rattle.image_block.specs.Block.headKind Rattle.image_block.specs.Block.entryKind Rattle.image_block.specs.Block.headBody Rattle.image_block.specs.Block.headBlock Rattle.image_block.specs.Block.entryBody Rattle.image_block.specs.Block.entryBlock Rattle.image_block.specs.Block.unusedBody Rattle.image_block.specs.Block.unusedBlock Rattle.image_block.specs.Block.put
+unfolding Rattle.image_block.specs.Block.weighted Rattle.image_block.specs.Block.checkOf Rattle.image_block.specs.Block.sealed Rattle.image_block.specs.Block.unchecked Rattle.byte_lists.specs.Lists.same Rattle.image_block.specs.Block.checked Rattle.byte_lists.specs.Lists.zeros Rattle.image_block.specs.Block.unusedKind Rattle.image_block.specs.Block.headKind Rattle.image_block.specs.Block.entryKind Rattle.image_block.specs.Block.headBody Rattle.image_block.specs.Block.headBlock Rattle.image_block.specs.Block.entryBody Rattle.image_block.specs.Block.entryBlock Rattle.image_block.specs.Block.unusedBody Rattle.image_block.specs.Block.unusedBlock Rattle.byte_lists.specs.Lists.put
 block-open = tt
 
 unfoldable pub image-open : Unit {0}
@@ -37,7 +37,7 @@ unfolding Rattle.poly.specs.Polynomial.pick Rattle.poly.specs.Polynomial.sub R
 poly-open = tt
 
 unfoldable pub interpolate-open : Unit {0}
-unfolding Rattle.interpolate.specs.Tabulate.tabulate Rattle.interpolate.specs.Tabulate.stacked Rattle.interpolate.specs.Values.byteAt Rattle.interpolate.specs.Values.valueAt Rattle.interpolate.specs.Values.blockAt Rattle.interpolate.specs.Values.blocksAt Rattle.interpolate.proofs.Laws.WeightLaws.others
+unfolding Rattle.byte_lists.specs.Lists.tabulate Rattle.byte_lists.specs.Lists.stacked Rattle.interpolate.specs.Values.byteAt Rattle.interpolate.specs.Values.valueAt Rattle.interpolate.specs.Values.blockAt Rattle.interpolate.specs.Values.blocksAt Rattle.interpolate.proofs.Laws.WeightLaws.others
 interpolate-open = tt
 
 unfoldable pub erasure-open : Unit {0}
@@ -45,7 +45,7 @@ unfolding Rattle.erasure.specs.Code.firstPoints Rattle.erasure.specs.Code.code
 erasure-open = tt
 
 unfoldable pub coord-record-open : Unit {0}
-unfolding Rattle.settings.specs.Each.each Rattle.settings.specs.Each.some Rattle.coord_record.specs.Records.noOp Rattle.coord_record.specs.Records.noBricks Rattle.coord_record.specs.Records.nothingCounted Rattle.coord_record.specs.Records.idleWith Rattle.coord_record.specs.Rules.above Rattle.coord_record.specs.Rules.isTarget Rattle.coord_record.specs.Rules.blockRight Rattle.coord_record.specs.Rules.countedRight Rattle.coord_record.specs.Rules.entryRight Rattle.coord_record.specs.Rules.tallyRight Rattle.coord_record.specs.Rules.brickRight Rattle.coord_record.specs.Rules.bricksRight Rattle.coord_record.specs.Sound.maxRight Rattle.coord_record.specs.Sound.storedRight Rattle.coord_record.specs.Sound.readRight Rattle.coord_record.specs.Sound.writeRight Rattle.coord_record.specs.Sound.unsetOp Rattle.coord_record.specs.Sound.opRight Rattle.coord_record.specs.Sound.timeRight Rattle.coord_record.specs.Sound.namedCount Rattle.coord_record.specs.Sound.filledRight Rattle.coord_record.specs.Sound.sound
+unfolding Rattle.byte_lists.specs.Each.each Rattle.byte_lists.specs.Each.some Rattle.coord_record.specs.Records.noOp Rattle.coord_record.specs.Records.noBricks Rattle.coord_record.specs.Records.nothingCounted Rattle.coord_record.specs.Records.idleWith Rattle.coord_record.specs.Rules.above Rattle.coord_record.specs.Rules.isTarget Rattle.coord_record.specs.Rules.blockRight Rattle.coord_record.specs.Rules.countedRight Rattle.coord_record.specs.Rules.entryRight Rattle.coord_record.specs.Rules.tallyRight Rattle.coord_record.specs.Rules.brickRight Rattle.coord_record.specs.Rules.bricksRight Rattle.coord_record.specs.Sound.maxRight Rattle.coord_record.specs.Sound.storedRight Rattle.coord_record.specs.Sound.readRight Rattle.coord_record.specs.Sound.writeRight Rattle.coord_record.specs.Sound.unsetOp Rattle.coord_record.specs.Sound.opRight Rattle.coord_record.specs.Sound.timeRight Rattle.coord_record.specs.Sound.namedCount Rattle.coord_record.specs.Sound.filledRight Rattle.coord_record.specs.Sound.sound
 coord-record-open = tt
 
 unfoldable pub coord-rounds-open : Unit {0}

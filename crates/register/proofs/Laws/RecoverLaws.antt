@@ -12,12 +12,12 @@ use borrow.Author.Tests.{eqb-true, eq-eqb}
 use Rattle.settings.specs.Count.{count}
 use Rattle.settings.specs.Ranges.{quorum}
 use Rattle.settings.specs.Ranges.{SettingsRange}
-use Rattle.settings.proofs.Laws.RangeLaws.{and-left, and-right}
+use Rattle.byte_lists.proofs.Laws.BoolLaws.{and-left, and-right}
 use Rattle.settings.specs.declared.Settings.{Settings}
 use Rattle.message.specs.Flags.{member, members}
 use Rattle.erasure.specs.Code.{codedOf}
 use Rattle.erasure.specs.Code.{blockOf, Stripe}
-use Rattle.settings.specs.Each.{some}
+use Rattle.byte_lists.specs.Each.{some}
 use Rattle.coord_record.specs.Records.{noBricks}
 use Rattle.coord_tally.specs.Counting.{saidNo, highest, atTime, atTimes, picked}
 use Rattle.coord_apply.specs.Acts.{stripeFrom, roundMessage, nextOp, nextRound}

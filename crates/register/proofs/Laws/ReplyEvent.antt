@@ -14,7 +14,7 @@ use Rattle.settings.specs.Times.{noUpperEnd}
 use Rattle.settings.specs.declared.Settings.{Settings}
 use Rattle.message.specs.Flags.{members}
 use Rattle.message.specs.declared.Reply.{Reply}
-use Rattle.settings.specs.Each.{some}
+use Rattle.byte_lists.specs.Each.{some}
 use Rattle.coord_tally.specs.Counting.{saidNo, highest, otherTime, missing, atTimes}
 use Rattle.coord_decide.specs.Deciding.{decided}
 use Rattle.coord_decide.specs.declared.Decision.{Decision}

@@ -10,7 +10,7 @@ use lib.ListN.{length, getD, replicate}
 use borrow.Author.Tests.{leb-true, eqb-true, eq-eqb, ne-eqb}
 use Rattle.settings.specs.Ranges.{codeRefusal}
 use Rattle.settings.specs.Ranges.{SettingsRange}
-use Rattle.settings.proofs.Laws.RangeLaws.{and-left}
+use Rattle.byte_lists.proofs.Laws.BoolLaws.{and-left}
 use Rattle.settings.specs.Refusal.{refuseUnless}
 use Rattle.settings.specs.Times.{timeOf, drawOf}
 use Rattle.settings.proofs.Laws.TimeLaws.{gave, drawn-above, drawn-own}

@@ -10,14 +10,7 @@ use Rattle.settings.specs.Refusal.{refuseUnless}
 use Rattle.settings.proofs.Laws.RefusalLaws.{tested}
 use Rattle.settings.specs.declared.Settings.{Settings}
 use Rattle.settings.specs.Ranges.{CodeRange, SettingsRange}
-
-pub and-left : (a b : Bool) → a && b ≡ true → a ≡ true
-and-left true b e = refl
-and-left false b e = e
-
-pub and-right : (a b : Bool) → a && b ≡ true → b ≡ true
-and-right true b e = e
-and-right false b e = let z : _≡_ {A = ℕ} 0 1 = cc in absurd (omega arith)
+use Rattle.byte_lists.proofs.Laws.BoolLaws.{and-left, and-right}
 
 in-code-range : (n m size : ℕ) → bricksInRange n m && sizeInRange size ≡ true → CodeRange n m size
 unfolding bricksInRange sizeInRange

@@ -7,8 +7,8 @@ use native.Mathlib.Omega.{arith}
 use lib.Dec.{eqb}
 use lib.ListN.{length, getD, set}
 use borrow.Author.Tests.{eq-eqb, ne-eqb}
-use Rattle.interpolate.specs.Tabulate.{tabulate}
-use Rattle.interpolate.proofs.Laws.Tabulate.{tabulate-by}
+use Rattle.byte_lists.specs.Lists.{tabulate}
+use Rattle.byte_lists.proofs.Laws.TabulateLaws.{tabulate-by}
 use Rattle.test_brick.specs.Numbers.{replyNumbers, givenNumber, givenBuffer, shownNumber, shownBuffer, entryBuffer, numberIf, bufferIf, lent}
 use Rattle.brick.specs.declared.Given.{Given}
 use Rattle.brick.specs.declared.Given.the-variants.{Answered, Silent, Refused}

@@ -9,12 +9,12 @@ use lib.ListN.{length, getD, set, take, drop, length-append, length-drop, length
 use lib.Seq.{take-append-add, drop-append-add, take-at}
 use borrow.Author.Tests.{eq-eqb, ne-eqb, eqb-true}
 use borrow.Rule.Slice.PartMut.{putMid, post-is}
-use Rattle.interpolate.specs.Tabulate.{tabulate}
-use Rattle.interpolate.proofs.Laws.Tabulate.{tabulate-by}
+use Rattle.byte_lists.specs.Lists.{tabulate}
+use Rattle.byte_lists.proofs.Laws.TabulateLaws.{tabulate-by}
 use Rattle.test_coordinator.specs.Numbers.{recordFor, recordNumbers, recordBytes, lentLengths, saidOr, numberIf, bufferIf, rowPut, rowAt}
 use Rattle.coord_apply.specs.declared.Answer.{Answer}
 use Rattle.coord_record.specs.declared.Coordinator.{Coordinator}
-use Rattle.settings.proofs.Laws.RangeLaws.{and-left, and-right}
+use Rattle.byte_lists.proofs.Laws.BoolLaws.{and-left, and-right}
 
 -- sixteen entries, read one by one
 pub sixteen : (t : List ℕ) → length t ≡ 16 → t ≡ tabulate 16 (λ (i : ℕ). getD t i 0)

@@ -3,7 +3,7 @@ use native.Mathlib.Omega.{arith}
 use lib.ListN.{length, getD}
 use mathlib.Core.Path.{refl}
 use Prim.Native.Nat.{ℕ, _-_, _≤_}
-use Rattle.interpolate.proofs.Laws.Tabulate.{Filled, filled-none, filled-more, filled-copy}
+use Rattle.byte_lists.proofs.Laws.TabulateLaws.{Filled, filled-none, filled-more, filled-copy}
 use Rattle.test_coordinator.proofs.copy_times.Statement.{statement}
 use Rattle.test_coordinator.proofs.copy_times.Tie as tie
 

@@ -1,5 +1,5 @@
 use mathlib.Core.Path.{sym}
-use Rattle.interpolate.specs.Tabulate.{tabulate}
+use Rattle.byte_lists.specs.Lists.{tabulate}
 use Rattle.test_coordinator.proofs.Laws.NumberLaws.{sixteen}
 use borrow.Author.Needs.{needs}
 use Rattle.test_coordinator.proofs.row_of.Statement.{statement}

@@ -2,9 +2,9 @@ use native.Mathlib.Omega.{arith}
 use lib.ListN.{length, getD}
 use mathlib.Core.Path.{refl}
 use Prim.Native.Nat.{ℕ, _-_, _≤_}
-use Rattle.interpolate.proofs.Laws.Tabulate.{Filled, filled-none, filled-more, filled-copy}
-use Rattle.interpolate.proofs.copy.Statement.{statement}
-use Rattle.interpolate.proofs.copy.Tie as tie
+use Rattle.byte_lists.proofs.Laws.TabulateLaws.{Filled, filled-none, filled-more, filled-copy}
+use Rattle.byte_lists.proofs.copy.Statement.{statement}
+use Rattle.byte_lists.proofs.copy.Tie as tie
 
 abbrev Inv-loop : tie.InvT-loop
 Inv-loop from to₀ i₀ to i = Filled (λ (p : ℕ). getD from p 0) to₀ to i × (i ≤ length to₀)

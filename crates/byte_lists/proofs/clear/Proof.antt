@@ -1,10 +1,10 @@
 use native.Mathlib.Omega.{arith}
 use lib.ListN.{length}
-use mathlib.Core.Path.{refl}
+use mathlib.Core.Path.{refl, _∙_}
 use Prim.Native.Nat.{ℕ, _-_, _≤_}
-use Rattle.interpolate.proofs.Laws.Tabulate.{Filled, filled-none, filled-more, filled-all}
-use Rattle.interpolate.proofs.clear.Statement.{statement}
-use Rattle.interpolate.proofs.clear.Tie as tie
+use Rattle.byte_lists.proofs.Laws.TabulateLaws.{Filled, filled-none, filled-more, filled-all, zeros-are}
+use Rattle.byte_lists.proofs.clear.Statement.{statement}
+use Rattle.byte_lists.proofs.clear.Tie as tie
 
 abbrev Inv-loop : tie.InvT-loop
 Inv-loop out₀ i₀ out i = Filled (λ (p : ℕ). 0) out₀ out i × (i ≤ length out₀)
@@ -31,7 +31,7 @@ same-length : tie.Need-same-length Inv-loop μ-loop
 same-length c = c .before .loop .inv .0 .size
 
 returns : tie.Need-returns Inv-loop μ-loop
-returns c = filled-all _ _ _ _ (c .before .loop .inv .0) (omega arith)
+returns c = filled-all _ _ _ _ (c .before .loop .inv .0) (omega arith) ∙ zeros-are _
 
 pub clear-spec : {M : Type 1} → statement M
 clear-spec =

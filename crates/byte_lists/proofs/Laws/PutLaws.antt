@@ -6,7 +6,11 @@ use native.Mathlib.Omega.{arith}
 use lib.ListN.{length, take, drop, length-append, length-take, length-drop}
 use lib.Seq.{take-at, drop-at, drop-drop, take-nil, take-take, take-append-le, length-take-le}
 use borrow.Rule.Slice.PartMut.{putMid, post-is}
-use Rattle.image_block.specs.Block.{put}
+use Rattle.byte_lists.specs.Lists.{put}
+use Prim.Native.Nat.{_<_}
+use lib.ListN.{getD, set}
+use lib.Seq.{take-length, paste, paste-zero, paste-suc, length-paste}
+use native.Mathlib.Numerals.{add-one}
 
 pub put-is : (at : ℕ) (x l : List ℕ) → put at x l ≡ take at l ++ (x ++ drop (at + length x) l)
 unfolding put
@@ -69,3 +73,29 @@ put-behind at b k x l h f =
         ∙ sym (drop-drop (length x) at (take at l ++ (x ++ drop (at + length x) l)))
         ∙ ap (drop (length x)) (drop-at (take at l) (x ++ drop (at + length x) l) at (length-take-le at l f))
         ∙ drop-at x (drop (at + length x) l) (length x) refl
+
+-- a copy of the first i elements of s into d from a place on has left l
+pub record Pasted (d s : List ℕ) (at i : ℕ) (l : List ℕ) : Type 0 where
+  pub within : at + length s ≤ length d
+  pub so-far : i ≤ length s
+  pub left-by : l ≡ paste d at s i
+
+pub pasted-none : (d s : List ℕ) (at : ℕ) → at + length s ≤ length d → Pasted d s at 0 d
+pasted-none d s at h = record { within = h; so-far = omega arith; left-by = paste-zero d at s }
+
+pub pasted-more : (d s l : List ℕ) (at i : ℕ) → i < length s → Pasted d s at i l → Pasted d s at (i + 1) (set l (at + i) (getD s i 0))
+pasted-more d s l at i h p =
+    record {
+      within = p .within;
+      so-far = omega arith;
+      left-by = rw (p .left-by, add-one i) (paste-suc d at s i 0 (omega (arith, p .within)) h);
+    }
+
+pub pasted-length : (d s l : List ℕ) (at i : ℕ) → Pasted d s at i l → length l ≡ length d
+pasted-length d s l at i p = ap length (p .left-by) ∙ length-paste d at s i (omega (arith, p .within, p .so-far)) (p .so-far)
+
+pub pasted-all : (d s l : List ℕ) (at i : ℕ) → length s ≤ i → Pasted d s at i l → l ≡ put at s d
+unfolding put
+pasted-all d s l at i h p =
+    let e : i ≡ length s = omega (arith, p .so-far) in
+    p .left-by ∙ rw (e, take-length s)

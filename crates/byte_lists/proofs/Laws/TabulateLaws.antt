@@ -1,4 +1,4 @@
--- Laws of `specs/Tabulate`.
+-- Lists made by a rule: length, entries, how a loop fills them.
 use mathlib.Core.Path.{_≡_, refl, sym, ap, _∙_}
 use mathlib.Core.Logic.{_⊎_, inl, inr}
 use mathlib.Core.List.{List, [], _∷_, _++_}
@@ -8,7 +8,8 @@ use native.Mathlib.Nat.{le-of-suc-le-suc, not-suc-le-zero, eq-or-lt-of-le, zero-
 use native.Mathlib.Omega.{arith}
 use lib.ListN.{length, getD, set, length-append, length-set, List·getD-append}
 use lib.Seq.{ext-getD, getD-at, getD-set-same, getD-set-other}
-use Rattle.interpolate.specs.Tabulate.{tabulate, stacked}
+use Rattle.byte_lists.specs.Lists.{tabulate, stacked, zeros}
+use lib.ListN.{replicate, getD-replicate, length-replicate}
 
 pub length-tabulate : (k : ℕ) (f : ℕ → ℕ) → length (tabulate k f) ≡ k
 unfolding tabulate
@@ -66,3 +67,8 @@ unfolding stacked
 length-stacked zero size f h = sym (zero-mul size)
 length-stacked (suc k) size f h =
     length-append (stacked k f) (f k) ∙ (let e = length-stacked k size f h in let g = h k in let m = suc-mul k size in omega arith)
+
+-- zeros by a rule
+pub zeros-are : (n : ℕ) → tabulate n (λ (p : ℕ). 0) ≡ zeros n
+unfolding zeros
+zeros-are n = sym (tabulate-by n (λ (p : ℕ). 0) (replicate n 0) (length-replicate n 0) (λ i h. getD-replicate n i 0 0 h))

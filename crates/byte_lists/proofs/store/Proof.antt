@@ -1,27 +1,27 @@
 use Prim.Native.Nat.{_-_}
 use native.Mathlib.Omega.{arith}
 use lib.ListN.{length}
-use Rattle.image_block.proofs.Laws.StoreLaws.{Pasted, pasted-none, pasted-more, pasted-length, pasted-all}
-use Rattle.image_block.proofs.store.Statement.{statement}
-use Rattle.image_block.proofs.store.Tie as tie
+use Rattle.byte_lists.proofs.Laws.PutLaws.{Pasted, pasted-none, pasted-more, pasted-length, pasted-all}
+use Rattle.byte_lists.proofs.store.Statement.{statement}
+use Rattle.byte_lists.proofs.store.Tie as tie
 
 abbrev Inv-loop : tie.InvT-loop
-Inv-loop image₀ at b i₀ image i = Pasted image₀ b at i image
+Inv-loop l₀ at b i₀ l i = Pasted l₀ b at i l
 
 abbrev μ-loop : tie.MeasureT-loop
-μ-loop image₀ at b i₀ image i = length b - i
+μ-loop l₀ at b i₀ l i = length b - i
 
 loop-holds : tie.Need-loop-holds Inv-loop μ-loop
 loop-holds c = pasted-none _ _ _ (c .pre)
 
-shared-slice-read-image : tie.Need-shared-slice-read-image Inv-loop μ-loop
-shared-slice-read-image c = omega arith
+shared-slice-read-l : tie.Need-shared-slice-read-l Inv-loop μ-loop
+shared-slice-read-l c = omega arith
 
-add-image : tie.Need-add-image Inv-loop μ-loop
-add-image c = omega arith
+add-l : tie.Need-add-l Inv-loop μ-loop
+add-l c = omega arith
 
-slice-write-image : tie.Need-slice-write-image Inv-loop μ-loop
-slice-write-image c = omega (arith, pasted-length _ _ _ _ _ (c .before .before .loop .inv))
+slice-write-l : tie.Need-slice-write-l Inv-loop μ-loop
+slice-write-l c = omega (arith, pasted-length _ _ _ _ _ (c .before .before .loop .inv))
 
 add-i : tie.Need-add-i Inv-loop μ-loop
 add-i c = omega arith
@@ -45,9 +45,9 @@ store-spec =
     Inv-loop
     μ-loop
     loop-holds
-    shared-slice-read-image
-    add-image
-    slice-write-image
+    shared-slice-read-l
+    add-l
+    slice-write-l
     add-i
     loop-less
     loop-again

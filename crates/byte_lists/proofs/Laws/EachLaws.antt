@@ -1,4 +1,4 @@
--- Laws of `specs/Each`.
+-- A rule for each place, or for some place, below a number.
 use mathlib.Core.Path.{_≡_, refl, sym, ap, _∙_}
 use mathlib.Core.Bool.{Bool, true, false, _&&_, _||_}
 use mathlib.Core.Logic.{_⊎_, inl, inr}
@@ -6,7 +6,7 @@ use Prim.Native.Nat.{ℕ, zero, suc, _+_, _<_}
 use native.Mathlib.Nat.{le-of-suc-le-suc, not-suc-le-zero, eq-or-lt-of-le, le-refl}
 use native.Mathlib.Numerals.{add-one}
 use native.Mathlib.Omega.{arith}
-use Rattle.settings.specs.Each.{each, some}
+use Rattle.byte_lists.specs.Each.{each, some}
 
 pub each-none : (p : ℕ → Bool) → each p 0 ≡ true
 unfolding each

@@ -9,8 +9,8 @@ use lib.Dec.{eqb}
 use lib.ListN.{length, drop, getD}
 use lib.Seq.{drop-cons, drop-length}
 use borrow.Author.Tests.{eq-eqb, ne-eqb, eqb-true}
-use Rattle.settings.proofs.Laws.RangeLaws.{and-left, and-right}
-use Rattle.image_block.specs.Block.{same}
+use Rattle.byte_lists.proofs.Laws.BoolLaws.{and-left, and-right}
+use Rattle.byte_lists.specs.Lists.{same}
 
 pub same-true : (a b : List ℕ) → same a b ≡ true → a ≡ b
 unfolding same
