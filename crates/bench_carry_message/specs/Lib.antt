@@ -1,2 +1,2 @@
 -- Definitions: Deliver. Laws: AnswerLaws, DeliverLaws.
-pub mod Deliver
+pub mod Workers

@@ -2,12 +2,12 @@
 ghost use mathlib.Core.Path.{_≡_};
 ghost use mathlib.Core.Bool.{true};
 ghost use Prim.Native.Nat.{_+_, _*_, _%_, _<_};
-ghost use Rattle.bench_commit.specs.Answers.{Acted, Plays};
-ghost use Rattle.bench_commit.specs.Answers.{Seats, Copies};
+ghost use Rattle.bench_commit.specs.Workers.{Acted, Plays};
+ghost use Rattle.bench_commit.specs.Workers.{Seats, Copies};
 ghost use Rattle.bench_rules.specs.Play.{carries};
 ghost use Rattle.bench_sent.specs.Sent.{isReply, replyAt, blockAt, itemAt};
-ghost use Rattle.coord_apply.specs.Steps.{Held};
-ghost use Rattle.coordinator.specs.Rules.{takeStep};
+ghost use Rattle.coord_apply.specs.Answers.{Held};
+ghost use Rattle.coordinator.specs.Routines.{takeStep};
 ghost use Rattle.register.specs.Runs.{World, arrives};
 use bench_commit::commit;
 use bench_rules::After;

@@ -1,5 +1,5 @@
 -- The laws of `bench_commit`, for its own proofs and those of the crates above. No contract cites them.
 -- Definitions: Answers. Laws: AnswerLaws, StepLaws, ActedLaws.
 pub mod ActedLaws
-pub mod AnswerLaws
-pub mod StepLaws
+pub mod CommitLaws
+pub mod CommitStepLaws

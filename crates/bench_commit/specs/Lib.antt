@@ -1,2 +1,2 @@
 -- Definitions: Answers. Laws: AnswerLaws, StepLaws, ActedLaws.
-pub mod Answers
+pub mod Workers

@@ -2,8 +2,8 @@
 ghost use mathlib.Core.Path.{_≡_};
 ghost use Prim.Native.Nat.{_+_, _*_, _≤_, _<_};
 ghost use lib.ListN.{length};
-ghost use Rattle.bench_commit.specs.Answers.{Round, Seats, Copies, Answers};
-ghost use Rattle.bench_commit.specs.Answers.{sentAfter};
+ghost use Rattle.bench_commit.specs.Workers.{Round, Seats, Copies, Answers};
+ghost use Rattle.bench_commit.specs.Workers.{sentAfter};
 use bench_rules::After;
 use bench_state::Bench;
 use coord_apply::Answer;

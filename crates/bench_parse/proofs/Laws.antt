@@ -4,6 +4,6 @@
 pub mod CallerLaws
 pub mod Examples
 pub mod HexLaws
-pub mod LineLaws
-pub mod NumberLaws
+pub mod ReadLineLaws
+pub mod NumeralLaws
 pub mod WordLaws

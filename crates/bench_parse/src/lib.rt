@@ -6,8 +6,8 @@ ghost use Prim.Native.Nat.{_+_, _*_, _≤_, _<_};
 ghost use lib.ListN.{length, drop};
 ghost use Rattle.bench_parse.specs.Lines.{every, numberWord, isHex, hexValue, bytesOf, crashLine, downLine, upLine, setOf, writeOf, readOf, carryOf, oneOf, reads};
 ghost use Rattle.byte_lists.specs.Lists.{same};
-ghost use Rattle.bench_parse.specs.Meaning.{wordsFrom, lineOf, CarryFrom, Sound, NumberAt};
-ghost use Rattle.bench_parse.specs.Steps.{ReadAs, wordLength, NumeralOf, NumberFrom, AloneOf, HexesFrom, commandNumber, byNumber, Place};
+ghost use Rattle.bench_parse.specs.Workers.{wordsFrom, lineOf, CarryFrom, Sound, NumberAt};
+ghost use Rattle.bench_parse.specs.Workers.{ReadAs, wordLength, NumeralOf, NumberFrom, AloneOf, HexesFrom, commandNumber, byNumber, Place};
 
 pub const LONGEST: usize = 1000;
 

@@ -1,2 +1,3 @@
 -- Definitions: Lining. Laws: TurnLaws, RefusalLaws, HeldLaws.
 pub mod Lining
+pub mod Workers

@@ -1,19 +1,18 @@
 -- A whole line: the bench's stage as its record and buffers have it, and what a line does to them.
 use mathlib.Core.Path.{_≡_}
-use mathlib.Core.Bool.{Bool, cond, _&&_, _||_, true}
+use mathlib.Core.Bool.{Bool, cond, _&&_, _||_}
 use mathlib.Core.List.{List, [], _∷_}
 use Prim.Native.Nat.{ℕ, _≤_}
 use lib.Dec.{eqb, leb}
 use lib.ListN.{length}
 use Rattle.settings.specs.Refusal.{refuseUnless, firstRefusal, badSetting, badLength, badRecord}
-use Rattle.bench_parse.specs.Lines.{reads, Line}
-use Rattle.bench_rules.specs.Play.{Stage, waiting, playing, Turn, turn, lastMessage, first}
-use Rattle.bench_rules.specs.Turning.{Lent, worldIn, lent}
+use Rattle.bench_parse.specs.Lines.{reads}
+use Rattle.bench_rules.specs.Play.{Stage, waiting, playing, Turn, turn, lastMessage}
+use Rattle.bench_rules.specs.Turning.{Lent, worldIn}
 use Rattle.bench_print.specs.Printing.{written}
 use Rattle.bench_state.specs.State.{benchRange}
 use Rattle.bench_state.specs.declared.Bench.{Bench}
 use Rattle.bench_player.specs.declared.Outcome.{Outcome}
-use Rattle.bench_rules.specs.declared.After.{After}
 
 -- the record of no set has n = 0
 unfoldable pub stageOf : Bench → Lent → Stage
@@ -47,16 +46,3 @@ pub record Called (b : Bench) (l : Lent) (line out : List ℕ) (r : Outcome) (l�
   pub within : r .used ≤ length out
   pub refused-keeps : (r .refusal ≡ 0 → ⊥) → (r .bench ≡ b) × (l′ ≡ l) × (out′ ≡ out)
   pub accepted-again : r .refusal ≡ 0 → benchRefused (r .bench) (length (l′ .images)) (length (l′ .kept)) (length (l′ .numbers)) (length (l′ .bytes)) (length out′) ≡ 0
-
--- The bench after a line, by its stage.
-pub record Staged (t : Turn) (out : List ℕ) (r : After) (l′ : Lent) (out′ : List ℕ) : Type 0 where
-  pub stage-is : stageOf (r .bench) l′ ≡ t .stage
-  pub few : r .bench .sent ≤ 127
-  pub right : eqb (r .bench .settings .n) 0 || benchRange (r .bench .settings) ≡ true
-  pub text-is : out′ ≡ written 0 (t .printed) out
-  pub used-is : r .used ≡ length (t .printed)
-  pub within : r .used ≤ 65536
-
--- the same, whatever the rows hold
-pub record First (said : Line) (out : List ℕ) (r : After) (images kept out′ : List ℕ) : Type 0 where
-  pub staged : (numbers bytes : List ℕ) → Staged (first said) out r (lent images kept numbers bytes) out′

@@ -1,2 +1,3 @@
 -- What the bench prints. Definitions: Printing.
 pub mod Printing
+pub mod Workers

@@ -6,10 +6,8 @@ use Prim.Native.Nat.{ℕ, zero, suc, _+_, _/_, _%_}
 use lib.Dec.{eqb, ltb, leb}
 use Rattle.byte_lists.specs.Lists.{put}
 use Rattle.coord_record.specs.Records.{readingKind}
-use Rattle.coord_apply.specs.Steps.{okSeen, readSeen, abortedSeen, cutSeen}
+use Rattle.coord_apply.specs.Answers.{okSeen, readSeen, abortedSeen, cutSeen}
 use Rattle.coord_apply.specs.declared.Seen.{Seen}
-use mathlib.Core.Path.{_≡_}
-use lib.ListN.{length}
 
 -- a space, and the end of a line
 abbrev pub space : ℕ
@@ -93,8 +91,3 @@ endedText c seen stripe = cond (isEnd (seen .what)) (lineText c (seen .kind) (se
 -- a list with a text in place of what it had from a place on
 abbrev pub written : ℕ → List ℕ → List ℕ → List ℕ
 written at text old = put at text old
-
--- A text was written from a place on, and the next place is past it.
-pub record Placed (at : ℕ) (text old out : List ℕ) (next : ℕ) : Type 0 where
-  pub next-is : next ≡ at + length text
-  pub holds : out ≡ written at text old

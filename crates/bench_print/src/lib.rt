@@ -4,7 +4,7 @@ ghost use mathlib.Core.List.{[], _∷_, _++_};
 ghost use Prim.Native.Nat.{_+_, _≤_, _<_};
 ghost use lib.ListN.{length};
 ghost use Rattle.bench_print.specs.Printing.{space, newline, digit, decimal, hexDigit, hexText, refusedText, kindWord, endWord, lineText, endedText, written};
-ghost use Rattle.bench_print.specs.Printing.{Placed};
+ghost use Rattle.bench_print.specs.Workers.{Placed};
 use coord_apply::ABORTED;
 use coord_apply::CUT;
 use coord_apply::OK;

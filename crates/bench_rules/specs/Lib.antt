@@ -2,3 +2,4 @@
 pub mod Content
 pub mod Play
 pub mod Turning
+pub mod Workers

@@ -11,8 +11,8 @@ use Rattle.message.specs.declared.Message.{Message}
 use Rattle.brick.specs.Receive.{outcome}
 use Rattle.brick.specs.declared.Given.{Given}
 use Rattle.brick.specs.declared.Given.the-variants.{Answered, Silent, Refused}
-use Rattle.coord_apply.specs.Steps.{Step, refused, went}
-use Rattle.coordinator.specs.Rules.{takeStep, crashStep, writeStep, readStep}
+use Rattle.coord_apply.specs.Answers.{Step, refused, went}
+use Rattle.coordinator.specs.Routines.{takeStep, crashStep, writeStep, readStep}
 use Rattle.register.specs.Runs.{Item, message, reply, World, untouched, Event, startWrite, startRead, arrives, crashes, goesDown, comesUp, fresh, step}
 use Rattle.bench_state.specs.State.{benchRange}
 use Rattle.bench_parse.specs.Lines.{Line, setLine, writeLine, readLine, carryLine, crashLine, downLine, upLine, noLine}

@@ -2,7 +2,8 @@
 ghost use Prim.Native.Nat.{_+_, _≤_};
 ghost use lib.ListN.{length};
 ghost use Rattle.bench_rules.specs.Play.{refuses};
-ghost use Rattle.bench_rules.specs.Turning.{Lent, worldIn, Turned};
+ghost use Rattle.bench_rules.specs.Turning.{Lent, worldIn};
+ghost use Rattle.bench_rules.specs.Workers.{Turned};
 use bench_state::Bench;
 
 // The bench after a line or a part of one, and how many bytes of the printed text's buffer are used.

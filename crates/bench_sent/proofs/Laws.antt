@@ -1,5 +1,5 @@
 -- The laws of `bench_sent`, for its own proofs and those of the crates above. No contract cites them.
 -- What the bench has sent, in lent buffers. Definitions: Sent. Laws: the other modules.
-pub mod RunLaws
+pub mod SentItemLaws
 pub mod SendLaws
-pub mod SentLaws
+pub mod SentRowLaws

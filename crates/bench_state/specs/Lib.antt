@@ -1,2 +1,3 @@
 -- Definitions: State. Laws: PartLaws, StateLaws, RangeLaws, FillLaws.
 pub mod State
+pub mod Workers

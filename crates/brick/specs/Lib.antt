@@ -1,3 +1,2 @@
 -- One message at one brick. Definitions: Steps (on the abstract brick), Receive (with the image and the refusals). Laws: the modules named Laws.
-pub mod Numbers
 pub mod Receive

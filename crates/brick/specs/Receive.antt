@@ -13,7 +13,7 @@ use Rattle.message.specs.declared.Message.{Message}
 use Rattle.image.specs.Brick.{Brick, count, timeAt}
 use Rattle.image.specs.Image.{imageOf}
 use Rattle.image.specs.Parse.{Parsed, Opens, Refuses, parse, openRefusal}
-use Rattle.brick_log.specs.Steps.{placeFor, replyTo, after, blockAfter}
+use Rattle.brick_log.specs.BrickRules.{placeFor, replyTo, after, blockAfter}
 use Rattle.brick.specs.declared.Given.{Given}
 use Rattle.brick.specs.declared.Given.the-variants.{Answered, Silent, Refused}
 
@@ -65,3 +65,9 @@ pub record Highest (x : Brick) (max i : ℕ) : Type 0 where
   pub there : i < count x
   pub below : timeAt x i < max
   pub highest : (j : ℕ) → j < count x → timeAt x j < max → timeAt x j ≤ timeAt x i
+
+-- 0 for a reply and for silence
+unfoldable pub givenNumber : Given → ℕ
+givenNumber (Answered reply) = passed
+givenNumber Silent = passed
+givenNumber (Refused number) = number

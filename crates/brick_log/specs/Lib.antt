@@ -1,3 +1,3 @@
-pub mod Plans
+pub mod Workers
 -- What a brick does, on the abstract brick. Definitions: Steps. Laws: LookLaws.
-pub mod Steps
+pub mod BrickRules

@@ -4,7 +4,7 @@ ghost use mathlib.Core.Bool.{_&&_};
 ghost use Prim.Native.Nat.{_≤_, _<_};
 ghost use lib.Dec.{leb, ltb};
 ghost use Rattle.message.specs.Flags.{member};
-ghost use Rattle.brick_log.specs.Plans.{Cut, underIn, lookedIn, planIn, readPlace, Planned};
+ghost use Rattle.brick_log.specs.Workers.{Cut, underIn, lookedIn, planIn, readPlace, Planned};
 use image::Entry;
 use image::place_of;
 use message::Message;

@@ -2,4 +2,4 @@
 -- Definitions: Steps, Acts. Laws and theorems: the others.
 pub mod ActLaws
 pub mod BufferLaws
-pub mod Steps
+pub mod AnswerLaws

@@ -1,10 +1,10 @@
 -- Document 01, "What a coordinator does": what a decision does, and how an operation begins and ends.
 use mathlib.Core.Bool.{cond}
 use mathlib.Core.List.{List, [], _∷_}
-use Prim.Native.Nat.{ℕ, _+_, _*_, _≤_, _<_}
+use Prim.Native.Nat.{ℕ, _+_, _*_}
 use lib.Dec.{eqb, ltb}
-use lib.ListN.{getD, take, length}
-use Rattle.coord_apply.specs.Steps.{Held, Broadcast, Went, nothingSeen, beganSeen, okSeen, readSeen, abortedSeen, went, sentBlocks, answerOf}
+use lib.ListN.{getD, take}
+use Rattle.coord_apply.specs.Answers.{Held, Broadcast, Went, nothingSeen, beganSeen, okSeen, readSeen, abortedSeen}
 use Rattle.byte_lists.specs.Lists.{put}
 use Rattle.coord_record.specs.Records.{readingKind, idleWith, nothingCounted, noBricks}
 use Rattle.coord_record.specs.declared.Coordinator.{Coordinator}
@@ -20,10 +20,8 @@ use Rattle.message.specs.Flags.{members}
 use Rattle.message.specs.Kinds.{orderReadKind, writeKind, trimKind}
 use Rattle.message.specs.declared.Message.{Message}
 use Rattle.message.specs.declared.Reply.{Reply}
-use Rattle.settings.specs.Ranges.{quorum, CodeRange}
+use Rattle.settings.specs.Ranges.{quorum}
 use Rattle.settings.specs.declared.Clock.{Clock}
-use mathlib.Core.Path.{_≡_}
-use Rattle.coord_apply.specs.declared.Answer.{Answer}
 
 -- the blocks of the first m bricks of a row, one after the other, and the stripe that they decode to
 unfoldable pub gathered : ℕ → ℕ → List ℕ → List ℕ → List ℕ
@@ -125,42 +123,3 @@ starting h clock op stripe targets =
 
 unfoldable pub heldOf : Coordinator → List ℕ → List ℕ → Held
 heldOf c blocks stripe = record { state = c; blocks = blocks; stripe = stripe }
-
--- the answers that open a round and that end an operation
-unfoldable pub openAnswer : Coordinator → ℕ → ℕ → List ℕ → Answer
-openAnswer c phase max bricks =
-    record {
-      refusal = 0;
-      next = opened c phase max bricks;
-      sent = 1;
-      message = roundMessage (nextOp (c .op) phase max) noBricks;
-      seen = nothingSeen;
-    }
-
-unfoldable pub endAnswer : Coordinator → ℕ → List ℕ → ℕ → Message → Answer
-endAnswer c what bricks sent message =
-    record {
-      refusal = 0;
-      next = idleWith (c .clock);
-      sent = sent;
-      message = message;
-      seen = record { what = what; kind = c .op .kind; time = c .op .time; bricks = bricks };
-    }
-
--- what holds where a decision is carried out: the numbers are the lengths of the reply blocks and of the stripe
-pub record Ready (n m size : ℕ) (c : Coordinator) (blocks stripe : ℕ) : Type 0 where
-  pub range : CodeRange n m size
-  pub first-low : c .op .first < n
-  pub round-low : c .op .round ≤ 1000
-  pub blocks-length : blocks ≡ n * size
-  pub stripe-length : stripe ≡ m * size
-
--- the answer and the buffers are those of the decision
-pub record Acted (n m size : ℕ) (h : Held) (d : Decision) (coded : List ℕ) (r : Answer) (stripe′ coded′ : List ℕ) : Type 0 where
-  pub answer : r ≡ answerOf (h .state) (went (acted n m size h d))
-  pub stripe-left : stripe′ ≡ acted n m size h d .next .stripe
-  pub coded-left : coded′ ≡ sentBlocks (acted n m size h d .sent) coded
-
--- the block of each of the first m bricks of a row is within the blocks
-pub record InPlace (m size : ℕ) (bricks blocks : List ℕ) : Type 0 where
-  pub within : (i : ℕ) → i < m → getD bricks i 0 * size + size ≤ length blocks

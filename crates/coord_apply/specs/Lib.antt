@@ -1,3 +1,4 @@
 -- Definitions: Steps, Acts. Laws and theorems: the others.
 pub mod Acts
-pub mod Steps
+pub mod Answers
+pub mod Workers

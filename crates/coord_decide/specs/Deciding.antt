@@ -4,7 +4,7 @@ use Prim.Native.Nat.{ℕ}
 use lib.Dec.{eqb, leb, ltb}
 use lib.ListN.{set}
 use Rattle.byte_lists.specs.Each.{some}
-use Rattle.coord_record.specs.Rules.{isTarget, blockRight}
+use Rattle.coord_record.specs.CountedRules.{isTarget, blockRight}
 use Rattle.coord_record.specs.declared.Op.{Op}
 use Rattle.coord_record.specs.declared.Tally.{Tally}
 use Rattle.coord_tally.specs.Counting.{saidNo, otherTime, missing, highest, atTimes}

@@ -4,8 +4,8 @@ use lib.ListN.{length}
 use Rattle.coord_record.specs.declared.Tally.{Tally}
 use mathlib.Core.Bool.{true}
 use Prim.Native.Nat.{ℕ, _≤_, _<_}
-use Rattle.coordinator.proofs.Laws.StepLaws.{first-low}
-use Rattle.coord_record.specs.Rules.{tallyRight, bricksRight}
+use Rattle.coordinator.proofs.Laws.RoutineLaws.{first-low}
+use Rattle.coord_record.specs.CountedRules.{tallyRight, bricksRight}
 use Rattle.coord_record.specs.Sound.{opRight, timeRight, namedCount}
 use Rattle.coord_record.specs.SoundParts.{SoundParts}
 use Rattle.coord_record.specs.declared.Coordinator.{Coordinator}

@@ -1,5 +1,5 @@
 -- Definitions: Records, Rules, Sound. Laws: Each, RuleLaws, SoundLaws.
 pub mod Records
-pub mod Rules
+pub mod CountedRules
 pub mod Sound
 pub mod SoundParts

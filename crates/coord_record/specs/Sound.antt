@@ -3,7 +3,7 @@ use mathlib.Core.Bool.{Bool, cond, _&&_}
 use Prim.Native.Nat.{ℕ}
 use lib.Dec.{eqb, leb, ltb}
 use Rattle.coord_record.specs.Records.{idleKind, readingKind, writingKind}
-use Rattle.coord_record.specs.Rules.{tallyRight, bricksRight}
+use Rattle.coord_record.specs.CountedRules.{tallyRight, bricksRight}
 use Rattle.coord_record.specs.declared.Coordinator.{Coordinator}
 use Rattle.coord_record.specs.declared.Op.{Op}
 use Rattle.message.specs.Flags.{members}

@@ -2,7 +2,7 @@
 use mathlib.Core.Path.{_≡_}
 use mathlib.Core.Bool.{true}
 use Prim.Native.Nat.{ℕ, _≤_, _<_}
-use Rattle.coord_record.specs.Rules.{tallyRight, bricksRight}
+use Rattle.coord_record.specs.CountedRules.{tallyRight, bricksRight}
 use Rattle.coord_record.specs.Sound.{opRight, timeRight, namedCount}
 use Rattle.coord_record.specs.declared.Coordinator.{Coordinator}
 use Rattle.message.specs.Flags.{members}

@@ -3,7 +3,7 @@
 ghost use mathlib.Core.Path.{_≡_};
 ghost use Prim.Native.Nat.{_≤_, _<_};
 ghost use Rattle.coord_record.specs.Records.{noOp, nothingCounted, idleWith};
-ghost use Rattle.coord_record.specs.Rules.{isTarget, blockRight, countedRight, entryRight, tallyRight, brickRight, bricksRight};
+ghost use Rattle.coord_record.specs.CountedRules.{isTarget, blockRight, countedRight, entryRight, tallyRight, brickRight, bricksRight};
 ghost use Rattle.message.specs.Messages.{foundRight};
 ghost use Rattle.coord_record.specs.Sound.{maxRight, storedRight, readRight, writeRight, unsetOp, opRight, timeRight, namedCount, filledRight, sound};
 ghost use Rattle.settings.specs.Times.{maxCount};

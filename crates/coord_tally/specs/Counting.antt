@@ -4,7 +4,7 @@ use mathlib.Core.List.{List, [], _∷_, _++_}
 use Prim.Native.Nat.{ℕ, zero, suc, _+_, _-_, max}
 use lib.Dec.{eqb, ltb}
 use lib.ListN.{getD, take}
-use Rattle.coord_record.specs.Rules.{isTarget}
+use Rattle.coord_record.specs.CountedRules.{isTarget}
 use Rattle.byte_lists.specs.Lists.{tabulate}
 use Rattle.message.specs.Flags.{member}
 use Rattle.settings.specs.Count.{one-if}

@@ -1,2 +1,3 @@
 -- Definitions: Rules. Laws and theorems: the others.
-pub mod Rules
+pub mod Routines
+pub mod Workers

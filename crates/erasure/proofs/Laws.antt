@@ -3,5 +3,5 @@
 pub mod ListLaws
 pub mod MoreTheorems
 pub mod PassedLaws
-pub mod RefusalLaws
+pub mod CodeRefusalLaws
 pub mod Theorems

@@ -6,7 +6,7 @@ use Rattle.byte_lists.specs.Lists.{tabulate, stacked}
 use Rattle.interpolate.specs.Values.{blocksAt}
 use mathlib.Core.Path.{_≡_}
 use lib.ListN.{length, getD, take, drop}
-use Rattle.interpolate.specs.Rows.{PointSet}
+use Rattle.interpolate.specs.Values.{PointSet}
 
 -- points 0 to m − 1
 unfoldable pub firstPoints : ℕ → List ℕ

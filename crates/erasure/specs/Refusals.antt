@@ -5,9 +5,8 @@ use Prim.Native.Nat.{ℕ, _*_}
 use lib.Dec.{eqb, ltb}
 use lib.ListN.{length}
 use Rattle.erasure.specs.Code.{codedOf, decodedOf}
-use Rattle.settings.specs.Ranges.{codeRefusal, CodeRange}
+use Rattle.settings.specs.Ranges.{codeRefusal}
 use Rattle.settings.specs.Refusal.{refuseUnless, firstRefusal, badLength, badNumber, badBrickSet}
-use mathlib.Core.Path.{_≡_}
 
 -- every brick of the list is below n
 unfoldable pub allBelow : List ℕ → ℕ → Bool
@@ -52,9 +51,3 @@ encodedBuffer n m size stripe coded = unlessRefused (encodeRefusal n m size (len
 unfoldable pub decodedBuffer : ℕ → ℕ → ℕ → List ℕ → List ℕ → List ℕ → List ℕ
 decodedBuffer n m size bricks blocks stripe =
     unlessRefused (decodeRefusal n m size bricks (length blocks) (length stripe)) stripe (decodedOf m size bricks blocks)
-
--- an encoding that is not refused
-pub record Encodes (n m size stripe coded : ℕ) : Type 0 where
-  pub range : CodeRange n m size
-  pub stripe-length : stripe ≡ m * size
-  pub coded-length : coded ≡ n * size

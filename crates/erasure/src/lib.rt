@@ -5,8 +5,8 @@ ghost use Prim.Native.Nat.{_*_};
 ghost use lib.ListN.{length};
 ghost use Rattle.erasure.specs.Code.{codedOf, decodedOf};
 ghost use Rattle.erasure.specs.Refusals.{allBelow, allDifferent, encodeRefusal, decodeRefusal, encodedBuffer, decodedBuffer};
-ghost use Rattle.erasure.specs.Refusals.{Encodes};
-ghost use Rattle.interpolate.specs.Rows.{PointSet};
+ghost use Rattle.erasure.specs.Workers.{Encodes};
+ghost use Rattle.interpolate.specs.Values.{PointSet};
 
 // Whether every brick of a list is below n.
 pub fn all_below(bricks: &[u8], n: usize) -> bool

@@ -1,3 +1,3 @@
 -- The laws of `figures`, for its own proofs and those of the crates above. No contract cites them.
-pub mod Figures
-pub mod WorkedRun
+pub mod FigureLaws
+pub mod WorkedRunLaws

@@ -3,10 +3,10 @@
 pub mod FitLaws
 pub mod HubLaws
 pub mod ImageLaws
-pub mod Numbers
+pub mod ShownNumberLaws
 pub mod OpenLaws
 pub mod ParseLaws
 pub mod Saved
 pub mod ScanLaws
-pub mod SoundLaws
-pub mod TestLaws
+pub mod ImageSoundLaws
+pub mod FieldTestLaws

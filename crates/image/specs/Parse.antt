@@ -1,19 +1,18 @@
 -- Opening a saved brick: the brick that the bytes are the image of, or one refusal.
-use mathlib.Core.Bool.{Bool, cond, _&&_, true}
+use mathlib.Core.Bool.{Bool, cond, _&&_}
 use mathlib.Core.List.{List, [], _∷_}
-use Prim.Native.Nat.{ℕ, zero, suc, _+_, _*_, _<_}
+use Prim.Native.Nat.{ℕ, zero, suc, _+_, _*_}
 use lib.Dec.{ltb, eqb}
 use lib.ListN.{length, take, drop}
-use Rattle.settings.specs.Ranges.{inRange, SettingsRange}
+use Rattle.settings.specs.Ranges.{inRange}
 use Rattle.settings.specs.Refusal.{passed, refuseUnless, firstRefusal, badSetting, badLength, badNumber, badCheck, badRecord}
 use Rattle.settings.specs.declared.Settings.{Settings}
 use Rattle.byte_lists.specs.Little.{number}
 use Rattle.image_block.specs.Block.{checked}
 use Rattle.byte_lists.specs.Lists.{same}
-use Rattle.image.specs.Brick.{Brick, LogEntry, sound, Sound}
+use Rattle.image.specs.Brick.{Brick, LogEntry, sound}
 use Rattle.byte_lists.specs.Each.{each}
 use Rattle.image.specs.Image.{imageOf, imageSize}
-use mathlib.Core.Path.{_≡_}
 
 -- block k of some bytes
 unfoldable pub blockAt : List ℕ → ℕ → List ℕ
@@ -72,16 +71,3 @@ pub data Parsed : Type 0 where
 unfoldable pub parse : Settings → ℕ → List ℕ → Parsed
 parse s brick bytes =
     cond (eqb (openRefusal s brick bytes) passed) (Opens (brickIn s bytes)) (Refuses (openRefusal s brick bytes))
-
--- The ways through the refusal of an image.
-module _ (s : Settings) (brick : ℕ) (l : List ℕ) where
-  -- what an image that opens satisfies
-  pub record Opened (x : Brick) : Type 0 where
-    pub in-range : inRange s ≡ true
-    pub range : SettingsRange s
-    pub long : length l ≡ imageSize s
-    pub brick-low : brick < s .n
-    pub checks : each (checkedAt l) (s .capacity + 1) ≡ true
-    pub is-read : x ≡ brickIn s l
-    pub keeps : Sound s x
-    pub is-image : l ≡ imageOf s brick x

@@ -2,7 +2,7 @@
 -- The 512-byte block. Definitions: Block. Figures: those of document 01. Laws: the other modules.
 pub mod ChangeLaws
 pub mod CheckLaws
-pub mod Figures
+pub mod CheckFigures
 pub mod LayoutLaws
-pub mod RowLaws
-pub mod StoreLaws
+pub mod CheckRowLaws
+pub mod BlockStoreLaws

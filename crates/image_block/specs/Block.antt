@@ -20,10 +20,6 @@ checkOf body = (1 + weighted 1 body) % 65521
 unfoldable pub sealed : List ℕ → List ℕ
 sealed body = little 2 (checkOf body) ++ body
 
--- the bytes before the check is placed in front
-unfoldable pub unchecked : List ℕ → List ℕ
-unchecked body = 0 ∷ 0 ∷ body
-
 -- whether a block's check holds: bytes 0 and 1 are those of the check
 unfoldable pub checked : List ℕ → Bool
 checked block = same (take 2 block) (little 2 (checkOf (drop 2 block)))
@@ -60,8 +56,3 @@ unusedBody = unusedKind ∷ zeros 509
 
 unfoldable pub unusedBlock : List ℕ
 unusedBlock = sealed unusedBody
-
--- the sum of the bytes
-unfoldable pub total : List ℕ → ℕ
-total [] = 0
-total (b ∷ bs) = b + total bs

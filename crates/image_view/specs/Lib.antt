@@ -1,3 +1,2 @@
 -- The view of a saved brick. Definitions: View. Laws: ViewLaws.
-pub mod Numbers
 pub mod View

@@ -10,6 +10,7 @@ use Rattle.image.specs.Parse.{Parsed, Opens, Refuses, blockAt, timeIn}
 use Rattle.image.specs.declared.Holding.the-variants.{Held}
 use Rattle.image_view.specs.declared.Found.{Found}
 use Rattle.image_view.specs.declared.Found.the-variants.{At, Refused}
+use Rattle.settings.specs.Refusal.{passed}
 
 -- the entry at a place: its time, and the place of its held block; or 3 for "a view's place not below its count"
 unfoldable pub foundOf : Parsed → ℕ → Found
@@ -21,3 +22,13 @@ unfoldable pub foundAt : List ℕ → ℕ → ℕ → Found
 foundAt l n place =
     cond (leb (length l / 512) n) (Refused badLength)
     (cond (leb n place) (Refused badNumber) (At (record { time = timeIn (blockAt l (place + 1)); holding = Held (place + 1) })))
+
+-- 0 where there is an entry
+unfoldable pub foundNumber : Found → ℕ
+foundNumber (At entry) = passed
+foundNumber (Refused number) = number
+
+-- the image's refusal; of one that opens, 3 for "a view's place not below its count"
+unfoldable pub placeNumber : Parsed → ℕ → ℕ
+placeNumber (Opens x) place = cond (leb (count x) place) badNumber passed
+placeNumber (Refuses number) place = number

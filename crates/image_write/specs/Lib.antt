@@ -1,2 +1,3 @@
 -- Changing a saved brick in place. Definitions: Saving. Laws: the modules named Laws.
 pub mod Saving
+pub mod Workers

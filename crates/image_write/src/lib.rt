@@ -10,7 +10,7 @@ ghost use Rattle.image.specs.Image.{imageSize, imageOf};
 ghost use Rattle.image.specs.Brick.{fresh};
 ghost use Rattle.image.specs.Opening.{lendingRefusal};
 ghost use Rattle.image_write.specs.Saving.{freshAfter};
-ghost use Rattle.image_write.specs.Saving.{Blocks, clearedOf, shiftedOf};
+ghost use Rattle.image_write.specs.Workers.{Blocks, clearedOf, shiftedOf};
 use byte_lists::store;
 use image::lending_refusal;
 use image_block::entry;

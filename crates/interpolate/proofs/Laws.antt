@@ -2,9 +2,9 @@
 -- Definitions: Bytes (the field), Tabulate (lists by a rule), Values (what is computed), Rows (the inner functions). Theorem: Polynomials. Laws: the others.
 pub mod BitLaws
 pub mod BlockLaws
-pub mod Bytes
-pub mod PlaceLaws
-pub mod Polynomials
-pub mod RowLaws
-pub mod SumLaws
+pub mod ByteLaws
+pub mod FirstPlaceLaws
+pub mod PolynomialLaws
+pub mod WeightRowLaws
+pub mod LogarithmSumLaws
 pub mod WeightLaws

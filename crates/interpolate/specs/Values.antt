@@ -5,6 +5,8 @@ use lib.ListN.{length, getD}
 use Rattle.interpolate.specs.Bytes.{bytes, byte}
 use Rattle.byte_lists.specs.Lists.{tabulate, stacked}
 use Rattle.poly.specs.Polynomial.{interpolated}
+use Prim.Native.Nat.{_≤_, _<_}
+use mathlib.Core.Path.{_≡_}
 
 -- byte p of block i, in a row of blocks of `size` bytes
 unfoldable pub byteAt : ℕ → List ℕ → ℕ → ℕ → ℕ
@@ -23,3 +25,8 @@ blockAt points size blocks x = tabulate size (valueAt points size blocks x)
 -- the blocks at points 0 to count − 1, one after the other
 unfoldable pub blocksAt : List ℕ → ℕ → List ℕ → ℕ → List ℕ
 blocksAt points size blocks count = stacked count (blockAt points size blocks)
+
+-- at most 16 points, all different
+pub record PointSet (points : List ℕ) : Type 0 where
+  pub few : length points ≤ 16
+  pub differ : (i j : ℕ) → i < length points → j < length points → getD points i 0 ≡ getD points j 0 → i ≡ j

@@ -5,8 +5,9 @@ ghost use Prim.Native.Nat.{ℕ, _+_, _-_, _*_, _<_, _≤_};
 ghost use lib.ListN.{length, getD};
 ghost use Rattle.gf256.specs.Product.{product, power, twice};
 ghost use Rattle.gf256.specs.Tables.{IsPowers};
-ghost use Rattle.interpolate.specs.Rows.{PointSet, Ready, Denominators, weight};
-ghost use Rattle.interpolate.specs.Rows.{firstPlace, scaled, numerator, denominator};
+ghost use Rattle.interpolate.specs.Workers.{Ready, Denominators, weight};
+ghost use Rattle.interpolate.specs.Values.{PointSet};
+ghost use Rattle.interpolate.specs.Workers.{firstPlace, scaled, numerator, denominator};
 ghost use Rattle.interpolate.specs.Values.{blockAt, blocksAt};
 
 // Where x first stands in a list; the list's length if nowhere.

@@ -3,14 +3,14 @@
 pub mod Tests
 pub mod Order
 -- The theorem.
-pub mod Theorem
+pub mod OneOrderTheorem
 -- Its lemmas, lowest first.
 pub mod ClaimLaws
 pub mod PlaceLaws
 pub mod TestLaws
-pub mod QuorumLaws
+pub mod QuorumSetLaws
 pub mod FactLaws
-pub mod StoreLaws
+pub mod StoredLaws
 pub mod GoneLaws
 pub mod LiveLaws
 pub mod SortLaws
@@ -23,7 +23,7 @@ pub mod WalkLaws
 pub mod OrderLaws
 -- Histories written out, shown valid.
 pub mod ExampleLaws
-pub mod ClaimExample
-pub mod BenchExample
+pub mod ClaimExampleLaws
+pub mod BenchExampleLaws
 pub mod RolledForwardExample
 pub mod BlockExample

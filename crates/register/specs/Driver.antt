@@ -6,7 +6,7 @@ use mathlib.Core.List.{List, [], _∷_, _++_}
 use Prim.Native.Nat.{ℕ}
 use lib.Dec.{eqb}
 use Rattle.settings.specs.declared.Settings.{Settings}
-use Rattle.coord_apply.specs.Steps.{Broadcast, Step, refused, went, answerOf, blocksAfter, stripeAfter, codedAfter}
+use Rattle.coord_apply.specs.Answers.{Broadcast, Step, refused, went, answerOf, blocksAfter, stripeAfter, codedAfter}
 use Rattle.coord_apply.specs.declared.Answer.{Answer}
 use Rattle.register.specs.Runs.{message, World, Moved, putAt, seenOf, toAll}
 

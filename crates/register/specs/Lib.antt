@@ -6,6 +6,5 @@ pub mod Runs
 pub mod Driver
 pub mod NeverRefused
 -- The invariant, and what goes on to hold under more facts and more items.
-pub mod Invariant
 -- What one order means for reads and writes.
 pub mod OrderUse

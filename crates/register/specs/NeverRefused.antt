@@ -5,7 +5,7 @@ use Prim.Native.Nat.{_*_}
 use lib.ListN.{length}
 use Rattle.settings.specs.declared.Settings.{Settings}
 use Rattle.coord_record.specs.Sound.{sound}
-use Rattle.coord_apply.specs.Steps.{Held}
+use Rattle.coord_apply.specs.Answers.{Held}
 
 -- a coordinator that the next routine opens
 pub record Fine (s : Settings) (k : Held) : Type 0 where

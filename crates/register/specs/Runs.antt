@@ -17,9 +17,9 @@ use Rattle.brick.specs.declared.Given.{Given}
 use Rattle.brick.specs.declared.Given.the-variants.{Answered, Silent, Refused}
 use Rattle.coord_record.specs.Records.{readingKind, idleWith}
 use Rattle.erasure.specs.Code.{blockOf}
-use Rattle.coord_apply.specs.Steps.{Held, Broadcast, Step, refused, went, beganSeen, okSeen, readSeen, abortedSeen, cutSeen}
+use Rattle.coord_apply.specs.Answers.{Held, Broadcast, Step, refused, went, beganSeen, okSeen, readSeen, abortedSeen, cutSeen}
 use Rattle.coord_apply.specs.declared.Seen.{Seen as Shown}
-use Rattle.coordinator.specs.Rules.{takeStep, crashStep, writeStep, readStep}
+use Rattle.coordinator.specs.Routines.{takeStep, crashStep, writeStep, readStep}
 use Rattle.order.specs.Claim.{Plain, read, write, ok, bytes, stripe, finished, aborted, cut, Seen, OneOrder}
 
 -- "The plain stripe is m blocks, zeros at first."

@@ -1,3 +1,3 @@
 -- The laws of `test_brick`, for its own proofs and those of the crates above. No contract cites them.
 -- Definitions: Numbers. Laws: NumberLaws.
-pub mod NumberLaws
+pub mod BrickBoundaryLaws

@@ -1,2 +1,2 @@
 -- Definitions: Numbers. Laws: NumberLaws.
-pub mod Numbers
+pub mod BrickBoundary

@@ -1,7 +1,7 @@
 // The parts below the code at a C boundary of numbers and slices, for the tests that compare them with other code.
 ghost use mathlib.Core.Path.{_≡_};
 ghost use Rattle.gf256.specs.Product.{product, inverse, quotient};
-ghost use Rattle.test_field.specs.Probe.{powerOrZero, IsLog, settingsNumber, drawNumber, drawBuffer};
+ghost use Rattle.test_field.specs.FieldBoundary.{powerOrZero, IsLog, settingsNumber, drawNumber, drawBuffer};
 ghost use Rattle.settings.specs.Ranges.{quorum};
 ghost use Rattle.settings.specs.Times.{validTime};
 use settings::Clock;

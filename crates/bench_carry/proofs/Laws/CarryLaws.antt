@@ -10,24 +10,26 @@ use lib.Dec.{eqb}
 use lib.ListN.{length, length-append}
 use borrow.Author.Tests.{lt-ltb, le-ltb}
 use Rattle.settings.specs.declared.Settings.{Settings}
-use Rattle.bench_commit.specs.Answers.{Seats}
+use Rattle.bench_commit.specs.Workers.{Seats}
 use Rattle.bench_parse.proofs.Laws.CallerLaws.{rest-first, rest-next, rest-splits, rest-none}
 use Rattle.bench_parse.specs.Lines.{numbersOf}
-use Rattle.bench_parse.specs.Meaning.{wordsFrom, CarryFrom, NumberAt}
+use Rattle.bench_parse.specs.Workers.{wordsFrom, CarryFrom, NumberAt}
 use Rattle.bench_parse.specs.declared.Number.{Number}
 use Rattle.bench_rules.specs.Play.{Played, refuses, passes, happens, switches, carries, carriesAt, carried, andThen, carriedAll}
-use Rattle.bench_rules.specs.Turning.{Lent, worldIn, Ready, Turned}
+use Rattle.bench_rules.specs.Turning.{Lent, worldIn}
+use Rattle.bench_rules.specs.Workers.{Ready, Turned}
 use Rattle.bench_rules.specs.declared.After.{After}
 use Rattle.bench_print.specs.Printing.{written}
 use Rattle.bench_print.proofs.Laws.WrittenLaws.{written-nothing, written-both}
-use Rattle.bench_sent.proofs.Laws.RunLaws.{items-length}
+use Rattle.bench_sent.proofs.Laws.SentItemLaws.{items-length}
 use Rattle.bench_sent.specs.Sent.{itemsOf, itemAt}
-use Rattle.bench_state.specs.State.{Fits}
-use Rattle.bench_state.specs.State.{worldOf, withUp}
+use Rattle.bench_state.specs.Workers.{Fits}
+use Rattle.bench_state.specs.State.{worldOf}
+use Rattle.bench_state.specs.Workers.{withUp}
 use Rattle.bench_state.proofs.Laws.StateLaws.{up-put}
 use Rattle.bench_state.specs.declared.Bench.{Bench}
 use Rattle.register.specs.Runs.{Item, World, Event, goesDown, comesUp, step, standing}
-use Rattle.bench_carry.specs.Carrying.{Lined, Carrying}
+use Rattle.bench_carry.specs.Workers.{Lined, Carrying}
 
 -- the item at a place is the one in its row
 carries-append : (s : Settings) (w : World) (k : ℕ) (l : List Item) (i : Item) (j : ℕ) → j < length l → carriesAt s w k (l ++ i ∷ []) j ≡ carriesAt s w k l j

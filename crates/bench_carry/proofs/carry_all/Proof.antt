@@ -3,7 +3,7 @@ use Prim.Native.Nat.{_+_, _-_}
 use native.Mathlib.Omega.{arith}
 use lib.ListN.{length}
 use Rattle.bench_rules.specs.Turning.{lent}
-use Rattle.bench_carry.specs.Carrying.{Carrying}
+use Rattle.bench_carry.specs.Workers.{Carrying}
 use Rattle.bench_carry.proofs.Laws.CarryLaws.{carrying-first, carrying-next, carrying-done}
 use Rattle.bench_carry.proofs.carry_all.Statement.{statement}
 use Rattle.bench_carry.proofs.carry_all.Tie as tie

@@ -1,6 +1,6 @@
 use mathlib.Core.Path.{refl, sym, _∙_}
 use native.Mathlib.Omega.{arith}
-use Rattle.bench_carry_message.proofs.Laws.Deliver.{ready-lends}
+use Rattle.bench_carry_message.proofs.Laws.ReachingLaws.{ready-lends}
 use Rattle.bench_rules.specs.Turning.{lent}
 use Rattle.bench_carry.proofs.Laws.CarryLaws.{carried-zero, carried-past, carried-item, ready-seats}
 use borrow.Author.Needs.{needs}

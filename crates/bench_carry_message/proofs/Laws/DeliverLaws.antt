@@ -14,24 +14,25 @@ use Rattle.image.specs.Image.{imageSize}
 use Rattle.brick.specs.Receive.{Outcome, outcome}
 use Rattle.brick.specs.declared.Given.{Given}
 use Rattle.brick.specs.declared.Given.the-variants.{Answered, Silent, Refused}
-use Rattle.coord_apply.specs.Steps.{Held}
+use Rattle.coord_apply.specs.Answers.{Held}
 use Rattle.register.specs.Runs.{Item, World, Moved, message, arrives, arriving, received, repliedWith, putAt, step}
 use Rattle.byte_lists.specs.Lists.{put}
 use Rattle.byte_lists.proofs.Laws.PutLaws.{put-mid}
-use Rattle.bench_state.proofs.Laws.PartLaws.{any-default}
+use Rattle.bench_state.proofs.Laws.KeptPartLaws.{any-default}
 use Rattle.bench_state.specs.State.{imagesOf, upOf, heldAt, worldOf}
 use Rattle.bench_state.proofs.Laws.StateLaws.{image-put}
 use Rattle.bench_state.specs.declared.Bench.{Bench}
 use Rattle.bench_sent.specs.Sent.{isReply, numberAt, messageAt, blockAt, itemAt, itemsOf}
-use Rattle.bench_sent.proofs.Laws.SentLaws.{item-message, block-cut}
-use Rattle.bench_sent.proofs.Laws.RunLaws.{items-length, arrives-item}
+use Rattle.bench_sent.proofs.Laws.SentRowLaws.{item-message, block-cut}
+use Rattle.bench_sent.proofs.Laws.SentItemLaws.{items-length, arrives-item}
 use Rattle.bench_print.specs.Printing.{written}
 use Rattle.bench_rules.specs.Play.{Played, carries, reaches, delivered, happens, refuses, passes}
-use Rattle.bench_rules.specs.Turning.{Lent, lent, worldIn, Turned}
-use Rattle.bench_rules.proofs.Laws.TurnLaws.{turned-nothing}
+use Rattle.bench_rules.specs.Turning.{Lent, lent, worldIn}
+use Rattle.bench_rules.specs.Workers.{Turned}
+use Rattle.bench_rules.proofs.Laws.TurningLaws.{turned-nothing}
 use Rattle.bench_rules.specs.declared.After.{After}
-use Rattle.bench_carry_message.proofs.Laws.AnswerLaws.{refusal-keeps, room}
-use Rattle.bench_carry_message.specs.Deliver.{Lends, Reaching, Settled, maySend, sentAfter, toldOf}
+use Rattle.bench_carry_message.proofs.Laws.ReplyKeptLaws.{refusal-keeps, room}
+use Rattle.bench_carry_message.specs.Workers.{Lends, Reaching, Settled, maySend, sentAfter, toldOf}
 
 -- the ways of `carries` for a message
 module _ (s : Settings) (w : World) (k brick : ℕ) (msg : Message) (block : List ℕ) where

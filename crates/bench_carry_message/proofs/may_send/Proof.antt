@@ -1,4 +1,4 @@
-use Rattle.bench_carry_message.proofs.Laws.AnswerLaws.{may-trim, may-other}
+use Rattle.bench_carry_message.proofs.Laws.ReplyKeptLaws.{may-trim, may-other}
 use Rattle.bench_carry_message.proofs.may_send.Statement.{statement}
 use Rattle.bench_carry_message.proofs.may_send.Tie as tie
 

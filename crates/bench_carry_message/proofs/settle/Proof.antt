@@ -1,5 +1,5 @@
 use native.Mathlib.Omega.{arith}
-use Rattle.bench_carry_message.proofs.Laws.AnswerLaws.{room-answered, room-any, settled-answered, settled-silent, settled-refused}
+use Rattle.bench_carry_message.proofs.Laws.ReplyKeptLaws.{room-answered, room-any, settled-answered, settled-silent, settled-refused}
 use borrow.Author.Needs.{needs}
 use Rattle.bench_carry_message.proofs.settle.Statement.{statement}
 use Rattle.bench_carry_message.proofs.settle.Tie as tie

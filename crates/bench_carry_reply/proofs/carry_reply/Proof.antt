@@ -1,6 +1,6 @@
 use mathlib.Core.Path.{refl, sym}
 use Rattle.bench_commit.proofs.Laws.ActedLaws.{reply-past, reply-here}
-use Rattle.bench_commit.proofs.Laws.AnswerLaws.{seat-at, front-long}
+use Rattle.bench_commit.proofs.Laws.CommitLaws.{seat-at, front-long}
 use borrow.Author.Needs.{needs}
 use Rattle.bench_carry_reply.proofs.carry_reply.Statement.{statement}
 use Rattle.bench_carry_reply.proofs.carry_reply.Tie as tie

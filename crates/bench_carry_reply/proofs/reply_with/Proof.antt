@@ -2,7 +2,7 @@ use mathlib.Core.Path.{refl, ap, _∙_}
 use Prim.Native.Nat.{ℕ, _+_, _*_}
 use native.Mathlib.Omega.{arith}
 use lib.ListN.{take, drop}
-use Rattle.bench_sent.proofs.Laws.SentLaws.{block-cut}
+use Rattle.bench_sent.proofs.Laws.SentRowLaws.{block-cut}
 use Rattle.bench_commit.proofs.Laws.ActedLaws.{acted-row}
 use borrow.Author.Needs.{needs}
 use Rattle.bench_carry_reply.proofs.reply_with.Statement.{statement}

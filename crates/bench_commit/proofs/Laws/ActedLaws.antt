@@ -13,26 +13,27 @@ use Rattle.byte_lists.specs.Little.{Bytes}
 use Rattle.message.specs.declared.Reply.{Reply}
 use Rattle.coord_record.specs.declared.Coordinator.{Coordinator}
 use Rattle.coord_apply.specs.Acts.{heldOf}
-use Rattle.coord_apply.specs.Steps.{Held, Step, refused, went, answerOf, blocksAfter, stripeAfter, codedAfter}
+use Rattle.coord_apply.specs.Answers.{Held, Step, refused, went, answerOf, blocksAfter, stripeAfter, codedAfter}
 use Rattle.coord_apply.specs.declared.Answer.{Answer}
-use Rattle.coordinator.specs.Rules.{takeStep, crashStep, writeStep, readStep}
+use Rattle.coordinator.specs.Routines.{takeStep, crashStep, writeStep, readStep}
 use Rattle.register.specs.Driver.{Short}
-use Rattle.register.proofs.Laws.Driver.{left-untouched, write-short, read-short, crash-short, take-short}
+use Rattle.register.proofs.Laws.DriverLaws.{left-untouched, write-short, read-short, crash-short, take-short}
 use Rattle.register.specs.Runs.{Item, World, untouched, Event, startWrite, startRead, arrives, crashes, reply, step, coordinated, arriving}
-use Rattle.bench_sent.proofs.Laws.RunLaws.{arrives-item}
+use Rattle.bench_sent.proofs.Laws.SentItemLaws.{arrives-item}
 use Rattle.bench_sent.specs.Sent.{itemAt, isReply, replyAt, blockAt}
-use Rattle.bench_sent.proofs.Laws.SentLaws.{item-reply}
+use Rattle.bench_sent.proofs.Laws.SentRowLaws.{item-reply}
 use Rattle.bench_state.specs.State.{worldOf, heldAt, idleAt}
 use Rattle.bench_state.specs.declared.Bench.{Bench}
 use Rattle.bench_rules.specs.Content.{counted, content, content-small}
 use Rattle.bench_rules.specs.Play.{Played, acts, refuses, unlessShort, atCoordinator, writes, starts, crashesAt, carries}
-use Rattle.bench_rules.specs.Turning.{Lent, lent, worldIn, Turned}
+use Rattle.bench_rules.specs.Turning.{Lent, lent, worldIn}
+use Rattle.bench_rules.specs.Workers.{Turned}
 use Rattle.bench_rules.specs.declared.After.{After}
-use Rattle.bench_commit.specs.Answers.{answered}
-use Rattle.bench_commit.specs.Answers.{Answers}
-use Rattle.bench_commit.proofs.Laws.AnswerLaws.{Numbered, answered-is-acts}
-use Rattle.bench_commit.proofs.Laws.StepLaws.{write-numbered, write-blocks, write-coded, read-numbered, read-blocks, read-stripe, read-coded, crash-numbered, crash-blocks, crash-stripe, crash-coded, take-numbered}
-use Rattle.bench_commit.specs.Answers.{Acted, Plays}
+use Rattle.bench_commit.specs.Workers.{answered}
+use Rattle.bench_commit.specs.Workers.{Answers}
+use Rattle.bench_commit.proofs.Laws.CommitLaws.{Numbered, answered-is-acts}
+use Rattle.bench_commit.proofs.Laws.CommitStepLaws.{write-numbered, write-blocks, write-coded, read-numbered, read-blocks, read-stripe, read-coded, crash-numbered, crash-blocks, crash-stripe, crash-coded, take-numbered}
+use Rattle.bench_commit.specs.Workers.{Acted, Plays}
 
 -- a start that is refused stays so, and one that is not is refused for its digits
 short-refuses : (s : Settings) (w : World) (e : Event) (c : ℕ) (st : Coordinator) (q : Step) (a : Answer) (ok : Bool) → a ≡ answerOf st q → Numbered q

@@ -1,5 +1,5 @@
 use native.Mathlib.Omega.{arith}
-use Rattle.bench_commit.proofs.Laws.AnswerLaws.{answers-refused, answers-past}
+use Rattle.bench_commit.proofs.Laws.CommitLaws.{answers-refused, answers-past}
 use borrow.Author.Needs.{needs}
 use Rattle.bench_commit.proofs.commit.Statement.{statement}
 use Rattle.bench_commit.proofs.commit.Tie as tie

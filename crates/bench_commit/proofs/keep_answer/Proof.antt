@@ -1,7 +1,7 @@
 use mathlib.Core.Path.{sym, subst}
 use Prim.Native.Nat.{ℕ, _≤_}
 use native.Mathlib.Nat.{le-of-eq}
-use Rattle.bench_commit.proofs.Laws.AnswerLaws.{answers-kept}
+use Rattle.bench_commit.proofs.Laws.CommitLaws.{answers-kept}
 use borrow.Author.Needs.{needs}
 use Rattle.bench_commit.proofs.keep_answer.Statement.{statement}
 use Rattle.bench_commit.proofs.keep_answer.Tie as tie

@@ -1,6 +1,6 @@
 use native.Mathlib.Omega.{arith}
-use Rattle.bench_sent.proofs.Laws.RunLaws.{coded-long}
-use Rattle.bench_commit.proofs.Laws.AnswerLaws.{round-none, round-one, sent-more}
+use Rattle.bench_sent.proofs.Laws.SentItemLaws.{coded-long}
+use Rattle.bench_commit.proofs.Laws.CommitLaws.{round-none, round-one, sent-more}
 use borrow.Author.Needs.{needs}
 use Rattle.bench_commit.proofs.send.Statement.{statement}
 use Rattle.bench_commit.proofs.send.Tie as tie

@@ -1,4 +1,4 @@
-use Rattle.bench_commit.proofs.Laws.AnswerLaws.{sent-none, sent-more}
+use Rattle.bench_commit.proofs.Laws.CommitLaws.{sent-none, sent-more}
 use borrow.Author.Needs.{needs}
 use Rattle.bench_commit.proofs.sent_after.Statement.{statement}
 use Rattle.bench_commit.proofs.sent_after.Tie as tie

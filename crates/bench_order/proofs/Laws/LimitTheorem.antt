@@ -13,7 +13,7 @@ use Rattle.bench_state.specs.State.{benchRange}
 use Rattle.bench_rules.specs.Play.{Played, refuses, passes, happens, andThen, Stage, waiting, playing, waits, begins, first, turn}
 use Rattle.bench_order.specs.Script.{lines, stays, follows, playsLines, script}
 use Rattle.bench_order.proofs.Laws.Parts.{Few, Part, refusing, passing, happening, both}
-use Rattle.bench_order.proofs.Laws.PartLaws.{every-line-by-parts}
+use Rattle.bench_order.proofs.Laws.ScriptPartLaws.{every-line-by-parts}
 
 part-few : (s : Settings) (w : World) (p : Played) → Part s w p → Few w → Few (p .world)
 unfolding refuses passes happens andThen

@@ -10,7 +10,7 @@ use Rattle.coord_record.specs.declared.Op.{Op}
 use Rattle.order.specs.Claim.{Outcome, Seen}
 use Rattle.register.specs.Runs.{plain, World, Event, step}
 use Rattle.bench_rules.specs.Play.{lastMessage, Played, refuses, passes, happens, andThen}
-use Rattle.bench_order.proofs.Laws.Told.{told}
+use Rattle.bench_order.proofs.Laws.ToldLaws.{told}
 
 -- The operation of this kind and time runs: it is a read or a write.
 pub record Ran (op : Op) (kind time : ℕ) : Type 0 where

@@ -11,33 +11,33 @@ use Rattle.byte_lists.proofs.Laws.BoolLaws.{and-left}
 use Rattle.settings.specs.declared.Settings.{Settings}
 use Rattle.coord_record.specs.Records.{readingKind, noBricks}
 use Rattle.coord_record.specs.Sound.{unsetOp, readRight, writeRight, opRight}
-use Rattle.coord_record.proofs.Laws.SoundParts.{sound-parts}
+use Rattle.coord_record.proofs.Laws.SoundPartLaws.{sound-parts}
 use Rattle.coord_record.specs.declared.Coordinator.{Coordinator}
 use Rattle.coord_record.specs.declared.Op.{Op}
 use Rattle.coord_decide.specs.Deciding.{decided}
 use Rattle.coord_decide.specs.Decisions.{Says}
-use Rattle.coord_decide.proofs.Laws.Decisions.{decided-says}
+use Rattle.coord_decide.proofs.Laws.SaysLaws.{decided-says}
 use Rattle.coord_decide.specs.declared.Decision.{Decision}
 use Rattle.coord_decide.specs.declared.Decision.the-variants.{Abort, Give, Look, Store, Recover, Finish}
 use Rattle.coord_apply.specs.Acts.{acted, ending, nextRound, finishedSeen, waitingOr, counting, withTally}
-use Rattle.coord_apply.specs.Steps.{Held, Went, went, nothingSeen, beganSeen, okSeen, readSeen, cutSeen}
+use Rattle.coord_apply.specs.Answers.{Held, Went, went, nothingSeen, beganSeen, okSeen, readSeen, cutSeen}
 use Rattle.coord_apply.specs.declared.Seen.{Seen as Shown}
 use Rattle.coord_refusals.specs.Checks.{recordChecks, crashRefusal}
-use Rattle.coordinator.specs.Rules.{takeStep, crashed, crashStep, writeStep, readStep}
-use Rattle.coord_laws.proofs.Laws.OpCases.{in-read, Fit, reading, looking, restoring, ordering, storing, fit}
-use Rattle.coord_laws.proofs.Laws.RunLaws.{took, write-begins, read-begins}
-use Rattle.coord_laws.proofs.Laws.Soundness.{passes, same-went}
+use Rattle.coordinator.specs.Routines.{takeStep, crashed, crashStep, writeStep, readStep}
+use Rattle.coord_laws.proofs.Laws.OpCaseLaws.{in-read, Fit, reading, looking, restoring, ordering, storing, fit}
+use Rattle.coord_laws.proofs.Laws.StepRunLaws.{took, write-begins, read-begins}
+use Rattle.coord_laws.proofs.Laws.SoundnessLaws.{passes, same-went}
 use Rattle.message.specs.Flags.{members}
 use Rattle.message.specs.declared.Reply.{Reply}
 use Rattle.settings.specs.Ranges.{codeRefusal, quorum}
 use Rattle.settings.proofs.Laws.RefusalLaws.{passed-rest}
-use Rattle.coordinator.proofs.Laws.StepLaws.{record-passes}
+use Rattle.coordinator.proofs.Laws.RoutineLaws.{record-passes}
 use Rattle.order.specs.Claim.{Outcome, Seen, began, ended}
 use Rattle.register.specs.Runs.{plain, seenOf}
 use Rattle.bench_print.specs.Printing.{kindWord, endWord, lineText, isEnd, endedText}
 use Rattle.bench_order.proofs.Laws.Parts.{Ran}
 use Rattle.bench_order.specs.Told.{endLine, toldEnd}
-use Rattle.bench_order.proofs.Laws.Told.{told}
+use Rattle.bench_order.proofs.Laws.ToldLaws.{told}
 
 -- ok is the end of a write, and the stripe is the end of a read; what ends is the operation that ran
 pub record Agrees (op : Op) (e : Shown) : Type 0 where

@@ -16,19 +16,19 @@ use Rattle.order.specs.Claim.{Action, read, write, Outcome, Seen, began, ended,
 use Rattle.order.specs.Facts.{Fact, seen}
 use Rattle.order.specs.Places.{In}
 use Rattle.order.proofs.Laws.SeenLaws.{seen-began}
-use Rattle.order.proofs.Laws.Theorem.{one-order}
+use Rattle.order.proofs.Laws.OneOrderTheorem.{one-order}
 use Rattle.register.proofs.Laws.Corollaries.{one-thing-seen}
-use Rattle.register.specs.Invariant.{Hist, Running, Inv}
+use Rattle.register.proofs.Laws.Invariant.{Hist, Running, Inv}
 use Rattle.register.specs.Runs.{plain, World, Event, Moved, unmoved, fresh, step, next, runFrom, run}
-use Rattle.register.proofs.Laws.Theorem.{step-goes, run-holds}
+use Rattle.register.proofs.Laws.TheoremProof.{step-goes, run-holds}
 use Rattle.bench_parse.specs.Lines.{Line, setLine, writeLine, readLine, carryLine, crashLine, downLine, upLine, noLine, reads}
 use Rattle.bench_print.specs.Printing.{refusedText}
 use Rattle.bench_state.specs.State.{benchRange}
 use Rattle.bench_rules.specs.Play.{Played, refuses, passes, happens, andThen, plays, Stage, waiting, playing, waits, begins, first, turn}
 use Rattle.bench_order.specs.Told.{toldEnd}
-use Rattle.bench_order.proofs.Laws.Told.{told}
+use Rattle.bench_order.proofs.Laws.ToldLaws.{told}
 use Rattle.bench_order.proofs.Laws.Parts.{Ran, Part, refusing, passing, happening, both}
-use Rattle.bench_order.proofs.Laws.PartLaws.{every-line-by-parts}
+use Rattle.bench_order.proofs.Laws.ScriptPartLaws.{every-line-by-parts}
 use Rattle.bench_order.specs.Script.{lines, stays, follows, playsLines, script}
 use Rattle.bench_order.specs.Script.{StandsFor}
 use Rattle.bench_order.proofs.Laws.ScriptTheorem.{part-runs, turn-stands, bench-in-range}

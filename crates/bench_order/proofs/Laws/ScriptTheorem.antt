@@ -9,14 +9,14 @@ use Rattle.settings.specs.Refusal.{refuseUnless, badSetting}
 use Rattle.settings.specs.declared.Settings.{Settings}
 use Rattle.order.specs.Claim.{Seen}
 use Rattle.register.specs.Runs.{plain, World, Event, Moved, unmoved, fresh, next, runFrom, run, RunHasOneOrder}
-use Rattle.register.proofs.Laws.Theorem.{every-run-has-one-order}
+use Rattle.register.proofs.Laws.TheoremProof.{every-run-has-one-order}
 use Rattle.bench_parse.specs.Lines.{Line, setLine, writeLine, readLine, carryLine, crashLine, downLine, upLine, noLine, reads}
-use Rattle.bench_state.proofs.Laws.RangeLaws.{bench-fits}
+use Rattle.bench_state.proofs.Laws.BenchRangeLaws.{bench-fits}
 use Rattle.bench_state.specs.State.{benchRange}
 use Rattle.bench_rules.specs.Play.{Played, refuses, passes, happens, andThen, plays, Stage, waiting, playing, waits, begins, first, turn}
 use Rattle.bench_order.specs.Script.{lines, stays, follows, playsLines, script}
 use Rattle.bench_order.proofs.Laws.Parts.{Part, refusing, passing, happening, both}
-use Rattle.bench_order.proofs.Laws.PartLaws.{every-line-by-parts}
+use Rattle.bench_order.proofs.Laws.ScriptPartLaws.{every-line-by-parts}
 use Rattle.bench_order.specs.Script.{StandsFor}
 
 -- some events, then more

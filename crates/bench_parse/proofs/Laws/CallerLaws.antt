@@ -5,12 +5,12 @@ use Prim.Native.Nat.{ℕ, _+_, _≤_, _<_}
 use native.Mathlib.Omega.{arith}
 use lib.ListN.{length, drop}
 use Rattle.bench_parse.specs.Lines.{numbersOf, setLine, writeLine, readLine, carryLine, crashLine, downLine, upLine, noLine, reads}
-use Rattle.bench_parse.specs.Meaning.{wordsFrom, lineOf, CarryFrom, HexFrom, Sound, NumberAt}
+use Rattle.bench_parse.specs.Workers.{wordsFrom, lineOf, CarryFrom, HexFrom, Sound, NumberAt}
 use Rattle.bench_parse.proofs.Laws.WordLaws.{from-here, from-none}
 use Rattle.bench_parse.specs.declared.Line as code
 use Rattle.bench_parse.specs.declared.Line.the-variants.{Set, Write, Read, Carry, Crash, Down, Up, Unread}
 use Rattle.bench_parse.specs.declared.Number.{Number}
-use Rattle.bench_parse.specs.Meaning.{CarryRest}
+use Rattle.bench_parse.specs.Workers.{CarryRest}
 
 -- What the line says, by the answer r.
 module _ (r : code.Line) (l : List ℕ) (m : lineOf r l ≡ reads l) where

@@ -13,9 +13,9 @@ use lib.ListN.{length, getD, take, drop, set, length-set, length-drop, drop-of-l
 use lib.Seq.{drop-cons, ext-getD, getD-drop, getD-set-same, getD-set-other}
 use borrow.Author.Tests.{ne-eqb, eqb-true, le-leb, leb-true}
 use Rattle.bench_parse.specs.Lines.{every, longer, words, isDigit, isLower, isUpper, isHex, hexValue, hexWord, bytesOf}
-use Rattle.bench_parse.specs.Meaning.{wordsFrom}
-use Rattle.bench_parse.specs.Steps.{wordLength, HexesFrom, hexAlone}
-use Rattle.bench_parse.proofs.Laws.NumberLaws.{clash, and-true}
+use Rattle.bench_parse.specs.Workers.{wordsFrom}
+use Rattle.bench_parse.specs.Workers.{wordLength, HexesFrom, hexAlone}
+use Rattle.bench_parse.proofs.Laws.NumeralLaws.{clash, and-true}
 use Rattle.bench_parse.proofs.Laws.WordLaws.{from-here, words-split}
 use Rattle.byte_lists.specs.Little.{Bytes}
 

@@ -12,8 +12,8 @@ use lib.Seq.{drop-cons}
 use borrow.Author.Tests.{eq-eqb, ne-eqb, lt-leb, le-leb}
 use Rattle.bench_parse.specs.Lines.{longer, words}
 use Rattle.byte_lists.specs.Lists.{same}
-use Rattle.bench_parse.specs.Meaning.{wordsFrom}
-use Rattle.bench_parse.specs.Steps.{wordLength}
+use Rattle.bench_parse.specs.Workers.{wordsFrom}
+use Rattle.bench_parse.specs.Workers.{wordLength}
 
 pub from-here : (l : List ℕ) (at : ℕ) → at ≤ length l → wordsFrom l at ≡ words (drop at l)
 unfolding wordsFrom

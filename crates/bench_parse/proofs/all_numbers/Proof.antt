@@ -2,7 +2,7 @@ use borrow.Author.Needs.{needs}
 use native.Mathlib.Omega.{arith}
 use lib.ListN.{length}
 use Prim.Native.Nat.{_+_, _-_}
-use Rattle.bench_parse.proofs.Laws.NumberLaws.{NumbersSo, numbers-start, numbers-not, numbers-more, numbers-stop}
+use Rattle.bench_parse.proofs.Laws.NumeralLaws.{NumbersSo, numbers-start, numbers-not, numbers-more, numbers-stop}
 use Rattle.bench_parse.proofs.all_numbers.Statement.{statement}
 use Rattle.bench_parse.proofs.all_numbers.Tie as tie
 

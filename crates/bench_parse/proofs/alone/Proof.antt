@@ -1,5 +1,5 @@
 use borrow.Author.Needs.{needs}
-use Rattle.bench_parse.proofs.Laws.NumberLaws.{alone-not, alone-more, alone-is}
+use Rattle.bench_parse.proofs.Laws.NumeralLaws.{alone-not, alone-more, alone-is}
 use Rattle.bench_parse.proofs.alone.Statement.{statement}
 use Rattle.bench_parse.proofs.alone.Tie as tie
 

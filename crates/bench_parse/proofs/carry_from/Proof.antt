@@ -1,5 +1,5 @@
 use borrow.Author.Needs.{needs}
-use Rattle.bench_parse.proofs.Laws.LineLaws.{carry-none, carry-not, carry-is}
+use Rattle.bench_parse.proofs.Laws.ReadLineLaws.{carry-none, carry-not, carry-is}
 use Rattle.bench_parse.proofs.carry_from.Statement.{statement}
 use Rattle.bench_parse.proofs.carry_from.Tie as tie
 

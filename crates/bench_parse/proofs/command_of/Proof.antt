@@ -1,5 +1,5 @@
 use borrow.Author.Needs.{needs}
-use Rattle.bench_parse.proofs.Laws.LineLaws.{command-1, command-2, command-3, command-4, command-5, command-6, command-7, command-0}
+use Rattle.bench_parse.proofs.Laws.ReadLineLaws.{command-1, command-2, command-3, command-4, command-5, command-6, command-7, command-0}
 use Rattle.bench_parse.specs.Lines.{setText, writeText, readText, carryText, crashText, downText, upText}
 use Rattle.bench_parse.proofs.command_of.Statement.{statement}
 use Rattle.bench_parse.proofs.command_of.Tie as tie

@@ -1,5 +1,5 @@
 use borrow.Author.Needs.{needs}
-use Rattle.bench_parse.proofs.Laws.LineLaws.{one-not, crash-is}
+use Rattle.bench_parse.proofs.Laws.ReadLineLaws.{one-not, crash-is}
 use Rattle.bench_parse.proofs.crash_from.Statement.{statement}
 use Rattle.bench_parse.proofs.crash_from.Tie as tie
 

@@ -1,6 +1,6 @@
 use borrow.Author.Needs.{needs}
 use native.Mathlib.Omega.{arith}
-use Rattle.bench_parse.proofs.Laws.NumberLaws.{carry-low, carry-number}
+use Rattle.bench_parse.proofs.Laws.NumeralLaws.{carry-low, carry-number}
 use Rattle.bench_parse.proofs.number_at.Statement.{statement}
 use Rattle.bench_parse.proofs.number_at.Tie as tie
 

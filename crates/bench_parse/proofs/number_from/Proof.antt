@@ -1,6 +1,6 @@
 use borrow.Author.Needs.{needs}
 use native.Mathlib.Omega.{arith}
-use Rattle.bench_parse.proofs.Laws.NumberLaws.{piece-none, piece-read}
+use Rattle.bench_parse.proofs.Laws.NumeralLaws.{piece-none, piece-read}
 use Rattle.bench_parse.proofs.Laws.WordLaws.{end-within}
 use Rattle.bench_parse.proofs.number_from.Statement.{statement}
 use Rattle.bench_parse.proofs.number_from.Tie as tie

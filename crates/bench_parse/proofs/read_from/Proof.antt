@@ -1,5 +1,5 @@
 use borrow.Author.Needs.{needs}
-use Rattle.bench_parse.proofs.Laws.LineLaws.{read-1, read-2, read-3, read-is}
+use Rattle.bench_parse.proofs.Laws.ReadLineLaws.{read-1, read-2, read-3, read-is}
 use Rattle.bench_parse.proofs.read_from.Statement.{statement}
 use Rattle.bench_parse.proofs.read_from.Tie as tie
 

@@ -2,7 +2,7 @@ use borrow.Author.Needs.{needs}
 use native.Mathlib.Omega.{arith}
 use Prim.Native.Nat.{_≤_}
 use lib.ListN.{length}
-use Rattle.bench_parse.proofs.Laws.LineLaws.{carry-place, line-long, line-read}
+use Rattle.bench_parse.proofs.Laws.ReadLineLaws.{carry-place, line-long, line-read}
 use Rattle.bench_parse.proofs.Laws.WordLaws.{end-within}
 use Rattle.bench_parse.proofs.read_line.Statement.{statement}
 use Rattle.bench_parse.proofs.read_line.Tie as tie

@@ -1,5 +1,5 @@
 use borrow.Author.Needs.{needs}
-use Rattle.bench_parse.proofs.Laws.LineLaws.{by-1, by-2, by-3, by-4, by-5, by-6, by-7, by-none}
+use Rattle.bench_parse.proofs.Laws.ReadLineLaws.{by-1, by-2, by-3, by-4, by-5, by-6, by-7, by-none}
 use Rattle.bench_parse.proofs.read_rest.Statement.{statement}
 use Rattle.bench_parse.proofs.read_rest.Tie as tie
 

@@ -1,5 +1,5 @@
 use borrow.Author.Needs.{needs}
-use Rattle.bench_parse.proofs.Laws.LineLaws.{set-1, set-2, set-3, set-4, set-is}
+use Rattle.bench_parse.proofs.Laws.ReadLineLaws.{set-1, set-2, set-3, set-4, set-is}
 use Rattle.bench_parse.proofs.set_from.Statement.{statement}
 use Rattle.bench_parse.proofs.set_from.Tie as tie
 

@@ -2,7 +2,7 @@ use borrow.Author.Needs.{needs}
 use native.Mathlib.Omega.{arith}
 use lib.ListN.{length}
 use Prim.Native.Nat.{_-_, _<_}
-use Rattle.bench_parse.proofs.Laws.NumberLaws.{NumeralSo, numeral-empty, numeral-long, numeral-start, numeral-fits, numeral-below, numeral-above, numeral-more, numeral-stop}
+use Rattle.bench_parse.proofs.Laws.NumeralLaws.{NumeralSo, numeral-empty, numeral-long, numeral-start, numeral-fits, numeral-below, numeral-above, numeral-more, numeral-stop}
 use Rattle.bench_parse.proofs.word_number.Statement.{statement}
 use Rattle.bench_parse.proofs.word_number.Tie as tie
 

@@ -1,5 +1,5 @@
 use borrow.Author.Needs.{needs}
-use Rattle.bench_parse.proofs.Laws.LineLaws.{write-1, write-2, write-3, write-is}
+use Rattle.bench_parse.proofs.Laws.ReadLineLaws.{write-1, write-2, write-3, write-is}
 use Rattle.bench_parse.proofs.write_from.Statement.{statement}
 use Rattle.bench_parse.proofs.write_from.Tie as tie
 

@@ -1,4 +1,4 @@
-use Rattle.bench_player.proofs.Laws.RefusalLaws.{refused-settings, refused-lengths, refused-many, refused-not}
+use Rattle.bench_player.proofs.Laws.PlayerRefusalLaws.{refused-settings, refused-lengths, refused-many, refused-not}
 use borrow.Author.Needs.{needs}
 use Rattle.bench_player.proofs.bench_refused.Statement.{statement}
 use Rattle.bench_player.proofs.bench_refused.Tie as tie

@@ -1,5 +1,5 @@
 use borrow.Author.Needs.{needs}
-use Rattle.bench_player.proofs.Laws.RefusalLaws.{lengths-images, lengths-kept, lengths-numbers, lengths-bytes, lengths-out, lengths-all}
+use Rattle.bench_player.proofs.Laws.PlayerRefusalLaws.{lengths-images, lengths-kept, lengths-numbers, lengths-bytes, lengths-out, lengths-all}
 use Rattle.bench_player.proofs.lengths_right.Statement.{statement}
 use Rattle.bench_player.proofs.lengths_right.Tie as tie
 

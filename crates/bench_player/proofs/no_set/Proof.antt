@@ -1,5 +1,5 @@
 use mathlib.Core.Path.{refl}
-use Rattle.bench_player.proofs.Laws.RefusalLaws.{none-waits, none-accepted}
+use Rattle.bench_player.proofs.Laws.PlayerRefusalLaws.{none-waits, none-accepted}
 use borrow.Author.Needs.{needs}
 use Rattle.bench_player.proofs.no_set.Statement.{statement}
 use Rattle.bench_player.proofs.no_set.Tie as tie

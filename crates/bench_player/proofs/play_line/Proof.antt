@@ -1,6 +1,6 @@
 use lib.ListN.{length}
 use Rattle.bench_rules.specs.Turning.{lent}
-use Rattle.bench_player.proofs.Laws.RefusalLaws.{called-refused, called-first, called-next, accepted, accepted-ready}
+use Rattle.bench_player.proofs.Laws.PlayerRefusalLaws.{called-refused, called-first, called-next, accepted, accepted-ready}
 use borrow.Author.Needs.{needs}
 use Rattle.bench_player.proofs.play_line.Statement.{statement}
 use Rattle.bench_player.proofs.play_line.Tie as tie

@@ -3,7 +3,7 @@ use Rattle.bench_parse.proofs.Laws.CallerLaws.{said-set, said-write, said-read,
 use Rattle.bench_parse.specs.Lines.{reads}
 use Rattle.bench_rules.specs.Turning.{lent}
 use Rattle.bench_carry.proofs.Laws.CarryLaws.{ready-seats}
-use Rattle.bench_player.proofs.Laws.TurnLaws.{line-set, line-write, line-read, line-carry, line-crash, line-down, line-up, line-nothing}
+use Rattle.bench_player.proofs.Laws.PlayerTurnLaws.{line-set, line-write, line-read, line-carry, line-crash, line-down, line-up, line-nothing}
 use borrow.Author.Needs.{needs}
 use Rattle.bench_player.proofs.play_next.Statement.{statement}
 use Rattle.bench_player.proofs.play_next.Tie as tie

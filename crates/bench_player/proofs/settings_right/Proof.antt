@@ -1,4 +1,4 @@
-use Rattle.bench_player.proofs.Laws.RefusalLaws.{right-none, right-some}
+use Rattle.bench_player.proofs.Laws.PlayerRefusalLaws.{right-none, right-some}
 use borrow.Author.Needs.{needs}
 use Rattle.bench_player.proofs.settings_right.Statement.{statement}
 use Rattle.bench_player.proofs.settings_right.Tie as tie

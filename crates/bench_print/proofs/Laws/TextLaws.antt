@@ -10,7 +10,7 @@ use lib.Dec.{ltb}
 use lib.ListN.{length, take, getD, length-append, length-take}
 use lib.Seq.{take-suc, take-all}
 use Rattle.bench_print.specs.Printing.{digit, digitsFrom, decimal, hexDigit, hexText}
-use Rattle.bench_print.specs.Printing.{Placed}
+use Rattle.bench_print.specs.Workers.{Placed}
 use Rattle.bench_print.proofs.Laws.WrittenLaws.{placed-both, placed-as, placed-nothing}
 
 -- ten to a power

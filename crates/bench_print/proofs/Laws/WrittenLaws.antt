@@ -8,7 +8,7 @@ use lib.ListN.{length, take, drop, getD, set, length-append, length-set, length-
 use lib.Seq.{take-at, drop-append-add, drop-drop, set-split, take-suc, take-all}
 use Rattle.byte_lists.specs.Lists.{put}
 use Rattle.bench_print.specs.Printing.{written}
-use Rattle.bench_print.specs.Printing.{Placed}
+use Rattle.bench_print.specs.Workers.{Placed}
 
 pub written-nothing : (at : ℕ) (old : List ℕ) → written at [] old ≡ old
 unfolding put

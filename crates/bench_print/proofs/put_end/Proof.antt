@@ -1,7 +1,7 @@
 use native.Mathlib.Omega.{arith}
 use Rattle.bench_print.specs.Printing.{okWord, abortWord, cutWord}
 use Rattle.bench_print.proofs.Laws.TextLaws.{hex-length}
-use Rattle.bench_print.proofs.Laws.LineLaws.{end-ok, end-read, end-aborted, end-cut}
+use Rattle.bench_print.proofs.Laws.PrintedLineLaws.{end-ok, end-read, end-aborted, end-cut}
 use borrow.Author.Needs.{needs}
 use Rattle.bench_print.proofs.put_end.Statement.{statement}
 use Rattle.bench_print.proofs.put_end.Tie as tie

@@ -1,5 +1,5 @@
 use native.Mathlib.Omega.{arith}
-use Rattle.bench_print.proofs.Laws.LineLaws.{printed-before, printed-past, printed-line}
+use Rattle.bench_print.proofs.Laws.PrintedLineLaws.{printed-before, printed-past, printed-line}
 use borrow.Author.Needs.{needs}
 use Rattle.bench_print.proofs.put_ended.Statement.{statement}
 use Rattle.bench_print.proofs.put_ended.Tie as tie

@@ -1,6 +1,6 @@
 use native.Mathlib.Omega.{arith}
 use Rattle.bench_print.specs.Printing.{readWord, writeWord}
-use Rattle.bench_print.proofs.Laws.LineLaws.{kind-reading, kind-writing}
+use Rattle.bench_print.proofs.Laws.PrintedLineLaws.{kind-reading, kind-writing}
 use borrow.Author.Needs.{needs}
 use Rattle.bench_print.proofs.put_kind.Statement.{statement}
 use Rattle.bench_print.proofs.put_kind.Tie as tie

@@ -1,5 +1,5 @@
 use native.Mathlib.Omega.{arith}
-use Rattle.bench_print.proofs.Laws.LineLaws.{line-placed}
+use Rattle.bench_print.proofs.Laws.PrintedLineLaws.{line-placed}
 use borrow.Author.Needs.{needs}
 use Rattle.bench_print.proofs.put_line.Statement.{statement}
 use Rattle.bench_print.proofs.put_line.Tie as tie

@@ -1,7 +1,7 @@
 use native.Mathlib.Omega.{arith}
 use Rattle.bench_print.specs.Printing.{refusedWord}
 use Rattle.bench_print.proofs.Laws.TextLaws.{decimal-short}
-use Rattle.bench_print.proofs.Laws.LineLaws.{printed-refused}
+use Rattle.bench_print.proofs.Laws.PrintedLineLaws.{printed-refused}
 use borrow.Author.Needs.{needs}
 use Rattle.bench_print.proofs.put_refused.Statement.{statement}
 use Rattle.bench_print.proofs.put_refused.Tie as tie

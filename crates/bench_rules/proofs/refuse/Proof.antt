@@ -1,4 +1,4 @@
-use Rattle.bench_rules.proofs.Laws.TurnLaws.{turned-refused}
+use Rattle.bench_rules.proofs.Laws.TurningLaws.{turned-refused}
 use borrow.Author.Needs.{needs}
 use Rattle.bench_rules.proofs.refuse.Statement.{statement}
 use Rattle.bench_rules.proofs.refuse.Tie as tie

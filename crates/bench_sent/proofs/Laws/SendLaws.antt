@@ -10,12 +10,13 @@ use borrow.Author.Tests.{eq-eqb, ne-eqb}
 use Rattle.byte_lists.specs.Lists.{zeros}
 use Rattle.byte_lists.proofs.Laws.ZeroLaws.{zeros-take, zeros-length}
 use Rattle.erasure.specs.Code.{blockOf}
-use Rattle.interpolate.proofs.Laws.RowLaws.{part-length}
+use Rattle.interpolate.proofs.Laws.WeightRowLaws.{part-length}
 use Rattle.message.specs.Kinds.{writeKind}
 use Rattle.message.specs.declared.Message.{Message}
 use Rattle.register.specs.Runs.{Item, message, blockFor, toAll}
-use Rattle.bench_sent.specs.Sent.{itemsOf, Coded, Added, Sends}
-use Rattle.bench_sent.specs.Sent.{One}
+use Rattle.bench_sent.specs.Sent.{itemsOf}
+use Rattle.bench_sent.specs.Workers.{Coded, Added, Sends}
+use Rattle.bench_sent.specs.Workers.{One}
 
 -- a brick's block is within the buffer
 pub block-within : (n j size : ℕ) (msg : Message) (coded : List ℕ) → Coded n size msg coded → j < n → msg .kind ≡ writeKind

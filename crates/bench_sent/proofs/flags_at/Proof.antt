@@ -1,5 +1,5 @@
 use borrow.Author.Needs.{needs}
-use Rattle.bench_sent.proofs.Laws.SentLaws.{flags-cut}
+use Rattle.bench_sent.proofs.Laws.SentRowLaws.{flags-cut}
 use Rattle.bench_sent.proofs.flags_at.Statement.{statement}
 use Rattle.bench_sent.proofs.flags_at.Tie as tie
 

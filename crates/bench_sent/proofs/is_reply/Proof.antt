@@ -1,5 +1,5 @@
 use borrow.Author.Needs.{needs}
-use Rattle.bench_sent.proofs.Laws.SentLaws.{is-reply}
+use Rattle.bench_sent.proofs.Laws.SentRowLaws.{is-reply}
 use Rattle.bench_sent.proofs.is_reply.Statement.{statement}
 use Rattle.bench_sent.proofs.is_reply.Tie as tie
 

@@ -1,5 +1,5 @@
 use borrow.Author.Needs.{needs}
-use Rattle.bench_sent.proofs.Laws.SentLaws.{message-of}
+use Rattle.bench_sent.proofs.Laws.SentRowLaws.{message-of}
 use Rattle.bench_sent.proofs.message_at.Statement.{statement}
 use Rattle.bench_sent.proofs.message_at.Tie as tie
 

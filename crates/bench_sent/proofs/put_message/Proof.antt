@@ -1,5 +1,5 @@
 use borrow.Author.Needs.{needs}
-use Rattle.bench_sent.proofs.Laws.SentLaws.{message-put}
+use Rattle.bench_sent.proofs.Laws.SentRowLaws.{message-put}
 use Rattle.bench_sent.proofs.put_message.Statement.{statement}
 use Rattle.bench_sent.proofs.put_message.Tie as tie
 

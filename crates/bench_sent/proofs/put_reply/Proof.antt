@@ -1,7 +1,7 @@
 use Rattle.byte_lists.specs.Lists.{zeros}
-use Rattle.bench_sent.specs.Sent.{noFlags}
+use Rattle.bench_sent.specs.Workers.{noFlags}
 use borrow.Author.Needs.{needs}
-use Rattle.bench_sent.proofs.Laws.SentLaws.{reply-put}
+use Rattle.bench_sent.proofs.Laws.SentRowLaws.{reply-put}
 use Rattle.bench_sent.proofs.put_reply.Statement.{statement}
 use Rattle.bench_sent.proofs.put_reply.Tie as tie
 

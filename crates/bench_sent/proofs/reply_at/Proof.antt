@@ -1,5 +1,5 @@
 use borrow.Author.Needs.{needs}
-use Rattle.bench_sent.proofs.Laws.SentLaws.{reply-of}
+use Rattle.bench_sent.proofs.Laws.SentRowLaws.{reply-of}
 use Rattle.bench_sent.proofs.reply_at.Statement.{statement}
 use Rattle.bench_sent.proofs.reply_at.Tie as tie
 

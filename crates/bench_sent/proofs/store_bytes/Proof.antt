@@ -1,5 +1,5 @@
 use borrow.Author.Needs.{needs}
-use Rattle.bench_sent.proofs.Laws.SentLaws.{bytes-stored}
+use Rattle.bench_sent.proofs.Laws.SentRowLaws.{bytes-stored}
 use Rattle.bench_sent.proofs.store_bytes.Statement.{statement}
 use Rattle.bench_sent.proofs.store_bytes.Tie as tie
 

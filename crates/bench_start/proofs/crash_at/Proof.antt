@@ -1,7 +1,7 @@
 use native.Mathlib.Omega.{arith}
 use mathlib.Core.Path.{sym}
 use Rattle.bench_commit.proofs.Laws.ActedLaws.{crash-past, crash-here}
-use Rattle.bench_commit.proofs.Laws.AnswerLaws.{seat-at, front-long}
+use Rattle.bench_commit.proofs.Laws.CommitLaws.{seat-at, front-long}
 use borrow.Author.Needs.{needs}
 use Rattle.bench_start.proofs.crash_at.Statement.{statement}
 use Rattle.bench_start.proofs.crash_at.Tie as tie

@@ -2,7 +2,7 @@ use native.Mathlib.Omega.{arith}
 use mathlib.Core.Path.{sym}
 use lib.ListN.{drop}
 use Rattle.bench_commit.proofs.Laws.ActedLaws.{write-past, write-here}
-use Rattle.bench_commit.proofs.Laws.AnswerLaws.{seat-at, front-long, front-zeros}
+use Rattle.bench_commit.proofs.Laws.CommitLaws.{seat-at, front-long, front-zeros}
 use borrow.Author.Needs.{needs}
 use Rattle.bench_start.proofs.write_at.Statement.{statement}
 use Rattle.bench_start.proofs.write_at.Tie as tie

@@ -21,12 +21,13 @@ use Rattle.image.specs.Image.{imageOf, imageSize}
 use Rattle.byte_lists.specs.Lists.{put, zeros}
 use Rattle.byte_lists.proofs.Laws.ZeroLaws.{zero-list}
 use Rattle.byte_lists.proofs.Laws.PutLaws.{put-mid, put-length, put-in, put-before}
-use Rattle.bench_state.specs.State.{worldOf, freshBench}
-use Rattle.bench_state.specs.State.{Small}
+use Rattle.bench_state.specs.State.{worldOf}
+use Rattle.bench_state.specs.Workers.{freshBench}
+use Rattle.bench_state.specs.Workers.{Small}
 use Rattle.bench_state.proofs.Laws.StateLaws.{fresh-world}
 use Rattle.bench_state.specs.declared.Bench.{Bench}
 use Rattle.register.specs.Runs.{fresh}
-use Rattle.bench_state.specs.State.{Begun}
+use Rattle.bench_state.specs.Workers.{Begun}
 
 lending-passes : (s : Settings) (brick len : ℕ) → inRange s ≡ true → len ≡ imageSize s → brick < s .n → lendingRefusal s brick len ≡ 0
 unfolding lendingRefusal firstRefusal

@@ -14,12 +14,13 @@ use Rattle.settings.specs.declared.Settings.{Settings}
 use Rattle.image.specs.Brick
 use Rattle.image.specs.Image.{imageOf, imageSize}
 use Rattle.coord_record.specs.declared.Coordinator.{Coordinator}
-use Rattle.coord_apply.specs.Steps.{Held}
+use Rattle.coord_apply.specs.Answers.{Held}
 use Rattle.register.specs.Runs.{World, idle, fresh, putAt}
 use Rattle.byte_lists.specs.Lists.{put}
 use Rattle.byte_lists.proofs.Laws.PutLaws.{put-length, put-in, put-before, put-behind}
-use Rattle.bench_state.specs.State.{imagesOf, upOf, idleAt, heldAt, worldOf, freshBench, keptWith}
-use Rattle.bench_state.specs.State.{Small}
+use Rattle.bench_state.specs.State.{imagesOf, upOf, idleAt, heldAt, worldOf}
+use Rattle.bench_state.specs.Workers.{freshBench, keptWith}
+use Rattle.bench_state.specs.Workers.{Small}
 
 -- a part of a list of zeros is zeros
 zero-part : (at k n : ℕ) → at + k ≤ n → take {A = ℕ} k (drop at (replicate n 0)) ≡ replicate k 0

@@ -1,5 +1,5 @@
 use borrow.Author.Tests.{lt-leb, le-leb}
-use Rattle.bench_state.proofs.Laws.RangeLaws.{bench-bad, bench-rest}
+use Rattle.bench_state.proofs.Laws.BenchRangeLaws.{bench-bad, bench-rest}
 use borrow.Author.Needs.{needs}
 use Rattle.bench_state.proofs.bench_refusal.Statement.{statement}
 use Rattle.bench_state.proofs.bench_refusal.Tie as tie

@@ -1,4 +1,4 @@
-use Rattle.bench_state.proofs.Laws.PartLaws.{any-default, length-mapped}
+use Rattle.bench_state.proofs.Laws.KeptPartLaws.{any-default, length-mapped}
 use borrow.Author.Needs.{needs, below-length}
 use mathlib.Core.Path.{_≡_}
 use lib.ListN.{length}

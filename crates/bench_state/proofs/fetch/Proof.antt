@@ -1,7 +1,7 @@
 use mathlib.Core.Path.{refl}
 use Prim.Native.Nat.{_+_, _*_}
 use lib.ListN.{length}
-use Rattle.bench_state.proofs.Laws.PartLaws.{part-copied}
+use Rattle.bench_state.proofs.Laws.KeptPartLaws.{part-copied}
 use borrow.Author.Needs.{needs}
 use Rattle.bench_state.proofs.fetch.Statement.{statement}
 use Rattle.bench_state.proofs.fetch.Tie as tie

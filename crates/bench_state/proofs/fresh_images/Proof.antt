@@ -2,7 +2,7 @@ use mathlib.Core.Path.{refl, sym, subst, _∙_}
 use Prim.Native.Nat.{_-_, _+_, _*_, _≤_}
 use borrow.Author.Needs.{needs}
 use native.Mathlib.Omega.{arith}
-use Rattle.bench_state.specs.State.{Begun}
+use Rattle.bench_state.specs.Workers.{Begun}
 use Rattle.bench_state.proofs.Laws.FillLaws.{begun-none, begun-stored}
 use Rattle.bench_state.proofs.fresh_images.Statement.{statement}
 use Rattle.bench_state.proofs.fresh_images.Tie as tie

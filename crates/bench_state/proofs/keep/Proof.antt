@@ -1,8 +1,8 @@
 use native.Mathlib.Omega.{arith}
 use Prim.Native.Nat.{_+_, _*_}
 use lib.ListN.{length}
-use Rattle.bench_state.proofs.Laws.PartLaws.{two-put}
-use Rattle.bench_state.specs.State.{keptWith}
+use Rattle.bench_state.proofs.Laws.KeptPartLaws.{two-put}
+use Rattle.bench_state.specs.Workers.{keptWith}
 use borrow.Author.Needs.{needs}
 use Rattle.bench_state.proofs.keep.Statement.{statement}
 use Rattle.bench_state.proofs.keep.Tie as tie

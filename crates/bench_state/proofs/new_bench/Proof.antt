@@ -1,4 +1,4 @@
-use Rattle.bench_state.specs.State.{freshBench}
+use Rattle.bench_state.specs.Workers.{freshBench}
 use borrow.Author.Needs.{needs}
 use Rattle.bench_state.proofs.new_bench.Statement.{statement}
 use Rattle.bench_state.proofs.new_bench.Tie as tie

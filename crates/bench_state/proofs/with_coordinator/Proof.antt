@@ -1,5 +1,5 @@
-use Rattle.bench_state.proofs.Laws.PartLaws.{length-mapped}
-use Rattle.bench_state.specs.State.{withCoordinator}
+use Rattle.bench_state.proofs.Laws.KeptPartLaws.{length-mapped}
+use Rattle.bench_state.specs.Workers.{withCoordinator}
 use borrow.Author.Needs.{needs}
 use Rattle.bench_state.proofs.with_coordinator.Statement.{statement}
 use Rattle.bench_state.proofs.with_coordinator.Tie as tie

@@ -1,4 +1,4 @@
-use Rattle.bench_state.specs.State.{withSent}
+use Rattle.bench_state.specs.Workers.{withSent}
 use Rattle.bench_state.proofs.with_sent.Statement.{statement}
 use Rattle.bench_state.proofs.with_sent.Tie as tie
 

@@ -1,4 +1,4 @@
-use Rattle.bench_state.specs.State.{withUp}
+use Rattle.bench_state.specs.Workers.{withUp}
 use borrow.Author.Needs.{needs}
 use Rattle.bench_state.proofs.with_up.Statement.{statement}
 use Rattle.bench_state.proofs.with_up.Tie as tie

@@ -18,15 +18,16 @@ use Rattle.image.specs.Image.{imageOf}
 use Rattle.image.specs.Parse.{Opens, parse}
 use Rattle.image.proofs.Laws.ParseLaws.{opened, parse-image}
 use Rattle.image.specs.Brick.{Sound, EntrySound}
-use Rattle.image_write.specs.Saving.{promised, appended, without}
+use Rattle.image_write.specs.Saving.{promised, appended}
+use Rattle.image_write.specs.Workers.{without}
 use Rattle.settings.specs.Refusal.{refuseUnless}
 use Rattle.message.specs.Messages.{messageRefusal, roundRight, kindRight}
 use Rattle.image.specs.Opening.{workingLog, blank}
 use borrow.Author.Count.{below-more}
-use Rattle.brick_log.specs.Plans.{Cut}
+use Rattle.brick_log.specs.Workers.{Cut}
 use Rattle.brick_log.proofs.Laws.LookLaws.{cut-at, cut-last}
-use Rattle.image_write.proofs.Laws.StepLaws.{without-count, without-time, without-held, appended-count, appended-time-old, appended-held-old, appended-time-new, appended-held-new}
-use Rattle.brick_log.specs.Steps.{aboveNewest, notBelowPromise, hasFree, orderYes, writeYes, ordered, written, trimmed, trimmedTo, under, lookup, yesTo, after}
+use Rattle.image_write.proofs.Laws.ImageStepLaws.{without-count, without-time, without-held, appended-count, appended-time-old, appended-held-old, appended-time-new, appended-held-new}
+use Rattle.brick_log.specs.BrickRules.{aboveNewest, notBelowPromise, hasFree, orderYes, writeYes, ordered, written, trimmed, trimmedTo, under, lookup, yesTo, after}
 use Rattle.brick.proofs.Laws.TrimLaws.{rises-next, rises-add, cut-trims}
 use Rattle.brick.specs.Receive.{Highest}
 

@@ -19,20 +19,20 @@ use Rattle.message.specs.declared.Message.{Message}
 use Rattle.image.specs.Brick.{Brick, count, timeAt, heldAt, newest}
 use Rattle.image.specs.Image.{imageOf}
 use Rattle.image.specs.Parse.{Opens, Refuses, parse, openRefusal, blockAt, countIn, brickIn, heldIn}
-use Rattle.image.specs.Parse.{Opened}
+use Rattle.image.specs.Workers.{Opened}
 use Rattle.image.proofs.Laws.ParseLaws.{count-in}
-use Rattle.image.proofs.Laws.TestLaws.{held-in}
+use Rattle.image.proofs.Laws.FieldTestLaws.{held-in}
 use Rattle.image.specs.Opening.{workingLog, opening, answerNumber, blank}
-use Rattle.image.specs.Opening.{Hub}
+use Rattle.image.specs.Workers.{Hub}
 use Rattle.image.proofs.Laws.HubLaws.{turned, log-at}
 use Rattle.image.specs.declared.Entry.{Entry}
 use Rattle.image.specs.declared.Head.{Head}
 use Rattle.image.specs.declared.Opening.{Opening}
 use Rattle.image.specs.declared.Answer.the-variants.{Refused as Failed}
-use Rattle.image_write.specs.Saving.{without}
-use Rattle.brick_log.specs.Steps.{notBelowPromise, aboveNewest, readYes, orderYes, lookup, trimmedTo, timeFor, placeFor, foundFor, yesTo, replyTo, after, blockAfter}
+use Rattle.image_write.specs.Workers.{without}
+use Rattle.brick_log.specs.BrickRules.{notBelowPromise, aboveNewest, readYes, orderYes, lookup, trimmedTo, timeFor, placeFor, foundFor, yesTo, replyTo, after, blockAfter}
 use Rattle.brick.specs.Receive.{blocksRefusal, receiveRefusal, Outcome, refusedWith, givenBy, acted, outcome}
-use Rattle.brick_log.specs.Plans.{Ready, Ahead, Planned, Cut, underIn, underFor, placeOf, timeOf, readPlace, gaveOf}
+use Rattle.brick_log.specs.Workers.{Ready, Ahead, Planned, Cut, underIn, underFor, placeOf, timeOf, readPlace, gaveOf}
 use Rattle.brick_log.proofs.Laws.LookLaws.{under-brick, under-high, place-brick, time-brick}
 use Rattle.brick.proofs.Laws.TrimLaws.{cut-trims}
 use Rattle.brick_log.specs.declared.Known.{Known}

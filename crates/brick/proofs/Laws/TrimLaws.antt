@@ -13,9 +13,9 @@ use Rattle.image.specs.Brick.{Sound}
 use Rattle.image.proofs.Laws.HubLaws.{log-at}
 use Rattle.image.specs.Opening.{workingLog, blank}
 use Rattle.image.specs.declared.Entry.{Entry}
-use Rattle.image_write.specs.Saving.{without}
-use Rattle.brick_log.specs.Steps.{trimmed, trimmedTo}
-use Rattle.brick_log.specs.Plans.{Cut}
+use Rattle.image_write.specs.Workers.{without}
+use Rattle.brick_log.specs.BrickRules.{trimmed, trimmedTo}
+use Rattle.brick_log.specs.Workers.{Cut}
 
 -- times rise
 pub rises-next : (s : Settings) (x : Brick) → Sound s x → (i : ℕ) → suc i < count x → timeAt x i < timeAt x (suc i)

@@ -1,5 +1,5 @@
 use native.Mathlib.Omega.{arith}
-use Rattle.image.specs.Opening.{Hub}
+use Rattle.image.specs.Workers.{Hub}
 use Rattle.image.proofs.Laws.HubLaws.{hub}
 use Rattle.brick.proofs.Laws.OutcomeLaws.{blocks-passed, ends-early, ends-unopened, ends-wrong, ends-acted, ready, ahead, log-is, hub-reads}
 use borrow.Author.Needs.{needs}

@@ -1,4 +1,4 @@
-use Rattle.brick_change.proofs.Laws.ActLaws.{change-read, change-write, change-order}
+use Rattle.brick_change.proofs.Laws.LogChangeLaws.{change-read, change-write, change-order}
 use borrow.Author.Needs.{needs}
 use Rattle.brick_change.proofs.change.Statement.{statement}
 use Rattle.brick_change.proofs.change.Tie as tie

@@ -1,5 +1,5 @@
 use mathlib.Core.Path.{sym, _∙_}
-use Rattle.brick_change.proofs.Laws.ActLaws.{yes-is, order-kept, order-moved}
+use Rattle.brick_change.proofs.Laws.LogChangeLaws.{yes-is, order-kept, order-moved}
 use borrow.Author.Needs.{needs}
 use Rattle.brick_change.proofs.order.Statement.{statement}
 use Rattle.brick_change.proofs.order.Tie as tie

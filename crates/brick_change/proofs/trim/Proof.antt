@@ -1,7 +1,7 @@
 use mathlib.Core.Path.{refl}
 use native.Mathlib.Omega.{arith}
 use Rattle.image.specs.Image.{imageSize}
-use Rattle.brick_change.proofs.Laws.ActLaws.{trim-none, trim-moved}
+use Rattle.brick_change.proofs.Laws.LogChangeLaws.{trim-none, trim-moved}
 use borrow.Author.Needs.{needs}
 use Rattle.brick_change.proofs.trim.Statement.{statement}
 use Rattle.brick_change.proofs.trim.Tie as tie

@@ -15,12 +15,12 @@ use Rattle.image.specs.declared.Entry.{Entry}
 use Rattle.byte_lists.specs.Lists.{put}
 use Rattle.message.specs.Flags.{member}
 use Rattle.message.specs.declared.Message.{Message}
-use Rattle.brick_log.specs.Steps.{under, timeFor}
+use Rattle.brick_log.specs.BrickRules.{under, timeFor}
 use Rattle.brick_log.specs.declared.Known.{Known}
 use Rattle.brick_log.specs.declared.Plan.{Plan}
 use Rattle.brick_log.specs.declared.Looked.{Looked}
 use Rattle.brick_log.specs.declared.Looked.the-variants.{Under, Nothing}
-use Rattle.brick_log.specs.Plans.{underIn, lookedIn, Cut, placeOf, timeOf, planOf, planIn, readPlace, underFor, Planned, gaveOf}
+use Rattle.brick_log.specs.Workers.{underIn, lookedIn, Cut, placeOf, timeOf, planOf, planIn, readPlace, underFor, Planned, gaveOf}
 
 -- turn by turn, from the newest down
 pub under-found : (log : List Entry) (max n i count : ℕ) → n ≡ suc i → getD log i blank .time < max → underIn log max n ≡ underIn log max count

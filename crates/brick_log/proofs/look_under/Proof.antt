@@ -1,7 +1,7 @@
 use mathlib.Core.Path.{_≡_, refl, sym, _∙_}
 use Prim.Native.Nat.{_-_, _≤_}
 use native.Mathlib.Omega.{arith}
-use Rattle.brick_log.specs.Plans.{underIn}
+use Rattle.brick_log.specs.Workers.{underIn}
 use Rattle.brick_log.proofs.Laws.LookLaws.{under-found, under-down, under-none}
 use Rattle.brick_log.proofs.look_under.Statement.{statement}
 use Rattle.brick_log.proofs.look_under.Tie as tie

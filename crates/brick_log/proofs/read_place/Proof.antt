@@ -1,6 +1,6 @@
 use Rattle.brick_log.proofs.Laws.LookLaws.{read-target, read-other}
 use borrow.Author.Tests.{lt-leb, le-leb}
-use Rattle.brick_log.specs.Plans.{readPlace}
+use Rattle.brick_log.specs.Workers.{readPlace}
 use borrow.Author.Needs.{needs}
 use Rattle.brick_log.proofs.read_place.Statement.{statement}
 use Rattle.brick_log.proofs.read_place.Tie as tie

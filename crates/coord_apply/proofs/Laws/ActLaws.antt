@@ -4,7 +4,7 @@ use mathlib.Core.List.{List}
 use Prim.Native.Nat.{ℕ, _*_, _≤_, _<_}
 use native.Mathlib.Omega.{arith}
 use Rattle.coord_apply.specs.Acts.{stripeFrom, roundMessage, trimMessage, nextOp, nextRound, ending, finishedSeen, acted}
-use Rattle.coord_apply.specs.Steps.{Held, noMessage, readSeen, abortedSeen, sentCount, sentMessage, sentBlocks, answerOf}
+use Rattle.coord_apply.specs.Answers.{Held, noMessage, readSeen, abortedSeen, sentCount, sentMessage, sentBlocks, answerOf}
 use Rattle.coord_apply.specs.declared.Answer.{Answer}
 use Rattle.coord_record.specs.Records.{noBricks}
 use Rattle.coord_record.specs.declared.Coordinator.{Coordinator}
@@ -13,7 +13,7 @@ use Rattle.coord_record.specs.declared.Op.{Op}
 use Rattle.coord_record.specs.declared.Tally.{Tally}
 use Rattle.coord_decide.specs.Deciding.{decided}
 use Rattle.coord_decide.specs.Decisions.{Says, holders}
-use Rattle.coord_decide.proofs.Laws.Decisions.{says-of}
+use Rattle.coord_decide.proofs.Laws.SaysLaws.{says-of}
 use Rattle.coord_decide.specs.declared.Decision.{Decision}
 use Rattle.coord_decide.specs.declared.Decision.the-variants.{Abort, Give, Look, Store, Recover, Finish}
 use Rattle.erasure.specs.Code.{codedOf}
@@ -23,10 +23,11 @@ use Rattle.settings.specs.Ranges.{CodeRange}
 use Rattle.settings.specs.Count.{count}
 use lib.ListN.{length, take}
 use Rattle.coord_tally.proofs.Laws.RowSets.{target-set, target-below, picked-set, picked-below}
-use Rattle.coord_apply.specs.Acts.{InPlace}
+use Rattle.coord_apply.specs.Workers.{InPlace}
 use Rattle.coord_apply.proofs.Laws.BufferLaws.{in-place}
-use Rattle.interpolate.specs.Rows.{PointSet}
-use Rattle.coord_apply.specs.Acts.{heldOf, openAnswer, endAnswer, Acted}
+use Rattle.interpolate.specs.Values.{PointSet}
+use Rattle.coord_apply.specs.Acts.{heldOf}
+use Rattle.coord_apply.specs.Workers.{openAnswer, endAnswer, Acted}
 
 module _ (n m size : ℕ) (c : Coordinator) (blocks stripe coded : List ℕ) where
   pub acted-abort : (r : Answer) → r ≡ endAnswer c abortedSeen noBricks 0 noMessage → Acted n m size (heldOf c blocks stripe) Abort coded r stripe coded

@@ -12,7 +12,7 @@ use Rattle.byte_lists.specs.Lists.{put}
 use Rattle.byte_lists.proofs.Laws.PutLaws.{put-mid}
 use Rattle.erasure.specs.Code.{blockOf}
 use Rattle.coord_apply.specs.Acts.{gathered, stripeFrom, placed}
-use Rattle.coord_apply.specs.Acts.{InPlace}
+use Rattle.coord_apply.specs.Workers.{InPlace}
 
 -- a part of the blocks replaced
 pub place-is : (size b at : ℕ) (block blocks ys : List ℕ) → length block ≡ size → at ≡ b * size → ys ≡ block

@@ -1,4 +1,4 @@
-use Rattle.coord_apply.specs.Acts.{endAnswer}
+use Rattle.coord_apply.specs.Workers.{endAnswer}
 use borrow.Author.Needs.{needs}
 use Rattle.coord_apply.proofs.end.Statement.{statement}
 use Rattle.coord_apply.proofs.end.Tie as tie

@@ -1,5 +1,5 @@
 use Rattle.coord_record.specs.Records.{noBricks}
-use Rattle.coord_apply.specs.Steps.{noMessage}
+use Rattle.coord_apply.specs.Answers.{noMessage}
 use Rattle.coord_apply.proofs.no_message.Statement.{statement}
 use Rattle.coord_apply.proofs.no_message.Tie as tie
 

@@ -1,5 +1,5 @@
 use Rattle.coord_record.specs.Records.{noBricks}
-use Rattle.coord_apply.specs.Steps.{nothingSeen}
+use Rattle.coord_apply.specs.Answers.{nothingSeen}
 use Rattle.coord_apply.proofs.nothing_seen.Statement.{statement}
 use Rattle.coord_apply.proofs.nothing_seen.Tie as tie
 

@@ -1,6 +1,6 @@
 use Rattle.coord_record.specs.Records.{noBricks}
 use Rattle.coord_apply.specs.Acts.{opened}
-use Rattle.coord_apply.specs.Acts.{openAnswer}
+use Rattle.coord_apply.specs.Workers.{openAnswer}
 use borrow.Author.Needs.{needs}
 use Rattle.coord_apply.proofs.open.Statement.{statement}
 use Rattle.coord_apply.proofs.open.Tie as tie

@@ -5,7 +5,7 @@ use Prim.Native.Nat.{ℕ, _≤_, _<_}
 use lib.ListN.{getD}
 use borrow.Author.Tests.{eq-eqb, ne-eqb, le-leb, lt-leb, lt-ltb, le-ltb}
 use Rattle.byte_lists.specs.Each.{some}
-use Rattle.coord_record.specs.Rules.{isTarget, blockRight}
+use Rattle.coord_record.specs.CountedRules.{isTarget, blockRight}
 use Rattle.coord_record.specs.declared.Op.{Op}
 use Rattle.coord_record.specs.declared.Tally.{Tally}
 use Rattle.coord_tally.specs.Counting.{saidNo, otherTime, missing, highest, atTimes}

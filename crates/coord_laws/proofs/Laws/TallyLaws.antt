@@ -10,9 +10,9 @@ use lib.Dec.{eqb, leb, ltb}
 use lib.ListN.{getD, set, replicate, length-set}
 use lib.Seq.{getD-set-same, getD-set-other}
 use borrow.Author.Tests.{lt-ltb, eqb-true, leb-true, ltb-true, not-true}
-use Rattle.coord_laws.proofs.Laws.OpCases.{clash}
+use Rattle.coord_laws.proofs.Laws.OpCaseLaws.{clash}
 use Rattle.byte_lists.proofs.Laws.EachLaws.{each-all, each-at}
-use Rattle.coord_record.specs.Rules.{isTarget, blockRight, countedRight, entryRight, tallyRight}
+use Rattle.coord_record.specs.CountedRules.{isTarget, blockRight, countedRight, entryRight, tallyRight}
 use Rattle.coord_record.specs.declared.Op.{Op}
 use Rattle.coord_record.specs.declared.Tally.{Tally}
 use Rattle.coord_tally.specs.Counting.{highest}
@@ -21,7 +21,7 @@ use Rattle.message.specs.Flags.{member, members}
 use Rattle.message.specs.Messages.{roundRight, foundRight, replyRight, replyRefusal}
 use Rattle.message.specs.declared.Reply.{Reply}
 use Rattle.settings.specs.Count.{count, one-if}
-use Rattle.settings.proofs.Laws.Count.{one-is}
+use Rattle.settings.proofs.Laws.CountLaws.{one-is}
 use Rattle.byte_lists.proofs.Laws.BoolLaws.{and-left, and-right}
 use Rattle.settings.specs.Refusal.{firstRefusal, refuseUnless}
 use Rattle.settings.specs.Times.{validTime}

@@ -7,7 +7,7 @@ use native.Mathlib.Omega.{arith}
 use lib.Dec.{eqb, leb, ltb}
 use lib.ListN.{getD}
 use borrow.Author.Tests.{eq-eqb, le-leb, lt-leb, lt-ltb, ltb-true, ltb-false}
-use Rattle.coord_record.specs.Rules.{above, isTarget}
+use Rattle.coord_record.specs.CountedRules.{above, isTarget}
 use Rattle.coord_tally.specs.Counting.{targetFlag, targetFlags}
 use Rattle.byte_lists.proofs.Laws.TabulateLaws.{getD-tabulate}
 use Rattle.message.specs.Flags.{member, members, flagsWithin, brickSet}

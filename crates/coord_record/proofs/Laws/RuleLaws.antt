@@ -8,7 +8,7 @@ use borrow.Author.Tests.{lt-ltb, le-ltb, le-leb, lt-leb, eq-eqb, ne-eqb}
 use lib.ListN.{getD}
 use mathlib.Core.List.{List}
 use Rattle.byte_lists.proofs.Laws.EachLaws.{each-all, each-not}
-use Rattle.coord_record.specs.Rules.{above, isTarget, blockRight, countedRight, entryRight, tallyRight, brickRight, bricksRight}
+use Rattle.coord_record.specs.CountedRules.{above, isTarget, blockRight, countedRight, entryRight, tallyRight, brickRight, bricksRight}
 use Rattle.coord_record.specs.declared.Tally.{Tally}
 use Rattle.message.specs.Messages.{foundRight}
 

@@ -1,4 +1,4 @@
-use Rattle.coord_record.specs.Rules.{brickRight}
+use Rattle.coord_record.specs.CountedRules.{brickRight}
 use borrow.Author.Needs.{needs}
 use borrow.Author.Tests.{lt-ltb, le-ltb, lt-leb, le-leb, eq-eqb, ne-eqb}
 use Rattle.coord_record.proofs.brick_right.Statement.{statement}

@@ -6,7 +6,7 @@ use lib.ListN.{getD}
 use mathlib.Core.Path.{_≡_, refl, sym, ap}
 use mathlib.Core.Bool.{true}
 use Prim.Native.Nat.{ℕ, _+_, _-_, _≤_, _<_}
-use Rattle.coord_record.specs.Rules.{brickRight}
+use Rattle.coord_record.specs.CountedRules.{brickRight}
 use Rattle.coord_record.proofs.Laws.RuleLaws.{bricks-not, brick-here, bricks-all}
 use Rattle.coord_record.proofs.bricks_right.Statement.{statement}
 use Rattle.coord_record.proofs.bricks_right.Tie as tie

@@ -1,4 +1,4 @@
-use Rattle.coord_record.specs.Rules.{entryRight}
+use Rattle.coord_record.specs.CountedRules.{entryRight}
 use borrow.Author.Tests.{eq-eqb, ne-eqb}
 use borrow.Author.Needs.{needs}
 use Rattle.coord_record.proofs.entry_right.Statement.{statement}

@@ -6,7 +6,7 @@ use lib.ListN.{getD}
 use mathlib.Core.Path.{_≡_, sym, _∙_}
 use mathlib.Core.Bool.{true}
 use Prim.Native.Nat.{ℕ, _-_, _≤_, _<_}
-use Rattle.coord_record.specs.Rules.{entryRight}
+use Rattle.coord_record.specs.CountedRules.{entryRight}
 use Rattle.coord_record.proofs.Laws.RuleLaws.{tally-not, tally-all}
 use Rattle.coord_record.proofs.tally_right.Statement.{statement}
 use Rattle.coord_record.proofs.tally_right.Tie as tie

@@ -1,5 +1,5 @@
 use Rattle.settings.specs.Times.{maxCount}
-use Rattle.coord_record.proofs.Laws.SoundLaws.{time-idle, time-none, time-is}
+use Rattle.coord_record.proofs.Laws.RecordSoundLaws.{time-idle, time-none, time-is}
 use native.Mathlib.Omega.{arith}
 use Rattle.coord_record.proofs.time_right.Statement.{statement}
 use Rattle.coord_record.proofs.time_right.Tie as tie

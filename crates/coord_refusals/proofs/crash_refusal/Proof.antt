@@ -1,4 +1,4 @@
-use Rattle.coord_refusals.proofs.Laws.CheckLaws.{crash-code, crash-record, few-bricks}
+use Rattle.coord_refusals.proofs.Laws.RefusedLaws.{crash-code, crash-record, few-bricks}
 use borrow.Author.Needs.{needs}
 use Rattle.coord_refusals.proofs.crash_refusal.Statement.{statement}
 use Rattle.coord_refusals.proofs.crash_refusal.Tie as tie

@@ -1,4 +1,4 @@
-use Rattle.coord_refusals.proofs.Laws.CheckLaws.{lengths-blocks, lengths-stripe, lengths-coded, lengths-held, lengths-none, lengths-fit}
+use Rattle.coord_refusals.proofs.Laws.RefusedLaws.{lengths-blocks, lengths-stripe, lengths-coded, lengths-held, lengths-none, lengths-fit}
 use native.Mathlib.Omega.{arith}
 use borrow.Author.Needs.{needs}
 use Rattle.coord_refusals.proofs.lengths_right.Statement.{statement}

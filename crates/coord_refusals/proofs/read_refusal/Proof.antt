@@ -1,4 +1,4 @@
-use Rattle.coord_refusals.proofs.Laws.CheckLaws.{read-code, read-first, read-start, few-bricks}
+use Rattle.coord_refusals.proofs.Laws.RefusedLaws.{read-code, read-first, read-start, few-bricks}
 use borrow.Author.Needs.{needs}
 use Rattle.coord_refusals.proofs.read_refusal.Statement.{statement}
 use Rattle.coord_refusals.proofs.read_refusal.Tie as tie

@@ -1,4 +1,4 @@
-use Rattle.coord_refusals.proofs.Laws.CheckLaws.{record-number, record-broken, record-zero}
+use Rattle.coord_refusals.proofs.Laws.RefusedLaws.{record-number, record-broken, record-zero}
 use borrow.Author.Needs.{needs}
 use Rattle.coord_refusals.proofs.record_refusal.Statement.{statement}
 use Rattle.coord_refusals.proofs.record_refusal.Tie as tie

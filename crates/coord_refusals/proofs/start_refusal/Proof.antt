@@ -1,4 +1,4 @@
-use Rattle.coord_refusals.proofs.Laws.CheckLaws.{start-record, start-late, start-busy, start-passes}
+use Rattle.coord_refusals.proofs.Laws.RefusedLaws.{start-record, start-late, start-busy, start-passes}
 use borrow.Author.Needs.{needs}
 use Rattle.coord_refusals.proofs.start_refusal.Statement.{statement}
 use Rattle.coord_refusals.proofs.start_refusal.Tie as tie

@@ -1,4 +1,4 @@
-use Rattle.coord_refusals.proofs.Laws.CheckLaws.{take-code, take-lengths, take-brick, take-rest, ranged, few-bricks}
+use Rattle.coord_refusals.proofs.Laws.RefusedLaws.{take-code, take-lengths, take-brick, take-rest, ranged, few-bricks}
 use borrow.Author.Needs.{needs}
 use Rattle.coord_refusals.proofs.take_refusal.Statement.{statement}
 use Rattle.coord_refusals.proofs.take_refusal.Tie as tie

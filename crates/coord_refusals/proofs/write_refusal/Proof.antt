@@ -1,4 +1,4 @@
-use Rattle.coord_refusals.proofs.Laws.CheckLaws.{write-code, write-bytes, write-stripe, write-start, ranged, few-bricks, lengths-fit}
+use Rattle.coord_refusals.proofs.Laws.RefusedLaws.{write-code, write-bytes, write-stripe, write-start, ranged, few-bricks, lengths-fit}
 use native.Mathlib.Omega.{arith}
 use borrow.Author.Needs.{needs}
 use Rattle.coord_refusals.proofs.write_refusal.Statement.{statement}

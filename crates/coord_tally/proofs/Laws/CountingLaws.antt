@@ -11,7 +11,7 @@ use lib.ListN.{getD}
 use borrow.Author.Tests.{eq-eqb, ne-eqb}
 use Rattle.byte_lists.specs.Each.{some}
 use Rattle.byte_lists.proofs.Laws.EachLaws.{some-found, some-none}
-use Rattle.coord_record.specs.Rules.{isTarget}
+use Rattle.coord_record.specs.CountedRules.{isTarget}
 use Rattle.coord_tally.specs.Counting.{saidNo, otherTime, missing, highest}
 use Rattle.message.specs.Flags.{member}
 use Rattle.settings.specs.Count.{count}

@@ -12,7 +12,7 @@ use lib.ListN.{length, getD, take, length-append, List·getD-append}
 use lib.Seq.{getD-at, getD-take, length-take-le}
 use borrow.Author.Tests.{lt-ltb, ltb-true, ltb-false}
 use Rattle.coord_tally.specs.Counting.{passing, inRow, picked, atTimes, upward, targetRow}
-use Rattle.interpolate.specs.Rows.{PointSet}
+use Rattle.interpolate.specs.Values.{PointSet}
 use Rattle.byte_lists.proofs.Laws.TabulateLaws.{length-tabulate, getD-tabulate}
 use Rattle.settings.specs.Count.{count, one-if}
 

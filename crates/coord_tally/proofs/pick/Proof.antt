@@ -5,7 +5,7 @@ use mathlib.Core.Logic.{⊎-elim}
 use mathlib.Core.Path.{_≡_, refl, ap, _∙_}
 use Prim.Native.Nat.{_-_, _≤_}
 use Rattle.coord_tally.specs.Counting.{atTimes}
-use Rattle.coord_tally.proofs.Laws.RowLaws.{Picks, picks-none, picks-not, picks-full, picks-more, picks-all, picks-same}
+use Rattle.coord_tally.proofs.Laws.TargetRowLaws.{Picks, picks-none, picks-not, picks-full, picks-more, picks-all, picks-same}
 use Rattle.coord_tally.proofs.pick.Statement.{statement}
 use Rattle.coord_tally.proofs.pick.Tie as tie
 

@@ -1,4 +1,4 @@
-use Rattle.coord_tally.proofs.Laws.RowLaws.{flag-target, flag-none, flag-beyond}
+use Rattle.coord_tally.proofs.Laws.TargetRowLaws.{flag-target, flag-none, flag-beyond}
 use borrow.Author.Needs.{needs}
 use Rattle.coord_tally.proofs.target_flag.Statement.{statement}
 use Rattle.coord_tally.proofs.target_flag.Tie as tie

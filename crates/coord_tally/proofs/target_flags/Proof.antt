@@ -3,7 +3,7 @@ use native.Mathlib.Omega.{arith}
 use lib.ListN.{replicate}
 use Prim.Native.Nat.{_-_, _≤_}
 use Rattle.coord_tally.specs.Counting.{targetFlag}
-use Rattle.coord_tally.proofs.Laws.RowLaws.{flags-all}
+use Rattle.coord_tally.proofs.Laws.TargetRowLaws.{flags-all}
 use Rattle.byte_lists.proofs.Laws.TabulateLaws.{Filled, filled-none, filled-more}
 use Rattle.coord_tally.proofs.target_flags.Statement.{statement}
 use Rattle.coord_tally.proofs.target_flags.Tie as tie

@@ -1,4 +1,4 @@
-use Rattle.coord_tally.proofs.Laws.RowLaws.{up-within, up-wrapped}
+use Rattle.coord_tally.proofs.Laws.TargetRowLaws.{up-within, up-wrapped}
 use borrow.Author.Needs.{needs}
 use Rattle.coord_tally.proofs.upward_of.Statement.{statement}
 use Rattle.coord_tally.proofs.upward_of.Tie as tie

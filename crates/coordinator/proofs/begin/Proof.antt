@@ -1,5 +1,5 @@
 use Rattle.coord_record.specs.Records.{noBricks}
-use Rattle.coordinator.specs.Rules.{startAnswer}
+use Rattle.coordinator.specs.Workers.{startAnswer}
 use borrow.Author.Needs.{needs}
 use Rattle.coordinator.proofs.begin.Statement.{statement}
 use Rattle.coordinator.proofs.begin.Tie as tie

@@ -1,7 +1,7 @@
 use Rattle.coord_apply.proofs.Laws.ActLaws.{end-by}
 use Rattle.coord_record.specs.Records.{noBricks}
 use mathlib.Core.Path.{refl}
-use Rattle.coordinator.proofs.Laws.StepLaws.{crash-refused, crash-idle, crash-cut}
+use Rattle.coordinator.proofs.Laws.RoutineLaws.{crash-refused, crash-idle, crash-cut}
 use borrow.Author.Needs.{needs}
 use Rattle.coordinator.proofs.crash.Statement.{statement}
 use Rattle.coordinator.proofs.crash.Tie as tie

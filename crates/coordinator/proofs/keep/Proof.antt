@@ -1,4 +1,4 @@
-use Rattle.coordinator.proofs.Laws.StepLaws.{kept-held, kept-none}
+use Rattle.coordinator.proofs.Laws.RoutineLaws.{kept-held, kept-none}
 use borrow.Author.Needs.{needs}
 use Rattle.coordinator.proofs.keep.Statement.{statement}
 use Rattle.coordinator.proofs.keep.Tie as tie

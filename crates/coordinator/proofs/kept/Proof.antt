@@ -1,4 +1,4 @@
-use Rattle.coordinator.specs.Rules.{keptAnswer}
+use Rattle.coordinator.specs.Workers.{keptAnswer}
 use borrow.Author.Needs.{needs}
 use Rattle.coordinator.proofs.kept.Statement.{statement}
 use Rattle.coordinator.proofs.kept.Tie as tie

@@ -1,4 +1,4 @@
-use Rattle.coord_apply.specs.Steps.{answerOf}
+use Rattle.coord_apply.specs.Answers.{answerOf}
 use borrow.Author.Needs.{needs}
 use Rattle.coordinator.proofs.refuse.Statement.{statement}
 use Rattle.coordinator.proofs.refuse.Tie as tie

@@ -1,5 +1,5 @@
 use mathlib.Core.Path.{sym, _∙_}
-use Rattle.coordinator.proofs.Laws.StepLaws.{read-refused, read-unread, read-begun, first-low, start-by, refused-number}
+use Rattle.coordinator.proofs.Laws.RoutineLaws.{read-refused, read-unread, read-begun, first-low, start-by, refused-number}
 use borrow.Author.Needs.{needs}
 use Rattle.coordinator.proofs.start_read.Statement.{statement}
 use Rattle.coordinator.proofs.start_read.Tie as tie

@@ -1,6 +1,6 @@
 use Rattle.coord_record.specs.Records.{noBricks}
 use mathlib.Core.Path.{sym, _∙_}
-use Rattle.coordinator.proofs.Laws.StepLaws.{write-refused, write-unread, write-begun, write-lengths, start-by, refused-number}
+use Rattle.coordinator.proofs.Laws.RoutineLaws.{write-refused, write-unread, write-begun, write-lengths, start-by, refused-number}
 use borrow.Author.Needs.{needs}
 use Rattle.coordinator.proofs.start_write.Statement.{statement}
 use Rattle.coordinator.proofs.start_write.Tie as tie

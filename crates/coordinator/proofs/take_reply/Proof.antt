@@ -1,6 +1,6 @@
 use lib.ListN.{length}
 use native.Mathlib.Omega.{arith}
-use Rattle.coordinator.proofs.Laws.StepLaws.{Took, stepHere, Takes, keeps, take-passed, ready-here, decided-here, took-refused, took-waiting, took-acted}
+use Rattle.coordinator.proofs.Laws.RoutineLaws.{Took, stepHere, Takes, keeps, take-passed, ready-here, decided-here, took-refused, took-waiting, took-acted}
 use borrow.Author.Needs.{needs}
 use Rattle.coordinator.proofs.take_reply.Statement.{statement}
 use Rattle.coordinator.proofs.take_reply.Tie as tie

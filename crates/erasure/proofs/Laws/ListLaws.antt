@@ -10,7 +10,7 @@ use lib.ListN.{length, getD, take, drop}
 use lib.Seq.{take-all}
 use borrow.Author.Tests.{lt-ltb, le-ltb}
 use Rattle.erasure.specs.Refusals.{allBelow, stands, allDifferent}
-use Rattle.interpolate.specs.Rows.{firstPlace}
+use Rattle.interpolate.specs.Workers.{firstPlace}
 
 -- what is left of a list after its first entry, as the code cuts it
 pub rest-is : (b : ℕ) (bs : List ℕ) → take (length (b ∷ bs) - 1) (drop 1 (b ∷ bs)) ≡ bs

@@ -14,11 +14,11 @@ use Rattle.gf256.proofs.Laws.ProductLaws.{product-byte}
 use Rattle.gf256.proofs.Laws.XorLaws.{plus-byte}
 use Rattle.interpolate.proofs.Laws.BlockLaws.{blocks-by}
 use Rattle.interpolate.specs.Bytes.{Byte, byte, bytes, same}
-use Rattle.interpolate.proofs.Laws.Bytes.{byte-small}
-use Rattle.interpolate.proofs.Laws.RowLaws.{different-points}
+use Rattle.interpolate.proofs.Laws.ByteLaws.{byte-small}
+use Rattle.interpolate.proofs.Laws.WeightRowLaws.{different-points}
 use Rattle.interpolate.specs.Values.{byteAt}
-use Rattle.interpolate.specs.Rows.{pointsOf}
-use Rattle.poly.proofs.Laws.Laws.{interpolated-at, interpolated-cong, interpolated-linear, interpolated-zero, on-one-polynomial}
+use Rattle.interpolate.specs.Workers.{pointsOf}
+use Rattle.poly.proofs.Laws.InterpolationLaws.{interpolated-at, interpolated-cong, interpolated-linear, interpolated-zero, on-one-polynomial}
 use Rattle.poly.specs.Polynomial.{eval, interpolated}
 
 zeros : ℕ → List ℕ

@@ -13,8 +13,8 @@ use borrow.Author.Tests.{eq-eqb, eqb-true, not-true}
 use Rattle.erasure.specs.Code.{firstPoints}
 use Rattle.erasure.specs.Refusals.{allBelow, stands, allDifferent, encodeRefusal, decodeRefusal}
 use Rattle.gf256.specs.Computed.{every}
-use Rattle.gf256.proofs.Laws.Computed.{at-entry}
-use Rattle.interpolate.specs.Rows.{PointSet}
+use Rattle.gf256.proofs.Laws.ComputedLaws.{at-entry}
+use Rattle.interpolate.specs.Values.{PointSet}
 use Rattle.byte_lists.proofs.Laws.TabulateLaws.{length-tabulate, getD-tabulate, tabulate-by}
 use Rattle.settings.specs.Ranges.{codeRefusal}
 use Rattle.settings.specs.Ranges.{CodeRange}
@@ -22,7 +22,7 @@ use Rattle.settings.proofs.Laws.RangeLaws.{code-passed}
 use Rattle.byte_lists.proofs.Laws.BoolLaws.{and-left, and-right}
 use Rattle.settings.specs.Refusal.{refuseUnless}
 use Rattle.settings.proofs.Laws.RefusalLaws.{passed-first, passed-rest, tested}
-use Rattle.erasure.specs.Refusals.{Encodes}
+use Rattle.erasure.specs.Workers.{Encodes}
 
 stands-nowhere : (x : ℕ) (l : List ℕ) → stands x l ≡ false → (k : ℕ) → k < length l → getD l k 0 ≡ x → ⊥
 unfolding stands

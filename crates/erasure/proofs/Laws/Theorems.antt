@@ -11,12 +11,12 @@ use Rattle.erasure.specs.Code.{firstPoints, codedOf, decodedOf}
 use Rattle.erasure.proofs.Laws.PassedLaws.{length-first}
 use Rattle.interpolate.proofs.Laws.BlockLaws.{byte-stacked, length-blocksAt, blocks-byte, blocks-by, value-byte}
 use Rattle.interpolate.specs.Bytes.{Byte, byte, bytes, same}
-use Rattle.interpolate.proofs.Laws.Bytes.{byte-small}
-use Rattle.interpolate.proofs.Laws.RowLaws.{different-points, part-byte}
+use Rattle.interpolate.proofs.Laws.ByteLaws.{byte-small}
+use Rattle.interpolate.proofs.Laws.WeightRowLaws.{different-points, part-byte}
 use Rattle.byte_lists.proofs.Laws.TabulateLaws.{getD-tabulate}
 use Rattle.interpolate.specs.Values.{byteAt, valueAt}
-use Rattle.interpolate.specs.Rows.{pointsOf}
-use Rattle.poly.proofs.Laws.Laws.{recovered}
+use Rattle.interpolate.specs.Workers.{pointsOf}
+use Rattle.poly.proofs.Laws.InterpolationLaws.{recovered}
 use Rattle.poly.specs.Polynomial.{interpolated}
 use Rattle.erasure.specs.Code.{blockOf, blocksOf, Stripe, Bricks}
 

@@ -1,5 +1,5 @@
 use native.Mathlib.Omega.{arith}
-use Rattle.erasure.proofs.Laws.RefusalLaws.{decode-settings, decode-blocks, decode-stripe, decode-number, decode-count, decode-repeat, decode-passes, lengths-fit}
+use Rattle.erasure.proofs.Laws.CodeRefusalLaws.{decode-settings, decode-blocks, decode-stripe, decode-number, decode-count, decode-repeat, decode-passes, lengths-fit}
 use borrow.Author.Needs.{needs}
 use Rattle.erasure.proofs.decode_refusal.Statement.{statement}
 use Rattle.erasure.proofs.decode_refusal.Tie as tie

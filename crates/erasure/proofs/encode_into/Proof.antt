@@ -3,7 +3,7 @@ use mathlib.Core.List.{List}
 use mathlib.Core.Path.{sym, ap, _∙_}
 use Prim.Native.Nat.{ℕ, _*_, _≤_}
 use Rattle.erasure.specs.Code.{codedOf}
-use Rattle.erasure.specs.Refusals.{Encodes}
+use Rattle.erasure.specs.Workers.{Encodes}
 use Rattle.erasure.proofs.Laws.PassedLaws.{sixteen-set, length-sixteen, first-of-sixteen}
 use Rattle.interpolate.specs.Values.{blocksAt}
 use borrow.Author.Needs.{needs}

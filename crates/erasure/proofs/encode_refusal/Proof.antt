@@ -1,5 +1,5 @@
 use native.Mathlib.Omega.{arith}
-use Rattle.erasure.proofs.Laws.RefusalLaws.{encode-settings, encode-stripe, encode-coded, encode-passes, lengths-fit}
+use Rattle.erasure.proofs.Laws.CodeRefusalLaws.{encode-settings, encode-stripe, encode-coded, encode-passes, lengths-fit}
 use borrow.Author.Needs.{needs}
 use Rattle.erasure.proofs.encode_refusal.Statement.{statement}
 use Rattle.erasure.proofs.encode_refusal.Tie as tie

@@ -1,6 +1,6 @@
 use mathlib.Core.Path.{sym, _∙_}
 use Rattle.erasure.specs.Refusals.{decodedBuffer}
-use Rattle.erasure.proofs.Laws.RefusalLaws.{refused-leaves, passed-gives}
+use Rattle.erasure.proofs.Laws.CodeRefusalLaws.{refused-leaves, passed-gives}
 use Rattle.erasure.proofs.Laws.PassedLaws.{decode-passed}
 use borrow.Author.Needs.{needs}
 use Rattle.erasure.proofs.stripe_decode.Statement.{statement}

@@ -6,7 +6,7 @@ use native.Mathlib.Nat.{zero-mul, one-mul, mul-zero, zero-add, suc-add, pow-suc}
 use native.Mathlib.Omega.{arith}
 use lib.Bits.{xor-shifted}
 use lib.Dec.{ltb, eqb, ltb→lt, eqb→eq}
-use Rattle.gf256.proofs.Laws.Computed.{allBelow, at-below}
+use Rattle.gf256.proofs.Laws.ComputedLaws.{allBelow, at-below}
 use Rattle.gf256.specs.Product.{plus, twice, shiftAdd, product, doubled}
 use Rattle.gf256.proofs.Laws.XorLaws.{plus-zero, zero-plus, plus-byte, plus-swap, plus-half, plus-odd, bit-plus, bit-times, twice-plus, twice-zero, twice-small}
 

@@ -8,7 +8,7 @@ use native.Mathlib.Omega.{arith}
 use lib.Dec.{T, ltb, eqb, ltb→lt, eqb→eq}
 use lib.ListN.{length, getD}
 use Rattle.gf256.specs.Computed.{every}
-use Rattle.gf256.proofs.Laws.Computed.{allBelow, at-below, at-entry, left, right}
+use Rattle.gf256.proofs.Laws.ComputedLaws.{allBelow, at-below, at-entry, left, right}
 use Rattle.gf256.specs.Product.{plus, twice, product, doubled, power}
 use Rattle.gf256.proofs.Laws.ProductLaws.{doubled-byte, product-doubled, doubled-add}
 use Rattle.gf256.specs.Tables.{IsPowers, IsLogs}

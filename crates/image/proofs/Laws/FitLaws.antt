@@ -10,12 +10,14 @@ use borrow.Author.Tests.{lt-ltb, le-ltb, le-leb, lt-leb, eq-eqb, ne-eqb}
 use Rattle.settings.specs.Ranges.{inRange, settingsRefusal}
 use Rattle.settings.specs.Refusal.{refuseUnless, firstRefusal}
 use Rattle.settings.specs.declared.Settings.{Settings}
-use Rattle.image_block.specs.Block.{unchecked, headBody, entryBody, unusedBody}
+use Rattle.image_block.specs.Block.{headBody, entryBody, unusedBody}
+use Rattle.image_block.specs.Workers.{unchecked}
 use Rattle.byte_lists.specs.Lists.{same}
 use Rattle.image.specs.Brick.{savedTime, countSound}
 use Rattle.image.specs.Image.{imageSize}
 use Rattle.image.specs.Parse.{heldIn}
-use Rattle.image.specs.Opening.{rises, headFits, slotFits, lendingRefusal}
+use Rattle.image.specs.Opening.{lendingRefusal}
+use Rattle.image.specs.Workers.{rises, headFits, slotFits}
 
 -- a comparison with a block that was built
 pub same-built : (b body t : List ℕ) (r : Bool) → b ≡ unchecked body → r ≡ same (drop 2 t) (drop 2 b) → r ≡ same (drop 2 t) body

@@ -20,7 +20,7 @@ use Rattle.image.specs.declared.Opening.{Opening}
 use Rattle.image.specs.declared.Answer.the-variants.{Opened, Refused}
 use Rattle.image.specs.declared.Shown.{Shown}
 use Rattle.image.specs.declared.Shown.the-variants.{Values}
-use Rattle.image.specs.Opening.{Hub}
+use Rattle.image.specs.Workers.{Hub}
 
 pub row-length : (f : ℕ → Entry) (k : ℕ) → length (rowOf f k) ≡ k
 unfolding rowOf

@@ -23,9 +23,10 @@ use Rattle.byte_lists.proofs.Laws.EachLaws.{each-at, each-all, each-not}
 use Rattle.image.specs.Image.{imageSize}
 use Rattle.image.specs.Parse.{blockAt, countIn, promiseIn, timeIn, brickIn, checkedAt, isImage, openRefusal, Refuses, parse}
 use Rattle.image.proofs.Laws.ParseLaws.{range-of, count-in, refusal-0, refusal-5, refusal-6, parse-opens, parse-refuses}
-use Rattle.image.specs.Opening.{rowOf, blank, noBlank, entryFor, entryOf, workingLog, opening, lendingRefusal, headFits}
-use Rattle.image.specs.Opening.{checkAfter, slotAt, entryAt, Scanned}
-use Rattle.image.proofs.Laws.TestLaws.{tests-image, time-in}
+use Rattle.image.specs.Opening.{rowOf, blank, noBlank, entryFor, entryOf, workingLog, opening, lendingRefusal}
+use Rattle.image.specs.Workers.{headFits}
+use Rattle.image.specs.Workers.{checkAfter, slotAt, entryAt, Scanned}
+use Rattle.image.proofs.Laws.FieldTestLaws.{tests-image, time-in}
 use Rattle.image.specs.declared.Entry.{Entry}
 use Rattle.image.specs.declared.Opening.{Opening}
 use Rattle.image.specs.declared.Answer.the-variants.{Opened, Refused}

@@ -26,8 +26,8 @@ use Rattle.byte_lists.proofs.Laws.EachLaws.{each-all}
 use Rattle.image.specs.Image.{blockOf, imageOf, imageSize}
 use Rattle.image.specs.Parse.{blockAt, countIn, promiseIn, timeIn, heldIn, entryIn, entriesIn, brickIn, checkedAt, isImage, openRefusal, Opens, Refuses, parse}
 use Rattle.image.specs.Brick.{Sound}
-use Rattle.image.proofs.Laws.SoundLaws.{soundness, sound-again, saved-high, block-0, block-held, image-block, image-length}
-use Rattle.image.specs.Parse.{Opened}
+use Rattle.image.proofs.Laws.ImageSoundLaws.{soundness, sound-again, saved-high, block-0, block-held, image-block, image-length}
+use Rattle.image.specs.Workers.{Opened}
 
 pub range-of : (s : Settings) → inRange s ≡ true → SettingsRange s
 unfolding settingsRefusal

@@ -20,7 +20,7 @@ use Rattle.image.proofs.Laws.ImageLaws.{block-length}
 use Rattle.image.specs.Parse.{blockAt, checkedAt, Opens, Refuses, parse}
 use Rattle.image.proofs.Laws.ParseLaws.{opened, parse-image, parse-refuses, refusal-5, range-of}
 use Rattle.image.specs.Brick.{Sound}
-use Rattle.image.proofs.Laws.SoundLaws.{soundness}
+use Rattle.image.proofs.Laws.ImageSoundLaws.{soundness}
 
 -- What was saved opens as it was.
 pub saved-opens : (s : Settings) (brick : ℕ) (x : Brick) → inRange s ≡ true → brick < s .n → sound s x ≡ true

@@ -12,10 +12,11 @@ use Rattle.byte_lists.specs.Each.{each}
 use Rattle.byte_lists.proofs.Laws.EachLaws.{each-none, each-more, each-not}
 use Rattle.image.proofs.Laws.ImageLaws.{block-length}
 use Rattle.image.specs.Parse.{blockAt, checkedAt, timeIn}
-use Rattle.image.specs.Opening.{rowOf, blank, entryFor, rises, slotFits}
+use Rattle.image.specs.Opening.{rowOf, blank, entryFor}
+use Rattle.image.specs.Workers.{rises, slotFits}
 use Rattle.image.specs.declared.Entry.{Entry}
 use Rattle.image.proofs.Laws.HubLaws.{row-length}
-use Rattle.image.specs.Opening.{checkAfter, slotAt, entryAt, Scanned}
+use Rattle.image.specs.Workers.{checkAfter, slotAt, entryAt, Scanned}
 
 -- what holds before block i + 1 is read
 pub record Scanning (size cap : ℕ) (l : List ℕ) (n : ℕ) (fits : Bool) (last i at : ℕ) (log : List Entry) : Type 0 where

@@ -1,6 +1,6 @@
 use borrow.Author.Needs.{needs}
 use borrow.Author.Tests.{eq-eqb, ne-eqb}
-use Rattle.image.specs.Opening.{rises}
+use Rattle.image.specs.Workers.{rises}
 use Rattle.image.proofs.rising.Statement.{statement}
 use Rattle.image.proofs.rising.Tie as tie
 

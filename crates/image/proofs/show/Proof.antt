@@ -1,5 +1,5 @@
 use native.Mathlib.Omega.{arith}
-use Rattle.image.specs.Opening.{Hub}
+use Rattle.image.specs.Workers.{Hub}
 use Rattle.image.proofs.Laws.HubLaws.{hub, show-refused, show-values}
 use borrow.Author.Needs.{needs}
 use Rattle.image.proofs.show.Statement.{statement}

@@ -1,7 +1,7 @@
 use Prim.Native.Nat.{_+_, _-_, _≤_}
 use native.Mathlib.Omega.{arith}
 use borrow.Author.Needs.{needs}
-use Rattle.image_block.proofs.Laws.RowLaws.{Rows, rows-first, first-length, row-within, row-length, rows-more, rows-all}
+use Rattle.image_block.proofs.Laws.CheckRowLaws.{Rows, rows-first, first-length, row-within, row-length, rows-more, rows-all}
 use Rattle.image_block.proofs.check_of.Statement.{statement}
 use Rattle.image_block.proofs.check_of.Tie as tie
 

@@ -1,4 +1,4 @@
-use Rattle.image_block.proofs.Laws.StoreLaws.{entry-stored}
+use Rattle.image_block.proofs.Laws.BlockStoreLaws.{entry-stored}
 use borrow.Author.Needs.{needs}
 use Rattle.image_block.proofs.entry_fields.Statement.{statement}
 use Rattle.image_block.proofs.entry_fields.Tie as tie

@@ -1,5 +1,5 @@
 use Rattle.image_block.specs.Block.{headBlock}
-use Rattle.image_block.proofs.Laws.StoreLaws.{sealed-of}
+use Rattle.image_block.proofs.Laws.BlockStoreLaws.{sealed-of}
 use borrow.Author.Needs.{needs}
 use Rattle.image_block.proofs.head.Statement.{statement}
 use Rattle.image_block.proofs.head.Tie as tie

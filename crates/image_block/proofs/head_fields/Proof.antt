@@ -1,5 +1,5 @@
 use Rattle.byte_lists.specs.Lists.{zeros}
-use Rattle.image_block.proofs.Laws.StoreLaws.{head-stored}
+use Rattle.image_block.proofs.Laws.BlockStoreLaws.{head-stored}
 use borrow.Author.Needs.{needs}
 use Rattle.image_block.proofs.head_fields.Statement.{statement}
 use Rattle.image_block.proofs.head_fields.Tie as tie

@@ -1,4 +1,4 @@
-use Rattle.image_block.proofs.Laws.StoreLaws.{held-all}
+use Rattle.image_block.proofs.Laws.BlockStoreLaws.{held-all}
 use Rattle.byte_lists.proofs.Laws.PutLaws.{Pasted, pasted-none, pasted-more}
 use Rattle.byte_lists.proofs.Laws.ZeroLaws.{zeros-length}
 use Prim.Native.Nat.{_-_}

@@ -1,6 +1,6 @@
 use Prim.Native.Nat.{_-_}
 use native.Mathlib.Omega.{arith}
-use Rattle.image_block.proofs.Laws.RowLaws.{Totalling, totalling-none, totalling-more, totalling-all}
+use Rattle.image_block.proofs.Laws.CheckRowLaws.{Totalling, totalling-none, totalling-more, totalling-all}
 use Rattle.image_block.proofs.plain_sum.Statement.{statement}
 use Rattle.image_block.proofs.plain_sum.Tie as tie
 

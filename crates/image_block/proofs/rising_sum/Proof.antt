@@ -1,7 +1,7 @@
 use Prim.Native.Nat.{_-_, _*_, _≤_, _<_}
 use lib.ListN.{length, getD}
 use native.Mathlib.Omega.{arith}
-use Rattle.image_block.proofs.Laws.RowLaws.{Rising, rising-none, rising-more, rising-all, product-high}
+use Rattle.image_block.proofs.Laws.CheckRowLaws.{Rising, rising-none, rising-more, rising-all, product-high}
 use Rattle.image_block.proofs.rising_sum.Statement.{statement}
 use Rattle.image_block.proofs.rising_sum.Tie as tie
 

@@ -1,5 +1,5 @@
 use native.Mathlib.Omega.{arith}
-use Rattle.image_block.proofs.Laws.RowLaws.{past-high, row-summed}
+use Rattle.image_block.proofs.Laws.CheckRowLaws.{past-high, row-summed}
 use borrow.Author.Needs.{needs}
 use Rattle.image_block.proofs.row_sum.Statement.{statement}
 use Rattle.image_block.proofs.row_sum.Tie as tie

@@ -1,4 +1,4 @@
-use Rattle.image_block.proofs.Laws.StoreLaws.{sealed-stored}
+use Rattle.image_block.proofs.Laws.BlockStoreLaws.{sealed-stored}
 use borrow.Author.Needs.{needs}
 use Rattle.image_block.proofs.seal.Statement.{statement}
 use Rattle.image_block.proofs.seal.Tie as tie

@@ -1,6 +1,6 @@
 use mathlib.Core.Path.{sym}
 use Rattle.byte_lists.specs.Lists.{zeros}
-use Rattle.image_block.proofs.Laws.Figures.{unused-is}
+use Rattle.image_block.proofs.Laws.CheckFigures.{unused-is}
 use borrow.Author.Needs.{needs}
 use Rattle.image_block.proofs.unused.Statement.{statement}
 use Rattle.image_block.proofs.unused.Tie as tie

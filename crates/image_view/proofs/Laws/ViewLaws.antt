@@ -14,9 +14,9 @@ use Rattle.image.specs.Brick.{Brick, count, timeAt}
 use Rattle.image.specs.Image.{imageSize}
 use Rattle.image.specs.Parse.{Parsed, parse, blockAt, countIn, timeIn}
 use Rattle.image.proofs.Laws.ParseLaws.{count-in}
-use Rattle.image.proofs.Laws.TestLaws.{time-in}
+use Rattle.image.proofs.Laws.FieldTestLaws.{time-in}
 use Rattle.image.specs.Opening.{opening, answerNumber}
-use Rattle.image.specs.Opening.{Hub}
+use Rattle.image.specs.Workers.{Hub}
 use Rattle.image.proofs.Laws.HubLaws.{turned}
 use Rattle.image.specs.declared.Opening.{Opening}
 use Rattle.image.specs.declared.Head.{Head}

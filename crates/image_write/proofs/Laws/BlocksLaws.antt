@@ -18,7 +18,7 @@ use Rattle.image_block.proofs.Laws.LayoutLaws.{unused-length}
 use Rattle.image.specs.Image.{stacked}
 use Rattle.image.proofs.Laws.ImageLaws.{Even, stacked-at, stacked-length, stacked-of, stacked-ext, stacked-put, block-length}
 use Rattle.image.specs.Parse.{blockAt}
-use Rattle.image_write.specs.Saving.{Blocks, clearedOf, shiftedOf}
+use Rattle.image_write.specs.Workers.{Blocks, clearedOf, shiftedOf}
 
 pub blocks-of : (l : List ℕ) (n : ℕ) → length l ≡ 512 * n → Blocks (blockAt l) n l
 blocks-of l n h = record { long = h; at = λ k b. refl }

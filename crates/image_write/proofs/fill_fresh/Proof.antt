@@ -1,6 +1,6 @@
 use native.Mathlib.Omega.{arith}
 use Rattle.image.specs.Image.{imageSize}
-use Rattle.image_write.proofs.Laws.FreshLaws.{fresh-made}
+use Rattle.image_write.proofs.Laws.FreshImageLaws.{fresh-made}
 use borrow.Author.Needs.{needs}
 use Rattle.image_write.proofs.fill_fresh.Statement.{statement}
 use Rattle.image_write.proofs.fill_fresh.Tie as tie

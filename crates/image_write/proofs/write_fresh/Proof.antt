@@ -1,6 +1,6 @@
 use mathlib.Core.Path.{sym, _∙_}
 use Rattle.image.proofs.Laws.OpenLaws.{lent}
-use Rattle.image_write.proofs.Laws.FreshLaws.{fresh-refused, fresh-written}
+use Rattle.image_write.proofs.Laws.FreshImageLaws.{fresh-refused, fresh-written}
 use borrow.Author.Needs.{needs}
 use Rattle.image_write.proofs.write_fresh.Statement.{statement}
 use Rattle.image_write.proofs.write_fresh.Tie as tie

@@ -5,7 +5,7 @@ use lib.ListN.{length, getD}
 use mathlib.Core.Path.{ap₂}
 use Prim.Native.Nat.{ℕ, _-_, _≤_}
 use Rattle.gf256.specs.Product.{plus, product}
-use Rattle.interpolate.specs.Rows.{scaled}
+use Rattle.interpolate.specs.Workers.{scaled}
 use Rattle.byte_lists.proofs.Laws.TabulateLaws.{Filled, filled-none, filled-more, filled-all}
 use Rattle.interpolate.proofs.add_multiples.Statement.{statement}
 use Rattle.interpolate.proofs.add_multiples.Tie as tie

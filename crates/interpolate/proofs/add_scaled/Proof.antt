@@ -2,7 +2,7 @@ use mathlib.Core.Path.{_∙_, ap}
 use Prim.Native.Nat.{ℕ, _+_}
 use native.Mathlib.Omega.{arith}
 use Rattle.interpolate.proofs.Laws.BitLaws.{doubles}
-use Rattle.interpolate.specs.Rows.{scaled}
+use Rattle.interpolate.specs.Workers.{scaled}
 use borrow.Author.Needs.{needs}
 use Rattle.interpolate.proofs.add_scaled.Statement.{statement}
 use Rattle.interpolate.proofs.add_scaled.Tie as tie

@@ -5,7 +5,7 @@ use native.Mathlib.Omega.{arith}
 use lib.ListN.{length}
 use mathlib.Core.Path.{_≡_, sym, ap, _∙_}
 use Prim.Native.Nat.{_+_, _*_, _-_, _≤_}
-use Rattle.interpolate.proofs.Laws.RowLaws.{partial, row-none, row-step, row-all, part-length}
+use Rattle.interpolate.proofs.Laws.WeightRowLaws.{partial, row-none, row-step, row-all, part-length}
 use Rattle.byte_lists.specs.Lists.{tabulate}
 use Rattle.byte_lists.proofs.Laws.TabulateLaws.{length-tabulate}
 use Rattle.interpolate.proofs.combine.Statement.{statement}

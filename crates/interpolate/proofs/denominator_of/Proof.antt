@@ -4,8 +4,8 @@ use lib.ListN.{length, getD}
 use mathlib.Core.Path.{_≡_, refl, _∙_}
 use Prim.Native.Nat.{_*_, _-_, _≤_}
 use mathlib.Core.Logic.{⊎-elim}
-use Rattle.interpolate.specs.Rows.{denominator}
-use Rattle.interpolate.proofs.Laws.SumLaws.{denominator-more, denominator-skip, denominator-all}
+use Rattle.interpolate.specs.Workers.{denominator}
+use Rattle.interpolate.proofs.Laws.LogarithmSumLaws.{denominator-more, denominator-skip, denominator-all}
 use Rattle.interpolate.proofs.denominator_of.Statement.{statement}
 use Rattle.interpolate.proofs.denominator_of.Tie as tie
 

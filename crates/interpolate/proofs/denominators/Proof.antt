@@ -2,7 +2,7 @@ use native.Mathlib.Omega.{arith}
 use lib.ListN.{length}
 use mathlib.Core.Path.{_≡_, refl}
 use Prim.Native.Nat.{ℕ, _-_, _≤_}
-use Rattle.interpolate.specs.Rows.{denominator}
+use Rattle.interpolate.specs.Workers.{denominator}
 use Rattle.byte_lists.proofs.Laws.TabulateLaws.{Filled, filled-none, filled-more}
 use Rattle.interpolate.proofs.denominators.Statement.{statement}
 use Rattle.interpolate.proofs.denominators.Tie as tie

@@ -4,7 +4,7 @@ use native.Mathlib.Omega.{arith}
 use lib.ListN.{length}
 use mathlib.Core.Path.{sym, ap, _∙_}
 use Prim.Native.Nat.{ℕ, _+_, _-_, _*_, _≤_}
-use Rattle.interpolate.proofs.Laws.RowLaws.{Stacked, stacked-none, stacked-more, stacked-all, part-length}
+use Rattle.interpolate.proofs.Laws.WeightRowLaws.{Stacked, stacked-none, stacked-more, stacked-all, part-length}
 use Rattle.interpolate.specs.Values.{blockAt, blocksAt}
 use Rattle.interpolate.proofs.interpolate.Statement.{statement}
 use Rattle.interpolate.proofs.interpolate.Tie as tie

@@ -3,8 +3,8 @@ use native.Mathlib.Omega.{arith}
 use lib.ListN.{length}
 use mathlib.Core.Path.{_≡_, refl}
 use Prim.Native.Nat.{_*_, _-_, _≤_}
-use Rattle.interpolate.specs.Rows.{numerator}
-use Rattle.interpolate.proofs.Laws.SumLaws.{numerator-more, numerator-all}
+use Rattle.interpolate.specs.Workers.{numerator}
+use Rattle.interpolate.proofs.Laws.LogarithmSumLaws.{numerator-more, numerator-all}
 use Rattle.interpolate.proofs.numerator_of.Statement.{statement}
 use Rattle.interpolate.proofs.numerator_of.Tie as tie
 

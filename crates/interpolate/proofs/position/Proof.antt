@@ -3,7 +3,7 @@ use borrow.Author.Needs.{needs}
 use lib.ListN.{length, getD}
 use mathlib.Core.Path.{_≡_}
 use Prim.Native.Nat.{ℕ, _-_, _≤_, _<_}
-use Rattle.interpolate.proofs.Laws.PlaceLaws.{place-found, place-end}
+use Rattle.interpolate.proofs.Laws.FirstPlaceLaws.{place-found, place-end}
 use Rattle.interpolate.proofs.position.Statement.{statement}
 use Rattle.interpolate.proofs.position.Tie as tie
 

@@ -2,7 +2,7 @@ use native.Mathlib.Nat.{suc-mul, mul-le-mul-right}
 use native.Mathlib.Omega.{arith}
 use lib.ListN.{length}
 use Prim.Native.Nat.{_+_, _*_, _≤_}
-use Rattle.interpolate.proofs.Laws.RowLaws.{row-found, row-not-found}
+use Rattle.interpolate.proofs.Laws.WeightRowLaws.{row-found, row-not-found}
 use borrow.Author.Needs.{needs}
 use Rattle.interpolate.proofs.row.Statement.{statement}
 use Rattle.interpolate.proofs.row.Tie as tie

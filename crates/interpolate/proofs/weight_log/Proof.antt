@@ -4,8 +4,8 @@ use native.Mathlib.Nat.{mod-lt}
 use native.Mathlib.Omega.{arith}
 use lib.ListN.{length, getD}
 use Rattle.gf256.specs.Product.{plus, power}
-use Rattle.interpolate.proofs.Laws.RowLaws.{weight-by-logs}
-use Rattle.interpolate.proofs.Laws.SumLaws.{numerator-has, denominator-high}
+use Rattle.interpolate.proofs.Laws.WeightRowLaws.{weight-by-logs}
+use Rattle.interpolate.proofs.Laws.LogarithmSumLaws.{numerator-has, denominator-high}
 use borrow.Author.Needs.{needs}
 use Rattle.interpolate.proofs.weight_log.Statement.{statement}
 use Rattle.interpolate.proofs.weight_log.Tie as tie

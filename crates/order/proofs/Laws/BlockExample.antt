@@ -10,7 +10,7 @@ use Rattle.order.specs.Claim.{Plain, Answer, ok, bytes}
 use Rattle.order.specs.Facts.{itself, over, began, promised, launched, stored, showed, ended, written, one-round, History}
 use Rattle.order.specs.Quorums.{Quorums}
 use Rattle.order.specs.Valid.{Valid, start, sets, onto}
-use Rattle.order.proofs.Laws.Theorem.{one-order, the-order}
+use Rattle.order.proofs.Laws.OneOrderTheorem.{one-order, the-order}
 use Rattle.order.proofs.Laws.ExampleLaws.{began-ok, promised-ok, stored-ok, showed-ok, launched-ok, launched-over-ok, committed-ok, showed-many, not-launched, ended-ok, at, _▷_, tests, orders}
 
 -- the stripe as a list of blocks

@@ -8,7 +8,7 @@ use native.Mathlib.Omega.{arith}
 use native.Mathlib.Nat.{le-trans}
 use lib.Dec.{T, eqb, eqb→eq, eqb-refl, leb→le, le→leb}
 use Rattle.settings.specs.Count.{count}
-use Rattle.settings.proofs.Laws.Count.{count-mono}
+use Rattle.settings.proofs.Laws.CountLaws.{count-mono}
 use Rattle.order.specs.Claim.{Plain, _∈_}
 use Rattle.order.specs.Places.{Suf, whole, above, In}
 use Rattle.order.proofs.Laws.PlaceLaws.{suf-trans, suf-below, suf-cons, in-above}

@@ -10,7 +10,7 @@ use Rattle.order.proofs.Laws.PlaceLaws.{suf-trans, suf-below, in-suf, C
 use Rattle.order.specs.Facts.{Source, End, Fact, began, launched, ended, History}
 use Rattle.order.specs.Quorums.{Quorums}
 use Rattle.order.specs.Valid.{Began, Launched, Committed, Passed, Ok, Valid, next}
-use Rattle.order.proofs.Laws.QuorumLaws.{many-map, some-brick}
+use Rattle.order.proofs.Laws.QuorumSetLaws.{many-map, some-brick}
 
 -- every fact meets what it requires of those below it
 pub ok-at : {S : Quorums} {P : Plain} {f : Fact P} {b h : History P} → Suf (f ∷ b) h → Valid S h → Ok S f b

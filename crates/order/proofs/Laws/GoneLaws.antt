@@ -15,7 +15,7 @@ use Rattle.order.specs.Quorums.{Quorums, Many}
 use Rattle.order.specs.Valid.{Dead, Gone, Valid}
 use Rattle.order.proofs.Laws.TestLaws.{test, dec-stored}
 use Rattle.order.proofs.Laws.FactLaws.{passed-up}
-use Rattle.order.proofs.Laws.StoreLaws.{stored-before}
+use Rattle.order.proofs.Laws.StoredLaws.{stored-before}
 
 -- what is dead stays dead, and what is gone stays gone
 pub dead-up : {S : Quorums} {P : Plain} {a h : History P} {u : ℕ} → Valid S h → Suf a h → Dead S a u → Dead S h u

@@ -12,7 +12,7 @@ use Rattle.order.specs.Facts.{Source, over, launched, History}
 use Rattle.order.specs.Quorums.{Quorums}
 use Rattle.order.specs.Valid.{Launched, Passed, Valid}
 use Rattle.order.proofs.Laws.FactLaws.{ok-at, launched-once, launched-positive, committed-launched}
-use Rattle.order.proofs.Laws.StoreLaws.{not-stale, over-committed, source-not-stale}
+use Rattle.order.proofs.Laws.StoredLaws.{not-stale, over-committed, source-not-stale}
 use Rattle.order.proofs.Laws.Order.{Live, committed, under}
 
 module _ {S : Quorums} {P : Plain} {h : History P} (v : Valid S h) where

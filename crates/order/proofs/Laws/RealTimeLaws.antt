@@ -11,7 +11,7 @@ use Rattle.order.proofs.Laws.PlaceLaws.{suf-trans, suf-below, suf-lengt
 use Rattle.order.specs.Facts.{End, one-round, began, promised, stored, showed, ended, History}
 use Rattle.order.specs.Quorums.{Quorums, Many}
 use Rattle.order.specs.Valid.{Began, Launched, Valid}
-use Rattle.order.proofs.Laws.QuorumLaws.{many-map, common-brick, some-brick}
+use Rattle.order.proofs.Laws.QuorumSetLaws.{many-map, common-brick, some-brick}
 use Rattle.order.proofs.Laws.FactLaws.{ok-at, began-once, launched-began, launched-positive, ended-once, launched-before-end}
 use Rattle.order.proofs.Laws.Order.{Entry, Lt}
 use Rattle.order.proofs.Laws.PlacedLaws.{Placed, store, glance}

@@ -4,10 +4,10 @@ use mathlib.Core.List.{[], _∷_}
 use Rattle.order.specs.Claim.{read, write, changed, given, bytes}
 use Rattle.order.specs.Facts.{over, began, promised, launched, stored, showed, ended, recovered, History}
 use Rattle.order.specs.Valid.{Valid, sets, onto}
-use Rattle.order.proofs.Laws.Theorem.{one-order, the-order}
+use Rattle.order.proofs.Laws.OneOrderTheorem.{one-order, the-order}
 use Rattle.order.proofs.Laws.ExampleLaws.{began-ok, promised-ok, stored-ok, showed-ok, launched-over-ok, committed-ok, ended-ok, at, _▷_, tests, orders}
 use Rattle.order.specs.BenchExample.{three, byte, ten, cut-short}
-use Rattle.order.proofs.Laws.BenchExample.{cut-short-valid}
+use Rattle.order.proofs.Laws.BenchExampleLaws.{cut-short-valid}
 
 -- as in the bench case the write of 16 is cut short with brick 0 alone having stored it; here brick 0 is up at the read
 abbrev pub rolled-forward : History byte

@@ -11,7 +11,7 @@ use Rattle.order.proofs.Laws.PlaceLaws.{suf-trans, suf-below, in-suf}
 use Rattle.order.specs.Facts.{itself, over, End, written, recovered, one-round, aborted, cut, began, launched, stored, showed, ended, History, outcome}
 use Rattle.order.specs.Quorums.{Quorums, Many}
 use Rattle.order.specs.Valid.{Launched, Committed, Valid, Val, fresh, sets, onto}
-use Rattle.order.proofs.Laws.QuorumLaws.{many-map}
+use Rattle.order.proofs.Laws.QuorumSetLaws.{many-map}
 use Rattle.order.proofs.Laws.FactLaws.{ok-at, one-kind, launched-once, launched-positive, ended-once, launched-before-end}
 use Rattle.order.proofs.Laws.SeenLaws.{EndOf}
 

@@ -20,16 +20,16 @@ use Rattle.image.specs.Parse.{Parsed, Opens, parse, openRefusal}
 use Rattle.image.proofs.Laws.ParseLaws.{parse-image}
 use Rattle.brick.specs.Receive
 use Rattle.brick.specs.Receive.{Outcome, outcome, blocksRefusal, receiveRefusal, refusedWith, givenBy}
-use Rattle.brick_log.specs.Steps.{placeFor, replyTo, after, blockAfter}
+use Rattle.brick_log.specs.BrickRules.{placeFor, replyTo, after, blockAfter}
 use Rattle.brick.specs.declared.Given.{Given}
 use Rattle.brick.specs.declared.Given.the-variants.{Answered, Silent, Refused}
 use Rattle.order.specs.Claim.{_∈_}
 use Rattle.register.specs.Runs.{Item, message, Moved, unmoved, putAt, repliedWith, received, arriving}
-use Rattle.register.specs.Invariant.{Hist, ItemInv, ImageInv, Inv}
+use Rattle.register.proofs.Laws.Invariant.{Hist, ItemInv, ImageInv, Inv}
 use Rattle.register.proofs.Laws.UpLaws.{within-more, item-up, coordinator-sent}
-use Rattle.register.proofs.Laws.BrickLaws.{Grows, grows-not}
+use Rattle.register.proofs.Laws.BrickLogLaws.{Grows, grows-not}
 use Rattle.register.proofs.Laws.ReceiveLaws.{sensible, Received, any-received}
-use Rattle.register.specs.Invariant.{joined, Goes}
+use Rattle.register.proofs.Laws.Invariant.{joined, Goes}
 
 -- an event that changes nothing
 pub goes-unmoved : (s : Settings) (g : SettingsRange s) (h : Hist s) (r : Moved s) → Inv s g h r → Goes s g r (unmoved s (r .world))

@@ -9,13 +9,13 @@ use lib.Dec.{eqb, ltb}
 use lib.ListN.{length}
 use Rattle.settings.specs.Ranges.{settingsRefusal}
 use Rattle.settings.specs.declared.Settings.{Settings}
-use Rattle.coord_apply.specs.Steps.{Step, refused, went}
+use Rattle.coord_apply.specs.Answers.{Step, refused, went}
 use Rattle.coord_apply.specs.declared.Seen.{Seen as Shown}
 use Rattle.order.specs.Claim.{write, ok, bytes, finished, Seen, _∈_}
 use Rattle.register.specs.Runs.{Item, message, reply, World, Event, startWrite, startRead, arrives, crashes, goesDown, comesUp, Moved, unmoved, seenOf, coordinated, received, arriving, arrivingAt, standing, step, run}
 use Rattle.register.specs.OrderUse.{EndedBefore}
-use Rattle.register.proofs.Laws.OrderUse.{reads-agree, written-is-read}
-use Rattle.register.proofs.Laws.Theorem.{every-run-has-one-order}
+use Rattle.register.proofs.Laws.OrderUseLaws.{reads-agree, written-is-read}
+use Rattle.register.proofs.Laws.TheoremProof.{every-run-has-one-order}
 
 -- The printed line: two finished reads gave the same bytes if every write of the run had ended before both began, by answer, abort or
 -- cut, or began after both had ended. (So a write cut short is there for both, or for neither.)

@@ -13,14 +13,14 @@ use Rattle.byte_lists.proofs.Laws.BoolLaws.{and-left, and-right}
 use Rattle.settings.specs.declared.Settings.{Settings}
 use Rattle.coord_record.specs.Records.{noBricks, noOp, idleWith}
 use Rattle.coord_apply.specs.Acts.{ending}
-use Rattle.coord_apply.specs.Steps.{Held, Went, refused, went, checked, nothingSeen, cutSeen}
+use Rattle.coord_apply.specs.Answers.{Held, Went, refused, went, checked, nothingSeen, cutSeen}
 use Rattle.coord_refusals.specs.Checks.{crashRefusal}
-use Rattle.coordinator.specs.Rules.{crashed, crashStep}
+use Rattle.coordinator.specs.Routines.{crashed, crashStep}
 use Rattle.order.specs.Claim.{Seen}
 use Rattle.order.specs.Facts.{cut, shows, outcome}
 use Rattle.register.specs.Runs.{plain, Left, untouched, lost, Item, Moved, seenOf, broadcasts, coordinated, buffersFit, leaving, leftBy}
-use Rattle.register.specs.Invariant.{Hist, Inv}
-use Rattle.register.specs.Invariant.{Goes}
+use Rattle.register.proofs.Laws.Invariant.{Hist, Inv}
+use Rattle.register.proofs.Laws.Invariant.{Goes}
 use Rattle.register.proofs.Laws.TurnLaws.{Turns, Turned, goes-turned, goes-refused}
 use Rattle.register.proofs.Laws.RoundLaws.{stays, ends}
 

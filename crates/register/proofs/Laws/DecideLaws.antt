@@ -22,7 +22,7 @@ use Rattle.coord_record.specs.Records.{noBricks}
 use Rattle.coord_record.specs.SoundParts.{SoundParts}
 use Rattle.coord_tally.specs.Counting.{saidNo}
 use Rattle.coord_apply.specs.Acts.{roundMessage, trimMessage, nextOp, nextRound, ending, finishedSeen}
-use Rattle.coord_apply.specs.Steps.{Held, abortedSeen}
+use Rattle.coord_apply.specs.Answers.{Held, abortedSeen}
 use Rattle.order.specs.Claim.{Action, read, write, ok, bytes, changed, given, _∈_}
 use Rattle.order.specs.Facts.{Source, itself, End, written, recovered, aborted, Fact, began, promised, launched, stored, ended, shows, outcome}
 use Rattle.order.specs.Places.{whole, above, In}
@@ -31,12 +31,12 @@ use Rattle.order.specs.Quorums.{Many}
 use Rattle.order.specs.Valid.{Began, Val, sets, OkLaunched, Valid}
 use Rattle.order.proofs.Laws.FactLaws.{committed-up}
 use Rattle.register.specs.Runs.{plain, Item, message, reply, seenOf, blockFor, broadcasts}
-use Rattle.register.specs.Invariant.{quorums, Hist, MessageInv, ReplyInv, ItemInv, Running, CoordinatorInv}
+use Rattle.register.proofs.Laws.Invariant.{quorums, Hist, MessageInv, ReplyInv, ItemInv, Running, CoordinatorInv}
 use Rattle.register.proofs.Laws.UpLaws.{in-cons}
 use Rattle.register.proofs.Laws.TurnLaws.{time-of, turns-launched, in-broadcast, Turned}
 use Rattle.register.proofs.Laws.RoundLaws.{ends, opens}
-use Rattle.coord_laws.proofs.Laws.OpCases.{Fit, fit}
-use Rattle.coord_laws.proofs.Laws.SentLaws.{time-valid}
+use Rattle.coord_laws.proofs.Laws.OpCaseLaws.{Fit, fit}
+use Rattle.coord_laws.proofs.Laws.SentMessageLaws.{time-valid}
 
 -- what a sound record says of its operation
 pub record SoundOp (s : Settings) (k : Held) : Type 0 where

@@ -8,8 +8,8 @@ use lib.Dec.{ltb}
 use lib.ListN.{length, getD, take}
 use borrow.Author.Tests.{lt-ltb, ltb-false, le-leb, lt-leb}
 use Rattle.settings.specs.Count.{count}
-use Rattle.interpolate.specs.Rows.{PointSet}
-use Rattle.coord_record.specs.Rules.{above, isTarget}
+use Rattle.interpolate.specs.Values.{PointSet}
+use Rattle.coord_record.specs.CountedRules.{above, isTarget}
 use Rattle.coord_tally.specs.Counting.{upward, targetRow, atTimes, picked}
 use Rattle.coord_tally.proofs.Laws.RowSets.{target-at, target-long, target-below, target-set, picked-long, picked-below, picked-set}
 

@@ -14,16 +14,16 @@ use Rattle.message.specs.Flags.{member, members}
 use Rattle.erasure.specs.Code.{blockOf, Stripe}
 use Rattle.byte_lists.specs.Each.{some}
 use Rattle.byte_lists.proofs.Laws.EachLaws.{some-at}
-use Rattle.coord_record.specs.Rules.{isTarget, blockRight}
+use Rattle.coord_record.specs.CountedRules.{isTarget, blockRight}
 use Rattle.coord_tally.specs.Counting.{saidNo, highest, otherTime, missing, targetRow}
 use Rattle.coord_apply.specs.Acts.{stripeFrom, ending}
-use Rattle.coord_apply.specs.Steps.{Held, readSeen}
+use Rattle.coord_apply.specs.Answers.{Held, readSeen}
 use Rattle.order.specs.Claim.{read, bytes, changed, given, _∈_}
 use Rattle.order.specs.Facts.{one-round, showed, shows, outcome}
 use Rattle.order.specs.Places.{In}
 use Rattle.order.specs.Valid.{Val, Valid}
 use Rattle.register.specs.Runs.{Item, seenOf, broadcasts}
-use Rattle.register.specs.Invariant.{quorums, Hist, Means, ItemInv, Running, CoordinatorInv}
+use Rattle.register.proofs.Laws.Invariant.{quorums, Hist, Means, ItemInv, Running, CoordinatorInv}
 use Rattle.register.proofs.Laws.TurnLaws.{Turned}
 use Rattle.register.proofs.Laws.RoundLaws.{ends}
 use Rattle.register.proofs.Laws.DecodeLaws.{target-row, target-is}

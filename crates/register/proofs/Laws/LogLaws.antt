@@ -13,7 +13,7 @@ use Rattle.settings.specs.declared.Settings.{Settings}
 use Rattle.image.specs.Brick.{Brick, LogEntry, noEntry, count, timeAt, heldAt, newest, savedTime, risesAt}
 use Rattle.image.specs.Brick.{Sound}
 use Rattle.image_write.specs.Saving.{promised, appended}
-use Rattle.brick_log.specs.Steps.{trimmed, trimmedTo}
+use Rattle.brick_log.specs.BrickRules.{trimmed, trimmedTo}
 use Rattle.order.specs.Claim.{_∈_}
 
 -- the entry at a place is a member, and a member has a place

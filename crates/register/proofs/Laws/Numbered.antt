@@ -17,16 +17,16 @@ use Rattle.settings.specs.declared.Draw.{Draw}
 use Rattle.settings.specs.declared.Draw.the-variants.{Drawn, Refused}
 use Rattle.settings.specs.declared.Settings.{Settings}
 use Rattle.settings.proofs.Laws.RefusalLaws.{tested}
-use Rattle.coord_apply.specs.Steps.{Held, Went, Step, refused, went, checked}
+use Rattle.coord_apply.specs.Answers.{Held, Went, Step, refused, went, checked}
 use Rattle.coord_refusals.specs.Checks.{recordChecks, startChecks, writeRefusal, readRefusal, crashRefusal}
-use Rattle.coordinator.specs.Rules.{takeStep, crashed, crashStep, drawnThen, writeStep, readStep}
-use Rattle.coordinator.proofs.Laws.StepLaws.{take-passed}
+use Rattle.coordinator.specs.Routines.{takeStep, crashed, crashStep, drawnThen, writeStep, readStep}
+use Rattle.coordinator.proofs.Laws.RoutineLaws.{take-passed}
 use Rattle.register.specs.Runs.{Item, message, reply, World, idle, fresh, Left, Event, startWrite, startRead, arrives, crashes, goesDown, comesUp, Moved, unmoved, coordinated, received, arriving, arrivingAt, standing, leftBy, step, next, runFrom, run}
-use Rattle.register.specs.Invariant.{Hist, Inv}
+use Rattle.register.proofs.Laws.Invariant.{Hist, Inv}
 use Rattle.register.proofs.Laws.BrickEvent.{put-there, first-passed}
 use Rattle.register.proofs.Laws.StartEvent.{passes}
-use Rattle.register.proofs.Laws.FreshLaws.{fresh-holds}
-use Rattle.register.proofs.Laws.Theorem.{step-goes}
+use Rattle.register.proofs.Laws.FreshRunLaws.{fresh-holds}
+use Rattle.register.proofs.Laws.TheoremProof.{step-goes}
 
 -- a step that is refused, or is of a coordinator up to 15
 abbrev LowStep : ℕ → Step → Type 0

@@ -13,7 +13,7 @@ unfolding Rattle.byte_lists.specs.Little.byteOf Rattle.byte_lists.specs.Little
 little-open = tt
 
 unfoldable pub block-open : Unit {0}
-unfolding Rattle.image_block.specs.Block.weighted Rattle.image_block.specs.Block.checkOf Rattle.image_block.specs.Block.sealed Rattle.image_block.specs.Block.unchecked Rattle.byte_lists.specs.Lists.same Rattle.image_block.specs.Block.checked Rattle.byte_lists.specs.Lists.zeros Rattle.image_block.specs.Block.unusedKind Rattle.image_block.specs.Block.headKind Rattle.image_block.specs.Block.entryKind Rattle.image_block.specs.Block.headBody Rattle.image_block.specs.Block.headBlock Rattle.image_block.specs.Block.entryBody Rattle.image_block.specs.Block.entryBlock Rattle.image_block.specs.Block.unusedBody Rattle.image_block.specs.Block.unusedBlock Rattle.byte_lists.specs.Lists.put
+unfolding Rattle.image_block.specs.Block.weighted Rattle.image_block.specs.Block.checkOf Rattle.image_block.specs.Block.sealed Rattle.image_block.specs.Workers.unchecked Rattle.byte_lists.specs.Lists.same Rattle.image_block.specs.Block.checked Rattle.byte_lists.specs.Lists.zeros Rattle.image_block.specs.Block.unusedKind Rattle.image_block.specs.Block.headKind Rattle.image_block.specs.Block.entryKind Rattle.image_block.specs.Block.headBody Rattle.image_block.specs.Block.headBlock Rattle.image_block.specs.Block.entryBody Rattle.image_block.specs.Block.entryBlock Rattle.image_block.specs.Block.unusedBody Rattle.image_block.specs.Block.unusedBlock Rattle.byte_lists.specs.Lists.put
 block-open = tt
 
 unfoldable pub image-open : Unit {0}
@@ -21,11 +21,11 @@ unfolding Rattle.image.specs.Brick.count Rattle.image.specs.Brick.noEntry Ratt
 image-open = tt
 
 unfoldable pub saving-open : Unit {0}
-unfolding Rattle.image_write.specs.Saving.freshAfter Rattle.image_write.specs.Saving.promised Rattle.image_write.specs.Saving.appended Rattle.image_write.specs.Saving.without
+unfolding Rattle.image_write.specs.Saving.freshAfter Rattle.image_write.specs.Saving.promised Rattle.image_write.specs.Saving.appended Rattle.image_write.specs.Workers.without
 saving-open = tt
 
 unfoldable pub brick-open : Unit {0}
-unfolding Rattle.brick.specs.Receive.blocksRefusal Rattle.brick.specs.Receive.receiveRefusal Rattle.brick.specs.Receive.refusedWith Rattle.brick.specs.Receive.givenBy Rattle.brick.specs.Receive.acted Rattle.brick.specs.Receive.outcome Rattle.brick_log.specs.Steps.aboveNewest Rattle.brick_log.specs.Steps.notBelowPromise Rattle.brick_log.specs.Steps.hasFree Rattle.brick_log.specs.Steps.readYes Rattle.brick_log.specs.Steps.orderYes Rattle.brick_log.specs.Steps.writeYes Rattle.brick_log.specs.Steps.ordered Rattle.brick_log.specs.Steps.written Rattle.brick_log.specs.Steps.trimmed Rattle.brick_log.specs.Steps.trimmedTo Rattle.brick_log.specs.Steps.under Rattle.brick_log.specs.Steps.lookup Rattle.brick_log.specs.Steps.placeFor Rattle.brick_log.specs.Steps.timeFor Rattle.brick_log.specs.Steps.foundFor Rattle.brick_log.specs.Steps.yesTo Rattle.brick_log.specs.Steps.replyTo Rattle.brick_log.specs.Steps.after Rattle.brick_log.specs.Steps.blockAfter
+unfolding Rattle.brick.specs.Receive.blocksRefusal Rattle.brick.specs.Receive.receiveRefusal Rattle.brick.specs.Receive.refusedWith Rattle.brick.specs.Receive.givenBy Rattle.brick.specs.Receive.acted Rattle.brick.specs.Receive.outcome Rattle.brick_log.specs.BrickRules.aboveNewest Rattle.brick_log.specs.BrickRules.notBelowPromise Rattle.brick_log.specs.BrickRules.hasFree Rattle.brick_log.specs.BrickRules.readYes Rattle.brick_log.specs.BrickRules.orderYes Rattle.brick_log.specs.BrickRules.writeYes Rattle.brick_log.specs.BrickRules.ordered Rattle.brick_log.specs.BrickRules.written Rattle.brick_log.specs.BrickRules.trimmed Rattle.brick_log.specs.BrickRules.trimmedTo Rattle.brick_log.specs.BrickRules.under Rattle.brick_log.specs.BrickRules.lookup Rattle.brick_log.specs.BrickRules.placeFor Rattle.brick_log.specs.BrickRules.timeFor Rattle.brick_log.specs.BrickRules.foundFor Rattle.brick_log.specs.BrickRules.yesTo Rattle.brick_log.specs.BrickRules.replyTo Rattle.brick_log.specs.BrickRules.after Rattle.brick_log.specs.BrickRules.blockAfter
 brick-open = tt
 
 unfoldable pub gf256-open : Unit {0}
@@ -45,7 +45,7 @@ unfolding Rattle.erasure.specs.Code.firstPoints Rattle.erasure.specs.Code.code
 erasure-open = tt
 
 unfoldable pub coord-record-open : Unit {0}
-unfolding Rattle.byte_lists.specs.Each.each Rattle.byte_lists.specs.Each.some Rattle.coord_record.specs.Records.noOp Rattle.coord_record.specs.Records.noBricks Rattle.coord_record.specs.Records.nothingCounted Rattle.coord_record.specs.Records.idleWith Rattle.coord_record.specs.Rules.above Rattle.coord_record.specs.Rules.isTarget Rattle.coord_record.specs.Rules.blockRight Rattle.coord_record.specs.Rules.countedRight Rattle.coord_record.specs.Rules.entryRight Rattle.coord_record.specs.Rules.tallyRight Rattle.coord_record.specs.Rules.brickRight Rattle.coord_record.specs.Rules.bricksRight Rattle.coord_record.specs.Sound.maxRight Rattle.coord_record.specs.Sound.storedRight Rattle.coord_record.specs.Sound.readRight Rattle.coord_record.specs.Sound.writeRight Rattle.coord_record.specs.Sound.unsetOp Rattle.coord_record.specs.Sound.opRight Rattle.coord_record.specs.Sound.timeRight Rattle.coord_record.specs.Sound.namedCount Rattle.coord_record.specs.Sound.filledRight Rattle.coord_record.specs.Sound.sound
+unfolding Rattle.byte_lists.specs.Each.each Rattle.byte_lists.specs.Each.some Rattle.coord_record.specs.Records.noOp Rattle.coord_record.specs.Records.noBricks Rattle.coord_record.specs.Records.nothingCounted Rattle.coord_record.specs.Records.idleWith Rattle.coord_record.specs.CountedRules.above Rattle.coord_record.specs.CountedRules.isTarget Rattle.coord_record.specs.CountedRules.blockRight Rattle.coord_record.specs.CountedRules.countedRight Rattle.coord_record.specs.CountedRules.entryRight Rattle.coord_record.specs.CountedRules.tallyRight Rattle.coord_record.specs.CountedRules.brickRight Rattle.coord_record.specs.CountedRules.bricksRight Rattle.coord_record.specs.Sound.maxRight Rattle.coord_record.specs.Sound.storedRight Rattle.coord_record.specs.Sound.readRight Rattle.coord_record.specs.Sound.writeRight Rattle.coord_record.specs.Sound.unsetOp Rattle.coord_record.specs.Sound.opRight Rattle.coord_record.specs.Sound.timeRight Rattle.coord_record.specs.Sound.namedCount Rattle.coord_record.specs.Sound.filledRight Rattle.coord_record.specs.Sound.sound
 coord-record-open = tt
 
 unfoldable pub coord-rounds-open : Unit {0}
@@ -53,11 +53,11 @@ unfolding Rattle.coord_tally.specs.Counting.saidNo Rattle.coord_tally.specs.Co
 coord-rounds-open = tt
 
 unfoldable pub coord-acts-open : Unit {0}
-unfolding Rattle.coord_apply.specs.Acts.gathered Rattle.coord_apply.specs.Acts.stripeFrom Rattle.coord_apply.specs.Acts.roundMessage Rattle.coord_apply.specs.Acts.trimMessage Rattle.coord_apply.specs.Acts.nextOp Rattle.coord_apply.specs.Acts.opened Rattle.coord_apply.specs.Acts.nextRound Rattle.coord_apply.specs.Acts.ending Rattle.coord_apply.specs.Acts.finishedSeen Rattle.coord_apply.specs.Acts.acted Rattle.coord_apply.specs.Acts.placed Rattle.coord_apply.specs.Acts.withTally Rattle.coord_apply.specs.Acts.counting Rattle.coord_apply.specs.Acts.waitingOr Rattle.coord_apply.specs.Acts.firstOp Rattle.coord_apply.specs.Acts.starting Rattle.coord_apply.specs.Steps.checked Rattle.coord_apply.specs.Steps.nothingSeen Rattle.coord_apply.specs.Steps.noMessage Rattle.coord_apply.specs.Steps.sentCount Rattle.coord_apply.specs.Steps.sentMessage Rattle.coord_apply.specs.Steps.sentBlocks Rattle.coord_apply.specs.Steps.answerOf Rattle.coord_apply.specs.Steps.blocksAfter Rattle.coord_apply.specs.Steps.stripeAfter Rattle.coord_apply.specs.Steps.codedAfter Rattle.coord_apply.proofs.Laws.Steps.after
+unfolding Rattle.coord_apply.specs.Acts.gathered Rattle.coord_apply.specs.Acts.stripeFrom Rattle.coord_apply.specs.Acts.roundMessage Rattle.coord_apply.specs.Acts.trimMessage Rattle.coord_apply.specs.Acts.nextOp Rattle.coord_apply.specs.Acts.opened Rattle.coord_apply.specs.Acts.nextRound Rattle.coord_apply.specs.Acts.ending Rattle.coord_apply.specs.Acts.finishedSeen Rattle.coord_apply.specs.Acts.acted Rattle.coord_apply.specs.Acts.placed Rattle.coord_apply.specs.Acts.withTally Rattle.coord_apply.specs.Acts.counting Rattle.coord_apply.specs.Acts.waitingOr Rattle.coord_apply.specs.Acts.firstOp Rattle.coord_apply.specs.Acts.starting Rattle.coord_apply.specs.Answers.checked Rattle.coord_apply.specs.Answers.nothingSeen Rattle.coord_apply.specs.Answers.noMessage Rattle.coord_apply.specs.Answers.sentCount Rattle.coord_apply.specs.Answers.sentMessage Rattle.coord_apply.specs.Answers.sentBlocks Rattle.coord_apply.specs.Answers.answerOf Rattle.coord_apply.specs.Answers.blocksAfter Rattle.coord_apply.specs.Answers.stripeAfter Rattle.coord_apply.specs.Answers.codedAfter Rattle.coord_apply.proofs.Laws.AnswerLaws.after
 coord-acts-open = tt
 
 unfoldable pub coordinator-open : Unit {0}
-unfolding Rattle.coord_refusals.specs.Checks.recordChecks Rattle.coord_refusals.specs.Checks.startChecks Rattle.coord_refusals.specs.Checks.writeRefusal Rattle.coord_refusals.specs.Checks.readRefusal Rattle.coord_refusals.specs.Checks.lengthsRight Rattle.coord_refusals.specs.Checks.strayChecks Rattle.coord_refusals.specs.Checks.takeRefusal Rattle.coord_refusals.specs.Checks.crashRefusal Rattle.coordinator.specs.Rules.takeStep Rattle.coordinator.specs.Rules.crashed Rattle.coordinator.specs.Rules.crashStep Rattle.coordinator.specs.Rules.drawnThen Rattle.coordinator.specs.Rules.writeStep Rattle.coordinator.specs.Rules.readStep
+unfolding Rattle.coord_refusals.specs.Checks.recordChecks Rattle.coord_refusals.specs.Checks.startChecks Rattle.coord_refusals.specs.Checks.writeRefusal Rattle.coord_refusals.specs.Checks.readRefusal Rattle.coord_refusals.specs.Checks.lengthsRight Rattle.coord_refusals.specs.Checks.strayChecks Rattle.coord_refusals.specs.Checks.takeRefusal Rattle.coord_refusals.specs.Checks.crashRefusal Rattle.coordinator.specs.Routines.takeStep Rattle.coordinator.specs.Routines.crashed Rattle.coordinator.specs.Routines.crashStep Rattle.coordinator.specs.Routines.drawnThen Rattle.coordinator.specs.Routines.writeStep Rattle.coordinator.specs.Routines.readStep
 coordinator-open = tt
 
 unfoldable pub register-open : Unit {0}

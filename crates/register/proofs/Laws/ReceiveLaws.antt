@@ -20,7 +20,7 @@ use Rattle.message.specs.declared.Reply.{Reply}
 use Rattle.image.specs.Brick.{Brick, LogEntry, noEntry, count, timeAt, heldAt, newest}
 use Rattle.image.specs.Brick.{Sound}
 use Rattle.image_write.specs.Saving
-use Rattle.brick_log.specs.Steps.{readYes, orderYes, writeYes, ordered, written, trimmedTo, under, lookup, placeFor, timeFor, foundFor, yesTo, replyTo, after, blockAfter}
+use Rattle.brick_log.specs.BrickRules.{readYes, orderYes, writeYes, ordered, written, trimmedTo, under, lookup, placeFor, timeFor, foundFor, yesTo, replyTo, after, blockAfter}
 use Rattle.order.specs.Claim.{_∈_}
 use Rattle.order.specs.Facts.{Fact, promised, stored, showed}
 use Rattle.order.specs.Places.{whole, above, In}
@@ -28,10 +28,10 @@ use Rattle.order.proofs.Laws.PlaceLaws.{in-top}
 use Rattle.order.specs.Valid.{Gone, Valid}
 use Rattle.order.proofs.Laws.GoneLaws.{gone-up}
 use Rattle.register.specs.Runs.{plain, Item, message}
-use Rattle.register.specs.Invariant.{quorums, Hist, Means, Stands, BrickInv, MessageInv, Looked, ReplyInv}
+use Rattle.register.proofs.Laws.Invariant.{quorums, Hist, Means, Stands, BrickInv, MessageInv, Looked, ReplyInv}
 use Rattle.register.proofs.Laws.UpLaws.{Within, in-cons, means-up, stands-up, brick-up}
 use Rattle.register.proofs.Laws.LogLaws.{at-member, member-at, rises-at, proper, at-most-newest, sound-promised, sound-appended, sound-trimmed}
-use Rattle.register.proofs.Laws.BrickLaws.{Grows, grows-not, grows-promised, grows-stored, grows-showed, order-above, write-above, ok-promised, brick-promised, ok-stored, brick-stored, ok-showed, newest-means, brick-trimmed, Found, none, entry, found-under}
+use Rattle.register.proofs.Laws.BrickLogLaws.{Grows, grows-not, grows-promised, grows-stored, grows-showed, order-above, write-above, ok-promised, brick-promised, ok-stored, brick-stored, ok-showed, newest-means, brick-trimmed, Found, none, entry, found-under}
 use Rattle.brick.proofs.Laws.BrickLaws.{saved-valid}
 
 -- what a message that is not refused satisfies

@@ -21,9 +21,9 @@ use Rattle.byte_lists.specs.Each.{some}
 use Rattle.coord_record.specs.Records.{noBricks}
 use Rattle.coord_tally.specs.Counting.{saidNo, highest, atTime, atTimes, picked}
 use Rattle.coord_apply.specs.Acts.{stripeFrom, roundMessage, nextOp, nextRound}
-use Rattle.coord_apply.specs.Steps.{Held}
+use Rattle.coord_apply.specs.Answers.{Held}
 use Rattle.coord_tally.proofs.Laws.RowSets.{picked-gave}
-use Rattle.coord_laws.proofs.Laws.BlockLaws.{stripe-read}
+use Rattle.coord_laws.proofs.Laws.CodedBlockLaws.{stripe-read}
 use Rattle.order.specs.Claim.{changed, _∈_}
 use Rattle.order.specs.Facts.{over, promised, launched, stored}
 use Rattle.order.specs.Places.{whole, above, In}
@@ -34,7 +34,7 @@ use Rattle.order.proofs.Laws.FactLaws.{ok-at}
 use Rattle.order.proofs.Laws.GoneLaws.{round-gone}
 use Rattle.order.proofs.Laws.ValueLaws.{val-up, one-value}
 use Rattle.register.specs.Runs.{Item}
-use Rattle.register.specs.Invariant.{quorums, Hist, Means, Stands, ItemInv, CountedInv, Looked, Running, CoordinatorInv}
+use Rattle.register.proofs.Laws.Invariant.{quorums, Hist, Means, Stands, ItemInv, CountedInv, Looked, Running, CoordinatorInv}
 use Rattle.register.proofs.Laws.TurnLaws.{turns-not, Turned}
 use Rattle.register.proofs.Laws.RoundLaws.{opens}
 use Rattle.register.proofs.Laws.DecodeLaws.{Row, picked-row}

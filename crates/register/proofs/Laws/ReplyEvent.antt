@@ -20,18 +20,18 @@ use Rattle.coord_decide.specs.Deciding.{decided}
 use Rattle.coord_decide.specs.declared.Decision.{Decision}
 use Rattle.coord_decide.specs.declared.Decision.the-variants.{Abort, Give, Look, Store, Recover, Finish}
 use Rattle.coord_apply.specs.Acts.{acted, withTally, counting, waitingOr}
-use Rattle.coord_apply.specs.Steps.{Held, Went, Step, refused, went, nothingSeen}
-use Rattle.coordinator.specs.Rules.{takeStep}
-use Rattle.coord_laws.proofs.Laws.RunLaws.{Took, took}
-use Rattle.coord_laws.proofs.Laws.OpCases.{Fit, reading, looking, restoring, ordering, storing}
+use Rattle.coord_apply.specs.Answers.{Held, Went, Step, refused, went, nothingSeen}
+use Rattle.coordinator.specs.Routines.{takeStep}
+use Rattle.coord_laws.proofs.Laws.StepRunLaws.{Took, took}
+use Rattle.coord_laws.proofs.Laws.OpCaseLaws.{Fit, reading, looking, restoring, ordering, storing}
 use Rattle.order.specs.Claim.{_∈_}
 use Rattle.order.specs.Valid.{Valid}
 use Rattle.register.specs.Runs.{Item, reply, Moved, coordinated, arriving}
-use Rattle.register.specs.Invariant.{quorums, Hist, ItemInv, CoordinatorInv, Inv}
-use Rattle.register.specs.Invariant.{Goes}
+use Rattle.register.proofs.Laws.Invariant.{quorums, Hist, ItemInv, CoordinatorInv, Inv}
+use Rattle.register.proofs.Laws.Invariant.{Goes}
 use Rattle.register.proofs.Laws.TurnLaws.{Turned, goes-turned, goes-refused}
 use Rattle.register.proofs.Laws.RoundLaws.{stays}
-use Rattle.register.proofs.Laws.CountLaws.{counting-keeps}
+use Rattle.register.proofs.Laws.CountedLaws.{counting-keeps}
 use Rattle.register.proofs.Laws.GiveLaws.{does-give}
 use Rattle.register.proofs.Laws.DecisionLaws.{decided-reading, decided-ordering, decided-looking, decided-storing}
 use Rattle.register.proofs.Laws.DecideLaws.{sound-op, does-abort, does-store, does-finish}

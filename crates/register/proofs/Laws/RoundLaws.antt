@@ -10,15 +10,15 @@ use Rattle.message.specs.declared.Message.{Message}
 use Rattle.erasure.specs.Code.{Stripe}
 use Rattle.coord_record.specs.Records.{nothingCounted, noBricks, noOp, idleWith}
 use Rattle.coord_apply.specs.Acts.{roundMessage, nextOp, opened, nextRound, ending}
-use Rattle.coord_apply.specs.Steps.{Held, Broadcast, nothingSeen}
-use Rattle.coord_laws.proofs.Laws.Soundness.{none-sized}
+use Rattle.coord_apply.specs.Answers.{Held, Broadcast, nothingSeen}
+use Rattle.coord_laws.proofs.Laws.SoundnessLaws.{none-sized}
 use Rattle.order.specs.Claim.{Action, write, _∈_}
 use Rattle.order.specs.Facts.{End, Fact, began, ended, shows}
 use Rattle.order.specs.Places.{In}
 use Rattle.order.proofs.Laws.PlaceLaws.{in-suf}
 use Rattle.order.specs.Valid.{Began, Launched, Ended, Val, Gone, OkEnded, Valid}
 use Rattle.register.specs.Runs.{plain, Item, message, reply, seenOf, blockFor, broadcasts}
-use Rattle.register.specs.Invariant.{quorums, Hist, MessageInv, ItemInv, Asked, Running, CoordinatorInv}
+use Rattle.register.proofs.Laws.Invariant.{quorums, Hist, MessageInv, ItemInv, Asked, Running, CoordinatorInv}
 use Rattle.register.proofs.Laws.UpLaws.{in-cons}
 use Rattle.register.proofs.Laws.TurnLaws.{time-of, kind-of, round-of, Turns, turns-not, turns-ended, in-broadcast, Turned}
 use Rattle.register.proofs.Laws.StartEvent.{none-member}

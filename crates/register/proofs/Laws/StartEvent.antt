@@ -25,10 +25,10 @@ use Rattle.erasure.specs.Code.{Stripe}
 use Rattle.coord_record.specs.Records.{nothingCounted, noBricks}
 use Rattle.coord_tally.specs.Counting.{targetFlags}
 use Rattle.coord_apply.specs.Acts.{roundMessage, firstOp, starting}
-use Rattle.coord_apply.specs.Steps.{Held, Broadcast, Went, refused, checked}
+use Rattle.coord_apply.specs.Answers.{Held, Broadcast, Went, refused, checked}
 use Rattle.coord_refusals.specs.Checks.{writeRefusal, readRefusal}
-use Rattle.coordinator.specs.Rules.{drawnThen, writeStep, readStep}
-use Rattle.coord_laws.proofs.Laws.Soundness.{none-sized}
+use Rattle.coordinator.specs.Routines.{drawnThen, writeStep, readStep}
+use Rattle.coord_laws.proofs.Laws.SoundnessLaws.{none-sized}
 use Rattle.coord_laws.proofs.Laws.TallyLaws.{zeros-at}
 use Rattle.order.specs.Claim.{Action, read, write, Seen, _∈_}
 use Rattle.order.specs.Facts.{Source, End, Fact, began, launched, ended}
@@ -37,9 +37,9 @@ use Rattle.order.proofs.Laws.PlaceLaws.{suf-below, in-suf, in-top}
 use Rattle.order.specs.Valid.{Began, Valid}
 use Rattle.order.proofs.Laws.FactLaws.{ok-at}
 use Rattle.register.specs.Runs.{plain, Item, message, Moved, seenOf, blockFor, broadcasts, coordinated}
-use Rattle.register.specs.Invariant.{quorums, Hist, MessageInv, ItemInv, Asked, Running, CoordinatorInv, Inv}
+use Rattle.register.proofs.Laws.Invariant.{quorums, Hist, MessageInv, ItemInv, Asked, Running, CoordinatorInv, Inv}
 use Rattle.register.proofs.Laws.UpLaws.{in-cons}
-use Rattle.register.specs.Invariant.{Goes}
+use Rattle.register.proofs.Laws.Invariant.{Goes}
 use Rattle.register.proofs.Laws.BrickEvent.{first-passed}
 use Rattle.register.proofs.Laws.TurnLaws.{time-of, kind-of, Turns, turns-began, in-broadcast, Turned, goes-turned, goes-refused}
 

@@ -11,15 +11,15 @@ use Rattle.settings.specs.Ranges.{SettingsRange}
 use Rattle.settings.specs.declared.Settings.{Settings}
 use Rattle.message.specs.declared.Message.{Message}
 use Rattle.image.specs.Brick.{Brick}
-use Rattle.coord_apply.specs.Steps.{Held, Broadcast, Went, refused, went}
+use Rattle.coord_apply.specs.Answers.{Held, Broadcast, Went, refused, went}
 use Rattle.order.specs.Claim.{Action, Seen, _∈_}
 use Rattle.order.specs.Facts.{Source, End, Fact, began, launched, ended, seen, shows}
 use Rattle.order.specs.Places.{Suf, whole, above}
 use Rattle.order.specs.Valid.{OkBegan, OkLaunched, OkEnded, Ok, Valid, next}
 use Rattle.register.specs.Runs.{plain, Item, message, reply, Moved, putAt, seenOf, blockFor, toAll, broadcasts, coordinated}
-use Rattle.register.specs.Invariant.{quorums, Hist, BrickInv, ItemInv, CoordinatorInv, Inv}
+use Rattle.register.proofs.Laws.Invariant.{quorums, Hist, BrickInv, ItemInv, CoordinatorInv, Inv}
 use Rattle.register.proofs.Laws.UpLaws.{within-more, item-up, AtBrick, AtCoordinator, brick-up, coordinator-up, Quiet, coordinator-sent}
-use Rattle.register.specs.Invariant.{Goes}
+use Rattle.register.proofs.Laws.Invariant.{Goes}
 use Rattle.register.proofs.Laws.BrickEvent.{goes-unmoved, put-here, put-there}
 
 -- the fields of a message among the items

@@ -10,18 +10,18 @@ use Rattle.message.specs.Kinds.{orderReadKind}
 use Rattle.message.specs.declared.Message.{Message}
 use Rattle.message.specs.declared.Reply.{Reply}
 use Rattle.image.specs.Brick.{Brick, LogEntry}
-use Rattle.coord_apply.specs.Steps.{Held}
+use Rattle.coord_apply.specs.Answers.{Held}
 use Rattle.order.specs.Claim.{Plain, _∈_}
 use Rattle.order.specs.Facts.{Fact, began, promised, launched, stored, showed, ended, History}
 use Rattle.order.specs.Places.{Suf, whole, above, In}
 use Rattle.order.proofs.Laws.PlaceLaws.{suf-cons, in-suf, in-above}
 use Rattle.order.specs.Valid.{Began, Gone, Valid}
 use Rattle.order.proofs.Laws.FactLaws.{committed-up}
-use Rattle.order.proofs.Laws.StoreLaws.{stored-before}
+use Rattle.order.proofs.Laws.StoredLaws.{stored-before}
 use Rattle.order.proofs.Laws.GoneLaws.{gone-up}
 use Rattle.order.proofs.Laws.ValueLaws.{val-up}
 use Rattle.register.specs.Runs.{plain, Item, message, reply}
-use Rattle.register.specs.Invariant.{quorums, Hist, Means, Stands, BrickInv, MessageInv, Looked, ReplyInv, ItemInv, CountedInv, Running, CoordinatorInv}
+use Rattle.register.proofs.Laws.Invariant.{quorums, Hist, Means, Stands, BrickInv, MessageInv, Looked, ReplyInv, ItemInv, CountedInv, Running, CoordinatorInv}
 
 -- all that stands in the one list stands in the other
 abbrev pub Within : List Item → List Item → Type 0

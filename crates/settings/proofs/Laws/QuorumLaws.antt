@@ -3,7 +3,7 @@ use mathlib.Core.Bool.{Bool}
 use Prim.Native.Nat.{ℕ, _+_, _≤_}
 use native.Mathlib.Omega.{arith}
 use Rattle.settings.specs.Count.{count, common}
-use Rattle.settings.proofs.Laws.Count.{count-common}
+use Rattle.settings.proofs.Laws.CountLaws.{count-common}
 use Rattle.settings.specs.Ranges.{quorum, faults}
 
 pub quorum-twice : (n m : ℕ) → m ≤ n → n + m ≤ quorum n m + quorum n m

@@ -1,4 +1,4 @@
-use Rattle.test_brick.proofs.Laws.NumberLaws.{entry-short, entry-there, entry-refused}
+use Rattle.test_brick.proofs.Laws.BrickBoundaryLaws.{entry-short, entry-there, entry-refused}
 use borrow.Author.Needs.{needs}
 use Rattle.test_brick.proofs.brick_entry.Statement.{statement}
 use Rattle.test_brick.proofs.brick_entry.Tie as tie

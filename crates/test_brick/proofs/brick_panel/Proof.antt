@@ -1,4 +1,4 @@
-use Rattle.test_brick.proofs.Laws.NumberLaws.{panel-short, panel-values, panel-refused}
+use Rattle.test_brick.proofs.Laws.BrickBoundaryLaws.{panel-short, panel-values, panel-refused}
 use borrow.Author.Needs.{needs}
 use Rattle.test_brick.proofs.brick_panel.Statement.{statement}
 use Rattle.test_brick.proofs.brick_panel.Tie as tie

@@ -3,8 +3,8 @@ use mathlib.Core.Path.{ap, _∙_}
 use Prim.Native.Nat.{ℕ}
 use Rattle.brick.specs.Receive.{Outcome, outcome}
 use Rattle.brick.specs.declared.Given.{Given}
-use Rattle.test_brick.specs.Numbers.{settingsFor, messageFor, givenNumber, givenBuffer}
-use Rattle.test_brick.proofs.Laws.NumberLaws.{lent-not-targets, lent-not-reply, lent-both, short-number, short-buffer, whole-number, whole-buffer}
+use Rattle.test_brick.specs.BrickBoundary.{settingsFor, messageFor, givenNumber, givenBuffer}
+use Rattle.test_brick.proofs.Laws.BrickBoundaryLaws.{lent-not-targets, lent-not-reply, lent-both, short-number, short-buffer, whole-number, whole-buffer}
 use borrow.Author.Needs.{needs}
 use Rattle.test_brick.proofs.brick_receive.Statement.{statement}
 use Rattle.test_brick.proofs.brick_receive.Tie as tie

@@ -1,4 +1,4 @@
-use Rattle.test_brick.proofs.Laws.NumberLaws.{given-reply, given-silence, given-refusal}
+use Rattle.test_brick.proofs.Laws.BrickBoundaryLaws.{given-reply, given-silence, given-refusal}
 use borrow.Author.Needs.{needs}
 use Rattle.test_brick.proofs.put_given.Statement.{statement}
 use Rattle.test_brick.proofs.put_given.Tie as tie

@@ -1,6 +1,6 @@
 use native.Mathlib.Omega.{arith}
 use lib.ListN.{length-set}
-use Rattle.test_brick.proofs.Laws.NumberLaws.{reply-put}
+use Rattle.test_brick.proofs.Laws.BrickBoundaryLaws.{reply-put}
 use borrow.Author.Needs.{needs}
 use Rattle.test_brick.proofs.put_reply.Statement.{statement}
 use Rattle.test_brick.proofs.put_reply.Tie as tie

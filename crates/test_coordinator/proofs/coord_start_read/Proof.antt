@@ -2,12 +2,12 @@ use mathlib.Core.List.{[]}
 use mathlib.Core.Path.{sym, _∙_}
 use lib.ListN.{length}
 use Rattle.coord_apply.specs.Acts.{heldOf}
-use Rattle.coord_apply.specs.Steps.{answerOf}
+use Rattle.coord_apply.specs.Answers.{answerOf}
 use Rattle.coord_apply.specs.declared.Answer.{Answer}
 use Rattle.coord_record.specs.declared.Coordinator.{Coordinator}
-use Rattle.coordinator.specs.Rules.{readStep}
-use Rattle.test_coordinator.specs.Numbers.{recordNumbers, recordBytes, answerNumbers, answerBytes}
-use Rattle.test_coordinator.proofs.Laws.NumberLaws.{Lengths, lengths, short-number, short-buffer, whole-number, whole-buffer, said-number, said-buffer, moved}
+use Rattle.coordinator.specs.Routines.{readStep}
+use Rattle.test_coordinator.specs.CoordinatorBoundary.{recordNumbers, recordBytes, answerNumbers, answerBytes}
+use Rattle.test_coordinator.proofs.Laws.CoordinatorBoundaryLaws.{Lengths, lengths, short-number, short-buffer, whole-number, whole-buffer, said-number, said-buffer, moved}
 use borrow.Author.Needs.{needs}
 use Rattle.test_coordinator.proofs.coord_start_read.Statement.{statement}
 use Rattle.test_coordinator.proofs.coord_start_read.Tie as tie

@@ -3,12 +3,12 @@ use mathlib.Core.List.{List, []}
 use mathlib.Core.Path.{sym, _∙_}
 use lib.ListN.{length}
 use Rattle.coord_apply.specs.Acts.{heldOf}
-use Rattle.coord_apply.specs.Steps.{answerOf, blocksAfter, stripeAfter, codedAfter}
+use Rattle.coord_apply.specs.Answers.{answerOf, blocksAfter, stripeAfter, codedAfter}
 use Rattle.coord_apply.specs.declared.Answer.{Answer}
 use Rattle.coord_record.specs.declared.Coordinator.{Coordinator}
-use Rattle.coordinator.specs.Rules.{takeStep}
-use Rattle.test_coordinator.specs.Numbers.{recordNumbers, recordBytes, answerNumbers, answerBytes, replyFor}
-use Rattle.test_coordinator.proofs.Laws.NumberLaws.{Lengths, lengths, short-number, short-buffer, whole-number, whole-buffer, said-number, said-buffer, moved}
+use Rattle.coordinator.specs.Routines.{takeStep}
+use Rattle.test_coordinator.specs.CoordinatorBoundary.{recordNumbers, recordBytes, answerNumbers, answerBytes, replyFor}
+use Rattle.test_coordinator.proofs.Laws.CoordinatorBoundaryLaws.{Lengths, lengths, short-number, short-buffer, whole-number, whole-buffer, said-number, said-buffer, moved}
 use borrow.Author.Needs.{needs}
 use Rattle.test_coordinator.proofs.coord_take_reply.Statement.{statement}
 use Rattle.test_coordinator.proofs.coord_take_reply.Tie as tie

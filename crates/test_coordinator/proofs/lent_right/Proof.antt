@@ -1,5 +1,5 @@
 use borrow.Author.Needs.{needs}
-use Rattle.test_coordinator.proofs.Laws.NumberLaws.{lent-no-numbers, lent-no-bytes, lent-no-sent, lent-last}
+use Rattle.test_coordinator.proofs.Laws.CoordinatorBoundaryLaws.{lent-no-numbers, lent-no-bytes, lent-no-sent, lent-last}
 use Rattle.test_coordinator.proofs.lent_right.Statement.{statement}
 use Rattle.test_coordinator.proofs.lent_right.Tie as tie
 

@@ -1,5 +1,5 @@
 use mathlib.Core.Path.{refl, sym}
-use Rattle.test_coordinator.proofs.Laws.NumberLaws.{said-refused, said-given}
+use Rattle.test_coordinator.proofs.Laws.CoordinatorBoundaryLaws.{said-refused, said-given}
 use borrow.Author.Needs.{needs}
 use Rattle.test_coordinator.proofs.put_answer.Statement.{statement}
 use Rattle.test_coordinator.proofs.put_answer.Tie as tie

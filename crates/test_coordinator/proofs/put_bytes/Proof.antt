@@ -1,8 +1,8 @@
 use native.Mathlib.Omega.{arith}
 use lib.ListN.{length, set}
 use mathlib.Core.Path.{_≡_, sym, _∙_}
-use Rattle.test_coordinator.specs.Numbers.{recordBytes}
-use Rattle.test_coordinator.proofs.Laws.NumberLaws.{at-least, two-set, bytes-are}
+use Rattle.test_coordinator.specs.CoordinatorBoundary.{recordBytes}
+use Rattle.test_coordinator.proofs.Laws.CoordinatorBoundaryLaws.{at-least, two-set, bytes-are}
 use borrow.Author.Needs.{needs}
 use Rattle.test_coordinator.proofs.put_bytes.Statement.{statement}
 use Rattle.test_coordinator.proofs.put_bytes.Tie as tie

@@ -1,8 +1,8 @@
 use native.Mathlib.Omega.{arith}
 use lib.ListN.{set, length-set}
 use mathlib.Core.Path.{sym, _∙_}
-use Rattle.test_coordinator.specs.Numbers.{recordNumbers}
-use Rattle.test_coordinator.proofs.Laws.NumberLaws.{at-least, six-set, numbers-are}
+use Rattle.test_coordinator.specs.CoordinatorBoundary.{recordNumbers}
+use Rattle.test_coordinator.proofs.Laws.CoordinatorBoundaryLaws.{at-least, six-set, numbers-are}
 use borrow.Author.Needs.{needs}
 use Rattle.test_coordinator.proofs.put_numbers.Statement.{statement}
 use Rattle.test_coordinator.proofs.put_numbers.Tie as tie

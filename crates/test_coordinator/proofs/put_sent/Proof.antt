@@ -1,7 +1,7 @@
 use native.Mathlib.Omega.{arith}
 use lib.ListN.{length-set}
-use Rattle.test_coordinator.specs.Numbers.{answerNumbers}
-use Rattle.test_coordinator.proofs.Laws.NumberLaws.{five}
+use Rattle.test_coordinator.specs.CoordinatorBoundary.{answerNumbers}
+use Rattle.test_coordinator.proofs.Laws.CoordinatorBoundaryLaws.{five}
 use borrow.Author.Needs.{needs}
 use Rattle.test_coordinator.proofs.put_sent.Statement.{statement}
 use Rattle.test_coordinator.proofs.put_sent.Tie as tie

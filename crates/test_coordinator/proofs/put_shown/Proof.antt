@@ -1,8 +1,8 @@
 use native.Mathlib.Omega.{arith}
 use lib.ListN.{length, set}
 use mathlib.Core.Path.{_≡_, sym, _∙_}
-use Rattle.test_coordinator.specs.Numbers.{answerBytes}
-use Rattle.test_coordinator.proofs.Laws.NumberLaws.{at-least, three-set, shown-are}
+use Rattle.test_coordinator.specs.CoordinatorBoundary.{answerBytes}
+use Rattle.test_coordinator.proofs.Laws.CoordinatorBoundaryLaws.{at-least, three-set, shown-are}
 use borrow.Author.Needs.{needs}
 use Rattle.test_coordinator.proofs.put_shown.Statement.{statement}
 use Rattle.test_coordinator.proofs.put_shown.Tie as tie

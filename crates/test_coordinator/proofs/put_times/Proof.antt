@@ -1,5 +1,5 @@
 use mathlib.Core.Path.{refl}
-use Rattle.test_coordinator.proofs.Laws.NumberLaws.{row-put-is}
+use Rattle.test_coordinator.proofs.Laws.CoordinatorBoundaryLaws.{row-put-is}
 use borrow.Author.Needs.{needs}
 use Rattle.test_coordinator.proofs.put_times.Statement.{statement}
 use Rattle.test_coordinator.proofs.put_times.Tie as tie

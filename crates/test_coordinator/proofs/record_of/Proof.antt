@@ -1,5 +1,5 @@
-use Rattle.test_coordinator.specs.Numbers.{rowAt}
-use Rattle.test_coordinator.proofs.Laws.NumberLaws.{record-is}
+use Rattle.test_coordinator.specs.CoordinatorBoundary.{rowAt}
+use Rattle.test_coordinator.proofs.Laws.CoordinatorBoundaryLaws.{record-is}
 use borrow.Author.Needs.{needs}
 use Rattle.test_coordinator.proofs.record_of.Statement.{statement}
 use Rattle.test_coordinator.proofs.record_of.Tie as tie

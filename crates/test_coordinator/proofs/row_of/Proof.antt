@@ -1,6 +1,6 @@
 use mathlib.Core.Path.{sym}
 use Rattle.byte_lists.specs.Lists.{tabulate}
-use Rattle.test_coordinator.proofs.Laws.NumberLaws.{sixteen}
+use Rattle.test_coordinator.proofs.Laws.CoordinatorBoundaryLaws.{sixteen}
 use borrow.Author.Needs.{needs}
 use Rattle.test_coordinator.proofs.row_of.Statement.{statement}
 use Rattle.test_coordinator.proofs.row_of.Tie as tie

@@ -1,5 +1,5 @@
-use Rattle.test_field.specs.Probe.{clockOf}
-use Rattle.test_field.proofs.Laws.ProbeLaws.{wrong-length, number-given, refused-buffer, given-buffer, given-number}
+use Rattle.test_field.specs.FieldBoundary.{clockOf}
+use Rattle.test_field.proofs.Laws.FieldBoundaryLaws.{wrong-length, number-given, refused-buffer, given-buffer, given-number}
 use borrow.Author.Needs.{needs}
 use Rattle.test_field.proofs.probe_draw.Statement.{statement}
 use Rattle.test_field.proofs.probe_draw.Tie as tie

@@ -1,5 +1,5 @@
 use borrow.Author.Tests.{lt-ltb, le-ltb}
-use Rattle.test_field.specs.Probe.{powerOrZero}
+use Rattle.test_field.specs.FieldBoundary.{powerOrZero}
 use borrow.Author.Needs.{needs}
 use Rattle.test_field.proofs.probe_power.Statement.{statement}
 use Rattle.test_field.proofs.probe_power.Tie as tie

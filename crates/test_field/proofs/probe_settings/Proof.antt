@@ -1,4 +1,4 @@
-use Rattle.test_field.specs.Probe.{settingsNumber}
+use Rattle.test_field.specs.FieldBoundary.{settingsNumber}
 use borrow.Author.Needs.{needs}
 use Rattle.test_field.proofs.probe_settings.Statement.{statement}
 use Rattle.test_field.proofs.probe_settings.Tie as tie

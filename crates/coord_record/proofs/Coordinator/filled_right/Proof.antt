@@ -1,4 +1,4 @@
-use Rattle.coord_record.proofs.Laws.SoundLaws.{filled-bricks, filled-tally, filled-open}
+use Rattle.coord_record.proofs.Laws.RecordSoundLaws.{filled-bricks, filled-tally, filled-open}
 use borrow.Author.Needs.{needs}
 use Rattle.coord_record.proofs.Coordinator.filled_right.Statement.{statement}
 use Rattle.coord_record.proofs.Coordinator.filled_right.Tie as tie

@@ -1,4 +1,4 @@
-use Rattle.coord_record.proofs.Laws.SoundLaws.{unsound-coordinator, unsound-last, unsound-first, unsound-op, unsound-time, sound-filled}
+use Rattle.coord_record.proofs.Laws.RecordSoundLaws.{unsound-coordinator, unsound-last, unsound-first, unsound-op, unsound-time, sound-filled}
 use Rattle.settings.specs.Times.{maxCount}
 use borrow.Author.Needs.{needs}
 use Rattle.coord_record.proofs.Coordinator.sound.Statement.{statement}

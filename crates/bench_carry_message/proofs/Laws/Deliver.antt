@@ -1,9 +1,0 @@
--- Laws of `specs/Deliver`.
-use Rattle.bench_state.specs.declared.Bench.{Bench}
-use Rattle.bench_rules.specs.Turning.{Lent, Ready}
-use Rattle.bench_carry_message.specs.Deliver.{Lends}
-
--- a set that is ready lends what a message needs
-pub ready-lends : (b : Bench) (l : Lent) → Ready b l → Lends b (l .images) (l .numbers) (l .bytes)
-ready-lends b l r =
-    record { fits = r .fits; few = r .few; images-long = r .images-long; numbers-long = r .numbers-long; bytes-long = r .bytes-long }

@@ -1,0 +1,145 @@
+-- What a brick's answer tells: a refusal keeps the image, a Trim is never answered; and an answer settled, one law for each.
+use mathlib.Core.Path.{_≡_, refl, sym, ap, subst, _∙_}
+use mathlib.Core.Bool.{Bool, true, false, cond, _||_}
+use mathlib.Core.List.{List, [], _++_, append-nil}
+use Prim.Native.Nat.{ℕ, _+_, _≤_, _<_}
+use native.Mathlib.Omega.{arith}
+use lib.Dec.{eqb, ltb}
+use lib.ListN.{length}
+use borrow.Author.Tests.{eq-eqb, ne-eqb, ltb-true}
+use Rattle.settings.specs.declared.Settings.{Settings}
+use Rattle.message.specs.declared.Message.{Message}
+use Rattle.message.specs.declared.Reply.{Reply}
+use Rattle.image.specs.Parse.{Parsed, Opens, Refuses, parse}
+use Rattle.brick.specs.Receive.{outcome, acted, givenBy, refusedWith, receiveRefusal}
+use Rattle.brick_log.specs.BrickRules.{replyTo}
+use Rattle.brick.specs.declared.Given.{Given}
+use Rattle.brick.specs.declared.Given.the-variants.{Answered, Silent, Refused}
+use Rattle.register.specs.Runs.{reply, repliedWith}
+use Rattle.bench_state.specs.State.{worldOf}
+use Rattle.bench_state.specs.Workers.{withSent}
+use Rattle.bench_state.specs.declared.Bench.{Bench}
+use Rattle.bench_sent.specs.Sent.{itemsOf}
+use Rattle.bench_sent.specs.Workers.{Added}
+use Rattle.bench_print.proofs.Laws.WrittenLaws.{written-nothing}
+use Rattle.bench_rules.specs.Play.{refuses}
+use Rattle.bench_rules.specs.Turning.{Lent, lent, worldIn}
+use Rattle.bench_rules.specs.Workers.{Turned}
+use Rattle.bench_rules.specs.declared.After.{After}
+use Rattle.bench_carry_message.specs.Workers.{Settled, maySend, sentAfter, toldOf}
+
+-- the two ways of an outcome: refused with every byte kept, or acted on an opened image
+module _ (s : Settings) (brick : ℕ) (l : List ℕ) (msg : Message) (block out : List ℕ) where
+  -- "A refusal returns its number alone and every image .. keeps its bytes."
+  pub refusal-keeps : (n : ℕ) → outcome s brick l msg block out .given ≡ Refused n → outcome s brick l msg block out .image ≡ l
+  unfolding outcome acted givenBy refusedWith
+  refusal-keeps n = go (eqb (receiveRefusal s brick l msg (length block) (length out)) 0) (parse s brick l)
+    where
+      never : (t : Bool) (r : Reply) → cond t Silent (Answered r) ≡ Refused n → ⊥
+      never true r e = let z : _≡_ {A = ℕ} 0 1 = cc in absurd (omega arith)
+      never false r e = let z : _≡_ {A = ℕ} 0 1 = cc in absurd (omega arith)
+
+      go : (t : Bool) (p : Parsed)
+          → cond t (acted s brick msg block l out p) (refusedWith (receiveRefusal s brick l msg (length block) (length out)) l out) .given ≡ Refused n
+          → cond t (acted s brick msg block l out p) (refusedWith (receiveRefusal s brick l msg (length block) (length out)) l out) .image ≡ l
+      go true (Opens x) e = absurd (never (eqb (msg .kind) 5) (replyTo s brick x msg) e)
+      go true (Refuses k) e = refl
+      go false p e = refl
+
+  -- "Trim t: no reply"
+  pub trim-silent : (r : Reply) → eqb (msg .kind) 5 ≡ true → outcome s brick l msg block out .given ≡ Answered r → ⊥
+  unfolding outcome acted givenBy refusedWith
+  trim-silent r q = go (eqb (receiveRefusal s brick l msg (length block) (length out)) 0) (parse s brick l)
+    where
+      never : (t : Bool) (a : Reply) → t ≡ true → cond t Silent (Answered a) ≡ Answered r → ⊥
+      never true a z e = let z : _≡_ {A = ℕ} 0 1 = cc in absurd (omega arith)
+      never false a z e = let y : _≡_ {A = ℕ} 0 1 = cc in absurd (omega arith)
+
+      go : (t : Bool) (p : Parsed)
+          → cond t (acted s brick msg block l out p) (refusedWith (receiveRefusal s brick l msg (length block) (length out)) l out) .given ≡ Answered r → ⊥
+      go true (Opens x) e = never (eqb (msg .kind) 5) (replyTo s brick x msg) q e
+      go true (Refuses k) e = let z : _≡_ {A = ℕ} 0 1 = cc in absurd (omega arith)
+      go false p e = let z : _≡_ {A = ℕ} 0 1 = cc in absurd (omega arith)
+
+  -- what may be sent stays within message 127
+  pub room : (k : ℕ) (g : Given) → k ≤ 127 → maySend (msg .kind) k ≡ true → g ≡ outcome s brick l msg block out .given → sentAfter k g ≤ 127
+  unfolding maySend sentAfter
+  room k (Answered r) h m e = go (eqb (msg .kind) 5) refl m
+    where
+      go : (t : Bool) → eqb (msg .kind) 5 ≡ t → t || ltb k 127 ≡ true → k + 1 ≤ 127
+      go true q z = absurd (trim-silent r q (sym e))
+      go false q z = let w = ltb-true k 127 z in omega arith
+  room k Silent h m e = h
+  room k (Refused n) h m e = h
+
+-- the two ways of the limit
+pub may-trim : (kind sent : ℕ) → kind ≡ 5 → true ≡ maySend kind sent
+unfolding maySend
+may-trim kind sent e = sym (rw (eq-eqb kind 5 e) refl)
+
+pub may-other : (kind sent : ℕ) → (kind ≡ 5 → ⊥) → ltb sent 127 ≡ maySend kind sent
+unfolding maySend
+may-other kind sent e = sym (rw (ne-eqb kind 5 e) refl)
+
+-- what the limit means for each answer
+pub room-answered : (k : ℕ) (g : Given) (r : Reply) → g ≡ Answered r → sentAfter k g ≤ 127 → k < 127
+unfolding sentAfter
+room-answered k g r e h = let q : sentAfter k g ≡ k + 1 = ap (sentAfter k) e in omega arith
+
+pub room-any : (k : ℕ) (g : Given) → sentAfter k g ≤ 127 → k ≤ 127
+unfolding sentAfter
+room-any k (Answered r) h = omega arith
+room-any k Silent h = h
+room-any k (Refused n) h = h
+
+module _ (b : Bench) (block numbers bytes : List ℕ) (at : ℕ) (out : List ℕ) where
+  none-more : (images kept : List ℕ) → worldIn b (lent images kept numbers bytes) ≡ worldOf b images kept (itemsOf (b .settings .size) numbers bytes (b .sent) ++ [])
+  unfolding worldIn
+  none-more images kept = ap (worldOf b images kept) (sym (append-nil (itemsOf (b .settings .size) numbers bytes (b .sent))))
+
+  -- a reply is one more item
+  pub settled-answered : (g : Given) (a : Reply) (bench : Bench) (numbers′ bytes′ : List ℕ) → g ≡ Answered a → length block ≡ b .settings .size
+      → b .sent < 127 → bench ≡ withSent b (b .sent + 1) → Added (b .sent) block numbers bytes numbers′ bytes′ (reply a block)
+      → Settled b g block numbers bytes at out (record { bench = bench; used = at }) numbers′ bytes′ out
+  unfolding repliedWith toldOf withSent worldIn worldOf
+  settled-answered g a bench numbers′ bytes′ e n h eb d =
+      subst (λ (v : Given). Settled b v block numbers bytes at out (record { bench = bench; used = at }) numbers′ bytes′ out) (sym e)
+      (record {
+        world-is = λ images kept. ap (λ (v : Bench). worldIn v (lent images kept numbers′ bytes′)) eb ∙ ap (worldOf b images kept) (d .items (b .settings .size) n);
+        settings-kept = ap (λ (v : Bench). v .settings) eb;
+        few = subst (λ (x : ℕ). x ≤ 127) (sym (ap (λ (v : Bench). v .sent) eb)) (omega arith);
+        text-is = sym (written-nothing at out);
+        used-is = omega arith;
+        short = omega arith;
+      })
+
+  -- silence leaves all
+  pub settled-silent : (g : Given) → g ≡ Silent → b .sent ≤ 127 → Settled b g block numbers bytes at out (record { bench = b; used = at }) numbers bytes out
+  unfolding repliedWith toldOf
+  settled-silent g e h =
+      subst (λ (v : Given). Settled b v block numbers bytes at out (record { bench = b; used = at }) numbers bytes out) (sym e)
+      (record {
+        world-is = none-more;
+        settings-kept = refl;
+        few = h;
+        text-is = sym (written-nothing at out);
+        used-is = omega arith;
+        short = omega arith;
+      })
+
+  -- a refusal is printed
+  pub settled-refused : (g : Given) (n : ℕ) (r : After) (out′ : List ℕ) → g ≡ Refused n
+      → ((l : Lent) → Turned b l at out (refuses (worldIn b l) n) r l out′)
+      → Settled b g block numbers bytes at out r numbers bytes out′
+  unfolding repliedWith toldOf refuses
+  settled-refused g n r out′ e t =
+      let u = t (lent [] [] [] []) in
+      subst (λ (v : Given). Settled b v block numbers bytes at out r numbers bytes out′) (sym e)
+      (record {
+        world-is = λ images kept. t (lent images kept numbers bytes) .world-is ∙ none-more images kept;
+        settings-kept = u .settings-kept;
+        few = u .few;
+        text-is = u .text-is;
+        used-is = u .used-is;
+        short = u .short;
+      })

@@ -1,0 +1,62 @@
+-- A carried message at its brick: what it needs of the bench, and what the brick's answer does to what was sent and printed.
+use mathlib.Core.Path.{_≡_}
+use mathlib.Core.Bool.{Bool, true, _||_}
+use mathlib.Core.List.{List, [], _++_}
+use Prim.Native.Nat.{ℕ, _+_, _≤_, _<_}
+use lib.Dec.{eqb, ltb}
+use lib.ListN.{length}
+use Rattle.message.specs.Kinds.{trimKind}
+use Rattle.message.specs.declared.Message.{Message}
+use Rattle.brick.specs.declared.Given.{Given}
+use Rattle.brick.specs.declared.Given.the-variants.{Answered, Silent, Refused}
+use Rattle.register.specs.Runs.{message, repliedWith}
+use Rattle.bench_state.specs.State.{upOf, worldOf}
+use Rattle.bench_state.specs.Workers.{Fits}
+use Rattle.bench_state.specs.declared.Bench.{Bench}
+use Rattle.bench_sent.specs.Sent.{blockAt, itemAt, itemsOf}
+use Rattle.bench_print.specs.Printing.{refusedText, written}
+use Rattle.bench_rules.specs.Play.{lastMessage}
+use Rattle.bench_rules.specs.Turning.{lent, worldIn}
+use Rattle.bench_rules.specs.declared.After.{After}
+
+-- a set that is played, without what the coordinators keep, for which a message has no use
+pub record Lends (b : Bench) (images numbers bytes : List ℕ) : Type 0 where
+  pub fits : Fits (b .settings)
+  pub few : b .sent ≤ 127
+  pub images-long : length images ≡ 10240
+  pub numbers-long : length numbers ≡ 1016
+  pub bytes-long : length bytes ≡ 3048
+
+-- every message but a Trim sends a reply, and that may be no message past 127
+unfoldable pub maySend : ℕ → ℕ → Bool
+maySend kind sent = eqb kind trimKind || ltb sent lastMessage
+
+-- item k is a message to a brick of the set that is up, and its reply may be sent
+pub record Reaching (b : Bench) (numbers bytes : List ℕ) (k brick : ℕ) (msg : Message) : Type 0 where
+  pub sent-before : k < b .sent
+  pub there : brick < b .settings .n
+  pub item-is : itemAt (b .settings .size) numbers bytes k ≡ message brick msg (blockAt (b .settings .size) bytes k)
+  pub is-up : upOf (b .up) brick ≡ true
+  pub may-send : maySend (msg .kind) (b .sent) ≡ true
+
+-- how many messages are sent after a brick's answer
+unfoldable pub sentAfter : ℕ → Given → ℕ
+sentAfter k (Answered r) = k + 1
+sentAfter k Silent = k
+sentAfter k (Refused number) = k
+
+-- what is printed of a brick's answer
+unfoldable pub toldOf : Given → List ℕ
+toldOf (Answered r) = []
+toldOf Silent = []
+toldOf (Refused number) = refusedText number
+
+-- what a brick gave is settled: a reply is one more item, a refusal is printed
+pub record Settled (b : Bench) (g : Given) (block numbers bytes : List ℕ) (at : ℕ) (out : List ℕ) (r : After) (numbers′ bytes′ out′ : List ℕ) : Type 0 where
+  pub world-is : (images kept : List ℕ) → worldIn (r .bench) (lent images kept numbers′ bytes′)
+      ≡ worldOf b images kept (itemsOf (b .settings .size) numbers bytes (b .sent) ++ repliedWith g block)
+  pub settings-kept : r .bench .settings ≡ b .settings
+  pub few : r .bench .sent ≤ 127
+  pub text-is : out′ ≡ written at (toldOf g) out
+  pub used-is : r .used ≡ at + length (toldOf g)
+  pub short : r .used ≤ at + 128

@@ -1,0 +1,177 @@
+-- Laws of `specs/AnswerLaws`.
+use mathlib.Core.Path.{_≡_, refl, sym, ap, ap₂, subst, _∙_}
+use mathlib.Core.Bool.{Bool, true, false, cond}
+use mathlib.Core.List.{List, [], _∷_, append-nil}
+use Prim.Native.Nat.{ℕ, zero, suc, _+_, _*_, _≤_, _<_}
+use native.Mathlib.Omega.{arith}
+use lib.Dec.{eqb, leb}
+use lib.ListN.{length, set, take, replicate, length-append, length-replicate, getD-replicate}
+use lib.Seq.{ext-getD, length-take-le, getD-take}
+use borrow.Author.Tests.{eq-eqb, ne-eqb, le-leb, lt-leb}
+use Rattle.settings.specs.declared.Settings.{Settings}
+use Rattle.message.specs.declared.Message.{Message}
+use Rattle.coord_apply.specs.Answers.{Held, Broadcast, Step, refused, went, answerOf, blocksAfter, stripeAfter, codedAfter}
+use Rattle.coord_apply.specs.declared.Answer.{Answer}
+use Rattle.register.specs.Driver.{driven, Short}
+use Rattle.register.proofs.Laws.DriverLaws.{coordinated-is-driven}
+use Rattle.register.specs.Runs.{Item, World, Event, Moved, step, coordinated, toAll}
+use Rattle.bench_print.specs.Printing.{endedText, written}
+use Rattle.bench_sent.proofs.Laws.SentItemLaws.{items-length}
+use Rattle.bench_sent.specs.Sent.{itemsOf}
+use Rattle.bench_sent.specs.Workers.{Sends}
+use Rattle.bench_state.specs.Workers.{Fits}
+use Rattle.bench_state.specs.State.{worldOf, heldAt}
+use Rattle.bench_state.specs.Workers.{withCoordinator, keptWith}
+use Rattle.bench_state.proofs.Laws.StateLaws.{held-put}
+use Rattle.bench_state.specs.declared.Bench.{Bench}
+use Rattle.bench_rules.specs.Play.{refuses, happens, acts}
+use Rattle.bench_rules.specs.Turning.{Lent, lent, worldIn}
+use Rattle.bench_rules.specs.Workers.{Turned}
+use Rattle.bench_rules.specs.declared.After.{After}
+use Rattle.bench_commit.specs.Workers.{answered, sentAfter}
+use Rattle.bench_commit.specs.Workers.{Round, Seats, Copies, Answers}
+
+-- a refusal has a number
+abbrev pub Numbered : Step → Type 0
+Numbered (refused number) = number ≡ 0 → ⊥
+Numbered (went g) = Unit {0}
+
+pub answered-is-acts : (s : Settings) (w : World) (e : Event) (c : ℕ) (p : Step) (old : List ℕ) → Short p → Numbered p → step s w e ≡ coordinated s w c p
+    → answered s w e c (answerOf (w .coordinators c .state) p) (blocksAfter (w .coordinators c) p) (stripeAfter (w .coordinators c) p) (codedAfter old p)
+    ≡ acts s w e c p
+unfolding answered acts happens answerOf stripeAfter
+answered-is-acts s w e c (refused number) old h n q = rw (ne-eqb number 0 n) refl
+answered-is-acts s w e c (went g) old h n q =
+    ap (λ (m : Moved s). cond (leb (length (m .world .sent)) 127) (record { world = m .world; events = e ∷ []; printed = endedText c (g .seen) (g .next .stripe) }) (refuses w 12))
+    (sym (coordinated-is-driven s w c (went g) old h) ∙ sym q)
+
+pub round-none : (s : Settings) (sent rounds : ℕ) (msg : Message) (coded numbers bytes : List ℕ) → rounds ≡ 0 → Round s sent rounds msg coded numbers bytes numbers bytes
+unfolding sentAfter
+round-none s sent rounds msg coded numbers bytes e =
+    record { items = rw (eq-eqb rounds 0 e) (sym (append-nil (itemsOf (s .size) numbers bytes sent))) }
+
+pub round-one : (s : Settings) (sent rounds : ℕ) (msg : Message) (coded numbers bytes numbers′ bytes′ : List ℕ) → (rounds ≡ 0 → ⊥)
+    → Sends sent (s .n) (s .size) msg coded numbers bytes numbers′ bytes′ → Round s sent rounds msg coded numbers bytes numbers′ bytes′
+unfolding sentAfter
+round-one s sent rounds msg coded numbers bytes numbers′ bytes′ e h = record { items = rw (ne-eqb rounds 0 e) (h .items s refl) }
+
+pub sent-none : (n sent rounds : ℕ) → rounds ≡ 0 → sent ≡ sentAfter n sent rounds
+unfolding sentAfter
+sent-none n sent rounds e = rw (eq-eqb rounds 0 e) refl
+
+pub sent-more : (n sent rounds : ℕ) → (rounds ≡ 0 → ⊥) → sent + n ≡ sentAfter n sent rounds
+unfolding sentAfter
+sent-more n sent rounds e = rw (ne-eqb rounds 0 e) refl
+
+to-all-length : (s : Settings) (b : Broadcast) (k : ℕ) → length (toAll s b k) ≡ k
+unfolding toAll
+to-all-length s b zero = refl
+to-all-length s b (suc k) = length-append (toAll s b k) _ ∙ (let e = to-all-length s b k in omega arith)
+
+-- the number of messages is known before anything is sent
+module _ (b : Bench) (l : Lent) (e : Event) (c : ℕ) (a : Answer) (blocks stripe coded : List ℕ) where
+  abbrev made : World
+  made = driven (b .settings) (worldIn b l) c a blocks stripe coded .world
+
+  made-sent : length (made .sent) ≡ sentAfter (b .settings .n) (b .sent) (a .sent)
+  unfolding driven worldIn worldOf sentAfter
+  made-sent =
+      length-append (itemsOf (b .settings .size) (l .numbers) (l .bytes) (b .sent)) _
+      ∙ ap (λ (k : ℕ). k + length (cond (eqb (a .sent) 0) [] (toAll (b .settings) (record { message = a .message; blocks = coded }) (b .settings .n)))) (items-length (b .settings .size) (l .numbers) (l .bytes) (b .sent))
+      ∙ go (eqb (a .sent) 0)
+    where
+      go : (t : Bool) → b .sent + length (cond t [] (toAll (b .settings) (record { message = a .message; blocks = coded }) (b .settings .n))) ≡ cond t (b .sent) (b .sent + b .settings .n)
+      go true = omega arith
+      go false = let q = to-all-length (b .settings) (record { message = a .message; blocks = coded }) (b .settings .n) in omega arith
+
+  -- refused with its number
+  pub answered-refused : (at : ℕ) (out out′ : List ℕ) (r : After) → (a .refusal ≡ 0 → ⊥)
+      → Turned b l at out (refuses (worldIn b l) (a .refusal)) r l out′ → Turned b l at out (answered (b .settings) (worldIn b l) e c a blocks stripe coded) r l out′
+  unfolding answered
+  answered-refused at out out′ r n t = rw (ne-eqb (a .refusal) 0 n) t
+
+  -- too many messages
+  pub answered-past : (at sent : ℕ) (out out′ : List ℕ) (r : After) → a .refusal ≡ 0 → sent ≡ sentAfter (b .settings .n) (b .sent) (a .sent) → 127 < sent
+      → Turned b l at out (refuses (worldIn b l) 12) r l out′ → Turned b l at out (answered (b .settings) (worldIn b l) e c a blocks stripe coded) r l out′
+  unfolding answered
+  answered-past at sent out out′ r z q h t =
+      rw (eq-eqb (a .refusal) 0 z, lt-leb (length (made .sent)) 127 (let m = made-sent in omega arith)) t
+
+  -- kept, sent and printed
+  pub answered-kept : (at sent used : ℕ) (out out′ kept′ numbers′ bytes′ : List ℕ) → a .refusal ≡ 0 → sent ≡ sentAfter (b .settings .n) (b .sent) (a .sent) → sent ≤ 127
+      → Fits (b .settings) → c < 4 → length (b .coordinators) ≡ 4 → length (l .kept) ≡ 256
+      → length blocks ≡ b .settings .n * b .settings .size → length stripe ≡ b .settings .m * b .settings .size
+      → Round (b .settings) (b .sent) (a .sent) (a .message) coded (l .numbers) (l .bytes) numbers′ bytes′
+      → kept′ ≡ keptWith c blocks stripe (l .kept)
+      → used ≡ at + length (endedText c (a .seen) stripe) → out′ ≡ written at (endedText c (a .seen) stripe) out → used ≤ at + 128
+      → Turned b l at out (answered (b .settings) (worldIn b l) e c a blocks stripe coded) (record { bench = withCoordinator b c (a .next) sent; used = used })
+      (lent (l .images) kept′ numbers′ bytes′) out′
+  unfolding answered withCoordinator worldIn worldOf driven
+  answered-kept at sent used out out′ kept′ numbers′ bytes′ z q few fits low four long eb es round ek eu eo short =
+      rw (eq-eqb (a .refusal) 0 z, le-leb (length (made .sent)) 127 (let m = made-sent in omega arith))
+      (record {
+        world-is = ap₂ make
+            (ap (heldAt (b .settings) (set (b .coordinators) c (a .next))) ek ∙ held-put (b .settings) (fits .small) (b .coordinators) (l .kept) blocks stripe c (a .next) low four long eb es)
+            (ap (itemsOf (b .settings .size) numbers′ bytes′) q ∙ round .items);
+        settings-kept = refl;
+        few = few;
+        text-is = eo;
+        used-is = eu;
+        short = short;
+      })
+    where
+      make : (ℕ → Held) → List Item → World
+      make f items = record { images = worldIn b l .images; up = worldIn b l .up; coordinators = f; sent = items }
+
+module _ (b : Bench) (c : ℕ) (a : Answer) (blocks stripe coded kept numbers bytes : List ℕ) (at : ℕ) (out : List ℕ)
+    (seats : Seats b c kept numbers bytes at out) where
+  pub answers-refused : (out′ : List ℕ) (r : After) → (a .refusal ≡ 0 → ⊥)
+      → ((l : Lent) → Turned b l at out (refuses (worldIn b l) (a .refusal)) r l out′) → Answers b c a blocks stripe coded kept numbers bytes at out r kept numbers bytes out′
+  answers-refused out′ r n t =
+      record { turned = λ images e. answered-refused b (lent images kept numbers bytes) e c a blocks stripe coded at out out′ r n (t (lent images kept numbers bytes)) }
+
+  pub answers-past : (sent : ℕ) (out′ : List ℕ) (r : After) → a .refusal ≡ 0 → sent ≡ sentAfter (b .settings .n) (b .sent) (a .sent) → 127 < sent
+      → ((l : Lent) → Turned b l at out (refuses (worldIn b l) 12) r l out′) → Answers b c a blocks stripe coded kept numbers bytes at out r kept numbers bytes out′
+  answers-past sent out′ r z q h t =
+      record { turned = λ images e. answered-past b (lent images kept numbers bytes) e c a blocks stripe coded at sent out out′ r z q h (t (lent images kept numbers bytes)) }
+
+  pub answers-kept : (sent used : ℕ) (bench : Bench) (out′ kept′ numbers′ bytes′ : List ℕ) → Copies (b .settings) blocks stripe coded
+      → a .refusal ≡ 0 → sent ≡ sentAfter (b .settings .n) (b .sent) (a .sent) → sent ≤ 127
+      → Round (b .settings) (b .sent) (a .sent) (a .message) coded numbers bytes numbers′ bytes′
+      → kept′ ≡ keptWith c blocks stripe kept
+      → used ≡ at + length (endedText c (a .seen) stripe) → out′ ≡ written at (endedText c (a .seen) stripe) out → used ≤ at + 128
+      → bench ≡ withCoordinator b c (a .next) sent → length (b .coordinators) ≡ 4
+      → Answers b c a blocks stripe coded kept numbers bytes at out (record { bench = bench; used = used }) kept′ numbers′ bytes′ out′
+  answers-kept sent used bench out′ kept′ numbers′ bytes′ copies z q few round ek eu eo short eb four =
+      record {
+        turned = λ images e.
+            subst
+            (λ (x : Bench). Turned b (lent images kept numbers bytes) at out (answered (b .settings) (worldIn b (lent images kept numbers bytes)) e c a blocks stripe coded)
+            (record { bench = x; used = used }) (lent images kept′ numbers′ bytes′) out′)
+            (sym eb)
+            (answered-kept b (lent images kept numbers bytes) e c a blocks stripe coded at sent used out out′ kept′ numbers′ bytes′ z q few (seats .fits) (seats .low) four
+            (seats .kept-long) (copies .blocks-long) (copies .stripe-long) round ek eu eo short);
+      }
+
+-- the same at another coordinator
+pub seat-at : (b : Bench) (c d : ℕ) (kept numbers bytes : List ℕ) (at : ℕ) (out : List ℕ) → Seats b c kept numbers bytes at out → d < 4 → Seats b d kept numbers bytes at out
+seat-at b c d kept numbers bytes at out s h =
+    record {
+      fits = s .fits;
+      few = s .few;
+      low = h;
+      kept-long = s .kept-long;
+      numbers-long = s .numbers-long;
+      bytes-long = s .bytes-long;
+      room = s .room;
+    }
+
+-- the front of a buffer of 32 zeros
+pub front-zeros : (k : ℕ) → k ≤ 32 → take {A = ℕ} k (replicate 32 0) ≡ replicate k 0
+front-zeros k h =
+    let t = length-take-le k (replicate {A = ℕ} 32 0) h in
+    ext-getD 0 (take k (replicate 32 0)) (replicate k 0) (t ∙ sym (length-replicate k 0))
+    (λ i u. getD-take k (replicate 32 0) i 0 (omega arith) ∙ getD-replicate 32 i 0 0 (omega arith) ∙ sym (getD-replicate k i 0 0 (omega arith)))
+
+pub front-long : (k : ℕ) → k ≤ 32 → k ≡ length (take {A = ℕ} k (replicate 32 0))
+front-long k h = sym (length-take-le k (replicate {A = ℕ} 32 0) h)

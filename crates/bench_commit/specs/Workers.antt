@@ -1,0 +1,77 @@
+-- What the answer of a coordinator's routine does on the bench, as the runs' driver makes it.
+use mathlib.Core.Bool.{cond}
+use mathlib.Core.List.{List, [], _∷_, _++_}
+use Prim.Native.Nat.{ℕ, _+_, _*_, _≤_, _<_}
+use lib.Dec.{eqb, leb}
+use lib.ListN.{length}
+use Rattle.settings.specs.Refusal.{badLine}
+use Rattle.settings.specs.declared.Settings.{Settings}
+use Rattle.coord_apply.specs.declared.Answer.{Answer}
+use Rattle.register.specs.Driver.{driven}
+use Rattle.register.specs.Runs.{World, Event, toAll}
+use Rattle.bench_print.specs.Printing.{endedText}
+use Rattle.bench_rules.specs.Play.{Played, refuses, lastMessage, acts}
+use Rattle.coord_apply.specs.Answers.{Held, Step}
+use Rattle.bench_state.specs.declared.Bench.{Bench}
+use Rattle.bench_rules.specs.Turning.{lent, worldIn}
+use Rattle.bench_rules.specs.Workers.{Turned}
+use Rattle.bench_rules.specs.declared.After.{After}
+use mathlib.Core.Path.{_≡_}
+use Rattle.message.specs.declared.Message.{Message}
+use Rattle.bench_sent.specs.Sent.{itemsOf}
+use Rattle.bench_state.specs.Workers.{Fits}
+
+-- refused with its number; refused with 12 where it would send past message 127; or kept, sent and printed
+unfoldable pub answered : Settings → World → Event → ℕ → Answer → List ℕ → List ℕ → List ℕ → Played
+answered s w e c a blocks stripe coded =
+    cond (eqb (a .refusal) 0)
+    (cond (leb (length (driven s w c a blocks stripe coded .world .sent)) lastMessage)
+    (record { world = driven s w c a blocks stripe coded .world; events = e ∷ []; printed = endedText c (a .seen) stripe })
+    (refuses w badLine))
+    (refuses w (a .refusal))
+
+-- how many messages are sent after a round, or after none
+unfoldable pub sentAfter : ℕ → ℕ → ℕ → ℕ
+sentAfter n sent rounds = cond (eqb rounds 0) sent (sent + n)
+
+-- an event with this step at coordinator c has been played, whatever the images are
+pub record Acted (b : Bench) (c : ℕ) (e : Event) (p : Held → Step) (kept numbers bytes : List ℕ) (at : ℕ) (out : List ℕ) (r : After)
+    (kept′ numbers′ bytes′ out′ : List ℕ) : Type 0 where
+  pub turned : (images : List ℕ)
+      → Turned b (lent images kept numbers bytes) at out
+      (acts (b .settings) (worldIn b (lent images kept numbers bytes)) e c (p (worldIn b (lent images kept numbers bytes) .coordinators c)))
+      r (lent images kept′ numbers′ bytes′) out′
+
+-- an event has been played, whatever the images are
+pub record Plays (b : Bench) (p : World → Played) (kept numbers bytes : List ℕ) (at : ℕ) (out : List ℕ) (r : After) (kept′ numbers′ bytes′ out′ : List ℕ) : Type 0 where
+  pub turned : (images : List ℕ)
+      → Turned b (lent images kept numbers bytes) at out (p (worldIn b (lent images kept numbers bytes))) r (lent images kept′ numbers′ bytes′) out′
+
+-- the items after a round, or after none
+pub record Round (s : Settings) (sent rounds : ℕ) (msg : Message) (coded numbers bytes numbers′ bytes′ : List ℕ) : Type 0 where
+  pub items : itemsOf (s .size) numbers′ bytes′ (sentAfter (s .n) sent rounds)
+      ≡ itemsOf (s .size) numbers bytes sent ++ cond (eqb rounds 0) [] (toAll s (record { message = msg; blocks = coded }) (s .n))
+
+-- what the functions at a coordinator are lent: a set that is played, and room for a line
+pub record Seats (b : Bench) (c : ℕ) (kept numbers bytes : List ℕ) (at : ℕ) (out : List ℕ) : Type 0 where
+  pub fits : Fits (b .settings)
+  pub few : b .sent ≤ 127
+  pub low : c < 4
+  pub kept-long : length kept ≡ 256
+  pub numbers-long : length numbers ≡ 1016
+  pub bytes-long : length bytes ≡ 3048
+  pub room : at + 128 ≤ length out
+
+-- the buffers that a routine works on
+pub record Copies (s : Settings) (blocks stripe coded : List ℕ) : Type 0 where
+  pub blocks-long : length blocks ≡ s .n * s .size
+  pub stripe-long : length stripe ≡ s .m * s .size
+  pub coded-long : length coded ≡ s .n * s .size
+
+-- an answer has done what it does, whatever the images are
+pub record Answers (b : Bench) (c : ℕ) (a : Answer) (blocks stripe coded kept numbers bytes : List ℕ) (at : ℕ) (out : List ℕ) (r : After)
+    (kept′ numbers′ bytes′ out′ : List ℕ) : Type 0 where
+  pub turned : (images : List ℕ) (e : Event)
+      → Turned b (lent images kept numbers bytes) at out
+      (answered (b .settings) (worldIn b (lent images kept numbers bytes)) e c a blocks stripe coded)
+      r (lent images kept′ numbers′ bytes′) out′

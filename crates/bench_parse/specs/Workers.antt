@@ -1,0 +1,148 @@
+-- What the code's answer stands for, and what a caller has of it.
+use mathlib.Core.Path.{_≡_}
+use mathlib.Core.Bool.{true, cond}
+use mathlib.Core.List.{List, [], _∷_}
+use Prim.Native.Nat.{ℕ, _+_, _≤_, _<_}
+use lib.Dec.{leb}
+use lib.ListN.{length, drop}
+use Rattle.bench_parse.specs.Lines.{every, longest, words, numberWord, numbersOf, hexWord, Line, setLine, writeLine, readLine, carryLine, crashLine, downLine, upLine, noLine}
+use Rattle.bench_parse.specs.declared.Line as code
+use Rattle.bench_parse.specs.declared.Line.the-variants.{Set, Write, Read, Carry, Crash, Down, Up, Unread}
+use Rattle.bench_parse.specs.declared.Number.{Number}
+use mathlib.Core.Bool.{Bool, false, _&&_}
+use Prim.Native.Nat.{suc}
+use lib.Dec.{eqb}
+use lib.ListN.{getD}
+use Rattle.bench_parse.specs.Lines.{space, areNumbers, numberIn, valueOf}
+use Rattle.bench_parse.specs.Lines.{setOf, writeOf, readOf, carryOf, oneOf, setText, writeText}
+use Rattle.bench_parse.specs.Lines.{readText, carryText, crashText, downText, upText}
+use Rattle.byte_lists.specs.Lists.{same}
+use Rattle.bench_parse.specs.declared.Line as code
+use Rattle.bench_parse.specs.declared.Numeral.{Numeral}
+use Rattle.bench_parse.specs.declared.Piece.{Piece}
+
+-- the words of a line from a place on, none behind its end
+unfoldable pub wordsFrom : List ℕ → ℕ → List (List ℕ)
+wordsFrom l at = cond (leb at (length l)) (words (drop at l)) []
+
+-- An answer names the place where a write's hex word, or the first number of a carry, begins.
+unfoldable pub lineOf : code.Line → List ℕ → Line
+lineOf (Set n m size capacity) l = setLine n m size capacity
+lineOf (Write c clock at) l = writeLine c clock (drop at l)
+lineOf (Read c clock brick) l = readLine c clock brick
+lineOf (Carry at) l = carryLine (numbersOf (words (drop at l)))
+lineOf (Crash c) l = crashLine c
+lineOf (Down b) l = downLine b
+lineOf (Up b) l = upLine b
+lineOf Unread l = noLine
+
+-- from that place on a carry line has numbers, one or more
+pub record CarryFrom (l : List ℕ) (at : ℕ) : Type 0 where
+  pub within : at ≤ length l
+  pub after : 6 ≤ at
+  pub short : length l ≤ longest
+  pub numbers : every numberWord (words (drop at l)) ≡ true
+
+-- from that place on a write line has a hex word
+pub record HexFrom (l : List ℕ) (at : ℕ) : Type 0 where
+  pub within : at ≤ length l
+  pub short : length l ≤ longest
+  pub digits : hexWord (drop at l) ≡ true
+
+-- the place that an answer names is such a place
+unfoldable pub Sound : code.Line → List ℕ → Type 0
+Sound (Set n m size capacity) l = Unit {0}
+Sound (Write c clock at) l = HexFrom l at
+Sound (Read c clock brick) l = Unit {0}
+Sound (Carry at) l = CarryFrom l at
+Sound (Crash c) l = Unit {0}
+Sound (Down b) l = Unit {0}
+Sound (Up b) l = Unit {0}
+Sound Unread l = Unit {0}
+
+-- a number of a carry line, and what follows it
+pub record NumberAt (l : List ℕ) (at : ℕ) (r : Number) : Type 0 where
+  pub starts : at < r .end
+  pub ends : r .end ≤ length l
+  pub splits : numbersOf (words (drop at l)) ≡ r .value ∷ numbersOf (wordsFrom l (r .end + 1))
+  pub later : r .end < length l → CarryFrom l (r .end + 1)
+
+-- The loop over the numbers, `while at <= line.len()`: what is left of them from a place on.
+pub record CarryRest (l : List ℕ) (at : ℕ) : Type 0 where
+  pub high : at ≤ length l + 1
+  pub begins : at ≤ length l → CarryFrom l at
+
+-- an answer, with what the line says
+pub record ReadAs (r : code.Line) (l : List ℕ) (said : Line) : Type 0 where
+  pub meaning : lineOf r l ≡ said
+  pub sound : Sound r l
+
+-- the bytes before the next space
+unfoldable pub wordLength : List ℕ → ℕ
+wordLength [] = 0
+wordLength (x ∷ t) = cond (eqb x space) 0 (suc (wordLength t))
+
+-- whether the first word is a number
+unfoldable pub startsNumber : List (List ℕ) → Bool
+startsNumber [] = false
+startsNumber (w ∷ ws) = numberWord w
+
+-- the words after the first
+unfoldable pub others : List (List ℕ) → List (List ℕ)
+others [] = []
+others (w ∷ ws) = ws
+
+-- what reading a number off the front of some words gives: whether there is one, its value, and the words that follow
+pub record Taken (ws rest : List (List ℕ)) (good : Bool) (value : ℕ) : Type 0 where
+  pub tests : good ≡ startsNumber ws
+  pub rest-is : good ≡ true → rest ≡ others ws
+  pub value-is : good ≡ true → value ≡ numberIn ws 0
+
+-- a word read as a number
+pub record NumeralOf (w : List ℕ) (r : Numeral) : Type 0 where
+  pub tests : r .good ≡ numberWord w
+  pub value-is : r .good ≡ true → r .value ≡ valueOf w
+
+-- a number looked for at a place of a line
+pub record NumberFrom (l : List ℕ) (at : ℕ) (r : Piece) : Type 0 where
+  pub taken : Taken (wordsFrom l at) (wordsFrom l (r .next)) (r .good) (r .value)
+  pub low : r .good ≡ true → at + 1 < r .next
+  pub high : r .next ≤ length l + 1
+
+-- the only word left, read as a number
+pub record AloneOf (ws : List (List ℕ)) (r : Numeral) : Type 0 where
+  pub tests : r .good ≡ areNumbers 1 ws
+  pub value-is : r .good ≡ true → r .value ≡ numberIn ws 0
+
+-- what every reader is given: the place of a word, or the one behind the end
+pub record Place (l : List ℕ) (at : ℕ) : Type 0 where
+  pub high : at ≤ length l + 1
+  pub short : length l ≤ longest
+
+-- one word, a hex word
+unfoldable pub hexAlone : List (List ℕ) → Bool
+hexAlone ws = eqb (length ws) 1 && hexWord (getD ws 0 [])
+
+-- whether the rest of a line from a place on is one
+pub record HexesFrom (l : List ℕ) (at : ℕ) (r : Bool) : Type 0 where
+  pub tests : r ≡ hexAlone (wordsFrom l at)
+  pub within : r ≡ true → at ≤ length l
+  pub digits : r ≡ true → hexWord (drop at l) ≡ true
+  pub only : r ≡ true → wordsFrom l at ≡ drop at l ∷ []
+
+-- the first word as a number, 0 for one that no line begins with
+unfoldable pub commandNumber : List ℕ → ℕ
+commandNumber w =
+    cond (same w setText) 1
+    (cond (same w writeText) 2
+    (cond (same w readText) 3
+    (cond (same w carryText) 4 (cond (same w crashText) 5 (cond (same w downText) 6 (cond (same w upText) 7 0))))))
+
+-- what such a line says
+unfoldable pub byNumber : ℕ → List (List ℕ) → Line
+byNumber k ws =
+    cond (eqb k 1) (setOf ws)
+    (cond (eqb k 2) (writeOf ws)
+    (cond (eqb k 3) (readOf ws)
+    (cond (eqb k 4) (carryOf ws)
+    (cond (eqb k 5) (oneOf crashLine ws) (cond (eqb k 6) (oneOf downLine ws) (cond (eqb k 7) (oneOf upLine ws) noLine))))))

@@ -1,0 +1,182 @@
+-- Laws of `specs/TurnLaws`.
+use mathlib.Core.Path.{_≡_, refl, sym, ap, subst, _∙_}
+use mathlib.Core.Bool.{Bool, true, false, cond}
+use mathlib.Core.List.{List, []}
+use Prim.Native.Nat.{ℕ}
+use native.Mathlib.Omega.{arith}
+use borrow.Author.Tests.{eq-eqb, ne-eqb}
+use Rattle.settings.specs.Refusal.{refuseUnless}
+use Rattle.settings.specs.declared.Settings.{Settings}
+use Rattle.bench_parse.specs.Lines.{Line, setLine, writeLine, readLine, carryLine, crashLine, downLine, upLine, noLine}
+use Rattle.bench_rules.specs.Play.{Played, refuses, writes, starts, crashesAt, switches, carriedAll, plays, playing, Turn, waits, begins, first, turn}
+use Rattle.bench_rules.specs.Turning.{Lent, lent, worldIn}
+use Rattle.bench_rules.specs.Workers.{Turned}
+use Rattle.bench_rules.specs.declared.After.{After}
+use Rattle.bench_print.proofs.Laws.WrittenLaws.{written-nothing}
+use Rattle.bench_sent.specs.Sent.{itemsOf}
+use Rattle.bench_state.specs.Workers.{Fits}
+use Rattle.bench_state.proofs.Laws.BenchRangeLaws.{bench-fits}
+use Rattle.bench_state.specs.State.{benchRange, worldOf}
+use Rattle.bench_state.specs.Workers.{benchRefusal, freshBench}
+use Rattle.bench_state.specs.declared.Bench.{Bench}
+use Rattle.register.specs.Runs.{goesDown, comesUp, fresh}
+use Rattle.bench_carry.specs.Workers.{Lined}
+use Rattle.bench_carry.proofs.Laws.CarryLaws.{turned-lined}
+use Rattle.bench_player.specs.Lining.{stageOf}
+use Rattle.bench_player.specs.Workers.{Staged, First}
+
+-- a line after an accepted set, by what it says
+module _ (b : Bench) (l l′ : Lent) (out out′ : List ℕ) (r : After) (said : Line) where
+  abbrev Done : Type 0
+  Done = Lined b l out (plays (b .settings) (worldIn b l) said) r l′ out′
+
+  by : (p : Played) → plays (b .settings) (worldIn b l) said ≡ p → Lined b l out p r l′ out′ → Done
+  by p e d = subst (λ (x : Played). Lined b l out x r l′ out′) (sym e) d
+
+  pub line-set : (n m size capacity : ℕ) → said ≡ setLine n m size capacity → Turned b l 0 out (refuses (worldIn b l) 12) r l′ out′ → Done
+  unfolding plays
+  line-set n m size capacity e t = by _ (ap (plays (b .settings) (worldIn b l)) e) (turned-lined b l l′ out out′ _ r t)
+
+  pub line-nothing : said ≡ noLine → Turned b l 0 out (refuses (worldIn b l) 12) r l′ out′ → Done
+  unfolding plays
+  line-nothing e t = by _ (ap (plays (b .settings) (worldIn b l)) e) (turned-lined b l l′ out out′ _ r t)
+
+  pub line-write : (c clock : ℕ) (digits : List ℕ) → said ≡ writeLine c clock digits → Turned b l 0 out (writes (b .settings) (worldIn b l) c clock digits) r l′ out′ → Done
+  unfolding plays
+  line-write c clock digits e t = by _ (ap (plays (b .settings) (worldIn b l)) e) (turned-lined b l l′ out out′ _ r t)
+
+  pub line-read : (c clock brick : ℕ) → said ≡ readLine c clock brick → Turned b l 0 out (starts (b .settings) (worldIn b l) c clock brick) r l′ out′ → Done
+  unfolding plays
+  line-read c clock brick e t = by _ (ap (plays (b .settings) (worldIn b l)) e) (turned-lined b l l′ out out′ _ r t)
+
+  pub line-carry : (ks : List ℕ) → said ≡ carryLine ks → Lined b l out (carriedAll (b .settings) (worldIn b l) ks) r l′ out′ → Done
+  unfolding plays
+  line-carry ks e d = by _ (ap (plays (b .settings) (worldIn b l)) e) d
+
+  pub line-crash : (c : ℕ) → said ≡ crashLine c → Turned b l 0 out (crashesAt (b .settings) (worldIn b l) c) r l′ out′ → Done
+  unfolding plays
+  line-crash c e t = by _ (ap (plays (b .settings) (worldIn b l)) e) (turned-lined b l l′ out out′ _ r t)
+
+  pub line-down : (brick : ℕ) → said ≡ downLine brick → Lined b l out (switches (b .settings) (worldIn b l) brick (goesDown brick)) r l′ out′ → Done
+  unfolding plays
+  line-down brick e d = by _ (ap (plays (b .settings) (worldIn b l)) e) d
+
+  pub line-up : (brick : ℕ) → said ≡ upLine brick → Lined b l out (switches (b .settings) (worldIn b l) brick (comesUp brick)) r l′ out′ → Done
+  unfolding plays
+  line-up brick e d = by _ (ap (plays (b .settings) (worldIn b l)) e) d
+
+-- a line while no set is accepted
+module _ (b : Bench) (out out′ : List ℕ) (r : After) (none : b .settings .n ≡ 0) where
+  waits-so : (number : ℕ) (said : Line) (images kept : List ℕ) → first said ≡ waits number → ((l : Lent) → Turned b l 0 out (refuses (worldIn b l) number) r l out′) → First said out r images kept out′
+  unfolding waits refuses stageOf
+  waits-so number said images kept e t =
+      record {
+        staged = λ numbers bytes.
+            (let d = turned-lined b (lent images kept numbers bytes) (lent images kept numbers bytes) out out′ _ r (t (lent images kept numbers bytes)) in
+            let zero-n = ap (λ (s : Settings). s .n) (d .settings-kept) ∙ none in
+            subst (λ (x : Turn). Staged x out r (lent images kept numbers bytes) out′) (sym e)
+            (record {
+              stage-is = rw (eq-eqb (r .bench .settings .n) 0 zero-n) refl;
+              few = d .few;
+              right = rw (eq-eqb (r .bench .settings .n) 0 zero-n) refl;
+              text-is = d .text-is;
+              used-is = d .used-is;
+              within = d .within;
+            }));
+      }
+
+  module _ (said : Line) (images kept : List ℕ) (t : (l : Lent) → Turned b l 0 out (refuses (worldIn b l) 12) r l out′) where
+    pub first-write : (c clock : ℕ) (digits : List ℕ) → said ≡ writeLine c clock digits → First said out r images kept out′
+    unfolding first
+    first-write c clock digits e = waits-so 12 said images kept (ap first e) t
+
+    pub first-read : (c clock brick : ℕ) → said ≡ readLine c clock brick → First said out r images kept out′
+    unfolding first
+    first-read c clock brick e = waits-so 12 said images kept (ap first e) t
+
+    pub first-carry : (ks : List ℕ) → said ≡ carryLine ks → First said out r images kept out′
+    unfolding first
+    first-carry ks e = waits-so 12 said images kept (ap first e) t
+
+    pub first-crash : (c : ℕ) → said ≡ crashLine c → First said out r images kept out′
+    unfolding first
+    first-crash c e = waits-so 12 said images kept (ap first e) t
+
+    pub first-down : (c : ℕ) → said ≡ downLine c → First said out r images kept out′
+    unfolding first
+    first-down c e = waits-so 12 said images kept (ap first e) t
+
+    pub first-up : (c : ℕ) → said ≡ upLine c → First said out r images kept out′
+    unfolding first
+    first-up c e = waits-so 12 said images kept (ap first e) t
+
+    pub first-nothing : said ≡ noLine → First said out r images kept out′
+    unfolding first
+    first-nothing e = waits-so 12 said images kept (ap first e) t
+
+  -- settings past the limits
+  pub first-bad : (n m size capacity bad : ℕ) (said : Line) (images kept : List ℕ) → said ≡ setLine n m size capacity
+      → bad ≡ benchRefusal (record { n = n; m = m; size = size; capacity = capacity }) → (bad ≡ 0 → ⊥)
+      → ((l : Lent) → Turned b l 0 out (refuses (worldIn b l) 1) r l out′) → First said out r images kept out′
+  unfolding first begins benchRefusal
+  first-bad n m size capacity bad said images kept e eb h t =
+      waits-so 1 said images kept (ap first e ∙ go (benchRange (record { n = n; m = m; size = size; capacity = capacity })) eb) t
+    where
+      go : (x : Bool) → bad ≡ refuseUnless x 1
+          → cond x (record { stage = playing (record { n = n; m = m; size = size; capacity = capacity }) (fresh (record { n = n; m = m; size = size; capacity = capacity })); events = []; printed = [] }) (waits 1) ≡ waits 1
+      go true q = absurd (h q)
+      go false q = refl
+
+-- a set that begins
+pub first-set : (s : Settings) (bad : ℕ) (out : List ℕ) (bench : Bench) (said : Line) (images kept : List ℕ) → said ≡ setLine (s .n) (s .m) (s .size) (s .capacity)
+    → bad ≡ benchRefusal s → bad ≡ 0 → bench ≡ freshBench s → worldOf bench images kept [] ≡ fresh s
+    → First said out (record { bench = bench; used = 0 }) images kept out
+unfolding first begins benchRefusal stageOf worldIn freshBench itemsOf
+first-set s bad out bench said images kept e eb z ef ew =
+    record {
+      staged = λ numbers bytes.
+          subst (λ (x : Turn). Staged x out (record { bench = bench; used = 0 }) (lent images kept numbers bytes) out) (sym (ap first e ∙ begun (benchRange s) refl eb))
+          (subst (λ (x : Bench). Staged fresh-turn out (record { bench = x; used = 0 }) (lent images kept numbers bytes) out) (sym ef)
+          (record {
+            stage-is = rw (ne-eqb (s .n) 0 (λ q. absurd (omega (arith, in-limits .range .code .n-low))))
+                (ap (playing s) (ap (λ (x : Bench). worldOf x images kept []) (sym ef) ∙ ew));
+            few = omega arith;
+            right = rw (limits, ne-eqb (s .n) 0 (λ q. absurd (omega (arith, in-limits .range .code .n-low)))) refl;
+            text-is = sym (written-nothing 0 out);
+            used-is = refl;
+            within = omega arith;
+          }));
+    }
+  where
+    fresh-turn : Turn
+    fresh-turn = record { stage = playing s (fresh s); events = []; printed = [] }
+
+    tested : (x : Bool) → bad ≡ refuseUnless x 1 → x ≡ true
+    tested true q = refl
+    tested false q = absurd (omega arith)
+
+    limits : benchRange s ≡ true
+    limits = tested (benchRange s) eb
+
+    in-limits : Fits s
+    in-limits = bench-fits s limits
+
+    begun : (x : Bool) → benchRange s ≡ x → bad ≡ refuseUnless x 1 → cond x fresh-turn (waits 1) ≡ fresh-turn
+    begun true q d = refl
+    begun false q d = absurd (omega arith)
+
+-- a line of a set is a turn of its stage
+pub lined-staged : (b : Bench) (l l′ : Lent) (out out′ : List ℕ) (r : After) (said : Line) → Fits (b .settings) → benchRange (b .settings) ≡ true
+    → Lined b l out (plays (b .settings) (worldIn b l) said) r l′ out′ → Staged (turn (playing (b .settings) (worldIn b l)) said) out r l′ out′
+unfolding turn stageOf
+lined-staged b l l′ out out′ r said fits q d =
+    let n = ap (λ (s : Settings). s .n) (d .settings-kept) in
+    let some : r .bench .settings .n ≡ 0 → ⊥ = λ z. absurd (omega (arith, n, z, fits .range .code .n-low)) in
+    record {
+      stage-is = rw (ne-eqb (r .bench .settings .n) 0 some) (ap (λ (s : Settings). playing s (worldIn (r .bench) l′)) (d .settings-kept) ∙ ap (playing (b .settings)) (d .world-is));
+      few = d .few;
+      right = rw (ne-eqb (r .bench .settings .n) 0 some) (ap benchRange (d .settings-kept) ∙ q);
+      text-is = d .text-is;
+      used-is = d .used-is;
+      within = d .within;
+    }

@@ -1,0 +1,27 @@
+-- What the inner workers of this crate ask and give.
+use mathlib.Core.Path.{_≡_}
+use mathlib.Core.Bool.{_||_, true}
+use mathlib.Core.List.{List}
+use Prim.Native.Nat.{ℕ, _≤_}
+use lib.Dec.{eqb}
+use lib.ListN.{length}
+use Rattle.bench_parse.specs.Lines.{Line}
+use Rattle.bench_rules.specs.Play.{Turn, first}
+use Rattle.bench_rules.specs.Turning.{Lent, lent}
+use Rattle.bench_print.specs.Printing.{written}
+use Rattle.bench_state.specs.State.{benchRange}
+use Rattle.bench_rules.specs.declared.After.{After}
+use Rattle.bench_player.specs.Lining.{stageOf}
+
+-- The bench after a line, by its stage.
+pub record Staged (t : Turn) (out : List ℕ) (r : After) (l′ : Lent) (out′ : List ℕ) : Type 0 where
+  pub stage-is : stageOf (r .bench) l′ ≡ t .stage
+  pub few : r .bench .sent ≤ 127
+  pub right : eqb (r .bench .settings .n) 0 || benchRange (r .bench .settings) ≡ true
+  pub text-is : out′ ≡ written 0 (t .printed) out
+  pub used-is : r .used ≡ length (t .printed)
+  pub within : r .used ≤ 65536
+
+-- the same, whatever the rows hold
+pub record First (said : Line) (out : List ℕ) (r : After) (images kept out′ : List ℕ) : Type 0 where
+  pub staged : (numbers bytes : List ℕ) → Staged (first said) out r (lent images kept numbers bytes) out′

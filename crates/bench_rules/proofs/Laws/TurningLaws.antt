@@ -1,0 +1,26 @@
+-- The short ways: one refusal, or nothing.
+use mathlib.Core.Path.{_≡_, refl, sym}
+use mathlib.Core.List.{List, []}
+use Prim.Native.Nat.{ℕ, _+_, _≤_}
+use native.Mathlib.Omega.{arith}
+use lib.ListN.{length}
+use Rattle.bench_print.specs.Printing.{refusedText, written}
+use Rattle.bench_print.proofs.Laws.WrittenLaws.{written-nothing}
+use Rattle.bench_state.specs.declared.Bench.{Bench}
+use Rattle.bench_rules.specs.Play.{refuses, passes}
+use Rattle.bench_rules.specs.Turning.{Lent, worldIn}
+use Rattle.bench_rules.specs.Workers.{Turned}
+
+-- one refusal
+pub turned-refused : (b : Bench) (l : Lent) (at number used : ℕ) (out out′ : List ℕ) → b .sent ≤ 127 → used ≡ at + length (refusedText number)
+    → out′ ≡ written at (refusedText number) out → used ≤ at + 128
+    → Turned b l at out (refuses (worldIn b l) number) (record { bench = b; used = used }) l out′
+unfolding refuses
+turned-refused b l at number used out out′ f e w h =
+    record { world-is = refl; settings-kept = refl; few = f; text-is = w; used-is = e; short = h }
+
+-- nothing
+pub turned-nothing : (b : Bench) (l : Lent) (at : ℕ) (out : List ℕ) → b .sent ≤ 127 → Turned b l at out (passes (worldIn b l)) (record { bench = b; used = at }) l out
+unfolding passes
+turned-nothing b l at out f =
+    record { world-is = refl; settings-kept = refl; few = f; text-is = sym (written-nothing at out); used-is = omega arith; short = omega arith }

@@ -1,0 +1,49 @@
+-- What the inner workers of this crate ask and give.
+use mathlib.Core.Path.{_≡_}
+use mathlib.Core.List.{List, [], _∷_, _++_}
+use Prim.Native.Nat.{ℕ, _+_, _*_, _≤_}
+use lib.ListN.{length}
+use Rattle.byte_lists.specs.Lists.{zeros, put}
+use Rattle.message.specs.Kinds.{writeKind}
+use Rattle.message.specs.declared.Message.{Message}
+use Rattle.message.specs.declared.Reply.{Reply}
+use Rattle.register.specs.Runs.{Item, message, toAll, blockFor}
+use Rattle.settings.specs.Count.{one-if}
+use Rattle.settings.specs.declared.Settings.{Settings}
+use Rattle.bench_sent.specs.Sent.{itemsOf}
+
+-- the numbers of a message to a brick, and of a reply
+unfoldable pub messageRow : ℕ → Message → List ℕ
+messageRow brick msg = 0 ∷ brick ∷ msg .kind ∷ msg .time ∷ msg .round ∷ msg .max ∷ 0 ∷ 0 ∷ []
+
+unfoldable pub replyRow : Reply → List ℕ
+replyRow r = 1 ∷ r .brick ∷ r .kind ∷ r .time ∷ r .round ∷ r .found ∷ one-if (r .yes) ∷ one-if (r .held) ∷ []
+
+-- the numbers with another row k; the bytes with other flags and another block in row k (what is behind a shorter block stays)
+unfoldable pub numbersWith : ℕ → List ℕ → List ℕ → List ℕ
+numbersWith k row numbers = put (k * 8) row numbers
+
+unfoldable pub bytesWith : ℕ → List ℕ → List ℕ → List ℕ → List ℕ
+bytesWith k flags block bytes = put (k * 24 + 16) block (put (k * 24) flags bytes)
+
+-- no targets: the flags of a reply's row
+unfoldable pub noFlags : List ℕ
+noFlags = zeros 16
+
+-- after a store at row k, the items are those before and one more
+pub record Added (k : ℕ) (block numbers bytes numbers′ bytes′ : List ℕ) (item : Item) : Type 0 where
+  pub items : (size : ℕ) → length block ≡ size → itemsOf size numbers′ bytes′ (k + 1) ≡ itemsOf size numbers bytes k ++ item ∷ []
+
+-- the blocks of n bricks are there, if they are sent: with a Write
+pub record Coded (n size : ℕ) (msg : Message) (coded : List ℕ) : Type 0 where
+  pub enough : msg .kind ≡ writeKind → n * size ≤ length coded
+
+-- after a broadcast from row k on, the items are those before and the message to each of the first n bricks
+pub record Sends (k n size : ℕ) (msg : Message) (coded numbers bytes numbers′ bytes′ : List ℕ) : Type 0 where
+  pub items : (s : Settings) → s .size ≡ size
+      → itemsOf size numbers′ bytes′ (k + n) ≡ itemsOf size numbers bytes k ++ toAll s (record { message = msg; blocks = coded }) n
+
+-- row at has the message to brick j, with its block
+pub record One (at j size : ℕ) (msg : Message) (coded numbers bytes numbers′ bytes′ : List ℕ) : Type 0 where
+  pub items : (s : Settings) → s .size ≡ size
+      → itemsOf size numbers′ bytes′ (at + 1) ≡ itemsOf size numbers bytes at ++ message j msg (blockFor s (record { message = msg; blocks = coded }) j) ∷ []

@@ -1,0 +1,56 @@
+-- Laws of `specs/RangeLaws`.
+use mathlib.Core.Path.{_≡_, refl, sym, ap, _∙_}
+use mathlib.Core.Bool.{Bool, true, false, _&&_}
+use Prim.Native.Nat.{ℕ, _≤_}
+use native.Mathlib.Omega.{arith}
+use native.Mathlib.Nat.{mul-le-mul}
+use lib.Dec.{leb}
+use borrow.Author.Tests.{leb-true}
+use Rattle.settings.specs.Ranges.{inRange, settingsRefusal}
+use Rattle.settings.proofs.Laws.RangeLaws.{settings-passed}
+use Rattle.byte_lists.proofs.Laws.BoolLaws.{and-left, and-right}
+use Rattle.settings.specs.Refusal.{refuseUnless}
+use Rattle.settings.specs.declared.Settings.{Settings}
+use Rattle.settings.proofs.Laws.RefusalLaws.{tested}
+use Rattle.image.specs.Image.{imageSize}
+use Rattle.bench_state.specs.State.{benchRange}
+use Rattle.bench_state.specs.Workers.{benchRefusal}
+use Rattle.bench_state.specs.Workers.{Fits}
+
+pub bench-bad : (s : Settings) (k : ℕ) → k ≡ settingsRefusal s → (k ≡ 0 → ⊥) → 1 ≡ benchRefusal s
+unfolding settingsRefusal benchRefusal benchRange
+bench-bad s k e h = go (inRange s) (leb (s .n) 4 && leb (s .size) 8 && leb (s .capacity) 4) e
+  where
+    go : (a b : Bool) → k ≡ refuseUnless a 1 → 1 ≡ refuseUnless (a && b) 1
+    go true b d = absurd (h d)
+    go false b d = refl
+
+pub bench-rest : (s : Settings) (k v : ℕ) → k ≡ settingsRefusal s → k ≡ 0
+    → v ≡ refuseUnless (leb (s .n) 4 && leb (s .size) 8 && leb (s .capacity) 4) 1 → v ≡ benchRefusal s
+unfolding settingsRefusal benchRefusal benchRange
+bench-rest s k v e h r = r ∙ go (inRange s) (leb (s .n) 4 && leb (s .size) 8 && leb (s .capacity) 4) e
+  where
+    go : (a b : Bool) → k ≡ refuseUnless a 1 → refuseUnless b 1 ≡ refuseUnless (a && b) 1
+    go true b d = refl
+    go false b d = absurd (omega arith)
+
+pub bench-fits : (s : Settings) → benchRange s ≡ true → Fits s
+unfolding benchRange settingsRefusal imageSize
+bench-fits s e =
+    let r = and-left (inRange s) _ e in
+    let t = and-right (inRange s) _ e in
+    let n = leb-true (s .n) 4 (and-left _ _ (and-left _ _ t)) in
+    let z = leb-true (s .size) 8 (and-right (leb (s .n) 4) _ (and-left _ _ t)) in
+    let k = leb-true (s .capacity) 4 (and-right (leb (s .n) 4 && leb (s .size) 8) _ t) in
+    let g = settings-passed s (ap (λ (b : Bool). refuseUnless b 1) r) in
+    let m : s .m ≤ 4 = (let h = g .code .m-high in omega arith) in
+    record {
+      in-range = r;
+      range = g;
+      small = record { bricks = n; blocks-fit = mul-le-mul n z; stripe-fits = mul-le-mul m z; log-fits = k; image-fits = omega arith };
+      size-fits = z;
+    }
+
+pub bench-passed : (s : Settings) (k : ℕ) → k ≡ benchRefusal s → k ≡ 0 → Fits s
+unfolding benchRefusal
+bench-passed s k e z = bench-fits s (tested (benchRange s) 0 (sym e ∙ z))

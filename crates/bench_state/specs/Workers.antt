@@ -1,0 +1,63 @@
+-- What the inner workers of this crate ask and give.
+use mathlib.Core.Bool.{true}
+use mathlib.Core.List.{List, [], _∷_}
+use Prim.Native.Nat.{ℕ, _+_, _*_, _<_, _≤_}
+use lib.ListN.{set, take, drop, length}
+use Rattle.settings.specs.Ranges.{inRange, SettingsRange}
+use Rattle.settings.specs.Refusal.{refuseUnless, badSetting}
+use Rattle.settings.specs.declared.Settings.{Settings}
+use Rattle.image.specs.Brick
+use Rattle.image.specs.Image.{imageOf, imageSize}
+use Rattle.coord_record.specs.declared.Coordinator.{Coordinator}
+use Rattle.register.specs.Runs.{fresh}
+use Rattle.byte_lists.specs.Lists.{put}
+use Rattle.bench_state.specs.declared.Bench.{Bench}
+use mathlib.Core.Path.{_≡_}
+use Rattle.bench_state.specs.State.{benchRange, idleAt}
+
+unfoldable pub benchRefusal : Settings → ℕ
+benchRefusal s = refuseUnless (benchRange s) badSetting
+
+-- the record of a set that begins: all bricks up, idle coordinators, nothing sent
+unfoldable pub freshBench : Settings → Bench
+freshBench s =
+    record {
+      settings = s;
+      up = 1 ∷ 1 ∷ 1 ∷ 1 ∷ [];
+      coordinators = idleAt 0 ∷ idleAt 1 ∷ idleAt 2 ∷ idleAt 3 ∷ [];
+      sent = 0;
+    }
+
+-- the record with another coordinator, another number of messages, or another flag of a brick
+unfoldable pub withCoordinator : Bench → ℕ → Coordinator → ℕ → Bench
+withCoordinator b c next sent = record { settings = b .settings; up = b .up; coordinators = set (b .coordinators) c next; sent = sent }
+
+unfoldable pub withSent : Bench → ℕ → Bench
+withSent b sent = record { settings = b .settings; up = b .up; coordinators = b .coordinators; sent = sent }
+
+unfoldable pub withUp : Bench → ℕ → ℕ → Bench
+withUp b brick flag = record { settings = b .settings; up = set (b .up) brick flag; coordinators = b .coordinators; sent = b .sent }
+
+-- what the coordinators keep, with another's reply blocks and stripe
+unfoldable pub keptWith : ℕ → List ℕ → List ℕ → List ℕ → List ℕ
+keptWith c blocks stripe kept = put (c * 64 + 32) stripe (put (c * 64) blocks kept)
+
+-- the first k bricks have fresh images
+pub record Begun (s : Settings) (images : List ℕ) (k : ℕ) : Type 0 where
+  pub long : length images ≡ 10240
+  pub images-fresh : (b : ℕ) → b < k → take (imageSize s) (drop (b * 2560) images) ≡ imageOf s b (Brick.fresh s)
+
+-- what the bench asks of its settings, as numbers
+pub record Small (s : Settings) : Type 0 where
+  pub bricks : s .n ≤ 4
+  pub blocks-fit : s .n * s .size ≤ 32
+  pub stripe-fits : s .m * s .size ≤ 32
+  pub log-fits : s .capacity ≤ 4
+  pub image-fits : imageSize s ≤ 2560
+
+-- what settings within the limits satisfy
+pub record Fits (s : Settings) : Type 0 where
+  pub in-range : inRange s ≡ true
+  pub range : SettingsRange s
+  pub small : Small s
+  pub size-fits : s .size ≤ 8

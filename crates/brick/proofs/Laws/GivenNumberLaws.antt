@@ -1,0 +1,55 @@
+-- Laws of `specs/Numbers`.
+use mathlib.Core.Path.{_≡_, refl, sym, ap, _∙_}
+use mathlib.Core.Bool.{Bool, true, false, cond}
+use mathlib.Core.List.{List}
+use Prim.Native.Nat.{ℕ}
+use lib.Dec.{eqb}
+use lib.ListN.{length}
+use borrow.Author.Tests.{eqb-true}
+use Rattle.settings.specs.declared.Settings.{Settings}
+use Rattle.settings.proofs.Laws.RefusalLaws.{passed-first, passed-rest}
+use Rattle.message.specs.Kinds.{trimKind}
+use Rattle.message.specs.declared.Message.{Message}
+use Rattle.image.specs.Parse.{Parsed, Opens, brickIn, parse, openRefusal}
+use Rattle.image.proofs.Laws.ParseLaws.{parse-opens}
+use Rattle.image.specs.Brick.{Brick}
+use Rattle.brick_log.specs.BrickRules.{replyTo}
+use Rattle.brick.specs.Receive.{blocksRefusal, receiveRefusal, refusedWith, givenBy, acted, outcome}
+use Rattle.brick.specs.declared.Given.the-variants.{Answered, Silent}
+use Rattle.brick.specs.Receive.{givenNumber}
+
+-- what an image that opens gives has number 0
+acted-number : (s : Settings) (brick : ℕ) (msg : Message) (block bytes out : List ℕ) (x : Brick)
+    → givenNumber (acted s brick msg block bytes out (Opens x) .given) ≡ 0
+unfolding givenNumber acted givenBy
+acted-number s brick msg block bytes out x = go (eqb (msg .kind) trimKind)
+  where
+    go : (b : Bool) → givenNumber (cond b Silent (Answered (replyTo s brick x msg))) ≡ 0
+    go true = refl
+    go false = refl
+
+image-opens : (s : Settings) (brick : ℕ) (bytes : List ℕ) (msg : Message) (a b : ℕ) → receiveRefusal s brick bytes msg a b ≡ 0
+    → openRefusal s brick bytes ≡ 0
+unfolding receiveRefusal
+image-opens s brick bytes msg a b e = passed-first (openRefusal s brick bytes) _ (passed-rest (blocksRefusal s a b) _ e)
+
+-- The answer's number is the first refusal's.
+pub outcome-number : (s : Settings) (brick : ℕ) (bytes : List ℕ) (msg : Message) (block out : List ℕ)
+    → givenNumber (outcome s brick bytes msg block out .given) ≡ receiveRefusal s brick bytes msg (length block) (length out)
+unfolding outcome givenNumber refusedWith
+outcome-number s brick bytes msg block out =
+    go (eqb (receiveRefusal s brick bytes msg (length block) (length out)) 0) refl
+  where
+    go : (b : Bool) → eqb (receiveRefusal s brick bytes msg (length block) (length out)) 0 ≡ b
+        → givenNumber
+        (cond b (acted s brick msg block bytes out (parse s brick bytes))
+        (refusedWith (receiveRefusal s brick bytes msg (length block) (length out)) bytes out)
+        .given)
+        ≡ receiveRefusal s brick bytes msg (length block) (length out)
+    go true e =
+        let z = eqb-true (receiveRefusal s brick bytes msg (length block) (length out)) 0 e in
+        ap (λ (p : Parsed). givenNumber (acted s brick msg block bytes out p .given))
+        (parse-opens s brick bytes (image-opens s brick bytes msg (length block) (length out) z))
+        ∙ acted-number s brick msg block bytes out (brickIn s bytes)
+        ∙ sym z
+    go false e = refl

@@ -1,0 +1,52 @@
+-- What the inner workers of this crate ask and give.
+use mathlib.Core.List.{List}
+use Prim.Native.Nat.{ℕ, _+_, _*_, _≤_, _<_}
+use lib.ListN.{getD, length}
+use Rattle.coord_apply.specs.Answers.{Held, nothingSeen, went, sentBlocks, answerOf}
+use Rattle.coord_record.specs.Records.{idleWith, noBricks}
+use Rattle.coord_record.specs.declared.Coordinator.{Coordinator}
+use Rattle.coord_decide.specs.declared.Decision.{Decision}
+use Rattle.message.specs.declared.Message.{Message}
+use Rattle.settings.specs.Ranges.{CodeRange}
+use mathlib.Core.Path.{_≡_}
+use Rattle.coord_apply.specs.declared.Answer.{Answer}
+use Rattle.coord_apply.specs.Acts.{roundMessage, nextOp, opened, acted}
+
+-- the answers that open a round and that end an operation
+unfoldable pub openAnswer : Coordinator → ℕ → ℕ → List ℕ → Answer
+openAnswer c phase max bricks =
+    record {
+      refusal = 0;
+      next = opened c phase max bricks;
+      sent = 1;
+      message = roundMessage (nextOp (c .op) phase max) noBricks;
+      seen = nothingSeen;
+    }
+
+unfoldable pub endAnswer : Coordinator → ℕ → List ℕ → ℕ → Message → Answer
+endAnswer c what bricks sent message =
+    record {
+      refusal = 0;
+      next = idleWith (c .clock);
+      sent = sent;
+      message = message;
+      seen = record { what = what; kind = c .op .kind; time = c .op .time; bricks = bricks };
+    }
+
+-- what holds where a decision is carried out: the numbers are the lengths of the reply blocks and of the stripe
+pub record Ready (n m size : ℕ) (c : Coordinator) (blocks stripe : ℕ) : Type 0 where
+  pub range : CodeRange n m size
+  pub first-low : c .op .first < n
+  pub round-low : c .op .round ≤ 1000
+  pub blocks-length : blocks ≡ n * size
+  pub stripe-length : stripe ≡ m * size
+
+-- the answer and the buffers are those of the decision
+pub record Acted (n m size : ℕ) (h : Held) (d : Decision) (coded : List ℕ) (r : Answer) (stripe′ coded′ : List ℕ) : Type 0 where
+  pub answer : r ≡ answerOf (h .state) (went (acted n m size h d))
+  pub stripe-left : stripe′ ≡ acted n m size h d .next .stripe
+  pub coded-left : coded′ ≡ sentBlocks (acted n m size h d .sent) coded
+
+-- the block of each of the first m bricks of a row is within the blocks
+pub record InPlace (m size : ℕ) (bricks blocks : List ℕ) : Type 0 where
+  pub within : (i : ℕ) → i < m → getD bricks i 0 * size + size ≤ length blocks

@@ -1,0 +1,71 @@
+-- The reply blocks and the stripe: a block put in its place stands there and the others are as they were; m right blocks give the stripe.
+use mathlib.Core.Path.{_≡_, refl, sym, ap, _∙_}
+use mathlib.Core.List.{List, [], _++_}
+use Prim.Native.Nat.{ℕ, zero, suc, _+_, _*_, _≤_, _<_}
+use native.Mathlib.Decide.{decLt}
+use native.Mathlib.Nat.{mul-le-mul-right, suc-mul, le-refl}
+use native.Mathlib.Omega.{arith}
+use lib.ListN.{length, getD, take, drop}
+use lib.Seq.{getD-take, length-take-le}
+use Rattle.byte_lists.specs.Lists.{put}
+use Rattle.byte_lists.proofs.Laws.PutLaws.{put-length, put-in, put-before, put-behind}
+use Rattle.coord_apply.specs.Acts.{gathered, stripeFrom, placed}
+use Rattle.erasure.specs.Code.{codedOf, decodedOf}
+use Rattle.erasure.specs.Code.{blockOf, Stripe, Bricks, blocksOf}
+use Rattle.erasure.proofs.Laws.Theorems.{decode-encode}
+use Rattle.interpolate.specs.Values.{PointSet}
+use Rattle.byte_lists.specs.Lists.{stacked}
+use Rattle.settings.specs.Ranges.{CodeRange}
+
+-- a brick's own block
+pub placed-same : (size b : ℕ) (block blocks : List ℕ) → length block ≡ size → b * size + size ≤ length blocks → blockOf size (placed size b block blocks) b ≡ block
+unfolding blockOf placed
+placed-same size b block blocks e h = put-in (b * size) size block blocks e (omega arith)
+
+pub placed-long : (size b : ℕ) (block blocks : List ℕ) → length block ≡ size → b * size + size ≤ length blocks → length (placed size b block blocks) ≡ length blocks
+unfolding placed
+placed-long size b block blocks e h = put-length (b * size) block blocks (omega arith)
+
+-- the others
+pub placed-other : (size b j : ℕ) (block blocks : List ℕ) → length block ≡ size → b * size + size ≤ length blocks → (j ≡ b → ⊥)
+    → blockOf size (placed size b block blocks) j ≡ blockOf size blocks j
+unfolding blockOf placed
+placed-other size b j block blocks e h n = go (decLt j b)
+  where
+    go : Dec (j < b) → take size (drop (j * size) (put (b * size) block blocks)) ≡ take size (drop (j * size) blocks)
+    go (yes l) = put-before (b * size) (j * size) size block blocks (let q = mul-le-mul-right size l in let s = suc-mul j size in omega arith) (omega arith)
+    go (no l) =
+        let above : b < j = omega arith in
+        put-behind (b * size) (j * size) size block blocks (let q = mul-le-mul-right size above in let s = suc-mul b size in omega arith) (omega arith)
+
+-- rows of blocks that agree
+stacked-ext : (k : ℕ) (f g : ℕ → List ℕ) → ((i : ℕ) → i < k → f i ≡ g i) → stacked k f ≡ stacked k g
+unfolding stacked
+stacked-ext zero f g h = refl
+stacked-ext (suc k) f g h =
+    ap (λ (l : List ℕ). l ++ f k) (stacked-ext k f g (λ i u. h i (omega arith))) ∙ ap (λ (l : List ℕ). stacked k g ++ l) (h k (le-refl _))
+
+-- THE STRIPE IS READ BACK: m different bricks whose blocks are those of a coded stripe decode to that stripe.
+pub stripe-read : (n m size : ℕ) (row blocks stripe : List ℕ) → CodeRange n m size → Stripe m size stripe → length row ≡ 16 → PointSet (take m row)
+    → ((i : ℕ) → i < m → getD row i 0 < n)
+    → ((i : ℕ) → i < m → blockOf size blocks (getD row i 0) ≡ blockOf size (codedOf n m size stripe) (getD row i 0))
+    → stripeFrom m size row blocks ≡ stripe
+unfolding stripeFrom gathered blocksOf
+stripe-read n m size row blocks stripe r s l p b h =
+    let few : m ≤ 16 = omega (arith, r .m-high, r .n-high) in
+    let long-row = length-take-le m row (omega arith) in
+    let agree : stacked m (λ (i : ℕ). blockOf size blocks (getD row i 0)) ≡ stacked (length (take m row)) (λ (i : ℕ). blockOf size (codedOf n m size stripe) (getD (take m row) i 0)) =
+    stacked-ext m (λ (i : ℕ). blockOf size blocks (getD row i 0)) (λ (i : ℕ). blockOf size (codedOf n m size stripe) (getD (take m row) i 0))
+    (λ i u. h i u ∙ ap (blockOf size (codedOf n m size stripe)) (sym (getD-take m row i 0 u)))
+    ∙ ap (λ (k : ℕ). stacked k (λ (i : ℕ). blockOf size (codedOf n m size stripe) (getD (take m row) i 0))) (sym long-row)
+    in
+    let bricks : Bricks n m (take m row) =
+    record {
+      some = omega (arith, r .n-low);
+      few = r .n-high;
+      count = long-row;
+      set = p;
+      below = λ i u. (let q = getD-take m row i 0 u in let z = b i u in omega arith);
+    }
+    in
+    ap (decodedOf m size (take m row)) agree ∙ decode-encode n m size stripe (take m row) s bricks

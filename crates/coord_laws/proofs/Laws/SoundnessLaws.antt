@@ -1,0 +1,364 @@
+-- Laws of `specs/Soundness`.
+use mathlib.Core.Path.{_≡_, refl, sym, ap, subst, _∙_}
+use mathlib.Core.Bool.{Bool, true, false, cond, _&&_, _||_}
+use mathlib.Core.List.{List, []}
+use mathlib.Core.Logic.{_⊎_, inl, inr}
+use Prim.Native.Nat.{ℕ, _-_, _≤_, _<_, max}
+use native.Mathlib.Omega.{arith}
+use lib.Dec.{eqb, leb, ltb}
+use lib.ListN.{length, getD, take, replicate, length-take, List·getD-eq-default}
+use borrow.Author.Tests.{eq-eqb, ne-eqb, le-leb, lt-ltb, le-ltb, eqb-false, leb-true, ltb-true, ltb-false}
+use Rattle.coord_apply.specs.Acts.{nextOp, opened, nextRound, ending, acted, withTally, counting, waitingOr, firstOp, starting}
+use Rattle.coord_apply.specs.Answers.{Held, Went, Step, refused, went, checked, nothingSeen, cutSeen}
+use Rattle.coord_refusals.specs.Checks.{recordChecks, writeRefusal, readRefusal, takeRefusal, crashRefusal}
+use Rattle.coordinator.specs.Routines.{drawnThen, writeStep, readStep, takeStep, crashed, crashStep}
+use Rattle.coordinator.proofs.Laws.RoutineLaws.{take-passed, first-low}
+use Rattle.coord_laws.proofs.Laws.OpCaseLaws.{in-read, in-order, in-recovery, first-recovery, next-recovery, write-stores, read-stores}
+use Rattle.coord_laws.specs.Soundness.{Sized}
+use Rattle.coord_laws.proofs.Laws.TallyLaws.{Answering, answering, ReplyParts, reply-parts, tallied-sized, tallied-right, zeros-at, zeros-counted, highest-valid}
+use Rattle.byte_lists.proofs.Laws.EachLaws.{each-all}
+use Rattle.coord_record.specs.Records.{noOp, noBricks, nothingCounted, idleWith}
+use Rattle.coord_record.specs.CountedRules.{entryRight, tallyRight, brickRight, bricksRight}
+use Rattle.coord_record.specs.Sound.{opRight, unsetOp, readRight, writeRight, timeRight, namedCount, sound}
+use Rattle.coord_record.proofs.Laws.SoundPartLaws.{sound-from}
+use Rattle.coord_record.specs.declared.Coordinator.{Coordinator}
+use Rattle.coord_record.specs.declared.Op.{Op}
+use Rattle.coord_record.specs.declared.Tally.{Tally}
+use Rattle.coord_tally.specs.Counting.{atTimes, passing, inRow, picked, targetFlags}
+use Rattle.coord_decide.specs.Deciding.{tallied, decided}
+use Rattle.coord_decide.specs.Decisions.{Says, Lowers, Recovers, found-time, holders}
+use Rattle.coord_decide.proofs.Laws.SaysLaws.{decided-says}
+use Rattle.coord_tally.proofs.Laws.RowSets.{picked-below, picked-rises}
+use Rattle.coord_decide.specs.declared.Decision.{Decision}
+use Rattle.coord_decide.specs.declared.Decision.the-variants.{Abort, Give, Look, Store, Recover, Finish}
+use Rattle.byte_lists.proofs.Laws.TabulateLaws.{getD-tabulate}
+use Rattle.message.specs.Flags.{members}
+use Rattle.message.specs.declared.Reply.{Reply}
+use Rattle.settings.specs.Count.{count}
+use Rattle.settings.proofs.Laws.QuorumLaws.{quorum-low}
+use Rattle.settings.specs.Ranges.{CodeRange}
+use Rattle.settings.proofs.Laws.RangeLaws.{code-passed}
+use Rattle.settings.specs.Ranges.{quorum, codeRefusal}
+use Rattle.settings.proofs.Laws.TimeLaws.{gave}
+use Rattle.settings.specs.Times.{maxCount, noUpperEnd, timeOf, validTime, nextCount, drawOf}
+use Rattle.settings.specs.declared.Clock.{Clock}
+use Rattle.settings.specs.declared.Draw.{Draw}
+use Rattle.settings.specs.declared.Draw.the-variants.{Drawn, Refused}
+use Rattle.settings.proofs.Laws.RefusalLaws.{passed-first}
+use Rattle.coord_laws.specs.Soundness.{Good, Full}
+
+pub none-sized : Sized nothingCounted
+unfolding nothingCounted
+none-sized = record { counted-size = refl; granted-size = refl; held-size = refl; found-size = refl }
+
+none-right : (n m phase first : ℕ) → tallyRight n m phase first nothingCounted ≡ true
+unfolding tallyRight nothingCounted entryRight
+none-right n m phase first =
+    each-all
+    (λ (b : ℕ). entryRight n m phase first b (getD (replicate 16 0) b 0) (getD (replicate 16 0) b 0) (getD (replicate 16 0) b 0) (getD (replicate 16 0) b 0))
+    16 (λ b l. rw (zeros-at 16 b))
+
+none-few : (n m size : ℕ) → CodeRange n m size → members (nothingCounted .counted) n < quorum n m
+unfolding nothingCounted
+none-few n m size r = let e = zeros-counted n in let q = quorum-low n m (r .m-high) in omega (arith, r .m-low)
+
+no-bricks-right : (n : ℕ) → bricksRight n 0 noBricks ≡ true
+unfolding bricksRight noBricks brickRight
+no-bricks-right n =
+    each-all (λ (i : ℕ). brickRight n 0 i (getD (replicate 16 0) (i - 1) 0) (getD (replicate 16 0) i 0)) 16
+    (λ i l. rw (le-ltb i 0 (omega arith), zeros-at 16 i))
+
+idle-op : opRight noOp ≡ true
+unfolding opRight noOp unsetOp
+idle-op = refl
+
+idle-time : (clock : Clock) → timeRight 0 0 clock ≡ true
+unfolding timeRight
+idle-time clock = refl
+
+idle-bricks : (n m : ℕ) → bricksRight n (namedCount m noOp) noBricks ≡ true
+unfolding namedCount noOp
+idle-bricks n m = no-bricks-right n
+
+-- An idle coordinator is good.
+pub idle-good : (n m size : ℕ) (clock : Clock) → CodeRange n m size → clock .coordinator ≤ 15 → clock .last ≤ maxCount → Good n m (idleWith clock)
+unfolding idleWith noOp
+idle-good n m size clock r a b =
+    record {
+      parts =
+          record {
+            number-low = a;
+            last-low = b;
+            first-low = omega (arith, r .n-low);
+            op-right = idle-op;
+            time-right = idle-time clock;
+            bricks-right = idle-bricks n m;
+            tally-right = none-right n m 0 0;
+            few-counted = none-few n m size r;
+          };
+      sizes = none-sized;
+    }
+
+-- the next round
+opened-good : (n m size phase max : ℕ) (c : Coordinator) (bricks : List ℕ) → CodeRange n m size → Full n m c → opRight (nextOp (c .op) phase max) ≡ true
+    → bricksRight n (namedCount m (nextOp (c .op) phase max)) bricks ≡ true → Good n m (opened c phase max bricks)
+unfolding opened nextOp
+opened-good n m size phase max c bricks r f o b =
+    record {
+      parts =
+          record {
+            number-low = f .number-low;
+            last-low = f .last-low;
+            first-low = f .first-low;
+            op-right = o;
+            time-right = f .time-right;
+            bricks-right = b;
+            tally-right = none-right n m phase (c .op .first);
+            few-counted = none-few n m size r;
+          };
+      sizes = none-sized;
+    }
+
+-- the bricks that a recovery names
+picked-past : (held found : List ℕ) (time n m i : ℕ) → m ≤ i → i < 16 → getD (picked held found time n m) i 0 ≡ 0
+unfolding picked inRow
+picked-past held found time n m i h l =
+    getD-tabulate 16 (λ (k : ℕ). getD (take m (passing (atTimes held found time) n)) k 0) i l
+    ∙ List·getD-eq-default (take m (passing (atTimes held found time) n)) 0 (let e = length-take m (passing (atTimes held found time) n) in omega arith)
+
+pub picked-right : (held found : List ℕ) (time n m : ℕ) → m ≤ 16 → m ≤ count (atTimes held found time) n → bricksRight n m (picked held found time n m) ≡ true
+unfolding bricksRight brickRight
+picked-right held found time n m few enough =
+    each-all (λ (i : ℕ). brickRight n m i (getD (picked held found time n m) (i - 1) 0) (getD (picked held found time n m) i 0)) 16
+    (λ i l. go i l (ltb i m) (eqb i 0) refl refl)
+  where
+    go : (i : ℕ) → i < 16 → (a z : Bool) → ltb i m ≡ a → eqb i 0 ≡ z
+        → cond a (ltb (getD (picked held found time n m) i 0) n && (z || ltb (getD (picked held found time n m) (i - 1) 0) (getD (picked held found time n m) i 0)))
+        (eqb (getD (picked held found time n m) i 0) 0) ≡ true
+    go i l true true ea ez = rw (lt-ltb (getD (picked held found time n m) i 0) n (picked-below held found time n m enough few i (ltb-true i m ea)))
+    go i l true false ea ez =
+        let h = ltb-true i m ea in
+        let p : i - 1 < i = (let q = eqb-false i 0 ez in omega arith) in
+        rw (
+          lt-ltb (getD (picked held found time n m) i 0) n (picked-below held found time n m enough few i h),
+          lt-ltb (getD (picked held found time n m) (i - 1) 0) (getD (picked held found time n m) i 0) (picked-rises held found time n m enough few (i - 1) i p h),
+        )
+    go i l false z ea ez = rw (picked-past held found time n m i (ltb-false i m ea) l)
+
+named-write : (m : ℕ) (op : Op) → op .kind ≡ 2 → namedCount m (nextOp op 4 0) ≡ 0
+unfolding namedCount nextOp
+named-write m op k = rw k
+
+named-read : (m : ℕ) (op : Op) → op .kind ≡ 1 → namedCount m (nextOp op 4 0) ≡ m
+unfolding namedCount nextOp
+named-read m op k = rw k
+
+named-look : (m max : ℕ) (op : Op) → namedCount m (nextOp op 3 max) ≡ 0
+unfolding namedCount nextOp
+named-look m max op = go (eqb (op .kind) 1)
+  where
+    go : (a : Bool) → cond (a && false) m 0 ≡ 0
+    go true = refl
+    go false = refl
+
+-- a max that is a time found is valid
+lowers-valid : (n m : ℕ) (op : Op) (t : Tally) (max : ℕ) → n ≤ 16 → tallyRight n m (op .phase) (op .first) t ≡ true → Lowers n m op t max → validTime max ≡ true
+unfolding found-time
+lowers-valid n m op t max few e w = ap validTime (w .time-is) ∙ highest-valid n m (op .phase) (op .first) t few e (λ q. w .not-first (w .time-is ∙ q))
+
+recovered-good : (n m size : ℕ) (c : Coordinator) (time : ℕ) → CodeRange n m size → Full n m c → Recovers n m (c .op) (c .tally) time
+    → Good n m (opened c 4 0 (picked (c .tally .held) (c .tally .found) time n m))
+unfolding holders
+recovered-good n m size c time r f s =
+    let i = in-recovery (c .op) (f .op-right) (s .phase-is) in
+    opened-good n m size 4 0 c (picked (c .tally .held) (c .tally .found) time n m) r f (read-stores (c .op) i (s .round-low))
+    (ap (λ (k : ℕ). bricksRight n k (picked (c .tally .held) (c .tally .found) time n m)) (named-read m (c .op) (i .kind-is))
+    ∙ picked-right (c .tally .held) (c .tally .found) time n m (omega (arith, r .m-high, r .n-high)) (s .enough))
+
+-- What a decision leaves is good.
+pub acted-good : (n m size : ℕ) (h : Held) → CodeRange n m size → Full n m (h .state)
+    → Good n m (acted n m size h (decided n m (h .state .op) (h .state .tally)) .next .state)
+unfolding acted ending nextRound Says
+acted-good n m size h r f = go (decided n m (h .state .op) (h .state .tally)) (decided-says n m (h .state .op) (h .state .tally))
+  where
+    idle : Good n m (idleWith (h .state .clock))
+    idle = idle-good n m size (h .state .clock) r (f .number-low) (f .last-low)
+
+    look : (max : ℕ) → opRight (nextOp (h .state .op) 3 max) ≡ true → Good n m (opened (h .state) 3 max noBricks)
+    look max o =
+        opened-good n m size 3 max (h .state) noBricks r f o (ap (λ (k : ℕ). bricksRight n k noBricks) (named-look m max (h .state .op)) ∙ no-bricks-right n)
+
+    looked : (max : ℕ) → ((h .state .op .phase ≡ 1) × (max ≡ noUpperEnd)) ⊎ Lowers n m (h .state .op) (h .state .tally) max → Good n m (opened (h .state) 3 max noBricks)
+    looked max (inl w) =
+        look max (ap (λ (x : ℕ). opRight (nextOp (h .state .op) 3 x)) (w .1) ∙ first-recovery (h .state .op) (in-read (h .state .op) (f .op-right) (w .0)))
+    looked max (inr w) =
+        look max (next-recovery (h .state .op) max (in-recovery (h .state .op) (f .op-right) (w .phase-is)) (w .round-low)
+        (lowers-valid n m (h .state .op) (h .state .tally) max (r .n-high) (f .tally-right) w))
+
+    go : (d : Decision) → Says n m (h .state .op) (h .state .tally) d → Good n m (acted n m size h d .next .state)
+    go Abort s = idle
+    go Give s = idle
+    go (Look max) s = looked max s
+    go Store s =
+        let i = in-order (h .state .op) (f .op-right) (s .phase-is) in
+        opened-good n m size 4 0 (h .state) noBricks r f (write-stores (h .state .op) i)
+        (ap (λ (k : ℕ). bricksRight n k noBricks) (named-write m (h .state .op) (i .kind-is)) ∙ no-bricks-right n)
+    go (Recover time) s = recovered-good n m size (h .state) time r f s
+    go Finish s = idle
+
+-- a reply counted
+pub counted-full : (n m size : ℕ) (c : Coordinator) (r : Reply) → CodeRange n m size → Good n m c → ReplyParts n r → Answering n m (c .op) (c .tally) r
+    → Full n m (withTally c (tallied (c .tally) r))
+unfolding withTally
+counted-full n m size c r g k p a =
+    record {
+      number-low = k .parts .number-low;
+      last-low = k .parts .last-low;
+      first-low = k .parts .first-low;
+      op-right = k .parts .op-right;
+      time-right = k .parts .time-right;
+      bricks-right = k .parts .bricks-right;
+      tally-right = tallied-right n m (c .op) (c .tally) r (g .n-high) (k .sizes) (k .parts .tally-right) p a;
+      sizes = tallied-sized (c .tally) r (k .sizes);
+    }
+
+pub waiting-good : (n m size : ℕ) (h : Held) → CodeRange n m size → Full n m (h .state) → Good n m (waitingOr n m size h .next .state)
+unfolding waitingOr
+waiting-good n m size h r f = go (ltb (members (h .state .tally .counted) n) (quorum n m)) refl
+  where
+    kept : members (h .state .tally .counted) n < quorum n m → Good n m (h .state)
+    kept l =
+        record {
+          parts =
+              record {
+                number-low = f .number-low;
+                last-low = f .last-low;
+                first-low = f .first-low;
+                op-right = f .op-right;
+                time-right = f .time-right;
+                bricks-right = f .bricks-right;
+                tally-right = f .tally-right;
+                few-counted = l;
+              };
+          sizes = f .sizes;
+        }
+
+    go : (b : Bool) → ltb (members (h .state .tally .counted) n) (quorum n m) ≡ b
+        → Good n m (cond b (record { next = h; sent = []; seen = nothingSeen }) (acted n m size h (decided n m (h .state .op) (h .state .tally))) .next .state)
+    go true e = kept (ltb-true (members (h .state .tally .counted) n) (quorum n m) e)
+    go false e = acted-good n m size h r f
+
+-- a step that is not refused passed its checks
+pub passes : (k : ℕ) (s : Step) (w : Went) → checked k s ≡ went w → (k ≡ 0) × (s ≡ went w)
+unfolding checked
+passes k s w e = go (leb k 0) refl e
+  where
+    go : (b : Bool) → leb k 0 ≡ b → cond b s (refused k) ≡ went w → (k ≡ 0) × (s ≡ went w)
+    go true l q = ((let z = leb-true k 0 l in omega arith), q)
+    go false l q = absurd (let z : _≡_ {A = ℕ} 0 1 = cc in omega arith)
+
+pub same-went : (v w : Went) → went v ≡ went w → v ≡ w
+same-went v w e = cc
+
+-- EVERY RECORD THAT A ROUTINE LEAVES IS SOUND. A reply:
+pub take-good : (n m size : ℕ) (h : Held) (r : Reply) (block : List ℕ) (coded : ℕ) (w : Went) → Good n m (h .state)
+    → takeStep n m size h r block coded ≡ went w → Good n m (w .next .state)
+unfolding takeStep counting
+take-good n m size h r block coded w g e =
+    let p = passes (takeRefusal n m size (h .state) r (length block) (length (h .blocks)) (length (h .stripe)) coded) _ w e in
+    let t = take-passed n m size (h .state) r (length block) (length (h .blocks)) (length (h .stripe)) coded _ refl (p .0) in
+    subst (λ (v : Went). Good n m (v .next .state)) (same-went (waitingOr n m size (counting size h r block)) w (p .1))
+    (waiting-good n m size (counting size h r block) (t .range)
+    (counted-full n m size (h .state) r (t .range) g (reply-parts n r (t .reply-right)) (answering n m (h .state .op) (h .state .tally) r (t .in-round))))
+
+-- A crash:
+pub crash-good : (n m size : ℕ) (h : Held) (w : Went) → Good n m (h .state) → crashStep n m size h ≡ went w → Good n m (w .next .state)
+unfolding crashStep crashed crashRefusal ending
+crash-good n m size h w g e = go (eqb (h .state .op .kind) 0) (p .1)
+  where
+    p : (crashRefusal n m size (h .state) ≡ 0) × (went (crashed h) ≡ went w)
+    p = passes (crashRefusal n m size (h .state)) (went (crashed h)) w e
+
+    range : CodeRange n m size
+    range = code-passed n m size (passed-first (codeRefusal n m size) (recordChecks n m (h .state) []) (p .0))
+
+    go : (b : Bool) → went (cond b (record { next = h; sent = []; seen = nothingSeen }) (ending h (h .stripe) [] cutSeen noBricks)) ≡ went w → Good n m (w .next .state)
+    go true q = subst (λ (v : Went). Good n m (v .next .state)) (same-went (record { next = h; sent = []; seen = nothingSeen }) w q) g
+    go false q =
+        subst (λ (v : Went). Good n m (v .next .state)) (same-went (ending h (h .stripe) [] cutSeen noBricks) w q)
+        (idle-good n m size (h .state .clock) range (g .parts .number-low) (g .parts .last-low))
+
+-- the time drawn is the record's own
+drawn-right : (kind t reading : ℕ) (clock next : Clock) → (kind ≡ 0 → ⊥) → drawOf clock reading ≡ Drawn t next → timeRight kind t next ≡ true
+unfolding timeRight nextCount
+drawn-right kind t reading clock next k e =
+    let g = gave clock reading t next e in
+    rw (ne-eqb kind 0 k, le-leb 1 (next .last) (omega (arith, g .count)), eq-eqb t (timeOf (next .last) (next .coordinator)) (g .time ∙ ap (timeOf (next .last)) (sym (g .same))))
+
+pub drawn-low : (t reading : ℕ) (clock next : Clock) → drawOf clock reading ≡ Drawn t next → (next .coordinator ≤ 15) × (next .last ≤ maxCount)
+unfolding nextCount maxCount
+drawn-low t reading clock next e =
+    let g = gave clock reading t next e in
+    (omega (arith, g .same, g .drew .coordinator-high), omega (arith, g .count, g .drew .last-high, g .drew .reading-high))
+
+begun-good : (n m size kind phase t first reading : ℕ) (clock next : Clock) → CodeRange n m size → (kind ≡ 0 → ⊥) → drawOf clock reading ≡ Drawn t next → first < n
+    → opRight (firstOp kind phase t first) ≡ true → namedCount m (firstOp kind phase t first) ≡ 0
+    → Good n m (record { clock = next; op = firstOp kind phase t first; tally = nothingCounted; bricks = noBricks })
+unfolding firstOp
+begun-good n m size kind phase t first reading clock next r k e f o z =
+    let l = drawn-low t reading clock next e in
+    record {
+      parts =
+          record {
+            number-low = l .0;
+            last-low = l .1;
+            first-low = f;
+            op-right = o;
+            time-right = drawn-right kind t reading clock next k e;
+            bricks-right = ap (λ (j : ℕ). bricksRight n j noBricks) z ∙ no-bricks-right n;
+            tally-right = none-right n m phase first;
+            few-counted = none-few n m size r;
+          };
+      sizes = none-sized;
+    }
+
+first-write : (m t : ℕ) → (opRight (firstOp 2 2 t 0) ≡ true) × (namedCount m (firstOp 2 2 t 0) ≡ 0)
+unfolding opRight writeRight firstOp namedCount
+first-write m t = (refl, refl)
+
+first-read : (m t first : ℕ) → (opRight (firstOp 1 1 t first) ≡ true) × (namedCount m (firstOp 1 1 t first) ≡ 0)
+unfolding opRight readRight firstOp namedCount
+first-read m t first = (refl, refl)
+
+-- what a draw led to
+pub drawn-went : (d : Draw) (f : ℕ → Clock → Went) (w : Went) → drawnThen d f ≡ went w → (t : ℕ) × (next : Clock) × (d ≡ Drawn t next) × (f t next ≡ w)
+unfolding drawnThen
+drawn-went (Drawn t next) f w e = (t, next, refl, same-went (f t next) w e)
+drawn-went (Refused k) f w e = absurd (let z : _≡_ {A = ℕ} 0 1 = cc in omega arith)
+
+-- A write:
+pub write-good : (n m size : ℕ) (h : Held) (reading : ℕ) (bytes : List ℕ) (w : Went) → writeStep n m size h reading bytes ≡ went w → Good n m (w .next .state)
+unfolding writeStep writeRefusal starting
+write-good n m size h reading bytes w e =
+    let f : ℕ → Clock → Went = λ time clock. starting h clock (firstOp 2 2 time 0) bytes noBricks in
+    let p = passes (writeRefusal n m size (h .state) reading (length bytes) (length (h .stripe))) (drawnThen (drawOf (h .state .clock) reading) f) w e in
+    let range = code-passed n m size (passed-first (codeRefusal n m size) _ (p .0)) in
+    let d = drawn-went (drawOf (h .state .clock) reading) f w (p .1) in
+    subst (λ (v : Went). Good n m (v .next .state)) (d .3)
+    (begun-good n m size 2 2 (d .0) 0 reading (h .state .clock) (d .1) range (λ q. absurd (omega arith)) (d .2) (omega (arith, range .n-low)) (first-write m (d .0) .0) (first-write m (d .0) .1))
+
+-- A read:
+pub read-good : (n m size : ℕ) (h : Held) (reading first : ℕ) (w : Went) → readStep n m size h reading first ≡ went w → Good n m (w .next .state)
+unfolding readStep readRefusal starting
+read-good n m size h reading first w e =
+    let f : ℕ → Clock → Went = λ time clock. starting h clock (firstOp 1 1 time first) (h .stripe) (targetFlags n m first) in
+    let p = passes (readRefusal n m size (h .state) reading first) (drawnThen (drawOf (h .state .clock) reading) f) w e in
+    let range = code-passed n m size (passed-first (codeRefusal n m size) _ (p .0)) in
+    let low = first-low n m size (h .state) reading first _ refl (p .0) in
+    let d = drawn-went (drawOf (h .state .clock) reading) f w (p .1) in
+    subst (λ (v : Went). Good n m (v .next .state)) (d .3)
+    (begun-good n m size 1 1 (d .0) first reading (h .state .clock) (d .1) range (λ q. absurd (omega arith)) (d .2) low (first-read m (d .0) first .0) (first-read m (d .0) first .1))
+
+-- and a good record is sound.
+pub good-sound : (n m : ℕ) (c : Coordinator) → Good n m c → sound n m c ≡ true
+good-sound n m c g = sound-from n m c (g .parts)

@@ -1,0 +1,322 @@
+-- Laws of `specs/StepLaws`.
+use mathlib.Core.Path.{_≡_, refl, sym, ap, _∙_}
+use mathlib.Core.Bool.{Bool, true, false, not, _&&_, _||_}
+use mathlib.Core.List.{List, [], _∷_}
+use Prim.Native.Nat.{ℕ, _+_, _*_, _≤_, _<_}
+use native.Mathlib.Nat.{mul-le-mul-right, suc-mul}
+use native.Mathlib.Omega.{arith}
+use lib.Dec.{eqb, leb, ltb}
+use lib.ListN.{length}
+use borrow.Author.Tests.{eq-eqb, ne-eqb, lt-leb, lt-ltb, le-ltb, eqb-true, ltb-true}
+use Rattle.coord_apply.specs.Acts.{heldOf}
+use Rattle.coord_apply.specs.Workers.{endAnswer, Ready, Acted}
+use Rattle.coord_apply.specs.Acts.{placed, withTally, counting, waitingOr, acted, ending, nextRound, firstOp, starting}
+use Rattle.coord_apply.specs.Answers.{Held, Went, Step, refused, went, checked, nothingSeen, noMessage, cutSeen, sentCount, sentMessage, sentBlocks, answerOf, blocksAfter, stripeAfter, codedAfter}
+use Rattle.coord_apply.specs.declared.Answer.{Answer}
+use Rattle.coord_record.specs.Records.{noBricks}
+use Rattle.coord_record.specs.Sound.{sound}
+use Rattle.coord_record.specs.SoundParts.{SoundParts}
+use Rattle.coord_record.proofs.Laws.SoundPartLaws.{sound-parts, round-high}
+use Rattle.coord_record.specs.declared.Coordinator.{Coordinator}
+use Rattle.coord_record.specs.declared.Op.{Op}
+use Rattle.coord_record.specs.declared.Tally.{Tally}
+use Rattle.coord_tally.specs.Counting.{targetFlags}
+use Rattle.coord_decide.specs.Deciding.{answers, tallied, decided}
+use Rattle.coord_decide.specs.declared.Decision.{Decision}
+use Rattle.coord_decide.specs.declared.Decision.the-variants.{Abort, Give, Look, Store, Recover, Finish}
+use Rattle.coord_refusals.proofs.Laws.RefusedLaws.{Recorded, record-passed}
+use Rattle.coord_refusals.specs.Checks.{recordChecks, writeRefusal, readRefusal, lengthsRight, strayChecks, takeRefusal, crashRefusal}
+use Rattle.coordinator.specs.Routines.{drawnThen, writeStep, readStep, takeStep, crashed, crashStep}
+use Rattle.message.specs.Flags.{members}
+use Rattle.message.specs.Messages.{replyRefusal}
+use Rattle.message.specs.declared.Reply.{Reply}
+use Rattle.settings.specs.Ranges.{CodeRange}
+use Rattle.settings.proofs.Laws.RangeLaws.{code-passed}
+use Rattle.byte_lists.proofs.Laws.BoolLaws.{and-left, and-right}
+use Rattle.settings.specs.Ranges.{codeRefusal, quorum}
+use Rattle.settings.specs.Refusal.{firstRefusal, refuseUnless}
+use Rattle.settings.specs.Times.{drawOf, numberOf}
+use Rattle.settings.specs.declared.Clock.{Clock}
+use Rattle.settings.specs.declared.Draw.{Draw}
+use Rattle.settings.specs.declared.Draw.the-variants.{Drawn, Refused}
+use Rattle.settings.proofs.Laws.RefusalLaws.{passed-first, passed-rest, tested}
+use Rattle.coordinator.specs.Workers.{keptAnswer, startAnswer, keptBlocks, Keeps}
+
+pub checked-stop : (k bad : ℕ) (s : Step) → bad ≡ k → (bad ≡ 0 → ⊥) → checked k s ≡ refused bad
+unfolding checked
+checked-stop k bad s e h = rw (← e, lt-leb bad 0 (omega arith))
+
+pub checked-pass : (k bad : ℕ) (s : Step) → bad ≡ k → bad ≡ 0 → checked k s ≡ s
+unfolding checked
+checked-pass k bad s e z = rw (← e, z)
+
+-- a record that passes
+low-sound : (n m : ℕ) (c : Coordinator) → leb (c .clock .coordinator) 15 ≡ true → sound n m c ≡ true → firstRefusal (recordChecks n m c []) ≡ 0
+unfolding recordChecks firstRefusal
+low-sound n m c a b = rw (a, b)
+
+pub record-passes : (n m : ℕ) (c : Coordinator) (more : List ℕ) → firstRefusal (recordChecks n m c more) ≡ 0 → Recorded n m c × (firstRefusal more ≡ 0)
+unfolding recordChecks
+record-passes n m c more e =
+    let a = passed-first (refuseUnless (leb (c .clock .coordinator) 15) 3) (refuseUnless (sound n m c) 6 ∷ more) e in
+    let b = passed-rest (refuseUnless (leb (c .clock .coordinator) 15) 3) (refuseUnless (sound n m c) 6 ∷ more) e in
+    let d = passed-first (refuseUnless (sound n m c) 6) more b in (
+      record-passed n m c 0 (sym (low-sound n m c (tested (leb (c .clock .coordinator) 15) 2 a) (tested (sound n m c) 5 d))) refl,
+      passed-rest (refuseUnless (sound n m c) 6) more b,
+    )
+
+-- what a reply that is not refused satisfies
+pub record Takes (n m size : ℕ) (c : Coordinator) (r : Reply) (block blocks stripe coded : ℕ) : Type 0 where
+  pub range : CodeRange n m size
+  pub blocks-length : blocks ≡ n * size
+  pub stripe-length : stripe ≡ m * size
+  pub coded-length : coded ≡ n * size
+  pub block-length : r .held ≡ true → block ≡ size
+  pub brick-low : r .brick < n
+  pub parts : SoundParts n m c
+  pub reply-right : replyRefusal n r ≡ 0
+  pub in-round : answers n m (c .op) (c .tally) r ≡ true
+
+held-length : (held : Bool) (block size : ℕ) → not held || eqb block size ≡ true → held ≡ true → block ≡ size
+held-length true block size e h = eqb-true block size e
+held-length false block size e h = let z : _≡_ {A = ℕ} 0 1 = cc in absurd (omega arith)
+
+pub take-passed : (n m size : ℕ) (c : Coordinator) (r : Reply) (block blocks stripe coded bad : ℕ) → bad ≡ takeRefusal n m size c r block blocks stripe coded
+    → bad ≡ 0 → Takes n m size c r block blocks stripe coded
+unfolding takeRefusal strayChecks lengthsRight
+take-passed n m size c r block blocks stripe coded bad e z =
+    let all = sym e ∙ z in
+    let code = passed-first (codeRefusal n m size) _ all in
+    let l = passed-rest (codeRefusal n m size) _ all in
+    let lengths = tested (lengthsRight n m size (r .held) block blocks stripe coded) 1 (passed-first (refuseUnless (lengthsRight n m size (r .held) block blocks stripe coded) 2) _ l) in
+    let b = passed-rest (refuseUnless (lengthsRight n m size (r .held) block blocks stripe coded) 2) _ l in
+    let brick = tested (ltb (r .brick) n) 2 (passed-first (refuseUnless (ltb (r .brick) n) 3) _ b) in
+    let s = record-passes n m c _ (passed-rest (refuseUnless (ltb (r .brick) n) 3) _ b) in
+    let three = and-left (eqb blocks (n * size) && eqb stripe (m * size) && eqb coded (n * size)) (not (r .held) || eqb block size) lengths in
+    let two = and-left (eqb blocks (n * size) && eqb stripe (m * size)) (eqb coded (n * size)) three in
+    record {
+      range = code-passed n m size code;
+      blocks-length = eqb-true blocks (n * size) (and-left (eqb blocks (n * size)) (eqb stripe (m * size)) two);
+      stripe-length = eqb-true stripe (m * size) (and-right (eqb blocks (n * size)) (eqb stripe (m * size)) two);
+      coded-length = eqb-true coded (n * size) (and-right (eqb blocks (n * size) && eqb stripe (m * size)) (eqb coded (n * size)) three);
+      block-length = held-length (r .held) block size (and-right (eqb blocks (n * size) && eqb stripe (m * size) && eqb coded (n * size)) (not (r .held) || eqb block size) lengths);
+      brick-low = ltb-true (r .brick) n brick;
+      parts = sound-parts n m c (s .0 .is-sound);
+      reply-right = passed-first (replyRefusal n r) _ (s .1);
+      in-round = tested (answers n m (c .op) (c .tally) r) 10 (passed-first (refuseUnless (answers n m (c .op) (c .tally) r) 11) [] (passed-rest (replyRefusal n r) _ (s .1)));
+    }
+
+-- a reply's block fits in its place
+pub place-fits : (n m size : ℕ) (c : Coordinator) (r : Reply) (block blocks stripe coded : ℕ) → Takes n m size c r block blocks stripe coded
+    → r .brick * size + size ≤ blocks
+place-fits n m size c r block blocks stripe coded t =
+    let q = mul-le-mul-right size (t .brick-low) in let s = suc-mul (r .brick) size in omega (arith, t .blocks-length)
+
+-- no decision touches the reply blocks
+pub acted-blocks : (n m size : ℕ) (h : Held) (d : Decision) → acted n m size h d .next .blocks ≡ h .blocks
+unfolding acted ending nextRound
+acted-blocks n m size h Abort = refl
+acted-blocks n m size h Give = refl
+acted-blocks n m size h (Look max) = refl
+acted-blocks n m size h Store = refl
+acted-blocks n m size h (Recover time) = refl
+acted-blocks n m size h Finish = refl
+
+pub keeps : (n m size : ℕ) (c : Coordinator) (r : Reply) (block blocks stripe coded bad : ℕ) → bad ≡ takeRefusal n m size c r block blocks stripe coded
+    → bad ≡ 0 → Keeps size r block blocks
+keeps n m size c r block blocks stripe coded bad e z =
+    let t = take-passed n m size c r block blocks stripe coded bad e z in
+    record { block-length = t .block-length; within = place-fits n m size c r block blocks stripe coded t }
+
+pub kept-held : (size : ℕ) (r : Reply) (block blocks blocks′ : List ℕ) → r .held ≡ true → blocks′ ≡ placed size (r .brick) block blocks
+    → blocks′ ≡ keptBlocks size r block blocks
+unfolding keptBlocks
+kept-held size r block blocks blocks′ h e = rw h e
+
+pub kept-none : (size : ℕ) (r : Reply) (block blocks : List ℕ) → r .held ≡ false → blocks ≡ keptBlocks size r block blocks
+unfolding keptBlocks
+kept-none size r block blocks h = rw h
+
+-- What a reply leads to: the answer and the three buffers.
+module _ (n m size : ℕ) (c : Coordinator) (r : Reply) (block blocks stripe coded : List ℕ) where
+  unfoldable pub stepHere : Step
+  stepHere = takeStep n m size (heldOf c blocks stripe) r block (length coded)
+
+  unfoldable pub Took : Answer → List ℕ → List ℕ → List ℕ → Type 0
+  Took a blocks′ stripe′ coded′ =
+      (a ≡ answerOf c stepHere)
+      × ((blocks′ ≡ blocksAfter (heldOf c blocks stripe) stepHere)
+      × ((stripe′ ≡ stripeAfter (heldOf c blocks stripe) stepHere) × (coded′ ≡ codedAfter coded stepHere)))
+
+  pub took-refused : (bad : ℕ) (a : Answer) → bad ≡ takeRefusal n m size c r (length block) (length blocks) (length stripe) (length coded) → (bad ≡ 0 → ⊥)
+      → a ≡ answerOf c (refused bad) → Took a blocks stripe coded
+  unfolding Took stepHere takeStep heldOf blocksAfter stripeAfter codedAfter
+  took-refused bad a e h q =
+      let s : stepHere ≡ refused bad = checked-stop _ bad _ e h in (
+        q ∙ ap (answerOf c) (sym s),
+        (ap (blocksAfter (heldOf c blocks stripe)) (sym s), (ap (stripeAfter (heldOf c blocks stripe)) (sym s), ap (codedAfter coded) (sym s))),
+      )
+
+  took-went : (w : Went) (a : Answer) (blocks′ stripe′ coded′ : List ℕ) → stepHere ≡ went w → a ≡ answerOf c (went w) → blocks′ ≡ w .next .blocks
+      → stripe′ ≡ w .next .stripe → coded′ ≡ sentBlocks (w .sent) coded → Took a blocks′ stripe′ coded′
+  unfolding Took blocksAfter stripeAfter codedAfter
+  took-went w a blocks′ stripe′ coded′ s ea eb es ec = (
+    ea ∙ ap (answerOf c) (sym s),
+    (
+      eb ∙ ap (blocksAfter (heldOf c blocks stripe)) (sym s),
+      (es ∙ ap (stripeAfter (heldOf c blocks stripe)) (sym s), ec ∙ ap (codedAfter coded) (sym s)),
+    ),
+  )
+
+  -- the reply counted: t is the tally, d the record and blocks′ the blocks with it
+  module _ (bad : ℕ) (e : bad ≡ takeRefusal n m size c r (length block) (length blocks) (length stripe) (length coded)) (z : bad ≡ 0)
+      (t : Tally) (et : t ≡ tallied (c .tally) r) (d : Coordinator) (ed : d ≡ withTally c t) (blocks′ : List ℕ) (eb : blocks′ ≡ keptBlocks size r block blocks) where
+    counted-is : counting size (heldOf c blocks stripe) r block ≡ heldOf d blocks′ stripe
+    unfolding counting heldOf keptBlocks
+    counted-is =
+        sym (ap (λ (b : List ℕ). heldOf d b stripe) eb ∙ ap (λ (x : Coordinator). heldOf x (keptBlocks size r block blocks) stripe) (ed ∙ ap (withTally c) et))
+
+    step-is : stepHere ≡ went (waitingOr n m size (heldOf d blocks′ stripe))
+    unfolding stepHere takeStep heldOf
+    step-is = checked-pass _ bad _ e z ∙ ap (λ (h : Held). went (waitingOr n m size h)) counted-is
+
+    pub ready-here : length blocks′ ≡ length blocks → Ready n m size d (length blocks′) (length stripe)
+    unfolding withTally
+    ready-here l =
+        let p = take-passed n m size c r (length block) (length blocks) (length stripe) (length coded) bad e z in
+        let same : d .op ≡ c .op = ap (λ (x : Coordinator). x .op) ed in
+        let f = ap (λ (o : Op). o .first) same in
+        let g = ap (λ (o : Op). o .round) same in
+        record {
+          range = p .range;
+          first-low = omega (arith, f, p .parts .first-low);
+          round-low = omega (arith, g, round-high (c .op) (p .parts .op-right));
+          blocks-length = l ∙ p .blocks-length;
+          stripe-length = p .stripe-length;
+        }
+
+    pub decided-here : (x : Decision) → x ≡ decided n m (c .op) t → x ≡ decided n m (d .op) (d .tally)
+    unfolding withTally
+    decided-here x q = q ∙ ap (λ (y : Coordinator). decided n m (y .op) (y .tally)) (sym ed)
+
+    module _ (k q : ℕ) (ek : k ≡ members (t .counted) n) (eq : q ≡ quorum n m) where
+      count-here : k ≡ members (d .tally .counted) n
+      unfolding withTally
+      count-here = ek ∙ ap (λ (y : Coordinator). members (y .tally .counted) n) (sym ed)
+
+      pub took-waiting : (a : Answer) → k < q → a ≡ keptAnswer d → Took a blocks′ stripe coded
+      unfolding waitingOr heldOf keptAnswer answerOf sentCount sentMessage sentBlocks
+      took-waiting a l ea =
+          took-went (record { next = heldOf d blocks′ stripe; sent = []; seen = nothingSeen }) a blocks′ stripe coded
+          (step-is ∙ ap went (rw (← count-here, ← eq, lt-ltb k q l))) ea refl refl refl
+
+      pub took-acted : (a : Answer) (x : Decision) (stripe′ coded′ : List ℕ) → q ≤ k → x ≡ decided n m (c .op) t
+          → Acted n m size (heldOf d blocks′ stripe) x coded a stripe′ coded′ → Took a blocks′ stripe′ coded′
+      unfolding waitingOr heldOf answerOf
+      took-acted a x stripe′ coded′ l ex ac =
+          took-went (acted n m size (heldOf d blocks′ stripe) x) a blocks′ stripe′ coded′
+          (step-is ∙ ap went (rw (← count-here, ← eq, le-ltb k q l) (ap (acted n m size (heldOf d blocks′ stripe)) (sym (decided-here x ex)))))
+          (ac .answer) (sym (acted-blocks n m size (heldOf d blocks′ stripe) x)) (ac .stripe-left) (ac .coded-left)
+
+crashed-idle : (h : Held) → h .state .op .kind ≡ 0 → crashed h ≡ record { next = h; sent = []; seen = nothingSeen }
+unfolding crashed
+crashed-idle h k = rw (eq-eqb (h .state .op .kind) 0 k)
+
+crashed-runs : (h : Held) → (h .state .op .kind ≡ 0 → ⊥) → crashed h ≡ ending h (h .stripe) [] cutSeen noBricks
+unfolding crashed
+crashed-runs h k = rw (ne-eqb (h .state .op .kind) 0 k)
+
+drawn-refused : (d : Draw) (f : ℕ → Clock → Went) (number : ℕ) → d ≡ Refused number → drawnThen d f ≡ refused number
+unfolding drawnThen
+drawn-refused d f number e = rw e
+
+drawn-given : (d : Draw) (f : ℕ → Clock → Went) (time : ℕ) (next : Clock) → d ≡ Drawn time next → drawnThen d f ≡ went (f time next)
+unfolding drawnThen
+drawn-given d f time next e = rw e
+
+-- a crash
+module _ (n m size : ℕ) (c : Coordinator) (blocks stripe : List ℕ) (bad : ℕ) (e : bad ≡ crashRefusal n m size c) where
+  pub crash-refused : (a : Answer) → (bad ≡ 0 → ⊥) → a ≡ answerOf c (refused bad) → a ≡ answerOf c (crashStep n m size (heldOf c blocks stripe))
+  unfolding crashStep heldOf
+  crash-refused a h q = q ∙ ap (answerOf c) (sym (checked-stop _ bad _ e h))
+
+  pub crash-idle : (a : Answer) → bad ≡ 0 → c .op .kind ≡ 0 → a ≡ keptAnswer c → a ≡ answerOf c (crashStep n m size (heldOf c blocks stripe))
+  unfolding crashStep heldOf keptAnswer answerOf sentCount sentMessage
+  crash-idle a z k q =
+      q ∙ ap (answerOf c) (sym (checked-pass _ bad _ e z ∙ ap went (crashed-idle (heldOf c blocks stripe) k)))
+
+  pub crash-cut : (a : Answer) → bad ≡ 0 → (c .op .kind ≡ 0 → ⊥) → a ≡ endAnswer c cutSeen noBricks 0 noMessage
+      → a ≡ answerOf c (crashStep n m size (heldOf c blocks stripe))
+  unfolding crashStep ending heldOf endAnswer answerOf sentCount sentMessage
+  crash-cut a z k q =
+      q ∙ ap (answerOf c) (sym (checked-pass _ bad _ e z ∙ ap went (crashed-runs (heldOf c blocks stripe) k)))
+
+-- a write starts
+module _ (n m size : ℕ) (c : Coordinator) (reading : ℕ) (bytes blocks stripe : List ℕ) (bad : ℕ)
+    (e : bad ≡ writeRefusal n m size c reading (length bytes) (length stripe)) where
+  pub write-refused : (a : Answer) → (bad ≡ 0 → ⊥) → a ≡ answerOf c (refused bad)
+      → (a ≡ answerOf c (writeStep n m size (heldOf c blocks stripe) reading bytes))
+      × (stripe ≡ stripeAfter (heldOf c blocks stripe) (writeStep n m size (heldOf c blocks stripe) reading bytes))
+  unfolding writeStep heldOf stripeAfter
+  write-refused a h q =
+      let s = checked-stop _ bad _ e h in (q ∙ ap (answerOf c) (sym s), ap (stripeAfter (heldOf c blocks stripe)) (sym s))
+
+  pub write-unread : (a : Answer) (number k : ℕ) → bad ≡ 0 → drawOf (c .clock) reading ≡ Refused number → k ≡ number → a ≡ answerOf c (refused k)
+      → (a ≡ answerOf c (writeStep n m size (heldOf c blocks stripe) reading bytes))
+      × (stripe ≡ stripeAfter (heldOf c blocks stripe) (writeStep n m size (heldOf c blocks stripe) reading bytes))
+  unfolding writeStep heldOf stripeAfter
+  write-unread a number k z ed ek q =
+      let s = checked-pass _ bad _ e z ∙ drawn-refused (drawOf (c .clock) reading) (λ (t : ℕ) (k : Clock). starting (heldOf c blocks stripe) k (firstOp 2 2 t 0) bytes noBricks) number ed in
+      (q ∙ ap (λ (j : ℕ). answerOf c (refused j)) ek ∙ ap (answerOf c) (sym s), ap (stripeAfter (heldOf c blocks stripe)) (sym s))
+
+  pub write-begun : (a : Answer) (time : ℕ) (next : Clock) (stripe′ : List ℕ) → bad ≡ 0 → drawOf (c .clock) reading ≡ Drawn time next → stripe′ ≡ bytes
+      → a ≡ startAnswer next (firstOp 2 2 time 0) noBricks
+      → (a ≡ answerOf c (writeStep n m size (heldOf c blocks stripe) reading bytes))
+      × (stripe′ ≡ stripeAfter (heldOf c blocks stripe) (writeStep n m size (heldOf c blocks stripe) reading bytes))
+  unfolding writeStep heldOf stripeAfter starting startAnswer answerOf sentCount sentMessage
+  write-begun a time next stripe′ z ed es q =
+      let s = checked-pass _ bad _ e z ∙ drawn-given (drawOf (c .clock) reading) (λ (t : ℕ) (k : Clock). starting (heldOf c blocks stripe) k (firstOp 2 2 t 0) bytes noBricks) time next ed in
+      (q ∙ ap (answerOf c) (sym s), es ∙ ap (stripeAfter (heldOf c blocks stripe)) (sym s))
+
+-- a read starts
+module _ (n m size : ℕ) (c : Coordinator) (reading first : ℕ) (blocks stripe : List ℕ) (bad : ℕ) (e : bad ≡ readRefusal n m size c reading first) where
+  pub read-refused : (a : Answer) → (bad ≡ 0 → ⊥) → a ≡ answerOf c (refused bad) → a ≡ answerOf c (readStep n m size (heldOf c blocks stripe) reading first)
+  unfolding readStep heldOf
+  read-refused a h q = q ∙ ap (answerOf c) (sym (checked-stop _ bad _ e h))
+
+  pub read-unread : (a : Answer) (number k : ℕ) → bad ≡ 0 → drawOf (c .clock) reading ≡ Refused number → k ≡ number → a ≡ answerOf c (refused k)
+      → a ≡ answerOf c (readStep n m size (heldOf c blocks stripe) reading first)
+  unfolding readStep heldOf
+  read-unread a number k z ed ek q =
+      q ∙ ap (λ (j : ℕ). answerOf c (refused j)) ek
+      ∙ ap (answerOf c) (sym (checked-pass _ bad _ e z ∙ drawn-refused (drawOf (c .clock) reading) (λ (t : ℕ) (k : Clock). starting (heldOf c blocks stripe) k (firstOp 1 1 t first) stripe (targetFlags n m first)) number ed))
+
+  pub read-begun : (a : Answer) (time : ℕ) (next : Clock) (targets : List ℕ) → bad ≡ 0 → drawOf (c .clock) reading ≡ Drawn time next
+      → targets ≡ targetFlags n m first → a ≡ startAnswer next (firstOp 1 1 time first) targets
+      → a ≡ answerOf c (readStep n m size (heldOf c blocks stripe) reading first)
+  unfolding readStep heldOf starting startAnswer answerOf sentCount sentMessage
+  read-begun a time next targets z ed et q =
+      q ∙ ap (startAnswer next (firstOp 1 1 time first)) et
+      ∙ ap (answerOf c) (sym (checked-pass _ bad _ e z ∙ drawn-given (drawOf (c .clock) reading) (λ (t : ℕ) (k : Clock). starting (heldOf c blocks stripe) k (firstOp 1 1 t first) stripe (targetFlags n m first)) time next ed))
+
+-- what a start that is not refused satisfies
+pub write-lengths : (n m size : ℕ) (c : Coordinator) (reading bytes stripe bad : ℕ) → bad ≡ writeRefusal n m size c reading bytes stripe → bad ≡ 0 → bytes ≡ stripe
+unfolding writeRefusal
+write-lengths n m size c reading bytes stripe bad e z =
+    let l = passed-rest (codeRefusal n m size) _ (sym e ∙ z) in
+    let t = tested (eqb bytes (m * size) && eqb stripe (m * size)) 1 (passed-first (refuseUnless (eqb bytes (m * size) && eqb stripe (m * size)) 2) _ l) in
+    eqb-true bytes (m * size) (and-left (eqb bytes (m * size)) (eqb stripe (m * size)) t)
+    ∙ sym (eqb-true stripe (m * size) (and-right (eqb bytes (m * size)) (eqb stripe (m * size)) t))
+
+pub first-low : (n m size : ℕ) (c : Coordinator) (reading first bad : ℕ) → bad ≡ readRefusal n m size c reading first → bad ≡ 0 → first < n
+unfolding readRefusal
+first-low n m size c reading first bad e z =
+    let l = passed-rest (codeRefusal n m size) _ (sym e ∙ z) in
+    ltb-true first n (tested (ltb first n) 2 (passed-first (refuseUnless (ltb first n) 3) _ l))
+
+pub start-by : (clock : Clock) (op op′ : Op) (targets : List ℕ) (a : Answer) → a ≡ startAnswer clock op targets → op ≡ op′ → a ≡ startAnswer clock op′ targets
+start-by clock op op′ targets a e eo = e ∙ ap (λ (o : Op). startAnswer clock o targets) eo
+
+pub refused-number : (d : Draw) (number k : ℕ) → d ≡ Refused number → k ≡ numberOf d → k ≡ number
+unfolding numberOf
+refused-number d number k e ek = ek ∙ ap numberOf e

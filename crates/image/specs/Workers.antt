@@ -1,0 +1,81 @@
+-- What the inner workers of this crate ask and give.
+use mathlib.Core.Bool.{Bool, cond, _&&_, _||_, true}
+use mathlib.Core.List.{List, _++_}
+use Prim.Native.Nat.{ℕ, _+_, _≤_, _-_}
+use lib.Dec.{ltb, eqb}
+use lib.ListN.{drop, replicate}
+use Rattle.settings.specs.Ranges.{inRange}
+use Rattle.settings.specs.declared.Settings.{Settings}
+use Rattle.image_block.specs.Block.{headBody, entryBody, unusedBody}
+use Rattle.byte_lists.specs.Lists.{same}
+use Rattle.image.specs.Brick.{Brick, count, savedTime, countSound}
+use Rattle.image.specs.Image.{imageSize}
+use Rattle.image.specs.Parse.{heldIn, Opens, parse, blockAt, checkedAt, timeIn}
+use Rattle.image.specs.declared.Entry.{Entry}
+use Rattle.image.specs.declared.Answer.the-variants.{Opened}
+use Rattle.image.specs.declared.Opening.{Opening}
+use mathlib.Core.Path.{_≡_}
+use Rattle.image.specs.declared.Head.{Head}
+use Rattle.byte_lists.specs.Each.{each}
+use Rattle.image.specs.Opening.{rowOf, blank, entryFor, workingLog}
+use Prim.Native.Nat.{_<_}
+use lib.ListN.{length}
+use Rattle.settings.specs.Ranges.{SettingsRange}
+use Rattle.image.specs.Brick.{Sound}
+use Rattle.image.specs.Image.{imageOf}
+use Rattle.image.specs.Parse.{brickIn}
+
+-- the time of entry i is above the one before it
+unfoldable pub rises : ℕ → ℕ → ℕ → Bool
+rises i last time = eqb i 0 || ltb last time
+
+-- the head, from its kind on, with that count and that promise
+unfoldable pub headFits : Settings → ℕ → List ℕ → ℕ → ℕ → Bool
+headFits s brick t n promise = countSound s n && savedTime promise && same (drop 2 t) (headBody s brick n promise)
+
+-- the block of entry i of n, from its kind on: an entry, or unused
+unfoldable pub slotFits : ℕ → List ℕ → ℕ → ℕ → ℕ → ℕ → Bool
+slotFits size t time i n last =
+    cond (ltb i n) (savedTime time && rises i last time && same (drop 2 t) (entryBody time (heldIn size t))) (same (drop 2 t) unusedBody)
+
+-- an answer that opened: the brick, and all that is known of it
+pub record Hub (s : Settings) (brick : ℕ) (l : List ℕ) (o : Opening) (h : Head) : Type 0 where
+  pub x : Brick
+  pub is : parse s brick l ≡ Opens x
+  pub saved : Rattle.image.specs.Parse.Opened s brick l x
+  pub counts : h .count ≡ count x
+  pub promises : h .promise ≡ x .promise
+  pub logs : o .log ≡ workingLog x
+  pub low : 1 ≤ h .count
+  pub high : h .count ≤ s .capacity
+  pub most : h .count ≤ 32
+
+-- the check of the block of entry i
+unfoldable pub checkAfter : List ℕ → ℕ → Bool
+checkAfter l i = checkedAt l (i + 1)
+
+-- whether the block of entry i is as it should be
+unfoldable pub slotAt : ℕ → List ℕ → ℕ → ℕ → Bool
+slotAt size l n i = slotFits size (blockAt l (i + 1)) (timeIn (blockAt l (i + 1))) i n (timeIn (blockAt l i))
+
+-- the working log's entry i
+unfoldable pub entryAt : List ℕ → ℕ → ℕ → Entry
+entryAt l n i = entryFor (timeIn (blockAt l (i + 1))) i n
+
+-- what the loop gives
+pub record Scanned (size cap : ℕ) (l : List ℕ) (n : ℕ) (checks fits : Bool) (log : List Entry) : Type 0 where
+  pub all-checked : checks ≡ each (checkAfter l) cap
+  pub all-fit : checks ≡ true → fits ≡ each (slotAt size l n) cap
+  pub the-log : checks ≡ true → log ≡ rowOf (entryAt l n) cap ++ replicate (32 - cap) blank
+
+-- The ways through the refusal of an image.
+-- what an image that opens satisfies
+pub record Opened (s : Settings) (brick : ℕ) (l : List ℕ) (x : Brick) : Type 0 where
+  pub in-range : inRange s ≡ true
+  pub range : SettingsRange s
+  pub long : length l ≡ imageSize s
+  pub brick-low : brick < s .n
+  pub checks : each (checkedAt l) (s .capacity + 1) ≡ true
+  pub is-read : x ≡ brickIn s l
+  pub keeps : Sound s x
+  pub is-image : l ≡ imageOf s brick x

@@ -1,0 +1,215 @@
+-- One message at one brick: the history grows by one fact at most, and what holds of the brick and of its reply.
+use mathlib.Core.Path.{_≡_, refl, sym, subst}
+use mathlib.Core.Logic.{_⊎_, inl, inr}
+use mathlib.Core.Bool.{Bool, true, false, cond}
+use mathlib.Core.List.{List, [], _∷_, _++_, append-nil, Memᴰ·append-left, Memᴰ·append-right, List·Memᴰ·head, List·Memᴰ·append-cases, List·Memᴰ·eq-of-singleton}
+use Prim.Native.Nat.{ℕ, zero, suc, _-_, _≤_, _<_}
+use native.Mathlib.Omega.{arith}
+use lib.Dec.{ltb}
+use lib.ListN.{length}
+use borrow.Author.Tests.{ltb-true, ltb-false, leb-true}
+use Rattle.settings.specs.Ranges.{SettingsRange}
+use Rattle.byte_lists.proofs.Laws.BoolLaws.{and-left, and-right}
+use Rattle.settings.specs.declared.Settings.{Settings}
+use Rattle.image.specs.Brick.{Brick, LogEntry, count, timeAt, heldAt, newest}
+use Rattle.image.specs.Brick.{Sound}
+use Rattle.image_write.specs.Saving
+use Rattle.brick_log.specs.BrickRules.{aboveNewest, notBelowPromise, hasFree, readYes, orderYes, writeYes, trimmed, trimmedTo, under}
+use Rattle.order.specs.Claim.{_∈_}
+use Rattle.order.specs.Facts.{Fact, promised, stored, showed, seen, shows}
+use Rattle.order.specs.Places.{Suf, whole, above, In}
+use Rattle.order.proofs.Laws.PlaceLaws.{in-top}
+use Rattle.order.specs.Valid.{Began, Launched, Committed, Gone, OkPromised, OkStored, OkShowed, Ok, Valid, next}
+use Rattle.order.proofs.Laws.GoneLaws.{gone-up}
+use Rattle.coord_apply.specs.Answers.{Held}
+use Rattle.register.specs.Runs.{plain, Item}
+use Rattle.register.proofs.Laws.Invariant.{quorums, Hist, Means, Stands, BrickInv, CoordinatorInv}
+use Rattle.register.proofs.Laws.UpLaws.{in-cons, means-up, stands-up, AtBrick, AtCoordinator, brick-up, coordinator-up}
+use Rattle.register.proofs.Laws.LogLaws.{trimmed-in, trimmed-keeps, newest-entry}
+
+-- The history grows by what concerns brick b alone, and nothing is seen of it.
+pub record Grows (s : Settings) (g : SettingsRange s) (b : ℕ) (h h′ : Hist s) : Type 0 where
+  pub valid : Valid (quorums s g) h′
+  pub longer : Suf h h′
+  pub same-seen : seen h′ ≡ seen h
+  pub others : (b′ : ℕ) → (b′ ≡ b → ⊥) → (x : Brick) → BrickInv s g h b′ x → BrickInv s g h′ b′ x
+  pub coordinators : (sent : List Item) (c : ℕ) (k : Held) → CoordinatorInv s g h sent c k → CoordinatorInv s g h′ sent c k
+
+module _ (s : Settings) (g : SettingsRange s) (b : ℕ) (h : Hist s) (v : Valid (quorums s g) h) where
+  pub grows-not : Grows s g b h h
+  grows-not = record { valid = v; longer = whole; same-seen = refl; others = λ b′ n x i. i; coordinators = λ sent c k i. i }
+
+  grows-by : (f : Fact (plain s)) → Ok (quorums s g) f h → seen (f ∷ h) ≡ seen h → ((b′ : ℕ) → AtBrick b′ f → b′ ≡ b)
+      → ((c : ℕ) → AtCoordinator c f → ⊥) → Grows s g b h (f ∷ h)
+  grows-by f o e at co =
+      record {
+        valid = next v o;
+        longer = above whole;
+        same-seen = e;
+        others = λ b′ n x i. brick-up (next v o) (λ a. n (at b′ a)) i;
+        coordinators = λ sent c k i. coordinator-up (next v o) (co c) i;
+      }
+
+  pub grows-promised : (t : ℕ) → OkPromised h b t → Grows s g b h (promised b t ∷ h)
+  unfolding seen shows
+  grows-promised t o = grows-by (promised b t) o (append-nil (seen h)) (λ b′ a. a) (λ c a. a)
+
+  pub grows-stored : (t : ℕ) → OkStored h b t → Grows s g b h (stored b t ∷ h)
+  unfolding seen shows
+  grows-stored t o = grows-by (stored b t) o (append-nil (seen h)) (λ b′ a. a) (λ c a. a)
+
+  pub grows-showed : (t c : ℕ) → OkShowed h b t c → Grows s g b h (showed b t c ∷ h)
+  unfolding seen shows
+  grows-showed t c o = grows-by (showed b t c) o (append-nil (seen h)) (λ b′ a. absurd a) (λ d a. a)
+
+-- the three comparisons
+pub order-above : (x : Brick) (t : ℕ) → orderYes x t ≡ true → (newest x < t) × (x .promise ≤ t)
+unfolding orderYes aboveNewest notBelowPromise
+order-above x t e = (ltb-true (newest x) t (and-left _ _ e), leb-true (x .promise) t (and-right (ltb (newest x) t) _ e))
+
+pub write-above : (s : Settings) (x : Brick) (t : ℕ) → writeYes s x t ≡ true → (newest x < t) × (x .promise ≤ t) × (count x < s .capacity)
+unfolding writeYes hasFree
+write-above s x t e =
+    let w = order-above x t (and-left _ _ e) in
+    (w .0, w .1, ltb-true (count x) (s .capacity) (and-right (orderYes x t) _ e))
+
+pub read-settled : (x : Brick) → readYes x ≡ true → x .promise ≤ newest x
+unfolding readYes notBelowPromise
+read-settled x e = leb-true (x .promise) (newest x) e
+
+module _ {s : Settings} {g : SettingsRange s} {b : ℕ} {h : Hist s} {x : Brick} (i : BrickInv s g h b x) (r : Sound s x) where
+  -- a yes to Order or Order-and-read
+  pub ok-promised : (t : ℕ) → Began h t → orderYes x t ≡ true → OkPromised h b t
+  ok-promised t k e = record { known = k; rising = λ u p. let w = i .bounded u p in omega (arith, order-above x t e .1) }
+
+  pub brick-promised : (t : ℕ) → Valid (quorums s g) (promised b t ∷ h) → orderYes x t ≡ true → BrickInv s g (promised b t ∷ h) b (Saving.promised x t)
+  unfolding Saving.promised
+  brick-promised t v e =
+      record {
+        bounded = λ u p. bound u (in-cons p);
+        entries = λ d m. let w = i .entries d m in (stands-up (above whole) (w .0), means-up (above whole) (w .1));
+        kept = λ u w. keep u (i .kept u (before u w));
+      }
+    where
+      bound : (u : ℕ) → (_≡_ {A = Fact (plain s)} (promised b u) (promised b t)) ⊎ In (promised b u) h → u ≤ t
+      bound u (inl q) = let z : u ≡ t = cc in omega arith
+      bound u (inr p) = let w = i .bounded u p in omega (arith, order-above x t e .1)
+
+      old : (u : ℕ) → (_≡_ {A = Fact (plain s)} (stored b u) (promised b t)) ⊎ In (stored b u) h → Stands h b u
+      old u (inl q) = let z : _≡_ {A = ℕ} 0 1 = cc in absurd (omega arith)
+      old u (inr p) = inr p
+
+      before : (u : ℕ) → Stands (promised b t ∷ h) b u → Stands h b u
+      before u (inl q) = inl q
+      before u (inr p) = old u (in-cons p)
+
+      keep : (u : ℕ) → ((d : LogEntry) × (d ∈ x .log) × (d .time ≡ u)) ⊎ Gone (quorums s g) h u
+          → ((d : LogEntry) × (d ∈ x .log) × (d .time ≡ u)) ⊎ Gone (quorums s g) (promised b t ∷ h) u
+      keep u (inl w) = inl w
+      keep u (inr w) = inr (gone-up v (above whole) w)
+
+  -- a yes to Write
+  pub ok-stored : (t : ℕ) → Launched h t → writeYes s x t ≡ true → OkStored h b t
+  ok-stored t k e = record { known = k; allowed = λ u p. let w = i .bounded u p in omega (arith, write-above s x t e .1) }
+
+  pub brick-stored : (t : ℕ) (block : List ℕ) → Valid (quorums s g) (stored b t ∷ h) → Means s h t b block
+      → BrickInv s g (stored b t ∷ h) b (Saving.appended x t block)
+  unfolding Saving.appended
+  brick-stored t block v means =
+      record {
+        bounded = λ u p. bound u (in-cons p);
+        entries = λ d m. entry d (List·Memᴰ·append-cases (x .log) m);
+        kept = λ u w. stood u w;
+      }
+    where
+      new : LogEntry
+      new = record { time = t; block = block }
+
+      bound : (u : ℕ) → (_≡_ {A = Fact (plain s)} (promised b u) (stored b t)) ⊎ In (promised b u) h → u ≤ x .promise
+      bound u (inl q) = let z : _≡_ {A = ℕ} 0 1 = cc in absurd (omega arith)
+      bound u (inr p) = i .bounded u p
+
+      entry : (d : LogEntry) → (d ∈ x .log) ⊎ (d ∈ (new ∷ [])) → Stands (stored b t ∷ h) b (d .time) × Means s (stored b t ∷ h) (d .time) b (d .block)
+      entry d (inl m) = let w = i .entries d m in (stands-up (above whole) (w .0), means-up (above whole) (w .1))
+      entry d (inr m) =
+          subst (λ (z : LogEntry). Stands (stored b t ∷ h) b (z .time) × Means s (stored b t ∷ h) (z .time) b (z .block))
+          (sym (List·Memᴰ·eq-of-singleton m)) (inr in-top, means-up (above whole) means)
+
+      keep : (u : ℕ) → ((d : LogEntry) × (d ∈ x .log) × (d .time ≡ u)) ⊎ Gone (quorums s g) h u
+          → ((d : LogEntry) × (d ∈ (x .log ++ new ∷ [])) × (d .time ≡ u)) ⊎ Gone (quorums s g) (stored b t ∷ h) u
+      keep u (inl w) = inl (w .0, Memᴰ·append-left (new ∷ []) (w .1), w .2)
+      keep u (inr w) = inr (gone-up v (above whole) w)
+
+      one : (u : ℕ) → (_≡_ {A = Fact (plain s)} (stored b u) (stored b t)) ⊎ In (stored b u) h
+          → ((d : LogEntry) × (d ∈ (x .log ++ new ∷ [])) × (d .time ≡ u)) ⊎ Gone (quorums s g) (stored b t ∷ h) u
+      one u (inl q) = let z : t ≡ u = cc in inl (new, Memᴰ·append-right (x .log) (List·Memᴰ·head refl), z)
+      one u (inr p) = keep u (i .kept u (inr p))
+
+      stood : (u : ℕ) → Stands (stored b t ∷ h) b u
+          → ((d : LogEntry) × (d ∈ (x .log ++ new ∷ [])) × (d .time ≡ u)) ⊎ Gone (quorums s g) (stored b t ∷ h) u
+      stood u (inl q) = keep u (i .kept u (inl q))
+      stood u (inr p) = one u (in-cons p)
+
+  -- a yes to Read
+  pub ok-showed : (t : ℕ) → Began h t → readYes x ≡ true → OkShowed h b t (newest x)
+  unfolding count
+  ok-showed t k e =
+      let w = newest-entry x (r .count-low) in
+      record {
+        known = k;
+        has = subst (λ (z : ℕ). (z ≡ 0) ⊎ In (stored b z) h) (w .2) (i .entries (w .0) (w .1) .0);
+        settled = λ u p. let q = i .bounded u p in omega (arith, read-settled x e);
+      }
+
+  -- what the newest entry holds
+  pub newest-means : Means s h (newest x) b (heldAt x (count x - 1))
+  unfolding count
+  newest-means =
+      let w = newest-entry x (r .count-low) in
+      subst (λ (z : ℕ). Means s h z b (heldAt x (length (x .log) - 1))) (w .2)
+      (subst (λ (z : List ℕ). Means s h (w .0 .time) b z) (w .3) (i .entries (w .0) (w .1) .1))
+
+  -- a Trim of a committed time drops only what is gone
+  pub brick-trimmed : (t : ℕ) → Committed (quorums s g) h t → BrickInv s g h b (trimmedTo x t)
+  unfolding trimmedTo
+  brick-trimmed t c =
+      record {
+        bounded = i .bounded;
+        entries = λ d m. i .entries d (trimmed-in t (x .log) d m);
+        kept = λ u w. keep u (i .kept u w);
+      }
+    where
+      left : (u : ℕ) (d : LogEntry) → d .time ≡ u → (d ∈ trimmed t (x .log)) ⊎ (d .time < t)
+          → ((d : LogEntry) × (d ∈ trimmed t (x .log)) × (d .time ≡ u)) ⊎ Gone (quorums s g) h u
+      left u d e (inl m) = inl (d, m, e)
+      left u d e (inr l) = inr (inl (t, omega arith, c))
+
+      keep : (u : ℕ) → ((d : LogEntry) × (d ∈ x .log) × (d .time ≡ u)) ⊎ Gone (quorums s g) h u
+          → ((d : LogEntry) × (d ∈ trimmed t (x .log)) × (d .time ≡ u)) ⊎ Gone (quorums s g) h u
+      keep u (inl w) = left u (w .0) (w .2) (trimmed-keeps t (x .log) (w .0) (w .1))
+      keep u (inr w) = inr w
+
+-- What the lookup finds: nothing under max, or the highest under max.
+pub data Found (x : Brick) (max n : ℕ) : ℕ → Type 0 where
+  none : ((i : ℕ) → i < n → max ≤ timeAt x i) → Found x max n 0
+  entry : (i : ℕ) → i < n → timeAt x i < max → ((j : ℕ) → i < j → j < n → max ≤ timeAt x j) → Found x max n (suc i)
+
+pub found-under : (x : Brick) (max n : ℕ) → Found x max n (under x max n)
+unfolding under
+found-under x max zero = none (λ i l. absurd (omega arith))
+found-under x max (suc n) = go (ltb (timeAt x n) max) refl (found-under x max n)
+  where
+    last : (j : ℕ) → j < suc n → (j < n → max ≤ timeAt x j) → max ≤ timeAt x n → max ≤ timeAt x j
+    last j l f top = by (ltb j n) refl
+      where
+        by : (a : Bool) → ltb j n ≡ a → max ≤ timeAt x j
+        by true q = f (ltb-true j n q)
+        by false q = let z : n ≡ j = omega (arith, ltb-false j n q) in subst (λ (k : ℕ). max ≤ timeAt x k) z top
+
+    up : (k : ℕ) → max ≤ timeAt x n → Found x max n k → Found x max (suc n) k
+    up k top (none f) = none (λ i l. last i l (λ m. f i m) top)
+    up k top (entry i l m f) = entry i (omega arith) m (λ j p q. last j q (λ w. f j p w) top)
+
+    go : (a : Bool) → ltb (timeAt x n) max ≡ a → Found x max n (under x max n) → Found x max (suc n) (cond a (suc n) (under x max n))
+    go true q ih = entry n (omega arith) (ltb-true (timeAt x n) max q) (λ j l m. absurd (omega arith))
+    go false q ih = up (under x max n) (ltb-false (timeAt x n) max q) ih

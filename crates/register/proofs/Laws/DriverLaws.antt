@@ -1,0 +1,210 @@
+-- Laws of `specs/Driver`.
+use mathlib.Core.Path.{_≡_, refl, sym, ap, ap₂, fun-ext, _∙_}
+use mathlib.Core.Bool.{Bool, true, false, cond}
+use mathlib.Core.List.{List, [], _∷_, _++_, append-nil}
+use Prim.Native.Nat.{ℕ, zero, suc, _*_, _%_}
+use native.Mathlib.Omega.{arith}
+use lib.Dec.{leb, ltb, eqb}
+use lib.ListN.{length, replicate}
+use borrow.Author.Tests.{eqb-true, eq-eqb, leb-false}
+use Rattle.settings.specs.Ranges.{quorum}
+use Rattle.settings.specs.Times.{drawOf}
+use Rattle.settings.specs.declared.Clock.{Clock}
+use Rattle.settings.specs.declared.Draw.{Draw}
+use Rattle.settings.specs.declared.Draw.the-variants.{Drawn, Refused}
+use Rattle.settings.specs.declared.Settings.{Settings}
+use Rattle.message.specs.Flags.{members}
+use Rattle.message.specs.Kinds.{writeKind}
+use Rattle.message.specs.declared.Message.{Message}
+use Rattle.message.specs.declared.Reply.{Reply}
+use Rattle.brick.specs.Receive.{outcome}
+use Rattle.coord_record.specs.Records.{noBricks}
+use Rattle.coord_decide.specs.Deciding.{decided}
+use Rattle.coord_decide.specs.declared.Decision.{Decision}
+use Rattle.coord_decide.specs.declared.Decision.the-variants.{Abort, Give, Look, Store, Recover, Finish}
+use Rattle.erasure.specs.Code.{blockOf}
+use Rattle.coord_apply.specs.Acts.{nextRound, ending, acted, counting, waitingOr, starting}
+use Rattle.coord_apply.specs.Answers.{Held, Broadcast, Went, Step, refused, went, checked, nothingSeen, cutSeen, sentCount, sentMessage, sentBlocks, answerOf, blocksAfter, stripeAfter, codedAfter}
+use Rattle.coordinator.specs.Routines.{takeStep, crashStep, crashed, drawnThen, writeStep, readStep}
+use Rattle.order.specs.Claim.{Seen}
+use Rattle.register.specs.Runs.{plain, Item, message, reply, World, startWrite, startRead, untouched, lost, crashes, Moved, unmoved, putAt, seenOf, blockFor, toAll, broadcasts, coordinated, received, arriving, buffersFit, leaving, leftBy, step}
+use Rattle.register.specs.Driver.{driven, AtMostOne, none, one, Short, called}
+
+put-same : {A : Type 0} (f : ℕ → A) (c : ℕ) → putAt f c (f c) ≡ f
+unfolding putAt
+put-same f c = fun-ext (λ j. go j (eqb j c) refl)
+  where
+    go : (j : ℕ) (b : Bool) → eqb j c ≡ b → cond b (f c) (f j) ≡ f j
+    go j true e = ap f (sym (eqb-true j c e))
+    go j false e = refl
+
+-- only a Write round has blocks
+same-block : (s : Settings) (b : Broadcast) (old : List ℕ) (j : ℕ)
+    → blockFor s b j ≡ blockFor s (record { message = b .message; blocks = cond (eqb (b .message .kind) writeKind) (b .blocks) old }) j
+unfolding blockFor
+same-block s b old j = go (eqb (b .message .kind) 4)
+  where
+    go : (a : Bool) → cond a (blockOf (s .size) (b .blocks) j) (replicate (s .size) 0) ≡ cond a (blockOf (s .size) (cond a (b .blocks) old) j) (replicate (s .size) 0)
+    go true = refl
+    go false = refl
+
+same-items : (s : Settings) (b : Broadcast) (old : List ℕ) (k : ℕ)
+    → toAll s b k ≡ toAll s (record { message = b .message; blocks = cond (eqb (b .message .kind) writeKind) (b .blocks) old }) k
+unfolding toAll
+same-items s b old zero = refl
+same-items s b old (suc k) =
+    ap₂ (λ (l : List Item) (block : List ℕ). l ++ message k (b .message) block ∷ []) (same-items s b old k) (same-block s b old k)
+
+same-sent : (s : Settings) (old : List ℕ) {l : List Broadcast} → AtMostOne l
+    → broadcasts s l ≡ cond (eqb (sentCount l) 0) [] (toAll s (record { message = sentMessage l; blocks = sentBlocks l old }) (s .n))
+unfolding broadcasts sentCount sentMessage sentBlocks
+same-sent s old none = refl
+same-sent s old (one b) = append-nil (toAll s b (s .n)) ∙ same-items s b old (s .n)
+
+-- A coordinator's step in the world is what the driver makes of the routine's answer and buffers.
+pub coordinated-is-driven : (s : Settings) (w : World) (c : ℕ) (p : Step) (old : List ℕ) → Short p
+    → coordinated s w c p
+    ≡ driven s w c (answerOf (w .coordinators c .state) p) (blocksAfter (w .coordinators c) p) (stripeAfter (w .coordinators c) p) (codedAfter old p)
+unfolding coordinated driven unmoved answerOf blocksAfter stripeAfter codedAfter nothingSeen seenOf
+coordinated-is-driven s w c (refused number) old h =
+    ap₂ (λ (f : ℕ → Held) (l : List Item). makes f l []) (sym (put-same (w .coordinators) c)) (sym (append-nil (w .sent)))
+  where
+    makes : (ℕ → Held) → List Item → List (Seen (plain s)) → Moved s
+    makes f l seen = record { world = record { images = w .images; up = w .up; coordinators = f; sent = l }; seen = seen }
+coordinated-is-driven s w c (went g) old h =
+    ap (λ (l : List Item). makes (putAt (w .coordinators) c (g .next)) (w .sent ++ l) (seenOf s (g .seen) (g .next .stripe))) (same-sent s old h)
+  where
+    makes : (ℕ → Held) → List Item → List (Seen (plain s)) → Moved s
+    makes f l seen = record { world = record { images = w .images; up = w .up; coordinators = f; sent = l }; seen = seen }
+
+-- what a crash leaves: the buffers as they were,
+pub left-untouched : (s : Settings) (p : Step) → leftBy s untouched p ≡ p
+unfolding leftBy leaving
+left-untouched s (refused number) = refl
+left-untouched s (went g) = refl
+
+-- or other lists of the right lengths
+left-lost : (s : Settings) (blocks stripe : List ℕ) (h : Held) → length blocks ≡ s .n * s .size → length stripe ≡ s .m * s .size
+    → leaving s (lost blocks stripe) h ≡ record { state = h .state; blocks = blocks; stripe = stripe }
+unfolding leaving buffersFit
+left-lost s blocks stripe h eb es = simp (eq-eqb _ _ eb, eq-eqb _ _ es)
+
+lost-is-driven : (s : Settings) (w : World) (c : ℕ) (blocks stripe old : List ℕ) → length blocks ≡ s .n * s .size → length stripe ≡ s .m * s .size
+    → (k : ℕ) (g : Went) → AtMostOne (g .sent) → answerOf (w .coordinators c .state) (checked k (went g)) .refusal ≡ 0
+    → coordinated s w c (leftBy s (lost blocks stripe) (checked k (went g)))
+    ≡ driven s w c (answerOf (w .coordinators c .state) (checked k (went g))) blocks stripe (codedAfter old (checked k (went g)))
+unfolding checked leftBy answerOf blocksAfter stripeAfter codedAfter
+lost-is-driven s w c blocks stripe old eb es k g h = go (leb k 0) refl
+  where
+    then : Held → Went
+    then x = record { next = x; sent = g .sent; seen = g .seen }
+
+    go : (a : Bool) → leb k 0 ≡ a → answerOf (w .coordinators c .state) (cond a (went g) (refused k)) .refusal ≡ 0
+        → coordinated s w c (leftBy s (lost blocks stripe) (cond a (went g) (refused k)))
+        ≡ driven s w c (answerOf (w .coordinators c .state) (cond a (went g) (refused k))) blocks stripe (codedAfter old (cond a (went g) (refused k)))
+    go true e q =
+        ap (λ (x : Held). coordinated s w c (went (then x))) (left-lost s blocks stripe (g .next) eb es)
+        ∙ coordinated-is-driven s w c (went (then (record { state = g .next .state; blocks = blocks; stripe = stripe }))) old h
+    go false e q = let z = leb-false k 0 e in absurd (omega (arith, z, q))
+
+-- the routines send one broadcast at most
+checked-short : (k : ℕ) (p : Step) → Short p → Short (checked k p)
+unfolding checked
+checked-short k p h = go (leb k 0)
+  where
+    go : (a : Bool) → Short (cond a p (refused k))
+    go true = h
+    go false = tt
+
+drawn-short : (d : Draw) (f : ℕ → Clock → Went) → ((t : ℕ) (c : Clock) → AtMostOne (f t c .sent)) → Short (drawnThen d f)
+unfolding drawnThen
+drawn-short (Drawn t c) f h = h t c
+drawn-short (Refused k) f h = tt
+
+module _ (n m size : ℕ) (k : Held) where
+  acted-short : (d : Decision) → AtMostOne (acted n m size k d .sent)
+  unfolding acted nextRound ending
+  acted-short Abort = none
+  acted-short Give = none
+  acted-short (Look max) = one _
+  acted-short Store = one _
+  acted-short (Recover t) = one _
+  acted-short Finish = one _
+
+  waiting-short : AtMostOne (waitingOr n m size k .sent)
+  unfolding waitingOr
+  waiting-short = go (ltb (members (k .state .tally .counted) n) (quorum n m))
+    where
+      go : (a : Bool)
+          → AtMostOne (cond a (record { next = k; sent = []; seen = nothingSeen }) (acted n m size k (decided n m (k .state .op) (k .state .tally))) .sent)
+      go true = none
+      go false = acted-short (decided n m (k .state .op) (k .state .tally))
+
+  pub write-short : (reading : ℕ) (content : List ℕ) → Short (writeStep n m size k reading content)
+  unfolding writeStep starting
+  write-short reading content = checked-short _ _ (drawn-short (drawOf (k .state .clock) reading) _ (λ t c. one _))
+
+  pub read-short : (reading first : ℕ) → Short (readStep n m size k reading first)
+  unfolding readStep starting
+  read-short reading first = checked-short _ _ (drawn-short (drawOf (k .state .clock) reading) _ (λ t c. one _))
+
+  crashed-short : AtMostOne (crashed k .sent)
+  unfolding crashed ending
+  crashed-short = go (eqb (k .state .op .kind) 0)
+    where
+      go : (a : Bool) → AtMostOne (cond a (record { next = k; sent = []; seen = nothingSeen }) (ending k (k .stripe) [] cutSeen noBricks) .sent)
+      go true = none
+      go false = none
+
+  pub crash-short : Short (crashStep n m size k)
+  unfolding crashStep
+  crash-short = checked-short _ (went (crashed k)) crashed-short
+
+pub take-short : (n m size : ℕ) (k : Held) (r : Reply) (block : List ℕ) (coded : ℕ) → Short (takeStep n m size k r block coded)
+unfolding takeStep
+take-short n m size k r block coded = checked-short _ (went (waitingOr n m size (counting size k r block))) (waiting-short n m size (counting size k r block))
+
+-- The events of a run, as calls: each is what the driver makes of the routine's answer. A reply, a start:
+module _ (s : Settings) (w : World) (old : List ℕ) where
+  pub reply-called : (r : Reply) (block : List ℕ)
+      → arriving s w (reply r block)
+      ≡ (called s w old) (r .time % 16) (takeStep (s .n) (s .m) (s .size) (w .coordinators (r .time % 16)) r block (s .n * s .size))
+  unfolding arriving
+  reply-called r block =
+      coordinated-is-driven s w (r .time % 16) _ old
+      (take-short (s .n) (s .m) (s .size) (w .coordinators (r .time % 16)) r block (s .n * s .size))
+
+  pub write-called : (c reading : ℕ) (content : List ℕ) (small : _)
+      → step s w (startWrite c reading content small) ≡ (called s w old) c (writeStep (s .n) (s .m) (s .size) (w .coordinators c) reading content)
+  unfolding step
+  write-called c reading content small =
+      coordinated-is-driven s w c _ old (write-short (s .n) (s .m) (s .size) (w .coordinators c) reading content)
+
+  pub read-called : (c reading first : ℕ)
+      → step s w (startRead c reading first) ≡ (called s w old) c (readStep (s .n) (s .m) (s .size) (w .coordinators c) reading first)
+  unfolding step
+  read-called c reading first = coordinated-is-driven s w c _ old (read-short (s .n) (s .m) (s .size) (w .coordinators c) reading first)
+
+  -- a crash, if the driver still has the buffers
+  pub crash-called : (c : ℕ) → step s w (crashes c untouched) ≡ (called s w old) c (crashStep (s .n) (s .m) (s .size) (w .coordinators c))
+  unfolding step
+  crash-called c =
+      ap (coordinated s w c) (left-untouched s (crashStep (s .n) (s .m) (s .size) (w .coordinators c)))
+      ∙ coordinated-is-driven s w c _ old (crash-short (s .n) (s .m) (s .size) (w .coordinators c))
+
+  -- and if it lost them, and goes on with the record that the routine gave and with any bytes in buffers of the right lengths
+  pub lost-called : (c : ℕ) (blocks stripe : List ℕ) → length blocks ≡ s .n * s .size → length stripe ≡ s .m * s .size
+      → answerOf (w .coordinators c .state) (crashStep (s .n) (s .m) (s .size) (w .coordinators c)) .refusal ≡ 0
+      → step s w (crashes c (lost blocks stripe))
+      ≡ driven s w c (answerOf (w .coordinators c .state) (crashStep (s .n) (s .m) (s .size) (w .coordinators c)))
+      blocks stripe (codedAfter old (crashStep (s .n) (s .m) (s .size) (w .coordinators c)))
+  unfolding step crashStep
+  lost-called c blocks stripe eb es accepted =
+      lost-is-driven s w c blocks stripe old eb es _ (crashed (w .coordinators c))
+      (crashed-short (s .n) (s .m) (s .size) (w .coordinators c)) accepted
+
+  -- and a message at a brick that is up, by the answer, the image and the reply's buffer that its routine leaves
+  pub message-called : (b : ℕ) (msg : Message) (block : List ℕ) → w .up b ≡ true
+      → arriving s w (message b msg block) ≡ received s w b (outcome s b (w .images b) msg block (replicate (s .size) 0))
+  unfolding arriving
+  message-called b msg block e = rw e refl

@@ -1,0 +1,166 @@
+-- What holds of the world at each moment of a run, with the history of the run so far: for each brick, for each item sent, for each coordinator.
+use mathlib.Core.Path.{_≡_}
+use mathlib.Core.Logic.{_⊎_}
+use mathlib.Core.Bool.{true}
+use mathlib.Core.List.{List, _++_}
+use Prim.Native.Nat.{ℕ, _%_, _≤_, _<_}
+use lib.ListN.{getD}
+use Rattle.settings.specs.Ranges.{quorum, SettingsRange}
+use Rattle.settings.proofs.Laws.QuorumLaws.{quorum-twice}
+use Rattle.settings.specs.Times.{timeOf}
+use Rattle.settings.specs.declared.Settings.{Settings}
+use Rattle.message.specs.Flags.{member}
+use Rattle.message.specs.Kinds.{readKind, orderKind, orderReadKind, writeKind, trimKind}
+use Rattle.message.specs.declared.Message.{Message}
+use Rattle.message.specs.declared.Reply.{Reply}
+use Rattle.image.specs.Brick.{Brick, LogEntry, Sound}
+use Rattle.image.specs.Image.{imageOf}
+use Rattle.erasure.specs.Code.{codedOf, blockOf, Stripe}
+use Rattle.coord_record.specs.Records.{idleKind, readingKind, writingKind}
+use Rattle.coord_record.specs.CountedRules.{isTarget, blockRight}
+use Rattle.coord_apply.specs.Answers.{Held}
+use Rattle.coord_laws.specs.Soundness.{Sized}
+use Rattle.order.specs.Claim.{Plain, read, write, _∈_}
+use Rattle.order.specs.Facts.{began, promised, stored, showed, History, seen}
+use Rattle.order.specs.Places.{In}
+use Rattle.order.specs.Quorums.{Quorums}
+use Rattle.order.specs.Valid.{Began, Launched, Ended, PromisedUpTo, Val, Committed, Gone, Valid}
+use Rattle.register.specs.Runs.{plain, Item, message, reply, Moved}
+
+-- The quorums of a setting.
+abbrev pub quorums : (s : Settings) → SettingsRange s → Quorums
+quorums s g =
+    record {
+      n = s .n;
+      m = s .m;
+      q = quorum (s .n) (s .m);
+      share = quorum-twice (s .n) (s .m) (g .code .m-high);
+      some = g .code .m-low;
+    }
+
+abbrev pub Hist : Settings → Type 0
+Hist s = History (plain s)
+
+-- The block is coded block b of a stripe that t stands for.
+pub record Means (s : Settings) (h : Hist s) (t b : ℕ) (block : List ℕ) : Type 0 where
+  pub full : List ℕ
+  pub value : Val h t full
+  pub proper : Stripe (s .m) (s .size) full
+  pub coded : block ≡ blockOf (s .size) (codedOf (s .n) (s .m) (s .size) full) b
+
+-- A brick has time t by itself: t is 0, or the brick stored it.
+abbrev pub Stands : {P : Plain} → History P → ℕ → ℕ → Type 0
+Stands h b t = (t ≡ 0) ⊎ In (stored b t) h
+
+-- Brick b, in the state x.
+pub record BrickInv (s : Settings) (g : SettingsRange s) (h : Hist s) (b : ℕ) (x : Brick) : Type 0 where
+  -- its promise bounds what it promised
+  pub bounded : PromisedUpTo h b (x .promise)
+  -- each entry is 0 or stored, and means what its time stands for
+  pub entries : (e : LogEntry) → e ∈ x .log → Stands h b (e .time) × Means s h (e .time) b (e .block)
+  -- what it stored is in its log, or gone
+  pub kept : (u : ℕ) → Stands h b u → ((e : LogEntry) × (e ∈ x .log) × (e .time ≡ u)) ⊎ Gone (quorums s g) h u
+
+-- A message to brick b.
+pub record MessageInv (s : Settings) (g : SettingsRange s) (h : Hist s) (b : ℕ) (msg : Message) (block : List ℕ) : Type 0 where
+  pub brick-low : b < s .n
+  pub asks : msg .kind ≤ orderReadKind → Began h (msg .time)
+  pub stores : msg .kind ≡ writeKind → Launched h (msg .time) × Means s h (msg .time) b block
+  pub trims : msg .kind ≡ trimKind → Committed (quorums s g) h (msg .time)
+
+-- What a yes to Order-and-read says of all that the brick stored: for the max of some such message of that time and round that was sent.
+pub record Looked (s : Settings) (g : SettingsRange s) (h : Hist s) (sent : List Item) (r : Reply) : Type 0 where
+  pub asked : Message
+  pub with-block : List ℕ
+  pub was-sent : message (r .brick) asked with-block ∈ sent
+  pub kind-is : asked .kind ≡ orderReadKind
+  pub time-is : asked .time ≡ r .time
+  pub round-is : asked .round ≡ r .round
+  pub nothing-else : (u : ℕ) → u < r .time → u < asked .max → Stands h (r .brick) u
+      → ((r .held ≡ true) × (u ≤ r .found)) ⊎ Gone (quorums s g) h u
+
+-- A reply that says yes.
+pub record ReplyInv (s : Settings) (g : SettingsRange s) (h : Hist s) (sent : List Item) (r : Reply) (block : List ℕ) : Type 0 where
+  pub brick-low : r .brick < s .n
+  pub orders : r .yes ≡ true → r .kind ≡ orderKind → In (promised (r .brick) (r .time)) h
+  pub writes : r .yes ≡ true → r .kind ≡ writeKind → In (stored (r .brick) (r .time)) h
+  pub reads : r .yes ≡ true → r .kind ≡ readKind → In (showed (r .brick) (r .time) (r .found)) h
+  pub shows : r .yes ≡ true → r .kind ≡ readKind → r .held ≡ true → Means s h (r .found) (r .brick) block
+  pub looks : r .yes ≡ true → r .kind ≡ orderReadKind → In (promised (r .brick) (r .time)) h
+  pub finds : r .yes ≡ true → r .kind ≡ orderReadKind → r .held ≡ true
+      → (r .found < r .time) × Stands h (r .brick) (r .found) × Means s h (r .found) (r .brick) block
+  pub looked : r .yes ≡ true → r .kind ≡ orderReadKind → Looked s g h sent r
+
+abbrev pub ItemInv : (s : Settings) (g : SettingsRange s) → Hist s → List Item → Item → Type 0
+ItemInv s g h sent (message b msg block) = MessageInv s g h b msg block
+ItemInv s g h sent (reply r block) = ReplyInv s g h sent r block
+
+-- A brick that a coordinator has counted in the open round: its reply was sent, fits the round, and is what is kept of it.
+pub record CountedInv (s : Settings) (sent : List Item) (k : Held) (b : ℕ) : Type 0 where
+  pub from : Reply
+  pub block : List ℕ
+  pub was-sent : reply from block ∈ sent
+  pub low : b < s .n
+  pub brick-is : from .brick ≡ b
+  pub kind-is : from .kind ≡ k .state .op .phase
+  pub time-is : from .time ≡ k .state .op .time
+  pub round-is : from .round ≡ k .state .op .round
+  pub yes-is : from .yes ≡ member (k .state .tally .granted) b
+  pub held-is : from .held ≡ member (k .state .tally .held) b
+  pub found-is : from .found ≡ getD (k .state .tally .found) b 0
+  pub block-is : from .held ≡ true → blockOf (s .size) (k .blocks) b ≡ block
+  pub right : blockRight (k .state .op .phase) (isTarget (s .n) (s .m) (k .state .op .first) b) (from .yes) (from .held) (from .found) ≡ true
+
+-- What was sent asks of an operation: an Order-and-read of its time is of an earlier round, or of this one with this max.
+abbrev pub Asked : List Item → (time round phase max : ℕ) → Type 0
+Asked sent time round phase max =
+    (b : ℕ) (msg : Message) (block : List ℕ) → message b msg block ∈ sent → msg .kind ≡ orderReadKind → msg .time ≡ time
+    → (msg .round ≤ round) × (msg .round ≡ round → (phase ≡ orderReadKind) × (msg .max ≡ max))
+
+-- The running operation of coordinator c.
+pub record Running (s : Settings) (g : SettingsRange s) (h : Hist s) (sent : List Item) (c : ℕ) (k : Held) : Type 0 where
+  pub own : k .state .op .time % 16 ≡ c
+  pub known : Began h (k .state .op .time)
+  pub reads : k .state .op .kind ≡ readingKind → In (began (k .state .op .time) read) h
+  pub writes : k .state .op .kind ≡ writingKind → In (began (k .state .op .time) (write (k .stripe))) h × Stripe (s .m) (s .size) (k .stripe)
+  pub unended : ¬ Ended h (k .state .op .time)
+  pub unsent : (k .state .op .phase ≡ writeKind → ⊥) → ¬ Launched h (k .state .op .time)
+  pub counts : (b : ℕ) → member (k .state .tally .counted) b ≡ true → CountedInv s sent k b
+  pub holds : (b : ℕ) → member (k .state .tally .held) b ≡ true → member (k .state .tally .counted) b ≡ true
+  pub asked : Asked sent (k .state .op .time) (k .state .op .round) (k .state .op .phase) (k .state .op .max)
+  -- in a recovery, every time from its bound on is gone
+  pub cleared : k .state .op .phase ≡ orderReadKind → (u : ℕ) → k .state .op .max ≤ u → u < k .state .op .time → Gone (quorums s g) h u
+  -- in a Write round, what is stored is what the operation's time stands for
+  pub storing : k .state .op .phase ≡ writeKind
+      → Launched h (k .state .op .time) × Val h (k .state .op .time) (k .stripe) × Stripe (s .m) (s .size) (k .stripe)
+
+-- Coordinator c with its buffers.
+pub record CoordinatorInv (s : Settings) (g : SettingsRange s) (h : Hist s) (sent : List Item) (c : ℕ) (k : Held) : Type 0 where
+  pub number : k .state .clock .coordinator ≡ c
+  -- the times it used are at most its last
+  pub used : (t : ℕ) → Began h t → t % 16 ≡ c → t ≤ timeOf (k .state .clock .last) c
+  pub sized : Sized (k .state .tally)
+  pub runs : (k .state .op .kind ≡ idleKind → ⊥) → Running s g h sent c k
+
+-- The image of brick b is the saved form of a brick that keeps its rules.
+pub record ImageInv (s : Settings) (g : SettingsRange s) (h : Hist s) (b : ℕ) (image : List ℕ) : Type 0 where
+  pub state : Brick
+  pub saved : image ≡ imageOf s b state
+  pub sound : Sound s state
+  pub keeps : BrickInv s g h b state
+
+-- The whole world, with what was seen so far.
+pub record Inv (s : Settings) (g : SettingsRange s) (h : Hist s) (r : Moved s) : Type 0 where
+  pub valid : Valid (quorums s g) h
+  pub seen-is : seen h ≡ r .seen
+  pub bricks : (b : ℕ) → b < s .n → ImageInv s g h b (r .world .images b)
+  pub items : (i : Item) → i ∈ r .world .sent → ItemInv s g h (r .world .sent) i
+  pub coordinators : (c : ℕ) → CoordinatorInv s g h (r .world .sent) c (r .world .coordinators c)
+
+-- what came before, and what one event leaves and shows
+abbrev pub joined : (s : Settings) → Moved s → Moved s → Moved s
+joined s r m = record { world = m .world; seen = r .seen ++ m .seen }
+
+-- what holds goes on to hold after an event
+abbrev pub Goes : (s : Settings) (g : SettingsRange s) → Moved s → Moved s → Type 0
+Goes s g r m = (h : Hist s) × Inv s g h (joined s r m)

@@ -1,0 +1,85 @@
+-- Demand 3: every run has one order.
+use mathlib.Core.Path.{_≡_, refl, subst}
+use mathlib.Core.Bool.{Bool, true, false, cond}
+use mathlib.Core.List.{List, [], _∷_, append-nil, List·Memᴰ·head, List·Memᴰ·tail}
+use mathlib.Core.Path.{sym, _∙_}
+use Prim.Native.Nat.{ℕ, zero, suc}
+use lib.Dec.{ltb}
+use Rattle.settings.specs.Ranges.{settingsRefusal}
+use Rattle.settings.specs.Ranges.{SettingsRange}
+use Rattle.settings.proofs.Laws.RangeLaws.{settings-passed}
+use Rattle.settings.specs.declared.Settings.{Settings}
+use Rattle.order.specs.Claim.{OneOrder, _∈_}
+use Rattle.order.specs.Facts.{seen}
+use Rattle.order.proofs.Laws.OneOrderTheorem.{one-order}
+use Rattle.register.specs.Runs.{plain, Item, message, reply, fresh, Event, startWrite, startRead, arrives, crashes, goesDown, comesUp, Moved, unmoved, putAt, arriving, arrivingAt, standing, step, next, runFrom, run, RunHasOneOrder}
+use Rattle.register.proofs.Laws.Invariant.{Hist, Inv}
+use Rattle.register.proofs.Laws.Invariant.{Goes}
+use Rattle.register.proofs.Laws.BrickEvent.{goes-unmoved, message-arrives}
+use Rattle.register.proofs.Laws.StartEvent.{write-starts, read-starts}
+use Rattle.register.proofs.Laws.CrashEvent.{crash-goes}
+use Rattle.register.proofs.Laws.ReplyEvent.{reply-arrives}
+use Rattle.register.proofs.Laws.FreshRunLaws.{fresh-holds}
+
+module _ (s : Settings) (g : SettingsRange s) where
+  -- an item among those sent arrives
+  item-arrives : (h : Hist s) (r : Moved s) → Inv s g h r → (z : Item) → z ∈ r .world .sent → Goes s g r (arriving s (r .world) z)
+  item-arrives h r i (message b msg block) m = message-arrives s g h r i b msg block m
+  item-arrives h r i (reply a block) m = reply-arrives s g h r i a block m
+
+  place-arrives : (h : Hist s) (r : Moved s) → Inv s g h r → (l : List Item) → ((z : Item) → z ∈ l → z ∈ r .world .sent) → (k : ℕ)
+      → Goes s g r (arrivingAt s (r .world) l k)
+  unfolding arrivingAt
+  place-arrives h r i [] f k = goes-unmoved s g h r i
+  place-arrives h r i (z ∷ l) f zero = item-arrives h r i z (f z (List·Memᴰ·head refl))
+  place-arrives h r i (z ∷ l) f (suc k) = place-arrives h r i l (λ y m. f y (List·Memᴰ·tail m)) k
+
+  stands : (h : Hist s) (r : Moved s) → Inv s g h r → (b : ℕ) (how : Bool) → Goes s g r (standing s (r .world) b how)
+  unfolding standing
+  stands h r i b how = go (ltb b (s .n))
+    where
+      go : (a : Bool)
+          → Goes s g r
+          (cond a
+          (record {
+            world = record { images = r .world .images; up = putAt (r .world .up) b how; coordinators = r .world .coordinators; sent = r .world .sent };
+            seen = [];
+          })
+          (unmoved s (r .world)))
+      go true = (
+        h,
+        record {
+          valid = i .valid;
+          seen-is = i .seen-is ∙ sym (append-nil (r .seen));
+          bricks = i .bricks;
+          items = i .items;
+          coordinators = i .coordinators;
+        },
+      )
+      go false = goes-unmoved s g h r i
+
+  -- what holds goes on to hold after each event,
+  pub step-goes : (h : Hist s) (r : Moved s) → Inv s g h r → (e : Event) → Goes s g r (step s (r .world) e)
+  unfolding step
+  step-goes h r i (startWrite c reading content small) = write-starts s g h r i c reading content small
+  step-goes h r i (startRead c reading first) = read-starts s g h r i c reading first
+  step-goes h r i (arrives k) = place-arrives h r i (r .world .sent) (λ z m. m) k
+  step-goes h r i (crashes c left) = crash-goes s g h r i c left
+  step-goes h r i (goesDown b) = stands h r i b false
+  step-goes h r i (comesUp b) = stands h r i b true
+
+  -- so after all of them
+  from-holds : (r : Moved s) → (h : Hist s) × Inv s g h r → (events : List Event) → (h : Hist s) × Inv s g h (runFrom s r events)
+  unfolding runFrom next
+  from-holds r w [] = w
+  from-holds r w (e ∷ events) = from-holds (next s r e) (step-goes (w .0) r (w .1) e) events
+
+  pub run-holds : (events : List Event) → (h : Hist s) × Inv s g h (run s events)
+  unfolding run
+  run-holds events = from-holds (unmoved s (fresh s)) ([], fresh-holds s g) events
+
+-- For every settings in range and every list of events, whatever its crashes leave in the buffers, the operations have one order.
+pub every-run-has-one-order : (s : Settings) → settingsRefusal s ≡ 0 → (events : List Event) → RunHasOneOrder s events
+every-run-has-one-order s e events =
+    let w = run-holds s (settings-passed s e) events in
+    subst (OneOrder (plain s)) (w .1 .seen-is) (one-order (w .1 .valid))
