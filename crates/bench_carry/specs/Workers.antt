@@ -7,7 +7,7 @@ use Rattle.bench_parse.specs.Workers.{CarryRest, wordsFrom}
 use Rattle.bench_parse.specs.Lines.{numbersOf}
 use Rattle.bench_rules.specs.Play.{Played, carriedAll}
 use Rattle.bench_rules.specs.Turning.{Lent, worldIn}
-use Rattle.bench_rules.specs.Workers.{Ready}
+use Rattle.bench_rules.specs.Workers.{BenchReady}
 use Rattle.bench_rules.specs.declared.After.{After}
 use Rattle.bench_print.specs.Printing.{written}
 use Rattle.bench_state.specs.declared.Bench.{Bench}
@@ -24,7 +24,7 @@ pub record Lined (b : Bench) (l : Lent) (out : List ℕ) (p : Played) (r : After
 -- The loop over a line's numbers: text is what was printed so far, and the rest of the numbers is still to be carried.
 pub record Carrying (b : Bench) (l : Lent) (line : List ℕ) (first : ℕ) (out : List ℕ) (place : ℕ) (r : After) (l′ : Lent) (out′ : List ℕ) : Type 0 where
   pub text : List ℕ
-  pub ready : Ready (r .bench) l′
+  pub ready : BenchReady (r .bench) l′
   pub settings-kept : r .bench .settings ≡ b .settings
   pub out-long : length out′ ≡ length out
   pub text-is : out′ ≡ written 0 text out

@@ -9,7 +9,7 @@ ghost use Rattle.bench_parse.specs.Lines.{numbersOf};
 ghost use Rattle.bench_parse.specs.Workers.{wordsFrom, CarryFrom};
 ghost use Rattle.bench_rules.specs.Play.{carried, carriedAll, switches};
 ghost use Rattle.bench_rules.specs.Turning.{Lent, lent, worldIn};
-ghost use Rattle.bench_rules.specs.Workers.{Ready, Turned};
+ghost use Rattle.bench_rules.specs.Workers.{BenchReady, Turned};
 ghost use Rattle.bench_state.specs.Workers.{Fits};
 ghost use Rattle.register.specs.Runs.{goesDown, comesUp};
 use bench_rules::After;
@@ -40,7 +40,7 @@ fn carry_one(
     at: usize,
     out: &mut [u8],
 ) -> After
-    requires { ⌜ Ready b (lent (now images) (now kept) (now numbers) (now bytes)) ⌝ }
+    requires { ⌜ BenchReady b (lent (now images) (now kept) (now numbers) (now bytes)) ⌝ }
     requires { ⌜ at + 128 ≤ length (now out) ⌝ }
     ensures { λ r. ⌜ Turned b (lent (now (images .entry)) (now (kept .entry)) (now (numbers .entry)) (now (bytes .entry))) at (now (out .entry)) (carried (b .settings) (worldIn b (lent (now (images .entry)) (now (kept .entry)) (now (numbers .entry)) (now (bytes .entry)))) number) r (lent (now (images .exit)) (now (kept .exit)) (now (numbers .exit)) (now (bytes .exit))) (now (out .exit)) ⌝ }
 {
@@ -69,7 +69,7 @@ pub fn carry_all(
     bytes: &mut [u8],
     out: &mut [u8],
 ) -> After
-    requires { ⌜ Ready b (lent (now images) (now kept) (now numbers) (now bytes)) ⌝ }
+    requires { ⌜ BenchReady b (lent (now images) (now kept) (now numbers) (now bytes)) ⌝ }
     requires { ⌜ CarryFrom (now line) first × (length (now out) ≡ 65536) ⌝ }
     ensures { λ r. ⌜ Lined b (lent (now (images .entry)) (now (kept .entry)) (now (numbers .entry)) (now (bytes .entry))) (now (out .entry)) (carriedAll (b .settings) (worldIn b (lent (now (images .entry)) (now (kept .entry)) (now (numbers .entry)) (now (bytes .entry)))) (numbersOf (wordsFrom (now (line .entry)) first))) r (lent (now (images .exit)) (now (kept .exit)) (now (numbers .exit)) (now (bytes .exit))) (now (out .exit)) ⌝ }
 {

@@ -8,7 +8,7 @@ ghost use Rattle.bench_sent.specs.Sent.{isReply, itemAt};
 ghost use Rattle.bench_rules.specs.Play.{carries};
 ghost use Rattle.bench_rules.specs.Turning.{lent, worldIn};
 ghost use Rattle.bench_rules.specs.Workers.{Turned};
-ghost use Rattle.bench_carry_message.specs.Workers.{Lends, Reaching, Settled, maySend, sentAfter};
+ghost use Rattle.bench_carry_message.specs.Workers.{Lends, Reaching, Settled, maySend, sentAfterMessage};
 use bench_rules::After;
 use bench_rules::refuse;
 use bench_state::Bench;
@@ -26,7 +26,7 @@ fn settle(
     at: usize,
     out: &mut [u8],
 ) -> After
-    requires { ⌜ (sentAfter (b .sent) g ≤ 127) × (length (now block) ≡ b .settings .size) × (b .settings .size ≤ 8) ⌝ }
+    requires { ⌜ (sentAfterMessage (b .sent) g ≤ 127) × (length (now block) ≡ b .settings .size) × (b .settings .size ≤ 8) ⌝ }
     requires { ⌜ (length (now numbers) ≡ 1016) × (length (now bytes) ≡ 3048) × (at + 128 ≤ length (now out)) ⌝ }
     ensures { λ r. ⌜ Settled b g (now (block .entry)) (now (numbers .entry)) (now (bytes .entry)) at (now (out .entry)) r (now (numbers .exit)) (now (bytes .exit)) (now (out .exit)) ⌝ }
 {

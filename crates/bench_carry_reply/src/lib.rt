@@ -2,11 +2,11 @@
 ghost use mathlib.Core.Path.{_≡_};
 ghost use mathlib.Core.Bool.{true};
 ghost use Prim.Native.Nat.{_+_, _*_, _%_, _<_};
-ghost use Rattle.bench_commit.specs.Workers.{Acted, Plays};
+ghost use Rattle.bench_commit.specs.Workers.{BenchActed, Plays};
 ghost use Rattle.bench_commit.specs.Workers.{Seats, Copies};
 ghost use Rattle.bench_rules.specs.Play.{carries};
-ghost use Rattle.bench_sent.specs.Sent.{isReply, replyAt, blockAt, itemAt};
-ghost use Rattle.coord_apply.specs.Answers.{Held};
+ghost use Rattle.bench_sent.specs.Sent.{isReply, replyAt, sentBlockAt, itemAt};
+ghost use Rattle.coord_apply.specs.Answers.{Buffered};
 ghost use Rattle.coordinator.specs.Routines.{takeStep};
 ghost use Rattle.register.specs.Runs.{World, arrives};
 use bench_commit::commit;
@@ -32,7 +32,7 @@ fn reply_with(
     requires { ⌜ Seats b c (now kept) (now numbers) (now bytes) at (now out) ⌝ }
     requires { ⌜ Copies (b .settings) (now blocks) (now stripe) (now coded) ⌝ }
     requires { ⌜ (k < b .sent) × (isReply (now numbers) k ≡ true) × (reply ≡ replyAt (now numbers) k) × (c ≡ reply .time % 16) ⌝ }
-    ensures { λ r. ⌜ Acted b c (arrives k) (λ (h : Held). takeStep (b .settings .n) (b .settings .m) (b .settings .size) h reply (blockAt (b .settings .size) (now (bytes .entry)) k) (b .settings .n * b .settings .size)) (now (kept .entry)) (now (numbers .entry)) (now (bytes .entry)) at (now (out .entry)) r (now (kept .exit)) (now (numbers .exit)) (now (bytes .exit)) (now (out .exit)) ⌝ }
+    ensures { λ r. ⌜ BenchActed b c (arrives k) (λ (h : Buffered). takeStep (b .settings .n) (b .settings .m) (b .settings .size) h reply (sentBlockAt (b .settings .size) (now (bytes .entry)) k) (b .settings .n * b .settings .size)) (now (kept .entry)) (now (numbers .entry)) (now (bytes .entry)) at (now (out .entry)) r (now (kept .exit)) (now (numbers .exit)) (now (bytes .exit)) (now (out .exit)) ⌝ }
 {
     bench_state::fetch(c, kept, blocks, stripe);
     let s = b.settings;

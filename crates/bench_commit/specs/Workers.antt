@@ -11,7 +11,7 @@ use Rattle.register.specs.Driver.{driven}
 use Rattle.register.specs.Runs.{World, Event, toAll}
 use Rattle.bench_print.specs.Printing.{endedText}
 use Rattle.bench_rules.specs.Play.{Played, refuses, lastMessage, acts}
-use Rattle.coord_apply.specs.Answers.{Held, Step}
+use Rattle.coord_apply.specs.Answers.{Buffered, Step}
 use Rattle.bench_state.specs.declared.Bench.{Bench}
 use Rattle.bench_rules.specs.Turning.{lent, worldIn}
 use Rattle.bench_rules.specs.Workers.{Turned}
@@ -31,11 +31,11 @@ answered s w e c a blocks stripe coded =
     (refuses w (a .refusal))
 
 -- how many messages are sent after a round, or after none
-unfoldable pub sentAfter : ℕ → ℕ → ℕ → ℕ
-sentAfter n sent rounds = cond (eqb rounds 0) sent (sent + n)
+unfoldable pub sentAfterAnswer : ℕ → ℕ → ℕ → ℕ
+sentAfterAnswer n sent rounds = cond (eqb rounds 0) sent (sent + n)
 
 -- an event with this step at coordinator c has been played, whatever the images are
-pub record Acted (b : Bench) (c : ℕ) (e : Event) (p : Held → Step) (kept numbers bytes : List ℕ) (at : ℕ) (out : List ℕ) (r : After)
+pub record BenchActed (b : Bench) (c : ℕ) (e : Event) (p : Buffered → Step) (kept numbers bytes : List ℕ) (at : ℕ) (out : List ℕ) (r : After)
     (kept′ numbers′ bytes′ out′ : List ℕ) : Type 0 where
   pub turned : (images : List ℕ)
       → Turned b (lent images kept numbers bytes) at out
@@ -49,7 +49,7 @@ pub record Plays (b : Bench) (p : World → Played) (kept numbers bytes : List �
 
 -- the items after a round, or after none
 pub record Round (s : Settings) (sent rounds : ℕ) (msg : Message) (coded numbers bytes numbers′ bytes′ : List ℕ) : Type 0 where
-  pub items : itemsOf (s .size) numbers′ bytes′ (sentAfter (s .n) sent rounds)
+  pub items : itemsOf (s .size) numbers′ bytes′ (sentAfterAnswer (s .n) sent rounds)
       ≡ itemsOf (s .size) numbers bytes sent ++ cond (eqb rounds 0) [] (toAll s (record { message = msg; blocks = coded }) (s .n))
 
 -- what the functions at a coordinator are lent: a set that is played, and room for a line

@@ -3,7 +3,7 @@ ghost use mathlib.Core.Path.{_≡_};
 ghost use Prim.Native.Nat.{_+_, _*_, _≤_, _<_};
 ghost use lib.ListN.{length};
 ghost use Rattle.bench_commit.specs.Workers.{Round, Seats, Copies, Answers};
-ghost use Rattle.bench_commit.specs.Workers.{sentAfter};
+ghost use Rattle.bench_commit.specs.Workers.{sentAfterAnswer};
 use bench_rules::After;
 use bench_state::Bench;
 use coord_apply::Answer;
@@ -13,7 +13,7 @@ use settings::Settings;
 // How many messages are sent after a round, or after none.
 fn sent_after(n: usize, sent: usize, rounds: usize) -> usize
     requires { ⌜ sent + n ≤ 1000 ⌝ }
-    ensures { λ r. ⌜ r ≡ sentAfter n sent rounds ⌝ }
+    ensures { λ r. ⌜ r ≡ sentAfterAnswer n sent rounds ⌝ }
 {
     if rounds == 0 {
         return sent;
@@ -31,7 +31,7 @@ fn send(
     numbers: &mut [u64],
     bytes: &mut [u8],
 )
-    requires { ⌜ (s .size ≤ 8) × (sentAfter (s .n) sent rounds ≤ 127) × (s .n * s .size ≤ length (now coded)) ⌝ }
+    requires { ⌜ (s .size ≤ 8) × (sentAfterAnswer (s .n) sent rounds ≤ 127) × (s .n * s .size ≤ length (now coded)) ⌝ }
     requires { ⌜ (length (now numbers) ≡ 1016) × (length (now bytes) ≡ 3048) ⌝ }
     ensures { λ _. ⌜ Round s sent rounds msg (now (coded .entry)) (now (numbers .entry)) (now (bytes .entry)) (now (numbers .exit)) (now (bytes .exit)) ⌝ }
 {
@@ -58,7 +58,7 @@ fn keep_answer(
 ) -> After
     requires { ⌜ Seats b c (now kept) (now numbers) (now bytes) at (now out) ⌝ }
     requires { ⌜ Copies (b .settings) (now blocks) (now stripe) (now coded) ⌝ }
-    requires { ⌜ (a .refusal ≡ 0) × (sent ≡ sentAfter (b .settings .n) (b .sent) (a .sent)) × (sent ≤ 127) ⌝ }
+    requires { ⌜ (a .refusal ≡ 0) × (sent ≡ sentAfterAnswer (b .settings .n) (b .sent) (a .sent)) × (sent ≤ 127) ⌝ }
     ensures { λ r. ⌜ Answers b c a (now (blocks .entry)) (now (stripe .entry)) (now (coded .entry)) (now (kept .entry)) (now (numbers .entry)) (now (bytes .entry)) at (now (out .entry)) r (now (kept .exit)) (now (numbers .exit)) (now (bytes .exit)) (now (out .exit)) ⌝ }
 {
     let s = b.settings;

@@ -50,15 +50,15 @@ pub record HexFrom (l : List ℕ) (at : ℕ) : Type 0 where
   pub digits : hexWord (drop at l) ≡ true
 
 -- the place that an answer names is such a place
-unfoldable pub Sound : code.Line → List ℕ → Type 0
-Sound (Set n m size capacity) l = Unit {0}
-Sound (Write c clock at) l = HexFrom l at
-Sound (Read c clock brick) l = Unit {0}
-Sound (Carry at) l = CarryFrom l at
-Sound (Crash c) l = Unit {0}
-Sound (Down b) l = Unit {0}
-Sound (Up b) l = Unit {0}
-Sound Unread l = Unit {0}
+unfoldable pub LineSound : code.Line → List ℕ → Type 0
+LineSound (Set n m size capacity) l = Unit {0}
+LineSound (Write c clock at) l = HexFrom l at
+LineSound (Read c clock brick) l = Unit {0}
+LineSound (Carry at) l = CarryFrom l at
+LineSound (Crash c) l = Unit {0}
+LineSound (Down b) l = Unit {0}
+LineSound (Up b) l = Unit {0}
+LineSound Unread l = Unit {0}
 
 -- a number of a carry line, and what follows it
 pub record NumberAt (l : List ℕ) (at : ℕ) (r : Number) : Type 0 where
@@ -75,7 +75,7 @@ pub record CarryRest (l : List ℕ) (at : ℕ) : Type 0 where
 -- an answer, with what the line says
 pub record ReadAs (r : code.Line) (l : List ℕ) (said : Line) : Type 0 where
   pub meaning : lineOf r l ≡ said
-  pub sound : Sound r l
+  pub sound : LineSound r l
 
 -- the bytes before the next space
 unfoldable pub wordLength : List ℕ → ℕ
@@ -93,7 +93,7 @@ others [] = []
 others (w ∷ ws) = ws
 
 -- what reading a number off the front of some words gives: whether there is one, its value, and the words that follow
-pub record Taken (ws rest : List (List ℕ)) (good : Bool) (value : ℕ) : Type 0 where
+pub record NumberTaken (ws rest : List (List ℕ)) (good : Bool) (value : ℕ) : Type 0 where
   pub tests : good ≡ startsNumber ws
   pub rest-is : good ≡ true → rest ≡ others ws
   pub value-is : good ≡ true → value ≡ numberIn ws 0
@@ -105,7 +105,7 @@ pub record NumeralOf (w : List ℕ) (r : Numeral) : Type 0 where
 
 -- a number looked for at a place of a line
 pub record NumberFrom (l : List ℕ) (at : ℕ) (r : Piece) : Type 0 where
-  pub taken : Taken (wordsFrom l at) (wordsFrom l (r .next)) (r .good) (r .value)
+  pub taken : NumberTaken (wordsFrom l at) (wordsFrom l (r .next)) (r .good) (r .value)
   pub low : r .good ≡ true → at + 1 < r .next
   pub high : r .next ≤ length l + 1
 

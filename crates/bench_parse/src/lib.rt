@@ -6,7 +6,7 @@ ghost use Prim.Native.Nat.{_+_, _*_, _≤_, _<_};
 ghost use lib.ListN.{length, drop};
 ghost use Rattle.bench_parse.specs.Lines.{every, numberWord, isHex, hexValue, bytesOf, crashLine, downLine, upLine, setOf, writeOf, readOf, carryOf, oneOf, reads};
 ghost use Rattle.byte_lists.specs.Lists.{same};
-ghost use Rattle.bench_parse.specs.Workers.{wordsFrom, lineOf, CarryFrom, Sound, NumberAt};
+ghost use Rattle.bench_parse.specs.Workers.{wordsFrom, lineOf, CarryFrom, LineSound, NumberAt};
 ghost use Rattle.bench_parse.specs.Workers.{ReadAs, wordLength, NumeralOf, NumberFrom, AloneOf, HexesFrom, commandNumber, byNumber, Place};
 
 pub const LONGEST: usize = 1000;
@@ -404,7 +404,7 @@ fn read_rest(line: &[u8], at: usize, command: u32) -> Line
 // What a line says.
 pub fn read_line(line: &[u8]) -> Line
     ensures { λ r. ⌜ lineOf r (now (line .entry)) ≡ reads (now (line .entry)) ⌝ }
-    ensures { λ r. ⌜ Sound r (now (line .entry)) ⌝ }
+    ensures { λ r. ⌜ LineSound r (now (line .entry)) ⌝ }
 {
     if LONGEST < line.len() {
         return Line::Unread;

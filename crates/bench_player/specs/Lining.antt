@@ -12,15 +12,15 @@ use Rattle.bench_rules.specs.Turning.{Lent, worldIn}
 use Rattle.bench_print.specs.Printing.{written}
 use Rattle.bench_state.specs.State.{benchRange}
 use Rattle.bench_state.specs.declared.Bench.{Bench}
-use Rattle.bench_player.specs.declared.Outcome.{Outcome}
+use Rattle.bench_player.specs.declared.Played.{Played}
 
 -- the record of no set has n = 0
 unfoldable pub stageOf : Bench → Lent → Stage
 stageOf b l = cond (eqb (b .settings .n) 0) waiting (playing (b .settings) (worldIn b l))
 
 -- the lengths of the lent buffers: images, what the coordinators keep, the rows' numbers and bytes, and the printed text
-unfoldable pub lengthsRight : ℕ → ℕ → ℕ → ℕ → ℕ → Bool
-lengthsRight images kept numbers bytes out =
+unfoldable pub lentLengthsRight : ℕ → ℕ → ℕ → ℕ → ℕ → Bool
+lentLengthsRight images kept numbers bytes out =
     eqb images 10240 && eqb kept 256 && eqb numbers 1016 && eqb bytes 3048 && eqb out 65536
 
 -- What a record and buffers that are no bench's are refused with, before the line is looked at: 1 settings past the limits,
@@ -29,7 +29,7 @@ unfoldable pub benchRefused : Bench → ℕ → ℕ → ℕ → ℕ → ℕ → 
 benchRefused b images kept numbers bytes out =
     firstRefusal
     (refuseUnless (eqb (b .settings .n) 0 || benchRange (b .settings)) badSetting
-    ∷ refuseUnless (lengthsRight images kept numbers bytes out) badLength
+    ∷ refuseUnless (lentLengthsRight images kept numbers bytes out) badLength
     ∷ refuseUnless (leb (b .sent) lastMessage) badRecord
     ∷ [])
 
@@ -38,7 +38,7 @@ unfoldable pub heard : ℕ → Stage → List ℕ → Turn
 heard refusal stage line = cond (eqb refusal 0) (turn stage (reads line)) (record { stage = stage; events = []; printed = [] })
 
 -- A whole call: the refusal, the stage after it, what is printed; a refused call leaves everything, and an accepted one leaves a bench that is accepted again.
-pub record Called (b : Bench) (l : Lent) (line out : List ℕ) (r : Outcome) (l′ : Lent) (out′ : List ℕ) : Type 0 where
+pub record Called (b : Bench) (l : Lent) (line out : List ℕ) (r : Played) (l′ : Lent) (out′ : List ℕ) : Type 0 where
   pub refusal-is : r .refusal ≡ benchRefused b (length (l .images)) (length (l .kept)) (length (l .numbers)) (length (l .bytes)) (length out)
   pub stage-is : stageOf (r .bench) l′ ≡ heard (r .refusal) (stageOf b l) line .stage
   pub text-is : out′ ≡ written 0 (heard (r .refusal) (stageOf b l) line .printed) out

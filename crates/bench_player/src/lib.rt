@@ -6,13 +6,13 @@ ghost use Prim.Native.Nat.{_+_, _≤_};
 ghost use lib.Dec.{eqb};
 ghost use lib.ListN.{length, take};
 ghost use Rattle.bench_carry.specs.Workers.{Lined};
-ghost use Rattle.bench_player.specs.Lining.{stageOf, lengthsRight, benchRefused, Called};
+ghost use Rattle.bench_player.specs.Lining.{stageOf, lentLengthsRight, benchRefused, Called};
 ghost use Rattle.bench_player.specs.Workers.{First};
 ghost use Rattle.bench_parse.specs.Lines.{reads};
-ghost use Rattle.bench_parse.specs.Workers.{lineOf, Sound};
+ghost use Rattle.bench_parse.specs.Workers.{lineOf, LineSound};
 ghost use Rattle.bench_rules.specs.Play.{plays, waiting};
 ghost use Rattle.bench_rules.specs.Turning.{Lent, lent, worldIn};
-ghost use Rattle.bench_rules.specs.Workers.{Ready};
+ghost use Rattle.bench_rules.specs.Workers.{BenchReady};
 ghost use Rattle.bench_state.specs.State.{benchRange};
 use bench_carry::carry_all;
 use bench_carry::switch_at;
@@ -30,7 +30,7 @@ fn play_first(
     kept: &mut [u8],
     out: &mut [u8],
 ) -> After
-    requires { ⌜ (lineOf l (now line) ≡ reads (now line)) × Sound l (now line) ⌝ }
+    requires { ⌜ (lineOf l (now line) ≡ reads (now line)) × LineSound l (now line) ⌝ }
     requires { ⌜ (b .settings .n ≡ 0) × (b .sent ≤ 127) ⌝ }
     requires { ⌜ (length (now images) ≡ 10240) × (length (now kept) ≡ 256) × (length (now out) ≡ 65536) ⌝ }
     ensures { λ r. ⌜ First (reads (now (line .entry))) (now (out .entry)) r (now (images .exit)) (now (kept .exit)) (now (out .exit)) ⌝ }
@@ -71,8 +71,8 @@ fn play_next(
     bytes: &mut [u8],
     out: &mut [u8],
 ) -> After
-    requires { ⌜ (lineOf l (now line) ≡ reads (now line)) × Sound l (now line) ⌝ }
-    requires { ⌜ Ready b (lent (now images) (now kept) (now numbers) (now bytes)) ⌝ }
+    requires { ⌜ (lineOf l (now line) ≡ reads (now line)) × LineSound l (now line) ⌝ }
+    requires { ⌜ BenchReady b (lent (now images) (now kept) (now numbers) (now bytes)) ⌝ }
     requires { ⌜ length (now out) ≡ 65536 ⌝ }
     ensures { λ r. ⌜ Lined b (lent (now (images .entry)) (now (kept .entry)) (now (numbers .entry)) (now (bytes .entry))) (now (out .entry)) (plays (b .settings) (worldIn b (lent (now (images .entry)) (now (kept .entry)) (now (numbers .entry)) (now (bytes .entry)))) (reads (now (line .entry)))) r (lent (now (images .exit)) (now (kept .exit)) (now (numbers .exit)) (now (bytes .exit))) (now (out .exit)) ⌝ }
 {
@@ -93,7 +93,7 @@ fn play_next(
 }
 
 // The bench after a whole line: a refusal's number, 0 for none, the record, and how many bytes are printed.
-pub struct Outcome {
+pub struct Played {
     pub refusal: u32,
     pub bench: Bench,
     pub used: usize,
@@ -111,7 +111,7 @@ fn settings_right(s: Settings) -> bool
 
 // Whether the lent buffers have their lengths.
 fn lengths_right(images: usize, kept: usize, numbers: usize, bytes: usize, out: usize) -> bool
-    ensures { λ r. ⌜ r ≡ lengthsRight images kept numbers bytes out ⌝ }
+    ensures { λ r. ⌜ r ≡ lentLengthsRight images kept numbers bytes out ⌝ }
 {
     if images != 10240 {
         return false;
@@ -179,7 +179,7 @@ pub fn play_line(
     numbers: &mut [u64],
     bytes: &mut [u8],
     out: &mut [u8],
-) -> Outcome
+) -> Played
     ensures { λ r. ⌜ Called b (lent (now (images .entry)) (now (kept .entry)) (now (numbers .entry)) (now (bytes .entry))) (now (line .entry)) (now (out .entry)) r (lent (now (images .exit)) (now (kept .exit)) (now (numbers .exit)) (now (bytes .exit))) (now (out .exit)) ⌝ }
 {
     let bad = bench_refused(
@@ -191,7 +191,7 @@ pub fn play_line(
         out.len(),
     );
     if bad != 0 {
-        return Outcome {
+        return Played {
             refusal: bad,
             bench: b,
             used: 0,
@@ -202,7 +202,7 @@ pub fn play_line(
     if s.n == 0 {
         let first = play_first(b, l, line, images, kept, out);
         let begun = first.bench;
-        return Outcome {
+        return Played {
             refusal: 0,
             bench: begun,
             used: first.used,
@@ -210,7 +210,7 @@ pub fn play_line(
     }
     let r = play_next(b, l, line, images, kept, numbers, bytes, out);
     let bench = r.bench;
-    Outcome {
+    Played {
         refusal: 0,
         bench,
         used: r.used,

@@ -7,7 +7,7 @@ use lib.Dec.{eqb, ltb, leb}
 use Rattle.byte_lists.specs.Lists.{put}
 use Rattle.coord_record.specs.Records.{readingKind}
 use Rattle.coord_apply.specs.Answers.{okSeen, readSeen, abortedSeen, cutSeen}
-use Rattle.coord_apply.specs.declared.Seen.{Seen}
+use Rattle.coord_apply.specs.declared.Notice.{Notice}
 
 -- a space, and the end of a line
 abbrev pub space : ℕ
@@ -85,7 +85,7 @@ unfoldable pub isEnd : ℕ → Bool
 isEnd what = cond (ltb what okSeen) false (leb what cutSeen)
 
 -- what is printed at the coordinator c
-unfoldable pub endedText : ℕ → Seen → List ℕ → List ℕ
+unfoldable pub endedText : ℕ → Notice → List ℕ → List ℕ
 endedText c seen stripe = cond (isEnd (seen .what)) (lineText c (seen .kind) (seen .time) (seen .what) stripe) []
 
 -- a list with a text in place of what it had from a place on

@@ -4,18 +4,18 @@ ghost use mathlib.Core.List.{[], _∷_, _++_};
 ghost use Prim.Native.Nat.{_+_, _≤_, _<_};
 ghost use lib.ListN.{length};
 ghost use Rattle.bench_print.specs.Printing.{space, newline, digit, decimal, hexDigit, hexText, refusedText, kindWord, endWord, lineText, endedText, written};
-ghost use Rattle.bench_print.specs.Workers.{Placed};
+ghost use Rattle.bench_print.specs.Workers.{PrintedAt};
 use coord_apply::ABORTED;
 use coord_apply::CUT;
+use coord_apply::Notice;
 use coord_apply::OK;
 use coord_apply::STRIPE;
-use coord_apply::Seen;
 use coord_record::READING;
 
 // One byte.
 fn put_byte(b: u8, at: usize, out: &mut [u8]) -> usize
     requires { ⌜ at < length (now out) ⌝ }
-    ensures { λ r. ⌜ Placed at (b ∷ []) (now (out .entry)) (now (out .exit)) r ⌝ }
+    ensures { λ r. ⌜ PrintedAt at (b ∷ []) (now (out .entry)) (now (out .exit)) r ⌝ }
 {
     out[at] = b;
     at + 1
@@ -24,7 +24,7 @@ fn put_byte(b: u8, at: usize, out: &mut [u8]) -> usize
 // A word.
 fn put_word(word: &[u8], at: usize, out: &mut [u8]) -> usize
     requires { ⌜ at + length (now word) ≤ length (now out) ⌝ }
-    ensures { λ r. ⌜ Placed at (now (word .entry)) (now (out .entry)) (now (out .exit)) r ⌝ }
+    ensures { λ r. ⌜ PrintedAt at (now (word .entry)) (now (out .entry)) (now (out .exit)) r ⌝ }
 {
     let mut i: usize = 0;
     while i < word.len() {
@@ -45,7 +45,7 @@ fn digit_of(k: u64) -> u8
 // A number in decimal.
 fn put_number(k: u64, at: usize, out: &mut [u8]) -> usize
     requires { ⌜ at + length (decimal k) ≤ length (now out) ⌝ }
-    ensures { λ r. ⌜ Placed at (decimal k) (now (out .entry)) (now (out .exit)) r ⌝ }
+    ensures { λ r. ⌜ PrintedAt at (decimal k) (now (out .entry)) (now (out .exit)) r ⌝ }
 {
     if k < 10 {
         return put_byte(digit_of(k), at, out);
@@ -68,7 +68,7 @@ fn hex_digit(k: u8) -> u8
 // Bytes in hexadecimal.
 fn put_hex(bytes: &[u8], at: usize, out: &mut [u8]) -> usize
     requires { ⌜ at + length (hexText (now bytes)) ≤ length (now out) ⌝ }
-    ensures { λ r. ⌜ Placed at (hexText (now (bytes .entry))) (now (out .entry)) (now (out .exit)) r ⌝ }
+    ensures { λ r. ⌜ PrintedAt at (hexText (now (bytes .entry))) (now (out .entry)) (now (out .exit)) r ⌝ }
 {
     let mut i: usize = 0;
     let mut to = at;
@@ -96,7 +96,7 @@ pub fn put_refused(number: u32, at: usize, out: &mut [u8]) -> usize
 // A number and a space.
 fn put_spaced(k: u64, at: usize, out: &mut [u8]) -> usize
     requires { ⌜ at + 21 ≤ length (now out) ⌝ }
-    ensures { λ r. ⌜ Placed at (decimal k ++ space ∷ []) (now (out .entry)) (now (out .exit)) r ⌝ }
+    ensures { λ r. ⌜ PrintedAt at (decimal k ++ space ∷ []) (now (out .entry)) (now (out .exit)) r ⌝ }
     ensures { λ r. ⌜ r ≤ at + 21 ⌝ }
 {
     let to = put_number(k, at, out);
@@ -106,7 +106,7 @@ fn put_spaced(k: u64, at: usize, out: &mut [u8]) -> usize
 // The kind of an operation and a space.
 fn put_kind(kind: u8, at: usize, out: &mut [u8]) -> usize
     requires { ⌜ at + 6 ≤ length (now out) ⌝ }
-    ensures { λ r. ⌜ Placed at (kindWord kind ++ space ∷ []) (now (out .entry)) (now (out .exit)) r ⌝ }
+    ensures { λ r. ⌜ PrintedAt at (kindWord kind ++ space ∷ []) (now (out .entry)) (now (out .exit)) r ⌝ }
     ensures { λ r. ⌜ r ≤ at + 6 ⌝ }
 {
     if kind == READING {
@@ -118,7 +118,7 @@ fn put_kind(kind: u8, at: usize, out: &mut [u8]) -> usize
 // How an operation ended, and the end of the line.
 fn put_end(what: u8, stripe: &[u8], at: usize, out: &mut [u8]) -> usize
     requires { ⌜ (at + 65 ≤ length (now out)) × (length (now stripe) ≤ 32) ⌝ }
-    ensures { λ r. ⌜ Placed at (endWord what (now (stripe .entry)) ++ newline ∷ []) (now (out .entry)) (now (out .exit)) r ⌝ }
+    ensures { λ r. ⌜ PrintedAt at (endWord what (now (stripe .entry)) ++ newline ∷ []) (now (out .entry)) (now (out .exit)) r ⌝ }
     ensures { λ r. ⌜ r ≤ at + 65 ⌝ }
 {
     if what == OK {
@@ -145,7 +145,7 @@ fn put_line(
     out: &mut [u8],
 ) -> usize
     requires { ⌜ (at + 128 ≤ length (now out)) × (length (now stripe) ≤ 32) ⌝ }
-    ensures { λ r. ⌜ Placed at (lineText c kind time what (now (stripe .entry))) (now (out .entry)) (now (out .exit)) r ⌝ }
+    ensures { λ r. ⌜ PrintedAt at (lineText c kind time what (now (stripe .entry))) (now (out .entry)) (now (out .exit)) r ⌝ }
     ensures { λ r. ⌜ r ≤ at + 113 ⌝ }
 {
     let first = put_spaced(c as u64, at, out);
@@ -155,7 +155,7 @@ fn put_line(
 }
 
 // What is printed of what is seen at the coordinator c: nothing, or the line of the operation that ended.
-pub fn put_ended(c: usize, seen: Seen, stripe: &[u8], at: usize, out: &mut [u8]) -> usize
+pub fn put_ended(c: usize, seen: Notice, stripe: &[u8], at: usize, out: &mut [u8]) -> usize
     requires { ⌜ (at + 128 ≤ length (now out)) × (length (now stripe) ≤ 32) ⌝ }
     ensures { λ r. ⌜ r ≡ at + length (endedText c seen (now (stripe .entry))) ⌝ }
     ensures { λ _. ⌜ now (out .exit) ≡ written at (endedText c seen (now (stripe .entry))) (now (out .entry)) ⌝ }

@@ -13,7 +13,7 @@ use Rattle.brick.specs.declared.Given.{Given}
 use Rattle.brick.specs.declared.Given.the-variants.{Answered, Silent, Refused}
 use Rattle.coord_apply.specs.Answers.{Step, refused, went}
 use Rattle.coordinator.specs.Routines.{takeStep, crashStep, writeStep, readStep}
-use Rattle.register.specs.Runs.{Item, message, reply, World, untouched, Event, startWrite, startRead, arrives, crashes, goesDown, comesUp, fresh, step}
+use Rattle.register.specs.Runs.{Item, message, reply, World, untouched, Event, startWrite, startRead, arrives, crashes, goesDown, comesUp, freshSet, step}
 use Rattle.bench_state.specs.State.{benchRange}
 use Rattle.bench_parse.specs.Lines.{Line, setLine, writeLine, readLine, carryLine, crashLine, downLine, upLine, noLine}
 use Rattle.bench_print.specs.Printing.{refusedText, endedText}
@@ -147,7 +147,7 @@ waits number = record { stage = waiting; events = []; printed = refusedText numb
 
 -- "`set n m size capacity` (first, one time)"; "Settings past the bench's limits are refusal 1"
 unfoldable pub begins : Settings → Turn
-begins s = cond (benchRange s) (record { stage = playing s (fresh s); events = []; printed = [] }) (waits badSetting)
+begins s = cond (benchRange s) (record { stage = playing s (freshSet s); events = []; printed = [] }) (waits badSetting)
 
 -- what is "no `set` while none is accepted" is refusal 12
 unfoldable pub first : Line → Turn

@@ -11,7 +11,7 @@ use Rattle.bench_rules.specs.declared.After.{After}
 use Rattle.bench_rules.specs.Turning.{Lent, worldIn}
 
 -- A set that is played: settings within the bench's limits, 127 messages at most, buffers of the right lengths.
-pub record Ready (b : Bench) (l : Lent) : Type 0 where
+pub record BenchReady (b : Bench) (l : Lent) : Type 0 where
   pub fits : Fits (b .settings)
   pub few : b .sent ≤ 127
   pub images-long : length (l .images) ≡ 10240

@@ -22,8 +22,8 @@ unfoldable pub flagsAt : List ℕ → ℕ → List ℕ
 flagsAt bytes k = take 16 (drop (k * 24) bytes)
 
 -- the block of row k, of this size
-unfoldable pub blockAt : ℕ → List ℕ → ℕ → List ℕ
-blockAt size bytes k = take size (drop (k * 24 + 16) bytes)
+unfoldable pub sentBlockAt : ℕ → List ℕ → ℕ → List ℕ
+sentBlockAt size bytes k = take size (drop (k * 24 + 16) bytes)
 
 -- row k read as a message
 unfoldable pub messageAt : List ℕ → List ℕ → ℕ → Message
@@ -53,8 +53,8 @@ replyAt numbers k =
 unfoldable pub itemAt : ℕ → List ℕ → List ℕ → ℕ → Item
 itemAt size numbers bytes k =
     cond (isReply numbers k)
-    (reply (replyAt numbers k) (blockAt size bytes k))
-    (message (numberAt numbers k 1) (messageAt numbers bytes k) (blockAt size bytes k))
+    (reply (replyAt numbers k) (sentBlockAt size bytes k))
+    (message (numberAt numbers k 1) (messageAt numbers bytes k) (sentBlockAt size bytes k))
 
 -- the items of the first k rows, in their order
 unfoldable pub itemsOf : ℕ → List ℕ → List ℕ → ℕ → List Item

@@ -5,12 +5,12 @@ ghost use mathlib.Core.Bool.{true, cond, not, _&&_};
 ghost use Prim.Native.Nat.{_*_, _≤_, _<_};
 ghost use lib.Dec.{eqb};
 ghost use lib.ListN.{length, drop, replicate};
-ghost use Rattle.bench_commit.specs.Workers.{Acted, Plays};
+ghost use Rattle.bench_commit.specs.Workers.{BenchActed, Plays};
 ghost use Rattle.bench_commit.specs.Workers.{Seats, Copies};
 ghost use Rattle.bench_parse.specs.Lines.{bytesOf};
 ghost use Rattle.bench_rules.specs.Content.{counted, content as content-of, content-small};
 ghost use Rattle.bench_rules.specs.Play.{unlessShort, writes, starts, crashesAt};
-ghost use Rattle.coord_apply.specs.Answers.{Held};
+ghost use Rattle.coord_apply.specs.Answers.{Buffered};
 ghost use Rattle.coordinator.specs.Routines.{crashStep, writeStep, readStep};
 ghost use Rattle.register.specs.Runs.{World, startWrite, startRead, untouched, crashes};
 use bench_commit::commit;
@@ -35,7 +35,7 @@ fn read_with(
 ) -> After
     requires { ⌜ Seats b c (now kept) (now numbers) (now bytes) 0 (now out) ⌝ }
     requires { ⌜ Copies (b .settings) (now blocks) (now stripe) (now blocks) ⌝ }
-    ensures { λ r. ⌜ Acted b c (startRead c clock brick) (λ (h : Held). readStep (b .settings .n) (b .settings .m) (b .settings .size) h clock brick) (now (kept .entry)) (now (numbers .entry)) (now (bytes .entry)) 0 (now (out .entry)) r (now (kept .exit)) (now (numbers .exit)) (now (bytes .exit)) (now (out .exit)) ⌝ }
+    ensures { λ r. ⌜ BenchActed b c (startRead c clock brick) (λ (h : Buffered). readStep (b .settings .n) (b .settings .m) (b .settings .size) h clock brick) (now (kept .entry)) (now (numbers .entry)) (now (bytes .entry)) 0 (now (out .entry)) r (now (kept .exit)) (now (numbers .exit)) (now (bytes .exit)) (now (out .exit)) ⌝ }
 {
     bench_state::fetch(c, kept, blocks, stripe);
     let s = b.settings;
@@ -69,7 +69,7 @@ fn crash_with(
 ) -> After
     requires { ⌜ Seats b c (now kept) (now numbers) (now bytes) 0 (now out) ⌝ }
     requires { ⌜ Copies (b .settings) (now blocks) (now stripe) (now blocks) ⌝ }
-    ensures { λ r. ⌜ Acted b c (crashes c untouched) (λ (h : Held). crashStep (b .settings .n) (b .settings .m) (b .settings .size) h) (now (kept .entry)) (now (numbers .entry)) (now (bytes .entry)) 0 (now (out .entry)) r (now (kept .exit)) (now (numbers .exit)) (now (bytes .exit)) (now (out .exit)) ⌝ }
+    ensures { λ r. ⌜ BenchActed b c (crashes c untouched) (λ (h : Buffered). crashStep (b .settings .n) (b .settings .m) (b .settings .size) h) (now (kept .entry)) (now (numbers .entry)) (now (bytes .entry)) 0 (now (out .entry)) r (now (kept .exit)) (now (numbers .exit)) (now (bytes .exit)) (now (out .exit)) ⌝ }
 {
     bench_state::fetch(c, kept, blocks, stripe);
     let s = b.settings;
@@ -131,7 +131,7 @@ fn write_with(
     requires { ⌜ Seats b c (now kept) (now numbers) (now bytes) 0 (now out) ⌝ }
     requires { ⌜ Copies (b .settings) (now blocks) (now stripe) (now blocks) ⌝ }
     requires { ⌜ (hex ≤ length (now line)) × (now content ≡ replicate (b .settings .m * b .settings .size) 0) ⌝ }
-    ensures { λ r. ⌜ Acted b c (startWrite c clock (content-of (b .settings) (drop hex (now (line .entry)))) (content-small (b .settings) (drop hex (now (line .entry))))) (λ (h : Held). unlessShort (counted (b .settings) (drop hex (now (line .entry)))) (writeStep (b .settings .n) (b .settings .m) (b .settings .size) h clock (content-of (b .settings) (drop hex (now (line .entry)))))) (now (kept .entry)) (now (numbers .entry)) (now (bytes .entry)) 0 (now (out .entry)) r (now (kept .exit)) (now (numbers .exit)) (now (bytes .exit)) (now (out .exit)) ⌝ }
+    ensures { λ r. ⌜ BenchActed b c (startWrite c clock (content-of (b .settings) (drop hex (now (line .entry)))) (content-small (b .settings) (drop hex (now (line .entry))))) (λ (h : Buffered). unlessShort (counted (b .settings) (drop hex (now (line .entry)))) (writeStep (b .settings .n) (b .settings .m) (b .settings .size) h clock (content-of (b .settings) (drop hex (now (line .entry)))))) (now (kept .entry)) (now (numbers .entry)) (now (bytes .entry)) 0 (now (out .entry)) r (now (kept .exit)) (now (numbers .exit)) (now (bytes .exit)) (now (out .exit)) ⌝ }
 {
     let right = read_content(line, hex, content);
     bench_state::fetch(c, kept, blocks, stripe);

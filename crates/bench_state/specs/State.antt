@@ -10,8 +10,8 @@ use Rattle.image.specs.Brick
 use Rattle.image.specs.Image.{imageOf, imageSize}
 use Rattle.coord_record.specs.Records.{idleWith}
 use Rattle.coord_record.specs.declared.Coordinator.{Coordinator}
-use Rattle.coord_apply.specs.Answers.{Held}
-use Rattle.register.specs.Runs.{Item, World, idle, fresh}
+use Rattle.coord_apply.specs.Answers.{Buffered}
+use Rattle.register.specs.Runs.{Item, World, idle}
 use Rattle.bench_state.specs.declared.Bench.{Bench}
 
 -- "n at most 4, capacity at most 4, block size at most 8"; "Settings past the bench's limits are refusal 1"
@@ -20,7 +20,7 @@ benchRange s = inRange s && (leb (s .n) 4 && leb (s .size) 8 && leb (s .capacity
 
 -- Brick b's image begins at byte 2,560 × b: 5 blocks of 512 bytes at most. A brick past n is not there: the world has a fresh one in its place.
 unfoldable pub imagesOf : Settings → List ℕ → ℕ → List ℕ
-imagesOf s images b = cond (ltb b (s .n)) (take (imageSize s) (drop (b * 2560) images)) (imageOf s b (Brick.fresh s))
+imagesOf s images b = cond (ltb b (s .n)) (take (imageSize s) (drop (b * 2560) images)) (imageOf s b (Brick.freshBrick s))
 
 -- a brick is up if its flag is 1
 unfoldable pub upOf : List ℕ → ℕ → Bool
@@ -31,8 +31,8 @@ unfoldable pub idleAt : ℕ → Coordinator
 idleAt c = idleWith (record { coordinator = c; last = 0 })
 
 -- "coordinators 0 to 3": what coordinator c keeps beside its record begins at byte 64 × c: the reply blocks, and the stripe from byte 32 on
-unfoldable pub heldAt : Settings → List Coordinator → List ℕ → ℕ → Held
-heldAt s coordinators kept c =
+unfoldable pub coordinatorKept : Settings → List Coordinator → List ℕ → ℕ → Buffered
+coordinatorKept s coordinators kept c =
     cond (ltb c 4)
     (record {
       state = getD coordinators c (idleAt c);
@@ -47,6 +47,6 @@ worldOf b images kept sent =
     record {
       images = imagesOf (b .settings) images;
       up = upOf (b .up);
-      coordinators = heldAt (b .settings) (b .coordinators) kept;
+      coordinators = coordinatorKept (b .settings) (b .coordinators) kept;
       sent = sent;
     }

@@ -9,7 +9,6 @@ use Rattle.settings.specs.declared.Settings.{Settings}
 use Rattle.image.specs.Brick
 use Rattle.image.specs.Image.{imageOf, imageSize}
 use Rattle.coord_record.specs.declared.Coordinator.{Coordinator}
-use Rattle.register.specs.Runs.{fresh}
 use Rattle.byte_lists.specs.Lists.{put}
 use Rattle.bench_state.specs.declared.Bench.{Bench}
 use mathlib.Core.Path.{_≡_}
@@ -45,7 +44,7 @@ keptWith c blocks stripe kept = put (c * 64 + 32) stripe (put (c * 64) blocks ke
 -- the first k bricks have fresh images
 pub record Begun (s : Settings) (images : List ℕ) (k : ℕ) : Type 0 where
   pub long : length images ≡ 10240
-  pub images-fresh : (b : ℕ) → b < k → take (imageSize s) (drop (b * 2560) images) ≡ imageOf s b (Brick.fresh s)
+  pub images-fresh : (b : ℕ) → b < k → take (imageSize s) (drop (b * 2560) images) ≡ imageOf s b (Brick.freshBrick s)
 
 -- what the bench asks of its settings, as numbers
 pub record Small (s : Settings) : Type 0 where

@@ -9,7 +9,7 @@ ghost use Rattle.bench_state.specs.State.{idleAt, worldOf};
 ghost use Rattle.bench_state.specs.Workers.{freshBench, withCoordinator, withSent, withUp, keptWith, benchRefusal};
 ghost use Rattle.bench_state.specs.Workers.{Small};
 ghost use Rattle.bench_state.specs.Workers.{Begun};
-ghost use Rattle.register.specs.Runs.{fresh};
+ghost use Rattle.register.specs.Runs.{freshSet};
 ghost use Rattle.settings.specs.Ranges.{inRange};
 use coord_record::Coordinator;
 use settings::Clock;
@@ -179,7 +179,7 @@ fn fresh_images(s: Settings, images: &mut [u8])
 pub fn set_up(s: Settings, images: &mut [u8], kept: &mut [u8]) -> Bench
     requires { ⌜ (inRange s ≡ true) × Small s ⌝ }
     requires { ⌜ (length (now images) ≡ 10240) × (length (now kept) ≡ 256) ⌝ }
-    ensures { λ r. ⌜ (r ≡ freshBench s) × (worldOf r (now (images .exit)) (now (kept .exit)) [] ≡ fresh s) ⌝ }
+    ensures { λ r. ⌜ (r ≡ freshBench s) × (worldOf r (now (images .exit)) (now (kept .exit)) [] ≡ freshSet s) ⌝ }
 {
     fresh_images(s, images);
     byte_lists::clear(kept);

@@ -10,10 +10,10 @@ use Rattle.settings.specs.declared.Settings.{Settings}
 use Rattle.message.specs.Kinds.{trimKind}
 use Rattle.message.specs.Messages.{messageRefusal}
 use Rattle.message.specs.declared.Message.{Message}
-use Rattle.image.specs.Brick.{Brick, count, timeAt}
+use Rattle.image.specs.Brick.{Brick, entryCount, timeAt}
 use Rattle.image.specs.Image.{imageOf}
 use Rattle.image.specs.Parse.{Parsed, Opens, Refuses, parse, openRefusal}
-use Rattle.brick_log.specs.BrickRules.{placeFor, replyTo, after, blockAfter}
+use Rattle.brick_log.specs.BrickRules.{placeFor, replyTo, brickAfter, blockAfter}
 use Rattle.brick.specs.declared.Given.{Given}
 use Rattle.brick.specs.declared.Given.the-variants.{Answered, Silent, Refused}
 
@@ -45,26 +45,26 @@ refusedWith number bytes out = record { given = Refused number; image = bytes; o
 unfoldable pub givenBy : Settings → ℕ → Brick → Message → Given
 givenBy s brick x msg = cond (eqb (msg .kind) trimKind) Silent (Answered (replyTo s brick x msg))
 
-unfoldable pub acted : Settings → ℕ → Message → List ℕ → List ℕ → List ℕ → Parsed → Outcome
-acted s brick msg block bytes out (Opens x) =
+unfoldable pub accepted : Settings → ℕ → Message → List ℕ → List ℕ → List ℕ → Parsed → Outcome
+accepted s brick msg block bytes out (Opens x) =
     record {
       given = givenBy s brick x msg;
-      image = imageOf s brick (after s x msg block);
+      image = imageOf s brick (brickAfter s x msg block);
       out = blockAfter x (placeFor brick x msg) out;
     }
-acted s brick msg block bytes out (Refuses number) = refusedWith number bytes out
+accepted s brick msg block bytes out (Refuses number) = refusedWith number bytes out
 
 unfoldable pub outcome : Settings → ℕ → List ℕ → Message → List ℕ → List ℕ → Outcome
 outcome s brick bytes msg block out =
     cond (eqb (receiveRefusal s brick bytes msg (length block) (length out)) passed)
-    (acted s brick msg block bytes out (parse s brick bytes))
+    (accepted s brick msg block bytes out (parse s brick bytes))
     (refusedWith (receiveRefusal s brick bytes msg (length block) (length out)) bytes out)
 
 -- The lookup under max gives the highest entry below it: entry i, if it gives i + 1.
 pub record Highest (x : Brick) (max i : ℕ) : Type 0 where
-  pub there : i < count x
+  pub there : i < entryCount x
   pub below : timeAt x i < max
-  pub highest : (j : ℕ) → j < count x → timeAt x j < max → timeAt x j ≤ timeAt x i
+  pub highest : (j : ℕ) → j < entryCount x → timeAt x j < max → timeAt x j ≤ timeAt x i
 
 -- 0 for a reply and for silence
 unfoldable pub givenNumber : Given → ℕ

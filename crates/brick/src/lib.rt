@@ -1,19 +1,18 @@
 // One message at one brick (document 01, "What a brick does").
 ghost use mathlib.Core.Path.{_≡_};
 ghost use lib.ListN.{length};
-ghost use Rattle.image.specs.Brick.{count};
 ghost use Rattle.image.specs.Image.{imageOf};
 ghost use Rattle.image.specs.Parse.{brickIn};
-ghost use Rattle.brick_log.specs.BrickRules.{placeFor, after, blockAfter};
+ghost use Rattle.brick_log.specs.BrickRules.{placeFor, brickAfter, blockAfter};
 ghost use Rattle.brick.specs.Receive.{blocksRefusal, givenBy, outcome};
-ghost use Rattle.brick_log.specs.Workers.{Ready, Ahead};
+ghost use Rattle.brick_log.specs.Workers.{LogReady, Ahead};
 use brick_change::change;
 use brick_change::give;
 use brick_change::trim;
 use brick_log::Known;
 use brick_log::Plan;
 use brick_log::plan_for;
-use image::Answer;
+use image::ImageAnswer;
 use image::number_of;
 use image::open;
 use message::Message;
@@ -39,11 +38,11 @@ fn act(
     block: &[u8],
     out: &mut [u8],
 ) -> Given
-    requires { ⌜ Ready s brick (now image) k ⌝ }
+    requires { ⌜ LogReady s brick (now image) k ⌝ }
     requires { ⌜ Ahead brick (brickIn s (now image)) k msg p ⌝ }
     requires { ⌜ (length (now block) ≡ s .size) × (length (now out) ≡ s .size) ⌝ }
     ensures { λ r. ⌜ r ≡ givenBy s brick (brickIn s (now (image .entry))) msg ⌝ }
-    ensures { λ r. ⌜ now (image .exit) ≡ imageOf s brick (after s (brickIn s (now (image .entry))) msg (now (block .entry))) ⌝ }
+    ensures { λ r. ⌜ now (image .exit) ≡ imageOf s brick (brickAfter s (brickIn s (now (image .entry))) msg (now (block .entry))) ⌝ }
     ensures { λ r. ⌜ now (out .exit) ≡ blockAfter (brickIn s (now (image .entry))) (placeFor brick (brickIn s (now (image .entry))) msg) (now (out .entry)) ⌝ }
 {
     if msg.kind == TRIM {
@@ -100,7 +99,7 @@ pub fn receive(
     }
     let o = open(s, brick, image);
     let answer = o.answer;
-    let Answer::Opened(head) = answer else {
+    let ImageAnswer::Opened(head) = answer else {
         return Given::Refused(number_of(answer));
     };
     let wrong = msg.refusal(s.n, s.m);

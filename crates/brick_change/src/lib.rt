@@ -2,12 +2,11 @@
 ghost use mathlib.Core.Path.{_≡_};
 ghost use Prim.Native.Nat.{_+_, _*_, _≤_, _<_};
 ghost use lib.ListN.{length};
-ghost use Rattle.image.specs.Brick.{count};
 ghost use Rattle.image.specs.Image.{imageOf};
 ghost use Rattle.image.specs.Parse.{brickIn};
 ghost use Rattle.image_write.specs.Workers.{without};
-ghost use Rattle.brick_log.specs.BrickRules.{orderYes, ordered, writeYes, written, yesTo, after};
-ghost use Rattle.brick_log.specs.Workers.{Ready, gaveOf};
+ghost use Rattle.brick_log.specs.BrickRules.{orderYes, orderedIfYes, writeYes, writtenIfYes, yesTo, brickAfter};
+ghost use Rattle.brick_log.specs.Workers.{LogReady, gaveOf};
 use brick_log::Known;
 use brick_log::order_yes;
 use byte_lists::store;
@@ -22,9 +21,9 @@ use settings::Settings;
 
 // The head with another promise, where that is granted.
 fn order(s: Settings, brick: usize, image: &mut [u8], k: Known, time: u64) -> bool
-    requires { ⌜ Ready s brick (now image) k ⌝ }
+    requires { ⌜ LogReady s brick (now image) k ⌝ }
     ensures { λ r. ⌜ r ≡ orderYes (brickIn s (now (image .entry))) time ⌝ }
-    ensures { λ r. ⌜ now (image .exit) ≡ imageOf s brick (ordered (brickIn s (now (image .entry))) time) ⌝ }
+    ensures { λ r. ⌜ now (image .exit) ≡ imageOf s brick (orderedIfYes (brickIn s (now (image .entry))) time) ⌝ }
 {
     if order_yes(k.newest, k.promise, time) {} else {
         return false;
@@ -35,10 +34,10 @@ fn order(s: Settings, brick: usize, image: &mut [u8], k: Known, time: u64) -> bo
 
 // An entry more, where that is granted.
 fn write(s: Settings, brick: usize, image: &mut [u8], k: Known, time: u64, block: &[u8]) -> bool
-    requires { ⌜ Ready s brick (now image) k ⌝ }
+    requires { ⌜ LogReady s brick (now image) k ⌝ }
     requires { ⌜ length (now block) ≡ s .size ⌝ }
     ensures { λ r. ⌜ r ≡ writeYes s (brickIn s (now (image .entry))) time ⌝ }
-    ensures { λ r. ⌜ now (image .exit) ≡ imageOf s brick (written s (brickIn s (now (image .entry))) time (now (block .entry))) ⌝ }
+    ensures { λ r. ⌜ now (image .exit) ≡ imageOf s brick (writtenIfYes s (brickIn s (now (image .entry))) time (now (block .entry))) ⌝ }
 {
     if order_yes(k.newest, k.promise, time) {} else {
         return false;
@@ -54,7 +53,7 @@ fn write(s: Settings, brick: usize, image: &mut [u8], k: Known, time: u64, block
 
 // The entries from number d on, kept.
 pub fn trim(s: Settings, brick: usize, image: &mut [u8], k: Known, d: usize)
-    requires { ⌜ Ready s brick (now image) k ⌝ }
+    requires { ⌜ LogReady s brick (now image) k ⌝ }
     requires { ⌜ d < k .count ⌝ }
     ensures { λ _. ⌜ now (image .exit) ≡ imageOf s brick (without (brickIn s (now (image .entry))) d) ⌝ }
 {
@@ -89,11 +88,11 @@ pub fn change(
     msg: Message,
     block: &[u8],
 ) -> bool
-    requires { ⌜ Ready s brick (now image) k ⌝ }
+    requires { ⌜ LogReady s brick (now image) k ⌝ }
     requires { ⌜ length (now block) ≡ s .size ⌝ }
     requires { ⌜ (msg .kind ≡ 5 → ⊥) ⌝ }
     ensures { λ r. ⌜ r ≡ yesTo s (brickIn s (now (image .entry))) msg ⌝ }
-    ensures { λ r. ⌜ now (image .exit) ≡ imageOf s brick (after s (brickIn s (now (image .entry))) msg (now (block .entry))) ⌝ }
+    ensures { λ r. ⌜ now (image .exit) ≡ imageOf s brick (brickAfter s (brickIn s (now (image .entry))) msg (now (block .entry))) ⌝ }
 {
     if msg.kind == READ {
         return k.promise <= k.newest;

@@ -8,8 +8,8 @@ use Rattle.message.specs.Flags.{member}
 use Rattle.message.specs.Kinds.{readKind, orderReadKind, writeKind, trimKind}
 use Rattle.message.specs.declared.Message.{Message}
 use Rattle.message.specs.declared.Reply.{Reply}
-use Rattle.image.specs.Brick.{Brick, LogEntry, count, timeAt, heldAt, newest}
-use Rattle.image_write.specs.Saving.{promised, appended}
+use Rattle.image.specs.Brick.{Brick, LogEntry, entryCount, timeAt, heldAt, newest}
+use Rattle.image_write.specs.Saving.{withPromise, withEntry}
 
 -- the three comparisons of an answer: "t is above newest",
 unfoldable pub aboveNewest : Brick → ℕ → Bool
@@ -21,7 +21,7 @@ notBelowPromise x t = leb (x .promise) t
 
 -- "and the log has a free entry"
 unfoldable pub hasFree : Settings → Brick → Bool
-hasFree s x = ltb (count x) (s .capacity)
+hasFree s x = ltb (entryCount x) (s .capacity)
 
 -- "Read: yes if newest is not below the promise."
 unfoldable pub readYes : Brick → Bool
@@ -36,12 +36,12 @@ unfoldable pub writeYes : Settings → Brick → ℕ → Bool
 writeYes s x t = orderYes x t && hasFree s x
 
 -- "then the promise becomes t"
-unfoldable pub ordered : Brick → ℕ → Brick
-ordered x t = cond (orderYes x t) (promised x t) x
+unfoldable pub orderedIfYes : Brick → ℕ → Brick
+orderedIfYes x t = cond (orderYes x t) (withPromise x t) x
 
 -- "then it is appended. The promise is left as it is."
-unfoldable pub written : Settings → Brick → ℕ → List ℕ → Brick
-written s x t block = cond (writeYes s x t) (appended x t block) x
+unfoldable pub writtenIfYes : Settings → Brick → ℕ → List ℕ → Brick
+writtenIfYes s x t block = cond (writeYes s x t) (withEntry x t block) x
 
 -- "Trim t: .. drops every entry under t other than the newest."
 unfoldable pub trimmed : ℕ → List LogEntry → List LogEntry
@@ -59,13 +59,13 @@ under x max zero = 0
 under x max (suc i) = cond (ltb (timeAt x i) max) (suc i) (under x max i)
 
 unfoldable pub lookup : Brick → ℕ → ℕ
-lookup x max = under x max (count x)
+lookup x max = under x max (entryCount x)
 
 -- the block that goes with the reply, by its number in the image, 0 for none: Read gives "its block if yes and the brick is a target",
 -- Order-and-read "on yes gives the entry .. with the highest time under max", the others none
 unfoldable pub placeFor : ℕ → Brick → Message → ℕ
 placeFor brick x msg =
-    cond (eqb (msg .kind) readKind) (cond (readYes x && member (msg .targets) brick) (count x) 0)
+    cond (eqb (msg .kind) readKind) (cond (readYes x && member (msg .targets) brick) (entryCount x) 0)
     (cond (eqb (msg .kind) orderReadKind) (cond (orderYes x (msg .time)) (lookup x (msg .max)) 0) 0)
 
 -- the time of an entry, by the number of its block; 0 for none
@@ -93,11 +93,11 @@ replyTo s brick x msg =
     }
 
 -- the brick after a message
-unfoldable pub after : Settings → Brick → Message → List ℕ → Brick
-after s x msg block =
+unfoldable pub brickAfter : Settings → Brick → Message → List ℕ → Brick
+brickAfter s x msg block =
     cond (eqb (msg .kind) trimKind) (trimmedTo x (msg .time))
-    (cond (eqb (msg .kind) writeKind) (written s x (msg .time) block)
-    (cond (eqb (msg .kind) readKind) x (ordered x (msg .time))))
+    (cond (eqb (msg .kind) writeKind) (writtenIfYes s x (msg .time) block)
+    (cond (eqb (msg .kind) readKind) x (orderedIfYes x (msg .time))))
 
 -- the bytes of the reply's block, or what the buffer held
 unfoldable pub blockAfter : Brick → ℕ → List ℕ → List ℕ

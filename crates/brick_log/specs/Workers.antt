@@ -5,7 +5,7 @@ use mathlib.Core.List.{List}
 use Prim.Native.Nat.{ℕ, zero, suc, _+_, _-_, _*_, _≤_, _<_}
 use lib.Dec.{leb, ltb, eqb}
 use lib.ListN.{take, drop, getD}
-use Rattle.image.specs.Brick.{Brick, count, newest}
+use Rattle.image.specs.Brick.{Brick, entryCount, newest}
 use Rattle.image.specs.Parse.{brickIn}
 use Rattle.image.specs.Workers.{Opened}
 use Rattle.settings.specs.declared.Settings.{Settings}
@@ -21,9 +21,9 @@ use Rattle.brick_log.specs.declared.Looked.{Looked}
 use Rattle.brick_log.specs.declared.Looked.the-variants.{Under, Nothing}
 
 -- an opened image, with what is known of its brick
-pub record Ready (s : Settings) (brick : ℕ) (l : List ℕ) (k : Known) : Type 0 where
+pub record LogReady (s : Settings) (brick : ℕ) (l : List ℕ) (k : Known) : Type 0 where
   pub saved : Opened s brick l (brickIn s l)
-  pub counts : k .count ≡ count (brickIn s l)
+  pub counts : k .count ≡ entryCount (brickIn s l)
   pub promises : k .promise ≡ brickIn s l .promise
   pub newests : k .newest ≡ newest (brickIn s l)
   pub low : 1 ≤ k .count
@@ -47,11 +47,11 @@ pub record Cut (log : List Entry) (n t d : ℕ) : Type 0 where
   pub here : d + 1 < n → t ≤ getD log d blank .time
 
 -- the block and the time of an entry by its place and 1, 0 for none
-unfoldable pub placeOf : List Entry → ℕ → ℕ
-placeOf log n = cond (eqb n 0) 0 (placeIn (getD log (n - 1) blank .holding))
+unfoldable pub lookedPlace : List Entry → ℕ → ℕ
+lookedPlace log n = cond (eqb n 0) 0 (placeIn (getD log (n - 1) blank .holding))
 
-unfoldable pub timeOf : List Entry → ℕ → ℕ
-timeOf log n = cond (eqb n 0) 0 (getD log (n - 1) blank .time)
+unfoldable pub lookedTime : List Entry → ℕ → ℕ
+lookedTime log n = cond (eqb n 0) 0 (getD log (n - 1) blank .time)
 
 unfoldable pub planOf : ℕ → ℕ → ℕ → Plan
 planOf place found cut = record { place = place; found = found; cut = cut }
@@ -73,7 +73,7 @@ underFor log k msg = cond (ltb (k .newest) (msg .time) && leb (k .promise) (msg 
 pub record Planned (log : List Entry) (k : Known) (msg : Message) (brick : ℕ) (p : Plan) : Type 0 where
   pub cuts : msg .kind ≡ 5 → Cut log (k .count) (msg .time) (p .cut)
   pub reads : msg .kind ≡ 1 → (p .place ≡ readPlace k (msg .targets) brick) × (p .found ≡ k .newest)
-  pub looks : msg .kind ≡ 3 → (p .place ≡ placeOf log (underFor log k msg)) × (p .found ≡ timeOf log (underFor log k msg))
+  pub looks : msg .kind ≡ 3 → (p .place ≡ lookedPlace log (underFor log k msg)) × (p .found ≡ lookedTime log (underFor log k msg))
   pub others : (msg .kind ≡ 1 → ⊥) → (msg .kind ≡ 3 → ⊥) → (p .place ≡ 0) × (p .found ≡ 0)
 
 -- the bytes of a block of the image, or what the buffer held

@@ -4,7 +4,7 @@ use mathlib.Core.List.{List, [], _∷_}
 use Prim.Native.Nat.{ℕ, _+_, _*_}
 use lib.Dec.{eqb, ltb}
 use lib.ListN.{getD, take}
-use Rattle.coord_apply.specs.Answers.{Held, Broadcast, Went, nothingSeen, beganSeen, okSeen, readSeen, abortedSeen}
+use Rattle.coord_apply.specs.Answers.{Buffered, Broadcast, Went, nothingSeen, beganSeen, okSeen, readSeen, abortedSeen}
 use Rattle.byte_lists.specs.Lists.{put}
 use Rattle.coord_record.specs.Records.{readingKind, idleWith, nothingCounted, noBricks}
 use Rattle.coord_record.specs.declared.Coordinator.{Coordinator}
@@ -46,7 +46,7 @@ unfoldable pub opened : Coordinator → ℕ → ℕ → List ℕ → Coordinator
 opened c phase max bricks = record { clock = c .clock; op = nextOp (c .op) phase max; tally = nothingCounted; bricks = bricks }
 
 -- the next round goes to all bricks; a Write round sends each its block of the stripe
-unfoldable pub nextRound : Held → ℕ → ℕ → List ℕ → List ℕ → List ℕ → Went
+unfoldable pub nextRound : Buffered → ℕ → ℕ → List ℕ → List ℕ → List ℕ → Went
 nextRound h phase max bricks stripe coded =
     record {
       next = record { state = opened (h .state) phase max bricks; blocks = h .blocks; stripe = stripe };
@@ -55,7 +55,7 @@ nextRound h phase max bricks stripe coded =
     }
 
 -- the operation ends, and its coordinator is idle
-unfoldable pub ending : Held → List ℕ → List Broadcast → ℕ → List ℕ → Went
+unfoldable pub ending : Buffered → List ℕ → List Broadcast → ℕ → List ℕ → Went
 ending h stripe sent what bricks =
     record {
       next = record { state = idleWith (h .state .clock); blocks = h .blocks; stripe = stripe };
@@ -68,7 +68,7 @@ unfoldable pub finishedSeen : Op → ℕ
 finishedSeen op = cond (eqb (op .kind) readingKind) readSeen okSeen
 
 -- What a decision does.
-unfoldable pub acted : ℕ → ℕ → ℕ → Held → Decision → Went
+unfoldable pub acted : ℕ → ℕ → ℕ → Buffered → Decision → Went
 -- "ends it aborted"
 acted n m size h Abort = ending h (h .stripe) [] abortedSeen noBricks
 -- "If all q say yes with one newest time and every target is among them, it decodes."
@@ -88,23 +88,23 @@ acted n m size h Finish =
     ending h (h .stripe) (record { message = trimMessage (h .state .op); blocks = [] } ∷ []) (finishedSeen (h .state .op)) (h .state .bricks)
 
 -- a reply's block in its place
-unfoldable pub placed : ℕ → ℕ → List ℕ → List ℕ → List ℕ
-placed size b block blocks = put (b * size) block blocks
+unfoldable pub withReplyBlock : ℕ → ℕ → List ℕ → List ℕ → List ℕ
+withReplyBlock size b block blocks = put (b * size) block blocks
 
 -- "The first reply of a brick in a round counts"
 unfoldable pub withTally : Coordinator → Tally → Coordinator
 withTally c t = record { clock = c .clock; op = c .op; tally = t; bricks = c .bricks }
 
-unfoldable pub counting : ℕ → Held → Reply → List ℕ → Held
+unfoldable pub counting : ℕ → Buffered → Reply → List ℕ → Buffered
 counting size h r block =
     record {
       state = withTally (h .state) (tallied (h .state .tally) r);
-      blocks = cond (r .held) (placed size (r .brick) block (h .blocks)) (h .blocks);
+      blocks = cond (r .held) (withReplyBlock size (r .brick) block (h .blocks)) (h .blocks);
       stripe = h .stripe;
     }
 
 -- "and the q-th decides"
-unfoldable pub waitingOr : ℕ → ℕ → ℕ → Held → Went
+unfoldable pub waitingOr : ℕ → ℕ → ℕ → Buffered → Went
 waitingOr n m size h =
     cond (ltb (members (h .state .tally .counted) n) (quorum n m)) (record { next = h; sent = []; seen = nothingSeen })
     (acted n m size h (decided n m (h .state .op) (h .state .tally)))
@@ -113,7 +113,7 @@ waitingOr n m size h =
 unfoldable pub firstOp : ℕ → ℕ → ℕ → ℕ → Op
 firstOp kind phase time first = record { kind = kind; phase = phase; time = time; round = 1; max = 0; first = first }
 
-unfoldable pub starting : Held → Clock → Op → List ℕ → List ℕ → Went
+unfoldable pub starting : Buffered → Clock → Op → List ℕ → List ℕ → Went
 starting h clock op stripe targets =
     record {
       next = record { state = record { clock = clock; op = op; tally = nothingCounted; bricks = noBricks }; blocks = h .blocks; stripe = stripe };
@@ -121,5 +121,5 @@ starting h clock op stripe targets =
       seen = record { what = beganSeen; kind = op .kind; time = op .time; bricks = noBricks };
     }
 
-unfoldable pub heldOf : Coordinator → List ℕ → List ℕ → Held
-heldOf c blocks stripe = record { state = c; blocks = blocks; stripe = stripe }
+unfoldable pub buffered : Coordinator → List ℕ → List ℕ → Buffered
+buffered c blocks stripe = record { state = c; blocks = blocks; stripe = stripe }

@@ -6,12 +6,12 @@ use lib.Dec.{eqb, leb}
 use Rattle.coord_record.specs.Records.{noBricks}
 use Rattle.coord_record.specs.declared.Coordinator.{Coordinator}
 use Rattle.coord_apply.specs.declared.Answer.{Answer}
-use Rattle.coord_apply.specs.declared.Seen.{Seen}
+use Rattle.coord_apply.specs.declared.Notice.{Notice}
 use Rattle.message.specs.Kinds.{writeKind}
 use Rattle.message.specs.declared.Message.{Message}
 
 -- A coordinator with what it keeps in lent buffers: the blocks of the replies, brick b's at b × size, and the stripe.
-pub record Held : Type 0 where
+pub record Buffered : Type 0 where
   pub state : Coordinator
   pub blocks : List ℕ
   pub stripe : List ℕ
@@ -22,17 +22,17 @@ pub record Broadcast : Type 0 where
   pub blocks : List ℕ
 
 pub record Went : Type 0 where
-  pub next : Held
+  pub next : Buffered
   pub sent : List Broadcast
-  pub seen : Seen
+  pub seen : Notice
 
 pub data Step : Type 0 where
   refused : ℕ → Step
   went : Went → Step
 
 -- "A refusal returns its number alone": the checks come first
-unfoldable pub checked : ℕ → Step → Step
-checked number step = cond (leb number 0) step (refused number)
+unfoldable pub afterChecks : ℕ → Step → Step
+afterChecks number step = cond (leb number 0) step (refused number)
 
 -- What is seen: nothing, the beginning of an operation, or its end: ok, the stripe read, aborted, cut.
 abbrev pub beganSeen : ℕ
@@ -50,7 +50,7 @@ abortedSeen = 4
 abbrev pub cutSeen : ℕ
 cutSeen = 5
 
-unfoldable pub nothingSeen : Seen
+unfoldable pub nothingSeen : Notice
 nothingSeen = record { what = 0; kind = 0; time = 0; bricks = noBricks }
 
 unfoldable pub noMessage : Message
@@ -77,11 +77,11 @@ answerOf c (went w) =
     record { refusal = 0; next = w .next .state; sent = sentCount (w .sent); message = sentMessage (w .sent); seen = w .seen }
 
 -- the lent buffers after it: a refusal leaves them
-unfoldable pub blocksAfter : Held → Step → List ℕ
+unfoldable pub blocksAfter : Buffered → Step → List ℕ
 blocksAfter h (refused number) = h .blocks
 blocksAfter h (went w) = w .next .blocks
 
-unfoldable pub stripeAfter : Held → Step → List ℕ
+unfoldable pub stripeAfter : Buffered → Step → List ℕ
 stripeAfter h (refused number) = h .stripe
 stripeAfter h (went w) = w .next .stripe
 

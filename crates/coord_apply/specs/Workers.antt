@@ -2,7 +2,7 @@
 use mathlib.Core.List.{List}
 use Prim.Native.Nat.{ℕ, _+_, _*_, _≤_, _<_}
 use lib.ListN.{getD, length}
-use Rattle.coord_apply.specs.Answers.{Held, nothingSeen, went, sentBlocks, answerOf}
+use Rattle.coord_apply.specs.Answers.{Buffered, nothingSeen, went, sentBlocks, answerOf}
 use Rattle.coord_record.specs.Records.{idleWith, noBricks}
 use Rattle.coord_record.specs.declared.Coordinator.{Coordinator}
 use Rattle.coord_decide.specs.declared.Decision.{Decision}
@@ -34,7 +34,7 @@ endAnswer c what bricks sent message =
     }
 
 -- what holds where a decision is carried out: the numbers are the lengths of the reply blocks and of the stripe
-pub record Ready (n m size : ℕ) (c : Coordinator) (blocks stripe : ℕ) : Type 0 where
+pub record DecisionReady (n m size : ℕ) (c : Coordinator) (blocks stripe : ℕ) : Type 0 where
   pub range : CodeRange n m size
   pub first-low : c .op .first < n
   pub round-low : c .op .round ≤ 1000
@@ -42,7 +42,7 @@ pub record Ready (n m size : ℕ) (c : Coordinator) (blocks stripe : ℕ) : Type
   pub stripe-length : stripe ≡ m * size
 
 -- the answer and the buffers are those of the decision
-pub record Acted (n m size : ℕ) (h : Held) (d : Decision) (coded : List ℕ) (r : Answer) (stripe′ coded′ : List ℕ) : Type 0 where
+pub record Acted (n m size : ℕ) (h : Buffered) (d : Decision) (coded : List ℕ) (r : Answer) (stripe′ coded′ : List ℕ) : Type 0 where
   pub answer : r ≡ answerOf (h .state) (went (acted n m size h d))
   pub stripe-left : stripe′ ≡ acted n m size h d .next .stripe
   pub coded-left : coded′ ≡ sentBlocks (acted n m size h d .sent) coded

@@ -3,9 +3,9 @@
 ghost use mathlib.Core.Path.{_≡_};
 ghost use Prim.Native.Nat.{_+_, _*_, _≤_, _<_};
 ghost use lib.ListN.{length, take};
-ghost use Rattle.coord_apply.specs.Acts.{heldOf};
-ghost use Rattle.coord_apply.specs.Workers.{Ready, Acted, openAnswer, endAnswer};
-ghost use Rattle.coord_apply.specs.Acts.{gathered, stripeFrom, placed, roundMessage, trimMessage, nextOp, finishedSeen};
+ghost use Rattle.coord_apply.specs.Acts.{buffered};
+ghost use Rattle.coord_apply.specs.Workers.{DecisionReady, Acted, openAnswer, endAnswer};
+ghost use Rattle.coord_apply.specs.Acts.{gathered, stripeFrom, withReplyBlock, roundMessage, trimMessage, nextOp, finishedSeen};
 ghost use Rattle.coord_tally.specs.Counting.{picked, targetRow, atTimes};
 ghost use Rattle.coord_decide.specs.Deciding.{decided};
 ghost use Rattle.erasure.specs.Code.{codedOf};
@@ -37,7 +37,7 @@ pub const ABORTED: u8 = 4;
 pub const CUT: u8 = 5;
 
 // what: nothing (0), or one of these, of the operation of this kind and time. bricks: the m bricks that a finished read decoded from.
-pub struct Seen {
+pub struct Notice {
     pub what: u8,
     pub kind: u8,
     pub time: u64,
@@ -51,14 +51,14 @@ pub struct Answer {
     pub next: Coordinator,
     pub sent: usize,
     pub message: Message,
-    pub seen: Seen,
+    pub seen: Notice,
 }
 
 // Nothing is seen.
-pub fn nothing_seen() -> Seen
+pub fn nothing_seen() -> Notice
     ensures { λ r. ⌜ r ≡ nothingSeen ⌝ }
 {
-    Seen {
+    Notice {
         what: 0,
         kind: 0,
         time: 0,
@@ -82,7 +82,7 @@ pub fn no_message() -> Message
 // A reply's block in its place.
 pub fn place(size: usize, b: usize, block: &[u8], blocks: &mut [u8])
     requires { ⌜ (length (now block) ≡ size) × (b * size + size ≤ length (now blocks)) ⌝ }
-    ensures { λ _. ⌜ now (blocks .exit) ≡ placed size b (now (block .entry)) (now (blocks .entry)) ⌝ }
+    ensures { λ _. ⌜ now (blocks .exit) ≡ withReplyBlock size b (now (block .entry)) (now (blocks .entry)) ⌝ }
 {
     let at = b * size;
     let end = at + size;
@@ -213,7 +213,7 @@ pub fn end(c: Coordinator, what: u8, bricks: [u8; 16], sent: usize, message: Mes
     let clock = c.clock;
     let op = c.op;
     let next = coord_record::idle_with(clock);
-    let seen = Seen {
+    let seen = Notice {
         what,
         kind: op.kind,
         time: op.time,
@@ -230,7 +230,7 @@ pub fn end(c: Coordinator, what: u8, bricks: [u8; 16], sent: usize, message: Mes
 
 // Decodes from the targets and answers.
 fn give(n: usize, m: usize, size: usize, c: Coordinator, blocks: &[u8], stripe: &mut [u8]) -> Answer
-    requires { ⌜ Ready n m size c (length (now blocks)) (length (now stripe)) ⌝ }
+    requires { ⌜ DecisionReady n m size c (length (now blocks)) (length (now stripe)) ⌝ }
     ensures { λ r. ⌜ r ≡ endAnswer c readSeen (targetRow n m (c .op .first)) 0 noMessage ⌝ }
     ensures { λ r. ⌜ now (stripe .exit) ≡ stripeFrom m size (targetRow n m (c .op .first)) (now (blocks .entry)) ⌝ }
 {
@@ -312,10 +312,10 @@ pub fn act(
     stripe: &mut [u8],
     coded: &mut [u8],
 ) -> Answer
-    requires { ⌜ Ready n m size c (length (now blocks)) (length (now stripe)) ⌝ }
+    requires { ⌜ DecisionReady n m size c (length (now blocks)) (length (now stripe)) ⌝ }
     requires { ⌜ length (now coded) ≡ n * size ⌝ }
     requires { ⌜ d ≡ decided n m (c .op) (c .tally) ⌝ }
-    ensures { λ r. ⌜ Acted n m size (heldOf c (now (blocks .entry)) (now (stripe .entry))) d (now (coded .entry)) r (now (stripe .exit)) (now (coded .exit)) ⌝ }
+    ensures { λ r. ⌜ Acted n m size (buffered c (now (blocks .entry)) (now (stripe .entry))) d (now (coded .entry)) r (now (stripe .exit)) (now (coded .exit)) ⌝ }
 {
     match d {
         Decision::Abort => end(c, ABORTED, [0u8; 16], 0, no_message()),

@@ -24,7 +24,7 @@ found-time n t = highest (t .held) (t .found) n
 unfoldable pub holders : ℕ → Tally → ℕ → ℕ
 holders n t time = count (atTimes (t .held) (t .found) time) n
 
-pub record Gives (n m : ℕ) (op : Op) (t : Tally) : Type 0 where
+pub record DecidesGive (n m : ℕ) (op : Op) (t : Tally) : Type 0 where
   pub phase-is : op .phase ≡ 1
   pub all-yes : AllYes n t
   pub one-time : some (otherTime (t .counted) (t .found) (highest (t .counted) (t .found) n)) n ≡ false
@@ -59,10 +59,10 @@ pub record Finishes (n m : ℕ) (op : Op) (t : Tally) : Type 0 where
   pub all-yes : AllYes n t
 
 -- What a decision says.
-unfoldable pub Says : ℕ → ℕ → Op → Tally → Decision → Type 0
-Says n m op t Abort = Unit {0}
-Says n m op t Give = Gives n m op t
-Says n m op t (Look max) = ((op .phase ≡ 1) × (max ≡ noUpperEnd)) ⊎ Lowers n m op t max
-Says n m op t Store = Stores n m op t
-Says n m op t (Recover time) = Recovers n m op t time
-Says n m op t Finish = Finishes n m op t
+unfoldable pub DecisionSays : ℕ → ℕ → Op → Tally → Decision → Type 0
+DecisionSays n m op t Abort = Unit {0}
+DecisionSays n m op t Give = DecidesGive n m op t
+DecisionSays n m op t (Look max) = ((op .phase ≡ 1) × (max ≡ noUpperEnd)) ⊎ Lowers n m op t max
+DecisionSays n m op t Store = Stores n m op t
+DecisionSays n m op t (Recover time) = Recovers n m op t time
+DecisionSays n m op t Finish = Finishes n m op t

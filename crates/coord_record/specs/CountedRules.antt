@@ -10,11 +10,11 @@ use Rattle.message.specs.Kinds.{readKind, orderReadKind}
 use Rattle.message.specs.Messages.{foundRight}
 
 -- "targets are m bricks counted upward from a given one, wrapping at n": how far brick b is above the first
-unfoldable pub above : ℕ → ℕ → ℕ → ℕ
-above n first b = cond (leb first b) (b - first) (n - first + b)
+unfoldable pub stepsAbove : ℕ → ℕ → ℕ → ℕ
+stepsAbove n first b = cond (leb first b) (b - first) (n - first + b)
 
 unfoldable pub isTarget : ℕ → ℕ → ℕ → ℕ → Bool
-isTarget n m first b = ltb (above n first b) m
+isTarget n m first b = ltb (stepsAbove n first b) m
 
 -- "with a block missing or present against the rules of that round":
 -- Read: "its block if yes and the brick is a target". Order-and-read: "on yes gives the entry holding a block .., and its time.

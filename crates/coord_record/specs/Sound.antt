@@ -57,7 +57,7 @@ filledRight n m c =
     bricksRight n (namedCount m (c .op)) (c .bricks) && tallyRight n m (c .op .phase) (c .op .first) (c .tally)
     && ltb (members (c .tally .counted) n) (quorum n m)
 
-unfoldable pub sound : ℕ → ℕ → Coordinator → Bool
-sound n m c =
+unfoldable pub soundRecord : ℕ → ℕ → Coordinator → Bool
+soundRecord n m c =
     leb (c .clock .coordinator) 15 && leb (c .clock .last) maxCount && ltb (c .op .first) n
     && opRight (c .op) && timeRight (c .op .kind) (c .op .time) (c .clock) && filledRight n m c

@@ -5,7 +5,7 @@ ghost use Prim.Native.Nat.{_≤_, _<_};
 ghost use Rattle.coord_record.specs.Records.{noOp, nothingCounted, idleWith};
 ghost use Rattle.coord_record.specs.CountedRules.{isTarget, blockRight, countedRight, entryRight, tallyRight, brickRight, bricksRight};
 ghost use Rattle.message.specs.Messages.{foundRight};
-ghost use Rattle.coord_record.specs.Sound.{maxRight, storedRight, readRight, writeRight, unsetOp, opRight, timeRight, namedCount, filledRight, sound};
+ghost use Rattle.coord_record.specs.Sound.{maxRight, storedRight, readRight, writeRight, unsetOp, opRight, timeRight, namedCount, filledRight, soundRecord};
 ghost use Rattle.settings.specs.Times.{maxCount};
 use message::ORDER;
 use message::ORDER_READ;
@@ -405,7 +405,7 @@ impl Coordinator {
     // Whether the record keeps every rule. n is at most 16.
     pub fn sound(self, n: usize, m: usize) -> bool
         requires { ⌜ n ≤ 16 ⌝ }
-        ensures { λ r. ⌜ r ≡ sound n m self ⌝ }
+        ensures { λ r. ⌜ r ≡ soundRecord n m self ⌝ }
     {
         let clock = self.clock;
         let op = self.op;

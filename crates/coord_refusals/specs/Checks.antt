@@ -4,7 +4,7 @@ use mathlib.Core.List.{List, [], _∷_}
 use Prim.Native.Nat.{ℕ, _*_}
 use lib.Dec.{eqb, leb, ltb}
 use Rattle.coord_record.specs.Records.{idleKind}
-use Rattle.coord_record.specs.Sound.{sound}
+use Rattle.coord_record.specs.Sound.{soundRecord}
 use Rattle.coord_record.specs.declared.Coordinator.{Coordinator}
 use Rattle.coord_decide.specs.Deciding.{answers}
 use Rattle.message.specs.Messages.{replyRefusal}
@@ -15,7 +15,7 @@ use Rattle.settings.specs.Times.{drawRefusal}
 
 -- a coordinator number above 15, a record that breaks a rule
 unfoldable pub recordChecks : ℕ → ℕ → Coordinator → List ℕ → List ℕ
-recordChecks n m c more = refuseUnless (leb (c .clock .coordinator) 15) badNumber ∷ refuseUnless (sound n m c) badRecord ∷ more
+recordChecks n m c more = refuseUnless (leb (c .clock .coordinator) 15) badNumber ∷ refuseUnless (soundRecord n m c) badRecord ∷ more
 
 -- what every start asks: besides these a reading in range, a count left, no operation
 unfoldable pub startChecks : ℕ → ℕ → Coordinator → ℕ → List ℕ

@@ -5,7 +5,7 @@ use Prim.Native.Nat.{ℕ}
 use lib.Dec.{eqb}
 use lib.ListN.{length}
 use Rattle.coord_apply.specs.Acts.{counting, waitingOr, ending, firstOp, starting}
-use Rattle.coord_apply.specs.Answers.{Held, Went, Step, refused, went, checked, nothingSeen, cutSeen}
+use Rattle.coord_apply.specs.Answers.{Buffered, Went, Step, refused, went, afterChecks, nothingSeen, cutSeen}
 use Rattle.coord_record.specs.Records.{idleKind, readingKind, writingKind, noBricks}
 use Rattle.coord_tally.specs.Counting.{targetFlags}
 use Rattle.coord_refusals.specs.Checks.{writeRefusal, readRefusal, takeRefusal, crashRefusal}
@@ -17,18 +17,18 @@ use Rattle.settings.specs.declared.Draw.{Draw}
 use Rattle.settings.specs.declared.Draw.the-variants.{Drawn, Refused}
 
 -- a reply reaches the coordinator
-unfoldable pub takeStep : ℕ → ℕ → ℕ → Held → Reply → List ℕ → ℕ → Step
+unfoldable pub takeStep : ℕ → ℕ → ℕ → Buffered → Reply → List ℕ → ℕ → Step
 takeStep n m size h r block coded =
-    checked (takeRefusal n m size (h .state) r (length block) (length (h .blocks)) (length (h .stripe)) coded)
+    afterChecks (takeRefusal n m size (h .state) r (length block) (length (h .blocks)) (length (h .stripe)) coded)
     (went (waitingOr n m size (counting size h r block)))
 
 -- a crash: "makes the coordinator idle and keeps its count"; at an idle one nothing is seen
-unfoldable pub crashed : Held → Went
+unfoldable pub crashed : Buffered → Went
 crashed h =
     cond (eqb (h .state .op .kind) idleKind) (record { next = h; sent = []; seen = nothingSeen }) (ending h (h .stripe) [] cutSeen noBricks)
 
-unfoldable pub crashStep : ℕ → ℕ → ℕ → Held → Step
-crashStep n m size h = checked (crashRefusal n m size (h .state)) (went (crashed h))
+unfoldable pub crashStep : ℕ → ℕ → ℕ → Buffered → Step
+crashStep n m size h = afterChecks (crashRefusal n m size (h .state)) (went (crashed h))
 
 -- a draw that is refused passes its number on
 unfoldable pub drawnThen : Draw → (ℕ → Clock → Went) → Step
@@ -36,15 +36,15 @@ drawnThen (Drawn time clock) f = went (f time clock)
 drawnThen (Refused number) f = refused number
 
 -- a write starts with an Order round, and keeps its bytes
-unfoldable pub writeStep : ℕ → ℕ → ℕ → Held → ℕ → List ℕ → Step
+unfoldable pub writeStep : ℕ → ℕ → ℕ → Buffered → ℕ → List ℕ → Step
 writeStep n m size h reading bytes =
-    checked (writeRefusal n m size (h .state) reading (length bytes) (length (h .stripe)))
+    afterChecks (writeRefusal n m size (h .state) reading (length bytes) (length (h .stripe)))
     (drawnThen (drawOf (h .state .clock) reading)
     (λ (time : ℕ) (clock : Clock). starting h clock (firstOp writingKind orderKind time 0) bytes noBricks))
 
 -- a read starts with "a Read round whose targets are m bricks counted upward from a given one, wrapping at n"
-unfoldable pub readStep : ℕ → ℕ → ℕ → Held → ℕ → ℕ → Step
+unfoldable pub readStep : ℕ → ℕ → ℕ → Buffered → ℕ → ℕ → Step
 readStep n m size h reading first =
-    checked (readRefusal n m size (h .state) reading first)
+    afterChecks (readRefusal n m size (h .state) reading first)
     (drawnThen (drawOf (h .state .clock) reading)
     (λ (time : ℕ) (clock : Clock). starting h clock (firstOp readingKind readKind time first) (h .stripe) (targetFlags n m first)))

@@ -2,7 +2,7 @@
 use mathlib.Core.Bool.{cond, true}
 use mathlib.Core.List.{List}
 use Prim.Native.Nat.{ℕ, _+_, _*_, _≤_}
-use Rattle.coord_apply.specs.Acts.{roundMessage, placed}
+use Rattle.coord_apply.specs.Acts.{roundMessage, withReplyBlock}
 use Rattle.coord_apply.specs.Answers.{nothingSeen, noMessage, beganSeen}
 use Rattle.coord_record.specs.Records.{noBricks, nothingCounted}
 use Rattle.message.specs.declared.Reply.{Reply}
@@ -29,9 +29,9 @@ startAnswer clock op targets =
 
 -- the reply blocks with a reply's own
 unfoldable pub keptBlocks : ℕ → Reply → List ℕ → List ℕ → List ℕ
-keptBlocks size r block blocks = cond (r .held) (placed size (r .brick) block blocks) blocks
+keptBlocks size r block blocks = cond (r .held) (withReplyBlock size (r .brick) block blocks) blocks
 
 -- the same, as the code that keeps it asks
-pub record Keeps (size : ℕ) (r : Reply) (block blocks : ℕ) : Type 0 where
+pub record KeepsReply (size : ℕ) (r : Reply) (block blocks : ℕ) : Type 0 where
   pub block-length : r .held ≡ true → block ≡ size
   pub within : r .brick * size + size ≤ blocks

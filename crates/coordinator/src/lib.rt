@@ -4,15 +4,15 @@ ghost use mathlib.Core.Path.{_≡_};
 ghost use mathlib.Core.List.{List};
 ghost use Prim.Native.Nat.{ℕ, _<_};
 ghost use lib.ListN.{length};
-ghost use Rattle.coord_apply.specs.Acts.{heldOf};
+ghost use Rattle.coord_apply.specs.Acts.{buffered};
 ghost use Rattle.coord_apply.specs.Acts.{withTally, firstOp};
 ghost use Rattle.coord_apply.specs.Answers.{refused, answerOf, blocksAfter, stripeAfter, codedAfter};
 ghost use Rattle.coordinator.specs.Routines.{writeStep, readStep, takeStep, crashStep};
-ghost use Rattle.coordinator.specs.Workers.{keptAnswer, startAnswer, keptBlocks, Keeps};
+ghost use Rattle.coordinator.specs.Workers.{keptAnswer, startAnswer, keptBlocks, KeepsReply};
 use coord_apply::Answer;
 use coord_apply::BEGAN;
 use coord_apply::CUT;
-use coord_apply::Seen;
+use coord_apply::Notice;
 use coord_record::Coordinator;
 use coord_record::IDLE;
 use coord_record::Op;
@@ -85,7 +85,7 @@ fn begin(clock: Clock, op: Op, targets: [u8; 16]) -> Answer
         bricks: [0u8; 16],
     };
     let message = coord_apply::round_message(op, targets);
-    let seen = Seen {
+    let seen = Notice {
         what: BEGAN,
         kind: op.kind,
         time: op.time,
@@ -102,7 +102,7 @@ fn begin(clock: Clock, op: Op, targets: [u8; 16]) -> Answer
 
 // A reply's block in its place, if it holds one.
 fn keep(size: usize, reply: Reply, block: &[u8], blocks: &mut [u8])
-    requires { ⌜ Keeps size reply (length (now block)) (length (now blocks)) ⌝ }
+    requires { ⌜ KeepsReply size reply (length (now block)) (length (now blocks)) ⌝ }
     ensures { λ _. ⌜ now (blocks .exit) ≡ keptBlocks size reply (now (block .entry)) (now (blocks .entry)) ⌝ }
 {
     if reply.held {
@@ -136,8 +136,8 @@ pub fn start_write(
     bytes: &[u8],
     stripe: &mut [u8],
 ) -> Answer
-    ensures { λ r. ⌜ ((blocks : List ℕ) → r ≡ answerOf c (writeStep n m size (heldOf c blocks (now (stripe .entry))) reading (now (bytes .entry)))) ⌝ }
-    ensures { λ r. ⌜ ((blocks : List ℕ) → now (stripe .exit) ≡ stripeAfter (heldOf c blocks (now (stripe .entry))) (writeStep n m size (heldOf c blocks (now (stripe .entry))) reading (now (bytes .entry)))) ⌝ }
+    ensures { λ r. ⌜ ((blocks : List ℕ) → r ≡ answerOf c (writeStep n m size (buffered c blocks (now (stripe .entry))) reading (now (bytes .entry)))) ⌝ }
+    ensures { λ r. ⌜ ((blocks : List ℕ) → now (stripe .exit) ≡ stripeAfter (buffered c blocks (now (stripe .entry))) (writeStep n m size (buffered c blocks (now (stripe .entry))) reading (now (bytes .entry)))) ⌝ }
 {
     let bad = write_refusal(n, m, size, c, reading, bytes.len(), stripe.len());
     if bad != 0 {
@@ -163,7 +163,7 @@ pub fn start_read(
     reading: u64,
     first: usize,
 ) -> Answer
-    ensures { λ r. ⌜ ((blocks stripe : List ℕ) → r ≡ answerOf c (readStep n m size (heldOf c blocks stripe) reading first)) ⌝ }
+    ensures { λ r. ⌜ ((blocks stripe : List ℕ) → r ≡ answerOf c (readStep n m size (buffered c blocks stripe) reading first)) ⌝ }
 {
     let bad = read_refusal(n, m, size, c, reading, first);
     if bad != 0 {
@@ -181,7 +181,7 @@ pub fn start_read(
 
 // A crash: the coordinator is idle and keeps its count. Refused: 1 settings, 3 the coordinator's number, 6 the record.
 pub fn crash(n: usize, m: usize, size: usize, c: Coordinator) -> Answer
-    ensures { λ r. ⌜ ((blocks stripe : List ℕ) → r ≡ answerOf c (crashStep n m size (heldOf c blocks stripe))) ⌝ }
+    ensures { λ r. ⌜ ((blocks stripe : List ℕ) → r ≡ answerOf c (crashStep n m size (buffered c blocks stripe))) ⌝ }
 {
     let bad = crash_refusal(n, m, size, c);
     if bad != 0 {
@@ -208,10 +208,10 @@ pub fn take_reply(
     stripe: &mut [u8],
     coded: &mut [u8],
 ) -> Answer
-    ensures { λ r. ⌜ r ≡ answerOf c (takeStep n m size (heldOf c (now (blocks .entry)) (now (stripe .entry))) reply (now (block .entry)) (length (now (coded .entry)))) ⌝ }
-    ensures { λ r. ⌜ now (blocks .exit) ≡ blocksAfter (heldOf c (now (blocks .entry)) (now (stripe .entry))) (takeStep n m size (heldOf c (now (blocks .entry)) (now (stripe .entry))) reply (now (block .entry)) (length (now (coded .entry)))) ⌝ }
-    ensures { λ r. ⌜ now (stripe .exit) ≡ stripeAfter (heldOf c (now (blocks .entry)) (now (stripe .entry))) (takeStep n m size (heldOf c (now (blocks .entry)) (now (stripe .entry))) reply (now (block .entry)) (length (now (coded .entry)))) ⌝ }
-    ensures { λ r. ⌜ now (coded .exit) ≡ codedAfter (now (coded .entry)) (takeStep n m size (heldOf c (now (blocks .entry)) (now (stripe .entry))) reply (now (block .entry)) (length (now (coded .entry)))) ⌝ }
+    ensures { λ r. ⌜ r ≡ answerOf c (takeStep n m size (buffered c (now (blocks .entry)) (now (stripe .entry))) reply (now (block .entry)) (length (now (coded .entry)))) ⌝ }
+    ensures { λ r. ⌜ now (blocks .exit) ≡ blocksAfter (buffered c (now (blocks .entry)) (now (stripe .entry))) (takeStep n m size (buffered c (now (blocks .entry)) (now (stripe .entry))) reply (now (block .entry)) (length (now (coded .entry)))) ⌝ }
+    ensures { λ r. ⌜ now (stripe .exit) ≡ stripeAfter (buffered c (now (blocks .entry)) (now (stripe .entry))) (takeStep n m size (buffered c (now (blocks .entry)) (now (stripe .entry))) reply (now (block .entry)) (length (now (coded .entry)))) ⌝ }
+    ensures { λ r. ⌜ now (coded .exit) ≡ codedAfter (now (coded .entry)) (takeStep n m size (buffered c (now (blocks .entry)) (now (stripe .entry))) reply (now (block .entry)) (length (now (coded .entry)))) ⌝ }
 {
     let bad = take_refusal(
         n,

@@ -9,7 +9,7 @@ use Rattle.register.specs.Runs.{untouched, Event, startWrite, startRead, arrive
 abbrev pub small : Settings
 small = record { n = 3; m = 1; size = 1; capacity = 4 }
 
-ten : Bytes (10 ∷ [])
+pub ten : Bytes (10 ∷ [])
 unfolding Bytes
 ten = (omega arith, tt)
 

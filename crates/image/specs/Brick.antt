@@ -20,8 +20,8 @@ pub record Brick : Type 0 where
   pub promise : ℕ
   pub log : List LogEntry
 
-unfoldable pub count : Brick → ℕ
-count x = length (x .log)
+unfoldable pub entryCount : Brick → ℕ
+entryCount x = length (x .log)
 
 -- what stands where no entry is
 unfoldable pub noEntry : LogEntry
@@ -36,11 +36,11 @@ heldAt x i = getD (x .log) i noEntry .block
 
 -- "'Newest' is the last entry's time."
 unfoldable pub newest : Brick → ℕ
-newest x = timeAt x (count x - 1)
+newest x = timeAt x (entryCount x - 1)
 
 -- "Fresh: promise 0, one entry of time 0 with a zero block."
-unfoldable pub fresh : Settings → Brick
-fresh s = record { promise = 0; log = record { time = 0; block = zeros (s .size) } ∷ [] }
+unfoldable pub freshBrick : Settings → Brick
+freshBrick s = record { promise = 0; log = record { time = 0; block = zeros (s .size) } ∷ [] }
 
 -- "Promise and entry times are 0 or valid times."
 unfoldable pub savedTime : ℕ → Bool
@@ -59,8 +59,8 @@ unfoldable pub countSound : Settings → ℕ → Bool
 countSound s n = leb 1 n && leb n (s .capacity)
 
 -- a brick's promise and log keep to these rules
-unfoldable pub sound : Settings → Brick → Bool
-sound s x = countSound s (count x) && savedTime (x .promise) && each (entrySound s x) (count x)
+unfoldable pub soundBrick : Settings → Brick → Bool
+soundBrick s x = countSound s (entryCount x) && savedTime (x .promise) && each (entrySound s x) (entryCount x)
 
 pub record EntrySound (s : Settings) (x : Brick) (i : ℕ) : Type 0 where
   pub saved : savedTime (timeAt x i) ≡ true
@@ -68,7 +68,7 @@ pub record EntrySound (s : Settings) (x : Brick) (i : ℕ) : Type 0 where
   pub sized : length (heldAt x i) ≡ s .size
 
 pub record Sound (s : Settings) (x : Brick) : Type 0 where
-  pub count-low : 1 ≤ count x
-  pub count-high : count x ≤ s .capacity
+  pub count-low : 1 ≤ entryCount x
+  pub count-high : entryCount x ≤ s .capacity
   pub promise-saved : savedTime (x .promise) ≡ true
-  pub entries : (i : ℕ) → i < count x → EntrySound s x i
+  pub entries : (i : ℕ) → i < entryCount x → EntrySound s x i

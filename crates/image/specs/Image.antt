@@ -1,25 +1,21 @@
 -- Document 01, "The saved brick": "capacity + 1 blocks of 512 bytes".
 use mathlib.Core.Bool.{cond}
-use mathlib.Core.List.{List, [], _++_}
+use mathlib.Core.List.{List, []}
 use Prim.Native.Nat.{ℕ, zero, suc, _+_, _*_}
 use lib.Dec.{ltb}
 use Rattle.settings.specs.declared.Settings.{Settings}
+use Rattle.byte_lists.specs.Lists.{stacked}
 use Rattle.image_block.specs.Block.{headBlock, entryBlock, unusedBlock}
-use Rattle.image.specs.Brick.{Brick, count, timeAt, heldAt}
+use Rattle.image.specs.Brick.{Brick, entryCount, timeAt, heldAt}
 
 -- "Block 0 is the head", "Blocks 1 to count are entries", the others are unused
-unfoldable pub blockOf : Settings → ℕ → Brick → ℕ → List ℕ
-blockOf s brick x zero = headBlock s brick (count x) (x .promise)
-blockOf s brick x (suc i) = cond (ltb i (count x)) (entryBlock (timeAt x i) (heldAt x i)) unusedBlock
-
--- the first k blocks, one after the other
-unfoldable pub stacked : (ℕ → List ℕ) → ℕ → List ℕ
-stacked f zero = []
-stacked f (suc k) = stacked f k ++ f k
+unfoldable pub imageBlock : Settings → ℕ → Brick → ℕ → List ℕ
+imageBlock s brick x zero = headBlock s brick (entryCount x) (x .promise)
+imageBlock s brick x (suc i) = cond (ltb i (entryCount x)) (entryBlock (timeAt x i) (heldAt x i)) unusedBlock
 
 -- the saved form of a brick
 unfoldable pub imageOf : Settings → ℕ → Brick → List ℕ
-imageOf s brick x = stacked (blockOf s brick x) (s .capacity + 1)
+imageOf s brick x = stacked (s .capacity + 1) (imageBlock s brick x)
 
 unfoldable pub imageSize : Settings → ℕ
 imageSize s = 512 * (s .capacity + 1)

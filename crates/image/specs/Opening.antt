@@ -6,14 +6,14 @@ use lib.Dec.{ltb, eqb}
 use Rattle.settings.specs.Ranges.{inRange}
 use Rattle.settings.specs.Refusal.{refuseUnless, firstRefusal, badSetting, badLength, badNumber}
 use Rattle.settings.specs.declared.Settings.{Settings}
-use Rattle.image.specs.Brick.{Brick, count, timeAt, newest}
+use Rattle.image.specs.Brick.{Brick, entryCount, timeAt, newest}
 use Rattle.image.specs.Image.{imageSize}
 use Rattle.image.specs.Parse.{Parsed, Opens, Refuses}
 use Rattle.image.specs.declared.Entry.{Entry}
 use Rattle.image.specs.declared.Holding.{Holding}
 use Rattle.image.specs.declared.Holding.the-variants.{Held}
-use Rattle.image.specs.declared.Answer.{Answer}
-use Rattle.image.specs.declared.Answer.the-variants.{Opened, Refused}
+use Rattle.image.specs.declared.ImageAnswer.{ImageAnswer}
+use Rattle.image.specs.declared.ImageAnswer.the-variants.{Opened, Refused}
 use Rattle.image.specs.declared.Shown.{Shown}
 use Rattle.image.specs.declared.Shown.the-variants.{Values}
 use Rattle.image.specs.declared.Opening.{Opening}
@@ -34,7 +34,7 @@ unfoldable pub entryFor : ℕ → ℕ → ℕ → Entry
 entryFor time i n = cond (ltb i n) (record { time = time; holding = Held (i + 1) }) blank
 
 unfoldable pub entryOf : Brick → ℕ → Entry
-entryOf x i = entryFor (timeAt x i) i (count x)
+entryOf x i = entryFor (timeAt x i) i (entryCount x)
 
 -- the place that an entry of the working log names
 unfoldable pub placeIn : Holding → ℕ
@@ -49,11 +49,11 @@ noBlank i = blank
 
 -- what the code answers: the count and the promise, and the working log; or the number of the refusal, and blanks
 unfoldable pub opening : Parsed → Opening
-opening (Opens x) = record { answer = Opened (record { count = count x; promise = x .promise }); log = workingLog x }
+opening (Opens x) = record { answer = Opened (record { count = entryCount x; promise = x .promise }); log = workingLog x }
 opening (Refuses k) = record { answer = Refused k; log = rowOf noBlank 32 }
 
 -- the number in an answer, 0 in one that opened
-unfoldable pub answerNumber : Answer → ℕ
+unfoldable pub answerNumber : ImageAnswer → ℕ
 answerNumber (Opened head) = 0
 answerNumber (Refused k) = k
 

@@ -10,13 +10,13 @@ use Rattle.settings.specs.declared.Settings.{Settings}
 use Rattle.byte_lists.specs.Little.{number}
 use Rattle.image_block.specs.Block.{checked}
 use Rattle.byte_lists.specs.Lists.{same}
-use Rattle.image.specs.Brick.{Brick, LogEntry, sound}
+use Rattle.image.specs.Brick.{Brick, LogEntry, soundBrick}
 use Rattle.byte_lists.specs.Each.{each}
 use Rattle.image.specs.Image.{imageOf, imageSize}
 
 -- block k of some bytes
-unfoldable pub blockAt : List ℕ → ℕ → List ℕ
-blockAt bytes k = take 512 (drop (512 * k) bytes)
+unfoldable pub imageBlockAt : List ℕ → ℕ → List ℕ
+imageBlockAt bytes k = take 512 (drop (512 * k) bytes)
 
 -- "Block 0 is the head: .. 10–11 entry count (1 to capacity), 12–19 promise."
 unfoldable pub countIn : List ℕ → ℕ
@@ -38,19 +38,19 @@ entryIn size block = record { time = timeIn block; block = heldIn size block }
 -- the entries in n blocks from block k on
 unfoldable pub entriesIn : ℕ → List ℕ → ℕ → ℕ → List LogEntry
 entriesIn size bytes k zero = []
-entriesIn size bytes k (suc n) = entryIn size (blockAt bytes k) ∷ entriesIn size bytes (suc k) n
+entriesIn size bytes k (suc n) = entryIn size (imageBlockAt bytes k) ∷ entriesIn size bytes (suc k) n
 
 -- the brick whose fields stand in some bytes
 unfoldable pub brickIn : Settings → List ℕ → Brick
-brickIn s bytes = record { promise = promiseIn (blockAt bytes 0); log = entriesIn (s .size) bytes 1 (countIn (blockAt bytes 0)) }
+brickIn s bytes = record { promise = promiseIn (imageBlockAt bytes 0); log = entriesIn (s .size) bytes 1 (countIn (imageBlockAt bytes 0)) }
 
 -- whether the check of block k holds
 unfoldable pub checkedAt : List ℕ → ℕ → Bool
-checkedAt bytes k = checked (blockAt bytes k)
+checkedAt bytes k = checked (imageBlockAt bytes k)
 
 -- whether the bytes are, to the last one, the image of a brick that keeps to the rules
 unfoldable pub isImage : Settings → ℕ → List ℕ → Bool
-isImage s brick bytes = sound s (brickIn s bytes) && same (imageOf s brick (brickIn s bytes)) bytes
+isImage s brick bytes = soundBrick s (brickIn s bytes) && same (imageOf s brick (brickIn s bytes)) bytes
 
 -- Why an image doesn't open, lowest number first: 1 a setting outside its range, 2 a wrong length, 3 a brick number not below n,
 -- 5 a block whose check fails, 6 anything else that no brick's image has.

@@ -8,11 +8,11 @@ use Rattle.settings.specs.Ranges.{inRange}
 use Rattle.settings.specs.declared.Settings.{Settings}
 use Rattle.image_block.specs.Block.{headBody, entryBody, unusedBody}
 use Rattle.byte_lists.specs.Lists.{same}
-use Rattle.image.specs.Brick.{Brick, count, savedTime, countSound}
+use Rattle.image.specs.Brick.{Brick, entryCount, savedTime, countSound}
 use Rattle.image.specs.Image.{imageSize}
-use Rattle.image.specs.Parse.{heldIn, Opens, parse, blockAt, checkedAt, timeIn}
+use Rattle.image.specs.Parse.{heldIn, Opens, parse, imageBlockAt, checkedAt, timeIn}
 use Rattle.image.specs.declared.Entry.{Entry}
-use Rattle.image.specs.declared.Answer.the-variants.{Opened}
+use Rattle.image.specs.declared.ImageAnswer.the-variants.{Opened}
 use Rattle.image.specs.declared.Opening.{Opening}
 use mathlib.Core.Path.{_≡_}
 use Rattle.image.specs.declared.Head.{Head}
@@ -43,7 +43,7 @@ pub record Hub (s : Settings) (brick : ℕ) (l : List ℕ) (o : Opening) (h : He
   pub x : Brick
   pub is : parse s brick l ≡ Opens x
   pub saved : Rattle.image.specs.Parse.Opened s brick l x
-  pub counts : h .count ≡ count x
+  pub counts : h .count ≡ entryCount x
   pub promises : h .promise ≡ x .promise
   pub logs : o .log ≡ workingLog x
   pub low : 1 ≤ h .count
@@ -56,11 +56,11 @@ checkAfter l i = checkedAt l (i + 1)
 
 -- whether the block of entry i is as it should be
 unfoldable pub slotAt : ℕ → List ℕ → ℕ → ℕ → Bool
-slotAt size l n i = slotFits size (blockAt l (i + 1)) (timeIn (blockAt l (i + 1))) i n (timeIn (blockAt l i))
+slotAt size l n i = slotFits size (imageBlockAt l (i + 1)) (timeIn (imageBlockAt l (i + 1))) i n (timeIn (imageBlockAt l i))
 
 -- the working log's entry i
 unfoldable pub entryAt : List ℕ → ℕ → ℕ → Entry
-entryAt l n i = entryFor (timeIn (blockAt l (i + 1))) i n
+entryAt l n i = entryFor (timeIn (imageBlockAt l (i + 1))) i n
 
 -- what the loop gives
 pub record Scanned (size cap : ℕ) (l : List ℕ) (n : ℕ) (checks fits : Bool) (log : List Entry) : Type 0 where

@@ -39,14 +39,14 @@ pub struct Head {
 }
 
 // The answer of an opening.
-pub enum Answer {
+pub enum ImageAnswer {
     Opened(Head),
     Refused(u32),
 }
 
 // An opened brick, with its working log beside the answer.
 pub struct Opening {
-    pub answer: Answer,
+    pub answer: ImageAnswer,
     pub log: [Entry; 32],
 }
 
@@ -232,7 +232,7 @@ fn refused(number: u32) -> Opening
     let nothing = entry_for(0, 0, 0);
     let log = [nothing; 32];
     Opening {
-        answer: Answer::Refused(number),
+        answer: ImageAnswer::Refused(number),
         log: log,
     }
 }
@@ -261,7 +261,7 @@ pub fn open(s: Settings, brick: usize, image: &[u8]) -> Opening
     }
     let log = rest.log;
     Opening {
-        answer: Answer::Opened(Head {
+        answer: ImageAnswer::Opened(Head {
             count: count,
             promise: promise,
         }),
@@ -270,12 +270,12 @@ pub fn open(s: Settings, brick: usize, image: &[u8]) -> Opening
 }
 
 // The number of a refused answer, 0 for an opened one.
-pub fn number_of(a: Answer) -> u32
+pub fn number_of(a: ImageAnswer) -> u32
     ensures { λ r. ⌜ r ≡ answerNumber a ⌝ }
 {
     match a {
-        Answer::Opened(_) => 0,
-        Answer::Refused(number) => number,
+        ImageAnswer::Opened(_) => 0,
+        ImageAnswer::Refused(number) => number,
     }
 }
 
@@ -296,7 +296,7 @@ pub fn show(s: Settings, brick: usize, image: &[u8]) -> Shown
 {
     let o = open(s, brick, image);
     let answer = o.answer;
-    let Answer::Opened(head) = answer else {
+    let ImageAnswer::Opened(head) = answer else {
         return Shown::Refused(number_of(answer));
     };
     let log = o.log;

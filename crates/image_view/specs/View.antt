@@ -5,8 +5,8 @@ use Prim.Native.Nat.{ℕ, _+_, _/_}
 use lib.Dec.{leb}
 use lib.ListN.{length}
 use Rattle.settings.specs.Refusal.{badLength, badNumber}
-use Rattle.image.specs.Brick.{count, timeAt}
-use Rattle.image.specs.Parse.{Parsed, Opens, Refuses, blockAt, timeIn}
+use Rattle.image.specs.Brick.{entryCount, timeAt}
+use Rattle.image.specs.Parse.{Parsed, Opens, Refuses, imageBlockAt, timeIn}
 use Rattle.image.specs.declared.Holding.the-variants.{Held}
 use Rattle.image_view.specs.declared.Found.{Found}
 use Rattle.image_view.specs.declared.Found.the-variants.{At, Refused}
@@ -14,14 +14,14 @@ use Rattle.settings.specs.Refusal.{passed}
 
 -- the entry at a place: its time, and the place of its held block; or 3 for "a view's place not below its count"
 unfoldable pub foundOf : Parsed → ℕ → Found
-foundOf (Opens x) place = cond (leb (count x) place) (Refused badNumber) (At (record { time = timeAt x place; holding = Held (place + 1) }))
+foundOf (Opens x) place = cond (leb (entryCount x) place) (Refused badNumber) (At (record { time = timeAt x place; holding = Held (place + 1) }))
 foundOf (Refuses k) place = Refused k
 
 -- the same read from bytes that have n entries; 2 where they are too short for that
 unfoldable pub foundAt : List ℕ → ℕ → ℕ → Found
 foundAt l n place =
     cond (leb (length l / 512) n) (Refused badLength)
-    (cond (leb n place) (Refused badNumber) (At (record { time = timeIn (blockAt l (place + 1)); holding = Held (place + 1) })))
+    (cond (leb n place) (Refused badNumber) (At (record { time = timeIn (imageBlockAt l (place + 1)); holding = Held (place + 1) })))
 
 -- 0 where there is an entry
 unfoldable pub foundNumber : Found → ℕ
@@ -30,5 +30,5 @@ foundNumber (Refused number) = number
 
 -- the image's refusal; of one that opens, 3 for "a view's place not below its count"
 unfoldable pub placeNumber : Parsed → ℕ → ℕ
-placeNumber (Opens x) place = cond (leb (count x) place) badNumber passed
+placeNumber (Opens x) place = cond (leb (entryCount x) place) badNumber passed
 placeNumber (Refuses number) place = number

@@ -4,9 +4,9 @@ ghost use mathlib.Core.Path.{_≡_};
 ghost use Rattle.image.specs.Parse.{parse};
 ghost use Rattle.image_view.specs.View.{foundAt, foundOf};
 use byte_lists::read8;
-use image::Answer;
 use image::Entry;
 use image::Holding;
+use image::ImageAnswer;
 use image::number_of;
 use image::open;
 use settings::Settings;
@@ -75,7 +75,7 @@ pub fn look(s: Settings, brick: usize, image: &[u8], place: usize) -> Found
 {
     let o = open(s, brick, image);
     let answer = o.answer;
-    let Answer::Opened(head) = answer else {
+    let ImageAnswer::Opened(head) = answer else {
         return Found::Refused(number_of(answer));
     };
     let n = head.count;

@@ -7,7 +7,7 @@ use lib.ListN.{length, drop}
 use Rattle.image.specs.Brick.{Brick}
 use mathlib.Core.Path.{_≡_}
 use Rattle.image_block.specs.Block.{unusedBlock}
-use Rattle.image.specs.Parse.{blockAt}
+use Rattle.image.specs.Parse.{imageBlockAt}
 
 -- without the first d entries
 unfoldable pub without : Brick → ℕ → Brick
@@ -16,7 +16,7 @@ without x d = record { promise = x .promise; log = drop d (x .log) }
 -- the bytes l are n blocks, block k being g k
 pub record Blocks (g : ℕ → List ℕ) (n : ℕ) (l : List ℕ) : Type 0 where
   pub long : length l ≡ 512 * n
-  pub at : (k : ℕ) → k < n → blockAt l k ≡ g k
+  pub at : (k : ℕ) → k < n → imageBlockAt l k ≡ g k
 
 -- the blocks from one number up to another unused
 unfoldable pub clearedOf : (ℕ → List ℕ) → ℕ → ℕ → ℕ → List ℕ

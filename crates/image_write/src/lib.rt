@@ -7,7 +7,7 @@ ghost use Rattle.settings.specs.Ranges.{SettingsRange};
 ghost use Rattle.image_block.specs.Block.{headBlock, entryBlock};
 ghost use Rattle.byte_lists.specs.Lists.{put, zeros};
 ghost use Rattle.image.specs.Image.{imageSize, imageOf};
-ghost use Rattle.image.specs.Brick.{fresh};
+ghost use Rattle.image.specs.Brick.{freshBrick};
 ghost use Rattle.image.specs.Opening.{lendingRefusal};
 ghost use Rattle.image_write.specs.Saving.{freshAfter};
 ghost use Rattle.image_write.specs.Workers.{Blocks, clearedOf, shiftedOf};
@@ -94,7 +94,7 @@ fn fill_fresh(s: Settings, brick: usize, image: &mut [u8])
     requires { ⌜ SettingsRange s ⌝ }
     requires { ⌜ brick < s .n ⌝ }
     requires { ⌜ length (now image) ≡ imageSize s ⌝ }
-    ensures { λ _. ⌜ now (image .exit) ≡ imageOf s brick (fresh s) ⌝ }
+    ensures { λ _. ⌜ now (image .exit) ≡ imageOf s brick (freshBrick s) ⌝ }
 {
     write_head(s, brick, image, 1, 0);
     write_zero_entry(image, s.size);

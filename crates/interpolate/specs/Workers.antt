@@ -41,7 +41,7 @@ pub record Denominators (logs points sums : List ℕ) : Type 0 where
   pub entry : (i : ℕ) → i < length points → getD sums i 0 ≡ denominator logs points i (length points)
 
 -- What the inner functions are lent beside the powers: the logarithms, the points, and a sum for each.
-pub record Ready (logs points sums : List ℕ) : Type 0 where
+pub record PointsReady (logs points sums : List ℕ) : Type 0 where
   pub logs-right : IsLogs logs
   pub set : PointSet points
   pub sums-right : Denominators logs points sums

@@ -5,7 +5,7 @@ ghost use Prim.Native.Nat.{ℕ, _+_, _-_, _*_, _<_, _≤_};
 ghost use lib.ListN.{length, getD};
 ghost use Rattle.gf256.specs.Product.{product, power, twice};
 ghost use Rattle.gf256.specs.Tables.{IsPowers};
-ghost use Rattle.interpolate.specs.Workers.{Ready, Denominators, weight};
+ghost use Rattle.interpolate.specs.Workers.{PointsReady, Denominators, weight};
 ghost use Rattle.interpolate.specs.Values.{PointSet};
 ghost use Rattle.interpolate.specs.Workers.{firstPlace, scaled, numerator, denominator};
 ghost use Rattle.interpolate.specs.Values.{blockAt, blocksAt};
@@ -168,7 +168,7 @@ fn weight_log(
     x: u8,
     i: usize,
 ) -> usize
-    requires { ⌜ Ready (now logs) (now points) (now sums) ⌝ }
+    requires { ⌜ PointsReady (now logs) (now points) (now sums) ⌝ }
     requires { ⌜ ((k : ℕ) → k < length (now points) → getD (now points) k 0 ≡ x → ⊥) ⌝ }
     requires { ⌜ top ≡ numerator (now logs) (now points) x (length (now points)) ⌝ }
     requires { ⌜ (i < length (now points)) × (top ≤ 4096) ⌝ }
@@ -190,7 +190,7 @@ fn combine(
     out: &mut [u8],
 )
     requires { ⌜ IsPowers (now powers) ⌝ }
-    requires { ⌜ Ready (now logs) (now points) (now sums) ⌝ }
+    requires { ⌜ PointsReady (now logs) (now points) (now sums) ⌝ }
     requires { ⌜ ((k : ℕ) → k < length (now points) → getD (now points) k 0 ≡ x → ⊥) ⌝ }
     requires { ⌜ length (now blocks) ≡ length (now points) * length (now out) ⌝ }
     ensures { λ _. ⌜ now (out .exit) ≡ blockAt (now (points .entry)) (length (now (out .entry))) (now (blocks .entry)) x ⌝ }
@@ -220,7 +220,7 @@ fn row(
     out: &mut [u8],
 )
     requires { ⌜ IsPowers (now powers) ⌝ }
-    requires { ⌜ Ready (now logs) (now points) (now sums) ⌝ }
+    requires { ⌜ PointsReady (now logs) (now points) (now sums) ⌝ }
     requires { ⌜ length (now blocks) ≡ length (now points) * length (now out) ⌝ }
     ensures { λ _. ⌜ now (out .exit) ≡ blockAt (now (points .entry)) (length (now (out .entry))) (now (blocks .entry)) x ⌝ }
 {

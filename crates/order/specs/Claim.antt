@@ -20,34 +20,34 @@ pub data Action (S : Type 0) : Type 0 where
   read : Action S
   write : S → Action S
 
-pub data Answer (S : Type 0) : Type 0 where
-  ok : Answer S
-  bytes : S → Answer S
+pub data Result (S : Type 0) : Type 0 where
+  ok : Result S
+  bytes : S → Result S
 
 -- "A write sets it to its bytes." "A read gives it as it stands and changes nothing."
 unfoldable pub changed : {S : Type 0} → Action S → S → S
 changed read s = s
 changed (write v) s = v
 
-unfoldable pub given : {S : Type 0} → Action S → S → Answer S
+unfoldable pub given : {S : Type 0} → Action S → S → Result S
 given read s = bytes s
 given (write v) s = ok
 
 -- The plain stripe of document 01, by its zeros. A read or a write of one block will be one more kind.
 abbrev pub stripe : (S : Type 0) → S → Plain
-stripe S z = record { Kind = Action S; Stripe = S; Given = Answer S; zeros = z; effect = changed; gives = given }
+stripe S z = record { Kind = Action S; Stripe = S; Given = Result S; zeros = z; effect = changed; gives = given }
 
 -- How an operation ends. "It is finished at the event that answers ok or gives what was read, aborted at the event that
 -- answers abort, cut at a crash of its coordinator before either."
-pub data Outcome (P : Plain) : Type 0 where
-  finished : P .Given → Outcome P
-  aborted : Outcome P
-  cut : Outcome P
+pub data Ending (P : Plain) : Type 0 where
+  finished : P .Given → Ending P
+  aborted : Ending P
+  cut : Ending P
 
 -- One thing seen: the operation of this time begins, or ends. A time names one operation.
 pub data Seen (P : Plain) : Type 0 where
   began : ℕ → P .Kind → Seen P
-  ended : ℕ → Outcome P → Seen P
+  ended : ℕ → Ending P → Seen P
 
 -- An operation as it is fed to the plain stripe.
 pub record Op (P : Plain) : Type 0 where
@@ -89,7 +89,7 @@ pub record OneOrder (P : Plain) (l : List (Seen P)) : Type 0 where
   -- "each finished read gave, byte for byte, what the writes before it in that order left where it reads, zeros where none wrote"
   pub right : Right l (P .zeros) order
   -- "what ended, by answer, abort or crash, before another began stands ahead of it or nowhere"
-  pub ahead : (x y : Op P) (r : Outcome P) (k : P .Kind) → x ∈ order → y ∈ order
+  pub ahead : (x y : Op P) (r : Ending P) (k : P .Kind) → x ∈ order → y ∈ order
       → Before (Seen.ended (x .time) r) (Seen.began (y .time) k) l → Before x y order
 
 -- the plain stripe after these operations

@@ -1,7 +1,7 @@
 -- What happened to one stripe, as facts; a history is a list of them, newest first. An operation is named by its time.
 use mathlib.Core.List.{List, [], _∷_, _++_}
 use Prim.Native.Nat.{ℕ}
-use Rattle.order.specs.Claim.{Plain, Outcome, Seen}
+use Rattle.order.specs.Claim.{Plain, Ending, Seen}
 
 -- What a store is made from: the operation itself, which sets the whole stripe, or its predecessor, an earlier time
 -- (0: the fresh stripe).
@@ -36,12 +36,12 @@ abbrev pub History : Plain → Type 0
 History P = List (Fact P)
 
 -- What is seen of a history: beginnings and ends, in the order of the events.
-unfoldable pub outcome : {P : Plain} → End P → Outcome P
-outcome (written g) = Outcome.finished g
-outcome (recovered g) = Outcome.finished g
-outcome (one-round c g) = Outcome.finished g
-outcome aborted = Outcome.aborted
-outcome cut = Outcome.cut
+unfoldable pub endingOf : {P : Plain} → End P → Ending P
+endingOf (written g) = Outcome.finished g
+endingOf (recovered g) = Outcome.finished g
+endingOf (one-round c g) = Outcome.finished g
+endingOf aborted = Outcome.aborted
+endingOf cut = Outcome.cut
 
 unfoldable pub shows : {P : Plain} → Fact P → List (Seen P)
 shows (began t k) = Seen.began t k ∷ []
@@ -49,7 +49,7 @@ shows (promised b t) = []
 shows (launched t s) = []
 shows (stored b t) = []
 shows (showed b t c) = []
-shows (ended t e) = Seen.ended t (outcome e) ∷ []
+shows (ended t e) = Seen.ended t (endingOf e) ∷ []
 
 unfoldable pub seen : {P : Plain} → History P → List (Seen P)
 seen [] = []

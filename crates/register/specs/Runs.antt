@@ -17,8 +17,8 @@ use Rattle.brick.specs.declared.Given.{Given}
 use Rattle.brick.specs.declared.Given.the-variants.{Answered, Silent, Refused}
 use Rattle.coord_record.specs.Records.{readingKind, idleWith}
 use Rattle.erasure.specs.Code.{blockOf}
-use Rattle.coord_apply.specs.Answers.{Held, Broadcast, Step, refused, went, beganSeen, okSeen, readSeen, abortedSeen, cutSeen}
-use Rattle.coord_apply.specs.declared.Seen.{Seen as Shown}
+use Rattle.coord_apply.specs.Answers.{Buffered, Broadcast, Step, refused, went, beganSeen, okSeen, readSeen, abortedSeen, cutSeen}
+use Rattle.coord_apply.specs.declared.Notice.{Notice}
 use Rattle.coordinator.specs.Routines.{takeStep, crashStep, writeStep, readStep}
 use Rattle.order.specs.Claim.{Plain, read, write, ok, bytes, stripe, finished, aborted, cut, Seen, OneOrder}
 
@@ -39,12 +39,12 @@ pub data Item : Type 0 where
 pub record World : Type 0 where
   pub images : ℕ → List ℕ
   pub up : ℕ → Bool
-  pub coordinators : ℕ → Held
+  pub coordinators : ℕ → Buffered
   pub sent : List Item
 
 -- "fresh images, all bricks up, 16 idle coordinators with last count 0, nothing sent"
 -- (a coordinator above 15 is refused by each routine, as 3, and so never does anything)
-unfoldable pub idle : Settings → ℕ → Held
+unfoldable pub idle : Settings → ℕ → Buffered
 idle s c =
     record {
       state = idleWith (record { coordinator = c; last = 0 });
@@ -52,8 +52,8 @@ idle s c =
       stripe = replicate (s .m * s .size) 0;
     }
 
-unfoldable pub fresh : Settings → World
-fresh s = record { images = λ (b : ℕ). imageOf s b (Brick.fresh s); up = λ (b : ℕ). true; coordinators = idle s; sent = [] }
+unfoldable pub freshSet : Settings → World
+freshSet s = record { images = λ (b : ℕ). imageOf s b (Brick.freshBrick s); up = λ (b : ℕ). true; coordinators = idle s; sent = [] }
 
 -- What a crash leaves in the buffers beside a coordinator's record: what lay there, or anything else.
 pub data Left : Type 0 where
@@ -86,7 +86,7 @@ putAt f k a j = cond (eqb j k) a (f j)
 
 -- "An operation is a start that isn't refused; it begins there. It is finished at the event that answers ok or gives what was read,
 -- aborted at the event that answers abort, cut at a crash of its coordinator before either". The stripe is the buffer beside the record.
-unfoldable pub seenOf : (s : Settings) → Shown → List ℕ → List (Seen (plain s))
+unfoldable pub seenOf : (s : Settings) → Notice → List ℕ → List (Seen (plain s))
 seenOf s e kept =
     cond (eqb (e .what) beganSeen) (Seen.began (e .time) (cond (eqb (e .kind) readingKind) read (write kept)) ∷ [])
     (cond (eqb (e .what) okSeen) (Seen.ended (e .time) (finished ok) ∷ [])
@@ -166,7 +166,7 @@ buffersFit s blocks stripe = eqb (length blocks) (s .n * s .size) && eqb (length
 
 -- "A crash makes the coordinator idle and keeps its count": so much is sure of the record. The buffers beside it may hold any lists that
 -- fit (others are passed over); so may those of an idle coordinator, at whose crash nothing is seen.
-unfoldable pub leaving : Settings → Left → Held → Held
+unfoldable pub leaving : Settings → Left → Buffered → Buffered
 leaving s untouched h = h
 leaving s (lost blocks stripe) h = cond (buffersFit s blocks stripe) (record { state = h .state; blocks = blocks; stripe = stripe }) h
 
@@ -185,16 +185,16 @@ step s w (goesDown b) = standing s w b false
 step s w (comesUp b) = standing s w b true
 
 -- one event after what came before
-unfoldable pub next : (s : Settings) → Moved s → Event → Moved s
-next s r e = record { world = step s (r .world) e .world; seen = r .seen ++ step s (r .world) e .seen }
+unfoldable pub nextMoved : (s : Settings) → Moved s → Event → Moved s
+nextMoved s r e = record { world = step s (r .world) e .world; seen = r .seen ++ step s (r .world) e .seen }
 
 unfoldable pub runFrom : (s : Settings) → Moved s → List Event → Moved s
 runFrom s r [] = r
-runFrom s r (e ∷ es) = runFrom s (next s r e) es
+runFrom s r (e ∷ es) = runFrom s (nextMoved s r e) es
 
 -- "A run is a list of events on one set .. It starts fresh".
 unfoldable pub run : (s : Settings) → List Event → Moved s
-run s events = runFrom s (unmoved s (fresh s)) events
+run s events = runFrom s (unmoved s (freshSet s)) events
 
 -- Demand 3 of a run.
 abbrev pub RunHasOneOrder : (s : Settings) → List Event → Type 0

@@ -16,6 +16,6 @@ draws c [] = []
 draws c (reading ∷ readings) = following (drawOf c reading) c (λ (d : Clock). draws d readings)
 
 -- each is above the one before it, and the first above b
-unfoldable pub Rising : ℕ → List ℕ → Type 0
-Rising b [] = Unit {0}
-Rising b (t ∷ ts) = (b < t) × Rising t ts
+unfoldable pub RisingDraws : ℕ → List ℕ → Type 0
+RisingDraws b [] = Unit {0}
+RisingDraws b (t ∷ ts) = (b < t) × RisingDraws t ts

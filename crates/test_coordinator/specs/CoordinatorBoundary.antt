@@ -4,8 +4,8 @@ use mathlib.Core.List.{List, [], _∷_, _++_}
 use Prim.Native.Nat.{ℕ, _+_}
 use lib.Dec.{eqb}
 use lib.ListN.{length, getD, take, drop}
-use Rattle.coord_apply.specs.Acts.{heldOf}
-use Rattle.coord_apply.specs.Answers.{Held, Step, answerOf}
+use Rattle.coord_apply.specs.Acts.{buffered}
+use Rattle.coord_apply.specs.Answers.{Buffered, Step, answerOf}
 use Rattle.coord_apply.specs.declared.Answer.{Answer}
 use Rattle.coord_record.specs.declared.Coordinator.{Coordinator}
 use Rattle.coordinator.specs.Routines.{writeStep, readStep, takeStep, crashStep}
@@ -78,8 +78,8 @@ replyFor kind brick time round said found held =
     record { kind = kind; brick = brick; time = time; round = round; yes = said; found = found; held = held }
 
 -- the coordinator of such numbers and bytes, with its lent buffers
-abbrev pub held : List ℕ → List ℕ → List ℕ → List ℕ → Held
-held numbers bytes blocks stripe = heldOf (recordFor numbers bytes) blocks stripe
+abbrev pub held : List ℕ → List ℕ → List ℕ → List ℕ → Buffered
+held numbers bytes blocks stripe = buffered (recordFor numbers bytes) blocks stripe
 
 -- what it answers by a step
 abbrev pub answered : List ℕ → List ℕ → Step → Answer

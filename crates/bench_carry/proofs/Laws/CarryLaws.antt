@@ -17,7 +17,7 @@ use Rattle.bench_parse.specs.Workers.{wordsFrom, CarryFrom, NumberAt}
 use Rattle.bench_parse.specs.declared.Number.{Number}
 use Rattle.bench_rules.specs.Play.{Played, refuses, passes, happens, switches, carries, carriesAt, carried, andThen, carriedAll}
 use Rattle.bench_rules.specs.Turning.{Lent, worldIn}
-use Rattle.bench_rules.specs.Workers.{Ready, Turned}
+use Rattle.bench_rules.specs.Workers.{BenchReady, Turned}
 use Rattle.bench_rules.specs.declared.After.{After}
 use Rattle.bench_print.specs.Printing.{written}
 use Rattle.bench_print.proofs.Laws.WrittenLaws.{written-nothing, written-both}
@@ -98,7 +98,7 @@ module _ (b : Bench) (l : Lent) (at : ℕ) (out : List ℕ) (r : After) (l′ : 
       t
 
 module _ (b : Bench) (l : Lent) (line : List ℕ) (first : ℕ) (out : List ℕ) where
-  pub carrying-first : Ready b l → CarryFrom line first → Carrying b l line first out first (record { bench = b; used = 0 }) l out
+  pub carrying-first : BenchReady b l → CarryFrom line first → Carrying b l line first out first (record { bench = b; used = 0 }) l out
   carrying-first ready c =
       record {
         text = [];
@@ -230,7 +230,7 @@ turned-lined b l l′ out out′ p r t =
     }
 
 -- what the parts of a carried number ask, of a set that is ready
-pub ready-seats : (b : Bench) (l : Lent) (at : ℕ) (out : List ℕ) → Ready b l → at + 128 ≤ length out → Seats b 0 (l .kept) (l .numbers) (l .bytes) at out
+pub ready-seats : (b : Bench) (l : Lent) (at : ℕ) (out : List ℕ) → BenchReady b l → at + 128 ≤ length out → Seats b 0 (l .kept) (l .numbers) (l .bytes) at out
 ready-seats b l at out r h =
     record {
       fits = r .fits;

@@ -14,15 +14,15 @@ use Rattle.image.specs.Image.{imageSize}
 use Rattle.brick.specs.Receive.{Outcome, outcome}
 use Rattle.brick.specs.declared.Given.{Given}
 use Rattle.brick.specs.declared.Given.the-variants.{Answered, Silent, Refused}
-use Rattle.coord_apply.specs.Answers.{Held}
+use Rattle.coord_apply.specs.Answers.{Buffered}
 use Rattle.register.specs.Runs.{Item, World, Moved, message, arrives, arriving, received, repliedWith, putAt, step}
 use Rattle.byte_lists.specs.Lists.{put}
 use Rattle.byte_lists.proofs.Laws.PutLaws.{put-mid}
 use Rattle.bench_state.proofs.Laws.KeptPartLaws.{any-default}
-use Rattle.bench_state.specs.State.{imagesOf, upOf, heldAt, worldOf}
+use Rattle.bench_state.specs.State.{imagesOf, upOf, coordinatorKept, worldOf}
 use Rattle.bench_state.proofs.Laws.StateLaws.{image-put}
 use Rattle.bench_state.specs.declared.Bench.{Bench}
-use Rattle.bench_sent.specs.Sent.{isReply, numberAt, messageAt, blockAt, itemAt, itemsOf}
+use Rattle.bench_sent.specs.Sent.{isReply, numberAt, messageAt, sentBlockAt, itemAt, itemsOf}
 use Rattle.bench_sent.proofs.Laws.SentRowLaws.{item-message, block-cut}
 use Rattle.bench_sent.proofs.Laws.SentItemLaws.{items-length, arrives-item}
 use Rattle.bench_print.specs.Printing.{written}
@@ -32,7 +32,7 @@ use Rattle.bench_rules.specs.Workers.{Turned}
 use Rattle.bench_rules.proofs.Laws.TurningLaws.{turned-nothing}
 use Rattle.bench_rules.specs.declared.After.{After}
 use Rattle.bench_carry_message.proofs.Laws.ReplyKeptLaws.{refusal-keeps, room}
-use Rattle.bench_carry_message.specs.Workers.{Lends, Reaching, Settled, maySend, sentAfter, toldOf}
+use Rattle.bench_carry_message.specs.Workers.{Lends, Reaching, Settled, maySend, sentAfterMessage, toldOf}
 
 -- the ways of `carries` for a message
 module _ (s : Settings) (w : World) (k brick : ℕ) (msg : Message) (block : List ℕ) where
@@ -82,7 +82,7 @@ module _ (b : Bench) (images kept numbers bytes : List ℕ) where
   world-arrives k h = arrives-item (b .settings) (worldIn b (lent images kept numbers bytes)) (b .settings .size) numbers bytes (b .sent) k h
 
 -- a world by its fields
-abbrev make : (ℕ → List ℕ) → (ℕ → Bool) → (ℕ → Held) → List Item → World
+abbrev make : (ℕ → List ℕ) → (ℕ → Bool) → (ℕ → Buffered) → List Item → World
 make f g h i = record { images = f; up = g; coordinators = h; sent = i }
 
 -- the world after another image and more items, with the same flags and coordinators
@@ -93,7 +93,7 @@ world-with : (b : Bench) (images kept numbers bytes images′ image : List ℕ) 
     (worldIn b (lent images kept numbers bytes) .coordinators) (worldIn b (lent images kept numbers bytes) .sent ++ more)
 unfolding worldIn worldOf
 world-with b images kept numbers bytes images′ image brick more e =
-    ap (λ (g : ℕ → List ℕ). make g (upOf (b .up)) (heldAt (b .settings) (b .coordinators) kept) (itemsOf (b .settings .size) numbers bytes (b .sent) ++ more)) e
+    ap (λ (g : ℕ → List ℕ). make g (upOf (b .up)) (coordinatorKept (b .settings) (b .coordinators) kept) (itemsOf (b .settings .size) numbers bytes (b .sent) ++ more)) e
 
 world-same : (b : Bench) (images kept numbers bytes images′ : List ℕ) → images′ ≡ images
     → worldOf b images′ kept (itemsOf (b .settings .size) numbers bytes (b .sent) ++ []) ≡ worldIn b (lent images kept numbers bytes)
@@ -110,7 +110,7 @@ module _ (b : Bench) (k brick : ℕ) (msg : Message) (images numbers bytes : Lis
   image = take (imageSize s) (drop (brick * 2560) images)
 
   abbrev pub o : Outcome
-  o = outcome s brick image msg (blockAt (s .size) bytes k) (replicate (s .size) 0)
+  o = outcome s brick image msg (sentBlockAt (s .size) bytes k) (replicate (s .size) 0)
 
   image-long : length image ≡ imageSize s
   unfolding imageSize
@@ -127,20 +127,20 @@ module _ (b : Bench) (k brick : ℕ) (msg : Message) (images numbers bytes : Lis
     abbrev pub w : World
     w = worldIn b (lent images kept numbers bytes)
 
-    outcome-at : outcome s brick (w .images brick) msg (blockAt (s .size) bytes k) (replicate (s .size) 0) ≡ o
-    outcome-at = ap (λ (i : List ℕ). outcome s brick i msg (blockAt (s .size) bytes k) (replicate (s .size) 0)) (world-image b images kept numbers bytes brick (q .there))
+    outcome-at : outcome s brick (w .images brick) msg (sentBlockAt (s .size) bytes k) (replicate (s .size) 0) ≡ o
+    outcome-at = ap (λ (i : List ℕ). outcome s brick i msg (sentBlockAt (s .size) bytes k) (replicate (s .size) 0)) (world-image b images kept numbers bytes brick (q .there))
 
     arrives-is : step s w (arrives k) ≡ received s w brick o
     arrives-is =
         world-arrives b images kept numbers bytes k (q .sent-before)
         ∙ ap (arriving s w) (q .item-is)
-        ∙ arriving-up s w k brick msg (blockAt (s .size) bytes k) (world-up b images kept numbers bytes brick true (q .is-up))
+        ∙ arriving-up s w k brick msg (sentBlockAt (s .size) bytes k) (world-up b images kept numbers bytes brick true (q .is-up))
         ∙ ap (received s w brick) outcome-at
 
     carries-is : carries s w k (itemAt (s .size) numbers bytes k) ≡ delivered s w k (o .given)
     carries-is =
         ap (carries s w k) (q .item-is)
-        ∙ reached s w k brick msg (blockAt (s .size) bytes k) (q .there) (world-up b images kept numbers bytes brick true (q .is-up))
+        ∙ reached s w k brick msg (sentBlockAt (s .size) bytes k) (q .there) (world-up b images kept numbers bytes brick true (q .is-up))
         (ap (maySend (msg .kind)) (sent-length b images kept numbers bytes) ∙ q .may-send)
         ∙ ap (λ (v : Outcome). delivered s w k (v .given)) outcome-at
 
@@ -185,7 +185,7 @@ module _ (b : Bench) (k brick : ℕ) (msg : Message) (images numbers bytes : Lis
           }
         where
           same : new ≡ image
-          same = ei ∙ refusal-keeps s brick image msg (blockAt (s .size) bytes k) (replicate (s .size) 0) n (sym e)
+          same = ei ∙ refusal-keeps s brick image msg (sentBlockAt (s .size) bytes k) (replicate (s .size) 0) n (sym e)
 
           back : put (brick * 2560) new images ≡ images
           back =
@@ -220,7 +220,7 @@ module _ (b : Bench) (k brick : ℕ) (msg : Message) (images numbers bytes : Lis
   code-outcome zeros ez =
       ap (λ (j : ℕ). outcome s brick (take j (drop (brick * 2560) images)) msg codeBlock zeros) cut
       ∙ ap (λ (x : List ℕ). outcome s brick image msg x zeros) (block-cut (s .size) k (k * 24 + 16) (k * 24 + 16 + s .size) bytes refl refl)
-      ∙ ap (outcome s brick image msg (blockAt (s .size) bytes k)) ez
+      ∙ ap (outcome s brick image msg (sentBlockAt (s .size) bytes k)) ez
     where
       cut : brick * 2560 + 512 * (s .capacity + 1) - brick * 2560 ≡ 512 * (s .capacity + 1)
       cut = omega arith
@@ -249,14 +249,14 @@ module _ (b : Bench) (k brick : ℕ) (msg : Message) (images numbers bytes : Lis
       size = long ∙ ap (λ (j : ℕ). length (take j (drop (brick * 2560) images))) cut ∙ image-long
 
   -- the limit holds after it
-  pub deliver-room : (zeros : List ℕ) (g : Given) → g ≡ outcome s brick codeImage msg codeBlock zeros .given → sentAfter (b .sent) g ≤ 127
+  pub deliver-room : (zeros : List ℕ) (g : Given) → g ≡ outcome s brick codeImage msg codeBlock zeros .given → sentAfterMessage (b .sent) g ≤ 127
   deliver-room zeros g e = room s brick codeImage msg codeBlock zeros (b .sent) g (l .few) (q .may-send) e
 
 -- the ways in which it does not come to that
 module _ (b : Bench) (k brick : ℕ) (images numbers bytes : List ℕ) (m : isReply numbers k ≡ false) (eb : brick ≡ numberAt numbers k 1) where
   pub item-here : (msg : Message) → msg ≡ messageAt numbers bytes k
-      → itemAt (b .settings .size) numbers bytes k ≡ message brick msg (blockAt (b .settings .size) bytes k)
-  item-here msg em = item-message (b .settings .size) k brick msg (blockAt (b .settings .size) bytes k) numbers bytes m eb em refl
+      → itemAt (b .settings .size) numbers bytes k ≡ message brick msg (sentBlockAt (b .settings .size) bytes k)
+  item-here msg em = item-message (b .settings .size) k brick msg (sentBlockAt (b .settings .size) bytes k) numbers bytes m eb em refl
 
   module _ (kept : List ℕ) (at : ℕ) (out out′ : List ℕ) (r : After) where
     abbrev pub Carried : Type 0
@@ -272,7 +272,7 @@ module _ (b : Bench) (k brick : ℕ) (images numbers bytes : List ℕ) (m : isRe
     carried-nowhere h t =
         by-way (refuses (worldIn b (lent images kept numbers bytes)) 3)
         (ap (carries (b .settings) (worldIn b (lent images kept numbers bytes)) k) (item-here (messageAt numbers bytes k) refl)
-        ∙ no-brick (b .settings) (worldIn b (lent images kept numbers bytes)) k brick (messageAt numbers bytes k) (blockAt (b .settings .size) bytes k) h)
+        ∙ no-brick (b .settings) (worldIn b (lent images kept numbers bytes)) k brick (messageAt numbers bytes k) (sentBlockAt (b .settings .size) bytes k) h)
         (t (lent images kept numbers bytes))
 
     pub carried-past : (msg : Message) → msg ≡ messageAt numbers bytes k → brick < b .settings .n → upOf (b .up) brick ≡ true → maySend (msg .kind) (b .sent) ≡ false
@@ -280,7 +280,7 @@ module _ (b : Bench) (k brick : ℕ) (images numbers bytes : List ℕ) (m : isRe
     carried-past msg em h u c t =
         by-way (refuses (worldIn b (lent images kept numbers bytes)) 12)
         (ap (carries (b .settings) (worldIn b (lent images kept numbers bytes)) k) (item-here msg em)
-        ∙ many (b .settings) (worldIn b (lent images kept numbers bytes)) k brick msg (blockAt (b .settings .size) bytes k) h
+        ∙ many (b .settings) (worldIn b (lent images kept numbers bytes)) k brick msg (sentBlockAt (b .settings .size) bytes k) h
         (world-up b images kept numbers bytes brick true u) (ap (maySend (msg .kind)) (sent-length b images kept numbers bytes) ∙ c))
         (t (lent images kept numbers bytes))
 
@@ -289,7 +289,7 @@ module _ (b : Bench) (k brick : ℕ) (images numbers bytes : List ℕ) (m : isRe
   carried-lost kept at out h u f =
       by-way kept at out out (record { bench = b; used = at }) (passes (worldIn b (lent images kept numbers bytes)))
       (ap (carries (b .settings) (worldIn b (lent images kept numbers bytes)) k) (item-here (messageAt numbers bytes k) refl)
-      ∙ down (b .settings) (worldIn b (lent images kept numbers bytes)) k brick (messageAt numbers bytes k) (blockAt (b .settings .size) bytes k) h
+      ∙ down (b .settings) (worldIn b (lent images kept numbers bytes)) k brick (messageAt numbers bytes k) (sentBlockAt (b .settings .size) bytes k) h
       (world-up b images kept numbers bytes brick false u))
       (turned-nothing b (lent images kept numbers bytes) at out f)
 

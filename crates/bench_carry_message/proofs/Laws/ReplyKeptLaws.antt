@@ -11,7 +11,7 @@ use Rattle.settings.specs.declared.Settings.{Settings}
 use Rattle.message.specs.declared.Message.{Message}
 use Rattle.message.specs.declared.Reply.{Reply}
 use Rattle.image.specs.Parse.{Parsed, Opens, Refuses, parse}
-use Rattle.brick.specs.Receive.{outcome, acted, givenBy, refusedWith, receiveRefusal}
+use Rattle.brick.specs.Receive.{outcome, accepted, givenBy, refusedWith, receiveRefusal}
 use Rattle.brick_log.specs.BrickRules.{replyTo}
 use Rattle.brick.specs.declared.Given.{Given}
 use Rattle.brick.specs.declared.Given.the-variants.{Answered, Silent, Refused}
@@ -26,13 +26,13 @@ use Rattle.bench_rules.specs.Play.{refuses}
 use Rattle.bench_rules.specs.Turning.{Lent, lent, worldIn}
 use Rattle.bench_rules.specs.Workers.{Turned}
 use Rattle.bench_rules.specs.declared.After.{After}
-use Rattle.bench_carry_message.specs.Workers.{Settled, maySend, sentAfter, toldOf}
+use Rattle.bench_carry_message.specs.Workers.{Settled, maySend, sentAfterMessage, toldOf}
 
 -- the two ways of an outcome: refused with every byte kept, or acted on an opened image
 module _ (s : Settings) (brick : ℕ) (l : List ℕ) (msg : Message) (block out : List ℕ) where
   -- "A refusal returns its number alone and every image .. keeps its bytes."
   pub refusal-keeps : (n : ℕ) → outcome s brick l msg block out .given ≡ Refused n → outcome s brick l msg block out .image ≡ l
-  unfolding outcome acted givenBy refusedWith
+  unfolding outcome accepted givenBy refusedWith
   refusal-keeps n = go (eqb (receiveRefusal s brick l msg (length block) (length out)) 0) (parse s brick l)
     where
       never : (t : Bool) (r : Reply) → cond t Silent (Answered r) ≡ Refused n → ⊥
@@ -40,15 +40,15 @@ module _ (s : Settings) (brick : ℕ) (l : List ℕ) (msg : Message) (block out 
       never false r e = let z : _≡_ {A = ℕ} 0 1 = cc in absurd (omega arith)
 
       go : (t : Bool) (p : Parsed)
-          → cond t (acted s brick msg block l out p) (refusedWith (receiveRefusal s brick l msg (length block) (length out)) l out) .given ≡ Refused n
-          → cond t (acted s brick msg block l out p) (refusedWith (receiveRefusal s brick l msg (length block) (length out)) l out) .image ≡ l
+          → cond t (accepted s brick msg block l out p) (refusedWith (receiveRefusal s brick l msg (length block) (length out)) l out) .given ≡ Refused n
+          → cond t (accepted s brick msg block l out p) (refusedWith (receiveRefusal s brick l msg (length block) (length out)) l out) .image ≡ l
       go true (Opens x) e = absurd (never (eqb (msg .kind) 5) (replyTo s brick x msg) e)
       go true (Refuses k) e = refl
       go false p e = refl
 
   -- "Trim t: no reply"
   pub trim-silent : (r : Reply) → eqb (msg .kind) 5 ≡ true → outcome s brick l msg block out .given ≡ Answered r → ⊥
-  unfolding outcome acted givenBy refusedWith
+  unfolding outcome accepted givenBy refusedWith
   trim-silent r q = go (eqb (receiveRefusal s brick l msg (length block) (length out)) 0) (parse s brick l)
     where
       never : (t : Bool) (a : Reply) → t ≡ true → cond t Silent (Answered a) ≡ Answered r → ⊥
@@ -56,14 +56,14 @@ module _ (s : Settings) (brick : ℕ) (l : List ℕ) (msg : Message) (block out 
       never false a z e = let y : _≡_ {A = ℕ} 0 1 = cc in absurd (omega arith)
 
       go : (t : Bool) (p : Parsed)
-          → cond t (acted s brick msg block l out p) (refusedWith (receiveRefusal s brick l msg (length block) (length out)) l out) .given ≡ Answered r → ⊥
+          → cond t (accepted s brick msg block l out p) (refusedWith (receiveRefusal s brick l msg (length block) (length out)) l out) .given ≡ Answered r → ⊥
       go true (Opens x) e = never (eqb (msg .kind) 5) (replyTo s brick x msg) q e
       go true (Refuses k) e = let z : _≡_ {A = ℕ} 0 1 = cc in absurd (omega arith)
       go false p e = let z : _≡_ {A = ℕ} 0 1 = cc in absurd (omega arith)
 
   -- what may be sent stays within message 127
-  pub room : (k : ℕ) (g : Given) → k ≤ 127 → maySend (msg .kind) k ≡ true → g ≡ outcome s brick l msg block out .given → sentAfter k g ≤ 127
-  unfolding maySend sentAfter
+  pub room : (k : ℕ) (g : Given) → k ≤ 127 → maySend (msg .kind) k ≡ true → g ≡ outcome s brick l msg block out .given → sentAfterMessage k g ≤ 127
+  unfolding maySend sentAfterMessage
   room k (Answered r) h m e = go (eqb (msg .kind) 5) refl m
     where
       go : (t : Bool) → eqb (msg .kind) 5 ≡ t → t || ltb k 127 ≡ true → k + 1 ≤ 127
@@ -82,12 +82,12 @@ unfolding maySend
 may-other kind sent e = sym (rw (ne-eqb kind 5 e) refl)
 
 -- what the limit means for each answer
-pub room-answered : (k : ℕ) (g : Given) (r : Reply) → g ≡ Answered r → sentAfter k g ≤ 127 → k < 127
-unfolding sentAfter
-room-answered k g r e h = let q : sentAfter k g ≡ k + 1 = ap (sentAfter k) e in omega arith
+pub room-answered : (k : ℕ) (g : Given) (r : Reply) → g ≡ Answered r → sentAfterMessage k g ≤ 127 → k < 127
+unfolding sentAfterMessage
+room-answered k g r e h = let q : sentAfterMessage k g ≡ k + 1 = ap (sentAfterMessage k) e in omega arith
 
-pub room-any : (k : ℕ) (g : Given) → sentAfter k g ≤ 127 → k ≤ 127
-unfolding sentAfter
+pub room-any : (k : ℕ) (g : Given) → sentAfterMessage k g ≤ 127 → k ≤ 127
+unfolding sentAfterMessage
 room-any k (Answered r) h = omega arith
 room-any k Silent h = h
 room-any k (Refused n) h = h

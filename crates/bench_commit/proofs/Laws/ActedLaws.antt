@@ -12,17 +12,17 @@ use Rattle.settings.specs.declared.Settings.{Settings}
 use Rattle.byte_lists.specs.Little.{Bytes}
 use Rattle.message.specs.declared.Reply.{Reply}
 use Rattle.coord_record.specs.declared.Coordinator.{Coordinator}
-use Rattle.coord_apply.specs.Acts.{heldOf}
-use Rattle.coord_apply.specs.Answers.{Held, Step, refused, went, answerOf, blocksAfter, stripeAfter, codedAfter}
+use Rattle.coord_apply.specs.Acts.{buffered}
+use Rattle.coord_apply.specs.Answers.{Buffered, Step, refused, went, answerOf, blocksAfter, stripeAfter, codedAfter}
 use Rattle.coord_apply.specs.declared.Answer.{Answer}
 use Rattle.coordinator.specs.Routines.{takeStep, crashStep, writeStep, readStep}
 use Rattle.register.specs.Driver.{Short}
 use Rattle.register.proofs.Laws.DriverLaws.{left-untouched, write-short, read-short, crash-short, take-short}
 use Rattle.register.specs.Runs.{Item, World, untouched, Event, startWrite, startRead, arrives, crashes, reply, step, coordinated, arriving}
 use Rattle.bench_sent.proofs.Laws.SentItemLaws.{arrives-item}
-use Rattle.bench_sent.specs.Sent.{itemAt, isReply, replyAt, blockAt}
+use Rattle.bench_sent.specs.Sent.{itemAt, isReply, replyAt, sentBlockAt}
 use Rattle.bench_sent.proofs.Laws.SentRowLaws.{item-reply}
-use Rattle.bench_state.specs.State.{worldOf, heldAt, idleAt}
+use Rattle.bench_state.specs.State.{worldOf, coordinatorKept, idleAt}
 use Rattle.bench_state.specs.declared.Bench.{Bench}
 use Rattle.bench_rules.specs.Content.{counted, content, content-small}
 use Rattle.bench_rules.specs.Play.{Played, acts, refuses, unlessShort, atCoordinator, writes, starts, crashesAt, carries}
@@ -33,7 +33,7 @@ use Rattle.bench_commit.specs.Workers.{answered}
 use Rattle.bench_commit.specs.Workers.{Answers}
 use Rattle.bench_commit.proofs.Laws.CommitLaws.{Numbered, answered-is-acts}
 use Rattle.bench_commit.proofs.Laws.CommitStepLaws.{write-numbered, write-blocks, write-coded, read-numbered, read-blocks, read-stripe, read-coded, crash-numbered, crash-blocks, crash-stripe, crash-coded, take-numbered}
-use Rattle.bench_commit.specs.Workers.{Acted, Plays}
+use Rattle.bench_commit.specs.Workers.{BenchActed, Plays}
 
 -- a start that is refused stays so, and one that is not is refused for its digits
 short-refuses : (s : Settings) (w : World) (e : Event) (c : ℕ) (st : Coordinator) (q : Step) (a : Answer) (ok : Bool) → a ≡ answerOf st q → Numbered q
@@ -58,14 +58,14 @@ short-same st (went g) a ok ea h = go ok (sym (ap (λ (x : Answer). eqb (x .refu
 
 module _ (b : Bench) (c : ℕ) (kept numbers bytes : List ℕ) (at : ℕ) (out : List ℕ) (r : After) (kept′ numbers′ bytes′ out′ : List ℕ) where
   -- what coordinator c keeps
-  abbrev here : Held
-  here = heldAt (b .settings) (b .coordinators) kept c
+  abbrev here : Buffered
+  here = coordinatorKept (b .settings) (b .coordinators) kept c
 
-  acted-by : (e : Event) (p : Held → Step) (a : Answer) (blocks stripe coded old : List ℕ)
+  acted-by : (e : Event) (p : Buffered → Step) (a : Answer) (blocks stripe coded old : List ℕ)
       → ((images : List ℕ) → step (b .settings) (worldIn b (lent images kept numbers bytes)) e ≡ coordinated (b .settings) (worldIn b (lent images kept numbers bytes)) c (p here))
       → Short (p here) → Numbered (p here) → a ≡ answerOf (here .state) (p here) → blocks ≡ blocksAfter here (p here) → stripe ≡ stripeAfter here (p here)
       → coded ≡ codedAfter old (p here) → Answers b c a blocks stripe coded kept numbers bytes at out r kept′ numbers′ bytes′ out′
-      → Acted b c e p kept numbers bytes at out r kept′ numbers′ bytes′ out′
+      → BenchActed b c e p kept numbers bytes at out r kept′ numbers′ bytes′ out′
   unfolding worldIn worldOf
   acted-by e p a blocks stripe coded old q short numbered ea eb es ec h =
       record {
@@ -83,79 +83,79 @@ module _ (b : Bench) (c : ℕ) (kept numbers bytes : List ℕ) (at : ℕ) (out :
   -- the copies are what the coordinator keeps
   copied : (old : Coordinator) (blocks stripe : List ℕ) → c < 4 → old ≡ getD (b .coordinators) c (idleAt c)
       → blocks ≡ take (b .settings .n * b .settings .size) (drop (c * 64) kept)
-      → stripe ≡ take (b .settings .m * b .settings .size) (drop (c * 64 + 32) kept) → heldOf old blocks stripe ≡ here
-  unfolding heldAt heldOf
+      → stripe ≡ take (b .settings .m * b .settings .size) (drop (c * 64 + 32) kept) → buffered old blocks stripe ≡ here
+  unfolding coordinatorKept buffered
   copied old blocks stripe l e eb es = rw (lt-ltb c 4 l) cc
 
   module _ (old : Coordinator) (blocks stripe : List ℕ) (low : c < 4) (eo : old ≡ getD (b .coordinators) c (idleAt c))
       (eb : blocks ≡ take (b .settings .n * b .settings .size) (drop (c * 64) kept))
       (es : stripe ≡ take (b .settings .m * b .settings .size) (drop (c * 64 + 32) kept)) where
-    same : heldOf old blocks stripe ≡ here
+    same : buffered old blocks stripe ≡ here
     same = copied old blocks stripe low eo eb es
 
     old-is : old ≡ here .state
-    unfolding heldOf
-    old-is = ap (λ (h : Held). h .state) same
+    unfolding buffered
+    old-is = ap (λ (h : Buffered). h .state) same
 
     blocks-are : blocks ≡ here .blocks
-    unfolding heldOf
-    blocks-are = ap (λ (h : Held). h .blocks) same
+    unfolding buffered
+    blocks-are = ap (λ (h : Buffered). h .blocks) same
 
     stripe-is : stripe ≡ here .stripe
-    unfolding heldOf
-    stripe-is = ap (λ (h : Held). h .stripe) same
+    unfolding buffered
+    stripe-is = ap (λ (h : Buffered). h .stripe) same
 
     pub acted-read : (clock brick : ℕ) (a : Answer)
-        → ((x y : List ℕ) → a ≡ answerOf old (readStep (b .settings .n) (b .settings .m) (b .settings .size) (heldOf old x y) clock brick))
+        → ((x y : List ℕ) → a ≡ answerOf old (readStep (b .settings .n) (b .settings .m) (b .settings .size) (buffered old x y) clock brick))
         → Answers b c a blocks stripe blocks kept numbers bytes at out r kept′ numbers′ bytes′ out′
-        → Acted b c (startRead c clock brick) (λ (h : Held). readStep (b .settings .n) (b .settings .m) (b .settings .size) h clock brick) kept numbers bytes at out r kept′ numbers′ bytes′ out′
+        → BenchActed b c (startRead c clock brick) (λ (h : Buffered). readStep (b .settings .n) (b .settings .m) (b .settings .size) h clock brick) kept numbers bytes at out r kept′ numbers′ bytes′ out′
     unfolding step worldIn worldOf
     acted-read clock brick a ea h =
         let n = b .settings .n in
         let m = b .settings .m in
         let size = b .settings .size in
-        acted-by (startRead c clock brick) (λ (x : Held). readStep n m size x clock brick) a blocks stripe blocks blocks (λ images. refl)
+        acted-by (startRead c clock brick) (λ (x : Buffered). readStep n m size x clock brick) a blocks stripe blocks blocks (λ images. refl)
         (read-short n m size here clock brick) (read-numbered n m size here clock brick)
-        (ea blocks stripe ∙ ap (λ (x : Coordinator). answerOf x (readStep n m size (heldOf old blocks stripe) clock brick)) old-is ∙ ap (λ (x : Held). answerOf (here .state) (readStep n m size x clock brick)) same)
+        (ea blocks stripe ∙ ap (λ (x : Coordinator). answerOf x (readStep n m size (buffered old blocks stripe) clock brick)) old-is ∙ ap (λ (x : Buffered). answerOf (here .state) (readStep n m size x clock brick)) same)
         (blocks-are ∙ sym (read-blocks n m size here clock brick)) (stripe-is ∙ sym (read-stripe n m size here clock brick)) (sym (read-coded n m size here clock brick blocks)) h
 
     pub acted-crash : (a : Answer)
-        → ((x y : List ℕ) → a ≡ answerOf old (crashStep (b .settings .n) (b .settings .m) (b .settings .size) (heldOf old x y)))
+        → ((x y : List ℕ) → a ≡ answerOf old (crashStep (b .settings .n) (b .settings .m) (b .settings .size) (buffered old x y)))
         → Answers b c a blocks stripe blocks kept numbers bytes at out r kept′ numbers′ bytes′ out′
-        → Acted b c (crashes c untouched) (λ (h : Held). crashStep (b .settings .n) (b .settings .m) (b .settings .size) h) kept numbers bytes at out r kept′ numbers′ bytes′ out′
+        → BenchActed b c (crashes c untouched) (λ (h : Buffered). crashStep (b .settings .n) (b .settings .m) (b .settings .size) h) kept numbers bytes at out r kept′ numbers′ bytes′ out′
     unfolding step worldIn worldOf
     acted-crash a ea h =
         let n = b .settings .n in
         let m = b .settings .m in
         let size = b .settings .size in
-        acted-by (crashes c untouched) (λ (x : Held). crashStep n m size x) a blocks stripe blocks blocks
+        acted-by (crashes c untouched) (λ (x : Buffered). crashStep n m size x) a blocks stripe blocks blocks
         (λ images. ap (coordinated (b .settings) (worldIn b (lent images kept numbers bytes)) c) (left-untouched (b .settings) (crashStep n m size here)))
         (crash-short n m size here) (crash-numbered n m size here)
-        (ea blocks stripe ∙ ap (λ (x : Coordinator). answerOf x (crashStep n m size (heldOf old blocks stripe))) old-is ∙ ap (λ (x : Held). answerOf (here .state) (crashStep n m size x)) same)
+        (ea blocks stripe ∙ ap (λ (x : Coordinator). answerOf x (crashStep n m size (buffered old blocks stripe))) old-is ∙ ap (λ (x : Buffered). answerOf (here .state) (crashStep n m size x)) same)
         (blocks-are ∙ sym (crash-blocks n m size here)) (stripe-is ∙ sym (crash-stripe n m size here)) (sym (crash-coded n m size here blocks)) h
 
     pub acted-write : (clock : ℕ) (content : List ℕ) (small : Bytes content) (a : Answer) (stripe′ : List ℕ)
-        → ((x : List ℕ) → a ≡ answerOf old (writeStep (b .settings .n) (b .settings .m) (b .settings .size) (heldOf old x stripe) clock content))
-        → ((x : List ℕ) → stripe′ ≡ stripeAfter (heldOf old x stripe) (writeStep (b .settings .n) (b .settings .m) (b .settings .size) (heldOf old x stripe) clock content))
+        → ((x : List ℕ) → a ≡ answerOf old (writeStep (b .settings .n) (b .settings .m) (b .settings .size) (buffered old x stripe) clock content))
+        → ((x : List ℕ) → stripe′ ≡ stripeAfter (buffered old x stripe) (writeStep (b .settings .n) (b .settings .m) (b .settings .size) (buffered old x stripe) clock content))
         → Answers b c a blocks stripe′ blocks kept numbers bytes at out r kept′ numbers′ bytes′ out′
-        → Acted b c (startWrite c clock content small) (λ (h : Held). writeStep (b .settings .n) (b .settings .m) (b .settings .size) h clock content) kept numbers bytes at out r kept′ numbers′ bytes′ out′
+        → BenchActed b c (startWrite c clock content small) (λ (h : Buffered). writeStep (b .settings .n) (b .settings .m) (b .settings .size) h clock content) kept numbers bytes at out r kept′ numbers′ bytes′ out′
     unfolding step worldIn worldOf
     acted-write clock content small a stripe′ ea ew h =
         let n = b .settings .n in
         let m = b .settings .m in
         let size = b .settings .size in
-        acted-by (startWrite c clock content small) (λ (x : Held). writeStep n m size x clock content) a blocks stripe′ blocks blocks (λ images. refl)
+        acted-by (startWrite c clock content small) (λ (x : Buffered). writeStep n m size x clock content) a blocks stripe′ blocks blocks (λ images. refl)
         (write-short n m size here clock content) (write-numbered n m size here clock content)
-        (ea blocks ∙ ap (λ (x : Coordinator). answerOf x (writeStep n m size (heldOf old blocks stripe) clock content)) old-is ∙ ap (λ (x : Held). answerOf (here .state) (writeStep n m size x clock content)) same)
-        (blocks-are ∙ sym (write-blocks n m size here clock content)) (ew blocks ∙ ap (λ (x : Held). stripeAfter x (writeStep n m size x clock content)) same)
+        (ea blocks ∙ ap (λ (x : Coordinator). answerOf x (writeStep n m size (buffered old blocks stripe) clock content)) old-is ∙ ap (λ (x : Buffered). answerOf (here .state) (writeStep n m size x clock content)) same)
+        (blocks-are ∙ sym (write-blocks n m size here clock content)) (ew blocks ∙ ap (λ (x : Buffered). stripeAfter x (writeStep n m size x clock content)) same)
         (sym (write-coded n m size here clock content blocks)) h
 
     -- a write with a wrong count of digits, after the numbers of its start
     pub short-write : (clock : ℕ) (digits cont : List ℕ) (a : Answer) (ok : Bool) → cont ≡ content (b .settings) digits → ok ≡ counted (b .settings) digits
-        → ((x : List ℕ) → a ≡ answerOf old (writeStep (b .settings .n) (b .settings .m) (b .settings .size) (heldOf old x stripe) clock cont))
+        → ((x : List ℕ) → a ≡ answerOf old (writeStep (b .settings .n) (b .settings .m) (b .settings .size) (buffered old x stripe) clock cont))
         → eqb (a .refusal) 0 && not ok ≡ true → ((l : Lent) → Turned b l at out (refuses (worldIn b l) 12) r l out′)
-        → Acted b c (startWrite c clock (content (b .settings) digits) (content-small (b .settings) digits))
-        (λ (h : Held). unlessShort (counted (b .settings) digits) (writeStep (b .settings .n) (b .settings .m) (b .settings .size) h clock (content (b .settings) digits)))
+        → BenchActed b c (startWrite c clock (content (b .settings) digits) (content-small (b .settings) digits))
+        (λ (h : Buffered). unlessShort (counted (b .settings) digits) (writeStep (b .settings .n) (b .settings .m) (b .settings .size) h clock (content (b .settings) digits)))
         kept numbers bytes at out r kept numbers bytes out′
     unfolding worldIn worldOf
     short-write clock digits cont a ok e eo′ ea q t =
@@ -163,9 +163,9 @@ module _ (b : Bench) (c : ℕ) (kept numbers bytes : List ℕ) (at : ℕ) (out :
         let m = b .settings .m in
         let size = b .settings .size in
         let step-is =
-        ea blocks ∙ ap (λ (x : List ℕ). answerOf old (writeStep n m size (heldOf old blocks stripe) clock x)) e
-        ∙ ap (λ (x : Coordinator). answerOf x (writeStep n m size (heldOf old blocks stripe) clock (content (b .settings) digits))) old-is
-        ∙ ap (λ (x : Held). answerOf (here .state) (writeStep n m size x clock (content (b .settings) digits))) same
+        ea blocks ∙ ap (λ (x : List ℕ). answerOf old (writeStep n m size (buffered old blocks stripe) clock x)) e
+        ∙ ap (λ (x : Coordinator). answerOf x (writeStep n m size (buffered old blocks stripe) clock (content (b .settings) digits))) old-is
+        ∙ ap (λ (x : Buffered). answerOf (here .state) (writeStep n m size x clock (content (b .settings) digits))) same
         in
         record {
           turned = λ images.
@@ -179,12 +179,12 @@ module _ (b : Bench) (c : ℕ) (kept numbers bytes : List ℕ) (at : ℕ) (out :
 
     -- and any other
     pub whole-write : (clock : ℕ) (digits cont : List ℕ) (a : Answer) (ok : Bool) (stripe′ : List ℕ) → cont ≡ content (b .settings) digits → ok ≡ counted (b .settings) digits
-        → ((x : List ℕ) → a ≡ answerOf old (writeStep (b .settings .n) (b .settings .m) (b .settings .size) (heldOf old x stripe) clock cont))
-        → ((x : List ℕ) → stripe′ ≡ stripeAfter (heldOf old x stripe) (writeStep (b .settings .n) (b .settings .m) (b .settings .size) (heldOf old x stripe) clock cont))
+        → ((x : List ℕ) → a ≡ answerOf old (writeStep (b .settings .n) (b .settings .m) (b .settings .size) (buffered old x stripe) clock cont))
+        → ((x : List ℕ) → stripe′ ≡ stripeAfter (buffered old x stripe) (writeStep (b .settings .n) (b .settings .m) (b .settings .size) (buffered old x stripe) clock cont))
         → eqb (a .refusal) 0 && not ok ≡ false
         → Answers b c a blocks stripe′ blocks kept numbers bytes at out r kept′ numbers′ bytes′ out′
-        → Acted b c (startWrite c clock (content (b .settings) digits) (content-small (b .settings) digits))
-        (λ (h : Held). unlessShort (counted (b .settings) digits) (writeStep (b .settings .n) (b .settings .m) (b .settings .size) h clock (content (b .settings) digits)))
+        → BenchActed b c (startWrite c clock (content (b .settings) digits) (content-small (b .settings) digits))
+        (λ (h : Buffered). unlessShort (counted (b .settings) digits) (writeStep (b .settings .n) (b .settings .m) (b .settings .size) h clock (content (b .settings) digits)))
         kept numbers bytes at out r kept′ numbers′ bytes′ out′
     unfolding worldIn worldOf
     whole-write clock digits cont a ok stripe′ e eo′ ea ew q h =
@@ -194,9 +194,9 @@ module _ (b : Bench) (c : ℕ) (kept numbers bytes : List ℕ) (at : ℕ) (out :
         let cs = content (b .settings) digits in
         let step-is =
         ea blocks
-        ∙ ap (λ (y : List ℕ). answerOf old (writeStep n m size (heldOf old blocks stripe) clock y)) e
-        ∙ ap (λ (x : Coordinator). answerOf x (writeStep n m size (heldOf old blocks stripe) clock cs)) old-is
-        ∙ ap (λ (x : Held). answerOf (here .state) (writeStep n m size x clock cs)) same
+        ∙ ap (λ (y : List ℕ). answerOf old (writeStep n m size (buffered old blocks stripe) clock y)) e
+        ∙ ap (λ (x : Coordinator). answerOf x (writeStep n m size (buffered old blocks stripe) clock cs)) old-is
+        ∙ ap (λ (x : Buffered). answerOf (here .state) (writeStep n m size x clock cs)) same
         in
         record {
           turned = λ images.
@@ -206,51 +206,51 @@ module _ (b : Bench) (c : ℕ) (kept numbers bytes : List ℕ) (at : ℕ) (out :
               (acts (b .settings) (worldIn b (lent images kept numbers bytes)) (startWrite c clock cs (content-small (b .settings) digits)) c x) r (lent images kept′ numbers′ bytes′) out′)
               (sym (short-same (here .state) (writeStep n m size here clock cs) a (counted (b .settings) digits) step-is (ap (λ (x : Bool). eqb (a .refusal) 0 && not x) (sym eo′) ∙ q)))
               (acted-write clock cs (content-small (b .settings) digits) a stripe′
-              (λ (x : List ℕ). ea x ∙ ap (λ (y : List ℕ). answerOf old (writeStep n m size (heldOf old x stripe) clock y)) e)
-              (λ (x : List ℕ). ew x ∙ ap (λ (y : List ℕ). stripeAfter (heldOf old x stripe) (writeStep n m size (heldOf old x stripe) clock y)) e) h .turned images);
+              (λ (x : List ℕ). ea x ∙ ap (λ (y : List ℕ). answerOf old (writeStep n m size (buffered old x stripe) clock y)) e)
+              (λ (x : List ℕ). ew x ∙ ap (λ (y : List ℕ). stripeAfter (buffered old x stripe) (writeStep n m size (buffered old x stripe) clock y)) e) h .turned images);
         }
 
     -- a reply in row k
     pub acted-reply : (k : ℕ) (reply′ : Reply) (block : List ℕ) (a : Answer) (coded blocks′ stripe′ coded′ : List ℕ) → k < b .sent
         → itemAt (b .settings .size) numbers bytes k ≡ reply reply′ block → c ≡ reply′ .time % 16 → length coded ≡ b .settings .n * b .settings .size
-        → a ≡ answerOf old (takeStep (b .settings .n) (b .settings .m) (b .settings .size) (heldOf old blocks stripe) reply′ block (length coded))
-        → blocks′ ≡ blocksAfter (heldOf old blocks stripe) (takeStep (b .settings .n) (b .settings .m) (b .settings .size) (heldOf old blocks stripe) reply′ block (length coded))
-        → stripe′ ≡ stripeAfter (heldOf old blocks stripe) (takeStep (b .settings .n) (b .settings .m) (b .settings .size) (heldOf old blocks stripe) reply′ block (length coded))
-        → coded′ ≡ codedAfter coded (takeStep (b .settings .n) (b .settings .m) (b .settings .size) (heldOf old blocks stripe) reply′ block (length coded))
+        → a ≡ answerOf old (takeStep (b .settings .n) (b .settings .m) (b .settings .size) (buffered old blocks stripe) reply′ block (length coded))
+        → blocks′ ≡ blocksAfter (buffered old blocks stripe) (takeStep (b .settings .n) (b .settings .m) (b .settings .size) (buffered old blocks stripe) reply′ block (length coded))
+        → stripe′ ≡ stripeAfter (buffered old blocks stripe) (takeStep (b .settings .n) (b .settings .m) (b .settings .size) (buffered old blocks stripe) reply′ block (length coded))
+        → coded′ ≡ codedAfter coded (takeStep (b .settings .n) (b .settings .m) (b .settings .size) (buffered old blocks stripe) reply′ block (length coded))
         → Answers b c a blocks′ stripe′ coded′ kept numbers bytes at out r kept′ numbers′ bytes′ out′
-        → Acted b c (arrives k) (λ (h : Held). takeStep (b .settings .n) (b .settings .m) (b .settings .size) h reply′ block (b .settings .n * b .settings .size)) kept numbers bytes at out r kept′ numbers′ bytes′ out′
+        → BenchActed b c (arrives k) (λ (h : Buffered). takeStep (b .settings .n) (b .settings .m) (b .settings .size) h reply′ block (b .settings .n * b .settings .size)) kept numbers bytes at out r kept′ numbers′ bytes′ out′
     unfolding step worldIn worldOf arriving
     acted-reply k reply′ block a coded blocks′ stripe′ coded′ l item ec long ea eb′ es′ ec′ h =
         let n = b .settings .n in
         let m = b .settings .m in
         let size = b .settings .size in
-        let q = ap (λ (j : ℕ). takeStep n m size (heldOf old blocks stripe) reply′ block j) long ∙ ap (λ (x : Held). takeStep n m size x reply′ block (n * size)) same in
-        acted-by (arrives k) (λ (x : Held). takeStep n m size x reply′ block (n * size)) a blocks′ stripe′ coded′ coded
+        let q = ap (λ (j : ℕ). takeStep n m size (buffered old blocks stripe) reply′ block j) long ∙ ap (λ (x : Buffered). takeStep n m size x reply′ block (n * size)) same in
+        acted-by (arrives k) (λ (x : Buffered). takeStep n m size x reply′ block (n * size)) a blocks′ stripe′ coded′ coded
         (λ images.
         arrives-item (b .settings) (worldIn b (lent images kept numbers bytes)) size numbers bytes (b .sent) k l
         ∙ ap (arriving (b .settings) (worldIn b (lent images kept numbers bytes))) item
-        ∙ ap (λ (j : ℕ). coordinated (b .settings) (worldIn b (lent images kept numbers bytes)) j (takeStep n m size (heldAt (b .settings) (b .coordinators) kept j) reply′ block (n * size))) (sym ec))
+        ∙ ap (λ (j : ℕ). coordinated (b .settings) (worldIn b (lent images kept numbers bytes)) j (takeStep n m size (coordinatorKept (b .settings) (b .coordinators) kept j) reply′ block (n * size))) (sym ec))
         (take-short n m size here reply′ block (n * size)) (take-numbered n m size here reply′ block (n * size))
-        (ea ∙ ap (λ (x : Coordinator). answerOf x (takeStep n m size (heldOf old blocks stripe) reply′ block (length coded))) old-is ∙ ap (answerOf (here .state)) q)
-        (eb′ ∙ ap (λ (x : Held). blocksAfter x (takeStep n m size (heldOf old blocks stripe) reply′ block (length coded))) same ∙ ap (blocksAfter here) q)
-        (es′ ∙ ap (λ (x : Held). stripeAfter x (takeStep n m size (heldOf old blocks stripe) reply′ block (length coded))) same ∙ ap (stripeAfter here) q)
+        (ea ∙ ap (λ (x : Coordinator). answerOf x (takeStep n m size (buffered old blocks stripe) reply′ block (length coded))) old-is ∙ ap (answerOf (here .state)) q)
+        (eb′ ∙ ap (λ (x : Buffered). blocksAfter x (takeStep n m size (buffered old blocks stripe) reply′ block (length coded))) same ∙ ap (blocksAfter here) q)
+        (es′ ∙ ap (λ (x : Buffered). stripeAfter x (takeStep n m size (buffered old blocks stripe) reply′ block (length coded))) same ∙ ap (stripeAfter here) q)
         (ec′ ∙ ap (codedAfter coded) q) h
 
     -- the same, by what the code read from the row
     pub acted-row : (k : ℕ) (reply′ : Reply) (cut : List ℕ) (a : Answer) (coded blocks′ stripe′ coded′ : List ℕ) → k < b .sent
-        → isReply numbers k ≡ true → reply′ ≡ replyAt numbers k → cut ≡ blockAt (b .settings .size) bytes k
+        → isReply numbers k ≡ true → reply′ ≡ replyAt numbers k → cut ≡ sentBlockAt (b .settings .size) bytes k
         → c ≡ reply′ .time % 16 → length coded ≡ b .settings .n * b .settings .size
-        → a ≡ answerOf old (takeStep (b .settings .n) (b .settings .m) (b .settings .size) (heldOf old blocks stripe) reply′ cut (length coded))
-        → blocks′ ≡ blocksAfter (heldOf old blocks stripe) (takeStep (b .settings .n) (b .settings .m) (b .settings .size) (heldOf old blocks stripe) reply′ cut (length coded))
-        → stripe′ ≡ stripeAfter (heldOf old blocks stripe) (takeStep (b .settings .n) (b .settings .m) (b .settings .size) (heldOf old blocks stripe) reply′ cut (length coded))
-        → coded′ ≡ codedAfter coded (takeStep (b .settings .n) (b .settings .m) (b .settings .size) (heldOf old blocks stripe) reply′ cut (length coded))
+        → a ≡ answerOf old (takeStep (b .settings .n) (b .settings .m) (b .settings .size) (buffered old blocks stripe) reply′ cut (length coded))
+        → blocks′ ≡ blocksAfter (buffered old blocks stripe) (takeStep (b .settings .n) (b .settings .m) (b .settings .size) (buffered old blocks stripe) reply′ cut (length coded))
+        → stripe′ ≡ stripeAfter (buffered old blocks stripe) (takeStep (b .settings .n) (b .settings .m) (b .settings .size) (buffered old blocks stripe) reply′ cut (length coded))
+        → coded′ ≡ codedAfter coded (takeStep (b .settings .n) (b .settings .m) (b .settings .size) (buffered old blocks stripe) reply′ cut (length coded))
         → Answers b c a blocks′ stripe′ coded′ kept numbers bytes at out r kept′ numbers′ bytes′ out′
-        → Acted b c (arrives k)
-        (λ (h : Held). takeStep (b .settings .n) (b .settings .m) (b .settings .size) h reply′ (blockAt (b .settings .size) bytes k) (b .settings .n * b .settings .size))
+        → BenchActed b c (arrives k)
+        (λ (h : Buffered). takeStep (b .settings .n) (b .settings .m) (b .settings .size) h reply′ (sentBlockAt (b .settings .size) bytes k) (b .settings .n * b .settings .size))
         kept numbers bytes at out r kept′ numbers′ bytes′ out′
     acted-row k reply′ cut a coded blocks′ stripe′ coded′ l t er e ec long ea eb′ es′ ec′ h =
         subst
-        (λ (x : List ℕ). Acted b c (arrives k) (λ (h : Held). takeStep (b .settings .n) (b .settings .m) (b .settings .size) h reply′ x (b .settings .n * b .settings .size)) kept numbers bytes at out r kept′ numbers′ bytes′ out′)
+        (λ (x : List ℕ). BenchActed b c (arrives k) (λ (h : Buffered). takeStep (b .settings .n) (b .settings .m) (b .settings .size) h reply′ x (b .settings .n * b .settings .size)) kept numbers bytes at out r kept′ numbers′ bytes′ out′)
         e (acted-reply k reply′ cut a coded blocks′ stripe′ coded′ l (item-reply (b .settings .size) k reply′ cut numbers bytes t er e) ec long ea eb′ es′ ec′ h)
 
 module _ (b : Bench) (c : ℕ) (kept numbers bytes : List ℕ) (at : ℕ) (out : List ℕ) (r : After) where
@@ -260,7 +260,7 @@ module _ (b : Bench) (c : ℕ) (kept numbers bytes : List ℕ) (at : ℕ) (out :
   unfolding atCoordinator
   past-at q out′ h t = record { turned = λ images. rw (le-ltb c 4 h) (t (lent images kept numbers bytes)) }
 
-  here-at : (e : Event) (p : Held → Step) (kept′ numbers′ bytes′ out′ : List ℕ) → c < 4 → Acted b c e p kept numbers bytes at out r kept′ numbers′ bytes′ out′
+  here-at : (e : Event) (p : Buffered → Step) (kept′ numbers′ bytes′ out′ : List ℕ) → c < 4 → BenchActed b c e p kept numbers bytes at out r kept′ numbers′ bytes′ out′
       → Plays b (λ (w : World). atCoordinator w c (acts (b .settings) w e c (p (w .coordinators c)))) kept numbers bytes at out r kept′ numbers′ bytes′ out′
   unfolding atCoordinator
   here-at e p kept′ numbers′ bytes′ out′ h a = record { turned = λ images. rw (lt-ltb c 4 h) (a .turned images) }
@@ -271,7 +271,7 @@ module _ (b : Bench) (c : ℕ) (kept numbers bytes : List ℕ) (at : ℕ) (out :
   read-past clock brick out′ h t = past-at _ out′ h t
 
   pub read-here : (clock brick : ℕ) (kept′ numbers′ bytes′ out′ : List ℕ) → c < 4
-      → Acted b c (startRead c clock brick) (λ (h : Held). readStep (b .settings .n) (b .settings .m) (b .settings .size) h clock brick) kept numbers bytes at out r kept′ numbers′ bytes′ out′
+      → BenchActed b c (startRead c clock brick) (λ (h : Buffered). readStep (b .settings .n) (b .settings .m) (b .settings .size) h clock brick) kept numbers bytes at out r kept′ numbers′ bytes′ out′
       → Plays b (λ (w : World). starts (b .settings) w c clock brick) kept numbers bytes at out r kept′ numbers′ bytes′ out′
   unfolding starts
   read-here clock brick kept′ numbers′ bytes′ out′ h a = here-at _ _ kept′ numbers′ bytes′ out′ h a
@@ -282,10 +282,10 @@ module _ (b : Bench) (c : ℕ) (kept numbers bytes : List ℕ) (at : ℕ) (out :
   crash-past out′ h t = past-at _ out′ h t
 
   pub crash-here : (kept′ numbers′ bytes′ out′ : List ℕ) → c < 4
-      → Acted b c (crashes c untouched) (λ (h : Held). crashStep (b .settings .n) (b .settings .m) (b .settings .size) h) kept numbers bytes at out r kept′ numbers′ bytes′ out′
+      → BenchActed b c (crashes c untouched) (λ (h : Buffered). crashStep (b .settings .n) (b .settings .m) (b .settings .size) h) kept numbers bytes at out r kept′ numbers′ bytes′ out′
       → Plays b (λ (w : World). crashesAt (b .settings) w c) kept numbers bytes at out r kept′ numbers′ bytes′ out′
   unfolding crashesAt
-  crash-here kept′ numbers′ bytes′ out′ h a = here-at _ (λ (x : Held). crashStep (b .settings .n) (b .settings .m) (b .settings .size) x) kept′ numbers′ bytes′ out′ h a
+  crash-here kept′ numbers′ bytes′ out′ h a = here-at _ (λ (x : Buffered). crashStep (b .settings .n) (b .settings .m) (b .settings .size) x) kept′ numbers′ bytes′ out′ h a
 
   pub write-past : (clock : ℕ) (digits out′ : List ℕ) → 4 ≤ c → ((l : Lent) → Turned b l at out (refuses (worldIn b l) 3) r l out′)
       → Plays b (λ (w : World). writes (b .settings) w c clock digits) kept numbers bytes at out r kept numbers bytes out′
@@ -293,20 +293,20 @@ module _ (b : Bench) (c : ℕ) (kept numbers bytes : List ℕ) (at : ℕ) (out :
   write-past clock digits out′ h t = past-at _ out′ h t
 
   pub write-here : (clock : ℕ) (digits kept′ numbers′ bytes′ out′ : List ℕ) → c < 4
-      → Acted b c (startWrite c clock (content (b .settings) digits) (content-small (b .settings) digits))
-      (λ (h : Held). unlessShort (counted (b .settings) digits) (writeStep (b .settings .n) (b .settings .m) (b .settings .size) h clock (content (b .settings) digits)))
+      → BenchActed b c (startWrite c clock (content (b .settings) digits) (content-small (b .settings) digits))
+      (λ (h : Buffered). unlessShort (counted (b .settings) digits) (writeStep (b .settings .n) (b .settings .m) (b .settings .size) h clock (content (b .settings) digits)))
       kept numbers bytes at out r kept′ numbers′ bytes′ out′
       → Plays b (λ (w : World). writes (b .settings) w c clock digits) kept numbers bytes at out r kept′ numbers′ bytes′ out′
   unfolding writes
   write-here clock digits kept′ numbers′ bytes′ out′ h a =
-      here-at _ (λ (x : Held). unlessShort (counted (b .settings) digits) (writeStep (b .settings .n) (b .settings .m) (b .settings .size) x clock (content (b .settings) digits)))
+      here-at _ (λ (x : Buffered). unlessShort (counted (b .settings) digits) (writeStep (b .settings .n) (b .settings .m) (b .settings .size) x clock (content (b .settings) digits)))
       kept′ numbers′ bytes′ out′ h a
 
 -- a reply in row k
 module _ (b : Bench) (k : ℕ) (kept numbers bytes : List ℕ) (at : ℕ) (out : List ℕ) (r : After) (reply′ : Reply)
     (t : isReply numbers k ≡ true) (er : reply′ ≡ replyAt numbers k) where
-  item-here : itemAt (b .settings .size) numbers bytes k ≡ reply reply′ (blockAt (b .settings .size) bytes k)
-  item-here = item-reply (b .settings .size) k reply′ (blockAt (b .settings .size) bytes k) numbers bytes t er refl
+  item-here : itemAt (b .settings .size) numbers bytes k ≡ reply reply′ (sentBlockAt (b .settings .size) bytes k)
+  item-here = item-reply (b .settings .size) k reply′ (sentBlockAt (b .settings .size) bytes k) numbers bytes t er refl
 
   pub reply-past : (out′ : List ℕ) → 4 ≤ reply′ .time % 16 → ((l : Lent) → Turned b l at out (refuses (worldIn b l) 3) r l out′)
       → Plays b (λ (w : World). carries (b .settings) w k (itemAt (b .settings .size) numbers bytes k)) kept numbers bytes at out r kept numbers bytes out′
@@ -316,12 +316,12 @@ module _ (b : Bench) (k : ℕ) (kept numbers bytes : List ℕ) (at : ℕ) (out :
       (past-at b (reply′ .time % 16) kept numbers bytes at out r _ out′ h z)
 
   pub reply-here : (kept′ numbers′ bytes′ out′ : List ℕ) → reply′ .time % 16 < 4
-      → Acted b (reply′ .time % 16) (arrives k)
-      (λ (h : Held). takeStep (b .settings .n) (b .settings .m) (b .settings .size) h reply′ (blockAt (b .settings .size) bytes k) (b .settings .n * b .settings .size))
+      → BenchActed b (reply′ .time % 16) (arrives k)
+      (λ (h : Buffered). takeStep (b .settings .n) (b .settings .m) (b .settings .size) h reply′ (sentBlockAt (b .settings .size) bytes k) (b .settings .n * b .settings .size))
       kept numbers bytes at out r kept′ numbers′ bytes′ out′
       → Plays b (λ (w : World). carries (b .settings) w k (itemAt (b .settings .size) numbers bytes k)) kept numbers bytes at out r kept′ numbers′ bytes′ out′
   unfolding carries
   reply-here kept′ numbers′ bytes′ out′ h a =
       subst (λ (i : Item). Plays b (λ (w : World). carries (b .settings) w k i) kept numbers bytes at out r kept′ numbers′ bytes′ out′) (sym item-here)
       (here-at b (reply′ .time % 16) kept numbers bytes at out r (arrives k)
-      (λ (x : Held). takeStep (b .settings .n) (b .settings .m) (b .settings .size) x reply′ (blockAt (b .settings .size) bytes k) (b .settings .n * b .settings .size)) kept′ numbers′ bytes′ out′ h a)
+      (λ (x : Buffered). takeStep (b .settings .n) (b .settings .m) (b .settings .size) x reply′ (sentBlockAt (b .settings .size) bytes k) (b .settings .n * b .settings .size)) kept′ numbers′ bytes′ out′ h a)

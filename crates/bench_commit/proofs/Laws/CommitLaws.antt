@@ -10,7 +10,7 @@ use lib.Seq.{ext-getD, length-take-le, getD-take}
 use borrow.Author.Tests.{eq-eqb, ne-eqb, le-leb, lt-leb}
 use Rattle.settings.specs.declared.Settings.{Settings}
 use Rattle.message.specs.declared.Message.{Message}
-use Rattle.coord_apply.specs.Answers.{Held, Broadcast, Step, refused, went, answerOf, blocksAfter, stripeAfter, codedAfter}
+use Rattle.coord_apply.specs.Answers.{Buffered, Broadcast, Step, refused, went, answerOf, blocksAfter, stripeAfter, codedAfter}
 use Rattle.coord_apply.specs.declared.Answer.{Answer}
 use Rattle.register.specs.Driver.{driven, Short}
 use Rattle.register.proofs.Laws.DriverLaws.{coordinated-is-driven}
@@ -20,7 +20,7 @@ use Rattle.bench_sent.proofs.Laws.SentItemLaws.{items-length}
 use Rattle.bench_sent.specs.Sent.{itemsOf}
 use Rattle.bench_sent.specs.Workers.{Sends}
 use Rattle.bench_state.specs.Workers.{Fits}
-use Rattle.bench_state.specs.State.{worldOf, heldAt}
+use Rattle.bench_state.specs.State.{worldOf, coordinatorKept}
 use Rattle.bench_state.specs.Workers.{withCoordinator, keptWith}
 use Rattle.bench_state.proofs.Laws.StateLaws.{held-put}
 use Rattle.bench_state.specs.declared.Bench.{Bench}
@@ -28,7 +28,7 @@ use Rattle.bench_rules.specs.Play.{refuses, happens, acts}
 use Rattle.bench_rules.specs.Turning.{Lent, lent, worldIn}
 use Rattle.bench_rules.specs.Workers.{Turned}
 use Rattle.bench_rules.specs.declared.After.{After}
-use Rattle.bench_commit.specs.Workers.{answered, sentAfter}
+use Rattle.bench_commit.specs.Workers.{answered, sentAfterAnswer}
 use Rattle.bench_commit.specs.Workers.{Round, Seats, Copies, Answers}
 
 -- a refusal has a number
@@ -46,21 +46,21 @@ answered-is-acts s w e c (went g) old h n q =
     (sym (coordinated-is-driven s w c (went g) old h) ∙ sym q)
 
 pub round-none : (s : Settings) (sent rounds : ℕ) (msg : Message) (coded numbers bytes : List ℕ) → rounds ≡ 0 → Round s sent rounds msg coded numbers bytes numbers bytes
-unfolding sentAfter
+unfolding sentAfterAnswer
 round-none s sent rounds msg coded numbers bytes e =
     record { items = rw (eq-eqb rounds 0 e) (sym (append-nil (itemsOf (s .size) numbers bytes sent))) }
 
 pub round-one : (s : Settings) (sent rounds : ℕ) (msg : Message) (coded numbers bytes numbers′ bytes′ : List ℕ) → (rounds ≡ 0 → ⊥)
     → Sends sent (s .n) (s .size) msg coded numbers bytes numbers′ bytes′ → Round s sent rounds msg coded numbers bytes numbers′ bytes′
-unfolding sentAfter
+unfolding sentAfterAnswer
 round-one s sent rounds msg coded numbers bytes numbers′ bytes′ e h = record { items = rw (ne-eqb rounds 0 e) (h .items s refl) }
 
-pub sent-none : (n sent rounds : ℕ) → rounds ≡ 0 → sent ≡ sentAfter n sent rounds
-unfolding sentAfter
+pub sent-none : (n sent rounds : ℕ) → rounds ≡ 0 → sent ≡ sentAfterAnswer n sent rounds
+unfolding sentAfterAnswer
 sent-none n sent rounds e = rw (eq-eqb rounds 0 e) refl
 
-pub sent-more : (n sent rounds : ℕ) → (rounds ≡ 0 → ⊥) → sent + n ≡ sentAfter n sent rounds
-unfolding sentAfter
+pub sent-more : (n sent rounds : ℕ) → (rounds ≡ 0 → ⊥) → sent + n ≡ sentAfterAnswer n sent rounds
+unfolding sentAfterAnswer
 sent-more n sent rounds e = rw (ne-eqb rounds 0 e) refl
 
 to-all-length : (s : Settings) (b : Broadcast) (k : ℕ) → length (toAll s b k) ≡ k
@@ -73,8 +73,8 @@ module _ (b : Bench) (l : Lent) (e : Event) (c : ℕ) (a : Answer) (blocks strip
   abbrev made : World
   made = driven (b .settings) (worldIn b l) c a blocks stripe coded .world
 
-  made-sent : length (made .sent) ≡ sentAfter (b .settings .n) (b .sent) (a .sent)
-  unfolding driven worldIn worldOf sentAfter
+  made-sent : length (made .sent) ≡ sentAfterAnswer (b .settings .n) (b .sent) (a .sent)
+  unfolding driven worldIn worldOf sentAfterAnswer
   made-sent =
       length-append (itemsOf (b .settings .size) (l .numbers) (l .bytes) (b .sent)) _
       ∙ ap (λ (k : ℕ). k + length (cond (eqb (a .sent) 0) [] (toAll (b .settings) (record { message = a .message; blocks = coded }) (b .settings .n)))) (items-length (b .settings .size) (l .numbers) (l .bytes) (b .sent))
@@ -91,14 +91,14 @@ module _ (b : Bench) (l : Lent) (e : Event) (c : ℕ) (a : Answer) (blocks strip
   answered-refused at out out′ r n t = rw (ne-eqb (a .refusal) 0 n) t
 
   -- too many messages
-  pub answered-past : (at sent : ℕ) (out out′ : List ℕ) (r : After) → a .refusal ≡ 0 → sent ≡ sentAfter (b .settings .n) (b .sent) (a .sent) → 127 < sent
+  pub answered-past : (at sent : ℕ) (out out′ : List ℕ) (r : After) → a .refusal ≡ 0 → sent ≡ sentAfterAnswer (b .settings .n) (b .sent) (a .sent) → 127 < sent
       → Turned b l at out (refuses (worldIn b l) 12) r l out′ → Turned b l at out (answered (b .settings) (worldIn b l) e c a blocks stripe coded) r l out′
   unfolding answered
   answered-past at sent out out′ r z q h t =
       rw (eq-eqb (a .refusal) 0 z, lt-leb (length (made .sent)) 127 (let m = made-sent in omega arith)) t
 
   -- kept, sent and printed
-  pub answered-kept : (at sent used : ℕ) (out out′ kept′ numbers′ bytes′ : List ℕ) → a .refusal ≡ 0 → sent ≡ sentAfter (b .settings .n) (b .sent) (a .sent) → sent ≤ 127
+  pub answered-kept : (at sent used : ℕ) (out out′ kept′ numbers′ bytes′ : List ℕ) → a .refusal ≡ 0 → sent ≡ sentAfterAnswer (b .settings .n) (b .sent) (a .sent) → sent ≤ 127
       → Fits (b .settings) → c < 4 → length (b .coordinators) ≡ 4 → length (l .kept) ≡ 256
       → length blocks ≡ b .settings .n * b .settings .size → length stripe ≡ b .settings .m * b .settings .size
       → Round (b .settings) (b .sent) (a .sent) (a .message) coded (l .numbers) (l .bytes) numbers′ bytes′
@@ -111,7 +111,7 @@ module _ (b : Bench) (l : Lent) (e : Event) (c : ℕ) (a : Answer) (blocks strip
       rw (eq-eqb (a .refusal) 0 z, le-leb (length (made .sent)) 127 (let m = made-sent in omega arith))
       (record {
         world-is = ap₂ make
-            (ap (heldAt (b .settings) (set (b .coordinators) c (a .next))) ek ∙ held-put (b .settings) (fits .small) (b .coordinators) (l .kept) blocks stripe c (a .next) low four long eb es)
+            (ap (coordinatorKept (b .settings) (set (b .coordinators) c (a .next))) ek ∙ held-put (b .settings) (fits .small) (b .coordinators) (l .kept) blocks stripe c (a .next) low four long eb es)
             (ap (itemsOf (b .settings .size) numbers′ bytes′) q ∙ round .items);
         settings-kept = refl;
         few = few;
@@ -120,7 +120,7 @@ module _ (b : Bench) (l : Lent) (e : Event) (c : ℕ) (a : Answer) (blocks strip
         short = short;
       })
     where
-      make : (ℕ → Held) → List Item → World
+      make : (ℕ → Buffered) → List Item → World
       make f items = record { images = worldIn b l .images; up = worldIn b l .up; coordinators = f; sent = items }
 
 module _ (b : Bench) (c : ℕ) (a : Answer) (blocks stripe coded kept numbers bytes : List ℕ) (at : ℕ) (out : List ℕ)
@@ -130,13 +130,13 @@ module _ (b : Bench) (c : ℕ) (a : Answer) (blocks stripe coded kept numbers by
   answers-refused out′ r n t =
       record { turned = λ images e. answered-refused b (lent images kept numbers bytes) e c a blocks stripe coded at out out′ r n (t (lent images kept numbers bytes)) }
 
-  pub answers-past : (sent : ℕ) (out′ : List ℕ) (r : After) → a .refusal ≡ 0 → sent ≡ sentAfter (b .settings .n) (b .sent) (a .sent) → 127 < sent
+  pub answers-past : (sent : ℕ) (out′ : List ℕ) (r : After) → a .refusal ≡ 0 → sent ≡ sentAfterAnswer (b .settings .n) (b .sent) (a .sent) → 127 < sent
       → ((l : Lent) → Turned b l at out (refuses (worldIn b l) 12) r l out′) → Answers b c a blocks stripe coded kept numbers bytes at out r kept numbers bytes out′
   answers-past sent out′ r z q h t =
       record { turned = λ images e. answered-past b (lent images kept numbers bytes) e c a blocks stripe coded at sent out out′ r z q h (t (lent images kept numbers bytes)) }
 
   pub answers-kept : (sent used : ℕ) (bench : Bench) (out′ kept′ numbers′ bytes′ : List ℕ) → Copies (b .settings) blocks stripe coded
-      → a .refusal ≡ 0 → sent ≡ sentAfter (b .settings .n) (b .sent) (a .sent) → sent ≤ 127
+      → a .refusal ≡ 0 → sent ≡ sentAfterAnswer (b .settings .n) (b .sent) (a .sent) → sent ≤ 127
       → Round (b .settings) (b .sent) (a .sent) (a .message) coded numbers bytes numbers′ bytes′
       → kept′ ≡ keptWith c blocks stripe kept
       → used ≡ at + length (endedText c (a .seen) stripe) → out′ ≡ written at (endedText c (a .seen) stripe) out → used ≤ at + 128

@@ -12,7 +12,7 @@ use Rattle.settings.specs.declared.Draw.{Draw}
 use Rattle.settings.specs.declared.Draw.the-variants.{Drawn, Refused}
 use Rattle.message.specs.declared.Reply.{Reply}
 use Rattle.coord_apply.specs.Acts.{ending, starting, roundMessage, firstOp}
-use Rattle.coord_apply.specs.Answers.{Held, Went, Step, refused, went, checked, nothingSeen, cutSeen, blocksAfter, stripeAfter, codedAfter, sentBlocks}
+use Rattle.coord_apply.specs.Answers.{Buffered, Went, Step, refused, went, afterChecks, nothingSeen, cutSeen, blocksAfter, stripeAfter, codedAfter, sentBlocks}
 use Rattle.coord_record.specs.Records.{noBricks}
 use Rattle.coordinator.specs.Routines.{takeStep, crashed, crashStep, drawnThen, writeStep, readStep}
 use Rattle.bench_commit.proofs.Laws.CommitLaws.{Numbered}
@@ -22,8 +22,8 @@ abbrev Went-so : (Went → Type 0) → Step → Type 0
 Went-so P (refused number) = Unit {0}
 Went-so P (went g) = P g
 
-so-checked : (P : Went → Type 0) (k : ℕ) (p : Step) → Went-so P p → Went-so P (checked k p)
-unfolding checked
+so-checked : (P : Went → Type 0) (k : ℕ) (p : Step) → Went-so P p → Went-so P (afterChecks k p)
+unfolding afterChecks
 so-checked P k p h = go (leb k 0)
   where
     go : (b : Bool) → Went-so P (cond b p (refused k))
@@ -35,12 +35,12 @@ unfolding drawnThen
 so-drawn P (Drawn t c) f h = h t c
 so-drawn P (Refused k) f h = tt
 
-blocks-of : (h : Held) (p : Step) → Went-so (λ (g : Went). g .next .blocks ≡ h .blocks) p → blocksAfter h p ≡ h .blocks
+blocks-of : (h : Buffered) (p : Step) → Went-so (λ (g : Went). g .next .blocks ≡ h .blocks) p → blocksAfter h p ≡ h .blocks
 unfolding blocksAfter
 blocks-of h (refused k) e = refl
 blocks-of h (went g) e = e
 
-stripe-of : (h : Held) (p : Step) → Went-so (λ (g : Went). g .next .stripe ≡ h .stripe) p → stripeAfter h p ≡ h .stripe
+stripe-of : (h : Buffered) (p : Step) → Went-so (λ (g : Went). g .next .stripe ≡ h .stripe) p → stripeAfter h p ≡ h .stripe
 unfolding stripeAfter
 stripe-of h (refused k) e = refl
 stripe-of h (went g) e = e
@@ -51,8 +51,8 @@ coded-of old (refused k) e = refl
 coded-of old (went g) e = e
 
 -- refusals have numbers
-numbered-checked : (k : ℕ) (p : Step) → Numbered p → Numbered (checked k p)
-unfolding checked
+numbered-checked : (k : ℕ) (p : Step) → Numbered p → Numbered (afterChecks k p)
+unfolding afterChecks
 numbered-checked k p h = go (leb k 0) refl
   where
     go : (b : Bool) → leb k 0 ≡ b → Numbered (cond b p (refused k))
@@ -68,7 +68,7 @@ numbered-drawn c reading f = go (leb (drawRefusal c reading) 0) refl
     go true e = tt
     go false e = λ z. (let l = leb-false (drawRefusal c reading) 0 e in absurd (omega arith))
 
-module _ (n m size : ℕ) (h : Held) where
+module _ (n m size : ℕ) (h : Buffered) where
   module _ (reading : ℕ) (bytes : List ℕ) where
     pub write-numbered : Numbered (writeStep n m size h reading bytes)
     unfolding writeStep

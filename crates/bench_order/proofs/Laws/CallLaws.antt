@@ -11,13 +11,13 @@ use Rattle.bench_rules.specs.Play.{Stage, waiting, Turn, turn}
 use Rattle.bench_rules.specs.Turning.{Lent}
 use Rattle.bench_state.specs.declared.Bench.{Bench}
 use Rattle.bench_player.specs.Lining.{stageOf, heard, Called}
-use Rattle.bench_player.specs.declared.Outcome.{Outcome}
+use Rattle.bench_player.specs.declared.Played.{Played}
 use Rattle.bench_order.specs.Script.{lines, stays, follows, playsLines, script}
 use Rattle.byte_lists.specs.Lists.{put}
-use Rattle.bench_order.specs.Calls.{Calls, none, call, Taken, Left}
+use Rattle.bench_order.specs.Calls.{Calls, none, call, CallTaken, LeftByCalls}
 
 -- one call is one turn, and prints its text
-module _ (b : Bench) (l : Lent) (line out : List ℕ) (r : Outcome) (l′ : Lent) (out′ : List ℕ) (t : Taken b l out) (c : Called b l line out r l′ out′) where
+module _ (b : Bench) (l : Lent) (line out : List ℕ) (r : Played) (l′ : Lent) (out′ : List ℕ) (t : CallTaken b l out) (c : Called b l line out r l′ out′) where
   accepted : r .refusal ≡ 0
   accepted = c .refusal-is ∙ t
 
@@ -36,8 +36,8 @@ module _ (b : Bench) (l : Lent) (line out : List ℕ) (r : Outcome) (l′ : Lent
       ∙ written-front 0 p out (omega arith)
       ∙ ap (λ (x : Turn). x .printed) heard-so
 
-pub calls-play : {b b″ : Bench} {l l″ : Lent} {out out″ text : List ℕ} {ls : List (List ℕ)} → Taken b l out → Calls b l out ls text b″ l″ out″
-    → Left (stageOf b l) ls text b″ l″ out″
+pub calls-play : {b b″ : Bench} {l l″ : Lent} {out out″ text : List ℕ} {ls : List (List ℕ)} → CallTaken b l out → Calls b l out ls text b″ l″ out″
+    → LeftByCalls (stageOf b l) ls text b″ l″ out″
 unfolding playsLines stays follows
 calls-play t (none b l out) = record { stage-is = refl; text-is = refl; taken = t }
 calls-play {b} {b″} {l} {l″} {out} {out″} t (call {line = line} {text = text} {rest = rest} r l′ out′ c cs) =
@@ -51,7 +51,7 @@ calls-play {b} {b″} {l} {l″} {out} {out″} t (call {line = line} {text = te
     }
 
 -- From a bench without a set, on the lines of an input: the script's stage, and the script's text.
-pub calls-are-the-script : (input : List ℕ) {b b′ : Bench} {l l′ : Lent} {out out′ text : List ℕ} → Taken b l out → stageOf b l ≡ waiting
+pub calls-are-the-script : (input : List ℕ) {b b′ : Bench} {l l′ : Lent} {out out′ text : List ℕ} → CallTaken b l out → stageOf b l ≡ waiting
     → Calls b l out (lines input) text b′ l′ out′ → (stageOf b′ l′ ≡ script input .stage) × (text ≡ script input .printed)
 unfolding script
 calls-are-the-script input t w cs =

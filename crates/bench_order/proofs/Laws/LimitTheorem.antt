@@ -7,15 +7,15 @@ use lib.ListN.{length}
 use mathlib.Core.Path.{_≡_, subst}
 use Rattle.settings.specs.Refusal.{badSetting}
 use Rattle.settings.specs.declared.Settings.{Settings}
-use Rattle.register.specs.Runs.{World, fresh}
+use Rattle.register.specs.Runs.{World, freshSet}
 use Rattle.bench_parse.specs.Lines.{Line, setLine, writeLine, readLine, carryLine, crashLine, downLine, upLine, noLine, reads}
 use Rattle.bench_state.specs.State.{benchRange}
 use Rattle.bench_rules.specs.Play.{Played, refuses, passes, happens, andThen, Stage, waiting, playing, waits, begins, first, turn}
 use Rattle.bench_order.specs.Script.{lines, stays, follows, playsLines, script}
-use Rattle.bench_order.proofs.Laws.Parts.{Few, Part, refusing, passing, happening, both}
+use Rattle.bench_order.proofs.Laws.Parts.{FewSent, Part, refusing, passing, happening, both}
 use Rattle.bench_order.proofs.Laws.ScriptPartLaws.{every-line-by-parts}
 
-part-few : (s : Settings) (w : World) (p : Played) → Part s w p → Few w → Few (p .world)
+part-few : (s : Settings) (w : World) (p : Played) → Part s w p → FewSent w → FewSent (p .world)
 unfolding refuses passes happens andThen
 part-few s w p (refusing _ number) h = h
 part-few s w p (passing _) h = h
@@ -25,13 +25,13 @@ part-few s w p (both _ q r a b) h = part-few s (q .world) r b (part-few s w q a 
 -- a set, if there is one, has sent 127 messages at most
 unfoldable FewAt : Stage → Type 0
 FewAt waiting = Unit {0}
-FewAt (playing s w) = Few w
+FewAt (playing s w) = FewSent w
 
 begins-few : (s : Settings) → FewAt (begins s .stage)
-unfolding begins waits FewAt Few fresh
+unfolding begins waits FewAt FewSent freshSet
 begins-few s = go (benchRange s)
   where
-    go : (b : Bool) → FewAt (cond b (record { stage = playing s (fresh s); events = []; printed = [] }) (waits badSetting) .stage)
+    go : (b : Bool) → FewAt (cond b (record { stage = playing s (freshSet s); events = []; printed = [] }) (waits badSetting) .stage)
     go true = omega arith
     go false = tt
 
@@ -54,5 +54,5 @@ lines-few stage (l ∷ ls) h = lines-few (turn stage (reads l) .stage) ls (turn-
 
 -- "A line, or one carried number, that would send past message 127 is refused before anything changes."
 pub never-past-message-127 : (input : List ℕ) (s : Settings) (w : World) → script input .stage ≡ playing s w → length (w .sent) ≤ 127
-unfolding script FewAt Few
+unfolding script FewAt FewSent
 never-past-message-127 input s w e = subst FewAt e (lines-few waiting (lines input) tt)

@@ -7,7 +7,7 @@ use lib.ListN.{length}
 use Rattle.settings.specs.declared.Settings.{Settings}
 use Rattle.coord_record.specs.Records.{readingKind, writingKind}
 use Rattle.coord_record.specs.declared.Op.{Op}
-use Rattle.order.specs.Claim.{Outcome, Seen}
+use Rattle.order.specs.Claim.{Ending, Seen}
 use Rattle.register.specs.Runs.{plain, World, Event, step}
 use Rattle.bench_rules.specs.Play.{lastMessage, Played, refuses, passes, happens, andThen}
 use Rattle.bench_order.proofs.Laws.ToldLaws.{told}
@@ -19,15 +19,15 @@ pub record Ran (op : Op) (kind time : ℕ) : Type 0 where
   pub known : (kind ≡ readingKind) ⊎ (kind ≡ writingKind)
 
 -- "message 127": so many are sent at most
-unfoldable pub Few : World → Type 0
-Few w = length (w .sent) ≤ lastMessage
+unfoldable pub FewSent : World → Type 0
+FewSent w = length (w .sent) ≤ lastMessage
 
 -- Each part of a line is a refusal, or nothing, or an event that happens by the runs' own step. At such an event the bench prints what is
 -- seen at that very event, of the operation that ran at its coordinator, and sends no message past 127.
 pub data Part (s : Settings) : World → Played → Type 0 where
   refusing : (w : World) (number : ℕ) → Part s w (refuses w number)
   passing : (w : World) → Part s w (passes w)
-  happening : (w : World) (e : Event) (c kind : ℕ) → (Few w → Few (step s w e .world))
-      → ((time : ℕ) (how : Outcome (plain s)) → step s w e .seen ≡ Seen.ended time how ∷ [] → Ran (w .coordinators c .state .op) kind time)
+  happening : (w : World) (e : Event) (c kind : ℕ) → (FewSent w → FewSent (step s w e .world))
+      → ((time : ℕ) (how : Ending (plain s)) → step s w e .seen ≡ Seen.ended time how ∷ [] → Ran (w .coordinators c .state .op) kind time)
       → Part s w (happens s w e (told s c kind (step s w e .seen)))
   both : (w : World) (p q : Played) → Part s w p → Part s (p .world) q → Part s w (andThen p q)

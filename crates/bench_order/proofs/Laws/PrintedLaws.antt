@@ -15,13 +15,13 @@ use Rattle.coord_record.proofs.Laws.SoundPartLaws.{sound-parts}
 use Rattle.coord_record.specs.declared.Coordinator.{Coordinator}
 use Rattle.coord_record.specs.declared.Op.{Op}
 use Rattle.coord_decide.specs.Deciding.{decided}
-use Rattle.coord_decide.specs.Decisions.{Says}
+use Rattle.coord_decide.specs.Decisions.{DecisionSays}
 use Rattle.coord_decide.proofs.Laws.SaysLaws.{decided-says}
 use Rattle.coord_decide.specs.declared.Decision.{Decision}
 use Rattle.coord_decide.specs.declared.Decision.the-variants.{Abort, Give, Look, Store, Recover, Finish}
 use Rattle.coord_apply.specs.Acts.{acted, ending, nextRound, finishedSeen, waitingOr, counting, withTally}
-use Rattle.coord_apply.specs.Answers.{Held, Went, went, nothingSeen, beganSeen, okSeen, readSeen, cutSeen}
-use Rattle.coord_apply.specs.declared.Seen.{Seen as Shown}
+use Rattle.coord_apply.specs.Answers.{Buffered, Went, went, nothingSeen, beganSeen, okSeen, readSeen, cutSeen}
+use Rattle.coord_apply.specs.declared.Notice.{Notice}
 use Rattle.coord_refusals.specs.Checks.{recordChecks, crashRefusal}
 use Rattle.coordinator.specs.Routines.{takeStep, crashed, crashStep, writeStep, readStep}
 use Rattle.coord_laws.proofs.Laws.OpCaseLaws.{in-read, Fit, reading, looking, restoring, ordering, storing, fit}
@@ -32,7 +32,7 @@ use Rattle.message.specs.declared.Reply.{Reply}
 use Rattle.settings.specs.Ranges.{codeRefusal, quorum}
 use Rattle.settings.proofs.Laws.RefusalLaws.{passed-rest}
 use Rattle.coordinator.proofs.Laws.RoutineLaws.{record-passes}
-use Rattle.order.specs.Claim.{Outcome, Seen, began, ended}
+use Rattle.order.specs.Claim.{Ending, Seen, began, ended}
 use Rattle.register.specs.Runs.{plain, seenOf}
 use Rattle.bench_print.specs.Printing.{kindWord, endWord, lineText, isEnd, endedText}
 use Rattle.bench_order.proofs.Laws.Parts.{Ran}
@@ -40,7 +40,7 @@ use Rattle.bench_order.specs.Told.{endLine, toldEnd}
 use Rattle.bench_order.proofs.Laws.ToldLaws.{told}
 
 -- ok is the end of a write, and the stripe is the end of a read; what ends is the operation that ran
-pub record Agrees (op : Op) (e : Shown) : Type 0 where
+pub record Agrees (op : Op) (e : Notice) : Type 0 where
   pub ok-writes : e .what ≡ okSeen → eqb (e .kind) readingKind ≡ false
   pub bytes-read : e .what ≡ readSeen → eqb (e .kind) readingKind ≡ true
   pub ends-own : (e .what ≡ 0 → ⊥) → (e .what ≡ beganSeen → ⊥) → Ran op (e .kind) (e .time)
@@ -68,7 +68,7 @@ told-by-what s op c (suc (suc (suc (suc (suc (suc k)))))) kind time bricks kept 
     refl
 
 -- what is printed at an event of coordinator c is the line of what is seen there
-pub printed-is-seen : (s : Settings) (op : Op) (c : ℕ) (e : Shown) (kept : List ℕ) → Agrees op e → told s c (e .kind) (seenOf s e kept) ≡ endedText c e kept
+pub printed-is-seen : (s : Settings) (op : Op) (c : ℕ) (e : Notice) (kept : List ℕ) → Agrees op e → told s c (e .kind) (seenOf s e kept) ≡ endedText c e kept
 printed-is-seen s op c e kept a = told-by-what s op c (e .what) (e .kind) (e .time) (e .bricks) kept a
 
 -- what ended is what was shown to end, at its time
@@ -102,7 +102,7 @@ shown-end s what time p q r x y ep eq er ex ey t e =
     go false false false false true ea eb ec ed ef h = at 3 (eqb-true what 5 ef) (sym ey ∙ h)
     go false false false false false ea eb ec ed ef h = absurd (omega (arith, h))
 
-pub end-ran : (s : Settings) (op : Op) (e : Shown) (kept : List ℕ) (time : ℕ) (how : Outcome (plain s)) → Agrees op e
+pub end-ran : (s : Settings) (op : Op) (e : Notice) (kept : List ℕ) (time : ℕ) (how : Ending (plain s)) → Agrees op e
     → seenOf s e kept ≡ ended time how ∷ [] → Ran op (e .kind) time
 unfolding seenOf endTime
 end-ran s op e kept time how a q =
@@ -114,7 +114,7 @@ nothing-agrees : (op : Op) → Agrees op nothingSeen
 unfolding nothingSeen
 nothing-agrees op = record { ok-writes = λ q. absurd (omega (arith, q)); bytes-read = λ q. absurd (omega (arith, q)); ends-own = λ a b. absurd (a refl) }
 
-began-agrees : (op : Op) (e : Shown) → e .what ≡ beganSeen → Agrees op e
+began-agrees : (op : Op) (e : Notice) → e .what ≡ beganSeen → Agrees op e
 began-agrees op e w =
     record { ok-writes = λ q. absurd (omega (arith, w, q)); bytes-read = λ q. absurd (omega (arith, w, q)); ends-own = λ a b. absurd (b w) }
 
@@ -136,9 +136,9 @@ finish-agrees op bricks k = go (eqb (op .kind) 1) refl
     go true e = record { ok-writes = λ q. absurd (omega (arith, q)); bytes-read = λ q. e; ends-own = λ a b. running op k }
     go false e = record { ok-writes = λ q. e; bytes-read = λ q. absurd (omega (arith, q)); ends-own = λ a b. running op k }
 
-acted-agrees : (n m size : ℕ) (h : Held) → opRight (h .state .op) ≡ true → (h .state .op .kind ≡ 1) ⊎ (h .state .op .kind ≡ 2) → (d : Decision)
-    → Says n m (h .state .op) (h .state .tally) d → Agrees (h .state .op) (acted n m size h d .seen)
-unfolding acted ending nextRound Says
+acted-agrees : (n m size : ℕ) (h : Buffered) → opRight (h .state .op) ≡ true → (h .state .op .kind ≡ 1) ⊎ (h .state .op .kind ≡ 2) → (d : Decision)
+    → DecisionSays n m (h .state .op) (h .state .tally) d → Agrees (h .state .op) (acted n m size h d .seen)
+unfolding acted ending nextRound DecisionSays
 acted-agrees n m size h r k Abort s = short-agrees (h .state .op) 4 noBricks k (omega arith)
 acted-agrees n m size h r k Give s =
     record {
@@ -151,7 +151,7 @@ acted-agrees n m size h r k Store s = nothing-agrees (h .state .op)
 acted-agrees n m size h r k (Recover time) s = nothing-agrees (h .state .op)
 acted-agrees n m size h r k Finish s = finish-agrees (h .state .op) (h .state .bricks) k
 
-waiting-agrees : (n m size : ℕ) (h : Held) → opRight (h .state .op) ≡ true → (h .state .op .kind ≡ 1) ⊎ (h .state .op .kind ≡ 2)
+waiting-agrees : (n m size : ℕ) (h : Buffered) → opRight (h .state .op) ≡ true → (h .state .op .kind ≡ 1) ⊎ (h .state .op .kind ≡ 2)
     → Agrees (h .state .op) (waitingOr n m size h .seen)
 unfolding waitingOr
 waiting-agrees n m size h r k = go (ltb (members (h .state .tally .counted) n) (quorum n m))
@@ -182,7 +182,7 @@ fit-known op (ordering k p _ _) = inr k
 fit-known op (storing k p _) = inr k
 
 -- a reply,
-pub take-agrees : (n m size : ℕ) (h : Held) (r : Reply) (block : List ℕ) (coded : ℕ) (g : Went) → takeStep n m size h r block coded ≡ went g
+pub take-agrees : (n m size : ℕ) (h : Buffered) (r : Reply) (block : List ℕ) (coded : ℕ) (g : Went) → takeStep n m size h r block coded ≡ went g
     → Agrees (h .state .op) (g .seen)
 unfolding counting withTally
 take-agrees n m size h r block coded g e =
@@ -198,7 +198,7 @@ unfolding crashRefusal
 crash-right n m size c e =
     sound-parts n m c (record-passes n m c [] (passed-rest (codeRefusal n m size) (recordChecks n m c []) e) .0 .is-sound) .op-right
 
-pub crash-agrees : (n m size : ℕ) (h : Held) (g : Went) → crashStep n m size h ≡ went g → Agrees (h .state .op) (g .seen)
+pub crash-agrees : (n m size : ℕ) (h : Buffered) (g : Went) → crashStep n m size h ≡ went g → Agrees (h .state .op) (g .seen)
 unfolding crashStep crashed ending
 crash-agrees n m size h g e =
     let p = passes (crashRefusal n m size (h .state)) (went (crashed h)) g e in
@@ -212,11 +212,11 @@ crash-agrees n m size h g e =
         short-agrees (h .state .op) 5 noBricks (kind-known (h .state .op) r (eqb-false (h .state .op .kind) 0 q)) (omega arith)
 
 -- the start of a write, and of a read
-pub write-agrees : (n m size : ℕ) (h : Held) (clock : ℕ) (bytes : List ℕ) (g : Went) → writeStep n m size h clock bytes ≡ went g
+pub write-agrees : (n m size : ℕ) (h : Buffered) (clock : ℕ) (bytes : List ℕ) (g : Went) → writeStep n m size h clock bytes ≡ went g
     → Agrees (h .state .op) (g .seen)
 write-agrees n m size h clock bytes g e =
-    began-agrees (h .state .op) (g .seen) (ap (λ (v : Shown). v .what) (write-begins n m size h clock bytes g e .0 .seen-is))
+    began-agrees (h .state .op) (g .seen) (ap (λ (v : Notice). v .what) (write-begins n m size h clock bytes g e .0 .seen-is))
 
-pub read-agrees : (n m size : ℕ) (h : Held) (clock first : ℕ) (g : Went) → readStep n m size h clock first ≡ went g → Agrees (h .state .op) (g .seen)
+pub read-agrees : (n m size : ℕ) (h : Buffered) (clock first : ℕ) (g : Went) → readStep n m size h clock first ≡ went g → Agrees (h .state .op) (g .seen)
 read-agrees n m size h clock first g e =
-    began-agrees (h .state .op) (g .seen) (ap (λ (v : Shown). v .what) (read-begins n m size h clock first g e .0 .seen-is))
+    began-agrees (h .state .op) (g .seen) (ap (λ (v : Notice). v .what) (read-begins n m size h clock first g e .0 .seen-is))

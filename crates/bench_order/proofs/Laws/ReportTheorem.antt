@@ -12,14 +12,14 @@ use Rattle.settings.specs.Ranges.{SettingsRange}
 use Rattle.settings.proofs.Laws.RangeLaws.{settings-passed}
 use Rattle.settings.specs.Refusal.{badSetting, badLine}
 use Rattle.settings.specs.declared.Settings.{Settings}
-use Rattle.order.specs.Claim.{Action, read, write, Outcome, Seen, began, ended, Before, here, later, _∈_}
+use Rattle.order.specs.Claim.{Action, read, write, Ending, Seen, began, ended, Before, here, later, _∈_}
 use Rattle.order.specs.Facts.{Fact, seen}
 use Rattle.order.specs.Places.{In}
 use Rattle.order.proofs.Laws.SeenLaws.{seen-began}
 use Rattle.order.proofs.Laws.OneOrderTheorem.{one-order}
 use Rattle.register.proofs.Laws.Corollaries.{one-thing-seen}
 use Rattle.register.proofs.Laws.Invariant.{Hist, Running, Inv}
-use Rattle.register.specs.Runs.{plain, World, Event, Moved, unmoved, fresh, step, next, runFrom, run}
+use Rattle.register.specs.Runs.{plain, World, Event, Moved, unmoved, freshSet, step, nextMoved, runFrom, run}
 use Rattle.register.proofs.Laws.TheoremProof.{step-goes, run-holds}
 use Rattle.bench_parse.specs.Lines.{Line, setLine, writeLine, readLine, carryLine, crashLine, downLine, upLine, noLine, reads}
 use Rattle.bench_print.specs.Printing.{refusedText}
@@ -70,11 +70,11 @@ reports-both s r es fs a b (refusal _ number _ text p) q =
     subst (Reports s r (es ++ fs)) (sym (append-assoc (refusedText number) text b)) (refusal r number (es ++ fs) (text ++ b) (reports-both s r es fs text b p q))
 reports-both s r es fs a b (event _ e es′ text p) q =
     subst (Reports s r (e ∷ (es′ ++ fs))) (sym (append-assoc (reported s (r .seen) (step s (r .world) e .seen)) text b))
-    (event r e (es′ ++ fs) (text ++ b) (reports-both s (next s r e) es′ fs text b p q))
+    (event r e (es′ ++ fs) (text ++ b) (reports-both s (nextMoved s r e) es′ fs text b p q))
 
 -- what the bench tells at an event is what the run reports there, if the operation that ends has c in its time and began with this kind
 told-is-reported : (s : Settings) (before l : List (Seen (plain s))) (c kind : ℕ) → length l ≤ 1
-    → ((time : ℕ) (how : Outcome (plain s)) → l ≡ ended time how ∷ [] → (c ≡ time % 16) × (kind ≡ kindIn s before time))
+    → ((time : ℕ) (how : Ending (plain s)) → l ≡ ended time how ∷ [] → (c ≡ time % 16) × (kind ≡ kindIn s before time))
     → told s c kind l ≡ reported s before l
 unfolding told reported
 told-is-reported s before [] c kind h f = refl
@@ -118,9 +118,9 @@ module _ (s : Settings) (g : SettingsRange s) where
   Held-by r = (h : Hist s) × Inv s g h r
 
   holds-from : (r : Moved s) → Held-by r → (events : List Event) → Held-by (runFrom s r events)
-  unfolding runFrom next
+  unfolding runFrom nextMoved
   holds-from r w [] = w
-  holds-from r w (e ∷ events) = holds-from (next s r e) (step-goes s g (w .0) r (w .1) e) events
+  holds-from r w (e ∷ events) = holds-from (nextMoved s r e) (step-goes s g (w .0) r (w .1) e) events
 
   -- a part of a line, at a moment of a run
   part-reports : (w : World) (p : Played) → Part s w p → (before : List (Seen (plain s))) → Held-by (record { world = w; seen = before })
@@ -134,7 +134,7 @@ module _ (s : Settings) (g : SettingsRange s) where
       ∙ sym
       (told-is-reported s before (step s w e .seen) c kind (one-thing-seen s w e)
       (λ time how q. ran-own (record { world = w; seen = before }) (i .0) (i .1) c kind time (o time how q))))
-      (event (record { world = w; seen = before }) e [] [] (nothing (next s (record { world = w; seen = before }) e)))
+      (event (record { world = w; seen = before }) e [] [] (nothing (nextMoved s (record { world = w; seen = before }) e)))
   part-reports w p (both _ q t a b) before i =
       let m = runFrom s (record { world = w; seen = before }) (q .events) in
       let z = part-runs s w q a before in
@@ -143,24 +143,24 @@ module _ (s : Settings) (g : SettingsRange s) where
       (part-reports (q .world) t b (m .seen)
       (subst (λ (v : World). Held-by (record { world = v; seen = m .seen })) z (holds-from (record { world = w; seen = before }) i (q .events)))))
 
-more-refused : (text : List ℕ) (number : ℕ) → ((s : Settings) → Reports s (unmoved s (fresh s)) [] text) → (s : Settings)
-    → Reports s (unmoved s (fresh s)) [] (text ++ refusedText number)
+more-refused : (text : List ℕ) (number : ℕ) → ((s : Settings) → Reports s (unmoved s (freshSet s)) [] text) → (s : Settings)
+    → Reports s (unmoved s (freshSet s)) [] (text ++ refusedText number)
 unfolding runFrom
-more-refused text number h s = reports-both s (unmoved s (fresh s)) [] [] text (refusedText number) (h s) (refusal-alone s (unmoved s (fresh s)) number)
+more-refused text number h s = reports-both s (unmoved s (freshSet s)) [] [] text (refusedText number) (h s) (refusal-alone s (unmoved s (freshSet s)) number)
 
-begins-reports : (s : Settings) (text : List ℕ) → ((z : Settings) → Reports z (unmoved z (fresh z)) [] text)
+begins-reports : (s : Settings) (text : List ℕ) → ((z : Settings) → Reports z (unmoved z (freshSet z)) [] text)
     → Reported (begins s .stage) (begins s .events) (text ++ begins s .printed)
 unfolding begins waits Reported
 begins-reports s text h = go (benchRange s)
   where
     go : (b : Bool)
-        → Reported (cond b (record { stage = playing s (fresh s); events = []; printed = [] }) (waits badSetting) .stage)
-        (cond b (record { stage = playing s (fresh s); events = []; printed = [] }) (waits badSetting) .events)
-        (text ++ cond b (record { stage = playing s (fresh s); events = []; printed = [] }) (waits badSetting) .printed)
+        → Reported (cond b (record { stage = playing s (freshSet s); events = []; printed = [] }) (waits badSetting) .stage)
+        (cond b (record { stage = playing s (freshSet s); events = []; printed = [] }) (waits badSetting) .events)
+        (text ++ cond b (record { stage = playing s (freshSet s); events = []; printed = [] }) (waits badSetting) .printed)
     go true = rw (append-nil text) (h s)
     go false = more-refused text badSetting h
 
-first-reports : (text : List ℕ) (line : Line) → ((z : Settings) → Reports z (unmoved z (fresh z)) [] text)
+first-reports : (text : List ℕ) (line : Line) → ((z : Settings) → Reports z (unmoved z (freshSet z)) [] text)
     → Reported (first line .stage) (first line .events) (text ++ first line .printed)
 unfolding first waits Reported
 first-reports text (setLine n m size capacity) h = begins-reports (record { n = n; m = m; size = size; capacity = capacity }) text h
@@ -179,7 +179,7 @@ turn-reports waiting events text line e h =
     subst (λ (l : List Event). Reported (first line .stage) (l ++ first line .events) (text ++ first line .printed)) (sym e) (first-reports text line h)
 turn-reports (playing s w) events text line (b, e) h =
     let g = settings-passed s (bench-in-range s b) in
-    reports-both s (unmoved s (fresh s)) events (plays s w line .events) text (plays s w line .printed) h
+    reports-both s (unmoved s (freshSet s)) events (plays s w line .events) text (plays s w line .printed) h
     (subst (λ (v : World). Reports s (record { world = v; seen = run s events .seen }) (plays s w line .events) (plays s w line .printed)) e
     (part-reports s g w (plays s w line) (every-line-by-parts s w line) (run s events .seen)
     (subst (λ (v : World). Held-by s g (record { world = v; seen = run s events .seen })) (sym e) (run-holds s g events))))
@@ -199,4 +199,4 @@ lines-report stage events text (l ∷ ls) h p =
 -- What a script prints is, in order, the line of each operation that ends at an event of its run, and of each refusal; and nothing else.
 pub every-script-prints-its-run : (input : List ℕ) → Reported (script input .stage) (script input .events) (script input .printed)
 unfolding script Reported StandsFor
-every-script-prints-its-run input = lines-report waiting [] [] (lines input) refl (λ s. nothing (unmoved s (fresh s)))
+every-script-prints-its-run input = lines-report waiting [] [] (lines input) refl (λ s. nothing (unmoved s (freshSet s)))

@@ -13,13 +13,13 @@ use Rattle.message.specs.Kinds.{trimKind}
 use Rattle.message.specs.declared.Message.{Message}
 use Rattle.message.specs.declared.Reply.{Reply}
 use Rattle.image.specs.Parse.{Parsed, Opens, Refuses, parse}
-use Rattle.brick.specs.Receive.{Outcome, receiveRefusal, refusedWith, givenBy, acted, outcome}
+use Rattle.brick.specs.Receive.{Outcome, receiveRefusal, refusedWith, givenBy, accepted, outcome}
 use Rattle.brick_log.specs.BrickRules.{replyTo}
 use Rattle.brick.specs.declared.Given.{Given}
 use Rattle.brick.specs.declared.Given.the-variants.{Answered, Silent, Refused}
 use Rattle.coord_apply.specs.Answers.{Step, refused, went, Went}
 use Rattle.coordinator.specs.Routines.{writeStep}
-use Rattle.order.specs.Claim.{Outcome as Ending, Seen}
+use Rattle.order.specs.Claim.{Ending, Seen}
 use Rattle.register.specs.Runs.{plain, Item, message, reply, World, untouched, Event, startWrite, startRead, arrives, crashes, goesDown, comesUp, Moved, unmoved, coordinated, repliedWith, received, arriving, arrivingAt, standing, step}
 use Rattle.register.proofs.Laws.DriverLaws.{left-untouched}
 use Rattle.bench_parse.specs.Lines.{Line, setLine, writeLine, readLine, carryLine, crashLine, downLine, upLine, noLine}
@@ -27,7 +27,7 @@ use Rattle.bench_print.specs.Printing.{endedText}
 use Rattle.bench_rules.specs.Content.{content, content-small, counted}
 use Rattle.bench_rules.specs.Play.{lastMessage, Played, refuses, passes, happens, acts, atCoordinator, unlessShort, writes, starts, crashesAt, switches, delivered, reaches, carries, carriesAt, carried, carriedAll, plays}
 use Rattle.bench_order.proofs.Laws.ToldLaws.{told}
-use Rattle.bench_order.proofs.Laws.Parts.{Few, Ran, Part, refusing, passing, happening, both}
+use Rattle.bench_order.proofs.Laws.Parts.{FewSent, Ran, Part, refusing, passing, happening, both}
 use Rattle.bench_order.proofs.Laws.PrintedLaws.{Agrees, printed-is-seen, end-ran, take-agrees, crash-agrees, write-agrees, read-agrees}
 
 -- "Trim t: no reply"
@@ -40,8 +40,8 @@ silent-not-answered true a r q e = let z : _≡_ {A = ℕ} 0 1 = cc in omega ari
 silent-not-answered false a r q e = let z : _≡_ {A = ℕ} 0 1 = cc in omega arith
 
 acted-not-answered : (s : Settings) (brick : ℕ) (msg : Message) (block bytes out : List ℕ) (p : Parsed) → msg .kind ≡ trimKind → (r : Reply)
-    → acted s brick msg block bytes out p .given ≡ Answered r → ⊥
-unfolding acted givenBy
+    → accepted s brick msg block bytes out p .given ≡ Answered r → ⊥
+unfolding accepted givenBy
 acted-not-answered s brick msg block bytes out (Opens x) k r e =
     silent-not-answered (eqb (msg .kind) trimKind) (Answered (replyTo s brick x msg)) r (eq-eqb (msg .kind) trimKind k) e
 acted-not-answered s brick msg block bytes out (Refuses number) k r e = refused-not-answered number bytes out r e
@@ -52,7 +52,7 @@ unfolding outcome
 trim-not-answered s brick bytes msg block out k r e = go (eqb (receiveRefusal s brick bytes msg (length block) (length out)) 0) e
   where
     go : (b : Bool)
-        → cond b (acted s brick msg block bytes out (parse s brick bytes))
+        → cond b (accepted s brick msg block bytes out (parse s brick bytes))
         (refusedWith (receiveRefusal s brick bytes msg (length block) (length out)) bytes out) .given
         ≡ Answered r
         → ⊥
@@ -76,7 +76,7 @@ unless-went false (went v) g e = absurd (let z : _≡_ {A = ℕ} 0 1 = cc in ome
 
 module _ (s : Settings) (w : World) where
   -- an event that prints what is seen at it
-  printing : (e : Event) (c kind : ℕ) (text : List ℕ) → told s c kind (step s w e .seen) ≡ text → (Few w → Few (step s w e .world))
+  printing : (e : Event) (c kind : ℕ) (text : List ℕ) → told s c kind (step s w e .seen) ≡ text → (FewSent w → FewSent (step s w e .world))
       → ((time : ℕ) (how : Ending (plain s)) → step s w e .seen ≡ Seen.ended time how ∷ [] → Ran (w .coordinators c .state .op) kind time)
       → Part s w (happens s w e text)
   printing e c kind text q f o = subst (λ (l : List ℕ). Part s w (happens s w e l)) q (happening w e c kind f o)
@@ -84,7 +84,7 @@ module _ (s : Settings) (w : World) where
   -- an event at a coordinator
   acts-part : (e : Event) (c : ℕ) (st : Step) → ((g : Went) → st ≡ went g → (step s w e ≡ coordinated s w c (went g)) × Agrees (w .coordinators c .state .op) (g .seen))
       → Part s w (acts s w e c st)
-  unfolding acts coordinated Few
+  unfolding acts coordinated FewSent
   acts-part e c (refused number) f = refusing w number
   acts-part e c (went g) f = go (leb (length (step s w e .world .sent)) lastMessage) refl
     where
@@ -134,7 +134,7 @@ module _ (s : Settings) (w : World) where
 
   -- nothing is seen, and no message is sent past 127
   abbrev Quiet : Moved s → Type 0
-  Quiet m = (m .seen ≡ []) × (Few w → Few (m .world))
+  Quiet m = (m .seen ≡ []) × (FewSent w → FewSent (m .world))
 
   either-quiet : (t : Bool) (x y : Moved s) → Quiet x → Quiet y → Quiet (cond t x y)
   either-quiet true x y p q = p
@@ -148,7 +148,7 @@ module _ (s : Settings) (w : World) where
 
   -- a brick goes down or comes up
   standing-quiet : (b : ℕ) (how : Bool) → Quiet (standing s w b how)
-  unfolding standing unmoved Few
+  unfolding standing unmoved FewSent
   standing-quiet b how = either-quiet (ltb b (s .n)) _ _ (refl, λ h. h) (refl, λ h. h)
 
   switches-part : (b : ℕ) (e : Event) → Quiet (step s w e) → Part s w (switches s w b e)
@@ -161,7 +161,7 @@ module _ (s : Settings) (w : World) where
 
   -- a message at its brick
   received-quiet : (b : ℕ) (o : Outcome) → ((r : Reply) → o .given ≡ Answered r → length (w .sent) < lastMessage) → Quiet (received s w b o)
-  unfolding received repliedWith Few
+  unfolding received repliedWith FewSent
   received-quiet b o f = (refl, λ h. go (o .given) refl h)
     where
       go : (a : Given) → o .given ≡ a → length (w .sent) ≤ lastMessage → length (w .sent ++ repliedWith a (o .out)) ≤ lastMessage

@@ -8,7 +8,7 @@ use Rattle.settings.specs.Ranges.{settingsRefusal}
 use Rattle.settings.specs.Refusal.{refuseUnless, badSetting}
 use Rattle.settings.specs.declared.Settings.{Settings}
 use Rattle.order.specs.Claim.{Seen}
-use Rattle.register.specs.Runs.{plain, World, Event, Moved, unmoved, fresh, next, runFrom, run, RunHasOneOrder}
+use Rattle.register.specs.Runs.{plain, World, Event, Moved, unmoved, freshSet, nextMoved, runFrom, run, RunHasOneOrder}
 use Rattle.register.proofs.Laws.TheoremProof.{every-run-has-one-order}
 use Rattle.bench_parse.specs.Lines.{Line, setLine, writeLine, readLine, carryLine, crashLine, downLine, upLine, noLine, reads}
 use Rattle.bench_state.proofs.Laws.BenchRangeLaws.{bench-fits}
@@ -23,12 +23,12 @@ use Rattle.bench_order.specs.Script.{StandsFor}
 pub run-from-both : (s : Settings) (r : Moved s) (es fs : List Event) → runFrom s r (es ++ fs) ≡ runFrom s (runFrom s r es) fs
 unfolding runFrom
 run-from-both s r [] fs = refl
-run-from-both s r (e ∷ es) fs = run-from-both s (next s r e) es fs
+run-from-both s r (e ∷ es) fs = run-from-both s (nextMoved s r e) es fs
 
 -- what a part of a line leaves is what its events leave, whatever was seen before
 pub part-runs : (s : Settings) (w : World) (p : Played) → Part s w p → (seen : List (Seen (plain s)))
     → runFrom s (record { world = w; seen = seen }) (p .events) .world ≡ p .world
-unfolding refuses passes happens andThen runFrom next
+unfolding refuses passes happens andThen runFrom nextMoved
 part-runs s w p (refusing _ number) seen = refl
 part-runs s w p (passing _) seen = refl
 part-runs s w p (happening _ e c kind f o) seen = refl
@@ -48,8 +48,8 @@ unfolding begins waits StandsFor run unmoved runFrom
 begins-stands s = go (benchRange s) refl
   where
     go : (b : Bool) → benchRange s ≡ b
-        → StandsFor (cond b (record { stage = playing s (fresh s); events = []; printed = [] }) (waits badSetting) .stage)
-        (cond b (record { stage = playing s (fresh s); events = []; printed = [] }) (waits badSetting) .events)
+        → StandsFor (cond b (record { stage = playing s (freshSet s); events = []; printed = [] }) (waits badSetting) .stage)
+        (cond b (record { stage = playing s (freshSet s); events = []; printed = [] }) (waits badSetting) .events)
     go true e = (e, refl)
     go false e = refl
 
@@ -74,7 +74,7 @@ turn-stands (playing s w) events line (b, e) = (
   b,
   sym (plays-runs s w line (run s events .seen))
       ∙ ap (λ (v : World). runFrom s (record { world = v; seen = run s events .seen }) (plays s w line .events) .world) e
-      ∙ ap (λ (v : Moved s). v .world) (sym (run-from-both s (unmoved s (fresh s)) events (plays s w line .events))),
+      ∙ ap (λ (v : Moved s). v .world) (sym (run-from-both s (unmoved s (freshSet s)) events (plays s w line .events))),
 )
 
 -- all lines

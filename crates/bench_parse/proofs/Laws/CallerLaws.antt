@@ -5,7 +5,7 @@ use Prim.Native.Nat.{ℕ, _+_, _≤_, _<_}
 use native.Mathlib.Omega.{arith}
 use lib.ListN.{length, drop}
 use Rattle.bench_parse.specs.Lines.{numbersOf, setLine, writeLine, readLine, carryLine, crashLine, downLine, upLine, noLine, reads}
-use Rattle.bench_parse.specs.Workers.{wordsFrom, lineOf, CarryFrom, HexFrom, Sound, NumberAt}
+use Rattle.bench_parse.specs.Workers.{wordsFrom, lineOf, CarryFrom, HexFrom, LineSound, NumberAt}
 use Rattle.bench_parse.proofs.Laws.WordLaws.{from-here, from-none}
 use Rattle.bench_parse.specs.declared.Line as code
 use Rattle.bench_parse.specs.declared.Line.the-variants.{Set, Write, Read, Carry, Crash, Down, Up, Unread}
@@ -26,10 +26,10 @@ module _ (r : code.Line) (l : List ℕ) (m : lineOf r l ≡ reads l) where
   unfolding lineOf
   said-read c clock brick e = sym m ∙ ap (λ (x : code.Line). lineOf x l) e
 
-  pub said-carry : (at : ℕ) → r ≡ Carry at → Sound r l → reads l ≡ carryLine (numbersOf (wordsFrom l at))
-  unfolding lineOf Sound
+  pub said-carry : (at : ℕ) → r ≡ Carry at → LineSound r l → reads l ≡ carryLine (numbersOf (wordsFrom l at))
+  unfolding lineOf LineSound
   said-carry at e s =
-      let c : CarryFrom l at = subst (λ (x : code.Line). Sound x l) e s in
+      let c : CarryFrom l at = subst (λ (x : code.Line). LineSound x l) e s in
       sym m ∙ ap (λ (x : code.Line). lineOf x l) e ∙ ap (λ (ws : List (List ℕ)). carryLine (numbersOf ws)) (sym (from-here l at (c .within)))
 
   pub said-crash : (c : ℕ) → r ≡ Crash c → reads l ≡ crashLine c
@@ -49,13 +49,13 @@ module _ (r : code.Line) (l : List ℕ) (m : lineOf r l ≡ reads l) where
   said-nothing e = sym m ∙ ap (λ (x : code.Line). lineOf x l) e
 
 -- the places that an answer names
-pub hex-place : (r : code.Line) (l : List ℕ) (c clock at : ℕ) → r ≡ Write c clock at → Sound r l → HexFrom l at
-unfolding Sound
-hex-place r l c clock at e s = subst (λ (x : code.Line). Sound x l) e s
+pub hex-place : (r : code.Line) (l : List ℕ) (c clock at : ℕ) → r ≡ Write c clock at → LineSound r l → HexFrom l at
+unfolding LineSound
+hex-place r l c clock at e s = subst (λ (x : code.Line). LineSound x l) e s
 
-pub number-place : (r : code.Line) (l : List ℕ) (at : ℕ) → r ≡ Carry at → Sound r l → CarryFrom l at
-unfolding Sound
-number-place r l at e s = subst (λ (x : code.Line). Sound x l) e s
+pub number-place : (r : code.Line) (l : List ℕ) (at : ℕ) → r ≡ Carry at → LineSound r l → CarryFrom l at
+unfolding LineSound
+number-place r l at e s = subst (λ (x : code.Line). LineSound x l) e s
 
 pub rest-first : (l : List ℕ) (at : ℕ) → CarryFrom l at → CarryRest l at
 rest-first l at c = record { high = omega (arith, c .within); begins = λ h. c }

@@ -12,7 +12,7 @@ use Rattle.bench_parse.specs.Lines.{downLine, upLine, noLine, setOf, wri
 use Rattle.bench_parse.specs.Lines.{writeText, readText, carryText, crashText, downText, upText, commandOf, readsWords}
 use Rattle.byte_lists.specs.Lists.{same}
 use Rattle.bench_parse.specs.Lines.{reads}
-use Rattle.bench_parse.specs.Workers.{wordsFrom, lineOf, Sound}
+use Rattle.bench_parse.specs.Workers.{wordsFrom, lineOf, LineSound}
 use Rattle.bench_parse.specs.Workers.{wordLength, ReadAs, startsNumber, others, NumberFrom, AloneOf, HexesFrom, hexAlone, commandNumber, byNumber}
 use Rattle.bench_parse.proofs.Laws.NumeralLaws.{clash, and-true, fails, passes, shifted, from-some}
 use Rattle.bench_parse.proofs.Laws.WordLaws.{from-here, from-none, split-at-end}
@@ -22,7 +22,7 @@ use Rattle.bench_parse.specs.declared.Numeral.{Numeral}
 use Rattle.bench_parse.specs.declared.Piece.{Piece}
 
 unread : (l : List ℕ) (said : Line) → said ≡ noLine → ReadAs Unread l said
-unfolding lineOf Sound
+unfolding lineOf LineSound
 unread l said e = record { meaning = sym e; sound = tt }
 
 -- `crash`, `down`, `up`: k is what reading the only number gave.
@@ -36,15 +36,15 @@ one-is make ws k a g = rw (← a .tests, g) (ap make (a .value-is g))
 
 module _ (l : List ℕ) (ws : List (List ℕ)) (k : Numeral) (a : AloneOf ws k) (g : k .good ≡ true) where
   pub crash-is : ReadAs (Crash (k .value)) l (oneOf crashLine ws)
-  unfolding lineOf Sound
+  unfolding lineOf LineSound
   crash-is = record { meaning = one-is crashLine ws k a g; sound = tt }
 
   pub down-is : ReadAs (Down (k .value)) l (oneOf downLine ws)
-  unfolding lineOf Sound
+  unfolding lineOf LineSound
   down-is = record { meaning = one-is downLine ws k a g; sound = tt }
 
   pub up-is : ReadAs (Up (k .value)) l (oneOf upLine ws)
-  unfolding lineOf Sound
+  unfolding lineOf LineSound
   up-is = record { meaning = one-is upLine ws k a g; sound = tt }
 
 -- `carry`: b is whether all words are numbers.
@@ -59,7 +59,7 @@ carry-not l at b h e t = unread l (carryOf (wordsFrom l at)) (rw (le-leb 1 (leng
 
 pub carry-is : (l : List ℕ) (at : ℕ) (b : Bool) → at ≤ length l → length l ≤ 1000 → 6 ≤ at → b ≡ every numberWord (wordsFrom l at) → b ≡ true
     → ReadAs (Carry at) l (carryOf (wordsFrom l at))
-unfolding carryOf lineOf Sound
+unfolding carryOf lineOf LineSound
 carry-is l at b h s a e t =
     let f = from-here l at h in
     record {
@@ -95,7 +95,7 @@ module _ (l : List ℕ) (at : ℕ) (p : Piece) (rp : NumberFrom l at p) where
 
     pub read-is : q .good ≡ true → (k : Numeral) → AloneOf (wordsFrom l (q .next)) k → k .good ≡ true
         → ReadAs (Read (p .value) (q .value) (k .value)) l (readOf (wordsFrom l at))
-    unfolding readOf lineOf Sound
+    unfolding readOf lineOf LineSound
     read-is gq k a g =
         let t : areNumbers 3 (wordsFrom l at) ≡ true = passes l at p rp 2 gp ∙ passes l (p .next) q rq 1 gq ∙ sym (a .tests) ∙ g in
         let v1 = rp .taken .value-is gp in
@@ -115,7 +115,7 @@ module _ (l : List ℕ) (at : ℕ) (p : Piece) (rp : NumberFrom l at p) where
         set-4 g = set-not l at (all-four ∙ g)
 
         pub set-is : k .good ≡ true → ReadAs (Set (p .value) (q .value) (o .value) (k .value)) l (setOf (wordsFrom l at))
-        unfolding setOf lineOf Sound
+        unfolding setOf lineOf LineSound
         set-is g =
             let v1 = rp .taken .value-is gp in
             let v2 = rq .taken .value-is gq ∙ shifted l at p rp 0 gp in
@@ -192,7 +192,7 @@ module _ (l : List ℕ) (at : ℕ) (p : Piece) (rp : NumberFrom l at p) where
       write-3 g = write-not l at (after-two ∙ g)
 
       pub write-is : length l ≤ 1000 → b ≡ true → ReadAs (Write (p .value) (q .value) (q .next)) l (writeOf (wordsFrom l at))
-      unfolding writeOf lineOf Sound
+      unfolding writeOf lineOf LineSound
       write-is s g =
           let v1 = rp .taken .value-is gp in
           let v2 = rq .taken .value-is gq ∙ shifted l at p rp 0 gp in
@@ -333,13 +333,13 @@ carry-place l e k f n =
     let t = length-take (e - 0) (drop 0 l) in
     omega arith
 
-pub line-long : (l : List ℕ) → 1000 < length l → (lineOf Unread l ≡ reads l) × Sound Unread l
-unfolding reads lineOf Sound
+pub line-long : (l : List ℕ) → 1000 < length l → (lineOf Unread l ≡ reads l) × LineSound Unread l
+unfolding reads lineOf LineSound
 line-long l h = (sym (rw (lt-leb (length l) 1000 h)), tt)
 
 pub line-read : (l : List ℕ) (e k : ℕ) (r : code.Line) → length l ≤ 1000 → e ≡ 0 + wordLength (drop 0 l)
     → k ≡ commandNumber (take (e - 0) (drop 0 l)) → ReadAs r l (byNumber k (wordsFrom l (e + 1)))
-    → (lineOf r l ≡ reads l) × Sound r l
+    → (lineOf r l ≡ reads l) × LineSound r l
 unfolding reads readsWords
 line-read l e k r h f n x =
     let s : words l ≡ take (e - 0) (drop 0 l) ∷ wordsFrom l (e + 1) = split-at-end l 0 e (omega arith) f in (

@@ -13,7 +13,7 @@ use Rattle.settings.specs.declared.Settings.{Settings}
 use Rattle.bench_parse.specs.Lines.{reads}
 use Rattle.bench_rules.specs.Play.{waiting, playing, Turn, turn, plays}
 use Rattle.bench_rules.specs.Turning.{Lent, lent, worldIn}
-use Rattle.bench_rules.specs.Workers.{Ready}
+use Rattle.bench_rules.specs.Workers.{BenchReady}
 use Rattle.bench_rules.specs.declared.After.{After}
 use Rattle.bench_print.proofs.Laws.WrittenLaws.{written-nothing}
 use Rattle.bench_state.proofs.Laws.BenchRangeLaws.{bench-fits}
@@ -21,7 +21,7 @@ use Rattle.bench_state.specs.State.{benchRange}
 use Rattle.bench_state.specs.Workers.{benchRefusal, freshBench}
 use Rattle.bench_state.specs.declared.Bench.{Bench}
 use Rattle.bench_carry.specs.Workers.{Lined}
-use Rattle.bench_player.specs.Lining.{stageOf, lengthsRight, benchRefused, heard, Called}
+use Rattle.bench_player.specs.Lining.{stageOf, lentLengthsRight, benchRefused, heard, Called}
 use Rattle.bench_player.specs.Workers.{Staged, First}
 use Rattle.bench_player.proofs.Laws.PlayerTurnLaws.{lined-staged}
 
@@ -38,28 +38,28 @@ right-some s k h e = rw (ne-eqb (s .n) 0 h, e) (go (benchRange s))
     go false = refl
 
 module _ (images kept numbers bytes out : ℕ) where
-  pub lengths-all : images ≡ 10240 → kept ≡ 256 → numbers ≡ 1016 → bytes ≡ 3048 → out ≡ 65536 → true ≡ lengthsRight images kept numbers bytes out
-  unfolding lengthsRight
+  pub lengths-all : images ≡ 10240 → kept ≡ 256 → numbers ≡ 1016 → bytes ≡ 3048 → out ≡ 65536 → true ≡ lentLengthsRight images kept numbers bytes out
+  unfolding lentLengthsRight
   lengths-all a b c d e = rw (eq-eqb images 10240 a, eq-eqb kept 256 b, eq-eqb numbers 1016 c, eq-eqb bytes 3048 d, eq-eqb out 65536 e) refl
 
-  pub lengths-images : (images ≡ 10240 → ⊥) → false ≡ lengthsRight images kept numbers bytes out
-  unfolding lengthsRight
+  pub lengths-images : (images ≡ 10240 → ⊥) → false ≡ lentLengthsRight images kept numbers bytes out
+  unfolding lentLengthsRight
   lengths-images h = rw (ne-eqb images 10240 h) refl
 
-  pub lengths-kept : images ≡ 10240 → (kept ≡ 256 → ⊥) → false ≡ lengthsRight images kept numbers bytes out
-  unfolding lengthsRight
+  pub lengths-kept : images ≡ 10240 → (kept ≡ 256 → ⊥) → false ≡ lentLengthsRight images kept numbers bytes out
+  unfolding lentLengthsRight
   lengths-kept a h = rw (eq-eqb images 10240 a, ne-eqb kept 256 h) refl
 
-  pub lengths-numbers : images ≡ 10240 → kept ≡ 256 → (numbers ≡ 1016 → ⊥) → false ≡ lengthsRight images kept numbers bytes out
-  unfolding lengthsRight
+  pub lengths-numbers : images ≡ 10240 → kept ≡ 256 → (numbers ≡ 1016 → ⊥) → false ≡ lentLengthsRight images kept numbers bytes out
+  unfolding lentLengthsRight
   lengths-numbers a b h = rw (eq-eqb images 10240 a, eq-eqb kept 256 b, ne-eqb numbers 1016 h) refl
 
-  pub lengths-bytes : images ≡ 10240 → kept ≡ 256 → numbers ≡ 1016 → (bytes ≡ 3048 → ⊥) → false ≡ lengthsRight images kept numbers bytes out
-  unfolding lengthsRight
+  pub lengths-bytes : images ≡ 10240 → kept ≡ 256 → numbers ≡ 1016 → (bytes ≡ 3048 → ⊥) → false ≡ lentLengthsRight images kept numbers bytes out
+  unfolding lentLengthsRight
   lengths-bytes a b c h = rw (eq-eqb images 10240 a, eq-eqb kept 256 b, eq-eqb numbers 1016 c, ne-eqb bytes 3048 h) refl
 
-  pub lengths-out : images ≡ 10240 → kept ≡ 256 → numbers ≡ 1016 → bytes ≡ 3048 → (out ≡ 65536 → ⊥) → false ≡ lengthsRight images kept numbers bytes out
-  unfolding lengthsRight
+  pub lengths-out : images ≡ 10240 → kept ≡ 256 → numbers ≡ 1016 → bytes ≡ 3048 → (out ≡ 65536 → ⊥) → false ≡ lentLengthsRight images kept numbers bytes out
+  unfolding lentLengthsRight
   lengths-out a b c d h = rw (eq-eqb images 10240 a, eq-eqb kept 256 b, eq-eqb numbers 1016 c, eq-eqb bytes 3048 d, ne-eqb out 65536 h) refl
 
   module _ (b : Bench) where
@@ -67,17 +67,17 @@ module _ (images kept numbers bytes out : ℕ) where
     unfolding benchRefused firstRefusal
     refused-settings x e h = rw (sym e ∙ h) refl
 
-    pub refused-lengths : (x y : Bool) → x ≡ (eqb (b .settings .n) 0 || benchRange (b .settings)) → x ≡ true → y ≡ lengthsRight images kept numbers bytes out → y ≡ false
+    pub refused-lengths : (x y : Bool) → x ≡ (eqb (b .settings .n) 0 || benchRange (b .settings)) → x ≡ true → y ≡ lentLengthsRight images kept numbers bytes out → y ≡ false
         → 2 ≡ benchRefused b images kept numbers bytes out
     unfolding benchRefused firstRefusal
     refused-lengths x y e h f g = rw (sym e ∙ h, sym f ∙ g) refl
 
-    pub refused-many : (x y : Bool) → x ≡ (eqb (b .settings .n) 0 || benchRange (b .settings)) → x ≡ true → y ≡ lengthsRight images kept numbers bytes out → y ≡ true
+    pub refused-many : (x y : Bool) → x ≡ (eqb (b .settings .n) 0 || benchRange (b .settings)) → x ≡ true → y ≡ lentLengthsRight images kept numbers bytes out → y ≡ true
         → 127 < b .sent → 6 ≡ benchRefused b images kept numbers bytes out
     unfolding benchRefused firstRefusal
     refused-many x y e h f g l = rw (sym e ∙ h, sym f ∙ g, lt-leb (b .sent) 127 l) refl
 
-    pub refused-not : (x y : Bool) → x ≡ (eqb (b .settings .n) 0 || benchRange (b .settings)) → x ≡ true → y ≡ lengthsRight images kept numbers bytes out → y ≡ true
+    pub refused-not : (x y : Bool) → x ≡ (eqb (b .settings .n) 0 || benchRange (b .settings)) → x ≡ true → y ≡ lentLengthsRight images kept numbers bytes out → y ≡ true
         → b .sent ≤ 127 → 0 ≡ benchRefused b images kept numbers bytes out
     unfolding benchRefused firstRefusal
     refused-not x y e h f g l = rw (sym e ∙ h, sym f ∙ g, le-leb (b .sent) 127 l) refl
@@ -93,7 +93,7 @@ module _ (images kept numbers bytes out : ℕ) where
       pub few : b .sent ≤ 127
 
     pub accepted : (k : ℕ) → k ≡ benchRefused b images kept numbers bytes out → k ≡ 0 → Accepted
-    unfolding benchRefused firstRefusal lengthsRight
+    unfolding benchRefused firstRefusal lentLengthsRight
     accepted k e z =
         go (eqb (b .settings .n) 0 || benchRange (b .settings)) (eqb images 10240 && eqb kept 256 && eqb numbers 1016 && eqb bytes 3048 && eqb out 65536) (leb (b .sent) 127) refl refl refl
         (sym e ∙ z)
@@ -193,7 +193,7 @@ module _ (b : Bench) (l : Lent) (line out : List ℕ) where
 
 -- a set that is played is ready
 pub accepted-ready : (b : Bench) (l : Lent) (out k : ℕ) → k ≡ benchRefused b (length (l .images)) (length (l .kept)) (length (l .numbers)) (length (l .bytes)) out → k ≡ 0
-    → (b .settings .n ≡ 0 → ⊥) → Ready b l
+    → (b .settings .n ≡ 0 → ⊥) → BenchReady b l
 accepted-ready b l out k e z n =
     let a = accepted (length (l .images)) (length (l .kept)) (length (l .numbers)) (length (l .bytes)) out b k e z in
     record {
@@ -211,5 +211,5 @@ unfolding stageOf freshBench
 none-waits b s l e z = ap (λ (x : Bench). cond (eqb (x .settings .n) 0) waiting (playing (x .settings) (worldIn x l))) e ∙ rw (eq-eqb (s .n) 0 z) refl
 
 pub none-accepted : (b : Bench) (s : Settings) → b ≡ freshBench s → s .n ≡ 0 → benchRefused b 10240 256 1016 3048 65536 ≡ 0
-unfolding benchRefused firstRefusal lengthsRight freshBench
+unfolding benchRefused firstRefusal lentLengthsRight freshBench
 none-accepted b s e z = ap (λ (x : Bench). benchRefused x 10240 256 1016 3048 65536) e ∙ rw (eq-eqb (s .n) 0 z) refl

@@ -19,7 +19,7 @@ use Rattle.bench_state.proofs.Laws.BenchRangeLaws.{bench-fits}
 use Rattle.bench_state.specs.State.{benchRange, worldOf}
 use Rattle.bench_state.specs.Workers.{benchRefusal, freshBench}
 use Rattle.bench_state.specs.declared.Bench.{Bench}
-use Rattle.register.specs.Runs.{goesDown, comesUp, fresh}
+use Rattle.register.specs.Runs.{goesDown, comesUp, freshSet}
 use Rattle.bench_carry.specs.Workers.{Lined}
 use Rattle.bench_carry.proofs.Laws.CarryLaws.{turned-lined}
 use Rattle.bench_player.specs.Lining.{stageOf}
@@ -123,13 +123,13 @@ module _ (b : Bench) (out out′ : List ℕ) (r : After) (none : b .settings .n 
       waits-so 1 said images kept (ap first e ∙ go (benchRange (record { n = n; m = m; size = size; capacity = capacity })) eb) t
     where
       go : (x : Bool) → bad ≡ refuseUnless x 1
-          → cond x (record { stage = playing (record { n = n; m = m; size = size; capacity = capacity }) (fresh (record { n = n; m = m; size = size; capacity = capacity })); events = []; printed = [] }) (waits 1) ≡ waits 1
+          → cond x (record { stage = playing (record { n = n; m = m; size = size; capacity = capacity }) (freshSet (record { n = n; m = m; size = size; capacity = capacity })); events = []; printed = [] }) (waits 1) ≡ waits 1
       go true q = absurd (h q)
       go false q = refl
 
 -- a set that begins
 pub first-set : (s : Settings) (bad : ℕ) (out : List ℕ) (bench : Bench) (said : Line) (images kept : List ℕ) → said ≡ setLine (s .n) (s .m) (s .size) (s .capacity)
-    → bad ≡ benchRefusal s → bad ≡ 0 → bench ≡ freshBench s → worldOf bench images kept [] ≡ fresh s
+    → bad ≡ benchRefusal s → bad ≡ 0 → bench ≡ freshBench s → worldOf bench images kept [] ≡ freshSet s
     → First said out (record { bench = bench; used = 0 }) images kept out
 unfolding first begins benchRefusal stageOf worldIn freshBench itemsOf
 first-set s bad out bench said images kept e eb z ef ew =
@@ -149,7 +149,7 @@ first-set s bad out bench said images kept e eb z ef ew =
     }
   where
     fresh-turn : Turn
-    fresh-turn = record { stage = playing s (fresh s); events = []; printed = [] }
+    fresh-turn = record { stage = playing s (freshSet s); events = []; printed = [] }
 
     tested : (x : Bool) → bad ≡ refuseUnless x 1 → x ≡ true
     tested true q = refl

@@ -7,16 +7,16 @@ use borrow.Author.Tests.{eq-eqb, ne-eqb, lt-ltb, le-ltb, le-leb, lt-leb}
 use lib.ListN.{length, length-append}
 use Rattle.coord_record.specs.Records.{readingKind}
 use Rattle.coord_apply.specs.Answers.{okSeen, readSeen, abortedSeen, cutSeen}
-use Rattle.coord_apply.specs.declared.Seen.{Seen}
+use Rattle.coord_apply.specs.declared.Notice.{Notice}
 use Rattle.bench_print.specs.Printing.{space, newline, decimal, hexText, refusedWord, refusedText, readWord, writeWord, kindWord, okWord, abortWord, cutWord, endWord, lineText, isEnd, endedText, written}
 use Rattle.bench_print.proofs.Laws.TextLaws.{decimal-short}
-use Rattle.bench_print.specs.Workers.{Placed}
+use Rattle.bench_print.specs.Workers.{PrintedAt}
 use Rattle.bench_print.proofs.Laws.WrittenLaws.{placed-both, placed-as, placed-nothing}
 
 -- the line of a refusal
 refused-placed : (k at : ℕ) (old o1 o2 out : List ℕ) (r1 r2 r : ℕ) → at ≤ length old
-    → Placed at (refusedWord ++ space ∷ []) old o1 r1 → Placed r1 (decimal k) o1 o2 r2 → Placed r2 (newline ∷ []) o2 out r
-    → Placed at (refusedText k) old out r
+    → PrintedAt at (refusedWord ++ space ∷ []) old o1 r1 → PrintedAt r1 (decimal k) o1 o2 r2 → PrintedAt r2 (newline ∷ []) o2 out r
+    → PrintedAt at (refusedText k) old out r
 unfolding refusedText refusedWord
 refused-placed k at old o1 o2 out r1 r2 r h p q s =
     placed-both at (refusedWord ++ space ∷ decimal k) (newline ∷ []) old o2 out r2 r h
@@ -28,35 +28,35 @@ refused-short k = let d = decimal-short k in simp length-append (omega arith)
 
 -- the kind, and a space
 pub kind-reading : (kind at : ℕ) (old out : List ℕ) (r : ℕ) → kind ≡ readingKind
-    → Placed at (readWord ++ space ∷ []) old out r → Placed at (kindWord kind ++ space ∷ []) old out r
+    → PrintedAt at (readWord ++ space ∷ []) old out r → PrintedAt at (kindWord kind ++ space ∷ []) old out r
 unfolding kindWord
 kind-reading kind at old out r e p = rw (eq-eqb kind readingKind e) p
 
 pub kind-writing : (kind at : ℕ) (old out : List ℕ) (r : ℕ) → (kind ≡ readingKind → ⊥)
-    → Placed at (writeWord ++ space ∷ []) old out r → Placed at (kindWord kind ++ space ∷ []) old out r
+    → PrintedAt at (writeWord ++ space ∷ []) old out r → PrintedAt at (kindWord kind ++ space ∷ []) old out r
 unfolding kindWord
 kind-writing kind at old out r e p = rw (ne-eqb kind readingKind e) p
 
 -- the end, and the end of the line
 pub end-ok : (what at : ℕ) (stripe old out : List ℕ) (r : ℕ) → what ≡ okSeen
-    → Placed at (okWord ++ newline ∷ []) old out r → Placed at (endWord what stripe ++ newline ∷ []) old out r
+    → PrintedAt at (okWord ++ newline ∷ []) old out r → PrintedAt at (endWord what stripe ++ newline ∷ []) old out r
 unfolding endWord
 end-ok what at stripe old out r e p = rw (eq-eqb what okSeen e) p
 
 pub end-read : (what at : ℕ) (stripe old mid out : List ℕ) (s r : ℕ) → (what ≡ okSeen → ⊥) → what ≡ readSeen → at ≤ length old
-    → Placed at (hexText stripe) old mid s → Placed s (newline ∷ []) mid out r
-    → Placed at (endWord what stripe ++ newline ∷ []) old out r
+    → PrintedAt at (hexText stripe) old mid s → PrintedAt s (newline ∷ []) mid out r
+    → PrintedAt at (endWord what stripe ++ newline ∷ []) old out r
 unfolding endWord
 end-read what at stripe old mid out s r n1 e h p q =
     rw (ne-eqb what okSeen n1, eq-eqb what readSeen e) (placed-both at (hexText stripe) (newline ∷ []) old mid out s r h p q)
 
 pub end-aborted : (what at : ℕ) (stripe old out : List ℕ) (r : ℕ) → (what ≡ okSeen → ⊥) → (what ≡ readSeen → ⊥) → what ≡ abortedSeen
-    → Placed at (abortWord ++ newline ∷ []) old out r → Placed at (endWord what stripe ++ newline ∷ []) old out r
+    → PrintedAt at (abortWord ++ newline ∷ []) old out r → PrintedAt at (endWord what stripe ++ newline ∷ []) old out r
 unfolding endWord
 end-aborted what at stripe old out r n1 n2 e p = rw (ne-eqb what okSeen n1, ne-eqb what readSeen n2, eq-eqb what abortedSeen e) p
 
 pub end-cut : (what at : ℕ) (stripe old out : List ℕ) (r : ℕ) → (what ≡ okSeen → ⊥) → (what ≡ readSeen → ⊥) → (what ≡ abortedSeen → ⊥)
-    → Placed at (cutWord ++ newline ∷ []) old out r → Placed at (endWord what stripe ++ newline ∷ []) old out r
+    → PrintedAt at (cutWord ++ newline ∷ []) old out r → PrintedAt at (endWord what stripe ++ newline ∷ []) old out r
 unfolding endWord
 end-cut what at stripe old out r n1 n2 n3 p = rw (ne-eqb what okSeen n1, ne-eqb what readSeen n2, ne-eqb what abortedSeen n3) p
 
@@ -68,23 +68,23 @@ unfolding lineText
 line-parts c kind time what stripe = simp append-assoc
 
 pub line-placed : (c kind time what at : ℕ) (stripe old o1 o2 o3 out : List ℕ) (r1 r2 r3 r : ℕ) → at ≤ length old
-    → Placed at (decimal c ++ space ∷ []) old o1 r1 → Placed r1 (kindWord kind ++ space ∷ []) o1 o2 r2
-    → Placed r2 (decimal time ++ space ∷ []) o2 o3 r3 → Placed r3 (endWord what stripe ++ newline ∷ []) o3 out r
-    → Placed at (lineText c kind time what stripe) old out r
+    → PrintedAt at (decimal c ++ space ∷ []) old o1 r1 → PrintedAt r1 (kindWord kind ++ space ∷ []) o1 o2 r2
+    → PrintedAt r2 (decimal time ++ space ∷ []) o2 o3 r3 → PrintedAt r3 (endWord what stripe ++ newline ∷ []) o3 out r
+    → PrintedAt at (lineText c kind time what stripe) old out r
 line-placed c kind time what at stripe old o1 o2 o3 out r1 r2 r3 r h p1 p2 p3 p4 =
     placed-as at _ (lineText c kind time what stripe) old out r (line-parts c kind time what stripe)
     (placed-both at _ _ old o3 out r3 r h (placed-both at _ _ old o2 o3 r2 r3 h (placed-both at _ _ old o1 o2 r1 r2 h p1 p2) p3) p4)
 
 -- what is printed: nothing, or the line
-pub ended-before : (c : ℕ) (seen : Seen) (stripe : List ℕ) → seen .what < okSeen → endedText c seen stripe ≡ []
+pub ended-before : (c : ℕ) (seen : Notice) (stripe : List ℕ) → seen .what < okSeen → endedText c seen stripe ≡ []
 unfolding endedText isEnd
 ended-before c seen stripe h = rw (lt-ltb (seen .what) okSeen h)
 
-pub ended-past : (c : ℕ) (seen : Seen) (stripe : List ℕ) → cutSeen < seen .what → endedText c seen stripe ≡ []
+pub ended-past : (c : ℕ) (seen : Notice) (stripe : List ℕ) → cutSeen < seen .what → endedText c seen stripe ≡ []
 unfolding endedText isEnd
 ended-past c seen stripe h = rw (le-ltb (seen .what) okSeen (omega arith), lt-leb (seen .what) cutSeen h)
 
-pub ended-line : (c : ℕ) (seen : Seen) (stripe : List ℕ) → okSeen ≤ seen .what → seen .what ≤ cutSeen
+pub ended-line : (c : ℕ) (seen : Notice) (stripe : List ℕ) → okSeen ≤ seen .what → seen .what ≤ cutSeen
     → endedText c seen stripe ≡ lineText c (seen .kind) (seen .time) (seen .what) stripe
 unfolding endedText isEnd
 ended-line c seen stripe h l = rw (le-ltb (seen .what) okSeen h, le-leb (seen .what) cutSeen l)
@@ -98,21 +98,21 @@ silent at text old e =
     let p = placed-as at [] text old old at (sym e) (placed-nothing at old) in
     (p .next-is, (p .holds, omega arith))
 
-pub printed-before : (c at : ℕ) (seen : Seen) (stripe old : List ℕ) → seen .what < okSeen → Printed at (endedText c seen stripe) old old at
+pub printed-before : (c at : ℕ) (seen : Notice) (stripe old : List ℕ) → seen .what < okSeen → Printed at (endedText c seen stripe) old old at
 printed-before c at seen stripe old h = silent at (endedText c seen stripe) old (ended-before c seen stripe h)
 
-pub printed-past : (c at : ℕ) (seen : Seen) (stripe old : List ℕ) → cutSeen < seen .what → Printed at (endedText c seen stripe) old old at
+pub printed-past : (c at : ℕ) (seen : Notice) (stripe old : List ℕ) → cutSeen < seen .what → Printed at (endedText c seen stripe) old old at
 printed-past c at seen stripe old h = silent at (endedText c seen stripe) old (ended-past c seen stripe h)
 
-pub printed-line : (c at : ℕ) (seen : Seen) (stripe old out : List ℕ) (r : ℕ) → okSeen ≤ seen .what → seen .what ≤ cutSeen
-    → Placed at (lineText c (seen .kind) (seen .time) (seen .what) stripe) old out r → r ≤ at + 113
+pub printed-line : (c at : ℕ) (seen : Notice) (stripe old out : List ℕ) (r : ℕ) → okSeen ≤ seen .what → seen .what ≤ cutSeen
+    → PrintedAt at (lineText c (seen .kind) (seen .time) (seen .what) stripe) old out r → r ≤ at + 113
     → Printed at (endedText c seen stripe) old out r
 printed-line c at seen stripe old out r h l p b =
     let q = placed-as at (lineText c (seen .kind) (seen .time) (seen .what) stripe) (endedText c seen stripe) old out r (sym (ended-line c seen stripe h l)) p in
     (q .next-is, (q .holds, omega arith))
 
 pub printed-refused : (k at : ℕ) (old o1 o2 out : List ℕ) (r1 r2 r : ℕ) → at ≤ length old
-    → Placed at (refusedWord ++ space ∷ []) old o1 r1 → Placed r1 (decimal k) o1 o2 r2 → Placed r2 (newline ∷ []) o2 out r
+    → PrintedAt at (refusedWord ++ space ∷ []) old o1 r1 → PrintedAt r1 (decimal k) o1 o2 r2 → PrintedAt r2 (newline ∷ []) o2 out r
     → Printed at (refusedText k) old out r
 printed-refused k at old o1 o2 out r1 r2 r h p q s =
     let a = refused-placed k at old o1 o2 out r1 r2 r h p q s in

@@ -10,7 +10,7 @@ use lib.Dec.{ltb}
 use lib.ListN.{length, take, getD, length-append, length-take}
 use lib.Seq.{take-suc, take-all}
 use Rattle.bench_print.specs.Printing.{digit, digitsFrom, decimal, hexDigit, hexText}
-use Rattle.bench_print.specs.Workers.{Placed}
+use Rattle.bench_print.specs.Workers.{PrintedAt}
 use Rattle.bench_print.proofs.Laws.WrittenLaws.{placed-both, placed-as, placed-nothing}
 
 -- ten to a power
@@ -80,7 +80,7 @@ pub record Hexing (at : ℕ) (bytes old : List ℕ) (i to : ℕ) (out : List ℕ
   pub so-far : i ≤ length bytes
   pub to-is : to ≡ at + 2 * i
   pub same-long : length out ≡ length old
-  pub placed : Placed at (hexText (take i bytes)) old out to
+  pub placed : PrintedAt at (hexText (take i bytes)) old out to
 
 pub hexing-none : (at : ℕ) (bytes old : List ℕ) → at + length (hexText bytes) ≤ length old → Hexing at bytes old 0 at old
 unfolding hexText
@@ -92,7 +92,7 @@ hexing-room at bytes old i to out h p = omega (arith, p .within, p .to-is, p .sa
 
 pub hexing-more : (at : ℕ) (bytes old : List ℕ) (i to : ℕ) (out : List ℕ) (b d e : ℕ) (o1 o2 : List ℕ) (r s : ℕ)
     → i < length bytes → Hexing at bytes old i to out → b ≡ getD bytes i 0 → d ≡ hexDigit (b / 16) → e ≡ hexDigit (b % 16)
-    → Placed to (d ∷ []) out o1 r → Placed r (e ∷ []) o1 o2 s → length o2 ≡ length out → Hexing at bytes old (i + 1) s o2
+    → PrintedAt to (d ∷ []) out o1 r → PrintedAt r (e ∷ []) o1 o2 s → length o2 ≡ length out → Hexing at bytes old (i + 1) s o2
 unfolding hexText
 hexing-more at bytes old i to out b d e o1 o2 r s h p eb ed ee p1 p2 n =
     let w = p .within in
@@ -113,17 +113,17 @@ hexing-more at bytes old i to out b d e o1 o2 r s h p eb ed ee p1 p2 n =
       placed = placed-as at (hexText (take i bytes) ++ d ∷ e ∷ []) (hexText (take (i + 1) bytes)) old o2 s text all;
     }
 
-pub hexing-all : (at : ℕ) (bytes old : List ℕ) (i to : ℕ) (out : List ℕ) → length bytes ≤ i → Hexing at bytes old i to out → Placed at (hexText bytes) old out to
+pub hexing-all : (at : ℕ) (bytes old : List ℕ) (i to : ℕ) (out : List ℕ) → length bytes ≤ i → Hexing at bytes old i to out → PrintedAt at (hexText bytes) old out to
 hexing-all at bytes old i to out h p =
     placed-as at (hexText (take i bytes)) (hexText bytes) old out to (ap hexText (take-all i bytes h)) (p .placed)
 
 -- the ways of a number
-pub number-one : (k at d : ℕ) (old out : List ℕ) (r : ℕ) → k < 10 → d ≡ digit k → Placed at (d ∷ []) old out r → Placed at (decimal k) old out r
+pub number-one : (k at d : ℕ) (old out : List ℕ) (r : ℕ) → k < 10 → d ≡ digit k → PrintedAt at (d ∷ []) old out r → PrintedAt at (decimal k) old out r
 number-one k at d old out r h e p =
     placed-as at (d ∷ []) (decimal k) old out r (ap (λ (x : ℕ). x ∷ []) e ∙ sym (decimal-one k h)) p
 
 pub number-more : (k at d : ℕ) (old mid out : List ℕ) (r s : ℕ) → 10 ≤ k → k < 18446744073709551616 → at ≤ length old → d ≡ digit (k % 10)
-    → Placed at (decimal (k / 10)) old mid r → Placed r (d ∷ []) mid out s → Placed at (decimal k) old out s
+    → PrintedAt at (decimal (k / 10)) old mid r → PrintedAt r (d ∷ []) mid out s → PrintedAt at (decimal k) old out s
 unfolding tens
 number-more k at d old mid out r s h l a e p q =
     placed-as at (decimal (k / 10) ++ d ∷ []) (decimal k) old out s

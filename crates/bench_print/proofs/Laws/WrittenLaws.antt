@@ -8,7 +8,7 @@ use lib.ListN.{length, take, drop, getD, set, length-append, length-set, length-
 use lib.Seq.{take-at, drop-append-add, drop-drop, set-split, take-suc, take-all}
 use Rattle.byte_lists.specs.Lists.{put}
 use Rattle.bench_print.specs.Printing.{written}
-use Rattle.bench_print.specs.Workers.{Placed}
+use Rattle.bench_print.specs.Workers.{PrintedAt}
 
 pub written-nothing : (at : ℕ) (old : List ℕ) → written at [] old ≡ old
 unfolding put
@@ -40,21 +40,21 @@ pub written-byte : (at b : ℕ) (old : List ℕ) → at < length old → set old
 unfolding put
 written-byte at b old h = rw (add-one, append-assoc) (set-split old at b h)
 
-pub placed-both : (at : ℕ) (a b old mid out : List ℕ) (r s : ℕ) → at ≤ length old → Placed at a old mid r → Placed r b mid out s → Placed at (a ++ b) old out s
+pub placed-both : (at : ℕ) (a b old mid out : List ℕ) (r s : ℕ) → at ≤ length old → PrintedAt at a old mid r → PrintedAt r b mid out s → PrintedAt at (a ++ b) old out s
 placed-both at a b old mid out r s h p q =
     record {
       next-is = omega (arith, p .next-is, q .next-is, length-append a b);
       holds = q .holds ∙ ap₂ (λ (k : ℕ) (l : List ℕ). written k b l) (p .next-is) (p .holds) ∙ written-both at a b old h;
     }
 
-pub placed-as : (at : ℕ) (a b old out : List ℕ) (r : ℕ) → a ≡ b → Placed at a old out r → Placed at b old out r
+pub placed-as : (at : ℕ) (a b old out : List ℕ) (r : ℕ) → a ≡ b → PrintedAt at a old out r → PrintedAt at b old out r
 placed-as at a b old out r e p =
     record { next-is = p .next-is ∙ ap (λ (l : List ℕ). at + length l) e; holds = p .holds ∙ ap (λ (l : List ℕ). written at l old) e }
 
-pub placed-byte : (at b : ℕ) (old : List ℕ) → at < length old → Placed at (b ∷ []) old (set old at b) (at + 1)
+pub placed-byte : (at b : ℕ) (old : List ℕ) → at < length old → PrintedAt at (b ∷ []) old (set old at b) (at + 1)
 placed-byte at b old h = record { next-is = refl; holds = written-byte at b old h }
 
-pub placed-nothing : (at : ℕ) (old : List ℕ) → Placed at [] old old at
+pub placed-nothing : (at : ℕ) (old : List ℕ) → PrintedAt at [] old old at
 placed-nothing at old = record { next-is = omega arith; holds = sym (written-nothing at old) }
 
 -- The first i bytes of a word were written.
@@ -62,7 +62,7 @@ pub record Wording (at : ℕ) (word old : List ℕ) (i : ℕ) (out : List ℕ) :
   pub within : at + length word ≤ length old
   pub so-far : i ≤ length word
   pub same-long : length out ≡ length old
-  pub placed : Placed at (take i word) old out (at + i)
+  pub placed : PrintedAt at (take i word) old out (at + i)
 
 pub wording-none : (at : ℕ) (word old : List ℕ) → at + length word ≤ length old → Wording at word old 0 old
 wording-none at word old h =
@@ -86,11 +86,11 @@ wording-more at word old i out h p =
       so-far = omega arith;
       same-long = length-set out (at + i) (getD word i 0) ∙ n;
       placed =
-          subst (Placed at (take (i + 1) word) old (set out (at + i) (getD word i 0))) a
+          subst (PrintedAt at (take (i + 1) word) old (set out (at + i) (getD word i 0))) a
           (placed-as at (take i word ++ getD word i 0 ∷ []) (take (i + 1) word) old (set out (at + i) (getD word i 0)) (at + i + 1) e
           (placed-both at (take i word) (getD word i 0 ∷ []) old out (set out (at + i) (getD word i 0)) (at + i) (at + i + 1) (omega arith) (p .placed) b));
     }
 
-pub wording-all : (at : ℕ) (word old : List ℕ) (i : ℕ) (out : List ℕ) → length word ≤ i → Wording at word old i out → Placed at word old out (at + i)
+pub wording-all : (at : ℕ) (word old : List ℕ) (i : ℕ) (out : List ℕ) → length word ≤ i → Wording at word old i out → PrintedAt at word old out (at + i)
 wording-all at word old i out h p =
     placed-as at (take i word) word old out (at + i) (take-all i word h) (p .placed)

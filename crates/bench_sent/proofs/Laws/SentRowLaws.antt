@@ -16,7 +16,7 @@ use Rattle.message.specs.declared.Reply.{Reply}
 use Rattle.register.specs.Runs.{Item, message, reply}
 use Rattle.settings.specs.Count.{one-if}
 use Rattle.settings.proofs.Laws.CountLaws.{one-is}
-use Rattle.bench_sent.specs.Sent.{numberAt, isReply, flagsAt, blockAt, messageAt, replyAt, itemAt, itemsOf}
+use Rattle.bench_sent.specs.Sent.{numberAt, isReply, flagsAt, sentBlockAt, messageAt, replyAt, itemAt, itemsOf}
 use Rattle.bench_sent.specs.Workers.{Added, messageRow, replyRow, numbersWith, bytesWith, noFlags}
 
 -- a number that was put is found there
@@ -45,8 +45,8 @@ module _ (k : ℕ) (numbers bytes numbers′ bytes′ : List ℕ) (b : Below k n
   unfolding flagsAt
   flags-below j hj = cut-same (j * 24) 16 (k * 24) bytes bytes′ (omega arith) (b .same-bytes)
 
-  block-below : (size j : ℕ) → size ≤ 8 → j < k → blockAt size bytes′ j ≡ blockAt size bytes j
-  unfolding blockAt
+  block-below : (size j : ℕ) → size ≤ 8 → j < k → sentBlockAt size bytes′ j ≡ sentBlockAt size bytes j
+  unfolding sentBlockAt
   block-below size j hs hj = cut-same (j * 24 + 16) size (k * 24) bytes bytes′ (omega arith) (b .same-bytes)
 
   item-below : (size j : ℕ) → size ≤ 8 → j < k → itemAt size numbers′ bytes′ j ≡ itemAt size numbers bytes j
@@ -87,8 +87,8 @@ module _ (k : ℕ) (row flags block numbers bytes : List ℕ)
       (put-first (k * 24 + 16) (k * 24 + 16) block (put (k * 24) flags bytes) (omega arith) (omega (arith, flags-put)))
       ∙ put-in (k * 24) 16 flags bytes nf (omega arith)
 
-  block-stored : (size : ℕ) → length block ≡ size → blockAt size (bytesWith k flags block bytes) k ≡ block
-  unfolding blockAt bytesWith
+  block-stored : (size : ℕ) → length block ≡ size → sentBlockAt size (bytesWith k flags block bytes) k ≡ block
+  unfolding sentBlockAt bytesWith
   block-stored size e = put-in (k * 24 + 16) size block (put (k * 24) flags bytes) e (omega (arith, flags-put))
 
   stored-below : Below k numbers bytes (numbersWith k row numbers) (bytesWith k flags block bytes)
@@ -220,19 +220,19 @@ reply-put k kind y h r block numbers bytes numbers′ bytes′ ek hk ey eh nb hn
 
 -- a row as its reader takes it apart
 pub item-message : (size k b : ℕ) (msg : Message) (block numbers bytes : List ℕ) → isReply numbers k ≡ false → b ≡ numberAt numbers k 1
-    → msg ≡ messageAt numbers bytes k → block ≡ blockAt size bytes k → itemAt size numbers bytes k ≡ message b msg block
+    → msg ≡ messageAt numbers bytes k → block ≡ sentBlockAt size bytes k → itemAt size numbers bytes k ≡ message b msg block
 unfolding itemAt
 item-message size k b msg block numbers bytes t eb em e = rw (t, eb, em, e)
 
 pub item-reply : (size k : ℕ) (r : Reply) (block numbers bytes : List ℕ) → isReply numbers k ≡ true
-    → r ≡ replyAt numbers k → block ≡ blockAt size bytes k → itemAt size numbers bytes k ≡ reply r block
+    → r ≡ replyAt numbers k → block ≡ sentBlockAt size bytes k → itemAt size numbers bytes k ≡ reply r block
 unfolding itemAt
 item-reply size k r block numbers bytes t er e = rw (t, er, e)
 
 -- a row's block, as code cuts it out
 pub block-cut : (size k from till : ℕ) (bytes : List ℕ) → from ≡ k * 24 + 16 → till ≡ from + size
-    → take (till - from) (drop from bytes) ≡ blockAt size bytes k
-unfolding blockAt
+    → take (till - from) (drop from bytes) ≡ sentBlockAt size bytes k
+unfolding sentBlockAt
 block-cut size k from till bytes ef et =
     let e : till - from ≡ size = omega arith in
     ap₂ (λ (a b : ℕ). take a (drop b bytes)) e ef

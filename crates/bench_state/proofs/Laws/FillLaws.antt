@@ -26,7 +26,7 @@ use Rattle.bench_state.specs.Workers.{freshBench}
 use Rattle.bench_state.specs.Workers.{Small}
 use Rattle.bench_state.proofs.Laws.StateLaws.{fresh-world}
 use Rattle.bench_state.specs.declared.Bench.{Bench}
-use Rattle.register.specs.Runs.{fresh}
+use Rattle.register.specs.Runs.{freshSet}
 use Rattle.bench_state.specs.Workers.{Begun}
 
 lending-passes : (s : Settings) (brick len : ℕ) → inRange s ≡ true → len ≡ imageSize s → brick < s .n → lendingRefusal s brick len ≡ 0
@@ -37,19 +37,19 @@ pub begun-none : (s : Settings) (images : List ℕ) → length images ≡ 10240 
 begun-none s images e = record { long = e; images-fresh = λ b h. absurd (not-suc-le-zero h) }
 
 pub begun-more : (s : Settings) (images new : List ℕ) (k : ℕ) → Small s → Begun s images k → k < s .n → length new ≡ imageSize s
-    → new ≡ imageOf s k (Brick.fresh s) → Begun s (put (k * 2560) new images) (k + 1)
+    → new ≡ imageOf s k (Brick.freshBrick s) → Begun s (put (k * 2560) new images) (k + 1)
 begun-more s images new k small h l e f =
     record {
       long = put-length (k * 2560) new images (let a = small .bricks in let b = small .image-fits in let c = h .long in omega arith) ∙ h .long;
       images-fresh = λ b u. by b (eq-or-lt-of-le (let v : b ≤ k = omega arith in v));
     }
   where
-    by : (b : ℕ) → (b ≡ k) ⊎ (b < k) → take (imageSize s) (drop (b * 2560) (put (k * 2560) new images)) ≡ imageOf s b (Brick.fresh s)
+    by : (b : ℕ) → (b ≡ k) ⊎ (b < k) → take (imageSize s) (drop (b * 2560) (put (k * 2560) new images)) ≡ imageOf s b (Brick.freshBrick s)
     by b (inl q) =
         ap (λ (j : ℕ). take (imageSize s) (drop (j * 2560) (put (k * 2560) new images))) q
         ∙ put-in (k * 2560) (imageSize s) new images e (let a = small .bricks in let c = h .long in omega arith)
         ∙ f
-        ∙ ap (λ (j : ℕ). imageOf s j (Brick.fresh s)) (sym q)
+        ∙ ap (λ (j : ℕ). imageOf s j (Brick.freshBrick s)) (sym q)
     by b (inr v) =
         put-before (k * 2560) (b * 2560) (imageSize s) new images (let i = small .image-fits in omega arith)
         (let a = small .bricks in let i = small .image-fits in let c = h .long in omega arith)
@@ -70,13 +70,13 @@ begun-stored s images new k len small r h l e el f =
     in
     subst (λ (i : List ℕ). Begun s i (k + 1)) (sym (put-mid (k * 2560) (k * 2560 + len) images new (omega arith) (omega arith)))
     (begun-more s images new k small h l (el ∙ long)
-    (f ∙ ap (λ (n : ℕ). cond (eqb n 0) (imageOf s k (Brick.fresh s)) (take (k * 2560 + len - k * 2560) (drop (k * 2560) images))) (passes (take (k * 2560 + len - k * 2560) (drop (k * 2560) images)) long)))
+    (f ∙ ap (λ (n : ℕ). cond (eqb n 0) (imageOf s k (Brick.freshBrick s)) (take (k * 2560 + len - k * 2560) (drop (k * 2560) images))) (passes (take (k * 2560 + len - k * 2560) (drop (k * 2560) images)) long)))
   where
     passes : (t : List ℕ) → length t ≡ 512 * (s .capacity + 1) → lendingRefusal s k (length t) ≡ 0
     passes t long = lending-passes s k (length t) r long l
 
 -- a set that began, by what the parts of its beginning gave
 pub set-begun : (s : Settings) (b : Bench) (images kept : List ℕ) (k : ℕ) → Small s → b ≡ freshBench s → Begun s images (s .n) → kept ≡ zeros k → k ≡ 256
-    → (b ≡ freshBench s) × (worldOf b images kept [] ≡ fresh s)
+    → (b ≡ freshBench s) × (worldOf b images kept [] ≡ freshSet s)
 set-begun s b images kept k small e h z l =
     (e, ap (λ (x : Bench). worldOf x images kept []) e ∙ fresh-world s small images kept (h .images-fresh) (z ∙ ap (λ (j : ℕ). zeros j) l ∙ zero-list 256))

@@ -14,11 +14,11 @@ use Rattle.settings.specs.declared.Settings.{Settings}
 use Rattle.image.specs.Brick
 use Rattle.image.specs.Image.{imageOf, imageSize}
 use Rattle.coord_record.specs.declared.Coordinator.{Coordinator}
-use Rattle.coord_apply.specs.Answers.{Held}
-use Rattle.register.specs.Runs.{World, idle, fresh, putAt}
+use Rattle.coord_apply.specs.Answers.{Buffered}
+use Rattle.register.specs.Runs.{World, idle, freshSet, putAt}
 use Rattle.byte_lists.specs.Lists.{put}
 use Rattle.byte_lists.proofs.Laws.PutLaws.{put-length, put-in, put-before, put-behind}
-use Rattle.bench_state.specs.State.{imagesOf, upOf, idleAt, heldAt, worldOf}
+use Rattle.bench_state.specs.State.{imagesOf, upOf, idleAt, coordinatorKept, worldOf}
 use Rattle.bench_state.specs.Workers.{freshBench, keptWith}
 use Rattle.bench_state.specs.Workers.{Small}
 
@@ -51,39 +51,39 @@ fresh-up (suc (suc (suc zero))) = refl
 fresh-up (suc (suc (suc (suc c)))) = refl
 
 -- a coordinator with what it keeps
-abbrev holding : Coordinator → List ℕ → List ℕ → Held
+abbrev holding : Coordinator → List ℕ → List ℕ → Buffered
 holding state blocks stripe = record { state = state; blocks = blocks; stripe = stripe }
 
 module _ (s : Settings) (small : Small s) where
-  fresh-held : (c : ℕ) → heldAt s (idleAt 0 ∷ idleAt 1 ∷ idleAt 2 ∷ idleAt 3 ∷ []) (replicate 256 0) c ≡ idle s c
-  unfolding heldAt idle idleAt
+  fresh-held : (c : ℕ) → coordinatorKept s (idleAt 0 ∷ idleAt 1 ∷ idleAt 2 ∷ idleAt 3 ∷ []) (replicate 256 0) c ≡ idle s c
+  unfolding coordinatorKept idle idleAt
   fresh-held c = by (decLt c 4)
     where
-      by : Dec (c < 4) → heldAt s (idleAt 0 ∷ idleAt 1 ∷ idleAt 2 ∷ idleAt 3 ∷ []) (replicate 256 0) c ≡ idle s c
+      by : Dec (c < 4) → coordinatorKept s (idleAt 0 ∷ idleAt 1 ∷ idleAt 2 ∷ idleAt 3 ∷ []) (replicate 256 0) c ≡ idle s c
       by (yes h) =
           ap (λ (t : Bool). cond t (holding (getD (idleAt 0 ∷ idleAt 1 ∷ idleAt 2 ∷ idleAt 3 ∷ []) c (idleAt c)) (take (s .n * s .size) (drop (c * 64) (replicate 256 0))) (take (s .m * s .size) (drop (c * 64 + 32) (replicate 256 0)))) (idle s c)) (lt-ltb c 4 h)
           ∙ ap (λ (t : Coordinator). holding t (take (s .n * s .size) (drop (c * 64) (replicate 256 0))) (take (s .m * s .size) (drop (c * 64 + 32) (replicate 256 0)))) (fresh-state c)
           ∙ ap₂ (holding (idleAt c)) (zero-part (c * 64) (s .n * s .size) 256 (let q = small .blocks-fit in omega arith)) (zero-part (c * 64 + 32) (s .m * s .size) 256 (let q = small .stripe-fits in omega arith))
       by (no h) = ap (λ (t : Bool). cond t (holding (getD (idleAt 0 ∷ idleAt 1 ∷ idleAt 2 ∷ idleAt 3 ∷ []) c (idleAt c)) (take (s .n * s .size) (drop (c * 64) (replicate 256 0))) (take (s .m * s .size) (drop (c * 64 + 32) (replicate 256 0)))) (idle s c)) (le-ltb c 4 (omega arith))
 
-  fresh-images : (images : List ℕ) → ((b : ℕ) → b < s .n → take (imageSize s) (drop (b * 2560) images) ≡ imageOf s b (Brick.fresh s))
-      → (b : ℕ) → imagesOf s images b ≡ imageOf s b (Brick.fresh s)
+  fresh-images : (images : List ℕ) → ((b : ℕ) → b < s .n → take (imageSize s) (drop (b * 2560) images) ≡ imageOf s b (Brick.freshBrick s))
+      → (b : ℕ) → imagesOf s images b ≡ imageOf s b (Brick.freshBrick s)
   unfolding imagesOf
   fresh-images images h b = by (decLt b (s .n))
     where
-      by : Dec (b < s .n) → imagesOf s images b ≡ imageOf s b (Brick.fresh s)
+      by : Dec (b < s .n) → imagesOf s images b ≡ imageOf s b (Brick.freshBrick s)
       by (yes l) = rw (lt-ltb b (s .n) l) (h b l)
       by (no l) = rw (le-ltb b (s .n) (omega arith)) refl
 
   -- a set that begins
-  pub fresh-world : (images kept : List ℕ) → ((b : ℕ) → b < s .n → take (imageSize s) (drop (b * 2560) images) ≡ imageOf s b (Brick.fresh s))
-      → kept ≡ replicate 256 0 → worldOf (freshBench s) images kept [] ≡ fresh s
-  unfolding worldOf freshBench fresh
+  pub fresh-world : (images kept : List ℕ) → ((b : ℕ) → b < s .n → take (imageSize s) (drop (b * 2560) images) ≡ imageOf s b (Brick.freshBrick s))
+      → kept ≡ replicate 256 0 → worldOf (freshBench s) images kept [] ≡ freshSet s
+  unfolding worldOf freshBench freshSet
   fresh-world images kept h e =
-      ap₂ (λ (f : ℕ → List ℕ) (g : ℕ → Bool). make f g (heldAt s (idleAt 0 ∷ idleAt 1 ∷ idleAt 2 ∷ idleAt 3 ∷ []) kept)) (fun-ext (fresh-images images h)) (fun-ext fresh-up)
-      ∙ ap (make (λ (b : ℕ). imageOf s b (Brick.fresh s)) (λ (b : ℕ). true)) (ap (heldAt s (idleAt 0 ∷ idleAt 1 ∷ idleAt 2 ∷ idleAt 3 ∷ [])) e ∙ fun-ext fresh-held)
+      ap₂ (λ (f : ℕ → List ℕ) (g : ℕ → Bool). make f g (coordinatorKept s (idleAt 0 ∷ idleAt 1 ∷ idleAt 2 ∷ idleAt 3 ∷ []) kept)) (fun-ext (fresh-images images h)) (fun-ext fresh-up)
+      ∙ ap (make (λ (b : ℕ). imageOf s b (Brick.freshBrick s)) (λ (b : ℕ). true)) (ap (coordinatorKept s (idleAt 0 ∷ idleAt 1 ∷ idleAt 2 ∷ idleAt 3 ∷ [])) e ∙ fun-ext fresh-held)
     where
-      make : (ℕ → List ℕ) → (ℕ → Bool) → (ℕ → Held) → World
+      make : (ℕ → List ℕ) → (ℕ → Bool) → (ℕ → Buffered) → World
       make f g h = record { images = f; up = g; coordinators = h; sent = [] }
 
   -- brick b has another image
@@ -106,8 +106,8 @@ module _ (s : Settings) (small : Small s) where
   -- coordinator c has another record, other reply blocks and another stripe
   pub held-put : (cs : List Coordinator) (kept blocks stripe : List ℕ) (c : ℕ) (next : Coordinator) → c < 4 → length cs ≡ 4 → length kept ≡ 256
       → length blocks ≡ s .n * s .size → length stripe ≡ s .m * s .size
-      → heldAt s (set cs c next) (keptWith c blocks stripe kept) ≡ putAt (heldAt s cs kept) c (holding next blocks stripe)
-  unfolding heldAt putAt keptWith
+      → coordinatorKept s (set cs c next) (keptWith c blocks stripe kept) ≡ putAt (coordinatorKept s cs kept) c (holding next blocks stripe)
+  unfolding coordinatorKept putAt keptWith
   held-put cs kept blocks stripe c next l n k eb es = fun-ext (λ j. by j (ℕ-discrete j c) (decLt j 4))
     where
       first : List ℕ
@@ -116,7 +116,7 @@ module _ (s : Settings) (small : Small s) where
       long : length first ≡ 256
       long = put-length (c * 64) blocks kept (let q = small .blocks-fit in omega arith) ∙ k
 
-      by : (j : ℕ) → Dec (j ≡ c) → Dec (j < 4) → heldAt s (set cs c next) (keptWith c blocks stripe kept) j ≡ putAt (heldAt s cs kept) c (holding next blocks stripe) j
+      by : (j : ℕ) → Dec (j ≡ c) → Dec (j < 4) → coordinatorKept s (set cs c next) (keptWith c blocks stripe kept) j ≡ putAt (coordinatorKept s cs kept) c (holding next blocks stripe) j
       by j (yes q) u =
           rw (eq-eqb j c q, q, lt-ltb c 4 l, getD-set-same cs c next (idleAt c) (omega arith))
           (ap₂ (holding next)

@@ -14,14 +14,14 @@ use Rattle.image.specs.Parse.{Parsed, Opens, brickIn, parse, openRefusal}
 use Rattle.image.proofs.Laws.ParseLaws.{parse-opens}
 use Rattle.image.specs.Brick.{Brick}
 use Rattle.brick_log.specs.BrickRules.{replyTo}
-use Rattle.brick.specs.Receive.{blocksRefusal, receiveRefusal, refusedWith, givenBy, acted, outcome}
+use Rattle.brick.specs.Receive.{blocksRefusal, receiveRefusal, refusedWith, givenBy, accepted, outcome}
 use Rattle.brick.specs.declared.Given.the-variants.{Answered, Silent}
 use Rattle.brick.specs.Receive.{givenNumber}
 
 -- what an image that opens gives has number 0
 acted-number : (s : Settings) (brick : ℕ) (msg : Message) (block bytes out : List ℕ) (x : Brick)
-    → givenNumber (acted s brick msg block bytes out (Opens x) .given) ≡ 0
-unfolding givenNumber acted givenBy
+    → givenNumber (accepted s brick msg block bytes out (Opens x) .given) ≡ 0
+unfolding givenNumber accepted givenBy
 acted-number s brick msg block bytes out x = go (eqb (msg .kind) trimKind)
   where
     go : (b : Bool) → givenNumber (cond b Silent (Answered (replyTo s brick x msg))) ≡ 0
@@ -42,13 +42,13 @@ outcome-number s brick bytes msg block out =
   where
     go : (b : Bool) → eqb (receiveRefusal s brick bytes msg (length block) (length out)) 0 ≡ b
         → givenNumber
-        (cond b (acted s brick msg block bytes out (parse s brick bytes))
+        (cond b (accepted s brick msg block bytes out (parse s brick bytes))
         (refusedWith (receiveRefusal s brick bytes msg (length block) (length out)) bytes out)
         .given)
         ≡ receiveRefusal s brick bytes msg (length block) (length out)
     go true e =
         let z = eqb-true (receiveRefusal s brick bytes msg (length block) (length out)) 0 e in
-        ap (λ (p : Parsed). givenNumber (acted s brick msg block bytes out p .given))
+        ap (λ (p : Parsed). givenNumber (accepted s brick msg block bytes out p .given))
         (parse-opens s brick bytes (image-opens s brick bytes msg (length block) (length out) z))
         ∙ acted-number s brick msg block bytes out (brickIn s bytes)
         ∙ sym z

@@ -16,9 +16,9 @@ use Rattle.settings.proofs.Laws.RefusalLaws.{first-stop, first-pass}
 use Rattle.message.specs.Flags.{member}
 use Rattle.message.specs.Messages.{messageRefusal}
 use Rattle.message.specs.declared.Message.{Message}
-use Rattle.image.specs.Brick.{Brick, count, timeAt, heldAt, newest}
+use Rattle.image.specs.Brick.{Brick, entryCount, timeAt, heldAt, newest}
 use Rattle.image.specs.Image.{imageOf}
-use Rattle.image.specs.Parse.{Opens, Refuses, parse, openRefusal, blockAt, countIn, brickIn, heldIn}
+use Rattle.image.specs.Parse.{Opens, Refuses, parse, openRefusal, imageBlockAt, countIn, brickIn, heldIn}
 use Rattle.image.specs.Workers.{Opened}
 use Rattle.image.proofs.Laws.ParseLaws.{count-in}
 use Rattle.image.proofs.Laws.FieldTestLaws.{held-in}
@@ -28,11 +28,11 @@ use Rattle.image.proofs.Laws.HubLaws.{turned, log-at}
 use Rattle.image.specs.declared.Entry.{Entry}
 use Rattle.image.specs.declared.Head.{Head}
 use Rattle.image.specs.declared.Opening.{Opening}
-use Rattle.image.specs.declared.Answer.the-variants.{Refused as Failed}
+use Rattle.image.specs.declared.ImageAnswer.the-variants.{Refused as Failed}
 use Rattle.image_write.specs.Workers.{without}
-use Rattle.brick_log.specs.BrickRules.{notBelowPromise, aboveNewest, readYes, orderYes, lookup, trimmedTo, timeFor, placeFor, foundFor, yesTo, replyTo, after, blockAfter}
-use Rattle.brick.specs.Receive.{blocksRefusal, receiveRefusal, Outcome, refusedWith, givenBy, acted, outcome}
-use Rattle.brick_log.specs.Workers.{Ready, Ahead, Planned, Cut, underIn, underFor, placeOf, timeOf, readPlace, gaveOf}
+use Rattle.brick_log.specs.BrickRules.{notBelowPromise, aboveNewest, readYes, orderYes, lookup, trimmedTo, timeFor, placeFor, foundFor, yesTo, replyTo, brickAfter, blockAfter}
+use Rattle.brick.specs.Receive.{blocksRefusal, receiveRefusal, Outcome, refusedWith, givenBy, accepted, outcome}
+use Rattle.brick_log.specs.Workers.{LogReady, Ahead, Planned, Cut, underIn, underFor, lookedPlace, lookedTime, readPlace, gaveOf}
 use Rattle.brick_log.proofs.Laws.LookLaws.{under-brick, under-high, place-brick, time-brick}
 use Rattle.brick.proofs.Laws.TrimLaws.{cut-trims}
 use Rattle.brick_log.specs.declared.Known.{Known}
@@ -133,37 +133,37 @@ module _ (s : Settings) (brick : ℕ) (l : List ℕ) (msg : Message) (block out 
       pub ends-wrong : (w ≡ 0 → ⊥) → Ends (outcome s brick l msg block out) (Refused w) l out
       ends-wrong z = ends-refused w (rest ∙ first-is w w [] refl z) z
 
-      pub ends-acted : w ≡ 0 → (g : Given) (image out′ : List ℕ) → g ≡ givenBy s brick x msg → image ≡ imageOf s brick (after s x msg block)
+      pub ends-acted : w ≡ 0 → (g : Given) (image out′ : List ℕ) → g ≡ givenBy s brick x msg → image ≡ imageOf s brick (brickAfter s x msg block)
           → out′ ≡ blockAfter x (placeFor brick x msg) out → Ends (outcome s brick l msg block out) g image out′
-      unfolding outcome acted firstRefusal
+      unfolding outcome accepted firstRefusal
       ends-acted z g image out′ eg ei eo =
           let r : receiveRefusal s brick l msg (length block) (length out) ≡ 0 = rest ∙ first-pass w [] z in
-          let o : outcome s brick l msg block out ≡ acted s brick msg block l out (Opens x) = rw (r, is) refl in
+          let o : outcome s brick l msg block out ≡ accepted s brick msg block l out (Opens x) = rw (r, is) refl in
           (eg ∙ sym (ap (λ (v : Outcome). v .given) o), (ei ∙ sym (ap (λ (v : Outcome). v .image) o), eo ∙ sym (ap (λ (v : Outcome). v .out) o)))
 
 -- an opened image, and the plan that was made in its log
 pub ready : (s : Settings) (brick : ℕ) (l : List ℕ) (o : Opening) (h : Head) → Hub s brick l o h
-    → Ready s brick l (record { count = h .count; promise = h .promise; newest = getD (o .log) (h .count - 1) blank .time })
+    → LogReady s brick l (record { count = h .count; promise = h .promise; newest = getD (o .log) (h .count - 1) blank .time })
 unfolding newest
 ready s brick l o h u =
     let e = u .saved .is-read in
-    let c : h .count ≡ count (brickIn s l) = u .counts ∙ ap count e in
+    let c : h .count ≡ entryCount (brickIn s l) = u .counts ∙ ap entryCount e in
     record {
       saved = subst (λ (y : Brick). Opened s brick l y) e (u .saved);
       counts = c;
       promises = u .promises ∙ ap (λ (y : Brick). y .promise) e;
       newests =
           ap (λ (k : ℕ). getD (o .log) (k - 1) blank .time) (u .counts)
-          ∙ ap (λ (g : List Entry). getD g (count (u .x) - 1) blank .time) (u .logs)
-          ∙ ap (λ (v : Entry). v .time) (log-at (u .x) (count (u .x) - 1) blank (omega (arith, u .low, u .counts)) (omega (arith, u .most, u .counts)))
-          ∙ ap (λ (y : Brick). timeAt y (count y - 1)) e;
+          ∙ ap (λ (g : List Entry). getD g (entryCount (u .x) - 1) blank .time) (u .logs)
+          ∙ ap (λ (v : Entry). v .time) (log-at (u .x) (entryCount (u .x) - 1) blank (omega (arith, u .low, u .counts)) (omega (arith, u .most, u .counts)))
+          ∙ ap (λ (y : Brick). timeAt y (entryCount y - 1)) e;
       low = u .low;
       high = u .high;
       most = u .saved .range .capacity-high;
     }
 
-module _ (s : Settings) (brick : ℕ) (l : List ℕ) (k : Known) (r : Ready s brick l k) (msg : Message) where
-  few : count (brickIn s l) ≤ 32
+module _ (s : Settings) (brick : ℕ) (l : List ℕ) (k : Known) (r : LogReady s brick l k) (msg : Message) where
+  few : entryCount (brickIn s l) ≤ 32
   few = omega (arith, r .counts, r .high, r .most)
 
   place-read : msg .kind ≡ 1 → readPlace k (msg .targets) brick ≡ placeFor brick (brickIn s l) msg
@@ -192,7 +192,7 @@ module _ (s : Settings) (brick : ℕ) (l : List ℕ) (k : Known) (r : Ready s br
         rw (ne-eqb (msg .kind) 1 (λ q. omega (arith, e, q)), eq-eqb (msg .kind) 3 e)
         (ap₂ (λ (a b : ℕ). cond (ltb a (msg .time) && leb b (msg .time)) (underIn log (msg .max) (k .count)) 0) (r .newests) (r .promises)
         ∙ ap (λ (u : ℕ). cond (ltb (newest (brickIn s l)) (msg .time) && leb (brickIn s l .promise) (msg .time)) u 0)
-        (ap₂ (λ (g : List Entry) (c : ℕ). underIn g (msg .max) c) el (r .counts) ∙ under-brick (brickIn s l) (msg .max) (count (brickIn s l)) (omega arith) few))
+        (ap₂ (λ (g : List Entry) (c : ℕ). underIn g (msg .max) c) el (r .counts) ∙ under-brick (brickIn s l) (msg .max) (entryCount (brickIn s l)) (omega arith) few))
 
     under-low : underFor log k msg ≤ k .count
     unfolding underFor
@@ -202,14 +202,14 @@ module _ (s : Settings) (brick : ℕ) (l : List ℕ) (k : Known) (r : Ready s br
         go true h = h
         go false h = omega arith
 
-    place-same : placeOf log (underFor log k msg) ≡ underFor log k msg
-    place-same = ap (λ (g : List Entry). placeOf g (underFor log k msg)) el ∙ place-brick (brickIn s l) (underFor log k msg) (omega (arith, under-low, r .counts)) few
+    place-same : lookedPlace log (underFor log k msg) ≡ underFor log k msg
+    place-same = ap (λ (g : List Entry). lookedPlace g (underFor log k msg)) el ∙ place-brick (brickIn s l) (underFor log k msg) (omega (arith, under-low, r .counts)) few
 
-    found-look : msg .kind ≡ 3 → timeOf log (underFor log k msg) ≡ foundFor brick (brickIn s l) msg
+    found-look : msg .kind ≡ 3 → lookedTime log (underFor log k msg) ≡ foundFor brick (brickIn s l) msg
     unfolding foundFor
     found-look e =
         rw (ne-eqb (msg .kind) 1 (λ q. omega (arith, e, q)))
-        (ap (λ (g : List Entry). timeOf g (underFor log k msg)) el
+        (ap (λ (g : List Entry). lookedTime g (underFor log k msg)) el
         ∙ time-brick (brickIn s l) (underFor log k msg) (omega (arith, under-low, r .counts)) few
         ∙ ap (λ (n : ℕ). timeFor (brickIn s l) n) (under-is e))
 
@@ -221,7 +221,7 @@ module _ (s : Settings) (brick : ℕ) (l : List ℕ) (k : Known) (r : Ready s br
   unfolding foundFor timeFor
   found-none a b = rw (ne-eqb (msg .kind) 1 a, sym (place-none a b)) refl
 
-pub ahead : (s : Settings) (brick : ℕ) (l : List ℕ) (k : Known) (log : List Entry) (msg : Message) (p : Plan) → Ready s brick l k → log ≡ workingLog (brickIn s l)
+pub ahead : (s : Settings) (brick : ℕ) (l : List ℕ) (k : Known) (log : List Entry) (msg : Message) (p : Plan) → LogReady s brick l k → log ≡ workingLog (brickIn s l)
     → Planned log k msg brick p → Ahead brick (brickIn s l) k msg p
 ahead s brick l k log msg p r e q = go (ℕ-discrete (msg .kind) 1) (ℕ-discrete (msg .kind) 3)
   where
@@ -231,7 +231,7 @@ ahead s brick l k log msg p r e q = go (ℕ-discrete (msg .kind) 1) (ℕ-discret
     trims : msg .kind ≡ 5 → trimmedTo (brickIn s l) (msg .time) ≡ without (brickIn s l) (p .cut)
     trims z =
         cut-trims s (brickIn s l) (msg .time) (p .cut) (r .saved .keeps) (omega (arith, r .counts, r .high, r .most))
-        (subst (λ (g : List Entry). Cut g (count (brickIn s l)) (msg .time) (p .cut)) e
+        (subst (λ (g : List Entry). Cut g (entryCount (brickIn s l)) (msg .time) (p .cut)) e
         (subst (λ (c : ℕ). Cut log c (msg .time) (p .cut)) (r .counts) (q .cuts z)))
 
     made : p .place ≡ placeFor brick (brickIn s l) msg → p .found ≡ foundFor brick (brickIn s l) msg → p .place ≤ k .count → Ahead brick (brickIn s l) k msg p
@@ -251,34 +251,34 @@ ahead s brick l k log msg p r e q = go (ℕ-discrete (msg .kind) 1) (ℕ-discret
         made (w .0 ∙ place-none s brick l k r msg a b) (w .1 ∙ found-none s brick l k r msg a b) (omega (arith, w .0))
 
 -- the bytes of a held block
-held-bytes : (l : List ℕ) (size p : ℕ) → size ≤ 256 → take size (drop (512 * p + 16) l) ≡ heldIn size (blockAt l p)
-unfolding heldIn blockAt
+held-bytes : (l : List ℕ) (size p : ℕ) → size ≤ 256 → take size (drop (512 * p + 16) l) ≡ heldIn size (imageBlockAt l p)
+unfolding heldIn imageBlockAt
 held-bytes l size p h =
     ap (λ (m : List ℕ). take size m) (sym (drop-drop 16 (512 * p) l))
     ∙ sym (take-take size 496 (drop 16 (drop (512 * p) l)) (omega arith))
     ∙ ap (λ (m : List ℕ). take size m) (sym (drop-take 16 496 (drop (512 * p) l)))
 
-pub gave-is : (s : Settings) (brick : ℕ) (l : List ℕ) (k : Known) (place : ℕ) (out : List ℕ) → Ready s brick l k → place ≤ k .count
+pub gave-is : (s : Settings) (brick : ℕ) (l : List ℕ) (k : Known) (place : ℕ) (out : List ℕ) → LogReady s brick l k → place ≤ k .count
     → gaveOf l (s .size) place out ≡ blockAfter (brickIn s l) place out
 unfolding gaveOf blockAfter
 gave-is s brick l k zero out r h = refl
 gave-is s brick l k (suc i) out r h =
     let m : suc i - 1 ≡ i = omega arith in
-    let low : i < countIn (blockAt l 0) = omega (arith, r .counts, count-in s l) in
+    let low : i < countIn (imageBlockAt l 0) = omega (arith, r .counts, count-in s l) in
     let n : i + 1 ≡ suc i = omega arith in
     rw (ne-eqb (suc i) 0 (λ q. omega (arith, q)))
     (held-bytes l (s .size) (suc i) (r .saved .range .code .size-high)
-    ∙ sym (ap (λ (j : ℕ). heldAt (brickIn s l) j) m ∙ held-in s l i low ∙ ap (λ (j : ℕ). heldIn (s .size) (blockAt l j)) n))
+    ∙ sym (ap (λ (j : ℕ). heldAt (brickIn s l) j) m ∙ held-in s l i low ∙ ap (λ (j : ℕ). heldIn (s .size) (imageBlockAt l j)) n))
 
 -- the ways of acting
-module _ (s : Settings) (brick : ℕ) (l : List ℕ) (k : Known) (msg : Message) (p : Plan) (block out : List ℕ) (r : Ready s brick l k) (h : Ahead brick (brickIn s l) k msg p) where
+module _ (s : Settings) (brick : ℕ) (l : List ℕ) (k : Known) (msg : Message) (p : Plan) (block out : List ℕ) (r : LogReady s brick l k) (h : Ahead brick (brickIn s l) k msg p) where
   abbrev pub Acts : Given → List ℕ → List ℕ → Type 0
   Acts g image out′ =
       (g ≡ givenBy s brick (brickIn s l) msg)
-      × ((image ≡ imageOf s brick (after s (brickIn s l) msg block)) × (out′ ≡ blockAfter (brickIn s l) (placeFor brick (brickIn s l) msg) out))
+      × ((image ≡ imageOf s brick (brickAfter s (brickIn s l) msg block)) × (out′ ≡ blockAfter (brickIn s l) (placeFor brick (brickIn s l) msg) out))
 
   pub acts-trim : (image : List ℕ) → msg .kind ≡ 5 → image ≡ imageOf s brick (without (brickIn s l) (p .cut)) → Acts Silent image out
-  unfolding givenBy after blockAfter
+  unfolding givenBy brickAfter blockAfter
   acts-trim image e w = (
     sym (rw (eq-eqb (msg .kind) 5 e) refl),
     (
@@ -288,7 +288,7 @@ module _ (s : Settings) (brick : ℕ) (l : List ℕ) (k : Known) (msg : Message)
   )
 
   pub acts-reply : (v : Bool) (image out′ : List ℕ) → (msg .kind ≡ 5 → ⊥) → v ≡ yesTo s (brickIn s l) msg
-      → image ≡ imageOf s brick (after s (brickIn s l) msg block) → out′ ≡ gaveOf l (s .size) (p .place) out
+      → image ≡ imageOf s brick (brickAfter s (brickIn s l) msg block) → out′ ≡ gaveOf l (s .size) (p .place) out
       → Acts (Answered (record {
         kind = msg .kind;
         brick = brick;

@@ -8,7 +8,7 @@ use lib.ListN.{length, drop, getD, length-drop}
 use lib.Seq.{getD-drop}
 use borrow.Author.Tests.{lt-ltb, le-ltb, ltb-true, ne-eqb}
 use Rattle.settings.specs.declared.Settings.{Settings}
-use Rattle.image.specs.Brick.{Brick, LogEntry, noEntry, count, timeAt, risesAt}
+use Rattle.image.specs.Brick.{Brick, LogEntry, noEntry, entryCount, timeAt, risesAt}
 use Rattle.image.specs.Brick.{Sound}
 use Rattle.image.proofs.Laws.HubLaws.{log-at}
 use Rattle.image.specs.Opening.{workingLog, blank}
@@ -18,7 +18,7 @@ use Rattle.brick_log.specs.BrickRules.{trimmed, trimmedTo}
 use Rattle.brick_log.specs.Workers.{Cut}
 
 -- times rise
-pub rises-next : (s : Settings) (x : Brick) → Sound s x → (i : ℕ) → suc i < count x → timeAt x i < timeAt x (suc i)
+pub rises-next : (s : Settings) (x : Brick) → Sound s x → (i : ℕ) → suc i < entryCount x → timeAt x i < timeAt x (suc i)
 unfolding risesAt
 rises-next s x r i h =
     let e = r .entries (suc i) h .rises in
@@ -26,7 +26,7 @@ rises-next s x r i h =
     subst (λ (k : ℕ). timeAt x k < timeAt x (suc i)) m
     (ltb-true (timeAt x (suc i - 1)) (timeAt x (suc i)) (rw (ne-eqb (suc i) 0 (λ q. omega (arith, q))) at e))
 
-pub rises-add : (s : Settings) (x : Brick) → Sound s x → (i j : ℕ) → i + j < count x → timeAt x i ≤ timeAt x (i + j)
+pub rises-add : (s : Settings) (x : Brick) → Sound s x → (i j : ℕ) → i + j < entryCount x → timeAt x i ≤ timeAt x (i + j)
 rises-add s x r i zero h = let m : i + 0 ≡ i = omega arith in subst (λ (k : ℕ). timeAt x i ≤ timeAt x k) (sym m) (le-refl _)
 rises-add s x r i (suc j) h =
     let m : i + suc j ≡ suc (i + j) = omega arith in
@@ -52,14 +52,14 @@ trimmed-rest t (e ∷ []) b = refl
 trimmed-rest t (e ∷ f ∷ log) b =
     rw (le-ltb (e .time) t (b 0 (omega arith))) (ap (λ (l : List LogEntry). e ∷ l) (trimmed-rest t (f ∷ log) (λ i w. b (suc i) (omega (arith, w)))))
 
-pub cut-trims : (s : Settings) (x : Brick) (t d : ℕ) → Sound s x → count x ≤ 32 → Cut (workingLog x) (count x) t d → trimmedTo x t ≡ without x d
-unfolding trimmedTo without timeAt count
+pub cut-trims : (s : Settings) (x : Brick) (t d : ℕ) → Sound s x → entryCount x ≤ 32 → Cut (workingLog x) (entryCount x) t d → trimmedTo x t ≡ without x d
+unfolding trimmedTo without timeAt entryCount
 cut-trims s x t d r c q =
     let kept : trimmed t (drop d (x .log)) ≡ drop d (x .log) = trimmed-rest t (drop d (x .log)) rest in
     ap (λ (l : List LogEntry). record { promise = x .promise; log = l })
     (trimmed-front t (x .log) d (q .low) (λ i h. subst (λ (k : ℕ). k < t) (time i (omega (arith, h, q .low))) (q .before i h)) ∙ kept)
   where
-    time : (i : ℕ) → i < count x → getD (workingLog x) i blank .time ≡ timeAt x i
+    time : (i : ℕ) → i < entryCount x → getD (workingLog x) i blank .time ≡ timeAt x i
     time i h = ap (λ (v : Entry). v .time) (log-at x i blank h c)
 
     rest : (i : ℕ) → i + 1 < length (drop d (x .log)) → t ≤ getD (drop d (x .log)) i noEntry .time

@@ -11,17 +11,17 @@ use Rattle.message.specs.declared.Message.{Message}
 use Rattle.settings.specs.declared.Settings.{Settings}
 use Rattle.image_block.specs.Block.{headBlock, entryBlock}
 use Rattle.byte_lists.specs.Lists.{put}
-use Rattle.image.specs.Brick.{Brick, count}
+use Rattle.image.specs.Brick.{Brick, entryCount}
 use Rattle.image.specs.Image.{imageOf}
 use Rattle.image.specs.Parse.{brickIn}
 use Rattle.image_write.specs.Workers.{without}
 use Rattle.image_write.specs.Workers.{Blocks, shiftedOf, clearedOf}
 use Rattle.image_write.proofs.Laws.ImageStepLaws.{promise-written, append-written, without-written}
-use Rattle.brick_log.specs.BrickRules.{aboveNewest, notBelowPromise, hasFree, readYes, orderYes, writeYes, ordered, written, yesTo, after}
-use Rattle.brick_log.specs.Workers.{Ready}
+use Rattle.brick_log.specs.BrickRules.{aboveNewest, notBelowPromise, hasFree, readYes, orderYes, writeYes, orderedIfYes, writtenIfYes, yesTo, brickAfter}
+use Rattle.brick_log.specs.Workers.{LogReady}
 use Rattle.brick_log.specs.declared.Known.{Known}
 
-module _ (s : Settings) (brick : ℕ) (l : List ℕ) (k : Known) (r : Ready s brick l k) where
+module _ (s : Settings) (brick : ℕ) (l : List ℕ) (k : Known) (r : LogReady s brick l k) where
   x : Brick
   x = brickIn s l
 
@@ -29,14 +29,14 @@ module _ (s : Settings) (brick : ℕ) (l : List ℕ) (k : Known) (r : Ready s br
   unfolding orderYes aboveNewest notBelowPromise
   yes-is t v e = e ∙ ap₂ (λ (a b : ℕ). ltb a t && leb b t) (r .newests) (r .promises)
 
-  pub order-kept : (t : ℕ) (v : Bool) → v ≡ ltb (k .newest) t && leb (k .promise) t → v ≡ false → l ≡ imageOf s brick (ordered (brickIn s l) t)
-  unfolding ordered
+  pub order-kept : (t : ℕ) (v : Bool) → v ≡ ltb (k .newest) t && leb (k .promise) t → v ≡ false → l ≡ imageOf s brick (orderedIfYes (brickIn s l) t)
+  unfolding orderedIfYes
   order-kept t v e f = r .saved .is-image ∙ ap (λ (y : Brick). imageOf s brick y) (sym (rw (sym (yes-is t v e) ∙ f) refl))
 
-  pub order-moved : (t : ℕ) (v : Bool) (after : List ℕ) → v ≡ ltb (k .newest) t && leb (k .promise) t → v ≡ true → after ≡ put 0 (headBlock s brick (k .count) t) l
-      → after ≡ imageOf s brick (ordered (brickIn s l) t)
-  unfolding ordered
-  order-moved t v after e f w =
+  pub order-moved : (t : ℕ) (v : Bool) (brickAfter : List ℕ) → v ≡ ltb (k .newest) t && leb (k .promise) t → v ≡ true → brickAfter ≡ put 0 (headBlock s brick (k .count) t) l
+      → brickAfter ≡ imageOf s brick (orderedIfYes (brickIn s l) t)
+  unfolding orderedIfYes
+  order-moved t v brickAfter e f w =
       w
       ∙ ap₂ (λ (c : ℕ) (y : List ℕ). put 0 (headBlock s brick c t) y) (r .counts) (r .saved .is-image)
       ∙ promise-written s brick (brickIn s l) (r .saved .range) (r .saved .keeps) t
@@ -44,11 +44,11 @@ module _ (s : Settings) (brick : ℕ) (l : List ℕ) (k : Known) (r : Ready s br
 
   free-is : s .capacity ≤ k .count → hasFree s (brickIn s l) ≡ false
   unfolding hasFree
-  free-is h = le-ltb (count (brickIn s l)) (s .capacity) (omega (arith, r .counts))
+  free-is h = le-ltb (entryCount (brickIn s l)) (s .capacity) (omega (arith, r .counts))
 
   has-free : k .count < s .capacity → hasFree s (brickIn s l) ≡ true
   unfolding hasFree
-  has-free h = lt-ltb (count (brickIn s l)) (s .capacity) (omega (arith, r .counts))
+  has-free h = lt-ltb (entryCount (brickIn s l)) (s .capacity) (omega (arith, r .counts))
 
   pub write-no : (t : ℕ) (v : Bool) → v ≡ ltb (k .newest) t && leb (k .promise) t → v ≡ false → false ≡ writeYes s (brickIn s l) t
   unfolding writeYes
@@ -62,41 +62,41 @@ module _ (s : Settings) (brick : ℕ) (l : List ℕ) (k : Known) (r : Ready s br
   unfolding writeYes
   write-yes t v e f h = rw (sym (yes-is t v e) ∙ f, has-free h) refl
 
-  pub write-kept : (t : ℕ) (block : List ℕ) → false ≡ writeYes s (brickIn s l) t → l ≡ imageOf s brick (written s (brickIn s l) t block)
-  unfolding written
+  pub write-kept : (t : ℕ) (block : List ℕ) → false ≡ writeYes s (brickIn s l) t → l ≡ imageOf s brick (writtenIfYes s (brickIn s l) t block)
+  unfolding writtenIfYes
   write-kept t block e = r .saved .is-image ∙ ap (λ (y : Brick). imageOf s brick y) (sym (rw (← e) refl))
 
-  pub write-moved : (t n at : ℕ) (block l₁ after : List ℕ) → true ≡ writeYes s (brickIn s l) t → k .count < s .capacity → length block ≡ s .size
-      → n ≡ k .count + 1 → at ≡ 512 * n → l₁ ≡ put at (entryBlock t block) l → after ≡ put 0 (headBlock s brick n (k .promise)) l₁
-      → after ≡ imageOf s brick (written s (brickIn s l) t block)
-  unfolding written
-  write-moved t n at block l₁ after e free size en ea w₁ w₂ =
-      let nx : n ≡ count (brickIn s l) + 1 = omega (arith, r .counts) in
-      let ax : at ≡ 512 * (count (brickIn s l) + 1) = omega (arith, nx) in
+  pub write-moved : (t n at : ℕ) (block l₁ brickAfter : List ℕ) → true ≡ writeYes s (brickIn s l) t → k .count < s .capacity → length block ≡ s .size
+      → n ≡ k .count + 1 → at ≡ 512 * n → l₁ ≡ put at (entryBlock t block) l → brickAfter ≡ put 0 (headBlock s brick n (k .promise)) l₁
+      → brickAfter ≡ imageOf s brick (writtenIfYes s (brickIn s l) t block)
+  unfolding writtenIfYes
+  write-moved t n at block l₁ brickAfter e free size en ea w₁ w₂ =
+      let nx : n ≡ entryCount (brickIn s l) + 1 = omega (arith, r .counts) in
+      let ax : at ≡ 512 * (entryCount (brickIn s l) + 1) = omega (arith, nx) in
       w₂
       ∙ ap₂ (λ (c : ℕ) (y : List ℕ). put 0 (headBlock s brick c (k .promise)) y) nx
       (w₁ ∙ ap₂ (λ (c : ℕ) (y : List ℕ). put c (entryBlock t block) y) ax (r .saved .is-image))
-      ∙ ap (λ (p : ℕ). put 0 (headBlock s brick (count (brickIn s l) + 1) p) (put (512 * (count (brickIn s l) + 1)) (entryBlock t block) (imageOf s brick (brickIn s l)))) (r .promises)
+      ∙ ap (λ (p : ℕ). put 0 (headBlock s brick (entryCount (brickIn s l) + 1) p) (put (512 * (entryCount (brickIn s l) + 1)) (entryBlock t block) (imageOf s brick (brickIn s l)))) (r .promises)
       ∙ append-written s brick (brickIn s l) t block (r .saved .range) (r .saved .keeps) (omega (arith, r .counts)) size
       ∙ ap (λ (y : Brick). imageOf s brick y) (sym (rw (← e) refl))
 
-  pub trim-moved : (d kept : ℕ) (l₁ l₂ after : List ℕ) → d < k .count → kept ≡ k .count - d
+  pub trim-moved : (d kept : ℕ) (l₁ l₂ brickAfter : List ℕ) → d < k .count → kept ≡ k .count - d
       → ((n : ℕ) (g : ℕ → List ℕ) → Blocks g n l → Blocks (shiftedOf g d kept) n l₁)
       → ((n : ℕ) (g : ℕ → List ℕ) → Blocks g n l₁ → Blocks (clearedOf g (kept + 1) (k .count + 1)) n l₂)
-      → after ≡ put 0 (headBlock s brick kept (k .promise)) l₂
-      → after ≡ imageOf s brick (without (brickIn s l) d)
-  trim-moved d kept l₁ l₂ after low ek shift clear w =
-      let kx : kept ≡ count (brickIn s l) - d = omega (arith, r .counts) in
-      without-written s brick (brickIn s l) d (omega (arith, r .counts)) l₁ l₂ after (r .saved .range) (r .saved .keeps)
+      → brickAfter ≡ put 0 (headBlock s brick kept (k .promise)) l₂
+      → brickAfter ≡ imageOf s brick (without (brickIn s l) d)
+  trim-moved d kept l₁ l₂ brickAfter low ek shift clear w =
+      let kx : kept ≡ entryCount (brickIn s l) - d = omega (arith, r .counts) in
+      without-written s brick (brickIn s l) d (omega (arith, r .counts)) l₁ l₂ brickAfter (r .saved .range) (r .saved .keeps)
       (λ n g b. subst (λ (q : ℕ). Blocks (shiftedOf g d q) n l₁) kx (shift n g (subst (λ (y : List ℕ). Blocks g n y) (sym (r .saved .is-image)) b)))
-      (λ n g b. subst (λ (q : ℕ). Blocks (clearedOf g (q + 1) (count (brickIn s l) + 1)) n l₂) kx
+      (λ n g b. subst (λ (q : ℕ). Blocks (clearedOf g (q + 1) (entryCount (brickIn s l) + 1)) n l₂) kx
       (subst (λ (q : ℕ). Blocks (clearedOf g (kept + 1) (q + 1)) n l₂) (r .counts) (clear n g b)))
       (w ∙ ap₂ (λ (c p : ℕ). put 0 (headBlock s brick c p) l₂) kx (r .promises))
 
-module _ (s : Settings) (brick : ℕ) (l : List ℕ) (k : Known) (r : Ready s brick l k) (msg : Message) (block : List ℕ) where
+module _ (s : Settings) (brick : ℕ) (l : List ℕ) (k : Known) (r : LogReady s brick l k) (msg : Message) (block : List ℕ) where
   pub change-read : msg .kind ≡ 1
-      → (leb (k .promise) (k .newest) ≡ yesTo s (brickIn s l) msg) × (l ≡ imageOf s brick (after s (brickIn s l) msg block))
-  unfolding yesTo after readYes notBelowPromise
+      → (leb (k .promise) (k .newest) ≡ yesTo s (brickIn s l) msg) × (l ≡ imageOf s brick (brickAfter s (brickIn s l) msg block))
+  unfolding yesTo brickAfter readYes notBelowPromise
   change-read e = (
     sym (rw (eq-eqb (msg .kind) 1 e) (ap₂ (λ (a b : ℕ). leb a b) (sym (r .promises)) (sym (r .newests)))),
     r .saved .is-image ∙ ap (λ (y : Brick). imageOf s brick y)
@@ -104,24 +104,24 @@ module _ (s : Settings) (brick : ℕ) (l : List ℕ) (k : Known) (r : Ready s br
   )
 
   pub change-write : (v : Bool) (image : List ℕ) → msg .kind ≡ 4 → v ≡ writeYes s (brickIn s l) (msg .time)
-      → image ≡ imageOf s brick (written s (brickIn s l) (msg .time) block)
-      → (v ≡ yesTo s (brickIn s l) msg) × (image ≡ imageOf s brick (after s (brickIn s l) msg block))
-  unfolding yesTo after
+      → image ≡ imageOf s brick (writtenIfYes s (brickIn s l) (msg .time) block)
+      → (v ≡ yesTo s (brickIn s l) msg) × (image ≡ imageOf s brick (brickAfter s (brickIn s l) msg block))
+  unfolding yesTo brickAfter
   change-write v image e ev ei = (
     ev ∙ sym (rw (ne-eqb (msg .kind) 1 (λ q. omega (arith, e, q)), eq-eqb (msg .kind) 4 e) refl),
     ei ∙ ap (λ (y : Brick). imageOf s brick y) (sym (rw (ne-eqb (msg .kind) 5 (λ q. omega (arith, e, q)), eq-eqb (msg .kind) 4 e) refl)),
   )
 
   pub change-order : (v : Bool) (image : List ℕ) → (msg .kind ≡ 5 → ⊥) → (msg .kind ≡ 1 → ⊥) → (msg .kind ≡ 4 → ⊥) → v ≡ orderYes (brickIn s l) (msg .time)
-      → image ≡ imageOf s brick (ordered (brickIn s l) (msg .time))
-      → (v ≡ yesTo s (brickIn s l) msg) × (image ≡ imageOf s brick (after s (brickIn s l) msg block))
-  unfolding yesTo after
+      → image ≡ imageOf s brick (orderedIfYes (brickIn s l) (msg .time))
+      → (v ≡ yesTo s (brickIn s l) msg) × (image ≡ imageOf s brick (brickAfter s (brickIn s l) msg block))
+  unfolding yesTo brickAfter
   change-order v image a b c ev ei = (
     ev ∙ sym (rw (ne-eqb (msg .kind) 1 b, ne-eqb (msg .kind) 4 c) refl),
     ei ∙ ap (λ (y : Brick). imageOf s brick y) (sym (rw (ne-eqb (msg .kind) 5 a, ne-eqb (msg .kind) 4 c, ne-eqb (msg .kind) 1 b) refl)),
   )
 
 -- nothing to drop
-pub trim-none : (s : Settings) (brick : ℕ) (l : List ℕ) (k : Known) (d : ℕ) → Ready s brick l k → d ≡ 0 → l ≡ imageOf s brick (without (brickIn s l) d)
+pub trim-none : (s : Settings) (brick : ℕ) (l : List ℕ) (k : Known) (d : ℕ) → LogReady s brick l k → d ≡ 0 → l ≡ imageOf s brick (without (brickIn s l) d)
 unfolding without
 trim-none s brick l k d r e = r .saved .is-image ∙ ap (λ (j : ℕ). imageOf s brick (record { promise = brickIn s l .promise; log = drop j (brickIn s l .log) })) (sym e)

@@ -8,7 +8,7 @@ use native.Mathlib.Numerals.{add-one}
 use lib.Dec.{leb, ltb}
 use lib.ListN.{length, take, drop, getD, length-take, length-drop, drop-of-length-le}
 use borrow.Author.Tests.{lt-ltb, le-ltb, le-leb, eq-eqb, ne-eqb}
-use Rattle.image.specs.Brick.{Brick, count, timeAt}
+use Rattle.image.specs.Brick.{Brick, entryCount, timeAt}
 use Rattle.image.specs.Opening.{workingLog, placeIn, blank}
 use Rattle.image.proofs.Laws.HubLaws.{log-at}
 use Rattle.image.specs.declared.Entry.{Entry}
@@ -20,13 +20,13 @@ use Rattle.brick_log.specs.declared.Known.{Known}
 use Rattle.brick_log.specs.declared.Plan.{Plan}
 use Rattle.brick_log.specs.declared.Looked.{Looked}
 use Rattle.brick_log.specs.declared.Looked.the-variants.{Under, Nothing}
-use Rattle.brick_log.specs.Workers.{underIn, lookedIn, Cut, placeOf, timeOf, planOf, planIn, readPlace, underFor, Planned, gaveOf}
+use Rattle.brick_log.specs.Workers.{underIn, lookedIn, Cut, lookedPlace, lookedTime, planOf, planIn, readPlace, underFor, Planned, gaveOf}
 
 -- turn by turn, from the newest down
-pub under-found : (log : List Entry) (max n i count : ℕ) → n ≡ suc i → getD log i blank .time < max → underIn log max n ≡ underIn log max count
-    → Under (getD log i blank) ≡ lookedIn log (underIn log max count)
+pub under-found : (log : List Entry) (max n i entryCount : ℕ) → n ≡ suc i → getD log i blank .time < max → underIn log max n ≡ underIn log max entryCount
+    → Under (getD log i blank) ≡ lookedIn log (underIn log max entryCount)
 unfolding underIn lookedIn
-under-found log max n i count e h w =
+under-found log max n i entryCount e h w =
     sym (ap (λ (k : ℕ). lookedIn log (underIn log max k)) e ∙ rw (lt-ltb (getD log i blank .time) max h) refl) ∙ ap (λ (k : ℕ). lookedIn log k) w
 
 pub under-high : (log : List Entry) (max n : ℕ) → underIn log max n ≤ n
@@ -43,7 +43,7 @@ unfolding underIn
 under-down log max n i e h = ap (λ (k : ℕ). underIn log max k) e ∙ rw (le-ltb (getD log i blank .time) max h) refl
 
 -- ... is the lookup in the brick
-pub under-brick : (x : Brick) (max n : ℕ) → n ≤ count x → count x ≤ 32 → underIn (workingLog x) max n ≡ under x max n
+pub under-brick : (x : Brick) (max n : ℕ) → n ≤ entryCount x → entryCount x ≤ 32 → underIn (workingLog x) max n ≡ under x max n
 unfolding underIn under
 under-brick x max zero h c = refl
 under-brick x max (suc i) h c =
@@ -65,16 +65,16 @@ pub plan-entry : (f : Looked) (e : Entry) (place : ℕ) → f ≡ Under e → pl
 unfolding planIn planOf
 plan-entry f e place h p = ap (λ (q : ℕ). record { place = q; found = e .time; cut = 0 }) p ∙ sym (ap planIn h)
 
-pub plan-looked : (log : List Entry) (n : ℕ) → planIn (lookedIn log n) ≡ planOf (placeOf log n) (timeOf log n) 0
-unfolding planIn lookedIn planOf placeOf timeOf
+pub plan-looked : (log : List Entry) (n : ℕ) → planIn (lookedIn log n) ≡ planOf (lookedPlace log n) (lookedTime log n) 0
+unfolding planIn lookedIn planOf lookedPlace lookedTime
 plan-looked log zero = refl
 plan-looked log (suc i) =
     let m : suc i - 1 ≡ i = omega arith in
     rw (ne-eqb (suc i) 0 (λ q. omega (arith, q)))
     (ap (λ (k : ℕ). record { place = placeIn (getD log k blank .holding); found = getD log k blank .time; cut = 0 }) (sym m))
 
-pub place-brick : (x : Brick) (n : ℕ) → n ≤ count x → count x ≤ 32 → placeOf (workingLog x) n ≡ n
-unfolding placeOf placeIn
+pub place-brick : (x : Brick) (n : ℕ) → n ≤ entryCount x → entryCount x ≤ 32 → lookedPlace (workingLog x) n ≡ n
+unfolding lookedPlace placeIn
 place-brick x zero h c = refl
 place-brick x (suc i) h c =
     let m : suc i - 1 ≡ i = omega arith in
@@ -82,8 +82,8 @@ place-brick x (suc i) h c =
     (ap (λ (k : ℕ). placeIn (getD (workingLog x) k blank .holding)) m
     ∙ ap (λ (v : Entry). placeIn (v .holding)) (log-at x i blank (omega arith) c) ∙ add-one i)
 
-pub time-brick : (x : Brick) (n : ℕ) → n ≤ count x → count x ≤ 32 → timeOf (workingLog x) n ≡ timeFor x n
-unfolding timeOf timeFor
+pub time-brick : (x : Brick) (n : ℕ) → n ≤ entryCount x → entryCount x ≤ 32 → lookedTime (workingLog x) n ≡ timeFor x n
+unfolding lookedTime timeFor
 time-brick x zero h c = refl
 time-brick x (suc i) h c =
     let m : suc i - 1 ≡ i = omega arith in
@@ -99,17 +99,17 @@ unfolding underFor planOf
 planned-look log k msg brick v f p e ev t ef eq =
     let n : ℕ = underIn log (msg .max) (k .count) in
     let u : n ≡ cond (ltb (k .newest) (msg .time) && leb (k .promise) (msg .time)) (underIn log (msg .max) (k .count)) 0 = sym (rw (sym ev ∙ t) refl) in
-    let ep : p ≡ planOf (placeOf log n) (timeOf log n) 0 = eq ∙ ap planIn ef ∙ plan-looked log n in
+    let ep : p ≡ planOf (lookedPlace log n) (lookedTime log n) 0 = eq ∙ ap planIn ef ∙ plan-looked log n in
     record {
       cuts = λ q. absurd (omega (arith, e, q));
       reads = λ q. absurd (omega (arith, e, q));
-      looks = λ q. (ap (λ (z : Plan). z .place) ep ∙ ap (λ (j : ℕ). placeOf log j) u, ap (λ (z : Plan). z .found) ep ∙ ap (λ (j : ℕ). timeOf log j) u);
+      looks = λ q. (ap (λ (z : Plan). z .place) ep ∙ ap (λ (j : ℕ). lookedPlace log j) u, ap (λ (z : Plan). z .found) ep ∙ ap (λ (j : ℕ). lookedTime log j) u);
       others = λ a b. absurd (b e);
     }
 
 pub planned-no : (log : List Entry) (k : Known) (msg : Message) (brick : ℕ) (v : Bool) → msg .kind ≡ 3
     → v ≡ ltb (k .newest) (msg .time) && leb (k .promise) (msg .time) → v ≡ false → Planned log k msg brick (record { place = 0; found = 0; cut = 0 })
-unfolding underFor placeOf timeOf
+unfolding underFor lookedPlace lookedTime
 planned-no log k msg brick v e ev t =
     record {
       cuts = λ q. absurd (omega (arith, e, q));
@@ -138,9 +138,9 @@ gave-block l size place a out after z n e h w =
     ∙ is
     ∙ sym (rw (ne-eqb place 0 z) refl)
 
-pub under-none : (log : List Entry) (max n count : ℕ) → n ≤ 0 → underIn log max n ≡ underIn log max count → Nothing ≡ lookedIn log (underIn log max count)
+pub under-none : (log : List Entry) (max n entryCount : ℕ) → n ≤ 0 → underIn log max n ≡ underIn log max entryCount → Nothing ≡ lookedIn log (underIn log max entryCount)
 unfolding underIn lookedIn
-under-none log max n count h e = let z : n ≡ 0 = omega arith in ap (λ (k : ℕ). lookedIn log (underIn log max k)) (sym z) ∙ ap (λ (k : ℕ). lookedIn log k) e
+under-none log max n entryCount h e = let z : n ≡ 0 = omega arith in ap (λ (k : ℕ). lookedIn log (underIn log max k)) (sym z) ∙ ap (λ (k : ℕ). lookedIn log k) e
 
 -- the ways of Read
 pub read-target : (k : Known) (targets : List ℕ) (brick : ℕ) (v : Bool) → k .promise ≤ k .newest → v ≡ member targets brick → v ≡ true → k .count ≡ readPlace k targets brick

@@ -4,7 +4,7 @@ use mathlib.Core.List.{List}
 use Prim.Native.Nat.{ℕ, _*_, _≤_, _<_}
 use native.Mathlib.Omega.{arith}
 use Rattle.coord_apply.specs.Acts.{stripeFrom, roundMessage, trimMessage, nextOp, nextRound, ending, finishedSeen, acted}
-use Rattle.coord_apply.specs.Answers.{Held, noMessage, readSeen, abortedSeen, sentCount, sentMessage, sentBlocks, answerOf}
+use Rattle.coord_apply.specs.Answers.{Buffered, noMessage, readSeen, abortedSeen, sentCount, sentMessage, sentBlocks, answerOf}
 use Rattle.coord_apply.specs.declared.Answer.{Answer}
 use Rattle.coord_record.specs.Records.{noBricks}
 use Rattle.coord_record.specs.declared.Coordinator.{Coordinator}
@@ -12,7 +12,7 @@ use Rattle.coord_tally.specs.Counting.{picked, targetRow, atTimes}
 use Rattle.coord_record.specs.declared.Op.{Op}
 use Rattle.coord_record.specs.declared.Tally.{Tally}
 use Rattle.coord_decide.specs.Deciding.{decided}
-use Rattle.coord_decide.specs.Decisions.{Says, holders}
+use Rattle.coord_decide.specs.Decisions.{DecisionSays, holders}
 use Rattle.coord_decide.proofs.Laws.SaysLaws.{says-of}
 use Rattle.coord_decide.specs.declared.Decision.{Decision}
 use Rattle.coord_decide.specs.declared.Decision.the-variants.{Abort, Give, Look, Store, Recover, Finish}
@@ -26,17 +26,17 @@ use Rattle.coord_tally.proofs.Laws.RowSets.{target-set, target-below, picked-se
 use Rattle.coord_apply.specs.Workers.{InPlace}
 use Rattle.coord_apply.proofs.Laws.BufferLaws.{in-place}
 use Rattle.interpolate.specs.Values.{PointSet}
-use Rattle.coord_apply.specs.Acts.{heldOf}
+use Rattle.coord_apply.specs.Acts.{buffered}
 use Rattle.coord_apply.specs.Workers.{openAnswer, endAnswer, Acted}
 
 module _ (n m size : ℕ) (c : Coordinator) (blocks stripe coded : List ℕ) where
-  pub acted-abort : (r : Answer) → r ≡ endAnswer c abortedSeen noBricks 0 noMessage → Acted n m size (heldOf c blocks stripe) Abort coded r stripe coded
-  unfolding acted ending answerOf sentCount sentMessage sentBlocks endAnswer heldOf
+  pub acted-abort : (r : Answer) → r ≡ endAnswer c abortedSeen noBricks 0 noMessage → Acted n m size (buffered c blocks stripe) Abort coded r stripe coded
+  unfolding acted ending answerOf sentCount sentMessage sentBlocks endAnswer buffered
   acted-abort r e = record { answer = e; stripe-left = refl; coded-left = refl }
 
   pub acted-give : (r : Answer) (row stripe′ : List ℕ) → row ≡ targetRow n m (c .op .first) → stripe′ ≡ stripeFrom m size row blocks
-      → r ≡ endAnswer c readSeen row 0 noMessage → Acted n m size (heldOf c blocks stripe) Give coded r stripe′ coded
-  unfolding acted ending answerOf sentCount sentMessage sentBlocks endAnswer heldOf
+      → r ≡ endAnswer c readSeen row 0 noMessage → Acted n m size (buffered c blocks stripe) Give coded r stripe′ coded
+  unfolding acted ending answerOf sentCount sentMessage sentBlocks endAnswer buffered
   acted-give r row stripe′ er es e =
       record {
         answer = e ∙ ap (λ (l : List ℕ). endAnswer c readSeen l 0 noMessage) er;
@@ -44,19 +44,19 @@ module _ (n m size : ℕ) (c : Coordinator) (blocks stripe coded : List ℕ) whe
         coded-left = refl;
       }
 
-  pub acted-look : (r : Answer) (max : ℕ) → r ≡ openAnswer c orderReadKind max noBricks → Acted n m size (heldOf c blocks stripe) (Look max) coded r stripe coded
-  unfolding acted nextRound roundMessage nextOp answerOf sentCount sentMessage sentBlocks openAnswer heldOf
+  pub acted-look : (r : Answer) (max : ℕ) → r ≡ openAnswer c orderReadKind max noBricks → Acted n m size (buffered c blocks stripe) (Look max) coded r stripe coded
+  unfolding acted nextRound roundMessage nextOp answerOf sentCount sentMessage sentBlocks openAnswer buffered
   acted-look r max e = record { answer = e; stripe-left = refl; coded-left = refl }
 
   pub acted-store : (r : Answer) (coded′ : List ℕ) → coded′ ≡ codedOf n m size stripe → r ≡ openAnswer c writeKind 0 noBricks
-      → Acted n m size (heldOf c blocks stripe) Store coded r stripe coded′
-  unfolding acted nextRound roundMessage nextOp answerOf sentCount sentMessage sentBlocks openAnswer heldOf
+      → Acted n m size (buffered c blocks stripe) Store coded r stripe coded′
+  unfolding acted nextRound roundMessage nextOp answerOf sentCount sentMessage sentBlocks openAnswer buffered
   acted-store r coded′ ec e = record { answer = e; stripe-left = refl; coded-left = ec }
 
   pub acted-recover : (r : Answer) (time : ℕ) (row stripe′ coded′ : List ℕ) → row ≡ picked (c .tally .held) (c .tally .found) time n m
       → stripe′ ≡ stripeFrom m size row blocks → coded′ ≡ codedOf n m size stripe′ → r ≡ openAnswer c writeKind 0 row
-      → Acted n m size (heldOf c blocks stripe) (Recover time) coded r stripe′ coded′
-  unfolding acted nextRound roundMessage nextOp answerOf sentCount sentMessage sentBlocks openAnswer heldOf
+      → Acted n m size (buffered c blocks stripe) (Recover time) coded r stripe′ coded′
+  unfolding acted nextRound roundMessage nextOp answerOf sentCount sentMessage sentBlocks openAnswer buffered
   acted-recover r time row stripe′ coded′ er es ec e =
       let s = es ∙ ap (λ (l : List ℕ). stripeFrom m size l blocks) er in
       record {
@@ -66,8 +66,8 @@ module _ (n m size : ℕ) (c : Coordinator) (blocks stripe coded : List ℕ) whe
       }
 
   pub acted-finish : (r : Answer) (what : ℕ) (trim : Message) → what ≡ finishedSeen (c .op) → trim ≡ trimMessage (c .op)
-      → r ≡ endAnswer c what (c .bricks) 1 trim → Acted n m size (heldOf c blocks stripe) Finish coded r stripe coded
-  unfolding acted ending answerOf sentCount sentMessage sentBlocks endAnswer heldOf trimMessage
+      → r ≡ endAnswer c what (c .bricks) 1 trim → Acted n m size (buffered c blocks stripe) Finish coded r stripe coded
+  unfolding acted ending answerOf sentCount sentMessage sentBlocks endAnswer buffered trimMessage
   acted-finish r what trim ew et e =
       record {
         answer = e ∙ ap (λ (w : ℕ). endAnswer c w (c .bricks) 1 trim) ew ∙ ap (λ (t : Message). endAnswer c (finishedSeen (c .op)) (c .bricks) 1 t) et;
@@ -76,7 +76,7 @@ module _ (n m size : ℕ) (c : Coordinator) (blocks stripe coded : List ℕ) whe
       }
 
 -- the same at a decision that is one of these
-pub acted-at : (n m size : ℕ) (h : Held) (d d′ : Decision) (coded : List ℕ) (r : Answer) (stripe′ coded′ : List ℕ)
+pub acted-at : (n m size : ℕ) (h : Buffered) (d d′ : Decision) (coded : List ℕ) (r : Answer) (stripe′ coded′ : List ℕ)
     → d ≡ d′ → Acted n m size h d′ coded r stripe′ coded′ → Acted n m size h d coded r stripe′ coded′
 acted-at n m size h d d′ coded r stripe′ coded′ e a = subst (λ (x : Decision). Acted n m size h x coded r stripe′ coded′) (sym e) a
 
@@ -107,5 +107,5 @@ stripe-by m size row row′ blocks s e er = e ∙ ap (λ (l : List ℕ). stripeF
 -- a recovery is decided only with enough blocks
 pub recover-enough : (n m time : ℕ) (op : Op) (t : Tally) (d : Decision) → d ≡ Recover time → d ≡ decided n m op t
     → m ≤ count (atTimes (t .held) (t .found) time) n
-unfolding holders Says
+unfolding holders DecisionSays
 recover-enough n m time op t d e q = says-of n m op t (Recover time) (sym e ∙ q) .enough

@@ -11,13 +11,13 @@ use borrow.Rule.Slice.PartMut.{putMid}
 use Rattle.byte_lists.specs.Lists.{put}
 use Rattle.byte_lists.proofs.Laws.PutLaws.{put-mid}
 use Rattle.erasure.specs.Code.{blockOf}
-use Rattle.coord_apply.specs.Acts.{gathered, stripeFrom, placed}
+use Rattle.coord_apply.specs.Acts.{gathered, stripeFrom, withReplyBlock}
 use Rattle.coord_apply.specs.Workers.{InPlace}
 
 -- a part of the blocks replaced
 pub place-is : (size b at : ℕ) (block blocks ys : List ℕ) → length block ≡ size → at ≡ b * size → ys ≡ block
-    → putMid at (at + size - at) blocks ys ≡ placed size b block blocks
-unfolding placed
+    → putMid at (at + size - at) blocks ys ≡ withReplyBlock size b block blocks
+unfolding withReplyBlock
 place-is size b at block blocks ys n e f =
     ap (putMid at (at + size - at) blocks) f ∙ put-mid at (at + size) blocks block (omega arith) (omega arith)
     ∙ ap (λ (k : ℕ). put k block blocks) e

@@ -15,18 +15,18 @@ use Rattle.coord_decide.specs.declared.Decision.the-variants.{Abort, Giv
 use Rattle.message.specs.Flags.{members}
 use Rattle.settings.specs.Count.{count}
 use Rattle.settings.specs.Times.{noUpperEnd}
-use Rattle.coord_decide.specs.Decisions.{AllYes, found-time, holders, Says}
+use Rattle.coord_decide.specs.Decisions.{AllYes, found-time, holders, DecisionSays}
 
 module _ (n m : ℕ) (op : Op) (t : Tally) where
-  says-read : op .phase ≡ 1 → Says n m op t (decidedRead n m op t)
-  unfolding Says decidedRead AllYes
+  says-read : op .phase ≡ 1 → DecisionSays n m op t (decidedRead n m op t)
+  unfolding DecisionSays decidedRead AllYes
   says-read p =
       go (some (saidNo (t .counted) (t .granted)) n) (some (otherTime (t .counted) (t .found) (highest (t .counted) (t .found) n)) n)
       (some (missing n m (op .first) (t .counted)) n) refl refl refl
     where
       go : (a b d : Bool) → some (saidNo (t .counted) (t .granted)) n ≡ a
           → some (otherTime (t .counted) (t .found) (highest (t .counted) (t .found) n)) n ≡ b → some (missing n m (op .first) (t .counted)) n ≡ d
-          → Says n m op t (cond (a || b || d) (Look noUpperEnd) Give)
+          → DecisionSays n m op t (cond (a || b || d) (Look noUpperEnd) Give)
       go true true true ea eb ed = inl (p, refl)
       go true true false ea eb ed = inl (p, refl)
       go true false true ea eb ed = inl (p, refl)
@@ -36,13 +36,13 @@ module _ (n m : ℕ) (op : Op) (t : Tally) where
       go false false true ea eb ed = inl (p, refl)
       go false false false ea eb ed = record { phase-is = p; all-yes = ea; one-time = eb; targets-in = ed }
 
-  says-at : (time : ℕ) → op .phase ≡ 3 → AllYes n t → (members (t .held) n ≡ 0 → ⊥) → time ≡ found-time n t → Says n m op t (decidedAt n m (op .round) t time)
-  unfolding Says decidedAt unlessSpent holders
+  says-at : (time : ℕ) → op .phase ≡ 3 → AllYes n t → (members (t .held) n ≡ 0 → ⊥) → time ≡ found-time n t → DecisionSays n m op t (decidedAt n m (op .round) t time)
+  unfolding DecisionSays decidedAt unlessSpent holders
   says-at time p y h e =
       go (leb m (count (atTimes (t .held) (t .found) time) n)) (ltb (op .round) 1000) (eqb time 0) refl refl refl
     where
       go : (a b d : Bool) → leb m (count (atTimes (t .held) (t .found) time) n) ≡ a → ltb (op .round) 1000 ≡ b → eqb time 0 ≡ d
-          → Says n m op t (cond a (cond b (Recover time) Abort) (cond d Abort (cond b (Look time) Abort)))
+          → DecisionSays n m op t (cond a (cond b (Recover time) Abort) (cond d Abort (cond b (Look time) Abort)))
       go true true d ea eb ed =
           record {
             phase-is = p;
@@ -68,15 +68,15 @@ module _ (n m : ℕ) (op : Op) (t : Tally) where
       go false false false ea eb ed = tt
 
   -- Each decision says this of its round.
-  pub decided-says : Says n m op t (decided n m op t)
-  unfolding Says decided decidedRecovery AllYes found-time
+  pub decided-says : DecisionSays n m op t (decided n m op t)
+  unfolding DecisionSays decided decidedRecovery AllYes found-time
   decided-says =
       go (eqb (op .phase) 1) (some (saidNo (t .counted) (t .granted)) n) (eqb (op .phase) 2) (eqb (op .phase) 3) (eqb (members (t .held) n) 0)
       refl refl refl refl refl
     where
       go : (a b d f g : Bool) → eqb (op .phase) 1 ≡ a → some (saidNo (t .counted) (t .granted)) n ≡ b → eqb (op .phase) 2 ≡ d → eqb (op .phase) 3 ≡ f
           → eqb (members (t .held) n) 0 ≡ g
-          → Says n m op t
+          → DecisionSays n m op t
           (cond a (decidedRead n m op t) (cond b Abort (cond d Store (cond f (cond g Abort (decidedAt n m (op .round) t (highest (t .held) (t .found) n))) Finish))))
       go true b d f g ea eb ed ef eg = says-read (eqb-true (op .phase) 1 ea)
       go false true d f g ea eb ed ef eg = tt
@@ -92,5 +92,5 @@ module _ (n m : ℕ) (op : Op) (t : Tally) where
             all-yes = eb;
           }
 
-  pub says-of : (d : Decision) → d ≡ decided n m op t → Says n m op t d
+  pub says-of : (d : Decision) → d ≡ decided n m op t → DecisionSays n m op t d
   says-of d e = rw e decided-says

@@ -9,7 +9,7 @@ use lib.ListN.{length, getD, take, drop}
 use lib.Seq.{getD-take, length-take-le}
 use Rattle.byte_lists.specs.Lists.{put}
 use Rattle.byte_lists.proofs.Laws.PutLaws.{put-length, put-in, put-before, put-behind}
-use Rattle.coord_apply.specs.Acts.{gathered, stripeFrom, placed}
+use Rattle.coord_apply.specs.Acts.{gathered, stripeFrom, withReplyBlock}
 use Rattle.erasure.specs.Code.{codedOf, decodedOf}
 use Rattle.erasure.specs.Code.{blockOf, Stripe, Bricks, blocksOf}
 use Rattle.erasure.proofs.Laws.Theorems.{decode-encode}
@@ -18,18 +18,18 @@ use Rattle.byte_lists.specs.Lists.{stacked}
 use Rattle.settings.specs.Ranges.{CodeRange}
 
 -- a brick's own block
-pub placed-same : (size b : ℕ) (block blocks : List ℕ) → length block ≡ size → b * size + size ≤ length blocks → blockOf size (placed size b block blocks) b ≡ block
-unfolding blockOf placed
+pub placed-same : (size b : ℕ) (block blocks : List ℕ) → length block ≡ size → b * size + size ≤ length blocks → blockOf size (withReplyBlock size b block blocks) b ≡ block
+unfolding blockOf withReplyBlock
 placed-same size b block blocks e h = put-in (b * size) size block blocks e (omega arith)
 
-pub placed-long : (size b : ℕ) (block blocks : List ℕ) → length block ≡ size → b * size + size ≤ length blocks → length (placed size b block blocks) ≡ length blocks
-unfolding placed
+pub placed-long : (size b : ℕ) (block blocks : List ℕ) → length block ≡ size → b * size + size ≤ length blocks → length (withReplyBlock size b block blocks) ≡ length blocks
+unfolding withReplyBlock
 placed-long size b block blocks e h = put-length (b * size) block blocks (omega arith)
 
 -- the others
 pub placed-other : (size b j : ℕ) (block blocks : List ℕ) → length block ≡ size → b * size + size ≤ length blocks → (j ≡ b → ⊥)
-    → blockOf size (placed size b block blocks) j ≡ blockOf size blocks j
-unfolding blockOf placed
+    → blockOf size (withReplyBlock size b block blocks) j ≡ blockOf size blocks j
+unfolding blockOf withReplyBlock
 placed-other size b j block blocks e h n = go (decLt j b)
   where
     go : Dec (j < b) → take size (drop (j * size) (put (b * size) block blocks)) ≡ take size (drop (j * size) blocks)

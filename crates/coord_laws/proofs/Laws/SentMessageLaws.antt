@@ -20,7 +20,7 @@ use Rattle.settings.specs.Times.{maxCount, noUpperEnd, timeOf, validTime}
 use Rattle.settings.specs.declared.Clock.{Clock}
 
 -- what a running operation that is right has
-pub record Running (op : Op) : Type 0 where
+pub record RunningOp (op : Op) : Type 0 where
   pub phase-low : 1 ≤ op .phase
   pub phase-high : op .phase ≤ 4
   pub round-low : 1 ≤ op .round
@@ -34,10 +34,10 @@ max-high round max e = go (eqb round 2) e
     go true q = let z = eqb-true max noUpperEnd q in omega arith
     go false q = let z = ltb-true max noUpperEnd (and-right (leb (timeOf 1 0) max) (ltb max noUpperEnd) q) in omega arith
 
-pub running : (op : Op) → opRight op ≡ true → (op .kind ≡ 0 → ⊥) → Running op
+pub running : (op : Op) → opRight op ≡ true → (op .kind ≡ 0 → ⊥) → RunningOp op
 running op e k = go (fit op e (λ z _. k z))
   where
-    go : Fit op → Running op
+    go : Fit op → RunningOp op
     go (reading k p r) = record { phase-low = omega arith; phase-high = omega arith; round-low = omega arith; max-low = λ q. absurd (omega arith) }
     go (looking k p r m) = record { phase-low = omega arith; phase-high = omega arith; round-low = omega arith; max-low = λ q. max-high (op .round) (op .max) m }
     go (restoring k p r) = record { phase-low = omega arith; phase-high = omega arith; round-low = omega arith; max-low = λ q. absurd (omega arith) }
@@ -72,7 +72,7 @@ message-passes n m c targets g k t =
     )
     (go r (eqb (c .op .phase) 3) (eqb (c .op .phase) 1) refl refl)
   where
-    go : Running (c .op) → (a b : Bool) → eqb (c .op .phase) 3 ≡ a → eqb (c .op .phase) 1 ≡ b
+    go : RunningOp (c .op) → (a b : Bool) → eqb (c .op .phase) 3 ≡ a → eqb (c .op .phase) 1 ≡ b
         → _≡_ {A = ℕ} (cond (cond a (leb (c .op .max) noUpperEnd) (cond b (brickSet targets n m) (leb 1 (c .op .phase) && leb (c .op .phase) 5))) 0 10) 0
     go r true b ea eb = rw (le-leb (c .op .max) noUpperEnd (r .max-low (eqb-true (c .op .phase) 3 ea)))
     go r false true ea eb = rw (t (eqb-true (c .op .phase) 1 eb))

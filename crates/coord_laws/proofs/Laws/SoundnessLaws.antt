@@ -9,7 +9,7 @@ use lib.Dec.{eqb, leb, ltb}
 use lib.ListN.{length, getD, take, replicate, length-take, List·getD-eq-default}
 use borrow.Author.Tests.{eq-eqb, ne-eqb, le-leb, lt-ltb, le-ltb, eqb-false, leb-true, ltb-true, ltb-false}
 use Rattle.coord_apply.specs.Acts.{nextOp, opened, nextRound, ending, acted, withTally, counting, waitingOr, firstOp, starting}
-use Rattle.coord_apply.specs.Answers.{Held, Went, Step, refused, went, checked, nothingSeen, cutSeen}
+use Rattle.coord_apply.specs.Answers.{Buffered, Went, Step, refused, went, afterChecks, nothingSeen, cutSeen}
 use Rattle.coord_refusals.specs.Checks.{recordChecks, writeRefusal, readRefusal, takeRefusal, crashRefusal}
 use Rattle.coordinator.specs.Routines.{drawnThen, writeStep, readStep, takeStep, crashed, crashStep}
 use Rattle.coordinator.proofs.Laws.RoutineLaws.{take-passed, first-low}
@@ -19,14 +19,14 @@ use Rattle.coord_laws.proofs.Laws.TallyLaws.{Answering, answering, Repl
 use Rattle.byte_lists.proofs.Laws.EachLaws.{each-all}
 use Rattle.coord_record.specs.Records.{noOp, noBricks, nothingCounted, idleWith}
 use Rattle.coord_record.specs.CountedRules.{entryRight, tallyRight, brickRight, bricksRight}
-use Rattle.coord_record.specs.Sound.{opRight, unsetOp, readRight, writeRight, timeRight, namedCount, sound}
+use Rattle.coord_record.specs.Sound.{opRight, unsetOp, readRight, writeRight, timeRight, namedCount, soundRecord}
 use Rattle.coord_record.proofs.Laws.SoundPartLaws.{sound-from}
 use Rattle.coord_record.specs.declared.Coordinator.{Coordinator}
 use Rattle.coord_record.specs.declared.Op.{Op}
 use Rattle.coord_record.specs.declared.Tally.{Tally}
 use Rattle.coord_tally.specs.Counting.{atTimes, passing, inRow, picked, targetFlags}
 use Rattle.coord_decide.specs.Deciding.{tallied, decided}
-use Rattle.coord_decide.specs.Decisions.{Says, Lowers, Recovers, found-time, holders}
+use Rattle.coord_decide.specs.Decisions.{DecisionSays, Lowers, Recovers, found-time, holders}
 use Rattle.coord_decide.proofs.Laws.SaysLaws.{decided-says}
 use Rattle.coord_tally.proofs.Laws.RowSets.{picked-below, picked-rises}
 use Rattle.coord_decide.specs.declared.Decision.{Decision}
@@ -176,9 +176,9 @@ recovered-good n m size c time r f s =
     ∙ picked-right (c .tally .held) (c .tally .found) time n m (omega (arith, r .m-high, r .n-high)) (s .enough))
 
 -- What a decision leaves is good.
-pub acted-good : (n m size : ℕ) (h : Held) → CodeRange n m size → Full n m (h .state)
+pub acted-good : (n m size : ℕ) (h : Buffered) → CodeRange n m size → Full n m (h .state)
     → Good n m (acted n m size h (decided n m (h .state .op) (h .state .tally)) .next .state)
-unfolding acted ending nextRound Says
+unfolding acted ending nextRound DecisionSays
 acted-good n m size h r f = go (decided n m (h .state .op) (h .state .tally)) (decided-says n m (h .state .op) (h .state .tally))
   where
     idle : Good n m (idleWith (h .state .clock))
@@ -195,7 +195,7 @@ acted-good n m size h r f = go (decided n m (h .state .op) (h .state .tally)) (d
         look max (next-recovery (h .state .op) max (in-recovery (h .state .op) (f .op-right) (w .phase-is)) (w .round-low)
         (lowers-valid n m (h .state .op) (h .state .tally) max (r .n-high) (f .tally-right) w))
 
-    go : (d : Decision) → Says n m (h .state .op) (h .state .tally) d → Good n m (acted n m size h d .next .state)
+    go : (d : Decision) → DecisionSays n m (h .state .op) (h .state .tally) d → Good n m (acted n m size h d .next .state)
     go Abort s = idle
     go Give s = idle
     go (Look max) s = looked max s
@@ -222,7 +222,7 @@ counted-full n m size c r g k p a =
       sizes = tallied-sized (c .tally) r (k .sizes);
     }
 
-pub waiting-good : (n m size : ℕ) (h : Held) → CodeRange n m size → Full n m (h .state) → Good n m (waitingOr n m size h .next .state)
+pub waiting-good : (n m size : ℕ) (h : Buffered) → CodeRange n m size → Full n m (h .state) → Good n m (waitingOr n m size h .next .state)
 unfolding waitingOr
 waiting-good n m size h r f = go (ltb (members (h .state .tally .counted) n) (quorum n m)) refl
   where
@@ -249,8 +249,8 @@ waiting-good n m size h r f = go (ltb (members (h .state .tally .counted) n) (qu
     go false e = acted-good n m size h r f
 
 -- a step that is not refused passed its checks
-pub passes : (k : ℕ) (s : Step) (w : Went) → checked k s ≡ went w → (k ≡ 0) × (s ≡ went w)
-unfolding checked
+pub passes : (k : ℕ) (s : Step) (w : Went) → afterChecks k s ≡ went w → (k ≡ 0) × (s ≡ went w)
+unfolding afterChecks
 passes k s w e = go (leb k 0) refl e
   where
     go : (b : Bool) → leb k 0 ≡ b → cond b s (refused k) ≡ went w → (k ≡ 0) × (s ≡ went w)
@@ -261,7 +261,7 @@ pub same-went : (v w : Went) → went v ≡ went w → v ≡ w
 same-went v w e = cc
 
 -- EVERY RECORD THAT A ROUTINE LEAVES IS SOUND. A reply:
-pub take-good : (n m size : ℕ) (h : Held) (r : Reply) (block : List ℕ) (coded : ℕ) (w : Went) → Good n m (h .state)
+pub take-good : (n m size : ℕ) (h : Buffered) (r : Reply) (block : List ℕ) (coded : ℕ) (w : Went) → Good n m (h .state)
     → takeStep n m size h r block coded ≡ went w → Good n m (w .next .state)
 unfolding takeStep counting
 take-good n m size h r block coded w g e =
@@ -272,7 +272,7 @@ take-good n m size h r block coded w g e =
     (counted-full n m size (h .state) r (t .range) g (reply-parts n r (t .reply-right)) (answering n m (h .state .op) (h .state .tally) r (t .in-round))))
 
 -- A crash:
-pub crash-good : (n m size : ℕ) (h : Held) (w : Went) → Good n m (h .state) → crashStep n m size h ≡ went w → Good n m (w .next .state)
+pub crash-good : (n m size : ℕ) (h : Buffered) (w : Went) → Good n m (h .state) → crashStep n m size h ≡ went w → Good n m (w .next .state)
 unfolding crashStep crashed crashRefusal ending
 crash-good n m size h w g e = go (eqb (h .state .op .kind) 0) (p .1)
   where
@@ -337,7 +337,7 @@ drawn-went (Drawn t next) f w e = (t, next, refl, same-went (f t next) w e)
 drawn-went (Refused k) f w e = absurd (let z : _≡_ {A = ℕ} 0 1 = cc in omega arith)
 
 -- A write:
-pub write-good : (n m size : ℕ) (h : Held) (reading : ℕ) (bytes : List ℕ) (w : Went) → writeStep n m size h reading bytes ≡ went w → Good n m (w .next .state)
+pub write-good : (n m size : ℕ) (h : Buffered) (reading : ℕ) (bytes : List ℕ) (w : Went) → writeStep n m size h reading bytes ≡ went w → Good n m (w .next .state)
 unfolding writeStep writeRefusal starting
 write-good n m size h reading bytes w e =
     let f : ℕ → Clock → Went = λ time clock. starting h clock (firstOp 2 2 time 0) bytes noBricks in
@@ -348,7 +348,7 @@ write-good n m size h reading bytes w e =
     (begun-good n m size 2 2 (d .0) 0 reading (h .state .clock) (d .1) range (λ q. absurd (omega arith)) (d .2) (omega (arith, range .n-low)) (first-write m (d .0) .0) (first-write m (d .0) .1))
 
 -- A read:
-pub read-good : (n m size : ℕ) (h : Held) (reading first : ℕ) (w : Went) → readStep n m size h reading first ≡ went w → Good n m (w .next .state)
+pub read-good : (n m size : ℕ) (h : Buffered) (reading first : ℕ) (w : Went) → readStep n m size h reading first ≡ went w → Good n m (w .next .state)
 unfolding readStep readRefusal starting
 read-good n m size h reading first w e =
     let f : ℕ → Clock → Went = λ time clock. starting h clock (firstOp 1 1 time first) (h .stripe) (targetFlags n m first) in
@@ -360,5 +360,5 @@ read-good n m size h reading first w e =
     (begun-good n m size 1 1 (d .0) first reading (h .state .clock) (d .1) range (λ q. absurd (omega arith)) (d .2) low (first-read m (d .0) first .0) (first-read m (d .0) first .1))
 
 -- and a good record is sound.
-pub good-sound : (n m : ℕ) (c : Coordinator) → Good n m c → sound n m c ≡ true
+pub good-sound : (n m : ℕ) (c : Coordinator) → Good n m c → soundRecord n m c ≡ true
 good-sound n m c g = sound-from n m c (g .parts)

@@ -6,7 +6,7 @@ use Prim.Native.Nat.{ℕ, _<_}
 use native.Mathlib.Omega.{arith}
 use lib.ListN.{length}
 use Rattle.coord_apply.specs.Acts.{roundMessage, trimMessage, counting, waitingOr, firstOp, starting}
-use Rattle.coord_apply.specs.Answers.{Held, Went, went, beganSeen}
+use Rattle.coord_apply.specs.Answers.{Buffered, Went, went, beganSeen}
 use Rattle.coord_laws.proofs.Laws.SoundnessLaws.{passes, same-went, drawn-went}
 use Rattle.coord_laws.proofs.Laws.TallyLaws.{Answering, answering, ReplyParts, reply-parts}
 use Rattle.coord_record.specs.Records.{noBricks}
@@ -23,14 +23,14 @@ use Rattle.settings.specs.declared.Clock.{Clock}
 use Rattle.settings.specs.declared.Draw.the-variants.{Drawn}
 
 -- A reply that is not refused: the checks passed; it is of the running operation and round, from a brick not counted before.
-pub record Took (n m size : ℕ) (h : Held) (r : Reply) (block : List ℕ) (coded : ℕ) (w : Went) : Type 0 where
+pub record ReplyTaken (n m size : ℕ) (h : Buffered) (r : Reply) (block : List ℕ) (coded : ℕ) (w : Went) : Type 0 where
   pub takes : Takes n m size (h .state) r (length block) (length (h .blocks)) (length (h .stripe)) coded
   pub reply : ReplyParts n r
   pub answer : Answering n m (h .state .op) (h .state .tally) r
   pub is : waitingOr n m size (counting size h r block) ≡ w
 
-pub took : (n m size : ℕ) (h : Held) (r : Reply) (block : List ℕ) (coded : ℕ) (w : Went) → takeStep n m size h r block coded ≡ went w
-    → Took n m size h r block coded w
+pub took : (n m size : ℕ) (h : Buffered) (r : Reply) (block : List ℕ) (coded : ℕ) (w : Went) → takeStep n m size h r block coded ≡ went w
+    → ReplyTaken n m size h r block coded w
 unfolding takeStep
 took n m size h r block coded w e =
     let p = passes (takeRefusal n m size (h .state) r (length block) (length (h .blocks)) (length (h .stripe)) coded) _ w e in
@@ -44,7 +44,7 @@ took n m size h r block coded w e =
 
 -- What is sent: nothing; the message of the round that is now open, with coded block j for brick j of the stripe now held if it is a
 -- Write round; or, where the operation ended, Trim of its time with the number of its last round.
-pub record Round (n m size : ℕ) (w : Went) : Type 0 where
+pub record RoundSent (n m size : ℕ) (w : Went) : Type 0 where
   pub blocks : List ℕ
   pub sent-is : w .sent ≡ record { message = roundMessage (w .next .state .op) noBricks; blocks = blocks } ∷ []
   pub coded-is : w .next .state .op .phase ≡ 4 → blocks ≡ codedOf n m size (w .next .stripe)
@@ -52,11 +52,11 @@ pub record Round (n m size : ℕ) (w : Went) : Type 0 where
 pub record Trims (op : Op) (w : Went) : Type 0 where
   pub sent-is : w .sent ≡ record { message = trimMessage op; blocks = [] } ∷ []
 
-unfoldable pub Sends : ℕ → ℕ → ℕ → Op → Went → Type 0
-Sends n m size op w = (w .sent ≡ []) ⊎ (Round n m size w ⊎ Trims op w)
+unfoldable pub StepSends : ℕ → ℕ → ℕ → Op → Went → Type 0
+StepSends n m size op w = (w .sent ≡ []) ⊎ (RoundSent n m size w ⊎ Trims op w)
 
 -- A start draws a time: it is the time of the count that the clock now has, which is above the old one; that operation is seen to begin.
-pub record Begins (h : Held) (kind : ℕ) (w : Went) : Type 0 where
+pub record Begins (h : Buffered) (kind : ℕ) (w : Went) : Type 0 where
   pub rises : h .state .clock .last < w .next .state .clock .last
   pub same-number : w .next .state .clock .coordinator ≡ h .state .clock .coordinator
   pub time-is : w .next .state .op .time ≡ timeOf (w .next .state .clock .last) (h .state .clock .coordinator)
@@ -64,14 +64,14 @@ pub record Begins (h : Held) (kind : ℕ) (w : Went) : Type 0 where
   pub round-is : w .next .state .op .round ≡ 1
   pub seen-is : w .seen ≡ record { what = beganSeen; kind = kind; time = w .next .state .op .time; bricks = noBricks }
 
-begins : (h : Held) (reading kind phase first t : ℕ) (next : Clock) (stripe targets : List ℕ) → drawOf (h .state .clock) reading ≡ Drawn t next
+begins : (h : Buffered) (reading kind phase first t : ℕ) (next : Clock) (stripe targets : List ℕ) → drawOf (h .state .clock) reading ≡ Drawn t next
     → Begins h kind (starting h next (firstOp kind phase t first) stripe targets)
 unfolding starting firstOp nextCount
 begins h reading kind phase first t next stripe targets e =
     let g = gave (h .state .clock) reading t next e in
     record { rises = omega (arith, g .count); same-number = g .same; time-is = g .time; kind-is = refl; round-is = refl; seen-is = refl }
 
-pub write-begins : (n m size : ℕ) (h : Held) (reading : ℕ) (bytes : List ℕ) (w : Went) → writeStep n m size h reading bytes ≡ went w
+pub write-begins : (n m size : ℕ) (h : Buffered) (reading : ℕ) (bytes : List ℕ) (w : Went) → writeStep n m size h reading bytes ≡ went w
     → Begins h 2 w × (w .next .stripe ≡ bytes)
 unfolding writeStep starting
 write-begins n m size h reading bytes w e =
@@ -82,7 +82,7 @@ write-begins n m size h reading bytes w e =
       ap (λ (v : Went). v .next .stripe) (sym (d .3)),
     )
 
-pub read-begins : (n m size : ℕ) (h : Held) (reading first : ℕ) (w : Went) → readStep n m size h reading first ≡ went w
+pub read-begins : (n m size : ℕ) (h : Buffered) (reading first : ℕ) (w : Went) → readStep n m size h reading first ≡ went w
     → Begins h 1 w × (w .sent ≡ record { message = roundMessage (w .next .state .op) (targetFlags n m first); blocks = [] } ∷ [])
 unfolding readStep starting
 read-begins n m size h reading first w e =

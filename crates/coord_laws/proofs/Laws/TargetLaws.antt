@@ -7,7 +7,7 @@ use native.Mathlib.Omega.{arith}
 use lib.Dec.{eqb, leb, ltb}
 use lib.ListN.{getD}
 use borrow.Author.Tests.{eq-eqb, le-leb, lt-leb, lt-ltb, ltb-true, ltb-false}
-use Rattle.coord_record.specs.CountedRules.{above, isTarget}
+use Rattle.coord_record.specs.CountedRules.{stepsAbove, isTarget}
 use Rattle.coord_tally.specs.Counting.{targetFlag, targetFlags}
 use Rattle.byte_lists.proofs.Laws.TabulateLaws.{getD-tabulate}
 use Rattle.message.specs.Flags.{member, members, flagsWithin, brickSet}
@@ -22,7 +22,7 @@ count-ext p r (suc n) h = rw (count-ext p r n (λ b l. h b (omega arith)), h n (
 module _ (n m first : ℕ) (few : n ≤ 16) (within : m ≤ n) (start : first < n) where
   -- below the first: those that the wrapping reaches
   low-targets : (k : ℕ) → k ≤ first → count (isTarget n m first) k ≡ min k (m - (n - first))
-  unfolding count isTarget above
+  unfolding count isTarget stepsAbove
   low-targets zero h = omega arith
   low-targets (suc k) h = go (ltb (n - first + k) m) refl (low-targets k (omega arith))
     where
@@ -33,7 +33,7 @@ module _ (n m first : ℕ) (few : n ≤ 16) (within : m ≤ n) (start : first < 
 
   -- from the first upward
   high-targets : (j : ℕ) → j ≤ n - first → count (isTarget n m first) (first + j) ≡ min first (m - (n - first)) + min m j
-  unfolding count isTarget above
+  unfolding count isTarget stepsAbove
   high-targets zero h = ap (count (isTarget n m first)) (add-zero first) ∙ low-targets first (omega arith) ∙ (let z : min first (m - (n - first)) ≡ min first (m - (n - first)) + min m 0 = omega arith in z)
   high-targets (suc j) h = ap (count (isTarget n m first)) (add-suc first j) ∙ go (ltb (first + j - first) m) refl (high-targets j (omega arith))
     where

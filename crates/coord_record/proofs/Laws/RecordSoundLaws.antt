@@ -5,7 +5,7 @@ use Prim.Native.Nat.{ℕ, _+_, _*_, _≤_, _<_}
 use lib.Dec.{eqb, ltb}
 use borrow.Author.Tests.{lt-ltb, le-ltb, le-leb, lt-leb, eq-eqb, ne-eqb}
 use Rattle.coord_record.specs.CountedRules.{tallyRight, bricksRight}
-use Rattle.coord_record.specs.Sound.{opRight, timeRight, namedCount, filledRight, sound}
+use Rattle.coord_record.specs.Sound.{opRight, timeRight, namedCount, filledRight, soundRecord}
 use Rattle.coord_record.specs.declared.Coordinator.{Coordinator}
 use Rattle.message.specs.Flags.{members}
 use Rattle.settings.specs.Ranges.{quorum}
@@ -27,33 +27,33 @@ time-is kind time clock k h = rw (ne-eqb kind 0 k, le-leb 1 (clock .last) h)
 
 -- What each test of a record gave, in the order of the tests.
 module _ (n m : ℕ) (c : Coordinator) where
-  pub unsound-coordinator : 15 < c .clock .coordinator → false ≡ sound n m c
-  unfolding sound
+  pub unsound-coordinator : 15 < c .clock .coordinator → false ≡ soundRecord n m c
+  unfolding soundRecord
   unsound-coordinator a = rw (lt-leb (c .clock .coordinator) 15 a)
 
-  pub unsound-last : c .clock .coordinator ≤ 15 → maxCount < c .clock .last → false ≡ sound n m c
-  unfolding sound
+  pub unsound-last : c .clock .coordinator ≤ 15 → maxCount < c .clock .last → false ≡ soundRecord n m c
+  unfolding soundRecord
   unsound-last a b = rw (le-leb (c .clock .coordinator) 15 a, lt-leb (c .clock .last) maxCount b)
 
-  pub unsound-first : c .clock .coordinator ≤ 15 → c .clock .last ≤ maxCount → n ≤ c .op .first → false ≡ sound n m c
-  unfolding sound
+  pub unsound-first : c .clock .coordinator ≤ 15 → c .clock .last ≤ maxCount → n ≤ c .op .first → false ≡ soundRecord n m c
+  unfolding soundRecord
   unsound-first a b d = rw (le-leb (c .clock .coordinator) 15 a, le-leb (c .clock .last) maxCount b, le-ltb (c .op .first) n d)
 
   pub sound-rest : c .clock .coordinator ≤ 15 → c .clock .last ≤ maxCount → c .op .first < n
-      → sound n m c ≡ opRight (c .op) && timeRight (c .op .kind) (c .op .time) (c .clock) && filledRight n m c
-  unfolding sound
+      → soundRecord n m c ≡ opRight (c .op) && timeRight (c .op .kind) (c .op .time) (c .clock) && filledRight n m c
+  unfolding soundRecord
   sound-rest a b d = rw (le-leb (c .clock .coordinator) 15 a, le-leb (c .clock .last) maxCount b, lt-ltb (c .op .first) n d)
 
   pub unsound-op : (o : Bool) → c .clock .coordinator ≤ 15 → c .clock .last ≤ maxCount → c .op .first < n → o ≡ opRight (c .op) → o ≡ false
-      → false ≡ sound n m c
+      → false ≡ soundRecord n m c
   unsound-op o a b d eo zo = sym (sound-rest a b d ∙ rw (← eo, zo))
 
   pub unsound-time : (o t : Bool) → c .clock .coordinator ≤ 15 → c .clock .last ≤ maxCount → c .op .first < n → o ≡ opRight (c .op) → o ≡ true
-      → t ≡ timeRight (c .op .kind) (c .op .time) (c .clock) → t ≡ false → false ≡ sound n m c
+      → t ≡ timeRight (c .op .kind) (c .op .time) (c .clock) → t ≡ false → false ≡ soundRecord n m c
   unsound-time o t a b d eo zo et zt = sym (sound-rest a b d ∙ rw (← eo, zo, ← et, zt))
 
   pub sound-filled : (o t f : Bool) → c .clock .coordinator ≤ 15 → c .clock .last ≤ maxCount → c .op .first < n → o ≡ opRight (c .op) → o ≡ true
-      → t ≡ timeRight (c .op .kind) (c .op .time) (c .clock) → t ≡ true → f ≡ filledRight n m c → f ≡ sound n m c
+      → t ≡ timeRight (c .op .kind) (c .op .time) (c .clock) → t ≡ true → f ≡ filledRight n m c → f ≡ soundRecord n m c
   sound-filled o t f a b d eo zo et zt ef = ef ∙ sym (sound-rest a b d ∙ rw (← eo, zo, ← et, zt))
 
   pub filled-bricks : (r : Bool) (k : ℕ) → k ≡ namedCount m (c .op) → r ≡ bricksRight n k (c .bricks) → r ≡ false → false ≡ filledRight n m c

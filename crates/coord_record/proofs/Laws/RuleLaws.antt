@@ -8,16 +8,16 @@ use borrow.Author.Tests.{lt-ltb, le-ltb, le-leb, lt-leb, eq-eqb, ne-eqb}
 use lib.ListN.{getD}
 use mathlib.Core.List.{List}
 use Rattle.byte_lists.proofs.Laws.EachLaws.{each-all, each-not}
-use Rattle.coord_record.specs.CountedRules.{above, isTarget, blockRight, countedRight, entryRight, tallyRight, brickRight, bricksRight}
+use Rattle.coord_record.specs.CountedRules.{stepsAbove, isTarget, blockRight, countedRight, entryRight, tallyRight, brickRight, bricksRight}
 use Rattle.coord_record.specs.declared.Tally.{Tally}
 use Rattle.message.specs.Messages.{foundRight}
 
 pub target-up : (n m first b : ℕ) → first ≤ b → ltb (b - first) m ≡ isTarget n m first b
-unfolding isTarget above
+unfolding isTarget stepsAbove
 target-up n m first b h = rw (le-leb first b h)
 
 pub target-wrapped : (n m first b : ℕ) → b < first → ltb (n - first + b) m ≡ isTarget n m first b
-unfolding isTarget above
+unfolding isTarget stepsAbove
 target-wrapped n m first b h = rw (lt-leb first b h)
 
 pub block-target : (phase found : ℕ) (target granted held : Bool) → phase ≡ 1 → granted ≡ true → target ≡ true

@@ -6,7 +6,7 @@ use native.Mathlib.Omega.{arith}
 use lib.Dec.{eqb, leb, ltb}
 use borrow.Author.Tests.{lt-ltb, le-leb, leb-true, ltb-true, eqb-true}
 use Rattle.coord_record.specs.CountedRules.{tallyRight, bricksRight}
-use Rattle.coord_record.specs.Sound.{maxRight, storedRight, readRight, writeRight, unsetOp, opRight, timeRight, namedCount, filledRight, sound}
+use Rattle.coord_record.specs.Sound.{maxRight, storedRight, readRight, writeRight, unsetOp, opRight, timeRight, namedCount, filledRight, soundRecord}
 use Rattle.coord_record.specs.declared.Coordinator.{Coordinator}
 use Rattle.coord_record.specs.declared.Op.{Op}
 use Rattle.message.specs.Flags.{members}
@@ -15,8 +15,8 @@ use Rattle.settings.specs.Ranges.{quorum}
 use Rattle.settings.specs.Times.{maxCount}
 use Rattle.coord_record.specs.SoundParts.{SoundParts}
 
-pub sound-from : (n m : ℕ) (c : Coordinator) → SoundParts n m c → sound n m c ≡ true
-unfolding sound filledRight
+pub sound-from : (n m : ℕ) (c : Coordinator) → SoundParts n m c → soundRecord n m c ≡ true
+unfolding soundRecord filledRight
 sound-from n m c p =
     rw (
       le-leb (c .clock .coordinator) 15 (p .number-low),
@@ -29,8 +29,8 @@ sound-from n m c p =
       lt-ltb (members (c .tally .counted) n) (quorum n m) (p .few-counted),
     )
 
-pub sound-parts : (n m : ℕ) (c : Coordinator) → sound n m c ≡ true → SoundParts n m c
-unfolding sound filledRight
+pub sound-parts : (n m : ℕ) (c : Coordinator) → soundRecord n m c ≡ true → SoundParts n m c
+unfolding soundRecord filledRight
 sound-parts n m c e =
     go (leb (c .clock .coordinator) 15) (leb (c .clock .last) maxCount) (ltb (c .op .first) n) (opRight (c .op))
     (timeRight (c .op .kind) (c .op .time) (c .clock)) (bricksRight n (namedCount m (c .op)) (c .bricks))

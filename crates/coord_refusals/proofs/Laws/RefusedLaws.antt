@@ -7,7 +7,7 @@ use native.Mathlib.Nat.{mul-le-mul-right}
 use native.Mathlib.Omega.{arith}
 use lib.Dec.{eqb, leb}
 use borrow.Author.Tests.{eq-eqb, ne-eqb, le-leb, lt-leb, lt-ltb, le-ltb, leb-true}
-use Rattle.coord_record.specs.Sound.{sound}
+use Rattle.coord_record.specs.Sound.{soundRecord}
 use Rattle.coord_record.proofs.Laws.SoundPartLaws.{sound-parts}
 use Rattle.coord_record.specs.declared.Coordinator.{Coordinator}
 use Rattle.coord_decide.specs.Deciding.{answers}
@@ -27,27 +27,27 @@ module _ (n m : ℕ) (c : Coordinator) (more : List ℕ) where
   unfolding recordChecks firstRefusal
   record-number h = rw (lt-leb (c .clock .coordinator) 15 h)
 
-  pub record-broken : (s : Bool) → c .clock .coordinator ≤ 15 → s ≡ sound n m c → s ≡ false → 6 ≡ firstRefusal (recordChecks n m c more)
+  pub record-broken : (s : Bool) → c .clock .coordinator ≤ 15 → s ≡ soundRecord n m c → s ≡ false → 6 ≡ firstRefusal (recordChecks n m c more)
   unfolding recordChecks firstRefusal
   record-broken s h e z = rw (le-leb (c .clock .coordinator) 15 h, ← e, z)
 
-  pub record-right : (s : Bool) → c .clock .coordinator ≤ 15 → s ≡ sound n m c → s ≡ true → firstRefusal (recordChecks n m c more) ≡ firstRefusal more
+  pub record-right : (s : Bool) → c .clock .coordinator ≤ 15 → s ≡ soundRecord n m c → s ≡ true → firstRefusal (recordChecks n m c more) ≡ firstRefusal more
   unfolding recordChecks firstRefusal
   record-right s h e z = rw (le-leb (c .clock .coordinator) 15 h, ← e, z)
 
-pub record-zero : (n m : ℕ) (c : Coordinator) (s : Bool) → c .clock .coordinator ≤ 15 → s ≡ sound n m c → s ≡ true → 0 ≡ firstRefusal (recordChecks n m c [])
+pub record-zero : (n m : ℕ) (c : Coordinator) (s : Bool) → c .clock .coordinator ≤ 15 → s ≡ soundRecord n m c → s ≡ true → 0 ≡ firstRefusal (recordChecks n m c [])
 unfolding firstRefusal
 record-zero n m c s h e z = sym (record-right n m c [] s h e z)
 
 -- what a record that passes satisfies
 pub record Recorded (n m : ℕ) (c : Coordinator) : Type 0 where
   pub number-low : c .clock .coordinator ≤ 15
-  pub is-sound : sound n m c ≡ true
+  pub is-sound : soundRecord n m c ≡ true
 
 module _ (n m : ℕ) (c : Coordinator) (k : ℕ) (e : k ≡ firstRefusal (recordChecks n m c [])) where
   pub record-stop : (more : List ℕ) → (k ≡ 0 → ⊥) → k ≡ firstRefusal (recordChecks n m c more)
   unfolding recordChecks firstRefusal
-  record-stop more h = go (leb (c .clock .coordinator) 15) (sound n m c) e
+  record-stop more h = go (leb (c .clock .coordinator) 15) (soundRecord n m c) e
     where
       go : (a b : Bool) → k ≡ firstRefusal (refuseUnless a 3 ∷ refuseUnless b 6 ∷ []) → k ≡ firstRefusal (refuseUnless a 3 ∷ refuseUnless b 6 ∷ more)
       go true true d = absurd (h d)
@@ -56,15 +56,15 @@ module _ (n m : ℕ) (c : Coordinator) (k : ℕ) (e : k ≡ firstRefusal (record
 
   pub record-passed : k ≡ 0 → Recorded n m c
   unfolding recordChecks firstRefusal
-  record-passed z = go (leb (c .clock .coordinator) 15) (sound n m c) refl refl e
+  record-passed z = go (leb (c .clock .coordinator) 15) (soundRecord n m c) refl refl e
     where
-      go : (a b : Bool) → leb (c .clock .coordinator) 15 ≡ a → sound n m c ≡ b → k ≡ firstRefusal (refuseUnless a 3 ∷ refuseUnless b 6 ∷ []) → Recorded n m c
+      go : (a b : Bool) → leb (c .clock .coordinator) 15 ≡ a → soundRecord n m c ≡ b → k ≡ firstRefusal (refuseUnless a 3 ∷ refuseUnless b 6 ∷ []) → Recorded n m c
       go true true ea eb d = record { number-low = leb-true (c .clock .coordinator) 15 ea; is-sound = eb }
       go true false ea eb d = absurd (omega arith)
       go false b ea eb d = absurd (omega arith)
 
   pub record-pass : (more : List ℕ) → k ≡ 0 → firstRefusal (recordChecks n m c more) ≡ firstRefusal more
-  record-pass more z = let p = record-passed z in record-right n m c more (sound n m c) (p .number-low) refl (p .is-sound)
+  record-pass more z = let p = record-passed z in record-right n m c more (soundRecord n m c) (p .number-low) refl (p .is-sound)
 
 -- a start
 module _ (n m : ℕ) (c : Coordinator) (reading k : ℕ) (e : k ≡ firstRefusal (recordChecks n m c [])) where

@@ -8,13 +8,13 @@ use native.Mathlib.Omega.{arith}
 use lib.Dec.{eqb, leb, ltb}
 use lib.ListN.{length}
 use borrow.Author.Tests.{eq-eqb, ne-eqb, lt-leb, lt-ltb, le-ltb, eqb-true, ltb-true}
-use Rattle.coord_apply.specs.Acts.{heldOf}
-use Rattle.coord_apply.specs.Workers.{endAnswer, Ready, Acted}
-use Rattle.coord_apply.specs.Acts.{placed, withTally, counting, waitingOr, acted, ending, nextRound, firstOp, starting}
-use Rattle.coord_apply.specs.Answers.{Held, Went, Step, refused, went, checked, nothingSeen, noMessage, cutSeen, sentCount, sentMessage, sentBlocks, answerOf, blocksAfter, stripeAfter, codedAfter}
+use Rattle.coord_apply.specs.Acts.{buffered}
+use Rattle.coord_apply.specs.Workers.{endAnswer, DecisionReady, Acted}
+use Rattle.coord_apply.specs.Acts.{withReplyBlock, withTally, counting, waitingOr, acted, ending, nextRound, firstOp, starting}
+use Rattle.coord_apply.specs.Answers.{Buffered, Went, Step, refused, went, afterChecks, nothingSeen, noMessage, cutSeen, sentCount, sentMessage, sentBlocks, answerOf, blocksAfter, stripeAfter, codedAfter}
 use Rattle.coord_apply.specs.declared.Answer.{Answer}
 use Rattle.coord_record.specs.Records.{noBricks}
-use Rattle.coord_record.specs.Sound.{sound}
+use Rattle.coord_record.specs.Sound.{soundRecord}
 use Rattle.coord_record.specs.SoundParts.{SoundParts}
 use Rattle.coord_record.proofs.Laws.SoundPartLaws.{sound-parts, round-high}
 use Rattle.coord_record.specs.declared.Coordinator.{Coordinator}
@@ -40,29 +40,29 @@ use Rattle.settings.specs.declared.Clock.{Clock}
 use Rattle.settings.specs.declared.Draw.{Draw}
 use Rattle.settings.specs.declared.Draw.the-variants.{Drawn, Refused}
 use Rattle.settings.proofs.Laws.RefusalLaws.{passed-first, passed-rest, tested}
-use Rattle.coordinator.specs.Workers.{keptAnswer, startAnswer, keptBlocks, Keeps}
+use Rattle.coordinator.specs.Workers.{keptAnswer, startAnswer, keptBlocks, KeepsReply}
 
-pub checked-stop : (k bad : ℕ) (s : Step) → bad ≡ k → (bad ≡ 0 → ⊥) → checked k s ≡ refused bad
-unfolding checked
+pub checked-stop : (k bad : ℕ) (s : Step) → bad ≡ k → (bad ≡ 0 → ⊥) → afterChecks k s ≡ refused bad
+unfolding afterChecks
 checked-stop k bad s e h = rw (← e, lt-leb bad 0 (omega arith))
 
-pub checked-pass : (k bad : ℕ) (s : Step) → bad ≡ k → bad ≡ 0 → checked k s ≡ s
-unfolding checked
+pub checked-pass : (k bad : ℕ) (s : Step) → bad ≡ k → bad ≡ 0 → afterChecks k s ≡ s
+unfolding afterChecks
 checked-pass k bad s e z = rw (← e, z)
 
 -- a record that passes
-low-sound : (n m : ℕ) (c : Coordinator) → leb (c .clock .coordinator) 15 ≡ true → sound n m c ≡ true → firstRefusal (recordChecks n m c []) ≡ 0
+low-sound : (n m : ℕ) (c : Coordinator) → leb (c .clock .coordinator) 15 ≡ true → soundRecord n m c ≡ true → firstRefusal (recordChecks n m c []) ≡ 0
 unfolding recordChecks firstRefusal
 low-sound n m c a b = rw (a, b)
 
 pub record-passes : (n m : ℕ) (c : Coordinator) (more : List ℕ) → firstRefusal (recordChecks n m c more) ≡ 0 → Recorded n m c × (firstRefusal more ≡ 0)
 unfolding recordChecks
 record-passes n m c more e =
-    let a = passed-first (refuseUnless (leb (c .clock .coordinator) 15) 3) (refuseUnless (sound n m c) 6 ∷ more) e in
-    let b = passed-rest (refuseUnless (leb (c .clock .coordinator) 15) 3) (refuseUnless (sound n m c) 6 ∷ more) e in
-    let d = passed-first (refuseUnless (sound n m c) 6) more b in (
-      record-passed n m c 0 (sym (low-sound n m c (tested (leb (c .clock .coordinator) 15) 2 a) (tested (sound n m c) 5 d))) refl,
-      passed-rest (refuseUnless (sound n m c) 6) more b,
+    let a = passed-first (refuseUnless (leb (c .clock .coordinator) 15) 3) (refuseUnless (soundRecord n m c) 6 ∷ more) e in
+    let b = passed-rest (refuseUnless (leb (c .clock .coordinator) 15) 3) (refuseUnless (soundRecord n m c) 6 ∷ more) e in
+    let d = passed-first (refuseUnless (soundRecord n m c) 6) more b in (
+      record-passed n m c 0 (sym (low-sound n m c (tested (leb (c .clock .coordinator) 15) 2 a) (tested (soundRecord n m c) 5 d))) refl,
+      passed-rest (refuseUnless (soundRecord n m c) 6) more b,
     )
 
 -- what a reply that is not refused satisfies
@@ -113,7 +113,7 @@ place-fits n m size c r block blocks stripe coded t =
     let q = mul-le-mul-right size (t .brick-low) in let s = suc-mul (r .brick) size in omega (arith, t .blocks-length)
 
 -- no decision touches the reply blocks
-pub acted-blocks : (n m size : ℕ) (h : Held) (d : Decision) → acted n m size h d .next .blocks ≡ h .blocks
+pub acted-blocks : (n m size : ℕ) (h : Buffered) (d : Decision) → acted n m size h d .next .blocks ≡ h .blocks
 unfolding acted ending nextRound
 acted-blocks n m size h Abort = refl
 acted-blocks n m size h Give = refl
@@ -123,12 +123,12 @@ acted-blocks n m size h (Recover time) = refl
 acted-blocks n m size h Finish = refl
 
 pub keeps : (n m size : ℕ) (c : Coordinator) (r : Reply) (block blocks stripe coded bad : ℕ) → bad ≡ takeRefusal n m size c r block blocks stripe coded
-    → bad ≡ 0 → Keeps size r block blocks
+    → bad ≡ 0 → KeepsReply size r block blocks
 keeps n m size c r block blocks stripe coded bad e z =
     let t = take-passed n m size c r block blocks stripe coded bad e z in
     record { block-length = t .block-length; within = place-fits n m size c r block blocks stripe coded t }
 
-pub kept-held : (size : ℕ) (r : Reply) (block blocks blocks′ : List ℕ) → r .held ≡ true → blocks′ ≡ placed size (r .brick) block blocks
+pub kept-held : (size : ℕ) (r : Reply) (block blocks blocks′ : List ℕ) → r .held ≡ true → blocks′ ≡ withReplyBlock size (r .brick) block blocks
     → blocks′ ≡ keptBlocks size r block blocks
 unfolding keptBlocks
 kept-held size r block blocks blocks′ h e = rw h e
@@ -140,21 +140,21 @@ kept-none size r block blocks h = rw h
 -- What a reply leads to: the answer and the three buffers.
 module _ (n m size : ℕ) (c : Coordinator) (r : Reply) (block blocks stripe coded : List ℕ) where
   unfoldable pub stepHere : Step
-  stepHere = takeStep n m size (heldOf c blocks stripe) r block (length coded)
+  stepHere = takeStep n m size (buffered c blocks stripe) r block (length coded)
 
   unfoldable pub Took : Answer → List ℕ → List ℕ → List ℕ → Type 0
   Took a blocks′ stripe′ coded′ =
       (a ≡ answerOf c stepHere)
-      × ((blocks′ ≡ blocksAfter (heldOf c blocks stripe) stepHere)
-      × ((stripe′ ≡ stripeAfter (heldOf c blocks stripe) stepHere) × (coded′ ≡ codedAfter coded stepHere)))
+      × ((blocks′ ≡ blocksAfter (buffered c blocks stripe) stepHere)
+      × ((stripe′ ≡ stripeAfter (buffered c blocks stripe) stepHere) × (coded′ ≡ codedAfter coded stepHere)))
 
   pub took-refused : (bad : ℕ) (a : Answer) → bad ≡ takeRefusal n m size c r (length block) (length blocks) (length stripe) (length coded) → (bad ≡ 0 → ⊥)
       → a ≡ answerOf c (refused bad) → Took a blocks stripe coded
-  unfolding Took stepHere takeStep heldOf blocksAfter stripeAfter codedAfter
+  unfolding Took stepHere takeStep buffered blocksAfter stripeAfter codedAfter
   took-refused bad a e h q =
       let s : stepHere ≡ refused bad = checked-stop _ bad _ e h in (
         q ∙ ap (answerOf c) (sym s),
-        (ap (blocksAfter (heldOf c blocks stripe)) (sym s), (ap (stripeAfter (heldOf c blocks stripe)) (sym s), ap (codedAfter coded) (sym s))),
+        (ap (blocksAfter (buffered c blocks stripe)) (sym s), (ap (stripeAfter (buffered c blocks stripe)) (sym s), ap (codedAfter coded) (sym s))),
       )
 
   took-went : (w : Went) (a : Answer) (blocks′ stripe′ coded′ : List ℕ) → stepHere ≡ went w → a ≡ answerOf c (went w) → blocks′ ≡ w .next .blocks
@@ -163,24 +163,24 @@ module _ (n m size : ℕ) (c : Coordinator) (r : Reply) (block blocks stripe cod
   took-went w a blocks′ stripe′ coded′ s ea eb es ec = (
     ea ∙ ap (answerOf c) (sym s),
     (
-      eb ∙ ap (blocksAfter (heldOf c blocks stripe)) (sym s),
-      (es ∙ ap (stripeAfter (heldOf c blocks stripe)) (sym s), ec ∙ ap (codedAfter coded) (sym s)),
+      eb ∙ ap (blocksAfter (buffered c blocks stripe)) (sym s),
+      (es ∙ ap (stripeAfter (buffered c blocks stripe)) (sym s), ec ∙ ap (codedAfter coded) (sym s)),
     ),
   )
 
   -- the reply counted: t is the tally, d the record and blocks′ the blocks with it
   module _ (bad : ℕ) (e : bad ≡ takeRefusal n m size c r (length block) (length blocks) (length stripe) (length coded)) (z : bad ≡ 0)
       (t : Tally) (et : t ≡ tallied (c .tally) r) (d : Coordinator) (ed : d ≡ withTally c t) (blocks′ : List ℕ) (eb : blocks′ ≡ keptBlocks size r block blocks) where
-    counted-is : counting size (heldOf c blocks stripe) r block ≡ heldOf d blocks′ stripe
-    unfolding counting heldOf keptBlocks
+    counted-is : counting size (buffered c blocks stripe) r block ≡ buffered d blocks′ stripe
+    unfolding counting buffered keptBlocks
     counted-is =
-        sym (ap (λ (b : List ℕ). heldOf d b stripe) eb ∙ ap (λ (x : Coordinator). heldOf x (keptBlocks size r block blocks) stripe) (ed ∙ ap (withTally c) et))
+        sym (ap (λ (b : List ℕ). buffered d b stripe) eb ∙ ap (λ (x : Coordinator). buffered x (keptBlocks size r block blocks) stripe) (ed ∙ ap (withTally c) et))
 
-    step-is : stepHere ≡ went (waitingOr n m size (heldOf d blocks′ stripe))
-    unfolding stepHere takeStep heldOf
-    step-is = checked-pass _ bad _ e z ∙ ap (λ (h : Held). went (waitingOr n m size h)) counted-is
+    step-is : stepHere ≡ went (waitingOr n m size (buffered d blocks′ stripe))
+    unfolding stepHere takeStep buffered
+    step-is = checked-pass _ bad _ e z ∙ ap (λ (h : Buffered). went (waitingOr n m size h)) counted-is
 
-    pub ready-here : length blocks′ ≡ length blocks → Ready n m size d (length blocks′) (length stripe)
+    pub ready-here : length blocks′ ≡ length blocks → DecisionReady n m size d (length blocks′) (length stripe)
     unfolding withTally
     ready-here l =
         let p = take-passed n m size c r (length block) (length blocks) (length stripe) (length coded) bad e z in
@@ -205,24 +205,24 @@ module _ (n m size : ℕ) (c : Coordinator) (r : Reply) (block blocks stripe cod
       count-here = ek ∙ ap (λ (y : Coordinator). members (y .tally .counted) n) (sym ed)
 
       pub took-waiting : (a : Answer) → k < q → a ≡ keptAnswer d → Took a blocks′ stripe coded
-      unfolding waitingOr heldOf keptAnswer answerOf sentCount sentMessage sentBlocks
+      unfolding waitingOr buffered keptAnswer answerOf sentCount sentMessage sentBlocks
       took-waiting a l ea =
-          took-went (record { next = heldOf d blocks′ stripe; sent = []; seen = nothingSeen }) a blocks′ stripe coded
+          took-went (record { next = buffered d blocks′ stripe; sent = []; seen = nothingSeen }) a blocks′ stripe coded
           (step-is ∙ ap went (rw (← count-here, ← eq, lt-ltb k q l))) ea refl refl refl
 
       pub took-acted : (a : Answer) (x : Decision) (stripe′ coded′ : List ℕ) → q ≤ k → x ≡ decided n m (c .op) t
-          → Acted n m size (heldOf d blocks′ stripe) x coded a stripe′ coded′ → Took a blocks′ stripe′ coded′
-      unfolding waitingOr heldOf answerOf
+          → Acted n m size (buffered d blocks′ stripe) x coded a stripe′ coded′ → Took a blocks′ stripe′ coded′
+      unfolding waitingOr buffered answerOf
       took-acted a x stripe′ coded′ l ex ac =
-          took-went (acted n m size (heldOf d blocks′ stripe) x) a blocks′ stripe′ coded′
-          (step-is ∙ ap went (rw (← count-here, ← eq, le-ltb k q l) (ap (acted n m size (heldOf d blocks′ stripe)) (sym (decided-here x ex)))))
-          (ac .answer) (sym (acted-blocks n m size (heldOf d blocks′ stripe) x)) (ac .stripe-left) (ac .coded-left)
+          took-went (acted n m size (buffered d blocks′ stripe) x) a blocks′ stripe′ coded′
+          (step-is ∙ ap went (rw (← count-here, ← eq, le-ltb k q l) (ap (acted n m size (buffered d blocks′ stripe)) (sym (decided-here x ex)))))
+          (ac .answer) (sym (acted-blocks n m size (buffered d blocks′ stripe) x)) (ac .stripe-left) (ac .coded-left)
 
-crashed-idle : (h : Held) → h .state .op .kind ≡ 0 → crashed h ≡ record { next = h; sent = []; seen = nothingSeen }
+crashed-idle : (h : Buffered) → h .state .op .kind ≡ 0 → crashed h ≡ record { next = h; sent = []; seen = nothingSeen }
 unfolding crashed
 crashed-idle h k = rw (eq-eqb (h .state .op .kind) 0 k)
 
-crashed-runs : (h : Held) → (h .state .op .kind ≡ 0 → ⊥) → crashed h ≡ ending h (h .stripe) [] cutSeen noBricks
+crashed-runs : (h : Buffered) → (h .state .op .kind ≡ 0 → ⊥) → crashed h ≡ ending h (h .stripe) [] cutSeen noBricks
 unfolding crashed
 crashed-runs h k = rw (ne-eqb (h .state .op .kind) 0 k)
 
@@ -236,68 +236,68 @@ drawn-given d f time next e = rw e
 
 -- a crash
 module _ (n m size : ℕ) (c : Coordinator) (blocks stripe : List ℕ) (bad : ℕ) (e : bad ≡ crashRefusal n m size c) where
-  pub crash-refused : (a : Answer) → (bad ≡ 0 → ⊥) → a ≡ answerOf c (refused bad) → a ≡ answerOf c (crashStep n m size (heldOf c blocks stripe))
-  unfolding crashStep heldOf
+  pub crash-refused : (a : Answer) → (bad ≡ 0 → ⊥) → a ≡ answerOf c (refused bad) → a ≡ answerOf c (crashStep n m size (buffered c blocks stripe))
+  unfolding crashStep buffered
   crash-refused a h q = q ∙ ap (answerOf c) (sym (checked-stop _ bad _ e h))
 
-  pub crash-idle : (a : Answer) → bad ≡ 0 → c .op .kind ≡ 0 → a ≡ keptAnswer c → a ≡ answerOf c (crashStep n m size (heldOf c blocks stripe))
-  unfolding crashStep heldOf keptAnswer answerOf sentCount sentMessage
+  pub crash-idle : (a : Answer) → bad ≡ 0 → c .op .kind ≡ 0 → a ≡ keptAnswer c → a ≡ answerOf c (crashStep n m size (buffered c blocks stripe))
+  unfolding crashStep buffered keptAnswer answerOf sentCount sentMessage
   crash-idle a z k q =
-      q ∙ ap (answerOf c) (sym (checked-pass _ bad _ e z ∙ ap went (crashed-idle (heldOf c blocks stripe) k)))
+      q ∙ ap (answerOf c) (sym (checked-pass _ bad _ e z ∙ ap went (crashed-idle (buffered c blocks stripe) k)))
 
   pub crash-cut : (a : Answer) → bad ≡ 0 → (c .op .kind ≡ 0 → ⊥) → a ≡ endAnswer c cutSeen noBricks 0 noMessage
-      → a ≡ answerOf c (crashStep n m size (heldOf c blocks stripe))
-  unfolding crashStep ending heldOf endAnswer answerOf sentCount sentMessage
+      → a ≡ answerOf c (crashStep n m size (buffered c blocks stripe))
+  unfolding crashStep ending buffered endAnswer answerOf sentCount sentMessage
   crash-cut a z k q =
-      q ∙ ap (answerOf c) (sym (checked-pass _ bad _ e z ∙ ap went (crashed-runs (heldOf c blocks stripe) k)))
+      q ∙ ap (answerOf c) (sym (checked-pass _ bad _ e z ∙ ap went (crashed-runs (buffered c blocks stripe) k)))
 
 -- a write starts
 module _ (n m size : ℕ) (c : Coordinator) (reading : ℕ) (bytes blocks stripe : List ℕ) (bad : ℕ)
     (e : bad ≡ writeRefusal n m size c reading (length bytes) (length stripe)) where
   pub write-refused : (a : Answer) → (bad ≡ 0 → ⊥) → a ≡ answerOf c (refused bad)
-      → (a ≡ answerOf c (writeStep n m size (heldOf c blocks stripe) reading bytes))
-      × (stripe ≡ stripeAfter (heldOf c blocks stripe) (writeStep n m size (heldOf c blocks stripe) reading bytes))
-  unfolding writeStep heldOf stripeAfter
+      → (a ≡ answerOf c (writeStep n m size (buffered c blocks stripe) reading bytes))
+      × (stripe ≡ stripeAfter (buffered c blocks stripe) (writeStep n m size (buffered c blocks stripe) reading bytes))
+  unfolding writeStep buffered stripeAfter
   write-refused a h q =
-      let s = checked-stop _ bad _ e h in (q ∙ ap (answerOf c) (sym s), ap (stripeAfter (heldOf c blocks stripe)) (sym s))
+      let s = checked-stop _ bad _ e h in (q ∙ ap (answerOf c) (sym s), ap (stripeAfter (buffered c blocks stripe)) (sym s))
 
   pub write-unread : (a : Answer) (number k : ℕ) → bad ≡ 0 → drawOf (c .clock) reading ≡ Refused number → k ≡ number → a ≡ answerOf c (refused k)
-      → (a ≡ answerOf c (writeStep n m size (heldOf c blocks stripe) reading bytes))
-      × (stripe ≡ stripeAfter (heldOf c blocks stripe) (writeStep n m size (heldOf c blocks stripe) reading bytes))
-  unfolding writeStep heldOf stripeAfter
+      → (a ≡ answerOf c (writeStep n m size (buffered c blocks stripe) reading bytes))
+      × (stripe ≡ stripeAfter (buffered c blocks stripe) (writeStep n m size (buffered c blocks stripe) reading bytes))
+  unfolding writeStep buffered stripeAfter
   write-unread a number k z ed ek q =
-      let s = checked-pass _ bad _ e z ∙ drawn-refused (drawOf (c .clock) reading) (λ (t : ℕ) (k : Clock). starting (heldOf c blocks stripe) k (firstOp 2 2 t 0) bytes noBricks) number ed in
-      (q ∙ ap (λ (j : ℕ). answerOf c (refused j)) ek ∙ ap (answerOf c) (sym s), ap (stripeAfter (heldOf c blocks stripe)) (sym s))
+      let s = checked-pass _ bad _ e z ∙ drawn-refused (drawOf (c .clock) reading) (λ (t : ℕ) (k : Clock). starting (buffered c blocks stripe) k (firstOp 2 2 t 0) bytes noBricks) number ed in
+      (q ∙ ap (λ (j : ℕ). answerOf c (refused j)) ek ∙ ap (answerOf c) (sym s), ap (stripeAfter (buffered c blocks stripe)) (sym s))
 
   pub write-begun : (a : Answer) (time : ℕ) (next : Clock) (stripe′ : List ℕ) → bad ≡ 0 → drawOf (c .clock) reading ≡ Drawn time next → stripe′ ≡ bytes
       → a ≡ startAnswer next (firstOp 2 2 time 0) noBricks
-      → (a ≡ answerOf c (writeStep n m size (heldOf c blocks stripe) reading bytes))
-      × (stripe′ ≡ stripeAfter (heldOf c blocks stripe) (writeStep n m size (heldOf c blocks stripe) reading bytes))
-  unfolding writeStep heldOf stripeAfter starting startAnswer answerOf sentCount sentMessage
+      → (a ≡ answerOf c (writeStep n m size (buffered c blocks stripe) reading bytes))
+      × (stripe′ ≡ stripeAfter (buffered c blocks stripe) (writeStep n m size (buffered c blocks stripe) reading bytes))
+  unfolding writeStep buffered stripeAfter starting startAnswer answerOf sentCount sentMessage
   write-begun a time next stripe′ z ed es q =
-      let s = checked-pass _ bad _ e z ∙ drawn-given (drawOf (c .clock) reading) (λ (t : ℕ) (k : Clock). starting (heldOf c blocks stripe) k (firstOp 2 2 t 0) bytes noBricks) time next ed in
-      (q ∙ ap (answerOf c) (sym s), es ∙ ap (stripeAfter (heldOf c blocks stripe)) (sym s))
+      let s = checked-pass _ bad _ e z ∙ drawn-given (drawOf (c .clock) reading) (λ (t : ℕ) (k : Clock). starting (buffered c blocks stripe) k (firstOp 2 2 t 0) bytes noBricks) time next ed in
+      (q ∙ ap (answerOf c) (sym s), es ∙ ap (stripeAfter (buffered c blocks stripe)) (sym s))
 
 -- a read starts
 module _ (n m size : ℕ) (c : Coordinator) (reading first : ℕ) (blocks stripe : List ℕ) (bad : ℕ) (e : bad ≡ readRefusal n m size c reading first) where
-  pub read-refused : (a : Answer) → (bad ≡ 0 → ⊥) → a ≡ answerOf c (refused bad) → a ≡ answerOf c (readStep n m size (heldOf c blocks stripe) reading first)
-  unfolding readStep heldOf
+  pub read-refused : (a : Answer) → (bad ≡ 0 → ⊥) → a ≡ answerOf c (refused bad) → a ≡ answerOf c (readStep n m size (buffered c blocks stripe) reading first)
+  unfolding readStep buffered
   read-refused a h q = q ∙ ap (answerOf c) (sym (checked-stop _ bad _ e h))
 
   pub read-unread : (a : Answer) (number k : ℕ) → bad ≡ 0 → drawOf (c .clock) reading ≡ Refused number → k ≡ number → a ≡ answerOf c (refused k)
-      → a ≡ answerOf c (readStep n m size (heldOf c blocks stripe) reading first)
-  unfolding readStep heldOf
+      → a ≡ answerOf c (readStep n m size (buffered c blocks stripe) reading first)
+  unfolding readStep buffered
   read-unread a number k z ed ek q =
       q ∙ ap (λ (j : ℕ). answerOf c (refused j)) ek
-      ∙ ap (answerOf c) (sym (checked-pass _ bad _ e z ∙ drawn-refused (drawOf (c .clock) reading) (λ (t : ℕ) (k : Clock). starting (heldOf c blocks stripe) k (firstOp 1 1 t first) stripe (targetFlags n m first)) number ed))
+      ∙ ap (answerOf c) (sym (checked-pass _ bad _ e z ∙ drawn-refused (drawOf (c .clock) reading) (λ (t : ℕ) (k : Clock). starting (buffered c blocks stripe) k (firstOp 1 1 t first) stripe (targetFlags n m first)) number ed))
 
   pub read-begun : (a : Answer) (time : ℕ) (next : Clock) (targets : List ℕ) → bad ≡ 0 → drawOf (c .clock) reading ≡ Drawn time next
       → targets ≡ targetFlags n m first → a ≡ startAnswer next (firstOp 1 1 time first) targets
-      → a ≡ answerOf c (readStep n m size (heldOf c blocks stripe) reading first)
-  unfolding readStep heldOf starting startAnswer answerOf sentCount sentMessage
+      → a ≡ answerOf c (readStep n m size (buffered c blocks stripe) reading first)
+  unfolding readStep buffered starting startAnswer answerOf sentCount sentMessage
   read-begun a time next targets z ed et q =
       q ∙ ap (startAnswer next (firstOp 1 1 time first)) et
-      ∙ ap (answerOf c) (sym (checked-pass _ bad _ e z ∙ drawn-given (drawOf (c .clock) reading) (λ (t : ℕ) (k : Clock). starting (heldOf c blocks stripe) k (firstOp 1 1 t first) stripe (targetFlags n m first)) time next ed))
+      ∙ ap (answerOf c) (sym (checked-pass _ bad _ e z ∙ drawn-given (drawOf (c .clock) reading) (λ (t : ℕ) (k : Clock). starting (buffered c blocks stripe) k (firstOp 1 1 t first) stripe (targetFlags n m first)) time next ed))
 
 -- what a start that is not refused satisfies
 pub write-lengths : (n m size : ℕ) (c : Coordinator) (reading bytes stripe bad : ℕ) → bad ≡ writeRefusal n m size c reading bytes stripe → bad ≡ 0 → bytes ≡ stripe

@@ -15,12 +15,12 @@ use Rattle.image_block.specs.Block.{sealed, headBody, headBlock, entryBody, ent
 use Rattle.byte_lists.specs.Lists.{same}
 use Rattle.image_block.proofs.Laws.CheckLaws.{checked-sealed, sealed-body}
 use Rattle.byte_lists.proofs.Laws.SameLaws.{same-true, same-of}
-use Rattle.image.specs.Brick.{Brick, LogEntry, count, timeAt, heldAt, savedTime, risesAt, countSound, sound}
+use Rattle.image.specs.Brick.{Brick, LogEntry, entryCount, timeAt, heldAt, savedTime, risesAt, countSound, soundBrick}
 use Rattle.byte_lists.specs.Each.{each}
 use Rattle.byte_lists.proofs.Laws.EachLaws.{each-at, each-all}
-use Rattle.image.specs.Image.{blockOf, imageOf, imageSize}
+use Rattle.image.specs.Image.{imageBlock, imageOf, imageSize}
 use Rattle.image.proofs.Laws.ImageLaws.{stacked-ext, stacked-of, block-length}
-use Rattle.image.specs.Parse.{blockAt, countIn, promiseIn, timeIn, heldIn, entryIn, brickIn, checkedAt, isImage}
+use Rattle.image.specs.Parse.{imageBlockAt, countIn, promiseIn, timeIn, heldIn, entryIn, brickIn, checkedAt, isImage}
 use Rattle.image.proofs.Laws.ParseLaws.{entries-at, count-in}
 use Rattle.image.specs.Workers.{rises, headFits, slotFits}
 use Rattle.image.specs.Workers.{slotAt}
@@ -45,19 +45,19 @@ unfolding entryIn
 entry-block′ size b = refl
 
 -- entry i of what is read
-pub time-in : (s : Settings) (l : List ℕ) (i : ℕ) → i < countIn (blockAt l 0) → timeAt (brickIn s l) i ≡ timeIn (blockAt l (i + 1))
+pub time-in : (s : Settings) (l : List ℕ) (i : ℕ) → i < countIn (imageBlockAt l 0) → timeAt (brickIn s l) i ≡ timeIn (imageBlockAt l (i + 1))
 unfolding timeAt brickIn
 time-in s l i h =
     let e : 1 + i ≡ i + 1 = omega arith in
-    ap (λ (x : LogEntry). x .time) (entries-at (s .size) l 1 (countIn (blockAt l 0)) i h ∙ ap (λ (k : ℕ). entryIn (s .size) (blockAt l k)) e)
-    ∙ entry-time′ (s .size) (blockAt l (i + 1))
+    ap (λ (x : LogEntry). x .time) (entries-at (s .size) l 1 (countIn (imageBlockAt l 0)) i h ∙ ap (λ (k : ℕ). entryIn (s .size) (imageBlockAt l k)) e)
+    ∙ entry-time′ (s .size) (imageBlockAt l (i + 1))
 
-pub held-in : (s : Settings) (l : List ℕ) (i : ℕ) → i < countIn (blockAt l 0) → heldAt (brickIn s l) i ≡ heldIn (s .size) (blockAt l (i + 1))
+pub held-in : (s : Settings) (l : List ℕ) (i : ℕ) → i < countIn (imageBlockAt l 0) → heldAt (brickIn s l) i ≡ heldIn (s .size) (imageBlockAt l (i + 1))
 unfolding heldAt brickIn
 held-in s l i h =
     let e : 1 + i ≡ i + 1 = omega arith in
-    ap (λ (x : LogEntry). x .block) (entries-at (s .size) l 1 (countIn (blockAt l 0)) i h ∙ ap (λ (k : ℕ). entryIn (s .size) (blockAt l k)) e)
-    ∙ entry-block′ (s .size) (blockAt l (i + 1))
+    ap (λ (x : LogEntry). x .block) (entries-at (s .size) l 1 (countIn (imageBlockAt l 0)) i h ∙ ap (λ (k : ℕ). entryIn (s .size) (imageBlockAt l k)) e)
+    ∙ entry-block′ (s .size) (imageBlockAt l (i + 1))
 
 entry-is : (time : ℕ) (block : List ℕ) → entryBlock time block ≡ sealed (entryBody time block)
 unfolding entryBlock
@@ -103,34 +103,34 @@ free-again : (size : ℕ) (t : List ℕ) (time i n last : ℕ) → n ≤ i → d
 unfolding slotFits
 free-again size t time i n last h e = rw (le-ltb i n h) (same-of _ _ e)
 
-rises-in : (s : Settings) (l : List ℕ) (i : ℕ) → i < countIn (blockAt l 0)
-    → risesAt (brickIn s l) i ≡ rises i (timeIn (blockAt l i)) (timeIn (blockAt l (i + 1)))
+rises-in : (s : Settings) (l : List ℕ) (i : ℕ) → i < countIn (imageBlockAt l 0)
+    → risesAt (brickIn s l) i ≡ rises i (timeIn (imageBlockAt l i)) (timeIn (imageBlockAt l (i + 1)))
 unfolding risesAt rises
 rises-in s l zero h = refl
 rises-in s l (suc i) h =
     let p : suc i - 1 ≡ i = omega arith in
-    let before : timeAt (brickIn s l) (suc i - 1) ≡ timeIn (blockAt l (suc i)) =
-    ap (λ (k : ℕ). timeAt (brickIn s l) k) p ∙ time-in s l i (omega arith) ∙ ap (λ (k : ℕ). timeIn (blockAt l k)) (add-one i) in
+    let before : timeAt (brickIn s l) (suc i - 1) ≡ timeIn (imageBlockAt l (suc i)) =
+    ap (λ (k : ℕ). timeAt (brickIn s l) k) p ∙ time-in s l i (omega arith) ∙ ap (λ (k : ℕ). timeIn (imageBlockAt l k)) (add-one i) in
     ap₂ (λ (a b : ℕ). eqb (suc i) 0 || ltb a b) before (time-in s l (suc i) h)
 
 module _ (s : Settings) (brick : ℕ) (l : List ℕ) (range : SettingsRange s) (long : length l ≡ imageSize s)
     (checks : each (checkedAt l) (s .capacity + 1) ≡ true) where
-  blocks : (k : ℕ) → k < s .capacity + 1 → length (blockAt l k) ≡ 512
+  blocks : (k : ℕ) → k < s .capacity + 1 → length (imageBlockAt l k) ≡ 512
   unfolding imageSize
   blocks k h = block-length l (s .capacity + 1) k long h
 
-  sealed-at : (k : ℕ) (body : List ℕ) → k < s .capacity + 1 → drop 2 (blockAt l k) ≡ body → blockAt l k ≡ sealed body
+  sealed-at : (k : ℕ) (body : List ℕ) → k < s .capacity + 1 → drop 2 (imageBlockAt l k) ≡ body → imageBlockAt l k ≡ sealed body
   unfolding checkedAt
-  sealed-at k body h e = checked-sealed (blockAt l k) body (blocks k h) (each-at (checkedAt l) (s .capacity + 1) k checks h) e
+  sealed-at k body h e = checked-sealed (imageBlockAt l k) body (blocks k h) (each-at (checkedAt l) (s .capacity + 1) k checks h) e
 
   n : ℕ
-  n = countIn (blockAt l 0)
+  n = countIn (imageBlockAt l 0)
 
   x : Brick
   x = brickIn s l
 
   -- the tests pass: the fields make a brick that keeps to the rules
-  slots-sound : countSound s n ≡ true → savedTime (promiseIn (blockAt l 0)) ≡ true → each (slotAt (s .size) l n) (s .capacity) ≡ true → Sound s x
+  slots-sound : countSound s n ≡ true → savedTime (promiseIn (imageBlockAt l 0)) ≡ true → each (slotAt (s .size) l n) (s .capacity) ≡ true → Sound s x
   unfolding n x slotAt countSound brickIn
   slots-sound c p slots =
       let few = leb-true 1 n (and-left _ _ c) in
@@ -145,66 +145,66 @@ module _ (s : Settings) (brick : ℕ) (l : List ℕ) (range : SettingsRange s) (
     where
       each : (i : ℕ) → i < n → i < s .capacity → EntrySound s x i
       each i h b =
-          let q = slot-parts (s .size) (blockAt l (i + 1)) (timeIn (blockAt l (i + 1))) i n (timeIn (blockAt l i)) h
+          let q = slot-parts (s .size) (imageBlockAt l (i + 1)) (timeIn (imageBlockAt l (i + 1))) i n (timeIn (imageBlockAt l i)) h
           (each-at (slotAt (s .size) l n) (s .capacity) i slots b) in
           record {
             saved = ap savedTime (time-in s l i h) ∙ q .saved;
             rises = rises-in s l i h ∙ q .rising;
-            sized = ap length (held-in s l i h) ∙ held-size (s .size) (blockAt l (i + 1)) (range .code .size-high) (blocks (i + 1) (omega arith));
+            sized = ap length (held-in s l i h) ∙ held-size (s .size) (imageBlockAt l (i + 1)) (range .code .size-high) (blocks (i + 1) (omega arith));
           }
 
   -- ... whose blocks stand there
-  block-same : countSound s n ≡ true → drop 2 (blockAt l 0) ≡ headBody s brick n (promiseIn (blockAt l 0))
-      → each (slotAt (s .size) l n) (s .capacity) ≡ true → (k : ℕ) → k < s .capacity + 1 → blockOf s brick x k ≡ blockAt l k
+  block-same : countSound s n ≡ true → drop 2 (imageBlockAt l 0) ≡ headBody s brick n (promiseIn (imageBlockAt l 0))
+      → each (slotAt (s .size) l n) (s .capacity) ≡ true → (k : ℕ) → k < s .capacity + 1 → imageBlock s brick x k ≡ imageBlockAt l k
   unfolding n x slotAt brickIn headBlock
   block-same c head slots zero h =
       block-0 s brick x
-      ∙ ap (λ (m : ℕ). headBlock s brick m (promiseIn (blockAt l 0))) (count-in s l)
-      ∙ sym (sealed-at 0 (headBody s brick n (promiseIn (blockAt l 0))) h head)
+      ∙ ap (λ (m : ℕ). headBlock s brick m (promiseIn (imageBlockAt l 0))) (count-in s l)
+      ∙ sym (sealed-at 0 (headBody s brick n (promiseIn (imageBlockAt l 0))) h head)
   block-same c head slots (suc i) h = go (ltb i n) refl
     where
       b : i < s .capacity
       b = omega arith
 
-      one : blockAt l (suc i) ≡ blockAt l (i + 1)
-      one = ap (λ (k : ℕ). blockAt l k) (sym (add-one i))
+      one : imageBlockAt l (suc i) ≡ imageBlockAt l (i + 1)
+      one = ap (λ (k : ℕ). imageBlockAt l k) (sym (add-one i))
 
-      here : slotFits (s .size) (blockAt l (i + 1)) (timeIn (blockAt l (i + 1))) i n (timeIn (blockAt l i)) ≡ true
+      here : slotFits (s .size) (imageBlockAt l (i + 1)) (timeIn (imageBlockAt l (i + 1))) i n (timeIn (imageBlockAt l i)) ≡ true
       here = each-at (slotAt (s .size) l n) (s .capacity) i slots b
 
-      go : (t : Bool) → ltb i n ≡ t → blockOf s brick x (suc i) ≡ blockAt l (suc i)
+      go : (t : Bool) → ltb i n ≡ t → imageBlock s brick x (suc i) ≡ imageBlockAt l (suc i)
       go true e =
           let h₁ = ltb-true i n e in
-          let q = slot-parts (s .size) (blockAt l (i + 1)) (timeIn (blockAt l (i + 1))) i n (timeIn (blockAt l i)) h₁ here in
+          let q = slot-parts (s .size) (imageBlockAt l (i + 1)) (timeIn (imageBlockAt l (i + 1))) i n (timeIn (imageBlockAt l i)) h₁ here in
           block-held s brick x i (omega (arith, count-in s l))
           ∙ ap₂ (λ (a : ℕ) (z : List ℕ). entryBlock a z) (time-in s l i h₁) (held-in s l i h₁)
-          ∙ entry-is (timeIn (blockAt l (i + 1))) (heldIn (s .size) (blockAt l (i + 1)))
-          ∙ sym (sealed-at (i + 1) (entryBody (timeIn (blockAt l (i + 1))) (heldIn (s .size) (blockAt l (i + 1)))) (omega arith) (q .body))
+          ∙ entry-is (timeIn (imageBlockAt l (i + 1))) (heldIn (s .size) (imageBlockAt l (i + 1)))
+          ∙ sym (sealed-at (i + 1) (entryBody (timeIn (imageBlockAt l (i + 1))) (heldIn (s .size) (imageBlockAt l (i + 1)))) (omega arith) (q .body))
           ∙ sym one
       go false e =
           let h₁ = ltb-false i n e in
           block-unused s brick x i (omega (arith, count-in s l))
           ∙ unused-is
           ∙ sym (sealed-at (i + 1) unusedBody (omega arith)
-          (free-parts (s .size) (blockAt l (i + 1)) (timeIn (blockAt l (i + 1))) i n (timeIn (blockAt l i)) h₁ here))
+          (free-parts (s .size) (imageBlockAt l (i + 1)) (timeIn (imageBlockAt l (i + 1))) i n (timeIn (imageBlockAt l i)) h₁ here))
           ∙ sym one
 
   -- the other way: what stands there is a brick's image, so the tests pass
-  stands : Sound s x → imageOf s brick x ≡ l → (k : ℕ) → k < s .capacity + 1 → blockAt l k ≡ blockOf s brick x k
-  stands r e k h = ap (λ (m : List ℕ). blockAt m k) (sym e) ∙ image-block s brick x range r k (omega arith)
+  stands : Sound s x → imageOf s brick x ≡ l → (k : ℕ) → k < s .capacity + 1 → imageBlockAt l k ≡ imageBlock s brick x k
+  stands r e k h = ap (λ (m : List ℕ). imageBlockAt m k) (sym e) ∙ image-block s brick x range r k (omega arith)
 
   image-slot : Sound s x → imageOf s brick x ≡ l → (i : ℕ) → i < s .capacity → slotAt (s .size) l n i ≡ true
   unfolding n x slotAt
   image-slot r e i b = go (ltb i n) refl
     where
-      at : blockAt l (i + 1) ≡ blockOf s brick x (suc i)
-      at = stands r e (i + 1) (omega arith) ∙ ap (λ (k : ℕ). blockOf s brick x k) (add-one i)
+      at : imageBlockAt l (i + 1) ≡ imageBlock s brick x (suc i)
+      at = stands r e (i + 1) (omega arith) ∙ ap (λ (k : ℕ). imageBlock s brick x k) (add-one i)
 
-      go : (t : Bool) → ltb i n ≡ t → slotFits (s .size) (blockAt l (i + 1)) (timeIn (blockAt l (i + 1))) i n (timeIn (blockAt l i)) ≡ true
+      go : (t : Bool) → ltb i n ≡ t → slotFits (s .size) (imageBlockAt l (i + 1)) (timeIn (imageBlockAt l (i + 1))) i n (timeIn (imageBlockAt l i)) ≡ true
       go true w =
           let h₁ = ltb-true i n w in
           let q = r .entries i (omega (arith, count-in s l)) in
-          slot-again (s .size) (blockAt l (i + 1)) (timeIn (blockAt l (i + 1))) i n (timeIn (blockAt l i)) h₁
+          slot-again (s .size) (imageBlockAt l (i + 1)) (timeIn (imageBlockAt l (i + 1))) i n (timeIn (imageBlockAt l i)) h₁
           (record {
             saved = ap savedTime (sym (time-in s l i h₁)) ∙ q .saved;
             rising = sym (rises-in s l i h₁) ∙ q .rises;
@@ -214,45 +214,45 @@ module _ (s : Settings) (brick : ℕ) (l : List ℕ) (range : SettingsRange s) (
           })
       go false w =
           let h₁ = ltb-false i n w in
-          free-again (s .size) (blockAt l (i + 1)) (timeIn (blockAt l (i + 1))) i n (timeIn (blockAt l i)) h₁
+          free-again (s .size) (imageBlockAt l (i + 1)) (timeIn (imageBlockAt l (i + 1))) i n (timeIn (imageBlockAt l i)) h₁
           (ap (λ (z : List ℕ). drop 2 z) (at ∙ block-unused s brick x i (omega (arith, count-in s l)) ∙ unused-is) ∙ sealed-body unusedBody)
 
-  image-head : Sound s x → imageOf s brick x ≡ l → headFits s brick (blockAt l 0) n (promiseIn (blockAt l 0)) ≡ true
+  image-head : Sound s x → imageOf s brick x ≡ l → headFits s brick (imageBlockAt l 0) n (promiseIn (imageBlockAt l 0)) ≡ true
   unfolding n x headFits countSound brickIn headBlock
   image-head r e =
       let m = count-in s l in
       rw (le-leb 1 n (omega (arith, r .count-low)), le-leb n (s .capacity) (omega (arith, r .count-high)), r .promise-saved)
       (same-of _ _
       (ap (λ (z : List ℕ). drop 2 z) (stands r e 0 (omega arith) ∙ block-0 s brick x)
-      ∙ sealed-body (headBody s brick (count x) (x .promise))
+      ∙ sealed-body (headBody s brick (entryCount x) (x .promise))
       ∙ ap (λ (k : ℕ). headBody s brick k (x .promise)) m))
 
   image-tests : Sound s x → imageOf s brick x ≡ l
-      → headFits s brick (blockAt l 0) n (promiseIn (blockAt l 0)) && each (slotAt (s .size) l n) (s .capacity) ≡ true
+      → headFits s brick (imageBlockAt l 0) n (promiseIn (imageBlockAt l 0)) && each (slotAt (s .size) l n) (s .capacity) ≡ true
   image-tests r e =
-      and-both (headFits s brick (blockAt l 0) n (promiseIn (blockAt l 0))) _ (image-head r e)
+      and-both (headFits s brick (imageBlockAt l 0) n (promiseIn (imageBlockAt l 0))) _ (image-head r e)
       (each-all (slotAt (s .size) l n) (s .capacity) (image-slot r e))
 
-  pub tests-image : headFits s brick (blockAt l 0) (countIn (blockAt l 0)) (promiseIn (blockAt l 0)) && each (slotAt (s .size) l (countIn (blockAt l 0))) (s .capacity)
+  pub tests-image : headFits s brick (imageBlockAt l 0) (countIn (imageBlockAt l 0)) (promiseIn (imageBlockAt l 0)) && each (slotAt (s .size) l (countIn (imageBlockAt l 0))) (s .capacity)
       ≡ isImage s brick l
   unfolding n x headFits isImage imageSize imageOf
   tests-image = both-ways _ _ there back
     where
-      there : headFits s brick (blockAt l 0) n (promiseIn (blockAt l 0)) && each (slotAt (s .size) l n) (s .capacity) ≡ true
-          → sound s x && same (imageOf s brick x) l ≡ true
+      there : headFits s brick (imageBlockAt l 0) n (promiseIn (imageBlockAt l 0)) && each (slotAt (s .size) l n) (s .capacity) ≡ true
+          → soundBrick s x && same (imageOf s brick x) l ≡ true
       there e =
-          let f = and-left (headFits s brick (blockAt l 0) n (promiseIn (blockAt l 0))) _ e in
-          let slots = and-right (headFits s brick (blockAt l 0) n (promiseIn (blockAt l 0))) _ e in
-          let g = and-left (countSound s n && savedTime (promiseIn (blockAt l 0))) _ f in
-          let head = same-true _ _ (and-right (countSound s n && savedTime (promiseIn (blockAt l 0))) _ f) in
+          let f = and-left (headFits s brick (imageBlockAt l 0) n (promiseIn (imageBlockAt l 0))) _ e in
+          let slots = and-right (headFits s brick (imageBlockAt l 0) n (promiseIn (imageBlockAt l 0))) _ e in
+          let g = and-left (countSound s n && savedTime (promiseIn (imageBlockAt l 0))) _ f in
+          let head = same-true _ _ (and-right (countSound s n && savedTime (promiseIn (imageBlockAt l 0))) _ f) in
           let c = and-left (countSound s n) _ g in
           let p = and-right (countSound s n) _ g in
-          and-both (sound s x) _ (sound-again s x (slots-sound c p slots))
-          (same-of _ _ (stacked-ext (blockOf s brick x) (blockAt l) (s .capacity + 1) (block-same c head slots) ∙ stacked-of l (s .capacity + 1) long))
+          and-both (soundBrick s x) _ (sound-again s x (slots-sound c p slots))
+          (same-of _ _ (stacked-ext (imageBlock s brick x) (imageBlockAt l) (s .capacity + 1) (block-same c head slots) ∙ stacked-of l (s .capacity + 1) long))
 
-      back : sound s x && same (imageOf s brick x) l ≡ true
-          → headFits s brick (blockAt l 0) n (promiseIn (blockAt l 0)) && each (slotAt (s .size) l n) (s .capacity) ≡ true
+      back : soundBrick s x && same (imageOf s brick x) l ≡ true
+          → headFits s brick (imageBlockAt l 0) n (promiseIn (imageBlockAt l 0)) && each (slotAt (s .size) l n) (s .capacity) ≡ true
       back e =
-          let r = soundness s x (and-left (sound s x) _ e) in
-          let same-l = same-true (imageOf s brick x) l (and-right (sound s x) _ e) in
+          let r = soundness s x (and-left (soundBrick s x) _ e) in
+          let same-l = same-true (imageOf s brick x) l (and-right (soundBrick s x) _ e) in
           image-tests r same-l

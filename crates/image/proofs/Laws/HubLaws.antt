@@ -9,7 +9,7 @@ use lib.ListN.{length, getD, List·getD-append, length-append}
 use lib.Seq.{getD-at}
 use borrow.Author.Tests.{lt-ltb}
 use Rattle.settings.specs.declared.Settings.{Settings}
-use Rattle.image.specs.Brick.{Brick, count, timeAt, newest}
+use Rattle.image.specs.Brick.{Brick, entryCount, timeAt, newest}
 use Rattle.image.specs.Parse.{Parsed, Opens, Refuses, parse}
 use Rattle.image.proofs.Laws.ParseLaws.{opened}
 use Rattle.image.specs.Opening.{rowOf, entryFor, entryOf, workingLog, opening, answerNumber, panelOf}
@@ -17,7 +17,7 @@ use Rattle.image.specs.declared.Entry.{Entry}
 use Rattle.image.specs.declared.Head.{Head}
 use Rattle.image.specs.declared.Holding.the-variants.{Held}
 use Rattle.image.specs.declared.Opening.{Opening}
-use Rattle.image.specs.declared.Answer.the-variants.{Opened, Refused}
+use Rattle.image.specs.declared.ImageAnswer.the-variants.{Opened, Refused}
 use Rattle.image.specs.declared.Shown.{Shown}
 use Rattle.image.specs.declared.Shown.the-variants.{Values}
 use Rattle.image.specs.Workers.{Hub}
@@ -39,9 +39,9 @@ row-at f (suc n) i d h = go (ℕ-discrete i n) (row-at f n i d)
         List·getD-append (rowOf f n) (f n ∷ []) d i (omega (arith, row-length f n)) ∙ ih low
 
 -- entry i of the working log
-pub log-at : (x : Brick) (i : ℕ) (d : Entry) → i < count x → count x ≤ 32 → getD (workingLog x) i d ≡ record { time = timeAt x i; holding = Held (i + 1) }
+pub log-at : (x : Brick) (i : ℕ) (d : Entry) → i < entryCount x → entryCount x ≤ 32 → getD (workingLog x) i d ≡ record { time = timeAt x i; holding = Held (i + 1) }
 unfolding workingLog entryOf entryFor
-log-at x i d h c = row-at (entryOf x) 32 i d (omega arith) ∙ rw (lt-ltb i (count x) h) refl
+log-at x i d h c = row-at (entryOf x) 32 i d (omega arith) ∙ rw (lt-ltb i (entryCount x) h) refl
 
 pub hub : (s : Settings) (brick : ℕ) (l : List ℕ) (o : Opening) (h : Head) → o ≡ opening (parse s brick l) → o .answer ≡ Opened h → Hub s brick l o h
 unfolding opening
@@ -50,7 +50,7 @@ hub s brick l o h e f = go (parse s brick l) refl e
     go : (p : Parsed) → parse s brick l ≡ p → o ≡ opening p → Hub s brick l o h
     go (Opens y) ep q =
         let v = opened s brick l y ep in
-        let c : h .count ≡ count y = cc in
+        let c : h .count ≡ entryCount y = cc in
         record {
           x = y;
           is = ep;
@@ -79,12 +79,12 @@ pub show-values : (s : Settings) (brick : ℕ) (l : List ℕ) (o : Opening) (h :
     → Values (record { promise = h .promise; newest = getD (o .log) (h .count - 1) d .time }) ≡ panelOf (parse s brick l)
 unfolding panelOf newest
 show-values s brick l o h d u =
-    let w : getD (o .log) (h .count - 1) d .time ≡ timeAt (u .x) (count (u .x) - 1) =
+    let w : getD (o .log) (h .count - 1) d .time ≡ timeAt (u .x) (entryCount (u .x) - 1) =
     ap (λ (k : ℕ). getD (o .log) (k - 1) d .time) (u .counts)
-    ∙ ap (λ (g : List Entry). getD g (count (u .x) - 1) d .time) (u .logs)
-    ∙ ap (λ (v : Entry). v .time) (log-at (u .x) (count (u .x) - 1) d (omega (arith, u .low, u .counts)) (omega (arith, u .most, u .counts))) in
+    ∙ ap (λ (g : List Entry). getD g (entryCount (u .x) - 1) d .time) (u .logs)
+    ∙ ap (λ (v : Entry). v .time) (log-at (u .x) (entryCount (u .x) - 1) d (omega (arith, u .low, u .counts)) (omega (arith, u .most, u .counts))) in
     let m = u .promises in
     let q : _≡_ {A = Shown} (Values (record { promise = h .promise; newest = getD (o .log) (h .count - 1) d .time }))
-    (Values (record { promise = u .x .promise; newest = timeAt (u .x) (count (u .x) - 1) }))
+    (Values (record { promise = u .x .promise; newest = timeAt (u .x) (entryCount (u .x) - 1) }))
     = λ i. Values (record { promise = m i; newest = w i }) in
     q ∙ sym (ap panelOf (u .is))

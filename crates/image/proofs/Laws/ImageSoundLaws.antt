@@ -12,12 +12,12 @@ use Rattle.settings.specs.Times.{validTime, noUpperEnd, timeOf}
 use Rattle.settings.specs.declared.Settings.{Settings}
 use Rattle.image_block.specs.Block.{headBlock, entryBlock, unusedBlock}
 use Rattle.image_block.proofs.Laws.LayoutLaws.{head-length, entry-length, unused-length}
-use Rattle.image.specs.Brick.{Brick, count, timeAt, heldAt, savedTime, risesAt, entrySound, countSound, sound}
+use Rattle.image.specs.Brick.{Brick, entryCount, timeAt, heldAt, savedTime, risesAt, entrySound, countSound, soundBrick}
 use Rattle.byte_lists.specs.Each.{each}
 use Rattle.byte_lists.proofs.Laws.EachLaws.{each-at, each-all}
-use Rattle.image.specs.Image.{blockOf, imageOf, imageSize}
+use Rattle.image.specs.Image.{imageBlock, imageOf, imageSize}
 use Rattle.image.proofs.Laws.ImageLaws.{Even, stacked-at, stacked-length}
-use Rattle.image.specs.Parse.{blockAt}
+use Rattle.image.specs.Parse.{imageBlockAt}
 use Rattle.image.specs.Brick.{EntrySound, Sound}
 
 -- a number that is 0 or a valid time is below 2^44
@@ -38,56 +38,56 @@ entry-soundness s x i e =
       sized = eqb-true _ _ (and-right (savedTime (timeAt x i) && risesAt x i) _ e);
     }
 
-pub soundness : (s : Settings) (x : Brick) → sound s x ≡ true → Sound s x
-unfolding sound countSound
+pub soundness : (s : Settings) (x : Brick) → soundBrick s x ≡ true → Sound s x
+unfolding soundBrick countSound
 soundness s x e =
-    let a = and-left (countSound s (count x) && savedTime (x .promise)) _ e in
-    let c = and-left (countSound s (count x)) _ a in
+    let a = and-left (countSound s (entryCount x) && savedTime (x .promise)) _ e in
+    let c = and-left (countSound s (entryCount x)) _ a in
     record {
-      count-low = leb-true 1 (count x) (and-left _ _ c);
-      count-high = leb-true (count x) (s .capacity) (and-right (leb 1 (count x)) _ c);
-      promise-saved = and-right (countSound s (count x)) _ a;
+      count-low = leb-true 1 (entryCount x) (and-left _ _ c);
+      count-high = leb-true (entryCount x) (s .capacity) (and-right (leb 1 (entryCount x)) _ c);
+      promise-saved = and-right (countSound s (entryCount x)) _ a;
       entries = λ i h. entry-soundness s x i
-          (each-at (entrySound s x) (count x) i (and-right (countSound s (count x) && savedTime (x .promise)) _ e) h);
+          (each-at (entrySound s x) (entryCount x) i (and-right (countSound s (entryCount x) && savedTime (x .promise)) _ e) h);
     }
 
-pub sound-again : (s : Settings) (x : Brick) → Sound s x → sound s x ≡ true
-unfolding sound countSound entrySound
+pub sound-again : (s : Settings) (x : Brick) → Sound s x → soundBrick s x ≡ true
+unfolding soundBrick countSound entrySound
 sound-again s x r =
-    rw (le-leb 1 (count x) (r .count-low), le-leb (count x) (s .capacity) (r .count-high), r .promise-saved)
-    (each-all (entrySound s x) (count x) each)
+    rw (le-leb 1 (entryCount x) (r .count-low), le-leb (entryCount x) (s .capacity) (r .count-high), r .promise-saved)
+    (each-all (entrySound s x) (entryCount x) each)
   where
-    each : (i : ℕ) → i < count x → savedTime (timeAt x i) && risesAt x i && eqb (length (heldAt x i)) (s .size) ≡ true
+    each : (i : ℕ) → i < entryCount x → savedTime (timeAt x i) && risesAt x i && eqb (length (heldAt x i)) (s .size) ≡ true
     each i h = let n = r .entries i h in rw (n .saved, n .rises, eq-eqb _ _ (n .sized)) refl
 
 module _ (s : Settings) (brick : ℕ) (x : Brick) where
-  pub block-0 : blockOf s brick x 0 ≡ headBlock s brick (count x) (x .promise)
-  unfolding blockOf
+  pub block-0 : imageBlock s brick x 0 ≡ headBlock s brick (entryCount x) (x .promise)
+  unfolding imageBlock
   block-0 = refl
 
-  pub block-held : (i : ℕ) → i < count x → blockOf s brick x (suc i) ≡ entryBlock (timeAt x i) (heldAt x i)
-  unfolding blockOf
-  block-held i h = rw (lt-ltb i (count x) h) refl
+  pub block-held : (i : ℕ) → i < entryCount x → imageBlock s brick x (suc i) ≡ entryBlock (timeAt x i) (heldAt x i)
+  unfolding imageBlock
+  block-held i h = rw (lt-ltb i (entryCount x) h) refl
 
-  pub block-unused : (i : ℕ) → count x ≤ i → blockOf s brick x (suc i) ≡ unusedBlock
-  unfolding blockOf
-  block-unused i h = rw (le-ltb i (count x) h) refl
+  pub block-unused : (i : ℕ) → entryCount x ≤ i → imageBlock s brick x (suc i) ≡ unusedBlock
+  unfolding imageBlock
+  block-unused i h = rw (le-ltb i (entryCount x) h) refl
 
 module _ (s : Settings) (brick : ℕ) (x : Brick) (range : SettingsRange s) (r : Sound s x) where
-  pub blocks-even : Even (blockOf s brick x) (s .capacity + 1)
-  unfolding blockOf
-  blocks-even zero h = head-length s brick (count x) (x .promise)
-  blocks-even (suc i) h = go (ltb i (count x)) refl
+  pub blocks-even : Even (imageBlock s brick x) (s .capacity + 1)
+  unfolding imageBlock
+  blocks-even zero h = head-length s brick (entryCount x) (x .promise)
+  blocks-even (suc i) h = go (ltb i (entryCount x)) refl
     where
-      go : (b : Bool) → ltb i (count x) ≡ b → length (cond b (entryBlock (timeAt x i) (heldAt x i)) unusedBlock) ≡ 512
+      go : (b : Bool) → ltb i (entryCount x) ≡ b → length (cond b (entryBlock (timeAt x i) (heldAt x i)) unusedBlock) ≡ 512
       go true e =
-          entry-length (timeAt x i) (heldAt x i) (omega (arith, r .entries i (ltb-true i (count x) e) .sized, range .code .size-high))
+          entry-length (timeAt x i) (heldAt x i) (omega (arith, r .entries i (ltb-true i (entryCount x) e) .sized, range .code .size-high))
       go false e = unused-length
 
   pub image-length : length (imageOf s brick x) ≡ imageSize s
   unfolding imageOf imageSize
-  image-length = stacked-length (blockOf s brick x) (s .capacity + 1) blocks-even
+  image-length = stacked-length (imageBlock s brick x) (s .capacity + 1) blocks-even
 
-  pub image-block : (k : ℕ) → k ≤ s .capacity → blockAt (imageOf s brick x) k ≡ blockOf s brick x k
+  pub image-block : (k : ℕ) → k ≤ s .capacity → imageBlockAt (imageOf s brick x) k ≡ imageBlock s brick x k
   unfolding imageOf
-  image-block k h = stacked-at (blockOf s brick x) (s .capacity + 1) k blocks-even (omega arith)
+  image-block k h = stacked-at (imageBlock s brick x) (s .capacity + 1) k blocks-even (omega arith)

@@ -17,11 +17,11 @@ use Rattle.settings.specs.Ranges.{SettingsRange}
 use Rattle.byte_lists.proofs.Laws.BoolLaws.{and-left, and-right}
 use Rattle.settings.specs.declared.Settings.{Settings}
 use Rattle.image_block.specs.Block.{checked}
-use Rattle.image.specs.Brick.{count, timeAt, countSound}
+use Rattle.image.specs.Brick.{entryCount, timeAt, countSound}
 use Rattle.byte_lists.specs.Each.{each}
 use Rattle.byte_lists.proofs.Laws.EachLaws.{each-at, each-all, each-not}
 use Rattle.image.specs.Image.{imageSize}
-use Rattle.image.specs.Parse.{blockAt, countIn, promiseIn, timeIn, brickIn, checkedAt, isImage, openRefusal, Refuses, parse}
+use Rattle.image.specs.Parse.{imageBlockAt, countIn, promiseIn, timeIn, brickIn, checkedAt, isImage, openRefusal, Refuses, parse}
 use Rattle.image.proofs.Laws.ParseLaws.{range-of, count-in, refusal-0, refusal-5, refusal-6, parse-opens, parse-refuses}
 use Rattle.image.specs.Opening.{rowOf, blank, noBlank, entryFor, entryOf, workingLog, opening, lendingRefusal}
 use Rattle.image.specs.Workers.{headFits}
@@ -29,21 +29,21 @@ use Rattle.image.specs.Workers.{checkAfter, slotAt, entryAt, Scanned}
 use Rattle.image.proofs.Laws.FieldTestLaws.{tests-image, time-in}
 use Rattle.image.specs.declared.Entry.{Entry}
 use Rattle.image.specs.declared.Opening.{Opening}
-use Rattle.image.specs.declared.Answer.the-variants.{Opened, Refused}
+use Rattle.image.specs.declared.ImageAnswer.the-variants.{Opened, Refused}
 
 -- what passes the first refusals
-pub record Lent (s : Settings) (brick len : ℕ) : Type 0 where
+pub record LentImage (s : Settings) (brick len : ℕ) : Type 0 where
   pub in-range : inRange s ≡ true
   pub range : SettingsRange s
   pub long : len ≡ imageSize s
   pub brick-low : brick < s .n
 
-pub lent : (s : Settings) (brick len k : ℕ) → k ≡ lendingRefusal s brick len → k ≡ 0 → Lent s brick len
+pub lent : (s : Settings) (brick len k : ℕ) → k ≡ lendingRefusal s brick len → k ≡ 0 → LentImage s brick len
 unfolding lendingRefusal firstRefusal
 lent s brick len k e z = go (inRange s) (eqb len (imageSize s)) (ltb brick (s .n)) refl refl refl (sym e ∙ z)
   where
     go : (a b c : Bool) → inRange s ≡ a → eqb len (imageSize s) ≡ b → ltb brick (s .n) ≡ c
-        → _≡_ {A = ℕ} (firstRefusal (refuseUnless a 1 ∷ refuseUnless b 2 ∷ refuseUnless c 3 ∷ [])) 0 → Lent s brick len
+        → _≡_ {A = ℕ} (firstRefusal (refuseUnless a 1 ∷ refuseUnless b 2 ∷ refuseUnless c 3 ∷ [])) 0 → LentImage s brick len
     go false b c ea eb ec r = absurd (omega arith)
     go true false c ea eb ec r = absurd (omega arith)
     go true true false ea eb ec r = absurd (omega arith)
@@ -102,32 +102,32 @@ entry-past : (time i n : ℕ) → n ≤ i → entryFor time i n ≡ blank
 unfolding entryFor
 entry-past time i n h = rw (le-ltb i n h) refl
 
-working : (s : Settings) (l : List ℕ) → s .capacity ≤ 32 → countIn (blockAt l 0) ≤ s .capacity
-    → rowOf (entryAt l (countIn (blockAt l 0))) (s .capacity) ++ replicate (32 - s .capacity) blank ≡ workingLog (brickIn s l)
+working : (s : Settings) (l : List ℕ) → s .capacity ≤ 32 → countIn (imageBlockAt l 0) ≤ s .capacity
+    → rowOf (entryAt l (countIn (imageBlockAt l 0))) (s .capacity) ++ replicate (32 - s .capacity) blank ≡ workingLog (brickIn s l)
 unfolding workingLog entryAt entryOf
 working s l c h =
     let m : s .capacity + (32 - s .capacity) ≡ 32 = omega arith in
-    ap (λ (a : List Entry). a ++ replicate (32 - s .capacity) blank) (row-ext (entryAt l (countIn (blockAt l 0))) (entryOf (brickIn s l)) (s .capacity) (λ i b. each i))
+    ap (λ (a : List Entry). a ++ replicate (32 - s .capacity) blank) (row-ext (entryAt l (countIn (imageBlockAt l 0))) (entryOf (brickIn s l)) (s .capacity) (λ i b. each i))
     ∙ sym (row-blank (entryOf (brickIn s l)) (s .capacity) (32 - s .capacity) past)
     ∙ ap (λ (k : ℕ). rowOf (entryOf (brickIn s l)) k) m
   where
-    past : (i : ℕ) → s .capacity ≤ i → entryFor (timeAt (brickIn s l) i) i (count (brickIn s l)) ≡ blank
-    past i b = entry-past _ i (count (brickIn s l)) (omega (arith, b, count-in s l))
+    past : (i : ℕ) → s .capacity ≤ i → entryFor (timeAt (brickIn s l) i) i (entryCount (brickIn s l)) ≡ blank
+    past i b = entry-past _ i (entryCount (brickIn s l)) (omega (arith, b, count-in s l))
 
-    each : (i : ℕ) → entryFor (timeIn (blockAt l (i + 1))) i (countIn (blockAt l 0)) ≡ entryFor (timeAt (brickIn s l) i) i (count (brickIn s l))
-    each i = go (decLt i (countIn (blockAt l 0)))
+    each : (i : ℕ) → entryFor (timeIn (imageBlockAt l (i + 1))) i (countIn (imageBlockAt l 0)) ≡ entryFor (timeAt (brickIn s l) i) i (entryCount (brickIn s l))
+    each i = go (decLt i (countIn (imageBlockAt l 0)))
       where
-        go : Dec (i < countIn (blockAt l 0))
-            → entryFor (timeIn (blockAt l (i + 1))) i (countIn (blockAt l 0)) ≡ entryFor (timeAt (brickIn s l) i) i (count (brickIn s l))
+        go : Dec (i < countIn (imageBlockAt l 0))
+            → entryFor (timeIn (imageBlockAt l (i + 1))) i (countIn (imageBlockAt l 0)) ≡ entryFor (timeAt (brickIn s l) i) i (entryCount (brickIn s l))
         go (yes b) = ap₂ (λ (a k : ℕ). entryFor a i k) (sym (time-in s l i b)) (sym (count-in s l))
-        go (no b) = entry-past _ i _ (omega (arith, b)) ∙ sym (entry-past _ i (count (brickIn s l)) (omega (arith, b, count-in s l)))
+        go (no b) = entry-past _ i _ (omega (arith, b)) ∙ sym (entry-past _ i (entryCount (brickIn s l)) (omega (arith, b, count-in s l)))
 
 head-count-high : (s : Settings) (brick : ℕ) (t : List ℕ) (n promise : ℕ) → headFits s brick t n promise ≡ true → n ≤ s .capacity
 unfolding headFits countSound
 head-count-high s brick t n promise e = leb-true n (s .capacity) (and-right (leb 1 n) _ (and-left _ _ (and-left _ _ e)))
 
 -- With t the head's block, holds what its check said, n and promise its fields, fits what its test said, and what the loop over the others gave:
-module _ (s : Settings) (brick : ℕ) (l t : List ℕ) (e : Lent s brick (length l)) (first : t ≡ blockAt l 0) (holds : Bool) (hold : holds ≡ checked t) where
+module _ (s : Settings) (brick : ℕ) (l t : List ℕ) (e : LentImage s brick (length l)) (first : t ≡ imageBlockAt l 0) (holds : Bool) (hold : holds ≡ checked t) where
   -- 5: the head's check fails,
   pub open-unchecked : (r : Opening) → holds ≡ false → r ≡ opening (Refuses 5) → r ≡ opening (parse s brick l)
   unfolding checkedAt
@@ -150,17 +150,17 @@ module _ (s : Settings) (brick : ℕ) (l t : List ℕ) (e : Lent s brick (length
     unfolding checkedAt
     all-checks c = checks-all l (s .capacity) (sym (ap checked first) ∙ sym hold ∙ held) (sym (scan .all-checked) ∙ c)
 
-    n-is : n ≡ countIn (blockAt l 0)
+    n-is : n ≡ countIn (imageBlockAt l 0)
     n-is = en ∙ ap countIn first
 
-    promise-is : promise ≡ promiseIn (blockAt l 0)
+    promise-is : promise ≡ promiseIn (imageBlockAt l 0)
     promise-is = ep ∙ ap promiseIn first
 
     tested : (head : Bool) → head ≡ headFits s brick t n promise → checks ≡ true → head && fits ≡ isImage s brick l
     tested head eh c =
         ap₂ (λ (a b : Bool). a && b)
         (eh ∙ ap (λ (b : List ℕ). headFits s brick b n promise) first
-        ∙ ap₂ (λ (a b : ℕ). headFits s brick (blockAt l 0) a b) n-is promise-is)
+        ∙ ap₂ (λ (a b : ℕ). headFits s brick (imageBlockAt l 0) a b) n-is promise-is)
         (scan .all-fit c ∙ ap (λ (k : ℕ). each (slotAt (s .size) l k) (s .capacity)) n-is)
         ∙ tests-image s brick l (e .range) (e .long) (all-checks c)
 
@@ -178,20 +178,20 @@ module _ (s : Settings) (brick : ℕ) (l t : List ℕ) (e : Lent s brick (length
     unfolding opening brickIn
     open-done head eh c hf =
         let h = and-left head fits hf in
-        let few : countIn (blockAt l 0) ≤ s .capacity =
+        let few : countIn (imageBlockAt l 0) ≤ s .capacity =
         omega (arith, n-is, head-count-high s brick t n promise (sym eh ∙ h)) in
         let lg : log ≡ workingLog (brickIn s l) =
         scan .the-log c
         ∙ ap (λ (k : ℕ). rowOf (entryAt l k) (s .capacity) ++ replicate (32 - s .capacity) blank) n-is
         ∙ working s l (e .range .capacity-high) few in
-        let cn : n ≡ count (brickIn s l) = n-is ∙ sym (count-in s l) in
+        let cn : n ≡ entryCount (brickIn s l) = n-is ∙ sym (count-in s l) in
         made cn promise-is lg
         ∙ ap opening (sym (parse-opens s brick l
         (refusal-0 s brick l (e .in-range) (e .long) (e .brick-low) (all-checks c) (sym (tested head eh c) ∙ hf))))
       where
-        made : n ≡ count (brickIn s l) → promise ≡ promiseIn (blockAt l 0) → log ≡ workingLog (brickIn s l)
+        made : n ≡ entryCount (brickIn s l) → promise ≡ promiseIn (imageBlockAt l 0) → log ≡ workingLog (brickIn s l)
             → _≡_ {A = Opening} (record { answer = Opened (record { count = n; promise = promise }); log = log })
-            (record { answer = Opened (record { count = count (brickIn s l); promise = promiseIn (blockAt l 0) }); log = workingLog (brickIn s l) })
+            (record { answer = Opened (record { count = entryCount (brickIn s l); promise = promiseIn (imageBlockAt l 0) }); log = workingLog (brickIn s l) })
         made a b d = λ i. record { answer = Opened (record { count = a i; promise = b i }); log = d i }
 
 -- a refusal is made

@@ -20,11 +20,11 @@ use Rattle.byte_lists.specs.Lists.{same}
 use Rattle.image_block.proofs.Laws.LayoutLaws.{head-count, head-promise, entry-time, entry-held}
 use Rattle.image_block.proofs.Laws.CheckLaws.{sealed-checked}
 use Rattle.byte_lists.proofs.Laws.SameLaws.{same-true, same-of}
-use Rattle.image.specs.Brick.{Brick, noEntry, count, timeAt, heldAt, sound}
+use Rattle.image.specs.Brick.{Brick, noEntry, entryCount, timeAt, heldAt, soundBrick}
 use Rattle.byte_lists.specs.Each.{each}
 use Rattle.byte_lists.proofs.Laws.EachLaws.{each-all}
-use Rattle.image.specs.Image.{blockOf, imageOf, imageSize}
-use Rattle.image.specs.Parse.{blockAt, countIn, promiseIn, timeIn, heldIn, entryIn, entriesIn, brickIn, checkedAt, isImage, openRefusal, Opens, Refuses, parse}
+use Rattle.image.specs.Image.{imageBlock, imageOf, imageSize}
+use Rattle.image.specs.Parse.{imageBlockAt, countIn, promiseIn, timeIn, heldIn, entryIn, entriesIn, brickIn, checkedAt, isImage, openRefusal, Opens, Refuses, parse}
 use Rattle.image.specs.Brick.{Sound}
 use Rattle.image.proofs.Laws.ImageSoundLaws.{soundness, sound-again, saved-high, block-0, block-held, image-block, image-length}
 use Rattle.image.specs.Workers.{Opened}
@@ -38,57 +38,57 @@ unfolding entriesIn
 entries-length size l k zero = refl
 entries-length size l k (suc n) = ap suc (entries-length size l (suc k) n)
 
-pub entries-at : (size : ℕ) (l : List ℕ) (k n i : ℕ) → i < n → getD (entriesIn size l k n) i noEntry ≡ entryIn size (blockAt l (k + i))
+pub entries-at : (size : ℕ) (l : List ℕ) (k n i : ℕ) → i < n → getD (entriesIn size l k n) i noEntry ≡ entryIn size (imageBlockAt l (k + i))
 unfolding entriesIn
 entries-at size l k zero i h = absurd (omega arith)
-entries-at size l k (suc n) zero h = ap (λ (j : ℕ). entryIn size (blockAt l j)) (sym (add-zero k))
+entries-at size l k (suc n) zero h = ap (λ (j : ℕ). entryIn size (imageBlockAt l j)) (sym (add-zero k))
 entries-at size l k (suc n) (suc i) h =
     let e : suc k + i ≡ k + suc i = omega arith in
-    entries-at size l (suc k) n i (omega arith) ∙ ap (λ (j : ℕ). entryIn size (blockAt l j)) e
+    entries-at size l (suc k) n i (omega arith) ∙ ap (λ (j : ℕ). entryIn size (imageBlockAt l j)) e
 
 -- the count of what is read
-pub count-in : (s : Settings) (l : List ℕ) → count (brickIn s l) ≡ countIn (blockAt l 0)
-unfolding count brickIn
-count-in s l = entries-length (s .size) l 1 (countIn (blockAt l 0))
+pub count-in : (s : Settings) (l : List ℕ) → entryCount (brickIn s l) ≡ countIn (imageBlockAt l 0)
+unfolding entryCount brickIn
+count-in s l = entries-length (s .size) l 1 (countIn (imageBlockAt l 0))
 
 module _ (s : Settings) (brick : ℕ) (x : Brick) (range : SettingsRange s) (r : Sound s x) where
-  head-at : blockAt (imageOf s brick x) 0 ≡ headBlock s brick (count x) (x .promise)
+  head-at : imageBlockAt (imageOf s brick x) 0 ≡ headBlock s brick (entryCount x) (x .promise)
   head-at = image-block s brick x range r 0 (omega arith) ∙ block-0 s brick x
 
-  count-back : countIn (blockAt (imageOf s brick x) 0) ≡ count x
+  count-back : countIn (imageBlockAt (imageOf s brick x) 0) ≡ entryCount x
   unfolding countIn
   count-back =
       ap (λ (h : List ℕ). number (take 2 (drop 10 h))) head-at
-      ∙ head-count s brick (count x) (x .promise) (omega (arith, r .count-high, range .capacity-high))
+      ∙ head-count s brick (entryCount x) (x .promise) (omega (arith, r .count-high, range .capacity-high))
 
-  promise-back : promiseIn (blockAt (imageOf s brick x) 0) ≡ x .promise
+  promise-back : promiseIn (imageBlockAt (imageOf s brick x) 0) ≡ x .promise
   unfolding promiseIn
   promise-back =
       ap (λ (h : List ℕ). number (take 8 (drop 12 h))) head-at
-      ∙ head-promise s brick (count x) (x .promise) (omega (arith, saved-high (x .promise) (r .promise-saved)))
+      ∙ head-promise s brick (entryCount x) (x .promise) (omega (arith, saved-high (x .promise) (r .promise-saved)))
 
-  entry-back : (i : ℕ) → i < count x → entryIn (s .size) (blockAt (imageOf s brick x) (suc i)) ≡ getD (x .log) i noEntry
+  entry-back : (i : ℕ) → i < entryCount x → entryIn (s .size) (imageBlockAt (imageOf s brick x) (suc i)) ≡ getD (x .log) i noEntry
   unfolding entryIn timeIn heldIn timeAt heldAt
   entry-back i h =
       let at = image-block s brick x range r (suc i) (omega (arith, r .count-high)) ∙ block-held s brick x i h in
       let n = r .entries i h in
-      let t : number (take 8 (drop 4 (blockAt (imageOf s brick x) (suc i)))) ≡ timeAt x i =
+      let t : number (take 8 (drop 4 (imageBlockAt (imageOf s brick x) (suc i)))) ≡ timeAt x i =
       ap (λ (b : List ℕ). number (take 8 (drop 4 b))) at ∙ entry-time (timeAt x i) (heldAt x i) (omega (arith, saved-high (timeAt x i) (n .saved))) in
-      let b : take (s .size) (drop 16 (blockAt (imageOf s brick x) (suc i))) ≡ heldAt x i =
+      let b : take (s .size) (drop 16 (imageBlockAt (imageOf s brick x) (suc i))) ≡ heldAt x i =
       ap (λ (b : List ℕ). take (s .size) (drop 16 b)) at ∙ entry-held (timeAt x i) (heldAt x i) (s .size) (n .sized) in
       λ j. record { time = t j; block = b j }
 
-  log-back : entriesIn (s .size) (imageOf s brick x) 1 (count x) ≡ x .log
-  unfolding count
+  log-back : entriesIn (s .size) (imageOf s brick x) 1 (entryCount x) ≡ x .log
+  unfolding entryCount
   log-back =
-      ext-getD noEntry (entriesIn (s .size) (imageOf s brick x) 1 (count x)) (x .log) (entries-length (s .size) (imageOf s brick x) 1 (count x))
-      (λ i h. each i (subst (λ (k : ℕ). i < k) (entries-length (s .size) (imageOf s brick x) 1 (count x)) h))
+      ext-getD noEntry (entriesIn (s .size) (imageOf s brick x) 1 (entryCount x)) (x .log) (entries-length (s .size) (imageOf s brick x) 1 (entryCount x))
+      (λ i h. each i (subst (λ (k : ℕ). i < k) (entries-length (s .size) (imageOf s brick x) 1 (entryCount x)) h))
     where
-      each : (i : ℕ) → i < count x → getD (entriesIn (s .size) (imageOf s brick x) 1 (count x)) i noEntry ≡ getD (x .log) i noEntry
+      each : (i : ℕ) → i < entryCount x → getD (entriesIn (s .size) (imageOf s brick x) 1 (entryCount x)) i noEntry ≡ getD (x .log) i noEntry
       each i h =
           let e : 1 + i ≡ suc i = omega arith in
-          entries-at (s .size) (imageOf s brick x) 1 (count x) i h
-          ∙ ap (λ (k : ℕ). entryIn (s .size) (blockAt (imageOf s brick x) k)) e
+          entries-at (s .size) (imageOf s brick x) 1 (entryCount x) i h
+          ∙ ap (λ (k : ℕ). entryIn (s .size) (imageBlockAt (imageOf s brick x) k)) e
           ∙ entry-back i h
 
   pub brick-back : brickIn s (imageOf s brick x) ≡ x
@@ -130,10 +130,10 @@ module _ (s : Settings) (brick : ℕ) (l : List ℕ) where
   unfolding parse openRefusal firstRefusal isImage
   opened x e =
       go (inRange s) (eqb (length l) (imageSize s)) (ltb brick (s .n)) (each (checkedAt l) (s .capacity + 1))
-      (sound s (brickIn s l)) (same (imageOf s brick (brickIn s l)) l) refl refl refl refl refl refl e
+      (soundBrick s (brickIn s l)) (same (imageOf s brick (brickIn s l)) l) refl refl refl refl refl refl e
     where
       go : (a b c d f g : Bool) → inRange s ≡ a → eqb (length l) (imageSize s) ≡ b → ltb brick (s .n) ≡ c → each (checkedAt l) (s .capacity + 1) ≡ d
-          → sound s (brickIn s l) ≡ f → same (imageOf s brick (brickIn s l)) l ≡ g
+          → soundBrick s (brickIn s l) ≡ f → same (imageOf s brick (brickIn s l)) l ≡ g
           → (let r : ℕ = firstRefusal (refuseUnless a 1 ∷ refuseUnless b 2 ∷ refuseUnless c 3 ∷ refuseUnless d 5 ∷ refuseUnless (f && g) 6 ∷ []) in
           cond (eqb r 0) (Opens (brickIn s l)) (Refuses r)) ≡ Opens x
           → (Opened s brick l) x
@@ -158,12 +158,12 @@ module _ (s : Settings) (brick : ℕ) (l : List ℕ) where
 
 -- every block of an image is checked
 image-checked : (s : Settings) (brick : ℕ) (x : Brick) → SettingsRange s → Sound s x → (k : ℕ) → k < s .capacity + 1 → checkedAt (imageOf s brick x) k ≡ true
-unfolding checkedAt blockOf headBlock entryBlock unusedBlock
+unfolding checkedAt imageBlock headBlock entryBlock unusedBlock
 image-checked s brick x range r k h = ap checked (image-block s brick x range r k (omega arith)) ∙ go k
   where
-    go : (k : ℕ) → checked (blockOf s brick x k) ≡ true
-    go zero = sealed-checked (headBody s brick (count x) (x .promise))
-    go (suc i) = pick (ltb i (count x))
+    go : (k : ℕ) → checked (imageBlock s brick x k) ≡ true
+    go zero = sealed-checked (headBody s brick (entryCount x) (x .promise))
+    go (suc i) = pick (ltb i (entryCount x))
       where
         pick : (b : Bool) → checked (cond b (entryBlock (timeAt x i) (heldAt x i)) unusedBlock) ≡ true
         pick true = sealed-checked (entryBody (timeAt x i) (heldAt x i))
@@ -175,7 +175,7 @@ unfolding isImage
 parse-image s brick x a b r =
     let range = range-of s a in
     let back = brick-back s brick x range r in
-    let is : sound s (brickIn s (imageOf s brick x)) && same (imageOf s brick (brickIn s (imageOf s brick x))) (imageOf s brick x) ≡ true =
+    let is : soundBrick s (brickIn s (imageOf s brick x)) && same (imageOf s brick (brickIn s (imageOf s brick x))) (imageOf s brick x) ≡ true =
     rw (back, sound-again s x r, same-of (imageOf s brick x) (imageOf s brick x) refl) refl in
     parse-opens s brick (imageOf s brick x)
     (refusal-0 s brick (imageOf s brick x) a (image-length s brick x range r) b

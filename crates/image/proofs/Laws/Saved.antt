@@ -13,17 +13,17 @@ use Rattle.byte_lists.specs.Little.{Bytes}
 use Rattle.image_block.specs.Block.{checked}
 use Rattle.byte_lists.proofs.Laws.ZeroLaws.{zeros-length}
 use Rattle.image_block.proofs.Laws.ChangeLaws.{change-unchecked}
-use Rattle.image.specs.Brick.{Brick, count, timeAt, heldAt, fresh, savedTime, risesAt, sound}
+use Rattle.image.specs.Brick.{Brick, entryCount, timeAt, heldAt, freshBrick, savedTime, risesAt, soundBrick}
 use Rattle.byte_lists.proofs.Laws.EachLaws.{each-at, each-not}
 use Rattle.image.specs.Image.{imageOf, imageSize}
 use Rattle.image.proofs.Laws.ImageLaws.{block-length}
-use Rattle.image.specs.Parse.{blockAt, checkedAt, Opens, Refuses, parse}
+use Rattle.image.specs.Parse.{imageBlockAt, checkedAt, Opens, Refuses, parse}
 use Rattle.image.proofs.Laws.ParseLaws.{opened, parse-image, parse-refuses, refusal-5, range-of}
 use Rattle.image.specs.Brick.{Sound}
 use Rattle.image.proofs.Laws.ImageSoundLaws.{soundness}
 
 -- What was saved opens as it was.
-pub saved-opens : (s : Settings) (brick : ℕ) (x : Brick) → inRange s ≡ true → brick < s .n → sound s x ≡ true
+pub saved-opens : (s : Settings) (brick : ℕ) (x : Brick) → inRange s ≡ true → brick < s .n → soundBrick s x ≡ true
     → parse s brick (imageOf s brick x) ≡ Opens x
 saved-opens s brick x a b r = parse-image s brick x a b (soundness s x r)
 
@@ -43,16 +43,16 @@ bytes-drop zero l b = b
 bytes-drop (suc n) [] b = tt
 bytes-drop (suc n) (x ∷ l) b = bytes-drop n l (b .1)
 
-block-set : (l : List ℕ) (j p v : ℕ) → p < 512 → blockAt (set l (512 * j + p) v) j ≡ set (blockAt l j) p v
-unfolding blockAt
+block-set : (l : List ℕ) (j p v : ℕ) → p < 512 → imageBlockAt (set l (512 * j + p) v) j ≡ set (imageBlockAt l j) p v
+unfolding imageBlockAt
 block-set l j p v h = ap (λ (t : List ℕ). take 512 t) (drop-set-add (512 * j) l p v) ∙ take-set-lt 512 (drop (512 * j) l) p v h
 
-block-byte : (l : List ℕ) (j p : ℕ) → p < 512 → getD (blockAt l j) p 0 ≡ getD l (512 * j + p) 0
-unfolding blockAt
+block-byte : (l : List ℕ) (j p : ℕ) → p < 512 → getD (imageBlockAt l j) p 0 ≡ getD l (512 * j + p) 0
+unfolding imageBlockAt
 block-byte l j p h = getD-take 512 (drop (512 * j) l) p 0 h ∙ getD-drop (512 * j) l p 0
 
-block-bytes : (l : List ℕ) (j : ℕ) → Bytes l → Bytes (blockAt l j)
-unfolding blockAt
+block-bytes : (l : List ℕ) (j : ℕ) → Bytes l → Bytes (imageBlockAt l j)
+unfolding imageBlockAt
 block-bytes l j b = bytes-take 512 (drop (512 * j) l) (bytes-drop (512 * j) l b)
 
 -- "A one-byte change in any block is refused", and by the number of a check that fails.
@@ -74,16 +74,16 @@ one-byte-changed s brick bytes x i v e b h hv ne =
     fails =
         let o = opened s brick bytes x e in
         let low : i / 512 < s .capacity + 1 = omega (arith, o .long) in
-        ap (λ (k : ℕ). checked (blockAt (set bytes k v) (i / 512))) (sym at)
+        ap (λ (k : ℕ). checked (imageBlockAt (set bytes k v) (i / 512))) (sym at)
         ∙ ap checked (block-set bytes (i / 512) (i % 512) v (omega arith))
-        ∙ change-unchecked (blockAt bytes (i / 512)) (i % 512) v
+        ∙ change-unchecked (imageBlockAt bytes (i / 512)) (i % 512) v
         (block-length bytes (s .capacity + 1) (i / 512) (o .long) low)
         (block-bytes bytes (i / 512) b) (omega arith) hv
         (λ q. ne (q ∙ block-byte bytes (i / 512) (i % 512) (omega arith) ∙ ap (λ (k : ℕ). getD bytes k 0) at))
         (each-at (checkedAt bytes) (s .capacity + 1) (i / 512) (o .checks) low)
 
-fresh-sound : (s : Settings) → inRange s ≡ true → Sound s (fresh s)
-unfolding fresh count timeAt heldAt savedTime risesAt
+fresh-sound : (s : Settings) → inRange s ≡ true → Sound s (freshBrick s)
+unfolding freshBrick entryCount timeAt heldAt savedTime risesAt
 fresh-sound s a =
     record {
       count-low = omega arith;
@@ -92,10 +92,10 @@ fresh-sound s a =
       entries = λ i h. first i h;
     }
   where
-    first : (i : ℕ) → i < 1 → Rattle.image.specs.Brick.EntrySound s (fresh s) i
+    first : (i : ℕ) → i < 1 → Rattle.image.specs.Brick.EntrySound s (freshBrick s) i
     first zero h = record { saved = refl; rises = refl; sized = zeros-length (s .size) }
     first (suc i) h = absurd (omega arith)
 
 -- A fresh image opens.
-pub fresh-opens : (s : Settings) (brick : ℕ) → inRange s ≡ true → brick < s .n → parse s brick (imageOf s brick (fresh s)) ≡ Opens (fresh s)
-fresh-opens s brick a b = parse-image s brick (fresh s) a b (fresh-sound s a)
+pub fresh-opens : (s : Settings) (brick : ℕ) → inRange s ≡ true → brick < s .n → parse s brick (imageOf s brick (freshBrick s)) ≡ Opens (freshBrick s)
+fresh-opens s brick a b = parse-image s brick (freshBrick s) a b (fresh-sound s a)

@@ -11,7 +11,7 @@ use Rattle.image_block.specs.Block.{checked}
 use Rattle.byte_lists.specs.Each.{each}
 use Rattle.byte_lists.proofs.Laws.EachLaws.{each-none, each-more, each-not}
 use Rattle.image.proofs.Laws.ImageLaws.{block-length}
-use Rattle.image.specs.Parse.{blockAt, checkedAt, timeIn}
+use Rattle.image.specs.Parse.{imageBlockAt, checkedAt, timeIn}
 use Rattle.image.specs.Opening.{rowOf, blank, entryFor}
 use Rattle.image.specs.Workers.{rises, slotFits}
 use Rattle.image.specs.declared.Entry.{Entry}
@@ -24,7 +24,7 @@ pub record Scanning (size cap : ℕ) (l : List ℕ) (n : ℕ) (fits : Bool) (las
   pub place : at ≡ 512 * (i + 1)
   pub so-checked : each (checkAfter l) i ≡ true
   pub so-fit : fits ≡ each (slotAt size l n) i
-  pub before : 0 < i → last ≡ timeIn (blockAt l i)
+  pub before : 0 < i → last ≡ timeIn (imageBlockAt l i)
   pub logged : log ≡ rowOf (entryAt l n) i ++ replicate (32 - i) blank
 
 pub scanning-none : (size cap : ℕ) (l : List ℕ) (n : ℕ) (b : Entry) (log : List Entry) → b ≡ entryFor 0 0 0 → log ≡ replicate 32 b
@@ -41,8 +41,8 @@ scanning-none size cap l n b log e k =
     }
 
 -- the part of the image that the loop reads
-pub part-is : (l : List ℕ) (at k : ℕ) → at ≡ 512 * k → take (at + 512 - at) (drop at l) ≡ blockAt l k
-unfolding blockAt
+pub part-is : (l : List ℕ) (at k : ℕ) → at ≡ 512 * k → take (at + 512 - at) (drop at l) ≡ imageBlockAt l k
+unfolding imageBlockAt
 part-is l at k e = let n : at + 512 - at ≡ 512 = omega arith in ap₂ (λ (a b : ℕ). take a (drop b l)) n e
 
 -- one more entry of the log
@@ -57,20 +57,20 @@ row-more f i log h e =
     ∙ ap (λ (k : ℕ). rowOf f k ++ replicate (32 - (i + 1)) blank) (sym (add-one i))
 
 -- the time before it, which the loop carries
-slot-last : (size : ℕ) (l : List ℕ) (n i last : ℕ) → (0 < i → last ≡ timeIn (blockAt l i))
-    → slotFits size (blockAt l (i + 1)) (timeIn (blockAt l (i + 1))) i n last ≡ slotAt size l n i
+slot-last : (size : ℕ) (l : List ℕ) (n i last : ℕ) → (0 < i → last ≡ timeIn (imageBlockAt l i))
+    → slotFits size (imageBlockAt l (i + 1)) (timeIn (imageBlockAt l (i + 1))) i n last ≡ slotAt size l n i
 unfolding slotAt slotFits rises
 slot-last size l n zero last b = refl
-slot-last size l n (suc i) last b = ap (λ (x : ℕ). slotFits size (blockAt l (suc i + 1)) (timeIn (blockAt l (suc i + 1))) (suc i) n x) (b (omega arith))
+slot-last size l n (suc i) last b = ap (λ (x : ℕ). slotFits size (imageBlockAt l (suc i + 1)) (timeIn (imageBlockAt l (suc i + 1))) (suc i) n x) (b (omega arith))
 
 module _ (size cap : ℕ) (l : List ℕ) (n : ℕ) (fits : Bool) (last i at : ℕ) (log : List Entry) (most : cap ≤ 32) (h : i < cap)
     (r : Scanning size cap l n fits last i at log) where
-  pub scanning-more : (t : List ℕ) (holds fit fits′ : Bool) (time : ℕ) (entry : Entry) → t ≡ blockAt l (i + 1) → holds ≡ checked t → holds ≡ true
+  pub scanning-more : (t : List ℕ) (holds fit fits′ : Bool) (time : ℕ) (entry : Entry) → t ≡ imageBlockAt l (i + 1) → holds ≡ checked t → holds ≡ true
       → time ≡ timeIn t → fit ≡ slotFits size t time i n last → fits′ ≡ fits && fit → entry ≡ entryFor time i n
       → Scanning size cap l n fits′ time (i + 1) (at + 512) (set log i entry)
   unfolding checkAfter checkedAt entryAt
   scanning-more t holds fit fits′ time entry et eh h1 em ef eb ee =
-      let tm : time ≡ timeIn (blockAt l (i + 1)) = em ∙ ap timeIn et in
+      let tm : time ≡ timeIn (imageBlockAt l (i + 1)) = em ∙ ap timeIn et in
       let fit-is : fit ≡ slotAt size l n i =
       ef ∙ ap₂ (λ (a : List ℕ) (b : ℕ). slotFits size a b i n last) et tm ∙ slot-last size l n i last (r .before) in
       record {
@@ -83,7 +83,7 @@ module _ (size cap : ℕ) (l : List ℕ) (n : ℕ) (fits : Bool) (last i at : �
             ∙ row-more (entryAt l n) i log (omega arith) (r .logged);
       }
 
-  pub scan-unchecked : (t : List ℕ) (holds fits′ : Bool) (log′ : List Entry) → t ≡ blockAt l (i + 1) → holds ≡ checked t → holds ≡ false
+  pub scan-unchecked : (t : List ℕ) (holds fits′ : Bool) (log′ : List Entry) → t ≡ imageBlockAt l (i + 1) → holds ≡ checked t → holds ≡ false
       → Scanned size cap l n false fits′ log′
   unfolding checkAfter checkedAt
   scan-unchecked t holds fits′ log′ et eh h0 =

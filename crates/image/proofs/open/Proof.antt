@@ -4,8 +4,8 @@ use Prim.Native.Nat.{ℕ}
 use native.Mathlib.Omega.{arith}
 use lib.ListN.{length, take, drop}
 use Rattle.image.specs.Image.{imageSize}
-use Rattle.image.specs.Parse.{blockAt, countIn, promiseIn}
-use Rattle.image.proofs.Laws.OpenLaws.{Lent, lent, open-lending, open-unchecked, open-unchecked-later, open-unfit, open-done}
+use Rattle.image.specs.Parse.{imageBlockAt, countIn, promiseIn}
+use Rattle.image.proofs.Laws.OpenLaws.{LentImage, lent, open-lending, open-unchecked, open-unchecked-later, open-unfit, open-done}
 use borrow.Author.Needs.{needs}
 use Rattle.image.proofs.open.Statement.{statement}
 use Rattle.image.proofs.open.Tie as tie
@@ -16,11 +16,11 @@ lending-refusal-requires c κs = search needs
 refused-requires : tie.Need-refused-requires
 refused-requires c κs = search needs
 
-lent-at : (c : tie.Else1) → Lent (c .before .before .before .args .s) (c .before .before .before .args .brick) (length (c .before .before .before .args .image .now))
+lent-at : (c : tie.Else1) → LentImage (c .before .before .before .args .s) (c .before .before .before .args .brick) (length (c .before .before .before .args .image .now))
 lent-at c = lent _ _ _ _ (c .before .lending-refusal .ensures) (c .if1 .left)
 
-first-at : (l : List ℕ) → take 512 (drop 0 l) ≡ blockAt l 0
-unfolding blockAt
+first-at : (l : List ℕ) → take 512 (drop 0 l) ≡ imageBlockAt l 0
+unfolding imageBlockAt
 first-at l = refl
 
 returns : tie.Need-returns

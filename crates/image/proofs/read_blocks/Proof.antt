@@ -1,6 +1,6 @@
 use Prim.Native.Nat.{_+_}
 use lib.ListN.{take, drop}
-use Rattle.image.specs.Parse.{blockAt, timeIn}
+use Rattle.image.specs.Parse.{imageBlockAt, timeIn}
 use Rattle.image.proofs.Laws.ScanLaws.{part-length}
 use mathlib.Core.Path.{_≡_, refl}
 use Prim.Native.Nat.{_-_}
@@ -51,7 +51,7 @@ long c =
 is-part : (c : tie.After-t Inv-loop μ-loop)
     → take (c .before .before .loop .at + 512 - c .before .before .loop .at)
     (drop (c .before .before .loop .at) (c .before .before .before .before .before .args .image .now))
-    ≡ blockAt (c .before .before .before .before .before .args .image .now) (c .before .before .loop .i + 1)
+    ≡ imageBlockAt (c .before .before .before .before .before .args .image .now) (c .before .before .loop .i + 1)
 is-part c = part-is _ _ _ (c .before .before .loop .inv .place)
 
 check-holds-requires : tie.Need-check-holds-requires Inv-loop μ-loop

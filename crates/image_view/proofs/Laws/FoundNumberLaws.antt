@@ -4,7 +4,7 @@ use mathlib.Core.Bool.{Bool, true, false, cond}
 use Prim.Native.Nat.{ℕ, _+_}
 use lib.Dec.{leb}
 use Rattle.settings.specs.Refusal.{passed, badNumber}
-use Rattle.image.specs.Brick.{count, timeAt}
+use Rattle.image.specs.Brick.{entryCount, timeAt}
 use Rattle.image.specs.Parse.{Parsed, Opens, Refuses}
 use Rattle.image.specs.declared.Holding.the-variants.{Held}
 use Rattle.image_view.specs.View.{foundOf}
@@ -13,7 +13,7 @@ use Rattle.image_view.specs.View.{foundNumber, placeNumber}
 
 pub found-number : (p : Parsed) (place : ℕ) → foundNumber (foundOf p place) ≡ placeNumber p place
 unfolding foundNumber foundOf placeNumber
-found-number (Opens x) place = go (leb (count x) place)
+found-number (Opens x) place = go (leb (entryCount x) place)
   where
     go : (b : Bool)
         → foundNumber (cond b (Refused badNumber) (At (record { time = timeAt x place; holding = Held (place + 1) }))) ≡ cond b badNumber passed

@@ -10,9 +10,9 @@ use lib.Seq.{take-take, drop-drop}
 use borrow.Author.Tests.{le-leb, lt-leb, leb-false}
 use Rattle.settings.specs.declared.Settings.{Settings}
 use Rattle.byte_lists.specs.Little.{number}
-use Rattle.image.specs.Brick.{Brick, count, timeAt}
+use Rattle.image.specs.Brick.{Brick, entryCount, timeAt}
 use Rattle.image.specs.Image.{imageSize}
-use Rattle.image.specs.Parse.{Parsed, parse, blockAt, countIn, timeIn}
+use Rattle.image.specs.Parse.{Parsed, parse, imageBlockAt, countIn, timeIn}
 use Rattle.image.proofs.Laws.ParseLaws.{count-in}
 use Rattle.image.proofs.Laws.FieldTestLaws.{time-in}
 use Rattle.image.specs.Opening.{opening, answerNumber}
@@ -21,15 +21,15 @@ use Rattle.image.proofs.Laws.HubLaws.{turned}
 use Rattle.image.specs.declared.Opening.{Opening}
 use Rattle.image.specs.declared.Head.{Head}
 use Rattle.image.specs.declared.Holding.the-variants.{Held}
-use Rattle.image.specs.declared.Answer.the-variants.{Refused as Failed}
+use Rattle.image.specs.declared.ImageAnswer.the-variants.{Refused as Failed}
 use Rattle.image_view.specs.View.{foundOf, foundAt}
 use Rattle.image_view.specs.declared.Found.{Found}
 use Rattle.image_view.specs.declared.Found.the-variants.{At, Refused}
 use Rattle.byte_lists.proofs.Laws.PutLaws.{drop-take}
 
 -- the time field, read from the whole image
-pub time-there : (l : List ℕ) (k at time : ℕ) → at ≡ 512 * k + 4 → time ≡ number (take 8 (drop at l)) → time ≡ timeIn (blockAt l k)
-unfolding timeIn blockAt
+pub time-there : (l : List ℕ) (k at time : ℕ) → at ≡ 512 * k + 4 → time ≡ number (take 8 (drop at l)) → time ≡ timeIn (imageBlockAt l k)
+unfolding timeIn imageBlockAt
 time-there l k at time e t =
     t
     ∙ ap (λ (j : ℕ). number (take 8 (drop j l))) e
@@ -62,16 +62,16 @@ look-there s brick l o h place r u e = e ∙ go (leb (h .count) place) refl ∙ 
     within : leb (length l / 512) (h .count) ≡ false
     within = lt-leb (length l / 512) (h .count) (omega (arith, u .saved .long, u .high))
 
-    same : (b : Bool) → leb (h .count) place ≡ b → leb (count (u .x)) place ≡ b
+    same : (b : Bool) → leb (h .count) place ≡ b → leb (entryCount (u .x)) place ≡ b
     same b q = ap (λ (k : ℕ). leb k place) (sym (u .counts)) ∙ q
 
     go : (b : Bool) → leb (h .count) place ≡ b
-        → cond (leb (length l / 512) (h .count)) (Refused 2) (cond (leb (h .count) place) (Refused 3) (At (record { time = timeIn (blockAt l (place + 1)); holding = Held (place + 1) })))
-        ≡ cond (leb (count (u .x)) place) (Refused 3) (At (record { time = timeAt (u .x) place; holding = Held (place + 1) }))
+        → cond (leb (length l / 512) (h .count)) (Refused 2) (cond (leb (h .count) place) (Refused 3) (At (record { time = timeIn (imageBlockAt l (place + 1)); holding = Held (place + 1) })))
+        ≡ cond (leb (entryCount (u .x)) place) (Refused 3) (At (record { time = timeAt (u .x) place; holding = Held (place + 1) }))
     go true q = rw (within, q, same true q) refl
     go false q =
-        let low : place < countIn (blockAt l 0) = omega (arith, leb-false (h .count) place q, u .counts, ap count (u .saved .is-read), count-in s l) in
-        let t : timeAt (u .x) place ≡ timeIn (blockAt l (place + 1)) = ap (λ (y : Brick). timeAt y place) (u .saved .is-read) ∙ time-in s l place low in
+        let low : place < countIn (imageBlockAt l 0) = omega (arith, leb-false (h .count) place q, u .counts, ap entryCount (u .saved .is-read), count-in s l) in
+        let t : timeAt (u .x) place ≡ timeIn (imageBlockAt l (place + 1)) = ap (λ (y : Brick). timeAt y place) (u .saved .is-read) ∙ time-in s l place low in
         rw (within, q, same false q) (ap (λ (k : ℕ). At (record { time = k; holding = Held (place + 1) })) (sym t))
 
 pub look-refused : (p : Parsed) (o : Opening) (k n place : ℕ) → o ≡ opening p → o .answer ≡ Failed k → n ≡ answerNumber (o .answer) → Refused n ≡ foundOf p place

@@ -15,16 +15,16 @@ use Rattle.byte_lists.proofs.Laws.PutLaws.{put-length}
 use Rattle.byte_lists.proofs.Laws.PutLaws.{Pasted, pasted-all, pasted-more}
 use Rattle.byte_lists.proofs.Laws.ZeroLaws.{zeros-drop, zeros-take, zeros-length}
 use Rattle.image_block.proofs.Laws.LayoutLaws.{unused-length}
-use Rattle.image.specs.Image.{stacked}
+use Rattle.byte_lists.specs.Lists.{stacked}
 use Rattle.image.proofs.Laws.ImageLaws.{Even, stacked-at, stacked-length, stacked-of, stacked-ext, stacked-put, block-length}
-use Rattle.image.specs.Parse.{blockAt}
+use Rattle.image.specs.Parse.{imageBlockAt}
 use Rattle.image_write.specs.Workers.{Blocks, clearedOf, shiftedOf}
 
-pub blocks-of : (l : List ℕ) (n : ℕ) → length l ≡ 512 * n → Blocks (blockAt l) n l
+pub blocks-of : (l : List ℕ) (n : ℕ) → length l ≡ 512 * n → Blocks (imageBlockAt l) n l
 blocks-of l n h = record { long = h; at = λ k b. refl }
 
-pub blocks-is : (g : ℕ → List ℕ) (n : ℕ) (l : List ℕ) → Blocks g n l → l ≡ stacked g n
-blocks-is g n l b = sym (stacked-of l n (b .long)) ∙ stacked-ext (blockAt l) g n (b .at)
+pub blocks-is : (g : ℕ → List ℕ) (n : ℕ) (l : List ℕ) → Blocks g n l → l ≡ stacked n g
+blocks-is g n l b = sym (stacked-of l n (b .long)) ∙ stacked-ext (imageBlockAt l) g n (b .at)
 
 pub blocks-ext : (g h : ℕ → List ℕ) (n : ℕ) (l : List ℕ) → ((k : ℕ) → k < n → g k ≡ h k) → Blocks g n l → Blocks h n l
 blocks-ext g h n l e b = record { long = b .long; at = λ k c. b .at k c ∙ e k c }
@@ -32,8 +32,8 @@ blocks-ext g h n l e b = record { long = b .long; at = λ k c. b .at k c ∙ e k
 pub blocks-even : (g : ℕ → List ℕ) (n : ℕ) (l : List ℕ) → Blocks g n l → Even g n
 blocks-even g n l b k h = ap length (sym (b .at k h)) ∙ block-length l n k (b .long) h
 
-pub block-long : (l : List ℕ) (k : ℕ) → 512 * k + 512 ≤ length l → length (blockAt l k) ≡ 512
-unfolding blockAt
+pub block-long : (l : List ℕ) (k : ℕ) → 512 * k + 512 ≤ length l → length (imageBlockAt l k) ≡ 512
+unfolding imageBlockAt
 block-long l k h = let d = length-drop (512 * k) l in let t = length-take 512 (drop (512 * k) l) in omega arith
 
 -- one block placed
@@ -59,13 +59,13 @@ pub blocks-put : (g : ℕ → List ℕ) (n j : ℕ) (b l : List ℕ) → j < n �
 blocks-put g n j b l h nb r =
     let e = blocks-even g n l r in
     let p = placed-even g n j b e nb in
-    let is : put (512 * j) b l ≡ stacked (placed g j b) n =
+    let is : put (512 * j) b l ≡ stacked n (placed g j b) =
     ap (λ (x : List ℕ). put (512 * j) b x) (blocks-is g n l r)
-    ∙ ap (λ (x : List ℕ). put (512 * j) x (stacked g n)) (sym (placed-there g j b))
+    ∙ ap (λ (x : List ℕ). put (512 * j) x (stacked n g)) (sym (placed-there g j b))
     ∙ stacked-put g (placed g j b) n j e p h (λ k c ne. sym (placed-other g j b k ne)) in
     record {
       long = ap length is ∙ stacked-length (placed g j b) n p;
-      at = λ k c. ap (λ (x : List ℕ). blockAt x k) is ∙ stacked-at (placed g j b) n k p c;
+      at = λ k c. ap (λ (x : List ℕ). imageBlockAt x k) is ∙ stacked-at (placed g j b) n k p c;
     }
 
 -- a loop that clears has come to block i
@@ -161,7 +161,7 @@ later-same g d i k h = rw (lt-leb k i h) (go (leb 1 k))
     go true = refl
     go false = refl
 
-pub shifting-more : (l : List ℕ) (d i : ℕ) (image b after : List ℕ) → 512 * (d + i + 1 + 1) ≤ length l → b ≡ blockAt image (d + i + 1) → after ≡ put (512 * (i + 1)) b image
+pub shifting-more : (l : List ℕ) (d i : ℕ) (image b after : List ℕ) → 512 * (d + i + 1 + 1) ≤ length l → b ≡ imageBlockAt image (d + i + 1) → after ≡ put (512 * (i + 1)) b image
     → Shifting l d i image → Shifting l d (i + 1) after
 shifting-more l d i image b after h eb ea r =
     let nb : length b ≡ 512 = ap length eb ∙ block-there in
@@ -170,7 +170,7 @@ shifting-more l d i image b after h eb ea r =
       done = λ n g c. turn n g c nb;
     }
   where
-    block-there : length (blockAt image (d + i + 1)) ≡ 512
+    block-there : length (imageBlockAt image (d + i + 1)) ≡ 512
     block-there = block-long image (d + i + 1) (omega (arith, r .long))
 
     turn : (n : ℕ) (g : ℕ → List ℕ) → Blocks g n l → length b ≡ 512 → Blocks (shiftedOf g d (i + 1)) n after

@@ -14,134 +14,134 @@ use Rattle.settings.specs.declared.Settings.{Settings}
 use Rattle.image_block.specs.Block.{headBlock, entryBlock, unusedBlock}
 use Rattle.byte_lists.specs.Lists.{put}
 use Rattle.image_block.proofs.Laws.LayoutLaws.{head-length, entry-length}
-use Rattle.image.specs.Brick.{Brick, LogEntry, noEntry, count, timeAt, heldAt}
-use Rattle.image.specs.Image.{blockOf, imageOf, imageSize}
+use Rattle.image.specs.Brick.{Brick, LogEntry, noEntry, entryCount, timeAt, heldAt}
+use Rattle.image.specs.Image.{imageBlock, imageOf, imageSize}
 use Rattle.image.specs.Brick.{Sound}
 use Rattle.image.proofs.Laws.ImageSoundLaws.{image-length, image-block, block-held, block-unused}
 use Rattle.image_write.specs.Workers.{Blocks, clearedOf, shiftedOf}
 use Rattle.image_write.proofs.Laws.BlocksLaws.{blocks-put, blocks-ext, blocks-is, placed, placed-there, placed-other}
-use Rattle.image_write.specs.Saving.{promised, appended}
+use Rattle.image_write.specs.Saving.{withPromise, withEntry}
 use Rattle.image_write.specs.Workers.{without}
 
-pub image-blocks : (s : Settings) (brick : ℕ) (x : Brick) → SettingsRange s → Sound s x → Blocks (blockOf s brick x) (s .capacity + 1) (imageOf s brick x)
+pub image-blocks : (s : Settings) (brick : ℕ) (x : Brick) → SettingsRange s → Sound s x → Blocks (imageBlock s brick x) (s .capacity + 1) (imageOf s brick x)
 unfolding imageSize
 image-blocks s brick x range r =
     record { long = image-length s brick x range r; at = λ k h. image-block s brick x range r k (omega (arith, h)) }
 
 -- two bricks with the same log have the same blocks but for the head
-same-block : (s : Settings) (brick : ℕ) (x y : Brick) → x .log ≡ y .log → (i : ℕ) → blockOf s brick x (suc i) ≡ blockOf s brick y (suc i)
-unfolding blockOf count timeAt heldAt
+same-block : (s : Settings) (brick : ℕ) (x y : Brick) → x .log ≡ y .log → (i : ℕ) → imageBlock s brick x (suc i) ≡ imageBlock s brick y (suc i)
+unfolding imageBlock entryCount timeAt heldAt
 same-block s brick x y e i =
     ap (λ (l : List LogEntry). cond (ltb i (length l)) (entryBlock (getD l i noEntry .time) (getD l i noEntry .block)) unusedBlock) e
 
 module _ (s : Settings) (brick : ℕ) (x : Brick) (range : SettingsRange s) (r : Sound s x) where
   -- an Order writes the head
-  pub promise-written : (t : ℕ) → put 0 (headBlock s brick (count x) t) (imageOf s brick x) ≡ imageOf s brick (promised x t)
-  unfolding imageOf promised count blockOf
+  pub promise-written : (t : ℕ) → put 0 (headBlock s brick (entryCount x) t) (imageOf s brick x) ≡ imageOf s brick (withPromise x t)
+  unfolding imageOf withPromise entryCount imageBlock
   promise-written t =
-      blocks-is (blockOf s brick (promised x t)) (s .capacity + 1) (put 0 (headBlock s brick (count x) t) (imageOf s brick x))
-      (blocks-ext (placed (blockOf s brick x) 0 (headBlock s brick (count x) t)) (blockOf s brick (promised x t)) (s .capacity + 1) _ each
-      (blocks-put (blockOf s brick x) (s .capacity + 1) 0 (headBlock s brick (count x) t) (imageOf s brick x) (omega arith)
-      (head-length s brick (count x) t) (image-blocks s brick x range r)))
+      blocks-is (imageBlock s brick (withPromise x t)) (s .capacity + 1) (put 0 (headBlock s brick (entryCount x) t) (imageOf s brick x))
+      (blocks-ext (placed (imageBlock s brick x) 0 (headBlock s brick (entryCount x) t)) (imageBlock s brick (withPromise x t)) (s .capacity + 1) _ each
+      (blocks-put (imageBlock s brick x) (s .capacity + 1) 0 (headBlock s brick (entryCount x) t) (imageOf s brick x) (omega arith)
+      (head-length s brick (entryCount x) t) (image-blocks s brick x range r)))
     where
-      each : (k : ℕ) → k < s .capacity + 1 → placed (blockOf s brick x) 0 (headBlock s brick (count x) t) k ≡ blockOf s brick (promised x t) k
-      each zero h = placed-there (blockOf s brick x) 0 (headBlock s brick (count x) t)
+      each : (k : ℕ) → k < s .capacity + 1 → placed (imageBlock s brick x) 0 (headBlock s brick (entryCount x) t) k ≡ imageBlock s brick (withPromise x t) k
+      each zero h = placed-there (imageBlock s brick x) 0 (headBlock s brick (entryCount x) t)
       each (suc i) h =
-          placed-other (blockOf s brick x) 0 (headBlock s brick (count x) t) (suc i) (λ q. omega (arith, q))
-          ∙ same-block s brick x (promised x t) refl i
+          placed-other (imageBlock s brick x) 0 (headBlock s brick (entryCount x) t) (suc i) (λ q. omega (arith, q))
+          ∙ same-block s brick x (withPromise x t) refl i
 
 -- the entries of a log with one more
-pub appended-count : (x : Brick) (t : ℕ) (block : List ℕ) → count (appended x t block) ≡ count x + 1
-unfolding count appended
+pub appended-count : (x : Brick) (t : ℕ) (block : List ℕ) → entryCount (withEntry x t block) ≡ entryCount x + 1
+unfolding entryCount withEntry
 appended-count x t block = length-append (x .log) (record { time = t; block = block } ∷ [])
 
-appended-old : (x : Brick) (t : ℕ) (block : List ℕ) (i : ℕ) → i < count x → getD (appended x t block .log) i noEntry ≡ getD (x .log) i noEntry
-unfolding count appended
+appended-old : (x : Brick) (t : ℕ) (block : List ℕ) (i : ℕ) → i < entryCount x → getD (withEntry x t block .log) i noEntry ≡ getD (x .log) i noEntry
+unfolding entryCount withEntry
 appended-old x t block i h = List·getD-append (x .log) (record { time = t; block = block } ∷ []) noEntry i h
 
-appended-new : (x : Brick) (t : ℕ) (block : List ℕ) → getD (appended x t block .log) (count x) noEntry ≡ record { time = t; block = block }
-unfolding count appended
+appended-new : (x : Brick) (t : ℕ) (block : List ℕ) → getD (withEntry x t block .log) (entryCount x) noEntry ≡ record { time = t; block = block }
+unfolding entryCount withEntry
 appended-new x t block = getD-at (x .log) (record { time = t; block = block }) [] noEntry (length (x .log)) refl
 
-pub appended-time-old : (x : Brick) (t : ℕ) (block : List ℕ) (i : ℕ) → i < count x → timeAt (appended x t block) i ≡ timeAt x i
+pub appended-time-old : (x : Brick) (t : ℕ) (block : List ℕ) (i : ℕ) → i < entryCount x → timeAt (withEntry x t block) i ≡ timeAt x i
 unfolding timeAt
 appended-time-old x t block i h = ap (λ (e : LogEntry). e .time) (appended-old x t block i h)
 
-pub appended-held-old : (x : Brick) (t : ℕ) (block : List ℕ) (i : ℕ) → i < count x → heldAt (appended x t block) i ≡ heldAt x i
+pub appended-held-old : (x : Brick) (t : ℕ) (block : List ℕ) (i : ℕ) → i < entryCount x → heldAt (withEntry x t block) i ≡ heldAt x i
 unfolding heldAt
 appended-held-old x t block i h = ap (λ (e : LogEntry). e .block) (appended-old x t block i h)
 
-pub appended-time-new : (x : Brick) (t : ℕ) (block : List ℕ) → timeAt (appended x t block) (count x) ≡ t
+pub appended-time-new : (x : Brick) (t : ℕ) (block : List ℕ) → timeAt (withEntry x t block) (entryCount x) ≡ t
 unfolding timeAt
 appended-time-new x t block = ap (λ (e : LogEntry). e .time) (appended-new x t block)
 
-pub appended-held-new : (x : Brick) (t : ℕ) (block : List ℕ) → heldAt (appended x t block) (count x) ≡ block
+pub appended-held-new : (x : Brick) (t : ℕ) (block : List ℕ) → heldAt (withEntry x t block) (entryCount x) ≡ block
 unfolding heldAt
 appended-held-new x t block = ap (λ (e : LogEntry). e .block) (appended-new x t block)
 
 appended-head : (s : Settings) (brick : ℕ) (x : Brick) (t : ℕ) (block : List ℕ)
-    → headBlock s brick (count (appended x t block)) (x .promise) ≡ blockOf s brick (appended x t block) 0
-unfolding appended blockOf
+    → headBlock s brick (entryCount (withEntry x t block)) (x .promise) ≡ imageBlock s brick (withEntry x t block) 0
+unfolding withEntry imageBlock
 appended-head s brick x t block = refl
 
 module _ (s : Settings) (brick : ℕ) (x : Brick) (t : ℕ) (block : List ℕ) where
-  append-block : (i : ℕ) → placed (blockOf s brick x) (count x + 1) (entryBlock t block) (suc i) ≡ blockOf s brick (appended x t block) (suc i)
-  append-block i = go (ℕ-discrete i (count x))
+  append-block : (i : ℕ) → placed (imageBlock s brick x) (entryCount x + 1) (entryBlock t block) (suc i) ≡ imageBlock s brick (withEntry x t block) (suc i)
+  append-block i = go (ℕ-discrete i (entryCount x))
     where
       y : Brick
-      y = appended x t block
+      y = withEntry x t block
 
-      go : Dec (i ≡ count x) → placed (blockOf s brick x) (count x + 1) (entryBlock t block) (suc i) ≡ blockOf s brick (appended x t block) (suc i)
+      go : Dec (i ≡ entryCount x) → placed (imageBlock s brick x) (entryCount x + 1) (entryBlock t block) (suc i) ≡ imageBlock s brick (withEntry x t block) (suc i)
       go (yes q) =
-          let e : suc i ≡ count x + 1 = omega (arith, q) in
-          ap (λ (k : ℕ). placed (blockOf s brick x) (count x + 1) (entryBlock t block) k) e
-          ∙ placed-there (blockOf s brick x) (count x + 1) (entryBlock t block)
+          let e : suc i ≡ entryCount x + 1 = omega (arith, q) in
+          ap (λ (k : ℕ). placed (imageBlock s brick x) (entryCount x + 1) (entryBlock t block) k) e
+          ∙ placed-there (imageBlock s brick x) (entryCount x + 1) (entryBlock t block)
           ∙ sym (ap₂ (λ (a : ℕ) (b : List ℕ). entryBlock a b)
-          (ap (λ (k : ℕ). timeAt (appended x t block) k) q ∙ appended-time-new x t block)
-          (ap (λ (k : ℕ). heldAt (appended x t block) k) q ∙ appended-held-new x t block))
-          ∙ sym (block-held s brick (appended x t block) i (omega (arith, q, appended-count x t block)))
-      go (no q) = placed-other (blockOf s brick x) (count x + 1) (entryBlock t block) (suc i) (λ w. q (omega (arith, w))) ∙ other (decLt i (count x))
+          (ap (λ (k : ℕ). timeAt (withEntry x t block) k) q ∙ appended-time-new x t block)
+          (ap (λ (k : ℕ). heldAt (withEntry x t block) k) q ∙ appended-held-new x t block))
+          ∙ sym (block-held s brick (withEntry x t block) i (omega (arith, q, appended-count x t block)))
+      go (no q) = placed-other (imageBlock s brick x) (entryCount x + 1) (entryBlock t block) (suc i) (λ w. q (omega (arith, w))) ∙ other (decLt i (entryCount x))
         where
-          other : Dec (i < count x) → blockOf s brick x (suc i) ≡ blockOf s brick (appended x t block) (suc i)
+          other : Dec (i < entryCount x) → imageBlock s brick x (suc i) ≡ imageBlock s brick (withEntry x t block) (suc i)
           other (yes h) =
               block-held s brick x i h
               ∙ sym (ap₂ (λ (a : ℕ) (b : List ℕ). entryBlock a b) (appended-time-old x t block i h) (appended-held-old x t block i h))
-              ∙ sym (block-held s brick (appended x t block) i (omega (arith, h, appended-count x t block)))
+              ∙ sym (block-held s brick (withEntry x t block) i (omega (arith, h, appended-count x t block)))
           other (no h) =
-              let past : count x + 1 ≤ i = omega (arith, h, q) in
+              let past : entryCount x + 1 ≤ i = omega (arith, h, q) in
               block-unused s brick x i (omega (arith, past))
-              ∙ sym (block-unused s brick (appended x t block) i (omega (arith, past, appended-count x t block)))
+              ∙ sym (block-unused s brick (withEntry x t block) i (omega (arith, past, appended-count x t block)))
 
   -- a Write writes the entry and the head
-  pub append-written : SettingsRange s → Sound s x → count x < s .capacity → length block ≡ s .size
-      → put 0 (headBlock s brick (count x + 1) (x .promise)) (put (512 * (count x + 1)) (entryBlock t block) (imageOf s brick x)) ≡ imageOf s brick (appended x t block)
+  pub append-written : SettingsRange s → Sound s x → entryCount x < s .capacity → length block ≡ s .size
+      → put 0 (headBlock s brick (entryCount x + 1) (x .promise)) (put (512 * (entryCount x + 1)) (entryBlock t block) (imageOf s brick x)) ≡ imageOf s brick (withEntry x t block)
   unfolding imageOf
   append-written range r free size =
-      blocks-is (blockOf s brick (appended x t block)) (s .capacity + 1) _
-      (blocks-ext (placed (placed (blockOf s brick x) (count x + 1) (entryBlock t block)) 0 head) (blockOf s brick (appended x t block)) (s .capacity + 1) _ each
-      (blocks-put (placed (blockOf s brick x) (count x + 1) (entryBlock t block)) (s .capacity + 1) 0 head _ (omega arith) (head-length s brick (count x + 1) (x .promise))
-      (blocks-put (blockOf s brick x) (s .capacity + 1) (count x + 1) (entryBlock t block) (imageOf s brick x) (omega arith)
+      blocks-is (imageBlock s brick (withEntry x t block)) (s .capacity + 1) _
+      (blocks-ext (placed (placed (imageBlock s brick x) (entryCount x + 1) (entryBlock t block)) 0 head) (imageBlock s brick (withEntry x t block)) (s .capacity + 1) _ each
+      (blocks-put (placed (imageBlock s brick x) (entryCount x + 1) (entryBlock t block)) (s .capacity + 1) 0 head _ (omega arith) (head-length s brick (entryCount x + 1) (x .promise))
+      (blocks-put (imageBlock s brick x) (s .capacity + 1) (entryCount x + 1) (entryBlock t block) (imageOf s brick x) (omega arith)
       (entry-length t block (omega (arith, size, range .code .size-high))) (image-blocks s brick x range r))))
     where
       head : List ℕ
-      head = headBlock s brick (count x + 1) (x .promise)
+      head = headBlock s brick (entryCount x + 1) (x .promise)
 
       each : (k : ℕ) → k < s .capacity + 1
-          → placed (placed (blockOf s brick x) (count x + 1) (entryBlock t block)) 0 (headBlock s brick (count x + 1) (x .promise)) k ≡ blockOf s brick (appended x t block) k
+          → placed (placed (imageBlock s brick x) (entryCount x + 1) (entryBlock t block)) 0 (headBlock s brick (entryCount x + 1) (x .promise)) k ≡ imageBlock s brick (withEntry x t block) k
       each zero h =
-          placed-there (placed (blockOf s brick x) (count x + 1) (entryBlock t block)) 0 (headBlock s brick (count x + 1) (x .promise))
+          placed-there (placed (imageBlock s brick x) (entryCount x + 1) (entryBlock t block)) 0 (headBlock s brick (entryCount x + 1) (x .promise))
           ∙ ap (λ (k : ℕ). headBlock s brick k (x .promise)) (sym (appended-count x t block))
           ∙ kept
         where
-          kept : headBlock s brick (count (appended x t block)) (x .promise) ≡ blockOf s brick (appended x t block) 0
+          kept : headBlock s brick (entryCount (withEntry x t block)) (x .promise) ≡ imageBlock s brick (withEntry x t block) 0
           kept = appended-head s brick x t block
       each (suc i) h =
-          placed-other (placed (blockOf s brick x) (count x + 1) (entryBlock t block)) 0 (headBlock s brick (count x + 1) (x .promise)) (suc i) (λ q. omega (arith, q))
+          placed-other (placed (imageBlock s brick x) (entryCount x + 1) (entryBlock t block)) 0 (headBlock s brick (entryCount x + 1) (x .promise)) (suc i) (λ q. omega (arith, q))
           ∙ append-block i
 
 -- the entries of a log without its first d
-pub without-count : (x : Brick) (d : ℕ) → count (without x d) ≡ count x - d
-unfolding count without
+pub without-count : (x : Brick) (d : ℕ) → entryCount (without x d) ≡ entryCount x - d
+unfolding entryCount without
 without-count x d = length-drop d (x .log)
 
 pub without-time : (x : Brick) (d i : ℕ) → timeAt (without x d) i ≡ timeAt x (d + i)
@@ -152,53 +152,53 @@ pub without-held : (x : Brick) (d i : ℕ) → heldAt (without x d) i ≡ heldAt
 unfolding heldAt without
 without-held x d i = ap (λ (e : LogEntry). e .block) (getD-drop d (x .log) i noEntry)
 
-without-head : (s : Settings) (brick : ℕ) (x : Brick) (d : ℕ) → headBlock s brick (count (without x d)) (x .promise) ≡ blockOf s brick (without x d) 0
-unfolding without blockOf
+without-head : (s : Settings) (brick : ℕ) (x : Brick) (d : ℕ) → headBlock s brick (entryCount (without x d)) (x .promise) ≡ imageBlock s brick (without x d) 0
+unfolding without imageBlock
 without-head s brick x d = refl
 
-module _ (s : Settings) (brick : ℕ) (x : Brick) (d : ℕ) (low : d < count x) where
-  without-block : (i : ℕ) → clearedOf (shiftedOf (blockOf s brick x) d (count x - d)) (count x - d + 1) (count x + 1) (suc i) ≡ blockOf s brick (without x d) (suc i)
+module _ (s : Settings) (brick : ℕ) (x : Brick) (d : ℕ) (low : d < entryCount x) where
+  without-block : (i : ℕ) → clearedOf (shiftedOf (imageBlock s brick x) d (entryCount x - d)) (entryCount x - d + 1) (entryCount x + 1) (suc i) ≡ imageBlock s brick (without x d) (suc i)
   unfolding clearedOf shiftedOf
-  without-block i = go (decLt i (count x - d)) (decLt i (count x))
+  without-block i = go (decLt i (entryCount x - d)) (decLt i (entryCount x))
     where
-      go : Dec (i < count x - d) → Dec (i < count x)
-          → cond (leb (count x - d + 1) (suc i) && ltb (suc i) (count x + 1)) unusedBlock
-          (cond (leb 1 (suc i) && leb (suc i) (count x - d)) (blockOf s brick x (suc i + d)) (blockOf s brick x (suc i)))
-          ≡ blockOf s brick (without x d) (suc i)
+      go : Dec (i < entryCount x - d) → Dec (i < entryCount x)
+          → cond (leb (entryCount x - d + 1) (suc i) && ltb (suc i) (entryCount x + 1)) unusedBlock
+          (cond (leb 1 (suc i) && leb (suc i) (entryCount x - d)) (imageBlock s brick x (suc i + d)) (imageBlock s brick x (suc i)))
+          ≡ imageBlock s brick (without x d) (suc i)
       go (yes h) c =
           let e : suc i + d ≡ suc (d + i) = omega arith in
-          rw (lt-leb (count x - d + 1) (suc i) (omega arith), le-leb 1 (suc i) (omega arith), le-leb (suc i) (count x - d) (omega arith))
-          (ap (λ (k : ℕ). blockOf s brick x k) e
+          rw (lt-leb (entryCount x - d + 1) (suc i) (omega arith), le-leb 1 (suc i) (omega arith), le-leb (suc i) (entryCount x - d) (omega arith))
+          (ap (λ (k : ℕ). imageBlock s brick x k) e
           ∙ block-held s brick x (d + i) (omega arith)
           ∙ sym (ap₂ (λ (a : ℕ) (b : List ℕ). entryBlock a b) (without-time x d i) (without-held x d i))
           ∙ sym (block-held s brick (without x d) i (omega (arith, without-count x d))))
       go (no h) (yes c) =
-          rw (le-leb (count x - d + 1) (suc i) (omega arith), lt-ltb (suc i) (count x + 1) (omega arith))
+          rw (le-leb (entryCount x - d + 1) (suc i) (omega arith), lt-ltb (suc i) (entryCount x + 1) (omega arith))
           (sym (block-unused s brick (without x d) i (omega (arith, without-count x d))))
       go (no h) (no c) =
-          rw (le-leb (count x - d + 1) (suc i) (omega arith), le-ltb (suc i) (count x + 1) (omega arith), le-leb 1 (suc i) (omega arith), lt-leb (suc i) (count x - d) (omega arith))
+          rw (le-leb (entryCount x - d + 1) (suc i) (omega arith), le-ltb (suc i) (entryCount x + 1) (omega arith), le-leb 1 (suc i) (omega arith), lt-leb (suc i) (entryCount x - d) (omega arith))
           (block-unused s brick x i (omega arith) ∙ sym (block-unused s brick (without x d) i (omega (arith, without-count x d))))
 
   -- a Trim moves the kept entries down, clears what is freed, and writes the head
   pub without-written : (l₁ l₂ l₃ : List ℕ) → SettingsRange s → Sound s x
-      → ((n : ℕ) (g : ℕ → List ℕ) → Blocks g n (imageOf s brick x) → Blocks (shiftedOf g d (count x - d)) n l₁)
-      → ((n : ℕ) (g : ℕ → List ℕ) → Blocks g n l₁ → Blocks (clearedOf g (count x - d + 1) (count x + 1)) n l₂)
-      → l₃ ≡ put 0 (headBlock s brick (count x - d) (x .promise)) l₂
+      → ((n : ℕ) (g : ℕ → List ℕ) → Blocks g n (imageOf s brick x) → Blocks (shiftedOf g d (entryCount x - d)) n l₁)
+      → ((n : ℕ) (g : ℕ → List ℕ) → Blocks g n l₁ → Blocks (clearedOf g (entryCount x - d + 1) (entryCount x + 1)) n l₂)
+      → l₃ ≡ put 0 (headBlock s brick (entryCount x - d) (x .promise)) l₂
       → l₃ ≡ imageOf s brick (without x d)
   unfolding imageOf
   without-written l₁ l₂ l₃ range r shift clear e =
-      e ∙ blocks-is (blockOf s brick (without x d)) (s .capacity + 1) _
-      (blocks-ext (placed moved 0 head) (blockOf s brick (without x d)) (s .capacity + 1) _ each
-      (blocks-put moved (s .capacity + 1) 0 head l₂ (omega arith) (head-length s brick (count x - d) (x .promise))
-      (clear (s .capacity + 1) (shiftedOf (blockOf s brick x) d (count x - d)) (shift (s .capacity + 1) (blockOf s brick x) (image-blocks s brick x range r)))))
+      e ∙ blocks-is (imageBlock s brick (without x d)) (s .capacity + 1) _
+      (blocks-ext (placed moved 0 head) (imageBlock s brick (without x d)) (s .capacity + 1) _ each
+      (blocks-put moved (s .capacity + 1) 0 head l₂ (omega arith) (head-length s brick (entryCount x - d) (x .promise))
+      (clear (s .capacity + 1) (shiftedOf (imageBlock s brick x) d (entryCount x - d)) (shift (s .capacity + 1) (imageBlock s brick x) (image-blocks s brick x range r)))))
     where
       head : List ℕ
-      head = headBlock s brick (count x - d) (x .promise)
+      head = headBlock s brick (entryCount x - d) (x .promise)
 
       moved : ℕ → List ℕ
-      moved = clearedOf (shiftedOf (blockOf s brick x) d (count x - d)) (count x - d + 1) (count x + 1)
+      moved = clearedOf (shiftedOf (imageBlock s brick x) d (entryCount x - d)) (entryCount x - d + 1) (entryCount x + 1)
 
-      each : (k : ℕ) → k < s .capacity + 1 → placed moved 0 head k ≡ blockOf s brick (without x d) k
+      each : (k : ℕ) → k < s .capacity + 1 → placed moved 0 head k ≡ imageBlock s brick (without x d) k
       each zero h =
           placed-there moved 0 head
           ∙ ap (λ (k : ℕ). headBlock s brick k (x .promise)) (sym (without-count x d))

@@ -3,7 +3,7 @@ use Prim.Native.Nat.{_-_, _≤_, _+_}
 use native.Mathlib.Omega.{arith}
 use borrow.Author.Needs.{needs}
 use lib.ListN.{length}
-use Rattle.image.specs.Parse.{blockAt}
+use Rattle.image.specs.Parse.{imageBlockAt}
 use Rattle.image.proofs.Laws.ScanLaws.{part-is}
 use Rattle.image_write.proofs.Laws.BlocksLaws.{Shifting, shifting-none, shifting-more, shifted-all, block-long}
 use Rattle.image_write.proofs.shift_blocks.Statement.{statement}
@@ -40,7 +40,7 @@ part-copied-end : tie.Need-part-copied-end Inv-loop μ-loop
 part-copied-end c = omega arith
 
 long : (c : tie.After-copied-arg Inv-loop μ-loop)
-    → length (blockAt (c .before .before .before .loop .image) (c .before .before .before .before .before .args .d + c .before .before .before .loop .k + 1)) ≡ 512
+    → length (imageBlockAt (c .before .before .before .loop .image) (c .before .before .before .before .before .args .d + c .before .before .before .loop .k + 1)) ≡ 512
 long c = block-long _ _ (omega arith)
 
 copied-requires : tie.Need-copied-requires Inv-loop μ-loop

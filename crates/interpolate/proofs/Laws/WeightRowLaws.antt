@@ -22,11 +22,11 @@ use Rattle.interpolate.specs.Workers.{pointsOf}
 use Rattle.interpolate.proofs.Laws.WeightLaws.{weight-is}
 use Rattle.poly.proofs.Laws.InterpolationLaws.{interpolated-at}
 use Rattle.poly.specs.Polynomial.{Different, sum, basis, interpolated}
-use Rattle.interpolate.specs.Workers.{Ready, weight}
+use Rattle.interpolate.specs.Workers.{PointsReady, weight}
 use Rattle.interpolate.specs.Values.{PointSet}
 
 -- it is 2 to what the code sums up
-pub weight-by-logs : (logs points sums : List ℕ) (top x i : ℕ) → Ready logs points sums → ((k : ℕ) → getD points k 0 < 256) → x < 256
+pub weight-by-logs : (logs points sums : List ℕ) (top x i : ℕ) → PointsReady logs points sums → ((k : ℕ) → getD points k 0 < 256) → x < 256
     → ((k : ℕ) → k < length points → getD points k 0 ≡ x → ⊥) → top ≡ numerator logs points x (length points) → i < length points
     → weight points i x ≡ power ((top - getD logs (bitXor x (getD points i 0)) 0 + getD sums i 0) % 255)
 unfolding weight plus

@@ -1,8 +1,8 @@
 -- Laws of `specs/BenchExample`.
 use mathlib.Core.Path.{_≡_, refl}
 use mathlib.Core.List.{[], _∷_}
-use Rattle.order.specs.Claim.{stripe, read, write, changed, given, bytes, Outcome, finished, Seen}
-use Rattle.order.specs.Facts.{began, ended, cut, seen, shows, outcome}
+use Rattle.order.specs.Claim.{stripe, read, write, changed, given, bytes, finished, Seen}
+use Rattle.order.specs.Facts.{began, ended, cut, seen, shows, endingOf}
 use Rattle.order.specs.Valid.{Valid, start, fresh, onto}
 use Rattle.order.proofs.Laws.OneOrderTheorem.{one-order, the-order}
 use Rattle.order.proofs.Laws.ExampleLaws.{began-ok, promised-ok, stored-ok, showed-ok, launched-ok, launched-over-ok, committed-ok, ended-ok, at, _▷_, tests, orders}
@@ -76,7 +76,7 @@ bench-seen : seen bench
     ≡ Seen.began 16 (write ten) ∷ Seen.ended 16 Outcome.cut
     ∷ Seen.began 33 read ∷ Seen.ended 33 (finished (bytes nought))
     ∷ Seen.began 49 read ∷ Seen.ended 49 (finished (bytes nought)) ∷ []
-unfolding seen shows outcome
+unfolding seen shows endingOf
 bench-seen = refl
 
 -- The order: the write is nowhere, the two reads stand in turn.

@@ -6,7 +6,7 @@ use mathlib.Core.List.{List, [], _∷_}
 use Prim.Native.Nat.{ℕ}
 use lib.Dec.{lit≤}
 use lib.ListN.{getD, set as replaced}
-use Rattle.order.specs.Claim.{Plain, Answer, ok, bytes}
+use Rattle.order.specs.Claim.{Plain, Result, ok, bytes}
 use Rattle.order.specs.Facts.{itself, over, began, promised, launched, stored, showed, ended, written, one-round, History}
 use Rattle.order.specs.Quorums.{Quorums}
 use Rattle.order.specs.Valid.{Valid, start, sets, onto}
@@ -24,13 +24,13 @@ after (write-all v) s = v
 after (write-block j x) s = replaced s j x
 after (read-block j) s = s
 
-tells : BlockAction → List ℕ → Answer (List ℕ)
+tells : BlockAction → List ℕ → Result (List ℕ)
 tells (write-all v) s = ok
 tells (write-block j x) s = ok
 tells (read-block j) s = bytes (getD s j 0 ∷ [])
 
 abbrev blocks : Plain
-blocks = record { Kind = BlockAction; Stripe = List ℕ; Given = Answer (List ℕ); zeros = 0 ∷ 0 ∷ []; effect = after; gives = tells }
+blocks = record { Kind = BlockAction; Stripe = List ℕ; Given = Result (List ℕ); zeros = 0 ∷ 0 ∷ []; effect = after; gives = tells }
 
 abbrev four : Quorums
 four = record { n = 4; m = 2; q = 3; share = lit≤ tt; some = lit≤ tt }

@@ -4,10 +4,10 @@ use mathlib.Core.Logic.{_≢_, inl, inr}
 use mathlib.Core.List.{List, [], _∷_, List·Memᴰ·head, List·Memᴰ·tail}
 use Prim.Native.Nat.{ℕ, _≤_, _<_}
 use native.Mathlib.Omega.{arith}
-use Rattle.order.specs.Claim.{Plain, Op, Outcome, Seen, finished, _∈_, Before, Once}
+use Rattle.order.specs.Claim.{Plain, Op, Ending, Seen, finished, _∈_, Before, Once}
 use Rattle.order.specs.Places.{Suf, In}
 use Rattle.order.proofs.Laws.PlaceLaws.{suf-below, in-suf}
-use Rattle.order.specs.Facts.{End, written, recovered, one-round, aborted, cut, began, ended, History, outcome, seen}
+use Rattle.order.specs.Facts.{End, written, recovered, one-round, aborted, cut, began, ended, History, endingOf, seen}
 use Rattle.order.specs.Quorums.{Quorums}
 use Rattle.order.specs.Valid.{Began, Committed, Valid, fresh}
 use Rattle.order.proofs.Laws.FactLaws.{ok-at, committed-up, positive, launched-began, launched-positive}
@@ -66,7 +66,7 @@ module _ {S : Quorums} {P : Plain} {h : History P} (v : Valid S h) where
 
   -- an operation that finished is placed
   pub finished-placed : {t : ℕ} {g : P .Given} → EndOf h t (finished g) → (x : Entry P) × (x .op .time ≡ t) × Placed S h x
-  unfolding outcome
+  unfolding endingOf
   finished-placed {t} {g} w = go (w .0) (w .1) (w .2)
     where
       live-at : {b : History P} → Suf b h → Committed S b t → Began b t → (x : Entry P) × (x .op .time ≡ t) × Placed S h x
@@ -75,7 +75,7 @@ module _ {S : Quorums} {P : Plain} {h : History P} (v : Valid S h) where
           let p = live-placed l (committed (committed-up S s c)) in
           (entry t 0 t (p .0), refl, p .1)
 
-      go : (e : End P) → In (ended t e) h → outcome e ≡ finished g → (x : Entry P) × (x .op .time ≡ t) × Placed S h x
+      go : (e : End P) → In (ended t e) h → endingOf e ≡ finished g → (x : Entry P) × (x .op .time ≡ t) × Placed S h x
       go (written r) i d = let o = ok-at (i .1) v in live-at (suf-below (i .1)) (o .answer .0) (o .known)
       go (recovered r) i d = let o = ok-at (i .1) v in live-at (suf-below (i .1)) (o .answer .0) (o .known)
       go (one-round c r) i d = let b = (ok-at (i .1) v) .known in (_, refl, glance (i .1) (in-suf (suf-below (i .1)) (b .1)))
@@ -85,7 +85,7 @@ module _ {S : Quorums} {P : Plain} {h : History P} (v : Valid S h) where
   abbrev pub Stands : Op P → Type 0
   Stands o = (x : Entry P) × (x ∈ entries S h) × (o ≡ x .op)
 
-  pub real-time-order : (x y : Op P) (k : P .Kind) (r : Outcome P) → Stands x → Stands y
+  pub real-time-order : (x y : Op P) (k : P .Kind) (r : Ending P) → Stands x → Stands y
       → (d : History P) × Suf (began (y .time) k ∷ d) h × (Seen.ended (x .time) r ∈ seen d)
       → Before x y (ops (entries S h))
   real-time-order x y k r a b q =

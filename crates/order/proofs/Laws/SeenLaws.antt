@@ -4,9 +4,9 @@ use mathlib.Core.Logic.{_⊎_, inl, inr}
 use mathlib.Core.List.{List, [], _∷_, _++_, List·Memᴰ·head, List·Memᴰ·tail, List·Memᴰ·not-nil, List·Memᴰ·append-cases, List·Memᴰ·eq-of-singleton, Memᴰ·append-left, Memᴰ·append-right}
 use Prim.Native.Nat.{ℕ}
 use native.Mathlib.Omega.{arith}
-use Rattle.order.specs.Claim.{Plain, Outcome, Seen, _∈_, Before, here, later}
+use Rattle.order.specs.Claim.{Plain, Ending, Seen, _∈_, Before, here, later}
 use Rattle.order.specs.Places.{Suf, whole, above, In}
-use Rattle.order.specs.Facts.{End, Fact, began, promised, launched, stored, showed, ended, History, outcome, shows, seen}
+use Rattle.order.specs.Facts.{End, Fact, began, promised, launched, stored, showed, ended, History, endingOf, shows, seen}
 
 module _ {A : Type 0} where
   pub before-nil : {a b : A} → Before a b [] → ⊥
@@ -85,7 +85,7 @@ module _ {P : Plain} where
   shows-began (showed b u c) i = absurd (List·Memᴰ·not-nil i)
   shows-began (ended u d) i = let e = List·Memᴰ·eq-of-singleton i in cc
 
-  shows-ended : {t : ℕ} {r : Outcome P} (f : Fact P) → Seen.ended t r ∈ shows f → (e : End P) × (f ≡ ended t e) × (outcome e ≡ r)
+  shows-ended : {t : ℕ} {r : Ending P} (f : Fact P) → Seen.ended t r ∈ shows f → (e : End P) × (f ≡ ended t e) × (endingOf e ≡ r)
   unfolding shows
   shows-ended {t} {r} (began u j) i = let e = List·Memᴰ·eq-of-singleton i in let z : _≡_ {A = ℕ} 0 1 = cc in absurd (omega arith)
   shows-ended (promised b u) i = absurd (List·Memᴰ·not-nil i)
@@ -98,10 +98,10 @@ module _ {P : Plain} where
   unfolding shows
   seen-began i = in-seen (i .1) (List·Memᴰ·head refl)
 
-  abbrev pub EndOf : History P → ℕ → Outcome P → Type 0
-  EndOf h t r = (e : End P) × In (ended t e) h × (outcome e ≡ r)
+  abbrev pub EndOf : History P → ℕ → Ending P → Type 0
+  EndOf h t r = (e : End P) × In (ended t e) h × (endingOf e ≡ r)
 
-  pub seen-ended : (h : History P) {t : ℕ} {r : Outcome P} → Seen.ended t r ∈ seen h → EndOf h t r
+  pub seen-ended : (h : History P) {t : ℕ} {r : Ending P} → Seen.ended t r ∈ seen h → EndOf h t r
   seen-ended h i =
       let w = seen-in h i in
       let d = shows-ended (w .0) (w .3) in

@@ -8,7 +8,7 @@ use native.Mathlib.Decide.{ℕ-discrete}
 use Rattle.order.specs.Claim.{Plain, finished}
 use Rattle.order.specs.Places.{Suf, In}
 use Rattle.order.proofs.Laws.PlaceLaws.{suf-trans, suf-below, in-suf}
-use Rattle.order.specs.Facts.{itself, over, End, written, recovered, one-round, aborted, cut, began, launched, stored, showed, ended, History, outcome}
+use Rattle.order.specs.Facts.{itself, over, End, written, recovered, one-round, aborted, cut, began, launched, stored, showed, ended, History, endingOf}
 use Rattle.order.specs.Quorums.{Quorums, Many}
 use Rattle.order.specs.Valid.{Launched, Committed, Valid, Val, fresh, sets, onto}
 use Rattle.order.proofs.Laws.QuorumSetLaws.{many-map}
@@ -62,10 +62,10 @@ module _ {S : Quorums} {P : Plain} {h : History P} (v : Valid S h) where
   -- what an operation gave at a store
   pub given-at-store : {t : ℕ} {k : P .Kind} {s : P .Stripe} {r : P .Given} → Launched h t → In (began t k) h
       → Val h t (P .effect k s) → EndOf h t (finished r) → r ≡ P .gives k s
-  unfolding outcome
+  unfolding endingOf
   given-at-store {t} {k} {s} {r} l b x w = go (w .0) (w .1) (w .2)
     where
-      go : (e : End P) → In (ended t e) h → outcome e ≡ finished r → r ≡ P .gives k s
+      go : (e : End P) → In (ended t e) h → endingOf e ≡ finished r → r ≡ P .gives k s
       go (written y) i d =
           let g = (ok-at (i .1) v) .answer .1 in
           let f = one-kind v b (in-suf (suf-below (i .1)) (g .asked)) in
@@ -85,11 +85,11 @@ module _ {S : Quorums} {P : Plain} {h : History P} (v : Valid S h) where
   -- what a read of one round gave
   pub given-in-one-round : {t c : ℕ} {k : P .Kind} {s : P .Stripe} {y r : P .Given} {b : History P}
       → Suf (ended t (one-round c y) ∷ b) h → In (began t k) h → Val h c s → EndOf h t (finished r) → r ≡ P .gives k s
-  unfolding outcome
+  unfolding endingOf
   given-in-one-round {t} {c} {k} {s} {y} {r} {b} q i x w =
       let e = ended-once v (w .1 .1) q in
       let d : w .0 ≡ one-round c y = cc in
-      let o : finished y ≡ finished r = subst (λ (z : End P). outcome z ≡ finished r) d (w .2) in
+      let o : finished y ≡ finished r = subst (λ (z : End P). endingOf z ≡ finished r) d (w .2) in
       let g = (ok-at q v) .answer .2 in
       let f = one-kind v i (in-suf (suf-below q) (g .asked)) in
       let z = one-value (val-up (suf-below q) (g .value)) x refl in

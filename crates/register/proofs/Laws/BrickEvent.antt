@@ -20,7 +20,7 @@ use Rattle.image.specs.Parse.{Parsed, Opens, parse, openRefusal}
 use Rattle.image.proofs.Laws.ParseLaws.{parse-image}
 use Rattle.brick.specs.Receive
 use Rattle.brick.specs.Receive.{Outcome, outcome, blocksRefusal, receiveRefusal, refusedWith, givenBy}
-use Rattle.brick_log.specs.BrickRules.{placeFor, replyTo, after, blockAfter}
+use Rattle.brick_log.specs.BrickRules.{placeFor, replyTo, brickAfter, blockAfter}
 use Rattle.brick.specs.declared.Given.{Given}
 use Rattle.brick.specs.declared.Given.the-variants.{Answered, Silent, Refused}
 use Rattle.order.specs.Claim.{_∈_}
@@ -123,7 +123,7 @@ module _ (s : Settings) (g : SettingsRange s) (h : Hist s) (r : Moved s) (i : In
   -- a message reaches its brick
   pub message-arrives : (b : ℕ) (msg : Message) (block : List ℕ) → message b msg block ∈ r .world .sent
       → Goes s g r (arriving s (r .world) (message b msg block))
-  unfolding arriving outcome receiveRefusal blocksRefusal Receive.acted refusedWith givenBy repliedWith
+  unfolding arriving outcome receiveRefusal blocksRefusal Receive.accepted refusedWith givenBy repliedWith
   message-arrives b msg block was = up (r .world .up b)
     where
       out : List ℕ
@@ -150,11 +150,11 @@ module _ (s : Settings) (g : SettingsRange s) (h : Hist s) (r : Moved s) (i : In
           (brick-moved b (refusedWith refusal image out) h (grows-not s g b h (i .valid)) (i .bricks b low) (λ k m. absurd (List·Memᴰ·not-nil m)))
 
       acts : Received s g h (r .world .sent) b x msg block out
-          → Goes s g r (received s (r .world) b (Receive.acted s b msg block image out (Opens x)))
+          → Goes s g r (received s (r .world) b (Receive.accepted s b msg block image out (Opens x)))
       acts w = (
         w .later,
-        brick-moved b (Receive.acted s b msg block image out (Opens x)) (w .later) (w .grows)
-            (record { state = after s x msg block; saved = refl; sound = w .sound; keeps = w .keeps }) (λ k m. answered k (eqb (msg .kind) 5) refl m),
+        brick-moved b (Receive.accepted s b msg block image out (Opens x)) (w .later) (w .grows)
+            (record { state = brickAfter s x msg block; saved = refl; sound = w .sound; keeps = w .keeps }) (λ k m. answered k (eqb (msg .kind) 5) refl m),
       )
         where
           answered : (k : Item) (a : Bool) → eqb (msg .kind) 5 ≡ a
@@ -178,9 +178,9 @@ module _ (s : Settings) (g : SettingsRange s) (h : Hist s) (r : Moved s) (i : In
           (sensible (s .n) (s .m) msg (d .0)) was (eqb-true (length block) (s .size) (tested (eqb (length block) (s .size)) 1 (q .0)))
 
       decide : (a : Bool) → eqb refusal 0 ≡ a
-          → Goes s g r (received s (r .world) b (cond a (Receive.acted s b msg block image out (parse s b image)) (refusedWith refusal image out)))
+          → Goes s g r (received s (r .world) b (cond a (Receive.accepted s b msg block image out (parse s b image)) (refusedWith refusal image out)))
       decide true e =
-          subst (λ (z : Parsed). Goes s g r (received s (r .world) b (Receive.acted s b msg block image out z))) (sym opens)
+          subst (λ (z : Parsed). Goes s g r (received s (r .world) b (Receive.accepted s b msg block image out z))) (sym opens)
           (acts (passes (eqb-true refusal 0 e)))
       decide false e = (h, still (refusedWith refusal image out) refl)
 

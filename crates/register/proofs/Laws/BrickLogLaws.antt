@@ -11,7 +11,7 @@ use borrow.Author.Tests.{ltb-true, ltb-false, leb-true}
 use Rattle.settings.specs.Ranges.{SettingsRange}
 use Rattle.byte_lists.proofs.Laws.BoolLaws.{and-left, and-right}
 use Rattle.settings.specs.declared.Settings.{Settings}
-use Rattle.image.specs.Brick.{Brick, LogEntry, count, timeAt, heldAt, newest}
+use Rattle.image.specs.Brick.{Brick, LogEntry, entryCount, timeAt, heldAt, newest}
 use Rattle.image.specs.Brick.{Sound}
 use Rattle.image_write.specs.Saving
 use Rattle.brick_log.specs.BrickRules.{aboveNewest, notBelowPromise, hasFree, readYes, orderYes, writeYes, trimmed, trimmedTo, under}
@@ -21,7 +21,7 @@ use Rattle.order.specs.Places.{Suf, whole, above, In}
 use Rattle.order.proofs.Laws.PlaceLaws.{in-top}
 use Rattle.order.specs.Valid.{Began, Launched, Committed, Gone, OkPromised, OkStored, OkShowed, Ok, Valid, next}
 use Rattle.order.proofs.Laws.GoneLaws.{gone-up}
-use Rattle.coord_apply.specs.Answers.{Held}
+use Rattle.coord_apply.specs.Answers.{Buffered}
 use Rattle.register.specs.Runs.{plain, Item}
 use Rattle.register.proofs.Laws.Invariant.{quorums, Hist, Means, Stands, BrickInv, CoordinatorInv}
 use Rattle.register.proofs.Laws.UpLaws.{in-cons, means-up, stands-up, AtBrick, AtCoordinator, brick-up, coordinator-up}
@@ -33,7 +33,7 @@ pub record Grows (s : Settings) (g : SettingsRange s) (b : ℕ) (h h′ : Hist s
   pub longer : Suf h h′
   pub same-seen : seen h′ ≡ seen h
   pub others : (b′ : ℕ) → (b′ ≡ b → ⊥) → (x : Brick) → BrickInv s g h b′ x → BrickInv s g h′ b′ x
-  pub coordinators : (sent : List Item) (c : ℕ) (k : Held) → CoordinatorInv s g h sent c k → CoordinatorInv s g h′ sent c k
+  pub coordinators : (sent : List Item) (c : ℕ) (k : Buffered) → CoordinatorInv s g h sent c k → CoordinatorInv s g h′ sent c k
 
 module _ (s : Settings) (g : SettingsRange s) (b : ℕ) (h : Hist s) (v : Valid (quorums s g) h) where
   pub grows-not : Grows s g b h h
@@ -67,11 +67,11 @@ pub order-above : (x : Brick) (t : ℕ) → orderYes x t ≡ true → (newest x 
 unfolding orderYes aboveNewest notBelowPromise
 order-above x t e = (ltb-true (newest x) t (and-left _ _ e), leb-true (x .promise) t (and-right (ltb (newest x) t) _ e))
 
-pub write-above : (s : Settings) (x : Brick) (t : ℕ) → writeYes s x t ≡ true → (newest x < t) × (x .promise ≤ t) × (count x < s .capacity)
+pub write-above : (s : Settings) (x : Brick) (t : ℕ) → writeYes s x t ≡ true → (newest x < t) × (x .promise ≤ t) × (entryCount x < s .capacity)
 unfolding writeYes hasFree
 write-above s x t e =
     let w = order-above x t (and-left _ _ e) in
-    (w .0, w .1, ltb-true (count x) (s .capacity) (and-right (orderYes x t) _ e))
+    (w .0, w .1, ltb-true (entryCount x) (s .capacity) (and-right (orderYes x t) _ e))
 
 pub read-settled : (x : Brick) → readYes x ≡ true → x .promise ≤ newest x
 unfolding readYes notBelowPromise
@@ -82,8 +82,8 @@ module _ {s : Settings} {g : SettingsRange s} {b : ℕ} {h : Hist s} {x : Brick}
   pub ok-promised : (t : ℕ) → Began h t → orderYes x t ≡ true → OkPromised h b t
   ok-promised t k e = record { known = k; rising = λ u p. let w = i .bounded u p in omega (arith, order-above x t e .1) }
 
-  pub brick-promised : (t : ℕ) → Valid (quorums s g) (promised b t ∷ h) → orderYes x t ≡ true → BrickInv s g (promised b t ∷ h) b (Saving.promised x t)
-  unfolding Saving.promised
+  pub brick-promised : (t : ℕ) → Valid (quorums s g) (promised b t ∷ h) → orderYes x t ≡ true → BrickInv s g (promised b t ∷ h) b (Saving.withPromise x t)
+  unfolding Saving.withPromise
   brick-promised t v e =
       record {
         bounded = λ u p. bound u (in-cons p);
@@ -113,8 +113,8 @@ module _ {s : Settings} {g : SettingsRange s} {b : ℕ} {h : Hist s} {x : Brick}
   ok-stored t k e = record { known = k; allowed = λ u p. let w = i .bounded u p in omega (arith, write-above s x t e .1) }
 
   pub brick-stored : (t : ℕ) (block : List ℕ) → Valid (quorums s g) (stored b t ∷ h) → Means s h t b block
-      → BrickInv s g (stored b t ∷ h) b (Saving.appended x t block)
-  unfolding Saving.appended
+      → BrickInv s g (stored b t ∷ h) b (Saving.withEntry x t block)
+  unfolding Saving.withEntry
   brick-stored t block v means =
       record {
         bounded = λ u p. bound u (in-cons p);
@@ -152,7 +152,7 @@ module _ {s : Settings} {g : SettingsRange s} {b : ℕ} {h : Hist s} {x : Brick}
 
   -- a yes to Read
   pub ok-showed : (t : ℕ) → Began h t → readYes x ≡ true → OkShowed h b t (newest x)
-  unfolding count
+  unfolding entryCount
   ok-showed t k e =
       let w = newest-entry x (r .count-low) in
       record {
@@ -162,8 +162,8 @@ module _ {s : Settings} {g : SettingsRange s} {b : ℕ} {h : Hist s} {x : Brick}
       }
 
   -- what the newest entry holds
-  pub newest-means : Means s h (newest x) b (heldAt x (count x - 1))
-  unfolding count
+  pub newest-means : Means s h (newest x) b (heldAt x (entryCount x - 1))
+  unfolding entryCount
   newest-means =
       let w = newest-entry x (r .count-low) in
       subst (λ (z : ℕ). Means s h z b (heldAt x (length (x .log) - 1))) (w .2)

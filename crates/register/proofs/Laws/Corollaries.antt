@@ -10,7 +10,7 @@ use lib.ListN.{length}
 use Rattle.settings.specs.Ranges.{settingsRefusal}
 use Rattle.settings.specs.declared.Settings.{Settings}
 use Rattle.coord_apply.specs.Answers.{Step, refused, went}
-use Rattle.coord_apply.specs.declared.Seen.{Seen as Shown}
+use Rattle.coord_apply.specs.declared.Notice.{Notice}
 use Rattle.order.specs.Claim.{write, ok, bytes, finished, Seen, _∈_}
 use Rattle.register.specs.Runs.{Item, message, reply, World, Event, startWrite, startRead, arrives, crashes, goesDown, comesUp, Moved, unmoved, seenOf, coordinated, received, arriving, arrivingAt, standing, step, run}
 use Rattle.register.specs.OrderUse.{EndedBefore}
@@ -50,7 +50,7 @@ one-of false false false true f p q r x y = omega arith
 one-of false false false false true p q r x y = omega arith
 one-of false false false false false p q r x y = omega arith
 
-seen-one : (s : Settings) (e : Shown) (kept : List ℕ) → length (seenOf s e kept) ≤ 1
+seen-one : (s : Settings) (e : Notice) (kept : List ℕ) → length (seenOf s e kept) ≤ 1
 unfolding seenOf
 seen-one s e kept = one-of (eqb (e .what) 1) (eqb (e .what) 2) (eqb (e .what) 3) (eqb (e .what) 4) (eqb (e .what) 5) _ _ _ _ _
 

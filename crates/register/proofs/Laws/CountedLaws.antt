@@ -17,11 +17,11 @@ use Rattle.message.specs.Flags.{member}
 use Rattle.message.specs.declared.Reply.{Reply}
 use Rattle.coord_decide.specs.Deciding.{tallied}
 use Rattle.erasure.specs.Code.{blockOf}
-use Rattle.coord_apply.specs.Acts.{placed, withTally, counting}
-use Rattle.coord_apply.specs.Answers.{Held, Went}
+use Rattle.coord_apply.specs.Acts.{withReplyBlock, withTally, counting}
+use Rattle.coord_apply.specs.Answers.{Buffered, Went}
 use Rattle.coordinator.proofs.Laws.RoutineLaws.{place-fits}
 use Rattle.coord_laws.proofs.Laws.CodedBlockLaws.{placed-same, placed-other}
-use Rattle.coord_laws.proofs.Laws.StepRunLaws.{Took}
+use Rattle.coord_laws.proofs.Laws.StepRunLaws.{ReplyTaken}
 use Rattle.coord_laws.proofs.Laws.TallyLaws.{tallied-sized}
 use Rattle.order.specs.Claim.{_∈_}
 use Rattle.register.specs.Runs.{Item, reply}
@@ -37,8 +37,8 @@ unfolding member
 member-other l b j v n = ap (λ (z : ℕ). eqb z 1) (getD-set-other l b j v 0 n)
 
 -- A reply that is not refused is counted.
-pub counting-keeps : (s : Settings) (g : SettingsRange s) (h : Hist s) (sent : List Item) (c : ℕ) (k : Held) (r : Reply) (block : List ℕ) (coded : ℕ) (w : Went)
-    → CoordinatorInv s g h sent c k → Took (s .n) (s .m) (s .size) k r block coded w → reply r block ∈ sent → CoordinatorInv s g h sent c (counting (s .size) k r block)
+pub counting-keeps : (s : Settings) (g : SettingsRange s) (h : Hist s) (sent : List Item) (c : ℕ) (k : Buffered) (r : Reply) (block : List ℕ) (coded : ℕ) (w : Went)
+    → CoordinatorInv s g h sent c k → ReplyTaken (s .n) (s .m) (s .size) k r block coded w → reply r block ∈ sent → CoordinatorInv s g h sent c (counting (s .size) k r block)
 unfolding counting withTally tallied
 counting-keeps s g h sent c k r block coded w i t was =
     record {
@@ -64,18 +64,18 @@ counting-keeps s g h sent c k r block coded w i t was =
     low = let a = t .takes .brick-low in let b = g .code .n-high in omega arith
 
     blocks : List ℕ
-    blocks = cond (r .held) (placed (s .size) (r .brick) block (k .blocks)) (k .blocks)
+    blocks = cond (r .held) (withReplyBlock (s .size) (r .brick) block (k .blocks)) (k .blocks)
 
-    after : Held
+    after : Buffered
     after = counting (s .size) k r block
 
     -- the block of the brick that is counted, and those of the others
-    here : (a : Bool) → r .held ≡ a → a ≡ true → blockOf (s .size) (cond a (placed (s .size) (r .brick) block (k .blocks)) (k .blocks)) (r .brick) ≡ block
+    here : (a : Bool) → r .held ≡ a → a ≡ true → blockOf (s .size) (cond a (withReplyBlock (s .size) (r .brick) block (k .blocks)) (k .blocks)) (r .brick) ≡ block
     here true e q = placed-same (s .size) (r .brick) block (k .blocks) (t .takes .block-length e) (place-fits _ _ _ _ _ _ _ _ _ (t .takes))
     here false e q = let z : _≡_ {A = ℕ} 0 1 = cc in absurd (omega arith)
 
     there : (a : Bool) → r .held ≡ a → (b : ℕ) → b ≢ r .brick
-        → blockOf (s .size) (cond a (placed (s .size) (r .brick) block (k .blocks)) (k .blocks)) b ≡ blockOf (s .size) (k .blocks) b
+        → blockOf (s .size) (cond a (withReplyBlock (s .size) (r .brick) block (k .blocks)) (k .blocks)) b ≡ blockOf (s .size) (k .blocks) b
     there true e b n =
         placed-other (s .size) (r .brick) b block (k .blocks) (t .takes .block-length e) (place-fits _ _ _ _ _ _ _ _ _ (t .takes)) n
     there false e b n = refl

@@ -13,15 +13,15 @@ use Rattle.byte_lists.proofs.Laws.BoolLaws.{and-left, and-right}
 use Rattle.settings.specs.declared.Settings.{Settings}
 use Rattle.coord_record.specs.Records.{noBricks, noOp, idleWith}
 use Rattle.coord_apply.specs.Acts.{ending}
-use Rattle.coord_apply.specs.Answers.{Held, Went, refused, went, checked, nothingSeen, cutSeen}
+use Rattle.coord_apply.specs.Answers.{Buffered, Went, refused, went, afterChecks, nothingSeen, cutSeen}
 use Rattle.coord_refusals.specs.Checks.{crashRefusal}
 use Rattle.coordinator.specs.Routines.{crashed, crashStep}
 use Rattle.order.specs.Claim.{Seen}
-use Rattle.order.specs.Facts.{cut, shows, outcome}
+use Rattle.order.specs.Facts.{cut, shows, endingOf}
 use Rattle.register.specs.Runs.{plain, Left, untouched, lost, Item, Moved, seenOf, broadcasts, coordinated, buffersFit, leaving, leftBy}
 use Rattle.register.proofs.Laws.Invariant.{Hist, Inv}
 use Rattle.register.proofs.Laws.Invariant.{Goes}
-use Rattle.register.proofs.Laws.TurnLaws.{Turns, Turned, goes-turned, goes-refused}
+use Rattle.register.proofs.Laws.TurnLaws.{Turns, TurnedRound, goes-turned, goes-refused}
 use Rattle.register.proofs.Laws.RoundLaws.{stays, ends}
 
 both-equal : (a b c d : ℕ) → (eqb a b && eqb c d ≡ true) ↔ ((a ≡ b) × (c ≡ d))
@@ -36,7 +36,7 @@ unfolding buffersFit
 long s blocks stripe e = let w = simp both-equal at e in (omega (arith, w .0), omega (arith, w .1))
 
 -- what a crash leaves: what there was, or the same record with lists of the right lengths
-pub left-by : (s : Settings) (left : Left) (k : Held) (P : Held → Type 0) → P k
+pub left-by : (s : Settings) (left : Left) (k : Buffered) (P : Buffered → Type 0) → P k
     → ((blocks stripe : List ℕ) → length blocks ≡ s .n * s .size → length stripe ≡ s .m * s .size
     → P (record { state = k .state; blocks = blocks; stripe = stripe }))
     → P (leaving s left k)
@@ -50,10 +50,10 @@ left-by s (lost blocks stripe) k P p f = go (buffersFit s blocks stripe) refl
 
 -- nothing is asked of an idle coordinator's buffers
 left-turned : (s : Settings) (g : SettingsRange s) (h : Hist s) (sent : List Item) (c : ℕ) (left : Left) (w : Went)
-    → w .next .state .op .kind ≡ 0 → ((a b : List ℕ) → seenOf s (w .seen) a ≡ seenOf s (w .seen) b) → Turned s g h sent c w
-    → Turned s g h sent c (record { next = leaving s left (w .next); sent = w .sent; seen = w .seen })
+    → w .next .state .op .kind ≡ 0 → ((a b : List ℕ) → seenOf s (w .seen) a ≡ seenOf s (w .seen) b) → TurnedRound s g h sent c w
+    → TurnedRound s g h sent c (record { next = leaving s left (w .next); sent = w .sent; seen = w .seen })
 left-turned s g h sent c left w e same t =
-    left-by s left (w .next) (λ (k : Held). Turned s g h sent c (record { next = k; sent = w .sent; seen = w .seen })) t
+    left-by s left (w .next) (λ (k : Buffered). TurnedRound s g h sent c (record { next = k; sent = w .sent; seen = w .seen })) t
     (λ blocks stripe eb es.
     record {
       later = t .later;
@@ -65,10 +65,10 @@ left-turned s g h sent c left w e same t =
 
 pub crash-goes : (s : Settings) (g : SettingsRange s) (h : Hist s) (r : Moved s) → Inv s g h r → (c : ℕ) (left : Left)
     → Goes s g r (coordinated s (r .world) c (leftBy s left (crashStep (s .n) (s .m) (s .size) (r .world .coordinators c))))
-unfolding crashStep checked crashed leftBy
+unfolding crashStep afterChecks crashed leftBy
 crash-goes s g h r i c left = go (leb refusal 0)
   where
-    k : Held
+    k : Buffered
     k = r .world .coordinators c
 
     refusal : ℕ
@@ -78,15 +78,15 @@ crash-goes s g h r i c left = go (leb refusal 0)
     with-left : Went → Went
     with-left w = record { next = leaving s left (w .next); sent = w .sent; seen = w .seen }
 
-    cuts : (k .state .op .kind ≡ 0 → ⊥) → Turned s g h (r .world .sent) c (ending k (k .stripe) [] cutSeen noBricks)
+    cuts : (k .state .op .kind ≡ 0 → ⊥) → TurnedRound s g h (r .world .sent) c (ending k (k .stripe) [] cutSeen noBricks)
     cuts n =
         let w = i .coordinators c .runs n in
         ends s g h (r .world .sent) c k (i .coordinators c) (i .valid) cut (k .stripe) [] cutSeen noBricks (w .own)
-        (record { known = w .known; running = w .unended; answer = tt }) (unfold ending seenOf shows outcome in refl)
+        (record { known = w .known; running = w .unended; answer = tt }) (unfold ending seenOf shows endingOf in refl)
         (λ z m. absurd (unfold broadcasts in List·Memᴰ·not-nil m)) (λ b msg block m. absurd (unfold broadcasts in List·Memᴰ·not-nil m))
 
     busy : (a : Bool) → eqb (k .state .op .kind) 0 ≡ a
-        → Turned s g h (r .world .sent) c
+        → TurnedRound s g h (r .world .sent) c
         (with-left (cond a (record { next = k; sent = []; seen = nothingSeen }) (ending k (k .stripe) [] cutSeen noBricks)))
     busy true e =
         left-turned s g h (r .world .sent) c left (record { next = k; sent = []; seen = nothingSeen }) (eqb-true (k .state .op .kind) 0 e)

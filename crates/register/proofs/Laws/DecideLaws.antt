@@ -22,9 +22,9 @@ use Rattle.coord_record.specs.Records.{noBricks}
 use Rattle.coord_record.specs.SoundParts.{SoundParts}
 use Rattle.coord_tally.specs.Counting.{saidNo}
 use Rattle.coord_apply.specs.Acts.{roundMessage, trimMessage, nextOp, nextRound, ending, finishedSeen}
-use Rattle.coord_apply.specs.Answers.{Held, abortedSeen}
+use Rattle.coord_apply.specs.Answers.{Buffered, abortedSeen}
 use Rattle.order.specs.Claim.{Action, read, write, ok, bytes, changed, given, _∈_}
-use Rattle.order.specs.Facts.{Source, itself, End, written, recovered, aborted, Fact, began, promised, launched, stored, ended, shows, outcome}
+use Rattle.order.specs.Facts.{Source, itself, End, written, recovered, aborted, Fact, began, promised, launched, stored, ended, shows, endingOf}
 use Rattle.order.specs.Places.{whole, above, In}
 use Rattle.order.proofs.Laws.PlaceLaws.{in-above, in-top}
 use Rattle.order.specs.Quorums.{Many}
@@ -33,18 +33,18 @@ use Rattle.order.proofs.Laws.FactLaws.{committed-up}
 use Rattle.register.specs.Runs.{plain, Item, message, reply, seenOf, blockFor, broadcasts}
 use Rattle.register.proofs.Laws.Invariant.{quorums, Hist, MessageInv, ReplyInv, ItemInv, Running, CoordinatorInv}
 use Rattle.register.proofs.Laws.UpLaws.{in-cons}
-use Rattle.register.proofs.Laws.TurnLaws.{time-of, turns-launched, in-broadcast, Turned}
+use Rattle.register.proofs.Laws.TurnLaws.{time-of, turns-launched, in-broadcast, TurnedRound}
 use Rattle.register.proofs.Laws.RoundLaws.{ends, opens}
 use Rattle.coord_laws.proofs.Laws.OpCaseLaws.{Fit, fit}
 use Rattle.coord_laws.proofs.Laws.SentMessageLaws.{time-valid}
 
 -- what a sound record says of its operation
-pub record SoundOp (s : Settings) (k : Held) : Type 0 where
+pub record SoundOp (s : Settings) (k : Buffered) : Type 0 where
   pub fits : 1 ≤ k .state .op .phase → Fit (k .state .op)
   pub first-low : k .state .op .first < s .n
   pub time-high : 1 ≤ k .state .op .kind → k .state .op .time < noUpperEnd
 
-pub sound-op : (s : Settings) (k : Held) → SoundParts (s .n) (s .m) (k .state) → SoundOp s k
+pub sound-op : (s : Settings) (k : Buffered) → SoundParts (s .n) (s .m) (k .state) → SoundOp s k
 unfolding validTime
 sound-op s k p =
     record {
@@ -63,7 +63,7 @@ pub T-true : (a : Bool) → T a → a ≡ true
 T-true true t = refl
 T-true false t = absurd t
 
-module _ (s : Settings) (g : SettingsRange s) (h : Hist s) (sent : List Item) (c : ℕ) (k : Held) (v : Valid (quorums s g) h)
+module _ (s : Settings) (g : SettingsRange s) (h : Hist s) (sent : List Item) (c : ℕ) (k : Buffered) (v : Valid (quorums s g) h)
     (i : CoordinatorInv s g h sent c k) (items : (z : Item) → z ∈ sent → ItemInv s g h sent z) (n : k .state .op .kind ≡ 0 → ⊥) where
   -- the running operation
   pub now : Running s g h sent c k
@@ -93,10 +93,10 @@ module _ (s : Settings) (g : SettingsRange s) (h : Hist s) (sent : List Item) (c
       record { set = member (k .state .tally .counted); enough = l; each = λ b w t. f b (T-true (member (k .state .tally .counted) b) t) }
 
   -- the operation ends aborted
-  pub does-abort : Turned s g h sent c (ending k (k .stripe) [] abortedSeen noBricks)
+  pub does-abort : TurnedRound s g h sent c (ending k (k .stripe) [] abortedSeen noBricks)
   does-abort =
       ends s g h sent c k i v aborted (k .stripe) [] abortedSeen noBricks (now .own)
-      (record { known = now .known; running = now .unended; answer = tt }) (unfold ending seenOf shows outcome in refl)
+      (record { known = now .known; running = now .unended; answer = tt }) (unfold ending seenOf shows endingOf in refl)
       (λ z m. absurd (unfold broadcasts in List·Memᴰ·not-nil m)) (λ b msg block m. absurd (unfold broadcasts in List·Memᴰ·not-nil m))
 
   -- a Write round is sent
@@ -104,7 +104,7 @@ module _ (s : Settings) (g : SettingsRange s) (h : Hist s) (sent : List Item) (c
       → Val (launched (k .state .op .time) source ∷ h) (k .state .op .time) stripe
       → Stripe (s .m) (s .size) stripe
       → (k .state .op .kind ≡ 2 → In (began (k .state .op .time) (write stripe)) h)
-      → Turned s g h sent c (nextRound k 4 0 bricks stripe (codedOf (s .n) (s .m) (s .size) stripe))
+      → TurnedRound s g h sent c (nextRound k 4 0 bricks stripe (codedOf (s .n) (s .m) (s .size) stripe))
   launches source bricks stripe o value proper writes =
       opens s g h sent c k i n later 4 0 bricks stripe (codedOf (s .n) (s .m) (s .size) stripe)
       (turns-launched s g c h v (k .state .op .time) source o (now .own) [] refl)
@@ -142,7 +142,7 @@ module _ (s : Settings) (g : SettingsRange s) (h : Hist s) (sent : List Item) (c
   -- the Write round of a write
   pub does-store : k .state .op .kind ≡ 2 → k .state .op .phase ≡ 2 → some (saidNo (k .state .tally .counted) (k .state .tally .granted)) (s .n) ≡ false
       → quorum (s .n) (s .m) ≤ members (k .state .tally .counted) (s .n)
-      → Turned s g h sent c (nextRound k 4 0 noBricks (k .stripe) (codedOf (s .n) (s .m) (s .size) (k .stripe)))
+      → TurnedRound s g h sent c (nextRound k 4 0 noBricks (k .stripe) (codedOf (s .n) (s .m) (s .size) (k .stripe)))
   unfolding changed
   does-store kind phase yeses enough =
       let w = now .writes kind in
@@ -203,7 +203,7 @@ module _ (s : Settings) (g : SettingsRange s) (h : Hist s) (sent : List Item) (c
   pub does-finish : (k .state .op .kind ≡ 1) ⊎ (k .state .op .kind ≡ 2) → k .state .op .phase ≡ 4
       → some (saidNo (k .state .tally .counted) (k .state .tally .granted)) (s .n) ≡ false
       → quorum (s .n) (s .m) ≤ members (k .state .tally .counted) (s .n)
-      → Turned s g h sent c
+      → TurnedRound s g h sent c
       (ending k (k .stripe) (record { message = trimMessage (k .state .op); blocks = [] } ∷ []) (finishedSeen (k .state .op)) (k .state .bricks))
   unfolding changed given
   does-finish (inl kind) phase yeses enough =
@@ -218,7 +218,7 @@ module _ (s : Settings) (g : SettingsRange s) (h : Hist s) (sent : List Item) (c
           record { kind = read; asked = now .reads kind; keeps = λ z. refl; stripe = k .stripe; value = now .storing phase .1; bytes = refl },
         );
       })
-      (unfold ending seenOf shows outcome finishedSeen in rw (eq-eqb (k .state .op .kind) 1 kind) refl)
+      (unfold ending seenOf shows endingOf finishedSeen in rw (eq-eqb (k .state .op .kind) 1 kind) refl)
       (trims many (recovered (bytes (k .stripe)))) owns
   does-finish (inr kind) phase yeses enough =
       let many = stored-quorum phase yeses enough in
@@ -229,5 +229,5 @@ module _ (s : Settings) (g : SettingsRange s) (h : Hist s) (sent : List Item) (c
         running = now .unended;
         answer = (inr many, record { kind = write (k .stripe); asked = now .writes kind .0; blind = λ z. refl });
       })
-      (unfold ending seenOf shows outcome finishedSeen in rw (ne-eqb (k .state .op .kind) 1 (λ q. omega (arith, q))) refl)
+      (unfold ending seenOf shows endingOf finishedSeen in rw (ne-eqb (k .state .op .kind) 1 (λ q. omega (arith, q))) refl)
       (trims many (written ok)) owns

@@ -9,24 +9,24 @@ use lib.ListN.{length, getD, take}
 use borrow.Author.Tests.{lt-ltb, ltb-false, le-leb, lt-leb}
 use Rattle.settings.specs.Count.{count}
 use Rattle.interpolate.specs.Values.{PointSet}
-use Rattle.coord_record.specs.CountedRules.{above, isTarget}
+use Rattle.coord_record.specs.CountedRules.{stepsAbove, isTarget}
 use Rattle.coord_tally.specs.Counting.{upward, targetRow, atTimes, picked}
 use Rattle.coord_tally.proofs.Laws.RowSets.{target-at, target-long, target-below, target-set, picked-long, picked-below, picked-set}
 
 -- a row names m different bricks of n
-pub record Row (n m : ℕ) (row : List ℕ) : Type 0 where
+pub record DecodedRow (n m : ℕ) (row : List ℕ) : Type 0 where
   pub long : length row ≡ 16
   pub below : (i : ℕ) → i < m → getD row i 0 < n
   pub set : PointSet (take m row)
 
 -- the targets of a read
 module _ (n m first : ℕ) (high : n ≤ 16) (fit : m ≤ n) (low : first < n) where
-  pub target-row : Row n m (targetRow n m first)
+  pub target-row : DecodedRow n m (targetRow n m first)
   target-row = record { long = target-long n m first high fit low; below = target-below n m first high fit low; set = target-set n m first high fit low }
 
   -- each is a target
   pub target-is : (i : ℕ) → i < m → isTarget n m first (getD (targetRow n m first) i 0) ≡ true
-  unfolding upward isTarget above
+  unfolding upward isTarget stepsAbove
   target-is i l = ap (isTarget n m first) (target-at n m first high fit low i l) ∙ go (ltb (first + i) n) refl
     where
       go : (b : Bool) → ltb (first + i) n ≡ b → isTarget n m first (cond b (first + i) (first + i - n)) ≡ true
@@ -36,6 +36,6 @@ module _ (n m first : ℕ) (high : n ≤ 16) (fit : m ≤ n) (low : first < n) w
           rw (lt-leb first (first + i - n) (omega arith), lt-ltb (n - first + (first + i - n)) m (omega arith)) refl
 
 -- the bricks that a recovery decodes from
-pub picked-row : (held found : List ℕ) (time n m : ℕ) → m ≤ count (atTimes held found time) n → m ≤ 16 → Row n m (picked held found time n m)
+pub picked-row : (held found : List ℕ) (time n m : ℕ) → m ≤ count (atTimes held found time) n → m ≤ 16 → DecodedRow n m (picked held found time n m)
 picked-row held found time n m enough few =
     record { long = picked-long held found time n m enough few; below = picked-below held found time n m enough few; set = picked-set held found time n m enough few }

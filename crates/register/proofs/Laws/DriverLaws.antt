@@ -24,7 +24,7 @@ use Rattle.coord_decide.specs.declared.Decision.{Decision}
 use Rattle.coord_decide.specs.declared.Decision.the-variants.{Abort, Give, Look, Store, Recover, Finish}
 use Rattle.erasure.specs.Code.{blockOf}
 use Rattle.coord_apply.specs.Acts.{nextRound, ending, acted, counting, waitingOr, starting}
-use Rattle.coord_apply.specs.Answers.{Held, Broadcast, Went, Step, refused, went, checked, nothingSeen, cutSeen, sentCount, sentMessage, sentBlocks, answerOf, blocksAfter, stripeAfter, codedAfter}
+use Rattle.coord_apply.specs.Answers.{Buffered, Broadcast, Went, Step, refused, went, afterChecks, nothingSeen, cutSeen, sentCount, sentMessage, sentBlocks, answerOf, blocksAfter, stripeAfter, codedAfter}
 use Rattle.coordinator.specs.Routines.{takeStep, crashStep, crashed, drawnThen, writeStep, readStep}
 use Rattle.order.specs.Claim.{Seen}
 use Rattle.register.specs.Runs.{plain, Item, message, reply, World, startWrite, startRead, untouched, lost, crashes, Moved, unmoved, putAt, seenOf, blockFor, toAll, broadcasts, coordinated, received, arriving, buffersFit, leaving, leftBy, step}
@@ -67,14 +67,14 @@ pub coordinated-is-driven : (s : Settings) (w : World) (c : ℕ) (p : Step) (old
     ≡ driven s w c (answerOf (w .coordinators c .state) p) (blocksAfter (w .coordinators c) p) (stripeAfter (w .coordinators c) p) (codedAfter old p)
 unfolding coordinated driven unmoved answerOf blocksAfter stripeAfter codedAfter nothingSeen seenOf
 coordinated-is-driven s w c (refused number) old h =
-    ap₂ (λ (f : ℕ → Held) (l : List Item). makes f l []) (sym (put-same (w .coordinators) c)) (sym (append-nil (w .sent)))
+    ap₂ (λ (f : ℕ → Buffered) (l : List Item). makes f l []) (sym (put-same (w .coordinators) c)) (sym (append-nil (w .sent)))
   where
-    makes : (ℕ → Held) → List Item → List (Seen (plain s)) → Moved s
+    makes : (ℕ → Buffered) → List Item → List (Seen (plain s)) → Moved s
     makes f l seen = record { world = record { images = w .images; up = w .up; coordinators = f; sent = l }; seen = seen }
 coordinated-is-driven s w c (went g) old h =
     ap (λ (l : List Item). makes (putAt (w .coordinators) c (g .next)) (w .sent ++ l) (seenOf s (g .seen) (g .next .stripe))) (same-sent s old h)
   where
-    makes : (ℕ → Held) → List Item → List (Seen (plain s)) → Moved s
+    makes : (ℕ → Buffered) → List Item → List (Seen (plain s)) → Moved s
     makes f l seen = record { world = record { images = w .images; up = w .up; coordinators = f; sent = l }; seen = seen }
 
 -- what a crash leaves: the buffers as they were,
@@ -84,32 +84,32 @@ left-untouched s (refused number) = refl
 left-untouched s (went g) = refl
 
 -- or other lists of the right lengths
-left-lost : (s : Settings) (blocks stripe : List ℕ) (h : Held) → length blocks ≡ s .n * s .size → length stripe ≡ s .m * s .size
+left-lost : (s : Settings) (blocks stripe : List ℕ) (h : Buffered) → length blocks ≡ s .n * s .size → length stripe ≡ s .m * s .size
     → leaving s (lost blocks stripe) h ≡ record { state = h .state; blocks = blocks; stripe = stripe }
 unfolding leaving buffersFit
 left-lost s blocks stripe h eb es = simp (eq-eqb _ _ eb, eq-eqb _ _ es)
 
 lost-is-driven : (s : Settings) (w : World) (c : ℕ) (blocks stripe old : List ℕ) → length blocks ≡ s .n * s .size → length stripe ≡ s .m * s .size
-    → (k : ℕ) (g : Went) → AtMostOne (g .sent) → answerOf (w .coordinators c .state) (checked k (went g)) .refusal ≡ 0
-    → coordinated s w c (leftBy s (lost blocks stripe) (checked k (went g)))
-    ≡ driven s w c (answerOf (w .coordinators c .state) (checked k (went g))) blocks stripe (codedAfter old (checked k (went g)))
-unfolding checked leftBy answerOf blocksAfter stripeAfter codedAfter
+    → (k : ℕ) (g : Went) → AtMostOne (g .sent) → answerOf (w .coordinators c .state) (afterChecks k (went g)) .refusal ≡ 0
+    → coordinated s w c (leftBy s (lost blocks stripe) (afterChecks k (went g)))
+    ≡ driven s w c (answerOf (w .coordinators c .state) (afterChecks k (went g))) blocks stripe (codedAfter old (afterChecks k (went g)))
+unfolding afterChecks leftBy answerOf blocksAfter stripeAfter codedAfter
 lost-is-driven s w c blocks stripe old eb es k g h = go (leb k 0) refl
   where
-    then : Held → Went
+    then : Buffered → Went
     then x = record { next = x; sent = g .sent; seen = g .seen }
 
     go : (a : Bool) → leb k 0 ≡ a → answerOf (w .coordinators c .state) (cond a (went g) (refused k)) .refusal ≡ 0
         → coordinated s w c (leftBy s (lost blocks stripe) (cond a (went g) (refused k)))
         ≡ driven s w c (answerOf (w .coordinators c .state) (cond a (went g) (refused k))) blocks stripe (codedAfter old (cond a (went g) (refused k)))
     go true e q =
-        ap (λ (x : Held). coordinated s w c (went (then x))) (left-lost s blocks stripe (g .next) eb es)
+        ap (λ (x : Buffered). coordinated s w c (went (then x))) (left-lost s blocks stripe (g .next) eb es)
         ∙ coordinated-is-driven s w c (went (then (record { state = g .next .state; blocks = blocks; stripe = stripe }))) old h
     go false e q = let z = leb-false k 0 e in absurd (omega (arith, z, q))
 
 -- the routines send one broadcast at most
-checked-short : (k : ℕ) (p : Step) → Short p → Short (checked k p)
-unfolding checked
+checked-short : (k : ℕ) (p : Step) → Short p → Short (afterChecks k p)
+unfolding afterChecks
 checked-short k p h = go (leb k 0)
   where
     go : (a : Bool) → Short (cond a p (refused k))
@@ -121,7 +121,7 @@ unfolding drawnThen
 drawn-short (Drawn t c) f h = h t c
 drawn-short (Refused k) f h = tt
 
-module _ (n m size : ℕ) (k : Held) where
+module _ (n m size : ℕ) (k : Buffered) where
   acted-short : (d : Decision) → AtMostOne (acted n m size k d .sent)
   unfolding acted nextRound ending
   acted-short Abort = none
@@ -160,7 +160,7 @@ module _ (n m size : ℕ) (k : Held) where
   unfolding crashStep
   crash-short = checked-short _ (went (crashed k)) crashed-short
 
-pub take-short : (n m size : ℕ) (k : Held) (r : Reply) (block : List ℕ) (coded : ℕ) → Short (takeStep n m size k r block coded)
+pub take-short : (n m size : ℕ) (k : Buffered) (r : Reply) (block : List ℕ) (coded : ℕ) → Short (takeStep n m size k r block coded)
 unfolding takeStep
 take-short n m size k r block coded = checked-short _ (went (waitingOr n m size (counting size k r block))) (waiting-short n m size (counting size k r block))
 

@@ -24,7 +24,7 @@ use Rattle.order.specs.Claim.{Plain, _∈_}
 use Rattle.order.specs.Facts.{Fact, seen}
 use Rattle.order.specs.Places.{Suf, In}
 use Rattle.order.specs.Valid.{start, Val, Gone}
-use Rattle.register.specs.Runs.{plain, zeroStripe, idle, unmoved, fresh}
+use Rattle.register.specs.Runs.{plain, zeroStripe, idle, unmoved, freshSet}
 use Rattle.register.proofs.Laws.Invariant.{quorums, Means, Stands, BrickInv, CoordinatorInv, Inv}
 use Rattle.register.proofs.Laws.LogLaws.{Rises, sound-of}
 
@@ -79,10 +79,10 @@ zero-stripe s g =
       small = λ i. let z = none (s .m * s .size) i in omega arith;
     }
 
-fresh-sound : (s : Settings) (g : SettingsRange s) → Sound s (Brick.fresh s)
-unfolding Brick.fresh savedTime Rises
+fresh-sound : (s : Settings) (g : SettingsRange s) → Sound s (Brick.freshBrick s)
+unfolding Brick.freshBrick savedTime Rises
 fresh-sound s g =
-    sound-of s (Brick.fresh s) (omega arith) (let a = g .capacity-low in omega arith) refl
+    sound-of s (Brick.freshBrick s) (omega arith) (let a = g .capacity-low in omega arith) refl
     (record {
       saved = λ e m. ap (λ (z : LogEntry). savedTime (z .time)) (List·Memᴰ·eq-of-singleton m);
       sized = λ e m. ap (λ (z : LogEntry). length (z .block)) (List·Memᴰ·eq-of-singleton m) ∙ zeros-length (s .size);
@@ -90,8 +90,8 @@ fresh-sound s g =
     })
 
 module _ (s : Settings) (g : SettingsRange s) where
-  fresh-brick : (b : ℕ) → b < s .n → BrickInv s g [] b (Brick.fresh s)
-  unfolding Brick.fresh zeroStripe
+  fresh-brick : (b : ℕ) → b < s .n → BrickInv s g [] b (Brick.freshBrick s)
+  unfolding Brick.freshBrick zeroStripe
   fresh-brick b l =
       record {
         bounded = λ t p. absurd (in-none p);
@@ -118,13 +118,13 @@ module _ (s : Settings) (g : SettingsRange s) where
   fresh-coordinator c =
       record { number = refl; used = λ t w m. absurd (in-none (w .1)); sized = none-sized; runs = λ n. absurd (n refl) }
 
-  pub fresh-holds : Inv s g [] (unmoved s (fresh s))
-  unfolding unmoved fresh seen
+  pub fresh-holds : Inv s g [] (unmoved s (freshSet s))
+  unfolding unmoved freshSet seen
   fresh-holds =
       record {
         valid = start;
         seen-is = refl;
-        bricks = λ b l. record { state = Brick.fresh s; saved = refl; sound = fresh-sound s g; keeps = fresh-brick b l };
+        bricks = λ b l. record { state = Brick.freshBrick s; saved = refl; sound = fresh-sound s g; keeps = fresh-brick b l };
         items = λ i m. absurd (List·Memᴰ·not-nil m);
         coordinators = fresh-coordinator;
       }

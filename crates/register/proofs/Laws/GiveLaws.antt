@@ -17,20 +17,20 @@ use Rattle.byte_lists.proofs.Laws.EachLaws.{some-at}
 use Rattle.coord_record.specs.CountedRules.{isTarget, blockRight}
 use Rattle.coord_tally.specs.Counting.{saidNo, highest, otherTime, missing, targetRow}
 use Rattle.coord_apply.specs.Acts.{stripeFrom, ending}
-use Rattle.coord_apply.specs.Answers.{Held, readSeen}
+use Rattle.coord_apply.specs.Answers.{Buffered, readSeen}
 use Rattle.order.specs.Claim.{read, bytes, changed, given, _∈_}
-use Rattle.order.specs.Facts.{one-round, showed, shows, outcome}
+use Rattle.order.specs.Facts.{one-round, showed, shows, endingOf}
 use Rattle.order.specs.Places.{In}
 use Rattle.order.specs.Valid.{Val, Valid}
 use Rattle.register.specs.Runs.{Item, seenOf, broadcasts}
 use Rattle.register.proofs.Laws.Invariant.{quorums, Hist, Means, ItemInv, Running, CoordinatorInv}
-use Rattle.register.proofs.Laws.TurnLaws.{Turned}
+use Rattle.register.proofs.Laws.TurnLaws.{TurnedRound}
 use Rattle.register.proofs.Laws.RoundLaws.{ends}
 use Rattle.register.proofs.Laws.DecodeLaws.{target-row, target-is}
 use Rattle.register.proofs.Laws.DecideLaws.{now, reply-at, said-yes, quorum-of}
 use Rattle.register.proofs.Laws.RecoverLaws.{means-decode}
 
-module _ (s : Settings) (g : SettingsRange s) (h : Hist s) (sent : List Item) (c : ℕ) (k : Held) (v : Valid (quorums s g) h)
+module _ (s : Settings) (g : SettingsRange s) (h : Hist s) (sent : List Item) (c : ℕ) (k : Buffered) (v : Valid (quorums s g) h)
     (i : CoordinatorInv s g h sent c k) (items : (z : Item) → z ∈ sent → ItemInv s g h sent z) (n : k .state .op .kind ≡ 0 → ⊥)
     (low : k .state .op .first < s .n) (enough : quorum (s .n) (s .m) ≤ members (k .state .tally .counted) (s .n)) where
   -- a read of one round: all said yes with one newest time, and every target is among them
@@ -38,7 +38,7 @@ module _ (s : Settings) (g : SettingsRange s) (h : Hist s) (sent : List Item) (c
       → some (saidNo (k .state .tally .counted) (k .state .tally .granted)) (s .n) ≡ false
       → some (otherTime (k .state .tally .counted) (k .state .tally .found) (highest (k .state .tally .counted) (k .state .tally .found) (s .n))) (s .n) ≡ false
       → some (missing (s .n) (s .m) (k .state .op .first) (k .state .tally .counted)) (s .n) ≡ false
-      → Turned s g h sent c
+      → TurnedRound s g h sent c
       (ending k (stripeFrom (s .m) (s .size) (targetRow (s .n) (s .m) (k .state .op .first)) (k .blocks)) [] readSeen (targetRow (s .n) (s .m) (k .state .op .first)))
   unfolding changed given
   does-give kind phase yeses same there =
@@ -52,7 +52,7 @@ module _ (s : Settings) (g : SettingsRange s) (h : Hist s) (sent : List Item) (c
           record { kind = read; asked = r .reads kind; keeps = λ z. refl; stripe = d .0; value = d .1; bytes = ap bytes (d .3) },
         );
       })
-      (unfold ending seenOf shows outcome in refl)
+      (unfold ending seenOf shows endingOf in refl)
       (λ z m. absurd (unfold broadcasts in List·Memᴰ·not-nil m)) (λ b msg block m. absurd (unfold broadcasts in List·Memᴰ·not-nil m))
     where
       r : Running s g h sent c k

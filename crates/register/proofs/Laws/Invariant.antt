@@ -18,7 +18,7 @@ use Rattle.image.specs.Image.{imageOf}
 use Rattle.erasure.specs.Code.{codedOf, blockOf, Stripe}
 use Rattle.coord_record.specs.Records.{idleKind, readingKind, writingKind}
 use Rattle.coord_record.specs.CountedRules.{isTarget, blockRight}
-use Rattle.coord_apply.specs.Answers.{Held}
+use Rattle.coord_apply.specs.Answers.{Buffered}
 use Rattle.coord_laws.specs.Soundness.{Sized}
 use Rattle.order.specs.Claim.{Plain, read, write, _∈_}
 use Rattle.order.specs.Facts.{began, promised, stored, showed, History, seen}
@@ -96,7 +96,7 @@ ItemInv s g h sent (message b msg block) = MessageInv s g h b msg block
 ItemInv s g h sent (reply r block) = ReplyInv s g h sent r block
 
 -- A brick that a coordinator has counted in the open round: its reply was sent, fits the round, and is what is kept of it.
-pub record CountedInv (s : Settings) (sent : List Item) (k : Held) (b : ℕ) : Type 0 where
+pub record CountedInv (s : Settings) (sent : List Item) (k : Buffered) (b : ℕ) : Type 0 where
   pub from : Reply
   pub block : List ℕ
   pub was-sent : reply from block ∈ sent
@@ -118,7 +118,7 @@ Asked sent time round phase max =
     → (msg .round ≤ round) × (msg .round ≡ round → (phase ≡ orderReadKind) × (msg .max ≡ max))
 
 -- The running operation of coordinator c.
-pub record Running (s : Settings) (g : SettingsRange s) (h : Hist s) (sent : List Item) (c : ℕ) (k : Held) : Type 0 where
+pub record Running (s : Settings) (g : SettingsRange s) (h : Hist s) (sent : List Item) (c : ℕ) (k : Buffered) : Type 0 where
   pub own : k .state .op .time % 16 ≡ c
   pub known : Began h (k .state .op .time)
   pub reads : k .state .op .kind ≡ readingKind → In (began (k .state .op .time) read) h
@@ -135,7 +135,7 @@ pub record Running (s : Settings) (g : SettingsRange s) (h : Hist s) (sent : Lis
       → Launched h (k .state .op .time) × Val h (k .state .op .time) (k .stripe) × Stripe (s .m) (s .size) (k .stripe)
 
 -- Coordinator c with its buffers.
-pub record CoordinatorInv (s : Settings) (g : SettingsRange s) (h : Hist s) (sent : List Item) (c : ℕ) (k : Held) : Type 0 where
+pub record CoordinatorInv (s : Settings) (g : SettingsRange s) (h : Hist s) (sent : List Item) (c : ℕ) (k : Buffered) : Type 0 where
   pub number : k .state .clock .coordinator ≡ c
   -- the times it used are at most its last
   pub used : (t : ℕ) → Began h t → t % 16 ≡ c → t ≤ timeOf (k .state .clock .last) c

@@ -10,9 +10,9 @@ use lib.Dec.{ltb, eqb}
 use lib.ListN.{length, getD, length-append}
 use borrow.Author.Tests.{ltb-true, ltb-false, lt-ltb, eqb-true}
 use Rattle.settings.specs.declared.Settings.{Settings}
-use Rattle.image.specs.Brick.{Brick, LogEntry, noEntry, count, timeAt, heldAt, newest, savedTime, risesAt}
+use Rattle.image.specs.Brick.{Brick, LogEntry, noEntry, entryCount, timeAt, heldAt, newest, savedTime, risesAt}
 use Rattle.image.specs.Brick.{Sound}
-use Rattle.image_write.specs.Saving.{promised, appended}
+use Rattle.image_write.specs.Saving.{withPromise, withEntry}
 use Rattle.brick_log.specs.BrickRules.{trimmed, trimmedTo}
 use Rattle.order.specs.Claim.{_∈_}
 
@@ -125,7 +125,7 @@ pub record Proper (s : Settings) (l : List LogEntry) : Type 0 where
   pub rises : Rises l
 
 pub proper : (s : Settings) (x : Brick) → Sound s x → Proper s (x .log)
-unfolding count timeAt heldAt risesAt
+unfolding entryCount timeAt heldAt risesAt
 proper s x r =
     record {
       saved = λ e m. let w = member-at (x .log) m in subst (λ (z : LogEntry). savedTime (z .time) ≡ true) (w .2) (r .entries (w .0) (w .1) .saved);
@@ -143,7 +143,7 @@ proper s x r =
 
 pub sound-of : (s : Settings) (x : Brick) → 1 ≤ length (x .log) → length (x .log) ≤ s .capacity → savedTime (x .promise) ≡ true → Proper s (x .log)
     → Sound s x
-unfolding count timeAt heldAt risesAt
+unfolding entryCount timeAt heldAt risesAt
 sound-of s x low high p r =
     record {
       count-low = low;
@@ -170,7 +170,7 @@ sound-of s x low high p r =
 
 -- no entry is above the newest
 pub at-most-newest : (x : Brick) → Rises (x .log) → (e : LogEntry) → e ∈ x .log → e .time ≤ newest x
-unfolding newest timeAt count
+unfolding newest timeAt entryCount
 at-most-newest x r e m = go (member-at (x .log) m)
   where
     go : (i : ℕ) × (i < length (x .log)) × (getD (x .log) i noEntry ≡ e) → e .time ≤ getD (x .log) (length (x .log) - 1) noEntry .time
@@ -185,20 +185,20 @@ at-most-newest x r e m = go (member-at (x .log) m)
             subst (λ (k : ℕ). getD (x .log) i noEntry .time ≤ getD (x .log) k noEntry .time) z (le-refl _)
 
 -- the newest is an entry
-pub newest-entry : (x : Brick) → 1 ≤ length (x .log) → (e : LogEntry) × (e ∈ x .log) × (e .time ≡ newest x) × (e .block ≡ heldAt x (count x - 1))
-unfolding newest timeAt heldAt count
+pub newest-entry : (x : Brick) → 1 ≤ length (x .log) → (e : LogEntry) × (e ∈ x .log) × (e .time ≡ newest x) × (e .block ≡ heldAt x (entryCount x - 1))
+unfolding newest timeAt heldAt entryCount
 newest-entry x low = (getD (x .log) (length (x .log) - 1) noEntry, at-member (x .log) (length (x .log) - 1) (omega arith), refl, refl)
 
 -- each change keeps the rules
-pub sound-promised : (s : Settings) (x : Brick) (t : ℕ) → Sound s x → savedTime t ≡ true → Sound s (promised x t)
-unfolding promised count
-sound-promised s x t r e = sound-of s (promised x t) (r .count-low) (r .count-high) e (proper s x r)
+pub sound-promised : (s : Settings) (x : Brick) (t : ℕ) → Sound s x → savedTime t ≡ true → Sound s (withPromise x t)
+unfolding withPromise entryCount
+sound-promised s x t r e = sound-of s (withPromise x t) (r .count-low) (r .count-high) e (proper s x r)
 
-pub sound-appended : (s : Settings) (x : Brick) (t : ℕ) (block : List ℕ) → Sound s x → count x < s .capacity → newest x < t → savedTime t ≡ true
-    → length block ≡ s .size → Sound s (appended x t block)
-unfolding appended count
+pub sound-appended : (s : Settings) (x : Brick) (t : ℕ) (block : List ℕ) → Sound s x → entryCount x < s .capacity → newest x < t → savedTime t ≡ true
+    → length block ≡ s .size → Sound s (withEntry x t block)
+unfolding withEntry entryCount
 sound-appended s x t block r free above saved size =
-    sound-of s (appended x t block)
+    sound-of s (withEntry x t block)
     (let k = length-append (x .log) (e ∷ []) in omega (arith, k, r .count-low))
     (let k = length-append (x .log) (e ∷ []) in omega (arith, k, free))
     (r .promise-saved)
@@ -219,7 +219,7 @@ sound-appended s x t block r free above saved size =
     by Q f y d (inr m) = subst Q (sym (List·Memᴰ·eq-of-singleton m)) y
 
 pub sound-trimmed : (s : Settings) (x : Brick) (t : ℕ) → Sound s x → Sound s (trimmedTo x t)
-unfolding trimmedTo count
+unfolding trimmedTo entryCount
 sound-trimmed s x t r =
     let w = trimmed-length t (x .log) in
     let p = proper s x r in

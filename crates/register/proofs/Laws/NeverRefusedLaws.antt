@@ -27,16 +27,16 @@ use Rattle.coord_tally.specs.Counting.{targetFlags}
 use Rattle.coord_decide.specs.Deciding.{decided}
 use Rattle.coord_decide.specs.declared.Decision.{Decision}
 use Rattle.coord_decide.specs.declared.Decision.the-variants.{Abort, Give, Look, Store, Recover, Finish}
-use Rattle.coord_apply.specs.Acts.{gathered, stripeFrom, placed, nextRound, ending, acted, counting, waitingOr, firstOp, starting}
-use Rattle.coord_apply.specs.Answers.{Held, Went, Step, refused, went, checked, nothingSeen, cutSeen, answerOf}
+use Rattle.coord_apply.specs.Acts.{gathered, stripeFrom, withReplyBlock, nextRound, ending, acted, counting, waitingOr, firstOp, starting}
+use Rattle.coord_apply.specs.Answers.{Buffered, Went, Step, refused, went, afterChecks, nothingSeen, cutSeen, answerOf}
 use Rattle.coord_refusals.specs.Checks.{recordChecks, writeRefusal, readRefusal, crashRefusal}
 use Rattle.coordinator.specs.Routines.{takeStep, crashed, crashStep, drawnThen, writeStep, readStep}
 use Rattle.coordinator.proofs.Laws.RoutineLaws.{place-fits, write-lengths}
 use Rattle.coord_laws.proofs.Laws.CodedBlockLaws.{placed-long}
-use Rattle.coord_laws.proofs.Laws.StepRunLaws.{Took, took}
+use Rattle.coord_laws.proofs.Laws.StepRunLaws.{ReplyTaken, took}
 use Rattle.coord_laws.specs.Soundness.{Good}
 use Rattle.coord_laws.proofs.Laws.SoundnessLaws.{idle-good, passes, same-went, drawn-went, write-good, read-good, take-good, crash-good, good-sound}
-use Rattle.register.specs.Runs.{Item, message, reply, World, idle, fresh, Left, Event, startWrite, startRead, arrives, crashes, goesDown, comesUp, Moved, unmoved, putAt, coordinated, received, arriving, arrivingAt, standing, leaving, leftBy, step, next, runFrom, run}
+use Rattle.register.specs.Runs.{Item, message, reply, World, idle, freshSet, Left, Event, startWrite, startRead, arrives, crashes, goesDown, comesUp, Moved, unmoved, putAt, coordinated, received, arriving, arrivingAt, standing, leaving, leftBy, step, nextMoved, runFrom, run}
 use Rattle.register.proofs.Laws.Invariant.{Hist, Inv}
 use Rattle.register.proofs.Laws.BrickEvent.{put-here, put-there, in-range}
 use Rattle.register.proofs.Laws.CrashEvent.{left-by}
@@ -45,10 +45,10 @@ use Rattle.register.proofs.Laws.TheoremProof.{step-goes, run-holds}
 use Rattle.register.specs.NeverRefused.{Fine}
 
 -- its buffers
-abbrev Long : Settings → Held → Type 0
+abbrev Long : Settings → Buffered → Type 0
 Long s k = (length (k .blocks) ≡ s .n * s .size) × (length (k .stripe) ≡ s .m * s .size)
 
-fine : (s : Settings) (k : Held) → Good (s .n) (s .m) (k .state) → Long s k → Fine s k
+fine : (s : Settings) (k : Buffered) → Good (s .n) (s .m) (k .state) → Long s k → Fine s k
 fine s k g l = record { sound-is = good-sound (s .n) (s .m) (k .state) g; blocks-long = l .0; stripe-long = l .1 }
 
 -- what a decision leaves in the buffers
@@ -56,7 +56,7 @@ decoded-long : (m size : ℕ) (row blocks : List ℕ) → length (stripeFrom m s
 unfolding stripeFrom decodedOf
 decoded-long m size row blocks = length-blocksAt _ size (gathered m size row blocks) m
 
-acted-long : (s : Settings) (k : Held) → Long s k → (d : Decision) → Long s (acted (s .n) (s .m) (s .size) k d .next)
+acted-long : (s : Settings) (k : Buffered) → Long s k → (d : Decision) → Long s (acted (s .n) (s .m) (s .size) k d .next)
 unfolding acted ending nextRound
 acted-long s k l Abort = l
 acted-long s k l Give = (l .0, decoded-long (s .m) (s .size) _ (k .blocks))
@@ -65,7 +65,7 @@ acted-long s k l Store = l
 acted-long s k l (Recover time) = (l .0, decoded-long (s .m) (s .size) _ (k .blocks))
 acted-long s k l Finish = l
 
-waiting-long : (s : Settings) (k : Held) → Long s k → Long s (waitingOr (s .n) (s .m) (s .size) k .next)
+waiting-long : (s : Settings) (k : Buffered) → Long s k → Long s (waitingOr (s .n) (s .m) (s .size) k .next)
 unfolding waitingOr
 waiting-long s k l = go (ltb (members (k .state .tally .counted) (s .n)) (quorum (s .n) (s .m)))
   where
@@ -76,18 +76,18 @@ waiting-long s k l = go (ltb (members (k .state .tally .counted) (s .n)) (quorum
     go false = acted-long s k l (decided (s .n) (s .m) (k .state .op) (k .state .tally))
 
 -- a reply's block in its place
-counting-long : (s : Settings) (k : Held) (r : Reply) (block : List ℕ) (coded : ℕ) (w : Went) → Took (s .n) (s .m) (s .size) k r block coded w
+counting-long : (s : Settings) (k : Buffered) (r : Reply) (block : List ℕ) (coded : ℕ) (w : Went) → ReplyTaken (s .n) (s .m) (s .size) k r block coded w
     → Long s (counting (s .size) k r block)
 unfolding counting
 counting-long s k r block coded w t = (go (r .held) refl, t .takes .stripe-length)
   where
-    go : (a : Bool) → r .held ≡ a → length (cond a (placed (s .size) (r .brick) block (k .blocks)) (k .blocks)) ≡ s .n * s .size
+    go : (a : Bool) → r .held ≡ a → length (cond a (withReplyBlock (s .size) (r .brick) block (k .blocks)) (k .blocks)) ≡ s .n * s .size
     go true e =
         placed-long (s .size) (r .brick) block (k .blocks) (t .takes .block-length e) (place-fits _ _ _ _ _ _ _ _ _ (t .takes)) ∙ t .takes .blocks-length
     go false e = t .takes .blocks-length
 
 -- a crash: the buffers keep their lengths
-left-fine : (s : Settings) (left : Left) (k : Held) → Fine s k → Fine s (leaving s left k)
+left-fine : (s : Settings) (left : Left) (k : Buffered) → Fine s k → Fine s (leaving s left k)
 left-fine s left k f =
     left-by s left k (Fine s) f (λ blocks stripe eb es. record { sound-is = f .sound-is; blocks-long = eb; stripe-long = es })
 
@@ -145,7 +145,7 @@ module _ (s : Settings) (g : SettingsRange s) where
         (subst (λ (v : Went). Long s (v .next)) (same-went (crashed k) w (passes (crashRefusal (s .n) (s .m) (s .size) (k .state)) (went (crashed k)) w e .1))
         (go (eqb (k .state .op .kind) 0)))
       where
-        k : Held
+        k : Buffered
         k = r .world .coordinators c
 
         go : (a : Bool) → Long s (cond a (record { next = k; sent = []; seen = nothingSeen }) (ending k (k .stripe) [] cutSeen noBricks) .next)
@@ -202,16 +202,16 @@ module _ (s : Settings) (g : SettingsRange s) where
     step-fine (comesUp b) = stand-fine b true
 
   from-fine : (r : Moved s) → (h : Hist s) × Inv s g h r → AllFine s (r .world) → (events : List Event) → AllFine s (runFrom s r events .world)
-  unfolding runFrom next
+  unfolding runFrom nextMoved
   from-fine r w f [] = f
-  from-fine r w f (e ∷ events) = from-fine (next s r e) (step-goes s g (w .0) r (w .1) e) (step-fine (w .0) r (w .1) f e) events
+  from-fine r w f (e ∷ events) = from-fine (nextMoved s r e) (step-goes s g (w .0) r (w .1) e) (step-fine (w .0) r (w .1) f e) events
 
 -- No record and no buffer beside it is refused, as 6 or 2.
 pub records-open : (s : Settings) → settingsRefusal s ≡ 0 → (events : List Event) (c : ℕ) → c ≤ 15 → Fine s (run s events .world .coordinators c)
-unfolding run fresh idle unmoved maxCount
+unfolding run freshSet idle unmoved maxCount
 records-open s e events =
     let g = settings-passed s e in
-    from-fine s g (unmoved s (fresh s)) ([], fresh-holds s g)
+    from-fine s g (unmoved s (freshSet s)) ([], fresh-holds s g)
     (λ c l. record {
       sound-is = good-sound (s .n) (s .m) _ (idle-good (s .n) (s .m) (s .size) (record { coordinator = c; last = 0 }) (g .code) l (omega arith));
       blocks-long = length-replicate (s .n * s .size) 0;
@@ -225,8 +225,8 @@ code-accepted s e = go (eqb (codeRefusal (s .n) (s .m) (s .size)) 0) refl
     go true q = eqb-true _ 0 q
     go false q = absurd (let z = settings-code s _ refl (eqb-false _ 0 q) in omega (arith, z, e))
 
-crash-accepted : (s : Settings) (k : Held) → settingsRefusal s ≡ 0 → Fine s k → answerOf (k .state) (crashStep (s .n) (s .m) (s .size) k) .refusal ≡ 0
-unfolding crashStep crashRefusal recordChecks firstRefusal checked answerOf
+crash-accepted : (s : Settings) (k : Buffered) → settingsRefusal s ≡ 0 → Fine s k → answerOf (k .state) (crashStep (s .n) (s .m) (s .size) k) .refusal ≡ 0
+unfolding crashStep crashRefusal recordChecks firstRefusal afterChecks answerOf
 crash-accepted s k e f =
     let p = sound-parts (s .n) (s .m) (k .state) (f .sound-is) in
     rw (code-accepted s e, le-leb (k .state .clock .coordinator) 15 (p .number-low), f .sound-is) refl

@@ -17,11 +17,11 @@ use Rattle.settings.specs.declared.Draw.{Draw}
 use Rattle.settings.specs.declared.Draw.the-variants.{Drawn, Refused}
 use Rattle.settings.specs.declared.Settings.{Settings}
 use Rattle.settings.proofs.Laws.RefusalLaws.{tested}
-use Rattle.coord_apply.specs.Answers.{Held, Went, Step, refused, went, checked}
+use Rattle.coord_apply.specs.Answers.{Buffered, Went, Step, refused, went, afterChecks}
 use Rattle.coord_refusals.specs.Checks.{recordChecks, startChecks, writeRefusal, readRefusal, crashRefusal}
 use Rattle.coordinator.specs.Routines.{takeStep, crashed, crashStep, drawnThen, writeStep, readStep}
 use Rattle.coordinator.proofs.Laws.RoutineLaws.{take-passed}
-use Rattle.register.specs.Runs.{Item, message, reply, World, idle, fresh, Left, Event, startWrite, startRead, arrives, crashes, goesDown, comesUp, Moved, unmoved, coordinated, received, arriving, arrivingAt, standing, leftBy, step, next, runFrom, run}
+use Rattle.register.specs.Runs.{Item, message, reply, World, idle, freshSet, Left, Event, startWrite, startRead, arrives, crashes, goesDown, comesUp, Moved, unmoved, coordinated, received, arriving, arrivingAt, standing, leftBy, step, nextMoved, runFrom, run}
 use Rattle.register.proofs.Laws.Invariant.{Hist, Inv}
 use Rattle.register.proofs.Laws.BrickEvent.{put-there, first-passed}
 use Rattle.register.proofs.Laws.StartEvent.{passes}
@@ -33,8 +33,8 @@ abbrev LowStep : ℕ → Step → Type 0
 LowStep c (refused number) = Unit {0}
 LowStep c (went g) = c ≤ 15
 
-checked-low : (c k : ℕ) (p : Step) → (k ≡ 0 → LowStep c p) → LowStep c (checked k p)
-unfolding checked
+checked-low : (c k : ℕ) (p : Step) → (k ≡ 0 → LowStep c p) → LowStep c (afterChecks k p)
+unfolding afterChecks
 checked-low c k p h = go (leb k 0) refl
   where
     go : (a : Bool) → leb k 0 ≡ a → LowStep c (cond a p (refused k))
@@ -46,7 +46,7 @@ unfolding drawnThen
 drawn-low c (Drawn t clock) f l = l
 drawn-low c (Refused number) f l = tt
 
-module _ (n m size c : ℕ) (k : Held) (number : k .state .clock .coordinator ≡ c) where
+module _ (n m size c : ℕ) (k : Buffered) (number : k .state .clock .coordinator ≡ c) where
   low-number : refuseUnless (leb (k .state .clock .coordinator) 15) 3 ≡ 0 → c ≤ 15
   low-number e = let w = leb-true (k .state .clock .coordinator) 15 (tested (leb (k .state .clock .coordinator) 15) 2 e) in omega arith
 
@@ -133,12 +133,12 @@ module _ (s : Settings) (g : SettingsRange s) (c : ℕ) (high : 15 < c) where
     step-still (comesUp b) = stand-still b true
 
   from-still : (r : Moved s) → (h : Hist s) × Inv s g h r → Still s c (r .world) → (events : List Event) → Still s c (runFrom s r events .world)
-  unfolding runFrom next
+  unfolding runFrom nextMoved
   from-still r w e [] = e
-  from-still r w e (v ∷ events) = from-still (next s r v) (step-goes s g (w .0) r (w .1) v) (step-still (w .0) r (w .1) e v) events
+  from-still r w e (v ∷ events) = from-still (nextMoved s r v) (step-goes s g (w .0) r (w .1) v) (step-still (w .0) r (w .1) e v) events
 
 pub sixteen-coordinators : (s : Settings) → settingsRefusal s ≡ 0 → (events : List Event) (c : ℕ) → 15 < c → run s events .world .coordinators c ≡ idle s c
-unfolding run fresh unmoved
+unfolding run freshSet unmoved
 sixteen-coordinators s e events c high =
     let g = settings-passed s e in
-    from-still s g c high (unmoved s (fresh s)) ([], fresh-holds s g) refl events
+    from-still s g c high (unmoved s (freshSet s)) ([], fresh-holds s g) refl events

@@ -17,15 +17,15 @@ unfolding Rattle.image_block.specs.Block.weighted Rattle.image_block.specs.Blo
 block-open = tt
 
 unfoldable pub image-open : Unit {0}
-unfolding Rattle.image.specs.Brick.count Rattle.image.specs.Brick.noEntry Rattle.image.specs.Brick.timeAt Rattle.image.specs.Brick.heldAt Rattle.image.specs.Brick.newest Rattle.image.specs.Brick.fresh Rattle.image.specs.Brick.savedTime Rattle.image.specs.Brick.risesAt Rattle.image.specs.Brick.entrySound Rattle.image.specs.Brick.countSound Rattle.image.specs.Brick.sound Rattle.image.specs.Image.blockOf Rattle.image.specs.Image.stacked Rattle.image.specs.Image.imageOf Rattle.image.specs.Image.imageSize Rattle.image.specs.Parse.blockAt Rattle.image.specs.Parse.countIn Rattle.image.specs.Parse.promiseIn Rattle.image.specs.Parse.timeIn Rattle.image.specs.Parse.heldIn Rattle.image.specs.Parse.entryIn Rattle.image.specs.Parse.entriesIn Rattle.image.specs.Parse.brickIn Rattle.image.specs.Parse.checkedAt Rattle.image.specs.Parse.isImage Rattle.image.specs.Parse.openRefusal Rattle.image.specs.Parse.parse
+unfolding Rattle.image.specs.Brick.entryCount Rattle.image.specs.Brick.noEntry Rattle.image.specs.Brick.timeAt Rattle.image.specs.Brick.heldAt Rattle.image.specs.Brick.newest Rattle.image.specs.Brick.freshBrick Rattle.image.specs.Brick.savedTime Rattle.image.specs.Brick.risesAt Rattle.image.specs.Brick.entrySound Rattle.image.specs.Brick.countSound Rattle.image.specs.Brick.soundBrick Rattle.image.specs.Image.imageBlock Rattle.image.specs.Image.imageOf Rattle.image.specs.Image.imageSize Rattle.image.specs.Parse.imageBlockAt Rattle.image.specs.Parse.countIn Rattle.image.specs.Parse.promiseIn Rattle.image.specs.Parse.timeIn Rattle.image.specs.Parse.heldIn Rattle.image.specs.Parse.entryIn Rattle.image.specs.Parse.entriesIn Rattle.image.specs.Parse.brickIn Rattle.image.specs.Parse.checkedAt Rattle.image.specs.Parse.isImage Rattle.image.specs.Parse.openRefusal Rattle.image.specs.Parse.parse
 image-open = tt
 
 unfoldable pub saving-open : Unit {0}
-unfolding Rattle.image_write.specs.Saving.freshAfter Rattle.image_write.specs.Saving.promised Rattle.image_write.specs.Saving.appended Rattle.image_write.specs.Workers.without
+unfolding Rattle.image_write.specs.Saving.freshAfter Rattle.image_write.specs.Saving.withPromise Rattle.image_write.specs.Saving.withEntry Rattle.image_write.specs.Workers.without
 saving-open = tt
 
 unfoldable pub brick-open : Unit {0}
-unfolding Rattle.brick.specs.Receive.blocksRefusal Rattle.brick.specs.Receive.receiveRefusal Rattle.brick.specs.Receive.refusedWith Rattle.brick.specs.Receive.givenBy Rattle.brick.specs.Receive.acted Rattle.brick.specs.Receive.outcome Rattle.brick_log.specs.BrickRules.aboveNewest Rattle.brick_log.specs.BrickRules.notBelowPromise Rattle.brick_log.specs.BrickRules.hasFree Rattle.brick_log.specs.BrickRules.readYes Rattle.brick_log.specs.BrickRules.orderYes Rattle.brick_log.specs.BrickRules.writeYes Rattle.brick_log.specs.BrickRules.ordered Rattle.brick_log.specs.BrickRules.written Rattle.brick_log.specs.BrickRules.trimmed Rattle.brick_log.specs.BrickRules.trimmedTo Rattle.brick_log.specs.BrickRules.under Rattle.brick_log.specs.BrickRules.lookup Rattle.brick_log.specs.BrickRules.placeFor Rattle.brick_log.specs.BrickRules.timeFor Rattle.brick_log.specs.BrickRules.foundFor Rattle.brick_log.specs.BrickRules.yesTo Rattle.brick_log.specs.BrickRules.replyTo Rattle.brick_log.specs.BrickRules.after Rattle.brick_log.specs.BrickRules.blockAfter
+unfolding Rattle.brick.specs.Receive.blocksRefusal Rattle.brick.specs.Receive.receiveRefusal Rattle.brick.specs.Receive.refusedWith Rattle.brick.specs.Receive.givenBy Rattle.brick.specs.Receive.accepted Rattle.brick.specs.Receive.outcome Rattle.brick_log.specs.BrickRules.aboveNewest Rattle.brick_log.specs.BrickRules.notBelowPromise Rattle.brick_log.specs.BrickRules.hasFree Rattle.brick_log.specs.BrickRules.readYes Rattle.brick_log.specs.BrickRules.orderYes Rattle.brick_log.specs.BrickRules.writeYes Rattle.brick_log.specs.BrickRules.orderedIfYes Rattle.brick_log.specs.BrickRules.writtenIfYes Rattle.brick_log.specs.BrickRules.trimmed Rattle.brick_log.specs.BrickRules.trimmedTo Rattle.brick_log.specs.BrickRules.under Rattle.brick_log.specs.BrickRules.lookup Rattle.brick_log.specs.BrickRules.placeFor Rattle.brick_log.specs.BrickRules.timeFor Rattle.brick_log.specs.BrickRules.foundFor Rattle.brick_log.specs.BrickRules.yesTo Rattle.brick_log.specs.BrickRules.replyTo Rattle.brick_log.specs.BrickRules.brickAfter Rattle.brick_log.specs.BrickRules.blockAfter
 brick-open = tt
 
 unfoldable pub gf256-open : Unit {0}
@@ -45,7 +45,7 @@ unfolding Rattle.erasure.specs.Code.firstPoints Rattle.erasure.specs.Code.code
 erasure-open = tt
 
 unfoldable pub coord-record-open : Unit {0}
-unfolding Rattle.byte_lists.specs.Each.each Rattle.byte_lists.specs.Each.some Rattle.coord_record.specs.Records.noOp Rattle.coord_record.specs.Records.noBricks Rattle.coord_record.specs.Records.nothingCounted Rattle.coord_record.specs.Records.idleWith Rattle.coord_record.specs.CountedRules.above Rattle.coord_record.specs.CountedRules.isTarget Rattle.coord_record.specs.CountedRules.blockRight Rattle.coord_record.specs.CountedRules.countedRight Rattle.coord_record.specs.CountedRules.entryRight Rattle.coord_record.specs.CountedRules.tallyRight Rattle.coord_record.specs.CountedRules.brickRight Rattle.coord_record.specs.CountedRules.bricksRight Rattle.coord_record.specs.Sound.maxRight Rattle.coord_record.specs.Sound.storedRight Rattle.coord_record.specs.Sound.readRight Rattle.coord_record.specs.Sound.writeRight Rattle.coord_record.specs.Sound.unsetOp Rattle.coord_record.specs.Sound.opRight Rattle.coord_record.specs.Sound.timeRight Rattle.coord_record.specs.Sound.namedCount Rattle.coord_record.specs.Sound.filledRight Rattle.coord_record.specs.Sound.sound
+unfolding Rattle.byte_lists.specs.Each.each Rattle.byte_lists.specs.Each.some Rattle.coord_record.specs.Records.noOp Rattle.coord_record.specs.Records.noBricks Rattle.coord_record.specs.Records.nothingCounted Rattle.coord_record.specs.Records.idleWith Rattle.coord_record.specs.CountedRules.stepsAbove Rattle.coord_record.specs.CountedRules.isTarget Rattle.coord_record.specs.CountedRules.blockRight Rattle.coord_record.specs.CountedRules.countedRight Rattle.coord_record.specs.CountedRules.entryRight Rattle.coord_record.specs.CountedRules.tallyRight Rattle.coord_record.specs.CountedRules.brickRight Rattle.coord_record.specs.CountedRules.bricksRight Rattle.coord_record.specs.Sound.maxRight Rattle.coord_record.specs.Sound.storedRight Rattle.coord_record.specs.Sound.readRight Rattle.coord_record.specs.Sound.writeRight Rattle.coord_record.specs.Sound.unsetOp Rattle.coord_record.specs.Sound.opRight Rattle.coord_record.specs.Sound.timeRight Rattle.coord_record.specs.Sound.namedCount Rattle.coord_record.specs.Sound.filledRight Rattle.coord_record.specs.Sound.soundRecord
 coord-record-open = tt
 
 unfoldable pub coord-rounds-open : Unit {0}
@@ -53,7 +53,7 @@ unfolding Rattle.coord_tally.specs.Counting.saidNo Rattle.coord_tally.specs.Co
 coord-rounds-open = tt
 
 unfoldable pub coord-acts-open : Unit {0}
-unfolding Rattle.coord_apply.specs.Acts.gathered Rattle.coord_apply.specs.Acts.stripeFrom Rattle.coord_apply.specs.Acts.roundMessage Rattle.coord_apply.specs.Acts.trimMessage Rattle.coord_apply.specs.Acts.nextOp Rattle.coord_apply.specs.Acts.opened Rattle.coord_apply.specs.Acts.nextRound Rattle.coord_apply.specs.Acts.ending Rattle.coord_apply.specs.Acts.finishedSeen Rattle.coord_apply.specs.Acts.acted Rattle.coord_apply.specs.Acts.placed Rattle.coord_apply.specs.Acts.withTally Rattle.coord_apply.specs.Acts.counting Rattle.coord_apply.specs.Acts.waitingOr Rattle.coord_apply.specs.Acts.firstOp Rattle.coord_apply.specs.Acts.starting Rattle.coord_apply.specs.Answers.checked Rattle.coord_apply.specs.Answers.nothingSeen Rattle.coord_apply.specs.Answers.noMessage Rattle.coord_apply.specs.Answers.sentCount Rattle.coord_apply.specs.Answers.sentMessage Rattle.coord_apply.specs.Answers.sentBlocks Rattle.coord_apply.specs.Answers.answerOf Rattle.coord_apply.specs.Answers.blocksAfter Rattle.coord_apply.specs.Answers.stripeAfter Rattle.coord_apply.specs.Answers.codedAfter Rattle.coord_apply.proofs.Laws.AnswerLaws.after
+unfolding Rattle.coord_apply.specs.Acts.gathered Rattle.coord_apply.specs.Acts.stripeFrom Rattle.coord_apply.specs.Acts.roundMessage Rattle.coord_apply.specs.Acts.trimMessage Rattle.coord_apply.specs.Acts.nextOp Rattle.coord_apply.specs.Acts.opened Rattle.coord_apply.specs.Acts.nextRound Rattle.coord_apply.specs.Acts.ending Rattle.coord_apply.specs.Acts.finishedSeen Rattle.coord_apply.specs.Acts.acted Rattle.coord_apply.specs.Acts.withReplyBlock Rattle.coord_apply.specs.Acts.withTally Rattle.coord_apply.specs.Acts.counting Rattle.coord_apply.specs.Acts.waitingOr Rattle.coord_apply.specs.Acts.firstOp Rattle.coord_apply.specs.Acts.starting Rattle.coord_apply.specs.Answers.afterChecks Rattle.coord_apply.specs.Answers.nothingSeen Rattle.coord_apply.specs.Answers.noMessage Rattle.coord_apply.specs.Answers.sentCount Rattle.coord_apply.specs.Answers.sentMessage Rattle.coord_apply.specs.Answers.sentBlocks Rattle.coord_apply.specs.Answers.answerOf Rattle.coord_apply.specs.Answers.blocksAfter Rattle.coord_apply.specs.Answers.stripeAfter Rattle.coord_apply.specs.Answers.codedAfter Rattle.coord_apply.proofs.Laws.AnswerLaws.after
 coord-acts-open = tt
 
 unfoldable pub coordinator-open : Unit {0}
@@ -61,7 +61,7 @@ unfolding Rattle.coord_refusals.specs.Checks.recordChecks Rattle.coord_refusal
 coordinator-open = tt
 
 unfoldable pub register-open : Unit {0}
-unfolding Rattle.register.specs.Runs.zeroStripe Rattle.register.specs.Runs.idle Rattle.register.specs.Runs.fresh Rattle.register.specs.Runs.unmoved Rattle.register.specs.Runs.putAt Rattle.register.specs.Runs.seenOf Rattle.register.specs.Runs.blockFor Rattle.register.specs.Runs.toAll Rattle.register.specs.Runs.broadcasts Rattle.register.specs.Runs.coordinated Rattle.register.specs.Runs.repliedWith Rattle.register.specs.Runs.received Rattle.register.specs.Runs.arriving Rattle.register.specs.Runs.arrivingAt Rattle.register.specs.Runs.standing Rattle.register.specs.Runs.buffersFit Rattle.register.specs.Runs.leaving Rattle.register.specs.Runs.leftBy Rattle.register.specs.Runs.step Rattle.register.specs.Runs.next Rattle.register.specs.Runs.runFrom Rattle.register.specs.Runs.run
+unfolding Rattle.register.specs.Runs.zeroStripe Rattle.register.specs.Runs.idle Rattle.register.specs.Runs.freshSet Rattle.register.specs.Runs.unmoved Rattle.register.specs.Runs.putAt Rattle.register.specs.Runs.seenOf Rattle.register.specs.Runs.blockFor Rattle.register.specs.Runs.toAll Rattle.register.specs.Runs.broadcasts Rattle.register.specs.Runs.coordinated Rattle.register.specs.Runs.repliedWith Rattle.register.specs.Runs.received Rattle.register.specs.Runs.arriving Rattle.register.specs.Runs.arrivingAt Rattle.register.specs.Runs.standing Rattle.register.specs.Runs.buffersFit Rattle.register.specs.Runs.leaving Rattle.register.specs.Runs.leftBy Rattle.register.specs.Runs.step Rattle.register.specs.Runs.nextMoved Rattle.register.specs.Runs.runFrom Rattle.register.specs.Runs.run
 register-open = tt
 
 unfoldable pub all-open : Unit {0}

@@ -3,7 +3,7 @@ use mathlib.Core.Path.{_≡_, refl, sym, ap, subst, _∙_}
 use mathlib.Core.Logic.{_≢_, _⊎_, inl, inr}
 use mathlib.Core.List.{List, [], _∷_, List·Memᴰ·head, List·Memᴰ·tail, List·Memᴰ·not-nil, List·Memᴰ·cases-cons}
 use Prim.Native.Nat.{ℕ}
-use Rattle.order.specs.Claim.{Action, read, write, Answer, ok, bytes, changed, given, stripe, finished, Seen, Op, _∈_, Before, here, later, Once, Right, OneOrder}
+use Rattle.order.specs.Claim.{Action, read, write, Result, ok, bytes, changed, given, stripe, finished, Seen, Op, _∈_, Before, here, later, Once, Right, OneOrder}
 use Rattle.register.specs.OrderUse.{EndedBefore}
 
 -- of two members of a list one stands before the other, or they are the same
@@ -53,7 +53,7 @@ module _ {S : Type 0} {z : S} where
 
 module _ {S : Type 0} {z : S} {l : List (Seen (stripe S z))} where
   -- a read gave the stripe as it stood
-  gave : (o : Op (stripe S z)) (s a : S) → ((g : Answer S) → Seen.ended (o .time) (finished g) ∈ l → g ≡ given (o .kind) s)
+  gave : (o : Op (stripe S z)) (s a : S) → ((g : Result S) → Seen.ended (o .time) (finished g) ∈ l → g ≡ given (o .kind) s)
       → Seen.ended (o .time) (finished (bytes a)) ∈ l → a ≡ s
   unfolding given
   gave o s a f m = go (o .kind) (f (bytes a) m)

@@ -17,10 +17,10 @@ use Rattle.message.specs.Flags.{member, brickSet}
 use Rattle.message.specs.Messages.{roundRight, kindRight, messageRefusal}
 use Rattle.message.specs.declared.Message.{Message}
 use Rattle.message.specs.declared.Reply.{Reply}
-use Rattle.image.specs.Brick.{Brick, LogEntry, noEntry, count, timeAt, heldAt, newest}
+use Rattle.image.specs.Brick.{Brick, LogEntry, noEntry, entryCount, timeAt, heldAt, newest}
 use Rattle.image.specs.Brick.{Sound}
 use Rattle.image_write.specs.Saving
-use Rattle.brick_log.specs.BrickRules.{readYes, orderYes, writeYes, ordered, written, trimmedTo, under, lookup, placeFor, timeFor, foundFor, yesTo, replyTo, after, blockAfter}
+use Rattle.brick_log.specs.BrickRules.{readYes, orderYes, writeYes, orderedIfYes, writtenIfYes, trimmedTo, under, lookup, placeFor, timeFor, foundFor, yesTo, replyTo, brickAfter, blockAfter}
 use Rattle.order.specs.Claim.{_∈_}
 use Rattle.order.specs.Facts.{Fact, promised, stored, showed}
 use Rattle.order.specs.Places.{whole, above, In}
@@ -64,8 +64,8 @@ sensible n m msg e = go (validTime (msg .time)) (roundRight (msg .round)) (eqb (
 pub record Received (s : Settings) (g : SettingsRange s) (h : Hist s) (sent : List Item) (b : ℕ) (x : Brick) (msg : Message) (block out : List ℕ) : Type 0 where
   pub later : Hist s
   pub grows : Grows s g b h later
-  pub sound : Sound s (after s x msg block)
-  pub keeps : BrickInv s g later b (after s x msg block)
+  pub sound : Sound s (brickAfter s x msg block)
+  pub keeps : BrickInv s g later b (brickAfter s x msg block)
   pub answers : (msg .kind ≡ 5 → ⊥) → (new : List Item) → Within sent new
       → ReplyInv s g later new (replyTo s b x msg) (blockAfter x (placeFor b x msg) out)
 
@@ -146,10 +146,10 @@ module _ {s : Settings} {g : SettingsRange s} {h : Hist s} {sent : List Item} {b
     (v : Valid (quorums s g) h) (i : BrickInv s g h b x) (r : Sound s x) (z : MessageInv s g h b msg block) (ok : Sensible msg) where
   -- Read
   read-received : msg .kind ≡ 1 → Received s g h sent b x msg block out
-  unfolding after replyTo yesTo foundFor placeFor blockAfter
+  unfolding brickAfter replyTo yesTo foundFor placeFor blockAfter
   read-received e = go (readYes x) refl
     where
-      same : after s x msg block ≡ x
+      same : brickAfter s x msg block ≡ x
       same = rw (ne-eqb (msg .kind) 5 (λ q. omega (arith, q)), ne-eqb (msg .kind) 4 (λ q. omega (arith, q)), eq-eqb (msg .kind) 1 e) refl
 
       yes-is : yesTo s x msg ≡ readYes x
@@ -158,11 +158,11 @@ module _ {s : Settings} {g : SettingsRange s} {h : Hist s} {sent : List Item} {b
       found-is : foundFor b x msg ≡ newest x
       found-is = rw (eq-eqb (msg .kind) 1 e) refl
 
-      place-is : readYes x ≡ true → placeFor b x msg ≡ cond (member (msg .targets) b) (count x) 0
+      place-is : readYes x ≡ true → placeFor b x msg ≡ cond (member (msg .targets) b) (entryCount x) 0
       place-is y = rw (eq-eqb (msg .kind) 1 e, y) refl
 
-      held-block : (p : ℕ) (a : Bool) → p ≡ cond a (count x) 0 → not (eqb p 0) ≡ true → cond (eqb p 0) out (heldAt x (p - 1)) ≡ heldAt x (count x - 1)
-      held-block p true q d = ap (λ (k : ℕ). cond (eqb k 0) out (heldAt x (k - 1))) q ∙ rw (ne-eqb (count x) 0 (λ w. omega (arith, w, r .count-low))) refl
+      held-block : (p : ℕ) (a : Bool) → p ≡ cond a (entryCount x) 0 → not (eqb p 0) ≡ true → cond (eqb p 0) out (heldAt x (p - 1)) ≡ heldAt x (entryCount x - 1)
+      held-block p true q d = ap (λ (k : ℕ). cond (eqb k 0) out (heldAt x (k - 1))) q ∙ rw (ne-eqb (entryCount x) 0 (λ w. omega (arith, w, r .count-low))) refl
       held-block p false q d = let w : not (eqb 0 0) ≡ true = subst (λ (k : ℕ). not (eqb k 0) ≡ true) q d in let u : _≡_ {A = ℕ} 0 1 = cc in absurd (omega arith)
 
       go : (y : Bool) → readYes x ≡ y → Received s g h sent b x msg block out
@@ -194,10 +194,10 @@ module _ {s : Settings} {g : SettingsRange s} {h : Hist s} {sent : List Item} {b
 
   -- Order
   order-received : msg .kind ≡ 2 → Received s g h sent b x msg block out
-  unfolding after replyTo yesTo ordered
+  unfolding brickAfter replyTo yesTo orderedIfYes
   order-received e = go (orderYes x (msg .time)) refl
     where
-      same : after s x msg block ≡ cond (orderYes x (msg .time)) (Saving.promised x (msg .time)) x
+      same : brickAfter s x msg block ≡ cond (orderYes x (msg .time)) (Saving.withPromise x (msg .time)) x
       same = rw (ne-eqb (msg .kind) 5 (λ q. omega (arith, q)), ne-eqb (msg .kind) 4 (λ q. omega (arith, q)), ne-eqb (msg .kind) 1 (λ q. omega (arith, q))) refl
 
       yes-is : yesTo s x msg ≡ orderYes x (msg .time)
@@ -205,7 +205,7 @@ module _ {s : Settings} {g : SettingsRange s} {h : Hist s} {sent : List Item} {b
 
       go : (y : Bool) → orderYes x (msg .time) ≡ y → Received s g h sent b x msg block out
       go false y =
-          let q : after s x msg block ≡ x = same ∙ rw y refl in
+          let q : brickAfter s x msg block ≡ x = same ∙ rw y refl in
           record {
             later = h;
             grows = grows-not s g b h v;
@@ -214,7 +214,7 @@ module _ {s : Settings} {g : SettingsRange s} {h : Hist s} {sent : List Item} {b
             answers = λ n new w. reply-no s g h new (replyTo s b x msg) (blockAfter x (placeFor b x msg) out) (z .brick-low) (yes-is ∙ y);
           }
       go true y =
-          let q : after s x msg block ≡ Saving.promised x (msg .time) = same ∙ rw y refl in
+          let q : brickAfter s x msg block ≡ Saving.withPromise x (msg .time) = same ∙ rw y refl in
           let gr = grows-promised s g b h v (msg .time) (ok-promised i r (msg .time) (z .asks (omega arith)) y) in
           record {
             later = promised b (msg .time) ∷ h;
@@ -227,10 +227,10 @@ module _ {s : Settings} {g : SettingsRange s} {h : Hist s} {sent : List Item} {b
 
   -- Order-and-read
   look-received : message b msg block ∈ sent → msg .kind ≡ 3 → Received s g h sent b x msg block out
-  unfolding after replyTo yesTo ordered foundFor placeFor lookup timeFor blockAfter
+  unfolding brickAfter replyTo yesTo orderedIfYes foundFor placeFor lookup timeFor blockAfter
   look-received was e = go (orderYes x (msg .time)) refl
     where
-      same : after s x msg block ≡ cond (orderYes x (msg .time)) (Saving.promised x (msg .time)) x
+      same : brickAfter s x msg block ≡ cond (orderYes x (msg .time)) (Saving.withPromise x (msg .time)) x
       same = rw (ne-eqb (msg .kind) 5 (λ q. omega (arith, q)), ne-eqb (msg .kind) 4 (λ q. omega (arith, q)), ne-eqb (msg .kind) 1 (λ q. omega (arith, q))) refl
 
       yes-is : yesTo s x msg ≡ orderYes x (msg .time)
@@ -239,7 +239,7 @@ module _ {s : Settings} {g : SettingsRange s} {h : Hist s} {sent : List Item} {b
       found-is : foundFor b x msg ≡ timeFor x (placeFor b x msg)
       found-is = rw (ne-eqb (msg .kind) 1 (λ q. omega (arith, q))) refl
 
-      place-is : orderYes x (msg .time) ≡ true → placeFor b x msg ≡ under x (msg .max) (count x)
+      place-is : orderYes x (msg .time) ≡ true → placeFor b x msg ≡ under x (msg .max) (entryCount x)
       place-is y = rw (ne-eqb (msg .kind) 1 (λ q. omega (arith, q)), eq-eqb (msg .kind) 3 e, y) refl
 
       later : Hist s
@@ -256,22 +256,22 @@ module _ {s : Settings} {g : SettingsRange s} {h : Hist s} {sent : List Item} {b
 
       -- what the brick has of u is in the log at some place, or gone
       placed : Valid (quorums s g) later → (u : ℕ) → ((d : LogEntry) × (d ∈ x .log) × (d .time ≡ u)) ⊎ Gone (quorums s g) h u
-          → ((j : ℕ) × (j < count x) × (timeAt x j ≡ u)) ⊎ Gone (quorums s g) later u
+          → ((j : ℕ) × (j < entryCount x) × (timeAt x j ≡ u)) ⊎ Gone (quorums s g) later u
       placed w u (inl d) =
-          unfold count timeAt in
+          unfold entryCount timeAt in
           (let k = member-at (x .log) (d .1) in inl (k .0, k .1, ap (λ (q : LogEntry). q .time) (k .2) ∙ d .2))
       placed w u (inr d) = inr (gone-up w (above whole) d)
 
-      rising : (j k : ℕ) → j ≤ k → k < count x → timeAt x j ≤ timeAt x k
+      rising : (j k : ℕ) → j ≤ k → k < entryCount x → timeAt x j ≤ timeAt x k
       rising j k a c = by (ℕ-discrete j k)
         where
           by : Dec (j ≡ k) → timeAt x j ≤ timeAt x k
           by (yes q) = let w = ap (timeAt x) q in omega arith
           by (no q) =
-              unfold count timeAt in
+              unfold entryCount timeAt in
               (let w = rises-at (x .log) (proper s x r .rises) j k (omega arith) c in omega arith)
 
-      answer : Valid (quorums s g) later → orderYes x (msg .time) ≡ true → (new : List Item) → Within sent new → (p : ℕ) → placeFor b x msg ≡ p → Found x (msg .max) (count x) p
+      answer : Valid (quorums s g) later → orderYes x (msg .time) ≡ true → (new : List Item) → Within sent new → (p : ℕ) → placeFor b x msg ≡ p → Found x (msg .max) (entryCount x) p
           → ReplyInv s g later new (replyTo s b x msg) (blockAfter x (placeFor b x msg) out)
       answer w y new into p q (none f) =
           reply-look s g later new (replyTo s b x msg) (blockAfter x (placeFor b x msg) out) (z .brick-low) e in-top (λ d. absurd (never d))
@@ -288,7 +288,7 @@ module _ {s : Settings} {g : SettingsRange s} {h : Hist s} {sent : List Item} {b
           never : not (eqb (placeFor b x msg) 0) ≡ true → ⊥
           never d = let k : not (eqb 0 0) ≡ true = subst (λ (a : ℕ). not (eqb a 0) ≡ true) q d in let a : _≡_ {A = ℕ} 0 1 = cc in omega arith
 
-          here : (u : ℕ) → u < msg .max → ((j : ℕ) × (j < count x) × (timeAt x j ≡ u)) ⊎ Gone (quorums s g) later u
+          here : (u : ℕ) → u < msg .max → ((j : ℕ) × (j < entryCount x) × (timeAt x j ≡ u)) ⊎ Gone (quorums s g) later u
               → ((not (eqb (placeFor b x msg) 0) ≡ true) × (u ≤ foundFor b x msg)) ⊎ Gone (quorums s g) later u
           here u m (inl k) = absurd (omega (arith, f (k .0) (k .1), k .2))
           here u m (inr k) = inr k
@@ -317,10 +317,10 @@ module _ {s : Settings} {g : SettingsRange s} {h : Hist s} {sent : List Item} {b
               ∙ rw (ne-eqb (suc j) 0 (λ a. omega (arith, a))) (ap (heldAt x) less)
 
           there : Stands h b (timeAt x j) × Means s h (timeAt x j) b (heldAt x j)
-          there = unfold timeAt heldAt count in i .entries (getD (x .log) j noEntry) (at-member (x .log) j jl)
+          there = unfold timeAt heldAt entryCount in i .entries (getD (x .log) j noEntry) (at-member (x .log) j jl)
 
           under-newest : timeAt x j ≤ newest x
-          under-newest = unfold timeAt count in at-most-newest x (proper s x r .rises) (getD (x .log) j noEntry) (at-member (x .log) j jl)
+          under-newest = unfold timeAt entryCount in at-most-newest x (proper s x r .rises) (getD (x .log) j noEntry) (at-member (x .log) j jl)
 
           has : Stands later b (foundFor b x msg) × Means s later (foundFor b x msg) b (cond (eqb (placeFor b x msg) 0) out (heldAt x (placeFor b x msg - 1)))
           has =
@@ -332,7 +332,7 @@ module _ {s : Settings} {g : SettingsRange s} {h : Hist s} {sent : List Item} {b
           held : not (eqb (placeFor b x msg) 0) ≡ true
           held = rw (ne-eqb (placeFor b x msg) 0 (λ a. omega (arith, a, q))) refl
 
-          here : (u : ℕ) → u < msg .max → ((k : ℕ) × (k < count x) × (timeAt x k ≡ u)) ⊎ Gone (quorums s g) later u
+          here : (u : ℕ) → u < msg .max → ((k : ℕ) × (k < entryCount x) × (timeAt x k ≡ u)) ⊎ Gone (quorums s g) later u
               → ((not (eqb (placeFor b x msg) 0) ≡ true) × (u ≤ foundFor b x msg)) ⊎ Gone (quorums s g) later u
           here u m (inr k) = inr k
           here u m (inl k) = by (leb (k .0) j) refl
@@ -343,7 +343,7 @@ module _ {s : Settings} {g : SettingsRange s} {h : Hist s} {sent : List Item} {b
 
       go : (y : Bool) → orderYes x (msg .time) ≡ y → Received s g h sent b x msg block out
       go false y =
-          let q : after s x msg block ≡ x = same ∙ rw y refl in
+          let q : brickAfter s x msg block ≡ x = same ∙ rw y refl in
           record {
             later = h;
             grows = grows-not s g b h v;
@@ -352,7 +352,7 @@ module _ {s : Settings} {g : SettingsRange s} {h : Hist s} {sent : List Item} {b
             answers = λ n new w. reply-no s g h new (replyTo s b x msg) (blockAfter x (placeFor b x msg) out) (z .brick-low) (yes-is ∙ y);
           }
       go true y =
-          let q : after s x msg block ≡ Saving.promised x (msg .time) = same ∙ rw y refl in
+          let q : brickAfter s x msg block ≡ Saving.withPromise x (msg .time) = same ∙ rw y refl in
           let gr = grows-promised s g b h v (msg .time) (ok-promised i r (msg .time) (z .asks (omega arith)) y) in
           record {
             later = promised b (msg .time) ∷ h;
@@ -361,15 +361,15 @@ module _ {s : Settings} {g : SettingsRange s} {h : Hist s} {sent : List Item} {b
             keeps = subst (BrickInv s g (promised b (msg .time) ∷ h) b) (sym q) (brick-promised i r (msg .time) (gr .valid) y);
             answers = λ n new w.
                 answer (gr .valid) y new w (placeFor b x msg) refl
-                (subst (Found x (msg .max) (count x)) (sym (place-is y)) (found-under x (msg .max) (count x)));
+                (subst (Found x (msg .max) (entryCount x)) (sym (place-is y)) (found-under x (msg .max) (entryCount x)));
           }
 
   -- Write
   write-received : length block ≡ s .size → msg .kind ≡ 4 → Received s g h sent b x msg block out
-  unfolding after replyTo yesTo written
+  unfolding brickAfter replyTo yesTo writtenIfYes
   write-received size e = go (writeYes s x (msg .time)) refl
     where
-      same : after s x msg block ≡ cond (writeYes s x (msg .time)) (Saving.appended x (msg .time) block) x
+      same : brickAfter s x msg block ≡ cond (writeYes s x (msg .time)) (Saving.withEntry x (msg .time) block) x
       same = rw (ne-eqb (msg .kind) 5 (λ q. omega (arith, q)), eq-eqb (msg .kind) 4 e) refl
 
       yes-is : yesTo s x msg ≡ writeYes s x (msg .time)
@@ -377,7 +377,7 @@ module _ {s : Settings} {g : SettingsRange s} {h : Hist s} {sent : List Item} {b
 
       go : (y : Bool) → writeYes s x (msg .time) ≡ y → Received s g h sent b x msg block out
       go false y =
-          let q : after s x msg block ≡ x = same ∙ rw y refl in
+          let q : brickAfter s x msg block ≡ x = same ∙ rw y refl in
           record {
             later = h;
             grows = grows-not s g b h v;
@@ -386,7 +386,7 @@ module _ {s : Settings} {g : SettingsRange s} {h : Hist s} {sent : List Item} {b
             answers = λ n new w. reply-no s g h new (replyTo s b x msg) (blockAfter x (placeFor b x msg) out) (z .brick-low) (yes-is ∙ y);
           }
       go true y =
-          let q : after s x msg block ≡ Saving.appended x (msg .time) block = same ∙ rw y refl in
+          let q : brickAfter s x msg block ≡ Saving.withEntry x (msg .time) block = same ∙ rw y refl in
           let c = z .stores e in
           let a = write-above s x (msg .time) y in
           let gr = grows-stored s g b h v (msg .time) (ok-stored i r (msg .time) (c .0) y) in
@@ -402,7 +402,7 @@ module _ {s : Settings} {g : SettingsRange s} {h : Hist s} {sent : List Item} {b
 
   -- Trim
   trim-received : msg .kind ≡ 5 → Received s g h sent b x msg block out
-  unfolding after
+  unfolding brickAfter
   trim-received e =
       record {
         later = h;
@@ -412,7 +412,7 @@ module _ {s : Settings} {g : SettingsRange s} {h : Hist s} {sent : List Item} {b
         answers = λ n new w. absurd (n e);
       }
     where
-      same : after s x msg block ≡ trimmedTo x (msg .time)
+      same : brickAfter s x msg block ≡ trimmedTo x (msg .time)
       same = rw (eq-eqb (msg .kind) 5 e) refl
 
   -- any message

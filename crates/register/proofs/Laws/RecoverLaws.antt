@@ -21,7 +21,7 @@ use Rattle.byte_lists.specs.Each.{some}
 use Rattle.coord_record.specs.Records.{noBricks}
 use Rattle.coord_tally.specs.Counting.{saidNo, highest, atTime, atTimes, picked}
 use Rattle.coord_apply.specs.Acts.{stripeFrom, roundMessage, nextOp, nextRound}
-use Rattle.coord_apply.specs.Answers.{Held}
+use Rattle.coord_apply.specs.Answers.{Buffered}
 use Rattle.coord_tally.proofs.Laws.RowSets.{picked-gave}
 use Rattle.coord_laws.proofs.Laws.CodedBlockLaws.{stripe-read}
 use Rattle.order.specs.Claim.{changed, _∈_}
@@ -35,9 +35,9 @@ use Rattle.order.proofs.Laws.GoneLaws.{round-gone}
 use Rattle.order.proofs.Laws.ValueLaws.{val-up, one-value}
 use Rattle.register.specs.Runs.{Item}
 use Rattle.register.proofs.Laws.Invariant.{quorums, Hist, Means, Stands, ItemInv, CountedInv, Looked, Running, CoordinatorInv}
-use Rattle.register.proofs.Laws.TurnLaws.{turns-not, Turned}
+use Rattle.register.proofs.Laws.TurnLaws.{turns-not, TurnedRound}
 use Rattle.register.proofs.Laws.RoundLaws.{opens}
-use Rattle.register.proofs.Laws.DecodeLaws.{Row, picked-row}
+use Rattle.register.proofs.Laws.DecodeLaws.{DecodedRow, picked-row}
 use Rattle.register.proofs.Laws.DecideLaws.{true-T, T-true, now, reply-at, said-yes, quorum-of, launches}
 
 -- no time found is above the highest
@@ -59,7 +59,7 @@ count-none zero = refl
 count-none (suc n) = let w = count-none n in omega arith
 
 -- blocks of one time on m different bricks decode to what that time stands for
-pub means-decode : (s : Settings) (g : SettingsRange s) (h : Hist s) → Valid (quorums s g) h → (t : ℕ) (row blocks : List ℕ) → Row (s .n) (s .m) row
+pub means-decode : (s : Settings) (g : SettingsRange s) (h : Hist s) → Valid (quorums s g) h → (t : ℕ) (row blocks : List ℕ) → DecodedRow (s .n) (s .m) row
     → ((j : ℕ) → j < s .m → Means s h t (getD row j 0) (blockOf (s .size) blocks (getD row j 0)))
     → (full : List ℕ) × Val h t full × Stripe (s .m) (s .size) full × (stripeFrom (s .m) (s .size) row blocks ≡ full)
 means-decode s g h v t row blocks r f =
@@ -75,14 +75,14 @@ means-decode s g h v t row blocks r f =
     )
 
 -- the highest time among the replies that hold a block
-abbrev pub topOf : Settings → Held → ℕ
+abbrev pub topOf : Settings → Buffered → ℕ
 topOf s k = highest (k .state .tally .held) (k .state .tally .found) (s .n)
 
-module _ (s : Settings) (g : SettingsRange s) (h : Hist s) (sent : List Item) (c : ℕ) (k : Held) (v : Valid (quorums s g) h)
+module _ (s : Settings) (g : SettingsRange s) (h : Hist s) (sent : List Item) (c : ℕ) (k : Buffered) (v : Valid (quorums s g) h)
     (i : CoordinatorInv s g h sent c k) (items : (z : Item) → z ∈ sent → ItemInv s g h sent z) (n : k .state .op .kind ≡ 0 → ⊥) where
   -- a round of Order-and-read with a bound from which on all is gone
   pub does-look : (bound : ℕ) → (k .state .op .phase ≡ 4 → ⊥) → ((u : ℕ) → bound ≤ u → u < k .state .op .time → Gone (quorums s g) h u)
-      → Turned s g h sent c (nextRound k 3 bound noBricks (k .stripe) [])
+      → TurnedRound s g h sent c (nextRound k 3 bound noBricks (k .stripe) [])
   does-look bound phase gone =
       let r = now s g h sent c k v i items n in
       opens s g h sent c k i n h 3 bound noBricks (k .stripe) []
@@ -195,7 +195,7 @@ module _ (s : Settings) (g : SettingsRange s) (h : Hist s) (sent : List Item) (c
 
     -- the Write round of a recovered stripe
     pub does-recover : k .state .op .kind ≡ 1 → s .m ≤ count (atTimes (k .state .tally .held) (k .state .tally .found) (topOf s k)) (s .n)
-        → Turned s g h sent c
+        → TurnedRound s g h sent c
         (nextRound k 4 0 (picked (k .state .tally .held) (k .state .tally .found) (topOf s k) (s .n) (s .m))
         (stripeFrom (s .m) (s .size) (picked (k .state .tally .held) (k .state .tally .found) (topOf s k) (s .n) (s .m)) (k .blocks))
         (codedOf (s .n) (s .m) (s .size) (stripeFrom (s .m) (s .size) (picked (k .state .tally .held) (k .state .tally .found) (topOf s k) (s .n) (s .m)) (k .blocks))))

@@ -20,16 +20,16 @@ use Rattle.coord_decide.specs.Deciding.{decided}
 use Rattle.coord_decide.specs.declared.Decision.{Decision}
 use Rattle.coord_decide.specs.declared.Decision.the-variants.{Abort, Give, Look, Store, Recover, Finish}
 use Rattle.coord_apply.specs.Acts.{acted, withTally, counting, waitingOr}
-use Rattle.coord_apply.specs.Answers.{Held, Went, Step, refused, went, nothingSeen}
+use Rattle.coord_apply.specs.Answers.{Buffered, Went, Step, refused, went, nothingSeen}
 use Rattle.coordinator.specs.Routines.{takeStep}
-use Rattle.coord_laws.proofs.Laws.StepRunLaws.{Took, took}
+use Rattle.coord_laws.proofs.Laws.StepRunLaws.{ReplyTaken, took}
 use Rattle.coord_laws.proofs.Laws.OpCaseLaws.{Fit, reading, looking, restoring, ordering, storing}
 use Rattle.order.specs.Claim.{_∈_}
 use Rattle.order.specs.Valid.{Valid}
 use Rattle.register.specs.Runs.{Item, reply, Moved, coordinated, arriving}
 use Rattle.register.proofs.Laws.Invariant.{quorums, Hist, ItemInv, CoordinatorInv, Inv}
 use Rattle.register.proofs.Laws.Invariant.{Goes}
-use Rattle.register.proofs.Laws.TurnLaws.{Turned, goes-turned, goes-refused}
+use Rattle.register.proofs.Laws.TurnLaws.{TurnedRound, goes-turned, goes-refused}
 use Rattle.register.proofs.Laws.RoundLaws.{stays}
 use Rattle.register.proofs.Laws.CountedLaws.{counting-keeps}
 use Rattle.register.proofs.Laws.GiveLaws.{does-give}
@@ -37,15 +37,15 @@ use Rattle.register.proofs.Laws.DecisionLaws.{decided-reading, decided-
 use Rattle.register.proofs.Laws.DecideLaws.{sound-op, does-abort, does-store, does-finish}
 use Rattle.register.proofs.Laws.RecoverLaws.{topOf, does-look, gone-from, does-recover}
 
-module _ (s : Settings) (g : SettingsRange s) (h : Hist s) (sent : List Item) (c : ℕ) (k : Held) (v : Valid (quorums s g) h)
+module _ (s : Settings) (g : SettingsRange s) (h : Hist s) (sent : List Item) (c : ℕ) (k : Buffered) (v : Valid (quorums s g) h)
     (i : CoordinatorInv s g h sent c k) (items : (z : Item) → z ∈ sent → ItemInv s g h sent z) (n : k .state .op .kind ≡ 0 → ⊥)
     (low : k .state .op .first < s .n) (enough : quorum (s .n) (s .m) ≤ members (k .state .tally .counted) (s .n)) where
   turned : Decision → Type 0
-  turned d = Turned s g h sent c (acted (s .n) (s .m) (s .size) k d)
+  turned d = TurnedRound s g h sent c (acted (s .n) (s .m) (s .size) k d)
 
   -- what the q-th reply decides
   does-decide : Fit (k .state .op) → k .state .op .time < noUpperEnd
-      → Turned s g h sent c (acted (s .n) (s .m) (s .size) k (decided (s .n) (s .m) (k .state .op) (k .state .tally)))
+      → TurnedRound s g h sent c (acted (s .n) (s .m) (s .size) k (decided (s .n) (s .m) (k .state .op) (k .state .tally)))
   unfolding acted turned
   does-decide (reading kind phase _) high =
       subst turned (sym (decided-reading (s .n) (s .m) (k .state .op) (k .state .tally) phase))
@@ -53,14 +53,14 @@ module _ (s : Settings) (g : SettingsRange s) (h : Hist s) (sent : List Item) (c
       (some (otherTime (k .state .tally .counted) (k .state .tally .found) (highest (k .state .tally .counted) (k .state .tally .found) (s .n))) (s .n))
       (some (missing (s .n) (s .m) (k .state .op .first) (k .state .tally .counted)) (s .n)) refl refl refl)
     where
-      look : Turned s g h sent c (acted (s .n) (s .m) (s .size) k (Look noUpperEnd))
+      look : TurnedRound s g h sent c (acted (s .n) (s .m) (s .size) k (Look noUpperEnd))
       look = does-look s g h sent c k v i items n noUpperEnd (λ e. omega (arith, e)) (λ u l m. absurd (omega arith))
 
       go : (x y z : Bool)
           → some (saidNo (k .state .tally .counted) (k .state .tally .granted)) (s .n) ≡ x
           → some (otherTime (k .state .tally .counted) (k .state .tally .found) (highest (k .state .tally .counted) (k .state .tally .found) (s .n))) (s .n) ≡ y
           → some (missing (s .n) (s .m) (k .state .op .first) (k .state .tally .counted)) (s .n) ≡ z
-          → Turned s g h sent c (acted (s .n) (s .m) (s .size) k (cond (x || y || z) (Look noUpperEnd) Give))
+          → TurnedRound s g h sent c (acted (s .n) (s .m) (s .size) k (cond (x || y || z) (Look noUpperEnd) Give))
       go true y z ex ey ez = look
       go false true z ex ey ez = look
       go false false true ex ey ez = look
@@ -70,13 +70,13 @@ module _ (s : Settings) (g : SettingsRange s) (h : Hist s) (sent : List Item) (c
       (go (some (saidNo (k .state .tally .counted) (k .state .tally .granted)) (s .n)) (eqb (members (k .state .tally .held) (s .n)) 0)
       (leb (s .m) (count (atTimes (k .state .tally .held) (k .state .tally .found) (topOf s k)) (s .n))) (eqb (topOf s k) 0) (ltb (k .state .op .round) 1000) refl refl)
     where
-      abort : Turned s g h sent c (acted (s .n) (s .m) (s .size) k Abort)
+      abort : TurnedRound s g h sent c (acted (s .n) (s .m) (s .size) k Abort)
       abort = does-abort s g h sent c k v i items n
 
       go : (x w y z f : Bool)
           → some (saidNo (k .state .tally .counted) (k .state .tally .granted)) (s .n) ≡ x
           → leb (s .m) (count (atTimes (k .state .tally .held) (k .state .tally .found) (topOf s k)) (s .n)) ≡ y
-          → Turned s g h sent c
+          → TurnedRound s g h sent c
           (acted (s .n) (s .m) (s .size) k
           (cond x Abort
           (cond w Abort (cond y (cond f (Recover (topOf s k)) Abort) (cond z Abort (cond f (Look (topOf s k)) Abort))))))
@@ -97,7 +97,7 @@ module _ (s : Settings) (g : SettingsRange s) (h : Hist s) (sent : List Item) (c
       (go (some (saidNo (k .state .tally .counted) (k .state .tally .granted)) (s .n)) refl)
     where
       go : (x : Bool) → some (saidNo (k .state .tally .counted) (k .state .tally .granted)) (s .n) ≡ x
-          → Turned s g h sent c (acted (s .n) (s .m) (s .size) k (cond x Abort Finish))
+          → TurnedRound s g h sent c (acted (s .n) (s .m) (s .size) k (cond x Abort Finish))
       go true e = does-abort s g h sent c k v i items n
       go false e = does-finish s g h sent c k v i items n (inl kind) phase e enough
   does-decide (ordering kind phase _ _) high =
@@ -105,7 +105,7 @@ module _ (s : Settings) (g : SettingsRange s) (h : Hist s) (sent : List Item) (c
       (go (some (saidNo (k .state .tally .counted) (k .state .tally .granted)) (s .n)) refl)
     where
       go : (x : Bool) → some (saidNo (k .state .tally .counted) (k .state .tally .granted)) (s .n) ≡ x
-          → Turned s g h sent c (acted (s .n) (s .m) (s .size) k (cond x Abort Store))
+          → TurnedRound s g h sent c (acted (s .n) (s .m) (s .size) k (cond x Abort Store))
       go true e = does-abort s g h sent c k v i items n
       go false e = does-store s g h sent c k v i items n kind phase e enough
   does-decide (storing kind phase _) high =
@@ -113,7 +113,7 @@ module _ (s : Settings) (g : SettingsRange s) (h : Hist s) (sent : List Item) (c
       (go (some (saidNo (k .state .tally .counted) (k .state .tally .granted)) (s .n)) refl)
     where
       go : (x : Bool) → some (saidNo (k .state .tally .counted) (k .state .tally .granted)) (s .n) ≡ x
-          → Turned s g h sent c (acted (s .n) (s .m) (s .size) k (cond x Abort Finish))
+          → TurnedRound s g h sent c (acted (s .n) (s .m) (s .size) k (cond x Abort Finish))
       go true e = does-abort s g h sent c k v i items n
       go false e = does-finish s g h sent c k v i items n (inr kind) phase e enough
 
@@ -126,14 +126,14 @@ reply-arrives s g h r i a block was = go (takeStep (s .n) (s .m) (s .size) k a b
     c : ℕ
     c = a .time % 16
 
-    k : Held
+    k : Buffered
     k = r .world .coordinators c
 
-    after : Held
+    after : Buffered
     after = counting (s .size) k a block
 
-    decides : (w : Went) → Took (s .n) (s .m) (s .size) k a block (s .n * s .size) w → (b : Bool) → ltb (members (after .state .tally .counted) (s .n)) (quorum (s .n) (s .m)) ≡ b
-        → Turned s g h (r .world .sent) c
+    decides : (w : Went) → ReplyTaken (s .n) (s .m) (s .size) k a block (s .n * s .size) w → (b : Bool) → ltb (members (after .state .tally .counted) (s .n)) (quorum (s .n) (s .m)) ≡ b
+        → TurnedRound s g h (r .world .sent) c
         (cond b (record { next = after; sent = []; seen = nothingSeen })
         (acted (s .n) (s .m) (s .size) after (decided (s .n) (s .m) (after .state .op) (after .state .tally))))
     decides w t true e =
@@ -160,5 +160,5 @@ reply-arrives s g h r i a block was = go (takeStep (s .n) (s .m) (s .size) k a b
     go : (p : Step) → takeStep (s .n) (s .m) (s .size) k a block (s .n * s .size) ≡ p → Goes s g r (coordinated s (r .world) c p)
     go (went w) e =
         let t = took (s .n) (s .m) (s .size) k a block (s .n * s .size) w e in
-        goes-turned s g h r i c w (subst (Turned s g h (r .world .sent) c) (t .is) (unfold waitingOr in decides w t _ refl))
+        goes-turned s g h r i c w (subst (TurnedRound s g h (r .world .sent) c) (t .is) (unfold waitingOr in decides w t _ refl))
     go (refused number) e = goes-refused s g h r i c number

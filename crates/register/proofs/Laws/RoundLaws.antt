@@ -10,7 +10,7 @@ use Rattle.message.specs.declared.Message.{Message}
 use Rattle.erasure.specs.Code.{Stripe}
 use Rattle.coord_record.specs.Records.{nothingCounted, noBricks, noOp, idleWith}
 use Rattle.coord_apply.specs.Acts.{roundMessage, nextOp, opened, nextRound, ending}
-use Rattle.coord_apply.specs.Answers.{Held, Broadcast, nothingSeen}
+use Rattle.coord_apply.specs.Answers.{Buffered, Broadcast, nothingSeen}
 use Rattle.coord_laws.proofs.Laws.SoundnessLaws.{none-sized}
 use Rattle.order.specs.Claim.{Action, write, _∈_}
 use Rattle.order.specs.Facts.{End, Fact, began, ended, shows}
@@ -20,16 +20,16 @@ use Rattle.order.specs.Valid.{Began, Launched, Ended, Val, Gone, OkEnded, Valid
 use Rattle.register.specs.Runs.{plain, Item, message, reply, seenOf, blockFor, broadcasts}
 use Rattle.register.proofs.Laws.Invariant.{quorums, Hist, MessageInv, ItemInv, Asked, Running, CoordinatorInv}
 use Rattle.register.proofs.Laws.UpLaws.{in-cons}
-use Rattle.register.proofs.Laws.TurnLaws.{time-of, kind-of, round-of, Turns, turns-not, turns-ended, in-broadcast, Turned}
+use Rattle.register.proofs.Laws.TurnLaws.{time-of, kind-of, round-of, Turns, turns-not, turns-ended, in-broadcast, TurnedRound}
 use Rattle.register.proofs.Laws.StartEvent.{none-member}
 
 unfoldable pub max-of : Item → ℕ
 max-of (message b msg block) = msg .max
 max-of (reply r block) = 0
 
-module _ (s : Settings) (g : SettingsRange s) (h : Hist s) (sent : List Item) (c : ℕ) (k : Held) (i : CoordinatorInv s g h sent c k) where
+module _ (s : Settings) (g : SettingsRange s) (h : Hist s) (sent : List Item) (c : ℕ) (k : Buffered) (i : CoordinatorInv s g h sent c k) where
   -- nothing is sent and nothing is seen
-  pub stays : Valid (quorums s g) h → Turned s g h sent c (record { next = k; sent = []; seen = nothingSeen })
+  pub stays : Valid (quorums s g) h → TurnedRound s g h sent c (record { next = k; sent = []; seen = nothingSeen })
   unfolding seenOf nothingSeen broadcasts
   stays v =
       record {
@@ -47,7 +47,7 @@ module _ (s : Settings) (g : SettingsRange s) (h : Hist s) (sent : List Item) (c
       → seenOf s (ending k stripe more what bricks .seen) stripe ≡ shows {P = plain s} (ended (k .state .op .time) e)
       → ((z : Item) → z ∈ broadcasts s more → ItemInv s g (ended (k .state .op .time) e ∷ h) (sent ++ broadcasts s more) z)
       → ((b : ℕ) (msg : Message) (block : List ℕ) → message b msg block ∈ broadcasts s more → msg .time % 16 ≡ c)
-      → Turned s g h sent c (ending k stripe more what bricks)
+      → TurnedRound s g h sent c (ending k stripe more what bricks)
   unfolding ending idleWith noOp
   ends v e stripe more what bricks own o shown items owns =
       record {
@@ -79,7 +79,7 @@ module _ (s : Settings) (g : SettingsRange s) (h : Hist s) (sent : List Item) (c
       → ((b : ℕ) → b < s .n
       → MessageInv s g h′ b (roundMessage (nextOp (k .state .op) phase max) noBricks)
       (blockFor s (record { message = roundMessage (nextOp (k .state .op) phase max) noBricks; blocks = coded }) b))
-      → Turned s g h sent c (nextRound k phase max bricks stripe coded)
+      → TurnedRound s g h sent c (nextRound k phase max bricks stripe coded)
   unfolding nextRound opened seenOf nothingSeen nothingCounted nextOp roundMessage
   opens n h′ phase max bricks stripe coded turns same unended unsent writes cleared storing messages =
       record {

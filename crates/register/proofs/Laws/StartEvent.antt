@@ -25,7 +25,7 @@ use Rattle.erasure.specs.Code.{Stripe}
 use Rattle.coord_record.specs.Records.{nothingCounted, noBricks}
 use Rattle.coord_tally.specs.Counting.{targetFlags}
 use Rattle.coord_apply.specs.Acts.{roundMessage, firstOp, starting}
-use Rattle.coord_apply.specs.Answers.{Held, Broadcast, Went, refused, checked}
+use Rattle.coord_apply.specs.Answers.{Buffered, Broadcast, Went, refused, afterChecks}
 use Rattle.coord_refusals.specs.Checks.{writeRefusal, readRefusal}
 use Rattle.coordinator.specs.Routines.{drawnThen, writeStep, readStep}
 use Rattle.coord_laws.proofs.Laws.SoundnessLaws.{none-sized}
@@ -41,7 +41,7 @@ use Rattle.register.proofs.Laws.Invariant.{quorums, Hist, MessageInv, I
 use Rattle.register.proofs.Laws.UpLaws.{in-cons}
 use Rattle.register.proofs.Laws.Invariant.{Goes}
 use Rattle.register.proofs.Laws.BrickEvent.{first-passed}
-use Rattle.register.proofs.Laws.TurnLaws.{time-of, kind-of, Turns, turns-began, in-broadcast, Turned, goes-turned, goes-refused}
+use Rattle.register.proofs.Laws.TurnLaws.{time-of, kind-of, Turns, turns-began, in-broadcast, TurnedRound, goes-turned, goes-refused}
 
 -- no brick is counted in a new round
 pub none-member : (b : ℕ) → member (replicate 16 0) b ≡ true → ⊥
@@ -55,7 +55,7 @@ byte-below [] b i = omega arith
 byte-below (x ∷ l) b zero = b .0
 byte-below (x ∷ l) b (suc i) = byte-below l (b .1) i
 
-module _ (s : Settings) (g : SettingsRange s) (h : Hist s) (sent : List Item) (c : ℕ) (k : Held) (v : Valid (quorums s g) h)
+module _ (s : Settings) (g : SettingsRange s) (h : Hist s) (sent : List Item) (c : ℕ) (k : Buffered) (v : Valid (quorums s g) h)
     (i : CoordinatorInv s g h sent c k) (items : (z : Item) → z ∈ sent → ItemInv s g h sent z)
     (reading t : ℕ) (clock : Clock) (d : drawOf (k .state .clock) reading ≡ Drawn t clock) where
   own-time : t % 16 ≡ c
@@ -75,7 +75,7 @@ module _ (s : Settings) (g : SettingsRange s) (h : Hist s) (sent : List Item) (c
 
   -- a start in its first round: a Read or an Order round
   started : (kind phase first : ℕ) (stripe targets : List ℕ) → phase ≤ 2 → (kind ≡ 2 → Stripe (s .m) (s .size) stripe)
-      → Turned s g h sent c (starting k clock (firstOp kind phase t first) stripe targets)
+      → TurnedRound s g h sent c (starting k clock (firstOp kind phase t first) stripe targets)
   unfolding starting firstOp seenOf nothingCounted roundMessage timeOf
   started kind phase first stripe targets low proper =
       record {
@@ -173,10 +173,10 @@ module _ (s : Settings) (g : SettingsRange s) (h : Hist s) (r : Moved s) (i : In
   -- a write starts
   pub write-starts : (reading : ℕ) (content : List ℕ) → Bytes content
       → Goes s g r (coordinated s (r .world) c (writeStep (s .n) (s .m) (s .size) (r .world .coordinators c) reading content))
-  unfolding writeStep checked drawnThen writeRefusal
+  unfolding writeStep afterChecks drawnThen writeRefusal
   write-starts reading content small = go (leb refusal 0) refl
     where
-      k : Held
+      k : Buffered
       k = r .world .coordinators c
 
       refusal : ℕ
@@ -203,10 +203,10 @@ module _ (s : Settings) (g : SettingsRange s) (h : Hist s) (r : Moved s) (i : In
   -- a read starts
   pub read-starts : (reading first : ℕ)
       → Goes s g r (coordinated s (r .world) c (readStep (s .n) (s .m) (s .size) (r .world .coordinators c) reading first))
-  unfolding readStep checked drawnThen
+  unfolding readStep afterChecks drawnThen
   read-starts reading first = go (leb refusal 0)
     where
-      k : Held
+      k : Buffered
       k = r .world .coordinators c
 
       refusal : ℕ

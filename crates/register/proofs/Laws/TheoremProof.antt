@@ -12,7 +12,7 @@ use Rattle.settings.specs.declared.Settings.{Settings}
 use Rattle.order.specs.Claim.{OneOrder, _∈_}
 use Rattle.order.specs.Facts.{seen}
 use Rattle.order.proofs.Laws.OneOrderTheorem.{one-order}
-use Rattle.register.specs.Runs.{plain, Item, message, reply, fresh, Event, startWrite, startRead, arrives, crashes, goesDown, comesUp, Moved, unmoved, putAt, arriving, arrivingAt, standing, step, next, runFrom, run, RunHasOneOrder}
+use Rattle.register.specs.Runs.{plain, Item, message, reply, freshSet, Event, startWrite, startRead, arrives, crashes, goesDown, comesUp, Moved, unmoved, putAt, arriving, arrivingAt, standing, step, nextMoved, runFrom, run, RunHasOneOrder}
 use Rattle.register.proofs.Laws.Invariant.{Hist, Inv}
 use Rattle.register.proofs.Laws.Invariant.{Goes}
 use Rattle.register.proofs.Laws.BrickEvent.{goes-unmoved, message-arrives}
@@ -70,13 +70,13 @@ module _ (s : Settings) (g : SettingsRange s) where
 
   -- so after all of them
   from-holds : (r : Moved s) → (h : Hist s) × Inv s g h r → (events : List Event) → (h : Hist s) × Inv s g h (runFrom s r events)
-  unfolding runFrom next
+  unfolding runFrom nextMoved
   from-holds r w [] = w
-  from-holds r w (e ∷ events) = from-holds (next s r e) (step-goes (w .0) r (w .1) e) events
+  from-holds r w (e ∷ events) = from-holds (nextMoved s r e) (step-goes (w .0) r (w .1) e) events
 
   pub run-holds : (events : List Event) → (h : Hist s) × Inv s g h (run s events)
   unfolding run
-  run-holds events = from-holds (unmoved s (fresh s)) ([], fresh-holds s g) events
+  run-holds events = from-holds (unmoved s (freshSet s)) ([], fresh-holds s g) events
 
 -- For every settings in range and every list of events, whatever its crashes leave in the buffers, the operations have one order.
 pub every-run-has-one-order : (s : Settings) → settingsRefusal s ≡ 0 → (events : List Event) → RunHasOneOrder s events

@@ -11,14 +11,14 @@ use Rattle.settings.specs.Ranges.{SettingsRange}
 use Rattle.settings.specs.declared.Settings.{Settings}
 use Rattle.message.specs.declared.Message.{Message}
 use Rattle.image.specs.Brick.{Brick}
-use Rattle.coord_apply.specs.Answers.{Held, Broadcast, Went, refused, went}
+use Rattle.coord_apply.specs.Answers.{Buffered, Broadcast, Went, refused, went}
 use Rattle.order.specs.Claim.{Action, Seen, _∈_}
 use Rattle.order.specs.Facts.{Source, End, Fact, began, launched, ended, seen, shows}
 use Rattle.order.specs.Places.{Suf, whole, above}
 use Rattle.order.specs.Valid.{OkBegan, OkLaunched, OkEnded, Ok, Valid, next}
 use Rattle.register.specs.Runs.{plain, Item, message, reply, Moved, putAt, seenOf, blockFor, toAll, broadcasts, coordinated}
 use Rattle.register.proofs.Laws.Invariant.{quorums, Hist, BrickInv, ItemInv, CoordinatorInv, Inv}
-use Rattle.register.proofs.Laws.UpLaws.{within-more, item-up, AtBrick, AtCoordinator, brick-up, coordinator-up, Quiet, coordinator-sent}
+use Rattle.register.proofs.Laws.UpLaws.{within-more, item-up, AtBrick, AtCoordinator, brick-up, coordinator-up, QuietWorld, coordinator-sent}
 use Rattle.register.proofs.Laws.Invariant.{Goes}
 use Rattle.register.proofs.Laws.BrickEvent.{goes-unmoved, put-here, put-there}
 
@@ -41,7 +41,7 @@ pub record Turns (s : Settings) (g : SettingsRange s) (c : ℕ) (h h′ : Hist s
   pub longer : Suf h h′
   pub seen-more : seen h′ ≡ seen h ++ shown
   pub bricks : (b : ℕ) (x : Brick) → BrickInv s g h b x → BrickInv s g h′ b x
-  pub others : (c′ : ℕ) → (c′ ≡ c → ⊥) → (sent : List Item) (k : Held) → CoordinatorInv s g h sent c′ k → CoordinatorInv s g h′ sent c′ k
+  pub others : (c′ : ℕ) → (c′ ≡ c → ⊥) → (sent : List Item) (k : Buffered) → CoordinatorInv s g h sent c′ k → CoordinatorInv s g h′ sent c′ k
 
 module _ (s : Settings) (g : SettingsRange s) (c : ℕ) (h : Hist s) (v : Valid (quorums s g) h) where
   pub turns-not : (shown : List (Seen (plain s))) → shown ≡ [] → Turns s g c h h shown
@@ -101,7 +101,7 @@ in-broadcast s z i m = go (List·Memᴰ·append-cases (toAll s z (s .n)) m)
     go (inr p) = absurd (List·Memᴰ·not-nil p)
 
 -- What an event leaves of coordinator c and what it sends.
-pub record Turned (s : Settings) (g : SettingsRange s) (h : Hist s) (sent : List Item) (c : ℕ) (w : Went) : Type 0 where
+pub record TurnedRound (s : Settings) (g : SettingsRange s) (h : Hist s) (sent : List Item) (c : ℕ) (w : Went) : Type 0 where
   pub later : Hist s
   pub turns : Turns s g c h later (seenOf s (w .seen) (w .next .stripe))
   pub keeps : CoordinatorInv s g later (sent ++ broadcasts s (w .sent)) c (w .next)
@@ -109,7 +109,7 @@ pub record Turned (s : Settings) (g : SettingsRange s) (h : Hist s) (sent : List
   pub own : (b : ℕ) (msg : Message) (block : List ℕ) → message b msg block ∈ broadcasts s (w .sent) → msg .time % 16 ≡ c
 
 pub goes-turned : (s : Settings) (g : SettingsRange s) (h : Hist s) (r : Moved s) → Inv s g h r → (c : ℕ) (w : Went)
-    → Turned s g h (r .world .sent) c w → Goes s g r (coordinated s (r .world) c (went w))
+    → TurnedRound s g h (r .world .sent) c w → Goes s g r (coordinated s (r .world) c (went w))
 unfolding coordinated
 goes-turned s g h r i c w t = (
   t .later,
@@ -130,7 +130,7 @@ goes-turned s g h r i c w t = (
     item k (inl m) = item-up s g (t .turns .valid) (t .turns .longer) (within-more (r .world .sent) new) k (i .items k m)
     item k (inr m) = t .items k m
 
-    quiet : (c′ : ℕ) → (c′ ≡ c → ⊥) → Quiet c′ (r .world .sent) (r .world .sent ++ new)
+    quiet : (c′ : ℕ) → (c′ ≡ c → ⊥) → QuietWorld c′ (r .world .sent) (r .world .sent ++ new)
     quiet c′ n b msg block m e q = go (List·Memᴰ·append-cases (r .world .sent) m)
       where
         go : (message b msg block ∈ r .world .sent) ⊎ (message b msg block ∈ new) → message b msg block ∈ r .world .sent

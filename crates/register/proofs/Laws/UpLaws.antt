@@ -10,7 +10,7 @@ use Rattle.message.specs.Kinds.{orderReadKind}
 use Rattle.message.specs.declared.Message.{Message}
 use Rattle.message.specs.declared.Reply.{Reply}
 use Rattle.image.specs.Brick.{Brick, LogEntry}
-use Rattle.coord_apply.specs.Answers.{Held}
+use Rattle.coord_apply.specs.Answers.{Buffered}
 use Rattle.order.specs.Claim.{Plain, _∈_}
 use Rattle.order.specs.Facts.{Fact, began, promised, launched, stored, showed, ended, History}
 use Rattle.order.specs.Places.{Suf, whole, above, In}
@@ -141,7 +141,7 @@ module _ {s : Settings} {g : SettingsRange s} {h : Hist s} {f : Fact (plain s)} 
       keep u (inr w) = inr (gone-up v (above whole) w)
 
   -- a coordinator after a fact that does not concern it
-  running-up : {sent : List Item} {c : ℕ} {k : Held} → (AtCoordinator c f → ⊥) → Running s g h sent c k → Running s g (f ∷ h) sent c k
+  running-up : {sent : List Item} {c : ℕ} {k : Buffered} → (AtCoordinator c f → ⊥) → Running s g h sent c k → Running s g (f ∷ h) sent c k
   running-up {sent} {c} {k} other i =
       record {
         own = i .own;
@@ -165,7 +165,7 @@ module _ {s : Settings} {g : SettingsRange s} {h : Hist s} {f : Fact (plain s)} 
       launched-not p e (inl q) = other (subst (AtCoordinator c) q (i .own))
       launched-not p e (inr q) = i .unsent p (e, q)
 
-  pub coordinator-up : {sent : List Item} {c : ℕ} {k : Held} → (AtCoordinator c f → ⊥) → CoordinatorInv s g h sent c k
+  pub coordinator-up : {sent : List Item} {c : ℕ} {k : Buffered} → (AtCoordinator c f → ⊥) → CoordinatorInv s g h sent c k
       → CoordinatorInv s g (f ∷ h) sent c k
   coordinator-up {sent} {c} {k} other i =
       record {
@@ -180,11 +180,11 @@ module _ {s : Settings} {g : SettingsRange s} {h : Hist s} {f : Fact (plain s)} 
       earlier t m o (inr q) = (o, q)
 
 -- what is sent anew is no Order-and-read of coordinator c
-abbrev pub Quiet : ℕ → List Item → List Item → Type 0
-Quiet c old new =
+abbrev pub QuietWorld : ℕ → List Item → List Item → Type 0
+QuietWorld c old new =
     (b : ℕ) (msg : Message) (block : List ℕ) → message b msg block ∈ new → msg .kind ≡ orderReadKind → msg .time % 16 ≡ c → message b msg block ∈ old
 
-pub counted-sent : {s : Settings} {old new : List Item} {k : Held} {b : ℕ} → Within old new → CountedInv s old k b → CountedInv s new k b
+pub counted-sent : {s : Settings} {old new : List Item} {k : Buffered} {b : ℕ} → Within old new → CountedInv s old k b → CountedInv s new k b
 counted-sent w x =
     record {
       from = x .from;
@@ -202,7 +202,7 @@ counted-sent w x =
       right = x .right;
     }
 
-pub coordinator-sent : {s : Settings} {g : SettingsRange s} {h : Hist s} {old new : List Item} {c : ℕ} {k : Held} → Within old new → Quiet c old new
+pub coordinator-sent : {s : Settings} {g : SettingsRange s} {h : Hist s} {old new : List Item} {c : ℕ} {k : Buffered} → Within old new → QuietWorld c old new
     → CoordinatorInv s g h old c k → CoordinatorInv s g h new c k
 coordinator-sent {s} {g} {h} {old} {new} {c} {k} w quiet i = record { number = i .number; used = i .used; sized = i .sized; runs = λ n. go (i .runs n) }
   where

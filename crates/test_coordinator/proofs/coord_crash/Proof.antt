@@ -1,7 +1,7 @@
 use mathlib.Core.List.{[]}
 use mathlib.Core.Path.{sym, _∙_}
 use lib.ListN.{length}
-use Rattle.coord_apply.specs.Acts.{heldOf}
+use Rattle.coord_apply.specs.Acts.{buffered}
 use Rattle.coord_apply.specs.Answers.{answerOf}
 use Rattle.coord_apply.specs.declared.Answer.{Answer}
 use Rattle.coord_record.specs.declared.Coordinator.{Coordinator}
@@ -54,7 +54,7 @@ returns-2 c =
     let k = c .before .before .before .before .before .before .before .before .before .before .before .before .before .before .record-of .result in
     let w = c .before .before .before .before .before .before .before .before .before .before .before .before .before .crash .ensures in
     let p = c .before .before .before .before .before .before .before .before .put-answer .ensures in
-    let a = moved {A = Answer} (λ (x : Coordinator). answerOf x (crashStep (s .n) (s .m) (s .size) (heldOf x [] []))) k _ _ (w [] []) q in (
+    let a = moved {A = Answer} (λ (x : Coordinator). answerOf x (crashStep (s .n) (s .m) (s .size) (buffered x [] []))) k _ _ (w [] []) q in (
       whole-number _ _ _ e (said-number _ _ _ a (p .0)),
       (
         whole-buffer _ _ _ _ e (said-buffer (λ (x : Answer). recordNumbers (x .next)) _ _ _ _ a (p .1 .0)),

@@ -2,7 +2,7 @@ use Prim.Native.Nat.{ℕ}
 use mathlib.Core.List.{List, []}
 use mathlib.Core.Path.{sym, _∙_}
 use lib.ListN.{length}
-use Rattle.coord_apply.specs.Acts.{heldOf}
+use Rattle.coord_apply.specs.Acts.{buffered}
 use Rattle.coord_apply.specs.Answers.{answerOf, stripeAfter}
 use Rattle.coord_apply.specs.declared.Answer.{Answer}
 use Rattle.coord_record.specs.declared.Coordinator.{Coordinator}
@@ -58,7 +58,7 @@ returns-2 c =
     let k = c .before .before .before .before .before .before .before .before .before .before .before .before .before .before .before .before .before .record-of .result in
     let w = c .before .before .before .before .before .before .before .before .before .before .before .before .before .before .before .start-write .ensures in
     let p = c .before .before .before .before .before .before .before .before .put-answer .ensures in
-    let a = moved {A = Answer} (λ (x : Coordinator). answerOf x (writeStep (s .n) (s .m) (s .size) (heldOf x [] (s .stripe .now)) (s .reading) (s .given .now))) k _ _ (w .0 []) q in (
+    let a = moved {A = Answer} (λ (x : Coordinator). answerOf x (writeStep (s .n) (s .m) (s .size) (buffered x [] (s .stripe .now)) (s .reading) (s .given .now))) k _ _ (w .0 []) q in (
       whole-number _ _ _ e (said-number _ _ _ a (p .0)),
       (
         whole-buffer _ _ _ _ e (said-buffer (λ (x : Answer). recordNumbers (x .next)) _ _ _ _ a (p .1 .0)),
@@ -66,7 +66,7 @@ returns-2 c =
           whole-buffer _ _ _ _ e (said-buffer (λ (x : Answer). recordBytes (x .next)) _ _ _ _ a (p .1 .1 .0)),
           (
             whole-buffer _ _ _ _ e (said-buffer answerNumbers _ _ _ _ a (p .1 .1 .1 .0)),
-            (whole-buffer _ _ _ _ e (said-buffer answerBytes _ _ _ _ a (p .1 .1 .1 .1)), whole-buffer _ _ _ _ e (moved {A = List ℕ} (λ (x : Coordinator). stripeAfter (heldOf x [] (s .stripe .now)) (writeStep (s .n) (s .m) (s .size) (heldOf x [] (s .stripe .now)) (s .reading) (s .given .now))) k _ _ (w .1 []) q)),
+            (whole-buffer _ _ _ _ e (said-buffer answerBytes _ _ _ _ a (p .1 .1 .1 .1)), whole-buffer _ _ _ _ e (moved {A = List ℕ} (λ (x : Coordinator). stripeAfter (buffered x [] (s .stripe .now)) (writeStep (s .n) (s .m) (s .size) (buffered x [] (s .stripe .now)) (s .reading) (s .given .now))) k _ _ (w .1 []) q)),
           ),
         ),
       ),
