@@ -5,6 +5,6 @@ use Rattle.order.specs.BenchExample.{byte, nought, ten}
 
 abbrev pub turned-up : List (Seen byte)
 turned-up =
-    Seen.began 16 (write ten) ∷ Seen.ended 16 Outcome.cut
+    Seen.began 16 (write ten) ∷ Seen.ended 16 Ending.cut
     ∷ Seen.began 33 read ∷ Seen.ended 33 (finished (bytes nought))
     ∷ Seen.began 49 read ∷ Seen.ended 49 (finished (bytes ten)) ∷ []

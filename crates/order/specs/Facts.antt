@@ -37,11 +37,11 @@ History P = List (Fact P)
 
 -- What is seen of a history: beginnings and ends, in the order of the events.
 unfoldable pub endingOf : {P : Plain} → End P → Ending P
-endingOf (written g) = Outcome.finished g
-endingOf (recovered g) = Outcome.finished g
-endingOf (one-round c g) = Outcome.finished g
-endingOf aborted = Outcome.aborted
-endingOf cut = Outcome.cut
+endingOf (written g) = Ending.finished g
+endingOf (recovered g) = Ending.finished g
+endingOf (one-round c g) = Ending.finished g
+endingOf aborted = Ending.aborted
+endingOf cut = Ending.cut
 
 unfoldable pub shows : {P : Plain} → Fact P → List (Seen P)
 shows (began t k) = Seen.began t k ∷ []

@@ -73,7 +73,7 @@ bench-valid = reading-again-valid
 
 -- What is seen of it: the bench prints these ends.
 bench-seen : seen bench
-    ≡ Seen.began 16 (write ten) ∷ Seen.ended 16 Outcome.cut
+    ≡ Seen.began 16 (write ten) ∷ Seen.ended 16 Ending.cut
     ∷ Seen.began 33 read ∷ Seen.ended 33 (finished (bytes nought))
     ∷ Seen.began 49 read ∷ Seen.ended 49 (finished (bytes nought)) ∷ []
 unfolding seen shows endingOf

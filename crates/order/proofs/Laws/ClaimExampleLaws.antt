@@ -89,12 +89,12 @@ not-turned-up w =
     (w .right)
     (w .once)
     (w .begun)
-    (λ o i t. w .ahead o (a .0) Outcome.cut read i (a .2) (write-first o (a .0) t (a .1)))
+    (λ o i t. w .ahead o (a .0) Ending.cut read i (a .2) (write-first o (a .0) t (a .1)))
   where
     first : (x y : Op byte) → x .time ≡ 33 → y .time ≡ 49
         → Before (Seen.ended (x .time) (finished (bytes nought))) (Seen.began (y .time) read) turned-up
     first x y p q = later (later (later (here (ap (λ (t : ℕ). Seen.ended t (finished (bytes nought))) p) (List·Memᴰ·head (ap (λ (t : ℕ). Seen.began t read) q)))))
 
     write-first : (x y : Op byte) → x .time ≡ 16 → y .time ≡ 33
-        → Before (Seen.ended (x .time) Outcome.cut) (Seen.began (y .time) read) turned-up
-    write-first x y p q = later (here (ap (λ (t : ℕ). Seen.ended t Outcome.cut) p) (List·Memᴰ·head (ap (λ (t : ℕ). Seen.began t read) q)))
+        → Before (Seen.ended (x .time) Ending.cut) (Seen.began (y .time) read) turned-up
+    write-first x y p q = later (here (ap (λ (t : ℕ). Seen.ended t Ending.cut) p) (List·Memᴰ·head (ap (λ (t : ℕ). Seen.began t read) q)))
