@@ -1,6 +1,6 @@
 -- What the claim rules out: a write is cut short, a read after it gives zeros, and the write turns up in the next read.
 use mathlib.Core.List.{List, [], _∷_}
-use Rattle.order.specs.Claim.{read, write, bytes, finished, Seen}
+use Rattle.order.specs.Claim.{Ending, read, write, bytes, finished, Seen}
 use Rattle.order.specs.BenchExample.{byte, nought, ten}
 
 abbrev pub turned-up : List (Seen byte)

@@ -1,7 +1,7 @@
 -- Laws of `specs/BenchExample`.
 use mathlib.Core.Path.{_≡_, refl}
 use mathlib.Core.List.{[], _∷_}
-use Rattle.order.specs.Claim.{stripe, read, write, changed, given, bytes, finished, Seen}
+use Rattle.order.specs.Claim.{Ending, stripe, read, write, changed, given, bytes, finished, Seen}
 use Rattle.order.specs.Facts.{began, ended, cut, seen, shows, endingOf}
 use Rattle.order.specs.Valid.{Valid, start, fresh, onto}
 use Rattle.order.proofs.Laws.OneOrderTheorem.{one-order, the-order}

@@ -4,7 +4,7 @@ use mathlib.Core.Logic.{_⊎_, inl, inr}
 use mathlib.Core.List.{List, [], _∷_, List·Memᴰ·head, List·Memᴰ·tail, List·Memᴰ·not-nil}
 use Prim.Native.Nat.{ℕ}
 use native.Mathlib.Omega.{arith}
-use Rattle.order.specs.Claim.{Action, read, bytes, changed, given, finished, Seen, Op, _∈_, Before, here, later, Once, Right, OneOrder}
+use Rattle.order.specs.Claim.{Ending, Action, read, bytes, changed, given, finished, Seen, Op, _∈_, Before, here, later, Once, Right, OneOrder}
 use Rattle.order.specs.BenchExample.{byte, nought, ten}
 use Rattle.order.specs.ClaimExample.{turned-up}
 
