@@ -25,6 +25,17 @@ use Rattle.image.specs.Brick.{Sound}
 use Rattle.image.specs.Image.{imageOf}
 use Rattle.image.specs.Parse.{brickIn}
 
+-- what an image that opens satisfies
+pub record ImageOpened (s : Settings) (brick : ℕ) (l : List ℕ) (x : Brick) : Type 0 where
+  pub in-range : inRange s ≡ true
+  pub range : SettingsRange s
+  pub long : length l ≡ imageSize s
+  pub brick-low : brick < s .n
+  pub checks : each (checkedAt l) (s .capacity + 1) ≡ true
+  pub is-read : x ≡ brickIn s l
+  pub keeps : Sound s x
+  pub is-image : l ≡ imageOf s brick x
+
 -- the time of entry i is above the one before it
 unfoldable pub rises : ℕ → ℕ → ℕ → Bool
 rises i last time = eqb i 0 || ltb last time
@@ -42,7 +53,7 @@ slotFits size t time i n last =
 pub record Hub (s : Settings) (brick : ℕ) (l : List ℕ) (o : Opening) (h : Head) : Type 0 where
   pub x : Brick
   pub is : parse s brick l ≡ Opens x
-  pub saved : Rattle.image.specs.Parse.Opened s brick l x
+  pub saved : ImageOpened s brick l x
   pub counts : h .count ≡ entryCount x
   pub promises : h .promise ≡ x .promise
   pub logs : o .log ≡ workingLog x
@@ -67,15 +78,3 @@ pub record Scanned (size cap : ℕ) (l : List ℕ) (n : ℕ) (checks fits : Bool
   pub all-checked : checks ≡ each (checkAfter l) cap
   pub all-fit : checks ≡ true → fits ≡ each (slotAt size l n) cap
   pub the-log : checks ≡ true → log ≡ rowOf (entryAt l n) cap ++ replicate (32 - cap) blank
-
--- The ways through the refusal of an image.
--- what an image that opens satisfies
-pub record Opened (s : Settings) (brick : ℕ) (l : List ℕ) (x : Brick) : Type 0 where
-  pub in-range : inRange s ≡ true
-  pub range : SettingsRange s
-  pub long : length l ≡ imageSize s
-  pub brick-low : brick < s .n
-  pub checks : each (checkedAt l) (s .capacity + 1) ≡ true
-  pub is-read : x ≡ brickIn s l
-  pub keeps : Sound s x
-  pub is-image : l ≡ imageOf s brick x

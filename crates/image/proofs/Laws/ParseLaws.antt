@@ -27,7 +27,7 @@ use Rattle.image.specs.Image.{imageBlock, imageOf, imageSize}
 use Rattle.image.specs.Parse.{imageBlockAt, countIn, promiseIn, timeIn, heldIn, entryIn, entriesIn, brickIn, checkedAt, isImage, openRefusal, Opens, Refuses, parse}
 use Rattle.image.specs.Brick.{Sound}
 use Rattle.image.proofs.Laws.ImageSoundLaws.{soundness, sound-again, saved-high, block-0, block-held, image-block, image-length}
-use Rattle.image.specs.Workers.{Opened}
+use Rattle.image.specs.Workers.{ImageOpened}
 
 pub range-of : (s : Settings) → inRange s ≡ true → SettingsRange s
 unfolding settingsRefusal
@@ -126,7 +126,7 @@ module _ (s : Settings) (brick : ℕ) (l : List ℕ) where
   parse-opens e = rw e refl
 
   -- What opens is the image of what it opens to.
-  pub opened : (x : Brick) → parse s brick l ≡ Opens x → (Opened s brick l) x
+  pub opened : (x : Brick) → parse s brick l ≡ Opens x → ImageOpened s brick l x
   unfolding parse openRefusal firstRefusal isImage
   opened x e =
       go (inRange s) (eqb (length l) (imageSize s)) (ltb brick (s .n)) (each (checkedAt l) (s .capacity + 1))
@@ -136,7 +136,7 @@ module _ (s : Settings) (brick : ℕ) (l : List ℕ) where
           → soundBrick s (brickIn s l) ≡ f → same (imageOf s brick (brickIn s l)) l ≡ g
           → (let r : ℕ = firstRefusal (refuseUnless a 1 ∷ refuseUnless b 2 ∷ refuseUnless c 3 ∷ refuseUnless d 5 ∷ refuseUnless (f && g) 6 ∷ []) in
           cond (eqb r 0) (Opens (brickIn s l)) (Refuses r)) ≡ Opens x
-          → (Opened s brick l) x
+          → ImageOpened s brick l x
       go false b c d f g ea eb ec ed ef eg h = let z : _≡_ {A = ℕ} 0 1 = cc in absurd (omega arith)
       go true false c d f g ea eb ec ed ef eg h = let z : _≡_ {A = ℕ} 0 1 = cc in absurd (omega arith)
       go true true false d f g ea eb ec ed ef eg h = let z : _≡_ {A = ℕ} 0 1 = cc in absurd (omega arith)
