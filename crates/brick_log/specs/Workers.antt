@@ -7,7 +7,7 @@ use lib.Dec.{leb, ltb, eqb}
 use lib.ListN.{take, drop, getD}
 use Rattle.image.specs.Brick.{Brick, entryCount, newest}
 use Rattle.image.specs.Parse.{brickIn}
-use Rattle.image.specs.Workers.{Opened}
+use Rattle.image.specs.Workers.{ImageOpened}
 use Rattle.settings.specs.declared.Settings.{Settings}
 use Rattle.image.specs.Opening.{placeIn, blank}
 use Rattle.image.specs.declared.Entry.{Entry}
@@ -22,7 +22,7 @@ use Rattle.brick_log.specs.declared.Looked.the-variants.{Under, Nothing}
 
 -- an opened image, with what is known of its brick
 pub record LogReady (s : Settings) (brick : ℕ) (l : List ℕ) (k : Known) : Type 0 where
-  pub saved : Opened s brick l (brickIn s l)
+  pub saved : ImageOpened s brick l (brickIn s l)
   pub counts : k .count ≡ entryCount (brickIn s l)
   pub promises : k .promise ≡ brickIn s l .promise
   pub newests : k .newest ≡ newest (brickIn s l)

@@ -19,7 +19,7 @@ use Rattle.message.specs.declared.Message.{Message}
 use Rattle.image.specs.Brick.{Brick, entryCount, timeAt, heldAt, newest}
 use Rattle.image.specs.Image.{imageOf}
 use Rattle.image.specs.Parse.{Opens, Refuses, parse, openRefusal, imageBlockAt, countIn, brickIn, heldIn}
-use Rattle.image.specs.Workers.{Opened}
+use Rattle.image.specs.Workers.{ImageOpened}
 use Rattle.image.proofs.Laws.ParseLaws.{count-in}
 use Rattle.image.proofs.Laws.FieldTestLaws.{held-in}
 use Rattle.image.specs.Opening.{workingLog, opening, answerNumber, blank}
@@ -149,7 +149,7 @@ ready s brick l o h u =
     let e = u .saved .is-read in
     let c : h .count ≡ entryCount (brickIn s l) = u .counts ∙ ap entryCount e in
     record {
-      saved = subst (λ (y : Brick). Opened s brick l y) e (u .saved);
+      saved = subst (λ (y : Brick). ImageOpened s brick l y) e (u .saved);
       counts = c;
       promises = u .promises ∙ ap (λ (y : Brick). y .promise) e;
       newests =
