@@ -10,7 +10,7 @@ unfolding Rattle.bench_parse.specs.Lines.every Rattle.bench_parse.specs.Lines.
 bench-words-open = tt
 
 unfoldable bench-line-open : Unit {0}
-unfolding Rattle.bench_parse.specs.Lines.areNumbers Rattle.bench_parse.specs.Lines.numberIn Rattle.bench_parse.specs.Lines.setOf Rattle.bench_parse.specs.Lines.writeWords Rattle.bench_parse.specs.Lines.writeOf Rattle.bench_parse.specs.Lines.readOf Rattle.bench_parse.specs.Lines.carryOf Rattle.bench_parse.specs.Lines.oneOf Rattle.bench_parse.specs.Lines.setText Rattle.bench_parse.specs.Lines.writeText Rattle.bench_parse.specs.Lines.readText Rattle.bench_parse.specs.Lines.carryText Rattle.bench_parse.specs.Lines.crashText Rattle.bench_parse.specs.Lines.downText Rattle.bench_parse.specs.Lines.upText Rattle.bench_parse.specs.Lines.same Rattle.bench_parse.specs.Lines.commandOf Rattle.bench_parse.specs.Lines.readsWords Rattle.bench_parse.specs.Lines.reads
+unfolding Rattle.bench_parse.specs.Lines.areNumbers Rattle.bench_parse.specs.Lines.numberIn Rattle.bench_parse.specs.Lines.setOf Rattle.bench_parse.specs.Lines.writeWords Rattle.bench_parse.specs.Lines.writeOf Rattle.bench_parse.specs.Lines.readOf Rattle.bench_parse.specs.Lines.carryOf Rattle.bench_parse.specs.Lines.oneOf Rattle.bench_parse.specs.Lines.setText Rattle.bench_parse.specs.Lines.writeText Rattle.bench_parse.specs.Lines.readText Rattle.bench_parse.specs.Lines.carryText Rattle.bench_parse.specs.Lines.crashText Rattle.bench_parse.specs.Lines.downText Rattle.bench_parse.specs.Lines.upText Rattle.byte_lists.specs.Lists.same Rattle.bench_parse.specs.Lines.commandOf Rattle.bench_parse.specs.Lines.readsWords Rattle.bench_parse.specs.Lines.reads
 bench-line-open = tt
 
 unfoldable bench-print-open : Unit {0}
