@@ -1,4 +1,4 @@
-//! docs/PROMISES.md is true: what its rows name stands in the repository, and every must-fail edit fits its file and is named.
+//! docs/TRACE.md is true: what its rows name stands in the repository, and every must-fail edit fits its file and is named.
 
 use std::collections::{BTreeMap, BTreeSet};
 use std::fs;
@@ -163,7 +163,7 @@ fn edits_of(cell: &str) -> Vec<(&str, Vec<&str>)> {
 
 #[test]
 fn every_row_names_what_is_there() {
-    let text = read("docs/PROMISES.md");
+    let text = read("docs/TRACE.md");
     let edits = all_edits();
     let (mut rows, mut cited, mut wrong) = (BTreeSet::new(), BTreeSet::new(), Vec::new());
     for line in text.lines().filter(|line| line.starts_with('|') && ![HEAD, RULE].contains(line)) {
@@ -269,7 +269,7 @@ fn functions(source: &str) -> Vec<String> {
 /// Row b: it counts all functions, names the crates that have some, and says which three promise nothing.
 #[test]
 fn every_function_has_a_contract() {
-    let text = read("docs/PROMISES.md");
+    let text = read("docs/TRACE.md");
     let row = text.lines().find(|line| line.starts_with("| b |")).unwrap();
     let mut all = 0;
     for krate in names_in("crates") {
