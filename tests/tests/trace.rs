@@ -251,6 +251,53 @@ fn every_edit_fits_its_file() {
     assert!(wrong.is_empty(), "found wrong:\n{}", wrong.join("\n"));
 }
 
+/// The names of a text that must be in scope where it stands: not numerals, fields (`.name`, `name =`, `s.name`) or what a path leads to.
+fn needed(text: &str) -> BTreeSet<&str> {
+    let part = |letter: char| letter.is_alphanumeric() || "_-'·".contains(letter);
+    let mut found = BTreeSet::new();
+    let (mut at, mut before) = (0, ' ');
+    for piece in text.split_inclusive(|letter: char| !part(letter)) {
+        let word = piece.trim_end_matches(|letter: char| !part(letter));
+        let after = &text[at + word.len()..];
+        let field = before == '.' || before == ':' || after.starts_with(" = ") || after.starts_with("::");
+        if word.starts_with(char::is_alphabetic) && !field {
+            found.insert(word);
+        }
+        at += piece.len();
+        before = piece.chars().last().unwrap_or(' ');
+        if before == ' ' && text[at..].starts_with('.') {
+            before = '.';
+        }
+    }
+    found
+}
+
+/// A name that is missing would refuse an edit whatever the edit says: what it shows must be a fact that fails.
+#[test]
+fn every_edit_names_what_its_file_knows() {
+    let mut wrong = Vec::new();
+    for (krate, file) in all_edits() {
+        let edit = read(&format!("crates/{krate}/must-fail/{file}"));
+        let (mut code, mut old) = (String::new(), "");
+        for (key, text) in edit.lines().filter_map(|line| line.split_once(": ")) {
+            match key {
+                "file" => {
+                    let whole = read(&format!("crates/{krate}/{text}"));
+                    let lines = whole.lines().map(str::trim_start);
+                    code = lines.filter(|line| !line.starts_with("--") && !line.starts_with("//")).collect::<Vec<_>>().join("\n");
+                }
+                "old" => old = text,
+                _ => {
+                    let known = needed(old);
+                    let missing = needed(text).into_iter().filter(|name| !known.contains(name) && !holds(&code, name));
+                    wrong.extend(missing.map(|name| format!("{file} of {krate}: {name}")));
+                }
+            }
+        }
+    }
+    assert!(wrong.is_empty(), "names that are not in scope:\n{}", wrong.join("\n"));
+}
+
 /// The functions of a program text, each with all that stands before the next.
 fn functions(source: &str) -> Vec<String> {
     let mut found: Vec<String> = Vec::new();
