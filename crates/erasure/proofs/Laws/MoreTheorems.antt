@@ -13,8 +13,8 @@ use Rattle.gf256.specs.Product.{plus, product}
 use Rattle.gf256.proofs.Laws.ProductLaws.{product-byte}
 use Rattle.gf256.proofs.Laws.XorLaws.{plus-byte}
 use Rattle.interpolate.proofs.Laws.BlockLaws.{blocks-by}
-use Rattle.interpolate.specs.Bytes.{Byte, byte, bytes, same}
-use Rattle.interpolate.proofs.Laws.ByteLaws.{byte-small}
+use Rattle.interpolate.specs.Bytes.{Byte, byte, bytes}
+use Rattle.interpolate.proofs.Laws.ByteLaws.{same-byte, byte-small, add-is, mul-is, bytes-field}
 use Rattle.interpolate.proofs.Laws.WeightRowLaws.{different-points}
 use Rattle.interpolate.specs.Values.{byteAt}
 use Rattle.interpolate.specs.Workers.{pointsOf}
@@ -46,7 +46,7 @@ module _ (n m size : ℕ) (few : m ≤ 16) where
       coded-value stripe j p hn hp
       ∙ ap (λ (b : Byte). b .0)
       (ap (interpolated bytes m (pointsOf (firstPoints m)) (λ (i : ℕ). byte (byteAt size stripe i p))) (sym (ap byte (first-at m j hm)))
-      ∙ interpolated-at bytes m (pointsOf (firstPoints m)) (λ (i : ℕ). byte (byteAt size stripe i p)) j
+      ∙ interpolated-at bytes bytes-field m (pointsOf (firstPoints m)) (λ (i : ℕ). byte (byteAt size stripe i p)) j
       (different-points (firstPoints m) m (first-small m few) (first-differ m)) hm)
       ∙ byte-small (byteAt size stripe j p) (unfold byteAt in small (j * size + p))
 
@@ -55,8 +55,8 @@ module _ (n m size : ℕ) (few : m ≤ 16) where
   coded-zeros stripe allZero j p hn hp =
       coded-value stripe j p hn hp
       ∙ ap (λ (b : Byte). b .0)
-      (interpolated-zero bytes m (pointsOf (firstPoints m)) (λ (i : ℕ). byte (byteAt size stripe i p)) (byte j)
-      (λ i h. same (byte-small (byteAt size stripe i p) (let z = zero-at i in omega arith) ∙ zero-at i)))
+      (interpolated-zero bytes bytes-field m (pointsOf (firstPoints m)) (λ (i : ℕ). byte (byteAt size stripe i p)) (byte j)
+      (λ i h. same-byte (byte-small (byteAt size stripe i p) (let z = zero-at i in omega arith) ∙ zero-at i)))
     where
       zero-at : (i : ℕ) → byteAt size stripe i p ≡ 0
       zero-at i = unfold byteAt in allZero (i * size + p)
@@ -82,23 +82,28 @@ module _ (n m size : ℕ) (few : m ≤ 16) where
       ∙ ap (λ (b : Byte). b .0)
       (interpolated-cong bytes m (pointsOf (firstPoints m)) (pointsOf (firstPoints m)) (λ (i : ℕ). byte (byteAt size s i p))
       (λ (i : ℕ). bytes .add (byte (byteAt size a i p)) (bytes .mul (byte c) (byte (byteAt size d i p)))) (byte j) (λ i h. refl) (λ i h. at i)
-      ∙ interpolated-linear bytes m (pointsOf (firstPoints m)) (λ (i : ℕ). byte (byteAt size a i p)) (λ (i : ℕ). byte (byteAt size d i p)) (byte c) (byte j))
-      ∙ ap₂ (λ (x y : ℕ). plus x (product y (interpolated bytes m (pointsOf (firstPoints m)) (λ (i : ℕ). byte (byteAt size d i p)) (byte j) .0)))
+      ∙ interpolated-linear bytes bytes-field m (pointsOf (firstPoints m)) (λ (i : ℕ). byte (byteAt size a i p)) (λ (i : ℕ). byte (byteAt size d i p)) (byte c) (byte j))
+      ∙ add-is (value a) (bytes .mul (byte c) (value d)) ∙ ap (plus (value a .0)) (mul-is (byte c) (value d))
+      ∙ ap₂ (λ (x y : ℕ). plus x (product y (value d .0)))
       (sym (coded-value a j p hn hp)) (byte-small c hc)
       ∙ ap (λ (x : ℕ). plus (byteAt size (codedOf n m size a) j p) (product c x)) (sym (coded-value d j p hn hp))
     where
+      value : List ℕ → Byte
+      value l = interpolated bytes m (pointsOf (firstPoints m)) (λ (i : ℕ). byte (byteAt size l i p)) (byte j)
+
       at : (i : ℕ) → byte (byteAt size s i p) ≡ bytes .add (byte (byteAt size a i p)) (bytes .mul (byte c) (byte (byteAt size d i p)))
       at i =
           let ax = getD a (i * size + p) 0 in
           let dx = getD d (i * size + p) 0 in
-          same
-          (ap (λ (v : ℕ). byte v .0) (hs (i * size + p))
-          ∙ byte-small (plus ax (product c dx)) (plus-byte ax (product c dx) (ha (i * size + p)) (product-byte c dx hc))
-          ∙ sym (ap₂ plus (byte-small ax (ha (i * size + p))) (ap₂ product (byte-small c hc) (byte-small dx (hd (i * size + p))))))
+          ap byte
+          (hs (i * size + p)
+          ∙ sym
+          (ap₂ plus (byte-small ax (ha (i * size + p)))
+          (mul-is (byte c) (byte dx) ∙ ap₂ product (byte-small c hc) (byte-small dx (hd (i * size + p))))))
 
   -- All coded blocks of a stripe lie on one polynomial of m coefficients a byte position.
   pub coded-on-one : (stripe : List ℕ) (p : ℕ) → p < size
       → (c : List Byte) × (length c ≡ m) × ((j : ℕ) → j < n → byteAt size (codedOf n m size stripe) j p ≡ eval bytes c (byte j) .0)
   coded-on-one stripe p hp =
-      let e = on-one-polynomial bytes m (pointsOf (firstPoints m)) (λ (i : ℕ). byte (byteAt size stripe i p)) in
+      let e = on-one-polynomial bytes bytes-field m (pointsOf (firstPoints m)) (λ (i : ℕ). byte (byteAt size stripe i p)) in
       (e .0, e .1, (λ j hj. coded-value stripe j p hj hp ∙ ap (λ (b : Byte). b .0) (sym (e .2 (byte j)))))

@@ -10,8 +10,8 @@ use lib.Seq.{length-take-le}
 use Rattle.erasure.specs.Code.{firstPoints, codedOf, decodedOf}
 use Rattle.erasure.proofs.Laws.PassedLaws.{length-first}
 use Rattle.interpolate.proofs.Laws.BlockLaws.{byte-stacked, length-blocksAt, blocks-byte, blocks-by, value-byte}
-use Rattle.interpolate.specs.Bytes.{Byte, byte, bytes, same}
-use Rattle.interpolate.proofs.Laws.ByteLaws.{byte-small}
+use Rattle.interpolate.specs.Bytes.{Byte, byte, bytes}
+use Rattle.interpolate.proofs.Laws.ByteLaws.{same-byte, byte-small, bytes-field}
 use Rattle.interpolate.proofs.Laws.WeightRowLaws.{different-points, part-byte}
 use Rattle.byte_lists.proofs.Laws.TabulateLaws.{getD-tabulate}
 use Rattle.interpolate.specs.Values.{byteAt, valueAt}
@@ -88,7 +88,7 @@ module _ (n m size : ℕ) (stripe bricks : List ℕ) (s : Stripe m size stripe) 
       → byte (byteAt size (blocksOf size (codedOf n m size stripe) bricks) i p)
       ≡ interpolated bytes m (pointsOf (firstPoints m)) (λ (i : ℕ). byte (byteAt size stripe i p)) (pointsOf bricks i)
   on-polynomial p hp i hi =
-      same
+      same-byte
       (byte-small _ (subst (λ (v : ℕ). v < 256) (sym (handed-byte i p hi hp)) (value-byte (firstPoints m) size stripe (getD bricks i 0) p))
       ∙ handed-byte i p hi hp ∙ value-is (firstPoints m) m size stripe (getD bricks i 0) p (length-first m))
 
@@ -100,7 +100,7 @@ module _ (n m size : ℕ) (stripe bricks : List ℕ) (s : Stripe m size stripe) 
       ∙ ap (λ (y : Byte). interpolated bytes m (pointsOf bricks) (λ (i : ℕ). byte (byteAt size (blocksOf size (codedOf n m size stripe) bricks) i p)) y .0)
       (sym (ap byte (first-at m x hx)))
       ∙ ap (λ (y : Byte). y .0)
-      (recovered bytes m (pointsOf (firstPoints m)) (λ (i : ℕ). byte (byteAt size stripe i p)) (pointsOf bricks)
+      (recovered bytes bytes-field m (pointsOf (firstPoints m)) (λ (i : ℕ). byte (byteAt size stripe i p)) (pointsOf bricks)
       (λ (i : ℕ). byte (byteAt size (blocksOf size (codedOf n m size stripe) bricks) i p))
       (different-points (firstPoints m) m (first-small m m-few) (first-differ m)) (different-points bricks m brick-small brick-differ)
       (on-polynomial p hp) x hx)

@@ -15,7 +15,7 @@ use Rattle.gf256.proofs.Laws.TableLaws.{power-add, power-mod}
 use Rattle.gf256.specs.Tables.{IsLogs}
 use Rattle.gf256.proofs.Laws.XorLaws.{plus-byte, plus-cancel}
 use Rattle.interpolate.specs.Bytes.{Byte, byte, bytes}
-use Rattle.interpolate.proofs.Laws.ByteLaws.{byte-small}
+use Rattle.interpolate.proofs.Laws.ByteLaws.{byte-small, add-is, mul-is, inv-is}
 use Rattle.interpolate.specs.Workers.{numerator, denominator}
 use Rattle.poly.proofs.Laws.BasisLaws.{basisTo-skip, basisTo-step}
 use Rattle.poly.specs.Polynomial.{sub, factor, basisTo, basis}
@@ -65,7 +65,11 @@ module _ (logs points : List ℕ) (hl : IsLogs logs) (small : (k : ℕ) → getD
   factor-power k nx ni =
       let pk = getD points k 0 in
       let pi = getD points i 0 in
-      ap₂ (λ (u v : ℕ). product u (inverse v))
+      let up = bytes .add (byte x) (byte pk) in
+      let down = bytes .add (byte pi) (byte pk) in
+      mul-is up (bytes .inv down)
+      ∙ ap₂ product (add-is (byte x) (byte pk)) (inv-is down ∙ ap inverse (add-is (byte pi) (byte pk)))
+      ∙ ap₂ (λ (u v : ℕ). product u (inverse v))
       (ap₂ plus (byte-small x hx) (byte-small pk (small k)))
       (ap₂ plus (byte-small pi (small i)) (byte-small pk (small k)))
       ∙ ap₂ product (log-power logs hl (plus x pk) (apart x pk nx) (plus-byte x pk hx (small k)))
@@ -89,6 +93,7 @@ module _ (logs points : List ℕ) (hl : IsLogs logs) (small : (k : ℕ) → getD
           ∙ rw (eq-eqb k i e, add-zero (others logs points x i k), add-zero (denominator logs points i k)) refl
       by (no n) ih =
           ap (λ (b : Byte). b .0) (basisTo-step bytes k (pointsOf points) i (byte x) n)
+          ∙ mul-is (basisTo bytes k (pointsOf points) i (byte x)) (factor bytes (pointsOf points) i k (byte x))
           ∙ ap₂ product ih (factor-power k (nx k (omega arith)) (ni k (omega arith) n))
           ∙ power-add (others logs points x i k + denominator logs points i k)
           (getD logs (plus x (getD points k 0)) 0 + (255 - getD logs (plus (getD points i 0) (getD points k 0)) 0))

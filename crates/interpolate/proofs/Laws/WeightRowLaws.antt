@@ -12,7 +12,7 @@ use borrow.Rule.Slice.PartMut.{putMid, postOf, same-len-mid}
 use lib.ListN.{length-append, length-drop}
 use Rattle.gf256.specs.Product.{plus, product, power}
 use Rattle.interpolate.specs.Bytes.{Byte, byte, bytes}
-use Rattle.interpolate.proofs.Laws.ByteLaws.{byte-small}
+use Rattle.interpolate.proofs.Laws.ByteLaws.{byte-small, add-is, mul-is, bytes-field}
 use Rattle.interpolate.proofs.Laws.FirstPlaceLaws.{place-is, place-not}
 use Rattle.interpolate.specs.Workers.{firstPlace, scaled, numerator}
 use Rattle.byte_lists.specs.Lists.{tabulate, stacked}
@@ -67,8 +67,15 @@ row-more points size blocks from out x k w small ef eo ew =
     ap₂ plus
     (ap (λ (l : List ℕ). getD l p 0) eo ∙ getD-tabulate size (partial points size blocks x k) p h)
     (ap₂ product (sym ew)
-    (ap (λ (l : List ℕ). getD l p 0) ef ∙ part-byte size blocks k p h ∙ sym (byte-small (byteAt size blocks k p) (small-at k p)))))
+    (ap (λ (l : List ℕ). getD l p 0) ef ∙ part-byte size blocks k p h ∙ sym (byte-small (byteAt size blocks k p) (small-at k p))))
+    ∙ sym (add-is (sum bytes k (term p)) (term p k) ∙ ap (plus (sum bytes k (term p) .0)) (mul-is (base k) (byte (byteAt size blocks k p)))))
   where
+    base : ℕ → Byte
+    base i = basis bytes (length points) (pointsOf points) i (byte x)
+
+    term : ℕ → ℕ → Byte
+    term p i = bytes .mul (base i) (byte (byteAt size blocks i p))
+
     small-at : (k p : ℕ) → byteAt size blocks k p < 256
     small-at k p = unfold byteAt in small (k * size + p)
 
@@ -106,7 +113,7 @@ row-copy points size blocks from x k sp sb d h e ef ns =
     (λ p u.
     ap (λ (l : List ℕ). getD l p 0) ef ∙ part-byte size blocks k p u ∙ sym (byte-small (byteAt size blocks k p) (small-at k p))
     ∙ ap (λ (b : Byte). b .0)
-    (sym (interpolated-at bytes (length points) (pointsOf points) (λ (i : ℕ). byte (byteAt size blocks i p)) k (different-points points (length points) sp d) h)
+    (sym (interpolated-at bytes bytes-field (length points) (pointsOf points) (λ (i : ℕ). byte (byteAt size blocks i p)) k (different-points points (length points) sp d) h)
     ∙ ap (λ (y : ℕ). interpolated bytes (length points) (pointsOf points) (λ (i : ℕ). byte (byteAt size blocks i p)) (byte y)) e))
   where
     small-at : (k p : ℕ) → byteAt size blocks k p < 256
