@@ -10,7 +10,7 @@ use Rattle.gf256.proofs.Laws.XorLaws.{plus-assoc, plus-comm, plus-zero, plus-se
 use Rattle.gf256.proofs.Laws.ProductLaws.{product-byte, product-one, product-plus-right}
 use Rattle.gf256.proofs.Laws.FieldLaws.{product-assoc, product-comm, inverse-byte, product-inverse}
 use Rattle.interpolate.specs.Bytes.{Byte, byte, bytes}
-use Rattle.poly.specs.Field.{IsField}
+use Rattle.interpolate.specs.Polynomials.{BytesAreAField}
 
 -- bytes of one number are the same
 pub same-byte : {a b : Byte} → a .0 ≡ b .0 → a ≡ b
@@ -39,8 +39,8 @@ mul-is a b = byte-small _ (product-byte (a .0) (b .0) (byte-below a))
 pub inv-is : (a : Byte) → bytes .inv a .0 ≡ inverse (a .0)
 inv-is a = byte-small _ (inverse-byte (a .0))
 
-pub bytes-field : IsField bytes
-bytes-field = record {
+pub bytes-are-a-field : BytesAreAField
+bytes-are-a-field = record {
   add-assoc = λ a b c.
       ap byte (ap (λ (x : ℕ). plus x (c .0)) (add-is a b) ∙ plus-assoc (a .0) (b .0) (c .0) ∙ ap (plus (a .0)) (sym (add-is b c)));
   add-comm = λ a b. ap byte (plus-comm (a .0) (b .0));
