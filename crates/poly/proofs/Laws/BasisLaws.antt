@@ -29,7 +29,7 @@ module _ (F : Field) where
   -- Equal points, equal factors.
   pub factor-cong : (pts pts' : ℕ → carrier) (i k : ℕ) (x : carrier) → pts i ≡ pts' i → pts k ≡ pts' k → factor F pts i k x ≡ factor F pts' i k x
   unfolding factor
-  factor-cong pts pts' i k x o e = ap₂ (λ a b. mul (sub F x b) (inv (sub F a b))) o e
+  factor-cong pts pts' i k x o e = cc
 
   -- The product skips i.
   pub basisTo-skip : (k : ℕ) (pts : ℕ → carrier) (i : ℕ) (x : carrier) → k ≡ i → basisTo F (suc k) pts i x ≡ basisTo F k pts i x

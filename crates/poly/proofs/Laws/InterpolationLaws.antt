@@ -20,7 +20,7 @@ module _ (F : Field) where
   -- Fewer of different points are different.
   pub fewer-different : (k m : ℕ) (pts : ℕ → carrier) → k ≤ m → Different F m pts → Different F k pts
   unfolding Different
-  fewer-different k m pts l d i j hi hj e = d i j (omega arith) (omega arith) e
+  fewer-different k m pts l d i j hi hj e = omega (arith, d i j (omega arith) (omega arith) e)
 
   -- Lagrange's value depends only on the first m points and values.
   pub interpolated-cong : (m : ℕ) (pts pts' vals vals' : ℕ → carrier) (x : carrier) →
