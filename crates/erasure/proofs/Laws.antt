@@ -1,5 +1,4 @@
 -- The laws of `erasure`, for its own proofs and those of the crates above. No contract cites them.
--- Definitions: Code, Refusals. Laws and theorems: the others.
 pub mod ListLaws
 pub mod CodeTheoremLaws
 pub mod PassedLaws

@@ -10,6 +10,7 @@ use Rattle.gf256.specs.Product.{plus, product}
 use Rattle.interpolate.specs.Bytes.{Byte, byte, bytes}
 use Rattle.interpolate.specs.Values.{byteAt}
 use Rattle.poly.specs.Polynomial.{eval}
+use Rattle.settings.specs.Ranges.{maxBricks}
 
 -- "Decoding from m different bricks gives the data back": any m blocks of one coded stripe decode to its m data blocks.
 abbrev pub DecodeAfterEncode : Type 0
@@ -27,7 +28,7 @@ CodedOnOnePolynomial =
 -- That polynomial has the data bytes at points 0 to m−1, so coded block j below m is data block j, byte by byte.
 abbrev pub CodeIsSystematic : Type 0
 CodeIsSystematic =
-    (n m size : ℕ) → m ≤ 16 → (stripe : List ℕ) → ((i : ℕ) → getD stripe i 0 < 256) → (j p : ℕ) → j < n → j < m → p < size
+    (n m size : ℕ) → m ≤ maxBricks → (stripe : List ℕ) → ((i : ℕ) → getD stripe i 0 < 256) → (j p : ℕ) → j < n → j < m → p < size
     → byteAt size (codedOf n m size stripe) j p ≡ byteAt size stripe j p
 
 -- A stripe that is the sum of another and of c times a third has the codes' sum likewise. (What recoding one parity block needs

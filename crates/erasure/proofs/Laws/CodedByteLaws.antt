@@ -18,13 +18,14 @@ use Rattle.interpolate.specs.Values.{byteAt, valueAt}
 use Rattle.interpolate.specs.Workers.{pointsOf}
 use Rattle.poly.proofs.Laws.InterpolationLaws.{recovered}
 use Rattle.poly.specs.Polynomial.{interpolated}
+use Rattle.settings.specs.Ranges.{maxBricks}
 use Rattle.erasure.specs.Code.{blockOf, blocksOf, Stripe, Bricks}
 
 pub first-at : (m i : ℕ) → i < m → getD (firstPoints m) i 0 ≡ i
 unfolding firstPoints
 first-at m i h = getD-tabulate m (λ (i : ℕ). i) i h
 
-pub first-small : (m : ℕ) → m ≤ 16 → (k : ℕ) → getD (firstPoints m) k 0 < 256
+pub first-small : (m : ℕ) → m ≤ maxBricks → (k : ℕ) → getD (firstPoints m) k 0 < 256
 first-small m few k = by (decLt k m)
   where
     by : Dec (k < m) → getD (firstPoints m) k 0 < 256
@@ -74,7 +75,7 @@ module _ (n m size : ℕ) (stripe bricks : List ℕ) (s : Stripe m size stripe) 
       ∙ part-byte size (codedOf n m size stripe) (getD bricks i 0) p hp
       ∙ coded-byte n m size stripe (getD bricks i 0) p (b .below i hi) hp
 
-  m-few : m ≤ 16
+  m-few : m ≤ maxBricks
   m-few = let c = b .count in let f = b .set .few in omega arith
 
   brick-small : (k : ℕ) → getD bricks k 0 < 256

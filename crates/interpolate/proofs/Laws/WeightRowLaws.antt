@@ -1,4 +1,4 @@
--- Laws of `specs/RowLaws`.
+-- Blocks as sums of weighted blocks, and blocks in a row.
 use mathlib.Core.Path.{_≡_, refl, sym, ap, ap₂, _∙_}
 use mathlib.Core.List.{List, _++_, append-assoc}
 use Prim.Native.Nat.{ℕ, suc, _+_, _-_, _*_, _%_, _≤_, _<_}
@@ -10,7 +10,7 @@ use lib.ListN.{length, getD, take, drop}
 use lib.Seq.{getD-take, getD-drop, length-take-le, take-all, take-at}
 use borrow.Rule.Slice.PartMut.{putMid, postOf, same-len-mid}
 use lib.ListN.{length-append, length-drop}
-use Rattle.gf256.specs.Product.{plus, product, power}
+use Rattle.gf256.specs.Product.{plus, product, power, powerCount}
 use Rattle.interpolate.specs.Bytes.{Byte, byte, bytes}
 use Rattle.interpolate.proofs.Laws.ByteLaws.{byte-small, add-is, mul-is, bytes-are-a-field}
 use Rattle.interpolate.proofs.Laws.FirstPlaceLaws.{place-is, place-not}
@@ -25,14 +25,14 @@ use Rattle.poly.specs.Polynomial.{Different, sum, basis, interpolated}
 use Rattle.interpolate.specs.Workers.{PointsReady, weight}
 use Rattle.interpolate.specs.Values.{PointSet}
 
--- it is 2 to what the code sums up
+-- a weight is 2 to what the code sums up
 pub weight-by-logs : (logs points sums : List ℕ) (top x i : ℕ) → PointsReady logs points sums → ((k : ℕ) → getD points k 0 < 256) → x < 256
     → ((k : ℕ) → k < length points → getD points k 0 ≡ x → ⊥) → top ≡ numerator logs points x (length points) → i < length points
-    → weight points i x ≡ power ((top - getD logs (bitXor x (getD points i 0)) 0 + getD sums i 0) % 255)
+    → weight points i x ≡ power ((top - getD logs (bitXor x (getD points i 0)) 0 + getD sums i 0) % powerCount)
 unfolding weight plus
 weight-by-logs logs points sums top x i ready small hx nx et h =
     weight-is logs points (ready .logs-right) small x hx i (length points) h nx (λ j l n e. n (ready .set .differ j i l h e))
-    ∙ ap₂ (λ (a b : ℕ). power ((a - getD logs (plus x (getD points i 0)) 0 + b) % 255)) (sym et) (sym (ready .sums-right .entry i h))
+    ∙ ap₂ (λ (a b : ℕ). power ((a - getD logs (plus x (getD points i 0)) 0 + b) % powerCount)) (sym et) (sym (ready .sums-right .entry i h))
 
 -- the sum of the first k terms of a value
 unfoldable pub partial : List ℕ → ℕ → List ℕ → ℕ → ℕ → ℕ → ℕ
