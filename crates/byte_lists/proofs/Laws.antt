@@ -1,5 +1,4 @@
 -- The laws of `byte_lists`, for its own proofs and those of the crates above. No contract cites them.
--- Little-endian numbers. Definitions: Little. Laws: LittleLaws.
 pub mod LittleLaws
 pub mod EachLaws
 pub mod TabulateLaws

@@ -1,4 +1,5 @@
 // Bytes and lists: a byte widened, little-endian numbers (document 01, "The saved brick"), bytes cleared, copied and stored.
+// inner: call `image::open`
 ghost use mathlib.Core.Path.{_≡_};
 ghost use Prim.Native.Nat.{_+_, _≤_, _<_};
 ghost use lib.ListN.{length, take, drop};

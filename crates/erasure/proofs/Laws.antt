@@ -1,7 +1,6 @@
 -- The laws of `erasure`, for its own proofs and those of the crates above. No contract cites them.
--- Definitions: Code, Refusals. Laws and theorems: the others.
 pub mod ListLaws
-pub mod MoreTheorems
+pub mod CodeTheoremLaws
 pub mod PassedLaws
 pub mod CodeRefusalLaws
-pub mod Theorems
+pub mod CodedByteLaws

@@ -7,6 +7,7 @@ use Rattle.interpolate.specs.Values.{blocksAt}
 use mathlib.Core.Path.{_≡_}
 use lib.ListN.{length, getD, take, drop}
 use Rattle.interpolate.specs.Values.{PointSet}
+use Rattle.settings.specs.Ranges.{maxBricks}
 
 -- points 0 to m − 1
 unfoldable pub firstPoints : ℕ → List ℕ
@@ -37,7 +38,7 @@ pub record Stripe (m size : ℕ) (stripe : List ℕ) : Type 0 where
 -- m different bricks of n
 pub record Bricks (n m : ℕ) (bricks : List ℕ) : Type 0 where
   pub some : 0 < n
-  pub few : n ≤ 16
+  pub few : n ≤ maxBricks
   pub count : length bricks ≡ m
   pub set : PointSet bricks
   pub below : (i : ℕ) → i < m → getD bricks i 0 < n

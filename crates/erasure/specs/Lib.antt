@@ -1,4 +1,6 @@
--- Definitions: Code, Refusals. Laws and theorems: the others.
+-- Code: what encoding and decoding give. CodeTheorems: what is proved of it. Refusals: what is refused, and what the buffers hold then.
+-- Workers: what the inner functions ask.
 pub mod Code
+pub mod CodeTheorems
 pub mod Refusals
 pub mod Workers

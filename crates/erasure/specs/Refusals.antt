@@ -6,7 +6,7 @@ use lib.Dec.{eqb, ltb}
 use lib.ListN.{length}
 use Rattle.erasure.specs.Code.{codedOf, decodedOf}
 use Rattle.settings.specs.Ranges.{codeRefusal}
-use Rattle.settings.specs.Refusal.{refuseUnless, firstRefusal, badLength, badNumber, badBrickSet}
+use Rattle.settings.specs.Refusal.{passed, refuseUnless, firstRefusal, badLength, badNumber, badBrickSet}
 
 -- every brick of the list is below n
 unfoldable pub allBelow : List ℕ → ℕ → Bool
@@ -43,7 +43,7 @@ decodeRefusal n m size bricks blocks stripe =
 
 -- a buffer after a call: as it was where the call was refused
 unfoldable pub unlessRefused : ℕ → List ℕ → List ℕ → List ℕ
-unlessRefused number old new = cond (eqb number 0) new old
+unlessRefused number old new = cond (eqb number passed) new old
 
 unfoldable pub encodedBuffer : ℕ → ℕ → ℕ → List ℕ → List ℕ → List ℕ
 encodedBuffer n m size stripe coded = unlessRefused (encodeRefusal n m size (length stripe) (length coded)) coded (codedOf n m size stripe)

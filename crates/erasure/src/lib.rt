@@ -42,16 +42,16 @@ pub fn encode_refusal(n: usize, m: usize, size: usize, stripe: usize, coded: usi
     ensures { λ r. ⌜ r ≡ encodeRefusal n m size stripe coded ⌝ }
 {
     let bad = settings::code_refusal(n, m, size);
-    if bad != 0 {
+    if bad != settings::PASSED {
         return bad;
     }
     if stripe != m * size {
-        return 2;
+        return settings::BAD_LENGTH;
     }
     if coded != n * size {
-        return 2;
+        return settings::BAD_LENGTH;
     }
-    0
+    settings::PASSED
 }
 
 // The refusal of decoding, 0 for none: blocks and stripe are the buffers' lengths.
@@ -66,25 +66,25 @@ pub fn decode_refusal(
     ensures { λ r. ⌜ r ≡ decodeRefusal n m size (now (bricks .entry)) blocks stripe ⌝ }
 {
     let bad = settings::code_refusal(n, m, size);
-    if bad != 0 {
+    if bad != settings::PASSED {
         return bad;
     }
     if blocks != m * size {
-        return 2;
+        return settings::BAD_LENGTH;
     }
     if stripe != m * size {
-        return 2;
+        return settings::BAD_LENGTH;
     }
     if all_below(bricks, n) {} else {
-        return 3;
+        return settings::BAD_NUMBER;
     }
     if bricks.len() != m {
-        return 4;
+        return settings::BAD_BRICK_SET;
     }
     if all_different(bricks) {
-        return 0;
+        return settings::PASSED;
     }
-    4
+    settings::BAD_BRICK_SET
 }
 
 // The n coded blocks of m data blocks.
@@ -119,11 +119,11 @@ pub extern "C" fn stripe_encode(
     ensures { λ r. ⌜ now (coded .exit) ≡ encodedBuffer n m size (now («data» .entry)) (now (coded .entry)) ⌝ }
 {
     let number = encode_refusal(n, m, size, data.len(), coded.len());
-    if number != 0 {
+    if number != settings::PASSED {
         return number;
     }
     encode_into(n, m, size, data, coded);
-    0
+    settings::PASSED
 }
 
 // Decodes, or gives the number of the refusal and leaves the buffer.
@@ -140,9 +140,9 @@ pub extern "C" fn stripe_decode(
     ensures { λ r. ⌜ now («data» .exit) ≡ decodedBuffer n m size (now (bricks .entry)) (now (blocks .entry)) (now («data» .entry)) ⌝ }
 {
     let reason = decode_refusal(n, m, size, bricks, blocks.len(), data.len());
-    if reason != 0 {
+    if reason != settings::PASSED {
         return reason;
     }
     decode_into(m, size, bricks, blocks, data);
-    0
+    settings::PASSED
 }

@@ -1,4 +1,4 @@
--- Definitions: Product (the field), Tables (what the two tables hold). Laws: the modules named ..Laws; Computed carries a test over a table to its entries.
-pub mod Computed
+-- Product: the field. Tables: what the two tables hold. TableTheorems: what is proved of them.
 pub mod Product
 pub mod Tables
+pub mod TableTheorems

@@ -5,7 +5,7 @@ use Prim.Native.Nat.{ℕ, zero, suc, _*_, _/_, _%_}
 use lib.Bits.{bitXor}
 use lib.Dec.{eqb}
 
--- addition
+-- addition of two bytes
 unfoldable pub plus : ℕ → ℕ → ℕ
 plus a b = bitXor a b
 
@@ -34,6 +34,13 @@ doubled (suc k) a = twice (doubled k a)
 unfoldable pub power : ℕ → ℕ
 power k = doubled k 1
 
+-- the bytes, and the powers of 2 among them: all but 0
+abbrev pub byteCount : ℕ
+byteCount = 256
+
+abbrev pub powerCount : ℕ
+powerCount = 255
+
 -- the byte below k whose product with a is 1, 0 where there is none
 unfoldable pub inverseBelow : ℕ → ℕ → ℕ
 inverseBelow zero a = 0
@@ -41,7 +48,7 @@ inverseBelow (suc k) a = cond (eqb (product a k) 1) k (inverseBelow k a)
 
 -- the inverse of a: the byte whose product with a is 1; 0 for 0
 unfoldable pub inverse : ℕ → ℕ
-inverse a = inverseBelow 256 a
+inverse a = inverseBelow byteCount a
 
 -- division: by 0 it gives 0
 unfoldable pub quotient : ℕ → ℕ → ℕ

@@ -1,10 +1,16 @@
 // The field of 256 elements with polynomial hexadecimal 11D (document 01, "Settings and the code"), by two constant tables.
+// inner: call `erasure::stripe_encode`
 ghost use mathlib.Core.Path.{_≡_};
 ghost use Rattle.gf256.specs.Product.{product, inverse, quotient};
 ghost use Rattle.gf256.specs.Tables.{IsPowers, IsLogs};
 
+// The bytes, and the powers of 2 among them: all but 0.
+pub const BYTE_COUNT: usize = 256;
+
+pub const POWER_COUNT: usize = 255;
+
 // Entry k is 2 to the k.
-const POWERS: [u8; 255] = [
+const POWERS: [u8; POWER_COUNT] = [
     1,
     2,
     4,
@@ -263,7 +269,7 @@ const POWERS: [u8; 255] = [
 ];
 
 // Entry a is the logarithm of a; that of 0 is not read.
-const LOGS: [u8; 256] = [
+const LOGS: [u8; BYTE_COUNT] = [
     0,
     0,
     1,
@@ -523,21 +529,21 @@ const LOGS: [u8; 256] = [
 ];
 
 // The table of powers, for a caller that lends it to many products: a constant array is built anew in each function that names it.
-pub fn powers() -> [u8; 255]
+pub fn powers() -> [u8; POWER_COUNT]
     ensures { λ r. ⌜ IsPowers r ⌝ }
 {
     POWERS
 }
 
 // The table of logarithms, to be lent likewise.
-pub fn logs() -> [u8; 256]
+pub fn logs() -> [u8; BYTE_COUNT]
     ensures { λ r. ⌜ IsLogs r ⌝ }
 {
     LOGS
 }
 
 // The product by lent tables: two loads, a sum, a load.
-pub fn mul_by(powers: &[u8; 255], logs: &[u8; 256], a: u8, b: u8) -> u8
+pub fn mul_by(powers: &[u8; POWER_COUNT], logs: &[u8; BYTE_COUNT], a: u8, b: u8) -> u8
     requires { ⌜ IsPowers (now powers) ⌝ }
     requires { ⌜ IsLogs (now logs) ⌝ }
     ensures { λ r. ⌜ r ≡ product a b ⌝ }
@@ -549,14 +555,14 @@ pub fn mul_by(powers: &[u8; 255], logs: &[u8; 256], a: u8, b: u8) -> u8
         return 0;
     }
     let s = logs[a as usize] as usize + logs[b as usize] as usize;
-    if s < 255 {
+    if s < POWER_COUNT {
         return powers[s];
     }
-    powers[s - 255]
+    powers[s - POWER_COUNT]
 }
 
 // The inverse by lent tables; 0 for 0.
-pub fn inv_by(powers: &[u8; 255], logs: &[u8; 256], a: u8) -> u8
+pub fn inv_by(powers: &[u8; POWER_COUNT], logs: &[u8; BYTE_COUNT], a: u8) -> u8
     requires { ⌜ IsPowers (now powers) ⌝ }
     requires { ⌜ IsLogs (now logs) ⌝ }
     ensures { λ r. ⌜ r ≡ inverse a ⌝ }
@@ -564,8 +570,8 @@ pub fn inv_by(powers: &[u8; 255], logs: &[u8; 256], a: u8) -> u8
     if a == 0 {
         return 0;
     }
-    let s = 255 - logs[a as usize] as usize;
-    if s < 255 {
+    let s = POWER_COUNT - logs[a as usize] as usize;
+    if s < POWER_COUNT {
         return powers[s];
     }
     1

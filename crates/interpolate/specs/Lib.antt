@@ -1,5 +1,5 @@
--- Definitions: Bytes (the field), Tabulate (lists by a rule), Values (what is computed), Rows (the inner functions). Theorem: Polynomials. Laws: the others.
+-- Bytes: the field. Values: what is computed. Polynomials: what is proved of it. Workers: what the inner functions give.
 pub mod Bytes
 pub mod Polynomials
-pub mod Workers
 pub mod Values
+pub mod Workers

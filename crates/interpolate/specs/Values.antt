@@ -5,6 +5,7 @@ use lib.ListN.{length, getD}
 use Rattle.interpolate.specs.Bytes.{bytes, byte}
 use Rattle.byte_lists.specs.Lists.{tabulate, stacked}
 use Rattle.poly.specs.Polynomial.{interpolated}
+use Rattle.settings.specs.Ranges.{maxBricks}
 use Prim.Native.Nat.{_≤_, _<_}
 use mathlib.Core.Path.{_≡_}
 
@@ -26,7 +27,7 @@ blockAt points size blocks x = tabulate size (valueAt points size blocks x)
 unfoldable pub blocksAt : List ℕ → ℕ → List ℕ → ℕ → List ℕ
 blocksAt points size blocks count = stacked count (blockAt points size blocks)
 
--- at most 16 points, all different
+-- at most as many points as there are bricks, all different
 pub record PointSet (points : List ℕ) : Type 0 where
-  pub few : length points ≤ 16
+  pub few : length points ≤ maxBricks
   pub differ : (i j : ℕ) → i < length points → j < length points → getD points i 0 ≡ getD points j 0 → i ≡ j

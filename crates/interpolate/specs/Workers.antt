@@ -1,15 +1,16 @@
 -- What the inner functions give.
 use mathlib.Core.Bool.{cond}
 use mathlib.Core.List.{List, [], _∷_}
-use Prim.Native.Nat.{ℕ, zero, suc, _+_, _-_, _<_}
+use Prim.Native.Nat.{ℕ, zero, suc, _+_, _-_, _*_, _<_}
 use lib.Dec.{eqb}
 use lib.ListN.{length, getD}
-use Rattle.gf256.specs.Product.{plus, product}
+use Rattle.gf256.specs.Product.{plus, product, byteCount, powerCount}
 use Rattle.byte_lists.specs.Lists.{tabulate}
 use Rattle.interpolate.specs.Bytes.{Byte, byte, bytes}
 use mathlib.Core.Path.{_≡_}
 use Rattle.gf256.specs.Tables.{IsLogs}
 use Rattle.poly.specs.Polynomial.{basis}
+use Rattle.settings.specs.Ranges.{maxBricks}
 use Rattle.interpolate.specs.Values.{PointSet}
 
 -- the place of the first x in a list, its length if there is none
@@ -26,11 +27,15 @@ unfoldable pub numerator : List ℕ → List ℕ → ℕ → ℕ → ℕ
 numerator logs points x zero = 0
 numerator logs points x (suc k) = numerator logs points x k + getD logs (plus x (getD points k 0)) 0
 
+-- what such a sum is at most: a byte for each point
+abbrev pub maxSum : ℕ
+maxSum = maxBricks * byteCount
+
 -- the sum of 255 less the logarithms of b − c, over the first k points c but b, which is point i
 unfoldable pub denominator : List ℕ → List ℕ → ℕ → ℕ → ℕ
 denominator logs points i zero = 0
 denominator logs points i (suc k) =
-    denominator logs points i k + cond (eqb k i) 0 (255 - getD logs (plus (getD points i 0) (getD points k 0)) 0)
+    denominator logs points i k + cond (eqb k i) 0 (powerCount - getD logs (plus (getD points i 0) (getD points k 0)) 0)
 
 -- a list of bytes as points of the field
 abbrev pub pointsOf : List ℕ → ℕ → Byte

@@ -1,13 +1,15 @@
 // Blocks as values of polynomials over bytes (document 01, "Settings and the code"): what encoding and decoding both are.
+// inner: call `erasure::stripe_encode`
 // The inner functions take the two tables of `gf256` as lent, since a constant array is built anew where it is named.
 ghost use mathlib.Core.Path.{_≡_};
 ghost use Prim.Native.Nat.{ℕ, _+_, _-_, _*_, _<_, _≤_};
 ghost use lib.ListN.{length, getD};
-ghost use Rattle.gf256.specs.Product.{product, power, twice};
+ghost use Rattle.gf256.specs.Product.{product, power, twice, byteCount, powerCount};
 ghost use Rattle.gf256.specs.Tables.{IsPowers};
+ghost use Rattle.settings.specs.Ranges.{maxBricks};
 ghost use Rattle.interpolate.specs.Workers.{PointsReady, Denominators, weight};
 ghost use Rattle.interpolate.specs.Values.{PointSet};
-ghost use Rattle.interpolate.specs.Workers.{firstPlace, scaled, numerator, denominator};
+ghost use Rattle.interpolate.specs.Workers.{firstPlace, scaled, numerator, denominator, maxSum};
 ghost use Rattle.interpolate.specs.Values.{blockAt, blocksAt};
 
 // Where x first stands in a list; the list's length if nowhere.
@@ -44,15 +46,15 @@ fn times(w0: u8, w1: u8, w2: u8, w3: u8, w4: u8, w5: u8, w6: u8, w7: u8, x: u8) 
 }
 
 // 2 to the s, for a sum s of two logarithms.
-fn power_at(powers: &[u8; 255], s: usize) -> u8
+fn power_at(powers: &[u8; gf256::POWER_COUNT], s: usize) -> u8
     requires { ⌜ IsPowers (now powers) ⌝ }
-    requires { ⌜ s < 510 ⌝ }
+    requires { ⌜ s < 2 * powerCount ⌝ }
     ensures { λ r. ⌜ r ≡ power s ⌝ }
 {
-    if s < 255 {
+    if s < gf256::POWER_COUNT {
         return powers[s];
     }
-    powers[s - 255]
+    powers[s - gf256::POWER_COUNT]
 }
 
 // A block times w0 added to another; each w is the double of the one before.
@@ -86,9 +88,9 @@ fn add_multiples(
 }
 
 // A block times 2 to the s added to another.
-fn add_scaled(powers: &[u8; 255], s: usize, from: &[u8], to: &mut [u8])
+fn add_scaled(powers: &[u8; gf256::POWER_COUNT], s: usize, from: &[u8], to: &mut [u8])
     requires { ⌜ IsPowers (now powers) ⌝ }
-    requires { ⌜ s < 255 ⌝ }
+    requires { ⌜ s < powerCount ⌝ }
     requires { ⌜ length (now from) ≡ length (now to) ⌝ }
     ensures { λ _. ⌜ now (to .exit) ≡ scaled (power s) (now (from .entry)) (now (to .entry)) ⌝ }
 {
@@ -104,18 +106,18 @@ fn add_scaled(powers: &[u8; 255], s: usize, from: &[u8], to: &mut [u8])
 }
 
 // The logarithm of a byte.
-fn log_of(logs: &[u8; 256], a: u8) -> usize
+fn log_of(logs: &[u8; gf256::BYTE_COUNT], a: u8) -> usize
     ensures { λ r. ⌜ r ≡ getD (now (logs .entry)) a 0 ⌝ }
-    ensures { λ r. ⌜ r < 256 ⌝ }
+    ensures { λ r. ⌜ r < byteCount ⌝ }
 {
     byte_lists::wide_index(logs[a as usize])
 }
 
 // The sum of the logarithms of x - b over all points b.
-fn numerator_of(logs: &[u8; 256], points: &[u8], x: u8) -> usize
-    requires { ⌜ length (now points) ≤ 16 ⌝ }
+fn numerator_of(logs: &[u8; gf256::BYTE_COUNT], points: &[u8], x: u8) -> usize
+    requires { ⌜ length (now points) ≤ maxBricks ⌝ }
     ensures { λ r. ⌜ r ≡ numerator (now (logs .entry)) (now (points .entry)) x (length (now (points .entry))) ⌝ }
-    ensures { λ r. ⌜ r ≤ 4096 ⌝ }
+    ensures { λ r. ⌜ r ≤ maxSum ⌝ }
 {
     let mut sum = 0;
     let mut i = 0;
@@ -127,18 +129,18 @@ fn numerator_of(logs: &[u8; 256], points: &[u8], x: u8) -> usize
 }
 
 // The sum of 255 less the logarithms of b - c over all points c but b, which is point i.
-fn denominator_of(logs: &[u8; 256], points: &[u8], i: usize) -> usize
-    requires { ⌜ length (now points) ≤ 16 ⌝ }
+fn denominator_of(logs: &[u8; gf256::BYTE_COUNT], points: &[u8], i: usize) -> usize
+    requires { ⌜ length (now points) ≤ maxBricks ⌝ }
     requires { ⌜ i < length (now points) ⌝ }
     ensures { λ r. ⌜ r ≡ denominator (now (logs .entry)) (now (points .entry)) i (length (now (points .entry))) ⌝ }
-    ensures { λ r. ⌜ r ≤ 4096 ⌝ }
+    ensures { λ r. ⌜ r ≤ maxSum ⌝ }
 {
     let b = points[i];
     let mut sum = 0;
     let mut k = 0;
     while k < points.len() {
         if k != i {
-            sum += 255 - log_of(logs, b ^ points[k]);
+            sum += gf256::POWER_COUNT - log_of(logs, b ^ points[k]);
         }
         k += 1;
     }
@@ -146,11 +148,11 @@ fn denominator_of(logs: &[u8; 256], points: &[u8], i: usize) -> usize
 }
 
 // That sum for each point.
-fn denominators(logs: &[u8; 256], points: &[u8]) -> [usize; 16]
-    requires { ⌜ length (now points) ≤ 16 ⌝ }
+fn denominators(logs: &[u8; gf256::BYTE_COUNT], points: &[u8]) -> [usize; settings::MAX_BRICKS]
+    requires { ⌜ length (now points) ≤ maxBricks ⌝ }
     ensures { λ r. ⌜ Denominators (now (logs .entry)) (now (points .entry)) r ⌝ }
 {
-    let mut sums = [0usize; 16];
+    let mut sums = [0usize; settings::MAX_BRICKS];
     let mut i = 0;
     while i < points.len() {
         sums[i] = denominator_of(logs, points, i);
@@ -161,9 +163,9 @@ fn denominators(logs: &[u8; 256], points: &[u8]) -> [usize; 16]
 
 // The logarithm of the weight of point i at x, where x is none of the points: top is their sum at x.
 fn weight_log(
-    logs: &[u8; 256],
+    logs: &[u8; gf256::BYTE_COUNT],
     points: &[u8],
-    sums: &[usize; 16],
+    sums: &[usize; settings::MAX_BRICKS],
     top: usize,
     x: u8,
     i: usize,
@@ -171,20 +173,20 @@ fn weight_log(
     requires { ⌜ PointsReady (now logs) (now points) (now sums) ⌝ }
     requires { ⌜ ((k : ℕ) → k < length (now points) → getD (now points) k 0 ≡ x → ⊥) ⌝ }
     requires { ⌜ top ≡ numerator (now logs) (now points) x (length (now points)) ⌝ }
-    requires { ⌜ (i < length (now points)) × (top ≤ 4096) ⌝ }
-    ensures { λ r. ⌜ r < 255 ⌝ }
+    requires { ⌜ (i < length (now points)) × (top ≤ maxSum) ⌝ }
+    ensures { λ r. ⌜ r < powerCount ⌝ }
     ensures { λ r. ⌜ weight (now (points .entry)) i x ≡ power r ⌝ }
 {
     let own = log_of(logs, x ^ points[i]);
-    (top - own + sums[i]) % 255
+    (top - own + sums[i]) % gf256::POWER_COUNT
 }
 
 // The block at x, where x is none of the points: the sum of their blocks, each times its weight.
 fn combine(
-    powers: &[u8; 255],
-    logs: &[u8; 256],
+    powers: &[u8; gf256::POWER_COUNT],
+    logs: &[u8; gf256::BYTE_COUNT],
     points: &[u8],
-    sums: &[usize; 16],
+    sums: &[usize; settings::MAX_BRICKS],
     blocks: &[u8],
     x: u8,
     out: &mut [u8],
@@ -211,10 +213,10 @@ fn combine(
 
 // The block at x: a given point's own block, or else the combination of all.
 fn row(
-    powers: &[u8; 255],
-    logs: &[u8; 256],
+    powers: &[u8; gf256::POWER_COUNT],
+    logs: &[u8; gf256::BYTE_COUNT],
     points: &[u8],
-    sums: &[usize; 16],
+    sums: &[usize; settings::MAX_BRICKS],
     blocks: &[u8],
     x: u8,
     out: &mut [u8],
@@ -235,11 +237,11 @@ fn row(
     combine(powers, logs, points, sums, blocks, x, out)
 }
 
-// The blocks at points 0 to count - 1, from the blocks at the given points: at most 16, all different.
+// The blocks at points 0 to count - 1, from the blocks at the given points: at most as many as bricks, all different.
 pub fn interpolate(points: &[u8], size: usize, blocks: &[u8], count: usize, out: &mut [u8])
     requires { ⌜ PointSet (now points) ⌝ }
     requires { ⌜ length (now blocks) ≡ length (now points) * size ⌝ }
-    requires { ⌜ (length (now out) ≡ count * size) × (count ≤ 16) ⌝ }
+    requires { ⌜ (length (now out) ≡ count * size) × (count ≤ maxBricks) ⌝ }
     ensures { λ _. ⌜ now (out .exit) ≡ blocksAt (now (points .entry)) size (now (blocks .entry)) count ⌝ }
 {
     let powers = gf256::powers();

@@ -1,10 +1,11 @@
--- A set of bricks as 16 flags, one a brick: 1 for a brick of the set, 0 for any other.
+-- A set of bricks as flags, a place for each possible brick: 1 for a brick of the set, 0 for any other.
 use mathlib.Core.Bool.{Bool, true, _&&_}
 use mathlib.Core.List.{List}
 use Prim.Native.Nat.{ℕ, zero, suc}
 use lib.Dec.{eqb, leb, ltb}
 use lib.ListN.{getD}
 use Rattle.settings.specs.Count.{count, one-if}
+use Rattle.settings.specs.Ranges.{maxBricks}
 
 -- brick b is in the set
 unfoldable pub member : List ℕ → ℕ → Bool
@@ -21,4 +22,4 @@ flagsWithin flags n (suc k) = flagsWithin flags n k && leb (getD flags k 0) (one
 
 -- "m different bricks"
 unfoldable pub brickSet : List ℕ → ℕ → ℕ → Bool
-brickSet flags n m = flagsWithin flags n 16 && eqb (members flags n) m
+brickSet flags n m = flagsWithin flags n maxBricks && eqb (members flags n) m

@@ -1,9 +1,11 @@
 // Messages and replies (document 01, "What a brick does", "What a coordinator does"): structs by value with a number for their kind,
 // so that an unknown kind can be refused. A block goes beside them in a slice.
+// inner: call `brick::receive`
 ghost use mathlib.Core.Path.{_≡_};
 ghost use Prim.Native.Nat.{_≤_};
 ghost use lib.Dec.{ltb};
 ghost use Rattle.settings.specs.Count.{one-if};
+ghost use Rattle.settings.specs.Ranges.{maxBricks};
 ghost use Rattle.message.specs.Flags.{members, flagsWithin, brickSet};
 ghost use Rattle.message.specs.Messages.{roundRight, kindRight, messageRefusal, replyRight, replyRefusal};
 
@@ -25,7 +27,7 @@ pub struct Message {
     pub time: u64,
     pub round: u64,
     pub max: u64,
-    pub targets: [u8; 16],
+    pub targets: [u8; settings::MAX_BRICKS],
 }
 
 // found: the newest time in a reply to Read, the entry's time in one to Order-and-read. held: a block goes with it.
@@ -40,8 +42,8 @@ pub struct Reply {
 }
 
 // How many bricks below n are in a set.
-pub fn members_of(flags: [u8; 16], n: usize) -> usize
-    requires { ⌜ n ≤ 16 ⌝ }
+pub fn members_of(flags: [u8; settings::MAX_BRICKS], n: usize) -> usize
+    requires { ⌜ n ≤ maxBricks ⌝ }
     ensures { λ r. ⌜ r ≡ members flags n ⌝ }
 {
     let mut sum = 0;
@@ -66,11 +68,11 @@ fn most(i: usize, n: usize) -> u8
 }
 
 // Whether the flags are 0 or 1, and 0 for what is no brick below n.
-pub fn flags_within(flags: [u8; 16], n: usize) -> bool
-    ensures { λ r. ⌜ r ≡ flagsWithin flags n 16 ⌝ }
+pub fn flags_within(flags: [u8; settings::MAX_BRICKS], n: usize) -> bool
+    ensures { λ r. ⌜ r ≡ flagsWithin flags n maxBricks ⌝ }
 {
     let mut i = 0;
-    while i < 16 {
+    while i < settings::MAX_BRICKS {
         if most(i, n) < flags[i] {
             return false;
         }
@@ -79,7 +81,7 @@ pub fn flags_within(flags: [u8; 16], n: usize) -> bool
     true
 }
 
-// Whether a round's number is 1 to 1,000.
+// Whether a round's number is 1 to the last.
 pub fn round_right(round: u64) -> bool
     ensures { λ r. ⌜ r ≡ roundRight round ⌝ }
 {
@@ -87,8 +89,8 @@ pub fn round_right(round: u64) -> bool
 }
 
 // Whether the flags are those of m bricks below n.
-pub fn brick_set(flags: [u8; 16], n: usize, m: usize) -> bool
-    requires { ⌜ n ≤ 16 ⌝ }
+pub fn brick_set(flags: [u8; settings::MAX_BRICKS], n: usize, m: usize) -> bool
+    requires { ⌜ n ≤ maxBricks ⌝ }
     ensures { λ r. ⌜ r ≡ brickSet flags n m ⌝ }
 {
     if flags_within(flags, n) {
@@ -100,7 +102,7 @@ pub fn brick_set(flags: [u8; 16], n: usize, m: usize) -> bool
 impl Message {
     // The rules that a kind adds.
     fn kind_right(self, n: usize, m: usize) -> bool
-        requires { ⌜ n ≤ 16 ⌝ }
+        requires { ⌜ n ≤ maxBricks ⌝ }
         ensures { λ r. ⌜ r ≡ kindRight n m self ⌝ }
     {
         if self.kind == ORDER_READ {
@@ -113,19 +115,19 @@ impl Message {
         READ <= self.kind && self.kind <= TRIM
     }
 
-    // 10 for a message that no coordinator sends, else 0. n is at most 16.
+    // 10 for a message that no coordinator sends, else 0.
     pub fn refusal(self, n: usize, m: usize) -> u32
-        requires { ⌜ n ≤ 16 ⌝ }
+        requires { ⌜ n ≤ maxBricks ⌝ }
         ensures { λ r. ⌜ r ≡ messageRefusal n m self ⌝ }
     {
         if settings::is_time(self.time) {
             if round_right(self.round) {
                 if self.kind_right(n, m) {
-                    return 0;
+                    return settings::PASSED;
                 }
             }
         }
-        10
+        settings::BAD_MESSAGE
     }
 }
 
@@ -153,11 +155,11 @@ impl Reply {
         ensures { λ r. ⌜ r ≡ replyRefusal n self ⌝ }
     {
         if n <= self.brick {
-            return 3;
+            return settings::BAD_NUMBER;
         }
         if self.right() {
-            return 0;
+            return settings::PASSED;
         }
-        10
+        settings::BAD_MESSAGE
     }
 }

@@ -1,3 +1,3 @@
--- Field and Polynomial say what is meant, Laws what is proved of it. The others are lemmas on the way there.
+-- Field: what a field is. Polynomial: polynomials over one, and Lagrange's interpolation. `proofs/Laws/InterpolationLaws` has the theorems.
 pub mod Field
 pub mod Polynomial

@@ -1,5 +1,4 @@
 -- The laws of `settings`, for its own proofs and those of the crates above. No contract cites them.
--- Definitions: Refusal, Ranges (with the quorum), Times, Count, Each. Laws: the modules named ..Laws, and Draws.
 pub mod CountLaws
 pub mod DrawLaws
 pub mod QuorumLaws

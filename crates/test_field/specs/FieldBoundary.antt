@@ -5,7 +5,7 @@ use mathlib.Core.List.{List, [], _∷_}
 use Prim.Native.Nat.{ℕ, _<_}
 use lib.Dec.{eqb, ltb}
 use lib.ListN.{length}
-use Rattle.gf256.specs.Product.{power}
+use Rattle.gf256.specs.Product.{power, powerCount}
 use Rattle.settings.specs.Ranges.{settingsRefusal}
 use Rattle.settings.specs.Refusal.{badLength}
 use Rattle.settings.specs.Times.{drawRefusal, drawOf}
@@ -15,12 +15,12 @@ use Rattle.settings.specs.declared.Draw.the-variants.{Drawn, Refused}
 
 -- 2 to the k within the table
 unfoldable pub powerOrZero : ℕ → ℕ
-powerOrZero k = cond (ltb k 255) (power k) 0
+powerOrZero k = cond (ltb k powerCount) (power k) 0
 
 -- r is the logarithm of a: below 255, and its power is a; 0 for 0
 pub record IsLog (a r : ℕ) : Type 0 where
   pub of-zero : a ≡ 0 → r ≡ 0
-  pub below : (a ≡ 0 → ⊥) → r < 255
+  pub below : (a ≡ 0 → ⊥) → r < powerCount
   pub entry : (a ≡ 0 → ⊥) → power r ≡ a
 
 -- the refusal of four settings
@@ -30,9 +30,13 @@ settingsNumber n m size capacity = settingsRefusal (record { n = n; m = m; size 
 unfoldable pub clockOf : ℕ → ℕ → Clock
 clockOf coordinator last = record { coordinator = coordinator; last = last }
 
+-- what a draw writes: the time and the next last count
+abbrev pub drawnNumbers : ℕ
+drawnNumbers = 2
+
 -- 2 for a buffer that has not two numbers, else the draw's own refusal
 unfoldable pub drawNumber : ℕ → ℕ → ℕ → List ℕ → ℕ
-drawNumber coordinator last reading out = cond (eqb (length out) 2) (drawRefusal (clockOf coordinator last) reading) badLength
+drawNumber coordinator last reading out = cond (eqb (length out) drawnNumbers) (drawRefusal (clockOf coordinator last) reading) badLength
 
 -- the time and the next last count; a refused draw leaves the buffer
 unfoldable pub written : Draw → List ℕ → List ℕ
@@ -40,4 +44,4 @@ written (Drawn time next) out = time ∷ next .last ∷ []
 written (Refused number) out = out
 
 unfoldable pub drawBuffer : ℕ → ℕ → ℕ → List ℕ → List ℕ
-drawBuffer coordinator last reading out = cond (eqb (length out) 2) (written (drawOf (clockOf coordinator last) reading) out) out
+drawBuffer coordinator last reading out = cond (eqb (length out) drawnNumbers) (written (drawOf (clockOf coordinator last) reading) out) out

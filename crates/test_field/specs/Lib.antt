@@ -1,1 +1,2 @@
+-- What the boundary's functions give.
 pub mod FieldBoundary

@@ -1,4 +1,5 @@
 // The parts below the code at a C boundary of numbers and slices, for the tests that compare them with other code.
+// inner: call `erasure::stripe_encode`
 ghost use mathlib.Core.Path.{_≡_};
 ghost use Rattle.gf256.specs.Product.{product, inverse, quotient};
 ghost use Rattle.test_field.specs.FieldBoundary.{powerOrZero, IsLog, settingsNumber, drawNumber, drawBuffer};
@@ -7,6 +8,9 @@ ghost use Rattle.settings.specs.Times.{validTime};
 use settings::Clock;
 use settings::Draw;
 use settings::Settings;
+
+// What a draw writes: the time and the next last count.
+const DRAWN_NUMBERS: usize = 2;
 
 // The product of two bytes.
 #[no_mangle]
@@ -38,7 +42,7 @@ pub extern "C" fn probe_power(k: usize) -> u8
     ensures { λ r. ⌜ r ≡ powerOrZero k ⌝ }
 {
     let table = gf256::powers();
-    if k < 255 {
+    if k < gf256::POWER_COUNT {
         return table[k];
     }
     0
@@ -92,8 +96,8 @@ pub extern "C" fn probe_draw(coordinator: u64, last: u64, reading: u64, out: &mu
     ensures { λ r. ⌜ r ≡ drawNumber coordinator last reading (now (out .entry)) ⌝ }
     ensures { λ r. ⌜ now (out .exit) ≡ drawBuffer coordinator last reading (now (out .entry)) ⌝ }
 {
-    if out.len() != 2 {
-        return 2;
+    if out.len() != DRAWN_NUMBERS {
+        return settings::BAD_LENGTH;
     }
     let clock = Clock {
         coordinator: coordinator,
@@ -105,5 +109,5 @@ pub extern "C" fn probe_draw(coordinator: u64, last: u64, reading: u64, out: &mu
     };
     out[0] = time;
     out[1] = next.last;
-    0
+    settings::PASSED
 }

@@ -12,7 +12,7 @@ use Rattle.byte_lists.proofs.Laws.PutLaws.{put-length, put-in, put-before, put-
 use Rattle.coord_apply.specs.Acts.{gathered, stripeFrom, withReplyBlock}
 use Rattle.erasure.specs.Code.{codedOf, decodedOf}
 use Rattle.erasure.specs.Code.{blockOf, Stripe, Bricks, blocksOf}
-use Rattle.erasure.proofs.Laws.Theorems.{decode-encode}
+use Rattle.erasure.proofs.Laws.CodeTheoremLaws.{decode-after-encode}
 use Rattle.interpolate.specs.Values.{PointSet}
 use Rattle.byte_lists.specs.Lists.{stacked}
 use Rattle.settings.specs.Ranges.{CodeRange}
@@ -68,4 +68,4 @@ stripe-read n m size row blocks stripe r s l p b h =
       below = λ i u. (let q = getD-take m row i 0 u in let z = b i u in omega arith);
     }
     in
-    ap (decodedOf m size (take m row)) agree ∙ decode-encode n m size stripe (take m row) s bricks
+    ap (decodedOf m size (take m row)) agree ∙ decode-after-encode n m size stripe (take m row) s bricks

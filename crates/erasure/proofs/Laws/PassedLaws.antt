@@ -1,4 +1,4 @@
--- Laws of `specs/PassedLaws`.
+-- What an encoding and a decoding that are not refused satisfy, and the points of the data blocks.
 use mathlib.Core.Path.{_≡_, refl, sym, ap, subst, _∙_}
 use mathlib.Core.Bool.{Bool, true, false, cond, not, _&&_}
 use mathlib.Core.List.{List, [], _∷_}
@@ -6,21 +6,20 @@ use Prim.Native.Nat.{ℕ, zero, suc, _*_, _≤_, _<_}
 use native.Mathlib.Decide.{decLt}
 use native.Mathlib.Nat.{le-of-suc-le-suc, not-suc-le-zero}
 use native.Mathlib.Omega.{arith}
-use lib.Dec.{eqb, eqb→eq}
+use lib.Dec.{eqb}
 use lib.ListN.{length, getD, take}
 use lib.Seq.{getD-take, length-take-le}
 use borrow.Author.Tests.{eq-eqb, eqb-true, not-true}
 use Rattle.erasure.specs.Code.{firstPoints}
 use Rattle.erasure.specs.Refusals.{allBelow, stands, allDifferent, encodeRefusal, decodeRefusal}
-use Rattle.gf256.specs.Computed.{every}
-use Rattle.gf256.proofs.Laws.ComputedLaws.{at-entry}
+use Rattle.byte_lists.specs.Each.{each}
+use Rattle.byte_lists.proofs.Laws.EachLaws.{each-at}
 use Rattle.interpolate.specs.Values.{PointSet}
 use Rattle.byte_lists.proofs.Laws.TabulateLaws.{length-tabulate, getD-tabulate, tabulate-by}
-use Rattle.settings.specs.Ranges.{codeRefusal}
-use Rattle.settings.specs.Ranges.{CodeRange}
+use Rattle.settings.specs.Ranges.{maxBricks, codeRefusal, CodeRange}
 use Rattle.settings.proofs.Laws.RangeLaws.{code-passed}
 use Rattle.byte_lists.proofs.Laws.BoolLaws.{and-left, and-right}
-use Rattle.settings.specs.Refusal.{refuseUnless}
+use Rattle.settings.specs.Refusal.{refuseUnless, badLength, badNumber}
 use Rattle.settings.proofs.Laws.RefusalLaws.{passed-first, passed-rest, tested}
 use Rattle.erasure.specs.Workers.{Encodes}
 
@@ -43,7 +42,7 @@ apart (b ∷ bs) e i zero h u q = not-suc-le-zero h
 apart (b ∷ bs) e zero (suc j) h u q = stands-nowhere b bs (not-true _ (and-left _ _ e)) j (le-of-suc-le-suc u) (sym q)
 apart (b ∷ bs) e (suc i) (suc j) h u q = apart bs (and-right (not (stands b bs)) _ e) i j (le-of-suc-le-suc h) (le-of-suc-le-suc u) q
 
-pub different-set : (l : List ℕ) → allDifferent l ≡ true → length l ≤ 16 → PointSet l
+pub different-set : (l : List ℕ) → allDifferent l ≡ true → length l ≤ maxBricks → PointSet l
 different-set l e f = record { few = f; differ = λ i j hi hj q. by i j hi hj q (decLt i j) (decLt j i) }
   where
     by : (i j : ℕ) → i < length l → j < length l → getD l i 0 ≡ getD l j 0 → Dec (i < j) → Dec (j < i) → i ≡ j
@@ -52,7 +51,7 @@ different-set l e f = record { few = f; differ = λ i j hi hj q. by i j hi hj q 
     by i j hi hj q (no n) (no k) = omega arith
 
 -- the points 0 to m − 1
-pub first-set : (m : ℕ) → m ≤ 16 → PointSet (firstPoints m)
+pub first-set : (m : ℕ) → m ≤ maxBricks → PointSet (firstPoints m)
 unfolding firstPoints
 first-set m h =
     let l = length-tabulate m (λ (i : ℕ). i) in
@@ -66,7 +65,7 @@ unfolding firstPoints
 length-first m = length-tabulate m (λ (i : ℕ). i)
 
 -- as the code writes them: the first m of a list whose entry i is i
-pub first-by : (l : List ℕ) (m : ℕ) → length l ≡ 16 → ((i : ℕ) → i < 16 → getD l i 0 ≡ i) → m ≤ 16 → take m l ≡ firstPoints m
+pub first-by : (l : List ℕ) (m : ℕ) → length l ≡ maxBricks → ((i : ℕ) → i < maxBricks → getD l i 0 ≡ i) → m ≤ maxBricks → take m l ≡ firstPoints m
 unfolding firstPoints
 first-by l m e h u =
     tabulate-by m (λ (i : ℕ). i) (take m l) (length-take-le m l (omega arith)) (λ i k. getD-take m l i 0 k ∙ h i (omega arith))
@@ -95,8 +94,8 @@ unfolding decodeRefusal
 decode-passed n m size bricks b s e =
     let r1 = passed-rest (codeRefusal n m size) _ e in
     let l = tested (eqb b (m * size) && eqb s (m * size)) 1 (passed-first _ _ r1) in
-    let r2 = passed-rest (refuseUnless (eqb b (m * size) && eqb s (m * size)) 2) _ r1 in
-    let r3 = passed-rest (refuseUnless (allBelow bricks n) 3) _ r2 in
+    let r2 = passed-rest (refuseUnless (eqb b (m * size) && eqb s (m * size)) badLength) _ r1 in
+    let r3 = passed-rest (refuseUnless (allBelow bricks n) badNumber) _ r2 in
     let d = tested (eqb (length bricks) m && allDifferent bricks) 3 (passed-first _ [] r3) in
     let range = code-passed n m size (passed-first (codeRefusal n m size) _ e) in
     let count = eqb-true (length bricks) m (and-left _ _ d) in
@@ -109,19 +108,19 @@ decode-passed n m size bricks b s e =
       set = different-set bricks (and-right (eqb (length bricks) m) _ d) (let a = range .m-high in let c = range .n-high in omega arith);
     }
 
--- the sixteen points that the code takes the first m of
-abbrev pub sixteen : List ℕ
-sixteen = 0 ∷ 1 ∷ 2 ∷ 3 ∷ 4 ∷ 5 ∷ 6 ∷ 7 ∷ 8 ∷ 9 ∷ 10 ∷ 11 ∷ 12 ∷ 13 ∷ 14 ∷ 15 ∷ []
+-- the points that the code takes the first m of
+abbrev pub allPoints : List ℕ
+allPoints = 0 ∷ 1 ∷ 2 ∷ 3 ∷ 4 ∷ 5 ∷ 6 ∷ 7 ∷ 8 ∷ 9 ∷ 10 ∷ 11 ∷ 12 ∷ 13 ∷ 14 ∷ 15 ∷ []
 
-counts : ℕ → ℕ → Bool
-counts i x = eqb x i
+counts : ℕ → Bool
+counts i = eqb (getD allPoints i 0) i
 
-pub first-of-sixteen : (m : ℕ) → m ≤ 16 → take m sixteen ≡ firstPoints m
-unfolding counts every
-first-of-sixteen m h = first-by sixteen m refl (λ i k. eqb→eq (getD sixteen i 0) i (at-entry counts sixteen tt i k)) h
+pub first-of-all : (m : ℕ) → m ≤ maxBricks → take m allPoints ≡ firstPoints m
+unfolding counts each
+first-of-all m h = first-by allPoints m refl (λ i k. eqb-true (getD allPoints i 0) i (each-at counts maxBricks i refl k)) h
 
-pub sixteen-set : (m : ℕ) → m ≤ 16 → PointSet (take m sixteen)
-sixteen-set m h = subst PointSet (sym (first-of-sixteen m h)) (first-set m h)
+pub first-of-all-set : (m : ℕ) → m ≤ maxBricks → PointSet (take m allPoints)
+first-of-all-set m h = subst PointSet (sym (first-of-all m h)) (first-set m h)
 
-pub length-sixteen : (m : ℕ) → m ≤ 16 → length (take m sixteen) ≡ m
-length-sixteen m h = ap length (first-of-sixteen m h) ∙ length-first m
+pub first-of-all-length : (m : ℕ) → m ≤ maxBricks → length (take m allPoints) ≡ m
+first-of-all-length m h = ap length (first-of-all m h) ∙ length-first m

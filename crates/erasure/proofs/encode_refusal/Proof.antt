@@ -17,7 +17,9 @@ returns-2 : tie.Need-returns-2
 returns-2 c = search (needs, encode-stripe)
 
 mul-if3 : tie.Need-mul-if3
-mul-if3 c = omega (arith, lengths-fit (c .before .before .before .args .n) (c .before .before .before .args .m) (c .before .before .before .args .size) _ (c .before .before .code-refusal .ensures) (c .before .if1 .left))
+mul-if3 c =
+    let a = c .before .before .before .args in
+    omega (arith, lengths-fit (a .n) (a .m) (a .size) _ (c .before .before .code-refusal .ensures) (c .before .if1 .left))
 
 returns-3 : tie.Need-returns-3
 returns-3 c = search (needs, encode-coded)

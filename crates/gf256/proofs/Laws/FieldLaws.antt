@@ -6,7 +6,7 @@ use native.Mathlib.Nat.{not-suc-le-zero, add-comm, add-assoc}
 use native.Mathlib.Omega.{arith}
 use lib.Dec.{eqb}
 use borrow.Author.Tests.{eqb-true, eq-eqb}
-use Rattle.gf256.specs.Product.{plus, twice, shiftAdd, product, doubled, power, inverseBelow, inverse}
+use Rattle.gf256.specs.Product.{plus, twice, shiftAdd, product, doubled, power, powerCount, inverseBelow, inverse}
 use Rattle.gf256.proofs.Laws.ProductLaws.{product-zero, zero-product, product-one}
 use Rattle.gf256.proofs.Laws.TableLaws.{power-byte, power-add, power-cycle, log-exists}
 
@@ -38,10 +38,10 @@ product-assoc (suc a) (suc b) (suc c) ha hb hc =
     ∙ ap₂ product (i .2) (sym (power-add (j .0) (k .0)) ∙ ap₂ product (j .2) (k .2))
 
 -- an inverse by logarithms: 2 to the 255 − k
-pub power-inverse : (k : ℕ) → k ≤ 255 → product (power k) (power (255 - k)) ≡ 1
+pub power-inverse : (k : ℕ) → k ≤ powerCount → product (power k) (power (powerCount - k)) ≡ 1
 unfolding power doubled
 power-inverse k h =
-    power-add k (255 - k) ∙ ap power (let e : k + (255 - k) ≡ 0 + 255 = omega arith in e) ∙ power-cycle 0
+    power-add k (powerCount - k) ∙ ap power (let e : k + (powerCount - k) ≡ 0 + powerCount = omega arith in e) ∙ power-cycle 0
 
 -- the search finds an inverse where there is one
 found : (k a x : ℕ) → x < k → product a x ≡ 1 → product a (inverseBelow k a) ≡ 1
@@ -77,8 +77,8 @@ pub product-inverse : (a : ℕ) → 0 < a → a < 256 → product a (inverse a) 
 unfolding inverse
 product-inverse a h l =
     let k = log-exists a h l in
-    found 256 a (power (255 - k .0)) (power-byte (255 - k .0))
-    (ap (λ (x : ℕ). product x (power (255 - k .0))) (sym (k .2)) ∙ power-inverse (k .0) (let z = k .1 in omega arith))
+    found 256 a (power (powerCount - k .0)) (power-byte (powerCount - k .0))
+    (ap (λ (x : ℕ). product x (power (powerCount - k .0))) (sym (k .2)) ∙ power-inverse (k .0) (let z = k .1 in omega arith))
 
 -- there is one inverse only
 pub inverse-unique : (a x y : ℕ) → a < 256 → x < 256 → y < 256 → product a x ≡ 1 → product a y ≡ 1 → x ≡ y

@@ -4,7 +4,7 @@ use mathlib.Core.List.{List}
 use Prim.Native.Nat.{ℕ, _+_, _-_, _≤_, _<_}
 use native.Mathlib.Omega.{arith}
 use lib.ListN.{getD}
-use Rattle.gf256.specs.Product.{product, doubled, power, inverse, quotient}
+use Rattle.gf256.specs.Product.{product, doubled, power, powerCount, inverse, quotient}
 use Rattle.gf256.proofs.Laws.ProductLaws.{product-zero, zero-product}
 use Rattle.gf256.proofs.Laws.TableLaws.{power-byte, power-add, power-cycle}
 use Rattle.gf256.specs.Tables.{IsPowers, IsLogs}
@@ -25,7 +25,7 @@ quotient-is a b c r e f = f ∙ ap (product a) e
 
 -- logarithms alone
 module _ (l : List ℕ) (hl : IsLogs l) (a : ℕ) (na : a ≡ 0 → ⊥) (la : a < 256) where
-  pub log-below : getD l a 0 < 255
+  pub log-below : getD l a 0 < powerCount
   log-below = hl .below a (omega arith) la
 
   pub log-power : a ≡ power (getD l a 0)
@@ -34,32 +34,32 @@ module _ (l : List ℕ) (hl : IsLogs l) (a : ℕ) (na : a ≡ 0 → ⊥) (la : a
   pub by-logs : (b : ℕ) → (b ≡ 0 → ⊥) → b < 256 → product a b ≡ power (getD l a 0 + getD l b 0)
   by-logs b nb lb = ap₂ product log-power (sym (hl .entry b (omega arith) lb)) ∙ power-add (getD l a 0) (getD l b 0)
 
-  pub inverse-is : inverse a ≡ power (255 - getD l a 0)
+  pub inverse-is : inverse a ≡ power (powerCount - getD l a 0)
   inverse-is =
-      inverse-unique a (inverse a) (power (255 - getD l a 0)) la (inverse-byte a) (power-byte (255 - getD l a 0)) (product-inverse a (omega arith) la)
-      (ap (λ (x : ℕ). product x (power (255 - getD l a 0))) log-power ∙ power-inverse (getD l a 0) (let h = log-below in omega arith))
+      inverse-unique a (inverse a) (power (powerCount - getD l a 0)) la (inverse-byte a) (power-byte (powerCount - getD l a 0)) (product-inverse a (omega arith) la)
+      (ap (λ (x : ℕ). product x (power (powerCount - getD l a 0))) log-power ∙ power-inverse (getD l a 0) (let h = log-below in omega arith))
 
 -- both tables
 module _ (p l : List ℕ) (hp : IsPowers p) (hl : IsLogs l) (a : ℕ) (na : a ≡ 0 → ⊥) (la : a < 256) where
   -- the sum of the logarithms is an index of the powers,
-  pub sum-low : (b : ℕ) → (b ≡ 0 → ⊥) → b < 256 → getD l a 0 + getD l b 0 < 255 → getD p (getD l a 0 + getD l b 0) 0 ≡ product a b
+  pub sum-low : (b : ℕ) → (b ≡ 0 → ⊥) → b < 256 → getD l a 0 + getD l b 0 < powerCount → getD p (getD l a 0 + getD l b 0) 0 ≡ product a b
   sum-low b nb lb h = hp .entry (getD l a 0 + getD l b 0) h ∙ sym (by-logs l hl a na la b nb lb)
 
   -- or is it less 255
-  pub sum-high : (b : ℕ) → (b ≡ 0 → ⊥) → b < 256 → 255 ≤ getD l a 0 + getD l b 0
-      → getD p (getD l a 0 + getD l b 0 - 255) 0 ≡ product a b
+  pub sum-high : (b : ℕ) → (b ≡ 0 → ⊥) → b < 256 → powerCount ≤ getD l a 0 + getD l b 0
+      → getD p (getD l a 0 + getD l b 0 - powerCount) 0 ≡ product a b
   sum-high b nb lb h =
-      let la' : getD l a 0 < 255 = log-below l hl a na la in
-      let lb' : getD l b 0 < 255 = log-below l hl b nb lb in
-      let e : getD l a 0 + getD l b 0 - 255 + 255 ≡ getD l a 0 + getD l b 0 = omega arith in
-      hp .entry (getD l a 0 + getD l b 0 - 255) (omega arith) ∙ sym (power-cycle (getD l a 0 + getD l b 0 - 255)) ∙ ap power e
+      let la' : getD l a 0 < powerCount = log-below l hl a na la in
+      let lb' : getD l b 0 < powerCount = log-below l hl b nb lb in
+      let e : getD l a 0 + getD l b 0 - powerCount + powerCount ≡ getD l a 0 + getD l b 0 = omega arith in
+      hp .entry (getD l a 0 + getD l b 0 - powerCount) (omega arith) ∙ sym (power-cycle (getD l a 0 + getD l b 0 - powerCount)) ∙ ap power e
       ∙ sym (by-logs l hl a na la b nb lb)
 
   -- the inverse's logarithm is 255 less that of a,
-  pub inverse-low : 255 - getD l a 0 < 255 → getD p (255 - getD l a 0) 0 ≡ inverse a
-  inverse-low h = hp .entry (255 - getD l a 0) h ∙ sym (inverse-is l hl a na la)
+  pub inverse-low : powerCount - getD l a 0 < powerCount → getD p (powerCount - getD l a 0) 0 ≡ inverse a
+  inverse-low h = hp .entry (powerCount - getD l a 0) h ∙ sym (inverse-is l hl a na la)
 
   -- or 0 where that is 255
-  pub inverse-high : 255 ≤ 255 - getD l a 0 → 1 ≡ inverse a
+  pub inverse-high : powerCount ≤ powerCount - getD l a 0 → 1 ≡ inverse a
   unfolding power doubled
-  inverse-high h = sym (power-cycle 0) ∙ ap power (let e : 0 + 255 ≡ 255 - getD l a 0 = omega arith in e) ∙ sym (inverse-is l hl a na la)
+  inverse-high h = sym (power-cycle 0) ∙ ap power (let e : 0 + powerCount ≡ powerCount - getD l a 0 = omega arith in e) ∙ sym (inverse-is l hl a na la)

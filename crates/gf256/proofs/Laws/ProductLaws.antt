@@ -5,17 +5,19 @@ use Prim.Native.Nat.{ℕ, zero, suc, _+_, _*_, _/_, _%_, _^_, _<_}
 use native.Mathlib.Nat.{zero-mul, one-mul, mul-zero, zero-add, suc-add, pow-suc}
 use native.Mathlib.Omega.{arith}
 use lib.Bits.{xor-shifted}
-use lib.Dec.{ltb, eqb, ltb→lt, eqb→eq}
-use Rattle.gf256.proofs.Laws.ComputedLaws.{allBelow, at-below}
-use Rattle.gf256.specs.Product.{plus, twice, shiftAdd, product, doubled}
+use lib.Dec.{ltb, eqb}
+use borrow.Author.Tests.{eqb-true, ltb-true}
+use Rattle.byte_lists.specs.Each.{each}
+use Rattle.byte_lists.proofs.Laws.EachLaws.{each-at}
+use Rattle.gf256.specs.Product.{plus, twice, shiftAdd, product, doubled, byteCount}
 use Rattle.gf256.proofs.Laws.XorLaws.{plus-zero, zero-plus, plus-byte, plus-swap, plus-half, plus-odd, bit-plus, bit-times, twice-plus, twice-zero, twice-small}
 
 twice-fits : ℕ → Bool
 twice-fits a = ltb (twice a) 256
 
 pub twice-byte : (a : ℕ) → a < 256 → twice a < 256
-unfolding twice-fits twice plus allBelow
-twice-byte a h = ltb→lt (twice a) 256 (at-below twice-fits 256 tt a h)
+unfolding twice-fits twice plus each
+twice-byte a h = ltb-true (twice a) 256 (each-at twice-fits byteCount a refl h)
 
 bit-byte : (x a : ℕ) → x < 2 → a < 256 → x * a < 256
 bit-byte zero a h ha = rw (zero-mul a) (omega arith)
@@ -98,8 +100,8 @@ top-doubles : ℕ → Bool
 top-doubles a = eqb (product a (twice 128)) (twice (product a 128))
 
 top : (a : ℕ) → a < 256 → product a (twice 128) ≡ twice (product a 128)
-unfolding top-doubles product shiftAdd twice plus allBelow
-top a h = eqb→eq (product a (twice 128)) (twice (product a 128)) (at-below top-doubles 256 tt a h)
+unfolding top-doubles product shiftAdd twice plus each
+top a h = eqb-true (product a (twice 128)) (twice (product a 128)) (each-at top-doubles byteCount a refl h)
 
 -- a byte is its top bit and the rest
 parted : (b : ℕ) → plus (b / 128 * 128) (b % 128) ≡ b

@@ -2,6 +2,7 @@ use borrow.Author.Needs.{needs}
 use native.Mathlib.Omega.{arith}
 use Prim.Native.Nat.{_<_}
 use lib.ListN.{getD}
+use Rattle.gf256.specs.Product.{powerCount}
 use Rattle.gf256.proofs.Laws.LookupLaws.{of-zero, log-below, inverse-low, inverse-high}
 use Rattle.gf256.proofs.inv_by.Statement.{statement}
 use Rattle.gf256.proofs.inv_by.Tie as tie
@@ -12,7 +13,7 @@ returns c = search (needs, of-zero)
 element-copy-out-s : tie.Need-element-copy-out-s
 element-copy-out-s c = search needs
 
-log-a : (c : tie.Else1) → getD (c .before .args .logs .now) (c .before .args .a) 0 < 255
+log-a : (c : tie.Else1) → getD (c .before .args .logs .now) (c .before .args .a) 0 < powerCount
 log-a c = let s = c .before in log-below (s .args .logs .now) (s .pre .1) (s .args .a) (c .if1 .left) (s .fits .a .fits)
 
 cast-s : tie.Need-cast-s

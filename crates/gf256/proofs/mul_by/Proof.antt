@@ -2,6 +2,7 @@ use borrow.Author.Needs.{needs}
 use native.Mathlib.Omega.{arith}
 use Prim.Native.Nat.{_<_}
 use lib.ListN.{getD}
+use Rattle.gf256.specs.Product.{powerCount}
 use Rattle.gf256.proofs.Laws.LookupLaws.{left-zero, right-zero, log-below, sum-low, sum-high}
 use Rattle.gf256.proofs.mul_by.Statement.{statement}
 use Rattle.gf256.proofs.mul_by.Tie as tie
@@ -16,10 +17,10 @@ element-copy-out-s : tie.Need-element-copy-out-s
 element-copy-out-s c = search needs
 
 -- both logarithms are below 255
-log-a : (c : tie.Else2) → getD (c .before .before .args .logs .now) (c .before .before .args .a) 0 < 255
+log-a : (c : tie.Else2) → getD (c .before .before .args .logs .now) (c .before .before .args .a) 0 < powerCount
 log-a c = let s = c .before .before in log-below (s .args .logs .now) (s .pre .1) (s .args .a) (c .before .if1 .left) (s .fits .a .fits)
 
-log-b : (c : tie.Else2) → getD (c .before .before .args .logs .now) (c .before .before .args .b) 0 < 255
+log-b : (c : tie.Else2) → getD (c .before .before .args .logs .now) (c .before .before .args .b) 0 < powerCount
 log-b c = let s = c .before .before in log-below (s .args .logs .now) (s .pre .1) (s .args .b) (c .if2 .left) (s .fits .b .fits)
 
 cast-s : tie.Need-cast-s

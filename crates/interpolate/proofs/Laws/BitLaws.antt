@@ -6,7 +6,7 @@ use native.Mathlib.Numerals.{add-one}
 use native.Mathlib.Omega.{arith}
 use lib.ListN.{getD}
 use mathlib.Core.List.{List}
-use Rattle.gf256.specs.Product.{plus, twice, shiftAdd, product, doubled, power}
+use Rattle.gf256.specs.Product.{plus, twice, shiftAdd, product, doubled, power, powerCount}
 use Rattle.gf256.proofs.Laws.XorLaws.{plus-zero}
 use Rattle.gf256.proofs.Laws.TableLaws.{power-cycle}
 use Rattle.gf256.specs.Tables.{IsPowers}
@@ -44,10 +44,10 @@ by-bits w0 w1 w2 w3 w4 w5 w6 w7 x e1 e2 e3 e4 e5 e6 e7 =
     (last-bit w7 (x / 128))))))))
 
 -- 2 to the s by the table, where s is past it
-pub power-high : (p : List ℕ) (s : ℕ) → IsPowers p → 255 ≤ s → s < 510 → getD p (s - 255) 0 ≡ power s
+pub power-high : (p : List ℕ) (s : ℕ) → IsPowers p → powerCount ≤ s → s < 2 * powerCount → getD p (s - powerCount) 0 ≡ power s
 power-high p s h l u =
-    let e : s - 255 + 255 ≡ s = omega arith in
-    h .entry (s - 255) (omega arith) ∙ sym (power-cycle (s - 255)) ∙ ap power e
+    let e : s - powerCount + powerCount ≡ s = omega arith in
+    h .entry (s - powerCount) (omega arith) ∙ sym (power-cycle (s - powerCount)) ∙ ap power e
 
 -- the next power is the double
 pub power-suc : (s : ℕ) → power (s + 1) ≡ twice (power s)

@@ -11,7 +11,7 @@ use lib.Bits.{bitXor}
 use lib.Dec.{eqb}
 use lib.ListN.{length, getD}
 use borrow.Author.Tests.{eq-eqb, ne-eqb}
-use Rattle.gf256.specs.Product.{plus}
+use Rattle.gf256.specs.Product.{plus, powerCount}
 use Rattle.interpolate.specs.Workers.{numerator, denominator}
 
 pub numerator-more : (logs points : List ℕ) (x i s r : ℕ) → s ≡ numerator logs points x i → r ≡ getD logs (bitXor x (getD points i 0)) 0
@@ -24,11 +24,11 @@ pub numerator-all : (logs points : List ℕ) (x i s : ℕ) → s ≡ numerator l
 numerator-all logs points x i s e a b = e ∙ ap (numerator logs points x) (omega arith)
 
 pub denominator-more : (logs points : List ℕ) (i k b s r : ℕ) → s ≡ denominator logs points i k → b ≡ getD points i 0
-    → r ≡ getD logs (bitXor b (getD points k 0)) 0 → (k ≡ i → ⊥) → s + (255 - r) ≡ denominator logs points i (k + 1)
+    → r ≡ getD logs (bitXor b (getD points k 0)) 0 → (k ≡ i → ⊥) → s + (powerCount - r) ≡ denominator logs points i (k + 1)
 unfolding denominator plus
 denominator-more logs points i k b s r e eb f n =
     rw (add-one k, ne-eqb k i n)
-    (ap₂ (λ (a c : ℕ). a + (255 - c)) e (f ∙ ap (λ (y : ℕ). getD logs (bitXor y (getD points k 0)) 0) eb))
+    (ap₂ (λ (a c : ℕ). a + (powerCount - c)) e (f ∙ ap (λ (y : ℕ). getD logs (bitXor y (getD points k 0)) 0) eb))
 
 pub denominator-skip : (logs points : List ℕ) (i k s : ℕ) → s ≡ denominator logs points i k → k ≡ i → s ≡ denominator logs points i (k + 1)
 unfolding denominator
@@ -49,12 +49,12 @@ numerator-has logs points x i (suc m) h = by (ℕ-discrete i m) (numerator-has l
     by (yes e) ih = let q = ap (λ (j : ℕ). getD logs (plus x (getD points j 0)) 0) e in omega arith
     by (no n) ih = let q = ih (omega arith) in omega arith
 
-pub denominator-high : (logs points : List ℕ) (i k : ℕ) → denominator logs points i k ≤ 255 * k
+pub denominator-high : (logs points : List ℕ) (i k : ℕ) → denominator logs points i k ≤ powerCount * k
 unfolding denominator
 denominator-high logs points i zero = omega arith
 denominator-high logs points i (suc k) = by (eqb k i) (denominator-high logs points i k)
   where
-    by : (t : Bool) → denominator logs points i k ≤ 255 * k
-        → denominator logs points i k + cond t 0 (255 - getD logs (plus (getD points i 0) (getD points k 0)) 0) ≤ 255 * suc k
+    by : (t : Bool) → denominator logs points i k ≤ powerCount * k
+        → denominator logs points i k + cond t 0 (powerCount - getD logs (plus (getD points i 0) (getD points k 0)) 0) ≤ powerCount * suc k
     by true h = omega arith
     by false h = omega arith

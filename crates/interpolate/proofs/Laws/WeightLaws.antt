@@ -1,4 +1,4 @@
--- Laws of `specs/WeightLaws`.
+-- Lagrange's weights by sums of logarithms.
 use mathlib.Core.Path.{_≡_, refl, sym, ap, ap₂, _∙_}
 use mathlib.Core.Bool.{cond}
 use mathlib.Core.List.{List}
@@ -10,12 +10,12 @@ use lib.Dec.{eqb}
 use lib.ListN.{getD}
 use borrow.Author.Tests.{eq-eqb, ne-eqb}
 use Rattle.gf256.proofs.Laws.LookupLaws.{log-power, inverse-is}
-use Rattle.gf256.specs.Product.{plus, product, doubled, power, inverse}
+use Rattle.gf256.specs.Product.{plus, product, doubled, power, powerCount, inverse}
 use Rattle.gf256.proofs.Laws.TableLaws.{power-add, power-mod}
 use Rattle.gf256.specs.Tables.{IsLogs}
 use Rattle.gf256.proofs.Laws.XorLaws.{plus-byte, plus-cancel}
 use Rattle.interpolate.specs.Bytes.{Byte, byte, bytes}
-use Rattle.interpolate.proofs.Laws.ByteLaws.{byte-small}
+use Rattle.interpolate.proofs.Laws.ByteLaws.{byte-small, add-is, mul-is, inv-is}
 use Rattle.interpolate.specs.Workers.{numerator, denominator}
 use Rattle.poly.proofs.Laws.BasisLaws.{basisTo-skip, basisTo-step}
 use Rattle.poly.specs.Polynomial.{sub, factor, basisTo, basis}
@@ -60,17 +60,21 @@ module _ (logs points : List ℕ) (hl : IsLogs logs) (small : (k : ℕ) → getD
   -- one factor of a weight
   factor-power : (k : ℕ) → (getD points k 0 ≡ x → ⊥) → (getD points k 0 ≡ getD points i 0 → ⊥)
       → factor bytes (pointsOf points) i k (byte x) .0
-      ≡ power (getD logs (plus x (getD points k 0)) 0 + (255 - getD logs (plus (getD points i 0) (getD points k 0)) 0))
+      ≡ power (getD logs (plus x (getD points k 0)) 0 + (powerCount - getD logs (plus (getD points i 0) (getD points k 0)) 0))
   unfolding factor sub
   factor-power k nx ni =
       let pk = getD points k 0 in
       let pi = getD points i 0 in
-      ap₂ (λ (u v : ℕ). product u (inverse v))
+      let up = bytes .add (byte x) (byte pk) in
+      let down = bytes .add (byte pi) (byte pk) in
+      mul-is up (bytes .inv down)
+      ∙ ap₂ product (add-is (byte x) (byte pk)) (inv-is down ∙ ap inverse (add-is (byte pi) (byte pk)))
+      ∙ ap₂ (λ (u v : ℕ). product u (inverse v))
       (ap₂ plus (byte-small x hx) (byte-small pk (small k)))
       (ap₂ plus (byte-small pi (small i)) (byte-small pk (small k)))
       ∙ ap₂ product (log-power logs hl (plus x pk) (apart x pk nx) (plus-byte x pk hx (small k)))
       (inverse-is logs hl (plus pi pk) (apart pi pk ni) (plus-byte pi pk (small i) (small k)))
-      ∙ power-add (getD logs (plus x pk) 0) (255 - getD logs (plus pi pk) 0)
+      ∙ power-add (getD logs (plus x pk) 0) (powerCount - getD logs (plus pi pk) 0)
 
   weight-power : (k : ℕ) → ((j : ℕ) → j < k → getD points j 0 ≡ x → ⊥)
       → ((j : ℕ) → j < k → (j ≡ i → ⊥) → getD points j 0 ≡ getD points i 0 → ⊥)
@@ -83,27 +87,28 @@ module _ (logs points : List ℕ) (hl : IsLogs logs) (small : (k : ℕ) → getD
       by : Dec (k ≡ i) → basisTo bytes k (pointsOf points) i (byte x) .0 ≡ power (others logs points x i k + denominator logs points i k)
           → basisTo bytes (suc k) (pointsOf points) i (byte x) .0
           ≡ power ((others logs points x i k + cond (eqb k i) 0 (getD logs (plus x (getD points k 0)) 0))
-          + (denominator logs points i k + cond (eqb k i) 0 (255 - getD logs (plus (getD points i 0) (getD points k 0)) 0)))
+          + (denominator logs points i k + cond (eqb k i) 0 (powerCount - getD logs (plus (getD points i 0) (getD points k 0)) 0)))
       by (yes e) ih =
           ap (λ (b : Byte). b .0) (basisTo-skip bytes k (pointsOf points) i (byte x) e) ∙ ih
           ∙ rw (eq-eqb k i e, add-zero (others logs points x i k), add-zero (denominator logs points i k)) refl
       by (no n) ih =
           ap (λ (b : Byte). b .0) (basisTo-step bytes k (pointsOf points) i (byte x) n)
+          ∙ mul-is (basisTo bytes k (pointsOf points) i (byte x)) (factor bytes (pointsOf points) i k (byte x))
           ∙ ap₂ product ih (factor-power k (nx k (omega arith)) (ni k (omega arith) n))
           ∙ power-add (others logs points x i k + denominator logs points i k)
-          (getD logs (plus x (getD points k 0)) 0 + (255 - getD logs (plus (getD points i 0) (getD points k 0)) 0))
+          (getD logs (plus x (getD points k 0)) 0 + (powerCount - getD logs (plus (getD points i 0) (getD points k 0)) 0))
           ∙ ap power
           (regroup (others logs points x i k) (denominator logs points i k) (getD logs (plus x (getD points k 0)) 0)
-          (255 - getD logs (plus (getD points i 0) (getD points k 0)) 0)
+          (powerCount - getD logs (plus (getD points i 0) (getD points k 0)) 0)
           ∙ ap₂ (λ (s t : ℕ). (others logs points x i k + s) + (denominator logs points i k + t))
           (sym (cond-other k i (getD logs (plus x (getD points k 0)) 0) n))
-          (sym (cond-other k i (255 - getD logs (plus (getD points i 0) (getD points k 0)) 0) n)))
+          (sym (cond-other k i (powerCount - getD logs (plus (getD points i 0) (getD points k 0)) 0) n)))
 
   -- The weight of point i at x, by sums that are made once a row and once a set of points.
   pub weight-is : (m : ℕ) → i < m → ((j : ℕ) → j < m → getD points j 0 ≡ x → ⊥)
       → ((j : ℕ) → j < m → (j ≡ i → ⊥) → getD points j 0 ≡ getD points i 0 → ⊥)
       → basis bytes m (pointsOf points) i (byte x) .0
-      ≡ power ((numerator logs points x m - getD logs (plus x (getD points i 0)) 0 + denominator logs points i m) % 255)
+      ≡ power ((numerator logs points x m - getD logs (plus x (getD points i 0)) 0 + denominator logs points i m) % powerCount)
   unfolding basis
   weight-is m h nx ni =
       weight-power m nx ni

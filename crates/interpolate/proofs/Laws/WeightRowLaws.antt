@@ -1,4 +1,4 @@
--- Laws of `specs/RowLaws`.
+-- Blocks as sums of weighted blocks, and blocks in a row.
 use mathlib.Core.Path.{_≡_, refl, sym, ap, ap₂, _∙_}
 use mathlib.Core.List.{List, _++_, append-assoc}
 use Prim.Native.Nat.{ℕ, suc, _+_, _-_, _*_, _%_, _≤_, _<_}
@@ -10,9 +10,9 @@ use lib.ListN.{length, getD, take, drop}
 use lib.Seq.{getD-take, getD-drop, length-take-le, take-all, take-at}
 use borrow.Rule.Slice.PartMut.{putMid, postOf, same-len-mid}
 use lib.ListN.{length-append, length-drop}
-use Rattle.gf256.specs.Product.{plus, product, power}
+use Rattle.gf256.specs.Product.{plus, product, power, powerCount}
 use Rattle.interpolate.specs.Bytes.{Byte, byte, bytes}
-use Rattle.interpolate.proofs.Laws.ByteLaws.{byte-small}
+use Rattle.interpolate.proofs.Laws.ByteLaws.{byte-small, add-is, mul-is, bytes-are-a-field}
 use Rattle.interpolate.proofs.Laws.FirstPlaceLaws.{place-is, place-not}
 use Rattle.interpolate.specs.Workers.{firstPlace, scaled, numerator}
 use Rattle.byte_lists.specs.Lists.{tabulate, stacked}
@@ -25,14 +25,14 @@ use Rattle.poly.specs.Polynomial.{Different, sum, basis, interpolated}
 use Rattle.interpolate.specs.Workers.{PointsReady, weight}
 use Rattle.interpolate.specs.Values.{PointSet}
 
--- it is 2 to what the code sums up
+-- a weight is 2 to what the code sums up
 pub weight-by-logs : (logs points sums : List ℕ) (top x i : ℕ) → PointsReady logs points sums → ((k : ℕ) → getD points k 0 < 256) → x < 256
     → ((k : ℕ) → k < length points → getD points k 0 ≡ x → ⊥) → top ≡ numerator logs points x (length points) → i < length points
-    → weight points i x ≡ power ((top - getD logs (bitXor x (getD points i 0)) 0 + getD sums i 0) % 255)
+    → weight points i x ≡ power ((top - getD logs (bitXor x (getD points i 0)) 0 + getD sums i 0) % powerCount)
 unfolding weight plus
 weight-by-logs logs points sums top x i ready small hx nx et h =
     weight-is logs points (ready .logs-right) small x hx i (length points) h nx (λ j l n e. n (ready .set .differ j i l h e))
-    ∙ ap₂ (λ (a b : ℕ). power ((a - getD logs (plus x (getD points i 0)) 0 + b) % 255)) (sym et) (sym (ready .sums-right .entry i h))
+    ∙ ap₂ (λ (a b : ℕ). power ((a - getD logs (plus x (getD points i 0)) 0 + b) % powerCount)) (sym et) (sym (ready .sums-right .entry i h))
 
 -- the sum of the first k terms of a value
 unfoldable pub partial : List ℕ → ℕ → List ℕ → ℕ → ℕ → ℕ → ℕ
@@ -67,8 +67,15 @@ row-more points size blocks from out x k w small ef eo ew =
     ap₂ plus
     (ap (λ (l : List ℕ). getD l p 0) eo ∙ getD-tabulate size (partial points size blocks x k) p h)
     (ap₂ product (sym ew)
-    (ap (λ (l : List ℕ). getD l p 0) ef ∙ part-byte size blocks k p h ∙ sym (byte-small (byteAt size blocks k p) (small-at k p)))))
+    (ap (λ (l : List ℕ). getD l p 0) ef ∙ part-byte size blocks k p h ∙ sym (byte-small (byteAt size blocks k p) (small-at k p))))
+    ∙ sym (add-is (sum bytes k (term p)) (term p k) ∙ ap (plus (sum bytes k (term p) .0)) (mul-is (base k) (byte (byteAt size blocks k p)))))
   where
+    base : ℕ → Byte
+    base i = basis bytes (length points) (pointsOf points) i (byte x)
+
+    term : ℕ → ℕ → Byte
+    term p i = bytes .mul (base i) (byte (byteAt size blocks i p))
+
     small-at : (k p : ℕ) → byteAt size blocks k p < 256
     small-at k p = unfold byteAt in small (k * size + p)
 
@@ -106,7 +113,7 @@ row-copy points size blocks from x k sp sb d h e ef ns =
     (λ p u.
     ap (λ (l : List ℕ). getD l p 0) ef ∙ part-byte size blocks k p u ∙ sym (byte-small (byteAt size blocks k p) (small-at k p))
     ∙ ap (λ (b : Byte). b .0)
-    (sym (interpolated-at bytes (length points) (pointsOf points) (λ (i : ℕ). byte (byteAt size blocks i p)) k (different-points points (length points) sp d) h)
+    (sym (interpolated-at bytes bytes-are-a-field (length points) (pointsOf points) (λ (i : ℕ). byte (byteAt size blocks i p)) k (different-points points (length points) sp d) h)
     ∙ ap (λ (y : ℕ). interpolated bytes (length points) (pointsOf points) (λ (i : ℕ). byte (byteAt size blocks i p)) (byte y)) e))
   where
     small-at : (k p : ℕ) → byteAt size blocks k p < 256

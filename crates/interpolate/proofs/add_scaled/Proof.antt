@@ -58,9 +58,11 @@ add-multiples-requires c κs =
     let s = a .args .s in (
       a .pre .1 .1,
       (
-        doubles s (s + 1) _ _ (c .before .before .before .before .before .before .before .before .power-at .ensures) (c .before .before .before .before .before .before .before .power-at2 .ensures) (omega arith),
+        doubles s (s + 1) _ _ (c .before .before .before .before .before .before .before .before .power-at .ensures)
+            (c .before .before .before .before .before .before .before .power-at2 .ensures) (omega arith),
         (
-          doubles (s + 1) (s + 2) _ _ (c .before .before .before .before .before .before .before .power-at2 .ensures) (c .before .before .before .before .before .before .power-at3 .ensures) (omega arith),
+          doubles (s + 1) (s + 2) _ _ (c .before .before .before .before .before .before .before .power-at2 .ensures)
+              (c .before .before .before .before .before .before .power-at3 .ensures) (omega arith),
           (
             doubles (s + 2) (s + 3) _ _ (c .before .before .before .before .before .before .power-at3 .ensures) (c .before .before .before .before .before .power-at4 .ensures) (omega arith),
             (

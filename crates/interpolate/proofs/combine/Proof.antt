@@ -29,7 +29,8 @@ loop-holds c = (c .before .before .clear .ensures ∙ sym (zeros-are _) ∙ row-
 
 -- the next block is within the blocks
 within : (c : tie.In-loop Inv-loop μ-loop)
-    → c .before .loop .at + length (c .before .before .before .before .before .before .before .before .before .before .args .out .now) ≤ length (c .before .before .before .before .before .before .before .before .before .before .args .blocks .now)
+    → c .before .loop .at + length (c .before .before .before .before .before .before .before .before .before .before .args .out .now)
+    ≤ length (c .before .before .before .before .before .before .before .before .before .before .args .blocks .now)
 within c =
     let s = c .before .before .before .before .before .before .before .before .before .before in
     let h = mul-le-mul-right (length (s .args .out .now)) (c .loop-test .taken) in
@@ -71,7 +72,9 @@ loop-again c =
     let s = c .before .before .before .before .before .before .before .before .before .before .before .before .before .before .before .before in
     let l = c .before .before .before .before .before .before .before .loop in
     let size = length (s .args .out .now) in (
-      row-step (s .args .points .now) size (s .args .blocks .now) (l .out) _ (s .args .x) (l .j) (l .at) _ (λ k. c .before .before .before .before .before .before .before .before .before .before .before .before .before .before .shared-slice-known2 .given k .fits) (l .inv .1) (l .inv .0)
+      row-step (s .args .points .now) size (s .args .blocks .now) (l .out) _ (s .args .x) (l .j) (l .at) _
+          (λ k. c .before .before .before .before .before .before .before .before .before .before .before .before .before .before .shared-slice-known2 .given k .fits)
+          (l .inv .1) (l .inv .0)
           (c .before .before .before .before .before .weight-log .ensures .1) (c .before .before .add-scaled .ensures),
       omega (arith, l .inv .1),
       omega arith,

@@ -4,6 +4,7 @@ use lib.ListN.{length, getD}
 use mathlib.Core.Path.{_≡_, refl, _∙_}
 use Prim.Native.Nat.{_*_, _-_, _≤_}
 use mathlib.Core.Logic.{⊎-elim}
+use Rattle.gf256.specs.Product.{byteCount}
 use Rattle.interpolate.specs.Workers.{denominator}
 use Rattle.interpolate.proofs.Laws.LogarithmSumLaws.{denominator-more, denominator-skip, denominator-all}
 use Rattle.interpolate.proofs.denominator_of.Statement.{statement}
@@ -11,7 +12,7 @@ use Rattle.interpolate.proofs.denominator_of.Tie as tie
 
 abbrev Inv-loop : tie.InvT-loop
 Inv-loop logs points i b sum₀ k₀ sum k =
-    (sum ≡ denominator logs points i k) × (b ≡ getD points i 0) × (k ≤ length points) × (sum ≤ 256 * k)
+    (sum ≡ denominator logs points i k) × (b ≡ getD points i 0) × (k ≤ length points) × (sum ≤ byteCount * k)
 
 abbrev μ-loop : tie.MeasureT-loop
 μ-loop logs points i b sum₀ k₀ sum k = length points - k

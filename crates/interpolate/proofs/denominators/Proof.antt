@@ -3,13 +3,14 @@ use lib.ListN.{length}
 use mathlib.Core.Path.{_≡_, refl}
 use Prim.Native.Nat.{ℕ, _-_, _≤_}
 use Rattle.interpolate.specs.Workers.{denominator}
+use Rattle.settings.specs.Ranges.{maxBricks}
 use Rattle.byte_lists.proofs.Laws.TabulateLaws.{Filled, filled-none, filled-more}
 use Rattle.interpolate.proofs.denominators.Statement.{statement}
 use Rattle.interpolate.proofs.denominators.Tie as tie
 
 abbrev Inv-loop : tie.InvT-loop
 Inv-loop logs points sums₀ i₀ sums i =
-    Filled (λ (k : ℕ). denominator logs points k (length points)) sums₀ sums i × (i ≤ length points) × (length sums₀ ≡ 16)
+    Filled (λ (k : ℕ). denominator logs points k (length points)) sums₀ sums i × (i ≤ length points) × (length sums₀ ≡ maxBricks)
 
 abbrev μ-loop : tie.MeasureT-loop
 μ-loop logs points sums₀ i₀ sums i = length points - i

@@ -57,7 +57,11 @@ row-requires c κs =
     let size = part-length (s .args .size) (l .out) (l .at) (within (c .before .before .before .before)) in (
       c .before .before .before .before .before .before .before .before .before .powers .ensures,
       (
-        record { logs-right = c .before .before .before .before .before .before .before .before .logs .ensures; set = s .pre .0; sums-right = c .before .before .before .before .before .before .denominators .ensures },
+        record {
+          logs-right = c .before .before .before .before .before .before .before .before .logs .ensures;
+          set = s .pre .0;
+          sums-right = c .before .before .before .before .before .before .denominators .ensures;
+        },
         s .pre .1 .0 ∙ ap (λ (k : ℕ). length (s .args .points .now) * k) (sym size),
       ),
     )
@@ -84,7 +88,9 @@ same-length c = c .before .loop .inv .0 .size-kept
 
 returns : tie.Need-returns Inv-loop μ-loop
 unfolding blocksAt
-returns c = let s = c .before .before .before .before .before .before .before .before .before in stacked-all _ _ _ _ _ _ _ (c .before .loop .inv .0) (c .loop-test .left) (c .before .loop .inv .1) (s .pre .1 .1 .0)
+returns c =
+    let s = c .before .before .before .before .before .before .before .before .before in
+    stacked-all _ _ _ _ _ _ _ (c .before .loop .inv .0) (c .loop-test .left) (c .before .loop .inv .1) (s .pre .1 .1 .0)
 
 pub interpolate-spec : {M : Type 1} → statement M
 interpolate-spec =

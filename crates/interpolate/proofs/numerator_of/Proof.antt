@@ -3,13 +3,14 @@ use native.Mathlib.Omega.{arith}
 use lib.ListN.{length}
 use mathlib.Core.Path.{_≡_, refl}
 use Prim.Native.Nat.{_*_, _-_, _≤_}
+use Rattle.gf256.specs.Product.{byteCount}
 use Rattle.interpolate.specs.Workers.{numerator}
 use Rattle.interpolate.proofs.Laws.LogarithmSumLaws.{numerator-more, numerator-all}
 use Rattle.interpolate.proofs.numerator_of.Statement.{statement}
 use Rattle.interpolate.proofs.numerator_of.Tie as tie
 
 abbrev Inv-loop : tie.InvT-loop
-Inv-loop logs points x sum₀ i₀ sum i = (sum ≡ numerator logs points x i) × (i ≤ length points) × (sum ≤ 256 * i)
+Inv-loop logs points x sum₀ i₀ sum i = (sum ≡ numerator logs points x i) × (i ≤ length points) × (sum ≤ byteCount * i)
 
 abbrev μ-loop : tie.MeasureT-loop
 μ-loop logs points x sum₀ i₀ sum i = length points - i

@@ -12,7 +12,9 @@ position-requires c κs = search needs
 
 -- the point's own block is within the blocks
 within : (c : tie.Then1)
-    → c .before .position .result * length (c .before .before .before .before .before .args .out .now) + length (c .before .before .before .before .before .args .out .now) ≤ length (c .before .before .before .before .before .args .blocks .now)
+    → c .before .position .result * length (c .before .before .before .before .before .args .out .now)
+    + length (c .before .before .before .before .before .args .out .now)
+    ≤ length (c .before .before .before .before .before .args .blocks .now)
 within c =
     let s = c .before .before .before .before .before in
     let size = length (s .args .out .now) in
@@ -45,7 +47,8 @@ returns c =
     let s = c .before .before .before .before .before .before .before .before .before .before in
     let f = c .before .before .before .before .before in
     row-found (s .args .points .now) (length (s .args .out .now)) (s .args .blocks .now) _ (s .args .x) (f .before .position .result)
-    (λ k. c .before .before .before .before .before .before .before .before .before .shared-slice-known .given k .fits) (λ k. c .before .before .before .before .before .before .before .before .shared-slice-known2 .given k .fits) (s .pre .1 .0 .set)
+    (λ k. c .before .before .before .before .before .before .before .before .before .shared-slice-known .given k .fits)
+    (λ k. c .before .before .before .before .before .before .before .before .shared-slice-known2 .given k .fits) (s .pre .1 .0 .set)
     (f .before .position .ensures) (f .if1 .taken) (s .pre .1 .1) (c .before .before .copy .ensures)
 
 combine-requires : tie.Need-combine-requires

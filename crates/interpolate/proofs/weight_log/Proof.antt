@@ -3,7 +3,7 @@ use Prim.Native.Nat.{ℕ, _+_, _-_, _%_}
 use native.Mathlib.Nat.{mod-lt}
 use native.Mathlib.Omega.{arith}
 use lib.ListN.{length, getD}
-use Rattle.gf256.specs.Product.{plus, power}
+use Rattle.gf256.specs.Product.{plus, power, powerCount}
 use Rattle.interpolate.proofs.Laws.WeightRowLaws.{weight-by-logs}
 use Rattle.interpolate.proofs.Laws.LogarithmSumLaws.{numerator-has, denominator-high}
 use borrow.Author.Needs.{needs}
@@ -42,7 +42,7 @@ returns c =
       mod-lt _ (omega arith),
       weight-by-logs (s .args .logs .now) (s .args .points .now) (s .args .sums .now) (s .args .top) (s .args .x) (s .args .i) (s .pre .0)
           (λ k. c .before .before .before .shared-slice-known .given k .fits) (s .fits .x .fits) (s .pre .1 .0) (s .pre .1 .1 .0) (s .pre .1 .1 .1 .0)
-          ∙ ap (λ (l : ℕ). power ((s .args .top - l + getD (s .args .sums .now) (s .args .i) 0) % 255)) (sym (c .before .log-of .ensures .0)),
+          ∙ ap (λ (l : ℕ). power ((s .args .top - l + getD (s .args .sums .now) (s .args .i) 0) % powerCount)) (sym (c .before .log-of .ensures .0)),
     )
 
 pub weight-log-spec : {M : Type 1} → statement M

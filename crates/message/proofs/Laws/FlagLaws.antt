@@ -11,6 +11,7 @@ use lib.ListN.{getD}
 use borrow.Author.Tests.{eq-eqb, ne-eqb, le-leb, lt-leb}
 use Rattle.message.specs.Flags.{member, members, flagsWithin, brickSet}
 use Rattle.settings.specs.Count.{count, one-if}
+use Rattle.settings.specs.Ranges.{maxBricks}
 
 pub members-yes : (flags : List ℕ) (i s : ℕ) → s ≡ members flags i → getD flags i 0 ≡ 1 → s + 1 ≡ members flags (i + 1)
 unfolding members count member
@@ -33,13 +34,13 @@ unfolding flagsWithin
 spoilt flags n i zero h = rw (add-zero (suc i), lt-leb (getD flags i 0) (one-if (ltb i n)) h) (and-false (flagsWithin flags n i))
 spoilt flags n i (suc k) h = rw (add-suc (suc i) k, spoilt flags n i k h)
 
-pub within-not : (flags : List ℕ) (n i : ℕ) → i < 16 → one-if (ltb i n) < getD flags i 0 → false ≡ flagsWithin flags n 16
-within-not flags n i l h = sym (ap (flagsWithin flags n) (let e : 16 ≡ suc i + (15 - i) = omega arith in e) ∙ spoilt flags n i (15 - i) h)
+pub within-not : (flags : List ℕ) (n i : ℕ) → i < maxBricks → one-if (ltb i n) < getD flags i 0 → false ≡ flagsWithin flags n maxBricks
+within-not flags n i l h = sym (ap (flagsWithin flags n) (let e : maxBricks ≡ suc i + (maxBricks - suc i) = omega arith in e) ∙ spoilt flags n i (maxBricks - suc i) h)
 
-pub brick-set-is : (flags : List ℕ) (n m : ℕ) (w : Bool) (s : ℕ) → w ≡ flagsWithin flags n 16 → w ≡ true → s ≡ members flags n → eqb s m ≡ brickSet flags n m
+pub brick-set-is : (flags : List ℕ) (n m : ℕ) (w : Bool) (s : ℕ) → w ≡ flagsWithin flags n maxBricks → w ≡ true → s ≡ members flags n → eqb s m ≡ brickSet flags n m
 unfolding brickSet
 brick-set-is flags n m w s e t f = rw (← e, t, f)
 
-pub brick-set-not : (flags : List ℕ) (n m : ℕ) (w : Bool) → w ≡ flagsWithin flags n 16 → w ≡ false → false ≡ brickSet flags n m
+pub brick-set-not : (flags : List ℕ) (n m : ℕ) (w : Bool) → w ≡ flagsWithin flags n maxBricks → w ≡ false → false ≡ brickSet flags n m
 unfolding brickSet
 brick-set-not flags n m w e t = rw (← e, t)

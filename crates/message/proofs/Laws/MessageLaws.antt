@@ -8,69 +8,70 @@ use borrow.Author.Tests.{lt-ltb, le-ltb, le-leb, lt-leb, eq-eqb, ne-eqb}
 use Rattle.message.specs.Messages.{roundRight, kindRight, messageRefusal, foundRight, replyRight, replyRefusal}
 use Rattle.message.specs.declared.Message.{Message}
 use Rattle.message.specs.declared.Reply.{Reply}
-use Rattle.settings.specs.Refusal.{firstRefusal, refuseUnless}
+use Rattle.settings.specs.Refusal.{passed, badNumber, badMessage, firstRefusal, refuseUnless}
+use Rattle.message.specs.Kinds.{readKind, writeKind}
 use Rattle.settings.specs.Times.{validTime}
 
 -- a reply of a known kind: its time, round and found time are left
-pub reply-rest : (r : Reply) → 1 ≤ r .kind → r .kind ≤ 4 → replyRight r ≡ validTime (r .time) && roundRight (r .round) && foundRight (r .found)
+pub reply-rest : (r : Reply) → readKind ≤ r .kind → r .kind ≤ writeKind → replyRight r ≡ validTime (r .time) && roundRight (r .round) && foundRight (r .found)
 unfolding replyRight
-reply-rest r a b = rw (le-leb 1 (r .kind) a, le-leb (r .kind) 4 b)
+reply-rest r a b = rw (le-leb readKind (r .kind) a, le-leb (r .kind) writeKind b)
 
-pub reply-brick : (n : ℕ) (r : Reply) → n ≤ r .brick → 3 ≡ replyRefusal n r
+pub reply-brick : (n : ℕ) (r : Reply) → n ≤ r .brick → badNumber ≡ replyRefusal n r
 unfolding replyRefusal firstRefusal
 reply-brick n r h = rw (le-ltb (r .brick) n h)
 
-pub reply-is : (n : ℕ) (r : Reply) (v : ℕ) → r .brick < n → v ≡ refuseUnless (replyRight r) 10 → v ≡ replyRefusal n r
+pub reply-is : (n : ℕ) (r : Reply) (v : ℕ) → r .brick < n → v ≡ refuseUnless (replyRight r) badMessage → v ≡ replyRefusal n r
 unfolding replyRefusal firstRefusal
 reply-is n r v h e = rw (lt-ltb (r .brick) n h) (e ∙ go (replyRight r))
   where
-    go : (b : Bool) → refuseUnless b 10 ≡ firstRefusal (refuseUnless b 10 ∷ [])
+    go : (b : Bool) → refuseUnless b badMessage ≡ firstRefusal (refuseUnless b badMessage ∷ [])
     go true = refl
     go false = refl
 
-pub reply-passed : (n : ℕ) (r : Reply) (v : Bool) → r .brick < n → v ≡ replyRight r → v ≡ true → 0 ≡ replyRefusal n r
-reply-passed n r v h e t = reply-is n r 0 h (rw (← e, t))
+pub reply-passed : (n : ℕ) (r : Reply) (v : Bool) → r .brick < n → v ≡ replyRight r → v ≡ true → passed ≡ replyRefusal n r
+reply-passed n r v h e t = reply-is n r passed h (rw (← e, t))
 
-pub reply-bad : (n : ℕ) (r : Reply) (v : Bool) → r .brick < n → v ≡ replyRight r → v ≡ false → 10 ≡ replyRefusal n r
-reply-bad n r v h e t = reply-is n r 10 h (rw (← e, t))
+pub reply-bad : (n : ℕ) (r : Reply) (v : Bool) → r .brick < n → v ≡ replyRight r → v ≡ false → badMessage ≡ replyRefusal n r
+reply-bad n r v h e t = reply-is n r badMessage h (rw (← e, t))
 
 -- A message's three rules; a, b and c are what the tests gave.
 pub message-passed : (n m : ℕ) (msg : Message) (a b c : Bool) → a ≡ validTime (msg .time) → a ≡ true → b ≡ roundRight (msg .round) → b ≡ true
-    → c ≡ kindRight n m msg → c ≡ true → 0 ≡ messageRefusal n m msg
+    → c ≡ kindRight n m msg → c ≡ true → passed ≡ messageRefusal n m msg
 unfolding messageRefusal
 message-passed n m msg a b c ea ta eb tb ec tc = rw (← ea, ← eb, ← ec, ta, tb, tc)
 
 pub message-kind : (n m : ℕ) (msg : Message) (a b c : Bool) → a ≡ validTime (msg .time) → a ≡ true → b ≡ roundRight (msg .round) → b ≡ true
-    → c ≡ kindRight n m msg → c ≡ false → 10 ≡ messageRefusal n m msg
+    → c ≡ kindRight n m msg → c ≡ false → badMessage ≡ messageRefusal n m msg
 unfolding messageRefusal
 message-kind n m msg a b c ea ta eb tb ec tc = rw (← ea, ← eb, ← ec, ta, tb, tc)
 
 pub message-round : (n m : ℕ) (msg : Message) (a b : Bool) → a ≡ validTime (msg .time) → a ≡ true → b ≡ roundRight (msg .round) → b ≡ false
-    → 10 ≡ messageRefusal n m msg
+    → badMessage ≡ messageRefusal n m msg
 unfolding messageRefusal
 message-round n m msg a b ea ta eb tb = rw (← ea, ← eb, ta, tb)
 
-pub message-time : (n m : ℕ) (msg : Message) (a : Bool) → a ≡ validTime (msg .time) → a ≡ false → 10 ≡ messageRefusal n m msg
+pub message-time : (n m : ℕ) (msg : Message) (a : Bool) → a ≡ validTime (msg .time) → a ≡ false → badMessage ≡ messageRefusal n m msg
 unfolding messageRefusal
 message-time n m msg a ea ta = rw (← ea, ta)
 
 -- A reply's rules likewise.
-pub reply-low : (r : Reply) → r .kind < 1 → false ≡ replyRight r
+pub reply-low : (r : Reply) → r .kind < readKind → false ≡ replyRight r
 unfolding replyRight
-reply-low r h = rw (lt-leb 1 (r .kind) h)
+reply-low r h = rw (lt-leb readKind (r .kind) h)
 
-pub reply-high : (r : Reply) → 1 ≤ r .kind → 4 < r .kind → false ≡ replyRight r
+pub reply-high : (r : Reply) → readKind ≤ r .kind → writeKind < r .kind → false ≡ replyRight r
 unfolding replyRight
-reply-high r a h = rw (le-leb 1 (r .kind) a, lt-leb (r .kind) 4 h)
+reply-high r a h = rw (le-leb readKind (r .kind) a, lt-leb (r .kind) writeKind h)
 
-pub reply-time : (r : Reply) (a : Bool) → 1 ≤ r .kind → r .kind ≤ 4 → a ≡ validTime (r .time) → a ≡ false → false ≡ replyRight r
+pub reply-time : (r : Reply) (a : Bool) → readKind ≤ r .kind → r .kind ≤ writeKind → a ≡ validTime (r .time) → a ≡ false → false ≡ replyRight r
 reply-time r a l h ea ta = sym (reply-rest r l h ∙ rw (← ea, ta))
 
-pub reply-round : (r : Reply) (a b : Bool) → 1 ≤ r .kind → r .kind ≤ 4 → a ≡ validTime (r .time) → a ≡ true → b ≡ roundRight (r .round) → b ≡ false
+pub reply-round : (r : Reply) (a b : Bool) → readKind ≤ r .kind → r .kind ≤ writeKind → a ≡ validTime (r .time) → a ≡ true → b ≡ roundRight (r .round) → b ≡ false
     → false ≡ replyRight r
 reply-round r a b l h ea ta eb tb = sym (reply-rest r l h ∙ rw (← ea, ← eb, ta, tb))
 
-pub reply-found : (r : Reply) (a b v : Bool) → 1 ≤ r .kind → r .kind ≤ 4 → a ≡ validTime (r .time) → a ≡ true → b ≡ roundRight (r .round) → b ≡ true
+pub reply-found : (r : Reply) (a b v : Bool) → readKind ≤ r .kind → r .kind ≤ writeKind → a ≡ validTime (r .time) → a ≡ true → b ≡ roundRight (r .round) → b ≡ true
     → v ≡ foundRight (r .found) → v ≡ replyRight r
 reply-found r a b v l h ea ta eb tb e = e ∙ sym (reply-rest r l h ∙ rw (← ea, ← eb, ta, tb))
 

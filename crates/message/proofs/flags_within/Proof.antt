@@ -1,3 +1,4 @@
+use Rattle.settings.specs.Ranges.{maxBricks}
 use borrow.Author.Needs.{needs}
 use native.Mathlib.Omega.{arith}
 use mathlib.Core.Path.{_≡_, refl, sym, ap, _∙_}
@@ -9,10 +10,10 @@ use Rattle.message.proofs.flags_within.Statement.{statement}
 use Rattle.message.proofs.flags_within.Tie as tie
 
 abbrev Inv-loop : tie.InvT-loop
-Inv-loop n flags i₀ i = (flagsWithin flags n i ≡ true) × (i ≤ 16)
+Inv-loop n flags i₀ i = (flagsWithin flags n i ≡ true) × (i ≤ maxBricks)
 
 abbrev μ-loop : tie.MeasureT-loop
-μ-loop n flags i₀ i = 16 - i
+μ-loop n flags i₀ i = maxBricks - i
 
 loop-holds : tie.Need-loop-holds Inv-loop μ-loop
 unfolding flagsWithin

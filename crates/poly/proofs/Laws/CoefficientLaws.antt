@@ -5,13 +5,12 @@ use mathlib.Core.List.{List, [], _∷_}
 use Prim.Native.Nat.{ℕ, suc, _<_, max}
 use native.Mathlib.Omega.{arith}
 use lib.ListN.{length, replicate}
-use Rattle.poly.specs.Field.{Field}
+use Rattle.poly.specs.Field.{Field, IsField}
 use Rattle.poly.specs.Polynomial.{sub, eval, sum}
 use Rattle.poly.proofs.Laws.RingLaws.{mul-left-comm, mul-zero, zero-add, neg-one-mul, distrib-right}
 
 module _ (F : Field) where
   open Field F using (carrier, zero, one, add, mul, neg)
-  open Field F using (add-assoc, add-comm, add-zero, distrib)
 
   -- p + q, coefficient by coefficient; the longer one gives the rest.
   unfoldable pub plus : List carrier → List carrier → List carrier
@@ -36,42 +35,6 @@ module _ (F : Field) where
   unfoldable pub sumOf : ℕ → ℕ → (ℕ → List carrier) → List carrier
   sumOf m ℕ.zero f = replicate m zero
   sumOf m (suc k) f = plus (sumOf m k f) (f k)
-
-  -- (p + q)(x) = p(x) + q(x).
-  pub eval-plus : (p q : List carrier) (x : carrier) → eval F (plus p q) x ≡ add (eval F p x) (eval F q x)
-  unfolding eval plus
-  eval-plus [] q x = sym (zero-add F (eval F q x))
-  eval-plus (a ∷ p) [] x = sym (add-zero _)
-  eval-plus (a ∷ p) (b ∷ q) x = ap (λ v. add (add a b) (mul x v)) (eval-plus p q x) ∙ simp (distrib, add-assoc, add-comm)
-
-  -- (k · p)(x) = k · p(x).
-  pub eval-scale : (k : carrier) (p : List carrier) (x : carrier) → eval F (scale k p) x ≡ mul k (eval F p x)
-  unfolding eval scale
-  eval-scale k [] x = sym (mul-zero F k)
-  eval-scale k (a ∷ p) x = ap (λ v. add (mul k a) (mul x v)) (eval-scale k p x) ∙ simp (distrib, mul-left-comm F)
-
-  -- (p − q)(x) = p(x) − q(x).
-  pub eval-minus : (p q : List carrier) (x : carrier) → eval F (minus p q) x ≡ sub F (eval F p x) (eval F q x)
-  unfolding minus sub
-  eval-minus p q x = eval-plus p (scale (neg one) q) x ∙ rw (eval-scale, neg-one-mul F)
-
-  -- The value of (x − b) · p at x.
-  pub eval-timesRoot : (b : carrier) (p : List carrier) (x : carrier) → eval F (timesRoot b p) x ≡ mul (sub F x b) (eval F p x)
-  unfolding timesRoot sub eval
-  eval-timesRoot b p x =
-      eval-plus (scale (neg b) p) (zero ∷ p) x ∙ rw (eval-scale (neg b) p x, zero-add F (mul x (eval F p x)), distrib-right F) (add-comm _ _)
-
-  -- Zeros have the value zero.
-  pub eval-zeros : (n : ℕ) (x : carrier) → eval F (replicate n zero) x ≡ zero
-  unfolding eval
-  eval-zeros ℕ.zero x = refl
-  eval-zeros (suc n) x = rw (eval-zeros n x, mul-zero F x) (add-zero zero)
-
-  -- The value of a sum of polynomials is the sum of their values.
-  pub eval-sumOf : (m k : ℕ) (f : ℕ → List carrier) (x : carrier) → eval F (sumOf m k f) x ≡ sum F k (λ i. eval F (f i) x)
-  unfolding sumOf sum
-  eval-sumOf m ℕ.zero f x = eval-zeros m x
-  eval-sumOf m (suc k) f x = eval-plus (sumOf m k f) (f k) x ∙ ap (λ v. add v (eval F (f k) x)) (eval-sumOf m k f x)
 
   -- A sum is as long as the longer of the two.
   pub length-plus : (p q : List carrier) → length (plus p q) ≡ max (length p) (length q)
@@ -102,3 +65,43 @@ module _ (F : Field) where
   length-sumOf m ℕ.zero f e = lib.ListN.length-replicate m zero
   length-sumOf m (suc k) f e =
       omega (arith, length-plus (sumOf m k f) (f k), length-sumOf m k f (λ i h. e i (omega arith)), e k (omega arith))
+
+module _ (F : Field) (L : IsField F) where
+  open Field F using (carrier, zero, one, add, mul, neg)
+  open IsField L using (add-assoc, add-comm, add-zero, distrib)
+
+  -- (p + q)(x) = p(x) + q(x).
+  pub eval-plus : (p q : List carrier) (x : carrier) → eval F (plus F p q) x ≡ add (eval F p x) (eval F q x)
+  unfolding eval plus
+  eval-plus [] q x = sym (zero-add F L (eval F q x))
+  eval-plus (a ∷ p) [] x = sym (add-zero _)
+  eval-plus (a ∷ p) (b ∷ q) x = ap (λ v. add (add a b) (mul x v)) (eval-plus p q x) ∙ simp (distrib, add-assoc, add-comm)
+
+  -- (k · p)(x) = k · p(x).
+  pub eval-scale : (k : carrier) (p : List carrier) (x : carrier) → eval F (scale F k p) x ≡ mul k (eval F p x)
+  unfolding eval scale
+  eval-scale k [] x = sym (mul-zero F L k)
+  eval-scale k (a ∷ p) x = ap (λ v. add (mul k a) (mul x v)) (eval-scale k p x) ∙ simp (distrib, mul-left-comm F L)
+
+  -- (p − q)(x) = p(x) − q(x).
+  pub eval-minus : (p q : List carrier) (x : carrier) → eval F (minus F p q) x ≡ sub F (eval F p x) (eval F q x)
+  unfolding minus sub
+  eval-minus p q x = eval-plus p (scale F (neg one) q) x ∙ rw (eval-scale, neg-one-mul F L)
+
+  -- The value of (x − b) · p at x.
+  pub eval-timesRoot : (b : carrier) (p : List carrier) (x : carrier) → eval F (timesRoot F b p) x ≡ mul (sub F x b) (eval F p x)
+  unfolding timesRoot sub eval
+  eval-timesRoot b p x =
+      eval-plus (scale F (neg b) p) (zero ∷ p) x ∙ rw (eval-scale (neg b) p x, zero-add F L (mul x (eval F p x)), distrib-right F L) (add-comm _ _)
+
+  -- Zeros have the value zero.
+  pub eval-zeros : (n : ℕ) (x : carrier) → eval F (replicate n zero) x ≡ zero
+  unfolding eval
+  eval-zeros ℕ.zero x = refl
+  eval-zeros (suc n) x = rw (eval-zeros n x, mul-zero F L x) (add-zero zero)
+
+  -- The value of a sum of polynomials is the sum of their values.
+  pub eval-sumOf : (m k : ℕ) (f : ℕ → List carrier) (x : carrier) → eval F (sumOf F m k f) x ≡ sum F k (λ i. eval F (f i) x)
+  unfolding sumOf sum
+  eval-sumOf m ℕ.zero f x = eval-zeros m x
+  eval-sumOf m (suc k) f x = eval-plus (sumOf F m k f) (f k) x ∙ ap (λ v. add v (eval F (f k) x)) (eval-sumOf m k f x)

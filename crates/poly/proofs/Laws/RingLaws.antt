@@ -1,12 +1,12 @@
 -- What follows from the laws of a field for sums, products, differences and quotients.
 -- Assumes nothing.
 use mathlib.Core.Path.{_≡_, sym, ap, _∙_}
-use Rattle.poly.specs.Field.{Field}
+use Rattle.poly.specs.Field.{Field, IsField}
 use Rattle.poly.specs.Polynomial.{sub}
 
-module _ (F : Field) where
+module _ (F : Field) (L : IsField F) where
   open Field F using (carrier, zero, one, add, mul, neg, inv)
-  open Field F using (add-assoc, add-comm, add-zero, add-neg, mul-assoc, mul-comm, mul-one, distrib, mul-inv)
+  open IsField L using (add-assoc, add-comm, add-zero, add-neg, mul-assoc, mul-comm, mul-one, distrib, mul-inv)
 
   -- With the laws of Field, this and the next let `simp` sort sums and products: a + (b + c) = b + (a + c).
   pub add-left-comm : (a b c : carrier) → add a (add b c) ≡ add b (add a c)

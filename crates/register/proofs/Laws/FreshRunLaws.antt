@@ -17,7 +17,7 @@ use Rattle.image.specs.Brick.{LogEntry, savedTime}
 use Rattle.image.specs.Brick.{Sound}
 use Rattle.erasure.specs.Code.{codedOf}
 use Rattle.erasure.specs.Code.{blockOf, Stripe}
-use Rattle.erasure.proofs.Laws.MoreTheorems.{coded-of-zeros}
+use Rattle.erasure.proofs.Laws.CodeTheoremLaws.{coded-of-zeros}
 use Rattle.coord_record.specs.Records.{noOp, idleWith}
 use Rattle.coord_laws.proofs.Laws.SoundnessLaws.{none-sized}
 use Rattle.order.specs.Claim.{Plain, _∈_}
@@ -60,7 +60,7 @@ zero-block s g b l =
     (getD-take (s .size) (drop (b * s .size) (replicate (s .n * s .size) 0)) i 0 (omega arith)
     ∙ getD-drop (b * s .size) (replicate (s .n * s .size) 0) i 0 ∙ none (s .n * s .size) (b * s .size + i)))
     ∙ ap (λ (z : List ℕ). take (s .size) (drop (b * s .size) z))
-    (sym (coded-of-zeros (s .n) (s .m) (s .size) (let a = g .code .m-high in let b = g .code .n-high in omega arith) (g .code .size-low)))
+    (sym (coded-of-zeros (s .n) (s .m) (s .size) (g .code .size-low)))
   where
     long : length {A = ℕ} (take (s .size) (drop (b * s .size) (replicate (s .n * s .size) 0))) ≡ s .size
     long =

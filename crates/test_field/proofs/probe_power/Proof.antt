@@ -1,3 +1,4 @@
+use Rattle.gf256.specs.Product.{powerCount}
 use borrow.Author.Tests.{lt-ltb, le-ltb}
 use Rattle.test_field.specs.FieldBoundary.{powerOrZero}
 use borrow.Author.Needs.{needs}
@@ -12,7 +13,7 @@ array-read-result c = search needs
 
 returns : tie.Need-returns
 unfolding powerOrZero
-returns c = rw (lt-ltb (c .before .before .args .k) 255 (c .if1 .taken)) (c .before .powers .ensures .entry (c .before .before .args .k) (c .if1 .taken))
+returns c = rw (lt-ltb (c .before .before .args .k) powerCount (c .if1 .taken)) (c .before .powers .ensures .entry (c .before .before .args .k) (c .if1 .taken))
 
 returns-2 : tie.Need-returns-2
 unfolding powerOrZero

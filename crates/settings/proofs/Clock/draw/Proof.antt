@@ -3,8 +3,7 @@ use mathlib.Core.Path.{_≡_}
 use mathlib.Core.Logic.{⊎-elim}
 use Prim.Native.Nat.{_≤_}
 use native.Mathlib.Omega.{arith}
-use Rattle.settings.specs.Times.{nextCount, timeOf}
-use Rattle.settings.specs.Times.{Draws}
+use Rattle.settings.specs.Times.{maxCount, nextCount, timeOf, Draws}
 use Rattle.settings.proofs.Laws.TimeLaws.{draw-passed, draw-refused, draw-given}
 use Rattle.settings.proofs.Clock.draw.Statement.{statement}
 use Rattle.settings.proofs.Clock.draw.Tie as tie
@@ -19,20 +18,23 @@ passed : (c : tie.Else1) → Draws (c .before .before .args .self) (c .before .b
 passed c = search (needs, draw-passed)
 
 add-least : tie.Need-add-least
+unfolding maxCount
 add-least c = omega (arith, passed (c .before))
 
 counted : (c : tie.Joined2) → c .if2 .count ≡ nextCount (c .before .before .before .before .args .self .last) (c .before .before .before .before .args .reading)
 unfolding nextCount
 counted c = ⊎-elim (λ w. omega arith) (λ w. omega arith) (c .if2 .came)
 
-small : (c : tie.Joined2) → c .if2 .count ≤ 1099511627775
-unfolding nextCount
+small : (c : tie.Joined2) → c .if2 .count ≤ maxCount
+unfolding nextCount maxCount
 small c = omega (arith, counted c, passed (c .before .before))
 
 mul-t8 : tie.Need-mul-t8
+unfolding maxCount
 mul-t8 c = omega (arith, small (c .before))
 
 add-t9 : tie.Need-add-t9
+unfolding maxCount
 add-t9 c = omega (arith, small (c .before .before), passed (c .before .before .before .before))
 
 returns-2 : tie.Need-returns-2

@@ -1,4 +1,4 @@
--- Laws of `specs/Theorems`.
+-- The bytes of coded and of decoded blocks, as values of polynomials.
 use mathlib.Core.Path.{_≡_, sym, ap, subst, _∙_}
 use mathlib.Core.List.{List}
 use Prim.Native.Nat.{ℕ, _+_, _*_, _≤_, _<_}
@@ -7,24 +7,25 @@ use native.Mathlib.Nat.{mul-le-mul-right, suc-mul}
 use native.Mathlib.Omega.{arith}
 use lib.ListN.{length, getD, drop, length-drop, List·getD-eq-default}
 use lib.Seq.{length-take-le}
-use Rattle.erasure.specs.Code.{firstPoints, codedOf, decodedOf}
+use Rattle.erasure.specs.Code.{firstPoints, codedOf}
 use Rattle.erasure.proofs.Laws.PassedLaws.{length-first}
-use Rattle.interpolate.proofs.Laws.BlockLaws.{byte-stacked, length-blocksAt, blocks-byte, blocks-by, value-byte}
-use Rattle.interpolate.specs.Bytes.{Byte, byte, bytes, same}
-use Rattle.interpolate.proofs.Laws.ByteLaws.{byte-small}
+use Rattle.interpolate.proofs.Laws.BlockLaws.{byte-stacked, length-blocksAt, blocks-byte, value-byte}
+use Rattle.interpolate.specs.Bytes.{Byte, byte, bytes}
+use Rattle.interpolate.proofs.Laws.ByteLaws.{same-byte, byte-small, bytes-are-a-field}
 use Rattle.interpolate.proofs.Laws.WeightRowLaws.{different-points, part-byte}
 use Rattle.byte_lists.proofs.Laws.TabulateLaws.{getD-tabulate}
 use Rattle.interpolate.specs.Values.{byteAt, valueAt}
 use Rattle.interpolate.specs.Workers.{pointsOf}
 use Rattle.poly.proofs.Laws.InterpolationLaws.{recovered}
 use Rattle.poly.specs.Polynomial.{interpolated}
+use Rattle.settings.specs.Ranges.{maxBricks}
 use Rattle.erasure.specs.Code.{blockOf, blocksOf, Stripe, Bricks}
 
 pub first-at : (m i : ℕ) → i < m → getD (firstPoints m) i 0 ≡ i
 unfolding firstPoints
 first-at m i h = getD-tabulate m (λ (i : ℕ). i) i h
 
-pub first-small : (m : ℕ) → m ≤ 16 → (k : ℕ) → getD (firstPoints m) k 0 < 256
+pub first-small : (m : ℕ) → m ≤ maxBricks → (k : ℕ) → getD (firstPoints m) k 0 < 256
 first-small m few k = by (decLt k m)
   where
     by : Dec (k < m) → getD (firstPoints m) k 0 < 256
@@ -74,7 +75,7 @@ module _ (n m size : ℕ) (stripe bricks : List ℕ) (s : Stripe m size stripe) 
       ∙ part-byte size (codedOf n m size stripe) (getD bricks i 0) p hp
       ∙ coded-byte n m size stripe (getD bricks i 0) p (b .below i hi) hp
 
-  m-few : m ≤ 16
+  m-few : m ≤ maxBricks
   m-few = let c = b .count in let f = b .set .few in omega arith
 
   brick-small : (k : ℕ) → getD bricks k 0 < 256
@@ -88,11 +89,12 @@ module _ (n m size : ℕ) (stripe bricks : List ℕ) (s : Stripe m size stripe) 
       → byte (byteAt size (blocksOf size (codedOf n m size stripe) bricks) i p)
       ≡ interpolated bytes m (pointsOf (firstPoints m)) (λ (i : ℕ). byte (byteAt size stripe i p)) (pointsOf bricks i)
   on-polynomial p hp i hi =
-      same
+      same-byte
       (byte-small _ (subst (λ (v : ℕ). v < 256) (sym (handed-byte i p hi hp)) (value-byte (firstPoints m) size stripe (getD bricks i 0) p))
       ∙ handed-byte i p hi hp ∙ value-is (firstPoints m) m size stripe (getD bricks i 0) p (length-first m))
 
-  decoded-byte : (x p : ℕ) → x < m → p < size
+  -- "Decoding from m different bricks gives the data back": each byte of it
+  pub decoded-byte : (x p : ℕ) → x < m → p < size
       → byteAt size stripe x p ≡ valueAt bricks size (blocksOf size (codedOf n m size stripe) bricks) x p
   decoded-byte x p hx hp =
       sym
@@ -100,7 +102,7 @@ module _ (n m size : ℕ) (stripe bricks : List ℕ) (s : Stripe m size stripe) 
       ∙ ap (λ (y : Byte). interpolated bytes m (pointsOf bricks) (λ (i : ℕ). byte (byteAt size (blocksOf size (codedOf n m size stripe) bricks) i p)) y .0)
       (sym (ap byte (first-at m x hx)))
       ∙ ap (λ (y : Byte). y .0)
-      (recovered bytes m (pointsOf (firstPoints m)) (λ (i : ℕ). byte (byteAt size stripe i p)) (pointsOf bricks)
+      (recovered bytes bytes-are-a-field m (pointsOf (firstPoints m)) (λ (i : ℕ). byte (byteAt size stripe i p)) (pointsOf bricks)
       (λ (i : ℕ). byte (byteAt size (blocksOf size (codedOf n m size stripe) bricks) i p))
       (different-points (firstPoints m) m (first-small m m-few) (first-differ m)) (different-points bricks m brick-small brick-differ)
       (on-polynomial p hp) x hx)
@@ -108,9 +110,3 @@ module _ (n m size : ℕ) (stripe bricks : List ℕ) (s : Stripe m size stripe) 
     where
       small-at : (x p : ℕ) → byteAt size stripe x p < 256
       small-at x p = unfold byteAt in s .small (x * size + p)
-
-  -- "Decoding from m different bricks gives the data back": any m blocks of one coded stripe decode to its m data blocks.
-  pub decode-encode : decodedOf m size bricks (blocksOf size (codedOf n m size stripe) bricks) ≡ stripe
-  unfolding decodedOf
-  decode-encode =
-      sym (blocks-by bricks size (blocksOf size (codedOf n m size stripe) bricks) stripe m (s .pos) (s .length-is) decoded-byte)

@@ -1,0 +1,29 @@
+-- Document 01: "multiplication is shift and add, reduced. .. Products go by a table of 255 powers of 2 and a table of logarithms, whose
+-- rules are proved over the whole tables." Proved in `proofs/Laws/TableTheoremLaws`.
+use mathlib.Core.Path.{_≡_}
+use mathlib.Core.Bool.{true}
+use mathlib.Core.List.{List}
+use Prim.Native.Nat.{ℕ, _+_, _%_, _<_}
+use lib.ListN.{getD}
+use Rattle.gf256.specs.Product.{product, byteCount, powerCount}
+use Rattle.gf256.specs.Tables.{IsPowers, IsLogs, powersRight, logsRight}
+
+-- One computed test over a whole table says what each entry is,
+abbrev pub PowersByTest : Type 0
+PowersByTest = (table : List ℕ) → powersRight table ≡ true → IsPowers table
+
+abbrev pub LogsByTest : Type 0
+LogsByTest = (table : List ℕ) → logsRight table ≡ true → IsLogs table
+
+-- and this leaves no choice: there is one table of powers, and one of logarithms.
+abbrev pub OnePowersTable : Type 0
+OnePowersTable = (s t : List ℕ) → IsPowers s → IsPowers t → s ≡ t
+
+abbrev pub OneLogsTable : Type 0
+OneLogsTable = (s t : List ℕ) → IsLogs s → IsLogs t → s ≡ t
+
+-- What the two tables give for two bytes is their product by shift and add (`product`). Where one is 0, so is the product.
+abbrev pub ProductsByTables : Type 0
+ProductsByTables =
+    (powers logs : List ℕ) → IsPowers powers → IsLogs logs → (a b : ℕ) → 0 < a → a < byteCount → 0 < b → b < byteCount
+    → getD powers ((getD logs a 0 + getD logs b 0) % powerCount) 0 ≡ product a b
