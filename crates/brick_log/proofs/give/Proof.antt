@@ -1,9 +1,9 @@
 use mathlib.Core.Path.{refl}
 use native.Mathlib.Omega.{arith}
 use Rattle.brick_log.proofs.Laws.LookLaws.{gave-none, gave-block}
 use borrow.Author.Needs.{needs}
-use Rattle.brick_change.proofs.give.Statement.{statement}
-use Rattle.brick_change.proofs.give.Tie as tie
+use Rattle.brick_log.proofs.give.Statement.{statement}
+use Rattle.brick_log.proofs.give.Tie as tie
 
 returns : tie.Need-returns
 returns c = search (needs, gave-none)

@@ -1,8 +1,8 @@
 use mathlib.Core.Path.{sym, _∙_}
-use Rattle.brick_change.proofs.Laws.LogChangeLaws.{yes-is, order-kept, order-moved}
+use Rattle.brick_log.proofs.Laws.LogChangeLaws.{yes-is, order-kept, order-moved}
 use borrow.Author.Needs.{needs}
-use Rattle.brick_change.proofs.order.Statement.{statement}
-use Rattle.brick_change.proofs.order.Tie as tie
+use Rattle.brick_log.proofs.order.Statement.{statement}
+use Rattle.brick_log.proofs.order.Tie as tie
 
 order-yes-requires : tie.Need-order-yes-requires
 order-yes-requires c κs = search needs

@@ -1,10 +1,10 @@
 use mathlib.Core.Path.{refl}
 use native.Mathlib.Omega.{arith}
 use Rattle.image.specs.Image.{imageSize}
-use Rattle.brick_change.proofs.Laws.LogChangeLaws.{trim-none, trim-moved}
+use Rattle.brick_log.proofs.Laws.LogChangeLaws.{trim-none, trim-moved}
 use borrow.Author.Needs.{needs}
-use Rattle.brick_change.proofs.trim.Statement.{statement}
-use Rattle.brick_change.proofs.trim.Tie as tie
+use Rattle.brick_log.proofs.trim.Statement.{statement}
+use Rattle.brick_log.proofs.trim.Tie as tie
 
 returns : tie.Need-returns
 returns c = trim-none _ _ _ _ _ (c .before .before .pre .0) (c .if1 .taken)

@@ -1,10 +1,10 @@
 use mathlib.Core.Path.{refl}
 use native.Mathlib.Omega.{arith}
 use Rattle.image.specs.Image.{imageSize}
-use Rattle.brick_change.proofs.Laws.LogChangeLaws.{write-no, write-full, write-yes, write-kept, write-moved}
+use Rattle.brick_log.proofs.Laws.LogChangeLaws.{write-no, write-full, write-yes, write-kept, write-moved}
 use borrow.Author.Needs.{needs}
-use Rattle.brick_change.proofs.write.Statement.{statement}
-use Rattle.brick_change.proofs.write.Tie as tie
+use Rattle.brick_log.proofs.write.Statement.{statement}
+use Rattle.brick_log.proofs.write.Tie as tie
 
 order-yes-requires : tie.Need-order-yes-requires
 order-yes-requires c κs = search needs

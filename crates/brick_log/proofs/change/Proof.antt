@@ -1,7 +1,7 @@
-use Rattle.brick_change.proofs.Laws.LogChangeLaws.{change-read, change-write, change-order}
+use Rattle.brick_log.proofs.Laws.LogChangeLaws.{change-read, change-write, change-order}
 use borrow.Author.Needs.{needs}
-use Rattle.brick_change.proofs.change.Statement.{statement}
-use Rattle.brick_change.proofs.change.Tie as tie
+use Rattle.brick_log.proofs.change.Statement.{statement}
+use Rattle.brick_log.proofs.change.Tie as tie
 
 returns : tie.Need-returns
 returns c = change-read _ _ _ _ (c .before .before .before .before .before .pre .0) _ _ (c .before .if1 .taken)
