@@ -13,7 +13,7 @@ use Rattle.byte_lists.proofs.Laws.BoolLaws.{and-left, and-right}
 use Rattle.settings.specs.Times.{validTime}
 use Rattle.settings.specs.declared.Settings.{Settings}
 use Rattle.message.specs.declared.Message.{Message}
-use Rattle.image.specs.Brick.{Brick, LogEntry, noEntry, entryCount, timeAt, heldAt, newest, savedTime, risesAt}
+use Rattle.image.specs.Brick.{Brick, LogEntry, noEntry, entryCount, timeAt, meansAt, newest, savedTime, risesAt}
 use Rattle.image.specs.Image.{imageOf}
 use Rattle.image.specs.Parse.{Opens, parse}
 use Rattle.image.proofs.Laws.ParseLaws.{opened, parse-image}
@@ -26,7 +26,7 @@ use Rattle.image.specs.Opening.{workingLog, blank}
 use borrow.Author.Count.{below-more}
 use Rattle.brick_log.specs.Workers.{Cut}
 use Rattle.brick_log.proofs.Laws.LookLaws.{cut-at, cut-last}
-use Rattle.image_write.proofs.Laws.ImageStepLaws.{without-count, without-time, without-held, appended-count, appended-time-old, appended-held-old, appended-time-new, appended-held-new}
+use Rattle.image_write.proofs.Laws.ImageStepLaws.{without-count, without-time, without-means, appended-count, appended-time-old, appended-means-old, appended-time-new, appended-means-new}
 use Rattle.brick_log.specs.BrickRules.{aboveNewest, notBelowPromise, hasFree, orderYes, writeYes, orderedIfYes, writtenIfYes, trimmed, trimmedTo, under, lookup, yesTo, brickAfter}
 use Rattle.brick.proofs.Laws.TrimLaws.{rises-next, rises-add, cut-trims}
 use Rattle.brick.specs.Receive.{Highest}
@@ -298,7 +298,7 @@ saved-valid t e = go (eqb t 0)
     go false = e
 
 promised-sound : (s : Settings) (x : Brick) (t : ℕ) → Sound s x → validTime t ≡ true → Sound s (withPromise x t)
-unfolding withPromise entryCount timeAt heldAt risesAt
+unfolding withPromise entryCount timeAt meansAt risesAt
 promised-sound s x t r v =
     record {
       count-low = r .count-low;
@@ -336,7 +336,7 @@ module _ (s : Settings) (x : Brick) (t : ℕ) (block : List ℕ) (r : Sound s x)
           (record {
             saved = ap savedTime (appended-time-new x t block) ∙ saved-valid t v;
             rises = last-rises;
-            sized = ap length (appended-held-new x t block) ∙ size;
+            sized = ap length (appended-means-new x t block) ∙ size;
           })
         where
           last-rises : risesAt (withEntry x t block) (entryCount x) ≡ true
@@ -355,7 +355,7 @@ module _ (s : Settings) (x : Brick) (t : ℕ) (block : List ℕ) (r : Sound s x)
           record {
             saved = ap savedTime (appended-time-old x t block i low) ∙ e .saved;
             rises = old-rises i low;
-            sized = ap length (appended-held-old x t block i low) ∙ e .sized;
+            sized = ap length (appended-means-old x t block i low) ∙ e .sized;
           }
         where
           old-rises : (i : ℕ) → i < entryCount x → risesAt (withEntry x t block) i ≡ true
@@ -405,7 +405,7 @@ without-sound s x d r h =
         record {
           saved = ap savedTime (without-time x d i) ∙ e .saved;
           rises = rise i l;
-          sized = ap length (without-held x d i) ∙ e .sized;
+          sized = ap length (without-means x d i) ∙ e .sized;
         }
 
 -- there is a cut

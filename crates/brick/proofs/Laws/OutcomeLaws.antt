@@ -16,7 +16,7 @@ use Rattle.settings.proofs.Laws.RefusalLaws.{first-stop, first-pass}
 use Rattle.message.specs.Flags.{member}
 use Rattle.message.specs.Messages.{messageRefusal}
 use Rattle.message.specs.declared.Message.{Message}
-use Rattle.image.specs.Brick.{Brick, entryCount, timeAt, heldAt, newest}
+use Rattle.image.specs.Brick.{Brick, entryCount, timeAt, meansAt, newest}
 use Rattle.image.specs.Image.{imageOf}
 use Rattle.image.specs.Parse.{Opens, Refuses, parse, openRefusal, imageBlockAt, countIn, brickIn, heldIn}
 use Rattle.image.specs.Workers.{ImageOpened}
@@ -268,7 +268,7 @@ gave-is s brick l k (suc i) out r h =
     let n : i + 1 ≡ suc i = omega arith in
     rw (ne-eqb (suc i) 0 (λ q. omega (arith, q)))
     (held-bytes l (s .size) (suc i) (r .saved .range .code .size-high)
-    ∙ sym (ap (λ (j : ℕ). heldAt (brickIn s l) j) m ∙ held-in s l i low ∙ ap (λ (j : ℕ). heldIn (s .size) (imageBlockAt l j)) n))
+    ∙ sym (ap (λ (j : ℕ). meansAt (brickIn s l) j) m ∙ held-in s l i low ∙ ap (λ (j : ℕ). heldIn (s .size) (imageBlockAt l j)) n))
 
 -- the ways of acting
 module _ (s : Settings) (brick : ℕ) (l : List ℕ) (k : Known) (msg : Message) (p : Plan) (block out : List ℕ) (r : LogReady s brick l k) (h : Ahead brick (brickIn s l) k msg p) where

@@ -15,7 +15,7 @@ use Rattle.image_block.specs.Block.{sealed, headBody, headBlock, entryBody, ent
 use Rattle.byte_lists.specs.Lists.{same}
 use Rattle.image_block.proofs.Laws.CheckLaws.{checked-sealed, sealed-body}
 use Rattle.byte_lists.proofs.Laws.SameLaws.{same-true, same-of}
-use Rattle.image.specs.Brick.{Brick, LogEntry, entryCount, timeAt, heldAt, savedTime, risesAt, countSound, soundBrick}
+use Rattle.image.specs.Brick.{Brick, LogEntry, entryCount, timeAt, meansAt, savedTime, risesAt, countSound, soundBrick}
 use Rattle.byte_lists.specs.Each.{each}
 use Rattle.byte_lists.proofs.Laws.EachLaws.{each-at, each-all}
 use Rattle.image.specs.Image.{imageBlock, imageOf, imageSize}
@@ -52,8 +52,8 @@ time-in s l i h =
     ap (λ (x : LogEntry). x .time) (entries-at (s .size) l 1 (countIn (imageBlockAt l 0)) i h ∙ ap (λ (k : ℕ). entryIn (s .size) (imageBlockAt l k)) e)
     ∙ entry-time′ (s .size) (imageBlockAt l (i + 1))
 
-pub held-in : (s : Settings) (l : List ℕ) (i : ℕ) → i < countIn (imageBlockAt l 0) → heldAt (brickIn s l) i ≡ heldIn (s .size) (imageBlockAt l (i + 1))
-unfolding heldAt brickIn
+pub held-in : (s : Settings) (l : List ℕ) (i : ℕ) → i < countIn (imageBlockAt l 0) → meansAt (brickIn s l) i ≡ heldIn (s .size) (imageBlockAt l (i + 1))
+unfolding meansAt brickIn
 held-in s l i h =
     let e : 1 + i ≡ i + 1 = omega arith in
     ap (λ (x : LogEntry). x .block) (entries-at (s .size) l 1 (countIn (imageBlockAt l 0)) i h ∙ ap (λ (k : ℕ). entryIn (s .size) (imageBlockAt l k)) e)
@@ -208,8 +208,8 @@ module _ (s : Settings) (brick : ℕ) (l : List ℕ) (range : SettingsRange s) (
           (record {
             saved = ap savedTime (sym (time-in s l i h₁)) ∙ q .saved;
             rising = sym (rises-in s l i h₁) ∙ q .rises;
-            body = ap (λ (z : List ℕ). drop 2 z) (at ∙ block-held s brick x i (omega (arith, count-in s l)) ∙ entry-is (timeAt x i) (heldAt x i))
-                ∙ sealed-body (entryBody (timeAt x i) (heldAt x i))
+            body = ap (λ (z : List ℕ). drop 2 z) (at ∙ block-held s brick x i (omega (arith, count-in s l)) ∙ entry-is (timeAt x i) (meansAt x i))
+                ∙ sealed-body (entryBody (timeAt x i) (meansAt x i))
                 ∙ ap₂ (λ (a : ℕ) (z : List ℕ). entryBody a z) (time-in s l i h₁) (held-in s l i h₁);
           })
       go false w =

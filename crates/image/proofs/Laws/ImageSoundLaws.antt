@@ -12,7 +12,7 @@ use Rattle.settings.specs.Times.{validTime, noUpperEnd, timeOf}
 use Rattle.settings.specs.declared.Settings.{Settings}
 use Rattle.image_block.specs.Block.{headBlock, entryBlock, unusedBlock}
 use Rattle.image_block.proofs.Laws.LayoutLaws.{head-length, entry-length, unused-length}
-use Rattle.image.specs.Brick.{Brick, entryCount, timeAt, heldAt, savedTime, risesAt, entrySound, countSound, soundBrick}
+use Rattle.image.specs.Brick.{Brick, entryCount, timeAt, meansAt, savedTime, risesAt, entrySound, countSound, soundBrick}
 use Rattle.byte_lists.specs.Each.{each}
 use Rattle.byte_lists.proofs.Laws.EachLaws.{each-at, each-all}
 use Rattle.image.specs.Image.{imageBlock, imageOf, imageSize}
@@ -57,7 +57,7 @@ sound-again s x r =
     rw (le-leb 1 (entryCount x) (r .count-low), le-leb (entryCount x) (s .capacity) (r .count-high), r .promise-saved)
     (each-all (entrySound s x) (entryCount x) each)
   where
-    each : (i : ℕ) → i < entryCount x → savedTime (timeAt x i) && risesAt x i && eqb (length (heldAt x i)) (s .size) ≡ true
+    each : (i : ℕ) → i < entryCount x → savedTime (timeAt x i) && risesAt x i && eqb (length (meansAt x i)) (s .size) ≡ true
     each i h = let n = r .entries i h in rw (n .saved, n .rises, eq-eqb _ _ (n .sized)) refl
 
 module _ (s : Settings) (brick : ℕ) (x : Brick) where
@@ -65,7 +65,7 @@ module _ (s : Settings) (brick : ℕ) (x : Brick) where
   unfolding imageBlock
   block-0 = refl
 
-  pub block-held : (i : ℕ) → i < entryCount x → imageBlock s brick x (suc i) ≡ entryBlock (timeAt x i) (heldAt x i)
+  pub block-held : (i : ℕ) → i < entryCount x → imageBlock s brick x (suc i) ≡ entryBlock (timeAt x i) (meansAt x i)
   unfolding imageBlock
   block-held i h = rw (lt-ltb i (entryCount x) h) refl
 
@@ -79,9 +79,9 @@ module _ (s : Settings) (brick : ℕ) (x : Brick) (range : SettingsRange s) (r :
   blocks-even zero h = head-length s brick (entryCount x) (x .promise)
   blocks-even (suc i) h = go (ltb i (entryCount x)) refl
     where
-      go : (b : Bool) → ltb i (entryCount x) ≡ b → length (cond b (entryBlock (timeAt x i) (heldAt x i)) unusedBlock) ≡ 512
+      go : (b : Bool) → ltb i (entryCount x) ≡ b → length (cond b (entryBlock (timeAt x i) (meansAt x i)) unusedBlock) ≡ 512
       go true e =
-          entry-length (timeAt x i) (heldAt x i) (omega (arith, r .entries i (ltb-true i (entryCount x) e) .sized, range .code .size-high))
+          entry-length (timeAt x i) (meansAt x i) (omega (arith, r .entries i (ltb-true i (entryCount x) e) .sized, range .code .size-high))
       go false e = unused-length
 
   pub image-length : length (imageOf s brick x) ≡ imageSize s

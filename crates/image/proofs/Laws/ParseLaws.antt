@@ -20,7 +20,7 @@ use Rattle.byte_lists.specs.Lists.{same}
 use Rattle.image_block.proofs.Laws.LayoutLaws.{head-count, head-promise, entry-time, entry-held}
 use Rattle.image_block.proofs.Laws.CheckLaws.{sealed-checked}
 use Rattle.byte_lists.proofs.Laws.SameLaws.{same-true, same-of}
-use Rattle.image.specs.Brick.{Brick, noEntry, entryCount, timeAt, heldAt, soundBrick}
+use Rattle.image.specs.Brick.{Brick, noEntry, entryCount, timeAt, meansAt, soundBrick}
 use Rattle.byte_lists.specs.Each.{each}
 use Rattle.byte_lists.proofs.Laws.EachLaws.{each-all}
 use Rattle.image.specs.Image.{imageBlock, imageOf, imageSize}
@@ -68,14 +68,14 @@ module _ (s : Settings) (brick : ℕ) (x : Brick) (range : SettingsRange s) (r :
       ∙ head-promise s brick (entryCount x) (x .promise) (omega (arith, saved-high (x .promise) (r .promise-saved)))
 
   entry-back : (i : ℕ) → i < entryCount x → entryIn (s .size) (imageBlockAt (imageOf s brick x) (suc i)) ≡ getD (x .log) i noEntry
-  unfolding entryIn timeIn heldIn timeAt heldAt
+  unfolding entryIn timeIn heldIn timeAt meansAt
   entry-back i h =
       let at = image-block s brick x range r (suc i) (omega (arith, r .count-high)) ∙ block-held s brick x i h in
       let n = r .entries i h in
       let t : number (take 8 (drop 4 (imageBlockAt (imageOf s brick x) (suc i)))) ≡ timeAt x i =
-      ap (λ (b : List ℕ). number (take 8 (drop 4 b))) at ∙ entry-time (timeAt x i) (heldAt x i) (omega (arith, saved-high (timeAt x i) (n .saved))) in
-      let b : take (s .size) (drop 16 (imageBlockAt (imageOf s brick x) (suc i))) ≡ heldAt x i =
-      ap (λ (b : List ℕ). take (s .size) (drop 16 b)) at ∙ entry-held (timeAt x i) (heldAt x i) (s .size) (n .sized) in
+      ap (λ (b : List ℕ). number (take 8 (drop 4 b))) at ∙ entry-time (timeAt x i) (meansAt x i) (omega (arith, saved-high (timeAt x i) (n .saved))) in
+      let b : take (s .size) (drop 16 (imageBlockAt (imageOf s brick x) (suc i))) ≡ meansAt x i =
+      ap (λ (b : List ℕ). take (s .size) (drop 16 b)) at ∙ entry-held (timeAt x i) (meansAt x i) (s .size) (n .sized) in
       λ j. record { time = t j; block = b j }
 
   log-back : entriesIn (s .size) (imageOf s brick x) 1 (entryCount x) ≡ x .log
@@ -165,8 +165,8 @@ image-checked s brick x range r k h = ap checked (image-block s brick x range r 
     go zero = sealed-checked (headBody s brick (entryCount x) (x .promise))
     go (suc i) = pick (ltb i (entryCount x))
       where
-        pick : (b : Bool) → checked (cond b (entryBlock (timeAt x i) (heldAt x i)) unusedBlock) ≡ true
-        pick true = sealed-checked (entryBody (timeAt x i) (heldAt x i))
+        pick : (b : Bool) → checked (cond b (entryBlock (timeAt x i) (meansAt x i)) unusedBlock) ≡ true
+        pick true = sealed-checked (entryBody (timeAt x i) (meansAt x i))
         pick false = sealed-checked unusedBody
 
 -- Saving a brick and opening it gives the brick back.

@@ -13,7 +13,7 @@ use Rattle.byte_lists.specs.Little.{Bytes}
 use Rattle.image_block.specs.Block.{checked}
 use Rattle.byte_lists.proofs.Laws.ZeroLaws.{zeros-length}
 use Rattle.image_block.proofs.Laws.ChangeLaws.{change-unchecked}
-use Rattle.image.specs.Brick.{Brick, entryCount, timeAt, heldAt, freshBrick, savedTime, risesAt, soundBrick}
+use Rattle.image.specs.Brick.{Brick, entryCount, timeAt, meansAt, freshBrick, savedTime, risesAt, soundBrick}
 use Rattle.byte_lists.proofs.Laws.EachLaws.{each-at, each-not}
 use Rattle.image.specs.Image.{imageOf, imageSize}
 use Rattle.image.proofs.Laws.ImageLaws.{block-length}
@@ -83,7 +83,7 @@ one-byte-changed s brick bytes x i v e b h hv ne =
         (each-at (checkedAt bytes) (s .capacity + 1) (i / 512) (o .checks) low)
 
 fresh-sound : (s : Settings) → inRange s ≡ true → Sound s (freshBrick s)
-unfolding freshBrick entryCount timeAt heldAt savedTime risesAt
+unfolding freshBrick entryCount timeAt meansAt savedTime risesAt
 fresh-sound s a =
     record {
       count-low = omega arith;

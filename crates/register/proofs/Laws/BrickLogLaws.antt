@@ -11,7 +11,7 @@ use borrow.Author.Tests.{ltb-true, ltb-false, leb-true}
 use Rattle.settings.specs.Ranges.{SettingsRange}
 use Rattle.byte_lists.proofs.Laws.BoolLaws.{and-left, and-right}
 use Rattle.settings.specs.declared.Settings.{Settings}
-use Rattle.image.specs.Brick.{Brick, LogEntry, entryCount, timeAt, heldAt, newest}
+use Rattle.image.specs.Brick.{Brick, LogEntry, entryCount, timeAt, meansAt, newest}
 use Rattle.image.specs.Brick.{Sound}
 use Rattle.image_write.specs.Saving
 use Rattle.brick_log.specs.BrickRules.{aboveNewest, notBelowPromise, hasFree, readYes, orderYes, writeYes, trimmed, trimmedTo, under}
@@ -162,11 +162,11 @@ module _ {s : Settings} {g : SettingsRange s} {b : ℕ} {h : Hist s} {x : Brick}
       }
 
   -- what the newest entry holds
-  pub newest-means : Means s h (newest x) b (heldAt x (entryCount x - 1))
+  pub newest-means : Means s h (newest x) b (meansAt x (entryCount x - 1))
   unfolding entryCount
   newest-means =
       let w = newest-entry x (r .count-low) in
-      subst (λ (z : ℕ). Means s h z b (heldAt x (length (x .log) - 1))) (w .2)
+      subst (λ (z : ℕ). Means s h z b (meansAt x (length (x .log) - 1))) (w .2)
       (subst (λ (z : List ℕ). Means s h (w .0 .time) b z) (w .3) (i .entries (w .0) (w .1) .1))
 
   -- a Trim of a committed time drops only what is gone

@@ -10,7 +10,7 @@ use lib.Dec.{ltb, eqb}
 use lib.ListN.{length, getD, length-append}
 use borrow.Author.Tests.{ltb-true, ltb-false, lt-ltb, eqb-true}
 use Rattle.settings.specs.declared.Settings.{Settings}
-use Rattle.image.specs.Brick.{Brick, LogEntry, noEntry, entryCount, timeAt, heldAt, newest, savedTime, risesAt}
+use Rattle.image.specs.Brick.{Brick, LogEntry, noEntry, entryCount, timeAt, meansAt, newest, savedTime, risesAt}
 use Rattle.image.specs.Brick.{Sound}
 use Rattle.image_write.specs.Saving.{withPromise, withEntry}
 use Rattle.brick_log.specs.BrickRules.{trimmed, trimmedTo}
@@ -125,7 +125,7 @@ pub record Proper (s : Settings) (l : List LogEntry) : Type 0 where
   pub rises : Rises l
 
 pub proper : (s : Settings) (x : Brick) → Sound s x → Proper s (x .log)
-unfolding entryCount timeAt heldAt risesAt
+unfolding entryCount timeAt meansAt risesAt
 proper s x r =
     record {
       saved = λ e m. let w = member-at (x .log) m in subst (λ (z : LogEntry). savedTime (z .time) ≡ true) (w .2) (r .entries (w .0) (w .1) .saved);
@@ -143,7 +143,7 @@ proper s x r =
 
 pub sound-of : (s : Settings) (x : Brick) → 1 ≤ length (x .log) → length (x .log) ≤ s .capacity → savedTime (x .promise) ≡ true → Proper s (x .log)
     → Sound s x
-unfolding entryCount timeAt heldAt risesAt
+unfolding entryCount timeAt meansAt risesAt
 sound-of s x low high p r =
     record {
       count-low = low;
@@ -185,8 +185,8 @@ at-most-newest x r e m = go (member-at (x .log) m)
             subst (λ (k : ℕ). getD (x .log) i noEntry .time ≤ getD (x .log) k noEntry .time) z (le-refl _)
 
 -- the newest is an entry
-pub newest-entry : (x : Brick) → 1 ≤ length (x .log) → (e : LogEntry) × (e ∈ x .log) × (e .time ≡ newest x) × (e .block ≡ heldAt x (entryCount x - 1))
-unfolding newest timeAt heldAt entryCount
+pub newest-entry : (x : Brick) → 1 ≤ length (x .log) → (e : LogEntry) × (e ∈ x .log) × (e .time ≡ newest x) × (e .block ≡ meansAt x (entryCount x - 1))
+unfolding newest timeAt meansAt entryCount
 newest-entry x low = (getD (x .log) (length (x .log) - 1) noEntry, at-member (x .log) (length (x .log) - 1) (omega arith), refl, refl)
 
 -- each change keeps the rules

@@ -17,7 +17,7 @@ use Rattle.message.specs.Flags.{member, brickSet}
 use Rattle.message.specs.Messages.{roundRight, kindRight, messageRefusal}
 use Rattle.message.specs.declared.Message.{Message}
 use Rattle.message.specs.declared.Reply.{Reply}
-use Rattle.image.specs.Brick.{Brick, LogEntry, noEntry, entryCount, timeAt, heldAt, newest}
+use Rattle.image.specs.Brick.{Brick, LogEntry, noEntry, entryCount, timeAt, meansAt, newest}
 use Rattle.image.specs.Brick.{Sound}
 use Rattle.image_write.specs.Saving
 use Rattle.brick_log.specs.BrickRules.{readYes, orderYes, writeYes, orderedIfYes, writtenIfYes, trimmedTo, under, lookup, placeFor, timeFor, foundFor, yesTo, replyTo, brickAfter, blockAfter}
@@ -161,8 +161,8 @@ module _ {s : Settings} {g : SettingsRange s} {h : Hist s} {sent : List Item} {b
       place-is : readYes x ≡ true → placeFor b x msg ≡ cond (member (msg .targets) b) (entryCount x) 0
       place-is y = rw (eq-eqb (msg .kind) 1 e, y) refl
 
-      held-block : (p : ℕ) (a : Bool) → p ≡ cond a (entryCount x) 0 → not (eqb p 0) ≡ true → cond (eqb p 0) out (heldAt x (p - 1)) ≡ heldAt x (entryCount x - 1)
-      held-block p true q d = ap (λ (k : ℕ). cond (eqb k 0) out (heldAt x (k - 1))) q ∙ rw (ne-eqb (entryCount x) 0 (λ w. omega (arith, w, r .count-low))) refl
+      held-block : (p : ℕ) (a : Bool) → p ≡ cond a (entryCount x) 0 → not (eqb p 0) ≡ true → cond (eqb p 0) out (meansAt x (p - 1)) ≡ meansAt x (entryCount x - 1)
+      held-block p true q d = ap (λ (k : ℕ). cond (eqb k 0) out (meansAt x (k - 1))) q ∙ rw (ne-eqb (entryCount x) 0 (λ w. omega (arith, w, r .count-low))) refl
       held-block p false q d = let w : not (eqb 0 0) ≡ true = subst (λ (k : ℕ). not (eqb k 0) ≡ true) q d in let u : _≡_ {A = ℕ} 0 1 = cc in absurd (omega arith)
 
       go : (y : Bool) → readYes x ≡ y → Received s g h sent b x msg block out
@@ -312,19 +312,19 @@ module _ {s : Settings} {g : SettingsRange s} {h : Hist s} {sent : List Item} {b
           found = found-is ∙ ap (λ (k : ℕ). cond (eqb k 0) 0 (timeAt x (k - 1))) q
               ∙ rw (ne-eqb (suc j) 0 (λ a. omega (arith, a))) (ap (timeAt x) less)
 
-          block-at : cond (eqb (placeFor b x msg) 0) out (heldAt x (placeFor b x msg - 1)) ≡ heldAt x j
-          block-at = ap (λ (k : ℕ). cond (eqb k 0) out (heldAt x (k - 1))) q
-              ∙ rw (ne-eqb (suc j) 0 (λ a. omega (arith, a))) (ap (heldAt x) less)
+          block-at : cond (eqb (placeFor b x msg) 0) out (meansAt x (placeFor b x msg - 1)) ≡ meansAt x j
+          block-at = ap (λ (k : ℕ). cond (eqb k 0) out (meansAt x (k - 1))) q
+              ∙ rw (ne-eqb (suc j) 0 (λ a. omega (arith, a))) (ap (meansAt x) less)
 
-          there : Stands h b (timeAt x j) × Means s h (timeAt x j) b (heldAt x j)
-          there = unfold timeAt heldAt entryCount in i .entries (getD (x .log) j noEntry) (at-member (x .log) j jl)
+          there : Stands h b (timeAt x j) × Means s h (timeAt x j) b (meansAt x j)
+          there = unfold timeAt meansAt entryCount in i .entries (getD (x .log) j noEntry) (at-member (x .log) j jl)
 
           under-newest : timeAt x j ≤ newest x
           under-newest = unfold timeAt entryCount in at-most-newest x (proper s x r .rises) (getD (x .log) j noEntry) (at-member (x .log) j jl)
 
-          has : Stands later b (foundFor b x msg) × Means s later (foundFor b x msg) b (cond (eqb (placeFor b x msg) 0) out (heldAt x (placeFor b x msg - 1)))
+          has : Stands later b (foundFor b x msg) × Means s later (foundFor b x msg) b (cond (eqb (placeFor b x msg) 0) out (meansAt x (placeFor b x msg - 1)))
           has =
-              subst (λ (c : ℕ). Stands later b c × Means s later c b (cond (eqb (placeFor b x msg) 0) out (heldAt x (placeFor b x msg - 1)))) (sym found) (
+              subst (λ (c : ℕ). Stands later b c × Means s later c b (cond (eqb (placeFor b x msg) 0) out (meansAt x (placeFor b x msg - 1)))) (sym found) (
                 stands-up (above whole) (there .0),
                 subst (λ (c : List ℕ). Means s later (timeAt x j) b c) (sym block-at) (means-up (above whole) (there .1)),
               )
