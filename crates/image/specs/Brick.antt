@@ -27,10 +27,11 @@ entryCount x = length (x .log)
 unfoldable pub noEntry : LogEntry
 noEntry = record { time = 0; block = [] }
 
--- the time and the block of the entry at a place of the log, counted from 0
+-- The log by place, counted from 0, is all that the crates above speak of: the time of the entry at a place,
 unfoldable pub timeAt : Brick → ℕ → ℕ
 timeAt x i = getD (x .log) i noEntry .time
 
+-- and the block that it means.
 unfoldable pub meansAt : Brick → ℕ → List ℕ
 meansAt x i = getD (x .log) i noEntry .block
 

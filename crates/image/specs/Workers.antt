@@ -12,7 +12,6 @@ use Rattle.image.specs.Brick.{Brick, entryCount, savedTime, countSound}
 use Rattle.image.specs.Image.{imageSize}
 use Rattle.image.specs.Parse.{heldIn, Opens, parse, imageBlockAt, checkedAt, timeIn}
 use Rattle.image.specs.declared.Entry.{Entry}
-use Rattle.image.specs.declared.ImageAnswer.the-variants.{Opened}
 use Rattle.image.specs.declared.Opening.{Opening}
 use mathlib.Core.Path.{_≡_}
 use Rattle.image.specs.declared.Head.{Head}

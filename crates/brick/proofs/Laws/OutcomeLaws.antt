@@ -34,7 +34,7 @@ use Rattle.brick_log.specs.BrickRules.{notBelowPromise, aboveNewest, readYes, o
 use Rattle.brick.specs.Receive.{blocksRefusal, receiveRefusal, Outcome, refusedWith, givenBy, accepted, outcome}
 use Rattle.brick_log.specs.Workers.{LogReady, Ahead, Planned, Cut, underIn, underFor, lookedPlace, lookedTime, readPlace, gaveOf}
 use Rattle.brick_log.proofs.Laws.LookLaws.{under-brick, under-high, place-brick, time-brick}
-use Rattle.brick.proofs.Laws.TrimLaws.{cut-trims}
+use Rattle.brick_log.proofs.Laws.TrimLaws.{cut-trims}
 use Rattle.brick_log.specs.declared.Known.{Known}
 use Rattle.brick_log.specs.declared.Plan.{Plan}
 use Rattle.brick.specs.declared.Given.{Given}

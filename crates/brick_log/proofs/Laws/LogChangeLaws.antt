@@ -5,7 +5,7 @@ use mathlib.Core.List.{List, []}
 use Prim.Native.Nat.{ℕ, _+_, _-_, _*_, _≤_, _<_}
 use native.Mathlib.Omega.{arith}
 use lib.Dec.{leb, ltb}
-use lib.ListN.{length, drop}
+use lib.ListN.{length}
 use borrow.Author.Tests.{lt-ltb, le-ltb, eq-eqb, ne-eqb}
 use Rattle.message.specs.declared.Message.{Message}
 use Rattle.settings.specs.declared.Settings.{Settings}
@@ -16,7 +16,7 @@ use Rattle.image.specs.Image.{imageOf}
 use Rattle.image.specs.Parse.{brickIn}
 use Rattle.image_write.specs.Workers.{without}
 use Rattle.image_write.specs.Workers.{Blocks, shiftedOf, clearedOf}
-use Rattle.image_write.proofs.Laws.ImageStepLaws.{promise-written, append-written, without-written}
+use Rattle.image_write.proofs.Laws.ImageStepLaws.{promise-written, append-written, without-none, without-written}
 use Rattle.brick_log.specs.BrickRules.{aboveNewest, notBelowPromise, hasFree, readYes, orderYes, writeYes, orderedIfYes, writtenIfYes, yesTo, brickAfter}
 use Rattle.brick_log.specs.Workers.{LogReady}
 use Rattle.brick_log.specs.declared.Known.{Known}
@@ -123,5 +123,4 @@ module _ (s : Settings) (brick : ℕ) (l : List ℕ) (k : Known) (r : LogReady s
 
 -- nothing to drop
 pub trim-none : (s : Settings) (brick : ℕ) (l : List ℕ) (k : Known) (d : ℕ) → LogReady s brick l k → d ≡ 0 → l ≡ imageOf s brick (without (brickIn s l) d)
-unfolding without
-trim-none s brick l k d r e = r .saved .is-image ∙ ap (λ (j : ℕ). imageOf s brick (record { promise = brickIn s l .promise; log = drop j (brickIn s l .log) })) (sym e)
+trim-none s brick l k d r e = r .saved .is-image ∙ ap (imageOf s brick) (without-none (brickIn s l) ∙ ap (without (brickIn s l)) (sym e))

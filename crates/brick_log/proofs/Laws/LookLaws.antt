@@ -1,4 +1,4 @@
--- Laws of `specs/LookLaws`.
+-- What is found in the working log, and the plan for a message.
 use mathlib.Core.Path.{_≡_, refl, sym, ap, ap₂, _∙_}
 use mathlib.Core.Bool.{Bool, true, false, cond, _&&_}
 use mathlib.Core.List.{List, _++_, append-nil}

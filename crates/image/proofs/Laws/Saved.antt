@@ -82,7 +82,7 @@ one-byte-changed s brick bytes x i v e b h hv ne =
         (λ q. ne (q ∙ block-byte bytes (i / 512) (i % 512) (omega arith) ∙ ap (λ (k : ℕ). getD bytes k 0) at))
         (each-at (checkedAt bytes) (s .capacity + 1) (i / 512) (o .checks) low)
 
-fresh-sound : (s : Settings) → inRange s ≡ true → Sound s (freshBrick s)
+pub fresh-sound : (s : Settings) → inRange s ≡ true → Sound s (freshBrick s)
 unfolding freshBrick entryCount timeAt meansAt savedTime risesAt
 fresh-sound s a =
     record {

@@ -50,7 +50,28 @@ module _ (s : Settings) (brick : ℕ) (x : Brick) (range : SettingsRange s) (r :
           placed-other (imageBlock s brick x) 0 (headBlock s brick (entryCount x) t) (suc i) (λ q. omega (arith, q))
           ∙ same-block s brick x (withPromise x t) refl i
 
+-- a promise leaves the entries
+pub promised-promise : (x : Brick) (t : ℕ) → withPromise x t .promise ≡ t
+unfolding withPromise
+promised-promise x t = refl
+
+pub promised-count : (x : Brick) (t : ℕ) → entryCount (withPromise x t) ≡ entryCount x
+unfolding entryCount withPromise
+promised-count x t = refl
+
+pub promised-time : (x : Brick) (t i : ℕ) → timeAt (withPromise x t) i ≡ timeAt x i
+unfolding timeAt withPromise
+promised-time x t i = refl
+
+pub promised-means : (x : Brick) (t i : ℕ) → meansAt (withPromise x t) i ≡ meansAt x i
+unfolding meansAt withPromise
+promised-means x t i = refl
+
 -- the entries of a log with one more
+pub appended-promise : (x : Brick) (t : ℕ) (block : List ℕ) → withEntry x t block .promise ≡ x .promise
+unfolding withEntry
+appended-promise x t block = refl
+
 pub appended-count : (x : Brick) (t : ℕ) (block : List ℕ) → entryCount (withEntry x t block) ≡ entryCount x + 1
 unfolding entryCount withEntry
 appended-count x t block = length-append (x .log) (record { time = t; block = block } ∷ [])
@@ -140,6 +161,10 @@ module _ (s : Settings) (brick : ℕ) (x : Brick) (t : ℕ) (block : List ℕ) w
           ∙ append-block i
 
 -- the entries of a log without its first d
+pub without-none : (x : Brick) → x ≡ without x 0
+unfolding without
+without-none x = refl
+
 pub without-count : (x : Brick) (d : ℕ) → entryCount (without x d) ≡ entryCount x - d
 unfolding entryCount without
 without-count x d = length-drop d (x .log)
