@@ -1,6 +1,8 @@
--- Definitions: Refusal, Ranges (with the quorum), Times, Count, Each. Laws: the modules named ..Laws, and Draws.
+-- Refusal: the twelve numbers. Ranges: the settings and the quorum. QuorumTheorem: two quorums share m bricks. Times: times and clocks.
+-- Draws: the times of one clock. Count: sets of bricks, counted.
 pub mod Count
 pub mod Draws
+pub mod QuorumTheorem
 pub mod Ranges
 pub mod Refusal
 pub mod Times

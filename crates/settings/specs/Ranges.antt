@@ -5,17 +5,32 @@ use lib.Dec.{leb}
 use Rattle.settings.specs.Refusal.{refuseUnless, badSetting}
 use Rattle.settings.specs.declared.Settings.{Settings}
 
+-- "n is 1 to 16": so a set of bricks has 16 places
+abbrev pub maxBricks : ℕ
+maxBricks = 16
+
+-- "block size 1 to 256 bytes"
+abbrev pub maxSize : ℕ
+maxSize = 256
+
+-- "log capacity 2 to 32 entries"
+abbrev pub minCapacity : ℕ
+minCapacity = 2
+
+abbrev pub maxCapacity : ℕ
+maxCapacity = 32
+
 -- "n is 1 to 16, m is 1 to n"
 unfoldable pub bricksInRange : ℕ → ℕ → Bool
-bricksInRange n m = leb 1 n && leb n 16 && leb 1 m && leb m n
+bricksInRange n m = leb 1 n && leb n maxBricks && leb 1 m && leb m n
 
 -- "block size 1 to 256 bytes"
 unfoldable pub sizeInRange : ℕ → Bool
-sizeInRange size = leb 1 size && leb size 256
+sizeInRange size = leb 1 size && leb size maxSize
 
 -- "log capacity 2 to 32 entries"
 unfoldable pub capacityInRange : ℕ → Bool
-capacityInRange capacity = leb 2 capacity && leb capacity 32
+capacityInRange capacity = leb minCapacity capacity && leb capacity maxCapacity
 
 -- The settings of a set: all four in range.
 unfoldable pub inRange : Settings → Bool
@@ -40,14 +55,14 @@ quorum n m = n - faults n m
 -- n, m and the block size in range
 pub record CodeRange (n m size : ℕ) : Type 0 where
   pub n-low : 1 ≤ n
-  pub n-high : n ≤ 16
+  pub n-high : n ≤ maxBricks
   pub m-low : 1 ≤ m
   pub m-high : m ≤ n
   pub size-low : 1 ≤ size
-  pub size-high : size ≤ 256
+  pub size-high : size ≤ maxSize
 
 -- all four in range
 pub record SettingsRange (s : Settings) : Type 0 where
   pub code : CodeRange (s .n) (s .m) (s .size)
-  pub capacity-low : 2 ≤ s .capacity
-  pub capacity-high : s .capacity ≤ 32
+  pub capacity-low : minCapacity ≤ s .capacity
+  pub capacity-high : s .capacity ≤ maxCapacity

@@ -9,16 +9,23 @@ use Rattle.settings.specs.declared.Draw.the-variants.{Drawn, Refused}
 use mathlib.Core.Path.{_≡_}
 
 -- "count 1 to 2^40−1"
-unfoldable pub maxCount : ℕ
+abbrev pub maxCount : ℕ
 maxCount = 2 ^ 40 - 1
 
 -- "'no upper end' is 2^44"
-unfoldable pub noUpperEnd : ℕ
+abbrev pub noUpperEnd : ℕ
 noUpperEnd = 2 ^ 44
+
+-- "coordinator number (0 to 15)"
+abbrev pub coordinatorCount : ℕ
+coordinatorCount = 16
+
+abbrev pub lastCoordinator : ℕ
+lastCoordinator = coordinatorCount - 1
 
 -- "A time is count × 16 + coordinator number (0 to 15)"
 unfoldable pub timeOf : ℕ → ℕ → ℕ
-timeOf count coordinator = count * 16 + coordinator
+timeOf count coordinator = count * coordinatorCount + coordinator
 
 -- A valid time: its count is at least 1 and at most 2^40−1. Time 0, "before all others", is not among them.
 unfoldable pub validTime : ℕ → Bool
@@ -32,7 +39,7 @@ nextCount last reading = max reading (last + 1)
 -- 7 a reading above 2^40−1, 8 a last count of 2^40−1.
 unfoldable pub drawRefusal : Clock → ℕ → ℕ
 drawRefusal c reading =
-    cond (ltb 15 (c .coordinator)) badNumber
+    cond (ltb lastCoordinator (c .coordinator)) badNumber
     (cond (ltb maxCount (c .last)) badRecord
     (cond (ltb maxCount reading) badReading
     (cond (leb maxCount (c .last)) clockSpent passed)))
@@ -55,9 +62,9 @@ numberOf (Refused number) = number
 
 -- what a clock and a reading that are not refused satisfy
 pub record Draws (c : Clock) (reading : ℕ) : Type 0 where
-  pub coordinator-high : c .coordinator ≤ 15
-  pub last-high : c .last < 2 ^ 40 - 1
-  pub reading-high : reading ≤ 2 ^ 40 - 1
+  pub coordinator-high : c .coordinator ≤ lastCoordinator
+  pub last-high : c .last < maxCount
+  pub reading-high : reading ≤ maxCount
 
 -- What a draw gave: the time of the count, and a clock of the same coordinator whose last count is that count, above the old one.
 pub record Gave (c : Clock) (reading t : ℕ) (next : Clock) : Type 0 where

@@ -3,6 +3,49 @@ ghost use mathlib.Core.Path.{_≡_};
 ghost use Rattle.settings.specs.Ranges.{settingsRefusal, codeRefusal, quorum};
 ghost use Rattle.settings.specs.Times.{drawOf, drawRefusal, numberOf, validTime};
 
+// "n is 1 to 16": so a set of bricks has 16 places.
+pub const MAX_BRICKS: usize = 16;
+
+// "Block size 1 to 256 bytes".
+pub const MAX_SIZE: usize = 256;
+
+// "Log capacity 2 to 32 entries".
+pub const MIN_CAPACITY: usize = 2;
+
+pub const MAX_CAPACITY: usize = 32;
+
+// Coordinators are numbered 0 to 15.
+pub const COORDINATOR_COUNT: u64 = 16;
+
+pub const LAST_COORDINATOR: u64 = 15;
+
+// The refusals (document 01, "Refused by number, lowest first").
+pub const PASSED: u32 = 0;
+
+pub const BAD_SETTING: u32 = 1;
+
+pub const BAD_LENGTH: u32 = 2;
+
+pub const BAD_NUMBER: u32 = 3;
+
+pub const BAD_BRICK_SET: u32 = 4;
+
+pub const BAD_CHECK: u32 = 5;
+
+pub const BAD_RECORD: u32 = 6;
+
+pub const BAD_READING: u32 = 7;
+
+pub const CLOCK_SPENT: u32 = 8;
+
+pub const BUSY: u32 = 9;
+
+pub const BAD_MESSAGE: u32 = 10;
+
+pub const STRAY_REPLY: u32 = 11;
+
+pub const BAD_LINE: u32 = 12;
+
 // The largest count of a time, 2^40 - 1.
 pub const MAX_COUNT: u64 = 1099511627775;
 
@@ -22,24 +65,24 @@ pub fn code_refusal(n: usize, m: usize, size: usize) -> u32
     ensures { λ r. ⌜ r ≡ codeRefusal n m size ⌝ }
 {
     if n < 1 {
-        return 1;
+        return BAD_SETTING;
     }
-    if 16 < n {
-        return 1;
+    if MAX_BRICKS < n {
+        return BAD_SETTING;
     }
     if m < 1 {
-        return 1;
+        return BAD_SETTING;
     }
     if n < m {
-        return 1;
+        return BAD_SETTING;
     }
     if size < 1 {
-        return 1;
+        return BAD_SETTING;
     }
-    if 256 < size {
-        return 1;
+    if MAX_SIZE < size {
+        return BAD_SETTING;
     }
-    0
+    PASSED
 }
 
 impl Settings {
@@ -48,16 +91,16 @@ impl Settings {
         ensures { λ r. ⌜ r ≡ settingsRefusal self ⌝ }
     {
         let bad = code_refusal(self.n, self.m, self.size);
-        if bad != 0 {
-            return 1;
+        if bad != PASSED {
+            return BAD_SETTING;
         }
-        if self.capacity < 2 {
-            return 1;
+        if self.capacity < MIN_CAPACITY {
+            return BAD_SETTING;
         }
-        if 32 < self.capacity {
-            return 1;
+        if MAX_CAPACITY < self.capacity {
+            return BAD_SETTING;
         }
-        0
+        PASSED
     }
 }
 
@@ -88,19 +131,19 @@ impl Clock {
     pub fn refusal(self, reading: u64) -> u32
         ensures { λ r. ⌜ r ≡ drawRefusal self reading ⌝ }
     {
-        if 15 < self.coordinator {
-            return 3;
+        if LAST_COORDINATOR < self.coordinator {
+            return BAD_NUMBER;
         }
         if MAX_COUNT < self.last {
-            return 6;
+            return BAD_RECORD;
         }
         if MAX_COUNT < reading {
-            return 7;
+            return BAD_READING;
         }
         if MAX_COUNT <= self.last {
-            return 8;
+            return CLOCK_SPENT;
         }
-        0
+        PASSED
     }
 
     // The time of a reading, with the clock that follows.
@@ -108,13 +151,13 @@ impl Clock {
         ensures { λ r. ⌜ r ≡ drawOf self reading ⌝ }
     {
         let bad = self.refusal(reading);
-        if bad != 0 {
+        if bad != PASSED {
             return Draw::Refused(bad);
         }
         let least = self.last + 1;
         let count = if reading < least { least } else { reading };
         Draw::Drawn(
-            count * 16 + self.coordinator,
+            count * COORDINATOR_COUNT + self.coordinator,
             Clock {
                 coordinator: self.coordinator,
                 last: count,
@@ -129,7 +172,7 @@ impl Draw {
         ensures { λ r. ⌜ r ≡ numberOf self ⌝ }
     {
         match self {
-            Draw::Drawn(_, _) => 0,
+            Draw::Drawn(_, _) => PASSED,
             Draw::Refused(number) => number,
         }
     }
@@ -139,5 +182,5 @@ impl Draw {
 pub fn is_time(t: u64) -> bool
     ensures { λ r. ⌜ r ≡ validTime t ⌝ }
 {
-    16 <= t && t < NO_UPPER_END
+    COORDINATOR_COUNT <= t && t < NO_UPPER_END
 }

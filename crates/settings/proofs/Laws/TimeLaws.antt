@@ -1,29 +1,30 @@
--- Laws of `specs/TimeLaws`.
+-- What a clock gives.
 use mathlib.Core.Path.{_≡_, refl, sym, ap, subst, _∙_}
 use mathlib.Core.Bool.{Bool, true, false, cond}
-use Prim.Native.Nat.{ℕ, _%_, _^_, _≤_, _<_}
+use Prim.Native.Nat.{ℕ, _%_, _≤_, _<_}
 use native.Mathlib.Omega.{arith}
 use lib.Dec.{leb, ltb}
 use borrow.Author.Tests.{lt-ltb, le-leb, ltb-false, leb-true, leb-false}
-use Rattle.settings.specs.Times.{maxCount, noUpperEnd, timeOf, validTime, nextCount, drawRefusal, advanced, drawOf, numberOf}
+use Rattle.settings.specs.Times.{maxCount, noUpperEnd, coordinatorCount, lastCoordinator, timeOf, validTime, nextCount, drawRefusal, advanced, drawOf, numberOf}
+use Rattle.settings.specs.Refusal.{passed, badNumber, badRecord, badReading, clockSpent}
 use Rattle.settings.specs.declared.Clock.{Clock}
 use Rattle.settings.specs.declared.Draw.the-variants.{Drawn, Refused}
 use Rattle.settings.specs.Times.{Draws, Gave}
 
 pub draw-passed : (c : Clock) (reading k : ℕ) → k ≡ drawRefusal c reading → k ≡ 0 → Draws c reading
-unfolding drawRefusal maxCount
+unfolding drawRefusal
 draw-passed c reading k e z =
-    go (ltb 15 (c .coordinator)) (ltb maxCount (c .last)) (ltb maxCount reading) (leb maxCount (c .last)) refl refl refl refl (sym e ∙ z)
+    go (ltb lastCoordinator (c .coordinator)) (ltb maxCount (c .last)) (ltb maxCount reading) (leb maxCount (c .last)) refl refl refl refl (sym e ∙ z)
   where
-    go : (a b d f : Bool) → ltb 15 (c .coordinator) ≡ a → ltb maxCount (c .last) ≡ b → ltb maxCount reading ≡ d → leb maxCount (c .last) ≡ f
-        → _≡_ {A = ℕ} (cond a 3 (cond b 6 (cond d 7 (cond f 8 0)))) 0 → Draws c reading
+    go : (a b d f : Bool) → ltb lastCoordinator (c .coordinator) ≡ a → ltb maxCount (c .last) ≡ b → ltb maxCount reading ≡ d → leb maxCount (c .last) ≡ f
+        → _≡_ {A = ℕ} (cond a badNumber (cond b badRecord (cond d badReading (cond f clockSpent passed)))) 0 → Draws c reading
     go true b d f ea eb ed ef r = absurd (omega arith)
     go false true d f ea eb ed ef r = absurd (omega arith)
     go false false true f ea eb ed ef r = absurd (omega arith)
     go false false false true ea eb ed ef r = absurd (omega arith)
     go false false false false ea eb ed ef r =
         record {
-          coordinator-high = ltb-false 15 (c .coordinator) ea;
+          coordinator-high = ltb-false lastCoordinator (c .coordinator) ea;
           last-high = leb-false maxCount (c .last) ef;
           reading-high = ltb-false maxCount reading ed;
         }
@@ -70,20 +71,20 @@ gave c reading t next e = go (leb (drawRefusal c reading) 0) refl e
 
 -- A drawn time is a valid time,
 pub drawn-valid : (c : Clock) (reading t : ℕ) (next : Clock) → drawOf c reading ≡ Drawn t next → validTime t ≡ true
-unfolding validTime noUpperEnd timeOf nextCount
+unfolding validTime timeOf nextCount
 drawn-valid c reading t next e =
     let g = gave c reading t next e in
-    let low : 16 ≤ t = omega (arith, g .time, g .count) in
-    let high : t < 2 ^ 44 = omega (arith, g .time, g .count, g .drew .coordinator-high, g .drew .last-high, g .drew .reading-high) in
-    rw (le-leb 16 t low, lt-ltb t (2 ^ 44) high)
+    let low : coordinatorCount ≤ t = omega (arith, g .time, g .count) in
+    let high : t < noUpperEnd = omega (arith, g .time, g .count, g .drew .coordinator-high, g .drew .last-high, g .drew .reading-high) in
+    rw (le-leb coordinatorCount t low, lt-ltb t noUpperEnd high)
 
 -- above every time whose count the clock had reached before, whoever's it is,
-pub drawn-above : (c : Clock) (reading t : ℕ) (next : Clock) → drawOf c reading ≡ Drawn t next → timeOf (c .last) 15 < t
+pub drawn-above : (c : Clock) (reading t : ℕ) (next : Clock) → drawOf c reading ≡ Drawn t next → timeOf (c .last) lastCoordinator < t
 unfolding timeOf nextCount
 drawn-above c reading t next e = let g = gave c reading t next e in omega (arith, g .time, g .count)
 
--- and its remainder by 16 is the coordinator's number:
-pub drawn-own : (c : Clock) (reading t : ℕ) (next : Clock) → drawOf c reading ≡ Drawn t next → t % 16 ≡ c .coordinator
+-- and its remainder by their number is the coordinator's number:
+pub drawn-own : (c : Clock) (reading t : ℕ) (next : Clock) → drawOf c reading ≡ Drawn t next → t % coordinatorCount ≡ c .coordinator
 unfolding timeOf
 drawn-own c reading t next e = let g = gave c reading t next e in omega (arith, g .time, g .drew .coordinator-high)
 
@@ -91,7 +92,7 @@ drawn-own c reading t next e = let g = gave c reading t next e in omega (arith, 
 pub drawn-differ : (c d : Clock) (r s t u : ℕ) (c′ d′ : Clock) → drawOf c r ≡ Drawn t c′ → drawOf d s ≡ Drawn u d′
     → (c .coordinator ≡ d .coordinator → ⊥) → t ≡ u → ⊥
 drawn-differ c d r s t u c′ d′ e f different same =
-    different (sym (drawn-own c r t c′ e) ∙ ap (λ (x : ℕ). x % 16) same ∙ drawn-own d s u d′ f)
+    different (sym (drawn-own c r t c′ e) ∙ ap (λ (x : ℕ). x % coordinatorCount) same ∙ drawn-own d s u d′ f)
 
 -- an answer's number is the refusal's
 pub draw-number : (c : Clock) (reading : ℕ) → numberOf (drawOf c reading) ≡ drawRefusal c reading
