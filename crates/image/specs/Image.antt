@@ -7,6 +7,7 @@ use Rattle.settings.specs.declared.Settings.{Settings}
 use Rattle.byte_lists.specs.Lists.{stacked}
 use Rattle.image_block.specs.Block.{headBlock, entryBlock, unusedBlock}
 use Rattle.image.specs.Brick.{Brick, entryCount, timeAt, meansAt}
+use Rattle.image_block.specs.Block.{blockBytes}
 
 -- "Block 0 is the head", "Blocks 1 to count are entries", the others are unused
 unfoldable pub imageBlock : Settings → ℕ → Brick → ℕ → List ℕ
@@ -18,4 +19,4 @@ unfoldable pub imageOf : Settings → ℕ → Brick → List ℕ
 imageOf s brick x = stacked (s .capacity + 1) (imageBlock s brick x)
 
 unfoldable pub imageSize : Settings → ℕ
-imageSize s = 512 * (s .capacity + 1)
+imageSize s = blockBytes * (s .capacity + 1)

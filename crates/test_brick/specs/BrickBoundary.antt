@@ -14,6 +14,7 @@ use Rattle.image.specs.declared.Shown.the-variants.{Values}
 use Rattle.message.specs.declared.Message.{Message}
 use Rattle.message.specs.declared.Reply.{Reply}
 use Rattle.settings.specs.Count.{one-if}
+use Rattle.settings.specs.Ranges.{maxBricks}
 use Rattle.settings.specs.Refusal.{badLength}
 use Rattle.settings.specs.declared.Settings.{Settings}
 use Rattle.image_view.specs.View.{foundNumber, foundOf}
@@ -27,12 +28,9 @@ settingsFor n m size capacity = record { n = n; m = m; size = size; capacity = c
 abbrev pub messageFor : ℕ → ℕ → ℕ → ℕ → List ℕ → Message
 messageFor kind time round max targets = record { kind = kind; time = time; round = round; max = max; targets = targets }
 
--- the lengths of the boundary's own buffers: two numbers of the panel or of an entry, 16 flags, seven numbers of a reply
+-- the lengths of the boundary's own buffers: two numbers of the panel or of an entry, seven numbers of a reply
 abbrev pub pairLength : ℕ
 pairLength = 2
-
-abbrev pub flagsLength : ℕ
-flagsLength = 16
 
 abbrev pub replyLength : ℕ
 replyLength = 7
@@ -100,9 +98,9 @@ givenBuffer (Refused number) old = old
 unfoldable pub receipt : Outcome → List ℕ → ReceiptGiven
 receipt o reply = record { number = answerCode (o .given); image = o .image; out = o .out; reply = givenBuffer (o .given) reply }
 
--- the flags and the reply's numbers have their lengths
+-- a flag for each brick that a set may have, and the reply's numbers
 unfoldable pub buffersRight : List ℕ → List ℕ → Bool
-buffersRight targets reply = eqb (length targets) flagsLength && eqb (length reply) replyLength
+buffersRight targets reply = eqb (length targets) maxBricks && eqb (length reply) replyLength
 
 unfoldable pub receiptAt : Settings → ℕ → Message → List ℕ → List ℕ → List ℕ → List ℕ → ReceiptGiven
 receiptAt s brick msg block image out reply =

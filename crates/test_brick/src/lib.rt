@@ -1,24 +1,25 @@
 // The brick at a C boundary of numbers and slices, for the tests and benchmarks that compare it with other code.
 ghost use mathlib.Core.Path.{_≡_};
 ghost use lib.ListN.{length};
-ghost use Rattle.test_brick.specs.BrickBoundary.{settingsFor, messageFor, flagsLength, replyLength};
+ghost use Rattle.test_brick.specs.BrickBoundary.{settingsFor, messageFor, replyLength};
 ghost use Rattle.test_brick.specs.BrickBoundary.{panelAt, entryPairAt, replyNumbers, answerCode, givenBuffer, receiptAt};
 ghost use Rattle.image.specs.Opening.{lendingRefusal};
 ghost use Rattle.image_write.specs.Saving.{freshAfter};
 ghost use Rattle.settings.specs.Count.{one-if};
+ghost use Rattle.settings.specs.Ranges.{maxBricks};
 use brick::Given;
 use image::Shown;
 use image::place_of;
 use image_view::Found;
 use message::Message;
 use message::Reply;
+use settings::BAD_LENGTH;
+use settings::MAX_BRICKS;
+use settings::PASSED;
 use settings::Settings;
 
 // The panel's two times, or an entry's time and place.
 const PAIR_LENGTH: usize = 2;
-
-// A flag for each brick that a set may have.
-const FLAGS_LENGTH: usize = 16;
 
 // The fields of a reply.
 const REPLY_LENGTH: usize = 7;
@@ -74,7 +75,7 @@ pub extern "C" fn brick_panel(
         ≡ panelAt (settingsFor n m size capacity) brick (now (image .entry)) (now (times .entry)) ⌝ }
 {
     if times.len() != PAIR_LENGTH {
-        return 2;
+        return BAD_LENGTH;
     }
     let s = Settings {
         n: n,
@@ -87,7 +88,7 @@ pub extern "C" fn brick_panel(
         Shown::Values(p) => {
             times[0] = p.promise;
             times[1] = p.newest;
-            0
+            PASSED
         }
         Shown::Refused(number) => number,
     }
@@ -110,7 +111,7 @@ pub extern "C" fn brick_entry(
         ≡ entryPairAt (settingsFor n m size capacity) brick (now (image .entry)) place (now (found .entry)) ⌝ }
 {
     if found.len() != PAIR_LENGTH {
-        return 2;
+        return BAD_LENGTH;
     }
     let s = Settings {
         n: n,
@@ -125,7 +126,7 @@ pub extern "C" fn brick_entry(
             let held = place_of(holding);
             found[0] = e.time;
             found[1] = held as u64;
-            0
+            PASSED
         }
         Found::Refused(number) => number,
     }
@@ -154,7 +155,7 @@ fn put_given(g: Given, reply: &mut [u64]) -> u32
     match g {
         Given::Answered(r) => {
             put_reply(r, reply);
-            0
+            PASSED
         }
         Given::Silent => SILENCE,
         Given::Refused(number) => number,
@@ -162,8 +163,8 @@ fn put_given(g: Given, reply: &mut [u64]) -> u32
 }
 
 // Sixteen flags from a slice of sixteen bytes.
-fn flags_of(t: &[u8]) -> [u8; FLAGS_LENGTH]
-    requires { ⌜ length (now t) ≡ flagsLength ⌝ }
+fn flags_of(t: &[u8]) -> [u8; MAX_BRICKS]
+    requires { ⌜ length (now t) ≡ maxBricks ⌝ }
     ensures { λ r. ⌜ r ≡ now (t .entry) ⌝ }
 {
     [
@@ -209,11 +210,11 @@ pub extern "C" fn brick_receive(
         ≡ receiptAt (settingsFor n m size capacity) brick (messageFor kind time round max (now (targets .entry)))
         (now (block .entry)) (now (image .entry)) (now (out .entry)) (now (reply .entry)) ⌝ }
 {
-    if targets.len() != FLAGS_LENGTH {
-        return 2;
+    if targets.len() != MAX_BRICKS {
+        return BAD_LENGTH;
     }
     if reply.len() != REPLY_LENGTH {
-        return 2;
+        return BAD_LENGTH;
     }
     let s = Settings {
         n: n,

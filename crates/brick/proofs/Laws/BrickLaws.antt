@@ -21,35 +21,38 @@ use Rattle.image.specs.Brick.{Sound}
 use Rattle.image_write.specs.Saving.{withPromise, withEntry}
 use Rattle.settings.specs.Refusal.{refuseUnless}
 use Rattle.message.specs.Messages.{messageRefusal, roundRight, kindRight}
-use Rattle.image_write.proofs.Laws.ImageStepLaws.{promised-promise, appended-promise, promised-count, promised-time, promised-means, appended-count, appended-time-old, appended-means-old, appended-time-new, appended-means-new}
+use Rattle.image_write.proofs.Laws.ImageStepLaws.{promised-promise, appended-promise, promised-count, promised-time, promised-means}
+use Rattle.image_write.proofs.Laws.ImageStepLaws.{appended-count, appended-time-old, appended-means-old, appended-time-new, appended-means-new}
 use Rattle.brick_log.specs.BrickRules.{aboveNewest, notBelowPromise, hasFree, orderYes, writeYes, orderedIfYes, writtenIfYes, trimmedTo, under, lookup, yesTo, brickAfter}
 use Rattle.image.proofs.Laws.LogPlaceLaws.{saved-valid, newest-at, rises-next, rises-to, sound-of}
 use Rattle.brick_log.proofs.Laws.TrimLaws.{trim-not-empty, trim-keeps-newest, Trims, trim-places}
 use Rattle.brick.specs.Receive.{Highest}
+use Rattle.message.specs.Kinds.{readKind, trimKind, writeKind}
+use Rattle.settings.specs.Refusal.{badMessage, passed}
 
 -- the brick after a message, by its kind
 module _ (s : Settings) (x : Brick) (msg : Message) (block : List ℕ) where
-  after-trim : msg .kind ≡ 5 → brickAfter s x msg block ≡ trimmedTo x (msg .time)
+  after-trim : msg .kind ≡ trimKind → brickAfter s x msg block ≡ trimmedTo x (msg .time)
   unfolding brickAfter
-  after-trim e = rw (eq-eqb (msg .kind) 5 e) refl
+  after-trim e = rw (eq-eqb (msg .kind) trimKind e) refl
 
-  after-write : msg .kind ≡ 4 → brickAfter s x msg block ≡ writtenIfYes s x (msg .time) block
+  after-write : msg .kind ≡ writeKind → brickAfter s x msg block ≡ writtenIfYes s x (msg .time) block
   unfolding brickAfter
-  after-write e = rw (ne-eqb (msg .kind) 5 (λ q. omega (arith, e, q)), eq-eqb (msg .kind) 4 e) refl
+  after-write e = rw (ne-eqb (msg .kind) trimKind (λ q. omega (arith, e, q)), eq-eqb (msg .kind) writeKind e) refl
 
-  after-read : msg .kind ≡ 1 → brickAfter s x msg block ≡ x
+  after-read : msg .kind ≡ readKind → brickAfter s x msg block ≡ x
   unfolding brickAfter
-  after-read e = rw (ne-eqb (msg .kind) 5 (λ q. omega (arith, e, q)), ne-eqb (msg .kind) 4 (λ q. omega (arith, e, q)), eq-eqb (msg .kind) 1 e) refl
+  after-read e = rw (ne-eqb (msg .kind) trimKind (λ q. omega (arith, e, q)), ne-eqb (msg .kind) writeKind (λ q. omega (arith, e, q)), eq-eqb (msg .kind) readKind e) refl
 
-  after-order : (msg .kind ≡ 5 → ⊥) → (msg .kind ≡ 4 → ⊥) → (msg .kind ≡ 1 → ⊥) → brickAfter s x msg block ≡ orderedIfYes x (msg .time)
+  after-order : (msg .kind ≡ trimKind → ⊥) → (msg .kind ≡ writeKind → ⊥) → (msg .kind ≡ readKind → ⊥) → brickAfter s x msg block ≡ orderedIfYes x (msg .time)
   unfolding brickAfter
-  after-order a b c = rw (ne-eqb (msg .kind) 5 a, ne-eqb (msg .kind) 4 b, ne-eqb (msg .kind) 1 c) refl
+  after-order a b c = rw (ne-eqb (msg .kind) trimKind a, ne-eqb (msg .kind) writeKind b, ne-eqb (msg .kind) readKind c) refl
 
   -- a claim about the brick after a message is shown for each of the three changes and for none
   by-kind : (P : Brick → Type 0) → P (trimmedTo x (msg .time)) → P (writtenIfYes s x (msg .time) block) → P x → P (orderedIfYes x (msg .time)) → P (brickAfter s x msg block)
-  by-kind P t w r o = go (ℕ-discrete (msg .kind) 5) (ℕ-discrete (msg .kind) 4) (ℕ-discrete (msg .kind) 1)
+  by-kind P t w r o = go (ℕ-discrete (msg .kind) trimKind) (ℕ-discrete (msg .kind) writeKind) (ℕ-discrete (msg .kind) readKind)
     where
-      go : Dec (msg .kind ≡ 5) → Dec (msg .kind ≡ 4) → Dec (msg .kind ≡ 1) → P (brickAfter s x msg block)
+      go : Dec (msg .kind ≡ trimKind) → Dec (msg .kind ≡ writeKind) → Dec (msg .kind ≡ readKind) → P (brickAfter s x msg block)
       go (yes a) b c = subst P (sym (after-trim a)) t
       go (no a) (yes b) c = subst P (sym (after-write b)) w
       go (no a) (no b) (yes c) = subst P (sym (after-read c)) r
@@ -60,33 +63,33 @@ by-yes true P x y f g = f refl
 by-yes false P x y f g = g
 
 -- "A no changes nothing": Read, Order, Order-and-read and Write that are not granted.
-pub no-changes-nothing : (s : Settings) (x : Brick) (msg : Message) (block : List ℕ) → (msg .kind ≡ 5 → ⊥) → yesTo s x msg ≡ false → brickAfter s x msg block ≡ x
+pub no-changes-nothing : (s : Settings) (x : Brick) (msg : Message) (block : List ℕ) → (msg .kind ≡ trimKind → ⊥) → yesTo s x msg ≡ false → brickAfter s x msg block ≡ x
 unfolding yesTo writtenIfYes orderedIfYes
-no-changes-nothing s x msg block n e = go (ℕ-discrete (msg .kind) 4) (ℕ-discrete (msg .kind) 1)
+no-changes-nothing s x msg block n e = go (ℕ-discrete (msg .kind) writeKind) (ℕ-discrete (msg .kind) readKind)
   where
-    go : Dec (msg .kind ≡ 4) → Dec (msg .kind ≡ 1) → brickAfter s x msg block ≡ x
+    go : Dec (msg .kind ≡ writeKind) → Dec (msg .kind ≡ readKind) → brickAfter s x msg block ≡ x
     go b (yes c) = after-read s x msg block c
     go (yes b) (no c) =
-        let w : writeYes s x (msg .time) ≡ false = rw (ne-eqb (msg .kind) 1 c, eq-eqb (msg .kind) 4 b) at e in
+        let w : writeYes s x (msg .time) ≡ false = rw (ne-eqb (msg .kind) readKind c, eq-eqb (msg .kind) writeKind b) at e in
         after-write s x msg block b ∙ rw w refl
     go (no b) (no c) =
-        let w : orderYes x (msg .time) ≡ false = rw (ne-eqb (msg .kind) 1 c, ne-eqb (msg .kind) 4 b) at e in
+        let w : orderYes x (msg .time) ≡ false = rw (ne-eqb (msg .kind) readKind c, ne-eqb (msg .kind) writeKind b) at e in
         after-order s x msg block n b c ∙ rw w refl
 
 -- A yes to Write appends exactly that entry.
-pub write-appends : (s : Settings) (x : Brick) (msg : Message) (block : List ℕ) → msg .kind ≡ 4 → yesTo s x msg ≡ true
+pub write-appends : (s : Settings) (x : Brick) (msg : Message) (block : List ℕ) → msg .kind ≡ writeKind → yesTo s x msg ≡ true
     → brickAfter s x msg block ≡ withEntry x (msg .time) block
 unfolding yesTo writtenIfYes
 write-appends s x msg block e y =
-    let w : writeYes s x (msg .time) ≡ true = rw (ne-eqb (msg .kind) 1 (λ q. omega (arith, e, q)), eq-eqb (msg .kind) 4 e) at y in
+    let w : writeYes s x (msg .time) ≡ true = rw (ne-eqb (msg .kind) readKind (λ q. omega (arith, e, q)), eq-eqb (msg .kind) writeKind e) at y in
     after-write s x msg block e ∙ rw w refl
 
 -- A yes to Order or Order-and-read promises its time, and nothing else.
-pub order-promises : (s : Settings) (x : Brick) (msg : Message) (block : List ℕ) → (msg .kind ≡ 5 → ⊥) → (msg .kind ≡ 4 → ⊥) → (msg .kind ≡ 1 → ⊥)
+pub order-promises : (s : Settings) (x : Brick) (msg : Message) (block : List ℕ) → (msg .kind ≡ trimKind → ⊥) → (msg .kind ≡ writeKind → ⊥) → (msg .kind ≡ readKind → ⊥)
     → yesTo s x msg ≡ true → brickAfter s x msg block ≡ withPromise x (msg .time)
 unfolding yesTo orderedIfYes
 order-promises s x msg block a b c y =
-    let w : orderYes x (msg .time) ≡ true = rw (ne-eqb (msg .kind) 1 c, ne-eqb (msg .kind) 4 b) at y in
+    let w : orderYes x (msg .time) ≡ true = rw (ne-eqb (msg .kind) readKind c, ne-eqb (msg .kind) writeKind b) at y in
     after-order s x msg block a b c ∙ rw w refl
 
 -- what a yes says of the time
@@ -271,7 +274,7 @@ after-sound s x msg block r v size =
     (by-yes (orderYes x (msg .time)) (λ (y : Brick). Sound s y) (withPromise x (msg .time)) x (λ e. promised-sound s x (msg .time) r (saved-valid (msg .time) v)) r)
 
 -- a message that is not refused has a valid time
-message-time : (n m : ℕ) (msg : Message) → messageRefusal n m msg ≡ 0 → validTime (msg .time) ≡ true
+message-time : (n m : ℕ) (msg : Message) → messageRefusal n m msg ≡ passed → validTime (msg .time) ≡ true
 unfolding messageRefusal
 message-time n m msg e = go (validTime (msg .time)) refl
   where
@@ -279,12 +282,12 @@ message-time n m msg e = go (validTime (msg .time)) refl
     go true q = q
     go false q = absurd (omega (arith, e, refused q))
       where
-        refused : validTime (msg .time) ≡ false → refuseUnless (validTime (msg .time) && roundRight (msg .round) && kindRight n m msg) 10 ≡ 10
+        refused : validTime (msg .time) ≡ false → refuseUnless (validTime (msg .time) && roundRight (msg .round) && kindRight n m msg) badMessage ≡ badMessage
         refused w = rw w refl
 
 -- An image that opened opens again after any message, as the brick after it.
 pub opens-again : (s : Settings) (brick : ℕ) (bytes : List ℕ) (x : Brick) (msg : Message) (block : List ℕ) → parse s brick bytes ≡ Opens x
-    → messageRefusal (s .n) (s .m) msg ≡ 0 → length block ≡ s .size
+    → messageRefusal (s .n) (s .m) msg ≡ passed → length block ≡ s .size
     → parse s brick (imageOf s brick (brickAfter s x msg block)) ≡ Opens (brickAfter s x msg block)
 opens-again s brick bytes x msg block e m size =
     let o = opened s brick bytes x e in

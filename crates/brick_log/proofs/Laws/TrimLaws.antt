@@ -20,6 +20,7 @@ use Rattle.image_write.specs.Workers.{without}
 use Rattle.image_write.proofs.Laws.ImageStepLaws.{without-count, without-time, without-means}
 use Rattle.brick_log.specs.BrickRules.{trimmed, trimmedTo}
 use Rattle.brick_log.specs.Workers.{Cut}
+use Rattle.settings.specs.Ranges.{maxCapacity}
 
 -- the last entry stays, so a log never becomes empty,
 trimmed-some : (t : ℕ) (e : LogEntry) (log : List LogEntry) → 1 ≤ length (trimmed t (e ∷ log))
@@ -111,7 +112,7 @@ trimmed-without s x t d r q =
         subst (λ (k : ℕ). t ≤ k) (sym (ap (λ (e : LogEntry). e .time) (getD-drop d (x .log) i noEntry))) (omega arith)
 
 -- the cut that the code finds in the working log
-pub cut-trims : (s : Settings) (x : Brick) (t d : ℕ) → Sound s x → entryCount x ≤ 32 → Cut (workingLog x) (entryCount x) t d → trimmedTo x t ≡ without x d
+pub cut-trims : (s : Settings) (x : Brick) (t d : ℕ) → Sound s x → entryCount x ≤ maxCapacity → Cut (workingLog x) (entryCount x) t d → trimmedTo x t ≡ without x d
 cut-trims s x t d r c q =
     trimmed-without s x t d r
     (record {

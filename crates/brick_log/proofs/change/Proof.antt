@@ -13,7 +13,8 @@ same-length : tie.Need-same-length
 same-length c = search needs
 
 returns-2 : tie.Need-returns-2
-returns-2 c = change-write _ _ _ _ (c .before .before .before .before .before .before .before .before .before .before .pre .0) _ _ _ _ (c .before .before .before .before .if2 .taken) (c .before .before .write .ensures .0) (c .before .before .write .ensures .1)
+returns-2 c = change-write _ _ _ _ (c .before .before .before .before .before .before .before .before .before .before .pre .0) _ _ _ _ (c .before .before .before .before .if2 .taken)
+    (c .before .before .write .ensures .0) (c .before .before .write .ensures .1)
 
 order-requires : tie.Need-order-requires
 order-requires c κs = search needs
@@ -22,7 +23,9 @@ same-length-2 : tie.Need-same-length-2
 same-length-2 c = search needs
 
 returns-3 : tie.Need-returns-3
-returns-3 c = change-order _ _ _ _ (c .before .before .before .before .before .before .before .before .before .before .pre .0) _ _ _ _ (c .before .before .before .before .before .before .before .before .before .before .pre .1 .1) (c .before .before .before .before .before .before .if1 .left) (c .before .before .before .before .if2 .left) (c .before .before .order .ensures .0) (c .before .before .order .ensures .1)
+returns-3 c = change-order _ _ _ _ (c .before .before .before .before .before .before .before .before .before .before .pre .0) _ _ _ _
+    (c .before .before .before .before .before .before .before .before .before .before .pre .1 .1) (c .before .before .before .before .before .before .if1 .left)
+    (c .before .before .before .before .if2 .left) (c .before .before .order .ensures .0) (c .before .before .order .ensures .1)
 
 pub change-spec : {M : Type 1} → statement M
 change-spec =

@@ -33,7 +33,8 @@ same-length : tie.Need-same-length
 same-length c = search needs
 
 returns-2 : tie.Need-returns-2
-returns-2 c = gave-block _ _ _ _ _ _ (c .before .before .before .before .before .if1 .left) (c .before .before .before .before .before .before .before .before .pre .0) refl (omega (arith, c .before .before .before .before .before .before .before .before .pre)) (c .before .before .store .ensures)
+returns-2 c = gave-block _ _ _ _ _ _ (c .before .before .before .before .before .if1 .left) (c .before .before .before .before .before .before .before .before .pre .0) refl
+    (omega (arith, c .before .before .before .before .before .before .before .before .pre)) (c .before .before .store .ensures)
 
 pub give-spec : {M : Type 1} → statement M
 give-spec =

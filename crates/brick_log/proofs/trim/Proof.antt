@@ -39,7 +39,8 @@ same-length c = search needs
 returns-2 : tie.Need-returns-2
 returns-2 c =
     let start = c .before .before .before .before .before .before .before .before .before .before .before .before .before .before .before .before in
-    trim-moved _ _ _ _ (start .pre .0) _ _ _ _ _ (start .pre .1) refl (c .before .before .before .before .before .before .before .before .before .before .before .shift-blocks .ensures) (c .before .before .before .before .before .before .clear-blocks .ensures) (c .before .before .write-head .ensures)
+    trim-moved _ _ _ _ (start .pre .0) _ _ _ _ _ (start .pre .1) refl (c .before .before .before .before .before .before .before .before .before .before .before .shift-blocks .ensures)
+    (c .before .before .before .before .before .before .clear-blocks .ensures) (c .before .before .write-head .ensures)
 
 pub trim-spec : {M : Type 1} → statement M
 trim-spec =

@@ -22,6 +22,7 @@ use Rattle.image_write.specs.Workers.{Blocks, clearedOf, shiftedOf}
 use Rattle.image_write.proofs.Laws.BlocksLaws.{blocks-put, blocks-ext, blocks-is, placed, placed-there, placed-other}
 use Rattle.image_write.specs.Saving.{withPromise, withEntry}
 use Rattle.image_write.specs.Workers.{without}
+use Rattle.image_block.specs.Block.{blockBytes}
 
 pub image-blocks : (s : Settings) (brick : ℕ) (x : Brick) → SettingsRange s → Sound s x → Blocks (imageBlock s brick x) (s .capacity + 1) (imageOf s brick x)
 unfolding imageSize
@@ -135,7 +136,7 @@ module _ (s : Settings) (brick : ℕ) (x : Brick) (t : ℕ) (block : List ℕ) w
 
   -- a Write writes the entry and the head
   pub append-written : SettingsRange s → Sound s x → entryCount x < s .capacity → length block ≡ s .size
-      → put 0 (headBlock s brick (entryCount x + 1) (x .promise)) (put (512 * (entryCount x + 1)) (entryBlock t block) (imageOf s brick x)) ≡ imageOf s brick (withEntry x t block)
+      → put 0 (headBlock s brick (entryCount x + 1) (x .promise)) (put (blockBytes * (entryCount x + 1)) (entryBlock t block) (imageOf s brick x)) ≡ imageOf s brick (withEntry x t block)
   unfolding imageOf
   append-written range r free size =
       blocks-is (imageBlock s brick (withEntry x t block)) (s .capacity + 1) _

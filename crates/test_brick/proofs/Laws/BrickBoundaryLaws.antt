@@ -8,10 +8,11 @@ use lib.ListN.{length, getD, set}
 use borrow.Author.Tests.{eq-eqb, ne-eqb}
 use Rattle.byte_lists.specs.Lists.{tabulate}
 use Rattle.byte_lists.proofs.Laws.TabulateLaws.{tabulate-by}
-use Rattle.test_brick.specs.BrickBoundary.{messageFor, pairLength, flagsLength, replyLength, silence, pairRefused, shownBuffer, panelPair, panelAt}
+use Rattle.test_brick.specs.BrickBoundary.{messageFor, pairLength, replyLength, silence, pairRefused, shownBuffer, panelPair, panelAt}
 use Rattle.test_brick.specs.BrickBoundary.{entryBuffer, entryPair, entryPairAt, answerCode, replyNumbers, givenBuffer, receipt, buffersRight, receiptAt}
 use Rattle.brick.specs.Receive.{givenNumber, outcome}
 use Rattle.image.specs.Parse.{parse}
+use Rattle.settings.specs.Ranges.{maxBricks}
 use Rattle.settings.specs.Refusal.{passed, badLength}
 use Rattle.settings.specs.declared.Settings.{Settings}
 use Rattle.brick.specs.declared.Given.{Given}
@@ -56,8 +57,8 @@ two (x ∷ y ∷ []) a b h = refl
 two (x ∷ y ∷ z ∷ l) a b h = absurd (omega arith)
 
 -- sixteen bytes, read one by one
-pub sixteen : (t : List ℕ) → length t ≡ flagsLength → t ≡ tabulate flagsLength (λ (i : ℕ). getD t i 0)
-sixteen t e = tabulate-by flagsLength (λ (i : ℕ). getD t i 0) t e (λ i h. refl)
+pub sixteen : (t : List ℕ) → length t ≡ maxBricks → t ≡ tabulate maxBricks (λ (i : ℕ). getD t i 0)
+sixteen t e = tabulate-by maxBricks (λ (i : ℕ). getD t i 0) t e (λ i h. refl)
 
 -- the ways through the panel
 module _ (s : Settings) (brick : ℕ) (image old : List ℕ) where
@@ -114,19 +115,19 @@ module _ (s : Settings) (brick kind time round max : ℕ) (targets block image o
   unfolding receiptAt
   short e = rw e refl
 
-  pub receive-short : (length targets ≡ flagsLength → ⊥)
+  pub receive-short : (length targets ≡ maxBricks → ⊥)
       → record { number = badLength; image = image; out = out; reply = reply }
       ≡ receiptAt s brick (messageFor kind time round max targets) block image out reply
   unfolding buffersRight
-  receive-short h = short (rw (ne-eqb (length targets) flagsLength h) refl)
+  receive-short h = short (rw (ne-eqb (length targets) maxBricks h) refl)
 
-  pub receive-unanswered : length targets ≡ flagsLength → (length reply ≡ replyLength → ⊥)
+  pub receive-unanswered : length targets ≡ maxBricks → (length reply ≡ replyLength → ⊥)
       → record { number = badLength; image = image; out = out; reply = reply }
       ≡ receiptAt s brick (messageFor kind time round max targets) block image out reply
   unfolding buffersRight
-  receive-unanswered e h = short (rw (eq-eqb (length targets) flagsLength e, ne-eqb (length reply) replyLength h) refl)
+  receive-unanswered e h = short (rw (eq-eqb (length targets) maxBricks e, ne-eqb (length reply) replyLength h) refl)
 
-  pub receive-whole : (flags : List ℕ) (g : Given) (k : ℕ) (image₁ out₁ reply₁ : List ℕ) → length targets ≡ flagsLength → length reply ≡ replyLength
+  pub receive-whole : (flags : List ℕ) (g : Given) (k : ℕ) (image₁ out₁ reply₁ : List ℕ) → length targets ≡ maxBricks → length reply ≡ replyLength
       → flags ≡ targets
       → g ≡ outcome s brick image (messageFor kind time round max flags) block out .given
       → image₁ ≡ outcome s brick image (messageFor kind time round max flags) block out .image
@@ -136,4 +137,4 @@ module _ (s : Settings) (brick kind time round max : ℕ) (targets block image o
       ≡ receiptAt s brick (messageFor kind time round max targets) block image out reply
   unfolding receiptAt receipt buffersRight
   receive-whole flags g k image₁ out₁ reply₁ h w f eg ei eo ek er =
-      rw (eq-eqb (length targets) flagsLength h, eq-eqb (length reply) replyLength w, ← f, ← eg, ← ei, ← eo, ← ek, ← er) refl
+      rw (eq-eqb (length targets) maxBricks h, eq-eqb (length reply) replyLength w, ← f, ← eg, ← ei, ← eo, ← ek, ← er) refl
