@@ -1,2 +1,2 @@
--- One message at one brick. Definitions: Steps (on the abstract brick), Receive (with the image and the refusals). Laws: the modules named Laws.
+-- Receive: one message at one brick, with the image and the refusals.
 pub mod Receive

@@ -6,18 +6,20 @@ ghost use Rattle.image.specs.Parse.{brickIn};
 ghost use Rattle.brick_log.specs.BrickRules.{placeFor, brickAfter, blockAfter};
 ghost use Rattle.brick.specs.Receive.{blocksRefusal, givenBy, outcome};
 ghost use Rattle.brick_log.specs.Workers.{LogReady, Ahead};
-use brick_change::change;
-use brick_change::give;
-use brick_change::trim;
 use brick_log::Known;
 use brick_log::Plan;
+use brick_log::change;
+use brick_log::give;
 use brick_log::plan_for;
+use brick_log::trim;
 use image::ImageAnswer;
 use image::number_of;
 use image::open;
 use message::Message;
 use message::Reply;
 use message::TRIM;
+use settings::BAD_LENGTH;
+use settings::PASSED;
 use settings::Settings;
 
 // The answer to a message.
@@ -68,16 +70,16 @@ fn blocks_refusal(s: Settings, block: usize, out: usize) -> u32
     ensures { λ r. ⌜ r ≡ blocksRefusal s block out ⌝ }
 {
     let bad = s.refusal();
-    if bad != 0 {
+    if bad != PASSED {
         return bad;
     }
     if block != s.size {
-        return 2;
+        return BAD_LENGTH;
     }
     if out != s.size {
-        return 2;
+        return BAD_LENGTH;
     }
-    0
+    PASSED
 }
 
 // One message at one brick: the reply, with its block in the lent buffer, or silence, or one refusal; the image is changed in place.
@@ -94,7 +96,7 @@ pub fn receive(
     ensures { λ r. ⌜ now (out .exit) ≡ outcome s brick (now (image .entry)) msg (now (block .entry)) (now (out .entry)) .out ⌝ }
 {
     let bad = blocks_refusal(s, block.len(), out.len());
-    if bad != 0 {
+    if bad != PASSED {
         return Given::Refused(bad);
     }
     let o = open(s, brick, image);
@@ -103,7 +105,7 @@ pub fn receive(
         return Given::Refused(number_of(answer));
     };
     let wrong = msg.refusal(s.n, s.m);
-    if wrong != 0 {
+    if wrong != PASSED {
         return Given::Refused(wrong);
     }
     let log = o.log;

@@ -1,3 +1,5 @@
 -- The laws of `brick_log`, for its own proofs and those of the crates above. No contract cites them.
--- What a brick does, on the abstract brick. Definitions: Steps. Laws: LookLaws.
+-- LookLaws: what is found in the log. LogChangeLaws: what a message changes, at the image. TrimLaws: what a Trim leaves, by place.
+pub mod LogChangeLaws
 pub mod LookLaws
+pub mod TrimLaws

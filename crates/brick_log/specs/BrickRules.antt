@@ -8,7 +8,7 @@ use Rattle.message.specs.Flags.{member}
 use Rattle.message.specs.Kinds.{readKind, orderReadKind, writeKind, trimKind}
 use Rattle.message.specs.declared.Message.{Message}
 use Rattle.message.specs.declared.Reply.{Reply}
-use Rattle.image.specs.Brick.{Brick, LogEntry, entryCount, timeAt, heldAt, newest}
+use Rattle.image.specs.Brick.{Brick, LogEntry, entryCount, timeAt, meansAt, newest}
 use Rattle.image_write.specs.Saving.{withPromise, withEntry}
 
 -- the three comparisons of an answer: "t is above newest",
@@ -101,4 +101,4 @@ brickAfter s x msg block =
 
 -- the bytes of the reply's block, or what the buffer held
 unfoldable pub blockAfter : Brick → ℕ → List ℕ → List ℕ
-blockAfter x place out = cond (eqb place 0) out (heldAt x (place - 1))
+blockAfter x place out = cond (eqb place 0) out (meansAt x (place - 1))

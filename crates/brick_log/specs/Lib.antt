@@ -1,3 +1,3 @@
-pub mod Workers
--- What a brick does, on the abstract brick. Definitions: Steps. Laws: LookLaws.
+-- What a message asks of a brick and changes in it. BrickRules: the rules, on the abstract brick. Workers: what the inner workers ask and give.
 pub mod BrickRules
+pub mod Workers

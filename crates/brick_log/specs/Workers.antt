@@ -19,6 +19,9 @@ use Rattle.brick_log.specs.declared.Known.{Known}
 use Rattle.brick_log.specs.declared.Plan.{Plan}
 use Rattle.brick_log.specs.declared.Looked.{Looked}
 use Rattle.brick_log.specs.declared.Looked.the-variants.{Under, Nothing}
+use Rattle.image_block.specs.Block.{blockBytes, heldFrom}
+use Rattle.message.specs.Kinds.{orderReadKind, readKind, trimKind}
+use Rattle.settings.specs.Ranges.{maxCapacity}
 
 -- an opened image, with what is known of its brick
 pub record LogReady (s : Settings) (brick : ℕ) (l : List ℕ) (k : Known) : Type 0 where
@@ -28,7 +31,7 @@ pub record LogReady (s : Settings) (brick : ℕ) (l : List ℕ) (k : Known) : Ty
   pub newests : k .newest ≡ newest (brickIn s l)
   pub low : 1 ≤ k .count
   pub high : k .count ≤ s .capacity
-  pub most : s .capacity ≤ 32
+  pub most : s .capacity ≤ maxCapacity
 
 -- the lookup in the working log
 unfoldable pub underIn : List Entry → ℕ → ℕ → ℕ
@@ -71,19 +74,19 @@ underFor log k msg = cond (ltb (k .newest) (msg .time) && leb (k .promise) (msg 
 
 -- what a message asks for, by its kind
 pub record Planned (log : List Entry) (k : Known) (msg : Message) (brick : ℕ) (p : Plan) : Type 0 where
-  pub cuts : msg .kind ≡ 5 → Cut log (k .count) (msg .time) (p .cut)
-  pub reads : msg .kind ≡ 1 → (p .place ≡ readPlace k (msg .targets) brick) × (p .found ≡ k .newest)
-  pub looks : msg .kind ≡ 3 → (p .place ≡ lookedPlace log (underFor log k msg)) × (p .found ≡ lookedTime log (underFor log k msg))
-  pub others : (msg .kind ≡ 1 → ⊥) → (msg .kind ≡ 3 → ⊥) → (p .place ≡ 0) × (p .found ≡ 0)
+  pub cuts : msg .kind ≡ trimKind → Cut log (k .count) (msg .time) (p .cut)
+  pub reads : msg .kind ≡ readKind → (p .place ≡ readPlace k (msg .targets) brick) × (p .found ≡ k .newest)
+  pub looks : msg .kind ≡ orderReadKind → (p .place ≡ lookedPlace log (underFor log k msg)) × (p .found ≡ lookedTime log (underFor log k msg))
+  pub others : (msg .kind ≡ readKind → ⊥) → (msg .kind ≡ orderReadKind → ⊥) → (p .place ≡ 0) × (p .found ≡ 0)
 
 -- the bytes of a block of the image, or what the buffer held
 unfoldable pub gaveOf : List ℕ → ℕ → ℕ → List ℕ → List ℕ
-gaveOf l size place out = cond (eqb place 0) out (take size (drop (512 * place + 16) l))
+gaveOf l size place out = cond (eqb place 0) out (take size (drop (blockBytes * place + heldFrom) l))
 
 -- the plan is what the message asks of the brick
 pub record Ahead (brick : ℕ) (x : Brick) (k : Known) (msg : Message) (p : Plan) : Type 0 where
   pub place-is : p .place ≡ placeFor brick x msg
   pub found-is : p .found ≡ foundFor brick x msg
   pub place-high : p .place ≤ k .count
-  pub cut-low : msg .kind ≡ 5 → p .cut < k .count
-  pub cut-is : msg .kind ≡ 5 → trimmedTo x (msg .time) ≡ without x (p .cut)
+  pub cut-low : msg .kind ≡ trimKind → p .cut < k .count
+  pub cut-is : msg .kind ≡ trimKind → trimmedTo x (msg .time) ≡ without x (p .cut)

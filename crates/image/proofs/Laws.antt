@@ -1,12 +1,13 @@
 -- The laws of `image`, for its own proofs and those of the crates above. No contract cites them.
--- The saved brick. Definitions: Brick (the abstract brick), Image (its blocks), Parse (opening). Laws: the modules named Laws.
+-- LogPlaceLaws: a log by place. The others: blocks and fields of an image, opening, what an opened image satisfies.
+pub mod FieldTestLaws
 pub mod FitLaws
 pub mod HubLaws
 pub mod ImageLaws
-pub mod ShownNumberLaws
+pub mod ImageSoundLaws
+pub mod LogPlaceLaws
 pub mod OpenLaws
 pub mod ParseLaws
 pub mod Saved
 pub mod ScanLaws
-pub mod ImageSoundLaws
-pub mod FieldTestLaws
+pub mod ShownNumberLaws

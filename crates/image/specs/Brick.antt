@@ -27,12 +27,13 @@ entryCount x = length (x .log)
 unfoldable pub noEntry : LogEntry
 noEntry = record { time = 0; block = [] }
 
--- the time and the block of the entry at a place of the log, counted from 0
+-- The log by place, counted from 0, is all that the crates above speak of: the time of the entry at a place,
 unfoldable pub timeAt : Brick → ℕ → ℕ
 timeAt x i = getD (x .log) i noEntry .time
 
-unfoldable pub heldAt : Brick → ℕ → List ℕ
-heldAt x i = getD (x .log) i noEntry .block
+-- and the block that it means.
+unfoldable pub meansAt : Brick → ℕ → List ℕ
+meansAt x i = getD (x .log) i noEntry .block
 
 -- "'Newest' is the last entry's time."
 unfoldable pub newest : Brick → ℕ
@@ -52,7 +53,7 @@ risesAt x i = eqb i 0 || ltb (timeAt x (i - 1)) (timeAt x i)
 
 -- an entry as a brick may hold it
 unfoldable pub entrySound : Settings → Brick → ℕ → Bool
-entrySound s x i = savedTime (timeAt x i) && risesAt x i && eqb (length (heldAt x i)) (s .size)
+entrySound s x i = savedTime (timeAt x i) && risesAt x i && eqb (length (meansAt x i)) (s .size)
 
 -- "entry count (1 to capacity)"
 unfoldable pub countSound : Settings → ℕ → Bool
@@ -65,7 +66,7 @@ soundBrick s x = countSound s (entryCount x) && savedTime (x .promise) && each (
 pub record EntrySound (s : Settings) (x : Brick) (i : ℕ) : Type 0 where
   pub saved : savedTime (timeAt x i) ≡ true
   pub rises : risesAt x i ≡ true
-  pub sized : length (heldAt x i) ≡ s .size
+  pub sized : length (meansAt x i) ≡ s .size
 
 pub record Sound (s : Settings) (x : Brick) : Type 0 where
   pub count-low : 1 ≤ entryCount x

@@ -6,16 +6,17 @@ use lib.Dec.{ltb}
 use Rattle.settings.specs.declared.Settings.{Settings}
 use Rattle.byte_lists.specs.Lists.{stacked}
 use Rattle.image_block.specs.Block.{headBlock, entryBlock, unusedBlock}
-use Rattle.image.specs.Brick.{Brick, entryCount, timeAt, heldAt}
+use Rattle.image.specs.Brick.{Brick, entryCount, timeAt, meansAt}
+use Rattle.image_block.specs.Block.{blockBytes}
 
 -- "Block 0 is the head", "Blocks 1 to count are entries", the others are unused
 unfoldable pub imageBlock : Settings → ℕ → Brick → ℕ → List ℕ
 imageBlock s brick x zero = headBlock s brick (entryCount x) (x .promise)
-imageBlock s brick x (suc i) = cond (ltb i (entryCount x)) (entryBlock (timeAt x i) (heldAt x i)) unusedBlock
+imageBlock s brick x (suc i) = cond (ltb i (entryCount x)) (entryBlock (timeAt x i) (meansAt x i)) unusedBlock
 
 -- the saved form of a brick
 unfoldable pub imageOf : Settings → ℕ → Brick → List ℕ
 imageOf s brick x = stacked (s .capacity + 1) (imageBlock s brick x)
 
 unfoldable pub imageSize : Settings → ℕ
-imageSize s = 512 * (s .capacity + 1)
+imageSize s = blockBytes * (s .capacity + 1)

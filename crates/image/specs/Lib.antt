@@ -1,4 +1,4 @@
--- The saved brick. Definitions: Brick (the abstract brick), Image (its blocks), Parse (opening). Laws: the modules named Laws.
+-- The saved brick. Brick: the abstract brick. Image: its blocks. Parse: opening. Opening: the answers in the code's records. Workers: the inner workers.
 pub mod Brick
 pub mod Image
 pub mod Opening

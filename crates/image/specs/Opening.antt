@@ -19,6 +19,7 @@ use Rattle.image.specs.declared.Shown.the-variants.{Values}
 use Rattle.image.specs.declared.Opening.{Opening}
 use Rattle.settings.specs.Refusal.{passed}
 use Rattle.image.specs.declared.Shown.the-variants.{Refused}
+use Rattle.settings.specs.Ranges.{maxCapacity}
 
 -- n values in a row
 unfoldable pub rowOf : (ℕ → Entry) → ℕ → List Entry
@@ -42,7 +43,7 @@ placeIn (Held place) = place
 
 -- the working log: the brick's entries, then blanks
 unfoldable pub workingLog : Brick → List Entry
-workingLog x = rowOf (entryOf x) 32
+workingLog x = rowOf (entryOf x) maxCapacity
 
 unfoldable pub noBlank : ℕ → Entry
 noBlank i = blank
@@ -50,7 +51,7 @@ noBlank i = blank
 -- what the code answers: the count and the promise, and the working log; or the number of the refusal, and blanks
 unfoldable pub opening : Parsed → Opening
 opening (Opens x) = record { answer = Opened (record { count = entryCount x; promise = x .promise }); log = workingLog x }
-opening (Refuses k) = record { answer = Refused k; log = rowOf noBlank 32 }
+opening (Refuses k) = record { answer = Refused k; log = rowOf noBlank maxCapacity }
 
 -- the number in an answer, 0 in one that opened
 unfoldable pub answerNumber : ImageAnswer → ℕ

@@ -13,24 +13,25 @@ use Rattle.byte_lists.specs.Lists.{same}
 use Rattle.image.specs.Brick.{Brick, LogEntry, soundBrick}
 use Rattle.byte_lists.specs.Each.{each}
 use Rattle.image.specs.Image.{imageOf, imageSize}
+use Rattle.image_block.specs.Block.{blockBytes, countBytes, countFrom, heldFrom, promiseFrom, timeBytes, timeFrom}
 
 -- block k of some bytes
 unfoldable pub imageBlockAt : List ℕ → ℕ → List ℕ
-imageBlockAt bytes k = take 512 (drop (512 * k) bytes)
+imageBlockAt bytes k = take blockBytes (drop (blockBytes * k) bytes)
 
 -- "Block 0 is the head: .. 10–11 entry count (1 to capacity), 12–19 promise."
 unfoldable pub countIn : List ℕ → ℕ
-countIn head = number (take 2 (drop 10 head))
+countIn head = number (take countBytes (drop countFrom head))
 
 unfoldable pub promiseIn : List ℕ → ℕ
-promiseIn head = number (take 8 (drop 12 head))
+promiseIn head = number (take timeBytes (drop promiseFrom head))
 
 -- "entries in rising time: 4–11 time, 12–13 block size, block from 16"
 unfoldable pub timeIn : List ℕ → ℕ
-timeIn block = number (take 8 (drop 4 block))
+timeIn block = number (take timeBytes (drop timeFrom block))
 
 unfoldable pub heldIn : ℕ → List ℕ → List ℕ
-heldIn size block = take size (drop 16 block)
+heldIn size block = take size (drop heldFrom block)
 
 unfoldable pub entryIn : ℕ → List ℕ → LogEntry
 entryIn size block = record { time = timeIn block; block = heldIn size block }

@@ -12,7 +12,6 @@ use Rattle.image.specs.Brick.{Brick, entryCount, savedTime, countSound}
 use Rattle.image.specs.Image.{imageSize}
 use Rattle.image.specs.Parse.{heldIn, Opens, parse, imageBlockAt, checkedAt, timeIn}
 use Rattle.image.specs.declared.Entry.{Entry}
-use Rattle.image.specs.declared.ImageAnswer.the-variants.{Opened}
 use Rattle.image.specs.declared.Opening.{Opening}
 use mathlib.Core.Path.{_≡_}
 use Rattle.image.specs.declared.Head.{Head}
@@ -24,6 +23,8 @@ use Rattle.settings.specs.Ranges.{SettingsRange}
 use Rattle.image.specs.Brick.{Sound}
 use Rattle.image.specs.Image.{imageOf}
 use Rattle.image.specs.Parse.{brickIn}
+use Rattle.image_block.specs.Block.{checkBytes}
+use Rattle.settings.specs.Ranges.{maxCapacity}
 
 -- what an image that opens satisfies
 pub record ImageOpened (s : Settings) (brick : ℕ) (l : List ℕ) (x : Brick) : Type 0 where
@@ -42,12 +43,12 @@ rises i last time = eqb i 0 || ltb last time
 
 -- the head, from its kind on, with that count and that promise
 unfoldable pub headFits : Settings → ℕ → List ℕ → ℕ → ℕ → Bool
-headFits s brick t n promise = countSound s n && savedTime promise && same (drop 2 t) (headBody s brick n promise)
+headFits s brick t n promise = countSound s n && savedTime promise && same (drop checkBytes t) (headBody s brick n promise)
 
 -- the block of entry i of n, from its kind on: an entry, or unused
 unfoldable pub slotFits : ℕ → List ℕ → ℕ → ℕ → ℕ → ℕ → Bool
 slotFits size t time i n last =
-    cond (ltb i n) (savedTime time && rises i last time && same (drop 2 t) (entryBody time (heldIn size t))) (same (drop 2 t) unusedBody)
+    cond (ltb i n) (savedTime time && rises i last time && same (drop checkBytes t) (entryBody time (heldIn size t))) (same (drop checkBytes t) unusedBody)
 
 -- an answer that opened: the brick, and all that is known of it
 pub record Hub (s : Settings) (brick : ℕ) (l : List ℕ) (o : Opening) (h : Head) : Type 0 where
@@ -59,7 +60,7 @@ pub record Hub (s : Settings) (brick : ℕ) (l : List ℕ) (o : Opening) (h : He
   pub logs : o .log ≡ workingLog x
   pub low : 1 ≤ h .count
   pub high : h .count ≤ s .capacity
-  pub most : h .count ≤ 32
+  pub most : h .count ≤ maxCapacity
 
 -- the check of the block of entry i
 unfoldable pub checkAfter : List ℕ → ℕ → Bool
@@ -77,4 +78,4 @@ entryAt l n i = entryFor (timeIn (imageBlockAt l (i + 1))) i n
 pub record Scanned (size cap : ℕ) (l : List ℕ) (n : ℕ) (checks fits : Bool) (log : List Entry) : Type 0 where
   pub all-checked : checks ≡ each (checkAfter l) cap
   pub all-fit : checks ≡ true → fits ≡ each (slotAt size l n) cap
-  pub the-log : checks ≡ true → log ≡ rowOf (entryAt l n) cap ++ replicate (32 - cap) blank
+  pub the-log : checks ≡ true → log ≡ rowOf (entryAt l n) cap ++ replicate (maxCapacity - cap) blank

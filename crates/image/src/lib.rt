@@ -12,12 +12,26 @@ ghost use Rattle.image.specs.Parse.{heldIn, parse, Refuses};
 ghost use Rattle.image.specs.Opening.{answerNumber, entryFor, opening, panelOf, placeIn, lendingRefusal};
 ghost use Rattle.image.specs.Workers.{rises, headFits, slotFits};
 ghost use Rattle.image.specs.Workers.{Scanned};
+ghost use Rattle.image_block.specs.Block.{blockBytes, checkBytes};
+ghost use Rattle.settings.specs.Ranges.{maxCapacity, maxSize};
 use byte_lists::read2;
 use byte_lists::read8;
+use image_block::BLOCK_BYTES;
+use image_block::ENTRY_HELD;
+use image_block::ENTRY_TIME;
+use image_block::HEAD_COUNT;
+use image_block::HEAD_PROMISE;
 use image_block::check_holds;
 use image_block::entry_fields;
 use image_block::head_fields;
 use image_block::same_body;
+use settings::BAD_CHECK;
+use settings::BAD_LENGTH;
+use settings::BAD_NUMBER;
+use settings::BAD_RECORD;
+use settings::BAD_SETTING;
+use settings::MAX_CAPACITY;
+use settings::PASSED;
 use settings::Settings;
 use settings::is_time;
 
@@ -47,14 +61,14 @@ pub enum ImageAnswer {
 // An opened brick, with its working log beside the answer.
 pub struct Opening {
     pub answer: ImageAnswer,
-    pub log: [Entry; 32],
+    pub log: [Entry; MAX_CAPACITY],
 }
 
 // What reading the blocks after the head gives: whether their checks hold, whether they are as the head says, and the log.
 struct Scan {
     checks: bool,
     fits: bool,
-    log: [Entry; 32],
+    log: [Entry; MAX_CAPACITY],
 }
 
 // The place that an entry names.
@@ -88,7 +102,7 @@ fn rising(i: usize, last: u64, time: u64) -> bool
 
 // An entry of the working log: entry i of `count`, or a blank.
 fn entry_for(time: u64, i: usize, count: usize) -> Entry
-    requires { ⌜ i < 32 ⌝ }
+    requires { ⌜ i < maxCapacity ⌝ }
     ensures { λ r. ⌜ r ≡ entryFor time i count ⌝ }
 {
     if i < count {
@@ -114,26 +128,26 @@ fn both(a: bool, b: bool) -> bool
 
 // Whether a block is unused, from its kind on.
 fn unused_fits(t: &[u8]) -> bool
-    requires { ⌜ length (now t) ≡ 512 ⌝ }
-    ensures { λ r. ⌜ r ≡ same (drop 2 (now (t .entry))) unusedBody ⌝ }
+    requires { ⌜ length (now t) ≡ blockBytes ⌝ }
+    ensures { λ r. ⌜ r ≡ same (drop checkBytes (now (t .entry))) unusedBody ⌝ }
 {
-    let b = [0u8; 512];
+    let b = [0u8; BLOCK_BYTES];
     same_body(t, &b)
 }
 
 // Whether a block is, from its kind on, the entry of that time with the bytes that stand there.
 fn entry_fits(size: usize, t: &[u8], time: u64) -> bool
-    requires { ⌜ (size ≤ 256) × (length (now t) ≡ 512) ⌝ }
-    ensures { λ r. ⌜ r ≡ same (drop 2 (now (t .entry))) (entryBody time (heldIn size (now (t .entry)))) ⌝ }
+    requires { ⌜ (size ≤ maxSize) × (length (now t) ≡ blockBytes) ⌝ }
+    ensures { λ r. ⌜ r ≡ same (drop checkBytes (now (t .entry))) (entryBody time (heldIn size (now (t .entry)))) ⌝ }
 {
-    let e = 16 + size;
-    let b = entry_fields(time, &t[16..e]);
+    let e = ENTRY_HELD + size;
+    let b = entry_fields(time, &t[ENTRY_HELD..e]);
     same_body(t, &b)
 }
 
 // Whether the block of entry i, or the unused block in its place, is as it should be.
 fn slot_fits(size: usize, t: &[u8], time: u64, i: usize, count: usize, last: u64) -> bool
-    requires { ⌜ (size ≤ 256) × (length (now t) ≡ 512) ⌝ }
+    requires { ⌜ (size ≤ maxSize) × (length (now t) ≡ blockBytes) ⌝ }
     ensures { λ r. ⌜ r ≡ slotFits size (now (t .entry)) time i count last ⌝ }
 {
     if count <= i {
@@ -152,7 +166,7 @@ fn slot_fits(size: usize, t: &[u8], time: u64, i: usize, count: usize, last: u64
 fn head_fits(s: Settings, brick: usize, t: &[u8], count: usize, promise: u64) -> bool
     requires { ⌜ SettingsRange s ⌝ }
     requires { ⌜ brick < s .n ⌝ }
-    requires { ⌜ length (now t) ≡ 512 ⌝ }
+    requires { ⌜ length (now t) ≡ blockBytes ⌝ }
     ensures { λ r. ⌜ r ≡ headFits s brick (now (t .entry)) count promise ⌝ }
 {
     if count < 1 {
@@ -173,16 +187,16 @@ pub fn lending_refusal(s: Settings, brick: usize, len: usize) -> u32
     ensures { λ r. ⌜ r ≡ lendingRefusal s brick len ⌝ }
 {
     let bad = s.refusal();
-    if bad != 0 {
-        return 1;
+    if bad != PASSED {
+        return BAD_SETTING;
     }
-    if len != 512 * (s.capacity + 1) {
-        return 2;
+    if len != BLOCK_BYTES * (s.capacity + 1) {
+        return BAD_LENGTH;
     }
     if s.n <= brick {
-        return 3;
+        return BAD_NUMBER;
     }
-    0
+    PASSED
 }
 
 // The blocks after the head, each read once, against a count.
@@ -194,13 +208,13 @@ fn read_blocks(s: Settings, image: &[u8], count: usize) -> Scan
     let size = s.size;
     let capacity = s.capacity;
     let nothing = entry_for(0, 0, 0);
-    let mut log = [nothing; 32];
+    let mut log = [nothing; MAX_CAPACITY];
     let mut fits = true;
     let mut last: u64 = 0;
     let mut i: usize = 0;
-    let mut at: usize = 512;
+    let mut at: usize = BLOCK_BYTES;
     while i < capacity {
-        let e = at + 512;
+        let e = at + BLOCK_BYTES;
         let t = &image[at..e];
         if check_holds(t) {} else {
             return Scan {
@@ -209,7 +223,7 @@ fn read_blocks(s: Settings, image: &[u8], count: usize) -> Scan
                 log: log,
             };
         }
-        let time = read8(t, 4);
+        let time = read8(t, ENTRY_TIME);
         let fit = slot_fits(size, t, time, i, count, last);
         fits = both(fits, fit);
         let entry = entry_for(time, i, count);
@@ -230,7 +244,7 @@ fn refused(number: u32) -> Opening
     ensures { λ r. ⌜ r ≡ opening (Refuses number) ⌝ }
 {
     let nothing = entry_for(0, 0, 0);
-    let log = [nothing; 32];
+    let log = [nothing; MAX_CAPACITY];
     Opening {
         answer: ImageAnswer::Refused(number),
         log: log,
@@ -242,22 +256,22 @@ pub fn open(s: Settings, brick: usize, image: &[u8]) -> Opening
     ensures { λ r. ⌜ r ≡ opening (parse s brick (now (image .entry))) ⌝ }
 {
     let bad = lending_refusal(s, brick, image.len());
-    if bad != 0 {
+    if bad != PASSED {
         return refused(bad);
     }
     let t = &image[0..512];
     if check_holds(t) {} else {
-        return refused(5);
+        return refused(BAD_CHECK);
     }
-    let count = read2(t, 10) as usize;
-    let promise = read8(t, 12);
+    let count = read2(t, HEAD_COUNT) as usize;
+    let promise = read8(t, HEAD_PROMISE);
     let head = head_fits(s, brick, t, count, promise);
     let rest = read_blocks(s, image, count);
     if rest.checks {} else {
-        return refused(5);
+        return refused(BAD_CHECK);
     }
     if both(head, rest.fits) {} else {
-        return refused(6);
+        return refused(BAD_RECORD);
     }
     let log = rest.log;
     Opening {

@@ -1,8 +1,8 @@
 -- The laws of `image_block`, for its own proofs and those of the crates above. No contract cites them.
--- The 512-byte block. Definitions: Block. Figures: those of document 01. Laws: the other modules.
-pub mod ChangeLaws
-pub mod CheckLaws
-pub mod CheckFigures
-pub mod LayoutLaws
-pub mod CheckRowLaws
+-- Blocks: BlockStoreLaws, LayoutLaws. The check: CheckLaws, CheckRowLaws, ChangeLaws, CheckFigures.
 pub mod BlockStoreLaws
+pub mod ChangeLaws
+pub mod CheckFigures
+pub mod CheckLaws
+pub mod CheckRowLaws
+pub mod LayoutLaws

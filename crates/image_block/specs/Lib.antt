@@ -1,3 +1,3 @@
--- The 512-byte block. Definitions: Block. Figures: those of document 01. Laws: the other modules.
+-- Block: the 512-byte block of document 01. Workers: what the inner workers ask and give.
 pub mod Block
 pub mod Workers

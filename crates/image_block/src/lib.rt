@@ -1,25 +1,70 @@
 // The 512-byte block of a saved brick (document 01, "The saved brick").
+// inner: call `image::open`
 ghost use mathlib.Core.Path.{_≡_};
 ghost use mathlib.Core.List.{_++_};
 ghost use Prim.Native.Nat.{_+_, _-_, _≤_, _<_};
 ghost use lib.ListN.{length, drop};
-ghost use Rattle.settings.specs.Ranges.{SettingsRange};
-ghost use Rattle.image_block.specs.Workers.{total};
+ghost use Rattle.settings.specs.Ranges.{SettingsRange, maxSize};
+ghost use Rattle.image_block.specs.Block.{blockBytes, checkBytes, heldFrom};
 ghost use Rattle.image_block.specs.Block.{weighted, checkOf, checked, sealed, headBody, headBlock, entryBody, entryBlock, unusedBlock};
-ghost use Rattle.image_block.specs.Workers.{unchecked};
+ghost use Rattle.image_block.specs.Workers.{unchecked, total, rowBytes, plainMost, risingMost, rowMost, pastMost};
 ghost use Rattle.byte_lists.specs.Lists.{zeros, same};
 use byte_lists::byte;
 use byte_lists::read2;
 use settings::Settings;
 
+// "Blocks of 512 bytes".
+pub const BLOCK_BYTES: usize = 512;
+
+// "Bytes 0–1 hold the check": mod 65521.
+const CHECK_BYTES: usize = 2;
+
+const CHECK_MODULUS: u32 = 65521;
+
+// "Byte 2 is the kind: 0 unused, 1 head, 2 entry."
+const KIND: usize = 2;
+
+const HEAD_KIND: u8 = 1;
+
+const ENTRY_KIND: u8 = 2;
+
+// "The head: 4 n, 5 m, 6 brick, 7 capacity, 8–9 block size, 10–11 entry count, 12–19 promise."
+const HEAD_N: usize = 4;
+
+const HEAD_M: usize = 5;
+
+const HEAD_BRICK: usize = 6;
+
+const HEAD_CAPACITY: usize = 7;
+
+const HEAD_SIZE: usize = 8;
+
+pub const HEAD_COUNT: usize = 10;
+
+pub const HEAD_PROMISE: usize = 12;
+
+// "Entries: 4–11 time, 12–13 block size, block from 16."
+pub const ENTRY_TIME: usize = 4;
+
+const ENTRY_SIZE: usize = 12;
+
+pub const ENTRY_HELD: usize = 16;
+
+// The check is summed in rows; the first begins with the check itself, so fewer of its bytes count.
+const ROW_BYTES: usize = 64;
+
+const ROW_WEIGHTS: u32 = 64;
+
+const FIRST_WEIGHTS: u32 = 62;
+
 // The sum of the bytes of a row.
 fn plain_sum(t: &[u8]) -> u32
-    requires { ⌜ length (now t) ≡ 64 ⌝ }
-    ensures { λ r. ⌜ (r ≡ total (now (t .entry))) × (r ≤ 16320) ⌝ }
+    requires { ⌜ length (now t) ≡ rowBytes ⌝ }
+    ensures { λ r. ⌜ (r ≡ total (now (t .entry))) × (r ≤ plainMost) ⌝ }
 {
     let mut part: u32 = 0;
     let mut i: usize = 0;
-    while i < 64 {
+    while i < ROW_BYTES {
         part += t[i] as u32;
         i += 1;
     }
@@ -28,8 +73,8 @@ fn plain_sum(t: &[u8]) -> u32
 
 // The sum of the bytes of a row, the first one once, the next one twice, and so on.
 fn rising_sum(b: &[u8]) -> u32
-    requires { ⌜ length (now b) ≤ 64 ⌝ }
-    ensures { λ r. ⌜ (r ≡ weighted 1 (now (b .entry))) × (r ≤ 1044480) ⌝ }
+    requires { ⌜ length (now b) ≤ rowBytes ⌝ }
+    ensures { λ r. ⌜ (r ≡ weighted 1 (now (b .entry))) × (r ≤ risingMost) ⌝ }
 {
     let mut rise: u32 = 0;
     let mut weight: u32 = 1;
@@ -44,35 +89,35 @@ fn rising_sum(b: &[u8]) -> u32
 
 // The part of a row in the check, where its first byte counts once more than `past` times.
 fn row_sum(t: &[u8], past: u32) -> u32
-    requires { ⌜ length (now t) ≡ 64 ⌝ }
-    requires { ⌜ past ≤ 446 ⌝ }
-    ensures { λ r. ⌜ (r ≡ weighted (past + 1) (now (t .entry))) × (r ≤ 8323200) ⌝ }
+    requires { ⌜ length (now t) ≡ rowBytes ⌝ }
+    requires { ⌜ past ≤ pastMost ⌝ }
+    ensures { λ r. ⌜ (r ≡ weighted (past + 1) (now (t .entry))) × (r ≤ rowMost) ⌝ }
 {
     rising_sum(t) + past * plain_sum(t)
 }
 
-// The check of a block: of its bytes from offset 2 on. In rows of 64 bytes, whose weights the compiler knows.
+// The check of a block: of its bytes after it. In rows of 64 bytes, whose weights the compiler knows.
 pub fn check_of(b: &[u8]) -> u32
-    requires { ⌜ length (now b) ≡ 512 ⌝ }
-    ensures { λ r. ⌜ r ≡ checkOf (drop 2 (now (b .entry))) ⌝ }
+    requires { ⌜ length (now b) ≡ blockBytes ⌝ }
+    ensures { λ r. ⌜ r ≡ checkOf (drop checkBytes (now (b .entry))) ⌝ }
 {
     let mut sum: u32 = 1;
-    sum += rising_sum(&b[2..64]);
-    let mut past: u32 = 62;
-    let mut at: usize = 64;
-    while at < 512 {
-        let e = at + 64;
+    sum += rising_sum(&b[CHECK_BYTES..ROW_BYTES]);
+    let mut past: u32 = FIRST_WEIGHTS;
+    let mut at: usize = ROW_BYTES;
+    while at < BLOCK_BYTES {
+        let e = at + ROW_BYTES;
         let t = &b[at..e];
         sum += row_sum(t, past);
-        past += 64;
+        past += ROW_WEIGHTS;
         at = e;
     }
-    sum % 65521
+    sum % CHECK_MODULUS
 }
 
 // Whether a block's check holds.
 pub fn check_holds(b: &[u8]) -> bool
-    requires { ⌜ length (now b) ≡ 512 ⌝ }
+    requires { ⌜ length (now b) ≡ blockBytes ⌝ }
     ensures { λ r. ⌜ r ≡ checked (now (b .entry)) ⌝ }
 {
     let found = read2(b, 0);
@@ -81,8 +126,8 @@ pub fn check_holds(b: &[u8]) -> bool
 }
 
 // A block with its check placed in front.
-pub fn seal(b: [u8; 512]) -> [u8; 512]
-    ensures { λ r. ⌜ r ≡ sealed (drop 2 b) ⌝ }
+pub fn seal(b: [u8; BLOCK_BYTES]) -> [u8; BLOCK_BYTES]
+    ensures { λ r. ⌜ r ≡ sealed (drop checkBytes b) ⌝ }
 {
     let mut s = b;
     let check = check_of(&s) as u64;
@@ -92,34 +137,34 @@ pub fn seal(b: [u8; 512]) -> [u8; 512]
 }
 
 // The head without its check.
-pub fn head_fields(s: Settings, brick: usize, count: usize, promise: u64) -> [u8; 512]
+pub fn head_fields(s: Settings, brick: usize, count: usize, promise: u64) -> [u8; BLOCK_BYTES]
     requires { ⌜ SettingsRange s ⌝ }
     requires { ⌜ brick < s .n ⌝ }
     ensures { λ r. ⌜ r ≡ unchecked (headBody s brick count promise) ⌝ }
 {
-    let mut b = [0u8; 512];
-    b[2] = 1;
-    b[4] = s.n as u8;
-    b[5] = s.m as u8;
-    b[6] = brick as u8;
-    b[7] = s.capacity as u8;
-    b[8] = byte(s.size as u64);
-    b[9] = byte(s.size as u64 / 256);
-    b[10] = byte(count as u64);
-    b[11] = byte(count as u64 / 256);
-    b[12] = byte(promise);
-    b[13] = byte(promise / 256);
-    b[14] = byte(promise / 65536);
-    b[15] = byte(promise / 16777216);
-    b[16] = byte(promise / 4294967296);
-    b[17] = byte(promise / 1099511627776);
-    b[18] = byte(promise / 281474976710656);
-    b[19] = byte(promise / 72057594037927936);
+    let mut b = [0u8; BLOCK_BYTES];
+    b[KIND] = HEAD_KIND;
+    b[HEAD_N] = s.n as u8;
+    b[HEAD_M] = s.m as u8;
+    b[HEAD_BRICK] = brick as u8;
+    b[HEAD_CAPACITY] = s.capacity as u8;
+    b[HEAD_SIZE] = byte(s.size as u64);
+    b[HEAD_SIZE + 1] = byte(s.size as u64 / 256);
+    b[HEAD_COUNT] = byte(count as u64);
+    b[HEAD_COUNT + 1] = byte(count as u64 / 256);
+    b[HEAD_PROMISE] = byte(promise);
+    b[HEAD_PROMISE + 1] = byte(promise / 256);
+    b[HEAD_PROMISE + 2] = byte(promise / 65536);
+    b[HEAD_PROMISE + 3] = byte(promise / 16777216);
+    b[HEAD_PROMISE + 4] = byte(promise / 4294967296);
+    b[HEAD_PROMISE + 5] = byte(promise / 1099511627776);
+    b[HEAD_PROMISE + 6] = byte(promise / 281474976710656);
+    b[HEAD_PROMISE + 7] = byte(promise / 72057594037927936);
     b
 }
 
 // The head with its check.
-pub fn head(s: Settings, brick: usize, count: usize, promise: u64) -> [u8; 512]
+pub fn head(s: Settings, brick: usize, count: usize, promise: u64) -> [u8; BLOCK_BYTES]
     requires { ⌜ SettingsRange s ⌝ }
     requires { ⌜ brick < s .n ⌝ }
     ensures { λ r. ⌜ r ≡ headBlock s brick count promise ⌝ }
@@ -127,67 +172,67 @@ pub fn head(s: Settings, brick: usize, count: usize, promise: u64) -> [u8; 512]
     seal(head_fields(s, brick, count, promise))
 }
 
-// Zeros, with a block from offset 16 on.
-fn held(block: &[u8]) -> [u8; 512]
-    requires { ⌜ length (now block) ≤ 256 ⌝ }
-    ensures { λ r. ⌜ r ≡ zeros 16 ++ now (block .entry) ++ zeros (496 - length (now (block .entry))) ⌝ }
+// Zeros, with a block where that of an entry stands.
+fn held(block: &[u8]) -> [u8; BLOCK_BYTES]
+    requires { ⌜ length (now block) ≤ maxSize ⌝ }
+    ensures { λ r. ⌜ r ≡ zeros heldFrom ++ now (block .entry) ++ zeros (blockBytes - heldFrom - length (now (block .entry))) ⌝ }
 {
-    let mut b = [0u8; 512];
+    let mut b = [0u8; BLOCK_BYTES];
     let mut i: usize = 0;
     while i < block.len() {
-        b[16 + i] = block[i];
+        b[ENTRY_HELD + i] = block[i];
         i += 1;
     }
     b
 }
 
 // An entry without its check.
-pub fn entry_fields(time: u64, block: &[u8]) -> [u8; 512]
-    requires { ⌜ length (now block) ≤ 256 ⌝ }
+pub fn entry_fields(time: u64, block: &[u8]) -> [u8; BLOCK_BYTES]
+    requires { ⌜ length (now block) ≤ maxSize ⌝ }
     ensures { λ r. ⌜ r ≡ unchecked (entryBody time (now (block .entry))) ⌝ }
 {
     let size = block.len() as u64;
     let mut b = held(block);
-    b[2] = 2;
-    b[4] = byte(time);
-    b[5] = byte(time / 256);
-    b[6] = byte(time / 65536);
-    b[7] = byte(time / 16777216);
-    b[8] = byte(time / 4294967296);
-    b[9] = byte(time / 1099511627776);
-    b[10] = byte(time / 281474976710656);
-    b[11] = byte(time / 72057594037927936);
-    b[12] = byte(size);
-    b[13] = byte(size / 256);
+    b[KIND] = ENTRY_KIND;
+    b[ENTRY_TIME] = byte(time);
+    b[ENTRY_TIME + 1] = byte(time / 256);
+    b[ENTRY_TIME + 2] = byte(time / 65536);
+    b[ENTRY_TIME + 3] = byte(time / 16777216);
+    b[ENTRY_TIME + 4] = byte(time / 4294967296);
+    b[ENTRY_TIME + 5] = byte(time / 1099511627776);
+    b[ENTRY_TIME + 6] = byte(time / 281474976710656);
+    b[ENTRY_TIME + 7] = byte(time / 72057594037927936);
+    b[ENTRY_SIZE] = byte(size);
+    b[ENTRY_SIZE + 1] = byte(size / 256);
     b
 }
 
 // An entry with its check.
-pub fn entry(time: u64, block: &[u8]) -> [u8; 512]
-    requires { ⌜ length (now block) ≤ 256 ⌝ }
+pub fn entry(time: u64, block: &[u8]) -> [u8; BLOCK_BYTES]
+    requires { ⌜ length (now block) ≤ maxSize ⌝ }
     ensures { λ r. ⌜ r ≡ entryBlock time (now (block .entry)) ⌝ }
 {
     seal(entry_fields(time, block))
 }
 
 // An unused block: 510 zeros, and the check of 1 placed in front.
-pub fn unused() -> [u8; 512]
+pub fn unused() -> [u8; BLOCK_BYTES]
     ensures { λ r. ⌜ r ≡ unusedBlock ⌝ }
 {
-    let mut b = [0u8; 512];
+    let mut b = [0u8; BLOCK_BYTES];
     b[0] = 1;
     b
 }
 
-// Whether two blocks are the same from offset 2 on.
+// Whether two blocks are the same but for their checks.
 pub fn same_body(a: &[u8], b: &[u8]) -> bool
-    requires { ⌜ length (now a) ≡ 512 ⌝ }
-    requires { ⌜ length (now b) ≡ 512 ⌝ }
-    ensures { λ r. ⌜ r ≡ same (drop 2 (now (a .entry))) (drop 2 (now (b .entry))) ⌝ }
+    requires { ⌜ length (now a) ≡ blockBytes ⌝ }
+    requires { ⌜ length (now b) ≡ blockBytes ⌝ }
+    ensures { λ r. ⌜ r ≡ same (drop checkBytes (now (a .entry))) (drop checkBytes (now (b .entry))) ⌝ }
 {
     let mut differ: u8 = 0;
-    let mut p: usize = 2;
-    while p < 512 {
+    let mut p: usize = CHECK_BYTES;
+    while p < BLOCK_BYTES {
         if a[p] != b[p] {
             differ = 1;
         }

@@ -1,2 +1,2 @@
--- The view of a saved brick. Definitions: View. Laws: ViewLaws.
+-- View: the entry at a place of a saved brick.
 pub mod View

@@ -11,6 +11,7 @@ use Rattle.image.specs.declared.Holding.the-variants.{Held}
 use Rattle.image_view.specs.declared.Found.{Found}
 use Rattle.image_view.specs.declared.Found.the-variants.{At, Refused}
 use Rattle.settings.specs.Refusal.{passed}
+use Rattle.image_block.specs.Block.{blockBytes}
 
 -- the entry at a place: its time, and the place of its held block; or 3 for "a view's place not below its count"
 unfoldable pub foundOf : Parsed → ℕ → Found
@@ -20,7 +21,7 @@ foundOf (Refuses k) place = Refused k
 -- the same read from bytes that have n entries; 2 where they are too short for that
 unfoldable pub foundAt : List ℕ → ℕ → ℕ → Found
 foundAt l n place =
-    cond (leb (length l / 512) n) (Refused badLength)
+    cond (leb (length l / blockBytes) n) (Refused badLength)
     (cond (leb n place) (Refused badNumber) (At (record { time = timeIn (imageBlockAt l (place + 1)); holding = Held (place + 1) })))
 
 -- 0 where there is an entry

@@ -9,6 +9,10 @@ use image::Holding;
 use image::ImageAnswer;
 use image::number_of;
 use image::open;
+use image_block::BLOCK_BYTES;
+use image_block::ENTRY_TIME;
+use settings::BAD_LENGTH;
+use settings::BAD_NUMBER;
 use settings::Settings;
 
 // A checked image and the number of its entries.
@@ -27,13 +31,13 @@ pub enum Found {
 pub fn entry_at(image: &[u8], count: usize, place: usize) -> Found
     ensures { λ r. ⌜ r ≡ foundAt (now (image .entry)) count place ⌝ }
 {
-    if image.len() / 512 <= count {
-        return Found::Refused(2);
+    if image.len() / BLOCK_BYTES <= count {
+        return Found::Refused(BAD_LENGTH);
     }
     if count <= place {
-        return Found::Refused(3);
+        return Found::Refused(BAD_NUMBER);
     }
-    let at = 512 * (place + 1) + 4;
+    let at = BLOCK_BYTES * (place + 1) + ENTRY_TIME;
     let time = read8(image, at);
     Found::At(Entry {
         time: time,

@@ -1,5 +1,5 @@
 -- The laws of `image_write`, for its own proofs and those of the crates above. No contract cites them.
--- Changing a saved brick in place. Definitions: Saving. Laws: the modules named Laws.
+-- BlocksLaws: an image block by block. FreshImageLaws: a fresh one. ImageStepLaws: each change of a brick, by place and at its image.
 pub mod BlocksLaws
 pub mod FreshImageLaws
 pub mod ImageStepLaws

@@ -1,3 +1,3 @@
--- Changing a saved brick in place. Definitions: Saving. Laws: the modules named Laws.
+-- Changing a saved brick in place. Saving: a fresh image, and the changes of an abstract brick. Workers: what the inner workers ask and give.
 pub mod Saving
 pub mod Workers

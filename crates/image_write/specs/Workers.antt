@@ -8,6 +8,7 @@ use Rattle.image.specs.Brick.{Brick}
 use mathlib.Core.Path.{_≡_}
 use Rattle.image_block.specs.Block.{unusedBlock}
 use Rattle.image.specs.Parse.{imageBlockAt}
+use Rattle.image_block.specs.Block.{blockBytes}
 
 -- without the first d entries
 unfoldable pub without : Brick → ℕ → Brick
@@ -15,7 +16,7 @@ without x d = record { promise = x .promise; log = drop d (x .log) }
 
 -- the bytes l are n blocks, block k being g k
 pub record Blocks (g : ℕ → List ℕ) (n : ℕ) (l : List ℕ) : Type 0 where
-  pub long : length l ≡ 512 * n
+  pub long : length l ≡ blockBytes * n
   pub at : (k : ℕ) → k < n → imageBlockAt l k ≡ g k
 
 -- the blocks from one number up to another unused

@@ -11,11 +11,16 @@ ghost use Rattle.image.specs.Brick.{freshBrick};
 ghost use Rattle.image.specs.Opening.{lendingRefusal};
 ghost use Rattle.image_write.specs.Saving.{freshAfter};
 ghost use Rattle.image_write.specs.Workers.{Blocks, clearedOf, shiftedOf};
+ghost use Rattle.image_block.specs.Block.{blockBytes};
+ghost use Rattle.settings.specs.Ranges.{maxSize};
 use byte_lists::store;
 use image::lending_refusal;
+use image_block::BLOCK_BYTES;
 use image_block::entry;
 use image_block::head;
 use image_block::unused;
+use settings::MAX_SIZE;
+use settings::PASSED;
 use settings::Settings;
 
 // The head, written anew: 512 bytes.
@@ -31,7 +36,7 @@ pub fn write_head(s: Settings, brick: usize, image: &mut [u8], count: usize, pro
 
 // An entry, written from a place on: 512 bytes.
 pub fn write_entry(image: &mut [u8], at: usize, time: u64, block: &[u8])
-    requires { ⌜ (at + 512 ≤ length (now image)) × (length (now block) ≤ 256) ⌝ }
+    requires { ⌜ (at + blockBytes ≤ length (now image)) × (length (now block) ≤ maxSize) ⌝ }
     ensures { λ _. ⌜ now (image .exit) ≡ put at (entryBlock time (now (block .entry))) (now (image .entry)) ⌝ }
 {
     let b = entry(time, block);
@@ -40,25 +45,25 @@ pub fn write_entry(image: &mut [u8], at: usize, time: u64, block: &[u8])
 
 // The blocks from one number up to another, made unused.
 pub fn clear_blocks(image: &mut [u8], from: usize, to: usize)
-    requires { ⌜ (from ≤ to) × (512 * to ≤ length (now image)) ⌝ }
+    requires { ⌜ (from ≤ to) × (blockBytes * to ≤ length (now image)) ⌝ }
     ensures { λ _. ⌜ ((n : ℕ) (g : ℕ → List ℕ) → Blocks g n (now (image .entry)) → Blocks (clearedOf g from to) n (now (image .exit))) ⌝ }
 {
     let b = unused();
     let mut k = from;
     while k < to {
-        store(image, 512 * k, &b);
+        store(image, BLOCK_BYTES * k, &b);
         k += 1;
     }
 }
 
 // A copy of a block.
-fn copied(part: &[u8]) -> [u8; 512]
-    requires { ⌜ length (now part) ≡ 512 ⌝ }
+fn copied(part: &[u8]) -> [u8; BLOCK_BYTES]
+    requires { ⌜ length (now part) ≡ blockBytes ⌝ }
     ensures { λ r. ⌜ r ≡ now (part .entry) ⌝ }
 {
-    let mut b = [0u8; 512];
+    let mut b = [0u8; BLOCK_BYTES];
     let mut i: usize = 0;
-    while i < 512 {
+    while i < BLOCK_BYTES {
         b[i] = part[i];
         i += 1;
     }
@@ -67,26 +72,26 @@ fn copied(part: &[u8]) -> [u8; 512]
 
 // The entries from number d on, moved down to the front: `kept` blocks.
 pub fn shift_blocks(image: &mut [u8], d: usize, kept: usize)
-    requires { ⌜ 512 * (d + kept + 1) ≤ length (now image) ⌝ }
+    requires { ⌜ blockBytes * (d + kept + 1) ≤ length (now image) ⌝ }
     ensures { λ _. ⌜ ((n : ℕ) (g : ℕ → List ℕ) → Blocks g n (now (image .entry)) → Blocks (shiftedOf g d kept) n (now (image .exit))) ⌝ }
 {
     let mut k: usize = 0;
     while k < kept {
-        let from = 512 * (d + k + 1);
-        let e = from + 512;
+        let from = BLOCK_BYTES * (d + k + 1);
+        let e = from + BLOCK_BYTES;
         let b = copied(&image[from..e]);
-        store(image, 512 * (k + 1), &b);
+        store(image, BLOCK_BYTES * (k + 1), &b);
         k += 1;
     }
 }
 
 // The first entry of a fresh brick: time 0, a zero block.
 fn write_zero_entry(image: &mut [u8], size: usize)
-    requires { ⌜ (1024 ≤ length (now image)) × (size ≤ 256) ⌝ }
-    ensures { λ _. ⌜ now (image .exit) ≡ put 512 (entryBlock 0 (zeros size)) (now (image .entry)) ⌝ }
+    requires { ⌜ (2 * blockBytes ≤ length (now image)) × (size ≤ maxSize) ⌝ }
+    ensures { λ _. ⌜ now (image .exit) ≡ put blockBytes (entryBlock 0 (zeros size)) (now (image .entry)) ⌝ }
 {
-    let zero = [0u8; 256];
-    write_entry(image, 512, 0, &zero[..size]);
+    let zero = [0u8; MAX_SIZE];
+    write_entry(image, BLOCK_BYTES, 0, &zero[..size]);
 }
 
 // A fresh brick.
@@ -107,9 +112,9 @@ pub fn write_fresh(s: Settings, brick: usize, image: &mut [u8]) -> u32
     ensures { λ r. ⌜ now (image .exit) ≡ freshAfter s brick (now (image .entry)) ⌝ }
 {
     let bad = lending_refusal(s, brick, image.len());
-    if bad != 0 {
+    if bad != PASSED {
         return bad;
     }
     fill_fresh(s, brick, image);
-    0
+    PASSED
 }

@@ -10,7 +10,6 @@ pub mod Opened
 -- The invariant, and what goes on to hold under more facts and more items.
 pub mod UpLaws
 -- One message at one brick.
-pub mod LogLaws
 pub mod BrickLogLaws
 pub mod ReceiveLaws
 pub mod BrickEvent

@@ -1,3 +1,3 @@
--- The laws of `test_brick`, for its own proofs and those of the crates above. No contract cites them.
--- Definitions: Numbers. Laws: NumberLaws.
+-- The laws of `test_brick`, for its own proofs. No contract cites them.
+-- BrickBoundaryLaws: buffers filled entry by entry, and the ways through the routines.
 pub mod BrickBoundaryLaws

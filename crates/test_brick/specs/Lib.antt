@@ -1,2 +1,2 @@
--- Definitions: Numbers. Laws: NumberLaws.
+-- BrickBoundary: the brick's routines at a boundary of numbers and slices.
 pub mod BrickBoundary

@@ -1,23 +1,33 @@
 // The brick at a C boundary of numbers and slices, for the tests and benchmarks that compare it with other code.
 ghost use mathlib.Core.Path.{_≡_};
-ghost use lib.Dec.{eqb};
 ghost use lib.ListN.{length};
-ghost use Rattle.brick.specs.Receive.{outcome};
-ghost use Rattle.test_brick.specs.BrickBoundary.{settingsFor, replyNumbers, givenNumber, givenBuffer, shownNumber, shownBuffer, entryBuffer, numberIf, bufferIf, messageFor, lent};
-ghost use Rattle.image.specs.Opening.{lendingRefusal, panelOf};
-ghost use Rattle.image.specs.Parse.{parse};
+ghost use Rattle.test_brick.specs.BrickBoundary.{settingsFor, messageFor, replyLength};
+ghost use Rattle.test_brick.specs.BrickBoundary.{panelAt, entryPairAt, replyNumbers, answerCode, givenBuffer, receiptAt};
+ghost use Rattle.image.specs.Opening.{lendingRefusal};
 ghost use Rattle.image_write.specs.Saving.{freshAfter};
 ghost use Rattle.settings.specs.Count.{one-if};
-ghost use Rattle.image_view.specs.View.{foundNumber};
-ghost use Rattle.image_view.specs.View.{foundOf};
+ghost use Rattle.settings.specs.Ranges.{maxBricks};
 use brick::Given;
 use image::Shown;
 use image::place_of;
 use image_view::Found;
 use message::Message;
 use message::Reply;
+use settings::BAD_LENGTH;
+use settings::MAX_BRICKS;
+use settings::PASSED;
 use settings::Settings;
 
+// The panel's two times, or an entry's time and place.
+const PAIR_LENGTH: usize = 2;
+
+// The fields of a reply.
+const REPLY_LENGTH: usize = 7;
+
+// The number that tells silence from a reply and from every refusal.
+const SILENCE: u32 = 100;
+
+// 0 or 1.
 fn flag(b: bool) -> u64
     ensures { λ r. ⌜ r ≡ one-if b ⌝ }
 {
@@ -60,11 +70,12 @@ pub extern "C" fn brick_panel(
     image: &[u8],
     times: &mut [u64],
 ) -> u32
-    ensures { λ r. ⌜ r ≡ numberIf (eqb (length (now (times .entry))) 2) (shownNumber (panelOf (parse (settingsFor n m size capacity) brick (now (image .entry))))) ⌝ }
-    ensures { λ r. ⌜ now (times .exit) ≡ bufferIf (eqb (length (now (times .entry))) 2) (shownBuffer (panelOf (parse (settingsFor n m size capacity) brick (now (image .entry)))) (now (times .entry))) (now (times .entry)) ⌝ }
+    ensures { λ r. ⌜
+        record { number = r; pair = now (times .exit) }
+        ≡ panelAt (settingsFor n m size capacity) brick (now (image .entry)) (now (times .entry)) ⌝ }
 {
-    if times.len() != 2 {
-        return 2;
+    if times.len() != PAIR_LENGTH {
+        return BAD_LENGTH;
     }
     let s = Settings {
         n: n,
@@ -77,7 +88,7 @@ pub extern "C" fn brick_panel(
         Shown::Values(p) => {
             times[0] = p.promise;
             times[1] = p.newest;
-            0
+            PASSED
         }
         Shown::Refused(number) => number,
     }
@@ -95,11 +106,12 @@ pub extern "C" fn brick_entry(
     place: usize,
     found: &mut [u64],
 ) -> u32
-    ensures { λ r. ⌜ r ≡ numberIf (eqb (length (now (found .entry))) 2) (foundNumber (foundOf (parse (settingsFor n m size capacity) brick (now (image .entry))) place)) ⌝ }
-    ensures { λ r. ⌜ now (found .exit) ≡ bufferIf (eqb (length (now (found .entry))) 2) (entryBuffer (foundOf (parse (settingsFor n m size capacity) brick (now (image .entry))) place) (now (found .entry))) (now (found .entry)) ⌝ }
+    ensures { λ r. ⌜
+        record { number = r; pair = now (found .exit) }
+        ≡ entryPairAt (settingsFor n m size capacity) brick (now (image .entry)) place (now (found .entry)) ⌝ }
 {
-    if found.len() != 2 {
-        return 2;
+    if found.len() != PAIR_LENGTH {
+        return BAD_LENGTH;
     }
     let s = Settings {
         n: n,
@@ -114,7 +126,7 @@ pub extern "C" fn brick_entry(
             let held = place_of(holding);
             found[0] = e.time;
             found[1] = held as u64;
-            0
+            PASSED
         }
         Found::Refused(number) => number,
     }
@@ -122,7 +134,7 @@ pub extern "C" fn brick_entry(
 
 // A reply into a buffer of seven numbers.
 fn put_reply(r: Reply, reply: &mut [u64])
-    requires { ⌜ length (now reply) ≡ 7 ⌝ }
+    requires { ⌜ length (now reply) ≡ replyLength ⌝ }
     ensures { λ _. ⌜ now (reply .exit) ≡ replyNumbers r ⌝ }
 {
     reply[0] = r.kind as u64;
@@ -134,25 +146,25 @@ fn put_reply(r: Reply, reply: &mut [u64])
     reply[6] = flag(r.held);
 }
 
-// What a brick gave, into the reply's buffer: 0 a reply, 100 silence, else the refusal.
+// What a brick gave, into the reply's buffer: 0 a reply, or silence, or the refusal.
 fn put_given(g: Given, reply: &mut [u64]) -> u32
-    requires { ⌜ length (now reply) ≡ 7 ⌝ }
-    ensures { λ r. ⌜ r ≡ givenNumber g ⌝ }
+    requires { ⌜ length (now reply) ≡ replyLength ⌝ }
+    ensures { λ r. ⌜ r ≡ answerCode g ⌝ }
     ensures { λ r. ⌜ now (reply .exit) ≡ givenBuffer g (now (reply .entry)) ⌝ }
 {
     match g {
         Given::Answered(r) => {
             put_reply(r, reply);
-            0
+            PASSED
         }
-        Given::Silent => 100,
+        Given::Silent => SILENCE,
         Given::Refused(number) => number,
     }
 }
 
 // Sixteen flags from a slice of sixteen bytes.
-fn flags_of(t: &[u8]) -> [u8; 16]
-    requires { ⌜ length (now t) ≡ 16 ⌝ }
+fn flags_of(t: &[u8]) -> [u8; MAX_BRICKS]
+    requires { ⌜ length (now t) ≡ maxBricks ⌝ }
     ensures { λ r. ⌜ r ≡ now (t .entry) ⌝ }
 {
     [
@@ -193,16 +205,16 @@ pub extern "C" fn brick_receive(
     out: &mut [u8],
     reply: &mut [u64],
 ) -> u32
-    ensures { λ r. ⌜ r ≡ numberIf (lent (now (targets .entry)) (now (reply .entry))) (givenNumber (outcome (settingsFor n m size capacity) brick (now (image .entry)) (messageFor kind time round max (now (targets .entry))) (now (block .entry)) (now (out .entry)) .given)) ⌝ }
-    ensures { λ r. ⌜ now (image .exit) ≡ bufferIf (lent (now (targets .entry)) (now (reply .entry))) (outcome (settingsFor n m size capacity) brick (now (image .entry)) (messageFor kind time round max (now (targets .entry))) (now (block .entry)) (now (out .entry)) .image) (now (image .entry)) ⌝ }
-    ensures { λ r. ⌜ now (out .exit) ≡ bufferIf (lent (now (targets .entry)) (now (reply .entry))) (outcome (settingsFor n m size capacity) brick (now (image .entry)) (messageFor kind time round max (now (targets .entry))) (now (block .entry)) (now (out .entry)) .out) (now (out .entry)) ⌝ }
-    ensures { λ r. ⌜ now (reply .exit) ≡ bufferIf (lent (now (targets .entry)) (now (reply .entry))) (givenBuffer (outcome (settingsFor n m size capacity) brick (now (image .entry)) (messageFor kind time round max (now (targets .entry))) (now (block .entry)) (now (out .entry)) .given) (now (reply .entry))) (now (reply .entry)) ⌝ }
+    ensures { λ r. ⌜
+        record { number = r; image = now (image .exit); out = now (out .exit); reply = now (reply .exit) }
+        ≡ receiptAt (settingsFor n m size capacity) brick (messageFor kind time round max (now (targets .entry)))
+        (now (block .entry)) (now (image .entry)) (now (out .entry)) (now (reply .entry)) ⌝ }
 {
-    if targets.len() != 16 {
-        return 2;
+    if targets.len() != MAX_BRICKS {
+        return BAD_LENGTH;
     }
-    if reply.len() != 7 {
-        return 2;
+    if reply.len() != REPLY_LENGTH {
+        return BAD_LENGTH;
     }
     let s = Settings {
         n: n,

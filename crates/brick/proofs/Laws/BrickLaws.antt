@@ -1,59 +1,58 @@
--- Laws of `specs/BrickLaws`.
+-- What each message does to a brick.
 use mathlib.Core.Path.{_≡_, refl, sym, ap, subst, _∙_}
-use mathlib.Core.Bool.{Bool, true, false, cond, _&&_, _||_}
-use mathlib.Core.List.{List, [], _∷_, _++_, List·Memᴰ, List·Memᴰ·head, List·Memᴰ·tail}
+use mathlib.Core.Bool.{Bool, true, false, cond, _&&_}
+use mathlib.Core.List.{List, []}
 use Prim.Native.Nat.{ℕ, zero, suc, _+_, _-_, _≤_, _<_}
 use native.Mathlib.Omega.{arith}
 use native.Mathlib.Decide.{ℕ-discrete, decLt}
 use lib.Arith.{lt-of-le-ne}
-use lib.Dec.{ltb, eqb}
-use lib.ListN.{length, getD}
-use borrow.Author.Tests.{lt-ltb, le-ltb, ltb-true, ltb-false, leb-true, eq-eqb, ne-eqb}
+use lib.Dec.{ltb}
+use lib.ListN.{length}
+use borrow.Author.Tests.{ltb-true, ltb-false, leb-true, eq-eqb, ne-eqb}
 use Rattle.byte_lists.proofs.Laws.BoolLaws.{and-left, and-right}
 use Rattle.settings.specs.Times.{validTime}
 use Rattle.settings.specs.declared.Settings.{Settings}
 use Rattle.message.specs.declared.Message.{Message}
-use Rattle.image.specs.Brick.{Brick, LogEntry, noEntry, entryCount, timeAt, heldAt, newest, savedTime, risesAt}
+use Rattle.image.specs.Brick.{Brick, entryCount, timeAt, meansAt, newest, savedTime}
 use Rattle.image.specs.Image.{imageOf}
 use Rattle.image.specs.Parse.{Opens, parse}
 use Rattle.image.proofs.Laws.ParseLaws.{opened, parse-image}
-use Rattle.image.specs.Brick.{Sound, EntrySound}
+use Rattle.image.specs.Brick.{Sound}
 use Rattle.image_write.specs.Saving.{withPromise, withEntry}
-use Rattle.image_write.specs.Workers.{without}
 use Rattle.settings.specs.Refusal.{refuseUnless}
 use Rattle.message.specs.Messages.{messageRefusal, roundRight, kindRight}
-use Rattle.image.specs.Opening.{workingLog, blank}
-use borrow.Author.Count.{below-more}
-use Rattle.brick_log.specs.Workers.{Cut}
-use Rattle.brick_log.proofs.Laws.LookLaws.{cut-at, cut-last}
-use Rattle.image_write.proofs.Laws.ImageStepLaws.{without-count, without-time, without-held, appended-count, appended-time-old, appended-held-old, appended-time-new, appended-held-new}
-use Rattle.brick_log.specs.BrickRules.{aboveNewest, notBelowPromise, hasFree, orderYes, writeYes, orderedIfYes, writtenIfYes, trimmed, trimmedTo, under, lookup, yesTo, brickAfter}
-use Rattle.brick.proofs.Laws.TrimLaws.{rises-next, rises-add, cut-trims}
+use Rattle.image_write.proofs.Laws.ImageStepLaws.{promised-promise, appended-promise, promised-count, promised-time, promised-means}
+use Rattle.image_write.proofs.Laws.ImageStepLaws.{appended-count, appended-time-old, appended-means-old, appended-time-new, appended-means-new}
+use Rattle.brick_log.specs.BrickRules.{aboveNewest, notBelowPromise, hasFree, orderYes, writeYes, orderedIfYes, writtenIfYes, trimmedTo, under, lookup, yesTo, brickAfter}
+use Rattle.image.proofs.Laws.LogPlaceLaws.{saved-valid, newest-at, rises-next, rises-to, sound-of}
+use Rattle.brick_log.proofs.Laws.TrimLaws.{trim-not-empty, trim-keeps-newest, Trims, trim-places}
 use Rattle.brick.specs.Receive.{Highest}
+use Rattle.message.specs.Kinds.{readKind, trimKind, writeKind}
+use Rattle.settings.specs.Refusal.{badMessage, passed}
 
 -- the brick after a message, by its kind
 module _ (s : Settings) (x : Brick) (msg : Message) (block : List ℕ) where
-  after-trim : msg .kind ≡ 5 → brickAfter s x msg block ≡ trimmedTo x (msg .time)
+  after-trim : msg .kind ≡ trimKind → brickAfter s x msg block ≡ trimmedTo x (msg .time)
   unfolding brickAfter
-  after-trim e = rw (eq-eqb (msg .kind) 5 e) refl
+  after-trim e = rw (eq-eqb (msg .kind) trimKind e) refl
 
-  after-write : msg .kind ≡ 4 → brickAfter s x msg block ≡ writtenIfYes s x (msg .time) block
+  after-write : msg .kind ≡ writeKind → brickAfter s x msg block ≡ writtenIfYes s x (msg .time) block
   unfolding brickAfter
-  after-write e = rw (ne-eqb (msg .kind) 5 (λ q. omega (arith, e, q)), eq-eqb (msg .kind) 4 e) refl
+  after-write e = rw (ne-eqb (msg .kind) trimKind (λ q. omega (arith, e, q)), eq-eqb (msg .kind) writeKind e) refl
 
-  after-read : msg .kind ≡ 1 → brickAfter s x msg block ≡ x
+  after-read : msg .kind ≡ readKind → brickAfter s x msg block ≡ x
   unfolding brickAfter
-  after-read e = rw (ne-eqb (msg .kind) 5 (λ q. omega (arith, e, q)), ne-eqb (msg .kind) 4 (λ q. omega (arith, e, q)), eq-eqb (msg .kind) 1 e) refl
+  after-read e = rw (ne-eqb (msg .kind) trimKind (λ q. omega (arith, e, q)), ne-eqb (msg .kind) writeKind (λ q. omega (arith, e, q)), eq-eqb (msg .kind) readKind e) refl
 
-  after-order : (msg .kind ≡ 5 → ⊥) → (msg .kind ≡ 4 → ⊥) → (msg .kind ≡ 1 → ⊥) → brickAfter s x msg block ≡ orderedIfYes x (msg .time)
+  after-order : (msg .kind ≡ trimKind → ⊥) → (msg .kind ≡ writeKind → ⊥) → (msg .kind ≡ readKind → ⊥) → brickAfter s x msg block ≡ orderedIfYes x (msg .time)
   unfolding brickAfter
-  after-order a b c = rw (ne-eqb (msg .kind) 5 a, ne-eqb (msg .kind) 4 b, ne-eqb (msg .kind) 1 c) refl
+  after-order a b c = rw (ne-eqb (msg .kind) trimKind a, ne-eqb (msg .kind) writeKind b, ne-eqb (msg .kind) readKind c) refl
 
   -- a claim about the brick after a message is shown for each of the three changes and for none
   by-kind : (P : Brick → Type 0) → P (trimmedTo x (msg .time)) → P (writtenIfYes s x (msg .time) block) → P x → P (orderedIfYes x (msg .time)) → P (brickAfter s x msg block)
-  by-kind P t w r o = go (ℕ-discrete (msg .kind) 5) (ℕ-discrete (msg .kind) 4) (ℕ-discrete (msg .kind) 1)
+  by-kind P t w r o = go (ℕ-discrete (msg .kind) trimKind) (ℕ-discrete (msg .kind) writeKind) (ℕ-discrete (msg .kind) readKind)
     where
-      go : Dec (msg .kind ≡ 5) → Dec (msg .kind ≡ 4) → Dec (msg .kind ≡ 1) → P (brickAfter s x msg block)
+      go : Dec (msg .kind ≡ trimKind) → Dec (msg .kind ≡ writeKind) → Dec (msg .kind ≡ readKind) → P (brickAfter s x msg block)
       go (yes a) b c = subst P (sym (after-trim a)) t
       go (no a) (yes b) c = subst P (sym (after-write b)) w
       go (no a) (no b) (yes c) = subst P (sym (after-read c)) r
@@ -64,33 +63,33 @@ by-yes true P x y f g = f refl
 by-yes false P x y f g = g
 
 -- "A no changes nothing": Read, Order, Order-and-read and Write that are not granted.
-pub no-changes-nothing : (s : Settings) (x : Brick) (msg : Message) (block : List ℕ) → (msg .kind ≡ 5 → ⊥) → yesTo s x msg ≡ false → brickAfter s x msg block ≡ x
+pub no-changes-nothing : (s : Settings) (x : Brick) (msg : Message) (block : List ℕ) → (msg .kind ≡ trimKind → ⊥) → yesTo s x msg ≡ false → brickAfter s x msg block ≡ x
 unfolding yesTo writtenIfYes orderedIfYes
-no-changes-nothing s x msg block n e = go (ℕ-discrete (msg .kind) 4) (ℕ-discrete (msg .kind) 1)
+no-changes-nothing s x msg block n e = go (ℕ-discrete (msg .kind) writeKind) (ℕ-discrete (msg .kind) readKind)
   where
-    go : Dec (msg .kind ≡ 4) → Dec (msg .kind ≡ 1) → brickAfter s x msg block ≡ x
+    go : Dec (msg .kind ≡ writeKind) → Dec (msg .kind ≡ readKind) → brickAfter s x msg block ≡ x
     go b (yes c) = after-read s x msg block c
     go (yes b) (no c) =
-        let w : writeYes s x (msg .time) ≡ false = rw (ne-eqb (msg .kind) 1 c, eq-eqb (msg .kind) 4 b) at e in
+        let w : writeYes s x (msg .time) ≡ false = rw (ne-eqb (msg .kind) readKind c, eq-eqb (msg .kind) writeKind b) at e in
         after-write s x msg block b ∙ rw w refl
     go (no b) (no c) =
-        let w : orderYes x (msg .time) ≡ false = rw (ne-eqb (msg .kind) 1 c, ne-eqb (msg .kind) 4 b) at e in
+        let w : orderYes x (msg .time) ≡ false = rw (ne-eqb (msg .kind) readKind c, ne-eqb (msg .kind) writeKind b) at e in
         after-order s x msg block n b c ∙ rw w refl
 
 -- A yes to Write appends exactly that entry.
-pub write-appends : (s : Settings) (x : Brick) (msg : Message) (block : List ℕ) → msg .kind ≡ 4 → yesTo s x msg ≡ true
-    → brickAfter s x msg block ≡ record { promise = x .promise; log = x .log ++ record { time = msg .time; block = block } ∷ [] }
-unfolding yesTo writtenIfYes withEntry
+pub write-appends : (s : Settings) (x : Brick) (msg : Message) (block : List ℕ) → msg .kind ≡ writeKind → yesTo s x msg ≡ true
+    → brickAfter s x msg block ≡ withEntry x (msg .time) block
+unfolding yesTo writtenIfYes
 write-appends s x msg block e y =
-    let w : writeYes s x (msg .time) ≡ true = rw (ne-eqb (msg .kind) 1 (λ q. omega (arith, e, q)), eq-eqb (msg .kind) 4 e) at y in
+    let w : writeYes s x (msg .time) ≡ true = rw (ne-eqb (msg .kind) readKind (λ q. omega (arith, e, q)), eq-eqb (msg .kind) writeKind e) at y in
     after-write s x msg block e ∙ rw w refl
 
 -- A yes to Order or Order-and-read promises its time, and nothing else.
-pub order-promises : (s : Settings) (x : Brick) (msg : Message) (block : List ℕ) → (msg .kind ≡ 5 → ⊥) → (msg .kind ≡ 4 → ⊥) → (msg .kind ≡ 1 → ⊥)
-    → yesTo s x msg ≡ true → brickAfter s x msg block ≡ record { promise = msg .time; log = x .log }
-unfolding yesTo orderedIfYes withPromise
+pub order-promises : (s : Settings) (x : Brick) (msg : Message) (block : List ℕ) → (msg .kind ≡ trimKind → ⊥) → (msg .kind ≡ writeKind → ⊥) → (msg .kind ≡ readKind → ⊥)
+    → yesTo s x msg ≡ true → brickAfter s x msg block ≡ withPromise x (msg .time)
+unfolding yesTo orderedIfYes
 order-promises s x msg block a b c y =
-    let w : orderYes x (msg .time) ≡ true = rw (ne-eqb (msg .kind) 1 c, ne-eqb (msg .kind) 4 b) at y in
+    let w : orderYes x (msg .time) ≡ true = rw (ne-eqb (msg .kind) readKind c, ne-eqb (msg .kind) writeKind b) at y in
     after-order s x msg block a b c ∙ rw w refl
 
 -- what a yes says of the time
@@ -119,99 +118,14 @@ promise-never-falls s x msg block =
     (omega arith)
     (by-yes (orderYes x (msg .time)) (λ (y : Brick). x .promise ≤ y .promise) (withPromise x (msg .time)) x (λ e. order-not-below x (msg .time) e) (omega arith))
 
--- Trim: the last entry stays, so a log never becomes empty,
-trimmed-some : (t : ℕ) (e : LogEntry) (log : List LogEntry) → 1 ≤ length (trimmed t (e ∷ log))
-unfolding trimmed
-trimmed-some t e [] = omega arith
-trimmed-some t e (f ∷ log) = go (ltb (e .time) t) (trimmed-some t f log)
-  where
-    go : (b : Bool) → 1 ≤ length (trimmed t (f ∷ log)) → 1 ≤ length (cond b (trimmed t (f ∷ log)) (e ∷ trimmed t (f ∷ log)))
-    go true h = h
-    go false h = omega arith
-
-pub trim-not-empty : (x : Brick) (t : ℕ) → 1 ≤ entryCount x → 1 ≤ entryCount (trimmedTo x t)
-unfolding entryCount trimmedTo
-trim-not-empty x t h = go (x .log) h
-  where
-    go : (log : List LogEntry) → 1 ≤ length log → 1 ≤ length (trimmed t log)
-    go [] h = absurd (omega arith)
-    go (e ∷ log) h = trimmed-some t e log
-
+-- A log never becomes empty.
 pub never-empty : (s : Settings) (x : Brick) (msg : Message) (block : List ℕ) → 1 ≤ entryCount x → 1 ≤ entryCount (brickAfter s x msg block)
-unfolding writtenIfYes orderedIfYes withPromise entryCount
+unfolding writtenIfYes orderedIfYes
 never-empty s x msg block h =
-    by-kind s x msg block (λ (y : Brick). 1 ≤ length (y .log)) (trim-not-empty x (msg .time) h)
-    (by-yes (writeYes s x (msg .time)) (λ (y : Brick). 1 ≤ length (y .log)) (withEntry x (msg .time) block) x (λ e. omega (arith, appended-count x (msg .time) block)) h)
+    by-kind s x msg block (λ (y : Brick). 1 ≤ entryCount y) (trim-not-empty x (msg .time) h)
+    (by-yes (writeYes s x (msg .time)) (λ (y : Brick). 1 ≤ entryCount y) (withEntry x (msg .time) block) x (λ e. omega (arith, appended-count x (msg .time) block)) h)
     h
-    (by-yes (orderYes x (msg .time)) (λ (y : Brick). 1 ≤ length (y .log)) (withPromise x (msg .time)) x (λ e. h) h)
-
--- and it is the same last entry:
-last-of : List LogEntry → LogEntry
-last-of log = getD log (length log - 1) noEntry
-
-last-cons : (e f : LogEntry) (log : List LogEntry) → last-of (e ∷ f ∷ log) ≡ last-of (f ∷ log)
-unfolding last-of
-last-cons e f log =
-    let a : length (e ∷ f ∷ log) - 1 ≡ suc (length log) = omega arith in
-    let b : length (f ∷ log) - 1 ≡ length log = omega arith in
-    ap (λ (k : ℕ). getD (e ∷ f ∷ log) k noEntry) a ∙ ap (λ (k : ℕ). getD (f ∷ log) k noEntry) (sym b)
-
-last-some : (e : LogEntry) (log : List LogEntry) → 1 ≤ length log → last-of (e ∷ log) ≡ last-of log
-last-some e [] h = absurd (omega arith)
-last-some e (f ∷ log) h = last-cons e f log
-
-trimmed-last : (t : ℕ) (e : LogEntry) (log : List LogEntry) → last-of (trimmed t (e ∷ log)) ≡ last-of (e ∷ log)
-unfolding trimmed
-trimmed-last t e [] = refl
-trimmed-last t e (f ∷ log) = go (ltb (e .time) t) (trimmed-last t f log) ∙ sym (last-cons e f log)
-  where
-    go : (b : Bool) → last-of (trimmed t (f ∷ log)) ≡ last-of (f ∷ log)
-        → last-of (cond b (trimmed t (f ∷ log)) (e ∷ trimmed t (f ∷ log))) ≡ last-of (f ∷ log)
-    go true h = h
-    go false h = last-some e (trimmed t (f ∷ log)) (trimmed-some t f log) ∙ h
-
--- Trim keeps the newest,
-pub trim-keeps-newest : (x : Brick) (t : ℕ) → 1 ≤ entryCount x → newest (trimmedTo x t) ≡ newest x
-unfolding newest timeAt entryCount trimmedTo last-of
-trim-keeps-newest x t h = go (x .log) h
-  where
-    go : (log : List LogEntry) → 1 ≤ length log → last-of (trimmed t log) .time ≡ last-of log .time
-    go [] h = absurd (omega arith)
-    go (e ∷ log) h = ap (λ (v : LogEntry). v .time) (trimmed-last t e log)
-
--- everything at or above its time,
-trimmed-keeps : (t : ℕ) (log : List LogEntry) (e : LogEntry) → List·Memᴰ e log → t ≤ e .time → List·Memᴰ e (trimmed t log)
-unfolding trimmed
-trimmed-keeps t (f ∷ []) e m h = m
-trimmed-keeps t (f ∷ g ∷ log) e (List·Memᴰ·head q) h =
-    let low : t ≤ f .time = subst (λ (v : LogEntry). t ≤ v .time) q h in
-    rw (le-ltb (f .time) t low) (List·Memᴰ·head q)
-trimmed-keeps t (f ∷ g ∷ log) e (List·Memᴰ·tail m) h = go (ltb (f .time) t) (trimmed-keeps t (g ∷ log) e m h)
-  where
-    go : (b : Bool) → List·Memᴰ e (trimmed t (g ∷ log)) → List·Memᴰ e (cond b (trimmed t (g ∷ log)) (f ∷ trimmed t (g ∷ log)))
-    go true k = k
-    go false k = List·Memᴰ·tail k
-
-pub trim-keeps : (x : Brick) (t : ℕ) (e : LogEntry) → List·Memᴰ e (x .log) → t ≤ e .time → List·Memᴰ e (trimmedTo x t .log)
-unfolding trimmedTo
-trim-keeps x t e m h = trimmed-keeps t (x .log) e m h
-
--- and adds nothing.
-trimmed-from : (t : ℕ) (log : List LogEntry) (e : LogEntry) → List·Memᴰ e (trimmed t log) → List·Memᴰ e log
-unfolding trimmed
-trimmed-from t [] e m = m
-trimmed-from t (f ∷ []) e m = m
-trimmed-from t (f ∷ g ∷ log) e m = go (ltb (f .time) t) m (λ k. trimmed-from t (g ∷ log) e k)
-  where
-    go : (b : Bool) → List·Memᴰ e (cond b (trimmed t (g ∷ log)) (f ∷ trimmed t (g ∷ log))) → (List·Memᴰ e (trimmed t (g ∷ log)) → List·Memᴰ e (g ∷ log))
-        → List·Memᴰ e (f ∷ g ∷ log)
-    go true m k = List·Memᴰ·tail (k m)
-    go false (List·Memᴰ·head q) k = List·Memᴰ·head q
-    go false (List·Memᴰ·tail n) k = List·Memᴰ·tail (k n)
-
-pub trim-from : (x : Brick) (t : ℕ) (e : LogEntry) → List·Memᴰ e (trimmedTo x t .log) → List·Memᴰ e (x .log)
-unfolding trimmedTo
-trim-from x t e m = trimmed-from t (x .log) e m
+    (by-yes (orderYes x (msg .time)) (λ (y : Brick). 1 ≤ entryCount y) (withPromise x (msg .time)) x (λ e. omega (arith, promised-count x (msg .time))) h)
 
 pub appended-newest : (x : Brick) (t : ℕ) (block : List ℕ) → newest (withEntry x t block) ≡ t
 unfolding newest
@@ -220,8 +134,8 @@ appended-newest x t block =
     ap (λ (k : ℕ). timeAt (withEntry x t block) k) m ∙ appended-time-new x t block
 
 pub promised-newest : (x : Brick) (t : ℕ) → newest (withPromise x t) ≡ newest x
-unfolding newest withPromise timeAt entryCount
-promised-newest x t = refl
+unfolding newest
+promised-newest x t = promised-time x t (entryCount (withPromise x t) - 1) ∙ ap (λ (k : ℕ). timeAt x (k - 1)) (promised-count x t)
 
 -- The newest time never falls: a law of today, which request E6 gives up.
 pub newest-never-falls : (s : Settings) (x : Brick) (msg : Message) (block : List ℕ) → 1 ≤ entryCount x → newest x ≤ newest (brickAfter s x msg block)
@@ -262,8 +176,7 @@ lookup-highest s x max i r e =
         → (i < entryCount x) × (timeAt x i < max) × ((j : ℕ) → i < j → j < entryCount x → max ≤ timeAt x j) → timeAt x j ≤ timeAt x i
     up j h l (yes a) w = absurd (omega (arith, l, w .2 j a h))
     up j h l (no a) w =
-        let m : j + (i - j) ≡ i = omega arith in
-        subst (λ (k : ℕ). timeAt x j ≤ timeAt x k) m (rises-add s x r j (i - j) (omega (arith, w .0)))
+        rises-to s x r j i (omega arith) (w .0)
 
 under-nothing : (x : Brick) (max n : ℕ) → under x max n ≡ 0 → (j : ℕ) → j < n → max ≤ timeAt x j
 unfolding under
@@ -284,158 +197,84 @@ pub lookup-none : (x : Brick) (max : ℕ) → lookup x max ≡ 0 → (j : ℕ) �
 unfolding lookup
 lookup-none x max e j h = under-nothing x max (entryCount x) e j h
 
-newest-at : (x : Brick) (n : ℕ) → entryCount x - 1 ≡ n → newest x ≡ timeAt x n
-unfolding newest
-newest-at x n e = ap (λ (k : ℕ). timeAt x k) e
-
 -- A brick that keeps to the rules keeps to them after any message that is not refused.
-pub saved-valid : (t : ℕ) → validTime t ≡ true → savedTime t ≡ true
-unfolding savedTime
-saved-valid t e = go (eqb t 0)
-  where
-    go : (b : Bool) → b || validTime t ≡ true
-    go true = refl
-    go false = e
-
-promised-sound : (s : Settings) (x : Brick) (t : ℕ) → Sound s x → validTime t ≡ true → Sound s (withPromise x t)
-unfolding withPromise entryCount timeAt heldAt risesAt
+pub promised-sound : (s : Settings) (x : Brick) (t : ℕ) → Sound s x → savedTime t ≡ true → Sound s (withPromise x t)
 promised-sound s x t r v =
-    record {
-      count-low = r .count-low;
-      count-high = r .count-high;
-      promise-saved = saved-valid t v;
-      entries = λ i h. record { saved = r .entries i h .saved; rises = r .entries i h .rises; sized = r .entries i h .sized };
-    }
+    let c = promised-count x t in
+    sound-of s (withPromise x t) (omega (arith, r .count-low)) (omega (arith, r .count-high)) (ap savedTime (promised-promise x t) ∙ v)
+    (λ i h. ap savedTime (promised-time x t i) ∙ r .entries i (omega (arith, h)) .saved)
+    (λ i h. let u = rises-next s x r i (omega (arith, h)) in omega (arith, promised-time x t i, promised-time x t (suc i)))
+    (λ i h. ap length (promised-means x t i) ∙ r .entries i (omega (arith, h)) .sized)
 
-rises-of : (x : Brick) (i : ℕ) → timeAt x i < timeAt x (suc i) → risesAt x (suc i) ≡ true
-unfolding risesAt
-rises-of x i h =
-    let m : suc i - 1 ≡ i = omega arith in
-    rw (ne-eqb (suc i) 0 (λ q. omega (arith, q)))
-    (lt-ltb (timeAt x (suc i - 1)) (timeAt x (suc i)) (subst (λ (k : ℕ). timeAt x k < timeAt x (suc i)) (sym m) h))
-
-rises-first : (x : Brick) → risesAt x 0 ≡ true
-unfolding risesAt
-rises-first x = refl
-
-appended-promise : (x : Brick) (t : ℕ) (block : List ℕ) → withEntry x t block .promise ≡ x .promise
-unfolding withEntry
-appended-promise x t block = refl
-
-module _ (s : Settings) (x : Brick) (t : ℕ) (block : List ℕ) (r : Sound s x) (v : validTime t ≡ true) (above : newest x < t) (free : entryCount x < s .capacity)
-    (size : length block ≡ s .size) where
-  y : Brick
-  y = withEntry x t block
-
-  appended-entry : (i : ℕ) → i < entryCount x + 1 → EntrySound s (withEntry x t block) i
-  appended-entry i h = go (ℕ-discrete i (entryCount x))
-    where
-      go : Dec (i ≡ entryCount x) → EntrySound s (withEntry x t block) i
-      go (yes q) =
-          subst (λ (k : ℕ). EntrySound s (withEntry x t block) k) (sym q)
-          (record {
-            saved = ap savedTime (appended-time-new x t block) ∙ saved-valid t v;
-            rises = last-rises;
-            sized = ap length (appended-held-new x t block) ∙ size;
-          })
-        where
-          last-rises : risesAt (withEntry x t block) (entryCount x) ≡ true
-          last-rises = step (entryCount x) refl
-            where
-              step : (n : ℕ) → entryCount x ≡ n → risesAt (withEntry x t block) (entryCount x) ≡ true
-              step zero e = ap (λ (k : ℕ). risesAt (withEntry x t block) k) e ∙ rises-first (withEntry x t block)
-              step (suc n) e =
-                  let m : entryCount x - 1 ≡ n = omega arith in
-                  let new : timeAt (withEntry x t block) (suc n) ≡ t = ap (λ (k : ℕ). timeAt (withEntry x t block) k) (sym e) ∙ appended-time-new x t block in
-                  let old : timeAt (withEntry x t block) n ≡ newest x = appended-time-old x t block n (omega arith) ∙ sym (newest-at x n m) in
-                  ap (λ (k : ℕ). risesAt (withEntry x t block) k) e ∙ rises-of (withEntry x t block) n (omega arith)
-      go (no q) =
-          let low : i < entryCount x = lt-of-le-ne (omega arith) q in
-          let e = r .entries i low in
-          record {
-            saved = ap savedTime (appended-time-old x t block i low) ∙ e .saved;
-            rises = old-rises i low;
-            sized = ap length (appended-held-old x t block i low) ∙ e .sized;
-          }
-        where
-          old-rises : (i : ℕ) → i < entryCount x → risesAt (withEntry x t block) i ≡ true
-          old-rises zero l = rises-first (withEntry x t block)
-          old-rises (suc i) l =
-              let up = rises-next s x r i l in
-              let a = appended-time-old x t block i (omega arith) in
-              let b = appended-time-old x t block (suc i) l in
-              rises-of (withEntry x t block) i (omega arith)
-
-  appended-sound : Sound s (withEntry x t block)
-  appended-sound =
-      let c = appended-count x t block in
-      record {
-        count-low = omega arith;
-        count-high = omega arith;
-        promise-saved = ap savedTime (appended-promise x t block) ∙ r .promise-saved;
-        entries = λ i h. appended-entry i (omega (arith, h));
-      }
-
-without-promise : (x : Brick) (d : ℕ) → without x d .promise ≡ x .promise
-unfolding without
-without-promise x d = refl
-
-without-sound : (s : Settings) (x : Brick) (d : ℕ) → Sound s x → d < entryCount x → Sound s (without x d)
-without-sound s x d r h =
-    let c = without-count x d in
-    record {
-      count-low = omega arith;
-      count-high = omega (arith, r .count-high);
-      promise-saved = ap savedTime (without-promise x d) ∙ r .promise-saved;
-      entries = λ i w. entry i (omega (arith, w));
-    }
+-- place i of a log with one more: an old one, or the new one
+pub by-place : {P : ℕ → Type 0} (n : ℕ) → ((i : ℕ) → i < n → P i) → P n → (i : ℕ) → i < n + 1 → P i
+by-place {P} n old new i h = go (ℕ-discrete i n)
   where
-    rise : (i : ℕ) → d + i < entryCount x → risesAt (without x d) i ≡ true
-    rise zero l = rises-first (without x d)
-    rise (suc i) l =
-        let m : d + suc i ≡ suc (d + i) = omega arith in
-        let up = rises-next s x r (d + i) (omega arith) in
-        let a = without-time x d i in
-        let b = without-time x d (suc i) ∙ ap (λ (k : ℕ). timeAt x k) m in
-        rises-of (without x d) i (omega arith)
+    go : Dec (i ≡ n) → P i
+    go (yes q) = subst P (sym q) new
+    go (no q) = old i (lt-of-le-ne (omega arith) q)
 
-    entry : (i : ℕ) → d + i < entryCount x → EntrySound s (without x d) i
-    entry i l =
-        let e = r .entries (d + i) l in
-        record {
-          saved = ap savedTime (without-time x d i) ∙ e .saved;
-          rises = rise i l;
-          sized = ap length (without-held x d i) ∙ e .sized;
-        }
-
--- there is a cut
-cut-exists : (x : Brick) (t fuel d : ℕ) → d + suc fuel ≡ entryCount x → ((i : ℕ) → i < d → getD (workingLog x) i blank .time < t)
-    → (e : ℕ) × Cut (workingLog x) (entryCount x) t e
-cut-exists x t zero d m b = (d, cut-last (workingLog x) (entryCount x) t d (omega arith) (omega arith) (omega arith) b)
-cut-exists x t (suc fuel) d m b = go (decLt (getD (workingLog x) d blank .time) t) (λ w. cut-exists x t fuel (d + 1) (omega arith) (below-more (λ (i : ℕ). getD (workingLog x) i blank .time < t) d b w))
+pub appended-sound : (s : Settings) (x : Brick) (t : ℕ) (block : List ℕ) → Sound s x → entryCount x < s .capacity → newest x < t → savedTime t ≡ true
+    → length block ≡ s .size → Sound s (withEntry x t block)
+appended-sound s x t block r free above v size =
+    let c = appended-count x t block in
+    sound-of s (withEntry x t block) (omega arith) (omega arith) (ap savedTime (appended-promise x t block) ∙ r .promise-saved)
+    (λ i h. by-place {P = λ (j : ℕ). savedTime (timeAt (withEntry x t block) j) ≡ true} (entryCount x)
+    (λ j l. ap savedTime (appended-time-old x t block j l) ∙ r .entries j l .saved)
+    (ap savedTime (appended-time-new x t block) ∙ v) i (omega (arith, h)))
+    (λ i h. rise i (omega (arith, h)))
+    (λ i h. by-place {P = λ (j : ℕ). length (meansAt (withEntry x t block) j) ≡ s .size} (entryCount x)
+    (λ j l. ap length (appended-means-old x t block j l) ∙ r .entries j l .sized)
+    (ap length (appended-means-new x t block) ∙ size) i (omega (arith, h)))
   where
-    go : Dec (getD (workingLog x) d blank .time < t) → (getD (workingLog x) d blank .time < t → (e : ℕ) × Cut (workingLog x) (entryCount x) t e)
-        → (e : ℕ) × Cut (workingLog x) (entryCount x) t e
-    go (yes w) f = f w
-    go (no w) f = (d, cut-at (workingLog x) (entryCount x) t d (omega arith) b (omega arith))
+    rise : (i : ℕ) → suc i < entryCount x + 1 → timeAt (withEntry x t block) i < timeAt (withEntry x t block) (suc i)
+    rise i h = go (ℕ-discrete (suc i) (entryCount x))
+      where
+        go : Dec (suc i ≡ entryCount x) → timeAt (withEntry x t block) i < timeAt (withEntry x t block) (suc i)
+        go (yes q) =
+            let old = appended-time-old x t block i (omega arith) in
+            let new : timeAt (withEntry x t block) (suc i) ≡ t = ap (timeAt (withEntry x t block)) q ∙ appended-time-new x t block in
+            let last = newest-at x i (omega arith) in
+            omega arith
+        go (no q) =
+            let low : suc i < entryCount x = lt-of-le-ne (omega arith) q in
+            let old = appended-time-old x t block i (omega arith) in
+            let next = appended-time-old x t block (suc i) low in
+            let up = rises-next s x r i low in
+            omega arith
 
-trimmed-sound : (s : Settings) (x : Brick) (t : ℕ) → Sound s x → s .capacity ≤ 32 → Sound s (trimmedTo x t)
-trimmed-sound s x t r c =
-    let q = cut-exists x t (entryCount x - 1) 0 (omega (arith, r .count-low)) (λ i h. absurd (omega (arith, h))) in
-    subst (λ (y : Brick). Sound s y) (sym (cut-trims s x t (q .0) r (omega (arith, r .count-high)) (q .1))) (without-sound s x (q .0) r (q .1 .low))
+pub trimmed-sound : (s : Settings) (x : Brick) (t : ℕ) → Sound s x → Sound s (trimmedTo x t)
+trimmed-sound s x t r = go (trim-places s x t r)
+  where
+    go : (d : ℕ) × Trims x t d → Sound s (trimmedTo x t)
+    go (d, q) =
+        sound-of s (trimmedTo x t) (omega (arith, q .count, q .cut .low)) (omega (arith, q .count, r .count-high))
+        (ap savedTime (q .promise-is) ∙ r .promise-saved)
+        (λ i h. ap savedTime (q .times i) ∙ r .entries (d + i) (omega (arith, h, q .count)) .saved)
+        (λ i h. rise i (omega (arith, h, q .count)))
+        (λ i h. ap length (q .means i) ∙ r .entries (d + i) (omega (arith, h, q .count)) .sized)
+      where
+        rise : (i : ℕ) → d + suc i < entryCount x → timeAt (trimmedTo x t) i < timeAt (trimmedTo x t) (suc i)
+        rise i h =
+            let m : d + suc i ≡ suc (d + i) = omega arith in
+            let up = rises-next s x r (d + i) (omega arith) in
+            let a = q .times i in
+            let b = q .times (suc i) ∙ ap (timeAt x) m in
+            omega arith
 
-pub after-sound : (s : Settings) (x : Brick) (msg : Message) (block : List ℕ) → Sound s x → s .capacity ≤ 32 → validTime (msg .time) ≡ true → length block ≡ s .size
+pub after-sound : (s : Settings) (x : Brick) (msg : Message) (block : List ℕ) → Sound s x → validTime (msg .time) ≡ true → length block ≡ s .size
     → Sound s (brickAfter s x msg block)
 unfolding writtenIfYes orderedIfYes
-after-sound s x msg block r c v size =
-    by-kind s x msg block (λ (y : Brick). Sound s y) (trimmed-sound s x (msg .time) r c)
+after-sound s x msg block r v size =
+    by-kind s x msg block (λ (y : Brick). Sound s y) (trimmed-sound s x (msg .time) r)
     (by-yes (writeYes s x (msg .time)) (λ (y : Brick). Sound s y) (withEntry x (msg .time) block) x
-    (λ e. appended-sound s x (msg .time) block r v (order-above x (msg .time) (write-ordered s x (msg .time) e)) (write-free s x (msg .time) e) size) r)
+    (λ e. appended-sound s x (msg .time) block r (write-free s x (msg .time) e) (order-above x (msg .time) (write-ordered s x (msg .time) e))
+    (saved-valid (msg .time) v) size) r)
     r
-    (by-yes (orderYes x (msg .time)) (λ (y : Brick). Sound s y) (withPromise x (msg .time)) x (λ e. promised-sound s x (msg .time) r v) r)
+    (by-yes (orderYes x (msg .time)) (λ (y : Brick). Sound s y) (withPromise x (msg .time)) x (λ e. promised-sound s x (msg .time) r (saved-valid (msg .time) v)) r)
 
 -- a message that is not refused has a valid time
-message-time : (n m : ℕ) (msg : Message) → messageRefusal n m msg ≡ 0 → validTime (msg .time) ≡ true
+message-time : (n m : ℕ) (msg : Message) → messageRefusal n m msg ≡ passed → validTime (msg .time) ≡ true
 unfolding messageRefusal
 message-time n m msg e = go (validTime (msg .time)) refl
   where
@@ -443,14 +282,14 @@ message-time n m msg e = go (validTime (msg .time)) refl
     go true q = q
     go false q = absurd (omega (arith, e, refused q))
       where
-        refused : validTime (msg .time) ≡ false → refuseUnless (validTime (msg .time) && roundRight (msg .round) && kindRight n m msg) 10 ≡ 10
+        refused : validTime (msg .time) ≡ false → refuseUnless (validTime (msg .time) && roundRight (msg .round) && kindRight n m msg) badMessage ≡ badMessage
         refused w = rw w refl
 
 -- An image that opened opens again after any message, as the brick after it.
 pub opens-again : (s : Settings) (brick : ℕ) (bytes : List ℕ) (x : Brick) (msg : Message) (block : List ℕ) → parse s brick bytes ≡ Opens x
-    → messageRefusal (s .n) (s .m) msg ≡ 0 → length block ≡ s .size
+    → messageRefusal (s .n) (s .m) msg ≡ passed → length block ≡ s .size
     → parse s brick (imageOf s brick (brickAfter s x msg block)) ≡ Opens (brickAfter s x msg block)
 opens-again s brick bytes x msg block e m size =
     let o = opened s brick bytes x e in
     parse-image s brick (brickAfter s x msg block) (o .in-range) (o .brick-low)
-    (after-sound s x msg block (o .keeps) (o .range .capacity-high) (message-time (s .n) (s .m) msg m) size)
+    (after-sound s x msg block (o .keeps) (message-time (s .n) (s .m) msg m) size)

@@ -1,4 +1,4 @@
--- Laws of `specs/Numbers`.
+-- The number of an answer is that of the first refusal.
 use mathlib.Core.Path.{_≡_, refl, sym, ap, _∙_}
 use mathlib.Core.Bool.{Bool, true, false, cond}
 use mathlib.Core.List.{List}
@@ -17,6 +17,7 @@ use Rattle.brick_log.specs.BrickRules.{replyTo}
 use Rattle.brick.specs.Receive.{blocksRefusal, receiveRefusal, refusedWith, givenBy, accepted, outcome}
 use Rattle.brick.specs.declared.Given.the-variants.{Answered, Silent}
 use Rattle.brick.specs.Receive.{givenNumber}
+use Rattle.settings.specs.Refusal.{passed}
 
 -- what an image that opens gives has number 0
 acted-number : (s : Settings) (brick : ℕ) (msg : Message) (block bytes out : List ℕ) (x : Brick)
@@ -28,8 +29,8 @@ acted-number s brick msg block bytes out x = go (eqb (msg .kind) trimKind)
     go true = refl
     go false = refl
 
-image-opens : (s : Settings) (brick : ℕ) (bytes : List ℕ) (msg : Message) (a b : ℕ) → receiveRefusal s brick bytes msg a b ≡ 0
-    → openRefusal s brick bytes ≡ 0
+image-opens : (s : Settings) (brick : ℕ) (bytes : List ℕ) (msg : Message) (a b : ℕ) → receiveRefusal s brick bytes msg a b ≡ passed
+    → openRefusal s brick bytes ≡ passed
 unfolding receiveRefusal
 image-opens s brick bytes msg a b e = passed-first (openRefusal s brick bytes) _ (passed-rest (blocksRefusal s a b) _ e)
 

@@ -16,7 +16,7 @@ use Rattle.settings.proofs.Laws.RefusalLaws.{first-stop, first-pass}
 use Rattle.message.specs.Flags.{member}
 use Rattle.message.specs.Messages.{messageRefusal}
 use Rattle.message.specs.declared.Message.{Message}
-use Rattle.image.specs.Brick.{Brick, entryCount, timeAt, heldAt, newest}
+use Rattle.image.specs.Brick.{Brick, entryCount, timeAt, meansAt, newest}
 use Rattle.image.specs.Image.{imageOf}
 use Rattle.image.specs.Parse.{Opens, Refuses, parse, openRefusal, imageBlockAt, countIn, brickIn, heldIn}
 use Rattle.image.specs.Workers.{ImageOpened}
@@ -34,12 +34,16 @@ use Rattle.brick_log.specs.BrickRules.{notBelowPromise, aboveNewest, readYes, o
 use Rattle.brick.specs.Receive.{blocksRefusal, receiveRefusal, Outcome, refusedWith, givenBy, accepted, outcome}
 use Rattle.brick_log.specs.Workers.{LogReady, Ahead, Planned, Cut, underIn, underFor, lookedPlace, lookedTime, readPlace, gaveOf}
 use Rattle.brick_log.proofs.Laws.LookLaws.{under-brick, under-high, place-brick, time-brick}
-use Rattle.brick.proofs.Laws.TrimLaws.{cut-trims}
+use Rattle.brick_log.proofs.Laws.TrimLaws.{cut-trims}
 use Rattle.brick_log.specs.declared.Known.{Known}
 use Rattle.brick_log.specs.declared.Plan.{Plan}
 use Rattle.brick.specs.declared.Given.{Given}
 use Rattle.brick.specs.declared.Given.the-variants.{Answered, Silent, Refused}
 use Rattle.byte_lists.proofs.Laws.PutLaws.{drop-take}
+use Rattle.image_block.specs.Block.{blockBytes, heldFrom}
+use Rattle.message.specs.Kinds.{orderReadKind, readKind, trimKind}
+use Rattle.settings.specs.Ranges.{maxCapacity, maxSize}
+use Rattle.settings.specs.Refusal.{badLength, passed}
 
 -- the first refusal of a list
 pub first-is : (a k : ℕ) (rest : List ℕ) → k ≡ a → (k ≡ 0 → ⊥) → firstRefusal (a ∷ rest) ≡ k
@@ -51,15 +55,15 @@ module _ (s : Settings) (block out k : ℕ) (e : k ≡ settingsRefusal s) where
   unfolding blocksRefusal
   blocks-setting h = sym (first-is (settingsRefusal s) k _ e h)
 
-  pub blocks-block : k ≡ 0 → (block ≡ s .size → ⊥) → 2 ≡ blocksRefusal s block out
+  pub blocks-block : k ≡ 0 → (block ≡ s .size → ⊥) → badLength ≡ blocksRefusal s block out
   unfolding blocksRefusal firstRefusal
   blocks-block z h = rw (sym e ∙ z, ne-eqb block (s .size) h) refl
 
-  pub blocks-out : k ≡ 0 → block ≡ s .size → (out ≡ s .size → ⊥) → 2 ≡ blocksRefusal s block out
+  pub blocks-out : k ≡ 0 → block ≡ s .size → (out ≡ s .size → ⊥) → badLength ≡ blocksRefusal s block out
   unfolding blocksRefusal firstRefusal
   blocks-out z b h = rw (sym e ∙ z, eq-eqb block (s .size) b, ne-eqb out (s .size) h) refl
 
-  pub blocks-right : k ≡ 0 → block ≡ s .size → out ≡ s .size → 0 ≡ blocksRefusal s block out
+  pub blocks-right : k ≡ 0 → block ≡ s .size → out ≡ s .size → passed ≡ blocksRefusal s block out
   unfolding blocksRefusal firstRefusal
   blocks-right z b h = rw (sym e ∙ z, eq-eqb block (s .size) b, eq-eqb out (s .size) h) refl
 
@@ -68,7 +72,7 @@ pub blocks-passed : (s : Settings) (block out k : ℕ) → k ≡ blocksRefusal s
 unfolding blocksRefusal firstRefusal
 blocks-passed s block out k e z = go (settingsRefusal s) (eqb block (s .size)) (eqb out (s .size)) refl refl (sym e ∙ z)
   where
-    go : (a : ℕ) (b c : Bool) → eqb block (s .size) ≡ b → eqb out (s .size) ≡ c → firstRefusal (a ∷ refuseUnless b 2 ∷ refuseUnless c 2 ∷ []) ≡ 0
+    go : (a : ℕ) (b c : Bool) → eqb block (s .size) ≡ b → eqb out (s .size) ≡ c → firstRefusal (a ∷ refuseUnless b badLength ∷ refuseUnless c badLength ∷ []) ≡ 0
         → (block ≡ s .size) × (out ≡ s .size)
     go (suc a) b c eb ec r = absurd (omega arith)
     go zero false c eb ec r = absurd (omega arith)
@@ -87,11 +91,11 @@ open-number s brick l n e = go (eqb (openRefusal s brick l) 0) refl e
         let m : openRefusal s brick l ≡ n = cc in
         (m, λ z. eqb-false (openRefusal s brick l) 0 q (m ∙ z))
 
-open-zero : (s : Settings) (brick : ℕ) (l : List ℕ) (x : Brick) → parse s brick l ≡ Opens x → openRefusal s brick l ≡ 0
+open-zero : (s : Settings) (brick : ℕ) (l : List ℕ) (x : Brick) → parse s brick l ≡ Opens x → openRefusal s brick l ≡ passed
 unfolding parse
 open-zero s brick l x e = go (eqb (openRefusal s brick l) 0) refl e
   where
-    go : (b : Bool) → eqb (openRefusal s brick l) 0 ≡ b → cond b (Opens (brickIn s l)) (Refuses (openRefusal s brick l)) ≡ Opens x → openRefusal s brick l ≡ 0
+    go : (b : Bool) → eqb (openRefusal s brick l) 0 ≡ b → cond b (Opens (brickIn s l)) (Refuses (openRefusal s brick l)) ≡ Opens x → openRefusal s brick l ≡ passed
     go true q w = eqb-true (openRefusal s brick l) 0 q
     go false q w = let z : _≡_ {A = ℕ} 0 1 = cc in absurd (omega arith)
 
@@ -163,19 +167,19 @@ ready s brick l o h u =
     }
 
 module _ (s : Settings) (brick : ℕ) (l : List ℕ) (k : Known) (r : LogReady s brick l k) (msg : Message) where
-  few : entryCount (brickIn s l) ≤ 32
+  few : entryCount (brickIn s l) ≤ maxCapacity
   few = omega (arith, r .counts, r .high, r .most)
 
-  place-read : msg .kind ≡ 1 → readPlace k (msg .targets) brick ≡ placeFor brick (brickIn s l) msg
+  place-read : msg .kind ≡ readKind → readPlace k (msg .targets) brick ≡ placeFor brick (brickIn s l) msg
   unfolding placeFor readPlace readYes notBelowPromise
   place-read e =
-      rw (eq-eqb (msg .kind) 1 e)
+      rw (eq-eqb (msg .kind) readKind e)
       (ap₂ (λ (a b : ℕ). cond (leb a b && member (msg .targets) brick) (k .count) 0) (r .promises) (r .newests)
       ∙ ap (λ (c : ℕ). cond (leb (brickIn s l .promise) (newest (brickIn s l)) && member (msg .targets) brick) c 0) (r .counts))
 
-  found-read : msg .kind ≡ 1 → k .newest ≡ foundFor brick (brickIn s l) msg
+  found-read : msg .kind ≡ readKind → k .newest ≡ foundFor brick (brickIn s l) msg
   unfolding foundFor
-  found-read e = rw (eq-eqb (msg .kind) 1 e) (r .newests)
+  found-read e = rw (eq-eqb (msg .kind) readKind e) (r .newests)
 
   read-high : readPlace k (msg .targets) brick ≤ k .count
   unfolding readPlace
@@ -186,10 +190,10 @@ module _ (s : Settings) (brick : ℕ) (l : List ℕ) (k : Known) (r : LogReady s
       go false = omega arith
 
   module _ (log : List Entry) (el : log ≡ workingLog (brickIn s l)) where
-    under-is : msg .kind ≡ 3 → underFor log k msg ≡ placeFor brick (brickIn s l) msg
+    under-is : msg .kind ≡ orderReadKind → underFor log k msg ≡ placeFor brick (brickIn s l) msg
     unfolding placeFor underFor lookup orderYes aboveNewest notBelowPromise
     under-is e =
-        rw (ne-eqb (msg .kind) 1 (λ q. omega (arith, e, q)), eq-eqb (msg .kind) 3 e)
+        rw (ne-eqb (msg .kind) readKind (λ q. omega (arith, e, q)), eq-eqb (msg .kind) orderReadKind e)
         (ap₂ (λ (a b : ℕ). cond (ltb a (msg .time) && leb b (msg .time)) (underIn log (msg .max) (k .count)) 0) (r .newests) (r .promises)
         ∙ ap (λ (u : ℕ). cond (ltb (newest (brickIn s l)) (msg .time) && leb (brickIn s l .promise) (msg .time)) u 0)
         (ap₂ (λ (g : List Entry) (c : ℕ). underIn g (msg .max) c) el (r .counts) ∙ under-brick (brickIn s l) (msg .max) (entryCount (brickIn s l)) (omega arith) few))
@@ -205,30 +209,30 @@ module _ (s : Settings) (brick : ℕ) (l : List ℕ) (k : Known) (r : LogReady s
     place-same : lookedPlace log (underFor log k msg) ≡ underFor log k msg
     place-same = ap (λ (g : List Entry). lookedPlace g (underFor log k msg)) el ∙ place-brick (brickIn s l) (underFor log k msg) (omega (arith, under-low, r .counts)) few
 
-    found-look : msg .kind ≡ 3 → lookedTime log (underFor log k msg) ≡ foundFor brick (brickIn s l) msg
+    found-look : msg .kind ≡ orderReadKind → lookedTime log (underFor log k msg) ≡ foundFor brick (brickIn s l) msg
     unfolding foundFor
     found-look e =
-        rw (ne-eqb (msg .kind) 1 (λ q. omega (arith, e, q)))
+        rw (ne-eqb (msg .kind) readKind (λ q. omega (arith, e, q)))
         (ap (λ (g : List Entry). lookedTime g (underFor log k msg)) el
         ∙ time-brick (brickIn s l) (underFor log k msg) (omega (arith, under-low, r .counts)) few
         ∙ ap (λ (n : ℕ). timeFor (brickIn s l) n) (under-is e))
 
-  place-none : (msg .kind ≡ 1 → ⊥) → (msg .kind ≡ 3 → ⊥) → 0 ≡ placeFor brick (brickIn s l) msg
+  place-none : (msg .kind ≡ readKind → ⊥) → (msg .kind ≡ orderReadKind → ⊥) → 0 ≡ placeFor brick (brickIn s l) msg
   unfolding placeFor
-  place-none a b = rw (ne-eqb (msg .kind) 1 a, ne-eqb (msg .kind) 3 b) refl
+  place-none a b = rw (ne-eqb (msg .kind) readKind a, ne-eqb (msg .kind) orderReadKind b) refl
 
-  found-none : (msg .kind ≡ 1 → ⊥) → (msg .kind ≡ 3 → ⊥) → 0 ≡ foundFor brick (brickIn s l) msg
+  found-none : (msg .kind ≡ readKind → ⊥) → (msg .kind ≡ orderReadKind → ⊥) → 0 ≡ foundFor brick (brickIn s l) msg
   unfolding foundFor timeFor
-  found-none a b = rw (ne-eqb (msg .kind) 1 a, sym (place-none a b)) refl
+  found-none a b = rw (ne-eqb (msg .kind) readKind a, sym (place-none a b)) refl
 
 pub ahead : (s : Settings) (brick : ℕ) (l : List ℕ) (k : Known) (log : List Entry) (msg : Message) (p : Plan) → LogReady s brick l k → log ≡ workingLog (brickIn s l)
     → Planned log k msg brick p → Ahead brick (brickIn s l) k msg p
-ahead s brick l k log msg p r e q = go (ℕ-discrete (msg .kind) 1) (ℕ-discrete (msg .kind) 3)
+ahead s brick l k log msg p r e q = go (ℕ-discrete (msg .kind) readKind) (ℕ-discrete (msg .kind) orderReadKind)
   where
-    low : msg .kind ≡ 5 → p .cut < k .count
+    low : msg .kind ≡ trimKind → p .cut < k .count
     low z = q .cuts z .low
 
-    trims : msg .kind ≡ 5 → trimmedTo (brickIn s l) (msg .time) ≡ without (brickIn s l) (p .cut)
+    trims : msg .kind ≡ trimKind → trimmedTo (brickIn s l) (msg .time) ≡ without (brickIn s l) (p .cut)
     trims z =
         cut-trims s (brickIn s l) (msg .time) (p .cut) (r .saved .keeps) (omega (arith, r .counts, r .high, r .most))
         (subst (λ (g : List Entry). Cut g (entryCount (brickIn s l)) (msg .time) (p .cut)) e
@@ -237,7 +241,7 @@ ahead s brick l k log msg p r e q = go (ℕ-discrete (msg .kind) 1) (ℕ-discret
     made : p .place ≡ placeFor brick (brickIn s l) msg → p .found ≡ foundFor brick (brickIn s l) msg → p .place ≤ k .count → Ahead brick (brickIn s l) k msg p
     made a b c = record { place-is = a; found-is = b; place-high = c; cut-low = low; cut-is = trims }
 
-    go : Dec (msg .kind ≡ 1) → Dec (msg .kind ≡ 3) → Ahead brick (brickIn s l) k msg p
+    go : Dec (msg .kind ≡ readKind) → Dec (msg .kind ≡ orderReadKind) → Ahead brick (brickIn s l) k msg p
     go (yes a) b =
         let w = q .reads a in
         made (w .0 ∙ place-read s brick l k r msg a) (w .1 ∙ found-read s brick l k r msg a) (omega (arith, w .0, read-high s brick l k r msg))
@@ -251,12 +255,12 @@ ahead s brick l k log msg p r e q = go (ℕ-discrete (msg .kind) 1) (ℕ-discret
         made (w .0 ∙ place-none s brick l k r msg a b) (w .1 ∙ found-none s brick l k r msg a b) (omega (arith, w .0))
 
 -- the bytes of a held block
-held-bytes : (l : List ℕ) (size p : ℕ) → size ≤ 256 → take size (drop (512 * p + 16) l) ≡ heldIn size (imageBlockAt l p)
+held-bytes : (l : List ℕ) (size p : ℕ) → size ≤ maxSize → take size (drop (blockBytes * p + heldFrom) l) ≡ heldIn size (imageBlockAt l p)
 unfolding heldIn imageBlockAt
 held-bytes l size p h =
-    ap (λ (m : List ℕ). take size m) (sym (drop-drop 16 (512 * p) l))
-    ∙ sym (take-take size 496 (drop 16 (drop (512 * p) l)) (omega arith))
-    ∙ ap (λ (m : List ℕ). take size m) (sym (drop-take 16 496 (drop (512 * p) l)))
+    ap (λ (m : List ℕ). take size m) (sym (drop-drop heldFrom (blockBytes * p) l))
+    ∙ sym (take-take size (blockBytes - heldFrom) (drop heldFrom (drop (blockBytes * p) l)) (omega arith))
+    ∙ ap (λ (m : List ℕ). take size m) (sym (drop-take heldFrom (blockBytes - heldFrom) (drop (blockBytes * p) l)))
 
 pub gave-is : (s : Settings) (brick : ℕ) (l : List ℕ) (k : Known) (place : ℕ) (out : List ℕ) → LogReady s brick l k → place ≤ k .count
     → gaveOf l (s .size) place out ≡ blockAfter (brickIn s l) place out
@@ -268,7 +272,7 @@ gave-is s brick l k (suc i) out r h =
     let n : i + 1 ≡ suc i = omega arith in
     rw (ne-eqb (suc i) 0 (λ q. omega (arith, q)))
     (held-bytes l (s .size) (suc i) (r .saved .range .code .size-high)
-    ∙ sym (ap (λ (j : ℕ). heldAt (brickIn s l) j) m ∙ held-in s l i low ∙ ap (λ (j : ℕ). heldIn (s .size) (imageBlockAt l j)) n))
+    ∙ sym (ap (λ (j : ℕ). meansAt (brickIn s l) j) m ∙ held-in s l i low ∙ ap (λ (j : ℕ). heldIn (s .size) (imageBlockAt l j)) n))
 
 -- the ways of acting
 module _ (s : Settings) (brick : ℕ) (l : List ℕ) (k : Known) (msg : Message) (p : Plan) (block out : List ℕ) (r : LogReady s brick l k) (h : Ahead brick (brickIn s l) k msg p) where
@@ -277,17 +281,17 @@ module _ (s : Settings) (brick : ℕ) (l : List ℕ) (k : Known) (msg : Message)
       (g ≡ givenBy s brick (brickIn s l) msg)
       × ((image ≡ imageOf s brick (brickAfter s (brickIn s l) msg block)) × (out′ ≡ blockAfter (brickIn s l) (placeFor brick (brickIn s l) msg) out))
 
-  pub acts-trim : (image : List ℕ) → msg .kind ≡ 5 → image ≡ imageOf s brick (without (brickIn s l) (p .cut)) → Acts Silent image out
+  pub acts-trim : (image : List ℕ) → msg .kind ≡ trimKind → image ≡ imageOf s brick (without (brickIn s l) (p .cut)) → Acts Silent image out
   unfolding givenBy brickAfter blockAfter
   acts-trim image e w = (
-    sym (rw (eq-eqb (msg .kind) 5 e) refl),
+    sym (rw (eq-eqb (msg .kind) trimKind e) refl),
     (
-      w ∙ ap (λ (y : Brick). imageOf s brick y) (sym (rw (eq-eqb (msg .kind) 5 e) (h .cut-is e))),
+      w ∙ ap (λ (y : Brick). imageOf s brick y) (sym (rw (eq-eqb (msg .kind) trimKind e) (h .cut-is e))),
       sym (rw (sym (place-none s brick l k r msg (λ q. omega (arith, e, q)) (λ q. omega (arith, e, q)))) refl),
     ),
   )
 
-  pub acts-reply : (v : Bool) (image out′ : List ℕ) → (msg .kind ≡ 5 → ⊥) → v ≡ yesTo s (brickIn s l) msg
+  pub acts-reply : (v : Bool) (image out′ : List ℕ) → (msg .kind ≡ trimKind → ⊥) → v ≡ yesTo s (brickIn s l) msg
       → image ≡ imageOf s brick (brickAfter s (brickIn s l) msg block) → out′ ≡ gaveOf l (s .size) (p .place) out
       → Acts (Answered (record {
         kind = msg .kind;
@@ -300,7 +304,7 @@ module _ (s : Settings) (brick : ℕ) (l : List ℕ) (k : Known) (msg : Message)
       })) image out′
   unfolding givenBy replyTo
   acts-reply v image out′ e ev ei eo = (
-    sym (rw (ne-eqb (msg .kind) 5 e) (sym (reply ev (h .found-is) (ap (λ (n : ℕ). not (eqb n 0)) (h .place-is))))),
+    sym (rw (ne-eqb (msg .kind) trimKind e) (sym (reply ev (h .found-is) (ap (λ (n : ℕ). not (eqb n 0)) (h .place-is))))),
     (
       ei,
       eo ∙ gave-is s brick l k (p .place) out r (h .place-high) ∙ ap (λ (n : ℕ). blockAfter (brickIn s l) n out) (h .place-is),

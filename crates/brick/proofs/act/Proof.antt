@@ -12,7 +12,8 @@ same-length : tie.Need-same-length
 same-length c = search needs
 
 returns : tie.Need-returns
-returns c = acts-trim _ _ _ _ _ _ _ _ (c .before .before .before .before .before .before .before .before .before .pre .0) (c .before .before .before .before .before .before .before .before .before .pre .1 .0) _ (c .before .before .before .before .if1 .taken) (c .before .before .trim .ensures)
+returns c = acts-trim _ _ _ _ _ _ _ _ (c .before .before .before .before .before .before .before .before .before .pre .0)
+    (c .before .before .before .before .before .before .before .before .before .pre .1 .0) _ (c .before .before .before .before .if1 .taken) (c .before .before .trim .ensures)
 
 give-requires : tie.Need-give-requires
 unfolding imageSize
@@ -31,7 +32,10 @@ same-length-3 : tie.Need-same-length-3
 same-length-3 c = search needs
 
 returns-2 : tie.Need-returns-2
-returns-2 c = acts-reply _ _ _ _ _ _ _ _ (c .before .before .before .before .before .before .before .before .before .before .before .before .before .before .pre .0) (c .before .before .before .before .before .before .before .before .before .before .before .before .before .before .pre .1 .0) _ _ _ (c .before .before .before .before .before .before .before .before .before .if1 .left) (c .before .before .change .ensures .0) (c .before .before .change .ensures .1) (c .before .before .before .before .before .before .give .ensures)
+returns-2 c = acts-reply _ _ _ _ _ _ _ _ (c .before .before .before .before .before .before .before .before .before .before .before .before .before .before .pre .0)
+    (c .before .before .before .before .before .before .before .before .before .before .before .before .before .before .pre .1 .0) _ _ _
+    (c .before .before .before .before .before .before .before .before .before .if1 .left) (c .before .before .change .ensures .0) (c .before .before .change .ensures .1)
+    (c .before .before .before .before .before .before .give .ensures)
 
 pub act-spec : {M : Type 1} → statement M
 act-spec =

@@ -10,7 +10,9 @@ use Rattle.image.specs.Opening.{blank}
 blocks-refusal-requires : tie.Need-blocks-refusal-requires
 blocks-refusal-requires c κs = search needs
 
-the-hub : (c : tie.After-answer) → Hub (c .before .before .before .before .before .before .before .before .before .args .s) (c .before .before .before .before .before .before .before .before .before .args .brick) (c .before .before .before .before .before .before .before .before .before .args .image .now) (c .before .before .«open» .result) (c .answer .given .0 .0)
+the-hub : (c : tie.After-answer) → Hub (c .before .before .before .before .before .before .before .before .before .args .s)
+    (c .before .before .before .before .before .before .before .before .before .args .brick) (c .before .before .before .before .before .before .before .before .before .args .image .now)
+    (c .before .before .«open» .result) (c .answer .given .0 .0)
 the-hub c = hub _ _ _ _ _ (c .before .before .«open» .ensures) (c .answer .given .1)
 
 returns : tie.Need-returns
@@ -32,7 +34,8 @@ same-length : tie.Need-same-length
 same-length c = search needs
 
 returns-2 : tie.Need-returns-2
-returns-2 c = ends-unopened _ _ _ _ _ _ _ (c .before .before .before .before .before .before .blocks-refusal .ensures) (c .before .before .before .before .before .if1 .left) _ _ _ (c .before .before .before .«open» .ensures) (c .before .enum-told .given .1) (c .number-of .ensures)
+returns-2 c = ends-unopened _ _ _ _ _ _ _ (c .before .before .before .before .before .before .blocks-refusal .ensures) (c .before .before .before .before .before .if1 .left) _ _ _
+    (c .before .before .before .«open» .ensures) (c .before .enum-told .given .1) (c .number-of .ensures)
 
 refusal-requires : tie.Need-refusal-requires
 refusal-requires c κs = omega (arith, the-hub (c .before) .saved .range .code .n-high)
@@ -41,7 +44,8 @@ same-length-2 : tie.Need-same-length-2
 same-length-2 c = search needs
 
 returns-3 : tie.Need-returns-3
-returns-3 c = ends-wrong _ _ _ _ _ _ _ (c .before .before .before .before .before .before .before .before .blocks-refusal .ensures) (c .before .before .before .before .before .before .before .if1 .left) _ (the-hub (c .before .before .before) .is) _ (c .before .refusal .ensures) (c .if2 .taken)
+returns-3 c = ends-wrong _ _ _ _ _ _ _ (c .before .before .before .before .before .before .before .before .blocks-refusal .ensures)
+    (c .before .before .before .before .before .before .before .if1 .left) _ (the-hub (c .before .before .before) .is) _ (c .before .refusal .ensures) (c .if2 .taken)
 
 sub-last : tie.Need-sub-last
 sub-last c = omega (arith, the-hub (c .before .before .before .before .before) .low)
@@ -62,7 +66,8 @@ unfolding blank
 act-requires c κs =
     let u = the-hub (c .before .before .before .before .before .before .before .before .before) in
     let r = ready _ _ _ _ _ u in
-    let b = blocks-passed _ _ _ _ (c .before .before .before .before .before .before .before .before .before .before .before .before .before .before .blocks-refusal .ensures) (c .before .before .before .before .before .before .before .before .before .before .before .before .before .if1 .left) in
+    let b = blocks-passed _ _ _ _ (c .before .before .before .before .before .before .before .before .before .before .before .before .before .before .blocks-refusal .ensures)
+    (c .before .before .before .before .before .before .before .before .before .before .before .before .before .if1 .left) in
     (r, (ahead _ _ _ _ _ _ _ r (log-is _ _ _ _ _ u) (c .before .before .plan-for .ensures), (b .0, b .1)))
 
 same-length-3 : tie.Need-same-length-3
@@ -75,7 +80,10 @@ returns-4 : tie.Need-returns-4
 returns-4 c =
     let u = the-hub (c .before .before .before .before .before .before .before .before .before .before .before .before .before .before) in
     let a = c .before .before .before .before .act .ensures in
-    ends-acted _ _ _ _ _ _ _ (c .before .before .before .before .before .before .before .before .before .before .before .before .before .before .before .before .before .before .before .blocks-refusal .ensures) (c .before .before .before .before .before .before .before .before .before .before .before .before .before .before .before .before .before .before .if1 .left) _ (hub-reads _ _ _ _ _ u) _ (c .before .before .before .before .before .before .before .before .before .before .before .before .refusal .ensures) (c .before .before .before .before .before .before .before .before .before .before .before .if2 .left) _ _ _ (a .0) (a .1 .0) (a .1 .1)
+    ends-acted _ _ _ _ _ _ _ (c .before .before .before .before .before .before .before .before .before .before .before .before .before .before .before .before .before .before .before
+    .blocks-refusal .ensures) (c .before .before .before .before .before .before .before .before .before .before .before .before .before .before .before .before .before .before .if1
+    .left) _ (hub-reads _ _ _ _ _ u) _ (c .before .before .before .before .before .before .before .before .before .before .before .before .refusal .ensures)
+    (c .before .before .before .before .before .before .before .before .before .before .before .if2 .left) _ _ _ (a .0) (a .1 .0) (a .1 .1)
 
 pub receive-spec : {M : Type 1} → statement M
 receive-spec =

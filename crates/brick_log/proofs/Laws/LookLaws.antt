@@ -1,4 +1,4 @@
--- Laws of `specs/LookLaws`.
+-- What is found in the working log, and the plan for a message.
 use mathlib.Core.Path.{_≡_, refl, sym, ap, ap₂, _∙_}
 use mathlib.Core.Bool.{Bool, true, false, cond, _&&_}
 use mathlib.Core.List.{List, _++_, append-nil}
@@ -21,6 +21,9 @@ use Rattle.brick_log.specs.declared.Plan.{Plan}
 use Rattle.brick_log.specs.declared.Looked.{Looked}
 use Rattle.brick_log.specs.declared.Looked.the-variants.{Under, Nothing}
 use Rattle.brick_log.specs.Workers.{underIn, lookedIn, Cut, lookedPlace, lookedTime, planOf, planIn, readPlace, underFor, Planned, gaveOf}
+use Rattle.image_block.specs.Block.{blockBytes, heldFrom}
+use Rattle.message.specs.Kinds.{orderReadKind}
+use Rattle.settings.specs.Ranges.{maxCapacity}
 
 -- turn by turn, from the newest down
 pub under-found : (log : List Entry) (max n i entryCount : ℕ) → n ≡ suc i → getD log i blank .time < max → underIn log max n ≡ underIn log max entryCount
@@ -43,7 +46,7 @@ unfolding underIn
 under-down log max n i e h = ap (λ (k : ℕ). underIn log max k) e ∙ rw (le-ltb (getD log i blank .time) max h) refl
 
 -- ... is the lookup in the brick
-pub under-brick : (x : Brick) (max n : ℕ) → n ≤ entryCount x → entryCount x ≤ 32 → underIn (workingLog x) max n ≡ under x max n
+pub under-brick : (x : Brick) (max n : ℕ) → n ≤ entryCount x → entryCount x ≤ maxCapacity → underIn (workingLog x) max n ≡ under x max n
 unfolding underIn under
 under-brick x max zero h c = refl
 under-brick x max (suc i) h c =
@@ -73,7 +76,7 @@ plan-looked log (suc i) =
     rw (ne-eqb (suc i) 0 (λ q. omega (arith, q)))
     (ap (λ (k : ℕ). record { place = placeIn (getD log k blank .holding); found = getD log k blank .time; cut = 0 }) (sym m))
 
-pub place-brick : (x : Brick) (n : ℕ) → n ≤ entryCount x → entryCount x ≤ 32 → lookedPlace (workingLog x) n ≡ n
+pub place-brick : (x : Brick) (n : ℕ) → n ≤ entryCount x → entryCount x ≤ maxCapacity → lookedPlace (workingLog x) n ≡ n
 unfolding lookedPlace placeIn
 place-brick x zero h c = refl
 place-brick x (suc i) h c =
@@ -82,7 +85,7 @@ place-brick x (suc i) h c =
     (ap (λ (k : ℕ). placeIn (getD (workingLog x) k blank .holding)) m
     ∙ ap (λ (v : Entry). placeIn (v .holding)) (log-at x i blank (omega arith) c) ∙ add-one i)
 
-pub time-brick : (x : Brick) (n : ℕ) → n ≤ entryCount x → entryCount x ≤ 32 → lookedTime (workingLog x) n ≡ timeFor x n
+pub time-brick : (x : Brick) (n : ℕ) → n ≤ entryCount x → entryCount x ≤ maxCapacity → lookedTime (workingLog x) n ≡ timeFor x n
 unfolding lookedTime timeFor
 time-brick x zero h c = refl
 time-brick x (suc i) h c =
@@ -92,7 +95,7 @@ time-brick x (suc i) h c =
     ∙ ap (λ (v : Entry). v .time) (log-at x i blank (omega arith) c)
     ∙ ap (λ (k : ℕ). timeAt x k) (sym m))
 
-pub planned-look : (log : List Entry) (k : Known) (msg : Message) (brick : ℕ) (v : Bool) (f : Looked) (p : Plan) → msg .kind ≡ 3
+pub planned-look : (log : List Entry) (k : Known) (msg : Message) (brick : ℕ) (v : Bool) (f : Looked) (p : Plan) → msg .kind ≡ orderReadKind
     → v ≡ ltb (k .newest) (msg .time) && leb (k .promise) (msg .time) → v ≡ true → f ≡ lookedIn log (underIn log (msg .max) (k .count))
     → p ≡ planIn f → Planned log k msg brick p
 unfolding underFor planOf
@@ -107,7 +110,7 @@ planned-look log k msg brick v f p e ev t ef eq =
       others = λ a b. absurd (b e);
     }
 
-pub planned-no : (log : List Entry) (k : Known) (msg : Message) (brick : ℕ) (v : Bool) → msg .kind ≡ 3
+pub planned-no : (log : List Entry) (k : Known) (msg : Message) (brick : ℕ) (v : Bool) → msg .kind ≡ orderReadKind
     → v ≡ ltb (k .newest) (msg .time) && leb (k .promise) (msg .time) → v ≡ false → Planned log k msg brick (record { place = 0; found = 0; cut = 0 })
 unfolding underFor lookedPlace lookedTime
 planned-no log k msg brick v e ev t =
@@ -122,12 +125,12 @@ pub gave-none : (l : List ℕ) (size place : ℕ) (out : List ℕ) → place ≡
 unfolding gaveOf
 gave-none l size place out e = rw (eq-eqb place 0 e) refl
 
-pub gave-block : (l : List ℕ) (size place a : ℕ) (out after : List ℕ) → (place ≡ 0 → ⊥) → length out ≡ size → a ≡ 512 * place + 16 → a + size ≤ length l
+pub gave-block : (l : List ℕ) (size place a : ℕ) (out after : List ℕ) → (place ≡ 0 → ⊥) → length out ≡ size → a ≡ blockBytes * place + heldFrom → a + size ≤ length l
     → after ≡ put 0 (take (a + size - a) (drop a l)) out → after ≡ gaveOf l size place out
 unfolding gaveOf put
 gave-block l size place a out after z n e h w =
     let m : a + size - a ≡ size = omega arith in
-    let is : take (a + size - a) (drop a l) ≡ take size (drop (512 * place + 16) l) = ap₂ (λ (i j : ℕ). take i (drop j l)) m e in
+    let is : take (a + size - a) (drop a l) ≡ take size (drop (blockBytes * place + heldFrom) l) = ap₂ (λ (i j : ℕ). take i (drop j l)) m e in
     let long : length (take (a + size - a) (drop a l)) ≡ size =
     let d = length-drop a l in
     let t = length-take (a + size - a) (drop a l) in

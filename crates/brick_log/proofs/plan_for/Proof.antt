@@ -25,7 +25,8 @@ entry-plan-requires : tie.Need-entry-plan-requires
 entry-plan-requires c κs = search needs
 
 returns-3 : tie.Need-returns-3
-returns-3 c = planned-look _ _ _ _ _ _ _ (c .before .before .before .before .if3 .taken) (c .before .before .before .order-yes .ensures) (c .before .before .if4 .taken) (c .before .look-under .ensures) (c .entry-plan .ensures)
+returns-3 c = planned-look _ _ _ _ _ _ _ (c .before .before .before .before .if3 .taken) (c .before .before .before .order-yes .ensures) (c .before .before .if4 .taken)
+    (c .before .look-under .ensures) (c .entry-plan .ensures)
 
 returns-4 : tie.Need-returns-4
 returns-4 c = planned-no _ _ _ _ _ (c .before .before .if3 .taken) (c .before .order-yes .ensures) (c .if4 .left)

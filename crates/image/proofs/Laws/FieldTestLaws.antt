@@ -15,7 +15,7 @@ use Rattle.image_block.specs.Block.{sealed, headBody, headBlock, entryBody, ent
 use Rattle.byte_lists.specs.Lists.{same}
 use Rattle.image_block.proofs.Laws.CheckLaws.{checked-sealed, sealed-body}
 use Rattle.byte_lists.proofs.Laws.SameLaws.{same-true, same-of}
-use Rattle.image.specs.Brick.{Brick, LogEntry, entryCount, timeAt, heldAt, savedTime, risesAt, countSound, soundBrick}
+use Rattle.image.specs.Brick.{Brick, LogEntry, entryCount, timeAt, meansAt, savedTime, risesAt, countSound, soundBrick}
 use Rattle.byte_lists.specs.Each.{each}
 use Rattle.byte_lists.proofs.Laws.EachLaws.{each-at, each-all}
 use Rattle.image.specs.Image.{imageBlock, imageOf, imageSize}
@@ -26,6 +26,8 @@ use Rattle.image.specs.Workers.{rises, headFits, slotFits}
 use Rattle.image.specs.Workers.{slotAt}
 use Rattle.image.specs.Brick.{Sound, EntrySound}
 use Rattle.image.proofs.Laws.ImageSoundLaws.{soundness, sound-again, image-block, block-0, block-held, block-unused}
+use Rattle.image_block.specs.Block.{blockBytes, checkBytes, heldFrom}
+use Rattle.settings.specs.Ranges.{maxSize}
 
 both-ways : (a b : Bool) → (a ≡ true → b ≡ true) → (b ≡ true → a ≡ true) → a ≡ b
 both-ways true true f g = refl
@@ -52,8 +54,8 @@ time-in s l i h =
     ap (λ (x : LogEntry). x .time) (entries-at (s .size) l 1 (countIn (imageBlockAt l 0)) i h ∙ ap (λ (k : ℕ). entryIn (s .size) (imageBlockAt l k)) e)
     ∙ entry-time′ (s .size) (imageBlockAt l (i + 1))
 
-pub held-in : (s : Settings) (l : List ℕ) (i : ℕ) → i < countIn (imageBlockAt l 0) → heldAt (brickIn s l) i ≡ heldIn (s .size) (imageBlockAt l (i + 1))
-unfolding heldAt brickIn
+pub held-in : (s : Settings) (l : List ℕ) (i : ℕ) → i < countIn (imageBlockAt l 0) → meansAt (brickIn s l) i ≡ heldIn (s .size) (imageBlockAt l (i + 1))
+unfolding meansAt brickIn
 held-in s l i h =
     let e : 1 + i ≡ i + 1 = omega arith in
     ap (λ (x : LogEntry). x .block) (entries-at (s .size) l 1 (countIn (imageBlockAt l 0)) i h ∙ ap (λ (k : ℕ). entryIn (s .size) (imageBlockAt l k)) e)
@@ -67,23 +69,23 @@ unused-is : unusedBlock ≡ sealed unusedBody
 unfolding unusedBlock
 unused-is = refl
 
-held-size : (size : ℕ) (b : List ℕ) → size ≤ 256 → length b ≡ 512 → length (heldIn size b) ≡ size
+held-size : (size : ℕ) (b : List ℕ) → size ≤ maxSize → length b ≡ blockBytes → length (heldIn size b) ≡ size
 unfolding heldIn
 held-size size b h n =
-    let d = length-drop 16 b in
-    let t = length-take size (drop 16 b) in
+    let d = length-drop heldFrom b in
+    let t = length-take size (drop heldFrom b) in
     omega arith
 
 -- the parts of a slot's test
 record Slot (size : ℕ) (t : List ℕ) (time i last : ℕ) : Type 0 where
   saved : savedTime time ≡ true
   rising : rises i last time ≡ true
-  body : drop 2 t ≡ entryBody time (heldIn size t)
+  body : drop checkBytes t ≡ entryBody time (heldIn size t)
 
 slot-parts : (size : ℕ) (t : List ℕ) (time i n last : ℕ) → i < n → slotFits size t time i n last ≡ true → Slot size t time i last
 unfolding slotFits
 slot-parts size t time i n last h e =
-    let f : savedTime time && rises i last time && same (drop 2 t) (entryBody time (heldIn size t)) ≡ true = rw (lt-ltb i n h) at e in
+    let f : savedTime time && rises i last time && same (drop checkBytes t) (entryBody time (heldIn size t)) ≡ true = rw (lt-ltb i n h) at e in
     let g = and-left (savedTime time && rises i last time) _ f in
     record {
       saved = and-left (savedTime time) _ g;
@@ -95,11 +97,11 @@ slot-again : (size : ℕ) (t : List ℕ) (time i n last : ℕ) → i < n → Slo
 unfolding slotFits
 slot-again size t time i n last h p = rw (lt-ltb i n h, p .saved, p .rising, same-of _ _ (p .body)) refl
 
-free-parts : (size : ℕ) (t : List ℕ) (time i n last : ℕ) → n ≤ i → slotFits size t time i n last ≡ true → drop 2 t ≡ unusedBody
+free-parts : (size : ℕ) (t : List ℕ) (time i n last : ℕ) → n ≤ i → slotFits size t time i n last ≡ true → drop checkBytes t ≡ unusedBody
 unfolding slotFits
 free-parts size t time i n last h e = same-true _ _ (rw (le-ltb i n h) at e)
 
-free-again : (size : ℕ) (t : List ℕ) (time i n last : ℕ) → n ≤ i → drop 2 t ≡ unusedBody → slotFits size t time i n last ≡ true
+free-again : (size : ℕ) (t : List ℕ) (time i n last : ℕ) → n ≤ i → drop checkBytes t ≡ unusedBody → slotFits size t time i n last ≡ true
 unfolding slotFits
 free-again size t time i n last h e = rw (le-ltb i n h) (same-of _ _ e)
 
@@ -115,11 +117,11 @@ rises-in s l (suc i) h =
 
 module _ (s : Settings) (brick : ℕ) (l : List ℕ) (range : SettingsRange s) (long : length l ≡ imageSize s)
     (checks : each (checkedAt l) (s .capacity + 1) ≡ true) where
-  blocks : (k : ℕ) → k < s .capacity + 1 → length (imageBlockAt l k) ≡ 512
+  blocks : (k : ℕ) → k < s .capacity + 1 → length (imageBlockAt l k) ≡ blockBytes
   unfolding imageSize
   blocks k h = block-length l (s .capacity + 1) k long h
 
-  sealed-at : (k : ℕ) (body : List ℕ) → k < s .capacity + 1 → drop 2 (imageBlockAt l k) ≡ body → imageBlockAt l k ≡ sealed body
+  sealed-at : (k : ℕ) (body : List ℕ) → k < s .capacity + 1 → drop checkBytes (imageBlockAt l k) ≡ body → imageBlockAt l k ≡ sealed body
   unfolding checkedAt
   sealed-at k body h e = checked-sealed (imageBlockAt l k) body (blocks k h) (each-at (checkedAt l) (s .capacity + 1) k checks h) e
 
@@ -154,7 +156,7 @@ module _ (s : Settings) (brick : ℕ) (l : List ℕ) (range : SettingsRange s) (
           }
 
   -- ... whose blocks stand there
-  block-same : countSound s n ≡ true → drop 2 (imageBlockAt l 0) ≡ headBody s brick n (promiseIn (imageBlockAt l 0))
+  block-same : countSound s n ≡ true → drop checkBytes (imageBlockAt l 0) ≡ headBody s brick n (promiseIn (imageBlockAt l 0))
       → each (slotAt (s .size) l n) (s .capacity) ≡ true → (k : ℕ) → k < s .capacity + 1 → imageBlock s brick x k ≡ imageBlockAt l k
   unfolding n x slotAt brickIn headBlock
   block-same c head slots zero h =
@@ -208,14 +210,14 @@ module _ (s : Settings) (brick : ℕ) (l : List ℕ) (range : SettingsRange s) (
           (record {
             saved = ap savedTime (sym (time-in s l i h₁)) ∙ q .saved;
             rising = sym (rises-in s l i h₁) ∙ q .rises;
-            body = ap (λ (z : List ℕ). drop 2 z) (at ∙ block-held s brick x i (omega (arith, count-in s l)) ∙ entry-is (timeAt x i) (heldAt x i))
-                ∙ sealed-body (entryBody (timeAt x i) (heldAt x i))
+            body = ap (λ (z : List ℕ). drop checkBytes z) (at ∙ block-held s brick x i (omega (arith, count-in s l)) ∙ entry-is (timeAt x i) (meansAt x i))
+                ∙ sealed-body (entryBody (timeAt x i) (meansAt x i))
                 ∙ ap₂ (λ (a : ℕ) (z : List ℕ). entryBody a z) (time-in s l i h₁) (held-in s l i h₁);
           })
       go false w =
           let h₁ = ltb-false i n w in
           free-again (s .size) (imageBlockAt l (i + 1)) (timeIn (imageBlockAt l (i + 1))) i n (timeIn (imageBlockAt l i)) h₁
-          (ap (λ (z : List ℕ). drop 2 z) (at ∙ block-unused s brick x i (omega (arith, count-in s l)) ∙ unused-is) ∙ sealed-body unusedBody)
+          (ap (λ (z : List ℕ). drop checkBytes z) (at ∙ block-unused s brick x i (omega (arith, count-in s l)) ∙ unused-is) ∙ sealed-body unusedBody)
 
   image-head : Sound s x → imageOf s brick x ≡ l → headFits s brick (imageBlockAt l 0) n (promiseIn (imageBlockAt l 0)) ≡ true
   unfolding n x headFits countSound brickIn headBlock
@@ -223,7 +225,7 @@ module _ (s : Settings) (brick : ℕ) (l : List ℕ) (range : SettingsRange s) (
       let m = count-in s l in
       rw (le-leb 1 n (omega (arith, r .count-low)), le-leb n (s .capacity) (omega (arith, r .count-high)), r .promise-saved)
       (same-of _ _
-      (ap (λ (z : List ℕ). drop 2 z) (stands r e 0 (omega arith) ∙ block-0 s brick x)
+      (ap (λ (z : List ℕ). drop checkBytes z) (stands r e 0 (omega arith) ∙ block-0 s brick x)
       ∙ sealed-body (headBody s brick (entryCount x) (x .promise))
       ∙ ap (λ (k : ℕ). headBody s brick k (x .promise)) m))
 

@@ -18,11 +18,13 @@ use Rattle.image.specs.Image.{imageSize}
 use Rattle.image.specs.Parse.{heldIn}
 use Rattle.image.specs.Opening.{lendingRefusal}
 use Rattle.image.specs.Workers.{rises, headFits, slotFits}
+use Rattle.image_block.specs.Block.{blockBytes, checkBytes, heldFrom}
+use Rattle.settings.specs.Refusal.{badLength, badNumber, badSetting, passed}
 
 -- a comparison with a block that was built
-pub same-built : (b body t : List ℕ) (r : Bool) → b ≡ unchecked body → r ≡ same (drop 2 t) (drop 2 b) → r ≡ same (drop 2 t) body
+pub same-built : (b body t : List ℕ) (r : Bool) → b ≡ unchecked body → r ≡ same (drop checkBytes t) (drop checkBytes b) → r ≡ same (drop checkBytes t) body
 unfolding unchecked
-same-built b body t r e f = f ∙ ap (λ (x : List ℕ). same (drop 2 t) (drop 2 x)) e
+same-built b body t r e f = f ∙ ap (λ (x : List ℕ). same (drop checkBytes t) (drop checkBytes x)) e
 
 module _ (s : Settings) (brick : ℕ) (t : List ℕ) (n promise : ℕ) where
   pub head-few : n < 1 → false ≡ headFits s brick t n promise
@@ -38,13 +40,13 @@ module _ (s : Settings) (brick : ℕ) (t : List ℕ) (n promise : ℕ) where
   head-time v e f = rw (sym e ∙ f, and-false) refl
 
   pub head-rest : (v r : Bool) (b : List ℕ) → 1 ≤ n → n ≤ s .capacity → v ≡ savedTime promise → v ≡ true
-      → b ≡ unchecked (headBody s brick n promise) → r ≡ same (drop 2 t) (drop 2 b) → r ≡ headFits s brick t n promise
+      → b ≡ unchecked (headBody s brick n promise) → r ≡ same (drop checkBytes t) (drop checkBytes b) → r ≡ headFits s brick t n promise
   unfolding headFits countSound
   head-rest v r b h₁ h₂ e f k g =
       same-built b (headBody s brick n promise) t r k g ∙ sym (rw (le-leb 1 n h₁, le-leb n (s .capacity) h₂, sym e ∙ f) refl)
 
 module _ (size : ℕ) (t : List ℕ) (time i n last : ℕ) where
-  pub slot-unused : (r : Bool) → n ≤ i → r ≡ same (drop 2 t) unusedBody → r ≡ slotFits size t time i n last
+  pub slot-unused : (r : Bool) → n ≤ i → r ≡ same (drop checkBytes t) unusedBody → r ≡ slotFits size t time i n last
   unfolding slotFits
   slot-unused r h e = e ∙ sym (rw (le-ltb i n h) refl)
 
@@ -57,17 +59,17 @@ module _ (size : ℕ) (t : List ℕ) (time i n last : ℕ) where
   slot-rises v h e f = rw (lt-ltb i n h, sym e ∙ f, and-false) refl
 
   pub slot-entry : (v w r : Bool) → i < n → v ≡ savedTime time → v ≡ true → w ≡ rises i last time → w ≡ true
-      → r ≡ same (drop 2 t) (entryBody time (heldIn size t)) → r ≡ slotFits size t time i n last
+      → r ≡ same (drop checkBytes t) (entryBody time (heldIn size t)) → r ≡ slotFits size t time i n last
   unfolding slotFits
   slot-entry v w r h e f g k q = q ∙ sym (rw (lt-ltb i n h, sym e ∙ f, sym g ∙ k) refl)
 
 -- the part of a block that holds the entry's bytes
-pub held-part : (size : ℕ) (t : List ℕ) → take (16 + size - 16) (drop 16 t) ≡ heldIn size t
+pub held-part : (size : ℕ) (t : List ℕ) → take (heldFrom + size - heldFrom) (drop heldFrom t) ≡ heldIn size t
 unfolding heldIn
-held-part size t = let e : 16 + size - 16 ≡ size = omega arith in ap (λ (k : ℕ). take k (drop 16 t)) e
+held-part size t = let e : heldFrom + size - heldFrom ≡ size = omega arith in ap (λ (k : ℕ). take k (drop heldFrom t)) e
 
-pub entry-same : (size time : ℕ) (t b : List ℕ) (r : Bool) → b ≡ unchecked (entryBody time (take (16 + size - 16) (drop 16 t)))
-    → r ≡ same (drop 2 t) (drop 2 b) → r ≡ same (drop 2 t) (entryBody time (heldIn size t))
+pub entry-same : (size time : ℕ) (t b : List ℕ) (r : Bool) → b ≡ unchecked (entryBody time (take (heldFrom + size - heldFrom) (drop heldFrom t)))
+    → r ≡ same (drop checkBytes t) (drop checkBytes b) → r ≡ same (drop checkBytes t) (entryBody time (heldIn size t))
 entry-same size time t b r e f = same-built b (entryBody time (heldIn size t)) t r (e ∙ ap (λ (x : List ℕ). unchecked (entryBody time x)) (held-part size t)) f
 
 module _ (s : Settings) (brick len : ℕ) where
@@ -77,24 +79,25 @@ module _ (s : Settings) (brick len : ℕ) where
     where
       go : (b : Bool) → inRange s ≡ b → inRange s ≡ true
       go true q = q
-      go false q = let w = ap (λ (b : Bool). refuseUnless b 1) q in absurd (omega (arith, e, z, w))
+      go false q = let w = ap (λ (b : Bool). refuseUnless b badSetting) q in absurd (omega (arith, e, z, w))
 
-  pub lending-1 : (k : ℕ) → k ≡ settingsRefusal s → (k ≡ 0 → ⊥) → 1 ≡ lendingRefusal s brick len
+  pub lending-1 : (k : ℕ) → k ≡ settingsRefusal s → (k ≡ 0 → ⊥) → badSetting ≡ lendingRefusal s brick len
   unfolding lendingRefusal firstRefusal settingsRefusal
   lending-1 k e z = go (inRange s) refl
     where
-      go : (b : Bool) → inRange s ≡ b → _≡_ {A = ℕ} 1 (firstRefusal (refuseUnless (inRange s) 1 ∷ refuseUnless (eqb len (imageSize s)) 2 ∷ refuseUnless (ltb brick (s .n)) 3 ∷ []))
-      go true q = let w = ap (λ (b : Bool). refuseUnless b 1) q in absurd (z (e ∙ w))
+      go : (b : Bool) → inRange s ≡ b → _≡_ {A = ℕ} badSetting
+          (firstRefusal (refuseUnless (inRange s) badSetting ∷ refuseUnless (eqb len (imageSize s)) badLength ∷ refuseUnless (ltb brick (s .n)) badNumber ∷ []))
+      go true q = let w = ap (λ (b : Bool). refuseUnless b badSetting) q in absurd (z (e ∙ w))
       go false q = rw q refl
 
-  pub lending-2 : (k : ℕ) → k ≡ settingsRefusal s → k ≡ 0 → (len ≡ 512 * (s .capacity + 1) → ⊥) → 2 ≡ lendingRefusal s brick len
+  pub lending-2 : (k : ℕ) → k ≡ settingsRefusal s → k ≡ 0 → (len ≡ blockBytes * (s .capacity + 1) → ⊥) → badLength ≡ lendingRefusal s brick len
   unfolding lendingRefusal firstRefusal imageSize
-  lending-2 k e z h = rw (ranged k e z, ne-eqb len (512 * (s .capacity + 1)) h) refl
+  lending-2 k e z h = rw (ranged k e z, ne-eqb len (blockBytes * (s .capacity + 1)) h) refl
 
-  pub lending-3 : (k : ℕ) → k ≡ settingsRefusal s → k ≡ 0 → len ≡ 512 * (s .capacity + 1) → s .n ≤ brick → 3 ≡ lendingRefusal s brick len
+  pub lending-3 : (k : ℕ) → k ≡ settingsRefusal s → k ≡ 0 → len ≡ blockBytes * (s .capacity + 1) → s .n ≤ brick → badNumber ≡ lendingRefusal s brick len
   unfolding lendingRefusal firstRefusal imageSize
-  lending-3 k e z h l = rw (ranged k e z, eq-eqb len (512 * (s .capacity + 1)) h, le-ltb brick (s .n) l) refl
+  lending-3 k e z h l = rw (ranged k e z, eq-eqb len (blockBytes * (s .capacity + 1)) h, le-ltb brick (s .n) l) refl
 
-  pub lending-0 : (k : ℕ) → k ≡ settingsRefusal s → k ≡ 0 → len ≡ 512 * (s .capacity + 1) → brick < s .n → 0 ≡ lendingRefusal s brick len
+  pub lending-0 : (k : ℕ) → k ≡ settingsRefusal s → k ≡ 0 → len ≡ blockBytes * (s .capacity + 1) → brick < s .n → passed ≡ lendingRefusal s brick len
   unfolding lendingRefusal firstRefusal imageSize
-  lending-0 k e z h l = rw (ranged k e z, eq-eqb len (512 * (s .capacity + 1)) h, lt-ltb brick (s .n) l) refl
+  lending-0 k e z h l = rw (ranged k e z, eq-eqb len (blockBytes * (s .capacity + 1)) h, lt-ltb brick (s .n) l) refl

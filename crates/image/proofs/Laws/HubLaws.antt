@@ -1,4 +1,4 @@
--- Laws of `specs/HubLaws`.
+-- What is known of an image that opened: its brick, and the working log by place.
 use mathlib.Core.Path.{_≡_, refl, sym, ap, _∙_}
 use mathlib.Core.List.{List, [], _∷_, _++_}
 use Prim.Native.Nat.{ℕ, zero, suc, _+_, _-_, _≤_, _<_}
@@ -21,6 +21,7 @@ use Rattle.image.specs.declared.ImageAnswer.the-variants.{Opened, Refuse
 use Rattle.image.specs.declared.Shown.{Shown}
 use Rattle.image.specs.declared.Shown.the-variants.{Values}
 use Rattle.image.specs.Workers.{Hub}
+use Rattle.settings.specs.Ranges.{maxCapacity}
 
 pub row-length : (f : ℕ → Entry) (k : ℕ) → length (rowOf f k) ≡ k
 unfolding rowOf
@@ -39,9 +40,9 @@ row-at f (suc n) i d h = go (ℕ-discrete i n) (row-at f n i d)
         List·getD-append (rowOf f n) (f n ∷ []) d i (omega (arith, row-length f n)) ∙ ih low
 
 -- entry i of the working log
-pub log-at : (x : Brick) (i : ℕ) (d : Entry) → i < entryCount x → entryCount x ≤ 32 → getD (workingLog x) i d ≡ record { time = timeAt x i; holding = Held (i + 1) }
+pub log-at : (x : Brick) (i : ℕ) (d : Entry) → i < entryCount x → entryCount x ≤ maxCapacity → getD (workingLog x) i d ≡ record { time = timeAt x i; holding = Held (i + 1) }
 unfolding workingLog entryOf entryFor
-log-at x i d h c = row-at (entryOf x) 32 i d (omega arith) ∙ rw (lt-ltb i (entryCount x) h) refl
+log-at x i d h c = row-at (entryOf x) maxCapacity i d (omega arith) ∙ rw (lt-ltb i (entryCount x) h) refl
 
 pub hub : (s : Settings) (brick : ℕ) (l : List ℕ) (o : Opening) (h : Head) → o ≡ opening (parse s brick l) → o .answer ≡ Opened h → Hub s brick l o h
 unfolding opening

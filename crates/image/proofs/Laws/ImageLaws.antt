@@ -11,15 +11,16 @@ use lib.Seq.{take-all, drop-at, take-at, take-append-le, drop-append-le, take-ad
 use Rattle.byte_lists.specs.Lists.{put}
 use Rattle.byte_lists.specs.Lists.{stacked}
 use Rattle.image.specs.Parse.{imageBlockAt}
+use Rattle.image_block.specs.Block.{blockBytes}
 
 -- the blocks below n have 512 bytes each
 abbrev pub Even : (ℕ → List ℕ) → ℕ → Type 0
-Even f n = (k : ℕ) → k < n → length (f k) ≡ 512
+Even f n = (k : ℕ) → k < n → length (f k) ≡ blockBytes
 
 pub even-less : (f : ℕ → List ℕ) (n : ℕ) → Even f (suc n) → Even f n
 even-less f n e k h = e k (omega arith)
 
-pub stacked-length : (f : ℕ → List ℕ) (n : ℕ) → Even f n → length (stacked n f) ≡ 512 * n
+pub stacked-length : (f : ℕ → List ℕ) (n : ℕ) → Even f n → length (stacked n f) ≡ blockBytes * n
 unfolding stacked
 stacked-length f zero e = refl
 stacked-length f (suc n) e =
@@ -33,20 +34,20 @@ unfolding stacked imageBlockAt
 stacked-at f zero k e h = absurd (omega arith)
 stacked-at f (suc n) k e h = go (ℕ-discrete k n) (stacked-at f n k (even-less f n e))
   where
-    long : length (stacked n f) ≡ 512 * n
+    long : length (stacked n f) ≡ blockBytes * n
     long = stacked-length f n (even-less f n e)
 
-    go : Dec (k ≡ n) → (k < n → take 512 (drop (512 * k) (stacked n f)) ≡ f k) → take 512 (drop (512 * k) (stacked n f ++ f n)) ≡ f k
+    go : Dec (k ≡ n) → (k < n → take blockBytes (drop (blockBytes * k) (stacked n f)) ≡ f k) → take blockBytes (drop (blockBytes * k) (stacked n f ++ f n)) ≡ f k
     go (yes q) ih =
-        ap (λ (j : ℕ). take 512 (drop (512 * j) (stacked n f ++ f n))) q
-        ∙ ap (λ (l : List ℕ). take 512 l) (drop-at (stacked n f) (f n) (512 * n) long)
-        ∙ take-all 512 (f n) (omega (arith, e n (le-refl _)))
+        ap (λ (j : ℕ). take blockBytes (drop (blockBytes * j) (stacked n f ++ f n))) q
+        ∙ ap (λ (l : List ℕ). take blockBytes l) (drop-at (stacked n f) (f n) (blockBytes * n) long)
+        ∙ take-all blockBytes (f n) (omega (arith, e n (le-refl _)))
         ∙ ap f (sym q)
     go (no q) ih =
         let low : k < n = lt-of-le-ne (omega arith) q in
-        let d = length-drop (512 * k) (stacked n f) in
-        ap (λ (l : List ℕ). take 512 l) (drop-append-le (512 * k) (stacked n f) (f n) (omega (arith, long)))
-        ∙ take-append-le 512 (drop (512 * k) (stacked n f)) (f n) (omega (arith, long))
+        let d = length-drop (blockBytes * k) (stacked n f) in
+        ap (λ (l : List ℕ). take blockBytes l) (drop-append-le (blockBytes * k) (stacked n f) (f n) (omega (arith, long)))
+        ∙ take-append-le blockBytes (drop (blockBytes * k) (stacked n f)) (f n) (omega (arith, long))
         ∙ ih low
 
 pub stacked-ext : (f g : ℕ → List ℕ) (n : ℕ) → ((k : ℕ) → k < n → f k ≡ g k) → stacked n f ≡ stacked n g
@@ -54,22 +55,22 @@ unfolding stacked
 stacked-ext f g zero e = refl
 stacked-ext f g (suc n) e = ap₂ (λ (a b : List ℕ). a ++ b) (stacked-ext f g n (λ k h. e k (omega arith))) (e n (le-refl _))
 
-stacked-take : (l : List ℕ) (n : ℕ) → stacked n (imageBlockAt l) ≡ take (512 * n) l
+stacked-take : (l : List ℕ) (n : ℕ) → stacked n (imageBlockAt l) ≡ take (blockBytes * n) l
 unfolding stacked imageBlockAt
 stacked-take l zero = refl
 stacked-take l (suc n) =
-    let m : 512 * n + 512 ≡ 512 * suc n = omega arith in
-    ap (λ (a : List ℕ). a ++ take 512 (drop (512 * n) l)) (stacked-take l n) ∙ sym (take-add (512 * n) 512 l) ∙ ap (λ (k : ℕ). take k l) m
+    let m : blockBytes * n + blockBytes ≡ blockBytes * suc n = omega arith in
+    ap (λ (a : List ℕ). a ++ take blockBytes (drop (blockBytes * n) l)) (stacked-take l n) ∙ sym (take-add (blockBytes * n) blockBytes l) ∙ ap (λ (k : ℕ). take k l) m
 
 -- bytes are their blocks in a row
-pub stacked-of : (l : List ℕ) (n : ℕ) → length l ≡ 512 * n → stacked n (imageBlockAt l) ≡ l
-stacked-of l n h = stacked-take l n ∙ take-all (512 * n) l (omega arith)
+pub stacked-of : (l : List ℕ) (n : ℕ) → length l ≡ blockBytes * n → stacked n (imageBlockAt l) ≡ l
+stacked-of l n h = stacked-take l n ∙ take-all (blockBytes * n) l (omega arith)
 
-pub block-length : (l : List ℕ) (n k : ℕ) → length l ≡ 512 * n → k < n → length (imageBlockAt l k) ≡ 512
+pub block-length : (l : List ℕ) (n k : ℕ) → length l ≡ blockBytes * n → k < n → length (imageBlockAt l k) ≡ blockBytes
 unfolding imageBlockAt
 block-length l n k h b =
-    let d = length-drop (512 * k) l in
-    let t = length-take 512 (drop (512 * k) l) in
+    let d = length-drop (blockBytes * k) l in
+    let t = length-take blockBytes (drop (blockBytes * k) l) in
     omega arith
 
 put-append : (at : ℕ) (b l r : List ℕ) → at + length b ≤ length l → put at b (l ++ r) ≡ put at b l ++ r
@@ -87,22 +88,22 @@ put-end at b l r e n =
 
 -- placing a block changes that one alone
 pub stacked-put : (f g : ℕ → List ℕ) (n j : ℕ) → Even f n → Even g n → j < n → ((k : ℕ) → k < n → (k ≡ j → ⊥) → f k ≡ g k)
-    → put (512 * j) (g j) (stacked n f) ≡ stacked n g
+    → put (blockBytes * j) (g j) (stacked n f) ≡ stacked n g
 unfolding stacked
 stacked-put f g zero j ef eg h e = absurd (omega arith)
 stacked-put f g (suc n) j ef eg h e =
     go (ℕ-discrete j n) (stacked-put f g n j (even-less f n ef) (even-less g n eg))
   where
-    long : length (stacked n f) ≡ 512 * n
+    long : length (stacked n f) ≡ blockBytes * n
     long = stacked-length f n (even-less f n ef)
 
-    go : Dec (j ≡ n) → (j < n → ((k : ℕ) → k < n → (k ≡ j → ⊥) → f k ≡ g k) → put (512 * j) (g j) (stacked n f) ≡ stacked n g)
-        → put (512 * j) (g j) (stacked n f ++ f n) ≡ stacked n g ++ g n
+    go : Dec (j ≡ n) → (j < n → ((k : ℕ) → k < n → (k ≡ j → ⊥) → f k ≡ g k) → put (blockBytes * j) (g j) (stacked n f) ≡ stacked n g)
+        → put (blockBytes * j) (g j) (stacked n f ++ f n) ≡ stacked n g ++ g n
     go (yes q) ih =
-        ap (λ (k : ℕ). put (512 * k) (g k) (stacked n f ++ f n)) q
-        ∙ put-end (512 * n) (g n) (stacked n f) (f n) long (ef n (le-refl _) ∙ sym (eg n (le-refl _)))
+        ap (λ (k : ℕ). put (blockBytes * k) (g k) (stacked n f ++ f n)) q
+        ∙ put-end (blockBytes * n) (g n) (stacked n f) (f n) long (ef n (le-refl _) ∙ sym (eg n (le-refl _)))
         ∙ ap (λ (l : List ℕ). l ++ g n) (stacked-ext f g n (λ k b. e k (omega arith) (λ w. omega (arith, w, q))))
     go (no q) ih =
         let low : j < n = lt-of-le-ne (omega arith) q in
-        put-append (512 * j) (g j) (stacked n f) (f n) (omega (arith, long, eg j h))
+        put-append (blockBytes * j) (g j) (stacked n f) (f n) (omega (arith, long, eg j h))
         ∙ ap₂ (λ (a b : List ℕ). a ++ b) (ih low (λ k b ne. e k (omega arith) ne)) (e n (le-refl _) (λ w. q (sym w)))

@@ -1,7 +1,7 @@
--- Laws of `specs/SoundLaws`.
+-- The rules of a brick as a test and as a record, and the blocks of its image.
 use mathlib.Core.Path.{_≡_, refl}
 use mathlib.Core.Bool.{Bool, true, false, cond, _&&_, _||_}
-use Prim.Native.Nat.{ℕ, zero, suc, _+_, _*_, _^_, _≤_, _<_}
+use Prim.Native.Nat.{ℕ, zero, suc, _+_, _≤_, _<_}
 use native.Mathlib.Omega.{arith}
 use lib.Dec.{leb, ltb, eqb}
 use lib.ListN.{length}
@@ -12,22 +12,23 @@ use Rattle.settings.specs.Times.{validTime, noUpperEnd, timeOf}
 use Rattle.settings.specs.declared.Settings.{Settings}
 use Rattle.image_block.specs.Block.{headBlock, entryBlock, unusedBlock}
 use Rattle.image_block.proofs.Laws.LayoutLaws.{head-length, entry-length, unused-length}
-use Rattle.image.specs.Brick.{Brick, entryCount, timeAt, heldAt, savedTime, risesAt, entrySound, countSound, soundBrick}
+use Rattle.image.specs.Brick.{Brick, entryCount, timeAt, meansAt, savedTime, risesAt, entrySound, countSound, soundBrick}
 use Rattle.byte_lists.specs.Each.{each}
 use Rattle.byte_lists.proofs.Laws.EachLaws.{each-at, each-all}
 use Rattle.image.specs.Image.{imageBlock, imageOf, imageSize}
 use Rattle.image.proofs.Laws.ImageLaws.{Even, stacked-at, stacked-length}
 use Rattle.image.specs.Parse.{imageBlockAt}
 use Rattle.image.specs.Brick.{EntrySound, Sound}
+use Rattle.image_block.specs.Block.{blockBytes}
 
--- a number that is 0 or a valid time is below 2^44
-pub saved-high : (t : ℕ) → savedTime t ≡ true → t < 2 ^ 44
-unfolding savedTime validTime noUpperEnd timeOf
+-- a number that is 0 or a valid time is below "no upper end"
+pub saved-high : (t : ℕ) → savedTime t ≡ true → t < noUpperEnd
+unfolding savedTime validTime
 saved-high t e = go (eqb t 0) refl e
   where
-    go : (b : Bool) → eqb t 0 ≡ b → b || (leb (1 * 16 + 0) t && ltb t (2 ^ 44)) ≡ true → t < 2 ^ 44
+    go : (b : Bool) → eqb t 0 ≡ b → b || (leb (timeOf 1 0) t && ltb t (noUpperEnd)) ≡ true → t < noUpperEnd
     go true z v = let n : t ≡ 0 = eqb-true t 0 z in omega arith
-    go false z v = ltb-true t (2 ^ 44) (and-right (leb (1 * 16 + 0) t) _ v)
+    go false z v = ltb-true t (noUpperEnd) (and-right (leb (timeOf 1 0) t) _ v)
 
 pub entry-soundness : (s : Settings) (x : Brick) (i : ℕ) → entrySound s x i ≡ true → EntrySound s x i
 unfolding entrySound
@@ -57,7 +58,7 @@ sound-again s x r =
     rw (le-leb 1 (entryCount x) (r .count-low), le-leb (entryCount x) (s .capacity) (r .count-high), r .promise-saved)
     (each-all (entrySound s x) (entryCount x) each)
   where
-    each : (i : ℕ) → i < entryCount x → savedTime (timeAt x i) && risesAt x i && eqb (length (heldAt x i)) (s .size) ≡ true
+    each : (i : ℕ) → i < entryCount x → savedTime (timeAt x i) && risesAt x i && eqb (length (meansAt x i)) (s .size) ≡ true
     each i h = let n = r .entries i h in rw (n .saved, n .rises, eq-eqb _ _ (n .sized)) refl
 
 module _ (s : Settings) (brick : ℕ) (x : Brick) where
@@ -65,7 +66,7 @@ module _ (s : Settings) (brick : ℕ) (x : Brick) where
   unfolding imageBlock
   block-0 = refl
 
-  pub block-held : (i : ℕ) → i < entryCount x → imageBlock s brick x (suc i) ≡ entryBlock (timeAt x i) (heldAt x i)
+  pub block-held : (i : ℕ) → i < entryCount x → imageBlock s brick x (suc i) ≡ entryBlock (timeAt x i) (meansAt x i)
   unfolding imageBlock
   block-held i h = rw (lt-ltb i (entryCount x) h) refl
 
@@ -79,9 +80,9 @@ module _ (s : Settings) (brick : ℕ) (x : Brick) (range : SettingsRange s) (r :
   blocks-even zero h = head-length s brick (entryCount x) (x .promise)
   blocks-even (suc i) h = go (ltb i (entryCount x)) refl
     where
-      go : (b : Bool) → ltb i (entryCount x) ≡ b → length (cond b (entryBlock (timeAt x i) (heldAt x i)) unusedBlock) ≡ 512
+      go : (b : Bool) → ltb i (entryCount x) ≡ b → length (cond b (entryBlock (timeAt x i) (meansAt x i)) unusedBlock) ≡ blockBytes
       go true e =
-          entry-length (timeAt x i) (heldAt x i) (omega (arith, r .entries i (ltb-true i (entryCount x) e) .sized, range .code .size-high))
+          entry-length (timeAt x i) (meansAt x i) (omega (arith, r .entries i (ltb-true i (entryCount x) e) .sized, range .code .size-high))
       go false e = unused-length
 
   pub image-length : length (imageOf s brick x) ≡ imageSize s

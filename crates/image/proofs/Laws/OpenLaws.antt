@@ -30,6 +30,8 @@ use Rattle.image.proofs.Laws.FieldTestLaws.{tests-image, time-in}
 use Rattle.image.specs.declared.Entry.{Entry}
 use Rattle.image.specs.declared.Opening.{Opening}
 use Rattle.image.specs.declared.ImageAnswer.the-variants.{Opened, Refused}
+use Rattle.settings.specs.Ranges.{maxCapacity}
+use Rattle.settings.specs.Refusal.{badCheck, badLength, badNumber, badRecord, badSetting}
 
 -- what passes the first refusals
 pub record LentImage (s : Settings) (brick len : ℕ) : Type 0 where
@@ -43,7 +45,7 @@ unfolding lendingRefusal firstRefusal
 lent s brick len k e z = go (inRange s) (eqb len (imageSize s)) (ltb brick (s .n)) refl refl refl (sym e ∙ z)
   where
     go : (a b c : Bool) → inRange s ≡ a → eqb len (imageSize s) ≡ b → ltb brick (s .n) ≡ c
-        → _≡_ {A = ℕ} (firstRefusal (refuseUnless a 1 ∷ refuseUnless b 2 ∷ refuseUnless c 3 ∷ [])) 0 → LentImage s brick len
+        → _≡_ {A = ℕ} (firstRefusal (refuseUnless a badSetting ∷ refuseUnless b badLength ∷ refuseUnless c badNumber ∷ [])) 0 → LentImage s brick len
     go false b c ea eb ec r = absurd (omega arith)
     go true false c ea eb ec r = absurd (omega arith)
     go true true false ea eb ec r = absurd (omega arith)
@@ -54,8 +56,9 @@ pub lending-parse : (s : Settings) (brick : ℕ) (l : List ℕ) (k : ℕ) → k 
 unfolding lendingRefusal openRefusal firstRefusal
 lending-parse s brick l k e z = parse-refuses s brick l k (go (inRange s) (eqb (length l) (imageSize s)) (ltb brick (s .n)) e) z
   where
-    go : (a b c : Bool) → k ≡ firstRefusal (refuseUnless a 1 ∷ refuseUnless b 2 ∷ refuseUnless c 3 ∷ [])
-        → firstRefusal (refuseUnless a 1 ∷ refuseUnless b 2 ∷ refuseUnless c 3 ∷ refuseUnless (each (checkedAt l) (s .capacity + 1)) 5 ∷ refuseUnless (isImage s brick l) 6 ∷ []) ≡ k
+    go : (a b c : Bool) → k ≡ firstRefusal (refuseUnless a badSetting ∷ refuseUnless b badLength ∷ refuseUnless c badNumber ∷ [])
+        → firstRefusal (refuseUnless a badSetting ∷ refuseUnless b badLength ∷ refuseUnless c badNumber ∷ refuseUnless (each (checkedAt l) (s .capacity + 1)) badCheck ∷ refuseUnless
+        (isImage s brick l) badRecord ∷ []) ≡ k
     go false b c r = sym r
     go true false c r = sym r
     go true true false r = sym r
@@ -102,13 +105,13 @@ entry-past : (time i n : ℕ) → n ≤ i → entryFor time i n ≡ blank
 unfolding entryFor
 entry-past time i n h = rw (le-ltb i n h) refl
 
-working : (s : Settings) (l : List ℕ) → s .capacity ≤ 32 → countIn (imageBlockAt l 0) ≤ s .capacity
-    → rowOf (entryAt l (countIn (imageBlockAt l 0))) (s .capacity) ++ replicate (32 - s .capacity) blank ≡ workingLog (brickIn s l)
+working : (s : Settings) (l : List ℕ) → s .capacity ≤ maxCapacity → countIn (imageBlockAt l 0) ≤ s .capacity
+    → rowOf (entryAt l (countIn (imageBlockAt l 0))) (s .capacity) ++ replicate (maxCapacity - s .capacity) blank ≡ workingLog (brickIn s l)
 unfolding workingLog entryAt entryOf
 working s l c h =
-    let m : s .capacity + (32 - s .capacity) ≡ 32 = omega arith in
-    ap (λ (a : List Entry). a ++ replicate (32 - s .capacity) blank) (row-ext (entryAt l (countIn (imageBlockAt l 0))) (entryOf (brickIn s l)) (s .capacity) (λ i b. each i))
-    ∙ sym (row-blank (entryOf (brickIn s l)) (s .capacity) (32 - s .capacity) past)
+    let m : s .capacity + (maxCapacity - s .capacity) ≡ maxCapacity = omega arith in
+    ap (λ (a : List Entry). a ++ replicate (maxCapacity - s .capacity) blank) (row-ext (entryAt l (countIn (imageBlockAt l 0))) (entryOf (brickIn s l)) (s .capacity) (λ i b. each i))
+    ∙ sym (row-blank (entryOf (brickIn s l)) (s .capacity) (maxCapacity - s .capacity) past)
     ∙ ap (λ (k : ℕ). rowOf (entryOf (brickIn s l)) k) m
   where
     past : (i : ℕ) → s .capacity ≤ i → entryFor (timeAt (brickIn s l) i) i (entryCount (brickIn s l)) ≡ blank
@@ -129,10 +132,10 @@ head-count-high s brick t n promise e = leb-true n (s .capacity) (and-right (leb
 -- With t the head's block, holds what its check said, n and promise its fields, fits what its test said, and what the loop over the others gave:
 module _ (s : Settings) (brick : ℕ) (l t : List ℕ) (e : LentImage s brick (length l)) (first : t ≡ imageBlockAt l 0) (holds : Bool) (hold : holds ≡ checked t) where
   -- 5: the head's check fails,
-  pub open-unchecked : (r : Opening) → holds ≡ false → r ≡ opening (Refuses 5) → r ≡ opening (parse s brick l)
+  pub open-unchecked : (r : Opening) → holds ≡ false → r ≡ opening (Refuses badCheck) → r ≡ opening (parse s brick l)
   unfolding checkedAt
   open-unchecked r f q =
-      q ∙ ap opening (sym (parse-refuses s brick l 5
+      q ∙ ap opening (sym (parse-refuses s brick l badCheck
       (refusal-5 s brick l (e .in-range) (e .long) (e .brick-low)
       (each-not (checkedAt l) (s .capacity + 1) 0 (omega arith) (sym (ap checked first) ∙ sym hold ∙ f)))
       (λ z. omega (arith, z))))
@@ -140,9 +143,9 @@ module _ (s : Settings) (brick : ℕ) (l t : List ℕ) (e : LentImage s brick (l
   module _ (held : holds ≡ true) (n promise : ℕ) (en : n ≡ countIn t) (ep : promise ≡ promiseIn t)
       (checks fits : Bool) (log : List Entry) (scan : Scanned (s .size) (s .capacity) l n checks fits log) where
     -- or another's
-    pub open-unchecked-later : (r : Opening) → checks ≡ false → r ≡ opening (Refuses 5) → r ≡ opening (parse s brick l)
+    pub open-unchecked-later : (r : Opening) → checks ≡ false → r ≡ opening (Refuses badCheck) → r ≡ opening (parse s brick l)
     open-unchecked-later r f q =
-        q ∙ ap opening (sym (parse-refuses s brick l 5
+        q ∙ ap opening (sym (parse-refuses s brick l badCheck
         (refusal-5 s brick l (e .in-range) (e .long) (e .brick-low) (checks-fail l (s .capacity) (sym (scan .all-checked) ∙ f)))
         (λ z. omega (arith, z))))
 
@@ -166,9 +169,9 @@ module _ (s : Settings) (brick : ℕ) (l t : List ℕ) (e : LentImage s brick (l
 
     -- 6: the head or another block is not as it should be
     pub open-unfit : (r : Opening) (head : Bool) → head ≡ headFits s brick t n promise → checks ≡ true → head && fits ≡ false
-        → r ≡ opening (Refuses 6) → r ≡ opening (parse s brick l)
+        → r ≡ opening (Refuses badRecord) → r ≡ opening (parse s brick l)
     open-unfit r head eh c f q =
-        q ∙ ap opening (sym (parse-refuses s brick l 6
+        q ∙ ap opening (sym (parse-refuses s brick l badRecord
         (refusal-6 s brick l (e .in-range) (e .long) (e .brick-low) (all-checks c) (sym (tested head eh c) ∙ f))
         (λ z. omega (arith, z))))
 
@@ -182,7 +185,7 @@ module _ (s : Settings) (brick : ℕ) (l t : List ℕ) (e : LentImage s brick (l
         omega (arith, n-is, head-count-high s brick t n promise (sym eh ∙ h)) in
         let lg : log ≡ workingLog (brickIn s l) =
         scan .the-log c
-        ∙ ap (λ (k : ℕ). rowOf (entryAt l k) (s .capacity) ++ replicate (32 - s .capacity) blank) n-is
+        ∙ ap (λ (k : ℕ). rowOf (entryAt l k) (s .capacity) ++ replicate (maxCapacity - s .capacity) blank) n-is
         ∙ working s l (e .range .capacity-high) few in
         let cn : n ≡ entryCount (brickIn s l) = n-is ∙ sym (count-in s l) in
         made cn promise-is lg
@@ -196,6 +199,6 @@ module _ (s : Settings) (brick : ℕ) (l t : List ℕ) (e : LentImage s brick (l
 
 -- a refusal is made
 pub refused-made : (number : ℕ) (b : Entry) → b ≡ entryFor 0 0 0
-    → _≡_ {A = Opening} (record { answer = Refused number; log = replicate 32 b }) (opening (Refuses number))
+    → _≡_ {A = Opening} (record { answer = Refused number; log = replicate maxCapacity b }) (opening (Refuses number))
 unfolding opening rowOf noBlank entryFor
-refused-made number b e = λ i. record { answer = Refused number; log = replicate 32 (e i) }
+refused-made number b e = λ i. record { answer = Refused number; log = replicate maxCapacity (e i) }

@@ -1,4 +1,4 @@
--- Laws of `specs/ParseLaws`.
+-- The image of a brick reads back as that brick, and what opens is the image of what it opens to.
 use mathlib.Core.Path.{_≡_, refl, sym, ap, subst, _∙_}
 use mathlib.Core.Bool.{Bool, true, false, cond, _&&_}
 use mathlib.Core.List.{List, [], _∷_}
@@ -20,7 +20,7 @@ use Rattle.byte_lists.specs.Lists.{same}
 use Rattle.image_block.proofs.Laws.LayoutLaws.{head-count, head-promise, entry-time, entry-held}
 use Rattle.image_block.proofs.Laws.CheckLaws.{sealed-checked}
 use Rattle.byte_lists.proofs.Laws.SameLaws.{same-true, same-of}
-use Rattle.image.specs.Brick.{Brick, noEntry, entryCount, timeAt, heldAt, soundBrick}
+use Rattle.image.specs.Brick.{Brick, noEntry, entryCount, timeAt, meansAt, soundBrick}
 use Rattle.byte_lists.specs.Each.{each}
 use Rattle.byte_lists.proofs.Laws.EachLaws.{each-all}
 use Rattle.image.specs.Image.{imageBlock, imageOf, imageSize}
@@ -28,6 +28,8 @@ use Rattle.image.specs.Parse.{imageBlockAt, countIn, promiseIn, timeIn, 
 use Rattle.image.specs.Brick.{Sound}
 use Rattle.image.proofs.Laws.ImageSoundLaws.{soundness, sound-again, saved-high, block-0, block-held, image-block, image-length}
 use Rattle.image.specs.Workers.{ImageOpened}
+use Rattle.image_block.specs.Block.{countBytes, countFrom, heldFrom, promiseFrom, timeBytes, timeFrom}
+use Rattle.settings.specs.Refusal.{badCheck, badLength, badNumber, badRecord, badSetting, passed}
 
 pub range-of : (s : Settings) → inRange s ≡ true → SettingsRange s
 unfolding settingsRefusal
@@ -58,24 +60,24 @@ module _ (s : Settings) (brick : ℕ) (x : Brick) (range : SettingsRange s) (r :
   count-back : countIn (imageBlockAt (imageOf s brick x) 0) ≡ entryCount x
   unfolding countIn
   count-back =
-      ap (λ (h : List ℕ). number (take 2 (drop 10 h))) head-at
+      ap (λ (h : List ℕ). number (take countBytes (drop countFrom h))) head-at
       ∙ head-count s brick (entryCount x) (x .promise) (omega (arith, r .count-high, range .capacity-high))
 
   promise-back : promiseIn (imageBlockAt (imageOf s brick x) 0) ≡ x .promise
   unfolding promiseIn
   promise-back =
-      ap (λ (h : List ℕ). number (take 8 (drop 12 h))) head-at
+      ap (λ (h : List ℕ). number (take timeBytes (drop promiseFrom h))) head-at
       ∙ head-promise s brick (entryCount x) (x .promise) (omega (arith, saved-high (x .promise) (r .promise-saved)))
 
   entry-back : (i : ℕ) → i < entryCount x → entryIn (s .size) (imageBlockAt (imageOf s brick x) (suc i)) ≡ getD (x .log) i noEntry
-  unfolding entryIn timeIn heldIn timeAt heldAt
+  unfolding entryIn timeIn heldIn timeAt meansAt
   entry-back i h =
       let at = image-block s brick x range r (suc i) (omega (arith, r .count-high)) ∙ block-held s brick x i h in
       let n = r .entries i h in
-      let t : number (take 8 (drop 4 (imageBlockAt (imageOf s brick x) (suc i)))) ≡ timeAt x i =
-      ap (λ (b : List ℕ). number (take 8 (drop 4 b))) at ∙ entry-time (timeAt x i) (heldAt x i) (omega (arith, saved-high (timeAt x i) (n .saved))) in
-      let b : take (s .size) (drop 16 (imageBlockAt (imageOf s brick x) (suc i))) ≡ heldAt x i =
-      ap (λ (b : List ℕ). take (s .size) (drop 16 b)) at ∙ entry-held (timeAt x i) (heldAt x i) (s .size) (n .sized) in
+      let t : number (take timeBytes (drop timeFrom (imageBlockAt (imageOf s brick x) (suc i)))) ≡ timeAt x i =
+      ap (λ (b : List ℕ). number (take timeBytes (drop timeFrom b))) at ∙ entry-time (timeAt x i) (meansAt x i) (omega (arith, saved-high (timeAt x i) (n .saved))) in
+      let b : take (s .size) (drop heldFrom (imageBlockAt (imageOf s brick x) (suc i))) ≡ meansAt x i =
+      ap (λ (b : List ℕ). take (s .size) (drop heldFrom b)) at ∙ entry-held (timeAt x i) (meansAt x i) (s .size) (n .sized) in
       λ j. record { time = t j; block = b j }
 
   log-back : entriesIn (s .size) (imageOf s brick x) 1 (entryCount x) ≡ x .log
@@ -99,21 +101,21 @@ module _ (s : Settings) (brick : ℕ) (x : Brick) (range : SettingsRange s) (r :
 
 -- The ways through the refusal of an image.
 module _ (s : Settings) (brick : ℕ) (l : List ℕ) where
-  pub refusal-3 : inRange s ≡ true → length l ≡ imageSize s → s .n ≤ brick → openRefusal s brick l ≡ 3
+  pub refusal-3 : inRange s ≡ true → length l ≡ imageSize s → s .n ≤ brick → openRefusal s brick l ≡ badNumber
   unfolding openRefusal firstRefusal
   refusal-3 a b c = rw (a, eq-eqb (length l) (imageSize s) b, le-ltb brick (s .n) c) refl
 
-  pub refusal-5 : inRange s ≡ true → length l ≡ imageSize s → brick < s .n → each (checkedAt l) (s .capacity + 1) ≡ false → openRefusal s brick l ≡ 5
+  pub refusal-5 : inRange s ≡ true → length l ≡ imageSize s → brick < s .n → each (checkedAt l) (s .capacity + 1) ≡ false → openRefusal s brick l ≡ badCheck
   unfolding openRefusal firstRefusal
   refusal-5 a b c d = rw (a, eq-eqb (length l) (imageSize s) b, lt-ltb brick (s .n) c, d) refl
 
   pub refusal-6 : inRange s ≡ true → length l ≡ imageSize s → brick < s .n → each (checkedAt l) (s .capacity + 1) ≡ true
-      → isImage s brick l ≡ false → openRefusal s brick l ≡ 6
+      → isImage s brick l ≡ false → openRefusal s brick l ≡ badRecord
   unfolding openRefusal firstRefusal
   refusal-6 a b c d e = rw (a, eq-eqb (length l) (imageSize s) b, lt-ltb brick (s .n) c, d, e) refl
 
   pub refusal-0 : inRange s ≡ true → length l ≡ imageSize s → brick < s .n → each (checkedAt l) (s .capacity + 1) ≡ true
-      → isImage s brick l ≡ true → openRefusal s brick l ≡ 0
+      → isImage s brick l ≡ true → openRefusal s brick l ≡ passed
   unfolding openRefusal firstRefusal
   refusal-0 a b c d e = rw (a, eq-eqb (length l) (imageSize s) b, lt-ltb brick (s .n) c, d, e) refl
 
@@ -121,7 +123,7 @@ module _ (s : Settings) (brick : ℕ) (l : List ℕ) where
   unfolding parse
   parse-refuses k e z = rw (e, ne-eqb k 0 z) refl
 
-  pub parse-opens : openRefusal s brick l ≡ 0 → parse s brick l ≡ Opens (brickIn s l)
+  pub parse-opens : openRefusal s brick l ≡ passed → parse s brick l ≡ Opens (brickIn s l)
   unfolding parse
   parse-opens e = rw e refl
 
@@ -134,7 +136,7 @@ module _ (s : Settings) (brick : ℕ) (l : List ℕ) where
     where
       go : (a b c d f g : Bool) → inRange s ≡ a → eqb (length l) (imageSize s) ≡ b → ltb brick (s .n) ≡ c → each (checkedAt l) (s .capacity + 1) ≡ d
           → soundBrick s (brickIn s l) ≡ f → same (imageOf s brick (brickIn s l)) l ≡ g
-          → (let r : ℕ = firstRefusal (refuseUnless a 1 ∷ refuseUnless b 2 ∷ refuseUnless c 3 ∷ refuseUnless d 5 ∷ refuseUnless (f && g) 6 ∷ []) in
+          → (let r : ℕ = firstRefusal (refuseUnless a badSetting ∷ refuseUnless b badLength ∷ refuseUnless c badNumber ∷ refuseUnless d badCheck ∷ refuseUnless (f && g) badRecord ∷ []) in
           cond (eqb r 0) (Opens (brickIn s l)) (Refuses r)) ≡ Opens x
           → ImageOpened s brick l x
       go false b c d f g ea eb ec ed ef eg h = let z : _≡_ {A = ℕ} 0 1 = cc in absurd (omega arith)
@@ -165,8 +167,8 @@ image-checked s brick x range r k h = ap checked (image-block s brick x range r 
     go zero = sealed-checked (headBody s brick (entryCount x) (x .promise))
     go (suc i) = pick (ltb i (entryCount x))
       where
-        pick : (b : Bool) → checked (cond b (entryBlock (timeAt x i) (heldAt x i)) unusedBlock) ≡ true
-        pick true = sealed-checked (entryBody (timeAt x i) (heldAt x i))
+        pick : (b : Bool) → checked (cond b (entryBlock (timeAt x i) (meansAt x i)) unusedBlock) ≡ true
+        pick true = sealed-checked (entryBody (timeAt x i) (meansAt x i))
         pick false = sealed-checked unusedBody
 
 -- Saving a brick and opening it gives the brick back.

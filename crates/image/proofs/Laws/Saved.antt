@@ -13,7 +13,7 @@ use Rattle.byte_lists.specs.Little.{Bytes}
 use Rattle.image_block.specs.Block.{checked}
 use Rattle.byte_lists.proofs.Laws.ZeroLaws.{zeros-length}
 use Rattle.image_block.proofs.Laws.ChangeLaws.{change-unchecked}
-use Rattle.image.specs.Brick.{Brick, entryCount, timeAt, heldAt, freshBrick, savedTime, risesAt, soundBrick}
+use Rattle.image.specs.Brick.{Brick, entryCount, timeAt, meansAt, freshBrick, savedTime, risesAt, soundBrick}
 use Rattle.byte_lists.proofs.Laws.EachLaws.{each-at, each-not}
 use Rattle.image.specs.Image.{imageOf, imageSize}
 use Rattle.image.proofs.Laws.ImageLaws.{block-length}
@@ -21,6 +21,7 @@ use Rattle.image.specs.Parse.{imageBlockAt, checkedAt, Opens, Refuses, p
 use Rattle.image.proofs.Laws.ParseLaws.{opened, parse-image, parse-refuses, refusal-5, range-of}
 use Rattle.image.specs.Brick.{Sound}
 use Rattle.image.proofs.Laws.ImageSoundLaws.{soundness}
+use Rattle.image_block.specs.Block.{blockBytes}
 
 -- What was saved opens as it was.
 pub saved-opens : (s : Settings) (brick : ℕ) (x : Brick) → inRange s ≡ true → brick < s .n → soundBrick s x ≡ true
@@ -43,17 +44,17 @@ bytes-drop zero l b = b
 bytes-drop (suc n) [] b = tt
 bytes-drop (suc n) (x ∷ l) b = bytes-drop n l (b .1)
 
-block-set : (l : List ℕ) (j p v : ℕ) → p < 512 → imageBlockAt (set l (512 * j + p) v) j ≡ set (imageBlockAt l j) p v
+block-set : (l : List ℕ) (j p v : ℕ) → p < blockBytes → imageBlockAt (set l (blockBytes * j + p) v) j ≡ set (imageBlockAt l j) p v
 unfolding imageBlockAt
-block-set l j p v h = ap (λ (t : List ℕ). take 512 t) (drop-set-add (512 * j) l p v) ∙ take-set-lt 512 (drop (512 * j) l) p v h
+block-set l j p v h = ap (λ (t : List ℕ). take blockBytes t) (drop-set-add (blockBytes * j) l p v) ∙ take-set-lt blockBytes (drop (blockBytes * j) l) p v h
 
-block-byte : (l : List ℕ) (j p : ℕ) → p < 512 → getD (imageBlockAt l j) p 0 ≡ getD l (512 * j + p) 0
+block-byte : (l : List ℕ) (j p : ℕ) → p < blockBytes → getD (imageBlockAt l j) p 0 ≡ getD l (blockBytes * j + p) 0
 unfolding imageBlockAt
-block-byte l j p h = getD-take 512 (drop (512 * j) l) p 0 h ∙ getD-drop (512 * j) l p 0
+block-byte l j p h = getD-take blockBytes (drop (blockBytes * j) l) p 0 h ∙ getD-drop (blockBytes * j) l p 0
 
 block-bytes : (l : List ℕ) (j : ℕ) → Bytes l → Bytes (imageBlockAt l j)
 unfolding imageBlockAt
-block-bytes l j b = bytes-take 512 (drop (512 * j) l) (bytes-drop (512 * j) l b)
+block-bytes l j b = bytes-take blockBytes (drop (blockBytes * j) l) (bytes-drop (blockBytes * j) l b)
 
 -- "A one-byte change in any block is refused", and by the number of a check that fails.
 pub one-byte-changed : (s : Settings) (brick : ℕ) (bytes : List ℕ) (x : Brick) (i v : ℕ) → parse s brick bytes ≡ Opens x → Bytes bytes
@@ -62,28 +63,28 @@ unfolding imageSize checkedAt
 one-byte-changed s brick bytes x i v e b h hv ne =
     let o = opened s brick bytes x e in
     let m = length-set bytes i v in
-    parse-refuses s brick (set bytes i v) 5
+    parse-refuses s brick (set bytes i v) badCheck
     (refusal-5 s brick (set bytes i v) (o .in-range) (m ∙ o .long) (o .brick-low)
-    (each-not (checkedAt (set bytes i v)) (s .capacity + 1) (i / 512) (omega (arith, o .long)) fails))
+    (each-not (checkedAt (set bytes i v)) (s .capacity + 1) (i / blockBytes) (omega (arith, o .long)) fails))
     (λ z. omega (arith, z))
   where
-    at : 512 * (i / 512) + i % 512 ≡ i
+    at : blockBytes * (i / blockBytes) + i % blockBytes ≡ i
     at = omega arith
 
-    fails : checkedAt (set bytes i v) (i / 512) ≡ false
+    fails : checkedAt (set bytes i v) (i / blockBytes) ≡ false
     fails =
         let o = opened s brick bytes x e in
-        let low : i / 512 < s .capacity + 1 = omega (arith, o .long) in
-        ap (λ (k : ℕ). checked (imageBlockAt (set bytes k v) (i / 512))) (sym at)
-        ∙ ap checked (block-set bytes (i / 512) (i % 512) v (omega arith))
-        ∙ change-unchecked (imageBlockAt bytes (i / 512)) (i % 512) v
-        (block-length bytes (s .capacity + 1) (i / 512) (o .long) low)
-        (block-bytes bytes (i / 512) b) (omega arith) hv
-        (λ q. ne (q ∙ block-byte bytes (i / 512) (i % 512) (omega arith) ∙ ap (λ (k : ℕ). getD bytes k 0) at))
-        (each-at (checkedAt bytes) (s .capacity + 1) (i / 512) (o .checks) low)
+        let low : i / blockBytes < s .capacity + 1 = omega (arith, o .long) in
+        ap (λ (k : ℕ). checked (imageBlockAt (set bytes k v) (i / blockBytes))) (sym at)
+        ∙ ap checked (block-set bytes (i / blockBytes) (i % blockBytes) v (omega arith))
+        ∙ change-unchecked (imageBlockAt bytes (i / blockBytes)) (i % blockBytes) v
+        (block-length bytes (s .capacity + 1) (i / blockBytes) (o .long) low)
+        (block-bytes bytes (i / blockBytes) b) (omega arith) hv
+        (λ q. ne (q ∙ block-byte bytes (i / blockBytes) (i % blockBytes) (omega arith) ∙ ap (λ (k : ℕ). getD bytes k 0) at))
+        (each-at (checkedAt bytes) (s .capacity + 1) (i / blockBytes) (o .checks) low)
 
-fresh-sound : (s : Settings) → inRange s ≡ true → Sound s (freshBrick s)
-unfolding freshBrick entryCount timeAt heldAt savedTime risesAt
+pub fresh-sound : (s : Settings) → inRange s ≡ true → Sound s (freshBrick s)
+unfolding freshBrick entryCount timeAt meansAt savedTime risesAt
 fresh-sound s a =
     record {
       count-low = omega arith;

@@ -1,4 +1,4 @@
--- Laws of `specs/ScanLaws`.
+-- The loop over the blocks after the head.
 use mathlib.Core.Path.{_≡_, refl, sym, ap, ap₂, _∙_}
 use mathlib.Core.Bool.{Bool, true, false, _&&_}
 use mathlib.Core.List.{List, [], _∷_, _++_, append-assoc}
@@ -17,18 +17,20 @@ use Rattle.image.specs.Workers.{rises, slotFits}
 use Rattle.image.specs.declared.Entry.{Entry}
 use Rattle.image.proofs.Laws.HubLaws.{row-length}
 use Rattle.image.specs.Workers.{checkAfter, slotAt, entryAt, Scanned}
+use Rattle.image_block.specs.Block.{blockBytes}
+use Rattle.settings.specs.Ranges.{maxCapacity}
 
 -- what holds before block i + 1 is read
 pub record Scanning (size cap : ℕ) (l : List ℕ) (n : ℕ) (fits : Bool) (last i at : ℕ) (log : List Entry) : Type 0 where
   pub low : i ≤ cap
-  pub place : at ≡ 512 * (i + 1)
+  pub place : at ≡ blockBytes * (i + 1)
   pub so-checked : each (checkAfter l) i ≡ true
   pub so-fit : fits ≡ each (slotAt size l n) i
   pub before : 0 < i → last ≡ timeIn (imageBlockAt l i)
-  pub logged : log ≡ rowOf (entryAt l n) i ++ replicate (32 - i) blank
+  pub logged : log ≡ rowOf (entryAt l n) i ++ replicate (maxCapacity - i) blank
 
-pub scanning-none : (size cap : ℕ) (l : List ℕ) (n : ℕ) (b : Entry) (log : List Entry) → b ≡ entryFor 0 0 0 → log ≡ replicate 32 b
-    → Scanning size cap l n true 0 0 512 log
+pub scanning-none : (size cap : ℕ) (l : List ℕ) (n : ℕ) (b : Entry) (log : List Entry) → b ≡ entryFor 0 0 0 → log ≡ replicate maxCapacity b
+    → Scanning size cap l n true 0 0 blockBytes log
 unfolding rowOf entryFor
 scanning-none size cap l n b log e k =
     record {
@@ -37,24 +39,24 @@ scanning-none size cap l n b log e k =
       so-checked = each-none (checkAfter l);
       so-fit = sym (each-none (slotAt size l n));
       before = λ h. absurd (omega (arith, h));
-      logged = k ∙ ap (λ (x : Entry). replicate 32 x) e;
+      logged = k ∙ ap (λ (x : Entry). replicate maxCapacity x) e;
     }
 
 -- the part of the image that the loop reads
-pub part-is : (l : List ℕ) (at k : ℕ) → at ≡ 512 * k → take (at + 512 - at) (drop at l) ≡ imageBlockAt l k
+pub part-is : (l : List ℕ) (at k : ℕ) → at ≡ blockBytes * k → take (at + blockBytes - at) (drop at l) ≡ imageBlockAt l k
 unfolding imageBlockAt
-part-is l at k e = let n : at + 512 - at ≡ 512 = omega arith in ap₂ (λ (a b : ℕ). take a (drop b l)) n e
+part-is l at k e = let n : at + blockBytes - at ≡ blockBytes = omega arith in ap₂ (λ (a b : ℕ). take a (drop b l)) n e
 
 -- one more entry of the log
-row-more : (f : ℕ → Entry) (i : ℕ) (log : List Entry) → i < 32 → log ≡ rowOf f i ++ replicate (32 - i) blank
-    → set log i (f i) ≡ rowOf f (i + 1) ++ replicate (32 - (i + 1)) blank
+row-more : (f : ℕ → Entry) (i : ℕ) (log : List Entry) → i < maxCapacity → log ≡ rowOf f i ++ replicate (maxCapacity - i) blank
+    → set log i (f i) ≡ rowOf f (i + 1) ++ replicate (maxCapacity - (i + 1)) blank
 unfolding rowOf
 row-more f i log h e =
-    let n : 32 - i ≡ suc (32 - (i + 1)) = omega arith in
+    let n : maxCapacity - i ≡ suc (maxCapacity - (i + 1)) = omega arith in
     ap (λ (x : List Entry). set x i (f i)) (e ∙ ap (λ (k : ℕ). rowOf f i ++ replicate k blank) n)
-    ∙ set-at (rowOf f i) blank (replicate (32 - (i + 1)) blank) (f i) i (row-length f i)
-    ∙ sym (append-assoc (rowOf f i) (f i ∷ []) (replicate (32 - (i + 1)) blank))
-    ∙ ap (λ (k : ℕ). rowOf f k ++ replicate (32 - (i + 1)) blank) (sym (add-one i))
+    ∙ set-at (rowOf f i) blank (replicate (maxCapacity - (i + 1)) blank) (f i) i (row-length f i)
+    ∙ sym (append-assoc (rowOf f i) (f i ∷ []) (replicate (maxCapacity - (i + 1)) blank))
+    ∙ ap (λ (k : ℕ). rowOf f k ++ replicate (maxCapacity - (i + 1)) blank) (sym (add-one i))
 
 -- the time before it, which the loop carries
 slot-last : (size : ℕ) (l : List ℕ) (n i last : ℕ) → (0 < i → last ≡ timeIn (imageBlockAt l i))
@@ -63,11 +65,11 @@ unfolding slotAt slotFits rises
 slot-last size l n zero last b = refl
 slot-last size l n (suc i) last b = ap (λ (x : ℕ). slotFits size (imageBlockAt l (suc i + 1)) (timeIn (imageBlockAt l (suc i + 1))) (suc i) n x) (b (omega arith))
 
-module _ (size cap : ℕ) (l : List ℕ) (n : ℕ) (fits : Bool) (last i at : ℕ) (log : List Entry) (most : cap ≤ 32) (h : i < cap)
+module _ (size cap : ℕ) (l : List ℕ) (n : ℕ) (fits : Bool) (last i at : ℕ) (log : List Entry) (most : cap ≤ maxCapacity) (h : i < cap)
     (r : Scanning size cap l n fits last i at log) where
   pub scanning-more : (t : List ℕ) (holds fit fits′ : Bool) (time : ℕ) (entry : Entry) → t ≡ imageBlockAt l (i + 1) → holds ≡ checked t → holds ≡ true
       → time ≡ timeIn t → fit ≡ slotFits size t time i n last → fits′ ≡ fits && fit → entry ≡ entryFor time i n
-      → Scanning size cap l n fits′ time (i + 1) (at + 512) (set log i entry)
+      → Scanning size cap l n fits′ time (i + 1) (at + blockBytes) (set log i entry)
   unfolding checkAfter checkedAt entryAt
   scanning-more t holds fit fits′ time entry et eh h1 em ef eb ee =
       let tm : time ≡ timeIn (imageBlockAt l (i + 1)) = em ∙ ap timeIn et in
@@ -103,8 +105,8 @@ scanned-all size cap l n fits last i at log h r =
     record {
       all-checked = sym (ap (λ (k : ℕ). each (checkAfter l) k) (sym e) ∙ r .so-checked);
       all-fit = λ z. r .so-fit ∙ ap (λ (k : ℕ). each (slotAt size l n) k) e;
-      the-log = λ z. r .logged ∙ ap (λ (k : ℕ). rowOf (entryAt l n) k ++ replicate (32 - k) blank) e;
+      the-log = λ z. r .logged ∙ ap (λ (k : ℕ). rowOf (entryAt l n) k ++ replicate (maxCapacity - k) blank) e;
     }
 
-pub part-length : (l : List ℕ) (at k n : ℕ) → length l ≡ 512 * n → at ≡ 512 * k → k < n → length (take (at + 512 - at) (drop at l)) ≡ 512
+pub part-length : (l : List ℕ) (at k n : ℕ) → length l ≡ blockBytes * n → at ≡ blockBytes * k → k < n → length (take (at + blockBytes - at) (drop at l)) ≡ blockBytes
 part-length l at k n h e b = ap length (part-is l at k e) ∙ block-length l n k h b

@@ -1,4 +1,4 @@
--- Laws of `specs/Numbers`.
+-- The numbers of an opening and of the panel are that of the first refusal.
 use mathlib.Core.Path.{_≡_, refl, sym, _∙_}
 use mathlib.Core.Bool.{Bool, true, false, cond}
 use mathlib.Core.List.{List}

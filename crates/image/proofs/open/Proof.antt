@@ -9,6 +9,7 @@ use Rattle.image.proofs.Laws.OpenLaws.{LentImage, lent, open-lending, o
 use borrow.Author.Needs.{needs}
 use Rattle.image.proofs.open.Statement.{statement}
 use Rattle.image.proofs.open.Tie as tie
+use Rattle.image_block.specs.Block.{blockBytes}
 
 lending-refusal-requires : tie.Need-lending-refusal-requires
 lending-refusal-requires c κs = search needs
@@ -19,7 +20,7 @@ refused-requires c κs = search needs
 lent-at : (c : tie.Else1) → LentImage (c .before .before .before .args .s) (c .before .before .before .args .brick) (length (c .before .before .before .args .image .now))
 lent-at c = lent _ _ _ _ (c .before .lending-refusal .ensures) (c .if1 .left)
 
-first-at : (l : List ℕ) → take 512 (drop 0 l) ≡ imageBlockAt l 0
+first-at : (l : List ℕ) → take blockBytes (drop 0 l) ≡ imageBlockAt l 0
 unfolding imageBlockAt
 first-at l = refl
 
@@ -69,7 +70,8 @@ unfolding countIn promiseIn
 returns-3 c =
     let h = c .before .before .before in
     let r = h .before .before in
-    open-unchecked-later _ _ _ _ (lent-at (r .before .before .before .before)) (first-at _) _ (r .before .before .check-holds .ensures) (r .before .if2 .taken) _ _ (r .read2 .ensures .0) (h .before .read8 .ensures) _ _ _ (c .before .before .read-blocks .ensures) _ (c .before .if3 .left) (c .refused3 .ensures)
+    open-unchecked-later _ _ _ _ (lent-at (r .before .before .before .before)) (first-at _) _ (r .before .before .check-holds .ensures) (r .before .if2 .taken) _ _ (r .read2 .ensures .0)
+    (h .before .read8 .ensures) _ _ _ (c .before .before .read-blocks .ensures) _ (c .before .if3 .left) (c .refused3 .ensures)
 
 both-requires : tie.Need-both-requires
 both-requires c κs = search needs
@@ -83,7 +85,9 @@ returns-4 c =
     let w = c .before .before .before .before in
     let h = w .before in
     let r = h .before .before in
-    open-unfit _ _ _ _ (lent-at (r .before .before .before .before)) (first-at _) _ (r .before .before .check-holds .ensures) (r .before .if2 .taken) _ _ (r .read2 .ensures .0) (h .before .read8 .ensures) _ _ _ (w .read-blocks .ensures) _ _ (h .head-fits .ensures) (c .before .before .before .if3 .taken) (sym (c .before .before .both .ensures) ∙ c .before .if4 .left) (c .refused4 .ensures)
+    open-unfit _ _ _ _ (lent-at (r .before .before .before .before)) (first-at _) _ (r .before .before .check-holds .ensures) (r .before .if2 .taken) _ _ (r .read2 .ensures .0)
+    (h .before .read8 .ensures) _ _ _ (w .read-blocks .ensures) _ _ (h .head-fits .ensures) (c .before .before .before .if3 .taken)
+    (sym (c .before .before .both .ensures) ∙ c .before .if4 .left) (c .refused4 .ensures)
 
 returns-5 : tie.Need-returns-5
 unfolding countIn promiseIn
@@ -91,7 +95,9 @@ returns-5 c =
     let w = c .before .before .before .before in
     let h = w .before in
     let r = h .before .before in
-    open-done _ _ _ _ (lent-at (r .before .before .before .before)) (first-at _) _ (r .before .before .check-holds .ensures) (r .before .if2 .taken) _ _ (r .read2 .ensures .0) (h .before .read8 .ensures) _ _ _ (w .read-blocks .ensures) _ (h .head-fits .ensures) (c .before .before .before .if3 .taken) (sym (c .before .before .both .ensures) ∙ c .before .if4 .taken)
+    open-done _ _ _ _ (lent-at (r .before .before .before .before)) (first-at _) _ (r .before .before .check-holds .ensures) (r .before .if2 .taken) _ _ (r .read2 .ensures .0)
+    (h .before .read8 .ensures) _ _ _ (w .read-blocks .ensures) _ (h .head-fits .ensures) (c .before .before .before .if3 .taken)
+    (sym (c .before .before .both .ensures) ∙ c .before .if4 .taken)
 
 pub open-spec : {M : Type 1} → statement M
 open-spec =

@@ -53,7 +53,8 @@ module _ {M : Type 1} (𝓤 : URA M) (H : Heap 𝓤) (A : Atoms 𝓤) (W : Given
   exits : (h : Holding) → Is T.the-row h (val h ∷ []) → placeIn h < 2 ^ 64 → ent 𝓤 (emp 𝓤) (Post h (vint w64 (placeIn h)))
   exits h g fits =
       qed W [] ∵
-      suffices ! _ (ends-at 𝓤 H A place.ended stayed (place.clauses 𝓤 H A mem run) W ((tt, tt, tt, (h, tt), (val h ∷ [], tt)), tt) (vint w64 (placeIn h)) (placeIn h) (tt, tt) (tt, tt)) $ says ! refl $ nothing ! $ frame ! $
+      suffices ! _ (ends-at 𝓤 H A place.ended stayed (place.clauses 𝓤 H A mem run) W ((tt, tt, tt, (h, tt), (val h ∷ [], tt)), tt) (vint w64 (placeIn h)) (placeIn h) (tt, tt) (tt, tt)) $
+      says ! refl $ nothing ! $ frame ! $
       owned ! T.the-row (Is T.the-row) (LL.makes T.the-type T′.the-plain 𝓤 H A) h _ g $
       nothing ! $ move ! (1 ∷ 0 ∷ []) $ fjoin ! $ frame ! $ owned ! usize (Is usize) (uint-makes 𝓤 H A W w64) (placeIn h) _ (refl, fits) $ done !
 
@@ -64,7 +65,8 @@ module _ {M : Type 1} (𝓤 : URA M) (H : Heap 𝓤) (A : Atoms 𝓤) (W : Given
         qed W (‵ ftrue ∷ ‵ (owns (T.the-row ∷ []) (Held p, tt) (val (Held p) ∷ [], tt)) ∷ []) ∵ move ! (1 ∷ []) $ fsplit ! $
         peeks ! T.the-row (Is T.the-row) (shows 𝓤 H A T.the-row) (Held p) (val (Held p) ∷ []) (λ g. drop ! $ drop ! $ drop ! $
         enter ! C Λ code.function (val (Held p) ∷ []) _ $
-        alloc1 ! (λ l₀. alloc1 ! (λ l₁. alloc1 ! (λ l₂. alloc1 ! (λ l₃. alloc0 ! $ params1 ! $ pass1 ! (init ! 4 refl (LL.lawful T.the-type T′.the-laws 𝓤 H A W tt .typed (Held p) (val (Held p) ∷ []) g .0)) $ pass0 ! $
+        alloc1 ! (λ l₀. alloc1 ! (λ l₁. alloc1 ! (λ l₂. alloc1 !
+        (λ l₃. alloc0 ! $ params1 ! $ pass1 ! (init ! 4 refl (LL.lawful T.the-type T′.the-laws 𝓤 H A W tt .typed (Held p) (val (Held p) ∷ []) g .0)) $ pass0 ! $
         assigns ! (of-opd ! (load ! (from ! (vrt ! refl (fld ! refl (stop !)))) (look-in ! 4 (in-variant ! 0 0 refl refl (whole !))))) (from ! (stop !))
         (init ! 2 refl (tt, record { fits = LL.owed T.the-type T′.the-laws (Held p) _ g .0 .1 })) $
         assigns ! (of-opd ! (load ! (from ! (stop !)) (look ! 2 refl))) (from ! (stop !)) (init ! 0 refl (tt, record { fits = LL.owed T.the-type T′.the-laws (Held p) _ g .0 .1 })) $
@@ -75,12 +77,14 @@ module _ {M : Type 1} (𝓤 : URA M) (H : Heap 𝓤) (A : Atoms 𝓤) (W : Given
 
 module _ {M : Type 1} (𝓤 : URA M) (H : Heap 𝓤) (A : Atoms 𝓤) (W : Given 𝓤 H A) (mem : Memory → SProp 𝓤) (run : Routine → Fun 𝓤) where
   place-walks : (C : Calls 𝓤 H) (Λ : Loops 𝓤 H) → Walks 𝓤 H A place.ended stayed (WpFn 𝓤 H C Λ code.function) (place.clauses 𝓤 H A mem run)
-  place-walks C Λ = walked 𝓤 H A place.ended stayed (place.clauses 𝓤 H A mem run) (WpFn 𝓤 H C Λ code.function) (λ κs. (LL.vals T.the-type T′.the-laws, tt)) (λ κs. (LL.tells T.the-type T′.the-laws, tt))
+  place-walks C Λ = walked 𝓤 H A place.ended stayed (place.clauses 𝓤 H A mem run) (WpFn 𝓤 H C Λ code.function) (λ κs. (LL.vals T.the-type T′.the-laws, tt))
+      (λ κs. (LL.tells T.the-type T′.the-laws, tt))
       (λ κs qs bounds a _ _. via 𝓤 _ (fst∗ 𝓤 _ (emp 𝓤)) (walk 𝓤 H A W mem run C Λ (a .0)))
 
 place-meets : {M : Type 1} (𝓤 : URA M) (H : Heap 𝓤) (A : Atoms 𝓤) → Given 𝓤 H A → (mem : Memory → SProp 𝓤) (run : Routine → Fun 𝓤) (𝓣 : Tables 𝓤 H)
     → Meets 𝓤 H A place.signature (WpFn 𝓤 H (𝓣 .C) (𝓣 .Λ) code.function) (place.spec 𝓤 H A mem run)
-place-meets 𝓤 H A W mem run 𝓣 = walk-meets 𝓤 H A place.ended stayed W (goes-none 𝓤 H A W 0 (λ _. T.the-row) yes (λ κs x f. refl), tt) (place.clauses 𝓤 H A mem run) (WpFn 𝓤 H (𝓣 .C) (𝓣 .Λ) code.function) (WpFn-mono 𝓤 H (W .laws) 𝓣 code.function) (place-walks 𝓤 H A W mem run (𝓣 .C) (𝓣 .Λ))
+place-meets 𝓤 H A W mem run 𝓣 = walk-meets 𝓤 H A place.ended stayed W (goes-none 𝓤 H A W 0 (λ _. T.the-row) yes (λ κs x f. refl), tt) (place.clauses 𝓤 H A mem run)
+    (WpFn 𝓤 H (𝓣 .C) (𝓣 .Λ) code.function) (WpFn-mono 𝓤 H (W .laws) 𝓣 code.function) (place-walks 𝓤 H A W mem run (𝓣 .C) (𝓣 .Λ))
 
 pub place-of-spec : {M : Type 1} → stated.statement M
 unfolding code.routine tablesOf

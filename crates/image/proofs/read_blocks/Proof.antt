@@ -11,6 +11,7 @@ use Rattle.image.specs.Image.{imageSize}
 use Rattle.image.proofs.Laws.ScanLaws.{Scanning, scanning-none, scanning-more, scan-unchecked, scanned-all, part-is}
 use Rattle.image.proofs.read_blocks.Statement.{statement}
 use Rattle.image.proofs.read_blocks.Tie as tie
+use Rattle.image_block.specs.Block.{blockBytes}
 
 abbrev Inv-loop : tie.InvT-loop
 Inv-loop image count size capacity log₀ fits₀ last₀ i₀ at₀ log fits last i at = Scanning size capacity image count fits last i at log
@@ -41,15 +42,15 @@ unfolding imageSize
 part-t-end c = omega arith
 
 long : (c : tie.After-t Inv-loop μ-loop)
-    → length (take (c .before .before .loop .at + 512 - c .before .before .loop .at)
-    (drop (c .before .before .loop .at) (c .before .before .before .before .before .args .image .now))) ≡ 512
+    → length (take (c .before .before .loop .at + blockBytes - c .before .before .loop .at)
+    (drop (c .before .before .loop .at) (c .before .before .before .before .before .args .image .now))) ≡ blockBytes
 unfolding imageSize
 long c =
     let start = c .before .before .before .before .before in
     part-length _ _ (c .before .before .loop .i + 1) (start .args .s .capacity + 1) (start .pre .1) (c .before .before .loop .inv .place) (omega arith)
 
 is-part : (c : tie.After-t Inv-loop μ-loop)
-    → take (c .before .before .loop .at + 512 - c .before .before .loop .at)
+    → take (c .before .before .loop .at + blockBytes - c .before .before .loop .at)
     (drop (c .before .before .loop .at) (c .before .before .before .before .before .args .image .now))
     ≡ imageBlockAt (c .before .before .before .before .before .args .image .now) (c .before .before .loop .i + 1)
 is-part c = part-is _ _ _ (c .before .before .loop .inv .place)
@@ -92,7 +93,9 @@ unfolding timeIn
 loop-again c =
     let t = c .before .before .before .before .before .before in
     let start = t .before .before .before .before .before in
-    scanning-more _ _ _ _ _ _ _ _ _ (start .pre .0 .capacity-high) (t .before .loop-test .taken) (t .before .before .loop .inv) _ _ _ _ _ _ (is-part t) (c .before .before .before .before .before .check-holds .ensures) (c .before .before .before .before .if1 .taken) (c .before .before .before .read8 .ensures) (c .before .before .slot-fits .ensures) (c .before .both .ensures) (c .entry-for2 .ensures)
+    scanning-more _ _ _ _ _ _ _ _ _ (start .pre .0 .capacity-high) (t .before .loop-test .taken) (t .before .before .loop .inv) _ _ _ _ _ _ (is-part t)
+    (c .before .before .before .before .before .check-holds .ensures) (c .before .before .before .before .if1 .taken) (c .before .before .before .read8 .ensures)
+    (c .before .before .slot-fits .ensures) (c .before .both .ensures) (c .entry-for2 .ensures)
 
 returns-2 : tie.Need-returns-2 Inv-loop μ-loop
 returns-2 c = scanned-all _ _ _ _ _ _ _ _ _ (c .loop-test .left) (c .before .loop .inv)

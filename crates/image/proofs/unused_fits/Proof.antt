@@ -1,4 +1,4 @@
-use Rattle.image_block.specs.Block.{unusedBody, unusedKind}
+use Rattle.image_block.specs.Block.{unusedBody}
 use Rattle.byte_lists.specs.Lists.{zeros}
 use borrow.Author.Needs.{needs}
 use Rattle.image.proofs.unused_fits.Statement.{statement}
@@ -11,7 +11,7 @@ same-body-requires : tie.Need-same-body-requires
 same-body-requires c κs = search needs
 
 returns : tie.Need-returns
-unfolding unusedBody unusedKind zeros
+unfolding unusedBody zeros
 returns c = c .same-body .ensures
 
 pub unused-fits-spec : {M : Type 1} → statement M

@@ -14,45 +14,45 @@ use Rattle.byte_lists.specs.Little.{little, number}
 use Rattle.byte_lists.specs.Little.{Bytes}
 use Rattle.byte_lists.proofs.Laws.LittleLaws.{number-little, limit-2}
 use Rattle.byte_lists.proofs.Laws.BoolLaws.{and-left, and-right}
-use Rattle.image_block.specs.Block.{weighted, checkOf, checked}
+use Rattle.image_block.specs.Block.{blockBytes, checkBytes, bodyBytes, checkModulus, weighted, checkOf, checked}
 use Rattle.byte_lists.proofs.Laws.SameLaws.{same-true, unsame}
 use Rattle.image_block.proofs.Laws.CheckLaws.{check-high}
 
 -- 65521 has no divisor from 2 to 255: one computed test
 unfoldable undivided : ℕ → Bool
 undivided zero = true
-undivided (suc k) = not (eqb (65521 % (k + 2)) 0) && undivided k
+undivided (suc k) = not (eqb (checkModulus % (k + 2)) 0) && undivided k
 
 undivided-254 : undivided 254 ≡ true
 unfolding undivided
 undivided-254 = refl
 
-undivided-at : (n d : ℕ) → undivided n ≡ true → d < n → 65521 % (d + 2) ≡ 0 → ⊥
+undivided-at : (n d : ℕ) → undivided n ≡ true → d < n → checkModulus % (d + 2) ≡ 0 → ⊥
 unfolding undivided
 undivided-at zero d u h e = absurd (omega arith)
-undivided-at (suc n) d u h e = go (ℕ-discrete d n) (undivided-at n d (and-right (not (eqb (65521 % (n + 2)) 0)) _ u))
+undivided-at (suc n) d u h e = go (ℕ-discrete d n) (undivided-at n d (and-right (not (eqb (checkModulus % (n + 2)) 0)) _ u))
   where
-    go : Dec (d ≡ n) → (d < n → 65521 % (d + 2) ≡ 0 → ⊥) → ⊥
-    go (yes q) f = eqb-false (65521 % (n + 2)) 0 (not-true _ (and-left _ _ u)) (ap (λ (k : ℕ). 65521 % (k + 2)) (sym q) ∙ e)
+    go : Dec (d ≡ n) → (d < n → checkModulus % (d + 2) ≡ 0 → ⊥) → ⊥
+    go (yes q) f = eqb-false (checkModulus % (n + 2)) 0 (not-true _ (and-left _ _ u)) (ap (λ (k : ℕ). checkModulus % (k + 2)) (sym q) ∙ e)
     go (no q) f = f (lt-of-le-ne (omega arith) q) e
 
 -- so no weight times a difference of two bytes is 65521,
-no-product : (w d : ℕ) → w ≤ 510 → d < 256 → w * d ≡ 65521 → ⊥
+no-product : (w d : ℕ) → w ≤ bodyBytes → d < 256 → w * d ≡ checkModulus → ⊥
 no-product w zero hw hd e = absurd (omega arith)
 no-product w (suc zero) hw hd e = absurd (omega arith)
 no-product w (suc (suc d)) hw hd e =
     let n : suc (suc d) ≡ d + 2 = omega arith in
     undivided-at 254 d undivided-254 (omega arith)
-    (subst (λ (k : ℕ). 65521 % k ≡ 0) n (sym (ap (λ (x : ℕ). x % suc (suc d)) e) ∙ mul-mod-left w (suc (suc d))))
+    (subst (λ (k : ℕ). checkModulus % k ≡ 0) n (sym (ap (λ (x : ℕ). x % suc (suc d)) e) ∙ mul-mod-left w (suc (suc d))))
 
 -- and two bytes that differ, at one weight, differ in what they add by no multiple of 65521
-apart : (w a b : ℕ) → 1 ≤ w → w ≤ 510 → a < 256 → b < 256 → a < b
-    → (x y : ℕ) → x + w * b ≡ y + w * a → (1 + x) % 65521 ≡ (1 + y) % 65521 → ⊥
+apart : (w a b : ℕ) → 1 ≤ w → w ≤ bodyBytes → a < 256 → b < 256 → a < b
+    → (x y : ℕ) → x + w * b ≡ y + w * a → (1 + x) % checkModulus ≡ (1 + y) % checkModulus → ⊥
 apart w a b wl wh ha hb h x y e m =
     let d : ℕ = b - a in
     let bd : b ≡ a + d = omega arith in
     let p : w * b ≡ w * a + w * d = ap (λ (k : ℕ). w * k) bd ∙ mul-add w a d in
-    let high : w * d ≤ 130050 = mul-le-mul {n₂ = 510} {m₂ = 255} wh (omega arith) in
+    let high : w * d ≤ bodyBytes * 255 = mul-le-mul {n₂ = bodyBytes} {m₂ = 255} wh (omega arith) in
     let low : 1 * 1 ≤ w * d = mul-le-mul {n₁ = 1} {m₁ = 1} wl (omega arith) in
     let never = no-product w d wh (omega arith) in
     let sum : x + w * d ≡ y = omega arith in
@@ -75,7 +75,7 @@ bytes-at [] i h = omega arith
 bytes-at (b ∷ l) zero h = h .0
 bytes-at (b ∷ l) (suc i) h = bytes-at l i (h .1)
 
-body-changes : (bs : List ℕ) (j v : ℕ) → length bs ≡ 510 → Bytes bs → j < 510 → v < 256 → (v ≡ getD bs j 0 → ⊥)
+body-changes : (bs : List ℕ) (j v : ℕ) → length bs ≡ bodyBytes → Bytes bs → j < bodyBytes → v < 256 → (v ≡ getD bs j 0 → ⊥)
     → checkOf (set bs j v) ≡ checkOf bs → ⊥
 unfolding checkOf
 body-changes bs j v n bytes h hv ne e = go (decLt v (getD bs j 0))
@@ -89,26 +89,26 @@ body-changes bs j v n bytes h hv ne e = go (decLt v (getD bs j 0))
         apart (1 + j) (getD bs j 0) v (omega arith) (omega arith) (bytes-at bs j bytes) hv (omega arith) (weighted 1 bs) (weighted 1 (set bs j v))
         (sym s) (sym e)
 
-check-of-bytes : (c d : ℕ) → c < 65521 → d < 65521 → little 2 c ≡ little 2 d → c ≡ d
+check-of-bytes : (c d : ℕ) → c < checkModulus → d < checkModulus → little checkBytes c ≡ little checkBytes d → c ≡ d
 check-of-bytes c d hc hd e =
-    sym (number-little 2 c (subst (λ (k : ℕ). c < k) (sym limit-2) (omega arith)))
+    sym (number-little checkBytes c (subst (λ (k : ℕ). c < k) (sym limit-2) (omega arith)))
     ∙ ap number e
-    ∙ number-little 2 d (subst (λ (k : ℕ). d < k) (sym limit-2) (omega arith))
+    ∙ number-little checkBytes d (subst (λ (k : ℕ). d < k) (sym limit-2) (omega arith))
 
 -- The check of a block with one byte changed does not hold.
-pub change-unchecked : (l : List ℕ) (i v : ℕ) → length l ≡ 512 → Bytes l → i < 512 → v < 256 → (v ≡ getD l i 0 → ⊥)
+pub change-unchecked : (l : List ℕ) (i v : ℕ) → length l ≡ blockBytes → Bytes l → i < blockBytes → v < 256 → (v ≡ getD l i 0 → ⊥)
     → checked l ≡ true → checked (set l i v) ≡ false
 unfolding checked Bytes
 change-unchecked [] i v n bytes h hv ne c = absurd (omega arith)
 change-unchecked (x ∷ []) i v n bytes h hv ne c = absurd (omega arith)
 change-unchecked (x ∷ y ∷ bs) zero v n bytes h hv ne c =
-    let e = same-true (x ∷ y ∷ []) (little 2 (checkOf bs)) c in
-    unsame (v ∷ y ∷ []) (little 2 (checkOf bs)) (λ q. ne (cc))
+    let e = same-true (x ∷ y ∷ []) (little checkBytes (checkOf bs)) c in
+    unsame (v ∷ y ∷ []) (little checkBytes (checkOf bs)) (λ q. ne (cc))
 change-unchecked (x ∷ y ∷ bs) (suc zero) v n bytes h hv ne c =
-    let e = same-true (x ∷ y ∷ []) (little 2 (checkOf bs)) c in
-    unsame (x ∷ v ∷ []) (little 2 (checkOf bs)) (λ q. ne (cc))
+    let e = same-true (x ∷ y ∷ []) (little checkBytes (checkOf bs)) c in
+    unsame (x ∷ v ∷ []) (little checkBytes (checkOf bs)) (λ q. ne (cc))
 change-unchecked (x ∷ y ∷ bs) (suc (suc j)) v n bytes h hv ne c =
-    let e = same-true (x ∷ y ∷ []) (little 2 (checkOf bs)) c in
-    unsame (x ∷ y ∷ []) (little 2 (checkOf (set bs j v)))
+    let e = same-true (x ∷ y ∷ []) (little checkBytes (checkOf bs)) c in
+    unsame (x ∷ y ∷ []) (little checkBytes (checkOf (set bs j v)))
     (λ q. body-changes bs j v (omega arith) (bytes .1 .1) (omega arith) hv ne
     (check-of-bytes (checkOf (set bs j v)) (checkOf bs) (check-high (set bs j v)) (check-high bs) (sym q ∙ e)))

@@ -1,4 +1,4 @@
--- Laws of `specs/RowLaws`.
+-- The check, summed in rows.
 use mathlib.Core.Path.{_≡_, refl, sym, ap, subst, _∙_}
 use mathlib.Core.List.{List, [], _∷_}
 use Prim.Native.Nat.{ℕ, zero, suc, _+_, _-_, _*_, _%_, _≤_, _<_}
@@ -7,8 +7,8 @@ use native.Mathlib.Numerals.{add-one}
 use native.Mathlib.Nat.{mul-le-mul, mul-add, add-mul}
 use lib.ListN.{length, take, drop, getD, length-take, length-drop}
 use lib.Seq.{drop-cons, drop-length, drop-drop}
-use Rattle.image_block.specs.Block.{weighted, checkOf}
-use Rattle.image_block.specs.Workers.{total}
+use Rattle.image_block.specs.Block.{blockBytes, checkBytes, bodyBytes, checkModulus, weighted, checkOf}
+use Rattle.image_block.specs.Workers.{total, rowBytes, plainMost, risingMost, rowMost, pastMost}
 
 -- every weight d higher
 weighted-over : (d k : ℕ) (l : List ℕ) → weighted (k + d) l ≡ weighted k l + d * total l
@@ -33,14 +33,14 @@ weighted-cut k (suc n) (b ∷ l) =
 
 -- what holds while the bytes of a row are summed, at its place i
 pub record Totalling (l : List ℕ) (part i : ℕ) : Type 0 where
-  pub high : i ≤ 64
+  pub high : i ≤ rowBytes
   pub so-far : part + total (drop i l) ≡ total l
   pub bound : part ≤ 255 * i
 
 pub totalling-none : (l : List ℕ) → Totalling l 0 0
 totalling-none l = record { high = omega arith; so-far = omega arith; bound = omega arith }
 
-pub totalling-more : (l : List ℕ) (part i : ℕ) → length l ≡ 64 → getD l i 0 < 256 → i < 64
+pub totalling-more : (l : List ℕ) (part i : ℕ) → length l ≡ rowBytes → getD l i 0 < 256 → i < rowBytes
     → Totalling l part i → Totalling l (part + getD l i 0) (i + 1)
 unfolding total
 totalling-more l part i n b h s =
@@ -52,7 +52,7 @@ totalling-more l part i n b h s =
       bound = omega (arith, s .bound);
     }
 
-pub totalling-all : (l : List ℕ) (part i : ℕ) → length l ≡ 64 → 64 ≤ i → Totalling l part i → (part ≡ total l) × (part ≤ 16320)
+pub totalling-all : (l : List ℕ) (part i : ℕ) → length l ≡ rowBytes → rowBytes ≤ i → Totalling l part i → (part ≡ total l) × (part ≤ plainMost)
 unfolding total
 totalling-all l part i n h s =
     let q : i ≡ length l = omega (arith, s .high) in
@@ -64,20 +64,20 @@ pub record Rising (l : List ℕ) (rise weight p : ℕ) : Type 0 where
   pub high : p ≤ length l
   pub weighs : weight ≡ p + 1
   pub so-far : rise + weighted weight (drop p l) ≡ weighted 1 l
-  pub bound : rise ≤ 16320 * p
+  pub bound : rise ≤ plainMost * p
 
 pub rising-none : (l : List ℕ) → Rising l 0 1 0
 rising-none l = record { high = omega arith; weighs = refl; so-far = omega arith; bound = omega arith }
 
 -- one product of the sum
-pub product-high : (weight byte : ℕ) → weight ≤ 64 → byte < 256 → weight * byte ≤ 16320
-product-high weight byte h b = mul-le-mul {n₂ = 64} {m₂ = 255} h (omega arith)
+pub product-high : (weight byte : ℕ) → weight ≤ rowBytes → byte < 256 → weight * byte ≤ plainMost
+product-high weight byte h b = mul-le-mul {n₂ = rowBytes} {m₂ = 255} h (omega arith)
 
-pub rising-more : (l : List ℕ) (rise weight p : ℕ) → length l ≤ 64 → getD l p 0 < 256 → p < length l
+pub rising-more : (l : List ℕ) (rise weight p : ℕ) → length l ≤ rowBytes → getD l p 0 < 256 → p < length l
     → Rising l rise weight p → Rising l (rise + weight * getD l p 0) (weight + 1) (p + 1)
 unfolding weighted
 rising-more l rise weight p n b h s =
-    let w : weight ≤ 64 = omega (arith, s .weighs) in
+    let w : weight ≤ rowBytes = omega (arith, s .weighs) in
     let m = product-high weight (getD l p 0) w b in
     let d = drop-cons l p 0 h in
     let e = ap (λ (t : List ℕ). rise + weighted weight t) (sym d) ∙ s .so-far in
@@ -88,8 +88,8 @@ rising-more l rise weight p n b h s =
       bound = omega (arith, s .bound);
     }
 
-pub rising-all : (l : List ℕ) (rise weight p : ℕ) → length l ≤ 64 → length l ≤ p → Rising l rise weight p
-    → (rise ≡ weighted 1 l) × (rise ≤ 1044480)
+pub rising-all : (l : List ℕ) (rise weight p : ℕ) → length l ≤ rowBytes → length l ≤ p → Rising l rise weight p
+    → (rise ≡ weighted 1 l) × (rise ≤ risingMost)
 unfolding weighted
 rising-all l rise weight p n h s =
     let q : p ≡ length l = omega (arith, s .high) in
@@ -97,11 +97,11 @@ rising-all l rise weight p n h s =
     (omega (arith, e), omega (arith, s .bound, s .high))
 
 -- the two sums of a row together
-pub past-high : (past plain : ℕ) → past ≤ 446 → plain ≤ 16320 → past * plain ≤ 7278720
-past-high past plain h b = mul-le-mul {n₂ = 446} {m₂ = 16320} h b
+pub past-high : (past plain : ℕ) → past ≤ pastMost → plain ≤ plainMost → past * plain ≤ pastMost * plainMost
+past-high past plain h b = mul-le-mul {n₂ = pastMost} {m₂ = plainMost} h b
 
-pub row-summed : (l : List ℕ) (past rise plain : ℕ) → past ≤ 446 → rise ≡ weighted 1 l → rise ≤ 1044480 → plain ≡ total l → plain ≤ 16320
-    → (rise + past * plain ≡ weighted (past + 1) l) × (rise + past * plain ≤ 8323200)
+pub row-summed : (l : List ℕ) (past rise plain : ℕ) → past ≤ pastMost → rise ≡ weighted 1 l → rise ≤ risingMost → plain ≡ total l → plain ≤ plainMost
+    → (rise + past * plain ≡ weighted (past + 1) l) × (rise + past * plain ≤ rowMost)
 row-summed l past rise plain h e r f p =
     let n : 1 + past ≡ past + 1 = omega arith in
     let w = subst (λ (k : ℕ). weighted k l ≡ weighted 1 l + past * total l) n (weighted-over past 1 l) in
@@ -111,15 +111,15 @@ row-summed l past rise plain h e r f p =
 -- what holds while the rows of the block l are summed, at offset at
 pub record Rows (l : List ℕ) (sum past at : ℕ) : Type 0 where
   pub row : ℕ
-  pub place : at ≡ 64 * row
-  pub high : at ≤ 512
-  pub weighs : past + 2 ≡ at
-  pub so-far : sum + weighted (past + 1) (drop at l) ≡ 1 + weighted 1 (drop 2 l)
-  pub bound : sum ≤ 1 + 130050 * at
+  pub place : at ≡ rowBytes * row
+  pub high : at ≤ blockBytes
+  pub weighs : past + checkBytes ≡ at
+  pub so-far : sum + weighted (past + 1) (drop at l) ≡ 1 + weighted 1 (drop checkBytes l)
+  pub bound : sum ≤ 1 + (bodyBytes * 255) * at
 
-pub rows-first : (l : List ℕ) (first : ℕ) → first ≡ weighted 1 (take (64 - 2) (drop 2 l)) → first ≤ 1044480 → Rows l (1 + first) 62 64
+pub rows-first : (l : List ℕ) (first : ℕ) → first ≡ weighted 1 (take (rowBytes - checkBytes) (drop checkBytes l)) → first ≤ risingMost → Rows l (1 + first) (rowBytes - checkBytes) rowBytes
 rows-first l first e h =
-    let w = rw drop-drop at (weighted-cut 1 62 (drop 2 l)) in
+    let w = rw drop-drop at (weighted-cut 1 (rowBytes - checkBytes) (drop checkBytes l)) in
     record {
       row = 1;
       place = refl;
@@ -130,21 +130,21 @@ rows-first l first e h =
     }
 
 -- a row lies in the block
-pub row-within : (l : List ℕ) (sum past at : ℕ) → at < 512 → Rows l sum past at → at + 64 ≤ 512
+pub row-within : (l : List ℕ) (sum past at : ℕ) → at < blockBytes → Rows l sum past at → at + rowBytes ≤ blockBytes
 row-within l sum past at h s = omega (arith, s .place)
 
-pub first-length : (l : List ℕ) → length l ≡ 512 → length (take (64 - 2) (drop 2 l)) ≤ 64
+pub first-length : (l : List ℕ) → length l ≡ blockBytes → length (take (rowBytes - checkBytes) (drop checkBytes l)) ≤ rowBytes
 first-length l n = simp (length-take, length-drop) (omega arith)
 
-pub row-length : (l : List ℕ) (at : ℕ) → length l ≡ 512 → at + 64 ≤ 512 → length (take (at + 64 - at) (drop at l)) ≡ 64
+pub row-length : (l : List ℕ) (at : ℕ) → length l ≡ blockBytes → at + rowBytes ≤ blockBytes → length (take (at + rowBytes - at) (drop at l)) ≡ rowBytes
 row-length l at n h = simp (length-take, length-drop) (omega arith)
 
-pub rows-more : (l : List ℕ) (sum past at more : ℕ) → at < 512 → more ≡ weighted (past + 1) (take (at + 64 - at) (drop at l)) → more ≤ 8323200
-    → Rows l sum past at → Rows l (sum + more) (past + 64) (at + 64)
+pub rows-more : (l : List ℕ) (sum past at more : ℕ) → at < blockBytes → more ≡ weighted (past + 1) (take (at + rowBytes - at) (drop at l)) → more ≤ rowMost
+    → Rows l sum past at → Rows l (sum + more) (past + rowBytes) (at + rowBytes)
 rows-more l sum past at more h e b s =
-    let w = rw drop-drop at (weighted-cut (past + 1) 64 (drop at l)) in
-    let n : at + 64 - at ≡ 64 = omega arith in
-    let k : past + 1 + 64 ≡ past + 64 + 1 = omega arith in
+    let w = rw drop-drop at (weighted-cut (past + 1) rowBytes (drop at l)) in
+    let n : at + rowBytes - at ≡ rowBytes = omega arith in
+    let k : past + 1 + rowBytes ≡ past + rowBytes + 1 = omega arith in
     let e′ = rw n at e in
     let w′ = rw k at w in
     record {
@@ -156,9 +156,9 @@ rows-more l sum past at more h e b s =
       bound = omega (arith, s .bound);
     }
 
-pub rows-all : (l : List ℕ) (sum past at : ℕ) → length l ≡ 512 → 512 ≤ at → Rows l sum past at → sum % 65521 ≡ checkOf (drop 2 l)
+pub rows-all : (l : List ℕ) (sum past at : ℕ) → length l ≡ blockBytes → blockBytes ≤ at → Rows l sum past at → sum % checkModulus ≡ checkOf (drop checkBytes l)
 unfolding checkOf weighted
 rows-all l sum past at n h s =
     let q : at ≡ length l = omega (arith, s .high) in
     let e = rw (q, drop-length) at (s .so-far) in
-    ap (λ (x : ℕ). x % 65521) (omega (arith, e))
+    ap (λ (x : ℕ). x % checkModulus) (omega (arith, e))

@@ -8,46 +8,47 @@ use lib.Seq.{take-at}
 use Rattle.byte_lists.specs.Little.{little, number}
 use Rattle.byte_lists.proofs.Laws.LittleLaws.{number-little, limit-2, limit-8}
 use Rattle.settings.specs.declared.Settings.{Settings}
-use Rattle.image_block.specs.Block.{sealed, headBody, headBlock, entryBody, entryBlock, unusedBody, unusedBlock}
+use Rattle.image_block.specs.Block.{blockBytes, checkBytes, bodyBytes, countBytes, timeBytes, countFrom, promiseFrom, headEnd}
+use Rattle.image_block.specs.Block.{timeFrom, heldFrom, sealed, headBody, headBlock, entryBody, entryBlock, unusedBody, unusedBlock}
 use Rattle.byte_lists.specs.Lists.{zeros}
 use Rattle.image_block.proofs.Laws.CheckLaws.{sealed-length}
 use Rattle.byte_lists.proofs.Laws.ZeroLaws.{zeros-length}
 
-head-body-length : (s : Settings) (brick count promise : ℕ) → length (headBody s brick count promise) ≡ 510
+head-body-length : (s : Settings) (brick count promise : ℕ) → length (headBody s brick count promise) ≡ bodyBytes
 unfolding headBody little
-head-body-length s brick count promise = let z = zeros-length 492 in omega arith
+head-body-length s brick count promise = let z = zeros-length (blockBytes - headEnd) in omega arith
 
-pub head-length : (s : Settings) (brick count promise : ℕ) → length (headBlock s brick count promise) ≡ 512
+pub head-length : (s : Settings) (brick count promise : ℕ) → length (headBlock s brick count promise) ≡ blockBytes
 unfolding headBlock
-head-length s brick count promise = sealed-length (headBody s brick count promise) ∙ ap (λ (k : ℕ). 2 + k) (head-body-length s brick count promise)
+head-length s brick count promise = sealed-length (headBody s brick count promise) ∙ ap (λ (k : ℕ). checkBytes + k) (head-body-length s brick count promise)
 
-entry-body-length : (time : ℕ) (block : List ℕ) → length block ≤ 496 → length (entryBody time block) ≡ 510
+entry-body-length : (time : ℕ) (block : List ℕ) → length block ≤ blockBytes - heldFrom → length (entryBody time block) ≡ bodyBytes
 unfolding entryBody little
 entry-body-length time block h =
-    let a = length-append block (zeros (496 - length block)) in
-    let z = zeros-length (496 - length block) in
+    let a = length-append block (zeros (blockBytes - heldFrom - length block)) in
+    let z = zeros-length (blockBytes - heldFrom - length block) in
     omega arith
 
-pub entry-length : (time : ℕ) (block : List ℕ) → length block ≤ 496 → length (entryBlock time block) ≡ 512
+pub entry-length : (time : ℕ) (block : List ℕ) → length block ≤ blockBytes - heldFrom → length (entryBlock time block) ≡ blockBytes
 unfolding entryBlock
-entry-length time block h = sealed-length (entryBody time block) ∙ ap (λ (k : ℕ). 2 + k) (entry-body-length time block h)
+entry-length time block h = sealed-length (entryBody time block) ∙ ap (λ (k : ℕ). checkBytes + k) (entry-body-length time block h)
 
-pub unused-length : length unusedBlock ≡ 512
+pub unused-length : length unusedBlock ≡ blockBytes
 unfolding unusedBlock unusedBody
-unused-length = let z = zeros-length 509 in sealed-length unusedBody ∙ omega arith
+unused-length = let z = zeros-length (bodyBytes - 1) in sealed-length unusedBody ∙ omega arith
 
-pub head-count : (s : Settings) (brick count promise : ℕ) → count < 65536 → number (take 2 (drop 10 (headBlock s brick count promise))) ≡ count
+pub head-count : (s : Settings) (brick count promise : ℕ) → count < 65536 → number (take countBytes (drop countFrom (headBlock s brick count promise))) ≡ count
 unfolding headBlock sealed headBody little
-head-count s brick count promise h = number-little 2 count (subst (λ (k : ℕ). count < k) (sym limit-2) h)
+head-count s brick count promise h = number-little countBytes count (subst (λ (k : ℕ). count < k) (sym limit-2) h)
 
-pub head-promise : (s : Settings) (brick count promise : ℕ) → promise < 2 ^ 64 → number (take 8 (drop 12 (headBlock s brick count promise))) ≡ promise
+pub head-promise : (s : Settings) (brick count promise : ℕ) → promise < 2 ^ 64 → number (take timeBytes (drop promiseFrom (headBlock s brick count promise))) ≡ promise
 unfolding headBlock sealed headBody little
-head-promise s brick count promise h = number-little 8 promise (subst (λ (k : ℕ). promise < k) (sym limit-8) h)
+head-promise s brick count promise h = number-little timeBytes promise (subst (λ (k : ℕ). promise < k) (sym limit-8) h)
 
-pub entry-time : (time : ℕ) (block : List ℕ) → time < 2 ^ 64 → number (take 8 (drop 4 (entryBlock time block))) ≡ time
+pub entry-time : (time : ℕ) (block : List ℕ) → time < 2 ^ 64 → number (take timeBytes (drop timeFrom (entryBlock time block))) ≡ time
 unfolding entryBlock sealed entryBody little
-entry-time time block h = number-little 8 time (subst (λ (k : ℕ). time < k) (sym limit-8) h)
+entry-time time block h = number-little timeBytes time (subst (λ (k : ℕ). time < k) (sym limit-8) h)
 
-pub entry-held : (time : ℕ) (block : List ℕ) (size : ℕ) → length block ≡ size → take size (drop 16 (entryBlock time block)) ≡ block
+pub entry-held : (time : ℕ) (block : List ℕ) (size : ℕ) → length block ≡ size → take size (drop heldFrom (entryBlock time block)) ≡ block
 unfolding entryBlock sealed entryBody little
-entry-held time block size e = take-at block (zeros (496 - length block)) size e
+entry-held time block size e = take-at block (zeros (blockBytes - heldFrom - length block)) size e

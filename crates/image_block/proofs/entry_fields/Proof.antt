@@ -18,11 +18,17 @@ array-write-b-2 c = search needs
 byte-requires-2 : tie.Need-byte-requires-2
 byte-requires-2 c κs = search needs
 
+add-b : tie.Need-add-b
+add-b c = search needs
+
 array-write-b-3 : tie.Need-array-write-b-3
 array-write-b-3 c = search needs
 
 byte-requires-3 : tie.Need-byte-requires-3
 byte-requires-3 c κs = search needs
+
+add-b-2 : tie.Need-add-b-2
+add-b-2 c = search needs
 
 array-write-b-4 : tie.Need-array-write-b-4
 array-write-b-4 c = search needs
@@ -30,11 +36,17 @@ array-write-b-4 c = search needs
 byte-requires-4 : tie.Need-byte-requires-4
 byte-requires-4 c κs = search needs
 
+add-b-3 : tie.Need-add-b-3
+add-b-3 c = search needs
+
 array-write-b-5 : tie.Need-array-write-b-5
 array-write-b-5 c = search needs
 
 byte-requires-5 : tie.Need-byte-requires-5
 byte-requires-5 c κs = search needs
+
+add-b-4 : tie.Need-add-b-4
+add-b-4 c = search needs
 
 array-write-b-6 : tie.Need-array-write-b-6
 array-write-b-6 c = search needs
@@ -42,17 +54,26 @@ array-write-b-6 c = search needs
 byte-requires-6 : tie.Need-byte-requires-6
 byte-requires-6 c κs = search needs
 
+add-b-5 : tie.Need-add-b-5
+add-b-5 c = search needs
+
 array-write-b-7 : tie.Need-array-write-b-7
 array-write-b-7 c = search needs
 
 byte-requires-7 : tie.Need-byte-requires-7
 byte-requires-7 c κs = search needs
 
+add-b-6 : tie.Need-add-b-6
+add-b-6 c = search needs
+
 array-write-b-8 : tie.Need-array-write-b-8
 array-write-b-8 c = search needs
 
 byte-requires-8 : tie.Need-byte-requires-8
 byte-requires-8 c κs = search needs
+
+add-b-7 : tie.Need-add-b-7
+add-b-7 c = search needs
 
 array-write-b-9 : tie.Need-array-write-b-9
 array-write-b-9 c = search needs
@@ -65,6 +86,9 @@ array-write-b-10 c = search needs
 
 byte-requires-10 : tie.Need-byte-requires-10
 byte-requires-10 c κs = search needs
+
+add-b-8 : tie.Need-add-b-8
+add-b-8 c = search needs
 
 array-write-b-11 : tie.Need-array-write-b-11
 array-write-b-11 c = search needs
@@ -81,21 +105,29 @@ entry-fields-spec =
     byte-requires
     array-write-b-2
     byte-requires-2
+    add-b
     array-write-b-3
     byte-requires-3
+    add-b-2
     array-write-b-4
     byte-requires-4
+    add-b-3
     array-write-b-5
     byte-requires-5
+    add-b-4
     array-write-b-6
     byte-requires-6
+    add-b-5
     array-write-b-7
     byte-requires-7
+    add-b-6
     array-write-b-8
     byte-requires-8
+    add-b-7
     array-write-b-9
     byte-requires-9
     array-write-b-10
     byte-requires-10
+    add-b-8
     array-write-b-11
     returns)

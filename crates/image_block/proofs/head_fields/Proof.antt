@@ -40,6 +40,9 @@ array-write-b-6 c = search needs
 byte-requires-2 : tie.Need-byte-requires-2
 byte-requires-2 c κs = search needs
 
+add-b : tie.Need-add-b
+add-b c = search needs
+
 array-write-b-7 : tie.Need-array-write-b-7
 array-write-b-7 c = search needs
 
@@ -51,6 +54,9 @@ array-write-b-8 c = search needs
 
 byte-requires-4 : tie.Need-byte-requires-4
 byte-requires-4 c κs = search needs
+
+add-b-2 : tie.Need-add-b-2
+add-b-2 c = search needs
 
 array-write-b-9 : tie.Need-array-write-b-9
 array-write-b-9 c = search needs
@@ -64,11 +70,17 @@ array-write-b-10 c = search needs
 byte-requires-6 : tie.Need-byte-requires-6
 byte-requires-6 c κs = search needs
 
+add-b-3 : tie.Need-add-b-3
+add-b-3 c = search needs
+
 array-write-b-11 : tie.Need-array-write-b-11
 array-write-b-11 c = search needs
 
 byte-requires-7 : tie.Need-byte-requires-7
 byte-requires-7 c κs = search needs
+
+add-b-4 : tie.Need-add-b-4
+add-b-4 c = search needs
 
 array-write-b-12 : tie.Need-array-write-b-12
 array-write-b-12 c = search needs
@@ -76,11 +88,17 @@ array-write-b-12 c = search needs
 byte-requires-8 : tie.Need-byte-requires-8
 byte-requires-8 c κs = search needs
 
+add-b-5 : tie.Need-add-b-5
+add-b-5 c = search needs
+
 array-write-b-13 : tie.Need-array-write-b-13
 array-write-b-13 c = search needs
 
 byte-requires-9 : tie.Need-byte-requires-9
 byte-requires-9 c κs = search needs
+
+add-b-6 : tie.Need-add-b-6
+add-b-6 c = search needs
 
 array-write-b-14 : tie.Need-array-write-b-14
 array-write-b-14 c = search needs
@@ -88,17 +106,26 @@ array-write-b-14 c = search needs
 byte-requires-10 : tie.Need-byte-requires-10
 byte-requires-10 c κs = search needs
 
+add-b-7 : tie.Need-add-b-7
+add-b-7 c = search needs
+
 array-write-b-15 : tie.Need-array-write-b-15
 array-write-b-15 c = search needs
 
 byte-requires-11 : tie.Need-byte-requires-11
 byte-requires-11 c κs = search needs
 
+add-b-8 : tie.Need-add-b-8
+add-b-8 c = search needs
+
 array-write-b-16 : tie.Need-array-write-b-16
 array-write-b-16 c = search needs
 
 byte-requires-12 : tie.Need-byte-requires-12
 byte-requires-12 c κs = search needs
+
+add-b-9 : tie.Need-add-b-9
+add-b-9 c = search needs
 
 array-write-b-17 : tie.Need-array-write-b-17
 array-write-b-17 c = search needs
@@ -123,25 +150,34 @@ head-fields-spec =
     byte-requires
     array-write-b-6
     byte-requires-2
+    add-b
     array-write-b-7
     byte-requires-3
     array-write-b-8
     byte-requires-4
+    add-b-2
     array-write-b-9
     byte-requires-5
     array-write-b-10
     byte-requires-6
+    add-b-3
     array-write-b-11
     byte-requires-7
+    add-b-4
     array-write-b-12
     byte-requires-8
+    add-b-5
     array-write-b-13
     byte-requires-9
+    add-b-6
     array-write-b-14
     byte-requires-10
+    add-b-7
     array-write-b-15
     byte-requires-11
+    add-b-8
     array-write-b-16
     byte-requires-12
+    add-b-9
     array-write-b-17
     returns)

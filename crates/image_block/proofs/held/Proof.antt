@@ -1,3 +1,4 @@
+use Rattle.image_block.specs.Block.{blockBytes, heldFrom}
 use Rattle.image_block.proofs.Laws.BlockStoreLaws.{held-all}
 use Rattle.byte_lists.proofs.Laws.PutLaws.{Pasted, pasted-none, pasted-more}
 use Rattle.byte_lists.proofs.Laws.ZeroLaws.{zeros-length}
@@ -10,14 +11,14 @@ use Rattle.image_block.proofs.held.Statement.{statement}
 use Rattle.image_block.proofs.held.Tie as tie
 
 abbrev Inv-loop : tie.InvT-loop
-Inv-loop block b₀ i₀ b i = Pasted (zeros 512) block 16 i b
+Inv-loop block b₀ i₀ b i = Pasted (zeros blockBytes) block heldFrom i b
 
 abbrev μ-loop : tie.MeasureT-loop
 μ-loop block b₀ i₀ b i = length block - i
 
 loop-holds : tie.Need-loop-holds Inv-loop μ-loop
 unfolding zeros
-loop-holds c = pasted-none (zeros 512) _ 16 (omega (arith, zeros-length 512))
+loop-holds c = pasted-none (zeros blockBytes) _ heldFrom (omega (arith, zeros-length blockBytes))
 
 shared-slice-read-b : tie.Need-shared-slice-read-b Inv-loop μ-loop
 shared-slice-read-b c = omega arith

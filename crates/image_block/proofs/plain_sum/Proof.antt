@@ -1,5 +1,6 @@
 use Prim.Native.Nat.{_-_}
 use native.Mathlib.Omega.{arith}
+use Rattle.image_block.specs.Workers.{rowBytes}
 use Rattle.image_block.proofs.Laws.CheckRowLaws.{Totalling, totalling-none, totalling-more, totalling-all}
 use Rattle.image_block.proofs.plain_sum.Statement.{statement}
 use Rattle.image_block.proofs.plain_sum.Tie as tie
@@ -8,7 +9,7 @@ abbrev Inv-loop : tie.InvT-loop
 Inv-loop t part₀ i₀ part i = Totalling t part i
 
 abbrev μ-loop : tie.MeasureT-loop
-μ-loop t part₀ i₀ part i = 64 - i
+μ-loop t part₀ i₀ part i = rowBytes - i
 
 loop-holds : tie.Need-loop-holds Inv-loop μ-loop
 loop-holds c = totalling-none _
@@ -29,7 +30,8 @@ loop-less : tie.Need-loop-less Inv-loop μ-loop
 loop-less c = omega arith
 
 loop-again : tie.Need-loop-again Inv-loop μ-loop
-loop-again c = totalling-more _ _ _ (c .before .before .before .pre) (omega (arith, c .shared-slice-known .given (c .before .before .loop .i))) (c .before .loop-test .taken) (c .before .before .loop .inv)
+loop-again c = totalling-more _ _ _ (c .before .before .before .pre) (omega (arith, c .shared-slice-known .given (c .before .before .loop .i))) (c .before .loop-test .taken)
+    (c .before .before .loop .inv)
 
 returns : tie.Need-returns Inv-loop μ-loop
 returns c = totalling-all _ _ _ (c .before .before .pre) (c .loop-test .left) (c .before .loop .inv)

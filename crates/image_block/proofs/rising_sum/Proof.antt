@@ -1,6 +1,7 @@
 use Prim.Native.Nat.{_-_, _*_, _≤_, _<_}
 use lib.ListN.{length, getD}
 use native.Mathlib.Omega.{arith}
+use Rattle.image_block.specs.Workers.{plainMost}
 use Rattle.image_block.proofs.Laws.CheckRowLaws.{Rising, rising-none, rising-more, rising-all, product-high}
 use Rattle.image_block.proofs.rising_sum.Statement.{statement}
 use Rattle.image_block.proofs.rising_sum.Tie as tie
@@ -21,7 +22,7 @@ byte : (c : tie.After-shared-slice-known Inv-loop μ-loop) → getD (c .before .
 byte c = omega (arith, c .shared-slice-known .given (c .before .before .loop .p))
 
 high : (c : tie.After-shared-slice-known Inv-loop μ-loop)
-    → c .before .before .loop .weight * getD (c .before .before .before .args .b .now) (c .before .before .loop .p) 0 ≤ 16320
+    → c .before .before .loop .weight * getD (c .before .before .before .args .b .now) (c .before .before .loop .p) 0 ≤ plainMost
 high c = product-high _ _ (omega arith) (byte c)
 
 cast-rise : tie.Need-cast-rise Inv-loop μ-loop

@@ -1,6 +1,7 @@
 use Prim.Native.Nat.{_-_}
 use native.Mathlib.Omega.{arith}
 use mathlib.Core.Logic.{⊎-elim}
+use Rattle.image_block.specs.Block.{blockBytes}
 use Rattle.byte_lists.proofs.Laws.SameLaws.{Comparing, comparing-none, comparing-same, comparing-other, comparing-all}
 use Rattle.image_block.proofs.same_body.Statement.{statement}
 use Rattle.image_block.proofs.same_body.Tie as tie
@@ -9,7 +10,7 @@ abbrev Inv-loop : tie.InvT-loop
 Inv-loop a b differ₀ p₀ differ p = Comparing a b differ p
 
 abbrev μ-loop : tie.MeasureT-loop
-μ-loop a b differ₀ p₀ differ p = 512 - p
+μ-loop a b differ₀ p₀ differ p = blockBytes - p
 
 loop-holds : tie.Need-loop-holds Inv-loop μ-loop
 loop-holds c = comparing-none _ _

@@ -1,4 +1,4 @@
--- Laws of `specs/Numbers`.
+-- The number of what a view gives.
 use mathlib.Core.Path.{_≡_, refl}
 use mathlib.Core.Bool.{Bool, true, false, cond}
 use Prim.Native.Nat.{ℕ, _+_}

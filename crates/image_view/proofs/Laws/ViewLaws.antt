@@ -2,7 +2,7 @@
 use mathlib.Core.Path.{_≡_, refl, sym, ap, _∙_}
 use mathlib.Core.Bool.{Bool, true, false, cond}
 use mathlib.Core.List.{List}
-use Prim.Native.Nat.{ℕ, _+_, _*_, _/_, _≤_, _<_}
+use Prim.Native.Nat.{ℕ, _-_, _+_, _*_, _/_, _≤_, _<_}
 use native.Mathlib.Omega.{arith}
 use lib.Dec.{leb}
 use lib.ListN.{length, take, drop}
@@ -26,31 +26,33 @@ use Rattle.image_view.specs.View.{foundOf, foundAt}
 use Rattle.image_view.specs.declared.Found.{Found}
 use Rattle.image_view.specs.declared.Found.the-variants.{At, Refused}
 use Rattle.byte_lists.proofs.Laws.PutLaws.{drop-take}
+use Rattle.image_block.specs.Block.{blockBytes, timeBytes, timeFrom}
+use Rattle.settings.specs.Refusal.{badLength, badNumber}
 
 -- the time field, read from the whole image
-pub time-there : (l : List ℕ) (k at time : ℕ) → at ≡ 512 * k + 4 → time ≡ number (take 8 (drop at l)) → time ≡ timeIn (imageBlockAt l k)
+pub time-there : (l : List ℕ) (k at time : ℕ) → at ≡ blockBytes * k + timeFrom → time ≡ number (take timeBytes (drop at l)) → time ≡ timeIn (imageBlockAt l k)
 unfolding timeIn imageBlockAt
 time-there l k at time e t =
     t
-    ∙ ap (λ (j : ℕ). number (take 8 (drop j l))) e
-    ∙ ap (λ (m : List ℕ). number (take 8 m)) (sym (drop-drop 4 (512 * k) l))
-    ∙ ap number (sym (take-take 8 508 (drop 4 (drop (512 * k) l)) (omega arith)))
-    ∙ ap (λ (m : List ℕ). number (take 8 m)) (sym (drop-take 4 508 (drop (512 * k) l)))
+    ∙ ap (λ (j : ℕ). number (take timeBytes (drop j l))) e
+    ∙ ap (λ (m : List ℕ). number (take timeBytes m)) (sym (drop-drop timeFrom (blockBytes * k) l))
+    ∙ ap number (sym (take-take timeBytes (blockBytes - timeFrom) (drop timeFrom (drop (blockBytes * k) l)) (omega arith)))
+    ∙ ap (λ (m : List ℕ). number (take timeBytes m)) (sym (drop-take timeFrom (blockBytes - timeFrom) (drop (blockBytes * k) l)))
 
 module _ (l : List ℕ) (n place : ℕ) where
-  pub at-short : length l / 512 ≤ n → Refused 2 ≡ foundAt l n place
+  pub at-short : length l / blockBytes ≤ n → Refused badLength ≡ foundAt l n place
   unfolding foundAt
-  at-short h = rw (le-leb (length l / 512) n h) refl
+  at-short h = rw (le-leb (length l / blockBytes) n h) refl
 
-  pub at-past : n < length l / 512 → n ≤ place → Refused 3 ≡ foundAt l n place
+  pub at-past : n < length l / blockBytes → n ≤ place → Refused badNumber ≡ foundAt l n place
   unfolding foundAt
-  at-past h k = rw (lt-leb (length l / 512) n h, le-leb n place k) refl
+  at-past h k = rw (lt-leb (length l / blockBytes) n h, le-leb n place k) refl
 
-  pub at-there : (time at : ℕ) → n < length l / 512 → place < n → at ≡ 512 * (place + 1) + 4 → time ≡ number (take 8 (drop at l))
+  pub at-there : (time at : ℕ) → n < length l / blockBytes → place < n → at ≡ blockBytes * (place + 1) + timeFrom → time ≡ number (take timeBytes (drop at l))
       → At (record { time = time; holding = Held (place + 1) }) ≡ foundAt l n place
   unfolding foundAt
   at-there time at h k e t =
-      rw (lt-leb (length l / 512) n h, lt-leb n place k)
+      rw (lt-leb (length l / blockBytes) n h, lt-leb n place k)
       (ap (λ (x : ℕ). At (record { time = x; holding = Held (place + 1) })) (time-there l (place + 1) at time e t))
 
 -- an image that opened
@@ -59,15 +61,16 @@ pub look-there : (s : Settings) (brick : ℕ) (l : List ℕ) (o : Opening) (h : 
 unfolding foundAt foundOf imageSize
 look-there s brick l o h place r u e = e ∙ go (leb (h .count) place) refl ∙ sym (ap (λ (p : Parsed). foundOf p place) (u .is))
   where
-    within : leb (length l / 512) (h .count) ≡ false
-    within = lt-leb (length l / 512) (h .count) (omega (arith, u .saved .long, u .high))
+    within : leb (length l / blockBytes) (h .count) ≡ false
+    within = lt-leb (length l / blockBytes) (h .count) (omega (arith, u .saved .long, u .high))
 
     same : (b : Bool) → leb (h .count) place ≡ b → leb (entryCount (u .x)) place ≡ b
     same b q = ap (λ (k : ℕ). leb k place) (sym (u .counts)) ∙ q
 
     go : (b : Bool) → leb (h .count) place ≡ b
-        → cond (leb (length l / 512) (h .count)) (Refused 2) (cond (leb (h .count) place) (Refused 3) (At (record { time = timeIn (imageBlockAt l (place + 1)); holding = Held (place + 1) })))
-        ≡ cond (leb (entryCount (u .x)) place) (Refused 3) (At (record { time = timeAt (u .x) place; holding = Held (place + 1) }))
+        → cond (leb (length l / blockBytes) (h .count)) (Refused badLength)
+        (cond (leb (h .count) place) (Refused badNumber) (At (record { time = timeIn (imageBlockAt l (place + 1)); holding = Held (place + 1) })))
+        ≡ cond (leb (entryCount (u .x)) place) (Refused badNumber) (At (record { time = timeAt (u .x) place; holding = Held (place + 1) }))
     go true q = rw (within, q, same true q) refl
     go false q =
         let low : place < countIn (imageBlockAt l 0) = omega (arith, leb-false (h .count) place q, u .counts, ap entryCount (u .saved .is-read), count-in s l) in

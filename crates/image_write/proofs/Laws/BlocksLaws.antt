@@ -1,4 +1,4 @@
--- Laws of `specs/BlocksLaws`.
+-- An image block by block: a block put, blocks cleared, blocks moved down.
 use mathlib.Core.Path.{_≡_, refl, sym, ap, subst, _∙_}
 use mathlib.Core.Bool.{Bool, true, false, cond, _&&_}
 use mathlib.Core.List.{List, _++_, append-nil}
@@ -19,8 +19,10 @@ use Rattle.byte_lists.specs.Lists.{stacked}
 use Rattle.image.proofs.Laws.ImageLaws.{Even, stacked-at, stacked-length, stacked-of, stacked-ext, stacked-put, block-length}
 use Rattle.image.specs.Parse.{imageBlockAt}
 use Rattle.image_write.specs.Workers.{Blocks, clearedOf, shiftedOf}
+use Rattle.image_block.specs.Block.{blockBytes}
+use Rattle.settings.specs.Ranges.{maxSize}
 
-pub blocks-of : (l : List ℕ) (n : ℕ) → length l ≡ 512 * n → Blocks (imageBlockAt l) n l
+pub blocks-of : (l : List ℕ) (n : ℕ) → length l ≡ blockBytes * n → Blocks (imageBlockAt l) n l
 blocks-of l n h = record { long = h; at = λ k b. refl }
 
 pub blocks-is : (g : ℕ → List ℕ) (n : ℕ) (l : List ℕ) → Blocks g n l → l ≡ stacked n g
@@ -32,9 +34,9 @@ blocks-ext g h n l e b = record { long = b .long; at = λ k c. b .at k c ∙ e k
 pub blocks-even : (g : ℕ → List ℕ) (n : ℕ) (l : List ℕ) → Blocks g n l → Even g n
 blocks-even g n l b k h = ap length (sym (b .at k h)) ∙ block-length l n k (b .long) h
 
-pub block-long : (l : List ℕ) (k : ℕ) → 512 * k + 512 ≤ length l → length (imageBlockAt l k) ≡ 512
+pub block-long : (l : List ℕ) (k : ℕ) → blockBytes * k + blockBytes ≤ length l → length (imageBlockAt l k) ≡ blockBytes
 unfolding imageBlockAt
-block-long l k h = let d = length-drop (512 * k) l in let t = length-take 512 (drop (512 * k) l) in omega arith
+block-long l k h = let d = length-drop (blockBytes * k) l in let t = length-take blockBytes (drop (blockBytes * k) l) in omega arith
 
 -- one block placed
 unfoldable pub placed : (ℕ → List ℕ) → ℕ → List ℕ → ℕ → List ℕ
@@ -48,20 +50,20 @@ pub placed-other : (g : ℕ → List ℕ) (j : ℕ) (b : List ℕ) (k : ℕ) →
 unfolding placed
 placed-other g j b k h = rw (ne-eqb k j h) refl
 
-placed-even : (g : ℕ → List ℕ) (n j : ℕ) (b : List ℕ) → Even g n → length b ≡ 512 → Even (placed g j b) n
+placed-even : (g : ℕ → List ℕ) (n j : ℕ) (b : List ℕ) → Even g n → length b ≡ blockBytes → Even (placed g j b) n
 placed-even g n j b e h k c = go (ℕ-discrete k j)
   where
-    go : Dec (k ≡ j) → length (placed g j b k) ≡ 512
+    go : Dec (k ≡ j) → length (placed g j b k) ≡ blockBytes
     go (yes q) = ap (λ (i : ℕ). length (placed g j b i)) q ∙ ap length (placed-there g j b) ∙ h
     go (no q) = ap length (placed-other g j b k q) ∙ e k c
 
-pub blocks-put : (g : ℕ → List ℕ) (n j : ℕ) (b l : List ℕ) → j < n → length b ≡ 512 → Blocks g n l → Blocks (placed g j b) n (put (512 * j) b l)
+pub blocks-put : (g : ℕ → List ℕ) (n j : ℕ) (b l : List ℕ) → j < n → length b ≡ blockBytes → Blocks g n l → Blocks (placed g j b) n (put (blockBytes * j) b l)
 blocks-put g n j b l h nb r =
     let e = blocks-even g n l r in
     let p = placed-even g n j b e nb in
-    let is : put (512 * j) b l ≡ stacked n (placed g j b) =
-    ap (λ (x : List ℕ). put (512 * j) b x) (blocks-is g n l r)
-    ∙ ap (λ (x : List ℕ). put (512 * j) x (stacked n g)) (sym (placed-there g j b))
+    let is : put (blockBytes * j) b l ≡ stacked n (placed g j b) =
+    ap (λ (x : List ℕ). put (blockBytes * j) b x) (blocks-is g n l r)
+    ∙ ap (λ (x : List ℕ). put (blockBytes * j) x (stacked n g)) (sym (placed-there g j b))
     ∙ stacked-put g (placed g j b) n j e p h (λ k c ne. sym (placed-other g j b k ne)) in
     record {
       long = ap length is ∙ stacked-length (placed g j b) n p;
@@ -105,20 +107,20 @@ one-cleared g from i k h = go (ℕ-discrete k i)
             next : i ≤ k → i + 1 ≤ k
             next w = omega (arith, q, w)
 
-pub clearing-more : (l : List ℕ) (from i : ℕ) (image b after : List ℕ) → 512 * (i + 1) ≤ length l → b ≡ unusedBlock → after ≡ put (512 * i) b image
+pub clearing-more : (l : List ℕ) (from i : ℕ) (image b after : List ℕ) → blockBytes * (i + 1) ≤ length l → b ≡ unusedBlock → after ≡ put (blockBytes * i) b image
     → Clearing l from i image → Clearing l from (i + 1) after
 clearing-more l from i image b after h eb ea r =
-    let nb : length b ≡ 512 = ap length eb ∙ unused-length in
+    let nb : length b ≡ blockBytes = ap length eb ∙ unused-length in
     record {
       low = omega (arith, r .low);
-      long = ap length ea ∙ put-length (512 * i) b image (omega (arith, r .long, nb)) ∙ r .long;
+      long = ap length ea ∙ put-length (blockBytes * i) b image (omega (arith, r .long, nb)) ∙ r .long;
       done = λ n g c. turn n g c nb;
     }
   where
-    turn : (n : ℕ) (g : ℕ → List ℕ) → Blocks g n l → length b ≡ 512 → Blocks (clearedOf g from (i + 1)) n after
+    turn : (n : ℕ) (g : ℕ → List ℕ) → Blocks g n l → length b ≡ blockBytes → Blocks (clearedOf g from (i + 1)) n after
     turn n g c nb =
         subst (λ (x : List ℕ). Blocks (clearedOf g from (i + 1)) n x) (sym ea)
-        (blocks-ext (placed (clearedOf g from i) i b) (clearedOf g from (i + 1)) n (put (512 * i) b image)
+        (blocks-ext (placed (clearedOf g from i) i b) (clearedOf g from (i + 1)) n (put (blockBytes * i) b image)
         (λ k w. ap (λ (y : List ℕ). placed (clearedOf g from i) i y k) eb ∙ one-cleared g from i k (r .low))
         (blocks-put (clearedOf g from i) n i b image (omega (arith, c .long)) nb (r .done n g c)))
 
@@ -161,25 +163,25 @@ later-same g d i k h = rw (lt-leb k i h) (go (leb 1 k))
     go true = refl
     go false = refl
 
-pub shifting-more : (l : List ℕ) (d i : ℕ) (image b after : List ℕ) → 512 * (d + i + 1 + 1) ≤ length l → b ≡ imageBlockAt image (d + i + 1) → after ≡ put (512 * (i + 1)) b image
+pub shifting-more : (l : List ℕ) (d i : ℕ) (image b after : List ℕ) → blockBytes * (d + i + 1 + 1) ≤ length l → b ≡ imageBlockAt image (d + i + 1) → after ≡ put (blockBytes * (i + 1)) b image
     → Shifting l d i image → Shifting l d (i + 1) after
 shifting-more l d i image b after h eb ea r =
-    let nb : length b ≡ 512 = ap length eb ∙ block-there in
+    let nb : length b ≡ blockBytes = ap length eb ∙ block-there in
     record {
-      long = ap length ea ∙ put-length (512 * (i + 1)) b image (omega (arith, r .long, nb)) ∙ r .long;
+      long = ap length ea ∙ put-length (blockBytes * (i + 1)) b image (omega (arith, r .long, nb)) ∙ r .long;
       done = λ n g c. turn n g c nb;
     }
   where
-    block-there : length (imageBlockAt image (d + i + 1)) ≡ 512
+    block-there : length (imageBlockAt image (d + i + 1)) ≡ blockBytes
     block-there = block-long image (d + i + 1) (omega (arith, r .long))
 
-    turn : (n : ℕ) (g : ℕ → List ℕ) → Blocks g n l → length b ≡ 512 → Blocks (shiftedOf g d (i + 1)) n after
+    turn : (n : ℕ) (g : ℕ → List ℕ) → Blocks g n l → length b ≡ blockBytes → Blocks (shiftedOf g d (i + 1)) n after
     turn n g c nb =
         let e : d + i + 1 ≡ i + 1 + d = omega arith in
         let is : b ≡ g (i + 1 + d) =
         eb ∙ r .done n g c .at (d + i + 1) (omega (arith, c .long)) ∙ later-same g d i (d + i + 1) (omega arith) ∙ ap g e in
         subst (λ (x : List ℕ). Blocks (shiftedOf g d (i + 1)) n x) (sym ea)
-        (blocks-ext (placed (shiftedOf g d i) (i + 1) b) (shiftedOf g d (i + 1)) n (put (512 * (i + 1)) b image)
+        (blocks-ext (placed (shiftedOf g d i) (i + 1) b) (shiftedOf g d (i + 1)) n (put (blockBytes * (i + 1)) b image)
         (λ k w. ap (λ (y : List ℕ). placed (shiftedOf g d i) (i + 1) y k) is ∙ one-shifted g d i k)
         (blocks-put (shiftedOf g d i) n (i + 1) b image (omega (arith, c .long)) nb (r .done n g c)))
 
@@ -188,13 +190,13 @@ pub put-as : (at : ℕ) (b c l after : List ℕ) → after ≡ put at b l → b 
 put-as at b c l after e f = e ∙ ap (λ (x : List ℕ). put at x l) f
 
 -- a copy of a whole part
-pub copied-all : (part b : List ℕ) (i : ℕ) → length part ≡ 512 → 512 ≤ i → Pasted (zeros 512) part 0 i b → b ≡ part
+pub copied-all : (part b : List ℕ) (i : ℕ) → length part ≡ blockBytes → blockBytes ≤ i → Pasted (zeros blockBytes) part 0 i b → b ≡ part
 unfolding put zeros
 copied-all part b i n h p =
-    pasted-all (zeros 512) part b 0 i (omega arith) p
-    ∙ rw (zeros-drop 512 (0 + length part) (omega arith)) (ap (λ (k : ℕ). part ++ zeros k) (omega-zero n) ∙ append-zeros part)
+    pasted-all (zeros blockBytes) part b 0 i (omega arith) p
+    ∙ rw (zeros-drop blockBytes (0 + length part) (omega arith)) (ap (λ (k : ℕ). part ++ zeros k) (omega-zero n) ∙ append-zeros part)
   where
-    omega-zero : length part ≡ 512 → 512 - (0 + length part) ≡ 0
+    omega-zero : length part ≡ blockBytes → blockBytes - (0 + length part) ≡ 0
     omega-zero e = omega arith
 
     append-zeros : (l : List ℕ) → l ++ zeros 0 ≡ l
@@ -205,11 +207,11 @@ pub copied-more : (d s l : List ℕ) (i : ℕ) → i < length s → Pasted d s 0
 copied-more d s l i h p = subst (λ (k : ℕ). Pasted d s 0 (i + 1) (set l k (getD s i 0))) (zero-add i) (pasted-more d s l 0 i h p)
 
 -- a zero block taken from zeros
-pub zero-entry : (at size : ℕ) (l after : List ℕ) → size ≤ 256 → after ≡ put at (entryBlock 0 (take size (zeros 256))) l → after ≡ put at (entryBlock 0 (zeros size)) l
-zero-entry at size l after h e = e ∙ ap (λ (b : List ℕ). put at (entryBlock 0 b) l) (zeros-take 256 size h)
+pub zero-entry : (at size : ℕ) (l after : List ℕ) → size ≤ maxSize → after ≡ put at (entryBlock 0 (take size (zeros maxSize))) l → after ≡ put at (entryBlock 0 (zeros size)) l
+zero-entry at size l after h e = e ∙ ap (λ (b : List ℕ). put at (entryBlock 0 b) l) (zeros-take maxSize size h)
 
-pub zero-length : (size : ℕ) → size ≤ 256 → length (take size (zeros 256)) ≡ size
-zero-length size h = ap length (zeros-take 256 size h) ∙ zeros-length size
+pub zero-length : (size : ℕ) → size ≤ maxSize → length (take size (zeros maxSize)) ≡ size
+zero-length size h = ap length (zeros-take maxSize size h) ∙ zeros-length size
 
 pub cleared-all : (l : List ℕ) (from to i : ℕ) (image : List ℕ) → i ≡ to → Clearing l from i image
     → (n : ℕ) (g : ℕ → List ℕ) → Blocks g n l → Blocks (clearedOf g from to) n image

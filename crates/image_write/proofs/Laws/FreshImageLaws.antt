@@ -11,24 +11,25 @@ use Rattle.image_block.specs.Block.{headBlock, entryBlock}
 use Rattle.byte_lists.specs.Lists.{put, zeros}
 use Rattle.image_block.proofs.Laws.LayoutLaws.{head-length, entry-length}
 use Rattle.byte_lists.proofs.Laws.ZeroLaws.{zeros-length}
-use Rattle.image.specs.Brick.{entryCount, timeAt, heldAt, freshBrick}
+use Rattle.image.specs.Brick.{entryCount, timeAt, meansAt, freshBrick}
 use Rattle.image.specs.Image.{imageBlock, imageOf, imageSize}
 use Rattle.image.specs.Opening.{lendingRefusal}
 use Rattle.image.specs.Parse.{imageBlockAt}
 use Rattle.image_write.specs.Workers.{Blocks, clearedOf}
 use Rattle.image_write.proofs.Laws.BlocksLaws.{blocks-of, blocks-put, blocks-ext, blocks-is, placed}
 use Rattle.image_write.specs.Saving.{freshAfter}
+use Rattle.image_block.specs.Block.{blockBytes}
 
 fresh-block : (s : Settings) (brick : ℕ) (g : ℕ → List ℕ) (k : ℕ) → k < s .capacity + 1
     → clearedOf (placed (placed g 0 (headBlock s brick 1 0)) 1 (entryBlock 0 (zeros (s .size)))) 2 (s .capacity + 1) k ≡ imageBlock s brick (freshBrick s) k
-unfolding clearedOf placed imageBlock freshBrick entryCount timeAt heldAt
+unfolding clearedOf placed imageBlock freshBrick entryCount timeAt meansAt
 fresh-block s brick g zero h = refl
 fresh-block s brick g (suc zero) h = refl
 fresh-block s brick g (suc (suc i)) h =
     rw (le-leb 2 (suc (suc i)) (omega arith), lt-ltb (suc (suc i)) (s .capacity + 1) h, le-ltb (suc i) 1 (omega arith)) refl
 
 pub fresh-made : (s : Settings) (brick : ℕ) (l l₁ l₂ l₃ : List ℕ) → SettingsRange s → length l ≡ imageSize s
-    → l₁ ≡ put 0 (headBlock s brick 1 0) l → l₂ ≡ put 512 (entryBlock 0 (zeros (s .size))) l₁
+    → l₁ ≡ put 0 (headBlock s brick 1 0) l → l₂ ≡ put blockBytes (entryBlock 0 (zeros (s .size))) l₁
     → ((n : ℕ) (g : ℕ → List ℕ) → Blocks g n l₂ → Blocks (clearedOf g 2 (s .capacity + 1)) n l₃)
     → l₃ ≡ imageOf s brick (freshBrick s)
 unfolding imageSize imageOf

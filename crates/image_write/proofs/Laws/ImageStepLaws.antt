@@ -14,7 +14,7 @@ use Rattle.settings.specs.declared.Settings.{Settings}
 use Rattle.image_block.specs.Block.{headBlock, entryBlock, unusedBlock}
 use Rattle.byte_lists.specs.Lists.{put}
 use Rattle.image_block.proofs.Laws.LayoutLaws.{head-length, entry-length}
-use Rattle.image.specs.Brick.{Brick, LogEntry, noEntry, entryCount, timeAt, heldAt}
+use Rattle.image.specs.Brick.{Brick, LogEntry, noEntry, entryCount, timeAt, meansAt}
 use Rattle.image.specs.Image.{imageBlock, imageOf, imageSize}
 use Rattle.image.specs.Brick.{Sound}
 use Rattle.image.proofs.Laws.ImageSoundLaws.{image-length, image-block, block-held, block-unused}
@@ -22,6 +22,7 @@ use Rattle.image_write.specs.Workers.{Blocks, clearedOf, shiftedOf}
 use Rattle.image_write.proofs.Laws.BlocksLaws.{blocks-put, blocks-ext, blocks-is, placed, placed-there, placed-other}
 use Rattle.image_write.specs.Saving.{withPromise, withEntry}
 use Rattle.image_write.specs.Workers.{without}
+use Rattle.image_block.specs.Block.{blockBytes}
 
 pub image-blocks : (s : Settings) (brick : ℕ) (x : Brick) → SettingsRange s → Sound s x → Blocks (imageBlock s brick x) (s .capacity + 1) (imageOf s brick x)
 unfolding imageSize
@@ -30,7 +31,7 @@ image-blocks s brick x range r =
 
 -- two bricks with the same log have the same blocks but for the head
 same-block : (s : Settings) (brick : ℕ) (x y : Brick) → x .log ≡ y .log → (i : ℕ) → imageBlock s brick x (suc i) ≡ imageBlock s brick y (suc i)
-unfolding imageBlock entryCount timeAt heldAt
+unfolding imageBlock entryCount timeAt meansAt
 same-block s brick x y e i =
     ap (λ (l : List LogEntry). cond (ltb i (length l)) (entryBlock (getD l i noEntry .time) (getD l i noEntry .block)) unusedBlock) e
 
@@ -50,7 +51,28 @@ module _ (s : Settings) (brick : ℕ) (x : Brick) (range : SettingsRange s) (r :
           placed-other (imageBlock s brick x) 0 (headBlock s brick (entryCount x) t) (suc i) (λ q. omega (arith, q))
           ∙ same-block s brick x (withPromise x t) refl i
 
+-- a promise leaves the entries
+pub promised-promise : (x : Brick) (t : ℕ) → withPromise x t .promise ≡ t
+unfolding withPromise
+promised-promise x t = refl
+
+pub promised-count : (x : Brick) (t : ℕ) → entryCount (withPromise x t) ≡ entryCount x
+unfolding entryCount withPromise
+promised-count x t = refl
+
+pub promised-time : (x : Brick) (t i : ℕ) → timeAt (withPromise x t) i ≡ timeAt x i
+unfolding timeAt withPromise
+promised-time x t i = refl
+
+pub promised-means : (x : Brick) (t i : ℕ) → meansAt (withPromise x t) i ≡ meansAt x i
+unfolding meansAt withPromise
+promised-means x t i = refl
+
 -- the entries of a log with one more
+pub appended-promise : (x : Brick) (t : ℕ) (block : List ℕ) → withEntry x t block .promise ≡ x .promise
+unfolding withEntry
+appended-promise x t block = refl
+
 pub appended-count : (x : Brick) (t : ℕ) (block : List ℕ) → entryCount (withEntry x t block) ≡ entryCount x + 1
 unfolding entryCount withEntry
 appended-count x t block = length-append (x .log) (record { time = t; block = block } ∷ [])
@@ -67,17 +89,17 @@ pub appended-time-old : (x : Brick) (t : ℕ) (block : List ℕ) (i : ℕ) → i
 unfolding timeAt
 appended-time-old x t block i h = ap (λ (e : LogEntry). e .time) (appended-old x t block i h)
 
-pub appended-held-old : (x : Brick) (t : ℕ) (block : List ℕ) (i : ℕ) → i < entryCount x → heldAt (withEntry x t block) i ≡ heldAt x i
-unfolding heldAt
-appended-held-old x t block i h = ap (λ (e : LogEntry). e .block) (appended-old x t block i h)
+pub appended-means-old : (x : Brick) (t : ℕ) (block : List ℕ) (i : ℕ) → i < entryCount x → meansAt (withEntry x t block) i ≡ meansAt x i
+unfolding meansAt
+appended-means-old x t block i h = ap (λ (e : LogEntry). e .block) (appended-old x t block i h)
 
 pub appended-time-new : (x : Brick) (t : ℕ) (block : List ℕ) → timeAt (withEntry x t block) (entryCount x) ≡ t
 unfolding timeAt
 appended-time-new x t block = ap (λ (e : LogEntry). e .time) (appended-new x t block)
 
-pub appended-held-new : (x : Brick) (t : ℕ) (block : List ℕ) → heldAt (withEntry x t block) (entryCount x) ≡ block
-unfolding heldAt
-appended-held-new x t block = ap (λ (e : LogEntry). e .block) (appended-new x t block)
+pub appended-means-new : (x : Brick) (t : ℕ) (block : List ℕ) → meansAt (withEntry x t block) (entryCount x) ≡ block
+unfolding meansAt
+appended-means-new x t block = ap (λ (e : LogEntry). e .block) (appended-new x t block)
 
 appended-head : (s : Settings) (brick : ℕ) (x : Brick) (t : ℕ) (block : List ℕ)
     → headBlock s brick (entryCount (withEntry x t block)) (x .promise) ≡ imageBlock s brick (withEntry x t block) 0
@@ -98,14 +120,14 @@ module _ (s : Settings) (brick : ℕ) (x : Brick) (t : ℕ) (block : List ℕ) w
           ∙ placed-there (imageBlock s brick x) (entryCount x + 1) (entryBlock t block)
           ∙ sym (ap₂ (λ (a : ℕ) (b : List ℕ). entryBlock a b)
           (ap (λ (k : ℕ). timeAt (withEntry x t block) k) q ∙ appended-time-new x t block)
-          (ap (λ (k : ℕ). heldAt (withEntry x t block) k) q ∙ appended-held-new x t block))
+          (ap (λ (k : ℕ). meansAt (withEntry x t block) k) q ∙ appended-means-new x t block))
           ∙ sym (block-held s brick (withEntry x t block) i (omega (arith, q, appended-count x t block)))
       go (no q) = placed-other (imageBlock s brick x) (entryCount x + 1) (entryBlock t block) (suc i) (λ w. q (omega (arith, w))) ∙ other (decLt i (entryCount x))
         where
           other : Dec (i < entryCount x) → imageBlock s brick x (suc i) ≡ imageBlock s brick (withEntry x t block) (suc i)
           other (yes h) =
               block-held s brick x i h
-              ∙ sym (ap₂ (λ (a : ℕ) (b : List ℕ). entryBlock a b) (appended-time-old x t block i h) (appended-held-old x t block i h))
+              ∙ sym (ap₂ (λ (a : ℕ) (b : List ℕ). entryBlock a b) (appended-time-old x t block i h) (appended-means-old x t block i h))
               ∙ sym (block-held s brick (withEntry x t block) i (omega (arith, h, appended-count x t block)))
           other (no h) =
               let past : entryCount x + 1 ≤ i = omega (arith, h, q) in
@@ -114,7 +136,7 @@ module _ (s : Settings) (brick : ℕ) (x : Brick) (t : ℕ) (block : List ℕ) w
 
   -- a Write writes the entry and the head
   pub append-written : SettingsRange s → Sound s x → entryCount x < s .capacity → length block ≡ s .size
-      → put 0 (headBlock s brick (entryCount x + 1) (x .promise)) (put (512 * (entryCount x + 1)) (entryBlock t block) (imageOf s brick x)) ≡ imageOf s brick (withEntry x t block)
+      → put 0 (headBlock s brick (entryCount x + 1) (x .promise)) (put (blockBytes * (entryCount x + 1)) (entryBlock t block) (imageOf s brick x)) ≡ imageOf s brick (withEntry x t block)
   unfolding imageOf
   append-written range r free size =
       blocks-is (imageBlock s brick (withEntry x t block)) (s .capacity + 1) _
@@ -140,6 +162,10 @@ module _ (s : Settings) (brick : ℕ) (x : Brick) (t : ℕ) (block : List ℕ) w
           ∙ append-block i
 
 -- the entries of a log without its first d
+pub without-none : (x : Brick) → x ≡ without x 0
+unfolding without
+without-none x = refl
+
 pub without-count : (x : Brick) (d : ℕ) → entryCount (without x d) ≡ entryCount x - d
 unfolding entryCount without
 without-count x d = length-drop d (x .log)
@@ -148,9 +174,9 @@ pub without-time : (x : Brick) (d i : ℕ) → timeAt (without x d) i ≡ timeAt
 unfolding timeAt without
 without-time x d i = ap (λ (e : LogEntry). e .time) (getD-drop d (x .log) i noEntry)
 
-pub without-held : (x : Brick) (d i : ℕ) → heldAt (without x d) i ≡ heldAt x (d + i)
-unfolding heldAt without
-without-held x d i = ap (λ (e : LogEntry). e .block) (getD-drop d (x .log) i noEntry)
+pub without-means : (x : Brick) (d i : ℕ) → meansAt (without x d) i ≡ meansAt x (d + i)
+unfolding meansAt without
+without-means x d i = ap (λ (e : LogEntry). e .block) (getD-drop d (x .log) i noEntry)
 
 without-head : (s : Settings) (brick : ℕ) (x : Brick) (d : ℕ) → headBlock s brick (entryCount (without x d)) (x .promise) ≡ imageBlock s brick (without x d) 0
 unfolding without imageBlock
@@ -170,7 +196,7 @@ module _ (s : Settings) (brick : ℕ) (x : Brick) (d : ℕ) (low : d < entryCoun
           rw (lt-leb (entryCount x - d + 1) (suc i) (omega arith), le-leb 1 (suc i) (omega arith), le-leb (suc i) (entryCount x - d) (omega arith))
           (ap (λ (k : ℕ). imageBlock s brick x k) e
           ∙ block-held s brick x (d + i) (omega arith)
-          ∙ sym (ap₂ (λ (a : ℕ) (b : List ℕ). entryBlock a b) (without-time x d i) (without-held x d i))
+          ∙ sym (ap₂ (λ (a : ℕ) (b : List ℕ). entryBlock a b) (without-time x d i) (without-means x d i))
           ∙ sym (block-held s brick (without x d) i (omega (arith, without-count x d))))
       go (no h) (yes c) =
           rw (le-leb (entryCount x - d + 1) (suc i) (omega arith), lt-ltb (suc i) (entryCount x + 1) (omega arith))

@@ -8,6 +8,7 @@ use Rattle.image_block.proofs.Laws.LayoutLaws.{unused-length}
 use Rattle.image_write.proofs.Laws.BlocksLaws.{Clearing, clearing-none, clearing-more}
 use Rattle.image_write.proofs.clear_blocks.Statement.{statement}
 use Rattle.image_write.proofs.clear_blocks.Tie as tie
+use Rattle.image_block.specs.Block.{blockBytes}
 
 abbrev Inv-loop : tie.InvT-loop
 Inv-loop image₀ from to b k₀ image k = (k ≤ to) × Clearing image₀ from k image
@@ -29,7 +30,7 @@ slice-aggregate-store c = search needs
 
 store-requires : tie.Need-store-requires Inv-loop μ-loop
 store-requires c κs =
-    let n : length (c .before .before .before .before .unused .result) ≡ 512 = ap length (c .before .before .before .before .unused .ensures) ∙ unused-length in
+    let n : length (c .before .before .before .before .unused .result) ≡ blockBytes = ap length (c .before .before .before .before .unused .ensures) ∙ unused-length in
     omega arith
 
 add-k : tie.Need-add-k Inv-loop μ-loop

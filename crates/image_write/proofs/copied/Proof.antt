@@ -7,16 +7,17 @@ use Rattle.byte_lists.proofs.Laws.ZeroLaws.{zeros-length}
 use Rattle.image_write.proofs.Laws.BlocksLaws.{copied-all}
 use Rattle.image_write.proofs.copied.Statement.{statement}
 use Rattle.image_write.proofs.copied.Tie as tie
+use Rattle.image_block.specs.Block.{blockBytes}
 
 abbrev Inv-loop : tie.InvT-loop
-Inv-loop part b₀ i₀ b i = Pasted (zeros 512) part 0 i b
+Inv-loop part b₀ i₀ b i = Pasted (zeros blockBytes) part 0 i b
 
 abbrev μ-loop : tie.MeasureT-loop
-μ-loop part b₀ i₀ b i = 512 - i
+μ-loop part b₀ i₀ b i = blockBytes - i
 
 loop-holds : tie.Need-loop-holds Inv-loop μ-loop
 unfolding zeros
-loop-holds c = pasted-none (zeros 512) _ 0 (omega (arith, zeros-length 512))
+loop-holds c = pasted-none (zeros blockBytes) _ 0 (omega (arith, zeros-length blockBytes))
 
 shared-slice-read-b : tie.Need-shared-slice-read-b Inv-loop μ-loop
 shared-slice-read-b c = omega arith

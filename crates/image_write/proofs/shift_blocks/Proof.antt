@@ -8,6 +8,7 @@ use Rattle.image.proofs.Laws.ScanLaws.{part-is}
 use Rattle.image_write.proofs.Laws.BlocksLaws.{Shifting, shifting-none, shifting-more, shifted-all, block-long}
 use Rattle.image_write.proofs.shift_blocks.Statement.{statement}
 use Rattle.image_write.proofs.shift_blocks.Tie as tie
+use Rattle.image_block.specs.Block.{blockBytes}
 
 abbrev Inv-loop : tie.InvT-loop
 Inv-loop image₀ d kept k₀ image k = (k ≤ kept) × Shifting image₀ d k image
@@ -40,7 +41,7 @@ part-copied-end : tie.Need-part-copied-end Inv-loop μ-loop
 part-copied-end c = omega arith
 
 long : (c : tie.After-copied-arg Inv-loop μ-loop)
-    → length (imageBlockAt (c .before .before .before .loop .image) (c .before .before .before .before .before .args .d + c .before .before .before .loop .k + 1)) ≡ 512
+    → length (imageBlockAt (c .before .before .before .loop .image) (c .before .before .before .before .before .args .d + c .before .before .before .loop .k + 1)) ≡ blockBytes
 long c = block-long _ _ (omega arith)
 
 copied-requires : tie.Need-copied-requires Inv-loop μ-loop
@@ -58,7 +59,7 @@ slice-aggregate-store c = search needs
 store-requires : tie.Need-store-requires Inv-loop μ-loop
 store-requires c κs =
     let a = c .before .before .before in
-    let n : length (c .before .before .copied .result) ≡ 512 = ap length (c .before .before .copied .ensures ∙ part-is _ _ _ refl) ∙ long a in
+    let n : length (c .before .before .copied .result) ≡ blockBytes = ap length (c .before .before .copied .ensures ∙ part-is _ _ _ refl) ∙ long a in
     omega arith
 
 add-k : tie.Need-add-k Inv-loop μ-loop

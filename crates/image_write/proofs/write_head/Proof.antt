@@ -7,6 +7,7 @@ use Rattle.image_write.proofs.Laws.BlocksLaws.{put-as}
 use borrow.Author.Needs.{needs}
 use Rattle.image_write.proofs.write_head.Statement.{statement}
 use Rattle.image_write.proofs.write_head.Tie as tie
+use Rattle.image_block.specs.Block.{blockBytes}
 
 head-requires : tie.Need-head-requires
 head-requires c κs = search needs
@@ -17,7 +18,7 @@ slice-aggregate-store c = search needs
 store-requires : tie.Need-store-requires
 unfolding imageSize
 store-requires c κs =
-    let n : length (c .before .before .head .result) ≡ 512 = ap length (c .before .before .head .ensures) ∙ head-length _ _ _ _ in
+    let n : length (c .before .before .head .result) ≡ blockBytes = ap length (c .before .before .head .ensures) ∙ head-length _ _ _ _ in
     omega arith
 
 same-length : tie.Need-same-length

@@ -6,6 +6,8 @@ use Rattle.image_write.proofs.Laws.BlocksLaws.{zero-entry, zero-length}
 use borrow.Author.Needs.{needs}
 use Rattle.image_write.proofs.write_zero_entry.Statement.{statement}
 use Rattle.image_write.proofs.write_zero_entry.Tie as tie
+use Rattle.image_block.specs.Block.{blockBytes}
+use Rattle.settings.specs.Ranges.{maxSize}
 
 array-share-prefix-zero : tie.Need-array-share-prefix-zero
 array-share-prefix-zero c = search needs
@@ -16,14 +18,14 @@ slice-aggregate-write-entry c = sym (zero-length _ (c .before .before .before .p
 
 write-entry-requires : tie.Need-write-entry-requires
 unfolding zeros
-write-entry-requires c κs = (c .before .before .before .pre .0, subst (λ (k : ℕ). k ≤ 256) (sym (zero-length _ (c .before .before .before .pre .1))) (c .before .before .before .pre .1))
+write-entry-requires c κs = (c .before .before .before .pre .0, subst (λ (k : ℕ). k ≤ maxSize) (sym (zero-length _ (c .before .before .before .pre .1))) (c .before .before .before .pre .1))
 
 same-length : tie.Need-same-length
 same-length c = search needs
 
 returns : tie.Need-returns
 unfolding zeros
-returns c = zero-entry 512 _ _ _ (c .before .before .before .before .before .before .pre .1) (c .before .before .write-entry .ensures)
+returns c = zero-entry blockBytes _ _ _ (c .before .before .before .before .before .before .pre .1) (c .before .before .write-entry .ensures)
 
 pub write-zero-entry-spec : {M : Type 1} → statement M
 write-zero-entry-spec =

@@ -1,21 +1,24 @@
 -- One message at one brick: the history grows by one fact at most, and what holds of the brick and of its reply.
-use mathlib.Core.Path.{_≡_, refl, sym, subst}
+use mathlib.Core.Path.{_≡_, refl, sym, ap, subst, _∙_}
 use mathlib.Core.Logic.{_⊎_, inl, inr}
 use mathlib.Core.Bool.{Bool, true, false, cond}
-use mathlib.Core.List.{List, [], _∷_, _++_, append-nil, Memᴰ·append-left, Memᴰ·append-right, List·Memᴰ·head, List·Memᴰ·append-cases, List·Memᴰ·eq-of-singleton}
-use Prim.Native.Nat.{ℕ, zero, suc, _-_, _≤_, _<_}
+use mathlib.Core.List.{List, [], _∷_, append-nil}
+use Prim.Native.Nat.{ℕ, zero, suc, _+_, _-_, _≤_, _<_}
 use native.Mathlib.Omega.{arith}
+use native.Mathlib.Decide.{decLt}
 use lib.Dec.{ltb}
-use lib.ListN.{length}
 use borrow.Author.Tests.{ltb-true, ltb-false, leb-true}
 use Rattle.settings.specs.Ranges.{SettingsRange}
 use Rattle.byte_lists.proofs.Laws.BoolLaws.{and-left, and-right}
 use Rattle.settings.specs.declared.Settings.{Settings}
-use Rattle.image.specs.Brick.{Brick, LogEntry, entryCount, timeAt, heldAt, newest}
+use Rattle.image.proofs.Laws.LogPlaceLaws.{newest-at}
+use Rattle.image_write.proofs.Laws.ImageStepLaws.{promised-promise, promised-count, promised-time, promised-means, appended-promise, appended-count, appended-time-old, appended-means-old, appended-time-new, appended-means-new}
+use Rattle.brick_log.proofs.Laws.TrimLaws.{Trims, trim-places}
+use Rattle.brick.proofs.Laws.BrickLaws.{by-place}
+use Rattle.image.specs.Brick.{Brick, entryCount, timeAt, meansAt, newest}
 use Rattle.image.specs.Brick.{Sound}
 use Rattle.image_write.specs.Saving
-use Rattle.brick_log.specs.BrickRules.{aboveNewest, notBelowPromise, hasFree, readYes, orderYes, writeYes, trimmed, trimmedTo, under}
-use Rattle.order.specs.Claim.{_∈_}
+use Rattle.brick_log.specs.BrickRules.{aboveNewest, notBelowPromise, hasFree, readYes, orderYes, writeYes, trimmedTo, under}
 use Rattle.order.specs.Facts.{Fact, promised, stored, showed, seen, shows}
 use Rattle.order.specs.Places.{Suf, whole, above, In}
 use Rattle.order.proofs.Laws.PlaceLaws.{in-top}
@@ -23,9 +26,8 @@ use Rattle.order.specs.Valid.{Began, Launched, Committed, Gone, OkPromised, OkS
 use Rattle.order.proofs.Laws.GoneLaws.{gone-up}
 use Rattle.coord_apply.specs.Answers.{Buffered}
 use Rattle.register.specs.Runs.{plain, Item}
-use Rattle.register.proofs.Laws.Invariant.{quorums, Hist, Means, Stands, BrickInv, CoordinatorInv}
+use Rattle.register.proofs.Laws.Invariant.{quorums, Hist, Means, Stands, LogHas, BrickInv, CoordinatorInv}
 use Rattle.register.proofs.Laws.UpLaws.{in-cons, means-up, stands-up, AtBrick, AtCoordinator, brick-up, coordinator-up}
-use Rattle.register.proofs.Laws.LogLaws.{trimmed-in, trimmed-keeps, newest-entry}
 
 -- The history grows by what concerns brick b alone, and nothing is seen of it.
 pub record Grows (s : Settings) (g : SettingsRange s) (b : ℕ) (h h′ : Hist s) : Type 0 where
@@ -77,17 +79,24 @@ pub read-settled : (x : Brick) → readYes x ≡ true → x .promise ≤ newest 
 unfolding readYes notBelowPromise
 read-settled x e = leb-true (x .promise) (newest x) e
 
+-- what holds of a time and a block holds of their equals
+pub carried : {s : Settings} {h : Hist s} {b t t′ : ℕ} {block block′ : List ℕ} → t′ ≡ t → block′ ≡ block
+    → Stands h b t × Means s h t b block → Stands h b t′ × Means s h t′ b block′
+carried {s} {h} {b} {t} {t′} {block} {block′} e q w =
+    subst (λ (u : ℕ). Stands h b u × Means s h u b block′) (sym e) (subst (λ (c : List ℕ). Stands h b t × Means s h t b c) (sym q) w)
+
 module _ {s : Settings} {g : SettingsRange s} {b : ℕ} {h : Hist s} {x : Brick} (i : BrickInv s g h b x) (r : Sound s x) where
   -- a yes to Order or Order-and-read
   pub ok-promised : (t : ℕ) → Began h t → orderYes x t ≡ true → OkPromised h b t
   ok-promised t k e = record { known = k; rising = λ u p. let w = i .bounded u p in omega (arith, order-above x t e .1) }
 
   pub brick-promised : (t : ℕ) → Valid (quorums s g) (promised b t ∷ h) → orderYes x t ≡ true → BrickInv s g (promised b t ∷ h) b (Saving.withPromise x t)
-  unfolding Saving.withPromise
   brick-promised t v e =
       record {
-        bounded = λ u p. bound u (in-cons p);
-        entries = λ d m. let w = i .entries d m in (stands-up (above whole) (w .0), means-up (above whole) (w .1));
+        bounded = λ u p. subst (λ (k : ℕ). u ≤ k) (sym (promised-promise x t)) (bound u (in-cons p));
+        entries = λ j l.
+            let w = i .entries j (omega (arith, l, promised-count x t)) in
+            carried (promised-time x t j) (promised-means x t j) (stands-up (above whole) (w .0), means-up (above whole) (w .1));
         kept = λ u w. keep u (i .kept u (before u w));
       }
     where
@@ -103,9 +112,8 @@ module _ {s : Settings} {g : SettingsRange s} {b : ℕ} {h : Hist s} {x : Brick}
       before u (inl q) = inl q
       before u (inr p) = old u (in-cons p)
 
-      keep : (u : ℕ) → ((d : LogEntry) × (d ∈ x .log) × (d .time ≡ u)) ⊎ Gone (quorums s g) h u
-          → ((d : LogEntry) × (d ∈ x .log) × (d .time ≡ u)) ⊎ Gone (quorums s g) (promised b t ∷ h) u
-      keep u (inl w) = inl w
+      keep : (u : ℕ) → LogHas x u ⊎ Gone (quorums s g) h u → LogHas (Saving.withPromise x t) u ⊎ Gone (quorums s g) (promised b t ∷ h) u
+      keep u (inl (j, l, q)) = inl (j, omega (arith, l, promised-count x t), promised-time x t j ∙ q)
       keep u (inr w) = inr (gone-up v (above whole) w)
 
   -- a yes to Write
@@ -114,80 +122,76 @@ module _ {s : Settings} {g : SettingsRange s} {b : ℕ} {h : Hist s} {x : Brick}
 
   pub brick-stored : (t : ℕ) (block : List ℕ) → Valid (quorums s g) (stored b t ∷ h) → Means s h t b block
       → BrickInv s g (stored b t ∷ h) b (Saving.withEntry x t block)
-  unfolding Saving.withEntry
   brick-stored t block v means =
       record {
-        bounded = λ u p. bound u (in-cons p);
-        entries = λ d m. entry d (List·Memᴰ·append-cases (x .log) m);
+        bounded = λ u p. subst (λ (k : ℕ). u ≤ k) (sym (appended-promise x t block)) (bound u (in-cons p));
+        entries = λ j l. entry j (omega (arith, l, appended-count x t block));
         kept = λ u w. stood u w;
       }
     where
-      new : LogEntry
-      new = record { time = t; block = block }
-
       bound : (u : ℕ) → (_≡_ {A = Fact (plain s)} (promised b u) (stored b t)) ⊎ In (promised b u) h → u ≤ x .promise
       bound u (inl q) = let z : _≡_ {A = ℕ} 0 1 = cc in absurd (omega arith)
       bound u (inr p) = i .bounded u p
 
-      entry : (d : LogEntry) → (d ∈ x .log) ⊎ (d ∈ (new ∷ [])) → Stands (stored b t ∷ h) b (d .time) × Means s (stored b t ∷ h) (d .time) b (d .block)
-      entry d (inl m) = let w = i .entries d m in (stands-up (above whole) (w .0), means-up (above whole) (w .1))
-      entry d (inr m) =
-          subst (λ (z : LogEntry). Stands (stored b t ∷ h) b (z .time) × Means s (stored b t ∷ h) (z .time) b (z .block))
-          (sym (List·Memᴰ·eq-of-singleton m)) (inr in-top, means-up (above whole) means)
+      entry : (j : ℕ) → j < entryCount x + 1 → Stands (stored b t ∷ h) b (timeAt (Saving.withEntry x t block) j)
+          × Means s (stored b t ∷ h) (timeAt (Saving.withEntry x t block) j) b (meansAt (Saving.withEntry x t block) j)
+      entry = by-place (entryCount x)
+          (λ j l. let w = i .entries j l in
+          carried (appended-time-old x t block j l) (appended-means-old x t block j l) (stands-up (above whole) (w .0), means-up (above whole) (w .1)))
+          (carried (appended-time-new x t block) (appended-means-new x t block) (inr in-top, means-up (above whole) means))
 
-      keep : (u : ℕ) → ((d : LogEntry) × (d ∈ x .log) × (d .time ≡ u)) ⊎ Gone (quorums s g) h u
-          → ((d : LogEntry) × (d ∈ (x .log ++ new ∷ [])) × (d .time ≡ u)) ⊎ Gone (quorums s g) (stored b t ∷ h) u
-      keep u (inl w) = inl (w .0, Memᴰ·append-left (new ∷ []) (w .1), w .2)
+      keep : (u : ℕ) → LogHas x u ⊎ Gone (quorums s g) h u → LogHas (Saving.withEntry x t block) u ⊎ Gone (quorums s g) (stored b t ∷ h) u
+      keep u (inl (j, l, q)) = inl (j, omega (arith, l, appended-count x t block), appended-time-old x t block j l ∙ q)
       keep u (inr w) = inr (gone-up v (above whole) w)
 
       one : (u : ℕ) → (_≡_ {A = Fact (plain s)} (stored b u) (stored b t)) ⊎ In (stored b u) h
-          → ((d : LogEntry) × (d ∈ (x .log ++ new ∷ [])) × (d .time ≡ u)) ⊎ Gone (quorums s g) (stored b t ∷ h) u
-      one u (inl q) = let z : t ≡ u = cc in inl (new, Memᴰ·append-right (x .log) (List·Memᴰ·head refl), z)
+          → LogHas (Saving.withEntry x t block) u ⊎ Gone (quorums s g) (stored b t ∷ h) u
+      one u (inl q) = let z : t ≡ u = cc in inl (entryCount x, omega (arith, appended-count x t block), appended-time-new x t block ∙ z)
       one u (inr p) = keep u (i .kept u (inr p))
 
-      stood : (u : ℕ) → Stands (stored b t ∷ h) b u
-          → ((d : LogEntry) × (d ∈ (x .log ++ new ∷ [])) × (d .time ≡ u)) ⊎ Gone (quorums s g) (stored b t ∷ h) u
+      stood : (u : ℕ) → Stands (stored b t ∷ h) b u → LogHas (Saving.withEntry x t block) u ⊎ Gone (quorums s g) (stored b t ∷ h) u
       stood u (inl q) = keep u (i .kept u (inl q))
       stood u (inr p) = one u (in-cons p)
 
+  newest-there : Stands h b (newest x) × Means s h (newest x) b (meansAt x (entryCount x - 1))
+  newest-there =
+      let e = newest-at x (entryCount x - 1) refl in
+      carried e refl (i .entries (entryCount x - 1) (omega (arith, r .count-low)))
+
   -- a yes to Read
   pub ok-showed : (t : ℕ) → Began h t → readYes x ≡ true → OkShowed h b t (newest x)
-  unfolding entryCount
   ok-showed t k e =
-      let w = newest-entry x (r .count-low) in
       record {
         known = k;
-        has = subst (λ (z : ℕ). (z ≡ 0) ⊎ In (stored b z) h) (w .2) (i .entries (w .0) (w .1) .0);
+        has = newest-there .0;
         settled = λ u p. let q = i .bounded u p in omega (arith, read-settled x e);
       }
 
-  -- what the newest entry holds
-  pub newest-means : Means s h (newest x) b (heldAt x (entryCount x - 1))
-  unfolding entryCount
-  newest-means =
-      let w = newest-entry x (r .count-low) in
-      subst (λ (z : ℕ). Means s h z b (heldAt x (length (x .log) - 1))) (w .2)
-      (subst (λ (z : List ℕ). Means s h (w .0 .time) b z) (w .3) (i .entries (w .0) (w .1) .1))
+  -- what the newest entry means
+  pub newest-means : Means s h (newest x) b (meansAt x (entryCount x - 1))
+  newest-means = newest-there .1
 
   -- a Trim of a committed time drops only what is gone
   pub brick-trimmed : (t : ℕ) → Committed (quorums s g) h t → BrickInv s g h b (trimmedTo x t)
-  unfolding trimmedTo
-  brick-trimmed t c =
-      record {
-        bounded = i .bounded;
-        entries = λ d m. i .entries d (trimmed-in t (x .log) d m);
-        kept = λ u w. keep u (i .kept u w);
-      }
+  brick-trimmed t c = go (trim-places s x t r)
     where
-      left : (u : ℕ) (d : LogEntry) → d .time ≡ u → (d ∈ trimmed t (x .log)) ⊎ (d .time < t)
-          → ((d : LogEntry) × (d ∈ trimmed t (x .log)) × (d .time ≡ u)) ⊎ Gone (quorums s g) h u
-      left u d e (inl m) = inl (d, m, e)
-      left u d e (inr l) = inr (inl (t, omega arith, c))
-
-      keep : (u : ℕ) → ((d : LogEntry) × (d ∈ x .log) × (d .time ≡ u)) ⊎ Gone (quorums s g) h u
-          → ((d : LogEntry) × (d ∈ trimmed t (x .log)) × (d .time ≡ u)) ⊎ Gone (quorums s g) h u
-      keep u (inl w) = left u (w .0) (w .2) (trimmed-keeps t (x .log) (w .0) (w .1))
-      keep u (inr w) = inr w
+      go : (d : ℕ) × Trims x t d → BrickInv s g h b (trimmedTo x t)
+      go (d, z) =
+          record {
+            bounded = λ u p. subst (λ (k : ℕ). u ≤ k) (sym (z .promise-is)) (i .bounded u p);
+            entries = λ j l. carried (z .times j) (z .means j) (i .entries (d + j) (omega (arith, l, z .count)));
+            kept = λ u w. keep u (i .kept u w);
+          }
+        where
+          keep : (u : ℕ) → LogHas x u ⊎ Gone (quorums s g) h u → LogHas (trimmedTo x t) u ⊎ Gone (quorums s g) h u
+          keep u (inr w) = inr w
+          keep u (inl (j, l, q)) = by (decLt j d)
+            where
+              by : Dec (j < d) → LogHas (trimmedTo x t) u ⊎ Gone (quorums s g) h u
+              by (yes a) = inr (inl (t, omega (arith, z .cut .before j a), c))
+              by (no a) =
+                  let m : d + (j - d) ≡ j = omega arith in
+                  inl (j - d, omega (arith, z .count, l), z .times (j - d) ∙ ap (timeAt x) m ∙ q)
 
 -- What the lookup finds: nothing under max, or the highest under max.
 pub data Found (x : Brick) (max n : ℕ) : ℕ → Type 0 where

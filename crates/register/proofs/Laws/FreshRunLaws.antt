@@ -1,7 +1,7 @@
 -- What holds of a fresh set.
-use mathlib.Core.Path.{_≡_, refl, sym, ap, subst, _∙_}
+use mathlib.Core.Path.{_≡_, refl, sym, ap, _∙_}
 use mathlib.Core.Logic.{_⊎_, inl, inr}
-use mathlib.Core.List.{List, [], _∷_, List·Memᴰ·head, List·Memᴰ·not-nil, List·Memᴰ·eq-of-singleton}
+use mathlib.Core.List.{List, [], _∷_, List·Memᴰ·not-nil}
 use Prim.Native.Nat.{ℕ, _+_, _*_, _<_}
 use native.Mathlib.Omega.{arith}
 use native.Mathlib.Decide.{decLt}
@@ -11,22 +11,22 @@ use lib.Seq.{ext-getD, length-take-le, getD-take, getD-drop}
 use Rattle.settings.specs.Ranges.{SettingsRange}
 use Rattle.settings.specs.declared.Settings.{Settings}
 use Rattle.byte_lists.specs.Lists.{zeros}
-use Rattle.byte_lists.proofs.Laws.ZeroLaws.{zeros-length}
-use Rattle.image.specs.Brick
-use Rattle.image.specs.Brick.{LogEntry, savedTime}
-use Rattle.image.specs.Brick.{Sound}
+use Rattle.image.specs.Brick.{timeAt, meansAt, freshBrick}
+use Rattle.image.proofs.Laws.LogPlaceLaws.{fresh-count, fresh-time, fresh-means}
+use Rattle.image.proofs.Laws.Saved.{fresh-sound}
 use Rattle.erasure.specs.Code.{codedOf}
 use Rattle.erasure.specs.Code.{blockOf, Stripe}
 use Rattle.erasure.proofs.Laws.CodeTheoremLaws.{coded-of-zeros}
 use Rattle.coord_record.specs.Records.{noOp, idleWith}
 use Rattle.coord_laws.proofs.Laws.SoundnessLaws.{none-sized}
-use Rattle.order.specs.Claim.{Plain, _∈_}
+use Rattle.order.specs.Claim.{Plain}
 use Rattle.order.specs.Facts.{Fact, seen}
 use Rattle.order.specs.Places.{Suf, In}
 use Rattle.order.specs.Valid.{start, Val, Gone}
 use Rattle.register.specs.Runs.{plain, zeroStripe, idle, unmoved, freshSet}
-use Rattle.register.proofs.Laws.Invariant.{quorums, Means, Stands, BrickInv, CoordinatorInv, Inv}
-use Rattle.register.proofs.Laws.LogLaws.{Rises, sound-of}
+use Rattle.register.proofs.Laws.Invariant.{quorums, Means, Stands, LogHas, BrickInv, CoordinatorInv, Inv}
+use Rattle.register.proofs.Laws.BrickEvent.{in-range}
+use Rattle.register.proofs.Laws.BrickLogLaws.{carried}
 
 -- nothing stands in an empty history
 pub in-none : {P : Plain} {f : Fact P} → In f [] → ⊥
@@ -79,38 +79,30 @@ zero-stripe s g =
       small = λ i. let z = none (s .m * s .size) i in omega arith;
     }
 
-fresh-sound : (s : Settings) (g : SettingsRange s) → Sound s (Brick.freshBrick s)
-unfolding Brick.freshBrick savedTime Rises
-fresh-sound s g =
-    sound-of s (Brick.freshBrick s) (omega arith) (let a = g .capacity-low in omega arith) refl
-    (record {
-      saved = λ e m. ap (λ (z : LogEntry). savedTime (z .time)) (List·Memᴰ·eq-of-singleton m);
-      sized = λ e m. ap (λ (z : LogEntry). length (z .block)) (List·Memᴰ·eq-of-singleton m) ∙ zeros-length (s .size);
-      rises = (λ x m. absurd (List·Memᴰ·not-nil m), tt);
-    })
-
 module _ (s : Settings) (g : SettingsRange s) where
-  fresh-brick : (b : ℕ) → b < s .n → BrickInv s g [] b (Brick.freshBrick s)
-  unfolding Brick.freshBrick zeroStripe
+  -- the zero block of brick b is that of the zero stripe
+  fresh-zero : (b : ℕ) → b < s .n → Means s [] 0 b (zeros (s .size))
+  unfolding zeroStripe
+  fresh-zero b l =
+      record {
+        full = replicate (s .m * s .size) 0;
+        value = Val.fresh;
+        proper = zero-stripe s g;
+        coded = zeros-are (s .size) ∙ zero-block s g b l;
+      }
+
+  fresh-brick : (b : ℕ) → b < s .n → BrickInv s g [] b (freshBrick s)
   fresh-brick b l =
       record {
         bounded = λ t p. absurd (in-none p);
-        entries = λ e m.
-            subst (λ (z : LogEntry). Stands {P = plain s} [] b (z .time) × Means s [] (z .time) b (z .block)) (sym (List·Memᴰ·eq-of-singleton m)) (
-              inl refl,
-              record {
-                full = replicate (s .m * s .size) 0;
-                value = Val.fresh;
-                proper = zero-stripe s g;
-                coded = zeros-are (s .size) ∙ zero-block s g b l;
-              },
-            );
+        entries = λ j k.
+            let z : j ≡ 0 = omega (arith, k, fresh-count s) in
+            carried (ap (timeAt (freshBrick s)) z ∙ fresh-time s) (ap (meansAt (freshBrick s)) z ∙ fresh-means s) (inl refl, fresh-zero b l);
         kept = λ u w. keep u w;
       }
     where
-      keep : (u : ℕ) → Stands {P = plain s} [] b u
-          → ((e : LogEntry) × (e ∈ (record { time = 0; block = zeros (s .size) } ∷ [])) × (e .time ≡ u)) ⊎ Gone (quorums s g) {P = plain s} [] u
-      keep u (inl e) = inl (record { time = 0; block = zeros (s .size) }, List·Memᴰ·head refl, sym e)
+      keep : (u : ℕ) → Stands {P = plain s} [] b u → LogHas (freshBrick s) u ⊎ Gone (quorums s g) {P = plain s} [] u
+      keep u (inl e) = inl (0, omega (arith, fresh-count s), fresh-time s ∙ sym e)
       keep u (inr p) = absurd (in-none p)
 
   fresh-coordinator : (c : ℕ) → CoordinatorInv s g [] [] c (idle s c)
@@ -124,7 +116,7 @@ module _ (s : Settings) (g : SettingsRange s) where
       record {
         valid = start;
         seen-is = refl;
-        bricks = λ b l. record { state = Brick.freshBrick s; saved = refl; sound = fresh-sound s g; keeps = fresh-brick b l };
+        bricks = λ b l. record { state = freshBrick s; saved = refl; sound = fresh-sound s (in-range s g); keeps = fresh-brick b l };
         items = λ i m. absurd (List·Memᴰ·not-nil m);
         coordinators = fresh-coordinator;
       }

@@ -13,7 +13,7 @@ use Rattle.message.specs.Flags.{member}
 use Rattle.message.specs.Kinds.{readKind, orderKind, orderReadKind, writeKind, trimKind}
 use Rattle.message.specs.declared.Message.{Message}
 use Rattle.message.specs.declared.Reply.{Reply}
-use Rattle.image.specs.Brick.{Brick, LogEntry, Sound}
+use Rattle.image.specs.Brick.{Brick, entryCount, timeAt, meansAt, Sound}
 use Rattle.image.specs.Image.{imageOf}
 use Rattle.erasure.specs.Code.{codedOf, blockOf, Stripe}
 use Rattle.coord_record.specs.Records.{idleKind, readingKind, writingKind}
@@ -52,14 +52,18 @@ pub record Means (s : Settings) (h : Hist s) (t b : ℕ) (block : List ℕ) : Ty
 abbrev pub Stands : {P : Plain} → History P → ℕ → ℕ → Type 0
 Stands h b t = (t ≡ 0) ⊎ In (stored b t) h
 
+-- a time stands at some place of the log
+abbrev pub LogHas : Brick → ℕ → Type 0
+LogHas x u = (j : ℕ) × (j < entryCount x) × (timeAt x j ≡ u)
+
 -- Brick b, in the state x.
 pub record BrickInv (s : Settings) (g : SettingsRange s) (h : Hist s) (b : ℕ) (x : Brick) : Type 0 where
   -- its promise bounds what it promised
   pub bounded : PromisedUpTo h b (x .promise)
-  -- each entry is 0 or stored, and means what its time stands for
-  pub entries : (e : LogEntry) → e ∈ x .log → Stands h b (e .time) × Means s h (e .time) b (e .block)
-  -- what it stored is in its log, or gone
-  pub kept : (u : ℕ) → Stands h b u → ((e : LogEntry) × (e ∈ x .log) × (e .time ≡ u)) ⊎ Gone (quorums s g) h u
+  -- the time at each place is 0 or stored, and the place means what its time stands for
+  pub entries : (j : ℕ) → j < entryCount x → Stands h b (timeAt x j) × Means s h (timeAt x j) b (meansAt x j)
+  -- what it stored is at some place of its log, or gone
+  pub kept : (u : ℕ) → Stands h b u → LogHas x u ⊎ Gone (quorums s g) h u
 
 -- A message to brick b.
 pub record MessageInv (s : Settings) (g : SettingsRange s) (h : Hist s) (b : ℕ) (msg : Message) (block : List ℕ) : Type 0 where

@@ -17,7 +17,7 @@ unfolding Rattle.image_block.specs.Block.weighted Rattle.image_block.specs.Blo
 block-open = tt
 
 unfoldable pub image-open : Unit {0}
-unfolding Rattle.image.specs.Brick.entryCount Rattle.image.specs.Brick.noEntry Rattle.image.specs.Brick.timeAt Rattle.image.specs.Brick.heldAt Rattle.image.specs.Brick.newest Rattle.image.specs.Brick.freshBrick Rattle.image.specs.Brick.savedTime Rattle.image.specs.Brick.risesAt Rattle.image.specs.Brick.entrySound Rattle.image.specs.Brick.countSound Rattle.image.specs.Brick.soundBrick Rattle.image.specs.Image.imageBlock Rattle.image.specs.Image.imageOf Rattle.image.specs.Image.imageSize Rattle.image.specs.Parse.imageBlockAt Rattle.image.specs.Parse.countIn Rattle.image.specs.Parse.promiseIn Rattle.image.specs.Parse.timeIn Rattle.image.specs.Parse.heldIn Rattle.image.specs.Parse.entryIn Rattle.image.specs.Parse.entriesIn Rattle.image.specs.Parse.brickIn Rattle.image.specs.Parse.checkedAt Rattle.image.specs.Parse.isImage Rattle.image.specs.Parse.openRefusal Rattle.image.specs.Parse.parse
+unfolding Rattle.image.specs.Brick.entryCount Rattle.image.specs.Brick.noEntry Rattle.image.specs.Brick.timeAt Rattle.image.specs.Brick.meansAt Rattle.image.specs.Brick.newest Rattle.image.specs.Brick.freshBrick Rattle.image.specs.Brick.savedTime Rattle.image.specs.Brick.risesAt Rattle.image.specs.Brick.entrySound Rattle.image.specs.Brick.countSound Rattle.image.specs.Brick.soundBrick Rattle.image.specs.Image.imageBlock Rattle.image.specs.Image.imageOf Rattle.image.specs.Image.imageSize Rattle.image.specs.Parse.imageBlockAt Rattle.image.specs.Parse.countIn Rattle.image.specs.Parse.promiseIn Rattle.image.specs.Parse.timeIn Rattle.image.specs.Parse.heldIn Rattle.image.specs.Parse.entryIn Rattle.image.specs.Parse.entriesIn Rattle.image.specs.Parse.brickIn Rattle.image.specs.Parse.checkedAt Rattle.image.specs.Parse.isImage Rattle.image.specs.Parse.openRefusal Rattle.image.specs.Parse.parse
 image-open = tt
 
 unfoldable pub saving-open : Unit {0}

@@ -7,7 +7,7 @@ use Prim.Native.Nat.{ℕ, suc, _-_, _≤_, _<_}
 use native.Mathlib.Omega.{arith}
 use native.Mathlib.Decide.{ℕ-discrete}
 use lib.Dec.{leb, eqb}
-use lib.ListN.{length, getD}
+use lib.ListN.{length}
 use borrow.Author.Tests.{leb-true, leb-false, eqb-true, eq-eqb, ne-eqb}
 use Rattle.settings.specs.Ranges.{SettingsRange}
 use Rattle.settings.specs.Refusal.{refuseUnless}
@@ -17,7 +17,7 @@ use Rattle.message.specs.Flags.{member, brickSet}
 use Rattle.message.specs.Messages.{roundRight, kindRight, messageRefusal}
 use Rattle.message.specs.declared.Message.{Message}
 use Rattle.message.specs.declared.Reply.{Reply}
-use Rattle.image.specs.Brick.{Brick, LogEntry, noEntry, entryCount, timeAt, heldAt, newest}
+use Rattle.image.specs.Brick.{Brick, entryCount, timeAt, meansAt, newest}
 use Rattle.image.specs.Brick.{Sound}
 use Rattle.image_write.specs.Saving
 use Rattle.brick_log.specs.BrickRules.{readYes, orderYes, writeYes, orderedIfYes, writtenIfYes, trimmedTo, under, lookup, placeFor, timeFor, foundFor, yesTo, replyTo, brickAfter, blockAfter}
@@ -28,11 +28,11 @@ use Rattle.order.proofs.Laws.PlaceLaws.{in-top}
 use Rattle.order.specs.Valid.{Gone, Valid}
 use Rattle.order.proofs.Laws.GoneLaws.{gone-up}
 use Rattle.register.specs.Runs.{plain, Item, message}
-use Rattle.register.proofs.Laws.Invariant.{quorums, Hist, Means, Stands, BrickInv, MessageInv, Looked, ReplyInv}
+use Rattle.register.proofs.Laws.Invariant.{quorums, Hist, Means, Stands, LogHas, BrickInv, MessageInv, Looked, ReplyInv}
 use Rattle.register.proofs.Laws.UpLaws.{Within, in-cons, means-up, stands-up, brick-up}
-use Rattle.register.proofs.Laws.LogLaws.{at-member, member-at, rises-at, proper, at-most-newest, sound-promised, sound-appended, sound-trimmed}
+use Rattle.image.proofs.Laws.LogPlaceLaws.{saved-valid, rises-to, at-most-newest}
 use Rattle.register.proofs.Laws.BrickLogLaws.{Grows, grows-not, grows-promised, grows-stored, grows-showed, order-above, write-above, ok-promised, brick-promised, ok-stored, brick-stored, ok-showed, newest-means, brick-trimmed, Found, none, entry, found-under}
-use Rattle.brick.proofs.Laws.BrickLaws.{saved-valid}
+use Rattle.brick.proofs.Laws.BrickLaws.{promised-sound, appended-sound, trimmed-sound}
 
 -- what a message that is not refused satisfies
 pub record Sensible (msg : Message) : Type 0 where
@@ -161,8 +161,8 @@ module _ {s : Settings} {g : SettingsRange s} {h : Hist s} {sent : List Item} {b
       place-is : readYes x ≡ true → placeFor b x msg ≡ cond (member (msg .targets) b) (entryCount x) 0
       place-is y = rw (eq-eqb (msg .kind) 1 e, y) refl
 
-      held-block : (p : ℕ) (a : Bool) → p ≡ cond a (entryCount x) 0 → not (eqb p 0) ≡ true → cond (eqb p 0) out (heldAt x (p - 1)) ≡ heldAt x (entryCount x - 1)
-      held-block p true q d = ap (λ (k : ℕ). cond (eqb k 0) out (heldAt x (k - 1))) q ∙ rw (ne-eqb (entryCount x) 0 (λ w. omega (arith, w, r .count-low))) refl
+      held-block : (p : ℕ) (a : Bool) → p ≡ cond a (entryCount x) 0 → not (eqb p 0) ≡ true → cond (eqb p 0) out (meansAt x (p - 1)) ≡ meansAt x (entryCount x - 1)
+      held-block p true q d = ap (λ (k : ℕ). cond (eqb k 0) out (meansAt x (k - 1))) q ∙ rw (ne-eqb (entryCount x) 0 (λ w. omega (arith, w, r .count-low))) refl
       held-block p false q d = let w : not (eqb 0 0) ≡ true = subst (λ (k : ℕ). not (eqb k 0) ≡ true) q d in let u : _≡_ {A = ℕ} 0 1 = cc in absurd (omega arith)
 
       go : (y : Bool) → readYes x ≡ y → Received s g h sent b x msg block out
@@ -219,7 +219,7 @@ module _ {s : Settings} {g : SettingsRange s} {h : Hist s} {sent : List Item} {b
           record {
             later = promised b (msg .time) ∷ h;
             grows = gr;
-            sound = subst (Sound s) (sym q) (sound-promised s x (msg .time) r (saved-valid (msg .time) (ok .time-valid)));
+            sound = subst (Sound s) (sym q) (promised-sound s x (msg .time) r (saved-valid (msg .time) (ok .time-valid)));
             keeps = subst (BrickInv s g (promised b (msg .time) ∷ h) b) (sym q) (brick-promised i r (msg .time) (gr .valid) y);
             answers = λ n new w.
                 reply-order s g (promised b (msg .time) ∷ h) new (replyTo s b x msg) (blockAfter x (placeFor b x msg) out) (z .brick-low) e in-top;
@@ -255,21 +255,9 @@ module _ {s : Settings} {g : SettingsRange s} {h : Hist s} {sent : List Item} {b
       before u (inr p) = old u (in-cons p)
 
       -- what the brick has of u is in the log at some place, or gone
-      placed : Valid (quorums s g) later → (u : ℕ) → ((d : LogEntry) × (d ∈ x .log) × (d .time ≡ u)) ⊎ Gone (quorums s g) h u
-          → ((j : ℕ) × (j < entryCount x) × (timeAt x j ≡ u)) ⊎ Gone (quorums s g) later u
-      placed w u (inl d) =
-          unfold entryCount timeAt in
-          (let k = member-at (x .log) (d .1) in inl (k .0, k .1, ap (λ (q : LogEntry). q .time) (k .2) ∙ d .2))
+      placed : Valid (quorums s g) later → (u : ℕ) → LogHas x u ⊎ Gone (quorums s g) h u → LogHas x u ⊎ Gone (quorums s g) later u
+      placed w u (inl d) = inl d
       placed w u (inr d) = inr (gone-up w (above whole) d)
-
-      rising : (j k : ℕ) → j ≤ k → k < entryCount x → timeAt x j ≤ timeAt x k
-      rising j k a c = by (ℕ-discrete j k)
-        where
-          by : Dec (j ≡ k) → timeAt x j ≤ timeAt x k
-          by (yes q) = let w = ap (timeAt x) q in omega arith
-          by (no q) =
-              unfold entryCount timeAt in
-              (let w = rises-at (x .log) (proper s x r .rises) j k (omega arith) c in omega arith)
 
       answer : Valid (quorums s g) later → orderYes x (msg .time) ≡ true → (new : List Item) → Within sent new → (p : ℕ) → placeFor b x msg ≡ p → Found x (msg .max) (entryCount x) p
           → ReplyInv s g later new (replyTo s b x msg) (blockAfter x (placeFor b x msg) out)
@@ -288,7 +276,7 @@ module _ {s : Settings} {g : SettingsRange s} {h : Hist s} {sent : List Item} {b
           never : not (eqb (placeFor b x msg) 0) ≡ true → ⊥
           never d = let k : not (eqb 0 0) ≡ true = subst (λ (a : ℕ). not (eqb a 0) ≡ true) q d in let a : _≡_ {A = ℕ} 0 1 = cc in omega arith
 
-          here : (u : ℕ) → u < msg .max → ((j : ℕ) × (j < entryCount x) × (timeAt x j ≡ u)) ⊎ Gone (quorums s g) later u
+          here : (u : ℕ) → u < msg .max → LogHas x u ⊎ Gone (quorums s g) later u
               → ((not (eqb (placeFor b x msg) 0) ≡ true) × (u ≤ foundFor b x msg)) ⊎ Gone (quorums s g) later u
           here u m (inl k) = absurd (omega (arith, f (k .0) (k .1), k .2))
           here u m (inr k) = inr k
@@ -312,19 +300,19 @@ module _ {s : Settings} {g : SettingsRange s} {h : Hist s} {sent : List Item} {b
           found = found-is ∙ ap (λ (k : ℕ). cond (eqb k 0) 0 (timeAt x (k - 1))) q
               ∙ rw (ne-eqb (suc j) 0 (λ a. omega (arith, a))) (ap (timeAt x) less)
 
-          block-at : cond (eqb (placeFor b x msg) 0) out (heldAt x (placeFor b x msg - 1)) ≡ heldAt x j
-          block-at = ap (λ (k : ℕ). cond (eqb k 0) out (heldAt x (k - 1))) q
-              ∙ rw (ne-eqb (suc j) 0 (λ a. omega (arith, a))) (ap (heldAt x) less)
+          block-at : cond (eqb (placeFor b x msg) 0) out (meansAt x (placeFor b x msg - 1)) ≡ meansAt x j
+          block-at = ap (λ (k : ℕ). cond (eqb k 0) out (meansAt x (k - 1))) q
+              ∙ rw (ne-eqb (suc j) 0 (λ a. omega (arith, a))) (ap (meansAt x) less)
 
-          there : Stands h b (timeAt x j) × Means s h (timeAt x j) b (heldAt x j)
-          there = unfold timeAt heldAt entryCount in i .entries (getD (x .log) j noEntry) (at-member (x .log) j jl)
+          there : Stands h b (timeAt x j) × Means s h (timeAt x j) b (meansAt x j)
+          there = i .entries j jl
 
           under-newest : timeAt x j ≤ newest x
-          under-newest = unfold timeAt entryCount in at-most-newest x (proper s x r .rises) (getD (x .log) j noEntry) (at-member (x .log) j jl)
+          under-newest = at-most-newest s x r j jl
 
-          has : Stands later b (foundFor b x msg) × Means s later (foundFor b x msg) b (cond (eqb (placeFor b x msg) 0) out (heldAt x (placeFor b x msg - 1)))
+          has : Stands later b (foundFor b x msg) × Means s later (foundFor b x msg) b (cond (eqb (placeFor b x msg) 0) out (meansAt x (placeFor b x msg - 1)))
           has =
-              subst (λ (c : ℕ). Stands later b c × Means s later c b (cond (eqb (placeFor b x msg) 0) out (heldAt x (placeFor b x msg - 1)))) (sym found) (
+              subst (λ (c : ℕ). Stands later b c × Means s later c b (cond (eqb (placeFor b x msg) 0) out (meansAt x (placeFor b x msg - 1)))) (sym found) (
                 stands-up (above whole) (there .0),
                 subst (λ (c : List ℕ). Means s later (timeAt x j) b c) (sym block-at) (means-up (above whole) (there .1)),
               )
@@ -332,13 +320,13 @@ module _ {s : Settings} {g : SettingsRange s} {h : Hist s} {sent : List Item} {b
           held : not (eqb (placeFor b x msg) 0) ≡ true
           held = rw (ne-eqb (placeFor b x msg) 0 (λ a. omega (arith, a, q))) refl
 
-          here : (u : ℕ) → u < msg .max → ((k : ℕ) × (k < entryCount x) × (timeAt x k ≡ u)) ⊎ Gone (quorums s g) later u
+          here : (u : ℕ) → u < msg .max → LogHas x u ⊎ Gone (quorums s g) later u
               → ((not (eqb (placeFor b x msg) 0) ≡ true) × (u ≤ foundFor b x msg)) ⊎ Gone (quorums s g) later u
           here u m (inr k) = inr k
           here u m (inl k) = by (leb (k .0) j) refl
             where
               by : (a : Bool) → leb (k .0) j ≡ a → ((not (eqb (placeFor b x msg) 0) ≡ true) × (u ≤ foundFor b x msg)) ⊎ Gone (quorums s g) later u
-              by true a = inl (held, omega (arith, found, rising (k .0) j (leb-true (k .0) j a) jl, k .2))
+              by true a = inl (held, omega (arith, found, rises-to s x r (k .0) j (leb-true (k .0) j a) jl, k .2))
               by false a = absurd (omega (arith, f (k .0) (leb-false (k .0) j a) (k .1), k .2))
 
       go : (y : Bool) → orderYes x (msg .time) ≡ y → Received s g h sent b x msg block out
@@ -357,7 +345,7 @@ module _ {s : Settings} {g : SettingsRange s} {h : Hist s} {sent : List Item} {b
           record {
             later = promised b (msg .time) ∷ h;
             grows = gr;
-            sound = subst (Sound s) (sym q) (sound-promised s x (msg .time) r (saved-valid (msg .time) (ok .time-valid)));
+            sound = subst (Sound s) (sym q) (promised-sound s x (msg .time) r (saved-valid (msg .time) (ok .time-valid)));
             keeps = subst (BrickInv s g (promised b (msg .time) ∷ h) b) (sym q) (brick-promised i r (msg .time) (gr .valid) y);
             answers = λ n new w.
                 answer (gr .valid) y new w (placeFor b x msg) refl
@@ -394,7 +382,7 @@ module _ {s : Settings} {g : SettingsRange s} {h : Hist s} {sent : List Item} {b
             later = stored b (msg .time) ∷ h;
             grows = gr;
             sound = subst (Sound s) (sym q)
-                (sound-appended s x (msg .time) block r (a .2) (a .0) (saved-valid (msg .time) (ok .time-valid)) size);
+                (appended-sound s x (msg .time) block r (a .2) (a .0) (saved-valid (msg .time) (ok .time-valid)) size);
             keeps = subst (BrickInv s g (stored b (msg .time) ∷ h) b) (sym q) (brick-stored i r (msg .time) block (gr .valid) (c .1));
             answers = λ n new w.
                 reply-write s g (stored b (msg .time) ∷ h) new (replyTo s b x msg) (blockAfter x (placeFor b x msg) out) (z .brick-low) e in-top;
@@ -407,7 +395,7 @@ module _ {s : Settings} {g : SettingsRange s} {h : Hist s} {sent : List Item} {b
       record {
         later = h;
         grows = grows-not s g b h v;
-        sound = subst (Sound s) (sym same) (sound-trimmed s x (msg .time) r);
+        sound = subst (Sound s) (sym same) (trimmed-sound s x (msg .time) r);
         keeps = subst (BrickInv s g h b) (sym same) (brick-trimmed i r (msg .time) (z .trims e));
         answers = λ n new w. absurd (n e);
       }

@@ -9,7 +9,7 @@ use Rattle.settings.specs.declared.Settings.{Settings}
 use Rattle.message.specs.Kinds.{orderReadKind}
 use Rattle.message.specs.declared.Message.{Message}
 use Rattle.message.specs.declared.Reply.{Reply}
-use Rattle.image.specs.Brick.{Brick, LogEntry}
+use Rattle.image.specs.Brick.{Brick}
 use Rattle.coord_apply.specs.Answers.{Buffered}
 use Rattle.order.specs.Claim.{Plain, _∈_}
 use Rattle.order.specs.Facts.{Fact, began, promised, launched, stored, showed, ended, History}
@@ -21,7 +21,7 @@ use Rattle.order.proofs.Laws.StoredLaws.{stored-before}
 use Rattle.order.proofs.Laws.GoneLaws.{gone-up}
 use Rattle.order.proofs.Laws.ValueLaws.{val-up}
 use Rattle.register.specs.Runs.{plain, Item, message, reply}
-use Rattle.register.proofs.Laws.Invariant.{quorums, Hist, Means, Stands, BrickInv, MessageInv, Looked, ReplyInv, ItemInv, CountedInv, Running, CoordinatorInv}
+use Rattle.register.proofs.Laws.Invariant.{quorums, Hist, Means, Stands, BrickInv, MessageInv, Looked, ReplyInv, ItemInv, CountedInv, Running, CoordinatorInv, LogHas}
 
 -- all that stands in the one list stands in the other
 abbrev pub Within : List Item → List Item → Type 0
@@ -119,7 +119,7 @@ module _ {s : Settings} {g : SettingsRange s} {h : Hist s} {f : Fact (plain s)} 
   brick-up {b} {x} other i =
       record {
         bounded = λ t p. bound t (in-cons p);
-        entries = λ e m. let w = i .entries e m in (stands-up (above whole) (w .0), means-up (above whole) (w .1));
+        entries = λ j l. let w = i .entries j l in (stands-up (above whole) (w .0), means-up (above whole) (w .1));
         kept = λ u w. keep u (i .kept u (before u w));
       }
     where
@@ -135,8 +135,7 @@ module _ {s : Settings} {g : SettingsRange s} {h : Hist s} {f : Fact (plain s)} 
       before u (inl e) = inl e
       before u (inr p) = stood u (in-cons p)
 
-      keep : (u : ℕ) → ((e : LogEntry) × (e ∈ x .log) × (e .time ≡ u)) ⊎ Gone (quorums s g) h u
-          → ((e : LogEntry) × (e ∈ x .log) × (e .time ≡ u)) ⊎ Gone (quorums s g) (f ∷ h) u
+      keep : (u : ℕ) → LogHas x u ⊎ Gone (quorums s g) h u → LogHas x u ⊎ Gone (quorums s g) (f ∷ h) u
       keep u (inl w) = inl w
       keep u (inr w) = inr (gone-up v (above whole) w)
 

@@ -4,7 +4,7 @@ use Rattle.test_brick.proofs.brick_entry.Statement.{statement}
 use Rattle.test_brick.proofs.brick_entry.Tie as tie
 
 returns : tie.Need-returns
-returns c = entry-short _ _ (c .if1 .taken)
+returns c = entry-short _ _ _ _ _ (c .if1 .taken)
 
 look-requires : tie.Need-look-requires
 look-requires c κs = search needs
@@ -28,10 +28,12 @@ same-length : tie.Need-same-length
 same-length c = search needs
 
 returns-2 : tie.Need-returns-2
-returns-2 c = entry-there (c .before .before .before .before .before .before .before .before .args .found .now) _ _ _ _ (c .before .before .before .before .before .if1 .left) (c .before .before .before .before .look .ensures) (c .before .before .seen .given .1) (c .place-of .ensures)
+returns-2 c = entry-there _ _ _ (c .before .before .before .before .before .before .before .before .args .found .now) _ _ _ _ (c .before .before .before .before .before .if1 .left)
+    (c .before .before .before .before .look .ensures) (c .before .before .seen .given .1) (c .place-of .ensures)
 
 returns-3 : tie.Need-returns-3
-returns-3 c = entry-refused (c .before .before .before .before .before .before .before .args .found .now) _ _ _ (c .before .before .before .before .if1 .left) (c .before .before .before .look .ensures) (c .before .seen2 .given .1)
+returns-3 c = entry-refused _ _ _ (c .before .before .before .before .before .before .before .args .found .now) _ _ _ (c .before .before .before .before .if1 .left)
+    (c .before .before .before .look .ensures) (c .before .seen2 .given .1)
 
 pub brick-entry-spec : {M : Type 1} → statement M
 brick-entry-spec =

@@ -39,7 +39,8 @@ same-length : tie.Need-same-length
 same-length c = search needs
 
 returns : tie.Need-returns
-returns c = reply-put (c .before .before .before .before .args .reply .now) (c .before .before .before .before .args .r) _ _ (c .before .before .before .before .pre) (c .before .flag .ensures) (c .flag2 .ensures)
+returns c = reply-put (c .before .before .before .before .args .reply .now) (c .before .before .before .before .args .r) _ _ (c .before .before .before .before .pre)
+    (c .before .flag .ensures) (c .flag2 .ensures)
 
 pub put-reply-spec : {M : Type 1} → statement M
 put-reply-spec =

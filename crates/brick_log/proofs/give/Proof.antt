@@ -1,9 +1,9 @@
 use mathlib.Core.Path.{refl}
 use native.Mathlib.Omega.{arith}
 use Rattle.brick_log.proofs.Laws.LookLaws.{gave-none, gave-block}
 use borrow.Author.Needs.{needs}
-use Rattle.brick_change.proofs.give.Statement.{statement}
-use Rattle.brick_change.proofs.give.Tie as tie
+use Rattle.brick_log.proofs.give.Statement.{statement}
+use Rattle.brick_log.proofs.give.Tie as tie
 
 returns : tie.Need-returns
 returns c = search (needs, gave-none)
@@ -33,7 +33,8 @@ same-length : tie.Need-same-length
 same-length c = search needs
 
 returns-2 : tie.Need-returns-2
-returns-2 c = gave-block _ _ _ _ _ _ (c .before .before .before .before .before .if1 .left) (c .before .before .before .before .before .before .before .before .pre .0) refl (omega (arith, c .before .before .before .before .before .before .before .before .pre)) (c .before .before .store .ensures)
+returns-2 c = gave-block _ _ _ _ _ _ (c .before .before .before .before .before .if1 .left) (c .before .before .before .before .before .before .before .before .pre .0) refl
+    (omega (arith, c .before .before .before .before .before .before .before .before .pre)) (c .before .before .store .ensures)
 
 pub give-spec : {M : Type 1} → statement M
 give-spec =

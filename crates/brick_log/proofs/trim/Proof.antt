@@ -1,10 +1,10 @@
 use mathlib.Core.Path.{refl}
 use native.Mathlib.Omega.{arith}
 use Rattle.image.specs.Image.{imageSize}
-use Rattle.brick_change.proofs.Laws.LogChangeLaws.{trim-none, trim-moved}
+use Rattle.brick_log.proofs.Laws.LogChangeLaws.{trim-none, trim-moved}
 use borrow.Author.Needs.{needs}
-use Rattle.brick_change.proofs.trim.Statement.{statement}
-use Rattle.brick_change.proofs.trim.Tie as tie
+use Rattle.brick_log.proofs.trim.Statement.{statement}
+use Rattle.brick_log.proofs.trim.Tie as tie
 
 returns : tie.Need-returns
 returns c = trim-none _ _ _ _ _ (c .before .before .pre .0) (c .if1 .taken)
@@ -39,7 +39,8 @@ same-length c = search needs
 returns-2 : tie.Need-returns-2
 returns-2 c =
     let start = c .before .before .before .before .before .before .before .before .before .before .before .before .before .before .before .before in
-    trim-moved _ _ _ _ (start .pre .0) _ _ _ _ _ (start .pre .1) refl (c .before .before .before .before .before .before .before .before .before .before .before .shift-blocks .ensures) (c .before .before .before .before .before .before .clear-blocks .ensures) (c .before .before .write-head .ensures)
+    trim-moved _ _ _ _ (start .pre .0) _ _ _ _ _ (start .pre .1) refl (c .before .before .before .before .before .before .before .before .before .before .before .shift-blocks .ensures)
+    (c .before .before .before .before .before .before .clear-blocks .ensures) (c .before .before .write-head .ensures)
 
 pub trim-spec : {M : Type 1} → statement M
 trim-spec =

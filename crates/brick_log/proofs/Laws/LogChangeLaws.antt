@@ -5,7 +5,7 @@ use mathlib.Core.List.{List, []}
 use Prim.Native.Nat.{ℕ, _+_, _-_, _*_, _≤_, _<_}
 use native.Mathlib.Omega.{arith}
 use lib.Dec.{leb, ltb}
-use lib.ListN.{length, drop}
+use lib.ListN.{length}
 use borrow.Author.Tests.{lt-ltb, le-ltb, eq-eqb, ne-eqb}
 use Rattle.message.specs.declared.Message.{Message}
 use Rattle.settings.specs.declared.Settings.{Settings}
@@ -16,10 +16,12 @@ use Rattle.image.specs.Image.{imageOf}
 use Rattle.image.specs.Parse.{brickIn}
 use Rattle.image_write.specs.Workers.{without}
 use Rattle.image_write.specs.Workers.{Blocks, shiftedOf, clearedOf}
-use Rattle.image_write.proofs.Laws.ImageStepLaws.{promise-written, append-written, without-written}
+use Rattle.image_write.proofs.Laws.ImageStepLaws.{promise-written, append-written, without-none, without-written}
 use Rattle.brick_log.specs.BrickRules.{aboveNewest, notBelowPromise, hasFree, readYes, orderYes, writeYes, orderedIfYes, writtenIfYes, yesTo, brickAfter}
 use Rattle.brick_log.specs.Workers.{LogReady}
 use Rattle.brick_log.specs.declared.Known.{Known}
+use Rattle.image_block.specs.Block.{blockBytes}
+use Rattle.message.specs.Kinds.{readKind, trimKind, writeKind}
 
 module _ (s : Settings) (brick : ℕ) (l : List ℕ) (k : Known) (r : LogReady s brick l k) where
   x : Brick
@@ -67,16 +69,17 @@ module _ (s : Settings) (brick : ℕ) (l : List ℕ) (k : Known) (r : LogReady s
   write-kept t block e = r .saved .is-image ∙ ap (λ (y : Brick). imageOf s brick y) (sym (rw (← e) refl))
 
   pub write-moved : (t n at : ℕ) (block l₁ brickAfter : List ℕ) → true ≡ writeYes s (brickIn s l) t → k .count < s .capacity → length block ≡ s .size
-      → n ≡ k .count + 1 → at ≡ 512 * n → l₁ ≡ put at (entryBlock t block) l → brickAfter ≡ put 0 (headBlock s brick n (k .promise)) l₁
+      → n ≡ k .count + 1 → at ≡ blockBytes * n → l₁ ≡ put at (entryBlock t block) l → brickAfter ≡ put 0 (headBlock s brick n (k .promise)) l₁
       → brickAfter ≡ imageOf s brick (writtenIfYes s (brickIn s l) t block)
   unfolding writtenIfYes
   write-moved t n at block l₁ brickAfter e free size en ea w₁ w₂ =
       let nx : n ≡ entryCount (brickIn s l) + 1 = omega (arith, r .counts) in
-      let ax : at ≡ 512 * (entryCount (brickIn s l) + 1) = omega (arith, nx) in
+      let ax : at ≡ blockBytes * (entryCount (brickIn s l) + 1) = omega (arith, nx) in
       w₂
       ∙ ap₂ (λ (c : ℕ) (y : List ℕ). put 0 (headBlock s brick c (k .promise)) y) nx
       (w₁ ∙ ap₂ (λ (c : ℕ) (y : List ℕ). put c (entryBlock t block) y) ax (r .saved .is-image))
-      ∙ ap (λ (p : ℕ). put 0 (headBlock s brick (entryCount (brickIn s l) + 1) p) (put (512 * (entryCount (brickIn s l) + 1)) (entryBlock t block) (imageOf s brick (brickIn s l)))) (r .promises)
+      ∙ ap (λ (p : ℕ). put 0 (headBlock s brick (entryCount (brickIn s l) + 1) p) (put (blockBytes * (entryCount (brickIn s l) + 1)) (entryBlock t block) (imageOf s brick (brickIn s l))))
+      (r .promises)
       ∙ append-written s brick (brickIn s l) t block (r .saved .range) (r .saved .keeps) (omega (arith, r .counts)) size
       ∙ ap (λ (y : Brick). imageOf s brick y) (sym (rw (← e) refl))
 
@@ -94,34 +97,33 @@ module _ (s : Settings) (brick : ℕ) (l : List ℕ) (k : Known) (r : LogReady s
       (w ∙ ap₂ (λ (c p : ℕ). put 0 (headBlock s brick c p) l₂) kx (r .promises))
 
 module _ (s : Settings) (brick : ℕ) (l : List ℕ) (k : Known) (r : LogReady s brick l k) (msg : Message) (block : List ℕ) where
-  pub change-read : msg .kind ≡ 1
+  pub change-read : msg .kind ≡ readKind
       → (leb (k .promise) (k .newest) ≡ yesTo s (brickIn s l) msg) × (l ≡ imageOf s brick (brickAfter s (brickIn s l) msg block))
   unfolding yesTo brickAfter readYes notBelowPromise
   change-read e = (
-    sym (rw (eq-eqb (msg .kind) 1 e) (ap₂ (λ (a b : ℕ). leb a b) (sym (r .promises)) (sym (r .newests)))),
+    sym (rw (eq-eqb (msg .kind) readKind e) (ap₂ (λ (a b : ℕ). leb a b) (sym (r .promises)) (sym (r .newests)))),
     r .saved .is-image ∙ ap (λ (y : Brick). imageOf s brick y)
-        (sym (rw (ne-eqb (msg .kind) 5 (λ q. omega (arith, e, q)), ne-eqb (msg .kind) 4 (λ q. omega (arith, e, q)), eq-eqb (msg .kind) 1 e) refl)),
+        (sym (rw (ne-eqb (msg .kind) trimKind (λ q. omega (arith, e, q)), ne-eqb (msg .kind) writeKind (λ q. omega (arith, e, q)), eq-eqb (msg .kind) readKind e) refl)),
   )
 
-  pub change-write : (v : Bool) (image : List ℕ) → msg .kind ≡ 4 → v ≡ writeYes s (brickIn s l) (msg .time)
+  pub change-write : (v : Bool) (image : List ℕ) → msg .kind ≡ writeKind → v ≡ writeYes s (brickIn s l) (msg .time)
       → image ≡ imageOf s brick (writtenIfYes s (brickIn s l) (msg .time) block)
       → (v ≡ yesTo s (brickIn s l) msg) × (image ≡ imageOf s brick (brickAfter s (brickIn s l) msg block))
   unfolding yesTo brickAfter
   change-write v image e ev ei = (
-    ev ∙ sym (rw (ne-eqb (msg .kind) 1 (λ q. omega (arith, e, q)), eq-eqb (msg .kind) 4 e) refl),
-    ei ∙ ap (λ (y : Brick). imageOf s brick y) (sym (rw (ne-eqb (msg .kind) 5 (λ q. omega (arith, e, q)), eq-eqb (msg .kind) 4 e) refl)),
+    ev ∙ sym (rw (ne-eqb (msg .kind) readKind (λ q. omega (arith, e, q)), eq-eqb (msg .kind) writeKind e) refl),
+    ei ∙ ap (λ (y : Brick). imageOf s brick y) (sym (rw (ne-eqb (msg .kind) trimKind (λ q. omega (arith, e, q)), eq-eqb (msg .kind) writeKind e) refl)),
   )
 
-  pub change-order : (v : Bool) (image : List ℕ) → (msg .kind ≡ 5 → ⊥) → (msg .kind ≡ 1 → ⊥) → (msg .kind ≡ 4 → ⊥) → v ≡ orderYes (brickIn s l) (msg .time)
+  pub change-order : (v : Bool) (image : List ℕ) → (msg .kind ≡ trimKind → ⊥) → (msg .kind ≡ readKind → ⊥) → (msg .kind ≡ writeKind → ⊥) → v ≡ orderYes (brickIn s l) (msg .time)
       → image ≡ imageOf s brick (orderedIfYes (brickIn s l) (msg .time))
       → (v ≡ yesTo s (brickIn s l) msg) × (image ≡ imageOf s brick (brickAfter s (brickIn s l) msg block))
   unfolding yesTo brickAfter
   change-order v image a b c ev ei = (
-    ev ∙ sym (rw (ne-eqb (msg .kind) 1 b, ne-eqb (msg .kind) 4 c) refl),
-    ei ∙ ap (λ (y : Brick). imageOf s brick y) (sym (rw (ne-eqb (msg .kind) 5 a, ne-eqb (msg .kind) 4 c, ne-eqb (msg .kind) 1 b) refl)),
+    ev ∙ sym (rw (ne-eqb (msg .kind) readKind b, ne-eqb (msg .kind) writeKind c) refl),
+    ei ∙ ap (λ (y : Brick). imageOf s brick y) (sym (rw (ne-eqb (msg .kind) trimKind a, ne-eqb (msg .kind) writeKind c, ne-eqb (msg .kind) readKind b) refl)),
   )
 
 -- nothing to drop
 pub trim-none : (s : Settings) (brick : ℕ) (l : List ℕ) (k : Known) (d : ℕ) → LogReady s brick l k → d ≡ 0 → l ≡ imageOf s brick (without (brickIn s l) d)
-unfolding without
-trim-none s brick l k d r e = r .saved .is-image ∙ ap (λ (j : ℕ). imageOf s brick (record { promise = brickIn s l .promise; log = drop j (brickIn s l .log) })) (sym e)
+trim-none s brick l k d r e = r .saved .is-image ∙ ap (imageOf s brick) (without-none (brickIn s l) ∙ ap (without (brickIn s l)) (sym e))

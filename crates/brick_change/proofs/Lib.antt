@@ -1,2 +1,0 @@
--- What is proved of the definitions, beside the functions.
-pub mod Laws

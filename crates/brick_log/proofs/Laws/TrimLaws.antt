@@ -1,0 +1,181 @@
+-- What a Trim leaves, place by place. Only this module walks along `trimmed`.
+use mathlib.Core.Path.{_≡_, refl, sym, ap, subst, _∙_}
+use mathlib.Core.Bool.{Bool, true, false, cond}
+use mathlib.Core.List.{List, [], _∷_}
+use Prim.Native.Nat.{ℕ, zero, suc, _+_, _-_, _≤_, _<_}
+use native.Mathlib.Omega.{arith}
+use native.Mathlib.Decide.{decLt}
+use borrow.Author.Count.{below-more}
+use lib.Dec.{ltb}
+use lib.ListN.{length, drop, getD, length-drop}
+use lib.Seq.{getD-drop}
+use borrow.Author.Tests.{lt-ltb, le-ltb}
+use Rattle.settings.specs.declared.Settings.{Settings}
+use Rattle.image.specs.Brick.{Brick, LogEntry, noEntry, entryCount, timeAt, meansAt, newest, Sound}
+use Rattle.image.proofs.Laws.HubLaws.{log-at}
+use Rattle.image.proofs.Laws.LogPlaceLaws.{rises-to}
+use Rattle.image.specs.Opening.{workingLog, blank}
+use Rattle.image.specs.declared.Entry.{Entry}
+use Rattle.image_write.specs.Workers.{without}
+use Rattle.image_write.proofs.Laws.ImageStepLaws.{without-count, without-time, without-means}
+use Rattle.brick_log.specs.BrickRules.{trimmed, trimmedTo}
+use Rattle.brick_log.specs.Workers.{Cut}
+use Rattle.settings.specs.Ranges.{maxCapacity}
+
+-- the last entry stays, so a log never becomes empty,
+trimmed-some : (t : ℕ) (e : LogEntry) (log : List LogEntry) → 1 ≤ length (trimmed t (e ∷ log))
+unfolding trimmed
+trimmed-some t e [] = omega arith
+trimmed-some t e (f ∷ log) = go (ltb (e .time) t) (trimmed-some t f log)
+  where
+    go : (b : Bool) → 1 ≤ length (trimmed t (f ∷ log)) → 1 ≤ length (cond b (trimmed t (f ∷ log)) (e ∷ trimmed t (f ∷ log)))
+    go true h = h
+    go false h = omega arith
+
+pub trim-not-empty : (x : Brick) (t : ℕ) → 1 ≤ entryCount x → 1 ≤ entryCount (trimmedTo x t)
+unfolding entryCount trimmedTo
+trim-not-empty x t h = go (x .log) h
+  where
+    go : (log : List LogEntry) → 1 ≤ length log → 1 ≤ length (trimmed t log)
+    go [] h = absurd (omega arith)
+    go (e ∷ log) h = trimmed-some t e log
+
+-- and it is the same last entry
+last-of : List LogEntry → LogEntry
+last-of log = getD log (length log - 1) noEntry
+
+last-cons : (e f : LogEntry) (log : List LogEntry) → last-of (e ∷ f ∷ log) ≡ last-of (f ∷ log)
+unfolding last-of
+last-cons e f log =
+    let a : length (e ∷ f ∷ log) - 1 ≡ suc (length log) = omega arith in
+    let b : length (f ∷ log) - 1 ≡ length log = omega arith in
+    ap (λ (k : ℕ). getD (e ∷ f ∷ log) k noEntry) a ∙ ap (λ (k : ℕ). getD (f ∷ log) k noEntry) (sym b)
+
+last-some : (e : LogEntry) (log : List LogEntry) → 1 ≤ length log → last-of (e ∷ log) ≡ last-of log
+last-some e [] h = absurd (omega arith)
+last-some e (f ∷ log) h = last-cons e f log
+
+trimmed-last : (t : ℕ) (e : LogEntry) (log : List LogEntry) → last-of (trimmed t (e ∷ log)) ≡ last-of (e ∷ log)
+unfolding trimmed
+trimmed-last t e [] = refl
+trimmed-last t e (f ∷ log) = go (ltb (e .time) t) (trimmed-last t f log) ∙ sym (last-cons e f log)
+  where
+    go : (b : Bool) → last-of (trimmed t (f ∷ log)) ≡ last-of (f ∷ log)
+        → last-of (cond b (trimmed t (f ∷ log)) (e ∷ trimmed t (f ∷ log))) ≡ last-of (f ∷ log)
+    go true h = h
+    go false h = last-some e (trimmed t (f ∷ log)) (trimmed-some t f log) ∙ h
+
+pub trim-keeps-newest : (x : Brick) (t : ℕ) → 1 ≤ entryCount x → newest (trimmedTo x t) ≡ newest x
+unfolding newest timeAt entryCount trimmedTo last-of
+trim-keeps-newest x t h = go (x .log) h
+  where
+    go : (log : List LogEntry) → 1 ≤ length log → last-of (trimmed t log) .time ≡ last-of log .time
+    go [] h = absurd (omega arith)
+    go (e ∷ log) h = ap (λ (v : LogEntry). v .time) (trimmed-last t e log)
+
+-- dropping entries under t from the front
+trimmed-front : (t : ℕ) (log : List LogEntry) (d : ℕ) → d < length log → ((i : ℕ) → i < d → getD log i noEntry .time < t) → trimmed t log ≡ trimmed t (drop d log)
+unfolding trimmed
+trimmed-front t [] d h b = absurd (omega arith)
+trimmed-front t (e ∷ []) zero h b = refl
+trimmed-front t (e ∷ []) (suc d) h b = absurd (omega arith)
+trimmed-front t (e ∷ f ∷ log) zero h b = refl
+trimmed-front t (e ∷ f ∷ log) (suc d) h b =
+    rw (lt-ltb (e .time) t (b 0 (omega arith))) (trimmed-front t (f ∷ log) d (omega arith) (λ i w. b (suc i) (omega (arith, w))))
+
+-- a log with nothing under t but perhaps its last
+trimmed-rest : (t : ℕ) (log : List LogEntry) → ((i : ℕ) → i + 1 < length log → t ≤ getD log i noEntry .time) → trimmed t log ≡ log
+unfolding trimmed
+trimmed-rest t [] b = refl
+trimmed-rest t (e ∷ []) b = refl
+trimmed-rest t (e ∷ f ∷ log) b =
+    rw (le-ltb (e .time) t (b 0 (omega arith))) (ap (λ (l : List LogEntry). e ∷ l) (trimmed-rest t (f ∷ log) (λ i w. b (suc i) (omega (arith, w)))))
+
+-- The first entries under t are those before place d: it is the newest, or not under t.
+pub record CutAt (x : Brick) (t d : ℕ) : Type 0 where
+  pub low : d < entryCount x
+  pub before : (i : ℕ) → i < d → timeAt x i < t
+  pub here : d + 1 < entryCount x → t ≤ timeAt x d
+
+-- a Trim drops the entries before the cut: in a rising log those under t come first
+trimmed-without : (s : Settings) (x : Brick) (t d : ℕ) → Sound s x → CutAt x t d → trimmedTo x t ≡ without x d
+unfolding trimmedTo without timeAt entryCount
+trimmed-without s x t d r q =
+    ap (λ (l : List LogEntry). record { promise = x .promise; log = l })
+    (trimmed-front t (x .log) d (q .low) (q .before) ∙ trimmed-rest t (drop d (x .log)) rest)
+  where
+    rest : (i : ℕ) → i + 1 < length (drop d (x .log)) → t ≤ getD (drop d (x .log)) i noEntry .time
+    rest i h =
+        let n = length-drop d (x .log) in
+        let here = q .here (omega arith) in
+        let up = rises-to s x r d (d + i) (omega arith) (omega arith) in
+        subst (λ (k : ℕ). t ≤ k) (sym (ap (λ (e : LogEntry). e .time) (getD-drop d (x .log) i noEntry))) (omega arith)
+
+-- the cut that the code finds in the working log
+pub cut-trims : (s : Settings) (x : Brick) (t d : ℕ) → Sound s x → entryCount x ≤ maxCapacity → Cut (workingLog x) (entryCount x) t d → trimmedTo x t ≡ without x d
+cut-trims s x t d r c q =
+    trimmed-without s x t d r
+    (record {
+      low = q .low;
+      before = λ i h. subst (λ (k : ℕ). k < t) (time i (omega (arith, h, q .low))) (q .before i h);
+      here = λ h. subst (λ (k : ℕ). t ≤ k) (time d (q .low)) (q .here h);
+    })
+  where
+    time : (i : ℕ) → i < entryCount x → getD (workingLog x) i blank .time ≡ timeAt x i
+    time i h = ap (λ (v : Entry). v .time) (log-at x i blank h c)
+
+-- there is a cut
+cut-from : (x : Brick) (t fuel d : ℕ) → d + suc fuel ≡ entryCount x → ((i : ℕ) → i < d → timeAt x i < t) → (e : ℕ) × CutAt x t e
+cut-from x t zero d m b = (d, record { low = omega arith; before = b; here = λ h. absurd (omega (arith, h)) })
+cut-from x t (suc fuel) d m b = go (decLt (timeAt x d) t) (λ w. cut-from x t fuel (d + 1) (omega arith) (below-more (λ (i : ℕ). timeAt x i < t) d b w))
+  where
+    go : Dec (timeAt x d < t) → (timeAt x d < t → (e : ℕ) × CutAt x t e) → (e : ℕ) × CutAt x t e
+    go (yes w) f = f w
+    go (no w) f = (d, record { low = omega arith; before = b; here = λ h. omega arith })
+
+trimmed-promise : (x : Brick) (t : ℕ) → trimmedTo x t .promise ≡ x .promise
+unfolding trimmedTo
+trimmed-promise x t = refl
+
+-- "drops every entry under t other than the newest": d entries, so that place i is what place d + i was
+pub record Trims (x : Brick) (t d : ℕ) : Type 0 where
+  pub cut : CutAt x t d
+  pub promise-is : trimmedTo x t .promise ≡ x .promise
+  pub count : entryCount (trimmedTo x t) ≡ entryCount x - d
+  pub times : (i : ℕ) → timeAt (trimmedTo x t) i ≡ timeAt x (d + i)
+  pub means : (i : ℕ) → meansAt (trimmedTo x t) i ≡ meansAt x (d + i)
+
+pub trim-places : (s : Settings) (x : Brick) (t : ℕ) → Sound s x → (d : ℕ) × Trims x t d
+trim-places s x t r =
+    let q = cut-from x t (entryCount x - 1) 0 (omega (arith, r .count-low)) (λ i h. absurd (omega (arith, h))) in
+    let w = trimmed-without s x t (q .0) r (q .1) in (
+      q .0,
+      record {
+        cut = q .1;
+        promise-is = trimmed-promise x t;
+        count = ap entryCount w ∙ without-count x (q .0);
+        times = λ i. ap (λ (y : Brick). timeAt y i) w ∙ without-time x (q .0) i;
+        means = λ i. ap (λ (y : Brick). meansAt y i) w ∙ without-means x (q .0) i;
+      },
+    )
+
+-- everything at or above its time stays,
+pub trim-keeps : (s : Settings) (x : Brick) (t i : ℕ) → Sound s x → i < entryCount x → t ≤ timeAt x i
+    → (j : ℕ) × (j < entryCount (trimmedTo x t)) × (timeAt (trimmedTo x t) j ≡ timeAt x i) × (meansAt (trimmedTo x t) j ≡ meansAt x i)
+trim-keeps s x t i r h l = go (trim-places s x t r)
+  where
+    go : (d : ℕ) × Trims x t d → (j : ℕ) × (j < entryCount (trimmedTo x t)) × (timeAt (trimmedTo x t) j ≡ timeAt x i) × (meansAt (trimmedTo x t) j ≡ meansAt x i)
+    go (d, q) = by (decLt i d)
+      where
+        by : Dec (i < d) → (j : ℕ) × (j < entryCount (trimmedTo x t)) × (timeAt (trimmedTo x t) j ≡ timeAt x i) × (meansAt (trimmedTo x t) j ≡ meansAt x i)
+        by (yes w) = absurd (omega (arith, q .cut .before i w))
+        by (no w) =
+            let m : d + (i - d) ≡ i = omega arith in
+            (i - d, omega (arith, q .count), q .times (i - d) ∙ ap (timeAt x) m, q .means (i - d) ∙ ap (meansAt x) m)
+
+-- and nothing is added
+pub trim-from : (s : Settings) (x : Brick) (t j : ℕ) → Sound s x → j < entryCount (trimmedTo x t)
+    → (i : ℕ) × (i < entryCount x) × (timeAt (trimmedTo x t) j ≡ timeAt x i) × (meansAt (trimmedTo x t) j ≡ meansAt x i)
+trim-from s x t j r h =
+    let q = trim-places s x t r in
+    (q .0 + j, omega (arith, q .1 .count), q .1 .times j, q .1 .means j)
