@@ -2,7 +2,7 @@
 use mathlib.Core.List.{List}
 use Prim.Native.Nat.{ℕ, _+_, _*_, _≤_, _<_}
 use lib.ListN.{getD, length}
-use Rattle.coord_apply.specs.Answers.{Buffered, nothingSeen, went, sentBlocks, answerOf}
+use Rattle.coord_apply.specs.Answers.{Buffered, nothingSeen, noMessage, went, sentBlocks, answerOf}
 use Rattle.coord_record.specs.Records.{idleWith, noBricks}
 use Rattle.coord_record.specs.declared.Coordinator.{Coordinator}
 use Rattle.coord_decide.specs.declared.Decision.{Decision}
@@ -20,6 +20,7 @@ openAnswer c phase max bricks =
       next = opened c phase max bricks;
       sent = 1;
       message = roundMessage (nextOp (c .op) phase max) noBricks;
+      second = noMessage;
       seen = nothingSeen;
     }
 
@@ -30,6 +31,7 @@ endAnswer c what bricks sent message =
       next = idleWith (c .clock);
       sent = sent;
       message = message;
+      second = noMessage;
       seen = record { what = what; kind = c .op .kind; time = c .op .time; bricks = bricks };
     }
 

@@ -1,5 +1,5 @@
 // What a coordinator's decisions do (document 01, "What a coordinator does"). A routine gives one refusal, or the record that follows,
-// a broadcast to all n bricks or none, and what is seen.
+// the broadcasts to all n bricks, and what is seen.
 ghost use mathlib.Core.Path.{_≡_};
 ghost use Prim.Native.Nat.{_+_, _*_, _≤_, _<_};
 ghost use lib.ListN.{length, take};
@@ -44,13 +44,14 @@ pub struct Notice {
     pub bricks: [u8; 16],
 }
 
-// refusal: 0, or the number alone. next: the record that follows. sent: how many broadcasts there are, each to all n bricks.
-// message: what is sent; the blocks of a Write round stand in the lent output buffer.
+// refusal: 0, or the number alone. next: the record that follows. sent: how many broadcasts there are, two at most, each to all n bricks.
+// message, second: what is sent, in this order; the blocks of a Write round stand in the lent output buffer.
 pub struct Answer {
     pub refusal: u32,
     pub next: Coordinator,
     pub sent: usize,
     pub message: Message,
+    pub second: Message,
     pub seen: Notice,
 }
 
@@ -196,12 +197,14 @@ fn open(c: Coordinator, phase: u8, max: u64, bricks: [u8; 16]) -> Answer
         bricks,
     };
     let message = round_message(op, [0u8; 16]);
+    let second = no_message();
     let seen = nothing_seen();
     Answer {
         refusal: 0,
         next,
         sent: 1,
         message,
+        second,
         seen,
     }
 }
@@ -213,6 +216,7 @@ pub fn end(c: Coordinator, what: u8, bricks: [u8; 16], sent: usize, message: Mes
     let clock = c.clock;
     let op = c.op;
     let next = coord_record::idle_with(clock);
+    let second = no_message();
     let seen = Notice {
         what,
         kind: op.kind,
@@ -224,6 +228,7 @@ pub fn end(c: Coordinator, what: u8, bricks: [u8; 16], sent: usize, message: Mes
         next,
         sent,
         message,
+        second,
         seen,
     }
 }

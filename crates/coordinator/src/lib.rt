@@ -1,5 +1,5 @@
 // The coordinator (document 01, "What a coordinator does"): start a write, start a read, take a reply, crash. Each gives one refusal,
-// lowest number first, and changes nothing; or the record that follows, the broadcast to all n bricks if there is one, and what is seen.
+// lowest number first, and changes nothing; or the record that follows, the broadcasts to all n bricks, and what is seen.
 ghost use mathlib.Core.Path.{_≡_};
 ghost use mathlib.Core.List.{List};
 ghost use Prim.Native.Nat.{ℕ, _<_};
@@ -34,12 +34,14 @@ fn refuse(c: Coordinator, number: u32) -> Answer
     ensures { λ r. ⌜ r ≡ answerOf c (refused number) ⌝ }
 {
     let message = coord_apply::no_message();
+    let second = coord_apply::no_message();
     let seen = coord_apply::nothing_seen();
     Answer {
         refusal: number,
         next: c,
         sent: 0,
         message,
+        second,
         seen,
     }
 }
@@ -49,12 +51,14 @@ fn kept(c: Coordinator) -> Answer
     ensures { λ r. ⌜ r ≡ keptAnswer c ⌝ }
 {
     let message = coord_apply::no_message();
+    let second = coord_apply::no_message();
     let seen = coord_apply::nothing_seen();
     Answer {
         refusal: 0,
         next: c,
         sent: 0,
         message,
+        second,
         seen,
     }
 }
@@ -85,6 +89,7 @@ fn begin(clock: Clock, op: Op, targets: [u8; 16]) -> Answer
         bricks: [0u8; 16],
     };
     let message = coord_apply::round_message(op, targets);
+    let second = coord_apply::no_message();
     let seen = Notice {
         what: BEGAN,
         kind: op.kind,
@@ -96,6 +101,7 @@ fn begin(clock: Clock, op: Op, targets: [u8; 16]) -> Answer
         next,
         sent: 1,
         message,
+        second,
         seen,
     }
 }

@@ -43,17 +43,22 @@ recordFor numbers bytes =
       bricks = rowAt 50 bytes;
     }
 
--- an answer's 5 numbers: broadcasts; time, round and max of the message; time of what is seen
+-- an answer's 8 numbers: broadcasts; time, round and max of the first message; time of what is seen; the same three of the second message
 unfoldable pub answerNumbers : Answer → List ℕ
-answerNumbers a = a .sent ∷ a .message .time ∷ a .message .round ∷ a .message .max ∷ a .seen .time ∷ []
+answerNumbers a =
+    a .sent ∷ a .message .time ∷ a .message .round ∷ a .message .max ∷ a .seen .time
+    ∷ a .second .time ∷ a .second .round ∷ a .second .max ∷ []
 
--- its 35 bytes: kind of the message; what is seen, of which kind; targets of the message, bricks seen
+-- its 52 bytes: kind of the first message; what is seen, of which kind; targets of the first message, bricks seen;
+-- targets and kind of the second message
 unfoldable pub answerBytes : Answer → List ℕ
-answerBytes a = a .message .kind ∷ a .seen .what ∷ a .seen .kind ∷ (a .message .targets ++ a .seen .bricks)
+answerBytes a =
+    a .message .kind ∷ a .seen .what ∷ a .seen .kind
+    ∷ (a .message .targets ++ (a .seen .bricks ++ (a .second .targets ++ a .second .kind ∷ [])))
 
 -- the four buffers have their lengths
 unfoldable pub lentLengths : ℕ → ℕ → ℕ → ℕ → Bool
-lentLengths numbers bytes sent shown = eqb numbers 22 && (eqb bytes 66 && (eqb sent 5 && eqb shown 35))
+lentLengths numbers bytes sent shown = eqb numbers 22 && (eqb bytes 66 && (eqb sent 8 && eqb shown 52))
 
 abbrev pub lent : List ℕ → List ℕ → List ℕ → List ℕ → Bool
 lent numbers bytes sent shown = lentLengths (length numbers) (length bytes) (length sent) (length shown)

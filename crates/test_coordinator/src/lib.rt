@@ -1,5 +1,5 @@
 // The coordinator at a C boundary of numbers and slices, for the tests and benchmarks that compare it with other code. Every routine is
-// lent four buffers: the record's 22 numbers and 66 bytes, and the answer's 5 numbers and 35 bytes. A refusal leaves them as they were.
+// lent four buffers: the record's 22 numbers and 66 bytes, and the answer's 8 numbers and 52 bytes. A refusal leaves them as they were.
 ghost use mathlib.Core.Path.{_≡_};
 ghost use mathlib.Core.List.{[]};
 ghost use Prim.Native.Nat.{_+_, _≤_};
@@ -23,10 +23,10 @@ fn lent_right(numbers: usize, bytes: usize, sent: usize, shown: usize) -> bool
     if bytes != 66 {
         return false;
     }
-    if sent != 5 {
+    if sent != 8 {
         return false;
     }
-    shown == 35
+    shown == 52
 }
 
 // Sixteen bytes from a slice of sixteen.
@@ -187,32 +187,40 @@ fn put_bytes(c: Coordinator, out: &mut [u8])
 
 // The numbers of an answer.
 fn put_sent(a: Answer, out: &mut [u64])
-    requires { ⌜ length (now out) ≡ 5 ⌝ }
+    requires { ⌜ length (now out) ≡ 8 ⌝ }
     ensures { λ _. ⌜ now (out .exit) ≡ answerNumbers a ⌝ }
 {
     let message = a.message;
+    let second = a.second;
     let seen = a.seen;
     out[0] = a.sent as u64;
     out[1] = message.time;
     out[2] = message.round;
     out[3] = message.max;
     out[4] = seen.time;
+    out[5] = second.time;
+    out[6] = second.round;
+    out[7] = second.max;
 }
 
 // The bytes of an answer.
 fn put_shown(a: Answer, out: &mut [u8])
-    requires { ⌜ length (now out) ≡ 35 ⌝ }
+    requires { ⌜ length (now out) ≡ 52 ⌝ }
     ensures { λ _. ⌜ now (out .exit) ≡ answerBytes a ⌝ }
 {
     let message = a.message;
+    let second = a.second;
     let seen = a.seen;
     out[0] = message.kind;
     out[1] = seen.what;
     out[2] = seen.kind;
+    out[51] = second.kind;
     let targets = message.targets;
     let bricks = seen.bricks;
+    let more = second.targets;
     put_row(targets, 3, out);
-    put_row(bricks, 19, out)
+    put_row(bricks, 19, out);
+    put_row(more, 35, out)
 }
 
 // An answer into the four buffers, and its refusal.
@@ -225,8 +233,8 @@ fn put_answer(
 ) -> u32
     requires { ⌜ length (now numbers) ≡ 22 ⌝ }
     requires { ⌜ length (now bytes) ≡ 66 ⌝ }
-    requires { ⌜ length (now sent) ≡ 5 ⌝ }
-    requires { ⌜ length (now shown) ≡ 35 ⌝ }
+    requires { ⌜ length (now sent) ≡ 8 ⌝ }
+    requires { ⌜ length (now shown) ≡ 52 ⌝ }
     ensures { λ r. ⌜ r ≡ a .refusal ⌝ }
     ensures { λ r. ⌜ now (numbers .exit) ≡ saidOr a (recordNumbers (a .next)) (now (numbers .entry)) ⌝ }
     ensures { λ r. ⌜ now (bytes .exit) ≡ saidOr a (recordBytes (a .next)) (now (bytes .entry)) ⌝ }

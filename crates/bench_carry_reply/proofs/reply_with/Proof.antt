@@ -2,6 +2,7 @@ use mathlib.Core.Path.{refl, ap, _∙_}
 use Prim.Native.Nat.{ℕ, _+_, _*_}
 use native.Mathlib.Omega.{arith}
 use lib.ListN.{take, drop}
+use Rattle.register.proofs.Laws.DriverLaws.{few-sent, take-short}
 use Rattle.bench_sent.proofs.Laws.SentRowLaws.{block-cut}
 use Rattle.bench_commit.proofs.Laws.ActedLaws.{acted-row}
 use borrow.Author.Needs.{needs}
@@ -41,11 +42,14 @@ commit-requires c κs =
     let f = c .before .before .before .before .before .before .before .before .before .before .before .before .before .before .before .before .before .before .before .before .before .before .before .before .before .before .fetch .kept in
     let t = c .before .before .before .before .before .before .before .before .before .before .before .before .before .take-reply .kept in (
       s .pre .0,
-      record {
-        blocks-long = t .1 .1 .1 .1 .1 .1 .0 ∙ f .1 .1 .0 ∙ s .pre .1 .0 .blocks-long;
-        stripe-long = t .1 .1 .1 .1 .1 .1 .1 .0 ∙ f .1 .1 .1 .0 ∙ s .pre .1 .0 .stripe-long;
-        coded-long = t .1 .1 .1 .1 .1 .1 .1 .1 .0 ∙ s .pre .1 .0 .coded-long;
-      },
+      (
+        record {
+          blocks-long = t .1 .1 .1 .1 .1 .1 .0 ∙ f .1 .1 .0 ∙ s .pre .1 .0 .blocks-long;
+          stripe-long = t .1 .1 .1 .1 .1 .1 .1 .0 ∙ f .1 .1 .1 .0 ∙ s .pre .1 .0 .stripe-long;
+          coded-long = t .1 .1 .1 .1 .1 .1 .1 .1 .0 ∙ s .pre .1 .0 .coded-long;
+        },
+        few-sent _ _ _ (take-short _ _ _ _ _ _ _) (c .before .before .before .before .before .before .before .before .before .before .before .before .before .take-reply .ensures .0),
+      ),
     )
 
 same-length : tie.Need-same-length

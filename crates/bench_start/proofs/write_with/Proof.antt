@@ -1,6 +1,8 @@
 use mathlib.Core.Path.{sym, ap, subst, _∙_}
 use Prim.Native.Nat.{ℕ, _+_, _*_, _≤_}
+use mathlib.Core.List.{[]}
 use lib.ListN.{take, drop}
+use Rattle.register.proofs.Laws.DriverLaws.{few-sent, write-short}
 use Rattle.bench_commit.proofs.Laws.ActedLaws.{short-write, whole-write}
 use Rattle.bench_start.proofs.Laws.ShortLaws.{content-long, count-is, content-is}
 use borrow.Author.Needs.{needs}
@@ -62,7 +64,7 @@ commit-requires c κs =
     let f = c .before .before .before .before .before .before .before .before .before .before .before .before .before .before .before .before .before .before .before .fetch .kept in
     let long = f .1 .1 .0 ∙ s .pre .1 .0 .blocks-long in (
       s .pre .0,
-      record { blocks-long = long; stripe-long = c .before .before .before .before .before .before .before .before .before .before .start-write .kept .1 .1 .1 .1 .1 .1 .0 ∙ f .1 .1 .1 .0 ∙ s .pre .1 .0 .stripe-long; coded-long = long },
+      (record { blocks-long = long; stripe-long = c .before .before .before .before .before .before .before .before .before .before .start-write .kept .1 .1 .1 .1 .1 .1 .0 ∙ f .1 .1 .1 .0 ∙ s .pre .1 .0 .stripe-long; coded-long = long }, few-sent _ _ _ (write-short _ _ _ _ _ _) (c .before .before .before .before .before .before .before .before .before .before .start-write .ensures .0 [])),
     )
 
 same-length-6 : tie.Need-same-length-6

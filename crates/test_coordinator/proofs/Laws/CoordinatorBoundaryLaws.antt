@@ -6,7 +6,7 @@ use Prim.Native.Nat.{ℕ, _+_, _-_, _≤_}
 use native.Mathlib.Omega.{arith}
 use lib.Dec.{eqb}
 use lib.ListN.{length, getD, set, take, drop, length-append, length-drop, length-set}
-use lib.Seq.{take-append-add, drop-append-add, take-at}
+use lib.Seq.{take-append-add, drop-append-add, take-at, drop-set-add}
 use borrow.Author.Tests.{eq-eqb, ne-eqb, eqb-true}
 use borrow.Rule.Slice.PartMut.{putMid, post-is}
 use Rattle.byte_lists.specs.Lists.{tabulate}
@@ -65,14 +65,45 @@ numbers-are (x0 ∷ x1 ∷ x2 ∷ x3 ∷ x4 ∷ x5 ∷ l) a b c d e f row o h p 
     ∙ ap (λ (z : List ℕ). a ∷ b ∷ c ∷ d ∷ e ∷ f ∷ z) (last-row row l (let s : length l ≡ 16 = omega arith in s))
 
 -- the bytes of an answer: three bytes and two rows
-pub shown-are : (out : List ℕ) (x y z : ℕ) (a b o1 o2 : List ℕ) → length out ≡ 35 → length a ≡ 16
-    → o1 ≡ rowPut 3 a (set (set (set out 0 x) 1 y) 2 z) → o2 ≡ rowPut 19 b o1 → o2 ≡ x ∷ y ∷ z ∷ (a ++ b)
-shown-are [] x y z a b o1 o2 h la p1 p2 = absurd (omega arith)
-shown-are (x0 ∷ []) x y z a b o1 o2 h la p1 p2 = absurd (omega arith)
-shown-are (x0 ∷ x1 ∷ []) x y z a b o1 o2 h la p1 p2 = absurd (omega arith)
-shown-are (x0 ∷ x1 ∷ x2 ∷ l) x y z a b o1 o2 h la p1 p2 =
-    p2 ∙ put-behind (x ∷ y ∷ z ∷ a) (drop 16 l) b o1 19 (omega arith) (p1 ∙ put-behind (x ∷ y ∷ z ∷ []) l a (x ∷ y ∷ z ∷ l) 3 refl refl)
-    ∙ ap (λ (r : List ℕ). x ∷ y ∷ z ∷ (a ++ r)) (last-row b (drop 16 l) (length-drop 16 l ∙ (omega arith)))
+pub only : (l : List ℕ) (w : ℕ) → length l ≡ 1 → set l 0 w ≡ w ∷ []
+only [] w h = absurd (omega arith)
+only (x ∷ []) w h = refl
+only (x ∷ y ∷ l) w h = absurd (omega arith)
+
+pub shown-are : (out : List ℕ) (x y z w : ℕ) (a b c o1 o2 o3 : List ℕ) → length out ≡ 52 → length a ≡ 16 → length b ≡ 16
+    → o1 ≡ rowPut 3 a (set (set (set (set out 0 x) 1 y) 2 z) 51 w) → o2 ≡ rowPut 19 b o1 → o3 ≡ rowPut 35 c o2
+    → o3 ≡ x ∷ y ∷ z ∷ (a ++ (b ++ (c ++ w ∷ [])))
+shown-are [] x y z w a b c o1 o2 o3 h la lb p1 p2 p3 = absurd (omega arith)
+shown-are (x0 ∷ []) x y z w a b c o1 o2 o3 h la lb p1 p2 p3 = absurd (omega arith)
+shown-are (x0 ∷ x1 ∷ []) x y z w a b c o1 o2 o3 h la lb p1 p2 p3 = absurd (omega arith)
+shown-are (x0 ∷ x1 ∷ x2 ∷ l) x y z w a b c o1 o2 o3 h la lb p1 p2 p3 =
+    third ∙ ap (λ (r : List ℕ). x ∷ y ∷ z ∷ r) (append-assoc a b (c ++ drop 16 l2))
+    ∙ ap (λ (r : List ℕ). x ∷ y ∷ z ∷ (a ++ (b ++ (c ++ r)))) left
+  where
+    l1 : List ℕ
+    l1 = drop 16 (set l 48 w)
+
+    l2 : List ℕ
+    l2 = drop 16 l1
+
+    first : o1 ≡ x ∷ y ∷ z ∷ (a ++ l1)
+    first = p1 ∙ put-behind (x ∷ y ∷ z ∷ []) (set l 48 w) a (x ∷ y ∷ z ∷ set l 48 w) 3 refl refl
+
+    second : o2 ≡ x ∷ y ∷ z ∷ (a ++ (b ++ l2))
+    second = p2 ∙ put-behind (x ∷ y ∷ z ∷ a) l1 b o1 19 (omega arith) first
+
+    third : o3 ≡ (x ∷ y ∷ z ∷ (a ++ b)) ++ (c ++ drop 16 l2)
+    third =
+        p3 ∙ put-behind (x ∷ y ∷ z ∷ (a ++ b)) l2 c o2 35 (omega (arith, length-append a b))
+        (second ∙ ap (λ (r : List ℕ). x ∷ y ∷ z ∷ r) (sym (append-assoc a b l2)))
+
+    left : drop 16 l2 ≡ w ∷ []
+    left =
+        ap (λ (r : List ℕ). drop 16 (drop 16 r)) (drop-set-add 16 l 32 w) ∙ ap (drop 16) (drop-set-add 16 (drop 16 l) 16 w)
+        ∙ drop-set-add 16 (drop 16 (drop 16 l)) 0 w
+        ∙ only (drop 16 (drop 16 (drop 16 l))) w
+        (length-drop 16 (drop 16 (drop 16 l)) ∙ ap (λ (k : ℕ). k - 16) (length-drop 16 (drop 16 l))
+        ∙ ap (λ (k : ℕ). k - 16 - 16) (length-drop 16 l) ∙ (omega arith))
 
 -- the bytes of a record: two bytes and four rows
 pub bytes-are : (out : List ℕ) (x y : ℕ) (a b c d o1 o2 o3 o4 : List ℕ) → length out ≡ 66 → length a ≡ 16 → length b ≡ 16 → length c ≡ 16
@@ -115,14 +146,18 @@ bytes-are (x0 ∷ x1 ∷ l) x y a b c d o1 o2 o3 o4 h la lb lc p1 p2 p3 p4 =
     third = p3 ∙ put-behind (x ∷ y ∷ (a ++ b)) l2 c o2 34 long-2 (second ∙ ap (λ (r : List ℕ). x ∷ y ∷ r) (sym (append-assoc a b l2)))
 
 -- the numbers of an answer
-pub five : (l : List ℕ) (a b c d e : ℕ) → length l ≡ 5 → set (set (set (set (set l 0 a) 1 b) 2 c) 3 d) 4 e ≡ a ∷ b ∷ c ∷ d ∷ e ∷ []
-five [] a b c d e h = absurd (omega arith)
-five (x0 ∷ []) a b c d e h = absurd (omega arith)
-five (x0 ∷ x1 ∷ []) a b c d e h = absurd (omega arith)
-five (x0 ∷ x1 ∷ x2 ∷ []) a b c d e h = absurd (omega arith)
-five (x0 ∷ x1 ∷ x2 ∷ x3 ∷ []) a b c d e h = absurd (omega arith)
-five (x0 ∷ x1 ∷ x2 ∷ x3 ∷ x4 ∷ []) a b c d e h = refl
-five (x0 ∷ x1 ∷ x2 ∷ x3 ∷ x4 ∷ y ∷ l) a b c d e h = absurd (omega arith)
+pub eight : (l : List ℕ) (a b c d e f g k : ℕ) → length l ≡ 8
+    → set (set (set (set (set (set (set (set l 0 a) 1 b) 2 c) 3 d) 4 e) 5 f) 6 g) 7 k ≡ a ∷ b ∷ c ∷ d ∷ e ∷ f ∷ g ∷ k ∷ []
+eight [] a b c d e f g k h = absurd (omega arith)
+eight (x0 ∷ []) a b c d e f g k h = absurd (omega arith)
+eight (x0 ∷ x1 ∷ []) a b c d e f g k h = absurd (omega arith)
+eight (x0 ∷ x1 ∷ x2 ∷ []) a b c d e f g k h = absurd (omega arith)
+eight (x0 ∷ x1 ∷ x2 ∷ x3 ∷ []) a b c d e f g k h = absurd (omega arith)
+eight (x0 ∷ x1 ∷ x2 ∷ x3 ∷ x4 ∷ []) a b c d e f g k h = absurd (omega arith)
+eight (x0 ∷ x1 ∷ x2 ∷ x3 ∷ x4 ∷ x5 ∷ []) a b c d e f g k h = absurd (omega arith)
+eight (x0 ∷ x1 ∷ x2 ∷ x3 ∷ x4 ∷ x5 ∷ x6 ∷ []) a b c d e f g k h = absurd (omega arith)
+eight (x0 ∷ x1 ∷ x2 ∷ x3 ∷ x4 ∷ x5 ∷ x6 ∷ x7 ∷ []) a b c d e f g k h = refl
+eight (x0 ∷ x1 ∷ x2 ∷ x3 ∷ x4 ∷ x5 ∷ x6 ∷ x7 ∷ y ∷ l) a b c d e f g k h = absurd (omega arith)
 
 -- the ways through the test of the four buffers
 pub lent-no-numbers : (a b c d : ℕ) → (a ≡ 22 → ⊥) → false ≡ lentLengths a b c d
@@ -133,13 +168,13 @@ pub lent-no-bytes : (a b c d : ℕ) → a ≡ 22 → (b ≡ 66 → ⊥) → fals
 unfolding lentLengths
 lent-no-bytes a b c d e h = rw (eq-eqb a 22 e, ne-eqb b 66 h) refl
 
-pub lent-no-sent : (a b c d : ℕ) → a ≡ 22 → b ≡ 66 → (c ≡ 5 → ⊥) → false ≡ lentLengths a b c d
+pub lent-no-sent : (a b c d : ℕ) → a ≡ 22 → b ≡ 66 → (c ≡ 8 → ⊥) → false ≡ lentLengths a b c d
 unfolding lentLengths
-lent-no-sent a b c d e f h = rw (eq-eqb a 22 e, eq-eqb b 66 f, ne-eqb c 5 h) refl
+lent-no-sent a b c d e f h = rw (eq-eqb a 22 e, eq-eqb b 66 f, ne-eqb c 8 h) refl
 
-pub lent-last : (a b c d : ℕ) → a ≡ 22 → b ≡ 66 → c ≡ 5 → eqb d 35 ≡ lentLengths a b c d
+pub lent-last : (a b c d : ℕ) → a ≡ 22 → b ≡ 66 → c ≡ 8 → eqb d 52 ≡ lentLengths a b c d
 unfolding lentLengths
-lent-last a b c d e f g = rw (eq-eqb a 22 e, eq-eqb b 66 f, eq-eqb c 5 g) refl
+lent-last a b c d e f g = rw (eq-eqb a 22 e, eq-eqb b 66 f, eq-eqb c 8 g) refl
 
 -- an answer written, or refused
 pub said-refused : (a : Answer) (new old : List ℕ) → (a .refusal ≡ 0 → ⊥) → old ≡ saidOr a new old
@@ -159,6 +194,9 @@ two-set l n i j x y e = length-set (set l i x) j y ∙ length-set l i x ∙ e
 
 pub three-set : (l : List ℕ) (n i j k x y z : ℕ) → length l ≡ n → length (set (set (set l i x) j y) k z) ≡ n
 three-set l n i j k x y z e = length-set (set (set l i x) j y) k z ∙ two-set l n i j x y e
+
+pub four-set : (l : List ℕ) (n i j k i′ x y z x′ : ℕ) → length l ≡ n → length (set (set (set (set l i x) j y) k z) i′ x′) ≡ n
+four-set l n i j k i′ x y z x′ e = length-set (set (set (set l i x) j y) k z) i′ x′ ∙ three-set l n i j k x y z e
 
 pub six-set : (l : List ℕ) (n i j k i′ j′ k′ x y z x′ y′ z′ : ℕ) → length l ≡ n
     → length (set (set (set (set (set (set l i x) j y) k z) i′ x′) j′ y′) k′ z′) ≡ n
@@ -191,8 +229,8 @@ record-is numbers bytes found counted granted held bricks ef ec eg eh eb = rw (e
 pub record Lengths (numbers bytes sent shown : ℕ) : Type 0 where
   pub numbers-long : numbers ≡ 22
   pub bytes-long : bytes ≡ 66
-  pub sent-long : sent ≡ 5
-  pub shown-long : shown ≡ 35
+  pub sent-long : sent ≡ 8
+  pub shown-long : shown ≡ 52
 
 pub lengths : (a b c d : ℕ) → lentLengths a b c d ≡ true → Lengths a b c d
 unfolding lentLengths
@@ -202,8 +240,8 @@ lengths a b c d e =
     record {
       numbers-long = eqb-true a 22 (and-left (eqb a 22) _ e);
       bytes-long = eqb-true b 66 (and-left (eqb b 66) _ e2);
-      sent-long = eqb-true c 5 (and-left (eqb c 5) _ e3);
-      shown-long = eqb-true d 35 (and-right (eqb c 5) _ e3);
+      sent-long = eqb-true c 8 (and-left (eqb c 8) _ e3);
+      shown-long = eqb-true d 52 (and-right (eqb c 8) _ e3);
     }
 
 -- a number or buffer behind a test that fails, or holds
