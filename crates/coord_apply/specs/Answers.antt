@@ -101,3 +101,17 @@ stripeAfter h (went w) = w .next .stripe
 unfoldable pub codedAfter : List ℕ → Step → List ℕ
 codedAfter old (refused number) = old
 codedAfter old (went w) = sentBlocks (w .sent) old
+
+-- What a call leaves: the answer, and every byte of the lent buffers, the reply blocks, the stripe and the blocks to send.
+pub record Returned : Type 0 where
+  pub answer : Answer
+  pub blocks : List ℕ
+  pub stripe : List ℕ
+  pub coded : List ℕ
+
+abbrev pub returned : Answer → (blocks stripe coded : List ℕ) → Returned
+returned a blocks stripe coded = record { answer = a; blocks = blocks; stripe = stripe; coded = coded }
+
+-- what a call of this step leaves
+unfoldable pub returnedBy : Buffered → List ℕ → Step → Returned
+returnedBy h coded p = returned (answerOf (h .state) p) (blocksAfter h p) (stripeAfter h p) (codedAfter coded p)

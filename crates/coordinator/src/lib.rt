@@ -4,10 +4,9 @@ ghost use mathlib.Core.Path.{_≡_};
 ghost use mathlib.Core.List.{List};
 ghost use Prim.Native.Nat.{ℕ, _<_};
 ghost use lib.ListN.{length};
-ghost use Rattle.coord_apply.specs.Acts.{buffered};
 ghost use Rattle.coord_apply.specs.Acts.{withTally, firstOp};
-ghost use Rattle.coord_apply.specs.Answers.{refused, answerOf, blocksAfter, stripeAfter, codedAfter};
-ghost use Rattle.coordinator.specs.Routines.{writeStep, readStep, takeStep, crashStep};
+ghost use Rattle.coord_apply.specs.Answers.{refused, answerOf, returned};
+ghost use Rattle.coordinator.specs.Routines.{writeCall, readCall, takeCall, crashCall};
 ghost use Rattle.coordinator.specs.Workers.{keptAnswer, startAnswer, keptBlocks, KeepsReply};
 use coord_apply::Answer;
 use coord_apply::BEGAN;
@@ -142,8 +141,8 @@ pub fn start_write(
     bytes: &[u8],
     stripe: &mut [u8],
 ) -> Answer
-    ensures { λ r. ⌜ ((blocks : List ℕ) → r ≡ answerOf c (writeStep n m size (buffered c blocks (now (stripe .entry))) reading (now (bytes .entry)))) ⌝ }
-    ensures { λ r. ⌜ ((blocks : List ℕ) → now (stripe .exit) ≡ stripeAfter (buffered c blocks (now (stripe .entry))) (writeStep n m size (buffered c blocks (now (stripe .entry))) reading (now (bytes .entry)))) ⌝ }
+    ensures { λ r. ⌜ ((blocks coded : List ℕ) → returned r blocks (now (stripe .exit)) coded
+        ≡ writeCall n m size c blocks (now (stripe .entry)) coded reading (now (bytes .entry))) ⌝ }
 {
     let bad = write_refusal(n, m, size, c, reading, bytes.len(), stripe.len());
     if bad != 0 {
@@ -169,7 +168,7 @@ pub fn start_read(
     reading: u64,
     first: usize,
 ) -> Answer
-    ensures { λ r. ⌜ ((blocks stripe : List ℕ) → r ≡ answerOf c (readStep n m size (buffered c blocks stripe) reading first)) ⌝ }
+    ensures { λ r. ⌜ ((blocks stripe coded : List ℕ) → returned r blocks stripe coded ≡ readCall n m size c blocks stripe coded reading first) ⌝ }
 {
     let bad = read_refusal(n, m, size, c, reading, first);
     if bad != 0 {
@@ -187,7 +186,7 @@ pub fn start_read(
 
 // A crash: the coordinator is idle and keeps its count. Refused: 1 settings, 3 the coordinator's number, 6 the record.
 pub fn crash(n: usize, m: usize, size: usize, c: Coordinator) -> Answer
-    ensures { λ r. ⌜ ((blocks stripe : List ℕ) → r ≡ answerOf c (crashStep n m size (buffered c blocks stripe))) ⌝ }
+    ensures { λ r. ⌜ ((blocks stripe coded : List ℕ) → returned r blocks stripe coded ≡ crashCall n m size c blocks stripe coded) ⌝ }
 {
     let bad = crash_refusal(n, m, size, c);
     if bad != 0 {
@@ -214,10 +213,8 @@ pub fn take_reply(
     stripe: &mut [u8],
     coded: &mut [u8],
 ) -> Answer
-    ensures { λ r. ⌜ r ≡ answerOf c (takeStep n m size (buffered c (now (blocks .entry)) (now (stripe .entry))) reply (now (block .entry)) (length (now (coded .entry)))) ⌝ }
-    ensures { λ r. ⌜ now (blocks .exit) ≡ blocksAfter (buffered c (now (blocks .entry)) (now (stripe .entry))) (takeStep n m size (buffered c (now (blocks .entry)) (now (stripe .entry))) reply (now (block .entry)) (length (now (coded .entry)))) ⌝ }
-    ensures { λ r. ⌜ now (stripe .exit) ≡ stripeAfter (buffered c (now (blocks .entry)) (now (stripe .entry))) (takeStep n m size (buffered c (now (blocks .entry)) (now (stripe .entry))) reply (now (block .entry)) (length (now (coded .entry)))) ⌝ }
-    ensures { λ r. ⌜ now (coded .exit) ≡ codedAfter (now (coded .entry)) (takeStep n m size (buffered c (now (blocks .entry)) (now (stripe .entry))) reply (now (block .entry)) (length (now (coded .entry)))) ⌝ }
+    ensures { λ r. ⌜ returned r (now (blocks .exit)) (now (stripe .exit)) (now (coded .exit))
+        ≡ takeCall n m size c (now (blocks .entry)) (now (stripe .entry)) (now (coded .entry)) reply (now (block .entry)) ⌝ }
 {
     let bad = take_refusal(
         n,

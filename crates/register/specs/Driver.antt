@@ -1,6 +1,6 @@
 -- Why the runs are the code's: whoever calls the routines, and does with their answers what a driver does, moves through `run`.
--- A brick's routine gives `outcome`, a coordinator's the parts `answerOf`, `blocksAfter`, `stripeAfter`, `codedAfter` of its step: so their
--- contracts say. From these parts alone the world's next state is made.
+-- A brick's routine gives `outcome`, a coordinator's `returnedBy` of its step, that is `answerOf`, `blocksAfter`, `stripeAfter` and
+-- `codedAfter`: so their contracts say. From these parts alone the world's next state is made.
 use mathlib.Core.Path.{_≡_}
 use mathlib.Core.Bool.{false}
 use mathlib.Core.List.{List, [], _∷_, _++_}

@@ -4,8 +4,9 @@ ghost use mathlib.Core.Path.{_≡_};
 ghost use mathlib.Core.List.{[]};
 ghost use Prim.Native.Nat.{_+_, _≤_};
 ghost use lib.ListN.{length};
-ghost use Rattle.coord_apply.specs.Answers.{blocksAfter, stripeAfter, codedAfter};
-ghost use Rattle.test_coordinator.specs.CoordinatorBoundary.{recordFor, recordNumbers, recordBytes, answerNumbers, answerBytes, lent, lentLengths, saidOr, numberIf, bufferIf, rowPut, replyFor, held, answered, wrote, looked, took, fell};
+ghost use Rattle.test_coordinator.specs.CoordinatorBoundary.{recordFor, recordNumbers, recordBytes, answerNumbers, answerBytes};
+ghost use Rattle.test_coordinator.specs.CoordinatorBoundary.{lentLengths, rows, laidOut, atBoundary, rowPut, replyFor};
+ghost use Rattle.test_coordinator.specs.CoordinatorBoundary.{wrote, looked, took, fell};
 use coord_apply::Answer;
 use coord_record::Coordinator;
 use coord_record::Op;
@@ -236,10 +237,8 @@ fn put_answer(
     requires { ⌜ length (now sent) ≡ 8 ⌝ }
     requires { ⌜ length (now shown) ≡ 52 ⌝ }
     ensures { λ r. ⌜ r ≡ a .refusal ⌝ }
-    ensures { λ r. ⌜ now (numbers .exit) ≡ saidOr a (recordNumbers (a .next)) (now (numbers .entry)) ⌝ }
-    ensures { λ r. ⌜ now (bytes .exit) ≡ saidOr a (recordBytes (a .next)) (now (bytes .entry)) ⌝ }
-    ensures { λ r. ⌜ now (sent .exit) ≡ saidOr a (answerNumbers a) (now (sent .entry)) ⌝ }
-    ensures { λ r. ⌜ now (shown .exit) ≡ saidOr a (answerBytes a) (now (shown .entry)) ⌝ }
+    ensures { λ r. ⌜ rows (now (numbers .exit)) (now (bytes .exit)) (now (sent .exit)) (now (shown .exit))
+        ≡ laidOut (rows (now (numbers .entry)) (now (bytes .entry)) (now (sent .entry)) (now (shown .entry))) a ⌝ }
 {
     if a.refusal != 0 {
         return a.refusal;
@@ -266,12 +265,10 @@ pub extern "C" fn coord_start_write(
     given: &[u8],
     stripe: &mut [u8],
 ) -> u32
-    ensures { λ r. ⌜ r ≡ numberIf (lent (now (numbers .entry)) (now (bytes .entry)) (now (sent .entry)) (now (shown .entry))) (answered (now (numbers .entry)) (now (bytes .entry)) (wrote n m size (now (numbers .entry)) (now (bytes .entry)) reading (now (given .entry)) (now (stripe .entry))) .refusal) ⌝ }
-    ensures { λ r. ⌜ now (numbers .exit) ≡ bufferIf (lent (now (numbers .entry)) (now (bytes .entry)) (now (sent .entry)) (now (shown .entry))) (saidOr (answered (now (numbers .entry)) (now (bytes .entry)) (wrote n m size (now (numbers .entry)) (now (bytes .entry)) reading (now (given .entry)) (now (stripe .entry)))) (recordNumbers (answered (now (numbers .entry)) (now (bytes .entry)) (wrote n m size (now (numbers .entry)) (now (bytes .entry)) reading (now (given .entry)) (now (stripe .entry))) .next)) (now (numbers .entry))) (now (numbers .entry)) ⌝ }
-    ensures { λ r. ⌜ now (bytes .exit) ≡ bufferIf (lent (now (numbers .entry)) (now (bytes .entry)) (now (sent .entry)) (now (shown .entry))) (saidOr (answered (now (numbers .entry)) (now (bytes .entry)) (wrote n m size (now (numbers .entry)) (now (bytes .entry)) reading (now (given .entry)) (now (stripe .entry)))) (recordBytes (answered (now (numbers .entry)) (now (bytes .entry)) (wrote n m size (now (numbers .entry)) (now (bytes .entry)) reading (now (given .entry)) (now (stripe .entry))) .next)) (now (bytes .entry))) (now (bytes .entry)) ⌝ }
-    ensures { λ r. ⌜ now (sent .exit) ≡ bufferIf (lent (now (numbers .entry)) (now (bytes .entry)) (now (sent .entry)) (now (shown .entry))) (saidOr (answered (now (numbers .entry)) (now (bytes .entry)) (wrote n m size (now (numbers .entry)) (now (bytes .entry)) reading (now (given .entry)) (now (stripe .entry)))) (answerNumbers (answered (now (numbers .entry)) (now (bytes .entry)) (wrote n m size (now (numbers .entry)) (now (bytes .entry)) reading (now (given .entry)) (now (stripe .entry))))) (now (sent .entry))) (now (sent .entry)) ⌝ }
-    ensures { λ r. ⌜ now (shown .exit) ≡ bufferIf (lent (now (numbers .entry)) (now (bytes .entry)) (now (sent .entry)) (now (shown .entry))) (saidOr (answered (now (numbers .entry)) (now (bytes .entry)) (wrote n m size (now (numbers .entry)) (now (bytes .entry)) reading (now (given .entry)) (now (stripe .entry)))) (answerBytes (answered (now (numbers .entry)) (now (bytes .entry)) (wrote n m size (now (numbers .entry)) (now (bytes .entry)) reading (now (given .entry)) (now (stripe .entry))))) (now (shown .entry))) (now (shown .entry)) ⌝ }
-    ensures { λ r. ⌜ now (stripe .exit) ≡ bufferIf (lent (now (numbers .entry)) (now (bytes .entry)) (now (sent .entry)) (now (shown .entry))) (stripeAfter (held (now (numbers .entry)) (now (bytes .entry)) [] (now (stripe .entry))) (wrote n m size (now (numbers .entry)) (now (bytes .entry)) reading (now (given .entry)) (now (stripe .entry)))) (now (stripe .entry)) ⌝ }
+    ensures { λ r. ⌜ atBoundary r (rows (now (numbers .exit)) (now (bytes .exit)) (now (sent .exit)) (now (shown .exit)))
+        [] (now (stripe .exit)) []
+        ≡ wrote n m size (rows (now (numbers .entry)) (now (bytes .entry)) (now (sent .entry)) (now (shown .entry)))
+        reading (now (given .entry)) (now (stripe .entry)) ⌝ }
 {
     if lent_right(numbers.len(), bytes.len(), sent.len(), shown.len()) {} else {
         return 2;
@@ -294,11 +291,8 @@ pub extern "C" fn coord_start_read(
     reading: u64,
     first: usize,
 ) -> u32
-    ensures { λ r. ⌜ r ≡ numberIf (lent (now (numbers .entry)) (now (bytes .entry)) (now (sent .entry)) (now (shown .entry))) (answered (now (numbers .entry)) (now (bytes .entry)) (looked n m size (now (numbers .entry)) (now (bytes .entry)) reading first) .refusal) ⌝ }
-    ensures { λ r. ⌜ now (numbers .exit) ≡ bufferIf (lent (now (numbers .entry)) (now (bytes .entry)) (now (sent .entry)) (now (shown .entry))) (saidOr (answered (now (numbers .entry)) (now (bytes .entry)) (looked n m size (now (numbers .entry)) (now (bytes .entry)) reading first)) (recordNumbers (answered (now (numbers .entry)) (now (bytes .entry)) (looked n m size (now (numbers .entry)) (now (bytes .entry)) reading first) .next)) (now (numbers .entry))) (now (numbers .entry)) ⌝ }
-    ensures { λ r. ⌜ now (bytes .exit) ≡ bufferIf (lent (now (numbers .entry)) (now (bytes .entry)) (now (sent .entry)) (now (shown .entry))) (saidOr (answered (now (numbers .entry)) (now (bytes .entry)) (looked n m size (now (numbers .entry)) (now (bytes .entry)) reading first)) (recordBytes (answered (now (numbers .entry)) (now (bytes .entry)) (looked n m size (now (numbers .entry)) (now (bytes .entry)) reading first) .next)) (now (bytes .entry))) (now (bytes .entry)) ⌝ }
-    ensures { λ r. ⌜ now (sent .exit) ≡ bufferIf (lent (now (numbers .entry)) (now (bytes .entry)) (now (sent .entry)) (now (shown .entry))) (saidOr (answered (now (numbers .entry)) (now (bytes .entry)) (looked n m size (now (numbers .entry)) (now (bytes .entry)) reading first)) (answerNumbers (answered (now (numbers .entry)) (now (bytes .entry)) (looked n m size (now (numbers .entry)) (now (bytes .entry)) reading first))) (now (sent .entry))) (now (sent .entry)) ⌝ }
-    ensures { λ r. ⌜ now (shown .exit) ≡ bufferIf (lent (now (numbers .entry)) (now (bytes .entry)) (now (sent .entry)) (now (shown .entry))) (saidOr (answered (now (numbers .entry)) (now (bytes .entry)) (looked n m size (now (numbers .entry)) (now (bytes .entry)) reading first)) (answerBytes (answered (now (numbers .entry)) (now (bytes .entry)) (looked n m size (now (numbers .entry)) (now (bytes .entry)) reading first))) (now (shown .entry))) (now (shown .entry)) ⌝ }
+    ensures { λ r. ⌜ atBoundary r (rows (now (numbers .exit)) (now (bytes .exit)) (now (sent .exit)) (now (shown .exit))) [] [] []
+        ≡ looked n m size (rows (now (numbers .entry)) (now (bytes .entry)) (now (sent .entry)) (now (shown .entry))) reading first ⌝ }
 {
     if lent_right(numbers.len(), bytes.len(), sent.len(), shown.len()) {} else {
         return 2;
@@ -330,14 +324,11 @@ pub extern "C" fn coord_take_reply(
     stripe: &mut [u8],
     coded: &mut [u8],
 ) -> u32
-    ensures { λ r. ⌜ r ≡ numberIf (lent (now (numbers .entry)) (now (bytes .entry)) (now (sent .entry)) (now (shown .entry))) (answered (now (numbers .entry)) (now (bytes .entry)) (took n m size (now (numbers .entry)) (now (bytes .entry)) (replyFor kind brick time round yes found has) (now (block .entry)) (now (blocks .entry)) (now (stripe .entry)) (length (now (coded .entry)))) .refusal) ⌝ }
-    ensures { λ r. ⌜ now (numbers .exit) ≡ bufferIf (lent (now (numbers .entry)) (now (bytes .entry)) (now (sent .entry)) (now (shown .entry))) (saidOr (answered (now (numbers .entry)) (now (bytes .entry)) (took n m size (now (numbers .entry)) (now (bytes .entry)) (replyFor kind brick time round yes found has) (now (block .entry)) (now (blocks .entry)) (now (stripe .entry)) (length (now (coded .entry))))) (recordNumbers (answered (now (numbers .entry)) (now (bytes .entry)) (took n m size (now (numbers .entry)) (now (bytes .entry)) (replyFor kind brick time round yes found has) (now (block .entry)) (now (blocks .entry)) (now (stripe .entry)) (length (now (coded .entry)))) .next)) (now (numbers .entry))) (now (numbers .entry)) ⌝ }
-    ensures { λ r. ⌜ now (bytes .exit) ≡ bufferIf (lent (now (numbers .entry)) (now (bytes .entry)) (now (sent .entry)) (now (shown .entry))) (saidOr (answered (now (numbers .entry)) (now (bytes .entry)) (took n m size (now (numbers .entry)) (now (bytes .entry)) (replyFor kind brick time round yes found has) (now (block .entry)) (now (blocks .entry)) (now (stripe .entry)) (length (now (coded .entry))))) (recordBytes (answered (now (numbers .entry)) (now (bytes .entry)) (took n m size (now (numbers .entry)) (now (bytes .entry)) (replyFor kind brick time round yes found has) (now (block .entry)) (now (blocks .entry)) (now (stripe .entry)) (length (now (coded .entry)))) .next)) (now (bytes .entry))) (now (bytes .entry)) ⌝ }
-    ensures { λ r. ⌜ now (sent .exit) ≡ bufferIf (lent (now (numbers .entry)) (now (bytes .entry)) (now (sent .entry)) (now (shown .entry))) (saidOr (answered (now (numbers .entry)) (now (bytes .entry)) (took n m size (now (numbers .entry)) (now (bytes .entry)) (replyFor kind brick time round yes found has) (now (block .entry)) (now (blocks .entry)) (now (stripe .entry)) (length (now (coded .entry))))) (answerNumbers (answered (now (numbers .entry)) (now (bytes .entry)) (took n m size (now (numbers .entry)) (now (bytes .entry)) (replyFor kind brick time round yes found has) (now (block .entry)) (now (blocks .entry)) (now (stripe .entry)) (length (now (coded .entry)))))) (now (sent .entry))) (now (sent .entry)) ⌝ }
-    ensures { λ r. ⌜ now (shown .exit) ≡ bufferIf (lent (now (numbers .entry)) (now (bytes .entry)) (now (sent .entry)) (now (shown .entry))) (saidOr (answered (now (numbers .entry)) (now (bytes .entry)) (took n m size (now (numbers .entry)) (now (bytes .entry)) (replyFor kind brick time round yes found has) (now (block .entry)) (now (blocks .entry)) (now (stripe .entry)) (length (now (coded .entry))))) (answerBytes (answered (now (numbers .entry)) (now (bytes .entry)) (took n m size (now (numbers .entry)) (now (bytes .entry)) (replyFor kind brick time round yes found has) (now (block .entry)) (now (blocks .entry)) (now (stripe .entry)) (length (now (coded .entry)))))) (now (shown .entry))) (now (shown .entry)) ⌝ }
-    ensures { λ r. ⌜ now (blocks .exit) ≡ bufferIf (lent (now (numbers .entry)) (now (bytes .entry)) (now (sent .entry)) (now (shown .entry))) (blocksAfter (held (now (numbers .entry)) (now (bytes .entry)) (now (blocks .entry)) (now (stripe .entry))) (took n m size (now (numbers .entry)) (now (bytes .entry)) (replyFor kind brick time round yes found has) (now (block .entry)) (now (blocks .entry)) (now (stripe .entry)) (length (now (coded .entry))))) (now (blocks .entry)) ⌝ }
-    ensures { λ r. ⌜ now (stripe .exit) ≡ bufferIf (lent (now (numbers .entry)) (now (bytes .entry)) (now (sent .entry)) (now (shown .entry))) (stripeAfter (held (now (numbers .entry)) (now (bytes .entry)) (now (blocks .entry)) (now (stripe .entry))) (took n m size (now (numbers .entry)) (now (bytes .entry)) (replyFor kind brick time round yes found has) (now (block .entry)) (now (blocks .entry)) (now (stripe .entry)) (length (now (coded .entry))))) (now (stripe .entry)) ⌝ }
-    ensures { λ r. ⌜ now (coded .exit) ≡ bufferIf (lent (now (numbers .entry)) (now (bytes .entry)) (now (sent .entry)) (now (shown .entry))) (codedAfter (now (coded .entry)) (took n m size (now (numbers .entry)) (now (bytes .entry)) (replyFor kind brick time round yes found has) (now (block .entry)) (now (blocks .entry)) (now (stripe .entry)) (length (now (coded .entry))))) (now (coded .entry)) ⌝ }
+    ensures { λ r. ⌜ atBoundary r (rows (now (numbers .exit)) (now (bytes .exit)) (now (sent .exit)) (now (shown .exit)))
+        (now (blocks .exit)) (now (stripe .exit)) (now (coded .exit))
+        ≡ took n m size (rows (now (numbers .entry)) (now (bytes .entry)) (now (sent .entry)) (now (shown .entry)))
+        (replyFor kind brick time round yes found has) (now (block .entry))
+        (now (blocks .entry)) (now (stripe .entry)) (now (coded .entry)) ⌝ }
 {
     if lent_right(numbers.len(), bytes.len(), sent.len(), shown.len()) {} else {
         return 2;
@@ -367,11 +358,8 @@ pub extern "C" fn coord_crash(
     sent: &mut [u64],
     shown: &mut [u8],
 ) -> u32
-    ensures { λ r. ⌜ r ≡ numberIf (lent (now (numbers .entry)) (now (bytes .entry)) (now (sent .entry)) (now (shown .entry))) (answered (now (numbers .entry)) (now (bytes .entry)) (fell n m size (now (numbers .entry)) (now (bytes .entry))) .refusal) ⌝ }
-    ensures { λ r. ⌜ now (numbers .exit) ≡ bufferIf (lent (now (numbers .entry)) (now (bytes .entry)) (now (sent .entry)) (now (shown .entry))) (saidOr (answered (now (numbers .entry)) (now (bytes .entry)) (fell n m size (now (numbers .entry)) (now (bytes .entry)))) (recordNumbers (answered (now (numbers .entry)) (now (bytes .entry)) (fell n m size (now (numbers .entry)) (now (bytes .entry))) .next)) (now (numbers .entry))) (now (numbers .entry)) ⌝ }
-    ensures { λ r. ⌜ now (bytes .exit) ≡ bufferIf (lent (now (numbers .entry)) (now (bytes .entry)) (now (sent .entry)) (now (shown .entry))) (saidOr (answered (now (numbers .entry)) (now (bytes .entry)) (fell n m size (now (numbers .entry)) (now (bytes .entry)))) (recordBytes (answered (now (numbers .entry)) (now (bytes .entry)) (fell n m size (now (numbers .entry)) (now (bytes .entry))) .next)) (now (bytes .entry))) (now (bytes .entry)) ⌝ }
-    ensures { λ r. ⌜ now (sent .exit) ≡ bufferIf (lent (now (numbers .entry)) (now (bytes .entry)) (now (sent .entry)) (now (shown .entry))) (saidOr (answered (now (numbers .entry)) (now (bytes .entry)) (fell n m size (now (numbers .entry)) (now (bytes .entry)))) (answerNumbers (answered (now (numbers .entry)) (now (bytes .entry)) (fell n m size (now (numbers .entry)) (now (bytes .entry))))) (now (sent .entry))) (now (sent .entry)) ⌝ }
-    ensures { λ r. ⌜ now (shown .exit) ≡ bufferIf (lent (now (numbers .entry)) (now (bytes .entry)) (now (sent .entry)) (now (shown .entry))) (saidOr (answered (now (numbers .entry)) (now (bytes .entry)) (fell n m size (now (numbers .entry)) (now (bytes .entry)))) (answerBytes (answered (now (numbers .entry)) (now (bytes .entry)) (fell n m size (now (numbers .entry)) (now (bytes .entry))))) (now (shown .entry))) (now (shown .entry)) ⌝ }
+    ensures { λ r. ⌜ atBoundary r (rows (now (numbers .exit)) (now (bytes .exit)) (now (sent .exit)) (now (shown .exit))) [] [] []
+        ≡ fell n m size (rows (now (numbers .entry)) (now (bytes .entry)) (now (sent .entry)) (now (shown .entry))) ⌝ }
 {
     if lent_right(numbers.len(), bytes.len(), sent.len(), shown.len()) {} else {
         return 2;

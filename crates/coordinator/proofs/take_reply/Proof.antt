@@ -1,6 +1,6 @@
 use lib.ListN.{length}
 use native.Mathlib.Omega.{arith}
-use Rattle.coordinator.proofs.Laws.RoutineLaws.{Took, stepHere, Takes, keeps, take-passed, ready-here, decided-here, took-refused, took-waiting, took-acted}
+use Rattle.coordinator.proofs.Laws.RoutineLaws.{Takes, keeps, take-passed, ready-here, decided-here, took-refused, took-waiting, took-acted}
 use borrow.Author.Needs.{needs}
 use Rattle.coordinator.proofs.take_reply.Statement.{statement}
 use Rattle.coordinator.proofs.take_reply.Tie as tie
@@ -16,7 +16,6 @@ refuse-requires : tie.Need-refuse-requires
 refuse-requires c κs = search needs
 
 returns : tie.Need-returns
-unfolding Took stepHere
 returns c = took-refused _ _ _ _ _ (c .before .before .before .before .before .before .before .args .block .now) (c .before .before .before .before .before .before .before .args .blocks .now) (c .before .before .before .before .before .before .before .args .stripe .now) (c .before .before .before .before .before .before .before .args .coded .now) _ _ (c .before .before .take-refusal .ensures) (c .before .if1 .taken) (c .refuse .ensures)
 
 keep-requires : tie.Need-keep-requires
@@ -41,7 +40,6 @@ same-length : tie.Need-same-length
 same-length c = search needs
 
 returns-2 : tie.Need-returns-2
-unfolding Took stepHere
 returns-2 c = took-waiting _ _ _ _ _ (c .before .before .before .before .before .before .before .before .before .before .before .before .before .before .before .before .before .before .args .block .now) (c .before .before .before .before .before .before .before .before .before .before .before .before .before .before .before .before .before .before .args .blocks .now) (c .before .before .before .before .before .before .before .before .before .before .before .before .before .before .before .before .before .before .args .stripe .now) (c .before .before .before .before .before .before .before .before .before .before .before .before .before .before .before .before .before .before .args .coded .now) _ (c .before .before .before .before .before .before .before .before .before .before .before .before .before .take-refusal .ensures) (c .before .before .before .before .before .before .before .before .before .before .before .before .if1 .left) _ (c .before .before .before .before .before .before .tally-with .ensures) _ (c .before .before .before .before .before .with-tally .ensures) _ (c .before .before .before .before .before .before .before .before .before .before .keep .ensures) _ _ (c .before .before .before .members-of .ensures) (c .before .before .quorum-of .ensures) _ (c .before .if2 .taken) (c .kept .ensures)
 
 decide-requires : tie.Need-decide-requires
@@ -60,7 +58,6 @@ same-length-4 : tie.Need-same-length-4
 same-length-4 c = search needs
 
 returns-3 : tie.Need-returns-3
-unfolding Took stepHere
 returns-3 c = took-acted _ _ _ _ _ (c .before .before .before .before .before .before .before .before .before .before .before .before .before .before .before .before .before .before .before .before .before .before .before .before .before .before .before .args .block .now) (c .before .before .before .before .before .before .before .before .before .before .before .before .before .before .before .before .before .before .before .before .before .before .before .before .before .before .before .args .blocks .now) (c .before .before .before .before .before .before .before .before .before .before .before .before .before .before .before .before .before .before .before .before .before .before .before .before .before .before .before .args .stripe .now) (c .before .before .before .before .before .before .before .before .before .before .before .before .before .before .before .before .before .before .before .before .before .before .before .before .before .before .before .args .coded .now) _ (c .before .before .before .before .before .before .before .before .before .before .before .before .before .before .before .before .before .before .before .before .before .before .take-refusal .ensures) (c .before .before .before .before .before .before .before .before .before .before .before .before .before .before .before .before .before .before .before .before .before .if1 .left) _ (c .before .before .before .before .before .before .before .before .before .before .before .before .before .before .before .tally-with .ensures) _ (c .before .before .before .before .before .before .before .before .before .before .before .before .before .before .with-tally .ensures) _ (c .before .before .before .before .before .before .before .before .before .before .before .before .before .before .before .before .before .before .before .keep .ensures) _ _ (c .before .before .before .before .before .before .before .before .before .before .before .before .members-of .ensures) (c .before .before .before .before .before .before .before .before .before .before .before .quorum-of .ensures) _ _ _ _ (c .before .before .before .before .before .before .before .before .before .before .if2 .left) (c .before .before .before .before .before .before .before .before .decide .ensures) (c .before .before .before .before .act .ensures)
 
 pub take-reply-spec : {M : Type 1} → statement M

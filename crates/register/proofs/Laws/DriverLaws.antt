@@ -23,8 +23,9 @@ use Rattle.coord_decide.specs.Deciding.{decided}
 use Rattle.coord_decide.specs.declared.Decision.{Decision}
 use Rattle.coord_decide.specs.declared.Decision.the-variants.{Abort, Give, Look, Store, Recover, Finish}
 use Rattle.erasure.specs.Code.{blockOf}
-use Rattle.coord_apply.specs.Acts.{nextRound, ending, acted, counting, waitingOr, starting}
-use Rattle.coord_apply.specs.Answers.{Buffered, Broadcast, Went, Step, refused, went, afterChecks, nothingSeen, cutSeen, mostBroadcasts, sentCount, sentMessage, sentBlocks, answerOf, blocksAfter, stripeAfter, codedAfter}
+use Rattle.coord_apply.specs.Acts.{buffered, nextRound, ending, acted, counting, waitingOr, starting}
+use Rattle.coord_apply.specs.Answers.{Buffered, Broadcast, Went, Step, refused, went, afterChecks, nothingSeen, cutSeen, mostBroadcasts, sentCount, sentMessage, sentBlocks, answerOf, blocksAfter, stripeAfter, codedAfter, returned, returnedBy}
+use Rattle.coord_apply.proofs.Laws.AnswerLaws.{returned-answer}
 use Rattle.coord_apply.specs.declared.Answer.{Answer}
 use Rattle.coord_record.specs.declared.Coordinator.{Coordinator}
 use Rattle.coordinator.specs.Routines.{takeStep, crashStep, crashed, drawnThen, writeStep, readStep}
@@ -88,6 +89,11 @@ few-sent c p a h e = subst (λ (x : Answer). x .sent ≤ mostBroadcasts) (sym e)
     few : (q : Step) → Short q → answerOf c q .sent ≤ mostBroadcasts
     few (refused number) h = omega arith
     few (went g) h = most h
+
+pub few-returned : (c : Coordinator) (blocks stripe coded : List ℕ) (p : Step) (a : Answer) (blocks′ stripe′ coded′ : List ℕ) → Short p
+    → returned a blocks′ stripe′ coded′ ≡ returnedBy (buffered c blocks stripe) coded p → a .sent ≤ mostBroadcasts
+few-returned c blocks stripe coded p a blocks′ stripe′ coded′ h e =
+    few-sent c p a h (returned-answer c blocks stripe coded p a blocks′ stripe′ coded′ e)
 
 -- A coordinator's step in the world is what the driver makes of the routine's answer and buffers.
 pub coordinated-is-driven : (s : Settings) (w : World) (c : ℕ) (p : Step) (old : List ℕ) → Short p

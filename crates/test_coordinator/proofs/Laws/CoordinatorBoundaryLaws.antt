@@ -1,5 +1,5 @@
 -- Buffers filled row by row, and the ways through a routine at the boundary.
-use mathlib.Core.Path.{_≡_, refl, sym, ap, _∙_}
+use mathlib.Core.Path.{_≡_, refl, sym, ap, ap₂, subst, _∙_}
 use mathlib.Core.Bool.{Bool, true, false}
 use mathlib.Core.List.{List, [], _∷_, _++_, append-assoc, append-nil}
 use Prim.Native.Nat.{ℕ, _+_, _-_, _≤_}
@@ -11,7 +11,9 @@ use borrow.Author.Tests.{eq-eqb, ne-eqb, eqb-true}
 use borrow.Rule.Slice.PartMut.{putMid, post-is}
 use Rattle.byte_lists.specs.Lists.{tabulate}
 use Rattle.byte_lists.proofs.Laws.TabulateLaws.{tabulate-by}
-use Rattle.test_coordinator.specs.CoordinatorBoundary.{recordFor, recordNumbers, recordBytes, lentLengths, saidOr, numberIf, bufferIf, rowPut, rowAt}
+use Rattle.test_coordinator.specs.CoordinatorBoundary.{recordFor, recordNumbers, recordBytes, answerNumbers, answerBytes, Rows, rows, lentLengths, laidOut, atBoundary, crossing, rowPut, rowAt}
+use Rattle.coord_apply.specs.Answers.{Returned, returned}
+use Rattle.settings.specs.Refusal.{badLength}
 use Rattle.coord_apply.specs.declared.Answer.{Answer}
 use Rattle.coord_record.specs.declared.Coordinator.{Coordinator}
 use Rattle.byte_lists.proofs.Laws.BoolLaws.{and-left, and-right}
@@ -176,14 +178,15 @@ pub lent-last : (a b c d : ℕ) → a ≡ 22 → b ≡ 66 → c ≡ 8 → eqb d 
 unfolding lentLengths
 lent-last a b c d e f g = rw (eq-eqb a 22 e, eq-eqb b 66 f, eq-eqb c 8 g) refl
 
--- an answer written, or refused
-pub said-refused : (a : Answer) (new old : List ℕ) → (a .refusal ≡ 0 → ⊥) → old ≡ saidOr a new old
-unfolding saidOr
-said-refused a new old h = rw (ne-eqb (a .refusal) 0 h) refl
+-- an answer laid out, or refused
+pub laid-refused : (l : Rows) (a : Answer) → (a .refusal ≡ 0 → ⊥) → l ≡ laidOut l a
+unfolding laidOut
+laid-refused l a h = rw (ne-eqb (a .refusal) 0 h) refl
 
-pub said-given : (a : Answer) (new old out : List ℕ) → a .refusal ≡ 0 → out ≡ new → out ≡ saidOr a new old
-unfolding saidOr
-said-given a new old out h e = rw (eq-eqb (a .refusal) 0 h) e
+pub laid-given : (l : Rows) (a : Answer) (numbers bytes sent shown : List ℕ) → a .refusal ≡ 0 → numbers ≡ recordNumbers (a .next)
+    → bytes ≡ recordBytes (a .next) → sent ≡ answerNumbers a → shown ≡ answerBytes a → rows numbers bytes sent shown ≡ laidOut l a
+unfolding laidOut
+laid-given l a numbers bytes sent shown h en eb es eo = rw (eq-eqb (a .refusal) 0 h) cc
 
 -- lengths after single stores and after rows
 pub at-least : (k n : ℕ) (l : List ℕ) → length l ≡ n → k ≤ n → k ≤ length l
@@ -244,29 +247,21 @@ lengths a b c d e =
       shown-long = eqb-true d 52 (and-right (eqb c 8) _ e3);
     }
 
--- a number or buffer behind a test that fails, or holds
-pub short-number : (ok : Bool) (k : ℕ) → ok ≡ false → 2 ≡ numberIf ok k
-unfolding numberIf
-short-number ok k e = rw e
+-- a call behind a test that fails, or holds
+pub crossed-short : (l : Rows) (blocks stripe coded : List ℕ) (r : Returned)
+    → lentLengths (length (l .numbers)) (length (l .bytes)) (length (l .sent)) (length (l .shown)) ≡ false
+    → atBoundary badLength l blocks stripe coded ≡ crossing l blocks stripe coded r
+unfolding crossing
+crossed-short l blocks stripe coded r e = rw e refl
 
-pub short-buffer : (ok : Bool) (new old : List ℕ) → ok ≡ false → old ≡ bufferIf ok new old
-unfolding bufferIf
-short-buffer ok new old e = rw e
-
-pub whole-number : (ok : Bool) (k r : ℕ) → ok ≡ true → r ≡ k → r ≡ numberIf ok k
-unfolding numberIf
-whole-number ok k r e f = rw e f
-
-pub whole-buffer : (ok : Bool) (new old r : List ℕ) → ok ≡ true → r ≡ new → r ≡ bufferIf ok new old
-unfolding bufferIf
-whole-buffer ok new old r e f = rw e f
-
--- an answer that equals the one wanted is written as that one
-pub said-number : (a A : Answer) (r : ℕ) → a ≡ A → r ≡ a .refusal → r ≡ A .refusal
-said-number a A r e f = f ∙ ap (λ (x : Answer). x .refusal) e
-
-pub said-buffer : (f : Answer → List ℕ) (a A : Answer) (old r : List ℕ) → a ≡ A → r ≡ saidOr a (f a) old → r ≡ saidOr A (f A) old
-said-buffer f a A old r e g = g ∙ ap (λ (x : Answer). saidOr x (f x) old) e
+pub crossed : (l l′ : Rows) (number : ℕ) (a : Answer) (blocks stripe coded blocks′ stripe′ coded′ : List ℕ) (r : Returned)
+    → lentLengths (length (l .numbers)) (length (l .bytes)) (length (l .sent)) (length (l .shown)) ≡ true
+    → returned a blocks′ stripe′ coded′ ≡ r → number ≡ a .refusal → l′ ≡ laidOut l a
+    → atBoundary number l′ blocks′ stripe′ coded′ ≡ crossing l blocks stripe coded r
+unfolding crossing
+crossed l l′ number a blocks stripe coded blocks′ stripe′ coded′ r e er en el =
+    subst (λ (x : Returned). atBoundary number l′ blocks′ stripe′ coded′ ≡ crossing l blocks stripe coded x) er
+    (rw e (ap₂ (λ (x : ℕ) (y : Rows). atBoundary x y blocks′ stripe′ coded′) en el))
 
 -- rows out of a list of rows
 pub row-here : (a rest : List ℕ) → length a ≡ 16 → take 16 (a ++ rest) ≡ a
@@ -293,7 +288,3 @@ read-back c la lb lc lf ld =
     let e4 = row-later 32 (t .counted) r1 la ∙ row-later 16 (t .granted) r2 lb ∙ row-later 0 (t .held) (c .bricks) lc ∙ row-only (c .bricks) ld in
     let e5 = row-only (t .found) lf in
     sym (record-is (recordNumbers c) (recordBytes c) (t .found) (t .counted) (t .granted) (t .held) (c .bricks) (sym e5) (sym e1) (sym e2) (sym e3) (sym e4))
-
--- what is said of a record holds of an equal one
-pub moved : {A : Type 0} (f : Coordinator → A) (c d : Coordinator) (a : A) → a ≡ f c → c ≡ d → a ≡ f d
-moved f c d a e q = e ∙ ap f q
