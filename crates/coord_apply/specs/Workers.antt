@@ -11,6 +11,7 @@ use Rattle.settings.specs.Ranges.{CodeRange}
 use mathlib.Core.Path.{_≡_}
 use Rattle.coord_apply.specs.declared.Answer.{Answer}
 use Rattle.coord_apply.specs.Acts.{roundMessage, nextOp, opened, acted}
+use Rattle.message.specs.Kinds.{lastRound}
 
 -- the answers that open a round and that end an operation
 unfoldable pub openAnswer : Coordinator → ℕ → ℕ → List ℕ → Answer
@@ -39,7 +40,7 @@ endAnswer c what bricks sent message =
 pub record DecisionReady (n m size : ℕ) (c : Coordinator) (blocks stripe : ℕ) : Type 0 where
   pub range : CodeRange n m size
   pub first-low : c .op .first < n
-  pub round-low : c .op .round ≤ 1000
+  pub round-low : c .op .round ≤ lastRound
   pub blocks-length : blocks ≡ n * size
   pub stripe-length : stripe ≡ m * size
 

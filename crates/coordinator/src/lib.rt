@@ -27,6 +27,7 @@ use message::READ;
 use message::Reply;
 use settings::Clock;
 use settings::Draw;
+use settings::MAX_BRICKS;
 
 // One refusal, and nothing changed.
 fn refuse(c: Coordinator, number: u32) -> Answer
@@ -77,7 +78,7 @@ fn first_op(kind: u8, phase: u8, time: u64, first: usize) -> Op
 }
 
 // An operation begins: its first round is sent.
-fn begin(clock: Clock, op: Op, targets: [u8; 16]) -> Answer
+fn begin(clock: Clock, op: Op, targets: [u8; MAX_BRICKS]) -> Answer
     ensures { λ r. ⌜ r ≡ startAnswer clock op targets ⌝ }
 {
     let tally = coord_record::nothing_counted();
@@ -85,7 +86,7 @@ fn begin(clock: Clock, op: Op, targets: [u8; 16]) -> Answer
         clock,
         op,
         tally,
-        bricks: [0u8; 16],
+        bricks: [0u8; MAX_BRICKS],
     };
     let message = coord_apply::round_message(op, targets);
     let second = coord_apply::no_message();
@@ -93,7 +94,7 @@ fn begin(clock: Clock, op: Op, targets: [u8; 16]) -> Answer
         what: BEGAN,
         kind: op.kind,
         time: op.time,
-        bricks: [0u8; 16],
+        bricks: [0u8; MAX_BRICKS],
     };
     Answer {
         refusal: 0,
@@ -155,7 +156,7 @@ pub fn start_write(
     };
     byte_lists::copy(bytes, stripe);
     let op = first_op(WRITING, ORDER, time, 0);
-    begin(next, op, [0u8; 16])
+    begin(next, op, [0u8; MAX_BRICKS])
 }
 
 // Starts a read whose targets are counted upward from a brick. Refused: 1 settings, 3 the brick or the coordinator's number, 6 the
@@ -196,7 +197,7 @@ pub fn crash(n: usize, m: usize, size: usize, c: Coordinator) -> Answer
     if op.kind == IDLE {
         return kept(c);
     }
-    coord_apply::end(c, CUT, [0u8; 16], 0, coord_apply::no_message())
+    coord_apply::end(c, CUT, [0u8; MAX_BRICKS], 0, coord_apply::no_message())
 }
 
 // Takes a reply; block is the one it holds. Refused: 1 settings, 2 a length, 3 the brick or the coordinator's number, 6 the record,

@@ -5,6 +5,14 @@ use lib.Dec.{leb}
 use Rattle.settings.specs.Refusal.{refuseUnless, badSetting}
 use Rattle.settings.specs.declared.Settings.{Settings}
 
+-- "n is 1 to 16": so a set of bricks has 16 places
+abbrev pub maxBricks : ℕ
+maxBricks = 16
+
+-- "block size 1 to 256 bytes"
+abbrev pub maxSize : ℕ
+maxSize = 256
+
 -- "n is 1 to 16, m is 1 to n"
 unfoldable pub bricksInRange : ℕ → ℕ → Bool
 bricksInRange n m = leb 1 n && leb n 16 && leb 1 m && leb m n

@@ -16,6 +16,13 @@ maxCount = 2 ^ 40 - 1
 unfoldable pub noUpperEnd : ℕ
 noUpperEnd = 2 ^ 44
 
+-- "coordinator number (0 to 15)"
+abbrev pub coordinatorCount : ℕ
+coordinatorCount = 16
+
+abbrev pub lastCoordinator : ℕ
+lastCoordinator = coordinatorCount - 1
+
 -- "A time is count × 16 + coordinator number (0 to 15)"
 unfoldable pub timeOf : ℕ → ℕ → ℕ
 timeOf count coordinator = count * 16 + coordinator

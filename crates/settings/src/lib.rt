@@ -3,6 +3,49 @@ ghost use mathlib.Core.Path.{_≡_};
 ghost use Rattle.settings.specs.Ranges.{settingsRefusal, codeRefusal, quorum};
 ghost use Rattle.settings.specs.Times.{drawOf, drawRefusal, numberOf, validTime};
 
+// "n is 1 to 16": so a set of bricks has 16 places.
+pub const MAX_BRICKS: usize = 16;
+
+// "Block size 1 to 256 bytes".
+pub const MAX_SIZE: usize = 256;
+
+// "Log capacity 2 to 32 entries".
+pub const MIN_CAPACITY: usize = 2;
+
+pub const MAX_CAPACITY: usize = 32;
+
+// Coordinators are numbered 0 to 15.
+pub const COORDINATOR_COUNT: u64 = 16;
+
+pub const LAST_COORDINATOR: u64 = 15;
+
+// The refusals (document 01, "Refused by number, lowest first").
+pub const PASSED: u32 = 0;
+
+pub const BAD_SETTING: u32 = 1;
+
+pub const BAD_LENGTH: u32 = 2;
+
+pub const BAD_NUMBER: u32 = 3;
+
+pub const BAD_BRICK_SET: u32 = 4;
+
+pub const BAD_CHECK: u32 = 5;
+
+pub const BAD_RECORD: u32 = 6;
+
+pub const BAD_READING: u32 = 7;
+
+pub const CLOCK_SPENT: u32 = 8;
+
+pub const BUSY: u32 = 9;
+
+pub const BAD_MESSAGE: u32 = 10;
+
+pub const STRAY_REPLY: u32 = 11;
+
+pub const BAD_LINE: u32 = 12;
+
 // The largest count of a time, 2^40 - 1.
 pub const MAX_COUNT: u64 = 1099511627775;
 

@@ -9,7 +9,75 @@ use Rattle.coord_apply.specs.declared.Answer.{Answer}
 use Rattle.coord_record.specs.declared.Coordinator.{Coordinator}
 use Rattle.coordinator.specs.Routines.{writeCall, readCall, takeCall, crashCall}
 use Rattle.message.specs.declared.Reply.{Reply}
+use Rattle.settings.specs.Ranges.{maxBricks}
 use Rattle.settings.specs.Refusal.{badLength}
+
+-- how many numbers and bytes a record has, and an answer
+abbrev pub recordNumbersLength : ℕ
+recordNumbersLength = 22
+
+abbrev pub recordBytesLength : ℕ
+recordBytesLength = 66
+
+abbrev pub answerNumbersLength : ℕ
+answerNumbersLength = 8
+
+abbrev pub answerBytesLength : ℕ
+answerBytesLength = 52
+
+-- where a record's numbers stand
+abbrev pub coordinatorAt : ℕ
+coordinatorAt = 0
+
+abbrev pub lastAt : ℕ
+lastAt = 1
+
+abbrev pub timeAt : ℕ
+timeAt = 2
+
+abbrev pub roundAt : ℕ
+roundAt = 3
+
+abbrev pub maxAt : ℕ
+maxAt = 4
+
+abbrev pub firstAt : ℕ
+firstAt = 5
+
+abbrev pub foundAt : ℕ
+foundAt = 6
+
+-- where its bytes stand
+abbrev pub kindAt : ℕ
+kindAt = 0
+
+abbrev pub phaseAt : ℕ
+phaseAt = 1
+
+abbrev pub countedAt : ℕ
+countedAt = 2
+
+abbrev pub grantedAt : ℕ
+grantedAt = 18
+
+abbrev pub heldAt : ℕ
+heldAt = 34
+
+abbrev pub bricksAt : ℕ
+bricksAt = 50
+
+-- where an answer's rows stand among its bytes, and the kind of its second message
+abbrev pub targetsAt : ℕ
+targetsAt = 3
+
+abbrev pub seenBricksAt : ℕ
+seenBricksAt = 19
+
+abbrev pub secondTargetsAt : ℕ
+secondTargetsAt = 35
+
+abbrev pub secondKindAt : ℕ
+secondKindAt = 51
 
 -- a record's 22 numbers: clock, time, round, max, first, and the times found
 unfoldable pub recordNumbers : Coordinator → List ℕ
@@ -20,26 +88,26 @@ recordNumbers c =
 unfoldable pub recordBytes : Coordinator → List ℕ
 recordBytes c = c .op .kind ∷ c .op .phase ∷ (c .tally .counted ++ (c .tally .granted ++ (c .tally .held ++ c .bricks)))
 
--- sixteen entries from a place on
+-- a row from a place on: an entry for each brick that there may be
 unfoldable pub rowAt : ℕ → List ℕ → List ℕ
-rowAt at l = take 16 (drop at l)
+rowAt at l = take maxBricks (drop at l)
 
 -- the record of such numbers and bytes
 unfoldable pub recordFor : List ℕ → List ℕ → Coordinator
 recordFor numbers bytes =
     record {
-      clock = record { coordinator = getD numbers 0 0; last = getD numbers 1 0 };
+      clock = record { coordinator = getD numbers coordinatorAt 0; last = getD numbers lastAt 0 };
       op =
           record {
-            kind = getD bytes 0 0;
-            phase = getD bytes 1 0;
-            time = getD numbers 2 0;
-            round = getD numbers 3 0;
-            max = getD numbers 4 0;
-            first = getD numbers 5 0;
+            kind = getD bytes kindAt 0;
+            phase = getD bytes phaseAt 0;
+            time = getD numbers timeAt 0;
+            round = getD numbers roundAt 0;
+            max = getD numbers maxAt 0;
+            first = getD numbers firstAt 0;
           };
-      tally = record { counted = rowAt 2 bytes; granted = rowAt 18 bytes; held = rowAt 34 bytes; found = rowAt 6 numbers };
-      bricks = rowAt 50 bytes;
+      tally = record { counted = rowAt countedAt bytes; granted = rowAt grantedAt bytes; held = rowAt heldAt bytes; found = rowAt foundAt numbers };
+      bricks = rowAt bricksAt bytes;
     }
 
 -- an answer's 8 numbers: broadcasts; time, round and max of the first message; time of what is seen; the same three of the second message
@@ -67,7 +135,8 @@ rows numbers bytes sent shown = record { numbers = numbers; bytes = bytes; sent 
 
 -- they have their lengths
 unfoldable pub lentLengths : ℕ → ℕ → ℕ → ℕ → Bool
-lentLengths numbers bytes sent shown = eqb numbers 22 && (eqb bytes 66 && (eqb sent 8 && eqb shown 52))
+lentLengths numbers bytes sent shown =
+    eqb numbers recordNumbersLength && (eqb bytes recordBytesLength && (eqb sent answerNumbersLength && eqb shown answerBytesLength))
 
 -- an answer laid out in them; a refusal leaves them as they were
 unfoldable pub laidOut : Rows → Answer → Rows
@@ -91,9 +160,9 @@ crossing l blocks stripe coded r =
     (atBoundary (r .answer .refusal) (laidOut l (r .answer)) (r .blocks) (r .stripe) (r .coded))
     (atBoundary badLength l blocks stripe coded)
 
--- sixteen entries replaced
+-- a row replaced
 unfoldable pub rowPut : ℕ → List ℕ → List ℕ → List ℕ
-rowPut at row l = take at l ++ (row ++ drop (at + 16) l)
+rowPut at row l = take at l ++ (row ++ drop (at + maxBricks) l)
 
 abbrev pub replyFor : ℕ → ℕ → ℕ → ℕ → Bool → ℕ → Bool → Reply
 replyFor kind brick time round said found held =

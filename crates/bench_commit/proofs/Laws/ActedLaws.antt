@@ -1,4 +1,4 @@
--- Laws of `specs/ActedLaws`.
+-- A routine of a coordinator called and its answer committed: the event has been played.
 use mathlib.Core.Path.{_≡_, refl, sym, ap, subst, _∙_}
 use mathlib.Core.Bool.{Bool, true, false, cond, not, _&&_}
 use mathlib.Core.List.{List}
@@ -33,7 +33,8 @@ use Rattle.bench_rules.specs.declared.After.{After}
 use Rattle.bench_commit.specs.Workers.{answered}
 use Rattle.bench_commit.specs.Workers.{Answers}
 use Rattle.bench_commit.proofs.Laws.CommitLaws.{Numbered, answered-is-acts}
-use Rattle.bench_commit.proofs.Laws.CommitStepLaws.{write-numbered, write-blocks, write-coded, read-numbered, read-blocks, read-stripe, read-coded, crash-numbered, crash-blocks, crash-stripe, crash-coded, take-numbered}
+use Rattle.bench_commit.proofs.Laws.CommitStepLaws.{write-numbered, write-blocks, write-coded, read-numbered, read-blocks, read-stripe, read-coded, crash-numbered, crash-blocks}
+use Rattle.bench_commit.proofs.Laws.CommitStepLaws.{crash-stripe, crash-coded, take-numbered}
 use Rattle.bench_commit.specs.Workers.{BenchActed, Plays}
 
 -- a start that is refused stays so, and one that is not is refused for its digits
@@ -109,7 +110,8 @@ module _ (b : Bench) (c : ℕ) (kept numbers bytes : List ℕ) (at : ℕ) (out :
     pub acted-read : (clock brick : ℕ) (a : Answer)
         → ((x y z : List ℕ) → returned a x y z ≡ readCall (b .settings .n) (b .settings .m) (b .settings .size) old x y z clock brick)
         → Answers b c a blocks stripe blocks kept numbers bytes at out r kept′ numbers′ bytes′ out′
-        → BenchActed b c (startRead c clock brick) (λ (h : Buffered). readStep (b .settings .n) (b .settings .m) (b .settings .size) h clock brick) kept numbers bytes at out r kept′ numbers′ bytes′ out′
+        → BenchActed b c (startRead c clock brick) (λ (h : Buffered). readStep (b .settings .n) (b .settings .m) (b .settings .size) h clock brick) kept numbers bytes at out r kept′ numbers′
+        bytes′ out′
     unfolding step worldIn worldOf
     acted-read clock brick a ea h =
         let n = b .settings .n in
@@ -117,7 +119,9 @@ module _ (b : Bench) (c : ℕ) (kept numbers bytes : List ℕ) (at : ℕ) (out :
         let size = b .settings .size in
         acted-by (startRead c clock brick) (λ (x : Buffered). readStep n m size x clock brick) a blocks stripe blocks blocks (λ images. refl)
         (read-short n m size here clock brick) (read-numbered n m size here clock brick)
-        (returned-answer old blocks stripe blocks _ a blocks stripe blocks (ea blocks stripe blocks) ∙ ap (λ (x : Coordinator). answerOf x (readStep n m size (buffered old blocks stripe) clock brick)) old-is ∙ ap (λ (x : Buffered). answerOf (here .state) (readStep n m size x clock brick)) same)
+        (returned-answer old blocks stripe blocks _ a blocks stripe blocks (ea blocks stripe blocks) ∙ ap
+        (λ (x : Coordinator). answerOf x (readStep n m size (buffered old blocks stripe) clock brick)) old-is ∙ ap
+        (λ (x : Buffered). answerOf (here .state) (readStep n m size x clock brick)) same)
         (blocks-are ∙ sym (read-blocks n m size here clock brick)) (stripe-is ∙ sym (read-stripe n m size here clock brick)) (sym (read-coded n m size here clock brick blocks)) h
 
     pub acted-crash : (a : Answer)
@@ -132,13 +136,15 @@ module _ (b : Bench) (c : ℕ) (kept numbers bytes : List ℕ) (at : ℕ) (out :
         acted-by (crashes c untouched) (λ (x : Buffered). crashStep n m size x) a blocks stripe blocks blocks
         (λ images. ap (coordinated (b .settings) (worldIn b (lent images kept numbers bytes)) c) (left-untouched (b .settings) (crashStep n m size here)))
         (crash-short n m size here) (crash-numbered n m size here)
-        (returned-answer old blocks stripe blocks _ a blocks stripe blocks (ea blocks stripe blocks) ∙ ap (λ (x : Coordinator). answerOf x (crashStep n m size (buffered old blocks stripe))) old-is ∙ ap (λ (x : Buffered). answerOf (here .state) (crashStep n m size x)) same)
+        (returned-answer old blocks stripe blocks _ a blocks stripe blocks (ea blocks stripe blocks) ∙ ap (λ (x : Coordinator). answerOf x (crashStep n m size (buffered old blocks stripe)))
+        old-is ∙ ap (λ (x : Buffered). answerOf (here .state) (crashStep n m size x)) same)
         (blocks-are ∙ sym (crash-blocks n m size here)) (stripe-is ∙ sym (crash-stripe n m size here)) (sym (crash-coded n m size here blocks)) h
 
     pub acted-write : (clock : ℕ) (content : List ℕ) (small : Bytes content) (a : Answer) (stripe′ : List ℕ)
         → ((x z : List ℕ) → returned a x stripe′ z ≡ writeCall (b .settings .n) (b .settings .m) (b .settings .size) old x stripe z clock content)
         → Answers b c a blocks stripe′ blocks kept numbers bytes at out r kept′ numbers′ bytes′ out′
-        → BenchActed b c (startWrite c clock content small) (λ (h : Buffered). writeStep (b .settings .n) (b .settings .m) (b .settings .size) h clock content) kept numbers bytes at out r kept′ numbers′ bytes′ out′
+        → BenchActed b c (startWrite c clock content small) (λ (h : Buffered). writeStep (b .settings .n) (b .settings .m) (b .settings .size) h clock content) kept numbers bytes at out r kept′
+        numbers′ bytes′ out′
     unfolding step worldIn worldOf
     acted-write clock content small a stripe′ ea h =
         let n = b .settings .n in
@@ -146,8 +152,11 @@ module _ (b : Bench) (c : ℕ) (kept numbers bytes : List ℕ) (at : ℕ) (out :
         let size = b .settings .size in
         acted-by (startWrite c clock content small) (λ (x : Buffered). writeStep n m size x clock content) a blocks stripe′ blocks blocks (λ images. refl)
         (write-short n m size here clock content) (write-numbered n m size here clock content)
-        (returned-answer old blocks stripe blocks _ a blocks stripe′ blocks (ea blocks blocks) ∙ ap (λ (x : Coordinator). answerOf x (writeStep n m size (buffered old blocks stripe) clock content)) old-is ∙ ap (λ (x : Buffered). answerOf (here .state) (writeStep n m size x clock content)) same)
-        (blocks-are ∙ sym (write-blocks n m size here clock content)) (returned-stripe old blocks stripe blocks _ a blocks stripe′ blocks (ea blocks blocks) ∙ ap (λ (x : Buffered). stripeAfter x (writeStep n m size x clock content)) same)
+        (returned-answer old blocks stripe blocks _ a blocks stripe′ blocks (ea blocks blocks) ∙ ap
+        (λ (x : Coordinator). answerOf x (writeStep n m size (buffered old blocks stripe) clock content)) old-is ∙ ap
+        (λ (x : Buffered). answerOf (here .state) (writeStep n m size x clock content)) same)
+        (blocks-are ∙ sym (write-blocks n m size here clock content))
+        (returned-stripe old blocks stripe blocks _ a blocks stripe′ blocks (ea blocks blocks) ∙ ap (λ (x : Buffered). stripeAfter x (writeStep n m size x clock content)) same)
         (sym (write-coded n m size here clock content blocks)) h
 
     -- a write with a wrong count of digits, after the numbers of its start
@@ -214,7 +223,8 @@ module _ (b : Bench) (c : ℕ) (kept numbers bytes : List ℕ) (at : ℕ) (out :
         → itemAt (b .settings .size) numbers bytes k ≡ reply reply′ block → c ≡ reply′ .time % 16 → length coded ≡ b .settings .n * b .settings .size
         → returned a blocks′ stripe′ coded′ ≡ takeCall (b .settings .n) (b .settings .m) (b .settings .size) old blocks stripe coded reply′ block
         → Answers b c a blocks′ stripe′ coded′ kept numbers bytes at out r kept′ numbers′ bytes′ out′
-        → BenchActed b c (arrives k) (λ (h : Buffered). takeStep (b .settings .n) (b .settings .m) (b .settings .size) h reply′ block (b .settings .n * b .settings .size)) kept numbers bytes at out r kept′ numbers′ bytes′ out′
+        → BenchActed b c (arrives k) (λ (h : Buffered). takeStep (b .settings .n) (b .settings .m) (b .settings .size) h reply′ block (b .settings .n * b .settings .size)) kept numbers bytes at
+        out r kept′ numbers′ bytes′ out′
     unfolding step worldIn worldOf arriving
     acted-reply k reply′ block a coded blocks′ stripe′ coded′ l item ec long ea h =
         let n = b .settings .n in
@@ -225,11 +235,15 @@ module _ (b : Bench) (c : ℕ) (kept numbers bytes : List ℕ) (at : ℕ) (out :
         (λ images.
         arrives-item (b .settings) (worldIn b (lent images kept numbers bytes)) size numbers bytes (b .sent) k l
         ∙ ap (arriving (b .settings) (worldIn b (lent images kept numbers bytes))) item
-        ∙ ap (λ (j : ℕ). coordinated (b .settings) (worldIn b (lent images kept numbers bytes)) j (takeStep n m size (coordinatorKept (b .settings) (b .coordinators) kept j) reply′ block (n * size))) (sym ec))
+        ∙ ap (λ (j : ℕ). coordinated (b .settings) (worldIn b (lent images kept numbers bytes)) j
+        (takeStep n m size (coordinatorKept (b .settings) (b .coordinators) kept j) reply′ block (n * size))) (sym ec))
         (take-short n m size here reply′ block (n * size)) (take-numbered n m size here reply′ block (n * size))
-        (returned-answer old blocks stripe coded _ a blocks′ stripe′ coded′ ea ∙ ap (λ (x : Coordinator). answerOf x (takeStep n m size (buffered old blocks stripe) reply′ block (length coded))) old-is ∙ ap (answerOf (here .state)) q)
-        (returned-blocks old blocks stripe coded _ a blocks′ stripe′ coded′ ea ∙ ap (λ (x : Buffered). blocksAfter x (takeStep n m size (buffered old blocks stripe) reply′ block (length coded))) same ∙ ap (blocksAfter here) q)
-        (returned-stripe old blocks stripe coded _ a blocks′ stripe′ coded′ ea ∙ ap (λ (x : Buffered). stripeAfter x (takeStep n m size (buffered old blocks stripe) reply′ block (length coded))) same ∙ ap (stripeAfter here) q)
+        (returned-answer old blocks stripe coded _ a blocks′ stripe′ coded′ ea ∙ ap
+        (λ (x : Coordinator). answerOf x (takeStep n m size (buffered old blocks stripe) reply′ block (length coded))) old-is ∙ ap (answerOf (here .state)) q)
+        (returned-blocks old blocks stripe coded _ a blocks′ stripe′ coded′ ea ∙ ap
+        (λ (x : Buffered). blocksAfter x (takeStep n m size (buffered old blocks stripe) reply′ block (length coded))) same ∙ ap (blocksAfter here) q)
+        (returned-stripe old blocks stripe coded _ a blocks′ stripe′ coded′ ea ∙ ap
+        (λ (x : Buffered). stripeAfter x (takeStep n m size (buffered old blocks stripe) reply′ block (length coded))) same ∙ ap (stripeAfter here) q)
         (returned-coded old blocks stripe coded _ a blocks′ stripe′ coded′ ea ∙ ap (codedAfter coded) q) h
 
     -- the same, by what the code read from the row
@@ -243,7 +257,8 @@ module _ (b : Bench) (c : ℕ) (kept numbers bytes : List ℕ) (at : ℕ) (out :
         kept numbers bytes at out r kept′ numbers′ bytes′ out′
     acted-row k reply′ cut a coded blocks′ stripe′ coded′ l t er e ec long ea h =
         subst
-        (λ (x : List ℕ). BenchActed b c (arrives k) (λ (h : Buffered). takeStep (b .settings .n) (b .settings .m) (b .settings .size) h reply′ x (b .settings .n * b .settings .size)) kept numbers bytes at out r kept′ numbers′ bytes′ out′)
+        (λ (x : List ℕ). BenchActed b c (arrives k) (λ (h : Buffered). takeStep (b .settings .n) (b .settings .m) (b .settings .size) h reply′ x (b .settings .n * b .settings .size)) kept
+        numbers bytes at out r kept′ numbers′ bytes′ out′)
         e (acted-reply k reply′ cut a coded blocks′ stripe′ coded′ l (item-reply (b .settings .size) k reply′ cut numbers bytes t er e) ec long ea h)
 
 module _ (b : Bench) (c : ℕ) (kept numbers bytes : List ℕ) (at : ℕ) (out : List ℕ) (r : After) where
@@ -317,4 +332,5 @@ module _ (b : Bench) (k : ℕ) (kept numbers bytes : List ℕ) (at : ℕ) (out :
   reply-here kept′ numbers′ bytes′ out′ h a =
       subst (λ (i : Item). Plays b (λ (w : World). carries (b .settings) w k i) kept numbers bytes at out r kept′ numbers′ bytes′ out′) (sym item-here)
       (here-at b (reply′ .time % 16) kept numbers bytes at out r (arrives k)
-      (λ (x : Buffered). takeStep (b .settings .n) (b .settings .m) (b .settings .size) x reply′ (sentBlockAt (b .settings .size) bytes k) (b .settings .n * b .settings .size)) kept′ numbers′ bytes′ out′ h a)
+      (λ (x : Buffered). takeStep (b .settings .n) (b .settings .m) (b .settings .size) x reply′ (sentBlockAt (b .settings .size) bytes k) (b .settings .n * b .settings .size)) kept′ numbers′
+      bytes′ out′ h a)

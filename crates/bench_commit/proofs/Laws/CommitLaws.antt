@@ -1,11 +1,11 @@
--- Laws of `specs/AnswerLaws`.
+-- What a committed answer does: refused, too many messages, or kept, sent and printed.
 use mathlib.Core.Path.{_≡_, refl, sym, ap, ap₂, subst, _∙_}
-use mathlib.Core.Bool.{Bool, true, false, cond}
+use mathlib.Core.Bool.{cond}
 use mathlib.Core.List.{List, [], _∷_, _++_, append-nil, append-assoc}
 use Prim.Native.Nat.{ℕ, zero, suc, _+_, _*_, _≤_, _<_}
 use native.Mathlib.Omega.{arith}
 use native.Mathlib.Nat.{mul-le-mul-right}
-use lib.Dec.{eqb, leb}
+use lib.Dec.{leb}
 use lib.ListN.{length, set, take, replicate, length-append, length-replicate, getD-replicate}
 use lib.Seq.{ext-getD, length-take-le, getD-take}
 use borrow.Author.Tests.{eq-eqb, ne-eqb, le-leb, lt-leb}
@@ -142,7 +142,8 @@ module _ (b : Bench) (l : Lent) (e : Event) (c : ℕ) (a : Answer) (blocks strip
       rw (eq-eqb (a .refusal) 0 z, lt-leb (length (made .sent)) lastMessage (let m = made-sent most in omega arith)) t
 
   -- kept, sent and printed
-  pub answered-kept : (at sent used : ℕ) (out out′ kept′ numbers′ bytes′ : List ℕ) → a .sent ≤ mostBroadcasts → a .refusal ≡ 0 → sent ≡ sentAfterAnswer (b .settings .n) (b .sent) (a .sent) → sent ≤ 127
+  pub answered-kept : (at sent used : ℕ) (out out′ kept′ numbers′ bytes′ : List ℕ) → a .sent ≤ mostBroadcasts → a .refusal ≡ 0 → sent ≡ sentAfterAnswer (b .settings .n) (b .sent) (a .sent) →
+      sent ≤ 127
       → Fits (b .settings) → c < 4 → length (b .coordinators) ≡ 4 → length (l .kept) ≡ 256
       → length blocks ≡ b .settings .n * b .settings .size → length stripe ≡ b .settings .m * b .settings .size
       → Round (b .settings) (b .sent) (a .sent) (a .message) (a .second) coded (l .numbers) (l .bytes) numbers′ bytes′

@@ -59,7 +59,8 @@ returns-3 c =
     let l = c .before .before .before .before .before .before .before .before .before .before .before .before .before .before .before .before .if1 .left in
     let r = c .before .before .before .before .before .before .before .before .if2 .left in
     let two : s .args .broadcasts ≡ 2 = omega (arith, l, r, s .pre .1 .2) in
-    round-two (s .args .s) _ _ _ _ _ _ _ _ _ (c .before .before .before .before .before .before .before .before .before .before .before .before .before .send-all .ensures .0) _ _ (c .before .before .before .before .send-all2 .ensures .0) two
+    round-two (s .args .s) _ _ _ _ _ _ _ _ _ (c .before .before .before .before .before .before .before .before .before .before .before .before .before .send-all .ensures .0) _ _
+    (c .before .before .before .before .send-all2 .ensures .0) two
 
 pub send-spec : {M : Type 1} → statement M
 send-spec =

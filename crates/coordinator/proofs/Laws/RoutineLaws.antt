@@ -11,7 +11,8 @@ use borrow.Author.Tests.{eq-eqb, ne-eqb, lt-leb, lt-ltb, le-ltb, eqb-true, ltb-t
 use Rattle.coord_apply.specs.Acts.{buffered}
 use Rattle.coord_apply.specs.Workers.{endAnswer, DecisionReady, Acted}
 use Rattle.coord_apply.specs.Acts.{withReplyBlock, withTally, counting, waitingOr, acted, ending, nextRound, roundMessage, firstOp, starting}
-use Rattle.coord_apply.specs.Answers.{Buffered, Went, Step, refused, went, afterChecks, nothingSeen, noMessage, cutSeen, sentCount, sentMessage, sentBlocks, answerOf, blocksAfter, stripeAfter, codedAfter, returned, returnedBy}
+use Rattle.coord_apply.specs.Answers.{Buffered, Went, Step, refused, went, afterChecks, nothingSeen, noMessage, cutSeen, sentCount, sentMessage, sentBlocks, answerOf, blocksAfter}
+use Rattle.coord_apply.specs.Answers.{stripeAfter, codedAfter, returned, returnedBy}
 use Rattle.coord_apply.specs.declared.Answer.{Answer}
 use Rattle.coord_record.specs.Records.{idleKind, readingKind, writingKind, noBricks}
 use Rattle.coord_record.specs.Sound.{soundRecord}
@@ -36,7 +37,7 @@ use Rattle.settings.proofs.Laws.RangeLaws.{code-passed}
 use Rattle.byte_lists.proofs.Laws.BoolLaws.{and-left, and-right}
 use Rattle.settings.specs.Ranges.{codeRefusal, quorum}
 use Rattle.settings.specs.Refusal.{firstRefusal, refuseUnless, badLength, badNumber, badRecord, strayReply}
-use Rattle.settings.specs.Times.{drawOf, numberOf}
+use Rattle.settings.specs.Times.{drawOf, numberOf, lastCoordinator}
 use Rattle.settings.specs.declared.Clock.{Clock}
 use Rattle.settings.specs.declared.Draw.{Draw}
 use Rattle.settings.specs.declared.Draw.the-variants.{Drawn, Refused}
@@ -52,17 +53,17 @@ unfolding afterChecks
 checked-pass k bad s e z = rw (← e, z)
 
 -- a record that passes
-low-sound : (n m : ℕ) (c : Coordinator) → leb (c .clock .coordinator) 15 ≡ true → soundRecord n m c ≡ true → firstRefusal (recordChecks n m c []) ≡ 0
+low-sound : (n m : ℕ) (c : Coordinator) → leb (c .clock .coordinator) lastCoordinator ≡ true → soundRecord n m c ≡ true → firstRefusal (recordChecks n m c []) ≡ 0
 unfolding recordChecks firstRefusal
 low-sound n m c a b = rw (a, b)
 
 pub record-passes : (n m : ℕ) (c : Coordinator) (more : List ℕ) → firstRefusal (recordChecks n m c more) ≡ 0 → Recorded n m c × (firstRefusal more ≡ 0)
 unfolding recordChecks
 record-passes n m c more e =
-    let a = passed-first (refuseUnless (leb (c .clock .coordinator) 15) badNumber) (refuseUnless (soundRecord n m c) badRecord ∷ more) e in
-    let b = passed-rest (refuseUnless (leb (c .clock .coordinator) 15) badNumber) (refuseUnless (soundRecord n m c) badRecord ∷ more) e in
+    let a = passed-first (refuseUnless (leb (c .clock .coordinator) lastCoordinator) badNumber) (refuseUnless (soundRecord n m c) badRecord ∷ more) e in
+    let b = passed-rest (refuseUnless (leb (c .clock .coordinator) lastCoordinator) badNumber) (refuseUnless (soundRecord n m c) badRecord ∷ more) e in
     let d = passed-first (refuseUnless (soundRecord n m c) badRecord) more b in (
-      record-passed n m c 0 (sym (low-sound n m c (tested (leb (c .clock .coordinator) 15) 2 a) (tested (soundRecord n m c) 5 d))) refl,
+      record-passed n m c 0 (sym (low-sound n m c (tested (leb (c .clock .coordinator) lastCoordinator) 2 a) (tested (soundRecord n m c) 5 d))) refl,
       passed-rest (refuseUnless (soundRecord n m c) badRecord) more b,
     )
 

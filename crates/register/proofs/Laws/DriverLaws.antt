@@ -5,7 +5,7 @@ use mathlib.Core.List.{List, [], _∷_, _++_, append-nil}
 use Prim.Native.Nat.{ℕ, zero, suc, _*_, _%_, _≤_}
 use native.Mathlib.Omega.{arith}
 use lib.Dec.{leb, ltb, eqb}
-use lib.ListN.{length, replicate, take}
+use lib.ListN.{length, replicate}
 use borrow.Author.Tests.{eqb-true, eq-eqb, leb-false}
 use Rattle.settings.specs.Ranges.{quorum}
 use Rattle.settings.specs.Times.{drawOf}
@@ -18,19 +18,21 @@ use Rattle.message.specs.Kinds.{writeKind}
 use Rattle.message.specs.declared.Message.{Message}
 use Rattle.message.specs.declared.Reply.{Reply}
 use Rattle.brick.specs.Receive.{outcome}
-use Rattle.coord_record.specs.Records.{noBricks}
+use Rattle.coord_record.specs.Records.{idleKind, noBricks}
 use Rattle.coord_decide.specs.Deciding.{decided}
 use Rattle.coord_decide.specs.declared.Decision.{Decision}
 use Rattle.coord_decide.specs.declared.Decision.the-variants.{Abort, Give, Look, Store, Recover, Finish}
 use Rattle.erasure.specs.Code.{blockOf}
 use Rattle.coord_apply.specs.Acts.{buffered, nextRound, ending, acted, counting, waitingOr, starting}
-use Rattle.coord_apply.specs.Answers.{Buffered, Broadcast, Went, Step, refused, went, afterChecks, nothingSeen, cutSeen, mostBroadcasts, sentCount, sentMessage, sentBlocks, answerOf, blocksAfter, stripeAfter, codedAfter, returned, returnedBy}
+use Rattle.coord_apply.specs.Answers.{Buffered, Broadcast, Went, Step, refused, went, afterChecks, nothingSeen, cutSeen, mostBroadcasts, sentCount, sentMessage, sentBlocks, answerOf}
+use Rattle.coord_apply.specs.Answers.{blocksAfter, stripeAfter, codedAfter, returned, returnedBy}
 use Rattle.coord_apply.proofs.Laws.AnswerLaws.{returned-answer}
 use Rattle.coord_apply.specs.declared.Answer.{Answer}
 use Rattle.coord_record.specs.declared.Coordinator.{Coordinator}
 use Rattle.coordinator.specs.Routines.{takeStep, crashStep, crashed, drawnThen, writeStep, readStep}
 use Rattle.order.specs.Claim.{Seen}
-use Rattle.register.specs.Runs.{plain, Item, message, reply, World, startWrite, startRead, untouched, lost, crashes, Moved, unmoved, putAt, seenOf, blockFor, toAll, broadcasts, coordinated, received, arriving, buffersFit, leaving, leftBy, step}
+use Rattle.register.specs.Runs.{plain, Item, message, reply, World, startWrite, startRead, untouched, lost, crashes, Moved, unmoved, putAt, seenOf, blockFor, toAll, broadcasts}
+use Rattle.register.specs.Runs.{coordinated, received, arriving, buffersFit, leaving, leftBy, step}
 use Rattle.register.specs.Driver.{listed, driven, AtMostTwo, none, one, two, Short, called}
 
 put-same : {A : Type 0} (f : ℕ → A) (c : ℕ) → putAt f c (f c) ≡ f
@@ -184,7 +186,7 @@ module _ (n m size : ℕ) (k : Buffered) where
 
   crashed-short : AtMostTwo (crashed k .sent)
   unfolding crashed ending
-  crashed-short = go (eqb (k .state .op .kind) 0)
+  crashed-short = go (eqb (k .state .op .kind) idleKind)
     where
       go : (a : Bool) → AtMostTwo (cond a (record { next = k; sent = []; seen = nothingSeen }) (ending k (k .stripe) [] cutSeen noBricks) .sent)
       go true = none

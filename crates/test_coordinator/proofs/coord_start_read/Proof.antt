@@ -15,7 +15,8 @@ returns : tie.Need-returns
 returns c = crossed-short _ _ _ _ _ (sym (c .before .lent-right .ensures) ∙ c .if1 .left)
 
 -- the four buffers have their lengths
-long : (c : tie.Then1) → Lengths (length (c .before .before .before .before .before .before .args .numbers .now)) (length (c .before .before .before .before .before .before .args .bytes .now)) (length (c .before .before .before .before .before .before .args .sent .now)) (length (c .before .before .before .before .before .before .args .shown .now))
+long : (c : tie.Then1) → Lengths (length (c .before .before .before .before .before .before .args .numbers .now)) (length (c .before .before .before .before .before .before .args .bytes .now))
+    (length (c .before .before .before .before .before .before .args .sent .now)) (length (c .before .before .before .before .before .before .args .shown .now))
 long c = lengths _ _ _ _ (sym (c .before .lent-right .ensures) ∙ c .if1 .taken)
 
 record-of-requires : tie.Need-record-of-requires
@@ -42,8 +43,10 @@ same-length-4 c = search needs
 
 returns-2 : tie.Need-returns-2
 returns-2 c =
-    let s = c .before .before .before .before .before .before .before .before .before .before .before .before .before .before .before .before .before .before .before .before .before .before .before .args in
-    let e = sym (c .before .before .before .before .before .before .before .before .before .before .before .before .before .before .before .before .before .before .lent-right .ensures) ∙ c .before .before .before .before .before .before .before .before .before .before .before .before .before .before .before .before .before .if1 .taken in
+    let s = c .before .before .before .before .before .before .before .before .before .before .before .before .before .before .before .before .before .before .before .before .before .before
+    .before .args in
+    let e = sym (c .before .before .before .before .before .before .before .before .before .before .before .before .before .before .before .before .before .before .lent-right .ensures) ∙
+    c .before .before .before .before .before .before .before .before .before .before .before .before .before .before .before .before .before .if1 .taken in
     let q = c .before .before .before .before .before .before .before .before .before .before .before .before .before .before .record-of .ensures in
     let w = c .before .before .before .before .before .before .before .before .before .before .before .before .before .start-read .ensures [] [] [] in
     let p = c .before .before .before .before .before .before .before .before .put-answer .ensures in

@@ -15,7 +15,10 @@ returns : tie.Need-returns
 returns c = crossed-short _ _ _ _ _ (sym (c .before .lent-right .ensures) ∙ c .if1 .left)
 
 -- the four buffers have their lengths
-long : (c : tie.Then1) → Lengths (length (c .before .before .before .before .before .before .before .before .before .before .args .numbers .now)) (length (c .before .before .before .before .before .before .before .before .before .before .args .bytes .now)) (length (c .before .before .before .before .before .before .before .before .before .before .args .sent .now)) (length (c .before .before .before .before .before .before .before .before .before .before .args .shown .now))
+long : (c : tie.Then1) → Lengths (length (c .before .before .before .before .before .before .before .before .before .before .args .numbers .now))
+    (length (c .before .before .before .before .before .before .before .before .before .before .args .bytes .now))
+    (length (c .before .before .before .before .before .before .before .before .before .before .args .sent .now))
+    (length (c .before .before .before .before .before .before .before .before .before .before .args .shown .now))
 long c = lengths _ _ _ _ (sym (c .before .lent-right .ensures) ∙ c .if1 .taken)
 
 record-of-requires : tie.Need-record-of-requires
@@ -26,7 +29,8 @@ take-reply-requires c κs = search needs
 
 put-answer-requires : tie.Need-put-answer-requires
 put-answer-requires c κs =
-    let l = long (c .before .before .before .before .before .before .before .before .before .before .before .before .before .before .before .before .before) in (l .numbers-long, (l .bytes-long, (l .sent-long, l .shown-long)))
+    let l = long (c .before .before .before .before .before .before .before .before .before .before .before .before .before .before .before .before .before) in
+    (l .numbers-long, (l .bytes-long, (l .sent-long, l .shown-long)))
 
 same-length : tie.Need-same-length
 same-length c = search needs
@@ -51,9 +55,14 @@ same-length-7 c = search needs
 
 returns-2 : tie.Need-returns-2
 returns-2 c =
-    let s = c .before .before .before .before .before .before .before .before .before .before .before .before .before .before .before .before .before .before .before .before .before .before .before .before .before .before .before .before .before .before .before .before .before .before .before .before .args in
-    let e = sym (c .before .before .before .before .before .before .before .before .before .before .before .before .before .before .before .before .before .before .before .before .before .before .before .before .before .before .before .lent-right .ensures) ∙ c .before .before .before .before .before .before .before .before .before .before .before .before .before .before .before .before .before .before .before .before .before .before .before .before .before .before .if1 .taken in
-    let q = c .before .before .before .before .before .before .before .before .before .before .before .before .before .before .before .before .before .before .before .before .before .before .before .record-of .ensures in
+    let s = c .before .before .before .before .before .before .before .before .before .before .before .before .before .before .before .before .before .before .before .before .before .before
+    .before .before .before .before .before .before .before .before .before .before .before .before .before .before .args in
+    let e = sym (c .before .before .before .before .before .before .before .before .before .before .before .before .before .before .before .before .before .before .before .before .before
+    .before .before .before .before .before .before .lent-right .ensures) ∙
+    c .before .before .before .before .before .before .before .before .before .before .before .before .before .before .before .before .before .before .before .before .before .before .before
+    .before .before .before .if1 .taken in
+    let q = c .before .before .before .before .before .before .before .before .before .before .before .before .before .before .before .before .before .before .before .before .before .before
+    .before .record-of .ensures in
     let w = c .before .before .before .before .before .before .before .before .before .before .before .before .before .before .before .before .before .before .before .take-reply .ensures in
     let p = c .before .before .before .before .before .before .before .before .put-answer .ensures in
     crossed _ _ _ _ _ _ _ _ _ _ _ e (w ∙ ap (λ (x : Coordinator). takeCall (s .n) (s .m) (s .size) x (s .blocks .now) (s .stripe .now) (s .coded .now)

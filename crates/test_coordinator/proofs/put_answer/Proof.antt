@@ -35,7 +35,8 @@ returns-2 : tie.Need-returns-2
 returns-2 c =
     let h = c .before .before .before .before .before .before .before .before .before .before .before .before .before .before .before .before .before .if1 .left in (
       sym h,
-      laid-given _ _ _ _ _ _ h (c .before .before .before .before .before .before .before .before .before .before .before .before .before .before .put-numbers .ensures) (c .before .before .before .before .before .before .before .before .before .before .put-bytes .ensures)
+      laid-given _ _ _ _ _ _ h (c .before .before .before .before .before .before .before .before .before .before .before .before .before .before .put-numbers .ensures)
+          (c .before .before .before .before .before .before .before .before .before .before .put-bytes .ensures)
           (c .before .before .before .before .before .before .put-sent .ensures) (c .before .before .put-shown .ensures),
     )
 

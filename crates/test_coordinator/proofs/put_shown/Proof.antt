@@ -1,7 +1,7 @@
 use native.Mathlib.Omega.{arith}
 use lib.ListN.{length, set}
 use mathlib.Core.Path.{_≡_, sym, _∙_}
-use Rattle.test_coordinator.specs.CoordinatorBoundary.{answerBytes}
+use Rattle.test_coordinator.specs.CoordinatorBoundary.{answerBytesLength, answerBytes}
 use Rattle.test_coordinator.proofs.Laws.CoordinatorBoundaryLaws.{at-least, four-set, shown-are}
 use borrow.Author.Needs.{needs}
 use Rattle.test_coordinator.proofs.put_shown.Statement.{statement}
@@ -20,31 +20,33 @@ slice-write-out-4 : tie.Need-slice-write-out-4
 slice-write-out-4 c = search needs
 
 -- each row leaves the length
-long-1 : (c : tie.After-put-row) → length (c .put-row .last .1 .1 .0) ≡ 52
+long-1 : (c : tie.After-put-row) → length (c .put-row .last .1 .1 .0) ≡ answerBytesLength
 long-1 c =
     let s = c .before .before .before .before .before .before .before .before .before in
-    c .put-row .kept .1 .1 .0 ∙ four-set (s .args .out .now) 52 0 1 2 51 (s .args .a .message .kind) (s .args .a .seen .what) (s .args .a .seen .kind) (s .args .a .second .kind) (s .pre)
+    c .put-row .kept .1 .1 .0 ∙ four-set (s .args .out .now) answerBytesLength 0 1 2 51 (s .args .a .message .kind) (s .args .a .seen .what) (s .args .a .seen .kind) (s .args .a .second .kind)
+    (s .pre)
 
-long-2 : (c : tie.After-put-row2) → length (c .put-row2 .last .1 .1 .0) ≡ 52
+long-2 : (c : tie.After-put-row2) → length (c .put-row2 .last .1 .1 .0) ≡ answerBytesLength
 long-2 c = c .put-row2 .kept .1 .1 .0 ∙ long-1 (c .before .before .before .before)
 
-long-3 : (c : tie.After-put-row3) → length (c .put-row3 .last .1 .1 .0) ≡ 52
+long-3 : (c : tie.After-put-row3) → length (c .put-row3 .last .1 .1 .0) ≡ answerBytesLength
 long-3 c = c .put-row3 .kept .1 .1 .0 ∙ long-2 (c .before .before .before .before)
 
 put-row-requires : tie.Need-put-row-requires
 put-row-requires c κs =
     let s = c .before .before .before .before .before .before .before .before in
-    at-least 19 52 (set (set (set (set (s .args .out .now) 0 (s .args .a .message .kind)) 1 (s .args .a .seen .what)) 2 (s .args .a .seen .kind)) 51 (s .args .a .second .kind))
-    (four-set (s .args .out .now) 52 0 1 2 51 (s .args .a .message .kind) (s .args .a .seen .what) (s .args .a .seen .kind) (s .args .a .second .kind) (s .pre)) (omega arith)
+    at-least 19 answerBytesLength (set (set (set (set (s .args .out .now) 0 (s .args .a .message .kind)) 1 (s .args .a .seen .what)) 2 (s .args .a .seen .kind)) 51 (s .args .a .second .kind))
+    (four-set (s .args .out .now) answerBytesLength 0 1 2 51 (s .args .a .message .kind) (s .args .a .seen .what) (s .args .a .seen .kind) (s .args .a .second .kind) (s .pre)) (omega arith)
 
 put-row-requires-2 : tie.Need-put-row-requires-2
-put-row-requires-2 c κs = at-least 35 52 (c .before .before .before .put-row .last .1 .1 .0) (long-1 (c .before .before .before)) (omega arith)
+put-row-requires-2 c κs = at-least 35 answerBytesLength (c .before .before .before .put-row .last .1 .1 .0) (long-1 (c .before .before .before)) (omega arith)
 
 put-row-requires-3 : tie.Need-put-row-requires-3
-put-row-requires-3 c κs = at-least 51 52 (c .before .before .before .put-row2 .last .1 .1 .0) (long-2 (c .before .before .before)) (omega arith)
+put-row-requires-3 c κs = at-least 51 answerBytesLength (c .before .before .before .put-row2 .last .1 .1 .0) (long-2 (c .before .before .before)) (omega arith)
 
 same-length : tie.Need-same-length
-same-length c = long-3 (c .before .before) ∙ sym (c .before .before .before .before .before .before .before .before .before .before .before .before .before .before .before .before .before .before .before .pre)
+same-length c = long-3 (c .before .before) ∙ sym
+    (c .before .before .before .before .before .before .before .before .before .before .before .before .before .before .before .before .before .before .before .pre)
 
 returns : tie.Need-returns
 unfolding answerBytes
