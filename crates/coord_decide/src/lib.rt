@@ -88,6 +88,9 @@ pub fn reply_answers(n: usize, m: usize, op: Op, t: Tally, reply: Reply) -> bool
     coord_record::block_right(op.phase, target, reply.yes, reply.held, reply.found)
 }
 
+// "Recovery: Order-and-read with max 2^44": the first recovery round has no upper end.
+const FIRST_MAX: u64 = settings::NO_UPPER_END;
+
 // What the q-th reply of a Read round decides.
 fn decide_read(n: usize, m: usize, op: Op, t: Tally) -> Decision
     requires { ⌜ n ≤ maxBricks ⌝ }
@@ -98,14 +101,14 @@ fn decide_read(n: usize, m: usize, op: Op, t: Tally) -> Decision
     let granted = t.granted;
     let found = t.found;
     if any_no(counted, granted, n) {
-        return Decision::Look(settings::NO_UPPER_END);
+        return Decision::Look(FIRST_MAX);
     }
     let newest = highest_of(counted, found, n);
     if any_other(counted, found, newest, n) {
-        return Decision::Look(settings::NO_UPPER_END);
+        return Decision::Look(FIRST_MAX);
     }
     if any_missing(n, m, op.first, counted) {
-        return Decision::Look(settings::NO_UPPER_END);
+        return Decision::Look(FIRST_MAX);
     }
     Decision::Give
 }
