@@ -1,4 +1,5 @@
 // What a coordinator's routine answered, on the bench: kept, sent and printed, where its messages stay within message 127 (document 01, "The bench").
+// inner: call `bench_player::play_line`
 ghost use mathlib.Core.Path.{_≡_};
 ghost use Prim.Native.Nat.{_+_, _*_, _≤_, _<_};
 ghost use lib.ListN.{length};

@@ -1,5 +1,6 @@
 // What a coordinator's decisions do (document 01, "What a coordinator does"). A routine gives one refusal, or the record that follows,
 // the broadcasts to all n bricks, and what is seen.
+// inner: call `coordinator::take_reply`
 ghost use mathlib.Core.Path.{_≡_};
 ghost use Prim.Native.Nat.{_+_, _*_, _≤_, _<_};
 ghost use lib.ListN.{length, take};

@@ -1,4 +1,5 @@
 // The rounds of a coordinator (document 01, "What a coordinator does"): which replies count, and what the q-th decides.
+// inner: call `coordinator::take_reply`
 ghost use mathlib.Core.Path.{_≡_};
 ghost use Prim.Native.Nat.{_≤_, _<_};
 ghost use Rattle.coord_decide.specs.Deciding.{answers, tallied, decidedRead, decidedAt, decided};

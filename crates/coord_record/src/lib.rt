@@ -1,5 +1,6 @@
 // The record of a coordinator (document 01, "What a coordinator does"), by value in small parts, and which records are sound (refusal 6).
 // The blocks of the replies and the stripe are lent beside it.
+// inner: call `coordinator::start_read`
 ghost use mathlib.Core.Path.{_≡_};
 ghost use Prim.Native.Nat.{_≤_, _<_};
 ghost use Rattle.coord_record.specs.Records.{noOp, nothingCounted, idleWith};

@@ -1,4 +1,5 @@
 // What a coordinator's routines refuse, before anything changes (document 01, "Refused by number, lowest first").
+// inner: call `coordinator::take_reply`
 ghost use mathlib.Core.Path.{_≡_};
 ghost use mathlib.Core.Bool.{true};
 ghost use mathlib.Core.List.{[]};

@@ -1,4 +1,5 @@
 // What the counted replies of a round say, brick by brick, and rows of bricks (document 01, "What a coordinator does").
+// inner: call `coordinator::take_reply`
 ghost use mathlib.Core.Path.{_≡_};
 ghost use mathlib.Core.Bool.{true};
 ghost use Prim.Native.Nat.{_≤_, _<_};
