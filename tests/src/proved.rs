@@ -151,7 +151,7 @@ pub fn receive(
 /// Three settings of a coordinator: n, m, block size.
 pub type Three = (usize, usize, usize);
 
-/// What every routine of a coordinator is lent: the record's 22 numbers and 66 bytes, the answer's 5 numbers and 35 bytes.
+/// What every routine of a coordinator is lent: the record's 22 numbers and 66 bytes, the answer's 8 numbers and 52 bytes.
 #[derive(Clone, Debug, PartialEq, Eq)]
 pub struct Lent {
     pub numbers: Vec<u64>,
@@ -165,7 +165,7 @@ impl Lent {
     pub fn fresh(coordinator: u64) -> Lent {
         let mut numbers = vec![0; 22];
         numbers[0] = coordinator;
-        Lent { numbers, bytes: vec![0; 66], sent: vec![0; 5], shown: vec![0; 35] }
+        Lent { numbers, bytes: vec![0; 66], sent: vec![0; 8], shown: vec![0; 52] }
     }
 }
 

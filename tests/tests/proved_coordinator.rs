@@ -103,7 +103,7 @@ fn read_out(shape: Shape, c: &Coordinator) -> Option<Record> {
 fn judged(shape: Shape, c: &Coordinator, event: &Event) -> Result<(Record, Step), Refusal> {
     let number = c.lent.numbers.first().copied().unwrap_or(0);
     let lent = [c.lent.numbers.len(), c.lent.bytes.len(), c.lent.sent.len(), c.lent.shown.len()];
-    if lent != [22, 66, 5, 35] {
+    if lent != [22, 66, 8, 52] {
         return Err(2);
     }
     if shape.refusal().is_some() {
@@ -135,9 +135,9 @@ fn judged(shape: Shape, c: &Coordinator, event: &Event) -> Result<(Record, Step)
     step.map(|step| (record, step))
 }
 
-/// The four buffers' answer: five numbers and 35 bytes.
+/// The four buffers' answer: eight numbers and 52 bytes, with nothing in the places of a second message.
 fn answer(shape: Shape, event: &Event, record: &Record, step: &Step) -> (Vec<u64>, Vec<u8>) {
-    let (mut sent, mut shown) = (vec![0; 5], vec![0; 35]);
+    let (mut sent, mut shown) = (vec![0; 8], vec![0; 52]);
     if let Some(message) = step.sent.first() {
         assert_eq!(step.sent.len() as u64, shape.n);
         sent[..4].copy_from_slice(&[1, message.time, message.round, message.max]);
@@ -155,7 +155,7 @@ fn answer(shape: Shape, event: &Event, record: &Record, step: &Step) -> (Vec<u64
             Outcome::Cut => (5, Vec::new()),
         };
         shown[1..3].copy_from_slice(&[what, number(ended.kind)]);
-        shown[19..].copy_from_slice(&row(&bricks));
+        shown[19..35].copy_from_slice(&row(&bricks));
         sent[4] = ended.time;
     } else if let (Event::Write(..) | Event::Read(..), Some(running)) = (event, &record.running) {
         shown[1..3].copy_from_slice(&[1, number(running.kind)]);

@@ -1,5 +1,4 @@
 -- The laws of `bench_commit`, for its own proofs and those of the crates above. No contract cites them.
--- Definitions: Answers. Laws: AnswerLaws, StepLaws, ActedLaws.
 pub mod ActedLaws
 pub mod CommitLaws
 pub mod CommitStepLaws

@@ -7,8 +7,8 @@ use lib.ListN.{length}
 use Rattle.settings.specs.Refusal.{badLine}
 use Rattle.settings.specs.declared.Settings.{Settings}
 use Rattle.coord_apply.specs.declared.Answer.{Answer}
-use Rattle.register.specs.Driver.{driven}
-use Rattle.register.specs.Runs.{World, Event, toAll}
+use Rattle.register.specs.Driver.{driven, listed}
+use Rattle.register.specs.Runs.{World, Event, broadcasts}
 use Rattle.bench_print.specs.Printing.{endedText}
 use Rattle.bench_rules.specs.Play.{Played, refuses, lastMessage, acts}
 use Rattle.coord_apply.specs.Answers.{Buffered, Step}
@@ -30,9 +30,9 @@ answered s w e c a blocks stripe coded =
     (refuses w badLine))
     (refuses w (a .refusal))
 
--- how many messages are sent after a round, or after none
+-- how many messages are sent after so many broadcasts to n bricks
 unfoldable pub sentAfterAnswer : ℕ → ℕ → ℕ → ℕ
-sentAfterAnswer n sent rounds = cond (eqb rounds 0) sent (sent + n)
+sentAfterAnswer n sent broadcasts = sent + broadcasts * n
 
 -- an event with this step at coordinator c has been played, whatever the images are
 pub record BenchActed (b : Bench) (c : ℕ) (e : Event) (p : Buffered → Step) (kept numbers bytes : List ℕ) (at : ℕ) (out : List ℕ) (r : After)
@@ -43,14 +43,15 @@ pub record BenchActed (b : Bench) (c : ℕ) (e : Event) (p : Buffered → Step) 
       r (lent images kept′ numbers′ bytes′) out′
 
 -- an event has been played, whatever the images are
-pub record Plays (b : Bench) (p : World → Played) (kept numbers bytes : List ℕ) (at : ℕ) (out : List ℕ) (r : After) (kept′ numbers′ bytes′ out′ : List ℕ) : Type 0 where
+pub record Plays (b : Bench) (p : World → Played) (kept numbers bytes : List ℕ) (at : ℕ) (out : List ℕ) (r : After)
+    (kept′ numbers′ bytes′ out′ : List ℕ) : Type 0 where
   pub turned : (images : List ℕ)
       → Turned b (lent images kept numbers bytes) at out (p (worldIn b (lent images kept numbers bytes))) r (lent images kept′ numbers′ bytes′) out′
 
--- the items after a round, or after none
-pub record Round (s : Settings) (sent rounds : ℕ) (msg : Message) (coded numbers bytes numbers′ bytes′ : List ℕ) : Type 0 where
-  pub items : itemsOf (s .size) numbers′ bytes′ (sentAfterAnswer (s .n) sent rounds)
-      ≡ itemsOf (s .size) numbers bytes sent ++ cond (eqb rounds 0) [] (toAll s (record { message = msg; blocks = coded }) (s .n))
+-- the items after an answer's broadcasts
+pub record Round (s : Settings) (sent count : ℕ) (first second : Message) (coded numbers bytes numbers′ bytes′ : List ℕ) : Type 0 where
+  pub items : itemsOf (s .size) numbers′ bytes′ (sentAfterAnswer (s .n) sent count)
+      ≡ itemsOf (s .size) numbers bytes sent ++ broadcasts s (listed count first second coded)
 
 -- what the functions at a coordinator are lent: a set that is played, and room for a line
 pub record Seats (b : Bench) (c : ℕ) (kept numbers bytes : List ℕ) (at : ℕ) (out : List ℕ) : Type 0 where

@@ -1,7 +1,9 @@
 // What a coordinator's routine answered, on the bench: kept, sent and printed, where its messages stay within message 127 (document 01, "The bench").
+// inner: call `bench_player::play_line`
 ghost use mathlib.Core.Path.{_≡_};
 ghost use Prim.Native.Nat.{_+_, _*_, _≤_, _<_};
 ghost use lib.ListN.{length};
+ghost use Rattle.coord_apply.specs.Answers.{mostBroadcasts};
 ghost use Rattle.bench_commit.specs.Workers.{Round, Seats, Copies, Answers};
 ghost use Rattle.bench_commit.specs.Workers.{sentAfterAnswer};
 use bench_rules::After;
@@ -10,35 +12,38 @@ use coord_apply::Answer;
 use message::Message;
 use settings::Settings;
 
-// How many messages are sent after a round, or after none.
-fn sent_after(n: usize, sent: usize, rounds: usize) -> usize
-    requires { ⌜ sent + n ≤ 1000 ⌝ }
-    ensures { λ r. ⌜ r ≡ sentAfterAnswer n sent rounds ⌝ }
+// How many messages are sent after so many broadcasts.
+fn sent_after(n: usize, sent: usize, broadcasts: usize) -> usize
+    requires { ⌜ (broadcasts ≤ mostBroadcasts) × (sent + mostBroadcasts * n ≤ 1000) ⌝ }
+    ensures { λ r. ⌜ r ≡ sentAfterAnswer n sent broadcasts ⌝ }
 {
-    if rounds == 0 {
-        return sent;
-    }
-    sent + n
+    sent + broadcasts * n
 }
 
-// A round sent, or none.
+// The broadcasts of an answer sent, in their order.
 fn send(
     s: Settings,
     sent: usize,
-    rounds: usize,
-    msg: Message,
+    broadcasts: usize,
+    first: Message,
+    second: Message,
     coded: &[u8],
     numbers: &mut [u64],
     bytes: &mut [u8],
 )
-    requires { ⌜ (s .size ≤ 8) × (sentAfterAnswer (s .n) sent rounds ≤ 127) × (s .n * s .size ≤ length (now coded)) ⌝ }
-    requires { ⌜ (length (now numbers) ≡ 1016) × (length (now bytes) ≡ 3048) ⌝ }
-    ensures { λ _. ⌜ Round s sent rounds msg (now (coded .entry)) (now (numbers .entry)) (now (bytes .entry)) (now (numbers .exit)) (now (bytes .exit)) ⌝ }
+    requires { ⌜ (s .size ≤ 8) × (sentAfterAnswer (s .n) sent broadcasts ≤ 127) × (s .n * s .size ≤ length (now coded)) ⌝ }
+    requires { ⌜ (length (now numbers) ≡ 1016) × (length (now bytes) ≡ 3048) × (broadcasts ≤ mostBroadcasts) ⌝ }
+    ensures { λ _. ⌜ Round s sent broadcasts first second (now (coded .entry))
+        (now (numbers .entry)) (now (bytes .entry)) (now (numbers .exit)) (now (bytes .exit)) ⌝ }
 {
-    if rounds == 0 {
+    if broadcasts == 0 {
         return;
     }
-    bench_sent::send_all(s.n, s.size, sent, msg, coded, numbers, bytes)
+    bench_sent::send_all(s.n, s.size, sent, first, coded, numbers, bytes);
+    if broadcasts == 1 {
+        return;
+    }
+    bench_sent::send_all(s.n, s.size, sent + s.n, second, coded, numbers, bytes)
 }
 
 // What a coordinator's routine answered, with the buffers it left, is kept, sent and printed.
@@ -59,11 +64,16 @@ fn keep_answer(
     requires { ⌜ Seats b c (now kept) (now numbers) (now bytes) at (now out) ⌝ }
     requires { ⌜ Copies (b .settings) (now blocks) (now stripe) (now coded) ⌝ }
     requires { ⌜ (a .refusal ≡ 0) × (sent ≡ sentAfterAnswer (b .settings .n) (b .sent) (a .sent)) × (sent ≤ 127) ⌝ }
-    ensures { λ r. ⌜ Answers b c a (now (blocks .entry)) (now (stripe .entry)) (now (coded .entry)) (now (kept .entry)) (now (numbers .entry)) (now (bytes .entry)) at (now (out .entry)) r (now (kept .exit)) (now (numbers .exit)) (now (bytes .exit)) (now (out .exit)) ⌝ }
+    requires { ⌜ a .sent ≤ mostBroadcasts ⌝ }
+    ensures { λ r. ⌜ (
+        Answers b c a (now (blocks .entry)) (now (stripe .entry)) (now (coded .entry))
+        (now (kept .entry)) (now (numbers .entry)) (now (bytes .entry)) at (now (out .entry)) r
+        (now (kept .exit)) (now (numbers .exit)) (now (bytes .exit)) (now (out .exit))) ⌝ }
 {
     let s = b.settings;
-    let msg = a.message;
-    send(s, b.sent, a.sent, msg, coded, numbers, bytes);
+    let first = a.message;
+    let second = a.second;
+    send(s, b.sent, a.sent, first, second, coded, numbers, bytes);
     bench_state::keep(c, blocks, stripe, kept);
     let seen = a.seen;
     let used = bench_print::put_ended(c, seen, stripe, at, out);
@@ -88,7 +98,11 @@ pub fn commit(
 ) -> After
     requires { ⌜ Seats b c (now kept) (now numbers) (now bytes) at (now out) ⌝ }
     requires { ⌜ Copies (b .settings) (now blocks) (now stripe) (now coded) ⌝ }
-    ensures { λ r. ⌜ Answers b c a (now (blocks .entry)) (now (stripe .entry)) (now (coded .entry)) (now (kept .entry)) (now (numbers .entry)) (now (bytes .entry)) at (now (out .entry)) r (now (kept .exit)) (now (numbers .exit)) (now (bytes .exit)) (now (out .exit)) ⌝ }
+    requires { ⌜ a .sent ≤ mostBroadcasts ⌝ }
+    ensures { λ r. ⌜ (
+        Answers b c a (now (blocks .entry)) (now (stripe .entry)) (now (coded .entry))
+        (now (kept .entry)) (now (numbers .entry)) (now (bytes .entry)) at (now (out .entry)) r
+        (now (kept .exit)) (now (numbers .exit)) (now (bytes .exit)) (now (out .exit))) ⌝ }
 {
     if a.refusal != 0 {
         return bench_rules::refuse(b, a.refusal, at, out);

@@ -1,5 +1,4 @@
 -- The laws of `coord_apply`, for its own proofs and those of the crates above. No contract cites them.
--- Definitions: Steps, Acts. Laws and theorems: the others.
 pub mod ActLaws
 pub mod BufferLaws
 pub mod AnswerLaws

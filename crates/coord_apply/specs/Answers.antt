@@ -1,8 +1,9 @@
 -- What one event at a coordinator gives: a refusal, or the later coordinator, a list of broadcasts to all n bricks, and what is seen.
 use mathlib.Core.Bool.{cond}
 use mathlib.Core.List.{List, [], _∷_}
-use Prim.Native.Nat.{ℕ}
+use Prim.Native.Nat.{ℕ, zero, suc}
 use lib.Dec.{eqb, leb}
+use lib.ListN.{length}
 use Rattle.coord_record.specs.Records.{noBricks}
 use Rattle.coord_record.specs.declared.Coordinator.{Coordinator}
 use Rattle.coord_apply.specs.declared.Answer.{Answer}
@@ -56,25 +57,37 @@ nothingSeen = record { what = 0; kind = 0; time = 0; bricks = noBricks }
 unfoldable pub noMessage : Message
 noMessage = record { kind = 0; time = 0; round = 0; max = 0; targets = noBricks }
 
--- how many broadcasts there are, and the message of the first
+-- an answer has room for the messages of so many broadcasts
+abbrev pub mostBroadcasts : ℕ
+mostBroadcasts = 2
+
+-- how many broadcasts there are, and the message of broadcast k, from 0
 unfoldable pub sentCount : List Broadcast → ℕ
-sentCount [] = 0
-sentCount (b ∷ rest) = 1
+sentCount sent = length sent
 
-unfoldable pub sentMessage : List Broadcast → Message
-sentMessage [] = noMessage
-sentMessage (b ∷ rest) = b .message
+unfoldable pub sentMessage : ℕ → List Broadcast → Message
+sentMessage k [] = noMessage
+sentMessage zero (b ∷ rest) = b .message
+sentMessage (suc k) (b ∷ rest) = sentMessage k rest
 
--- what the output buffer holds then: the n blocks of a Write round, or what it held
+-- what the output buffer holds then: the n blocks of the Write round among the broadcasts, or what it held
 unfoldable pub sentBlocks : List Broadcast → List ℕ → List ℕ
 sentBlocks [] old = old
-sentBlocks (b ∷ rest) old = cond (eqb (b .message .kind) writeKind) (b .blocks) old
+sentBlocks (b ∷ rest) old = sentBlocks rest (cond (eqb (b .message .kind) writeKind) (b .blocks) old)
 
 -- the answer of a routine at a coordinator
 unfoldable pub answerOf : Coordinator → Step → Answer
-answerOf c (refused number) = record { refusal = number; next = c; sent = 0; message = noMessage; seen = nothingSeen }
+answerOf c (refused number) =
+    record { refusal = number; next = c; sent = 0; message = noMessage; second = noMessage; seen = nothingSeen }
 answerOf c (went w) =
-    record { refusal = 0; next = w .next .state; sent = sentCount (w .sent); message = sentMessage (w .sent); seen = w .seen }
+    record {
+      refusal = 0;
+      next = w .next .state;
+      sent = sentCount (w .sent);
+      message = sentMessage 0 (w .sent);
+      second = sentMessage 1 (w .sent);
+      seen = w .seen;
+    }
 
 -- the lent buffers after it: a refusal leaves them
 unfoldable pub blocksAfter : Buffered → Step → List ℕ
@@ -88,3 +101,17 @@ stripeAfter h (went w) = w .next .stripe
 unfoldable pub codedAfter : List ℕ → Step → List ℕ
 codedAfter old (refused number) = old
 codedAfter old (went w) = sentBlocks (w .sent) old
+
+-- What a call leaves: the answer, and every byte of the lent buffers, the reply blocks, the stripe and the blocks to send.
+pub record Returned : Type 0 where
+  pub answer : Answer
+  pub blocks : List ℕ
+  pub stripe : List ℕ
+  pub coded : List ℕ
+
+abbrev pub returned : Answer → (blocks stripe coded : List ℕ) → Returned
+returned a blocks stripe coded = record { answer = a; blocks = blocks; stripe = stripe; coded = coded }
+
+-- what a call of this step leaves
+unfoldable pub returnedBy : Buffered → List ℕ → Step → Returned
+returnedBy h coded p = returned (answerOf (h .state) p) (blocksAfter h p) (stripeAfter h p) (codedAfter coded p)

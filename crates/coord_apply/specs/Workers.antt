@@ -2,7 +2,7 @@
 use mathlib.Core.List.{List}
 use Prim.Native.Nat.{ℕ, _+_, _*_, _≤_, _<_}
 use lib.ListN.{getD, length}
-use Rattle.coord_apply.specs.Answers.{Buffered, nothingSeen, went, sentBlocks, answerOf}
+use Rattle.coord_apply.specs.Answers.{Buffered, nothingSeen, noMessage, went, sentBlocks, answerOf}
 use Rattle.coord_record.specs.Records.{idleWith, noBricks}
 use Rattle.coord_record.specs.declared.Coordinator.{Coordinator}
 use Rattle.coord_decide.specs.declared.Decision.{Decision}
@@ -11,6 +11,7 @@ use Rattle.settings.specs.Ranges.{CodeRange}
 use mathlib.Core.Path.{_≡_}
 use Rattle.coord_apply.specs.declared.Answer.{Answer}
 use Rattle.coord_apply.specs.Acts.{roundMessage, nextOp, opened, acted}
+use Rattle.message.specs.Kinds.{lastRound}
 
 -- the answers that open a round and that end an operation
 unfoldable pub openAnswer : Coordinator → ℕ → ℕ → List ℕ → Answer
@@ -20,6 +21,7 @@ openAnswer c phase max bricks =
       next = opened c phase max bricks;
       sent = 1;
       message = roundMessage (nextOp (c .op) phase max) noBricks;
+      second = noMessage;
       seen = nothingSeen;
     }
 
@@ -30,6 +32,7 @@ endAnswer c what bricks sent message =
       next = idleWith (c .clock);
       sent = sent;
       message = message;
+      second = noMessage;
       seen = record { what = what; kind = c .op .kind; time = c .op .time; bricks = bricks };
     }
 
@@ -37,7 +40,7 @@ endAnswer c what bricks sent message =
 pub record DecisionReady (n m size : ℕ) (c : Coordinator) (blocks stripe : ℕ) : Type 0 where
   pub range : CodeRange n m size
   pub first-low : c .op .first < n
-  pub round-low : c .op .round ≤ 1000
+  pub round-low : c .op .round ≤ lastRound
   pub blocks-length : blocks ≡ n * size
   pub stripe-length : stripe ≡ m * size
 

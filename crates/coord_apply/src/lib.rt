@@ -1,5 +1,6 @@
 // What a coordinator's decisions do (document 01, "What a coordinator does"). A routine gives one refusal, or the record that follows,
-// a broadcast to all n bricks or none, and what is seen.
+// the broadcasts to all n bricks, and what is seen.
+// inner: call `coordinator::take_reply`
 ghost use mathlib.Core.Path.{_≡_};
 ghost use Prim.Native.Nat.{_+_, _*_, _≤_, _<_};
 ghost use lib.ListN.{length, take};
@@ -9,12 +10,12 @@ ghost use Rattle.coord_apply.specs.Acts.{gathered, stripeFrom, withReply
 ghost use Rattle.coord_tally.specs.Counting.{picked, targetRow, atTimes};
 ghost use Rattle.coord_decide.specs.Deciding.{decided};
 ghost use Rattle.erasure.specs.Code.{codedOf};
-ghost use Rattle.message.specs.Kinds.{writeKind};
+ghost use Rattle.message.specs.Kinds.{writeKind, lastRound};
 ghost use Rattle.settings.specs.Count.{count};
 ghost use Rattle.coord_apply.specs.Workers.{InPlace};
 ghost use Rattle.coord_apply.specs.Answers.{nothingSeen, noMessage, readSeen};
 ghost use Rattle.erasure.specs.Workers.{Encodes};
-ghost use Rattle.settings.specs.Ranges.{CodeRange};
+ghost use Rattle.settings.specs.Ranges.{CodeRange, maxBricks, maxSize};
 ghost use Rattle.interpolate.specs.Values.{PointSet};
 use coord_decide::Decision;
 use coord_record::Coordinator;
@@ -24,6 +25,7 @@ use message::Message;
 use message::Reply;
 use settings::Clock;
 use settings::Draw;
+use settings::MAX_BRICKS;
 
 // What is seen of an operation.
 pub const BEGAN: u8 = 1;
@@ -41,16 +43,17 @@ pub struct Notice {
     pub what: u8,
     pub kind: u8,
     pub time: u64,
-    pub bricks: [u8; 16],
+    pub bricks: [u8; MAX_BRICKS],
 }
 
-// refusal: 0, or the number alone. next: the record that follows. sent: how many broadcasts there are, each to all n bricks.
-// message: what is sent; the blocks of a Write round stand in the lent output buffer.
+// refusal: 0, or the number alone. next: the record that follows. sent: how many broadcasts there are, two at most, each to all n bricks.
+// message, second: what is sent, in this order; the blocks of a Write round stand in the lent output buffer.
 pub struct Answer {
     pub refusal: u32,
     pub next: Coordinator,
     pub sent: usize,
     pub message: Message,
+    pub second: Message,
     pub seen: Notice,
 }
 
@@ -62,7 +65,7 @@ pub fn nothing_seen() -> Notice
         what: 0,
         kind: 0,
         time: 0,
-        bricks: [0u8; 16],
+        bricks: [0u8; MAX_BRICKS],
     }
 }
 
@@ -75,7 +78,7 @@ pub fn no_message() -> Message
         time: 0,
         round: 0,
         max: 0,
-        targets: [0u8; 16],
+        targets: [0u8; MAX_BRICKS],
     }
 }
 
@@ -90,8 +93,8 @@ pub fn place(size: usize, b: usize, block: &[u8], blocks: &mut [u8])
 }
 
 // The blocks of the first m bricks of a row, one after the other.
-fn gather(m: usize, size: usize, bricks: [u8; 16], blocks: &[u8], out: &mut [u8])
-    requires { ⌜ (m ≤ 16) × (length (now out) ≡ m * size) ⌝ }
+fn gather(m: usize, size: usize, bricks: [u8; MAX_BRICKS], blocks: &[u8], out: &mut [u8])
+    requires { ⌜ (m ≤ maxBricks) × (length (now out) ≡ m * size) ⌝ }
     requires { ⌜ InPlace m size bricks (now blocks) ⌝ }
     ensures { λ _. ⌜ now (out .exit) ≡ gathered m size bricks (now (blocks .entry)) ⌝ }
 {
@@ -111,12 +114,12 @@ fn gather(m: usize, size: usize, bricks: [u8; 16], blocks: &[u8], out: &mut [u8]
 fn decode_by(
     m: usize,
     size: usize,
-    bricks: [u8; 16],
+    bricks: [u8; MAX_BRICKS],
     blocks: &[u8],
     work: &mut [u8],
     stripe: &mut [u8],
 )
-    requires { ⌜ (m ≤ 16) × (m * size ≤ length (now work)) ⌝ }
+    requires { ⌜ (m ≤ maxBricks) × (m * size ≤ length (now work)) ⌝ }
     requires { ⌜ length (now stripe) ≡ m * size ⌝ }
     requires { ⌜ PointSet (take m bricks) ⌝ }
     requires { ⌜ InPlace m size bricks (now blocks) ⌝ }
@@ -128,8 +131,8 @@ fn decode_by(
 }
 
 // The same, with a buffer of its own.
-fn decode_from(m: usize, size: usize, bricks: [u8; 16], blocks: &[u8], stripe: &mut [u8])
-    requires { ⌜ (m ≤ 16) × (size ≤ 256) ⌝ }
+fn decode_from(m: usize, size: usize, bricks: [u8; MAX_BRICKS], blocks: &[u8], stripe: &mut [u8])
+    requires { ⌜ (m ≤ maxBricks) × (size ≤ maxSize) ⌝ }
     requires { ⌜ length (now stripe) ≡ m * size ⌝ }
     requires { ⌜ PointSet (take m bricks) ⌝ }
     requires { ⌜ InPlace m size bricks (now blocks) ⌝ }
@@ -140,7 +143,7 @@ fn decode_from(m: usize, size: usize, bricks: [u8; 16], blocks: &[u8], stripe: &
 }
 
 // The message of a round, to all bricks.
-pub fn round_message(op: Op, targets: [u8; 16]) -> Message
+pub fn round_message(op: Op, targets: [u8; MAX_BRICKS]) -> Message
     ensures { λ r. ⌜ r ≡ roundMessage op targets ⌝ }
 {
     Message {
@@ -161,13 +164,13 @@ fn trim_message(op: Op) -> Message
         time: op.time,
         round: op.round,
         max: 0,
-        targets: [0u8; 16],
+        targets: [0u8; MAX_BRICKS],
     }
 }
 
 // The next round of an operation.
 fn next_op(op: Op, phase: u8, max: u64) -> Op
-    requires { ⌜ op .round ≤ 1000 ⌝ }
+    requires { ⌜ op .round ≤ lastRound ⌝ }
     ensures { λ r. ⌜ r ≡ nextOp op phase max ⌝ }
 {
     Op {
@@ -181,8 +184,8 @@ fn next_op(op: Op, phase: u8, max: u64) -> Op
 }
 
 // The answer that opens the next round.
-fn open(c: Coordinator, phase: u8, max: u64, bricks: [u8; 16]) -> Answer
-    requires { ⌜ c .op .round ≤ 1000 ⌝ }
+fn open(c: Coordinator, phase: u8, max: u64, bricks: [u8; MAX_BRICKS]) -> Answer
+    requires { ⌜ c .op .round ≤ lastRound ⌝ }
     ensures { λ r. ⌜ r ≡ openAnswer c phase max bricks ⌝ }
 {
     let old = c.op;
@@ -195,24 +198,33 @@ fn open(c: Coordinator, phase: u8, max: u64, bricks: [u8; 16]) -> Answer
         tally,
         bricks,
     };
-    let message = round_message(op, [0u8; 16]);
+    let message = round_message(op, [0u8; MAX_BRICKS]);
+    let second = no_message();
     let seen = nothing_seen();
     Answer {
         refusal: 0,
         next,
         sent: 1,
         message,
+        second,
         seen,
     }
 }
 
 // The answer that ends the operation.
-pub fn end(c: Coordinator, what: u8, bricks: [u8; 16], sent: usize, message: Message) -> Answer
+pub fn end(
+    c: Coordinator,
+    what: u8,
+    bricks: [u8; MAX_BRICKS],
+    sent: usize,
+    message: Message,
+) -> Answer
     ensures { λ r. ⌜ r ≡ endAnswer c what bricks sent message ⌝ }
 {
     let clock = c.clock;
     let op = c.op;
     let next = coord_record::idle_with(clock);
+    let second = no_message();
     let seen = Notice {
         what,
         kind: op.kind,
@@ -224,6 +236,7 @@ pub fn end(c: Coordinator, what: u8, bricks: [u8; 16], sent: usize, message: Mes
         next,
         sent,
         message,
+        second,
         seen,
     }
 }
@@ -249,7 +262,7 @@ fn recover(
     time: u64,
     blocks: &[u8],
     stripe: &mut [u8],
-) -> [u8; 16]
+) -> [u8; MAX_BRICKS]
     requires { ⌜ CodeRange n m size ⌝ }
     requires { ⌜ (length (now blocks) ≡ n * size) × (length (now stripe) ≡ m * size) ⌝ }
     requires { ⌜ m ≤ count (atTimes (t .held) (t .found) time) n ⌝ }
@@ -269,12 +282,12 @@ fn store(
     m: usize,
     size: usize,
     c: Coordinator,
-    row: [u8; 16],
+    row: [u8; MAX_BRICKS],
     stripe: &[u8],
     coded: &mut [u8],
 ) -> Answer
     requires { ⌜ Encodes n m size (length (now stripe)) (length (now coded)) ⌝ }
-    requires { ⌜ c .op .round ≤ 1000 ⌝ }
+    requires { ⌜ c .op .round ≤ lastRound ⌝ }
     ensures { λ r. ⌜ r ≡ openAnswer c writeKind 0 row ⌝ }
     ensures { λ r. ⌜ now (coded .exit) ≡ codedOf n m size (now (stripe .entry)) ⌝ }
 {
@@ -315,13 +328,14 @@ pub fn act(
     requires { ⌜ DecisionReady n m size c (length (now blocks)) (length (now stripe)) ⌝ }
     requires { ⌜ length (now coded) ≡ n * size ⌝ }
     requires { ⌜ d ≡ decided n m (c .op) (c .tally) ⌝ }
-    ensures { λ r. ⌜ Acted n m size (buffered c (now (blocks .entry)) (now (stripe .entry))) d (now (coded .entry)) r (now (stripe .exit)) (now (coded .exit)) ⌝ }
+    ensures { λ r. ⌜ Acted n m size (buffered c (now (blocks .entry)) (now (stripe .entry))) d (now (coded .entry))
+        r (now (stripe .exit)) (now (coded .exit)) ⌝ }
 {
     match d {
-        Decision::Abort => end(c, ABORTED, [0u8; 16], 0, no_message()),
+        Decision::Abort => end(c, ABORTED, [0u8; MAX_BRICKS], 0, no_message()),
         Decision::Give => give(n, m, size, c, blocks, stripe),
-        Decision::Look(max) => open(c, message::ORDER_READ, max, [0u8; 16]),
-        Decision::Store => store(n, m, size, c, [0u8; 16], stripe, coded),
+        Decision::Look(max) => open(c, message::ORDER_READ, max, [0u8; MAX_BRICKS]),
+        Decision::Store => store(n, m, size, c, [0u8; MAX_BRICKS], stripe, coded),
         Decision::Recover(time) => {
             let t = c.tally;
             let row = recover(n, m, size, t, time, blocks, stripe);

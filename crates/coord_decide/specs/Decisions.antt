@@ -12,6 +12,7 @@ use Rattle.coord_decide.specs.declared.Decision.the-variants.{Abort, Giv
 use Rattle.message.specs.Flags.{members}
 use Rattle.settings.specs.Count.{count}
 use Rattle.settings.specs.Times.{noUpperEnd}
+use Rattle.message.specs.Kinds.{lastRound, readKind, orderKind, orderReadKind}
 
 -- no counted brick said no
 unfoldable pub AllYes : ℕ → Tally → Type 0
@@ -25,44 +26,44 @@ unfoldable pub holders : ℕ → Tally → ℕ → ℕ
 holders n t time = count (atTimes (t .held) (t .found) time) n
 
 pub record DecidesGive (n m : ℕ) (op : Op) (t : Tally) : Type 0 where
-  pub phase-is : op .phase ≡ 1
+  pub phase-is : op .phase ≡ readKind
   pub all-yes : AllYes n t
   pub one-time : some (otherTime (t .counted) (t .found) (highest (t .counted) (t .found) n)) n ≡ false
   pub targets-in : some (missing n m (op .first) (t .counted)) n ≡ false
 
 pub record Stores (n m : ℕ) (op : Op) (t : Tally) : Type 0 where
-  pub phase-is : op .phase ≡ 2
+  pub phase-is : op .phase ≡ orderKind
   pub all-yes : AllYes n t
 
 pub record Recovers (n m : ℕ) (op : Op) (t : Tally) (time : ℕ) : Type 0 where
-  pub phase-is : op .phase ≡ 3
+  pub phase-is : op .phase ≡ orderReadKind
   pub all-yes : AllYes n t
   pub some-held : members (t .held) n ≡ 0 → ⊥
   pub time-is : time ≡ found-time n t
   pub enough : m ≤ holders n t time
-  pub round-low : op .round < 1000
+  pub round-low : op .round < lastRound
 
 -- a further recovery round: the highest time found is the new max
 pub record Lowers (n m : ℕ) (op : Op) (t : Tally) (time : ℕ) : Type 0 where
-  pub phase-is : op .phase ≡ 3
+  pub phase-is : op .phase ≡ orderReadKind
   pub all-yes : AllYes n t
   pub some-held : members (t .held) n ≡ 0 → ⊥
   pub time-is : time ≡ found-time n t
   pub too-few : holders n t time < m
   pub not-first : time ≡ 0 → ⊥
-  pub round-low : op .round < 1000
+  pub round-low : op .round < lastRound
 
 pub record Finishes (n m : ℕ) (op : Op) (t : Tally) : Type 0 where
-  pub not-read : op .phase ≡ 1 → ⊥
-  pub not-order : op .phase ≡ 2 → ⊥
-  pub not-recovery : op .phase ≡ 3 → ⊥
+  pub not-read : op .phase ≡ readKind → ⊥
+  pub not-order : op .phase ≡ orderKind → ⊥
+  pub not-recovery : op .phase ≡ orderReadKind → ⊥
   pub all-yes : AllYes n t
 
 -- What a decision says.
 unfoldable pub DecisionSays : ℕ → ℕ → Op → Tally → Decision → Type 0
 DecisionSays n m op t Abort = Unit {0}
 DecisionSays n m op t Give = DecidesGive n m op t
-DecisionSays n m op t (Look max) = ((op .phase ≡ 1) × (max ≡ noUpperEnd)) ⊎ Lowers n m op t max
+DecisionSays n m op t (Look max) = ((op .phase ≡ readKind) × (max ≡ noUpperEnd)) ⊎ Lowers n m op t max
 DecisionSays n m op t Store = Stores n m op t
 DecisionSays n m op t (Recover time) = Recovers n m op t time
 DecisionSays n m op t Finish = Finishes n m op t

@@ -1,3 +1,3 @@
--- Definitions: Deciding. Laws: the others.
+-- Deciding: which reply counts, and what the q-th decides. Decisions: what each decision says of its round.
 pub mod Deciding
 pub mod Decisions

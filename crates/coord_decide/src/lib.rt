@@ -1,8 +1,10 @@
 // The rounds of a coordinator (document 01, "What a coordinator does"): which replies count, and what the q-th decides.
+// inner: call `coordinator::take_reply`
 ghost use mathlib.Core.Path.{_≡_};
 ghost use Prim.Native.Nat.{_≤_, _<_};
 ghost use Rattle.coord_decide.specs.Deciding.{answers, tallied, decidedRead, decidedAt, decided};
 ghost use Rattle.settings.specs.Count.{one-if};
+ghost use Rattle.settings.specs.Ranges.{maxBricks};
 use coord_record::Op;
 use coord_record::Tally;
 use coord_tally::any_missing;
@@ -43,7 +45,7 @@ fn flag_of(x: bool) -> u8
 
 // The tally with a reply counted.
 pub fn tally_with(t: Tally, reply: Reply) -> Tally
-    requires { ⌜ reply .brick < 16 ⌝ }
+    requires { ⌜ reply .brick < maxBricks ⌝ }
     ensures { λ r. ⌜ r ≡ tallied t reply ⌝ }
 {
     let b = reply.brick;
@@ -66,7 +68,7 @@ pub fn tally_with(t: Tally, reply: Reply) -> Tally
 // Whether a reply is of the running operation and round, of a brick not counted, with a block by the round's rules.
 pub fn reply_answers(n: usize, m: usize, op: Op, t: Tally, reply: Reply) -> bool
     requires { ⌜ op .first ≤ n ⌝ }
-    requires { ⌜ reply .brick < 16 ⌝ }
+    requires { ⌜ reply .brick < maxBricks ⌝ }
     ensures { λ r. ⌜ r ≡ answers n m op t reply ⌝ }
 {
     let b = reply.brick;
@@ -87,9 +89,12 @@ pub fn reply_answers(n: usize, m: usize, op: Op, t: Tally, reply: Reply) -> bool
     coord_record::block_right(op.phase, target, reply.yes, reply.held, reply.found)
 }
 
+// "Recovery: Order-and-read with max 2^44": the first recovery round has no upper end.
+const FIRST_MAX: u64 = settings::NO_UPPER_END;
+
 // What the q-th reply of a Read round decides.
 fn decide_read(n: usize, m: usize, op: Op, t: Tally) -> Decision
-    requires { ⌜ n ≤ 16 ⌝ }
+    requires { ⌜ n ≤ maxBricks ⌝ }
     requires { ⌜ op .first < n ⌝ }
     ensures { λ r. ⌜ r ≡ decidedRead n m op t ⌝ }
 {
@@ -97,21 +102,21 @@ fn decide_read(n: usize, m: usize, op: Op, t: Tally) -> Decision
     let granted = t.granted;
     let found = t.found;
     if any_no(counted, granted, n) {
-        return Decision::Look(settings::NO_UPPER_END);
+        return Decision::Look(FIRST_MAX);
     }
     let newest = highest_of(counted, found, n);
     if any_other(counted, found, newest, n) {
-        return Decision::Look(settings::NO_UPPER_END);
+        return Decision::Look(FIRST_MAX);
     }
     if any_missing(n, m, op.first, counted) {
-        return Decision::Look(settings::NO_UPPER_END);
+        return Decision::Look(FIRST_MAX);
     }
     Decision::Give
 }
 
 // What the q-th reply of an Order-and-read round decides, where a block is held and this is the highest time found.
 fn decide_at(n: usize, m: usize, round: u64, t: Tally, time: u64) -> Decision
-    requires { ⌜ n ≤ 16 ⌝ }
+    requires { ⌜ n ≤ maxBricks ⌝ }
     ensures { λ r. ⌜ r ≡ decidedAt n m round t time ⌝ }
 {
     let held = t.held;
@@ -133,7 +138,7 @@ fn decide_at(n: usize, m: usize, round: u64, t: Tally, time: u64) -> Decision
 
 // What the q-th reply of a round decides.
 pub fn decide(n: usize, m: usize, op: Op, t: Tally) -> Decision
-    requires { ⌜ n ≤ 16 ⌝ }
+    requires { ⌜ n ≤ maxBricks ⌝ }
     requires { ⌜ op .first < n ⌝ }
     ensures { λ r. ⌜ r ≡ decided n m op t ⌝ }
 {

@@ -1,5 +1,4 @@
 -- The laws of `coord_laws`, for its own proofs and those of the crates above. No contract cites them.
--- Theorems about the steps of a coordinator. Soundness: every record that a routine leaves is sound.
 pub mod CodedBlockLaws
 pub mod OpCaseLaws
 pub mod StepRunLaws

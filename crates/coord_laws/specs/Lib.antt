@@ -1,3 +1,3 @@
--- Theorems about the steps of a coordinator. Soundness: every record that a routine leaves is sound.
+-- What the theorems about a coordinator's steps speak of. OpCases: where an operation is. Soundness: sound records with arrays of full length.
 pub mod OpCases
 pub mod Soundness

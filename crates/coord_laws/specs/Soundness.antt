@@ -9,14 +9,15 @@ use Rattle.coord_record.specs.CountedRules.{tallyRight, bricksRight}
 use Rattle.coord_record.specs.Sound.{opRight, timeRight, namedCount}
 use Rattle.coord_record.specs.SoundParts.{SoundParts}
 use Rattle.coord_record.specs.declared.Coordinator.{Coordinator}
-use Rattle.settings.specs.Times.{maxCount}
+use Rattle.settings.specs.Times.{maxCount, lastCoordinator}
+use Rattle.settings.specs.Ranges.{maxBricks}
 
 -- the arrays of a tally have 16 places, as in the code
 pub record Sized (t : Tally) : Type 0 where
-  pub counted-size : length (t .counted) ≡ 16
-  pub granted-size : length (t .granted) ≡ 16
-  pub held-size : length (t .held) ≡ 16
-  pub found-size : length (t .found) ≡ 16
+  pub counted-size : length (t .counted) ≡ maxBricks
+  pub granted-size : length (t .granted) ≡ maxBricks
+  pub held-size : length (t .held) ≡ maxBricks
+  pub found-size : length (t .found) ≡ maxBricks
 
 -- sound, with arrays of 16 places
 pub record Good (n m : ℕ) (c : Coordinator) : Type 0 where
@@ -25,7 +26,7 @@ pub record Good (n m : ℕ) (c : Coordinator) : Type 0 where
 
 -- a record whose round may be full
 pub record Full (n m : ℕ) (c : Coordinator) : Type 0 where
-  pub number-low : c .clock .coordinator ≤ 15
+  pub number-low : c .clock .coordinator ≤ lastCoordinator
   pub last-low : c .clock .last ≤ maxCount
   pub first-low : c .op .first < n
   pub op-right : opRight (c .op) ≡ true

@@ -8,6 +8,7 @@ use Rattle.byte_lists.specs.Each.{each}
 use Rattle.coord_record.specs.declared.Tally.{Tally}
 use Rattle.message.specs.Kinds.{readKind, orderReadKind}
 use Rattle.message.specs.Messages.{foundRight}
+use Rattle.settings.specs.Ranges.{maxBricks}
 
 -- "targets are m bricks counted upward from a given one, wrapping at n": how far brick b is above the first
 unfoldable pub stepsAbove : ℕ → ℕ → ℕ → ℕ
@@ -40,11 +41,11 @@ unfoldable pub tallyRight : ℕ → ℕ → ℕ → ℕ → Tally → Bool
 tallyRight n m phase first t =
     each
     (λ (b : ℕ). entryRight n m phase first b (getD (t .counted) b 0) (getD (t .granted) b 0) (getD (t .held) b 0) (getD (t .found) b 0))
-    16
+    maxBricks
 
 -- place i of a list of k bricks below n in rising order: the brick there is above the one before; past the k-th it is 0
 unfoldable pub brickRight : ℕ → ℕ → ℕ → ℕ → ℕ → Bool
 brickRight n k i before here = cond (ltb i k) (ltb here n && (eqb i 0 || ltb before here)) (eqb here 0)
 
 unfoldable pub bricksRight : ℕ → ℕ → List ℕ → Bool
-bricksRight n k bricks = each (λ (i : ℕ). brickRight n k i (getD bricks (i - 1) 0) (getD bricks i 0)) 16
+bricksRight n k bricks = each (λ (i : ℕ). brickRight n k i (getD bricks (i - 1) 0) (getD bricks i 0)) maxBricks

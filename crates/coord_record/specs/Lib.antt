@@ -1,4 +1,5 @@
--- Definitions: Records, Rules, Sound. Laws: Each, RuleLaws, SoundLaws.
+-- Records: the record with nothing in it, kinds of operations. CountedRules: what a counted reply keeps. Sound: refusal 6.
+-- SoundParts: the same, rule by rule.
 pub mod Records
 pub mod CountedRules
 pub mod Sound

@@ -6,6 +6,7 @@ use Rattle.coord_record.specs.declared.Coordinator.{Coordinator}
 use Rattle.coord_record.specs.declared.Op.{Op}
 use Rattle.coord_record.specs.declared.Tally.{Tally}
 use Rattle.settings.specs.declared.Clock.{Clock}
+use Rattle.settings.specs.Ranges.{maxBricks}
 
 -- what runs: nothing, a read, a write
 abbrev pub idleKind : ℕ
@@ -19,15 +20,15 @@ writingKind = 2
 
 -- no operation
 unfoldable pub noOp : Op
-noOp = record { kind = 0; phase = 0; time = 0; round = 0; max = 0; first = 0 }
+noOp = record { kind = idleKind; phase = 0; time = 0; round = 0; max = 0; first = 0 }
 
 -- no brick named
 unfoldable pub noBricks : List ℕ
-noBricks = replicate 16 0
+noBricks = replicate maxBricks 0
 
 -- an open round before its first reply
 unfoldable pub nothingCounted : Tally
-nothingCounted = record { counted = replicate 16 0; granted = replicate 16 0; held = replicate 16 0; found = replicate 16 0 }
+nothingCounted = record { counted = replicate maxBricks 0; granted = replicate maxBricks 0; held = replicate maxBricks 0; found = replicate maxBricks 0 }
 
 -- "A crash makes the coordinator idle and keeps its count."
 unfoldable pub idleWith : Clock → Coordinator

@@ -10,7 +10,7 @@ use Rattle.message.specs.Flags.{members}
 use Rattle.message.specs.Kinds.{readKind, orderKind, orderReadKind, writeKind, lastRound}
 use Rattle.settings.specs.Ranges.{quorum}
 use Rattle.settings.specs.declared.Clock.{Clock}
-use Rattle.settings.specs.Times.{maxCount, noUpperEnd, timeOf, validTime}
+use Rattle.settings.specs.Times.{maxCount, noUpperEnd, timeOf, validTime, lastCoordinator}
 
 -- "Order-and-read with max 2^44 .. With fewer, repeat with max = that time": the first recovery round is round 2
 unfoldable pub maxRight : ℕ → ℕ → Bool
@@ -59,5 +59,5 @@ filledRight n m c =
 
 unfoldable pub soundRecord : ℕ → ℕ → Coordinator → Bool
 soundRecord n m c =
-    leb (c .clock .coordinator) 15 && leb (c .clock .last) maxCount && ltb (c .op .first) n
+    leb (c .clock .coordinator) lastCoordinator && leb (c .clock .last) maxCount && ltb (c .op .first) n
     && opRight (c .op) && timeRight (c .op .kind) (c .op .time) (c .clock) && filledRight n m c

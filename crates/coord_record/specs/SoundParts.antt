@@ -7,10 +7,10 @@ use Rattle.coord_record.specs.Sound.{opRight, timeRight, namedCount}
 use Rattle.coord_record.specs.declared.Coordinator.{Coordinator}
 use Rattle.message.specs.Flags.{members}
 use Rattle.settings.specs.Ranges.{quorum}
-use Rattle.settings.specs.Times.{maxCount}
+use Rattle.settings.specs.Times.{maxCount, lastCoordinator}
 
 pub record SoundParts (n m : ℕ) (c : Coordinator) : Type 0 where
-  pub number-low : c .clock .coordinator ≤ 15
+  pub number-low : c .clock .coordinator ≤ lastCoordinator
   pub last-low : c .clock .last ≤ maxCount
   pub first-low : c .op .first < n
   pub op-right : opRight (c .op) ≡ true

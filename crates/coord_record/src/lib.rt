@@ -1,17 +1,21 @@
 // The record of a coordinator (document 01, "What a coordinator does"), by value in small parts, and which records are sound (refusal 6).
 // The blocks of the replies and the stripe are lent beside it.
+// inner: call `coordinator::start_read`
 ghost use mathlib.Core.Path.{_≡_};
 ghost use Prim.Native.Nat.{_≤_, _<_};
 ghost use Rattle.coord_record.specs.Records.{noOp, nothingCounted, idleWith};
 ghost use Rattle.coord_record.specs.CountedRules.{isTarget, blockRight, countedRight, entryRight, tallyRight, brickRight, bricksRight};
 ghost use Rattle.message.specs.Messages.{foundRight};
-ghost use Rattle.coord_record.specs.Sound.{maxRight, storedRight, readRight, writeRight, unsetOp, opRight, timeRight, namedCount, filledRight, soundRecord};
-ghost use Rattle.settings.specs.Times.{maxCount};
+ghost use Rattle.coord_record.specs.Sound.{maxRight, storedRight, readRight, writeRight, unsetOp, opRight, timeRight, namedCount, filledRight};
+ghost use Rattle.coord_record.specs.Sound.{soundRecord};
+ghost use Rattle.settings.specs.Times.{maxCount, lastCoordinator};
+ghost use Rattle.settings.specs.Ranges.{maxBricks};
 use message::ORDER;
 use message::ORDER_READ;
 use message::READ;
 use message::WRITE;
 use settings::Clock;
+use settings::MAX_BRICKS;
 
 // What runs.
 pub const IDLE: u8 = 0;
@@ -33,10 +37,10 @@ pub struct Op {
 
 // The replies counted in the open round, an entry a brick, 0 where none is counted: counted, said yes, holds a block, the time found.
 pub struct Tally {
-    pub counted: [u8; 16],
-    pub granted: [u8; 16],
-    pub held: [u8; 16],
-    pub found: [u64; 16],
+    pub counted: [u8; MAX_BRICKS],
+    pub granted: [u8; MAX_BRICKS],
+    pub held: [u8; MAX_BRICKS],
+    pub found: [u64; MAX_BRICKS],
 }
 
 // bricks: the m bricks that a read in its Write round decoded from, rising; else 0.
@@ -44,7 +48,7 @@ pub struct Coordinator {
     pub clock: Clock,
     pub op: Op,
     pub tally: Tally,
-    pub bricks: [u8; 16],
+    pub bricks: [u8; MAX_BRICKS],
 }
 
 // No operation.
@@ -66,10 +70,10 @@ pub fn nothing_counted() -> Tally
     ensures { λ r. ⌜ r ≡ nothingCounted ⌝ }
 {
     Tally {
-        counted: [0u8; 16],
-        granted: [0u8; 16],
-        held: [0u8; 16],
-        found: [0u64; 16],
+        counted: [0u8; MAX_BRICKS],
+        granted: [0u8; MAX_BRICKS],
+        held: [0u8; MAX_BRICKS],
+        found: [0u64; MAX_BRICKS],
     }
 }
 
@@ -83,7 +87,7 @@ pub fn idle_with(clock: Clock) -> Coordinator
         clock,
         op,
         tally,
-        bricks: [0u8; 16],
+        bricks: [0u8; MAX_BRICKS],
     }
 }
 
@@ -203,7 +207,7 @@ fn tally_right(n: usize, m: usize, phase: u8, first: usize, t: Tally) -> bool
     let held = t.held;
     let found = t.found;
     let mut b = 0;
-    while b < 16 {
+    while b < MAX_BRICKS {
         if entry_right(
             n,
             m,
@@ -240,12 +244,12 @@ fn brick_right(n: usize, k: usize, i: usize, before: u8, here: u8) -> bool
 }
 
 // Whether a list of k bricks is in rising order, and 0 past them.
-fn bricks_right(n: usize, k: usize, bricks: [u8; 16]) -> bool
+fn bricks_right(n: usize, k: usize, bricks: [u8; MAX_BRICKS]) -> bool
     ensures { λ r. ⌜ r ≡ bricksRight n k bricks ⌝ }
 {
     let mut before = bricks[0];
     let mut i = 0;
-    while i < 16 {
+    while i < MAX_BRICKS {
         let here = bricks[i];
         if brick_right(n, k, i, before, here) {
             before = here;
@@ -359,7 +363,7 @@ fn op_right(op: Op) -> bool
 // Whether the operation's time is the one drawn last.
 fn time_right(kind: u8, time: u64, clock: Clock) -> bool
     requires { ⌜ clock .last ≤ maxCount ⌝ }
-    requires { ⌜ clock .coordinator ≤ 15 ⌝ }
+    requires { ⌜ clock .coordinator ≤ lastCoordinator ⌝ }
     ensures { λ r. ⌜ r ≡ timeRight kind time clock ⌝ }
 {
     if kind == IDLE {
@@ -368,7 +372,7 @@ fn time_right(kind: u8, time: u64, clock: Clock) -> bool
     if clock.last < 1 {
         return false;
     }
-    time == clock.last * 16 + clock.coordinator
+    time == clock.last * settings::COORDINATOR_COUNT + clock.coordinator
 }
 
 // How many bricks are named.
@@ -386,7 +390,7 @@ fn named_count(m: usize, op: Op) -> usize
 impl Coordinator {
     // Whether the bricks named and the tally keep their rules.
     fn filled_right(self, n: usize, m: usize) -> bool
-        requires { ⌜ n ≤ 16 ⌝ }
+        requires { ⌜ n ≤ maxBricks ⌝ }
         requires { ⌜ self .op .first < n ⌝ }
         ensures { λ r. ⌜ r ≡ filledRight n m self ⌝ }
     {
@@ -404,12 +408,12 @@ impl Coordinator {
 
     // Whether the record keeps every rule. n is at most 16.
     pub fn sound(self, n: usize, m: usize) -> bool
-        requires { ⌜ n ≤ 16 ⌝ }
+        requires { ⌜ n ≤ maxBricks ⌝ }
         ensures { λ r. ⌜ r ≡ soundRecord n m self ⌝ }
     {
         let clock = self.clock;
         let op = self.op;
-        if 15 < clock.coordinator {
+        if settings::LAST_COORDINATOR < clock.coordinator {
             return false;
         }
         if settings::MAX_COUNT < clock.last {

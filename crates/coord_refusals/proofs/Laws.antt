@@ -1,3 +1,2 @@
 -- The laws of `coord_refusals`, for its own proofs and those of the crates above. No contract cites them.
--- Definitions: Checks. Laws: CheckLaws.
 pub mod RefusedLaws

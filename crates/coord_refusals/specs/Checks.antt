@@ -11,11 +11,11 @@ use Rattle.message.specs.Messages.{replyRefusal}
 use Rattle.message.specs.declared.Reply.{Reply}
 use Rattle.settings.specs.Ranges.{codeRefusal}
 use Rattle.settings.specs.Refusal.{firstRefusal, refuseUnless, badLength, badNumber, badRecord, busy, strayReply}
-use Rattle.settings.specs.Times.{drawRefusal}
+use Rattle.settings.specs.Times.{drawRefusal, lastCoordinator}
 
 -- a coordinator number above 15, a record that breaks a rule
 unfoldable pub recordChecks : ℕ → ℕ → Coordinator → List ℕ → List ℕ
-recordChecks n m c more = refuseUnless (leb (c .clock .coordinator) 15) badNumber ∷ refuseUnless (soundRecord n m c) badRecord ∷ more
+recordChecks n m c more = refuseUnless (leb (c .clock .coordinator) lastCoordinator) badNumber ∷ refuseUnless (soundRecord n m c) badRecord ∷ more
 
 -- what every start asks: besides these a reading in range, a count left, no operation
 unfoldable pub startChecks : ℕ → ℕ → Coordinator → ℕ → List ℕ

@@ -1,2 +1,2 @@
--- Definitions: Checks. Laws: CheckLaws.
+-- Checks: the checks of each routine, in their order.
 pub mod Checks

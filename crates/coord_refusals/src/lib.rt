@@ -1,33 +1,39 @@
 // What a coordinator's routines refuse, before anything changes (document 01, "Refused by number, lowest first").
+// inner: call `coordinator::take_reply`
 ghost use mathlib.Core.Path.{_≡_};
 ghost use mathlib.Core.Bool.{true};
 ghost use mathlib.Core.List.{[]};
 ghost use Prim.Native.Nat.{_*_, _≤_, _<_};
 ghost use Rattle.coord_refusals.specs.Checks.{recordChecks, startChecks, writeRefusal, readRefusal, lengthsRight, strayChecks, takeRefusal, crashRefusal};
-ghost use Rattle.settings.specs.Ranges.{CodeRange};
+ghost use Rattle.settings.specs.Ranges.{CodeRange, maxBricks};
 ghost use Rattle.settings.specs.Refusal.{firstRefusal};
 use coord_record::Coordinator;
 use coord_record::IDLE;
 use message::Reply;
+use settings::BAD_LENGTH;
+use settings::BAD_NUMBER;
+use settings::BAD_RECORD;
+use settings::BUSY;
+use settings::STRAY_REPLY;
 
 // 3 for a coordinator number above 15, 6 for a record that is not sound, else 0.
 fn record_refusal(n: usize, m: usize, c: Coordinator) -> u32
-    requires { ⌜ n ≤ 16 ⌝ }
+    requires { ⌜ n ≤ maxBricks ⌝ }
     ensures { λ r. ⌜ r ≡ firstRefusal (recordChecks n m c []) ⌝ }
 {
     let clock = c.clock;
-    if 15 < clock.coordinator {
-        return 3;
+    if settings::LAST_COORDINATOR < clock.coordinator {
+        return BAD_NUMBER;
     }
     if c.sound(n, m) {
         return 0;
     }
-    6
+    BAD_RECORD
 }
 
 // What every start asks of the coordinator.
 fn start_refusal(n: usize, m: usize, c: Coordinator, reading: u64) -> u32
-    requires { ⌜ n ≤ 16 ⌝ }
+    requires { ⌜ n ≤ maxBricks ⌝ }
     ensures { λ r. ⌜ r ≡ firstRefusal (startChecks n m c reading) ⌝ }
 {
     let broken = record_refusal(n, m, c);
@@ -41,7 +47,7 @@ fn start_refusal(n: usize, m: usize, c: Coordinator, reading: u64) -> u32
     }
     let op = c.op;
     if op.kind != IDLE {
-        return 9;
+        return BUSY;
     }
     0
 }
@@ -63,10 +69,10 @@ pub fn write_refusal(
         return bad;
     }
     if bytes != m * size {
-        return 2;
+        return BAD_LENGTH;
     }
     if stripe != m * size {
-        return 2;
+        return BAD_LENGTH;
     }
     start_refusal(n, m, c, reading)
 }
@@ -87,7 +93,7 @@ pub fn read_refusal(
         return bad;
     }
     if n <= first {
-        return 3;
+        return BAD_NUMBER;
     }
     start_refusal(n, m, c, reading)
 }
@@ -140,17 +146,17 @@ pub fn take_refusal(
         return bad;
     }
     if lengths_right(n, m, size, reply.held, block, blocks, stripe, coded) {} else {
-        return 2;
+        return BAD_LENGTH;
     }
     if n <= reply.brick {
-        return 3;
+        return BAD_NUMBER;
     }
     stray_refusal(n, m, c, reply)
 }
 
 // The refusal of a reply of a brick below n.
 fn stray_refusal(n: usize, m: usize, c: Coordinator, reply: Reply) -> u32
-    requires { ⌜ n ≤ 16 ⌝ }
+    requires { ⌜ n ≤ maxBricks ⌝ }
     requires { ⌜ reply .brick < n ⌝ }
     ensures { λ r. ⌜ r ≡ firstRefusal (strayChecks n m c reply) ⌝ }
 {
@@ -167,7 +173,7 @@ fn stray_refusal(n: usize, m: usize, c: Coordinator, reply: Reply) -> u32
     if coord_decide::reply_answers(n, m, op, tally, reply) {
         return 0;
     }
-    11
+    STRAY_REPLY
 }
 
 // The refusal of a crash, 0 for none.

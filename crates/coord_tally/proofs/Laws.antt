@@ -1,5 +1,4 @@
 -- The laws of `coord_tally`, for its own proofs and those of the crates above. No contract cites them.
--- Definitions: Counting. Laws: the others.
 pub mod CountingLaws
 pub mod TargetRowLaws
 pub mod RowSets

@@ -8,6 +8,7 @@ use Rattle.coord_record.specs.CountedRules.{isTarget}
 use Rattle.byte_lists.specs.Lists.{tabulate}
 use Rattle.message.specs.Flags.{member}
 use Rattle.settings.specs.Count.{one-if}
+use Rattle.settings.specs.Ranges.{maxBricks}
 
 -- brick b is counted and said no
 unfoldable pub saidNo : List ℕ → List ℕ → ℕ → Bool
@@ -40,7 +41,7 @@ passing p (suc k) = passing p k ++ cond (p k) (k ∷ []) []
 
 -- a list of bricks in a row of 16, 0 past its end
 unfoldable pub inRow : List ℕ → List ℕ
-inRow l = tabulate 16 (λ (i : ℕ). getD l i 0)
+inRow l = tabulate maxBricks (λ (i : ℕ). getD l i 0)
 
 -- the first m bricks by number among those of a set that found a time
 unfoldable pub picked : List ℕ → List ℕ → ℕ → ℕ → ℕ → List ℕ
@@ -52,11 +53,11 @@ upward n first i = cond (ltb (first + i) n) (first + i) (first + i - n)
 
 -- "m bricks counted upward from a given one, wrapping at n", in a row of 16
 unfoldable pub targetRow : ℕ → ℕ → ℕ → List ℕ
-targetRow n m first = tabulate 16 (λ (i : ℕ). cond (ltb i m) (upward n first i) 0)
+targetRow n m first = tabulate maxBricks (λ (i : ℕ). cond (ltb i m) (upward n first i) 0)
 
 -- the same as a set of bricks, which goes with a Read message
 unfoldable pub targetFlag : ℕ → ℕ → ℕ → ℕ → ℕ
 targetFlag n m first b = one-if (ltb b n && isTarget n m first b)
 
 unfoldable pub targetFlags : ℕ → ℕ → ℕ → List ℕ
-targetFlags n m first = tabulate 16 (targetFlag n m first)
+targetFlags n m first = tabulate maxBricks (targetFlag n m first)

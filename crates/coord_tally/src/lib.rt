@@ -1,14 +1,17 @@
 // What the counted replies of a round say, brick by brick, and rows of bricks (document 01, "What a coordinator does").
+// inner: call `coordinator::take_reply`
 ghost use mathlib.Core.Path.{_≡_};
 ghost use mathlib.Core.Bool.{true};
 ghost use Prim.Native.Nat.{_≤_, _<_};
 ghost use Rattle.byte_lists.specs.Each.{some};
 ghost use Rattle.coord_tally.specs.Counting.{saidNo, otherTime, missing, highest, atTime, atTimes, picked, upward, targetRow, targetFlag, targetFlags};
 ghost use Rattle.settings.specs.Count.{count};
+ghost use Rattle.settings.specs.Ranges.{maxBricks};
+use settings::MAX_BRICKS;
 
 // Whether a counted reply below n says no.
-pub fn any_no(counted: [u8; 16], granted: [u8; 16], n: usize) -> bool
-    requires { ⌜ n ≤ 16 ⌝ }
+pub fn any_no(counted: [u8; MAX_BRICKS], granted: [u8; MAX_BRICKS], n: usize) -> bool
+    requires { ⌜ n ≤ maxBricks ⌝ }
     ensures { λ r. ⌜ r ≡ some (saidNo counted granted) n ⌝ }
 {
     let mut b = 0;
@@ -24,8 +27,8 @@ pub fn any_no(counted: [u8; 16], granted: [u8; 16], n: usize) -> bool
 }
 
 // The highest time found among the bricks of a set; 0 if there is none.
-pub fn highest_of(flags: [u8; 16], found: [u64; 16], n: usize) -> u64
-    requires { ⌜ n ≤ 16 ⌝ }
+pub fn highest_of(flags: [u8; MAX_BRICKS], found: [u64; MAX_BRICKS], n: usize) -> u64
+    requires { ⌜ n ≤ maxBricks ⌝ }
     ensures { λ r. ⌜ r ≡ highest flags found n ⌝ }
 {
     let mut h = 0;
@@ -52,8 +55,8 @@ fn at_time(flag: u8, found: u64, time: u64) -> bool
 }
 
 // Whether a counted reply found another time.
-pub fn any_other(counted: [u8; 16], found: [u64; 16], time: u64, n: usize) -> bool
-    requires { ⌜ n ≤ 16 ⌝ }
+pub fn any_other(counted: [u8; MAX_BRICKS], found: [u64; MAX_BRICKS], time: u64, n: usize) -> bool
+    requires { ⌜ n ≤ maxBricks ⌝ }
     ensures { λ r. ⌜ r ≡ some (otherTime counted found time) n ⌝ }
 {
     let mut b = 0;
@@ -69,8 +72,8 @@ pub fn any_other(counted: [u8; 16], found: [u64; 16], time: u64, n: usize) -> bo
 }
 
 // Whether a target is not counted.
-pub fn any_missing(n: usize, m: usize, first: usize, counted: [u8; 16]) -> bool
-    requires { ⌜ n ≤ 16 ⌝ }
+pub fn any_missing(n: usize, m: usize, first: usize, counted: [u8; MAX_BRICKS]) -> bool
+    requires { ⌜ n ≤ maxBricks ⌝ }
     requires { ⌜ first < n ⌝ }
     ensures { λ r. ⌜ r ≡ some (missing n m first counted) n ⌝ }
 {
@@ -87,8 +90,8 @@ pub fn any_missing(n: usize, m: usize, first: usize, counted: [u8; 16]) -> bool
 }
 
 // How many bricks of a set found this time.
-pub fn count_at(flags: [u8; 16], found: [u64; 16], time: u64, n: usize) -> usize
-    requires { ⌜ n ≤ 16 ⌝ }
+pub fn count_at(flags: [u8; MAX_BRICKS], found: [u64; MAX_BRICKS], time: u64, n: usize) -> usize
+    requires { ⌜ n ≤ maxBricks ⌝ }
     ensures { λ r. ⌜ r ≡ count (atTimes flags found time) n ⌝ }
 {
     let mut sum = 0;
@@ -103,11 +106,17 @@ pub fn count_at(flags: [u8; 16], found: [u64; 16], time: u64, n: usize) -> usize
 }
 
 // The first m bricks by number among those of a set that found this time, then 0.
-pub fn pick(flags: [u8; 16], found: [u64; 16], time: u64, n: usize, m: usize) -> [u8; 16]
-    requires { ⌜ n ≤ 16 ⌝ }
+pub fn pick(
+    flags: [u8; MAX_BRICKS],
+    found: [u64; MAX_BRICKS],
+    time: u64,
+    n: usize,
+    m: usize,
+) -> [u8; MAX_BRICKS]
+    requires { ⌜ n ≤ maxBricks ⌝ }
     ensures { λ r. ⌜ r ≡ picked flags found time n m ⌝ }
 {
-    let mut row = [0u8; 16];
+    let mut row = [0u8; MAX_BRICKS];
     let mut k = 0;
     let mut b = 0;
     while b < n {
@@ -124,7 +133,7 @@ pub fn pick(flags: [u8; 16], found: [u64; 16], time: u64, n: usize, m: usize) ->
 
 // The brick that is i above the first, wrapping at n.
 fn upward_of(n: usize, first: usize, i: usize) -> u8
-    requires { ⌜ n ≤ 16 ⌝ }
+    requires { ⌜ n ≤ maxBricks ⌝ }
     requires { ⌜ (first < n) × (i < n) ⌝ }
     ensures { λ r. ⌜ r ≡ upward n first i ⌝ }
 {
@@ -136,12 +145,12 @@ fn upward_of(n: usize, first: usize, i: usize) -> u8
 }
 
 // The targets of a read, in their order, then 0.
-pub fn target_row(n: usize, m: usize, first: usize) -> [u8; 16]
-    requires { ⌜ (n ≤ 16) × (m ≤ n) ⌝ }
+pub fn target_row(n: usize, m: usize, first: usize) -> [u8; MAX_BRICKS]
+    requires { ⌜ (n ≤ maxBricks) × (m ≤ n) ⌝ }
     requires { ⌜ first < n ⌝ }
     ensures { λ r. ⌜ r ≡ targetRow n m first ⌝ }
 {
-    let mut row = [0u8; 16];
+    let mut row = [0u8; MAX_BRICKS];
     let mut i = 0;
     while i < m {
         row[i] = upward_of(n, first, i);
@@ -165,13 +174,13 @@ fn target_flag(n: usize, m: usize, first: usize, b: usize) -> u8
 }
 
 // The targets of a read as a set.
-pub fn target_flags(n: usize, m: usize, first: usize) -> [u8; 16]
+pub fn target_flags(n: usize, m: usize, first: usize) -> [u8; MAX_BRICKS]
     requires { ⌜ first < n ⌝ }
     ensures { λ r. ⌜ r ≡ targetFlags n m first ⌝ }
 {
-    let mut flags = [0u8; 16];
+    let mut flags = [0u8; MAX_BRICKS];
     let mut b = 0;
-    while b < 16 {
+    while b < MAX_BRICKS {
         flags[b] = target_flag(n, m, first, b);
         b += 1;
     }

@@ -4,8 +4,9 @@ use mathlib.Core.List.{List, []}
 use Prim.Native.Nat.{ℕ}
 use lib.Dec.{eqb}
 use lib.ListN.{length}
-use Rattle.coord_apply.specs.Acts.{counting, waitingOr, ending, firstOp, starting}
-use Rattle.coord_apply.specs.Answers.{Buffered, Went, Step, refused, went, afterChecks, nothingSeen, cutSeen}
+use Rattle.coord_apply.specs.Acts.{buffered, counting, waitingOr, ending, firstOp, starting}
+use Rattle.coord_apply.specs.Answers.{Buffered, Went, Step, refused, went, afterChecks, nothingSeen, cutSeen, Returned, returnedBy}
+use Rattle.coord_record.specs.declared.Coordinator.{Coordinator}
 use Rattle.coord_record.specs.Records.{idleKind, readingKind, writingKind, noBricks}
 use Rattle.coord_tally.specs.Counting.{targetFlags}
 use Rattle.coord_refusals.specs.Checks.{writeRefusal, readRefusal, takeRefusal, crashRefusal}
@@ -48,3 +49,19 @@ readStep n m size h reading first =
     afterChecks (readRefusal n m size (h .state) reading first)
     (drawnThen (drawOf (h .state .clock) reading)
     (λ (time : ℕ) (clock : Clock). starting h clock (firstOp readingKind readKind time first) (h .stripe) (targetFlags n m first)))
+
+-- What a call of each routine leaves: the answer, the reply blocks, the stripe and the blocks to send. A buffer that a routine is not lent
+-- may be any, and stays.
+module _ (n m size : ℕ) (c : Coordinator) (blocks stripe coded : List ℕ) where
+  abbrev pub writeCall : ℕ → List ℕ → Returned
+  writeCall reading bytes = returnedBy (buffered c blocks stripe) coded (writeStep n m size (buffered c blocks stripe) reading bytes)
+
+  abbrev pub readCall : ℕ → ℕ → Returned
+  readCall reading first = returnedBy (buffered c blocks stripe) coded (readStep n m size (buffered c blocks stripe) reading first)
+
+  abbrev pub takeCall : Reply → List ℕ → Returned
+  takeCall reply block =
+      returnedBy (buffered c blocks stripe) coded (takeStep n m size (buffered c blocks stripe) reply block (length coded))
+
+  abbrev pub crashCall : Returned
+  crashCall = returnedBy (buffered c blocks stripe) coded (crashStep n m size (buffered c blocks stripe))

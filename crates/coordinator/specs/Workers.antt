@@ -14,7 +14,7 @@ use Rattle.coord_record.specs.declared.Op.{Op}
 
 -- nothing sent and nothing seen
 unfoldable pub keptAnswer : Coordinator → Answer
-keptAnswer c = record { refusal = 0; next = c; sent = 0; message = noMessage; seen = nothingSeen }
+keptAnswer c = record { refusal = 0; next = c; sent = 0; message = noMessage; second = noMessage; seen = nothingSeen }
 
 -- an operation begins
 unfoldable pub startAnswer : Clock → Op → List ℕ → Answer
@@ -24,6 +24,7 @@ startAnswer clock op targets =
       next = record { clock = clock; op = op; tally = nothingCounted; bricks = noBricks };
       sent = 1;
       message = roundMessage op targets;
+      second = noMessage;
       seen = record { what = beganSeen; kind = op .kind; time = op .time; bricks = noBricks };
     }
 

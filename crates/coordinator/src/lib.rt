@@ -1,13 +1,12 @@
 // The coordinator (document 01, "What a coordinator does"): start a write, start a read, take a reply, crash. Each gives one refusal,
-// lowest number first, and changes nothing; or the record that follows, the broadcast to all n bricks if there is one, and what is seen.
+// lowest number first, and changes nothing; or the record that follows, the broadcasts to all n bricks, and what is seen.
 ghost use mathlib.Core.Path.{_≡_};
 ghost use mathlib.Core.List.{List};
 ghost use Prim.Native.Nat.{ℕ, _<_};
 ghost use lib.ListN.{length};
-ghost use Rattle.coord_apply.specs.Acts.{buffered};
 ghost use Rattle.coord_apply.specs.Acts.{withTally, firstOp};
-ghost use Rattle.coord_apply.specs.Answers.{refused, answerOf, blocksAfter, stripeAfter, codedAfter};
-ghost use Rattle.coordinator.specs.Routines.{writeStep, readStep, takeStep, crashStep};
+ghost use Rattle.coord_apply.specs.Answers.{refused, answerOf, returned};
+ghost use Rattle.coordinator.specs.Routines.{writeCall, readCall, takeCall, crashCall};
 ghost use Rattle.coordinator.specs.Workers.{keptAnswer, startAnswer, keptBlocks, KeepsReply};
 use coord_apply::Answer;
 use coord_apply::BEGAN;
@@ -28,18 +27,21 @@ use message::READ;
 use message::Reply;
 use settings::Clock;
 use settings::Draw;
+use settings::MAX_BRICKS;
 
 // One refusal, and nothing changed.
 fn refuse(c: Coordinator, number: u32) -> Answer
     ensures { λ r. ⌜ r ≡ answerOf c (refused number) ⌝ }
 {
     let message = coord_apply::no_message();
+    let second = coord_apply::no_message();
     let seen = coord_apply::nothing_seen();
     Answer {
         refusal: number,
         next: c,
         sent: 0,
         message,
+        second,
         seen,
     }
 }
@@ -49,12 +51,14 @@ fn kept(c: Coordinator) -> Answer
     ensures { λ r. ⌜ r ≡ keptAnswer c ⌝ }
 {
     let message = coord_apply::no_message();
+    let second = coord_apply::no_message();
     let seen = coord_apply::nothing_seen();
     Answer {
         refusal: 0,
         next: c,
         sent: 0,
         message,
+        second,
         seen,
     }
 }
@@ -74,7 +78,7 @@ fn first_op(kind: u8, phase: u8, time: u64, first: usize) -> Op
 }
 
 // An operation begins: its first round is sent.
-fn begin(clock: Clock, op: Op, targets: [u8; 16]) -> Answer
+fn begin(clock: Clock, op: Op, targets: [u8; MAX_BRICKS]) -> Answer
     ensures { λ r. ⌜ r ≡ startAnswer clock op targets ⌝ }
 {
     let tally = coord_record::nothing_counted();
@@ -82,20 +86,22 @@ fn begin(clock: Clock, op: Op, targets: [u8; 16]) -> Answer
         clock,
         op,
         tally,
-        bricks: [0u8; 16],
+        bricks: [0u8; MAX_BRICKS],
     };
     let message = coord_apply::round_message(op, targets);
+    let second = coord_apply::no_message();
     let seen = Notice {
         what: BEGAN,
         kind: op.kind,
         time: op.time,
-        bricks: [0u8; 16],
+        bricks: [0u8; MAX_BRICKS],
     };
     Answer {
         refusal: 0,
         next,
         sent: 1,
         message,
+        second,
         seen,
     }
 }
@@ -136,8 +142,8 @@ pub fn start_write(
     bytes: &[u8],
     stripe: &mut [u8],
 ) -> Answer
-    ensures { λ r. ⌜ ((blocks : List ℕ) → r ≡ answerOf c (writeStep n m size (buffered c blocks (now (stripe .entry))) reading (now (bytes .entry)))) ⌝ }
-    ensures { λ r. ⌜ ((blocks : List ℕ) → now (stripe .exit) ≡ stripeAfter (buffered c blocks (now (stripe .entry))) (writeStep n m size (buffered c blocks (now (stripe .entry))) reading (now (bytes .entry)))) ⌝ }
+    ensures { λ r. ⌜ ((blocks coded : List ℕ) → returned r blocks (now (stripe .exit)) coded
+        ≡ writeCall n m size c blocks (now (stripe .entry)) coded reading (now (bytes .entry))) ⌝ }
 {
     let bad = write_refusal(n, m, size, c, reading, bytes.len(), stripe.len());
     if bad != 0 {
@@ -150,7 +156,7 @@ pub fn start_write(
     };
     byte_lists::copy(bytes, stripe);
     let op = first_op(WRITING, ORDER, time, 0);
-    begin(next, op, [0u8; 16])
+    begin(next, op, [0u8; MAX_BRICKS])
 }
 
 // Starts a read whose targets are counted upward from a brick. Refused: 1 settings, 3 the brick or the coordinator's number, 6 the
@@ -163,7 +169,7 @@ pub fn start_read(
     reading: u64,
     first: usize,
 ) -> Answer
-    ensures { λ r. ⌜ ((blocks stripe : List ℕ) → r ≡ answerOf c (readStep n m size (buffered c blocks stripe) reading first)) ⌝ }
+    ensures { λ r. ⌜ ((blocks stripe coded : List ℕ) → returned r blocks stripe coded ≡ readCall n m size c blocks stripe coded reading first) ⌝ }
 {
     let bad = read_refusal(n, m, size, c, reading, first);
     if bad != 0 {
@@ -181,7 +187,7 @@ pub fn start_read(
 
 // A crash: the coordinator is idle and keeps its count. Refused: 1 settings, 3 the coordinator's number, 6 the record.
 pub fn crash(n: usize, m: usize, size: usize, c: Coordinator) -> Answer
-    ensures { λ r. ⌜ ((blocks stripe : List ℕ) → r ≡ answerOf c (crashStep n m size (buffered c blocks stripe))) ⌝ }
+    ensures { λ r. ⌜ ((blocks stripe coded : List ℕ) → returned r blocks stripe coded ≡ crashCall n m size c blocks stripe coded) ⌝ }
 {
     let bad = crash_refusal(n, m, size, c);
     if bad != 0 {
@@ -191,7 +197,7 @@ pub fn crash(n: usize, m: usize, size: usize, c: Coordinator) -> Answer
     if op.kind == IDLE {
         return kept(c);
     }
-    coord_apply::end(c, CUT, [0u8; 16], 0, coord_apply::no_message())
+    coord_apply::end(c, CUT, [0u8; MAX_BRICKS], 0, coord_apply::no_message())
 }
 
 // Takes a reply; block is the one it holds. Refused: 1 settings, 2 a length, 3 the brick or the coordinator's number, 6 the record,
@@ -208,10 +214,8 @@ pub fn take_reply(
     stripe: &mut [u8],
     coded: &mut [u8],
 ) -> Answer
-    ensures { λ r. ⌜ r ≡ answerOf c (takeStep n m size (buffered c (now (blocks .entry)) (now (stripe .entry))) reply (now (block .entry)) (length (now (coded .entry)))) ⌝ }
-    ensures { λ r. ⌜ now (blocks .exit) ≡ blocksAfter (buffered c (now (blocks .entry)) (now (stripe .entry))) (takeStep n m size (buffered c (now (blocks .entry)) (now (stripe .entry))) reply (now (block .entry)) (length (now (coded .entry)))) ⌝ }
-    ensures { λ r. ⌜ now (stripe .exit) ≡ stripeAfter (buffered c (now (blocks .entry)) (now (stripe .entry))) (takeStep n m size (buffered c (now (blocks .entry)) (now (stripe .entry))) reply (now (block .entry)) (length (now (coded .entry)))) ⌝ }
-    ensures { λ r. ⌜ now (coded .exit) ≡ codedAfter (now (coded .entry)) (takeStep n m size (buffered c (now (blocks .entry)) (now (stripe .entry))) reply (now (block .entry)) (length (now (coded .entry)))) ⌝ }
+    ensures { λ r. ⌜ returned r (now (blocks .exit)) (now (stripe .exit)) (now (coded .exit))
+        ≡ takeCall n m size c (now (blocks .entry)) (now (stripe .entry)) (now (coded .entry)) reply (now (block .entry)) ⌝ }
 {
     let bad = take_refusal(
         n,

@@ -1,3 +1,2 @@
 -- The laws of `test_coordinator`, for its own proofs and those of the crates above. No contract cites them.
--- Definitions: Numbers. Laws: NumberLaws.
 pub mod CoordinatorBoundaryLaws

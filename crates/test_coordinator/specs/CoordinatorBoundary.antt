@@ -4,13 +4,80 @@ use mathlib.Core.List.{List, [], _∷_, _++_}
 use Prim.Native.Nat.{ℕ, _+_}
 use lib.Dec.{eqb}
 use lib.ListN.{length, getD, take, drop}
-use Rattle.coord_apply.specs.Acts.{buffered}
-use Rattle.coord_apply.specs.Answers.{Buffered, Step, answerOf}
+use Rattle.coord_apply.specs.Answers.{Returned}
 use Rattle.coord_apply.specs.declared.Answer.{Answer}
 use Rattle.coord_record.specs.declared.Coordinator.{Coordinator}
-use Rattle.coordinator.specs.Routines.{writeStep, readStep, takeStep, crashStep}
+use Rattle.coordinator.specs.Routines.{writeCall, readCall, takeCall, crashCall}
 use Rattle.message.specs.declared.Reply.{Reply}
+use Rattle.settings.specs.Ranges.{maxBricks}
 use Rattle.settings.specs.Refusal.{badLength}
+
+-- how many numbers and bytes a record has, and an answer
+abbrev pub recordNumbersLength : ℕ
+recordNumbersLength = 22
+
+abbrev pub recordBytesLength : ℕ
+recordBytesLength = 66
+
+abbrev pub answerNumbersLength : ℕ
+answerNumbersLength = 8
+
+abbrev pub answerBytesLength : ℕ
+answerBytesLength = 52
+
+-- where a record's numbers stand
+abbrev pub coordinatorAt : ℕ
+coordinatorAt = 0
+
+abbrev pub lastAt : ℕ
+lastAt = 1
+
+abbrev pub timeAt : ℕ
+timeAt = 2
+
+abbrev pub roundAt : ℕ
+roundAt = 3
+
+abbrev pub maxAt : ℕ
+maxAt = 4
+
+abbrev pub firstAt : ℕ
+firstAt = 5
+
+abbrev pub foundAt : ℕ
+foundAt = 6
+
+-- where its bytes stand
+abbrev pub kindAt : ℕ
+kindAt = 0
+
+abbrev pub phaseAt : ℕ
+phaseAt = 1
+
+abbrev pub countedAt : ℕ
+countedAt = 2
+
+abbrev pub grantedAt : ℕ
+grantedAt = 18
+
+abbrev pub heldAt : ℕ
+heldAt = 34
+
+abbrev pub bricksAt : ℕ
+bricksAt = 50
+
+-- where an answer's rows stand among its bytes, and the kind of its second message
+abbrev pub targetsAt : ℕ
+targetsAt = 3
+
+abbrev pub seenBricksAt : ℕ
+seenBricksAt = 19
+
+abbrev pub secondTargetsAt : ℕ
+secondTargetsAt = 35
+
+abbrev pub secondKindAt : ℕ
+secondKindAt = 51
 
 -- a record's 22 numbers: clock, time, round, max, first, and the times found
 unfoldable pub recordNumbers : Coordinator → List ℕ
@@ -21,79 +88,97 @@ recordNumbers c =
 unfoldable pub recordBytes : Coordinator → List ℕ
 recordBytes c = c .op .kind ∷ c .op .phase ∷ (c .tally .counted ++ (c .tally .granted ++ (c .tally .held ++ c .bricks)))
 
--- sixteen entries from a place on
+-- a row from a place on: an entry for each brick that there may be
 unfoldable pub rowAt : ℕ → List ℕ → List ℕ
-rowAt at l = take 16 (drop at l)
+rowAt at l = take maxBricks (drop at l)
 
 -- the record of such numbers and bytes
 unfoldable pub recordFor : List ℕ → List ℕ → Coordinator
 recordFor numbers bytes =
     record {
-      clock = record { coordinator = getD numbers 0 0; last = getD numbers 1 0 };
+      clock = record { coordinator = getD numbers coordinatorAt 0; last = getD numbers lastAt 0 };
       op =
           record {
-            kind = getD bytes 0 0;
-            phase = getD bytes 1 0;
-            time = getD numbers 2 0;
-            round = getD numbers 3 0;
-            max = getD numbers 4 0;
-            first = getD numbers 5 0;
+            kind = getD bytes kindAt 0;
+            phase = getD bytes phaseAt 0;
+            time = getD numbers timeAt 0;
+            round = getD numbers roundAt 0;
+            max = getD numbers maxAt 0;
+            first = getD numbers firstAt 0;
           };
-      tally = record { counted = rowAt 2 bytes; granted = rowAt 18 bytes; held = rowAt 34 bytes; found = rowAt 6 numbers };
-      bricks = rowAt 50 bytes;
+      tally = record { counted = rowAt countedAt bytes; granted = rowAt grantedAt bytes; held = rowAt heldAt bytes; found = rowAt foundAt numbers };
+      bricks = rowAt bricksAt bytes;
     }
 
--- an answer's 5 numbers: broadcasts; time, round and max of the message; time of what is seen
+-- an answer's 8 numbers: broadcasts; time, round and max of the first message; time of what is seen; the same three of the second message
 unfoldable pub answerNumbers : Answer → List ℕ
-answerNumbers a = a .sent ∷ a .message .time ∷ a .message .round ∷ a .message .max ∷ a .seen .time ∷ []
+answerNumbers a =
+    a .sent ∷ a .message .time ∷ a .message .round ∷ a .message .max ∷ a .seen .time
+    ∷ a .second .time ∷ a .second .round ∷ a .second .max ∷ []
 
--- its 35 bytes: kind of the message; what is seen, of which kind; targets of the message, bricks seen
+-- its 52 bytes: kind of the first message; what is seen, of which kind; targets of the first message, bricks seen;
+-- targets and kind of the second message
 unfoldable pub answerBytes : Answer → List ℕ
-answerBytes a = a .message .kind ∷ a .seen .what ∷ a .seen .kind ∷ (a .message .targets ++ a .seen .bricks)
+answerBytes a =
+    a .message .kind ∷ a .seen .what ∷ a .seen .kind
+    ∷ (a .message .targets ++ (a .seen .bricks ++ (a .second .targets ++ a .second .kind ∷ [])))
 
--- the four buffers have their lengths
+-- The four buffers that every routine is lent: the record's numbers and bytes, the answer's numbers and bytes.
+pub record Rows : Type 0 where
+  pub numbers : List ℕ
+  pub bytes : List ℕ
+  pub sent : List ℕ
+  pub shown : List ℕ
+
+abbrev pub rows : (numbers bytes sent shown : List ℕ) → Rows
+rows numbers bytes sent shown = record { numbers = numbers; bytes = bytes; sent = sent; shown = shown }
+
+-- they have their lengths
 unfoldable pub lentLengths : ℕ → ℕ → ℕ → ℕ → Bool
-lentLengths numbers bytes sent shown = eqb numbers 22 && (eqb bytes 66 && (eqb sent 5 && eqb shown 35))
+lentLengths numbers bytes sent shown =
+    eqb numbers recordNumbersLength && (eqb bytes recordBytesLength && (eqb sent answerNumbersLength && eqb shown answerBytesLength))
 
-abbrev pub lent : List ℕ → List ℕ → List ℕ → List ℕ → Bool
-lent numbers bytes sent shown = lentLengths (length numbers) (length bytes) (length sent) (length shown)
+-- an answer laid out in them; a refusal leaves them as they were
+unfoldable pub laidOut : Rows → Answer → Rows
+laidOut l a = cond (eqb (a .refusal) 0) (rows (recordNumbers (a .next)) (recordBytes (a .next)) (answerNumbers a) (answerBytes a)) l
 
--- a buffer after an answer: new, or after a refusal as it was
-unfoldable pub saidOr : Answer → List ℕ → List ℕ → List ℕ
-saidOr a new old = cond (eqb (a .refusal) 0) new old
+-- What a routine leaves at the boundary: its number, the four buffers, and the reply blocks, the stripe and the blocks to send.
+pub record AtBoundary : Type 0 where
+  pub number : ℕ
+  pub laid : Rows
+  pub blocks : List ℕ
+  pub stripe : List ℕ
+  pub coded : List ℕ
 
--- a number or buffer behind the test of the four buffers
-unfoldable pub numberIf : Bool → ℕ → ℕ
-numberIf ok number = cond ok number badLength
+abbrev pub atBoundary : ℕ → Rows → (blocks stripe coded : List ℕ) → AtBoundary
+atBoundary number l blocks stripe coded = record { number = number; laid = l; blocks = blocks; stripe = stripe; coded = coded }
 
-unfoldable pub bufferIf : Bool → List ℕ → List ℕ → List ℕ
-bufferIf ok new old = cond ok new old
+-- a call at the boundary: its answer laid out; or refused where one of the four buffers has another length, and nothing changed
+unfoldable pub crossing : Rows → (blocks stripe coded : List ℕ) → Returned → AtBoundary
+crossing l blocks stripe coded r =
+    cond (lentLengths (length (l .numbers)) (length (l .bytes)) (length (l .sent)) (length (l .shown)))
+    (atBoundary (r .answer .refusal) (laidOut l (r .answer)) (r .blocks) (r .stripe) (r .coded))
+    (atBoundary badLength l blocks stripe coded)
 
--- sixteen entries replaced
+-- a row replaced
 unfoldable pub rowPut : ℕ → List ℕ → List ℕ → List ℕ
-rowPut at row l = take at l ++ (row ++ drop (at + 16) l)
+rowPut at row l = take at l ++ (row ++ drop (at + maxBricks) l)
 
 abbrev pub replyFor : ℕ → ℕ → ℕ → ℕ → Bool → ℕ → Bool → Reply
 replyFor kind brick time round said found held =
     record { kind = kind; brick = brick; time = time; round = round; yes = said; found = found; held = held }
 
--- the coordinator of such numbers and bytes, with its lent buffers
-abbrev pub held : List ℕ → List ℕ → List ℕ → List ℕ → Buffered
-held numbers bytes blocks stripe = buffered (recordFor numbers bytes) blocks stripe
+-- The four routines. A buffer that a routine is not lent is none here.
+module _ (n m size : ℕ) (l : Rows) where
+  abbrev pub wrote : ℕ → (given stripe : List ℕ) → AtBoundary
+  wrote reading given stripe = crossing l [] stripe [] (writeCall n m size (recordFor (l .numbers) (l .bytes)) [] stripe [] reading given)
 
--- what it answers by a step
-abbrev pub answered : List ℕ → List ℕ → Step → Answer
-answered numbers bytes step = answerOf (recordFor numbers bytes) step
+  abbrev pub looked : ℕ → ℕ → AtBoundary
+  looked reading first = crossing l [] [] [] (readCall n m size (recordFor (l .numbers) (l .bytes)) [] [] [] reading first)
 
--- the steps of the four routines; the buffers that a routine is not lent do not matter
-abbrev pub wrote : ℕ → ℕ → ℕ → List ℕ → List ℕ → ℕ → List ℕ → List ℕ → Step
-wrote n m size numbers bytes reading given stripe = writeStep n m size (held numbers bytes [] stripe) reading given
+  abbrev pub took : Reply → (block blocks stripe coded : List ℕ) → AtBoundary
+  took reply block blocks stripe coded =
+      crossing l blocks stripe coded (takeCall n m size (recordFor (l .numbers) (l .bytes)) blocks stripe coded reply block)
 
-abbrev pub looked : ℕ → ℕ → ℕ → List ℕ → List ℕ → ℕ → ℕ → Step
-looked n m size numbers bytes reading first = readStep n m size (held numbers bytes [] []) reading first
-
-abbrev pub took : ℕ → ℕ → ℕ → List ℕ → List ℕ → Reply → List ℕ → List ℕ → List ℕ → ℕ → Step
-took n m size numbers bytes reply block blocks stripe coded = takeStep n m size (held numbers bytes blocks stripe) reply block coded
-
-abbrev pub fell : ℕ → ℕ → ℕ → List ℕ → List ℕ → Step
-fell n m size numbers bytes = crashStep n m size (held numbers bytes [] [])
+  abbrev pub fell : AtBoundary
+  fell = crossing l [] [] [] (crashCall n m size (recordFor (l .numbers) (l .bytes)) [] [] [])

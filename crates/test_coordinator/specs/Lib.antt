@@ -1,2 +1,2 @@
--- Definitions: Numbers. Laws: NumberLaws.
+-- CoordinatorBoundary: the record and the answer as rows of numbers and bytes, and the four routines on them.
 pub mod CoordinatorBoundary

@@ -1,37 +1,87 @@
 // The coordinator at a C boundary of numbers and slices, for the tests and benchmarks that compare it with other code. Every routine is
-// lent four buffers: the record's 22 numbers and 66 bytes, and the answer's 5 numbers and 35 bytes. A refusal leaves them as they were.
+// lent four buffers: the record's 22 numbers and 66 bytes, and the answer's 8 numbers and 52 bytes. A refusal leaves them as they were.
 ghost use mathlib.Core.Path.{_≡_};
 ghost use mathlib.Core.List.{[]};
 ghost use Prim.Native.Nat.{_+_, _≤_};
 ghost use lib.ListN.{length};
-ghost use Rattle.coord_apply.specs.Answers.{blocksAfter, stripeAfter, codedAfter};
-ghost use Rattle.test_coordinator.specs.CoordinatorBoundary.{recordFor, recordNumbers, recordBytes, answerNumbers, answerBytes, lent, lentLengths, saidOr, numberIf, bufferIf, rowPut, replyFor, held, answered, wrote, looked, took, fell};
+ghost use Rattle.settings.specs.Ranges.{maxBricks};
+ghost use Rattle.test_coordinator.specs.CoordinatorBoundary.{recordNumbersLength, recordBytesLength, answerNumbersLength, answerBytesLength};
+ghost use Rattle.test_coordinator.specs.CoordinatorBoundary.{recordFor, recordNumbers, recordBytes, answerNumbers, answerBytes};
+ghost use Rattle.test_coordinator.specs.CoordinatorBoundary.{lentLengths, rows, laidOut, atBoundary, rowPut, replyFor};
+ghost use Rattle.test_coordinator.specs.CoordinatorBoundary.{wrote, looked, took, fell};
 use coord_apply::Answer;
 use coord_record::Coordinator;
 use coord_record::Op;
 use coord_record::Tally;
 use message::Reply;
 use settings::Clock;
+use settings::MAX_BRICKS;
+
+// How many numbers and bytes a record has, and an answer.
+const RECORD_NUMBERS: usize = 22;
+
+const RECORD_BYTES: usize = 66;
+
+const ANSWER_NUMBERS: usize = 8;
+
+const ANSWER_BYTES: usize = 52;
+
+// Where a record's numbers stand.
+const COORDINATOR: usize = 0;
+
+const LAST: usize = 1;
+
+const TIME: usize = 2;
+
+const ROUND: usize = 3;
+
+const MAX: usize = 4;
+
+const FIRST: usize = 5;
+
+const FOUND: usize = 6;
+
+// Where its bytes stand.
+const KIND: usize = 0;
+
+const PHASE: usize = 1;
+
+const COUNTED: usize = 2;
+
+const GRANTED: usize = 18;
+
+const HELD: usize = 34;
+
+const BRICKS: usize = 50;
+
+// Where an answer's rows stand among its bytes, and the kind of its second message.
+const TARGETS: usize = 3;
+
+const SEEN_BRICKS: usize = 19;
+
+const SECOND_TARGETS: usize = 35;
+
+const SECOND_KIND: usize = 51;
 
 // Whether the four buffers have their lengths.
 fn lent_right(numbers: usize, bytes: usize, sent: usize, shown: usize) -> bool
     ensures { λ r. ⌜ r ≡ lentLengths numbers bytes sent shown ⌝ }
 {
-    if numbers != 22 {
+    if numbers != RECORD_NUMBERS {
         return false;
     }
-    if bytes != 66 {
+    if bytes != RECORD_BYTES {
         return false;
     }
-    if sent != 5 {
+    if sent != ANSWER_NUMBERS {
         return false;
     }
-    shown == 35
+    shown == ANSWER_BYTES
 }
 
 // Sixteen bytes from a slice of sixteen.
-fn row_of(t: &[u8]) -> [u8; 16]
-    requires { ⌜ length (now t) ≡ 16 ⌝ }
+fn row_of(t: &[u8]) -> [u8; MAX_BRICKS]
+    requires { ⌜ length (now t) ≡ maxBricks ⌝ }
     ensures { λ r. ⌜ r ≡ now (t .entry) ⌝ }
 {
     [
@@ -55,8 +105,8 @@ fn row_of(t: &[u8]) -> [u8; 16]
 }
 
 // Sixteen times from a slice of sixteen.
-fn times_of(t: &[u64]) -> [u64; 16]
-    requires { ⌜ length (now t) ≡ 16 ⌝ }
+fn times_of(t: &[u64]) -> [u64; MAX_BRICKS]
+    requires { ⌜ length (now t) ≡ maxBricks ⌝ }
     ensures { λ r. ⌜ r ≡ now (t .entry) ⌝ }
 {
     [
@@ -81,27 +131,27 @@ fn times_of(t: &[u64]) -> [u64; 16]
 
 // The record of its numbers and bytes.
 fn record_of(numbers: &[u64], bytes: &[u8]) -> Coordinator
-    requires { ⌜ length (now numbers) ≡ 22 ⌝ }
-    requires { ⌜ length (now bytes) ≡ 66 ⌝ }
+    requires { ⌜ length (now numbers) ≡ recordNumbersLength ⌝ }
+    requires { ⌜ length (now bytes) ≡ recordBytesLength ⌝ }
     ensures { λ r. ⌜ r ≡ recordFor (now (numbers .entry)) (now (bytes .entry)) ⌝ }
 {
     let clock = Clock {
-        coordinator: numbers[0],
-        last: numbers[1],
+        coordinator: numbers[COORDINATOR],
+        last: numbers[LAST],
     };
     let op = Op {
-        kind: bytes[0],
-        phase: bytes[1],
-        time: numbers[2],
-        round: numbers[3],
-        max: numbers[4],
-        first: numbers[5] as usize,
+        kind: bytes[KIND],
+        phase: bytes[PHASE],
+        time: numbers[TIME],
+        round: numbers[ROUND],
+        max: numbers[MAX],
+        first: numbers[FIRST] as usize,
     };
-    let found = times_of(&numbers[6..22]);
-    let counted = row_of(&bytes[2..18]);
-    let granted = row_of(&bytes[18..34]);
-    let held = row_of(&bytes[34..50]);
-    let bricks = row_of(&bytes[50..66]);
+    let found = times_of(&numbers[FOUND..RECORD_NUMBERS]);
+    let counted = row_of(&bytes[COUNTED..GRANTED]);
+    let granted = row_of(&bytes[GRANTED..HELD]);
+    let held = row_of(&bytes[HELD..BRICKS]);
+    let bricks = row_of(&bytes[BRICKS..RECORD_BYTES]);
     let tally = Tally {
         counted,
         granted,
@@ -129,90 +179,98 @@ fn copy_times(from: &[u64], to: &mut [u64])
 }
 
 // Sixteen bytes in their place.
-fn put_row(row: [u8; 16], at: usize, out: &mut [u8])
-    requires { ⌜ at + 16 ≤ length (now out) ⌝ }
+fn put_row(row: [u8; MAX_BRICKS], at: usize, out: &mut [u8])
+    requires { ⌜ at + maxBricks ≤ length (now out) ⌝ }
     ensures { λ _. ⌜ now (out .exit) ≡ rowPut at row (now (out .entry)) ⌝ }
-    ensures { λ _. ⌜ length row ≡ 16 ⌝ }
+    ensures { λ _. ⌜ length row ≡ maxBricks ⌝ }
 {
-    let end = at + 16;
+    let end = at + MAX_BRICKS;
     byte_lists::copy(&row, &mut out[at..end])
 }
 
 // Sixteen times in their place.
-fn put_times(row: [u64; 16], at: usize, out: &mut [u64])
-    requires { ⌜ at + 16 ≤ length (now out) ⌝ }
+fn put_times(row: [u64; MAX_BRICKS], at: usize, out: &mut [u64])
+    requires { ⌜ at + maxBricks ≤ length (now out) ⌝ }
     ensures { λ _. ⌜ now (out .exit) ≡ rowPut at row (now (out .entry)) ⌝ }
-    ensures { λ _. ⌜ length row ≡ 16 ⌝ }
+    ensures { λ _. ⌜ length row ≡ maxBricks ⌝ }
 {
-    let end = at + 16;
+    let end = at + MAX_BRICKS;
     copy_times(&row, &mut out[at..end])
 }
 
 // The numbers of a record.
 fn put_numbers(c: Coordinator, out: &mut [u64])
-    requires { ⌜ length (now out) ≡ 22 ⌝ }
+    requires { ⌜ length (now out) ≡ recordNumbersLength ⌝ }
     ensures { λ _. ⌜ now (out .exit) ≡ recordNumbers c ⌝ }
 {
     let clock = c.clock;
     let op = c.op;
     let tally = c.tally;
-    out[0] = clock.coordinator;
-    out[1] = clock.last;
-    out[2] = op.time;
-    out[3] = op.round;
-    out[4] = op.max;
-    out[5] = op.first as u64;
+    out[COORDINATOR] = clock.coordinator;
+    out[LAST] = clock.last;
+    out[TIME] = op.time;
+    out[ROUND] = op.round;
+    out[MAX] = op.max;
+    out[FIRST] = op.first as u64;
     let found = tally.found;
-    put_times(found, 6, out)
+    put_times(found, FOUND, out)
 }
 
 // The bytes of a record.
 fn put_bytes(c: Coordinator, out: &mut [u8])
-    requires { ⌜ length (now out) ≡ 66 ⌝ }
+    requires { ⌜ length (now out) ≡ recordBytesLength ⌝ }
     ensures { λ _. ⌜ now (out .exit) ≡ recordBytes c ⌝ }
 {
     let op = c.op;
     let tally = c.tally;
-    out[0] = op.kind;
-    out[1] = op.phase;
+    out[KIND] = op.kind;
+    out[PHASE] = op.phase;
     let counted = tally.counted;
     let granted = tally.granted;
     let held = tally.held;
     let bricks = c.bricks;
-    put_row(counted, 2, out);
-    put_row(granted, 18, out);
-    put_row(held, 34, out);
-    put_row(bricks, 50, out)
+    put_row(counted, COUNTED, out);
+    put_row(granted, GRANTED, out);
+    put_row(held, HELD, out);
+    put_row(bricks, BRICKS, out)
 }
 
 // The numbers of an answer.
 fn put_sent(a: Answer, out: &mut [u64])
-    requires { ⌜ length (now out) ≡ 5 ⌝ }
+    requires { ⌜ length (now out) ≡ answerNumbersLength ⌝ }
     ensures { λ _. ⌜ now (out .exit) ≡ answerNumbers a ⌝ }
 {
     let message = a.message;
+    let second = a.second;
     let seen = a.seen;
     out[0] = a.sent as u64;
     out[1] = message.time;
     out[2] = message.round;
     out[3] = message.max;
     out[4] = seen.time;
+    out[5] = second.time;
+    out[6] = second.round;
+    out[7] = second.max;
 }
 
 // The bytes of an answer.
 fn put_shown(a: Answer, out: &mut [u8])
-    requires { ⌜ length (now out) ≡ 35 ⌝ }
+    requires { ⌜ length (now out) ≡ answerBytesLength ⌝ }
     ensures { λ _. ⌜ now (out .exit) ≡ answerBytes a ⌝ }
 {
     let message = a.message;
+    let second = a.second;
     let seen = a.seen;
     out[0] = message.kind;
     out[1] = seen.what;
     out[2] = seen.kind;
+    out[SECOND_KIND] = second.kind;
     let targets = message.targets;
     let bricks = seen.bricks;
-    put_row(targets, 3, out);
-    put_row(bricks, 19, out)
+    let more = second.targets;
+    put_row(targets, TARGETS, out);
+    put_row(bricks, SEEN_BRICKS, out);
+    put_row(more, SECOND_TARGETS, out)
 }
 
 // An answer into the four buffers, and its refusal.
@@ -223,15 +281,13 @@ fn put_answer(
     sent: &mut [u64],
     shown: &mut [u8],
 ) -> u32
-    requires { ⌜ length (now numbers) ≡ 22 ⌝ }
-    requires { ⌜ length (now bytes) ≡ 66 ⌝ }
-    requires { ⌜ length (now sent) ≡ 5 ⌝ }
-    requires { ⌜ length (now shown) ≡ 35 ⌝ }
+    requires { ⌜ length (now numbers) ≡ recordNumbersLength ⌝ }
+    requires { ⌜ length (now bytes) ≡ recordBytesLength ⌝ }
+    requires { ⌜ length (now sent) ≡ answerNumbersLength ⌝ }
+    requires { ⌜ length (now shown) ≡ answerBytesLength ⌝ }
     ensures { λ r. ⌜ r ≡ a .refusal ⌝ }
-    ensures { λ r. ⌜ now (numbers .exit) ≡ saidOr a (recordNumbers (a .next)) (now (numbers .entry)) ⌝ }
-    ensures { λ r. ⌜ now (bytes .exit) ≡ saidOr a (recordBytes (a .next)) (now (bytes .entry)) ⌝ }
-    ensures { λ r. ⌜ now (sent .exit) ≡ saidOr a (answerNumbers a) (now (sent .entry)) ⌝ }
-    ensures { λ r. ⌜ now (shown .exit) ≡ saidOr a (answerBytes a) (now (shown .entry)) ⌝ }
+    ensures { λ r. ⌜ rows (now (numbers .exit)) (now (bytes .exit)) (now (sent .exit)) (now (shown .exit))
+        ≡ laidOut (rows (now (numbers .entry)) (now (bytes .entry)) (now (sent .entry)) (now (shown .entry))) a ⌝ }
 {
     if a.refusal != 0 {
         return a.refusal;
@@ -258,15 +314,13 @@ pub extern "C" fn coord_start_write(
     given: &[u8],
     stripe: &mut [u8],
 ) -> u32
-    ensures { λ r. ⌜ r ≡ numberIf (lent (now (numbers .entry)) (now (bytes .entry)) (now (sent .entry)) (now (shown .entry))) (answered (now (numbers .entry)) (now (bytes .entry)) (wrote n m size (now (numbers .entry)) (now (bytes .entry)) reading (now (given .entry)) (now (stripe .entry))) .refusal) ⌝ }
-    ensures { λ r. ⌜ now (numbers .exit) ≡ bufferIf (lent (now (numbers .entry)) (now (bytes .entry)) (now (sent .entry)) (now (shown .entry))) (saidOr (answered (now (numbers .entry)) (now (bytes .entry)) (wrote n m size (now (numbers .entry)) (now (bytes .entry)) reading (now (given .entry)) (now (stripe .entry)))) (recordNumbers (answered (now (numbers .entry)) (now (bytes .entry)) (wrote n m size (now (numbers .entry)) (now (bytes .entry)) reading (now (given .entry)) (now (stripe .entry))) .next)) (now (numbers .entry))) (now (numbers .entry)) ⌝ }
-    ensures { λ r. ⌜ now (bytes .exit) ≡ bufferIf (lent (now (numbers .entry)) (now (bytes .entry)) (now (sent .entry)) (now (shown .entry))) (saidOr (answered (now (numbers .entry)) (now (bytes .entry)) (wrote n m size (now (numbers .entry)) (now (bytes .entry)) reading (now (given .entry)) (now (stripe .entry)))) (recordBytes (answered (now (numbers .entry)) (now (bytes .entry)) (wrote n m size (now (numbers .entry)) (now (bytes .entry)) reading (now (given .entry)) (now (stripe .entry))) .next)) (now (bytes .entry))) (now (bytes .entry)) ⌝ }
-    ensures { λ r. ⌜ now (sent .exit) ≡ bufferIf (lent (now (numbers .entry)) (now (bytes .entry)) (now (sent .entry)) (now (shown .entry))) (saidOr (answered (now (numbers .entry)) (now (bytes .entry)) (wrote n m size (now (numbers .entry)) (now (bytes .entry)) reading (now (given .entry)) (now (stripe .entry)))) (answerNumbers (answered (now (numbers .entry)) (now (bytes .entry)) (wrote n m size (now (numbers .entry)) (now (bytes .entry)) reading (now (given .entry)) (now (stripe .entry))))) (now (sent .entry))) (now (sent .entry)) ⌝ }
-    ensures { λ r. ⌜ now (shown .exit) ≡ bufferIf (lent (now (numbers .entry)) (now (bytes .entry)) (now (sent .entry)) (now (shown .entry))) (saidOr (answered (now (numbers .entry)) (now (bytes .entry)) (wrote n m size (now (numbers .entry)) (now (bytes .entry)) reading (now (given .entry)) (now (stripe .entry)))) (answerBytes (answered (now (numbers .entry)) (now (bytes .entry)) (wrote n m size (now (numbers .entry)) (now (bytes .entry)) reading (now (given .entry)) (now (stripe .entry))))) (now (shown .entry))) (now (shown .entry)) ⌝ }
-    ensures { λ r. ⌜ now (stripe .exit) ≡ bufferIf (lent (now (numbers .entry)) (now (bytes .entry)) (now (sent .entry)) (now (shown .entry))) (stripeAfter (held (now (numbers .entry)) (now (bytes .entry)) [] (now (stripe .entry))) (wrote n m size (now (numbers .entry)) (now (bytes .entry)) reading (now (given .entry)) (now (stripe .entry)))) (now (stripe .entry)) ⌝ }
+    ensures { λ r. ⌜ atBoundary r (rows (now (numbers .exit)) (now (bytes .exit)) (now (sent .exit)) (now (shown .exit)))
+        [] (now (stripe .exit)) []
+        ≡ wrote n m size (rows (now (numbers .entry)) (now (bytes .entry)) (now (sent .entry)) (now (shown .entry)))
+        reading (now (given .entry)) (now (stripe .entry)) ⌝ }
 {
     if lent_right(numbers.len(), bytes.len(), sent.len(), shown.len()) {} else {
-        return 2;
+        return settings::BAD_LENGTH;
     }
     let c = record_of(numbers, bytes);
     let a = coordinator::start_write(n, m, size, c, reading, given, stripe);
@@ -286,14 +340,11 @@ pub extern "C" fn coord_start_read(
     reading: u64,
     first: usize,
 ) -> u32
-    ensures { λ r. ⌜ r ≡ numberIf (lent (now (numbers .entry)) (now (bytes .entry)) (now (sent .entry)) (now (shown .entry))) (answered (now (numbers .entry)) (now (bytes .entry)) (looked n m size (now (numbers .entry)) (now (bytes .entry)) reading first) .refusal) ⌝ }
-    ensures { λ r. ⌜ now (numbers .exit) ≡ bufferIf (lent (now (numbers .entry)) (now (bytes .entry)) (now (sent .entry)) (now (shown .entry))) (saidOr (answered (now (numbers .entry)) (now (bytes .entry)) (looked n m size (now (numbers .entry)) (now (bytes .entry)) reading first)) (recordNumbers (answered (now (numbers .entry)) (now (bytes .entry)) (looked n m size (now (numbers .entry)) (now (bytes .entry)) reading first) .next)) (now (numbers .entry))) (now (numbers .entry)) ⌝ }
-    ensures { λ r. ⌜ now (bytes .exit) ≡ bufferIf (lent (now (numbers .entry)) (now (bytes .entry)) (now (sent .entry)) (now (shown .entry))) (saidOr (answered (now (numbers .entry)) (now (bytes .entry)) (looked n m size (now (numbers .entry)) (now (bytes .entry)) reading first)) (recordBytes (answered (now (numbers .entry)) (now (bytes .entry)) (looked n m size (now (numbers .entry)) (now (bytes .entry)) reading first) .next)) (now (bytes .entry))) (now (bytes .entry)) ⌝ }
-    ensures { λ r. ⌜ now (sent .exit) ≡ bufferIf (lent (now (numbers .entry)) (now (bytes .entry)) (now (sent .entry)) (now (shown .entry))) (saidOr (answered (now (numbers .entry)) (now (bytes .entry)) (looked n m size (now (numbers .entry)) (now (bytes .entry)) reading first)) (answerNumbers (answered (now (numbers .entry)) (now (bytes .entry)) (looked n m size (now (numbers .entry)) (now (bytes .entry)) reading first))) (now (sent .entry))) (now (sent .entry)) ⌝ }
-    ensures { λ r. ⌜ now (shown .exit) ≡ bufferIf (lent (now (numbers .entry)) (now (bytes .entry)) (now (sent .entry)) (now (shown .entry))) (saidOr (answered (now (numbers .entry)) (now (bytes .entry)) (looked n m size (now (numbers .entry)) (now (bytes .entry)) reading first)) (answerBytes (answered (now (numbers .entry)) (now (bytes .entry)) (looked n m size (now (numbers .entry)) (now (bytes .entry)) reading first))) (now (shown .entry))) (now (shown .entry)) ⌝ }
+    ensures { λ r. ⌜ atBoundary r (rows (now (numbers .exit)) (now (bytes .exit)) (now (sent .exit)) (now (shown .exit))) [] [] []
+        ≡ looked n m size (rows (now (numbers .entry)) (now (bytes .entry)) (now (sent .entry)) (now (shown .entry))) reading first ⌝ }
 {
     if lent_right(numbers.len(), bytes.len(), sent.len(), shown.len()) {} else {
-        return 2;
+        return settings::BAD_LENGTH;
     }
     let c = record_of(numbers, bytes);
     let a = coordinator::start_read(n, m, size, c, reading, first);
@@ -322,17 +373,14 @@ pub extern "C" fn coord_take_reply(
     stripe: &mut [u8],
     coded: &mut [u8],
 ) -> u32
-    ensures { λ r. ⌜ r ≡ numberIf (lent (now (numbers .entry)) (now (bytes .entry)) (now (sent .entry)) (now (shown .entry))) (answered (now (numbers .entry)) (now (bytes .entry)) (took n m size (now (numbers .entry)) (now (bytes .entry)) (replyFor kind brick time round yes found has) (now (block .entry)) (now (blocks .entry)) (now (stripe .entry)) (length (now (coded .entry)))) .refusal) ⌝ }
-    ensures { λ r. ⌜ now (numbers .exit) ≡ bufferIf (lent (now (numbers .entry)) (now (bytes .entry)) (now (sent .entry)) (now (shown .entry))) (saidOr (answered (now (numbers .entry)) (now (bytes .entry)) (took n m size (now (numbers .entry)) (now (bytes .entry)) (replyFor kind brick time round yes found has) (now (block .entry)) (now (blocks .entry)) (now (stripe .entry)) (length (now (coded .entry))))) (recordNumbers (answered (now (numbers .entry)) (now (bytes .entry)) (took n m size (now (numbers .entry)) (now (bytes .entry)) (replyFor kind brick time round yes found has) (now (block .entry)) (now (blocks .entry)) (now (stripe .entry)) (length (now (coded .entry)))) .next)) (now (numbers .entry))) (now (numbers .entry)) ⌝ }
-    ensures { λ r. ⌜ now (bytes .exit) ≡ bufferIf (lent (now (numbers .entry)) (now (bytes .entry)) (now (sent .entry)) (now (shown .entry))) (saidOr (answered (now (numbers .entry)) (now (bytes .entry)) (took n m size (now (numbers .entry)) (now (bytes .entry)) (replyFor kind brick time round yes found has) (now (block .entry)) (now (blocks .entry)) (now (stripe .entry)) (length (now (coded .entry))))) (recordBytes (answered (now (numbers .entry)) (now (bytes .entry)) (took n m size (now (numbers .entry)) (now (bytes .entry)) (replyFor kind brick time round yes found has) (now (block .entry)) (now (blocks .entry)) (now (stripe .entry)) (length (now (coded .entry)))) .next)) (now (bytes .entry))) (now (bytes .entry)) ⌝ }
-    ensures { λ r. ⌜ now (sent .exit) ≡ bufferIf (lent (now (numbers .entry)) (now (bytes .entry)) (now (sent .entry)) (now (shown .entry))) (saidOr (answered (now (numbers .entry)) (now (bytes .entry)) (took n m size (now (numbers .entry)) (now (bytes .entry)) (replyFor kind brick time round yes found has) (now (block .entry)) (now (blocks .entry)) (now (stripe .entry)) (length (now (coded .entry))))) (answerNumbers (answered (now (numbers .entry)) (now (bytes .entry)) (took n m size (now (numbers .entry)) (now (bytes .entry)) (replyFor kind brick time round yes found has) (now (block .entry)) (now (blocks .entry)) (now (stripe .entry)) (length (now (coded .entry)))))) (now (sent .entry))) (now (sent .entry)) ⌝ }
-    ensures { λ r. ⌜ now (shown .exit) ≡ bufferIf (lent (now (numbers .entry)) (now (bytes .entry)) (now (sent .entry)) (now (shown .entry))) (saidOr (answered (now (numbers .entry)) (now (bytes .entry)) (took n m size (now (numbers .entry)) (now (bytes .entry)) (replyFor kind brick time round yes found has) (now (block .entry)) (now (blocks .entry)) (now (stripe .entry)) (length (now (coded .entry))))) (answerBytes (answered (now (numbers .entry)) (now (bytes .entry)) (took n m size (now (numbers .entry)) (now (bytes .entry)) (replyFor kind brick time round yes found has) (now (block .entry)) (now (blocks .entry)) (now (stripe .entry)) (length (now (coded .entry)))))) (now (shown .entry))) (now (shown .entry)) ⌝ }
-    ensures { λ r. ⌜ now (blocks .exit) ≡ bufferIf (lent (now (numbers .entry)) (now (bytes .entry)) (now (sent .entry)) (now (shown .entry))) (blocksAfter (held (now (numbers .entry)) (now (bytes .entry)) (now (blocks .entry)) (now (stripe .entry))) (took n m size (now (numbers .entry)) (now (bytes .entry)) (replyFor kind brick time round yes found has) (now (block .entry)) (now (blocks .entry)) (now (stripe .entry)) (length (now (coded .entry))))) (now (blocks .entry)) ⌝ }
-    ensures { λ r. ⌜ now (stripe .exit) ≡ bufferIf (lent (now (numbers .entry)) (now (bytes .entry)) (now (sent .entry)) (now (shown .entry))) (stripeAfter (held (now (numbers .entry)) (now (bytes .entry)) (now (blocks .entry)) (now (stripe .entry))) (took n m size (now (numbers .entry)) (now (bytes .entry)) (replyFor kind brick time round yes found has) (now (block .entry)) (now (blocks .entry)) (now (stripe .entry)) (length (now (coded .entry))))) (now (stripe .entry)) ⌝ }
-    ensures { λ r. ⌜ now (coded .exit) ≡ bufferIf (lent (now (numbers .entry)) (now (bytes .entry)) (now (sent .entry)) (now (shown .entry))) (codedAfter (now (coded .entry)) (took n m size (now (numbers .entry)) (now (bytes .entry)) (replyFor kind brick time round yes found has) (now (block .entry)) (now (blocks .entry)) (now (stripe .entry)) (length (now (coded .entry))))) (now (coded .entry)) ⌝ }
+    ensures { λ r. ⌜ atBoundary r (rows (now (numbers .exit)) (now (bytes .exit)) (now (sent .exit)) (now (shown .exit)))
+        (now (blocks .exit)) (now (stripe .exit)) (now (coded .exit))
+        ≡ took n m size (rows (now (numbers .entry)) (now (bytes .entry)) (now (sent .entry)) (now (shown .entry)))
+        (replyFor kind brick time round yes found has) (now (block .entry))
+        (now (blocks .entry)) (now (stripe .entry)) (now (coded .entry)) ⌝ }
 {
     if lent_right(numbers.len(), bytes.len(), sent.len(), shown.len()) {} else {
-        return 2;
+        return settings::BAD_LENGTH;
     }
     let c = record_of(numbers, bytes);
     let reply = Reply {
@@ -359,14 +407,11 @@ pub extern "C" fn coord_crash(
     sent: &mut [u64],
     shown: &mut [u8],
 ) -> u32
-    ensures { λ r. ⌜ r ≡ numberIf (lent (now (numbers .entry)) (now (bytes .entry)) (now (sent .entry)) (now (shown .entry))) (answered (now (numbers .entry)) (now (bytes .entry)) (fell n m size (now (numbers .entry)) (now (bytes .entry))) .refusal) ⌝ }
-    ensures { λ r. ⌜ now (numbers .exit) ≡ bufferIf (lent (now (numbers .entry)) (now (bytes .entry)) (now (sent .entry)) (now (shown .entry))) (saidOr (answered (now (numbers .entry)) (now (bytes .entry)) (fell n m size (now (numbers .entry)) (now (bytes .entry)))) (recordNumbers (answered (now (numbers .entry)) (now (bytes .entry)) (fell n m size (now (numbers .entry)) (now (bytes .entry))) .next)) (now (numbers .entry))) (now (numbers .entry)) ⌝ }
-    ensures { λ r. ⌜ now (bytes .exit) ≡ bufferIf (lent (now (numbers .entry)) (now (bytes .entry)) (now (sent .entry)) (now (shown .entry))) (saidOr (answered (now (numbers .entry)) (now (bytes .entry)) (fell n m size (now (numbers .entry)) (now (bytes .entry)))) (recordBytes (answered (now (numbers .entry)) (now (bytes .entry)) (fell n m size (now (numbers .entry)) (now (bytes .entry))) .next)) (now (bytes .entry))) (now (bytes .entry)) ⌝ }
-    ensures { λ r. ⌜ now (sent .exit) ≡ bufferIf (lent (now (numbers .entry)) (now (bytes .entry)) (now (sent .entry)) (now (shown .entry))) (saidOr (answered (now (numbers .entry)) (now (bytes .entry)) (fell n m size (now (numbers .entry)) (now (bytes .entry)))) (answerNumbers (answered (now (numbers .entry)) (now (bytes .entry)) (fell n m size (now (numbers .entry)) (now (bytes .entry))))) (now (sent .entry))) (now (sent .entry)) ⌝ }
-    ensures { λ r. ⌜ now (shown .exit) ≡ bufferIf (lent (now (numbers .entry)) (now (bytes .entry)) (now (sent .entry)) (now (shown .entry))) (saidOr (answered (now (numbers .entry)) (now (bytes .entry)) (fell n m size (now (numbers .entry)) (now (bytes .entry)))) (answerBytes (answered (now (numbers .entry)) (now (bytes .entry)) (fell n m size (now (numbers .entry)) (now (bytes .entry))))) (now (shown .entry))) (now (shown .entry)) ⌝ }
+    ensures { λ r. ⌜ atBoundary r (rows (now (numbers .exit)) (now (bytes .exit)) (now (sent .exit)) (now (shown .exit))) [] [] []
+        ≡ fell n m size (rows (now (numbers .entry)) (now (bytes .entry)) (now (sent .entry)) (now (shown .entry))) ⌝ }
 {
     if lent_right(numbers.len(), bytes.len(), sent.len(), shown.len()) {} else {
-        return 2;
+        return settings::BAD_LENGTH;
     }
     let c = record_of(numbers, bytes);
     let a = coordinator::crash(n, m, size, c);

@@ -2,6 +2,7 @@ use mathlib.Core.Path.{refl, ap, _∙_}
 use Prim.Native.Nat.{ℕ, _+_, _*_}
 use native.Mathlib.Omega.{arith}
 use lib.ListN.{take, drop}
+use Rattle.register.proofs.Laws.DriverLaws.{few-returned, take-short}
 use Rattle.bench_sent.proofs.Laws.SentRowLaws.{block-cut}
 use Rattle.bench_commit.proofs.Laws.ActedLaws.{acted-row}
 use borrow.Author.Needs.{needs}
@@ -41,11 +42,14 @@ commit-requires c κs =
     let f = c .before .before .before .before .before .before .before .before .before .before .before .before .before .before .before .before .before .before .before .before .before .before .before .before .before .before .fetch .kept in
     let t = c .before .before .before .before .before .before .before .before .before .before .before .before .before .take-reply .kept in (
       s .pre .0,
-      record {
-        blocks-long = t .1 .1 .1 .1 .1 .1 .0 ∙ f .1 .1 .0 ∙ s .pre .1 .0 .blocks-long;
-        stripe-long = t .1 .1 .1 .1 .1 .1 .1 .0 ∙ f .1 .1 .1 .0 ∙ s .pre .1 .0 .stripe-long;
-        coded-long = t .1 .1 .1 .1 .1 .1 .1 .1 .0 ∙ s .pre .1 .0 .coded-long;
-      },
+      (
+        record {
+          blocks-long = t .1 .1 .1 .1 .1 .1 .0 ∙ f .1 .1 .0 ∙ s .pre .1 .0 .blocks-long;
+          stripe-long = t .1 .1 .1 .1 .1 .1 .1 .0 ∙ f .1 .1 .1 .0 ∙ s .pre .1 .0 .stripe-long;
+          coded-long = t .1 .1 .1 .1 .1 .1 .1 .1 .0 ∙ s .pre .1 .0 .coded-long;
+        },
+        few-returned _ _ _ _ _ _ _ _ _ (take-short _ _ _ _ _ _ _) (c .before .before .before .before .before .before .before .before .before .before .before .before .before .take-reply .ensures),
+      ),
     )
 
 same-length : tie.Need-same-length
@@ -81,7 +85,7 @@ returns c =
     (c .before .before .before .before .before .before .before .before .before .before .before .before .before .before .before .before .before .before .before .before .before .before .before .before .before .before .before .before .before .before .before .before .before .before .before .fetch .ensures .1 ∙ ap (λ (j : ℕ). take j (drop (s .args .c * 64 + 32) k)) (s .pre .1 .0 .stripe-long))
     (s .args .k) (s .args .reply) _ _ (s .args .coded .now) _ _ _ (s .pre .1 .1 .0) (s .pre .1 .1 .1) (s .pre .1 .1 .2)
     (block-cut z (s .args .k) (s .args .k * 24 + 16) (s .args .k * 24 + 16 + z) (s .args .bytes .now) refl refl)
-    (s .pre .1 .1 .3) (s .pre .1 .0 .coded-long) (e .0) (e .1 .0) (e .1 .1 .0) (e .1 .1 .1) (c .before .before .before .before .before .before .before .before .commit .ensures)
+    (s .pre .1 .1 .3) (s .pre .1 .0 .coded-long) e (c .before .before .before .before .before .before .before .before .commit .ensures)
 
 pub reply-with-spec : {M : Type 1} → statement M
 reply-with-spec =

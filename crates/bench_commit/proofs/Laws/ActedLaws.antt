@@ -1,4 +1,4 @@
--- Laws of `specs/ActedLaws`.
+-- A routine of a coordinator called and its answer committed: the event has been played.
 use mathlib.Core.Path.{_≡_, refl, sym, ap, subst, _∙_}
 use mathlib.Core.Bool.{Bool, true, false, cond, not, _&&_}
 use mathlib.Core.List.{List}
@@ -13,9 +13,10 @@ use Rattle.byte_lists.specs.Little.{Bytes}
 use Rattle.message.specs.declared.Reply.{Reply}
 use Rattle.coord_record.specs.declared.Coordinator.{Coordinator}
 use Rattle.coord_apply.specs.Acts.{buffered}
-use Rattle.coord_apply.specs.Answers.{Buffered, Step, refused, went, answerOf, blocksAfter, stripeAfter, codedAfter}
+use Rattle.coord_apply.specs.Answers.{Buffered, Step, refused, went, answerOf, blocksAfter, stripeAfter, codedAfter, returned}
 use Rattle.coord_apply.specs.declared.Answer.{Answer}
-use Rattle.coordinator.specs.Routines.{takeStep, crashStep, writeStep, readStep}
+use Rattle.coord_apply.proofs.Laws.AnswerLaws.{returned-answer, returned-blocks, returned-stripe, returned-coded}
+use Rattle.coordinator.specs.Routines.{takeStep, crashStep, writeStep, readStep, writeCall, readCall, takeCall, crashCall}
 use Rattle.register.specs.Driver.{Short}
 use Rattle.register.proofs.Laws.DriverLaws.{left-untouched, write-short, read-short, crash-short, take-short}
 use Rattle.register.specs.Runs.{Item, World, untouched, Event, startWrite, startRead, arrives, crashes, reply, step, coordinated, arriving}
@@ -32,7 +33,8 @@ use Rattle.bench_rules.specs.declared.After.{After}
 use Rattle.bench_commit.specs.Workers.{answered}
 use Rattle.bench_commit.specs.Workers.{Answers}
 use Rattle.bench_commit.proofs.Laws.CommitLaws.{Numbered, answered-is-acts}
-use Rattle.bench_commit.proofs.Laws.CommitStepLaws.{write-numbered, write-blocks, write-coded, read-numbered, read-blocks, read-stripe, read-coded, crash-numbered, crash-blocks, crash-stripe, crash-coded, take-numbered}
+use Rattle.bench_commit.proofs.Laws.CommitStepLaws.{write-numbered, write-blocks, write-coded, read-numbered, read-blocks, read-stripe, read-coded, crash-numbered, crash-blocks}
+use Rattle.bench_commit.proofs.Laws.CommitStepLaws.{crash-stripe, crash-coded, take-numbered}
 use Rattle.bench_commit.specs.Workers.{BenchActed, Plays}
 
 -- a start that is refused stays so, and one that is not is refused for its digits
@@ -106,9 +108,10 @@ module _ (b : Bench) (c : ℕ) (kept numbers bytes : List ℕ) (at : ℕ) (out :
     stripe-is = ap (λ (h : Buffered). h .stripe) same
 
     pub acted-read : (clock brick : ℕ) (a : Answer)
-        → ((x y : List ℕ) → a ≡ answerOf old (readStep (b .settings .n) (b .settings .m) (b .settings .size) (buffered old x y) clock brick))
+        → ((x y z : List ℕ) → returned a x y z ≡ readCall (b .settings .n) (b .settings .m) (b .settings .size) old x y z clock brick)
         → Answers b c a blocks stripe blocks kept numbers bytes at out r kept′ numbers′ bytes′ out′
-        → BenchActed b c (startRead c clock brick) (λ (h : Buffered). readStep (b .settings .n) (b .settings .m) (b .settings .size) h clock brick) kept numbers bytes at out r kept′ numbers′ bytes′ out′
+        → BenchActed b c (startRead c clock brick) (λ (h : Buffered). readStep (b .settings .n) (b .settings .m) (b .settings .size) h clock brick) kept numbers bytes at out r kept′ numbers′
+        bytes′ out′
     unfolding step worldIn worldOf
     acted-read clock brick a ea h =
         let n = b .settings .n in
@@ -116,11 +119,13 @@ module _ (b : Bench) (c : ℕ) (kept numbers bytes : List ℕ) (at : ℕ) (out :
         let size = b .settings .size in
         acted-by (startRead c clock brick) (λ (x : Buffered). readStep n m size x clock brick) a blocks stripe blocks blocks (λ images. refl)
         (read-short n m size here clock brick) (read-numbered n m size here clock brick)
-        (ea blocks stripe ∙ ap (λ (x : Coordinator). answerOf x (readStep n m size (buffered old blocks stripe) clock brick)) old-is ∙ ap (λ (x : Buffered). answerOf (here .state) (readStep n m size x clock brick)) same)
+        (returned-answer old blocks stripe blocks _ a blocks stripe blocks (ea blocks stripe blocks) ∙ ap
+        (λ (x : Coordinator). answerOf x (readStep n m size (buffered old blocks stripe) clock brick)) old-is ∙ ap
+        (λ (x : Buffered). answerOf (here .state) (readStep n m size x clock brick)) same)
         (blocks-are ∙ sym (read-blocks n m size here clock brick)) (stripe-is ∙ sym (read-stripe n m size here clock brick)) (sym (read-coded n m size here clock brick blocks)) h
 
     pub acted-crash : (a : Answer)
-        → ((x y : List ℕ) → a ≡ answerOf old (crashStep (b .settings .n) (b .settings .m) (b .settings .size) (buffered old x y)))
+        → ((x y z : List ℕ) → returned a x y z ≡ crashCall (b .settings .n) (b .settings .m) (b .settings .size) old x y z)
         → Answers b c a blocks stripe blocks kept numbers bytes at out r kept′ numbers′ bytes′ out′
         → BenchActed b c (crashes c untouched) (λ (h : Buffered). crashStep (b .settings .n) (b .settings .m) (b .settings .size) h) kept numbers bytes at out r kept′ numbers′ bytes′ out′
     unfolding step worldIn worldOf
@@ -131,39 +136,44 @@ module _ (b : Bench) (c : ℕ) (kept numbers bytes : List ℕ) (at : ℕ) (out :
         acted-by (crashes c untouched) (λ (x : Buffered). crashStep n m size x) a blocks stripe blocks blocks
         (λ images. ap (coordinated (b .settings) (worldIn b (lent images kept numbers bytes)) c) (left-untouched (b .settings) (crashStep n m size here)))
         (crash-short n m size here) (crash-numbered n m size here)
-        (ea blocks stripe ∙ ap (λ (x : Coordinator). answerOf x (crashStep n m size (buffered old blocks stripe))) old-is ∙ ap (λ (x : Buffered). answerOf (here .state) (crashStep n m size x)) same)
+        (returned-answer old blocks stripe blocks _ a blocks stripe blocks (ea blocks stripe blocks) ∙ ap (λ (x : Coordinator). answerOf x (crashStep n m size (buffered old blocks stripe)))
+        old-is ∙ ap (λ (x : Buffered). answerOf (here .state) (crashStep n m size x)) same)
         (blocks-are ∙ sym (crash-blocks n m size here)) (stripe-is ∙ sym (crash-stripe n m size here)) (sym (crash-coded n m size here blocks)) h
 
     pub acted-write : (clock : ℕ) (content : List ℕ) (small : Bytes content) (a : Answer) (stripe′ : List ℕ)
-        → ((x : List ℕ) → a ≡ answerOf old (writeStep (b .settings .n) (b .settings .m) (b .settings .size) (buffered old x stripe) clock content))
-        → ((x : List ℕ) → stripe′ ≡ stripeAfter (buffered old x stripe) (writeStep (b .settings .n) (b .settings .m) (b .settings .size) (buffered old x stripe) clock content))
+        → ((x z : List ℕ) → returned a x stripe′ z ≡ writeCall (b .settings .n) (b .settings .m) (b .settings .size) old x stripe z clock content)
         → Answers b c a blocks stripe′ blocks kept numbers bytes at out r kept′ numbers′ bytes′ out′
-        → BenchActed b c (startWrite c clock content small) (λ (h : Buffered). writeStep (b .settings .n) (b .settings .m) (b .settings .size) h clock content) kept numbers bytes at out r kept′ numbers′ bytes′ out′
+        → BenchActed b c (startWrite c clock content small) (λ (h : Buffered). writeStep (b .settings .n) (b .settings .m) (b .settings .size) h clock content) kept numbers bytes at out r kept′
+        numbers′ bytes′ out′
     unfolding step worldIn worldOf
-    acted-write clock content small a stripe′ ea ew h =
+    acted-write clock content small a stripe′ ea h =
         let n = b .settings .n in
         let m = b .settings .m in
         let size = b .settings .size in
         acted-by (startWrite c clock content small) (λ (x : Buffered). writeStep n m size x clock content) a blocks stripe′ blocks blocks (λ images. refl)
         (write-short n m size here clock content) (write-numbered n m size here clock content)
-        (ea blocks ∙ ap (λ (x : Coordinator). answerOf x (writeStep n m size (buffered old blocks stripe) clock content)) old-is ∙ ap (λ (x : Buffered). answerOf (here .state) (writeStep n m size x clock content)) same)
-        (blocks-are ∙ sym (write-blocks n m size here clock content)) (ew blocks ∙ ap (λ (x : Buffered). stripeAfter x (writeStep n m size x clock content)) same)
+        (returned-answer old blocks stripe blocks _ a blocks stripe′ blocks (ea blocks blocks) ∙ ap
+        (λ (x : Coordinator). answerOf x (writeStep n m size (buffered old blocks stripe) clock content)) old-is ∙ ap
+        (λ (x : Buffered). answerOf (here .state) (writeStep n m size x clock content)) same)
+        (blocks-are ∙ sym (write-blocks n m size here clock content))
+        (returned-stripe old blocks stripe blocks _ a blocks stripe′ blocks (ea blocks blocks) ∙ ap (λ (x : Buffered). stripeAfter x (writeStep n m size x clock content)) same)
         (sym (write-coded n m size here clock content blocks)) h
 
     -- a write with a wrong count of digits, after the numbers of its start
-    pub short-write : (clock : ℕ) (digits cont : List ℕ) (a : Answer) (ok : Bool) → cont ≡ content (b .settings) digits → ok ≡ counted (b .settings) digits
-        → ((x : List ℕ) → a ≡ answerOf old (writeStep (b .settings .n) (b .settings .m) (b .settings .size) (buffered old x stripe) clock cont))
+    pub short-write : (clock : ℕ) (digits cont : List ℕ) (a : Answer) (ok : Bool) (stripe″ : List ℕ) → cont ≡ content (b .settings) digits → ok ≡ counted (b .settings) digits
+        → ((x z : List ℕ) → returned a x stripe″ z ≡ writeCall (b .settings .n) (b .settings .m) (b .settings .size) old x stripe z clock cont)
         → eqb (a .refusal) 0 && not ok ≡ true → ((l : Lent) → Turned b l at out (refuses (worldIn b l) 12) r l out′)
         → BenchActed b c (startWrite c clock (content (b .settings) digits) (content-small (b .settings) digits))
         (λ (h : Buffered). unlessShort (counted (b .settings) digits) (writeStep (b .settings .n) (b .settings .m) (b .settings .size) h clock (content (b .settings) digits)))
         kept numbers bytes at out r kept numbers bytes out′
     unfolding worldIn worldOf
-    short-write clock digits cont a ok e eo′ ea q t =
+    short-write clock digits cont a ok stripe″ e eo′ ea q t =
         let n = b .settings .n in
         let m = b .settings .m in
         let size = b .settings .size in
         let step-is =
-        ea blocks ∙ ap (λ (x : List ℕ). answerOf old (writeStep n m size (buffered old blocks stripe) clock x)) e
+        returned-answer old blocks stripe blocks _ a blocks stripe″ blocks (ea blocks blocks)
+        ∙ ap (λ (x : List ℕ). answerOf old (writeStep n m size (buffered old blocks stripe) clock x)) e
         ∙ ap (λ (x : Coordinator). answerOf x (writeStep n m size (buffered old blocks stripe) clock (content (b .settings) digits))) old-is
         ∙ ap (λ (x : Buffered). answerOf (here .state) (writeStep n m size x clock (content (b .settings) digits))) same
         in
@@ -179,21 +189,20 @@ module _ (b : Bench) (c : ℕ) (kept numbers bytes : List ℕ) (at : ℕ) (out :
 
     -- and any other
     pub whole-write : (clock : ℕ) (digits cont : List ℕ) (a : Answer) (ok : Bool) (stripe′ : List ℕ) → cont ≡ content (b .settings) digits → ok ≡ counted (b .settings) digits
-        → ((x : List ℕ) → a ≡ answerOf old (writeStep (b .settings .n) (b .settings .m) (b .settings .size) (buffered old x stripe) clock cont))
-        → ((x : List ℕ) → stripe′ ≡ stripeAfter (buffered old x stripe) (writeStep (b .settings .n) (b .settings .m) (b .settings .size) (buffered old x stripe) clock cont))
+        → ((x z : List ℕ) → returned a x stripe′ z ≡ writeCall (b .settings .n) (b .settings .m) (b .settings .size) old x stripe z clock cont)
         → eqb (a .refusal) 0 && not ok ≡ false
         → Answers b c a blocks stripe′ blocks kept numbers bytes at out r kept′ numbers′ bytes′ out′
         → BenchActed b c (startWrite c clock (content (b .settings) digits) (content-small (b .settings) digits))
         (λ (h : Buffered). unlessShort (counted (b .settings) digits) (writeStep (b .settings .n) (b .settings .m) (b .settings .size) h clock (content (b .settings) digits)))
         kept numbers bytes at out r kept′ numbers′ bytes′ out′
     unfolding worldIn worldOf
-    whole-write clock digits cont a ok stripe′ e eo′ ea ew q h =
+    whole-write clock digits cont a ok stripe′ e eo′ ea q h =
         let n = b .settings .n in
         let m = b .settings .m in
         let size = b .settings .size in
         let cs = content (b .settings) digits in
         let step-is =
-        ea blocks
+        returned-answer old blocks stripe blocks _ a blocks stripe′ blocks (ea blocks blocks)
         ∙ ap (λ (y : List ℕ). answerOf old (writeStep n m size (buffered old blocks stripe) clock y)) e
         ∙ ap (λ (x : Coordinator). answerOf x (writeStep n m size (buffered old blocks stripe) clock cs)) old-is
         ∙ ap (λ (x : Buffered). answerOf (here .state) (writeStep n m size x clock cs)) same
@@ -206,21 +215,18 @@ module _ (b : Bench) (c : ℕ) (kept numbers bytes : List ℕ) (at : ℕ) (out :
               (acts (b .settings) (worldIn b (lent images kept numbers bytes)) (startWrite c clock cs (content-small (b .settings) digits)) c x) r (lent images kept′ numbers′ bytes′) out′)
               (sym (short-same (here .state) (writeStep n m size here clock cs) a (counted (b .settings) digits) step-is (ap (λ (x : Bool). eqb (a .refusal) 0 && not x) (sym eo′) ∙ q)))
               (acted-write clock cs (content-small (b .settings) digits) a stripe′
-              (λ (x : List ℕ). ea x ∙ ap (λ (y : List ℕ). answerOf old (writeStep n m size (buffered old x stripe) clock y)) e)
-              (λ (x : List ℕ). ew x ∙ ap (λ (y : List ℕ). stripeAfter (buffered old x stripe) (writeStep n m size (buffered old x stripe) clock y)) e) h .turned images);
+              (λ (x z : List ℕ). ea x z ∙ ap (λ (y : List ℕ). writeCall n m size old x stripe z clock y) e) h .turned images);
         }
 
     -- a reply in row k
     pub acted-reply : (k : ℕ) (reply′ : Reply) (block : List ℕ) (a : Answer) (coded blocks′ stripe′ coded′ : List ℕ) → k < b .sent
         → itemAt (b .settings .size) numbers bytes k ≡ reply reply′ block → c ≡ reply′ .time % 16 → length coded ≡ b .settings .n * b .settings .size
-        → a ≡ answerOf old (takeStep (b .settings .n) (b .settings .m) (b .settings .size) (buffered old blocks stripe) reply′ block (length coded))
-        → blocks′ ≡ blocksAfter (buffered old blocks stripe) (takeStep (b .settings .n) (b .settings .m) (b .settings .size) (buffered old blocks stripe) reply′ block (length coded))
-        → stripe′ ≡ stripeAfter (buffered old blocks stripe) (takeStep (b .settings .n) (b .settings .m) (b .settings .size) (buffered old blocks stripe) reply′ block (length coded))
-        → coded′ ≡ codedAfter coded (takeStep (b .settings .n) (b .settings .m) (b .settings .size) (buffered old blocks stripe) reply′ block (length coded))
+        → returned a blocks′ stripe′ coded′ ≡ takeCall (b .settings .n) (b .settings .m) (b .settings .size) old blocks stripe coded reply′ block
         → Answers b c a blocks′ stripe′ coded′ kept numbers bytes at out r kept′ numbers′ bytes′ out′
-        → BenchActed b c (arrives k) (λ (h : Buffered). takeStep (b .settings .n) (b .settings .m) (b .settings .size) h reply′ block (b .settings .n * b .settings .size)) kept numbers bytes at out r kept′ numbers′ bytes′ out′
+        → BenchActed b c (arrives k) (λ (h : Buffered). takeStep (b .settings .n) (b .settings .m) (b .settings .size) h reply′ block (b .settings .n * b .settings .size)) kept numbers bytes at
+        out r kept′ numbers′ bytes′ out′
     unfolding step worldIn worldOf arriving
-    acted-reply k reply′ block a coded blocks′ stripe′ coded′ l item ec long ea eb′ es′ ec′ h =
+    acted-reply k reply′ block a coded blocks′ stripe′ coded′ l item ec long ea h =
         let n = b .settings .n in
         let m = b .settings .m in
         let size = b .settings .size in
@@ -229,29 +235,31 @@ module _ (b : Bench) (c : ℕ) (kept numbers bytes : List ℕ) (at : ℕ) (out :
         (λ images.
         arrives-item (b .settings) (worldIn b (lent images kept numbers bytes)) size numbers bytes (b .sent) k l
         ∙ ap (arriving (b .settings) (worldIn b (lent images kept numbers bytes))) item
-        ∙ ap (λ (j : ℕ). coordinated (b .settings) (worldIn b (lent images kept numbers bytes)) j (takeStep n m size (coordinatorKept (b .settings) (b .coordinators) kept j) reply′ block (n * size))) (sym ec))
+        ∙ ap (λ (j : ℕ). coordinated (b .settings) (worldIn b (lent images kept numbers bytes)) j
+        (takeStep n m size (coordinatorKept (b .settings) (b .coordinators) kept j) reply′ block (n * size))) (sym ec))
         (take-short n m size here reply′ block (n * size)) (take-numbered n m size here reply′ block (n * size))
-        (ea ∙ ap (λ (x : Coordinator). answerOf x (takeStep n m size (buffered old blocks stripe) reply′ block (length coded))) old-is ∙ ap (answerOf (here .state)) q)
-        (eb′ ∙ ap (λ (x : Buffered). blocksAfter x (takeStep n m size (buffered old blocks stripe) reply′ block (length coded))) same ∙ ap (blocksAfter here) q)
-        (es′ ∙ ap (λ (x : Buffered). stripeAfter x (takeStep n m size (buffered old blocks stripe) reply′ block (length coded))) same ∙ ap (stripeAfter here) q)
-        (ec′ ∙ ap (codedAfter coded) q) h
+        (returned-answer old blocks stripe coded _ a blocks′ stripe′ coded′ ea ∙ ap
+        (λ (x : Coordinator). answerOf x (takeStep n m size (buffered old blocks stripe) reply′ block (length coded))) old-is ∙ ap (answerOf (here .state)) q)
+        (returned-blocks old blocks stripe coded _ a blocks′ stripe′ coded′ ea ∙ ap
+        (λ (x : Buffered). blocksAfter x (takeStep n m size (buffered old blocks stripe) reply′ block (length coded))) same ∙ ap (blocksAfter here) q)
+        (returned-stripe old blocks stripe coded _ a blocks′ stripe′ coded′ ea ∙ ap
+        (λ (x : Buffered). stripeAfter x (takeStep n m size (buffered old blocks stripe) reply′ block (length coded))) same ∙ ap (stripeAfter here) q)
+        (returned-coded old blocks stripe coded _ a blocks′ stripe′ coded′ ea ∙ ap (codedAfter coded) q) h
 
     -- the same, by what the code read from the row
     pub acted-row : (k : ℕ) (reply′ : Reply) (cut : List ℕ) (a : Answer) (coded blocks′ stripe′ coded′ : List ℕ) → k < b .sent
         → isReply numbers k ≡ true → reply′ ≡ replyAt numbers k → cut ≡ sentBlockAt (b .settings .size) bytes k
         → c ≡ reply′ .time % 16 → length coded ≡ b .settings .n * b .settings .size
-        → a ≡ answerOf old (takeStep (b .settings .n) (b .settings .m) (b .settings .size) (buffered old blocks stripe) reply′ cut (length coded))
-        → blocks′ ≡ blocksAfter (buffered old blocks stripe) (takeStep (b .settings .n) (b .settings .m) (b .settings .size) (buffered old blocks stripe) reply′ cut (length coded))
-        → stripe′ ≡ stripeAfter (buffered old blocks stripe) (takeStep (b .settings .n) (b .settings .m) (b .settings .size) (buffered old blocks stripe) reply′ cut (length coded))
-        → coded′ ≡ codedAfter coded (takeStep (b .settings .n) (b .settings .m) (b .settings .size) (buffered old blocks stripe) reply′ cut (length coded))
+        → returned a blocks′ stripe′ coded′ ≡ takeCall (b .settings .n) (b .settings .m) (b .settings .size) old blocks stripe coded reply′ cut
         → Answers b c a blocks′ stripe′ coded′ kept numbers bytes at out r kept′ numbers′ bytes′ out′
         → BenchActed b c (arrives k)
         (λ (h : Buffered). takeStep (b .settings .n) (b .settings .m) (b .settings .size) h reply′ (sentBlockAt (b .settings .size) bytes k) (b .settings .n * b .settings .size))
         kept numbers bytes at out r kept′ numbers′ bytes′ out′
-    acted-row k reply′ cut a coded blocks′ stripe′ coded′ l t er e ec long ea eb′ es′ ec′ h =
+    acted-row k reply′ cut a coded blocks′ stripe′ coded′ l t er e ec long ea h =
         subst
-        (λ (x : List ℕ). BenchActed b c (arrives k) (λ (h : Buffered). takeStep (b .settings .n) (b .settings .m) (b .settings .size) h reply′ x (b .settings .n * b .settings .size)) kept numbers bytes at out r kept′ numbers′ bytes′ out′)
-        e (acted-reply k reply′ cut a coded blocks′ stripe′ coded′ l (item-reply (b .settings .size) k reply′ cut numbers bytes t er e) ec long ea eb′ es′ ec′ h)
+        (λ (x : List ℕ). BenchActed b c (arrives k) (λ (h : Buffered). takeStep (b .settings .n) (b .settings .m) (b .settings .size) h reply′ x (b .settings .n * b .settings .size)) kept
+        numbers bytes at out r kept′ numbers′ bytes′ out′)
+        e (acted-reply k reply′ cut a coded blocks′ stripe′ coded′ l (item-reply (b .settings .size) k reply′ cut numbers bytes t er e) ec long ea h)
 
 module _ (b : Bench) (c : ℕ) (kept numbers bytes : List ℕ) (at : ℕ) (out : List ℕ) (r : After) where
   -- a coordinator past the bench's
@@ -324,4 +332,5 @@ module _ (b : Bench) (k : ℕ) (kept numbers bytes : List ℕ) (at : ℕ) (out :
   reply-here kept′ numbers′ bytes′ out′ h a =
       subst (λ (i : Item). Plays b (λ (w : World). carries (b .settings) w k i) kept numbers bytes at out r kept′ numbers′ bytes′ out′) (sym item-here)
       (here-at b (reply′ .time % 16) kept numbers bytes at out r (arrives k)
-      (λ (x : Buffered). takeStep (b .settings .n) (b .settings .m) (b .settings .size) x reply′ (sentBlockAt (b .settings .size) bytes k) (b .settings .n * b .settings .size)) kept′ numbers′ bytes′ out′ h a)
+      (λ (x : Buffered). takeStep (b .settings .n) (b .settings .m) (b .settings .size) x reply′ (sentBlockAt (b .settings .size) bytes k) (b .settings .n * b .settings .size)) kept′ numbers′
+      bytes′ out′ h a)

@@ -1,20 +1,21 @@
--- Laws of `specs/AnswerLaws`.
+-- What a committed answer does: refused, too many messages, or kept, sent and printed.
 use mathlib.Core.Path.{_≡_, refl, sym, ap, ap₂, subst, _∙_}
-use mathlib.Core.Bool.{Bool, true, false, cond}
-use mathlib.Core.List.{List, [], _∷_, append-nil}
+use mathlib.Core.Bool.{cond}
+use mathlib.Core.List.{List, [], _∷_, _++_, append-nil, append-assoc}
 use Prim.Native.Nat.{ℕ, zero, suc, _+_, _*_, _≤_, _<_}
 use native.Mathlib.Omega.{arith}
-use lib.Dec.{eqb, leb}
+use native.Mathlib.Nat.{mul-le-mul-right}
+use lib.Dec.{leb}
 use lib.ListN.{length, set, take, replicate, length-append, length-replicate, getD-replicate}
 use lib.Seq.{ext-getD, length-take-le, getD-take}
 use borrow.Author.Tests.{eq-eqb, ne-eqb, le-leb, lt-leb}
 use Rattle.settings.specs.declared.Settings.{Settings}
 use Rattle.message.specs.declared.Message.{Message}
-use Rattle.coord_apply.specs.Answers.{Buffered, Broadcast, Step, refused, went, answerOf, blocksAfter, stripeAfter, codedAfter}
+use Rattle.coord_apply.specs.Answers.{Buffered, Broadcast, Step, refused, went, mostBroadcasts, answerOf, blocksAfter, stripeAfter, codedAfter}
 use Rattle.coord_apply.specs.declared.Answer.{Answer}
-use Rattle.register.specs.Driver.{driven, Short}
+use Rattle.register.specs.Driver.{driven, listed, Short}
 use Rattle.register.proofs.Laws.DriverLaws.{coordinated-is-driven}
-use Rattle.register.specs.Runs.{Item, World, Event, Moved, step, coordinated, toAll}
+use Rattle.register.specs.Runs.{Item, World, Event, Moved, step, coordinated, toAll, broadcasts}
 use Rattle.bench_print.specs.Printing.{endedText, written}
 use Rattle.bench_sent.proofs.Laws.SentItemLaws.{items-length}
 use Rattle.bench_sent.specs.Sent.{itemsOf}
@@ -24,7 +25,7 @@ use Rattle.bench_state.specs.State.{worldOf, coordinatorKept}
 use Rattle.bench_state.specs.Workers.{withCoordinator, keptWith}
 use Rattle.bench_state.proofs.Laws.StateLaws.{held-put}
 use Rattle.bench_state.specs.declared.Bench.{Bench}
-use Rattle.bench_rules.specs.Play.{refuses, happens, acts}
+use Rattle.bench_rules.specs.Play.{lastMessage, refuses, happens, acts}
 use Rattle.bench_rules.specs.Turning.{Lent, lent, worldIn}
 use Rattle.bench_rules.specs.Workers.{Turned}
 use Rattle.bench_rules.specs.declared.After.{After}
@@ -45,44 +46,87 @@ answered-is-acts s w e c (went g) old h n q =
     ap (λ (m : Moved s). cond (leb (length (m .world .sent)) 127) (record { world = m .world; events = e ∷ []; printed = endedText c (g .seen) (g .next .stripe) }) (refuses w 12))
     (sym (coordinated-is-driven s w c (went g) old h) ∙ sym q)
 
-pub round-none : (s : Settings) (sent rounds : ℕ) (msg : Message) (coded numbers bytes : List ℕ) → rounds ≡ 0 → Round s sent rounds msg coded numbers bytes numbers bytes
-unfolding sentAfterAnswer
-round-none s sent rounds msg coded numbers bytes e =
-    record { items = rw (eq-eqb rounds 0 e) (sym (append-nil (itemsOf (s .size) numbers bytes sent))) }
+-- no broadcast, one, or two
+module _ (s : Settings) (sent count : ℕ) (first second : Message) (coded numbers bytes : List ℕ) where
+  by-count : (k : ℕ) (numbers′ bytes′ : List ℕ) → count ≡ k → Round s sent k first second coded numbers bytes numbers′ bytes′
+      → Round s sent count first second coded numbers bytes numbers′ bytes′
+  by-count k numbers′ bytes′ e h = subst (λ (j : ℕ). Round s sent j first second coded numbers bytes numbers′ bytes′) (sym e) h
 
-pub round-one : (s : Settings) (sent rounds : ℕ) (msg : Message) (coded numbers bytes numbers′ bytes′ : List ℕ) → (rounds ≡ 0 → ⊥)
-    → Sends sent (s .n) (s .size) msg coded numbers bytes numbers′ bytes′ → Round s sent rounds msg coded numbers bytes numbers′ bytes′
-unfolding sentAfterAnswer
-round-one s sent rounds msg coded numbers bytes numbers′ bytes′ e h = record { items = rw (ne-eqb rounds 0 e) (h .items s refl) }
+  pub round-none : count ≡ 0 → Round s sent count first second coded numbers bytes numbers bytes
+  unfolding sentAfterAnswer listed broadcasts
+  round-none e =
+      by-count 0 numbers bytes e (record {
+        items =
+            ap (itemsOf (s .size) numbers bytes) (let z : sent + 0 * s .n ≡ sent = omega arith in z)
+            ∙ sym (append-nil (itemsOf (s .size) numbers bytes sent));
+      })
 
-pub sent-none : (n sent rounds : ℕ) → rounds ≡ 0 → sent ≡ sentAfterAnswer n sent rounds
-unfolding sentAfterAnswer
-sent-none n sent rounds e = rw (eq-eqb rounds 0 e) refl
+  module _ (numbers′ bytes′ : List ℕ) (h : Sends sent (s .n) (s .size) first coded numbers bytes numbers′ bytes′) where
+    pub round-one : count ≡ 1 → Round s sent count first second coded numbers bytes numbers′ bytes′
+    unfolding sentAfterAnswer listed broadcasts
+    round-one e =
+        by-count 1 numbers′ bytes′ e (record {
+          items =
+              ap (itemsOf (s .size) numbers′ bytes′) (let z : sent + 1 * s .n ≡ sent + s .n = omega arith in z)
+              ∙ h .items s refl
+              ∙ ap (λ (l : List Item). itemsOf (s .size) numbers bytes sent ++ l)
+              (sym (append-nil (toAll s (record { message = first; blocks = coded }) (s .n))));
+        })
 
-pub sent-more : (n sent rounds : ℕ) → (rounds ≡ 0 → ⊥) → sent + n ≡ sentAfterAnswer n sent rounds
+    pub round-two : (numbers″ bytes″ : List ℕ) → Sends (sent + s .n) (s .n) (s .size) second coded numbers′ bytes′ numbers″ bytes″ → count ≡ 2
+        → Round s sent count first second coded numbers bytes numbers″ bytes″
+    unfolding sentAfterAnswer listed broadcasts
+    round-two numbers″ bytes″ k e =
+        let one = toAll s (record { message = first; blocks = coded }) (s .n) in
+        let two = toAll s (record { message = second; blocks = coded }) (s .n) in
+        by-count 2 numbers″ bytes″ e (record {
+          items =
+              ap (itemsOf (s .size) numbers″ bytes″) (let z : sent + 2 * s .n ≡ sent + s .n + s .n = omega arith in z)
+              ∙ k .items s refl
+              ∙ ap (λ (l : List Item). l ++ two) (h .items s refl)
+              ∙ append-assoc (itemsOf (s .size) numbers bytes sent) one two
+              ∙ ap (λ (l : List Item). itemsOf (s .size) numbers bytes sent ++ (one ++ l)) (sym (append-nil two));
+        })
+
+-- so many messages fit where those of all broadcasts do
+pub sent-fits : (n sent count k : ℕ) → k ≤ count → sentAfterAnswer n sent count ≤ lastMessage → sent + k * n ≤ lastMessage
 unfolding sentAfterAnswer
-sent-more n sent rounds e = rw (ne-eqb rounds 0 e) refl
+sent-fits n sent count k l h = let m = mul-le-mul-right n l in omega arith
+
+pub sent-bound : (n count : ℕ) → count ≤ mostBroadcasts → count * n ≤ mostBroadcasts * n
+sent-bound n count h = mul-le-mul-right n h
 
 to-all-length : (s : Settings) (b : Broadcast) (k : ℕ) → length (toAll s b k) ≡ k
 unfolding toAll
 to-all-length s b zero = refl
 to-all-length s b (suc k) = length-append (toAll s b k) _ ∙ (let e = to-all-length s b k in omega arith)
 
+-- what an answer lists goes to n bricks each
+listed-length : (s : Settings) (k : ℕ) (first second : Message) (coded : List ℕ) → k ≤ mostBroadcasts
+    → length (broadcasts s (listed k first second coded)) ≡ k * s .n
+unfolding listed broadcasts
+listed-length s zero first second coded h = omega arith
+listed-length s (suc zero) first second coded h =
+    let e = to-all-length s (record { message = first; blocks = coded }) (s .n) in
+    length-append (toAll s (record { message = first; blocks = coded }) (s .n)) [] ∙ (omega arith)
+listed-length s (suc (suc zero)) first second coded h =
+    let e = to-all-length s (record { message = first; blocks = coded }) (s .n) in
+    let f = to-all-length s (record { message = second; blocks = coded }) (s .n) in
+    let g = length-append (toAll s (record { message = second; blocks = coded }) (s .n)) [] in
+    length-append (toAll s (record { message = first; blocks = coded }) (s .n)) _ ∙ (omega arith)
+listed-length s (suc (suc (suc k))) first second coded h = absurd (omega arith)
+
 -- the number of messages is known before anything is sent
 module _ (b : Bench) (l : Lent) (e : Event) (c : ℕ) (a : Answer) (blocks stripe coded : List ℕ) where
   abbrev made : World
   made = driven (b .settings) (worldIn b l) c a blocks stripe coded .world
 
-  made-sent : length (made .sent) ≡ sentAfterAnswer (b .settings .n) (b .sent) (a .sent)
+  made-sent : a .sent ≤ mostBroadcasts → length (made .sent) ≡ sentAfterAnswer (b .settings .n) (b .sent) (a .sent)
   unfolding driven worldIn worldOf sentAfterAnswer
-  made-sent =
+  made-sent h =
       length-append (itemsOf (b .settings .size) (l .numbers) (l .bytes) (b .sent)) _
-      ∙ ap (λ (k : ℕ). k + length (cond (eqb (a .sent) 0) [] (toAll (b .settings) (record { message = a .message; blocks = coded }) (b .settings .n)))) (items-length (b .settings .size) (l .numbers) (l .bytes) (b .sent))
-      ∙ go (eqb (a .sent) 0)
-    where
-      go : (t : Bool) → b .sent + length (cond t [] (toAll (b .settings) (record { message = a .message; blocks = coded }) (b .settings .n))) ≡ cond t (b .sent) (b .sent + b .settings .n)
-      go true = omega arith
-      go false = let q = to-all-length (b .settings) (record { message = a .message; blocks = coded }) (b .settings .n) in omega arith
+      ∙ ap₂ _+_ (items-length (b .settings .size) (l .numbers) (l .bytes) (b .sent))
+      (listed-length (b .settings) (a .sent) (a .message) (a .second) coded h)
 
   -- refused with its number
   pub answered-refused : (at : ℕ) (out out′ : List ℕ) (r : After) → (a .refusal ≡ 0 → ⊥)
@@ -91,24 +135,25 @@ module _ (b : Bench) (l : Lent) (e : Event) (c : ℕ) (a : Answer) (blocks strip
   answered-refused at out out′ r n t = rw (ne-eqb (a .refusal) 0 n) t
 
   -- too many messages
-  pub answered-past : (at sent : ℕ) (out out′ : List ℕ) (r : After) → a .refusal ≡ 0 → sent ≡ sentAfterAnswer (b .settings .n) (b .sent) (a .sent) → 127 < sent
+  pub answered-past : (at sent : ℕ) (out out′ : List ℕ) (r : After) → a .sent ≤ mostBroadcasts → a .refusal ≡ 0 → sent ≡ sentAfterAnswer (b .settings .n) (b .sent) (a .sent) → 127 < sent
       → Turned b l at out (refuses (worldIn b l) 12) r l out′ → Turned b l at out (answered (b .settings) (worldIn b l) e c a blocks stripe coded) r l out′
   unfolding answered
-  answered-past at sent out out′ r z q h t =
-      rw (eq-eqb (a .refusal) 0 z, lt-leb (length (made .sent)) 127 (let m = made-sent in omega arith)) t
+  answered-past at sent out out′ r most z q h t =
+      rw (eq-eqb (a .refusal) 0 z, lt-leb (length (made .sent)) lastMessage (let m = made-sent most in omega arith)) t
 
   -- kept, sent and printed
-  pub answered-kept : (at sent used : ℕ) (out out′ kept′ numbers′ bytes′ : List ℕ) → a .refusal ≡ 0 → sent ≡ sentAfterAnswer (b .settings .n) (b .sent) (a .sent) → sent ≤ 127
+  pub answered-kept : (at sent used : ℕ) (out out′ kept′ numbers′ bytes′ : List ℕ) → a .sent ≤ mostBroadcasts → a .refusal ≡ 0 → sent ≡ sentAfterAnswer (b .settings .n) (b .sent) (a .sent) →
+      sent ≤ 127
       → Fits (b .settings) → c < 4 → length (b .coordinators) ≡ 4 → length (l .kept) ≡ 256
       → length blocks ≡ b .settings .n * b .settings .size → length stripe ≡ b .settings .m * b .settings .size
-      → Round (b .settings) (b .sent) (a .sent) (a .message) coded (l .numbers) (l .bytes) numbers′ bytes′
+      → Round (b .settings) (b .sent) (a .sent) (a .message) (a .second) coded (l .numbers) (l .bytes) numbers′ bytes′
       → kept′ ≡ keptWith c blocks stripe (l .kept)
       → used ≡ at + length (endedText c (a .seen) stripe) → out′ ≡ written at (endedText c (a .seen) stripe) out → used ≤ at + 128
       → Turned b l at out (answered (b .settings) (worldIn b l) e c a blocks stripe coded) (record { bench = withCoordinator b c (a .next) sent; used = used })
       (lent (l .images) kept′ numbers′ bytes′) out′
   unfolding answered withCoordinator worldIn worldOf driven
-  answered-kept at sent used out out′ kept′ numbers′ bytes′ z q few fits low four long eb es round ek eu eo short =
-      rw (eq-eqb (a .refusal) 0 z, le-leb (length (made .sent)) 127 (let m = made-sent in omega arith))
+  answered-kept at sent used out out′ kept′ numbers′ bytes′ most z q few fits low four long eb es round ek eu eo short =
+      rw (eq-eqb (a .refusal) 0 z, le-leb (length (made .sent)) lastMessage (let m = made-sent most in omega arith))
       (record {
         world-is = ap₂ make
             (ap (coordinatorKept (b .settings) (set (b .coordinators) c (a .next))) ek ∙ held-put (b .settings) (fits .small) (b .coordinators) (l .kept) blocks stripe c (a .next) low four long eb es)
@@ -130,26 +175,26 @@ module _ (b : Bench) (c : ℕ) (a : Answer) (blocks stripe coded kept numbers by
   answers-refused out′ r n t =
       record { turned = λ images e. answered-refused b (lent images kept numbers bytes) e c a blocks stripe coded at out out′ r n (t (lent images kept numbers bytes)) }
 
-  pub answers-past : (sent : ℕ) (out′ : List ℕ) (r : After) → a .refusal ≡ 0 → sent ≡ sentAfterAnswer (b .settings .n) (b .sent) (a .sent) → 127 < sent
+  pub answers-past : (sent : ℕ) (out′ : List ℕ) (r : After) → a .sent ≤ mostBroadcasts → a .refusal ≡ 0 → sent ≡ sentAfterAnswer (b .settings .n) (b .sent) (a .sent) → 127 < sent
       → ((l : Lent) → Turned b l at out (refuses (worldIn b l) 12) r l out′) → Answers b c a blocks stripe coded kept numbers bytes at out r kept numbers bytes out′
-  answers-past sent out′ r z q h t =
-      record { turned = λ images e. answered-past b (lent images kept numbers bytes) e c a blocks stripe coded at sent out out′ r z q h (t (lent images kept numbers bytes)) }
+  answers-past sent out′ r most z q h t =
+      record { turned = λ images e. answered-past b (lent images kept numbers bytes) e c a blocks stripe coded at sent out out′ r most z q h (t (lent images kept numbers bytes)) }
 
   pub answers-kept : (sent used : ℕ) (bench : Bench) (out′ kept′ numbers′ bytes′ : List ℕ) → Copies (b .settings) blocks stripe coded
-      → a .refusal ≡ 0 → sent ≡ sentAfterAnswer (b .settings .n) (b .sent) (a .sent) → sent ≤ 127
-      → Round (b .settings) (b .sent) (a .sent) (a .message) coded numbers bytes numbers′ bytes′
+      → a .sent ≤ mostBroadcasts → a .refusal ≡ 0 → sent ≡ sentAfterAnswer (b .settings .n) (b .sent) (a .sent) → sent ≤ 127
+      → Round (b .settings) (b .sent) (a .sent) (a .message) (a .second) coded numbers bytes numbers′ bytes′
       → kept′ ≡ keptWith c blocks stripe kept
       → used ≡ at + length (endedText c (a .seen) stripe) → out′ ≡ written at (endedText c (a .seen) stripe) out → used ≤ at + 128
       → bench ≡ withCoordinator b c (a .next) sent → length (b .coordinators) ≡ 4
       → Answers b c a blocks stripe coded kept numbers bytes at out (record { bench = bench; used = used }) kept′ numbers′ bytes′ out′
-  answers-kept sent used bench out′ kept′ numbers′ bytes′ copies z q few round ek eu eo short eb four =
+  answers-kept sent used bench out′ kept′ numbers′ bytes′ copies most z q few round ek eu eo short eb four =
       record {
         turned = λ images e.
             subst
             (λ (x : Bench). Turned b (lent images kept numbers bytes) at out (answered (b .settings) (worldIn b (lent images kept numbers bytes)) e c a blocks stripe coded)
             (record { bench = x; used = used }) (lent images kept′ numbers′ bytes′) out′)
             (sym eb)
-            (answered-kept b (lent images kept numbers bytes) e c a blocks stripe coded at sent used out out′ kept′ numbers′ bytes′ z q few (seats .fits) (seats .low) four
+            (answered-kept b (lent images kept numbers bytes) e c a blocks stripe coded at sent used out out′ kept′ numbers′ bytes′ most z q few (seats .fits) (seats .low) four
             (seats .kept-long) (copies .blocks-long) (copies .stripe-long) round ek eu eo short);
       }
 

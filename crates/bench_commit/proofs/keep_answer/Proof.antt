@@ -8,15 +8,15 @@ use Rattle.bench_commit.proofs.keep_answer.Tie as tie
 
 send-requires : tie.Need-send-requires
 send-requires c κs =
-    let s = c .before .before .before .before .before .before .before .before .before .before .before in
+    let s = c .before .before .before .before .before .before .before .before .before .before .before .before in
     let p = s .pre .0 in (
-      (p .fits .size-fits, subst (λ (k : ℕ). k ≤ 127) (s .pre .1 .1 .1) (s .pre .1 .1 .2), le-of-eq (sym (s .pre .1 .0 .coded-long))),
-      (p .numbers-long, p .bytes-long),
+      (p .fits .size-fits, subst (λ (k : ℕ). k ≤ 127) (s .pre .1 .1 .0 .1) (s .pre .1 .1 .0 .2), le-of-eq (sym (s .pre .1 .0 .coded-long))),
+      (p .numbers-long, p .bytes-long, s .pre .1 .1 .1),
     )
 
 keep-requires : tie.Need-keep-requires
 keep-requires c κs =
-    let s = c .before .before .before .before .before .before .before .before .before .before .before .before .before .before .before .before .before in
+    let s = c .before .before .before .before .before .before .before .before .before .before .before .before .before .before .before .before .before .before in
     let p = s .pre .0 in (
       (p .low, p .kept-long),
       (subst (λ (k : ℕ). k ≤ 32) (sym (s .pre .1 .0 .blocks-long)) (p .fits .small .blocks-fit), subst (λ (k : ℕ). k ≤ 32) (sym (s .pre .1 .0 .stripe-long)) (p .fits .small .stripe-fits)),
@@ -24,11 +24,12 @@ keep-requires c κs =
 
 put-ended-requires : tie.Need-put-ended-requires
 put-ended-requires c κs =
-    let s = c .before .before .before .before .before .before .before .before .before .before .before .before .before .before .before .before .before .before .before .before .before .before in
+    let s = c .before .before .before .before .before .before .before .before .before .before .before .before .before .before .before .before .before .before .before .before .before .before .before in
     (s .pre .0 .room, subst (λ (k : ℕ). k ≤ 32) (sym (s .pre .1 .0 .stripe-long)) (s .pre .0 .fits .small .stripe-fits))
 
 with-coordinator-requires : tie.Need-with-coordinator-requires
-with-coordinator-requires c κs = c .before .before .before .before .before .before .before .before .before .before .before .before .before .before .before .before .before .before .before .before .before .before .before .before .before .before .pre .0 .low
+with-coordinator-requires c κs = c .before .before .before .before .before .before .before .before .before .before .before .before .before .before .before .before .before .before .before
+    .before .before .before .before .before .before .before .before .pre .0 .low
 
 same-length : tie.Need-same-length
 same-length c = search needs
@@ -44,11 +45,13 @@ same-length-4 c = search needs
 
 returns : tie.Need-returns
 returns c =
-    let s = c .before .before .before .before .before .before .before .before .before .before .before .before .before .before .before .before .before .before .before .before .before .before .before .before .before .before .before in
+    let s = c .before .before .before .before .before .before .before .before .before .before .before .before .before .before .before .before .before .before .before .before .before .before
+    .before .before .before .before .before .before in
     let e = c .before .before .before .before .put-ended .ensures in
     answers-kept (s .args .b) (s .args .c) (s .args .a) (s .args .blocks .now) (s .args .stripe .now) (s .args .coded .now) (s .args .kept .now) (s .args .numbers .now)
-    (s .args .bytes .now) (s .args .at) (s .args .out .now) (s .pre .0) (s .args .sent) _ _ _ _ _ _ (s .pre .1 .0) (s .pre .1 .1 .0) (s .pre .1 .1 .1) (s .pre .1 .1 .2)
-    (c .before .before .before .before .before .before .before .before .before .before .before .before .before .before .before .send .ensures) (c .before .before .before .before .before .before .before .before .before .keep .ensures) (e .0) (e .1 .0) (e .1 .1) (c .with-coordinator .ensures .0) (c .with-coordinator .ensures .1)
+    (s .args .bytes .now) (s .args .at) (s .args .out .now) (s .pre .0) (s .args .sent) _ _ _ _ _ _ (s .pre .1 .0) (s .pre .1 .1 .1) (s .pre .1 .1 .0 .0) (s .pre .1 .1 .0 .1) (s .pre .1 .1 .0 .2)
+    (c .before .before .before .before .before .before .before .before .before .before .before .before .before .before .before .send .ensures)
+    (c .before .before .before .before .before .before .before .before .before .keep .ensures) (e .0) (e .1 .0) (e .1 .1) (c .with-coordinator .ensures .0) (c .with-coordinator .ensures .1)
 
 pub keep-answer-spec : {M : Type 1} → statement M
 keep-answer-spec =

@@ -1,6 +1,8 @@
 use mathlib.Core.Path.{sym, ap, subst, _∙_}
 use Prim.Native.Nat.{ℕ, _+_, _*_, _≤_}
+use mathlib.Core.List.{[]}
 use lib.ListN.{take, drop}
+use Rattle.register.proofs.Laws.DriverLaws.{few-returned, write-short}
 use Rattle.bench_commit.proofs.Laws.ActedLaws.{short-write, whole-write}
 use Rattle.bench_start.proofs.Laws.ShortLaws.{content-long, count-is, content-is}
 use borrow.Author.Needs.{needs}
@@ -53,8 +55,8 @@ returns c =
     (c .before .before .before .before .before .before .before .before .before .before .before .coordinator-at .ensures .0)
     (c .before .before .before .before .before .before .before .before .before .before .before .before .before .before .before .before .before .fetch .ensures .0 ∙ ap (λ (j : ℕ). take j (drop (s .args .c * 64) k)) (s .pre .1 .0 .blocks-long))
     (c .before .before .before .before .before .before .before .before .before .before .before .before .before .before .before .before .before .fetch .ensures .1 ∙ ap (λ (j : ℕ). take j (drop (s .args .c * 64 + 32) k)) (s .pre .1 .0 .stripe-long))
-    (s .args .clock) digits _ _ _ (content-is x digits (s .args .content .now) _ _ (s .pre .1 .1 .1) (q .0) (q .1))
-    (count-is x digits (s .args .content .now) (s .args .content .now) _ (s .pre .1 .1 .1) (q .0)) (c .before .before .before .before .before .before .before .before .start-write .ensures .0) (sym (c .before .before .before .before .before .is-short .ensures) ∙ c .before .before .before .before .if1 .taken) (c .before .before .refuse .ensures)
+    (s .args .clock) digits _ _ _ _ (content-is x digits (s .args .content .now) _ _ (s .pre .1 .1 .1) (q .0) (q .1))
+    (count-is x digits (s .args .content .now) (s .args .content .now) _ (s .pre .1 .1 .1) (q .0)) (c .before .before .before .before .before .before .before .before .start-write .ensures) (sym (c .before .before .before .before .before .is-short .ensures) ∙ c .before .before .before .before .if1 .taken) (c .before .before .refuse .ensures)
 
 commit-requires : tie.Need-commit-requires
 commit-requires c κs =
@@ -62,7 +64,7 @@ commit-requires c κs =
     let f = c .before .before .before .before .before .before .before .before .before .before .before .before .before .before .before .before .before .before .before .fetch .kept in
     let long = f .1 .1 .0 ∙ s .pre .1 .0 .blocks-long in (
       s .pre .0,
-      record { blocks-long = long; stripe-long = c .before .before .before .before .before .before .before .before .before .before .start-write .kept .1 .1 .1 .1 .1 .1 .0 ∙ f .1 .1 .1 .0 ∙ s .pre .1 .0 .stripe-long; coded-long = long },
+      (record { blocks-long = long; stripe-long = c .before .before .before .before .before .before .before .before .before .before .start-write .kept .1 .1 .1 .1 .1 .1 .0 ∙ f .1 .1 .1 .0 ∙ s .pre .1 .0 .stripe-long; coded-long = long }, few-returned _ _ _ _ _ _ _ _ _ (write-short _ _ _ _ _ _) (c .before .before .before .before .before .before .before .before .before .before .start-write .ensures [] [])),
     )
 
 same-length-6 : tie.Need-same-length-6
@@ -98,7 +100,7 @@ returns-2 c =
     (c .before .before .before .before .before .before .before .before .before .before .before .before .before .before .before .before .before .before .before .before .before .before .before .before .before .before .before .before .fetch .ensures .0 ∙ ap (λ (j : ℕ). take j (drop (s .args .c * 64) k)) (s .pre .1 .0 .blocks-long))
     (c .before .before .before .before .before .before .before .before .before .before .before .before .before .before .before .before .before .before .before .before .before .before .before .before .before .before .before .before .fetch .ensures .1 ∙ ap (λ (j : ℕ). take j (drop (s .args .c * 64 + 32) k)) (s .pre .1 .0 .stripe-long))
     (s .args .clock) digits _ _ _ _ (content-is x digits (s .args .content .now) _ _ (s .pre .1 .1 .1) (q .0) (q .1))
-    (count-is x digits (s .args .content .now) (s .args .content .now) _ (s .pre .1 .1 .1) (q .0)) (c .before .before .before .before .before .before .before .before .before .before .before .before .before .before .before .before .before .before .before .start-write .ensures .0) (c .before .before .before .before .before .before .before .before .before .before .before .before .before .before .before .before .before .before .before .start-write .ensures .1)
+    (count-is x digits (s .args .content .now) (s .args .content .now) _ (s .pre .1 .1 .1) (q .0)) (c .before .before .before .before .before .before .before .before .before .before .before .before .before .before .before .before .before .before .before .start-write .ensures)
     (sym (c .before .before .before .before .before .before .before .before .before .before .before .before .before .before .before .before .is-short .ensures) ∙ c .before .before .before .before .before .before .before .before .before .before .before .before .before .before .before .if1 .left) (c .before .before .before .before .before .before .before .before .commit .ensures)
 
 pub write-with-spec : {M : Type 1} → statement M

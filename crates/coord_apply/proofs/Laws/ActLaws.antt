@@ -1,4 +1,4 @@
--- Laws of `specs/ActLaws`.
+-- The answer and the buffers of each decision, by what the callees gave.
 use mathlib.Core.Path.{_≡_, refl, sym, ap, subst, _∙_}
 use mathlib.Core.List.{List}
 use Prim.Native.Nat.{ℕ, _*_, _≤_, _<_}
@@ -19,7 +19,7 @@ use Rattle.coord_decide.specs.declared.Decision.the-variants.{Abort, Give, Look
 use Rattle.erasure.specs.Code.{codedOf}
 use Rattle.message.specs.Kinds.{orderReadKind, writeKind}
 use Rattle.message.specs.declared.Message.{Message}
-use Rattle.settings.specs.Ranges.{CodeRange}
+use Rattle.settings.specs.Ranges.{CodeRange, maxBricks}
 use Rattle.settings.specs.Count.{count}
 use lib.ListN.{length, take}
 use Rattle.coord_tally.proofs.Laws.RowSets.{target-set, target-below, picked-set, picked-below}
@@ -97,7 +97,7 @@ target-decodes n m size first row blocks r f e er =
 pub picked-decodes : (n m size time : ℕ) (held found row blocks : List ℕ) → CodeRange n m size → m ≤ count (atTimes held found time) n
     → length blocks ≡ n * size → row ≡ picked held found time n m → PointSet (take m row) × InPlace m size row blocks
 picked-decodes n m size time held found row blocks r k e er =
-    let few : m ≤ 16 = omega (arith, r .m-high, r .n-high) in
+    let few : m ≤ maxBricks = omega (arith, r .m-high, r .n-high) in
     subst (λ (l : List ℕ). PointSet (take m l) × InPlace m size l blocks) (sym er)
     (picked-set held found time n m k few, in-place n m size (picked held found time n m) blocks e (picked-below held found time n m k few))
 

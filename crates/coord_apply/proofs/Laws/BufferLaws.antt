@@ -1,4 +1,4 @@
--- Laws of `specs/BufferLaws`.
+-- Blocks in their places: put, cut out, gathered.
 use mathlib.Core.Path.{_≡_, ap, _∙_}
 use mathlib.Core.List.{List, _++_}
 use Prim.Native.Nat.{ℕ, _+_, _-_, _*_, _≤_, _<_}
@@ -13,6 +13,7 @@ use Rattle.byte_lists.proofs.Laws.PutLaws.{put-mid}
 use Rattle.erasure.specs.Code.{blockOf}
 use Rattle.coord_apply.specs.Acts.{gathered, stripeFrom, withReplyBlock}
 use Rattle.coord_apply.specs.Workers.{InPlace}
+use Rattle.settings.specs.Ranges.{maxBricks}
 
 -- a part of the blocks replaced
 pub place-is : (size b at : ℕ) (block blocks ys : List ℕ) → length block ≡ size → at ≡ b * size → ys ≡ block
@@ -50,7 +51,7 @@ unfolding stripeFrom
 stripe-from-is m size bricks blocks row rest s l g e =
     e ∙ ap (decodedOf m size (take m bricks)) (front-is (m * size) row rest l ∙ g)
 
-pub room-enough : (m size : ℕ) → m ≤ 16 → size ≤ 256 → m * size ≤ 4096
+pub room-enough : (m size : ℕ) → m ≤ maxBricks → size ≤ 256 → m * size ≤ 4096
 room-enough m size a b = let h = mul-le-mul-right size a in omega (arith, h)
 
 -- bricks below n have their blocks among n

@@ -36,7 +36,8 @@ enum-known-d-2 : tie.Need-enum-known-d-2
 enum-known-d-2 c = search needs
 
 recover-requires : tie.Need-recover-requires
-recover-requires c κs = let s = c .before .before .before .before .before .before .before .before in (s .pre .0 .range, ((s .pre .0 .blocks-length, s .pre .0 .stripe-length), recover-enough _ _ _ _ _ _ (c .before .before .before .d2 .given .1) (s .pre .1 .1)))
+recover-requires c κs = let s = c .before .before .before .before .before .before .before .before in
+    (s .pre .0 .range, ((s .pre .0 .blocks-length, s .pre .0 .stripe-length), recover-enough _ _ _ _ _ _ (c .before .before .before .d2 .given .1) (s .pre .1 .1)))
 
 store-requires-2 : tie.Need-store-requires-2
 store-requires-2 c κs = search needs
@@ -55,7 +56,8 @@ same-length : tie.Need-same-length
 same-length c = search needs
 
 returns-2 : tie.Need-returns-2
-returns-2 c = acted-at _ _ _ _ _ _ _ _ _ _ (c .before .before .before .before .enum-told2 .given .1) (acted-give _ _ _ _ _ _ _ _ _ _ refl (c .before .before .give .ensures .1) (c .before .before .give .ensures .0))
+returns-2 c = acted-at _ _ _ _ _ _ _ _ _ _ (c .before .before .before .before .enum-told2 .given .1)
+    (acted-give _ _ _ _ _ _ _ _ _ _ refl (c .before .before .give .ensures .1) (c .before .before .give .ensures .0))
 
 returns-3 : tie.Need-returns-3
 unfolding noBricks
@@ -69,7 +71,8 @@ same-length-3 c = search needs
 
 returns-4 : tie.Need-returns-4
 unfolding noBricks
-returns-4 c = acted-at _ _ _ _ _ _ _ _ _ _ (c .before .before .before .before .before .enum-told3 .given .1) (acted-store _ _ _ _ _ _ _ _ _ (c .before .before .store .ensures .1) (c .before .before .store .ensures .0))
+returns-4 c = acted-at _ _ _ _ _ _ _ _ _ _ (c .before .before .before .before .before .enum-told3 .given .1)
+    (acted-store _ _ _ _ _ _ _ _ _ (c .before .before .store .ensures .1) (c .before .before .store .ensures .0))
 
 same-length-4 : tie.Need-same-length-4
 same-length-4 c = search needs
@@ -78,7 +81,9 @@ same-length-5 : tie.Need-same-length-5
 same-length-5 c = search needs
 
 returns-5 : tie.Need-returns-5
-returns-5 c = let r = c .before .before .before .before .before .before .before in acted-at _ _ _ _ _ _ _ _ _ _ (r .before .before .before .before .d2 .given .1) (acted-recover _ _ _ _ _ _ _ _ _ _ _ _ (r .recover .ensures .0) (stripe-by _ _ _ _ _ _ (r .recover .ensures .1) (sym (r .recover .ensures .0))) (c .before .before .store2 .ensures .1) (c .before .before .store2 .ensures .0))
+returns-5 c = let r = c .before .before .before .before .before .before .before in acted-at _ _ _ _ _ _ _ _ _ _ (r .before .before .before .before .d2 .given .1)
+    (acted-recover _ _ _ _ _ _ _ _ _ _ _ _ (r .recover .ensures .0) (stripe-by _ _ _ _ _ _ (r .recover .ensures .1) (sym (r .recover .ensures .0))) (c .before .before .store2 .ensures .1)
+    (c .before .before .store2 .ensures .0))
 
 returns-6 : tie.Need-returns-6
 returns-6 c = acted-at _ _ _ _ _ _ _ _ _ _ (c .before .enum-told4 .given .1) (acted-finish _ _ _ _ _ _ _ _ _ _ refl refl (c .finish .ensures))

@@ -29,7 +29,8 @@ gathered-length c =
 
 gathered-front : (c : tie.After-gather) →
     length (take (c .before .before .before .before .before .args .m * c .before .before .before .before .before .args .size)
-    (c .gather .last .1 .1 .1 .1 .0 ++ drop (c .before .before .before .before .before .args .m * c .before .before .before .before .before .args .size) (c .before .before .before .before .before .args .work .now)))
+    (c .gather .last .1 .1 .1 .1 .0 ++ drop (c .before .before .before .before .before .args .m * c .before .before .before .before .before .args .size)
+    (c .before .before .before .before .before .args .work .now)))
     ≡ c .before .before .before .before .before .args .m * c .before .before .before .before .before .args .size
 gathered-front c =
     let s = c .before .before .before .before .before in

@@ -6,9 +6,12 @@ use Rattle.coord_apply.proofs.end.Tie as tie
 idle-with-requires : tie.Need-idle-with-requires
 idle-with-requires c κs = search needs
 
+no-message-requires : tie.Need-no-message-requires
+no-message-requires c κs = search needs
+
 returns : tie.Need-returns
 unfolding endAnswer
 returns c = cc
 
 pub end-spec : {M : Type 1} → statement M
-end-spec = tie.close (tie.spec idle-with-requires returns)
+end-spec = tie.close (tie.spec idle-with-requires no-message-requires returns)

@@ -27,7 +27,8 @@ wide-index-requires : tie.Need-wide-index-requires Inv-loop μ-loop
 wide-index-requires c κs = search needs
 
 -- the brick's block is within the blocks, and its place within the output
-from-fits : (c : tie.After-wide-index Inv-loop μ-loop) → c .wide-index .result * c .before .before .before .before .before .args .size + c .before .before .before .before .before .args .size ≤ length (c .before .before .before .before .before .args .blocks .now)
+from-fits : (c : tie.After-wide-index Inv-loop μ-loop) → c .wide-index .result * c .before .before .before .before .before .args .size + c .before .before .before .before .before .args .size ≤
+    length (c .before .before .before .before .before .args .blocks .now)
 from-fits c =
     let s = c .before .before .before .before .before in
     block-here _ _ (c .before .before .loop .i) _ _ _ (s .pre .1) (c .before .loop-test .taken) (c .wide-index .ensures .0)

@@ -14,6 +14,9 @@ nothing-counted-requires c κs = search needs
 round-message-requires : tie.Need-round-message-requires
 round-message-requires c κs = search needs
 
+no-message-requires : tie.Need-no-message-requires
+no-message-requires c κs = search needs
+
 nothing-seen-requires : tie.Need-nothing-seen-requires
 nothing-seen-requires c κs = search needs
 
@@ -28,5 +31,5 @@ open-spec =
     next-op-requires
     nothing-counted-requires
     round-message-requires
-    nothing-seen-requires
+    no-message-requires nothing-seen-requires
     returns)

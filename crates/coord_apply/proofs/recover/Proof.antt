@@ -8,7 +8,8 @@ pick-requires : tie.Need-pick-requires
 pick-requires c κs = search needs
 
 decode-from-requires : tie.Need-decode-from-requires
-decode-from-requires c κs = let s = c .before .before .before .before .before .before in let p = s .pre in ((omega (arith, p .0 .m-high, p .0 .n-high), p .0 .size-high), (p .1 .0 .1, picked-decodes _ _ _ _ _ _ _ _ (p .0) (p .1 .1) (p .1 .0 .0) (c .before .pick .ensures)))
+decode-from-requires c κs = let s = c .before .before .before .before .before .before in let p = s .pre in
+    ((omega (arith, p .0 .m-high, p .0 .n-high), p .0 .size-high), (p .1 .0 .1, picked-decodes _ _ _ _ _ _ _ _ (p .0) (p .1 .1) (p .1 .0 .0) (c .before .pick .ensures)))
 
 same-length : tie.Need-same-length
 same-length c = search needs

@@ -16,6 +16,7 @@ use Rattle.message.specs.Flags.{member, members}
 use Rattle.message.specs.declared.Reply.{Reply}
 use Rattle.settings.specs.Count.{count}
 use Rattle.settings.specs.Times.{noUpperEnd}
+use Rattle.message.specs.Kinds.{lastRound, readKind, orderKind, orderReadKind}
 
 -- a reply that answers, test by test
 module _ (n m : ℕ) (op : Op) (t : Tally) (r : Reply) where
@@ -67,55 +68,55 @@ module _ (n m : ℕ) (op : Op) (t : Tally) where
 
 -- an Order-and-read round
 module _ (n m round : ℕ) (t : Tally) (time k : ℕ) (ek : k ≡ count (atTimes (t .held) (t .found) time) n) where
-  pub at-recover : m ≤ k → round < 1000 → Recover time ≡ decidedAt n m round t time
+  pub at-recover : m ≤ k → round < lastRound → Recover time ≡ decidedAt n m round t time
   unfolding decidedAt unlessSpent
-  at-recover a b = rw (← ek, le-leb m k a, lt-ltb round 1000 b)
+  at-recover a b = rw (← ek, le-leb m k a, lt-ltb round lastRound b)
 
-  pub at-recover-spent : m ≤ k → 1000 ≤ round → Abort ≡ decidedAt n m round t time
+  pub at-recover-spent : m ≤ k → lastRound ≤ round → Abort ≡ decidedAt n m round t time
   unfolding decidedAt unlessSpent
-  at-recover-spent a b = rw (← ek, le-leb m k a, le-ltb round 1000 b)
+  at-recover-spent a b = rw (← ek, le-leb m k a, le-ltb round lastRound b)
 
   pub at-zero : k < m → time ≡ 0 → Abort ≡ decidedAt n m round t time
   unfolding decidedAt unlessSpent
   at-zero a b = rw (← ek, lt-leb m k a, eq-eqb time 0 b)
 
-  pub at-look : k < m → (time ≡ 0 → ⊥) → round < 1000 → Look time ≡ decidedAt n m round t time
+  pub at-look : k < m → (time ≡ 0 → ⊥) → round < lastRound → Look time ≡ decidedAt n m round t time
   unfolding decidedAt unlessSpent
-  at-look a b d = rw (← ek, lt-leb m k a, ne-eqb time 0 b, lt-ltb round 1000 d)
+  at-look a b d = rw (← ek, lt-leb m k a, ne-eqb time 0 b, lt-ltb round lastRound d)
 
-  pub at-look-spent : k < m → (time ≡ 0 → ⊥) → 1000 ≤ round → Abort ≡ decidedAt n m round t time
+  pub at-look-spent : k < m → (time ≡ 0 → ⊥) → lastRound ≤ round → Abort ≡ decidedAt n m round t time
   unfolding decidedAt unlessSpent
-  at-look-spent a b d = rw (← ek, lt-leb m k a, ne-eqb time 0 b, le-ltb round 1000 d)
+  at-look-spent a b d = rw (← ek, lt-leb m k a, ne-eqb time 0 b, le-ltb round lastRound d)
 
 -- any round
 module _ (n m : ℕ) (op : Op) (t : Tally) where
-  pub decide-first : (d : Decision) → op .phase ≡ 1 → d ≡ decidedRead n m op t → d ≡ decided n m op t
+  pub decide-first : (d : Decision) → op .phase ≡ readKind → d ≡ decidedRead n m op t → d ≡ decided n m op t
   unfolding decided
-  decide-first d p e = rw (eq-eqb (op .phase) 1 p) e
+  decide-first d p e = rw (eq-eqb (op .phase) readKind p) e
 
-  pub decide-no : (a : Bool) → (op .phase ≡ 1 → ⊥) → a ≡ some (saidNo (t .counted) (t .granted)) n → a ≡ true → Abort ≡ decided n m op t
+  pub decide-no : (a : Bool) → (op .phase ≡ readKind → ⊥) → a ≡ some (saidNo (t .counted) (t .granted)) n → a ≡ true → Abort ≡ decided n m op t
   unfolding decided
-  decide-no a p ea za = rw (ne-eqb (op .phase) 1 p, ← ea, za)
+  decide-no a p ea za = rw (ne-eqb (op .phase) readKind p, ← ea, za)
 
-  pub decide-ordered : (a : Bool) → (op .phase ≡ 1 → ⊥) → a ≡ some (saidNo (t .counted) (t .granted)) n → a ≡ false → op .phase ≡ 2
+  pub decide-ordered : (a : Bool) → (op .phase ≡ readKind → ⊥) → a ≡ some (saidNo (t .counted) (t .granted)) n → a ≡ false → op .phase ≡ orderKind
       → Store ≡ decided n m op t
   unfolding decided
-  decide-ordered a p ea za q = rw (ne-eqb (op .phase) 1 p, ← ea, za, eq-eqb (op .phase) 2 q)
+  decide-ordered a p ea za q = rw (ne-eqb (op .phase) readKind p, ← ea, za, eq-eqb (op .phase) orderKind q)
 
-  pub decide-empty : (a : Bool) (k : ℕ) → (op .phase ≡ 1 → ⊥) → a ≡ some (saidNo (t .counted) (t .granted)) n → a ≡ false → (op .phase ≡ 2 → ⊥)
-      → op .phase ≡ 3 → k ≡ members (t .held) n → k ≡ 0 → Abort ≡ decided n m op t
+  pub decide-empty : (a : Bool) (k : ℕ) → (op .phase ≡ readKind → ⊥) → a ≡ some (saidNo (t .counted) (t .granted)) n → a ≡ false → (op .phase ≡ orderKind → ⊥)
+      → op .phase ≡ orderReadKind → k ≡ members (t .held) n → k ≡ 0 → Abort ≡ decided n m op t
   unfolding decided decidedRecovery
   decide-empty a k p ea za q w ek zk =
-      rw (ne-eqb (op .phase) 1 p, ← ea, za, ne-eqb (op .phase) 2 q, eq-eqb (op .phase) 3 w, ← ek, eq-eqb k 0 zk)
+      rw (ne-eqb (op .phase) readKind p, ← ea, za, ne-eqb (op .phase) orderKind q, eq-eqb (op .phase) orderReadKind w, ← ek, eq-eqb k 0 zk)
 
-  pub decide-found : (a : Bool) (k h : ℕ) (d : Decision) → (op .phase ≡ 1 → ⊥) → a ≡ some (saidNo (t .counted) (t .granted)) n → a ≡ false
-      → (op .phase ≡ 2 → ⊥) → op .phase ≡ 3 → k ≡ members (t .held) n → (k ≡ 0 → ⊥) → h ≡ highest (t .held) (t .found) n
+  pub decide-found : (a : Bool) (k h : ℕ) (d : Decision) → (op .phase ≡ readKind → ⊥) → a ≡ some (saidNo (t .counted) (t .granted)) n → a ≡ false
+      → (op .phase ≡ orderKind → ⊥) → op .phase ≡ orderReadKind → k ≡ members (t .held) n → (k ≡ 0 → ⊥) → h ≡ highest (t .held) (t .found) n
       → d ≡ decidedAt n m (op .round) t h → d ≡ decided n m op t
   unfolding decided decidedRecovery
   decide-found a k h d p ea za q w ek zk eh ed =
-      rw (ne-eqb (op .phase) 1 p, ← ea, za, ne-eqb (op .phase) 2 q, eq-eqb (op .phase) 3 w, ← ek, ne-eqb k 0 zk, ← eh) ed
+      rw (ne-eqb (op .phase) readKind p, ← ea, za, ne-eqb (op .phase) orderKind q, eq-eqb (op .phase) orderReadKind w, ← ek, ne-eqb k 0 zk, ← eh) ed
 
-  pub decide-stored : (a : Bool) → (op .phase ≡ 1 → ⊥) → a ≡ some (saidNo (t .counted) (t .granted)) n → a ≡ false → (op .phase ≡ 2 → ⊥)
-      → (op .phase ≡ 3 → ⊥) → Finish ≡ decided n m op t
+  pub decide-stored : (a : Bool) → (op .phase ≡ readKind → ⊥) → a ≡ some (saidNo (t .counted) (t .granted)) n → a ≡ false → (op .phase ≡ orderKind → ⊥)
+      → (op .phase ≡ orderReadKind → ⊥) → Finish ≡ decided n m op t
   unfolding decided
-  decide-stored a p ea za q w = rw (ne-eqb (op .phase) 1 p, ← ea, za, ne-eqb (op .phase) 2 q, ne-eqb (op .phase) 3 w)
+  decide-stored a p ea za q w = rw (ne-eqb (op .phase) readKind p, ← ea, za, ne-eqb (op .phase) orderKind q, ne-eqb (op .phase) orderReadKind w)

@@ -16,9 +16,10 @@ use Rattle.message.specs.Flags.{members}
 use Rattle.settings.specs.Count.{count}
 use Rattle.settings.specs.Times.{noUpperEnd}
 use Rattle.coord_decide.specs.Decisions.{AllYes, found-time, holders, DecisionSays}
+use Rattle.message.specs.Kinds.{lastRound, readKind, orderKind, orderReadKind}
 
 module _ (n m : ℕ) (op : Op) (t : Tally) where
-  says-read : op .phase ≡ 1 → DecisionSays n m op t (decidedRead n m op t)
+  says-read : op .phase ≡ readKind → DecisionSays n m op t (decidedRead n m op t)
   unfolding DecisionSays decidedRead AllYes
   says-read p =
       go (some (saidNo (t .counted) (t .granted)) n) (some (otherTime (t .counted) (t .found) (highest (t .counted) (t .found) n)) n)
@@ -36,12 +37,12 @@ module _ (n m : ℕ) (op : Op) (t : Tally) where
       go false false true ea eb ed = inl (p, refl)
       go false false false ea eb ed = record { phase-is = p; all-yes = ea; one-time = eb; targets-in = ed }
 
-  says-at : (time : ℕ) → op .phase ≡ 3 → AllYes n t → (members (t .held) n ≡ 0 → ⊥) → time ≡ found-time n t → DecisionSays n m op t (decidedAt n m (op .round) t time)
+  says-at : (time : ℕ) → op .phase ≡ orderReadKind → AllYes n t → (members (t .held) n ≡ 0 → ⊥) → time ≡ found-time n t → DecisionSays n m op t (decidedAt n m (op .round) t time)
   unfolding DecisionSays decidedAt unlessSpent holders
   says-at time p y h e =
-      go (leb m (count (atTimes (t .held) (t .found) time) n)) (ltb (op .round) 1000) (eqb time 0) refl refl refl
+      go (leb m (count (atTimes (t .held) (t .found) time) n)) (ltb (op .round) lastRound) (eqb time 0) refl refl refl
     where
-      go : (a b d : Bool) → leb m (count (atTimes (t .held) (t .found) time) n) ≡ a → ltb (op .round) 1000 ≡ b → eqb time 0 ≡ d
+      go : (a b d : Bool) → leb m (count (atTimes (t .held) (t .found) time) n) ≡ a → ltb (op .round) lastRound ≡ b → eqb time 0 ≡ d
           → DecisionSays n m op t (cond a (cond b (Recover time) Abort) (cond d Abort (cond b (Look time) Abort)))
       go true true d ea eb ed =
           record {
@@ -50,7 +51,7 @@ module _ (n m : ℕ) (op : Op) (t : Tally) where
             some-held = h;
             time-is = e;
             enough = leb-true m (count (atTimes (t .held) (t .found) time) n) ea;
-            round-low = ltb-true (op .round) 1000 eb;
+            round-low = ltb-true (op .round) lastRound eb;
           }
       go true false d ea eb ed = tt
       go false b true ea eb ed = tt
@@ -63,7 +64,7 @@ module _ (n m : ℕ) (op : Op) (t : Tally) where
             time-is = e;
             too-few = leb-false m (count (atTimes (t .held) (t .found) time) n) ea;
             not-first = eqb-false time 0 ed;
-            round-low = ltb-true (op .round) 1000 eb;
+            round-low = ltb-true (op .round) lastRound eb;
           })
       go false false false ea eb ed = tt
 
@@ -71,24 +72,24 @@ module _ (n m : ℕ) (op : Op) (t : Tally) where
   pub decided-says : DecisionSays n m op t (decided n m op t)
   unfolding DecisionSays decided decidedRecovery AllYes found-time
   decided-says =
-      go (eqb (op .phase) 1) (some (saidNo (t .counted) (t .granted)) n) (eqb (op .phase) 2) (eqb (op .phase) 3) (eqb (members (t .held) n) 0)
+      go (eqb (op .phase) readKind) (some (saidNo (t .counted) (t .granted)) n) (eqb (op .phase) orderKind) (eqb (op .phase) orderReadKind) (eqb (members (t .held) n) 0)
       refl refl refl refl refl
     where
-      go : (a b d f g : Bool) → eqb (op .phase) 1 ≡ a → some (saidNo (t .counted) (t .granted)) n ≡ b → eqb (op .phase) 2 ≡ d → eqb (op .phase) 3 ≡ f
+      go : (a b d f g : Bool) → eqb (op .phase) readKind ≡ a → some (saidNo (t .counted) (t .granted)) n ≡ b → eqb (op .phase) orderKind ≡ d → eqb (op .phase) orderReadKind ≡ f
           → eqb (members (t .held) n) 0 ≡ g
           → DecisionSays n m op t
           (cond a (decidedRead n m op t) (cond b Abort (cond d Store (cond f (cond g Abort (decidedAt n m (op .round) t (highest (t .held) (t .found) n))) Finish))))
-      go true b d f g ea eb ed ef eg = says-read (eqb-true (op .phase) 1 ea)
+      go true b d f g ea eb ed ef eg = says-read (eqb-true (op .phase) readKind ea)
       go false true d f g ea eb ed ef eg = tt
-      go false false true f g ea eb ed ef eg = record { phase-is = eqb-true (op .phase) 2 ed; all-yes = eb }
+      go false false true f g ea eb ed ef eg = record { phase-is = eqb-true (op .phase) orderKind ed; all-yes = eb }
       go false false false true true ea eb ed ef eg = tt
       go false false false true false ea eb ed ef eg =
-          says-at (highest (t .held) (t .found) n) (eqb-true (op .phase) 3 ef) eb (eqb-false (members (t .held) n) 0 eg) refl
+          says-at (highest (t .held) (t .found) n) (eqb-true (op .phase) orderReadKind ef) eb (eqb-false (members (t .held) n) 0 eg) refl
       go false false false false g ea eb ed ef eg =
           record {
-            not-read = eqb-false (op .phase) 1 ea;
-            not-order = eqb-false (op .phase) 2 ed;
-            not-recovery = eqb-false (op .phase) 3 ef;
+            not-read = eqb-false (op .phase) readKind ea;
+            not-order = eqb-false (op .phase) orderKind ed;
+            not-recovery = eqb-false (op .phase) orderReadKind ef;
             all-yes = eb;
           }
 

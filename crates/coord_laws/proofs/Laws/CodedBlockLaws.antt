@@ -15,7 +15,7 @@ use Rattle.erasure.specs.Code.{blockOf, Stripe, Bricks, blocksOf}
 use Rattle.erasure.proofs.Laws.CodeTheoremLaws.{decode-after-encode}
 use Rattle.interpolate.specs.Values.{PointSet}
 use Rattle.byte_lists.specs.Lists.{stacked}
-use Rattle.settings.specs.Ranges.{CodeRange}
+use Rattle.settings.specs.Ranges.{CodeRange, maxBricks}
 
 -- a brick's own block
 pub placed-same : (size b : ℕ) (block blocks : List ℕ) → length block ≡ size → b * size + size ≤ length blocks → blockOf size (withReplyBlock size b block blocks) b ≡ block
@@ -46,13 +46,13 @@ stacked-ext (suc k) f g h =
     ap (λ (l : List ℕ). l ++ f k) (stacked-ext k f g (λ i u. h i (omega arith))) ∙ ap (λ (l : List ℕ). stacked k g ++ l) (h k (le-refl _))
 
 -- THE STRIPE IS READ BACK: m different bricks whose blocks are those of a coded stripe decode to that stripe.
-pub stripe-read : (n m size : ℕ) (row blocks stripe : List ℕ) → CodeRange n m size → Stripe m size stripe → length row ≡ 16 → PointSet (take m row)
+pub stripe-read : (n m size : ℕ) (row blocks stripe : List ℕ) → CodeRange n m size → Stripe m size stripe → length row ≡ maxBricks → PointSet (take m row)
     → ((i : ℕ) → i < m → getD row i 0 < n)
     → ((i : ℕ) → i < m → blockOf size blocks (getD row i 0) ≡ blockOf size (codedOf n m size stripe) (getD row i 0))
     → stripeFrom m size row blocks ≡ stripe
 unfolding stripeFrom gathered blocksOf
 stripe-read n m size row blocks stripe r s l p b h =
-    let few : m ≤ 16 = omega (arith, r .m-high, r .n-high) in
+    let few : m ≤ maxBricks = omega (arith, r .m-high, r .n-high) in
     let long-row = length-take-le m row (omega arith) in
     let agree : stacked m (λ (i : ℕ). blockOf size blocks (getD row i 0)) ≡ stacked (length (take m row)) (λ (i : ℕ). blockOf size (codedOf n m size stripe) (getD (take m row) i 0)) =
     stacked-ext m (λ (i : ℕ). blockOf size blocks (getD row i 0)) (λ (i : ℕ). blockOf size (codedOf n m size stripe) (getD (take m row) i 0))

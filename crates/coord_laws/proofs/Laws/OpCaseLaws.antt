@@ -1,4 +1,4 @@
--- Laws of `specs/OpCases`.
+-- Where a sound operation is, and that the next round of it is sound.
 use mathlib.Core.Path.{_≡_, refl}
 use mathlib.Core.Bool.{Bool, true, false, cond, _&&_}
 use Prim.Native.Nat.{ℕ, _+_, _≤_, _<_}
@@ -11,58 +11,60 @@ use Rattle.coord_record.specs.declared.Op.{Op}
 use Rattle.byte_lists.proofs.Laws.BoolLaws.{and-left, and-right}
 use Rattle.settings.specs.Times.{noUpperEnd, validTime}
 use Rattle.coord_laws.specs.OpCases.{InRead}
+use Rattle.message.specs.Kinds.{lastRound, readKind, orderKind, orderReadKind, writeKind}
+use Rattle.coord_record.specs.Records.{idleKind, readingKind, writingKind}
 
 pub clash : {A : Type 0} → false ≡ true → A
 clash e = absurd (let z : _≡_ {A = ℕ} 0 1 = cc in omega arith)
 
 -- how kind, phase and round of a running operation go together
 pub data Fit (op : Op) : Type 0 where
-  reading : op .kind ≡ 1 → op .phase ≡ 1 → op .round ≡ 1 → Fit op
-  looking : op .kind ≡ 1 → op .phase ≡ 3 → 2 ≤ op .round → maxRight (op .round) (op .max) ≡ true → Fit op
-  restoring : op .kind ≡ 1 → op .phase ≡ 4 → 3 ≤ op .round → Fit op
-  ordering : op .kind ≡ 2 → op .phase ≡ 2 → op .round ≡ 1 → op .first ≡ 0 → Fit op
-  storing : op .kind ≡ 2 → op .phase ≡ 4 → op .round ≡ 2 → Fit op
+  reading : op .kind ≡ readingKind → op .phase ≡ readKind → op .round ≡ 1 → Fit op
+  looking : op .kind ≡ readingKind → op .phase ≡ orderReadKind → 2 ≤ op .round → maxRight (op .round) (op .max) ≡ true → Fit op
+  restoring : op .kind ≡ readingKind → op .phase ≡ writeKind → 3 ≤ op .round → Fit op
+  ordering : op .kind ≡ writingKind → op .phase ≡ orderKind → op .round ≡ 1 → op .first ≡ 0 → Fit op
+  storing : op .kind ≡ writingKind → op .phase ≡ writeKind → op .round ≡ 2 → Fit op
 
-pub fit : (op : Op) → opRight op ≡ true → (op .kind ≡ 0 → op .phase ≡ 0 → ⊥) → Fit op
+pub fit : (op : Op) → opRight op ≡ true → (op .kind ≡ idleKind → op .phase ≡ 0 → ⊥) → Fit op
 unfolding opRight unsetOp readRight storedRight writeRight
-fit op e n = go (eqb (op .kind) 0) (eqb (op .kind) 1) refl refl e
+fit op e n = go (eqb (op .kind) idleKind) (eqb (op .kind) readingKind) refl refl e
   where
-    go : (a b : Bool) → eqb (op .kind) 0 ≡ a → eqb (op .kind) 1 ≡ b
+    go : (a b : Bool) → eqb (op .kind) idleKind ≡ a → eqb (op .kind) readingKind ≡ b
         → cond a (eqb (op .phase) 0 && eqb (op .round) 0 && eqb (op .max) 0 && eqb (op .first) 0)
-        (cond b (readRight op) (eqb (op .kind) 2 && writeRight op)) ≡ true
+        (cond b (readRight op) (eqb (op .kind) writingKind && writeRight op)) ≡ true
         → Fit op
-    go true b ea eb q = absurd (n (eqb-true (op .kind) 0 ea) (eqb-true (op .phase) 0 (and-left _ _ (and-left _ _ (and-left _ _ q)))))
-    go false true ea eb q = read-phase (eqb (op .phase) 1) (eqb (op .phase) 3) refl refl q
+    go true b ea eb q = absurd (n (eqb-true (op .kind) idleKind ea) (eqb-true (op .phase) 0 (and-left _ _ (and-left _ _ (and-left _ _ q)))))
+    go false true ea eb q = read-phase (eqb (op .phase) readKind) (eqb (op .phase) orderReadKind) refl refl q
       where
-        kind : op .kind ≡ 1
-        kind = eqb-true (op .kind) 1 eb
+        kind : op .kind ≡ readingKind
+        kind = eqb-true (op .kind) readingKind eb
 
-        read-phase : (x y : Bool) → eqb (op .phase) 1 ≡ x → eqb (op .phase) 3 ≡ y
+        read-phase : (x y : Bool) → eqb (op .phase) readKind ≡ x → eqb (op .phase) orderReadKind ≡ y
             → cond x (eqb (op .round) 1 && eqb (op .max) 0)
-            (cond y (leb 2 (op .round) && leb (op .round) 1000 && maxRight (op .round) (op .max))
-            (eqb (op .phase) 4 && leb 3 (op .round) && leb (op .round) 1000 && eqb (op .max) 0)) ≡ true
+            (cond y (leb 2 (op .round) && leb (op .round) lastRound && maxRight (op .round) (op .max))
+            (eqb (op .phase) writeKind && leb 3 (op .round) && leb (op .round) lastRound && eqb (op .max) 0)) ≡ true
             → Fit op
-        read-phase true y ex ey w = reading kind (eqb-true (op .phase) 1 ex) (eqb-true (op .round) 1 (and-left _ _ w))
+        read-phase true y ex ey w = reading kind (eqb-true (op .phase) readKind ex) (eqb-true (op .round) 1 (and-left _ _ w))
         read-phase false true ex ey w =
-            looking kind (eqb-true (op .phase) 3 ey) (leb-true 2 (op .round) (and-left _ _ (and-left _ _ w)))
-            (and-right (leb 2 (op .round) && leb (op .round) 1000) _ w)
+            looking kind (eqb-true (op .phase) orderReadKind ey) (leb-true 2 (op .round) (and-left _ _ (and-left _ _ w)))
+            (and-right (leb 2 (op .round) && leb (op .round) lastRound) _ w)
         read-phase false false ex ey w =
             let l = and-left _ _ (and-left _ _ w) in
-            restoring kind (eqb-true (op .phase) 4 (and-left _ _ l)) (leb-true 3 (op .round) (and-right (eqb (op .phase) 4) _ l))
+            restoring kind (eqb-true (op .phase) writeKind (and-left _ _ l)) (leb-true 3 (op .round) (and-right (eqb (op .phase) writeKind) _ l))
     go false false ea eb q =
-        write-phase (eqb (op .phase) 2) refl (and-right (eqb (op .first) 0 && eqb (op .max) 0) _ (and-right (eqb (op .kind) 2) _ q))
+        write-phase (eqb (op .phase) orderKind) refl (and-right (eqb (op .first) 0 && eqb (op .max) 0) _ (and-right (eqb (op .kind) writingKind) _ q))
       where
-        kind : op .kind ≡ 2
-        kind = eqb-true (op .kind) 2 (and-left _ _ q)
+        kind : op .kind ≡ writingKind
+        kind = eqb-true (op .kind) writingKind (and-left _ _ q)
 
         first : op .first ≡ 0
-        first = eqb-true (op .first) 0 (and-left _ _ (and-left _ _ (and-right (eqb (op .kind) 2) _ q)))
+        first = eqb-true (op .first) 0 (and-left _ _ (and-left _ _ (and-right (eqb (op .kind) writingKind) _ q)))
 
-        write-phase : (x : Bool) → eqb (op .phase) 2 ≡ x → cond x (eqb (op .round) 1) (eqb (op .phase) 4 && eqb (op .round) 2) ≡ true → Fit op
-        write-phase true ex w = ordering kind (eqb-true (op .phase) 2 ex) (eqb-true (op .round) 1 w) first
-        write-phase false ex w = storing kind (eqb-true (op .phase) 4 (and-left _ _ w)) (eqb-true (op .round) 2 (and-right (eqb (op .phase) 4) _ w))
+        write-phase : (x : Bool) → eqb (op .phase) orderKind ≡ x → cond x (eqb (op .round) 1) (eqb (op .phase) writeKind && eqb (op .round) 2) ≡ true → Fit op
+        write-phase true ex w = ordering kind (eqb-true (op .phase) orderKind ex) (eqb-true (op .round) 1 w) first
+        write-phase false ex w = storing kind (eqb-true (op .phase) writeKind (and-left _ _ w)) (eqb-true (op .round) 2 (and-right (eqb (op .phase) writeKind) _ w))
 
-pub in-read : (op : Op) → opRight op ≡ true → op .phase ≡ 1 → InRead op
+pub in-read : (op : Op) → opRight op ≡ true → op .phase ≡ readKind → InRead op
 in-read op e p = go (fit op e (λ _ z. omega arith))
   where
     go : Fit op → InRead op
@@ -74,11 +76,11 @@ in-read op e p = go (fit op e (λ _ z. omega arith))
 
 -- an Order round: a write in its first round
 pub record InOrder (op : Op) : Type 0 where
-  pub kind-is : op .kind ≡ 2
+  pub kind-is : op .kind ≡ writingKind
   pub round-is : op .round ≡ 1
   pub first-is : op .first ≡ 0
 
-pub in-order : (op : Op) → opRight op ≡ true → op .phase ≡ 2 → InOrder op
+pub in-order : (op : Op) → opRight op ≡ true → op .phase ≡ orderKind → InOrder op
 in-order op e p = go (fit op e (λ _ z. omega arith))
   where
     go : Fit op → InOrder op
@@ -90,10 +92,10 @@ in-order op e p = go (fit op e (λ _ z. omega arith))
 
 -- an Order-and-read round: a read from its second round on
 pub record InRecovery (op : Op) : Type 0 where
-  pub kind-is : op .kind ≡ 1
+  pub kind-is : op .kind ≡ readingKind
   pub round-low : 2 ≤ op .round
 
-pub in-recovery : (op : Op) → opRight op ≡ true → op .phase ≡ 3 → InRecovery op
+pub in-recovery : (op : Op) → opRight op ≡ true → op .phase ≡ orderReadKind → InRecovery op
 in-recovery op e p = go (fit op e (λ _ z. omega arith))
   where
     go : Fit op → InRecovery op
@@ -104,26 +106,26 @@ in-recovery op e p = go (fit op e (λ _ z. omega arith))
     go (storing k q r) = absurd (omega arith)
 
 -- the next round of each is right
-pub first-recovery : (op : Op) → InRead op → opRight (nextOp op 3 noUpperEnd) ≡ true
+pub first-recovery : (op : Op) → InRead op → opRight (nextOp op orderReadKind noUpperEnd) ≡ true
 unfolding opRight readRight nextOp maxRight
 first-recovery op i = rw (i .kind-is, i .round-is) (rw (eq-eqb noUpperEnd noUpperEnd refl))
 
-pub next-recovery : (op : Op) (max : ℕ) → InRecovery op → op .round < 1000 → validTime max ≡ true → opRight (nextOp op 3 max) ≡ true
+pub next-recovery : (op : Op) (max : ℕ) → InRecovery op → op .round < lastRound → validTime max ≡ true → opRight (nextOp op orderReadKind max) ≡ true
 unfolding opRight readRight nextOp maxRight
 next-recovery op max i l v =
     rw (
       i .kind-is,
       le-leb 2 (op .round + 1) (let q = i .round-low in omega arith),
-      le-leb (op .round + 1) 1000 (omega arith),
+      le-leb (op .round + 1) lastRound (omega arith),
       ne-eqb (op .round + 1) 2 (λ q. absurd (let s = i .round-low in omega arith)),
       v,
     )
 
-pub write-stores : (op : Op) → InOrder op → opRight (nextOp op 4 0) ≡ true
+pub write-stores : (op : Op) → InOrder op → opRight (nextOp op writeKind 0) ≡ true
 unfolding opRight writeRight nextOp
 write-stores op i = rw (i .kind-is, i .round-is, i .first-is)
 
-pub read-stores : (op : Op) → InRecovery op → op .round < 1000 → opRight (nextOp op 4 0) ≡ true
+pub read-stores : (op : Op) → InRecovery op → op .round < lastRound → opRight (nextOp op writeKind 0) ≡ true
 unfolding opRight readRight storedRight nextOp
 read-stores op i l =
-    rw (i .kind-is, le-leb 3 (op .round + 1) (let q = i .round-low in omega arith), le-leb (op .round + 1) 1000 (omega arith))
+    rw (i .kind-is, le-leb 3 (op .round + 1) (let q = i .round-low in omega arith), le-leb (op .round + 1) lastRound (omega arith))

@@ -16,15 +16,17 @@ use Rattle.coord_record.specs.declared.Op.{Op}
 use Rattle.message.specs.Flags.{brickSet}
 use Rattle.message.specs.Messages.{roundRight, kindRight, messageRefusal}
 use Rattle.byte_lists.proofs.Laws.BoolLaws.{and-left, and-right}
-use Rattle.settings.specs.Times.{maxCount, noUpperEnd, timeOf, validTime}
+use Rattle.settings.specs.Times.{maxCount, noUpperEnd, timeOf, validTime, coordinatorCount, lastCoordinator}
 use Rattle.settings.specs.declared.Clock.{Clock}
+use Rattle.message.specs.Kinds.{lastRound, readKind, orderReadKind, writeKind, trimKind}
+use Rattle.coord_record.specs.Records.{idleKind}
 
 -- what a running operation that is right has
 pub record RunningOp (op : Op) : Type 0 where
-  pub phase-low : 1 ≤ op .phase
-  pub phase-high : op .phase ≤ 4
+  pub phase-low : readKind ≤ op .phase
+  pub phase-high : op .phase ≤ writeKind
   pub round-low : 1 ≤ op .round
-  pub max-low : op .phase ≡ 3 → op .max ≤ noUpperEnd
+  pub max-low : op .phase ≡ orderReadKind → op .max ≤ noUpperEnd
 
 max-high : (round max : ℕ) → maxRight round max ≡ true → max ≤ noUpperEnd
 unfolding maxRight validTime
@@ -34,7 +36,7 @@ max-high round max e = go (eqb round 2) e
     go true q = let z = eqb-true max noUpperEnd q in omega arith
     go false q = let z = ltb-true max noUpperEnd (and-right (leb (timeOf 1 0) max) (ltb max noUpperEnd) q) in omega arith
 
-pub running : (op : Op) → opRight op ≡ true → (op .kind ≡ 0 → ⊥) → RunningOp op
+pub running : (op : Op) → opRight op ≡ true → (op .kind ≡ idleKind → ⊥) → RunningOp op
 running op e k = go (fit op e (λ z _. k z))
   where
     go : Fit op → RunningOp op
@@ -45,22 +47,22 @@ running op e k = go (fit op e (λ z _. k z))
     go (storing k p r) = record { phase-low = omega arith; phase-high = omega arith; round-low = omega arith; max-low = λ q. absurd (omega arith) }
 
 -- its time is valid
-valid-of : (time : ℕ) (clock : Clock) → 1 ≤ clock .last → time ≡ timeOf (clock .last) (clock .coordinator) → clock .coordinator ≤ 15 → clock .last ≤ maxCount → validTime time ≡ true
+valid-of : (time : ℕ) (clock : Clock) → 1 ≤ clock .last → time ≡ timeOf (clock .last) (clock .coordinator) → clock .coordinator ≤ lastCoordinator → clock .last ≤ maxCount → validTime time ≡ true
 unfolding validTime noUpperEnd timeOf maxCount
-valid-of time clock l e a b = rw (le-leb 16 time (omega arith), lt-ltb time (2 ^ 44) (omega arith))
+valid-of time clock l e a b = rw (le-leb coordinatorCount time (omega arith), lt-ltb time (2 ^ 44) (omega arith))
 
-pub time-valid : (kind time : ℕ) (clock : Clock) → timeRight kind time clock ≡ true → (kind ≡ 0 → ⊥) → clock .coordinator ≤ 15 → clock .last ≤ maxCount → validTime time ≡ true
+pub time-valid : (kind time : ℕ) (clock : Clock) → timeRight kind time clock ≡ true → (kind ≡ idleKind → ⊥) → clock .coordinator ≤ lastCoordinator → clock .last ≤ maxCount → validTime time ≡ true
 unfolding timeRight
-time-valid kind time clock e k a b = go (eqb kind 0) refl e
+time-valid kind time clock e k a b = go (eqb kind idleKind) refl e
   where
-    go : (x : Bool) → eqb kind 0 ≡ x → cond x (eqb time 0) (leb 1 (clock .last) && eqb time (timeOf (clock .last) (clock .coordinator))) ≡ true → validTime time ≡ true
-    go true ex q = absurd (k (eqb-true kind 0 ex))
+    go : (x : Bool) → eqb kind idleKind ≡ x → cond x (eqb time 0) (leb 1 (clock .last) && eqb time (timeOf (clock .last) (clock .coordinator))) ≡ true → validTime time ≡ true
+    go true ex q = absurd (k (eqb-true kind idleKind ex))
     go false ex q =
         valid-of time clock (leb-true 1 (clock .last) (and-left (leb 1 (clock .last)) (eqb time (timeOf (clock .last) (clock .coordinator))) q))
         (eqb-true time (timeOf (clock .last) (clock .coordinator)) (and-right (leb 1 (clock .last)) (eqb time (timeOf (clock .last) (clock .coordinator))) q)) a b
 
 -- EVERY MESSAGE OF AN OPEN ROUND PASSES REFUSAL 10; a Read round's targets are m different bricks.
-pub message-passes : (n m : ℕ) (c : Coordinator) (targets : List ℕ) → Good n m c → (c .op .kind ≡ 0 → ⊥) → (c .op .phase ≡ 1 → brickSet targets n m ≡ true)
+pub message-passes : (n m : ℕ) (c : Coordinator) (targets : List ℕ) → Good n m c → (c .op .kind ≡ idleKind → ⊥) → (c .op .phase ≡ readKind → brickSet targets n m ≡ true)
     → messageRefusal n m (roundMessage (c .op) targets) ≡ 0
 unfolding messageRefusal roundMessage roundRight kindRight
 message-passes n m c targets g k t =
@@ -68,12 +70,12 @@ message-passes n m c targets g k t =
     rw (
       time-valid (c .op .kind) (c .op .time) (c .clock) (g .parts .time-right) k (g .parts .number-low) (g .parts .last-low),
       le-leb 1 (c .op .round) (r .round-low),
-      le-leb (c .op .round) 1000 (round-high (c .op) (g .parts .op-right)),
+      le-leb (c .op .round) lastRound (round-high (c .op) (g .parts .op-right)),
     )
-    (go r (eqb (c .op .phase) 3) (eqb (c .op .phase) 1) refl refl)
+    (go r (eqb (c .op .phase) orderReadKind) (eqb (c .op .phase) readKind) refl refl)
   where
-    go : RunningOp (c .op) → (a b : Bool) → eqb (c .op .phase) 3 ≡ a → eqb (c .op .phase) 1 ≡ b
-        → _≡_ {A = ℕ} (cond (cond a (leb (c .op .max) noUpperEnd) (cond b (brickSet targets n m) (leb 1 (c .op .phase) && leb (c .op .phase) 5))) 0 10) 0
-    go r true b ea eb = rw (le-leb (c .op .max) noUpperEnd (r .max-low (eqb-true (c .op .phase) 3 ea)))
-    go r false true ea eb = rw (t (eqb-true (c .op .phase) 1 eb))
-    go r false false ea eb = rw (le-leb 1 (c .op .phase) (r .phase-low), le-leb (c .op .phase) 5 (let q = r .phase-high in omega arith))
+    go : RunningOp (c .op) → (a b : Bool) → eqb (c .op .phase) orderReadKind ≡ a → eqb (c .op .phase) readKind ≡ b
+        → _≡_ {A = ℕ} (cond (cond a (leb (c .op .max) noUpperEnd) (cond b (brickSet targets n m) (leb readKind (c .op .phase) && leb (c .op .phase) trimKind))) 0 10) 0
+    go r true b ea eb = rw (le-leb (c .op .max) noUpperEnd (r .max-low (eqb-true (c .op .phase) orderReadKind ea)))
+    go r false true ea eb = rw (t (eqb-true (c .op .phase) readKind eb))
+    go r false false ea eb = rw (le-leb readKind (c .op .phase) (r .phase-low), le-leb (c .op .phase) trimKind (let q = r .phase-high in omega arith))

@@ -1,4 +1,4 @@
--- Laws of `specs/Soundness`.
+-- Every record that a routine leaves is sound.
 use mathlib.Core.Path.{_≡_, refl, sym, ap, subst, _∙_}
 use mathlib.Core.Bool.{Bool, true, false, cond, _&&_, _||_}
 use mathlib.Core.List.{List, []}
@@ -17,7 +17,7 @@ use Rattle.coord_laws.proofs.Laws.OpCaseLaws.{in-read, in-order, in-rec
 use Rattle.coord_laws.specs.Soundness.{Sized}
 use Rattle.coord_laws.proofs.Laws.TallyLaws.{Answering, answering, ReplyParts, reply-parts, tallied-sized, tallied-right, zeros-at, zeros-counted, highest-valid}
 use Rattle.byte_lists.proofs.Laws.EachLaws.{each-all}
-use Rattle.coord_record.specs.Records.{noOp, noBricks, nothingCounted, idleWith}
+use Rattle.coord_record.specs.Records.{noOp, noBricks, nothingCounted, idleWith, idleKind, readingKind, writingKind}
 use Rattle.coord_record.specs.CountedRules.{entryRight, tallyRight, brickRight, bricksRight}
 use Rattle.coord_record.specs.Sound.{opRight, unsetOp, readRight, writeRight, timeRight, namedCount, soundRecord}
 use Rattle.coord_record.proofs.Laws.SoundPartLaws.{sound-from}
@@ -36,16 +36,17 @@ use Rattle.message.specs.Flags.{members}
 use Rattle.message.specs.declared.Reply.{Reply}
 use Rattle.settings.specs.Count.{count}
 use Rattle.settings.proofs.Laws.QuorumLaws.{quorum-low}
-use Rattle.settings.specs.Ranges.{CodeRange}
+use Rattle.settings.specs.Ranges.{CodeRange, maxBricks}
 use Rattle.settings.proofs.Laws.RangeLaws.{code-passed}
 use Rattle.settings.specs.Ranges.{quorum, codeRefusal}
 use Rattle.settings.proofs.Laws.TimeLaws.{gave}
-use Rattle.settings.specs.Times.{maxCount, noUpperEnd, timeOf, validTime, nextCount, drawOf}
+use Rattle.settings.specs.Times.{maxCount, noUpperEnd, timeOf, validTime, nextCount, drawOf, lastCoordinator}
 use Rattle.settings.specs.declared.Clock.{Clock}
 use Rattle.settings.specs.declared.Draw.{Draw}
 use Rattle.settings.specs.declared.Draw.the-variants.{Drawn, Refused}
 use Rattle.settings.proofs.Laws.RefusalLaws.{passed-first}
 use Rattle.coord_laws.specs.Soundness.{Good, Full}
+use Rattle.message.specs.Kinds.{readKind, orderKind, orderReadKind, writeKind}
 
 pub none-sized : Sized nothingCounted
 unfolding nothingCounted
@@ -55,8 +56,8 @@ none-right : (n m phase first : ℕ) → tallyRight n m phase first nothingCount
 unfolding tallyRight nothingCounted entryRight
 none-right n m phase first =
     each-all
-    (λ (b : ℕ). entryRight n m phase first b (getD (replicate 16 0) b 0) (getD (replicate 16 0) b 0) (getD (replicate 16 0) b 0) (getD (replicate 16 0) b 0))
-    16 (λ b l. rw (zeros-at 16 b))
+    (λ (b : ℕ). entryRight n m phase first b (getD (replicate maxBricks 0) b 0) (getD (replicate maxBricks 0) b 0) (getD (replicate maxBricks 0) b 0) (getD (replicate maxBricks 0) b 0))
+    maxBricks (λ b l. rw (zeros-at maxBricks b))
 
 none-few : (n m size : ℕ) → CodeRange n m size → members (nothingCounted .counted) n < quorum n m
 unfolding nothingCounted
@@ -65,8 +66,8 @@ none-few n m size r = let e = zeros-counted n in let q = quorum-low n m (r .m-hi
 no-bricks-right : (n : ℕ) → bricksRight n 0 noBricks ≡ true
 unfolding bricksRight noBricks brickRight
 no-bricks-right n =
-    each-all (λ (i : ℕ). brickRight n 0 i (getD (replicate 16 0) (i - 1) 0) (getD (replicate 16 0) i 0)) 16
-    (λ i l. rw (le-ltb i 0 (omega arith), zeros-at 16 i))
+    each-all (λ (i : ℕ). brickRight n 0 i (getD (replicate maxBricks 0) (i - 1) 0) (getD (replicate maxBricks 0) i 0)) maxBricks
+    (λ i l. rw (le-ltb i 0 (omega arith), zeros-at maxBricks i))
 
 idle-op : opRight noOp ≡ true
 unfolding opRight noOp unsetOp
@@ -81,7 +82,7 @@ unfolding namedCount noOp
 idle-bricks n m = no-bricks-right n
 
 -- An idle coordinator is good.
-pub idle-good : (n m size : ℕ) (clock : Clock) → CodeRange n m size → clock .coordinator ≤ 15 → clock .last ≤ maxCount → Good n m (idleWith clock)
+pub idle-good : (n m size : ℕ) (clock : Clock) → CodeRange n m size → clock .coordinator ≤ lastCoordinator → clock .last ≤ maxCount → Good n m (idleWith clock)
 unfolding idleWith noOp
 idle-good n m size clock r a b =
     record {
@@ -120,19 +121,19 @@ opened-good n m size phase max c bricks r f o b =
     }
 
 -- the bricks that a recovery names
-picked-past : (held found : List ℕ) (time n m i : ℕ) → m ≤ i → i < 16 → getD (picked held found time n m) i 0 ≡ 0
+picked-past : (held found : List ℕ) (time n m i : ℕ) → m ≤ i → i < maxBricks → getD (picked held found time n m) i 0 ≡ 0
 unfolding picked inRow
 picked-past held found time n m i h l =
-    getD-tabulate 16 (λ (k : ℕ). getD (take m (passing (atTimes held found time) n)) k 0) i l
+    getD-tabulate maxBricks (λ (k : ℕ). getD (take m (passing (atTimes held found time) n)) k 0) i l
     ∙ List·getD-eq-default (take m (passing (atTimes held found time) n)) 0 (let e = length-take m (passing (atTimes held found time) n) in omega arith)
 
-pub picked-right : (held found : List ℕ) (time n m : ℕ) → m ≤ 16 → m ≤ count (atTimes held found time) n → bricksRight n m (picked held found time n m) ≡ true
+pub picked-right : (held found : List ℕ) (time n m : ℕ) → m ≤ maxBricks → m ≤ count (atTimes held found time) n → bricksRight n m (picked held found time n m) ≡ true
 unfolding bricksRight brickRight
 picked-right held found time n m few enough =
-    each-all (λ (i : ℕ). brickRight n m i (getD (picked held found time n m) (i - 1) 0) (getD (picked held found time n m) i 0)) 16
+    each-all (λ (i : ℕ). brickRight n m i (getD (picked held found time n m) (i - 1) 0) (getD (picked held found time n m) i 0)) maxBricks
     (λ i l. go i l (ltb i m) (eqb i 0) refl refl)
   where
-    go : (i : ℕ) → i < 16 → (a z : Bool) → ltb i m ≡ a → eqb i 0 ≡ z
+    go : (i : ℕ) → i < maxBricks → (a z : Bool) → ltb i m ≡ a → eqb i 0 ≡ z
         → cond a (ltb (getD (picked held found time n m) i 0) n && (z || ltb (getD (picked held found time n m) (i - 1) 0) (getD (picked held found time n m) i 0)))
         (eqb (getD (picked held found time n m) i 0) 0) ≡ true
     go i l true true ea ez = rw (lt-ltb (getD (picked held found time n m) i 0) n (picked-below held found time n m enough few i (ltb-true i m ea)))
@@ -145,33 +146,33 @@ picked-right held found time n m few enough =
         )
     go i l false z ea ez = rw (picked-past held found time n m i (ltb-false i m ea) l)
 
-named-write : (m : ℕ) (op : Op) → op .kind ≡ 2 → namedCount m (nextOp op 4 0) ≡ 0
+named-write : (m : ℕ) (op : Op) → op .kind ≡ writingKind → namedCount m (nextOp op writeKind 0) ≡ 0
 unfolding namedCount nextOp
 named-write m op k = rw k
 
-named-read : (m : ℕ) (op : Op) → op .kind ≡ 1 → namedCount m (nextOp op 4 0) ≡ m
+named-read : (m : ℕ) (op : Op) → op .kind ≡ readingKind → namedCount m (nextOp op writeKind 0) ≡ m
 unfolding namedCount nextOp
 named-read m op k = rw k
 
-named-look : (m max : ℕ) (op : Op) → namedCount m (nextOp op 3 max) ≡ 0
+named-look : (m max : ℕ) (op : Op) → namedCount m (nextOp op orderReadKind max) ≡ 0
 unfolding namedCount nextOp
-named-look m max op = go (eqb (op .kind) 1)
+named-look m max op = go (eqb (op .kind) readingKind)
   where
     go : (a : Bool) → cond (a && false) m 0 ≡ 0
     go true = refl
     go false = refl
 
 -- a max that is a time found is valid
-lowers-valid : (n m : ℕ) (op : Op) (t : Tally) (max : ℕ) → n ≤ 16 → tallyRight n m (op .phase) (op .first) t ≡ true → Lowers n m op t max → validTime max ≡ true
+lowers-valid : (n m : ℕ) (op : Op) (t : Tally) (max : ℕ) → n ≤ maxBricks → tallyRight n m (op .phase) (op .first) t ≡ true → Lowers n m op t max → validTime max ≡ true
 unfolding found-time
 lowers-valid n m op t max few e w = ap validTime (w .time-is) ∙ highest-valid n m (op .phase) (op .first) t few e (λ q. w .not-first (w .time-is ∙ q))
 
 recovered-good : (n m size : ℕ) (c : Coordinator) (time : ℕ) → CodeRange n m size → Full n m c → Recovers n m (c .op) (c .tally) time
-    → Good n m (opened c 4 0 (picked (c .tally .held) (c .tally .found) time n m))
+    → Good n m (opened c writeKind 0 (picked (c .tally .held) (c .tally .found) time n m))
 unfolding holders
 recovered-good n m size c time r f s =
     let i = in-recovery (c .op) (f .op-right) (s .phase-is) in
-    opened-good n m size 4 0 c (picked (c .tally .held) (c .tally .found) time n m) r f (read-stores (c .op) i (s .round-low))
+    opened-good n m size writeKind 0 c (picked (c .tally .held) (c .tally .found) time n m) r f (read-stores (c .op) i (s .round-low))
     (ap (λ (k : ℕ). bricksRight n k (picked (c .tally .held) (c .tally .found) time n m)) (named-read m (c .op) (i .kind-is))
     ∙ picked-right (c .tally .held) (c .tally .found) time n m (omega (arith, r .m-high, r .n-high)) (s .enough))
 
@@ -184,13 +185,13 @@ acted-good n m size h r f = go (decided n m (h .state .op) (h .state .tally)) (d
     idle : Good n m (idleWith (h .state .clock))
     idle = idle-good n m size (h .state .clock) r (f .number-low) (f .last-low)
 
-    look : (max : ℕ) → opRight (nextOp (h .state .op) 3 max) ≡ true → Good n m (opened (h .state) 3 max noBricks)
+    look : (max : ℕ) → opRight (nextOp (h .state .op) orderReadKind max) ≡ true → Good n m (opened (h .state) orderReadKind max noBricks)
     look max o =
-        opened-good n m size 3 max (h .state) noBricks r f o (ap (λ (k : ℕ). bricksRight n k noBricks) (named-look m max (h .state .op)) ∙ no-bricks-right n)
+        opened-good n m size orderReadKind max (h .state) noBricks r f o (ap (λ (k : ℕ). bricksRight n k noBricks) (named-look m max (h .state .op)) ∙ no-bricks-right n)
 
-    looked : (max : ℕ) → ((h .state .op .phase ≡ 1) × (max ≡ noUpperEnd)) ⊎ Lowers n m (h .state .op) (h .state .tally) max → Good n m (opened (h .state) 3 max noBricks)
+    looked : (max : ℕ) → ((h .state .op .phase ≡ readKind) × (max ≡ noUpperEnd)) ⊎ Lowers n m (h .state .op) (h .state .tally) max → Good n m (opened (h .state) orderReadKind max noBricks)
     looked max (inl w) =
-        look max (ap (λ (x : ℕ). opRight (nextOp (h .state .op) 3 x)) (w .1) ∙ first-recovery (h .state .op) (in-read (h .state .op) (f .op-right) (w .0)))
+        look max (ap (λ (x : ℕ). opRight (nextOp (h .state .op) orderReadKind x)) (w .1) ∙ first-recovery (h .state .op) (in-read (h .state .op) (f .op-right) (w .0)))
     looked max (inr w) =
         look max (next-recovery (h .state .op) max (in-recovery (h .state .op) (f .op-right) (w .phase-is)) (w .round-low)
         (lowers-valid n m (h .state .op) (h .state .tally) max (r .n-high) (f .tally-right) w))
@@ -201,7 +202,7 @@ acted-good n m size h r f = go (decided n m (h .state .op) (h .state .tally)) (d
     go (Look max) s = looked max s
     go Store s =
         let i = in-order (h .state .op) (f .op-right) (s .phase-is) in
-        opened-good n m size 4 0 (h .state) noBricks r f (write-stores (h .state .op) i)
+        opened-good n m size writeKind 0 (h .state) noBricks r f (write-stores (h .state .op) i)
         (ap (λ (k : ℕ). bricksRight n k noBricks) (named-write m (h .state .op) (i .kind-is)) ∙ no-bricks-right n)
     go (Recover time) s = recovered-good n m size (h .state) time r f s
     go Finish s = idle
@@ -274,7 +275,7 @@ take-good n m size h r block coded w g e =
 -- A crash:
 pub crash-good : (n m size : ℕ) (h : Buffered) (w : Went) → Good n m (h .state) → crashStep n m size h ≡ went w → Good n m (w .next .state)
 unfolding crashStep crashed crashRefusal ending
-crash-good n m size h w g e = go (eqb (h .state .op .kind) 0) (p .1)
+crash-good n m size h w g e = go (eqb (h .state .op .kind) idleKind) (p .1)
   where
     p : (crashRefusal n m size (h .state) ≡ 0) × (went (crashed h) ≡ went w)
     p = passes (crashRefusal n m size (h .state)) (went (crashed h)) w e
@@ -289,19 +290,19 @@ crash-good n m size h w g e = go (eqb (h .state .op .kind) 0) (p .1)
         (idle-good n m size (h .state .clock) range (g .parts .number-low) (g .parts .last-low))
 
 -- the time drawn is the record's own
-drawn-right : (kind t reading : ℕ) (clock next : Clock) → (kind ≡ 0 → ⊥) → drawOf clock reading ≡ Drawn t next → timeRight kind t next ≡ true
+drawn-right : (kind t reading : ℕ) (clock next : Clock) → (kind ≡ idleKind → ⊥) → drawOf clock reading ≡ Drawn t next → timeRight kind t next ≡ true
 unfolding timeRight nextCount
 drawn-right kind t reading clock next k e =
     let g = gave clock reading t next e in
-    rw (ne-eqb kind 0 k, le-leb 1 (next .last) (omega (arith, g .count)), eq-eqb t (timeOf (next .last) (next .coordinator)) (g .time ∙ ap (timeOf (next .last)) (sym (g .same))))
+    rw (ne-eqb kind idleKind k, le-leb 1 (next .last) (omega (arith, g .count)), eq-eqb t (timeOf (next .last) (next .coordinator)) (g .time ∙ ap (timeOf (next .last)) (sym (g .same))))
 
-pub drawn-low : (t reading : ℕ) (clock next : Clock) → drawOf clock reading ≡ Drawn t next → (next .coordinator ≤ 15) × (next .last ≤ maxCount)
+pub drawn-low : (t reading : ℕ) (clock next : Clock) → drawOf clock reading ≡ Drawn t next → (next .coordinator ≤ lastCoordinator) × (next .last ≤ maxCount)
 unfolding nextCount maxCount
 drawn-low t reading clock next e =
     let g = gave clock reading t next e in
     (omega (arith, g .same, g .drew .coordinator-high), omega (arith, g .count, g .drew .last-high, g .drew .reading-high))
 
-begun-good : (n m size kind phase t first reading : ℕ) (clock next : Clock) → CodeRange n m size → (kind ≡ 0 → ⊥) → drawOf clock reading ≡ Drawn t next → first < n
+begun-good : (n m size kind phase t first reading : ℕ) (clock next : Clock) → CodeRange n m size → (kind ≡ idleKind → ⊥) → drawOf clock reading ≡ Drawn t next → first < n
     → opRight (firstOp kind phase t first) ≡ true → namedCount m (firstOp kind phase t first) ≡ 0
     → Good n m (record { clock = next; op = firstOp kind phase t first; tally = nothingCounted; bricks = noBricks })
 unfolding firstOp
@@ -322,11 +323,11 @@ begun-good n m size kind phase t first reading clock next r k e f o z =
       sizes = none-sized;
     }
 
-first-write : (m t : ℕ) → (opRight (firstOp 2 2 t 0) ≡ true) × (namedCount m (firstOp 2 2 t 0) ≡ 0)
+first-write : (m t : ℕ) → (opRight (firstOp writingKind orderKind t 0) ≡ true) × (namedCount m (firstOp writingKind orderKind t 0) ≡ 0)
 unfolding opRight writeRight firstOp namedCount
 first-write m t = (refl, refl)
 
-first-read : (m t first : ℕ) → (opRight (firstOp 1 1 t first) ≡ true) × (namedCount m (firstOp 1 1 t first) ≡ 0)
+first-read : (m t first : ℕ) → (opRight (firstOp readingKind readKind t first) ≡ true) × (namedCount m (firstOp readingKind readKind t first) ≡ 0)
 unfolding opRight readRight firstOp namedCount
 first-read m t first = (refl, refl)
 
@@ -340,7 +341,7 @@ drawn-went (Refused k) f w e = absurd (let z : _≡_ {A = ℕ} 0 1 = cc in omega
 pub write-good : (n m size : ℕ) (h : Buffered) (reading : ℕ) (bytes : List ℕ) (w : Went) → writeStep n m size h reading bytes ≡ went w → Good n m (w .next .state)
 unfolding writeStep writeRefusal starting
 write-good n m size h reading bytes w e =
-    let f : ℕ → Clock → Went = λ time clock. starting h clock (firstOp 2 2 time 0) bytes noBricks in
+    let f : ℕ → Clock → Went = λ time clock. starting h clock (firstOp writingKind orderKind time 0) bytes noBricks in
     let p = passes (writeRefusal n m size (h .state) reading (length bytes) (length (h .stripe))) (drawnThen (drawOf (h .state .clock) reading) f) w e in
     let range = code-passed n m size (passed-first (codeRefusal n m size) _ (p .0)) in
     let d = drawn-went (drawOf (h .state .clock) reading) f w (p .1) in
@@ -351,7 +352,7 @@ write-good n m size h reading bytes w e =
 pub read-good : (n m size : ℕ) (h : Buffered) (reading first : ℕ) (w : Went) → readStep n m size h reading first ≡ went w → Good n m (w .next .state)
 unfolding readStep readRefusal starting
 read-good n m size h reading first w e =
-    let f : ℕ → Clock → Went = λ time clock. starting h clock (firstOp 1 1 time first) (h .stripe) (targetFlags n m first) in
+    let f : ℕ → Clock → Went = λ time clock. starting h clock (firstOp readingKind readKind time first) (h .stripe) (targetFlags n m first) in
     let p = passes (readRefusal n m size (h .state) reading first) (drawnThen (drawOf (h .state .clock) reading) f) w e in
     let range = code-passed n m size (passed-first (codeRefusal n m size) _ (p .0)) in
     let low = first-low n m size (h .state) reading first _ refl (p .0) in

@@ -1,26 +1,24 @@
--- What a run reads off a coordinator's step: what was counted, what is sent, what is seen, how the clock moves.
+-- What a run reads off a coordinator's step: what was counted, what is seen, how the clock moves.
 use mathlib.Core.Path.{_≡_, refl, sym, ap, subst}
 use mathlib.Core.List.{List, [], _∷_}
-use mathlib.Core.Logic.{_⊎_}
 use Prim.Native.Nat.{ℕ, _<_}
 use native.Mathlib.Omega.{arith}
 use lib.ListN.{length}
-use Rattle.coord_apply.specs.Acts.{roundMessage, trimMessage, counting, waitingOr, firstOp, starting}
+use Rattle.coord_apply.specs.Acts.{roundMessage, counting, waitingOr, firstOp, starting}
 use Rattle.coord_apply.specs.Answers.{Buffered, Went, went, beganSeen}
 use Rattle.coord_laws.proofs.Laws.SoundnessLaws.{passes, same-went, drawn-went}
 use Rattle.coord_laws.proofs.Laws.TallyLaws.{Answering, answering, ReplyParts, reply-parts}
-use Rattle.coord_record.specs.Records.{noBricks}
-use Rattle.coord_record.specs.declared.Op.{Op}
+use Rattle.coord_record.specs.Records.{noBricks, readingKind, writingKind}
 use Rattle.coord_tally.specs.Counting.{targetFlags}
 use Rattle.coord_refusals.specs.Checks.{writeRefusal, readRefusal, takeRefusal}
 use Rattle.coordinator.specs.Routines.{drawnThen, writeStep, readStep, takeStep}
 use Rattle.coordinator.proofs.Laws.RoutineLaws.{Takes, take-passed}
-use Rattle.erasure.specs.Code.{codedOf}
 use Rattle.message.specs.declared.Reply.{Reply}
 use Rattle.settings.proofs.Laws.TimeLaws.{gave}
 use Rattle.settings.specs.Times.{timeOf, nextCount, drawOf}
 use Rattle.settings.specs.declared.Clock.{Clock}
 use Rattle.settings.specs.declared.Draw.the-variants.{Drawn}
+use Rattle.message.specs.Kinds.{readKind, orderKind}
 
 -- A reply that is not refused: the checks passed; it is of the running operation and round, from a brick not counted before.
 pub record ReplyTaken (n m size : ℕ) (h : Buffered) (r : Reply) (block : List ℕ) (coded : ℕ) (w : Went) : Type 0 where
@@ -42,19 +40,6 @@ took n m size h r block coded w e =
       is = same-went (waitingOr n m size (counting size h r block)) w (p .1);
     }
 
--- What is sent: nothing; the message of the round that is now open, with coded block j for brick j of the stripe now held if it is a
--- Write round; or, where the operation ended, Trim of its time with the number of its last round.
-pub record RoundSent (n m size : ℕ) (w : Went) : Type 0 where
-  pub blocks : List ℕ
-  pub sent-is : w .sent ≡ record { message = roundMessage (w .next .state .op) noBricks; blocks = blocks } ∷ []
-  pub coded-is : w .next .state .op .phase ≡ 4 → blocks ≡ codedOf n m size (w .next .stripe)
-
-pub record Trims (op : Op) (w : Went) : Type 0 where
-  pub sent-is : w .sent ≡ record { message = trimMessage op; blocks = [] } ∷ []
-
-unfoldable pub StepSends : ℕ → ℕ → ℕ → Op → Went → Type 0
-StepSends n m size op w = (w .sent ≡ []) ⊎ (RoundSent n m size w ⊎ Trims op w)
-
 -- A start draws a time: it is the time of the count that the clock now has, which is above the old one; that operation is seen to begin.
 pub record Begins (h : Buffered) (kind : ℕ) (w : Went) : Type 0 where
   pub rises : h .state .clock .last < w .next .state .clock .last
@@ -75,7 +60,7 @@ pub write-begins : (n m size : ℕ) (h : Buffered) (reading : ℕ) (bytes : List
     → Begins h 2 w × (w .next .stripe ≡ bytes)
 unfolding writeStep starting
 write-begins n m size h reading bytes w e =
-    let f : ℕ → Clock → Went = λ time clock. starting h clock (firstOp 2 2 time 0) bytes noBricks in
+    let f : ℕ → Clock → Went = λ time clock. starting h clock (firstOp writingKind orderKind time 0) bytes noBricks in
     let p = passes (writeRefusal n m size (h .state) reading (length bytes) (length (h .stripe))) (drawnThen (drawOf (h .state .clock) reading) f) w e in
     let d = drawn-went (drawOf (h .state .clock) reading) f w (p .1) in (
       subst (Begins h 2) (d .3) (begins h reading 2 2 0 (d .0) (d .1) bytes noBricks (d .2)),
@@ -86,7 +71,7 @@ pub read-begins : (n m size : ℕ) (h : Buffered) (reading first : ℕ) (w : Wen
     → Begins h 1 w × (w .sent ≡ record { message = roundMessage (w .next .state .op) (targetFlags n m first); blocks = [] } ∷ [])
 unfolding readStep starting
 read-begins n m size h reading first w e =
-    let f : ℕ → Clock → Went = λ time clock. starting h clock (firstOp 1 1 time first) (h .stripe) (targetFlags n m first) in
+    let f : ℕ → Clock → Went = λ time clock. starting h clock (firstOp readingKind readKind time first) (h .stripe) (targetFlags n m first) in
     let p = passes (readRefusal n m size (h .state) reading first) (drawnThen (drawOf (h .state .clock) reading) f) w e in
     let d = drawn-went (drawOf (h .state .clock) reading) f w (p .1) in (
       subst (Begins h 1) (d .3) (begins h reading 1 1 first (d .0) (d .1) (h .stripe) (targetFlags n m first) (d .2)),

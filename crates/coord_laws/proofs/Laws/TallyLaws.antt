@@ -1,4 +1,4 @@
--- Laws of `specs/TallyLaws`.
+-- A reply counted: the tally stays right, and what it says of each brick.
 use mathlib.Core.Path.{_≡_, refl, ap, _∙_}
 use mathlib.Core.Bool.{Bool, true, false, cond, not, _&&_, _||_}
 use mathlib.Core.List.{List, [], _∷_}
@@ -26,6 +26,8 @@ use Rattle.byte_lists.proofs.Laws.BoolLaws.{and-left, and-right}
 use Rattle.settings.specs.Refusal.{firstRefusal, refuseUnless}
 use Rattle.settings.specs.Times.{validTime}
 use Rattle.coord_laws.specs.Soundness.{Sized}
+use Rattle.settings.specs.Ranges.{maxBricks}
+use Rattle.message.specs.Kinds.{readKind, writeKind}
 
 -- A counted reply is of the running operation and round, from a brick not counted before, with a block by the round's rules.
 pub record Answering (n m : ℕ) (op : Op) (t : Tally) (r : Reply) : Type 0 where
@@ -57,16 +59,16 @@ answering n m op t r e =
 -- a reply that a brick may give
 pub record ReplyParts (n : ℕ) (r : Reply) : Type 0 where
   pub brick-low : r .brick < n
-  pub kind-low : 1 ≤ r .kind
-  pub kind-high : r .kind ≤ 4
+  pub kind-low : readKind ≤ r .kind
+  pub kind-high : r .kind ≤ writeKind
   pub time-valid : validTime (r .time) ≡ true
   pub found-right : foundRight (r .found) ≡ true
 
 right-parts : (n : ℕ) (r : Reply) → r .brick < n → replyRight r ≡ true → ReplyParts n r
 unfolding replyRight
 right-parts n r h e =
-    let l = leb 1 (r .kind) in
-    let k = leb (r .kind) 4 in
+    let l = leb readKind (r .kind) in
+    let k = leb (r .kind) writeKind in
     let v = validTime (r .time) in
     let u = roundRight (r .round) in
     let f = foundRight (r .found) in
@@ -75,8 +77,8 @@ right-parts n r h e =
     let two = and-left (l && k) v three in
     record {
       brick-low = h;
-      kind-low = leb-true 1 (r .kind) (and-left l k two);
-      kind-high = leb-true (r .kind) 4 (and-right l k two);
+      kind-low = leb-true readKind (r .kind) (and-left l k two);
+      kind-high = leb-true (r .kind) writeKind (and-right l k two);
       time-valid = and-right (l && k) v three;
       found-right = and-right (l && k && v && u) f e;
     }
@@ -106,10 +108,10 @@ zeros-at zero b = refl
 zeros-at (suc k) zero = refl
 zeros-at (suc k) (suc b) = zeros-at k b
 
-pub zeros-counted : (n : ℕ) → members (replicate 16 0) n ≡ 0
+pub zeros-counted : (n : ℕ) → members (replicate maxBricks 0) n ≡ 0
 unfolding members count member
 zeros-counted zero = refl
-zeros-counted (suc n) = rw (zeros-at 16 n) (let e = zeros-counted n in omega arith)
+zeros-counted (suc n) = rw (zeros-at maxBricks n) (let e = zeros-counted n in omega arith)
 
 -- what is kept of a reply that answers is right
 flag-low : (b : Bool) → leb (one-if b) 1 ≡ true
@@ -131,26 +133,26 @@ kept-right n m op t r p a =
     ) (a .block-right)
 
 -- the tally with it is right
-pub tallied-right : (n m : ℕ) (op : Op) (t : Tally) (r : Reply) → n ≤ 16 → Sized t → tallyRight n m (op .phase) (op .first) t ≡ true → ReplyParts n r → Answering n m op t r
+pub tallied-right : (n m : ℕ) (op : Op) (t : Tally) (r : Reply) → n ≤ maxBricks → Sized t → tallyRight n m (op .phase) (op .first) t ≡ true → ReplyParts n r → Answering n m op t r
     → tallyRight n m (op .phase) (op .first) (tallied t r) ≡ true
 unfolding tallyRight tallied
 tallied-right n m op t r few s e p a =
     each-all
     (λ (b : ℕ). entryRight n m (op .phase) (op .first) b (getD (set (t .counted) (r .brick) 1) b 0) (getD (set (t .granted) (r .brick) (one-if (r .yes))) b 0)
     (getD (set (t .held) (r .brick) (one-if (r .held))) b 0) (getD (set (t .found) (r .brick) (r .found)) b 0))
-    16 (λ b l. go b l (ℕ-discrete b (r .brick)))
+    maxBricks (λ b l. go b l (ℕ-discrete b (r .brick)))
   where
-    old : (b : ℕ) → b < 16 → entryRight n m (op .phase) (op .first) b (getD (t .counted) b 0) (getD (t .granted) b 0) (getD (t .held) b 0) (getD (t .found) b 0) ≡ true
+    old : (b : ℕ) → b < maxBricks → entryRight n m (op .phase) (op .first) b (getD (t .counted) b 0) (getD (t .granted) b 0) (getD (t .held) b 0) (getD (t .found) b 0) ≡ true
     old b l =
         each-at
         (λ (b : ℕ). entryRight n m (op .phase) (op .first) b (getD (t .counted) b 0) (getD (t .granted) b 0) (getD (t .held) b 0) (getD (t .found) b 0))
-        16 b e l
+        maxBricks b e l
 
-    go : (b : ℕ) → b < 16 → Dec (b ≡ r .brick)
+    go : (b : ℕ) → b < maxBricks → Dec (b ≡ r .brick)
         → entryRight n m (op .phase) (op .first) b (getD (set (t .counted) (r .brick) 1) b 0) (getD (set (t .granted) (r .brick) (one-if (r .yes))) b 0)
         (getD (set (t .held) (r .brick) (one-if (r .held))) b 0) (getD (set (t .found) (r .brick) (r .found)) b 0) ≡ true
     go b l (yes q) =
-        let w : r .brick < 16 = omega arith in
+        let w : r .brick < maxBricks = omega arith in
         rw (
           q,
           getD-set-same (t .counted) (r .brick) 1 0 (let z = s .counted-size in omega arith),
@@ -207,7 +209,7 @@ found-valid t e h = go (eqb t 0) refl e
     go true ea q = absurd (h (eqb-true t 0 ea))
     go false ea q = q
 
-pub highest-valid : (n m phase first : ℕ) (t : Tally) → n ≤ 16 → tallyRight n m phase first t ≡ true → (highest (t .held) (t .found) n ≡ 0 → ⊥)
+pub highest-valid : (n m phase first : ℕ) (t : Tally) → n ≤ maxBricks → tallyRight n m phase first t ≡ true → (highest (t .held) (t .found) n ≡ 0 → ⊥)
     → validTime (highest (t .held) (t .found) n) ≡ true
 unfolding tallyRight member
 highest-valid n m phase first t few e h = go (highest-found (t .held) (t .found) n)
@@ -220,7 +222,7 @@ highest-valid n m phase first t few e h = go (highest-found (t .held) (t .found)
         let b = w .0 in
         let right = each-at
         (λ (b : ℕ). entryRight n m phase first b (getD (t .counted) b 0) (getD (t .granted) b 0) (getD (t .held) b 0) (getD (t .found) b 0))
-        16 b e (omega (arith, w .1))
+        maxBricks b e (omega (arith, w .1))
         in
         found-valid (highest (t .held) (t .found) n)
         (ap foundRight (w .3)

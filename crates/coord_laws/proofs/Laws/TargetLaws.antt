@@ -12,6 +12,7 @@ use Rattle.coord_tally.specs.Counting.{targetFlag, targetFlags}
 use Rattle.byte_lists.proofs.Laws.TabulateLaws.{getD-tabulate}
 use Rattle.message.specs.Flags.{member, members, flagsWithin, brickSet}
 use Rattle.settings.specs.Count.{count, one-if}
+use Rattle.settings.specs.Ranges.{maxBricks}
 
 -- sets that agree count alike
 pub count-ext : (p r : ℕ → Bool) (n : ℕ) → ((b : ℕ) → b < n → p b ≡ r b) → count p n ≡ count r n
@@ -19,7 +20,7 @@ unfolding count
 count-ext p r zero h = refl
 count-ext p r (suc n) h = rw (count-ext p r n (λ b l. h b (omega arith)), h n (le-refl _))
 
-module _ (n m first : ℕ) (few : n ≤ 16) (within : m ≤ n) (start : first < n) where
+module _ (n m first : ℕ) (few : n ≤ maxBricks) (within : m ≤ n) (start : first < n) where
   -- below the first: those that the wrapping reaches
   low-targets : (k : ℕ) → k ≤ first → count (isTarget n m first) k ≡ min k (m - (n - first))
   unfolding count isTarget stepsAbove
@@ -34,7 +35,8 @@ module _ (n m first : ℕ) (few : n ≤ 16) (within : m ≤ n) (start : first < 
   -- from the first upward
   high-targets : (j : ℕ) → j ≤ n - first → count (isTarget n m first) (first + j) ≡ min first (m - (n - first)) + min m j
   unfolding count isTarget stepsAbove
-  high-targets zero h = ap (count (isTarget n m first)) (add-zero first) ∙ low-targets first (omega arith) ∙ (let z : min first (m - (n - first)) ≡ min first (m - (n - first)) + min m 0 = omega arith in z)
+  high-targets zero h = ap (count (isTarget n m first)) (add-zero first) ∙ low-targets first (omega arith) ∙
+      (let z : min first (m - (n - first)) ≡ min first (m - (n - first)) + min m 0 = omega arith in z)
   high-targets (suc j) h = ap (count (isTarget n m first)) (add-suc first j) ∙ go (ltb (first + j - first) m) refl (high-targets j (omega arith))
     where
       go : (b : Bool) → ltb (first + j - first) m ≡ b → count (isTarget n m first) (first + j) ≡ min first (m - (n - first)) + min m j
@@ -48,9 +50,9 @@ module _ (n m first : ℕ) (few : n ≤ 16) (within : m ≤ n) (start : first < 
       let k : n ≡ first + (n - first) = omega arith in
       let c = high-targets (n - first) (omega arith) in ap (count (isTarget n m first)) k ∙ (c ∙ (let z : min first (m - (n - first)) + min m (n - first) ≡ m = omega arith in z))
 
-  flag-at : (b : ℕ) → b < 16 → getD (targetFlags n m first) b 0 ≡ targetFlag n m first b
+  flag-at : (b : ℕ) → b < maxBricks → getD (targetFlags n m first) b 0 ≡ targetFlag n m first b
   unfolding targetFlags
-  flag-at b l = getD-tabulate 16 (targetFlag n m first) b l
+  flag-at b l = getD-tabulate maxBricks (targetFlag n m first) b l
 
   flag-low : (b : ℕ) → targetFlag n m first b ≤ one-if (ltb b n)
   unfolding targetFlag
@@ -61,7 +63,7 @@ module _ (n m first : ℕ) (few : n ≤ 16) (within : m ≤ n) (start : first < 
       go true false = omega arith
       go false y = omega arith
 
-  flags-within : (k : ℕ) → k ≤ 16 → flagsWithin (targetFlags n m first) n k ≡ true
+  flags-within : (k : ℕ) → k ≤ maxBricks → flagsWithin (targetFlags n m first) n k ≡ true
   unfolding flagsWithin
   flags-within zero h = refl
   flags-within (suc k) h =
@@ -80,5 +82,5 @@ module _ (n m first : ℕ) (few : n ≤ 16) (within : m ≤ n) (start : first < 
   pub targets-set : brickSet (targetFlags n m first) n m ≡ true
   unfolding brickSet members
   targets-set =
-      rw (flags-within 16 (le-refl _))
+      rw (flags-within maxBricks (le-refl _))
       (eq-eqb (count (member (targetFlags n m first)) n) m (count-ext (member (targetFlags n m first)) (isTarget n m first) n target-member ∙ all-targets))

@@ -9,50 +9,51 @@ use Rattle.coord_record.specs.Sound.{opRight, timeRight, namedCount, fil
 use Rattle.coord_record.specs.declared.Coordinator.{Coordinator}
 use Rattle.message.specs.Flags.{members}
 use Rattle.settings.specs.Ranges.{quorum}
-use Rattle.settings.specs.Times.{maxCount, timeOf}
+use Rattle.settings.specs.Times.{maxCount, timeOf, coordinatorCount, lastCoordinator}
 use Rattle.settings.specs.declared.Clock.{Clock}
+use Rattle.coord_record.specs.Records.{idleKind}
 
-pub time-idle : (kind time : ℕ) (clock : Clock) → kind ≡ 0 → eqb time 0 ≡ timeRight kind time clock
+pub time-idle : (kind time : ℕ) (clock : Clock) → kind ≡ idleKind → eqb time 0 ≡ timeRight kind time clock
 unfolding timeRight
-time-idle kind time clock k = rw (eq-eqb kind 0 k)
+time-idle kind time clock k = rw (eq-eqb kind idleKind k)
 
-pub time-none : (kind time : ℕ) (clock : Clock) → (kind ≡ 0 → ⊥) → clock .last < 1 → false ≡ timeRight kind time clock
+pub time-none : (kind time : ℕ) (clock : Clock) → (kind ≡ idleKind → ⊥) → clock .last < 1 → false ≡ timeRight kind time clock
 unfolding timeRight
-time-none kind time clock k h = rw (ne-eqb kind 0 k, lt-leb 1 (clock .last) h)
+time-none kind time clock k h = rw (ne-eqb kind idleKind k, lt-leb 1 (clock .last) h)
 
-pub time-is : (kind time : ℕ) (clock : Clock) → (kind ≡ 0 → ⊥) → 1 ≤ clock .last
-    → eqb time (clock .last * 16 + clock .coordinator) ≡ timeRight kind time clock
+pub time-is : (kind time : ℕ) (clock : Clock) → (kind ≡ idleKind → ⊥) → 1 ≤ clock .last
+    → eqb time (clock .last * coordinatorCount + clock .coordinator) ≡ timeRight kind time clock
 unfolding timeRight timeOf
-time-is kind time clock k h = rw (ne-eqb kind 0 k, le-leb 1 (clock .last) h)
+time-is kind time clock k h = rw (ne-eqb kind idleKind k, le-leb 1 (clock .last) h)
 
 -- What each test of a record gave, in the order of the tests.
 module _ (n m : ℕ) (c : Coordinator) where
-  pub unsound-coordinator : 15 < c .clock .coordinator → false ≡ soundRecord n m c
+  pub unsound-coordinator : lastCoordinator < c .clock .coordinator → false ≡ soundRecord n m c
   unfolding soundRecord
-  unsound-coordinator a = rw (lt-leb (c .clock .coordinator) 15 a)
+  unsound-coordinator a = rw (lt-leb (c .clock .coordinator) lastCoordinator a)
 
-  pub unsound-last : c .clock .coordinator ≤ 15 → maxCount < c .clock .last → false ≡ soundRecord n m c
+  pub unsound-last : c .clock .coordinator ≤ lastCoordinator → maxCount < c .clock .last → false ≡ soundRecord n m c
   unfolding soundRecord
-  unsound-last a b = rw (le-leb (c .clock .coordinator) 15 a, lt-leb (c .clock .last) maxCount b)
+  unsound-last a b = rw (le-leb (c .clock .coordinator) lastCoordinator a, lt-leb (c .clock .last) maxCount b)
 
-  pub unsound-first : c .clock .coordinator ≤ 15 → c .clock .last ≤ maxCount → n ≤ c .op .first → false ≡ soundRecord n m c
+  pub unsound-first : c .clock .coordinator ≤ lastCoordinator → c .clock .last ≤ maxCount → n ≤ c .op .first → false ≡ soundRecord n m c
   unfolding soundRecord
-  unsound-first a b d = rw (le-leb (c .clock .coordinator) 15 a, le-leb (c .clock .last) maxCount b, le-ltb (c .op .first) n d)
+  unsound-first a b d = rw (le-leb (c .clock .coordinator) lastCoordinator a, le-leb (c .clock .last) maxCount b, le-ltb (c .op .first) n d)
 
-  pub sound-rest : c .clock .coordinator ≤ 15 → c .clock .last ≤ maxCount → c .op .first < n
+  pub sound-rest : c .clock .coordinator ≤ lastCoordinator → c .clock .last ≤ maxCount → c .op .first < n
       → soundRecord n m c ≡ opRight (c .op) && timeRight (c .op .kind) (c .op .time) (c .clock) && filledRight n m c
   unfolding soundRecord
-  sound-rest a b d = rw (le-leb (c .clock .coordinator) 15 a, le-leb (c .clock .last) maxCount b, lt-ltb (c .op .first) n d)
+  sound-rest a b d = rw (le-leb (c .clock .coordinator) lastCoordinator a, le-leb (c .clock .last) maxCount b, lt-ltb (c .op .first) n d)
 
-  pub unsound-op : (o : Bool) → c .clock .coordinator ≤ 15 → c .clock .last ≤ maxCount → c .op .first < n → o ≡ opRight (c .op) → o ≡ false
+  pub unsound-op : (o : Bool) → c .clock .coordinator ≤ lastCoordinator → c .clock .last ≤ maxCount → c .op .first < n → o ≡ opRight (c .op) → o ≡ false
       → false ≡ soundRecord n m c
   unsound-op o a b d eo zo = sym (sound-rest a b d ∙ rw (← eo, zo))
 
-  pub unsound-time : (o t : Bool) → c .clock .coordinator ≤ 15 → c .clock .last ≤ maxCount → c .op .first < n → o ≡ opRight (c .op) → o ≡ true
+  pub unsound-time : (o t : Bool) → c .clock .coordinator ≤ lastCoordinator → c .clock .last ≤ maxCount → c .op .first < n → o ≡ opRight (c .op) → o ≡ true
       → t ≡ timeRight (c .op .kind) (c .op .time) (c .clock) → t ≡ false → false ≡ soundRecord n m c
   unsound-time o t a b d eo zo et zt = sym (sound-rest a b d ∙ rw (← eo, zo, ← et, zt))
 
-  pub sound-filled : (o t f : Bool) → c .clock .coordinator ≤ 15 → c .clock .last ≤ maxCount → c .op .first < n → o ≡ opRight (c .op) → o ≡ true
+  pub sound-filled : (o t f : Bool) → c .clock .coordinator ≤ lastCoordinator → c .clock .last ≤ maxCount → c .op .first < n → o ≡ opRight (c .op) → o ≡ true
       → t ≡ timeRight (c .op .kind) (c .op .time) (c .clock) → t ≡ true → f ≡ filledRight n m c → f ≡ soundRecord n m c
   sound-filled o t f a b d eo zo et zt ef = ef ∙ sym (sound-rest a b d ∙ rw (← eo, zo, ← et, zt))
 

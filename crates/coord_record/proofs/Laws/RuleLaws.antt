@@ -11,6 +11,8 @@ use Rattle.byte_lists.proofs.Laws.EachLaws.{each-all, each-not}
 use Rattle.coord_record.specs.CountedRules.{stepsAbove, isTarget, blockRight, countedRight, entryRight, tallyRight, brickRight, bricksRight}
 use Rattle.coord_record.specs.declared.Tally.{Tally}
 use Rattle.message.specs.Messages.{foundRight}
+use Rattle.settings.specs.Ranges.{maxBricks}
+use Rattle.message.specs.Kinds.{readKind, orderReadKind}
 
 pub target-up : (n m first b : ℕ) → first ≤ b → ltb (b - first) m ≡ isTarget n m first b
 unfolding isTarget stepsAbove
@@ -20,35 +22,35 @@ pub target-wrapped : (n m first b : ℕ) → b < first → ltb (n - first + b) m
 unfolding isTarget stepsAbove
 target-wrapped n m first b h = rw (lt-leb first b h)
 
-pub block-target : (phase found : ℕ) (target granted held : Bool) → phase ≡ 1 → granted ≡ true → target ≡ true
+pub block-target : (phase found : ℕ) (target granted held : Bool) → phase ≡ readKind → granted ≡ true → target ≡ true
     → held ≡ blockRight phase target granted held found
 unfolding blockRight
-block-target phase found target granted held p g t = rw (eq-eqb phase 1 p, g, t)
+block-target phase found target granted held p g t = rw (eq-eqb phase readKind p, g, t)
 
-pub block-no-target : (phase found : ℕ) (target granted held : Bool) → phase ≡ 1 → granted ≡ true → target ≡ false
+pub block-no-target : (phase found : ℕ) (target granted held : Bool) → phase ≡ readKind → granted ≡ true → target ≡ false
     → not held ≡ blockRight phase target granted held found
 unfolding blockRight
-block-no-target phase found target granted held p g t = rw (eq-eqb phase 1 p, g, t)
+block-no-target phase found target granted held p g t = rw (eq-eqb phase readKind p, g, t)
 
-pub block-no : (phase found : ℕ) (target granted held : Bool) → phase ≡ 1 → granted ≡ false
+pub block-no : (phase found : ℕ) (target granted held : Bool) → phase ≡ readKind → granted ≡ false
     → not held ≡ blockRight phase target granted held found
 unfolding blockRight
-block-no phase found target granted held p g = rw (eq-eqb phase 1 p, g)
+block-no phase found target granted held p g = rw (eq-eqb phase readKind p, g)
 
-pub block-held : (phase found : ℕ) (target granted held : Bool) → (phase ≡ 1 → ⊥) → held ≡ true → phase ≡ 3
+pub block-held : (phase found : ℕ) (target granted held : Bool) → (phase ≡ readKind → ⊥) → held ≡ true → phase ≡ orderReadKind
     → granted ≡ blockRight phase target granted held found
 unfolding blockRight
-block-held phase found target granted held p h q = rw (ne-eqb phase 1 p, eq-eqb phase 3 q, h)
+block-held phase found target granted held p h q = rw (ne-eqb phase readKind p, eq-eqb phase orderReadKind q, h)
 
-pub block-present : (phase found : ℕ) (target granted held : Bool) → (phase ≡ 1 → ⊥) → held ≡ true → (phase ≡ 3 → ⊥)
+pub block-present : (phase found : ℕ) (target granted held : Bool) → (phase ≡ readKind → ⊥) → held ≡ true → (phase ≡ orderReadKind → ⊥)
     → false ≡ blockRight phase target granted held found
 unfolding blockRight
-block-present phase found target granted held p h q = rw (ne-eqb phase 1 p, ne-eqb phase 3 q, h)
+block-present phase found target granted held p h q = rw (ne-eqb phase readKind p, ne-eqb phase orderReadKind q, h)
 
-pub block-none : (phase found : ℕ) (target granted held : Bool) → (phase ≡ 1 → ⊥) → held ≡ false
+pub block-none : (phase found : ℕ) (target granted held : Bool) → (phase ≡ readKind → ⊥) → held ≡ false
     → eqb found 0 ≡ blockRight phase target granted held found
 unfolding blockRight
-block-none phase found target granted held p h = rw (ne-eqb phase 1 p, h) (go (eqb phase 3) (eqb found 0))
+block-none phase found target granted held p h = rw (ne-eqb phase readKind p, h) (go (eqb phase orderReadKind) (eqb found 0))
   where
     go : (a b : Bool) → b ≡ cond a b (true && b)
     go true b = refl
@@ -91,16 +93,16 @@ counted-block n m phase first b granted held found f t v p h g k e z et ev =
     rw (lt-ltb 0 phase p, lt-ltb b n h, le-leb granted 1 g, le-leb held 1 k, ← e, z, ← et) ev
 
 -- one brick's entry that is not right
-pub tally-not : (n m phase first : ℕ) (t : Tally) (b : ℕ) (v : Bool) → b < 16
+pub tally-not : (n m phase first : ℕ) (t : Tally) (b : ℕ) (v : Bool) → b < maxBricks
     → v ≡ entryRight n m phase first b (getD (t .counted) b 0) (getD (t .granted) b 0) (getD (t .held) b 0) (getD (t .found) b 0)
     → v ≡ false → false ≡ tallyRight n m phase first t
 unfolding tallyRight
 tally-not n m phase first t b v l e z =
     sym (each-not
     (λ (b : ℕ). entryRight n m phase first b (getD (t .counted) b 0) (getD (t .granted) b 0) (getD (t .held) b 0) (getD (t .found) b 0))
-    16 b l (sym e ∙ z))
+    maxBricks b l (sym e ∙ z))
 
-pub tally-all : (n m phase first : ℕ) (t : Tally) (b : ℕ) → 16 ≤ b
+pub tally-all : (n m phase first : ℕ) (t : Tally) (b : ℕ) → maxBricks ≤ b
     → ((k : ℕ) → k < b
     → true ≡ entryRight n m phase first k (getD (t .counted) k 0) (getD (t .granted) k 0) (getD (t .held) k 0) (getD (t .found) k 0))
     → true ≡ tallyRight n m phase first t
@@ -108,22 +110,22 @@ unfolding tallyRight
 tally-all n m phase first t b l h =
     sym (each-all
     (λ (b : ℕ). entryRight n m phase first b (getD (t .counted) b 0) (getD (t .granted) b 0) (getD (t .held) b 0) (getD (t .found) b 0))
-    16 (λ i u. sym (h i (omega arith))))
+    maxBricks (λ i u. sym (h i (omega arith))))
 
 -- the same of the bricks named
-pub bricks-not : (n k : ℕ) (bricks : List ℕ) (i before : ℕ) (v : Bool) → i < 16 → before ≡ getD bricks (i - 1) 0
+pub bricks-not : (n k : ℕ) (bricks : List ℕ) (i before : ℕ) (v : Bool) → i < maxBricks → before ≡ getD bricks (i - 1) 0
     → v ≡ brickRight n k i before (getD bricks i 0) → v ≡ false → false ≡ bricksRight n k bricks
 unfolding bricksRight
 bricks-not n k bricks i before v l e d z =
-    sym (each-not (λ (i : ℕ). brickRight n k i (getD bricks (i - 1) 0) (getD bricks i 0)) 16 i l
+    sym (each-not (λ (i : ℕ). brickRight n k i (getD bricks (i - 1) 0) (getD bricks i 0)) maxBricks i l
     (sym (d ∙ ap (λ (x : ℕ). brickRight n k i x (getD bricks i 0)) e) ∙ z))
 
 pub brick-here : (n k : ℕ) (bricks : List ℕ) (i before : ℕ) (v : Bool) → before ≡ getD bricks (i - 1) 0
     → v ≡ brickRight n k i before (getD bricks i 0) → v ≡ true → true ≡ brickRight n k i (getD bricks (i - 1) 0) (getD bricks i 0)
 brick-here n k bricks i before v e d z = sym z ∙ d ∙ ap (λ (x : ℕ). brickRight n k i x (getD bricks i 0)) e
 
-pub bricks-all : (n k : ℕ) (bricks : List ℕ) (b : ℕ) → 16 ≤ b
+pub bricks-all : (n k : ℕ) (bricks : List ℕ) (b : ℕ) → maxBricks ≤ b
     → ((i : ℕ) → i < b → true ≡ brickRight n k i (getD bricks (i - 1) 0) (getD bricks i 0)) → true ≡ bricksRight n k bricks
 unfolding bricksRight
 bricks-all n k bricks b l h =
-    sym (each-all (λ (i : ℕ). brickRight n k i (getD bricks (i - 1) 0) (getD bricks i 0)) 16 (λ i u. sym (h i (omega arith))))
+    sym (each-all (λ (i : ℕ). brickRight n k i (getD bricks (i - 1) 0) (getD bricks i 0)) maxBricks (λ i u. sym (h i (omega arith))))

@@ -12,14 +12,16 @@ use Rattle.coord_record.specs.declared.Op.{Op}
 use Rattle.message.specs.Flags.{members}
 use Rattle.byte_lists.proofs.Laws.BoolLaws.{and-left, and-right}
 use Rattle.settings.specs.Ranges.{quorum}
-use Rattle.settings.specs.Times.{maxCount}
+use Rattle.settings.specs.Times.{maxCount, lastCoordinator}
 use Rattle.coord_record.specs.SoundParts.{SoundParts}
+use Rattle.message.specs.Kinds.{lastRound, readKind, orderKind, orderReadKind, writeKind}
+use Rattle.coord_record.specs.Records.{idleKind, readingKind, writingKind}
 
 pub sound-from : (n m : ℕ) (c : Coordinator) → SoundParts n m c → soundRecord n m c ≡ true
 unfolding soundRecord filledRight
 sound-from n m c p =
     rw (
-      le-leb (c .clock .coordinator) 15 (p .number-low),
+      le-leb (c .clock .coordinator) lastCoordinator (p .number-low),
       le-leb (c .clock .last) maxCount (p .last-low),
       lt-ltb (c .op .first) n (p .first-low),
       p .op-right,
@@ -32,11 +34,11 @@ sound-from n m c p =
 pub sound-parts : (n m : ℕ) (c : Coordinator) → soundRecord n m c ≡ true → SoundParts n m c
 unfolding soundRecord filledRight
 sound-parts n m c e =
-    go (leb (c .clock .coordinator) 15) (leb (c .clock .last) maxCount) (ltb (c .op .first) n) (opRight (c .op))
+    go (leb (c .clock .coordinator) lastCoordinator) (leb (c .clock .last) maxCount) (ltb (c .op .first) n) (opRight (c .op))
     (timeRight (c .op .kind) (c .op .time) (c .clock)) (bricksRight n (namedCount m (c .op)) (c .bricks))
     (tallyRight n m (c .op .phase) (c .op .first) (c .tally)) (ltb (members (c .tally .counted) n) (quorum n m)) refl refl refl refl refl refl refl refl e
   where
-    go : (a b d o t r w s : Bool) → leb (c .clock .coordinator) 15 ≡ a → leb (c .clock .last) maxCount ≡ b → ltb (c .op .first) n ≡ d
+    go : (a b d o t r w s : Bool) → leb (c .clock .coordinator) lastCoordinator ≡ a → leb (c .clock .last) maxCount ≡ b → ltb (c .op .first) n ≡ d
         → opRight (c .op) ≡ o → timeRight (c .op .kind) (c .op .time) (c .clock) ≡ t → bricksRight n (namedCount m (c .op)) (c .bricks) ≡ r
         → tallyRight n m (c .op .phase) (c .op .first) (c .tally) ≡ w → ltb (members (c .tally .counted) n) (quorum n m) ≡ s
         → a && b && d && o && t && (r && w && s) ≡ true → SoundParts n m c
@@ -46,7 +48,7 @@ sound-parts n m c e =
         let kept = and-left (a && b && d && o) t timed in
         let low = and-left (a && b && d) o kept in
         record {
-          number-low = leb-true (c .clock .coordinator) 15 (ea ∙ and-left a b (and-left (a && b) d low));
+          number-low = leb-true (c .clock .coordinator) lastCoordinator (ea ∙ and-left a b (and-left (a && b) d low));
           last-low = leb-true (c .clock .last) maxCount (eb ∙ and-right a b (and-left (a && b) d low));
           first-low = ltb-true (c .op .first) n (ed ∙ and-right (a && b) d low);
           op-right = eo ∙ and-right (a && b && d) o kept;
@@ -57,31 +59,34 @@ sound-parts n m c e =
         }
 
 -- no round is above the last
-pub round-high : (op : Op) → opRight op ≡ true → op .round ≤ 1000
+pub round-high : (op : Op) → opRight op ≡ true → op .round ≤ lastRound
 unfolding opRight unsetOp readRight storedRight writeRight
 round-high op e =
-    go (eqb (op .kind) 0) (eqb (op .kind) 1) (eqb (op .phase) 1) (eqb (op .phase) 3) (eqb (op .phase) 2) (eqb (op .round) 0) (eqb (op .round) 1)
-    (eqb (op .round) 2) (leb (op .round) 1000) refl refl refl refl e
+    go (eqb (op .kind) idleKind) (eqb (op .kind) readingKind) (eqb (op .phase) readKind) (eqb (op .phase) orderReadKind) (eqb (op .phase) orderKind) (eqb (op .round) 0) (eqb (op .round) 1)
+    (eqb (op .round) 2) (leb (op .round) lastRound) refl refl refl refl e
   where
-    go : (k0 k1 p1 p3 p2 r0 r1 r2 h : Bool) → eqb (op .round) 0 ≡ r0 → eqb (op .round) 1 ≡ r1 → eqb (op .round) 2 ≡ r2 → leb (op .round) 1000 ≡ h
+    go : (k0 k1 p1 p3 p2 r0 r1 r2 h : Bool) → eqb (op .round) 0 ≡ r0 → eqb (op .round) 1 ≡ r1 → eqb (op .round) 2 ≡ r2 → leb (op .round) lastRound ≡ h
         → cond k0 (eqb (op .phase) 0 && r0 && eqb (op .max) 0 && eqb (op .first) 0)
         (cond k1
         (cond p1 (r1 && eqb (op .max) 0)
-        (cond p3 (leb 2 (op .round) && h && maxRight (op .round) (op .max)) (eqb (op .phase) 4 && leb 3 (op .round) && h && eqb (op .max) 0)))
-        (eqb (op .kind) 2 && (eqb (op .first) 0 && eqb (op .max) 0 && cond p2 r1 (eqb (op .phase) 4 && r2))))
+        (cond p3 (leb 2 (op .round) && h && maxRight (op .round) (op .max)) (eqb (op .phase) writeKind && leb 3 (op .round) && h && eqb (op .max) 0)))
+        (eqb (op .kind) writingKind && (eqb (op .first) 0 && eqb (op .max) 0 && cond p2 r1 (eqb (op .phase) writeKind && r2))))
         ≡ true
-        → op .round ≤ 1000
+        → op .round ≤ lastRound
     go true k1 p1 p3 p2 r0 r1 r2 h e0 e1 e2 eh q =
-        let z = eqb-true (op .round) 0 (e0 ∙ and-right (eqb (op .phase) 0) r0 (and-left (eqb (op .phase) 0 && r0) (eqb (op .max) 0) (and-left (eqb (op .phase) 0 && r0 && eqb (op .max) 0) (eqb (op .first) 0) q))) in
+        let z = eqb-true (op .round) 0 (e0 ∙ and-right (eqb (op .phase) 0) r0
+        (and-left (eqb (op .phase) 0 && r0) (eqb (op .max) 0) (and-left (eqb (op .phase) 0 && r0 && eqb (op .max) 0) (eqb (op .first) 0) q))) in
         omega arith
     go false true true p3 p2 r0 r1 r2 h e0 e1 e2 eh q = let z = eqb-true (op .round) 1 (e1 ∙ and-left r1 (eqb (op .max) 0) q) in omega arith
     go false true false true p2 r0 r1 r2 h e0 e1 e2 eh q =
-        leb-true (op .round) 1000 (eh ∙ and-right (leb 2 (op .round)) h (and-left (leb 2 (op .round) && h) (maxRight (op .round) (op .max)) q))
+        leb-true (op .round) lastRound (eh ∙ and-right (leb 2 (op .round)) h (and-left (leb 2 (op .round) && h) (maxRight (op .round) (op .max)) q))
     go false true false false p2 r0 r1 r2 h e0 e1 e2 eh q =
-        leb-true (op .round) 1000 (eh ∙ and-right (eqb (op .phase) 4 && leb 3 (op .round)) h (and-left (eqb (op .phase) 4 && leb 3 (op .round) && h) (eqb (op .max) 0) q))
+        leb-true (op .round) lastRound (eh ∙ and-right (eqb (op .phase) writeKind && leb 3 (op .round)) h (and-left (eqb (op .phase) writeKind && leb 3 (op .round) && h) (eqb (op .max) 0) q))
     go false false p1 p3 true r0 r1 r2 h e0 e1 e2 eh q =
-        let z = eqb-true (op .round) 1 (e1 ∙ and-right (eqb (op .first) 0 && eqb (op .max) 0) r1 (and-right (eqb (op .kind) 2) (eqb (op .first) 0 && eqb (op .max) 0 && r1) q)) in
+        let z = eqb-true (op .round) 1 (e1 ∙ and-right (eqb (op .first) 0 && eqb (op .max) 0) r1 (and-right (eqb (op .kind) writingKind) (eqb (op .first) 0 && eqb (op .max) 0 && r1) q)) in
         omega arith
     go false false p1 p3 false r0 r1 r2 h e0 e1 e2 eh q =
-        let z = eqb-true (op .round) 2 (e2 ∙ and-right (eqb (op .phase) 4) r2 (and-right (eqb (op .first) 0 && eqb (op .max) 0) (eqb (op .phase) 4 && r2) (and-right (eqb (op .kind) 2) (eqb (op .first) 0 && eqb (op .max) 0 && (eqb (op .phase) 4 && r2)) q))) in
+        let z = eqb-true (op .round) 2 (e2 ∙ and-right (eqb (op .phase) writeKind) r2
+        (and-right (eqb (op .first) 0 && eqb (op .max) 0) (eqb (op .phase) writeKind && r2)
+        (and-right (eqb (op .kind) writingKind) (eqb (op .first) 0 && eqb (op .max) 0 && (eqb (op .phase) writeKind && r2)) q))) in
         omega arith

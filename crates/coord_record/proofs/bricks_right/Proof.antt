@@ -10,14 +10,15 @@ use Rattle.coord_record.specs.CountedRules.{brickRight}
 use Rattle.coord_record.proofs.Laws.RuleLaws.{bricks-not, brick-here, bricks-all}
 use Rattle.coord_record.proofs.bricks_right.Statement.{statement}
 use Rattle.coord_record.proofs.bricks_right.Tie as tie
+use Rattle.settings.specs.Ranges.{maxBricks}
 
 abbrev Inv-loop : tie.InvT-loop
 Inv-loop n k bricks before₀ i₀ before i =
-    (i ≤ 16) × (before ≡ getD bricks (i - 1) 0)
+    (i ≤ maxBricks) × (before ≡ getD bricks (i - 1) 0)
     × ((j : ℕ) → j < i → true ≡ brickRight n k j (getD bricks (j - 1) 0) (getD bricks j 0))
 
 abbrev μ-loop : tie.MeasureT-loop
-μ-loop n k bricks before₀ i₀ before i = 16 - i
+μ-loop n k bricks before₀ i₀ before i = maxBricks - i
 
 array-read-before : tie.Need-array-read-before Inv-loop μ-loop
 array-read-before c = omega arith

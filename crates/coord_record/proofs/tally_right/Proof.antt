@@ -10,14 +10,15 @@ use Rattle.coord_record.specs.CountedRules.{entryRight}
 use Rattle.coord_record.proofs.Laws.RuleLaws.{tally-not, tally-all}
 use Rattle.coord_record.proofs.tally_right.Statement.{statement}
 use Rattle.coord_record.proofs.tally_right.Tie as tie
+use Rattle.settings.specs.Ranges.{maxBricks}
 
 abbrev Inv-loop : tie.InvT-loop
 Inv-loop n m phase first counted granted held found b₀ b =
-    (b ≤ 16)
+    (b ≤ maxBricks)
     × ((k : ℕ) → k < b → true ≡ entryRight n m phase first k (getD counted k 0) (getD granted k 0) (getD held k 0) (getD found k 0))
 
 abbrev μ-loop : tie.MeasureT-loop
-μ-loop n m phase first counted granted held found b₀ b = 16 - b
+μ-loop n m phase first counted granted held found b₀ b = maxBricks - b
 
 loop-holds : tie.Need-loop-holds Inv-loop μ-loop
 loop-holds c = (omega arith, λ k h. absurd (not-suc-le-zero h))

@@ -14,52 +14,53 @@ use Rattle.coord_decide.specs.Deciding.{answers}
 use Rattle.coord_refusals.specs.Checks.{recordChecks, startChecks, writeRefusal, readRefusal, lengthsRight, strayChecks, takeRefusal, crashRefusal}
 use Rattle.message.specs.Messages.{replyRefusal}
 use Rattle.message.specs.declared.Reply.{Reply}
-use Rattle.settings.specs.Ranges.{CodeRange}
+use Rattle.settings.specs.Ranges.{CodeRange, maxBricks}
 use Rattle.settings.proofs.Laws.RangeLaws.{code-passed}
 use Rattle.settings.specs.Ranges.{codeRefusal}
-use Rattle.settings.specs.Refusal.{firstRefusal, refuseUnless}
-use Rattle.settings.specs.Times.{drawRefusal}
+use Rattle.settings.specs.Refusal.{firstRefusal, refuseUnless, badLength, badNumber, badRecord, busy, strayReply}
+use Rattle.settings.specs.Times.{drawRefusal, lastCoordinator}
 use Rattle.settings.proofs.Laws.RefusalLaws.{first-stop}
+use Rattle.coord_record.specs.Records.{idleKind}
 
 -- the checks of a record
 module _ (n m : ℕ) (c : Coordinator) (more : List ℕ) where
-  pub record-number : 15 < c .clock .coordinator → 3 ≡ firstRefusal (recordChecks n m c more)
+  pub record-number : lastCoordinator < c .clock .coordinator → badNumber ≡ firstRefusal (recordChecks n m c more)
   unfolding recordChecks firstRefusal
-  record-number h = rw (lt-leb (c .clock .coordinator) 15 h)
+  record-number h = rw (lt-leb (c .clock .coordinator) lastCoordinator h)
 
-  pub record-broken : (s : Bool) → c .clock .coordinator ≤ 15 → s ≡ soundRecord n m c → s ≡ false → 6 ≡ firstRefusal (recordChecks n m c more)
+  pub record-broken : (s : Bool) → c .clock .coordinator ≤ lastCoordinator → s ≡ soundRecord n m c → s ≡ false → badRecord ≡ firstRefusal (recordChecks n m c more)
   unfolding recordChecks firstRefusal
-  record-broken s h e z = rw (le-leb (c .clock .coordinator) 15 h, ← e, z)
+  record-broken s h e z = rw (le-leb (c .clock .coordinator) lastCoordinator h, ← e, z)
 
-  pub record-right : (s : Bool) → c .clock .coordinator ≤ 15 → s ≡ soundRecord n m c → s ≡ true → firstRefusal (recordChecks n m c more) ≡ firstRefusal more
+  pub record-right : (s : Bool) → c .clock .coordinator ≤ lastCoordinator → s ≡ soundRecord n m c → s ≡ true → firstRefusal (recordChecks n m c more) ≡ firstRefusal more
   unfolding recordChecks firstRefusal
-  record-right s h e z = rw (le-leb (c .clock .coordinator) 15 h, ← e, z)
+  record-right s h e z = rw (le-leb (c .clock .coordinator) lastCoordinator h, ← e, z)
 
-pub record-zero : (n m : ℕ) (c : Coordinator) (s : Bool) → c .clock .coordinator ≤ 15 → s ≡ soundRecord n m c → s ≡ true → 0 ≡ firstRefusal (recordChecks n m c [])
+pub record-zero : (n m : ℕ) (c : Coordinator) (s : Bool) → c .clock .coordinator ≤ lastCoordinator → s ≡ soundRecord n m c → s ≡ true → 0 ≡ firstRefusal (recordChecks n m c [])
 unfolding firstRefusal
 record-zero n m c s h e z = sym (record-right n m c [] s h e z)
 
 -- what a record that passes satisfies
 pub record Recorded (n m : ℕ) (c : Coordinator) : Type 0 where
-  pub number-low : c .clock .coordinator ≤ 15
+  pub number-low : c .clock .coordinator ≤ lastCoordinator
   pub is-sound : soundRecord n m c ≡ true
 
 module _ (n m : ℕ) (c : Coordinator) (k : ℕ) (e : k ≡ firstRefusal (recordChecks n m c [])) where
   pub record-stop : (more : List ℕ) → (k ≡ 0 → ⊥) → k ≡ firstRefusal (recordChecks n m c more)
   unfolding recordChecks firstRefusal
-  record-stop more h = go (leb (c .clock .coordinator) 15) (soundRecord n m c) e
+  record-stop more h = go (leb (c .clock .coordinator) lastCoordinator) (soundRecord n m c) e
     where
-      go : (a b : Bool) → k ≡ firstRefusal (refuseUnless a 3 ∷ refuseUnless b 6 ∷ []) → k ≡ firstRefusal (refuseUnless a 3 ∷ refuseUnless b 6 ∷ more)
+      go : (a b : Bool) → k ≡ firstRefusal (refuseUnless a badNumber ∷ refuseUnless b badRecord ∷ []) → k ≡ firstRefusal (refuseUnless a badNumber ∷ refuseUnless b badRecord ∷ more)
       go true true d = absurd (h d)
       go true false d = d
       go false b d = d
 
   pub record-passed : k ≡ 0 → Recorded n m c
   unfolding recordChecks firstRefusal
-  record-passed z = go (leb (c .clock .coordinator) 15) (soundRecord n m c) refl refl e
+  record-passed z = go (leb (c .clock .coordinator) lastCoordinator) (soundRecord n m c) refl refl e
     where
-      go : (a b : Bool) → leb (c .clock .coordinator) 15 ≡ a → soundRecord n m c ≡ b → k ≡ firstRefusal (refuseUnless a 3 ∷ refuseUnless b 6 ∷ []) → Recorded n m c
-      go true true ea eb d = record { number-low = leb-true (c .clock .coordinator) 15 ea; is-sound = eb }
+      go : (a b : Bool) → leb (c .clock .coordinator) lastCoordinator ≡ a → soundRecord n m c ≡ b → k ≡ firstRefusal (refuseUnless a badNumber ∷ refuseUnless b badRecord ∷ []) → Recorded n m c
+      go true true ea eb d = record { number-low = leb-true (c .clock .coordinator) lastCoordinator ea; is-sound = eb }
       go true false ea eb d = absurd (omega arith)
       go false b ea eb d = absurd (omega arith)
 
@@ -76,13 +77,13 @@ module _ (n m : ℕ) (c : Coordinator) (reading k : ℕ) (e : k ≡ firstRefusal
   unfolding startChecks
   start-late l z el h = sym (record-pass n m c k e _ z ∙ rw (← el) (sym (first-stop l _ h)))
 
-  pub start-busy : (l : ℕ) → k ≡ 0 → l ≡ drawRefusal (c .clock) reading → l ≡ 0 → (c .op .kind ≡ 0 → ⊥) → 9 ≡ firstRefusal (startChecks n m c reading)
+  pub start-busy : (l : ℕ) → k ≡ 0 → l ≡ drawRefusal (c .clock) reading → l ≡ 0 → (c .op .kind ≡ idleKind → ⊥) → busy ≡ firstRefusal (startChecks n m c reading)
   unfolding startChecks firstRefusal
-  start-busy l z el zl h = sym (record-pass n m c k e _ z ∙ rw (← el, zl, ne-eqb (c .op .kind) 0 h))
+  start-busy l z el zl h = sym (record-pass n m c k e _ z ∙ rw (← el, zl, ne-eqb (c .op .kind) idleKind h))
 
-  pub start-passes : (l : ℕ) → k ≡ 0 → l ≡ drawRefusal (c .clock) reading → l ≡ 0 → c .op .kind ≡ 0 → 0 ≡ firstRefusal (startChecks n m c reading)
+  pub start-passes : (l : ℕ) → k ≡ 0 → l ≡ drawRefusal (c .clock) reading → l ≡ 0 → c .op .kind ≡ idleKind → 0 ≡ firstRefusal (startChecks n m c reading)
   unfolding startChecks firstRefusal
-  start-passes l z el zl h = sym (record-pass n m c k e _ z ∙ rw (← el, zl, eq-eqb (c .op .kind) 0 h))
+  start-passes l z el zl h = sym (record-pass n m c k e _ z ∙ rw (← el, zl, eq-eqb (c .op .kind) idleKind h))
 
 -- a write
 module _ (n m size : ℕ) (c : Coordinator) (reading bytes stripe bad : ℕ) (e : bad ≡ codeRefusal n m size) where
@@ -90,11 +91,11 @@ module _ (n m size : ℕ) (c : Coordinator) (reading bytes stripe bad : ℕ) (e 
   unfolding writeRefusal
   write-code h = rw (← e) (first-stop bad _ h)
 
-  pub write-bytes : bad ≡ 0 → (bytes ≡ m * size → ⊥) → 2 ≡ writeRefusal n m size c reading bytes stripe
+  pub write-bytes : bad ≡ 0 → (bytes ≡ m * size → ⊥) → badLength ≡ writeRefusal n m size c reading bytes stripe
   unfolding writeRefusal firstRefusal
   write-bytes z h = rw (← e, z, ne-eqb bytes (m * size) h)
 
-  pub write-stripe : bad ≡ 0 → bytes ≡ m * size → (stripe ≡ m * size → ⊥) → 2 ≡ writeRefusal n m size c reading bytes stripe
+  pub write-stripe : bad ≡ 0 → bytes ≡ m * size → (stripe ≡ m * size → ⊥) → badLength ≡ writeRefusal n m size c reading bytes stripe
   unfolding writeRefusal firstRefusal
   write-stripe z b h = rw (← e, z, eq-eqb bytes (m * size) b, ne-eqb stripe (m * size) h)
 
@@ -109,7 +110,7 @@ module _ (n m size : ℕ) (c : Coordinator) (reading first bad : ℕ) (e : bad �
   unfolding readRefusal
   read-code h = rw (← e) (first-stop bad _ h)
 
-  pub read-first : bad ≡ 0 → n ≤ first → 3 ≡ readRefusal n m size c reading first
+  pub read-first : bad ≡ 0 → n ≤ first → badNumber ≡ readRefusal n m size c reading first
   unfolding readRefusal firstRefusal
   read-first z h = rw (← e, z, le-ltb first n h)
 
@@ -143,7 +144,7 @@ module _ (n m : ℕ) (c : Coordinator) (r : Reply) (k : ℕ) (e : k ≡ firstRef
   stray-answers w a z ew zw ea za = sym (record-pass n m c k e _ z ∙ rw (← ew, zw, ← ea, za))
 
   pub stray-not : (w : ℕ) (a : Bool) → k ≡ 0 → w ≡ replyRefusal n r → w ≡ 0 → a ≡ answers n m (c .op) (c .tally) r → a ≡ false
-      → 11 ≡ firstRefusal (strayChecks n m c r)
+      → strayReply ≡ firstRefusal (strayChecks n m c r)
   unfolding strayChecks firstRefusal
   stray-not w a z ew zw ea za = sym (record-pass n m c k e _ z ∙ rw (← ew, zw, ← ea, za))
 
@@ -176,12 +177,12 @@ module _ (n m size : ℕ) (c : Coordinator) (r : Reply) (block blocks stripe cod
   take-code h = rw (← e) (first-stop bad _ h)
 
   pub take-lengths : (l : Bool) → bad ≡ 0 → l ≡ lengthsRight n m size (r .held) block blocks stripe coded → l ≡ false
-      → 2 ≡ takeRefusal n m size c r block blocks stripe coded
+      → badLength ≡ takeRefusal n m size c r block blocks stripe coded
   unfolding takeRefusal firstRefusal
   take-lengths l z el zl = rw (← e, z, ← el, zl)
 
   pub take-brick : (l : Bool) → bad ≡ 0 → l ≡ lengthsRight n m size (r .held) block blocks stripe coded → l ≡ true → n ≤ r .brick
-      → 3 ≡ takeRefusal n m size c r block blocks stripe coded
+      → badNumber ≡ takeRefusal n m size c r block blocks stripe coded
   unfolding takeRefusal firstRefusal
   take-brick l z el zl h = rw (← e, z, ← el, zl, le-ltb (r .brick) n h)
 
@@ -194,12 +195,12 @@ module _ (n m size : ℕ) (c : Coordinator) (r : Reply) (block blocks stripe cod
 pub ranged : (n m size bad : ℕ) → bad ≡ codeRefusal n m size → bad ≡ 0 → CodeRange n m size
 ranged n m size bad e z = code-passed n m size (sym e ∙ z)
 
-pub few-bricks : (n m size bad : ℕ) → bad ≡ codeRefusal n m size → bad ≡ 0 → n ≤ 16
+pub few-bricks : (n m size bad : ℕ) → bad ≡ codeRefusal n m size → bad ≡ 0 → n ≤ maxBricks
 few-bricks n m size bad e z = ranged n m size bad e z .n-high
 
 pub lengths-fit : (n m size : ℕ) → CodeRange n m size → (m * size ≤ 4096) × (n * size ≤ 4096)
 lengths-fit n m size r =
-    let few : m ≤ 16 = omega (arith, r .m-high, r .n-high) in
+    let few : m ≤ maxBricks = omega (arith, r .m-high, r .n-high) in
     let a = mul-le-mul-right size few in let b = mul-le-mul-right size (r .n-high) in
     (omega (arith, r .size-high), omega (arith, r .size-high))
 

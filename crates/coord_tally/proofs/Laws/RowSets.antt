@@ -15,6 +15,7 @@ use Rattle.coord_tally.specs.Counting.{passing, inRow, picked, atTimes, 
 use Rattle.interpolate.specs.Values.{PointSet}
 use Rattle.byte_lists.proofs.Laws.TabulateLaws.{length-tabulate, getD-tabulate}
 use Rattle.settings.specs.Count.{count, one-if}
+use Rattle.settings.specs.Ranges.{maxBricks}
 
 -- one more brick: as it was below, the brick itself at the end
 more-below : (l : List ℕ) (k i : ℕ) → i < length l → getD (l ++ (k ∷ [])) i 0 ≡ getD l i 0
@@ -79,7 +80,7 @@ passing-holds p (suc k) i h = go (p k) refl h (decLt i (length (passing p k))) (
         ap (λ (l : List ℕ). p (getD l i 0)) z ∙ ih (subst (λ (l : List ℕ). i < length l) z u)
 
 -- A row whose first m bricks are different is a set of points.
-pub row-set : (m : ℕ) (row : List ℕ) → length row ≡ 16 → m ≤ 16 → ((i j : ℕ) → i < m → j < m → getD row i 0 ≡ getD row j 0 → i ≡ j) → PointSet (take m row)
+pub row-set : (m : ℕ) (row : List ℕ) → length row ≡ maxBricks → m ≤ maxBricks → ((i j : ℕ) → i < m → j < m → getD row i 0 ≡ getD row j 0 → i ≡ j) → PointSet (take m row)
 row-set m row e h d =
     let long = length-take-le m row (omega arith) in
     record {
@@ -88,16 +89,16 @@ row-set m row e h d =
     }
 
 -- the first m bricks that pass, where there are as many
-module _ (flags found : List ℕ) (time n m : ℕ) (enough : m ≤ count (atTimes flags found time) n) (few : m ≤ 16) where
+module _ (flags found : List ℕ) (time n m : ℕ) (enough : m ≤ count (atTimes flags found time) n) (few : m ≤ maxBricks) where
   pub picked-at : (i : ℕ) → i < m → getD (picked flags found time n m) i 0 ≡ getD (passing (atTimes flags found time) n) i 0
   unfolding picked inRow
   picked-at i h =
-      getD-tabulate 16 (λ (k : ℕ). getD (take m (passing (atTimes flags found time) n)) k 0) i (omega arith)
+      getD-tabulate maxBricks (λ (k : ℕ). getD (take m (passing (atTimes flags found time) n)) k 0) i (omega arith)
       ∙ getD-take m (passing (atTimes flags found time) n) i 0 h
 
-  pub picked-long : length (picked flags found time n m) ≡ 16
+  pub picked-long : length (picked flags found time n m) ≡ maxBricks
   unfolding picked inRow
-  picked-long = length-tabulate 16 (λ (k : ℕ). getD (take m (passing (atTimes flags found time) n)) k 0)
+  picked-long = length-tabulate maxBricks (λ (k : ℕ). getD (take m (passing (atTimes flags found time) n)) k 0)
 
   pub picked-below : (i : ℕ) → i < m → getD (picked flags found time n m) i 0 < n
   picked-below i h =
@@ -127,15 +128,15 @@ module _ (flags found : List ℕ) (time n m : ℕ) (enough : m ≤ count (atTime
       go i j u w q (no a) (no b) = omega arith
 
 -- the targets
-module _ (n m first : ℕ) (few : n ≤ 16) (within : m ≤ n) (start : first < n) where
+module _ (n m first : ℕ) (few : n ≤ maxBricks) (within : m ≤ n) (start : first < n) where
   pub target-at : (i : ℕ) → i < m → getD (targetRow n m first) i 0 ≡ upward n first i
   unfolding targetRow
   target-at i h =
-      getD-tabulate 16 (λ (k : ℕ). cond (ltb k m) (upward n first k) 0) i (omega arith) ∙ rw (lt-ltb i m h)
+      getD-tabulate maxBricks (λ (k : ℕ). cond (ltb k m) (upward n first k) 0) i (omega arith) ∙ rw (lt-ltb i m h)
 
-  pub target-long : length (targetRow n m first) ≡ 16
+  pub target-long : length (targetRow n m first) ≡ maxBricks
   unfolding targetRow
-  target-long = length-tabulate 16 (λ (k : ℕ). cond (ltb k m) (upward n first k) 0)
+  target-long = length-tabulate maxBricks (λ (k : ℕ). cond (ltb k m) (upward n first k) 0)
 
   up-cases : (i : ℕ) → ((first + i < n) × (upward n first i ≡ first + i)) ⊎ ((n ≤ first + i) × (upward n first i ≡ first + i - n))
   unfolding upward

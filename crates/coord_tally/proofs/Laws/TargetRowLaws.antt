@@ -14,6 +14,7 @@ use Rattle.coord_record.specs.CountedRules.{isTarget}
 use Rattle.coord_tally.specs.Counting.{passing, inRow, picked, atTimes, upward, targetRow, targetFlag, targetFlags}
 use Rattle.byte_lists.specs.Lists.{tabulate}
 use Rattle.byte_lists.proofs.Laws.TabulateLaws.{Filled, tabulate-by, length-tabulate, getD-tabulate}
+use Rattle.settings.specs.Ranges.{maxBricks}
 
 -- the row so far: the first m of those that pass below b, and how many they are
 pub record Picks (p : ℕ → Bool) (m b : ℕ) (row : List ℕ) (k : ℕ) : Type 0 where
@@ -32,7 +33,7 @@ take-none : (m : ℕ) → take {A = ℕ} m [] ≡ []
 take-none zero = refl
 take-none (suc m) = refl
 
-pub picks-none : (p : ℕ → Bool) (m : ℕ) → Picks p m 0 (replicate 16 0) 0
+pub picks-none : (p : ℕ → Bool) (m : ℕ) → Picks p m 0 (replicate maxBricks 0) 0
 unfolding passing inRow tabulate
 picks-none p m = record { row-is = rw (take-none m); many = rw (take-none m) }
 
@@ -57,21 +58,21 @@ beyond l b i h = go (decLt i (length l))
         let past : length l < i = omega arith in
         List·getD-eq-default (l ++ (b ∷ [])) 0 (let e = length-append l (b ∷ []) in omega arith) ∙ sym (List·getD-eq-default l 0 (omega arith))
 
-row-more : (l : List ℕ) (b : ℕ) → length l < 16 → set (inRow l) (length l) b ≡ inRow (l ++ (b ∷ []))
+row-more : (l : List ℕ) (b : ℕ) → length l < maxBricks → set (inRow l) (length l) b ≡ inRow (l ++ (b ∷ []))
 unfolding inRow
 row-more l b u =
-    tabulate-by 16 (λ (i : ℕ). getD (l ++ (b ∷ [])) i 0) (set (tabulate 16 (λ (i : ℕ). getD l i 0)) (length l) b)
-    (length-set (tabulate 16 (λ (i : ℕ). getD l i 0)) (length l) b ∙ length-tabulate 16 (λ (i : ℕ). getD l i 0)) (λ i w. go i w (ℕ-discrete i (length l)))
+    tabulate-by maxBricks (λ (i : ℕ). getD (l ++ (b ∷ [])) i 0) (set (tabulate maxBricks (λ (i : ℕ). getD l i 0)) (length l) b)
+    (length-set (tabulate maxBricks (λ (i : ℕ). getD l i 0)) (length l) b ∙ length-tabulate maxBricks (λ (i : ℕ). getD l i 0)) (λ i w. go i w (ℕ-discrete i (length l)))
   where
-    go : (i : ℕ) → i < 16 → Dec (i ≡ length l) → getD (set (tabulate 16 (λ (i : ℕ). getD l i 0)) (length l) b) i 0 ≡ getD (l ++ (b ∷ [])) i 0
+    go : (i : ℕ) → i < maxBricks → Dec (i ≡ length l) → getD (set (tabulate maxBricks (λ (i : ℕ). getD l i 0)) (length l) b) i 0 ≡ getD (l ++ (b ∷ [])) i 0
     go i w (yes e) =
-        ap (λ (j : ℕ). getD (set (tabulate 16 (λ (i : ℕ). getD l i 0)) (length l) b) j 0) e
-        ∙ getD-set-same (tabulate 16 (λ (i : ℕ). getD l i 0)) (length l) b 0 (let z = length-tabulate 16 (λ (i : ℕ). getD l i 0) in omega arith)
+        ap (λ (j : ℕ). getD (set (tabulate maxBricks (λ (i : ℕ). getD l i 0)) (length l) b) j 0) e
+        ∙ getD-set-same (tabulate maxBricks (λ (i : ℕ). getD l i 0)) (length l) b 0 (let z = length-tabulate maxBricks (λ (i : ℕ). getD l i 0) in omega arith)
         ∙ sym (getD-at l b [] 0 i (sym e))
     go i w (no e) =
-        getD-set-other (tabulate 16 (λ (i : ℕ). getD l i 0)) (length l) i b 0 e ∙ getD-tabulate 16 (λ (i : ℕ). getD l i 0) i w ∙ sym (beyond l b i e)
+        getD-set-other (tabulate maxBricks (λ (i : ℕ). getD l i 0)) (length l) i b 0 e ∙ getD-tabulate maxBricks (λ (i : ℕ). getD l i 0) i w ∙ sym (beyond l b i e)
 
-pub picks-more : (p : ℕ → Bool) (m b : ℕ) (row : List ℕ) (k : ℕ) (t : Bool) → Picks p m b row k → t ≡ p b → t ≡ true → k < m → k < 16
+pub picks-more : (p : ℕ → Bool) (m b : ℕ) (row : List ℕ) (k : ℕ) (t : Bool) → Picks p m b row k → t ≡ p b → t ≡ true → k < m → k < maxBricks
     → Picks p m (b + 1) (set row k b) (k + 1)
 picks-more p m b row k t h e z l s =
     let short : length (passing p b) < m = (let q = length-take m (passing p b) in omega (arith, h .many)) in
@@ -102,14 +103,14 @@ pub up-wrapped : (n first i : ℕ) → n ≤ first + i → first + i - n ≡ upw
 unfolding upward
 up-wrapped n first i h = rw (le-ltb (first + i) n h)
 
-pub targets-all : (n m first i : ℕ) (row : List ℕ) → Filled (upward n first) (replicate 16 0) row i → m ≤ i → i ≤ m → m ≤ 16 → row ≡ targetRow n m first
+pub targets-all : (n m first i : ℕ) (row : List ℕ) → Filled (upward n first) (replicate maxBricks 0) row i → m ≤ i → i ≤ m → m ≤ maxBricks → row ≡ targetRow n m first
 unfolding targetRow
 targets-all n m first i row f u v w =
-    tabulate-by 16 (λ (i : ℕ). cond (ltb i m) (upward n first i) 0) row (f .size) (λ j l. go j l (ltb j m) refl)
+    tabulate-by maxBricks (λ (i : ℕ). cond (ltb i m) (upward n first i) 0) row (f .size) (λ j l. go j l (ltb j m) refl)
   where
-    go : (j : ℕ) → j < 16 → (t : Bool) → ltb j m ≡ t → getD row j 0 ≡ cond t (upward n first j) 0
+    go : (j : ℕ) → j < maxBricks → (t : Bool) → ltb j m ≡ t → getD row j 0 ≡ cond t (upward n first j) 0
     go j l true e = f .done j (let q = ltb-true j m e in omega arith)
-    go j l false e = f .rest j (let q = ltb-false j m e in omega arith) ∙ getD-replicate 16 j 0 0 l
+    go j l false e = f .rest j (let q = ltb-false j m e in omega arith) ∙ getD-replicate maxBricks j 0 0 l
 
 pub flag-target : (n m first b : ℕ) (t : Bool) → b < n → t ≡ isTarget n m first b → t ≡ true → 1 ≡ targetFlag n m first b
 unfolding targetFlag
@@ -123,9 +124,9 @@ pub flag-beyond : (n m first b : ℕ) → n ≤ b → 0 ≡ targetFlag n m first
 unfolding targetFlag
 flag-beyond n m first b h = rw (le-ltb b n h)
 
-pub flags-all : (n m first b : ℕ) (flags : List ℕ) → Filled (targetFlag n m first) (replicate 16 0) flags b → 16 ≤ b → flags ≡ targetFlags n m first
+pub flags-all : (n m first b : ℕ) (flags : List ℕ) → Filled (targetFlag n m first) (replicate maxBricks 0) flags b → maxBricks ≤ b → flags ≡ targetFlags n m first
 unfolding targetFlags
-flags-all n m first b flags f l = tabulate-by 16 (targetFlag n m first) flags (f .size) (λ i u. f .done i (omega arith))
+flags-all n m first b flags f l = tabulate-by maxBricks (targetFlag n m first) flags (f .size) (λ i u. f .done i (omega arith))
 
 pub picks-same : (p : ℕ → Bool) (m b : ℕ) (row row′ : List ℕ) (k k′ : ℕ) → Picks p m b row k → row′ ≡ row → k′ ≡ k → Picks p m b row′ k′
 picks-same p m b row row′ k k′ h e f = record { row-is = e ∙ h .row-is; many = f ∙ h .many }

@@ -37,7 +37,11 @@ loop-less : tie.Need-loop-less Inv-loop μ-loop
 loop-less c = omega arith
 
 loop-again : tie.Need-loop-again Inv-loop μ-loop
-loop-again c = (omega arith, below-more _ _ (c .before .before .before .loop .inv .1) (⊎-elim (λ w. is-counted _ _ _ _ _ (w .1 .left)) (λ w. no-target _ _ _ _ _ _ (c .before .is-target .ensures) (w .left)) (c .if1 .came)))
+loop-again c = (
+  omega arith,
+  below-more _ _ (c .before .before .before .loop .inv .1)
+      (⊎-elim (λ w. is-counted _ _ _ _ _ (w .1 .left)) (λ w. no-target _ _ _ _ _ _ (c .before .is-target .ensures) (w .left)) (c .if1 .came)),
+)
 
 returns-2 : tie.Need-returns-2 Inv-loop μ-loop
 returns-2 c = found-none _ _ _ (c .loop-test .left) (c .before .loop .inv .1)

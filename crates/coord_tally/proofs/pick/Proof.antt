@@ -8,10 +8,11 @@ use Rattle.coord_tally.specs.Counting.{atTimes}
 use Rattle.coord_tally.proofs.Laws.TargetRowLaws.{Picks, picks-none, picks-not, picks-full, picks-more, picks-all, picks-same}
 use Rattle.coord_tally.proofs.pick.Statement.{statement}
 use Rattle.coord_tally.proofs.pick.Tie as tie
+use Rattle.settings.specs.Ranges.{maxBricks}
 
 abbrev Inv-loop : tie.InvT-loop
 Inv-loop time n m flags found row₀ k₀ b₀ row k b =
-    Picks (atTimes flags found time) m b row k × (b ≤ n) × (k ≤ b) × (length row ≡ 16)
+    Picks (atTimes flags found time) m b row k × (b ≤ n) × (k ≤ b) × (length row ≡ maxBricks)
 
 abbrev μ-loop : tie.MeasureT-loop
 μ-loop time n m flags found row₀ k₀ b₀ row k b = n - b

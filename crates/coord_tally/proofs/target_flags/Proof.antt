@@ -7,13 +7,14 @@ use Rattle.coord_tally.proofs.Laws.TargetRowLaws.{flags-all}
 use Rattle.byte_lists.proofs.Laws.TabulateLaws.{Filled, filled-none, filled-more}
 use Rattle.coord_tally.proofs.target_flags.Statement.{statement}
 use Rattle.coord_tally.proofs.target_flags.Tie as tie
+use Rattle.settings.specs.Ranges.{maxBricks}
 
 abbrev Inv-loop : tie.InvT-loop
 Inv-loop n m first flags₀ b₀ flags b =
-    Filled (targetFlag n m first) (replicate 16 0) flags b × (b ≤ 16)
+    Filled (targetFlag n m first) (replicate maxBricks 0) flags b × (b ≤ maxBricks)
 
 abbrev μ-loop : tie.MeasureT-loop
-μ-loop n m first flags₀ b₀ flags b = 16 - b
+μ-loop n m first flags₀ b₀ flags b = maxBricks - b
 
 loop-holds : tie.Need-loop-holds Inv-loop μ-loop
 loop-holds c = (filled-none _ _, omega arith)

@@ -7,10 +7,11 @@ use Rattle.coord_tally.proofs.Laws.TargetRowLaws.{targets-all}
 use Rattle.byte_lists.proofs.Laws.TabulateLaws.{Filled, filled-none, filled-more}
 use Rattle.coord_tally.proofs.target_row.Statement.{statement}
 use Rattle.coord_tally.proofs.target_row.Tie as tie
+use Rattle.settings.specs.Ranges.{maxBricks}
 
 abbrev Inv-loop : tie.InvT-loop
 Inv-loop n m first row₀ i₀ row i =
-    Filled (upward n first) (replicate 16 0) row i × (i ≤ m)
+    Filled (upward n first) (replicate maxBricks 0) row i × (i ≤ m)
 
 abbrev μ-loop : tie.MeasureT-loop
 μ-loop n m first row₀ i₀ row i = m - i

@@ -1,4 +1,4 @@
--- Laws of `specs/StepLaws`.
+-- Laws of `specs/Routines`: what passing the checks says, and the ways through each routine.
 use mathlib.Core.Path.{_≡_, refl, sym, ap, _∙_}
 use mathlib.Core.Bool.{Bool, true, false, not, _&&_, _||_}
 use mathlib.Core.List.{List, [], _∷_}
@@ -10,10 +10,11 @@ use lib.ListN.{length}
 use borrow.Author.Tests.{eq-eqb, ne-eqb, lt-leb, lt-ltb, le-ltb, eqb-true, ltb-true}
 use Rattle.coord_apply.specs.Acts.{buffered}
 use Rattle.coord_apply.specs.Workers.{endAnswer, DecisionReady, Acted}
-use Rattle.coord_apply.specs.Acts.{withReplyBlock, withTally, counting, waitingOr, acted, ending, nextRound, firstOp, starting}
-use Rattle.coord_apply.specs.Answers.{Buffered, Went, Step, refused, went, afterChecks, nothingSeen, noMessage, cutSeen, sentCount, sentMessage, sentBlocks, answerOf, blocksAfter, stripeAfter, codedAfter}
+use Rattle.coord_apply.specs.Acts.{withReplyBlock, withTally, counting, waitingOr, acted, ending, nextRound, roundMessage, firstOp, starting}
+use Rattle.coord_apply.specs.Answers.{Buffered, Went, Step, refused, went, afterChecks, nothingSeen, noMessage, cutSeen, sentCount, sentMessage, sentBlocks, answerOf, blocksAfter}
+use Rattle.coord_apply.specs.Answers.{stripeAfter, codedAfter, returned, returnedBy}
 use Rattle.coord_apply.specs.declared.Answer.{Answer}
-use Rattle.coord_record.specs.Records.{noBricks}
+use Rattle.coord_record.specs.Records.{idleKind, readingKind, writingKind, noBricks}
 use Rattle.coord_record.specs.Sound.{soundRecord}
 use Rattle.coord_record.specs.SoundParts.{SoundParts}
 use Rattle.coord_record.proofs.Laws.SoundPartLaws.{sound-parts, round-high}
@@ -26,16 +27,17 @@ use Rattle.coord_decide.specs.declared.Decision.{Decision}
 use Rattle.coord_decide.specs.declared.Decision.the-variants.{Abort, Give, Look, Store, Recover, Finish}
 use Rattle.coord_refusals.proofs.Laws.RefusedLaws.{Recorded, record-passed}
 use Rattle.coord_refusals.specs.Checks.{recordChecks, writeRefusal, readRefusal, lengthsRight, strayChecks, takeRefusal, crashRefusal}
-use Rattle.coordinator.specs.Routines.{drawnThen, writeStep, readStep, takeStep, crashed, crashStep}
+use Rattle.coordinator.specs.Routines.{drawnThen, writeStep, readStep, takeStep, crashed, crashStep, writeCall, readCall, takeCall, crashCall}
 use Rattle.message.specs.Flags.{members}
+use Rattle.message.specs.Kinds.{readKind, orderKind}
 use Rattle.message.specs.Messages.{replyRefusal}
 use Rattle.message.specs.declared.Reply.{Reply}
 use Rattle.settings.specs.Ranges.{CodeRange}
 use Rattle.settings.proofs.Laws.RangeLaws.{code-passed}
 use Rattle.byte_lists.proofs.Laws.BoolLaws.{and-left, and-right}
 use Rattle.settings.specs.Ranges.{codeRefusal, quorum}
-use Rattle.settings.specs.Refusal.{firstRefusal, refuseUnless}
-use Rattle.settings.specs.Times.{drawOf, numberOf}
+use Rattle.settings.specs.Refusal.{firstRefusal, refuseUnless, badLength, badNumber, badRecord, strayReply}
+use Rattle.settings.specs.Times.{drawOf, numberOf, lastCoordinator}
 use Rattle.settings.specs.declared.Clock.{Clock}
 use Rattle.settings.specs.declared.Draw.{Draw}
 use Rattle.settings.specs.declared.Draw.the-variants.{Drawn, Refused}
@@ -51,18 +53,18 @@ unfolding afterChecks
 checked-pass k bad s e z = rw (← e, z)
 
 -- a record that passes
-low-sound : (n m : ℕ) (c : Coordinator) → leb (c .clock .coordinator) 15 ≡ true → soundRecord n m c ≡ true → firstRefusal (recordChecks n m c []) ≡ 0
+low-sound : (n m : ℕ) (c : Coordinator) → leb (c .clock .coordinator) lastCoordinator ≡ true → soundRecord n m c ≡ true → firstRefusal (recordChecks n m c []) ≡ 0
 unfolding recordChecks firstRefusal
 low-sound n m c a b = rw (a, b)
 
 pub record-passes : (n m : ℕ) (c : Coordinator) (more : List ℕ) → firstRefusal (recordChecks n m c more) ≡ 0 → Recorded n m c × (firstRefusal more ≡ 0)
 unfolding recordChecks
 record-passes n m c more e =
-    let a = passed-first (refuseUnless (leb (c .clock .coordinator) 15) 3) (refuseUnless (soundRecord n m c) 6 ∷ more) e in
-    let b = passed-rest (refuseUnless (leb (c .clock .coordinator) 15) 3) (refuseUnless (soundRecord n m c) 6 ∷ more) e in
-    let d = passed-first (refuseUnless (soundRecord n m c) 6) more b in (
-      record-passed n m c 0 (sym (low-sound n m c (tested (leb (c .clock .coordinator) 15) 2 a) (tested (soundRecord n m c) 5 d))) refl,
-      passed-rest (refuseUnless (soundRecord n m c) 6) more b,
+    let a = passed-first (refuseUnless (leb (c .clock .coordinator) lastCoordinator) badNumber) (refuseUnless (soundRecord n m c) badRecord ∷ more) e in
+    let b = passed-rest (refuseUnless (leb (c .clock .coordinator) lastCoordinator) badNumber) (refuseUnless (soundRecord n m c) badRecord ∷ more) e in
+    let d = passed-first (refuseUnless (soundRecord n m c) badRecord) more b in (
+      record-passed n m c 0 (sym (low-sound n m c (tested (leb (c .clock .coordinator) lastCoordinator) 2 a) (tested (soundRecord n m c) 5 d))) refl,
+      passed-rest (refuseUnless (soundRecord n m c) badRecord) more b,
     )
 
 -- what a reply that is not refused satisfies
@@ -88,10 +90,10 @@ take-passed n m size c r block blocks stripe coded bad e z =
     let all = sym e ∙ z in
     let code = passed-first (codeRefusal n m size) _ all in
     let l = passed-rest (codeRefusal n m size) _ all in
-    let lengths = tested (lengthsRight n m size (r .held) block blocks stripe coded) 1 (passed-first (refuseUnless (lengthsRight n m size (r .held) block blocks stripe coded) 2) _ l) in
-    let b = passed-rest (refuseUnless (lengthsRight n m size (r .held) block blocks stripe coded) 2) _ l in
-    let brick = tested (ltb (r .brick) n) 2 (passed-first (refuseUnless (ltb (r .brick) n) 3) _ b) in
-    let s = record-passes n m c _ (passed-rest (refuseUnless (ltb (r .brick) n) 3) _ b) in
+    let lengths = tested (lengthsRight n m size (r .held) block blocks stripe coded) 1 (passed-first (refuseUnless (lengthsRight n m size (r .held) block blocks stripe coded) badLength) _ l) in
+    let b = passed-rest (refuseUnless (lengthsRight n m size (r .held) block blocks stripe coded) badLength) _ l in
+    let brick = tested (ltb (r .brick) n) 2 (passed-first (refuseUnless (ltb (r .brick) n) badNumber) _ b) in
+    let s = record-passes n m c _ (passed-rest (refuseUnless (ltb (r .brick) n) badNumber) _ b) in
     let three = and-left (eqb blocks (n * size) && eqb stripe (m * size) && eqb coded (n * size)) (not (r .held) || eqb block size) lengths in
     let two = and-left (eqb blocks (n * size) && eqb stripe (m * size)) (eqb coded (n * size)) three in
     record {
@@ -103,7 +105,7 @@ take-passed n m size c r block blocks stripe coded bad e z =
       brick-low = ltb-true (r .brick) n brick;
       parts = sound-parts n m c (s .0 .is-sound);
       reply-right = passed-first (replyRefusal n r) _ (s .1);
-      in-round = tested (answers n m (c .op) (c .tally) r) 10 (passed-first (refuseUnless (answers n m (c .op) (c .tally) r) 11) [] (passed-rest (replyRefusal n r) _ (s .1)));
+      in-round = tested (answers n m (c .op) (c .tally) r) 10 (passed-first (refuseUnless (answers n m (c .op) (c .tally) r) strayReply) [] (passed-rest (replyRefusal n r) _ (s .1)));
     }
 
 -- a reply's block fits in its place
@@ -139,34 +141,28 @@ kept-none size r block blocks h = rw h
 
 -- What a reply leads to: the answer and the three buffers.
 module _ (n m size : ℕ) (c : Coordinator) (r : Reply) (block blocks stripe coded : List ℕ) where
-  unfoldable pub stepHere : Step
+  abbrev stepHere : Step
   stepHere = takeStep n m size (buffered c blocks stripe) r block (length coded)
 
-  unfoldable pub Took : Answer → List ℕ → List ℕ → List ℕ → Type 0
-  Took a blocks′ stripe′ coded′ =
-      (a ≡ answerOf c stepHere)
-      × ((blocks′ ≡ blocksAfter (buffered c blocks stripe) stepHere)
-      × ((stripe′ ≡ stripeAfter (buffered c blocks stripe) stepHere) × (coded′ ≡ codedAfter coded stepHere)))
+  abbrev pub Took : Answer → List ℕ → List ℕ → List ℕ → Type 0
+  Took a blocks′ stripe′ coded′ = returned a blocks′ stripe′ coded′ ≡ takeCall n m size c blocks stripe coded r block
 
   pub took-refused : (bad : ℕ) (a : Answer) → bad ≡ takeRefusal n m size c r (length block) (length blocks) (length stripe) (length coded) → (bad ≡ 0 → ⊥)
       → a ≡ answerOf c (refused bad) → Took a blocks stripe coded
-  unfolding Took stepHere takeStep buffered blocksAfter stripeAfter codedAfter
+  unfolding takeStep buffered returnedBy blocksAfter stripeAfter codedAfter
   took-refused bad a e h q =
-      let s : stepHere ≡ refused bad = checked-stop _ bad _ e h in (
-        q ∙ ap (answerOf c) (sym s),
-        (ap (blocksAfter (buffered c blocks stripe)) (sym s), (ap (stripeAfter (buffered c blocks stripe)) (sym s), ap (codedAfter coded) (sym s))),
-      )
+      let s : stepHere ≡ refused bad = checked-stop _ bad _ e h in
+      ap (λ (x : Answer). returned x blocks stripe coded) q ∙ ap (returnedBy (buffered c blocks stripe) coded) (sym s)
 
   took-went : (w : Went) (a : Answer) (blocks′ stripe′ coded′ : List ℕ) → stepHere ≡ went w → a ≡ answerOf c (went w) → blocks′ ≡ w .next .blocks
       → stripe′ ≡ w .next .stripe → coded′ ≡ sentBlocks (w .sent) coded → Took a blocks′ stripe′ coded′
-  unfolding Took blocksAfter stripeAfter codedAfter
-  took-went w a blocks′ stripe′ coded′ s ea eb es ec = (
-    ea ∙ ap (answerOf c) (sym s),
-    (
-      eb ∙ ap (blocksAfter (buffered c blocks stripe)) (sym s),
-      (es ∙ ap (stripeAfter (buffered c blocks stripe)) (sym s), ec ∙ ap (codedAfter coded) (sym s)),
-    ),
-  )
+  unfolding buffered returnedBy blocksAfter stripeAfter codedAfter
+  took-went w a blocks′ stripe′ coded′ s ea eb es ec =
+      ap (λ (x : Answer). returned x blocks′ stripe′ coded′) ea
+      ∙ ap (λ (x : List ℕ). returned (answerOf c (went w)) x stripe′ coded′) eb
+      ∙ ap (λ (x : List ℕ). returned (answerOf c (went w)) (w .next .blocks) x coded′) es
+      ∙ ap (returned (answerOf c (went w)) (w .next .blocks) (w .next .stripe)) ec
+      ∙ ap (returnedBy (buffered c blocks stripe) coded) (sym s)
 
   -- the reply counted: t is the tally, d the record and blocks′ the blocks with it
   module _ (bad : ℕ) (e : bad ≡ takeRefusal n m size c r (length block) (length blocks) (length stripe) (length coded)) (z : bad ≡ 0)
@@ -177,7 +173,7 @@ module _ (n m size : ℕ) (c : Coordinator) (r : Reply) (block blocks stripe cod
         sym (ap (λ (b : List ℕ). buffered d b stripe) eb ∙ ap (λ (x : Coordinator). buffered x (keptBlocks size r block blocks) stripe) (ed ∙ ap (withTally c) et))
 
     step-is : stepHere ≡ went (waitingOr n m size (buffered d blocks′ stripe))
-    unfolding stepHere takeStep buffered
+    unfolding takeStep buffered
     step-is = checked-pass _ bad _ e z ∙ ap (λ (h : Buffered). went (waitingOr n m size h)) counted-is
 
     pub ready-here : length blocks′ ≡ length blocks → DecisionReady n m size d (length blocks′) (length stripe)
@@ -218,13 +214,13 @@ module _ (n m size : ℕ) (c : Coordinator) (r : Reply) (block blocks stripe cod
           (step-is ∙ ap went (rw (← count-here, ← eq, le-ltb k q l) (ap (acted n m size (buffered d blocks′ stripe)) (sym (decided-here x ex)))))
           (ac .answer) (sym (acted-blocks n m size (buffered d blocks′ stripe) x)) (ac .stripe-left) (ac .coded-left)
 
-crashed-idle : (h : Buffered) → h .state .op .kind ≡ 0 → crashed h ≡ record { next = h; sent = []; seen = nothingSeen }
+crashed-idle : (h : Buffered) → h .state .op .kind ≡ idleKind → crashed h ≡ record { next = h; sent = []; seen = nothingSeen }
 unfolding crashed
-crashed-idle h k = rw (eq-eqb (h .state .op .kind) 0 k)
+crashed-idle h k = rw (eq-eqb (h .state .op .kind) idleKind k)
 
-crashed-runs : (h : Buffered) → (h .state .op .kind ≡ 0 → ⊥) → crashed h ≡ ending h (h .stripe) [] cutSeen noBricks
+crashed-runs : (h : Buffered) → (h .state .op .kind ≡ idleKind → ⊥) → crashed h ≡ ending h (h .stripe) [] cutSeen noBricks
 unfolding crashed
-crashed-runs h k = rw (ne-eqb (h .state .op .kind) 0 k)
+crashed-runs h k = rw (ne-eqb (h .state .op .kind) idleKind k)
 
 drawn-refused : (d : Draw) (f : ℕ → Clock → Went) (number : ℕ) → d ≡ Refused number → drawnThen d f ≡ refused number
 unfolding drawnThen
@@ -235,76 +231,95 @@ unfolding drawnThen
 drawn-given d f time next e = rw e
 
 -- a crash
-module _ (n m size : ℕ) (c : Coordinator) (blocks stripe : List ℕ) (bad : ℕ) (e : bad ≡ crashRefusal n m size c) where
-  pub crash-refused : (a : Answer) → (bad ≡ 0 → ⊥) → a ≡ answerOf c (refused bad) → a ≡ answerOf c (crashStep n m size (buffered c blocks stripe))
-  unfolding crashStep buffered
-  crash-refused a h q = q ∙ ap (answerOf c) (sym (checked-stop _ bad _ e h))
+module _ (n m size : ℕ) (c : Coordinator) (blocks stripe coded : List ℕ) (bad : ℕ) (e : bad ≡ crashRefusal n m size c) where
+  pub crash-refused : (a : Answer) → (bad ≡ 0 → ⊥) → a ≡ answerOf c (refused bad)
+      → returned a blocks stripe coded ≡ crashCall n m size c blocks stripe coded
+  unfolding crashStep buffered returnedBy blocksAfter stripeAfter codedAfter
+  crash-refused a h q =
+      ap (λ (x : Answer). returned x blocks stripe coded) q
+      ∙ ap (returnedBy (buffered c blocks stripe) coded) (sym (checked-stop _ bad _ e h))
 
-  pub crash-idle : (a : Answer) → bad ≡ 0 → c .op .kind ≡ 0 → a ≡ keptAnswer c → a ≡ answerOf c (crashStep n m size (buffered c blocks stripe))
-  unfolding crashStep buffered keptAnswer answerOf sentCount sentMessage
+  pub crash-idle : (a : Answer) → bad ≡ 0 → c .op .kind ≡ idleKind → a ≡ keptAnswer c
+      → returned a blocks stripe coded ≡ crashCall n m size c blocks stripe coded
+  unfolding crashStep buffered keptAnswer answerOf sentCount sentMessage sentBlocks returnedBy blocksAfter stripeAfter codedAfter
   crash-idle a z k q =
-      q ∙ ap (answerOf c) (sym (checked-pass _ bad _ e z ∙ ap went (crashed-idle (buffered c blocks stripe) k)))
+      ap (λ (x : Answer). returned x blocks stripe coded) q
+      ∙ ap (returnedBy (buffered c blocks stripe) coded) (sym (checked-pass _ bad _ e z ∙ ap went (crashed-idle (buffered c blocks stripe) k)))
 
-  pub crash-cut : (a : Answer) → bad ≡ 0 → (c .op .kind ≡ 0 → ⊥) → a ≡ endAnswer c cutSeen noBricks 0 noMessage
-      → a ≡ answerOf c (crashStep n m size (buffered c blocks stripe))
-  unfolding crashStep ending buffered endAnswer answerOf sentCount sentMessage
+  pub crash-cut : (a : Answer) → bad ≡ 0 → (c .op .kind ≡ idleKind → ⊥) → a ≡ endAnswer c cutSeen noBricks 0 noMessage
+      → returned a blocks stripe coded ≡ crashCall n m size c blocks stripe coded
+  unfolding crashStep ending buffered endAnswer answerOf sentCount sentMessage sentBlocks returnedBy blocksAfter stripeAfter codedAfter
   crash-cut a z k q =
-      q ∙ ap (answerOf c) (sym (checked-pass _ bad _ e z ∙ ap went (crashed-runs (buffered c blocks stripe) k)))
+      ap (λ (x : Answer). returned x blocks stripe coded) q
+      ∙ ap (returnedBy (buffered c blocks stripe) coded) (sym (checked-pass _ bad _ e z ∙ ap went (crashed-runs (buffered c blocks stripe) k)))
 
 -- a write starts
-module _ (n m size : ℕ) (c : Coordinator) (reading : ℕ) (bytes blocks stripe : List ℕ) (bad : ℕ)
+module _ (n m size : ℕ) (c : Coordinator) (reading : ℕ) (bytes blocks stripe coded : List ℕ) (bad : ℕ)
     (e : bad ≡ writeRefusal n m size c reading (length bytes) (length stripe)) where
+  -- what is begun at a time
+  abbrev begun : ℕ → Clock → Went
+  begun time clock = starting (buffered c blocks stripe) clock (firstOp writingKind orderKind time 0) bytes noBricks
+
   pub write-refused : (a : Answer) → (bad ≡ 0 → ⊥) → a ≡ answerOf c (refused bad)
-      → (a ≡ answerOf c (writeStep n m size (buffered c blocks stripe) reading bytes))
-      × (stripe ≡ stripeAfter (buffered c blocks stripe) (writeStep n m size (buffered c blocks stripe) reading bytes))
-  unfolding writeStep buffered stripeAfter
+      → returned a blocks stripe coded ≡ writeCall n m size c blocks stripe coded reading bytes
+  unfolding writeStep buffered returnedBy blocksAfter stripeAfter codedAfter
   write-refused a h q =
-      let s = checked-stop _ bad _ e h in (q ∙ ap (answerOf c) (sym s), ap (stripeAfter (buffered c blocks stripe)) (sym s))
+      ap (λ (x : Answer). returned x blocks stripe coded) q
+      ∙ ap (returnedBy (buffered c blocks stripe) coded) (sym (checked-stop _ bad _ e h))
 
   pub write-unread : (a : Answer) (number k : ℕ) → bad ≡ 0 → drawOf (c .clock) reading ≡ Refused number → k ≡ number → a ≡ answerOf c (refused k)
-      → (a ≡ answerOf c (writeStep n m size (buffered c blocks stripe) reading bytes))
-      × (stripe ≡ stripeAfter (buffered c blocks stripe) (writeStep n m size (buffered c blocks stripe) reading bytes))
-  unfolding writeStep buffered stripeAfter
+      → returned a blocks stripe coded ≡ writeCall n m size c blocks stripe coded reading bytes
+  unfolding writeStep buffered returnedBy blocksAfter stripeAfter codedAfter
   write-unread a number k z ed ek q =
-      let s = checked-pass _ bad _ e z ∙ drawn-refused (drawOf (c .clock) reading) (λ (t : ℕ) (k : Clock). starting (buffered c blocks stripe) k (firstOp 2 2 t 0) bytes noBricks) number ed in
-      (q ∙ ap (λ (j : ℕ). answerOf c (refused j)) ek ∙ ap (answerOf c) (sym s), ap (stripeAfter (buffered c blocks stripe)) (sym s))
+      ap (λ (x : Answer). returned x blocks stripe coded) (q ∙ ap (λ (j : ℕ). answerOf c (refused j)) ek)
+      ∙ ap (returnedBy (buffered c blocks stripe) coded)
+      (sym (checked-pass _ bad _ e z ∙ drawn-refused (drawOf (c .clock) reading) begun number ed))
 
   pub write-begun : (a : Answer) (time : ℕ) (next : Clock) (stripe′ : List ℕ) → bad ≡ 0 → drawOf (c .clock) reading ≡ Drawn time next → stripe′ ≡ bytes
-      → a ≡ startAnswer next (firstOp 2 2 time 0) noBricks
-      → (a ≡ answerOf c (writeStep n m size (buffered c blocks stripe) reading bytes))
-      × (stripe′ ≡ stripeAfter (buffered c blocks stripe) (writeStep n m size (buffered c blocks stripe) reading bytes))
-  unfolding writeStep buffered stripeAfter starting startAnswer answerOf sentCount sentMessage
+      → a ≡ startAnswer next (firstOp writingKind orderKind time 0) noBricks
+      → returned a blocks stripe′ coded ≡ writeCall n m size c blocks stripe coded reading bytes
+  unfolding writeStep buffered returnedBy blocksAfter stripeAfter codedAfter starting startAnswer answerOf sentCount sentMessage sentBlocks roundMessage firstOp
   write-begun a time next stripe′ z ed es q =
-      let s = checked-pass _ bad _ e z ∙ drawn-given (drawOf (c .clock) reading) (λ (t : ℕ) (k : Clock). starting (buffered c blocks stripe) k (firstOp 2 2 t 0) bytes noBricks) time next ed in
-      (q ∙ ap (answerOf c) (sym s), es ∙ ap (stripeAfter (buffered c blocks stripe)) (sym s))
+      ap (λ (x : Answer). returned x blocks stripe′ coded) q
+      ∙ ap (λ (x : List ℕ). returned (startAnswer next (firstOp writingKind orderKind time 0) noBricks) blocks x coded) es
+      ∙ ap (returnedBy (buffered c blocks stripe) coded)
+      (sym (checked-pass _ bad _ e z ∙ drawn-given (drawOf (c .clock) reading) begun time next ed))
 
 -- a read starts
-module _ (n m size : ℕ) (c : Coordinator) (reading first : ℕ) (blocks stripe : List ℕ) (bad : ℕ) (e : bad ≡ readRefusal n m size c reading first) where
-  pub read-refused : (a : Answer) → (bad ≡ 0 → ⊥) → a ≡ answerOf c (refused bad) → a ≡ answerOf c (readStep n m size (buffered c blocks stripe) reading first)
-  unfolding readStep buffered
-  read-refused a h q = q ∙ ap (answerOf c) (sym (checked-stop _ bad _ e h))
+module _ (n m size : ℕ) (c : Coordinator) (reading first : ℕ) (blocks stripe coded : List ℕ) (bad : ℕ) (e : bad ≡ readRefusal n m size c reading first) where
+  abbrev begun-read : ℕ → Clock → Went
+  begun-read time clock = starting (buffered c blocks stripe) clock (firstOp readingKind readKind time first) stripe (targetFlags n m first)
+
+  pub read-refused : (a : Answer) → (bad ≡ 0 → ⊥) → a ≡ answerOf c (refused bad)
+      → returned a blocks stripe coded ≡ readCall n m size c blocks stripe coded reading first
+  unfolding readStep buffered returnedBy blocksAfter stripeAfter codedAfter
+  read-refused a h q =
+      ap (λ (x : Answer). returned x blocks stripe coded) q
+      ∙ ap (returnedBy (buffered c blocks stripe) coded) (sym (checked-stop _ bad _ e h))
 
   pub read-unread : (a : Answer) (number k : ℕ) → bad ≡ 0 → drawOf (c .clock) reading ≡ Refused number → k ≡ number → a ≡ answerOf c (refused k)
-      → a ≡ answerOf c (readStep n m size (buffered c blocks stripe) reading first)
-  unfolding readStep buffered
+      → returned a blocks stripe coded ≡ readCall n m size c blocks stripe coded reading first
+  unfolding readStep buffered returnedBy blocksAfter stripeAfter codedAfter
   read-unread a number k z ed ek q =
-      q ∙ ap (λ (j : ℕ). answerOf c (refused j)) ek
-      ∙ ap (answerOf c) (sym (checked-pass _ bad _ e z ∙ drawn-refused (drawOf (c .clock) reading) (λ (t : ℕ) (k : Clock). starting (buffered c blocks stripe) k (firstOp 1 1 t first) stripe (targetFlags n m first)) number ed))
+      ap (λ (x : Answer). returned x blocks stripe coded) (q ∙ ap (λ (j : ℕ). answerOf c (refused j)) ek)
+      ∙ ap (returnedBy (buffered c blocks stripe) coded)
+      (sym (checked-pass _ bad _ e z ∙ drawn-refused (drawOf (c .clock) reading) begun-read number ed))
 
   pub read-begun : (a : Answer) (time : ℕ) (next : Clock) (targets : List ℕ) → bad ≡ 0 → drawOf (c .clock) reading ≡ Drawn time next
-      → targets ≡ targetFlags n m first → a ≡ startAnswer next (firstOp 1 1 time first) targets
-      → a ≡ answerOf c (readStep n m size (buffered c blocks stripe) reading first)
-  unfolding readStep buffered starting startAnswer answerOf sentCount sentMessage
+      → targets ≡ targetFlags n m first → a ≡ startAnswer next (firstOp readingKind readKind time first) targets
+      → returned a blocks stripe coded ≡ readCall n m size c blocks stripe coded reading first
+  unfolding readStep buffered returnedBy blocksAfter stripeAfter codedAfter starting startAnswer answerOf sentCount sentMessage sentBlocks roundMessage firstOp
   read-begun a time next targets z ed et q =
-      q ∙ ap (startAnswer next (firstOp 1 1 time first)) et
-      ∙ ap (answerOf c) (sym (checked-pass _ bad _ e z ∙ drawn-given (drawOf (c .clock) reading) (λ (t : ℕ) (k : Clock). starting (buffered c blocks stripe) k (firstOp 1 1 t first) stripe (targetFlags n m first)) time next ed))
+      ap (λ (x : Answer). returned x blocks stripe coded) (q ∙ ap (startAnswer next (firstOp readingKind readKind time first)) et)
+      ∙ ap (returnedBy (buffered c blocks stripe) coded)
+      (sym (checked-pass _ bad _ e z ∙ drawn-given (drawOf (c .clock) reading) begun-read time next ed))
 
 -- what a start that is not refused satisfies
 pub write-lengths : (n m size : ℕ) (c : Coordinator) (reading bytes stripe bad : ℕ) → bad ≡ writeRefusal n m size c reading bytes stripe → bad ≡ 0 → bytes ≡ stripe
 unfolding writeRefusal
 write-lengths n m size c reading bytes stripe bad e z =
     let l = passed-rest (codeRefusal n m size) _ (sym e ∙ z) in
-    let t = tested (eqb bytes (m * size) && eqb stripe (m * size)) 1 (passed-first (refuseUnless (eqb bytes (m * size) && eqb stripe (m * size)) 2) _ l) in
+    let t = tested (eqb bytes (m * size) && eqb stripe (m * size)) 1 (passed-first (refuseUnless (eqb bytes (m * size) && eqb stripe (m * size)) badLength) _ l) in
     eqb-true bytes (m * size) (and-left (eqb bytes (m * size)) (eqb stripe (m * size)) t)
     ∙ sym (eqb-true stripe (m * size) (and-right (eqb bytes (m * size)) (eqb stripe (m * size)) t))
 
@@ -312,7 +327,7 @@ pub first-low : (n m size : ℕ) (c : Coordinator) (reading first bad : ℕ) →
 unfolding readRefusal
 first-low n m size c reading first bad e z =
     let l = passed-rest (codeRefusal n m size) _ (sym e ∙ z) in
-    ltb-true first n (tested (ltb first n) 2 (passed-first (refuseUnless (ltb first n) 3) _ l))
+    ltb-true first n (tested (ltb first n) 2 (passed-first (refuseUnless (ltb first n) badNumber) _ l))
 
 pub start-by : (clock : Clock) (op op′ : Op) (targets : List ℕ) (a : Answer) → a ≡ startAnswer clock op targets → op ≡ op′ → a ≡ startAnswer clock op′ targets
 start-by clock op op′ targets a e eo = e ∙ ap (λ (o : Op). startAnswer clock o targets) eo

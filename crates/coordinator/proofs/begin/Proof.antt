@@ -10,9 +10,12 @@ nothing-counted-requires c κs = search needs
 round-message-requires : tie.Need-round-message-requires
 round-message-requires c κs = search needs
 
+no-message-requires : tie.Need-no-message-requires
+no-message-requires c κs = search needs
+
 returns : tie.Need-returns
 unfolding startAnswer noBricks
 returns c = cc
 
 pub begin-spec : {M : Type 1} → statement M
-begin-spec = tie.close (tie.spec nothing-counted-requires round-message-requires returns)
+begin-spec = tie.close (tie.spec nothing-counted-requires round-message-requires no-message-requires returns)

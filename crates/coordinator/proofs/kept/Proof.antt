@@ -6,6 +6,9 @@ use Rattle.coordinator.proofs.kept.Tie as tie
 no-message-requires : tie.Need-no-message-requires
 no-message-requires c κs = search needs
 
+no-message-requires-2 : tie.Need-no-message-requires-2
+no-message-requires-2 c κs = search needs
+
 nothing-seen-requires : tie.Need-nothing-seen-requires
 nothing-seen-requires c κs = search needs
 
@@ -14,4 +17,4 @@ unfolding keptAnswer
 returns c = cc
 
 pub kept-spec : {M : Type 1} → statement M
-kept-spec = tie.close (tie.spec no-message-requires nothing-seen-requires returns)
+kept-spec = tie.close (tie.spec no-message-requires no-message-requires-2 nothing-seen-requires returns)

@@ -6,6 +6,9 @@ use Rattle.coordinator.proofs.refuse.Tie as tie
 no-message-requires : tie.Need-no-message-requires
 no-message-requires c κs = search needs
 
+no-message-requires-2 : tie.Need-no-message-requires-2
+no-message-requires-2 c κs = search needs
+
 nothing-seen-requires : tie.Need-nothing-seen-requires
 nothing-seen-requires c κs = search needs
 
@@ -14,4 +17,4 @@ unfolding answerOf
 returns c = cc
 
 pub refuse-spec : {M : Type 1} → statement M
-refuse-spec = tie.close (tie.spec no-message-requires nothing-seen-requires returns)
+refuse-spec = tie.close (tie.spec no-message-requires no-message-requires-2 nothing-seen-requires returns)

@@ -11,7 +11,7 @@ refuse-requires : tie.Need-refuse-requires
 refuse-requires c κs = search needs
 
 returns : tie.Need-returns
-returns c = λ blocks stripe. read-refused _ _ _ _ _ _ blocks stripe _ (c .before .before .read-refusal .ensures) _ (c .before .if1 .taken) (c .refuse .ensures)
+returns c = λ blocks stripe coded. read-refused _ _ _ _ _ _ blocks stripe coded _ (c .before .before .read-refusal .ensures) _ (c .before .if1 .taken) (c .refuse .ensures)
 
 draw-requires : tie.Need-draw-requires
 draw-requires c κs = search needs
@@ -29,7 +29,9 @@ refuse-requires-2 : tie.Need-refuse-requires-2
 refuse-requires-2 c κs = search needs
 
 returns-2 : tie.Need-returns-2
-returns-2 c = λ blocks stripe. read-unread _ _ _ _ _ _ blocks stripe _ (c .before .before .before .before .before .before .before .read-refusal .ensures) _ _ _ (c .before .before .before .before .before .before .if1 .left) (sym (c .before .before .before .before .draw .ensures) ∙ c .before .before .enum-told .given .1) (refused-number _ _ _ (c .before .before .enum-told .given .1) (c .before .number .ensures)) (c .refuse2 .ensures)
+returns-2 c = λ blocks stripe coded. read-unread _ _ _ _ _ _ blocks stripe coded _ (c .before .before .before .before .before .before .before .read-refusal .ensures) _ _ _
+    (c .before .before .before .before .before .before .if1 .left) (sym (c .before .before .before .before .draw .ensures) ∙ c .before .before .enum-told .given .1)
+    (refused-number _ _ _ (c .before .before .enum-told .given .1) (c .before .number .ensures)) (c .refuse2 .ensures)
 
 first-op-requires : tie.Need-first-op-requires
 first-op-requires c κs = search needs
@@ -41,7 +43,10 @@ begin-requires : tie.Need-begin-requires
 begin-requires c κs = search needs
 
 returns-3 : tie.Need-returns-3
-returns-3 c = λ blocks stripe. read-begun _ _ _ _ _ _ blocks stripe _ (c .before .before .before .before .before .before .before .before .before .read-refusal .ensures) _ _ _ _ (c .before .before .before .before .before .before .before .before .if1 .left) (sym (c .before .before .before .before .before .before .draw .ensures) ∙ c .before .before .before .before .drawn .given .1) (c .before .target-flags .ensures) (start-by _ _ _ _ _ (c .begin .ensures) (c .before .before .first-op .ensures))
+returns-3 c = λ blocks stripe coded. read-begun _ _ _ _ _ _ blocks stripe coded _ (c .before .before .before .before .before .before .before .before .before .read-refusal .ensures) _ _ _ _
+    (c .before .before .before .before .before .before .before .before .if1 .left)
+    (sym (c .before .before .before .before .before .before .draw .ensures) ∙ c .before .before .before .before .drawn .given .1) (c .before .target-flags .ensures)
+    (start-by _ _ _ _ _ (c .begin .ensures) (c .before .before .first-op .ensures))
 
 pub start-read-spec : {M : Type 1} → statement M
 start-read-spec =

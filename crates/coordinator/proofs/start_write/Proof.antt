@@ -13,7 +13,7 @@ refuse-requires c κs = search needs
 
 returns : tie.Need-returns
 returns c =
-    (λ blocks. write-refused _ _ _ _ _ _ blocks _ _ (c .before .before .write-refusal .ensures) _ (c .before .if1 .taken) (c .refuse .ensures) .0, λ blocks. write-refused _ _ _ _ _ _ blocks _ _ (c .before .before .write-refusal .ensures) _ (c .before .if1 .taken) (c .refuse .ensures) .1)
+    λ blocks coded. write-refused _ _ _ _ _ _ blocks _ coded _ (c .before .before .write-refusal .ensures) _ (c .before .if1 .taken) (c .refuse .ensures)
 
 draw-requires : tie.Need-draw-requires
 draw-requires c κs = search needs
@@ -32,7 +32,9 @@ refuse-requires-2 c κs = search needs
 
 returns-2 : tie.Need-returns-2
 returns-2 c =
-    (λ blocks. write-unread _ _ _ _ _ _ blocks _ _ (c .before .before .before .before .before .before .before .write-refusal .ensures) _ _ _ (c .before .before .before .before .before .before .if1 .left) (sym (c .before .before .before .before .draw .ensures) ∙ c .before .before .enum-told .given .1) (refused-number _ _ _ (c .before .before .enum-told .given .1) (c .before .number .ensures)) (c .refuse2 .ensures) .0, λ blocks. write-unread _ _ _ _ _ _ blocks _ _ (c .before .before .before .before .before .before .before .write-refusal .ensures) _ _ _ (c .before .before .before .before .before .before .if1 .left) (sym (c .before .before .before .before .draw .ensures) ∙ c .before .before .enum-told .given .1) (refused-number _ _ _ (c .before .before .enum-told .given .1) (c .before .number .ensures)) (c .refuse2 .ensures) .1)
+    λ blocks coded. write-unread _ _ _ _ _ _ blocks _ coded _ (c .before .before .before .before .before .before .before .write-refusal .ensures) _ _ _
+    (c .before .before .before .before .before .before .if1 .left) (sym (c .before .before .before .before .draw .ensures) ∙ c .before .before .enum-told .given .1)
+    (refused-number _ _ _ (c .before .before .enum-told .given .1) (c .before .number .ensures)) (c .refuse2 .ensures)
 
 copy-requires : tie.Need-copy-requires
 copy-requires c κs = write-lengths _ _ _ _ _ _ _ _ (c .before .before .before .before .before .before .before .write-refusal .ensures) (c .before .before .before .before .before .before .if1 .left)
@@ -49,7 +51,10 @@ same-length c = search needs
 returns-3 : tie.Need-returns-3
 unfolding noBricks
 returns-3 c =
-    (λ blocks. write-begun _ _ _ _ _ _ blocks _ _ (c .before .before .before .before .before .before .before .before .before .before .before .before .write-refusal .ensures) _ _ _ _ (c .before .before .before .before .before .before .before .before .before .before .before .if1 .left) (sym (c .before .before .before .before .before .before .before .before .before .draw .ensures) ∙ c .before .before .before .before .before .before .before .drawn .given .1) (c .before .before .before .before .copy .ensures) (start-by _ _ _ _ _ (c .begin .ensures) (c .before .first-op .ensures)) .0, λ blocks. write-begun _ _ _ _ _ _ blocks _ _ (c .before .before .before .before .before .before .before .before .before .before .before .before .write-refusal .ensures) _ _ _ _ (c .before .before .before .before .before .before .before .before .before .before .before .if1 .left) (sym (c .before .before .before .before .before .before .before .before .before .draw .ensures) ∙ c .before .before .before .before .before .before .before .drawn .given .1) (c .before .before .before .before .copy .ensures) (start-by _ _ _ _ _ (c .begin .ensures) (c .before .first-op .ensures)) .1)
+    λ blocks coded. write-begun _ _ _ _ _ _ blocks _ coded _ (c .before .before .before .before .before .before .before .before .before .before .before .before .write-refusal .ensures) _ _ _ _
+    (c .before .before .before .before .before .before .before .before .before .before .before .if1 .left)
+    (sym (c .before .before .before .before .before .before .before .before .before .draw .ensures) ∙ c .before .before .before .before .before .before .before .drawn .given .1)
+    (c .before .before .before .before .copy .ensures) (start-by _ _ _ _ _ (c .begin .ensures) (c .before .first-op .ensures))
 
 pub start-write-spec : {M : Type 1} → statement M
 start-write-spec =

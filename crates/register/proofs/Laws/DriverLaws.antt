@@ -1,8 +1,8 @@
 -- Laws of `specs/Driver`.
-use mathlib.Core.Path.{_≡_, refl, sym, ap, ap₂, fun-ext, _∙_}
+use mathlib.Core.Path.{_≡_, refl, sym, ap, ap₂, subst, fun-ext, _∙_}
 use mathlib.Core.Bool.{Bool, true, false, cond}
 use mathlib.Core.List.{List, [], _∷_, _++_, append-nil}
-use Prim.Native.Nat.{ℕ, zero, suc, _*_, _%_}
+use Prim.Native.Nat.{ℕ, zero, suc, _*_, _%_, _≤_}
 use native.Mathlib.Omega.{arith}
 use lib.Dec.{leb, ltb, eqb}
 use lib.ListN.{length, replicate}
@@ -18,17 +18,22 @@ use Rattle.message.specs.Kinds.{writeKind}
 use Rattle.message.specs.declared.Message.{Message}
 use Rattle.message.specs.declared.Reply.{Reply}
 use Rattle.brick.specs.Receive.{outcome}
-use Rattle.coord_record.specs.Records.{noBricks}
+use Rattle.coord_record.specs.Records.{idleKind, noBricks}
 use Rattle.coord_decide.specs.Deciding.{decided}
 use Rattle.coord_decide.specs.declared.Decision.{Decision}
 use Rattle.coord_decide.specs.declared.Decision.the-variants.{Abort, Give, Look, Store, Recover, Finish}
 use Rattle.erasure.specs.Code.{blockOf}
-use Rattle.coord_apply.specs.Acts.{nextRound, ending, acted, counting, waitingOr, starting}
-use Rattle.coord_apply.specs.Answers.{Buffered, Broadcast, Went, Step, refused, went, afterChecks, nothingSeen, cutSeen, sentCount, sentMessage, sentBlocks, answerOf, blocksAfter, stripeAfter, codedAfter}
+use Rattle.coord_apply.specs.Acts.{buffered, nextRound, ending, acted, counting, waitingOr, starting}
+use Rattle.coord_apply.specs.Answers.{Buffered, Broadcast, Went, Step, refused, went, afterChecks, nothingSeen, cutSeen, mostBroadcasts, sentCount, sentMessage, sentBlocks, answerOf}
+use Rattle.coord_apply.specs.Answers.{blocksAfter, stripeAfter, codedAfter, returned, returnedBy}
+use Rattle.coord_apply.proofs.Laws.AnswerLaws.{returned-answer}
+use Rattle.coord_apply.specs.declared.Answer.{Answer}
+use Rattle.coord_record.specs.declared.Coordinator.{Coordinator}
 use Rattle.coordinator.specs.Routines.{takeStep, crashStep, crashed, drawnThen, writeStep, readStep}
 use Rattle.order.specs.Claim.{Seen}
-use Rattle.register.specs.Runs.{plain, Item, message, reply, World, startWrite, startRead, untouched, lost, crashes, Moved, unmoved, putAt, seenOf, blockFor, toAll, broadcasts, coordinated, received, arriving, buffersFit, leaving, leftBy, step}
-use Rattle.register.specs.Driver.{driven, AtMostOne, none, one, Short, called}
+use Rattle.register.specs.Runs.{plain, Item, message, reply, World, startWrite, startRead, untouched, lost, crashes, Moved, unmoved, putAt, seenOf, blockFor, toAll, broadcasts}
+use Rattle.register.specs.Runs.{coordinated, received, arriving, buffersFit, leaving, leftBy, step}
+use Rattle.register.specs.Driver.{listed, driven, AtMostTwo, none, one, two, Short, called}
 
 put-same : {A : Type 0} (f : ℕ → A) (c : ℕ) → putAt f c (f c) ≡ f
 unfolding putAt
@@ -38,13 +43,15 @@ put-same f c = fun-ext (λ j. go j (eqb j c) refl)
     go j true e = ap f (sym (eqb-true j c e))
     go j false e = refl
 
--- only a Write round has blocks
+-- only a Write round has blocks: any others in their place make no difference to other messages
 same-block : (s : Settings) (b : Broadcast) (old : List ℕ) (j : ℕ)
     → blockFor s b j ≡ blockFor s (record { message = b .message; blocks = cond (eqb (b .message .kind) writeKind) (b .blocks) old }) j
 unfolding blockFor
-same-block s b old j = go (eqb (b .message .kind) 4)
+same-block s b old j = go (eqb (b .message .kind) writeKind)
   where
-    go : (a : Bool) → cond a (blockOf (s .size) (b .blocks) j) (replicate (s .size) 0) ≡ cond a (blockOf (s .size) (cond a (b .blocks) old) j) (replicate (s .size) 0)
+    go : (a : Bool)
+        → cond a (blockOf (s .size) (b .blocks) j) (replicate (s .size) 0)
+        ≡ cond a (blockOf (s .size) (cond a (b .blocks) old) j) (replicate (s .size) 0)
     go true = refl
     go false = refl
 
@@ -55,17 +62,46 @@ same-items s b old zero = refl
 same-items s b old (suc k) =
     ap₂ (λ (l : List Item) (block : List ℕ). l ++ message k (b .message) block ∷ []) (same-items s b old k) (same-block s b old k)
 
-same-sent : (s : Settings) (old : List ℕ) {l : List Broadcast} → AtMostOne l
-    → broadcasts s l ≡ cond (eqb (sentCount l) 0) [] (toAll s (record { message = sentMessage l; blocks = sentBlocks l old }) (s .n))
-unfolding broadcasts sentCount sentMessage sentBlocks
+no-block : (s : Settings) (b : Broadcast) (other : List ℕ) (k : ℕ) → eqb (b .message .kind) writeKind ≡ false
+    → toAll s b k ≡ toAll s (record { message = b .message; blocks = other }) k
+no-block s b other k e =
+    same-items s b other k
+    ∙ ap (λ (t : Bool). toAll s (record { message = b .message; blocks = cond t (b .blocks) other }) k) e
+
+-- what is sent by a step is what its answer lists
+same-sent : (s : Settings) (old : List ℕ) {l : List Broadcast} → AtMostTwo l
+    → broadcasts s l ≡ broadcasts s (listed (sentCount l) (sentMessage 0 l) (sentMessage 1 l) (sentBlocks l old))
+unfolding broadcasts listed sentCount sentMessage sentBlocks
 same-sent s old none = refl
-same-sent s old (one b) = append-nil (toAll s b (s .n)) ∙ same-items s b old (s .n)
+same-sent s old (one b) = ap (λ (l : List Item). l ++ []) (same-items s b old (s .n))
+same-sent s old (two a b e) =
+    ap₂ (λ (l k : List Item). l ++ (k ++ [])) (no-block s a _ (s .n) e)
+    (same-items s b (cond (eqb (a .message .kind) writeKind) (a .blocks) old) (s .n))
+
+-- an answer lists no more than it has room for
+pub few-sent : (c : Coordinator) (p : Step) (a : Answer) → Short p → a ≡ answerOf c p → a .sent ≤ mostBroadcasts
+unfolding answerOf sentCount
+few-sent c p a h e = subst (λ (x : Answer). x .sent ≤ mostBroadcasts) (sym e) (few p h)
+  where
+    most : {l : List Broadcast} → AtMostTwo l → length l ≤ mostBroadcasts
+    most none = omega arith
+    most (one b) = omega arith
+    most (two a b e) = omega arith
+
+    few : (q : Step) → Short q → answerOf c q .sent ≤ mostBroadcasts
+    few (refused number) h = omega arith
+    few (went g) h = most h
+
+pub few-returned : (c : Coordinator) (blocks stripe coded : List ℕ) (p : Step) (a : Answer) (blocks′ stripe′ coded′ : List ℕ) → Short p
+    → returned a blocks′ stripe′ coded′ ≡ returnedBy (buffered c blocks stripe) coded p → a .sent ≤ mostBroadcasts
+few-returned c blocks stripe coded p a blocks′ stripe′ coded′ h e =
+    few-sent c p a h (returned-answer c blocks stripe coded p a blocks′ stripe′ coded′ e)
 
 -- A coordinator's step in the world is what the driver makes of the routine's answer and buffers.
 pub coordinated-is-driven : (s : Settings) (w : World) (c : ℕ) (p : Step) (old : List ℕ) → Short p
     → coordinated s w c p
     ≡ driven s w c (answerOf (w .coordinators c .state) p) (blocksAfter (w .coordinators c) p) (stripeAfter (w .coordinators c) p) (codedAfter old p)
-unfolding coordinated driven unmoved answerOf blocksAfter stripeAfter codedAfter nothingSeen seenOf
+unfolding coordinated driven listed broadcasts unmoved answerOf blocksAfter stripeAfter codedAfter nothingSeen seenOf
 coordinated-is-driven s w c (refused number) old h =
     ap₂ (λ (f : ℕ → Buffered) (l : List Item). makes f l []) (sym (put-same (w .coordinators) c)) (sym (append-nil (w .sent)))
   where
@@ -90,7 +126,7 @@ unfolding leaving buffersFit
 left-lost s blocks stripe h eb es = simp (eq-eqb _ _ eb, eq-eqb _ _ es)
 
 lost-is-driven : (s : Settings) (w : World) (c : ℕ) (blocks stripe old : List ℕ) → length blocks ≡ s .n * s .size → length stripe ≡ s .m * s .size
-    → (k : ℕ) (g : Went) → AtMostOne (g .sent) → answerOf (w .coordinators c .state) (afterChecks k (went g)) .refusal ≡ 0
+    → (k : ℕ) (g : Went) → AtMostTwo (g .sent) → answerOf (w .coordinators c .state) (afterChecks k (went g)) .refusal ≡ 0
     → coordinated s w c (leftBy s (lost blocks stripe) (afterChecks k (went g)))
     ≡ driven s w c (answerOf (w .coordinators c .state) (afterChecks k (went g))) blocks stripe (codedAfter old (afterChecks k (went g)))
 unfolding afterChecks leftBy answerOf blocksAfter stripeAfter codedAfter
@@ -107,7 +143,7 @@ lost-is-driven s w c blocks stripe old eb es k g h = go (leb k 0) refl
         ∙ coordinated-is-driven s w c (went (then (record { state = g .next .state; blocks = blocks; stripe = stripe }))) old h
     go false e q = let z = leb-false k 0 e in absurd (omega (arith, z, q))
 
--- the routines send one broadcast at most
+-- the routines send two broadcasts at most, and so far one
 checked-short : (k : ℕ) (p : Step) → Short p → Short (afterChecks k p)
 unfolding afterChecks
 checked-short k p h = go (leb k 0)
@@ -116,13 +152,13 @@ checked-short k p h = go (leb k 0)
     go true = h
     go false = tt
 
-drawn-short : (d : Draw) (f : ℕ → Clock → Went) → ((t : ℕ) (c : Clock) → AtMostOne (f t c .sent)) → Short (drawnThen d f)
+drawn-short : (d : Draw) (f : ℕ → Clock → Went) → ((t : ℕ) (c : Clock) → AtMostTwo (f t c .sent)) → Short (drawnThen d f)
 unfolding drawnThen
 drawn-short (Drawn t c) f h = h t c
 drawn-short (Refused k) f h = tt
 
 module _ (n m size : ℕ) (k : Buffered) where
-  acted-short : (d : Decision) → AtMostOne (acted n m size k d .sent)
+  acted-short : (d : Decision) → AtMostTwo (acted n m size k d .sent)
   unfolding acted nextRound ending
   acted-short Abort = none
   acted-short Give = none
@@ -131,12 +167,12 @@ module _ (n m size : ℕ) (k : Buffered) where
   acted-short (Recover t) = one _
   acted-short Finish = one _
 
-  waiting-short : AtMostOne (waitingOr n m size k .sent)
+  waiting-short : AtMostTwo (waitingOr n m size k .sent)
   unfolding waitingOr
   waiting-short = go (ltb (members (k .state .tally .counted) n) (quorum n m))
     where
       go : (a : Bool)
-          → AtMostOne (cond a (record { next = k; sent = []; seen = nothingSeen }) (acted n m size k (decided n m (k .state .op) (k .state .tally))) .sent)
+          → AtMostTwo (cond a (record { next = k; sent = []; seen = nothingSeen }) (acted n m size k (decided n m (k .state .op) (k .state .tally))) .sent)
       go true = none
       go false = acted-short (decided n m (k .state .op) (k .state .tally))
 
@@ -148,11 +184,11 @@ module _ (n m size : ℕ) (k : Buffered) where
   unfolding readStep starting
   read-short reading first = checked-short _ _ (drawn-short (drawOf (k .state .clock) reading) _ (λ t c. one _))
 
-  crashed-short : AtMostOne (crashed k .sent)
+  crashed-short : AtMostTwo (crashed k .sent)
   unfolding crashed ending
-  crashed-short = go (eqb (k .state .op .kind) 0)
+  crashed-short = go (eqb (k .state .op .kind) idleKind)
     where
-      go : (a : Bool) → AtMostOne (cond a (record { next = k; sent = []; seen = nothingSeen }) (ending k (k .stripe) [] cutSeen noBricks) .sent)
+      go : (a : Bool) → AtMostTwo (cond a (record { next = k; sent = []; seen = nothingSeen }) (ending k (k .stripe) [] cutSeen noBricks) .sent)
       go true = none
       go false = none
 

@@ -1,27 +1,33 @@
 -- Buffers filled row by row, and the ways through a routine at the boundary.
-use mathlib.Core.Path.{_≡_, refl, sym, ap, _∙_}
-use mathlib.Core.Bool.{Bool, true, false}
+use mathlib.Core.Path.{_≡_, refl, sym, ap, ap₂, subst, _∙_}
+use mathlib.Core.Bool.{true, false}
 use mathlib.Core.List.{List, [], _∷_, _++_, append-assoc, append-nil}
 use Prim.Native.Nat.{ℕ, _+_, _-_, _≤_}
 use native.Mathlib.Omega.{arith}
 use lib.Dec.{eqb}
 use lib.ListN.{length, getD, set, take, drop, length-append, length-drop, length-set}
-use lib.Seq.{take-append-add, drop-append-add, take-at}
+use lib.Seq.{take-append-add, drop-append-add, take-at, drop-set-add}
 use borrow.Author.Tests.{eq-eqb, ne-eqb, eqb-true}
 use borrow.Rule.Slice.PartMut.{putMid, post-is}
 use Rattle.byte_lists.specs.Lists.{tabulate}
 use Rattle.byte_lists.proofs.Laws.TabulateLaws.{tabulate-by}
-use Rattle.test_coordinator.specs.CoordinatorBoundary.{recordFor, recordNumbers, recordBytes, lentLengths, saidOr, numberIf, bufferIf, rowPut, rowAt}
+use Rattle.test_coordinator.specs.CoordinatorBoundary.{recordNumbersLength, recordBytesLength, answerNumbersLength, answerBytesLength, coordinatorAt, lastAt, timeAt, roundAt, maxAt}
+use Rattle.test_coordinator.specs.CoordinatorBoundary.{firstAt, foundAt, kindAt, phaseAt, countedAt, grantedAt, heldAt, bricksAt, targetsAt, seenBricksAt, secondTargetsAt}
+use Rattle.test_coordinator.specs.CoordinatorBoundary.{secondKindAt}
+use Rattle.test_coordinator.specs.CoordinatorBoundary.{recordFor, recordNumbers, recordBytes, answerNumbers, answerBytes, Rows, rows, lentLengths, laidOut, atBoundary, crossing, rowPut, rowAt}
+use Rattle.coord_apply.specs.Answers.{Returned, returned}
+use Rattle.settings.specs.Ranges.{maxBricks}
+use Rattle.settings.specs.Refusal.{badLength}
 use Rattle.coord_apply.specs.declared.Answer.{Answer}
 use Rattle.coord_record.specs.declared.Coordinator.{Coordinator}
 use Rattle.byte_lists.proofs.Laws.BoolLaws.{and-left, and-right}
 
 -- sixteen entries, read one by one
-pub sixteen : (t : List ℕ) → length t ≡ 16 → t ≡ tabulate 16 (λ (i : ℕ). getD t i 0)
-sixteen t e = tabulate-by 16 (λ (i : ℕ). getD t i 0) t e (λ i h. refl)
+pub sixteen : (t : List ℕ) → length t ≡ maxBricks → t ≡ tabulate maxBricks (λ (i : ℕ). getD t i 0)
+sixteen t e = tabulate-by maxBricks (λ (i : ℕ). getD t i 0) t e (λ i h. refl)
 
 -- a row replaced, as the code replaces it
-pub row-put-is : (at end : ℕ) (row out ys : List ℕ) → end ≡ at + 16 → ys ≡ row → putMid at (end - at) out ys ≡ rowPut at row out
+pub row-put-is : (at end : ℕ) (row out ys : List ℕ) → end ≡ at + maxBricks → ys ≡ row → putMid at (end - at) out ys ≡ rowPut at row out
 unfolding rowPut
 row-put-is at end row out ys e f =
     ap (λ (l : List ℕ). take at out ++ (ys ++ l)) (post-is at end out (omega arith))
@@ -32,14 +38,14 @@ row-put-is at end row out ys e f =
 pub under : (p l row : List ℕ) (at k : ℕ) → length p + k ≡ at → rowPut at row (p ++ l) ≡ p ++ rowPut k row l
 unfolding rowPut
 under p l row at k e =
-    ap (λ (j : ℕ). take j (p ++ l) ++ (row ++ drop (j + 16) (p ++ l))) (sym e)
-    ∙ ap (λ (z : List ℕ). z ++ (row ++ drop (length p + k + 16) (p ++ l))) (take-append-add p l k)
-    ∙ ap (λ (j : ℕ). (p ++ take k l) ++ (row ++ drop j (p ++ l))) (let s : length p + k + 16 ≡ length p + (k + 16) = omega arith in s)
-    ∙ ap (λ (z : List ℕ). (p ++ take k l) ++ (row ++ z)) (drop-append-add p l (k + 16))
-    ∙ append-assoc p (take k l) (row ++ drop (k + 16) l)
+    ap (λ (j : ℕ). take j (p ++ l) ++ (row ++ drop (j + maxBricks) (p ++ l))) (sym e)
+    ∙ ap (λ (z : List ℕ). z ++ (row ++ drop (length p + k + maxBricks) (p ++ l))) (take-append-add p l k)
+    ∙ ap (λ (j : ℕ). (p ++ take k l) ++ (row ++ drop j (p ++ l))) (let s : length p + k + maxBricks ≡ length p + (k + maxBricks) = omega arith in s)
+    ∙ ap (λ (z : List ℕ). (p ++ take k l) ++ (row ++ z)) (drop-append-add p l (k + maxBricks))
+    ∙ append-assoc p (take k l) (row ++ drop (k + maxBricks) l)
 
 -- the same where the list is given by an equation
-pub put-behind : (p l row o : List ℕ) (at : ℕ) → length p ≡ at → o ≡ p ++ l → rowPut at row o ≡ p ++ (row ++ drop 16 l)
+pub put-behind : (p l row o : List ℕ) (at : ℕ) → length p ≡ at → o ≡ p ++ l → rowPut at row o ≡ p ++ (row ++ drop maxBricks l)
 unfolding rowPut
 put-behind p l row o at e f = ap (rowPut at row) f ∙ under p l row at 0 (omega arith)
 
@@ -48,12 +54,12 @@ pub none-left : (l : List ℕ) → length l ≡ 0 → l ≡ []
 none-left [] e = refl
 none-left (x ∷ l) e = absurd (omega arith)
 
-pub last-row : (row l : List ℕ) → length l ≡ 16 → row ++ drop 16 l ≡ row
-last-row row l e = ap (λ (z : List ℕ). row ++ z) (none-left (drop 16 l) (length-drop 16 l ∙ (omega arith))) ∙ append-nil row
+pub last-row : (row l : List ℕ) → length l ≡ maxBricks → row ++ drop maxBricks l ≡ row
+last-row row l e = ap (λ (z : List ℕ). row ++ z) (none-left (drop maxBricks l) (length-drop maxBricks l ∙ (omega arith))) ∙ append-nil row
 
 -- the numbers of a record
-pub numbers-are : (out : List ℕ) (a b c d e f : ℕ) (row o : List ℕ) → length out ≡ 22
-    → o ≡ rowPut 6 row (set (set (set (set (set (set out 0 a) 1 b) 2 c) 3 d) 4 e) 5 f) → o ≡ a ∷ b ∷ c ∷ d ∷ e ∷ f ∷ row
+pub numbers-are : (out : List ℕ) (a b c d e f : ℕ) (row o : List ℕ) → length out ≡ recordNumbersLength
+    → o ≡ rowPut foundAt row (set (set (set (set (set (set out 0 a) 1 b) 2 c) 3 d) 4 e) 5 f) → o ≡ a ∷ b ∷ c ∷ d ∷ e ∷ f ∷ row
 numbers-are [] a b c d e f row o h p = absurd (omega arith)
 numbers-are (x0 ∷ []) a b c d e f row o h p = absurd (omega arith)
 numbers-are (x0 ∷ x1 ∷ []) a b c d e f row o h p = absurd (omega arith)
@@ -62,47 +68,78 @@ numbers-are (x0 ∷ x1 ∷ x2 ∷ x3 ∷ []) a b c d e f row o h p = absurd (ome
 numbers-are (x0 ∷ x1 ∷ x2 ∷ x3 ∷ x4 ∷ []) a b c d e f row o h p = absurd (omega arith)
 numbers-are (x0 ∷ x1 ∷ x2 ∷ x3 ∷ x4 ∷ x5 ∷ l) a b c d e f row o h p =
     p ∙ put-behind (a ∷ b ∷ c ∷ d ∷ e ∷ f ∷ []) l row (a ∷ b ∷ c ∷ d ∷ e ∷ f ∷ l) 6 refl refl
-    ∙ ap (λ (z : List ℕ). a ∷ b ∷ c ∷ d ∷ e ∷ f ∷ z) (last-row row l (let s : length l ≡ 16 = omega arith in s))
+    ∙ ap (λ (z : List ℕ). a ∷ b ∷ c ∷ d ∷ e ∷ f ∷ z) (last-row row l (let s : length l ≡ maxBricks = omega arith in s))
 
 -- the bytes of an answer: three bytes and two rows
-pub shown-are : (out : List ℕ) (x y z : ℕ) (a b o1 o2 : List ℕ) → length out ≡ 35 → length a ≡ 16
-    → o1 ≡ rowPut 3 a (set (set (set out 0 x) 1 y) 2 z) → o2 ≡ rowPut 19 b o1 → o2 ≡ x ∷ y ∷ z ∷ (a ++ b)
-shown-are [] x y z a b o1 o2 h la p1 p2 = absurd (omega arith)
-shown-are (x0 ∷ []) x y z a b o1 o2 h la p1 p2 = absurd (omega arith)
-shown-are (x0 ∷ x1 ∷ []) x y z a b o1 o2 h la p1 p2 = absurd (omega arith)
-shown-are (x0 ∷ x1 ∷ x2 ∷ l) x y z a b o1 o2 h la p1 p2 =
-    p2 ∙ put-behind (x ∷ y ∷ z ∷ a) (drop 16 l) b o1 19 (omega arith) (p1 ∙ put-behind (x ∷ y ∷ z ∷ []) l a (x ∷ y ∷ z ∷ l) 3 refl refl)
-    ∙ ap (λ (r : List ℕ). x ∷ y ∷ z ∷ (a ++ r)) (last-row b (drop 16 l) (length-drop 16 l ∙ (omega arith)))
+pub only : (l : List ℕ) (w : ℕ) → length l ≡ 1 → set l 0 w ≡ w ∷ []
+only [] w h = absurd (omega arith)
+only (x ∷ []) w h = refl
+only (x ∷ y ∷ l) w h = absurd (omega arith)
+
+pub shown-are : (out : List ℕ) (x y z w : ℕ) (a b c o1 o2 o3 : List ℕ) → length out ≡ answerBytesLength → length a ≡ maxBricks → length b ≡ maxBricks
+    → o1 ≡ rowPut targetsAt a (set (set (set (set out 0 x) 1 y) 2 z) secondKindAt w) → o2 ≡ rowPut seenBricksAt b o1 → o3 ≡ rowPut secondTargetsAt c o2
+    → o3 ≡ x ∷ y ∷ z ∷ (a ++ (b ++ (c ++ w ∷ [])))
+shown-are [] x y z w a b c o1 o2 o3 h la lb p1 p2 p3 = absurd (omega arith)
+shown-are (x0 ∷ []) x y z w a b c o1 o2 o3 h la lb p1 p2 p3 = absurd (omega arith)
+shown-are (x0 ∷ x1 ∷ []) x y z w a b c o1 o2 o3 h la lb p1 p2 p3 = absurd (omega arith)
+shown-are (x0 ∷ x1 ∷ x2 ∷ l) x y z w a b c o1 o2 o3 h la lb p1 p2 p3 =
+    third ∙ ap (λ (r : List ℕ). x ∷ y ∷ z ∷ r) (append-assoc a b (c ++ drop maxBricks l2))
+    ∙ ap (λ (r : List ℕ). x ∷ y ∷ z ∷ (a ++ (b ++ (c ++ r)))) left
+  where
+    l1 : List ℕ
+    l1 = drop maxBricks (set l 48 w)
+
+    l2 : List ℕ
+    l2 = drop maxBricks l1
+
+    first : o1 ≡ x ∷ y ∷ z ∷ (a ++ l1)
+    first = p1 ∙ put-behind (x ∷ y ∷ z ∷ []) (set l 48 w) a (x ∷ y ∷ z ∷ set l 48 w) 3 refl refl
+
+    second : o2 ≡ x ∷ y ∷ z ∷ (a ++ (b ++ l2))
+    second = p2 ∙ put-behind (x ∷ y ∷ z ∷ a) l1 b o1 19 (omega arith) first
+
+    third : o3 ≡ (x ∷ y ∷ z ∷ (a ++ b)) ++ (c ++ drop maxBricks l2)
+    third =
+        p3 ∙ put-behind (x ∷ y ∷ z ∷ (a ++ b)) l2 c o2 35 (omega (arith, length-append a b))
+        (second ∙ ap (λ (r : List ℕ). x ∷ y ∷ z ∷ r) (sym (append-assoc a b l2)))
+
+    left : drop maxBricks l2 ≡ w ∷ []
+    left =
+        ap (λ (r : List ℕ). drop maxBricks (drop maxBricks r)) (drop-set-add maxBricks l 32 w) ∙ ap (drop maxBricks) (drop-set-add maxBricks (drop maxBricks l) maxBricks w)
+        ∙ drop-set-add maxBricks (drop maxBricks (drop maxBricks l)) 0 w
+        ∙ only (drop maxBricks (drop maxBricks (drop maxBricks l))) w
+        (length-drop maxBricks (drop maxBricks (drop maxBricks l)) ∙ ap (λ (k : ℕ). k - maxBricks) (length-drop maxBricks (drop maxBricks l))
+        ∙ ap (λ (k : ℕ). k - maxBricks - maxBricks) (length-drop maxBricks l) ∙ (omega arith))
 
 -- the bytes of a record: two bytes and four rows
-pub bytes-are : (out : List ℕ) (x y : ℕ) (a b c d o1 o2 o3 o4 : List ℕ) → length out ≡ 66 → length a ≡ 16 → length b ≡ 16 → length c ≡ 16
-    → o1 ≡ rowPut 2 a (set (set out 0 x) 1 y) → o2 ≡ rowPut 18 b o1 → o3 ≡ rowPut 34 c o2 → o4 ≡ rowPut 50 d o3
+pub bytes-are : (out : List ℕ) (x y : ℕ) (a b c d o1 o2 o3 o4 : List ℕ) → length out ≡ recordBytesLength → length a ≡ maxBricks → length b ≡ maxBricks → length c ≡ maxBricks
+    → o1 ≡ rowPut countedAt a (set (set out 0 x) 1 y) → o2 ≡ rowPut grantedAt b o1 → o3 ≡ rowPut heldAt c o2 → o4 ≡ rowPut bricksAt d o3
     → o4 ≡ x ∷ y ∷ (a ++ (b ++ (c ++ d)))
 bytes-are [] x y a b c d o1 o2 o3 o4 h la lb lc p1 p2 p3 p4 = absurd (omega arith)
 bytes-are (x0 ∷ []) x y a b c d o1 o2 o3 o4 h la lb lc p1 p2 p3 p4 = absurd (omega arith)
 bytes-are (x0 ∷ x1 ∷ l) x y a b c d o1 o2 o3 o4 h la lb lc p1 p2 p3 p4 =
     p4 ∙ put-behind ((x ∷ y ∷ (a ++ b)) ++ c) l3 d o3 50 (omega (arith, long-3)) (third ∙ sym (append-assoc (x ∷ y ∷ (a ++ b)) c l3))
-    ∙ append-assoc (x ∷ y ∷ (a ++ b)) c (d ++ drop 16 l3)
-    ∙ ap (λ (r : List ℕ). x ∷ y ∷ r) (append-assoc a b (c ++ (d ++ drop 16 l3)))
+    ∙ append-assoc (x ∷ y ∷ (a ++ b)) c (d ++ drop maxBricks l3)
+    ∙ ap (λ (r : List ℕ). x ∷ y ∷ r) (append-assoc a b (c ++ (d ++ drop maxBricks l3)))
     ∙ ap (λ (r : List ℕ). x ∷ y ∷ (a ++ (b ++ (c ++ r)))) (last-row d l3 left-3)
   where
     l1 : List ℕ
-    l1 = drop 16 l
+    l1 = drop maxBricks l
 
     l2 : List ℕ
-    l2 = drop 16 l1
+    l2 = drop maxBricks l1
 
     l3 : List ℕ
-    l3 = drop 16 l2
+    l3 = drop maxBricks l2
 
-    left-3 : length l3 ≡ 16
+    left-3 : length l3 ≡ maxBricks
     left-3 =
-        length-drop 16 l2 ∙ ap (λ (k : ℕ). k - 16) (length-drop 16 l1) ∙ ap (λ (k : ℕ). k - 16 - 16) (length-drop 16 l) ∙ (omega arith)
+        length-drop maxBricks l2 ∙ ap (λ (k : ℕ). k - maxBricks) (length-drop maxBricks l1) ∙ ap (λ (k : ℕ). k - maxBricks - maxBricks) (length-drop maxBricks l) ∙ (omega arith)
 
     long-2 : length (x ∷ y ∷ (a ++ b)) ≡ 34
     long-2 = omega (arith, length-append a b)
 
-    long-3 : length ((x ∷ y ∷ (a ++ b)) ++ c) ≡ 34 + 16
+    long-3 : length ((x ∷ y ∷ (a ++ b)) ++ c) ≡ 34 + maxBricks
     long-3 = omega (arith, length-append (x ∷ y ∷ (a ++ b)) c, long-2)
 
     first : o1 ≡ x ∷ y ∷ (a ++ l1)
@@ -115,40 +152,45 @@ bytes-are (x0 ∷ x1 ∷ l) x y a b c d o1 o2 o3 o4 h la lb lc p1 p2 p3 p4 =
     third = p3 ∙ put-behind (x ∷ y ∷ (a ++ b)) l2 c o2 34 long-2 (second ∙ ap (λ (r : List ℕ). x ∷ y ∷ r) (sym (append-assoc a b l2)))
 
 -- the numbers of an answer
-pub five : (l : List ℕ) (a b c d e : ℕ) → length l ≡ 5 → set (set (set (set (set l 0 a) 1 b) 2 c) 3 d) 4 e ≡ a ∷ b ∷ c ∷ d ∷ e ∷ []
-five [] a b c d e h = absurd (omega arith)
-five (x0 ∷ []) a b c d e h = absurd (omega arith)
-five (x0 ∷ x1 ∷ []) a b c d e h = absurd (omega arith)
-five (x0 ∷ x1 ∷ x2 ∷ []) a b c d e h = absurd (omega arith)
-five (x0 ∷ x1 ∷ x2 ∷ x3 ∷ []) a b c d e h = absurd (omega arith)
-five (x0 ∷ x1 ∷ x2 ∷ x3 ∷ x4 ∷ []) a b c d e h = refl
-five (x0 ∷ x1 ∷ x2 ∷ x3 ∷ x4 ∷ y ∷ l) a b c d e h = absurd (omega arith)
+pub eight : (l : List ℕ) (a b c d e f g k : ℕ) → length l ≡ answerNumbersLength
+    → set (set (set (set (set (set (set (set l 0 a) 1 b) 2 c) 3 d) 4 e) 5 f) 6 g) 7 k ≡ a ∷ b ∷ c ∷ d ∷ e ∷ f ∷ g ∷ k ∷ []
+eight [] a b c d e f g k h = absurd (omega arith)
+eight (x0 ∷ []) a b c d e f g k h = absurd (omega arith)
+eight (x0 ∷ x1 ∷ []) a b c d e f g k h = absurd (omega arith)
+eight (x0 ∷ x1 ∷ x2 ∷ []) a b c d e f g k h = absurd (omega arith)
+eight (x0 ∷ x1 ∷ x2 ∷ x3 ∷ []) a b c d e f g k h = absurd (omega arith)
+eight (x0 ∷ x1 ∷ x2 ∷ x3 ∷ x4 ∷ []) a b c d e f g k h = absurd (omega arith)
+eight (x0 ∷ x1 ∷ x2 ∷ x3 ∷ x4 ∷ x5 ∷ []) a b c d e f g k h = absurd (omega arith)
+eight (x0 ∷ x1 ∷ x2 ∷ x3 ∷ x4 ∷ x5 ∷ x6 ∷ []) a b c d e f g k h = absurd (omega arith)
+eight (x0 ∷ x1 ∷ x2 ∷ x3 ∷ x4 ∷ x5 ∷ x6 ∷ x7 ∷ []) a b c d e f g k h = refl
+eight (x0 ∷ x1 ∷ x2 ∷ x3 ∷ x4 ∷ x5 ∷ x6 ∷ x7 ∷ y ∷ l) a b c d e f g k h = absurd (omega arith)
 
 -- the ways through the test of the four buffers
-pub lent-no-numbers : (a b c d : ℕ) → (a ≡ 22 → ⊥) → false ≡ lentLengths a b c d
+pub lent-no-numbers : (a b c d : ℕ) → (a ≡ recordNumbersLength → ⊥) → false ≡ lentLengths a b c d
 unfolding lentLengths
-lent-no-numbers a b c d h = rw (ne-eqb a 22 h) refl
+lent-no-numbers a b c d h = rw (ne-eqb a recordNumbersLength h) refl
 
-pub lent-no-bytes : (a b c d : ℕ) → a ≡ 22 → (b ≡ 66 → ⊥) → false ≡ lentLengths a b c d
+pub lent-no-bytes : (a b c d : ℕ) → a ≡ recordNumbersLength → (b ≡ recordBytesLength → ⊥) → false ≡ lentLengths a b c d
 unfolding lentLengths
-lent-no-bytes a b c d e h = rw (eq-eqb a 22 e, ne-eqb b 66 h) refl
+lent-no-bytes a b c d e h = rw (eq-eqb a recordNumbersLength e, ne-eqb b recordBytesLength h) refl
 
-pub lent-no-sent : (a b c d : ℕ) → a ≡ 22 → b ≡ 66 → (c ≡ 5 → ⊥) → false ≡ lentLengths a b c d
+pub lent-no-sent : (a b c d : ℕ) → a ≡ recordNumbersLength → b ≡ recordBytesLength → (c ≡ answerNumbersLength → ⊥) → false ≡ lentLengths a b c d
 unfolding lentLengths
-lent-no-sent a b c d e f h = rw (eq-eqb a 22 e, eq-eqb b 66 f, ne-eqb c 5 h) refl
+lent-no-sent a b c d e f h = rw (eq-eqb a recordNumbersLength e, eq-eqb b recordBytesLength f, ne-eqb c answerNumbersLength h) refl
 
-pub lent-last : (a b c d : ℕ) → a ≡ 22 → b ≡ 66 → c ≡ 5 → eqb d 35 ≡ lentLengths a b c d
+pub lent-last : (a b c d : ℕ) → a ≡ recordNumbersLength → b ≡ recordBytesLength → c ≡ answerNumbersLength → eqb d answerBytesLength ≡ lentLengths a b c d
 unfolding lentLengths
-lent-last a b c d e f g = rw (eq-eqb a 22 e, eq-eqb b 66 f, eq-eqb c 5 g) refl
+lent-last a b c d e f g = rw (eq-eqb a recordNumbersLength e, eq-eqb b recordBytesLength f, eq-eqb c answerNumbersLength g) refl
 
--- an answer written, or refused
-pub said-refused : (a : Answer) (new old : List ℕ) → (a .refusal ≡ 0 → ⊥) → old ≡ saidOr a new old
-unfolding saidOr
-said-refused a new old h = rw (ne-eqb (a .refusal) 0 h) refl
+-- an answer laid out, or refused
+pub laid-refused : (l : Rows) (a : Answer) → (a .refusal ≡ 0 → ⊥) → l ≡ laidOut l a
+unfolding laidOut
+laid-refused l a h = rw (ne-eqb (a .refusal) 0 h) refl
 
-pub said-given : (a : Answer) (new old out : List ℕ) → a .refusal ≡ 0 → out ≡ new → out ≡ saidOr a new old
-unfolding saidOr
-said-given a new old out h e = rw (eq-eqb (a .refusal) 0 h) e
+pub laid-given : (l : Rows) (a : Answer) (numbers bytes sent shown : List ℕ) → a .refusal ≡ 0 → numbers ≡ recordNumbers (a .next)
+    → bytes ≡ recordBytes (a .next) → sent ≡ answerNumbers a → shown ≡ answerBytes a → rows numbers bytes sent shown ≡ laidOut l a
+unfolding laidOut
+laid-given l a numbers bytes sent shown h en eb es eo = rw (eq-eqb (a .refusal) 0 h) cc
 
 -- lengths after single stores and after rows
 pub at-least : (k n : ℕ) (l : List ℕ) → length l ≡ n → k ≤ n → k ≤ length l
@@ -160,25 +202,28 @@ two-set l n i j x y e = length-set (set l i x) j y ∙ length-set l i x ∙ e
 pub three-set : (l : List ℕ) (n i j k x y z : ℕ) → length l ≡ n → length (set (set (set l i x) j y) k z) ≡ n
 three-set l n i j k x y z e = length-set (set (set l i x) j y) k z ∙ two-set l n i j x y e
 
+pub four-set : (l : List ℕ) (n i j k i′ x y z x′ : ℕ) → length l ≡ n → length (set (set (set (set l i x) j y) k z) i′ x′) ≡ n
+four-set l n i j k i′ x y z x′ e = length-set (set (set (set l i x) j y) k z) i′ x′ ∙ three-set l n i j k x y z e
+
 pub six-set : (l : List ℕ) (n i j k i′ j′ k′ x y z x′ y′ z′ : ℕ) → length l ≡ n
     → length (set (set (set (set (set (set l i x) j y) k z) i′ x′) j′ y′) k′ z′) ≡ n
 six-set l n i j k i′ j′ k′ x y z x′ y′ z′ e =
     three-set (set (set (set l i x) j y) k z) n i′ j′ k′ x′ y′ z′ (three-set l n i j k x y z e)
 
 -- the record that is read
-pub record-is : (numbers bytes found counted granted held bricks : List ℕ) → found ≡ rowAt 6 numbers → counted ≡ rowAt 2 bytes → granted ≡ rowAt 18 bytes
-    → held ≡ rowAt 34 bytes → bricks ≡ rowAt 50 bytes
+pub record-is : (numbers bytes found counted granted held bricks : List ℕ) → found ≡ rowAt foundAt numbers → counted ≡ rowAt countedAt bytes → granted ≡ rowAt grantedAt bytes
+    → held ≡ rowAt heldAt bytes → bricks ≡ rowAt bricksAt bytes
     → _≡_ {A = Coordinator}
     (record {
-      clock = record { coordinator = getD numbers 0 0; last = getD numbers 1 0 };
+      clock = record { coordinator = getD numbers coordinatorAt 0; last = getD numbers lastAt 0 };
       op =
           record {
-            kind = getD bytes 0 0;
-            phase = getD bytes 1 0;
-            time = getD numbers 2 0;
-            round = getD numbers 3 0;
-            max = getD numbers 4 0;
-            first = getD numbers 5 0;
+            kind = getD bytes kindAt 0;
+            phase = getD bytes phaseAt 0;
+            time = getD numbers timeAt 0;
+            round = getD numbers roundAt 0;
+            max = getD numbers maxAt 0;
+            first = getD numbers firstAt 0;
           };
       tally = record { counted = counted; granted = granted; held = held; found = found };
       bricks = bricks;
@@ -189,61 +234,53 @@ record-is numbers bytes found counted granted held bricks ef ec eg eh eb = rw (e
 
 -- what the test says of the four lengths
 pub record Lengths (numbers bytes sent shown : ℕ) : Type 0 where
-  pub numbers-long : numbers ≡ 22
-  pub bytes-long : bytes ≡ 66
-  pub sent-long : sent ≡ 5
-  pub shown-long : shown ≡ 35
+  pub numbers-long : numbers ≡ recordNumbersLength
+  pub bytes-long : bytes ≡ recordBytesLength
+  pub sent-long : sent ≡ answerNumbersLength
+  pub shown-long : shown ≡ answerBytesLength
 
 pub lengths : (a b c d : ℕ) → lentLengths a b c d ≡ true → Lengths a b c d
 unfolding lentLengths
 lengths a b c d e =
-    let e2 = and-right (eqb a 22) _ e in
-    let e3 = and-right (eqb b 66) _ e2 in
+    let e2 = and-right (eqb a recordNumbersLength) _ e in
+    let e3 = and-right (eqb b recordBytesLength) _ e2 in
     record {
-      numbers-long = eqb-true a 22 (and-left (eqb a 22) _ e);
-      bytes-long = eqb-true b 66 (and-left (eqb b 66) _ e2);
-      sent-long = eqb-true c 5 (and-left (eqb c 5) _ e3);
-      shown-long = eqb-true d 35 (and-right (eqb c 5) _ e3);
+      numbers-long = eqb-true a recordNumbersLength (and-left (eqb a recordNumbersLength) _ e);
+      bytes-long = eqb-true b recordBytesLength (and-left (eqb b recordBytesLength) _ e2);
+      sent-long = eqb-true c answerNumbersLength (and-left (eqb c answerNumbersLength) _ e3);
+      shown-long = eqb-true d answerBytesLength (and-right (eqb c answerNumbersLength) _ e3);
     }
 
--- a number or buffer behind a test that fails, or holds
-pub short-number : (ok : Bool) (k : ℕ) → ok ≡ false → 2 ≡ numberIf ok k
-unfolding numberIf
-short-number ok k e = rw e
+-- a call behind a test that fails, or holds
+pub crossed-short : (l : Rows) (blocks stripe coded : List ℕ) (r : Returned)
+    → lentLengths (length (l .numbers)) (length (l .bytes)) (length (l .sent)) (length (l .shown)) ≡ false
+    → atBoundary badLength l blocks stripe coded ≡ crossing l blocks stripe coded r
+unfolding crossing
+crossed-short l blocks stripe coded r e = rw e refl
 
-pub short-buffer : (ok : Bool) (new old : List ℕ) → ok ≡ false → old ≡ bufferIf ok new old
-unfolding bufferIf
-short-buffer ok new old e = rw e
-
-pub whole-number : (ok : Bool) (k r : ℕ) → ok ≡ true → r ≡ k → r ≡ numberIf ok k
-unfolding numberIf
-whole-number ok k r e f = rw e f
-
-pub whole-buffer : (ok : Bool) (new old r : List ℕ) → ok ≡ true → r ≡ new → r ≡ bufferIf ok new old
-unfolding bufferIf
-whole-buffer ok new old r e f = rw e f
-
--- an answer that equals the one wanted is written as that one
-pub said-number : (a A : Answer) (r : ℕ) → a ≡ A → r ≡ a .refusal → r ≡ A .refusal
-said-number a A r e f = f ∙ ap (λ (x : Answer). x .refusal) e
-
-pub said-buffer : (f : Answer → List ℕ) (a A : Answer) (old r : List ℕ) → a ≡ A → r ≡ saidOr a (f a) old → r ≡ saidOr A (f A) old
-said-buffer f a A old r e g = g ∙ ap (λ (x : Answer). saidOr x (f x) old) e
+pub crossed : (l l′ : Rows) (number : ℕ) (a : Answer) (blocks stripe coded blocks′ stripe′ coded′ : List ℕ) (r : Returned)
+    → lentLengths (length (l .numbers)) (length (l .bytes)) (length (l .sent)) (length (l .shown)) ≡ true
+    → returned a blocks′ stripe′ coded′ ≡ r → number ≡ a .refusal → l′ ≡ laidOut l a
+    → atBoundary number l′ blocks′ stripe′ coded′ ≡ crossing l blocks stripe coded r
+unfolding crossing
+crossed l l′ number a blocks stripe coded blocks′ stripe′ coded′ r e er en el =
+    subst (λ (x : Returned). atBoundary number l′ blocks′ stripe′ coded′ ≡ crossing l blocks stripe coded x) er
+    (rw e (ap₂ (λ (x : ℕ) (y : Rows). atBoundary x y blocks′ stripe′ coded′) en el))
 
 -- rows out of a list of rows
-pub row-here : (a rest : List ℕ) → length a ≡ 16 → take 16 (a ++ rest) ≡ a
-row-here a rest e = take-at a rest 16 e
+pub row-here : (a rest : List ℕ) → length a ≡ maxBricks → take maxBricks (a ++ rest) ≡ a
+row-here a rest e = take-at a rest maxBricks e
 
-pub row-later : (k : ℕ) (a rest : List ℕ) → length a ≡ 16 → take 16 (drop (16 + k) (a ++ rest)) ≡ take 16 (drop k rest)
+pub row-later : (k : ℕ) (a rest : List ℕ) → length a ≡ maxBricks → take maxBricks (drop (maxBricks + k) (a ++ rest)) ≡ take maxBricks (drop k rest)
 row-later k a rest e =
-    ap (λ (j : ℕ). take 16 (drop (j + k) (a ++ rest))) (sym e) ∙ ap (take 16) (drop-append-add a rest k)
+    ap (λ (j : ℕ). take maxBricks (drop (j + k) (a ++ rest))) (sym e) ∙ ap (take maxBricks) (drop-append-add a rest k)
 
-pub row-only : (a : List ℕ) → length a ≡ 16 → take 16 a ≡ a
-row-only a e = ap (take 16) (sym (append-nil a)) ∙ row-here a [] e
+pub row-only : (a : List ℕ) → length a ≡ maxBricks → take maxBricks a ≡ a
+row-only a e = ap (take maxBricks) (sym (append-nil a)) ∙ row-here a [] e
 
 -- what is written is read back: the numbers and bytes of a record have its every field
-pub read-back : (c : Coordinator) → length (c .tally .counted) ≡ 16 → length (c .tally .granted) ≡ 16 → length (c .tally .held) ≡ 16
-    → length (c .tally .found) ≡ 16 → length (c .bricks) ≡ 16 → recordFor (recordNumbers c) (recordBytes c) ≡ c
+pub read-back : (c : Coordinator) → length (c .tally .counted) ≡ maxBricks → length (c .tally .granted) ≡ maxBricks → length (c .tally .held) ≡ maxBricks
+    → length (c .tally .found) ≡ maxBricks → length (c .bricks) ≡ maxBricks → recordFor (recordNumbers c) (recordBytes c) ≡ c
 unfolding recordNumbers recordBytes rowAt
 read-back c la lb lc lf ld =
     let t = c .tally in
@@ -251,11 +288,7 @@ read-back c la lb lc lf ld =
     let r1 = t .granted ++ r2 in
     let e1 = row-here (t .counted) r1 la in
     let e2 = row-later 0 (t .counted) r1 la ∙ row-here (t .granted) r2 lb in
-    let e3 = row-later 16 (t .counted) r1 la ∙ row-later 0 (t .granted) r2 lb ∙ row-here (t .held) (c .bricks) lc in
-    let e4 = row-later 32 (t .counted) r1 la ∙ row-later 16 (t .granted) r2 lb ∙ row-later 0 (t .held) (c .bricks) lc ∙ row-only (c .bricks) ld in
+    let e3 = row-later maxBricks (t .counted) r1 la ∙ row-later 0 (t .granted) r2 lb ∙ row-here (t .held) (c .bricks) lc in
+    let e4 = row-later 32 (t .counted) r1 la ∙ row-later maxBricks (t .granted) r2 lb ∙ row-later 0 (t .held) (c .bricks) lc ∙ row-only (c .bricks) ld in
     let e5 = row-only (t .found) lf in
     sym (record-is (recordNumbers c) (recordBytes c) (t .found) (t .counted) (t .granted) (t .held) (c .bricks) (sym e5) (sym e1) (sym e2) (sym e3) (sym e4))
-
--- what is said of a record holds of an equal one
-pub moved : {A : Type 0} (f : Coordinator → A) (c d : Coordinator) (a : A) → a ≡ f c → c ≡ d → a ≡ f d
-moved f c d a e q = e ∙ ap f q

@@ -1,14 +1,9 @@
-use Prim.Native.Nat.{ℕ}
-use mathlib.Core.List.{List, []}
-use mathlib.Core.Path.{sym, _∙_}
+use mathlib.Core.List.{[]}
+use mathlib.Core.Path.{sym, ap, _∙_}
 use lib.ListN.{length}
-use Rattle.coord_apply.specs.Acts.{buffered}
-use Rattle.coord_apply.specs.Answers.{answerOf, stripeAfter}
-use Rattle.coord_apply.specs.declared.Answer.{Answer}
 use Rattle.coord_record.specs.declared.Coordinator.{Coordinator}
-use Rattle.coordinator.specs.Routines.{writeStep}
-use Rattle.test_coordinator.specs.CoordinatorBoundary.{recordNumbers, recordBytes, answerNumbers, answerBytes}
-use Rattle.test_coordinator.proofs.Laws.CoordinatorBoundaryLaws.{Lengths, lengths, short-number, short-buffer, whole-number, whole-buffer, said-number, said-buffer, moved}
+use Rattle.coordinator.specs.Routines.{writeCall}
+use Rattle.test_coordinator.proofs.Laws.CoordinatorBoundaryLaws.{Lengths, lengths, crossed-short, crossed}
 use borrow.Author.Needs.{needs}
 use Rattle.test_coordinator.proofs.coord_start_write.Statement.{statement}
 use Rattle.test_coordinator.proofs.coord_start_write.Tie as tie
@@ -17,12 +12,12 @@ lent-right-requires : tie.Need-lent-right-requires
 lent-right-requires c κs = search needs
 
 returns : tie.Need-returns
-returns c =
-    let e = sym (c .before .lent-right .ensures) ∙ c .if1 .left in
-    (short-number _ _ e, (short-buffer _ _ _ e, (short-buffer _ _ _ e, (short-buffer _ _ _ e, (short-buffer _ _ _ e, short-buffer _ _ _ e)))))
+returns c = crossed-short _ _ _ _ _ (sym (c .before .lent-right .ensures) ∙ c .if1 .left)
 
 -- the four buffers have their lengths
-long : (c : tie.Then1) → Lengths (length (c .before .before .before .before .before .before .before .before .args .numbers .now)) (length (c .before .before .before .before .before .before .before .before .args .bytes .now)) (length (c .before .before .before .before .before .before .before .before .args .sent .now)) (length (c .before .before .before .before .before .before .before .before .args .shown .now))
+long : (c : tie.Then1) → Lengths (length (c .before .before .before .before .before .before .before .before .args .numbers .now))
+    (length (c .before .before .before .before .before .before .before .before .args .bytes .now)) (length (c .before .before .before .before .before .before .before .before .args .sent .now))
+    (length (c .before .before .before .before .before .before .before .before .args .shown .now))
 long c = lengths _ _ _ _ (sym (c .before .lent-right .ensures) ∙ c .if1 .taken)
 
 record-of-requires : tie.Need-record-of-requires
@@ -52,25 +47,15 @@ same-length-5 c = search needs
 
 returns-2 : tie.Need-returns-2
 returns-2 c =
-    let s = c .before .before .before .before .before .before .before .before .before .before .before .before .before .before .before .before .before .before .before .before .before .before .before .before .before .before .before .before .args in
-    let e = sym (c .before .before .before .before .before .before .before .before .before .before .before .before .before .before .before .before .before .before .before .before .before .lent-right .ensures) ∙ c .before .before .before .before .before .before .before .before .before .before .before .before .before .before .before .before .before .before .before .before .if1 .taken in
+    let s = c .before .before .before .before .before .before .before .before .before .before .before .before .before .before .before .before .before .before .before .before .before .before
+    .before .before .before .before .before .before .args in
+    let e = sym (c .before .before .before .before .before .before .before .before .before .before .before .before .before .before .before .before .before .before .before .before .before
+    .lent-right .ensures) ∙ c .before .before .before .before .before .before .before .before .before .before .before .before .before .before .before .before .before .before .before .before
+    .if1 .taken in
     let q = c .before .before .before .before .before .before .before .before .before .before .before .before .before .before .before .before .before .record-of .ensures in
-    let k = c .before .before .before .before .before .before .before .before .before .before .before .before .before .before .before .before .before .record-of .result in
-    let w = c .before .before .before .before .before .before .before .before .before .before .before .before .before .before .before .start-write .ensures in
+    let w = c .before .before .before .before .before .before .before .before .before .before .before .before .before .before .before .start-write .ensures [] [] in
     let p = c .before .before .before .before .before .before .before .before .put-answer .ensures in
-    let a = moved {A = Answer} (λ (x : Coordinator). answerOf x (writeStep (s .n) (s .m) (s .size) (buffered x [] (s .stripe .now)) (s .reading) (s .given .now))) k _ _ (w .0 []) q in (
-      whole-number _ _ _ e (said-number _ _ _ a (p .0)),
-      (
-        whole-buffer _ _ _ _ e (said-buffer (λ (x : Answer). recordNumbers (x .next)) _ _ _ _ a (p .1 .0)),
-        (
-          whole-buffer _ _ _ _ e (said-buffer (λ (x : Answer). recordBytes (x .next)) _ _ _ _ a (p .1 .1 .0)),
-          (
-            whole-buffer _ _ _ _ e (said-buffer answerNumbers _ _ _ _ a (p .1 .1 .1 .0)),
-            (whole-buffer _ _ _ _ e (said-buffer answerBytes _ _ _ _ a (p .1 .1 .1 .1)), whole-buffer _ _ _ _ e (moved {A = List ℕ} (λ (x : Coordinator). stripeAfter (buffered x [] (s .stripe .now)) (writeStep (s .n) (s .m) (s .size) (buffered x [] (s .stripe .now)) (s .reading) (s .given .now))) k _ _ (w .1 []) q)),
-          ),
-        ),
-      ),
-    )
+    crossed _ _ _ _ _ _ _ _ _ _ _ e (w ∙ ap (λ (x : Coordinator). writeCall (s .n) (s .m) (s .size) x [] (s .stripe .now) [] (s .reading) (s .given .now)) q) (p .0) (p .1)
 
 pub coord-start-write-spec : {M : Type 1} → statement M
 coord-start-write-spec =

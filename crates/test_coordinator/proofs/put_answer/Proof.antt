@@ -1,13 +1,11 @@
 use mathlib.Core.Path.{refl, sym}
-use Rattle.test_coordinator.proofs.Laws.CoordinatorBoundaryLaws.{said-refused, said-given}
+use Rattle.test_coordinator.proofs.Laws.CoordinatorBoundaryLaws.{laid-refused, laid-given}
 use borrow.Author.Needs.{needs}
 use Rattle.test_coordinator.proofs.put_answer.Statement.{statement}
 use Rattle.test_coordinator.proofs.put_answer.Tie as tie
 
 returns : tie.Need-returns
-returns c =
-    let h = c .if1 .taken in
-    (refl, (said-refused _ _ _ h, (said-refused _ _ _ h, (said-refused _ _ _ h, said-refused _ _ _ h))))
+returns c = (refl, laid-refused _ _ (c .if1 .taken))
 
 put-numbers-requires : tie.Need-put-numbers-requires
 put-numbers-requires c κs = search needs
@@ -37,13 +35,9 @@ returns-2 : tie.Need-returns-2
 returns-2 c =
     let h = c .before .before .before .before .before .before .before .before .before .before .before .before .before .before .before .before .before .if1 .left in (
       sym h,
-      (
-        said-given _ _ _ _ h (c .before .before .before .before .before .before .before .before .before .before .before .before .before .before .put-numbers .ensures),
-        (
-          said-given _ _ _ _ h (c .before .before .before .before .before .before .before .before .before .before .put-bytes .ensures),
-          (said-given _ _ _ _ h (c .before .before .before .before .before .before .put-sent .ensures), said-given _ _ _ _ h (c .before .before .put-shown .ensures)),
-        ),
-      ),
+      laid-given _ _ _ _ _ _ h (c .before .before .before .before .before .before .before .before .before .before .before .before .before .before .put-numbers .ensures)
+          (c .before .before .before .before .before .before .before .before .before .before .put-bytes .ensures)
+          (c .before .before .before .before .before .before .put-sent .ensures) (c .before .before .put-shown .ensures),
     )
 
 pub put-answer-spec : {M : Type 1} → statement M

@@ -1,7 +1,7 @@
 use native.Mathlib.Omega.{arith}
 use lib.ListN.{length-set}
 use Rattle.test_coordinator.specs.CoordinatorBoundary.{answerNumbers}
-use Rattle.test_coordinator.proofs.Laws.CoordinatorBoundaryLaws.{five}
+use Rattle.test_coordinator.proofs.Laws.CoordinatorBoundaryLaws.{eight}
 use borrow.Author.Needs.{needs}
 use Rattle.test_coordinator.proofs.put_sent.Statement.{statement}
 use Rattle.test_coordinator.proofs.put_sent.Tie as tie
@@ -21,12 +21,21 @@ slice-write-out-4 c = simp length-set (omega arith)
 slice-write-out-5 : tie.Need-slice-write-out-5
 slice-write-out-5 c = simp length-set (omega arith)
 
+slice-write-out-6 : tie.Need-slice-write-out-6
+slice-write-out-6 c = simp length-set (omega arith)
+
+slice-write-out-7 : tie.Need-slice-write-out-7
+slice-write-out-7 c = simp length-set (omega arith)
+
+slice-write-out-8 : tie.Need-slice-write-out-8
+slice-write-out-8 c = simp length-set (omega arith)
+
 same-length : tie.Need-same-length
 same-length c = search needs
 
 returns : tie.Need-returns
 unfolding answerNumbers
-returns c = five (c .before .before .args .out .now) _ _ _ _ _ (c .before .before .pre)
+returns c = eight (c .before .before .before .args .out .now) _ _ _ _ _ _ _ _ (c .before .before .before .pre)
 
 pub put-sent-spec : {M : Type 1} → statement M
 put-sent-spec =
@@ -37,5 +46,8 @@ put-sent-spec =
     slice-write-out-3
     slice-write-out-4
     slice-write-out-5
+    slice-write-out-6
+    slice-write-out-7
+    slice-write-out-8
     same-length
     returns)

@@ -1,8 +1,8 @@
 use native.Mathlib.Omega.{arith}
 use lib.ListN.{length, set}
 use mathlib.Core.Path.{_≡_, sym, _∙_}
-use Rattle.test_coordinator.specs.CoordinatorBoundary.{answerBytes}
-use Rattle.test_coordinator.proofs.Laws.CoordinatorBoundaryLaws.{at-least, three-set, shown-are}
+use Rattle.test_coordinator.specs.CoordinatorBoundary.{answerBytesLength, answerBytes}
+use Rattle.test_coordinator.proofs.Laws.CoordinatorBoundaryLaws.{at-least, four-set, shown-are}
 use borrow.Author.Needs.{needs}
 use Rattle.test_coordinator.proofs.put_shown.Statement.{statement}
 use Rattle.test_coordinator.proofs.put_shown.Tie as tie
@@ -16,29 +16,47 @@ slice-write-out-2 c = search needs
 slice-write-out-3 : tie.Need-slice-write-out-3
 slice-write-out-3 c = search needs
 
--- each row leaves the length
-long-1 : (c : tie.After-put-row) → length (c .put-row .last .1 .1 .0) ≡ 35
-long-1 c = c .put-row .kept .1 .1 .0 ∙ three-set (c .before .before .before .before .before .before .before .args .out .now) 35 0 1 2 (c .before .before .before .before .before .before .before .args .a .message .kind) (c .before .before .before .before .before .before .before .args .a .seen .what) (c .before .before .before .before .before .before .before .args .a .seen .kind) (c .before .before .before .before .before .before .before .pre)
+slice-write-out-4 : tie.Need-slice-write-out-4
+slice-write-out-4 c = search needs
 
-long-2 : (c : tie.After-put-row2) → length (c .put-row2 .last .1 .1 .0) ≡ 35
+-- each row leaves the length
+long-1 : (c : tie.After-put-row) → length (c .put-row .last .1 .1 .0) ≡ answerBytesLength
+long-1 c =
+    let s = c .before .before .before .before .before .before .before .before .before in
+    c .put-row .kept .1 .1 .0 ∙ four-set (s .args .out .now) answerBytesLength 0 1 2 51 (s .args .a .message .kind) (s .args .a .seen .what) (s .args .a .seen .kind) (s .args .a .second .kind)
+    (s .pre)
+
+long-2 : (c : tie.After-put-row2) → length (c .put-row2 .last .1 .1 .0) ≡ answerBytesLength
 long-2 c = c .put-row2 .kept .1 .1 .0 ∙ long-1 (c .before .before .before .before)
 
+long-3 : (c : tie.After-put-row3) → length (c .put-row3 .last .1 .1 .0) ≡ answerBytesLength
+long-3 c = c .put-row3 .kept .1 .1 .0 ∙ long-2 (c .before .before .before .before)
+
 put-row-requires : tie.Need-put-row-requires
-put-row-requires c κs = at-least 19 35 (set (set (set (c .before .before .before .before .before .before .args .out .now) 0 (c .before .before .before .before .before .before .args .a .message .kind)) 1 (c .before .before .before .before .before .before .args .a .seen .what)) 2 (c .before .before .before .before .before .before .args .a .seen .kind)) (three-set (c .before .before .before .before .before .before .args .out .now) 35 0 1 2 (c .before .before .before .before .before .before .args .a .message .kind) (c .before .before .before .before .before .before .args .a .seen .what) (c .before .before .before .before .before .before .args .a .seen .kind) (c .before .before .before .before .before .before .pre)) (omega arith)
+put-row-requires c κs =
+    let s = c .before .before .before .before .before .before .before .before in
+    at-least 19 answerBytesLength (set (set (set (set (s .args .out .now) 0 (s .args .a .message .kind)) 1 (s .args .a .seen .what)) 2 (s .args .a .seen .kind)) 51 (s .args .a .second .kind))
+    (four-set (s .args .out .now) answerBytesLength 0 1 2 51 (s .args .a .message .kind) (s .args .a .seen .what) (s .args .a .seen .kind) (s .args .a .second .kind) (s .pre)) (omega arith)
 
 put-row-requires-2 : tie.Need-put-row-requires-2
-put-row-requires-2 c κs = at-least 35 35 (c .before .before .before .put-row .last .1 .1 .0) (long-1 (c .before .before .before)) (omega arith)
+put-row-requires-2 c κs = at-least 35 answerBytesLength (c .before .before .before .put-row .last .1 .1 .0) (long-1 (c .before .before .before)) (omega arith)
+
+put-row-requires-3 : tie.Need-put-row-requires-3
+put-row-requires-3 c κs = at-least 51 answerBytesLength (c .before .before .before .put-row2 .last .1 .1 .0) (long-2 (c .before .before .before)) (omega arith)
 
 same-length : tie.Need-same-length
-same-length c = long-2 (c .before .before) ∙ sym (c .before .before .before .before .before .before .before .before .before .before .before .before .before .pre)
+same-length c = long-3 (c .before .before) ∙ sym
+    (c .before .before .before .before .before .before .before .before .before .before .before .before .before .before .before .before .before .before .before .pre)
 
 returns : tie.Need-returns
 unfolding answerBytes
 returns c =
-    let s = c .before .before .before .before .before .before .before .before .before .before .before .before .before in
-    let w1 = c .before .before .before .before .before .before .put-row .ensures in
-    let w2 = c .before .before .put-row2 .ensures in
-    shown-are (s .args .out .now) (s .args .a .message .kind) (s .args .a .seen .what) (s .args .a .seen .kind) (s .args .a .message .targets) (s .args .a .seen .bricks) _ _ (s .pre) (w1 .1) (w1 .0) (w2 .0)
+    let s = c .before .before .before .before .before .before .before .before .before .before .before .before .before .before .before .before .before .before .before in
+    let w1 = c .before .before .before .before .before .before .before .before .before .before .put-row .ensures in
+    let w2 = c .before .before .before .before .before .before .put-row2 .ensures in
+    let w3 = c .before .before .put-row3 .ensures in
+    shown-are (s .args .out .now) (s .args .a .message .kind) (s .args .a .seen .what) (s .args .a .seen .kind) (s .args .a .second .kind)
+    (s .args .a .message .targets) (s .args .a .seen .bricks) (s .args .a .second .targets) _ _ _ (s .pre) (w1 .1) (w2 .1) (w1 .0) (w2 .0) (w3 .0)
 
 pub put-shown-spec : {M : Type 1} → statement M
 put-shown-spec =
@@ -47,7 +65,9 @@ put-shown-spec =
     slice-write-out
     slice-write-out-2
     slice-write-out-3
+    slice-write-out-4
     put-row-requires
     put-row-requires-2
+    put-row-requires-3
     same-length
     returns)

@@ -90,7 +90,10 @@ row-of-requires-4 c κs = search needs
 
 returns : tie.Need-returns
 unfolding rowAt
-returns c = record-is (c .before .before .before .before .before .before .before .before .before .before .before .before .before .before .before .before .before .before .before .before .args .numbers .now) (c .before .before .before .before .before .before .before .before .before .before .before .before .before .before .before .before .before .before .before .before .args .bytes .now) _ _ _ _ _ (c .before .before .before .before .before .before .before .before .times-of .ensures) (c .before .before .before .before .before .before .row-of .ensures) (c .before .before .before .before .row-of2 .ensures) (c .before .before .row-of3 .ensures) (c .row-of4 .ensures)
+returns c = record-is (c .before .before .before .before .before .before .before .before .before .before .before .before .before .before .before .before .before .before .before .before .args
+    .numbers .now) (c .before .before .before .before .before .before .before .before .before .before .before .before .before .before .before .before .before .before .before .before .args
+    .bytes .now) _ _ _ _ _ (c .before .before .before .before .before .before .before .before .times-of .ensures) (c .before .before .before .before .before .before .row-of .ensures)
+    (c .before .before .before .before .row-of2 .ensures) (c .before .before .row-of3 .ensures) (c .row-of4 .ensures)
 
 pub record-of-spec : {M : Type 1} → statement M
 record-of-spec =
