@@ -1,7 +1,5 @@
 -- Document 01's bench case, and a write that is read back, as lists of events: computed on `run`, images and all.
 use mathlib.Core.List.{List, [], _∷_}
-use native.Mathlib.Omega.{arith}
-use Rattle.byte_lists.specs.Little.{Bytes}
 use Rattle.settings.specs.declared.Settings.{Settings}
 use Rattle.register.specs.Runs.{untouched, Event, startWrite, startRead, arrives, crashes, goesDown, comesUp}
 
@@ -9,14 +7,10 @@ use Rattle.register.specs.Runs.{untouched, Event, startWrite, startRead, arrive
 abbrev pub small : Settings
 small = record { n = 3; m = 1; size = 1; capacity = 4 }
 
-pub ten : Bytes (10 ∷ [])
-unfolding Bytes
-ten = (omega arith, tt)
-
 -- the lines of the bench case; what the bench numbers from 1 stands here at a place from 0
 unfoldable pub bench : List Event
 bench =
-    startWrite 0 1 (10 ∷ []) ten
+    startWrite 0 1 (10 ∷ [])
     ∷ arrives 0
     ∷ arrives 3
     ∷ arrives 1

@@ -6,7 +6,7 @@ use Prim.Native.Nat.{ℕ, zero, suc, _*_, _%_}
 use lib.Dec.{eqb, ltb}
 use lib.ListN.{length, replicate}
 use Rattle.settings.specs.declared.Settings.{Settings}
-use Rattle.byte_lists.specs.Little.{Bytes}
+use Rattle.byte_lists.specs.Little.{areBytes}
 use Rattle.message.specs.Kinds.{writeKind}
 use Rattle.message.specs.declared.Message.{Message}
 use Rattle.message.specs.declared.Reply.{Reply}
@@ -64,7 +64,7 @@ pub data Left : Type 0 where
 -- counted from), "a sent message reaching its brick, a sent reply reaching its coordinator" (both by place among what was sent, from 0),
 -- "a coordinator's crash" (with what it leaves in the buffers), "a brick going down or coming up"
 pub data Event : Type 0 where
-  startWrite : (coordinator reading : ℕ) (content : List ℕ) → Bytes content → Event
+  startWrite : (coordinator reading : ℕ) (content : List ℕ) → Event
   startRead : (coordinator reading first : ℕ) → Event
   arrives : ℕ → Event
   crashes : (coordinator : ℕ) → Left → Event
@@ -175,9 +175,12 @@ unfoldable pub leftBy : Settings → Left → Step → Step
 leftBy s left (refused number) = refused number
 leftBy s left (went g) = went (record { next = leaving s left (g .next); sent = g .sent; seen = g .seen })
 
+-- A start's content is bytes: with other numbers no such call can be made, and nothing is changed.
 unfoldable pub step : (s : Settings) → World → Event → Moved s
-step s w (startWrite c reading content small) =
-    coordinated s w c (writeStep (s .n) (s .m) (s .size) (w .coordinators c) reading content)
+step s w (startWrite c reading content) =
+    cond (areBytes content)
+    (coordinated s w c (writeStep (s .n) (s .m) (s .size) (w .coordinators c) reading content))
+    (unmoved s w)
 step s w (startRead c reading first) = coordinated s w c (readStep (s .n) (s .m) (s .size) (w .coordinators c) reading first)
 step s w (arrives k) = arrivingAt s w (w .sent) k
 step s w (crashes c left) = coordinated s w c (leftBy s left (crashStep (s .n) (s .m) (s .size) (w .coordinators c)))

@@ -5,6 +5,10 @@ use lib.Dec.{leb}
 use Rattle.settings.specs.Refusal.{refuseUnless, badSetting}
 use Rattle.settings.specs.declared.Settings.{Settings}
 
+-- places for bricks where something is noted of each: as many as n may be
+abbrev pub brickPlaces : ℕ
+brickPlaces = 16
+
 -- "n is 1 to 16, m is 1 to n"
 unfoldable pub bricksInRange : ℕ → ℕ → Bool
 bricksInRange n m = leb 1 n && leb n 16 && leb 1 m && leb m n

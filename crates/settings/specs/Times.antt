@@ -1,6 +1,6 @@
 -- Document 01, "Times".
 use mathlib.Core.Bool.{Bool, cond, _&&_}
-use Prim.Native.Nat.{ℕ, _+_, _-_, _*_, _^_, max, _≤_, _<_}
+use Prim.Native.Nat.{ℕ, _+_, _-_, _*_, _%_, _^_, max, _≤_, _<_}
 use lib.Dec.{leb, ltb}
 use Rattle.settings.specs.Refusal.{passed, badNumber, badRecord, badReading, clockSpent}
 use Rattle.settings.specs.declared.Clock.{Clock}
@@ -15,6 +15,17 @@ maxCount = 2 ^ 40 - 1
 -- "'no upper end' is 2^44"
 unfoldable pub noUpperEnd : ℕ
 noUpperEnd = 2 ^ 44
+
+-- "coordinator number (0 to 15)"
+abbrev pub coordinatorCount : ℕ
+coordinatorCount = 16
+
+abbrev pub lastCoordinator : ℕ
+lastCoordinator = 15
+
+-- whose time it is
+abbrev pub coordinatorOf : ℕ → ℕ
+coordinatorOf t = t % coordinatorCount
 
 -- "A time is count × 16 + coordinator number (0 to 15)"
 unfoldable pub timeOf : ℕ → ℕ → ℕ

@@ -24,7 +24,9 @@ use Rattle.bench_sent.specs.Sent.{itemAt, isReply, replyAt, sentBlockAt}
 use Rattle.bench_sent.proofs.Laws.SentRowLaws.{item-reply}
 use Rattle.bench_state.specs.State.{worldOf, coordinatorKept, idleAt}
 use Rattle.bench_state.specs.declared.Bench.{Bench}
-use Rattle.bench_rules.specs.Content.{counted, content, content-small}
+use Rattle.bench_rules.specs.Content.{counted, content}
+use Rattle.bench_rules.proofs.Laws.ContentLaws.{content-small}
+use Rattle.byte_lists.proofs.Laws.LittleLaws.{bytes-pass}
 use Rattle.bench_rules.specs.Play.{Played, acts, refuses, unlessShort, atCoordinator, writes, starts, crashesAt, carries}
 use Rattle.bench_rules.specs.Turning.{Lent, lent, worldIn}
 use Rattle.bench_rules.specs.Workers.{Turned}
@@ -138,13 +140,13 @@ module _ (b : Bench) (c : ℕ) (kept numbers bytes : List ℕ) (at : ℕ) (out :
         → ((x : List ℕ) → a ≡ answerOf old (writeStep (b .settings .n) (b .settings .m) (b .settings .size) (buffered old x stripe) clock content))
         → ((x : List ℕ) → stripe′ ≡ stripeAfter (buffered old x stripe) (writeStep (b .settings .n) (b .settings .m) (b .settings .size) (buffered old x stripe) clock content))
         → Answers b c a blocks stripe′ blocks kept numbers bytes at out r kept′ numbers′ bytes′ out′
-        → BenchActed b c (startWrite c clock content small) (λ (h : Buffered). writeStep (b .settings .n) (b .settings .m) (b .settings .size) h clock content) kept numbers bytes at out r kept′ numbers′ bytes′ out′
+        → BenchActed b c (startWrite c clock content) (λ (h : Buffered). writeStep (b .settings .n) (b .settings .m) (b .settings .size) h clock content) kept numbers bytes at out r kept′ numbers′ bytes′ out′
     unfolding step worldIn worldOf
     acted-write clock content small a stripe′ ea ew h =
         let n = b .settings .n in
         let m = b .settings .m in
         let size = b .settings .size in
-        acted-by (startWrite c clock content small) (λ (x : Buffered). writeStep n m size x clock content) a blocks stripe′ blocks blocks (λ images. refl)
+        acted-by (startWrite c clock content) (λ (x : Buffered). writeStep n m size x clock content) a blocks stripe′ blocks blocks (λ images. rw (bytes-pass content small) refl)
         (write-short n m size here clock content) (write-numbered n m size here clock content)
         (ea blocks ∙ ap (λ (x : Coordinator). answerOf x (writeStep n m size (buffered old blocks stripe) clock content)) old-is ∙ ap (λ (x : Buffered). answerOf (here .state) (writeStep n m size x clock content)) same)
         (blocks-are ∙ sym (write-blocks n m size here clock content)) (ew blocks ∙ ap (λ (x : Buffered). stripeAfter x (writeStep n m size x clock content)) same)
@@ -154,7 +156,7 @@ module _ (b : Bench) (c : ℕ) (kept numbers bytes : List ℕ) (at : ℕ) (out :
     pub short-write : (clock : ℕ) (digits cont : List ℕ) (a : Answer) (ok : Bool) → cont ≡ content (b .settings) digits → ok ≡ counted (b .settings) digits
         → ((x : List ℕ) → a ≡ answerOf old (writeStep (b .settings .n) (b .settings .m) (b .settings .size) (buffered old x stripe) clock cont))
         → eqb (a .refusal) 0 && not ok ≡ true → ((l : Lent) → Turned b l at out (refuses (worldIn b l) 12) r l out′)
-        → BenchActed b c (startWrite c clock (content (b .settings) digits) (content-small (b .settings) digits))
+        → BenchActed b c (startWrite c clock (content (b .settings) digits))
         (λ (h : Buffered). unlessShort (counted (b .settings) digits) (writeStep (b .settings .n) (b .settings .m) (b .settings .size) h clock (content (b .settings) digits)))
         kept numbers bytes at out r kept numbers bytes out′
     unfolding worldIn worldOf
@@ -171,7 +173,7 @@ module _ (b : Bench) (c : ℕ) (kept numbers bytes : List ℕ) (at : ℕ) (out :
           turned = λ images.
               subst (λ (x : _). Turned b (lent images kept numbers bytes) at out x r (lent images kept numbers bytes) out′)
               (sym
-              (short-refuses (b .settings) (worldIn b (lent images kept numbers bytes)) (startWrite c clock (content (b .settings) digits) (content-small (b .settings) digits)) c (here .state)
+              (short-refuses (b .settings) (worldIn b (lent images kept numbers bytes)) (startWrite c clock (content (b .settings) digits)) c (here .state)
               (writeStep n m size here clock (content (b .settings) digits)) a (counted (b .settings) digits) step-is (write-numbered n m size here clock (content (b .settings) digits))
               (ap (λ (x : Bool). eqb (a .refusal) 0 && not x) (sym eo′) ∙ q)))
               (t (lent images kept numbers bytes));
@@ -183,7 +185,7 @@ module _ (b : Bench) (c : ℕ) (kept numbers bytes : List ℕ) (at : ℕ) (out :
         → ((x : List ℕ) → stripe′ ≡ stripeAfter (buffered old x stripe) (writeStep (b .settings .n) (b .settings .m) (b .settings .size) (buffered old x stripe) clock cont))
         → eqb (a .refusal) 0 && not ok ≡ false
         → Answers b c a blocks stripe′ blocks kept numbers bytes at out r kept′ numbers′ bytes′ out′
-        → BenchActed b c (startWrite c clock (content (b .settings) digits) (content-small (b .settings) digits))
+        → BenchActed b c (startWrite c clock (content (b .settings) digits))
         (λ (h : Buffered). unlessShort (counted (b .settings) digits) (writeStep (b .settings .n) (b .settings .m) (b .settings .size) h clock (content (b .settings) digits)))
         kept numbers bytes at out r kept′ numbers′ bytes′ out′
     unfolding worldIn worldOf
@@ -203,7 +205,7 @@ module _ (b : Bench) (c : ℕ) (kept numbers bytes : List ℕ) (at : ℕ) (out :
               subst
               (λ (x : Step).
               Turned b (lent images kept numbers bytes) at out
-              (acts (b .settings) (worldIn b (lent images kept numbers bytes)) (startWrite c clock cs (content-small (b .settings) digits)) c x) r (lent images kept′ numbers′ bytes′) out′)
+              (acts (b .settings) (worldIn b (lent images kept numbers bytes)) (startWrite c clock cs) c x) r (lent images kept′ numbers′ bytes′) out′)
               (sym (short-same (here .state) (writeStep n m size here clock cs) a (counted (b .settings) digits) step-is (ap (λ (x : Bool). eqb (a .refusal) 0 && not x) (sym eo′) ∙ q)))
               (acted-write clock cs (content-small (b .settings) digits) a stripe′
               (λ (x : List ℕ). ea x ∙ ap (λ (y : List ℕ). answerOf old (writeStep n m size (buffered old x stripe) clock y)) e)
@@ -293,7 +295,7 @@ module _ (b : Bench) (c : ℕ) (kept numbers bytes : List ℕ) (at : ℕ) (out :
   write-past clock digits out′ h t = past-at _ out′ h t
 
   pub write-here : (clock : ℕ) (digits kept′ numbers′ bytes′ out′ : List ℕ) → c < 4
-      → BenchActed b c (startWrite c clock (content (b .settings) digits) (content-small (b .settings) digits))
+      → BenchActed b c (startWrite c clock (content (b .settings) digits))
       (λ (h : Buffered). unlessShort (counted (b .settings) digits) (writeStep (b .settings .n) (b .settings .m) (b .settings .size) h clock (content (b .settings) digits)))
       kept numbers bytes at out r kept′ numbers′ bytes′ out′
       → Plays b (λ (w : World). writes (b .settings) w c clock digits) kept numbers bytes at out r kept′ numbers′ bytes′ out′

@@ -7,8 +7,9 @@ use Prim.Native.Nat.{ℕ, _<_}
 use native.Mathlib.Omega.{arith}
 use lib.Dec.{eqb}
 use lib.ListN.{length, replicate}
-use borrow.Author.Tests.{le-leb, eqb-true, eqb-false, eq-eqb, ne-eqb}
-use Rattle.settings.specs.Ranges.{inRange, bricksInRange, sizeInRange, capacityInRange, settingsRefusal}
+use borrow.Author.Tests.{eqb-true, eqb-false, eq-eqb, ne-eqb}
+use Rattle.settings.specs.Ranges.{settingsRefusal}
+use Rattle.settings.proofs.Laws.RangeLaws.{in-range}
 use Rattle.settings.specs.Ranges.{SettingsRange}
 use Rattle.settings.specs.Refusal.{refuseUnless, firstRefusal}
 use Rattle.settings.specs.declared.Settings.{Settings}
@@ -53,21 +54,6 @@ put-here f k a = rw (eq-eqb k k refl) refl
 pub put-there : {A : Type 0} (f : ℕ → A) (k : ℕ) (a : A) (j : ℕ) → (j ≡ k → ⊥) → putAt f k a j ≡ f j
 unfolding putAt
 put-there f k a j n = rw (ne-eqb j k n) refl
-
--- settings in range pass
-pub in-range : (s : Settings) → SettingsRange s → inRange s ≡ true
-unfolding inRange bricksInRange sizeInRange capacityInRange
-in-range s g =
-    rw (
-      le-leb 1 (s .n) (g .code .n-low),
-      le-leb (s .n) 16 (g .code .n-high),
-      le-leb 1 (s .m) (g .code .m-low),
-      le-leb (s .m) (s .n) (g .code .m-high),
-      le-leb 1 (s .size) (g .code .size-low),
-      le-leb (s .size) 256 (g .code .size-high),
-      le-leb 2 (s .capacity) (g .capacity-low),
-      le-leb (s .capacity) 32 (g .capacity-high),
-    ) refl
 
 -- a chain of checks that none refuses
 pub first-passed : (k : ℕ) (l : List ℕ) → firstRefusal (k ∷ l) ≡ 0 → (k ≡ 0) × (firstRefusal l ≡ 0)

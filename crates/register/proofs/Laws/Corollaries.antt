@@ -9,6 +9,7 @@ use lib.Dec.{eqb, ltb}
 use lib.ListN.{length}
 use Rattle.settings.specs.Ranges.{settingsRefusal}
 use Rattle.settings.specs.declared.Settings.{Settings}
+use Rattle.byte_lists.specs.Little.{areBytes}
 use Rattle.coord_apply.specs.Answers.{Step, refused, went}
 use Rattle.coord_apply.specs.declared.Notice.{Notice}
 use Rattle.order.specs.Claim.{write, ok, bytes, finished, Seen, _∈_}
@@ -80,8 +81,8 @@ module _ (s : Settings) (w : World) where
   standing-one b how = either (ltb b (s .n)) _ _ (omega arith) (omega arith)
 
   pub one-thing-seen : (e : Event) → length (step s w e .seen) ≤ 1
-  unfolding step
-  one-thing-seen (startWrite c reading content small) = coordinated-one c _
+  unfolding step unmoved
+  one-thing-seen (startWrite c reading content) = either (areBytes content) _ _ (coordinated-one c _) (omega arith)
   one-thing-seen (startRead c reading first) = coordinated-one c _
   one-thing-seen (arrives k) = at-one (w .sent) k
   one-thing-seen (crashes c left) = coordinated-one c _

@@ -13,6 +13,8 @@ use Rattle.settings.specs.declared.Clock.{Clock}
 use Rattle.settings.specs.declared.Draw.{Draw}
 use Rattle.settings.specs.declared.Draw.the-variants.{Drawn, Refused}
 use Rattle.settings.specs.declared.Settings.{Settings}
+use Rattle.byte_lists.specs.Little.{Bytes}
+use Rattle.byte_lists.proofs.Laws.LittleLaws.{bytes-pass}
 use Rattle.message.specs.Flags.{members}
 use Rattle.message.specs.Kinds.{writeKind}
 use Rattle.message.specs.declared.Message.{Message}
@@ -174,11 +176,12 @@ module _ (s : Settings) (w : World) (old : List ℕ) where
       coordinated-is-driven s w (r .time % 16) _ old
       (take-short (s .n) (s .m) (s .size) (w .coordinators (r .time % 16)) r block (s .n * s .size))
 
-  pub write-called : (c reading : ℕ) (content : List ℕ) (small : _)
-      → step s w (startWrite c reading content small) ≡ (called s w old) c (writeStep (s .n) (s .m) (s .size) (w .coordinators c) reading content)
+  pub write-called : (c reading : ℕ) (content : List ℕ) → Bytes content
+      → step s w (startWrite c reading content) ≡ (called s w old) c (writeStep (s .n) (s .m) (s .size) (w .coordinators c) reading content)
   unfolding step
   write-called c reading content small =
-      coordinated-is-driven s w c _ old (write-short (s .n) (s .m) (s .size) (w .coordinators c) reading content)
+      rw (bytes-pass content small)
+      (coordinated-is-driven s w c _ old (write-short (s .n) (s .m) (s .size) (w .coordinators c) reading content))
 
   pub read-called : (c reading first : ℕ)
       → step s w (startRead c reading first) ≡ (called s w old) c (readStep (s .n) (s .m) (s .size) (w .coordinators c) reading first)

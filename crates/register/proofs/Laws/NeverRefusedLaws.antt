@@ -9,11 +9,12 @@ use lib.ListN.{length, length-replicate}
 use borrow.Author.Tests.{eqb-true, eqb-false, le-leb}
 use Rattle.settings.specs.Ranges.{codeRefusal, quorum, settingsRefusal}
 use Rattle.settings.specs.Ranges.{SettingsRange}
-use Rattle.settings.proofs.Laws.RangeLaws.{settings-passed, settings-code}
+use Rattle.settings.proofs.Laws.RangeLaws.{settings-passed, settings-code, in-range}
 use Rattle.settings.specs.Refusal.{firstRefusal}
 use Rattle.settings.specs.Times.{maxCount, drawOf}
 use Rattle.settings.specs.declared.Clock.{Clock}
 use Rattle.settings.specs.declared.Settings.{Settings}
+use Rattle.byte_lists.specs.Little.{areBytes}
 use Rattle.message.specs.Flags.{members}
 use Rattle.message.specs.declared.Reply.{Reply}
 use Rattle.interpolate.proofs.Laws.BlockLaws.{length-blocksAt}
@@ -38,7 +39,7 @@ use Rattle.coord_laws.specs.Soundness.{Good}
 use Rattle.coord_laws.proofs.Laws.SoundnessLaws.{idle-good, passes, same-went, drawn-went, write-good, read-good, take-good, crash-good, good-sound}
 use Rattle.register.specs.Runs.{Item, message, reply, World, idle, freshSet, Left, Event, startWrite, startRead, arrives, crashes, goesDown, comesUp, Moved, unmoved, putAt, coordinated, received, arriving, arrivingAt, standing, leaving, leftBy, step, nextMoved, runFrom, run}
 use Rattle.register.proofs.Laws.Invariant.{Hist, Inv}
-use Rattle.register.proofs.Laws.BrickEvent.{put-here, put-there, in-range}
+use Rattle.register.proofs.Laws.BrickEvent.{put-here, put-there}
 use Rattle.register.proofs.Laws.CrashEvent.{left-by}
 use Rattle.register.proofs.Laws.FreshRunLaws.{fresh-holds}
 use Rattle.register.proofs.Laws.TheoremProof.{step-goes, run-holds}
@@ -169,13 +170,13 @@ module _ (s : Settings) (g : SettingsRange s) where
         (subst (λ (v : Went). Long s (v .next)) (t .is)
         (waiting-long s (counting (s .size) k a block) (counting-long s k a block (s .n * s .size) w t)))
 
+    either : (a : Bool) (x y : Moved s) → AllFine s (x .world) → AllFine s (y .world) → AllFine s (cond a x y .world)
+    either true x y p q = p
+    either false x y p q = q
+
     item-fine : (z : Item) → AllFine s (arriving s (r .world) z .world)
     unfolding arriving received unmoved
     item-fine (message b msg block) = either (r .world .up b) _ _ f f
-      where
-        either : (a : Bool) (x y : Moved s) → AllFine s (x .world) → AllFine s (y .world) → AllFine s (cond a x y .world)
-        either true x y p q = p
-        either false x y p q = q
     item-fine (reply a block) = coordinated-fine (r .world) (a .time % 16) _ f (reply-fine a block)
 
     place-fine : (l : List Item) (k : ℕ) → AllFine s (arrivingAt s (r .world) l k .world)
@@ -187,14 +188,11 @@ module _ (s : Settings) (g : SettingsRange s) where
     stand-fine : (b : ℕ) (how : Bool) → AllFine s (standing s (r .world) b how .world)
     unfolding standing unmoved
     stand-fine b how = either (ltb b (s .n)) _ _ f f
-      where
-        either : (a : Bool) (x y : Moved s) → AllFine s (x .world) → AllFine s (y .world) → AllFine s (cond a x y .world)
-        either true x y p q = p
-        either false x y p q = q
 
     step-fine : (e : Event) → AllFine s (step s (r .world) e .world)
-    unfolding step
-    step-fine (startWrite c reading content small) = coordinated-fine (r .world) c _ f (write-fine c reading content)
+    unfolding step unmoved
+    step-fine (startWrite c reading content) =
+        either (areBytes content) _ _ (coordinated-fine (r .world) c _ f (write-fine c reading content)) f
     step-fine (startRead c reading first) = coordinated-fine (r .world) c _ f (read-fine c reading first)
     step-fine (arrives k) = place-fine (r .world .sent) k
     step-fine (crashes c left) = coordinated-fine (r .world) c _ f (crash-left-fine c left)

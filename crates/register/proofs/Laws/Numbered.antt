@@ -21,6 +21,7 @@ use Rattle.coord_apply.specs.Answers.{Buffered, Went, Step, refused, went, afte
 use Rattle.coord_refusals.specs.Checks.{recordChecks, startChecks, writeRefusal, readRefusal, crashRefusal}
 use Rattle.coordinator.specs.Routines.{takeStep, crashed, crashStep, drawnThen, writeStep, readStep}
 use Rattle.coordinator.proofs.Laws.RoutineLaws.{take-passed}
+use Rattle.byte_lists.specs.Little.{areBytes}
 use Rattle.register.specs.Runs.{Item, message, reply, World, idle, freshSet, Left, Event, startWrite, startRead, arrives, crashes, goesDown, comesUp, Moved, unmoved, coordinated, received, arriving, arrivingAt, standing, leftBy, step, nextMoved, runFrom, run}
 use Rattle.register.proofs.Laws.Invariant.{Hist, Inv}
 use Rattle.register.proofs.Laws.BrickEvent.{put-there, first-passed}
@@ -120,9 +121,10 @@ module _ (s : Settings) (g : SettingsRange s) (c : ℕ) (high : 15 < c) where
     stand-still b how = either (ltb b (s .n)) _ _ e e
 
     step-still : (v : Event) → Still s c (step s (r .world) v .world)
-    unfolding step
-    step-still (startWrite d reading content small) =
-        coordinated-still (r .world) d _ (write-low (s .n) (s .m) (s .size) d (r .world .coordinators d) (i .coordinators d .number) reading content) e
+    unfolding step unmoved
+    step-still (startWrite d reading content) =
+        either (areBytes content) _ _
+        (coordinated-still (r .world) d _ (write-low (s .n) (s .m) (s .size) d (r .world .coordinators d) (i .coordinators d .number) reading content) e) e
     step-still (startRead d reading first) =
         coordinated-still (r .world) d _ (read-low (s .n) (s .m) (s .size) d (r .world .coordinators d) (i .coordinators d .number) reading first) e
     step-still (arrives k) = place-still (r .world .sent) k

@@ -3,7 +3,7 @@ use mathlib.Core.Path.{_≡_, refl, sym, ap, subst, _∙_}
 use mathlib.Core.Logic.{_⊎_, inl, inr}
 use mathlib.Core.Bool.{Bool, true, false, cond, _&&_}
 use mathlib.Core.List.{List, [], _∷_, _++_, List·Memᴰ·append-cases}
-use Prim.Native.Nat.{ℕ, zero, suc, _*_, _%_, _≤_, _<_}
+use Prim.Native.Nat.{ℕ, _*_, _%_, _≤_, _<_}
 use native.Mathlib.Omega.{arith}
 use lib.Dec.{leb, eqb}
 use lib.ListN.{length, getD, replicate}
@@ -20,6 +20,7 @@ use Rattle.settings.specs.declared.Draw.the-variants.{Drawn, Refused}
 use Rattle.settings.specs.declared.Settings.{Settings}
 use Rattle.settings.proofs.Laws.RefusalLaws.{tested}
 use Rattle.byte_lists.specs.Little.{Bytes}
+use Rattle.byte_lists.proofs.Laws.LittleLaws.{byte-below}
 use Rattle.message.specs.Flags.{member}
 use Rattle.erasure.specs.Code.{Stripe}
 use Rattle.coord_record.specs.Records.{nothingCounted, noBricks}
@@ -47,13 +48,6 @@ use Rattle.register.proofs.Laws.TurnLaws.{time-of, kind-of, Turns, turn
 pub none-member : (b : ℕ) → member (replicate 16 0) b ≡ true → ⊥
 unfolding member
 none-member b e = let w = zeros-at 16 b in let q = eqb-true (getD (replicate 16 0) b 0) 1 e in omega arith
-
--- a write's bytes
-pub byte-below : (l : List ℕ) → Bytes l → (i : ℕ) → getD l i 0 < 256
-unfolding Bytes
-byte-below [] b i = omega arith
-byte-below (x ∷ l) b zero = b .0
-byte-below (x ∷ l) b (suc i) = byte-below l (b .1) i
 
 module _ (s : Settings) (g : SettingsRange s) (h : Hist s) (sent : List Item) (c : ℕ) (k : Buffered) (v : Valid (quorums s g) h)
     (i : CoordinatorInv s g h sent c k) (items : (z : Item) → z ∈ sent → ItemInv s g h sent z)

@@ -1,10 +1,10 @@
--- Laws of `specs/RangeLaws`.
+-- Laws of `specs/Ranges`.
 use mathlib.Core.Path.{_≡_, refl, _∙_}
 use mathlib.Core.Bool.{Bool, true, false, _&&_}
 use Prim.Native.Nat.{ℕ}
 use native.Mathlib.Omega.{arith}
 use lib.Dec.{leb}
-use borrow.Author.Tests.{leb-true}
+use borrow.Author.Tests.{leb-true, le-leb}
 use Rattle.settings.specs.Ranges.{bricksInRange, sizeInRange, capacityInRange, inRange, settingsRefusal, codeRefusal}
 use Rattle.settings.specs.Refusal.{refuseUnless}
 use Rattle.settings.proofs.Laws.RefusalLaws.{tested}
@@ -60,3 +60,18 @@ settings-capacity s k v e h r = r ∙ go (bricksInRange (s .n) (s .m) && sizeInR
     go : (a b : Bool) → k ≡ refuseUnless a 1 → refuseUnless b 1 ≡ refuseUnless (a && b) 1
     go true b d = refl
     go false b d = absurd (omega arith)
+
+-- settings in range pass
+pub in-range : (s : Settings) → SettingsRange s → inRange s ≡ true
+unfolding inRange bricksInRange sizeInRange capacityInRange
+in-range s g =
+    rw (
+      le-leb 1 (s .n) (g .code .n-low),
+      le-leb (s .n) 16 (g .code .n-high),
+      le-leb 1 (s .m) (g .code .m-low),
+      le-leb (s .m) (s .n) (g .code .m-high),
+      le-leb 1 (s .size) (g .code .size-low),
+      le-leb (s .size) 256 (g .code .size-high),
+      le-leb 2 (s .capacity) (g .capacity-low),
+      le-leb (s .capacity) 32 (g .capacity-high),
+    ) refl
