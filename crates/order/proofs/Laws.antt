@@ -4,6 +4,8 @@ pub mod Tests
 pub mod Order
 -- The theorem.
 pub mod OneOrderTheorem
+-- What one order means for those who read and write.
+pub mod OrderUseLaws
 -- Its lemmas, lowest first.
 pub mod ClaimLaws
 pub mod PlaceLaws

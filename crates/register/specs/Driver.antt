@@ -21,7 +21,7 @@ driven s w c a blocks stripe coded =
         coordinators = putAt (w .coordinators) c (record { state = a .next; blocks = blocks; stripe = stripe });
         sent = w .sent ++ cond (eqb (a .sent) 0) [] (toAll s (record { message = a .message; blocks = coded }) (s .n));
       };
-      seen = seenOf s (a .seen) stripe;
+      seen = seenOf s (a .seen) (record { state = a .next; blocks = blocks; stripe = stripe });
     }
 
 -- one broadcast at most

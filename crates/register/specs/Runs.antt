@@ -84,13 +84,19 @@ unmoved s w = record { world = w; seen = [] }
 unfoldable pub putAt : {A : Type 0} → (ℕ → A) → ℕ → A → ℕ → A
 putAt f k a j = cond (eqb j k) a (f j)
 
--- "An operation is a start that isn't refused; it begins there. It is finished at the event that answers ok or gives what was read,
--- aborted at the event that answers abort, cut at a crash of its coordinator before either". The stripe is the buffer beside the record.
-unfoldable pub seenOf : (s : Settings) → Notice → List ℕ → List (Seen (plain s))
-seenOf s e kept =
-    cond (eqb (e .what) beganSeen) (Seen.began (e .time) (cond (eqb (e .kind) readingKind) read (write kept)) ∷ [])
+-- The kind of the operation that a coordinator with its buffers has begun: "their kinds and bytes only". A write's bytes are the stripe
+-- beside the record.
+unfoldable pub begunKind : (s : Settings) → Buffered → plain s .Kind
+begunKind s k = cond (eqb (k .state .op .kind) readingKind) read (write (k .stripe))
+
+-- What is seen at an event that leaves a coordinator so: "An operation is a start that isn't refused; it begins there. It is finished at
+-- the event that answers ok or gives what was read, aborted at the event that answers abort, cut at a crash of its coordinator before
+-- either". What was read is the stripe beside the record.
+unfoldable pub seenOf : (s : Settings) → Notice → Buffered → List (Seen (plain s))
+seenOf s e k =
+    cond (eqb (e .what) beganSeen) (Seen.began (e .time) (begunKind s k) ∷ [])
     (cond (eqb (e .what) okSeen) (Seen.ended (e .time) (finished ok) ∷ [])
-    (cond (eqb (e .what) readSeen) (Seen.ended (e .time) (finished (bytes kept)) ∷ [])
+    (cond (eqb (e .what) readSeen) (Seen.ended (e .time) (finished (bytes (k .stripe))) ∷ [])
     (cond (eqb (e .what) abortedSeen) (Seen.ended (e .time) aborted ∷ [])
     (cond (eqb (e .what) cutSeen) (Seen.ended (e .time) cut ∷ []) []))))
 
@@ -118,7 +124,7 @@ coordinated s w c (went g) =
         coordinators = putAt (w .coordinators) c (g .next);
         sent = w .sent ++ broadcasts s (g .sent);
       };
-      seen = seenOf s (g .seen) (g .next .stripe);
+      seen = seenOf s (g .seen) (g .next);
     }
 
 -- What a brick's routine does in the world.

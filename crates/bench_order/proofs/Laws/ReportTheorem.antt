@@ -17,7 +17,7 @@ use Rattle.order.specs.Facts.{Fact, seen}
 use Rattle.order.specs.Places.{In}
 use Rattle.order.proofs.Laws.SeenLaws.{seen-began}
 use Rattle.order.proofs.Laws.OneOrderTheorem.{one-order}
-use Rattle.register.proofs.Laws.Corollaries.{one-thing-seen}
+use Rattle.register.proofs.Laws.CorollaryLaws.{one-thing-seen}
 use Rattle.register.proofs.Laws.Invariant.{Hist, Running, Inv}
 use Rattle.register.specs.Runs.{plain, World, Event, Moved, unmoved, freshSet, step, nextMoved, runFrom, run}
 use Rattle.register.proofs.Laws.TheoremProof.{step-goes, run-holds}

@@ -94,10 +94,10 @@ module _ (s : Settings) (w : World) where
           → Part s w (cond b (happens s w e (endedText c (g .seen) (g .next .stripe))) (refuses w badLine))
       go true q =
           printing e c (g .seen .kind) _
-          (ap (λ (v : Moved s). told s c (g .seen .kind) (v .seen)) (f g refl .0) ∙ printed-is-seen s (w .coordinators c .state .op) c (g .seen) (g .next .stripe) (f g refl .1))
+          (ap (λ (v : Moved s). told s c (g .seen .kind) (v .seen)) (f g refl .0) ∙ printed-is-seen s (w .coordinators c .state .op) c (g .seen) (g .next) (f g refl .1))
           (λ h. leb-true _ lastMessage q)
           (λ time how z.
-          end-ran s (w .coordinators c .state .op) (g .seen) (g .next .stripe) time how (f g refl .1)
+          end-ran s (w .coordinators c .state .op) (g .seen) (g .next) time how (f g refl .1)
           (ap (λ (v : Moved s). v .seen) (sym (f g refl .0)) ∙ z))
       go false q = refusing w badLine
 

@@ -50,14 +50,14 @@ left-by s (lost blocks stripe) k P p f = go (buffersFit s blocks stripe) refl
 
 -- nothing is asked of an idle coordinator's buffers
 left-turned : (s : Settings) (g : SettingsRange s) (h : Hist s) (sent : List Item) (c : ℕ) (left : Left) (w : Went)
-    → w .next .state .op .kind ≡ 0 → ((a b : List ℕ) → seenOf s (w .seen) a ≡ seenOf s (w .seen) b) → TurnedRound s g h sent c w
+    → w .next .state .op .kind ≡ 0 → ((a b : Buffered) → seenOf s (w .seen) a ≡ seenOf s (w .seen) b) → TurnedRound s g h sent c w
     → TurnedRound s g h sent c (record { next = leaving s left (w .next); sent = w .sent; seen = w .seen })
 left-turned s g h sent c left w e same t =
     left-by s left (w .next) (λ (k : Buffered). TurnedRound s g h sent c (record { next = k; sent = w .sent; seen = w .seen })) t
     (λ blocks stripe eb es.
     record {
       later = t .later;
-      turns = subst (λ (z : List (Seen (plain s))). Turns s g c h (t .later) z) (same (w .next .stripe) stripe) (t .turns);
+      turns = subst (λ (z : List (Seen (plain s))). Turns s g c h (t .later) z) (same (w .next) _) (t .turns);
       keeps = record { number = t .keeps .number; used = t .keeps .used; sized = t .keeps .sized; runs = λ n. absurd (n e) };
       items = t .items;
       own = t .own;

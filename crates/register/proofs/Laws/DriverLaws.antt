@@ -74,7 +74,7 @@ coordinated-is-driven s w c (refused number) old h =
     makes : (ℕ → Buffered) → List Item → List (Seen (plain s)) → Moved s
     makes f l seen = record { world = record { images = w .images; up = w .up; coordinators = f; sent = l }; seen = seen }
 coordinated-is-driven s w c (went g) old h =
-    ap (λ (l : List Item). makes (putAt (w .coordinators) c (g .next)) (w .sent ++ l) (seenOf s (g .seen) (g .next .stripe))) (same-sent s old h)
+    ap (λ (l : List Item). makes (putAt (w .coordinators) c (g .next)) (w .sent ++ l) (seenOf s (g .seen) (g .next))) (same-sent s old h)
   where
     makes : (ℕ → Buffered) → List Item → List (Seen (plain s)) → Moved s
     makes f l seen = record { world = record { images = w .images; up = w .up; coordinators = f; sent = l }; seen = seen }

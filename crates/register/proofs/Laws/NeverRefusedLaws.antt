@@ -1,17 +1,17 @@
 -- Laws of `specs/NeverRefused`.
 use mathlib.Core.Path.{_≡_, refl, sym, ap, subst, _∙_}
-use mathlib.Core.Bool.{Bool, true, false, cond}
+use mathlib.Core.Bool.{Bool, true, false, cond, _&&_}
 use mathlib.Core.List.{List, [], _∷_}
-use Prim.Native.Nat.{ℕ, zero, suc, _*_, _%_, _≤_, _<_}
+use Prim.Native.Nat.{ℕ, zero, suc, _*_, _%_, _≤_}
 use native.Mathlib.Omega.{arith}
 use lib.Dec.{ltb, eqb}
 use lib.ListN.{length, length-replicate}
 use borrow.Author.Tests.{eqb-true, eqb-false, le-leb}
-use Rattle.settings.specs.Ranges.{codeRefusal, quorum, settingsRefusal}
+use Rattle.settings.specs.Ranges.{bricksInRange, sizeInRange, capacityInRange, inRange, codeRefusal, quorum}
 use Rattle.settings.specs.Ranges.{SettingsRange}
-use Rattle.settings.proofs.Laws.RangeLaws.{settings-passed, settings-code, in-range}
-use Rattle.settings.specs.Refusal.{firstRefusal}
-use Rattle.settings.specs.Times.{maxCount, drawOf}
+use Rattle.byte_lists.proofs.Laws.BoolLaws.{and-left}
+use Rattle.settings.specs.Refusal.{passed, firstRefusal}
+use Rattle.settings.specs.Times.{maxCount, lastCoordinator, drawOf}
 use Rattle.settings.specs.declared.Clock.{Clock}
 use Rattle.settings.specs.declared.Settings.{Settings}
 use Rattle.byte_lists.specs.Little.{areBytes}
@@ -19,9 +19,8 @@ use Rattle.message.specs.Flags.{members}
 use Rattle.message.specs.declared.Reply.{Reply}
 use Rattle.interpolate.proofs.Laws.BlockLaws.{length-blocksAt}
 use Rattle.erasure.specs.Code.{decodedOf}
-use Rattle.image.specs.Brick.{Brick}
-use Rattle.image.specs.Parse.{Opens, parse}
-use Rattle.image.proofs.Laws.ParseLaws.{parse-image}
+use Rattle.image.specs.Parse.{parse}
+use Rattle.image.proofs.Laws.ParseLaws.{parse-image, range-of}
 use Rattle.coord_record.specs.Records.{noBricks}
 use Rattle.coord_record.proofs.Laws.SoundPartLaws.{sound-parts}
 use Rattle.coord_tally.specs.Counting.{targetFlags}
@@ -43,7 +42,7 @@ use Rattle.register.proofs.Laws.BrickEvent.{put-here, put-there}
 use Rattle.register.proofs.Laws.CrashEvent.{left-by}
 use Rattle.register.proofs.Laws.FreshRunLaws.{fresh-holds}
 use Rattle.register.proofs.Laws.TheoremProof.{step-goes, run-holds}
-use Rattle.register.specs.NeverRefused.{Fine}
+use Rattle.register.specs.NeverRefused.{Fine, ImagesOpen, RecordsOpen, CrashesAccepted}
 
 -- its buffers
 abbrev Long : Settings → Buffered → Type 0
@@ -94,11 +93,11 @@ left-fine s left k f =
 
 -- each coordinator of the world
 abbrev pub AllFine : (s : Settings) → World → Type 0
-AllFine s w = (c : ℕ) → c ≤ 15 → Fine s (w .coordinators c)
+AllFine s w = (c : ℕ) → c ≤ lastCoordinator → Fine s (w .coordinators c)
 
 -- a step that leaves its coordinator fine
 abbrev FineStep : Settings → ℕ → Step → Type 0
-FineStep s c p = (w : Went) → p ≡ went w → c ≤ 15 → Fine s (w .next)
+FineStep s c p = (w : Went) → p ≡ went w → c ≤ lastCoordinator → Fine s (w .next)
 
 module _ (s : Settings) (g : SettingsRange s) where
   coordinated-fine : (w : World) (c : ℕ) (p : Step) → AllFine s w → FineStep s c p → AllFine s (coordinated s w c p .world)
@@ -106,7 +105,7 @@ module _ (s : Settings) (g : SettingsRange s) where
   coordinated-fine w c (refused number) f h = f
   coordinated-fine w c (went q) f h = λ c′ l. at c′ l (eqb c′ c) refl
     where
-      at : (c′ : ℕ) → c′ ≤ 15 → (a : Bool) → eqb c′ c ≡ a → Fine s (putAt (w .coordinators) c (q .next) c′)
+      at : (c′ : ℕ) → c′ ≤ lastCoordinator → (a : Bool) → eqb c′ c ≡ a → Fine s (putAt (w .coordinators) c (q .next) c′)
       at c′ l true e =
           let z = eqb-true c′ c e in
           subst (λ (j : ℕ). Fine s (putAt (w .coordinators) c (q .next) j)) (sym z)
@@ -114,7 +113,7 @@ module _ (s : Settings) (g : SettingsRange s) where
       at c′ l false e = subst (Fine s) (sym (put-there (w .coordinators) c (q .next) c′ (eqb-false c′ c e))) (f c′ l)
 
   module _ (h : Hist s) (r : Moved s) (i : Inv s g h r) (f : AllFine s (r .world)) where
-    good : (c : ℕ) → c ≤ 15 → Good (s .n) (s .m) (r .world .coordinators c .state)
+    good : (c : ℕ) → c ≤ lastCoordinator → Good (s .n) (s .m) (r .world .coordinators c .state)
     good c l =
         record { parts = sound-parts (s .n) (s .m) (r .world .coordinators c .state) (f c l .sound-is); sizes = i .coordinators c .sized }
 
@@ -204,11 +203,10 @@ module _ (s : Settings) (g : SettingsRange s) where
   from-fine r w f [] = f
   from-fine r w f (e ∷ events) = from-fine (nextMoved s r e) (step-goes s g (w .0) r (w .1) e) (step-fine (w .0) r (w .1) f e) events
 
--- No record and no buffer beside it is refused, as 6 or 2.
-pub records-open : (s : Settings) → settingsRefusal s ≡ 0 → (events : List Event) (c : ℕ) → c ≤ 15 → Fine s (run s events .world .coordinators c)
+pub records-open : RecordsOpen
 unfolding run freshSet idle unmoved maxCount
 records-open s e events =
-    let g = settings-passed s e in
+    let g = range-of s e in
     from-fine s g (unmoved s (freshSet s)) ([], fresh-holds s g)
     (λ c l. record {
       sound-is = good-sound (s .n) (s .m) _ (idle-good (s .n) (s .m) (s .size) (record { coordinator = c; last = 0 }) (g .code) l (omega arith));
@@ -216,28 +214,21 @@ records-open s e events =
       stripe-long = length-replicate (s .m * s .size) 0;
     }) events
 
-code-accepted : (s : Settings) → settingsRefusal s ≡ 0 → codeRefusal (s .n) (s .m) (s .size) ≡ 0
-code-accepted s e = go (eqb (codeRefusal (s .n) (s .m) (s .size)) 0) refl
-  where
-    go : (a : Bool) → eqb (codeRefusal (s .n) (s .m) (s .size)) 0 ≡ a → codeRefusal (s .n) (s .m) (s .size) ≡ 0
-    go true q = eqb-true _ 0 q
-    go false q = absurd (let z = settings-code s _ refl (eqb-false _ 0 q) in omega (arith, z, e))
+code-accepted : (s : Settings) → inRange s ≡ true → codeRefusal (s .n) (s .m) (s .size) ≡ passed
+unfolding codeRefusal inRange
+code-accepted s e = rw (and-left (bricksInRange (s .n) (s .m) && sizeInRange (s .size)) (capacityInRange (s .capacity)) e) refl
 
-crash-accepted : (s : Settings) (k : Buffered) → settingsRefusal s ≡ 0 → Fine s k → answerOf (k .state) (crashStep (s .n) (s .m) (s .size) k) .refusal ≡ 0
+crash-accepted : (s : Settings) (k : Buffered) → inRange s ≡ true → Fine s k
+    → answerOf (k .state) (crashStep (s .n) (s .m) (s .size) k) .refusal ≡ passed
 unfolding crashStep crashRefusal recordChecks firstRefusal afterChecks answerOf
 crash-accepted s k e f =
     let p = sound-parts (s .n) (s .m) (k .state) (f .sound-is) in
-    rw (code-accepted s e, le-leb (k .state .clock .coordinator) 15 (p .number-low), f .sound-is) refl
+    rw (code-accepted s e, le-leb (k .state .clock .coordinator) lastCoordinator (p .number-low), f .sound-is) refl
 
--- No crash of one of the 16 coordinators is refused.
-pub crashes-accepted : (s : Settings) → settingsRefusal s ≡ 0 → (events : List Event) (c : ℕ) → c ≤ 15
-    → answerOf (run s events .world .coordinators c .state) (crashStep (s .n) (s .m) (s .size) (run s events .world .coordinators c)) .refusal ≡ 0
+pub crashes-accepted : CrashesAccepted
 crashes-accepted s e events c l = crash-accepted s (run s events .world .coordinators c) e (records-open s e events c l)
 
--- No image is refused, as 2, 5 or 6: each opens as the brick that was saved.
-pub images-open : (s : Settings) → settingsRefusal s ≡ 0 → (events : List Event) (b : ℕ) → b < s .n
-    → (x : Brick) × (parse s b (run s events .world .images b) ≡ Opens x)
+pub images-open : ImagesOpen
 images-open s e events b l =
-    let g = settings-passed s e in
-    let w = run-holds s g events .1 .bricks b l in
-    (w .state, ap (parse s b) (w .saved) ∙ parse-image s b (w .state) (in-range s g) l (w .sound))
+    let w = run-holds s (range-of s e) events .1 .bricks b l in
+    (w .state, ap (parse s b) (w .saved) ∙ parse-image s b (w .state) e l (w .sound))

@@ -44,7 +44,7 @@ module _ (s : Settings) (g : SettingsRange s) (h : Hist s) (sent : List Item) (c
   pub ends : Valid (quorums s g) h → (e : End (plain s)) (stripe : List ℕ) (more : List Broadcast) (what : ℕ) (bricks : List ℕ)
       → k .state .op .time % 16 ≡ c
       → OkEnded (quorums s g) h (k .state .op .time) e
-      → seenOf s (ending k stripe more what bricks .seen) stripe ≡ shows {P = plain s} (ended (k .state .op .time) e)
+      → seenOf s (ending k stripe more what bricks .seen) (ending k stripe more what bricks .next) ≡ shows {P = plain s} (ended (k .state .op .time) e)
       → ((z : Item) → z ∈ broadcasts s more → ItemInv s g (ended (k .state .op .time) e ∷ h) (sent ++ broadcasts s more) z)
       → ((b : ℕ) (msg : Message) (block : List ℕ) → message b msg block ∈ broadcasts s more → msg .time % 16 ≡ c)
       → TurnedRound s g h sent c (ending k stripe more what bricks)

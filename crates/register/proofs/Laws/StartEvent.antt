@@ -7,7 +7,7 @@ use Prim.Native.Nat.{ℕ, _*_, _%_, _≤_, _<_}
 use native.Mathlib.Omega.{arith}
 use lib.Dec.{leb, eqb}
 use lib.ListN.{length, getD, replicate}
-use borrow.Author.Tests.{leb-true, eqb-true, eq-eqb, ne-eqb}
+use borrow.Author.Tests.{leb-true, eqb-true}
 use Rattle.settings.specs.Ranges.{codeRefusal}
 use Rattle.settings.specs.Ranges.{SettingsRange}
 use Rattle.byte_lists.proofs.Laws.BoolLaws.{and-left}
@@ -22,6 +22,7 @@ use Rattle.settings.proofs.Laws.RefusalLaws.{tested}
 use Rattle.byte_lists.specs.Little.{Bytes}
 use Rattle.byte_lists.proofs.Laws.LittleLaws.{byte-below}
 use Rattle.message.specs.Flags.{member}
+use Rattle.message.specs.Kinds.{firstRound}
 use Rattle.erasure.specs.Code.{Stripe}
 use Rattle.coord_record.specs.Records.{nothingCounted, noBricks}
 use Rattle.coord_tally.specs.Counting.{targetFlags}
@@ -31,16 +32,17 @@ use Rattle.coord_refusals.specs.Checks.{writeRefusal, readRefusal}
 use Rattle.coordinator.specs.Routines.{drawnThen, writeStep, readStep}
 use Rattle.coord_laws.proofs.Laws.SoundnessLaws.{none-sized}
 use Rattle.coord_laws.proofs.Laws.TallyLaws.{zeros-at}
-use Rattle.order.specs.Claim.{Action, read, write, Seen, _∈_}
+use Rattle.order.specs.Claim.{Action, Seen, _∈_}
 use Rattle.order.specs.Facts.{Source, End, Fact, began, launched, ended}
 use Rattle.order.specs.Places.{In}
 use Rattle.order.proofs.Laws.PlaceLaws.{suf-below, in-suf, in-top}
 use Rattle.order.specs.Valid.{Began, Valid}
 use Rattle.order.proofs.Laws.FactLaws.{ok-at}
-use Rattle.register.specs.Runs.{plain, Item, message, Moved, seenOf, blockFor, broadcasts, coordinated}
+use Rattle.register.specs.Runs.{plain, Item, message, Moved, begunKind, seenOf, blockFor, broadcasts, coordinated}
 use Rattle.register.proofs.Laws.Invariant.{quorums, Hist, MessageInv, ItemInv, Asked, Running, CoordinatorInv, Inv}
 use Rattle.register.proofs.Laws.UpLaws.{in-cons}
 use Rattle.register.proofs.Laws.Invariant.{Goes}
+use Rattle.register.proofs.Laws.BegunLaws.{begun-read, begun-write}
 use Rattle.register.proofs.Laws.BrickEvent.{first-passed}
 use Rattle.register.proofs.Laws.TurnLaws.{time-of, kind-of, Turns, turns-began, in-broadcast, TurnedRound, goes-turned, goes-refused}
 
@@ -86,8 +88,21 @@ module _ (s : Settings) (g : SettingsRange s) (h : Hist s) (sent : List Item) (c
             let e : msg .time ≡ t = unfold time-of in ap time-of (w .2) in ap (λ (u : ℕ). u % 16) e ∙ own-time;
       }
     where
+      next : Buffered
+      next =
+          record {
+            state = record {
+              clock = clock;
+              op = record { kind = kind; phase = phase; time = t; round = firstRound; max = 0; first = first };
+              tally = nothingCounted;
+              bricks = noBricks;
+            };
+            blocks = k .blocks;
+            stripe = stripe;
+          }
+
       action : Action (List ℕ)
-      action = cond (eqb kind 1) read (write stripe)
+      action = begunKind s next
 
       later : Hist s
       later = began t action ∷ h
@@ -138,18 +153,13 @@ module _ (s : Settings) (g : SettingsRange s) (h : Hist s) (sent : List Item) (c
           go (inr p) = let w = in-broadcast s sending (message b msg block) p in
               let f : msg .kind ≡ phase = unfold kind-of in ap kind-of (w .2) in absurd (omega arith)
 
-      running : Running s g later (sent ++ broadcasts s (sending ∷ [])) c
-          (record {
-            state = record { clock = clock; op = record { kind = kind; phase = phase; time = t; round = 1; max = 0; first = first }; tally = nothingCounted; bricks = noBricks };
-            blocks = k .blocks;
-            stripe = stripe;
-          })
+      running : Running s g later (sent ++ broadcasts s (sending ∷ [])) c next
       running =
           record {
             own = own-time;
             known = (action, in-top);
-            reads = λ e. subst (λ (a : Action (List ℕ)). In (began t a) later) (rw (eq-eqb kind 1 e) refl) in-top;
-            writes = λ e. (subst (λ (a : Action (List ℕ)). In (began t a) later) (rw (ne-eqb kind 1 (λ q. omega (arith, q))) refl) in-top, proper e);
+            reads = λ e. subst (λ (a : Action (List ℕ)). In (began t a) later) (begun-read s next e) in-top;
+            writes = λ e. (subst (λ (a : Action (List ℕ)). In (began t a) later) (begun-write s next e) in-top, proper e);
             unended = λ w. ended-not (w .0) (in-cons (w .1));
             unsent = λ p w. launched-not (w .0) (in-cons (w .1));
             counts = λ b m. absurd (none-member b m);

@@ -5,9 +5,8 @@ use mathlib.Core.List.{List, [], _∷_, append-nil, List·Memᴰ·head, List·Me
 use mathlib.Core.Path.{sym, _∙_}
 use Prim.Native.Nat.{ℕ, zero, suc}
 use lib.Dec.{ltb}
-use Rattle.settings.specs.Ranges.{settingsRefusal}
 use Rattle.settings.specs.Ranges.{SettingsRange}
-use Rattle.settings.proofs.Laws.RangeLaws.{settings-passed}
+use Rattle.image.proofs.Laws.ParseLaws.{range-of}
 use Rattle.settings.specs.declared.Settings.{Settings}
 use Rattle.byte_lists.specs.Little.{areBytes}
 use Rattle.byte_lists.proofs.Laws.LittleLaws.{are-bytes}
@@ -15,7 +14,8 @@ use Rattle.coordinator.specs.Routines.{writeStep}
 use Rattle.order.specs.Claim.{OneOrder, _∈_}
 use Rattle.order.specs.Facts.{seen}
 use Rattle.order.proofs.Laws.OneOrderTheorem.{one-order}
-use Rattle.register.specs.Runs.{plain, Item, message, reply, freshSet, Event, startWrite, startRead, arrives, crashes, goesDown, comesUp, Moved, unmoved, putAt, coordinated, arriving, arrivingAt, standing, step, nextMoved, runFrom, run, RunHasOneOrder}
+use Rattle.register.specs.Runs.{plain, Item, message, reply, freshSet, Event, startWrite, startRead, arrives, crashes, goesDown, comesUp, Moved, unmoved, putAt, coordinated, arriving, arrivingAt, standing, step, nextMoved, runFrom, run}
+use Rattle.register.specs.Theorem.{EveryRunHasOneOrder}
 use Rattle.register.proofs.Laws.Invariant.{Hist, Inv}
 use Rattle.register.proofs.Laws.Invariant.{Goes}
 use Rattle.register.proofs.Laws.BrickEvent.{goes-unmoved, message-arrives}
@@ -89,8 +89,7 @@ module _ (s : Settings) (g : SettingsRange s) where
   unfolding run
   run-holds events = from-holds (unmoved s (freshSet s)) ([], fresh-holds s g) events
 
--- For every settings in range and every list of events, whatever its crashes leave in the buffers, the operations have one order.
-pub every-run-has-one-order : (s : Settings) → settingsRefusal s ≡ 0 → (events : List Event) → RunHasOneOrder s events
+pub every-run-has-one-order : EveryRunHasOneOrder
 every-run-has-one-order s e events =
-    let w = run-holds s (settings-passed s e) events in
+    let w = run-holds s (range-of s e) events in
     subst (OneOrder (plain s)) (w .1 .seen-is) (one-order (w .1 .valid))

@@ -103,7 +103,7 @@ in-broadcast s z i m = go (List·Memᴰ·append-cases (toAll s z (s .n)) m)
 -- What an event leaves of coordinator c and what it sends.
 pub record TurnedRound (s : Settings) (g : SettingsRange s) (h : Hist s) (sent : List Item) (c : ℕ) (w : Went) : Type 0 where
   pub later : Hist s
-  pub turns : Turns s g c h later (seenOf s (w .seen) (w .next .stripe))
+  pub turns : Turns s g c h later (seenOf s (w .seen) (w .next))
   pub keeps : CoordinatorInv s g later (sent ++ broadcasts s (w .sent)) c (w .next)
   pub items : (i : Item) → i ∈ broadcasts s (w .sent) → ItemInv s g later (sent ++ broadcasts s (w .sent)) i
   pub own : (b : ℕ) (msg : Message) (block : List ℕ) → message b msg block ∈ broadcasts s (w .sent) → msg .time % 16 ≡ c
@@ -115,7 +115,7 @@ goes-turned s g h r i c w t = (
   t .later,
   record {
     valid = t .turns .valid;
-    seen-is = t .turns .seen-more ∙ ap (λ (z : List (Seen (plain s))). z ++ seenOf s (w .seen) (w .next .stripe)) (i .seen-is);
+    seen-is = t .turns .seen-more ∙ ap (λ (z : List (Seen (plain s))). z ++ seenOf s (w .seen) (w .next)) (i .seen-is);
     bricks = λ b l. let x = i .bricks b l in
         record { state = x .state; saved = x .saved; sound = x .sound; keeps = t .turns .bricks b (x .state) (x .keeps) };
     items = λ k m. item k (List·Memᴰ·append-cases (r .world .sent) m);

@@ -1,4 +1,4 @@
--- The 16 coordinators are all there are: one above 15 is refused by each routine, as 3, and stays as it was.
+-- Laws of `specs/Numbered`.
 use mathlib.Core.Path.{_≡_, refl, _∙_}
 use mathlib.Core.Bool.{Bool, true, false, cond, _&&_}
 use mathlib.Core.List.{List, [], _∷_}
@@ -7,9 +7,10 @@ use native.Mathlib.Omega.{arith}
 use lib.Dec.{leb, ltb, eqb}
 use lib.ListN.{length}
 use borrow.Author.Tests.{leb-true}
-use Rattle.settings.specs.Ranges.{codeRefusal, settingsRefusal}
+use Rattle.settings.specs.Ranges.{codeRefusal}
 use Rattle.settings.specs.Ranges.{SettingsRange}
-use Rattle.settings.proofs.Laws.RangeLaws.{settings-passed}
+use Rattle.image.proofs.Laws.ParseLaws.{range-of}
+use Rattle.register.specs.Numbered.{SixteenCoordinators}
 use Rattle.settings.specs.Refusal.{refuseUnless}
 use Rattle.settings.specs.Times.{drawOf}
 use Rattle.settings.specs.declared.Clock.{Clock}
@@ -139,8 +140,8 @@ module _ (s : Settings) (g : SettingsRange s) (c : ℕ) (high : 15 < c) where
   from-still r w e [] = e
   from-still r w e (v ∷ events) = from-still (nextMoved s r v) (step-goes s g (w .0) r (w .1) v) (step-still (w .0) r (w .1) e v) events
 
-pub sixteen-coordinators : (s : Settings) → settingsRefusal s ≡ 0 → (events : List Event) (c : ℕ) → 15 < c → run s events .world .coordinators c ≡ idle s c
+pub sixteen-coordinators : SixteenCoordinators
 unfolding run freshSet unmoved
 sixteen-coordinators s e events c high =
-    let g = settings-passed s e in
+    let g = range-of s e in
     from-still s g c high (unmoved s (freshSet s)) ([], fresh-holds s g) refl events
