@@ -2,9 +2,10 @@
 -- very definitions that the contracts of a brick and of a coordinator cite.
 use mathlib.Core.Bool.{Bool, true, false, cond, _&&_}
 use mathlib.Core.List.{List, [], _∷_, _++_}
-use Prim.Native.Nat.{ℕ, zero, suc, _*_, _%_}
+use Prim.Native.Nat.{ℕ, zero, suc, _*_}
 use lib.Dec.{eqb, ltb}
 use lib.ListN.{length, replicate}
+use Rattle.settings.specs.Times.{coordinatorOf}
 use Rattle.settings.specs.declared.Settings.{Settings}
 use Rattle.byte_lists.specs.Little.{areBytes}
 use Rattle.message.specs.Kinds.{writeKind}
@@ -150,8 +151,8 @@ unfoldable pub arriving : (s : Settings) → World → Item → Moved s
 arriving s w (message b msg block) =
     cond (w .up b) (received s w b (outcome s b (w .images b) msg block (replicate (s .size) 0))) (unmoved s w)
 arriving s w (reply r block) =
-    coordinated s w (r .time % 16)
-    (takeStep (s .n) (s .m) (s .size) (w .coordinators (r .time % 16)) r block (s .n * s .size))
+    coordinated s w (coordinatorOf (r .time))
+    (takeStep (s .n) (s .m) (s .size) (w .coordinators (coordinatorOf (r .time))) r block (s .n * s .size))
 
 -- the item at a place, if so many were sent: "one naming a message not sent so far" changes nothing
 unfoldable pub arrivingAt : (s : Settings) → World → List Item → ℕ → Moved s

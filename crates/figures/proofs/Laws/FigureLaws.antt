@@ -30,6 +30,7 @@ held (r ∷ rows) t = go (eqb (r .given) (r .figure)) (eqb→eq (r .given) (r .f
 
 pub figures-hold : FiguresHold
 unfolding figures agree timeOrNumber drawFor refusalFor quorum faults product shiftAdd twice plus
-    weighted checkOf zeros headKind headBody entryKind entryBody byteOf little firstPoints codedOf decodedOf inverseBelow inverse tabulate stacked byteAt valueAt blockAt blocksAt pick sub sum factor basisTo basis interpolated
+    weighted checkOf zeros headKind headBody entryKind entryBody byteOf little firstPoints codedOf decodedOf inverseBelow inverse
+    tabulate stacked byteAt valueAt blockAt blocksAt pick sub sum factor basisTo basis interpolated
     settingsRefusal inRange bricksInRange sizeInRange capacityInRange maxCount timeOf nextCount drawRefusal advanced drawOf
 figures-hold = held figures tt

@@ -5,7 +5,8 @@ use Rattle.order.specs.Claim.{stripe, read, write, changed, given, bytes
 use Rattle.order.specs.Facts.{seen, shows, endingOf}
 use Rattle.order.specs.Valid.{Valid, start, fresh, onto}
 use Rattle.order.proofs.Laws.OneOrderTheorem.{one-order, the-order}
-use Rattle.order.proofs.Laws.ExampleLaws.{began-ok, promised-ok, stored-ok, showed-ok, launched-ok, launched-over-ok, committed-ok, ended-ok, at, _▷_, tests, orders}
+use Rattle.order.proofs.Laws.ExampleLaws.{began-ok, promised-ok, stored-ok, showed-ok, launched-ok, launched-over-ok, committed-ok}
+use Rattle.order.proofs.Laws.ExampleLaws.{ended-ok, at, _▷_, tests, orders}
 use Rattle.order.specs.BenchExample.{three, nought, ten, cut-short, reading, first-read, reading-again, BenchIsValid, BenchIsSeen, BenchHasOneOrder}
 
 pub cut-short-valid : Valid three cut-short

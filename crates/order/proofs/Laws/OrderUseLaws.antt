@@ -4,7 +4,8 @@ use mathlib.Core.Logic.{_≢_, _⊎_, inl, inr}
 use mathlib.Core.List.{List, [], _∷_, List·Memᴰ·head, List·Memᴰ·tail, List·Memᴰ·not-nil, List·Memᴰ·cases-cons}
 use Prim.Native.Nat.{ℕ}
 use native.Mathlib.Omega.{arith}
-use Rattle.order.specs.Claim.{Plain, Action, read, write, ok, bytes, changed, given, stripe, finished, Seen, Op, _∈_, Before, here, later, Once, Right, OneOrder}
+use Rattle.order.specs.Claim.{Plain, Action, read, write, ok, bytes, changed, given, stripe, finished, Seen, Op, _∈_, Before, here}
+use Rattle.order.specs.Claim.{later, Once, Right, OneOrder}
 use Rattle.order.specs.Valid.{Keeps, Sets}
 use Rattle.order.specs.OrderUse.{EndedBefore}
 

@@ -1,15 +1,17 @@
 -- Laws of `specs/Corollaries`.
 use mathlib.Core.Bool.{Bool, true, false, cond}
 use mathlib.Core.List.{List, [], _∷_}
-use Prim.Native.Nat.{ℕ, zero, suc, _%_, _≤_}
+use Prim.Native.Nat.{ℕ, zero, suc, _≤_}
 use native.Mathlib.Omega.{arith}
 use lib.Dec.{eqb, ltb}
 use lib.ListN.{length}
+use Rattle.settings.specs.Times.{coordinatorOf}
 use Rattle.settings.specs.declared.Settings.{Settings}
 use Rattle.byte_lists.specs.Little.{areBytes}
 use Rattle.coord_apply.specs.Answers.{Buffered, Step, refused, went, beganSeen, okSeen, readSeen, abortedSeen, cutSeen}
 use Rattle.coord_apply.specs.declared.Notice.{Notice}
-use Rattle.register.specs.Runs.{Item, message, reply, World, Event, startWrite, startRead, arrives, crashes, goesDown, comesUp, Moved, unmoved, seenOf, coordinated, received, arriving, arrivingAt, standing, step}
+use Rattle.register.specs.Runs.{Item, message, reply, World, Event, startWrite, startRead, arrives, crashes, goesDown, comesUp, Moved}
+use Rattle.register.specs.Runs.{unmoved, seenOf, coordinated, received, arriving, arrivingAt, standing, step}
 use Rattle.order.proofs.Laws.OrderUseLaws.{reads-agree, written-is-read}
 use Rattle.register.specs.Corollaries.{CutWriteIsThereOrAway, WhatWasStoredIsThere, OneThingSeen}
 use Rattle.register.proofs.Laws.TheoremProof.{every-run-has-one-order}
@@ -48,7 +50,7 @@ module _ (s : Settings) (w : World) where
   arriving-one : (i : Item) → length (arriving s w i .seen) ≤ 1
   unfolding arriving received unmoved
   arriving-one (message b msg block) = either (w .up b) _ _ (omega arith) (omega arith)
-  arriving-one (reply r block) = coordinated-one (r .time % 16) _
+  arriving-one (reply r block) = coordinated-one (coordinatorOf (r .time)) _
 
   at-one : (l : List Item) (k : ℕ) → length (arrivingAt s w l k .seen) ≤ 1
   unfolding arrivingAt unmoved

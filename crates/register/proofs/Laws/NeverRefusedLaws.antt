@@ -2,16 +2,17 @@
 use mathlib.Core.Path.{_≡_, refl, sym, ap, subst, _∙_}
 use mathlib.Core.Bool.{Bool, true, false, cond, _&&_}
 use mathlib.Core.List.{List, [], _∷_}
-use Prim.Native.Nat.{ℕ, zero, suc, _*_, _%_, _≤_}
+use Prim.Native.Nat.{ℕ, zero, suc, _*_, _≤_}
 use native.Mathlib.Omega.{arith}
 use lib.Dec.{ltb, eqb}
 use lib.ListN.{length, length-replicate}
 use borrow.Author.Tests.{eqb-true, eqb-false, le-leb}
+use Rattle.message.specs.Kinds.{readKind, orderKind}
 use Rattle.settings.specs.Ranges.{bricksInRange, sizeInRange, capacityInRange, inRange, codeRefusal, quorum}
 use Rattle.settings.specs.Ranges.{SettingsRange}
 use Rattle.byte_lists.proofs.Laws.BoolLaws.{and-left}
 use Rattle.settings.specs.Refusal.{passed, firstRefusal}
-use Rattle.settings.specs.Times.{maxCount, lastCoordinator, drawOf}
+use Rattle.settings.specs.Times.{maxCount, lastCoordinator, drawOf, coordinatorOf}
 use Rattle.settings.specs.declared.Clock.{Clock}
 use Rattle.settings.specs.declared.Settings.{Settings}
 use Rattle.byte_lists.specs.Little.{areBytes}
@@ -21,7 +22,7 @@ use Rattle.interpolate.proofs.Laws.BlockLaws.{length-blocksAt}
 use Rattle.erasure.specs.Code.{decodedOf}
 use Rattle.image.specs.Parse.{parse}
 use Rattle.image.proofs.Laws.ParseLaws.{parse-image, range-of}
-use Rattle.coord_record.specs.Records.{noBricks}
+use Rattle.coord_record.specs.Records.{noBricks, idleKind, readingKind, writingKind}
 use Rattle.coord_record.proofs.Laws.SoundPartLaws.{sound-parts}
 use Rattle.coord_tally.specs.Counting.{targetFlags}
 use Rattle.coord_decide.specs.Deciding.{decided}
@@ -36,7 +37,9 @@ use Rattle.coord_laws.proofs.Laws.CodedBlockLaws.{placed-long}
 use Rattle.coord_laws.proofs.Laws.StepRunLaws.{ReplyTaken, took}
 use Rattle.coord_laws.specs.Soundness.{Good}
 use Rattle.coord_laws.proofs.Laws.SoundnessLaws.{idle-good, passes, same-went, drawn-went, write-good, read-good, take-good, crash-good, good-sound}
-use Rattle.register.specs.Runs.{Item, message, reply, World, idle, freshSet, Left, Event, startWrite, startRead, arrives, crashes, goesDown, comesUp, Moved, unmoved, putAt, coordinated, received, arriving, arrivingAt, standing, leaving, leftBy, step, nextMoved, runFrom, run}
+use Rattle.register.specs.Runs.{Item, message, reply, World, idle, freshSet, Left, Event, startWrite, startRead, arrives, crashes}
+use Rattle.register.specs.Runs.{goesDown, comesUp, Moved, unmoved, putAt, coordinated, received, arriving, arrivingAt, standing}
+use Rattle.register.specs.Runs.{leaving, leftBy, step, nextMoved, runFrom, run}
 use Rattle.register.proofs.Laws.Invariant.{Hist, Inv}
 use Rattle.register.proofs.Laws.BrickEvent.{put-here, put-there}
 use Rattle.register.proofs.Laws.CrashEvent.{left-by}
@@ -121,7 +124,7 @@ module _ (s : Settings) (g : SettingsRange s) where
     unfolding writeStep starting
     write-fine c reading content w e l =
         let k = r .world .coordinators c in
-        let begin : ℕ → Clock → Went = λ time clock. starting k clock (firstOp 2 2 time 0) content noBricks in
+        let begin : ℕ → Clock → Went = λ time clock. starting k clock (firstOp writingKind orderKind time 0) content noBricks in
         let p = passes (writeRefusal (s .n) (s .m) (s .size) (k .state) reading (length content) (length (k .stripe))) (drawnThen (drawOf (k .state .clock) reading) begin) w e in
         fine s (w .next) (write-good (s .n) (s .m) (s .size) k reading content w e)
         (subst (λ (v : Went). Long s (v .next)) (drawn-went (drawOf (k .state .clock) reading) begin w (p .1) .3) (
@@ -133,7 +136,7 @@ module _ (s : Settings) (g : SettingsRange s) where
     unfolding readStep starting
     read-fine c reading first w e l =
         let k = r .world .coordinators c in
-        let begin : ℕ → Clock → Went = λ time clock. starting k clock (firstOp 1 1 time first) (k .stripe) (targetFlags (s .n) (s .m) first) in
+        let begin : ℕ → Clock → Went = λ time clock. starting k clock (firstOp readingKind readKind time first) (k .stripe) (targetFlags (s .n) (s .m) first) in
         let p = passes (readRefusal (s .n) (s .m) (s .size) (k .state) reading first) (drawnThen (drawOf (k .state .clock) reading) begin) w e in
         fine s (w .next) (read-good (s .n) (s .m) (s .size) k reading first w e)
         (subst (λ (v : Went). Long s (v .next)) (drawn-went (drawOf (k .state .clock) reading) begin w (p .1) .3) (f c l .blocks-long, f c l .stripe-long))
@@ -143,7 +146,7 @@ module _ (s : Settings) (g : SettingsRange s) where
     crash-fine c w e l =
         fine s (w .next) (crash-good (s .n) (s .m) (s .size) k w (good c l) e)
         (subst (λ (v : Went). Long s (v .next)) (same-went (crashed k) w (passes (crashRefusal (s .n) (s .m) (s .size) (k .state)) (went (crashed k)) w e .1))
-        (go (eqb (k .state .op .kind) 0)))
+        (go (eqb (k .state .op .kind) idleKind)))
       where
         k : Buffered
         k = r .world .coordinators c
@@ -161,11 +164,11 @@ module _ (s : Settings) (g : SettingsRange s) where
         go (went q) h w e l = subst (λ (v : Went). Fine s (v .next)) (same-went _ w e) (left-fine s left (q .next) (h q refl l))
 
     reply-fine : (a : Reply) (block : List ℕ)
-        → FineStep s (a .time % 16) (takeStep (s .n) (s .m) (s .size) (r .world .coordinators (a .time % 16)) a block (s .n * s .size))
+        → FineStep s (coordinatorOf (a .time)) (takeStep (s .n) (s .m) (s .size) (r .world .coordinators (coordinatorOf (a .time))) a block (s .n * s .size))
     reply-fine a block w e l =
-        let k = r .world .coordinators (a .time % 16) in
+        let k = r .world .coordinators (coordinatorOf (a .time)) in
         let t = took (s .n) (s .m) (s .size) k a block (s .n * s .size) w e in
-        fine s (w .next) (take-good (s .n) (s .m) (s .size) k a block (s .n * s .size) w (good (a .time % 16) l) e)
+        fine s (w .next) (take-good (s .n) (s .m) (s .size) k a block (s .n * s .size) w (good (coordinatorOf (a .time)) l) e)
         (subst (λ (v : Went). Long s (v .next)) (t .is)
         (waiting-long s (counting (s .size) k a block) (counting-long s k a block (s .n * s .size) w t)))
 
@@ -176,7 +179,7 @@ module _ (s : Settings) (g : SettingsRange s) where
     item-fine : (z : Item) → AllFine s (arriving s (r .world) z .world)
     unfolding arriving received unmoved
     item-fine (message b msg block) = either (r .world .up b) _ _ f f
-    item-fine (reply a block) = coordinated-fine (r .world) (a .time % 16) _ f (reply-fine a block)
+    item-fine (reply a block) = coordinated-fine (r .world) (coordinatorOf (a .time)) _ f (reply-fine a block)
 
     place-fine : (l : List Item) (k : ℕ) → AllFine s (arrivingAt s (r .world) l k .world)
     unfolding arrivingAt unmoved

@@ -14,7 +14,9 @@ use Rattle.coordinator.specs.Routines.{writeStep}
 use Rattle.order.specs.Claim.{OneOrder, _∈_}
 use Rattle.order.specs.Facts.{seen}
 use Rattle.order.proofs.Laws.OneOrderTheorem.{one-order}
-use Rattle.register.specs.Runs.{plain, Item, message, reply, freshSet, Event, startWrite, startRead, arrives, crashes, goesDown, comesUp, Moved, unmoved, putAt, coordinated, arriving, arrivingAt, standing, step, nextMoved, runFrom, run}
+use Rattle.register.specs.Runs.{plain, Item, message, reply, freshSet, Event, startWrite, startRead, arrives, crashes, goesDown}
+use Rattle.register.specs.Runs.{comesUp, Moved, unmoved, putAt, coordinated, arriving, arrivingAt, standing, step, nextMoved, runFrom}
+use Rattle.register.specs.Runs.{run}
 use Rattle.register.specs.Theorem.{EveryRunHasOneOrder}
 use Rattle.register.proofs.Laws.Invariant.{Hist, Inv}
 use Rattle.register.proofs.Laws.Invariant.{Goes}
