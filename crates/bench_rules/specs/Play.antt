@@ -17,7 +17,7 @@ use Rattle.register.specs.Runs.{Item, message, reply, World, untouched, Event, 
 use Rattle.bench_state.specs.State.{benchRange}
 use Rattle.bench_parse.specs.Lines.{Line, setLine, writeLine, readLine, carryLine, crashLine, downLine, upLine, noLine}
 use Rattle.bench_print.specs.Printing.{refusedText, endedText}
-use Rattle.bench_rules.specs.Content.{counted, content, content-small}
+use Rattle.bench_rules.specs.Content.{counted, content}
 
 -- "message 127"
 abbrev pub lastMessage : ℕ
@@ -63,7 +63,7 @@ unlessShort ok (went g) = cond ok (went g) (refused badLine)
 unfoldable pub writes : Settings → World → ℕ → ℕ → List ℕ → Played
 writes s w c clock digits =
     atCoordinator w c
-    (acts s w (startWrite c clock (content s digits) (content-small s digits)) c
+    (acts s w (startWrite c clock (content s digits)) c
     (unlessShort (counted s digits) (writeStep (s .n) (s .m) (s .size) (w .coordinators c) clock (content s digits))))
 
 -- "`read c clock brick`"

@@ -8,7 +8,7 @@ ghost use lib.ListN.{length, drop, replicate};
 ghost use Rattle.bench_commit.specs.Workers.{BenchActed, Plays};
 ghost use Rattle.bench_commit.specs.Workers.{Seats, Copies};
 ghost use Rattle.bench_parse.specs.Lines.{bytesOf};
-ghost use Rattle.bench_rules.specs.Content.{counted, content as content-of, content-small};
+ghost use Rattle.bench_rules.specs.Content.{counted, content as content-of};
 ghost use Rattle.bench_rules.specs.Play.{unlessShort, writes, starts, crashesAt};
 ghost use Rattle.coord_apply.specs.Answers.{Buffered};
 ghost use Rattle.coordinator.specs.Routines.{crashStep, writeStep, readStep};
@@ -131,7 +131,7 @@ fn write_with(
     requires { ⌜ Seats b c (now kept) (now numbers) (now bytes) 0 (now out) ⌝ }
     requires { ⌜ Copies (b .settings) (now blocks) (now stripe) (now blocks) ⌝ }
     requires { ⌜ (hex ≤ length (now line)) × (now content ≡ replicate (b .settings .m * b .settings .size) 0) ⌝ }
-    ensures { λ r. ⌜ BenchActed b c (startWrite c clock (content-of (b .settings) (drop hex (now (line .entry)))) (content-small (b .settings) (drop hex (now (line .entry))))) (λ (h : Buffered). unlessShort (counted (b .settings) (drop hex (now (line .entry)))) (writeStep (b .settings .n) (b .settings .m) (b .settings .size) h clock (content-of (b .settings) (drop hex (now (line .entry)))))) (now (kept .entry)) (now (numbers .entry)) (now (bytes .entry)) 0 (now (out .entry)) r (now (kept .exit)) (now (numbers .exit)) (now (bytes .exit)) (now (out .exit)) ⌝ }
+    ensures { λ r. ⌜ BenchActed b c (startWrite c clock (content-of (b .settings) (drop hex (now (line .entry))))) (λ (h : Buffered). unlessShort (counted (b .settings) (drop hex (now (line .entry)))) (writeStep (b .settings .n) (b .settings .m) (b .settings .size) h clock (content-of (b .settings) (drop hex (now (line .entry)))))) (now (kept .entry)) (now (numbers .entry)) (now (bytes .entry)) 0 (now (out .entry)) r (now (kept .exit)) (now (numbers .exit)) (now (bytes .exit)) (now (out .exit)) ⌝ }
 {
     let right = read_content(line, hex, content);
     bench_state::fetch(c, kept, blocks, stripe);

@@ -1,6 +1,8 @@
 -- Document 01, "The saved brick": "numbers little-endian".
+use mathlib.Core.Bool.{Bool, true, _&&_}
 use mathlib.Core.List.{List, [], _∷_}
 use Prim.Native.Nat.{ℕ, zero, suc, _+_, _*_, _/_, _%_, _<_}
+use lib.Dec.{ltb}
 
 -- the lowest byte of a number
 unfoldable pub byteOf : ℕ → ℕ
@@ -20,6 +22,11 @@ number (b ∷ bs) = b + 256 * number bs
 unfoldable pub Bytes : List ℕ → Type 0
 Bytes [] = Unit {0}
 Bytes (b ∷ bs) = (b < 256) × Bytes bs
+
+-- the same, as a test
+unfoldable pub areBytes : List ℕ → Bool
+areBytes [] = true
+areBytes (b ∷ bs) = ltb b 256 && areBytes bs
 
 -- the powers of 256, as the numbers' bounds
 unfoldable pub limit : ℕ → ℕ

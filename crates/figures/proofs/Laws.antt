@@ -1,3 +1,3 @@
--- The laws of `figures`, for its own proofs and those of the crates above. No contract cites them.
+-- The proofs of the figures and of the bench case.
 pub mod FigureLaws
 pub mod WorkedRunLaws

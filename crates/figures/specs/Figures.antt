@@ -1,5 +1,5 @@
--- Document 01, "Figures to hold it to": the starred figures, and one theorem over the table of them (clause d).
--- A row is what a definition gives and what the paper says it gives.
+-- Document 01, "Figures to hold it to": the starred figures, "proved by one theorem over a table of them" (clause d), `FiguresHold`.
+-- A row is what a definition gives and what the paper says it gives. Proved in `proofs/Laws/FigureLaws`.
 use mathlib.Core.Path.{_≡_}
 use mathlib.Core.List.{List, [], _∷_}
 use Prim.Native.Nat.{ℕ, _*_, _^_, _-_}
@@ -70,3 +70,7 @@ figures =
 unfoldable pub Hold : List Row → Type 0
 Hold [] = Unit {0}
 Hold (r ∷ rows) = (r .given ≡ r .figure) × Hold rows
+
+-- The starred figures hold.
+abbrev pub FiguresHold : Type 0
+FiguresHold = Hold figures

@@ -1,2 +1,3 @@
+-- Document 01's figures and its bench case, as statements.
 pub mod Figures
 pub mod WorkedRun

@@ -1,22 +1,18 @@
--- Document 01's bench case, and a write that is read back, as lists of events: computed on `run`, images and all.
+-- Document 01's bench case as a list of events: computed on `run`, images and all, in `proofs/Laws/WorkedRunLaws`.
+use mathlib.Core.Path.{_≡_}
 use mathlib.Core.List.{List, [], _∷_}
-use native.Mathlib.Omega.{arith}
-use Rattle.byte_lists.specs.Little.{Bytes}
 use Rattle.settings.specs.declared.Settings.{Settings}
-use Rattle.register.specs.Runs.{untouched, Event, startWrite, startRead, arrives, crashes, goesDown, comesUp}
+use Rattle.order.specs.Claim.{read, write, bytes, finished, cut, Seen}
+use Rattle.register.specs.Runs.{untouched, Event, startWrite, startRead, arrives, crashes, goesDown, comesUp, run}
 
 -- `set 3 1 1 4`
-abbrev pub small : Settings
-small = record { n = 3; m = 1; size = 1; capacity = 4 }
-
-pub ten : Bytes (10 ∷ [])
-unfolding Bytes
-ten = (omega arith, tt)
+abbrev pub benchSettings : Settings
+benchSettings = record { n = 3; m = 1; size = 1; capacity = 4 }
 
 -- the lines of the bench case; what the bench numbers from 1 stands here at a place from 0
-unfoldable pub bench : List Event
-bench =
-    startWrite 0 1 (10 ∷ []) ten
+unfoldable pub benchEvents : List Event
+benchEvents =
+    startWrite 0 1 (10 ∷ [])
     ∷ arrives 0
     ∷ arrives 3
     ∷ arrives 1
@@ -51,4 +47,16 @@ bench =
     ∷ arrives 40
     ∷ arrives 38
     ∷ arrives 41
+    ∷ []
+
+-- "0 write 16 cut", "1 read 33 00", "1 read 49 00"
+abbrev pub WorkedRunIsSeen : Type 0
+WorkedRunIsSeen =
+    run benchSettings benchEvents .seen
+    ≡ Seen.began 16 (write (10 ∷ []))
+    ∷ Seen.ended 16 cut
+    ∷ Seen.began 33 read
+    ∷ Seen.ended 33 (finished (bytes (0 ∷ [])))
+    ∷ Seen.began 49 read
+    ∷ Seen.ended 49 (finished (bytes (0 ∷ [])))
     ∷ []

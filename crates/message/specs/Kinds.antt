@@ -16,6 +16,10 @@ writeKind = 4
 abbrev pub trimKind : ℕ
 trimKind = 5
 
+-- the round that a start opens
+abbrev pub firstRound : ℕ
+firstRound = 1
+
 -- "if a round 1,001 would be sent"
 abbrev pub lastRound : ℕ
 lastRound = 1000

@@ -1,10 +1,12 @@
 -- The laws of `order`, for its own proofs and those of the crates above. No contract cites them.
--- Histories: facts, places in a history, quorums, which histories are valid, the order that is computed from one.
+
+-- The theorem; what one order means for those who read and write.
+pub mod OneOrderTheorem
+pub mod OrderUseLaws
+-- Definitions for proofs: tests on histories that compute, and the order of a history.
 pub mod Tests
 pub mod Order
--- The theorem.
-pub mod OneOrderTheorem
--- Its lemmas, lowest first.
+-- The theorem's lemmas, lowest first.
 pub mod ClaimLaws
 pub mod PlaceLaws
 pub mod TestLaws

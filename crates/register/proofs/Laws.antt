@@ -1,19 +1,24 @@
 -- The laws of `register`, for its own proofs and those of the crates above. No contract cites them.
--- What a reader believes: the set and its runs; the theorem; what it means for a dealer.
+
+-- Demand 3; what it means for a dealer; nothing that is kept is ever refused; the coordinators are 16; the runs are the code's.
 pub mod TheoremProof
-pub mod Corollaries
--- The runs are the code's; nothing that is kept is ever refused; all definitions opened, for runs that are computed.
-pub mod DriverLaws
+pub mod CorollaryLaws
 pub mod NeverRefusedLaws
-pub mod Numbered
+pub mod NumberedLaws
+pub mod DriverLaws
+-- All definitions opened, for runs that are computed.
 pub mod Opened
--- The invariant, and what goes on to hold under more facts and more items.
+-- The invariant (definitions), and what goes on to hold under more facts and more items.
+pub mod Invariant
 pub mod UpLaws
+-- The fresh set.
+pub mod FreshRunLaws
 -- One message at one brick.
 pub mod BrickLogLaws
 pub mod ReceiveLaws
 pub mod BrickEvent
 -- One event at one coordinator: starts, crashes, replies counted, what the q-th decides.
+pub mod BegunLaws
 pub mod TurnLaws
 pub mod StartEvent
 pub mod RoundLaws
@@ -25,8 +30,3 @@ pub mod RecoverLaws
 pub mod GiveLaws
 pub mod DecisionLaws
 pub mod ReplyEvent
--- The fresh set.
-pub mod FreshRunLaws
--- What one order means for reads and writes.
-pub mod OrderUseLaws
-pub mod Invariant

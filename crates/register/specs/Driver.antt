@@ -29,7 +29,7 @@ driven s w c a blocks stripe coded =
         coordinators = putAt (w .coordinators) c (record { state = a .next; blocks = blocks; stripe = stripe });
         sent = w .sent ++ broadcasts s (listed (a .sent) (a .message) (a .second) coded);
       };
-      seen = seenOf s (a .seen) stripe;
+      seen = seenOf s (a .seen) (record { state = a .next; blocks = blocks; stripe = stripe });
     }
 
 -- two broadcasts at most, of which only the last may be a Write round: the output buffer has room for one

@@ -1,10 +1,11 @@
--- The set, its runs, and demand 3: the operations on a stripe have one order.
+-- The set, its runs, and what holds of every run.
 
--- What a reader believes: the set and its runs; the theorem; what it means for a dealer.
+-- The set and its runs; demand 3.
 pub mod Runs
--- The runs are the code's; nothing that is kept is ever refused; all definitions opened, for runs that are computed.
-pub mod Driver
+pub mod Theorem
+-- What it means for a dealer; that nothing which is kept is ever refused; that there are 16 coordinators.
+pub mod Corollaries
 pub mod NeverRefused
--- The invariant, and what goes on to hold under more facts and more items.
--- What one order means for reads and writes.
-pub mod OrderUse
+pub mod Numbered
+-- The runs are the code's.
+pub mod Driver

@@ -2,11 +2,12 @@
 -- very definitions that the contracts of a brick and of a coordinator cite.
 use mathlib.Core.Bool.{Bool, true, false, cond, _&&_}
 use mathlib.Core.List.{List, [], _∷_, _++_}
-use Prim.Native.Nat.{ℕ, zero, suc, _*_, _%_}
+use Prim.Native.Nat.{ℕ, zero, suc, _*_}
 use lib.Dec.{eqb, ltb}
 use lib.ListN.{length, replicate}
+use Rattle.settings.specs.Times.{coordinatorOf}
 use Rattle.settings.specs.declared.Settings.{Settings}
-use Rattle.byte_lists.specs.Little.{Bytes}
+use Rattle.byte_lists.specs.Little.{areBytes}
 use Rattle.message.specs.Kinds.{writeKind}
 use Rattle.message.specs.declared.Message.{Message}
 use Rattle.message.specs.declared.Reply.{Reply}
@@ -64,7 +65,7 @@ pub data Left : Type 0 where
 -- counted from), "a sent message reaching its brick, a sent reply reaching its coordinator" (both by place among what was sent, from 0),
 -- "a coordinator's crash" (with what it leaves in the buffers), "a brick going down or coming up"
 pub data Event : Type 0 where
-  startWrite : (coordinator reading : ℕ) (content : List ℕ) → Bytes content → Event
+  startWrite : (coordinator reading : ℕ) (content : List ℕ) → Event
   startRead : (coordinator reading first : ℕ) → Event
   arrives : ℕ → Event
   crashes : (coordinator : ℕ) → Left → Event
@@ -84,13 +85,19 @@ unmoved s w = record { world = w; seen = [] }
 unfoldable pub putAt : {A : Type 0} → (ℕ → A) → ℕ → A → ℕ → A
 putAt f k a j = cond (eqb j k) a (f j)
 
--- "An operation is a start that isn't refused; it begins there. It is finished at the event that answers ok or gives what was read,
--- aborted at the event that answers abort, cut at a crash of its coordinator before either". The stripe is the buffer beside the record.
-unfoldable pub seenOf : (s : Settings) → Notice → List ℕ → List (Seen (plain s))
-seenOf s e kept =
-    cond (eqb (e .what) beganSeen) (Seen.began (e .time) (cond (eqb (e .kind) readingKind) read (write kept)) ∷ [])
+-- The kind of the operation that a coordinator with its buffers has begun: "their kinds and bytes only". A write's bytes are the stripe
+-- beside the record.
+unfoldable pub begunKind : (s : Settings) → Buffered → plain s .Kind
+begunKind s k = cond (eqb (k .state .op .kind) readingKind) read (write (k .stripe))
+
+-- What is seen at an event that leaves a coordinator so: "An operation is a start that isn't refused; it begins there. It is finished at
+-- the event that answers ok or gives what was read, aborted at the event that answers abort, cut at a crash of its coordinator before
+-- either". What was read is the stripe beside the record.
+unfoldable pub seenOf : (s : Settings) → Notice → Buffered → List (Seen (plain s))
+seenOf s e k =
+    cond (eqb (e .what) beganSeen) (Seen.began (e .time) (begunKind s k) ∷ [])
     (cond (eqb (e .what) okSeen) (Seen.ended (e .time) (finished ok) ∷ [])
-    (cond (eqb (e .what) readSeen) (Seen.ended (e .time) (finished (bytes kept)) ∷ [])
+    (cond (eqb (e .what) readSeen) (Seen.ended (e .time) (finished (bytes (k .stripe))) ∷ [])
     (cond (eqb (e .what) abortedSeen) (Seen.ended (e .time) aborted ∷ [])
     (cond (eqb (e .what) cutSeen) (Seen.ended (e .time) cut ∷ []) []))))
 
@@ -118,7 +125,7 @@ coordinated s w c (went g) =
         coordinators = putAt (w .coordinators) c (g .next);
         sent = w .sent ++ broadcasts s (g .sent);
       };
-      seen = seenOf s (g .seen) (g .next .stripe);
+      seen = seenOf s (g .seen) (g .next);
     }
 
 -- What a brick's routine does in the world.
@@ -144,8 +151,8 @@ unfoldable pub arriving : (s : Settings) → World → Item → Moved s
 arriving s w (message b msg block) =
     cond (w .up b) (received s w b (outcome s b (w .images b) msg block (replicate (s .size) 0))) (unmoved s w)
 arriving s w (reply r block) =
-    coordinated s w (r .time % 16)
-    (takeStep (s .n) (s .m) (s .size) (w .coordinators (r .time % 16)) r block (s .n * s .size))
+    coordinated s w (coordinatorOf (r .time))
+    (takeStep (s .n) (s .m) (s .size) (w .coordinators (coordinatorOf (r .time))) r block (s .n * s .size))
 
 -- the item at a place, if so many were sent: "one naming a message not sent so far" changes nothing
 unfoldable pub arrivingAt : (s : Settings) → World → List Item → ℕ → Moved s
@@ -175,9 +182,12 @@ unfoldable pub leftBy : Settings → Left → Step → Step
 leftBy s left (refused number) = refused number
 leftBy s left (went g) = went (record { next = leaving s left (g .next); sent = g .sent; seen = g .seen })
 
+-- A start's content is bytes: with other numbers no such call can be made, and nothing is changed.
 unfoldable pub step : (s : Settings) → World → Event → Moved s
-step s w (startWrite c reading content small) =
-    coordinated s w c (writeStep (s .n) (s .m) (s .size) (w .coordinators c) reading content)
+step s w (startWrite c reading content) =
+    cond (areBytes content)
+    (coordinated s w c (writeStep (s .n) (s .m) (s .size) (w .coordinators c) reading content))
+    (unmoved s w)
 step s w (startRead c reading first) = coordinated s w c (readStep (s .n) (s .m) (s .size) (w .coordinators c) reading first)
 step s w (arrives k) = arrivingAt s w (w .sent) k
 step s w (crashes c left) = coordinated s w c (leftBy s left (crashStep (s .n) (s .m) (s .size) (w .coordinators c)))

@@ -25,7 +25,9 @@ use Rattle.bench_sent.specs.Sent.{itemAt, isReply, replyAt, sentBlockAt}
 use Rattle.bench_sent.proofs.Laws.SentRowLaws.{item-reply}
 use Rattle.bench_state.specs.State.{worldOf, coordinatorKept, idleAt}
 use Rattle.bench_state.specs.declared.Bench.{Bench}
-use Rattle.bench_rules.specs.Content.{counted, content, content-small}
+use Rattle.bench_rules.specs.Content.{counted, content}
+use Rattle.bench_rules.proofs.Laws.ContentLaws.{content-small}
+use Rattle.byte_lists.proofs.Laws.LittleLaws.{bytes-pass}
 use Rattle.bench_rules.specs.Play.{Played, acts, refuses, unlessShort, atCoordinator, writes, starts, crashesAt, carries}
 use Rattle.bench_rules.specs.Turning.{Lent, lent, worldIn}
 use Rattle.bench_rules.specs.Workers.{Turned}
@@ -143,14 +145,14 @@ module _ (b : Bench) (c : ℕ) (kept numbers bytes : List ℕ) (at : ℕ) (out :
     pub acted-write : (clock : ℕ) (content : List ℕ) (small : Bytes content) (a : Answer) (stripe′ : List ℕ)
         → ((x z : List ℕ) → returned a x stripe′ z ≡ writeCall (b .settings .n) (b .settings .m) (b .settings .size) old x stripe z clock content)
         → Answers b c a blocks stripe′ blocks kept numbers bytes at out r kept′ numbers′ bytes′ out′
-        → BenchActed b c (startWrite c clock content small) (λ (h : Buffered). writeStep (b .settings .n) (b .settings .m) (b .settings .size) h clock content) kept numbers bytes at out r kept′
+        → BenchActed b c (startWrite c clock content) (λ (h : Buffered). writeStep (b .settings .n) (b .settings .m) (b .settings .size) h clock content) kept numbers bytes at out r kept′
         numbers′ bytes′ out′
     unfolding step worldIn worldOf
     acted-write clock content small a stripe′ ea h =
         let n = b .settings .n in
         let m = b .settings .m in
         let size = b .settings .size in
-        acted-by (startWrite c clock content small) (λ (x : Buffered). writeStep n m size x clock content) a blocks stripe′ blocks blocks (λ images. refl)
+        acted-by (startWrite c clock content) (λ (x : Buffered). writeStep n m size x clock content) a blocks stripe′ blocks blocks (λ images. rw (bytes-pass content small) refl)
         (write-short n m size here clock content) (write-numbered n m size here clock content)
         (returned-answer old blocks stripe blocks _ a blocks stripe′ blocks (ea blocks blocks) ∙ ap
         (λ (x : Coordinator). answerOf x (writeStep n m size (buffered old blocks stripe) clock content)) old-is ∙ ap
@@ -163,7 +165,7 @@ module _ (b : Bench) (c : ℕ) (kept numbers bytes : List ℕ) (at : ℕ) (out :
     pub short-write : (clock : ℕ) (digits cont : List ℕ) (a : Answer) (ok : Bool) (stripe″ : List ℕ) → cont ≡ content (b .settings) digits → ok ≡ counted (b .settings) digits
         → ((x z : List ℕ) → returned a x stripe″ z ≡ writeCall (b .settings .n) (b .settings .m) (b .settings .size) old x stripe z clock cont)
         → eqb (a .refusal) 0 && not ok ≡ true → ((l : Lent) → Turned b l at out (refuses (worldIn b l) 12) r l out′)
-        → BenchActed b c (startWrite c clock (content (b .settings) digits) (content-small (b .settings) digits))
+        → BenchActed b c (startWrite c clock (content (b .settings) digits))
         (λ (h : Buffered). unlessShort (counted (b .settings) digits) (writeStep (b .settings .n) (b .settings .m) (b .settings .size) h clock (content (b .settings) digits)))
         kept numbers bytes at out r kept numbers bytes out′
     unfolding worldIn worldOf
@@ -181,7 +183,7 @@ module _ (b : Bench) (c : ℕ) (kept numbers bytes : List ℕ) (at : ℕ) (out :
           turned = λ images.
               subst (λ (x : _). Turned b (lent images kept numbers bytes) at out x r (lent images kept numbers bytes) out′)
               (sym
-              (short-refuses (b .settings) (worldIn b (lent images kept numbers bytes)) (startWrite c clock (content (b .settings) digits) (content-small (b .settings) digits)) c (here .state)
+              (short-refuses (b .settings) (worldIn b (lent images kept numbers bytes)) (startWrite c clock (content (b .settings) digits)) c (here .state)
               (writeStep n m size here clock (content (b .settings) digits)) a (counted (b .settings) digits) step-is (write-numbered n m size here clock (content (b .settings) digits))
               (ap (λ (x : Bool). eqb (a .refusal) 0 && not x) (sym eo′) ∙ q)))
               (t (lent images kept numbers bytes));
@@ -192,7 +194,7 @@ module _ (b : Bench) (c : ℕ) (kept numbers bytes : List ℕ) (at : ℕ) (out :
         → ((x z : List ℕ) → returned a x stripe′ z ≡ writeCall (b .settings .n) (b .settings .m) (b .settings .size) old x stripe z clock cont)
         → eqb (a .refusal) 0 && not ok ≡ false
         → Answers b c a blocks stripe′ blocks kept numbers bytes at out r kept′ numbers′ bytes′ out′
-        → BenchActed b c (startWrite c clock (content (b .settings) digits) (content-small (b .settings) digits))
+        → BenchActed b c (startWrite c clock (content (b .settings) digits))
         (λ (h : Buffered). unlessShort (counted (b .settings) digits) (writeStep (b .settings .n) (b .settings .m) (b .settings .size) h clock (content (b .settings) digits)))
         kept numbers bytes at out r kept′ numbers′ bytes′ out′
     unfolding worldIn worldOf
@@ -212,7 +214,7 @@ module _ (b : Bench) (c : ℕ) (kept numbers bytes : List ℕ) (at : ℕ) (out :
               subst
               (λ (x : Step).
               Turned b (lent images kept numbers bytes) at out
-              (acts (b .settings) (worldIn b (lent images kept numbers bytes)) (startWrite c clock cs (content-small (b .settings) digits)) c x) r (lent images kept′ numbers′ bytes′) out′)
+              (acts (b .settings) (worldIn b (lent images kept numbers bytes)) (startWrite c clock cs) c x) r (lent images kept′ numbers′ bytes′) out′)
               (sym (short-same (here .state) (writeStep n m size here clock cs) a (counted (b .settings) digits) step-is (ap (λ (x : Bool). eqb (a .refusal) 0 && not x) (sym eo′) ∙ q)))
               (acted-write clock cs (content-small (b .settings) digits) a stripe′
               (λ (x z : List ℕ). ea x z ∙ ap (λ (y : List ℕ). writeCall n m size old x stripe z clock y) e) h .turned images);
@@ -301,7 +303,7 @@ module _ (b : Bench) (c : ℕ) (kept numbers bytes : List ℕ) (at : ℕ) (out :
   write-past clock digits out′ h t = past-at _ out′ h t
 
   pub write-here : (clock : ℕ) (digits kept′ numbers′ bytes′ out′ : List ℕ) → c < 4
-      → BenchActed b c (startWrite c clock (content (b .settings) digits) (content-small (b .settings) digits))
+      → BenchActed b c (startWrite c clock (content (b .settings) digits))
       (λ (h : Buffered). unlessShort (counted (b .settings) digits) (writeStep (b .settings .n) (b .settings .m) (b .settings .size) h clock (content (b .settings) digits)))
       kept numbers bytes at out r kept′ numbers′ bytes′ out′
       → Plays b (λ (w : World). writes (b .settings) w c clock digits) kept numbers bytes at out r kept′ numbers′ bytes′ out′

@@ -45,17 +45,17 @@ pub record Agrees (op : Op) (e : Notice) : Type 0 where
   pub bytes-read : e .what ≡ readSeen → eqb (e .kind) readingKind ≡ true
   pub ends-own : (e .what ≡ 0 → ⊥) → (e .what ≡ beganSeen → ⊥) → Ran op (e .kind) (e .time)
 
-told-by-what : (s : Settings) (op : Op) (c what kind time : ℕ) (bricks kept : List ℕ) → Agrees op (record { what = what; kind = kind; time = time; bricks = bricks })
-    → told s c kind (seenOf s (record { what = what; kind = kind; time = time; bricks = bricks }) kept)
-    ≡ endedText c (record { what = what; kind = kind; time = time; bricks = bricks }) kept
+told-by-what : (s : Settings) (op : Op) (c what kind time : ℕ) (bricks : List ℕ) (h : Buffered) → Agrees op (record { what = what; kind = kind; time = time; bricks = bricks })
+    → told s c kind (seenOf s (record { what = what; kind = kind; time = time; bricks = bricks }) h)
+    ≡ endedText c (record { what = what; kind = kind; time = time; bricks = bricks }) (h .stripe)
 unfolding told toldEnd endLine seenOf endedText isEnd lineText kindWord endWord
-told-by-what s op c zero kind time bricks kept a = refl
-told-by-what s op c (suc zero) kind time bricks kept a = refl
-told-by-what s op c (suc (suc zero)) kind time bricks kept a = rw (a .ok-writes refl) (append-nil _)
-told-by-what s op c (suc (suc (suc zero))) kind time bricks kept a = rw (a .bytes-read refl) (append-nil _)
-told-by-what s op c (suc (suc (suc (suc zero)))) kind time bricks kept a = append-nil _
-told-by-what s op c (suc (suc (suc (suc (suc zero))))) kind time bricks kept a = append-nil _
-told-by-what s op c (suc (suc (suc (suc (suc (suc k)))))) kind time bricks kept a =
+told-by-what s op c zero kind time bricks h a = refl
+told-by-what s op c (suc zero) kind time bricks h a = refl
+told-by-what s op c (suc (suc zero)) kind time bricks h a = rw (a .ok-writes refl) (append-nil _)
+told-by-what s op c (suc (suc (suc zero))) kind time bricks h a = rw (a .bytes-read refl) (append-nil _)
+told-by-what s op c (suc (suc (suc (suc zero)))) kind time bricks h a = append-nil _
+told-by-what s op c (suc (suc (suc (suc (suc zero))))) kind time bricks h a = append-nil _
+told-by-what s op c (suc (suc (suc (suc (suc (suc k)))))) kind time bricks h a =
     rw (
       ne-eqb (suc (suc (suc (suc (suc (suc k)))))) 1 (λ q. omega (arith, q)),
       ne-eqb (suc (suc (suc (suc (suc (suc k)))))) 2 (λ q. omega (arith, q)),
@@ -68,8 +68,9 @@ told-by-what s op c (suc (suc (suc (suc (suc (suc k)))))) kind time bricks kept 
     refl
 
 -- what is printed at an event of coordinator c is the line of what is seen there
-pub printed-is-seen : (s : Settings) (op : Op) (c : ℕ) (e : Notice) (kept : List ℕ) → Agrees op e → told s c (e .kind) (seenOf s e kept) ≡ endedText c e kept
-printed-is-seen s op c e kept a = told-by-what s op c (e .what) (e .kind) (e .time) (e .bricks) kept a
+pub printed-is-seen : (s : Settings) (op : Op) (c : ℕ) (e : Notice) (h : Buffered) → Agrees op e
+    → told s c (e .kind) (seenOf s e h) ≡ endedText c e (h .stripe)
+printed-is-seen s op c e h a = told-by-what s op c (e .what) (e .kind) (e .time) (e .bricks) h a
 
 -- what ended is what was shown to end, at its time
 unfoldable endTime : (s : Settings) → List (Seen (plain s)) → ℕ
@@ -102,10 +103,10 @@ shown-end s what time p q r x y ep eq er ex ey t e =
     go false false false false true ea eb ec ed ef h = at 3 (eqb-true what 5 ef) (sym ey ∙ h)
     go false false false false false ea eb ec ed ef h = absurd (omega (arith, h))
 
-pub end-ran : (s : Settings) (op : Op) (e : Notice) (kept : List ℕ) (time : ℕ) (how : Ending (plain s)) → Agrees op e
-    → seenOf s e kept ≡ ended time how ∷ [] → Ran op (e .kind) time
+pub end-ran : (s : Settings) (op : Op) (e : Notice) (h : Buffered) (time : ℕ) (how : Ending (plain s)) → Agrees op e
+    → seenOf s e h ≡ ended time how ∷ [] → Ran op (e .kind) time
 unfolding seenOf endTime
-end-ran s op e kept time how a q =
+end-ran s op e h time how a q =
     let w = shown-end s (e .what) (e .time) _ _ _ _ _ refl refl refl refl refl time (ap (endTime s) q) in
     subst (Ran op (e .kind)) (w .2) (a .ends-own (w .0) (w .1))
 

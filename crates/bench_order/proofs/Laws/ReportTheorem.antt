@@ -17,8 +17,9 @@ use Rattle.order.specs.Facts.{Fact, seen}
 use Rattle.order.specs.Places.{In}
 use Rattle.order.proofs.Laws.SeenLaws.{seen-began}
 use Rattle.order.proofs.Laws.OneOrderTheorem.{one-order}
-use Rattle.register.proofs.Laws.Corollaries.{one-thing-seen}
+use Rattle.register.proofs.Laws.CorollaryLaws.{one-thing-seen}
 use Rattle.register.proofs.Laws.Invariant.{Hist, Running, Inv}
+use Rattle.register.proofs.Laws.BegunLaws.{reads-begun, writes-begun}
 use Rattle.register.specs.Runs.{plain, World, Event, Moved, unmoved, freshSet, step, nextMoved, runFrom, run}
 use Rattle.register.proofs.Laws.TheoremProof.{step-goes, run-holds}
 use Rattle.bench_parse.specs.Lines.{Line, setLine, writeLine, readLine, carryLine, crashLine, downLine, upLine, noLine, reads}
@@ -111,8 +112,8 @@ module _ (s : Settings) (g : SettingsRange s) where
           (kind-found s (seen h) (r .world .coordinators c .state .op .time) k (λ k′ b. one-order (i .valid) .named _ k′ k b) (seen-began m)))
 
       go : (kind ≡ 1) ⊎ (kind ≡ 2) → kind ≡ kindIn s (r .seen) time
-      go (inl e) = e ∙ sym (found read (runs .reads (a .kind-is ∙ e)))
-      go (inr e) = e ∙ sym (found (write (r .world .coordinators c .stripe)) (runs .writes (a .kind-is ∙ e) .0))
+      go (inl e) = e ∙ sym (found read (reads-begun runs (a .kind-is ∙ e)))
+      go (inr e) = e ∙ sym (found (write (r .world .coordinators c .stripe)) (writes-begun runs (a .kind-is ∙ e)))
 
   abbrev Held-by : Moved s → Type 0
   Held-by r = (h : Hist s) × Inv s g h r

@@ -24,7 +24,9 @@ use Rattle.register.specs.Runs.{plain, Item, message, reply, World, untouched, 
 use Rattle.register.proofs.Laws.DriverLaws.{left-untouched}
 use Rattle.bench_parse.specs.Lines.{Line, setLine, writeLine, readLine, carryLine, crashLine, downLine, upLine, noLine}
 use Rattle.bench_print.specs.Printing.{endedText}
-use Rattle.bench_rules.specs.Content.{content, content-small, counted}
+use Rattle.bench_rules.specs.Content.{content, counted}
+use Rattle.bench_rules.proofs.Laws.ContentLaws.{content-small}
+use Rattle.byte_lists.proofs.Laws.LittleLaws.{bytes-pass}
 use Rattle.bench_rules.specs.Play.{lastMessage, Played, refuses, passes, happens, acts, atCoordinator, unlessShort, writes, starts, crashesAt, switches, delivered, reaches, carries, carriesAt, carried, carriedAll, plays}
 use Rattle.bench_order.proofs.Laws.ToldLaws.{told}
 use Rattle.bench_order.proofs.Laws.Parts.{FewSent, Ran, Part, refusing, passing, happening, both}
@@ -92,10 +94,10 @@ module _ (s : Settings) (w : World) where
           → Part s w (cond b (happens s w e (endedText c (g .seen) (g .next .stripe))) (refuses w badLine))
       go true q =
           printing e c (g .seen .kind) _
-          (ap (λ (v : Moved s). told s c (g .seen .kind) (v .seen)) (f g refl .0) ∙ printed-is-seen s (w .coordinators c .state .op) c (g .seen) (g .next .stripe) (f g refl .1))
+          (ap (λ (v : Moved s). told s c (g .seen .kind) (v .seen)) (f g refl .0) ∙ printed-is-seen s (w .coordinators c .state .op) c (g .seen) (g .next) (f g refl .1))
           (λ h. leb-true _ lastMessage q)
           (λ time how z.
-          end-ran s (w .coordinators c .state .op) (g .seen) (g .next .stripe) time how (f g refl .1)
+          end-ran s (w .coordinators c .state .op) (g .seen) (g .next) time how (f g refl .1)
           (ap (λ (v : Moved s). v .seen) (sym (f g refl .0)) ∙ z))
       go false q = refusing w badLine
 
@@ -111,10 +113,10 @@ module _ (s : Settings) (w : World) where
   unfolding writes step
   writes-part c clock digits =
       at-part c _
-      (acts-part (startWrite c clock (content s digits) (content-small s digits)) c _
+      (acts-part (startWrite c clock (content s digits)) c _
       (λ g q.
       let e = unless-went (counted s digits) (writeStep (s .n) (s .m) (s .size) (w .coordinators c) clock (content s digits)) g q in (
-        ap (coordinated s w c) e,
+        rw (bytes-pass (content s digits) (content-small s digits)) (ap (coordinated s w c) e),
         write-agrees (s .n) (s .m) (s .size) (w .coordinators c) clock (content s digits) g e,
       )))
 

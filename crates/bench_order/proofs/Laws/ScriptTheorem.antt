@@ -105,4 +105,4 @@ stands-range (playing t v) events s w h e = let z : t ≡ s = cc in subst (λ (x
 -- Demand 3 on the bench: whatever the script, the operations of the set that it plays have one order.
 pub every-script-has-one-order : (input : List ℕ) (s : Settings) (w : World) → script input .stage ≡ playing s w → RunHasOneOrder s (script input .events)
 every-script-has-one-order input s w e =
-    every-run-has-one-order s (bench-in-range s (stands-range _ _ s w (every-script-is-a-run input) e)) (script input .events)
+    every-run-has-one-order s (bench-fits s (stands-range _ _ s w (every-script-is-a-run input) e) .in-range) (script input .events)

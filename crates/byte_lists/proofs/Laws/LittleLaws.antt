@@ -1,14 +1,18 @@
--- Laws of `specs/LittleLaws`.
+-- Laws of `specs/Little`.
 use mathlib.Core.Path.{_≡_, refl, sym, ap, ap₂, _∙_}
+use mathlib.Core.Bool.{true}
 use mathlib.Core.List.{List, [], _∷_, _++_}
 use Prim.Native.Nat.{ℕ, zero, suc, _+_, _*_, _/_, _%_, _^_, _≤_, _<_}
 use native.Mathlib.Omega.{arith}
 use native.Mathlib.Numerals.{add-one}
 use native.Mathlib.Nat.{mul-assoc}
-use lib.ListN.{length, take, drop, getD, length-take, length-drop}
+use lib.ListN.{length, take, drop, getD, replicate, length-take, length-drop}
+use lib.Dec.{ltb}
+use borrow.Author.Tests.{ltb-true, lt-ltb}
 use lib.Seq.{drop-cons, take-add, drop-drop}
 use Rattle.byte_lists.specs.Little.{byteOf, little, number}
-use Rattle.byte_lists.specs.Little.{Bytes, limit}
+use Rattle.byte_lists.specs.Little.{Bytes, areBytes, limit}
+use Rattle.byte_lists.proofs.Laws.BoolLaws.{and-left, and-right}
 
 pub little-length : (k n : ℕ) → length (little k n) ≡ k
 unfolding little
@@ -102,3 +106,26 @@ little-8 n b0 b1 b2 b3 b4 b5 b6 b7 e0 e1 e2 e3 e4 e5 e6 e7 =
     let d6 : n / 281474976710656 ≡ n / 256 / 256 / 256 / 256 / 256 / 256 = omega arith in
     let d7 : n / 72057594037927936 ≡ n / 256 / 256 / 256 / 256 / 256 / 256 / 256 = omega arith in
     cc
+
+-- the test for bytes says what it should
+pub are-bytes : (l : List ℕ) → areBytes l ≡ true → Bytes l
+unfolding Bytes areBytes
+are-bytes [] e = tt
+are-bytes (b ∷ l) e = (ltb-true b 256 (and-left (ltb b 256) (areBytes l) e), are-bytes l (and-right (ltb b 256) (areBytes l) e))
+
+pub bytes-pass : (l : List ℕ) → Bytes l → areBytes l ≡ true
+unfolding Bytes areBytes
+bytes-pass [] h = refl
+bytes-pass (b ∷ l) h = rw (lt-ltb b 256 (h .0), bytes-pass l (h .1)) refl
+
+-- a byte at each place
+pub byte-below : (l : List ℕ) → Bytes l → (i : ℕ) → getD l i 0 < 256
+unfolding Bytes
+byte-below [] b i = omega arith
+byte-below (x ∷ l) b zero = b .0
+byte-below (x ∷ l) b (suc i) = byte-below l (b .1) i
+
+pub zeros-bytes : (n : ℕ) → Bytes (replicate n 0)
+unfolding Bytes
+zeros-bytes zero = tt
+zeros-bytes (suc n) = (omega arith, zeros-bytes n)

@@ -13,7 +13,7 @@ use Rattle.byte_lists.specs.Little.{byteOf, little}
 use Rattle.poly.specs.Polynomial.{pick, sub, sum, factor, basisTo, basis, interpolated}
 use Rattle.settings.specs.Ranges.{quorum, faults, inRange, bricksInRange, sizeInRange, capacityInRange, settingsRefusal}
 use Rattle.settings.specs.Times.{maxCount, timeOf, nextCount, drawRefusal, advanced, drawOf}
-use Rattle.figures.specs.Figures.{Row, timeOrNumber, drawFor, refusalFor, figures, Hold}
+use Rattle.figures.specs.Figures.{Row, timeOrNumber, drawFor, refusalFor, figures, Hold, FiguresHold}
 
 agree : List Row → Bool
 agree [] = true
@@ -28,9 +28,9 @@ held (r ∷ rows) t = go (eqb (r .given) (r .figure)) (eqb→eq (r .given) (r .f
     go true f u rest = (f tt, rest u)
     go false f u rest = absurd u
 
--- The starred figures, one theorem over the table.
-pub figures-hold : Hold figures
+pub figures-hold : FiguresHold
 unfolding figures agree timeOrNumber drawFor refusalFor quorum faults product shiftAdd twice plus
-    weighted checkOf zeros headKind headBody entryKind entryBody byteOf little firstPoints codedOf decodedOf inverseBelow inverse tabulate stacked byteAt valueAt blockAt blocksAt pick sub sum factor basisTo basis interpolated
+    weighted checkOf zeros headKind headBody entryKind entryBody byteOf little firstPoints codedOf decodedOf inverseBelow inverse
+    tabulate stacked byteAt valueAt blockAt blocksAt pick sub sum factor basisTo basis interpolated
     settingsRefusal inRange bricksInRange sizeInRange capacityInRange maxCount timeOf nextCount drawRefusal advanced drawOf
 figures-hold = held figures tt

@@ -1,12 +1,13 @@
 -- Laws of `specs/BenchExample`.
-use mathlib.Core.Path.{_≡_, refl}
-use mathlib.Core.List.{[], _∷_}
-use Rattle.order.specs.Claim.{Ending, stripe, read, write, changed, given, bytes, finished, Seen}
-use Rattle.order.specs.Facts.{began, ended, cut, seen, shows, endingOf}
+use mathlib.Core.Path.{refl}
+use mathlib.Core.List.{[]}
+use Rattle.order.specs.Claim.{stripe, read, write, changed, given, bytes}
+use Rattle.order.specs.Facts.{seen, shows, endingOf}
 use Rattle.order.specs.Valid.{Valid, start, fresh, onto}
 use Rattle.order.proofs.Laws.OneOrderTheorem.{one-order, the-order}
-use Rattle.order.proofs.Laws.ExampleLaws.{began-ok, promised-ok, stored-ok, showed-ok, launched-ok, launched-over-ok, committed-ok, ended-ok, at, _▷_, tests, orders}
-use Rattle.order.specs.BenchExample.{three, nought, ten, cut-short, reading, first-read, reading-again, bench}
+use Rattle.order.proofs.Laws.ExampleLaws.{began-ok, promised-ok, stored-ok, showed-ok, launched-ok, launched-over-ok, committed-ok}
+use Rattle.order.proofs.Laws.ExampleLaws.{ended-ok, at, _▷_, tests, orders}
+use Rattle.order.specs.BenchExample.{three, nought, ten, cut-short, reading, first-read, reading-again, BenchIsValid, BenchIsSeen, BenchHasOneOrder}
 
 pub cut-short-valid : Valid three cut-short
 unfolding tests changed given
@@ -54,9 +55,9 @@ reading-again-valid = first-read-valid
     ▷ promised-ok tt tt
     ▷ launched-over-ok three tt tt tt tt tt tt tt
 
-pub bench-valid : Valid three bench
+pub bench-is-valid : BenchIsValid
 unfolding tests changed given
-bench-valid = reading-again-valid
+bench-is-valid = reading-again-valid
     ▷ stored-ok tt tt
     ▷ stored-ok tt tt
     ▷ ended-ok three tt tt (
@@ -71,15 +72,10 @@ bench-valid = reading-again-valid
       },
     )
 
--- What is seen of it: the bench prints these ends.
-bench-seen : seen bench
-    ≡ Seen.began 16 (write ten) ∷ Seen.ended 16 Ending.cut
-    ∷ Seen.began 33 read ∷ Seen.ended 33 (finished (bytes nought))
-    ∷ Seen.began 49 read ∷ Seen.ended 49 (finished (bytes nought)) ∷ []
+pub bench-is-seen : BenchIsSeen
 unfolding seen shows endingOf
-bench-seen = refl
+bench-is-seen = refl
 
--- The order: the write is nowhere, the two reads stand in turn.
-pub bench-order : one-order bench-valid .order ≡ record { time = 33; kind = read } ∷ record { time = 49; kind = read } ∷ []
+pub bench-has-one-order : BenchHasOneOrder
 unfolding orders
-bench-order = the-order bench-valid
+bench-has-one-order = (one-order bench-is-valid, the-order bench-is-valid)

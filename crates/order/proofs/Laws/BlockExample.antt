@@ -11,7 +11,8 @@ use Rattle.order.specs.Facts.{itself, over, began, promised, launched, s
 use Rattle.order.specs.Quorums.{Quorums}
 use Rattle.order.specs.Valid.{Valid, start, sets, onto}
 use Rattle.order.proofs.Laws.OneOrderTheorem.{one-order, the-order}
-use Rattle.order.proofs.Laws.ExampleLaws.{began-ok, promised-ok, stored-ok, showed-ok, launched-ok, launched-over-ok, committed-ok, showed-many, not-launched, ended-ok, at, _▷_, tests, orders}
+use Rattle.order.proofs.Laws.ExampleLaws.{began-ok, promised-ok, stored-ok, showed-ok, launched-ok, launched-over-ok, committed-ok}
+use Rattle.order.proofs.Laws.ExampleLaws.{showed-many, not-launched, ended-ok, at, _▷_, tests, orders}
 
 -- the stripe as a list of blocks
 data BlockAction : Type 0 where

@@ -1,4 +1,4 @@
--- Laws of `specs/ClaimLaws`.
+-- Laws of `specs/Claim`.
 use mathlib.Core.Path.{_≡_}
 use mathlib.Core.List.{List, [], _∷_, _++_}
 use Rattle.order.specs.Claim.{Plain, Op, Seen, finished, _∈_, Right}

@@ -12,10 +12,13 @@ use Rattle.order.specs.Claim.{Plain}
 use Rattle.order.specs.Places.{Suf, whole, above, In}
 use Rattle.order.specs.Facts.{Source, itself, over, End, Fact, began, promised, launched, stored, showed, ended, History}
 use Rattle.order.specs.Quorums.{Quorums, Many}
-use Rattle.order.specs.Valid.{Dead, PromisedUpTo, Launched, Sets, OkBegan, OkPromised, OkLaunched, OkStored, OkShowed, OkEnded, Answered, From, Committed, Ok, Valid, next}
+use Rattle.order.specs.Valid.{Dead, PromisedUpTo, Launched, Sets, OkBegan, OkPromised, OkLaunched, OkStored, OkShowed, OkEnded}
+use Rattle.order.specs.Valid.{Answered, From, Committed, Ok, Valid, next}
 use Rattle.order.proofs.Laws.Tests.{any, isBegan, isPromised, isLaunched, isStored, isShowed, isEnded, stored?, promised?, showed?}
-use Rattle.order.proofs.Laws.Order.{order-of, entries, each, placed, at-rank, standing, only-if, sort, insert, put, compared, ops, chain, link, linked, follow, committed?}
-use Rattle.order.proofs.Laws.TestLaws.{and-left, and-right, and-both, in-any, find-stored, find-promised, find-showed, find-began, find-launched, test-stored, test-began, test-launched, test-ended, many}
+use Rattle.order.proofs.Laws.Order.{order-of, entries, each, placed, at-rank, standing, only-if, sort, insert, put, compared, ops}
+use Rattle.order.proofs.Laws.Order.{chain, link, linked, follow, committed?}
+use Rattle.order.proofs.Laws.TestLaws.{and-left, and-right, and-both, in-any, find-stored, find-promised, find-showed, find-began}
+use Rattle.order.proofs.Laws.TestLaws.{find-launched, test-stored, test-began, test-launched, test-ended, many}
 
 -- every u with c < u < t passes
 unfoldable pub between? : (ℕ → Bool) → ℕ → ℕ → Bool

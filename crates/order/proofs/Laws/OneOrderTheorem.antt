@@ -4,6 +4,7 @@ use Rattle.order.specs.Claim.{Plain, OneOrder}
 use Rattle.order.specs.Facts.{History, seen}
 use Rattle.order.specs.Quorums.{Quorums}
 use Rattle.order.specs.Valid.{Valid}
+use Rattle.order.specs.HistoryTheorem.{ValidHistoryHasOneOrder}
 use Rattle.order.proofs.Laws.SeenLaws.{seen-ended, seen-began-after}
 use Rattle.order.proofs.Laws.Order.{entries, order-of}
 use Rattle.order.proofs.Laws.SortLaws.{ops-in, in-ops}
@@ -24,6 +25,9 @@ one-order {S} {h = h} v =
       right = right-from v (entries S h) (at-start v);
       ahead = λ x y r k i j q. real-time-order v x y k r (ops-in (entries S h) i) (ops-in (entries S h) j) (seen-began-after h q);
     }
+
+pub valid-history-has-one-order : ValidHistoryHasOneOrder
+valid-history-has-one-order S P h v = one-order v
 
 -- It is the one that `order-of` computes.
 pub the-order : {S : Quorums} {P : Plain} {h : History P} (v : Valid S h) → one-order v .order ≡ order-of S h

@@ -11,7 +11,8 @@ use lib.ListN.{length}
 use Rattle.settings.specs.Count.{count}
 use Rattle.order.specs.Claim.{Plain, Op}
 use Rattle.order.specs.Places.{In}
-use Rattle.order.specs.Facts.{Source, itself, over, written, recovered, one-round, aborted, cut, Fact, began, promised, launched, stored, showed, ended, History}
+use Rattle.order.specs.Facts.{Source, itself, over, written, recovered, one-round, aborted, cut, Fact, began, promised, launched}
+use Rattle.order.specs.Facts.{stored, showed, ended, History}
 use Rattle.order.specs.Quorums.{Quorums}
 use Rattle.order.specs.Valid.{Committed}
 use Rattle.order.proofs.Laws.Tests.{stored?}

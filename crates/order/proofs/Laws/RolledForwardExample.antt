@@ -1,24 +1,17 @@
--- A write cut short that is nevertheless in the order: one brick stored it, and a later read found it there and stored it again.
-use mathlib.Core.Path.{_≡_, refl}
-use mathlib.Core.List.{[], _∷_}
-use Rattle.order.specs.Claim.{read, write, changed, given, bytes}
-use Rattle.order.specs.Facts.{over, began, promised, launched, stored, showed, ended, recovered, History}
-use Rattle.order.specs.Valid.{Valid, sets, onto}
+-- Laws of `specs/RolledForward`.
+use mathlib.Core.Path.{refl}
+use mathlib.Core.List.{[]}
+use Rattle.order.specs.Claim.{read, changed, given, bytes}
+use Rattle.order.specs.Valid.{sets, onto}
 use Rattle.order.proofs.Laws.OneOrderTheorem.{one-order, the-order}
 use Rattle.order.proofs.Laws.ExampleLaws.{began-ok, promised-ok, stored-ok, showed-ok, launched-over-ok, committed-ok, ended-ok, at, _▷_, tests, orders}
-use Rattle.order.specs.BenchExample.{three, byte, ten, cut-short}
+use Rattle.order.specs.RolledForward.{RolledForwardIsValid, RolledForwardHasOneOrder}
+use Rattle.order.specs.BenchExample.{three, ten}
 use Rattle.order.proofs.Laws.BenchExampleLaws.{cut-short-valid}
 
--- as in the bench case the write of 16 is cut short with brick 0 alone having stored it; here brick 0 is up at the read
-abbrev pub rolled-forward : History byte
-rolled-forward =
-    ended 33 (recovered (bytes ten)) ∷ stored 1 33 ∷ stored 0 33
-    ∷ launched 33 (over 16) ∷ promised 1 33 ∷ promised 0 33
-    ∷ showed 0 33 16 ∷ began 33 read ∷ cut-short
-
-pub rolled-forward-valid : Valid three rolled-forward
+pub rolled-forward-is-valid : RolledForwardIsValid
 unfolding tests changed given
-rolled-forward-valid = cut-short-valid
+rolled-forward-is-valid = cut-short-valid
     ▷ began-ok tt tt
     ▷ showed-ok tt tt tt
     ▷ promised-ok tt tt
@@ -38,8 +31,6 @@ rolled-forward-valid = cut-short-valid
       },
     )
 
--- The order: the write, then the read.
-pub rolled-forward-order : one-order rolled-forward-valid .order
-    ≡ record { time = 16; kind = write ten } ∷ record { time = 33; kind = read } ∷ []
+pub rolled-forward-has-one-order : RolledForwardHasOneOrder
 unfolding orders
-rolled-forward-order = the-order rolled-forward-valid
+rolled-forward-has-one-order = (one-order rolled-forward-is-valid, the-order rolled-forward-is-valid)

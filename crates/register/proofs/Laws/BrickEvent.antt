@@ -1,4 +1,4 @@
--- Laws of `specs/BrickEvent`.
+-- A message reaches its brick: what holds of the world goes on to hold.
 use mathlib.Core.Path.{_≡_, refl, sym, ap, subst, _∙_}
 use mathlib.Core.Logic.{_⊎_, inl, inr}
 use mathlib.Core.Bool.{Bool, true, false, cond}
@@ -7,10 +7,12 @@ use Prim.Native.Nat.{ℕ, _<_}
 use native.Mathlib.Omega.{arith}
 use lib.Dec.{eqb}
 use lib.ListN.{length, replicate}
-use borrow.Author.Tests.{le-leb, eqb-true, eqb-false, eq-eqb, ne-eqb}
-use Rattle.settings.specs.Ranges.{inRange, bricksInRange, sizeInRange, capacityInRange, settingsRefusal}
+use borrow.Author.Tests.{eqb-true, eqb-false, eq-eqb, ne-eqb}
+use Rattle.message.specs.Kinds.{trimKind}
+use Rattle.settings.specs.Ranges.{settingsRefusal}
+use Rattle.settings.proofs.Laws.RangeLaws.{in-range}
 use Rattle.settings.specs.Ranges.{SettingsRange}
-use Rattle.settings.specs.Refusal.{refuseUnless, firstRefusal}
+use Rattle.settings.specs.Refusal.{refuseUnless, firstRefusal, badLength, passed}
 use Rattle.settings.specs.declared.Settings.{Settings}
 use Rattle.settings.proofs.Laws.RefusalLaws.{passed-first, passed-rest, tested}
 use Rattle.message.specs.Messages.{messageRefusal}
@@ -54,23 +56,8 @@ pub put-there : {A : Type 0} (f : ℕ → A) (k : ℕ) (a : A) (j : ℕ) → (j 
 unfolding putAt
 put-there f k a j n = rw (ne-eqb j k n) refl
 
--- settings in range pass
-pub in-range : (s : Settings) → SettingsRange s → inRange s ≡ true
-unfolding inRange bricksInRange sizeInRange capacityInRange
-in-range s g =
-    rw (
-      le-leb 1 (s .n) (g .code .n-low),
-      le-leb (s .n) 16 (g .code .n-high),
-      le-leb 1 (s .m) (g .code .m-low),
-      le-leb (s .m) (s .n) (g .code .m-high),
-      le-leb 1 (s .size) (g .code .size-low),
-      le-leb (s .size) 256 (g .code .size-high),
-      le-leb 2 (s .capacity) (g .capacity-low),
-      le-leb (s .capacity) 32 (g .capacity-high),
-    ) refl
-
 -- a chain of checks that none refuses
-pub first-passed : (k : ℕ) (l : List ℕ) → firstRefusal (k ∷ l) ≡ 0 → (k ≡ 0) × (firstRefusal l ≡ 0)
+pub first-passed : (k : ℕ) (l : List ℕ) → firstRefusal (k ∷ l) ≡ passed → (k ≡ passed) × (firstRefusal l ≡ passed)
 first-passed k l e = (passed-first k l e, passed-rest k l e)
 
 -- a reply is no message
@@ -154,36 +141,36 @@ module _ (s : Settings) (g : SettingsRange s) (h : Hist s) (r : Moved s) (i : In
       acts w = (
         w .later,
         brick-moved b (Receive.accepted s b msg block image out (Opens x)) (w .later) (w .grows)
-            (record { state = brickAfter s x msg block; saved = refl; sound = w .sound; keeps = w .keeps }) (λ k m. answered k (eqb (msg .kind) 5) refl m),
+            (record { state = brickAfter s x msg block; saved = refl; sound = w .sound; keeps = w .keeps }) (λ k m. answered k (eqb (msg .kind) trimKind) refl m),
       )
         where
-          answered : (k : Item) (a : Bool) → eqb (msg .kind) 5 ≡ a
+          answered : (k : Item) (a : Bool) → eqb (msg .kind) trimKind ≡ a
               → k ∈ repliedWith (cond a Silent (Answered (replyTo s b x msg))) (blockAfter x (placeFor b x msg) out)
-              → ItemInv s g (w .later) (r .world .sent ++ repliedWith (cond (eqb (msg .kind) 5) Silent (Answered (replyTo s b x msg))) (blockAfter x (placeFor b x msg) out)) k
+              → ItemInv s g (w .later) (r .world .sent ++ repliedWith (cond (eqb (msg .kind) trimKind) Silent (Answered (replyTo s b x msg))) (blockAfter x (placeFor b x msg) out)) k
           answered k true e m = absurd (List·Memᴰ·not-nil m)
           answered k false e m =
               let q = List·Memᴰ·eq-of-singleton m in
-              subst (ItemInv s g (w .later) (r .world .sent ++ repliedWith (cond (eqb (msg .kind) 5) Silent (Answered (replyTo s b x msg))) (blockAfter x (placeFor b x msg) out)))
+              subst (ItemInv s g (w .later) (r .world .sent ++ repliedWith (cond (eqb (msg .kind) trimKind) Silent (Answered (replyTo s b x msg))) (blockAfter x (placeFor b x msg) out)))
               (sym q)
-              (w .answers (eqb-false (msg .kind) 5 e) _ (within-more (r .world .sent) _))
+              (w .answers (eqb-false (msg .kind) trimKind e) _ (within-more (r .world .sent) _))
 
-      passes : refusal ≡ 0 → Received s g h (r .world .sent) b x msg block out
+      passes : refusal ≡ passed → Received s g h (r .world .sent) b x msg block out
       passes e =
           let a = first-passed (blocksRefusal s (length block) (length out)) _ e in
           let c = first-passed (openRefusal s b image) _ (a .1) in
           let d = first-passed (messageRefusal (s .n) (s .m) msg) _ (c .1) in
           let p = first-passed (settingsRefusal s) _ (a .0) in
-          let q = first-passed (refuseUnless (eqb (length block) (s .size)) 2) _ (p .1) in
+          let q = first-passed (refuseUnless (eqb (length block) (s .size)) badLength) _ (p .1) in
           any-received out (i .valid) (i .bricks b low .keeps) (i .bricks b low .sound) (i .items (message b msg block) was)
-          (sensible (s .n) (s .m) msg (d .0)) was (eqb-true (length block) (s .size) (tested (eqb (length block) (s .size)) 1 (q .0)))
+          (sensible (s .n) (s .m) msg (d .0)) was (eqb-true (length block) (s .size) (tested (eqb (length block) (s .size)) _ (q .0)))
 
-      decide : (a : Bool) → eqb refusal 0 ≡ a
+      decide : (a : Bool) → eqb refusal passed ≡ a
           → Goes s g r (received s (r .world) b (cond a (Receive.accepted s b msg block image out (parse s b image)) (refusedWith refusal image out)))
       decide true e =
           subst (λ (z : Parsed). Goes s g r (received s (r .world) b (Receive.accepted s b msg block image out z))) (sym opens)
-          (acts (passes (eqb-true refusal 0 e)))
+          (acts (passes (eqb-true refusal passed e)))
       decide false e = (h, still (refusedWith refusal image out) refl)
 
       up : (a : Bool) → Goes s g r (cond a (received s (r .world) b (outcome s b image msg block out)) (unmoved s (r .world)))
-      up true = decide (eqb refusal 0) refl
+      up true = decide (eqb refusal passed) refl
       up false = goes-unmoved s g h r i

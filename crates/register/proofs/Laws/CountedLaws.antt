@@ -11,7 +11,7 @@ use lib.ListN.{length, set}
 use lib.Seq.{getD-set-same, getD-set-other}
 use Rattle.settings.specs.Count.{one-if}
 use Rattle.settings.proofs.Laws.CountLaws.{one-is}
-use Rattle.settings.specs.Ranges.{SettingsRange}
+use Rattle.settings.specs.Ranges.{SettingsRange, brickPlaces}
 use Rattle.settings.specs.declared.Settings.{Settings}
 use Rattle.message.specs.Flags.{member}
 use Rattle.message.specs.declared.Reply.{Reply}
@@ -23,8 +23,11 @@ use Rattle.coordinator.proofs.Laws.RoutineLaws.{place-fits}
 use Rattle.coord_laws.proofs.Laws.CodedBlockLaws.{placed-same, placed-other}
 use Rattle.coord_laws.proofs.Laws.StepRunLaws.{ReplyTaken}
 use Rattle.coord_laws.proofs.Laws.TallyLaws.{tallied-sized}
-use Rattle.order.specs.Claim.{_∈_}
+use Rattle.order.specs.Claim.{Action, _∈_}
+use Rattle.order.specs.Facts.{began}
+use Rattle.order.specs.Places.{In}
 use Rattle.register.specs.Runs.{Item, reply}
+use Rattle.register.proofs.Laws.BegunLaws.{same-begun}
 use Rattle.register.proofs.Laws.Invariant.{Hist, CountedInv, Running, CoordinatorInv}
 
 -- flags after one is set
@@ -60,7 +63,7 @@ counting-keeps s g h sent c k r block coded w i t was =
     found : List ℕ
     found = k .state .tally .found
 
-    low : r .brick < 16
+    low : r .brick < brickPlaces
     low = let a = t .takes .brick-low in let b = g .code .n-high in omega arith
 
     blocks : List ℕ
@@ -120,9 +123,8 @@ counting-keeps s g h sent c k r block coded w i t was =
     running x =
         record {
           own = x .own;
-          known = x .known;
-          reads = x .reads;
-          writes = x .writes;
+          begun = subst (λ (a : Action (List ℕ)). In (began (k .state .op .time) a) h) (same-begun s k after refl refl) (x .begun);
+          proper = x .proper;
           unended = x .unended;
           unsent = x .unsent;
           counts = λ b m. counts b m (ℕ-discrete b (r .brick));

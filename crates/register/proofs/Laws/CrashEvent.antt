@@ -8,10 +8,11 @@ use native.Mathlib.Omega.{arith}
 use lib.Dec.{leb, eqb}
 use lib.ListN.{length}
 use borrow.Author.Tests.{eqb-true, eqb-false, eq-eqb}
+use Rattle.settings.specs.Refusal.{passed}
 use Rattle.settings.specs.Ranges.{SettingsRange}
 use Rattle.byte_lists.proofs.Laws.BoolLaws.{and-left, and-right}
 use Rattle.settings.specs.declared.Settings.{Settings}
-use Rattle.coord_record.specs.Records.{noBricks, noOp, idleWith}
+use Rattle.coord_record.specs.Records.{noBricks, noOp, idleWith, idleKind}
 use Rattle.coord_apply.specs.Acts.{ending}
 use Rattle.coord_apply.specs.Answers.{Buffered, Went, refused, went, afterChecks, nothingSeen, cutSeen}
 use Rattle.coord_refusals.specs.Checks.{crashRefusal}
@@ -19,6 +20,7 @@ use Rattle.coordinator.specs.Routines.{crashed, crashStep}
 use Rattle.order.specs.Claim.{Seen}
 use Rattle.order.specs.Facts.{cut, shows, endingOf}
 use Rattle.register.specs.Runs.{plain, Left, untouched, lost, Item, Moved, seenOf, broadcasts, coordinated, buffersFit, leaving, leftBy}
+use Rattle.register.proofs.Laws.BegunLaws.{known-begun}
 use Rattle.register.proofs.Laws.Invariant.{Hist, Inv}
 use Rattle.register.proofs.Laws.Invariant.{Goes}
 use Rattle.register.proofs.Laws.TurnLaws.{Turns, TurnedRound, goes-turned, goes-refused}
@@ -50,14 +52,14 @@ left-by s (lost blocks stripe) k P p f = go (buffersFit s blocks stripe) refl
 
 -- nothing is asked of an idle coordinator's buffers
 left-turned : (s : Settings) (g : SettingsRange s) (h : Hist s) (sent : List Item) (c : ℕ) (left : Left) (w : Went)
-    → w .next .state .op .kind ≡ 0 → ((a b : List ℕ) → seenOf s (w .seen) a ≡ seenOf s (w .seen) b) → TurnedRound s g h sent c w
+    → w .next .state .op .kind ≡ idleKind → ((a b : Buffered) → seenOf s (w .seen) a ≡ seenOf s (w .seen) b) → TurnedRound s g h sent c w
     → TurnedRound s g h sent c (record { next = leaving s left (w .next); sent = w .sent; seen = w .seen })
 left-turned s g h sent c left w e same t =
     left-by s left (w .next) (λ (k : Buffered). TurnedRound s g h sent c (record { next = k; sent = w .sent; seen = w .seen })) t
     (λ blocks stripe eb es.
     record {
       later = t .later;
-      turns = subst (λ (z : List (Seen (plain s))). Turns s g c h (t .later) z) (same (w .next .stripe) stripe) (t .turns);
+      turns = subst (λ (z : List (Seen (plain s))). Turns s g c h (t .later) z) (same (w .next) _) (t .turns);
       keeps = record { number = t .keeps .number; used = t .keeps .used; sized = t .keeps .sized; runs = λ n. absurd (n e) };
       items = t .items;
       own = t .own;
@@ -66,7 +68,7 @@ left-turned s g h sent c left w e same t =
 pub crash-goes : (s : Settings) (g : SettingsRange s) (h : Hist s) (r : Moved s) → Inv s g h r → (c : ℕ) (left : Left)
     → Goes s g r (coordinated s (r .world) c (leftBy s left (crashStep (s .n) (s .m) (s .size) (r .world .coordinators c))))
 unfolding crashStep afterChecks crashed leftBy
-crash-goes s g h r i c left = go (leb refusal 0)
+crash-goes s g h r i c left = go (leb refusal passed)
   where
     k : Buffered
     k = r .world .coordinators c
@@ -78,23 +80,23 @@ crash-goes s g h r i c left = go (leb refusal 0)
     with-left : Went → Went
     with-left w = record { next = leaving s left (w .next); sent = w .sent; seen = w .seen }
 
-    cuts : (k .state .op .kind ≡ 0 → ⊥) → TurnedRound s g h (r .world .sent) c (ending k (k .stripe) [] cutSeen noBricks)
+    cuts : (k .state .op .kind ≡ idleKind → ⊥) → TurnedRound s g h (r .world .sent) c (ending k (k .stripe) [] cutSeen noBricks)
     cuts n =
         let w = i .coordinators c .runs n in
         ends s g h (r .world .sent) c k (i .coordinators c) (i .valid) cut (k .stripe) [] cutSeen noBricks (w .own)
-        (record { known = w .known; running = w .unended; answer = tt }) (unfold ending seenOf shows endingOf in refl)
+        (record { known = known-begun w; running = w .unended; answer = tt }) (unfold ending seenOf shows endingOf in refl)
         (λ z m. absurd (unfold broadcasts in List·Memᴰ·not-nil m)) (λ b msg block m. absurd (unfold broadcasts in List·Memᴰ·not-nil m))
 
-    busy : (a : Bool) → eqb (k .state .op .kind) 0 ≡ a
+    busy : (a : Bool) → eqb (k .state .op .kind) idleKind ≡ a
         → TurnedRound s g h (r .world .sent) c
         (with-left (cond a (record { next = k; sent = []; seen = nothingSeen }) (ending k (k .stripe) [] cutSeen noBricks)))
     busy true e =
-        left-turned s g h (r .world .sent) c left (record { next = k; sent = []; seen = nothingSeen }) (eqb-true (k .state .op .kind) 0 e)
+        left-turned s g h (r .world .sent) c left (record { next = k; sent = []; seen = nothingSeen }) (eqb-true (k .state .op .kind) idleKind e)
         (λ a b. unfold seenOf nothingSeen in refl) (stays s g h (r .world .sent) c k (i .coordinators c) (i .valid))
     busy false e =
         left-turned s g h (r .world .sent) c left (ending k (k .stripe) [] cutSeen noBricks) (unfold ending idleWith noOp in refl)
-        (λ a b. unfold seenOf ending in refl) (cuts (eqb-false (k .state .op .kind) 0 e))
+        (λ a b. unfold seenOf ending in refl) (cuts (eqb-false (k .state .op .kind) idleKind e))
 
     go : (a : Bool) → Goes s g r (coordinated s (r .world) c (leftBy s left (cond a (went (crashed k)) (refused refusal))))
-    go true = goes-turned s g h r i c (with-left (crashed k)) (busy (eqb (k .state .op .kind) 0) refl)
+    go true = goes-turned s g h r i c (with-left (crashed k)) (busy (eqb (k .state .op .kind) idleKind) refl)
     go false = goes-refused s g h r i c refusal

@@ -3,14 +3,15 @@ use mathlib.Core.Path.{_≡_, refl, sym, ap, subst, _∙_}
 use mathlib.Core.Logic.{_⊎_, inl, inr}
 use mathlib.Core.Bool.{Bool, true, false, not, _&&_}
 use mathlib.Core.List.{List, [], _∷_, _++_, List·Memᴰ·not-nil}
-use Prim.Native.Nat.{ℕ, _+_, _%_, _≤_, _<_}
+use Prim.Native.Nat.{ℕ, _+_, _≤_, _<_}
 use native.Mathlib.Omega.{arith}
 use lib.Dec.{T, leb}
 use borrow.Author.Tests.{eq-eqb, ne-eqb, ltb-true}
+use Rattle.message.specs.Kinds.{readKind, orderKind, writeKind}
 use Rattle.settings.specs.Ranges.{quorum}
 use Rattle.settings.specs.Ranges.{SettingsRange}
 use Rattle.byte_lists.proofs.Laws.BoolLaws.{and-right}
-use Rattle.settings.specs.Times.{noUpperEnd, validTime, timeOf}
+use Rattle.settings.specs.Times.{noUpperEnd, validTime, timeOf, coordinatorOf}
 use Rattle.settings.specs.declared.Settings.{Settings}
 use Rattle.message.specs.Flags.{member, members}
 use Rattle.message.specs.declared.Message.{Message}
@@ -18,10 +19,10 @@ use Rattle.erasure.specs.Code.{codedOf}
 use Rattle.erasure.specs.Code.{Stripe}
 use Rattle.byte_lists.specs.Each.{some}
 use Rattle.byte_lists.proofs.Laws.EachLaws.{some-at}
-use Rattle.coord_record.specs.Records.{noBricks}
+use Rattle.coord_record.specs.Records.{noBricks, idleKind, readingKind, writingKind}
 use Rattle.coord_record.specs.SoundParts.{SoundParts}
 use Rattle.coord_tally.specs.Counting.{saidNo}
-use Rattle.coord_apply.specs.Acts.{roundMessage, trimMessage, nextOp, nextRound, ending, finishedSeen}
+use Rattle.coord_apply.specs.Acts.{roundMessage, trimMessage, nextOp, opened, nextRound, ending, finishedSeen}
 use Rattle.coord_apply.specs.Answers.{Buffered, abortedSeen}
 use Rattle.order.specs.Claim.{Action, read, write, ok, bytes, changed, given, _∈_}
 use Rattle.order.specs.Facts.{Source, itself, End, written, recovered, aborted, Fact, began, promised, launched, stored, ended, shows, endingOf}
@@ -30,7 +31,8 @@ use Rattle.order.proofs.Laws.PlaceLaws.{in-above, in-top}
 use Rattle.order.specs.Quorums.{Many}
 use Rattle.order.specs.Valid.{Began, Val, sets, OkLaunched, Valid}
 use Rattle.order.proofs.Laws.FactLaws.{committed-up}
-use Rattle.register.specs.Runs.{plain, Item, message, reply, seenOf, blockFor, broadcasts}
+use Rattle.register.specs.Runs.{plain, Item, message, reply, begunKind, seenOf, blockFor, broadcasts}
+use Rattle.register.proofs.Laws.BegunLaws.{same-begun, known-begun, reads-begun, writes-begun}
 use Rattle.register.proofs.Laws.Invariant.{quorums, Hist, MessageInv, ReplyInv, ItemInv, Running, CoordinatorInv}
 use Rattle.register.proofs.Laws.UpLaws.{in-cons}
 use Rattle.register.proofs.Laws.TurnLaws.{time-of, turns-launched, in-broadcast, TurnedRound}
@@ -40,9 +42,9 @@ use Rattle.coord_laws.proofs.Laws.SentMessageLaws.{time-valid}
 
 -- what a sound record says of its operation
 pub record SoundOp (s : Settings) (k : Buffered) : Type 0 where
-  pub fits : 1 ≤ k .state .op .phase → Fit (k .state .op)
+  pub fits : readKind ≤ k .state .op .phase → Fit (k .state .op)
   pub first-low : k .state .op .first < s .n
-  pub time-high : 1 ≤ k .state .op .kind → k .state .op .time < noUpperEnd
+  pub time-high : readingKind ≤ k .state .op .kind → k .state .op .time < noUpperEnd
 
 pub sound-op : (s : Settings) (k : Buffered) → SoundParts (s .n) (s .m) (k .state) → SoundOp s k
 unfolding validTime
@@ -51,7 +53,8 @@ sound-op s k p =
       fits = λ l. fit (k .state .op) (p .op-right) (λ _ z. omega arith);
       first-low = p .first-low;
       time-high = λ l. ltb-true (k .state .op .time) noUpperEnd
-          (and-right (leb (timeOf 1 0) (k .state .op .time)) _ (time-valid (k .state .op .kind) (k .state .op .time) (k .state .clock) (p .time-right) (λ z. omega arith) (p .number-low) (p .last-low)));
+          (and-right (leb (timeOf 1 0) (k .state .op .time)) _
+          (time-valid (k .state .op .kind) (k .state .op .time) (k .state .clock) (p .time-right) (λ z. omega arith) (p .number-low) (p .last-low)));
     }
 
 -- tests on bricks
@@ -64,7 +67,7 @@ T-true true t = refl
 T-true false t = absurd t
 
 module _ (s : Settings) (g : SettingsRange s) (h : Hist s) (sent : List Item) (c : ℕ) (k : Buffered) (v : Valid (quorums s g) h)
-    (i : CoordinatorInv s g h sent c k) (items : (z : Item) → z ∈ sent → ItemInv s g h sent z) (n : k .state .op .kind ≡ 0 → ⊥) where
+    (i : CoordinatorInv s g h sent c k) (items : (z : Item) → z ∈ sent → ItemInv s g h sent z) (n : k .state .op .kind ≡ idleKind → ⊥) where
   -- the running operation
   pub now : Running s g h sent c k
   now = i .runs n
@@ -96,22 +99,23 @@ module _ (s : Settings) (g : SettingsRange s) (h : Hist s) (sent : List Item) (c
   pub does-abort : TurnedRound s g h sent c (ending k (k .stripe) [] abortedSeen noBricks)
   does-abort =
       ends s g h sent c k i v aborted (k .stripe) [] abortedSeen noBricks (now .own)
-      (record { known = now .known; running = now .unended; answer = tt }) (unfold ending seenOf shows endingOf in refl)
+      (record { known = known-begun now; running = now .unended; answer = tt }) (unfold ending seenOf shows endingOf in refl)
       (λ z m. absurd (unfold broadcasts in List·Memᴰ·not-nil m)) (λ b msg block m. absurd (unfold broadcasts in List·Memᴰ·not-nil m))
 
   -- a Write round is sent
   pub launches : (source : Source) (bricks stripe : List ℕ) → OkLaunched (quorums s g) h (k .state .op .time) source
       → Val (launched (k .state .op .time) source ∷ h) (k .state .op .time) stripe
       → Stripe (s .m) (s .size) stripe
-      → (k .state .op .kind ≡ 2 → In (began (k .state .op .time) (write stripe)) h)
-      → TurnedRound s g h sent c (nextRound k 4 0 bricks stripe (codedOf (s .n) (s .m) (s .size) stripe))
-  launches source bricks stripe o value proper writes =
-      opens s g h sent c k i n later 4 0 bricks stripe (codedOf (s .n) (s .m) (s .size) stripe)
+      → begunKind s (nextRound k writeKind 0 bricks stripe (codedOf (s .n) (s .m) (s .size) stripe) .next) ≡ begunKind s k
+      → TurnedRound s g h sent c (nextRound k writeKind 0 bricks stripe (codedOf (s .n) (s .m) (s .size) stripe))
+  launches source bricks stripe o value proper kept =
+      opens s g h sent c k i n later writeKind 0 bricks stripe (codedOf (s .n) (s .m) (s .size) stripe)
       (turns-launched s g c h v (k .state .op .time) source o (now .own) [] refl)
       (λ u w. old u (w .0) (in-cons (w .1)))
       (λ w. unended (w .0) (in-cons (w .1)))
       (λ p. absurd (p refl))
-      (λ e. (in-above (writes e), proper))
+      kept
+      (λ e. proper)
       (λ e. absurd (omega (arith, e)))
       (λ e. ((source, in-top), value, proper))
       messages
@@ -128,8 +132,8 @@ module _ (s : Settings) (g : SettingsRange s) (h : Hist s) (sent : List Item) (c
       unended e (inr q) = now .unended (e, q)
 
       messages : (b : ℕ) → b < s .n
-          → MessageInv s g later b (roundMessage (nextOp (k .state .op) 4 0) noBricks)
-          (blockFor s (record { message = roundMessage (nextOp (k .state .op) 4 0) noBricks; blocks = codedOf (s .n) (s .m) (s .size) stripe }) b)
+          → MessageInv s g later b (roundMessage (nextOp (k .state .op) writeKind 0) noBricks)
+          (blockFor s (record { message = roundMessage (nextOp (k .state .op) writeKind 0) noBricks; blocks = codedOf (s .n) (s .m) (s .size) stripe }) b)
       messages b l =
           unfold roundMessage nextOp blockFor in
           (record {
@@ -140,21 +144,22 @@ module _ (s : Settings) (g : SettingsRange s) (h : Hist s) (sent : List Item) (c
           })
 
   -- the Write round of a write
-  pub does-store : k .state .op .kind ≡ 2 → k .state .op .phase ≡ 2 → some (saidNo (k .state .tally .counted) (k .state .tally .granted)) (s .n) ≡ false
+  pub does-store : k .state .op .kind ≡ writingKind → k .state .op .phase ≡ orderKind → some (saidNo (k .state .tally .counted) (k .state .tally .granted)) (s .n) ≡ false
       → quorum (s .n) (s .m) ≤ members (k .state .tally .counted) (s .n)
-      → TurnedRound s g h sent c (nextRound k 4 0 noBricks (k .stripe) (codedOf (s .n) (s .m) (s .size) (k .stripe)))
+      → TurnedRound s g h sent c (nextRound k writeKind 0 noBricks (k .stripe) (codedOf (s .n) (s .m) (s .size) (k .stripe)))
   unfolding changed
   does-store kind phase yeses enough =
-      let w = now .writes kind in
+      let w = writes-begun now kind in
       launches itself noBricks (k .stripe)
       (record {
-        known = now .known;
+        known = known-begun now;
         running = now .unended;
         new = now .unsent (λ e. omega (arith, e));
         order = quorum-of (λ (b : ℕ). In (promised b (k .state .op .time)) h) enough ordered;
-        source = (write (k .stripe), k .stripe, w .0, λ z. refl);
+        source = (write (k .stripe), k .stripe, w, λ z. refl);
       })
-      (sets in-top (in-above (w .0)) (λ z. refl)) (w .1) (λ _. w .0)
+      (sets in-top (in-above w) (λ z. refl)) (now .proper kind)
+      (unfold nextRound opened nextOp in same-begun s _ k refl refl)
     where
       ordered : (b : ℕ) → member (k .state .tally .counted) b ≡ true → In (promised b (k .state .op .time)) h
       ordered b m =
@@ -163,7 +168,7 @@ module _ (s : Settings) (g : SettingsRange s) (h : Hist s) (sent : List Item) (c
           (subst (λ (z : ℕ). In (promised z (x .from .time)) h) (x .brick-is) (reply-at b m .orders (said-yes yeses b m) (x .kind-is ∙ phase)))
 
   -- a quorum stored the operation's time
-  stored-quorum : k .state .op .phase ≡ 4 → some (saidNo (k .state .tally .counted) (k .state .tally .granted)) (s .n) ≡ false
+  stored-quorum : k .state .op .phase ≡ writeKind → some (saidNo (k .state .tally .counted) (k .state .tally .granted)) (s .n) ≡ false
       → quorum (s .n) (s .m) ≤ members (k .state .tally .counted) (s .n) → Many (s .n) (quorum (s .n) (s .m)) (λ b. In (stored b (k .state .op .time)) h)
   stored-quorum phase yeses enough = quorum-of (λ (b : ℕ). In (stored b (k .state .op .time)) h) enough stores
     where
@@ -193,14 +198,14 @@ module _ (s : Settings) (g : SettingsRange s) (h : Hist s) (sent : List Item) (c
           })
 
   owns : (b : ℕ) (msg : Message) (block : List ℕ)
-      → message b msg block ∈ broadcasts s (record { message = trimMessage (k .state .op); blocks = [] } ∷ []) → msg .time % 16 ≡ c
+      → message b msg block ∈ broadcasts s (record { message = trimMessage (k .state .op); blocks = [] } ∷ []) → coordinatorOf (msg .time) ≡ c
   owns b msg block m =
       let w = in-broadcast s (record { message = trimMessage (k .state .op); blocks = [] }) (message b msg block) m in
       let e : msg .time ≡ k .state .op .time = unfold time-of trimMessage in ap time-of (w .2) in
-      ap (λ (u : ℕ). u % 16) e ∙ now .own
+      ap coordinatorOf e ∙ now .own
 
   -- the Write round is finished: a write is ok, a read gives its stripe
-  pub does-finish : (k .state .op .kind ≡ 1) ⊎ (k .state .op .kind ≡ 2) → k .state .op .phase ≡ 4
+  pub does-finish : (k .state .op .kind ≡ readingKind) ⊎ (k .state .op .kind ≡ writingKind) → k .state .op .phase ≡ writeKind
       → some (saidNo (k .state .tally .counted) (k .state .tally .granted)) (s .n) ≡ false
       → quorum (s .n) (s .m) ≤ members (k .state .tally .counted) (s .n)
       → TurnedRound s g h sent c
@@ -211,23 +216,23 @@ module _ (s : Settings) (g : SettingsRange s) (h : Hist s) (sent : List Item) (c
       ends s g h sent c k i v (recovered (bytes (k .stripe))) (k .stripe) (record { message = trimMessage (k .state .op); blocks = [] } ∷ [])
       (finishedSeen (k .state .op)) (k .state .bricks) (now .own)
       (record {
-        known = now .known;
+        known = known-begun now;
         running = now .unended;
         answer = (
           inr many,
-          record { kind = read; asked = now .reads kind; keeps = λ z. refl; stripe = k .stripe; value = now .storing phase .1; bytes = refl },
+          record { kind = read; asked = reads-begun now kind; keeps = λ z. refl; stripe = k .stripe; value = now .storing phase .1; bytes = refl },
         );
       })
-      (unfold ending seenOf shows endingOf finishedSeen in rw (eq-eqb (k .state .op .kind) 1 kind) refl)
+      (unfold ending seenOf shows endingOf finishedSeen in rw (eq-eqb (k .state .op .kind) readingKind kind) refl)
       (trims many (recovered (bytes (k .stripe)))) owns
   does-finish (inr kind) phase yeses enough =
       let many = stored-quorum phase yeses enough in
       ends s g h sent c k i v (written ok) (k .stripe) (record { message = trimMessage (k .state .op); blocks = [] } ∷ [])
       (finishedSeen (k .state .op)) (k .state .bricks) (now .own)
       (record {
-        known = now .known;
+        known = known-begun now;
         running = now .unended;
-        answer = (inr many, record { kind = write (k .stripe); asked = now .writes kind .0; blind = λ z. refl });
+        answer = (inr many, record { kind = write (k .stripe); asked = writes-begun now kind; blind = λ z. refl });
       })
-      (unfold ending seenOf shows endingOf finishedSeen in rw (ne-eqb (k .state .op .kind) 1 (λ q. omega (arith, q))) refl)
+      (unfold ending seenOf shows endingOf finishedSeen in rw (ne-eqb (k .state .op .kind) readingKind (λ q. omega (arith, q))) refl)
       (trims many (written ok)) owns

@@ -5,6 +5,7 @@ use Prim.Native.Nat.{ℕ}
 use native.Mathlib.Omega.{arith}
 use lib.Dec.{leb, ltb, eqb}
 use borrow.Author.Tests.{eq-eqb, ne-eqb}
+use Rattle.message.specs.Kinds.{readKind, orderKind, orderReadKind, writeKind, lastRound}
 use Rattle.settings.specs.Count.{count}
 use Rattle.settings.specs.Times.{noUpperEnd}
 use Rattle.message.specs.Flags.{members}
@@ -16,7 +17,7 @@ use Rattle.coord_decide.specs.Deciding.{decidedRead, unlessSpent, decidedAt, de
 use Rattle.coord_decide.specs.declared.Decision.the-variants.{Abort, Give, Look, Store, Recover, Finish}
 
 module _ (n m : ℕ) (op : Op) (t : Tally) where
-  pub decided-reading : op .phase ≡ 1
+  pub decided-reading : op .phase ≡ readKind
       → decided n m op t
       ≡ cond
       (some (saidNo (t .counted) (t .granted)) n
@@ -24,25 +25,25 @@ module _ (n m : ℕ) (op : Op) (t : Tally) where
       || some (missing n m (op .first) (t .counted)) n)
       (Look noUpperEnd) Give
   unfolding decided decidedRead
-  decided-reading e = rw (eq-eqb (op .phase) 1 e) refl
+  decided-reading e = rw (eq-eqb (op .phase) readKind e) refl
 
-  pub decided-ordering : op .phase ≡ 2 → decided n m op t ≡ cond (some (saidNo (t .counted) (t .granted)) n) Abort Store
+  pub decided-ordering : op .phase ≡ orderKind → decided n m op t ≡ cond (some (saidNo (t .counted) (t .granted)) n) Abort Store
   unfolding decided
-  decided-ordering e = rw (ne-eqb (op .phase) 1 (λ q. omega (arith, q)), eq-eqb (op .phase) 2 e) refl
+  decided-ordering e = rw (ne-eqb (op .phase) readKind (λ q. omega (arith, q)), eq-eqb (op .phase) orderKind e) refl
 
-  pub decided-looking : op .phase ≡ 3
+  pub decided-looking : op .phase ≡ orderReadKind
       → decided n m op t
       ≡ cond (some (saidNo (t .counted) (t .granted)) n) Abort
       (cond (eqb (members (t .held) n) 0) Abort
       (cond (leb m (count (atTimes (t .held) (t .found) (highest (t .held) (t .found) n)) n))
-      (cond (ltb (op .round) 1000) (Recover (highest (t .held) (t .found) n)) Abort)
+      (cond (ltb (op .round) lastRound) (Recover (highest (t .held) (t .found) n)) Abort)
       (cond (eqb (highest (t .held) (t .found) n) 0) Abort
-      (cond (ltb (op .round) 1000) (Look (highest (t .held) (t .found) n)) Abort))))
+      (cond (ltb (op .round) lastRound) (Look (highest (t .held) (t .found) n)) Abort))))
   unfolding decided decidedRecovery decidedAt unlessSpent
   decided-looking e =
-      rw (ne-eqb (op .phase) 1 (λ q. omega (arith, q)), ne-eqb (op .phase) 2 (λ q. omega (arith, q)), eq-eqb (op .phase) 3 e) refl
+      rw (ne-eqb (op .phase) readKind (λ q. omega (arith, q)), ne-eqb (op .phase) orderKind (λ q. omega (arith, q)), eq-eqb (op .phase) orderReadKind e) refl
 
-  pub decided-storing : op .phase ≡ 4 → decided n m op t ≡ cond (some (saidNo (t .counted) (t .granted)) n) Abort Finish
+  pub decided-storing : op .phase ≡ writeKind → decided n m op t ≡ cond (some (saidNo (t .counted) (t .granted)) n) Abort Finish
   unfolding decided
   decided-storing e =
-      rw (ne-eqb (op .phase) 1 (λ q. omega (arith, q)), ne-eqb (op .phase) 2 (λ q. omega (arith, q)), ne-eqb (op .phase) 3 (λ q. omega (arith, q))) refl
+      rw (ne-eqb (op .phase) readKind (λ q. omega (arith, q)), ne-eqb (op .phase) orderKind (λ q. omega (arith, q)), ne-eqb (op .phase) orderReadKind (λ q. omega (arith, q))) refl

@@ -13,6 +13,8 @@ use Rattle.settings.specs.declared.Clock.{Clock}
 use Rattle.settings.specs.declared.Draw.{Draw}
 use Rattle.settings.specs.declared.Draw.the-variants.{Drawn, Refused}
 use Rattle.settings.specs.declared.Settings.{Settings}
+use Rattle.byte_lists.specs.Little.{Bytes}
+use Rattle.byte_lists.proofs.Laws.LittleLaws.{bytes-pass}
 use Rattle.message.specs.Flags.{members}
 use Rattle.message.specs.Kinds.{writeKind}
 use Rattle.message.specs.declared.Message.{Message}
@@ -108,7 +110,7 @@ coordinated-is-driven s w c (refused number) old h =
     makes : (ℕ → Buffered) → List Item → List (Seen (plain s)) → Moved s
     makes f l seen = record { world = record { images = w .images; up = w .up; coordinators = f; sent = l }; seen = seen }
 coordinated-is-driven s w c (went g) old h =
-    ap (λ (l : List Item). makes (putAt (w .coordinators) c (g .next)) (w .sent ++ l) (seenOf s (g .seen) (g .next .stripe))) (same-sent s old h)
+    ap (λ (l : List Item). makes (putAt (w .coordinators) c (g .next)) (w .sent ++ l) (seenOf s (g .seen) (g .next))) (same-sent s old h)
   where
     makes : (ℕ → Buffered) → List Item → List (Seen (plain s)) → Moved s
     makes f l seen = record { world = record { images = w .images; up = w .up; coordinators = f; sent = l }; seen = seen }
@@ -210,11 +212,12 @@ module _ (s : Settings) (w : World) (old : List ℕ) where
       coordinated-is-driven s w (r .time % 16) _ old
       (take-short (s .n) (s .m) (s .size) (w .coordinators (r .time % 16)) r block (s .n * s .size))
 
-  pub write-called : (c reading : ℕ) (content : List ℕ) (small : _)
-      → step s w (startWrite c reading content small) ≡ (called s w old) c (writeStep (s .n) (s .m) (s .size) (w .coordinators c) reading content)
+  pub write-called : (c reading : ℕ) (content : List ℕ) → Bytes content
+      → step s w (startWrite c reading content) ≡ (called s w old) c (writeStep (s .n) (s .m) (s .size) (w .coordinators c) reading content)
   unfolding step
   write-called c reading content small =
-      coordinated-is-driven s w c _ old (write-short (s .n) (s .m) (s .size) (w .coordinators c) reading content)
+      rw (bytes-pass content small)
+      (coordinated-is-driven s w c _ old (write-short (s .n) (s .m) (s .size) (w .coordinators c) reading content))
 
   pub read-called : (c reading first : ℕ)
       → step s w (startRead c reading first) ≡ (called s w old) c (readStep (s .n) (s .m) (s .size) (w .coordinators c) reading first)

@@ -7,6 +7,8 @@ use native.Mathlib.Omega.{arith}
 use lib.Dec.{eqb}
 use lib.ListN.{getD}
 use borrow.Author.Tests.{eqb-true, eq-eqb}
+use Rattle.coord_record.specs.Records.{idleKind, readingKind}
+use Rattle.message.specs.Kinds.{readKind}
 use Rattle.settings.specs.Ranges.{quorum}
 use Rattle.settings.specs.Ranges.{SettingsRange}
 use Rattle.settings.specs.declared.Settings.{Settings}
@@ -23,6 +25,7 @@ use Rattle.order.specs.Facts.{one-round, showed, shows, endingOf}
 use Rattle.order.specs.Places.{In}
 use Rattle.order.specs.Valid.{Val, Valid}
 use Rattle.register.specs.Runs.{Item, seenOf, broadcasts}
+use Rattle.register.proofs.Laws.BegunLaws.{known-begun, reads-begun}
 use Rattle.register.proofs.Laws.Invariant.{quorums, Hist, Means, ItemInv, Running, CoordinatorInv}
 use Rattle.register.proofs.Laws.TurnLaws.{TurnedRound}
 use Rattle.register.proofs.Laws.RoundLaws.{ends}
@@ -31,10 +34,10 @@ use Rattle.register.proofs.Laws.DecideLaws.{now, reply-at, said-yes, qu
 use Rattle.register.proofs.Laws.RecoverLaws.{means-decode}
 
 module _ (s : Settings) (g : SettingsRange s) (h : Hist s) (sent : List Item) (c : ℕ) (k : Buffered) (v : Valid (quorums s g) h)
-    (i : CoordinatorInv s g h sent c k) (items : (z : Item) → z ∈ sent → ItemInv s g h sent z) (n : k .state .op .kind ≡ 0 → ⊥)
+    (i : CoordinatorInv s g h sent c k) (items : (z : Item) → z ∈ sent → ItemInv s g h sent z) (n : k .state .op .kind ≡ idleKind → ⊥)
     (low : k .state .op .first < s .n) (enough : quorum (s .n) (s .m) ≤ members (k .state .tally .counted) (s .n)) where
   -- a read of one round: all said yes with one newest time, and every target is among them
-  pub does-give : k .state .op .kind ≡ 1 → k .state .op .phase ≡ 1
+  pub does-give : k .state .op .kind ≡ readingKind → k .state .op .phase ≡ readKind
       → some (saidNo (k .state .tally .counted) (k .state .tally .granted)) (s .n) ≡ false
       → some (otherTime (k .state .tally .counted) (k .state .tally .found) (highest (k .state .tally .counted) (k .state .tally .found) (s .n))) (s .n) ≡ false
       → some (missing (s .n) (s .m) (k .state .op .first) (k .state .tally .counted)) (s .n) ≡ false
@@ -44,12 +47,12 @@ module _ (s : Settings) (g : SettingsRange s) (h : Hist s) (sent : List Item) (c
   does-give kind phase yeses same there =
       ends s g h sent c k i v (one-round newest (bytes stripe)) stripe [] readSeen row (r .own)
       (record {
-        known = r .known;
+        known = known-begun r;
         running = r .unended;
         answer = (
           r .unsent (λ e. omega (arith, e)),
           quorum-of s g h sent c k v i items n (λ (b : ℕ). In (showed b (k .state .op .time) newest) h) enough shown,
-          record { kind = read; asked = r .reads kind; keeps = λ z. refl; stripe = d .0; value = d .1; bytes = ap bytes (d .3) },
+          record { kind = read; asked = reads-begun r kind; keeps = λ z. refl; stripe = d .0; value = d .1; bytes = ap bytes (d .3) },
         );
       })
       (unfold ending seenOf shows endingOf in refl)
@@ -110,9 +113,9 @@ module _ (s : Settings) (g : SettingsRange s) (h : Hist s) (sent : List Item) (c
           (subst (λ (z : ℕ). Means s h (x .from .found) z (blockOf (s .size) (k .blocks) b)) (x .brick-is)
           (subst (λ (z : List ℕ). Means s h (x .from .found) (x .from .brick) z) (sym (x .block-is held)) w))
         where
-          holds : (ph : ℕ) (target granted held : Bool) (f : ℕ) → ph ≡ 1 → target ≡ true → granted ≡ true → blockRight ph target granted held f ≡ true → held ≡ true
+          holds : (ph : ℕ) (target granted held : Bool) (f : ℕ) → ph ≡ readKind → target ≡ true → granted ≡ true → blockRight ph target granted held f ≡ true → held ≡ true
           holds ph target granted held f p t y q =
-              let z : blockRight ph target granted held f ≡ held = unfold blockRight in rw (eq-eqb ph 1 p, y, t) refl in
+              let z : blockRight ph target granted held f ≡ held = unfold blockRight in rw (eq-eqb ph readKind p, y, t) refl in
               sym z ∙ q
 
       d : (full : List ℕ) × Val h newest full × Stripe (s .m) (s .size) full × (stripe ≡ full)

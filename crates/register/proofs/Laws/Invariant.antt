@@ -3,11 +3,11 @@ use mathlib.Core.Path.{_≡_}
 use mathlib.Core.Logic.{_⊎_}
 use mathlib.Core.Bool.{true}
 use mathlib.Core.List.{List, _++_}
-use Prim.Native.Nat.{ℕ, _%_, _≤_, _<_}
+use Prim.Native.Nat.{ℕ, _≤_, _<_}
 use lib.ListN.{getD}
 use Rattle.settings.specs.Ranges.{quorum, SettingsRange}
 use Rattle.settings.proofs.Laws.QuorumLaws.{quorum-twice}
-use Rattle.settings.specs.Times.{timeOf}
+use Rattle.settings.specs.Times.{timeOf, coordinatorOf}
 use Rattle.settings.specs.declared.Settings.{Settings}
 use Rattle.message.specs.Flags.{member}
 use Rattle.message.specs.Kinds.{readKind, orderKind, orderReadKind, writeKind, trimKind}
@@ -16,16 +16,16 @@ use Rattle.message.specs.declared.Reply.{Reply}
 use Rattle.image.specs.Brick.{Brick, entryCount, timeAt, meansAt, Sound}
 use Rattle.image.specs.Image.{imageOf}
 use Rattle.erasure.specs.Code.{codedOf, blockOf, Stripe}
-use Rattle.coord_record.specs.Records.{idleKind, readingKind, writingKind}
+use Rattle.coord_record.specs.Records.{idleKind, writingKind}
 use Rattle.coord_record.specs.CountedRules.{isTarget, blockRight}
 use Rattle.coord_apply.specs.Answers.{Buffered}
 use Rattle.coord_laws.specs.Soundness.{Sized}
-use Rattle.order.specs.Claim.{Plain, read, write, _∈_}
+use Rattle.order.specs.Claim.{Plain, _∈_}
 use Rattle.order.specs.Facts.{began, promised, stored, showed, History, seen}
 use Rattle.order.specs.Places.{In}
 use Rattle.order.specs.Quorums.{Quorums}
 use Rattle.order.specs.Valid.{Began, Launched, Ended, PromisedUpTo, Val, Committed, Gone, Valid}
-use Rattle.register.specs.Runs.{plain, Item, message, reply, Moved}
+use Rattle.register.specs.Runs.{plain, Item, message, reply, Moved, begunKind}
 
 -- The quorums of a setting.
 abbrev pub quorums : (s : Settings) → SettingsRange s → Quorums
@@ -123,10 +123,10 @@ Asked sent time round phase max =
 
 -- The running operation of coordinator c.
 pub record Running (s : Settings) (g : SettingsRange s) (h : Hist s) (sent : List Item) (c : ℕ) (k : Buffered) : Type 0 where
-  pub own : k .state .op .time % 16 ≡ c
-  pub known : Began h (k .state .op .time)
-  pub reads : k .state .op .kind ≡ readingKind → In (began (k .state .op .time) read) h
-  pub writes : k .state .op .kind ≡ writingKind → In (began (k .state .op .time) (write (k .stripe))) h × Stripe (s .m) (s .size) (k .stripe)
+  pub own : coordinatorOf (k .state .op .time) ≡ c
+  -- it began as what the record and the stripe beside it say
+  pub begun : In (began (k .state .op .time) (begunKind s k)) h
+  pub proper : k .state .op .kind ≡ writingKind → Stripe (s .m) (s .size) (k .stripe)
   pub unended : ¬ Ended h (k .state .op .time)
   pub unsent : (k .state .op .phase ≡ writeKind → ⊥) → ¬ Launched h (k .state .op .time)
   pub counts : (b : ℕ) → member (k .state .tally .counted) b ≡ true → CountedInv s sent k b
@@ -142,7 +142,7 @@ pub record Running (s : Settings) (g : SettingsRange s) (h : Hist s) (sent : Lis
 pub record CoordinatorInv (s : Settings) (g : SettingsRange s) (h : Hist s) (sent : List Item) (c : ℕ) (k : Buffered) : Type 0 where
   pub number : k .state .clock .coordinator ≡ c
   -- the times it used are at most its last
-  pub used : (t : ℕ) → Began h t → t % 16 ≡ c → t ≤ timeOf (k .state .clock .last) c
+  pub used : (t : ℕ) → Began h t → coordinatorOf t ≡ c → t ≤ timeOf (k .state .clock .last) c
   pub sized : Sized (k .state .tally)
   pub runs : (k .state .op .kind ≡ idleKind → ⊥) → Running s g h sent c k
 

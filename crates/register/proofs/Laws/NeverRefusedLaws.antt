@@ -1,27 +1,28 @@
 -- Laws of `specs/NeverRefused`.
 use mathlib.Core.Path.{_≡_, refl, sym, ap, subst, _∙_}
-use mathlib.Core.Bool.{Bool, true, false, cond}
+use mathlib.Core.Bool.{Bool, true, false, cond, _&&_}
 use mathlib.Core.List.{List, [], _∷_}
-use Prim.Native.Nat.{ℕ, zero, suc, _*_, _%_, _≤_, _<_}
+use Prim.Native.Nat.{ℕ, zero, suc, _*_, _≤_}
 use native.Mathlib.Omega.{arith}
 use lib.Dec.{ltb, eqb}
 use lib.ListN.{length, length-replicate}
 use borrow.Author.Tests.{eqb-true, eqb-false, le-leb}
-use Rattle.settings.specs.Ranges.{codeRefusal, quorum, settingsRefusal}
+use Rattle.message.specs.Kinds.{readKind, orderKind}
+use Rattle.settings.specs.Ranges.{bricksInRange, sizeInRange, capacityInRange, inRange, codeRefusal, quorum}
 use Rattle.settings.specs.Ranges.{SettingsRange}
-use Rattle.settings.proofs.Laws.RangeLaws.{settings-passed, settings-code}
-use Rattle.settings.specs.Refusal.{firstRefusal}
-use Rattle.settings.specs.Times.{maxCount, drawOf}
+use Rattle.byte_lists.proofs.Laws.BoolLaws.{and-left}
+use Rattle.settings.specs.Refusal.{passed, firstRefusal}
+use Rattle.settings.specs.Times.{maxCount, lastCoordinator, drawOf, coordinatorOf}
 use Rattle.settings.specs.declared.Clock.{Clock}
 use Rattle.settings.specs.declared.Settings.{Settings}
+use Rattle.byte_lists.specs.Little.{areBytes}
 use Rattle.message.specs.Flags.{members}
 use Rattle.message.specs.declared.Reply.{Reply}
 use Rattle.interpolate.proofs.Laws.BlockLaws.{length-blocksAt}
 use Rattle.erasure.specs.Code.{decodedOf}
-use Rattle.image.specs.Brick.{Brick}
-use Rattle.image.specs.Parse.{Opens, parse}
-use Rattle.image.proofs.Laws.ParseLaws.{parse-image}
-use Rattle.coord_record.specs.Records.{noBricks}
+use Rattle.image.specs.Parse.{parse}
+use Rattle.image.proofs.Laws.ParseLaws.{parse-image, range-of}
+use Rattle.coord_record.specs.Records.{noBricks, idleKind, readingKind, writingKind}
 use Rattle.coord_record.proofs.Laws.SoundPartLaws.{sound-parts}
 use Rattle.coord_tally.specs.Counting.{targetFlags}
 use Rattle.coord_decide.specs.Deciding.{decided}
@@ -36,13 +37,15 @@ use Rattle.coord_laws.proofs.Laws.CodedBlockLaws.{placed-long}
 use Rattle.coord_laws.proofs.Laws.StepRunLaws.{ReplyTaken, took}
 use Rattle.coord_laws.specs.Soundness.{Good}
 use Rattle.coord_laws.proofs.Laws.SoundnessLaws.{idle-good, passes, same-went, drawn-went, write-good, read-good, take-good, crash-good, good-sound}
-use Rattle.register.specs.Runs.{Item, message, reply, World, idle, freshSet, Left, Event, startWrite, startRead, arrives, crashes, goesDown, comesUp, Moved, unmoved, putAt, coordinated, received, arriving, arrivingAt, standing, leaving, leftBy, step, nextMoved, runFrom, run}
+use Rattle.register.specs.Runs.{Item, message, reply, World, idle, freshSet, Left, Event, startWrite, startRead, arrives, crashes}
+use Rattle.register.specs.Runs.{goesDown, comesUp, Moved, unmoved, putAt, coordinated, received, arriving, arrivingAt, standing}
+use Rattle.register.specs.Runs.{leaving, leftBy, step, nextMoved, runFrom, run}
 use Rattle.register.proofs.Laws.Invariant.{Hist, Inv}
-use Rattle.register.proofs.Laws.BrickEvent.{put-here, put-there, in-range}
+use Rattle.register.proofs.Laws.BrickEvent.{put-here, put-there}
 use Rattle.register.proofs.Laws.CrashEvent.{left-by}
 use Rattle.register.proofs.Laws.FreshRunLaws.{fresh-holds}
 use Rattle.register.proofs.Laws.TheoremProof.{step-goes, run-holds}
-use Rattle.register.specs.NeverRefused.{Fine}
+use Rattle.register.specs.NeverRefused.{Fine, ImagesOpen, RecordsOpen, CrashesAccepted}
 
 -- its buffers
 abbrev Long : Settings → Buffered → Type 0
@@ -93,11 +96,11 @@ left-fine s left k f =
 
 -- each coordinator of the world
 abbrev pub AllFine : (s : Settings) → World → Type 0
-AllFine s w = (c : ℕ) → c ≤ 15 → Fine s (w .coordinators c)
+AllFine s w = (c : ℕ) → c ≤ lastCoordinator → Fine s (w .coordinators c)
 
 -- a step that leaves its coordinator fine
 abbrev FineStep : Settings → ℕ → Step → Type 0
-FineStep s c p = (w : Went) → p ≡ went w → c ≤ 15 → Fine s (w .next)
+FineStep s c p = (w : Went) → p ≡ went w → c ≤ lastCoordinator → Fine s (w .next)
 
 module _ (s : Settings) (g : SettingsRange s) where
   coordinated-fine : (w : World) (c : ℕ) (p : Step) → AllFine s w → FineStep s c p → AllFine s (coordinated s w c p .world)
@@ -105,7 +108,7 @@ module _ (s : Settings) (g : SettingsRange s) where
   coordinated-fine w c (refused number) f h = f
   coordinated-fine w c (went q) f h = λ c′ l. at c′ l (eqb c′ c) refl
     where
-      at : (c′ : ℕ) → c′ ≤ 15 → (a : Bool) → eqb c′ c ≡ a → Fine s (putAt (w .coordinators) c (q .next) c′)
+      at : (c′ : ℕ) → c′ ≤ lastCoordinator → (a : Bool) → eqb c′ c ≡ a → Fine s (putAt (w .coordinators) c (q .next) c′)
       at c′ l true e =
           let z = eqb-true c′ c e in
           subst (λ (j : ℕ). Fine s (putAt (w .coordinators) c (q .next) j)) (sym z)
@@ -113,7 +116,7 @@ module _ (s : Settings) (g : SettingsRange s) where
       at c′ l false e = subst (Fine s) (sym (put-there (w .coordinators) c (q .next) c′ (eqb-false c′ c e))) (f c′ l)
 
   module _ (h : Hist s) (r : Moved s) (i : Inv s g h r) (f : AllFine s (r .world)) where
-    good : (c : ℕ) → c ≤ 15 → Good (s .n) (s .m) (r .world .coordinators c .state)
+    good : (c : ℕ) → c ≤ lastCoordinator → Good (s .n) (s .m) (r .world .coordinators c .state)
     good c l =
         record { parts = sound-parts (s .n) (s .m) (r .world .coordinators c .state) (f c l .sound-is); sizes = i .coordinators c .sized }
 
@@ -121,7 +124,7 @@ module _ (s : Settings) (g : SettingsRange s) where
     unfolding writeStep starting
     write-fine c reading content w e l =
         let k = r .world .coordinators c in
-        let begin : ℕ → Clock → Went = λ time clock. starting k clock (firstOp 2 2 time 0) content noBricks in
+        let begin : ℕ → Clock → Went = λ time clock. starting k clock (firstOp writingKind orderKind time 0) content noBricks in
         let p = passes (writeRefusal (s .n) (s .m) (s .size) (k .state) reading (length content) (length (k .stripe))) (drawnThen (drawOf (k .state .clock) reading) begin) w e in
         fine s (w .next) (write-good (s .n) (s .m) (s .size) k reading content w e)
         (subst (λ (v : Went). Long s (v .next)) (drawn-went (drawOf (k .state .clock) reading) begin w (p .1) .3) (
@@ -133,7 +136,7 @@ module _ (s : Settings) (g : SettingsRange s) where
     unfolding readStep starting
     read-fine c reading first w e l =
         let k = r .world .coordinators c in
-        let begin : ℕ → Clock → Went = λ time clock. starting k clock (firstOp 1 1 time first) (k .stripe) (targetFlags (s .n) (s .m) first) in
+        let begin : ℕ → Clock → Went = λ time clock. starting k clock (firstOp readingKind readKind time first) (k .stripe) (targetFlags (s .n) (s .m) first) in
         let p = passes (readRefusal (s .n) (s .m) (s .size) (k .state) reading first) (drawnThen (drawOf (k .state .clock) reading) begin) w e in
         fine s (w .next) (read-good (s .n) (s .m) (s .size) k reading first w e)
         (subst (λ (v : Went). Long s (v .next)) (drawn-went (drawOf (k .state .clock) reading) begin w (p .1) .3) (f c l .blocks-long, f c l .stripe-long))
@@ -143,7 +146,7 @@ module _ (s : Settings) (g : SettingsRange s) where
     crash-fine c w e l =
         fine s (w .next) (crash-good (s .n) (s .m) (s .size) k w (good c l) e)
         (subst (λ (v : Went). Long s (v .next)) (same-went (crashed k) w (passes (crashRefusal (s .n) (s .m) (s .size) (k .state)) (went (crashed k)) w e .1))
-        (go (eqb (k .state .op .kind) 0)))
+        (go (eqb (k .state .op .kind) idleKind)))
       where
         k : Buffered
         k = r .world .coordinators c
@@ -161,22 +164,22 @@ module _ (s : Settings) (g : SettingsRange s) where
         go (went q) h w e l = subst (λ (v : Went). Fine s (v .next)) (same-went _ w e) (left-fine s left (q .next) (h q refl l))
 
     reply-fine : (a : Reply) (block : List ℕ)
-        → FineStep s (a .time % 16) (takeStep (s .n) (s .m) (s .size) (r .world .coordinators (a .time % 16)) a block (s .n * s .size))
+        → FineStep s (coordinatorOf (a .time)) (takeStep (s .n) (s .m) (s .size) (r .world .coordinators (coordinatorOf (a .time))) a block (s .n * s .size))
     reply-fine a block w e l =
-        let k = r .world .coordinators (a .time % 16) in
+        let k = r .world .coordinators (coordinatorOf (a .time)) in
         let t = took (s .n) (s .m) (s .size) k a block (s .n * s .size) w e in
-        fine s (w .next) (take-good (s .n) (s .m) (s .size) k a block (s .n * s .size) w (good (a .time % 16) l) e)
+        fine s (w .next) (take-good (s .n) (s .m) (s .size) k a block (s .n * s .size) w (good (coordinatorOf (a .time)) l) e)
         (subst (λ (v : Went). Long s (v .next)) (t .is)
         (waiting-long s (counting (s .size) k a block) (counting-long s k a block (s .n * s .size) w t)))
+
+    either : (a : Bool) (x y : Moved s) → AllFine s (x .world) → AllFine s (y .world) → AllFine s (cond a x y .world)
+    either true x y p q = p
+    either false x y p q = q
 
     item-fine : (z : Item) → AllFine s (arriving s (r .world) z .world)
     unfolding arriving received unmoved
     item-fine (message b msg block) = either (r .world .up b) _ _ f f
-      where
-        either : (a : Bool) (x y : Moved s) → AllFine s (x .world) → AllFine s (y .world) → AllFine s (cond a x y .world)
-        either true x y p q = p
-        either false x y p q = q
-    item-fine (reply a block) = coordinated-fine (r .world) (a .time % 16) _ f (reply-fine a block)
+    item-fine (reply a block) = coordinated-fine (r .world) (coordinatorOf (a .time)) _ f (reply-fine a block)
 
     place-fine : (l : List Item) (k : ℕ) → AllFine s (arrivingAt s (r .world) l k .world)
     unfolding arrivingAt unmoved
@@ -187,14 +190,11 @@ module _ (s : Settings) (g : SettingsRange s) where
     stand-fine : (b : ℕ) (how : Bool) → AllFine s (standing s (r .world) b how .world)
     unfolding standing unmoved
     stand-fine b how = either (ltb b (s .n)) _ _ f f
-      where
-        either : (a : Bool) (x y : Moved s) → AllFine s (x .world) → AllFine s (y .world) → AllFine s (cond a x y .world)
-        either true x y p q = p
-        either false x y p q = q
 
     step-fine : (e : Event) → AllFine s (step s (r .world) e .world)
-    unfolding step
-    step-fine (startWrite c reading content small) = coordinated-fine (r .world) c _ f (write-fine c reading content)
+    unfolding step unmoved
+    step-fine (startWrite c reading content) =
+        either (areBytes content) _ _ (coordinated-fine (r .world) c _ f (write-fine c reading content)) f
     step-fine (startRead c reading first) = coordinated-fine (r .world) c _ f (read-fine c reading first)
     step-fine (arrives k) = place-fine (r .world .sent) k
     step-fine (crashes c left) = coordinated-fine (r .world) c _ f (crash-left-fine c left)
@@ -206,11 +206,10 @@ module _ (s : Settings) (g : SettingsRange s) where
   from-fine r w f [] = f
   from-fine r w f (e ∷ events) = from-fine (nextMoved s r e) (step-goes s g (w .0) r (w .1) e) (step-fine (w .0) r (w .1) f e) events
 
--- No record and no buffer beside it is refused, as 6 or 2.
-pub records-open : (s : Settings) → settingsRefusal s ≡ 0 → (events : List Event) (c : ℕ) → c ≤ 15 → Fine s (run s events .world .coordinators c)
+pub records-open : RecordsOpen
 unfolding run freshSet idle unmoved maxCount
 records-open s e events =
-    let g = settings-passed s e in
+    let g = range-of s e in
     from-fine s g (unmoved s (freshSet s)) ([], fresh-holds s g)
     (λ c l. record {
       sound-is = good-sound (s .n) (s .m) _ (idle-good (s .n) (s .m) (s .size) (record { coordinator = c; last = 0 }) (g .code) l (omega arith));
@@ -218,28 +217,21 @@ records-open s e events =
       stripe-long = length-replicate (s .m * s .size) 0;
     }) events
 
-code-accepted : (s : Settings) → settingsRefusal s ≡ 0 → codeRefusal (s .n) (s .m) (s .size) ≡ 0
-code-accepted s e = go (eqb (codeRefusal (s .n) (s .m) (s .size)) 0) refl
-  where
-    go : (a : Bool) → eqb (codeRefusal (s .n) (s .m) (s .size)) 0 ≡ a → codeRefusal (s .n) (s .m) (s .size) ≡ 0
-    go true q = eqb-true _ 0 q
-    go false q = absurd (let z = settings-code s _ refl (eqb-false _ 0 q) in omega (arith, z, e))
+code-accepted : (s : Settings) → inRange s ≡ true → codeRefusal (s .n) (s .m) (s .size) ≡ passed
+unfolding codeRefusal inRange
+code-accepted s e = rw (and-left (bricksInRange (s .n) (s .m) && sizeInRange (s .size)) (capacityInRange (s .capacity)) e) refl
 
-crash-accepted : (s : Settings) (k : Buffered) → settingsRefusal s ≡ 0 → Fine s k → answerOf (k .state) (crashStep (s .n) (s .m) (s .size) k) .refusal ≡ 0
+crash-accepted : (s : Settings) (k : Buffered) → inRange s ≡ true → Fine s k
+    → answerOf (k .state) (crashStep (s .n) (s .m) (s .size) k) .refusal ≡ passed
 unfolding crashStep crashRefusal recordChecks firstRefusal afterChecks answerOf
 crash-accepted s k e f =
     let p = sound-parts (s .n) (s .m) (k .state) (f .sound-is) in
-    rw (code-accepted s e, le-leb (k .state .clock .coordinator) 15 (p .number-low), f .sound-is) refl
+    rw (code-accepted s e, le-leb (k .state .clock .coordinator) lastCoordinator (p .number-low), f .sound-is) refl
 
--- No crash of one of the 16 coordinators is refused.
-pub crashes-accepted : (s : Settings) → settingsRefusal s ≡ 0 → (events : List Event) (c : ℕ) → c ≤ 15
-    → answerOf (run s events .world .coordinators c .state) (crashStep (s .n) (s .m) (s .size) (run s events .world .coordinators c)) .refusal ≡ 0
+pub crashes-accepted : CrashesAccepted
 crashes-accepted s e events c l = crash-accepted s (run s events .world .coordinators c) e (records-open s e events c l)
 
--- No image is refused, as 2, 5 or 6: each opens as the brick that was saved.
-pub images-open : (s : Settings) → settingsRefusal s ≡ 0 → (events : List Event) (b : ℕ) → b < s .n
-    → (x : Brick) × (parse s b (run s events .world .images b) ≡ Opens x)
+pub images-open : ImagesOpen
 images-open s e events b l =
-    let g = settings-passed s e in
-    let w = run-holds s g events .1 .bricks b l in
-    (w .state, ap (parse s b) (w .saved) ∙ parse-image s b (w .state) (in-range s g) l (w .sound))
+    let w = run-holds s (range-of s e) events .1 .bricks b l in
+    (w .state, ap (parse s b) (w .saved) ∙ parse-image s b (w .state) e l (w .sound))

@@ -9,8 +9,9 @@ use native.Mathlib.Decide.{ℕ-discrete}
 use lib.Dec.{leb, eqb}
 use lib.ListN.{length}
 use borrow.Author.Tests.{leb-true, leb-false, eqb-true, eq-eqb, ne-eqb}
+use Rattle.message.specs.Kinds.{readKind, orderKind, orderReadKind, writeKind, trimKind}
 use Rattle.settings.specs.Ranges.{SettingsRange}
-use Rattle.settings.specs.Refusal.{refuseUnless}
+use Rattle.settings.specs.Refusal.{refuseUnless, badMessage, passed}
 use Rattle.settings.specs.Times.{validTime, noUpperEnd}
 use Rattle.settings.specs.declared.Settings.{Settings}
 use Rattle.message.specs.Flags.{member, brickSet}
@@ -20,7 +21,8 @@ use Rattle.message.specs.declared.Reply.{Reply}
 use Rattle.image.specs.Brick.{Brick, entryCount, timeAt, meansAt, newest}
 use Rattle.image.specs.Brick.{Sound}
 use Rattle.image_write.specs.Saving
-use Rattle.brick_log.specs.BrickRules.{readYes, orderYes, writeYes, orderedIfYes, writtenIfYes, trimmedTo, under, lookup, placeFor, timeFor, foundFor, yesTo, replyTo, brickAfter, blockAfter}
+use Rattle.brick_log.specs.BrickRules.{readYes, orderYes, writeYes, orderedIfYes, writtenIfYes, trimmedTo, under, lookup, placeFor, timeFor}
+use Rattle.brick_log.specs.BrickRules.{foundFor, yesTo, replyTo, brickAfter, blockAfter}
 use Rattle.order.specs.Claim.{_∈_}
 use Rattle.order.specs.Facts.{Fact, promised, stored, showed}
 use Rattle.order.specs.Places.{whole, above, In}
@@ -37,28 +39,28 @@ use Rattle.brick.proofs.Laws.BrickLaws.{promised-sound, appended-sound, trimmed
 -- what a message that is not refused satisfies
 pub record Sensible (msg : Message) : Type 0 where
   pub time-valid : validTime (msg .time) ≡ true
-  pub kind-low : 1 ≤ msg .kind
-  pub kind-high : msg .kind ≤ 5
+  pub kind-low : readKind ≤ msg .kind
+  pub kind-high : msg .kind ≤ trimKind
 
-pub sensible : (n m : ℕ) (msg : Message) → messageRefusal n m msg ≡ 0 → Sensible msg
+pub sensible : (n m : ℕ) (msg : Message) → messageRefusal n m msg ≡ passed → Sensible msg
 unfolding messageRefusal kindRight
-sensible n m msg e = go (validTime (msg .time)) (roundRight (msg .round)) (eqb (msg .kind) 3) (eqb (msg .kind) 1) refl refl refl e
+sensible n m msg e = go (validTime (msg .time)) (roundRight (msg .round)) (eqb (msg .kind) orderReadKind) (eqb (msg .kind) readKind) refl refl refl e
   where
-    go : (a b c d : Bool) → validTime (msg .time) ≡ a → eqb (msg .kind) 3 ≡ c → eqb (msg .kind) 1 ≡ d
+    go : (a b c d : Bool) → validTime (msg .time) ≡ a → eqb (msg .kind) orderReadKind ≡ c → eqb (msg .kind) readKind ≡ d
         → refuseUnless
-        (a && b && cond c (leb (msg .max) noUpperEnd) (cond d (brickSet (msg .targets) n m) (leb 1 (msg .kind) && leb (msg .kind) 5))) 10 ≡ 0
+        (a && b && cond c (leb (msg .max) noUpperEnd) (cond d (brickSet (msg .targets) n m) (leb readKind (msg .kind) && leb (msg .kind) trimKind))) badMessage ≡ passed
         → Sensible msg
     go false b c d ea ec ed q = absurd (omega arith)
     go true false c d ea ec ed q = absurd (omega arith)
-    go true true true d ea ec ed q = let k = eqb-true (msg .kind) 3 ec in record { time-valid = ea; kind-low = omega arith; kind-high = omega arith }
-    go true true false true ea ec ed q = let k = eqb-true (msg .kind) 1 ed in record { time-valid = ea; kind-low = omega arith; kind-high = omega arith }
-    go true true false false ea ec ed q = last (leb 1 (msg .kind)) (leb (msg .kind) 5) refl refl q
+    go true true true d ea ec ed q = let k = eqb-true (msg .kind) orderReadKind ec in record { time-valid = ea; kind-low = omega arith; kind-high = omega arith }
+    go true true false true ea ec ed q = let k = eqb-true (msg .kind) readKind ed in record { time-valid = ea; kind-low = omega arith; kind-high = omega arith }
+    go true true false false ea ec ed q = last (leb readKind (msg .kind)) (leb (msg .kind) trimKind) refl refl q
       where
-        last : (x y : Bool) → leb 1 (msg .kind) ≡ x → leb (msg .kind) 5 ≡ y → refuseUnless (x && y) 10 ≡ 0 → Sensible msg
+        last : (x y : Bool) → leb readKind (msg .kind) ≡ x → leb (msg .kind) trimKind ≡ y → refuseUnless (x && y) badMessage ≡ passed → Sensible msg
         last false y ex ey w = absurd (omega arith)
         last true false ex ey w = absurd (omega arith)
         last true true ex ey w =
-            record { time-valid = ea; kind-low = leb-true 1 (msg .kind) ex; kind-high = leb-true (msg .kind) 5 ey }
+            record { time-valid = ea; kind-low = leb-true readKind (msg .kind) ex; kind-high = leb-true (msg .kind) trimKind ey }
 
 -- What a message leaves.
 pub record Received (s : Settings) (g : SettingsRange s) (h : Hist s) (sent : List Item) (b : ℕ) (x : Brick) (msg : Message) (block out : List ℕ) : Type 0 where
@@ -66,7 +68,7 @@ pub record Received (s : Settings) (g : SettingsRange s) (h : Hist s) (sent : Li
   pub grows : Grows s g b h later
   pub sound : Sound s (brickAfter s x msg block)
   pub keeps : BrickInv s g later b (brickAfter s x msg block)
-  pub answers : (msg .kind ≡ 5 → ⊥) → (new : List Item) → Within sent new
+  pub answers : (msg .kind ≡ trimKind → ⊥) → (new : List Item) → Within sent new
       → ReplyInv s g later new (replyTo s b x msg) (blockAfter x (placeFor b x msg) out)
 
 -- replies: a no, and a yes of each kind
@@ -87,7 +89,7 @@ module _ (s : Settings) (g : SettingsRange s) (h : Hist s) (sent : List Item) (r
       never : r .yes ≡ true → ⊥
       never y = let z : _≡_ {A = ℕ} 0 1 = cc in omega arith
 
-  reply-order : r .kind ≡ 2 → In (promised (r .brick) (r .time)) h → ReplyInv s g h sent r block
+  reply-order : r .kind ≡ orderKind → In (promised (r .brick) (r .time)) h → ReplyInv s g h sent r block
   reply-order e p =
       record {
         brick-low = low;
@@ -100,7 +102,7 @@ module _ (s : Settings) (g : SettingsRange s) (h : Hist s) (sent : List Item) (r
         looked = λ y k. absurd (omega arith);
       }
 
-  reply-write : r .kind ≡ 4 → In (stored (r .brick) (r .time)) h → ReplyInv s g h sent r block
+  reply-write : r .kind ≡ writeKind → In (stored (r .brick) (r .time)) h → ReplyInv s g h sent r block
   reply-write e p =
       record {
         brick-low = low;
@@ -113,7 +115,7 @@ module _ (s : Settings) (g : SettingsRange s) (h : Hist s) (sent : List Item) (r
         looked = λ y k. absurd (omega arith);
       }
 
-  reply-read : r .kind ≡ 1 → In (showed (r .brick) (r .time) (r .found)) h → (r .held ≡ true → Means s h (r .found) (r .brick) block)
+  reply-read : r .kind ≡ readKind → In (showed (r .brick) (r .time) (r .found)) h → (r .held ≡ true → Means s h (r .found) (r .brick) block)
       → ReplyInv s g h sent r block
   reply-read e p f =
       record {
@@ -127,7 +129,7 @@ module _ (s : Settings) (g : SettingsRange s) (h : Hist s) (sent : List Item) (r
         looked = λ y k. absurd (omega arith);
       }
 
-  reply-look : r .kind ≡ 3 → In (promised (r .brick) (r .time)) h
+  reply-look : r .kind ≡ orderReadKind → In (promised (r .brick) (r .time)) h
       → (r .held ≡ true → (r .found < r .time) × Stands h (r .brick) (r .found) × Means s h (r .found) (r .brick) block)
       → Looked s g h sent r → ReplyInv s g h sent r block
   reply-look e p f l =
@@ -145,21 +147,21 @@ module _ (s : Settings) (g : SettingsRange s) (h : Hist s) (sent : List Item) (r
 module _ {s : Settings} {g : SettingsRange s} {h : Hist s} {sent : List Item} {b : ℕ} {x : Brick} {msg : Message} {block : List ℕ} (out : List ℕ)
     (v : Valid (quorums s g) h) (i : BrickInv s g h b x) (r : Sound s x) (z : MessageInv s g h b msg block) (ok : Sensible msg) where
   -- Read
-  read-received : msg .kind ≡ 1 → Received s g h sent b x msg block out
+  read-received : msg .kind ≡ readKind → Received s g h sent b x msg block out
   unfolding brickAfter replyTo yesTo foundFor placeFor blockAfter
   read-received e = go (readYes x) refl
     where
       same : brickAfter s x msg block ≡ x
-      same = rw (ne-eqb (msg .kind) 5 (λ q. omega (arith, q)), ne-eqb (msg .kind) 4 (λ q. omega (arith, q)), eq-eqb (msg .kind) 1 e) refl
+      same = rw (ne-eqb (msg .kind) trimKind (λ q. omega (arith, q)), ne-eqb (msg .kind) writeKind (λ q. omega (arith, q)), eq-eqb (msg .kind) readKind e) refl
 
       yes-is : yesTo s x msg ≡ readYes x
-      yes-is = rw (eq-eqb (msg .kind) 1 e) refl
+      yes-is = rw (eq-eqb (msg .kind) readKind e) refl
 
       found-is : foundFor b x msg ≡ newest x
-      found-is = rw (eq-eqb (msg .kind) 1 e) refl
+      found-is = rw (eq-eqb (msg .kind) readKind e) refl
 
       place-is : readYes x ≡ true → placeFor b x msg ≡ cond (member (msg .targets) b) (entryCount x) 0
-      place-is y = rw (eq-eqb (msg .kind) 1 e, y) refl
+      place-is y = rw (eq-eqb (msg .kind) readKind e, y) refl
 
       held-block : (p : ℕ) (a : Bool) → p ≡ cond a (entryCount x) 0 → not (eqb p 0) ≡ true → cond (eqb p 0) out (meansAt x (p - 1)) ≡ meansAt x (entryCount x - 1)
       held-block p true q d = ap (λ (k : ℕ). cond (eqb k 0) out (meansAt x (k - 1))) q ∙ rw (ne-eqb (entryCount x) 0 (λ w. omega (arith, w, r .count-low))) refl
@@ -193,15 +195,15 @@ module _ {s : Settings} {g : SettingsRange s} {h : Hist s} {sent : List Item} {b
           }
 
   -- Order
-  order-received : msg .kind ≡ 2 → Received s g h sent b x msg block out
+  order-received : msg .kind ≡ orderKind → Received s g h sent b x msg block out
   unfolding brickAfter replyTo yesTo orderedIfYes
   order-received e = go (orderYes x (msg .time)) refl
     where
       same : brickAfter s x msg block ≡ cond (orderYes x (msg .time)) (Saving.withPromise x (msg .time)) x
-      same = rw (ne-eqb (msg .kind) 5 (λ q. omega (arith, q)), ne-eqb (msg .kind) 4 (λ q. omega (arith, q)), ne-eqb (msg .kind) 1 (λ q. omega (arith, q))) refl
+      same = rw (ne-eqb (msg .kind) trimKind (λ q. omega (arith, q)), ne-eqb (msg .kind) writeKind (λ q. omega (arith, q)), ne-eqb (msg .kind) readKind (λ q. omega (arith, q))) refl
 
       yes-is : yesTo s x msg ≡ orderYes x (msg .time)
-      yes-is = rw (ne-eqb (msg .kind) 1 (λ q. omega (arith, q)), ne-eqb (msg .kind) 4 (λ q. omega (arith, q))) refl
+      yes-is = rw (ne-eqb (msg .kind) readKind (λ q. omega (arith, q)), ne-eqb (msg .kind) writeKind (λ q. omega (arith, q))) refl
 
       go : (y : Bool) → orderYes x (msg .time) ≡ y → Received s g h sent b x msg block out
       go false y =
@@ -226,21 +228,21 @@ module _ {s : Settings} {g : SettingsRange s} {h : Hist s} {sent : List Item} {b
           }
 
   -- Order-and-read
-  look-received : message b msg block ∈ sent → msg .kind ≡ 3 → Received s g h sent b x msg block out
+  look-received : message b msg block ∈ sent → msg .kind ≡ orderReadKind → Received s g h sent b x msg block out
   unfolding brickAfter replyTo yesTo orderedIfYes foundFor placeFor lookup timeFor blockAfter
   look-received was e = go (orderYes x (msg .time)) refl
     where
       same : brickAfter s x msg block ≡ cond (orderYes x (msg .time)) (Saving.withPromise x (msg .time)) x
-      same = rw (ne-eqb (msg .kind) 5 (λ q. omega (arith, q)), ne-eqb (msg .kind) 4 (λ q. omega (arith, q)), ne-eqb (msg .kind) 1 (λ q. omega (arith, q))) refl
+      same = rw (ne-eqb (msg .kind) trimKind (λ q. omega (arith, q)), ne-eqb (msg .kind) writeKind (λ q. omega (arith, q)), ne-eqb (msg .kind) readKind (λ q. omega (arith, q))) refl
 
       yes-is : yesTo s x msg ≡ orderYes x (msg .time)
-      yes-is = rw (ne-eqb (msg .kind) 1 (λ q. omega (arith, q)), ne-eqb (msg .kind) 4 (λ q. omega (arith, q))) refl
+      yes-is = rw (ne-eqb (msg .kind) readKind (λ q. omega (arith, q)), ne-eqb (msg .kind) writeKind (λ q. omega (arith, q))) refl
 
       found-is : foundFor b x msg ≡ timeFor x (placeFor b x msg)
-      found-is = rw (ne-eqb (msg .kind) 1 (λ q. omega (arith, q))) refl
+      found-is = rw (ne-eqb (msg .kind) readKind (λ q. omega (arith, q))) refl
 
       place-is : orderYes x (msg .time) ≡ true → placeFor b x msg ≡ under x (msg .max) (entryCount x)
-      place-is y = rw (ne-eqb (msg .kind) 1 (λ q. omega (arith, q)), eq-eqb (msg .kind) 3 e, y) refl
+      place-is y = rw (ne-eqb (msg .kind) readKind (λ q. omega (arith, q)), eq-eqb (msg .kind) orderReadKind e, y) refl
 
       later : Hist s
       later = promised b (msg .time) ∷ h
@@ -353,15 +355,15 @@ module _ {s : Settings} {g : SettingsRange s} {h : Hist s} {sent : List Item} {b
           }
 
   -- Write
-  write-received : length block ≡ s .size → msg .kind ≡ 4 → Received s g h sent b x msg block out
+  write-received : length block ≡ s .size → msg .kind ≡ writeKind → Received s g h sent b x msg block out
   unfolding brickAfter replyTo yesTo writtenIfYes
   write-received size e = go (writeYes s x (msg .time)) refl
     where
       same : brickAfter s x msg block ≡ cond (writeYes s x (msg .time)) (Saving.withEntry x (msg .time) block) x
-      same = rw (ne-eqb (msg .kind) 5 (λ q. omega (arith, q)), eq-eqb (msg .kind) 4 e) refl
+      same = rw (ne-eqb (msg .kind) trimKind (λ q. omega (arith, q)), eq-eqb (msg .kind) writeKind e) refl
 
       yes-is : yesTo s x msg ≡ writeYes s x (msg .time)
-      yes-is = rw (ne-eqb (msg .kind) 1 (λ q. omega (arith, q)), eq-eqb (msg .kind) 4 e) refl
+      yes-is = rw (ne-eqb (msg .kind) readKind (λ q. omega (arith, q)), eq-eqb (msg .kind) writeKind e) refl
 
       go : (y : Bool) → writeYes s x (msg .time) ≡ y → Received s g h sent b x msg block out
       go false y =
@@ -389,7 +391,7 @@ module _ {s : Settings} {g : SettingsRange s} {h : Hist s} {sent : List Item} {b
           }
 
   -- Trim
-  trim-received : msg .kind ≡ 5 → Received s g h sent b x msg block out
+  trim-received : msg .kind ≡ trimKind → Received s g h sent b x msg block out
   unfolding brickAfter
   trim-received e =
       record {
@@ -401,13 +403,13 @@ module _ {s : Settings} {g : SettingsRange s} {h : Hist s} {sent : List Item} {b
       }
     where
       same : brickAfter s x msg block ≡ trimmedTo x (msg .time)
-      same = rw (eq-eqb (msg .kind) 5 e) refl
+      same = rw (eq-eqb (msg .kind) trimKind e) refl
 
   -- any message
   pub any-received : message b msg block ∈ sent → length block ≡ s .size → Received s g h sent b x msg block out
-  any-received was size = by (ℕ-discrete (msg .kind) 1) (ℕ-discrete (msg .kind) 2) (ℕ-discrete (msg .kind) 3) (ℕ-discrete (msg .kind) 4)
+  any-received was size = by (ℕ-discrete (msg .kind) readKind) (ℕ-discrete (msg .kind) orderKind) (ℕ-discrete (msg .kind) orderReadKind) (ℕ-discrete (msg .kind) writeKind)
     where
-      by : Dec (msg .kind ≡ 1) → Dec (msg .kind ≡ 2) → Dec (msg .kind ≡ 3) → Dec (msg .kind ≡ 4) → Received s g h sent b x msg block out
+      by : Dec (msg .kind ≡ readKind) → Dec (msg .kind ≡ orderKind) → Dec (msg .kind ≡ orderReadKind) → Dec (msg .kind ≡ writeKind) → Received s g h sent b x msg block out
       by (yes e) b c d = read-received e
       by (no a) (yes e) c d = order-received e
       by (no a) (no b) (yes e) d = look-received was e

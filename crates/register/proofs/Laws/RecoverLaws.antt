@@ -9,8 +9,9 @@ use native.Mathlib.Decide.{decLt, ℕ-discrete}
 use lib.Dec.{T, eqb}
 use lib.ListN.{getD}
 use borrow.Author.Tests.{eqb-true, eq-eqb}
+use Rattle.message.specs.Kinds.{orderReadKind, writeKind}
 use Rattle.settings.specs.Count.{count}
-use Rattle.settings.specs.Ranges.{quorum}
+use Rattle.settings.specs.Ranges.{quorum, brickPlaces}
 use Rattle.settings.specs.Ranges.{SettingsRange}
 use Rattle.byte_lists.proofs.Laws.BoolLaws.{and-left, and-right}
 use Rattle.settings.specs.declared.Settings.{Settings}
@@ -18,9 +19,9 @@ use Rattle.message.specs.Flags.{member, members}
 use Rattle.erasure.specs.Code.{codedOf}
 use Rattle.erasure.specs.Code.{blockOf, Stripe}
 use Rattle.byte_lists.specs.Each.{some}
-use Rattle.coord_record.specs.Records.{noBricks}
+use Rattle.coord_record.specs.Records.{noBricks, idleKind, readingKind}
 use Rattle.coord_tally.specs.Counting.{saidNo, highest, atTime, atTimes, picked}
-use Rattle.coord_apply.specs.Acts.{stripeFrom, roundMessage, nextOp, nextRound}
+use Rattle.coord_apply.specs.Acts.{stripeFrom, roundMessage, nextOp, opened, nextRound}
 use Rattle.coord_apply.specs.Answers.{Buffered}
 use Rattle.coord_tally.proofs.Laws.RowSets.{picked-gave}
 use Rattle.coord_laws.proofs.Laws.CodedBlockLaws.{stripe-read}
@@ -34,6 +35,7 @@ use Rattle.order.proofs.Laws.FactLaws.{ok-at}
 use Rattle.order.proofs.Laws.GoneLaws.{round-gone}
 use Rattle.order.proofs.Laws.ValueLaws.{val-up, one-value}
 use Rattle.register.specs.Runs.{Item}
+use Rattle.register.proofs.Laws.BegunLaws.{begun-read, same-begun, known-begun, reads-begun}
 use Rattle.register.proofs.Laws.Invariant.{quorums, Hist, Means, Stands, ItemInv, CountedInv, Looked, Running, CoordinatorInv}
 use Rattle.register.proofs.Laws.TurnLaws.{turns-not, TurnedRound}
 use Rattle.register.proofs.Laws.RoundLaws.{opens}
@@ -79,29 +81,30 @@ abbrev pub topOf : Settings → Buffered → ℕ
 topOf s k = highest (k .state .tally .held) (k .state .tally .found) (s .n)
 
 module _ (s : Settings) (g : SettingsRange s) (h : Hist s) (sent : List Item) (c : ℕ) (k : Buffered) (v : Valid (quorums s g) h)
-    (i : CoordinatorInv s g h sent c k) (items : (z : Item) → z ∈ sent → ItemInv s g h sent z) (n : k .state .op .kind ≡ 0 → ⊥) where
+    (i : CoordinatorInv s g h sent c k) (items : (z : Item) → z ∈ sent → ItemInv s g h sent z) (n : k .state .op .kind ≡ idleKind → ⊥) where
   -- a round of Order-and-read with a bound from which on all is gone
-  pub does-look : (bound : ℕ) → (k .state .op .phase ≡ 4 → ⊥) → ((u : ℕ) → bound ≤ u → u < k .state .op .time → Gone (quorums s g) h u)
-      → TurnedRound s g h sent c (nextRound k 3 bound noBricks (k .stripe) [])
+  pub does-look : (bound : ℕ) → (k .state .op .phase ≡ writeKind → ⊥) → ((u : ℕ) → bound ≤ u → u < k .state .op .time → Gone (quorums s g) h u)
+      → TurnedRound s g h sent c (nextRound k orderReadKind bound noBricks (k .stripe) [])
   does-look bound phase gone =
       let r = now s g h sent c k v i items n in
-      opens s g h sent c k i n h 3 bound noBricks (k .stripe) []
+      opens s g h sent c k i n h orderReadKind bound noBricks (k .stripe) []
       (turns-not s g c h v [] refl)
       (λ u w. w)
       (r .unended)
       (λ p. r .unsent phase)
-      (r .writes)
+      (unfold nextRound opened nextOp in same-begun s _ k refl refl)
+      (r .proper)
       (λ e u l m. gone u l m)
       (λ e. absurd (omega (arith, e)))
       (λ b l. unfold roundMessage nextOp in
       (record {
         brick-low = l;
-        asks = λ e. r .known;
+        asks = λ e. known-begun r;
         stores = λ e. absurd (omega (arith, e));
         trims = λ e. absurd (omega (arith, e));
       }))
 
-  module _ (phase : k .state .op .phase ≡ 3) (yeses : some (saidNo (k .state .tally .counted) (k .state .tally .granted)) (s .n) ≡ false)
+  module _ (phase : k .state .op .phase ≡ orderReadKind) (yeses : some (saidNo (k .state .tally .counted) (k .state .tally .granted)) (s .n) ≡ false)
       (enough : quorum (s .n) (s .m) ≤ members (k .state .tally .counted) (s .n)) where
     abbrev counts-at : (b : ℕ) → member (k .state .tally .counted) b ≡ true → CountedInv s sent k b
     counts-at = now s g h sent c k v i items n .counts
@@ -194,24 +197,25 @@ module _ (s : Settings) (g : SettingsRange s) (h : Hist s) (sent : List Item) (c
         )
 
     -- the Write round of a recovered stripe
-    pub does-recover : k .state .op .kind ≡ 1 → s .m ≤ count (atTimes (k .state .tally .held) (k .state .tally .found) (topOf s k)) (s .n)
+    pub does-recover : k .state .op .kind ≡ readingKind → s .m ≤ count (atTimes (k .state .tally .held) (k .state .tally .found) (topOf s k)) (s .n)
         → TurnedRound s g h sent c
-        (nextRound k 4 0 (picked (k .state .tally .held) (k .state .tally .found) (topOf s k) (s .n) (s .m))
+        (nextRound k writeKind 0 (picked (k .state .tally .held) (k .state .tally .found) (topOf s k) (s .n) (s .m))
         (stripeFrom (s .m) (s .size) (picked (k .state .tally .held) (k .state .tally .found) (topOf s k) (s .n) (s .m)) (k .blocks))
         (codedOf (s .n) (s .m) (s .size) (stripeFrom (s .m) (s .size) (picked (k .state .tally .held) (k .state .tally .found) (topOf s k) (s .n) (s .m)) (k .blocks))))
     unfolding picked changed
     does-recover kind many =
         launches s g h sent c k v i items n (over (topOf s k)) row stripe
         (record {
-          known = r .known;
+          known = known-begun r;
           running = r .unended;
           new = r .unsent (λ e. omega (arith, e));
           order = promised-quorum;
           source = record { below = first .0; known = launched-or-zero (first .1); between = λ u l w. gone-above u l w };
         })
         (subst (Val (launched (k .state .op .time) (over (topOf s k)) ∷ h) (k .state .op .time)) (sym (d .3))
-        (onto in-top (in-above (r .reads kind)) (val-up (above whole) (d .1)) refl))
-        (subst (Stripe (s .m) (s .size)) (sym (d .3)) (d .2)) (λ e. absurd (omega (arith, e)))
+        (onto in-top (in-above (reads-begun r kind)) (val-up (above whole) (d .1)) refl))
+        (subst (Stripe (s .m) (s .size)) (sym (d .3)) (d .2))
+        (unfold nextRound opened nextOp in begun-read s _ kind ∙ sym (begun-read s k kind))
       where
         p : ℕ → Bool
         p = atTimes (k .state .tally .held) (k .state .tally .found) (topOf s k)
@@ -225,7 +229,7 @@ module _ (s : Settings) (g : SettingsRange s) (h : Hist s) (sent : List Item) (c
         r : Running s g h sent c k
         r = now s g h sent c k v i items n
 
-        few : s .m ≤ 16
+        few : s .m ≤ brickPlaces
         few = let a = g .code .m-high in let b = g .code .n-high in omega arith
 
         passes : (j : ℕ) → j < s .m → p (getD row j 0) ≡ true

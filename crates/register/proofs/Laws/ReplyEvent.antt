@@ -3,14 +3,16 @@ use mathlib.Core.Path.{_≡_, refl, sym, subst}
 use mathlib.Core.Logic.{inl, inr}
 use mathlib.Core.Bool.{Bool, true, false, cond, _||_}
 use mathlib.Core.List.{List, []}
-use Prim.Native.Nat.{ℕ, _*_, _%_, _≤_, _<_}
+use Prim.Native.Nat.{ℕ, _*_, _≤_, _<_}
 use native.Mathlib.Omega.{arith}
 use lib.Dec.{leb, ltb, eqb}
 use borrow.Author.Tests.{leb-true, leb-false, ltb-false}
+use Rattle.coord_record.specs.Records.{idleKind, readingKind}
+use Rattle.message.specs.Kinds.{readKind, lastRound}
 use Rattle.settings.specs.Count.{count}
 use Rattle.settings.specs.Ranges.{quorum}
 use Rattle.settings.specs.Ranges.{SettingsRange}
-use Rattle.settings.specs.Times.{noUpperEnd}
+use Rattle.settings.specs.Times.{noUpperEnd, coordinatorOf}
 use Rattle.settings.specs.declared.Settings.{Settings}
 use Rattle.message.specs.Flags.{members}
 use Rattle.message.specs.declared.Reply.{Reply}
@@ -38,7 +40,7 @@ use Rattle.register.proofs.Laws.DecideLaws.{sound-op, does-abort, does-
 use Rattle.register.proofs.Laws.RecoverLaws.{topOf, does-look, gone-from, does-recover}
 
 module _ (s : Settings) (g : SettingsRange s) (h : Hist s) (sent : List Item) (c : ℕ) (k : Buffered) (v : Valid (quorums s g) h)
-    (i : CoordinatorInv s g h sent c k) (items : (z : Item) → z ∈ sent → ItemInv s g h sent z) (n : k .state .op .kind ≡ 0 → ⊥)
+    (i : CoordinatorInv s g h sent c k) (items : (z : Item) → z ∈ sent → ItemInv s g h sent z) (n : k .state .op .kind ≡ idleKind → ⊥)
     (low : k .state .op .first < s .n) (enough : quorum (s .n) (s .m) ≤ members (k .state .tally .counted) (s .n)) where
   turned : Decision → Type 0
   turned d = TurnedRound s g h sent c (acted (s .n) (s .m) (s .size) k d)
@@ -68,7 +70,7 @@ module _ (s : Settings) (g : SettingsRange s) (h : Hist s) (sent : List Item) (c
   does-decide (looking kind phase _ _) high =
       subst turned (sym (decided-looking (s .n) (s .m) (k .state .op) (k .state .tally) phase))
       (go (some (saidNo (k .state .tally .counted) (k .state .tally .granted)) (s .n)) (eqb (members (k .state .tally .held) (s .n)) 0)
-      (leb (s .m) (count (atTimes (k .state .tally .held) (k .state .tally .found) (topOf s k)) (s .n))) (eqb (topOf s k) 0) (ltb (k .state .op .round) 1000) refl refl)
+      (leb (s .m) (count (atTimes (k .state .tally .held) (k .state .tally .found) (topOf s k)) (s .n))) (eqb (topOf s k) 0) (ltb (k .state .op .round) lastRound) refl refl)
     where
       abort : TurnedRound s g h sent c (acted (s .n) (s .m) (s .size) k Abort)
       abort = does-abort s g h sent c k v i items n
@@ -124,7 +126,7 @@ unfolding arriving
 reply-arrives s g h r i a block was = go (takeStep (s .n) (s .m) (s .size) k a block (s .n * s .size)) refl
   where
     c : ℕ
-    c = a .time % 16
+    c = coordinatorOf (a .time)
 
     k : Buffered
     k = r .world .coordinators c
@@ -140,21 +142,21 @@ reply-arrives s g h r i a block was = go (takeStep (s .n) (s .m) (s .size) k a b
         stays s g h (r .world .sent) c after (counting-keeps s g h (r .world .sent) c k a block (s .n * s .size) w (i .coordinators c) t was) (i .valid)
     decides w t false e =
         let o = sound-op s k (t .takes .parts) in
-        let p : 1 ≤ k .state .op .phase = omega (arith, t .reply .kind-low, t .answer .of-phase) in
+        let p : readKind ≤ k .state .op .phase = omega (arith, t .reply .kind-low, t .answer .of-phase) in
         let f = o .fits p in
         unfold counting withTally in
         (does-decide s g h (r .world .sent) c after (i .valid) (counting-keeps s g h (r .world .sent) c k a block (s .n * s .size) w (i .coordinators c) t was) (i .items)
         (busy f) (o .first-low) (ltb-false (members (after .state .tally .counted) (s .n)) (quorum (s .n) (s .m)) e) f
         (o .time-high (kind-low f)))
       where
-        kind-low : Fit (k .state .op) → 1 ≤ k .state .op .kind
+        kind-low : Fit (k .state .op) → readingKind ≤ k .state .op .kind
         kind-low (reading q p _) = omega arith
         kind-low (looking q p _ _) = omega arith
         kind-low (restoring q p _) = omega arith
         kind-low (ordering q p _ _) = omega arith
         kind-low (storing q p _) = omega arith
 
-        busy : Fit (k .state .op) → k .state .op .kind ≡ 0 → ⊥
+        busy : Fit (k .state .op) → k .state .op .kind ≡ idleKind → ⊥
         busy f q = omega (arith, kind-low f)
 
     go : (p : Step) → takeStep (s .n) (s .m) (s .size) k a block (s .n * s .size) ≡ p → Goes s g r (coordinated s (r .world) c p)

@@ -2,22 +2,24 @@
 use mathlib.Core.Path.{_≡_, refl, sym, ap, subst, _∙_}
 use mathlib.Core.Logic.{_⊎_, inl, inr}
 use mathlib.Core.List.{List, [], _∷_, _++_, append-nil, List·Memᴰ·not-nil, List·Memᴰ·append-cases}
-use Prim.Native.Nat.{ℕ, _+_, _%_, _≤_, _<_}
+use Prim.Native.Nat.{ℕ, _+_, _≤_, _<_}
 use native.Mathlib.Omega.{arith}
+use Rattle.message.specs.Kinds.{orderReadKind, writeKind}
+use Rattle.settings.specs.Times.{coordinatorOf}
 use Rattle.settings.specs.Ranges.{SettingsRange}
 use Rattle.settings.specs.declared.Settings.{Settings}
 use Rattle.message.specs.declared.Message.{Message}
 use Rattle.erasure.specs.Code.{Stripe}
-use Rattle.coord_record.specs.Records.{nothingCounted, noBricks, noOp, idleWith}
+use Rattle.coord_record.specs.Records.{nothingCounted, noBricks, noOp, idleWith, idleKind, writingKind}
 use Rattle.coord_apply.specs.Acts.{roundMessage, nextOp, opened, nextRound, ending}
 use Rattle.coord_apply.specs.Answers.{Buffered, Broadcast, nothingSeen}
 use Rattle.coord_laws.proofs.Laws.SoundnessLaws.{none-sized}
-use Rattle.order.specs.Claim.{Action, write, _∈_}
+use Rattle.order.specs.Claim.{Action, _∈_}
 use Rattle.order.specs.Facts.{End, Fact, began, ended, shows}
 use Rattle.order.specs.Places.{In}
 use Rattle.order.proofs.Laws.PlaceLaws.{in-suf}
 use Rattle.order.specs.Valid.{Began, Launched, Ended, Val, Gone, OkEnded, Valid}
-use Rattle.register.specs.Runs.{plain, Item, message, reply, seenOf, blockFor, broadcasts}
+use Rattle.register.specs.Runs.{plain, Item, message, reply, begunKind, seenOf, blockFor, broadcasts}
 use Rattle.register.proofs.Laws.Invariant.{quorums, Hist, MessageInv, ItemInv, Asked, Running, CoordinatorInv}
 use Rattle.register.proofs.Laws.UpLaws.{in-cons}
 use Rattle.register.proofs.Laws.TurnLaws.{time-of, kind-of, round-of, Turns, turns-not, turns-ended, in-broadcast, TurnedRound}
@@ -42,11 +44,11 @@ module _ (s : Settings) (g : SettingsRange s) (h : Hist s) (sent : List Item) (c
 
   -- the operation ends and its coordinator is idle
   pub ends : Valid (quorums s g) h → (e : End (plain s)) (stripe : List ℕ) (more : List Broadcast) (what : ℕ) (bricks : List ℕ)
-      → k .state .op .time % 16 ≡ c
+      → coordinatorOf (k .state .op .time) ≡ c
       → OkEnded (quorums s g) h (k .state .op .time) e
-      → seenOf s (ending k stripe more what bricks .seen) stripe ≡ shows {P = plain s} (ended (k .state .op .time) e)
+      → seenOf s (ending k stripe more what bricks .seen) (ending k stripe more what bricks .next) ≡ shows {P = plain s} (ended (k .state .op .time) e)
       → ((z : Item) → z ∈ broadcasts s more → ItemInv s g (ended (k .state .op .time) e ∷ h) (sent ++ broadcasts s more) z)
-      → ((b : ℕ) (msg : Message) (block : List ℕ) → message b msg block ∈ broadcasts s more → msg .time % 16 ≡ c)
+      → ((b : ℕ) (msg : Message) (block : List ℕ) → message b msg block ∈ broadcasts s more → coordinatorOf (msg .time) ≡ c)
       → TurnedRound s g h sent c (ending k stripe more what bricks)
   unfolding ending idleWith noOp
   ends v e stripe more what bricks own o shown items owns =
@@ -68,20 +70,21 @@ module _ (s : Settings) (g : SettingsRange s) (h : Hist s) (sent : List Item) (c
       old u a (inr q) = (a, q)
 
   -- the next round is sent
-  pub opens : (n : k .state .op .kind ≡ 0 → ⊥) (h′ : Hist s) (phase max : ℕ) (bricks stripe coded : List ℕ)
+  pub opens : (n : k .state .op .kind ≡ idleKind → ⊥) (h′ : Hist s) (phase max : ℕ) (bricks stripe coded : List ℕ)
       → Turns s g c h h′ []
       → ((u : ℕ) → Began h′ u → Began h u)
       → (¬ Ended h′ (k .state .op .time))
-      → ((phase ≡ 4 → ⊥) → ¬ Launched h′ (k .state .op .time))
-      → (k .state .op .kind ≡ 2 → In (began (k .state .op .time) (write stripe)) h′ × Stripe (s .m) (s .size) stripe)
-      → (phase ≡ 3 → (u : ℕ) → max ≤ u → u < k .state .op .time → Gone (quorums s g) h′ u)
-      → (phase ≡ 4 → Launched h′ (k .state .op .time) × Val h′ (k .state .op .time) stripe × Stripe (s .m) (s .size) stripe)
+      → ((phase ≡ writeKind → ⊥) → ¬ Launched h′ (k .state .op .time))
+      → begunKind s (nextRound k phase max bricks stripe coded .next) ≡ begunKind s k
+      → (k .state .op .kind ≡ writingKind → Stripe (s .m) (s .size) stripe)
+      → (phase ≡ orderReadKind → (u : ℕ) → max ≤ u → u < k .state .op .time → Gone (quorums s g) h′ u)
+      → (phase ≡ writeKind → Launched h′ (k .state .op .time) × Val h′ (k .state .op .time) stripe × Stripe (s .m) (s .size) stripe)
       → ((b : ℕ) → b < s .n
       → MessageInv s g h′ b (roundMessage (nextOp (k .state .op) phase max) noBricks)
       (blockFor s (record { message = roundMessage (nextOp (k .state .op) phase max) noBricks; blocks = coded }) b))
       → TurnedRound s g h sent c (nextRound k phase max bricks stripe coded)
   unfolding nextRound opened seenOf nothingSeen nothingCounted nextOp roundMessage
-  opens n h′ phase max bricks stripe coded turns same unended unsent writes cleared storing messages =
+  opens n h′ phase max bricks stripe coded turns same unended unsent kept proper cleared storing messages =
       record {
         later = h′;
         turns = turns;
@@ -89,7 +92,7 @@ module _ (s : Settings) (g : SettingsRange s) (h : Hist s) (sent : List Item) (c
         items = λ z m. let w = in-broadcast s sending z m in
             subst (ItemInv s g h′ (sent ++ broadcasts s (sending ∷ []))) (sym (w .2)) (messages (w .0) (w .1));
         own = λ b msg block m. let w = in-broadcast s sending (message b msg block) m in
-            let e : msg .time ≡ k .state .op .time = unfold time-of in ap time-of (w .2) in ap (λ (u : ℕ). u % 16) e ∙ r .own;
+            let e : msg .time ≡ k .state .op .time = unfold time-of in ap time-of (w .2) in ap coordinatorOf e ∙ r .own;
       }
     where
       r : Running s g h sent c k
@@ -105,7 +108,7 @@ module _ (s : Settings) (g : SettingsRange s) (h : Hist s) (sent : List Item) (c
       asked b msg block m e q = go (List·Memᴰ·append-cases sent m)
         where
           go : (message b msg block ∈ sent) ⊎ (message b msg block ∈ broadcasts s (sending ∷ []))
-              → (msg .round ≤ k .state .op .round + 1) × (msg .round ≡ k .state .op .round + 1 → (phase ≡ 3) × (msg .max ≡ max))
+              → (msg .round ≤ k .state .op .round + 1) × (msg .round ≡ k .state .op .round + 1 → (phase ≡ orderReadKind) × (msg .max ≡ max))
           go (inl p) = let w = r .asked b msg block p e q in (omega (arith, w .0), λ f. absurd (omega (arith, f, w .0)))
           go (inr p) =
               let w = in-broadcast s sending (message b msg block) p in
@@ -135,9 +138,8 @@ module _ (s : Settings) (g : SettingsRange s) (h : Hist s) (sent : List Item) (c
       running =
           record {
             own = r .own;
-            known = (r .known .0, in-suf (turns .longer) (r .known .1));
-            reads = λ e. in-suf (turns .longer) (r .reads e);
-            writes = writes;
+            begun = subst (λ (a : Action (List ℕ)). In (began (k .state .op .time) a) h′) (sym kept) (in-suf (turns .longer) (r .begun));
+            proper = proper;
             unended = unended;
             unsent = unsent;
             counts = λ b m. absurd (none-member b m);

@@ -1,18 +1,18 @@
--- A read or a write starts, and a coordinator crashes: what holds of the world goes on to hold.
+-- A read or a write starts: what holds of the world goes on to hold.
 use mathlib.Core.Path.{_≡_, refl, sym, ap, subst, _∙_}
 use mathlib.Core.Logic.{_⊎_, inl, inr}
 use mathlib.Core.Bool.{Bool, true, false, cond, _&&_}
 use mathlib.Core.List.{List, [], _∷_, _++_, List·Memᴰ·append-cases}
-use Prim.Native.Nat.{ℕ, zero, suc, _*_, _%_, _≤_, _<_}
+use Prim.Native.Nat.{ℕ, _*_, _≤_, _<_}
 use native.Mathlib.Omega.{arith}
 use lib.Dec.{leb, eqb}
 use lib.ListN.{length, getD, replicate}
-use borrow.Author.Tests.{leb-true, eqb-true, eq-eqb, ne-eqb}
-use Rattle.settings.specs.Ranges.{codeRefusal}
+use borrow.Author.Tests.{leb-true, eqb-true}
+use Rattle.settings.specs.Ranges.{codeRefusal, brickPlaces}
 use Rattle.settings.specs.Ranges.{SettingsRange}
 use Rattle.byte_lists.proofs.Laws.BoolLaws.{and-left}
-use Rattle.settings.specs.Refusal.{refuseUnless}
-use Rattle.settings.specs.Times.{timeOf, drawOf}
+use Rattle.settings.specs.Refusal.{refuseUnless, badLength, passed}
+use Rattle.settings.specs.Times.{timeOf, drawOf, coordinatorOf}
 use Rattle.settings.proofs.Laws.TimeLaws.{gave, drawn-above, drawn-own}
 use Rattle.settings.specs.declared.Clock.{Clock}
 use Rattle.settings.specs.declared.Draw.{Draw}
@@ -20,9 +20,11 @@ use Rattle.settings.specs.declared.Draw.the-variants.{Drawn, Refused}
 use Rattle.settings.specs.declared.Settings.{Settings}
 use Rattle.settings.proofs.Laws.RefusalLaws.{tested}
 use Rattle.byte_lists.specs.Little.{Bytes}
+use Rattle.byte_lists.proofs.Laws.LittleLaws.{byte-below}
 use Rattle.message.specs.Flags.{member}
+use Rattle.message.specs.Kinds.{firstRound, readKind, orderKind, orderReadKind}
 use Rattle.erasure.specs.Code.{Stripe}
-use Rattle.coord_record.specs.Records.{nothingCounted, noBricks}
+use Rattle.coord_record.specs.Records.{nothingCounted, noBricks, readingKind, writingKind}
 use Rattle.coord_tally.specs.Counting.{targetFlags}
 use Rattle.coord_apply.specs.Acts.{roundMessage, firstOp, starting}
 use Rattle.coord_apply.specs.Answers.{Buffered, Broadcast, Went, refused, afterChecks}
@@ -30,13 +32,13 @@ use Rattle.coord_refusals.specs.Checks.{writeRefusal, readRefusal}
 use Rattle.coordinator.specs.Routines.{drawnThen, writeStep, readStep}
 use Rattle.coord_laws.proofs.Laws.SoundnessLaws.{none-sized}
 use Rattle.coord_laws.proofs.Laws.TallyLaws.{zeros-at}
-use Rattle.order.specs.Claim.{Action, read, write, Seen, _∈_}
+use Rattle.order.specs.Claim.{Action, Seen, _∈_}
 use Rattle.order.specs.Facts.{Source, End, Fact, began, launched, ended}
 use Rattle.order.specs.Places.{In}
 use Rattle.order.proofs.Laws.PlaceLaws.{suf-below, in-suf, in-top}
 use Rattle.order.specs.Valid.{Began, Valid}
 use Rattle.order.proofs.Laws.FactLaws.{ok-at}
-use Rattle.register.specs.Runs.{plain, Item, message, Moved, seenOf, blockFor, broadcasts, coordinated}
+use Rattle.register.specs.Runs.{plain, Item, message, Moved, begunKind, seenOf, blockFor, broadcasts, coordinated}
 use Rattle.register.proofs.Laws.Invariant.{quorums, Hist, MessageInv, ItemInv, Asked, Running, CoordinatorInv, Inv}
 use Rattle.register.proofs.Laws.UpLaws.{in-cons}
 use Rattle.register.proofs.Laws.Invariant.{Goes}
@@ -44,21 +46,14 @@ use Rattle.register.proofs.Laws.BrickEvent.{first-passed}
 use Rattle.register.proofs.Laws.TurnLaws.{time-of, kind-of, Turns, turns-began, in-broadcast, TurnedRound, goes-turned, goes-refused}
 
 -- no brick is counted in a new round
-pub none-member : (b : ℕ) → member (replicate 16 0) b ≡ true → ⊥
+pub none-member : (b : ℕ) → member (replicate brickPlaces 0) b ≡ true → ⊥
 unfolding member
-none-member b e = let w = zeros-at 16 b in let q = eqb-true (getD (replicate 16 0) b 0) 1 e in omega arith
-
--- a write's bytes
-pub byte-below : (l : List ℕ) → Bytes l → (i : ℕ) → getD l i 0 < 256
-unfolding Bytes
-byte-below [] b i = omega arith
-byte-below (x ∷ l) b zero = b .0
-byte-below (x ∷ l) b (suc i) = byte-below l (b .1) i
+none-member b e = let w = zeros-at brickPlaces b in let q = eqb-true (getD (replicate brickPlaces 0) b 0) 1 e in omega arith
 
 module _ (s : Settings) (g : SettingsRange s) (h : Hist s) (sent : List Item) (c : ℕ) (k : Buffered) (v : Valid (quorums s g) h)
     (i : CoordinatorInv s g h sent c k) (items : (z : Item) → z ∈ sent → ItemInv s g h sent z)
     (reading t : ℕ) (clock : Clock) (d : drawOf (k .state .clock) reading ≡ Drawn t clock) where
-  own-time : t % 16 ≡ c
+  own-time : coordinatorOf t ≡ c
   own-time = drawn-own (k .state .clock) reading t clock d ∙ i .number
 
   -- the time is new
@@ -74,7 +69,7 @@ module _ (s : Settings) (g : SettingsRange s) (h : Hist s) (sent : List Item) (c
   time-low = let b = drawn-above (k .state .clock) reading t clock d in omega arith
 
   -- a start in its first round: a Read or an Order round
-  started : (kind phase first : ℕ) (stripe targets : List ℕ) → phase ≤ 2 → (kind ≡ 2 → Stripe (s .m) (s .size) stripe)
+  started : (kind phase first : ℕ) (stripe targets : List ℕ) → phase ≤ orderKind → (kind ≡ writingKind → Stripe (s .m) (s .size) stripe)
       → TurnedRound s g h sent c (starting k clock (firstOp kind phase t first) stripe targets)
   unfolding starting firstOp seenOf nothingCounted roundMessage timeOf
   started kind phase first stripe targets low proper =
@@ -89,17 +84,30 @@ module _ (s : Settings) (g : SettingsRange s) (h : Hist s) (sent : List Item) (c
         };
         items = λ z m. let w = in-broadcast s sending z m in subst (ItemInv s g later (sent ++ broadcasts s (sending ∷ []))) (sym (w .2)) (asks (w .0) (w .1));
         own = λ b msg block m. let w = in-broadcast s sending (message b msg block) m in
-            let e : msg .time ≡ t = unfold time-of in ap time-of (w .2) in ap (λ (u : ℕ). u % 16) e ∙ own-time;
+            let e : msg .time ≡ t = unfold time-of in ap time-of (w .2) in ap coordinatorOf e ∙ own-time;
       }
     where
+      next : Buffered
+      next =
+          record {
+            state = record {
+              clock = clock;
+              op = record { kind = kind; phase = phase; time = t; round = firstRound; max = 0; first = first };
+              tally = nothingCounted;
+              bricks = noBricks;
+            };
+            blocks = k .blocks;
+            stripe = stripe;
+          }
+
       action : Action (List ℕ)
-      action = cond (eqb kind 1) read (write stripe)
+      action = begunKind s next
 
       later : Hist s
       later = began t action ∷ h
 
       sending : Broadcast
-      sending = record { message = record { kind = phase; time = t; round = 1; max = 0; targets = targets }; blocks = [] }
+      sending = record { message = record { kind = phase; time = t; round = firstRound; max = 0; targets = targets }; blocks = [] }
 
       turns : Turns s g c h later (Seen.began t action ∷ [])
       turns = turns-began s g c h v t action (record { positive = time-low; new = λ a w. new-time (a, w) }) own-time (Seen.began t action ∷ []) refl
@@ -113,7 +121,7 @@ module _ (s : Settings) (g : SettingsRange s) (h : Hist s) (sent : List Item) (c
             trims = λ e. absurd (omega arith);
           }
 
-      used : (u : ℕ) → u % 16 ≡ c → (a : Action (List ℕ)) → (_≡_ {A = Fact (plain s)} (began u a) (began t action)) ⊎ In (began u a) h
+      used : (u : ℕ) → coordinatorOf u ≡ c → (a : Action (List ℕ)) → (_≡_ {A = Fact (plain s)} (began u a) (began t action)) ⊎ In (began u a) h
           → u ≤ timeOf (clock .last) c
       used u m a (inl q) =
           let e : u ≡ t = cc in
@@ -136,26 +144,20 @@ module _ (s : Settings) (g : SettingsRange s) (h : Hist s) (sent : List Item) (c
       launched-not e (inl q) = let z : _≡_ {A = ℕ} 0 1 = cc in omega arith
       launched-not e (inr q) = let w = ok-at (q .1) v .known in new-time (w .0, in-suf (suf-below (q .1)) (w .1))
 
-      asked : Asked (sent ++ broadcasts s (sending ∷ [])) t 1 phase 0
+      asked : Asked (sent ++ broadcasts s (sending ∷ [])) t firstRound phase 0
       asked b msg block m e q = go (List·Memᴰ·append-cases sent m)
         where
-          go : (message b msg block ∈ sent) ⊎ (message b msg block ∈ broadcasts s (sending ∷ [])) → (msg .round ≤ 1) × (msg .round ≡ 1 → (phase ≡ 3) × (msg .max ≡ 0))
+          go : (message b msg block ∈ sent) ⊎ (message b msg block ∈ broadcasts s (sending ∷ [])) → (msg .round ≤ firstRound) × (msg .round ≡ firstRound → (phase ≡ orderReadKind) × (msg .max ≡ 0))
           go (inl p) = absurd (new-time (subst (Began h) q (items (message b msg block) p .asks (omega arith))))
           go (inr p) = let w = in-broadcast s sending (message b msg block) p in
               let f : msg .kind ≡ phase = unfold kind-of in ap kind-of (w .2) in absurd (omega arith)
 
-      running : Running s g later (sent ++ broadcasts s (sending ∷ [])) c
-          (record {
-            state = record { clock = clock; op = record { kind = kind; phase = phase; time = t; round = 1; max = 0; first = first }; tally = nothingCounted; bricks = noBricks };
-            blocks = k .blocks;
-            stripe = stripe;
-          })
+      running : Running s g later (sent ++ broadcasts s (sending ∷ [])) c next
       running =
           record {
             own = own-time;
-            known = (action, in-top);
-            reads = λ e. subst (λ (a : Action (List ℕ)). In (began t a) later) (rw (eq-eqb kind 1 e) refl) in-top;
-            writes = λ e. (subst (λ (a : Action (List ℕ)). In (began t a) later) (rw (ne-eqb kind 1 (λ q. omega (arith, q))) refl) in-top, proper e);
+            begun = in-top;
+            proper = proper;
             unended = λ w. ended-not (w .0) (in-cons (w .1));
             unsent = λ p w. launched-not (w .0) (in-cons (w .1));
             counts = λ b m. absurd (none-member b m);
@@ -166,15 +168,15 @@ module _ (s : Settings) (g : SettingsRange s) (h : Hist s) (sent : List Item) (c
           }
 
 -- checks that pass
-pub passes : (k : ℕ) → leb k 0 ≡ true → k ≡ 0
-passes k e = let w = leb-true k 0 e in omega arith
+pub passes : (k : ℕ) → leb k passed ≡ true → k ≡ passed
+passes k e = let w = leb-true k passed e in omega arith
 
 module _ (s : Settings) (g : SettingsRange s) (h : Hist s) (r : Moved s) (i : Inv s g h r) (c : ℕ) where
   -- a write starts
   pub write-starts : (reading : ℕ) (content : List ℕ) → Bytes content
       → Goes s g r (coordinated s (r .world) c (writeStep (s .n) (s .m) (s .size) (r .world .coordinators c) reading content))
   unfolding writeStep afterChecks drawnThen writeRefusal
-  write-starts reading content small = go (leb refusal 0) refl
+  write-starts reading content small = go (leb refusal passed) refl
     where
       k : Buffered
       k = r .world .coordinators c
@@ -183,28 +185,28 @@ module _ (s : Settings) (g : SettingsRange s) (h : Hist s) (r : Moved s) (i : In
       refusal = writeRefusal (s .n) (s .m) (s .size) (k .state) reading (length content) (length (k .stripe))
 
       begin : ℕ → Clock → Went
-      begin time clock = starting k clock (firstOp 2 2 time 0) content noBricks
+      begin time clock = starting k clock (firstOp writingKind orderKind time 0) content noBricks
 
       draws : length content ≡ s .m * s .size → (d : Draw) → drawOf (k .state .clock) reading ≡ d → Goes s g r (coordinated s (r .world) c (drawnThen d begin))
       draws l (Refused number) e = goes-refused s g h r i c number
       draws l (Drawn t clock) e =
           goes-turned s g h r i c (begin t clock)
-          (started s g h (r .world .sent) c k (i .valid) (i .coordinators c) (i .items) reading t clock e 2 2 0 content noBricks (omega arith)
+          (started s g h (r .world .sent) c k (i .valid) (i .coordinators c) (i .items) reading t clock e writingKind orderKind 0 content noBricks (omega arith)
           (λ _. record { pos = g .code .size-low; length-is = l; small = byte-below content small }))
 
-      go : (a : Bool) → leb refusal 0 ≡ a → Goes s g r (coordinated s (r .world) c (cond a (drawnThen (drawOf (k .state .clock) reading) begin) (refused refusal)))
+      go : (a : Bool) → leb refusal passed ≡ a → Goes s g r (coordinated s (r .world) c (cond a (drawnThen (drawOf (k .state .clock) reading) begin) (refused refusal)))
       go false e = goes-refused s g h r i c refusal
       go true e =
           let a = first-passed (codeRefusal (s .n) (s .m) (s .size)) _ (passes refusal e) in
-          let b = first-passed (refuseUnless (eqb (length content) (s .m * s .size) && eqb (length (k .stripe)) (s .m * s .size)) 2) _ (a .1) in
-          let l = tested (eqb (length content) (s .m * s .size) && eqb (length (k .stripe)) (s .m * s .size)) 1 (b .0) in
+          let b = first-passed (refuseUnless (eqb (length content) (s .m * s .size) && eqb (length (k .stripe)) (s .m * s .size)) badLength) _ (a .1) in
+          let l = tested (eqb (length content) (s .m * s .size) && eqb (length (k .stripe)) (s .m * s .size)) _ (b .0) in
           draws (eqb-true (length content) (s .m * s .size) (and-left _ _ l)) (drawOf (k .state .clock) reading) refl
 
   -- a read starts
   pub read-starts : (reading first : ℕ)
       → Goes s g r (coordinated s (r .world) c (readStep (s .n) (s .m) (s .size) (r .world .coordinators c) reading first))
   unfolding readStep afterChecks drawnThen
-  read-starts reading first = go (leb refusal 0)
+  read-starts reading first = go (leb refusal passed)
     where
       k : Buffered
       k = r .world .coordinators c
@@ -213,13 +215,13 @@ module _ (s : Settings) (g : SettingsRange s) (h : Hist s) (r : Moved s) (i : In
       refusal = readRefusal (s .n) (s .m) (s .size) (k .state) reading first
 
       begin : ℕ → Clock → Went
-      begin time clock = starting k clock (firstOp 1 1 time first) (k .stripe) (targetFlags (s .n) (s .m) first)
+      begin time clock = starting k clock (firstOp readingKind readKind time first) (k .stripe) (targetFlags (s .n) (s .m) first)
 
       draws : (d : Draw) → drawOf (k .state .clock) reading ≡ d → Goes s g r (coordinated s (r .world) c (drawnThen d begin))
       draws (Refused number) e = goes-refused s g h r i c number
       draws (Drawn t clock) e =
           goes-turned s g h r i c (begin t clock)
-          (started s g h (r .world .sent) c k (i .valid) (i .coordinators c) (i .items) reading t clock e 1 1 first (k .stripe)
+          (started s g h (r .world .sent) c k (i .valid) (i .coordinators c) (i .items) reading t clock e readingKind readKind first (k .stripe)
           (targetFlags (s .n) (s .m) first) (omega arith) (λ e. absurd (omega (arith, e))))
 
       go : (a : Bool) → Goes s g r (coordinated s (r .world) c (cond a (drawnThen (drawOf (k .state .clock) reading) begin) (refused refusal)))

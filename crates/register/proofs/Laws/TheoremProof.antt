@@ -5,14 +5,19 @@ use mathlib.Core.List.{List, [], _∷_, append-nil, List·Memᴰ·head, List·Me
 use mathlib.Core.Path.{sym, _∙_}
 use Prim.Native.Nat.{ℕ, zero, suc}
 use lib.Dec.{ltb}
-use Rattle.settings.specs.Ranges.{settingsRefusal}
 use Rattle.settings.specs.Ranges.{SettingsRange}
-use Rattle.settings.proofs.Laws.RangeLaws.{settings-passed}
+use Rattle.image.proofs.Laws.ParseLaws.{range-of}
 use Rattle.settings.specs.declared.Settings.{Settings}
+use Rattle.byte_lists.specs.Little.{areBytes}
+use Rattle.byte_lists.proofs.Laws.LittleLaws.{are-bytes}
+use Rattle.coordinator.specs.Routines.{writeStep}
 use Rattle.order.specs.Claim.{OneOrder, _∈_}
 use Rattle.order.specs.Facts.{seen}
 use Rattle.order.proofs.Laws.OneOrderTheorem.{one-order}
-use Rattle.register.specs.Runs.{plain, Item, message, reply, freshSet, Event, startWrite, startRead, arrives, crashes, goesDown, comesUp, Moved, unmoved, putAt, arriving, arrivingAt, standing, step, nextMoved, runFrom, run, RunHasOneOrder}
+use Rattle.register.specs.Runs.{plain, Item, message, reply, freshSet, Event, startWrite, startRead, arrives, crashes, goesDown}
+use Rattle.register.specs.Runs.{comesUp, Moved, unmoved, putAt, coordinated, arriving, arrivingAt, standing, step, nextMoved, runFrom}
+use Rattle.register.specs.Runs.{run}
+use Rattle.register.specs.Theorem.{EveryRunHasOneOrder}
 use Rattle.register.proofs.Laws.Invariant.{Hist, Inv}
 use Rattle.register.proofs.Laws.Invariant.{Goes}
 use Rattle.register.proofs.Laws.BrickEvent.{goes-unmoved, message-arrives}
@@ -61,7 +66,15 @@ module _ (s : Settings) (g : SettingsRange s) where
   -- what holds goes on to hold after each event,
   pub step-goes : (h : Hist s) (r : Moved s) → Inv s g h r → (e : Event) → Goes s g r (step s (r .world) e)
   unfolding step
-  step-goes h r i (startWrite c reading content small) = write-starts s g h r i c reading content small
+  step-goes h r i (startWrite c reading content) = go (areBytes content) refl
+    where
+      go : (b : Bool) → areBytes content ≡ b
+          → Goes s g r
+          (cond b
+          (coordinated s (r .world) c (writeStep (s .n) (s .m) (s .size) (r .world .coordinators c) reading content))
+          (unmoved s (r .world)))
+      go true e = write-starts s g h r i c reading content (are-bytes content e)
+      go false e = goes-unmoved s g h r i
   step-goes h r i (startRead c reading first) = read-starts s g h r i c reading first
   step-goes h r i (arrives k) = place-arrives h r i (r .world .sent) (λ z m. m) k
   step-goes h r i (crashes c left) = crash-goes s g h r i c left
@@ -78,8 +91,7 @@ module _ (s : Settings) (g : SettingsRange s) where
   unfolding run
   run-holds events = from-holds (unmoved s (freshSet s)) ([], fresh-holds s g) events
 
--- For every settings in range and every list of events, whatever its crashes leave in the buffers, the operations have one order.
-pub every-run-has-one-order : (s : Settings) → settingsRefusal s ≡ 0 → (events : List Event) → RunHasOneOrder s events
+pub every-run-has-one-order : EveryRunHasOneOrder
 every-run-has-one-order s e events =
-    let w = run-holds s (settings-passed s e) events in
+    let w = run-holds s (range-of s e) events in
     subst (OneOrder (plain s)) (w .1 .seen-is) (one-order (w .1 .valid))

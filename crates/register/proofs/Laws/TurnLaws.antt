@@ -3,10 +3,11 @@ use mathlib.Core.Path.{_≡_, refl, sym, ap, subst, _∙_}
 use mathlib.Core.Logic.{_⊎_, inl, inr}
 use mathlib.Core.Bool.{Bool, true, false}
 use mathlib.Core.List.{List, [], _∷_, _++_, append-nil, List·Memᴰ·not-nil, List·Memᴰ·append-cases, List·Memᴰ·eq-of-singleton}
-use Prim.Native.Nat.{ℕ, zero, suc, _%_, _<_}
+use Prim.Native.Nat.{ℕ, zero, suc, _<_}
 use native.Mathlib.Omega.{arith}
 use lib.Dec.{eqb}
 use borrow.Author.Tests.{eqb-true, eqb-false}
+use Rattle.settings.specs.Times.{coordinatorOf}
 use Rattle.settings.specs.Ranges.{SettingsRange}
 use Rattle.settings.specs.declared.Settings.{Settings}
 use Rattle.message.specs.declared.Message.{Message}
@@ -66,17 +67,17 @@ module _ (s : Settings) (g : SettingsRange s) (c : ℕ) (h : Hist s) (v : Valid 
         others = λ c′ n sent k i. coordinator-up (next v o) (λ a. n (co c′ a)) i;
       }
 
-  pub turns-began : (t : ℕ) (k : Action (List ℕ)) → OkBegan h t → t % 16 ≡ c → (shown : List (Seen (plain s)))
+  pub turns-began : (t : ℕ) (k : Action (List ℕ)) → OkBegan h t → coordinatorOf t ≡ c → (shown : List (Seen (plain s)))
       → shown ≡ Seen.began t k ∷ [] → Turns s g c h (began t k ∷ h) shown
   unfolding shows
   turns-began t k o e shown q = turns-by (began t k) o (λ b a. a) (λ c′ a. sym a ∙ e) shown q
 
-  pub turns-launched : (t : ℕ) (k : Source) → OkLaunched (quorums s g) h t k → t % 16 ≡ c → (shown : List (Seen (plain s))) → shown ≡ []
+  pub turns-launched : (t : ℕ) (k : Source) → OkLaunched (quorums s g) h t k → coordinatorOf t ≡ c → (shown : List (Seen (plain s))) → shown ≡ []
       → Turns s g c h (launched t k ∷ h) shown
   unfolding shows
   turns-launched t k o e shown q = turns-by (launched t k) o (λ b a. a) (λ c′ a. sym a ∙ e) shown q
 
-  pub turns-ended : (t : ℕ) (k : End (plain s)) → OkEnded (quorums s g) h t k → t % 16 ≡ c → (shown : List (Seen (plain s)))
+  pub turns-ended : (t : ℕ) (k : End (plain s)) → OkEnded (quorums s g) h t k → coordinatorOf t ≡ c → (shown : List (Seen (plain s)))
       → shown ≡ shows {P = plain s} (ended t k) → Turns s g c h (ended t k ∷ h) shown
   turns-ended t k o e shown q = turns-by (ended t k) o (λ b a. a) (λ c′ a. sym a ∙ e) shown q
 
@@ -103,10 +104,10 @@ in-broadcast s z i m = go (List·Memᴰ·append-cases (toAll s z (s .n)) m)
 -- What an event leaves of coordinator c and what it sends.
 pub record TurnedRound (s : Settings) (g : SettingsRange s) (h : Hist s) (sent : List Item) (c : ℕ) (w : Went) : Type 0 where
   pub later : Hist s
-  pub turns : Turns s g c h later (seenOf s (w .seen) (w .next .stripe))
+  pub turns : Turns s g c h later (seenOf s (w .seen) (w .next))
   pub keeps : CoordinatorInv s g later (sent ++ broadcasts s (w .sent)) c (w .next)
   pub items : (i : Item) → i ∈ broadcasts s (w .sent) → ItemInv s g later (sent ++ broadcasts s (w .sent)) i
-  pub own : (b : ℕ) (msg : Message) (block : List ℕ) → message b msg block ∈ broadcasts s (w .sent) → msg .time % 16 ≡ c
+  pub own : (b : ℕ) (msg : Message) (block : List ℕ) → message b msg block ∈ broadcasts s (w .sent) → coordinatorOf (msg .time) ≡ c
 
 pub goes-turned : (s : Settings) (g : SettingsRange s) (h : Hist s) (r : Moved s) → Inv s g h r → (c : ℕ) (w : Went)
     → TurnedRound s g h (r .world .sent) c w → Goes s g r (coordinated s (r .world) c (went w))
@@ -115,7 +116,7 @@ goes-turned s g h r i c w t = (
   t .later,
   record {
     valid = t .turns .valid;
-    seen-is = t .turns .seen-more ∙ ap (λ (z : List (Seen (plain s))). z ++ seenOf s (w .seen) (w .next .stripe)) (i .seen-is);
+    seen-is = t .turns .seen-more ∙ ap (λ (z : List (Seen (plain s))). z ++ seenOf s (w .seen) (w .next)) (i .seen-is);
     bricks = λ b l. let x = i .bricks b l in
         record { state = x .state; saved = x .saved; sound = x .sound; keeps = t .turns .bricks b (x .state) (x .keeps) };
     items = λ k m. item k (List·Memᴰ·append-cases (r .world .sent) m);

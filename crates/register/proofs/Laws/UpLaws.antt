@@ -3,10 +3,11 @@ use mathlib.Core.Path.{_≡_, refl, subst, ap, _∙_}
 use mathlib.Core.Logic.{_⊎_, inl, inr}
 use mathlib.Core.Bool.{true}
 use mathlib.Core.List.{List, _∷_, _++_, Memᴰ·append-left}
-use Prim.Native.Nat.{ℕ, _%_, _≤_, _<_}
+use Prim.Native.Nat.{ℕ, _≤_, _<_}
+use Rattle.settings.specs.Times.{coordinatorOf}
 use Rattle.settings.specs.Ranges.{SettingsRange}
 use Rattle.settings.specs.declared.Settings.{Settings}
-use Rattle.message.specs.Kinds.{orderReadKind}
+use Rattle.message.specs.Kinds.{orderReadKind, writeKind}
 use Rattle.message.specs.declared.Message.{Message}
 use Rattle.message.specs.declared.Reply.{Reply}
 use Rattle.image.specs.Brick.{Brick}
@@ -106,12 +107,12 @@ AtBrick b (ended t e) = ⊥
 
 -- The facts that concern the operations of coordinator c.
 abbrev pub AtCoordinator : {P : Plain} → ℕ → Fact P → Type 0
-AtCoordinator c (began t k) = t % 16 ≡ c
+AtCoordinator c (began t k) = coordinatorOf t ≡ c
 AtCoordinator c (promised b t) = ⊥
-AtCoordinator c (launched t s) = t % 16 ≡ c
+AtCoordinator c (launched t s) = coordinatorOf t ≡ c
 AtCoordinator c (stored b t) = ⊥
 AtCoordinator c (showed b t x) = ⊥
-AtCoordinator c (ended t e) = t % 16 ≡ c
+AtCoordinator c (ended t e) = coordinatorOf t ≡ c
 
 module _ {s : Settings} {g : SettingsRange s} {h : Hist s} {f : Fact (plain s)} (v : Valid (quorums s g) (f ∷ h)) where
   -- a brick after a fact that does not concern it
@@ -144,9 +145,8 @@ module _ {s : Settings} {g : SettingsRange s} {h : Hist s} {f : Fact (plain s)} 
   running-up {sent} {c} {k} other i =
       record {
         own = i .own;
-        known = (i .known .0, in-above (i .known .1));
-        reads = λ e. in-above (i .reads e);
-        writes = λ e. let w = i .writes e in (in-above (w .0), w .1);
+        begun = in-above (i .begun);
+        proper = i .proper;
         unended = λ w. ended-not (w .0) (in-cons (w .1));
         unsent = λ p w. launched-not p (w .0) (in-cons (w .1));
         counts = i .counts;
@@ -160,7 +160,7 @@ module _ {s : Settings} {g : SettingsRange s} {h : Hist s} {f : Fact (plain s)} 
       ended-not e (inl q) = other (subst (AtCoordinator c) q (i .own))
       ended-not e (inr q) = i .unended (e, q)
 
-      launched-not : (k .state .op .phase ≡ 4 → ⊥) → (e : _) → (launched (k .state .op .time) e ≡ f) ⊎ In (launched (k .state .op .time) e) h → ⊥
+      launched-not : (k .state .op .phase ≡ writeKind → ⊥) → (e : _) → (launched (k .state .op .time) e ≡ f) ⊎ In (launched (k .state .op .time) e) h → ⊥
       launched-not p e (inl q) = other (subst (AtCoordinator c) q (i .own))
       launched-not p e (inr q) = i .unsent p (e, q)
 
@@ -174,14 +174,14 @@ module _ {s : Settings} {g : SettingsRange s} {h : Hist s} {f : Fact (plain s)} 
         runs = λ n. running-up other (i .runs n);
       }
     where
-      earlier : (t : ℕ) → t % 16 ≡ c → (o : _) → (began t o ≡ f) ⊎ In (began t o) h → Began h t
+      earlier : (t : ℕ) → coordinatorOf t ≡ c → (o : _) → (began t o ≡ f) ⊎ In (began t o) h → Began h t
       earlier t m o (inl q) = absurd (other (subst (AtCoordinator c) q m))
       earlier t m o (inr q) = (o, q)
 
 -- what is sent anew is no Order-and-read of coordinator c
 abbrev pub QuietWorld : ℕ → List Item → List Item → Type 0
 QuietWorld c old new =
-    (b : ℕ) (msg : Message) (block : List ℕ) → message b msg block ∈ new → msg .kind ≡ orderReadKind → msg .time % 16 ≡ c → message b msg block ∈ old
+    (b : ℕ) (msg : Message) (block : List ℕ) → message b msg block ∈ new → msg .kind ≡ orderReadKind → coordinatorOf (msg .time) ≡ c → message b msg block ∈ old
 
 pub counted-sent : {s : Settings} {old new : List Item} {k : Buffered} {b : ℕ} → Within old new → CountedInv s old k b → CountedInv s new k b
 counted-sent w x =
@@ -209,14 +209,13 @@ coordinator-sent {s} {g} {h} {old} {new} {c} {k} w quiet i = record { number = i
     go r =
         record {
           own = r .own;
-          known = r .known;
-          reads = r .reads;
-          writes = r .writes;
+          begun = r .begun;
+          proper = r .proper;
           unended = r .unended;
           unsent = r .unsent;
           counts = λ b m. counted-sent w (r .counts b m);
           holds = r .holds;
-          asked = λ b msg block m e t. r .asked b msg block (quiet b msg block m e (ap (λ (z : ℕ). z % 16) t ∙ r .own)) e t;
+          asked = λ b msg block m e t. r .asked b msg block (quiet b msg block m e (ap coordinatorOf t ∙ r .own)) e t;
           cleared = r .cleared;
           storing = r .storing;
         }

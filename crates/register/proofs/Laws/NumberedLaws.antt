@@ -1,17 +1,18 @@
--- The 16 coordinators are all there are: one above 15 is refused by each routine, as 3, and stays as it was.
+-- Laws of `specs/Numbered`.
 use mathlib.Core.Path.{_≡_, refl, _∙_}
 use mathlib.Core.Bool.{Bool, true, false, cond, _&&_}
 use mathlib.Core.List.{List, [], _∷_}
-use Prim.Native.Nat.{ℕ, zero, suc, _*_, _%_, _≤_, _<_}
+use Prim.Native.Nat.{ℕ, zero, suc, _*_, _≤_, _<_}
 use native.Mathlib.Omega.{arith}
 use lib.Dec.{leb, ltb, eqb}
 use lib.ListN.{length}
 use borrow.Author.Tests.{leb-true}
-use Rattle.settings.specs.Ranges.{codeRefusal, settingsRefusal}
+use Rattle.settings.specs.Ranges.{codeRefusal}
 use Rattle.settings.specs.Ranges.{SettingsRange}
-use Rattle.settings.proofs.Laws.RangeLaws.{settings-passed}
-use Rattle.settings.specs.Refusal.{refuseUnless}
-use Rattle.settings.specs.Times.{drawOf}
+use Rattle.image.proofs.Laws.ParseLaws.{range-of}
+use Rattle.register.specs.Numbered.{SixteenCoordinators}
+use Rattle.settings.specs.Refusal.{passed, refuseUnless, badLength, badNumber}
+use Rattle.settings.specs.Times.{drawOf, coordinatorOf, lastCoordinator}
 use Rattle.settings.specs.declared.Clock.{Clock}
 use Rattle.settings.specs.declared.Draw.{Draw}
 use Rattle.settings.specs.declared.Draw.the-variants.{Drawn, Refused}
@@ -21,7 +22,10 @@ use Rattle.coord_apply.specs.Answers.{Buffered, Went, Step, refused, went, afte
 use Rattle.coord_refusals.specs.Checks.{recordChecks, startChecks, writeRefusal, readRefusal, crashRefusal}
 use Rattle.coordinator.specs.Routines.{takeStep, crashed, crashStep, drawnThen, writeStep, readStep}
 use Rattle.coordinator.proofs.Laws.RoutineLaws.{take-passed}
-use Rattle.register.specs.Runs.{Item, message, reply, World, idle, freshSet, Left, Event, startWrite, startRead, arrives, crashes, goesDown, comesUp, Moved, unmoved, coordinated, received, arriving, arrivingAt, standing, leftBy, step, nextMoved, runFrom, run}
+use Rattle.byte_lists.specs.Little.{areBytes}
+use Rattle.register.specs.Runs.{Item, message, reply, World, idle, freshSet, Left, Event, startWrite, startRead, arrives, crashes}
+use Rattle.register.specs.Runs.{goesDown, comesUp, Moved, unmoved, coordinated, received, arriving, arrivingAt, standing, leftBy}
+use Rattle.register.specs.Runs.{step, nextMoved, runFrom, run}
 use Rattle.register.proofs.Laws.Invariant.{Hist, Inv}
 use Rattle.register.proofs.Laws.BrickEvent.{put-there, first-passed}
 use Rattle.register.proofs.Laws.StartEvent.{passes}
@@ -31,24 +35,24 @@ use Rattle.register.proofs.Laws.TheoremProof.{step-goes}
 -- a step that is refused, or is of a coordinator up to 15
 abbrev LowStep : ℕ → Step → Type 0
 LowStep c (refused number) = Unit {0}
-LowStep c (went g) = c ≤ 15
+LowStep c (went g) = c ≤ lastCoordinator
 
-checked-low : (c k : ℕ) (p : Step) → (k ≡ 0 → LowStep c p) → LowStep c (afterChecks k p)
+checked-low : (c k : ℕ) (p : Step) → (k ≡ passed → LowStep c p) → LowStep c (afterChecks k p)
 unfolding afterChecks
-checked-low c k p h = go (leb k 0) refl
+checked-low c k p h = go (leb k passed) refl
   where
-    go : (a : Bool) → leb k 0 ≡ a → LowStep c (cond a p (refused k))
+    go : (a : Bool) → leb k passed ≡ a → LowStep c (cond a p (refused k))
     go true e = h (passes k e)
     go false e = tt
 
-drawn-low : (c : ℕ) (d : Draw) (f : ℕ → Clock → Went) → c ≤ 15 → LowStep c (drawnThen d f)
+drawn-low : (c : ℕ) (d : Draw) (f : ℕ → Clock → Went) → c ≤ lastCoordinator → LowStep c (drawnThen d f)
 unfolding drawnThen
 drawn-low c (Drawn t clock) f l = l
 drawn-low c (Refused number) f l = tt
 
 module _ (n m size c : ℕ) (k : Buffered) (number : k .state .clock .coordinator ≡ c) where
-  low-number : refuseUnless (leb (k .state .clock .coordinator) 15) 3 ≡ 0 → c ≤ 15
-  low-number e = let w = leb-true (k .state .clock .coordinator) 15 (tested (leb (k .state .clock .coordinator) 15) 2 e) in omega arith
+  low-number : refuseUnless (leb (k .state .clock .coordinator) lastCoordinator) badNumber ≡ passed → c ≤ lastCoordinator
+  low-number e = let w = leb-true (k .state .clock .coordinator) lastCoordinator (tested (leb (k .state .clock .coordinator) lastCoordinator) _ e) in omega arith
 
   write-low : (reading : ℕ) (content : List ℕ) → LowStep c (writeStep n m size k reading content)
   unfolding writeStep writeRefusal startChecks recordChecks
@@ -56,8 +60,8 @@ module _ (n m size c : ℕ) (k : Buffered) (number : k .state .clock .coordinato
       checked-low c (writeRefusal n m size (k .state) reading (length content) (length (k .stripe))) _
       (λ e.
       let a = first-passed (codeRefusal n m size) _ e in
-      let b = first-passed (refuseUnless (eqb (length content) (m * size) && eqb (length (k .stripe)) (m * size)) 2) _ (a .1) in
-      let d = first-passed (refuseUnless (leb (k .state .clock .coordinator) 15) 3) _ (b .1) in
+      let b = first-passed (refuseUnless (eqb (length content) (m * size) && eqb (length (k .stripe)) (m * size)) badLength) _ (a .1) in
+      let d = first-passed (refuseUnless (leb (k .state .clock .coordinator) lastCoordinator) badNumber) _ (b .1) in
       drawn-low c (drawOf (k .state .clock) reading) _ (low-number (d .0)))
 
   read-low : (reading first : ℕ) → LowStep c (readStep n m size k reading first)
@@ -66,8 +70,8 @@ module _ (n m size c : ℕ) (k : Buffered) (number : k .state .clock .coordinato
       checked-low c (readRefusal n m size (k .state) reading first) _
       (λ e.
       let a = first-passed (codeRefusal n m size) _ e in
-      let b = first-passed (refuseUnless (ltb first n) 3) _ (a .1) in
-      let d = first-passed (refuseUnless (leb (k .state .clock .coordinator) 15) 3) _ (b .1) in
+      let b = first-passed (refuseUnless (ltb first n) badNumber) _ (a .1) in
+      let d = first-passed (refuseUnless (leb (k .state .clock .coordinator) lastCoordinator) badNumber) _ (b .1) in
       drawn-low c (drawOf (k .state .clock) reading) _ (low-number (d .0)))
 
   crash-low : LowStep c (crashStep n m size k)
@@ -76,7 +80,7 @@ module _ (n m size c : ℕ) (k : Buffered) (number : k .state .clock .coordinato
       checked-low c (crashRefusal n m size (k .state)) (went (crashed k))
       (λ e.
       let a = first-passed (codeRefusal n m size) _ e in
-      let d = first-passed (refuseUnless (leb (k .state .clock .coordinator) 15) 3) _ (a .1) in
+      let d = first-passed (refuseUnless (leb (k .state .clock .coordinator) lastCoordinator) badNumber) _ (a .1) in
       low-number (d .0))
 
 -- what a crash leaves in the buffers is no matter
@@ -89,7 +93,7 @@ left-low s left c (went g) l = l
 abbrev Still : (s : Settings) → ℕ → World → Type 0
 Still s c w = w .coordinators c ≡ idle s c
 
-module _ (s : Settings) (g : SettingsRange s) (c : ℕ) (high : 15 < c) where
+module _ (s : Settings) (g : SettingsRange s) (c : ℕ) (high : lastCoordinator < c) where
   coordinated-still : (w : World) (c′ : ℕ) (p : Step) → LowStep c′ p → Still s c w → Still s c (coordinated s w c′ p .world)
   unfolding coordinated unmoved
   coordinated-still w c′ (refused number) l e = e
@@ -104,10 +108,10 @@ module _ (s : Settings) (g : SettingsRange s) (c : ℕ) (high : 15 < c) where
     unfolding arriving received unmoved takeStep
     item-still (message b msg block) = either (r .world .up b) _ _ e e
     item-still (reply a block) =
-        coordinated-still (r .world) (a .time % 16) _
-        (checked-low (a .time % 16) _ (went _)
-        (λ w. let t = take-passed (s .n) (s .m) (s .size) (r .world .coordinators (a .time % 16) .state) a _ _ _ (s .n * s .size) _ refl w in
-        let l = t .parts .number-low in let z = i .coordinators (a .time % 16) .number in omega arith)) e
+        coordinated-still (r .world) (coordinatorOf (a .time)) _
+        (checked-low (coordinatorOf (a .time)) _ (went _)
+        (λ w. let t = take-passed (s .n) (s .m) (s .size) (r .world .coordinators (coordinatorOf (a .time)) .state) a _ _ _ (s .n * s .size) _ refl w in
+        let l = t .parts .number-low in let z = i .coordinators (coordinatorOf (a .time)) .number in omega arith)) e
 
     place-still : (l : List Item) (k : ℕ) → Still s c (arrivingAt s (r .world) l k .world)
     unfolding arrivingAt unmoved
@@ -120,9 +124,10 @@ module _ (s : Settings) (g : SettingsRange s) (c : ℕ) (high : 15 < c) where
     stand-still b how = either (ltb b (s .n)) _ _ e e
 
     step-still : (v : Event) → Still s c (step s (r .world) v .world)
-    unfolding step
-    step-still (startWrite d reading content small) =
-        coordinated-still (r .world) d _ (write-low (s .n) (s .m) (s .size) d (r .world .coordinators d) (i .coordinators d .number) reading content) e
+    unfolding step unmoved
+    step-still (startWrite d reading content) =
+        either (areBytes content) _ _
+        (coordinated-still (r .world) d _ (write-low (s .n) (s .m) (s .size) d (r .world .coordinators d) (i .coordinators d .number) reading content) e) e
     step-still (startRead d reading first) =
         coordinated-still (r .world) d _ (read-low (s .n) (s .m) (s .size) d (r .world .coordinators d) (i .coordinators d .number) reading first) e
     step-still (arrives k) = place-still (r .world .sent) k
@@ -137,8 +142,8 @@ module _ (s : Settings) (g : SettingsRange s) (c : ℕ) (high : 15 < c) where
   from-still r w e [] = e
   from-still r w e (v ∷ events) = from-still (nextMoved s r v) (step-goes s g (w .0) r (w .1) v) (step-still (w .0) r (w .1) e v) events
 
-pub sixteen-coordinators : (s : Settings) → settingsRefusal s ≡ 0 → (events : List Event) (c : ℕ) → 15 < c → run s events .world .coordinators c ≡ idle s c
+pub sixteen-coordinators : SixteenCoordinators
 unfolding run freshSet unmoved
 sixteen-coordinators s e events c high =
-    let g = settings-passed s e in
+    let g = range-of s e in
     from-still s g c high (unmoved s (freshSet s)) ([], fresh-holds s g) refl events
