@@ -25,7 +25,7 @@ use Rattle.order.specs.Places.{Suf, In}
 use Rattle.order.specs.Valid.{start, Val, Gone}
 use Rattle.register.specs.Runs.{plain, zeroStripe, idle, unmoved, freshSet}
 use Rattle.register.proofs.Laws.Invariant.{quorums, Means, Stands, LogHas, BrickInv, CoordinatorInv, Inv}
-use Rattle.register.proofs.Laws.BrickEvent.{in-range}
+use Rattle.settings.proofs.Laws.RangeLaws.{in-range}
 use Rattle.register.proofs.Laws.BrickLogLaws.{carried}
 
 -- nothing stands in an empty history
