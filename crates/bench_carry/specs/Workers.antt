@@ -1,7 +1,7 @@
 -- The numbers of a carry line, one after the other; a brick's switch.
 use mathlib.Core.Path.{_≡_}
 use mathlib.Core.List.{List, _++_}
-use Prim.Native.Nat.{ℕ, _+_, _*_, _≤_}
+use Prim.Native.Nat.{ℕ, _+_, _*_, _/_, _≤_}
 use lib.ListN.{length}
 use Rattle.bench_parse.specs.Workers.{CarryRest, wordsFrom}
 use Rattle.bench_parse.specs.Lines.{numbersOf}
@@ -11,15 +11,20 @@ use Rattle.bench_rules.specs.Workers.{BenchReady}
 use Rattle.bench_rules.specs.declared.After.{After}
 use Rattle.bench_print.specs.Printing.{written}
 use Rattle.bench_state.specs.declared.Bench.{Bench}
+use Rattle.bench_limits.specs.Limits.{lastMessage, lineRoom, textLength}
 
 -- a line or a part of one at the beginning of the printed text
 pub record Lined (b : Bench) (l : Lent) (out : List ℕ) (p : Played) (r : After) (l′ : Lent) (out′ : List ℕ) : Type 0 where
   pub world-is : worldIn (r .bench) l′ ≡ p .world
   pub settings-kept : r .bench .settings ≡ b .settings
-  pub few : r .bench .sent ≤ 127
+  pub few : r .bench .sent ≤ lastMessage
   pub text-is : out′ ≡ written 0 (p .printed) out
   pub used-is : r .used ≡ length (p .printed)
-  pub within : r .used ≤ 65536
+  pub within : r .used ≤ textLength
+
+-- a byte of a carry line prints so many at most: a number takes two bytes or more, and prints one line
+abbrev textAByte : ℕ
+textAByte = lineRoom / 2
 
 -- The loop over a line's numbers: text is what was printed so far, and the rest of the numbers is still to be carried.
 pub record Carrying (b : Bench) (l : Lent) (line : List ℕ) (first : ℕ) (out : List ℕ) (place : ℕ) (r : After) (l′ : Lent) (out′ : List ℕ) : Type 0 where
@@ -29,7 +34,7 @@ pub record Carrying (b : Bench) (l : Lent) (line : List ℕ) (first : ℕ) (out 
   pub out-long : length out′ ≡ length out
   pub text-is : out′ ≡ written 0 text out
   pub used-is : r .used ≡ length text
-  pub room : r .used ≤ 64 * place
+  pub room : r .used ≤ textAByte * place
   pub rest : CarryRest line place
   pub world-so : carriedAll (b .settings) (worldIn b l) (numbersOf (wordsFrom line first)) .world
       ≡ carriedAll (b .settings) (worldIn (r .bench) l′) (numbersOf (wordsFrom line place)) .world

@@ -12,13 +12,14 @@ ghost use Rattle.bench_rules.specs.Turning.{Lent, lent, worldIn};
 ghost use Rattle.bench_rules.specs.Workers.{BenchReady, Turned};
 ghost use Rattle.bench_state.specs.Workers.{Fits};
 ghost use Rattle.register.specs.Runs.{goesDown, comesUp};
+ghost use Rattle.bench_limits.specs.Limits.{lastMessage, upFlag, lineRoom, textLength};
 use bench_rules::After;
 use bench_state::Bench;
 
-// A brick goes down (0) or comes up (1).
+// A brick goes DOWN or comes UP, by the flag.
 pub fn switch_at(b: Bench, brick: u64, flag: u8, out: &mut [u8]) -> After
-    requires { ⌜ Fits (b .settings) × (b .sent ≤ 127) × (length (now out) ≡ 65536) ⌝ }
-    ensures { λ r. ⌜ ((l : Lent) → Lined b l (now (out .entry)) (switches (b .settings) (worldIn b l) brick (cond (eqb flag 1) (comesUp brick) (goesDown brick))) r l (now (out .exit))) ⌝ }
+    requires { ⌜ Fits (b .settings) × (b .sent ≤ lastMessage) × (length (now out) ≡ textLength) ⌝ }
+    ensures { λ r. ⌜ ((l : Lent) → Lined b l (now (out .entry)) (switches (b .settings) (worldIn b l) brick (cond (eqb flag upFlag) (comesUp brick) (goesDown brick))) r l (now (out .exit))) ⌝ }
 {
     let s = b.settings;
     let place = brick as usize;
@@ -41,7 +42,7 @@ fn carry_one(
     out: &mut [u8],
 ) -> After
     requires { ⌜ BenchReady b (lent (now images) (now kept) (now numbers) (now bytes)) ⌝ }
-    requires { ⌜ at + 128 ≤ length (now out) ⌝ }
+    requires { ⌜ at + lineRoom ≤ length (now out) ⌝ }
     ensures { λ r. ⌜ Turned b (lent (now (images .entry)) (now (kept .entry)) (now (numbers .entry)) (now (bytes .entry))) at (now (out .entry)) (carried (b .settings) (worldIn b (lent (now (images .entry)) (now (kept .entry)) (now (numbers .entry)) (now (bytes .entry)))) number) r (lent (now (images .exit)) (now (kept .exit)) (now (numbers .exit)) (now (bytes .exit))) (now (out .exit)) ⌝ }
 {
     if number == 0 {
@@ -70,7 +71,7 @@ pub fn carry_all(
     out: &mut [u8],
 ) -> After
     requires { ⌜ BenchReady b (lent (now images) (now kept) (now numbers) (now bytes)) ⌝ }
-    requires { ⌜ CarryFrom (now line) first × (length (now out) ≡ 65536) ⌝ }
+    requires { ⌜ CarryFrom (now line) first × (length (now out) ≡ textLength) ⌝ }
     ensures { λ r. ⌜ Lined b (lent (now (images .entry)) (now (kept .entry)) (now (numbers .entry)) (now (bytes .entry))) (now (out .entry)) (carriedAll (b .settings) (worldIn b (lent (now (images .entry)) (now (kept .entry)) (now (numbers .entry)) (now (bytes .entry)))) (numbersOf (wordsFrom (now (line .entry)) first))) r (lent (now (images .exit)) (now (kept .exit)) (now (numbers .exit)) (now (bytes .exit))) (now (out .exit)) ⌝ }
 {
     let mut r = After { bench: b, used: 0 };

@@ -10,9 +10,15 @@ ghost use Rattle.coord_apply.specs.Answers.{Buffered};
 ghost use Rattle.coordinator.specs.Routines.{takeStep};
 ghost use Rattle.register.specs.Runs.{World, arrives};
 use bench_commit::commit;
+use bench_limits::BLOCK_PLACE;
+use bench_limits::ROW_BYTES;
+use bench_limits::STRIPE_ROOM;
 use bench_rules::After;
 use bench_state::Bench;
 use message::Reply;
+
+// "coordinators 0 to 3"
+const COORDINATORS: u64 = bench_limits::COORDINATORS as u64;
 
 // A reply in row k, on copies of what the coordinator keeps.
 fn reply_with(
@@ -37,7 +43,7 @@ fn reply_with(
     bench_state::fetch(c, kept, blocks, stripe);
     let s = b.settings;
     let old = bench_state::coordinator_at(b, c);
-    let from = k * 24 + 16;
+    let from = k * ROW_BYTES + BLOCK_PLACE;
     let till = from + s.size;
     let a = coordinator::take_reply(
         s.n,
@@ -81,15 +87,15 @@ pub fn carry_reply(
 {
     let reply = bench_sent::reply_at(numbers, k);
     let c = reply.time % 16;
-    if 4 <= c {
+    if COORDINATORS <= c {
         return bench_rules::refuse(b, 3, at, out);
     }
     let s = b.settings;
     let data = s.m * s.size;
     let all = s.n * s.size;
-    let mut blocks = [0u8; 32];
-    let mut stripe = [0u8; 32];
-    let mut coded = [0u8; 32];
+    let mut blocks = [0u8; STRIPE_ROOM];
+    let mut stripe = [0u8; STRIPE_ROOM];
+    let mut coded = [0u8; STRIPE_ROOM];
     let seat = c as usize;
     reply_with(
         b,

@@ -7,12 +7,13 @@ use lib.Dec.{eqb, leb}
 use lib.ListN.{length}
 use Rattle.settings.specs.Refusal.{refuseUnless, firstRefusal, badSetting, badLength, badRecord}
 use Rattle.bench_parse.specs.Lines.{reads}
-use Rattle.bench_rules.specs.Play.{Stage, waiting, playing, Turn, turn, lastMessage}
+use Rattle.bench_rules.specs.Play.{Stage, waiting, playing, Turn, turn}
 use Rattle.bench_rules.specs.Turning.{Lent, worldIn}
 use Rattle.bench_print.specs.Printing.{written}
 use Rattle.bench_state.specs.State.{benchRange}
 use Rattle.bench_state.specs.declared.Bench.{Bench}
 use Rattle.bench_player.specs.declared.Played.{Played}
+use Rattle.bench_limits.specs.Limits.{lastMessage, keptLength, imagesLength, numbersLength, bytesLength, textLength}
 
 -- the record of no set has n = 0
 unfoldable pub stageOf : Bench → Lent → Stage
@@ -21,7 +22,7 @@ stageOf b l = cond (eqb (b .settings .n) 0) waiting (playing (b .settings) (worl
 -- the lengths of the lent buffers: images, what the coordinators keep, the rows' numbers and bytes, and the printed text
 unfoldable pub lentLengthsRight : ℕ → ℕ → ℕ → ℕ → ℕ → Bool
 lentLengthsRight images kept numbers bytes out =
-    eqb images 10240 && eqb kept 256 && eqb numbers 1016 && eqb bytes 3048 && eqb out 65536
+    eqb images imagesLength && eqb kept keptLength && eqb numbers numbersLength && eqb bytes bytesLength && eqb out textLength
 
 -- What a record and buffers that are no bench's are refused with, before the line is looked at: 1 settings past the limits,
 -- 2 a length, 6 more messages than 127.

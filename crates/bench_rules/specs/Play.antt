@@ -18,10 +18,7 @@ use Rattle.bench_state.specs.State.{benchRange}
 use Rattle.bench_parse.specs.Lines.{Line, setLine, writeLine, readLine, carryLine, crashLine, downLine, upLine, noLine}
 use Rattle.bench_print.specs.Printing.{refusedText, endedText}
 use Rattle.bench_rules.specs.Content.{counted, content, content-small}
-
--- "message 127"
-abbrev pub lastMessage : ℕ
-lastMessage = 127
+use Rattle.bench_limits.specs.Limits.{benchCoordinators, lastMessage}
 
 -- What a line, or one carried number, leaves: the world, the events that were accepted, and what is printed.
 pub record Played : Type 0 where
@@ -52,7 +49,7 @@ acts s w e c (went g) =
 
 -- "coordinators 0 to 3 .. coordinator numbers past them are refusal 3"
 unfoldable pub atCoordinator : World → ℕ → Played → Played
-atCoordinator w c p = cond (ltb c 4) p (refuses w badNumber)
+atCoordinator w c p = cond (ltb c benchCoordinators) p (refuses w badNumber)
 
 -- "hex digits other than two for each stripe byte" are refused after the numbers of the start
 unfoldable pub unlessShort : Bool → Step → Step

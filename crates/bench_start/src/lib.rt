@@ -13,12 +13,14 @@ ghost use Rattle.bench_rules.specs.Play.{unlessShort, writes, starts, crashesAt
 ghost use Rattle.coord_apply.specs.Answers.{Buffered};
 ghost use Rattle.coordinator.specs.Routines.{crashStep, writeStep, readStep};
 ghost use Rattle.register.specs.Runs.{World, startWrite, startRead, untouched, crashes};
+ghost use Rattle.bench_limits.specs.Limits.{stripeRoom};
 use bench_commit::commit;
+use bench_limits::STRIPE_ROOM;
 use bench_rules::After;
 use bench_state::Bench;
 
 // "coordinators 0 to 3"
-const COORDINATORS: u64 = 4;
+const COORDINATORS: u64 = bench_limits::COORDINATORS as u64;
 
 // A read starts, on copies of what the coordinator keeps.
 fn read_with(
@@ -102,7 +104,7 @@ fn is_short(refusal: u32, right: bool) -> bool
 
 // The bytes of a write from its hex digits, and whether there are two for each; else the buffer is kept.
 fn read_content(line: &[u8], hex: usize, content: &mut [u8]) -> bool
-    requires { ⌜ (hex ≤ length (now line)) × (length (now content) ≤ 32) ⌝ }
+    requires { ⌜ (hex ≤ length (now line)) × (length (now content) ≤ stripeRoom) ⌝ }
     ensures { λ r. ⌜ r ≡ eqb (length (drop hex (now (line .entry)))) (2 * length (now (content .entry))) ⌝ }
     ensures { λ r. ⌜ now (content .exit) ≡ cond r (bytesOf (drop hex (now (line .entry)))) (now (content .entry)) ⌝ }
 {
@@ -176,8 +178,8 @@ pub fn read_at(
     let s = b.settings;
     let data = s.m * s.size;
     let all = s.n * s.size;
-    let mut blocks = [0u8; 32];
-    let mut stripe = [0u8; 32];
+    let mut blocks = [0u8; STRIPE_ROOM];
+    let mut stripe = [0u8; STRIPE_ROOM];
     let first = brick as usize;
     let seat = c as usize;
     read_with(
@@ -212,8 +214,8 @@ pub fn crash_at(
     let s = b.settings;
     let data = s.m * s.size;
     let all = s.n * s.size;
-    let mut blocks = [0u8; 32];
-    let mut stripe = [0u8; 32];
+    let mut blocks = [0u8; STRIPE_ROOM];
+    let mut stripe = [0u8; STRIPE_ROOM];
     let seat = c as usize;
     crash_with(
         b,
@@ -249,9 +251,9 @@ pub fn write_at(
     let s = b.settings;
     let data = s.m * s.size;
     let all = s.n * s.size;
-    let mut content = [0u8; 32];
-    let mut blocks = [0u8; 32];
-    let mut stripe = [0u8; 32];
+    let mut content = [0u8; STRIPE_ROOM];
+    let mut blocks = [0u8; STRIPE_ROOM];
+    let mut stripe = [0u8; STRIPE_ROOM];
     let seat = c as usize;
     write_with(
         b,

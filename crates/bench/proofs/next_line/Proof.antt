@@ -1,3 +1,4 @@
+use Rattle.bench_parse.specs.Lines.{heldLength}
 use mathlib.Core.Path.{_≡_, refl, _∙_}
 use Prim.Native.Nat.{_≤_}
 use native.Mathlib.Omega.{arith}
@@ -8,7 +9,7 @@ use Rattle.bench.proofs.next_line.Tie as tie
 
 abbrev Inv-loop : tie.InvT-loop
 Inv-loop chunk₀ line₀ q₀ turns₀ chunk line q turns =
-    (q .filled ≤ length chunk₀) × (q .held ≤ 1001) × (length chunk ≡ length chunk₀) × (length line ≡ length line₀)
+    (q .filled ≤ length chunk₀) × (q .held ≤ heldLength) × (length chunk ≡ length chunk₀) × (length line ≡ length line₀)
 
 abbrev μ-loop : tie.MeasureT-loop
 μ-loop chunk₀ line₀ q₀ turns₀ chunk line q turns = turns

@@ -12,7 +12,7 @@ use borrow.Author.Tests.{lt-ltb, le-ltb}
 use Rattle.settings.specs.declared.Settings.{Settings}
 use Rattle.bench_commit.specs.Workers.{Seats}
 use Rattle.bench_parse.proofs.Laws.CallerLaws.{rest-first, rest-next, rest-splits, rest-none}
-use Rattle.bench_parse.specs.Lines.{numbersOf}
+use Rattle.bench_parse.specs.Lines.{longest, numbersOf}
 use Rattle.bench_parse.specs.Workers.{wordsFrom, CarryFrom, NumberAt}
 use Rattle.bench_parse.specs.declared.Number.{Number}
 use Rattle.bench_rules.specs.Play.{Played, refuses, passes, happens, switches, carries, carriesAt, carried, andThen, carriedAll}
@@ -30,6 +30,7 @@ use Rattle.bench_state.proofs.Laws.StateLaws.{up-put}
 use Rattle.bench_state.specs.declared.Bench.{Bench}
 use Rattle.register.specs.Runs.{Item, World, Event, goesDown, comesUp, step, standing}
 use Rattle.bench_carry.specs.Workers.{Lined, Carrying}
+use Rattle.bench_limits.specs.Limits.{benchBricks, lastMessage, upFlag, lineRoom, textLength}
 
 -- the item at a place is the one in its row
 carries-append : (s : Settings) (w : World) (k : ℕ) (l : List Item) (i : Item) (j : ℕ) → j < length l → carriesAt s w k (l ++ i ∷ []) j ≡ carriesAt s w k l j
@@ -114,7 +115,7 @@ module _ (b : Bench) (l : Lent) (line : List ℕ) (first : ℕ) (out : List ℕ)
       }
 
   -- one number more
-  pub carrying-next : (place : ℕ) (r r′ : After) (l′ l″ : Lent) (out′ out″ : List ℕ) (k : Number) → place ≤ length line → length out ≡ 65536
+  pub carrying-next : (place : ℕ) (r r′ : After) (l′ l″ : Lent) (out′ out″ : List ℕ) (k : Number) → place ≤ length line → length out ≡ textLength
       → Carrying b l line first out place r l′ out′ → NumberAt line place k
       → Turned (r .bench) l′ (r .used) out′ (carried (r .bench .settings) (worldIn (r .bench) l′) (k .value)) r′ l″ out″
       → length (l″ .images) ≡ length (l′ .images) → length (l″ .kept) ≡ length (l′ .kept) → length (l″ .numbers) ≡ length (l′ .numbers)
@@ -161,7 +162,7 @@ module _ (b : Bench) (l : Lent) (line : List ℕ) (first : ℕ) (out : List ℕ)
       }
 
   -- no number is left
-  pub carrying-done : (place : ℕ) (r : After) (l′ : Lent) (out′ : List ℕ) → length line < place → length line ≤ 1000
+  pub carrying-done : (place : ℕ) (r : After) (l′ : Lent) (out′ : List ℕ) → length line < place → length line ≤ longest
       → Carrying b l line first out place r l′ out′
       → Lined b l out (carriedAll (b .settings) (worldIn b l) (numbersOf (wordsFrom line first))) r l′ out′
   unfolding carriedAll passes
@@ -181,8 +182,8 @@ module _ (b : Bench) (l : Lent) (line : List ℕ) (first : ℕ) (out : List ℕ)
       }
 
 -- a brick goes down or comes up
-pub switched : (b : Bench) (l : Lent) (out : List ℕ) (brick flag : ℕ) (e : Event) (bench : Bench) → Fits (b .settings) → b .sent ≤ 127 → brick < b .settings .n
-    → step (b .settings) (worldIn b l) e ≡ standing (b .settings) (worldIn b l) brick (eqb flag 1) → length (b .up) ≡ 4 → bench ≡ withUp b brick flag
+pub switched : (b : Bench) (l : Lent) (out : List ℕ) (brick flag : ℕ) (e : Event) (bench : Bench) → Fits (b .settings) → b .sent ≤ lastMessage → brick < b .settings .n
+    → step (b .settings) (worldIn b l) e ≡ standing (b .settings) (worldIn b l) brick (eqb flag upFlag) → length (b .up) ≡ benchBricks → bench ≡ withUp b brick flag
     → Lined b l out (switches (b .settings) (worldIn b l) brick e) (record { bench = bench; used = 0 }) l out
 unfolding switches happens standing worldIn worldOf withUp
 switched b l out brick flag e bench fits few h q four eb =
@@ -201,12 +202,12 @@ switched b l out brick flag e bench fits few h q four eb =
     make f = record { images = worldIn b l .images; up = f; coordinators = worldIn b l .coordinators; sent = worldIn b l .sent }
 
 -- by its flag
-pub switch-flag : (b : Bench) (l : Lent) (out : List ℕ) (brick flag : ℕ) (bench : Bench) → Fits (b .settings) → b .sent ≤ 127 → brick < b .settings .n
-    → length (b .up) ≡ 4 → bench ≡ withUp b brick flag
-    → Lined b l out (switches (b .settings) (worldIn b l) brick (cond (eqb flag 1) (comesUp brick) (goesDown brick))) (record { bench = bench; used = 0 }) l out
+pub switch-flag : (b : Bench) (l : Lent) (out : List ℕ) (brick flag : ℕ) (bench : Bench) → Fits (b .settings) → b .sent ≤ lastMessage → brick < b .settings .n
+    → length (b .up) ≡ benchBricks → bench ≡ withUp b brick flag
+    → Lined b l out (switches (b .settings) (worldIn b l) brick (cond (eqb flag upFlag) (comesUp brick) (goesDown brick))) (record { bench = bench; used = 0 }) l out
 unfolding step
 switch-flag b l out brick flag bench fits few h four eb =
-    switched b l out brick flag (cond (eqb flag 1) (comesUp brick) (goesDown brick)) bench fits few h (go (eqb flag 1)) four eb
+    switched b l out brick flag (cond (eqb flag upFlag) (comesUp brick) (goesDown brick)) bench fits few h (go (eqb flag upFlag)) four eb
   where
     go : (t : Bool) → step (b .settings) (worldIn b l) (cond t (comesUp brick) (goesDown brick)) ≡ standing (b .settings) (worldIn b l) brick t
     go true = refl
@@ -230,7 +231,7 @@ turned-lined b l l′ out out′ p r t =
     }
 
 -- what the parts of a carried number ask, of a set that is ready
-pub ready-seats : (b : Bench) (l : Lent) (at : ℕ) (out : List ℕ) → BenchReady b l → at + 128 ≤ length out → Seats b 0 (l .kept) (l .numbers) (l .bytes) at out
+pub ready-seats : (b : Bench) (l : Lent) (at : ℕ) (out : List ℕ) → BenchReady b l → at + lineRoom ≤ length out → Seats b 0 (l .kept) (l .numbers) (l .bytes) at out
 ready-seats b l at out r h =
     record {
       fits = r .fits;

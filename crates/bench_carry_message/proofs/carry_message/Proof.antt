@@ -7,9 +7,10 @@ use Rattle.bench_carry_message.proofs.Laws.DeliverLaws.{carried-nowhere
 use borrow.Author.Needs.{needs}
 use Rattle.bench_carry_message.proofs.carry_message.Statement.{statement}
 use Rattle.bench_carry_message.proofs.carry_message.Tie as tie
+use Rattle.bench_limits.specs.Limits.{benchBricks}
 
 -- there is a flag for each brick of the set
-up-there : (s : tie.Start) → length (s .args .b .up) ≡ 4
+up-there : (s : tie.Start) → length (s .args .b .up) ≡ benchBricks
 up-there s = search needs
 
 up-low : (c : tie.Else1) → c .before .before .brick-at .result < length (c .before .before .before .before .before .before .before .before .before .args .b .up)

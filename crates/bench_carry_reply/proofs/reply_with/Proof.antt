@@ -7,6 +7,7 @@ use Rattle.bench_commit.proofs.Laws.ActedLaws.{acted-row}
 use borrow.Author.Needs.{needs}
 use Rattle.bench_carry_reply.proofs.reply_with.Statement.{statement}
 use Rattle.bench_carry_reply.proofs.reply_with.Tie as tie
+use Rattle.bench_limits.specs.Limits.{stripeRoom, keptRoom, rowBytes, blockPlace}
 
 fetch-requires : tie.Need-fetch-requires
 fetch-requires c κs = search needs
@@ -77,10 +78,10 @@ returns c =
     let e = c .before .before .before .before .before .before .before .before .before .before .before .before .before .before .before .before .before .before .before .before .before .before .take-reply .ensures in
     acted-row (s .args .b) (s .args .c) k (s .args .numbers .now) (s .args .bytes .now) (s .args .at) (s .args .out .now) _ _ _ _ _ _ _ _ (s .pre .0 .low)
     (c .before .before .before .before .before .before .before .before .before .before .before .before .before .before .before .before .before .before .before .before .before .before .before .before .before .before .before .before .before .coordinator-at .ensures .0)
-    (c .before .before .before .before .before .before .before .before .before .before .before .before .before .before .before .before .before .before .before .before .before .before .before .before .before .before .before .before .before .before .before .before .before .before .before .fetch .ensures .0 ∙ ap (λ (j : ℕ). take j (drop (s .args .c * 64) k)) (s .pre .1 .0 .blocks-long))
-    (c .before .before .before .before .before .before .before .before .before .before .before .before .before .before .before .before .before .before .before .before .before .before .before .before .before .before .before .before .before .before .before .before .before .before .before .fetch .ensures .1 ∙ ap (λ (j : ℕ). take j (drop (s .args .c * 64 + 32) k)) (s .pre .1 .0 .stripe-long))
+    (c .before .before .before .before .before .before .before .before .before .before .before .before .before .before .before .before .before .before .before .before .before .before .before .before .before .before .before .before .before .before .before .before .before .before .before .fetch .ensures .0 ∙ ap (λ (j : ℕ). take j (drop (s .args .c * keptRoom) k)) (s .pre .1 .0 .blocks-long))
+    (c .before .before .before .before .before .before .before .before .before .before .before .before .before .before .before .before .before .before .before .before .before .before .before .before .before .before .before .before .before .before .before .before .before .before .before .fetch .ensures .1 ∙ ap (λ (j : ℕ). take j (drop (s .args .c * keptRoom + stripeRoom) k)) (s .pre .1 .0 .stripe-long))
     (s .args .k) (s .args .reply) _ _ (s .args .coded .now) _ _ _ (s .pre .1 .1 .0) (s .pre .1 .1 .1) (s .pre .1 .1 .2)
-    (block-cut z (s .args .k) (s .args .k * 24 + 16) (s .args .k * 24 + 16 + z) (s .args .bytes .now) refl refl)
+    (block-cut z (s .args .k) (s .args .k * rowBytes + blockPlace) (s .args .k * rowBytes + blockPlace + z) (s .args .bytes .now) refl refl)
     (s .pre .1 .1 .3) (s .pre .1 .0 .coded-long) (e .0) (e .1 .0) (e .1 .1 .0) (e .1 .1 .1) (c .before .before .before .before .before .before .before .before .commit .ensures)
 
 pub reply-with-spec : {M : Type 1} → statement M

@@ -14,6 +14,7 @@ use Rattle.bench_rules.specs.Play.{Played, refuses, passes, happens, andThen, S
 use Rattle.bench_order.specs.Script.{lines, stays, follows, playsLines, script}
 use Rattle.bench_order.proofs.Laws.Parts.{FewSent, Part, refusing, passing, happening, both}
 use Rattle.bench_order.proofs.Laws.ScriptPartLaws.{every-line-by-parts}
+use Rattle.bench_limits.specs.Limits.{lastMessage}
 
 part-few : (s : Settings) (w : World) (p : Played) → Part s w p → FewSent w → FewSent (p .world)
 unfolding refuses passes happens andThen
@@ -53,6 +54,6 @@ lines-few stage [] h = h
 lines-few stage (l ∷ ls) h = lines-few (turn stage (reads l) .stage) ls (turn-few stage (reads l) h)
 
 -- "A line, or one carried number, that would send past message 127 is refused before anything changes."
-pub never-past-message-127 : (input : List ℕ) (s : Settings) (w : World) → script input .stage ≡ playing s w → length (w .sent) ≤ 127
+pub never-past-message-127 : (input : List ℕ) (s : Settings) (w : World) → script input .stage ≡ playing s w → length (w .sent) ≤ lastMessage
 unfolding script FewAt FewSent
 never-past-message-127 input s w e = subst FewAt e (lines-few waiting (lines input) tt)

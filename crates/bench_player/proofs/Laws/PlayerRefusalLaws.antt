@@ -24,6 +24,7 @@ use Rattle.bench_carry.specs.Workers.{Lined}
 use Rattle.bench_player.specs.Lining.{stageOf, lentLengthsRight, benchRefused, heard, Called}
 use Rattle.bench_player.specs.Workers.{Staged, First}
 use Rattle.bench_player.proofs.Laws.PlayerTurnLaws.{lined-staged}
+use Rattle.bench_limits.specs.Limits.{lastMessage, keptLength, imagesLength, numbersLength, bytesLength, textLength}
 
 -- settings of no set, or within the limits
 pub right-none : (s : Settings) → s .n ≡ 0 → true ≡ (eqb (s .n) 0 || benchRange s)
@@ -38,29 +39,29 @@ right-some s k h e = rw (ne-eqb (s .n) 0 h, e) (go (benchRange s))
     go false = refl
 
 module _ (images kept numbers bytes out : ℕ) where
-  pub lengths-all : images ≡ 10240 → kept ≡ 256 → numbers ≡ 1016 → bytes ≡ 3048 → out ≡ 65536 → true ≡ lentLengthsRight images kept numbers bytes out
+  pub lengths-all : images ≡ imagesLength → kept ≡ keptLength → numbers ≡ numbersLength → bytes ≡ bytesLength → out ≡ textLength → true ≡ lentLengthsRight images kept numbers bytes out
   unfolding lentLengthsRight
-  lengths-all a b c d e = rw (eq-eqb images 10240 a, eq-eqb kept 256 b, eq-eqb numbers 1016 c, eq-eqb bytes 3048 d, eq-eqb out 65536 e) refl
+  lengths-all a b c d e = rw (eq-eqb images imagesLength a, eq-eqb kept keptLength b, eq-eqb numbers numbersLength c, eq-eqb bytes bytesLength d, eq-eqb out textLength e) refl
 
-  pub lengths-images : (images ≡ 10240 → ⊥) → false ≡ lentLengthsRight images kept numbers bytes out
+  pub lengths-images : (images ≡ imagesLength → ⊥) → false ≡ lentLengthsRight images kept numbers bytes out
   unfolding lentLengthsRight
-  lengths-images h = rw (ne-eqb images 10240 h) refl
+  lengths-images h = rw (ne-eqb images imagesLength h) refl
 
-  pub lengths-kept : images ≡ 10240 → (kept ≡ 256 → ⊥) → false ≡ lentLengthsRight images kept numbers bytes out
+  pub lengths-kept : images ≡ imagesLength → (kept ≡ keptLength → ⊥) → false ≡ lentLengthsRight images kept numbers bytes out
   unfolding lentLengthsRight
-  lengths-kept a h = rw (eq-eqb images 10240 a, ne-eqb kept 256 h) refl
+  lengths-kept a h = rw (eq-eqb images imagesLength a, ne-eqb kept keptLength h) refl
 
-  pub lengths-numbers : images ≡ 10240 → kept ≡ 256 → (numbers ≡ 1016 → ⊥) → false ≡ lentLengthsRight images kept numbers bytes out
+  pub lengths-numbers : images ≡ imagesLength → kept ≡ keptLength → (numbers ≡ numbersLength → ⊥) → false ≡ lentLengthsRight images kept numbers bytes out
   unfolding lentLengthsRight
-  lengths-numbers a b h = rw (eq-eqb images 10240 a, eq-eqb kept 256 b, ne-eqb numbers 1016 h) refl
+  lengths-numbers a b h = rw (eq-eqb images imagesLength a, eq-eqb kept keptLength b, ne-eqb numbers numbersLength h) refl
 
-  pub lengths-bytes : images ≡ 10240 → kept ≡ 256 → numbers ≡ 1016 → (bytes ≡ 3048 → ⊥) → false ≡ lentLengthsRight images kept numbers bytes out
+  pub lengths-bytes : images ≡ imagesLength → kept ≡ keptLength → numbers ≡ numbersLength → (bytes ≡ bytesLength → ⊥) → false ≡ lentLengthsRight images kept numbers bytes out
   unfolding lentLengthsRight
-  lengths-bytes a b c h = rw (eq-eqb images 10240 a, eq-eqb kept 256 b, eq-eqb numbers 1016 c, ne-eqb bytes 3048 h) refl
+  lengths-bytes a b c h = rw (eq-eqb images imagesLength a, eq-eqb kept keptLength b, eq-eqb numbers numbersLength c, ne-eqb bytes bytesLength h) refl
 
-  pub lengths-out : images ≡ 10240 → kept ≡ 256 → numbers ≡ 1016 → bytes ≡ 3048 → (out ≡ 65536 → ⊥) → false ≡ lentLengthsRight images kept numbers bytes out
+  pub lengths-out : images ≡ imagesLength → kept ≡ keptLength → numbers ≡ numbersLength → bytes ≡ bytesLength → (out ≡ textLength → ⊥) → false ≡ lentLengthsRight images kept numbers bytes out
   unfolding lentLengthsRight
-  lengths-out a b c d h = rw (eq-eqb images 10240 a, eq-eqb kept 256 b, eq-eqb numbers 1016 c, eq-eqb bytes 3048 d, ne-eqb out 65536 h) refl
+  lengths-out a b c d h = rw (eq-eqb images imagesLength a, eq-eqb kept keptLength b, eq-eqb numbers numbersLength c, eq-eqb bytes bytesLength d, ne-eqb out textLength h) refl
 
   module _ (b : Bench) where
     pub refused-settings : (x : Bool) → x ≡ (eqb (b .settings .n) 0 || benchRange (b .settings)) → x ≡ false → 1 ≡ benchRefused b images kept numbers bytes out
@@ -73,49 +74,49 @@ module _ (images kept numbers bytes out : ℕ) where
     refused-lengths x y e h f g = rw (sym e ∙ h, sym f ∙ g) refl
 
     pub refused-many : (x y : Bool) → x ≡ (eqb (b .settings .n) 0 || benchRange (b .settings)) → x ≡ true → y ≡ lentLengthsRight images kept numbers bytes out → y ≡ true
-        → 127 < b .sent → 6 ≡ benchRefused b images kept numbers bytes out
+        → lastMessage < b .sent → 6 ≡ benchRefused b images kept numbers bytes out
     unfolding benchRefused firstRefusal
-    refused-many x y e h f g l = rw (sym e ∙ h, sym f ∙ g, lt-leb (b .sent) 127 l) refl
+    refused-many x y e h f g l = rw (sym e ∙ h, sym f ∙ g, lt-leb (b .sent) lastMessage l) refl
 
     pub refused-not : (x y : Bool) → x ≡ (eqb (b .settings .n) 0 || benchRange (b .settings)) → x ≡ true → y ≡ lentLengthsRight images kept numbers bytes out → y ≡ true
-        → b .sent ≤ 127 → 0 ≡ benchRefused b images kept numbers bytes out
+        → b .sent ≤ lastMessage → 0 ≡ benchRefused b images kept numbers bytes out
     unfolding benchRefused firstRefusal
-    refused-not x y e h f g l = rw (sym e ∙ h, sym f ∙ g, le-leb (b .sent) 127 l) refl
+    refused-not x y e h f g l = rw (sym e ∙ h, sym f ∙ g, le-leb (b .sent) lastMessage l) refl
 
     -- what is not refused
     pub record Accepted : Type 0 where
       pub right : eqb (b .settings .n) 0 || benchRange (b .settings) ≡ true
-      pub images-long : images ≡ 10240
-      pub kept-long : kept ≡ 256
-      pub numbers-long : numbers ≡ 1016
-      pub bytes-long : bytes ≡ 3048
-      pub out-long : out ≡ 65536
-      pub few : b .sent ≤ 127
+      pub images-long : images ≡ imagesLength
+      pub kept-long : kept ≡ keptLength
+      pub numbers-long : numbers ≡ numbersLength
+      pub bytes-long : bytes ≡ bytesLength
+      pub out-long : out ≡ textLength
+      pub few : b .sent ≤ lastMessage
 
     pub accepted : (k : ℕ) → k ≡ benchRefused b images kept numbers bytes out → k ≡ 0 → Accepted
     unfolding benchRefused firstRefusal lentLengthsRight
     accepted k e z =
-        go (eqb (b .settings .n) 0 || benchRange (b .settings)) (eqb images 10240 && eqb kept 256 && eqb numbers 1016 && eqb bytes 3048 && eqb out 65536) (leb (b .sent) 127) refl refl refl
+        go (eqb (b .settings .n) 0 || benchRange (b .settings)) (eqb images imagesLength && eqb kept keptLength && eqb numbers numbersLength && eqb bytes bytesLength && eqb out textLength) (leb (b .sent) lastMessage) refl refl refl
         (sym e ∙ z)
       where
         go : (x y w : Bool) → eqb (b .settings .n) 0 || benchRange (b .settings) ≡ x
-            → eqb images 10240 && eqb kept 256 && eqb numbers 1016 && eqb bytes 3048 && eqb out 65536 ≡ y → leb (b .sent) 127 ≡ w
+            → eqb images imagesLength && eqb kept keptLength && eqb numbers numbersLength && eqb bytes bytesLength && eqb out textLength ≡ y → leb (b .sent) lastMessage ≡ w
             → _≡_ {A = ℕ} (firstRefusal (refuseUnless x 1 ∷ refuseUnless y 2 ∷ refuseUnless w 6 ∷ [])) 0 → Accepted
         go false y w ex ey ew q = absurd (omega arith)
         go true false w ex ey ew q = absurd (omega arith)
         go true true false ex ey ew q = absurd (omega arith)
         go true true true ex ey ew q =
-            let four = and-left (eqb images 10240 && eqb kept 256 && eqb numbers 1016 && eqb bytes 3048) _ ey in
-            let three = and-left (eqb images 10240 && eqb kept 256 && eqb numbers 1016) _ four in
-            let two = and-left (eqb images 10240 && eqb kept 256) _ three in
+            let four = and-left (eqb images imagesLength && eqb kept keptLength && eqb numbers numbersLength && eqb bytes bytesLength) _ ey in
+            let three = and-left (eqb images imagesLength && eqb kept keptLength && eqb numbers numbersLength) _ four in
+            let two = and-left (eqb images imagesLength && eqb kept keptLength) _ three in
             record {
               right = ex;
-              images-long = eqb-true images 10240 (and-left (eqb images 10240) _ two);
-              kept-long = eqb-true kept 256 (and-right (eqb images 10240) _ two);
-              numbers-long = eqb-true numbers 1016 (and-right (eqb images 10240 && eqb kept 256) _ three);
-              bytes-long = eqb-true bytes 3048 (and-right (eqb images 10240 && eqb kept 256 && eqb numbers 1016) _ four);
-              out-long = eqb-true out 65536 (and-right (eqb images 10240 && eqb kept 256 && eqb numbers 1016 && eqb bytes 3048) _ ey);
-              few = leb-true (b .sent) 127 ew;
+              images-long = eqb-true images imagesLength (and-left (eqb images imagesLength) _ two);
+              kept-long = eqb-true kept keptLength (and-right (eqb images imagesLength) _ two);
+              numbers-long = eqb-true numbers numbersLength (and-right (eqb images imagesLength && eqb kept keptLength) _ three);
+              bytes-long = eqb-true bytes bytesLength (and-right (eqb images imagesLength && eqb kept keptLength && eqb numbers numbersLength) _ four);
+              out-long = eqb-true out textLength (and-right (eqb images imagesLength && eqb kept keptLength && eqb numbers numbersLength && eqb bytes bytesLength) _ ey);
+              few = leb-true (b .sent) lastMessage ew;
             }
 
 -- settings of a set are within the limits
@@ -210,6 +211,6 @@ pub none-waits : (b : Bench) (s : Settings) (l : Lent) → b ≡ freshBench s �
 unfolding stageOf freshBench
 none-waits b s l e z = ap (λ (x : Bench). cond (eqb (x .settings .n) 0) waiting (playing (x .settings) (worldIn x l))) e ∙ rw (eq-eqb (s .n) 0 z) refl
 
-pub none-accepted : (b : Bench) (s : Settings) → b ≡ freshBench s → s .n ≡ 0 → benchRefused b 10240 256 1016 3048 65536 ≡ 0
+pub none-accepted : (b : Bench) (s : Settings) → b ≡ freshBench s → s .n ≡ 0 → benchRefused b imagesLength keptLength numbersLength bytesLength textLength ≡ 0
 unfolding benchRefused firstRefusal lentLengthsRight freshBench
-none-accepted b s e z = ap (λ (x : Bench). benchRefused x 10240 256 1016 3048 65536) e ∙ rw (eq-eqb (s .n) 0 z) refl
+none-accepted b s e z = ap (λ (x : Bench). benchRefused x imagesLength keptLength numbersLength bytesLength textLength) e ∙ rw (eq-eqb (s .n) 0 z) refl

@@ -10,17 +10,18 @@ use Rattle.bench_state.specs.declared.Bench.{Bench}
 use Rattle.bench_rules.specs.Play.{refuses, passes}
 use Rattle.bench_rules.specs.Turning.{Lent, worldIn}
 use Rattle.bench_rules.specs.Workers.{Turned}
+use Rattle.bench_limits.specs.Limits.{lastMessage, lineRoom}
 
 -- one refusal
-pub turned-refused : (b : Bench) (l : Lent) (at number used : ℕ) (out out′ : List ℕ) → b .sent ≤ 127 → used ≡ at + length (refusedText number)
-    → out′ ≡ written at (refusedText number) out → used ≤ at + 128
+pub turned-refused : (b : Bench) (l : Lent) (at number used : ℕ) (out out′ : List ℕ) → b .sent ≤ lastMessage → used ≡ at + length (refusedText number)
+    → out′ ≡ written at (refusedText number) out → used ≤ at + lineRoom
     → Turned b l at out (refuses (worldIn b l) number) (record { bench = b; used = used }) l out′
 unfolding refuses
 turned-refused b l at number used out out′ f e w h =
     record { world-is = refl; settings-kept = refl; few = f; text-is = w; used-is = e; short = h }
 
 -- nothing
-pub turned-nothing : (b : Bench) (l : Lent) (at : ℕ) (out : List ℕ) → b .sent ≤ 127 → Turned b l at out (passes (worldIn b l)) (record { bench = b; used = at }) l out
+pub turned-nothing : (b : Bench) (l : Lent) (at : ℕ) (out : List ℕ) → b .sent ≤ lastMessage → Turned b l at out (passes (worldIn b l)) (record { bench = b; used = at }) l out
 unfolding passes
 turned-nothing b l at out f =
     record { world-is = refl; settings-kept = refl; few = f; text-is = sym (written-nothing at out); used-is = omega arith; short = omega arith }

@@ -5,6 +5,7 @@ use Rattle.bench_commit.proofs.Laws.ActedLaws.{acted-crash}
 use borrow.Author.Needs.{needs}
 use Rattle.bench_start.proofs.crash_with.Statement.{statement}
 use Rattle.bench_start.proofs.crash_with.Tie as tie
+use Rattle.bench_limits.specs.Limits.{stripeRoom, keptRoom}
 
 fetch-requires : tie.Need-fetch-requires
 fetch-requires c κs = search needs
@@ -46,8 +47,8 @@ returns c =
     let k = s .args .kept .now in
     acted-crash (s .args .b) (s .args .c) k (s .args .numbers .now) (s .args .bytes .now) 0 (s .args .out .now) _ _ _ _ _ _ _ _ (s .pre .0 .low)
     (c .before .before .before .before .before .before .before .before .before .before .before .before .before .before .before .before .coordinator-at .ensures .0)
-    (c .before .before .before .before .before .before .before .before .before .before .before .before .before .before .before .before .before .before .before .before .before .before .fetch .ensures .0 ∙ ap (λ (j : ℕ). take j (drop (s .args .c * 64) k)) (s .pre .1 .blocks-long))
-    (c .before .before .before .before .before .before .before .before .before .before .before .before .before .before .before .before .before .before .before .before .before .before .fetch .ensures .1 ∙ ap (λ (j : ℕ). take j (drop (s .args .c * 64 + 32) k)) (s .pre .1 .stripe-long))
+    (c .before .before .before .before .before .before .before .before .before .before .before .before .before .before .before .before .before .before .before .before .before .before .fetch .ensures .0 ∙ ap (λ (j : ℕ). take j (drop (s .args .c * keptRoom) k)) (s .pre .1 .blocks-long))
+    (c .before .before .before .before .before .before .before .before .before .before .before .before .before .before .before .before .before .before .before .before .before .before .fetch .ensures .1 ∙ ap (λ (j : ℕ). take j (drop (s .args .c * keptRoom + stripeRoom) k)) (s .pre .1 .stripe-long))
     _ (c .before .before .before .before .before .before .before .before .before .before .before .before .before .before .before .crash .ensures) (c .before .before .before .before .before .before .before .before .commit .ensures)
 
 pub crash-with-spec : {M : Type 1} → statement M

@@ -6,11 +6,12 @@ use Rattle.bench_start.proofs.Laws.ShortLaws.{content-long, count-is, c
 use borrow.Author.Needs.{needs}
 use Rattle.bench_start.proofs.write_with.Statement.{statement}
 use Rattle.bench_start.proofs.write_with.Tie as tie
+use Rattle.bench_limits.specs.Limits.{stripeRoom, keptRoom}
 
 read-content-requires : tie.Need-read-content-requires
 read-content-requires c κs =
     let s = c .before .before .before .before .before .before .before .before .before in
-    (s .pre .1 .1 .0, subst (λ (k : ℕ). k ≤ 32) (sym (content-long _ (s .args .content .now) (s .pre .1 .1 .1))) (s .pre .0 .fits .small .stripe-fits))
+    (s .pre .1 .1 .0, subst (λ (k : ℕ). k ≤ stripeRoom) (sym (content-long _ (s .args .content .now) (s .pre .1 .1 .1))) (s .pre .0 .fits .small .stripe-fits))
 
 fetch-requires : tie.Need-fetch-requires
 fetch-requires c κs = search needs
@@ -51,8 +52,8 @@ returns c =
     let q = c .before .before .before .before .before .before .before .before .before .before .before .before .before .before .before .before .before .before .before .before .before .before .before .read-content .ensures in
     short-write (s .args .b) (s .args .c) k (s .args .numbers .now) (s .args .bytes .now) 0 (s .args .out .now) _ k k k _ _ _ _ (s .pre .0 .low)
     (c .before .before .before .before .before .before .before .before .before .before .before .coordinator-at .ensures .0)
-    (c .before .before .before .before .before .before .before .before .before .before .before .before .before .before .before .before .before .fetch .ensures .0 ∙ ap (λ (j : ℕ). take j (drop (s .args .c * 64) k)) (s .pre .1 .0 .blocks-long))
-    (c .before .before .before .before .before .before .before .before .before .before .before .before .before .before .before .before .before .fetch .ensures .1 ∙ ap (λ (j : ℕ). take j (drop (s .args .c * 64 + 32) k)) (s .pre .1 .0 .stripe-long))
+    (c .before .before .before .before .before .before .before .before .before .before .before .before .before .before .before .before .before .fetch .ensures .0 ∙ ap (λ (j : ℕ). take j (drop (s .args .c * keptRoom) k)) (s .pre .1 .0 .blocks-long))
+    (c .before .before .before .before .before .before .before .before .before .before .before .before .before .before .before .before .before .fetch .ensures .1 ∙ ap (λ (j : ℕ). take j (drop (s .args .c * keptRoom + stripeRoom) k)) (s .pre .1 .0 .stripe-long))
     (s .args .clock) digits _ _ _ (content-is x digits (s .args .content .now) _ _ (s .pre .1 .1 .1) (q .0) (q .1))
     (count-is x digits (s .args .content .now) (s .args .content .now) _ (s .pre .1 .1 .1) (q .0)) (c .before .before .before .before .before .before .before .before .start-write .ensures .0) (sym (c .before .before .before .before .before .is-short .ensures) ∙ c .before .before .before .before .if1 .taken) (c .before .before .refuse .ensures)
 
@@ -95,8 +96,8 @@ returns-2 c =
     let q = c .before .before .before .before .before .before .before .before .before .before .before .before .before .before .before .before .before .before .before .before .before .before .before .before .before .before .before .before .before .before .before .before .before .before .read-content .ensures in
     whole-write (s .args .b) (s .args .c) k (s .args .numbers .now) (s .args .bytes .now) 0 (s .args .out .now) _ _ _ _ _ _ _ _ (s .pre .0 .low)
     (c .before .before .before .before .before .before .before .before .before .before .before .before .before .before .before .before .before .before .before .before .before .before .coordinator-at .ensures .0)
-    (c .before .before .before .before .before .before .before .before .before .before .before .before .before .before .before .before .before .before .before .before .before .before .before .before .before .before .before .before .fetch .ensures .0 ∙ ap (λ (j : ℕ). take j (drop (s .args .c * 64) k)) (s .pre .1 .0 .blocks-long))
-    (c .before .before .before .before .before .before .before .before .before .before .before .before .before .before .before .before .before .before .before .before .before .before .before .before .before .before .before .before .fetch .ensures .1 ∙ ap (λ (j : ℕ). take j (drop (s .args .c * 64 + 32) k)) (s .pre .1 .0 .stripe-long))
+    (c .before .before .before .before .before .before .before .before .before .before .before .before .before .before .before .before .before .before .before .before .before .before .before .before .before .before .before .before .fetch .ensures .0 ∙ ap (λ (j : ℕ). take j (drop (s .args .c * keptRoom) k)) (s .pre .1 .0 .blocks-long))
+    (c .before .before .before .before .before .before .before .before .before .before .before .before .before .before .before .before .before .before .before .before .before .before .before .before .before .before .before .before .fetch .ensures .1 ∙ ap (λ (j : ℕ). take j (drop (s .args .c * keptRoom + stripeRoom) k)) (s .pre .1 .0 .stripe-long))
     (s .args .clock) digits _ _ _ _ (content-is x digits (s .args .content .now) _ _ (s .pre .1 .1 .1) (q .0) (q .1))
     (count-is x digits (s .args .content .now) (s .args .content .now) _ (s .pre .1 .1 .1) (q .0)) (c .before .before .before .before .before .before .before .before .before .before .before .before .before .before .before .before .before .before .before .start-write .ensures .0) (c .before .before .before .before .before .before .before .before .before .before .before .before .before .before .before .before .before .before .before .start-write .ensures .1)
     (sym (c .before .before .before .before .before .before .before .before .before .before .before .before .before .before .before .before .is-short .ensures) ∙ c .before .before .before .before .before .before .before .before .before .before .before .before .before .before .before .if1 .left) (c .before .before .before .before .before .before .before .before .commit .ensures)
