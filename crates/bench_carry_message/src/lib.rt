@@ -1,4 +1,5 @@
 // A carried message at its brick (document 01, "The bench"): lost, refused, or received, and its reply sent.
+// inner: call `bench_player::play_line`
 ghost use mathlib.Core.Path.{_≡_};
 ghost use mathlib.Core.Bool.{false};
 ghost use mathlib.Core.List.{List};
@@ -35,7 +36,9 @@ fn settle(
 ) -> After
     requires { ⌜ (sentAfterMessage (b .sent) g ≤ lastMessage) × (length (now block) ≡ b .settings .size) × (b .settings .size ≤ benchSize) ⌝ }
     requires { ⌜ (length (now numbers) ≡ numbersLength) × (length (now bytes) ≡ bytesLength) × (at + lineRoom ≤ length (now out)) ⌝ }
-    ensures { λ r. ⌜ Settled b g (now (block .entry)) (now (numbers .entry)) (now (bytes .entry)) at (now (out .entry)) r (now (numbers .exit)) (now (bytes .exit)) (now (out .exit)) ⌝ }
+    ensures { λ r. ⌜ (
+        Settled b g (now (block .entry)) (now (numbers .entry)) (now (bytes .entry)) at (now (out .entry)) r
+        (now (numbers .exit)) (now (bytes .exit)) (now (out .exit))) ⌝ }
 {
     match g {
         Given::Answered(r) => {
@@ -63,7 +66,12 @@ fn deliver_with(
 ) -> After
     requires { ⌜ Lends b (now images) (now numbers) (now bytes) × Reaching b (now numbers) (now bytes) k brick msg ⌝ }
     requires { ⌜ (now block ≡ replicate (b .settings .size) 0) × (at + lineRoom ≤ length (now out)) ⌝ }
-    ensures { λ r. ⌜ ((kept : List ℕ) → Turned b (lent (now (images .entry)) kept (now (numbers .entry)) (now (bytes .entry))) at (now (out .entry)) (carries (b .settings) (worldIn b (lent (now (images .entry)) kept (now (numbers .entry)) (now (bytes .entry)))) k (itemAt (b .settings .size) (now (numbers .entry)) (now (bytes .entry)) k)) r (lent (now (images .exit)) kept (now (numbers .exit)) (now (bytes .exit))) (now (out .exit))) ⌝ }
+    ensures { λ r. ⌜ ((kept : List ℕ) →
+        let l = lent (now (images .entry)) kept (now (numbers .entry)) (now (bytes .entry)) in
+        let l′ = lent (now (images .exit)) kept (now (numbers .exit)) (now (bytes .exit)) in
+        Turned b l at (now (out .entry))
+        (carries (b .settings) (worldIn b l) k (itemAt (b .settings .size) (now (numbers .entry)) (now (bytes .entry)) k))
+        r l′ (now (out .exit))) ⌝ }
 {
     let s = b.settings;
     let start = brick * IMAGE_ROOM;
@@ -103,7 +111,12 @@ pub fn carry_message(
 ) -> After
     requires { ⌜ Lends b (now images) (now numbers) (now bytes) × (k < b .sent) ⌝ }
     requires { ⌜ (isReply (now numbers) k ≡ false) × (at + lineRoom ≤ length (now out)) ⌝ }
-    ensures { λ r. ⌜ ((kept : List ℕ) → Turned b (lent (now (images .entry)) kept (now (numbers .entry)) (now (bytes .entry))) at (now (out .entry)) (carries (b .settings) (worldIn b (lent (now (images .entry)) kept (now (numbers .entry)) (now (bytes .entry)))) k (itemAt (b .settings .size) (now (numbers .entry)) (now (bytes .entry)) k)) r (lent (now (images .exit)) kept (now (numbers .exit)) (now (bytes .exit))) (now (out .exit))) ⌝ }
+    ensures { λ r. ⌜ ((kept : List ℕ) →
+        let l = lent (now (images .entry)) kept (now (numbers .entry)) (now (bytes .entry)) in
+        let l′ = lent (now (images .exit)) kept (now (numbers .exit)) (now (bytes .exit)) in
+        Turned b l at (now (out .entry))
+        (carries (b .settings) (worldIn b l) k (itemAt (b .settings .size) (now (numbers .entry)) (now (bytes .entry)) k))
+        r l′ (now (out .exit))) ⌝ }
 {
     let s = b.settings;
     let brick = bench_sent::brick_at(numbers, k);

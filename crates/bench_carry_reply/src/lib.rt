@@ -1,4 +1,5 @@
-// A carried reply at its coordinator (document 01, "The bench").
+// A carried reply at its coordinator (document 01, "The bench"): counted, or refused.
+// inner: call `bench_player::play_line`
 ghost use mathlib.Core.Path.{_≡_};
 ghost use mathlib.Core.Bool.{true};
 ghost use Prim.Native.Nat.{_+_, _*_, _%_, _<_};
@@ -38,7 +39,12 @@ fn reply_with(
     requires { ⌜ Seats b c (now kept) (now numbers) (now bytes) at (now out) ⌝ }
     requires { ⌜ Copies (b .settings) (now blocks) (now stripe) (now coded) ⌝ }
     requires { ⌜ (k < b .sent) × (isReply (now numbers) k ≡ true) × (reply ≡ replyAt (now numbers) k) × (c ≡ reply .time % 16) ⌝ }
-    ensures { λ r. ⌜ BenchActed b c (arrives k) (λ (h : Buffered). takeStep (b .settings .n) (b .settings .m) (b .settings .size) h reply (sentBlockAt (b .settings .size) (now (bytes .entry)) k) (b .settings .n * b .settings .size)) (now (kept .entry)) (now (numbers .entry)) (now (bytes .entry)) at (now (out .entry)) r (now (kept .exit)) (now (numbers .exit)) (now (bytes .exit)) (now (out .exit)) ⌝ }
+    ensures { λ r. ⌜ (
+        let s = b .settings in
+        BenchActed b c (arrives k)
+        (λ (h : Buffered). takeStep (s .n) (s .m) (s .size) h reply (sentBlockAt (s .size) (now (bytes .entry)) k) (s .n * s .size))
+        (now (kept .entry)) (now (numbers .entry)) (now (bytes .entry)) at (now (out .entry)) r
+        (now (kept .exit)) (now (numbers .exit)) (now (bytes .exit)) (now (out .exit))) ⌝ }
 {
     bench_state::fetch(c, kept, blocks, stripe);
     let s = b.settings;
@@ -83,7 +89,11 @@ pub fn carry_reply(
 ) -> After
     requires { ⌜ Seats b 0 (now kept) (now numbers) (now bytes) at (now out) ⌝ }
     requires { ⌜ (k < b .sent) × (isReply (now numbers) k ≡ true) ⌝ }
-    ensures { λ r. ⌜ Plays b (λ (w : World). carries (b .settings) w k (itemAt (b .settings .size) (now (numbers .entry)) (now (bytes .entry)) k)) (now (kept .entry)) (now (numbers .entry)) (now (bytes .entry)) at (now (out .entry)) r (now (kept .exit)) (now (numbers .exit)) (now (bytes .exit)) (now (out .exit)) ⌝ }
+    ensures { λ r. ⌜ (
+        let s = b .settings in
+        Plays b (λ (w : World). carries s w k (itemAt (s .size) (now (numbers .entry)) (now (bytes .entry)) k))
+        (now (kept .entry)) (now (numbers .entry)) (now (bytes .entry)) at (now (out .entry)) r
+        (now (kept .exit)) (now (numbers .exit)) (now (bytes .exit)) (now (out .exit))) ⌝ }
 {
     let reply = bench_sent::reply_at(numbers, k);
     let c = reply.time % 16;

@@ -44,7 +44,8 @@ pub record BenchActed (b : Bench) (c : ℕ) (e : Event) (p : Buffered → Step) 
       r (lent images kept′ numbers′ bytes′) out′
 
 -- an event has been played, whatever the images are
-pub record Plays (b : Bench) (p : World → Played) (kept numbers bytes : List ℕ) (at : ℕ) (out : List ℕ) (r : After) (kept′ numbers′ bytes′ out′ : List ℕ) : Type 0 where
+pub record Plays (b : Bench) (p : World → Played) (kept numbers bytes : List ℕ) (at : ℕ) (out : List ℕ) (r : After) (kept′ numbers′ bytes′ out′ : List ℕ) : Type
+    0 where
   pub turned : (images : List ℕ)
       → Turned b (lent images kept numbers bytes) at out (p (worldIn b (lent images kept numbers bytes))) r (lent images kept′ numbers′ bytes′) out′
 

@@ -61,7 +61,10 @@ fn keep_answer(
     requires { ⌜ Seats b c (now kept) (now numbers) (now bytes) at (now out) ⌝ }
     requires { ⌜ Copies (b .settings) (now blocks) (now stripe) (now coded) ⌝ }
     requires { ⌜ (a .refusal ≡ 0) × (sent ≡ sentAfterAnswer (b .settings .n) (b .sent) (a .sent)) × (sent ≤ lastMessage) ⌝ }
-    ensures { λ r. ⌜ Answers b c a (now (blocks .entry)) (now (stripe .entry)) (now (coded .entry)) (now (kept .entry)) (now (numbers .entry)) (now (bytes .entry)) at (now (out .entry)) r (now (kept .exit)) (now (numbers .exit)) (now (bytes .exit)) (now (out .exit)) ⌝ }
+    ensures { λ r. ⌜ (
+        Answers b c a (now (blocks .entry)) (now (stripe .entry)) (now (coded .entry))
+        (now (kept .entry)) (now (numbers .entry)) (now (bytes .entry)) at (now (out .entry)) r
+        (now (kept .exit)) (now (numbers .exit)) (now (bytes .exit)) (now (out .exit))) ⌝ }
 {
     let s = b.settings;
     let msg = a.message;
@@ -90,7 +93,10 @@ pub fn commit(
 ) -> After
     requires { ⌜ Seats b c (now kept) (now numbers) (now bytes) at (now out) ⌝ }
     requires { ⌜ Copies (b .settings) (now blocks) (now stripe) (now coded) ⌝ }
-    ensures { λ r. ⌜ Answers b c a (now (blocks .entry)) (now (stripe .entry)) (now (coded .entry)) (now (kept .entry)) (now (numbers .entry)) (now (bytes .entry)) at (now (out .entry)) r (now (kept .exit)) (now (numbers .exit)) (now (bytes .exit)) (now (out .exit)) ⌝ }
+    ensures { λ r. ⌜ (
+        Answers b c a (now (blocks .entry)) (now (stripe .entry)) (now (coded .entry))
+        (now (kept .entry)) (now (numbers .entry)) (now (bytes .entry)) at (now (out .entry)) r
+        (now (kept .exit)) (now (numbers .exit)) (now (bytes .exit)) (now (out .exit))) ⌝ }
 {
     if a.refusal != 0 {
         return bench_rules::refuse(b, a.refusal, at, out);

@@ -21,12 +21,9 @@ benchCoordinators = 4
 abbrev pub lastMessage : ℕ
 lastMessage = 127
 
--- the flag of a brick that is up, and of one that is down
+-- the flag of a brick that is up; any other flag is of one that is down
 abbrev pub upFlag : ℕ
 upFlag = 1
-
-abbrev pub downFlag : ℕ
-downFlag = 0
 
 -- room for the blocks of all bricks, or for a stripe
 abbrev pub stripeRoom : ℕ

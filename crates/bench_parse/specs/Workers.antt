@@ -5,7 +5,8 @@ use mathlib.Core.List.{List, [], _∷_}
 use Prim.Native.Nat.{ℕ, _+_, _≤_, _<_}
 use lib.Dec.{leb}
 use lib.ListN.{length, drop}
-use Rattle.bench_parse.specs.Lines.{every, longest, words, numberWord, numbersOf, hexWord, Line, setLine, writeLine, readLine, carryLine, crashLine, downLine, upLine, noLine}
+use Rattle.bench_parse.specs.Lines.{every, longest, words, numberWord, numbersOf, hexWord, Line, setLine, writeLine, readLine, carryLine, crashLine}
+use Rattle.bench_parse.specs.Lines.{downLine, upLine, noLine}
 use Rattle.bench_parse.specs.declared.Line as code
 use Rattle.bench_parse.specs.declared.Line.the-variants.{Set, Write, Read, Carry, Crash, Down, Up, Unread}
 use Rattle.bench_parse.specs.declared.Number.{Number}
@@ -165,7 +166,8 @@ commandNumber w =
     cond (same w setText) setCommand
     (cond (same w writeText) writeCommand
     (cond (same w readText) readCommand
-    (cond (same w carryText) carryCommand (cond (same w crashText) crashCommand (cond (same w downText) downCommand (cond (same w upText) upCommand noCommand))))))
+    (cond (same w carryText) carryCommand
+    (cond (same w crashText) crashCommand (cond (same w downText) downCommand (cond (same w upText) upCommand noCommand))))))
 
 -- what such a line says
 unfoldable pub byNumber : ℕ → List (List ℕ) → Line

@@ -1,10 +1,12 @@
-// How a line of the bench reads (document 01, "The bench").
+// How a line of the bench reads (document 01, "The bench"): from the bytes of a line to what it says.
+// inner: call `bench_player::play_line`
 ghost use mathlib.Core.Path.{_≡_};
 ghost use mathlib.Core.Bool.{true, _&&_};
 ghost use lib.Dec.{leb};
 ghost use Prim.Native.Nat.{_+_, _*_, _≤_, _<_};
 ghost use lib.ListN.{length, drop};
-ghost use Rattle.bench_parse.specs.Lines.{every, numberWord, isHex, hexValue, bytesOf, crashLine, downLine, upLine, setOf, writeOf, readOf, carryOf, oneOf, reads};
+ghost use Rattle.bench_parse.specs.Lines.{every, numberWord, isHex, hexValue, bytesOf, crashLine, downLine, upLine, setOf, writeOf, readOf, carryOf};
+ghost use Rattle.bench_parse.specs.Lines.{oneOf, reads};
 ghost use Rattle.byte_lists.specs.Lists.{same};
 ghost use Rattle.bench_parse.specs.Workers.{wordsFrom, lineOf, CarryFrom, LineSound, NumberAt};
 ghost use Rattle.bench_parse.specs.Workers.{carryCommand, afterCarry};

@@ -6,7 +6,7 @@ use Prim.Native.Nat.{ℕ, _≤_}
 use lib.Dec.{eqb}
 use lib.ListN.{length}
 use Rattle.bench_parse.specs.Lines.{Line}
-use Rattle.bench_rules.specs.Play.{Turn, first}
+use Rattle.bench_rules.specs.Play.{eventsOf, Turn, first}
 use Rattle.bench_rules.specs.Turning.{Lent, lent}
 use Rattle.bench_print.specs.Printing.{written}
 use Rattle.bench_state.specs.State.{benchRange}
@@ -16,7 +16,7 @@ use Rattle.bench_limits.specs.Limits.{lastMessage, textLength}
 
 -- The bench after a line, by its stage.
 pub record Staged (t : Turn) (out : List ℕ) (r : After) (l′ : Lent) (out′ : List ℕ) : Type 0 where
-  pub stage-is : stageOf (r .bench) l′ ≡ t .stage
+  pub stage-is : stageOf (r .bench) l′ (eventsOf (t .stage)) ≡ t .stage
   pub few : r .bench .sent ≤ lastMessage
   pub right : eqb (r .bench .settings .n) 0 || benchRange (r .bench .settings) ≡ true
   pub text-is : out′ ≡ written 0 (t .printed) out

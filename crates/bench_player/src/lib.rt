@@ -1,22 +1,21 @@
-// Playing the bench's lines (document 01, "The bench") over the proved routines.
+// The bench's lines, played one at a time over the proved routines (document 01, "The bench"): `play_line` is what a user calls.
 ghost use mathlib.Core.Path.{_≡_};
 ghost use mathlib.Core.Bool.{_||_};
-ghost use mathlib.Core.List.{[], _∷_, _++_};
+ghost use mathlib.Core.List.{List, [], _∷_, _++_};
 ghost use Prim.Native.Nat.{_+_, _≤_};
 ghost use lib.Dec.{eqb};
 ghost use lib.ListN.{length, take};
-ghost use Rattle.bench_carry.specs.Workers.{Lined};
 ghost use Rattle.bench_player.specs.Lining.{stageOf, lentLengthsRight, benchRefused, Called};
 ghost use Rattle.bench_player.specs.Workers.{First};
 ghost use Rattle.bench_parse.specs.Lines.{heldLength, reads};
 ghost use Rattle.bench_parse.specs.Workers.{lineOf, LineSound};
 ghost use Rattle.bench_rules.specs.Play.{plays, waiting};
 ghost use Rattle.bench_rules.specs.Turning.{Lent, lent, worldIn};
-ghost use Rattle.bench_rules.specs.Workers.{BenchReady};
+ghost use Rattle.bench_rules.specs.Workers.{BenchReady, Lined};
 ghost use Rattle.bench_state.specs.State.{benchRange};
+ghost use Rattle.register.specs.Runs.{Event};
 ghost use Rattle.bench_limits.specs.Limits.{lastMessage, keptLength, imagesLength, numbersLength, bytesLength, textLength};
 use bench_carry::carry_all;
-use bench_carry::switch_at;
 use bench_limits::BYTES_LENGTH;
 use bench_limits::DOWN;
 use bench_limits::IMAGES_LENGTH;
@@ -29,6 +28,7 @@ use bench_parse::HELD_LENGTH;
 use bench_parse::Line;
 use bench_rules::After;
 use bench_state::Bench;
+use bench_switch::switch_at;
 use settings::Settings;
 
 // A line while no set is accepted: what its bytes read as is given.
@@ -84,7 +84,10 @@ fn play_next(
     requires { ⌜ (lineOf l (now line) ≡ reads (now line)) × LineSound l (now line) ⌝ }
     requires { ⌜ BenchReady b (lent (now images) (now kept) (now numbers) (now bytes)) ⌝ }
     requires { ⌜ length (now out) ≡ textLength ⌝ }
-    ensures { λ r. ⌜ Lined b (lent (now (images .entry)) (now (kept .entry)) (now (numbers .entry)) (now (bytes .entry))) (now (out .entry)) (plays (b .settings) (worldIn b (lent (now (images .entry)) (now (kept .entry)) (now (numbers .entry)) (now (bytes .entry)))) (reads (now (line .entry)))) r (lent (now (images .exit)) (now (kept .exit)) (now (numbers .exit)) (now (bytes .exit))) (now (out .exit)) ⌝ }
+    ensures { λ r. ⌜ (
+        let l = lent (now (images .entry)) (now (kept .entry)) (now (numbers .entry)) (now (bytes .entry)) in
+        let l′ = lent (now (images .exit)) (now (kept .exit)) (now (numbers .exit)) (now (bytes .exit)) in
+        Lined b l (now (out .entry)) (plays (b .settings) (worldIn b l) (reads (now (line .entry)))) r l′ (now (out .exit))) ⌝ }
 {
     match l {
         Line::Set(_, _, _, _) => bench_rules::refuse(b, 12, 0, out),
@@ -167,7 +170,7 @@ fn bench_refused(
 
 // The bench before its first line: no set.
 pub fn no_set() -> Bench
-    ensures { λ r. ⌜ ((l : Lent) → stageOf r l ≡ waiting) ⌝ }
+    ensures { λ r. ⌜ ((l : Lent) (events : List Event) → stageOf r l events ≡ waiting) ⌝ }
     ensures { λ r. ⌜ benchRefused r imagesLength keptLength numbersLength bytesLength textLength ≡ 0 ⌝ }
 {
     let none = Settings {
@@ -190,7 +193,10 @@ pub fn play_line(
     bytes: &mut [u8],
     out: &mut [u8],
 ) -> Played
-    ensures { λ r. ⌜ Called b (lent (now (images .entry)) (now (kept .entry)) (now (numbers .entry)) (now (bytes .entry))) (now (line .entry)) (now (out .entry)) r (lent (now (images .exit)) (now (kept .exit)) (now (numbers .exit)) (now (bytes .exit))) (now (out .exit)) ⌝ }
+    ensures { λ r. ⌜ (
+        let l = lent (now (images .entry)) (now (kept .entry)) (now (numbers .entry)) (now (bytes .entry)) in
+        let l′ = lent (now (images .exit)) (now (kept .exit)) (now (numbers .exit)) (now (bytes .exit)) in
+        Called b l (now (line .entry)) (now (out .entry)) r l′ (now (out .exit))) ⌝ }
 {
     let bad = bench_refused(
         b,

@@ -1,9 +1,11 @@
 // What the bench prints (document 01, "The bench"): a line per ended operation and per refusal, written into a lent buffer from a place on.
+// inner: call `bench_player::play_line`
 ghost use mathlib.Core.Path.{_≡_};
 ghost use mathlib.Core.List.{[], _∷_, _++_};
 ghost use Prim.Native.Nat.{_+_, _≤_, _<_};
 ghost use lib.ListN.{length};
-ghost use Rattle.bench_print.specs.Printing.{space, newline, digit, decimal, hexDigit, hexText, refusedText, kindWord, endWord, lineText, endedText, written};
+ghost use Rattle.bench_print.specs.Printing.{space, newline, digit, decimal, hexDigit, hexText, refusedText, kindWord, endWord, lineText, endedText};
+ghost use Rattle.bench_print.specs.Printing.{written};
 ghost use Rattle.bench_print.specs.Workers.{numberRoom, kindRoom, endRoom, endedRoom, PrintedAt};
 ghost use Rattle.bench_limits.specs.Limits.{stripeRoom, lineRoom};
 use coord_apply::ABORTED;

@@ -1,3 +1,2 @@
--- The laws of `bench_rules`, for its own proofs and those of the crates above. No contract cites them.
--- Definitions: Content, Play, Turning. Laws: TurnLaws.
+-- A part of a line: one refusal, or nothing.
 pub mod TurningLaws

@@ -129,11 +129,17 @@ plays s w (downLine b) = switches s w b (goesDown b)
 plays s w (upLine b) = switches s w b (comesUp b)
 plays s w noLine = refuses w badLine
 
--- The bench: no set so far, or a set with its world.
+-- The bench: no set so far, or a set with its world and the events that led to it.
 pub data Stage : Type 0 where
   waiting : Stage
-  playing : Settings → World → Stage
+  playing : Settings → World → List Event → Stage
 
+-- the events that led to a stage
+unfoldable pub eventsOf : Stage → List Event
+eventsOf waiting = []
+eventsOf (playing s w events) = events
+
+-- What a line leaves: the stage, the events of this line, and what is printed.
 pub record Turn : Type 0 where
   pub stage : Stage
   pub events : List Event
@@ -144,7 +150,7 @@ waits number = record { stage = waiting; events = []; printed = refusedText numb
 
 -- "`set n m size capacity` (first, one time)"; "Settings past the bench's limits are refusal 1"
 unfoldable pub begins : Settings → Turn
-begins s = cond (benchRange s) (record { stage = playing s (freshSet s); events = []; printed = [] }) (waits badSetting)
+begins s = cond (benchRange s) (record { stage = playing s (freshSet s) []; events = []; printed = [] }) (waits badSetting)
 
 -- what is "no `set` while none is accepted" is refusal 12
 unfoldable pub first : Line → Turn
@@ -157,8 +163,12 @@ first (downLine b) = waits badLine
 first (upLine b) = waits badLine
 first noLine = waits badLine
 
--- one line
+-- one line: the events of a set are those so far, and the line's
 unfoldable pub turn : Stage → Line → Turn
 turn waiting line = first line
-turn (playing s w) line =
-    record { stage = playing s (plays s w line .world); events = plays s w line .events; printed = plays s w line .printed }
+turn (playing s w events) line =
+    record {
+      stage = playing s (plays s w line .world) (events ++ plays s w line .events);
+      events = plays s w line .events;
+      printed = plays s w line .printed;
+    }

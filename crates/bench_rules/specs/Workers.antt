@@ -9,7 +9,7 @@ use Rattle.bench_state.specs.declared.Bench.{Bench}
 use Rattle.bench_rules.specs.Play.{Played}
 use Rattle.bench_rules.specs.declared.After.{After}
 use Rattle.bench_rules.specs.Turning.{Lent, worldIn}
-use Rattle.bench_limits.specs.Limits.{lastMessage, keptLength, imagesLength, numbersLength, bytesLength, lineRoom}
+use Rattle.bench_limits.specs.Limits.{lastMessage, keptLength, imagesLength, numbersLength, bytesLength, lineRoom, textLength}
 
 -- A set that is played: settings within the bench's limits, 127 messages at most, buffers of the right lengths.
 pub record BenchReady (b : Bench) (l : Lent) : Type 0 where
@@ -28,3 +28,12 @@ pub record Turned (b : Bench) (l : Lent) (at : ℕ) (out : List ℕ) (p : Played
   pub text-is : out′ ≡ written at (p .printed) out
   pub used-is : r .used ≡ at + length (p .printed)
   pub short : r .used ≤ at + lineRoom
+
+-- a line or a part of one at the beginning of the printed text
+pub record Lined (b : Bench) (l : Lent) (out : List ℕ) (p : Played) (r : After) (l′ : Lent) (out′ : List ℕ) : Type 0 where
+  pub world-is : worldIn (r .bench) l′ ≡ p .world
+  pub settings-kept : r .bench .settings ≡ b .settings
+  pub few : r .bench .sent ≤ lastMessage
+  pub text-is : out′ ≡ written 0 (p .printed) out
+  pub used-is : r .used ≡ length (p .printed)
+  pub within : r .used ≤ textLength

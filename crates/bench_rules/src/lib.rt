@@ -1,4 +1,5 @@
-// The bench's turns (document 01, "The bench"): the answer of a part of a line, and the short ways: one refusal, or nothing.
+// The rules of the bench's lines (document 01, "The bench") are definitions, in specs/Play. Here: what a part of a line answers, and one refusal.
+// inner: call `bench_player::play_line`
 ghost use Prim.Native.Nat.{_+_, _≤_};
 ghost use lib.ListN.{length};
 ghost use Rattle.bench_rules.specs.Play.{refuses};

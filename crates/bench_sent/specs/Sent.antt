@@ -7,7 +7,8 @@ use lib.ListN.{getD, take, drop}
 use Rattle.message.specs.declared.Message.{Message}
 use Rattle.message.specs.declared.Reply.{Reply}
 use Rattle.register.specs.Runs.{Item, message, reply}
-use Rattle.bench_limits.specs.Limits.{rowNumbers, rowBytes, tagPlace, brickPlace, kindPlace, timePlace, roundPlace, maxPlace, foundPlace, yesPlace, heldPlace, messageTag, flagCount, blockPlace}
+use Rattle.bench_limits.specs.Limits.{rowNumbers, rowBytes, tagPlace, brickPlace, kindPlace, timePlace, roundPlace, maxPlace, foundPlace, yesPlace, heldPlace}
+use Rattle.bench_limits.specs.Limits.{messageTag, flagCount, blockPlace}
 
 -- number i of row k
 unfoldable pub numberAt : List ℕ → ℕ → ℕ → ℕ

@@ -1,4 +1,5 @@
 // What the bench has sent, kept in lent buffers: item k has row k of the numbers and row k of the bytes, laid out as `bench_limits` says.
+// inner: call `bench_player::play_line`
 ghost use mathlib.Core.Path.{_≡_};
 ghost use Prim.Native.Nat.{_+_, _*_, _%_, _≤_, _<_};
 ghost use lib.ListN.{length};
@@ -74,7 +75,8 @@ pub fn put_message(
     requires { ⌜ (length (now block) ≤ benchSize) × (k * rowNumbers + rowNumbers ≤ length (now numbers)) × (k * rowBytes + rowBytes ≤ length (now bytes)) ⌝ }
     ensures { λ _. ⌜ now (numbers .exit) ≡ numbersWith k (messageRow brick msg) (now (numbers .entry)) ⌝ }
     ensures { λ _. ⌜ now (bytes .exit) ≡ bytesWith k (msg .targets) (now (block .entry)) (now (bytes .entry)) ⌝ }
-    ensures { λ _. ⌜ Added k (now (block .entry)) (now (numbers .entry)) (now (bytes .entry)) (now (numbers .exit)) (now (bytes .exit)) (message brick msg (now (block .entry))) ⌝ }
+    ensures { λ _. ⌜ Added k (now (block .entry)) (now (numbers .entry)) (now (bytes .entry))
+        (now (numbers .exit)) (now (bytes .exit)) (message brick msg (now (block .entry))) ⌝ }
 {
     let kind = wide(msg.kind);
     let to = brick as u64;
@@ -106,7 +108,8 @@ pub fn put_reply(k: usize, r: Reply, block: &[u8], numbers: &mut [u64], bytes: &
     requires { ⌜ (length (now block) ≤ benchSize) × (k * rowNumbers + rowNumbers ≤ length (now numbers)) × (k * rowBytes + rowBytes ≤ length (now bytes)) ⌝ }
     ensures { λ _. ⌜ now (numbers .exit) ≡ numbersWith k (replyRow r) (now (numbers .entry)) ⌝ }
     ensures { λ _. ⌜ now (bytes .exit) ≡ bytesWith k noFlags (now (block .entry)) (now (bytes .entry)) ⌝ }
-    ensures { λ _. ⌜ Added k (now (block .entry)) (now (numbers .entry)) (now (bytes .entry)) (now (numbers .exit)) (now (bytes .exit)) (reply r (now (block .entry))) ⌝ }
+    ensures { λ _. ⌜ Added k (now (block .entry)) (now (numbers .entry)) (now (bytes .entry))
+        (now (numbers .exit)) (now (bytes .exit)) (reply r (now (block .entry))) ⌝ }
 {
     let kind = wide(r.kind);
     let from = r.brick as u64;

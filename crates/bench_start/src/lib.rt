@@ -1,5 +1,6 @@
 // Starts and crashes at a coordinator of the bench (document 01, "The bench"): the proved routines work on copies of what the coordinator
 // keeps, and what they answer counts only where its messages stay within message 127.
+// inner: call `bench_player::play_line`
 ghost use mathlib.Core.Path.{_≡_};
 ghost use mathlib.Core.Bool.{true, cond, not, _&&_};
 ghost use Prim.Native.Nat.{_*_, _≤_, _<_};
@@ -37,7 +38,12 @@ fn read_with(
 ) -> After
     requires { ⌜ Seats b c (now kept) (now numbers) (now bytes) 0 (now out) ⌝ }
     requires { ⌜ Copies (b .settings) (now blocks) (now stripe) (now blocks) ⌝ }
-    ensures { λ r. ⌜ BenchActed b c (startRead c clock brick) (λ (h : Buffered). readStep (b .settings .n) (b .settings .m) (b .settings .size) h clock brick) (now (kept .entry)) (now (numbers .entry)) (now (bytes .entry)) 0 (now (out .entry)) r (now (kept .exit)) (now (numbers .exit)) (now (bytes .exit)) (now (out .exit)) ⌝ }
+    ensures { λ r. ⌜ (
+        let s = b .settings in
+        BenchActed b c (startRead c clock brick)
+        (λ (h : Buffered). readStep (s .n) (s .m) (s .size) h clock brick)
+        (now (kept .entry)) (now (numbers .entry)) (now (bytes .entry)) 0 (now (out .entry)) r
+        (now (kept .exit)) (now (numbers .exit)) (now (bytes .exit)) (now (out .exit))) ⌝ }
 {
     bench_state::fetch(c, kept, blocks, stripe);
     let s = b.settings;
@@ -71,7 +77,12 @@ fn crash_with(
 ) -> After
     requires { ⌜ Seats b c (now kept) (now numbers) (now bytes) 0 (now out) ⌝ }
     requires { ⌜ Copies (b .settings) (now blocks) (now stripe) (now blocks) ⌝ }
-    ensures { λ r. ⌜ BenchActed b c (crashes c untouched) (λ (h : Buffered). crashStep (b .settings .n) (b .settings .m) (b .settings .size) h) (now (kept .entry)) (now (numbers .entry)) (now (bytes .entry)) 0 (now (out .entry)) r (now (kept .exit)) (now (numbers .exit)) (now (bytes .exit)) (now (out .exit)) ⌝ }
+    ensures { λ r. ⌜ (
+        let s = b .settings in
+        BenchActed b c (crashes c untouched)
+        (λ (h : Buffered). crashStep (s .n) (s .m) (s .size) h)
+        (now (kept .entry)) (now (numbers .entry)) (now (bytes .entry)) 0 (now (out .entry)) r
+        (now (kept .exit)) (now (numbers .exit)) (now (bytes .exit)) (now (out .exit))) ⌝ }
 {
     bench_state::fetch(c, kept, blocks, stripe);
     let s = b.settings;
@@ -133,7 +144,14 @@ fn write_with(
     requires { ⌜ Seats b c (now kept) (now numbers) (now bytes) 0 (now out) ⌝ }
     requires { ⌜ Copies (b .settings) (now blocks) (now stripe) (now blocks) ⌝ }
     requires { ⌜ (hex ≤ length (now line)) × (now content ≡ replicate (b .settings .m * b .settings .size) 0) ⌝ }
-    ensures { λ r. ⌜ BenchActed b c (startWrite c clock (content-of (b .settings) (drop hex (now (line .entry)))) (content-small (b .settings) (drop hex (now (line .entry))))) (λ (h : Buffered). unlessShort (counted (b .settings) (drop hex (now (line .entry)))) (writeStep (b .settings .n) (b .settings .m) (b .settings .size) h clock (content-of (b .settings) (drop hex (now (line .entry)))))) (now (kept .entry)) (now (numbers .entry)) (now (bytes .entry)) 0 (now (out .entry)) r (now (kept .exit)) (now (numbers .exit)) (now (bytes .exit)) (now (out .exit)) ⌝ }
+    ensures { λ r. ⌜ (
+        let s = b .settings in
+        let digits = drop hex (now (line .entry)) in
+        BenchActed b c
+        (startWrite c clock (content-of s digits) (content-small s digits))
+        (λ (h : Buffered). unlessShort (counted s digits) (writeStep (s .n) (s .m) (s .size) h clock (content-of s digits)))
+        (now (kept .entry)) (now (numbers .entry)) (now (bytes .entry)) 0 (now (out .entry)) r
+        (now (kept .exit)) (now (numbers .exit)) (now (bytes .exit)) (now (out .exit))) ⌝ }
 {
     let right = read_content(line, hex, content);
     bench_state::fetch(c, kept, blocks, stripe);
@@ -170,7 +188,11 @@ pub fn read_at(
     out: &mut [u8],
 ) -> After
     requires { ⌜ Seats b 0 (now kept) (now numbers) (now bytes) 0 (now out) ⌝ }
-    ensures { λ r. ⌜ Plays b (λ (w : World). starts (b .settings) w c clock brick) (now (kept .entry)) (now (numbers .entry)) (now (bytes .entry)) 0 (now (out .entry)) r (now (kept .exit)) (now (numbers .exit)) (now (bytes .exit)) (now (out .exit)) ⌝ }
+    ensures { λ r. ⌜ (
+        let s = b .settings in
+        Plays b (λ (w : World). starts s w c clock brick)
+        (now (kept .entry)) (now (numbers .entry)) (now (bytes .entry)) 0 (now (out .entry)) r
+        (now (kept .exit)) (now (numbers .exit)) (now (bytes .exit)) (now (out .exit))) ⌝ }
 {
     if COORDINATORS <= c {
         return bench_rules::refuse(b, 3, 0, out);
@@ -206,7 +228,11 @@ pub fn crash_at(
     out: &mut [u8],
 ) -> After
     requires { ⌜ Seats b 0 (now kept) (now numbers) (now bytes) 0 (now out) ⌝ }
-    ensures { λ r. ⌜ Plays b (λ (w : World). crashesAt (b .settings) w c) (now (kept .entry)) (now (numbers .entry)) (now (bytes .entry)) 0 (now (out .entry)) r (now (kept .exit)) (now (numbers .exit)) (now (bytes .exit)) (now (out .exit)) ⌝ }
+    ensures { λ r. ⌜ (
+        let s = b .settings in
+        Plays b (λ (w : World). crashesAt s w c)
+        (now (kept .entry)) (now (numbers .entry)) (now (bytes .entry)) 0 (now (out .entry)) r
+        (now (kept .exit)) (now (numbers .exit)) (now (bytes .exit)) (now (out .exit))) ⌝ }
 {
     if COORDINATORS <= c {
         return bench_rules::refuse(b, 3, 0, out);
@@ -243,7 +269,12 @@ pub fn write_at(
 ) -> After
     requires { ⌜ Seats b 0 (now kept) (now numbers) (now bytes) 0 (now out) ⌝ }
     requires { ⌜ hex ≤ length (now line) ⌝ }
-    ensures { λ r. ⌜ Plays b (λ (w : World). writes (b .settings) w c clock (drop hex (now (line .entry)))) (now (kept .entry)) (now (numbers .entry)) (now (bytes .entry)) 0 (now (out .entry)) r (now (kept .exit)) (now (numbers .exit)) (now (bytes .exit)) (now (out .exit)) ⌝ }
+    ensures { λ r. ⌜ (
+        let s = b .settings in
+        let digits = drop hex (now (line .entry)) in
+        Plays b (λ (w : World). writes s w c clock digits)
+        (now (kept .entry)) (now (numbers .entry)) (now (bytes .entry)) 0 (now (out .entry)) r
+        (now (kept .exit)) (now (numbers .exit)) (now (bytes .exit)) (now (out .exit))) ⌝ }
 {
     if COORDINATORS <= c {
         return bench_rules::refuse(b, 3, 0, out);

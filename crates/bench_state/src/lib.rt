@@ -1,5 +1,6 @@
 // The bench's set between two lines (document 01, "The bench"): a record by value, with the bricks' images and what the coordinators keep
 // in lent buffers.
+// inner: call `bench_player::play_line`
 ghost use mathlib.Core.Path.{_≡_};
 ghost use mathlib.Core.Bool.{true};
 ghost use mathlib.Core.List.{[]};

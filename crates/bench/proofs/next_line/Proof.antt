@@ -30,7 +30,8 @@ loop-less : tie.Need-loop-less Inv-loop μ-loop
 loop-less c = c .turns-left .ensures
 
 loop-again : tie.Need-loop-again Inv-loop μ-loop
-loop-again c = let v = c .before .before .before .before .before .before .before .before .before .before .loop .inv in let k = c .before .before .before .before .before .before .next-byte in (omega (arith, k .ensures .0, v .2), k .ensures .1, k .kept .1 .0 ∙ v .2, k .kept .1 .1 .0 ∙ v .3)
+loop-again c = let v = c .before .before .before .before .before .before .before .before .before .before .loop .inv in let k = c .before .before .before .before .before .before .next-byte in
+    (omega (arith, k .ensures .0, v .2), k .ensures .1, k .kept .1 .0 ∙ v .2, k .kept .1 .1 .0 ∙ v .3)
 
 same-length : tie.Need-same-length Inv-loop μ-loop
 same-length c = c .before .loop .inv .2

@@ -32,7 +32,8 @@ use Rattle.bench_rules.specs.declared.After.{After}
 use Rattle.bench_commit.specs.Workers.{answered}
 use Rattle.bench_commit.specs.Workers.{Answers}
 use Rattle.bench_commit.proofs.Laws.CommitLaws.{Numbered, answered-is-acts}
-use Rattle.bench_commit.proofs.Laws.CommitStepLaws.{write-numbered, write-blocks, write-coded, read-numbered, read-blocks, read-stripe, read-coded, crash-numbered, crash-blocks, crash-stripe, crash-coded, take-numbered}
+use Rattle.bench_commit.proofs.Laws.CommitStepLaws.{write-numbered, write-blocks, write-coded, read-numbered, read-blocks, read-stripe, read-coded, crash-numbered, crash-blocks, crash-stripe}
+use Rattle.bench_commit.proofs.Laws.CommitStepLaws.{crash-coded, take-numbered}
 use Rattle.bench_commit.specs.Workers.{BenchActed, Plays}
 use Rattle.bench_limits.specs.Limits.{benchCoordinators, stripeRoom, keptRoom}
 
@@ -109,7 +110,8 @@ module _ (b : Bench) (c : ℕ) (kept numbers bytes : List ℕ) (at : ℕ) (out :
     pub acted-read : (clock brick : ℕ) (a : Answer)
         → ((x y : List ℕ) → a ≡ answerOf old (readStep (b .settings .n) (b .settings .m) (b .settings .size) (buffered old x y) clock brick))
         → Answers b c a blocks stripe blocks kept numbers bytes at out r kept′ numbers′ bytes′ out′
-        → BenchActed b c (startRead c clock brick) (λ (h : Buffered). readStep (b .settings .n) (b .settings .m) (b .settings .size) h clock brick) kept numbers bytes at out r kept′ numbers′ bytes′ out′
+        → BenchActed b c (startRead c clock brick) (λ (h : Buffered). readStep (b .settings .n) (b .settings .m) (b .settings .size) h clock brick) kept numbers bytes at out r kept′ numbers′ bytes′
+        out′
     unfolding step worldIn worldOf
     acted-read clock brick a ea h =
         let n = b .settings .n in
@@ -117,7 +119,8 @@ module _ (b : Bench) (c : ℕ) (kept numbers bytes : List ℕ) (at : ℕ) (out :
         let size = b .settings .size in
         acted-by (startRead c clock brick) (λ (x : Buffered). readStep n m size x clock brick) a blocks stripe blocks blocks (λ images. refl)
         (read-short n m size here clock brick) (read-numbered n m size here clock brick)
-        (ea blocks stripe ∙ ap (λ (x : Coordinator). answerOf x (readStep n m size (buffered old blocks stripe) clock brick)) old-is ∙ ap (λ (x : Buffered). answerOf (here .state) (readStep n m size x clock brick)) same)
+        (ea blocks stripe ∙ ap (λ (x : Coordinator). answerOf x (readStep n m size (buffered old blocks stripe) clock brick)) old-is
+        ∙ ap (λ (x : Buffered). answerOf (here .state) (readStep n m size x clock brick)) same)
         (blocks-are ∙ sym (read-blocks n m size here clock brick)) (stripe-is ∙ sym (read-stripe n m size here clock brick)) (sym (read-coded n m size here clock brick blocks)) h
 
     pub acted-crash : (a : Answer)
@@ -139,7 +142,8 @@ module _ (b : Bench) (c : ℕ) (kept numbers bytes : List ℕ) (at : ℕ) (out :
         → ((x : List ℕ) → a ≡ answerOf old (writeStep (b .settings .n) (b .settings .m) (b .settings .size) (buffered old x stripe) clock content))
         → ((x : List ℕ) → stripe′ ≡ stripeAfter (buffered old x stripe) (writeStep (b .settings .n) (b .settings .m) (b .settings .size) (buffered old x stripe) clock content))
         → Answers b c a blocks stripe′ blocks kept numbers bytes at out r kept′ numbers′ bytes′ out′
-        → BenchActed b c (startWrite c clock content small) (λ (h : Buffered). writeStep (b .settings .n) (b .settings .m) (b .settings .size) h clock content) kept numbers bytes at out r kept′ numbers′ bytes′ out′
+        → BenchActed b c (startWrite c clock content small) (λ (h : Buffered). writeStep (b .settings .n) (b .settings .m) (b .settings .size) h clock content) kept numbers bytes at out r kept′
+        numbers′ bytes′ out′
     unfolding step worldIn worldOf
     acted-write clock content small a stripe′ ea ew h =
         let n = b .settings .n in
@@ -147,7 +151,8 @@ module _ (b : Bench) (c : ℕ) (kept numbers bytes : List ℕ) (at : ℕ) (out :
         let size = b .settings .size in
         acted-by (startWrite c clock content small) (λ (x : Buffered). writeStep n m size x clock content) a blocks stripe′ blocks blocks (λ images. refl)
         (write-short n m size here clock content) (write-numbered n m size here clock content)
-        (ea blocks ∙ ap (λ (x : Coordinator). answerOf x (writeStep n m size (buffered old blocks stripe) clock content)) old-is ∙ ap (λ (x : Buffered). answerOf (here .state) (writeStep n m size x clock content)) same)
+        (ea blocks ∙ ap (λ (x : Coordinator). answerOf x (writeStep n m size (buffered old blocks stripe) clock content)) old-is
+        ∙ ap (λ (x : Buffered). answerOf (here .state) (writeStep n m size x clock content)) same)
         (blocks-are ∙ sym (write-blocks n m size here clock content)) (ew blocks ∙ ap (λ (x : Buffered). stripeAfter x (writeStep n m size x clock content)) same)
         (sym (write-coded n m size here clock content blocks)) h
 
@@ -219,7 +224,8 @@ module _ (b : Bench) (c : ℕ) (kept numbers bytes : List ℕ) (at : ℕ) (out :
         → stripe′ ≡ stripeAfter (buffered old blocks stripe) (takeStep (b .settings .n) (b .settings .m) (b .settings .size) (buffered old blocks stripe) reply′ block (length coded))
         → coded′ ≡ codedAfter coded (takeStep (b .settings .n) (b .settings .m) (b .settings .size) (buffered old blocks stripe) reply′ block (length coded))
         → Answers b c a blocks′ stripe′ coded′ kept numbers bytes at out r kept′ numbers′ bytes′ out′
-        → BenchActed b c (arrives k) (λ (h : Buffered). takeStep (b .settings .n) (b .settings .m) (b .settings .size) h reply′ block (b .settings .n * b .settings .size)) kept numbers bytes at out r kept′ numbers′ bytes′ out′
+        → BenchActed b c (arrives k) (λ (h : Buffered). takeStep (b .settings .n) (b .settings .m) (b .settings .size) h reply′ block (b .settings .n * b .settings .size)) kept numbers bytes at out r
+        kept′ numbers′ bytes′ out′
     unfolding step worldIn worldOf arriving
     acted-reply k reply′ block a coded blocks′ stripe′ coded′ l item ec long ea eb′ es′ ec′ h =
         let n = b .settings .n in
@@ -230,7 +236,8 @@ module _ (b : Bench) (c : ℕ) (kept numbers bytes : List ℕ) (at : ℕ) (out :
         (λ images.
         arrives-item (b .settings) (worldIn b (lent images kept numbers bytes)) size numbers bytes (b .sent) k l
         ∙ ap (arriving (b .settings) (worldIn b (lent images kept numbers bytes))) item
-        ∙ ap (λ (j : ℕ). coordinated (b .settings) (worldIn b (lent images kept numbers bytes)) j (takeStep n m size (coordinatorKept (b .settings) (b .coordinators) kept j) reply′ block (n * size))) (sym ec))
+        ∙ ap (λ (j : ℕ). coordinated (b .settings) (worldIn b (lent images kept numbers bytes)) j (takeStep n m size (coordinatorKept (b .settings) (b .coordinators) kept j) reply′ block (n * size)))
+        (sym ec))
         (take-short n m size here reply′ block (n * size)) (take-numbered n m size here reply′ block (n * size))
         (ea ∙ ap (λ (x : Coordinator). answerOf x (takeStep n m size (buffered old blocks stripe) reply′ block (length coded))) old-is ∙ ap (answerOf (here .state)) q)
         (eb′ ∙ ap (λ (x : Buffered). blocksAfter x (takeStep n m size (buffered old blocks stripe) reply′ block (length coded))) same ∙ ap (blocksAfter here) q)
@@ -251,7 +258,8 @@ module _ (b : Bench) (c : ℕ) (kept numbers bytes : List ℕ) (at : ℕ) (out :
         kept numbers bytes at out r kept′ numbers′ bytes′ out′
     acted-row k reply′ cut a coded blocks′ stripe′ coded′ l t er e ec long ea eb′ es′ ec′ h =
         subst
-        (λ (x : List ℕ). BenchActed b c (arrives k) (λ (h : Buffered). takeStep (b .settings .n) (b .settings .m) (b .settings .size) h reply′ x (b .settings .n * b .settings .size)) kept numbers bytes at out r kept′ numbers′ bytes′ out′)
+        (λ (x : List ℕ). BenchActed b c (arrives k) (λ (h : Buffered). takeStep (b .settings .n) (b .settings .m) (b .settings .size) h reply′ x (b .settings .n * b .settings .size)) kept numbers
+        bytes at out r kept′ numbers′ bytes′ out′)
         e (acted-reply k reply′ cut a coded blocks′ stripe′ coded′ l (item-reply (b .settings .size) k reply′ cut numbers bytes t er e) ec long ea eb′ es′ ec′ h)
 
 module _ (b : Bench) (c : ℕ) (kept numbers bytes : List ℕ) (at : ℕ) (out : List ℕ) (r : After) where
@@ -325,4 +333,5 @@ module _ (b : Bench) (k : ℕ) (kept numbers bytes : List ℕ) (at : ℕ) (out :
   reply-here kept′ numbers′ bytes′ out′ h a =
       subst (λ (i : Item). Plays b (λ (w : World). carries (b .settings) w k i) kept numbers bytes at out r kept′ numbers′ bytes′ out′) (sym item-here)
       (here-at b (reply′ .time % 16) kept numbers bytes at out r (arrives k)
-      (λ (x : Buffered). takeStep (b .settings .n) (b .settings .m) (b .settings .size) x reply′ (sentBlockAt (b .settings .size) bytes k) (b .settings .n * b .settings .size)) kept′ numbers′ bytes′ out′ h a)
+      (λ (x : Buffered). takeStep (b .settings .n) (b .settings .m) (b .settings .size) x reply′ (sentBlockAt (b .settings .size) bytes k) (b .settings .n * b .settings .size)) kept′ numbers′ bytes′
+      out′ h a)

@@ -78,7 +78,8 @@ module _ (b : Bench) (l : Lent) (e : Event) (c : ℕ) (a : Answer) (blocks strip
   unfolding driven worldIn worldOf sentAfterAnswer
   made-sent =
       length-append (itemsOf (b .settings .size) (l .numbers) (l .bytes) (b .sent)) _
-      ∙ ap (λ (k : ℕ). k + length (cond (eqb (a .sent) 0) [] (toAll (b .settings) (record { message = a .message; blocks = coded }) (b .settings .n)))) (items-length (b .settings .size) (l .numbers) (l .bytes) (b .sent))
+      ∙ ap (λ (k : ℕ). k + length (cond (eqb (a .sent) 0) [] (toAll (b .settings) (record { message = a .message; blocks = coded }) (b .settings .n))))
+      (items-length (b .settings .size) (l .numbers) (l .bytes) (b .sent))
       ∙ go (eqb (a .sent) 0)
     where
       go : (t : Bool) → b .sent + length (cond t [] (toAll (b .settings) (record { message = a .message; blocks = coded }) (b .settings .n))) ≡ cond t (b .sent) (b .sent + b .settings .n)

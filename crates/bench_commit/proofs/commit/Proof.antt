@@ -29,12 +29,18 @@ returns-2 : tie.Need-returns-2
 returns-2 c =
     let s = c .before .before .before .before .before .before .before .before .before .before .before .before .before .before .before .before in
     answers-past (s .args .b) (s .args .c) (s .args .a) (s .args .blocks .now) (s .args .stripe .now) (s .args .coded .now) (s .args .kept .now) (s .args .numbers .now)
-    (s .args .bytes .now) (s .args .at) (s .args .out .now) (s .pre .0) _ _ _ (c .before .before .before .before .before .before .before .if1 .left) (c .before .before .before .before .before .sent-after .ensures) (omega (arith, c .before .before .before .before .if2 .taken)) (c .before .before .refuse2 .ensures)
+    (s .args .bytes .now) (s .args .at) (s .args .out .now) (s .pre .0) _ _ _ (c .before .before .before .before .before .before .before .if1 .left)
+    (c .before .before .before .before .before .sent-after .ensures) (omega (arith, c .before .before .before .before .if2 .taken)) (c .before .before .refuse2 .ensures)
 
 keep-answer-requires : tie.Need-keep-answer-requires
 keep-answer-requires c κs =
-    let s = c .before .before .before .before .before .before .before .before .before .before .before .before .before .before .before .before in
-    (s .pre .0, (s .pre .1, (c .before .before .before .before .before .before .before .if1 .left, c .before .before .before .before .before .sent-after .ensures, c .before .before .before .before .if2 .left)))
+    let s = c .before .before .before .before .before .before .before .before .before .before .before .before .before .before .before .before in (
+      s .pre .0,
+      (
+        s .pre .1,
+        (c .before .before .before .before .before .before .before .if1 .left, c .before .before .before .before .before .sent-after .ensures, c .before .before .before .before .if2 .left),
+      ),
+    )
 
 same-length-3 : tie.Need-same-length-3
 same-length-3 c = search needs

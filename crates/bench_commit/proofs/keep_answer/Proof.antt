@@ -20,7 +20,11 @@ keep-requires c κs =
     let s = c .before .before .before .before .before .before .before .before .before .before .before .before .before .before .before .before .before in
     let p = s .pre .0 in (
       (p .low, p .kept-long),
-      (subst (λ (k : ℕ). k ≤ stripeRoom) (sym (s .pre .1 .0 .blocks-long)) (p .fits .small .blocks-fit), subst (λ (k : ℕ). k ≤ stripeRoom) (sym (s .pre .1 .0 .stripe-long)) (p .fits .small .stripe-fits)),
+      (
+        subst (λ (k : ℕ). k ≤ stripeRoom) (sym (s .pre .1 .0 .blocks-long)) (p .fits .small .blocks-fit),
+        subst (λ (k : ℕ). k ≤ stripeRoom) (sym (s .pre .1 .0 .stripe-long))
+            (p .fits .small .stripe-fits),
+      ),
     )
 
 put-ended-requires : tie.Need-put-ended-requires
@@ -29,7 +33,9 @@ put-ended-requires c κs =
     (s .pre .0 .room, subst (λ (k : ℕ). k ≤ stripeRoom) (sym (s .pre .1 .0 .stripe-long)) (s .pre .0 .fits .small .stripe-fits))
 
 with-coordinator-requires : tie.Need-with-coordinator-requires
-with-coordinator-requires c κs = c .before .before .before .before .before .before .before .before .before .before .before .before .before .before .before .before .before .before .before .before .before .before .before .before .before .before .pre .0 .low
+with-coordinator-requires c κs =
+    c .before .before .before .before .before .before .before .before .before .before .before .before .before .before .before .before .before .before .before .before .before .before .before .before
+    .before .before .pre .0 .low
 
 same-length : tie.Need-same-length
 same-length c = search needs
@@ -45,11 +51,13 @@ same-length-4 c = search needs
 
 returns : tie.Need-returns
 returns c =
-    let s = c .before .before .before .before .before .before .before .before .before .before .before .before .before .before .before .before .before .before .before .before .before .before .before .before .before .before .before in
+    let s = c .before .before .before .before .before .before .before .before .before .before .before .before .before .before .before .before .before .before .before .before .before .before .before
+    .before .before .before .before in
     let e = c .before .before .before .before .put-ended .ensures in
     answers-kept (s .args .b) (s .args .c) (s .args .a) (s .args .blocks .now) (s .args .stripe .now) (s .args .coded .now) (s .args .kept .now) (s .args .numbers .now)
     (s .args .bytes .now) (s .args .at) (s .args .out .now) (s .pre .0) (s .args .sent) _ _ _ _ _ _ (s .pre .1 .0) (s .pre .1 .1 .0) (s .pre .1 .1 .1) (s .pre .1 .1 .2)
-    (c .before .before .before .before .before .before .before .before .before .before .before .before .before .before .before .send .ensures) (c .before .before .before .before .before .before .before .before .before .keep .ensures) (e .0) (e .1 .0) (e .1 .1) (c .with-coordinator .ensures .0) (c .with-coordinator .ensures .1)
+    (c .before .before .before .before .before .before .before .before .before .before .before .before .before .before .before .send .ensures)
+    (c .before .before .before .before .before .before .before .before .before .keep .ensures) (e .0) (e .1 .0) (e .1 .1) (c .with-coordinator .ensures .0) (c .with-coordinator .ensures .1)
 
 pub keep-answer-spec : {M : Type 1} → statement M
 keep-answer-spec =

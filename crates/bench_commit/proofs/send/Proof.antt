@@ -23,7 +23,8 @@ same-length-2 : tie.Need-same-length-2
 same-length-2 c = search needs
 
 returns-2 : tie.Need-returns-2
-returns-2 c = let s = c .before .before .before .before .before .before .before .before .before .before .before in round-one (s .args .s) _ _ _ _ _ _ _ _ (c .before .before .before .before .before .before .before .if1 .left) (c .before .before .before .before .send-all .ensures .0)
+returns-2 c = let s = c .before .before .before .before .before .before .before .before .before .before .before in
+    round-one (s .args .s) _ _ _ _ _ _ _ _ (c .before .before .before .before .before .before .before .if1 .left) (c .before .before .before .before .send-all .ensures .0)
 
 pub send-spec : {M : Type 1} → statement M
 send-spec = tie.close (tie.spec returns send-all-requires same-length same-length-2 returns-2)

@@ -20,12 +20,14 @@ use Rattle.brick.specs.declared.Given.the-variants.{Answered, Silent, Refused}
 use Rattle.coord_apply.specs.Answers.{Step, refused, went, Went}
 use Rattle.coordinator.specs.Routines.{writeStep}
 use Rattle.order.specs.Claim.{Ending, Seen}
-use Rattle.register.specs.Runs.{plain, Item, message, reply, World, untouched, Event, startWrite, startRead, arrives, crashes, goesDown, comesUp, Moved, unmoved, coordinated, repliedWith, received, arriving, arrivingAt, standing, step}
+use Rattle.register.specs.Runs.{plain, Item, message, reply, World, untouched, Event, startWrite, startRead, arrives, crashes, goesDown, comesUp, Moved, unmoved, coordinated, repliedWith, received}
+use Rattle.register.specs.Runs.{arriving, arrivingAt, standing, step}
 use Rattle.register.proofs.Laws.DriverLaws.{left-untouched}
 use Rattle.bench_parse.specs.Lines.{Line, setLine, writeLine, readLine, carryLine, crashLine, downLine, upLine, noLine}
 use Rattle.bench_print.specs.Printing.{endedText}
 use Rattle.bench_rules.specs.Content.{content, content-small, counted}
-use Rattle.bench_rules.specs.Play.{Played, refuses, passes, happens, acts, atCoordinator, unlessShort, writes, starts, crashesAt, switches, delivered, reaches, carries, carriesAt, carried, carriedAll, plays}
+use Rattle.bench_rules.specs.Play.{Played, refuses, passes, happens, acts, atCoordinator, unlessShort, writes, starts, crashesAt, switches, delivered, reaches, carries, carriesAt, carried, carriedAll}
+use Rattle.bench_rules.specs.Play.{plays}
 use Rattle.bench_order.proofs.Laws.ToldLaws.{told}
 use Rattle.bench_order.proofs.Laws.Parts.{FewSent, Ran, Part, refusing, passing, happening, both}
 use Rattle.bench_order.proofs.Laws.PrintedLaws.{Agrees, printed-is-seen, end-ran, take-agrees, crash-agrees, write-agrees, read-agrees}

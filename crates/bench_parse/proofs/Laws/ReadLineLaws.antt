@@ -257,11 +257,13 @@ module _ (l : List ℕ) (ws : List (List ℕ)) (k : ℕ) (r : code.Line) where
   unfolding byNumber
   by-7 e x = by upCommand e x
 
-pub by-none : (l : List ℕ) (ws : List (List ℕ)) (k : ℕ) → (k ≡ setCommand → ⊥) → (k ≡ writeCommand → ⊥) → (k ≡ readCommand → ⊥) → (k ≡ carryCommand → ⊥) → (k ≡ crashCommand → ⊥) → (k ≡ downCommand → ⊥)
+pub by-none : (l : List ℕ) (ws : List (List ℕ)) (k : ℕ) → (k ≡ setCommand → ⊥) → (k ≡ writeCommand → ⊥) → (k ≡ readCommand → ⊥) → (k ≡ carryCommand → ⊥) → (k ≡ crashCommand → ⊥)
+    → (k ≡ downCommand → ⊥)
     → (k ≡ upCommand → ⊥) → ReadAs Unread l (byNumber k ws)
 unfolding byNumber
 by-none l ws k a b c d e f g =
-    unread l (byNumber k ws) (rw (ne-eqb k setCommand a, ne-eqb k writeCommand b, ne-eqb k readCommand c, ne-eqb k carryCommand d, ne-eqb k crashCommand e, ne-eqb k downCommand f, ne-eqb k upCommand g))
+    unread l (byNumber k ws)
+    (rw (ne-eqb k setCommand a, ne-eqb k writeCommand b, ne-eqb k readCommand c, ne-eqb k carryCommand d, ne-eqb k crashCommand e, ne-eqb k downCommand f, ne-eqb k upCommand g))
 
 -- The first word: each test gave what it is named after.
 module _ (w : List ℕ) (a : Bool) (ea : a ≡ same w setText) where
@@ -316,7 +318,8 @@ carry-same w n =
     go (same w setText) (same w writeText) (same w readText) (same w carryText) (same w crashText) (same w downText) (same w upText) refl n
   where
     go : (a b c d e f g : Bool) → same w carryText ≡ d
-        → _≡_ {A = ℕ} (cond a setCommand (cond b writeCommand (cond c readCommand (cond d carryCommand (cond e crashCommand (cond f downCommand (cond g upCommand noCommand))))))) carryCommand → same w carryText ≡ true
+        → _≡_ {A = ℕ} (cond a setCommand (cond b writeCommand (cond c readCommand (cond d carryCommand (cond e crashCommand (cond f downCommand (cond g upCommand noCommand))))))) carryCommand
+        → same w carryText ≡ true
     go true b c d e f g t n = absurd (omega arith)
     go false true c d e f g t n = absurd (omega arith)
     go false false true d e f g t n = absurd (omega arith)

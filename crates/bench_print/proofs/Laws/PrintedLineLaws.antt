@@ -8,7 +8,8 @@ use lib.ListN.{length, length-append}
 use Rattle.coord_record.specs.Records.{readingKind}
 use Rattle.coord_apply.specs.Answers.{okSeen, readSeen, abortedSeen, cutSeen}
 use Rattle.coord_apply.specs.declared.Notice.{Notice}
-use Rattle.bench_print.specs.Printing.{mostDecimals, space, newline, decimal, hexText, refusedWord, refusedText, readWord, writeWord, kindWord, okWord, abortWord, cutWord, endWord, lineText, isEnd, endedText, written}
+use Rattle.bench_print.specs.Printing.{mostDecimals, space, newline, decimal, hexText, refusedWord, refusedText, readWord, writeWord, kindWord, okWord, abortWord, cutWord, endWord, lineText}
+use Rattle.bench_print.specs.Printing.{isEnd, endedText, written}
 use Rattle.bench_print.proofs.Laws.TextLaws.{decimal-short}
 use Rattle.bench_print.specs.Workers.{endedRoom, PrintedAt}
 use Rattle.bench_print.proofs.Laws.WrittenLaws.{placed-both, placed-as, placed-nothing}

@@ -1,4 +1,4 @@
--- Laws of `specs/SendLaws`.
+-- A message to each brick, one row after the other.
 use mathlib.Core.Path.{_≡_, sym, ap, subst, _∙_}
 use mathlib.Core.List.{List, [], _∷_, _++_, append-assoc, append-nil}
 use Prim.Native.Nat.{ℕ, _+_, _-_, _*_, _≤_, _<_}

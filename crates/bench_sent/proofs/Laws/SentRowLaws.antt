@@ -18,7 +18,8 @@ use Rattle.settings.specs.Count.{one-if}
 use Rattle.settings.proofs.Laws.CountLaws.{one-is}
 use Rattle.bench_sent.specs.Sent.{numberAt, isReply, flagsAt, sentBlockAt, messageAt, replyAt, itemAt, itemsOf}
 use Rattle.bench_sent.specs.Workers.{Added, rowOf, messageRow, replyRow, numbersWith, bytesWith, noFlags}
-use Rattle.bench_limits.specs.Limits.{benchSize, rowNumbers, rowBytes, tagPlace, brickPlace, kindPlace, timePlace, roundPlace, maxPlace, foundPlace, yesPlace, heldPlace, messageTag, replyTag, flagCount, blockPlace}
+use Rattle.bench_limits.specs.Limits.{benchSize, rowNumbers, rowBytes, tagPlace, brickPlace, kindPlace, timePlace, roundPlace, maxPlace, foundPlace, yesPlace, heldPlace, messageTag, replyTag}
+use Rattle.bench_limits.specs.Limits.{flagCount, blockPlace}
 
 -- a number that was put is found there
 pub put-read : (at i : ℕ) (row l : List ℕ) → at ≤ length l → i < length row → getD (put at row l) (at + i) 0 ≡ getD row i 0

@@ -8,8 +8,10 @@ use Rattle.bench_sent.proofs.send_one.Statement.{statement}
 use Rattle.bench_sent.proofs.send_one.Tie as tie
 
 -- the brick's block is within the blocks
-inside : (c : tie.Then1) → c .before .before .before .before .before .args .j * c .before .before .before .before .before .args .size + c .before .before .before .before .before .args .size ≤ length (c .before .before .before .before .before .args .coded .now)
-inside c = let s = c .before .before .before .before .before in block-within (s .args .j + 1) (s .args .j) (s .args .size) (s .args .msg) (s .args .coded .now) (s .pre .1) (omega arith) (c .if1 .taken)
+inside : (c : tie.Then1) → c .before .before .before .before .before .args .j * c .before .before .before .before .before .args .size + c .before .before .before .before .before .args .size
+    ≤ length (c .before .before .before .before .before .args .coded .now)
+inside c = let s = c .before .before .before .before .before in block-within (s .args .j + 1) (s .args .j) (s .args .size) (s .args .msg) (s .args .coded .now) (s .pre .1) (omega arith)
+    (c .if1 .taken)
 
 mul-from : tie.Need-mul-from
 mul-from c = record { fits = omega (arith, inside c) }

@@ -1,4 +1,4 @@
--- Laws of `specs/RangeLaws`.
+-- Settings within the bench's limits.
 use mathlib.Core.Path.{_≡_, refl, sym, ap, _∙_}
 use mathlib.Core.Bool.{Bool, true, false, _&&_}
 use Prim.Native.Nat.{ℕ, _≤_}

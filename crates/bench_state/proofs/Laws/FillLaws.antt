@@ -1,4 +1,4 @@
--- Laws of `specs/FillLaws`.
+-- Fresh images, one after the other.
 use mathlib.Core.Path.{_≡_, refl, sym, ap, subst, _∙_}
 use mathlib.Core.Logic.{_⊎_, inl, inr}
 use mathlib.Core.Bool.{true, cond}
@@ -71,7 +71,8 @@ begun-stored s images new k len small r h l e el f =
     in
     subst (λ (i : List ℕ). Begun s i (k + 1)) (sym (put-mid (k * imageRoom) (k * imageRoom + len) images new (omega arith) (omega arith)))
     (begun-more s images new k small h l (el ∙ long)
-    (f ∙ ap (λ (n : ℕ). cond (eqb n 0) (imageOf s k (Brick.freshBrick s)) (take (k * imageRoom + len - k * imageRoom) (drop (k * imageRoom) images))) (passes (take (k * imageRoom + len - k * imageRoom) (drop (k * imageRoom) images)) long)))
+    (f ∙ ap (λ (n : ℕ). cond (eqb n 0) (imageOf s k (Brick.freshBrick s)) (take (k * imageRoom + len - k * imageRoom) (drop (k * imageRoom) images)))
+    (passes (take (k * imageRoom + len - k * imageRoom) (drop (k * imageRoom) images)) long)))
   where
     passes : (t : List ℕ) → length t ≡ 512 * (s .capacity + 1) → lendingRefusal s k (length t) ≡ 0
     passes t long = lending-passes s k (length t) r long l

@@ -1,4 +1,4 @@
--- Laws of `specs/StateLaws`.
+-- The world that the record and the buffers stand for: a set that begins, and one part that changes.
 use mathlib.Core.Path.{_≡_, refl, sym, ap, ap₂, fun-ext, _∙_}
 use mathlib.Core.Bool.{Bool, true, cond}
 use mathlib.Core.List.{List, [], _∷_}
@@ -62,10 +62,16 @@ module _ (s : Settings) (small : Small s) where
     where
       by : Dec (c < benchCoordinators) → coordinatorKept s (idleAt 0 ∷ idleAt 1 ∷ idleAt 2 ∷ idleAt 3 ∷ []) (replicate keptLength 0) c ≡ idle s c
       by (yes h) =
-          ap (λ (t : Bool). cond t (holding (getD (idleAt 0 ∷ idleAt 1 ∷ idleAt 2 ∷ idleAt 3 ∷ []) c (idleAt c)) (take (s .n * s .size) (drop (c * keptRoom) (replicate keptLength 0))) (take (s .m * s .size) (drop (c * keptRoom + stripeRoom) (replicate keptLength 0)))) (idle s c)) (lt-ltb c benchCoordinators h)
-          ∙ ap (λ (t : Coordinator). holding t (take (s .n * s .size) (drop (c * keptRoom) (replicate keptLength 0))) (take (s .m * s .size) (drop (c * keptRoom + stripeRoom) (replicate keptLength 0)))) (fresh-state c)
-          ∙ ap₂ (holding (idleAt c)) (zero-part (c * keptRoom) (s .n * s .size) keptLength (let q = small .blocks-fit in omega arith)) (zero-part (c * keptRoom + stripeRoom) (s .m * s .size) keptLength (let q = small .stripe-fits in omega arith))
-      by (no h) = ap (λ (t : Bool). cond t (holding (getD (idleAt 0 ∷ idleAt 1 ∷ idleAt 2 ∷ idleAt 3 ∷ []) c (idleAt c)) (take (s .n * s .size) (drop (c * keptRoom) (replicate keptLength 0))) (take (s .m * s .size) (drop (c * keptRoom + stripeRoom) (replicate keptLength 0)))) (idle s c)) (le-ltb c benchCoordinators (omega arith))
+          ap (λ (t : Bool). cond t
+          (holding (getD (idleAt 0 ∷ idleAt 1 ∷ idleAt 2 ∷ idleAt 3 ∷ []) c (idleAt c)) (take (s .n * s .size) (drop (c * keptRoom) (replicate keptLength 0)))
+          (take (s .m * s .size) (drop (c * keptRoom + stripeRoom) (replicate keptLength 0)))) (idle s c)) (lt-ltb c benchCoordinators h)
+          ∙ ap (λ (t : Coordinator). holding t (take (s .n * s .size) (drop (c * keptRoom) (replicate keptLength 0)))
+          (take (s .m * s .size) (drop (c * keptRoom + stripeRoom) (replicate keptLength 0)))) (fresh-state c)
+          ∙ ap₂ (holding (idleAt c)) (zero-part (c * keptRoom) (s .n * s .size) keptLength (let q = small .blocks-fit in omega arith))
+          (zero-part (c * keptRoom + stripeRoom) (s .m * s .size) keptLength (let q = small .stripe-fits in omega arith))
+      by (no h) = ap (λ (t : Bool). cond t
+          (holding (getD (idleAt 0 ∷ idleAt 1 ∷ idleAt 2 ∷ idleAt 3 ∷ []) c (idleAt c)) (take (s .n * s .size) (drop (c * keptRoom) (replicate keptLength 0)))
+          (take (s .m * s .size) (drop (c * keptRoom + stripeRoom) (replicate keptLength 0)))) (idle s c)) (le-ltb c benchCoordinators (omega arith))
 
   fresh-images : (images : List ℕ) → ((b : ℕ) → b < s .n → take (imageSize s) (drop (b * imageRoom) images) ≡ imageOf s b (Brick.freshBrick s))
       → (b : ℕ) → imagesOf s images b ≡ imageOf s b (Brick.freshBrick s)
@@ -101,8 +107,10 @@ module _ (s : Settings) (small : Small s) where
       by j (no q) (yes u) = rw (ne-eqb j b q, lt-ltb j (s .n) u) (apart (decLt j b))
         where
           apart : Dec (j < b) → take (imageSize s) (drop (j * imageRoom) (put (b * imageRoom) new images)) ≡ take (imageSize s) (drop (j * imageRoom) images)
-          apart (yes v) = put-before (b * imageRoom) (j * imageRoom) (imageSize s) new images (let k = small .image-fits in omega arith) (let k = small .image-fits in let m = small .bricks in omega arith)
-          apart (no v) = put-behind (b * imageRoom) (j * imageRoom) (imageSize s) new images (let k = small .image-fits in omega arith) (let k = small .image-fits in let m = small .bricks in omega arith)
+          apart (yes v) = put-before (b * imageRoom) (j * imageRoom) (imageSize s) new images (let k = small .image-fits in omega arith)
+              (let k = small .image-fits in let m = small .bricks in omega arith)
+          apart (no v) = put-behind (b * imageRoom) (j * imageRoom) (imageSize s) new images (let k = small .image-fits in omega arith)
+              (let k = small .image-fits in let m = small .bricks in omega arith)
 
   -- coordinator c has another record, other reply blocks and another stripe
   pub held-put : (cs : List Coordinator) (kept blocks stripe : List ℕ) (c : ℕ) (next : Coordinator) → c < benchCoordinators → length cs ≡ benchCoordinators → length kept ≡ keptLength
@@ -117,7 +125,8 @@ module _ (s : Settings) (small : Small s) where
       long : length first ≡ keptLength
       long = put-length (c * keptRoom) blocks kept (let q = small .blocks-fit in omega arith) ∙ k
 
-      by : (j : ℕ) → Dec (j ≡ c) → Dec (j < benchCoordinators) → coordinatorKept s (set cs c next) (keptWith c blocks stripe kept) j ≡ putAt (coordinatorKept s cs kept) c (holding next blocks stripe) j
+      by : (j : ℕ) → Dec (j ≡ c) → Dec (j < benchCoordinators) → coordinatorKept s (set cs c next) (keptWith c blocks stripe kept) j
+          ≡ putAt (coordinatorKept s cs kept) c (holding next blocks stripe) j
       by j (yes q) u =
           rw (eq-eqb j c q, q, lt-ltb c benchCoordinators l, getD-set-same cs c next (idleAt c) (omega arith))
           (ap₂ (holding next)

@@ -54,7 +54,8 @@ returns c =
     let at = s .args .c * keptRoom in
     let x = s .args .blocks .now in
     let y = s .args .stripe .now in
-    two-put at (at + length x) (at + stripeRoom) (at + stripeRoom + length y) x y (s .args .kept .now) _ _ (c .before .before .before .before .before .before .copy .ensures) (c .before .before .copy2 .ensures)
+    two-put at (at + length x) (at + stripeRoom) (at + stripeRoom + length y) x y (s .args .kept .now) _ _ (c .before .before .before .before .before .before .copy .ensures)
+    (c .before .before .copy2 .ensures)
     (omega arith) (omega arith) (omega arith) (omega arith)
 
 pub keep-spec : {M : Type 1} → statement M
