@@ -1,10 +1,17 @@
 // The bench (document 01): reads standard input to its end, whatever it holds, plays each line as it comes, and prints what the line
-// prints. All that it does with a line is bench_core's.
+// prints. All that it does with a line is `bench_player`'s.
 ghost use mathlib.Core.Path.{_≡_};
 ghost use mathlib.Core.Bool.{not, _&&_, _||_};
 ghost use Prim.Native.Nat.{_≤_, _<_};
 ghost use lib.Dec.{ltb};
 ghost use lib.ListN.{length};
+ghost use Rattle.bench_parse.specs.Lines.{heldLength};
+ghost use Rattle.bench_limits.specs.Limits.{keptLength, imagesLength, numbersLength, bytesLength};
+use bench_limits::BYTES_LENGTH;
+use bench_limits::IMAGES_LENGTH;
+use bench_limits::KEPT_LENGTH;
+use bench_limits::NUMBERS_LENGTH;
+use bench_parse::HELD_LENGTH;
 use bench_state::Bench;
 
 // Where the reading stands: the next byte of the chunk, and how many it holds; how many bytes of a line are kept, and whether a newline
@@ -18,40 +25,40 @@ struct Reader {
 }
 
 // Buffers of zeros; only their lengths are told, which lending them needs.
-fn new_images() -> [u8; 10240]
-    ensures { λ r. ⌜ 10240 ≡ length r ⌝ }
+fn new_images() -> [u8; IMAGES_LENGTH]
+    ensures { λ r. ⌜ imagesLength ≡ length r ⌝ }
 {
-    [0; 10240]
+    [0; IMAGES_LENGTH]
 }
 
-fn new_kept() -> [u8; 256]
-    ensures { λ r. ⌜ 256 ≡ length r ⌝ }
+fn new_kept() -> [u8; KEPT_LENGTH]
+    ensures { λ r. ⌜ keptLength ≡ length r ⌝ }
 {
-    [0; 256]
+    [0; KEPT_LENGTH]
 }
 
-fn new_numbers() -> [u64; 1016]
-    ensures { λ r. ⌜ 1016 ≡ length r ⌝ }
+fn new_numbers() -> [u64; NUMBERS_LENGTH]
+    ensures { λ r. ⌜ numbersLength ≡ length r ⌝ }
 {
-    [0; 1016]
+    [0; NUMBERS_LENGTH]
 }
 
-fn new_bytes() -> [u8; 3048]
-    ensures { λ r. ⌜ 3048 ≡ length r ⌝ }
+fn new_bytes() -> [u8; BYTES_LENGTH]
+    ensures { λ r. ⌜ bytesLength ≡ length r ⌝ }
 {
-    [0; 3048]
+    [0; BYTES_LENGTH]
 }
 
-fn new_line() -> [u8; 1001]
-    ensures { λ r. ⌜ 1001 ≡ length r ⌝ }
+fn new_line() -> [u8; HELD_LENGTH]
+    ensures { λ r. ⌜ heldLength ≡ length r ⌝ }
 {
-    [0; 1001]
+    [0; HELD_LENGTH]
 }
 
 // One reading; no byte at the end of the input, or where reading fails.
 fn refill(held: usize, chunk: &mut [u8]) -> Reader
-    requires { ⌜ held ≤ 1001 ⌝ }
-    ensures { λ r. ⌜ (r .filled ≤ length (now (chunk .entry))) × (r .held ≤ 1001) ⌝ }
+    requires { ⌜ held ≤ heldLength ⌝ }
+    ensures { λ r. ⌜ (r .filled ≤ length (now (chunk .entry))) × (r .held ≤ heldLength) ⌝ }
 {
     let got = libc::read(libc::STDIN_FILENO, chunk);
     let n = io::count(got, chunk);
@@ -66,8 +73,8 @@ fn refill(held: usize, chunk: &mut [u8]) -> Reader
 
 // One byte of the input, after a reading where none is left: a newline ends a line.
 fn next_byte(r: Reader, chunk: &mut [u8], line: &mut [u8]) -> Reader
-    requires { ⌜ (r .filled ≤ length (now chunk)) × (r .held ≤ 1001) × (length (now line) ≡ 1001) ⌝ }
-    ensures { λ q. ⌜ (q .filled ≤ length (now (chunk .entry))) × (q .held ≤ 1001) ⌝ }
+    requires { ⌜ (r .filled ≤ length (now chunk)) × (r .held ≤ heldLength) × (length (now line) ≡ heldLength) ⌝ }
+    ensures { λ q. ⌜ (q .filled ≤ length (now (chunk .entry))) × (q .held ≤ heldLength) ⌝ }
 {
     if r.filled <= r.at {
         return refill(r.held, chunk);
@@ -75,7 +82,7 @@ fn next_byte(r: Reader, chunk: &mut [u8], line: &mut [u8]) -> Reader
     let at = r.at;
     let byte = chunk[at];
     let next = at + 1;
-    if byte == 10 {
+    if byte == b'\n' {
         return Reader {
             at: next,
             filled: r.filled,
@@ -117,8 +124,8 @@ fn goes_on(r: Reader) -> bool
 
 // The bytes of one line. A proved loop has to end, so it counts down from a number that no run uses up.
 fn next_line(r: Reader, chunk: &mut [u8], line: &mut [u8]) -> Reader
-    requires { ⌜ (r .filled ≤ length (now chunk)) × (length (now line) ≡ 1001) ⌝ }
-    ensures { λ q. ⌜ (q .filled ≤ length (now (chunk .entry))) × (q .held ≤ 1001) ⌝ }
+    requires { ⌜ (r .filled ≤ length (now chunk)) × (length (now line) ≡ heldLength) ⌝ }
+    ensures { λ q. ⌜ (q .filled ≤ length (now (chunk .entry))) × (q .held ≤ heldLength) ⌝ }
 {
     let mut q = Reader {
         at: r.at,
@@ -179,7 +186,7 @@ fn play_all(
     bytes: &mut [u8],
     out: &mut [u8],
 )
-    requires { ⌜ length (now line) ≡ 1001 ⌝ }
+    requires { ⌜ length (now line) ≡ heldLength ⌝ }
 {
     let mut b = bench_player::no_set();
     let mut r = Reader {

@@ -1,3 +1,2 @@
--- The laws of `bench_carry`, for its own proofs and those of the crates above. No contract cites them.
--- Laws: CarryLaws.
+-- A carried number, and the numbers of a line.
 pub mod CarryLaws

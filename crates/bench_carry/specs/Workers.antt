@@ -1,25 +1,21 @@
--- The numbers of a carry line, one after the other; a brick's switch.
+-- The loop over the numbers of a carry line.
 use mathlib.Core.Path.{_≡_}
 use mathlib.Core.List.{List, _++_}
-use Prim.Native.Nat.{ℕ, _+_, _*_, _≤_}
+use Prim.Native.Nat.{ℕ, _+_, _*_, _/_, _≤_}
 use lib.ListN.{length}
 use Rattle.bench_parse.specs.Workers.{CarryRest, wordsFrom}
 use Rattle.bench_parse.specs.Lines.{numbersOf}
-use Rattle.bench_rules.specs.Play.{Played, carriedAll}
+use Rattle.bench_rules.specs.Play.{carriedAll}
 use Rattle.bench_rules.specs.Turning.{Lent, worldIn}
 use Rattle.bench_rules.specs.Workers.{BenchReady}
 use Rattle.bench_rules.specs.declared.After.{After}
 use Rattle.bench_print.specs.Printing.{written}
 use Rattle.bench_state.specs.declared.Bench.{Bench}
+use Rattle.bench_limits.specs.Limits.{lineRoom}
 
--- a line or a part of one at the beginning of the printed text
-pub record Lined (b : Bench) (l : Lent) (out : List ℕ) (p : Played) (r : After) (l′ : Lent) (out′ : List ℕ) : Type 0 where
-  pub world-is : worldIn (r .bench) l′ ≡ p .world
-  pub settings-kept : r .bench .settings ≡ b .settings
-  pub few : r .bench .sent ≤ 127
-  pub text-is : out′ ≡ written 0 (p .printed) out
-  pub used-is : r .used ≡ length (p .printed)
-  pub within : r .used ≤ 65536
+-- a byte of a carry line prints so many at most: a number takes two bytes or more, and prints one line
+abbrev textAByte : ℕ
+textAByte = lineRoom / 2
 
 -- The loop over a line's numbers: text is what was printed so far, and the rest of the numbers is still to be carried.
 pub record Carrying (b : Bench) (l : Lent) (line : List ℕ) (first : ℕ) (out : List ℕ) (place : ℕ) (r : After) (l′ : Lent) (out′ : List ℕ) : Type 0 where
@@ -29,7 +25,7 @@ pub record Carrying (b : Bench) (l : Lent) (line : List ℕ) (first : ℕ) (out 
   pub out-long : length out′ ≡ length out
   pub text-is : out′ ≡ written 0 text out
   pub used-is : r .used ≡ length text
-  pub room : r .used ≤ 64 * place
+  pub room : r .used ≤ textAByte * place
   pub rest : CarryRest line place
   pub world-so : carriedAll (b .settings) (worldIn b l) (numbersOf (wordsFrom line first)) .world
       ≡ carriedAll (b .settings) (worldIn (r .bench) l′) (numbersOf (wordsFrom line place)) .world

@@ -1,33 +1,16 @@
-// The numbers of a carry line, one after the other, and a brick's switch (document 01, "The bench").
+// The numbers of a carry line, one after the other (document 01, "The bench").
+// inner: call `bench_player::play_line`
 ghost use mathlib.Core.Path.{_≡_};
-ghost use mathlib.Core.Bool.{cond};
 ghost use Prim.Native.Nat.{_+_, _≤_};
-ghost use lib.Dec.{eqb};
 ghost use lib.ListN.{length};
-ghost use Rattle.bench_carry.specs.Workers.{Lined};
 ghost use Rattle.bench_parse.specs.Lines.{numbersOf};
 ghost use Rattle.bench_parse.specs.Workers.{wordsFrom, CarryFrom};
-ghost use Rattle.bench_rules.specs.Play.{carried, carriedAll, switches};
-ghost use Rattle.bench_rules.specs.Turning.{Lent, lent, worldIn};
-ghost use Rattle.bench_rules.specs.Workers.{BenchReady, Turned};
-ghost use Rattle.bench_state.specs.Workers.{Fits};
-ghost use Rattle.register.specs.Runs.{goesDown, comesUp};
+ghost use Rattle.bench_rules.specs.Play.{carried, carriedAll};
+ghost use Rattle.bench_rules.specs.Turning.{lent, worldIn};
+ghost use Rattle.bench_rules.specs.Workers.{BenchReady, Turned, Lined};
+ghost use Rattle.bench_limits.specs.Limits.{lineRoom, textLength};
 use bench_rules::After;
 use bench_state::Bench;
-
-// A brick goes down (0) or comes up (1).
-pub fn switch_at(b: Bench, brick: u64, flag: u8, out: &mut [u8]) -> After
-    requires { ⌜ Fits (b .settings) × (b .sent ≤ 127) × (length (now out) ≡ 65536) ⌝ }
-    ensures { λ r. ⌜ ((l : Lent) → Lined b l (now (out .entry)) (switches (b .settings) (worldIn b l) brick (cond (eqb flag 1) (comesUp brick) (goesDown brick))) r l (now (out .exit))) ⌝ }
-{
-    let s = b.settings;
-    let place = brick as usize;
-    if s.n <= place {
-        return bench_rules::refuse(b, 3, 0, out);
-    }
-    let bench = bench_state::with_up(b, place, flag);
-    After { bench, used: 0 }
-}
 
 // One carried number.
 fn carry_one(
@@ -41,8 +24,11 @@ fn carry_one(
     out: &mut [u8],
 ) -> After
     requires { ⌜ BenchReady b (lent (now images) (now kept) (now numbers) (now bytes)) ⌝ }
-    requires { ⌜ at + 128 ≤ length (now out) ⌝ }
-    ensures { λ r. ⌜ Turned b (lent (now (images .entry)) (now (kept .entry)) (now (numbers .entry)) (now (bytes .entry))) at (now (out .entry)) (carried (b .settings) (worldIn b (lent (now (images .entry)) (now (kept .entry)) (now (numbers .entry)) (now (bytes .entry)))) number) r (lent (now (images .exit)) (now (kept .exit)) (now (numbers .exit)) (now (bytes .exit))) (now (out .exit)) ⌝ }
+    requires { ⌜ at + lineRoom ≤ length (now out) ⌝ }
+    ensures { λ r. ⌜ (
+        let l = lent (now (images .entry)) (now (kept .entry)) (now (numbers .entry)) (now (bytes .entry)) in
+        let l′ = lent (now (images .exit)) (now (kept .exit)) (now (numbers .exit)) (now (bytes .exit)) in
+        Turned b l at (now (out .entry)) (carried (b .settings) (worldIn b l) number) r l′ (now (out .exit))) ⌝ }
 {
     if number == 0 {
         return bench_rules::refuse(b, 12, at, out);
@@ -70,8 +56,11 @@ pub fn carry_all(
     out: &mut [u8],
 ) -> After
     requires { ⌜ BenchReady b (lent (now images) (now kept) (now numbers) (now bytes)) ⌝ }
-    requires { ⌜ CarryFrom (now line) first × (length (now out) ≡ 65536) ⌝ }
-    ensures { λ r. ⌜ Lined b (lent (now (images .entry)) (now (kept .entry)) (now (numbers .entry)) (now (bytes .entry))) (now (out .entry)) (carriedAll (b .settings) (worldIn b (lent (now (images .entry)) (now (kept .entry)) (now (numbers .entry)) (now (bytes .entry)))) (numbersOf (wordsFrom (now (line .entry)) first))) r (lent (now (images .exit)) (now (kept .exit)) (now (numbers .exit)) (now (bytes .exit))) (now (out .exit)) ⌝ }
+    requires { ⌜ CarryFrom (now line) first × (length (now out) ≡ textLength) ⌝ }
+    ensures { λ r. ⌜ (
+        let l = lent (now (images .entry)) (now (kept .entry)) (now (numbers .entry)) (now (bytes .entry)) in
+        let l′ = lent (now (images .exit)) (now (kept .exit)) (now (numbers .exit)) (now (bytes .exit)) in
+        Lined b l (now (out .entry)) (carriedAll (b .settings) (worldIn b l) (numbersOf (wordsFrom (now (line .entry)) first))) r l′ (now (out .exit))) ⌝ }
 {
     let mut r = After { bench: b, used: 0 };
     let mut place = first;

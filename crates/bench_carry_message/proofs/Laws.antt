@@ -1,5 +1,4 @@
--- The laws of `bench_carry_message`, for its own proofs and those of the crates above. No contract cites them.
--- Definitions: Deliver. Laws: AnswerLaws, DeliverLaws.
+-- A message at its brick: what the answer tells, and the ways of a carried message.
 pub mod ReplyKeptLaws
 pub mod ReachingLaws
 pub mod DeliverLaws

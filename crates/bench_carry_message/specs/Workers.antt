@@ -15,17 +15,18 @@ use Rattle.bench_state.specs.Workers.{Fits}
 use Rattle.bench_state.specs.declared.Bench.{Bench}
 use Rattle.bench_sent.specs.Sent.{sentBlockAt, itemAt, itemsOf}
 use Rattle.bench_print.specs.Printing.{refusedText, written}
-use Rattle.bench_rules.specs.Play.{lastMessage}
+use Rattle.bench_rules.specs.Play.{}
 use Rattle.bench_rules.specs.Turning.{lent, worldIn}
 use Rattle.bench_rules.specs.declared.After.{After}
+use Rattle.bench_limits.specs.Limits.{lastMessage, imagesLength, numbersLength, bytesLength, lineRoom}
 
 -- a set that is played, without what the coordinators keep, for which a message has no use
 pub record Lends (b : Bench) (images numbers bytes : List ℕ) : Type 0 where
   pub fits : Fits (b .settings)
-  pub few : b .sent ≤ 127
-  pub images-long : length images ≡ 10240
-  pub numbers-long : length numbers ≡ 1016
-  pub bytes-long : length bytes ≡ 3048
+  pub few : b .sent ≤ lastMessage
+  pub images-long : length images ≡ imagesLength
+  pub numbers-long : length numbers ≡ numbersLength
+  pub bytes-long : length bytes ≡ bytesLength
 
 -- every message but a Trim sends a reply, and that may be no message past 127
 unfoldable pub maySend : ℕ → ℕ → Bool
@@ -56,7 +57,7 @@ pub record Settled (b : Bench) (g : Given) (block numbers bytes : List ℕ) (at 
   pub world-is : (images kept : List ℕ) → worldIn (r .bench) (lent images kept numbers′ bytes′)
       ≡ worldOf b images kept (itemsOf (b .settings .size) numbers bytes (b .sent) ++ repliedWith g block)
   pub settings-kept : r .bench .settings ≡ b .settings
-  pub few : r .bench .sent ≤ 127
+  pub few : r .bench .sent ≤ lastMessage
   pub text-is : out′ ≡ written at (toldOf g) out
   pub used-is : r .used ≡ at + length (toldOf g)
-  pub short : r .used ≤ at + 128
+  pub short : r .used ≤ at + lineRoom

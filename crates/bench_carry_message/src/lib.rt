@@ -1,4 +1,5 @@
 // A carried message at its brick (document 01, "The bench"): lost, refused, or received, and its reply sent.
+// inner: call `bench_player::play_line`
 ghost use mathlib.Core.Path.{_≡_};
 ghost use mathlib.Core.Bool.{false};
 ghost use mathlib.Core.List.{List};
@@ -9,6 +10,13 @@ ghost use Rattle.bench_rules.specs.Play.{carries};
 ghost use Rattle.bench_rules.specs.Turning.{lent, worldIn};
 ghost use Rattle.bench_rules.specs.Workers.{Turned};
 ghost use Rattle.bench_carry_message.specs.Workers.{Lends, Reaching, Settled, maySend, sentAfterMessage};
+ghost use Rattle.bench_limits.specs.Limits.{benchSize, lastMessage, numbersLength, bytesLength, lineRoom};
+use bench_limits::BLOCK_PLACE;
+use bench_limits::IMAGE_ROOM;
+use bench_limits::LAST_MESSAGE;
+use bench_limits::ROW_BYTES;
+use bench_limits::SIZE;
+use bench_limits::UP;
 use bench_rules::After;
 use bench_rules::refuse;
 use bench_state::Bench;
@@ -26,9 +34,11 @@ fn settle(
     at: usize,
     out: &mut [u8],
 ) -> After
-    requires { ⌜ (sentAfterMessage (b .sent) g ≤ 127) × (length (now block) ≡ b .settings .size) × (b .settings .size ≤ 8) ⌝ }
-    requires { ⌜ (length (now numbers) ≡ 1016) × (length (now bytes) ≡ 3048) × (at + 128 ≤ length (now out)) ⌝ }
-    ensures { λ r. ⌜ Settled b g (now (block .entry)) (now (numbers .entry)) (now (bytes .entry)) at (now (out .entry)) r (now (numbers .exit)) (now (bytes .exit)) (now (out .exit)) ⌝ }
+    requires { ⌜ (sentAfterMessage (b .sent) g ≤ lastMessage) × (length (now block) ≡ b .settings .size) × (b .settings .size ≤ benchSize) ⌝ }
+    requires { ⌜ (length (now numbers) ≡ numbersLength) × (length (now bytes) ≡ bytesLength) × (at + lineRoom ≤ length (now out)) ⌝ }
+    ensures { λ r. ⌜ (
+        Settled b g (now (block .entry)) (now (numbers .entry)) (now (bytes .entry)) at (now (out .entry)) r
+        (now (numbers .exit)) (now (bytes .exit)) (now (out .exit))) ⌝ }
 {
     match g {
         Given::Answered(r) => {
@@ -55,13 +65,18 @@ fn deliver_with(
     out: &mut [u8],
 ) -> After
     requires { ⌜ Lends b (now images) (now numbers) (now bytes) × Reaching b (now numbers) (now bytes) k brick msg ⌝ }
-    requires { ⌜ (now block ≡ replicate (b .settings .size) 0) × (at + 128 ≤ length (now out)) ⌝ }
-    ensures { λ r. ⌜ ((kept : List ℕ) → Turned b (lent (now (images .entry)) kept (now (numbers .entry)) (now (bytes .entry))) at (now (out .entry)) (carries (b .settings) (worldIn b (lent (now (images .entry)) kept (now (numbers .entry)) (now (bytes .entry)))) k (itemAt (b .settings .size) (now (numbers .entry)) (now (bytes .entry)) k)) r (lent (now (images .exit)) kept (now (numbers .exit)) (now (bytes .exit))) (now (out .exit))) ⌝ }
+    requires { ⌜ (now block ≡ replicate (b .settings .size) 0) × (at + lineRoom ≤ length (now out)) ⌝ }
+    ensures { λ r. ⌜ ((kept : List ℕ) →
+        let l = lent (now (images .entry)) kept (now (numbers .entry)) (now (bytes .entry)) in
+        let l′ = lent (now (images .exit)) kept (now (numbers .exit)) (now (bytes .exit)) in
+        Turned b l at (now (out .entry))
+        (carries (b .settings) (worldIn b l) k (itemAt (b .settings .size) (now (numbers .entry)) (now (bytes .entry)) k))
+        r l′ (now (out .exit))) ⌝ }
 {
     let s = b.settings;
-    let start = brick * 2560;
+    let start = brick * IMAGE_ROOM;
     let end = start + 512 * (s.capacity + 1);
-    let from = k * 24 + 16;
+    let from = k * ROW_BYTES + BLOCK_PLACE;
     let till = from + s.size;
     let g = brick::receive(
         s,
@@ -81,7 +96,7 @@ fn may_send(kind: u8, sent: usize) -> bool
     if kind == TRIM {
         return true;
     }
-    sent < 127
+    sent < LAST_MESSAGE
 }
 
 // A carried message.
@@ -95,8 +110,13 @@ pub fn carry_message(
     out: &mut [u8],
 ) -> After
     requires { ⌜ Lends b (now images) (now numbers) (now bytes) × (k < b .sent) ⌝ }
-    requires { ⌜ (isReply (now numbers) k ≡ false) × (at + 128 ≤ length (now out)) ⌝ }
-    ensures { λ r. ⌜ ((kept : List ℕ) → Turned b (lent (now (images .entry)) kept (now (numbers .entry)) (now (bytes .entry))) at (now (out .entry)) (carries (b .settings) (worldIn b (lent (now (images .entry)) kept (now (numbers .entry)) (now (bytes .entry)))) k (itemAt (b .settings .size) (now (numbers .entry)) (now (bytes .entry)) k)) r (lent (now (images .exit)) kept (now (numbers .exit)) (now (bytes .exit))) (now (out .exit))) ⌝ }
+    requires { ⌜ (isReply (now numbers) k ≡ false) × (at + lineRoom ≤ length (now out)) ⌝ }
+    ensures { λ r. ⌜ ((kept : List ℕ) →
+        let l = lent (now (images .entry)) kept (now (numbers .entry)) (now (bytes .entry)) in
+        let l′ = lent (now (images .exit)) kept (now (numbers .exit)) (now (bytes .exit)) in
+        Turned b l at (now (out .entry))
+        (carries (b .settings) (worldIn b l) k (itemAt (b .settings .size) (now (numbers .entry)) (now (bytes .entry)) k))
+        r l′ (now (out .exit))) ⌝ }
 {
     let s = b.settings;
     let brick = bench_sent::brick_at(numbers, k);
@@ -104,14 +124,14 @@ pub fn carry_message(
         return refuse(b, 3, at, out);
     }
     let up = b.up;
-    if up[brick] != 1 {
+    if up[brick] != UP {
         return After { bench: b, used: at };
     }
     let msg = bench_sent::message_at(numbers, bytes, k);
     if may_send(msg.kind, b.sent) {} else {
         return refuse(b, 12, at, out);
     }
-    let mut block = [0u8; 8];
+    let mut block = [0u8; SIZE];
     let size = s.size;
     deliver_with(
         b,

@@ -1,1 +1,1 @@
--- No definitions of its own.
+-- No definition of its own: `bench_rules/Play.carries` says what a carried reply does.

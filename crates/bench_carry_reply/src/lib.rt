@@ -1,4 +1,5 @@
-// A carried reply at its coordinator (document 01, "The bench").
+// A carried reply at its coordinator (document 01, "The bench"): counted, or refused.
+// inner: call `bench_player::play_line`
 ghost use mathlib.Core.Path.{_≡_};
 ghost use mathlib.Core.Bool.{true};
 ghost use Prim.Native.Nat.{_+_, _*_, _%_, _<_};
@@ -10,9 +11,15 @@ ghost use Rattle.coord_apply.specs.Answers.{Buffered};
 ghost use Rattle.coordinator.specs.Routines.{takeStep};
 ghost use Rattle.register.specs.Runs.{World, arrives};
 use bench_commit::commit;
+use bench_limits::BLOCK_PLACE;
+use bench_limits::ROW_BYTES;
+use bench_limits::STRIPE_ROOM;
 use bench_rules::After;
 use bench_state::Bench;
 use message::Reply;
+
+// "coordinators 0 to 3"
+const COORDINATORS: u64 = bench_limits::COORDINATORS as u64;
 
 // A reply in row k, on copies of what the coordinator keeps.
 fn reply_with(
@@ -32,12 +39,17 @@ fn reply_with(
     requires { ⌜ Seats b c (now kept) (now numbers) (now bytes) at (now out) ⌝ }
     requires { ⌜ Copies (b .settings) (now blocks) (now stripe) (now coded) ⌝ }
     requires { ⌜ (k < b .sent) × (isReply (now numbers) k ≡ true) × (reply ≡ replyAt (now numbers) k) × (c ≡ reply .time % 16) ⌝ }
-    ensures { λ r. ⌜ BenchActed b c (arrives k) (λ (h : Buffered). takeStep (b .settings .n) (b .settings .m) (b .settings .size) h reply (sentBlockAt (b .settings .size) (now (bytes .entry)) k) (b .settings .n * b .settings .size)) (now (kept .entry)) (now (numbers .entry)) (now (bytes .entry)) at (now (out .entry)) r (now (kept .exit)) (now (numbers .exit)) (now (bytes .exit)) (now (out .exit)) ⌝ }
+    ensures { λ r. ⌜ (
+        let s = b .settings in
+        BenchActed b c (arrives k)
+        (λ (h : Buffered). takeStep (s .n) (s .m) (s .size) h reply (sentBlockAt (s .size) (now (bytes .entry)) k) (s .n * s .size))
+        (now (kept .entry)) (now (numbers .entry)) (now (bytes .entry)) at (now (out .entry)) r
+        (now (kept .exit)) (now (numbers .exit)) (now (bytes .exit)) (now (out .exit))) ⌝ }
 {
     bench_state::fetch(c, kept, blocks, stripe);
     let s = b.settings;
     let old = bench_state::coordinator_at(b, c);
-    let from = k * 24 + 16;
+    let from = k * ROW_BYTES + BLOCK_PLACE;
     let till = from + s.size;
     let a = coordinator::take_reply(
         s.n,
@@ -77,19 +89,23 @@ pub fn carry_reply(
 ) -> After
     requires { ⌜ Seats b 0 (now kept) (now numbers) (now bytes) at (now out) ⌝ }
     requires { ⌜ (k < b .sent) × (isReply (now numbers) k ≡ true) ⌝ }
-    ensures { λ r. ⌜ Plays b (λ (w : World). carries (b .settings) w k (itemAt (b .settings .size) (now (numbers .entry)) (now (bytes .entry)) k)) (now (kept .entry)) (now (numbers .entry)) (now (bytes .entry)) at (now (out .entry)) r (now (kept .exit)) (now (numbers .exit)) (now (bytes .exit)) (now (out .exit)) ⌝ }
+    ensures { λ r. ⌜ (
+        let s = b .settings in
+        Plays b (λ (w : World). carries s w k (itemAt (s .size) (now (numbers .entry)) (now (bytes .entry)) k))
+        (now (kept .entry)) (now (numbers .entry)) (now (bytes .entry)) at (now (out .entry)) r
+        (now (kept .exit)) (now (numbers .exit)) (now (bytes .exit)) (now (out .exit))) ⌝ }
 {
     let reply = bench_sent::reply_at(numbers, k);
     let c = reply.time % 16;
-    if 4 <= c {
+    if COORDINATORS <= c {
         return bench_rules::refuse(b, 3, at, out);
     }
     let s = b.settings;
     let data = s.m * s.size;
     let all = s.n * s.size;
-    let mut blocks = [0u8; 32];
-    let mut stripe = [0u8; 32];
-    let mut coded = [0u8; 32];
+    let mut blocks = [0u8; STRIPE_ROOM];
+    let mut stripe = [0u8; STRIPE_ROOM];
+    let mut coded = [0u8; STRIPE_ROOM];
     let seat = c as usize;
     reply_with(
         b,

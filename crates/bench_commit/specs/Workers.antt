@@ -10,7 +10,7 @@ use Rattle.coord_apply.specs.declared.Answer.{Answer}
 use Rattle.register.specs.Driver.{driven, listed}
 use Rattle.register.specs.Runs.{World, Event, broadcasts}
 use Rattle.bench_print.specs.Printing.{endedText}
-use Rattle.bench_rules.specs.Play.{Played, refuses, lastMessage, acts}
+use Rattle.bench_rules.specs.Play.{Played, refuses, acts}
 use Rattle.coord_apply.specs.Answers.{Buffered, Step}
 use Rattle.bench_state.specs.declared.Bench.{Bench}
 use Rattle.bench_rules.specs.Turning.{lent, worldIn}
@@ -20,6 +20,7 @@ use mathlib.Core.Path.{_≡_}
 use Rattle.message.specs.declared.Message.{Message}
 use Rattle.bench_sent.specs.Sent.{itemsOf}
 use Rattle.bench_state.specs.Workers.{Fits}
+use Rattle.bench_limits.specs.Limits.{benchCoordinators, lastMessage, keptLength, numbersLength, bytesLength, lineRoom}
 
 -- refused with its number; refused with 12 where it would send past message 127; or kept, sent and printed
 unfoldable pub answered : Settings → World → Event → ℕ → Answer → List ℕ → List ℕ → List ℕ → Played
@@ -56,12 +57,12 @@ pub record Round (s : Settings) (sent count : ℕ) (first second : Message) (cod
 -- what the functions at a coordinator are lent: a set that is played, and room for a line
 pub record Seats (b : Bench) (c : ℕ) (kept numbers bytes : List ℕ) (at : ℕ) (out : List ℕ) : Type 0 where
   pub fits : Fits (b .settings)
-  pub few : b .sent ≤ 127
-  pub low : c < 4
-  pub kept-long : length kept ≡ 256
-  pub numbers-long : length numbers ≡ 1016
-  pub bytes-long : length bytes ≡ 3048
-  pub room : at + 128 ≤ length out
+  pub few : b .sent ≤ lastMessage
+  pub low : c < benchCoordinators
+  pub kept-long : length kept ≡ keptLength
+  pub numbers-long : length numbers ≡ numbersLength
+  pub bytes-long : length bytes ≡ bytesLength
+  pub room : at + lineRoom ≤ length out
 
 -- the buffers that a routine works on
 pub record Copies (s : Settings) (blocks stripe coded : List ℕ) : Type 0 where

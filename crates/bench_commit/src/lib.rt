@@ -6,6 +6,8 @@ ghost use lib.ListN.{length};
 ghost use Rattle.coord_apply.specs.Answers.{mostBroadcasts};
 ghost use Rattle.bench_commit.specs.Workers.{Round, Seats, Copies, Answers};
 ghost use Rattle.bench_commit.specs.Workers.{sentAfterAnswer};
+ghost use Rattle.bench_limits.specs.Limits.{benchSize, lastMessage, numbersLength, bytesLength};
+use bench_limits::LAST_MESSAGE;
 use bench_rules::After;
 use bench_state::Bench;
 use coord_apply::Answer;
@@ -31,8 +33,8 @@ fn send(
     numbers: &mut [u64],
     bytes: &mut [u8],
 )
-    requires { ⌜ (s .size ≤ 8) × (sentAfterAnswer (s .n) sent broadcasts ≤ 127) × (s .n * s .size ≤ length (now coded)) ⌝ }
-    requires { ⌜ (length (now numbers) ≡ 1016) × (length (now bytes) ≡ 3048) × (broadcasts ≤ mostBroadcasts) ⌝ }
+    requires { ⌜ (s .size ≤ benchSize) × (sentAfterAnswer (s .n) sent broadcasts ≤ lastMessage) × (s .n * s .size ≤ length (now coded)) ⌝ }
+    requires { ⌜ (length (now numbers) ≡ numbersLength) × (length (now bytes) ≡ bytesLength) × (broadcasts ≤ mostBroadcasts) ⌝ }
     ensures { λ _. ⌜ Round s sent broadcasts first second (now (coded .entry))
         (now (numbers .entry)) (now (bytes .entry)) (now (numbers .exit)) (now (bytes .exit)) ⌝ }
 {
@@ -63,7 +65,7 @@ fn keep_answer(
 ) -> After
     requires { ⌜ Seats b c (now kept) (now numbers) (now bytes) at (now out) ⌝ }
     requires { ⌜ Copies (b .settings) (now blocks) (now stripe) (now coded) ⌝ }
-    requires { ⌜ (a .refusal ≡ 0) × (sent ≡ sentAfterAnswer (b .settings .n) (b .sent) (a .sent)) × (sent ≤ 127) ⌝ }
+    requires { ⌜ (a .refusal ≡ 0) × (sent ≡ sentAfterAnswer (b .settings .n) (b .sent) (a .sent)) × (sent ≤ lastMessage) ⌝ }
     requires { ⌜ a .sent ≤ mostBroadcasts ⌝ }
     ensures { λ r. ⌜ (
         Answers b c a (now (blocks .entry)) (now (stripe .entry)) (now (coded .entry))
@@ -109,7 +111,7 @@ pub fn commit(
     }
     let s = b.settings;
     let sent = sent_after(s.n, b.sent, a.sent);
-    if 127 < sent {
+    if LAST_MESSAGE < sent {
         return bench_rules::refuse(b, 12, at, out);
     }
     keep_answer(

@@ -1,14 +1,16 @@
--- The laws of `bench_order`, for its own proofs and those of the crates above. No contract cites them.
--- What a reader believes: a script; what is told of a run; and that every script is a run with one order, prints what is seen of it, and sends
--- 127 messages at most.
-pub mod ToldLaws
-pub mod ScriptTheorem
-pub mod ReportTheorem
-pub mod LimitTheorem
+-- The laws of `bench_order`: the proofs of its statements, the page's name in parentheses.
+-- Every script is a run with one order (ScriptTheorem).
+pub mod ScriptRunLaws
+-- It prints its run (ReportTheorem).
+pub mod ReportLaws
+-- It never sends past message 127 (LimitTheorem).
+pub mod LimitLaws
+-- Calls are the script (CallsTheorem).
 pub mod CallLaws
--- How the input is cut into lines; document 01's case, computed from its bytes.
+-- Document 01's case, computed (CaseTheorem).
 pub mod WorkedCaseLaws
--- A line, part by part; what is printed at an event is what is seen there.
+-- For these: a line, part by part; what is printed at an event is what is seen there.
 pub mod Parts
 pub mod ScriptPartLaws
+pub mod ToldLaws
 pub mod PrintedLaws

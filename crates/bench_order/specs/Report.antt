@@ -7,10 +7,9 @@ use lib.Dec.{eqb}
 use Rattle.settings.specs.declared.Settings.{Settings}
 use Rattle.coord_record.specs.Records.{idleKind, readingKind, writingKind}
 use Rattle.order.specs.Claim.{Action, read, write, Seen, began, ended}
-use Rattle.register.specs.Runs.{plain, Event, Moved, step, nextMoved, unmoved, freshSet}
+use Rattle.register.specs.Runs.{plain, Event, Moved, step, nextMoved}
 use Rattle.bench_print.specs.Printing.{refusedText}
 use Rattle.bench_order.specs.Told.{toldEnd}
-use Rattle.bench_rules.specs.Play.{Stage, waiting, playing}
 
 unfoldable pub kindOf : Action (List ℕ) → ℕ
 kindOf read = readingKind
@@ -36,8 +35,3 @@ pub data Reports (s : Settings) : Moved s → List Event → List ℕ → Type 0
       → Reports s r events (refusedText number ++ text)
   event : (r : Moved s) (e : Event) (events : List Event) (text : List ℕ) → Reports s (nextMoved s r e) events text
       → Reports s r (e ∷ events) (reported s (r .seen) (step s (r .world) e .seen) ++ text)
-
--- All that a bench printed so far: without a set, refusals alone; with one, what is seen at the events of its run, and refusals.
-unfoldable pub Reported : Stage → List Event → List ℕ → Type 0
-Reported waiting events text = (s : Settings) → Reports s (unmoved s (freshSet s)) [] text
-Reported (playing s w) events text = Reports s (unmoved s (freshSet s)) events text

@@ -1,14 +1,11 @@
 -- Document 01, "The bench": "`bench` reads standard input", line by line, and plays each line on what the lines before it left.
-use mathlib.Core.Bool.{cond, true}
+use mathlib.Core.Bool.{cond}
 use mathlib.Core.List.{List, [], _∷_, _++_}
 use Prim.Native.Nat.{ℕ}
 use lib.Dec.{eqb}
 use Rattle.bench_parse.specs.Lines.{longer, reads}
 use Rattle.bench_print.specs.Printing.{newline}
-use Rattle.bench_rules.specs.Play.{Stage, waiting, Turn, turn, playing}
-use mathlib.Core.Path.{_≡_}
-use Rattle.register.specs.Runs.{Event, run}
-use Rattle.bench_state.specs.State.{benchRange}
+use Rattle.bench_rules.specs.Play.{Stage, waiting, Turn, turn}
 
 -- "one line each": the input cut at each newline. A last line without a newline is a line, a newline at the very end starts no further line,
 -- and empty input has no line.
@@ -32,9 +29,3 @@ playsLines stage (l ∷ ls) = follows (turn stage (reads l)) (playsLines (turn s
 -- the whole input, from the bench without a set
 unfoldable pub script : List ℕ → Turn
 script input = playsLines waiting (lines input)
-
--- The bench stands where the run of these events stands: without a set nothing happened; with one, its settings are within the bench's limits,
--- and its world is the one that the run of the events, from the fresh set, reaches.
-unfoldable pub StandsFor : Stage → List Event → Type 0
-StandsFor waiting events = events ≡ []
-StandsFor (playing s w) events = (benchRange s ≡ true) × (w ≡ run s events .world)

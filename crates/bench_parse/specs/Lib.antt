@@ -1,4 +1,3 @@
--- How a line of the bench reads. Definitions: Lines (document 01's lines), Meaning (what the code's answer stands for). Examples: Examples.
--- Steps: what the inner functions state. Laws for callers: CallerLaws. Other laws: WordLaws, NumberLaws, HexLaws, LineLaws.
+-- How a line of the bench reads: document 01's lines, and what the code's answers stand for.
 pub mod Lines
 pub mod Workers

@@ -15,6 +15,10 @@ every p (x ∷ xs) = p x && every p xs
 abbrev pub longest : ℕ
 longest = 1000
 
+-- so many bytes of a line are enough to tell that it is too long
+abbrev pub heldLength : ℕ
+heldLength = longest + 1
+
 abbrev pub space : ℕ
 space = 32
 

@@ -5,7 +5,8 @@ use mathlib.Core.List.{List, [], _∷_}
 use Prim.Native.Nat.{ℕ, _+_, _≤_, _<_}
 use lib.Dec.{leb}
 use lib.ListN.{length, drop}
-use Rattle.bench_parse.specs.Lines.{every, longest, words, numberWord, numbersOf, hexWord, Line, setLine, writeLine, readLine, carryLine, crashLine, downLine, upLine, noLine}
+use Rattle.bench_parse.specs.Lines.{every, longest, words, numberWord, numbersOf, hexWord, Line, setLine, writeLine, readLine, carryLine, crashLine}
+use Rattle.bench_parse.specs.Lines.{downLine, upLine, noLine}
 use Rattle.bench_parse.specs.declared.Line as code
 use Rattle.bench_parse.specs.declared.Line.the-variants.{Set, Write, Read, Carry, Crash, Down, Up, Unread}
 use Rattle.bench_parse.specs.declared.Number.{Number}
@@ -36,10 +37,14 @@ lineOf (Down b) l = downLine b
 lineOf (Up b) l = upLine b
 lineOf Unread l = noLine
 
+-- the numbers of a carry line begin behind its first word, of five letters, and a space
+abbrev pub afterCarry : ℕ
+afterCarry = 6
+
 -- from that place on a carry line has numbers, one or more
 pub record CarryFrom (l : List ℕ) (at : ℕ) : Type 0 where
   pub within : at ≤ length l
-  pub after : 6 ≤ at
+  pub after : afterCarry ≤ at
   pub short : length l ≤ longest
   pub numbers : every numberWord (words (drop at l)) ≡ true
 
@@ -130,19 +135,45 @@ pub record HexesFrom (l : List ℕ) (at : ℕ) (r : Bool) : Type 0 where
   pub digits : r ≡ true → hexWord (drop at l) ≡ true
   pub only : r ≡ true → wordsFrom l at ≡ drop at l ∷ []
 
--- the first word as a number, 0 for one that no line begins with
+-- a command by its number, 0 for none
+abbrev pub noCommand : ℕ
+noCommand = 0
+
+abbrev pub setCommand : ℕ
+setCommand = 1
+
+abbrev pub writeCommand : ℕ
+writeCommand = 2
+
+abbrev pub readCommand : ℕ
+readCommand = 3
+
+abbrev pub carryCommand : ℕ
+carryCommand = 4
+
+abbrev pub crashCommand : ℕ
+crashCommand = 5
+
+abbrev pub downCommand : ℕ
+downCommand = 6
+
+abbrev pub upCommand : ℕ
+upCommand = 7
+
+-- the first word as a number: which command it is, if one
 unfoldable pub commandNumber : List ℕ → ℕ
 commandNumber w =
-    cond (same w setText) 1
-    (cond (same w writeText) 2
-    (cond (same w readText) 3
-    (cond (same w carryText) 4 (cond (same w crashText) 5 (cond (same w downText) 6 (cond (same w upText) 7 0))))))
+    cond (same w setText) setCommand
+    (cond (same w writeText) writeCommand
+    (cond (same w readText) readCommand
+    (cond (same w carryText) carryCommand
+    (cond (same w crashText) crashCommand (cond (same w downText) downCommand (cond (same w upText) upCommand noCommand))))))
 
 -- what such a line says
 unfoldable pub byNumber : ℕ → List (List ℕ) → Line
 byNumber k ws =
-    cond (eqb k 1) (setOf ws)
-    (cond (eqb k 2) (writeOf ws)
-    (cond (eqb k 3) (readOf ws)
-    (cond (eqb k 4) (carryOf ws)
-    (cond (eqb k 5) (oneOf crashLine ws) (cond (eqb k 6) (oneOf downLine ws) (cond (eqb k 7) (oneOf upLine ws) noLine))))))
+    cond (eqb k setCommand) (setOf ws)
+    (cond (eqb k writeCommand) (writeOf ws)
+    (cond (eqb k readCommand) (readOf ws)
+    (cond (eqb k carryCommand) (carryOf ws)
+    (cond (eqb k crashCommand) (oneOf crashLine ws) (cond (eqb k downCommand) (oneOf downLine ws) (cond (eqb k upCommand) (oneOf upLine ws) noLine))))))

@@ -1,19 +1,44 @@
-// How a line of the bench reads (document 01, "The bench").
+// How a line of the bench reads (document 01, "The bench"): from the bytes of a line to what it says.
+// inner: call `bench_player::play_line`
 ghost use mathlib.Core.Path.{_≡_};
 ghost use mathlib.Core.Bool.{true, _&&_};
 ghost use lib.Dec.{leb};
 ghost use Prim.Native.Nat.{_+_, _*_, _≤_, _<_};
 ghost use lib.ListN.{length, drop};
-ghost use Rattle.bench_parse.specs.Lines.{every, numberWord, isHex, hexValue, bytesOf, crashLine, downLine, upLine, setOf, writeOf, readOf, carryOf, oneOf, reads};
+ghost use Rattle.bench_parse.specs.Lines.{every, numberWord, isHex, hexValue, bytesOf, crashLine, downLine, upLine, setOf, writeOf, readOf, carryOf};
+ghost use Rattle.bench_parse.specs.Lines.{oneOf, reads};
 ghost use Rattle.byte_lists.specs.Lists.{same};
 ghost use Rattle.bench_parse.specs.Workers.{wordsFrom, lineOf, CarryFrom, LineSound, NumberAt};
+ghost use Rattle.bench_parse.specs.Workers.{carryCommand, afterCarry};
 ghost use Rattle.bench_parse.specs.Workers.{ReadAs, wordLength, NumeralOf, NumberFrom, AloneOf, HexesFrom, commandNumber, byNumber, Place};
 
+// "a line has up to 1,000 bytes"
 pub const LONGEST: usize = 1000;
 
+// So many bytes of a line are enough to tell that it is too long.
+pub const HELD_LENGTH: usize = LONGEST + 1;
+
+// "a number has 1 to 19 digits"
 pub const MOST_DIGITS: usize = 19;
 
 const SPACE: u8 = 32;
+
+// A command by its number, 0 for none.
+const NO_COMMAND: u32 = 0;
+
+const SET: u32 = 1;
+
+const WRITE: u32 = 2;
+
+const READ: u32 = 3;
+
+const CARRY: u32 = 4;
+
+const CRASH: u32 = 5;
+
+const DOWN: u32 = 6;
+
+const UP: u32 = 7;
 
 // What a line says. The last number of Write and of Carry is the place in the line where the hex word, or the first number, begins.
 pub enum Line {
@@ -295,7 +320,7 @@ fn read_from(line: &[u8], at: usize) -> Line
 // `carry` and its numbers, from the first on.
 fn carry_from(line: &[u8], at: usize) -> Line
     requires { ⌜ Place (now line) at ⌝ }
-    requires { ⌜ 6 ≤ at ⌝ }
+    requires { ⌜ afterCarry ≤ at ⌝ }
     ensures { λ r. ⌜ ReadAs r (now (line .entry)) (carryOf (wordsFrom (now (line .entry)) at)) ⌝ }
 {
     if line.len() < at {
@@ -343,59 +368,59 @@ fn up_from(line: &[u8], at: usize) -> Line
     Line::Up(b.value)
 }
 
-// The first word as a number, 0 for one that no line begins with.
+// The first word as a command.
 fn command_of(word: &[u8]) -> u32
     ensures { λ r. ⌜ r ≡ commandNumber (now (word .entry)) ⌝ }
 {
     if same_word(word, b"set") {
-        return 1;
+        return SET;
     }
     if same_word(word, b"write") {
-        return 2;
+        return WRITE;
     }
     if same_word(word, b"read") {
-        return 3;
+        return READ;
     }
     if same_word(word, b"carry") {
-        return 4;
+        return CARRY;
     }
     if same_word(word, b"crash") {
-        return 5;
+        return CRASH;
     }
     if same_word(word, b"down") {
-        return 6;
+        return DOWN;
     }
     if same_word(word, b"up") {
-        return 7;
+        return UP;
     }
-    0
+    NO_COMMAND
 }
 
 // A line from its second word on.
 fn read_rest(line: &[u8], at: usize, command: u32) -> Line
     requires { ⌜ Place (now line) at ⌝ }
-    requires { ⌜ (command ≡ 4 → 6 ≤ at) ⌝ }
+    requires { ⌜ (command ≡ carryCommand → afterCarry ≤ at) ⌝ }
     ensures { λ r. ⌜ ReadAs r (now (line .entry)) (byNumber command (wordsFrom (now (line .entry)) at)) ⌝ }
 {
-    if command == 1 {
+    if command == SET {
         return set_from(line, at);
     }
-    if command == 2 {
+    if command == WRITE {
         return write_from(line, at);
     }
-    if command == 3 {
+    if command == READ {
         return read_from(line, at);
     }
-    if command == 4 {
+    if command == CARRY {
         return carry_from(line, at);
     }
-    if command == 5 {
+    if command == CRASH {
         return crash_from(line, at);
     }
-    if command == 6 {
+    if command == DOWN {
         return down_from(line, at);
     }
-    if command == 7 {
+    if command == UP {
         return up_from(line, at);
     }
     Line::Unread

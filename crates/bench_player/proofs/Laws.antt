@@ -1,5 +1,4 @@
--- The laws of `bench_player`, for its own proofs and those of the crates above. No contract cites them.
--- Definitions: Lining. Laws: TurnLaws, RefusalLaws, HeldLaws.
+-- A line by what it says, what a call is refused with, and a line that has not ended.
 pub mod HeldLaws
 pub mod PlayerRefusalLaws
 pub mod PlayerTurnLaws

@@ -1,3 +1,3 @@
--- Definitions: Lining. Laws: TurnLaws, RefusalLaws, HeldLaws.
+-- A whole call, which is the contract of `play_line`; and what the inner workers state.
 pub mod Lining
 pub mod Workers

@@ -6,21 +6,22 @@ use Prim.Native.Nat.{ℕ, _≤_}
 use lib.Dec.{eqb}
 use lib.ListN.{length}
 use Rattle.bench_parse.specs.Lines.{Line}
-use Rattle.bench_rules.specs.Play.{Turn, first}
+use Rattle.bench_rules.specs.Play.{eventsOf, Turn, first}
 use Rattle.bench_rules.specs.Turning.{Lent, lent}
 use Rattle.bench_print.specs.Printing.{written}
 use Rattle.bench_state.specs.State.{benchRange}
 use Rattle.bench_rules.specs.declared.After.{After}
 use Rattle.bench_player.specs.Lining.{stageOf}
+use Rattle.bench_limits.specs.Limits.{lastMessage, textLength}
 
 -- The bench after a line, by its stage.
 pub record Staged (t : Turn) (out : List ℕ) (r : After) (l′ : Lent) (out′ : List ℕ) : Type 0 where
-  pub stage-is : stageOf (r .bench) l′ ≡ t .stage
-  pub few : r .bench .sent ≤ 127
+  pub stage-is : stageOf (r .bench) l′ (eventsOf (t .stage)) ≡ t .stage
+  pub few : r .bench .sent ≤ lastMessage
   pub right : eqb (r .bench .settings .n) 0 || benchRange (r .bench .settings) ≡ true
   pub text-is : out′ ≡ written 0 (t .printed) out
   pub used-is : r .used ≡ length (t .printed)
-  pub within : r .used ≤ 65536
+  pub within : r .used ≤ textLength
 
 -- the same, whatever the rows hold
 pub record First (said : Line) (out : List ℕ) (r : After) (images kept out′ : List ℕ) : Type 0 where

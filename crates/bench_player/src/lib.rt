@@ -1,24 +1,34 @@
-// Playing the bench's lines (document 01, "The bench") over the proved routines.
+// The bench's lines, played one at a time over the proved routines (document 01, "The bench"): `play_line` is what a user calls.
 ghost use mathlib.Core.Path.{_≡_};
 ghost use mathlib.Core.Bool.{_||_};
-ghost use mathlib.Core.List.{[], _∷_, _++_};
+ghost use mathlib.Core.List.{List, [], _∷_, _++_};
 ghost use Prim.Native.Nat.{_+_, _≤_};
 ghost use lib.Dec.{eqb};
 ghost use lib.ListN.{length, take};
-ghost use Rattle.bench_carry.specs.Workers.{Lined};
 ghost use Rattle.bench_player.specs.Lining.{stageOf, lentLengthsRight, benchRefused, Called};
 ghost use Rattle.bench_player.specs.Workers.{First};
-ghost use Rattle.bench_parse.specs.Lines.{reads};
+ghost use Rattle.bench_parse.specs.Lines.{heldLength, reads};
 ghost use Rattle.bench_parse.specs.Workers.{lineOf, LineSound};
 ghost use Rattle.bench_rules.specs.Play.{plays, waiting};
 ghost use Rattle.bench_rules.specs.Turning.{Lent, lent, worldIn};
-ghost use Rattle.bench_rules.specs.Workers.{BenchReady};
+ghost use Rattle.bench_rules.specs.Workers.{BenchReady, Lined};
 ghost use Rattle.bench_state.specs.State.{benchRange};
+ghost use Rattle.register.specs.Runs.{Event};
+ghost use Rattle.bench_limits.specs.Limits.{lastMessage, keptLength, imagesLength, numbersLength, bytesLength, textLength};
 use bench_carry::carry_all;
-use bench_carry::switch_at;
+use bench_limits::BYTES_LENGTH;
+use bench_limits::DOWN;
+use bench_limits::IMAGES_LENGTH;
+use bench_limits::KEPT_LENGTH;
+use bench_limits::LAST_MESSAGE;
+use bench_limits::NUMBERS_LENGTH;
+use bench_limits::TEXT_LENGTH;
+use bench_limits::UP;
+use bench_parse::HELD_LENGTH;
 use bench_parse::Line;
 use bench_rules::After;
 use bench_state::Bench;
+use bench_switch::switch_at;
 use settings::Settings;
 
 // A line while no set is accepted: what its bytes read as is given.
@@ -31,8 +41,8 @@ fn play_first(
     out: &mut [u8],
 ) -> After
     requires { ⌜ (lineOf l (now line) ≡ reads (now line)) × LineSound l (now line) ⌝ }
-    requires { ⌜ (b .settings .n ≡ 0) × (b .sent ≤ 127) ⌝ }
-    requires { ⌜ (length (now images) ≡ 10240) × (length (now kept) ≡ 256) × (length (now out) ≡ 65536) ⌝ }
+    requires { ⌜ (b .settings .n ≡ 0) × (b .sent ≤ lastMessage) ⌝ }
+    requires { ⌜ (length (now images) ≡ imagesLength) × (length (now kept) ≡ keptLength) × (length (now out) ≡ textLength) ⌝ }
     ensures { λ r. ⌜ First (reads (now (line .entry))) (now (out .entry)) r (now (images .exit)) (now (kept .exit)) (now (out .exit)) ⌝ }
 {
     match l {
@@ -73,8 +83,11 @@ fn play_next(
 ) -> After
     requires { ⌜ (lineOf l (now line) ≡ reads (now line)) × LineSound l (now line) ⌝ }
     requires { ⌜ BenchReady b (lent (now images) (now kept) (now numbers) (now bytes)) ⌝ }
-    requires { ⌜ length (now out) ≡ 65536 ⌝ }
-    ensures { λ r. ⌜ Lined b (lent (now (images .entry)) (now (kept .entry)) (now (numbers .entry)) (now (bytes .entry))) (now (out .entry)) (plays (b .settings) (worldIn b (lent (now (images .entry)) (now (kept .entry)) (now (numbers .entry)) (now (bytes .entry)))) (reads (now (line .entry)))) r (lent (now (images .exit)) (now (kept .exit)) (now (numbers .exit)) (now (bytes .exit))) (now (out .exit)) ⌝ }
+    requires { ⌜ length (now out) ≡ textLength ⌝ }
+    ensures { λ r. ⌜ (
+        let l = lent (now (images .entry)) (now (kept .entry)) (now (numbers .entry)) (now (bytes .entry)) in
+        let l′ = lent (now (images .exit)) (now (kept .exit)) (now (numbers .exit)) (now (bytes .exit)) in
+        Lined b l (now (out .entry)) (plays (b .settings) (worldIn b l) (reads (now (line .entry)))) r l′ (now (out .exit))) ⌝ }
 {
     match l {
         Line::Set(_, _, _, _) => bench_rules::refuse(b, 12, 0, out),
@@ -86,8 +99,8 @@ fn play_next(
         }
         Line::Carry(first) => carry_all(b, line, first, images, kept, numbers, bytes, out),
         Line::Crash(c) => bench_start::crash_at(b, c, kept, numbers, bytes, out),
-        Line::Down(brick) => switch_at(b, brick, 0, out),
-        Line::Up(brick) => switch_at(b, brick, 1, out),
+        Line::Down(brick) => switch_at(b, brick, DOWN, out),
+        Line::Up(brick) => switch_at(b, brick, UP, out),
         Line::Unread => bench_rules::refuse(b, 12, 0, out),
     }
 }
@@ -113,19 +126,19 @@ fn settings_right(s: Settings) -> bool
 fn lengths_right(images: usize, kept: usize, numbers: usize, bytes: usize, out: usize) -> bool
     ensures { λ r. ⌜ r ≡ lentLengthsRight images kept numbers bytes out ⌝ }
 {
-    if images != 10240 {
+    if images != IMAGES_LENGTH {
         return false;
     }
-    if kept != 256 {
+    if kept != KEPT_LENGTH {
         return false;
     }
-    if numbers != 1016 {
+    if numbers != NUMBERS_LENGTH {
         return false;
     }
-    if bytes != 3048 {
+    if bytes != BYTES_LENGTH {
         return false;
     }
-    if out != 65536 {
+    if out != TEXT_LENGTH {
         return false;
     }
     true
@@ -149,7 +162,7 @@ fn bench_refused(
     if lengths_right(images, kept, numbers, bytes, out) {} else {
         return 2;
     }
-    if 127 < b.sent {
+    if LAST_MESSAGE < b.sent {
         return 6;
     }
     0
@@ -157,8 +170,8 @@ fn bench_refused(
 
 // The bench before its first line: no set.
 pub fn no_set() -> Bench
-    ensures { λ r. ⌜ ((l : Lent) → stageOf r l ≡ waiting) ⌝ }
-    ensures { λ r. ⌜ benchRefused r 10240 256 1016 3048 65536 ≡ 0 ⌝ }
+    ensures { λ r. ⌜ ((l : Lent) (events : List Event) → stageOf r l events ≡ waiting) ⌝ }
+    ensures { λ r. ⌜ benchRefused r imagesLength keptLength numbersLength bytesLength textLength ≡ 0 ⌝ }
 {
     let none = Settings {
         n: 0,
@@ -180,7 +193,10 @@ pub fn play_line(
     bytes: &mut [u8],
     out: &mut [u8],
 ) -> Played
-    ensures { λ r. ⌜ Called b (lent (now (images .entry)) (now (kept .entry)) (now (numbers .entry)) (now (bytes .entry))) (now (line .entry)) (now (out .entry)) r (lent (now (images .exit)) (now (kept .exit)) (now (numbers .exit)) (now (bytes .exit))) (now (out .exit)) ⌝ }
+    ensures { λ r. ⌜ (
+        let l = lent (now (images .entry)) (now (kept .entry)) (now (numbers .entry)) (now (bytes .entry)) in
+        let l′ = lent (now (images .exit)) (now (kept .exit)) (now (numbers .exit)) (now (bytes .exit)) in
+        Called b l (now (line .entry)) (now (out .entry)) r l′ (now (out .exit))) ⌝ }
 {
     let bad = bench_refused(
         b,
@@ -219,11 +235,11 @@ pub fn play_line(
 
 // A byte more of a line that has not ended: its first 1,001 bytes are kept, since a longer line reads as nothing anyway.
 pub fn add_byte(line: &mut [u8], held: usize, byte: u8) -> usize
-    requires { ⌜ (held ≤ 1001) × (length (now line) ≡ 1001) ⌝ }
-    ensures { λ r. ⌜ take r (now (line .exit)) ≡ take 1001 (take held (now (line .entry)) ++ byte ∷ []) ⌝ }
-    ensures { λ r. ⌜ r ≤ 1001 ⌝ }
+    requires { ⌜ (held ≤ heldLength) × (length (now line) ≡ heldLength) ⌝ }
+    ensures { λ r. ⌜ take r (now (line .exit)) ≡ take heldLength (take held (now (line .entry)) ++ byte ∷ []) ⌝ }
+    ensures { λ r. ⌜ r ≤ heldLength ⌝ }
 {
-    if 1001 <= held {
+    if HELD_LENGTH <= held {
         return held;
     }
     line[held] = byte;

@@ -1,5 +1,4 @@
--- The laws of `bench_print`, for its own proofs and those of the crates above. No contract cites them.
--- What the bench prints. Definitions: Printing.
+-- Texts placed one after another, their lengths, and the lines made of them.
 pub mod PrintedLineLaws
 pub mod TextLaws
 pub mod WrittenLaws

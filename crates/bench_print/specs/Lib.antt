@@ -1,3 +1,3 @@
--- What the bench prints. Definitions: Printing.
+-- What the bench prints: the texts, and what the inner workers state.
 pub mod Printing
 pub mod Workers

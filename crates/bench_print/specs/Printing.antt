@@ -49,9 +49,13 @@ unfoldable pub digitsFrom : ℕ → ℕ → List ℕ
 digitsFrom zero k = []
 digitsFrom (suc fuel) k = cond (ltb k 10) (digit k ∷ []) (digitsFrom fuel (k / 10) ++ digit (k % 10) ∷ [])
 
--- a number in decimal; twenty digits are enough for 64 bits
+-- so many digits are enough for 64 bits
+abbrev pub mostDecimals : ℕ
+mostDecimals = 20
+
+-- a number in decimal
 unfoldable pub decimal : ℕ → List ℕ
-decimal k = digitsFrom 20 k
+decimal k = digitsFrom mostDecimals k
 
 -- a hexadecimal digit: "0" is 48, "a" is 97, which is 87 + 10
 unfoldable pub hexDigit : ℕ → ℕ

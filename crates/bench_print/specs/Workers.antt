@@ -1,9 +1,23 @@
 -- What the inner workers of this crate ask and give.
 use mathlib.Core.List.{List}
-use Prim.Native.Nat.{ℕ, _+_}
+use Prim.Native.Nat.{ℕ, _+_, _*_}
 use mathlib.Core.Path.{_≡_}
 use lib.ListN.{length}
-use Rattle.bench_print.specs.Printing.{written}
+use Rattle.bench_print.specs.Printing.{mostDecimals, written}
+use Rattle.bench_limits.specs.Limits.{stripeRoom}
+
+-- room for a number and a space, for a kind and a space, for an end and a newline, and for a whole line of them
+abbrev pub numberRoom : ℕ
+numberRoom = mostDecimals + 1
+
+abbrev pub kindRoom : ℕ
+kindRoom = 6
+
+abbrev pub endRoom : ℕ
+endRoom = 2 * stripeRoom + 1
+
+abbrev pub endedRoom : ℕ
+endedRoom = numberRoom + kindRoom + numberRoom + endRoom
 
 -- A text was written from a place on, and the next place is past it.
 pub record PrintedAt (at : ℕ) (text old out : List ℕ) (next : ℕ) : Type 0 where

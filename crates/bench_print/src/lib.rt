@@ -1,10 +1,13 @@
 // What the bench prints (document 01, "The bench"): a line per ended operation and per refusal, written into a lent buffer from a place on.
+// inner: call `bench_player::play_line`
 ghost use mathlib.Core.Path.{_≡_};
 ghost use mathlib.Core.List.{[], _∷_, _++_};
 ghost use Prim.Native.Nat.{_+_, _≤_, _<_};
 ghost use lib.ListN.{length};
-ghost use Rattle.bench_print.specs.Printing.{space, newline, digit, decimal, hexDigit, hexText, refusedText, kindWord, endWord, lineText, endedText, written};
-ghost use Rattle.bench_print.specs.Workers.{PrintedAt};
+ghost use Rattle.bench_print.specs.Printing.{space, newline, digit, decimal, hexDigit, hexText, refusedText, kindWord, endWord, lineText, endedText};
+ghost use Rattle.bench_print.specs.Printing.{written};
+ghost use Rattle.bench_print.specs.Workers.{numberRoom, kindRoom, endRoom, endedRoom, PrintedAt};
+ghost use Rattle.bench_limits.specs.Limits.{stripeRoom, lineRoom};
 use coord_apply::ABORTED;
 use coord_apply::CUT;
 use coord_apply::Notice;
@@ -83,10 +86,10 @@ fn put_hex(bytes: &[u8], at: usize, out: &mut [u8]) -> usize
 
 // The line of a refusal.
 pub fn put_refused(number: u32, at: usize, out: &mut [u8]) -> usize
-    requires { ⌜ at + 128 ≤ length (now out) ⌝ }
+    requires { ⌜ at + lineRoom ≤ length (now out) ⌝ }
     ensures { λ r. ⌜ r ≡ at + length (refusedText number) ⌝ }
     ensures { λ _. ⌜ now (out .exit) ≡ written at (refusedText number) (now (out .entry)) ⌝ }
-    ensures { λ r. ⌜ r ≤ at + 128 ⌝ }
+    ensures { λ r. ⌜ r ≤ at + lineRoom ⌝ }
 {
     let word = put_word(b"refused ", at, out);
     let to = put_number(number as u64, word, out);
@@ -95,9 +98,9 @@ pub fn put_refused(number: u32, at: usize, out: &mut [u8]) -> usize
 
 // A number and a space.
 fn put_spaced(k: u64, at: usize, out: &mut [u8]) -> usize
-    requires { ⌜ at + 21 ≤ length (now out) ⌝ }
+    requires { ⌜ at + numberRoom ≤ length (now out) ⌝ }
     ensures { λ r. ⌜ PrintedAt at (decimal k ++ space ∷ []) (now (out .entry)) (now (out .exit)) r ⌝ }
-    ensures { λ r. ⌜ r ≤ at + 21 ⌝ }
+    ensures { λ r. ⌜ r ≤ at + numberRoom ⌝ }
 {
     let to = put_number(k, at, out);
     put_byte(b' ', to, out)
@@ -105,9 +108,9 @@ fn put_spaced(k: u64, at: usize, out: &mut [u8]) -> usize
 
 // The kind of an operation and a space.
 fn put_kind(kind: u8, at: usize, out: &mut [u8]) -> usize
-    requires { ⌜ at + 6 ≤ length (now out) ⌝ }
+    requires { ⌜ at + kindRoom ≤ length (now out) ⌝ }
     ensures { λ r. ⌜ PrintedAt at (kindWord kind ++ space ∷ []) (now (out .entry)) (now (out .exit)) r ⌝ }
-    ensures { λ r. ⌜ r ≤ at + 6 ⌝ }
+    ensures { λ r. ⌜ r ≤ at + kindRoom ⌝ }
 {
     if kind == READING {
         return put_word(b"read ", at, out);
@@ -117,9 +120,9 @@ fn put_kind(kind: u8, at: usize, out: &mut [u8]) -> usize
 
 // How an operation ended, and the end of the line.
 fn put_end(what: u8, stripe: &[u8], at: usize, out: &mut [u8]) -> usize
-    requires { ⌜ (at + 65 ≤ length (now out)) × (length (now stripe) ≤ 32) ⌝ }
+    requires { ⌜ (at + endRoom ≤ length (now out)) × (length (now stripe) ≤ stripeRoom) ⌝ }
     ensures { λ r. ⌜ PrintedAt at (endWord what (now (stripe .entry)) ++ newline ∷ []) (now (out .entry)) (now (out .exit)) r ⌝ }
-    ensures { λ r. ⌜ r ≤ at + 65 ⌝ }
+    ensures { λ r. ⌜ r ≤ at + endRoom ⌝ }
 {
     if what == OK {
         return put_word(b"ok\n", at, out);
@@ -144,9 +147,9 @@ fn put_line(
     at: usize,
     out: &mut [u8],
 ) -> usize
-    requires { ⌜ (at + 128 ≤ length (now out)) × (length (now stripe) ≤ 32) ⌝ }
+    requires { ⌜ (at + lineRoom ≤ length (now out)) × (length (now stripe) ≤ stripeRoom) ⌝ }
     ensures { λ r. ⌜ PrintedAt at (lineText c kind time what (now (stripe .entry))) (now (out .entry)) (now (out .exit)) r ⌝ }
-    ensures { λ r. ⌜ r ≤ at + 113 ⌝ }
+    ensures { λ r. ⌜ r ≤ at + endedRoom ⌝ }
 {
     let first = put_spaced(c as u64, at, out);
     let second = put_kind(kind, first, out);
@@ -156,10 +159,10 @@ fn put_line(
 
 // What is printed of what is seen at the coordinator c: nothing, or the line of the operation that ended.
 pub fn put_ended(c: usize, seen: Notice, stripe: &[u8], at: usize, out: &mut [u8]) -> usize
-    requires { ⌜ (at + 128 ≤ length (now out)) × (length (now stripe) ≤ 32) ⌝ }
+    requires { ⌜ (at + lineRoom ≤ length (now out)) × (length (now stripe) ≤ stripeRoom) ⌝ }
     ensures { λ r. ⌜ r ≡ at + length (endedText c seen (now (stripe .entry))) ⌝ }
     ensures { λ _. ⌜ now (out .exit) ≡ written at (endedText c seen (now (stripe .entry))) (now (out .entry)) ⌝ }
-    ensures { λ r. ⌜ r ≤ at + 128 ⌝ }
+    ensures { λ r. ⌜ r ≤ at + lineRoom ⌝ }
 {
     let what = seen.what;
     if what < OK {

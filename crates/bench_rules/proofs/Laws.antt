@@ -1,3 +1,3 @@
--- The laws of `bench_rules`, for its own proofs and those of the crates above. No contract cites them.
+-- A part of a line: one refusal, or nothing; a write's content is bytes.
 pub mod ContentLaws
 pub mod TurningLaws

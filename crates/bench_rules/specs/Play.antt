@@ -18,10 +18,7 @@ use Rattle.bench_state.specs.State.{benchRange}
 use Rattle.bench_parse.specs.Lines.{Line, setLine, writeLine, readLine, carryLine, crashLine, downLine, upLine, noLine}
 use Rattle.bench_print.specs.Printing.{refusedText, endedText}
 use Rattle.bench_rules.specs.Content.{counted, content}
-
--- "message 127"
-abbrev pub lastMessage : ℕ
-lastMessage = 127
+use Rattle.bench_limits.specs.Limits.{benchCoordinators, lastMessage}
 
 -- What a line, or one carried number, leaves: the world, the events that were accepted, and what is printed.
 pub record Played : Type 0 where
@@ -52,7 +49,7 @@ acts s w e c (went g) =
 
 -- "coordinators 0 to 3 .. coordinator numbers past them are refusal 3"
 unfoldable pub atCoordinator : World → ℕ → Played → Played
-atCoordinator w c p = cond (ltb c 4) p (refuses w badNumber)
+atCoordinator w c p = cond (ltb c benchCoordinators) p (refuses w badNumber)
 
 -- "hex digits other than two for each stripe byte" are refused after the numbers of the start
 unfoldable pub unlessShort : Bool → Step → Step
@@ -132,11 +129,17 @@ plays s w (downLine b) = switches s w b (goesDown b)
 plays s w (upLine b) = switches s w b (comesUp b)
 plays s w noLine = refuses w badLine
 
--- The bench: no set so far, or a set with its world.
+-- The bench: no set so far, or a set with its world and the events that led to it.
 pub data Stage : Type 0 where
   waiting : Stage
-  playing : Settings → World → Stage
+  playing : Settings → World → List Event → Stage
 
+-- the events that led to a stage
+unfoldable pub eventsOf : Stage → List Event
+eventsOf waiting = []
+eventsOf (playing s w events) = events
+
+-- What a line leaves: the stage, the events of this line, and what is printed.
 pub record Turn : Type 0 where
   pub stage : Stage
   pub events : List Event
@@ -147,7 +150,7 @@ waits number = record { stage = waiting; events = []; printed = refusedText numb
 
 -- "`set n m size capacity` (first, one time)"; "Settings past the bench's limits are refusal 1"
 unfoldable pub begins : Settings → Turn
-begins s = cond (benchRange s) (record { stage = playing s (freshSet s); events = []; printed = [] }) (waits badSetting)
+begins s = cond (benchRange s) (record { stage = playing s (freshSet s) []; events = []; printed = [] }) (waits badSetting)
 
 -- what is "no `set` while none is accepted" is refusal 12
 unfoldable pub first : Line → Turn
@@ -160,8 +163,12 @@ first (downLine b) = waits badLine
 first (upLine b) = waits badLine
 first noLine = waits badLine
 
--- one line
+-- one line: the events of a set are those so far, and the line's
 unfoldable pub turn : Stage → Line → Turn
 turn waiting line = first line
-turn (playing s w) line =
-    record { stage = playing s (plays s w line .world); events = plays s w line .events; printed = plays s w line .printed }
+turn (playing s w events) line =
+    record {
+      stage = playing s (plays s w line .world) (events ++ plays s w line .events);
+      events = plays s w line .events;
+      printed = plays s w line .printed;
+    }

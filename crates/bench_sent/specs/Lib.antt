@@ -1,3 +1,3 @@
--- What the bench has sent, in lent buffers. Definitions: Sent. Laws: the other modules.
+-- What the bench has sent, in lent buffers; and what the inner workers state.
 pub mod Sent
 pub mod Workers

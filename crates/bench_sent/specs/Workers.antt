@@ -11,24 +11,30 @@ use Rattle.register.specs.Runs.{Item, message, toAll, blockFor}
 use Rattle.settings.specs.Count.{one-if}
 use Rattle.settings.specs.declared.Settings.{Settings}
 use Rattle.bench_sent.specs.Sent.{itemsOf}
+use Rattle.bench_limits.specs.Limits.{rowNumbers, rowBytes, messageTag, replyTag, flagCount, blockPlace}
+
+-- a row's numbers, each at its place; the other places are free, and 0
+abbrev pub rowOf : ℕ → ℕ → ℕ → ℕ → ℕ → ℕ → ℕ → ℕ → List ℕ
+rowOf tag brick kind time round max agreed held =
+    tag ∷ brick ∷ kind ∷ time ∷ round ∷ max ∷ agreed ∷ held ∷ 0 ∷ 0 ∷ 0 ∷ 0 ∷ 0 ∷ 0 ∷ 0 ∷ 0 ∷ []
 
 -- the numbers of a message to a brick, and of a reply
 unfoldable pub messageRow : ℕ → Message → List ℕ
-messageRow brick msg = 0 ∷ brick ∷ msg .kind ∷ msg .time ∷ msg .round ∷ msg .max ∷ 0 ∷ 0 ∷ []
+messageRow brick msg = rowOf messageTag brick (msg .kind) (msg .time) (msg .round) (msg .max) 0 0
 
 unfoldable pub replyRow : Reply → List ℕ
-replyRow r = 1 ∷ r .brick ∷ r .kind ∷ r .time ∷ r .round ∷ r .found ∷ one-if (r .yes) ∷ one-if (r .held) ∷ []
+replyRow r = rowOf replyTag (r .brick) (r .kind) (r .time) (r .round) (r .found) (one-if (r .yes)) (one-if (r .held))
 
 -- the numbers with another row k; the bytes with other flags and another block in row k (what is behind a shorter block stays)
 unfoldable pub numbersWith : ℕ → List ℕ → List ℕ → List ℕ
-numbersWith k row numbers = put (k * 8) row numbers
+numbersWith k row numbers = put (k * rowNumbers) row numbers
 
 unfoldable pub bytesWith : ℕ → List ℕ → List ℕ → List ℕ → List ℕ
-bytesWith k flags block bytes = put (k * 24 + 16) block (put (k * 24) flags bytes)
+bytesWith k flags block bytes = put (k * rowBytes + blockPlace) block (put (k * rowBytes) flags bytes)
 
 -- no targets: the flags of a reply's row
 unfoldable pub noFlags : List ℕ
-noFlags = zeros 16
+noFlags = zeros flagCount
 
 -- after a store at row k, the items are those before and one more
 pub record Added (k : ℕ) (block numbers bytes numbers′ bytes′ : List ℕ) (item : Item) : Type 0 where

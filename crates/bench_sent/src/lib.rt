@@ -1,5 +1,5 @@
-// What the bench has sent, kept in lent buffers: item k has a row of 8 numbers at k * 8 (tag, brick, kind, time, round, max or found,
-// yes, held) and a row of 24 bytes at k * 24 (16 target flags, then the block).
+// What the bench has sent, kept in lent buffers: item k has row k of the numbers and row k of the bytes, laid out as `bench_limits` says.
+// inner: call `bench_player::play_line`
 ghost use mathlib.Core.Path.{_≡_};
 ghost use Prim.Native.Nat.{_+_, _*_, _%_, _≤_, _<_};
 ghost use lib.ListN.{length};
@@ -9,6 +9,23 @@ ghost use Rattle.settings.specs.Count.{one-if};
 ghost use Rattle.bench_sent.specs.Sent.{numberAt, isReply, flagsAt, messageAt, replyAt};
 ghost use Rattle.bench_sent.specs.Workers.{Added, Coded, Sends, messageRow, replyRow, numbersWith, bytesWith, noFlags};
 ghost use Rattle.bench_sent.specs.Workers.{One};
+ghost use Rattle.bench_limits.specs.Limits.{benchSize, rowNumbers, rowBytes, brickPlace, kindPlace};
+use bench_limits::BLOCK_PLACE;
+use bench_limits::BRICK_PLACE;
+use bench_limits::FLAGS;
+use bench_limits::FOUND_PLACE;
+use bench_limits::HELD_PLACE;
+use bench_limits::KIND_PLACE;
+use bench_limits::MAX_PLACE;
+use bench_limits::MESSAGE_TAG;
+use bench_limits::REPLY_TAG;
+use bench_limits::ROUND_PLACE;
+use bench_limits::ROW_BYTES;
+use bench_limits::ROW_NUMBERS;
+use bench_limits::SIZE;
+use bench_limits::TAG_PLACE;
+use bench_limits::TIME_PLACE;
+use bench_limits::YES_PLACE;
 use byte_lists::wide;
 use message::Message;
 use message::Reply;
@@ -26,12 +43,12 @@ fn store_row(numbers: &mut [u64], at: usize, row: &[u64])
 }
 
 // A row's flags, and its block behind them.
-fn store_bytes(k: usize, flags: [u8; 16], block: &[u8], bytes: &mut [u8])
-    requires { ⌜ (length (now block) ≤ 8) × (k * 24 + 24 ≤ length (now bytes)) ⌝ }
+fn store_bytes(k: usize, flags: [u8; FLAGS], block: &[u8], bytes: &mut [u8])
+    requires { ⌜ (length (now block) ≤ benchSize) × (k * rowBytes + rowBytes ≤ length (now bytes)) ⌝ }
     ensures { λ _. ⌜ now (bytes .exit) ≡ bytesWith k flags (now (block .entry)) (now (bytes .entry)) ⌝ }
 {
-    let at = k * 24;
-    let from = at + 16;
+    let at = k * ROW_BYTES;
+    let from = at + BLOCK_PLACE;
     byte_lists::store(bytes, at, &flags);
     byte_lists::store(bytes, from, block)
 }
@@ -55,90 +72,126 @@ pub fn put_message(
     numbers: &mut [u64],
     bytes: &mut [u8],
 )
-    requires { ⌜ (length (now block) ≤ 8) × (k * 8 + 8 ≤ length (now numbers)) × (k * 24 + 24 ≤ length (now bytes)) ⌝ }
+    requires { ⌜ (length (now block) ≤ benchSize) × (k * rowNumbers + rowNumbers ≤ length (now numbers)) × (k * rowBytes + rowBytes ≤ length (now bytes)) ⌝ }
     ensures { λ _. ⌜ now (numbers .exit) ≡ numbersWith k (messageRow brick msg) (now (numbers .entry)) ⌝ }
     ensures { λ _. ⌜ now (bytes .exit) ≡ bytesWith k (msg .targets) (now (block .entry)) (now (bytes .entry)) ⌝ }
-    ensures { λ _. ⌜ Added k (now (block .entry)) (now (numbers .entry)) (now (bytes .entry)) (now (numbers .exit)) (now (bytes .exit)) (message brick msg (now (block .entry))) ⌝ }
+    ensures { λ _. ⌜ Added k (now (block .entry)) (now (numbers .entry)) (now (bytes .entry))
+        (now (numbers .exit)) (now (bytes .exit)) (message brick msg (now (block .entry))) ⌝ }
 {
     let kind = wide(msg.kind);
     let to = brick as u64;
-    let row = [0, to, kind, msg.time, msg.round, msg.max, 0, 0];
+    let row = [
+        MESSAGE_TAG,
+        to,
+        kind,
+        msg.time,
+        msg.round,
+        msg.max,
+        0,
+        0,
+        0,
+        0,
+        0,
+        0,
+        0,
+        0,
+        0,
+        0,
+    ];
     let targets = msg.targets;
-    store_row(numbers, k * 8, &row);
+    store_row(numbers, k * ROW_NUMBERS, &row);
     store_bytes(k, targets, block, bytes)
 }
 
 // A reply, kept in row k.
 pub fn put_reply(k: usize, r: Reply, block: &[u8], numbers: &mut [u64], bytes: &mut [u8])
-    requires { ⌜ (length (now block) ≤ 8) × (k * 8 + 8 ≤ length (now numbers)) × (k * 24 + 24 ≤ length (now bytes)) ⌝ }
+    requires { ⌜ (length (now block) ≤ benchSize) × (k * rowNumbers + rowNumbers ≤ length (now numbers)) × (k * rowBytes + rowBytes ≤ length (now bytes)) ⌝ }
     ensures { λ _. ⌜ now (numbers .exit) ≡ numbersWith k (replyRow r) (now (numbers .entry)) ⌝ }
     ensures { λ _. ⌜ now (bytes .exit) ≡ bytesWith k noFlags (now (block .entry)) (now (bytes .entry)) ⌝ }
-    ensures { λ _. ⌜ Added k (now (block .entry)) (now (numbers .entry)) (now (bytes .entry)) (now (numbers .exit)) (now (bytes .exit)) (reply r (now (block .entry))) ⌝ }
+    ensures { λ _. ⌜ Added k (now (block .entry)) (now (numbers .entry)) (now (bytes .entry))
+        (now (numbers .exit)) (now (bytes .exit)) (reply r (now (block .entry))) ⌝ }
 {
     let kind = wide(r.kind);
     let from = r.brick as u64;
     let agreed = flag(r.yes);
     let held = flag(r.held);
-    let row = [1, from, kind, r.time, r.round, r.found, agreed, held];
-    let none = [0u8; 16];
-    store_row(numbers, k * 8, &row);
+    let row = [
+        REPLY_TAG,
+        from,
+        kind,
+        r.time,
+        r.round,
+        r.found,
+        agreed,
+        held,
+        0,
+        0,
+        0,
+        0,
+        0,
+        0,
+        0,
+        0,
+    ];
+    let none = [0u8; FLAGS];
+    store_row(numbers, k * ROW_NUMBERS, &row);
     store_bytes(k, none, block, bytes)
 }
 
 // One number of row k.
 fn number_at(numbers: &[u64], k: usize, i: usize) -> u64
-    requires { ⌜ (i < 8) × (k * 8 + 8 ≤ length (now numbers)) ⌝ }
+    requires { ⌜ (i < rowNumbers) × (k * rowNumbers + rowNumbers ≤ length (now numbers)) ⌝ }
     ensures { λ r. ⌜ r ≡ numberAt (now (numbers .entry)) k i ⌝ }
 {
-    numbers[k * 8 + i]
+    numbers[k * ROW_NUMBERS + i]
 }
 
 // Whether row k is a reply.
 pub fn is_reply(numbers: &[u64], k: usize) -> bool
-    requires { ⌜ k * 8 + 8 ≤ length (now numbers) ⌝ }
+    requires { ⌜ k * rowNumbers + rowNumbers ≤ length (now numbers) ⌝ }
     ensures { λ r. ⌜ r ≡ isReply (now (numbers .entry)) k ⌝ }
 {
-    number_at(numbers, k, 0) != 0
+    number_at(numbers, k, TAG_PLACE) != MESSAGE_TAG
 }
 
 // The brick that a message goes to.
 pub fn brick_at(numbers: &[u64], k: usize) -> usize
-    requires { ⌜ k * 8 + 8 ≤ length (now numbers) ⌝ }
-    ensures { λ r. ⌜ r ≡ numberAt (now (numbers .entry)) k 1 ⌝ }
+    requires { ⌜ k * rowNumbers + rowNumbers ≤ length (now numbers) ⌝ }
+    ensures { λ r. ⌜ r ≡ numberAt (now (numbers .entry)) k brickPlace ⌝ }
 {
-    number_at(numbers, k, 1) as usize
+    number_at(numbers, k, BRICK_PLACE) as usize
 }
 
 // The kind of row k.
 fn kind_at(numbers: &[u64], k: usize) -> u8
-    requires { ⌜ k * 8 + 8 ≤ length (now numbers) ⌝ }
-    ensures { λ r. ⌜ r ≡ numberAt (now (numbers .entry)) k 2 % 256 ⌝ }
+    requires { ⌜ k * rowNumbers + rowNumbers ≤ length (now numbers) ⌝ }
+    ensures { λ r. ⌜ r ≡ numberAt (now (numbers .entry)) k kindPlace % 256 ⌝ }
 {
-    let kind = number_at(numbers, k, 2);
+    let kind = number_at(numbers, k, KIND_PLACE);
     (kind % 256) as u8
 }
 
 // The target flags of row k.
-fn flags_at(bytes: &[u8], k: usize) -> [u8; 16]
-    requires { ⌜ k * 24 + 24 ≤ length (now bytes) ⌝ }
+fn flags_at(bytes: &[u8], k: usize) -> [u8; FLAGS]
+    requires { ⌜ k * rowBytes + rowBytes ≤ length (now bytes) ⌝ }
     ensures { λ r. ⌜ r ≡ flagsAt (now (bytes .entry)) k ⌝ }
 {
-    let at = k * 24;
-    let end = at + 16;
-    let mut flags = [0u8; 16];
+    let at = k * ROW_BYTES;
+    let end = at + FLAGS;
+    let mut flags = [0u8; FLAGS];
     byte_lists::copy(&bytes[at..end], &mut flags);
     flags
 }
 
 // The message of row k.
 pub fn message_at(numbers: &[u64], bytes: &[u8], k: usize) -> Message
-    requires { ⌜ (k * 8 + 8 ≤ length (now numbers)) × (k * 24 + 24 ≤ length (now bytes)) ⌝ }
+    requires { ⌜ (k * rowNumbers + rowNumbers ≤ length (now numbers)) × (k * rowBytes + rowBytes ≤ length (now bytes)) ⌝ }
     ensures { λ r. ⌜ r ≡ messageAt (now (numbers .entry)) (now (bytes .entry)) k ⌝ }
 {
     let kind = kind_at(numbers, k);
-    let time = number_at(numbers, k, 3);
-    let round = number_at(numbers, k, 4);
-    let max = number_at(numbers, k, 5);
+    let time = number_at(numbers, k, TIME_PLACE);
+    let round = number_at(numbers, k, ROUND_PLACE);
+    let max = number_at(numbers, k, MAX_PLACE);
     let targets = flags_at(bytes, k);
     Message {
         kind: kind,
@@ -151,16 +204,16 @@ pub fn message_at(numbers: &[u64], bytes: &[u8], k: usize) -> Message
 
 // The reply of row k.
 pub fn reply_at(numbers: &[u64], k: usize) -> Reply
-    requires { ⌜ k * 8 + 8 ≤ length (now numbers) ⌝ }
+    requires { ⌜ k * rowNumbers + rowNumbers ≤ length (now numbers) ⌝ }
     ensures { λ r. ⌜ r ≡ replyAt (now (numbers .entry)) k ⌝ }
 {
     let kind = kind_at(numbers, k);
     let brick = brick_at(numbers, k);
-    let time = number_at(numbers, k, 3);
-    let round = number_at(numbers, k, 4);
-    let found = number_at(numbers, k, 5);
-    let agreed = number_at(numbers, k, 6) == 1;
-    let held = number_at(numbers, k, 7) == 1;
+    let time = number_at(numbers, k, TIME_PLACE);
+    let round = number_at(numbers, k, ROUND_PLACE);
+    let found = number_at(numbers, k, FOUND_PLACE);
+    let agreed = number_at(numbers, k, YES_PLACE) == 1;
+    let held = number_at(numbers, k, HELD_PLACE) == 1;
     Reply {
         kind: kind,
         brick: brick,
@@ -182,7 +235,7 @@ fn send_one(
     numbers: &mut [u64],
     bytes: &mut [u8],
 )
-    requires { ⌜ (size ≤ 8) × (at * 8 + 8 ≤ length (now numbers)) × (at * 24 + 24 ≤ length (now bytes)) ⌝ }
+    requires { ⌜ (size ≤ benchSize) × (at * rowNumbers + rowNumbers ≤ length (now numbers)) × (at * rowBytes + rowBytes ≤ length (now bytes)) ⌝ }
     requires { ⌜ Coded (j + 1) size msg (now coded) ⌝ }
     ensures { λ _. ⌜ One at j size msg (now (coded .entry)) (now (numbers .entry)) (now (bytes .entry)) (now (numbers .exit)) (now (bytes .exit)) ⌝ }
 {
@@ -192,7 +245,7 @@ fn send_one(
         put_message(at, j, msg, &coded[from..till], numbers, bytes);
         return;
     }
-    let none = [0u8; 8];
+    let none = [0u8; SIZE];
     put_message(at, j, msg, &none[..size], numbers, bytes)
 }
 
@@ -206,7 +259,7 @@ pub fn send_all(
     numbers: &mut [u64],
     bytes: &mut [u8],
 )
-    requires { ⌜ (size ≤ 8) × ((k + n) * 8 ≤ length (now numbers)) × ((k + n) * 24 ≤ length (now bytes)) ⌝ }
+    requires { ⌜ (size ≤ benchSize) × ((k + n) * rowNumbers ≤ length (now numbers)) × ((k + n) * rowBytes ≤ length (now bytes)) ⌝ }
     requires { ⌜ Coded n size msg (now coded) ⌝ }
     ensures { λ _. ⌜ Sends k n size msg (now (coded .entry)) (now (numbers .entry)) (now (bytes .entry)) (now (numbers .exit)) (now (bytes .exit)) ⌝ }
     ensures { λ _. ⌜ (length (now (numbers .exit)) ≡ length (now (numbers .entry))) × (length (now (bytes .exit)) ≡ length (now (bytes .entry))) ⌝ }

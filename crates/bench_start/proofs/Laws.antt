@@ -1,3 +1,2 @@
--- The laws of `bench_start`, for its own proofs and those of the crates above. No contract cites them.
--- Laws: ShortLaws.
+-- The digits of a write.
 pub mod ShortLaws

@@ -1,5 +1,6 @@
 // Starts and crashes at a coordinator of the bench (document 01, "The bench"): the proved routines work on copies of what the coordinator
 // keeps, and what they answer counts only where its messages stay within message 127.
+// inner: call `bench_player::play_line`
 ghost use mathlib.Core.Path.{_≡_};
 ghost use mathlib.Core.Bool.{true, cond, not, _&&_};
 ghost use Prim.Native.Nat.{_*_, _≤_, _<_};
@@ -13,12 +14,14 @@ ghost use Rattle.bench_rules.specs.Play.{unlessShort, writes, starts, crashesAt
 ghost use Rattle.coord_apply.specs.Answers.{Buffered};
 ghost use Rattle.coordinator.specs.Routines.{crashStep, writeStep, readStep};
 ghost use Rattle.register.specs.Runs.{World, startWrite, startRead, untouched, crashes};
+ghost use Rattle.bench_limits.specs.Limits.{stripeRoom};
 use bench_commit::commit;
+use bench_limits::STRIPE_ROOM;
 use bench_rules::After;
 use bench_state::Bench;
 
 // "coordinators 0 to 3"
-const COORDINATORS: u64 = 4;
+const COORDINATORS: u64 = bench_limits::COORDINATORS as u64;
 
 // A read starts, on copies of what the coordinator keeps.
 fn read_with(
@@ -35,7 +38,12 @@ fn read_with(
 ) -> After
     requires { ⌜ Seats b c (now kept) (now numbers) (now bytes) 0 (now out) ⌝ }
     requires { ⌜ Copies (b .settings) (now blocks) (now stripe) (now blocks) ⌝ }
-    ensures { λ r. ⌜ BenchActed b c (startRead c clock brick) (λ (h : Buffered). readStep (b .settings .n) (b .settings .m) (b .settings .size) h clock brick) (now (kept .entry)) (now (numbers .entry)) (now (bytes .entry)) 0 (now (out .entry)) r (now (kept .exit)) (now (numbers .exit)) (now (bytes .exit)) (now (out .exit)) ⌝ }
+    ensures { λ r. ⌜ (
+        let s = b .settings in
+        BenchActed b c (startRead c clock brick)
+        (λ (h : Buffered). readStep (s .n) (s .m) (s .size) h clock brick)
+        (now (kept .entry)) (now (numbers .entry)) (now (bytes .entry)) 0 (now (out .entry)) r
+        (now (kept .exit)) (now (numbers .exit)) (now (bytes .exit)) (now (out .exit))) ⌝ }
 {
     bench_state::fetch(c, kept, blocks, stripe);
     let s = b.settings;
@@ -69,7 +77,12 @@ fn crash_with(
 ) -> After
     requires { ⌜ Seats b c (now kept) (now numbers) (now bytes) 0 (now out) ⌝ }
     requires { ⌜ Copies (b .settings) (now blocks) (now stripe) (now blocks) ⌝ }
-    ensures { λ r. ⌜ BenchActed b c (crashes c untouched) (λ (h : Buffered). crashStep (b .settings .n) (b .settings .m) (b .settings .size) h) (now (kept .entry)) (now (numbers .entry)) (now (bytes .entry)) 0 (now (out .entry)) r (now (kept .exit)) (now (numbers .exit)) (now (bytes .exit)) (now (out .exit)) ⌝ }
+    ensures { λ r. ⌜ (
+        let s = b .settings in
+        BenchActed b c (crashes c untouched)
+        (λ (h : Buffered). crashStep (s .n) (s .m) (s .size) h)
+        (now (kept .entry)) (now (numbers .entry)) (now (bytes .entry)) 0 (now (out .entry)) r
+        (now (kept .exit)) (now (numbers .exit)) (now (bytes .exit)) (now (out .exit))) ⌝ }
 {
     bench_state::fetch(c, kept, blocks, stripe);
     let s = b.settings;
@@ -102,7 +115,7 @@ fn is_short(refusal: u32, right: bool) -> bool
 
 // The bytes of a write from its hex digits, and whether there are two for each; else the buffer is kept.
 fn read_content(line: &[u8], hex: usize, content: &mut [u8]) -> bool
-    requires { ⌜ (hex ≤ length (now line)) × (length (now content) ≤ 32) ⌝ }
+    requires { ⌜ (hex ≤ length (now line)) × (length (now content) ≤ stripeRoom) ⌝ }
     ensures { λ r. ⌜ r ≡ eqb (length (drop hex (now (line .entry)))) (2 * length (now (content .entry))) ⌝ }
     ensures { λ r. ⌜ now (content .exit) ≡ cond r (bytesOf (drop hex (now (line .entry)))) (now (content .entry)) ⌝ }
 {
@@ -131,7 +144,14 @@ fn write_with(
     requires { ⌜ Seats b c (now kept) (now numbers) (now bytes) 0 (now out) ⌝ }
     requires { ⌜ Copies (b .settings) (now blocks) (now stripe) (now blocks) ⌝ }
     requires { ⌜ (hex ≤ length (now line)) × (now content ≡ replicate (b .settings .m * b .settings .size) 0) ⌝ }
-    ensures { λ r. ⌜ BenchActed b c (startWrite c clock (content-of (b .settings) (drop hex (now (line .entry))))) (λ (h : Buffered). unlessShort (counted (b .settings) (drop hex (now (line .entry)))) (writeStep (b .settings .n) (b .settings .m) (b .settings .size) h clock (content-of (b .settings) (drop hex (now (line .entry)))))) (now (kept .entry)) (now (numbers .entry)) (now (bytes .entry)) 0 (now (out .entry)) r (now (kept .exit)) (now (numbers .exit)) (now (bytes .exit)) (now (out .exit)) ⌝ }
+    ensures { λ r. ⌜ (
+        let s = b .settings in
+        let digits = drop hex (now (line .entry)) in
+        BenchActed b c
+        (startWrite c clock (content-of s digits))
+        (λ (h : Buffered). unlessShort (counted s digits) (writeStep (s .n) (s .m) (s .size) h clock (content-of s digits)))
+        (now (kept .entry)) (now (numbers .entry)) (now (bytes .entry)) 0 (now (out .entry)) r
+        (now (kept .exit)) (now (numbers .exit)) (now (bytes .exit)) (now (out .exit))) ⌝ }
 {
     let right = read_content(line, hex, content);
     bench_state::fetch(c, kept, blocks, stripe);
@@ -168,7 +188,11 @@ pub fn read_at(
     out: &mut [u8],
 ) -> After
     requires { ⌜ Seats b 0 (now kept) (now numbers) (now bytes) 0 (now out) ⌝ }
-    ensures { λ r. ⌜ Plays b (λ (w : World). starts (b .settings) w c clock brick) (now (kept .entry)) (now (numbers .entry)) (now (bytes .entry)) 0 (now (out .entry)) r (now (kept .exit)) (now (numbers .exit)) (now (bytes .exit)) (now (out .exit)) ⌝ }
+    ensures { λ r. ⌜ (
+        let s = b .settings in
+        Plays b (λ (w : World). starts s w c clock brick)
+        (now (kept .entry)) (now (numbers .entry)) (now (bytes .entry)) 0 (now (out .entry)) r
+        (now (kept .exit)) (now (numbers .exit)) (now (bytes .exit)) (now (out .exit))) ⌝ }
 {
     if COORDINATORS <= c {
         return bench_rules::refuse(b, 3, 0, out);
@@ -176,8 +200,8 @@ pub fn read_at(
     let s = b.settings;
     let data = s.m * s.size;
     let all = s.n * s.size;
-    let mut blocks = [0u8; 32];
-    let mut stripe = [0u8; 32];
+    let mut blocks = [0u8; STRIPE_ROOM];
+    let mut stripe = [0u8; STRIPE_ROOM];
     let first = brick as usize;
     let seat = c as usize;
     read_with(
@@ -204,7 +228,11 @@ pub fn crash_at(
     out: &mut [u8],
 ) -> After
     requires { ⌜ Seats b 0 (now kept) (now numbers) (now bytes) 0 (now out) ⌝ }
-    ensures { λ r. ⌜ Plays b (λ (w : World). crashesAt (b .settings) w c) (now (kept .entry)) (now (numbers .entry)) (now (bytes .entry)) 0 (now (out .entry)) r (now (kept .exit)) (now (numbers .exit)) (now (bytes .exit)) (now (out .exit)) ⌝ }
+    ensures { λ r. ⌜ (
+        let s = b .settings in
+        Plays b (λ (w : World). crashesAt s w c)
+        (now (kept .entry)) (now (numbers .entry)) (now (bytes .entry)) 0 (now (out .entry)) r
+        (now (kept .exit)) (now (numbers .exit)) (now (bytes .exit)) (now (out .exit))) ⌝ }
 {
     if COORDINATORS <= c {
         return bench_rules::refuse(b, 3, 0, out);
@@ -212,8 +240,8 @@ pub fn crash_at(
     let s = b.settings;
     let data = s.m * s.size;
     let all = s.n * s.size;
-    let mut blocks = [0u8; 32];
-    let mut stripe = [0u8; 32];
+    let mut blocks = [0u8; STRIPE_ROOM];
+    let mut stripe = [0u8; STRIPE_ROOM];
     let seat = c as usize;
     crash_with(
         b,
@@ -241,7 +269,12 @@ pub fn write_at(
 ) -> After
     requires { ⌜ Seats b 0 (now kept) (now numbers) (now bytes) 0 (now out) ⌝ }
     requires { ⌜ hex ≤ length (now line) ⌝ }
-    ensures { λ r. ⌜ Plays b (λ (w : World). writes (b .settings) w c clock (drop hex (now (line .entry)))) (now (kept .entry)) (now (numbers .entry)) (now (bytes .entry)) 0 (now (out .entry)) r (now (kept .exit)) (now (numbers .exit)) (now (bytes .exit)) (now (out .exit)) ⌝ }
+    ensures { λ r. ⌜ (
+        let s = b .settings in
+        let digits = drop hex (now (line .entry)) in
+        Plays b (λ (w : World). writes s w c clock digits)
+        (now (kept .entry)) (now (numbers .entry)) (now (bytes .entry)) 0 (now (out .entry)) r
+        (now (kept .exit)) (now (numbers .exit)) (now (bytes .exit)) (now (out .exit))) ⌝ }
 {
     if COORDINATORS <= c {
         return bench_rules::refuse(b, 3, 0, out);
@@ -249,9 +282,9 @@ pub fn write_at(
     let s = b.settings;
     let data = s.m * s.size;
     let all = s.n * s.size;
-    let mut content = [0u8; 32];
-    let mut blocks = [0u8; 32];
-    let mut stripe = [0u8; 32];
+    let mut content = [0u8; STRIPE_ROOM];
+    let mut blocks = [0u8; STRIPE_ROOM];
+    let mut stripe = [0u8; STRIPE_ROOM];
     let seat = c as usize;
     write_with(
         b,

@@ -1,5 +1,4 @@
--- The laws of `bench_state`, for its own proofs and those of the crates above. No contract cites them.
--- Definitions: State. Laws: PartLaws, StateLaws, RangeLaws, FillLaws.
+-- The bench's record and buffers: limits, parts of a buffer, the world, a set that begins.
 pub mod FillLaws
 pub mod KeptPartLaws
 pub mod BenchRangeLaws

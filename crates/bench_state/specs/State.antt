@@ -13,31 +13,32 @@ use Rattle.coord_record.specs.declared.Coordinator.{Coordinator}
 use Rattle.coord_apply.specs.Answers.{Buffered}
 use Rattle.register.specs.Runs.{Item, World, idle}
 use Rattle.bench_state.specs.declared.Bench.{Bench}
+use Rattle.bench_limits.specs.Limits.{benchBricks, benchCapacity, benchSize, benchCoordinators, upFlag, stripeRoom, keptRoom, imageRoom}
 
 -- "n at most 4, capacity at most 4, block size at most 8"; "Settings past the bench's limits are refusal 1"
 unfoldable pub benchRange : Settings → Bool
-benchRange s = inRange s && (leb (s .n) 4 && leb (s .size) 8 && leb (s .capacity) 4)
+benchRange s = inRange s && (leb (s .n) benchBricks && leb (s .size) benchSize && leb (s .capacity) benchCapacity)
 
--- Brick b's image begins at byte 2,560 × b: 5 blocks of 512 bytes at most. A brick past n is not there: the world has a fresh one in its place.
+-- Brick b's image begins at its room. A brick past n is not there: the world has a fresh one in its place.
 unfoldable pub imagesOf : Settings → List ℕ → ℕ → List ℕ
-imagesOf s images b = cond (ltb b (s .n)) (take (imageSize s) (drop (b * 2560) images)) (imageOf s b (Brick.freshBrick s))
+imagesOf s images b = cond (ltb b (s .n)) (take (imageSize s) (drop (b * imageRoom) images)) (imageOf s b (Brick.freshBrick s))
 
--- a brick is up if its flag is 1
+-- a brick is up by its flag
 unfoldable pub upOf : List ℕ → ℕ → Bool
-upOf up b = eqb (getD up b 1) 1
+upOf up b = eqb (getD up b upFlag) upFlag
 
 -- "16 idle coordinators with last count 0"
 unfoldable pub idleAt : ℕ → Coordinator
 idleAt c = idleWith (record { coordinator = c; last = 0 })
 
--- "coordinators 0 to 3": what coordinator c keeps beside its record begins at byte 64 × c: the reply blocks, and the stripe from byte 32 on
+-- "coordinators 0 to 3": what coordinator c keeps beside its record: the reply blocks, and the stripe behind their room
 unfoldable pub coordinatorKept : Settings → List Coordinator → List ℕ → ℕ → Buffered
 coordinatorKept s coordinators kept c =
-    cond (ltb c 4)
+    cond (ltb c benchCoordinators)
     (record {
       state = getD coordinators c (idleAt c);
-      blocks = take (s .n * s .size) (drop (c * 64) kept);
-      stripe = take (s .m * s .size) (drop (c * 64 + 32) kept);
+      blocks = take (s .n * s .size) (drop (c * keptRoom) kept);
+      stripe = take (s .m * s .size) (drop (c * keptRoom + stripeRoom) kept);
     })
     (idle s c)
 

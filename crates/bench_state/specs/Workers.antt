@@ -13,6 +13,7 @@ use Rattle.byte_lists.specs.Lists.{put}
 use Rattle.bench_state.specs.declared.Bench.{Bench}
 use mathlib.Core.Path.{_≡_}
 use Rattle.bench_state.specs.State.{benchRange, idleAt}
+use Rattle.bench_limits.specs.Limits.{benchBricks, benchCapacity, benchSize, upFlag, stripeRoom, keptRoom, imageRoom, imagesLength}
 
 unfoldable pub benchRefusal : Settings → ℕ
 benchRefusal s = refuseUnless (benchRange s) badSetting
@@ -22,7 +23,7 @@ unfoldable pub freshBench : Settings → Bench
 freshBench s =
     record {
       settings = s;
-      up = 1 ∷ 1 ∷ 1 ∷ 1 ∷ [];
+      up = upFlag ∷ upFlag ∷ upFlag ∷ upFlag ∷ [];
       coordinators = idleAt 0 ∷ idleAt 1 ∷ idleAt 2 ∷ idleAt 3 ∷ [];
       sent = 0;
     }
@@ -39,24 +40,24 @@ withUp b brick flag = record { settings = b .settings; up = set (b .up) brick fl
 
 -- what the coordinators keep, with another's reply blocks and stripe
 unfoldable pub keptWith : ℕ → List ℕ → List ℕ → List ℕ → List ℕ
-keptWith c blocks stripe kept = put (c * 64 + 32) stripe (put (c * 64) blocks kept)
+keptWith c blocks stripe kept = put (c * keptRoom + stripeRoom) stripe (put (c * keptRoom) blocks kept)
 
 -- the first k bricks have fresh images
 pub record Begun (s : Settings) (images : List ℕ) (k : ℕ) : Type 0 where
-  pub long : length images ≡ 10240
-  pub images-fresh : (b : ℕ) → b < k → take (imageSize s) (drop (b * 2560) images) ≡ imageOf s b (Brick.freshBrick s)
+  pub long : length images ≡ imagesLength
+  pub images-fresh : (b : ℕ) → b < k → take (imageSize s) (drop (b * imageRoom) images) ≡ imageOf s b (Brick.freshBrick s)
 
 -- what the bench asks of its settings, as numbers
 pub record Small (s : Settings) : Type 0 where
-  pub bricks : s .n ≤ 4
-  pub blocks-fit : s .n * s .size ≤ 32
-  pub stripe-fits : s .m * s .size ≤ 32
-  pub log-fits : s .capacity ≤ 4
-  pub image-fits : imageSize s ≤ 2560
+  pub bricks : s .n ≤ benchBricks
+  pub blocks-fit : s .n * s .size ≤ stripeRoom
+  pub stripe-fits : s .m * s .size ≤ stripeRoom
+  pub log-fits : s .capacity ≤ benchCapacity
+  pub image-fits : imageSize s ≤ imageRoom
 
 -- what settings within the limits satisfy
 pub record Fits (s : Settings) : Type 0 where
   pub in-range : inRange s ≡ true
   pub range : SettingsRange s
   pub small : Small s
-  pub size-fits : s .size ≤ 8
+  pub size-fits : s .size ≤ benchSize

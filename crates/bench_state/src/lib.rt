@@ -1,5 +1,6 @@
 // The bench's set between two lines (document 01, "The bench"): a record by value, with the bricks' images and what the coordinators keep
 // in lent buffers.
+// inner: call `bench_player::play_line`
 ghost use mathlib.Core.Path.{_≡_};
 ghost use mathlib.Core.Bool.{true};
 ghost use mathlib.Core.List.{[]};
@@ -11,15 +12,24 @@ ghost use Rattle.bench_state.specs.Workers.{Small};
 ghost use Rattle.bench_state.specs.Workers.{Begun};
 ghost use Rattle.register.specs.Runs.{freshSet};
 ghost use Rattle.settings.specs.Ranges.{inRange};
+ghost use Rattle.bench_limits.specs.Limits.{benchBricks, benchCoordinators, stripeRoom, keptRoom, keptLength, imagesLength};
+use bench_limits::BRICKS;
+use bench_limits::CAPACITY;
+use bench_limits::COORDINATORS;
+use bench_limits::IMAGE_ROOM;
+use bench_limits::KEPT_ROOM;
+use bench_limits::SIZE;
+use bench_limits::STRIPE_ROOM;
+use bench_limits::UP;
 use coord_record::Coordinator;
 use settings::Clock;
 use settings::Settings;
 
-// settings: n is 0 while no set is accepted. up: 1 for a brick that is up. sent: how many messages were sent.
+// settings: n is 0 while no set is accepted. up: UP for a brick that is up. sent: how many messages were sent.
 pub struct Bench {
     pub settings: Settings,
-    pub up: [u8; 4],
-    pub coordinators: [Coordinator; 4],
+    pub up: [u8; BRICKS],
+    pub coordinators: [Coordinator; COORDINATORS],
     pub sent: usize,
 }
 
@@ -31,13 +41,13 @@ pub fn bench_refusal(s: Settings) -> u32
     if bad != 0 {
         return 1;
     }
-    if 4 < s.n {
+    if BRICKS < s.n {
         return 1;
     }
-    if 8 < s.size {
+    if SIZE < s.size {
         return 1;
     }
-    if 4 < s.capacity {
+    if CAPACITY < s.capacity {
         return 1;
     }
     0
@@ -64,7 +74,7 @@ pub fn new_bench(s: Settings) -> Bench
     let d = new_coordinator(3);
     Bench {
         settings: s,
-        up: [1u8; 4],
+        up: [UP; BRICKS],
         coordinators: [a, b, c, d],
         sent: 0,
     }
@@ -72,9 +82,9 @@ pub fn new_bench(s: Settings) -> Bench
 
 // The record with another coordinator and number of messages.
 pub fn with_coordinator(b: Bench, c: usize, next: Coordinator, sent: usize) -> Bench
-    requires { ⌜ c < 4 ⌝ }
+    requires { ⌜ c < benchCoordinators ⌝ }
     ensures { λ r. ⌜ r ≡ withCoordinator b c next sent ⌝ }
-    ensures { λ _. ⌜ length (b .coordinators) ≡ 4 ⌝ }
+    ensures { λ _. ⌜ length (b .coordinators) ≡ benchCoordinators ⌝ }
 {
     let mut all = b.coordinators;
     all[c] = next;
@@ -103,11 +113,11 @@ pub fn with_sent(b: Bench, sent: usize) -> Bench
     }
 }
 
-// The record with a brick up (1) or down (0).
+// The record with a brick UP or DOWN.
 pub fn with_up(b: Bench, brick: usize, flag: u8) -> Bench
-    requires { ⌜ brick < 4 ⌝ }
+    requires { ⌜ brick < benchBricks ⌝ }
     ensures { λ r. ⌜ r ≡ withUp b brick flag ⌝ }
-    ensures { λ _. ⌜ length (b .up) ≡ 4 ⌝ }
+    ensures { λ _. ⌜ length (b .up) ≡ benchBricks ⌝ }
 {
     let mut up = b.up;
     up[brick] = flag;
@@ -123,9 +133,9 @@ pub fn with_up(b: Bench, brick: usize, flag: u8) -> Bench
 
 // A coordinator's record.
 pub fn coordinator_at(b: Bench, c: usize) -> Coordinator
-    requires { ⌜ c < 4 ⌝ }
+    requires { ⌜ c < benchCoordinators ⌝ }
     ensures { λ r. ⌜ r ≡ getD (b .coordinators) c (idleAt c) ⌝ }
-    ensures { λ _. ⌜ length (b .coordinators) ≡ 4 ⌝ }
+    ensures { λ _. ⌜ length (b .coordinators) ≡ benchCoordinators ⌝ }
 {
     let all = b.coordinators;
     all[c]
@@ -133,29 +143,29 @@ pub fn coordinator_at(b: Bench, c: usize) -> Coordinator
 
 // What a coordinator keeps, copied out.
 pub fn fetch(c: usize, kept: &[u8], blocks: &mut [u8], stripe: &mut [u8])
-    requires { ⌜ (c < 4) × (length (now kept) ≡ 256) ⌝ }
-    requires { ⌜ (length (now blocks) ≤ 32) × (length (now stripe) ≤ 32) ⌝ }
-    ensures { λ _. ⌜ now (blocks .exit) ≡ take (length (now (blocks .entry))) (drop (c * 64) (now (kept .entry))) ⌝ }
-    ensures { λ _. ⌜ now (stripe .exit) ≡ take (length (now (stripe .entry))) (drop (c * 64 + 32) (now (kept .entry))) ⌝ }
+    requires { ⌜ (c < benchCoordinators) × (length (now kept) ≡ keptLength) ⌝ }
+    requires { ⌜ (length (now blocks) ≤ stripeRoom) × (length (now stripe) ≤ stripeRoom) ⌝ }
+    ensures { λ _. ⌜ now (blocks .exit) ≡ take (length (now (blocks .entry))) (drop (c * keptRoom) (now (kept .entry))) ⌝ }
+    ensures { λ _. ⌜ now (stripe .exit) ≡ take (length (now (stripe .entry))) (drop (c * keptRoom + stripeRoom) (now (kept .entry))) ⌝ }
 {
-    let at = c * 64;
+    let at = c * KEPT_ROOM;
     let end = at + blocks.len();
     byte_lists::copy(&kept[at..end], blocks);
-    let from = at + 32;
+    let from = at + STRIPE_ROOM;
     let till = from + stripe.len();
     byte_lists::copy(&kept[from..till], stripe)
 }
 
 // What a coordinator keeps, stored.
 pub fn keep(c: usize, blocks: &[u8], stripe: &[u8], kept: &mut [u8])
-    requires { ⌜ (c < 4) × (length (now kept) ≡ 256) ⌝ }
-    requires { ⌜ (length (now blocks) ≤ 32) × (length (now stripe) ≤ 32) ⌝ }
+    requires { ⌜ (c < benchCoordinators) × (length (now kept) ≡ keptLength) ⌝ }
+    requires { ⌜ (length (now blocks) ≤ stripeRoom) × (length (now stripe) ≤ stripeRoom) ⌝ }
     ensures { λ _. ⌜ now (kept .exit) ≡ keptWith c (now (blocks .entry)) (now (stripe .entry)) (now (kept .entry)) ⌝ }
 {
-    let at = c * 64;
+    let at = c * KEPT_ROOM;
     let end = at + blocks.len();
     byte_lists::copy(blocks, &mut kept[at..end]);
-    let from = at + 32;
+    let from = at + STRIPE_ROOM;
     let till = from + stripe.len();
     byte_lists::copy(stripe, &mut kept[from..till])
 }
@@ -163,12 +173,12 @@ pub fn keep(c: usize, blocks: &[u8], stripe: &[u8], kept: &mut [u8])
 // A fresh image for each brick.
 fn fresh_images(s: Settings, images: &mut [u8])
     requires { ⌜ (inRange s ≡ true) × Small s ⌝ }
-    requires { ⌜ length (now images) ≡ 10240 ⌝ }
+    requires { ⌜ length (now images) ≡ imagesLength ⌝ }
     ensures { λ _. ⌜ Begun s (now (images .exit)) (s .n) ⌝ }
 {
     let mut b = 0;
     while b < s.n {
-        let at = b * 2560;
+        let at = b * IMAGE_ROOM;
         let end = at + 512 * (s.capacity + 1);
         image_write::write_fresh(s, b, &mut images[at..end]);
         b += 1;
@@ -178,7 +188,7 @@ fn fresh_images(s: Settings, images: &mut [u8])
 // A set begins.
 pub fn set_up(s: Settings, images: &mut [u8], kept: &mut [u8]) -> Bench
     requires { ⌜ (inRange s ≡ true) × Small s ⌝ }
-    requires { ⌜ (length (now images) ≡ 10240) × (length (now kept) ≡ 256) ⌝ }
+    requires { ⌜ (length (now images) ≡ imagesLength) × (length (now kept) ≡ keptLength) ⌝ }
     ensures { λ r. ⌜ (r ≡ freshBench s) × (worldOf r (now (images .exit)) (now (kept .exit)) [] ≡ freshSet s) ⌝ }
 {
     fresh_images(s, images);

@@ -1,3 +1,4 @@
+use Rattle.bench_parse.specs.Lines.{heldLength}
 use mathlib.Core.Path.{_≡_, refl, _∙_}
 use Prim.Native.Nat.{_≤_}
 use native.Mathlib.Omega.{arith}
@@ -8,7 +9,7 @@ use Rattle.bench.proofs.next_line.Tie as tie
 
 abbrev Inv-loop : tie.InvT-loop
 Inv-loop chunk₀ line₀ q₀ turns₀ chunk line q turns =
-    (q .filled ≤ length chunk₀) × (q .held ≤ 1001) × (length chunk ≡ length chunk₀) × (length line ≡ length line₀)
+    (q .filled ≤ length chunk₀) × (q .held ≤ heldLength) × (length chunk ≡ length chunk₀) × (length line ≡ length line₀)
 
 abbrev μ-loop : tie.MeasureT-loop
 μ-loop chunk₀ line₀ q₀ turns₀ chunk line q turns = turns
@@ -29,7 +30,8 @@ loop-less : tie.Need-loop-less Inv-loop μ-loop
 loop-less c = c .turns-left .ensures
 
 loop-again : tie.Need-loop-again Inv-loop μ-loop
-loop-again c = let v = c .before .before .before .before .before .before .before .before .before .before .loop .inv in let k = c .before .before .before .before .before .before .next-byte in (omega (arith, k .ensures .0, v .2), k .ensures .1, k .kept .1 .0 ∙ v .2, k .kept .1 .1 .0 ∙ v .3)
+loop-again c = let v = c .before .before .before .before .before .before .before .before .before .before .loop .inv in let k = c .before .before .before .before .before .before .next-byte in
+    (omega (arith, k .ensures .0, v .2), k .ensures .1, k .kept .1 .0 ∙ v .2, k .kept .1 .1 .0 ∙ v .3)
 
 same-length : tie.Need-same-length Inv-loop μ-loop
 same-length c = c .before .loop .inv .2

@@ -1,3 +1,4 @@
+use mathlib.Core.List.{[]}
 use mathlib.Core.Path.{sym}
 use native.Mathlib.Omega.{arith}
 use lib.Seq.{length-take-le}
@@ -12,16 +13,20 @@ returns : tie.Need-returns
 returns c = search needs
 
 slice-aggregate-play-line : tie.Need-slice-aggregate-play-line
-slice-aggregate-play-line c = sym (length-take-le _ (c .before .before .before .before .before .before .before .before .before .args .line .now) (c .before .before .before .before .before .before .before .before .before .pre))
+slice-aggregate-play-line c =
+    sym (length-take-le _ (c .before .before .before .before .before .before .before .before .before .args .line .now) (c .before .before .before .before .before .before .before .before .before .pre))
 
 play-line-requires : tie.Need-play-line-requires
 play-line-requires c κs = search needs
 
 slice-reshare-prefix-write-all : tie.Need-slice-reshare-prefix-write-all
-slice-reshare-prefix-write-all c = let p = c .before .before .before .before .before .before .before .before .before .before .play-line in omega (arith, p .ensures .within, p .kept .1 .1 .1 .1 .1 .1 .0)
+slice-reshare-prefix-write-all c = let p = c .before .before .before .before .before .before .before .before .before .before .play-line in
+    omega (arith, p .ensures .plays-on [] .within, p .kept .1 .1 .1 .1 .1 .1 .0)
 
 slice-aggregate-write-all : tie.Need-slice-aggregate-write-all
-slice-aggregate-write-all c = sym (length-take-le _ (c .before .before .before .before .before .before .before .before .before .before .before .play-line .last .1 .1 .1 .1 .1 .1 .0) (slice-reshare-prefix-write-all (c .before)))
+slice-aggregate-write-all c =
+    sym (length-take-le _ (c .before .before .before .before .before .before .before .before .before .before .before .play-line .last .1 .1 .1 .1 .1 .1 .0)
+    (slice-reshare-prefix-write-all (c .before)))
 
 write-all-requires : tie.Need-write-all-requires
 write-all-requires c κs = search needs

@@ -21,21 +21,33 @@ loop-holds : tie.Need-loop-holds Inv-loop μ-loop
 loop-holds c = (omega arith, refl, refl, refl, refl, refl, refl, refl)
 
 next-line-requires : tie.Need-next-line-requires Inv-loop μ-loop
-next-line-requires c κs = let v = c .before .before .before .loop .inv in (omega (arith, v .0, v .1), v .2 ∙ c .before .before .before .before .before .before .before .before .before .before .before .before .pre)
+next-line-requires c κs = let v = c .before .before .before .loop .inv in
+    (omega (arith, v .0, v .1), v .2 ∙ c .before .before .before .before .before .before .before .before .before .before .before .before .pre)
 
 play-requires : tie.Need-play-requires Inv-loop μ-loop
-play-requires c κs = let k = c .before .before .before .before .before .before .before .before .before .before .next-line in omega (arith, k .ensures .1, k .kept .1 .1 .0, c .before .before .before .before .before .before .before .before .before .before .before .before .before .before .loop .inv .2, c .before .before .before .before .before .before .before .before .before .before .before .before .before .before .before .before .before .before .before .before .before .before .before .pre)
+play-requires c κs = let k = c .before .before .before .before .before .before .before .before .before .before .next-line in
+    omega (
+      arith,
+      k .ensures .1,
+      k .kept .1 .1 .0,
+      c .before .before .before .before .before .before .before .before .before .before .before .before .before .before .loop .inv .2,
+      c .before .before .before .before .before .before .before .before .before .before .before .before .before .before .before .before .before .before .before .before .before .before .before .pre,
+    )
 
 turns-left-requires : tie.Need-turns-left-requires Inv-loop μ-loop
-turns-left-requires c κs = c .before .before .before .before .before .before .before .before .before .before .before .before .before .before .before .before .before .before .before .before .before .before .before .before .loop-test .taken
+turns-left-requires c κs =
+    c .before .before .before .before .before .before .before .before .before .before .before .before .before .before .before .before .before .before .before .before .before .before .before .before
+    .loop-test .taken
 
 loop-less : tie.Need-loop-less Inv-loop μ-loop
 loop-less c = c .turns-left .ensures
 
 loop-again : tie.Need-loop-again Inv-loop μ-loop
 loop-again c =
-    let v = c .before .before .before .before .before .before .before .before .before .before .before .before .before .before .before .before .before .before .before .before .before .before .before .before .before .before .loop .inv in
-    let k = c .before .before .before .before .before .before .before .before .before .before .before .before .before .before .before .before .before .before .before .before .before .before .next-line in
+    let v = c .before .before .before .before .before .before .before .before .before .before .before .before .before .before .before .before .before .before .before .before .before .before .before
+    .before .before .before .loop .inv in
+    let k = c .before .before .before .before .before .before .before .before .before .before .before .before .before .before .before .before .before .before .before .before .before .before .next-line
+    in
     let p = c .before .before .before .before .before .before .before .before .before .before .before .play .kept in (
       omega (arith, k .ensures .0, v .1),
       k .kept .1 .0 ∙ v .1,

@@ -1,23 +1,20 @@
--- Laws of `specs/CarryLaws`.
+-- A carried number, and the numbers of a line one after the other, with what the callees gave as variables.
 use mathlib.Core.Path.{_≡_, refl, sym, ap, ap₂, subst, _∙_}
-use mathlib.Core.Bool.{Bool, true, false, cond}
 use mathlib.Core.List.{List, [], _∷_, _++_, append-nil, append-assoc}
 use Prim.Native.Nat.{ℕ, zero, suc, _+_, _-_, _≤_, _<_}
 use native.Mathlib.Omega.{arith}
 use native.Mathlib.Decide.{decLt}
 use native.Mathlib.Nat.{not-suc-le-zero}
-use lib.Dec.{eqb}
 use lib.ListN.{length, length-append}
-use borrow.Author.Tests.{lt-ltb, le-ltb}
 use Rattle.settings.specs.declared.Settings.{Settings}
 use Rattle.bench_commit.specs.Workers.{Seats}
 use Rattle.bench_parse.proofs.Laws.CallerLaws.{rest-first, rest-next, rest-splits, rest-none}
-use Rattle.bench_parse.specs.Lines.{numbersOf}
+use Rattle.bench_parse.specs.Lines.{longest, numbersOf}
 use Rattle.bench_parse.specs.Workers.{wordsFrom, CarryFrom, NumberAt}
 use Rattle.bench_parse.specs.declared.Number.{Number}
-use Rattle.bench_rules.specs.Play.{Played, refuses, passes, happens, switches, carries, carriesAt, carried, andThen, carriedAll}
+use Rattle.bench_rules.specs.Play.{Played, refuses, passes, carries, carriesAt, carried, andThen, carriedAll}
 use Rattle.bench_rules.specs.Turning.{Lent, worldIn}
-use Rattle.bench_rules.specs.Workers.{BenchReady, Turned}
+use Rattle.bench_rules.specs.Workers.{BenchReady, Turned, Lined}
 use Rattle.bench_rules.specs.declared.After.{After}
 use Rattle.bench_print.specs.Printing.{written}
 use Rattle.bench_print.proofs.Laws.WrittenLaws.{written-nothing, written-both}
@@ -25,11 +22,10 @@ use Rattle.bench_sent.proofs.Laws.SentItemLaws.{items-length}
 use Rattle.bench_sent.specs.Sent.{itemsOf, itemAt}
 use Rattle.bench_state.specs.Workers.{Fits}
 use Rattle.bench_state.specs.State.{worldOf}
-use Rattle.bench_state.specs.Workers.{withUp}
-use Rattle.bench_state.proofs.Laws.StateLaws.{up-put}
 use Rattle.bench_state.specs.declared.Bench.{Bench}
-use Rattle.register.specs.Runs.{Item, World, Event, goesDown, comesUp, step, standing}
-use Rattle.bench_carry.specs.Workers.{Lined, Carrying}
+use Rattle.register.specs.Runs.{Item, World}
+use Rattle.bench_carry.specs.Workers.{Carrying}
+use Rattle.bench_limits.specs.Limits.{lineRoom, textLength}
 
 -- the item at a place is the one in its row
 carries-append : (s : Settings) (w : World) (k : ℕ) (l : List Item) (i : Item) (j : ℕ) → j < length l → carriesAt s w k (l ++ i ∷ []) j ≡ carriesAt s w k l j
@@ -114,7 +110,7 @@ module _ (b : Bench) (l : Lent) (line : List ℕ) (first : ℕ) (out : List ℕ)
       }
 
   -- one number more
-  pub carrying-next : (place : ℕ) (r r′ : After) (l′ l″ : Lent) (out′ out″ : List ℕ) (k : Number) → place ≤ length line → length out ≡ 65536
+  pub carrying-next : (place : ℕ) (r r′ : After) (l′ l″ : Lent) (out′ out″ : List ℕ) (k : Number) → place ≤ length line → length out ≡ textLength
       → Carrying b l line first out place r l′ out′ → NumberAt line place k
       → Turned (r .bench) l′ (r .used) out′ (carried (r .bench .settings) (worldIn (r .bench) l′) (k .value)) r′ l″ out″
       → length (l″ .images) ≡ length (l′ .images) → length (l″ .kept) ≡ length (l′ .kept) → length (l″ .numbers) ≡ length (l′ .numbers)
@@ -161,7 +157,7 @@ module _ (b : Bench) (l : Lent) (line : List ℕ) (first : ℕ) (out : List ℕ)
       }
 
   -- no number is left
-  pub carrying-done : (place : ℕ) (r : After) (l′ : Lent) (out′ : List ℕ) → length line < place → length line ≤ 1000
+  pub carrying-done : (place : ℕ) (r : After) (l′ : Lent) (out′ : List ℕ) → length line < place → length line ≤ longest
       → Carrying b l line first out place r l′ out′
       → Lined b l out (carriedAll (b .settings) (worldIn b l) (numbersOf (wordsFrom line first))) r l′ out′
   unfolding carriedAll passes
@@ -180,57 +176,8 @@ module _ (b : Bench) (l : Lent) (line : List ℕ) (first : ℕ) (out : List ℕ)
         within = (let a = c .room in let d = c .rest .high in omega arith);
       }
 
--- a brick goes down or comes up
-pub switched : (b : Bench) (l : Lent) (out : List ℕ) (brick flag : ℕ) (e : Event) (bench : Bench) → Fits (b .settings) → b .sent ≤ 127 → brick < b .settings .n
-    → step (b .settings) (worldIn b l) e ≡ standing (b .settings) (worldIn b l) brick (eqb flag 1) → length (b .up) ≡ 4 → bench ≡ withUp b brick flag
-    → Lined b l out (switches (b .settings) (worldIn b l) brick e) (record { bench = bench; used = 0 }) l out
-unfolding switches happens standing worldIn worldOf withUp
-switched b l out brick flag e bench fits few h q four eb =
-    subst (λ (x : Bench). Lined b l out (switches (b .settings) (worldIn b l) brick e) (record { bench = x; used = 0 }) l out) (sym eb)
-    (rw (lt-ltb brick (b .settings .n) h)
-    (record {
-      world-is = ap make (up-put (b .up) brick flag (let a = fits .small .bricks in omega arith)) ∙ sym (rw q (rw (lt-ltb brick (b .settings .n) h) refl));
-      settings-kept = refl;
-      few = few;
-      text-is = sym (written-nothing 0 out);
-      used-is = refl;
-      within = omega arith;
-    }))
-  where
-    make : (ℕ → Bool) → World
-    make f = record { images = worldIn b l .images; up = f; coordinators = worldIn b l .coordinators; sent = worldIn b l .sent }
-
--- by its flag
-pub switch-flag : (b : Bench) (l : Lent) (out : List ℕ) (brick flag : ℕ) (bench : Bench) → Fits (b .settings) → b .sent ≤ 127 → brick < b .settings .n
-    → length (b .up) ≡ 4 → bench ≡ withUp b brick flag
-    → Lined b l out (switches (b .settings) (worldIn b l) brick (cond (eqb flag 1) (comesUp brick) (goesDown brick))) (record { bench = bench; used = 0 }) l out
-unfolding step
-switch-flag b l out brick flag bench fits few h four eb =
-    switched b l out brick flag (cond (eqb flag 1) (comesUp brick) (goesDown brick)) bench fits few h (go (eqb flag 1)) four eb
-  where
-    go : (t : Bool) → step (b .settings) (worldIn b l) (cond t (comesUp brick) (goesDown brick)) ≡ standing (b .settings) (worldIn b l) brick t
-    go true = refl
-    go false = refl
-
-pub switch-past : (b : Bench) (l : Lent) (out out′ : List ℕ) (brick : ℕ) (e : Event) (r : After) → b .settings .n ≤ brick
-    → Turned b l 0 out (refuses (worldIn b l) 3) r l out′ → Turned b l 0 out (switches (b .settings) (worldIn b l) brick e) r l out′
-unfolding switches
-switch-past b l out out′ brick e r h t = rw (le-ltb brick (b .settings .n) h) t
-
--- a part of a line at the beginning of the printed text
-pub turned-lined : (b : Bench) (l l′ : Lent) (out out′ : List ℕ) (p : Played) (r : After) → Turned b l 0 out p r l′ out′ → Lined b l out p r l′ out′
-turned-lined b l l′ out out′ p r t =
-    record {
-      world-is = t .world-is;
-      settings-kept = t .settings-kept;
-      few = t .few;
-      text-is = t .text-is;
-      used-is = t .used-is ∙ (let e : 0 + length (p .printed) ≡ length (p .printed) = omega arith in e);
-      within = (let a = t .short in omega arith);
-    }
-
 -- what the parts of a carried number ask, of a set that is ready
-pub ready-seats : (b : Bench) (l : Lent) (at : ℕ) (out : List ℕ) → BenchReady b l → at + 128 ≤ length out → Seats b 0 (l .kept) (l .numbers) (l .bytes) at out
+pub ready-seats : (b : Bench) (l : Lent) (at : ℕ) (out : List ℕ) → BenchReady b l → at + lineRoom ≤ length out → Seats b 0 (l .kept) (l .numbers) (l .bytes) at out
 ready-seats b l at out r h =
     record {
       fits = r .fits;

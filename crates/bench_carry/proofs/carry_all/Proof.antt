@@ -17,7 +17,9 @@ abbrev μ-loop : tie.MeasureT-loop
     length line + 1 - place
 
 loop-holds : tie.Need-loop-holds Inv-loop μ-loop
-loop-holds c = let s = c .before .before .before .before .before .before in carrying-first (s .args .b) (lent (s .args .images .now) (s .args .kept .now) (s .args .numbers .now) (s .args .bytes .now)) (s .args .line .now) (s .args .first) (s .args .out .now) (s .pre .0) (s .pre .1 .0)
+loop-holds c = let s = c .before .before .before .before .before .before in
+    carrying-first (s .args .b) (lent (s .args .images .now) (s .args .kept .now) (s .args .numbers .now) (s .args .bytes .now)) (s .args .line .now) (s .args .first) (s .args .out .now) (s .pre .0)
+    (s .pre .1 .0)
 
 number-at-requires : tie.Need-number-at-requires Inv-loop μ-loop
 number-at-requires c κs = c .before .loop .inv .rest .begins (c .loop-test .taken)
@@ -29,18 +31,35 @@ carry-one-requires c κs =
     (v .ready, omega (arith, v .room, v .out-long, s .pre .1 .1, s .pre .1 .0 .short, c .before .before .before .before .before .before .before .loop-test .taken))
 
 add-place : tie.Need-add-place Inv-loop μ-loop
-add-place c = let s = c .before .before .before .before .before .before .before .before .before .before .before .before .before .before .before .before .before .before .before .before .before .before .before .before .before .before .before in omega (arith, c .before .before .before .before .before .before .before .before .before .before .before .before .before .before .before .before .before .before .number-at .ensures .ends, s .pre .1 .0 .short)
+add-place c = let s =
+    c .before .before .before .before .before .before .before .before .before .before .before .before .before .before .before .before .before .before .before .before .before .before .before .before
+    .before .before .before in
+    omega (
+      arith,
+      c .before .before .before .before .before .before .before .before .before .before .before .before .before .before .before .before .before .before .number-at .ensures .ends,
+      s .pre .1 .0 .short,
+    )
 
 loop-less : tie.Need-loop-less Inv-loop μ-loop
-loop-less c = let n = c .before .before .before .before .before .before .before .before .before .before .before .before .before .before .before .before .before .before .number-at .ensures in omega (arith, n .starts, n .ends, c .before .before .before .before .before .before .before .before .before .before .before .before .before .before .before .before .before .before .before .loop-test .taken)
+loop-less c = let n = c .before .before .before .before .before .before .before .before .before .before .before .before .before .before .before .before .before .before .number-at .ensures in
+    omega (
+      arith,
+      n .starts,
+      n .ends,
+      c .before .before .before .before .before .before .before .before .before .before .before .before .before .before .before .before .before .before .before .loop-test .taken,
+    )
 
 loop-again : tie.Need-loop-again Inv-loop μ-loop
 loop-again c =
-    let s = c .before .before .before .before .before .before .before .before .before .before .before .before .before .before .before .before .before .before .before .before .before .before .before .before .before .before .before in
+    let s = c .before .before .before .before .before .before .before .before .before .before .before .before .before .before .before .before .before .before .before .before .before .before .before
+    .before .before .before .before in
     let v = c .before .before .before .before .before .before .before .before .before .before .before .before .before .before .before .before .before .before .before .before .loop in
     let k = c .before .before .before .before .before .before .before .before .before .before .before .carry-one .kept in
-    carrying-next (s .args .b) (lent (s .args .images .now) (s .args .kept .now) (s .args .numbers .now) (s .args .bytes .now)) (s .args .line .now) (s .args .first) (s .args .out .now) (v .place) (v .r) _ (lent (v .images) (v .kept) (v .numbers) (v .bytes)) _ (v .out) _ _
-    (c .before .before .before .before .before .before .before .before .before .before .before .before .before .before .before .before .before .before .before .loop-test .taken) (s .pre .1 .1) (v .inv) (c .before .before .before .before .before .before .before .before .before .before .before .before .before .before .before .before .before .before .number-at .ensures) (c .before .before .before .before .before .before .before .before .before .before .before .carry-one .ensures)
+    carrying-next (s .args .b) (lent (s .args .images .now) (s .args .kept .now) (s .args .numbers .now) (s .args .bytes .now)) (s .args .line .now) (s .args .first) (s .args .out .now) (v .place)
+    (v .r) _ (lent (v .images) (v .kept) (v .numbers) (v .bytes)) _ (v .out) _ _
+    (c .before .before .before .before .before .before .before .before .before .before .before .before .before .before .before .before .before .before .before .loop-test .taken) (s .pre .1 .1)
+    (v .inv) (c .before .before .before .before .before .before .before .before .before .before .before .before .before .before .before .before .before .before .number-at .ensures)
+    (c .before .before .before .before .before .before .before .before .before .before .before .carry-one .ensures)
     (k .1 .1 .0) (k .1 .1 .1 .0) (k .1 .1 .1 .1 .0) (k .1 .1 .1 .1 .1 .0) (k .1 .1 .1 .1 .1 .1 .1 .0)
 
 same-length : tie.Need-same-length Inv-loop μ-loop
@@ -62,7 +81,8 @@ returns : tie.Need-returns Inv-loop μ-loop
 returns c =
     let s = c .before .before .before .before .before .before .before .before in
     let v = c .before .loop in
-    carrying-done (s .args .b) (lent (s .args .images .now) (s .args .kept .now) (s .args .numbers .now) (s .args .bytes .now)) (s .args .line .now) (s .args .first) (s .args .out .now) (v .place) (v .r) (lent (v .images) (v .kept) (v .numbers) (v .bytes)) (v .out)
+    carrying-done (s .args .b) (lent (s .args .images .now) (s .args .kept .now) (s .args .numbers .now) (s .args .bytes .now)) (s .args .line .now) (s .args .first) (s .args .out .now) (v .place)
+    (v .r) (lent (v .images) (v .kept) (v .numbers) (v .bytes)) (v .out)
     (c .loop-test .left) (s .pre .1 .0 .short) (v .inv)
 
 pub carry-all-spec : {M : Type 1} → statement M

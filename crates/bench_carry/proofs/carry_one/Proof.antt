@@ -16,7 +16,9 @@ same-length c = search needs
 returns : tie.Need-returns
 returns c =
     let s = c .before .before .before .before .before .before .before .before .before .before in
-    carried-zero (s .args .b) (lent (s .args .images .now) (s .args .kept .now) (s .args .numbers .now) (s .args .bytes .now)) (s .args .at) (s .args .out .now) _ (lent (s .args .images .now) (s .args .kept .now) (s .args .numbers .now) (s .args .bytes .now)) _ (s .args .number) (c .before .before .before .before .if1 .taken) (c .before .before .refuse .ensures (lent (s .args .images .now) (s .args .kept .now) (s .args .numbers .now) (s .args .bytes .now)))
+    carried-zero (s .args .b) (lent (s .args .images .now) (s .args .kept .now) (s .args .numbers .now) (s .args .bytes .now)) (s .args .at) (s .args .out .now) _
+    (lent (s .args .images .now) (s .args .kept .now) (s .args .numbers .now) (s .args .bytes .now)) _ (s .args .number) (c .before .before .before .before .if1 .taken)
+    (c .before .before .refuse .ensures (lent (s .args .images .now) (s .args .kept .now) (s .args .numbers .now) (s .args .bytes .now)))
 
 refuse-requires-2 : tie.Need-refuse-requires-2
 refuse-requires-2 c κs = search needs
@@ -27,7 +29,9 @@ same-length-2 c = search needs
 returns-2 : tie.Need-returns-2
 returns-2 c =
     let s = c .before .before .before .before .before .before .before .before .before .before .before .before in
-    carried-past (s .args .b) (lent (s .args .images .now) (s .args .kept .now) (s .args .numbers .now) (s .args .bytes .now)) (s .args .at) (s .args .out .now) _ (lent (s .args .images .now) (s .args .kept .now) (s .args .numbers .now) (s .args .bytes .now)) _ (s .args .number) (c .before .before .before .before .if2 .taken) (c .before .before .refuse2 .ensures (lent (s .args .images .now) (s .args .kept .now) (s .args .numbers .now) (s .args .bytes .now)))
+    carried-past (s .args .b) (lent (s .args .images .now) (s .args .kept .now) (s .args .numbers .now) (s .args .bytes .now)) (s .args .at) (s .args .out .now) _
+    (lent (s .args .images .now) (s .args .kept .now) (s .args .numbers .now) (s .args .bytes .now)) _ (s .args .number) (c .before .before .before .before .if2 .taken)
+    (c .before .before .refuse2 .ensures (lent (s .args .images .now) (s .args .kept .now) (s .args .numbers .now) (s .args .bytes .now)))
 
 sub-k : tie.Need-sub-k
 sub-k c = search needs
@@ -39,7 +43,11 @@ carry-reply-requires : tie.Need-carry-reply-requires
 carry-reply-requires c κs =
     let s = c .before .before .before .before .before .before .before .before .before .before .before .before .before .before .before in (
       ready-seats (s .args .b) (lent (s .args .images .now) (s .args .kept .now) (s .args .numbers .now) (s .args .bytes .now)) (s .args .at) (s .args .out .now) (s .pre .0) (s .pre .1),
-      (omega (arith, c .before .before .before .before .before .before .before .before .before .if1 .left, c .before .before .before .before .before .before .before .if2 .left), sym (c .before .before .before .before .before .is-reply .ensures) ∙ c .before .before .before .before .if3 .taken),
+      (
+        omega (arith, c .before .before .before .before .before .before .before .before .before .if1 .left, c .before .before .before .before .before .before .before .if2 .left),
+        sym
+            (c .before .before .before .before .before .is-reply .ensures) ∙ c .before .before .before .before .if3 .taken,
+      ),
     )
 
 same-length-3 : tie.Need-same-length-3
@@ -56,14 +64,21 @@ same-length-6 c = search needs
 
 returns-3 : tie.Need-returns-3
 returns-3 c =
-    let s = c .before .before .before .before .before .before .before .before .before .before .before .before .before .before .before .before .before .before .before .before .before .before .before .before in
-    carried-item (s .args .b) (lent (s .args .images .now) (s .args .kept .now) (s .args .numbers .now) (s .args .bytes .now)) (s .args .at) (s .args .out .now) _ _ _ (s .args .number) _ (c .before .before .before .before .before .before .before .before .before .before .before .before .before .before .before .before .before .before .if1 .left) (c .before .before .before .before .before .before .before .before .before .before .before .before .before .before .before .before .if2 .left) refl
+    let s = c .before .before .before .before .before .before .before .before .before .before .before .before .before .before .before .before .before .before .before .before .before .before .before
+    .before in
+    carried-item (s .args .b) (lent (s .args .images .now) (s .args .kept .now) (s .args .numbers .now) (s .args .bytes .now)) (s .args .at) (s .args .out .now) _ _ _ (s .args .number) _
+    (c .before .before .before .before .before .before .before .before .before .before .before .before .before .before .before .before .before .before .if1 .left)
+    (c .before .before .before .before .before .before .before .before .before .before .before .before .before .before .before .before .if2 .left) refl
     (c .before .before .before .before .before .before .before .before .carry-reply .ensures .turned (s .args .images .now))
 
 carry-message-requires : tie.Need-carry-message-requires
 carry-message-requires c κs =
     let s = c .before .before .before .before .before .before .before .before .before .before .before .before .before .before .before in (
-      (ready-lends (s .args .b) (lent (s .args .images .now) (s .args .kept .now) (s .args .numbers .now) (s .args .bytes .now)) (s .pre .0), omega (arith, c .before .before .before .before .before .before .before .before .before .if1 .left, c .before .before .before .before .before .before .before .if2 .left)),
+      (
+        ready-lends (s .args .b) (lent (s .args .images .now) (s .args .kept .now) (s .args .numbers .now) (s .args .bytes .now)) (s .pre .0),
+        omega
+            (arith, c .before .before .before .before .before .before .before .before .before .if1 .left, c .before .before .before .before .before .before .before .if2 .left),
+      ),
       (sym (c .before .before .before .before .before .is-reply .ensures) ∙ c .before .before .before .before .if3 .left, s .pre .1),
     )
 
@@ -81,8 +96,11 @@ same-length-10 c = search needs
 
 returns-4 : tie.Need-returns-4
 returns-4 c =
-    let s = c .before .before .before .before .before .before .before .before .before .before .before .before .before .before .before .before .before .before .before .before .before .before .before .before in
-    carried-item (s .args .b) (lent (s .args .images .now) (s .args .kept .now) (s .args .numbers .now) (s .args .bytes .now)) (s .args .at) (s .args .out .now) _ _ _ (s .args .number) _ (c .before .before .before .before .before .before .before .before .before .before .before .before .before .before .before .before .before .before .if1 .left) (c .before .before .before .before .before .before .before .before .before .before .before .before .before .before .before .before .if2 .left) refl
+    let s = c .before .before .before .before .before .before .before .before .before .before .before .before .before .before .before .before .before .before .before .before .before .before .before
+    .before in
+    carried-item (s .args .b) (lent (s .args .images .now) (s .args .kept .now) (s .args .numbers .now) (s .args .bytes .now)) (s .args .at) (s .args .out .now) _ _ _ (s .args .number) _
+    (c .before .before .before .before .before .before .before .before .before .before .before .before .before .before .before .before .before .before .if1 .left)
+    (c .before .before .before .before .before .before .before .before .before .before .before .before .before .before .before .before .if2 .left) refl
     (c .before .before .before .before .before .before .before .before .carry-message .ensures (s .args .kept .now))
 
 pub carry-one-spec : {M : Type 1} → statement M

@@ -33,6 +33,7 @@ use Rattle.bench_rules.proofs.Laws.TurningLaws.{turned-nothing}
 use Rattle.bench_rules.specs.declared.After.{After}
 use Rattle.bench_carry_message.proofs.Laws.ReplyKeptLaws.{refusal-keeps, room}
 use Rattle.bench_carry_message.specs.Workers.{Lends, Reaching, Settled, maySend, sentAfterMessage, toldOf}
+use Rattle.bench_limits.specs.Limits.{lastMessage, upFlag, imageRoom, rowBytes, blockPlace}
 
 -- the ways of `carries` for a message
 module _ (s : Settings) (w : World) (k brick : ℕ) (msg : Message) (block : List ℕ) where
@@ -70,7 +71,7 @@ module _ (b : Bench) (images kept numbers bytes : List ℕ) where
   world-up brick t e = e
 
   world-image : (brick : ℕ) → brick < b .settings .n
-      → worldIn b (lent images kept numbers bytes) .images brick ≡ take (imageSize (b .settings)) (drop (brick * 2560) images)
+      → worldIn b (lent images kept numbers bytes) .images brick ≡ take (imageSize (b .settings)) (drop (brick * imageRoom) images)
   unfolding worldIn worldOf imagesOf
   world-image brick h = rw (lt-ltb brick (b .settings .n) h) refl
 
@@ -107,7 +108,7 @@ module _ (b : Bench) (k brick : ℕ) (msg : Message) (images numbers bytes : Lis
   s = b .settings
 
   abbrev pub image : List ℕ
-  image = take (imageSize s) (drop (brick * 2560) images)
+  image = take (imageSize s) (drop (brick * imageRoom) images)
 
   abbrev pub o : Outcome
   o = outcome s brick image msg (sentBlockAt (s .size) bytes k) (replicate (s .size) 0)
@@ -115,8 +116,8 @@ module _ (b : Bench) (k brick : ℕ) (msg : Message) (images numbers bytes : Lis
   image-long : length image ≡ imageSize s
   unfolding imageSize
   image-long =
-      length-take-le (imageSize s) (drop (brick * 2560) images)
-      (let d = length-drop (brick * 2560) images in
+      length-take-le (imageSize s) (drop (brick * imageRoom) images)
+      (let d = length-drop (brick * imageRoom) images in
       let a = l .fits .small .bricks in
       let c = l .fits .small .log-fits in
       let t = q .there in
@@ -145,21 +146,21 @@ module _ (b : Bench) (k brick : ℕ) (msg : Message) (images numbers bytes : Lis
         ∙ ap (λ (v : Outcome). delivered s w k (v .given)) outcome-at
 
     module _ (new block numbers′ bytes′ : List ℕ) (at : ℕ) (out out′ : List ℕ) (r : After) (ei : new ≡ o .image) (eo : block ≡ o .out) (long : length new ≡ imageSize s) where
-      images-put : imagesOf s (put (brick * 2560) new images) ≡ putAt (imagesOf s images) brick (o .image)
+      images-put : imagesOf s (put (brick * imageRoom) new images) ≡ putAt (imagesOf s images) brick (o .image)
       images-put =
           image-put s (l .fits .small) images new brick (q .there) long (l .images-long)
           ∙ ap (putAt (imagesOf s images) brick) ei
 
       -- an answer or silence: the event happens
       happened : (g : Given) → g ≡ o .given → toldOf g ≡ [] → Settled b g block numbers bytes at out r numbers′ bytes′ out′
-          → Turned b (lent images kept numbers bytes) at out (happens s w (arrives k) []) r (lent (put (brick * 2560) new images) kept numbers′ bytes′) out′
+          → Turned b (lent images kept numbers bytes) at out (happens s w (arrives k) []) r (lent (put (brick * imageRoom) new images) kept numbers′ bytes′) out′
       unfolding happens received
       happened g e t d =
           record {
             world-is =
-                d .world-is (put (brick * 2560) new images) kept
-                ∙ ap₂ (λ (v : Given) (x : List ℕ). worldOf b (put (brick * 2560) new images) kept (itemsOf (s .size) numbers bytes (b .sent) ++ repliedWith v x)) e eo
-                ∙ world-with b images kept numbers bytes (put (brick * 2560) new images) (o .image) brick (repliedWith (o .given) (o .out)) images-put
+                d .world-is (put (brick * imageRoom) new images) kept
+                ∙ ap₂ (λ (v : Given) (x : List ℕ). worldOf b (put (brick * imageRoom) new images) kept (itemsOf (s .size) numbers bytes (b .sent) ++ repliedWith v x)) e eo
+                ∙ world-with b images kept numbers bytes (put (brick * imageRoom) new images) (o .image) brick (repliedWith (o .given) (o .out)) images-put
                 ∙ sym (ap (λ (m : Moved s). m .world) arrives-is);
             settings-kept = d .settings-kept;
             few = d .few;
@@ -170,13 +171,13 @@ module _ (b : Bench) (k brick : ℕ) (msg : Message) (images numbers bytes : Lis
 
       -- a refusal: the image kept its bytes
       refused-there : (n : ℕ) → Refused n ≡ o .given → Settled b (Refused n) block numbers bytes at out r numbers′ bytes′ out′
-          → Turned b (lent images kept numbers bytes) at out (refuses w n) r (lent (put (brick * 2560) new images) kept numbers′ bytes′) out′
+          → Turned b (lent images kept numbers bytes) at out (refuses w n) r (lent (put (brick * imageRoom) new images) kept numbers′ bytes′) out′
       unfolding refuses repliedWith toldOf imageSize
       refused-there n e d =
           record {
             world-is =
-                d .world-is (put (brick * 2560) new images) kept
-                ∙ world-same b images kept numbers bytes (put (brick * 2560) new images) back;
+                d .world-is (put (brick * imageRoom) new images) kept
+                ∙ world-same b images kept numbers bytes (put (brick * imageRoom) new images) back;
             settings-kept = d .settings-kept;
             few = d .few;
             text-is = d .text-is;
@@ -187,42 +188,42 @@ module _ (b : Bench) (k brick : ℕ) (msg : Message) (images numbers bytes : Lis
           same : new ≡ image
           same = ei ∙ refusal-keeps s brick image msg (sentBlockAt (s .size) bytes k) (replicate (s .size) 0) n (sym e)
 
-          back : put (brick * 2560) new images ≡ images
+          back : put (brick * imageRoom) new images ≡ images
           back =
-              ap (λ (x : List ℕ). put (brick * 2560) x images) same
-              ∙ sym (put-mid (brick * 2560) (brick * 2560 + imageSize s) images image (omega arith) (image-long ∙ (omega arith)))
-              ∙ ap (λ (j : ℕ). putMid (brick * 2560) j images image) (let z : brick * 2560 + imageSize s - brick * 2560 ≡ imageSize s = omega arith in z)
-              ∙ put-same (brick * 2560) (imageSize s) images
+              ap (λ (x : List ℕ). put (brick * imageRoom) x images) same
+              ∙ sym (put-mid (brick * imageRoom) (brick * imageRoom + imageSize s) images image (omega arith) (image-long ∙ (omega arith)))
+              ∙ ap (λ (j : ℕ). putMid (brick * imageRoom) j images image) (let z : brick * imageRoom + imageSize s - brick * imageRoom ≡ imageSize s = omega arith in z)
+              ∙ put-same (brick * imageRoom) (imageSize s) images
 
       delivered-by : (g : Given) → g ≡ o .given → Settled b g block numbers bytes at out r numbers′ bytes′ out′
-          → Turned b (lent images kept numbers bytes) at out (carries s w k (itemAt (s .size) numbers bytes k)) r (lent (put (brick * 2560) new images) kept numbers′ bytes′) out′
+          → Turned b (lent images kept numbers bytes) at out (carries s w k (itemAt (s .size) numbers bytes k)) r (lent (put (brick * imageRoom) new images) kept numbers′ bytes′) out′
       unfolding delivered toldOf
       delivered-by g e d =
-          subst (λ (p : Played). Turned b (lent images kept numbers bytes) at out p r (lent (put (brick * 2560) new images) kept numbers′ bytes′) out′)
+          subst (λ (p : Played). Turned b (lent images kept numbers bytes) at out p r (lent (put (brick * imageRoom) new images) kept numbers′ bytes′) out′)
           (ap (delivered s w k) e ∙ sym carries-is)
           (by g e d)
         where
           by : (g : Given) → g ≡ o .given → Settled b g block numbers bytes at out r numbers′ bytes′ out′
-              → Turned b (lent images kept numbers bytes) at out (delivered s w k g) r (lent (put (brick * 2560) new images) kept numbers′ bytes′) out′
+              → Turned b (lent images kept numbers bytes) at out (delivered s w k g) r (lent (put (brick * imageRoom) new images) kept numbers′ bytes′) out′
           by (Answered a) e d = happened (Answered a) e refl d
           by Silent e d = happened Silent e refl d
           by (Refused n) e d = refused-there n e d
 
   -- the parts as the code cuts them
   abbrev pub codeImage : List ℕ
-  codeImage = take (brick * 2560 + 512 * (s .capacity + 1) - brick * 2560) (drop (brick * 2560) images)
+  codeImage = take (brick * imageRoom + 512 * (s .capacity + 1) - brick * imageRoom) (drop (brick * imageRoom) images)
 
   abbrev pub codeBlock : List ℕ
-  codeBlock = take (k * 24 + 16 + s .size - (k * 24 + 16)) (drop (k * 24 + 16) bytes)
+  codeBlock = take (k * rowBytes + blockPlace + s .size - (k * rowBytes + blockPlace)) (drop (k * rowBytes + blockPlace) bytes)
 
   code-outcome : (zeros : List ℕ) → zeros ≡ replicate (s .size) 0 → outcome s brick codeImage msg codeBlock zeros ≡ o
   unfolding imageSize
   code-outcome zeros ez =
-      ap (λ (j : ℕ). outcome s brick (take j (drop (brick * 2560) images)) msg codeBlock zeros) cut
-      ∙ ap (λ (x : List ℕ). outcome s brick image msg x zeros) (block-cut (s .size) k (k * 24 + 16) (k * 24 + 16 + s .size) bytes refl refl)
+      ap (λ (j : ℕ). outcome s brick (take j (drop (brick * imageRoom) images)) msg codeBlock zeros) cut
+      ∙ ap (λ (x : List ℕ). outcome s brick image msg x zeros) (block-cut (s .size) k (k * rowBytes + blockPlace) (k * rowBytes + blockPlace + s .size) bytes refl refl)
       ∙ ap (outcome s brick image msg (sentBlockAt (s .size) bytes k)) ez
     where
-      cut : brick * 2560 + 512 * (s .capacity + 1) - brick * 2560 ≡ 512 * (s .capacity + 1)
+      cut : brick * imageRoom + 512 * (s .capacity + 1) - brick * imageRoom ≡ 512 * (s .capacity + 1)
       cut = omega arith
 
   -- what the brick gave and left, settled
@@ -231,25 +232,25 @@ module _ (b : Bench) (k brick : ℕ) (msg : Message) (images numbers bytes : Lis
       → block ≡ outcome s brick codeImage msg codeBlock zeros .out → length new ≡ length codeImage
       → Settled b g block numbers bytes at out r numbers′ bytes′ out′
       → (kept : List ℕ) → Turned b (lent images kept numbers bytes) at out (carries s (worldIn b (lent images kept numbers bytes)) k (itemAt (s .size) numbers bytes k)) r
-      (lent (putMid (brick * 2560) (brick * 2560 + 512 * (s .capacity + 1) - brick * 2560) images new) kept numbers′ bytes′) out′
+      (lent (putMid (brick * imageRoom) (brick * imageRoom + 512 * (s .capacity + 1) - brick * imageRoom) images new) kept numbers′ bytes′) out′
   unfolding imageSize
   deliver-settled new block zeros numbers′ bytes′ at out out′ r g ez eg ei eo long d kept =
       let c = code-outcome zeros ez in
       subst (λ (i : List ℕ). Turned b (lent images kept numbers bytes) at out (carries s w′ k (itemAt (s .size) numbers bytes k)) r (lent i kept numbers′ bytes′) out′)
-      (sym (put-mid (brick * 2560) (brick * 2560 + 512 * (s .capacity + 1)) images new (omega arith) (size ∙ sym cut)))
+      (sym (put-mid (brick * imageRoom) (brick * imageRoom + 512 * (s .capacity + 1)) images new (omega arith) (size ∙ sym cut)))
       (delivered-by kept new block numbers′ bytes′ at out out′ r (ei ∙ ap (λ (v : Outcome). v .image) c) (eo ∙ ap (λ (v : Outcome). v .out) c) size g (eg ∙ ap (λ (v : Outcome). v .given) c) d)
     where
       w′ : World
       w′ = worldIn b (lent images kept numbers bytes)
 
-      cut : brick * 2560 + 512 * (s .capacity + 1) - brick * 2560 ≡ 512 * (s .capacity + 1)
+      cut : brick * imageRoom + 512 * (s .capacity + 1) - brick * imageRoom ≡ 512 * (s .capacity + 1)
       cut = omega arith
 
       size : length new ≡ 512 * (s .capacity + 1)
-      size = long ∙ ap (λ (j : ℕ). length (take j (drop (brick * 2560) images))) cut ∙ image-long
+      size = long ∙ ap (λ (j : ℕ). length (take j (drop (brick * imageRoom) images))) cut ∙ image-long
 
   -- the limit holds after it
-  pub deliver-room : (zeros : List ℕ) (g : Given) → g ≡ outcome s brick codeImage msg codeBlock zeros .given → sentAfterMessage (b .sent) g ≤ 127
+  pub deliver-room : (zeros : List ℕ) (g : Given) → g ≡ outcome s brick codeImage msg codeBlock zeros .given → sentAfterMessage (b .sent) g ≤ lastMessage
   deliver-room zeros g e = room s brick codeImage msg codeBlock zeros (b .sent) g (l .few) (q .may-send) e
 
 -- the ways in which it does not come to that
@@ -284,7 +285,7 @@ module _ (b : Bench) (k brick : ℕ) (images numbers bytes : List ℕ) (m : isRe
         (world-up b images kept numbers bytes brick true u) (ap (maySend (msg .kind)) (sent-length b images kept numbers bytes) ∙ c))
         (t (lent images kept numbers bytes))
 
-  pub carried-lost : (kept : List ℕ) (at : ℕ) (out : List ℕ) → brick < b .settings .n → upOf (b .up) brick ≡ false → b .sent ≤ 127
+  pub carried-lost : (kept : List ℕ) (at : ℕ) (out : List ℕ) → brick < b .settings .n → upOf (b .up) brick ≡ false → b .sent ≤ lastMessage
       → Carried kept at out out (record { bench = b; used = at })
   carried-lost kept at out h u f =
       by-way kept at out out (record { bench = b; used = at }) (passes (worldIn b (lent images kept numbers bytes)))
@@ -294,10 +295,10 @@ module _ (b : Bench) (k brick : ℕ) (images numbers bytes : List ℕ) (m : isRe
       (turned-nothing b (lent images kept numbers bytes) at out f)
 
 -- a brick's flag as the code reads it
-pub flag-up : (up : List ℕ) (brick d : ℕ) → brick < length up → getD up brick d ≡ 1 → upOf up brick ≡ true
+pub flag-up : (up : List ℕ) (brick d : ℕ) → brick < length up → getD up brick d ≡ upFlag → upOf up brick ≡ true
 unfolding upOf
-flag-up up brick d h e = eq-eqb (getD up brick 1) 1 (any-default up brick 1 d h ∙ e)
+flag-up up brick d h e = eq-eqb (getD up brick upFlag) upFlag (any-default up brick upFlag d h ∙ e)
 
-pub flag-down : (up : List ℕ) (brick d : ℕ) → brick < length up → (getD up brick d ≡ 1 → ⊥) → upOf up brick ≡ false
+pub flag-down : (up : List ℕ) (brick d : ℕ) → brick < length up → (getD up brick d ≡ upFlag → ⊥) → upOf up brick ≡ false
 unfolding upOf
-flag-down up brick d h e = ne-eqb (getD up brick 1) 1 (λ q. e (any-default up brick d 1 h ∙ q))
+flag-down up brick d h e = ne-eqb (getD up brick upFlag) upFlag (λ q. e (any-default up brick d upFlag h ∙ q))

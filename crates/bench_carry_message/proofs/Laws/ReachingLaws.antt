@@ -1,4 +1,4 @@
--- Laws of `specs/Deliver`.
+-- What a set that is ready lends to a message.
 use Rattle.bench_state.specs.declared.Bench.{Bench}
 use Rattle.bench_rules.specs.Turning.{Lent}
 use Rattle.bench_rules.specs.Workers.{BenchReady}

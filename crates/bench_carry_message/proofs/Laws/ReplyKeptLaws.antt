@@ -8,6 +8,7 @@ use lib.Dec.{eqb, ltb}
 use lib.ListN.{length}
 use borrow.Author.Tests.{eq-eqb, ne-eqb, ltb-true}
 use Rattle.settings.specs.declared.Settings.{Settings}
+use Rattle.message.specs.Kinds.{trimKind}
 use Rattle.message.specs.declared.Message.{Message}
 use Rattle.message.specs.declared.Reply.{Reply}
 use Rattle.image.specs.Parse.{Parsed, Opens, Refuses, parse}
@@ -27,6 +28,7 @@ use Rattle.bench_rules.specs.Turning.{Lent, lent, worldIn}
 use Rattle.bench_rules.specs.Workers.{Turned}
 use Rattle.bench_rules.specs.declared.After.{After}
 use Rattle.bench_carry_message.specs.Workers.{Settled, maySend, sentAfterMessage, toldOf}
+use Rattle.bench_limits.specs.Limits.{lastMessage}
 
 -- the two ways of an outcome: refused with every byte kept, or acted on an opened image
 module _ (s : Settings) (brick : ℕ) (l : List ℕ) (msg : Message) (block out : List ℕ) where
@@ -42,12 +44,12 @@ module _ (s : Settings) (brick : ℕ) (l : List ℕ) (msg : Message) (block out 
       go : (t : Bool) (p : Parsed)
           → cond t (accepted s brick msg block l out p) (refusedWith (receiveRefusal s brick l msg (length block) (length out)) l out) .given ≡ Refused n
           → cond t (accepted s brick msg block l out p) (refusedWith (receiveRefusal s brick l msg (length block) (length out)) l out) .image ≡ l
-      go true (Opens x) e = absurd (never (eqb (msg .kind) 5) (replyTo s brick x msg) e)
+      go true (Opens x) e = absurd (never (eqb (msg .kind) trimKind) (replyTo s brick x msg) e)
       go true (Refuses k) e = refl
       go false p e = refl
 
   -- "Trim t: no reply"
-  pub trim-silent : (r : Reply) → eqb (msg .kind) 5 ≡ true → outcome s brick l msg block out .given ≡ Answered r → ⊥
+  pub trim-silent : (r : Reply) → eqb (msg .kind) trimKind ≡ true → outcome s brick l msg block out .given ≡ Answered r → ⊥
   unfolding outcome accepted givenBy refusedWith
   trim-silent r q = go (eqb (receiveRefusal s brick l msg (length block) (length out)) 0) (parse s brick l)
     where
@@ -57,36 +59,36 @@ module _ (s : Settings) (brick : ℕ) (l : List ℕ) (msg : Message) (block out 
 
       go : (t : Bool) (p : Parsed)
           → cond t (accepted s brick msg block l out p) (refusedWith (receiveRefusal s brick l msg (length block) (length out)) l out) .given ≡ Answered r → ⊥
-      go true (Opens x) e = never (eqb (msg .kind) 5) (replyTo s brick x msg) q e
+      go true (Opens x) e = never (eqb (msg .kind) trimKind) (replyTo s brick x msg) q e
       go true (Refuses k) e = let z : _≡_ {A = ℕ} 0 1 = cc in absurd (omega arith)
       go false p e = let z : _≡_ {A = ℕ} 0 1 = cc in absurd (omega arith)
 
   -- what may be sent stays within message 127
-  pub room : (k : ℕ) (g : Given) → k ≤ 127 → maySend (msg .kind) k ≡ true → g ≡ outcome s brick l msg block out .given → sentAfterMessage k g ≤ 127
+  pub room : (k : ℕ) (g : Given) → k ≤ lastMessage → maySend (msg .kind) k ≡ true → g ≡ outcome s brick l msg block out .given → sentAfterMessage k g ≤ lastMessage
   unfolding maySend sentAfterMessage
-  room k (Answered r) h m e = go (eqb (msg .kind) 5) refl m
+  room k (Answered r) h m e = go (eqb (msg .kind) trimKind) refl m
     where
-      go : (t : Bool) → eqb (msg .kind) 5 ≡ t → t || ltb k 127 ≡ true → k + 1 ≤ 127
+      go : (t : Bool) → eqb (msg .kind) trimKind ≡ t → t || ltb k lastMessage ≡ true → k + 1 ≤ lastMessage
       go true q z = absurd (trim-silent r q (sym e))
-      go false q z = let w = ltb-true k 127 z in omega arith
+      go false q z = let w = ltb-true k lastMessage z in omega arith
   room k Silent h m e = h
   room k (Refused n) h m e = h
 
 -- the two ways of the limit
-pub may-trim : (kind sent : ℕ) → kind ≡ 5 → true ≡ maySend kind sent
+pub may-trim : (kind sent : ℕ) → kind ≡ trimKind → true ≡ maySend kind sent
 unfolding maySend
 may-trim kind sent e = sym (rw (eq-eqb kind 5 e) refl)
 
-pub may-other : (kind sent : ℕ) → (kind ≡ 5 → ⊥) → ltb sent 127 ≡ maySend kind sent
+pub may-other : (kind sent : ℕ) → (kind ≡ trimKind → ⊥) → ltb sent lastMessage ≡ maySend kind sent
 unfolding maySend
 may-other kind sent e = sym (rw (ne-eqb kind 5 e) refl)
 
 -- what the limit means for each answer
-pub room-answered : (k : ℕ) (g : Given) (r : Reply) → g ≡ Answered r → sentAfterMessage k g ≤ 127 → k < 127
+pub room-answered : (k : ℕ) (g : Given) (r : Reply) → g ≡ Answered r → sentAfterMessage k g ≤ lastMessage → k < lastMessage
 unfolding sentAfterMessage
 room-answered k g r e h = let q : sentAfterMessage k g ≡ k + 1 = ap (sentAfterMessage k) e in omega arith
 
-pub room-any : (k : ℕ) (g : Given) → sentAfterMessage k g ≤ 127 → k ≤ 127
+pub room-any : (k : ℕ) (g : Given) → sentAfterMessage k g ≤ lastMessage → k ≤ lastMessage
 unfolding sentAfterMessage
 room-any k (Answered r) h = omega arith
 room-any k Silent h = h
@@ -99,7 +101,7 @@ module _ (b : Bench) (block numbers bytes : List ℕ) (at : ℕ) (out : List ℕ
 
   -- a reply is one more item
   pub settled-answered : (g : Given) (a : Reply) (bench : Bench) (numbers′ bytes′ : List ℕ) → g ≡ Answered a → length block ≡ b .settings .size
-      → b .sent < 127 → bench ≡ withSent b (b .sent + 1) → Added (b .sent) block numbers bytes numbers′ bytes′ (reply a block)
+      → b .sent < lastMessage → bench ≡ withSent b (b .sent + 1) → Added (b .sent) block numbers bytes numbers′ bytes′ (reply a block)
       → Settled b g block numbers bytes at out (record { bench = bench; used = at }) numbers′ bytes′ out
   unfolding repliedWith toldOf withSent worldIn worldOf
   settled-answered g a bench numbers′ bytes′ e n h eb d =
@@ -107,14 +109,14 @@ module _ (b : Bench) (block numbers bytes : List ℕ) (at : ℕ) (out : List ℕ
       (record {
         world-is = λ images kept. ap (λ (v : Bench). worldIn v (lent images kept numbers′ bytes′)) eb ∙ ap (worldOf b images kept) (d .items (b .settings .size) n);
         settings-kept = ap (λ (v : Bench). v .settings) eb;
-        few = subst (λ (x : ℕ). x ≤ 127) (sym (ap (λ (v : Bench). v .sent) eb)) (omega arith);
+        few = subst (λ (x : ℕ). x ≤ lastMessage) (sym (ap (λ (v : Bench). v .sent) eb)) (omega arith);
         text-is = sym (written-nothing at out);
         used-is = omega arith;
         short = omega arith;
       })
 
   -- silence leaves all
-  pub settled-silent : (g : Given) → g ≡ Silent → b .sent ≤ 127 → Settled b g block numbers bytes at out (record { bench = b; used = at }) numbers bytes out
+  pub settled-silent : (g : Given) → g ≡ Silent → b .sent ≤ lastMessage → Settled b g block numbers bytes at out (record { bench = b; used = at }) numbers bytes out
   unfolding repliedWith toldOf
   settled-silent g e h =
       subst (λ (v : Given). Settled b v block numbers bytes at out (record { bench = b; used = at }) numbers bytes out) (sym e)

@@ -2,14 +2,15 @@ use native.Mathlib.Omega.{arith}
 use Prim.Native.Nat.{_<_}
 use lib.ListN.{length}
 use mathlib.Core.Path.{_≡_, sym, _∙_}
-use Rattle.bench_sent.proofs.Laws.SendLaws.{eight-cut, eight-long}
+use Rattle.bench_sent.proofs.Laws.SendLaws.{zeros-cut, zeros-cut-long}
 use Rattle.bench_carry_message.proofs.Laws.DeliverLaws.{carried-nowhere, carried-lost, carried-past, item-here, flag-up, flag-down}
 use borrow.Author.Needs.{needs}
 use Rattle.bench_carry_message.proofs.carry_message.Statement.{statement}
 use Rattle.bench_carry_message.proofs.carry_message.Tie as tie
+use Rattle.bench_limits.specs.Limits.{benchBricks}
 
 -- there is a flag for each brick of the set
-up-there : (s : tie.Start) → length (s .args .b .up) ≡ 4
+up-there : (s : tie.Start) → length (s .args .b .up) ≡ benchBricks
 up-there s = search needs
 
 up-low : (c : tie.Else1) → c .before .before .brick-at .result < length (c .before .before .before .before .before .before .before .before .before .args .b .up)
@@ -31,7 +32,8 @@ returns : tie.Need-returns
 returns c =
     λ kept.
     let s = c .before .before .before .before .before .before .before .before .before .before .before .before .before in
-    carried-nowhere (s .args .b) (s .args .k) _ (s .args .images .now) (s .args .numbers .now) (s .args .bytes .now) (s .pre .1 .0) (c .before .before .before .before .before .before .brick-at .ensures)
+    carried-nowhere (s .args .b) (s .args .k) _ (s .args .images .now) (s .args .numbers .now) (s .args .bytes .now) (s .pre .1 .0)
+    (c .before .before .before .before .before .before .brick-at .ensures)
     kept (s .args .at) (s .args .out .now) _ _ (c .before .before .before .before .if1 .taken) (c .before .before .refuse .ensures)
 
 array-read-if2 : tie.Need-array-read-if2
@@ -69,15 +71,20 @@ returns-3 : tie.Need-returns-3
 returns-3 c =
     λ kept.
     let s = c .before .before .before .before .before .before .before .before .before .before .before .before .before .before .before .before .before .before .before .before in
-    carried-past (s .args .b) (s .args .k) _ (s .args .images .now) (s .args .numbers .now) (s .args .bytes .now) (s .pre .1 .0) (c .before .before .before .before .before .before .before .before .before .before .before .before .before .brick-at .ensures)
-    kept (s .args .at) (s .args .out .now) _ _ _ (c .before .before .before .before .before .before .message-at .ensures) (c .before .before .before .before .before .before .before .before .before .before .before .if1 .left) (flag-up (s .args .b .up) _ _ (up-low (c .before .before .before .before .before .before .before .before .before .before .before)) (c .before .before .before .before .before .before .before .before .before .if2 .left))
+    carried-past (s .args .b) (s .args .k) _ (s .args .images .now) (s .args .numbers .now) (s .args .bytes .now) (s .pre .1 .0)
+    (c .before .before .before .before .before .before .before .before .before .before .before .before .before .brick-at .ensures)
+    kept (s .args .at) (s .args .out .now) _ _ _ (c .before .before .before .before .before .before .message-at .ensures)
+    (c .before .before .before .before .before .before .before .before .before .before .before .if1 .left)
+    (flag-up (s .args .b .up) _ _ (up-low (c .before .before .before .before .before .before .before .before .before .before .before))
+    (c .before .before .before .before .before .before .before .before .before .if2 .left))
     (sym (c .before .before .before .before .before .may-send .ensures) ∙ c .before .before .before .before .if3 .left) (c .before .before .refuse2 .ensures)
 
 array-borrow-prefix-block : tie.Need-array-borrow-prefix-block
 array-borrow-prefix-block c = search needs
 
 slice-aggregate-deliver-with : tie.Need-slice-aggregate-deliver-with
-slice-aggregate-deliver-with c = sym (eight-long _ (c .before .before .before .before .before .before .before .before .before .before .before .before .before .before .before .before .before .pre .0 .0 .fits .size-fits))
+slice-aggregate-deliver-with c =
+    sym (zeros-cut-long _ (c .before .before .before .before .before .before .before .before .before .before .before .before .before .before .before .before .before .pre .0 .0 .fits .size-fits))
 
 deliver-with-requires : tie.Need-deliver-with-requires
 deliver-with-requires c κs =
@@ -88,12 +95,15 @@ deliver-with-requires c κs =
         record {
           sent-before = s .pre .0 .1;
           there = there;
-          item-is = item-here (s .args .b) (s .args .k) _ (s .args .images .now) (s .args .numbers .now) (s .args .bytes .now) (s .pre .1 .0) (c .before .before .before .before .before .before .before .before .before .before .before .before .before .before .brick-at .ensures) _ (c .before .before .before .before .before .before .before .message-at .ensures);
-          is-up = flag-up (s .args .b .up) _ _ (up-low (c .before .before .before .before .before .before .before .before .before .before .before .before)) (c .before .before .before .before .before .before .before .before .before .before .if2 .left);
+          item-is = item-here (s .args .b) (s .args .k) _ (s .args .images .now) (s .args .numbers .now) (s .args .bytes .now) (s .pre .1 .0)
+              (c .before .before .before .before .before .before .before .before .before .before .before .before .before .before .brick-at .ensures) _
+              (c .before .before .before .before .before .before .before .message-at .ensures);
+          is-up = flag-up (s .args .b .up) _ _ (up-low (c .before .before .before .before .before .before .before .before .before .before .before .before))
+              (c .before .before .before .before .before .before .before .before .before .before .if2 .left);
           may-send = sym (c .before .before .before .before .before .before .may-send .ensures) ∙ c .before .before .before .before .before .if3 .taken;
         },
       ),
-      (eight-cut (s .args .b .settings .size) (s .pre .0 .0 .fits .size-fits), s .pre .1 .1),
+      (zeros-cut (s .args .b .settings .size) (s .pre .0 .0 .fits .size-fits), s .pre .1 .1),
     )
 
 same-length-7 : tie.Need-same-length-7

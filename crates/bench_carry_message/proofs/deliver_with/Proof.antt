@@ -77,10 +77,12 @@ same-length-5 c = search needs
 
 returns : tie.Need-returns
 returns c =
-    let s = c .before .before .before .before .before .before .before .before .before .before .before .before .before .before .before .before .before .before .before .before .before .before .before .before .before .before .before .before in
+    let s = c .before .before .before .before .before .before .before .before .before .before .before .before .before .before .before .before .before .before .before .before .before .before .before
+    .before .before .before .before .before in
     let e = c .before .before .before .before .before .before .before .before .before .before .before .before .before .before .before .receive in
     deliver-settled (s .args .b) (s .args .k) (s .args .brick) (s .args .msg) (s .args .images .now) (s .args .numbers .now) (s .args .bytes .now) (s .pre .0 .0) (s .pre .0 .1)
-    _ _ (s .args .block .now) _ _ (s .args .at) (s .args .out .now) _ _ _ (s .pre .1 .0) (e .ensures .0) (e .ensures .1 .0) (e .ensures .1 .1) (e .kept .1 .1 .0) (c .before .before .before .before .before .before .settle .ensures)
+    _ _ (s .args .block .now) _ _ (s .args .at) (s .args .out .now) _ _ _ (s .pre .1 .0) (e .ensures .0) (e .ensures .1 .0) (e .ensures .1 .1) (e .kept .1 .1 .0)
+    (c .before .before .before .before .before .before .settle .ensures)
 
 pub deliver-with-spec : {M : Type 1} → statement M
 deliver-with-spec =

@@ -43,7 +43,9 @@ returns : tie.Need-returns
 returns c =
     let s = c .before .before .before .before .before .before .before .before .before .before .before .before .before .before .before .before in
     settled-answered (s .args .b) (s .args .block .now) (s .args .numbers .now) (s .args .bytes .now) (s .args .at) (s .args .out .now) (s .args .g) _ _ _ _
-    (c .before .before .before .before .before .before .before .before .before .before .g .given .1) (s .pre .0 .1) (room-answered (s .args .b .sent) (s .args .g) _ (c .before .before .before .before .before .before .before .before .before .before .g .given .1) (s .pre .0 .0)) (c .with-sent .ensures) (c .before .before .before .before .before .before .put-reply .ensures .1 .1)
+    (c .before .before .before .before .before .before .before .before .before .before .g .given .1) (s .pre .0 .1)
+    (room-answered (s .args .b .sent) (s .args .g) _ (c .before .before .before .before .before .before .before .before .before .before .g .given .1) (s .pre .0 .0)) (c .with-sent .ensures)
+    (c .before .before .before .before .before .before .put-reply .ensures .1 .1)
 
 returns-2 : tie.Need-returns-2
 returns-2 c =

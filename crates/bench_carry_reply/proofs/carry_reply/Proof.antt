@@ -20,7 +20,8 @@ same-length-2 c = search needs
 returns : tie.Need-returns
 returns c =
     let s = c .before .before .before .before .before .before .before .before .before .before .before .before in
-    reply-past (s .args .b) (s .args .k) (s .args .kept .now) (s .args .numbers .now) (s .args .bytes .now) (s .args .at) (s .args .out .now) _ _ (s .pre .1 .1) (c .before .before .before .before .before .before .reply-at .ensures) _ (c .before .before .before .before .if1 .taken) (c .before .before .refuse .ensures)
+    reply-past (s .args .b) (s .args .k) (s .args .kept .now) (s .args .numbers .now) (s .args .bytes .now) (s .args .at) (s .args .out .now) _ _ (s .pre .1 .1)
+    (c .before .before .before .before .before .before .reply-at .ensures) _ (c .before .before .before .before .if1 .taken) (c .before .before .refuse .ensures)
 
 mul-data : tie.Need-mul-data
 mul-data c = search needs
@@ -50,7 +51,8 @@ reply-with-requires : tie.Need-reply-with-requires
 reply-with-requires c κs =
     let s = c .before .before .before .before .before .before .before .before .before .before .before .before .before .before .before .before .before .before in
     let long = sym (front-long _ (s .pre .0 .fits .small .blocks-fit)) in (
-      seat-at (s .args .b) 0 _ (s .args .kept .now) (s .args .numbers .now) (s .args .bytes .now) (s .args .at) (s .args .out .now) (s .pre .0) (c .before .before .before .before .before .before .before .before .before .before .if1 .left),
+      seat-at (s .args .b) 0 _ (s .args .kept .now) (s .args .numbers .now) (s .args .bytes .now) (s .args .at) (s .args .out .now) (s .pre .0)
+          (c .before .before .before .before .before .before .before .before .before .before .if1 .left),
       (
         record { blocks-long = long; stripe-long = sym (front-long _ (s .pre .0 .fits .small .stripe-fits)); coded-long = long },
         (s .pre .1 .0, s .pre .1 .1, c .before .before .before .before .before .before .before .before .before .before .before .before .reply-at .ensures, refl),
@@ -71,8 +73,13 @@ same-length-6 c = search needs
 
 returns-2 : tie.Need-returns-2
 returns-2 c =
-    let s = c .before .before .before .before .before .before .before .before .before .before .before .before .before .before .before .before .before .before .before .before .before .before .before .before .before .before .before .before .before .before in
-    reply-here (s .args .b) (s .args .k) (s .args .kept .now) (s .args .numbers .now) (s .args .bytes .now) (s .args .at) (s .args .out .now) _ _ (s .pre .1 .1) (c .before .before .before .before .before .before .before .before .before .before .before .before .before .before .before .before .before .before .before .before .before .before .before .before .reply-at .ensures) _ _ _ _ (c .before .before .before .before .before .before .before .before .before .before .before .before .before .before .before .before .before .before .before .before .before .before .if1 .left) (c .before .before .before .before .before .before .before .before .before .before .before .reply-with .ensures)
+    let s = c .before .before .before .before .before .before .before .before .before .before .before .before .before .before .before .before .before .before .before .before .before .before .before
+    .before .before .before .before .before .before .before in
+    reply-here (s .args .b) (s .args .k) (s .args .kept .now) (s .args .numbers .now) (s .args .bytes .now) (s .args .at) (s .args .out .now) _ _ (s .pre .1 .1)
+    (c .before .before .before .before .before .before .before .before .before .before .before .before .before .before .before .before .before .before .before .before .before .before .before
+    .before .reply-at .ensures) _ _ _ _
+    (c .before .before .before .before .before .before .before .before .before .before .before .before .before .before .before .before .before .before .before .before .before .before .if1 .left)
+    (c .before .before .before .before .before .before .before .before .before .before .before .reply-with .ensures)
 
 pub carry-reply-spec : {M : Type 1} → statement M
 carry-reply-spec =

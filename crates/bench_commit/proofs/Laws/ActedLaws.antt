@@ -38,6 +38,7 @@ use Rattle.bench_commit.proofs.Laws.CommitLaws.{Numbered, answered-is-a
 use Rattle.bench_commit.proofs.Laws.CommitStepLaws.{write-numbered, write-blocks, write-coded, read-numbered, read-blocks, read-stripe, read-coded, crash-numbered, crash-blocks}
 use Rattle.bench_commit.proofs.Laws.CommitStepLaws.{crash-stripe, crash-coded, take-numbered}
 use Rattle.bench_commit.specs.Workers.{BenchActed, Plays}
+use Rattle.bench_limits.specs.Limits.{benchCoordinators, stripeRoom, keptRoom}
 
 -- a start that is refused stays so, and one that is not is refused for its digits
 short-refuses : (s : Settings) (w : World) (e : Event) (c : ℕ) (st : Coordinator) (q : Step) (a : Answer) (ok : Bool) → a ≡ answerOf st q → Numbered q
@@ -85,15 +86,15 @@ module _ (b : Bench) (c : ℕ) (kept numbers bytes : List ℕ) (at : ℕ) (out :
       }
 
   -- the copies are what the coordinator keeps
-  copied : (old : Coordinator) (blocks stripe : List ℕ) → c < 4 → old ≡ getD (b .coordinators) c (idleAt c)
-      → blocks ≡ take (b .settings .n * b .settings .size) (drop (c * 64) kept)
-      → stripe ≡ take (b .settings .m * b .settings .size) (drop (c * 64 + 32) kept) → buffered old blocks stripe ≡ here
+  copied : (old : Coordinator) (blocks stripe : List ℕ) → c < benchCoordinators → old ≡ getD (b .coordinators) c (idleAt c)
+      → blocks ≡ take (b .settings .n * b .settings .size) (drop (c * keptRoom) kept)
+      → stripe ≡ take (b .settings .m * b .settings .size) (drop (c * keptRoom + stripeRoom) kept) → buffered old blocks stripe ≡ here
   unfolding coordinatorKept buffered
-  copied old blocks stripe l e eb es = rw (lt-ltb c 4 l) cc
+  copied old blocks stripe l e eb es = rw (lt-ltb c benchCoordinators l) cc
 
-  module _ (old : Coordinator) (blocks stripe : List ℕ) (low : c < 4) (eo : old ≡ getD (b .coordinators) c (idleAt c))
-      (eb : blocks ≡ take (b .settings .n * b .settings .size) (drop (c * 64) kept))
-      (es : stripe ≡ take (b .settings .m * b .settings .size) (drop (c * 64 + 32) kept)) where
+  module _ (old : Coordinator) (blocks stripe : List ℕ) (low : c < benchCoordinators) (eo : old ≡ getD (b .coordinators) c (idleAt c))
+      (eb : blocks ≡ take (b .settings .n * b .settings .size) (drop (c * keptRoom) kept))
+      (es : stripe ≡ take (b .settings .m * b .settings .size) (drop (c * keptRoom + stripeRoom) kept)) where
     same : buffered old blocks stripe ≡ here
     same = copied old blocks stripe low eo eb es
 
@@ -265,44 +266,44 @@ module _ (b : Bench) (c : ℕ) (kept numbers bytes : List ℕ) (at : ℕ) (out :
 
 module _ (b : Bench) (c : ℕ) (kept numbers bytes : List ℕ) (at : ℕ) (out : List ℕ) (r : After) where
   -- a coordinator past the bench's
-  past-at : (q : World → Played) (out′ : List ℕ) → 4 ≤ c → ((l : Lent) → Turned b l at out (refuses (worldIn b l) 3) r l out′)
+  past-at : (q : World → Played) (out′ : List ℕ) → benchCoordinators ≤ c → ((l : Lent) → Turned b l at out (refuses (worldIn b l) 3) r l out′)
       → Plays b (λ (w : World). atCoordinator w c (q w)) kept numbers bytes at out r kept numbers bytes out′
   unfolding atCoordinator
-  past-at q out′ h t = record { turned = λ images. rw (le-ltb c 4 h) (t (lent images kept numbers bytes)) }
+  past-at q out′ h t = record { turned = λ images. rw (le-ltb c benchCoordinators h) (t (lent images kept numbers bytes)) }
 
-  here-at : (e : Event) (p : Buffered → Step) (kept′ numbers′ bytes′ out′ : List ℕ) → c < 4 → BenchActed b c e p kept numbers bytes at out r kept′ numbers′ bytes′ out′
+  here-at : (e : Event) (p : Buffered → Step) (kept′ numbers′ bytes′ out′ : List ℕ) → c < benchCoordinators → BenchActed b c e p kept numbers bytes at out r kept′ numbers′ bytes′ out′
       → Plays b (λ (w : World). atCoordinator w c (acts (b .settings) w e c (p (w .coordinators c)))) kept numbers bytes at out r kept′ numbers′ bytes′ out′
   unfolding atCoordinator
-  here-at e p kept′ numbers′ bytes′ out′ h a = record { turned = λ images. rw (lt-ltb c 4 h) (a .turned images) }
+  here-at e p kept′ numbers′ bytes′ out′ h a = record { turned = λ images. rw (lt-ltb c benchCoordinators h) (a .turned images) }
 
-  pub read-past : (clock brick : ℕ) (out′ : List ℕ) → 4 ≤ c → ((l : Lent) → Turned b l at out (refuses (worldIn b l) 3) r l out′)
+  pub read-past : (clock brick : ℕ) (out′ : List ℕ) → benchCoordinators ≤ c → ((l : Lent) → Turned b l at out (refuses (worldIn b l) 3) r l out′)
       → Plays b (λ (w : World). starts (b .settings) w c clock brick) kept numbers bytes at out r kept numbers bytes out′
   unfolding starts
   read-past clock brick out′ h t = past-at _ out′ h t
 
-  pub read-here : (clock brick : ℕ) (kept′ numbers′ bytes′ out′ : List ℕ) → c < 4
+  pub read-here : (clock brick : ℕ) (kept′ numbers′ bytes′ out′ : List ℕ) → c < benchCoordinators
       → BenchActed b c (startRead c clock brick) (λ (h : Buffered). readStep (b .settings .n) (b .settings .m) (b .settings .size) h clock brick) kept numbers bytes at out r kept′ numbers′ bytes′ out′
       → Plays b (λ (w : World). starts (b .settings) w c clock brick) kept numbers bytes at out r kept′ numbers′ bytes′ out′
   unfolding starts
   read-here clock brick kept′ numbers′ bytes′ out′ h a = here-at _ _ kept′ numbers′ bytes′ out′ h a
 
-  pub crash-past : (out′ : List ℕ) → 4 ≤ c → ((l : Lent) → Turned b l at out (refuses (worldIn b l) 3) r l out′)
+  pub crash-past : (out′ : List ℕ) → benchCoordinators ≤ c → ((l : Lent) → Turned b l at out (refuses (worldIn b l) 3) r l out′)
       → Plays b (λ (w : World). crashesAt (b .settings) w c) kept numbers bytes at out r kept numbers bytes out′
   unfolding crashesAt
   crash-past out′ h t = past-at _ out′ h t
 
-  pub crash-here : (kept′ numbers′ bytes′ out′ : List ℕ) → c < 4
+  pub crash-here : (kept′ numbers′ bytes′ out′ : List ℕ) → c < benchCoordinators
       → BenchActed b c (crashes c untouched) (λ (h : Buffered). crashStep (b .settings .n) (b .settings .m) (b .settings .size) h) kept numbers bytes at out r kept′ numbers′ bytes′ out′
       → Plays b (λ (w : World). crashesAt (b .settings) w c) kept numbers bytes at out r kept′ numbers′ bytes′ out′
   unfolding crashesAt
   crash-here kept′ numbers′ bytes′ out′ h a = here-at _ (λ (x : Buffered). crashStep (b .settings .n) (b .settings .m) (b .settings .size) x) kept′ numbers′ bytes′ out′ h a
 
-  pub write-past : (clock : ℕ) (digits out′ : List ℕ) → 4 ≤ c → ((l : Lent) → Turned b l at out (refuses (worldIn b l) 3) r l out′)
+  pub write-past : (clock : ℕ) (digits out′ : List ℕ) → benchCoordinators ≤ c → ((l : Lent) → Turned b l at out (refuses (worldIn b l) 3) r l out′)
       → Plays b (λ (w : World). writes (b .settings) w c clock digits) kept numbers bytes at out r kept numbers bytes out′
   unfolding writes
   write-past clock digits out′ h t = past-at _ out′ h t
 
-  pub write-here : (clock : ℕ) (digits kept′ numbers′ bytes′ out′ : List ℕ) → c < 4
+  pub write-here : (clock : ℕ) (digits kept′ numbers′ bytes′ out′ : List ℕ) → c < benchCoordinators
       → BenchActed b c (startWrite c clock (content (b .settings) digits))
       (λ (h : Buffered). unlessShort (counted (b .settings) digits) (writeStep (b .settings .n) (b .settings .m) (b .settings .size) h clock (content (b .settings) digits)))
       kept numbers bytes at out r kept′ numbers′ bytes′ out′
@@ -318,14 +319,14 @@ module _ (b : Bench) (k : ℕ) (kept numbers bytes : List ℕ) (at : ℕ) (out :
   item-here : itemAt (b .settings .size) numbers bytes k ≡ reply reply′ (sentBlockAt (b .settings .size) bytes k)
   item-here = item-reply (b .settings .size) k reply′ (sentBlockAt (b .settings .size) bytes k) numbers bytes t er refl
 
-  pub reply-past : (out′ : List ℕ) → 4 ≤ reply′ .time % 16 → ((l : Lent) → Turned b l at out (refuses (worldIn b l) 3) r l out′)
+  pub reply-past : (out′ : List ℕ) → benchCoordinators ≤ reply′ .time % 16 → ((l : Lent) → Turned b l at out (refuses (worldIn b l) 3) r l out′)
       → Plays b (λ (w : World). carries (b .settings) w k (itemAt (b .settings .size) numbers bytes k)) kept numbers bytes at out r kept numbers bytes out′
   unfolding carries
   reply-past out′ h z =
       subst (λ (i : Item). Plays b (λ (w : World). carries (b .settings) w k i) kept numbers bytes at out r kept numbers bytes out′) (sym item-here)
       (past-at b (reply′ .time % 16) kept numbers bytes at out r _ out′ h z)
 
-  pub reply-here : (kept′ numbers′ bytes′ out′ : List ℕ) → reply′ .time % 16 < 4
+  pub reply-here : (kept′ numbers′ bytes′ out′ : List ℕ) → reply′ .time % 16 < benchCoordinators
       → BenchActed b (reply′ .time % 16) (arrives k)
       (λ (h : Buffered). takeStep (b .settings .n) (b .settings .m) (b .settings .size) h reply′ (sentBlockAt (b .settings .size) bytes k) (b .settings .n * b .settings .size))
       kept numbers bytes at out r kept′ numbers′ bytes′ out′

@@ -31,6 +31,7 @@ use Rattle.bench_rules.specs.Workers.{Turned}
 use Rattle.bench_rules.specs.declared.After.{After}
 use Rattle.bench_commit.specs.Workers.{answered, sentAfterAnswer}
 use Rattle.bench_commit.specs.Workers.{Round, Seats, Copies, Answers}
+use Rattle.bench_limits.specs.Limits.{benchCoordinators, lastMessage, stripeRoom, keptLength, lineRoom}
 
 -- a refusal has a number
 abbrev pub Numbered : Step → Type 0
@@ -43,7 +44,7 @@ pub answered-is-acts : (s : Settings) (w : World) (e : Event) (c : ℕ) (p : Ste
 unfolding answered acts happens answerOf stripeAfter
 answered-is-acts s w e c (refused number) old h n q = rw (ne-eqb number 0 n) refl
 answered-is-acts s w e c (went g) old h n q =
-    ap (λ (m : Moved s). cond (leb (length (m .world .sent)) 127) (record { world = m .world; events = e ∷ []; printed = endedText c (g .seen) (g .next .stripe) }) (refuses w 12))
+    ap (λ (m : Moved s). cond (leb (length (m .world .sent)) lastMessage) (record { world = m .world; events = e ∷ []; printed = endedText c (g .seen) (g .next .stripe) }) (refuses w 12))
     (sym (coordinated-is-driven s w c (went g) old h) ∙ sym q)
 
 -- no broadcast, one, or two
@@ -135,7 +136,7 @@ module _ (b : Bench) (l : Lent) (e : Event) (c : ℕ) (a : Answer) (blocks strip
   answered-refused at out out′ r n t = rw (ne-eqb (a .refusal) 0 n) t
 
   -- too many messages
-  pub answered-past : (at sent : ℕ) (out out′ : List ℕ) (r : After) → a .sent ≤ mostBroadcasts → a .refusal ≡ 0 → sent ≡ sentAfterAnswer (b .settings .n) (b .sent) (a .sent) → 127 < sent
+  pub answered-past : (at sent : ℕ) (out out′ : List ℕ) (r : After) → a .sent ≤ mostBroadcasts → a .refusal ≡ 0 → sent ≡ sentAfterAnswer (b .settings .n) (b .sent) (a .sent) → lastMessage < sent
       → Turned b l at out (refuses (worldIn b l) 12) r l out′ → Turned b l at out (answered (b .settings) (worldIn b l) e c a blocks stripe coded) r l out′
   unfolding answered
   answered-past at sent out out′ r most z q h t =
@@ -143,12 +144,12 @@ module _ (b : Bench) (l : Lent) (e : Event) (c : ℕ) (a : Answer) (blocks strip
 
   -- kept, sent and printed
   pub answered-kept : (at sent used : ℕ) (out out′ kept′ numbers′ bytes′ : List ℕ) → a .sent ≤ mostBroadcasts → a .refusal ≡ 0 → sent ≡ sentAfterAnswer (b .settings .n) (b .sent) (a .sent) →
-      sent ≤ 127
-      → Fits (b .settings) → c < 4 → length (b .coordinators) ≡ 4 → length (l .kept) ≡ 256
+      sent ≤ lastMessage
+      → Fits (b .settings) → c < benchCoordinators → length (b .coordinators) ≡ benchCoordinators → length (l .kept) ≡ keptLength
       → length blocks ≡ b .settings .n * b .settings .size → length stripe ≡ b .settings .m * b .settings .size
       → Round (b .settings) (b .sent) (a .sent) (a .message) (a .second) coded (l .numbers) (l .bytes) numbers′ bytes′
       → kept′ ≡ keptWith c blocks stripe (l .kept)
-      → used ≡ at + length (endedText c (a .seen) stripe) → out′ ≡ written at (endedText c (a .seen) stripe) out → used ≤ at + 128
+      → used ≡ at + length (endedText c (a .seen) stripe) → out′ ≡ written at (endedText c (a .seen) stripe) out → used ≤ at + lineRoom
       → Turned b l at out (answered (b .settings) (worldIn b l) e c a blocks stripe coded) (record { bench = withCoordinator b c (a .next) sent; used = used })
       (lent (l .images) kept′ numbers′ bytes′) out′
   unfolding answered withCoordinator worldIn worldOf driven
@@ -175,17 +176,17 @@ module _ (b : Bench) (c : ℕ) (a : Answer) (blocks stripe coded kept numbers by
   answers-refused out′ r n t =
       record { turned = λ images e. answered-refused b (lent images kept numbers bytes) e c a blocks stripe coded at out out′ r n (t (lent images kept numbers bytes)) }
 
-  pub answers-past : (sent : ℕ) (out′ : List ℕ) (r : After) → a .sent ≤ mostBroadcasts → a .refusal ≡ 0 → sent ≡ sentAfterAnswer (b .settings .n) (b .sent) (a .sent) → 127 < sent
+  pub answers-past : (sent : ℕ) (out′ : List ℕ) (r : After) → a .sent ≤ mostBroadcasts → a .refusal ≡ 0 → sent ≡ sentAfterAnswer (b .settings .n) (b .sent) (a .sent) → lastMessage < sent
       → ((l : Lent) → Turned b l at out (refuses (worldIn b l) 12) r l out′) → Answers b c a blocks stripe coded kept numbers bytes at out r kept numbers bytes out′
   answers-past sent out′ r most z q h t =
       record { turned = λ images e. answered-past b (lent images kept numbers bytes) e c a blocks stripe coded at sent out out′ r most z q h (t (lent images kept numbers bytes)) }
 
   pub answers-kept : (sent used : ℕ) (bench : Bench) (out′ kept′ numbers′ bytes′ : List ℕ) → Copies (b .settings) blocks stripe coded
-      → a .sent ≤ mostBroadcasts → a .refusal ≡ 0 → sent ≡ sentAfterAnswer (b .settings .n) (b .sent) (a .sent) → sent ≤ 127
+      → a .sent ≤ mostBroadcasts → a .refusal ≡ 0 → sent ≡ sentAfterAnswer (b .settings .n) (b .sent) (a .sent) → sent ≤ lastMessage
       → Round (b .settings) (b .sent) (a .sent) (a .message) (a .second) coded numbers bytes numbers′ bytes′
       → kept′ ≡ keptWith c blocks stripe kept
-      → used ≡ at + length (endedText c (a .seen) stripe) → out′ ≡ written at (endedText c (a .seen) stripe) out → used ≤ at + 128
-      → bench ≡ withCoordinator b c (a .next) sent → length (b .coordinators) ≡ 4
+      → used ≡ at + length (endedText c (a .seen) stripe) → out′ ≡ written at (endedText c (a .seen) stripe) out → used ≤ at + lineRoom
+      → bench ≡ withCoordinator b c (a .next) sent → length (b .coordinators) ≡ benchCoordinators
       → Answers b c a blocks stripe coded kept numbers bytes at out (record { bench = bench; used = used }) kept′ numbers′ bytes′ out′
   answers-kept sent used bench out′ kept′ numbers′ bytes′ copies most z q few round ek eu eo short eb four =
       record {
@@ -199,7 +200,7 @@ module _ (b : Bench) (c : ℕ) (a : Answer) (blocks stripe coded kept numbers by
       }
 
 -- the same at another coordinator
-pub seat-at : (b : Bench) (c d : ℕ) (kept numbers bytes : List ℕ) (at : ℕ) (out : List ℕ) → Seats b c kept numbers bytes at out → d < 4 → Seats b d kept numbers bytes at out
+pub seat-at : (b : Bench) (c d : ℕ) (kept numbers bytes : List ℕ) (at : ℕ) (out : List ℕ) → Seats b c kept numbers bytes at out → d < benchCoordinators → Seats b d kept numbers bytes at out
 seat-at b c d kept numbers bytes at out s h =
     record {
       fits = s .fits;
@@ -212,11 +213,11 @@ seat-at b c d kept numbers bytes at out s h =
     }
 
 -- the front of a buffer of 32 zeros
-pub front-zeros : (k : ℕ) → k ≤ 32 → take {A = ℕ} k (replicate 32 0) ≡ replicate k 0
+pub front-zeros : (k : ℕ) → k ≤ stripeRoom → take {A = ℕ} k (replicate stripeRoom 0) ≡ replicate k 0
 front-zeros k h =
-    let t = length-take-le k (replicate {A = ℕ} 32 0) h in
-    ext-getD 0 (take k (replicate 32 0)) (replicate k 0) (t ∙ sym (length-replicate k 0))
-    (λ i u. getD-take k (replicate 32 0) i 0 (omega arith) ∙ getD-replicate 32 i 0 0 (omega arith) ∙ sym (getD-replicate k i 0 0 (omega arith)))
+    let t = length-take-le k (replicate {A = ℕ} stripeRoom 0) h in
+    ext-getD 0 (take k (replicate stripeRoom 0)) (replicate k 0) (t ∙ sym (length-replicate k 0))
+    (λ i u. getD-take k (replicate stripeRoom 0) i 0 (omega arith) ∙ getD-replicate stripeRoom i 0 0 (omega arith) ∙ sym (getD-replicate k i 0 0 (omega arith)))
 
-pub front-long : (k : ℕ) → k ≤ 32 → k ≡ length (take {A = ℕ} k (replicate 32 0))
-front-long k h = sym (length-take-le k (replicate {A = ℕ} 32 0) h)
+pub front-long : (k : ℕ) → k ≤ stripeRoom → k ≡ length (take {A = ℕ} k (replicate stripeRoom 0))
+front-long k h = sym (length-take-le k (replicate {A = ℕ} stripeRoom 0) h)

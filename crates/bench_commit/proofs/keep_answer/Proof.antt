@@ -5,12 +5,13 @@ use Rattle.bench_commit.proofs.Laws.CommitLaws.{answers-kept}
 use borrow.Author.Needs.{needs}
 use Rattle.bench_commit.proofs.keep_answer.Statement.{statement}
 use Rattle.bench_commit.proofs.keep_answer.Tie as tie
+use Rattle.bench_limits.specs.Limits.{lastMessage, stripeRoom}
 
 send-requires : tie.Need-send-requires
 send-requires c κs =
     let s = c .before .before .before .before .before .before .before .before .before .before .before .before in
     let p = s .pre .0 in (
-      (p .fits .size-fits, subst (λ (k : ℕ). k ≤ 127) (s .pre .1 .1 .0 .1) (s .pre .1 .1 .0 .2), le-of-eq (sym (s .pre .1 .0 .coded-long))),
+      (p .fits .size-fits, subst (λ (k : ℕ). k ≤ lastMessage) (s .pre .1 .1 .0 .1) (s .pre .1 .1 .0 .2), le-of-eq (sym (s .pre .1 .0 .coded-long))),
       (p .numbers-long, p .bytes-long, s .pre .1 .1 .1),
     )
 
@@ -19,13 +20,17 @@ keep-requires c κs =
     let s = c .before .before .before .before .before .before .before .before .before .before .before .before .before .before .before .before .before .before in
     let p = s .pre .0 in (
       (p .low, p .kept-long),
-      (subst (λ (k : ℕ). k ≤ 32) (sym (s .pre .1 .0 .blocks-long)) (p .fits .small .blocks-fit), subst (λ (k : ℕ). k ≤ 32) (sym (s .pre .1 .0 .stripe-long)) (p .fits .small .stripe-fits)),
+      (
+        subst (λ (k : ℕ). k ≤ stripeRoom) (sym (s .pre .1 .0 .blocks-long)) (p .fits .small .blocks-fit),
+        subst (λ (k : ℕ). k ≤ stripeRoom) (sym (s .pre .1 .0 .stripe-long))
+            (p .fits .small .stripe-fits),
+      ),
     )
 
 put-ended-requires : tie.Need-put-ended-requires
 put-ended-requires c κs =
     let s = c .before .before .before .before .before .before .before .before .before .before .before .before .before .before .before .before .before .before .before .before .before .before .before in
-    (s .pre .0 .room, subst (λ (k : ℕ). k ≤ 32) (sym (s .pre .1 .0 .stripe-long)) (s .pre .0 .fits .small .stripe-fits))
+    (s .pre .0 .room, subst (λ (k : ℕ). k ≤ stripeRoom) (sym (s .pre .1 .0 .stripe-long)) (s .pre .0 .fits .small .stripe-fits))
 
 with-coordinator-requires : tie.Need-with-coordinator-requires
 with-coordinator-requires c κs = c .before .before .before .before .before .before .before .before .before .before .before .before .before .before .before .before .before .before .before

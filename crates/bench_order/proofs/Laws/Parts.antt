@@ -9,8 +9,9 @@ use Rattle.coord_record.specs.Records.{readingKind, writingKind}
 use Rattle.coord_record.specs.declared.Op.{Op}
 use Rattle.order.specs.Claim.{Ending, Seen}
 use Rattle.register.specs.Runs.{plain, World, Event, step}
-use Rattle.bench_rules.specs.Play.{lastMessage, Played, refuses, passes, happens, andThen}
+use Rattle.bench_rules.specs.Play.{Played, refuses, passes, happens, andThen}
 use Rattle.bench_order.proofs.Laws.ToldLaws.{told}
+use Rattle.bench_limits.specs.Limits.{lastMessage}
 
 -- The operation of this kind and time runs: it is a read or a write.
 pub record Ran (op : Op) (kind time : ℕ) : Type 0 where

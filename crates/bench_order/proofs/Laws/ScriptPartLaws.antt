@@ -20,17 +20,19 @@ use Rattle.brick.specs.declared.Given.the-variants.{Answered, Silent, Refused}
 use Rattle.coord_apply.specs.Answers.{Step, refused, went, Went}
 use Rattle.coordinator.specs.Routines.{writeStep}
 use Rattle.order.specs.Claim.{Ending, Seen}
-use Rattle.register.specs.Runs.{plain, Item, message, reply, World, untouched, Event, startWrite, startRead, arrives, crashes, goesDown, comesUp, Moved, unmoved, coordinated, repliedWith, received, arriving, arrivingAt, standing, step}
+use Rattle.register.specs.Runs.{plain, Item, message, reply, World, untouched, Event, startWrite, startRead, arrives, crashes, goesDown, comesUp, Moved, unmoved, coordinated, repliedWith, received}
+use Rattle.register.specs.Runs.{arriving, arrivingAt, standing, step}
 use Rattle.register.proofs.Laws.DriverLaws.{left-untouched}
 use Rattle.bench_parse.specs.Lines.{Line, setLine, writeLine, readLine, carryLine, crashLine, downLine, upLine, noLine}
 use Rattle.bench_print.specs.Printing.{endedText}
 use Rattle.bench_rules.specs.Content.{content, counted}
 use Rattle.bench_rules.proofs.Laws.ContentLaws.{content-small}
 use Rattle.byte_lists.proofs.Laws.LittleLaws.{bytes-pass}
-use Rattle.bench_rules.specs.Play.{lastMessage, Played, refuses, passes, happens, acts, atCoordinator, unlessShort, writes, starts, crashesAt, switches, delivered, reaches, carries, carriesAt, carried, carriedAll, plays}
+use Rattle.bench_rules.specs.Play.{Played, refuses, passes, happens, acts, atCoordinator, unlessShort, writes, starts, crashesAt, switches, delivered, reaches, carries, carriesAt, carried, carriedAll, plays}
 use Rattle.bench_order.proofs.Laws.ToldLaws.{told}
 use Rattle.bench_order.proofs.Laws.Parts.{FewSent, Ran, Part, refusing, passing, happening, both}
 use Rattle.bench_order.proofs.Laws.PrintedLaws.{Agrees, printed-is-seen, end-ran, take-agrees, crash-agrees, write-agrees, read-agrees}
+use Rattle.bench_limits.specs.Limits.{benchCoordinators, lastMessage}
 
 -- "Trim t: no reply"
 refused-not-answered : (number : ℕ) (bytes out : List ℕ) (r : Reply) → refusedWith number bytes out .given ≡ Answered r → ⊥
@@ -103,7 +105,7 @@ module _ (s : Settings) (w : World) where
 
   at-part : (c : ℕ) (p : Played) → Part s w p → Part s w (atCoordinator w c p)
   unfolding atCoordinator
-  at-part c p h = go (ltb c 4)
+  at-part c p h = go (ltb c benchCoordinators)
     where
       go : (b : Bool) → Part s w (cond b p (refuses w badNumber))
       go true = h

@@ -1,4 +1,4 @@
--- Laws of `specs/Told`.
+-- What is told of what is seen, at one coordinator.
 use mathlib.Core.List.{List, [], _∷_, _++_}
 use Prim.Native.Nat.{ℕ}
 use Rattle.settings.specs.declared.Settings.{Settings}

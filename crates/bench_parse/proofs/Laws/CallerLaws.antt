@@ -1,4 +1,4 @@
--- Laws of `specs/CallerLaws`.
+-- What callers use of a line that was read.
 use mathlib.Core.Path.{_≡_, sym, ap, subst, _∙_}
 use mathlib.Core.List.{List, [], _∷_}
 use Prim.Native.Nat.{ℕ, _+_, _≤_, _<_}

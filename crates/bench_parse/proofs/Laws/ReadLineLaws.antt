@@ -11,7 +11,8 @@ use Rattle.bench_parse.specs.Lines.{every, words, numberWord, numbersOf,
 use Rattle.bench_parse.specs.Lines.{downLine, upLine, noLine, setOf, writeWords, writeOf, readOf, carryOf, oneOf, setText}
 use Rattle.bench_parse.specs.Lines.{writeText, readText, carryText, crashText, downText, upText, commandOf, readsWords}
 use Rattle.byte_lists.specs.Lists.{same}
-use Rattle.bench_parse.specs.Lines.{reads}
+use Rattle.bench_parse.specs.Lines.{longest, reads}
+use Rattle.bench_parse.specs.Workers.{setCommand, writeCommand, readCommand, carryCommand, crashCommand, downCommand, upCommand, noCommand, afterCarry}
 use Rattle.bench_parse.specs.Workers.{wordsFrom, lineOf, LineSound}
 use Rattle.bench_parse.specs.Workers.{wordLength, ReadAs, startsNumber, others, NumberFrom, AloneOf, HexesFrom, hexAlone, commandNumber, byNumber}
 use Rattle.bench_parse.proofs.Laws.NumeralLaws.{clash, and-true, fails, passes, shifted, from-some}
@@ -57,7 +58,7 @@ pub carry-not : (l : List ℕ) (at : ℕ) (b : Bool) → at ≤ length l → b �
 unfolding carryOf
 carry-not l at b h e t = unread l (carryOf (wordsFrom l at)) (rw (le-leb 1 (length (wordsFrom l at)) (from-some l at h), ← e, t))
 
-pub carry-is : (l : List ℕ) (at : ℕ) (b : Bool) → at ≤ length l → length l ≤ 1000 → 6 ≤ at → b ≡ every numberWord (wordsFrom l at) → b ≡ true
+pub carry-is : (l : List ℕ) (at : ℕ) (b : Bool) → at ≤ length l → length l ≤ longest → afterCarry ≤ at → b ≡ every numberWord (wordsFrom l at) → b ≡ true
     → ReadAs (Carry at) l (carryOf (wordsFrom l at))
 unfolding carryOf lineOf LineSound
 carry-is l at b h s a e t =
@@ -191,7 +192,7 @@ module _ (l : List ℕ) (at : ℕ) (p : Piece) (rp : NumberFrom l at p) where
       pub write-3 : b ≡ false → ReadAs Unread l (writeOf (wordsFrom l at))
       write-3 g = write-not l at (after-two ∙ g)
 
-      pub write-is : length l ≤ 1000 → b ≡ true → ReadAs (Write (p .value) (q .value) (q .next)) l (writeOf (wordsFrom l at))
+      pub write-is : length l ≤ longest → b ≡ true → ReadAs (Write (p .value) (q .value) (q .next)) l (writeOf (wordsFrom l at))
       unfolding writeOf lineOf LineSound
       write-is s g =
           let v1 = rp .taken .value-is gp in
@@ -214,7 +215,7 @@ by-number w ws = go (same w setText) (same w writeText) (same w readText) (same 
     go : (a b c d e f g : Bool)
         → cond a (setOf ws) (cond b (writeOf ws) (cond c (readOf ws) (cond d (carryOf ws) (cond e (oneOf crashLine ws)
         (cond f (oneOf downLine ws) (cond g (oneOf upLine ws) noLine))))))
-        ≡ byNumber (cond a 1 (cond b 2 (cond c 3 (cond d 4 (cond e 5 (cond f 6 (cond g 7 0))))))) ws
+        ≡ byNumber (cond a setCommand (cond b writeCommand (cond c readCommand (cond d carryCommand (cond e crashCommand (cond f downCommand (cond g upCommand noCommand))))))) ws
     go true b c d e f g = refl
     go false true c d e f g = refl
     go false false true d e f g = refl
@@ -228,77 +229,79 @@ module _ (l : List ℕ) (ws : List (List ℕ)) (k : ℕ) (r : code.Line) where
   by : (i : ℕ) → k ≡ i → ReadAs r l (byNumber i ws) → ReadAs r l (byNumber k ws)
   by i e x = subst (λ (j : ℕ). ReadAs r l (byNumber j ws)) (sym e) x
 
-  pub by-1 : k ≡ 1 → ReadAs r l (setOf ws) → ReadAs r l (byNumber k ws)
+  pub by-1 : k ≡ setCommand → ReadAs r l (setOf ws) → ReadAs r l (byNumber k ws)
   unfolding byNumber
-  by-1 e x = by 1 e x
+  by-1 e x = by setCommand e x
 
-  pub by-2 : k ≡ 2 → ReadAs r l (writeOf ws) → ReadAs r l (byNumber k ws)
+  pub by-2 : k ≡ writeCommand → ReadAs r l (writeOf ws) → ReadAs r l (byNumber k ws)
   unfolding byNumber
-  by-2 e x = by 2 e x
+  by-2 e x = by writeCommand e x
 
-  pub by-3 : k ≡ 3 → ReadAs r l (readOf ws) → ReadAs r l (byNumber k ws)
+  pub by-3 : k ≡ readCommand → ReadAs r l (readOf ws) → ReadAs r l (byNumber k ws)
   unfolding byNumber
-  by-3 e x = by 3 e x
+  by-3 e x = by readCommand e x
 
-  pub by-4 : k ≡ 4 → ReadAs r l (carryOf ws) → ReadAs r l (byNumber k ws)
+  pub by-4 : k ≡ carryCommand → ReadAs r l (carryOf ws) → ReadAs r l (byNumber k ws)
   unfolding byNumber
-  by-4 e x = by 4 e x
+  by-4 e x = by carryCommand e x
 
-  pub by-5 : k ≡ 5 → ReadAs r l (oneOf crashLine ws) → ReadAs r l (byNumber k ws)
+  pub by-5 : k ≡ crashCommand → ReadAs r l (oneOf crashLine ws) → ReadAs r l (byNumber k ws)
   unfolding byNumber
-  by-5 e x = by 5 e x
+  by-5 e x = by crashCommand e x
 
-  pub by-6 : k ≡ 6 → ReadAs r l (oneOf downLine ws) → ReadAs r l (byNumber k ws)
+  pub by-6 : k ≡ downCommand → ReadAs r l (oneOf downLine ws) → ReadAs r l (byNumber k ws)
   unfolding byNumber
-  by-6 e x = by 6 e x
+  by-6 e x = by downCommand e x
 
-  pub by-7 : k ≡ 7 → ReadAs r l (oneOf upLine ws) → ReadAs r l (byNumber k ws)
+  pub by-7 : k ≡ upCommand → ReadAs r l (oneOf upLine ws) → ReadAs r l (byNumber k ws)
   unfolding byNumber
-  by-7 e x = by 7 e x
+  by-7 e x = by upCommand e x
 
-pub by-none : (l : List ℕ) (ws : List (List ℕ)) (k : ℕ) → (k ≡ 1 → ⊥) → (k ≡ 2 → ⊥) → (k ≡ 3 → ⊥) → (k ≡ 4 → ⊥) → (k ≡ 5 → ⊥) → (k ≡ 6 → ⊥)
-    → (k ≡ 7 → ⊥) → ReadAs Unread l (byNumber k ws)
+pub by-none : (l : List ℕ) (ws : List (List ℕ)) (k : ℕ) → (k ≡ setCommand → ⊥) → (k ≡ writeCommand → ⊥) → (k ≡ readCommand → ⊥) → (k ≡ carryCommand → ⊥) → (k ≡ crashCommand → ⊥)
+    → (k ≡ downCommand → ⊥)
+    → (k ≡ upCommand → ⊥) → ReadAs Unread l (byNumber k ws)
 unfolding byNumber
 by-none l ws k a b c d e f g =
-    unread l (byNumber k ws) (rw (ne-eqb k 1 a, ne-eqb k 2 b, ne-eqb k 3 c, ne-eqb k 4 d, ne-eqb k 5 e, ne-eqb k 6 f, ne-eqb k 7 g))
+    unread l (byNumber k ws)
+    (rw (ne-eqb k setCommand a, ne-eqb k writeCommand b, ne-eqb k readCommand c, ne-eqb k carryCommand d, ne-eqb k crashCommand e, ne-eqb k downCommand f, ne-eqb k upCommand g))
 
 -- The first word: each test gave what it is named after.
 module _ (w : List ℕ) (a : Bool) (ea : a ≡ same w setText) where
-  pub command-1 : a ≡ true → 1 ≡ commandNumber w
+  pub command-1 : a ≡ true → setCommand ≡ commandNumber w
   unfolding commandNumber
   command-1 t = rw (← ea, t)
 
   module _ (fa : a ≡ false) (b : Bool) (eb : b ≡ same w writeText) where
-    pub command-2 : b ≡ true → 2 ≡ commandNumber w
+    pub command-2 : b ≡ true → writeCommand ≡ commandNumber w
     unfolding commandNumber
     command-2 t = rw (← ea, fa, ← eb, t)
 
     module _ (fb : b ≡ false) (c : Bool) (ec : c ≡ same w readText) where
-      pub command-3 : c ≡ true → 3 ≡ commandNumber w
+      pub command-3 : c ≡ true → readCommand ≡ commandNumber w
       unfolding commandNumber
       command-3 t = rw (← ea, fa, ← eb, fb, ← ec, t)
 
       module _ (fc : c ≡ false) (d : Bool) (ed : d ≡ same w carryText) where
-        pub command-4 : d ≡ true → 4 ≡ commandNumber w
+        pub command-4 : d ≡ true → carryCommand ≡ commandNumber w
         unfolding commandNumber
         command-4 t = rw (← ea, fa, ← eb, fb, ← ec, fc, ← ed, t)
 
         module _ (fd : d ≡ false) (e : Bool) (ee : e ≡ same w crashText) where
-          pub command-5 : e ≡ true → 5 ≡ commandNumber w
+          pub command-5 : e ≡ true → crashCommand ≡ commandNumber w
           unfolding commandNumber
           command-5 t = rw (← ea, fa, ← eb, fb, ← ec, fc, ← ed, fd, ← ee, t)
 
           module _ (fe : e ≡ false) (f : Bool) (ef : f ≡ same w downText) where
-            pub command-6 : f ≡ true → 6 ≡ commandNumber w
+            pub command-6 : f ≡ true → downCommand ≡ commandNumber w
             unfolding commandNumber
             command-6 t = rw (← ea, fa, ← eb, fb, ← ec, fc, ← ed, fd, ← ee, fe, ← ef, t)
 
             module _ (ff : f ≡ false) (g : Bool) (eg : g ≡ same w upText) where
-              pub command-7 : g ≡ true → 7 ≡ commandNumber w
+              pub command-7 : g ≡ true → upCommand ≡ commandNumber w
               unfolding commandNumber
               command-7 t = rw (← ea, fa, ← eb, fb, ← ec, fc, ← ed, fd, ← ee, fe, ← ef, ff, ← eg, t)
 
-              pub command-0 : g ≡ false → 0 ≡ commandNumber w
+              pub command-0 : g ≡ false → noCommand ≡ commandNumber w
               unfolding commandNumber
               command-0 t = rw (← ea, fa, ← eb, fb, ← ec, fc, ← ed, fd, ← ee, fe, ← ef, ff, ← eg, t)
 
@@ -309,13 +312,14 @@ same-length [] (y ∷ b) e = absurd (clash e)
 same-length (x ∷ a) [] e = absurd (clash e)
 same-length (x ∷ a) (y ∷ b) e = ap suc (same-length a b (and-true (eqb x y) (same a b) e .1))
 
-carry-same : (w : List ℕ) → commandNumber w ≡ 4 → same w carryText ≡ true
+carry-same : (w : List ℕ) → commandNumber w ≡ carryCommand → same w carryText ≡ true
 unfolding commandNumber
 carry-same w n =
     go (same w setText) (same w writeText) (same w readText) (same w carryText) (same w crashText) (same w downText) (same w upText) refl n
   where
     go : (a b c d e f g : Bool) → same w carryText ≡ d
-        → _≡_ {A = ℕ} (cond a 1 (cond b 2 (cond c 3 (cond d 4 (cond e 5 (cond f 6 (cond g 7 0))))))) 4 → same w carryText ≡ true
+        → _≡_ {A = ℕ} (cond a setCommand (cond b writeCommand (cond c readCommand (cond d carryCommand (cond e crashCommand (cond f downCommand (cond g upCommand noCommand))))))) carryCommand
+        → same w carryText ≡ true
     go true b c d e f g t n = absurd (omega arith)
     go false true c d e f g t n = absurd (omega arith)
     go false false true d e f g t n = absurd (omega arith)
@@ -326,24 +330,24 @@ carry-same w n =
     go false false false false false false false t n = absurd (omega arith)
 
 -- what follows `carry` begins behind its five letters and a space
-pub carry-place : (l : List ℕ) (e k : ℕ) → k ≡ commandNumber (take (e - 0) (drop 0 l)) → k ≡ 4 → 6 ≤ e + 1
+pub carry-place : (l : List ℕ) (e k : ℕ) → k ≡ commandNumber (take (e - 0) (drop 0 l)) → k ≡ carryCommand → afterCarry ≤ e + 1
 unfolding carryText
 carry-place l e k f n =
     let s = same-length (take (e - 0) (drop 0 l)) carryText (carry-same (take (e - 0) (drop 0 l)) (sym f ∙ n)) in
     let t = length-take (e - 0) (drop 0 l) in
     omega arith
 
-pub line-long : (l : List ℕ) → 1000 < length l → (lineOf Unread l ≡ reads l) × LineSound Unread l
+pub line-long : (l : List ℕ) → longest < length l → (lineOf Unread l ≡ reads l) × LineSound Unread l
 unfolding reads lineOf LineSound
-line-long l h = (sym (rw (lt-leb (length l) 1000 h)), tt)
+line-long l h = (sym (rw (lt-leb (length l) longest h)), tt)
 
-pub line-read : (l : List ℕ) (e k : ℕ) (r : code.Line) → length l ≤ 1000 → e ≡ 0 + wordLength (drop 0 l)
+pub line-read : (l : List ℕ) (e k : ℕ) (r : code.Line) → length l ≤ longest → e ≡ 0 + wordLength (drop 0 l)
     → k ≡ commandNumber (take (e - 0) (drop 0 l)) → ReadAs r l (byNumber k (wordsFrom l (e + 1)))
     → (lineOf r l ≡ reads l) × LineSound r l
 unfolding reads readsWords
 line-read l e k r h f n x =
     let s : words l ≡ take (e - 0) (drop 0 l) ∷ wordsFrom l (e + 1) = split-at-end l 0 e (omega arith) f in (
       x .meaning ∙ ap (λ (j : ℕ). byNumber j (wordsFrom l (e + 1))) n ∙ sym (by-number (take (e - 0) (drop 0 l)) (wordsFrom l (e + 1)))
-          ∙ sym (rw (le-leb (length l) 1000 h) (ap readsWords s)),
+          ∙ sym (rw (le-leb (length l) longest h) (ap readsWords s)),
       x .sound,
     )

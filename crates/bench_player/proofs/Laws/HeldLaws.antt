@@ -7,32 +7,32 @@ use native.Mathlib.Decide.{decLe}
 use lib.ListN.{length, set, take, length-append}
 use lib.Seq.{take-all, take-at, length-take-le}
 use borrow.Author.Tests.{lt-leb}
-use Rattle.bench_parse.specs.Lines.{reads}
+use Rattle.bench_parse.specs.Lines.{longest, heldLength, reads}
 
 -- a line of which 1,001 bytes are kept reads as the whole
-pub reads-held : (l : List ℕ) → reads (take 1001 l) ≡ reads l
+pub reads-held : (l : List ℕ) → reads (take heldLength l) ≡ reads l
 unfolding reads
-reads-held l = by (decLe (length l) 1000)
+reads-held l = by (decLe (length l) longest)
   where
-    by : Dec (length l ≤ 1000) → reads (take 1001 l) ≡ reads l
-    by (yes h) = ap reads (take-all 1001 l (omega arith))
+    by : Dec (length l ≤ longest) → reads (take heldLength l) ≡ reads l
+    by (yes h) = ap reads (take-all heldLength l (omega arith))
     by (no h) =
-        let n : length (take 1001 l) ≡ 1001 = length-take-le 1001 l (omega arith) in
-        rw (lt-leb (length (take 1001 l)) 1000 (omega arith), lt-leb (length l) 1000 (omega arith)) refl
+        let n : length (take heldLength l) ≡ heldLength = length-take-le heldLength l (omega arith) in
+        rw (lt-leb (length (take heldLength l)) longest (omega arith), lt-leb (length l) longest (omega arith)) refl
 
 -- nothing is kept of a byte past them
-pub held-full : (line : List ℕ) (held byte : ℕ) → length line ≡ 1001 → held ≤ 1001 → 1001 ≤ held
-    → take held line ≡ take 1001 (take held line ++ byte ∷ [])
+pub held-full : (line : List ℕ) (held byte : ℕ) → length line ≡ heldLength → held ≤ heldLength → heldLength ≤ held
+    → take held line ≡ take heldLength (take held line ++ byte ∷ [])
 held-full line held byte n h l =
-    let e : held ≡ 1001 = omega arith in
-    sym (take-at (take held line) (byte ∷ []) 1001 (length-take-le held line (omega arith) ∙ e))
+    let e : held ≡ heldLength = omega arith in
+    sym (take-at (take held line) (byte ∷ []) heldLength (length-take-le held line (omega arith) ∙ e))
 
 -- a byte more
-pub held-more : (line : List ℕ) (held byte : ℕ) → length line ≡ 1001 → held < 1001
-    → take (held + 1) (set line held byte) ≡ take 1001 (take held line ++ byte ∷ [])
+pub held-more : (line : List ℕ) (held byte : ℕ) → length line ≡ heldLength → held < heldLength
+    → take (held + 1) (set line held byte) ≡ take heldLength (take held line ++ byte ∷ [])
 held-more line held byte n h =
     more line held (omega arith)
-    ∙ sym (take-all 1001 (take held line ++ byte ∷ []) (let t = length-take-le held line (omega arith) in let a = length-append (take held line) (byte ∷ []) in omega arith))
+    ∙ sym (take-all heldLength (take held line ++ byte ∷ []) (let t = length-take-le held line (omega arith) in let a = length-append (take held line) (byte ∷ []) in omega arith))
   where
     more : (l : List ℕ) (k : ℕ) → k < length l → take (k + 1) (set l k byte) ≡ take k l ++ byte ∷ []
     more [] k u = absurd (omega arith)

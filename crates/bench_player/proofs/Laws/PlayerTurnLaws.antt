@@ -1,16 +1,17 @@
--- Laws of `specs/TurnLaws`.
+-- A line by what it says, while no set is accepted and after one.
 use mathlib.Core.Path.{_≡_, refl, sym, ap, subst, _∙_}
 use mathlib.Core.Bool.{Bool, true, false, cond}
-use mathlib.Core.List.{List, []}
+use mathlib.Core.List.{List, [], _++_}
 use Prim.Native.Nat.{ℕ}
 use native.Mathlib.Omega.{arith}
 use borrow.Author.Tests.{eq-eqb, ne-eqb}
 use Rattle.settings.specs.Refusal.{refuseUnless}
 use Rattle.settings.specs.declared.Settings.{Settings}
 use Rattle.bench_parse.specs.Lines.{Line, setLine, writeLine, readLine, carryLine, crashLine, downLine, upLine, noLine}
-use Rattle.bench_rules.specs.Play.{Played, refuses, writes, starts, crashesAt, switches, carriedAll, plays, playing, Turn, waits, begins, first, turn}
+use Rattle.bench_rules.specs.Play.{Played, refuses, writes, starts, crashesAt, switches, carriedAll, plays, playing, eventsOf, Turn, waits, begins, first, turn}
 use Rattle.bench_rules.specs.Turning.{Lent, lent, worldIn}
-use Rattle.bench_rules.specs.Workers.{Turned}
+use Rattle.bench_rules.specs.Workers.{Turned, Lined}
+use Rattle.bench_rules.proofs.Laws.TurningLaws.{turned-lined}
 use Rattle.bench_rules.specs.declared.After.{After}
 use Rattle.bench_print.proofs.Laws.WrittenLaws.{written-nothing}
 use Rattle.bench_sent.specs.Sent.{itemsOf}
@@ -19,9 +20,7 @@ use Rattle.bench_state.proofs.Laws.BenchRangeLaws.{bench-fits}
 use Rattle.bench_state.specs.State.{benchRange, worldOf}
 use Rattle.bench_state.specs.Workers.{benchRefusal, freshBench}
 use Rattle.bench_state.specs.declared.Bench.{Bench}
-use Rattle.register.specs.Runs.{goesDown, comesUp, freshSet}
-use Rattle.bench_carry.specs.Workers.{Lined}
-use Rattle.bench_carry.proofs.Laws.CarryLaws.{turned-lined}
+use Rattle.register.specs.Runs.{World, Event, goesDown, comesUp, freshSet}
 use Rattle.bench_player.specs.Lining.{stageOf}
 use Rattle.bench_player.specs.Workers.{Staged, First}
 
@@ -68,7 +67,7 @@ module _ (b : Bench) (l l′ : Lent) (out out′ : List ℕ) (r : After) (said :
 -- a line while no set is accepted
 module _ (b : Bench) (out out′ : List ℕ) (r : After) (none : b .settings .n ≡ 0) where
   waits-so : (number : ℕ) (said : Line) (images kept : List ℕ) → first said ≡ waits number → ((l : Lent) → Turned b l 0 out (refuses (worldIn b l) number) r l out′) → First said out r images kept out′
-  unfolding waits refuses stageOf
+  unfolding waits refuses stageOf eventsOf
   waits-so number said images kept e t =
       record {
         staged = λ numbers bytes.
@@ -123,7 +122,12 @@ module _ (b : Bench) (out out′ : List ℕ) (r : After) (none : b .settings .n 
       waits-so 1 said images kept (ap first e ∙ go (benchRange (record { n = n; m = m; size = size; capacity = capacity })) eb) t
     where
       go : (x : Bool) → bad ≡ refuseUnless x 1
-          → cond x (record { stage = playing (record { n = n; m = m; size = size; capacity = capacity }) (freshSet (record { n = n; m = m; size = size; capacity = capacity })); events = []; printed = [] }) (waits 1) ≡ waits 1
+          → cond x (record {
+            stage = playing (record { n = n; m = m; size = size; capacity = capacity }) (freshSet (record { n = n; m = m; size = size; capacity = capacity })) [];
+            events =
+                [];
+            printed = [];
+          }) (waits 1) ≡ waits 1
       go true q = absurd (h q)
       go false q = refl
 
@@ -131,7 +135,7 @@ module _ (b : Bench) (out out′ : List ℕ) (r : After) (none : b .settings .n 
 pub first-set : (s : Settings) (bad : ℕ) (out : List ℕ) (bench : Bench) (said : Line) (images kept : List ℕ) → said ≡ setLine (s .n) (s .m) (s .size) (s .capacity)
     → bad ≡ benchRefusal s → bad ≡ 0 → bench ≡ freshBench s → worldOf bench images kept [] ≡ freshSet s
     → First said out (record { bench = bench; used = 0 }) images kept out
-unfolding first begins benchRefusal stageOf worldIn freshBench itemsOf
+unfolding first begins benchRefusal stageOf eventsOf worldIn freshBench itemsOf
 first-set s bad out bench said images kept e eb z ef ew =
     record {
       staged = λ numbers bytes.
@@ -139,7 +143,7 @@ first-set s bad out bench said images kept e eb z ef ew =
           (subst (λ (x : Bench). Staged fresh-turn out (record { bench = x; used = 0 }) (lent images kept numbers bytes) out) (sym ef)
           (record {
             stage-is = rw (ne-eqb (s .n) 0 (λ q. absurd (omega (arith, in-limits .range .code .n-low))))
-                (ap (playing s) (ap (λ (x : Bench). worldOf x images kept []) (sym ef) ∙ ew));
+                (ap (λ (w : World). playing s w []) (ap (λ (x : Bench). worldOf x images kept []) (sym ef) ∙ ew));
             few = omega arith;
             right = rw (limits, ne-eqb (s .n) 0 (λ q. absurd (omega (arith, in-limits .range .code .n-low)))) refl;
             text-is = sym (written-nothing 0 out);
@@ -149,7 +153,7 @@ first-set s bad out bench said images kept e eb z ef ew =
     }
   where
     fresh-turn : Turn
-    fresh-turn = record { stage = playing s (freshSet s); events = []; printed = [] }
+    fresh-turn = record { stage = playing s (freshSet s) []; events = []; printed = [] }
 
     tested : (x : Bool) → bad ≡ refuseUnless x 1 → x ≡ true
     tested true q = refl
@@ -166,14 +170,17 @@ first-set s bad out bench said images kept e eb z ef ew =
     begun false q d = absurd (omega arith)
 
 -- a line of a set is a turn of its stage
-pub lined-staged : (b : Bench) (l l′ : Lent) (out out′ : List ℕ) (r : After) (said : Line) → Fits (b .settings) → benchRange (b .settings) ≡ true
-    → Lined b l out (plays (b .settings) (worldIn b l) said) r l′ out′ → Staged (turn (playing (b .settings) (worldIn b l)) said) out r l′ out′
-unfolding turn stageOf
-lined-staged b l l′ out out′ r said fits q d =
+pub lined-staged : (b : Bench) (l l′ : Lent) (out out′ : List ℕ) (r : After) (said : Line) (events : List Event) → Fits (b .settings)
+    → benchRange (b .settings) ≡ true → Lined b l out (plays (b .settings) (worldIn b l) said) r l′ out′
+    → Staged (turn (playing (b .settings) (worldIn b l) events) said) out r l′ out′
+unfolding turn stageOf eventsOf
+lined-staged b l l′ out out′ r said events fits q d =
+    let all = events ++ plays (b .settings) (worldIn b l) said .events in
     let n = ap (λ (s : Settings). s .n) (d .settings-kept) in
     let some : r .bench .settings .n ≡ 0 → ⊥ = λ z. absurd (omega (arith, n, z, fits .range .code .n-low)) in
     record {
-      stage-is = rw (ne-eqb (r .bench .settings .n) 0 some) (ap (λ (s : Settings). playing s (worldIn (r .bench) l′)) (d .settings-kept) ∙ ap (playing (b .settings)) (d .world-is));
+      stage-is = rw (ne-eqb (r .bench .settings .n) 0 some)
+          (ap (λ (s : Settings). playing s (worldIn (r .bench) l′) all) (d .settings-kept) ∙ ap (λ (w : World). playing (b .settings) w all) (d .world-is));
       few = d .few;
       right = rw (ne-eqb (r .bench .settings .n) 0 some) (ap benchRange (d .settings-kept) ∙ q);
       text-is = d .text-is;

@@ -8,7 +8,7 @@ new-bench-requires : tie.Need-new-bench-requires
 new-bench-requires c κs = search needs
 
 returns : tie.Need-returns
-returns c = (λ l. none-waits _ _ l (c .new-bench .ensures) refl, none-accepted _ _ (c .new-bench .ensures) refl)
+returns c = (λ l events. none-waits _ _ l events (c .new-bench .ensures) refl, none-accepted _ _ (c .new-bench .ensures) refl)
 
 pub no-set-spec : {M : Type 1} → statement M
 no-set-spec = tie.close (tie.spec new-bench-requires returns)

@@ -24,7 +24,8 @@ returns : tie.Need-returns
 returns c =
     let s = c .before .before .before .before .before .before .before .before .before .before .before .before .before in
     first-bad (s .args .b) (s .args .out .now) _ _ (s .pre .1 .0 .0) _ _ _ _ _ (reads (s .args .line .now)) (s .args .images .now) (s .args .kept .now)
-    (said-set (s .args .l) (s .args .line .now) (s .pre .0 .0) _ _ _ _ (c .before .before .before .before .before .before .before .l .given .1)) (c .before .before .before .before .before .bench-refusal .ensures) (c .before .before .before .before .if1 .taken) (c .before .before .refuse .ensures)
+    (said-set (s .args .l) (s .args .line .now) (s .pre .0 .0) _ _ _ _ (c .before .before .before .before .before .before .before .l .given .1))
+    (c .before .before .before .before .before .bench-refusal .ensures) (c .before .before .before .before .if1 .taken) (c .before .before .refuse .ensures)
 
 set-up-requires : tie.Need-set-up-requires
 set-up-requires c κs =
@@ -84,7 +85,8 @@ returns-2 : tie.Need-returns-2
 returns-2 c =
     let s = c .before .before .before .before .before .before .before .before .before .before .before .before .before .before .before .before in
     let u = c .before .before .before .before .set-up .ensures in
-    first-set _ _ (s .args .out .now) _ (reads (s .args .line .now)) _ _ (said-set (s .args .l) (s .args .line .now) (s .pre .0 .0) _ _ _ _ (c .before .before .before .before .before .before .before .before .before .before .l .given .1))
+    first-set _ _ (s .args .out .now) _ (reads (s .args .line .now)) _ _
+    (said-set (s .args .l) (s .args .line .now) (s .pre .0 .0) _ _ _ _ (c .before .before .before .before .before .before .before .before .before .before .l .given .1))
     (c .before .before .before .before .before .before .before .before .bench-refusal .ensures) (c .before .before .before .before .before .before .before .if1 .left) (u .0) (u .1)
 
 same-length-4 : tie.Need-same-length-4
@@ -93,7 +95,8 @@ same-length-4 c = search needs
 returns-3 : tie.Need-returns-3
 returns-3 c =
     let s = c .before .before .before .before .before .before .before .before .before .before in
-    first-write (s .args .b) (s .args .out .now) _ _ (s .pre .1 .0 .0) (reads (s .args .line .now)) (s .args .images .now) (s .args .kept .now) (c .before .before .refuse2 .ensures) _ _ _ (said-write (s .args .l) (s .args .line .now) (s .pre .0 .0) _ _ _ (c .before .before .before .before .enum-told .given .1))
+    first-write (s .args .b) (s .args .out .now) _ _ (s .pre .1 .0 .0) (reads (s .args .line .now)) (s .args .images .now) (s .args .kept .now) (c .before .before .refuse2 .ensures) _ _ _
+    (said-write (s .args .l) (s .args .line .now) (s .pre .0 .0) _ _ _ (c .before .before .before .before .enum-told .given .1))
 
 same-length-5 : tie.Need-same-length-5
 same-length-5 c = search needs
@@ -101,7 +104,8 @@ same-length-5 c = search needs
 returns-4 : tie.Need-returns-4
 returns-4 c =
     let s = c .before .before .before .before .before .before .before .before .before .before in
-    first-read (s .args .b) (s .args .out .now) _ _ (s .pre .1 .0 .0) (reads (s .args .line .now)) (s .args .images .now) (s .args .kept .now) (c .before .before .refuse3 .ensures) _ _ _ (said-read (s .args .l) (s .args .line .now) (s .pre .0 .0) _ _ _ (c .before .before .before .before .enum-told2 .given .1))
+    first-read (s .args .b) (s .args .out .now) _ _ (s .pre .1 .0 .0) (reads (s .args .line .now)) (s .args .images .now) (s .args .kept .now) (c .before .before .refuse3 .ensures) _ _ _
+    (said-read (s .args .l) (s .args .line .now) (s .pre .0 .0) _ _ _ (c .before .before .before .before .enum-told2 .given .1))
 
 same-length-6 : tie.Need-same-length-6
 same-length-6 c = search needs
@@ -109,7 +113,8 @@ same-length-6 c = search needs
 returns-5 : tie.Need-returns-5
 returns-5 c =
     let s = c .before .before .before .before .before .before .before .before .before .before in
-    first-carry (s .args .b) (s .args .out .now) _ _ (s .pre .1 .0 .0) (reads (s .args .line .now)) (s .args .images .now) (s .args .kept .now) (c .before .before .refuse4 .ensures) _ (said-carry (s .args .l) (s .args .line .now) (s .pre .0 .0) _ (c .before .before .before .before .enum-told3 .given .1) (s .pre .0 .1))
+    first-carry (s .args .b) (s .args .out .now) _ _ (s .pre .1 .0 .0) (reads (s .args .line .now)) (s .args .images .now) (s .args .kept .now) (c .before .before .refuse4 .ensures) _
+    (said-carry (s .args .l) (s .args .line .now) (s .pre .0 .0) _ (c .before .before .before .before .enum-told3 .given .1) (s .pre .0 .1))
 
 same-length-7 : tie.Need-same-length-7
 same-length-7 c = search needs
@@ -117,7 +122,8 @@ same-length-7 c = search needs
 returns-6 : tie.Need-returns-6
 returns-6 c =
     let s = c .before .before .before .before .before .before .before .before .before .before in
-    first-crash (s .args .b) (s .args .out .now) _ _ (s .pre .1 .0 .0) (reads (s .args .line .now)) (s .args .images .now) (s .args .kept .now) (c .before .before .refuse5 .ensures) _ (said-crash (s .args .l) (s .args .line .now) (s .pre .0 .0) _ (c .before .before .before .before .enum-told4 .given .1))
+    first-crash (s .args .b) (s .args .out .now) _ _ (s .pre .1 .0 .0) (reads (s .args .line .now)) (s .args .images .now) (s .args .kept .now) (c .before .before .refuse5 .ensures) _
+    (said-crash (s .args .l) (s .args .line .now) (s .pre .0 .0) _ (c .before .before .before .before .enum-told4 .given .1))
 
 same-length-8 : tie.Need-same-length-8
 same-length-8 c = search needs
@@ -125,7 +131,8 @@ same-length-8 c = search needs
 returns-7 : tie.Need-returns-7
 returns-7 c =
     let s = c .before .before .before .before .before .before .before .before .before .before in
-    first-down (s .args .b) (s .args .out .now) _ _ (s .pre .1 .0 .0) (reads (s .args .line .now)) (s .args .images .now) (s .args .kept .now) (c .before .before .refuse6 .ensures) _ (said-down (s .args .l) (s .args .line .now) (s .pre .0 .0) _ (c .before .before .before .before .enum-told5 .given .1))
+    first-down (s .args .b) (s .args .out .now) _ _ (s .pre .1 .0 .0) (reads (s .args .line .now)) (s .args .images .now) (s .args .kept .now) (c .before .before .refuse6 .ensures) _
+    (said-down (s .args .l) (s .args .line .now) (s .pre .0 .0) _ (c .before .before .before .before .enum-told5 .given .1))
 
 same-length-9 : tie.Need-same-length-9
 same-length-9 c = search needs
@@ -133,7 +140,8 @@ same-length-9 c = search needs
 returns-8 : tie.Need-returns-8
 returns-8 c =
     let s = c .before .before .before .before .before .before .before .before .before .before in
-    first-up (s .args .b) (s .args .out .now) _ _ (s .pre .1 .0 .0) (reads (s .args .line .now)) (s .args .images .now) (s .args .kept .now) (c .before .before .refuse7 .ensures) _ (said-up (s .args .l) (s .args .line .now) (s .pre .0 .0) _ (c .before .before .before .before .enum-told6 .given .1))
+    first-up (s .args .b) (s .args .out .now) _ _ (s .pre .1 .0 .0) (reads (s .args .line .now)) (s .args .images .now) (s .args .kept .now) (c .before .before .refuse7 .ensures) _
+    (said-up (s .args .l) (s .args .line .now) (s .pre .0 .0) _ (c .before .before .before .before .enum-told6 .given .1))
 
 same-length-10 : tie.Need-same-length-10
 same-length-10 c = search needs
@@ -141,7 +149,8 @@ same-length-10 c = search needs
 returns-9 : tie.Need-returns-9
 returns-9 c =
     let s = c .before .before .before .before .before .before .before .before .before .before in
-    first-nothing (s .args .b) (s .args .out .now) _ _ (s .pre .1 .0 .0) (reads (s .args .line .now)) (s .args .images .now) (s .args .kept .now) (c .before .before .refuse8 .ensures) (said-nothing (s .args .l) (s .args .line .now) (s .pre .0 .0) (c .before .before .before .before .enum-told7 .given .1))
+    first-nothing (s .args .b) (s .args .out .now) _ _ (s .pre .1 .0 .0) (reads (s .args .line .now)) (s .args .images .now) (s .args .kept .now) (c .before .before .refuse8 .ensures)
+    (said-nothing (s .args .l) (s .args .line .now) (s .pre .0 .0) (c .before .before .before .before .enum-told7 .given .1))
 
 pub play-first-spec : {M : Type 1} → statement M
 play-first-spec =

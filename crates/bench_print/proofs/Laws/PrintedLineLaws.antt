@@ -8,10 +8,12 @@ use lib.ListN.{length, length-append}
 use Rattle.coord_record.specs.Records.{readingKind}
 use Rattle.coord_apply.specs.Answers.{okSeen, readSeen, abortedSeen, cutSeen}
 use Rattle.coord_apply.specs.declared.Notice.{Notice}
-use Rattle.bench_print.specs.Printing.{space, newline, decimal, hexText, refusedWord, refusedText, readWord, writeWord, kindWord, okWord, abortWord, cutWord, endWord, lineText, isEnd, endedText, written}
+use Rattle.bench_print.specs.Printing.{mostDecimals, space, newline, decimal, hexText, refusedWord, refusedText, readWord, writeWord, kindWord, okWord, abortWord, cutWord, endWord, lineText}
+use Rattle.bench_print.specs.Printing.{isEnd, endedText, written}
 use Rattle.bench_print.proofs.Laws.TextLaws.{decimal-short}
-use Rattle.bench_print.specs.Workers.{PrintedAt}
+use Rattle.bench_print.specs.Workers.{endedRoom, PrintedAt}
 use Rattle.bench_print.proofs.Laws.WrittenLaws.{placed-both, placed-as, placed-nothing}
+use Rattle.bench_limits.specs.Limits.{lineRoom}
 
 -- the line of a refusal
 refused-placed : (k at : ℕ) (old o1 o2 out : List ℕ) (r1 r2 r : ℕ) → at ≤ length old
@@ -22,7 +24,7 @@ refused-placed k at old o1 o2 out r1 r2 r h p q s =
     placed-both at (refusedWord ++ space ∷ decimal k) (newline ∷ []) old o2 out r2 r h
     (placed-both at (refusedWord ++ space ∷ []) (decimal k) old o1 o2 r1 r2 h p q) s
 
-pub refused-short : (k : ℕ) → length (refusedText k) ≤ 29
+pub refused-short : (k : ℕ) → length (refusedText k) ≤ 9 + mostDecimals
 unfolding refusedText refusedWord
 refused-short k = let d = decimal-short k in simp length-append (omega arith)
 
@@ -91,7 +93,7 @@ ended-line c seen stripe h l = rw (le-ltb (seen .what) okSeen h, le-leb (seen .w
 
 -- what the public routines ensure
 abbrev pub Printed : ℕ → List ℕ → List ℕ → List ℕ → ℕ → Type 0
-Printed at text old out r = (r ≡ at + length text) × ((out ≡ written at text old) × (r ≤ at + 128))
+Printed at text old out r = (r ≡ at + length text) × ((out ≡ written at text old) × (r ≤ at + lineRoom))
 
 silent : (at : ℕ) (text old : List ℕ) → text ≡ [] → Printed at text old old at
 silent at text old e =
@@ -105,7 +107,7 @@ pub printed-past : (c at : ℕ) (seen : Notice) (stripe old : List ℕ) → cutS
 printed-past c at seen stripe old h = silent at (endedText c seen stripe) old (ended-past c seen stripe h)
 
 pub printed-line : (c at : ℕ) (seen : Notice) (stripe old out : List ℕ) (r : ℕ) → okSeen ≤ seen .what → seen .what ≤ cutSeen
-    → PrintedAt at (lineText c (seen .kind) (seen .time) (seen .what) stripe) old out r → r ≤ at + 113
+    → PrintedAt at (lineText c (seen .kind) (seen .time) (seen .what) stripe) old out r → r ≤ at + endedRoom
     → Printed at (endedText c seen stripe) old out r
 printed-line c at seen stripe old out r h l p b =
     let q = placed-as at (lineText c (seen .kind) (seen .time) (seen .what) stripe) (endedText c seen stripe) old out r (sym (ended-line c seen stripe h l)) p in

@@ -1,4 +1,4 @@
--- Laws of `specs/WrittenLaws`.
+-- A text written into a list: nothing, one after another, and its front.
 use mathlib.Core.Path.{_≡_, refl, sym, ap, ap₂, subst, _∙_}
 use mathlib.Core.List.{List, [], _∷_, _++_, append-assoc}
 use Prim.Native.Nat.{ℕ, _+_, _≤_, _<_}

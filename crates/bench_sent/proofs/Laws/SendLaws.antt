@@ -1,4 +1,4 @@
--- Laws of `specs/SendLaws`.
+-- A message to each brick, one row after the other.
 use mathlib.Core.Path.{_≡_, sym, ap, subst, _∙_}
 use mathlib.Core.List.{List, [], _∷_, _++_, append-assoc, append-nil}
 use Prim.Native.Nat.{ℕ, _+_, _-_, _*_, _≤_, _<_}
@@ -17,6 +17,7 @@ use Rattle.register.specs.Runs.{Item, message, blockFor, toAll}
 use Rattle.bench_sent.specs.Sent.{itemsOf}
 use Rattle.bench_sent.specs.Workers.{Coded, Added, Sends}
 use Rattle.bench_sent.specs.Workers.{One}
+use Rattle.bench_limits.specs.Limits.{benchSize}
 
 -- a brick's block is within the buffer
 pub block-within : (n j size : ℕ) (msg : Message) (coded : List ℕ) → Coded n size msg coded → j < n → msg .kind ≡ writeKind
@@ -100,10 +101,10 @@ sends-all k n j size msg coded numbers bytes numbers′ bytes′ l h a =
     subst (λ (x : ℕ). Sends k x size msg coded numbers bytes numbers′ bytes′) e a
 
 -- the zeros that go with what is no Write
-pub eight-cut : (size : ℕ) → size ≤ 8 → take {A = ℕ} size (0 ∷ 0 ∷ 0 ∷ 0 ∷ 0 ∷ 0 ∷ 0 ∷ 0 ∷ []) ≡ replicate size 0
+pub zeros-cut : (size : ℕ) → size ≤ benchSize → take {A = ℕ} size (replicate benchSize 0) ≡ replicate size 0
 unfolding zeros
-eight-cut size h = zeros-take 8 size h
+zeros-cut size h = zeros-take benchSize size h
 
-pub eight-long : (size : ℕ) → size ≤ 8 → length (take {A = ℕ} size (0 ∷ 0 ∷ 0 ∷ 0 ∷ 0 ∷ 0 ∷ 0 ∷ 0 ∷ [])) ≡ size
+pub zeros-cut-long : (size : ℕ) → size ≤ benchSize → length (take {A = ℕ} size (replicate benchSize 0)) ≡ size
 unfolding zeros
-eight-long size h = ap length (eight-cut size h) ∙ zeros-length size
+zeros-cut-long size h = ap length (zeros-cut size h) ∙ zeros-length size

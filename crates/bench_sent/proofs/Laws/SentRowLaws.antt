@@ -17,7 +17,9 @@ use Rattle.register.specs.Runs.{Item, message, reply}
 use Rattle.settings.specs.Count.{one-if}
 use Rattle.settings.proofs.Laws.CountLaws.{one-is}
 use Rattle.bench_sent.specs.Sent.{numberAt, isReply, flagsAt, sentBlockAt, messageAt, replyAt, itemAt, itemsOf}
-use Rattle.bench_sent.specs.Workers.{Added, messageRow, replyRow, numbersWith, bytesWith, noFlags}
+use Rattle.bench_sent.specs.Workers.{Added, rowOf, messageRow, replyRow, numbersWith, bytesWith, noFlags}
+use Rattle.bench_limits.specs.Limits.{benchSize, rowNumbers, rowBytes, tagPlace, brickPlace, kindPlace, timePlace, roundPlace, maxPlace, foundPlace, yesPlace, heldPlace, messageTag, replyTag}
+use Rattle.bench_limits.specs.Limits.{flagCount, blockPlace}
 
 -- a number that was put is found there
 pub put-read : (at i : ℕ) (row l : List ℕ) → at ≤ length l → i < length row → getD (put at row l) (at + i) 0 ≡ getD row i 0
@@ -30,75 +32,75 @@ put-read at i row l h hi =
 
 -- the rows before row k are as they were
 pub record Below (k : ℕ) (numbers bytes numbers′ bytes′ : List ℕ) : Type 0 where
-  pub same-numbers : take (k * 8) numbers′ ≡ take (k * 8) numbers
-  pub same-bytes : take (k * 24) bytes′ ≡ take (k * 24) bytes
+  pub same-numbers : take (k * rowNumbers) numbers′ ≡ take (k * rowNumbers) numbers
+  pub same-bytes : take (k * rowBytes) bytes′ ≡ take (k * rowBytes) bytes
 
 module _ (k : ℕ) (numbers bytes numbers′ bytes′ : List ℕ) (b : Below k numbers bytes numbers′ bytes′) where
-  number-below : (j i : ℕ) → j < k → i < 8 → numberAt numbers′ j i ≡ numberAt numbers j i
+  number-below : (j i : ℕ) → j < k → i < rowNumbers → numberAt numbers′ j i ≡ numberAt numbers j i
   unfolding numberAt
   number-below j i hj hi =
-      let h : j * 8 + i < k * 8 = omega arith in
-      sym (getD-take (k * 8) numbers′ (j * 8 + i) 0 h) ∙ ap (λ (l : List ℕ). getD l (j * 8 + i) 0) (b .same-numbers)
-      ∙ getD-take (k * 8) numbers (j * 8 + i) 0 h
+      let h : j * rowNumbers + i < k * rowNumbers = omega arith in
+      sym (getD-take (k * rowNumbers) numbers′ (j * rowNumbers + i) 0 h) ∙ ap (λ (l : List ℕ). getD l (j * rowNumbers + i) 0) (b .same-numbers)
+      ∙ getD-take (k * rowNumbers) numbers (j * rowNumbers + i) 0 h
 
   flags-below : (j : ℕ) → j < k → flagsAt bytes′ j ≡ flagsAt bytes j
   unfolding flagsAt
-  flags-below j hj = cut-same (j * 24) 16 (k * 24) bytes bytes′ (omega arith) (b .same-bytes)
+  flags-below j hj = cut-same (j * rowBytes) flagCount (k * rowBytes) bytes bytes′ (omega arith) (b .same-bytes)
 
-  block-below : (size j : ℕ) → size ≤ 8 → j < k → sentBlockAt size bytes′ j ≡ sentBlockAt size bytes j
+  block-below : (size j : ℕ) → size ≤ benchSize → j < k → sentBlockAt size bytes′ j ≡ sentBlockAt size bytes j
   unfolding sentBlockAt
-  block-below size j hs hj = cut-same (j * 24 + 16) size (k * 24) bytes bytes′ (omega arith) (b .same-bytes)
+  block-below size j hs hj = cut-same (j * rowBytes + blockPlace) size (k * rowBytes) bytes bytes′ (omega arith) (b .same-bytes)
 
-  item-below : (size j : ℕ) → size ≤ 8 → j < k → itemAt size numbers′ bytes′ j ≡ itemAt size numbers bytes j
+  item-below : (size j : ℕ) → size ≤ benchSize → j < k → itemAt size numbers′ bytes′ j ≡ itemAt size numbers bytes j
   unfolding itemAt isReply messageAt replyAt
   item-below size j hs hj =
-      let n0 = number-below j 0 hj (omega arith) in
-      let n1 = number-below j 1 hj (omega arith) in
-      let n2 = number-below j 2 hj (omega arith) in
-      let n3 = number-below j 3 hj (omega arith) in
-      let n4 = number-below j 4 hj (omega arith) in
-      let n5 = number-below j 5 hj (omega arith) in
-      let n6 = number-below j 6 hj (omega arith) in
-      let n7 = number-below j 7 hj (omega arith) in
+      let n0 = number-below j tagPlace hj (omega arith) in
+      let n1 = number-below j brickPlace hj (omega arith) in
+      let n2 = number-below j kindPlace hj (omega arith) in
+      let n3 = number-below j timePlace hj (omega arith) in
+      let n4 = number-below j roundPlace hj (omega arith) in
+      let n5 = number-below j maxPlace hj (omega arith) in
+      let n6 = number-below j yesPlace hj (omega arith) in
+      let n7 = number-below j heldPlace hj (omega arith) in
       let f = flags-below j hj in
       let d = block-below size j hs hj in
       rw (n0, n1, n2, n3, n4, n5, n6, n7, f, d)
 
-  pub items-below : (size j : ℕ) → size ≤ 8 → j ≤ k → itemsOf size numbers′ bytes′ j ≡ itemsOf size numbers bytes j
+  pub items-below : (size j : ℕ) → size ≤ benchSize → j ≤ k → itemsOf size numbers′ bytes′ j ≡ itemsOf size numbers bytes j
   unfolding itemsOf
   items-below size zero hs hj = refl
   items-below size (suc j) hs hj =
       ap₂ (λ (l : List Item) (i : Item). l ++ i ∷ []) (items-below size j hs (omega arith)) (item-below size j hs (omega arith))
 
 module _ (k : ℕ) (row flags block numbers bytes : List ℕ)
-    (nr : length row ≡ 8) (nf : length flags ≡ 16) (nb : length block ≤ 8)
-    (hn : k * 8 + 8 ≤ length numbers) (hb : k * 24 + 24 ≤ length bytes) where
-  number-stored : (i : ℕ) → i < 8 → numberAt (numbersWith k row numbers) k i ≡ getD row i 0
+    (nr : length row ≡ rowNumbers) (nf : length flags ≡ flagCount) (nb : length block ≤ benchSize)
+    (hn : k * rowNumbers + rowNumbers ≤ length numbers) (hb : k * rowBytes + rowBytes ≤ length bytes) where
+  number-stored : (i : ℕ) → i < rowNumbers → numberAt (numbersWith k row numbers) k i ≡ getD row i 0
   unfolding numberAt numbersWith
-  number-stored i hi = put-read (k * 8) i row numbers (omega arith) (omega arith)
+  number-stored i hi = put-read (k * rowNumbers) i row numbers (omega arith) (omega arith)
 
-  flags-put : length (put (k * 24) flags bytes) ≡ length bytes
-  flags-put = put-length (k * 24) flags bytes (omega arith)
+  flags-put : length (put (k * rowBytes) flags bytes) ≡ length bytes
+  flags-put = put-length (k * rowBytes) flags bytes (omega arith)
 
   flags-stored : flagsAt (bytesWith k flags block bytes) k ≡ flags
   unfolding flagsAt bytesWith
   flags-stored =
-      cut-same (k * 24) 16 (k * 24 + 16) (put (k * 24) flags bytes) (put (k * 24 + 16) block (put (k * 24) flags bytes)) (omega arith)
-      (put-first (k * 24 + 16) (k * 24 + 16) block (put (k * 24) flags bytes) (omega arith) (omega (arith, flags-put)))
-      ∙ put-in (k * 24) 16 flags bytes nf (omega arith)
+      cut-same (k * rowBytes) flagCount (k * rowBytes + blockPlace) (put (k * rowBytes) flags bytes) (put (k * rowBytes + blockPlace) block (put (k * rowBytes) flags bytes)) (omega arith)
+      (put-first (k * rowBytes + blockPlace) (k * rowBytes + blockPlace) block (put (k * rowBytes) flags bytes) (omega arith) (omega (arith, flags-put)))
+      ∙ put-in (k * rowBytes) flagCount flags bytes nf (omega arith)
 
   block-stored : (size : ℕ) → length block ≡ size → sentBlockAt size (bytesWith k flags block bytes) k ≡ block
   unfolding sentBlockAt bytesWith
-  block-stored size e = put-in (k * 24 + 16) size block (put (k * 24) flags bytes) e (omega (arith, flags-put))
+  block-stored size e = put-in (k * rowBytes + blockPlace) size block (put (k * rowBytes) flags bytes) e (omega (arith, flags-put))
 
   stored-below : Below k numbers bytes (numbersWith k row numbers) (bytesWith k flags block bytes)
   unfolding numbersWith bytesWith
   stored-below =
       record {
-        same-numbers = put-first (k * 8) (k * 8) row numbers (omega arith) (omega arith);
+        same-numbers = put-first (k * rowNumbers) (k * rowNumbers) row numbers (omega arith) (omega arith);
         same-bytes =
-            put-first (k * 24 + 16) (k * 24) block (put (k * 24) flags bytes) (omega arith) (omega (arith, flags-put))
-            ∙ put-first (k * 24) (k * 24) flags bytes (omega arith) (omega arith);
+            put-first (k * rowBytes + blockPlace) (k * rowBytes) block (put (k * rowBytes) flags bytes) (omega arith) (omega (arith, flags-put))
+            ∙ put-first (k * rowBytes) (k * rowBytes) flags bytes (omega arith) (omega arith);
       }
 
   items-stored : (size : ℕ) (item : Item) → length block ≡ size
@@ -111,60 +113,60 @@ module _ (k : ℕ) (row flags block numbers bytes : List ℕ)
       (items-below k numbers bytes (numbersWith k row numbers) (bytesWith k flags block bytes) stored-below size k (omega arith) (omega arith)) f
 
 -- two stores make a row of bytes, and one a row of numbers
-pub bytes-stored : (k : ℕ) (flags block bytes mid bytes′ : List ℕ) → mid ≡ put (k * 24) flags bytes → bytes′ ≡ put (k * 24 + 16) block mid
+pub bytes-stored : (k : ℕ) (flags block bytes mid bytes′ : List ℕ) → mid ≡ put (k * rowBytes) flags bytes → bytes′ ≡ put (k * rowBytes + blockPlace) block mid
     → bytes′ ≡ bytesWith k flags block bytes
 unfolding bytesWith
-bytes-stored k flags block bytes mid bytes′ e f = f ∙ ap (put (k * 24 + 16) block) e
+bytes-stored k flags block bytes mid bytes′ e f = f ∙ ap (put (k * rowBytes + blockPlace) block) e
 
 -- a message's row is read back as the message
-message-read : (k brick : ℕ) (msg : Message) (block numbers bytes : List ℕ) → msg .kind < 256 → length (msg .targets) ≡ 16 → length block ≤ 8
-    → k * 8 + 8 ≤ length numbers → k * 24 + 24 ≤ length bytes → (size : ℕ) → length block ≡ size
+message-read : (k brick : ℕ) (msg : Message) (block numbers bytes : List ℕ) → msg .kind < 256 → length (msg .targets) ≡ flagCount → length block ≤ benchSize
+    → k * rowNumbers + rowNumbers ≤ length numbers → k * rowBytes + rowBytes ≤ length bytes → (size : ℕ) → length block ≡ size
     → itemAt size (numbersWith k (messageRow brick msg) numbers) (bytesWith k (msg .targets) block bytes) k ≡ message brick msg block
 unfolding itemAt isReply messageAt replyAt messageRow
 message-read k brick msg block numbers bytes hk nf nb hn hb size e =
     let row = messageRow brick msg in
-    let n : (i : ℕ) → i < 8 → numberAt (numbersWith k row numbers) k i ≡ getD row i 0
+    let n : (i : ℕ) → i < rowNumbers → numberAt (numbersWith k row numbers) k i ≡ getD row i 0
     = number-stored k row (msg .targets) block numbers bytes refl nf nb hn hb in
-    let n0 = n 0 (omega arith) in
-    let n1 = n 1 (omega arith) in
-    let n2 = n 2 (omega arith) in
-    let n3 = n 3 (omega arith) in
-    let n4 = n 4 (omega arith) in
-    let n5 = n 5 (omega arith) in
+    let n0 = n tagPlace (omega arith) in
+    let n1 = n brickPlace (omega arith) in
+    let n2 = n kindPlace (omega arith) in
+    let n3 = n timePlace (omega arith) in
+    let n4 = n roundPlace (omega arith) in
+    let n5 = n maxPlace (omega arith) in
     let f = flags-stored k row (msg .targets) block numbers bytes refl nf nb hn hb in
     let d = block-stored k row (msg .targets) block numbers bytes refl nf nb hn hb size e in
     let m : msg .kind % 256 ≡ msg .kind = mod-eq-of-lt hk in
     rw (n0, n1, n2, n3, n4, n5, f, d, m)
 
 -- a reply's row is read back as the reply
-no-flags-length : length noFlags ≡ 16
+no-flags-length : length noFlags ≡ flagCount
 unfolding noFlags zeros
 no-flags-length = refl
 
-reply-read : (k : ℕ) (r : Reply) (block numbers bytes : List ℕ) → r .kind < 256 → length block ≤ 8
-    → k * 8 + 8 ≤ length numbers → k * 24 + 24 ≤ length bytes → (size : ℕ) → length block ≡ size
+reply-read : (k : ℕ) (r : Reply) (block numbers bytes : List ℕ) → r .kind < 256 → length block ≤ benchSize
+    → k * rowNumbers + rowNumbers ≤ length numbers → k * rowBytes + rowBytes ≤ length bytes → (size : ℕ) → length block ≡ size
     → itemAt size (numbersWith k (replyRow r) numbers) (bytesWith k noFlags block bytes) k ≡ reply r block
 unfolding itemAt isReply messageAt replyAt replyRow
 reply-read k r block numbers bytes hk nb hn hb size e =
     let row = replyRow r in
     let nf = no-flags-length in
-    let n : (i : ℕ) → i < 8 → numberAt (numbersWith k row numbers) k i ≡ getD row i 0
+    let n : (i : ℕ) → i < rowNumbers → numberAt (numbersWith k row numbers) k i ≡ getD row i 0
     = number-stored k row noFlags block numbers bytes refl nf nb hn hb in
-    let n0 = n 0 (omega arith) in
-    let n1 = n 1 (omega arith) in
-    let n2 = n 2 (omega arith) in
-    let n3 = n 3 (omega arith) in
-    let n4 = n 4 (omega arith) in
-    let n5 = n 5 (omega arith) in
-    let n6 = n 6 (omega arith) in
-    let n7 = n 7 (omega arith) in
+    let n0 = n tagPlace (omega arith) in
+    let n1 = n brickPlace (omega arith) in
+    let n2 = n kindPlace (omega arith) in
+    let n3 = n timePlace (omega arith) in
+    let n4 = n roundPlace (omega arith) in
+    let n5 = n maxPlace (omega arith) in
+    let n6 = n yesPlace (omega arith) in
+    let n7 = n heldPlace (omega arith) in
     let d = block-stored k row noFlags block numbers bytes refl nf nb hn hb size e in
     let m : r .kind % 256 ≡ r .kind = mod-eq-of-lt hk in
     rw (n0, n1, n2, n3, n4, n5, n6, n7, d, m, one-is (r .yes), one-is (r .held))
 
 -- what the stores of a message and of a reply leave
-pub message-added : (k brick : ℕ) (msg : Message) (block numbers bytes numbers′ bytes′ : List ℕ) → msg .kind < 256 → length (msg .targets) ≡ 16
-    → length block ≤ 8 → k * 8 + 8 ≤ length numbers → k * 24 + 24 ≤ length bytes
+pub message-added : (k brick : ℕ) (msg : Message) (block numbers bytes numbers′ bytes′ : List ℕ) → msg .kind < 256 → length (msg .targets) ≡ flagCount
+    → length block ≤ benchSize → k * rowNumbers + rowNumbers ≤ length numbers → k * rowBytes + rowBytes ≤ length bytes
     → numbers′ ≡ numbersWith k (messageRow brick msg) numbers → bytes′ ≡ bytesWith k (msg .targets) block bytes
     → Added k block numbers bytes numbers′ bytes′ (message brick msg block)
 unfolding messageRow
@@ -178,7 +180,7 @@ message-added k brick msg block numbers bytes numbers′ bytes′ hk nf nb hn hb
     }
 
 pub reply-added : (k : ℕ) (r : Reply) (block numbers bytes numbers′ bytes′ : List ℕ) → r .kind < 256
-    → length block ≤ 8 → k * 8 + 8 ≤ length numbers → k * 24 + 24 ≤ length bytes
+    → length block ≤ benchSize → k * rowNumbers + rowNumbers ≤ length numbers → k * rowBytes + rowBytes ≤ length bytes
     → numbers′ ≡ numbersWith k (replyRow r) numbers → bytes′ ≡ bytesWith k noFlags block bytes
     → Added k block numbers bytes numbers′ bytes′ (reply r block)
 unfolding replyRow
@@ -192,8 +194,8 @@ reply-added k r block numbers bytes numbers′ bytes′ hk nb hn hb en eb =
     }
 
 pub message-put : (k brick kind : ℕ) (msg : Message) (block numbers bytes numbers′ bytes′ : List ℕ) → kind ≡ msg .kind → kind < 256
-    → length (msg .targets) ≡ 16 → length block ≤ 8 → k * 8 + 8 ≤ length numbers → k * 24 + 24 ≤ length bytes
-    → numbers′ ≡ put (k * 8) (0 ∷ brick ∷ kind ∷ msg .time ∷ msg .round ∷ msg .max ∷ 0 ∷ 0 ∷ []) numbers
+    → length (msg .targets) ≡ flagCount → length block ≤ benchSize → k * rowNumbers + rowNumbers ≤ length numbers → k * rowBytes + rowBytes ≤ length bytes
+    → numbers′ ≡ put (k * rowNumbers) (rowOf messageTag brick kind (msg .time) (msg .round) (msg .max) 0 0) numbers
     → bytes′ ≡ bytesWith k (msg .targets) block bytes
     → (numbers′ ≡ numbersWith k (messageRow brick msg) numbers)
     × ((bytes′ ≡ bytesWith k (msg .targets) block bytes)
@@ -201,13 +203,13 @@ pub message-put : (k brick kind : ℕ) (msg : Message) (block numbers bytes numb
 unfolding numbersWith messageRow
 message-put k brick kind msg block numbers bytes numbers′ bytes′ ek hk nf nb hn hb en eb =
     let e : numbers′ ≡ numbersWith k (messageRow brick msg) numbers
-    = en ∙ ap (λ (x : ℕ). put (k * 8) (0 ∷ brick ∷ x ∷ msg .time ∷ msg .round ∷ msg .max ∷ 0 ∷ 0 ∷ []) numbers) ek in
+    = en ∙ ap (λ (x : ℕ). put (k * rowNumbers) (rowOf messageTag brick x (msg .time) (msg .round) (msg .max) 0 0) numbers) ek in
     (e, (eb, message-added k brick msg block numbers bytes numbers′ bytes′ (omega arith) nf nb hn hb e eb))
 
 pub reply-put : (k kind y h : ℕ) (r : Reply) (block numbers bytes numbers′ bytes′ : List ℕ) → kind ≡ r .kind → kind < 256
     → y ≡ one-if (r .yes) → h ≡ one-if (r .held)
-    → length block ≤ 8 → k * 8 + 8 ≤ length numbers → k * 24 + 24 ≤ length bytes
-    → numbers′ ≡ put (k * 8) (1 ∷ r .brick ∷ kind ∷ r .time ∷ r .round ∷ r .found ∷ y ∷ h ∷ []) numbers
+    → length block ≤ benchSize → k * rowNumbers + rowNumbers ≤ length numbers → k * rowBytes + rowBytes ≤ length bytes
+    → numbers′ ≡ put (k * rowNumbers) (rowOf replyTag (r .brick) kind (r .time) (r .round) (r .found) y h) numbers
     → bytes′ ≡ bytesWith k noFlags block bytes
     → (numbers′ ≡ numbersWith k (replyRow r) numbers)
     × ((bytes′ ≡ bytesWith k noFlags block bytes)
@@ -219,7 +221,7 @@ reply-put k kind y h r block numbers bytes numbers′ bytes′ ek hk ey eh nb hn
     (e, (eb, reply-added k r block numbers bytes numbers′ bytes′ (omega arith) nb hn hb e eb))
 
 -- a row as its reader takes it apart
-pub item-message : (size k b : ℕ) (msg : Message) (block numbers bytes : List ℕ) → isReply numbers k ≡ false → b ≡ numberAt numbers k 1
+pub item-message : (size k b : ℕ) (msg : Message) (block numbers bytes : List ℕ) → isReply numbers k ≡ false → b ≡ numberAt numbers k brickPlace
     → msg ≡ messageAt numbers bytes k → block ≡ sentBlockAt size bytes k → itemAt size numbers bytes k ≡ message b msg block
 unfolding itemAt
 item-message size k b msg block numbers bytes t eb em e = rw (t, eb, em, e)
@@ -230,33 +232,33 @@ unfolding itemAt
 item-reply size k r block numbers bytes t er e = rw (t, er, e)
 
 -- a row's block, as code cuts it out
-pub block-cut : (size k from till : ℕ) (bytes : List ℕ) → from ≡ k * 24 + 16 → till ≡ from + size
+pub block-cut : (size k from till : ℕ) (bytes : List ℕ) → from ≡ k * rowBytes + blockPlace → till ≡ from + size
     → take (till - from) (drop from bytes) ≡ sentBlockAt size bytes k
 unfolding sentBlockAt
 block-cut size k from till bytes ef et =
     let e : till - from ≡ size = omega arith in
     ap₂ (λ (a b : ℕ). take a (drop b bytes)) e ef
 
-pub flags-cut : (k : ℕ) (bytes flags : List ℕ) → flags ≡ take (k * 24 + 16 - k * 24) (drop (k * 24) bytes) → flags ≡ flagsAt bytes k
+pub flags-cut : (k : ℕ) (bytes flags : List ℕ) → flags ≡ take (k * rowBytes + blockPlace - k * rowBytes) (drop (k * rowBytes) bytes) → flags ≡ flagsAt bytes k
 unfolding flagsAt
 flags-cut k bytes flags f =
-    let e : k * 24 + 16 - k * 24 ≡ 16 = omega arith in
-    f ∙ ap (λ (a : ℕ). take a (drop (k * 24) bytes)) e
+    let e : k * rowBytes + blockPlace - k * rowBytes ≡ flagCount = omega arith in
+    f ∙ ap (λ (a : ℕ). take a (drop (k * rowBytes) bytes)) e
 
 -- the parts of a row make the message, and the reply
-pub message-of : (k kind time round max : ℕ) (targets numbers bytes : List ℕ) → kind ≡ numberAt numbers k 2 % 256
-    → time ≡ numberAt numbers k 3 → round ≡ numberAt numbers k 4 → max ≡ numberAt numbers k 5 → targets ≡ flagsAt bytes k
+pub message-of : (k kind time round max : ℕ) (targets numbers bytes : List ℕ) → kind ≡ numberAt numbers k kindPlace % 256
+    → time ≡ numberAt numbers k timePlace → round ≡ numberAt numbers k roundPlace → max ≡ numberAt numbers k maxPlace → targets ≡ flagsAt bytes k
     → record { kind = kind; time = time; round = round; max = max; targets = targets } ≡ messageAt numbers bytes k
 unfolding messageAt
 message-of k kind time round max targets numbers bytes e2 e3 e4 e5 f = rw (e2, e3, e4, e5, f)
 
-pub reply-of : (k kind brick time round found y h : ℕ) (numbers : List ℕ) → kind ≡ numberAt numbers k 2 % 256
-    → brick ≡ numberAt numbers k 1 → time ≡ numberAt numbers k 3 → round ≡ numberAt numbers k 4 → found ≡ numberAt numbers k 5
-    → y ≡ numberAt numbers k 6 → h ≡ numberAt numbers k 7
+pub reply-of : (k kind brick time round found y h : ℕ) (numbers : List ℕ) → kind ≡ numberAt numbers k kindPlace % 256
+    → brick ≡ numberAt numbers k brickPlace → time ≡ numberAt numbers k timePlace → round ≡ numberAt numbers k roundPlace → found ≡ numberAt numbers k foundPlace
+    → y ≡ numberAt numbers k yesPlace → h ≡ numberAt numbers k heldPlace
     → record { kind = kind; brick = brick; time = time; round = round; yes = eqb y 1; found = found; held = eqb h 1 } ≡ replyAt numbers k
 unfolding replyAt
 reply-of k kind brick time round found y h numbers e2 e1 e3 e4 e5 e6 e7 = rw (e2, e1, e3, e4, e5, e6, e7)
 
-pub is-reply : (k tag : ℕ) (numbers : List ℕ) → tag ≡ numberAt numbers k 0 → not (eqb tag 0) ≡ isReply numbers k
+pub is-reply : (k tag : ℕ) (numbers : List ℕ) → tag ≡ numberAt numbers k tagPlace → not (eqb tag messageTag) ≡ isReply numbers k
 unfolding isReply
 is-reply k tag numbers e = rw e

@@ -7,6 +7,7 @@ use Rattle.bench_commit.proofs.Laws.ActedLaws.{acted-crash}
 use borrow.Author.Needs.{needs}
 use Rattle.bench_start.proofs.crash_with.Statement.{statement}
 use Rattle.bench_start.proofs.crash_with.Tie as tie
+use Rattle.bench_limits.specs.Limits.{stripeRoom, keptRoom}
 
 fetch-requires : tie.Need-fetch-requires
 fetch-requires c κs = search needs
@@ -26,10 +27,12 @@ commit-requires c κs =
     (s .pre .0, (record { blocks-long = long; stripe-long = f .1 .1 .1 .0 ∙ s .pre .1 .stripe-long; coded-long = long }, few))
 
 same-length : tie.Need-same-length
-same-length c = c .before .before .before .before .before .before .before .before .before .before .before .before .before .before .before .before .before .before .before .before .before .before .fetch .kept .1 .1 .0
+same-length c = c .before .before .before .before .before .before .before .before .before .before .before .before .before .before .before .before .before .before .before .before .before .before .fetch
+    .kept .1 .1 .0
 
 same-length-2 : tie.Need-same-length-2
-same-length-2 c = c .before .before .before .before .before .before .before .before .before .before .before .before .before .before .before .before .before .before .before .before .before .before .fetch .kept .1 .1 .1 .0
+same-length-2 c = c .before .before .before .before .before .before .before .before .before .before .before .before .before .before .before .before .before .before .before .before .before .before
+    .fetch .kept .1 .1 .1 .0
 
 same-length-3 : tie.Need-same-length-3
 same-length-3 c = search needs
@@ -45,13 +48,17 @@ same-length-6 c = search needs
 
 returns : tie.Need-returns
 returns c =
-    let s = c .before .before .before .before .before .before .before .before .before .before .before .before .before .before .before .before .before .before .before .before .before .before .before .before .before .before .before .before .before .before .before .before in
+    let s = c .before .before .before .before .before .before .before .before .before .before .before .before .before .before .before .before .before .before .before .before .before .before .before
+    .before .before .before .before .before .before .before .before .before in
     let k = s .args .kept .now in
     acted-crash (s .args .b) (s .args .c) k (s .args .numbers .now) (s .args .bytes .now) 0 (s .args .out .now) _ _ _ _ _ _ _ _ (s .pre .0 .low)
     (c .before .before .before .before .before .before .before .before .before .before .before .before .before .before .before .before .coordinator-at .ensures .0)
-    (c .before .before .before .before .before .before .before .before .before .before .before .before .before .before .before .before .before .before .before .before .before .before .fetch .ensures .0 ∙ ap (λ (j : ℕ). take j (drop (s .args .c * 64) k)) (s .pre .1 .blocks-long))
-    (c .before .before .before .before .before .before .before .before .before .before .before .before .before .before .before .before .before .before .before .before .before .before .fetch .ensures .1 ∙ ap (λ (j : ℕ). take j (drop (s .args .c * 64 + 32) k)) (s .pre .1 .stripe-long))
-    _ (c .before .before .before .before .before .before .before .before .before .before .before .before .before .before .before .crash .ensures) (c .before .before .before .before .before .before .before .before .commit .ensures)
+    (c .before .before .before .before .before .before .before .before .before .before .before .before .before .before .before .before .before .before .before .before .before .before .fetch .ensures
+    .0 ∙ ap (λ (j : ℕ). take j (drop (s .args .c * keptRoom) k)) (s .pre .1 .blocks-long))
+    (c .before .before .before .before .before .before .before .before .before .before .before .before .before .before .before .before .before .before .before .before .before .before .fetch .ensures
+    .1 ∙ ap (λ (j : ℕ). take j (drop (s .args .c * keptRoom + stripeRoom) k)) (s .pre .1 .stripe-long))
+    _ (c .before .before .before .before .before .before .before .before .before .before .before .before .before .before .before .crash .ensures)
+    (c .before .before .before .before .before .before .before .before .commit .ensures)
 
 pub crash-with-spec : {M : Type 1} → statement M
 crash-with-spec =

@@ -15,7 +15,8 @@ same-length c = search needs
 returns : tie.Need-returns
 returns c =
     let s = c .before .before .before .before .before .before .before .before .before in
-    read-past (s .args .b) (s .args .c) (s .args .kept .now) (s .args .numbers .now) (s .args .bytes .now) 0 (s .args .out .now) _ (s .args .clock) (s .args .brick) _ (omega (arith, c .before .before .before .before .if1 .taken)) (c .before .before .refuse .ensures)
+    read-past (s .args .b) (s .args .c) (s .args .kept .now) (s .args .numbers .now) (s .args .bytes .now) 0 (s .args .out .now) _ (s .args .clock) (s .args .brick) _
+    (omega (arith, c .before .before .before .before .if1 .taken)) (c .before .before .refuse .ensures)
 
 mul-data : tie.Need-mul-data
 mul-data c = search needs
@@ -39,7 +40,8 @@ read-with-requires : tie.Need-read-with-requires
 read-with-requires c κs =
     let s = c .before .before .before .before .before .before .before .before .before .before .before .before .before .before in
     let long = sym (front-long _ (s .pre .fits .small .blocks-fit)) in (
-      seat-at (s .args .b) 0 (s .args .c) (s .args .kept .now) (s .args .numbers .now) (s .args .bytes .now) 0 (s .args .out .now) (s .pre) (c .before .before .before .before .before .before .before .before .before .if1 .left),
+      seat-at (s .args .b) 0 (s .args .c) (s .args .kept .now) (s .args .numbers .now) (s .args .bytes .now) 0 (s .args .out .now) (s .pre)
+          (c .before .before .before .before .before .before .before .before .before .if1 .left),
       record { blocks-long = long; stripe-long = sym (front-long _ (s .pre .fits .small .stripe-fits)); coded-long = long },
     )
 
@@ -57,8 +59,11 @@ same-length-5 c = search needs
 
 returns-2 : tie.Need-returns-2
 returns-2 c =
-    let s = c .before .before .before .before .before .before .before .before .before .before .before .before .before .before .before .before .before .before .before .before .before .before .before .before .before in
-    read-here (s .args .b) (s .args .c) (s .args .kept .now) (s .args .numbers .now) (s .args .bytes .now) 0 (s .args .out .now) _ (s .args .clock) (s .args .brick) _ _ _ _ (c .before .before .before .before .before .before .before .before .before .before .before .before .before .before .before .before .before .before .before .before .if1 .left) (c .before .before .before .before .before .before .before .before .before .before .read-with .ensures)
+    let s = c .before .before .before .before .before .before .before .before .before .before .before .before .before .before .before .before .before .before .before .before .before .before .before
+    .before .before in
+    read-here (s .args .b) (s .args .c) (s .args .kept .now) (s .args .numbers .now) (s .args .bytes .now) 0 (s .args .out .now) _ (s .args .clock) (s .args .brick) _ _ _ _
+    (c .before .before .before .before .before .before .before .before .before .before .before .before .before .before .before .before .before .before .before .before .if1 .left)
+    (c .before .before .before .before .before .before .before .before .before .before .read-with .ensures)
 
 pub read-at-spec : {M : Type 1} → statement M
 read-at-spec =

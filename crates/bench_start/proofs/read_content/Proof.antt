@@ -19,7 +19,8 @@ same-length : tie.Need-same-length
 same-length c = search needs
 
 returns-2 : tie.Need-returns-2
-returns-2 c = let s = c .before .before .before .before .before .before .before in digits-right (s .args .line .now) (s .args .content .now) _ (s .args .hex) (c .before .before .before .before .if1 .left) (c .before .before .hex-bytes .ensures)
+returns-2 c = let s = c .before .before .before .before .before .before .before in
+    digits-right (s .args .line .now) (s .args .content .now) _ (s .args .hex) (c .before .before .before .before .if1 .left) (c .before .before .hex-bytes .ensures)
 
 pub read-content-spec : {M : Type 1} → statement M
 read-content-spec =

@@ -16,7 +16,8 @@ same-length c = search needs
 returns : tie.Need-returns
 returns c =
     let s = c .before .before .before .before .before .before .before .before .before .before in
-    write-past (s .args .b) (s .args .c) (s .args .kept .now) (s .args .numbers .now) (s .args .bytes .now) 0 (s .args .out .now) _ (s .args .clock) (drop (s .args .hex) (s .args .line .now)) _ (omega (arith, c .before .before .before .before .if1 .taken)) (c .before .before .refuse .ensures)
+    write-past (s .args .b) (s .args .c) (s .args .kept .now) (s .args .numbers .now) (s .args .bytes .now) 0 (s .args .out .now) _ (s .args .clock) (drop (s .args .hex) (s .args .line .now)) _
+    (omega (arith, c .before .before .before .before .if1 .taken)) (c .before .before .refuse .ensures)
 
 mul-data : tie.Need-mul-data
 mul-data c = search needs
@@ -46,7 +47,8 @@ write-with-requires : tie.Need-write-with-requires
 write-with-requires c κs =
     let s = c .before .before .before .before .before .before .before .before .before .before .before .before .before .before .before .before in
     let long = sym (front-long _ (s .pre .0 .fits .small .blocks-fit)) in (
-      seat-at (s .args .b) 0 (s .args .c) (s .args .kept .now) (s .args .numbers .now) (s .args .bytes .now) 0 (s .args .out .now) (s .pre .0) (c .before .before .before .before .before .before .before .before .before .before .if1 .left),
+      seat-at (s .args .b) 0 (s .args .c) (s .args .kept .now) (s .args .numbers .now) (s .args .bytes .now) 0 (s .args .out .now) (s .pre .0)
+          (c .before .before .before .before .before .before .before .before .before .before .if1 .left),
       (
         record { blocks-long = long; stripe-long = sym (front-long _ (s .pre .0 .fits .small .stripe-fits)); coded-long = long },
         (s .pre .1, front-zeros _ (s .pre .0 .fits .small .stripe-fits)),
@@ -67,8 +69,11 @@ same-length-5 c = search needs
 
 returns-2 : tie.Need-returns-2
 returns-2 c =
-    let s = c .before .before .before .before .before .before .before .before .before .before .before .before .before .before .before .before .before .before .before .before .before .before .before .before .before .before .before .before in
-    write-here (s .args .b) (s .args .c) (s .args .kept .now) (s .args .numbers .now) (s .args .bytes .now) 0 (s .args .out .now) _ (s .args .clock) (drop (s .args .hex) (s .args .line .now)) _ _ _ _ (c .before .before .before .before .before .before .before .before .before .before .before .before .before .before .before .before .before .before .before .before .before .before .if1 .left) (c .before .before .before .before .before .before .before .before .before .before .before .write-with .ensures)
+    let s = c .before .before .before .before .before .before .before .before .before .before .before .before .before .before .before .before .before .before .before .before .before .before .before
+    .before .before .before .before .before in
+    write-here (s .args .b) (s .args .c) (s .args .kept .now) (s .args .numbers .now) (s .args .bytes .now) 0 (s .args .out .now) _ (s .args .clock) (drop (s .args .hex) (s .args .line .now)) _ _ _ _
+    (c .before .before .before .before .before .before .before .before .before .before .before .before .before .before .before .before .before .before .before .before .before .before .if1 .left)
+    (c .before .before .before .before .before .before .before .before .before .before .before .write-with .ensures)
 
 pub write-at-spec : {M : Type 1} → statement M
 write-at-spec =

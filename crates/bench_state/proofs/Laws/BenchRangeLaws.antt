@@ -1,4 +1,4 @@
--- Laws of `specs/RangeLaws`.
+-- Settings within the bench's limits.
 use mathlib.Core.Path.{_≡_, refl, sym, ap, _∙_}
 use mathlib.Core.Bool.{Bool, true, false, _&&_}
 use Prim.Native.Nat.{ℕ, _≤_}
@@ -16,19 +16,20 @@ use Rattle.image.specs.Image.{imageSize}
 use Rattle.bench_state.specs.State.{benchRange}
 use Rattle.bench_state.specs.Workers.{benchRefusal}
 use Rattle.bench_state.specs.Workers.{Fits}
+use Rattle.bench_limits.specs.Limits.{benchBricks, benchCapacity, benchSize}
 
 pub bench-bad : (s : Settings) (k : ℕ) → k ≡ settingsRefusal s → (k ≡ 0 → ⊥) → 1 ≡ benchRefusal s
 unfolding settingsRefusal benchRefusal benchRange
-bench-bad s k e h = go (inRange s) (leb (s .n) 4 && leb (s .size) 8 && leb (s .capacity) 4) e
+bench-bad s k e h = go (inRange s) (leb (s .n) benchBricks && leb (s .size) benchSize && leb (s .capacity) benchCapacity) e
   where
     go : (a b : Bool) → k ≡ refuseUnless a 1 → 1 ≡ refuseUnless (a && b) 1
     go true b d = absurd (h d)
     go false b d = refl
 
 pub bench-rest : (s : Settings) (k v : ℕ) → k ≡ settingsRefusal s → k ≡ 0
-    → v ≡ refuseUnless (leb (s .n) 4 && leb (s .size) 8 && leb (s .capacity) 4) 1 → v ≡ benchRefusal s
+    → v ≡ refuseUnless (leb (s .n) benchBricks && leb (s .size) benchSize && leb (s .capacity) benchCapacity) 1 → v ≡ benchRefusal s
 unfolding settingsRefusal benchRefusal benchRange
-bench-rest s k v e h r = r ∙ go (inRange s) (leb (s .n) 4 && leb (s .size) 8 && leb (s .capacity) 4) e
+bench-rest s k v e h r = r ∙ go (inRange s) (leb (s .n) benchBricks && leb (s .size) benchSize && leb (s .capacity) benchCapacity) e
   where
     go : (a b : Bool) → k ≡ refuseUnless a 1 → refuseUnless b 1 ≡ refuseUnless (a && b) 1
     go true b d = refl
@@ -39,11 +40,11 @@ unfolding benchRange settingsRefusal imageSize
 bench-fits s e =
     let r = and-left (inRange s) _ e in
     let t = and-right (inRange s) _ e in
-    let n = leb-true (s .n) 4 (and-left _ _ (and-left _ _ t)) in
-    let z = leb-true (s .size) 8 (and-right (leb (s .n) 4) _ (and-left _ _ t)) in
-    let k = leb-true (s .capacity) 4 (and-right (leb (s .n) 4 && leb (s .size) 8) _ t) in
+    let n = leb-true (s .n) benchBricks (and-left _ _ (and-left _ _ t)) in
+    let z = leb-true (s .size) benchSize (and-right (leb (s .n) benchBricks) _ (and-left _ _ t)) in
+    let k = leb-true (s .capacity) benchCapacity (and-right (leb (s .n) benchBricks && leb (s .size) benchSize) _ t) in
     let g = settings-passed s (ap (λ (b : Bool). refuseUnless b 1) r) in
-    let m : s .m ≤ 4 = (let h = g .code .m-high in omega arith) in
+    let m : s .m ≤ benchBricks = (let h = g .code .m-high in omega arith) in
     record {
       in-range = r;
       range = g;

@@ -1,4 +1,4 @@
--- Laws of `specs/FillLaws`.
+-- Fresh images, one after the other.
 use mathlib.Core.Path.{_≡_, refl, sym, ap, subst, _∙_}
 use mathlib.Core.Logic.{_⊎_, inl, inr}
 use mathlib.Core.Bool.{true, cond}
@@ -28,55 +28,57 @@ use Rattle.bench_state.proofs.Laws.StateLaws.{fresh-world}
 use Rattle.bench_state.specs.declared.Bench.{Bench}
 use Rattle.register.specs.Runs.{freshSet}
 use Rattle.bench_state.specs.Workers.{Begun}
+use Rattle.bench_limits.specs.Limits.{keptLength, imageRoom, imagesLength}
 
 lending-passes : (s : Settings) (brick len : ℕ) → inRange s ≡ true → len ≡ imageSize s → brick < s .n → lendingRefusal s brick len ≡ 0
 unfolding lendingRefusal firstRefusal
 lending-passes s brick len r e l = rw (r, eq-eqb len (imageSize s) e, lt-ltb brick (s .n) l) refl
 
-pub begun-none : (s : Settings) (images : List ℕ) → length images ≡ 10240 → Begun s images 0
+pub begun-none : (s : Settings) (images : List ℕ) → length images ≡ imagesLength → Begun s images 0
 begun-none s images e = record { long = e; images-fresh = λ b h. absurd (not-suc-le-zero h) }
 
 pub begun-more : (s : Settings) (images new : List ℕ) (k : ℕ) → Small s → Begun s images k → k < s .n → length new ≡ imageSize s
-    → new ≡ imageOf s k (Brick.freshBrick s) → Begun s (put (k * 2560) new images) (k + 1)
+    → new ≡ imageOf s k (Brick.freshBrick s) → Begun s (put (k * imageRoom) new images) (k + 1)
 begun-more s images new k small h l e f =
     record {
-      long = put-length (k * 2560) new images (let a = small .bricks in let b = small .image-fits in let c = h .long in omega arith) ∙ h .long;
+      long = put-length (k * imageRoom) new images (let a = small .bricks in let b = small .image-fits in let c = h .long in omega arith) ∙ h .long;
       images-fresh = λ b u. by b (eq-or-lt-of-le (let v : b ≤ k = omega arith in v));
     }
   where
-    by : (b : ℕ) → (b ≡ k) ⊎ (b < k) → take (imageSize s) (drop (b * 2560) (put (k * 2560) new images)) ≡ imageOf s b (Brick.freshBrick s)
+    by : (b : ℕ) → (b ≡ k) ⊎ (b < k) → take (imageSize s) (drop (b * imageRoom) (put (k * imageRoom) new images)) ≡ imageOf s b (Brick.freshBrick s)
     by b (inl q) =
-        ap (λ (j : ℕ). take (imageSize s) (drop (j * 2560) (put (k * 2560) new images))) q
-        ∙ put-in (k * 2560) (imageSize s) new images e (let a = small .bricks in let c = h .long in omega arith)
+        ap (λ (j : ℕ). take (imageSize s) (drop (j * imageRoom) (put (k * imageRoom) new images))) q
+        ∙ put-in (k * imageRoom) (imageSize s) new images e (let a = small .bricks in let c = h .long in omega arith)
         ∙ f
         ∙ ap (λ (j : ℕ). imageOf s j (Brick.freshBrick s)) (sym q)
     by b (inr v) =
-        put-before (k * 2560) (b * 2560) (imageSize s) new images (let i = small .image-fits in omega arith)
+        put-before (k * imageRoom) (b * imageRoom) (imageSize s) new images (let i = small .image-fits in omega arith)
         (let a = small .bricks in let i = small .image-fits in let c = h .long in omega arith)
         ∙ h .images-fresh b v
 
 -- one more image, as the code stores it
 pub begun-stored : (s : Settings) (images new : List ℕ) (k len : ℕ) → Small s → inRange s ≡ true → Begun s images k → k < s .n → len ≡ 512 * (s .capacity + 1)
-    → length new ≡ length (take (k * 2560 + len - k * 2560) (drop (k * 2560) images))
-    → new ≡ freshAfter s k (take (k * 2560 + len - k * 2560) (drop (k * 2560) images))
-    → Begun s (putMid (k * 2560) (k * 2560 + len - k * 2560) images new) (k + 1)
+    → length new ≡ length (take (k * imageRoom + len - k * imageRoom) (drop (k * imageRoom) images))
+    → new ≡ freshAfter s k (take (k * imageRoom + len - k * imageRoom) (drop (k * imageRoom) images))
+    → Begun s (putMid (k * imageRoom) (k * imageRoom + len - k * imageRoom) images new) (k + 1)
 unfolding freshAfter imageSize
 begun-stored s images new k len small r h l e el f =
     let a = small .bricks in
     let b = small .log-fits in
     let g = h .long in
-    let long : length (take (k * 2560 + len - k * 2560) (drop (k * 2560) images)) ≡ 512 * (s .capacity + 1) =
-    length-take-le (k * 2560 + len - k * 2560) (drop (k * 2560) images) (let d = length-drop (k * 2560) images in omega arith) ∙ (omega arith)
+    let long : length (take (k * imageRoom + len - k * imageRoom) (drop (k * imageRoom) images)) ≡ 512 * (s .capacity + 1) =
+    length-take-le (k * imageRoom + len - k * imageRoom) (drop (k * imageRoom) images) (let d = length-drop (k * imageRoom) images in omega arith) ∙ (omega arith)
     in
-    subst (λ (i : List ℕ). Begun s i (k + 1)) (sym (put-mid (k * 2560) (k * 2560 + len) images new (omega arith) (omega arith)))
+    subst (λ (i : List ℕ). Begun s i (k + 1)) (sym (put-mid (k * imageRoom) (k * imageRoom + len) images new (omega arith) (omega arith)))
     (begun-more s images new k small h l (el ∙ long)
-    (f ∙ ap (λ (n : ℕ). cond (eqb n 0) (imageOf s k (Brick.freshBrick s)) (take (k * 2560 + len - k * 2560) (drop (k * 2560) images))) (passes (take (k * 2560 + len - k * 2560) (drop (k * 2560) images)) long)))
+    (f ∙ ap (λ (n : ℕ). cond (eqb n 0) (imageOf s k (Brick.freshBrick s)) (take (k * imageRoom + len - k * imageRoom) (drop (k * imageRoom) images)))
+    (passes (take (k * imageRoom + len - k * imageRoom) (drop (k * imageRoom) images)) long)))
   where
     passes : (t : List ℕ) → length t ≡ 512 * (s .capacity + 1) → lendingRefusal s k (length t) ≡ 0
     passes t long = lending-passes s k (length t) r long l
 
 -- a set that began, by what the parts of its beginning gave
-pub set-begun : (s : Settings) (b : Bench) (images kept : List ℕ) (k : ℕ) → Small s → b ≡ freshBench s → Begun s images (s .n) → kept ≡ zeros k → k ≡ 256
+pub set-begun : (s : Settings) (b : Bench) (images kept : List ℕ) (k : ℕ) → Small s → b ≡ freshBench s → Begun s images (s .n) → kept ≡ zeros k → k ≡ keptLength
     → (b ≡ freshBench s) × (worldOf b images kept [] ≡ freshSet s)
 set-begun s b images kept k small e h z l =
-    (e, ap (λ (x : Bench). worldOf x images kept []) e ∙ fresh-world s small images kept (h .images-fresh) (z ∙ ap (λ (j : ℕ). zeros j) l ∙ zero-list 256))
+    (e, ap (λ (x : Bench). worldOf x images kept []) e ∙ fresh-world s small images kept (h .images-fresh) (z ∙ ap (λ (j : ℕ). zeros j) l ∙ zero-list keptLength))

@@ -1,4 +1,4 @@
--- Laws of `specs/StateLaws`.
+-- The world that the record and the buffers stand for: a set that begins, and one part that changes.
 use mathlib.Core.Path.{_≡_, refl, sym, ap, ap₂, fun-ext, _∙_}
 use mathlib.Core.Bool.{Bool, true, cond}
 use mathlib.Core.List.{List, [], _∷_}
@@ -21,6 +21,7 @@ use Rattle.byte_lists.proofs.Laws.PutLaws.{put-length, put-in, put-before, put-
 use Rattle.bench_state.specs.State.{imagesOf, upOf, idleAt, coordinatorKept, worldOf}
 use Rattle.bench_state.specs.Workers.{freshBench, keptWith}
 use Rattle.bench_state.specs.Workers.{Small}
+use Rattle.bench_limits.specs.Limits.{benchCoordinators, upFlag, stripeRoom, keptRoom, keptLength, imageRoom, imagesLength}
 
 -- a part of a list of zeros is zeros
 zero-part : (at k n : ℕ) → at + k ≤ n → take {A = ℕ} k (drop at (replicate n 0)) ≡ replicate k 0
@@ -42,7 +43,7 @@ fresh-state (suc (suc zero)) = refl
 fresh-state (suc (suc (suc zero))) = refl
 fresh-state (suc (suc (suc (suc c)))) = refl
 
-fresh-up : (b : ℕ) → upOf (1 ∷ 1 ∷ 1 ∷ 1 ∷ []) b ≡ true
+fresh-up : (b : ℕ) → upOf (upFlag ∷ upFlag ∷ upFlag ∷ upFlag ∷ []) b ≡ true
 unfolding upOf
 fresh-up zero = refl
 fresh-up (suc zero) = refl
@@ -55,18 +56,24 @@ abbrev holding : Coordinator → List ℕ → List ℕ → Buffered
 holding state blocks stripe = record { state = state; blocks = blocks; stripe = stripe }
 
 module _ (s : Settings) (small : Small s) where
-  fresh-held : (c : ℕ) → coordinatorKept s (idleAt 0 ∷ idleAt 1 ∷ idleAt 2 ∷ idleAt 3 ∷ []) (replicate 256 0) c ≡ idle s c
+  fresh-held : (c : ℕ) → coordinatorKept s (idleAt 0 ∷ idleAt 1 ∷ idleAt 2 ∷ idleAt 3 ∷ []) (replicate keptLength 0) c ≡ idle s c
   unfolding coordinatorKept idle idleAt
-  fresh-held c = by (decLt c 4)
+  fresh-held c = by (decLt c benchCoordinators)
     where
-      by : Dec (c < 4) → coordinatorKept s (idleAt 0 ∷ idleAt 1 ∷ idleAt 2 ∷ idleAt 3 ∷ []) (replicate 256 0) c ≡ idle s c
+      by : Dec (c < benchCoordinators) → coordinatorKept s (idleAt 0 ∷ idleAt 1 ∷ idleAt 2 ∷ idleAt 3 ∷ []) (replicate keptLength 0) c ≡ idle s c
       by (yes h) =
-          ap (λ (t : Bool). cond t (holding (getD (idleAt 0 ∷ idleAt 1 ∷ idleAt 2 ∷ idleAt 3 ∷ []) c (idleAt c)) (take (s .n * s .size) (drop (c * 64) (replicate 256 0))) (take (s .m * s .size) (drop (c * 64 + 32) (replicate 256 0)))) (idle s c)) (lt-ltb c 4 h)
-          ∙ ap (λ (t : Coordinator). holding t (take (s .n * s .size) (drop (c * 64) (replicate 256 0))) (take (s .m * s .size) (drop (c * 64 + 32) (replicate 256 0)))) (fresh-state c)
-          ∙ ap₂ (holding (idleAt c)) (zero-part (c * 64) (s .n * s .size) 256 (let q = small .blocks-fit in omega arith)) (zero-part (c * 64 + 32) (s .m * s .size) 256 (let q = small .stripe-fits in omega arith))
-      by (no h) = ap (λ (t : Bool). cond t (holding (getD (idleAt 0 ∷ idleAt 1 ∷ idleAt 2 ∷ idleAt 3 ∷ []) c (idleAt c)) (take (s .n * s .size) (drop (c * 64) (replicate 256 0))) (take (s .m * s .size) (drop (c * 64 + 32) (replicate 256 0)))) (idle s c)) (le-ltb c 4 (omega arith))
+          ap (λ (t : Bool). cond t
+          (holding (getD (idleAt 0 ∷ idleAt 1 ∷ idleAt 2 ∷ idleAt 3 ∷ []) c (idleAt c)) (take (s .n * s .size) (drop (c * keptRoom) (replicate keptLength 0)))
+          (take (s .m * s .size) (drop (c * keptRoom + stripeRoom) (replicate keptLength 0)))) (idle s c)) (lt-ltb c benchCoordinators h)
+          ∙ ap (λ (t : Coordinator). holding t (take (s .n * s .size) (drop (c * keptRoom) (replicate keptLength 0)))
+          (take (s .m * s .size) (drop (c * keptRoom + stripeRoom) (replicate keptLength 0)))) (fresh-state c)
+          ∙ ap₂ (holding (idleAt c)) (zero-part (c * keptRoom) (s .n * s .size) keptLength (let q = small .blocks-fit in omega arith))
+          (zero-part (c * keptRoom + stripeRoom) (s .m * s .size) keptLength (let q = small .stripe-fits in omega arith))
+      by (no h) = ap (λ (t : Bool). cond t
+          (holding (getD (idleAt 0 ∷ idleAt 1 ∷ idleAt 2 ∷ idleAt 3 ∷ []) c (idleAt c)) (take (s .n * s .size) (drop (c * keptRoom) (replicate keptLength 0)))
+          (take (s .m * s .size) (drop (c * keptRoom + stripeRoom) (replicate keptLength 0)))) (idle s c)) (le-ltb c benchCoordinators (omega arith))
 
-  fresh-images : (images : List ℕ) → ((b : ℕ) → b < s .n → take (imageSize s) (drop (b * 2560) images) ≡ imageOf s b (Brick.freshBrick s))
+  fresh-images : (images : List ℕ) → ((b : ℕ) → b < s .n → take (imageSize s) (drop (b * imageRoom) images) ≡ imageOf s b (Brick.freshBrick s))
       → (b : ℕ) → imagesOf s images b ≡ imageOf s b (Brick.freshBrick s)
   unfolding imagesOf
   fresh-images images h b = by (decLt b (s .n))
@@ -76,8 +83,8 @@ module _ (s : Settings) (small : Small s) where
       by (no l) = rw (le-ltb b (s .n) (omega arith)) refl
 
   -- a set that begins
-  pub fresh-world : (images kept : List ℕ) → ((b : ℕ) → b < s .n → take (imageSize s) (drop (b * 2560) images) ≡ imageOf s b (Brick.freshBrick s))
-      → kept ≡ replicate 256 0 → worldOf (freshBench s) images kept [] ≡ freshSet s
+  pub fresh-world : (images kept : List ℕ) → ((b : ℕ) → b < s .n → take (imageSize s) (drop (b * imageRoom) images) ≡ imageOf s b (Brick.freshBrick s))
+      → kept ≡ replicate keptLength 0 → worldOf (freshBench s) images kept [] ≡ freshSet s
   unfolding worldOf freshBench freshSet
   fresh-world images kept h e =
       ap₂ (λ (f : ℕ → List ℕ) (g : ℕ → Bool). make f g (coordinatorKept s (idleAt 0 ∷ idleAt 1 ∷ idleAt 2 ∷ idleAt 3 ∷ []) kept)) (fun-ext (fresh-images images h)) (fun-ext fresh-up)
@@ -87,68 +94,71 @@ module _ (s : Settings) (small : Small s) where
       make f g h = record { images = f; up = g; coordinators = h; sent = [] }
 
   -- brick b has another image
-  pub image-put : (images new : List ℕ) (b : ℕ) → b < s .n → length new ≡ imageSize s → length images ≡ 10240
-      → imagesOf s (put (b * 2560) new images) ≡ putAt (imagesOf s images) b new
+  pub image-put : (images new : List ℕ) (b : ℕ) → b < s .n → length new ≡ imageSize s → length images ≡ imagesLength
+      → imagesOf s (put (b * imageRoom) new images) ≡ putAt (imagesOf s images) b new
   unfolding imagesOf putAt
   image-put images new b l e n = fun-ext (λ j. by j (ℕ-discrete j b) (decLt j (s .n)))
     where
-      by : (j : ℕ) → Dec (j ≡ b) → Dec (j < s .n) → imagesOf s (put (b * 2560) new images) j ≡ putAt (imagesOf s images) b new j
+      by : (j : ℕ) → Dec (j ≡ b) → Dec (j < s .n) → imagesOf s (put (b * imageRoom) new images) j ≡ putAt (imagesOf s images) b new j
       by j (yes q) u =
           rw (eq-eqb j b q, q, lt-ltb b (s .n) l)
-          (put-in (b * 2560) (imageSize s) new images e (let k = small .bricks in omega arith))
+          (put-in (b * imageRoom) (imageSize s) new images e (let k = small .bricks in omega arith))
       by j (no q) (no u) = rw (ne-eqb j b q, le-ltb j (s .n) (omega arith)) refl
       by j (no q) (yes u) = rw (ne-eqb j b q, lt-ltb j (s .n) u) (apart (decLt j b))
         where
-          apart : Dec (j < b) → take (imageSize s) (drop (j * 2560) (put (b * 2560) new images)) ≡ take (imageSize s) (drop (j * 2560) images)
-          apart (yes v) = put-before (b * 2560) (j * 2560) (imageSize s) new images (let k = small .image-fits in omega arith) (let k = small .image-fits in let m = small .bricks in omega arith)
-          apart (no v) = put-behind (b * 2560) (j * 2560) (imageSize s) new images (let k = small .image-fits in omega arith) (let k = small .image-fits in let m = small .bricks in omega arith)
+          apart : Dec (j < b) → take (imageSize s) (drop (j * imageRoom) (put (b * imageRoom) new images)) ≡ take (imageSize s) (drop (j * imageRoom) images)
+          apart (yes v) = put-before (b * imageRoom) (j * imageRoom) (imageSize s) new images (let k = small .image-fits in omega arith)
+              (let k = small .image-fits in let m = small .bricks in omega arith)
+          apart (no v) = put-behind (b * imageRoom) (j * imageRoom) (imageSize s) new images (let k = small .image-fits in omega arith)
+              (let k = small .image-fits in let m = small .bricks in omega arith)
 
   -- coordinator c has another record, other reply blocks and another stripe
-  pub held-put : (cs : List Coordinator) (kept blocks stripe : List ℕ) (c : ℕ) (next : Coordinator) → c < 4 → length cs ≡ 4 → length kept ≡ 256
+  pub held-put : (cs : List Coordinator) (kept blocks stripe : List ℕ) (c : ℕ) (next : Coordinator) → c < benchCoordinators → length cs ≡ benchCoordinators → length kept ≡ keptLength
       → length blocks ≡ s .n * s .size → length stripe ≡ s .m * s .size
       → coordinatorKept s (set cs c next) (keptWith c blocks stripe kept) ≡ putAt (coordinatorKept s cs kept) c (holding next blocks stripe)
   unfolding coordinatorKept putAt keptWith
-  held-put cs kept blocks stripe c next l n k eb es = fun-ext (λ j. by j (ℕ-discrete j c) (decLt j 4))
+  held-put cs kept blocks stripe c next l n k eb es = fun-ext (λ j. by j (ℕ-discrete j c) (decLt j benchCoordinators))
     where
       first : List ℕ
-      first = put (c * 64) blocks kept
+      first = put (c * keptRoom) blocks kept
 
-      long : length first ≡ 256
-      long = put-length (c * 64) blocks kept (let q = small .blocks-fit in omega arith) ∙ k
+      long : length first ≡ keptLength
+      long = put-length (c * keptRoom) blocks kept (let q = small .blocks-fit in omega arith) ∙ k
 
-      by : (j : ℕ) → Dec (j ≡ c) → Dec (j < 4) → coordinatorKept s (set cs c next) (keptWith c blocks stripe kept) j ≡ putAt (coordinatorKept s cs kept) c (holding next blocks stripe) j
+      by : (j : ℕ) → Dec (j ≡ c) → Dec (j < benchCoordinators) → coordinatorKept s (set cs c next) (keptWith c blocks stripe kept) j
+          ≡ putAt (coordinatorKept s cs kept) c (holding next blocks stripe) j
       by j (yes q) u =
-          rw (eq-eqb j c q, q, lt-ltb c 4 l, getD-set-same cs c next (idleAt c) (omega arith))
+          rw (eq-eqb j c q, q, lt-ltb c benchCoordinators l, getD-set-same cs c next (idleAt c) (omega arith))
           (ap₂ (holding next)
-          (put-before (c * 64 + 32) (c * 64) (s .n * s .size) stripe first (let p = small .blocks-fit in omega arith) (let p = small .stripe-fits in let w = long in omega arith)
-          ∙ put-in (c * 64) (s .n * s .size) blocks kept eb (omega arith))
-          (put-in (c * 64 + 32) (s .m * s .size) stripe first es (let w = long in omega arith)))
-      by j (no q) (no u) = rw (ne-eqb j c q, le-ltb j 4 (omega arith)) refl
+          (put-before (c * keptRoom + stripeRoom) (c * keptRoom) (s .n * s .size) stripe first (let p = small .blocks-fit in omega arith) (let p = small .stripe-fits in let w = long in omega arith)
+          ∙ put-in (c * keptRoom) (s .n * s .size) blocks kept eb (omega arith))
+          (put-in (c * keptRoom + stripeRoom) (s .m * s .size) stripe first es (let w = long in omega arith)))
+      by j (no q) (no u) = rw (ne-eqb j c q, le-ltb j benchCoordinators (omega arith)) refl
       by j (no q) (yes u) =
-          rw (ne-eqb j c q, lt-ltb j 4 u, getD-set-other cs c j next (idleAt j) q)
-          (ap₂ (holding (getD cs j (idleAt j))) (other (j * 64) (s .n * s .size) (apart-blocks (decLt j c))) (other (j * 64 + 32) (s .m * s .size) (apart-stripe (decLt j c))))
+          rw (ne-eqb j c q, lt-ltb j benchCoordinators u, getD-set-other cs c j next (idleAt j) q)
+          (ap₂ (holding (getD cs j (idleAt j))) (other (j * keptRoom) (s .n * s .size) (apart-blocks (decLt j c))) (other (j * keptRoom + stripeRoom) (s .m * s .size) (apart-stripe (decLt j c))))
         where
-          apart-blocks : Dec (j < c) → (j * 64 + s .n * s .size ≤ c * 64) ⊎ (c * 64 + 64 ≤ j * 64)
+          apart-blocks : Dec (j < c) → (j * keptRoom + s .n * s .size ≤ c * keptRoom) ⊎ (c * keptRoom + keptRoom ≤ j * keptRoom)
           apart-blocks (yes v) = inl (let p = small .blocks-fit in omega arith)
           apart-blocks (no v) = inr (omega arith)
 
-          apart-stripe : Dec (j < c) → (j * 64 + 32 + s .m * s .size ≤ c * 64) ⊎ (c * 64 + 64 ≤ j * 64 + 32)
+          apart-stripe : Dec (j < c) → (j * keptRoom + stripeRoom + s .m * s .size ≤ c * keptRoom) ⊎ (c * keptRoom + keptRoom ≤ j * keptRoom + stripeRoom)
           apart-stripe (yes v) = inl (let p = small .stripe-fits in omega arith)
           apart-stripe (no v) = inr (omega arith)
 
-          other : (at len : ℕ) → (at + len ≤ c * 64) ⊎ (c * 64 + 64 ≤ at) → take len (drop at (put (c * 64 + 32) stripe first)) ≡ take len (drop at kept)
+          other : (at len : ℕ) → (at + len ≤ c * keptRoom) ⊎ (c * keptRoom + keptRoom ≤ at) → take len (drop at (put (c * keptRoom + stripeRoom) stripe first)) ≡ take len (drop at kept)
           other at len (inl v) =
-              put-before (c * 64 + 32) at len stripe first (omega arith) (let p = small .stripe-fits in let w = long in omega arith)
-              ∙ put-before (c * 64) at len blocks kept v (let p = small .blocks-fit in omega arith)
+              put-before (c * keptRoom + stripeRoom) at len stripe first (omega arith) (let p = small .stripe-fits in let w = long in omega arith)
+              ∙ put-before (c * keptRoom) at len blocks kept v (let p = small .blocks-fit in omega arith)
           other at len (inr v) =
-              put-behind (c * 64 + 32) at len stripe first (let p = small .stripe-fits in omega arith) (let w = long in omega arith)
-              ∙ put-behind (c * 64) at len blocks kept (let p = small .blocks-fit in omega arith) (omega arith)
+              put-behind (c * keptRoom + stripeRoom) at len stripe first (let p = small .stripe-fits in omega arith) (let w = long in omega arith)
+              ∙ put-behind (c * keptRoom) at len blocks kept (let p = small .blocks-fit in omega arith) (omega arith)
 
 -- brick b has another flag
-pub up-put : (up : List ℕ) (b flag : ℕ) → b < length up → upOf (set up b flag) ≡ putAt (upOf up) b (eqb flag 1)
+pub up-put : (up : List ℕ) (b flag : ℕ) → b < length up → upOf (set up b flag) ≡ putAt (upOf up) b (eqb flag upFlag)
 unfolding upOf putAt
 up-put up b flag l = fun-ext (λ j. by j (ℕ-discrete j b))
   where
-    by : (j : ℕ) → Dec (j ≡ b) → upOf (set up b flag) j ≡ putAt (upOf up) b (eqb flag 1) j
-    by j (yes q) = rw (eq-eqb j b q, q, getD-set-same up b flag 1 l) refl
-    by j (no q) = rw (ne-eqb j b q, getD-set-other up b j flag 1 q) refl
+    by : (j : ℕ) → Dec (j ≡ b) → upOf (set up b flag) j ≡ putAt (upOf up) b (eqb flag upFlag) j
+    by j (yes q) = rw (eq-eqb j b q, q, getD-set-same up b flag upFlag l) refl
+    by j (no q) = rw (ne-eqb j b q, getD-set-other up b j flag upFlag q) refl

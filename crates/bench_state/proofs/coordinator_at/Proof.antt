@@ -6,8 +6,9 @@ use Rattle.bench_state.proofs.coordinator_at.Statement.{statement}
 use Rattle.bench_state.proofs.coordinator_at.Tie as tie
 use Rattle.bench_state.proofs.coordinator_at.Reads as reads
 use Rattle.bench_state.proofs.coordinator_at.Lts as lts
+use Rattle.bench_limits.specs.Limits.{benchCoordinators}
 
-all-there : (s : lts.Start reads.Pre reads.Post) → length (s .args .b .coordinators) ≡ 4
+all-there : (s : lts.Start reads.Pre reads.Post) → length (s .args .b .coordinators) ≡ benchCoordinators
 all-there s = search (needs, length-mapped)
 
 mul-result : tie.Need-mul-result
@@ -20,7 +21,7 @@ returns : tie.Need-returns
 returns c =
     let s = c .before .before in
     let long = all-there s in
-    (any-default (s .args .b .coordinators) (s .args .c) _ _ (below-length _ (s .args .b .coordinators) (s .args .c) 4 long (s .pre)), long)
+    (any-default (s .args .b .coordinators) (s .args .c) _ _ (below-length _ (s .args .b .coordinators) (s .args .c) benchCoordinators long (s .pre)), long)
 
 pub coordinator-at-spec : {M : Type 1} → statement M
 coordinator-at-spec = tie.close (tie.spec mul-result array-copy-out-result returns)

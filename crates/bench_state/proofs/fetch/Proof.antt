@@ -5,6 +5,7 @@ use Rattle.bench_state.proofs.Laws.KeptPartLaws.{part-copied}
 use borrow.Author.Needs.{needs}
 use Rattle.bench_state.proofs.fetch.Statement.{statement}
 use Rattle.bench_state.proofs.fetch.Tie as tie
+use Rattle.bench_limits.specs.Limits.{stripeRoom, keptRoom}
 
 mul-at : tie.Need-mul-at
 mul-at c = search needs
@@ -51,9 +52,9 @@ same-length-2 c = search needs
 returns : tie.Need-returns
 returns c =
     let s = c .before .before .before .before .before .before .before .before .before .before .before .before .before in
-    let at = s .args .c * 64 in (
+    let at = s .args .c * keptRoom in (
       part-copied at (at + length (s .args .blocks .now)) (length (s .args .blocks .now)) (s .args .kept .now) _ (c .before .before .before .before .before .before .before .copy .ensures) refl,
-      part-copied (at + 32) (at + 32 + length (s .args .stripe .now)) (length (s .args .stripe .now)) (s .args .kept .now) _ (c .before .before .copy2 .ensures) refl,
+      part-copied (at + stripeRoom) (at + stripeRoom + length (s .args .stripe .now)) (length (s .args .stripe .now)) (s .args .kept .now) _ (c .before .before .copy2 .ensures) refl,
     )
 
 pub fetch-spec : {M : Type 1} → statement M

@@ -50,7 +50,8 @@ loop-again : tie.Need-loop-again Inv-loop μ-loop
 loop-again c =
     let s = c .before .before .before .before .before .before .before .before .before in
     let p = c .before .before .before .before .before .before .before .loop in (
-      begun-stored (s .args .s) (p .images) _ (p .b) (512 * (s .args .s .capacity + 1)) (s .pre .0 .1) (s .pre .0 .0) (p .inv .0) (c .before .before .before .before .before .if1 .taken) refl (c .before .before .write-fresh .kept .1 .1 .0) (c .before .before .write-fresh .ensures .1),
+      begun-stored (s .args .s) (p .images) _ (p .b) (512 * (s .args .s .capacity + 1)) (s .pre .0 .1) (s .pre .0 .0) (p .inv .0) (c .before .before .before .before .before .if1 .taken) refl
+          (c .before .before .write-fresh .kept .1 .1 .0) (c .before .before .write-fresh .ensures .1),
       omega arith,
     )
 

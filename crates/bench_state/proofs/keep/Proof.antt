@@ -6,6 +6,7 @@ use Rattle.bench_state.specs.Workers.{keptWith}
 use borrow.Author.Needs.{needs}
 use Rattle.bench_state.proofs.keep.Statement.{statement}
 use Rattle.bench_state.proofs.keep.Tie as tie
+use Rattle.bench_limits.specs.Limits.{stripeRoom, keptRoom}
 
 mul-at : tie.Need-mul-at
 mul-at c = search needs
@@ -50,10 +51,11 @@ returns : tie.Need-returns
 unfolding keptWith
 returns c =
     let s = c .before .before .before .before .before .before .before .before .before .before .before in
-    let at = s .args .c * 64 in
+    let at = s .args .c * keptRoom in
     let x = s .args .blocks .now in
     let y = s .args .stripe .now in
-    two-put at (at + length x) (at + 32) (at + 32 + length y) x y (s .args .kept .now) _ _ (c .before .before .before .before .before .before .copy .ensures) (c .before .before .copy2 .ensures)
+    two-put at (at + length x) (at + stripeRoom) (at + stripeRoom + length y) x y (s .args .kept .now) _ _ (c .before .before .before .before .before .before .copy .ensures)
+    (c .before .before .copy2 .ensures)
     (omega arith) (omega arith) (omega arith) (omega arith)
 
 pub keep-spec : {M : Type 1} → statement M

@@ -22,7 +22,8 @@ same-length-2 c = search needs
 returns : tie.Need-returns
 returns c =
     let s = c .before .before .before .before .before .before .before .before .before .before .before in
-    set-begun (s .args .s) _ _ _ (length (s .args .kept .now)) (s .pre .0 .1) (c .new-bench .ensures) (c .before .before .before .before .before .before .before .fresh-images .ensures) (c .before .before .before .clear .ensures) (s .pre .1 .1)
+    set-begun (s .args .s) _ _ _ (length (s .args .kept .now)) (s .pre .0 .1) (c .new-bench .ensures) (c .before .before .before .before .before .before .before .fresh-images .ensures)
+    (c .before .before .before .clear .ensures) (s .pre .1 .1)
 
 pub set-up-spec : {M : Type 1} → statement M
 set-up-spec =

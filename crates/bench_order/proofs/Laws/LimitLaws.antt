@@ -1,16 +1,16 @@
 -- No script sends past message 127.
 use mathlib.Core.Bool.{Bool, true, false, cond}
 use mathlib.Core.List.{List, [], _∷_}
-use Prim.Native.Nat.{ℕ, _≤_}
+use Prim.Native.Nat.{ℕ}
 use native.Mathlib.Omega.{arith}
-use lib.ListN.{length}
-use mathlib.Core.Path.{_≡_, subst}
+use mathlib.Core.Path.{subst}
 use Rattle.settings.specs.Refusal.{badSetting}
 use Rattle.settings.specs.declared.Settings.{Settings}
 use Rattle.register.specs.Runs.{World, freshSet}
 use Rattle.bench_parse.specs.Lines.{Line, setLine, writeLine, readLine, carryLine, crashLine, downLine, upLine, noLine, reads}
 use Rattle.bench_state.specs.State.{benchRange}
 use Rattle.bench_rules.specs.Play.{Played, refuses, passes, happens, andThen, Stage, waiting, playing, waits, begins, first, turn}
+use Rattle.bench_order.specs.LimitTheorem.{NeverPastMessage127}
 use Rattle.bench_order.specs.Script.{lines, stays, follows, playsLines, script}
 use Rattle.bench_order.proofs.Laws.Parts.{FewSent, Part, refusing, passing, happening, both}
 use Rattle.bench_order.proofs.Laws.ScriptPartLaws.{every-line-by-parts}
@@ -25,13 +25,13 @@ part-few s w p (both _ q r a b) h = part-few s (q .world) r b (part-few s w q a 
 -- a set, if there is one, has sent 127 messages at most
 unfoldable FewAt : Stage → Type 0
 FewAt waiting = Unit {0}
-FewAt (playing s w) = FewSent w
+FewAt (playing s w events) = FewSent w
 
 begins-few : (s : Settings) → FewAt (begins s .stage)
 unfolding begins waits FewAt FewSent freshSet
 begins-few s = go (benchRange s)
   where
-    go : (b : Bool) → FewAt (cond b (record { stage = playing s (freshSet s); events = []; printed = [] }) (waits badSetting) .stage)
+    go : (b : Bool) → FewAt (cond b (record { stage = playing s (freshSet s) []; events = []; printed = [] }) (waits badSetting) .stage)
     go true = omega arith
     go false = tt
 
@@ -45,14 +45,13 @@ turn-few waiting (crashLine c) h = tt
 turn-few waiting (downLine b) h = tt
 turn-few waiting (upLine b) h = tt
 turn-few waiting noLine h = tt
-turn-few (playing s w) line h = part-few s w _ (every-line-by-parts s w line) h
+turn-few (playing s w events) line h = part-few s w _ (every-line-by-parts s w line) h
 
 lines-few : (stage : Stage) (ls : List (List ℕ)) → FewAt stage → FewAt (playsLines stage ls .stage)
 unfolding playsLines stays follows
 lines-few stage [] h = h
 lines-few stage (l ∷ ls) h = lines-few (turn stage (reads l) .stage) ls (turn-few stage (reads l) h)
 
--- "A line, or one carried number, that would send past message 127 is refused before anything changes."
-pub never-past-message-127 : (input : List ℕ) (s : Settings) (w : World) → script input .stage ≡ playing s w → length (w .sent) ≤ 127
+pub never-past-message-127 : NeverPastMessage127
 unfolding script FewAt FewSent
-never-past-message-127 input s w e = subst FewAt e (lines-few waiting (lines input) tt)
+never-past-message-127 input s w events e = subst FewAt e (lines-few waiting (lines input) tt)

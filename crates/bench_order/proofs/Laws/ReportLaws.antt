@@ -1,4 +1,4 @@
--- Laws of `specs/ReportTheorem`.
+-- What a script prints is its run, and its refusals.
 use mathlib.Core.Path.{_≡_, refl, sym, ap, subst, _∙_}
 use mathlib.Core.Logic.{_⊎_, inl, inr}
 use mathlib.Core.Bool.{Bool, true, false, cond}
@@ -31,10 +31,10 @@ use Rattle.bench_order.proofs.Laws.ToldLaws.{told}
 use Rattle.bench_order.proofs.Laws.Parts.{Ran, Part, refusing, passing, happening, both}
 use Rattle.bench_order.proofs.Laws.ScriptPartLaws.{every-line-by-parts}
 use Rattle.bench_order.specs.Script.{lines, stays, follows, playsLines, script}
-use Rattle.bench_order.specs.Script.{StandsFor}
-use Rattle.bench_order.proofs.Laws.ScriptTheorem.{part-runs, turn-stands, bench-in-range}
+use Rattle.bench_order.specs.ScriptTheorem.{StandsFor}
+use Rattle.bench_order.proofs.Laws.ScriptRunLaws.{part-runs, turn-stands, bench-in-range}
 use Rattle.bench_order.specs.Report.{kindOf, kindIn, reported, Reports, nothing, refusal, event}
-use Rattle.bench_order.specs.Report.{Reported}
+use Rattle.bench_order.specs.ReportTheorem.{Reported, EveryScriptPrintsItsRun}
 
 -- the kind that an operation began with, if it began one time only
 kind-here : (s : Settings) (x : Seen (plain s)) (l : List (Seen (plain s))) (t : ℕ) (k : Action (List ℕ)) → began t k ≡ x → kindIn s (x ∷ l) t ≡ kindOf k
@@ -150,19 +150,18 @@ unfolding runFrom
 more-refused text number h s = reports-both s (unmoved s (freshSet s)) [] [] text (refusedText number) (h s) (refusal-alone s (unmoved s (freshSet s)) number)
 
 begins-reports : (s : Settings) (text : List ℕ) → ((z : Settings) → Reports z (unmoved z (freshSet z)) [] text)
-    → Reported (begins s .stage) (begins s .events) (text ++ begins s .printed)
+    → Reported (begins s .stage) (text ++ begins s .printed)
 unfolding begins waits Reported
 begins-reports s text h = go (benchRange s)
   where
     go : (b : Bool)
-        → Reported (cond b (record { stage = playing s (freshSet s); events = []; printed = [] }) (waits badSetting) .stage)
-        (cond b (record { stage = playing s (freshSet s); events = []; printed = [] }) (waits badSetting) .events)
-        (text ++ cond b (record { stage = playing s (freshSet s); events = []; printed = [] }) (waits badSetting) .printed)
+        → Reported (cond b (record { stage = playing s (freshSet s) []; events = []; printed = [] }) (waits badSetting) .stage)
+        (text ++ cond b (record { stage = playing s (freshSet s) []; events = []; printed = [] }) (waits badSetting) .printed)
     go true = rw (append-nil text) (h s)
     go false = more-refused text badSetting h
 
 first-reports : (text : List ℕ) (line : Line) → ((z : Settings) → Reports z (unmoved z (freshSet z)) [] text)
-    → Reported (first line .stage) (first line .events) (text ++ first line .printed)
+    → Reported (first line .stage) (text ++ first line .printed)
 unfolding first waits Reported
 first-reports text (setLine n m size capacity) h = begins-reports (record { n = n; m = m; size = size; capacity = capacity }) text h
 first-reports text (writeLine c clock digits) h = more-refused text badLine h
@@ -173,31 +172,27 @@ first-reports text (downLine b) h = more-refused text badLine h
 first-reports text (upLine b) h = more-refused text badLine h
 first-reports text noLine h = more-refused text badLine h
 
-turn-reports : (stage : Stage) (events : List Event) (text : List ℕ) (line : Line) → StandsFor stage events → Reported stage events text
-    → Reported (turn stage line .stage) (events ++ turn stage line .events) (text ++ turn stage line .printed)
+turn-reports : (stage : Stage) (text : List ℕ) (line : Line) → StandsFor stage → Reported stage text
+    → Reported (turn stage line .stage) (text ++ turn stage line .printed)
 unfolding turn StandsFor Reported run
-turn-reports waiting events text line e h =
-    subst (λ (l : List Event). Reported (first line .stage) (l ++ first line .events) (text ++ first line .printed)) (sym e) (first-reports text line h)
-turn-reports (playing s w) events text line (b, e) h =
+turn-reports waiting text line e h = first-reports text line h
+turn-reports (playing s w events) text line (b, e) h =
     let g = settings-passed s (bench-in-range s b) in
     reports-both s (unmoved s (freshSet s)) events (plays s w line .events) text (plays s w line .printed) h
     (subst (λ (v : World). Reports s (record { world = v; seen = run s events .seen }) (plays s w line .events) (plays s w line .printed)) e
     (part-reports s g w (plays s w line) (every-line-by-parts s w line) (run s events .seen)
     (subst (λ (v : World). Held-by s g (record { world = v; seen = run s events .seen })) (sym e) (run-holds s g events))))
 
-lines-report : (stage : Stage) (events : List Event) (text : List ℕ) (ls : List (List ℕ)) → StandsFor stage events → Reported stage events text
-    → Reported (playsLines stage ls .stage) (events ++ playsLines stage ls .events) (text ++ playsLines stage ls .printed)
+lines-report : (stage : Stage) (text : List ℕ) (ls : List (List ℕ)) → StandsFor stage → Reported stage text
+    → Reported (playsLines stage ls .stage) (text ++ playsLines stage ls .printed)
 unfolding playsLines stays follows
-lines-report stage events text [] h p = rw (append-nil events, append-nil text) p
-lines-report stage events text (l ∷ ls) h p =
+lines-report stage text [] h p = rw (append-nil text) p
+lines-report stage text (l ∷ ls) h p =
     let t = turn stage (reads l) in
     let u = playsLines (turn stage (reads l) .stage) ls in
-    subst (λ (v : List ℕ). Reported (u .stage) (events ++ (t .events ++ u .events)) v) (append-assoc text (t .printed) (u .printed))
-    (subst (λ (v : List Event). Reported (u .stage) v (text ++ t .printed ++ u .printed)) (append-assoc events (t .events) (u .events))
-    (lines-report (t .stage) (events ++ t .events) (text ++ t .printed) ls (turn-stands stage events (reads l) h)
-    (turn-reports stage events text (reads l) h p)))
+    subst (λ (v : List ℕ). Reported (u .stage) v) (append-assoc text (t .printed) (u .printed))
+    (lines-report (t .stage) (text ++ t .printed) ls (turn-stands stage (reads l) h) (turn-reports stage text (reads l) h p))
 
--- What a script prints is, in order, the line of each operation that ends at an event of its run, and of each refusal; and nothing else.
-pub every-script-prints-its-run : (input : List ℕ) → Reported (script input .stage) (script input .events) (script input .printed)
+pub every-script-prints-its-run : EveryScriptPrintsItsRun
 unfolding script Reported StandsFor
-every-script-prints-its-run input = lines-report waiting [] [] (lines input) refl (λ s. nothing (unmoved s (freshSet s)))
+every-script-prints-its-run input = lines-report waiting [] (lines input) tt (λ s. nothing (unmoved s (freshSet s)))

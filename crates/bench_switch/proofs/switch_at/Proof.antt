@@ -1,8 +1,9 @@
 use native.Mathlib.Omega.{arith}
-use Rattle.bench_carry.proofs.Laws.CarryLaws.{turned-lined, switch-past, switch-flag}
+use Rattle.bench_rules.proofs.Laws.TurningLaws.{turned-lined}
+use Rattle.bench_switch.proofs.Laws.SwitchLaws.{switch-past, switch-flag}
 use borrow.Author.Needs.{needs}
-use Rattle.bench_carry.proofs.switch_at.Statement.{statement}
-use Rattle.bench_carry.proofs.switch_at.Tie as tie
+use Rattle.bench_switch.proofs.switch_at.Statement.{statement}
+use Rattle.bench_switch.proofs.switch_at.Tie as tie
 
 refuse-requires : tie.Need-refuse-requires
 refuse-requires c κs = let s = c .before .before .before .before .before in (s .pre .1, omega (arith, s .pre .2))

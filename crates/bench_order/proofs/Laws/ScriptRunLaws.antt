@@ -1,0 +1,138 @@
+-- Every script is a run, keeps its events, and has one order.
+use mathlib.Core.Path.{_≡_, refl, sym, ap, subst, _∙_}
+use mathlib.Core.Bool.{Bool, true, false, cond}
+use mathlib.Core.List.{List, [], _∷_, _++_, append-nil, append-assoc}
+use Prim.Native.Nat.{ℕ}
+use native.Mathlib.Omega.{arith}
+use Rattle.settings.specs.Ranges.{settingsRefusal}
+use Rattle.settings.specs.Refusal.{refuseUnless, badSetting}
+use Rattle.settings.specs.declared.Settings.{Settings}
+use Rattle.order.specs.Claim.{Seen}
+use Rattle.register.specs.Runs.{plain, World, Event, Moved, unmoved, freshSet, nextMoved, runFrom, run}
+use Rattle.register.proofs.Laws.TheoremProof.{every-run-has-one-order}
+use Rattle.bench_parse.specs.Lines.{Line, setLine, writeLine, readLine, carryLine, crashLine, downLine, upLine, noLine, reads}
+use Rattle.bench_state.proofs.Laws.BenchRangeLaws.{bench-fits}
+use Rattle.bench_state.specs.State.{benchRange}
+use Rattle.bench_rules.specs.Play.{Played, refuses, passes, happens, andThen, plays, Stage, waiting, playing, eventsOf, waits, begins, first, turn}
+use Rattle.bench_order.specs.Script.{lines, stays, follows, playsLines, script}
+use Rattle.bench_order.proofs.Laws.Parts.{Part, refusing, passing, happening, both}
+use Rattle.bench_order.proofs.Laws.ScriptPartLaws.{every-line-by-parts}
+use Rattle.bench_order.specs.ScriptTheorem.{StandsFor, EveryScriptIsARun, EveryScriptKeepsItsEvents, EveryScriptHasOneOrder}
+
+-- some events, then more
+pub run-from-both : (s : Settings) (r : Moved s) (es fs : List Event) → runFrom s r (es ++ fs) ≡ runFrom s (runFrom s r es) fs
+unfolding runFrom
+run-from-both s r [] fs = refl
+run-from-both s r (e ∷ es) fs = run-from-both s (nextMoved s r e) es fs
+
+-- what a part of a line leaves is what its events leave, whatever was seen before
+pub part-runs : (s : Settings) (w : World) (p : Played) → Part s w p → (seen : List (Seen (plain s)))
+    → runFrom s (record { world = w; seen = seen }) (p .events) .world ≡ p .world
+unfolding refuses passes happens andThen runFrom nextMoved
+part-runs s w p (refusing _ number) seen = refl
+part-runs s w p (passing _) seen = refl
+part-runs s w p (happening _ e c kind f o) seen = refl
+part-runs s w p (both _ q r a b) seen =
+    let m = runFrom s (record { world = w; seen = seen }) (q .events) in
+    ap (λ (v : Moved s). v .world) (run-from-both s (record { world = w; seen = seen }) (q .events) (r .events))
+    ∙ ap (λ (v : World). runFrom s (record { world = v; seen = m .seen }) (r .events) .world) (part-runs s w q a seen)
+    ∙ part-runs s (q .world) r b (m .seen)
+
+pub plays-runs : (s : Settings) (w : World) (line : Line) (seen : List (Seen (plain s)))
+    → runFrom s (record { world = w; seen = seen }) (plays s w line .events) .world ≡ plays s w line .world
+plays-runs s w line seen = part-runs s w (plays s w line) (every-line-by-parts s w line) seen
+
+-- a set that begins
+begins-stands : (s : Settings) → StandsFor (begins s .stage)
+unfolding begins waits StandsFor run unmoved runFrom
+begins-stands s = go (benchRange s) refl
+  where
+    go : (b : Bool) → benchRange s ≡ b
+        → StandsFor (cond b (record { stage = playing s (freshSet s) []; events = []; printed = [] }) (waits badSetting) .stage)
+    go true e = (e, refl)
+    go false e = tt
+
+first-stands : (line : Line) → StandsFor (first line .stage)
+unfolding first waits StandsFor
+first-stands (setLine n m size capacity) = begins-stands (record { n = n; m = m; size = size; capacity = capacity })
+first-stands (writeLine c clock digits) = tt
+first-stands (readLine c clock brick) = tt
+first-stands (carryLine messages) = tt
+first-stands (crashLine c) = tt
+first-stands (downLine b) = tt
+first-stands (upLine b) = tt
+first-stands noLine = tt
+
+-- one line
+pub turn-stands : (stage : Stage) (line : Line) → StandsFor stage → StandsFor (turn stage line .stage)
+unfolding turn StandsFor run
+turn-stands waiting line h = first-stands line
+turn-stands (playing s w events) line (b, e) = (
+  b,
+  sym (plays-runs s w line (run s events .seen))
+      ∙ ap (λ (v : World). runFrom s (record { world = v; seen = run s events .seen }) (plays s w line .events) .world) e
+      ∙ ap (λ (v : Moved s). v .world) (sym (run-from-both s (unmoved s (freshSet s)) events (plays s w line .events))),
+)
+
+-- all lines
+lines-stand : (stage : Stage) (ls : List (List ℕ)) → StandsFor stage → StandsFor (playsLines stage ls .stage)
+unfolding playsLines stays follows
+lines-stand stage [] h = h
+lines-stand stage (l ∷ ls) h = lines-stand (turn stage (reads l) .stage) ls (turn-stands stage (reads l) h)
+
+pub every-script-is-a-run : EveryScriptIsARun
+unfolding script StandsFor
+every-script-is-a-run input = lines-stand waiting (lines input) tt
+
+-- a line adds its events to those of the stage
+begins-keeps : (s : Settings) → eventsOf (begins s .stage) ≡ begins s .events
+unfolding begins waits eventsOf
+begins-keeps s = go (benchRange s)
+  where
+    go : (b : Bool) → eventsOf (cond b (record { stage = playing s (freshSet s) []; events = []; printed = [] }) (waits badSetting) .stage)
+        ≡ cond b (record { stage = playing s (freshSet s) []; events = []; printed = [] }) (waits badSetting) .events
+    go true = refl
+    go false = refl
+
+first-keeps : (line : Line) → eventsOf (first line .stage) ≡ first line .events
+unfolding first waits eventsOf
+first-keeps (setLine n m size capacity) = begins-keeps (record { n = n; m = m; size = size; capacity = capacity })
+first-keeps (writeLine c clock digits) = refl
+first-keeps (readLine c clock brick) = refl
+first-keeps (carryLine messages) = refl
+first-keeps (crashLine c) = refl
+first-keeps (downLine b) = refl
+first-keeps (upLine b) = refl
+first-keeps noLine = refl
+
+turn-keeps : (stage : Stage) (line : Line) → eventsOf (turn stage line .stage) ≡ eventsOf stage ++ turn stage line .events
+unfolding turn eventsOf
+turn-keeps waiting line = first-keeps line
+turn-keeps (playing s w events) line = refl
+
+lines-keep : (stage : Stage) (ls : List (List ℕ)) → eventsOf (playsLines stage ls .stage) ≡ eventsOf stage ++ playsLines stage ls .events
+unfolding playsLines stays follows
+lines-keep stage [] = sym (append-nil (eventsOf stage))
+lines-keep stage (l ∷ ls) =
+    let t = turn stage (reads l) in
+    let u = playsLines (turn stage (reads l) .stage) ls in
+    lines-keep (t .stage) ls ∙ ap (λ (es : List Event). es ++ u .events) (turn-keeps stage (reads l))
+    ∙ append-assoc (eventsOf stage) (t .events) (u .events)
+
+pub every-script-keeps-its-events : EveryScriptKeepsItsEvents
+unfolding script eventsOf
+every-script-keeps-its-events input = lines-keep waiting (lines input)
+
+-- settings within the bench's limits are in range
+pub bench-in-range : (s : Settings) → benchRange s ≡ true → settingsRefusal s ≡ 0
+unfolding settingsRefusal
+bench-in-range s e = ap (λ (b : Bool). refuseUnless b badSetting) (bench-fits s e .in-range)
+
+stands-range : (stage : Stage) (s : Settings) (w : World) (events : List Event) → StandsFor stage → stage ≡ playing s w events → benchRange s ≡ true
+unfolding StandsFor
+stands-range waiting s w events h e = absurd (let z : _≡_ {A = ℕ} 0 1 = cc in omega arith)
+stands-range (playing t v fs) s w events h e = let z : t ≡ s = cc in subst (λ (x : Settings). benchRange x ≡ true) z (h .0)
+
+pub every-script-has-one-order : EveryScriptHasOneOrder
+every-script-has-one-order input s w events e =
+    every-run-has-one-order s (bench-fits s (stands-range _ s w events (every-script-is-a-run input) e) .in-range) events

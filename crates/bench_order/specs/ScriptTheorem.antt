@@ -1,0 +1,30 @@
+-- Document 01, "A run and its order", on the bench: "A run is a list of events on one set .. It starts fresh". Every script is a run, and the
+-- operations of the set that it plays have one order.
+use mathlib.Core.Path.{_≡_}
+use mathlib.Core.Bool.{true}
+use mathlib.Core.List.{List}
+use Prim.Native.Nat.{ℕ}
+use Rattle.settings.specs.declared.Settings.{Settings}
+use Rattle.register.specs.Runs.{World, Event, run, RunHasOneOrder}
+use Rattle.bench_state.specs.State.{benchRange}
+use Rattle.bench_rules.specs.Play.{Stage, waiting, playing, eventsOf}
+use Rattle.bench_order.specs.Script.{script}
+
+-- A stage stands for the run of its events: its settings are within the bench's limits, and its world is the one that the run of the events,
+-- from the fresh set, reaches. Without a set nothing happened.
+unfoldable pub StandsFor : Stage → Type 0
+StandsFor waiting = Unit {0}
+StandsFor (playing s w events) = (benchRange s ≡ true) × (w ≡ run s events .world)
+
+-- Every script is a run.
+abbrev pub EveryScriptIsARun : Type 0
+EveryScriptIsARun = (input : List ℕ) → StandsFor (script input .stage)
+
+-- Its events are those of its lines, in order.
+abbrev pub EveryScriptKeepsItsEvents : Type 0
+EveryScriptKeepsItsEvents = (input : List ℕ) → eventsOf (script input .stage) ≡ script input .events
+
+-- "Demand 3 says of every run: some order of its operations": whatever the script, the operations of the set that it plays have one order.
+abbrev pub EveryScriptHasOneOrder : Type 0
+EveryScriptHasOneOrder =
+    (input : List ℕ) (s : Settings) (w : World) (events : List Event) → script input .stage ≡ playing s w events → RunHasOneOrder s events

@@ -1,0 +1,1 @@
+-- No definition of its own: `bench_rules/Play.switches` says what a switch does.
