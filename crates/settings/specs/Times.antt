@@ -1,6 +1,6 @@
 -- Document 01, "Times".
 use mathlib.Core.Bool.{Bool, cond, _&&_}
-use Prim.Native.Nat.{ℕ, _+_, _-_, _*_, _^_, max, _≤_, _<_}
+use Prim.Native.Nat.{ℕ, _%_, _+_, _-_, _*_, _^_, max, _≤_, _<_}
 use lib.Dec.{leb, ltb}
 use Rattle.settings.specs.Refusal.{passed, badNumber, badRecord, badReading, clockSpent}
 use Rattle.settings.specs.declared.Clock.{Clock}
@@ -22,6 +22,10 @@ coordinatorCount = 16
 
 abbrev pub lastCoordinator : ℕ
 lastCoordinator = coordinatorCount - 1
+
+-- whose time it is
+abbrev pub coordinatorOf : ℕ → ℕ
+coordinatorOf t = t % coordinatorCount
 
 -- "A time is count × 16 + coordinator number (0 to 15)"
 unfoldable pub timeOf : ℕ → ℕ → ℕ

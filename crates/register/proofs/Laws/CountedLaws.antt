@@ -11,7 +11,7 @@ use lib.ListN.{length, set}
 use lib.Seq.{getD-set-same, getD-set-other}
 use Rattle.settings.specs.Count.{one-if}
 use Rattle.settings.proofs.Laws.CountLaws.{one-is}
-use Rattle.settings.specs.Ranges.{SettingsRange, brickPlaces}
+use Rattle.settings.specs.Ranges.{SettingsRange, maxBricks}
 use Rattle.settings.specs.declared.Settings.{Settings}
 use Rattle.message.specs.Flags.{member}
 use Rattle.message.specs.declared.Reply.{Reply}
@@ -63,7 +63,7 @@ counting-keeps s g h sent c k r block coded w i t was =
     found : List ℕ
     found = k .state .tally .found
 
-    low : r .brick < brickPlaces
+    low : r .brick < maxBricks
     low = let a = t .takes .brick-low in let b = g .code .n-high in omega arith
 
     blocks : List ℕ

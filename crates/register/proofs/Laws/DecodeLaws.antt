@@ -7,7 +7,7 @@ use native.Mathlib.Omega.{arith}
 use lib.Dec.{ltb}
 use lib.ListN.{length, getD, take}
 use borrow.Author.Tests.{lt-ltb, ltb-false, le-leb, lt-leb}
-use Rattle.settings.specs.Ranges.{brickPlaces}
+use Rattle.settings.specs.Ranges.{maxBricks}
 use Rattle.settings.specs.Count.{count}
 use Rattle.interpolate.specs.Values.{PointSet}
 use Rattle.coord_record.specs.CountedRules.{stepsAbove, isTarget}
@@ -16,12 +16,12 @@ use Rattle.coord_tally.proofs.Laws.RowSets.{target-at, target-long, target-belo
 
 -- a row names m different bricks of n
 pub record DecodedRow (n m : ℕ) (row : List ℕ) : Type 0 where
-  pub long : length row ≡ brickPlaces
+  pub long : length row ≡ maxBricks
   pub below : (i : ℕ) → i < m → getD row i 0 < n
   pub set : PointSet (take m row)
 
 -- the targets of a read
-module _ (n m first : ℕ) (high : n ≤ brickPlaces) (fit : m ≤ n) (low : first < n) where
+module _ (n m first : ℕ) (high : n ≤ maxBricks) (fit : m ≤ n) (low : first < n) where
   pub target-row : DecodedRow n m (targetRow n m first)
   target-row = record { long = target-long n m first high fit low; below = target-below n m first high fit low; set = target-set n m first high fit low }
 
@@ -37,6 +37,6 @@ module _ (n m first : ℕ) (high : n ≤ brickPlaces) (fit : m ≤ n) (low : fir
           rw (lt-leb first (first + i - n) (omega arith), lt-ltb (n - first + (first + i - n)) m (omega arith)) refl
 
 -- the bricks that a recovery decodes from
-pub picked-row : (held found : List ℕ) (time n m : ℕ) → m ≤ count (atTimes held found time) n → m ≤ brickPlaces → DecodedRow n m (picked held found time n m)
+pub picked-row : (held found : List ℕ) (time n m : ℕ) → m ≤ count (atTimes held found time) n → m ≤ maxBricks → DecodedRow n m (picked held found time n m)
 picked-row held found time n m enough few =
     record { long = picked-long held found time n m enough few; below = picked-below held found time n m enough few; set = picked-set held found time n m enough few }

@@ -11,7 +11,7 @@ use lib.ListN.{getD}
 use borrow.Author.Tests.{eqb-true, eq-eqb}
 use Rattle.message.specs.Kinds.{orderReadKind, writeKind}
 use Rattle.settings.specs.Count.{count}
-use Rattle.settings.specs.Ranges.{quorum, brickPlaces}
+use Rattle.settings.specs.Ranges.{quorum, maxBricks}
 use Rattle.settings.specs.Ranges.{SettingsRange}
 use Rattle.byte_lists.proofs.Laws.BoolLaws.{and-left, and-right}
 use Rattle.settings.specs.declared.Settings.{Settings}
@@ -229,7 +229,7 @@ module _ (s : Settings) (g : SettingsRange s) (h : Hist s) (sent : List Item) (c
         r : Running s g h sent c k
         r = now s g h sent c k v i items n
 
-        few : s .m ≤ brickPlaces
+        few : s .m ≤ maxBricks
         few = let a = g .code .m-high in let b = g .code .n-high in omega arith
 
         passes : (j : ℕ) → j < s .m → p (getD row j 0) ≡ true

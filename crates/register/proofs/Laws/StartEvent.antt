@@ -8,7 +8,7 @@ use native.Mathlib.Omega.{arith}
 use lib.Dec.{leb, eqb}
 use lib.ListN.{length, getD, replicate}
 use borrow.Author.Tests.{leb-true, eqb-true}
-use Rattle.settings.specs.Ranges.{codeRefusal, brickPlaces}
+use Rattle.settings.specs.Ranges.{codeRefusal, maxBricks}
 use Rattle.settings.specs.Ranges.{SettingsRange}
 use Rattle.byte_lists.proofs.Laws.BoolLaws.{and-left}
 use Rattle.settings.specs.Refusal.{refuseUnless, badLength, passed}
@@ -46,9 +46,9 @@ use Rattle.register.proofs.Laws.BrickEvent.{first-passed}
 use Rattle.register.proofs.Laws.TurnLaws.{time-of, kind-of, Turns, turns-began, in-broadcast, TurnedRound, goes-turned, goes-refused}
 
 -- no brick is counted in a new round
-pub none-member : (b : ℕ) → member (replicate brickPlaces 0) b ≡ true → ⊥
+pub none-member : (b : ℕ) → member (replicate maxBricks 0) b ≡ true → ⊥
 unfolding member
-none-member b e = let w = zeros-at brickPlaces b in let q = eqb-true (getD (replicate brickPlaces 0) b 0) 1 e in omega arith
+none-member b e = let w = zeros-at maxBricks b in let q = eqb-true (getD (replicate maxBricks 0) b 0) 1 e in omega arith
 
 module _ (s : Settings) (g : SettingsRange s) (h : Hist s) (sent : List Item) (c : ℕ) (k : Buffered) (v : Valid (quorums s g) h)
     (i : CoordinatorInv s g h sent c k) (items : (z : Item) → z ∈ sent → ItemInv s g h sent z)

@@ -4,7 +4,7 @@ use mathlib.Core.Bool.{Bool, true, false, _&&_}
 use Prim.Native.Nat.{ℕ}
 use native.Mathlib.Omega.{arith}
 use lib.Dec.{leb}
-use borrow.Author.Tests.{leb-true}
+use borrow.Author.Tests.{leb-true, le-leb}
 use Rattle.settings.specs.Ranges.{maxBricks, maxSize, minCapacity, maxCapacity, bricksInRange, sizeInRange, capacityInRange, inRange, settingsRefusal, codeRefusal}
 use Rattle.settings.specs.Refusal.{refuseUnless, badSetting}
 use Rattle.settings.proofs.Laws.RefusalLaws.{tested}
@@ -60,3 +60,18 @@ settings-capacity s k v e h r = r ∙ go (bricksInRange (s .n) (s .m) && sizeInR
     go : (a b : Bool) → k ≡ refuseUnless a badSetting → refuseUnless b badSetting ≡ refuseUnless (a && b) badSetting
     go true b d = refl
     go false b d = absurd (omega arith)
+
+-- settings in range pass
+pub in-range : (s : Settings) → SettingsRange s → inRange s ≡ true
+unfolding inRange bricksInRange sizeInRange capacityInRange
+in-range s g =
+    rw (
+      le-leb 1 (s .n) (g .code .n-low),
+      le-leb (s .n) maxBricks (g .code .n-high),
+      le-leb 1 (s .m) (g .code .m-low),
+      le-leb (s .m) (s .n) (g .code .m-high),
+      le-leb 1 (s .size) (g .code .size-low),
+      le-leb (s .size) maxSize (g .code .size-high),
+      le-leb minCapacity (s .capacity) (g .capacity-low),
+      le-leb (s .capacity) maxCapacity (g .capacity-high),
+    ) refl
