@@ -23,7 +23,7 @@ use Rattle.image_block.specs.Block.{blockBytes}
 
 -- a number that is 0 or a valid time is below "no upper end"
 pub saved-high : (t : ℕ) → savedTime t ≡ true → t < noUpperEnd
-unfolding savedTime validTime
+unfolding savedTime validTime noUpperEnd
 saved-high t e = go (eqb t 0) refl e
   where
     go : (b : Bool) → eqb t 0 ≡ b → b || (leb (timeOf 1 0) t && ltb t (noUpperEnd)) ≡ true → t < noUpperEnd
