@@ -7,8 +7,7 @@ use native.Mathlib.Numerals.{add-one}
 use native.Mathlib.Nat.{mul-assoc}
 use lib.ListN.{length, take, drop, getD, length-take, length-drop}
 use lib.Seq.{drop-cons, take-add, drop-drop}
-use Rattle.byte_lists.specs.Little.{byteOf, little, number}
-use Rattle.byte_lists.specs.Little.{Bytes, limit}
+use Rattle.byte_lists.specs.Little.{byteOf, little, number, Bytes, limit}
 
 pub little-length : (k n : ℕ) → length (little k n) ≡ k
 unfolding little
