@@ -3,10 +3,9 @@
 use mathlib.Core.List.{List}
 use Prim.Native.Nat.{ℕ, _*_, _≤_, _<_}
 use Rattle.byte_lists.specs.Lists.{tabulate, stacked}
-use Rattle.interpolate.specs.Values.{blocksAt}
+use Rattle.interpolate.specs.Values.{blocksAt, PointSet}
 use mathlib.Core.Path.{_≡_}
 use lib.ListN.{length, getD, take, drop}
-use Rattle.interpolate.specs.Values.{PointSet}
 use Rattle.settings.specs.Ranges.{maxBricks}
 
 -- points 0 to m − 1

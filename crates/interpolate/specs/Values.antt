@@ -1,12 +1,11 @@
 -- What a code computes (document 01, "Settings and the code"): blocks as values of polynomials, byte position by byte position.
 use mathlib.Core.List.{List}
-use Prim.Native.Nat.{ℕ, _+_, _*_}
+use Prim.Native.Nat.{ℕ, _+_, _*_, _≤_, _<_}
 use lib.ListN.{length, getD}
 use Rattle.interpolate.specs.Bytes.{bytes, byte}
 use Rattle.byte_lists.specs.Lists.{tabulate, stacked}
 use Rattle.poly.specs.Polynomial.{interpolated}
 use Rattle.settings.specs.Ranges.{maxBricks}
-use Prim.Native.Nat.{_≤_, _<_}
 use mathlib.Core.Path.{_≡_}
 
 -- byte p of block i, in a row of blocks of `size` bytes

@@ -7,10 +7,8 @@ ghost use lib.ListN.{length, getD};
 ghost use Rattle.gf256.specs.Product.{product, power, twice, byteCount, powerCount};
 ghost use Rattle.gf256.specs.Tables.{IsPowers};
 ghost use Rattle.settings.specs.Ranges.{maxBricks};
-ghost use Rattle.interpolate.specs.Workers.{PointsReady, Denominators, weight};
-ghost use Rattle.interpolate.specs.Values.{PointSet};
-ghost use Rattle.interpolate.specs.Workers.{firstPlace, scaled, numerator, denominator, maxSum};
-ghost use Rattle.interpolate.specs.Values.{blockAt, blocksAt};
+ghost use Rattle.interpolate.specs.Workers.{PointsReady, Denominators, weight, firstPlace, scaled, numerator, denominator, maxSum};
+ghost use Rattle.interpolate.specs.Values.{PointSet, blockAt, blocksAt};
 
 // Where x first stands in a list; the list's length if nowhere.
 pub fn position(list: &[u8], x: u8) -> usize

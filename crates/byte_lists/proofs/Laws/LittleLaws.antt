@@ -10,8 +10,7 @@ use lib.ListN.{length, take, drop, getD, replicate, length-take, length-drop}
 use lib.Dec.{ltb}
 use borrow.Author.Tests.{ltb-true, lt-ltb}
 use lib.Seq.{drop-cons, take-add, drop-drop}
-use Rattle.byte_lists.specs.Little.{byteOf, little, number}
-use Rattle.byte_lists.specs.Little.{Bytes, areBytes, limit}
+use Rattle.byte_lists.specs.Little.{byteOf, little, number, Bytes, areBytes, limit}
 use Rattle.byte_lists.proofs.Laws.BoolLaws.{and-left, and-right}
 
 pub little-length : (k n : ℕ) → length (little k n) ≡ k

@@ -1,15 +1,12 @@
 -- Bytes put into a list: it keeps its length, they stand there, and what stands beside them is as it was.
 use mathlib.Core.Path.{_≡_, refl, sym, ap, _∙_}
 use mathlib.Core.List.{List, [], _∷_, _++_, append-assoc}
-use Prim.Native.Nat.{ℕ, zero, suc, _+_, _-_, _≤_}
+use Prim.Native.Nat.{ℕ, zero, suc, _+_, _-_, _≤_, _<_}
 use native.Mathlib.Omega.{arith}
-use lib.ListN.{length, take, drop, length-append, length-take, length-drop}
-use lib.Seq.{take-at, drop-at, drop-drop, take-nil, take-take, take-append-le, length-take-le}
+use lib.ListN.{length, take, drop, length-append, length-take, length-drop, getD, set}
+use lib.Seq.{take-at, drop-at, drop-drop, take-nil, take-take, take-append-le, length-take-le, take-length, paste, paste-zero, paste-suc, length-paste}
 use borrow.Rule.Slice.PartMut.{putMid, post-is}
 use Rattle.byte_lists.specs.Lists.{put}
-use Prim.Native.Nat.{_<_}
-use lib.ListN.{getD, set}
-use lib.Seq.{take-length, paste, paste-zero, paste-suc, length-paste}
 use native.Mathlib.Numerals.{add-one}
 
 pub put-is : (at : ℕ) (x l : List ℕ) → put at x l ≡ take at l ++ (x ++ drop (at + length x) l)

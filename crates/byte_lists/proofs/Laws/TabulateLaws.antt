@@ -6,10 +6,9 @@ use Prim.Native.Nat.{ℕ, zero, suc, _+_, _*_, _≤_, _<_}
 use native.Mathlib.Decide.{ℕ-discrete}
 use native.Mathlib.Nat.{le-of-suc-le-suc, not-suc-le-zero, eq-or-lt-of-le, zero-mul, suc-mul}
 use native.Mathlib.Omega.{arith}
-use lib.ListN.{length, getD, set, length-append, length-set, List·getD-append}
+use lib.ListN.{length, getD, set, length-append, length-set, List·getD-append, replicate, getD-replicate, length-replicate}
 use lib.Seq.{ext-getD, getD-at, getD-set-same, getD-set-other}
 use Rattle.byte_lists.specs.Lists.{tabulate, stacked, zeros}
-use lib.ListN.{replicate, getD-replicate, length-replicate}
 
 pub length-tabulate : (k : ℕ) (f : ℕ → ℕ) → length (tabulate k f) ≡ k
 unfolding tabulate

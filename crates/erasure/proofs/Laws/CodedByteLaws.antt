@@ -7,7 +7,7 @@ use native.Mathlib.Nat.{mul-le-mul-right, suc-mul}
 use native.Mathlib.Omega.{arith}
 use lib.ListN.{length, getD, drop, length-drop, List·getD-eq-default}
 use lib.Seq.{length-take-le}
-use Rattle.erasure.specs.Code.{firstPoints, codedOf}
+use Rattle.erasure.specs.Code.{firstPoints, codedOf, blockOf, blocksOf, Stripe, Bricks}
 use Rattle.erasure.proofs.Laws.PassedLaws.{length-first}
 use Rattle.interpolate.proofs.Laws.BlockLaws.{byte-stacked, length-blocksAt, blocks-byte, value-byte}
 use Rattle.interpolate.specs.Bytes.{Byte, byte, bytes}
@@ -19,7 +19,6 @@ use Rattle.interpolate.specs.Workers.{pointsOf}
 use Rattle.poly.proofs.Laws.InterpolationLaws.{recovered}
 use Rattle.poly.specs.Polynomial.{interpolated}
 use Rattle.settings.specs.Ranges.{maxBricks}
-use Rattle.erasure.specs.Code.{blockOf, blocksOf, Stripe, Bricks}
 
 pub first-at : (m i : ℕ) → i < m → getD (firstPoints m) i 0 ≡ i
 unfolding firstPoints

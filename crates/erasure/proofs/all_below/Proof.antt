@@ -1,7 +1,6 @@
 use lib.ListN.{length, length-take, length-drop}
 use borrow.Author.Needs.{needs}
 use native.Mathlib.Omega.{arith}
-use lib.ListN.{length}
 use mathlib.Core.Path.{_≡_, refl}
 use Rattle.erasure.specs.Refusals.{allBelow}
 use Rattle.erasure.proofs.Laws.ListLaws.{below-rest, below-not, below-end}

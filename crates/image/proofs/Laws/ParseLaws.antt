@@ -30,6 +30,7 @@ use Rattle.image.proofs.Laws.ImageSoundLaws.{soundness, sound-again, sa
 use Rattle.image.specs.Workers.{ImageOpened}
 use Rattle.image_block.specs.Block.{countBytes, countFrom, heldFrom, promiseFrom, timeBytes, timeFrom}
 use Rattle.settings.specs.Refusal.{badCheck, badLength, badNumber, badRecord, badSetting, passed}
+use Rattle.settings.specs.Times.{noUpperEnd}
 
 pub range-of : (s : Settings) → inRange s ≡ true → SettingsRange s
 unfolding settingsRefusal
@@ -64,13 +65,13 @@ module _ (s : Settings) (brick : ℕ) (x : Brick) (range : SettingsRange s) (r :
       ∙ head-count s brick (entryCount x) (x .promise) (omega (arith, r .count-high, range .capacity-high))
 
   promise-back : promiseIn (imageBlockAt (imageOf s brick x) 0) ≡ x .promise
-  unfolding promiseIn
+  unfolding promiseIn noUpperEnd
   promise-back =
       ap (λ (h : List ℕ). number (take timeBytes (drop promiseFrom h))) head-at
       ∙ head-promise s brick (entryCount x) (x .promise) (omega (arith, saved-high (x .promise) (r .promise-saved)))
 
   entry-back : (i : ℕ) → i < entryCount x → entryIn (s .size) (imageBlockAt (imageOf s brick x) (suc i)) ≡ getD (x .log) i noEntry
-  unfolding entryIn timeIn heldIn timeAt meansAt
+  unfolding entryIn timeIn heldIn timeAt meansAt noUpperEnd
   entry-back i h =
       let at = image-block s brick x range r (suc i) (omega (arith, r .count-high)) ∙ block-held s brick x i h in
       let n = r .entries i h in

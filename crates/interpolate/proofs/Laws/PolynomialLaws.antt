@@ -6,9 +6,8 @@ use native.Mathlib.Nat.{le-of-eq}
 use lib.ListN.{length, getD}
 use Rattle.interpolate.specs.Bytes.{Byte, byte, bytes}
 use Rattle.interpolate.proofs.Laws.ByteLaws.{bytes-are-a-field}
-use Rattle.interpolate.specs.Values.{PointSet}
+use Rattle.interpolate.specs.Values.{PointSet, byteAt, valueAt}
 use Rattle.interpolate.proofs.Laws.WeightRowLaws.{different-points}
-use Rattle.interpolate.specs.Values.{byteAt, valueAt}
 use Rattle.poly.proofs.Laws.InterpolationLaws.{exists-through, unique, interpolates}
 use Rattle.poly.specs.Polynomial.{eval}
 use Rattle.interpolate.specs.Polynomials.{Through, ExactlyOnePolynomial}

@@ -16,10 +16,9 @@ use Rattle.gf256.specs.Tables.{IsLogs}
 use Rattle.gf256.proofs.Laws.XorLaws.{plus-byte, plus-cancel}
 use Rattle.interpolate.specs.Bytes.{Byte, byte, bytes}
 use Rattle.interpolate.proofs.Laws.ByteLaws.{byte-small, add-is, mul-is, inv-is}
-use Rattle.interpolate.specs.Workers.{numerator, denominator}
+use Rattle.interpolate.specs.Workers.{numerator, denominator, pointsOf}
 use Rattle.poly.proofs.Laws.BasisLaws.{basisTo-skip, basisTo-step}
 use Rattle.poly.specs.Polynomial.{sub, factor, basisTo, basis}
-use Rattle.interpolate.specs.Workers.{pointsOf}
 
 -- the sum of the logarithms of x − b over the first k points b but point i
 unfoldable pub others : List ℕ → List ℕ → ℕ → ℕ → ℕ → ℕ

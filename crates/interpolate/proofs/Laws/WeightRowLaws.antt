@@ -6,24 +6,20 @@ use native.Mathlib.Nat.{zero-mul, suc-mul, mul-le-mul-right}
 use native.Mathlib.Numerals.{add-one}
 use native.Mathlib.Omega.{arith}
 use lib.Bits.{bitXor}
-use lib.ListN.{length, getD, take, drop}
+use lib.ListN.{length, getD, take, drop, length-append, length-drop}
 use lib.Seq.{getD-take, getD-drop, length-take-le, take-all, take-at}
 use borrow.Rule.Slice.PartMut.{putMid, postOf, same-len-mid}
-use lib.ListN.{length-append, length-drop}
 use Rattle.gf256.specs.Product.{plus, product, power, powerCount}
 use Rattle.interpolate.specs.Bytes.{Byte, byte, bytes}
 use Rattle.interpolate.proofs.Laws.ByteLaws.{byte-small, add-is, mul-is, bytes-are-a-field}
 use Rattle.interpolate.proofs.Laws.FirstPlaceLaws.{place-is, place-not}
-use Rattle.interpolate.specs.Workers.{firstPlace, scaled, numerator}
+use Rattle.interpolate.specs.Workers.{firstPlace, scaled, numerator, pointsOf, PointsReady, weight}
 use Rattle.byte_lists.specs.Lists.{tabulate, stacked}
 use Rattle.byte_lists.proofs.Laws.TabulateLaws.{length-tabulate, getD-tabulate, tabulate-by, tabulate-ext}
-use Rattle.interpolate.specs.Values.{byteAt, valueAt, blockAt}
-use Rattle.interpolate.specs.Workers.{pointsOf}
+use Rattle.interpolate.specs.Values.{byteAt, valueAt, blockAt, PointSet}
 use Rattle.interpolate.proofs.Laws.WeightLaws.{weight-is}
 use Rattle.poly.proofs.Laws.InterpolationLaws.{interpolated-at}
 use Rattle.poly.specs.Polynomial.{Different, sum, basis, interpolated}
-use Rattle.interpolate.specs.Workers.{PointsReady, weight}
-use Rattle.interpolate.specs.Values.{PointSet}
 
 -- a weight is 2 to what the code sums up
 pub weight-by-logs : (logs points sums : List ℕ) (top x i : ℕ) → PointsReady logs points sums → ((k : ℕ) → getD points k 0 < 256) → x < 256

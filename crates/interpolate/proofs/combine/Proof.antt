@@ -1,4 +1,4 @@
-use Rattle.byte_lists.proofs.Laws.TabulateLaws.{zeros-are}
+use Rattle.byte_lists.proofs.Laws.TabulateLaws.{zeros-are, length-tabulate}
 use borrow.Author.Needs.{needs}
 use native.Mathlib.Nat.{zero-mul, suc-mul, mul-le-mul-right}
 use native.Mathlib.Omega.{arith}
@@ -7,7 +7,6 @@ use mathlib.Core.Path.{_≡_, sym, ap, _∙_}
 use Prim.Native.Nat.{_+_, _*_, _-_, _≤_}
 use Rattle.interpolate.proofs.Laws.WeightRowLaws.{partial, row-none, row-step, row-all, part-length}
 use Rattle.byte_lists.specs.Lists.{tabulate}
-use Rattle.byte_lists.proofs.Laws.TabulateLaws.{length-tabulate}
 use Rattle.interpolate.proofs.combine.Statement.{statement}
 use Rattle.interpolate.proofs.combine.Tie as tie
 

@@ -5,11 +5,10 @@ use Prim.Native.Nat.{ℕ}
 use native.Mathlib.Omega.{arith}
 use lib.Dec.{leb}
 use borrow.Author.Tests.{leb-true, le-leb}
-use Rattle.settings.specs.Ranges.{maxBricks, maxSize, minCapacity, maxCapacity, bricksInRange, sizeInRange, capacityInRange, inRange, settingsRefusal, codeRefusal}
+use Rattle.settings.specs.Ranges.{maxBricks, maxSize, minCapacity, maxCapacity, bricksInRange, sizeInRange, capacityInRange, inRange, settingsRefusal, codeRefusal, CodeRange, SettingsRange}
 use Rattle.settings.specs.Refusal.{refuseUnless, badSetting}
 use Rattle.settings.proofs.Laws.RefusalLaws.{tested}
 use Rattle.settings.specs.declared.Settings.{Settings}
-use Rattle.settings.specs.Ranges.{CodeRange, SettingsRange}
 use Rattle.byte_lists.proofs.Laws.BoolLaws.{and-left, and-right}
 
 in-code-range : (n m size : ℕ) → bricksInRange n m && sizeInRange size ≡ true → CodeRange n m size

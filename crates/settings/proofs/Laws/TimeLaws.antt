@@ -5,11 +5,10 @@ use Prim.Native.Nat.{ℕ, _%_, _≤_, _<_}
 use native.Mathlib.Omega.{arith}
 use lib.Dec.{leb, ltb}
 use borrow.Author.Tests.{lt-ltb, le-leb, ltb-false, leb-true, leb-false}
-use Rattle.settings.specs.Times.{maxCount, noUpperEnd, coordinatorCount, lastCoordinator, timeOf, validTime, nextCount, drawRefusal, advanced, drawOf, numberOf}
+use Rattle.settings.specs.Times.{maxCount, noUpperEnd, coordinatorCount, lastCoordinator, timeOf, validTime, nextCount, drawRefusal, advanced, drawOf, numberOf, Draws, Gave}
 use Rattle.settings.specs.Refusal.{passed, badNumber, badRecord, badReading, clockSpent}
 use Rattle.settings.specs.declared.Clock.{Clock}
 use Rattle.settings.specs.declared.Draw.the-variants.{Drawn, Refused}
-use Rattle.settings.specs.Times.{Draws, Gave}
 
 pub draw-passed : (c : Clock) (reading k : ℕ) → k ≡ drawRefusal c reading → k ≡ 0 → Draws c reading
 unfolding drawRefusal
