@@ -15,28 +15,10 @@ use std::collections::{BTreeMap, BTreeSet};
 use std::sync::OnceLock;
 
 /// Laws that stand among definitions all the same.
-const LAWS_IN_SPECS: &[&str] = &[
-    // An event that starts a write holds the proof that its content is bytes.
-    "bench_rules/specs/Content.content-small",
-    "bench_rules/specs/Content.zeros-bytes",
-    "figures/specs/WorkedRun.ten",
-    // The bytes as a field hold the proofs of the field's laws.
-    "interpolate/specs/Bytes.below",
-    "interpolate/specs/Bytes.not-zero",
-    "interpolate/specs/Bytes.same",
-];
+const LAWS_IN_SPECS: &[&str] = &[];
 
 /// Modules of definitions that cite laws all the same.
-const PROOFS_CITED: &[&str] = &[
-    // For the laws above.
-    "bench_rules/specs/Content cites bench_parse/proofs/Laws/HexLaws",
-    "interpolate/specs/Bytes cites gf256/proofs/Laws/FieldLaws",
-    "interpolate/specs/Bytes cites gf256/proofs/Laws/ProductLaws",
-    "interpolate/specs/Bytes cites gf256/proofs/Laws/XorLaws",
-    // A definition hands a proof to one below it.
-    "coord_laws/specs/Soundness cites coordinator/proofs/Laws/StepLaws",
-    "register/specs/Invariant cites settings/proofs/Laws/QuorumLaws",
-];
+const PROOFS_CITED: &[&str] = &[];
 
 /// How long a line may be, by folder, and how many longer ones stand there today.
 const LONGEST: [(&str, usize, usize); 3] =
@@ -289,7 +271,7 @@ fn module_names_are_unique() {
     let mut by_name = BTreeMap::<&str, Vec<String>>::new();
     for place in repo().modules.iter().map(|module| &module.place) {
         let name = place.module.rsplit('.').next().unwrap();
-        if (place.part == "specs" || place.is_laws()) && !["Lib", "Laws"].contains(&name) {
+        if (place.part == "specs" || place.is_laws()) && !["Lib", "Laws", "Workers"].contains(&name) {
             by_name.entry(name).or_default().push(place.to_string());
         }
     }

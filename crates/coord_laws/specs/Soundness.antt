@@ -4,7 +4,6 @@ use lib.ListN.{length}
 use Rattle.coord_record.specs.declared.Tally.{Tally}
 use mathlib.Core.Bool.{true}
 use Prim.Native.Nat.{ℕ, _≤_, _<_}
-use Rattle.coordinator.proofs.Laws.RoutineLaws.{first-low}
 use Rattle.coord_record.specs.CountedRules.{tallyRight, bricksRight}
 use Rattle.coord_record.specs.Sound.{opRight, timeRight, namedCount}
 use Rattle.coord_record.specs.SoundParts.{SoundParts}
