@@ -4,7 +4,7 @@ use mathlib.Core.List.{List, [], _∷_}
 use Prim.Native.Nat.{ℕ, zero, suc}
 use lib.Dec.{eqb, leb}
 use lib.ListN.{length}
-use Rattle.coord_record.specs.Records.{noBricks}
+use Rattle.coord_record.specs.Records.{idleKind, noBricks}
 use Rattle.coord_record.specs.declared.Coordinator.{Coordinator}
 use Rattle.coord_apply.specs.declared.Answer.{Answer}
 use Rattle.coord_apply.specs.declared.Notice.{Notice}
@@ -36,6 +36,9 @@ unfoldable pub afterChecks : ℕ → Step → Step
 afterChecks number step = cond (leb number 0) step (refused number)
 
 -- What is seen: nothing, the beginning of an operation, or its end: ok, the stripe read, aborted, cut.
+abbrev pub noneSeen : ℕ
+noneSeen = 0
+
 abbrev pub beganSeen : ℕ
 beganSeen = 1
 
@@ -52,7 +55,7 @@ abbrev pub cutSeen : ℕ
 cutSeen = 5
 
 unfoldable pub nothingSeen : Notice
-nothingSeen = record { what = 0; kind = 0; time = 0; bricks = noBricks }
+nothingSeen = record { what = noneSeen; kind = idleKind; time = 0; bricks = noBricks }
 
 unfoldable pub noMessage : Message
 noMessage = record { kind = 0; time = 0; round = 0; max = 0; targets = noBricks }

@@ -27,7 +27,9 @@ use settings::Clock;
 use settings::Draw;
 use settings::MAX_BRICKS;
 
-// What is seen of an operation.
+// What is seen of an operation: nothing, its beginning, or how it ended.
+pub const NOTHING: u8 = 0;
+
 pub const BEGAN: u8 = 1;
 
 pub const OK: u8 = 2;
@@ -38,7 +40,7 @@ pub const ABORTED: u8 = 4;
 
 pub const CUT: u8 = 5;
 
-// what: nothing (0), or one of these, of the operation of this kind and time. bricks: the m bricks that a finished read decoded from.
+// what: one of these, of the operation of this kind and time. bricks: the m bricks that a finished read decoded from.
 pub struct Notice {
     pub what: u8,
     pub kind: u8,
@@ -62,8 +64,8 @@ pub fn nothing_seen() -> Notice
     ensures { λ r. ⌜ r ≡ nothingSeen ⌝ }
 {
     Notice {
-        what: 0,
-        kind: 0,
+        what: NOTHING,
+        kind: coord_record::IDLE,
         time: 0,
         bricks: [0u8; MAX_BRICKS],
     }
@@ -130,6 +132,9 @@ fn decode_by(
     erasure::decode_into(m, size, &bricks[..m], &work[..end], stripe)
 }
 
+// Room for the blocks of any m bricks: 16 of 256 bytes.
+const WORK: usize = 4096;
+
 // The same, with a buffer of its own.
 fn decode_from(m: usize, size: usize, bricks: [u8; MAX_BRICKS], blocks: &[u8], stripe: &mut [u8])
     requires { ⌜ (m ≤ maxBricks) × (size ≤ maxSize) ⌝ }
@@ -138,7 +143,7 @@ fn decode_from(m: usize, size: usize, bricks: [u8; MAX_BRICKS], blocks: &[u8], s
     requires { ⌜ InPlace m size bricks (now blocks) ⌝ }
     ensures { λ _. ⌜ now (stripe .exit) ≡ stripeFrom m size bricks (now (blocks .entry)) ⌝ }
 {
-    let mut work = [0u8; 4096];
+    let mut work = [0u8; WORK];
     decode_by(m, size, bricks, blocks, &mut work, stripe)
 }
 
