@@ -3,7 +3,7 @@ use mathlib.Core.Path.{_≡_}
 use mathlib.Core.Bool.{Bool, true, false, _&&_}
 use mathlib.Core.List.{List, [], _∷_}
 use lib.Dec.{T, eqb, eqb→eq}
-use Rattle.image_block.specs.Block.{weighted, checkOf, headKind, headBody, entryKind, entryBody}
+use Rattle.image_block.specs.Block.{weighted, checkOf, headBody, entryBody}
 use Rattle.byte_lists.specs.Lists.{zeros}
 use Rattle.erasure.specs.Code.{firstPoints, codedOf, decodedOf}
 use Rattle.gf256.specs.Product.{plus, twice, shiftAdd, product, inverseBelow, inverse}
@@ -30,7 +30,7 @@ held (r ∷ rows) t = go (eqb (r .given) (r .figure)) (eqb→eq (r .given) (r .f
 
 pub figures-hold : FiguresHold
 unfolding figures agree timeOrNumber drawFor refusalFor quorum faults product shiftAdd twice plus
-    weighted checkOf zeros headKind headBody entryKind entryBody byteOf little firstPoints codedOf decodedOf inverseBelow inverse
+    weighted checkOf zeros headBody entryBody byteOf little firstPoints codedOf decodedOf inverseBelow inverse
     tabulate stacked byteAt valueAt blockAt blocksAt pick sub sum factor basisTo basis interpolated
     settingsRefusal inRange bricksInRange sizeInRange capacityInRange maxCount timeOf nextCount drawRefusal advanced drawOf
 figures-hold = held figures tt

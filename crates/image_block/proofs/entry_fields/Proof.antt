@@ -1,3 +1,4 @@
+use mathlib.Core.Path.{refl}
 use Rattle.image_block.proofs.Laws.BlockStoreLaws.{entry-stored}
 use borrow.Author.Needs.{needs}
 use Rattle.image_block.proofs.entry_fields.Statement.{statement}
@@ -94,7 +95,21 @@ array-write-b-11 : tie.Need-array-write-b-11
 array-write-b-11 c = search needs
 
 returns : tie.Need-returns
-returns c = search (needs, entry-stored)
+returns c =
+    let size-2 = c in
+    let size-1 = size-2 .before in
+    let time-8 = size-1 .before in
+    let time-7 = time-8 .before in
+    let time-6 = time-7 .before in
+    let time-5 = time-6 .before in
+    let time-4 = time-5 .before in
+    let time-3 = time-4 .before in
+    let time-2 = time-3 .before in
+    let time-1 = time-2 .before in
+    entry-stored _ _ _ _ _ _ _ _ _ _ _ _ _ _ (time-1 .before .held .ensures) refl
+    (time-1 .byte .ensures) (time-2 .byte2 .ensures) (time-3 .byte3 .ensures) (time-4 .byte4 .ensures)
+    (time-5 .byte5 .ensures) (time-6 .byte6 .ensures) (time-7 .byte7 .ensures) (time-8 .byte8 .ensures)
+    (size-1 .byte9 .ensures) (size-2 .byte10 .ensures)
 
 pub entry-fields-spec : {M : Type 1} → statement M
 entry-fields-spec =

@@ -25,8 +25,8 @@ little-open = tt
 unfoldable pub block-open : Unit {0}
 unfolding Rattle.image_block.specs.Block.weighted Rattle.image_block.specs.Block.checkOf Rattle.image_block.specs.Block.sealed
     Rattle.image_block.specs.Workers.unchecked Rattle.byte_lists.specs.Lists.same Rattle.image_block.specs.Block.checked
-    Rattle.byte_lists.specs.Lists.zeros Rattle.image_block.specs.Block.unusedKind Rattle.image_block.specs.Block.headKind
-    Rattle.image_block.specs.Block.entryKind Rattle.image_block.specs.Block.headBody Rattle.image_block.specs.Block.headBlock
+    Rattle.byte_lists.specs.Lists.zeros
+    Rattle.image_block.specs.Block.headBody Rattle.image_block.specs.Block.headBlock
     Rattle.image_block.specs.Block.entryBody Rattle.image_block.specs.Block.entryBlock Rattle.image_block.specs.Block.unusedBody
     Rattle.image_block.specs.Block.unusedBlock Rattle.byte_lists.specs.Lists.put
 block-open = tt
