@@ -22,9 +22,6 @@ use coord_record::Coordinator;
 use coord_record::Op;
 use coord_record::Tally;
 use message::Message;
-use message::Reply;
-use settings::Clock;
-use settings::Draw;
 use settings::MAX_BRICKS;
 
 // What is seen of an operation: nothing, its beginning, or how it ended.

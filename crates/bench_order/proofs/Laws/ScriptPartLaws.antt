@@ -28,7 +28,8 @@ use Rattle.bench_print.specs.Printing.{endedText}
 use Rattle.bench_rules.specs.Content.{content, counted}
 use Rattle.bench_rules.proofs.Laws.ContentLaws.{content-small}
 use Rattle.byte_lists.proofs.Laws.LittleLaws.{bytes-pass}
-use Rattle.bench_rules.specs.Play.{Played, refuses, passes, happens, acts, atCoordinator, unlessShort, writes, starts, crashesAt, switches, delivered, reaches, carries, carriesAt, carried, carriedAll, plays}
+use Rattle.bench_rules.specs.Play.{Played, refuses, passes, happens, acts, atCoordinator, unlessShort, writes, starts}
+use Rattle.bench_rules.specs.Play.{crashesAt, switches, delivered, reaches, carries, carriesAt, carried, carriedAll, plays}
 use Rattle.bench_order.proofs.Laws.ToldLaws.{told}
 use Rattle.bench_order.proofs.Laws.Parts.{FewSent, Ran, Part, refusing, passing, happening, both}
 use Rattle.bench_order.proofs.Laws.PrintedLaws.{Agrees, printed-is-seen, end-ran, take-agrees, crash-agrees, write-agrees, read-agrees}

@@ -6,7 +6,7 @@ use native.Mathlib.Omega.{arith}
 use native.Mathlib.Decide.{decLt}
 use lib.ListN.{length, length-append}
 use Rattle.message.specs.declared.Message.{Message}
-use Rattle.register.specs.Runs.{Item, World, arriving, arrivingAt, unmoved}
+use Rattle.register.specs.Runs.{Item, World, arriving, arrivingAt}
 use Rattle.settings.specs.declared.Settings.{Settings}
 use Rattle.bench_sent.specs.Sent.{itemAt, itemsOf}
 use Rattle.bench_sent.specs.Workers.{Coded}
@@ -32,12 +32,6 @@ module _ (s : Settings) (w : World) where
   at-end [] i (suc j) h = absurd (omega arith)
   at-end (x ∷ l) i zero h = absurd (omega arith)
   at-end (x ∷ l) i (suc j) h = at-end l i j (omega arith)
-
-  past : (l : List Item) (j : ℕ) → length l ≤ j → arrivingAt s w l j ≡ unmoved s w
-  unfolding arrivingAt
-  past [] j h = refl
-  past (x ∷ l) zero h = absurd (omega arith)
-  past (x ∷ l) (suc j) h = past l j (omega arith)
 
   -- an arrival takes the item of its row, and one past the rows nothing
   pub arrives-item : (size : ℕ) (numbers bytes : List ℕ) (k j : ℕ) → j < k

@@ -59,10 +59,13 @@ returns c =
     .read-content .ensures in
     short-write (s .args .b) (s .args .c) k (s .args .numbers .now) (s .args .bytes .now) 0 (s .args .out .now) _ k k k _ _ _ _ (s .pre .0 .low)
     (c .before .before .before .before .before .before .before .before .before .before .before .coordinator-at .ensures .0)
-    (c .before .before .before .before .before .before .before .before .before .before .before .before .before .before .before .before .before .fetch .ensures .0 ∙ ap (λ (j : ℕ). take j (drop (s .args .c * keptRoom) k)) (s .pre .1 .0 .blocks-long))
-    (c .before .before .before .before .before .before .before .before .before .before .before .before .before .before .before .before .before .fetch .ensures .1 ∙ ap (λ (j : ℕ). take j (drop (s .args .c * keptRoom + stripeRoom) k)) (s .pre .1 .0 .stripe-long))
+    (c .before .before .before .before .before .before .before .before .before .before .before .before .before .before .before .before .before .fetch .ensures .0
+    ∙ ap (λ (j : ℕ). take j (drop (s .args .c * keptRoom) k)) (s .pre .1 .0 .blocks-long))
+    (c .before .before .before .before .before .before .before .before .before .before .before .before .before .before .before .before .before .fetch .ensures .1
+    ∙ ap (λ (j : ℕ). take j (drop (s .args .c * keptRoom + stripeRoom) k)) (s .pre .1 .0 .stripe-long))
     (s .args .clock) digits _ _ _ _ (content-is x digits (s .args .content .now) _ _ (s .pre .1 .1 .1) (q .0) (q .1))
-    (count-is x digits (s .args .content .now) (s .args .content .now) _ (s .pre .1 .1 .1) (q .0)) (c .before .before .before .before .before .before .before .before .start-write .ensures) (sym (c .before .before .before .before .before .is-short .ensures) ∙ c .before .before .before .before .if1 .taken) (c .before .before .refuse .ensures)
+    (count-is x digits (s .args .content .now) (s .args .content .now) _ (s .pre .1 .1 .1) (q .0)) (c .before .before .before .before .before .before .before .before .start-write .ensures)
+    (sym (c .before .before .before .before .before .is-short .ensures) ∙ c .before .before .before .before .if1 .taken) (c .before .before .refuse .ensures)
 
 commit-requires : tie.Need-commit-requires
 commit-requires c κs =
@@ -71,7 +74,16 @@ commit-requires c κs =
     let f = c .before .before .before .before .before .before .before .before .before .before .before .before .before .before .before .before .before .before .before .fetch .kept in
     let long = f .1 .1 .0 ∙ s .pre .1 .0 .blocks-long in (
       s .pre .0,
-      (record { blocks-long = long; stripe-long = c .before .before .before .before .before .before .before .before .before .before .start-write .kept .1 .1 .1 .1 .1 .1 .0 ∙ f .1 .1 .1 .0 ∙ s .pre .1 .0 .stripe-long; coded-long = long }, few-returned _ _ _ _ _ _ _ _ _ (write-short _ _ _ _ _ _) (c .before .before .before .before .before .before .before .before .before .before .start-write .ensures [] [])),
+      (
+        record {
+          blocks-long = long;
+          stripe-long = c .before .before .before .before .before .before .before .before .before .before .start-write .kept .1 .1 .1 .1 .1 .1 .0 ∙ f .1 .1 .1 .0
+              ∙ s .pre .1 .0 .stripe-long;
+          coded-long = long;
+        },
+        few-returned _ _ _ _ _ _ _ _ _ (write-short _ _ _ _ _ _)
+            (c .before .before .before .before .before .before .before .before .before .before .start-write .ensures [] []),
+      ),
     )
 
 same-length-6 : tie.Need-same-length-6
@@ -116,8 +128,11 @@ returns-2 c =
     (c .before .before .before .before .before .before .before .before .before .before .before .before .before .before .before .before .before .before .before .before .before .before .before .before
     .before .before .before .before .fetch .ensures .1 ∙ ap (λ (j : ℕ). take j (drop (s .args .c * keptRoom + stripeRoom) k)) (s .pre .1 .0 .stripe-long))
     (s .args .clock) digits _ _ _ _ (content-is x digits (s .args .content .now) _ _ (s .pre .1 .1 .1) (q .0) (q .1))
-    (count-is x digits (s .args .content .now) (s .args .content .now) _ (s .pre .1 .1 .1) (q .0)) (c .before .before .before .before .before .before .before .before .before .before .before .before .before .before .before .before .before .before .before .start-write .ensures)
-    (sym (c .before .before .before .before .before .before .before .before .before .before .before .before .before .before .before .before .is-short .ensures) ∙ c .before .before .before .before .before .before .before .before .before .before .before .before .before .before .before .if1 .left) (c .before .before .before .before .before .before .before .before .commit .ensures)
+    (count-is x digits (s .args .content .now) (s .args .content .now) _ (s .pre .1 .1 .1) (q .0))
+    (c .before .before .before .before .before .before .before .before .before .before .before .before .before .before .before .before .before .before .before .start-write .ensures)
+    (sym (c .before .before .before .before .before .before .before .before .before .before .before .before .before .before .before .before .is-short .ensures)
+    ∙ c .before .before .before .before .before .before .before .before .before .before .before .before .before .before .before .if1 .left)
+    (c .before .before .before .before .before .before .before .before .commit .ensures)
 
 pub write-with-spec : {M : Type 1} → statement M
 write-with-spec =

@@ -12,7 +12,8 @@ use Rattle.settings.specs.Ranges.{SettingsRange}
 use Rattle.byte_lists.proofs.Laws.BoolLaws.{and-left, and-right}
 use Rattle.settings.specs.declared.Settings.{Settings}
 use Rattle.image.proofs.Laws.LogPlaceLaws.{newest-at}
-use Rattle.image_write.proofs.Laws.ImageStepLaws.{promised-promise, promised-count, promised-time, promised-means, appended-promise, appended-count, appended-time-old, appended-means-old, appended-time-new, appended-means-new}
+use Rattle.image_write.proofs.Laws.ImageStepLaws.{promised-promise, promised-count, promised-time, promised-means, appended-promise}
+use Rattle.image_write.proofs.Laws.ImageStepLaws.{appended-count, appended-time-old, appended-means-old, appended-time-new, appended-means-new}
 use Rattle.brick_log.proofs.Laws.TrimLaws.{Trims, trim-places}
 use Rattle.brick.proofs.Laws.BrickLaws.{by-place}
 use Rattle.image.specs.Brick.{Brick, entryCount, timeAt, meansAt, newest}

@@ -33,7 +33,8 @@ use Rattle.register.specs.Runs.{plain, Item, message}
 use Rattle.register.proofs.Laws.Invariant.{quorums, Hist, Means, Stands, LogHas, BrickInv, MessageInv, Looked, ReplyInv}
 use Rattle.register.proofs.Laws.UpLaws.{Within, in-cons, means-up, stands-up, brick-up}
 use Rattle.image.proofs.Laws.LogPlaceLaws.{saved-valid, rises-to, at-most-newest}
-use Rattle.register.proofs.Laws.BrickLogLaws.{Grows, grows-not, grows-promised, grows-stored, grows-showed, order-above, write-above, ok-promised, brick-promised, ok-stored, brick-stored, ok-showed, newest-means, brick-trimmed, Found, none, entry, found-under}
+use Rattle.register.proofs.Laws.BrickLogLaws.{Grows, grows-not, grows-promised, grows-stored, grows-showed, order-above, write-above, ok-promised, brick-promised}
+use Rattle.register.proofs.Laws.BrickLogLaws.{ok-stored, brick-stored, ok-showed, newest-means, brick-trimmed, Found, none, entry, found-under}
 use Rattle.brick.proofs.Laws.BrickLaws.{promised-sound, appended-sound, trimmed-sound}
 
 -- what a message that is not refused satisfies
