@@ -9,7 +9,7 @@ use Rattle.bench_rules.specs.Play.{carriedAll}
 use Rattle.bench_rules.specs.Turning.{Lent, worldIn}
 use Rattle.bench_rules.specs.Workers.{BenchReady}
 use Rattle.bench_rules.specs.declared.After.{After}
-use Rattle.bench_print.specs.Printing.{written}
+use Rattle.bench_print.specs.Printing.{printedInto}
 use Rattle.bench_state.specs.declared.Bench.{Bench}
 use Rattle.bench_limits.specs.Limits.{lineRoom}
 
@@ -23,7 +23,7 @@ pub record Carrying (b : Bench) (l : Lent) (line : List ℕ) (first : ℕ) (out 
   pub ready : BenchReady (r .bench) l′
   pub settings-kept : r .bench .settings ≡ b .settings
   pub out-long : length out′ ≡ length out
-  pub text-is : out′ ≡ written 0 text out
+  pub text-is : out′ ≡ printedInto 0 text out
   pub used-is : r .used ≡ length text
   pub room : r .used ≤ textAByte * place
   pub rest : CarryRest line place

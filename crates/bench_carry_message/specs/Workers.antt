@@ -14,7 +14,7 @@ use Rattle.bench_state.specs.State.{upOf, worldOf}
 use Rattle.bench_state.specs.Workers.{Fits}
 use Rattle.bench_state.specs.declared.Bench.{Bench}
 use Rattle.bench_sent.specs.Sent.{sentBlockAt, itemAt, itemsOf}
-use Rattle.bench_print.specs.Printing.{refusedText, written}
+use Rattle.bench_print.specs.Printing.{refusedText, printedInto}
 use Rattle.bench_rules.specs.Play.{}
 use Rattle.bench_rules.specs.Turning.{lent, worldIn}
 use Rattle.bench_rules.specs.declared.After.{After}
@@ -58,6 +58,6 @@ pub record Settled (b : Bench) (g : Given) (block numbers bytes : List ℕ) (at 
       ≡ worldOf b images kept (itemsOf (b .settings .size) numbers bytes (b .sent) ++ repliedWith g block)
   pub settings-kept : r .bench .settings ≡ b .settings
   pub few : r .bench .sent ≤ lastMessage
-  pub text-is : out′ ≡ written at (toldOf g) out
+  pub text-is : out′ ≡ printedInto at (toldOf g) out
   pub used-is : r .used ≡ at + length (toldOf g)
   pub short : r .used ≤ at + lineRoom

@@ -10,7 +10,7 @@ use Rattle.bench_parse.specs.Lines.{reads}
 use Rattle.bench_rules.specs.Play.{Stage, waiting, playing, eventsOf, Turn, turn}
 use Rattle.register.specs.Runs.{Event}
 use Rattle.bench_rules.specs.Turning.{Lent, worldIn}
-use Rattle.bench_print.specs.Printing.{written}
+use Rattle.bench_print.specs.Printing.{printedInto}
 use Rattle.bench_state.specs.State.{benchRange}
 use Rattle.bench_state.specs.declared.Bench.{Bench}
 use Rattle.bench_player.specs.declared.Played.{Played}
@@ -46,7 +46,7 @@ heard refusal stage line = cond (eqb refusal 0) (turn stage (reads line)) (recor
 -- The record and the buffers stand for the stage after a turn, with its events, and what it prints stands at the beginning of the text.
 pub record Heard (t : Turn) (out : List ℕ) (r : Played) (l′ : Lent) (out′ : List ℕ) : Type 0 where
   pub stage-is : stageOf (r .bench) l′ (eventsOf (t .stage)) ≡ t .stage
-  pub text-is : out′ ≡ written 0 (t .printed) out
+  pub text-is : out′ ≡ printedInto 0 (t .printed) out
   pub used-is : r .used ≡ length (t .printed)
   pub within : r .used ≤ length out
 

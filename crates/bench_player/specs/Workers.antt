@@ -8,7 +8,7 @@ use lib.ListN.{length}
 use Rattle.bench_parse.specs.Lines.{Line}
 use Rattle.bench_rules.specs.Play.{eventsOf, Turn, first}
 use Rattle.bench_rules.specs.Turning.{Lent, lent}
-use Rattle.bench_print.specs.Printing.{written}
+use Rattle.bench_print.specs.Printing.{printedInto}
 use Rattle.bench_state.specs.State.{benchRange}
 use Rattle.bench_rules.specs.declared.After.{After}
 use Rattle.bench_player.specs.Lining.{stageOf}
@@ -19,7 +19,7 @@ pub record Staged (t : Turn) (out : List ℕ) (r : After) (l′ : Lent) (out′ 
   pub stage-is : stageOf (r .bench) l′ (eventsOf (t .stage)) ≡ t .stage
   pub few : r .bench .sent ≤ lastMessage
   pub right : eqb (r .bench .settings .n) 0 || benchRange (r .bench .settings) ≡ true
-  pub text-is : out′ ≡ written 0 (t .printed) out
+  pub text-is : out′ ≡ printedInto 0 (t .printed) out
   pub used-is : r .used ≡ length (t .printed)
   pub within : r .used ≤ textLength
 

@@ -93,5 +93,5 @@ unfoldable pub endedText : ℕ → Notice → List ℕ → List ℕ
 endedText c seen stripe = cond (isEnd (seen .what)) (lineText c (seen .kind) (seen .time) (seen .what) stripe) []
 
 -- a list with a text in place of what it had from a place on
-abbrev pub written : ℕ → List ℕ → List ℕ → List ℕ
-written at text old = put at text old
+abbrev pub printedInto : ℕ → List ℕ → List ℕ → List ℕ
+printedInto at text old = put at text old

@@ -5,7 +5,7 @@ ghost use mathlib.Core.List.{[], _∷_, _++_};
 ghost use Prim.Native.Nat.{_+_, _≤_, _<_};
 ghost use lib.ListN.{length};
 ghost use Rattle.bench_print.specs.Printing.{space, newline, digit, decimal, hexDigit, hexText, refusedText, kindWord, endWord, lineText, endedText};
-ghost use Rattle.bench_print.specs.Printing.{written};
+ghost use Rattle.bench_print.specs.Printing.{printedInto};
 ghost use Rattle.bench_print.specs.Workers.{numberRoom, kindRoom, endRoom, endedRoom, PrintedAt};
 ghost use Rattle.bench_limits.specs.Limits.{stripeRoom, lineRoom};
 use coord_apply::ABORTED;
@@ -88,7 +88,7 @@ fn put_hex(bytes: &[u8], at: usize, out: &mut [u8]) -> usize
 pub fn put_refused(number: u32, at: usize, out: &mut [u8]) -> usize
     requires { ⌜ at + lineRoom ≤ length (now out) ⌝ }
     ensures { λ r. ⌜ r ≡ at + length (refusedText number) ⌝ }
-    ensures { λ _. ⌜ now (out .exit) ≡ written at (refusedText number) (now (out .entry)) ⌝ }
+    ensures { λ _. ⌜ now (out .exit) ≡ printedInto at (refusedText number) (now (out .entry)) ⌝ }
     ensures { λ r. ⌜ r ≤ at + lineRoom ⌝ }
 {
     let word = put_word(b"refused ", at, out);
@@ -161,7 +161,7 @@ fn put_line(
 pub fn put_ended(c: usize, seen: Notice, stripe: &[u8], at: usize, out: &mut [u8]) -> usize
     requires { ⌜ (at + lineRoom ≤ length (now out)) × (length (now stripe) ≤ stripeRoom) ⌝ }
     ensures { λ r. ⌜ r ≡ at + length (endedText c seen (now (stripe .entry))) ⌝ }
-    ensures { λ _. ⌜ now (out .exit) ≡ written at (endedText c seen (now (stripe .entry))) (now (out .entry)) ⌝ }
+    ensures { λ _. ⌜ now (out .exit) ≡ printedInto at (endedText c seen (now (stripe .entry))) (now (out .entry)) ⌝ }
     ensures { λ r. ⌜ r ≤ at + lineRoom ⌝ }
 {
     let what = seen.what;

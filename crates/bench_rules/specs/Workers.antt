@@ -3,7 +3,7 @@ use mathlib.Core.Path.{_≡_}
 use mathlib.Core.List.{List}
 use Prim.Native.Nat.{ℕ, _+_, _≤_}
 use lib.ListN.{length}
-use Rattle.bench_print.specs.Printing.{written}
+use Rattle.bench_print.specs.Printing.{printedInto}
 use Rattle.bench_state.specs.Workers.{Fits}
 use Rattle.bench_state.specs.declared.Bench.{Bench}
 use Rattle.bench_rules.specs.Play.{Played}
@@ -25,7 +25,7 @@ pub record Turned (b : Bench) (l : Lent) (at : ℕ) (out : List ℕ) (p : Played
   pub world-is : worldIn (r .bench) l′ ≡ p .world
   pub settings-kept : r .bench .settings ≡ b .settings
   pub few : r .bench .sent ≤ lastMessage
-  pub text-is : out′ ≡ written at (p .printed) out
+  pub text-is : out′ ≡ printedInto at (p .printed) out
   pub used-is : r .used ≡ at + length (p .printed)
   pub short : r .used ≤ at + lineRoom
 
@@ -34,6 +34,6 @@ pub record Lined (b : Bench) (l : Lent) (out : List ℕ) (p : Played) (r : After
   pub world-is : worldIn (r .bench) l′ ≡ p .world
   pub settings-kept : r .bench .settings ≡ b .settings
   pub few : r .bench .sent ≤ lastMessage
-  pub text-is : out′ ≡ written 0 (p .printed) out
+  pub text-is : out′ ≡ printedInto 0 (p .printed) out
   pub used-is : r .used ≡ length (p .printed)
   pub within : r .used ≤ textLength

@@ -7,7 +7,7 @@ use Prim.Native.Nat.{ℕ, _≤_, _<_}
 use lib.ListN.{length, getD}
 use Rattle.erasure.specs.Code.{codedOf, decodedOf, blocksOf, Stripe, Bricks}
 use Rattle.gf256.specs.Product.{plus, product}
-use Rattle.interpolate.specs.Bytes.{Byte, byte, bytes}
+use Rattle.interpolate.specs.Bytes.{Byte, byte, byteField}
 use Rattle.interpolate.specs.Values.{byteAt}
 use Rattle.poly.specs.Polynomial.{eval}
 use Rattle.settings.specs.Ranges.{maxBricks}
@@ -23,7 +23,7 @@ DecodeAfterEncode =
 abbrev pub CodedOnOnePolynomial : Type 0
 CodedOnOnePolynomial =
     (n m size : ℕ) (stripe : List ℕ) (p : ℕ) → p < size
-    → (c : List Byte) × (length c ≡ m) × ((j : ℕ) → j < n → byteAt size (codedOf n m size stripe) j p ≡ eval bytes c (byte j) .0)
+    → (c : List Byte) × (length c ≡ m) × ((j : ℕ) → j < n → byteAt size (codedOf n m size stripe) j p ≡ eval byteField c (byte j) .0)
 
 -- That polynomial has the data bytes at points 0 to m−1, so coded block j below m is data block j, byte by byte.
 abbrev pub CodeIsSystematic : Type 0

@@ -13,20 +13,20 @@ total [] = 0
 total (b ∷ bs) = b + total bs
 
 -- the check is summed in rows
-abbrev pub rowBytes : ℕ
-rowBytes = 64
+abbrev pub sumRowBytes : ℕ
+sumRowBytes = 64
 
 -- the most that the bytes of a row add up to, each counted once,
 abbrev pub plainMost : ℕ
-plainMost = rowBytes * 255
+plainMost = sumRowBytes * 255
 
 -- each counted by its place in the row,
 abbrev pub risingMost : ℕ
-risingMost = rowBytes * plainMost
+risingMost = sumRowBytes * plainMost
 
 -- and each by its place in the body; the first byte of the last row counts once more than this
 abbrev pub rowMost : ℕ
 rowMost = bodyBytes * plainMost
 
 abbrev pub pastMost : ℕ
-pastMost = bodyBytes - rowBytes
+pastMost = bodyBytes - sumRowBytes

@@ -7,7 +7,7 @@ ghost use lib.ListN.{length, drop};
 ghost use Rattle.settings.specs.Ranges.{SettingsRange, maxSize};
 ghost use Rattle.image_block.specs.Block.{blockBytes, checkBytes, heldFrom};
 ghost use Rattle.image_block.specs.Block.{weighted, checkOf, checked, sealed, headBody, headBlock, entryBody, entryBlock, unusedBlock};
-ghost use Rattle.image_block.specs.Workers.{unchecked, total, rowBytes, plainMost, risingMost, rowMost, pastMost};
+ghost use Rattle.image_block.specs.Workers.{unchecked, total, sumRowBytes, plainMost, risingMost, rowMost, pastMost};
 ghost use Rattle.byte_lists.specs.Lists.{zeros, same};
 use byte_lists::byte;
 use byte_lists::read2;
@@ -59,7 +59,7 @@ const FIRST_WEIGHTS: u32 = 62;
 
 // The sum of the bytes of a row.
 fn plain_sum(t: &[u8]) -> u32
-    requires { ⌜ length (now t) ≡ rowBytes ⌝ }
+    requires { ⌜ length (now t) ≡ sumRowBytes ⌝ }
     ensures { λ r. ⌜ (r ≡ total (now (t .entry))) × (r ≤ plainMost) ⌝ }
 {
     let mut part: u32 = 0;
@@ -73,7 +73,7 @@ fn plain_sum(t: &[u8]) -> u32
 
 // The sum of the bytes of a row, the first one once, the next one twice, and so on.
 fn rising_sum(b: &[u8]) -> u32
-    requires { ⌜ length (now b) ≤ rowBytes ⌝ }
+    requires { ⌜ length (now b) ≤ sumRowBytes ⌝ }
     ensures { λ r. ⌜ (r ≡ weighted 1 (now (b .entry))) × (r ≤ risingMost) ⌝ }
 {
     let mut rise: u32 = 0;
@@ -89,7 +89,7 @@ fn rising_sum(b: &[u8]) -> u32
 
 // The part of a row in the check, where its first byte counts once more than `past` times.
 fn row_sum(t: &[u8], past: u32) -> u32
-    requires { ⌜ length (now t) ≡ rowBytes ⌝ }
+    requires { ⌜ length (now t) ≡ sumRowBytes ⌝ }
     requires { ⌜ past ≤ pastMost ⌝ }
     ensures { λ r. ⌜ (r ≡ weighted (past + 1) (now (t .entry))) × (r ≤ rowMost) ⌝ }
 {

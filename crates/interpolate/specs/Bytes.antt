@@ -15,8 +15,8 @@ abbrev pub byte : ℕ → Byte
 byte n = (n % 256, lt→ltb (n % 256) 256 (mod-lt n (omega arith)))
 
 -- The field of document 01: each byte is its own negative.
-abbrev pub bytes : Field
-bytes = record {
+abbrev pub byteField : Field
+byteField = record {
   carrier = Byte;
   zero = byte 0;
   one = byte 1;

@@ -2,7 +2,7 @@
 use mathlib.Core.List.{List}
 use Prim.Native.Nat.{ℕ, _+_, _*_, _≤_, _<_}
 use lib.ListN.{length, getD}
-use Rattle.interpolate.specs.Bytes.{bytes, byte}
+use Rattle.interpolate.specs.Bytes.{byteField, byte}
 use Rattle.byte_lists.specs.Lists.{tabulate, stacked}
 use Rattle.poly.specs.Polynomial.{interpolated}
 use Rattle.settings.specs.Ranges.{maxBricks}
@@ -16,7 +16,7 @@ byteAt size blocks i p = getD blocks (i * size + p) 0
 -- `interpolated` is Lagrange's value; that it is the value of the one polynomial of degree below m is proved in Polynomials.
 unfoldable pub valueAt : List ℕ → ℕ → List ℕ → ℕ → ℕ → ℕ
 valueAt points size blocks x p =
-    interpolated bytes (length points) (λ (i : ℕ). byte (getD points i 0)) (λ (i : ℕ). byte (byteAt size blocks i p)) (byte x) .0
+    interpolated byteField (length points) (λ (i : ℕ). byte (getD points i 0)) (λ (i : ℕ). byte (byteAt size blocks i p)) (byte x) .0
 
 -- the block at point x
 unfoldable pub blockAt : List ℕ → ℕ → List ℕ → ℕ → List ℕ

@@ -6,7 +6,7 @@ use lib.Dec.{eqb}
 use lib.ListN.{length, getD}
 use Rattle.gf256.specs.Product.{plus, product, byteCount, powerCount}
 use Rattle.byte_lists.specs.Lists.{tabulate}
-use Rattle.interpolate.specs.Bytes.{Byte, byte, bytes}
+use Rattle.interpolate.specs.Bytes.{Byte, byte, byteField}
 use mathlib.Core.Path.{_≡_}
 use Rattle.gf256.specs.Tables.{IsLogs}
 use Rattle.poly.specs.Polynomial.{basis}
@@ -53,4 +53,4 @@ pub record PointsReady (logs points sums : List ℕ) : Type 0 where
 
 -- Lagrange's weight of point i at x
 unfoldable pub weight : List ℕ → ℕ → ℕ → ℕ
-weight points i x = basis bytes (length points) (pointsOf points) i (byte x) .0
+weight points i x = basis byteField (length points) (pointsOf points) i (byte x) .0

@@ -32,8 +32,8 @@ coordinatorAt = 0
 abbrev pub lastAt : ℕ
 lastAt = 1
 
-abbrev pub timeAt : ℕ
-timeAt = 2
+abbrev pub recordTimeAt : ℕ
+recordTimeAt = 2
 
 abbrev pub roundAt : ℕ
 roundAt = 3
@@ -44,8 +44,8 @@ maxAt = 4
 abbrev pub firstAt : ℕ
 firstAt = 5
 
-abbrev pub foundAt : ℕ
-foundAt = 6
+abbrev pub recordFoundAt : ℕ
+recordFoundAt = 6
 
 -- where its bytes stand
 abbrev pub kindAt : ℕ
@@ -60,8 +60,8 @@ countedAt = 2
 abbrev pub grantedAt : ℕ
 grantedAt = 18
 
-abbrev pub heldAt : ℕ
-heldAt = 34
+abbrev pub recordHeldAt : ℕ
+recordHeldAt = 34
 
 abbrev pub bricksAt : ℕ
 bricksAt = 50
@@ -101,12 +101,12 @@ recordFor numbers bytes =
           record {
             kind = getD bytes kindAt 0;
             phase = getD bytes phaseAt 0;
-            time = getD numbers timeAt 0;
+            time = getD numbers recordTimeAt 0;
             round = getD numbers roundAt 0;
             max = getD numbers maxAt 0;
             first = getD numbers firstAt 0;
           };
-      tally = record { counted = rowAt countedAt bytes; granted = rowAt grantedAt bytes; held = rowAt heldAt bytes; found = rowAt foundAt numbers };
+      tally = record { counted = rowAt countedAt bytes; granted = rowAt grantedAt bytes; held = rowAt recordHeldAt bytes; found = rowAt recordFoundAt numbers };
       bricks = rowAt bricksAt bytes;
     }
 

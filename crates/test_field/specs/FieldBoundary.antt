@@ -39,9 +39,9 @@ unfoldable pub drawNumber : ℕ → ℕ → ℕ → List ℕ → ℕ
 drawNumber coordinator last reading out = cond (eqb (length out) drawnNumbers) (drawRefusal (clockOf coordinator last) reading) badLength
 
 -- the time and the next last count; a refused draw leaves the buffer
-unfoldable pub written : Draw → List ℕ → List ℕ
-written (Drawn time next) out = time ∷ next .last ∷ []
-written (Refused number) out = out
+unfoldable pub drawWritten : Draw → List ℕ → List ℕ
+drawWritten (Drawn time next) out = time ∷ next .last ∷ []
+drawWritten (Refused number) out = out
 
 unfoldable pub drawBuffer : ℕ → ℕ → ℕ → List ℕ → List ℕ
-drawBuffer coordinator last reading out = cond (eqb (length out) drawnNumbers) (written (drawOf (clockOf coordinator last) reading) out) out
+drawBuffer coordinator last reading out = cond (eqb (length out) drawnNumbers) (drawWritten (drawOf (clockOf coordinator last) reading) out) out

@@ -16,7 +16,7 @@ use Rattle.bench_rules.specs.Play.{Played, refuses, passes, carries, carriesAt,
 use Rattle.bench_rules.specs.Turning.{Lent, worldIn}
 use Rattle.bench_rules.specs.Workers.{BenchReady, Turned, Lined}
 use Rattle.bench_rules.specs.declared.After.{After}
-use Rattle.bench_print.specs.Printing.{written}
+use Rattle.bench_print.specs.Printing.{printedInto}
 use Rattle.bench_print.proofs.Laws.WrittenLaws.{written-nothing, written-both}
 use Rattle.bench_sent.proofs.Laws.SentItemLaws.{items-length}
 use Rattle.bench_sent.specs.Sent.{itemsOf, itemAt}
@@ -138,9 +138,9 @@ module _ (b : Bench) (l : Lent) (line : List ℕ) (first : ℕ) (out : List ℕ)
         out-long = eo ∙ c .out-long;
         text-is =
             t .text-is
-            ∙ ap (λ (x : Played). written (r .used) (x .printed) out′) same
-            ∙ ap₂ (λ (u : ℕ) (o : List ℕ). written u (p .printed) o) (c .used-is) (c .text-is)
-            ∙ ap (λ (u : ℕ). written u (p .printed) (written 0 (c .text) out)) (let e : length (c .text) ≡ 0 + length (c .text) = omega arith in e)
+            ∙ ap (λ (x : Played). printedInto (r .used) (x .printed) out′) same
+            ∙ ap₂ (λ (u : ℕ) (o : List ℕ). printedInto u (p .printed) o) (c .used-is) (c .text-is)
+            ∙ ap (λ (u : ℕ). printedInto u (p .printed) (printedInto 0 (c .text) out)) (let e : length (c .text) ≡ 0 + length (c .text) = omega arith in e)
             ∙ written-both 0 (c .text) (p .printed) out (omega arith);
         used-is =
             t .used-is ∙ ap (λ (x : Played). r .used + length (x .printed)) same ∙ ap (λ (u : ℕ). u + length (p .printed)) (c .used-is)
@@ -171,7 +171,7 @@ module _ (b : Bench) (l : Lent) (line : List ℕ) (first : ℕ) (out : List ℕ)
         world-is = sym (c .world-so ∙ ap (λ (ks : List ℕ). carriedAll s (worldIn (r .bench) l′) ks .world) none);
         settings-kept = c .settings-kept;
         few = c .ready .few;
-        text-is = c .text-is ∙ ap (λ (x : List ℕ). written 0 x out) (sym all);
+        text-is = c .text-is ∙ ap (λ (x : List ℕ). printedInto 0 x out) (sym all);
         used-is = c .used-is ∙ ap length (sym all);
         within = (let a = c .room in let d = c .rest .high in omega arith);
       }

@@ -25,7 +25,7 @@ use Rattle.bench_state.specs.declared.Bench.{Bench}
 use Rattle.bench_sent.specs.Sent.{isReply, numberAt, messageAt, sentBlockAt, itemAt, itemsOf}
 use Rattle.bench_sent.proofs.Laws.SentRowLaws.{item-message, block-cut}
 use Rattle.bench_sent.proofs.Laws.SentItemLaws.{items-length, arrives-item}
-use Rattle.bench_print.specs.Printing.{written}
+use Rattle.bench_print.specs.Printing.{printedInto}
 use Rattle.bench_rules.specs.Play.{Played, carries, reaches, delivered, happens, refuses, passes}
 use Rattle.bench_rules.specs.Turning.{Lent, lent, worldIn}
 use Rattle.bench_rules.specs.Workers.{Turned}
@@ -164,7 +164,7 @@ module _ (b : Bench) (k brick : ℕ) (msg : Message) (images numbers bytes : Lis
                 ∙ sym (ap (λ (m : Moved s). m .world) arrives-is);
             settings-kept = d .settings-kept;
             few = d .few;
-            text-is = subst (λ (x : List ℕ). out′ ≡ written at x out) t (d .text-is);
+            text-is = subst (λ (x : List ℕ). out′ ≡ printedInto at x out) t (d .text-is);
             used-is = subst (λ (x : List ℕ). r .used ≡ at + length x) t (d .used-is);
             short = d .short;
           }

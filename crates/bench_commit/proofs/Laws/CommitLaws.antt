@@ -16,7 +16,7 @@ use Rattle.coord_apply.specs.declared.Answer.{Answer}
 use Rattle.register.specs.Driver.{driven, listed, Short}
 use Rattle.register.proofs.Laws.DriverLaws.{coordinated-is-driven}
 use Rattle.register.specs.Runs.{Item, World, Event, Moved, step, coordinated, toAll, broadcasts}
-use Rattle.bench_print.specs.Printing.{endedText, written}
+use Rattle.bench_print.specs.Printing.{endedText, printedInto}
 use Rattle.bench_sent.proofs.Laws.SentItemLaws.{items-length}
 use Rattle.bench_sent.specs.Sent.{itemsOf}
 use Rattle.bench_sent.specs.Workers.{Sends}
@@ -149,7 +149,7 @@ module _ (b : Bench) (l : Lent) (e : Event) (c : ℕ) (a : Answer) (blocks strip
       → length blocks ≡ b .settings .n * b .settings .size → length stripe ≡ b .settings .m * b .settings .size
       → Round (b .settings) (b .sent) (a .sent) (a .message) (a .second) coded (l .numbers) (l .bytes) numbers′ bytes′
       → kept′ ≡ keptWith c blocks stripe (l .kept)
-      → used ≡ at + length (endedText c (a .seen) stripe) → out′ ≡ written at (endedText c (a .seen) stripe) out → used ≤ at + lineRoom
+      → used ≡ at + length (endedText c (a .seen) stripe) → out′ ≡ printedInto at (endedText c (a .seen) stripe) out → used ≤ at + lineRoom
       → Turned b l at out (answered (b .settings) (worldIn b l) e c a blocks stripe coded) (record { bench = withCoordinator b c (a .next) sent; used = used })
       (lent (l .images) kept′ numbers′ bytes′) out′
   unfolding answered withCoordinator worldIn worldOf driven
@@ -185,7 +185,7 @@ module _ (b : Bench) (c : ℕ) (a : Answer) (blocks stripe coded kept numbers by
       → a .sent ≤ mostBroadcasts → a .refusal ≡ 0 → sent ≡ sentAfterAnswer (b .settings .n) (b .sent) (a .sent) → sent ≤ lastMessage
       → Round (b .settings) (b .sent) (a .sent) (a .message) (a .second) coded numbers bytes numbers′ bytes′
       → kept′ ≡ keptWith c blocks stripe kept
-      → used ≡ at + length (endedText c (a .seen) stripe) → out′ ≡ written at (endedText c (a .seen) stripe) out → used ≤ at + lineRoom
+      → used ≡ at + length (endedText c (a .seen) stripe) → out′ ≡ printedInto at (endedText c (a .seen) stripe) out → used ≤ at + lineRoom
       → bench ≡ withCoordinator b c (a .next) sent → length (b .coordinators) ≡ benchCoordinators
       → Answers b c a blocks stripe coded kept numbers bytes at out (record { bench = bench; used = used }) kept′ numbers′ bytes′ out′
   answers-kept sent used bench out′ kept′ numbers′ bytes′ copies most z q few round ek eu eo short eb four =

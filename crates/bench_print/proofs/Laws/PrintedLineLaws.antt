@@ -9,7 +9,7 @@ use Rattle.coord_record.specs.Records.{readingKind}
 use Rattle.coord_apply.specs.Answers.{okSeen, readSeen, abortedSeen, cutSeen}
 use Rattle.coord_apply.specs.declared.Notice.{Notice}
 use Rattle.bench_print.specs.Printing.{mostDecimals, space, newline, decimal, hexText, refusedWord, refusedText, readWord, writeWord, kindWord, okWord, abortWord, cutWord, endWord, lineText}
-use Rattle.bench_print.specs.Printing.{isEnd, endedText, written}
+use Rattle.bench_print.specs.Printing.{isEnd, endedText, printedInto}
 use Rattle.bench_print.proofs.Laws.TextLaws.{decimal-short}
 use Rattle.bench_print.specs.Workers.{endedRoom, PrintedAt}
 use Rattle.bench_print.proofs.Laws.WrittenLaws.{placed-both, placed-as, placed-nothing}
@@ -93,7 +93,7 @@ ended-line c seen stripe h l = rw (le-ltb (seen .what) okSeen h, le-leb (seen .w
 
 -- what the public routines ensure
 abbrev pub Printed : ℕ → List ℕ → List ℕ → List ℕ → ℕ → Type 0
-Printed at text old out r = (r ≡ at + length text) × ((out ≡ written at text old) × (r ≤ at + lineRoom))
+Printed at text old out r = (r ≡ at + length text) × ((out ≡ printedInto at text old) × (r ≤ at + lineRoom))
 
 silent : (at : ℕ) (text old : List ℕ) → text ≡ [] → Printed at text old old at
 silent at text old e =

@@ -7,10 +7,10 @@ use native.Mathlib.Numerals.{add-one, unary-clauses}
 use lib.ListN.{length, take, drop, getD, set, length-append, length-set, length-take, take-append-drop}
 use lib.Seq.{take-at, drop-append-add, drop-drop, set-split, take-suc, take-all}
 use Rattle.byte_lists.specs.Lists.{put}
-use Rattle.bench_print.specs.Printing.{written}
+use Rattle.bench_print.specs.Printing.{printedInto}
 use Rattle.bench_print.specs.Workers.{PrintedAt}
 
-pub written-nothing : (at : ℕ) (old : List ℕ) → written at [] old ≡ old
+pub written-nothing : (at : ℕ) (old : List ℕ) → printedInto at [] old ≡ old
 unfolding put
 written-nothing at old = simp (append-assoc, unary-clauses) (take-append-drop at old)
 
@@ -18,12 +18,12 @@ head-length : (at : ℕ) (a old : List ℕ) → at ≤ length old → length (ta
 head-length at a old h = simp (length-append, length-take) (omega arith)
 
 -- what stands up to the next place: what stood before, and the text
-pub written-front : (at : ℕ) (text old : List ℕ) → at ≤ length old → take (at + length text) (written at text old) ≡ take at old ++ text
+pub written-front : (at : ℕ) (text old : List ℕ) → at ≤ length old → take (at + length text) (printedInto at text old) ≡ take at old ++ text
 unfolding put
 written-front at text old h =
     take-at (take at old ++ text) (drop (at + length text) old) (at + length text) (head-length at text old h)
 
-pub written-both : (at : ℕ) (a b old : List ℕ) → at ≤ length old → written (at + length a) b (written at a old) ≡ written at (a ++ b) old
+pub written-both : (at : ℕ) (a b old : List ℕ) → at ≤ length old → printedInto (at + length a) b (printedInto at a old) ≡ printedInto at (a ++ b) old
 unfolding put
 written-both at a b old h =
     let n = head-length at a old h in
@@ -36,7 +36,7 @@ written-both at a b old h =
     ap₂ (λ (x y : List ℕ). x ++ b ++ y) (written-front at a old h) rest
     ∙ ap (λ (x : List ℕ). x ++ drop (at + length (a ++ b)) old) (append-assoc (take at old) a b)
 
-pub written-byte : (at b : ℕ) (old : List ℕ) → at < length old → set old at b ≡ written at (b ∷ []) old
+pub written-byte : (at b : ℕ) (old : List ℕ) → at < length old → set old at b ≡ printedInto at (b ∷ []) old
 unfolding put
 written-byte at b old h = rw (add-one, append-assoc) (set-split old at b h)
 
@@ -44,12 +44,12 @@ pub placed-both : (at : ℕ) (a b old mid out : List ℕ) (r s : ℕ) → at ≤
 placed-both at a b old mid out r s h p q =
     record {
       next-is = omega (arith, p .next-is, q .next-is, length-append a b);
-      holds = q .holds ∙ ap₂ (λ (k : ℕ) (l : List ℕ). written k b l) (p .next-is) (p .holds) ∙ written-both at a b old h;
+      holds = q .holds ∙ ap₂ (λ (k : ℕ) (l : List ℕ). printedInto k b l) (p .next-is) (p .holds) ∙ written-both at a b old h;
     }
 
 pub placed-as : (at : ℕ) (a b old out : List ℕ) (r : ℕ) → a ≡ b → PrintedAt at a old out r → PrintedAt at b old out r
 placed-as at a b old out r e p =
-    record { next-is = p .next-is ∙ ap (λ (l : List ℕ). at + length l) e; holds = p .holds ∙ ap (λ (l : List ℕ). written at l old) e }
+    record { next-is = p .next-is ∙ ap (λ (l : List ℕ). at + length l) e; holds = p .holds ∙ ap (λ (l : List ℕ). printedInto at l old) e }
 
 pub placed-byte : (at b : ℕ) (old : List ℕ) → at < length old → PrintedAt at (b ∷ []) old (set old at b) (at + 1)
 placed-byte at b old h = record { next-is = refl; holds = written-byte at b old h }

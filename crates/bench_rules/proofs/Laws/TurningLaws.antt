@@ -4,7 +4,7 @@ use mathlib.Core.List.{List, []}
 use Prim.Native.Nat.{ℕ, _+_, _≤_}
 use native.Mathlib.Omega.{arith}
 use lib.ListN.{length}
-use Rattle.bench_print.specs.Printing.{refusedText, written}
+use Rattle.bench_print.specs.Printing.{refusedText, printedInto}
 use Rattle.bench_print.proofs.Laws.WrittenLaws.{written-nothing}
 use Rattle.bench_state.specs.declared.Bench.{Bench}
 use Rattle.bench_rules.specs.Play.{Played, refuses, passes}
@@ -15,7 +15,7 @@ use Rattle.bench_limits.specs.Limits.{lastMessage, lineRoom}
 
 -- one refusal
 pub turned-refused : (b : Bench) (l : Lent) (at number used : ℕ) (out out′ : List ℕ) → b .sent ≤ lastMessage → used ≡ at + length (refusedText number)
-    → out′ ≡ written at (refusedText number) out → used ≤ at + lineRoom
+    → out′ ≡ printedInto at (refusedText number) out → used ≤ at + lineRoom
     → Turned b l at out (refuses (worldIn b l) number) (record { bench = b; used = used }) l out′
 unfolding refuses
 turned-refused b l at number used out out′ f e w h =

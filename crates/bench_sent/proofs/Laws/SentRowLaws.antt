@@ -17,7 +17,7 @@ use Rattle.register.specs.Runs.{Item, message, reply}
 use Rattle.settings.specs.Count.{one-if}
 use Rattle.settings.proofs.Laws.CountLaws.{one-is}
 use Rattle.bench_sent.specs.Sent.{numberAt, isReply, flagsAt, sentBlockAt, messageAt, replyAt, itemAt, itemsOf}
-use Rattle.bench_sent.specs.Workers.{Added, rowOf, messageRow, replyRow, numbersWith, bytesWith, noFlags}
+use Rattle.bench_sent.specs.Workers.{Added, sentRow, messageRow, replyRow, numbersWith, bytesWith, noFlags}
 use Rattle.bench_limits.specs.Limits.{benchSize, rowNumbers, rowBytes, tagPlace, brickPlace, kindPlace, timePlace, roundPlace, maxPlace, foundPlace, yesPlace, heldPlace, messageTag, replyTag}
 use Rattle.bench_limits.specs.Limits.{flagCount, blockPlace}
 
@@ -195,7 +195,7 @@ reply-added k r block numbers bytes numbers′ bytes′ hk nb hn hb en eb =
 
 pub message-put : (k brick kind : ℕ) (msg : Message) (block numbers bytes numbers′ bytes′ : List ℕ) → kind ≡ msg .kind → kind < 256
     → length (msg .targets) ≡ flagCount → length block ≤ benchSize → k * rowNumbers + rowNumbers ≤ length numbers → k * rowBytes + rowBytes ≤ length bytes
-    → numbers′ ≡ put (k * rowNumbers) (rowOf messageTag brick kind (msg .time) (msg .round) (msg .max) 0 0) numbers
+    → numbers′ ≡ put (k * rowNumbers) (sentRow messageTag brick kind (msg .time) (msg .round) (msg .max) 0 0) numbers
     → bytes′ ≡ bytesWith k (msg .targets) block bytes
     → (numbers′ ≡ numbersWith k (messageRow brick msg) numbers)
     × ((bytes′ ≡ bytesWith k (msg .targets) block bytes)
@@ -203,13 +203,13 @@ pub message-put : (k brick kind : ℕ) (msg : Message) (block numbers bytes numb
 unfolding numbersWith messageRow
 message-put k brick kind msg block numbers bytes numbers′ bytes′ ek hk nf nb hn hb en eb =
     let e : numbers′ ≡ numbersWith k (messageRow brick msg) numbers
-    = en ∙ ap (λ (x : ℕ). put (k * rowNumbers) (rowOf messageTag brick x (msg .time) (msg .round) (msg .max) 0 0) numbers) ek in
+    = en ∙ ap (λ (x : ℕ). put (k * rowNumbers) (sentRow messageTag brick x (msg .time) (msg .round) (msg .max) 0 0) numbers) ek in
     (e, (eb, message-added k brick msg block numbers bytes numbers′ bytes′ (omega arith) nf nb hn hb e eb))
 
 pub reply-put : (k kind y h : ℕ) (r : Reply) (block numbers bytes numbers′ bytes′ : List ℕ) → kind ≡ r .kind → kind < 256
     → y ≡ one-if (r .yes) → h ≡ one-if (r .held)
     → length block ≤ benchSize → k * rowNumbers + rowNumbers ≤ length numbers → k * rowBytes + rowBytes ≤ length bytes
-    → numbers′ ≡ put (k * rowNumbers) (rowOf replyTag (r .brick) kind (r .time) (r .round) (r .found) y h) numbers
+    → numbers′ ≡ put (k * rowNumbers) (sentRow replyTag (r .brick) kind (r .time) (r .round) (r .found) y h) numbers
     → bytes′ ≡ bytesWith k noFlags block bytes
     → (numbers′ ≡ numbersWith k (replyRow r) numbers)
     × ((bytes′ ≡ bytesWith k noFlags block bytes)

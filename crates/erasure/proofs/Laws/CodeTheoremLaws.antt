@@ -12,7 +12,7 @@ use Rattle.erasure.proofs.Laws.PassedLaws.{length-first}
 use Rattle.erasure.proofs.Laws.CodedByteLaws.{first-at, first-small, first-differ, coded-byte, value-is, decoded-byte}
 use Rattle.gf256.specs.Product.{plus, product}
 use Rattle.interpolate.proofs.Laws.BlockLaws.{blocks-by}
-use Rattle.interpolate.specs.Bytes.{Byte, byte, bytes}
+use Rattle.interpolate.specs.Bytes.{Byte, byte, byteField}
 use Rattle.interpolate.proofs.Laws.ByteLaws.{same-byte, byte-small, add-is, mul-is, bytes-are-a-field}
 use Rattle.interpolate.proofs.Laws.WeightRowLaws.{different-points}
 use Rattle.interpolate.specs.Values.{byteAt}
@@ -30,20 +30,20 @@ decode-after-encode n m size stripe bricks s b =
 -- coded bytes as values at points 0, 1, ..
 coded-value : (n m size : ℕ) (stripe : List ℕ) (j p : ℕ) → j < n → p < size
     → byteAt size (codedOf n m size stripe) j p
-    ≡ interpolated bytes m (pointsOf (firstPoints m)) (λ (i : ℕ). byte (byteAt size stripe i p)) (byte j) .0
+    ≡ interpolated byteField m (pointsOf (firstPoints m)) (λ (i : ℕ). byte (byteAt size stripe i p)) (byte j) .0
 coded-value n m size stripe j p hj hp = coded-byte n m size stripe j p hj hp ∙ value-is (firstPoints m) m size stripe j p (length-first m)
 
 pub coded-on-one-polynomial : CodedOnOnePolynomial
 coded-on-one-polynomial n m size stripe p hp =
-    let e = on-one-polynomial bytes bytes-are-a-field m (pointsOf (firstPoints m)) (λ (i : ℕ). byte (byteAt size stripe i p)) in
+    let e = on-one-polynomial byteField bytes-are-a-field m (pointsOf (firstPoints m)) (λ (i : ℕ). byte (byteAt size stripe i p)) in
     (e .0, e .1, (λ j hj. coded-value n m size stripe j p hj hp ∙ ap (λ (b : Byte). b .0) (sym (e .2 (byte j)))))
 
 pub code-is-systematic : CodeIsSystematic
 code-is-systematic n m size few stripe small j p hn hm hp =
     coded-value n m size stripe j p hn hp
     ∙ ap (λ (b : Byte). b .0)
-    (ap (interpolated bytes m (pointsOf (firstPoints m)) (λ (i : ℕ). byte (byteAt size stripe i p))) (sym (ap byte (first-at m j hm)))
-    ∙ interpolated-at bytes bytes-are-a-field m (pointsOf (firstPoints m)) (λ (i : ℕ). byte (byteAt size stripe i p)) j
+    (ap (interpolated byteField m (pointsOf (firstPoints m)) (λ (i : ℕ). byte (byteAt size stripe i p))) (sym (ap byte (first-at m j hm)))
+    ∙ interpolated-at byteField bytes-are-a-field m (pointsOf (firstPoints m)) (λ (i : ℕ). byte (byteAt size stripe i p)) j
     (different-points (firstPoints m) m (first-small m few) (first-differ m)) hm)
     ∙ byte-small (byteAt size stripe j p) (unfold byteAt in small (j * size + p))
 
@@ -52,18 +52,18 @@ unfolding byteAt
 code-is-linear n m size a d s c hc ha hd hs j p hn hp =
     coded-value n m size s j p hn hp
     ∙ ap (λ (b : Byte). b .0)
-    (interpolated-cong bytes m (pointsOf (firstPoints m)) (pointsOf (firstPoints m)) (λ (i : ℕ). byte (byteAt size s i p))
-    (λ (i : ℕ). bytes .add (byte (byteAt size a i p)) (bytes .mul (byte c) (byte (byteAt size d i p)))) (byte j) (λ i h. refl) (λ i h. at i)
-    ∙ interpolated-linear bytes bytes-are-a-field m (pointsOf (firstPoints m)) (λ (i : ℕ). byte (byteAt size a i p))
+    (interpolated-cong byteField m (pointsOf (firstPoints m)) (pointsOf (firstPoints m)) (λ (i : ℕ). byte (byteAt size s i p))
+    (λ (i : ℕ). byteField .add (byte (byteAt size a i p)) (byteField .mul (byte c) (byte (byteAt size d i p)))) (byte j) (λ i h. refl) (λ i h. at i)
+    ∙ interpolated-linear byteField bytes-are-a-field m (pointsOf (firstPoints m)) (λ (i : ℕ). byte (byteAt size a i p))
     (λ (i : ℕ). byte (byteAt size d i p)) (byte c) (byte j))
-    ∙ add-is (value a) (bytes .mul (byte c) (value d)) ∙ ap (plus (value a .0)) (mul-is (byte c) (value d))
+    ∙ add-is (value a) (byteField .mul (byte c) (value d)) ∙ ap (plus (value a .0)) (mul-is (byte c) (value d))
     ∙ ap₂ (λ (x y : ℕ). plus x (product y (value d .0))) (sym (coded-value n m size a j p hn hp)) (byte-small c hc)
     ∙ ap (λ (x : ℕ). plus (byteAt size (codedOf n m size a) j p) (product c x)) (sym (coded-value n m size d j p hn hp))
   where
     value : List ℕ → Byte
-    value l = interpolated bytes m (pointsOf (firstPoints m)) (λ (i : ℕ). byte (byteAt size l i p)) (byte j)
+    value l = interpolated byteField m (pointsOf (firstPoints m)) (λ (i : ℕ). byte (byteAt size l i p)) (byte j)
 
-    at : (i : ℕ) → byte (byteAt size s i p) ≡ bytes .add (byte (byteAt size a i p)) (bytes .mul (byte c) (byte (byteAt size d i p)))
+    at : (i : ℕ) → byte (byteAt size s i p) ≡ byteField .add (byte (byteAt size a i p)) (byteField .mul (byte c) (byte (byteAt size d i p)))
     at i =
         let ax = getD a (i * size + p) 0 in
         let dx = getD d (i * size + p) 0 in
@@ -79,7 +79,7 @@ pub coded-zeros : (n m size : ℕ) (stripe : List ℕ) → ((i : ℕ) → getD s
 coded-zeros n m size stripe allZero j p hn hp =
     coded-value n m size stripe j p hn hp
     ∙ ap (λ (b : Byte). b .0)
-    (interpolated-zero bytes bytes-are-a-field m (pointsOf (firstPoints m)) (λ (i : ℕ). byte (byteAt size stripe i p)) (byte j)
+    (interpolated-zero byteField bytes-are-a-field m (pointsOf (firstPoints m)) (λ (i : ℕ). byte (byteAt size stripe i p)) (byte j)
     (λ i h. same-byte (byte-small (byteAt size stripe i p) (let z = zero-at i in omega arith) ∙ zero-at i)))
   where
     zero-at : (i : ℕ) → byteAt size stripe i p ≡ 0

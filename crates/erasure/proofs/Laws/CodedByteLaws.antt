@@ -10,7 +10,7 @@ use lib.Seq.{length-take-le}
 use Rattle.erasure.specs.Code.{firstPoints, codedOf, blockOf, blocksOf, Stripe, Bricks}
 use Rattle.erasure.proofs.Laws.PassedLaws.{length-first}
 use Rattle.interpolate.proofs.Laws.BlockLaws.{byte-stacked, length-blocksAt, blocks-byte, value-byte}
-use Rattle.interpolate.specs.Bytes.{Byte, byte, bytes}
+use Rattle.interpolate.specs.Bytes.{Byte, byte, byteField}
 use Rattle.interpolate.proofs.Laws.ByteLaws.{same-byte, byte-small, bytes-are-a-field}
 use Rattle.interpolate.proofs.Laws.WeightRowLaws.{different-points, part-byte}
 use Rattle.byte_lists.proofs.Laws.TabulateLaws.{getD-tabulate}
@@ -42,10 +42,10 @@ coded-byte n m size stripe j p hj hp = blocks-byte (firstPoints m) size stripe n
 
 -- values at points, with m for the points' number
 pub value-is : (points : List ℕ) (m size : ℕ) (blocks : List ℕ) (x p : ℕ) → length points ≡ m
-    → valueAt points size blocks x p ≡ interpolated bytes m (pointsOf points) (λ (i : ℕ). byte (byteAt size blocks i p)) (byte x) .0
+    → valueAt points size blocks x p ≡ interpolated byteField m (pointsOf points) (λ (i : ℕ). byte (byteAt size blocks i p)) (byte x) .0
 unfolding valueAt
 value-is points m size blocks x p e =
-    ap (λ (k : ℕ). interpolated bytes k (pointsOf points) (λ (i : ℕ). byte (byteAt size blocks i p)) (byte x) .0) e
+    ap (λ (k : ℕ). interpolated byteField k (pointsOf points) (λ (i : ℕ). byte (byteAt size blocks i p)) (byte x) .0) e
 
 module _ (n m size : ℕ) (stripe bricks : List ℕ) (s : Stripe m size stripe) (b : Bricks n m bricks) where
   all-below : (i : ℕ) → getD bricks i 0 < n
@@ -86,7 +86,7 @@ module _ (n m size : ℕ) (stripe bricks : List ℕ) (s : Stripe m size stripe) 
   -- at each byte position, the blocks handed over are values of the polynomial of the data
   on-polynomial : (p : ℕ) → p < size → (i : ℕ) → i < m
       → byte (byteAt size (blocksOf size (codedOf n m size stripe) bricks) i p)
-      ≡ interpolated bytes m (pointsOf (firstPoints m)) (λ (i : ℕ). byte (byteAt size stripe i p)) (pointsOf bricks i)
+      ≡ interpolated byteField m (pointsOf (firstPoints m)) (λ (i : ℕ). byte (byteAt size stripe i p)) (pointsOf bricks i)
   on-polynomial p hp i hi =
       same-byte
       (byte-small _ (subst (λ (v : ℕ). v < 256) (sym (handed-byte i p hi hp)) (value-byte (firstPoints m) size stripe (getD bricks i 0) p))
@@ -98,10 +98,10 @@ module _ (n m size : ℕ) (stripe bricks : List ℕ) (s : Stripe m size stripe) 
   decoded-byte x p hx hp =
       sym
       (value-is bricks m size (blocksOf size (codedOf n m size stripe) bricks) x p (b .count)
-      ∙ ap (λ (y : Byte). interpolated bytes m (pointsOf bricks) (λ (i : ℕ). byte (byteAt size (blocksOf size (codedOf n m size stripe) bricks) i p)) y .0)
+      ∙ ap (λ (y : Byte). interpolated byteField m (pointsOf bricks) (λ (i : ℕ). byte (byteAt size (blocksOf size (codedOf n m size stripe) bricks) i p)) y .0)
       (sym (ap byte (first-at m x hx)))
       ∙ ap (λ (y : Byte). y .0)
-      (recovered bytes bytes-are-a-field m (pointsOf (firstPoints m)) (λ (i : ℕ). byte (byteAt size stripe i p)) (pointsOf bricks)
+      (recovered byteField bytes-are-a-field m (pointsOf (firstPoints m)) (λ (i : ℕ). byte (byteAt size stripe i p)) (pointsOf bricks)
       (λ (i : ℕ). byte (byteAt size (blocksOf size (codedOf n m size stripe) bricks) i p))
       (different-points (firstPoints m) m (first-small m m-few) (first-differ m)) (different-points bricks m brick-small brick-differ)
       (on-polynomial p hp) x hx)

@@ -8,7 +8,7 @@ use native.Mathlib.Nat.{mul-le-mul, mul-add, add-mul}
 use lib.ListN.{length, take, drop, getD, length-take, length-drop}
 use lib.Seq.{drop-cons, drop-length, drop-drop}
 use Rattle.image_block.specs.Block.{blockBytes, checkBytes, bodyBytes, checkModulus, weighted, checkOf}
-use Rattle.image_block.specs.Workers.{total, rowBytes, plainMost, risingMost, rowMost, pastMost}
+use Rattle.image_block.specs.Workers.{total, sumRowBytes, plainMost, risingMost, rowMost, pastMost}
 
 -- every weight d higher
 weighted-over : (d k : ℕ) (l : List ℕ) → weighted (k + d) l ≡ weighted k l + d * total l
@@ -33,14 +33,14 @@ weighted-cut k (suc n) (b ∷ l) =
 
 -- what holds while the bytes of a row are summed, at its place i
 pub record Totalling (l : List ℕ) (part i : ℕ) : Type 0 where
-  pub high : i ≤ rowBytes
+  pub high : i ≤ sumRowBytes
   pub so-far : part + total (drop i l) ≡ total l
   pub bound : part ≤ 255 * i
 
 pub totalling-none : (l : List ℕ) → Totalling l 0 0
 totalling-none l = record { high = omega arith; so-far = omega arith; bound = omega arith }
 
-pub totalling-more : (l : List ℕ) (part i : ℕ) → length l ≡ rowBytes → getD l i 0 < 256 → i < rowBytes
+pub totalling-more : (l : List ℕ) (part i : ℕ) → length l ≡ sumRowBytes → getD l i 0 < 256 → i < sumRowBytes
     → Totalling l part i → Totalling l (part + getD l i 0) (i + 1)
 unfolding total
 totalling-more l part i n b h s =
@@ -52,7 +52,7 @@ totalling-more l part i n b h s =
       bound = omega (arith, s .bound);
     }
 
-pub totalling-all : (l : List ℕ) (part i : ℕ) → length l ≡ rowBytes → rowBytes ≤ i → Totalling l part i → (part ≡ total l) × (part ≤ plainMost)
+pub totalling-all : (l : List ℕ) (part i : ℕ) → length l ≡ sumRowBytes → sumRowBytes ≤ i → Totalling l part i → (part ≡ total l) × (part ≤ plainMost)
 unfolding total
 totalling-all l part i n h s =
     let q : i ≡ length l = omega (arith, s .high) in
@@ -70,14 +70,14 @@ pub rising-none : (l : List ℕ) → Rising l 0 1 0
 rising-none l = record { high = omega arith; weighs = refl; so-far = omega arith; bound = omega arith }
 
 -- one product of the sum
-pub product-high : (weight byte : ℕ) → weight ≤ rowBytes → byte < 256 → weight * byte ≤ plainMost
-product-high weight byte h b = mul-le-mul {n₂ = rowBytes} {m₂ = 255} h (omega arith)
+pub product-high : (weight byte : ℕ) → weight ≤ sumRowBytes → byte < 256 → weight * byte ≤ plainMost
+product-high weight byte h b = mul-le-mul {n₂ = sumRowBytes} {m₂ = 255} h (omega arith)
 
-pub rising-more : (l : List ℕ) (rise weight p : ℕ) → length l ≤ rowBytes → getD l p 0 < 256 → p < length l
+pub rising-more : (l : List ℕ) (rise weight p : ℕ) → length l ≤ sumRowBytes → getD l p 0 < 256 → p < length l
     → Rising l rise weight p → Rising l (rise + weight * getD l p 0) (weight + 1) (p + 1)
 unfolding weighted
 rising-more l rise weight p n b h s =
-    let w : weight ≤ rowBytes = omega (arith, s .weighs) in
+    let w : weight ≤ sumRowBytes = omega (arith, s .weighs) in
     let m = product-high weight (getD l p 0) w b in
     let d = drop-cons l p 0 h in
     let e = ap (λ (t : List ℕ). rise + weighted weight t) (sym d) ∙ s .so-far in
@@ -88,7 +88,7 @@ rising-more l rise weight p n b h s =
       bound = omega (arith, s .bound);
     }
 
-pub rising-all : (l : List ℕ) (rise weight p : ℕ) → length l ≤ rowBytes → length l ≤ p → Rising l rise weight p
+pub rising-all : (l : List ℕ) (rise weight p : ℕ) → length l ≤ sumRowBytes → length l ≤ p → Rising l rise weight p
     → (rise ≡ weighted 1 l) × (rise ≤ risingMost)
 unfolding weighted
 rising-all l rise weight p n h s =
@@ -111,15 +111,15 @@ row-summed l past rise plain h e r f p =
 -- what holds while the rows of the block l are summed, at offset at
 pub record Rows (l : List ℕ) (sum past at : ℕ) : Type 0 where
   pub row : ℕ
-  pub place : at ≡ rowBytes * row
+  pub place : at ≡ sumRowBytes * row
   pub high : at ≤ blockBytes
   pub weighs : past + checkBytes ≡ at
   pub so-far : sum + weighted (past + 1) (drop at l) ≡ 1 + weighted 1 (drop checkBytes l)
   pub bound : sum ≤ 1 + (bodyBytes * 255) * at
 
-pub rows-first : (l : List ℕ) (first : ℕ) → first ≡ weighted 1 (take (rowBytes - checkBytes) (drop checkBytes l)) → first ≤ risingMost → Rows l (1 + first) (rowBytes - checkBytes) rowBytes
+pub rows-first : (l : List ℕ) (first : ℕ) → first ≡ weighted 1 (take (sumRowBytes - checkBytes) (drop checkBytes l)) → first ≤ risingMost → Rows l (1 + first) (sumRowBytes - checkBytes) sumRowBytes
 rows-first l first e h =
-    let w = rw drop-drop at (weighted-cut 1 (rowBytes - checkBytes) (drop checkBytes l)) in
+    let w = rw drop-drop at (weighted-cut 1 (sumRowBytes - checkBytes) (drop checkBytes l)) in
     record {
       row = 1;
       place = refl;
@@ -130,21 +130,21 @@ rows-first l first e h =
     }
 
 -- a row lies in the block
-pub row-within : (l : List ℕ) (sum past at : ℕ) → at < blockBytes → Rows l sum past at → at + rowBytes ≤ blockBytes
+pub row-within : (l : List ℕ) (sum past at : ℕ) → at < blockBytes → Rows l sum past at → at + sumRowBytes ≤ blockBytes
 row-within l sum past at h s = omega (arith, s .place)
 
-pub first-length : (l : List ℕ) → length l ≡ blockBytes → length (take (rowBytes - checkBytes) (drop checkBytes l)) ≤ rowBytes
+pub first-length : (l : List ℕ) → length l ≡ blockBytes → length (take (sumRowBytes - checkBytes) (drop checkBytes l)) ≤ sumRowBytes
 first-length l n = simp (length-take, length-drop) (omega arith)
 
-pub row-length : (l : List ℕ) (at : ℕ) → length l ≡ blockBytes → at + rowBytes ≤ blockBytes → length (take (at + rowBytes - at) (drop at l)) ≡ rowBytes
+pub row-length : (l : List ℕ) (at : ℕ) → length l ≡ blockBytes → at + sumRowBytes ≤ blockBytes → length (take (at + sumRowBytes - at) (drop at l)) ≡ sumRowBytes
 row-length l at n h = simp (length-take, length-drop) (omega arith)
 
-pub rows-more : (l : List ℕ) (sum past at more : ℕ) → at < blockBytes → more ≡ weighted (past + 1) (take (at + rowBytes - at) (drop at l)) → more ≤ rowMost
-    → Rows l sum past at → Rows l (sum + more) (past + rowBytes) (at + rowBytes)
+pub rows-more : (l : List ℕ) (sum past at more : ℕ) → at < blockBytes → more ≡ weighted (past + 1) (take (at + sumRowBytes - at) (drop at l)) → more ≤ rowMost
+    → Rows l sum past at → Rows l (sum + more) (past + sumRowBytes) (at + sumRowBytes)
 rows-more l sum past at more h e b s =
-    let w = rw drop-drop at (weighted-cut (past + 1) rowBytes (drop at l)) in
-    let n : at + rowBytes - at ≡ rowBytes = omega arith in
-    let k : past + 1 + rowBytes ≡ past + rowBytes + 1 = omega arith in
+    let w = rw drop-drop at (weighted-cut (past + 1) sumRowBytes (drop at l)) in
+    let n : at + sumRowBytes - at ≡ sumRowBytes = omega arith in
+    let k : past + 1 + sumRowBytes ≡ past + sumRowBytes + 1 = omega arith in
     let e′ = rw n at e in
     let w′ = rw k at w in
     record {

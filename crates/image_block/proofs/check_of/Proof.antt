@@ -2,7 +2,7 @@ use Prim.Native.Nat.{_+_, _-_, _≤_}
 use native.Mathlib.Omega.{arith}
 use borrow.Author.Needs.{needs}
 use Rattle.image_block.specs.Block.{blockBytes}
-use Rattle.image_block.specs.Workers.{rowBytes}
+use Rattle.image_block.specs.Workers.{sumRowBytes}
 use Rattle.image_block.proofs.Laws.CheckRowLaws.{Rows, rows-first, first-length, row-within, row-length, rows-more, rows-all}
 use Rattle.image_block.proofs.check_of.Statement.{statement}
 use Rattle.image_block.proofs.check_of.Tie as tie
@@ -31,7 +31,7 @@ add-sum c = omega (arith, c .rising-sum .ensures .1)
 loop-holds : tie.Need-loop-holds Inv-loop μ-loop
 loop-holds c = rows-first _ _ (c .rising-sum .ensures .0) (c .rising-sum .ensures .1)
 
-within : (c : tie.In-loop Inv-loop μ-loop) → c .before .loop .at + rowBytes ≤ blockBytes
+within : (c : tie.In-loop Inv-loop μ-loop) → c .before .loop .at + sumRowBytes ≤ blockBytes
 within c = row-within _ _ _ _ (c .loop-test .taken) (c .before .loop .inv)
 
 add-e : tie.Need-add-e Inv-loop μ-loop

@@ -1,6 +1,6 @@
 use Prim.Native.Nat.{_-_}
 use native.Mathlib.Omega.{arith}
-use Rattle.image_block.specs.Workers.{rowBytes}
+use Rattle.image_block.specs.Workers.{sumRowBytes}
 use Rattle.image_block.proofs.Laws.CheckRowLaws.{Totalling, totalling-none, totalling-more, totalling-all}
 use Rattle.image_block.proofs.plain_sum.Statement.{statement}
 use Rattle.image_block.proofs.plain_sum.Tie as tie
@@ -9,7 +9,7 @@ abbrev Inv-loop : tie.InvT-loop
 Inv-loop t part₀ i₀ part i = Totalling t part i
 
 abbrev μ-loop : tie.MeasureT-loop
-μ-loop t part₀ i₀ part i = rowBytes - i
+μ-loop t part₀ i₀ part i = sumRowBytes - i
 
 loop-holds : tie.Need-loop-holds Inv-loop μ-loop
 loop-holds c = totalling-none _

@@ -7,7 +7,7 @@ use native.Mathlib.Nat.{not-suc-le-zero, suc-mul, mul-le-mul-right, div-add-mod'
 use native.Mathlib.Omega.{arith}
 use lib.ListN.{length, getD, List·getD-append}
 use lib.Seq.{ext-getD, getD-append-add}
-use Rattle.interpolate.specs.Bytes.{byte, bytes}
+use Rattle.interpolate.specs.Bytes.{byte, byteField}
 use Rattle.interpolate.proofs.Laws.ByteLaws.{byte-below}
 use Rattle.byte_lists.specs.Lists.{stacked}
 use Rattle.byte_lists.proofs.Laws.TabulateLaws.{length-tabulate, getD-tabulate, length-stacked}
@@ -77,4 +77,4 @@ blocks-by points size blocks l count pos e h =
 pub value-byte : (points : List ℕ) (size : ℕ) (blocks : List ℕ) (x p : ℕ) → valueAt points size blocks x p < 256
 unfolding valueAt
 value-byte points size blocks x p =
-    byte-below (interpolated bytes (length points) (λ (i : ℕ). byte (getD points i 0)) (λ (i : ℕ). byte (byteAt size blocks i p)) (byte x))
+    byte-below (interpolated byteField (length points) (λ (i : ℕ). byte (getD points i 0)) (λ (i : ℕ). byte (byteAt size blocks i p)) (byte x))

@@ -9,7 +9,7 @@ use Rattle.gf256.specs.Product.{plus, product, inverse}
 use Rattle.gf256.proofs.Laws.XorLaws.{plus-assoc, plus-comm, plus-zero, plus-self, plus-byte}
 use Rattle.gf256.proofs.Laws.ProductLaws.{product-byte, product-one, product-plus-right}
 use Rattle.gf256.proofs.Laws.FieldLaws.{product-assoc, product-comm, inverse-byte, product-inverse}
-use Rattle.interpolate.specs.Bytes.{Byte, byte, bytes}
+use Rattle.interpolate.specs.Bytes.{Byte, byte, byteField}
 use Rattle.interpolate.specs.Polynomials.{BytesAreAField}
 
 -- bytes of one number are the same
@@ -30,13 +30,13 @@ byte-positive : (a : Byte) → (a ≡ byte 0 → ⊥) → 0 < a .0
 byte-positive a h = let n : (a .0 ≡ 0 → ⊥) = (λ e. h (same-byte e)) in omega arith
 
 -- sum, product and inverse by their numbers: nothing is cut off
-pub add-is : (a b : Byte) → bytes .add a b .0 ≡ plus (a .0) (b .0)
+pub add-is : (a b : Byte) → byteField .add a b .0 ≡ plus (a .0) (b .0)
 add-is a b = byte-small _ (plus-byte (a .0) (b .0) (byte-below a) (byte-below b))
 
-pub mul-is : (a b : Byte) → bytes .mul a b .0 ≡ product (a .0) (b .0)
+pub mul-is : (a b : Byte) → byteField .mul a b .0 ≡ product (a .0) (b .0)
 mul-is a b = byte-small _ (product-byte (a .0) (b .0) (byte-below a))
 
-pub inv-is : (a : Byte) → bytes .inv a .0 ≡ inverse (a .0)
+pub inv-is : (a : Byte) → byteField .inv a .0 ≡ inverse (a .0)
 inv-is a = byte-small _ (inverse-byte (a .0))
 
 pub bytes-are-a-field : BytesAreAField

@@ -14,7 +14,7 @@ use Rattle.gf256.specs.Product.{plus, product, doubled, power, powerCount, inve
 use Rattle.gf256.proofs.Laws.TableLaws.{power-add, power-mod}
 use Rattle.gf256.specs.Tables.{IsLogs}
 use Rattle.gf256.proofs.Laws.XorLaws.{plus-byte, plus-cancel}
-use Rattle.interpolate.specs.Bytes.{Byte, byte, bytes}
+use Rattle.interpolate.specs.Bytes.{Byte, byte, byteField}
 use Rattle.interpolate.proofs.Laws.ByteLaws.{byte-small, add-is, mul-is, inv-is}
 use Rattle.interpolate.specs.Workers.{numerator, denominator, pointsOf}
 use Rattle.poly.proofs.Laws.BasisLaws.{basisTo-skip, basisTo-step}
@@ -58,15 +58,15 @@ module _ (logs points : List ℕ) (hl : IsLogs logs) (small : (k : ℕ) → getD
 
   -- one factor of a weight
   factor-power : (k : ℕ) → (getD points k 0 ≡ x → ⊥) → (getD points k 0 ≡ getD points i 0 → ⊥)
-      → factor bytes (pointsOf points) i k (byte x) .0
+      → factor byteField (pointsOf points) i k (byte x) .0
       ≡ power (getD logs (plus x (getD points k 0)) 0 + (powerCount - getD logs (plus (getD points i 0) (getD points k 0)) 0))
   unfolding factor sub
   factor-power k nx ni =
       let pk = getD points k 0 in
       let pi = getD points i 0 in
-      let up = bytes .add (byte x) (byte pk) in
-      let down = bytes .add (byte pi) (byte pk) in
-      mul-is up (bytes .inv down)
+      let up = byteField .add (byte x) (byte pk) in
+      let down = byteField .add (byte pi) (byte pk) in
+      mul-is up (byteField .inv down)
       ∙ ap₂ product (add-is (byte x) (byte pk)) (inv-is down ∙ ap inverse (add-is (byte pi) (byte pk)))
       ∙ ap₂ (λ (u v : ℕ). product u (inverse v))
       (ap₂ plus (byte-small x hx) (byte-small pk (small k)))
@@ -77,22 +77,22 @@ module _ (logs points : List ℕ) (hl : IsLogs logs) (small : (k : ℕ) → getD
 
   weight-power : (k : ℕ) → ((j : ℕ) → j < k → getD points j 0 ≡ x → ⊥)
       → ((j : ℕ) → j < k → (j ≡ i → ⊥) → getD points j 0 ≡ getD points i 0 → ⊥)
-      → basisTo bytes k (pointsOf points) i (byte x) .0 ≡ power (others logs points x i k + denominator logs points i k)
+      → basisTo byteField k (pointsOf points) i (byte x) .0 ≡ power (others logs points x i k + denominator logs points i k)
   unfolding others denominator basisTo power doubled
   weight-power zero nx ni = refl
   weight-power (suc k) nx ni =
       by (ℕ-discrete k i) (weight-power k (λ j h. nx j (omega arith)) (λ j h. ni j (omega arith)))
     where
-      by : Dec (k ≡ i) → basisTo bytes k (pointsOf points) i (byte x) .0 ≡ power (others logs points x i k + denominator logs points i k)
-          → basisTo bytes (suc k) (pointsOf points) i (byte x) .0
+      by : Dec (k ≡ i) → basisTo byteField k (pointsOf points) i (byte x) .0 ≡ power (others logs points x i k + denominator logs points i k)
+          → basisTo byteField (suc k) (pointsOf points) i (byte x) .0
           ≡ power ((others logs points x i k + cond (eqb k i) 0 (getD logs (plus x (getD points k 0)) 0))
           + (denominator logs points i k + cond (eqb k i) 0 (powerCount - getD logs (plus (getD points i 0) (getD points k 0)) 0)))
       by (yes e) ih =
-          ap (λ (b : Byte). b .0) (basisTo-skip bytes k (pointsOf points) i (byte x) e) ∙ ih
+          ap (λ (b : Byte). b .0) (basisTo-skip byteField k (pointsOf points) i (byte x) e) ∙ ih
           ∙ rw (eq-eqb k i e, add-zero (others logs points x i k), add-zero (denominator logs points i k)) refl
       by (no n) ih =
-          ap (λ (b : Byte). b .0) (basisTo-step bytes k (pointsOf points) i (byte x) n)
-          ∙ mul-is (basisTo bytes k (pointsOf points) i (byte x)) (factor bytes (pointsOf points) i k (byte x))
+          ap (λ (b : Byte). b .0) (basisTo-step byteField k (pointsOf points) i (byte x) n)
+          ∙ mul-is (basisTo byteField k (pointsOf points) i (byte x)) (factor byteField (pointsOf points) i k (byte x))
           ∙ ap₂ product ih (factor-power k (nx k (omega arith)) (ni k (omega arith) n))
           ∙ power-add (others logs points x i k + denominator logs points i k)
           (getD logs (plus x (getD points k 0)) 0 + (powerCount - getD logs (plus (getD points i 0) (getD points k 0)) 0))
@@ -106,7 +106,7 @@ module _ (logs points : List ℕ) (hl : IsLogs logs) (small : (k : ℕ) → getD
   -- The weight of point i at x, by sums that are made once a row and once a set of points.
   pub weight-is : (m : ℕ) → i < m → ((j : ℕ) → j < m → getD points j 0 ≡ x → ⊥)
       → ((j : ℕ) → j < m → (j ≡ i → ⊥) → getD points j 0 ≡ getD points i 0 → ⊥)
-      → basis bytes m (pointsOf points) i (byte x) .0
+      → basis byteField m (pointsOf points) i (byte x) .0
       ≡ power ((numerator logs points x m - getD logs (plus x (getD points i 0)) 0 + denominator logs points i m) % powerCount)
   unfolding basis
   weight-is m h nx ni =

@@ -10,7 +10,7 @@ use lib.ListN.{length, getD, take, drop, length-append, length-drop}
 use lib.Seq.{getD-take, getD-drop, length-take-le, take-all, take-at}
 use borrow.Rule.Slice.PartMut.{putMid, postOf, same-len-mid}
 use Rattle.gf256.specs.Product.{plus, product, power, powerCount}
-use Rattle.interpolate.specs.Bytes.{Byte, byte, bytes}
+use Rattle.interpolate.specs.Bytes.{Byte, byte, byteField}
 use Rattle.interpolate.proofs.Laws.ByteLaws.{byte-small, add-is, mul-is, bytes-are-a-field}
 use Rattle.interpolate.proofs.Laws.FirstPlaceLaws.{place-is, place-not}
 use Rattle.interpolate.specs.Workers.{firstPlace, scaled, numerator, pointsOf, PointsReady, weight}
@@ -33,10 +33,10 @@ weight-by-logs logs points sums top x i ready small hx nx et h =
 -- the sum of the first k terms of a value
 unfoldable pub partial : List ℕ → ℕ → List ℕ → ℕ → ℕ → ℕ → ℕ
 partial points size blocks x k p =
-    sum bytes k (λ (i : ℕ). bytes .mul (basis bytes (length points) (pointsOf points) i (byte x)) (byte (byteAt size blocks i p))) .0
+    sum byteField k (λ (i : ℕ). byteField .mul (basis byteField (length points) (pointsOf points) i (byte x)) (byte (byteAt size blocks i p))) .0
 
 pub different-points : (points : List ℕ) (m : ℕ) → ((k : ℕ) → getD points k 0 < 256)
-    → ((i j : ℕ) → i < m → j < m → getD points i 0 ≡ getD points j 0 → i ≡ j) → Different bytes m (pointsOf points)
+    → ((i j : ℕ) → i < m → j < m → getD points i 0 ≡ getD points j 0 → i ≡ j) → Different byteField m (pointsOf points)
 unfolding Different
 different-points points m small d i j hi hj e =
     d i j hi hj (sym (byte-small (getD points i 0) (small i)) ∙ ap (λ (b : Byte). b .0) e ∙ byte-small (getD points j 0) (small j))
@@ -64,13 +64,13 @@ row-more points size blocks from out x k w small ef eo ew =
     (ap (λ (l : List ℕ). getD l p 0) eo ∙ getD-tabulate size (partial points size blocks x k) p h)
     (ap₂ product (sym ew)
     (ap (λ (l : List ℕ). getD l p 0) ef ∙ part-byte size blocks k p h ∙ sym (byte-small (byteAt size blocks k p) (small-at k p))))
-    ∙ sym (add-is (sum bytes k (term p)) (term p k) ∙ ap (plus (sum bytes k (term p) .0)) (mul-is (base k) (byte (byteAt size blocks k p)))))
+    ∙ sym (add-is (sum byteField k (term p)) (term p k) ∙ ap (plus (sum byteField k (term p) .0)) (mul-is (base k) (byte (byteAt size blocks k p)))))
   where
     base : ℕ → Byte
-    base i = basis bytes (length points) (pointsOf points) i (byte x)
+    base i = basis byteField (length points) (pointsOf points) i (byte x)
 
     term : ℕ → ℕ → Byte
-    term p i = bytes .mul (base i) (byte (byteAt size blocks i p))
+    term p i = byteField .mul (base i) (byte (byteAt size blocks i p))
 
     small-at : (k p : ℕ) → byteAt size blocks k p < 256
     small-at k p = unfold byteAt in small (k * size + p)
@@ -109,8 +109,8 @@ row-copy points size blocks from x k sp sb d h e ef ns =
     (λ p u.
     ap (λ (l : List ℕ). getD l p 0) ef ∙ part-byte size blocks k p u ∙ sym (byte-small (byteAt size blocks k p) (small-at k p))
     ∙ ap (λ (b : Byte). b .0)
-    (sym (interpolated-at bytes bytes-are-a-field (length points) (pointsOf points) (λ (i : ℕ). byte (byteAt size blocks i p)) k (different-points points (length points) sp d) h)
-    ∙ ap (λ (y : ℕ). interpolated bytes (length points) (pointsOf points) (λ (i : ℕ). byte (byteAt size blocks i p)) (byte y)) e))
+    (sym (interpolated-at byteField bytes-are-a-field (length points) (pointsOf points) (λ (i : ℕ). byte (byteAt size blocks i p)) k (different-points points (length points) sp d) h)
+    ∙ ap (λ (y : ℕ). interpolated byteField (length points) (pointsOf points) (λ (i : ℕ). byte (byteAt size blocks i p)) (byte y)) e))
   where
     small-at : (k p : ℕ) → byteAt size blocks k p < 256
     small-at k p = unfold byteAt in sb (k * size + p)

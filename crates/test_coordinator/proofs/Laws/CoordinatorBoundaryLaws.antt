@@ -11,8 +11,8 @@ use borrow.Author.Tests.{eq-eqb, ne-eqb, eqb-true}
 use borrow.Rule.Slice.PartMut.{putMid, post-is}
 use Rattle.byte_lists.specs.Lists.{tabulate}
 use Rattle.byte_lists.proofs.Laws.TabulateLaws.{tabulate-by}
-use Rattle.test_coordinator.specs.CoordinatorBoundary.{recordNumbersLength, recordBytesLength, answerNumbersLength, answerBytesLength, coordinatorAt, lastAt, timeAt, roundAt, maxAt}
-use Rattle.test_coordinator.specs.CoordinatorBoundary.{firstAt, foundAt, kindAt, phaseAt, countedAt, grantedAt, heldAt, bricksAt, targetsAt, seenBricksAt, secondTargetsAt}
+use Rattle.test_coordinator.specs.CoordinatorBoundary.{recordNumbersLength, recordBytesLength, answerNumbersLength, answerBytesLength, coordinatorAt, lastAt, recordTimeAt, roundAt, maxAt}
+use Rattle.test_coordinator.specs.CoordinatorBoundary.{firstAt, recordFoundAt, kindAt, phaseAt, countedAt, grantedAt, recordHeldAt, bricksAt, targetsAt, seenBricksAt, secondTargetsAt}
 use Rattle.test_coordinator.specs.CoordinatorBoundary.{secondKindAt}
 use Rattle.test_coordinator.specs.CoordinatorBoundary.{recordFor, recordNumbers, recordBytes, answerNumbers, answerBytes, Rows, rows, lentLengths, laidOut, atBoundary, crossing, rowPut, rowAt}
 use Rattle.coord_apply.specs.Answers.{Returned, returned}
@@ -59,7 +59,7 @@ last-row row l e = ap (λ (z : List ℕ). row ++ z) (none-left (drop maxBricks l
 
 -- the numbers of a record
 pub numbers-are : (out : List ℕ) (a b c d e f : ℕ) (row o : List ℕ) → length out ≡ recordNumbersLength
-    → o ≡ rowPut foundAt row (set (set (set (set (set (set out 0 a) 1 b) 2 c) 3 d) 4 e) 5 f) → o ≡ a ∷ b ∷ c ∷ d ∷ e ∷ f ∷ row
+    → o ≡ rowPut recordFoundAt row (set (set (set (set (set (set out 0 a) 1 b) 2 c) 3 d) 4 e) 5 f) → o ≡ a ∷ b ∷ c ∷ d ∷ e ∷ f ∷ row
 numbers-are [] a b c d e f row o h p = absurd (omega arith)
 numbers-are (x0 ∷ []) a b c d e f row o h p = absurd (omega arith)
 numbers-are (x0 ∷ x1 ∷ []) a b c d e f row o h p = absurd (omega arith)
@@ -113,7 +113,7 @@ shown-are (x0 ∷ x1 ∷ x2 ∷ l) x y z w a b c o1 o2 o3 h la lb p1 p2 p3 =
 
 -- the bytes of a record: two bytes and four rows
 pub bytes-are : (out : List ℕ) (x y : ℕ) (a b c d o1 o2 o3 o4 : List ℕ) → length out ≡ recordBytesLength → length a ≡ maxBricks → length b ≡ maxBricks → length c ≡ maxBricks
-    → o1 ≡ rowPut countedAt a (set (set out 0 x) 1 y) → o2 ≡ rowPut grantedAt b o1 → o3 ≡ rowPut heldAt c o2 → o4 ≡ rowPut bricksAt d o3
+    → o1 ≡ rowPut countedAt a (set (set out 0 x) 1 y) → o2 ≡ rowPut grantedAt b o1 → o3 ≡ rowPut recordHeldAt c o2 → o4 ≡ rowPut bricksAt d o3
     → o4 ≡ x ∷ y ∷ (a ++ (b ++ (c ++ d)))
 bytes-are [] x y a b c d o1 o2 o3 o4 h la lb lc p1 p2 p3 p4 = absurd (omega arith)
 bytes-are (x0 ∷ []) x y a b c d o1 o2 o3 o4 h la lb lc p1 p2 p3 p4 = absurd (omega arith)
@@ -211,8 +211,8 @@ six-set l n i j k i′ j′ k′ x y z x′ y′ z′ e =
     three-set (set (set (set l i x) j y) k z) n i′ j′ k′ x′ y′ z′ (three-set l n i j k x y z e)
 
 -- the record that is read
-pub record-is : (numbers bytes found counted granted held bricks : List ℕ) → found ≡ rowAt foundAt numbers → counted ≡ rowAt countedAt bytes → granted ≡ rowAt grantedAt bytes
-    → held ≡ rowAt heldAt bytes → bricks ≡ rowAt bricksAt bytes
+pub record-is : (numbers bytes found counted granted held bricks : List ℕ) → found ≡ rowAt recordFoundAt numbers → counted ≡ rowAt countedAt bytes → granted ≡ rowAt grantedAt bytes
+    → held ≡ rowAt recordHeldAt bytes → bricks ≡ rowAt bricksAt bytes
     → _≡_ {A = Coordinator}
     (record {
       clock = record { coordinator = getD numbers coordinatorAt 0; last = getD numbers lastAt 0 };
@@ -220,7 +220,7 @@ pub record-is : (numbers bytes found counted granted held bricks : List ℕ) →
           record {
             kind = getD bytes kindAt 0;
             phase = getD bytes phaseAt 0;
-            time = getD numbers timeAt 0;
+            time = getD numbers recordTimeAt 0;
             round = getD numbers roundAt 0;
             max = getD numbers maxAt 0;
             first = getD numbers firstAt 0;

@@ -5,7 +5,7 @@ use Prim.Native.Nat.{ℕ}
 use native.Mathlib.Omega.{arith}
 use lib.ListN.{length, set}
 use borrow.Author.Tests.{eq-eqb, ne-eqb}
-use Rattle.test_field.specs.FieldBoundary.{drawnNumbers, clockOf, drawNumber, written, drawBuffer}
+use Rattle.test_field.specs.FieldBoundary.{drawnNumbers, clockOf, drawNumber, drawWritten, drawBuffer}
 use Rattle.settings.specs.Refusal.{passed, badLength}
 use Rattle.settings.specs.Times.{drawOf, numberOf}
 use Rattle.settings.proofs.Laws.TimeLaws.{draw-number}
@@ -22,7 +22,7 @@ unfolding drawNumber
 number-given c l r k d out h e n = rw (eq-eqb (length out) drawnNumbers h) (n ∙ ap numberOf e ∙ draw-number (clockOf c l) r)
 
 pub refused-buffer : (c l r k : ℕ) (d : Draw) (out : List ℕ) → length out ≡ drawnNumbers → d ≡ drawOf (clockOf c l) r → d ≡ Refused k → out ≡ drawBuffer c l r out
-unfolding drawBuffer written
+unfolding drawBuffer drawWritten
 refused-buffer c l r k d out h e f = rw (eq-eqb (length out) drawnNumbers h, ← e, f)
 
 two : (a b : ℕ) (out : List ℕ) → length out ≡ drawnNumbers → set (set out 0 a) 1 b ≡ a ∷ b ∷ []
@@ -33,7 +33,7 @@ two a b (x ∷ y ∷ z ∷ out) h = absurd (omega arith)
 
 pub given-buffer : (c l r t : ℕ) (next : Clock) (d : Draw) (out : List ℕ) → length out ≡ drawnNumbers → d ≡ drawOf (clockOf c l) r → d ≡ Drawn t next
     → set (set out 0 t) 1 (next .last) ≡ drawBuffer c l r out
-unfolding drawBuffer written
+unfolding drawBuffer drawWritten
 given-buffer c l r t next d out h e f = rw (eq-eqb (length out) drawnNumbers h, ← e, f) (two t (next .last) out h)
 
 pub given-number : (c l r t : ℕ) (next : Clock) (d : Draw) (out : List ℕ) → length out ≡ drawnNumbers → d ≡ drawOf (clockOf c l) r → d ≡ Drawn t next → passed ≡ drawNumber c l r out
