@@ -25,7 +25,7 @@ use Rattle.bench_state.specs.State.{worldOf, coordinatorKept}
 use Rattle.bench_state.specs.Workers.{withCoordinator, keptWith}
 use Rattle.bench_state.proofs.Laws.StateLaws.{held-put}
 use Rattle.bench_state.specs.declared.Bench.{Bench}
-use Rattle.bench_rules.specs.Play.{lastMessage, refuses, happens, acts}
+use Rattle.bench_rules.specs.Play.{refuses, happens, acts}
 use Rattle.bench_rules.specs.Turning.{Lent, lent, worldIn}
 use Rattle.bench_rules.specs.Workers.{Turned}
 use Rattle.bench_rules.specs.declared.After.{After}
