@@ -37,6 +37,10 @@ pub record Outcome : Type 0 where
   pub image : List ℕ
   pub out : List ℕ
 
+-- the outcome with these parts
+abbrev pub outcomeWith : Given → (image out : List ℕ) → Outcome
+outcomeWith g image out = record { given = g; image = image; out = out }
+
 -- "A refusal returns its number alone and every image, record and buffer keeps its bytes."
 unfoldable pub refusedWith : ℕ → List ℕ → List ℕ → Outcome
 refusedWith number bytes out = record { given = Refused number; image = bytes; out = out }

@@ -1,10 +1,8 @@
 // One message at one brick (document 01, "What a brick does").
 ghost use mathlib.Core.Path.{_≡_};
 ghost use lib.ListN.{length};
-ghost use Rattle.image.specs.Image.{imageOf};
-ghost use Rattle.image.specs.Parse.{brickIn};
-ghost use Rattle.brick_log.specs.BrickRules.{placeFor, brickAfter, blockAfter};
-ghost use Rattle.brick.specs.Receive.{blocksRefusal, givenBy, outcome};
+ghost use Rattle.image.specs.Parse.{Opens, brickIn};
+ghost use Rattle.brick.specs.Receive.{blocksRefusal, outcomeWith, accepted, outcome};
 ghost use Rattle.brick_log.specs.Workers.{LogReady, Ahead};
 use brick_log::Known;
 use brick_log::Plan;
@@ -43,9 +41,9 @@ fn act(
     requires { ⌜ LogReady s brick (now image) k ⌝ }
     requires { ⌜ Ahead brick (brickIn s (now image)) k msg p ⌝ }
     requires { ⌜ (length (now block) ≡ s .size) × (length (now out) ≡ s .size) ⌝ }
-    ensures { λ r. ⌜ r ≡ givenBy s brick (brickIn s (now (image .entry))) msg ⌝ }
-    ensures { λ r. ⌜ now (image .exit) ≡ imageOf s brick (brickAfter s (brickIn s (now (image .entry))) msg (now (block .entry))) ⌝ }
-    ensures { λ r. ⌜ now (out .exit) ≡ blockAfter (brickIn s (now (image .entry))) (placeFor brick (brickIn s (now (image .entry))) msg) (now (out .entry)) ⌝ }
+    ensures { λ r. ⌜
+        outcomeWith r (now (image .exit)) (now (out .exit))
+        ≡ accepted s brick msg (now (block .entry)) (now (image .entry)) (now (out .entry)) (Opens (brickIn s (now (image .entry)))) ⌝ }
 {
     if msg.kind == TRIM {
         trim(s, brick, image, k, p.cut);
@@ -91,9 +89,9 @@ pub fn receive(
     block: &[u8],
     out: &mut [u8],
 ) -> Given
-    ensures { λ r. ⌜ r ≡ outcome s brick (now (image .entry)) msg (now (block .entry)) (now (out .entry)) .given ⌝ }
-    ensures { λ r. ⌜ now (image .exit) ≡ outcome s brick (now (image .entry)) msg (now (block .entry)) (now (out .entry)) .image ⌝ }
-    ensures { λ r. ⌜ now (out .exit) ≡ outcome s brick (now (image .entry)) msg (now (block .entry)) (now (out .entry)) .out ⌝ }
+    ensures { λ r. ⌜
+        outcomeWith r (now (image .exit)) (now (out .exit))
+        ≡ outcome s brick (now (image .entry)) msg (now (block .entry)) (now (out .entry)) ⌝ }
 {
     let bad = blocks_refusal(s, block.len(), out.len());
     if bad != PASSED {

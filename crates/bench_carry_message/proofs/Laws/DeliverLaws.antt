@@ -11,7 +11,8 @@ use borrow.Rule.Slice.PartMut.{putMid, put-same}
 use Rattle.settings.specs.declared.Settings.{Settings}
 use Rattle.message.specs.declared.Message.{Message}
 use Rattle.image.specs.Image.{imageSize}
-use Rattle.brick.specs.Receive.{Outcome, outcome}
+use Rattle.brick.specs.Receive.{Outcome, outcomeWith, outcome}
+use Rattle.brick.proofs.Laws.OutcomeLaws.{outcome-given, outcome-image, outcome-out}
 use Rattle.brick.specs.declared.Given.{Given}
 use Rattle.brick.specs.declared.Given.the-variants.{Answered, Silent, Refused}
 use Rattle.coord_apply.specs.Answers.{Buffered}
@@ -228,17 +229,16 @@ module _ (b : Bench) (k brick : ℕ) (msg : Message) (images numbers bytes : Lis
 
   -- what the brick gave and left, settled
   pub deliver-settled : (new block zeros numbers′ bytes′ : List ℕ) (at : ℕ) (out out′ : List ℕ) (r : After) (g : Given) → zeros ≡ replicate (s .size) 0
-      → g ≡ outcome s brick codeImage msg codeBlock zeros .given → new ≡ outcome s brick codeImage msg codeBlock zeros .image
-      → block ≡ outcome s brick codeImage msg codeBlock zeros .out → length new ≡ length codeImage
+      → outcomeWith g new block ≡ outcome s brick codeImage msg codeBlock zeros → length new ≡ length codeImage
       → Settled b g block numbers bytes at out r numbers′ bytes′ out′
       → (kept : List ℕ) → Turned b (lent images kept numbers bytes) at out (carries s (worldIn b (lent images kept numbers bytes)) k (itemAt (s .size) numbers bytes k)) r
       (lent (putMid (brick * imageRoom) (brick * imageRoom + 512 * (s .capacity + 1) - brick * imageRoom) images new) kept numbers′ bytes′) out′
   unfolding imageSize
-  deliver-settled new block zeros numbers′ bytes′ at out out′ r g ez eg ei eo long d kept =
-      let c = code-outcome zeros ez in
+  deliver-settled new block zeros numbers′ bytes′ at out out′ r g ez eg long d kept =
+      let e : outcomeWith g new block ≡ o = eg ∙ code-outcome zeros ez in
       subst (λ (i : List ℕ). Turned b (lent images kept numbers bytes) at out (carries s w′ k (itemAt (s .size) numbers bytes k)) r (lent i kept numbers′ bytes′) out′)
       (sym (put-mid (brick * imageRoom) (brick * imageRoom + 512 * (s .capacity + 1)) images new (omega arith) (size ∙ sym cut)))
-      (delivered-by kept new block numbers′ bytes′ at out out′ r (ei ∙ ap (λ (v : Outcome). v .image) c) (eo ∙ ap (λ (v : Outcome). v .out) c) size g (eg ∙ ap (λ (v : Outcome). v .given) c) d)
+      (delivered-by kept new block numbers′ bytes′ at out out′ r (outcome-image g new block o e) (outcome-out g new block o e) size g (outcome-given g new block o e) d)
     where
       w′ : World
       w′ = worldIn b (lent images kept numbers bytes)
@@ -250,8 +250,9 @@ module _ (b : Bench) (k brick : ℕ) (msg : Message) (images numbers bytes : Lis
       size = long ∙ ap (λ (j : ℕ). length (take j (drop (brick * imageRoom) images))) cut ∙ image-long
 
   -- the limit holds after it
-  pub deliver-room : (zeros : List ℕ) (g : Given) → g ≡ outcome s brick codeImage msg codeBlock zeros .given → sentAfterMessage (b .sent) g ≤ lastMessage
-  deliver-room zeros g e = room s brick codeImage msg codeBlock zeros (b .sent) g (l .few) (q .may-send) e
+  pub deliver-room : (zeros : List ℕ) (g : Given) (new block : List ℕ) → outcomeWith g new block ≡ outcome s brick codeImage msg codeBlock zeros
+      → sentAfterMessage (b .sent) g ≤ lastMessage
+  deliver-room zeros g new block e = room s brick codeImage msg codeBlock zeros (b .sent) g (l .few) (q .may-send) (outcome-given g new block (outcome s brick codeImage msg codeBlock zeros) e)
 
 -- the ways in which it does not come to that
 module _ (b : Bench) (k brick : ℕ) (images numbers bytes : List ℕ) (m : isReply numbers k ≡ false) (eb : brick ≡ numberAt numbers k 1) where

@@ -53,7 +53,7 @@ settle-requires c κs =
     let e = c .before .before .before .before .before .before .before .before .receive in
     let z = s .pre .0 .0 in (
       (
-        deliver-room (s .args .b) (s .args .k) (s .args .brick) (s .args .msg) (s .args .images .now) (s .args .numbers .now) (s .args .bytes .now) z (s .pre .0 .1) _ _ (e .ensures .0),
+        deliver-room (s .args .b) (s .args .k) (s .args .brick) (s .args .msg) (s .args .images .now) (s .args .numbers .now) (s .args .bytes .now) z (s .pre .0 .1) _ _ _ _ (e .ensures),
         e .kept .1 .1 .1 .1 .1 .0 ∙ ap length (s .pre .1 .0) ∙ length-replicate (s .args .b .settings .size) 0,
         z .fits .size-fits,
       ),
@@ -81,7 +81,7 @@ returns c =
     .before .before .before .before .before in
     let e = c .before .before .before .before .before .before .before .before .before .before .before .before .before .before .before .receive in
     deliver-settled (s .args .b) (s .args .k) (s .args .brick) (s .args .msg) (s .args .images .now) (s .args .numbers .now) (s .args .bytes .now) (s .pre .0 .0) (s .pre .0 .1)
-    _ _ (s .args .block .now) _ _ (s .args .at) (s .args .out .now) _ _ _ (s .pre .1 .0) (e .ensures .0) (e .ensures .1 .0) (e .ensures .1 .1) (e .kept .1 .1 .0)
+    _ _ (s .args .block .now) _ _ (s .args .at) (s .args .out .now) _ _ _ (s .pre .1 .0) (e .ensures) (e .kept .1 .1 .0)
     (c .before .before .before .before .before .before .settle .ensures)
 
 pub deliver-with-spec : {M : Type 1} → statement M

@@ -31,7 +31,7 @@ use Rattle.image.specs.declared.Opening.{Opening}
 use Rattle.image.specs.declared.ImageAnswer.the-variants.{Refused as Failed}
 use Rattle.image_write.specs.Workers.{without}
 use Rattle.brick_log.specs.BrickRules.{notBelowPromise, aboveNewest, readYes, orderYes, lookup, trimmedTo, timeFor, placeFor, foundFor, yesTo, replyTo, brickAfter, blockAfter}
-use Rattle.brick.specs.Receive.{blocksRefusal, receiveRefusal, Outcome, refusedWith, givenBy, accepted, outcome}
+use Rattle.brick.specs.Receive.{blocksRefusal, receiveRefusal, Outcome, outcomeWith, refusedWith, givenBy, accepted, outcome}
 use Rattle.brick_log.specs.Workers.{LogReady, Ahead, Planned, Cut, underIn, underFor, lookedPlace, lookedTime, readPlace, gaveOf}
 use Rattle.brick_log.proofs.Laws.LookLaws.{under-brick, under-high, place-brick, time-brick}
 use Rattle.brick_log.proofs.Laws.TrimLaws.{cut-trims}
@@ -99,25 +99,32 @@ open-zero s brick l x e = go (eqb (openRefusal s brick l) 0) refl e
     go true q w = eqb-true (openRefusal s brick l) 0 q
     go false q w = let z : _≡_ {A = ℕ} 0 1 = cc in absurd (omega arith)
 
--- the three parts of an outcome
-abbrev pub Ends : Outcome → Given → List ℕ → List ℕ → Type 0
-Ends o g image out = (g ≡ o .given) × ((image ≡ o .image) × (out ≡ o .out))
+-- the answer, the image and the reply's buffer of a call, by the one equation of its contract
+module _ (g : Given) (image out : List ℕ) (o : Outcome) (e : outcomeWith g image out ≡ o) where
+  pub outcome-given : g ≡ o .given
+  outcome-given = ap (λ (w : Outcome). w .given) e
+
+  pub outcome-image : image ≡ o .image
+  outcome-image = ap (λ (w : Outcome). w .image) e
+
+  pub outcome-out : out ≡ o .out
+  outcome-out = ap (λ (w : Outcome). w .out) e
 
 module _ (s : Settings) (brick : ℕ) (l : List ℕ) (msg : Message) (block out : List ℕ) where
   -- a refusal changes nothing
-  ends-refused : (n : ℕ) → receiveRefusal s brick l msg (length block) (length out) ≡ n → (n ≡ 0 → ⊥) → Ends (outcome s brick l msg block out) (Refused n) l out
+  ends-refused : (n : ℕ) → receiveRefusal s brick l msg (length block) (length out) ≡ n → (n ≡ 0 → ⊥) → outcomeWith (Refused n) l out ≡ outcome s brick l msg block out
   unfolding outcome refusedWith
   ends-refused n e z =
       let o : outcome s brick l msg block out ≡ refusedWith n l out = rw (e, ne-eqb n 0 z) refl in
-      (sym (ap (λ (w : Outcome). w .given) o), (sym (ap (λ (w : Outcome). w .image) o), sym (ap (λ (w : Outcome). w .out) o)))
+      sym o
 
-  pub ends-early : (k : ℕ) → k ≡ blocksRefusal s (length block) (length out) → (k ≡ 0 → ⊥) → Ends (outcome s brick l msg block out) (Refused k) l out
+  pub ends-early : (k : ℕ) → k ≡ blocksRefusal s (length block) (length out) → (k ≡ 0 → ⊥) → outcomeWith (Refused k) l out ≡ outcome s brick l msg block out
   unfolding receiveRefusal
   ends-early k e z = ends-refused k (first-is (blocksRefusal s (length block) (length out)) k _ e z) z
 
   module _ (k : ℕ) (ek : k ≡ blocksRefusal s (length block) (length out)) (zk : k ≡ 0) where
     pub ends-unopened : (o : Opening) (j n : ℕ) → o ≡ opening (parse s brick l) → o .answer ≡ Failed j → n ≡ answerNumber (o .answer)
-        → Ends (outcome s brick l msg block out) (Refused n) l out
+        → outcomeWith (Refused n) l out ≡ outcome s brick l msg block out
     unfolding receiveRefusal
     ends-unopened o j n e f g =
         let q = open-number s brick l n (turned (parse s brick l) o j n e f g) in
@@ -134,16 +141,16 @@ module _ (s : Settings) (brick : ℕ) (l : List ℕ) (msg : Message) (block out 
           ∙ first-pass (openRefusal s brick l) (messageRefusal (s .n) (s .m) msg ∷ []) (open-zero s brick l x is)
           ∙ ap (λ (j : ℕ). firstRefusal (j ∷ [])) (sym ew)
 
-      pub ends-wrong : (w ≡ 0 → ⊥) → Ends (outcome s brick l msg block out) (Refused w) l out
+      pub ends-wrong : (w ≡ 0 → ⊥) → outcomeWith (Refused w) l out ≡ outcome s brick l msg block out
       ends-wrong z = ends-refused w (rest ∙ first-is w w [] refl z) z
 
-      pub ends-acted : w ≡ 0 → (g : Given) (image out′ : List ℕ) → g ≡ givenBy s brick x msg → image ≡ imageOf s brick (brickAfter s x msg block)
-          → out′ ≡ blockAfter x (placeFor brick x msg) out → Ends (outcome s brick l msg block out) g image out′
-      unfolding outcome accepted firstRefusal
-      ends-acted z g image out′ eg ei eo =
+      pub ends-acted : w ≡ 0 → (g : Given) (image out′ : List ℕ) → outcomeWith g image out′ ≡ accepted s brick msg block l out (Opens x)
+          → outcomeWith g image out′ ≡ outcome s brick l msg block out
+      unfolding outcome firstRefusal
+      ends-acted z g image out′ e =
           let r : receiveRefusal s brick l msg (length block) (length out) ≡ 0 = rest ∙ first-pass w [] z in
           let o : outcome s brick l msg block out ≡ accepted s brick msg block l out (Opens x) = rw (r, is) refl in
-          (eg ∙ sym (ap (λ (v : Outcome). v .given) o), (ei ∙ sym (ap (λ (v : Outcome). v .image) o), eo ∙ sym (ap (λ (v : Outcome). v .out) o)))
+          e ∙ sym o
 
 -- an opened image, and the plan that was made in its log
 pub ready : (s : Settings) (brick : ℕ) (l : List ℕ) (o : Opening) (h : Head) → Hub s brick l o h
@@ -276,24 +283,25 @@ gave-is s brick l k (suc i) out r h =
 
 -- the ways of acting
 module _ (s : Settings) (brick : ℕ) (l : List ℕ) (k : Known) (msg : Message) (p : Plan) (block out : List ℕ) (r : LogReady s brick l k) (h : Ahead brick (brickIn s l) k msg p) where
-  abbrev pub Acts : Given → List ℕ → List ℕ → Type 0
-  Acts g image out′ =
-      (g ≡ givenBy s brick (brickIn s l) msg)
-      × ((image ≡ imageOf s brick (brickAfter s (brickIn s l) msg block)) × (out′ ≡ blockAfter (brickIn s l) (placeFor brick (brickIn s l) msg) out))
+  -- part by part
+  acts : (g : Given) (image out′ : List ℕ) → g ≡ givenBy s brick (brickIn s l) msg → image ≡ imageOf s brick (brickAfter s (brickIn s l) msg block)
+      → out′ ≡ blockAfter (brickIn s l) (placeFor brick (brickIn s l) msg) out
+      → outcomeWith g image out′ ≡ accepted s brick msg block l out (Opens (brickIn s l))
+  unfolding accepted
+  acts g image out′ a b c = λ i. outcomeWith (a i) (b i) (c i)
 
-  pub acts-trim : (image : List ℕ) → msg .kind ≡ trimKind → image ≡ imageOf s brick (without (brickIn s l) (p .cut)) → Acts Silent image out
+  pub acts-trim : (image : List ℕ) → msg .kind ≡ trimKind → image ≡ imageOf s brick (without (brickIn s l) (p .cut))
+      → outcomeWith Silent image out ≡ accepted s brick msg block l out (Opens (brickIn s l))
   unfolding givenBy brickAfter blockAfter
-  acts-trim image e w = (
-    sym (rw (eq-eqb (msg .kind) trimKind e) refl),
-    (
-      w ∙ ap (λ (y : Brick). imageOf s brick y) (sym (rw (eq-eqb (msg .kind) trimKind e) (h .cut-is e))),
-      sym (rw (sym (place-none s brick l k r msg (λ q. omega (arith, e, q)) (λ q. omega (arith, e, q)))) refl),
-    ),
-  )
+  acts-trim image e w =
+      acts Silent image out
+      (sym (rw (eq-eqb (msg .kind) trimKind e) refl))
+      (w ∙ ap (λ (y : Brick). imageOf s brick y) (sym (rw (eq-eqb (msg .kind) trimKind e) (h .cut-is e))))
+      (sym (rw (sym (place-none s brick l k r msg (λ q. omega (arith, e, q)) (λ q. omega (arith, e, q)))) refl))
 
   pub acts-reply : (v : Bool) (image out′ : List ℕ) → (msg .kind ≡ trimKind → ⊥) → v ≡ yesTo s (brickIn s l) msg
       → image ≡ imageOf s brick (brickAfter s (brickIn s l) msg block) → out′ ≡ gaveOf l (s .size) (p .place) out
-      → Acts (Answered (record {
+      → outcomeWith (Answered (record {
         kind = msg .kind;
         brick = brick;
         time = msg .time;
@@ -302,14 +310,13 @@ module _ (s : Settings) (brick : ℕ) (l : List ℕ) (k : Known) (msg : Message)
         found = p .found;
         held = not (eqb (p .place) 0);
       })) image out′
+      ≡ accepted s brick msg block l out (Opens (brickIn s l))
   unfolding givenBy replyTo
-  acts-reply v image out′ e ev ei eo = (
-    sym (rw (ne-eqb (msg .kind) trimKind e) (sym (reply ev (h .found-is) (ap (λ (n : ℕ). not (eqb n 0)) (h .place-is))))),
-    (
-      ei,
-      eo ∙ gave-is s brick l k (p .place) out r (h .place-high) ∙ ap (λ (n : ℕ). blockAfter (brickIn s l) n out) (h .place-is),
-    ),
-  )
+  acts-reply v image out′ e ev ei eo =
+      acts _ image out′
+      (sym (rw (ne-eqb (msg .kind) trimKind e) (sym (reply ev (h .found-is) (ap (λ (n : ℕ). not (eqb n 0)) (h .place-is))))))
+      ei
+      (eo ∙ gave-is s brick l k (p .place) out r (h .place-high) ∙ ap (λ (n : ℕ). blockAfter (brickIn s l) n out) (h .place-is))
     where
       reply : v ≡ yesTo s (brickIn s l) msg → p .found ≡ foundFor brick (brickIn s l) msg → not (eqb (p .place) 0) ≡ not (eqb (placeFor brick (brickIn s l) msg) 0)
           → _≡_ {A = Given}

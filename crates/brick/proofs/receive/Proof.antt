@@ -79,11 +79,10 @@ same-length-4 c = search needs
 returns-4 : tie.Need-returns-4
 returns-4 c =
     let u = the-hub (c .before .before .before .before .before .before .before .before .before .before .before .before .before .before) in
-    let a = c .before .before .before .before .act .ensures in
     ends-acted _ _ _ _ _ _ _ (c .before .before .before .before .before .before .before .before .before .before .before .before .before .before .before .before .before .before .before
     .blocks-refusal .ensures) (c .before .before .before .before .before .before .before .before .before .before .before .before .before .before .before .before .before .before .if1
     .left) _ (hub-reads _ _ _ _ _ u) _ (c .before .before .before .before .before .before .before .before .before .before .before .before .refusal .ensures)
-    (c .before .before .before .before .before .before .before .before .before .before .before .if2 .left) _ _ _ (a .0) (a .1 .0) (a .1 .1)
+    (c .before .before .before .before .before .before .before .before .before .before .before .if2 .left) _ _ _ (c .before .before .before .before .act .ensures)
 
 pub receive-spec : {M : Type 1} → statement M
 receive-spec =

@@ -10,7 +10,7 @@ use Rattle.byte_lists.specs.Lists.{tabulate}
 use Rattle.byte_lists.proofs.Laws.TabulateLaws.{tabulate-by}
 use Rattle.test_brick.specs.BrickBoundary.{messageFor, pairLength, replyLength, silence, pairRefused, shownBuffer, panelPair, panelAt}
 use Rattle.test_brick.specs.BrickBoundary.{entryBuffer, entryPair, entryPairAt, answerCode, replyNumbers, givenBuffer, receipt, buffersRight, receiptAt}
-use Rattle.brick.specs.Receive.{givenNumber, outcome}
+use Rattle.brick.specs.Receive.{givenNumber, outcomeWith, outcome}
 use Rattle.image.specs.Parse.{parse}
 use Rattle.settings.specs.Ranges.{maxBricks}
 use Rattle.settings.specs.Refusal.{passed, badLength}
@@ -129,12 +129,10 @@ module _ (s : Settings) (brick kind time round max : ℕ) (targets block image o
 
   pub receive-whole : (flags : List ℕ) (g : Given) (k : ℕ) (image₁ out₁ reply₁ : List ℕ) → length targets ≡ maxBricks → length reply ≡ replyLength
       → flags ≡ targets
-      → g ≡ outcome s brick image (messageFor kind time round max flags) block out .given
-      → image₁ ≡ outcome s brick image (messageFor kind time round max flags) block out .image
-      → out₁ ≡ outcome s brick image (messageFor kind time round max flags) block out .out
+      → outcomeWith g image₁ out₁ ≡ outcome s brick image (messageFor kind time round max flags) block out
       → k ≡ answerCode g → reply₁ ≡ givenBuffer g reply
       → record { number = k; image = image₁; out = out₁; reply = reply₁ }
       ≡ receiptAt s brick (messageFor kind time round max targets) block image out reply
   unfolding receiptAt receipt buffersRight
-  receive-whole flags g k image₁ out₁ reply₁ h w f eg ei eo ek er =
-      rw (eq-eqb (length targets) maxBricks h, eq-eqb (length reply) replyLength w, ← f, ← eg, ← ei, ← eo, ← ek, ← er) refl
+  receive-whole flags g k image₁ out₁ reply₁ h w f e ek er =
+      rw (eq-eqb (length targets) maxBricks h, eq-eqb (length reply) replyLength w, ← f, ← e, ← ek, ← er) refl

@@ -34,7 +34,7 @@ returns-3 c =
     let put = c .before .before .put-given .ensures in
     receive-whole _ _ _ _ _ _ _ _ _ _ _ _ _ _ _ _ _ (whole .before .if1 .left) (whole .if2 .left)
     (c .before .before .before .before .before .before .before .before .before .before .before .flags-of .ensures)
-    (received .0) (received .1 .0) (received .1 .1) (put .0) (put .1)
+    received (put .0) (put .1)
 
 pub brick-receive-spec : {M : Type 1} → statement M
 brick-receive-spec =
