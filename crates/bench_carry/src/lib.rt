@@ -31,11 +31,11 @@ fn carry_one(
         Turned b l at (now (out .entry)) (carried (b .settings) (worldIn b l) number) r l′ (now (out .exit))) ⌝ }
 {
     if number == 0 {
-        return bench_rules::refuse(b, 12, at, out);
+        return bench_rules::refuse(b, settings::BAD_LINE, at, out);
     }
     let last = number as usize;
     if b.sent < last {
-        return bench_rules::refuse(b, 12, at, out);
+        return bench_rules::refuse(b, settings::BAD_LINE, at, out);
     }
     let k = last - 1;
     if bench_sent::is_reply(numbers, k) {

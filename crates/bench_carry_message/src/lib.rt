@@ -75,7 +75,7 @@ fn deliver_with(
 {
     let s = b.settings;
     let start = brick * IMAGE_ROOM;
-    let end = start + 512 * (s.capacity + 1);
+    let end = start + image_block::BLOCK_BYTES * (s.capacity + 1);
     let from = k * ROW_BYTES + BLOCK_PLACE;
     let till = from + s.size;
     let g = brick::receive(
@@ -121,7 +121,7 @@ pub fn carry_message(
     let s = b.settings;
     let brick = bench_sent::brick_at(numbers, k);
     if s.n <= brick {
-        return refuse(b, 3, at, out);
+        return refuse(b, settings::BAD_NUMBER, at, out);
     }
     let up = b.up;
     if up[brick] != UP {
@@ -129,7 +129,7 @@ pub fn carry_message(
     }
     let msg = bench_sent::message_at(numbers, bytes, k);
     if may_send(msg.kind, b.sent) {} else {
-        return refuse(b, 12, at, out);
+        return refuse(b, settings::BAD_LINE, at, out);
     }
     let mut block = [0u8; SIZE];
     let size = s.size;

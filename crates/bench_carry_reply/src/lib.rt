@@ -10,6 +10,7 @@ ghost use Rattle.bench_sent.specs.Sent.{isReply, replyAt, sentBlockAt, itemAt};
 ghost use Rattle.coord_apply.specs.Answers.{Buffered};
 ghost use Rattle.coordinator.specs.Routines.{takeStep};
 ghost use Rattle.register.specs.Runs.{World, arrives};
+ghost use Rattle.settings.specs.Times.{coordinatorOf};
 use bench_commit::commit;
 use bench_limits::BLOCK_PLACE;
 use bench_limits::ROW_BYTES;
@@ -38,7 +39,7 @@ fn reply_with(
 ) -> After
     requires { ⌜ Seats b c (now kept) (now numbers) (now bytes) at (now out) ⌝ }
     requires { ⌜ Copies (b .settings) (now blocks) (now stripe) (now coded) ⌝ }
-    requires { ⌜ (k < b .sent) × (isReply (now numbers) k ≡ true) × (reply ≡ replyAt (now numbers) k) × (c ≡ reply .time % 16) ⌝ }
+    requires { ⌜ (k < b .sent) × (isReply (now numbers) k ≡ true) × (reply ≡ replyAt (now numbers) k) × (c ≡ coordinatorOf (reply .time)) ⌝ }
     ensures { λ r. ⌜ (
         let s = b .settings in
         BenchActed b c (arrives k)
@@ -96,9 +97,9 @@ pub fn carry_reply(
         (now (kept .exit)) (now (numbers .exit)) (now (bytes .exit)) (now (out .exit))) ⌝ }
 {
     let reply = bench_sent::reply_at(numbers, k);
-    let c = reply.time % 16;
+    let c = reply.time % settings::COORDINATOR_COUNT;
     if COORDINATORS <= c {
-        return bench_rules::refuse(b, 3, at, out);
+        return bench_rules::refuse(b, settings::BAD_NUMBER, at, out);
     }
     let s = b.settings;
     let data = s.m * s.size;

@@ -6,7 +6,7 @@ ghost use lib.ListN.{length};
 ghost use Rattle.coord_apply.specs.Answers.{mostBroadcasts};
 ghost use Rattle.bench_commit.specs.Workers.{Round, Seats, Copies, Answers};
 ghost use Rattle.bench_commit.specs.Workers.{sentAfterAnswer};
-ghost use Rattle.bench_limits.specs.Limits.{benchSize, lastMessage, numbersLength, bytesLength};
+ghost use Rattle.bench_limits.specs.Limits.{benchSize, lastMessage, benchBricks, numbersLength, bytesLength};
 use bench_limits::LAST_MESSAGE;
 use bench_rules::After;
 use bench_state::Bench;
@@ -16,7 +16,7 @@ use settings::Settings;
 
 // How many messages are sent after so many broadcasts.
 fn sent_after(n: usize, sent: usize, broadcasts: usize) -> usize
-    requires { ⌜ (broadcasts ≤ mostBroadcasts) × (sent + mostBroadcasts * n ≤ 1000) ⌝ }
+    requires { ⌜ (broadcasts ≤ mostBroadcasts) × (sent + mostBroadcasts * n ≤ lastMessage + mostBroadcasts * benchBricks) ⌝ }
     ensures { λ r. ⌜ r ≡ sentAfterAnswer n sent broadcasts ⌝ }
 {
     sent + broadcasts * n
@@ -106,13 +106,13 @@ pub fn commit(
         (now (kept .entry)) (now (numbers .entry)) (now (bytes .entry)) at (now (out .entry)) r
         (now (kept .exit)) (now (numbers .exit)) (now (bytes .exit)) (now (out .exit))) ⌝ }
 {
-    if a.refusal != 0 {
+    if a.refusal != settings::PASSED {
         return bench_rules::refuse(b, a.refusal, at, out);
     }
     let s = b.settings;
     let sent = sent_after(s.n, b.sent, a.sent);
     if LAST_MESSAGE < sent {
-        return bench_rules::refuse(b, 12, at, out);
+        return bench_rules::refuse(b, settings::BAD_LINE, at, out);
     }
     keep_answer(
         b,

@@ -1,5 +1,7 @@
 -- Document 01, "The bench": its limits, and the layout of the buffers that it is lent.
 use Prim.Native.Nat.{ℕ, _+_, _*_}
+use Rattle.image_block.specs.Block.{blockBytes}
+use Rattle.settings.specs.Ranges.{maxBricks}
 
 -- "n at most 4"
 abbrev pub benchBricks : ℕ
@@ -36,16 +38,16 @@ keptRoom = 2 * stripeRoom
 abbrev pub keptLength : ℕ
 keptLength = benchCoordinators * keptRoom
 
--- room for a brick's image: a head and its entries, of 512 bytes each
+-- room for a brick's image: a head and its entries, a block each
 abbrev pub imageRoom : ℕ
-imageRoom = (benchCapacity + 1) * 512
+imageRoom = (benchCapacity + 1) * blockBytes
 
 abbrev pub imagesLength : ℕ
 imagesLength = benchBricks * imageRoom
 
 -- a row of bytes: the target flags, the block, and room for a second block
 abbrev pub flagCount : ℕ
-flagCount = 16
+flagCount = maxBricks
 
 abbrev pub blockPlace : ℕ
 blockPlace = flagCount

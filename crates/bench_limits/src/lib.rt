@@ -25,8 +25,8 @@ pub const KEPT_ROOM: usize = 2 * STRIPE_ROOM;
 
 pub const KEPT_LENGTH: usize = COORDINATORS * KEPT_ROOM;
 
-// A brick's image: a head and its entries, of 512 bytes each.
-pub const IMAGE_ROOM: usize = (CAPACITY + 1) * 512;
+// A brick's image: a head and its entries, a block each.
+pub const IMAGE_ROOM: usize = (CAPACITY + 1) * image_block::BLOCK_BYTES;
 
 pub const IMAGES_LENGTH: usize = BRICKS * IMAGE_ROOM;
 
@@ -63,7 +63,7 @@ pub const MESSAGE_TAG: u64 = 0;
 pub const REPLY_TAG: u64 = 1;
 
 // A row of bytes: the target flags, the block, and room for a second block.
-pub const FLAGS: usize = 16;
+pub const FLAGS: usize = settings::MAX_BRICKS;
 
 pub const BLOCK_PLACE: usize = FLAGS;
 

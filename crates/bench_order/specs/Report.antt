@@ -2,7 +2,7 @@
 -- and the number, and plays on." Here all that is printed is made from the run alone, and the refusals.
 use mathlib.Core.Bool.{cond}
 use mathlib.Core.List.{List, [], _∷_, _++_}
-use Prim.Native.Nat.{ℕ, _%_}
+use Prim.Native.Nat.{ℕ}
 use lib.Dec.{eqb}
 use Rattle.settings.specs.declared.Settings.{Settings}
 use Rattle.coord_record.specs.Records.{idleKind, readingKind, writingKind}
@@ -10,6 +10,7 @@ use Rattle.order.specs.Claim.{Action, read, write, Seen, began, ended}
 use Rattle.register.specs.Runs.{plain, Event, Moved, step, nextMoved}
 use Rattle.bench_print.specs.Printing.{refusedText}
 use Rattle.bench_order.specs.Told.{toldEnd}
+use Rattle.settings.specs.Times.{coordinatorOf}
 
 unfoldable pub kindOf : Action (List ℕ) → ℕ
 kindOf read = readingKind
@@ -26,7 +27,7 @@ kindIn s (ended other how ∷ l) time = kindIn s l time
 unfoldable pub reported : (s : Settings) → List (Seen (plain s)) → List (Seen (plain s)) → List ℕ
 reported s before [] = []
 reported s before (began time action ∷ l) = reported s before l
-reported s before (ended time how ∷ l) = toldEnd s (time % 16) (kindIn s before time) time how ++ reported s before l
+reported s before (ended time how ∷ l) = toldEnd s (coordinatorOf time) (kindIn s before time) time how ++ reported s before l
 
 -- The text tells of these events, from r on: what is seen at each of them, in order, and refusals between them.
 pub data Reports (s : Settings) : Moved s → List Event → List ℕ → Type 0 where

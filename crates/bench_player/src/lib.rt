@@ -54,19 +54,19 @@ fn play_first(
                 capacity: capacity as usize,
             };
             let bad = bench_state::bench_refusal(s);
-            if bad != 0 {
-                return bench_rules::refuse(b, 1, 0, out);
+            if bad != settings::PASSED {
+                return bench_rules::refuse(b, settings::BAD_SETTING, 0, out);
             }
             let bench = bench_state::set_up(s, images, kept);
             After { bench, used: 0 }
         }
-        Line::Write(_, _, _) => bench_rules::refuse(b, 12, 0, out),
-        Line::Read(_, _, _) => bench_rules::refuse(b, 12, 0, out),
-        Line::Carry(_) => bench_rules::refuse(b, 12, 0, out),
-        Line::Crash(_) => bench_rules::refuse(b, 12, 0, out),
-        Line::Down(_) => bench_rules::refuse(b, 12, 0, out),
-        Line::Up(_) => bench_rules::refuse(b, 12, 0, out),
-        Line::Unread => bench_rules::refuse(b, 12, 0, out),
+        Line::Write(_, _, _) => bench_rules::refuse(b, settings::BAD_LINE, 0, out),
+        Line::Read(_, _, _) => bench_rules::refuse(b, settings::BAD_LINE, 0, out),
+        Line::Carry(_) => bench_rules::refuse(b, settings::BAD_LINE, 0, out),
+        Line::Crash(_) => bench_rules::refuse(b, settings::BAD_LINE, 0, out),
+        Line::Down(_) => bench_rules::refuse(b, settings::BAD_LINE, 0, out),
+        Line::Up(_) => bench_rules::refuse(b, settings::BAD_LINE, 0, out),
+        Line::Unread => bench_rules::refuse(b, settings::BAD_LINE, 0, out),
     }
 }
 
@@ -90,7 +90,7 @@ fn play_next(
         Lined b l (now (out .entry)) (plays (b .settings) (worldIn b l) (reads (now (line .entry)))) r l′ (now (out .exit))) ⌝ }
 {
     match l {
-        Line::Set(_, _, _, _) => bench_rules::refuse(b, 12, 0, out),
+        Line::Set(_, _, _, _) => bench_rules::refuse(b, settings::BAD_LINE, 0, out),
         Line::Write(c, clock, hex) => {
             bench_start::write_at(b, c, clock, line, hex, kept, numbers, bytes, out)
         }
@@ -101,7 +101,7 @@ fn play_next(
         Line::Crash(c) => bench_start::crash_at(b, c, kept, numbers, bytes, out),
         Line::Down(brick) => switch_at(b, brick, DOWN, out),
         Line::Up(brick) => switch_at(b, brick, UP, out),
-        Line::Unread => bench_rules::refuse(b, 12, 0, out),
+        Line::Unread => bench_rules::refuse(b, settings::BAD_LINE, 0, out),
     }
 }
 
@@ -119,7 +119,7 @@ fn settings_right(s: Settings) -> bool
     if s.n == 0 {
         return true;
     }
-    bench_state::bench_refusal(s) == 0
+    bench_state::bench_refusal(s) == settings::PASSED
 }
 
 // Whether the lent buffers have their lengths.
@@ -157,15 +157,15 @@ fn bench_refused(
 {
     let s = b.settings;
     if settings_right(s) {} else {
-        return 1;
+        return settings::BAD_SETTING;
     }
     if lengths_right(images, kept, numbers, bytes, out) {} else {
-        return 2;
+        return settings::BAD_LENGTH;
     }
     if LAST_MESSAGE < b.sent {
-        return 6;
+        return settings::BAD_RECORD;
     }
-    0
+    settings::PASSED
 }
 
 // The bench before its first line: no set.
@@ -206,7 +206,7 @@ pub fn play_line(
         bytes.len(),
         out.len(),
     );
-    if bad != 0 {
+    if bad != settings::PASSED {
         return Played {
             refusal: bad,
             bench: b,
@@ -219,7 +219,7 @@ pub fn play_line(
         let first = play_first(b, l, line, images, kept, out);
         let begun = first.bench;
         return Played {
-            refusal: 0,
+            refusal: settings::PASSED,
             bench: begun,
             used: first.used,
         };
@@ -227,7 +227,7 @@ pub fn play_line(
     let r = play_next(b, l, line, images, kept, numbers, bytes, out);
     let bench = r.bench;
     Played {
-        refusal: 0,
+        refusal: settings::PASSED,
         bench,
         used: r.used,
     }

@@ -1,7 +1,7 @@
 -- Document 01, "The bench": what a line does to the set, and what it prints. A line's events are played by the runs' own `step`.
 use mathlib.Core.Bool.{Bool, cond, _||_}
 use mathlib.Core.List.{List, [], _∷_, _++_}
-use Prim.Native.Nat.{ℕ, zero, suc, _*_, _%_}
+use Prim.Native.Nat.{ℕ, zero, suc, _*_}
 use lib.Dec.{eqb, leb, ltb}
 use lib.ListN.{length, replicate}
 use Rattle.settings.specs.Refusal.{badSetting, badNumber, badLine}
@@ -19,6 +19,7 @@ use Rattle.bench_parse.specs.Lines.{Line, setLine, writeLine, readLine, carryLi
 use Rattle.bench_print.specs.Printing.{refusedText, endedText}
 use Rattle.bench_rules.specs.Content.{counted, content}
 use Rattle.bench_limits.specs.Limits.{benchCoordinators, lastMessage}
+use Rattle.settings.specs.Times.{coordinatorOf}
 
 -- What a line, or one carried number, leaves: the world, the events that were accepted, and what is printed.
 pub record Played : Type 0 where
@@ -94,9 +95,9 @@ unfoldable pub carries : Settings → World → ℕ → Item → Played
 carries s w k (message b msg block) =
     cond (ltb b (s .n)) (cond (w .up b) (reaches s w k b msg block) (passes w)) (refuses w badNumber)
 carries s w k (reply r block) =
-    atCoordinator w (r .time % 16)
-    (acts s w (arrives k) (r .time % 16)
-    (takeStep (s .n) (s .m) (s .size) (w .coordinators (r .time % 16)) r block (s .n * s .size)))
+    atCoordinator w (coordinatorOf (r .time))
+    (acts s w (arrives k) (coordinatorOf (r .time))
+    (takeStep (s .n) (s .m) (s .size) (w .coordinators (coordinatorOf (r .time))) r block (s .n * s .size)))
 
 -- item j of a list, carried as item k of all: refused if it was "not sent yet"
 unfoldable pub carriesAt : Settings → World → ℕ → List Item → ℕ → Played

@@ -107,7 +107,7 @@ fn crash_with(
 fn is_short(refusal: u32, right: bool) -> bool
     ensures { λ r. ⌜ r ≡ (eqb refusal 0 && not right) ⌝ }
 {
-    if refusal == 0 {
+    if refusal == settings::PASSED {
         return !right;
     }
     false
@@ -159,7 +159,7 @@ fn write_with(
     let old = bench_state::coordinator_at(b, c);
     let a = coordinator::start_write(s.n, s.m, s.size, old, clock, content, stripe);
     if is_short(a.refusal, right) {
-        return bench_rules::refuse(b, 12, 0, out);
+        return bench_rules::refuse(b, settings::BAD_LINE, 0, out);
     }
     commit(
         b,
@@ -195,7 +195,7 @@ pub fn read_at(
         (now (kept .exit)) (now (numbers .exit)) (now (bytes .exit)) (now (out .exit))) ⌝ }
 {
     if COORDINATORS <= c {
-        return bench_rules::refuse(b, 3, 0, out);
+        return bench_rules::refuse(b, settings::BAD_NUMBER, 0, out);
     }
     let s = b.settings;
     let data = s.m * s.size;
@@ -235,7 +235,7 @@ pub fn crash_at(
         (now (kept .exit)) (now (numbers .exit)) (now (bytes .exit)) (now (out .exit))) ⌝ }
 {
     if COORDINATORS <= c {
-        return bench_rules::refuse(b, 3, 0, out);
+        return bench_rules::refuse(b, settings::BAD_NUMBER, 0, out);
     }
     let s = b.settings;
     let data = s.m * s.size;
@@ -277,7 +277,7 @@ pub fn write_at(
         (now (kept .exit)) (now (numbers .exit)) (now (bytes .exit)) (now (out .exit))) ⌝ }
 {
     if COORDINATORS <= c {
-        return bench_rules::refuse(b, 3, 0, out);
+        return bench_rules::refuse(b, settings::BAD_NUMBER, 0, out);
     }
     let s = b.settings;
     let data = s.m * s.size;

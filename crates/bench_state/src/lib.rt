@@ -39,16 +39,16 @@ pub fn bench_refusal(s: Settings) -> u32
 {
     let bad = s.refusal();
     if bad != 0 {
-        return 1;
+        return settings::BAD_SETTING;
     }
     if BRICKS < s.n {
-        return 1;
+        return settings::BAD_SETTING;
     }
     if SIZE < s.size {
-        return 1;
+        return settings::BAD_SETTING;
     }
     if CAPACITY < s.capacity {
-        return 1;
+        return settings::BAD_SETTING;
     }
     0
 }
@@ -179,7 +179,7 @@ fn fresh_images(s: Settings, images: &mut [u8])
     let mut b = 0;
     while b < s.n {
         let at = b * IMAGE_ROOM;
-        let end = at + 512 * (s.capacity + 1);
+        let end = at + image_block::BLOCK_BYTES * (s.capacity + 1);
         image_write::write_fresh(s, b, &mut images[at..end]);
         b += 1;
     }

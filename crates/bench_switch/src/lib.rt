@@ -24,7 +24,7 @@ pub fn switch_at(b: Bench, brick: u64, flag: u8, out: &mut [u8]) -> After
     let s = b.settings;
     let place = brick as usize;
     if s.n <= place {
-        return bench_rules::refuse(b, 3, 0, out);
+        return bench_rules::refuse(b, settings::BAD_NUMBER, 0, out);
     }
     let bench = bench_state::with_up(b, place, flag);
     After { bench, used: 0 }

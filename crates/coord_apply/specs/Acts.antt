@@ -17,7 +17,7 @@ use Rattle.coord_decide.specs.declared.Decision.the-variants.{Abort, Give, Look
 use Rattle.erasure.specs.Code.{codedOf, decodedOf, blockOf}
 use Rattle.byte_lists.specs.Lists.{stacked}
 use Rattle.message.specs.Flags.{members}
-use Rattle.message.specs.Kinds.{orderReadKind, writeKind, trimKind}
+use Rattle.message.specs.Kinds.{orderReadKind, writeKind, trimKind, firstRound}
 use Rattle.message.specs.declared.Message.{Message}
 use Rattle.message.specs.declared.Reply.{Reply}
 use Rattle.settings.specs.Ranges.{quorum}
@@ -111,7 +111,7 @@ waitingOr n m size h =
 
 -- "its time is taken at the start"; the first round is round 1
 unfoldable pub firstOp : ℕ → ℕ → ℕ → ℕ → Op
-firstOp kind phase time first = record { kind = kind; phase = phase; time = time; round = 1; max = 0; first = first }
+firstOp kind phase time first = record { kind = kind; phase = phase; time = time; round = firstRound; max = 0; first = first }
 
 unfoldable pub starting : Buffered → Clock → Op → List ℕ → List ℕ → Went
 starting h clock op stripe targets =

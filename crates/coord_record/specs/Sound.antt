@@ -7,31 +7,31 @@ use Rattle.coord_record.specs.CountedRules.{tallyRight, bricksRight}
 use Rattle.coord_record.specs.declared.Coordinator.{Coordinator}
 use Rattle.coord_record.specs.declared.Op.{Op}
 use Rattle.message.specs.Flags.{members}
-use Rattle.message.specs.Kinds.{readKind, orderKind, orderReadKind, writeKind, lastRound}
+use Rattle.message.specs.Kinds.{readKind, orderKind, orderReadKind, writeKind, lastRound, firstRound, secondRound, thirdRound}
 use Rattle.settings.specs.Ranges.{quorum}
 use Rattle.settings.specs.declared.Clock.{Clock}
 use Rattle.settings.specs.Times.{maxCount, noUpperEnd, timeOf, validTime, lastCoordinator}
 
 -- "Order-and-read with max 2^44 .. With fewer, repeat with max = that time": the first recovery round is round 2
 unfoldable pub maxRight : ℕ → ℕ → Bool
-maxRight round max = cond (eqb round 2) (eqb max noUpperEnd) (validTime max)
+maxRight round max = cond (eqb round secondRound) (eqb max noUpperEnd) (validTime max)
 
 -- "decode and store by a Write round"
 unfoldable pub storedRight : Op → Bool
-storedRight op = eqb (op .phase) writeKind && leb 3 (op .round) && leb (op .round) lastRound && eqb (op .max) 0
+storedRight op = eqb (op .phase) writeKind && leb thirdRound (op .round) && leb (op .round) lastRound && eqb (op .max) 0
 
 -- a read: a Read round, then Order-and-read rounds, then a Write round
 unfoldable pub readRight : Op → Bool
 readRight op =
-    cond (eqb (op .phase) readKind) (eqb (op .round) 1 && eqb (op .max) 0)
-    (cond (eqb (op .phase) orderReadKind) (leb 2 (op .round) && leb (op .round) lastRound && maxRight (op .round) (op .max))
+    cond (eqb (op .phase) readKind) (eqb (op .round) firstRound && eqb (op .max) 0)
+    (cond (eqb (op .phase) orderReadKind) (leb secondRound (op .round) && leb (op .round) lastRound && maxRight (op .round) (op .max))
     (storedRight op))
 
 -- a write: "Order round, then a Write round"
 unfoldable pub writeRight : Op → Bool
 writeRight op =
     eqb (op .first) 0 && eqb (op .max) 0
-    && cond (eqb (op .phase) orderKind) (eqb (op .round) 1) (eqb (op .phase) writeKind && eqb (op .round) 2)
+    && cond (eqb (op .phase) orderKind) (eqb (op .round) firstRound) (eqb (op .phase) writeKind && eqb (op .round) secondRound)
 
 -- no operation: no phase, round, max or first
 unfoldable pub unsetOp : Op → Bool

@@ -265,7 +265,7 @@ fn bricks_right(n: usize, k: usize, bricks: [u8; MAX_BRICKS]) -> bool
 fn max_right(round: u64, max: u64) -> bool
     ensures { λ r. ⌜ r ≡ maxRight round max ⌝ }
 {
-    if round == 2 {
+    if round == message::SECOND_ROUND {
         return max == settings::NO_UPPER_END;
     }
     settings::is_time(max)
@@ -276,13 +276,13 @@ fn read_right(op: Op) -> bool
     ensures { λ r. ⌜ r ≡ readRight op ⌝ }
 {
     if op.phase == READ {
-        if op.round == 1 {
+        if op.round == message::FIRST_ROUND {
             return op.max == 0;
         }
         return false;
     }
     if op.phase == ORDER_READ {
-        if op.round < 2 {
+        if op.round < message::SECOND_ROUND {
             return false;
         }
         if message::LAST_ROUND < op.round {
@@ -300,7 +300,7 @@ fn stored_right(op: Op) -> bool
     if op.phase != WRITE {
         return false;
     }
-    if op.round < 3 {
+    if op.round < message::THIRD_ROUND {
         return false;
     }
     if message::LAST_ROUND < op.round {
@@ -320,12 +320,12 @@ fn write_right(op: Op) -> bool
         return false;
     }
     if op.phase == ORDER {
-        return op.round == 1;
+        return op.round == message::FIRST_ROUND;
     }
     if op.phase != WRITE {
         return false;
     }
-    op.round == 2
+    op.round == message::SECOND_ROUND
 }
 
 // Whether no field is set.

@@ -71,7 +71,7 @@ fn first_op(kind: u8, phase: u8, time: u64, first: usize) -> Op
         kind,
         phase,
         time,
-        round: 1,
+        round: message::FIRST_ROUND,
         max: 0,
         first,
     }

@@ -259,7 +259,7 @@ pub fn open(s: Settings, brick: usize, image: &[u8]) -> Opening
     if bad != PASSED {
         return refused(bad);
     }
-    let t = &image[0..512];
+    let t = &image[0..BLOCK_BYTES];
     if check_holds(t) {} else {
         return refused(BAD_CHECK);
     }

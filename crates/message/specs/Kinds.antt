@@ -16,9 +16,15 @@ writeKind = 4
 abbrev pub trimKind : ℕ
 trimKind = 5
 
--- the round that a start opens
+-- "Rounds count from 1": the round that a start opens; a write stores in the second, a read recovers from the second on and stores from the third on
 abbrev pub firstRound : ℕ
 firstRound = 1
+
+abbrev pub secondRound : ℕ
+secondRound = 2
+
+abbrev pub thirdRound : ℕ
+thirdRound = 3
 
 -- "if a round 1,001 would be sent"
 abbrev pub lastRound : ℕ

@@ -6,14 +6,14 @@ use mathlib.Core.List.{[], _∷_}
 use Prim.Native.Nat.{ℕ}
 use lib.Dec.{eqb, leb, ltb}
 use Rattle.message.specs.Flags.{brickSet}
-use Rattle.message.specs.Kinds.{readKind, orderReadKind, writeKind, trimKind, lastRound}
+use Rattle.message.specs.Kinds.{readKind, orderReadKind, writeKind, trimKind, lastRound, firstRound}
 use Rattle.message.specs.declared.Message.{Message}
 use Rattle.message.specs.declared.Reply.{Reply}
 use Rattle.settings.specs.Refusal.{refuseUnless, firstRefusal, badNumber, badMessage}
 use Rattle.settings.specs.Times.{validTime, noUpperEnd}
 
 unfoldable pub roundRight : ℕ → Bool
-roundRight round = leb 1 round && leb round lastRound
+roundRight round = leb firstRound round && leb round lastRound
 
 -- the rules that a kind adds: Order-and-read has a max, Read has m different targets
 unfoldable pub kindRight : ℕ → ℕ → Message → Bool

@@ -19,6 +19,13 @@ pub const WRITE: u8 = 4;
 
 pub const TRIM: u8 = 5;
 
+// The round that a start opens; a write stores in the second, a read recovers from the second on and stores from the third on.
+pub const FIRST_ROUND: u64 = 1;
+
+pub const SECOND_ROUND: u64 = 2;
+
+pub const THIRD_ROUND: u64 = 3;
+
 pub const LAST_ROUND: u64 = 1000;
 
 // max: Order-and-read only. targets: Read only, a flag a brick.
@@ -85,7 +92,7 @@ pub fn flags_within(flags: [u8; settings::MAX_BRICKS], n: usize) -> bool
 pub fn round_right(round: u64) -> bool
     ensures { λ r. ⌜ r ≡ roundRight round ⌝ }
 {
-    1 <= round && round <= LAST_ROUND
+    FIRST_ROUND <= round && round <= LAST_ROUND
 }
 
 // Whether the flags are those of m bricks below n.

@@ -54,7 +54,30 @@ const HELD: usize = 34;
 
 const BRICKS: usize = 50;
 
-// Where an answer's rows stand among its bytes, and the kind of its second message.
+// Where an answer's numbers stand: how many broadcasts are sent, the message, what is seen, the second message.
+const SENT: usize = 0;
+
+const MESSAGE_TIME: usize = 1;
+
+const MESSAGE_ROUND: usize = 2;
+
+const MESSAGE_MAX: usize = 3;
+
+const SEEN_TIME: usize = 4;
+
+const SECOND_MESSAGE_TIME: usize = 5;
+
+const SECOND_MESSAGE_ROUND: usize = 6;
+
+const SECOND_MESSAGE_MAX: usize = 7;
+
+// Where its bytes stand, then its rows, and the kind of its second message.
+const MESSAGE_KIND: usize = 0;
+
+const SEEN_WHAT: usize = 1;
+
+const SEEN_KIND: usize = 2;
+
 const TARGETS: usize = 3;
 
 const SEEN_BRICKS: usize = 19;
@@ -243,14 +266,14 @@ fn put_sent(a: Answer, out: &mut [u64])
     let message = a.message;
     let second = a.second;
     let seen = a.seen;
-    out[0] = a.sent as u64;
-    out[1] = message.time;
-    out[2] = message.round;
-    out[3] = message.max;
-    out[4] = seen.time;
-    out[5] = second.time;
-    out[6] = second.round;
-    out[7] = second.max;
+    out[SENT] = a.sent as u64;
+    out[MESSAGE_TIME] = message.time;
+    out[MESSAGE_ROUND] = message.round;
+    out[MESSAGE_MAX] = message.max;
+    out[SEEN_TIME] = seen.time;
+    out[SECOND_MESSAGE_TIME] = second.time;
+    out[SECOND_MESSAGE_ROUND] = second.round;
+    out[SECOND_MESSAGE_MAX] = second.max;
 }
 
 // The bytes of an answer.
@@ -261,9 +284,9 @@ fn put_shown(a: Answer, out: &mut [u8])
     let message = a.message;
     let second = a.second;
     let seen = a.seen;
-    out[0] = message.kind;
-    out[1] = seen.what;
-    out[2] = seen.kind;
+    out[MESSAGE_KIND] = message.kind;
+    out[SEEN_WHAT] = seen.what;
+    out[SEEN_KIND] = seen.kind;
     out[SECOND_KIND] = second.kind;
     let targets = message.targets;
     let bricks = seen.bricks;

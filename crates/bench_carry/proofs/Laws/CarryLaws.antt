@@ -26,6 +26,7 @@ use Rattle.bench_state.specs.declared.Bench.{Bench}
 use Rattle.register.specs.Runs.{Item, World}
 use Rattle.bench_carry.specs.Workers.{Carrying}
 use Rattle.bench_limits.specs.Limits.{lineRoom, textLength}
+use Rattle.settings.specs.Refusal.{badLine}
 
 -- the item at a place is the one in its row
 carries-append : (s : Settings) (w : World) (k : ℕ) (l : List Item) (i : Item) (j : ℕ) → j < length l → carriesAt s w k (l ++ i ∷ []) j ≡ carriesAt s w k l j
@@ -41,7 +42,7 @@ carries-last s w k [] i (suc j) h = absurd (omega arith)
 carries-last s w k (x ∷ l) i zero h = absurd (omega arith)
 carries-last s w k (x ∷ l) i (suc j) h = carries-last s w k l i j (omega arith)
 
-carries-none : (s : Settings) (w : World) (k : ℕ) (l : List Item) (j : ℕ) → length l ≤ j → carriesAt s w k l j ≡ refuses w 12
+carries-none : (s : Settings) (w : World) (k : ℕ) (l : List Item) (j : ℕ) → length l ≤ j → carriesAt s w k l j ≡ refuses w badLine
 unfolding carriesAt
 carries-none s w k [] j h = refl
 carries-none s w k (x ∷ l) zero h = absurd (omega arith)
@@ -64,13 +65,13 @@ carries-item s w place size numbers bytes (suc k) j h = go (decLt j k) (carries-
 
 module _ (b : Bench) (l : Lent) (at : ℕ) (out : List ℕ) (r : After) (l′ : Lent) (out′ : List ℕ) where
   -- number 0, and one that is not sent yet
-  pub carried-zero : (number : ℕ) → number ≡ 0 → Turned b l at out (refuses (worldIn b l) 12) r l′ out′
+  pub carried-zero : (number : ℕ) → number ≡ 0 → Turned b l at out (refuses (worldIn b l) badLine) r l′ out′
       → Turned b l at out (carried (b .settings) (worldIn b l) number) r l′ out′
   unfolding carried
   carried-zero zero e t = t
   carried-zero (suc k) e t = absurd (omega arith)
 
-  pub carried-past : (number : ℕ) → b .sent < number → Turned b l at out (refuses (worldIn b l) 12) r l′ out′
+  pub carried-past : (number : ℕ) → b .sent < number → Turned b l at out (refuses (worldIn b l) badLine) r l′ out′
       → Turned b l at out (carried (b .settings) (worldIn b l) number) r l′ out′
   unfolding carried worldIn worldOf
   carried-past zero e t = absurd (omega arith)

@@ -35,10 +35,12 @@ use Rattle.bench_rules.specs.declared.After.{After}
 use Rattle.bench_carry_message.proofs.Laws.ReplyKeptLaws.{refusal-keeps, room}
 use Rattle.bench_carry_message.specs.Workers.{Lends, Reaching, Settled, maySend, sentAfterMessage, toldOf}
 use Rattle.bench_limits.specs.Limits.{lastMessage, upFlag, imageRoom, rowBytes, blockPlace}
+use Rattle.image_block.specs.Block.{blockBytes}
+use Rattle.settings.specs.Refusal.{badNumber, badLine}
 
 -- the ways of `carries` for a message
 module _ (s : Settings) (w : World) (k brick : ℕ) (msg : Message) (block : List ℕ) where
-  no-brick : s .n ≤ brick → carries s w k (message brick msg block) ≡ refuses w 3
+  no-brick : s .n ≤ brick → carries s w k (message brick msg block) ≡ refuses w badNumber
   unfolding carries
   no-brick h = rw (le-ltb brick (s .n) h) refl
 
@@ -46,7 +48,7 @@ module _ (s : Settings) (w : World) (k brick : ℕ) (msg : Message) (block : Lis
   unfolding carries
   down h u = rw (lt-ltb brick (s .n) h, u) refl
 
-  many : brick < s .n → w .up brick ≡ true → maySend (msg .kind) (length (w .sent)) ≡ false → carries s w k (message brick msg block) ≡ refuses w 12
+  many : brick < s .n → w .up brick ≡ true → maySend (msg .kind) (length (w .sent)) ≡ false → carries s w k (message brick msg block) ≡ refuses w badLine
   unfolding carries reaches maySend
   many h u m = rw (lt-ltb brick (s .n) h, u, m) refl
 
@@ -212,7 +214,7 @@ module _ (b : Bench) (k brick : ℕ) (msg : Message) (images numbers bytes : Lis
 
   -- the parts as the code cuts them
   abbrev pub codeImage : List ℕ
-  codeImage = take (brick * imageRoom + 512 * (s .capacity + 1) - brick * imageRoom) (drop (brick * imageRoom) images)
+  codeImage = take (brick * imageRoom + blockBytes * (s .capacity + 1) - brick * imageRoom) (drop (brick * imageRoom) images)
 
   abbrev pub codeBlock : List ℕ
   codeBlock = take (k * rowBytes + blockPlace + s .size - (k * rowBytes + blockPlace)) (drop (k * rowBytes + blockPlace) bytes)
@@ -224,7 +226,7 @@ module _ (b : Bench) (k brick : ℕ) (msg : Message) (images numbers bytes : Lis
       ∙ ap (λ (x : List ℕ). outcome s brick image msg x zeros) (block-cut (s .size) k (k * rowBytes + blockPlace) (k * rowBytes + blockPlace + s .size) bytes refl refl)
       ∙ ap (outcome s brick image msg (sentBlockAt (s .size) bytes k)) ez
     where
-      cut : brick * imageRoom + 512 * (s .capacity + 1) - brick * imageRoom ≡ 512 * (s .capacity + 1)
+      cut : brick * imageRoom + blockBytes * (s .capacity + 1) - brick * imageRoom ≡ blockBytes * (s .capacity + 1)
       cut = omega arith
 
   -- what the brick gave and left, settled
@@ -232,21 +234,21 @@ module _ (b : Bench) (k brick : ℕ) (msg : Message) (images numbers bytes : Lis
       → outcomeWith g new block ≡ outcome s brick codeImage msg codeBlock zeros → length new ≡ length codeImage
       → Settled b g block numbers bytes at out r numbers′ bytes′ out′
       → (kept : List ℕ) → Turned b (lent images kept numbers bytes) at out (carries s (worldIn b (lent images kept numbers bytes)) k (itemAt (s .size) numbers bytes k)) r
-      (lent (putMid (brick * imageRoom) (brick * imageRoom + 512 * (s .capacity + 1) - brick * imageRoom) images new) kept numbers′ bytes′) out′
+      (lent (putMid (brick * imageRoom) (brick * imageRoom + blockBytes * (s .capacity + 1) - brick * imageRoom) images new) kept numbers′ bytes′) out′
   unfolding imageSize
   deliver-settled new block zeros numbers′ bytes′ at out out′ r g ez eg long d kept =
       let e : outcomeWith g new block ≡ o = eg ∙ code-outcome zeros ez in
       subst (λ (i : List ℕ). Turned b (lent images kept numbers bytes) at out (carries s w′ k (itemAt (s .size) numbers bytes k)) r (lent i kept numbers′ bytes′) out′)
-      (sym (put-mid (brick * imageRoom) (brick * imageRoom + 512 * (s .capacity + 1)) images new (omega arith) (size ∙ sym cut)))
+      (sym (put-mid (brick * imageRoom) (brick * imageRoom + blockBytes * (s .capacity + 1)) images new (omega arith) (size ∙ sym cut)))
       (delivered-by kept new block numbers′ bytes′ at out out′ r (outcome-image g new block o e) (outcome-out g new block o e) size g (outcome-given g new block o e) d)
     where
       w′ : World
       w′ = worldIn b (lent images kept numbers bytes)
 
-      cut : brick * imageRoom + 512 * (s .capacity + 1) - brick * imageRoom ≡ 512 * (s .capacity + 1)
+      cut : brick * imageRoom + blockBytes * (s .capacity + 1) - brick * imageRoom ≡ blockBytes * (s .capacity + 1)
       cut = omega arith
 
-      size : length new ≡ 512 * (s .capacity + 1)
+      size : length new ≡ blockBytes * (s .capacity + 1)
       size = long ∙ ap (λ (j : ℕ). length (take j (drop (brick * imageRoom) images))) cut ∙ image-long
 
   -- the limit holds after it
@@ -270,17 +272,17 @@ module _ (b : Bench) (k brick : ℕ) (images numbers bytes : List ℕ) (m : isRe
         → Turned b (lent images kept numbers bytes) at out p r (lent images kept numbers bytes) out′ → Carried
     by-way p e t = subst (λ (x : Played). Turned b (lent images kept numbers bytes) at out x r (lent images kept numbers bytes) out′) (sym e) t
 
-    pub carried-nowhere : b .settings .n ≤ brick → ((l : Lent) → Turned b l at out (refuses (worldIn b l) 3) r l out′) → Carried
+    pub carried-nowhere : b .settings .n ≤ brick → ((l : Lent) → Turned b l at out (refuses (worldIn b l) badNumber) r l out′) → Carried
     carried-nowhere h t =
-        by-way (refuses (worldIn b (lent images kept numbers bytes)) 3)
+        by-way (refuses (worldIn b (lent images kept numbers bytes)) badNumber)
         (ap (carries (b .settings) (worldIn b (lent images kept numbers bytes)) k) (item-here (messageAt numbers bytes k) refl)
         ∙ no-brick (b .settings) (worldIn b (lent images kept numbers bytes)) k brick (messageAt numbers bytes k) (sentBlockAt (b .settings .size) bytes k) h)
         (t (lent images kept numbers bytes))
 
     pub carried-past : (msg : Message) → msg ≡ messageAt numbers bytes k → brick < b .settings .n → upOf (b .up) brick ≡ true → maySend (msg .kind) (b .sent) ≡ false
-        → ((l : Lent) → Turned b l at out (refuses (worldIn b l) 12) r l out′) → Carried
+        → ((l : Lent) → Turned b l at out (refuses (worldIn b l) badLine) r l out′) → Carried
     carried-past msg em h u c t =
-        by-way (refuses (worldIn b (lent images kept numbers bytes)) 12)
+        by-way (refuses (worldIn b (lent images kept numbers bytes)) badLine)
         (ap (carries (b .settings) (worldIn b (lent images kept numbers bytes)) k) (item-here msg em)
         ∙ many (b .settings) (worldIn b (lent images kept numbers bytes)) k brick msg (sentBlockAt (b .settings .size) bytes k) h
         (world-up b images kept numbers bytes brick true u) (ap (maySend (msg .kind)) (sent-length b images kept numbers bytes) ∙ c))

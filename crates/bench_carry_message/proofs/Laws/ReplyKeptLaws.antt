@@ -77,11 +77,11 @@ module _ (s : Settings) (brick : ℕ) (l : List ℕ) (msg : Message) (block out 
 -- the two ways of the limit
 pub may-trim : (kind sent : ℕ) → kind ≡ trimKind → true ≡ maySend kind sent
 unfolding maySend
-may-trim kind sent e = sym (rw (eq-eqb kind 5 e) refl)
+may-trim kind sent e = sym (rw (eq-eqb kind trimKind e) refl)
 
 pub may-other : (kind sent : ℕ) → (kind ≡ trimKind → ⊥) → ltb sent lastMessage ≡ maySend kind sent
 unfolding maySend
-may-other kind sent e = sym (rw (ne-eqb kind 5 e) refl)
+may-other kind sent e = sym (rw (ne-eqb kind trimKind e) refl)
 
 -- what the limit means for each answer
 pub room-answered : (k : ℕ) (g : Given) (r : Reply) → g ≡ Answered r → sentAfterMessage k g ≤ lastMessage → k < lastMessage

@@ -2,7 +2,7 @@
 use mathlib.Core.Path.{_≡_, refl, sym, ap, subst, _∙_}
 use mathlib.Core.Bool.{Bool, true, false, cond, not, _&&_}
 use mathlib.Core.List.{List}
-use Prim.Native.Nat.{ℕ, _+_, _*_, _%_, _≤_, _<_}
+use Prim.Native.Nat.{ℕ, _+_, _*_, _≤_, _<_}
 use native.Mathlib.Omega.{arith}
 use lib.Dec.{eqb}
 use lib.ListN.{length, getD, take, drop}
@@ -39,16 +39,18 @@ use Rattle.bench_commit.proofs.Laws.CommitStepLaws.{write-numbered, wri
 use Rattle.bench_commit.proofs.Laws.CommitStepLaws.{crash-stripe, crash-coded, take-numbered}
 use Rattle.bench_commit.specs.Workers.{BenchActed, Plays}
 use Rattle.bench_limits.specs.Limits.{benchCoordinators, stripeRoom, keptRoom}
+use Rattle.settings.specs.Times.{coordinatorOf}
+use Rattle.settings.specs.Refusal.{badLine, badNumber}
 
 -- a start that is refused stays so, and one that is not is refused for its digits
 short-refuses : (s : Settings) (w : World) (e : Event) (c : ℕ) (st : Coordinator) (q : Step) (a : Answer) (ok : Bool) → a ≡ answerOf st q → Numbered q
-    → eqb (a .refusal) 0 && not ok ≡ true → acts s w e c (unlessShort ok q) ≡ refuses w 12
+    → eqb (a .refusal) 0 && not ok ≡ true → acts s w e c (unlessShort ok q) ≡ refuses w badLine
 unfolding acts unlessShort answerOf
 short-refuses s w e c st (refused k) a ok ea n h =
     absurd (n (eqb-true k 0 (sym (ap (λ (x : Answer). eqb (x .refusal) 0) ea) ∙ and-left (eqb (a .refusal) 0) (not ok) h)))
 short-refuses s w e c st (went g) a ok ea n h = go ok (and-right (eqb (a .refusal) 0) (not ok) h)
   where
-    go : (t : Bool) → not t ≡ true → acts s w e c (cond t (went g) (refused 12)) ≡ refuses w 12
+    go : (t : Bool) → not t ≡ true → acts s w e c (cond t (went g) (refused badLine)) ≡ refuses w badLine
     go true z = let y : _≡_ {A = ℕ} 0 1 = cc in absurd (omega arith)
     go false z = refl
 
@@ -57,7 +59,7 @@ unfolding unlessShort answerOf
 short-same st (refused k) a ok ea h = refl
 short-same st (went g) a ok ea h = go ok (sym (ap (λ (x : Answer). eqb (x .refusal) 0 && not ok) ea) ∙ h)
   where
-    go : (t : Bool) → true && not t ≡ false → cond t (went g) (refused 12) ≡ went g
+    go : (t : Bool) → true && not t ≡ false → cond t (went g) (refused badLine) ≡ went g
     go true z = refl
     go false z = let y : _≡_ {A = ℕ} 0 1 = cc in absurd (omega arith)
 
@@ -165,7 +167,7 @@ module _ (b : Bench) (c : ℕ) (kept numbers bytes : List ℕ) (at : ℕ) (out :
     -- a write with a wrong count of digits, after the numbers of its start
     pub short-write : (clock : ℕ) (digits cont : List ℕ) (a : Answer) (ok : Bool) (stripe″ : List ℕ) → cont ≡ content (b .settings) digits → ok ≡ counted (b .settings) digits
         → ((x z : List ℕ) → returned a x stripe″ z ≡ writeCall (b .settings .n) (b .settings .m) (b .settings .size) old x stripe z clock cont)
-        → eqb (a .refusal) 0 && not ok ≡ true → ((l : Lent) → Turned b l at out (refuses (worldIn b l) 12) r l out′)
+        → eqb (a .refusal) 0 && not ok ≡ true → ((l : Lent) → Turned b l at out (refuses (worldIn b l) badLine) r l out′)
         → BenchActed b c (startWrite c clock (content (b .settings) digits))
         (λ (h : Buffered). unlessShort (counted (b .settings) digits) (writeStep (b .settings .n) (b .settings .m) (b .settings .size) h clock (content (b .settings) digits)))
         kept numbers bytes at out r kept numbers bytes out′
@@ -223,7 +225,7 @@ module _ (b : Bench) (c : ℕ) (kept numbers bytes : List ℕ) (at : ℕ) (out :
 
     -- a reply in row k
     pub acted-reply : (k : ℕ) (reply′ : Reply) (block : List ℕ) (a : Answer) (coded blocks′ stripe′ coded′ : List ℕ) → k < b .sent
-        → itemAt (b .settings .size) numbers bytes k ≡ reply reply′ block → c ≡ reply′ .time % 16 → length coded ≡ b .settings .n * b .settings .size
+        → itemAt (b .settings .size) numbers bytes k ≡ reply reply′ block → c ≡ coordinatorOf (reply′ .time) → length coded ≡ b .settings .n * b .settings .size
         → returned a blocks′ stripe′ coded′ ≡ takeCall (b .settings .n) (b .settings .m) (b .settings .size) old blocks stripe coded reply′ block
         → Answers b c a blocks′ stripe′ coded′ kept numbers bytes at out r kept′ numbers′ bytes′ out′
         → BenchActed b c (arrives k) (λ (h : Buffered). takeStep (b .settings .n) (b .settings .m) (b .settings .size) h reply′ block (b .settings .n * b .settings .size)) kept numbers bytes at
@@ -252,7 +254,7 @@ module _ (b : Bench) (c : ℕ) (kept numbers bytes : List ℕ) (at : ℕ) (out :
     -- the same, by what the code read from the row
     pub acted-row : (k : ℕ) (reply′ : Reply) (cut : List ℕ) (a : Answer) (coded blocks′ stripe′ coded′ : List ℕ) → k < b .sent
         → isReply numbers k ≡ true → reply′ ≡ replyAt numbers k → cut ≡ sentBlockAt (b .settings .size) bytes k
-        → c ≡ reply′ .time % 16 → length coded ≡ b .settings .n * b .settings .size
+        → c ≡ coordinatorOf (reply′ .time) → length coded ≡ b .settings .n * b .settings .size
         → returned a blocks′ stripe′ coded′ ≡ takeCall (b .settings .n) (b .settings .m) (b .settings .size) old blocks stripe coded reply′ cut
         → Answers b c a blocks′ stripe′ coded′ kept numbers bytes at out r kept′ numbers′ bytes′ out′
         → BenchActed b c (arrives k)
@@ -266,7 +268,7 @@ module _ (b : Bench) (c : ℕ) (kept numbers bytes : List ℕ) (at : ℕ) (out :
 
 module _ (b : Bench) (c : ℕ) (kept numbers bytes : List ℕ) (at : ℕ) (out : List ℕ) (r : After) where
   -- a coordinator past the bench's
-  past-at : (q : World → Played) (out′ : List ℕ) → benchCoordinators ≤ c → ((l : Lent) → Turned b l at out (refuses (worldIn b l) 3) r l out′)
+  past-at : (q : World → Played) (out′ : List ℕ) → benchCoordinators ≤ c → ((l : Lent) → Turned b l at out (refuses (worldIn b l) badNumber) r l out′)
       → Plays b (λ (w : World). atCoordinator w c (q w)) kept numbers bytes at out r kept numbers bytes out′
   unfolding atCoordinator
   past-at q out′ h t = record { turned = λ images. rw (le-ltb c benchCoordinators h) (t (lent images kept numbers bytes)) }
@@ -276,7 +278,7 @@ module _ (b : Bench) (c : ℕ) (kept numbers bytes : List ℕ) (at : ℕ) (out :
   unfolding atCoordinator
   here-at e p kept′ numbers′ bytes′ out′ h a = record { turned = λ images. rw (lt-ltb c benchCoordinators h) (a .turned images) }
 
-  pub read-past : (clock brick : ℕ) (out′ : List ℕ) → benchCoordinators ≤ c → ((l : Lent) → Turned b l at out (refuses (worldIn b l) 3) r l out′)
+  pub read-past : (clock brick : ℕ) (out′ : List ℕ) → benchCoordinators ≤ c → ((l : Lent) → Turned b l at out (refuses (worldIn b l) badNumber) r l out′)
       → Plays b (λ (w : World). starts (b .settings) w c clock brick) kept numbers bytes at out r kept numbers bytes out′
   unfolding starts
   read-past clock brick out′ h t = past-at _ out′ h t
@@ -287,7 +289,7 @@ module _ (b : Bench) (c : ℕ) (kept numbers bytes : List ℕ) (at : ℕ) (out :
   unfolding starts
   read-here clock brick kept′ numbers′ bytes′ out′ h a = here-at _ _ kept′ numbers′ bytes′ out′ h a
 
-  pub crash-past : (out′ : List ℕ) → benchCoordinators ≤ c → ((l : Lent) → Turned b l at out (refuses (worldIn b l) 3) r l out′)
+  pub crash-past : (out′ : List ℕ) → benchCoordinators ≤ c → ((l : Lent) → Turned b l at out (refuses (worldIn b l) badNumber) r l out′)
       → Plays b (λ (w : World). crashesAt (b .settings) w c) kept numbers bytes at out r kept numbers bytes out′
   unfolding crashesAt
   crash-past out′ h t = past-at _ out′ h t
@@ -298,7 +300,7 @@ module _ (b : Bench) (c : ℕ) (kept numbers bytes : List ℕ) (at : ℕ) (out :
   unfolding crashesAt
   crash-here kept′ numbers′ bytes′ out′ h a = here-at _ (λ (x : Buffered). crashStep (b .settings .n) (b .settings .m) (b .settings .size) x) kept′ numbers′ bytes′ out′ h a
 
-  pub write-past : (clock : ℕ) (digits out′ : List ℕ) → benchCoordinators ≤ c → ((l : Lent) → Turned b l at out (refuses (worldIn b l) 3) r l out′)
+  pub write-past : (clock : ℕ) (digits out′ : List ℕ) → benchCoordinators ≤ c → ((l : Lent) → Turned b l at out (refuses (worldIn b l) badNumber) r l out′)
       → Plays b (λ (w : World). writes (b .settings) w c clock digits) kept numbers bytes at out r kept numbers bytes out′
   unfolding writes
   write-past clock digits out′ h t = past-at _ out′ h t
@@ -319,21 +321,21 @@ module _ (b : Bench) (k : ℕ) (kept numbers bytes : List ℕ) (at : ℕ) (out :
   item-here : itemAt (b .settings .size) numbers bytes k ≡ reply reply′ (sentBlockAt (b .settings .size) bytes k)
   item-here = item-reply (b .settings .size) k reply′ (sentBlockAt (b .settings .size) bytes k) numbers bytes t er refl
 
-  pub reply-past : (out′ : List ℕ) → benchCoordinators ≤ reply′ .time % 16 → ((l : Lent) → Turned b l at out (refuses (worldIn b l) 3) r l out′)
+  pub reply-past : (out′ : List ℕ) → benchCoordinators ≤ coordinatorOf (reply′ .time) → ((l : Lent) → Turned b l at out (refuses (worldIn b l) badNumber) r l out′)
       → Plays b (λ (w : World). carries (b .settings) w k (itemAt (b .settings .size) numbers bytes k)) kept numbers bytes at out r kept numbers bytes out′
   unfolding carries
   reply-past out′ h z =
       subst (λ (i : Item). Plays b (λ (w : World). carries (b .settings) w k i) kept numbers bytes at out r kept numbers bytes out′) (sym item-here)
-      (past-at b (reply′ .time % 16) kept numbers bytes at out r _ out′ h z)
+      (past-at b (coordinatorOf (reply′ .time)) kept numbers bytes at out r _ out′ h z)
 
-  pub reply-here : (kept′ numbers′ bytes′ out′ : List ℕ) → reply′ .time % 16 < benchCoordinators
-      → BenchActed b (reply′ .time % 16) (arrives k)
+  pub reply-here : (kept′ numbers′ bytes′ out′ : List ℕ) → coordinatorOf (reply′ .time) < benchCoordinators
+      → BenchActed b (coordinatorOf (reply′ .time)) (arrives k)
       (λ (h : Buffered). takeStep (b .settings .n) (b .settings .m) (b .settings .size) h reply′ (sentBlockAt (b .settings .size) bytes k) (b .settings .n * b .settings .size))
       kept numbers bytes at out r kept′ numbers′ bytes′ out′
       → Plays b (λ (w : World). carries (b .settings) w k (itemAt (b .settings .size) numbers bytes k)) kept numbers bytes at out r kept′ numbers′ bytes′ out′
   unfolding carries
   reply-here kept′ numbers′ bytes′ out′ h a =
       subst (λ (i : Item). Plays b (λ (w : World). carries (b .settings) w k i) kept numbers bytes at out r kept′ numbers′ bytes′ out′) (sym item-here)
-      (here-at b (reply′ .time % 16) kept numbers bytes at out r (arrives k)
+      (here-at b (coordinatorOf (reply′ .time)) kept numbers bytes at out r (arrives k)
       (λ (x : Buffered). takeStep (b .settings .n) (b .settings .m) (b .settings .size) x reply′ (sentBlockAt (b .settings .size) bytes k) (b .settings .n * b .settings .size)) kept′ numbers′
       bytes′ out′ h a)

@@ -32,6 +32,7 @@ use Rattle.bench_rules.specs.declared.After.{After}
 use Rattle.bench_commit.specs.Workers.{answered, sentAfterAnswer}
 use Rattle.bench_commit.specs.Workers.{Round, Seats, Copies, Answers}
 use Rattle.bench_limits.specs.Limits.{benchCoordinators, lastMessage, stripeRoom, keptLength, lineRoom}
+use Rattle.settings.specs.Refusal.{badLine}
 
 -- a refusal has a number
 abbrev pub Numbered : Step → Type 0
@@ -44,7 +45,7 @@ pub answered-is-acts : (s : Settings) (w : World) (e : Event) (c : ℕ) (p : Ste
 unfolding answered acts happens answerOf stripeAfter
 answered-is-acts s w e c (refused number) old h n q = rw (ne-eqb number 0 n) refl
 answered-is-acts s w e c (went g) old h n q =
-    ap (λ (m : Moved s). cond (leb (length (m .world .sent)) lastMessage) (record { world = m .world; events = e ∷ []; printed = endedText c (g .seen) (g .next .stripe) }) (refuses w 12))
+    ap (λ (m : Moved s). cond (leb (length (m .world .sent)) lastMessage) (record { world = m .world; events = e ∷ []; printed = endedText c (g .seen) (g .next .stripe) }) (refuses w badLine))
     (sym (coordinated-is-driven s w c (went g) old h) ∙ sym q)
 
 -- no broadcast, one, or two
@@ -137,7 +138,7 @@ module _ (b : Bench) (l : Lent) (e : Event) (c : ℕ) (a : Answer) (blocks strip
 
   -- too many messages
   pub answered-past : (at sent : ℕ) (out out′ : List ℕ) (r : After) → a .sent ≤ mostBroadcasts → a .refusal ≡ 0 → sent ≡ sentAfterAnswer (b .settings .n) (b .sent) (a .sent) → lastMessage < sent
-      → Turned b l at out (refuses (worldIn b l) 12) r l out′ → Turned b l at out (answered (b .settings) (worldIn b l) e c a blocks stripe coded) r l out′
+      → Turned b l at out (refuses (worldIn b l) badLine) r l out′ → Turned b l at out (answered (b .settings) (worldIn b l) e c a blocks stripe coded) r l out′
   unfolding answered
   answered-past at sent out out′ r most z q h t =
       rw (eq-eqb (a .refusal) 0 z, lt-leb (length (made .sent)) lastMessage (let m = made-sent most in omega arith)) t
@@ -177,7 +178,7 @@ module _ (b : Bench) (c : ℕ) (a : Answer) (blocks stripe coded kept numbers by
       record { turned = λ images e. answered-refused b (lent images kept numbers bytes) e c a blocks stripe coded at out out′ r n (t (lent images kept numbers bytes)) }
 
   pub answers-past : (sent : ℕ) (out′ : List ℕ) (r : After) → a .sent ≤ mostBroadcasts → a .refusal ≡ 0 → sent ≡ sentAfterAnswer (b .settings .n) (b .sent) (a .sent) → lastMessage < sent
-      → ((l : Lent) → Turned b l at out (refuses (worldIn b l) 12) r l out′) → Answers b c a blocks stripe coded kept numbers bytes at out r kept numbers bytes out′
+      → ((l : Lent) → Turned b l at out (refuses (worldIn b l) badLine) r l out′) → Answers b c a blocks stripe coded kept numbers bytes at out r kept numbers bytes out′
   answers-past sent out′ r most z q h t =
       record { turned = λ images e. answered-past b (lent images kept numbers bytes) e c a blocks stripe coded at sent out out′ r most z q h (t (lent images kept numbers bytes)) }
 

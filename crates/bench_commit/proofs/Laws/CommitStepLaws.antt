@@ -13,7 +13,7 @@ use Rattle.settings.specs.declared.Draw.the-variants.{Drawn, Refused}
 use Rattle.message.specs.declared.Reply.{Reply}
 use Rattle.coord_apply.specs.Acts.{ending, starting, roundMessage, firstOp}
 use Rattle.coord_apply.specs.Answers.{Buffered, Went, Step, refused, went, afterChecks, nothingSeen, cutSeen, blocksAfter, stripeAfter, codedAfter, sentBlocks}
-use Rattle.coord_record.specs.Records.{noBricks}
+use Rattle.coord_record.specs.Records.{idleKind, noBricks}
 use Rattle.coordinator.specs.Routines.{takeStep, crashed, crashStep, drawnThen, writeStep, readStep}
 use Rattle.bench_commit.proofs.Laws.CommitLaws.{Numbered}
 
@@ -101,7 +101,7 @@ module _ (n m size : ℕ) (h : Buffered) where
 
   crash-so : (P : Went → Type 0) → P (record { next = h; sent = []; seen = nothingSeen }) → P (ending h (h .stripe) [] cutSeen noBricks) → Went-so P (crashStep n m size h)
   unfolding crashStep crashed
-  crash-so P a b = so-checked P _ (went (crashed h)) (go (eqb (h .state .op .kind) 0))
+  crash-so P a b = so-checked P _ (went (crashed h)) (go (eqb (h .state .op .kind) idleKind))
     where
       go : (t : Bool) → P (cond t (record { next = h; sent = []; seen = nothingSeen }) (ending h (h .stripe) [] cutSeen noBricks))
       go true = a

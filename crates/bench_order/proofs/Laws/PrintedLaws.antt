@@ -9,7 +9,7 @@ use lib.Dec.{eqb, ltb}
 use borrow.Author.Tests.{eqb-true, eqb-false, eq-eqb, ne-eqb, le-ltb, lt-leb}
 use Rattle.byte_lists.proofs.Laws.BoolLaws.{and-left}
 use Rattle.settings.specs.declared.Settings.{Settings}
-use Rattle.coord_record.specs.Records.{readingKind, noBricks}
+use Rattle.coord_record.specs.Records.{readingKind, noBricks, idleKind, writingKind}
 use Rattle.coord_record.specs.Sound.{unsetOp, readRight, writeRight, opRight}
 use Rattle.coord_record.proofs.Laws.SoundPartLaws.{sound-parts}
 use Rattle.coord_record.specs.declared.Coordinator.{Coordinator}
@@ -20,7 +20,7 @@ use Rattle.coord_decide.proofs.Laws.SaysLaws.{decided-says}
 use Rattle.coord_decide.specs.declared.Decision.{Decision}
 use Rattle.coord_decide.specs.declared.Decision.the-variants.{Abort, Give, Look, Store, Recover, Finish}
 use Rattle.coord_apply.specs.Acts.{acted, ending, nextRound, finishedSeen, waitingOr, counting, withTally}
-use Rattle.coord_apply.specs.Answers.{Buffered, Went, went, nothingSeen, beganSeen, okSeen, readSeen, cutSeen}
+use Rattle.coord_apply.specs.Answers.{Buffered, Went, went, nothingSeen, beganSeen, okSeen, readSeen, cutSeen, noneSeen, abortedSeen}
 use Rattle.coord_apply.specs.declared.Notice.{Notice}
 use Rattle.coord_refusals.specs.Checks.{recordChecks, crashRefusal}
 use Rattle.coordinator.specs.Routines.{takeStep, crashed, crashStep, writeStep, readStep}
@@ -43,7 +43,7 @@ use Rattle.bench_order.proofs.Laws.ToldLaws.{told}
 pub record Agrees (op : Op) (e : Notice) : Type 0 where
   pub ok-writes : e .what ≡ okSeen → eqb (e .kind) readingKind ≡ false
   pub bytes-read : e .what ≡ readSeen → eqb (e .kind) readingKind ≡ true
-  pub ends-own : (e .what ≡ 0 → ⊥) → (e .what ≡ beganSeen → ⊥) → Ran op (e .kind) (e .time)
+  pub ends-own : (e .what ≡ noneSeen → ⊥) → (e .what ≡ beganSeen → ⊥) → Ran op (e .kind) (e .time)
 
 told-by-what : (s : Settings) (op : Op) (c what kind time : ℕ) (bricks : List ℕ) (h : Buffered) → Agrees op (record { what = what; kind = kind; time = time; bricks = bricks })
     → told s c kind (seenOf s (record { what = what; kind = kind; time = time; bricks = bricks }) h)
@@ -57,13 +57,13 @@ told-by-what s op c (suc (suc (suc (suc zero)))) kind time bricks h a = append-n
 told-by-what s op c (suc (suc (suc (suc (suc zero))))) kind time bricks h a = append-nil _
 told-by-what s op c (suc (suc (suc (suc (suc (suc k)))))) kind time bricks h a =
     rw (
-      ne-eqb (suc (suc (suc (suc (suc (suc k)))))) 1 (λ q. omega (arith, q)),
-      ne-eqb (suc (suc (suc (suc (suc (suc k)))))) 2 (λ q. omega (arith, q)),
-      ne-eqb (suc (suc (suc (suc (suc (suc k)))))) 3 (λ q. omega (arith, q)),
-      ne-eqb (suc (suc (suc (suc (suc (suc k)))))) 4 (λ q. omega (arith, q)),
-      ne-eqb (suc (suc (suc (suc (suc (suc k)))))) 5 (λ q. omega (arith, q)),
-      le-ltb (suc (suc (suc (suc (suc (suc k)))))) 2 (omega arith),
-      lt-leb (suc (suc (suc (suc (suc (suc k)))))) 5 (omega arith),
+      ne-eqb (suc (suc (suc (suc (suc (suc k)))))) beganSeen (λ q. omega (arith, q)),
+      ne-eqb (suc (suc (suc (suc (suc (suc k)))))) okSeen (λ q. omega (arith, q)),
+      ne-eqb (suc (suc (suc (suc (suc (suc k)))))) readSeen (λ q. omega (arith, q)),
+      ne-eqb (suc (suc (suc (suc (suc (suc k)))))) abortedSeen (λ q. omega (arith, q)),
+      ne-eqb (suc (suc (suc (suc (suc (suc k)))))) cutSeen (λ q. omega (arith, q)),
+      le-ltb (suc (suc (suc (suc (suc (suc k)))))) okSeen (omega arith),
+      lt-leb (suc (suc (suc (suc (suc (suc k)))))) cutSeen (omega arith),
     )
     refl
 
@@ -78,29 +78,29 @@ endTime s [] = 0
 endTime s (began time action ∷ l) = 0
 endTime s (ended time how ∷ l) = suc time
 
--- only from 2 on is it an end
+-- nothing and a beginning are no end
 shown-end : (s : Settings) (what time : ℕ) (p q r x y : Seen (plain s)) → endTime s (p ∷ []) ≡ 0 → endTime s (q ∷ []) ≡ suc time → endTime s (r ∷ []) ≡ suc time
     → endTime s (x ∷ []) ≡ suc time → endTime s (y ∷ []) ≡ suc time → (t : ℕ)
     → endTime s
-    (cond (eqb what 1) (p ∷ [])
-    (cond (eqb what 2) (q ∷ []) (cond (eqb what 3) (r ∷ []) (cond (eqb what 4) (x ∷ []) (cond (eqb what 5) (y ∷ []) [])))))
+    (cond (eqb what beganSeen) (p ∷ [])
+    (cond (eqb what okSeen) (q ∷ []) (cond (eqb what readSeen) (r ∷ []) (cond (eqb what abortedSeen) (x ∷ []) (cond (eqb what cutSeen) (y ∷ []) [])))))
     ≡ suc t
-    → (what ≡ 0 → ⊥) × (what ≡ 1 → ⊥) × (time ≡ t)
+    → (what ≡ noneSeen → ⊥) × (what ≡ beganSeen → ⊥) × (time ≡ t)
 unfolding endTime
 shown-end s what time p q r x y ep eq er ex ey t e =
-    go (eqb what 1) (eqb what 2) (eqb what 3) (eqb what 4) (eqb what 5) refl refl refl refl refl e
+    go (eqb what beganSeen) (eqb what okSeen) (eqb what readSeen) (eqb what abortedSeen) (eqb what cutSeen) refl refl refl refl refl e
   where
-    at : (k : ℕ) → what ≡ suc (suc k) → suc time ≡ suc t → (what ≡ 0 → ⊥) × (what ≡ 1 → ⊥) × (time ≡ t)
+    at : (k : ℕ) → what ≡ suc (suc k) → suc time ≡ suc t → (what ≡ noneSeen → ⊥) × (what ≡ beganSeen → ⊥) × (time ≡ t)
     at k w h = ((λ z. omega (arith, w, z)), (λ z. omega (arith, w, z)), omega (arith, h))
 
-    go : (a b c d f : Bool) → eqb what 1 ≡ a → eqb what 2 ≡ b → eqb what 3 ≡ c → eqb what 4 ≡ d → eqb what 5 ≡ f
+    go : (a b c d f : Bool) → eqb what beganSeen ≡ a → eqb what okSeen ≡ b → eqb what readSeen ≡ c → eqb what abortedSeen ≡ d → eqb what cutSeen ≡ f
         → endTime s (cond a (p ∷ []) (cond b (q ∷ []) (cond c (r ∷ []) (cond d (x ∷ []) (cond f (y ∷ []) []))))) ≡ suc t
-        → (what ≡ 0 → ⊥) × (what ≡ 1 → ⊥) × (time ≡ t)
+        → (what ≡ noneSeen → ⊥) × (what ≡ beganSeen → ⊥) × (time ≡ t)
     go true b c d f ea eb ec ed ef h = absurd (omega (arith, ep, h))
-    go false true c d f ea eb ec ed ef h = at 0 (eqb-true what 2 eb) (sym eq ∙ h)
-    go false false true d f ea eb ec ed ef h = at 1 (eqb-true what 3 ec) (sym er ∙ h)
-    go false false false true f ea eb ec ed ef h = at 2 (eqb-true what 4 ed) (sym ex ∙ h)
-    go false false false false true ea eb ec ed ef h = at 3 (eqb-true what 5 ef) (sym ey ∙ h)
+    go false true c d f ea eb ec ed ef h = at 0 (eqb-true what okSeen eb) (sym eq ∙ h)
+    go false false true d f ea eb ec ed ef h = at 1 (eqb-true what readSeen ec) (sym er ∙ h)
+    go false false false true f ea eb ec ed ef h = at 2 (eqb-true what abortedSeen ed) (sym ex ∙ h)
+    go false false false false true ea eb ec ed ef h = at 3 (eqb-true what cutSeen ef) (sym ey ∙ h)
     go false false false false false ea eb ec ed ef h = absurd (omega (arith, h))
 
 pub end-ran : (s : Settings) (op : Op) (e : Notice) (h : Buffered) (time : ℕ) (how : Ending (plain s)) → Agrees op e
@@ -120,31 +120,31 @@ began-agrees op e w =
     record { ok-writes = λ q. absurd (omega (arith, w, q)); bytes-read = λ q. absurd (omega (arith, w, q)); ends-own = λ a b. absurd (b w) }
 
 -- an operation that runs, and ends aborted or cut, or finishes
-running : (op : Op) → (op .kind ≡ 1) ⊎ (op .kind ≡ 2) → Ran op (op .kind) (op .time)
+running : (op : Op) → (op .kind ≡ readingKind) ⊎ (op .kind ≡ writingKind) → Ran op (op .kind) (op .time)
 running op k = record { time-is = refl; kind-is = refl; known = k }
 
-short-agrees : (op : Op) (what : ℕ) (bricks : List ℕ) → (op .kind ≡ 1) ⊎ (op .kind ≡ 2) → 4 ≤ what
+short-agrees : (op : Op) (what : ℕ) (bricks : List ℕ) → (op .kind ≡ readingKind) ⊎ (op .kind ≡ writingKind) → abortedSeen ≤ what
     → Agrees op (record { what = what; kind = op .kind; time = op .time; bricks = bricks })
 short-agrees op what bricks k h =
     record { ok-writes = λ q. absurd (omega (arith, h, q)); bytes-read = λ q. absurd (omega (arith, h, q)); ends-own = λ a b. running op k }
 
-finish-agrees : (op : Op) (bricks : List ℕ) → (op .kind ≡ 1) ⊎ (op .kind ≡ 2)
+finish-agrees : (op : Op) (bricks : List ℕ) → (op .kind ≡ readingKind) ⊎ (op .kind ≡ writingKind)
     → Agrees op (record { what = finishedSeen op; kind = op .kind; time = op .time; bricks = bricks })
 unfolding finishedSeen
-finish-agrees op bricks k = go (eqb (op .kind) 1) refl
+finish-agrees op bricks k = go (eqb (op .kind) readingKind) refl
   where
-    go : (b : Bool) → eqb (op .kind) 1 ≡ b → Agrees op (record { what = cond b 3 2; kind = op .kind; time = op .time; bricks = bricks })
+    go : (b : Bool) → eqb (op .kind) readingKind ≡ b → Agrees op (record { what = cond b readSeen okSeen; kind = op .kind; time = op .time; bricks = bricks })
     go true e = record { ok-writes = λ q. absurd (omega (arith, q)); bytes-read = λ q. e; ends-own = λ a b. running op k }
     go false e = record { ok-writes = λ q. e; bytes-read = λ q. absurd (omega (arith, q)); ends-own = λ a b. running op k }
 
-acted-agrees : (n m size : ℕ) (h : Buffered) → opRight (h .state .op) ≡ true → (h .state .op .kind ≡ 1) ⊎ (h .state .op .kind ≡ 2) → (d : Decision)
+acted-agrees : (n m size : ℕ) (h : Buffered) → opRight (h .state .op) ≡ true → (h .state .op .kind ≡ readingKind) ⊎ (h .state .op .kind ≡ writingKind) → (d : Decision)
     → DecisionSays n m (h .state .op) (h .state .tally) d → Agrees (h .state .op) (acted n m size h d .seen)
 unfolding acted ending nextRound DecisionSays
-acted-agrees n m size h r k Abort s = short-agrees (h .state .op) 4 noBricks k (omega arith)
+acted-agrees n m size h r k Abort s = short-agrees (h .state .op) abortedSeen noBricks k (omega arith)
 acted-agrees n m size h r k Give s =
     record {
       ok-writes = λ q. absurd (omega (arith, q));
-      bytes-read = λ q. eq-eqb (h .state .op .kind) 1 (in-read (h .state .op) r (s .phase-is) .kind-is);
+      bytes-read = λ q. eq-eqb (h .state .op .kind) readingKind (in-read (h .state .op) r (s .phase-is) .kind-is);
       ends-own = λ a b. running (h .state .op) k;
     }
 acted-agrees n m size h r k (Look max) s = nothing-agrees (h .state .op)
@@ -152,7 +152,7 @@ acted-agrees n m size h r k Store s = nothing-agrees (h .state .op)
 acted-agrees n m size h r k (Recover time) s = nothing-agrees (h .state .op)
 acted-agrees n m size h r k Finish s = finish-agrees (h .state .op) (h .state .bricks) k
 
-waiting-agrees : (n m size : ℕ) (h : Buffered) → opRight (h .state .op) ≡ true → (h .state .op .kind ≡ 1) ⊎ (h .state .op .kind ≡ 2)
+waiting-agrees : (n m size : ℕ) (h : Buffered) → opRight (h .state .op) ≡ true → (h .state .op .kind ≡ readingKind) ⊎ (h .state .op .kind ≡ writingKind)
     → Agrees (h .state .op) (waitingOr n m size h .seen)
 unfolding waitingOr
 waiting-agrees n m size h r k = go (ltb (members (h .state .tally .counted) n) (quorum n m))
@@ -165,17 +165,17 @@ waiting-agrees n m size h r k = go (ltb (members (h .state .tally .counted) n) (
         acted-agrees n m size h r k (decided n m (h .state .op) (h .state .tally)) (decided-says n m (h .state .op) (h .state .tally))
 
 -- the kinds of a sound record
-kind-known : (op : Op) → opRight op ≡ true → (op .kind ≡ 0 → ⊥) → (op .kind ≡ 1) ⊎ (op .kind ≡ 2)
+kind-known : (op : Op) → opRight op ≡ true → (op .kind ≡ idleKind → ⊥) → (op .kind ≡ readingKind) ⊎ (op .kind ≡ writingKind)
 unfolding opRight
-kind-known op e n = go (eqb (op .kind) 0) (eqb (op .kind) 1) refl refl e
+kind-known op e n = go (eqb (op .kind) idleKind) (eqb (op .kind) readingKind) refl refl e
   where
-    go : (a b : Bool) → eqb (op .kind) 0 ≡ a → eqb (op .kind) 1 ≡ b
-        → cond a (unsetOp op) (cond b (readRight op) (eqb (op .kind) 2 && writeRight op)) ≡ true → (op .kind ≡ 1) ⊎ (op .kind ≡ 2)
-    go true b ea eb h = absurd (n (eqb-true (op .kind) 0 ea))
-    go false true ea eb h = inl (eqb-true (op .kind) 1 eb)
-    go false false ea eb h = inr (eqb-true (op .kind) 2 (and-left (eqb (op .kind) 2) (writeRight op) h))
+    go : (a b : Bool) → eqb (op .kind) idleKind ≡ a → eqb (op .kind) readingKind ≡ b
+        → cond a (unsetOp op) (cond b (readRight op) (eqb (op .kind) writingKind && writeRight op)) ≡ true → (op .kind ≡ readingKind) ⊎ (op .kind ≡ writingKind)
+    go true b ea eb h = absurd (n (eqb-true (op .kind) idleKind ea))
+    go false true ea eb h = inl (eqb-true (op .kind) readingKind eb)
+    go false false ea eb h = inr (eqb-true (op .kind) writingKind (and-left (eqb (op .kind) writingKind) (writeRight op) h))
 
-fit-known : (op : Op) → Fit op → (op .kind ≡ 1) ⊎ (op .kind ≡ 2)
+fit-known : (op : Op) → Fit op → (op .kind ≡ readingKind) ⊎ (op .kind ≡ writingKind)
 fit-known op (reading k p _) = inl k
 fit-known op (looking k p _ _) = inl k
 fit-known op (restoring k p _) = inl k
@@ -204,13 +204,13 @@ unfolding crashStep crashed ending
 crash-agrees n m size h g e =
     let p = passes (crashRefusal n m size (h .state)) (went (crashed h)) g e in
     subst (λ (v : Went). Agrees (h .state .op) (v .seen)) (same-went (crashed h) g (p .1))
-    (go (crash-right n m size (h .state) (p .0)) (eqb (h .state .op .kind) 0) refl)
+    (go (crash-right n m size (h .state) (p .0)) (eqb (h .state .op .kind) idleKind) refl)
   where
-    go : opRight (h .state .op) ≡ true → (b : Bool) → eqb (h .state .op .kind) 0 ≡ b
+    go : opRight (h .state .op) ≡ true → (b : Bool) → eqb (h .state .op .kind) idleKind ≡ b
         → Agrees (h .state .op) (cond b (record { next = h; sent = []; seen = nothingSeen }) (ending h (h .stripe) [] cutSeen noBricks) .seen)
     go r true q = nothing-agrees (h .state .op)
     go r false q =
-        short-agrees (h .state .op) 5 noBricks (kind-known (h .state .op) r (eqb-false (h .state .op .kind) 0 q)) (omega arith)
+        short-agrees (h .state .op) cutSeen noBricks (kind-known (h .state .op) r (eqb-false (h .state .op .kind) idleKind q)) (omega arith)
 
 -- the start of a write, and of a read
 pub write-agrees : (n m size : ℕ) (h : Buffered) (clock : ℕ) (bytes : List ℕ) (g : Went) → writeStep n m size h clock bytes ≡ went g

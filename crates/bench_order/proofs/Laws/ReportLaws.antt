@@ -3,7 +3,7 @@ use mathlib.Core.Path.{_≡_, refl, sym, ap, subst, _∙_}
 use mathlib.Core.Logic.{_⊎_, inl, inr}
 use mathlib.Core.Bool.{Bool, true, false, cond}
 use mathlib.Core.List.{List, [], _∷_, _++_, append-nil, append-assoc, List·Memᴰ·not-nil, List·Memᴰ·cases-cons}
-use Prim.Native.Nat.{ℕ, _%_, _≤_}
+use Prim.Native.Nat.{ℕ, _≤_}
 use native.Mathlib.Omega.{arith}
 use lib.Dec.{eqb}
 use lib.ListN.{length}
@@ -35,6 +35,8 @@ use Rattle.bench_order.specs.ScriptTheorem.{StandsFor}
 use Rattle.bench_order.proofs.Laws.ScriptRunLaws.{part-runs, turn-stands, bench-in-range}
 use Rattle.bench_order.specs.Report.{kindOf, kindIn, reported, Reports, nothing, refusal, event}
 use Rattle.bench_order.specs.ReportTheorem.{Reported, EveryScriptPrintsItsRun}
+use Rattle.settings.specs.Times.{coordinatorOf}
+use Rattle.coord_record.specs.Records.{readingKind, writingKind, idleKind}
 
 -- the kind that an operation began with, if it began one time only
 kind-here : (s : Settings) (x : Seen (plain s)) (l : List (Seen (plain s))) (t : ℕ) (k : Action (List ℕ)) → began t k ≡ x → kindIn s (x ∷ l) t ≡ kindOf k
@@ -75,14 +77,14 @@ reports-both s r es fs a b (event _ e es′ text p) q =
 
 -- what the bench tells at an event is what the run reports there, if the operation that ends has c in its time and began with this kind
 told-is-reported : (s : Settings) (before l : List (Seen (plain s))) (c kind : ℕ) → length l ≤ 1
-    → ((time : ℕ) (how : Ending (plain s)) → l ≡ ended time how ∷ [] → (c ≡ time % 16) × (kind ≡ kindIn s before time))
+    → ((time : ℕ) (how : Ending (plain s)) → l ≡ ended time how ∷ [] → (c ≡ coordinatorOf time) × (kind ≡ kindIn s before time))
     → told s c kind l ≡ reported s before l
 unfolding told reported
 told-is-reported s before [] c kind h f = refl
 told-is-reported s before (began time action ∷ []) c kind h f = refl
 told-is-reported s before (ended time how ∷ []) c kind h f =
     let q = f time how refl in
-    ap (λ (v : ℕ). toldEnd s v kind time how ++ []) (q .0) ∙ ap (λ (v : ℕ). toldEnd s (time % 16) v time how ++ []) (q .1)
+    ap (λ (v : ℕ). toldEnd s v kind time how ++ []) (q .0) ∙ ap (λ (v : ℕ). toldEnd s (coordinatorOf time) v time how ++ []) (q .1)
 told-is-reported s before (x ∷ y ∷ l) c kind h f = absurd (omega (arith, h))
 
 refusal-alone : (s : Settings) (r : Moved s) (number : ℕ) → Reports s r [] (refusedText number)
@@ -91,18 +93,18 @@ refusal-alone s r number = subst (Reports s r []) (append-nil (refusedText numbe
 module _ (s : Settings) (g : SettingsRange s) where
   -- in a run, the operation that runs at coordinator c has c in its time, and its kind from its beginning
   ran-own : (r : Moved s) (h : Hist s) → Inv s g h r → (c kind time : ℕ) → Ran (r .world .coordinators c .state .op) kind time
-      → (c ≡ time % 16) × (kind ≡ kindIn s (r .seen) time)
+      → (c ≡ coordinatorOf time) × (kind ≡ kindIn s (r .seen) time)
   unfolding kindOf
-  ran-own r h i c kind time a = (sym own ∙ ap (λ (v : ℕ). v % 16) (a .time-is), go (a .known))
+  ran-own r h i c kind time a = (sym own ∙ ap (λ (v : ℕ). coordinatorOf v) (a .time-is), go (a .known))
     where
-      not-idle : (kind ≡ 1) ⊎ (kind ≡ 2) → r .world .coordinators c .state .op .kind ≡ 0 → ⊥
+      not-idle : (kind ≡ readingKind) ⊎ (kind ≡ writingKind) → r .world .coordinators c .state .op .kind ≡ idleKind → ⊥
       not-idle (inl e) q = omega (arith, a .kind-is, e, q)
       not-idle (inr e) q = omega (arith, a .kind-is, e, q)
 
       runs : Running s g h (r .world .sent) c (r .world .coordinators c)
       runs = i .coordinators c .runs (not-idle (a .known))
 
-      own : r .world .coordinators c .state .op .time % 16 ≡ c
+      own : coordinatorOf (r .world .coordinators c .state .op .time) ≡ c
       own = runs .own
 
       found : (k : Action (List ℕ)) → In (Fact.began (r .world .coordinators c .state .op .time) k) h → kindIn s (r .seen) time ≡ kindOf k
@@ -111,7 +113,7 @@ module _ (s : Settings) (g : SettingsRange s) where
           (subst (λ (l : List (Seen (plain s))). kindIn s l (r .world .coordinators c .state .op .time) ≡ kindOf k) (i .seen-is)
           (kind-found s (seen h) (r .world .coordinators c .state .op .time) k (λ k′ b. one-order (i .valid) .named _ k′ k b) (seen-began m)))
 
-      go : (kind ≡ 1) ⊎ (kind ≡ 2) → kind ≡ kindIn s (r .seen) time
+      go : (kind ≡ readingKind) ⊎ (kind ≡ writingKind) → kind ≡ kindIn s (r .seen) time
       go (inl e) = e ∙ sym (found read (reads-begun runs (a .kind-is ∙ e)))
       go (inr e) = e ∙ sym (found (write (r .world .coordinators c .stripe)) (writes-begun runs (a .kind-is ∙ e)))
 

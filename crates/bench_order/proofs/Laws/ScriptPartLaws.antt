@@ -2,7 +2,7 @@
 use mathlib.Core.Path.{_≡_, refl, sym, ap, subst, _∙_}
 use mathlib.Core.Bool.{Bool, true, false, cond, _||_}
 use mathlib.Core.List.{List, [], _∷_, _++_, append-nil}
-use Prim.Native.Nat.{ℕ, zero, suc, _*_, _%_, _≤_, _<_}
+use Prim.Native.Nat.{ℕ, zero, suc, _*_, _≤_, _<_}
 use native.Mathlib.Omega.{arith}
 use lib.Dec.{eqb, leb, ltb}
 use lib.ListN.{length, length-append, replicate}
@@ -34,6 +34,7 @@ use Rattle.bench_order.proofs.Laws.ToldLaws.{told}
 use Rattle.bench_order.proofs.Laws.Parts.{FewSent, Ran, Part, refusing, passing, happening, both}
 use Rattle.bench_order.proofs.Laws.PrintedLaws.{Agrees, printed-is-seen, end-ran, take-agrees, crash-agrees, write-agrees, read-agrees}
 use Rattle.bench_limits.specs.Limits.{benchCoordinators, lastMessage}
+use Rattle.settings.specs.Times.{coordinatorOf}
 
 -- "Trim t: no reply"
 refused-not-answered : (number : ℕ) (bytes out : List ℕ) (r : Reply) → refusedWith number bytes out .given ≡ Answered r → ⊥
@@ -207,11 +208,11 @@ module _ (s : Settings) (w : World) where
       go true false q = passing w
       go false u q = refusing w badNumber
   carries-part k (reply r block) e =
-      at-part (r .time % 16) _
-      (acts-part (arrives k) (r .time % 16) _
+      at-part (coordinatorOf (r .time)) _
+      (acts-part (arrives k) (coordinatorOf (r .time)) _
       (λ g q. (
-        e ∙ ap (coordinated s w (r .time % 16)) q,
-        take-agrees (s .n) (s .m) (s .size) (w .coordinators (r .time % 16)) r block (s .n * s .size) g q,
+        e ∙ ap (coordinated s w (coordinatorOf (r .time))) q,
+        take-agrees (s .n) (s .m) (s .size) (w .coordinators (coordinatorOf (r .time))) r block (s .n * s .size) g q,
       )))
 
   carries-at-part : (k : ℕ) (l : List Item) (j : ℕ) → step s w (arrives k) ≡ arrivingAt s w l j → Part s w (carriesAt s w k l j)

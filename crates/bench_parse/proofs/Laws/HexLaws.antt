@@ -12,7 +12,7 @@ use lib.Arith.{lt-of-le-ne}
 use lib.ListN.{length, getD, take, drop, set, length-set, length-drop, drop-of-length-le}
 use lib.Seq.{drop-cons, ext-getD, getD-drop, getD-set-same, getD-set-other}
 use borrow.Author.Tests.{ne-eqb, eqb-true, le-leb, leb-true}
-use Rattle.bench_parse.specs.Lines.{every, longer, words, isDigit, isLower, isUpper, isHex, hexValue, hexWord, bytesOf}
+use Rattle.bench_parse.specs.Lines.{space, every, longer, words, isDigit, isLower, isUpper, isHex, hexValue, hexWord, bytesOf}
 use Rattle.bench_parse.specs.Workers.{wordsFrom}
 use Rattle.bench_parse.specs.Workers.{wordLength, HexesFrom, hexAlone}
 use Rattle.bench_parse.proofs.Laws.NumeralLaws.{clash, and-true}
@@ -69,9 +69,9 @@ hex-small x = go (leb 48 x && leb x 57) (leb 97 x && leb x 102) (leb 65 x && leb
     go false false false e f g = omega arith
 
 -- A hex word has no space.
-no-space : (x : ℕ) → isHex x ≡ true → eqb x 32 ≡ false
+no-space : (x : ℕ) → isHex x ≡ true → eqb x space ≡ false
 unfolding isHex isDigit isLower isUpper
-no-space x e = ne-eqb x 32 (λ q. clash (sym (ap isHex q) ∙ e))
+no-space x e = ne-eqb x space (λ q. clash (sym (ap isHex q) ∙ e))
 
 words-hex : (t : List ℕ) → every isHex t ≡ true → words t ≡ t ∷ []
 unfolding words every longer
@@ -84,7 +84,7 @@ words-hex (x ∷ t) e =
 words-one : (t : List ℕ) → length (words t) ≡ 1 → words t ≡ t ∷ []
 unfolding words longer
 words-one [] e = refl
-words-one (x ∷ t) e = go (eqb x 32) (words t) (words-split t) (words-one t) e
+words-one (x ∷ t) e = go (eqb x space) (words t) (words-split t) (words-one t) e
   where
     go : (b : Bool) (ws : List (List ℕ)) → ws ≡ take (wordLength t) t ∷ wordsFrom t (wordLength t + 1) → (length ws ≡ 1 → ws ≡ t ∷ [])
         → length (cond b ([] ∷ ws) (longer x ws)) ≡ 1 → cond b ([] ∷ ws) (longer x ws) ≡ (x ∷ t) ∷ []

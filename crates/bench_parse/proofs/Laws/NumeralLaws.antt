@@ -10,7 +10,7 @@ use lib.Dec.{eqb, leb, eqb·zero-suc, eqb·suc-zero, eqb·suc-suc}
 use lib.ListN.{length, getD, take, drop, length-take, drop-of-length-le}
 use lib.Seq.{drop-cons}
 use borrow.Author.Tests.{lt-leb, le-leb, leb-true}
-use Rattle.bench_parse.specs.Lines.{every, isDigit, numberWord, valueAfter, valueOf, numbersOf, areNumbers, numberIn}
+use Rattle.bench_parse.specs.Lines.{mostDigits, every, isDigit, numberWord, valueAfter, valueOf, numbersOf, areNumbers, numberIn}
 use Rattle.bench_parse.specs.Workers.{wordsFrom, CarryFrom, NumberAt}
 use Rattle.bench_parse.specs.Workers.{wordLength, startsNumber, others, NumeralOf, NumberFrom, AloneOf}
 use Rattle.bench_parse.proofs.Laws.WordLaws.{from-here, from-none, words-split, end-within, split-at-end}
@@ -28,20 +28,20 @@ pub numeral-empty : (w : List ℕ) (v : ℕ) → length w < 1 → NumeralOf w (r
 unfolding numberWord
 numeral-empty w v h = not-numeral w v (rw (lt-leb 1 (length w) h))
 
-pub numeral-long : (w : List ℕ) (v : ℕ) → 19 < length w → NumeralOf w (record { good = false; value = v })
+pub numeral-long : (w : List ℕ) (v : ℕ) → mostDigits < length w → NumeralOf w (record { good = false; value = v })
 unfolding numberWord
-numeral-long w v h = not-numeral w v (rw (le-leb 1 (length w) (omega arith), lt-leb (length w) 19 h))
+numeral-long w v h = not-numeral w v (rw (le-leb 1 (length w) (omega arith), lt-leb (length w) mostDigits h))
 
 -- what holds before digit i is read
 pub record NumeralSo (w : List ℕ) (value i : ℕ) : Type 0 where
   pub some : 1 ≤ length w
-  pub few : length w ≤ 19
+  pub few : length w ≤ mostDigits
   pub low : i ≤ length w
   pub digits : every isDigit (drop i w) ≡ every isDigit w
   pub sum : valueAfter value (drop i w) ≡ valueOf w
   pub small : value < 10 ^ i
 
-pub numeral-start : (w : List ℕ) → 1 ≤ length w → length w ≤ 19 → NumeralSo w 0 0
+pub numeral-start : (w : List ℕ) → 1 ≤ length w → length w ≤ mostDigits → NumeralSo w 0 0
 unfolding valueOf
 numeral-start w a b = record { some = a; few = b; low = omega arith; digits = refl; sum = refl; small = omega arith }
 
@@ -57,7 +57,7 @@ module _ (w : List ℕ) (value i : ℕ) (s : NumeralSo w value i) where
   unfolding numberWord every
   numeral-not v h e =
       let f : every isDigit w ≡ false = sym (s .digits) ∙ rw (drop-cons w i 0 h, e) in
-      not-numeral w v (rw (le-leb 1 (length w) (s .some), le-leb (length w) 19 (s .few)) f)
+      not-numeral w v (rw (le-leb 1 (length w) (s .some), le-leb (length w) mostDigits (s .few)) f)
 
   pub numeral-below : (v : ℕ) → i < length w → getD w i 0 < 48 → NumeralOf w (record { good = false; value = v })
   unfolding isDigit
@@ -85,7 +85,7 @@ module _ (w : List ℕ) (value i : ℕ) (s : NumeralSo w value i) where
       let n = drop-of-length-le w h in
       let f : every isDigit w ≡ true = sym (s .digits) ∙ ap (every isDigit) n in
       record {
-        tests = sym (rw (le-leb 1 (length w) (s .some), le-leb (length w) 19 (s .few)) f);
+        tests = sym (rw (le-leb 1 (length w) (s .some), le-leb (length w) mostDigits (s .few)) f);
         value-is = λ z. sym (ap (valueAfter value) n) ∙ s .sum;
       }
 
@@ -96,7 +96,7 @@ and-true false b e = absurd (clash e)
 number-some : (w : List ℕ) → numberWord w ≡ true → 1 ≤ length w
 unfolding numberWord
 number-some w e =
-    leb-true 1 (length w) (and-true (leb 1 (length w)) (leb (length w) 19) (and-true (leb 1 (length w) && leb (length w) 19) (every isDigit w) e .0) .0)
+    leb-true 1 (length w) (and-true (leb 1 (length w)) (leb (length w) mostDigits) (and-true (leb 1 (length w) && leb (length w) mostDigits) (every isDigit w) e .0) .0)
 
 -- A number looked for at a place: there is no word left, or there is one.
 pub piece-none : (l : List ℕ) (at v : ℕ) → at ≤ length l + 1 → length l < at → NumberFrom l at (record { good = false; value = v; next = at })

@@ -10,7 +10,7 @@ use lib.Dec.{eqb, leb·suc-suc}
 use lib.ListN.{length, getD, take, drop, length-drop, drop-of-length-le}
 use lib.Seq.{drop-cons}
 use borrow.Author.Tests.{eq-eqb, ne-eqb, lt-leb, le-leb}
-use Rattle.bench_parse.specs.Lines.{longer, words}
+use Rattle.bench_parse.specs.Lines.{space, longer, words}
 use Rattle.byte_lists.specs.Lists.{same}
 use Rattle.bench_parse.specs.Workers.{wordsFrom}
 use Rattle.bench_parse.specs.Workers.{wordLength}
@@ -24,13 +24,13 @@ unfolding wordsFrom
 from-none l at h = rw (lt-leb at (length l) h)
 
 -- the length of a word, one byte at a time
-pub length-space : (l : List ℕ) (e : ℕ) → e < length l → getD l e 0 ≡ 32 → wordLength (drop e l) ≡ 0
+pub length-space : (l : List ℕ) (e : ℕ) → e < length l → getD l e 0 ≡ space → wordLength (drop e l) ≡ 0
 unfolding wordLength
-length-space l e h x = rw (drop-cons l e 0 h, eq-eqb (getD l e 0) 32 x)
+length-space l e h x = rw (drop-cons l e 0 h, eq-eqb (getD l e 0) space x)
 
-pub length-more : (l : List ℕ) (e : ℕ) → e < length l → (getD l e 0 ≡ 32 → ⊥) → wordLength (drop e l) ≡ 1 + wordLength (drop (e + 1) l)
+pub length-more : (l : List ℕ) (e : ℕ) → e < length l → (getD l e 0 ≡ space → ⊥) → wordLength (drop e l) ≡ 1 + wordLength (drop (e + 1) l)
 unfolding wordLength
-length-more l e h x = rw (drop-cons l e 0 h, ne-eqb (getD l e 0) 32 x, add-one e) (omega arith)
+length-more l e h x = rw (drop-cons l e 0 h, ne-eqb (getD l e 0) space x, add-one e) (omega arith)
 
 pub length-end : (l : List ℕ) (e : ℕ) → length l ≤ e → wordLength (drop e l) ≡ 0
 unfolding wordLength
@@ -39,7 +39,7 @@ length-end l e h = ap wordLength (drop-of-length-le l h)
 pub length-within : (t : List ℕ) → wordLength t ≤ length t
 unfolding wordLength
 length-within [] = omega arith
-length-within (x ∷ t) = go (eqb x 32) (length-within t)
+length-within (x ∷ t) = go (eqb x space) (length-within t)
   where
     go : (b : Bool) → wordLength t ≤ length t → cond b 0 (suc (wordLength t)) ≤ suc (length t)
     go true h = omega arith
@@ -53,7 +53,7 @@ from-cons x t k = rw (leb·suc-suc k (length t))
 pub words-split : (t : List ℕ) → words t ≡ take (wordLength t) t ∷ wordsFrom t (wordLength t + 1)
 unfolding words wordLength longer
 words-split [] = ap (λ (ws : List (List ℕ)). [] ∷ ws) (sym (from-none [] 1 (omega arith)))
-words-split (x ∷ t) = go (eqb x 32) (words-split t)
+words-split (x ∷ t) = go (eqb x space) (words-split t)
   where
     go : (b : Bool) → words t ≡ take (wordLength t) t ∷ wordsFrom t (wordLength t + 1)
         → cond b ([] ∷ words t) (longer x (words t))
@@ -93,10 +93,10 @@ pub record WordSo (l : List ℕ) (at e : ℕ) : Type 0 where
 pub word-start : (l : List ℕ) (at : ℕ) → at ≤ length l → WordSo l at at
 word-start l at h = record { low = omega arith; high = h; so-far = refl }
 
-pub word-space : (l : List ℕ) (at e : ℕ) → WordSo l at e → e < length l → getD l e 0 ≡ 32 → e ≡ at + wordLength (drop at l)
+pub word-space : (l : List ℕ) (at e : ℕ) → WordSo l at e → e < length l → getD l e 0 ≡ space → e ≡ at + wordLength (drop at l)
 word-space l at e s h x = let z = length-space l e h x in let f = s .so-far in omega arith
 
-pub word-more : (l : List ℕ) (at e : ℕ) → WordSo l at e → e < length l → (getD l e 0 ≡ 32 → ⊥) → WordSo l at (e + 1)
+pub word-more : (l : List ℕ) (at e : ℕ) → WordSo l at e → e < length l → (getD l e 0 ≡ space → ⊥) → WordSo l at (e + 1)
 word-more l at e s h x =
     record { low = omega (arith, s .low); high = omega arith; so-far = let z = length-more l e h x in let f = s .so-far in omega arith }
 

@@ -8,7 +8,7 @@ use lib.Dec.{eqb, leb}
 use lib.ListN.{length}
 use borrow.Author.Tests.{eq-eqb, ne-eqb, le-leb, lt-leb, leb-true, eqb-true}
 use Rattle.byte_lists.proofs.Laws.BoolLaws.{and-left, and-right}
-use Rattle.settings.specs.Refusal.{refuseUnless, firstRefusal}
+use Rattle.settings.specs.Refusal.{refuseUnless, firstRefusal, badLength, badRecord, badSetting}
 use Rattle.settings.specs.declared.Settings.{Settings}
 use Rattle.bench_parse.specs.Lines.{reads}
 use Rattle.bench_rules.specs.Play.{waiting, playing, eventsOf, Turn, turn, plays}
@@ -34,7 +34,7 @@ pub right-some : (s : Settings) (k : ℕ) → (s .n ≡ 0 → ⊥) → k ≡ ben
 unfolding benchRefusal
 right-some s k h e = rw (ne-eqb (s .n) 0 h, e) (go (benchRange s))
   where
-    go : (x : Bool) → eqb (refuseUnless x 1) 0 ≡ x
+    go : (x : Bool) → eqb (refuseUnless x badSetting) 0 ≡ x
     go true = refl
     go false = refl
 
@@ -64,17 +64,17 @@ module _ (images kept numbers bytes out : ℕ) where
   lengths-out a b c d h = rw (eq-eqb images imagesLength a, eq-eqb kept keptLength b, eq-eqb numbers numbersLength c, eq-eqb bytes bytesLength d, ne-eqb out textLength h) refl
 
   module _ (b : Bench) where
-    pub refused-settings : (x : Bool) → x ≡ (eqb (b .settings .n) 0 || benchRange (b .settings)) → x ≡ false → 1 ≡ benchRefused b images kept numbers bytes out
+    pub refused-settings : (x : Bool) → x ≡ (eqb (b .settings .n) 0 || benchRange (b .settings)) → x ≡ false → badSetting ≡ benchRefused b images kept numbers bytes out
     unfolding benchRefused firstRefusal
     refused-settings x e h = rw (sym e ∙ h) refl
 
     pub refused-lengths : (x y : Bool) → x ≡ (eqb (b .settings .n) 0 || benchRange (b .settings)) → x ≡ true → y ≡ lentLengthsRight images kept numbers bytes out → y ≡ false
-        → 2 ≡ benchRefused b images kept numbers bytes out
+        → badLength ≡ benchRefused b images kept numbers bytes out
     unfolding benchRefused firstRefusal
     refused-lengths x y e h f g = rw (sym e ∙ h, sym f ∙ g) refl
 
     pub refused-many : (x y : Bool) → x ≡ (eqb (b .settings .n) 0 || benchRange (b .settings)) → x ≡ true → y ≡ lentLengthsRight images kept numbers bytes out → y ≡ true
-        → lastMessage < b .sent → 6 ≡ benchRefused b images kept numbers bytes out
+        → lastMessage < b .sent → badRecord ≡ benchRefused b images kept numbers bytes out
     unfolding benchRefused firstRefusal
     refused-many x y e h f g l = rw (sym e ∙ h, sym f ∙ g, lt-leb (b .sent) lastMessage l) refl
 
@@ -102,7 +102,7 @@ module _ (images kept numbers bytes out : ℕ) where
       where
         go : (x y w : Bool) → eqb (b .settings .n) 0 || benchRange (b .settings) ≡ x
             → eqb images imagesLength && eqb kept keptLength && eqb numbers numbersLength && eqb bytes bytesLength && eqb out textLength ≡ y → leb (b .sent) lastMessage ≡ w
-            → _≡_ {A = ℕ} (firstRefusal (refuseUnless x 1 ∷ refuseUnless y 2 ∷ refuseUnless w 6 ∷ [])) 0 → Accepted
+            → _≡_ {A = ℕ} (firstRefusal (refuseUnless x badSetting ∷ refuseUnless y badLength ∷ refuseUnless w badRecord ∷ [])) 0 → Accepted
         go false y w ex ey ew q = absurd (omega arith)
         go true false w ex ey ew q = absurd (omega arith)
         go true true false ex ey ew q = absurd (omega arith)

@@ -5,7 +5,7 @@ use mathlib.Core.List.{List, [], _++_}
 use Prim.Native.Nat.{ℕ}
 use native.Mathlib.Omega.{arith}
 use borrow.Author.Tests.{eq-eqb, ne-eqb}
-use Rattle.settings.specs.Refusal.{refuseUnless}
+use Rattle.settings.specs.Refusal.{refuseUnless, badLine, badSetting}
 use Rattle.settings.specs.declared.Settings.{Settings}
 use Rattle.bench_parse.specs.Lines.{Line, setLine, writeLine, readLine, carryLine, crashLine, downLine, upLine, noLine}
 use Rattle.bench_rules.specs.Play.{Played, refuses, writes, starts, crashesAt, switches, carriedAll, plays, playing, eventsOf, Turn, waits, begins, first, turn}
@@ -32,11 +32,11 @@ module _ (b : Bench) (l l′ : Lent) (out out′ : List ℕ) (r : After) (said :
   by : (p : Played) → plays (b .settings) (worldIn b l) said ≡ p → Lined b l out p r l′ out′ → Done
   by p e d = subst (λ (x : Played). Lined b l out x r l′ out′) (sym e) d
 
-  pub line-set : (n m size capacity : ℕ) → said ≡ setLine n m size capacity → Turned b l 0 out (refuses (worldIn b l) 12) r l′ out′ → Done
+  pub line-set : (n m size capacity : ℕ) → said ≡ setLine n m size capacity → Turned b l 0 out (refuses (worldIn b l) badLine) r l′ out′ → Done
   unfolding plays
   line-set n m size capacity e t = by _ (ap (plays (b .settings) (worldIn b l)) e) (turned-lined b l l′ out out′ _ r t)
 
-  pub line-nothing : said ≡ noLine → Turned b l 0 out (refuses (worldIn b l) 12) r l′ out′ → Done
+  pub line-nothing : said ≡ noLine → Turned b l 0 out (refuses (worldIn b l) badLine) r l′ out′ → Done
   unfolding plays
   line-nothing e t = by _ (ap (plays (b .settings) (worldIn b l)) e) (turned-lined b l l′ out out′ _ r t)
 
@@ -84,50 +84,50 @@ module _ (b : Bench) (out out′ : List ℕ) (r : After) (none : b .settings .n 
             }));
       }
 
-  module _ (said : Line) (images kept : List ℕ) (t : (l : Lent) → Turned b l 0 out (refuses (worldIn b l) 12) r l out′) where
+  module _ (said : Line) (images kept : List ℕ) (t : (l : Lent) → Turned b l 0 out (refuses (worldIn b l) badLine) r l out′) where
     pub first-write : (c clock : ℕ) (digits : List ℕ) → said ≡ writeLine c clock digits → First said out r images kept out′
     unfolding first
-    first-write c clock digits e = waits-so 12 said images kept (ap first e) t
+    first-write c clock digits e = waits-so badLine said images kept (ap first e) t
 
     pub first-read : (c clock brick : ℕ) → said ≡ readLine c clock brick → First said out r images kept out′
     unfolding first
-    first-read c clock brick e = waits-so 12 said images kept (ap first e) t
+    first-read c clock brick e = waits-so badLine said images kept (ap first e) t
 
     pub first-carry : (ks : List ℕ) → said ≡ carryLine ks → First said out r images kept out′
     unfolding first
-    first-carry ks e = waits-so 12 said images kept (ap first e) t
+    first-carry ks e = waits-so badLine said images kept (ap first e) t
 
     pub first-crash : (c : ℕ) → said ≡ crashLine c → First said out r images kept out′
     unfolding first
-    first-crash c e = waits-so 12 said images kept (ap first e) t
+    first-crash c e = waits-so badLine said images kept (ap first e) t
 
     pub first-down : (c : ℕ) → said ≡ downLine c → First said out r images kept out′
     unfolding first
-    first-down c e = waits-so 12 said images kept (ap first e) t
+    first-down c e = waits-so badLine said images kept (ap first e) t
 
     pub first-up : (c : ℕ) → said ≡ upLine c → First said out r images kept out′
     unfolding first
-    first-up c e = waits-so 12 said images kept (ap first e) t
+    first-up c e = waits-so badLine said images kept (ap first e) t
 
     pub first-nothing : said ≡ noLine → First said out r images kept out′
     unfolding first
-    first-nothing e = waits-so 12 said images kept (ap first e) t
+    first-nothing e = waits-so badLine said images kept (ap first e) t
 
   -- settings past the limits
   pub first-bad : (n m size capacity bad : ℕ) (said : Line) (images kept : List ℕ) → said ≡ setLine n m size capacity
       → bad ≡ benchRefusal (record { n = n; m = m; size = size; capacity = capacity }) → (bad ≡ 0 → ⊥)
-      → ((l : Lent) → Turned b l 0 out (refuses (worldIn b l) 1) r l out′) → First said out r images kept out′
+      → ((l : Lent) → Turned b l 0 out (refuses (worldIn b l) badSetting) r l out′) → First said out r images kept out′
   unfolding first begins benchRefusal
   first-bad n m size capacity bad said images kept e eb h t =
-      waits-so 1 said images kept (ap first e ∙ go (benchRange (record { n = n; m = m; size = size; capacity = capacity })) eb) t
+      waits-so badSetting said images kept (ap first e ∙ go (benchRange (record { n = n; m = m; size = size; capacity = capacity })) eb) t
     where
-      go : (x : Bool) → bad ≡ refuseUnless x 1
+      go : (x : Bool) → bad ≡ refuseUnless x badSetting
           → cond x (record {
             stage = playing (record { n = n; m = m; size = size; capacity = capacity }) (freshSet (record { n = n; m = m; size = size; capacity = capacity })) [];
             events =
                 [];
             printed = [];
-          }) (waits 1) ≡ waits 1
+          }) (waits badSetting) ≡ waits badSetting
       go true q = absurd (h q)
       go false q = refl
 
@@ -155,7 +155,7 @@ first-set s bad out bench said images kept e eb z ef ew =
     fresh-turn : Turn
     fresh-turn = record { stage = playing s (freshSet s) []; events = []; printed = [] }
 
-    tested : (x : Bool) → bad ≡ refuseUnless x 1 → x ≡ true
+    tested : (x : Bool) → bad ≡ refuseUnless x badSetting → x ≡ true
     tested true q = refl
     tested false q = absurd (omega arith)
 
@@ -165,7 +165,7 @@ first-set s bad out bench said images kept e eb z ef ew =
     in-limits : Fits s
     in-limits = bench-fits s limits
 
-    begun : (x : Bool) → benchRange s ≡ x → bad ≡ refuseUnless x 1 → cond x fresh-turn (waits 1) ≡ fresh-turn
+    begun : (x : Bool) → benchRange s ≡ x → bad ≡ refuseUnless x badSetting → cond x fresh-turn (waits badSetting) ≡ fresh-turn
     begun true q d = refl
     begun false q d = absurd (omega arith)
 

@@ -9,7 +9,7 @@ use borrow.Author.Tests.{lt-ltb, le-ltb, ltb-true, ltb-false}
 use lib.Dec.{ltb}
 use lib.ListN.{length, take, getD, length-append, length-take}
 use lib.Seq.{take-suc, take-all}
-use Rattle.bench_print.specs.Printing.{digit, digitsFrom, decimal, hexDigit, hexText}
+use Rattle.bench_print.specs.Printing.{digit, digitsFrom, mostDecimals, decimal, hexDigit, hexText}
 use Rattle.bench_print.specs.Workers.{PrintedAt}
 use Rattle.bench_print.proofs.Laws.WrittenLaws.{placed-both, placed-as, placed-nothing}
 
@@ -45,7 +45,7 @@ pub decimal-one : (k : ℕ) → k < 10 → decimal k ≡ digit k ∷ []
 unfolding decimal
 decimal-one k h = digits-one 19 k h
 
-pub decimal-more : (k : ℕ) → 10 ≤ k → k < tens 20 → decimal k ≡ decimal (k / 10) ++ digit (k % 10) ∷ []
+pub decimal-more : (k : ℕ) → 10 ≤ k → k < tens mostDecimals → decimal k ≡ decimal (k / 10) ++ digit (k % 10) ∷ []
 unfolding decimal tens
 decimal-more k h l =
     digits-more 19 k h ∙ ap (λ (ds : List ℕ). ds ++ digit (k % 10) ∷ []) (sym (digits-enough 18 (k / 10) (omega arith)))

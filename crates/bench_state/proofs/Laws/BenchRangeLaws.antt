@@ -9,7 +9,7 @@ use borrow.Author.Tests.{leb-true}
 use Rattle.settings.specs.Ranges.{inRange, settingsRefusal}
 use Rattle.settings.proofs.Laws.RangeLaws.{settings-passed}
 use Rattle.byte_lists.proofs.Laws.BoolLaws.{and-left, and-right}
-use Rattle.settings.specs.Refusal.{refuseUnless}
+use Rattle.settings.specs.Refusal.{refuseUnless, badSetting}
 use Rattle.settings.specs.declared.Settings.{Settings}
 use Rattle.settings.proofs.Laws.RefusalLaws.{tested}
 use Rattle.image.specs.Image.{imageSize}
@@ -18,20 +18,20 @@ use Rattle.bench_state.specs.Workers.{benchRefusal}
 use Rattle.bench_state.specs.Workers.{Fits}
 use Rattle.bench_limits.specs.Limits.{benchBricks, benchCapacity, benchSize}
 
-pub bench-bad : (s : Settings) (k : ℕ) → k ≡ settingsRefusal s → (k ≡ 0 → ⊥) → 1 ≡ benchRefusal s
+pub bench-bad : (s : Settings) (k : ℕ) → k ≡ settingsRefusal s → (k ≡ 0 → ⊥) → badSetting ≡ benchRefusal s
 unfolding settingsRefusal benchRefusal benchRange
 bench-bad s k e h = go (inRange s) (leb (s .n) benchBricks && leb (s .size) benchSize && leb (s .capacity) benchCapacity) e
   where
-    go : (a b : Bool) → k ≡ refuseUnless a 1 → 1 ≡ refuseUnless (a && b) 1
+    go : (a b : Bool) → k ≡ refuseUnless a badSetting → badSetting ≡ refuseUnless (a && b) badSetting
     go true b d = absurd (h d)
     go false b d = refl
 
 pub bench-rest : (s : Settings) (k v : ℕ) → k ≡ settingsRefusal s → k ≡ 0
-    → v ≡ refuseUnless (leb (s .n) benchBricks && leb (s .size) benchSize && leb (s .capacity) benchCapacity) 1 → v ≡ benchRefusal s
+    → v ≡ refuseUnless (leb (s .n) benchBricks && leb (s .size) benchSize && leb (s .capacity) benchCapacity) badSetting → v ≡ benchRefusal s
 unfolding settingsRefusal benchRefusal benchRange
 bench-rest s k v e h r = r ∙ go (inRange s) (leb (s .n) benchBricks && leb (s .size) benchSize && leb (s .capacity) benchCapacity) e
   where
-    go : (a b : Bool) → k ≡ refuseUnless a 1 → refuseUnless b 1 ≡ refuseUnless (a && b) 1
+    go : (a b : Bool) → k ≡ refuseUnless a badSetting → refuseUnless b badSetting ≡ refuseUnless (a && b) badSetting
     go true b d = refl
     go false b d = absurd (omega arith)
 
@@ -43,7 +43,7 @@ bench-fits s e =
     let n = leb-true (s .n) benchBricks (and-left _ _ (and-left _ _ t)) in
     let z = leb-true (s .size) benchSize (and-right (leb (s .n) benchBricks) _ (and-left _ _ t)) in
     let k = leb-true (s .capacity) benchCapacity (and-right (leb (s .n) benchBricks && leb (s .size) benchSize) _ t) in
-    let g = settings-passed s (ap (λ (b : Bool). refuseUnless b 1) r) in
+    let g = settings-passed s (ap (λ (b : Bool). refuseUnless b badSetting) r) in
     let m : s .m ≤ benchBricks = (let h = g .code .m-high in omega arith) in
     record {
       in-range = r;
@@ -54,4 +54,4 @@ bench-fits s e =
 
 pub bench-passed : (s : Settings) (k : ℕ) → k ≡ benchRefusal s → k ≡ 0 → Fits s
 unfolding benchRefusal
-bench-passed s k e z = bench-fits s (tested (benchRange s) 0 (sym e ∙ z))
+bench-passed s k e z = bench-fits s (tested (benchRange s) _ (sym e ∙ z))

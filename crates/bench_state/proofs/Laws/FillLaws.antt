@@ -29,6 +29,7 @@ use Rattle.bench_state.specs.declared.Bench.{Bench}
 use Rattle.register.specs.Runs.{freshSet}
 use Rattle.bench_state.specs.Workers.{Begun}
 use Rattle.bench_limits.specs.Limits.{keptLength, imageRoom, imagesLength}
+use Rattle.image_block.specs.Block.{blockBytes}
 
 lending-passes : (s : Settings) (brick len : ℕ) → inRange s ≡ true → len ≡ imageSize s → brick < s .n → lendingRefusal s brick len ≡ 0
 unfolding lendingRefusal firstRefusal
@@ -57,7 +58,7 @@ begun-more s images new k small h l e f =
         ∙ h .images-fresh b v
 
 -- one more image, as the code stores it
-pub begun-stored : (s : Settings) (images new : List ℕ) (k len : ℕ) → Small s → inRange s ≡ true → Begun s images k → k < s .n → len ≡ 512 * (s .capacity + 1)
+pub begun-stored : (s : Settings) (images new : List ℕ) (k len : ℕ) → Small s → inRange s ≡ true → Begun s images k → k < s .n → len ≡ blockBytes * (s .capacity + 1)
     → length new ≡ length (take (k * imageRoom + len - k * imageRoom) (drop (k * imageRoom) images))
     → new ≡ freshAfter s k (take (k * imageRoom + len - k * imageRoom) (drop (k * imageRoom) images))
     → Begun s (putMid (k * imageRoom) (k * imageRoom + len - k * imageRoom) images new) (k + 1)
@@ -66,7 +67,7 @@ begun-stored s images new k len small r h l e el f =
     let a = small .bricks in
     let b = small .log-fits in
     let g = h .long in
-    let long : length (take (k * imageRoom + len - k * imageRoom) (drop (k * imageRoom) images)) ≡ 512 * (s .capacity + 1) =
+    let long : length (take (k * imageRoom + len - k * imageRoom) (drop (k * imageRoom) images)) ≡ blockBytes * (s .capacity + 1) =
     length-take-le (k * imageRoom + len - k * imageRoom) (drop (k * imageRoom) images) (let d = length-drop (k * imageRoom) images in omega arith) ∙ (omega arith)
     in
     subst (λ (i : List ℕ). Begun s i (k + 1)) (sym (put-mid (k * imageRoom) (k * imageRoom + len) images new (omega arith) (omega arith)))
@@ -74,7 +75,7 @@ begun-stored s images new k len small r h l e el f =
     (f ∙ ap (λ (n : ℕ). cond (eqb n 0) (imageOf s k (Brick.freshBrick s)) (take (k * imageRoom + len - k * imageRoom) (drop (k * imageRoom) images)))
     (passes (take (k * imageRoom + len - k * imageRoom) (drop (k * imageRoom) images)) long)))
   where
-    passes : (t : List ℕ) → length t ≡ 512 * (s .capacity + 1) → lendingRefusal s k (length t) ≡ 0
+    passes : (t : List ℕ) → length t ≡ blockBytes * (s .capacity + 1) → lendingRefusal s k (length t) ≡ 0
     passes t long = lending-passes s k (length t) r long l
 
 -- a set that began, by what the parts of its beginning gave

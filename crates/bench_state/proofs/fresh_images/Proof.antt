@@ -6,6 +6,7 @@ use Rattle.bench_state.specs.Workers.{Begun}
 use Rattle.bench_state.proofs.Laws.FillLaws.{begun-none, begun-stored}
 use Rattle.bench_state.proofs.fresh_images.Statement.{statement}
 use Rattle.bench_state.proofs.fresh_images.Tie as tie
+use Rattle.image_block.specs.Block.{blockBytes}
 
 abbrev Inv-loop : tie.InvT-loop
 Inv-loop s images₀ b₀ images b = Begun s images b × (b ≤ s .n)
@@ -50,7 +51,7 @@ loop-again : tie.Need-loop-again Inv-loop μ-loop
 loop-again c =
     let s = c .before .before .before .before .before .before .before .before .before in
     let p = c .before .before .before .before .before .before .before .loop in (
-      begun-stored (s .args .s) (p .images) _ (p .b) (512 * (s .args .s .capacity + 1)) (s .pre .0 .1) (s .pre .0 .0) (p .inv .0) (c .before .before .before .before .before .if1 .taken) refl
+      begun-stored (s .args .s) (p .images) _ (p .b) (blockBytes * (s .args .s .capacity + 1)) (s .pre .0 .1) (s .pre .0 .0) (p .inv .0) (c .before .before .before .before .before .if1 .taken) refl
           (c .before .before .write-fresh .kept .1 .1 .0) (c .before .before .write-fresh .ensures .1),
       omega arith,
     )

@@ -18,6 +18,7 @@ use Rattle.bench_state.specs.Workers.{Fits, withUp}
 use Rattle.bench_state.specs.declared.Bench.{Bench}
 use Rattle.bench_state.proofs.Laws.StateLaws.{up-put}
 use Rattle.register.specs.Runs.{World, Event, goesDown, comesUp, step, standing}
+use Rattle.settings.specs.Refusal.{badNumber}
 
 -- a brick goes down or comes up
 pub switched : (b : Bench) (l : Lent) (out : List ℕ) (brick flag : ℕ) (e : Event) (bench : Bench) → Fits (b .settings) → b .sent ≤ lastMessage → brick < b .settings .n
@@ -52,6 +53,6 @@ switch-flag b l out brick flag bench fits few h four eb =
     go false = refl
 
 pub switch-past : (b : Bench) (l : Lent) (out out′ : List ℕ) (brick : ℕ) (e : Event) (r : After) → b .settings .n ≤ brick
-    → Turned b l 0 out (refuses (worldIn b l) 3) r l out′ → Turned b l 0 out (switches (b .settings) (worldIn b l) brick e) r l out′
+    → Turned b l 0 out (refuses (worldIn b l) badNumber) r l out′ → Turned b l 0 out (switches (b .settings) (worldIn b l) brick e) r l out′
 unfolding switches
 switch-past b l out out′ brick e r h t = rw (le-ltb brick (b .settings .n) h) t

@@ -11,7 +11,7 @@ use Rattle.coord_record.specs.declared.Op.{Op}
 use Rattle.byte_lists.proofs.Laws.BoolLaws.{and-left, and-right}
 use Rattle.settings.specs.Times.{noUpperEnd, validTime}
 use Rattle.coord_laws.specs.OpCases.{InRead}
-use Rattle.message.specs.Kinds.{lastRound, readKind, orderKind, orderReadKind, writeKind}
+use Rattle.message.specs.Kinds.{lastRound, readKind, orderKind, orderReadKind, writeKind, firstRound, secondRound, thirdRound}
 use Rattle.coord_record.specs.Records.{idleKind, readingKind, writingKind}
 
 pub clash : {A : Type 0} → false ≡ true → A
@@ -19,11 +19,11 @@ clash e = absurd (let z : _≡_ {A = ℕ} 0 1 = cc in omega arith)
 
 -- how kind, phase and round of a running operation go together
 pub data Fit (op : Op) : Type 0 where
-  reading : op .kind ≡ readingKind → op .phase ≡ readKind → op .round ≡ 1 → Fit op
-  looking : op .kind ≡ readingKind → op .phase ≡ orderReadKind → 2 ≤ op .round → maxRight (op .round) (op .max) ≡ true → Fit op
-  restoring : op .kind ≡ readingKind → op .phase ≡ writeKind → 3 ≤ op .round → Fit op
-  ordering : op .kind ≡ writingKind → op .phase ≡ orderKind → op .round ≡ 1 → op .first ≡ 0 → Fit op
-  storing : op .kind ≡ writingKind → op .phase ≡ writeKind → op .round ≡ 2 → Fit op
+  reading : op .kind ≡ readingKind → op .phase ≡ readKind → op .round ≡ firstRound → Fit op
+  looking : op .kind ≡ readingKind → op .phase ≡ orderReadKind → secondRound ≤ op .round → maxRight (op .round) (op .max) ≡ true → Fit op
+  restoring : op .kind ≡ readingKind → op .phase ≡ writeKind → thirdRound ≤ op .round → Fit op
+  ordering : op .kind ≡ writingKind → op .phase ≡ orderKind → op .round ≡ firstRound → op .first ≡ 0 → Fit op
+  storing : op .kind ≡ writingKind → op .phase ≡ writeKind → op .round ≡ secondRound → Fit op
 
 pub fit : (op : Op) → opRight op ≡ true → (op .kind ≡ idleKind → op .phase ≡ 0 → ⊥) → Fit op
 unfolding opRight unsetOp readRight storedRight writeRight
@@ -40,17 +40,17 @@ fit op e n = go (eqb (op .kind) idleKind) (eqb (op .kind) readingKind) refl refl
         kind = eqb-true (op .kind) readingKind eb
 
         read-phase : (x y : Bool) → eqb (op .phase) readKind ≡ x → eqb (op .phase) orderReadKind ≡ y
-            → cond x (eqb (op .round) 1 && eqb (op .max) 0)
-            (cond y (leb 2 (op .round) && leb (op .round) lastRound && maxRight (op .round) (op .max))
-            (eqb (op .phase) writeKind && leb 3 (op .round) && leb (op .round) lastRound && eqb (op .max) 0)) ≡ true
+            → cond x (eqb (op .round) firstRound && eqb (op .max) 0)
+            (cond y (leb secondRound (op .round) && leb (op .round) lastRound && maxRight (op .round) (op .max))
+            (eqb (op .phase) writeKind && leb thirdRound (op .round) && leb (op .round) lastRound && eqb (op .max) 0)) ≡ true
             → Fit op
-        read-phase true y ex ey w = reading kind (eqb-true (op .phase) readKind ex) (eqb-true (op .round) 1 (and-left _ _ w))
+        read-phase true y ex ey w = reading kind (eqb-true (op .phase) readKind ex) (eqb-true (op .round) firstRound (and-left _ _ w))
         read-phase false true ex ey w =
-            looking kind (eqb-true (op .phase) orderReadKind ey) (leb-true 2 (op .round) (and-left _ _ (and-left _ _ w)))
-            (and-right (leb 2 (op .round) && leb (op .round) lastRound) _ w)
+            looking kind (eqb-true (op .phase) orderReadKind ey) (leb-true secondRound (op .round) (and-left _ _ (and-left _ _ w)))
+            (and-right (leb secondRound (op .round) && leb (op .round) lastRound) _ w)
         read-phase false false ex ey w =
             let l = and-left _ _ (and-left _ _ w) in
-            restoring kind (eqb-true (op .phase) writeKind (and-left _ _ l)) (leb-true 3 (op .round) (and-right (eqb (op .phase) writeKind) _ l))
+            restoring kind (eqb-true (op .phase) writeKind (and-left _ _ l)) (leb-true thirdRound (op .round) (and-right (eqb (op .phase) writeKind) _ l))
     go false false ea eb q =
         write-phase (eqb (op .phase) orderKind) refl (and-right (eqb (op .first) 0 && eqb (op .max) 0) _ (and-right (eqb (op .kind) writingKind) _ q))
       where
@@ -60,9 +60,9 @@ fit op e n = go (eqb (op .kind) idleKind) (eqb (op .kind) readingKind) refl refl
         first : op .first ≡ 0
         first = eqb-true (op .first) 0 (and-left _ _ (and-left _ _ (and-right (eqb (op .kind) writingKind) _ q)))
 
-        write-phase : (x : Bool) → eqb (op .phase) orderKind ≡ x → cond x (eqb (op .round) 1) (eqb (op .phase) writeKind && eqb (op .round) 2) ≡ true → Fit op
-        write-phase true ex w = ordering kind (eqb-true (op .phase) orderKind ex) (eqb-true (op .round) 1 w) first
-        write-phase false ex w = storing kind (eqb-true (op .phase) writeKind (and-left _ _ w)) (eqb-true (op .round) 2 (and-right (eqb (op .phase) writeKind) _ w))
+        write-phase : (x : Bool) → eqb (op .phase) orderKind ≡ x → cond x (eqb (op .round) firstRound) (eqb (op .phase) writeKind && eqb (op .round) secondRound) ≡ true → Fit op
+        write-phase true ex w = ordering kind (eqb-true (op .phase) orderKind ex) (eqb-true (op .round) firstRound w) first
+        write-phase false ex w = storing kind (eqb-true (op .phase) writeKind (and-left _ _ w)) (eqb-true (op .round) secondRound (and-right (eqb (op .phase) writeKind) _ w))
 
 pub in-read : (op : Op) → opRight op ≡ true → op .phase ≡ readKind → InRead op
 in-read op e p = go (fit op e (λ _ z. omega arith))
@@ -77,7 +77,7 @@ in-read op e p = go (fit op e (λ _ z. omega arith))
 -- an Order round: a write in its first round
 pub record InOrder (op : Op) : Type 0 where
   pub kind-is : op .kind ≡ writingKind
-  pub round-is : op .round ≡ 1
+  pub round-is : op .round ≡ firstRound
   pub first-is : op .first ≡ 0
 
 pub in-order : (op : Op) → opRight op ≡ true → op .phase ≡ orderKind → InOrder op
@@ -93,7 +93,7 @@ in-order op e p = go (fit op e (λ _ z. omega arith))
 -- an Order-and-read round: a read from its second round on
 pub record InRecovery (op : Op) : Type 0 where
   pub kind-is : op .kind ≡ readingKind
-  pub round-low : 2 ≤ op .round
+  pub round-low : secondRound ≤ op .round
 
 pub in-recovery : (op : Op) → opRight op ≡ true → op .phase ≡ orderReadKind → InRecovery op
 in-recovery op e p = go (fit op e (λ _ z. omega arith))
@@ -115,9 +115,9 @@ unfolding opRight readRight nextOp maxRight
 next-recovery op max i l v =
     rw (
       i .kind-is,
-      le-leb 2 (op .round + 1) (let q = i .round-low in omega arith),
+      le-leb secondRound (op .round + 1) (let q = i .round-low in omega arith),
       le-leb (op .round + 1) lastRound (omega arith),
-      ne-eqb (op .round + 1) 2 (λ q. absurd (let s = i .round-low in omega arith)),
+      ne-eqb (op .round + 1) secondRound (λ q. absurd (let s = i .round-low in omega arith)),
       v,
     )
 
@@ -128,4 +128,4 @@ write-stores op i = rw (i .kind-is, i .round-is, i .first-is)
 pub read-stores : (op : Op) → InRecovery op → op .round < lastRound → opRight (nextOp op writeKind 0) ≡ true
 unfolding opRight readRight storedRight nextOp
 read-stores op i l =
-    rw (i .kind-is, le-leb 3 (op .round + 1) (let q = i .round-low in omega arith), le-leb (op .round + 1) lastRound (omega arith))
+    rw (i .kind-is, le-leb thirdRound (op .round + 1) (let q = i .round-low in omega arith), le-leb (op .round + 1) lastRound (omega arith))

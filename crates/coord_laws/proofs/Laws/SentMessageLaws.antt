@@ -18,19 +18,19 @@ use Rattle.message.specs.Messages.{roundRight, kindRight, messageRefusal}
 use Rattle.byte_lists.proofs.Laws.BoolLaws.{and-left, and-right}
 use Rattle.settings.specs.Times.{maxCount, noUpperEnd, timeOf, validTime, coordinatorCount, lastCoordinator}
 use Rattle.settings.specs.declared.Clock.{Clock}
-use Rattle.message.specs.Kinds.{lastRound, readKind, orderReadKind, writeKind, trimKind}
+use Rattle.message.specs.Kinds.{lastRound, readKind, orderReadKind, writeKind, trimKind, firstRound, secondRound}
 use Rattle.coord_record.specs.Records.{idleKind}
 
 -- what a running operation that is right has
 pub record RunningOp (op : Op) : Type 0 where
   pub phase-low : readKind ≤ op .phase
   pub phase-high : op .phase ≤ writeKind
-  pub round-low : 1 ≤ op .round
+  pub round-low : firstRound ≤ op .round
   pub max-low : op .phase ≡ orderReadKind → op .max ≤ noUpperEnd
 
 max-high : (round max : ℕ) → maxRight round max ≡ true → max ≤ noUpperEnd
 unfolding maxRight validTime
-max-high round max e = go (eqb round 2) e
+max-high round max e = go (eqb round secondRound) e
   where
     go : (b : Bool) → cond b (eqb max noUpperEnd) (leb (timeOf 1 0) max && ltb max noUpperEnd) ≡ true → max ≤ noUpperEnd
     go true q = let z = eqb-true max noUpperEnd q in omega arith
@@ -69,7 +69,7 @@ message-passes n m c targets g k t =
     let r = running (c .op) (g .parts .op-right) k in
     rw (
       time-valid (c .op .kind) (c .op .time) (c .clock) (g .parts .time-right) k (g .parts .number-low) (g .parts .last-low),
-      le-leb 1 (c .op .round) (r .round-low),
+      le-leb firstRound (c .op .round) (r .round-low),
       le-leb (c .op .round) lastRound (round-high (c .op) (g .parts .op-right)),
     )
     (go r (eqb (c .op .phase) orderReadKind) (eqb (c .op .phase) readKind) refl refl)

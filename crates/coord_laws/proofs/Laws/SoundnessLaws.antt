@@ -346,7 +346,8 @@ write-good n m size h reading bytes w e =
     let range = code-passed n m size (passed-first (codeRefusal n m size) _ (p .0)) in
     let d = drawn-went (drawOf (h .state .clock) reading) f w (p .1) in
     subst (λ (v : Went). Good n m (v .next .state)) (d .3)
-    (begun-good n m size 2 2 (d .0) 0 reading (h .state .clock) (d .1) range (λ q. absurd (omega arith)) (d .2) (omega (arith, range .n-low)) (first-write m (d .0) .0) (first-write m (d .0) .1))
+    (begun-good n m size writingKind orderKind (d .0) 0 reading (h .state .clock) (d .1) range (λ q. absurd (omega arith)) (d .2) (omega (arith, range .n-low))
+    (first-write m (d .0) .0) (first-write m (d .0) .1))
 
 -- A read:
 pub read-good : (n m size : ℕ) (h : Buffered) (reading first : ℕ) (w : Went) → readStep n m size h reading first ≡ went w → Good n m (w .next .state)
@@ -358,7 +359,7 @@ read-good n m size h reading first w e =
     let low = first-low n m size (h .state) reading first _ refl (p .0) in
     let d = drawn-went (drawOf (h .state .clock) reading) f w (p .1) in
     subst (λ (v : Went). Good n m (v .next .state)) (d .3)
-    (begun-good n m size 1 1 (d .0) first reading (h .state .clock) (d .1) range (λ q. absurd (omega arith)) (d .2) low (first-read m (d .0) first .0) (first-read m (d .0) first .1))
+    (begun-good n m size readingKind readKind (d .0) first reading (h .state .clock) (d .1) range (λ q. absurd (omega arith)) (d .2) low (first-read m (d .0) first .0) (first-read m (d .0) first .1))
 
 -- and a good record is sound.
 pub good-sound : (n m : ℕ) (c : Coordinator) → Good n m c → soundRecord n m c ≡ true

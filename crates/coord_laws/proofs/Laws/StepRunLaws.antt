@@ -18,7 +18,7 @@ use Rattle.settings.proofs.Laws.TimeLaws.{gave}
 use Rattle.settings.specs.Times.{timeOf, nextCount, drawOf}
 use Rattle.settings.specs.declared.Clock.{Clock}
 use Rattle.settings.specs.declared.Draw.the-variants.{Drawn}
-use Rattle.message.specs.Kinds.{readKind, orderKind}
+use Rattle.message.specs.Kinds.{readKind, orderKind, firstRound}
 
 -- A reply that is not refused: the checks passed; it is of the running operation and round, from a brick not counted before.
 pub record ReplyTaken (n m size : ℕ) (h : Buffered) (r : Reply) (block : List ℕ) (coded : ℕ) (w : Went) : Type 0 where
@@ -46,7 +46,7 @@ pub record Begins (h : Buffered) (kind : ℕ) (w : Went) : Type 0 where
   pub same-number : w .next .state .clock .coordinator ≡ h .state .clock .coordinator
   pub time-is : w .next .state .op .time ≡ timeOf (w .next .state .clock .last) (h .state .clock .coordinator)
   pub kind-is : w .next .state .op .kind ≡ kind
-  pub round-is : w .next .state .op .round ≡ 1
+  pub round-is : w .next .state .op .round ≡ firstRound
   pub seen-is : w .seen ≡ record { what = beganSeen; kind = kind; time = w .next .state .op .time; bricks = noBricks }
 
 begins : (h : Buffered) (reading kind phase first t : ℕ) (next : Clock) (stripe targets : List ℕ) → drawOf (h .state .clock) reading ≡ Drawn t next
@@ -57,23 +57,23 @@ begins h reading kind phase first t next stripe targets e =
     record { rises = omega (arith, g .count); same-number = g .same; time-is = g .time; kind-is = refl; round-is = refl; seen-is = refl }
 
 pub write-begins : (n m size : ℕ) (h : Buffered) (reading : ℕ) (bytes : List ℕ) (w : Went) → writeStep n m size h reading bytes ≡ went w
-    → Begins h 2 w × (w .next .stripe ≡ bytes)
+    → Begins h writingKind w × (w .next .stripe ≡ bytes)
 unfolding writeStep starting
 write-begins n m size h reading bytes w e =
     let f : ℕ → Clock → Went = λ time clock. starting h clock (firstOp writingKind orderKind time 0) bytes noBricks in
     let p = passes (writeRefusal n m size (h .state) reading (length bytes) (length (h .stripe))) (drawnThen (drawOf (h .state .clock) reading) f) w e in
     let d = drawn-went (drawOf (h .state .clock) reading) f w (p .1) in (
-      subst (Begins h 2) (d .3) (begins h reading 2 2 0 (d .0) (d .1) bytes noBricks (d .2)),
+      subst (Begins h writingKind) (d .3) (begins h reading writingKind orderKind 0 (d .0) (d .1) bytes noBricks (d .2)),
       ap (λ (v : Went). v .next .stripe) (sym (d .3)),
     )
 
 pub read-begins : (n m size : ℕ) (h : Buffered) (reading first : ℕ) (w : Went) → readStep n m size h reading first ≡ went w
-    → Begins h 1 w × (w .sent ≡ record { message = roundMessage (w .next .state .op) (targetFlags n m first); blocks = [] } ∷ [])
+    → Begins h readingKind w × (w .sent ≡ record { message = roundMessage (w .next .state .op) (targetFlags n m first); blocks = [] } ∷ [])
 unfolding readStep starting
 read-begins n m size h reading first w e =
     let f : ℕ → Clock → Went = λ time clock. starting h clock (firstOp readingKind readKind time first) (h .stripe) (targetFlags n m first) in
     let p = passes (readRefusal n m size (h .state) reading first) (drawnThen (drawOf (h .state .clock) reading) f) w e in
     let d = drawn-went (drawOf (h .state .clock) reading) f w (p .1) in (
-      subst (Begins h 1) (d .3) (begins h reading 1 1 first (d .0) (d .1) (h .stripe) (targetFlags n m first) (d .2)),
+      subst (Begins h readingKind) (d .3) (begins h reading readingKind readKind first (d .0) (d .1) (h .stripe) (targetFlags n m first) (d .2)),
       subst (λ (v : Went). v .sent ≡ record { message = roundMessage (v .next .state .op) (targetFlags n m first); blocks = [] } ∷ []) (d .3) refl,
     )

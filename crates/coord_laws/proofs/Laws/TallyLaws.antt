@@ -23,7 +23,7 @@ use Rattle.message.specs.declared.Reply.{Reply}
 use Rattle.settings.specs.Count.{count, one-if}
 use Rattle.settings.proofs.Laws.CountLaws.{one-is}
 use Rattle.byte_lists.proofs.Laws.BoolLaws.{and-left, and-right}
-use Rattle.settings.specs.Refusal.{firstRefusal, refuseUnless}
+use Rattle.settings.specs.Refusal.{firstRefusal, refuseUnless, badNumber, badMessage}
 use Rattle.settings.specs.Times.{validTime}
 use Rattle.coord_laws.specs.Soundness.{Sized}
 use Rattle.settings.specs.Ranges.{maxBricks}
@@ -87,7 +87,7 @@ pub reply-parts : (n : ℕ) (r : Reply) → replyRefusal n r ≡ 0 → ReplyPart
 unfolding replyRefusal firstRefusal
 reply-parts n r e = go (ltb (r .brick) n) (replyRight r) refl refl e
   where
-    go : (a b : Bool) → ltb (r .brick) n ≡ a → replyRight r ≡ b → firstRefusal (refuseUnless a 3 ∷ refuseUnless b 10 ∷ []) ≡ 0 → ReplyParts n r
+    go : (a b : Bool) → ltb (r .brick) n ≡ a → replyRight r ≡ b → firstRefusal (refuseUnless a badNumber ∷ refuseUnless b badMessage ∷ []) ≡ 0 → ReplyParts n r
     go true true ea eb q = right-parts n r (ltb-true (r .brick) n ea) eb
     go true false ea eb q = absurd (omega arith)
     go false b ea eb q = absurd (omega arith)

@@ -14,7 +14,7 @@ use Rattle.byte_lists.proofs.Laws.BoolLaws.{and-left, and-right}
 use Rattle.settings.specs.Ranges.{quorum}
 use Rattle.settings.specs.Times.{maxCount, lastCoordinator}
 use Rattle.coord_record.specs.SoundParts.{SoundParts}
-use Rattle.message.specs.Kinds.{lastRound, readKind, orderKind, orderReadKind, writeKind}
+use Rattle.message.specs.Kinds.{lastRound, readKind, orderKind, orderReadKind, writeKind, firstRound, secondRound, thirdRound}
 use Rattle.coord_record.specs.Records.{idleKind, readingKind, writingKind}
 
 pub sound-from : (n m : ℕ) (c : Coordinator) → SoundParts n m c → soundRecord n m c ≡ true
@@ -62,14 +62,14 @@ sound-parts n m c e =
 pub round-high : (op : Op) → opRight op ≡ true → op .round ≤ lastRound
 unfolding opRight unsetOp readRight storedRight writeRight
 round-high op e =
-    go (eqb (op .kind) idleKind) (eqb (op .kind) readingKind) (eqb (op .phase) readKind) (eqb (op .phase) orderReadKind) (eqb (op .phase) orderKind) (eqb (op .round) 0) (eqb (op .round) 1)
-    (eqb (op .round) 2) (leb (op .round) lastRound) refl refl refl refl e
+    go (eqb (op .kind) idleKind) (eqb (op .kind) readingKind) (eqb (op .phase) readKind) (eqb (op .phase) orderReadKind) (eqb (op .phase) orderKind) (eqb (op .round) 0) (eqb (op .round) firstRound)
+    (eqb (op .round) secondRound) (leb (op .round) lastRound) refl refl refl refl e
   where
-    go : (k0 k1 p1 p3 p2 r0 r1 r2 h : Bool) → eqb (op .round) 0 ≡ r0 → eqb (op .round) 1 ≡ r1 → eqb (op .round) 2 ≡ r2 → leb (op .round) lastRound ≡ h
+    go : (k0 k1 p1 p3 p2 r0 r1 r2 h : Bool) → eqb (op .round) 0 ≡ r0 → eqb (op .round) firstRound ≡ r1 → eqb (op .round) secondRound ≡ r2 → leb (op .round) lastRound ≡ h
         → cond k0 (eqb (op .phase) 0 && r0 && eqb (op .max) 0 && eqb (op .first) 0)
         (cond k1
         (cond p1 (r1 && eqb (op .max) 0)
-        (cond p3 (leb 2 (op .round) && h && maxRight (op .round) (op .max)) (eqb (op .phase) writeKind && leb 3 (op .round) && h && eqb (op .max) 0)))
+        (cond p3 (leb secondRound (op .round) && h && maxRight (op .round) (op .max)) (eqb (op .phase) writeKind && leb thirdRound (op .round) && h && eqb (op .max) 0)))
         (eqb (op .kind) writingKind && (eqb (op .first) 0 && eqb (op .max) 0 && cond p2 r1 (eqb (op .phase) writeKind && r2))))
         ≡ true
         → op .round ≤ lastRound
@@ -77,16 +77,17 @@ round-high op e =
         let z = eqb-true (op .round) 0 (e0 ∙ and-right (eqb (op .phase) 0) r0
         (and-left (eqb (op .phase) 0 && r0) (eqb (op .max) 0) (and-left (eqb (op .phase) 0 && r0 && eqb (op .max) 0) (eqb (op .first) 0) q))) in
         omega arith
-    go false true true p3 p2 r0 r1 r2 h e0 e1 e2 eh q = let z = eqb-true (op .round) 1 (e1 ∙ and-left r1 (eqb (op .max) 0) q) in omega arith
+    go false true true p3 p2 r0 r1 r2 h e0 e1 e2 eh q = let z = eqb-true (op .round) firstRound (e1 ∙ and-left r1 (eqb (op .max) 0) q) in omega arith
     go false true false true p2 r0 r1 r2 h e0 e1 e2 eh q =
-        leb-true (op .round) lastRound (eh ∙ and-right (leb 2 (op .round)) h (and-left (leb 2 (op .round) && h) (maxRight (op .round) (op .max)) q))
+        leb-true (op .round) lastRound (eh ∙ and-right (leb secondRound (op .round)) h (and-left (leb secondRound (op .round) && h) (maxRight (op .round) (op .max)) q))
     go false true false false p2 r0 r1 r2 h e0 e1 e2 eh q =
-        leb-true (op .round) lastRound (eh ∙ and-right (eqb (op .phase) writeKind && leb 3 (op .round)) h (and-left (eqb (op .phase) writeKind && leb 3 (op .round) && h) (eqb (op .max) 0) q))
+        leb-true (op .round) lastRound (eh ∙ and-right (eqb (op .phase) writeKind && leb thirdRound (op .round)) h
+        (and-left (eqb (op .phase) writeKind && leb thirdRound (op .round) && h) (eqb (op .max) 0) q))
     go false false p1 p3 true r0 r1 r2 h e0 e1 e2 eh q =
-        let z = eqb-true (op .round) 1 (e1 ∙ and-right (eqb (op .first) 0 && eqb (op .max) 0) r1 (and-right (eqb (op .kind) writingKind) (eqb (op .first) 0 && eqb (op .max) 0 && r1) q)) in
+        let z = eqb-true (op .round) firstRound (e1 ∙ and-right (eqb (op .first) 0 && eqb (op .max) 0) r1 (and-right (eqb (op .kind) writingKind) (eqb (op .first) 0 && eqb (op .max) 0 && r1) q)) in
         omega arith
     go false false p1 p3 false r0 r1 r2 h e0 e1 e2 eh q =
-        let z = eqb-true (op .round) 2 (e2 ∙ and-right (eqb (op .phase) writeKind) r2
+        let z = eqb-true (op .round) secondRound (e2 ∙ and-right (eqb (op .phase) writeKind) r2
         (and-right (eqb (op .first) 0 && eqb (op .max) 0) (eqb (op .phase) writeKind && r2)
         (and-right (eqb (op .kind) writingKind) (eqb (op .first) 0 && eqb (op .max) 0 && (eqb (op .phase) writeKind && r2)) q))) in
         omega arith

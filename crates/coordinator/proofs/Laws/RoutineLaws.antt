@@ -63,7 +63,7 @@ record-passes n m c more e =
     let a = passed-first (refuseUnless (leb (c .clock .coordinator) lastCoordinator) badNumber) (refuseUnless (soundRecord n m c) badRecord ∷ more) e in
     let b = passed-rest (refuseUnless (leb (c .clock .coordinator) lastCoordinator) badNumber) (refuseUnless (soundRecord n m c) badRecord ∷ more) e in
     let d = passed-first (refuseUnless (soundRecord n m c) badRecord) more b in (
-      record-passed n m c 0 (sym (low-sound n m c (tested (leb (c .clock .coordinator) lastCoordinator) 2 a) (tested (soundRecord n m c) 5 d))) refl,
+      record-passed n m c 0 (sym (low-sound n m c (tested (leb (c .clock .coordinator) lastCoordinator) _ a) (tested (soundRecord n m c) _ d))) refl,
       passed-rest (refuseUnless (soundRecord n m c) badRecord) more b,
     )
 
@@ -90,9 +90,9 @@ take-passed n m size c r block blocks stripe coded bad e z =
     let all = sym e ∙ z in
     let code = passed-first (codeRefusal n m size) _ all in
     let l = passed-rest (codeRefusal n m size) _ all in
-    let lengths = tested (lengthsRight n m size (r .held) block blocks stripe coded) 1 (passed-first (refuseUnless (lengthsRight n m size (r .held) block blocks stripe coded) badLength) _ l) in
+    let lengths = tested (lengthsRight n m size (r .held) block blocks stripe coded) _ (passed-first (refuseUnless (lengthsRight n m size (r .held) block blocks stripe coded) badLength) _ l) in
     let b = passed-rest (refuseUnless (lengthsRight n m size (r .held) block blocks stripe coded) badLength) _ l in
-    let brick = tested (ltb (r .brick) n) 2 (passed-first (refuseUnless (ltb (r .brick) n) badNumber) _ b) in
+    let brick = tested (ltb (r .brick) n) _ (passed-first (refuseUnless (ltb (r .brick) n) badNumber) _ b) in
     let s = record-passes n m c _ (passed-rest (refuseUnless (ltb (r .brick) n) badNumber) _ b) in
     let three = and-left (eqb blocks (n * size) && eqb stripe (m * size) && eqb coded (n * size)) (not (r .held) || eqb block size) lengths in
     let two = and-left (eqb blocks (n * size) && eqb stripe (m * size)) (eqb coded (n * size)) three in
@@ -105,7 +105,7 @@ take-passed n m size c r block blocks stripe coded bad e z =
       brick-low = ltb-true (r .brick) n brick;
       parts = sound-parts n m c (s .0 .is-sound);
       reply-right = passed-first (replyRefusal n r) _ (s .1);
-      in-round = tested (answers n m (c .op) (c .tally) r) 10 (passed-first (refuseUnless (answers n m (c .op) (c .tally) r) strayReply) [] (passed-rest (replyRefusal n r) _ (s .1)));
+      in-round = tested (answers n m (c .op) (c .tally) r) _ (passed-first (refuseUnless (answers n m (c .op) (c .tally) r) strayReply) [] (passed-rest (replyRefusal n r) _ (s .1)));
     }
 
 -- a reply's block fits in its place
@@ -319,7 +319,7 @@ pub write-lengths : (n m size : ℕ) (c : Coordinator) (reading bytes stripe bad
 unfolding writeRefusal
 write-lengths n m size c reading bytes stripe bad e z =
     let l = passed-rest (codeRefusal n m size) _ (sym e ∙ z) in
-    let t = tested (eqb bytes (m * size) && eqb stripe (m * size)) 1 (passed-first (refuseUnless (eqb bytes (m * size) && eqb stripe (m * size)) badLength) _ l) in
+    let t = tested (eqb bytes (m * size) && eqb stripe (m * size)) _ (passed-first (refuseUnless (eqb bytes (m * size) && eqb stripe (m * size)) badLength) _ l) in
     eqb-true bytes (m * size) (and-left (eqb bytes (m * size)) (eqb stripe (m * size)) t)
     ∙ sym (eqb-true stripe (m * size) (and-right (eqb bytes (m * size)) (eqb stripe (m * size)) t))
 
@@ -327,7 +327,7 @@ pub first-low : (n m size : ℕ) (c : Coordinator) (reading first bad : ℕ) →
 unfolding readRefusal
 first-low n m size c reading first bad e z =
     let l = passed-rest (codeRefusal n m size) _ (sym e ∙ z) in
-    ltb-true first n (tested (ltb first n) 2 (passed-first (refuseUnless (ltb first n) badNumber) _ l))
+    ltb-true first n (tested (ltb first n) _ (passed-first (refuseUnless (ltb first n) badNumber) _ l))
 
 pub start-by : (clock : Clock) (op op′ : Op) (targets : List ℕ) (a : Answer) → a ≡ startAnswer clock op targets → op ≡ op′ → a ≡ startAnswer clock op′ targets
 start-by clock op op′ targets a e eo = e ∙ ap (λ (o : Op). startAnswer clock o targets) eo

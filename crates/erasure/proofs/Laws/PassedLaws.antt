@@ -82,7 +82,7 @@ pub record Decodes (n m size : ℕ) (bricks : List ℕ) (blocks stripe : ℕ) : 
 pub encode-passed : (n m size s c : ℕ) → encodeRefusal n m size s c ≡ 0 → Encodes n m size s c
 unfolding encodeRefusal
 encode-passed n m size s c e =
-    let l = tested (eqb s (m * size) && eqb c (n * size)) 1 (passed-first _ [] (passed-rest (codeRefusal n m size) _ e)) in
+    let l = tested (eqb s (m * size) && eqb c (n * size)) _ (passed-first _ [] (passed-rest (codeRefusal n m size) _ e)) in
     record {
       range = code-passed n m size (passed-first (codeRefusal n m size) _ e);
       stripe-length = eqb-true s (m * size) (and-left _ _ l);
@@ -93,17 +93,17 @@ pub decode-passed : (n m size : ℕ) (bricks : List ℕ) (b s : ℕ) → decodeR
 unfolding decodeRefusal
 decode-passed n m size bricks b s e =
     let r1 = passed-rest (codeRefusal n m size) _ e in
-    let l = tested (eqb b (m * size) && eqb s (m * size)) 1 (passed-first _ _ r1) in
+    let l = tested (eqb b (m * size) && eqb s (m * size)) _ (passed-first _ _ r1) in
     let r2 = passed-rest (refuseUnless (eqb b (m * size) && eqb s (m * size)) badLength) _ r1 in
     let r3 = passed-rest (refuseUnless (allBelow bricks n) badNumber) _ r2 in
-    let d = tested (eqb (length bricks) m && allDifferent bricks) 3 (passed-first _ [] r3) in
+    let d = tested (eqb (length bricks) m && allDifferent bricks) _ (passed-first _ [] r3) in
     let range = code-passed n m size (passed-first (codeRefusal n m size) _ e) in
     let count = eqb-true (length bricks) m (and-left _ _ d) in
     record {
       range = range;
       blocks-length = eqb-true b (m * size) (and-left _ _ l);
       stripe-length = eqb-true s (m * size) (and-right (eqb b (m * size)) _ l);
-      below = tested (allBelow bricks n) 2 (passed-first _ _ r2);
+      below = tested (allBelow bricks n) _ (passed-first _ _ r2);
       count = count;
       set = different-set bricks (and-right (eqb (length bricks) m) _ d) (let a = range .m-high in let c = range .n-high in omega arith);
     }

@@ -2,7 +2,7 @@ use Prim.Native.Nat.{_-_}
 use native.Mathlib.Omega.{arith}
 use mathlib.Core.Logic.{⊎-elim}
 use Rattle.image_block.specs.Block.{blockBytes}
-use Rattle.byte_lists.proofs.Laws.SameLaws.{Comparing, comparing-none, comparing-same, comparing-other, comparing-all}
+use Rattle.image_block.proofs.Laws.CompareLaws.{Comparing, comparing-none, comparing-same, comparing-other, comparing-all}
 use Rattle.image_block.proofs.same_body.Statement.{statement}
 use Rattle.image_block.proofs.same_body.Tie as tie
 

@@ -2,13 +2,13 @@
 use mathlib.Core.Path.{_≡_, refl, sym, ap, ap₂, subst, fun-ext, _∙_}
 use mathlib.Core.Bool.{Bool, true, false, cond}
 use mathlib.Core.List.{List, [], _∷_, _++_, append-nil}
-use Prim.Native.Nat.{ℕ, zero, suc, _*_, _%_, _≤_}
+use Prim.Native.Nat.{ℕ, zero, suc, _*_, _≤_}
 use native.Mathlib.Omega.{arith}
 use lib.Dec.{leb, ltb, eqb}
 use lib.ListN.{length, replicate}
 use borrow.Author.Tests.{eqb-true, eq-eqb, leb-false}
 use Rattle.settings.specs.Ranges.{quorum}
-use Rattle.settings.specs.Times.{drawOf}
+use Rattle.settings.specs.Times.{drawOf, coordinatorOf}
 use Rattle.settings.specs.declared.Clock.{Clock}
 use Rattle.settings.specs.declared.Draw.{Draw}
 use Rattle.settings.specs.declared.Draw.the-variants.{Drawn, Refused}
@@ -206,11 +206,11 @@ take-short n m size k r block coded = checked-short _ (went (waitingOr n m size 
 module _ (s : Settings) (w : World) (old : List ℕ) where
   pub reply-called : (r : Reply) (block : List ℕ)
       → arriving s w (reply r block)
-      ≡ (called s w old) (r .time % 16) (takeStep (s .n) (s .m) (s .size) (w .coordinators (r .time % 16)) r block (s .n * s .size))
+      ≡ (called s w old) (coordinatorOf (r .time)) (takeStep (s .n) (s .m) (s .size) (w .coordinators (coordinatorOf (r .time))) r block (s .n * s .size))
   unfolding arriving
   reply-called r block =
-      coordinated-is-driven s w (r .time % 16) _ old
-      (take-short (s .n) (s .m) (s .size) (w .coordinators (r .time % 16)) r block (s .n * s .size))
+      coordinated-is-driven s w (coordinatorOf (r .time)) _ old
+      (take-short (s .n) (s .m) (s .size) (w .coordinators (coordinatorOf (r .time))) r block (s .n * s .size))
 
   pub write-called : (c reading : ℕ) (content : List ℕ) → Bytes content
       → step s w (startWrite c reading content) ≡ (called s w old) c (writeStep (s .n) (s .m) (s .size) (w .coordinators c) reading content)

@@ -28,13 +28,13 @@ in-code-range n m size e =
 -- what n, m and size that pass satisfy
 pub code-passed : (n m size : ℕ) → codeRefusal n m size ≡ 0 → CodeRange n m size
 unfolding codeRefusal
-code-passed n m size e = in-code-range n m size (tested _ 0 e)
+code-passed n m size e = in-code-range n m size (tested _ _ e)
 
 -- what settings that pass satisfy
 pub settings-passed : (s : Settings) → settingsRefusal s ≡ 0 → SettingsRange s
 unfolding settingsRefusal inRange capacityInRange
 settings-passed s e =
-    let t = tested _ 0 e in
+    let t = tested _ _ e in
     let c = and-right (bricksInRange (s .n) (s .m) && sizeInRange (s .size)) _ t in
     record {
       code = in-code-range (s .n) (s .m) (s .size) (and-left _ _ t);
