@@ -13,7 +13,7 @@ use Rattle.bench_rules.specs.Turning.{Lent, worldIn}
 use Rattle.bench_print.specs.Printing.{printedInto}
 use Rattle.bench_state.specs.State.{benchRange}
 use Rattle.bench_state.specs.declared.Bench.{Bench}
-use Rattle.bench_player.specs.declared.Played.{Played}
+use Rattle.bench_player.specs.declared.LinePlayed.{LinePlayed}
 use Rattle.bench_limits.specs.Limits.{lastMessage, keptLength, imagesLength, numbersLength, bytesLength, textLength}
 
 -- The stage that the record and the buffers stand for, given the events that led to it, which nobody keeps. The record of no set has n = 0.
@@ -44,7 +44,7 @@ unfoldable pub heard : ℕ → Stage → List ℕ → Turn
 heard refusal stage line = cond (eqb refusal 0) (turn stage (reads line)) (record { stage = stage; events = []; printed = [] })
 
 -- The record and the buffers stand for the stage after a turn, with its events, and what it prints stands at the beginning of the text.
-pub record Heard (t : Turn) (out : List ℕ) (r : Played) (l′ : Lent) (out′ : List ℕ) : Type 0 where
+pub record Heard (t : Turn) (out : List ℕ) (r : LinePlayed) (l′ : Lent) (out′ : List ℕ) : Type 0 where
   pub stage-is : stageOf (r .bench) l′ (eventsOf (t .stage)) ≡ t .stage
   pub text-is : out′ ≡ printedInto 0 (t .printed) out
   pub used-is : r .used ≡ length (t .printed)
@@ -52,7 +52,7 @@ pub record Heard (t : Turn) (out : List ℕ) (r : Played) (l′ : Lent) (out′ 
 
 -- A whole call: the refusal; whatever the events so far, the turn from the stage with these events; a refused call leaves everything, and
 -- an accepted one leaves a bench that is accepted again.
-pub record Called (b : Bench) (l : Lent) (line out : List ℕ) (r : Played) (l′ : Lent) (out′ : List ℕ) : Type 0 where
+pub record Called (b : Bench) (l : Lent) (line out : List ℕ) (r : LinePlayed) (l′ : Lent) (out′ : List ℕ) : Type 0 where
   pub refusal-is : r .refusal ≡ refusalOf b l out
   pub plays-on : (events : List Event) → Heard (heard (r .refusal) (stageOf b l events) line) out r l′ out′
   pub refused-keeps : (r .refusal ≡ 0 → ⊥) → (r .bench ≡ b) × (l′ ≡ l) × (out′ ≡ out)

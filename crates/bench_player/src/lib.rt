@@ -106,7 +106,7 @@ fn play_next(
 }
 
 // The bench after a whole line: a refusal's number, 0 for none, the record, and how many bytes are printed.
-pub struct Played {
+pub struct LinePlayed {
     pub refusal: u32,
     pub bench: Bench,
     pub used: usize,
@@ -192,7 +192,7 @@ pub fn play_line(
     numbers: &mut [u64],
     bytes: &mut [u8],
     out: &mut [u8],
-) -> Played
+) -> LinePlayed
     ensures { λ r. ⌜ (
         let l = lent (now (images .entry)) (now (kept .entry)) (now (numbers .entry)) (now (bytes .entry)) in
         let l′ = lent (now (images .exit)) (now (kept .exit)) (now (numbers .exit)) (now (bytes .exit)) in
@@ -207,7 +207,7 @@ pub fn play_line(
         out.len(),
     );
     if bad != settings::PASSED {
-        return Played {
+        return LinePlayed {
             refusal: bad,
             bench: b,
             used: 0,
@@ -218,7 +218,7 @@ pub fn play_line(
     if s.n == 0 {
         let first = play_first(b, l, line, images, kept, out);
         let begun = first.bench;
-        return Played {
+        return LinePlayed {
             refusal: settings::PASSED,
             bench: begun,
             used: first.used,
@@ -226,7 +226,7 @@ pub fn play_line(
     }
     let r = play_next(b, l, line, images, kept, numbers, bytes, out);
     let bench = r.bench;
-    Played {
+    LinePlayed {
         refusal: settings::PASSED,
         bench,
         used: r.used,

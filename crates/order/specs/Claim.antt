@@ -50,7 +50,7 @@ pub data Seen (P : Plain) : Type 0 where
   ended : ℕ → Ending P → Seen P
 
 -- An operation as it is fed to the plain stripe.
-pub record Op (P : Plain) : Type 0 where
+pub record Operation (P : Plain) : Type 0 where
   pub time : ℕ
   pub kind : P .Kind
 
@@ -64,12 +64,12 @@ pub data Before {A : Type 0} (a b : A) : List A → Type 0 where
   later : {x : A} {l : List A} → Before a b l → Before a b (x ∷ l)
 
 -- No operation twice.
-unfoldable pub Once : {P : Plain} → List (Op P) → Type 0
+unfoldable pub Once : {P : Plain} → List (Operation P) → Type 0
 Once [] = Unit {0}
-Once {P} (o ∷ os) = ((x : Op P) → x ∈ os → o .time ≢ x .time) × Once os
+Once {P} (o ∷ os) = ((x : Operation P) → x ∈ os → o .time ≢ x .time) × Once os
 
 -- The plain stripe stands at s and is fed the operations in order: each that finished gave what the stripe gives at its place.
-unfoldable pub Right : {P : Plain} → List (Seen P) → P .Stripe → List (Op P) → Type 0
+unfoldable pub Right : {P : Plain} → List (Seen P) → P .Stripe → List (Operation P) → Type 0
 Right l s [] = Unit {0}
 Right {P} l s (o ∷ os) =
     ((g : P .Given) → Seen.ended (o .time) (finished g) ∈ l → g ≡ P .gives (o .kind) s) × Right l (P .effect (o .kind) s) os
@@ -79,20 +79,20 @@ pub record OneOrder (P : Plain) (l : List (Seen P)) : Type 0 where
   -- a time names one operation: none begins twice
   pub named : (t : ℕ) (k k′ : P .Kind) → ¬ Before (Seen.began t k) (Seen.began t k′) l
   -- "the operations on a stripe have one order": a list of operations ..
-  pub order : List (Op P)
+  pub order : List (Operation P)
   -- .. that began, each with the kind and bytes that it began with
-  pub begun : (o : Op P) → o ∈ order → Seen.began (o .time) (o .kind) ∈ l
+  pub begun : (o : Operation P) → o ∈ order → Seen.began (o .time) (o .kind) ∈ l
   -- "stand in it once"
   pub once : Once order
   -- "all finished reads and writes stand in it .., with some of those aborted, cut short or still running"
-  pub all : (t : ℕ) (g : P .Given) → Seen.ended t (finished g) ∈ l → (o : Op P) × (o .time ≡ t) × (o ∈ order)
+  pub all : (t : ℕ) (g : P .Given) → Seen.ended t (finished g) ∈ l → (o : Operation P) × (o .time ≡ t) × (o ∈ order)
   -- "each finished read gave, byte for byte, what the writes before it in that order left where it reads, zeros where none wrote"
   pub right : Right l (P .zeros) order
   -- "what ended, by answer, abort or crash, before another began stands ahead of it or nowhere"
-  pub ahead : (x y : Op P) (r : Ending P) (k : P .Kind) → x ∈ order → y ∈ order
+  pub ahead : (x y : Operation P) (r : Ending P) (k : P .Kind) → x ∈ order → y ∈ order
       → Before (Seen.ended (x .time) r) (Seen.began (y .time) k) l → Before x y order
 
 -- the plain stripe after these operations
-unfoldable pub fed : {P : Plain} → P .Stripe → List (Op P) → P .Stripe
+unfoldable pub fed : {P : Plain} → P .Stripe → List (Operation P) → P .Stripe
 fed s [] = s
 fed {P} s (o ∷ os) = fed (P .effect (o .kind) s) os

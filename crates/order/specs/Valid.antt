@@ -161,22 +161,22 @@ pub record Says {P : Plain} (h : History P) (t : ℕ) (g : P .Given) : Type 0 wh
   pub asked : In (began t kind) h
   pub blind : (s : P .Stripe) → P .gives kind s ≡ g
 
-abbrev pub Answered : (S : Quorums) {P : Plain} (h : History P) → ℕ → End P → Type 0
+abbrev pub HasAnswered : (S : Quorums) {P : Plain} (h : History P) → ℕ → End P → Type 0
 -- after a Write round: a quorum stored t
-Answered S h t (written g) = Committed S h t × Says h t g
-Answered S h t (recovered g) = Committed S h t × Gives h t t g
+HasAnswered S h t (written g) = Committed S h t × Says h t g
+HasAnswered S h t (recovered g) = Committed S h t × Gives h t t g
 -- in one round: nothing was sent to be stored, and a quorum showed c
-Answered S h t (one-round c g) = (¬ Launched h t) × Many (S .n) (S .q) (λ b. In (showed b t c) h) × Gives h t c g
+HasAnswered S h t (one-round c g) = (¬ Launched h t) × Many (S .n) (S .q) (λ b. In (showed b t c) h) × Gives h t c g
 -- an abort or a crash requires nothing more
-Answered S h t aborted = Unit {0}
-Answered S h t cut = Unit {0}
+HasAnswered S h t aborted = Unit {0}
+HasAnswered S h t cut = Unit {0}
 
 -- The operation t ends.
 pub record OkEnded (S : Quorums) {P : Plain} (h : History P) (t : ℕ) (e : End P) : Type 0 where
   -- it runs
   pub known : Began h t
   pub running : ¬ Ended h t
-  pub answer : Answered S h t e
+  pub answer : HasAnswered S h t e
 
 abbrev pub Ok : (S : Quorums) {P : Plain} → Fact P → History P → Type 0
 Ok S (began t k) h = OkBegan h t

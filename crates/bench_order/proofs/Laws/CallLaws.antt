@@ -12,14 +12,14 @@ use Rattle.bench_rules.specs.Turning.{Lent}
 use Rattle.bench_state.specs.declared.Bench.{Bench}
 use Rattle.bench_player.specs.Lining.{stageOf, refusalOf, heard, Called}
 use Rattle.register.specs.Runs.{Event}
-use Rattle.bench_player.specs.declared.Played.{Played}
+use Rattle.bench_player.specs.declared.LinePlayed.{LinePlayed}
 use Rattle.bench_order.specs.Script.{stays, follows, playsLines, script}
 use Rattle.byte_lists.specs.Lists.{put}
 use Rattle.bench_order.specs.Calls.{Calls, none, call}
 use Rattle.bench_order.specs.CallsTheorem.{CallsAreTheScript}
 
 -- one call is one turn, and prints its text
-module _ (b : Bench) (l : Lent) (line out : List ℕ) (r : Played) (l′ : Lent) (out′ : List ℕ) (t : refusalOf b l out ≡ 0)
+module _ (b : Bench) (l : Lent) (line out : List ℕ) (r : LinePlayed) (l′ : Lent) (out′ : List ℕ) (t : refusalOf b l out ≡ 0)
     (c : Called b l line out r l′ out′) (events : List Event) where
   accepted : r .refusal ≡ 0
   accepted = c .refusal-is ∙ t

@@ -4,15 +4,15 @@ use mathlib.Core.Logic.{_⊎_, inl, inr}
 use mathlib.Core.List.{List, [], _∷_, List·Memᴰ·head, List·Memᴰ·tail, List·Memᴰ·not-nil}
 use Prim.Native.Nat.{ℕ}
 use native.Mathlib.Omega.{arith}
-use Rattle.order.specs.Claim.{Ending, Action, read, bytes, changed, given, finished, Seen, Op, _∈_, Before, here, later, Once, Right}
+use Rattle.order.specs.Claim.{Ending, Action, read, bytes, changed, given, finished, Seen, Operation, _∈_, Before, here, later, Once, Right}
 use Rattle.order.specs.BenchExample.{one-byte, nought, ten}
 use Rattle.order.specs.ClaimExample.{turned-up, TurnedUpHasNoOrder}
 
-Begun : Op one-byte → Type 0
+Begun : Operation one-byte → Type 0
 Begun o = Seen.began (o .time) (o .kind) ∈ turned-up
 
 -- all but 16 are reads
-reads : (o : Op one-byte) → Begun o → (o .time ≡ 16) ⊎ (o .kind ≡ read)
+reads : (o : Operation one-byte) → Begun o → (o .time ≡ 16) ⊎ (o .kind ≡ read)
 unfolding Begun
 reads o (List·Memᴰ·head e) = inl (cc)
 reads o (List·Memᴰ·tail (List·Memᴰ·head e)) = inl (cc)
@@ -22,7 +22,7 @@ reads o (List·Memᴰ·tail (List·Memᴰ·tail (List·Memᴰ·tail (List·Mem�
 reads o (List·Memᴰ·tail (List·Memᴰ·tail (List·Memᴰ·tail (List·Memᴰ·tail (List·Memᴰ·tail (List·Memᴰ·head e)))))) = inl (cc)
 reads o (List·Memᴰ·tail (List·Memᴰ·tail (List·Memᴰ·tail (List·Memᴰ·tail (List·Memᴰ·tail (List·Memᴰ·tail i)))))) = absurd (List·Memᴰ·not-nil i)
 
-read-of : (o : Op one-byte) → Begun o → (o .time ≡ 16 → ⊥) → o .kind ≡ read
+read-of : (o : Operation one-byte) → Begun o → (o .time ≡ 16 → ⊥) → o .kind ≡ read
 read-of o b f = go (reads o b)
   where
     go : (o .time ≡ 16) ⊎ (o .kind ≡ read) → o .kind ≡ read
@@ -30,8 +30,8 @@ read-of o b f = go (reads o b)
     go (inr e) = e
 
 -- after the first read only reads follow, so the stripe stays zeros and the second read cannot have given the write
-after-first : (os : List (Op one-byte)) (b : Op one-byte) → Right turned-up nought os → b ∈ os → b .time ≡ 49
-    → ((o : Op one-byte) → o ∈ os → o .kind ≡ read) → ⊥
+after-first : (os : List (Operation one-byte)) (b : Operation one-byte) → Right turned-up nought os → b ∈ os → b .time ≡ 49
+    → ((o : Operation one-byte) → o ∈ os → o .kind ≡ read) → ⊥
 unfolding Right changed given
 after-first [] b r i t k = List·Memᴰ·not-nil i
 after-first (x ∷ os) b r (List·Memᴰ·head e) t k =
@@ -45,14 +45,14 @@ after-first (x ∷ os) b r (List·Memᴰ·tail i) t k =
     after-first os b (subst (λ (z : Action (List ℕ)). Right turned-up (changed z nought) os) q (r .1)) i t (λ o j. k o (List·Memᴰ·tail j))
 
 -- no order has both reads: 16 stands before the first or nowhere
-no-order : (os : List (Op one-byte)) (a b : Op one-byte) (s : List ℕ)
+no-order : (os : List (Operation one-byte)) (a b : Operation one-byte) (s : List ℕ)
     → Before a b os
     → a .time ≡ 33
     → b .time ≡ 49
     → Right turned-up s os
     → Once os
-    → ((o : Op one-byte) → o ∈ os → Begun o)
-    → ((o : Op one-byte) → o ∈ os → o .time ≡ 16 → Before o a os)
+    → ((o : Operation one-byte) → o ∈ os → Begun o)
+    → ((o : Operation one-byte) → o ∈ os → o .time ≡ 16 → Before o a os)
     → ⊥
 unfolding Right Once given changed
 no-order (x ∷ os) a b s (here e i) p q r u g f =
@@ -63,17 +63,17 @@ no-order (x ∷ os) a b s (here e i) p q r u g f =
     after-first os b (subst (λ (w : List ℕ). Right turned-up w os) z (r .1)) i q
     (λ o j. read-of o (g o (List·Memᴰ·tail j)) (λ t. late o j t (f o (List·Memᴰ·tail j) t)))
   where
-    late : (o : Op one-byte) → o ∈ os → o .time ≡ 16 → Before o a (x ∷ os) → ⊥
+    late : (o : Operation one-byte) → o ∈ os → o .time ≡ 16 → Before o a (x ∷ os) → ⊥
     late o j t (here d m) = u .0 o j (cc)
     late o j t (later m) = u .0 a (second m) (cc)
       where
-        second : {l : List (Op one-byte)} → Before o a l → a ∈ l
+        second : {l : List (Operation one-byte)} → Before o a l → a ∈ l
         second (here _ n) = List·Memᴰ·tail n
         second (later n) = List·Memᴰ·tail (second n)
 no-order (x ∷ os) a b s (later m) p q r u g f =
     no-order os a b (changed (x .kind) s) m p q (r .1) (u .1) (λ o j. g o (List·Memᴰ·tail j)) (λ o j t. down o j (f o (List·Memᴰ·tail j) t))
   where
-    down : (o : Op one-byte) → o ∈ os → Before o a (x ∷ os) → Before o a os
+    down : (o : Operation one-byte) → o ∈ os → Before o a (x ∷ os) → Before o a os
     down o j (here d n) = absurd (u .0 o j (cc))
     down o j (later n) = n
 
@@ -91,10 +91,10 @@ turned-up-has-no-order w =
     (w .begun)
     (λ o i t. w .ahead o (a .0) Ending.cut read i (a .2) (write-first o (a .0) t (a .1)))
   where
-    first : (x y : Op one-byte) → x .time ≡ 33 → y .time ≡ 49
+    first : (x y : Operation one-byte) → x .time ≡ 33 → y .time ≡ 49
         → Before (Seen.ended (x .time) (finished (bytes nought))) (Seen.began (y .time) read) turned-up
     first x y p q = later (later (later (here (ap (λ (t : ℕ). Seen.ended t (finished (bytes nought))) p) (List·Memᴰ·head (ap (λ (t : ℕ). Seen.began t read) q)))))
 
-    write-first : (x y : Op one-byte) → x .time ≡ 16 → y .time ≡ 33
+    write-first : (x y : Operation one-byte) → x .time ≡ 16 → y .time ≡ 33
         → Before (Seen.ended (x .time) Ending.cut) (Seen.began (y .time) read) turned-up
     write-first x y p q = later (here (ap (λ (t : ℕ). Seen.ended t Ending.cut) p) (List·Memᴰ·head (ap (λ (t : ℕ). Seen.began t read) q)))

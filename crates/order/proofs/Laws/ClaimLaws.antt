@@ -1,11 +1,11 @@
 -- Laws of `specs/Claim`.
 use mathlib.Core.Path.{_≡_}
 use mathlib.Core.List.{List, [], _∷_, _++_}
-use Rattle.order.specs.Claim.{Plain, Op, Seen, finished, _∈_, Right}
+use Rattle.order.specs.Claim.{Plain, Operation, Seen, finished, _∈_, Right}
 use Rattle.order.specs.Claim.{fed}
 
 -- an operation that finished gave what the plain stripe gives after all that stand before it
-pub right-at : {P : Plain} {l : List (Seen P)} (s : P .Stripe) (before : List (Op P)) (o : Op P) (after : List (Op P))
+pub right-at : {P : Plain} {l : List (Seen P)} (s : P .Stripe) (before : List (Operation P)) (o : Operation P) (after : List (Operation P))
     → Right l s (before ++ (o ∷ after)) → (g : P .Given) → Seen.ended (o .time) (finished g) ∈ l
     → g ≡ P .gives (o .kind) (fed s before)
 unfolding Right fed

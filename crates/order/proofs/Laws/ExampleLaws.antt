@@ -13,7 +13,7 @@ use Rattle.order.specs.Places.{Suf, whole, above, In}
 use Rattle.order.specs.Facts.{Source, itself, over, End, Fact, began, promised, launched, stored, showed, ended, History}
 use Rattle.order.specs.Quorums.{Quorums, Many}
 use Rattle.order.specs.Valid.{Dead, PromisedUpTo, Launched, Sets, OkBegan, OkPromised, OkLaunched, OkStored, OkShowed, OkEnded}
-use Rattle.order.specs.Valid.{Answered, From, Committed, Ok, Valid, next}
+use Rattle.order.specs.Valid.{HasAnswered, From, Committed, Ok, Valid, next}
 use Rattle.order.proofs.Laws.Tests.{any, isBegan, isPromised, isLaunched, isStored, isShowed, isEnded, stored?, promised?, showed?}
 use Rattle.order.proofs.Laws.Order.{order-of, entries, each, placed, at-rank, standing, only-if, sort, insert, put, compared, ops}
 use Rattle.order.proofs.Laws.Order.{chain, link, linked, follow, committed?}
@@ -131,7 +131,7 @@ module _ {P : Plain} where
     not-launched {h} {t} x e = T-not (any (isLaunched t) h) x (test-launched e)
 
     pub ended-ok : {h : History P} {t : ℕ} {e : End P} → T (any (isBegan t) h) → T (not (any (isEnded t) h))
-        → Answered S h t e → OkEnded S h t e
+        → HasAnswered S h t e → OkEnded S h t e
     ended-ok {h} {t} x y a = record { known = find-began h t x; running = λ e. T-not (any (isEnded t) h) y (test-ended e); answer = a }
 
 -- the fact at a place, counted from the newest

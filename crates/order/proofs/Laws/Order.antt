@@ -9,7 +9,7 @@ use native.Mathlib.Decide.{decLt}
 use lib.Dec.{leb, eqb}
 use lib.ListN.{length}
 use Rattle.settings.specs.Count.{count}
-use Rattle.order.specs.Claim.{Plain, Op}
+use Rattle.order.specs.Claim.{Plain, Operation}
 use Rattle.order.specs.Places.{In}
 use Rattle.order.specs.Facts.{Source, itself, over, written, recovered, one-round, aborted, cut, Fact, began, promised, launched}
 use Rattle.order.specs.Facts.{stored, showed, ended, History}
@@ -27,7 +27,7 @@ pub data Live (S : Quorums) {P : Plain} (h : History P) : ℕ → Type 0 where
 pub record Entry (P : Plain) : Type 0 where
   pub place : ℕ
   pub rank : ℕ
-  pub op : Op P
+  pub op : Operation P
 
 -- x stands before y
 abbrev pub Lt : {P : Plain} → Entry P → Entry P → Type 0
@@ -66,7 +66,7 @@ unfoldable pub sort : {P : Plain} → List (Entry P) → List (Entry P)
 sort [] = []
 sort (x ∷ l) = insert x (sort l)
 
-unfoldable pub ops : {P : Plain} → List (Entry P) → List (Op P)
+unfoldable pub ops : {P : Plain} → List (Entry P) → List (Operation P)
 ops [] = []
 ops (x ∷ l) = (x .op) ∷ ops l
 
@@ -142,5 +142,5 @@ module _ {P : Plain} where
     unfoldable pub entries : List (Entry P)
     entries = sort (each placed h)
 
-    unfoldable pub order-of : List (Op P)
+    unfoldable pub order-of : List (Operation P)
     order-of = ops entries

@@ -4,7 +4,7 @@ use mathlib.Core.Logic.{_≢_, inl, inr}
 use mathlib.Core.List.{List, [], _∷_, List·Memᴰ·head, List·Memᴰ·tail}
 use Prim.Native.Nat.{ℕ, _≤_, _<_}
 use native.Mathlib.Omega.{arith}
-use Rattle.order.specs.Claim.{Plain, Op, Ending, Seen, finished, _∈_, Before, Once}
+use Rattle.order.specs.Claim.{Plain, Operation, Ending, Seen, finished, _∈_, Before, Once}
 use Rattle.order.specs.Places.{Suf, In}
 use Rattle.order.proofs.Laws.PlaceLaws.{suf-below, in-suf}
 use Rattle.order.specs.Facts.{End, written, recovered, one-round, aborted, cut, began, ended, History, endingOf, seen}
@@ -57,11 +57,11 @@ module _ {S : Quorums} {P : Plain} {h : History P} (v : Valid S h) where
   once-from [] s p = tt
   once-from (x ∷ l) s p = ((λ o i. other o (ops-in l i)), once-from l (s .1) (λ y i. p y (List·Memᴰ·tail i)))
     where
-      other : (o : Op P) → (y : Entry P) × (y ∈ l) × (o ≡ y .op) → x .op .time ≢ o .time
+      other : (o : Operation P) → (y : Entry P) × (y ∈ l) × (o ≡ y .op) → x .op .time ≢ o .time
       other o w e =
           let y = w .0 in
           let g = s .0 y (w .1) in
-          let q = one-place v (p x (List·Memᴰ·head refl)) (p y (List·Memᴰ·tail (w .1))) (e ∙ ap (λ (z : Op P). z .time) (w .2)) in
+          let q = one-place v (p x (List·Memᴰ·head refl)) (p y (List·Memᴰ·tail (w .1))) (e ∙ ap (λ (z : Operation P). z .time) (w .2)) in
           omega (arith, q .0, q .1, g .1 (omega (arith, q .0)))
 
   -- an operation that finished is placed
@@ -82,23 +82,23 @@ module _ {S : Quorums} {P : Plain} {h : History P} (v : Valid S h) where
       go aborted i d = let z : _≡_ {A = ℕ} 0 1 = cc in absurd (omega arith)
       go cut i d = let z : _≡_ {A = ℕ} 0 1 = cc in absurd (omega arith)
 
-  abbrev pub Stands : Op P → Type 0
+  abbrev pub Stands : Operation P → Type 0
   Stands o = (x : Entry P) × (x ∈ entries S h) × (o ≡ x .op)
 
-  pub real-time-order : (x y : Op P) (k : P .Kind) (r : Ending P) → Stands x → Stands y
+  pub real-time-order : (x y : Operation P) (k : P .Kind) (r : Ending P) → Stands x → Stands y
       → (d : History P) × Suf (began (y .time) k ∷ d) h × (Seen.ended (x .time) r ∈ seen d)
       → Before x y (ops (entries S h))
   real-time-order x y k r a b q =
       let w = seen-ended (q .0) (q .2) in
-      let s = subst (λ (z : Op P). Suf (began (z .time) k ∷ (q .0)) h) (b .2) (q .1) in
-      let i = subst (λ (z : Op P). In (ended (z .time) (w .0)) (q .0)) (a .2) (w .1) in
+      let s = subst (λ (z : Operation P). Suf (began (z .time) k ∷ (q .0)) h) (b .2) (q .1) in
+      let i = subst (λ (z : Operation P). In (ended (z .time) (w .0)) (q .0)) (a .2) (w .1) in
       let g = real-time v (entries-placed v (a .1)) (entries-placed v (b .1)) s i in
       let c = sorted-before (entries S h) entries-sorted (a .1) (b .1) g in
-      let d = subst (λ (z : Op P). Before z (b .0 .op) (ops (entries S h))) (sym (a .2)) c in
-      subst (λ (z : Op P). Before x z (ops (entries S h))) (sym (b .2)) d
+      let d = subst (λ (z : Operation P). Before z (b .0 .op) (ops (entries S h))) (sym (a .2)) c in
+      subst (λ (z : Operation P). Before x z (ops (entries S h))) (sym (b .2)) d
 
-  pub stands-began : (o : Op P) → Stands o → Seen.began (o .time) (o .kind) ∈ seen h
-  stands-began o w = subst (λ (z : Op P). Seen.began (z .time) (z .kind) ∈ seen h) (sym (w .2)) (seen-began (placed-began (entries-placed v (w .1))))
+  pub stands-began : (o : Operation P) → Stands o → Seen.began (o .time) (o .kind) ∈ seen h
+  stands-began o w = subst (λ (z : Operation P). Seen.began (z .time) (z .kind) ∈ seen h) (sym (w .2)) (seen-began (placed-began (entries-placed v (w .1))))
 
   pub began-once-seen : (t : ℕ) (k k′ : P .Kind) → Before (Seen.began t k) (Seen.began t k′) (seen h) → ⊥
   began-once-seen t k k′ q = let w = seen-began-after h q in (ok-at (w .1) v) .new k (seen-began-in (w .0) (w .2))

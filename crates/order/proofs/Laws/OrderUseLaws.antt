@@ -4,7 +4,7 @@ use mathlib.Core.Logic.{_≢_, _⊎_, inl, inr}
 use mathlib.Core.List.{List, [], _∷_, List·Memᴰ·head, List·Memᴰ·tail, List·Memᴰ·not-nil, List·Memᴰ·cases-cons}
 use Prim.Native.Nat.{ℕ}
 use native.Mathlib.Omega.{arith}
-use Rattle.order.specs.Claim.{Plain, Action, read, write, ok, bytes, changed, given, stripe, finished, Seen, Op, _∈_, Before, here}
+use Rattle.order.specs.Claim.{Plain, Action, read, write, ok, bytes, changed, given, stripe, finished, Seen, Operation, _∈_, Before, here}
 use Rattle.order.specs.Claim.{later, Once, Right, OneOrder}
 use Rattle.order.specs.Valid.{Keeps, Sets}
 use Rattle.order.specs.OrderUse.{EndedBefore}
@@ -40,35 +40,35 @@ before-right (later p) = List·Memᴰ·tail (before-right p)
 
 module _ {P : Plain} where
   -- an order goes one way, and has no operation twice
-  pub one-way : {x y : Op P} (os : List (Op P)) → Once os → Before x y os → Before y x os → ⊥
+  pub one-way : {x y : Operation P} (os : List (Operation P)) → Once os → Before x y os → Before y x os → ⊥
   unfolding Once
   one-way [] o p q = List·Memᴰ·not-nil (before-left p)
-  one-way (w ∷ os) o (here e m) (here f k) = o .0 _ m (ap (λ (a : Op P). a .time) (sym f))
-  one-way (w ∷ os) o (here e m) (later q) = o .0 _ (before-right q) (ap (λ (a : Op P). a .time) (sym e))
-  one-way (w ∷ os) o (later p) (here f k) = o .0 _ (before-right p) (ap (λ (a : Op P). a .time) (sym f))
+  one-way (w ∷ os) o (here e m) (here f k) = o .0 _ m (ap (λ (a : Operation P). a .time) (sym f))
+  one-way (w ∷ os) o (here e m) (later q) = o .0 _ (before-right q) (ap (λ (a : Operation P). a .time) (sym e))
+  one-way (w ∷ os) o (later p) (here f k) = o .0 _ (before-right p) (ap (λ (a : Operation P). a .time) (sym f))
   one-way (w ∷ os) o (later p) (later q) = one-way os (o .1) p q
 
-  pub other-time : {x y : Op P} (os : List (Op P)) → Once os → Before x y os → x .time ≢ y .time
+  pub other-time : {x y : Operation P} (os : List (Operation P)) → Once os → Before x y os → x .time ≢ y .time
   unfolding Once
   other-time [] o p q = absurd (List·Memᴰ·not-nil (before-left p))
-  other-time (w ∷ os) o (here e m) q = o .0 _ m (ap (λ (a : Op P). a .time) (sym e) ∙ q)
+  other-time (w ∷ os) o (here e m) q = o .0 _ m (ap (λ (a : Operation P). a .time) (sym e) ∙ q)
   other-time (w ∷ os) o (later p) q = other-time os (o .1) p q
 
   -- a stripe that both operations saw
-  abbrev Same : (x y : Op P) (a b : P .Given) → Type 0
+  abbrev Same : (x y : Operation P) (a b : P .Given) → Type 0
   Same x y a b = (v : P .Stripe) × (a ≡ P .gives (x .kind) v) × (b ≡ P .gives (y .kind) v)
 
 module _ {P : Plain} {l : List (Seen P)} where
   -- what an operation that is this one gave
-  gave : (o x : Op P) (s : P .Stripe) (a : P .Given)
+  gave : (o x : Operation P) (s : P .Stripe) (a : P .Given)
       → ((g : P .Given) → Seen.ended (o .time) (finished g) ∈ l → g ≡ P .gives (o .kind) s)
       → x ≡ o → Seen.ended (x .time) (finished a) ∈ l → a ≡ P .gives (x .kind) s
   gave o x s a f q m =
-      f a (subst (λ (y : Op P). Seen.ended (y .time) (finished a) ∈ l) q m) ∙ ap (λ (y : Op P). P .gives (y .kind) s) (sym q)
+      f a (subst (λ (y : Operation P). Seen.ended (y .time) (finished a) ∈ l) q m) ∙ ap (λ (y : Operation P). P .gives (y .kind) s) (sym q)
 
   -- an operation in front of which none changes the stripe gave it as it was at first
-  pub untouched : (os : List (Op P)) (s : P .Stripe) (a : P .Given) (x : Op P) → Right l s os → x ∈ os
-      → ((w : Op P) → Before w x os → Keeps P (w .kind))
+  pub untouched : (os : List (Operation P)) (s : P .Stripe) (a : P .Given) (x : Operation P) → Right l s os → x ∈ os
+      → ((w : Operation P) → Before w x os → Keeps P (w .kind))
       → Seen.ended (x .time) (finished a) ∈ l → a ≡ P .gives (x .kind) s
   unfolding Right
   untouched [] s a x r m keeps e = absurd (List·Memᴰ·not-nil m)
@@ -80,10 +80,10 @@ module _ {P : Plain} {l : List (Seen P)} where
       go (inr p) ih = ih p ∙ ap (P .gives (x .kind)) (keeps o (here refl p) s)
 
   -- two operations that change nothing, and between which none changes the stripe, saw the same
-  pub between-none : (os : List (Op P)) (s : P .Stripe) (a b : P .Given) (x y : Op P) → Right l s os → x ∈ os → y ∈ os
+  pub between-none : (os : List (Operation P)) (s : P .Stripe) (a b : P .Given) (x y : Operation P) → Right l s os → x ∈ os → y ∈ os
       → Keeps P (x .kind) → Keeps P (y .kind)
-      → ((w : Op P) → Before x w os → Before w y os → Keeps P (w .kind))
-      → ((w : Op P) → Before y w os → Before w x os → Keeps P (w .kind))
+      → ((w : Operation P) → Before x w os → Before w y os → Keeps P (w .kind))
+      → ((w : Operation P) → Before y w os → Before w x os → Keeps P (w .kind))
       → Seen.ended (x .time) (finished a) ∈ l → Seen.ended (y .time) (finished b) ∈ l → Same x y a b
   unfolding Right
   between-none [] s a b x y r m n kx ky keeps keeps′ e f = absurd (List·Memᴰ·not-nil m)
@@ -94,8 +94,8 @@ module _ {P : Plain} {l : List (Seen P)} where
       (λ w c d. keeps w (later c) (later d)) (λ w c d. keeps′ w (later c) (later d)) e f)
     where
       -- the stripe behind one that changes nothing
-      left : (z : Op P) → z ≡ o → Keeps P (z .kind) → P .effect (o .kind) s ≡ s
-      left z q k = ap (λ (y : Op P). P .effect (y .kind) s) (sym q) ∙ k s
+      left : (z : Operation P) → z ≡ o → Keeps P (z .kind) → P .effect (o .kind) s ≡ s
+      left z q k = ap (λ (y : Operation P). P .effect (y .kind) s) (sym q) ∙ k s
 
       go : (x ≡ o) ⊎ (x ∈ os) → (y ≡ o) ⊎ (y ∈ os) → (x ∈ os → y ∈ os → Same x y a b) → Same x y a b
       go (inl p) (inl q) ih = (s, gave o x s a (r .0) p e, gave o y s b (r .0) q f)
@@ -114,19 +114,19 @@ module _ {P : Plain} {l : List (Seen P)} where
       go (inr p) (inr q) ih = ih p q
 
   -- an operation behind one that sets the whole stripe, with none between that changes it, saw what was set
-  pub behind : (os : List (Op P)) (s : P .Stripe) (a : P .Given) (w x : Op P) (v : P .Stripe) → Right l s os → Sets P (w .kind) v
-      → Before w x os → ((u : Op P) → Before w u os → Before u x os → Keeps P (u .kind))
+  pub behind : (os : List (Operation P)) (s : P .Stripe) (a : P .Given) (w x : Operation P) (v : P .Stripe) → Right l s os → Sets P (w .kind) v
+      → Before w x os → ((u : Operation P) → Before w u os → Before u x os → Keeps P (u .kind))
       → Seen.ended (x .time) (finished a) ∈ l → a ≡ P .gives (x .kind) v
   unfolding Right
   behind [] s a w x v r k p keeps e = absurd (List·Memᴰ·not-nil (before-left p))
   behind (y ∷ os) s a w x v r k (here q m) keeps e =
       untouched os (P .effect (y .kind) s) a x (r .1) m (λ u b. keeps u (here q (before-left b)) (later b)) e
-      ∙ ap (P .gives (x .kind)) (ap (λ (t : Op P). P .effect (t .kind) s) (sym q) ∙ k s)
+      ∙ ap (P .gives (x .kind)) (ap (λ (t : Operation P). P .effect (t .kind) s) (sym q) ∙ k s)
   behind (y ∷ os) s a w x v r k (later p) keeps e =
       behind os (P .effect (y .kind) s) a w x v (r .1) k p (λ u b d. keeps u (later b) (later d)) e
 
   -- what an operation of an order gave, some stripe gives
-  pub some-stripe : (os : List (Op P)) (s : P .Stripe) (a : P .Given) (x : Op P) → Right l s os → x ∈ os
+  pub some-stripe : (os : List (Operation P)) (s : P .Stripe) (a : P .Given) (x : Operation P) → Right l s os → x ∈ os
       → Seen.ended (x .time) (finished a) ∈ l → (v : P .Stripe) × (a ≡ P .gives (x .kind) v)
   unfolding Right
   some-stripe [] s a x r m e = absurd (List·Memᴰ·not-nil m)
@@ -137,7 +137,7 @@ module _ {P : Plain} {l : List (Seen P)} where
       go (inr p) ih = ih p
 
 module _ {P : Plain} {l : List (Seen P)} (o : OneOrder P l) where
-  ahead-of : (x y : Op P) → x ∈ o .order → y ∈ o .order → EndedBefore l (x .time) (y .time) → Before x y (o .order)
+  ahead-of : (x y : Operation P) → x ∈ o .order → y ∈ o .order → EndedBefore l (x .time) (y .time) → Before x y (o .order)
   ahead-of x y m n e = o .ahead x y (e .0) (e .1) m n (e .2)
 
   -- a time began with one kind
@@ -151,7 +151,7 @@ module _ {P : Plain} {l : List (Seen P)} (o : OneOrder P l) where
 
   -- the place of a finished operation in the order
   pub record Finished (t : ℕ) (a : P .Given) (k : P .Kind) : Type 0 where
-    pub op : Op P
+    pub op : Operation P
     pub of-time : op .time ≡ t
     pub of-kind : op .kind ≡ k
     pub stands : op ∈ o .order
@@ -214,7 +214,7 @@ module _ {P : Plain} {l : List (Seen P)} (o : OneOrder P l) where
       from-y : (w : ℕ) → EndedBefore l u w → EndedBefore l (y .op .time) w
       from-y w e = subst (λ (c : ℕ). EndedBefore l c w) (sym (y .of-time)) e
 
-      not-first : (w : Op P) → Before (x .op) w (o .order) → Before w (y .op) (o .order)
+      not-first : (w : Operation P) → Before (x .op) w (o .order) → Before w (y .op) (o .order)
           → Keeps P (w .kind) ⊎ ((EndedBefore l (w .time) t × EndedBefore l (w .time) u) ⊎ (EndedBefore l t (w .time) × EndedBefore l u (w .time)))
           → Keeps P (w .kind)
       not-first w p q (inl e) = e
@@ -223,7 +223,7 @@ module _ {P : Plain} {l : List (Seen P)} (o : OneOrder P l) where
       not-first w p q (inr (inr e)) =
           absurd (one-way (o .order) (o .once) q (ahead-of (y .op) w (y .stands) (before-right p) (from-y (w .time) (e .1))))
 
-      not-second : (w : Op P) → Before (y .op) w (o .order) → Before w (x .op) (o .order)
+      not-second : (w : Operation P) → Before (y .op) w (o .order) → Before w (x .op) (o .order)
           → Keeps P (w .kind) ⊎ ((EndedBefore l (w .time) t × EndedBefore l (w .time) u) ⊎ (EndedBefore l t (w .time) × EndedBefore l u (w .time)))
           → Keeps P (w .kind)
       not-second w p q (inl e) = e
@@ -256,7 +256,7 @@ module _ {P : Plain} {l : List (Seen P)} (o : OneOrder P l) where
       y : Finished t a k
       y = finished-at t a k n bt
 
-      keeps : (u : Op P) → Before (x .op) u (o .order) → Before u (y .op) (o .order)
+      keeps : (u : Operation P) → Before (x .op) u (o .order) → Before u (y .op) (o .order)
           → Keeps P (u .kind) ⊎ (EndedBefore l (u .time) w ⊎ EndedBefore l t (u .time)) → Keeps P (u .kind)
       keeps u p q (inl d) = d
       keeps u p q (inr (inl d)) =

@@ -5,7 +5,7 @@ use mathlib.Core.Bool.{Bool, true, false}
 use mathlib.Core.List.{List, [], _∷_, List·Memᴰ·head, List·Memᴰ·tail, List·Memᴰ·not-nil, List·Memᴰ·append-cases, Memᴰ·append-left, Memᴰ·append-right}
 use native.Mathlib.Omega.{arith}
 use lib.Dec.{T}
-use Rattle.order.specs.Claim.{Plain, Op, _∈_, Before, here, later}
+use Rattle.order.specs.Claim.{Plain, Operation, _∈_, Before, here, later}
 use Rattle.order.specs.Places.{Suf, whole, above}
 use Rattle.order.proofs.Laws.Order.{Entry, Lt, Level, Tri, less, level, more, compared, put, insert, sort, ops, each, only-if}
 
@@ -132,7 +132,7 @@ module _ {P : Plain} where
   sort-sorted (x ∷ l) = insert-sorted x (sort l) (sort-sorted l)
 
   -- operations and entries
-  pub ops-in : {o : Op P} (l : List (Entry P)) → o ∈ ops l → (x : Entry P) × (x ∈ l) × (o ≡ x .op)
+  pub ops-in : {o : Operation P} (l : List (Entry P)) → o ∈ ops l → (x : Entry P) × (x ∈ l) × (o ≡ x .op)
   unfolding ops
   ops-in [] i = absurd (List·Memᴰ·not-nil i)
   ops-in (x ∷ l) (List·Memᴰ·head e) = (x, List·Memᴰ·head refl, e)
