@@ -1,5 +1,5 @@
 -- A reply counted: the tally stays right, and what it says of each brick.
-use mathlib.Core.Path.{_≡_, refl, ap, _∙_}
+use mathlib.Core.Path.{_≡_, refl, sym, ap, _∙_}
 use mathlib.Core.Bool.{Bool, true, false, cond, not, _&&_, _||_}
 use mathlib.Core.List.{List, [], _∷_}
 use mathlib.Core.Logic.{_⊎_, inl, inr}
@@ -28,6 +28,7 @@ use Rattle.settings.specs.Times.{validTime}
 use Rattle.coord_laws.specs.Soundness.{Sized}
 use Rattle.settings.specs.Ranges.{maxBricks}
 use Rattle.message.specs.Kinds.{readKind, writeKind}
+use Rattle.byte_lists.proofs.Laws.ZeroLaws.{zero-list, zeros-at as zero-entry}
 
 -- A counted reply is of the running operation and round, from a brick not counted before, with a block by the round's rules.
 pub record Answering (n m : ℕ) (op : Op) (t : Tally) (r : Reply) : Type 0 where
@@ -104,9 +105,7 @@ tallied-sized t r s =
 
 -- none counted
 pub zeros-at : (k b : ℕ) → getD {A = ℕ} (replicate k 0) b 0 ≡ 0
-zeros-at zero b = refl
-zeros-at (suc k) zero = refl
-zeros-at (suc k) (suc b) = zeros-at k b
+zeros-at k b = ap (λ (l : List ℕ). getD l b 0) (sym (zero-list k)) ∙ zero-entry k b
 
 pub zeros-counted : (n : ℕ) → members (replicate maxBricks 0) n ≡ 0
 unfolding members count member

@@ -4,9 +4,8 @@ use mathlib.Core.Logic.{_⊎_, inl, inr}
 use mathlib.Core.List.{List, [], _∷_, List·Memᴰ·not-nil}
 use Prim.Native.Nat.{ℕ, _+_, _*_, _<_}
 use native.Mathlib.Omega.{arith}
-use native.Mathlib.Decide.{decLt}
 use native.Mathlib.Nat.{mul-le-mul-right, suc-mul}
-use lib.ListN.{length, getD, take, drop, replicate, getD-replicate, length-replicate, length-drop, List·getD-eq-default}
+use lib.ListN.{length, take, drop, replicate, length-replicate, length-drop}
 use lib.Seq.{ext-getD, length-take-le, getD-take, getD-drop}
 use Rattle.settings.specs.Ranges.{SettingsRange}
 use Rattle.settings.specs.declared.Settings.{Settings}
@@ -27,6 +26,8 @@ use Rattle.register.specs.Runs.{plain, zeroStripe, idle, unmoved, freshS
 use Rattle.register.proofs.Laws.Invariant.{quorums, Means, Stands, LogHas, BrickInv, CoordinatorInv, Inv}
 use Rattle.settings.proofs.Laws.RangeLaws.{in-range}
 use Rattle.register.proofs.Laws.BrickLogLaws.{carried}
+use Rattle.byte_lists.proofs.Laws.ZeroLaws.{zero-list}
+use Rattle.coord_laws.proofs.Laws.TallyLaws.{zeros-at}
 
 -- nothing stands in an empty history
 pub in-none : {P : Plain} {f : Fact P} → In f [] → ⊥
@@ -34,17 +35,6 @@ in-none i = go (i .1)
   where
     go : {A : Type 0} {a : A} {l : List A} → Suf (a ∷ l) [] → ⊥
     go s = elim s [ ]
-
-none : (k i : ℕ) → _≡_ {A = ℕ} (getD (replicate k 0) i 0) 0
-none k i = by (decLt i k)
-  where
-    by : Dec (i < k) → _≡_ {A = ℕ} (getD (replicate k 0) i 0) 0
-    by (yes h) = getD-replicate k i 0 0 h
-    by (no h) = List·getD-eq-default (replicate k 0) 0 {n = i} (let l = length-replicate {A = ℕ} k 0 in omega arith)
-
-zeros-are : (k : ℕ) → zeros k ≡ replicate k 0
-unfolding zeros
-zeros-are k = refl
 
 -- a zero block is each coded block of the zero stripe
 zero-block : (s : Settings) (g : SettingsRange s) (b : ℕ) → b < s .n
@@ -55,10 +45,10 @@ zero-block s g b l =
     (length-replicate (s .size) 0 ∙ sym long)
     (λ i h.
     let k = length-replicate {A = ℕ} (s .size) 0 in
-    none (s .size) i
+    zeros-at (s .size) i
     ∙ sym
     (getD-take (s .size) (drop (b * s .size) (replicate (s .n * s .size) 0)) i 0 (omega arith)
-    ∙ getD-drop (b * s .size) (replicate (s .n * s .size) 0) i 0 ∙ none (s .n * s .size) (b * s .size + i)))
+    ∙ getD-drop (b * s .size) (replicate (s .n * s .size) 0) i 0 ∙ zeros-at (s .n * s .size) (b * s .size + i)))
     ∙ ap (λ (z : List ℕ). take (s .size) (drop (b * s .size) z))
     (sym (coded-of-zeros (s .n) (s .m) (s .size) (g .code .size-low)))
   where
@@ -76,7 +66,7 @@ zero-stripe s g =
     record {
       pos = g .code .size-low;
       length-is = length-replicate (s .m * s .size) 0;
-      small = λ i. let z = none (s .m * s .size) i in omega arith;
+      small = λ i. let z = zeros-at (s .m * s .size) i in omega arith;
     }
 
 module _ (s : Settings) (g : SettingsRange s) where
@@ -88,7 +78,7 @@ module _ (s : Settings) (g : SettingsRange s) where
         full = replicate (s .m * s .size) 0;
         value = Val.fresh;
         proper = zero-stripe s g;
-        coded = zeros-are (s .size) ∙ zero-block s g b l;
+        coded = zero-list (s .size) ∙ zero-block s g b l;
       }
 
   fresh-brick : (b : ℕ) → b < s .n → BrickInv s g [] b (freshBrick s)
