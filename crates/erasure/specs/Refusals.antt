@@ -23,6 +23,14 @@ unfoldable pub allDifferent : List ℕ → Bool
 allDifferent [] = true
 allDifferent (b ∷ bs) = not (stands b bs) && allDifferent bs
 
+-- 3: a brick not below n
+abbrev pub numberRefusal : ℕ → List ℕ → ℕ
+numberRefusal n bricks = refuseUnless (allBelow bricks n) badNumber
+
+-- 4: a list that isn't m different bricks
+abbrev pub setRefusal : ℕ → List ℕ → ℕ
+setRefusal m bricks = refuseUnless (eqb (length bricks) m && allDifferent bricks) badBrickSet
+
 -- 1 the settings, 2 the lengths: m blocks of data, n coded blocks
 unfoldable pub encodeRefusal : ℕ → ℕ → ℕ → ℕ → ℕ → ℕ
 encodeRefusal n m size stripe coded =
@@ -37,8 +45,8 @@ decodeRefusal n m size bricks blocks stripe =
     firstRefusal
     (codeRefusal n m size
     ∷ refuseUnless (eqb blocks (m * size) && eqb stripe (m * size)) badLength
-    ∷ refuseUnless (allBelow bricks n) badNumber
-    ∷ refuseUnless (eqb (length bricks) m && allDifferent bricks) badBrickSet
+    ∷ numberRefusal n bricks
+    ∷ setRefusal m bricks
     ∷ [])
 
 -- a buffer after a call: as it was where the call was refused

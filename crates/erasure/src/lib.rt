@@ -1,12 +1,14 @@
 // The erasure code (document 01, "Settings and the code"): encode and decode, and their C entry points.
 ghost use mathlib.Core.Path.{_≡_};
 ghost use mathlib.Core.Bool.{true};
+ghost use mathlib.Core.List.{[], _∷_};
 ghost use Prim.Native.Nat.{_*_};
 ghost use lib.ListN.{length};
 ghost use Rattle.erasure.specs.Code.{codedOf, decodedOf};
-ghost use Rattle.erasure.specs.Refusals.{allBelow, allDifferent, encodeRefusal, decodeRefusal, encodedBuffer, decodedBuffer};
+ghost use Rattle.erasure.specs.Refusals.{allBelow, allDifferent, numberRefusal, setRefusal, encodeRefusal, decodeRefusal, encodedBuffer, decodedBuffer};
 ghost use Rattle.erasure.specs.Workers.{Encodes};
 ghost use Rattle.interpolate.specs.Values.{PointSet};
+ghost use Rattle.settings.specs.Refusal.{firstRefusal};
 
 // Whether every brick of a list is below n.
 pub fn all_below(bricks: &[u8], n: usize) -> bool
@@ -35,6 +37,39 @@ pub fn all_different(bricks: &[u8]) -> bool
         t = rest;
     }
     true
+}
+
+// 3 where a brick of a list is not below n, else 0.
+fn number_refusal(n: usize, bricks: &[u8]) -> u32
+    ensures { λ r. ⌜ r ≡ numberRefusal n (now (bricks .entry)) ⌝ }
+{
+    if all_below(bricks, n) {
+        return settings::PASSED;
+    }
+    settings::BAD_NUMBER
+}
+
+// 4 where a list isn't m different bricks, else 0.
+fn set_refusal(m: usize, bricks: &[u8]) -> u32
+    ensures { λ r. ⌜ r ≡ setRefusal m (now (bricks .entry)) ⌝ }
+{
+    if bricks.len() != m {
+        return settings::BAD_BRICK_SET;
+    }
+    if all_different(bricks) {
+        return settings::PASSED;
+    }
+    settings::BAD_BRICK_SET
+}
+
+// The first of two refusals, 0 for none.
+fn first_of(first: u32, second: u32) -> u32
+    ensures { λ r. ⌜ r ≡ firstRefusal (first ∷ second ∷ []) ⌝ }
+{
+    if first != settings::PASSED {
+        return first;
+    }
+    second
 }
 
 // The refusal of encoding, 0 for none: stripe and coded are the buffers' lengths.
@@ -75,16 +110,9 @@ pub fn decode_refusal(
     if stripe != m * size {
         return settings::BAD_LENGTH;
     }
-    if all_below(bricks, n) {} else {
-        return settings::BAD_NUMBER;
-    }
-    if bricks.len() != m {
-        return settings::BAD_BRICK_SET;
-    }
-    if all_different(bricks) {
-        return settings::PASSED;
-    }
-    settings::BAD_BRICK_SET
+    let beyond = number_refusal(n, bricks);
+    let mixed = set_refusal(m, bricks);
+    first_of(beyond, mixed)
 }
 
 // The n coded blocks of m data blocks.

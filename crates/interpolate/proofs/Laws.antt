@@ -5,5 +5,4 @@ pub mod ByteLaws
 pub mod FirstPlaceLaws
 pub mod PolynomialLaws
 pub mod WeightRowLaws
-pub mod LogarithmSumLaws
 pub mod WeightLaws

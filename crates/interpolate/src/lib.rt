@@ -1,13 +1,14 @@
 // Blocks as values of polynomials over bytes (document 01, "Settings and the code"): what encoding and decoding both are.
 // inner: call `erasure::stripe_encode`
 // The inner functions take the two tables of `gf256` as lent, since a constant array is built anew where it is named.
+// Every product and inverse of a weight, and every doubling of it, is `gf256`'s by these tables.
 ghost use mathlib.Core.Path.{_≡_};
-ghost use Prim.Native.Nat.{ℕ, _+_, _-_, _*_, _<_, _≤_};
+ghost use Prim.Native.Nat.{ℕ, _+_, _*_, _<_, _≤_};
 ghost use lib.ListN.{length, getD};
-ghost use Rattle.gf256.specs.Product.{product, power, twice, byteCount, powerCount};
-ghost use Rattle.gf256.specs.Tables.{IsPowers};
+ghost use Rattle.gf256.specs.Product.{product, inverse, twice};
+ghost use Rattle.gf256.specs.Tables.{IsPowers, IsLogs};
 ghost use Rattle.settings.specs.Ranges.{maxBricks};
-ghost use Rattle.interpolate.specs.Workers.{PointsReady, Denominators, weight, firstPlace, scaled, numerator, denominator, maxSum};
+ghost use Rattle.interpolate.specs.Workers.{firstPlace, scaled, weight, numerator, Differences, Shares, Weights, PointsReady};
 ghost use Rattle.interpolate.specs.Values.{PointSet, blockAt, blocksAt};
 
 // Where x first stands in a list; the list's length if nowhere.
@@ -43,18 +44,6 @@ fn times(w0: u8, w1: u8, w2: u8, w3: u8, w4: u8, w5: u8, w6: u8, w7: u8, x: u8) 
                         ^ (x / 32 % 2 * w5 ^ (x / 64 % 2 * w6 ^ x / 128 % 2 * w7))))))
 }
 
-// 2 to the s, for a sum s of two logarithms.
-fn power_at(powers: &[u8; gf256::POWER_COUNT], s: usize) -> u8
-    requires { ⌜ IsPowers (now powers) ⌝ }
-    requires { ⌜ s < 2 * powerCount ⌝ }
-    ensures { λ r. ⌜ r ≡ power s ⌝ }
-{
-    if s < gf256::POWER_COUNT {
-        return powers[s];
-    }
-    powers[s - gf256::POWER_COUNT]
-}
-
 // A block times w0 added to another; each w is the double of the one before.
 fn add_multiples(
     w0: u8,
@@ -85,98 +74,157 @@ fn add_multiples(
     }
 }
 
-// A block times 2 to the s added to another.
-fn add_scaled(powers: &[u8; gf256::POWER_COUNT], s: usize, from: &[u8], to: &mut [u8])
+// A block times w0 added to another.
+fn add_scaled(
+    powers: &[u8; gf256::POWER_COUNT],
+    logs: &[u8; gf256::BYTE_COUNT],
+    w0: u8,
+    from: &[u8],
+    to: &mut [u8],
+)
     requires { ⌜ IsPowers (now powers) ⌝ }
-    requires { ⌜ s < powerCount ⌝ }
+    requires { ⌜ IsLogs (now logs) ⌝ }
     requires { ⌜ length (now from) ≡ length (now to) ⌝ }
-    ensures { λ _. ⌜ now (to .exit) ≡ scaled (power s) (now (from .entry)) (now (to .entry)) ⌝ }
+    ensures { λ _. ⌜ now (to .exit) ≡ scaled w0 (now (from .entry)) (now (to .entry)) ⌝ }
 {
-    let w0 = power_at(powers, s);
-    let w1 = power_at(powers, s + 1);
-    let w2 = power_at(powers, s + 2);
-    let w3 = power_at(powers, s + 3);
-    let w4 = power_at(powers, s + 4);
-    let w5 = power_at(powers, s + 5);
-    let w6 = power_at(powers, s + 6);
-    let w7 = power_at(powers, s + 7);
+    let w1 = gf256::mul_by(powers, logs, w0, 2);
+    let w2 = gf256::mul_by(powers, logs, w0, 4);
+    let w3 = gf256::mul_by(powers, logs, w0, 8);
+    let w4 = gf256::mul_by(powers, logs, w0, 16);
+    let w5 = gf256::mul_by(powers, logs, w0, 32);
+    let w6 = gf256::mul_by(powers, logs, w0, 64);
+    let w7 = gf256::mul_by(powers, logs, w0, 128);
     add_multiples(w0, w1, w2, w3, w4, w5, w6, w7, from, to)
 }
 
-// The logarithm of a byte.
-fn log_of(logs: &[u8; gf256::BYTE_COUNT], a: u8) -> usize
-    ensures { λ r. ⌜ r ≡ getD (now (logs .entry)) a 0 ⌝ }
-    ensures { λ r. ⌜ r < byteCount ⌝ }
-{
-    byte_lists::wide_index(logs[a as usize])
-}
-
-// The sum of the logarithms of x - b over all points b.
-fn numerator_of(logs: &[u8; gf256::BYTE_COUNT], points: &[u8], x: u8) -> usize
-    requires { ⌜ length (now points) ≤ maxBricks ⌝ }
-    ensures { λ r. ⌜ r ≡ numerator (now (logs .entry)) (now (points .entry)) x (length (now (points .entry))) ⌝ }
-    ensures { λ r. ⌜ r ≤ maxSum ⌝ }
-{
-    let mut sum = 0;
-    let mut i = 0;
-    while i < points.len() {
-        sum += log_of(logs, x ^ points[i]);
-        i += 1;
-    }
-    sum
-}
-
-// The sum of 255 less the logarithms of b - c over all points c but b, which is point i.
-fn denominator_of(logs: &[u8; gf256::BYTE_COUNT], points: &[u8], i: usize) -> usize
-    requires { ⌜ length (now points) ≤ maxBricks ⌝ }
-    requires { ⌜ i < length (now points) ⌝ }
-    ensures { λ r. ⌜ r ≡ denominator (now (logs .entry)) (now (points .entry)) i (length (now (points .entry))) ⌝ }
-    ensures { λ r. ⌜ r ≤ maxSum ⌝ }
-{
-    let b = points[i];
-    let mut sum = 0;
-    let mut k = 0;
-    while k < points.len() {
-        if k != i {
-            sum += gf256::POWER_COUNT - log_of(logs, b ^ points[k]);
-        }
-        k += 1;
-    }
-    sum
-}
-
-// That sum for each point.
-fn denominators(logs: &[u8; gf256::BYTE_COUNT], points: &[u8]) -> [usize; settings::MAX_BRICKS]
-    requires { ⌜ length (now points) ≤ maxBricks ⌝ }
-    ensures { λ r. ⌜ Denominators (now (logs .entry)) (now (points .entry)) r ⌝ }
-{
-    let mut sums = [0usize; settings::MAX_BRICKS];
-    let mut i = 0;
-    while i < points.len() {
-        sums[i] = denominator_of(logs, points, i);
-        i += 1;
-    }
-    sums
-}
-
-// The logarithm of the weight of point i at x, where x is none of the points: top is their sum at x.
-fn weight_log(
+// The product of x - b over all points b.
+fn numerator_of(
+    powers: &[u8; gf256::POWER_COUNT],
     logs: &[u8; gf256::BYTE_COUNT],
     points: &[u8],
-    sums: &[usize; settings::MAX_BRICKS],
-    top: usize,
+    x: u8,
+) -> u8
+    requires { ⌜ IsPowers (now powers) ⌝ }
+    requires { ⌜ IsLogs (now logs) ⌝ }
+    ensures { λ r. ⌜ r ≡ numerator (now (points .entry)) x (length (now (points .entry))) ⌝ }
+{
+    if points.len() == 0 {
+        return 1;
+    }
+    let mut all = x ^ points[0];
+    let mut i = 1;
+    while i < points.len() {
+        all = gf256::mul_by(powers, logs, all, x ^ points[i]);
+        i += 1;
+    }
+    all
+}
+
+// Each point's product of differences, times its difference to point k, but for point k itself.
+fn times_differences(
+    powers: &[u8; gf256::POWER_COUNT],
+    logs: &[u8; gf256::BYTE_COUNT],
+    points: &[u8],
+    k: usize,
+    products: &mut [u8],
+)
+    requires { ⌜ IsPowers (now powers) ⌝ }
+    requires { ⌜ IsLogs (now logs) ⌝ }
+    requires { ⌜ (k < length (now points)) × (length (now points) ≤ length (now products)) ⌝ }
+    requires { ⌜ Differences (now points) k (now products) ⌝ }
+    ensures { λ _. ⌜ Differences (now (points .entry)) (k + 1) (now (products .exit)) ⌝ }
+{
+    let c = points[k];
+    let mut i = 0;
+    while i < points.len() {
+        if i != k {
+            products[i] = gf256::mul_by(powers, logs, products[i], points[i] ^ c);
+        }
+        i += 1;
+    }
+}
+
+// The first bytes of a slice, each replaced by its inverse.
+fn invert(
+    powers: &[u8; gf256::POWER_COUNT],
+    logs: &[u8; gf256::BYTE_COUNT],
+    count: usize,
+    bytes: &mut [u8],
+)
+    requires { ⌜ IsPowers (now powers) ⌝ }
+    requires { ⌜ IsLogs (now logs) ⌝ }
+    requires { ⌜ count ≤ length (now bytes) ⌝ }
+    ensures { λ _. ⌜ ((i : ℕ) → i < count → getD (now (bytes .exit)) i 0 ≡ inverse (getD (now (bytes .entry)) i 0)) ⌝ }
+{
+    let mut p = 0;
+    while p < count {
+        bytes[p] = gf256::inv_by(powers, logs, bytes[p]);
+        p += 1;
+    }
+}
+
+// The share of each point b in its weights: the inverse of the product of b - c over all points c but b. The slice is lent with ones.
+fn shares_of(
+    powers: &[u8; gf256::POWER_COUNT],
+    logs: &[u8; gf256::BYTE_COUNT],
+    points: &[u8],
+    shares: &mut [u8],
+)
+    requires { ⌜ IsPowers (now powers) ⌝ }
+    requires { ⌜ IsLogs (now logs) ⌝ }
+    requires { ⌜ length (now points) ≤ length (now shares) ⌝ }
+    requires { ⌜ Differences (now points) 0 (now shares) ⌝ }
+    ensures { λ _. ⌜ Shares (now (points .entry)) (now (shares .exit)) ⌝ }
+{
+    let mut k = 0;
+    while k < points.len() {
+        times_differences(powers, logs, points, k, shares);
+        k += 1;
+    }
+    invert(powers, logs, points.len(), shares)
+}
+
+// The weight of point i at x, where x is none of the points: top is their numerator at x.
+fn weight_of(
+    powers: &[u8; gf256::POWER_COUNT],
+    logs: &[u8; gf256::BYTE_COUNT],
+    points: &[u8],
+    shares: &[u8],
+    top: u8,
     x: u8,
     i: usize,
-) -> usize
-    requires { ⌜ PointsReady (now logs) (now points) (now sums) ⌝ }
+) -> u8
+    requires { ⌜ PointsReady (now powers) (now logs) (now points) (now shares) ⌝ }
     requires { ⌜ ((k : ℕ) → k < length (now points) → getD (now points) k 0 ≡ x → ⊥) ⌝ }
-    requires { ⌜ top ≡ numerator (now logs) (now points) x (length (now points)) ⌝ }
-    requires { ⌜ (i < length (now points)) × (top ≤ maxSum) ⌝ }
-    ensures { λ r. ⌜ r < powerCount ⌝ }
-    ensures { λ r. ⌜ weight (now (points .entry)) i x ≡ power r ⌝ }
+    requires { ⌜ top ≡ numerator (now points) x (length (now points)) ⌝ }
+    requires { ⌜ i < length (now points) ⌝ }
+    ensures { λ r. ⌜ r ≡ weight (now (points .entry)) i x ⌝ }
 {
-    let own = log_of(logs, x ^ points[i]);
-    (top - own + sums[i]) % gf256::POWER_COUNT
+    let own = gf256::inv_by(powers, logs, x ^ points[i]);
+    let share = gf256::mul_by(powers, logs, own, shares[i]);
+    gf256::mul_by(powers, logs, top, share)
+}
+
+// The weights of all points at x, where x is none of them.
+fn weights_at(
+    powers: &[u8; gf256::POWER_COUNT],
+    logs: &[u8; gf256::BYTE_COUNT],
+    points: &[u8],
+    shares: &[u8],
+    x: u8,
+    weights: &mut [u8],
+)
+    requires { ⌜ PointsReady (now powers) (now logs) (now points) (now shares) ⌝ }
+    requires { ⌜ ((k : ℕ) → k < length (now points) → getD (now points) k 0 ≡ x → ⊥) ⌝ }
+    requires { ⌜ length (now points) ≤ length (now weights) ⌝ }
+    ensures { λ _. ⌜ Weights (now (points .entry)) x (now (weights .exit)) ⌝ }
+{
+    let top = numerator_of(powers, logs, points, x);
+    let mut j = 0;
+    while j < points.len() {
+        weights[j] = weight_of(powers, logs, points, shares, top, x, j);
+        j += 1;
+    }
 }
 
 // The block at x, where x is none of the points: the sum of their blocks, each times its weight.
@@ -184,26 +232,26 @@ fn combine(
     powers: &[u8; gf256::POWER_COUNT],
     logs: &[u8; gf256::BYTE_COUNT],
     points: &[u8],
-    sums: &[usize; settings::MAX_BRICKS],
+    shares: &[u8],
     blocks: &[u8],
     x: u8,
     out: &mut [u8],
 )
-    requires { ⌜ IsPowers (now powers) ⌝ }
-    requires { ⌜ PointsReady (now logs) (now points) (now sums) ⌝ }
+    requires { ⌜ PointsReady (now powers) (now logs) (now points) (now shares) ⌝ }
     requires { ⌜ ((k : ℕ) → k < length (now points) → getD (now points) k 0 ≡ x → ⊥) ⌝ }
     requires { ⌜ length (now blocks) ≡ length (now points) * length (now out) ⌝ }
     ensures { λ _. ⌜ now (out .exit) ≡ blockAt (now (points .entry)) (length (now (out .entry))) (now (blocks .entry)) x ⌝ }
 {
     let size = out.len();
-    let top = numerator_of(logs, points, x);
+    let mut weights = [0u8; settings::MAX_BRICKS];
+    weights_at(powers, logs, points, shares, x, &mut weights);
     byte_lists::clear(out);
     let mut j = 0;
     let mut at = 0;
     while j < points.len() {
-        let s = weight_log(logs, points, sums, top, x, j);
+        let w = weights[j];
         let end = at + size;
-        add_scaled(powers, s, &blocks[at..end], out);
+        add_scaled(powers, logs, w, &blocks[at..end], out);
         at = end;
         j += 1;
     }
@@ -214,13 +262,12 @@ fn row(
     powers: &[u8; gf256::POWER_COUNT],
     logs: &[u8; gf256::BYTE_COUNT],
     points: &[u8],
-    sums: &[usize; settings::MAX_BRICKS],
+    shares: &[u8],
     blocks: &[u8],
     x: u8,
     out: &mut [u8],
 )
-    requires { ⌜ IsPowers (now powers) ⌝ }
-    requires { ⌜ PointsReady (now logs) (now points) (now sums) ⌝ }
+    requires { ⌜ PointsReady (now powers) (now logs) (now points) (now shares) ⌝ }
     requires { ⌜ length (now blocks) ≡ length (now points) * length (now out) ⌝ }
     ensures { λ _. ⌜ now (out .exit) ≡ blockAt (now (points .entry)) (length (now (out .entry))) (now (blocks .entry)) x ⌝ }
 {
@@ -232,7 +279,7 @@ fn row(
         byte_lists::copy(&blocks[at..end], out);
         return;
     }
-    combine(powers, logs, points, sums, blocks, x, out)
+    combine(powers, logs, points, shares, blocks, x, out)
 }
 
 // The blocks at points 0 to count - 1, from the blocks at the given points: at most as many as bricks, all different.
@@ -244,7 +291,8 @@ pub fn interpolate(points: &[u8], size: usize, blocks: &[u8], count: usize, out:
 {
     let powers = gf256::powers();
     let logs = gf256::logs();
-    let sums = denominators(&logs, points);
+    let mut shares = [1u8; settings::MAX_BRICKS];
+    shares_of(&powers, &logs, points, &mut shares);
     let mut x = 0;
     let mut at = 0;
     while x < count {
@@ -253,7 +301,7 @@ pub fn interpolate(points: &[u8], size: usize, blocks: &[u8], count: usize, out:
             &powers,
             &logs,
             points,
-            &sums,
+            &shares,
             blocks,
             x as u8,
             &mut out[at..end],

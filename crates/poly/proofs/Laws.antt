@@ -5,3 +5,4 @@ pub mod SumLaws
 pub mod CoefficientLaws
 pub mod RootLaws
 pub mod BasisLaws
+pub mod BasisPartLaws

@@ -42,6 +42,16 @@ module _ (F : Field) where
   basisTo ℕ.zero pts i x = one
   basisTo (suc k) pts i x = pick (eqb k i) (basisTo k pts i x) (mul (basisTo k pts i x) (factor pts i k x))
 
+  -- The product of x − pts j for each number j below k.
+  unfoldable pub rootsTo : ℕ → (ℕ → carrier) → carrier → carrier
+  rootsTo ℕ.zero pts x = one
+  rootsTo (suc k) pts x = mul (rootsTo k pts x) (sub x (pts k))
+
+  -- The same for each number below k but i.
+  unfoldable pub othersTo : ℕ → (ℕ → carrier) → ℕ → carrier → carrier
+  othersTo ℕ.zero pts i x = one
+  othersTo (suc k) pts i x = pick (eqb k i) (othersTo k pts i x) (mul (othersTo k pts i x) (sub x (pts k)))
+
   -- Lagrange's basis polynomial number i of m points, at x: 1 at point i, and 0 at the others.
   unfoldable pub basis : ℕ → (ℕ → carrier) → ℕ → carrier → carrier
   basis m pts i x = basisTo m pts i x

@@ -54,6 +54,19 @@ filled-more f old out k v h u e =
         ap (λ (j : ℕ). getD (set out k v) j 0) q ∙ getD-set-same out k v 0 (let z = h .size in omega arith) ∙ e ∙ ap f (sym q)
     by i (no n) l = getD-set-other out k i v 0 n ∙ h .done i (omega arith)
 
+-- an entry that is as the rule says already, and is left
+pub filled-keep : (f : ℕ → ℕ) (old out : List ℕ) (k : ℕ) → Filled f old out k → getD old k 0 ≡ f k → Filled f old out (k + 1)
+filled-keep f old out k h e =
+    record {
+      size = h .size;
+      done = λ i l. by i (ℕ-discrete i k) l;
+      rest = λ i l. h .rest i (omega arith);
+    }
+  where
+    by : (i : ℕ) → Dec (i ≡ k) → i < k + 1 → getD out i 0 ≡ f i
+    by i (yes q) l = h .rest i (omega arith) ∙ ap (λ (j : ℕ). getD old j 0) q ∙ e ∙ ap f (sym q)
+    by i (no n) l = h .done i (omega arith)
+
 pub filled-all : (f : ℕ → ℕ) (old out : List ℕ) (k : ℕ) → Filled f old out k → length old ≤ k → out ≡ tabulate (length old) f
 filled-all f old out k h l = tabulate-by (length old) f out (h .size) (λ i u. h .done i (omega arith))
 

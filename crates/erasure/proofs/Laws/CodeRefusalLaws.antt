@@ -1,18 +1,17 @@
 -- The ways through the refusals: k, a and d are what the called tests gave.
-use mathlib.Core.Path.{_≡_, sym, _∙_}
-use mathlib.Core.Bool.{Bool, true, false, _&&_}
+use mathlib.Core.Path.{_≡_, refl, sym, ap₂, _∙_}
+use mathlib.Core.Bool.{Bool, true, false}
 use mathlib.Core.List.{List, [], _∷_}
-use Prim.Native.Nat.{ℕ, _*_, _≤_}
+use Prim.Native.Nat.{ℕ, zero, suc, _*_, _≤_}
 use native.Mathlib.Nat.{mul-le-mul}
 use native.Mathlib.Omega.{arith}
-use lib.Dec.{eqb}
 use lib.ListN.{length}
 use borrow.Author.Tests.{eq-eqb, ne-eqb}
-use Rattle.erasure.specs.Refusals.{allBelow, allDifferent, encodeRefusal, decodeRefusal, unlessRefused}
+use Rattle.erasure.specs.Refusals.{allBelow, allDifferent, numberRefusal, setRefusal, encodeRefusal, decodeRefusal, unlessRefused}
 use Rattle.settings.specs.Ranges.{maxBricks, maxSize, codeRefusal}
 use Rattle.settings.proofs.Laws.RangeLaws.{code-passed}
-use Rattle.settings.specs.Refusal.{passed, badLength, badNumber, badBrickSet, refuseUnless, firstRefusal}
-use Rattle.settings.proofs.Laws.RefusalLaws.{first-stop}
+use Rattle.settings.specs.Refusal.{passed, badLength, badNumber, badBrickSet, firstRefusal}
+use Rattle.settings.proofs.Laws.RefusalLaws.{first-stop, first-pass}
 
 pub encode-settings : (n m size s c k : ℕ) → k ≡ codeRefusal n m size → (k ≡ 0 → ⊥) → k ≡ encodeRefusal n m size s c
 unfolding encodeRefusal
@@ -45,33 +44,35 @@ unfolding decodeRefusal firstRefusal
 decode-stripe n m size bricks b s k e z a h = rw (← e, z, eq-eqb b (m * size) a, ne-eqb s (m * size) h)
 
 -- the lengths are right: what is left are the bricks
-pub decode-rest : (n m size : ℕ) (bricks : List ℕ) (b s k : ℕ) → k ≡ codeRefusal n m size → k ≡ 0 → b ≡ m * size → s ≡ m * size
-    → decodeRefusal n m size bricks b s
-    ≡ firstRefusal (refuseUnless (allBelow bricks n) badNumber ∷ refuseUnless (eqb (length bricks) m && allDifferent bricks) badBrickSet ∷ [])
-unfolding decodeRefusal firstRefusal
-decode-rest n m size bricks b s k e z a h = rw (← e, z, eq-eqb b (m * size) a, eq-eqb s (m * size) h)
+pub decode-bricks : (n m size : ℕ) (bricks : List ℕ) (b s k x y r : ℕ) → k ≡ codeRefusal n m size → k ≡ 0 → b ≡ m * size → s ≡ m * size
+    → x ≡ numberRefusal n bricks → y ≡ setRefusal m bricks → r ≡ firstRefusal (x ∷ y ∷ []) → r ≡ decodeRefusal n m size bricks b s
+unfolding decodeRefusal
+decode-bricks n m size bricks b s k x y r e z a h ex ey er =
+    er ∙ ap₂ (λ (u v : ℕ). firstRefusal (u ∷ v ∷ [])) ex ey
+    ∙ sym (first-pass (codeRefusal n m size) _ (sym e ∙ z) ∙ first-pass _ _ (rw (eq-eqb b (m * size) a, eq-eqb s (m * size) h)))
 
-pub decode-number : (n m size : ℕ) (bricks : List ℕ) (b s k : ℕ) (t : Bool) → k ≡ codeRefusal n m size → k ≡ 0 → b ≡ m * size → s ≡ m * size
-    → t ≡ allBelow bricks n → t ≡ false → badNumber ≡ decodeRefusal n m size bricks b s
-unfolding firstRefusal
-decode-number n m size bricks b s k t e z a h et f = sym (decode-rest n m size bricks b s k e z a h ∙ rw (← et, f))
+pub number-refused : (n : ℕ) (bricks : List ℕ) (t : Bool) → t ≡ allBelow bricks n → t ≡ false → badNumber ≡ numberRefusal n bricks
+number-refused n bricks t e f = rw (← e, f)
 
-pub decode-count : (n m size : ℕ) (bricks : List ℕ) (b s k : ℕ) (t : Bool) → k ≡ codeRefusal n m size → k ≡ 0 → b ≡ m * size → s ≡ m * size
-    → t ≡ allBelow bricks n → t ≡ true → (length bricks ≡ m → ⊥) → badBrickSet ≡ decodeRefusal n m size bricks b s
-unfolding firstRefusal
-decode-count n m size bricks b s k t e z a h et f c = sym (decode-rest n m size bricks b s k e z a h ∙ rw (← et, f, ne-eqb (length bricks) m c))
+pub number-passes : (n : ℕ) (bricks : List ℕ) (t : Bool) → t ≡ allBelow bricks n → t ≡ true → passed ≡ numberRefusal n bricks
+number-passes n bricks t e f = rw (← e, f)
 
-pub decode-repeat : (n m size : ℕ) (bricks : List ℕ) (b s k : ℕ) (t d : Bool) → k ≡ codeRefusal n m size → k ≡ 0 → b ≡ m * size → s ≡ m * size
-    → t ≡ allBelow bricks n → t ≡ true → length bricks ≡ m → d ≡ allDifferent bricks → d ≡ false → badBrickSet ≡ decodeRefusal n m size bricks b s
-unfolding firstRefusal
-decode-repeat n m size bricks b s k t d e z a h et f c ed g =
-    sym (decode-rest n m size bricks b s k e z a h ∙ rw (← et, f, eq-eqb (length bricks) m c, ← ed, g))
+pub set-count : (m : ℕ) (bricks : List ℕ) → (length bricks ≡ m → ⊥) → badBrickSet ≡ setRefusal m bricks
+set-count m bricks c = rw (ne-eqb (length bricks) m c)
 
-pub decode-passes : (n m size : ℕ) (bricks : List ℕ) (b s k : ℕ) (t d : Bool) → k ≡ codeRefusal n m size → k ≡ 0 → b ≡ m * size → s ≡ m * size
-    → t ≡ allBelow bricks n → t ≡ true → length bricks ≡ m → d ≡ allDifferent bricks → d ≡ true → passed ≡ decodeRefusal n m size bricks b s
-unfolding firstRefusal
-decode-passes n m size bricks b s k t d e z a h et f c ed g =
-    sym (decode-rest n m size bricks b s k e z a h ∙ rw (← et, f, eq-eqb (length bricks) m c, ← ed, g))
+pub set-repeat : (m : ℕ) (bricks : List ℕ) (d : Bool) → length bricks ≡ m → d ≡ allDifferent bricks → d ≡ false → badBrickSet ≡ setRefusal m bricks
+set-repeat m bricks d c e f = rw (eq-eqb (length bricks) m c, ← e, f)
+
+pub set-passes : (m : ℕ) (bricks : List ℕ) (d : Bool) → length bricks ≡ m → d ≡ allDifferent bricks → d ≡ true → passed ≡ setRefusal m bricks
+set-passes m bricks d c e f = rw (eq-eqb (length bricks) m c, ← e, f)
+
+-- where the first of two passed, the second
+pub first-second : (x y : ℕ) → x ≡ 0 → y ≡ firstRefusal (x ∷ y ∷ [])
+first-second x y e = sym (first-pass x (y ∷ []) e ∙ only y)
+  where
+    only : (y : ℕ) → firstRefusal (y ∷ []) ≡ y
+    only zero = unfold firstRefusal in refl
+    only (suc y) = unfold firstRefusal in refl
 
 -- the lengths of buffers in range
 pub lengths-fit : (n m size k : ℕ) → k ≡ codeRefusal n m size → k ≡ 0 → (m * size ≤ maxBricks * maxSize) × (n * size ≤ maxBricks * maxSize)

@@ -1,24 +1,28 @@
 -- The theorems of `specs/CodeTheorems`, and that zeros code to zeros.
 use mathlib.Core.Path.{_≡_, refl, sym, ap, ap₂, _∙_}
 use mathlib.Core.List.{List}
-use Prim.Native.Nat.{ℕ, _+_, _*_, _<_}
+use Prim.Native.Nat.{ℕ, _+_, _*_, _≤_, _<_}
 use native.Mathlib.Omega.{arith}
-use lib.ListN.{getD, replicate, length-replicate}
+use lib.ListN.{length, getD, replicate, length-replicate}
 use Rattle.byte_lists.specs.Lists.{zeros}
 use Rattle.byte_lists.proofs.Laws.ZeroLaws.{zeros-at}
 use Rattle.erasure.specs.Code.{firstPoints, codedOf, decodedOf, blocksOf}
-use Rattle.erasure.specs.CodeTheorems.{DecodeAfterEncode, CodedOnOnePolynomial, CodeIsSystematic, CodeIsLinear}
-use Rattle.erasure.proofs.Laws.PassedLaws.{length-first}
-use Rattle.erasure.proofs.Laws.CodedByteLaws.{first-at, first-small, first-differ, coded-byte, value-is, decoded-byte}
+use Rattle.erasure.specs.CodeTheorems.{DataPolynomial, CodedByOnePolynomial, DecodeAfterEncode, DecodedIsEncoded, CodeIsLinear}
+use Rattle.erasure.specs.Refusals.{encodedBuffer, decodedBuffer}
+use Rattle.erasure.proofs.Laws.PassedLaws.{length-first, first-set, encode-passed, decode-passed, below-at}
+use Rattle.erasure.proofs.Laws.CodeRefusalLaws.{passed-gives}
+use Rattle.erasure.proofs.Laws.CodedByteLaws.{first-at, first-small, coded-byte, value-is, decoded-byte}
 use Rattle.gf256.specs.Product.{plus, product}
 use Rattle.interpolate.proofs.Laws.BlockLaws.{blocks-by}
 use Rattle.interpolate.specs.Bytes.{Byte, byte, byteField}
 use Rattle.interpolate.proofs.Laws.ByteLaws.{same-byte, byte-small, add-is, mul-is, bytes-are-a-field}
-use Rattle.interpolate.proofs.Laws.WeightRowLaws.{different-points}
+use Rattle.interpolate.proofs.Laws.PolynomialLaws.{exactly-one-polynomial}
+use Rattle.interpolate.specs.Polynomials.{Through}
 use Rattle.interpolate.specs.Values.{byteAt}
 use Rattle.interpolate.specs.Workers.{pointsOf}
-use Rattle.poly.proofs.Laws.InterpolationLaws.{interpolated-at, interpolated-cong, interpolated-linear, interpolated-zero, on-one-polynomial}
-use Rattle.poly.specs.Polynomial.{interpolated}
+use Rattle.poly.proofs.Laws.InterpolationLaws.{interpolated-cong, interpolated-linear, interpolated-zero}
+use Rattle.poly.specs.Polynomial.{eval, interpolated}
+use Rattle.settings.specs.Ranges.{maxBricks}
 
 pub decode-after-encode : DecodeAfterEncode
 unfolding decodedOf
@@ -33,19 +37,56 @@ coded-value : (n m size : ℕ) (stripe : List ℕ) (j p : ℕ) → j < n → p <
     ≡ interpolated byteField m (pointsOf (firstPoints m)) (λ (i : ℕ). byte (byteAt size stripe i p)) (byte j) .0
 coded-value n m size stripe j p hj hp = coded-byte n m size stripe j p hj hp ∙ value-is (firstPoints m) m size stripe j p (length-first m)
 
-pub coded-on-one-polynomial : CodedOnOnePolynomial
-coded-on-one-polynomial n m size stripe p hp =
-    let e = on-one-polynomial byteField bytes-are-a-field m (pointsOf (firstPoints m)) (λ (i : ℕ). byte (byteAt size stripe i p)) in
-    (e .0, e .1, (λ j hj. coded-value n m size stripe j p hj hp ∙ ap (λ (b : Byte). b .0) (sym (e .2 (byte j)))))
+-- the polynomial through the data bytes, by the list of points or by their numbers
+module _ (m size : ℕ) (stripe : List ℕ) (p : ℕ) (small : (i : ℕ) → getD stripe i 0 < 256) (c : List Byte) where
+  value-at : (i : ℕ) → i < m → eval byteField c (byte (getD (firstPoints m) i 0)) .0 ≡ eval byteField c (byte i) .0
+  value-at i h = ap (λ (x : ℕ). eval byteField c (byte x) .0) (first-at m i h)
 
-pub code-is-systematic : CodeIsSystematic
-code-is-systematic n m size few stripe small j p hn hm hp =
-    coded-value n m size stripe j p hn hp
-    ∙ ap (λ (b : Byte). b .0)
-    (ap (interpolated byteField m (pointsOf (firstPoints m)) (λ (i : ℕ). byte (byteAt size stripe i p))) (sym (ap byte (first-at m j hm)))
-    ∙ interpolated-at byteField bytes-are-a-field m (pointsOf (firstPoints m)) (λ (i : ℕ). byte (byteAt size stripe i p)) j
-    (different-points (firstPoints m) m (first-small m few) (first-differ m)) hm)
-    ∙ byte-small (byteAt size stripe j p) (unfold byteAt in small (j * size + p))
+  data-byte : (i : ℕ) → byte (byteAt size stripe i p) .0 ≡ byteAt size stripe i p
+  unfolding byteAt
+  data-byte i = byte-small (getD stripe (i * size + p) 0) (small (i * size + p))
+
+  data-polynomial : Through (firstPoints m) size stripe p c → DataPolynomial m size stripe p c
+  data-polynomial t =
+      record {
+        degree = t .degree ∙ length-first m;
+        at = λ i h. sym (value-at i h) ∙ ap (λ (b : Byte). b .0) (t .at i (let e = length-first m in omega arith)) ∙ data-byte i;
+      }
+
+  through-data : DataPolynomial m size stripe p c → Through (firstPoints m) size stripe p c
+  through-data d =
+      record {
+        degree = d .degree ∙ sym (length-first m);
+        at = λ i h. let u : i < m = (let e = length-first m in omega arith) in same-byte (value-at i u ∙ d .at i u ∙ sym (data-byte i));
+      }
+
+pub coded-by-one-polynomial : CodedByOnePolynomial
+coded-by-one-polynomial n m size stripe p r small hp =
+    let few : m ≤ maxBricks = (let a = r .m-high in let b = r .n-high in omega arith) in
+    let e = exactly-one-polynomial (firstPoints m) size stripe p (first-small m few) (first-set m few) in (
+      e .0,
+      data-polynomial m size stripe p small (e .0) (e .1),
+      (λ d h. e .2 d (through-data m size stripe p small d h)),
+      (λ j h. coded-byte n m size stripe j p h hp ∙ e .3 j),
+    )
+
+pub decoded-is-encoded : DecodedIsEncoded
+unfolding encodedBuffer decodedBuffer
+decoded-is-encoded n m size stripe coded coded′ bricks blocks out out′ small accepted ec eb taken eo =
+    let e = encode-passed n m size (length stripe) (length coded) accepted in
+    let d = decode-passed n m size bricks (length blocks) (length out) taken in
+    eo ∙ sym (passed-gives _ out (decodedOf m size bricks blocks) _ taken refl)
+    ∙ ap (decodedOf m size bricks)
+    (eb ∙ ap (λ (l : List ℕ). blocksOf size l bricks) (ec ∙ sym (passed-gives _ coded (codedOf n m size stripe) _ accepted refl)))
+    ∙ decode-after-encode n m size stripe bricks
+    (record { pos = e .range .size-low; length-is = e .stripe-length; small = small })
+    (record {
+      some = d .range .n-low;
+      few = d .range .n-high;
+      count = d .count;
+      set = d .set;
+      below = λ i h. below-at bricks n (d .below) i (let q = d .count in omega arith);
+    })
 
 pub code-is-linear : CodeIsLinear
 unfolding byteAt

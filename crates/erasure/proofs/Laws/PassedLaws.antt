@@ -6,10 +6,10 @@ use Prim.Native.Nat.{ℕ, zero, suc, _*_, _≤_, _<_}
 use native.Mathlib.Decide.{decLt}
 use native.Mathlib.Nat.{le-of-suc-le-suc, not-suc-le-zero}
 use native.Mathlib.Omega.{arith}
-use lib.Dec.{eqb}
+use lib.Dec.{eqb, ltb}
 use lib.ListN.{length, getD, take}
 use lib.Seq.{getD-take, length-take-le}
-use borrow.Author.Tests.{eq-eqb, eqb-true, not-true}
+use borrow.Author.Tests.{eq-eqb, eqb-true, ltb-true, not-true}
 use Rattle.erasure.specs.Code.{firstPoints}
 use Rattle.erasure.specs.Refusals.{allBelow, stands, allDifferent, encodeRefusal, decodeRefusal}
 use Rattle.byte_lists.specs.Each.{each}
@@ -49,6 +49,13 @@ different-set l e f = record { few = f; differ = λ i j hi hj q. by i j hi hj q 
     by i j hi hj q (yes h) d = absurd (apart l e i j h hj q)
     by i j hi hj q (no n) (yes h) = absurd (apart l e j i h hi (sym q))
     by i j hi hj q (no n) (no k) = omega arith
+
+-- bricks below n, by their places
+pub below-at : (l : List ℕ) (n : ℕ) → allBelow l n ≡ true → (i : ℕ) → i < length l → getD l i 0 < n
+unfolding allBelow
+below-at [] n e i h = absurd (not-suc-le-zero h)
+below-at (b ∷ bs) n e zero h = ltb-true b n (and-left _ _ e)
+below-at (b ∷ bs) n e (suc i) h = below-at bs n (and-right (ltb b n) _ e) i (le-of-suc-le-suc h)
 
 -- the points 0 to m − 1
 pub first-set : (m : ℕ) → m ≤ maxBricks → PointSet (firstPoints m)

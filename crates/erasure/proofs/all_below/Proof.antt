@@ -23,7 +23,7 @@ cast-if1 : tie.Need-cast-if1 Inv-loop μ-loop
 cast-if1 c = omega (arith, c .shared-slice-known .given 0)
 
 returns : tie.Need-returns Inv-loop μ-loop
-returns c = below-not _ _ _ (c .before .before .loop-test .taken) (c .if1 .taken) (c .before .before .before .loop .inv)
+returns c = below-not _ _ _ (c .before .before .loop-test .taken) (omega (arith, c .if1 .taken)) (c .before .before .before .loop .inv)
 
 sub-t : tie.Need-sub-t Inv-loop μ-loop
 sub-t c = omega arith
@@ -38,7 +38,8 @@ loop-less : tie.Need-loop-less Inv-loop μ-loop
 loop-less c = simp (length-take, length-drop) (omega arith)
 
 loop-again : tie.Need-loop-again Inv-loop μ-loop
-loop-again c = below-rest _ _ _ (c .before .before .before .loop-test .taken) (c .before .if1 .left) (c .before .before .before .before .loop .inv)
+loop-again c =
+    below-rest _ _ _ (c .before .before .before .loop-test .taken) (omega (arith, c .before .if1 .left)) (c .before .before .before .before .loop .inv)
 
 returns-2 : tie.Need-returns-2 Inv-loop μ-loop
 returns-2 c = below-end _ _ _ (c .loop-test .left) (c .before .loop .inv)

@@ -74,11 +74,6 @@ plus-swap a b c d =
     ∙ ap (λ (x : ℕ). plus a x) (sym (plus-assoc b c d) ∙ ap (λ (x : ℕ). plus x d) (plus-comm b c) ∙ plus-assoc c b d)
     ∙ sym (plus-assoc a c (plus b d))
 
-pub plus-cancel : (a b : ℕ) → plus a b ≡ 0 → a ≡ b
-plus-cancel a b e =
-    sym (plus-zero a) ∙ ap (λ (x : ℕ). plus a x) (sym (plus-self b)) ∙ sym (plus-assoc a b b)
-    ∙ ap (λ (x : ℕ). plus x b) e ∙ zero-plus b
-
 pub plus-half : (a b : ℕ) → plus a b / 2 ≡ plus (a / 2) (b / 2)
 unfolding plus
 plus-half a b = xor-half a b

@@ -1,15 +1,11 @@
 -- A product by the bits of the right factor.
 use mathlib.Core.Path.{_≡_, refl, sym, ap, ap₂, _∙_}
-use Prim.Native.Nat.{ℕ, zero, suc, _+_, _-_, _*_, _/_, _%_, _≤_, _<_}
+use Prim.Native.Nat.{ℕ, zero, suc, _*_, _/_, _%_, _<_}
 use native.Mathlib.Nat.{zero-mul, one-mul, mod-lt}
-use native.Mathlib.Numerals.{add-one}
 use native.Mathlib.Omega.{arith}
-use lib.ListN.{getD}
-use mathlib.Core.List.{List}
-use Rattle.gf256.specs.Product.{plus, twice, shiftAdd, product, doubled, power, powerCount}
+use Rattle.gf256.specs.Product.{plus, twice, shiftAdd, product}
 use Rattle.gf256.proofs.Laws.XorLaws.{plus-zero}
-use Rattle.gf256.proofs.Laws.TableLaws.{power-cycle}
-use Rattle.gf256.specs.Tables.{IsPowers}
+use Rattle.gf256.proofs.Laws.ProductLaws.{product-twice}
 
 -- a bit times a byte is a byte
 pub bit-fits : (y w : ℕ) → w < 256 → y % 2 * w < 256
@@ -43,16 +39,6 @@ by-bits w0 w1 w2 w3 w4 w5 w6 w7 x e1 e2 e3 e4 e5 e6 e7 =
     (more-bits 1 w6 w7 (x / 64) (x / 128) _ e7 (omega arith)
     (last-bit w7 (x / 128))))))))
 
--- 2 to the s by the table, where s is past it
-pub power-high : (p : List ℕ) (s : ℕ) → IsPowers p → powerCount ≤ s → s < 2 * powerCount → getD p (s - powerCount) 0 ≡ power s
-power-high p s h l u =
-    let e : s - powerCount + powerCount ≡ s = omega arith in
-    h .entry (s - powerCount) (omega arith) ∙ sym (power-cycle (s - powerCount)) ∙ ap power e
-
--- the next power is the double
-pub power-suc : (s : ℕ) → power (s + 1) ≡ twice (power s)
-unfolding power doubled
-power-suc s = rw (add-one s)
-
-pub doubles : (s t w r : ℕ) → w ≡ power s → r ≡ power t → t ≡ s + 1 → r ≡ twice w
-doubles s t w r ew er e = er ∙ ap power e ∙ power-suc s ∙ ap twice (sym ew)
+-- a product with the double of p is the double of that with p
+pub doubles : (p q a w r : ℕ) → twice p ≡ q → p < 256 → a < 256 → w ≡ product a p → r ≡ product a q → r ≡ twice w
+doubles p q a w r t hp ha e f = f ∙ ap (product a) (sym t) ∙ product-twice a p ha hp ∙ ap twice (sym e)

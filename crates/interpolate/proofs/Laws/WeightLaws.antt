@@ -1,115 +1,111 @@
--- Lagrange's weights by sums of logarithms.
-use mathlib.Core.Path.{_≡_, refl, sym, ap, ap₂, _∙_}
-use mathlib.Core.Bool.{cond}
+-- Lagrange's weights by products: numerator and denominators, factor by factor. The code adds by exclusive or itself, which `plus` names.
+use mathlib.Core.Path.{_≡_, refl, sym, ap, ap₂, subst, _∙_}
 use mathlib.Core.List.{List}
-use Prim.Native.Nat.{ℕ, zero, suc, _+_, _-_, _%_, _≤_, _<_}
-use native.Mathlib.Decide.{ℕ-discrete}
-use native.Mathlib.Nat.{not-suc-le-zero, add-zero}
+use Prim.Native.Nat.{ℕ, _+_, _≤_, _<_}
+use native.Mathlib.Nat.{le-refl}
+use native.Mathlib.Numerals.{add-one}
 use native.Mathlib.Omega.{arith}
-use lib.Dec.{eqb}
-use lib.ListN.{getD}
-use borrow.Author.Tests.{eq-eqb, ne-eqb}
-use Rattle.gf256.proofs.Laws.LookupLaws.{log-power, inverse-is}
-use Rattle.gf256.specs.Product.{plus, product, doubled, power, powerCount, inverse}
-use Rattle.gf256.proofs.Laws.TableLaws.{power-add, power-mod}
-use Rattle.gf256.specs.Tables.{IsLogs}
-use Rattle.gf256.proofs.Laws.XorLaws.{plus-byte, plus-cancel}
+use lib.Bits.{bitXor}
+use lib.ListN.{length, getD, set, replicate, getD-replicate}
+use Rattle.byte_lists.proofs.Laws.TabulateLaws.{Filled, filled-more, filled-keep}
+use Rattle.gf256.specs.Product.{plus, product, inverse}
+use Rattle.gf256.proofs.Laws.FieldLaws.{one-product}
+use Rattle.gf256.proofs.Laws.XorLaws.{plus-byte}
 use Rattle.interpolate.specs.Bytes.{Byte, byte, byteField}
-use Rattle.interpolate.proofs.Laws.ByteLaws.{byte-small, add-is, mul-is, inv-is}
-use Rattle.interpolate.specs.Workers.{numerator, denominator, pointsOf}
-use Rattle.poly.proofs.Laws.BasisLaws.{basisTo-skip, basisTo-step}
-use Rattle.poly.specs.Polynomial.{sub, factor, basisTo, basis}
+use Rattle.interpolate.proofs.Laws.ByteLaws.{byte-small, add-is, mul-is, inv-is, bytes-are-a-field}
+use Rattle.interpolate.specs.Workers.{pointsOf, numerator, denominator, weight, Differences, Shares, PointsReady}
+use Rattle.poly.proofs.Laws.BasisPartLaws.{rootsTo-step, othersTo-skip, othersTo-step, basis-parts}
+use Rattle.poly.specs.Polynomial.{sub, rootsTo, othersTo}
+use Rattle.settings.specs.Ranges.{maxBricks}
 
--- the sum of the logarithms of x − b over the first k points b but point i
-unfoldable pub others : List ℕ → List ℕ → ℕ → ℕ → ℕ → ℕ
-others logs points x i zero = 0
-others logs points x i (suc k) = others logs points x i k + cond (eqb k i) 0 (getD logs (plus x (getD points k 0)) 0)
+-- a difference of bytes by their numbers
+difference-is : (a b : ℕ) → a < 256 → b < 256 → sub byteField (byte a) (byte b) .0 ≡ bitXor a b
+unfolding sub plus
+difference-is a b ha hb = add-is (byte a) (byte b) ∙ ap₂ plus (byte-small a ha) (byte-small b hb)
 
-others-before : (logs points : List ℕ) (x i k : ℕ) → k ≤ i → numerator logs points x k ≡ others logs points x i k
-unfolding numerator others
-others-before logs points x i zero h = refl
-others-before logs points x i (suc k) h =
-    rw (ne-eqb k i (λ e. absurd (omega arith))) (ap (λ (s : ℕ). s + getD logs (plus x (getD points k 0)) 0) (others-before logs points x i k (omega arith)))
+-- ones are the products of no differences
+pub differences-none : (points : List ℕ) → length points ≤ maxBricks → Differences points 0 (replicate maxBricks 1)
+unfolding denominator othersTo
+differences-none points h = record { entry = λ i u. getD-replicate maxBricks i 1 0 (omega arith) }
 
--- past i the whole sum has i's own logarithm more
-others-after : (logs points : List ℕ) (x i k : ℕ) → i < k
-    → numerator logs points x k ≡ others logs points x i k + getD logs (plus x (getD points i 0)) 0
-unfolding numerator others
-others-after logs points x i zero h = absurd (not-suc-le-zero h)
-others-after logs points x i (suc k) h = by (ℕ-discrete k i) (others-after logs points x i k)
-  where
-    by : Dec (k ≡ i) → (i < k → numerator logs points x k ≡ others logs points x i k + getD logs (plus x (getD points i 0)) 0)
-        → numerator logs points x k + getD logs (plus x (getD points k 0)) 0
-        ≡ (others logs points x i k + cond (eqb k i) 0 (getD logs (plus x (getD points k 0)) 0)) + getD logs (plus x (getD points i 0)) 0
-    by (yes e) ih =
-        rw (eq-eqb k i e, add-zero (others logs points x i k), others-before logs points x i k (omega arith))
-        (ap (λ (j : ℕ). others logs points x i k + getD logs (plus x (getD points j 0)) 0) e)
-    by (no n) ih = rw (ne-eqb k i n) (let q = ih (omega arith) in omega arith)
+-- inverses of the products over all points are the shares
+pub shares-done : (points products shares : List ℕ) (k : ℕ) → Differences points k products → length points ≤ k → k ≤ length points
+    → ((i : ℕ) → i < length points → getD shares i 0 ≡ inverse (getD products i 0)) → Shares points shares
+shares-done points products shares k d a b e =
+    record { entry = λ i h. e i h ∙ ap inverse (d .entry i h ∙ ap (denominator points i) (omega arith)) }
 
-cond-other : (k i v : ℕ) → (k ≡ i → ⊥) → cond (eqb k i) 0 v ≡ v
-cond-other k i v n = rw (ne-eqb k i n)
+-- no point
+pub numerator-none : (points : List ℕ) (x : ℕ) → length points ≡ 0 → 1 ≡ numerator points x (length points)
+unfolding numerator rootsTo
+numerator-none points x e = rw e refl
 
-regroup : (a d u v : ℕ) → (a + d) + (u + v) ≡ (a + u) + (d + v)
-regroup a d u v = omega arith
+pub numerator-all : (points : List ℕ) (x k s : ℕ) → s ≡ numerator points x k → length points ≤ k → k ≤ length points → s ≡ numerator points x (length points)
+numerator-all points x k s e a b = e ∙ ap (numerator points x) (omega arith)
 
-module _ (logs points : List ℕ) (hl : IsLogs logs) (small : (k : ℕ) → getD points k 0 < 256) (x : ℕ) (hx : x < 256) (i : ℕ) where
-  apart : (a b : ℕ) → (b ≡ a → ⊥) → plus a b ≡ 0 → ⊥
-  apart a b n e = n (sym (plus-cancel a b e))
+module _ (points : List ℕ) (small : (k : ℕ) → getD points k 0 < 256) where
+  -- another point
+  pub numerator-more : (x k s r : ℕ) → x < 256 → s ≡ numerator points x k → r ≡ product s (bitXor x (getD points k 0)) → r ≡ numerator points x (k + 1)
+  unfolding numerator
+  numerator-more x k s r hx e f =
+      f ∙ ap₂ product e (sym (difference-is x (getD points k 0) hx (small k)))
+      ∙ sym (mul-is (rootsTo byteField k (pointsOf points) (byte x)) (sub byteField (byte x) (pointsOf points k)))
+      ∙ ap (λ (b : Byte). b .0) (sym (rootsTo-step byteField k (pointsOf points) (byte x)))
+      ∙ ap (λ (j : ℕ). rootsTo byteField j (pointsOf points) (byte x) .0) (sym (add-one k))
 
-  -- one factor of a weight
-  factor-power : (k : ℕ) → (getD points k 0 ≡ x → ⊥) → (getD points k 0 ≡ getD points i 0 → ⊥)
-      → factor byteField (pointsOf points) i k (byte x) .0
-      ≡ power (getD logs (plus x (getD points k 0)) 0 + (powerCount - getD logs (plus (getD points i 0) (getD points k 0)) 0))
-  unfolding factor sub
-  factor-power k nx ni =
-      let pk = getD points k 0 in
-      let pi = getD points i 0 in
-      let up = byteField .add (byte x) (byte pk) in
-      let down = byteField .add (byte pi) (byte pk) in
-      mul-is up (byteField .inv down)
-      ∙ ap₂ product (add-is (byte x) (byte pk)) (inv-is down ∙ ap inverse (add-is (byte pi) (byte pk)))
-      ∙ ap₂ (λ (u v : ℕ). product u (inverse v))
-      (ap₂ plus (byte-small x hx) (byte-small pk (small k)))
-      (ap₂ plus (byte-small pi (small i)) (byte-small pk (small k)))
-      ∙ ap₂ product (log-power logs hl (plus x pk) (apart x pk nx) (plus-byte x pk hx (small k)))
-      (inverse-is logs hl (plus pi pk) (apart pi pk ni) (plus-byte pi pk (small i) (small k)))
-      ∙ power-add (getD logs (plus x pk) 0) (powerCount - getD logs (plus pi pk) 0)
+  pub numerator-first : (x : ℕ) → x < 256 → bitXor x (getD points 0 0) ≡ numerator points x 1
+  unfolding numerator rootsTo
+  numerator-first x hx =
+      numerator-more x 0 1 (bitXor x (getD points 0 0)) hx refl
+      (unfold plus in sym (one-product (plus x (getD points 0 0)) (plus-byte x (getD points 0 0) hx (small 0))))
 
-  weight-power : (k : ℕ) → ((j : ℕ) → j < k → getD points j 0 ≡ x → ⊥)
-      → ((j : ℕ) → j < k → (j ≡ i → ⊥) → getD points j 0 ≡ getD points i 0 → ⊥)
-      → basisTo byteField k (pointsOf points) i (byte x) .0 ≡ power (others logs points x i k + denominator logs points i k)
-  unfolding others denominator basisTo power doubled
-  weight-power zero nx ni = refl
-  weight-power (suc k) nx ni =
-      by (ℕ-discrete k i) (weight-power k (λ j h. nx j (omega arith)) (λ j h. ni j (omega arith)))
+  -- One turn over the points' products of differences: one more factor for point i, or none where it is point k.
+  pub difference-taken : (k i r : ℕ) (old out next : List ℕ) → Differences points k old → Filled (λ (j : ℕ). denominator points j (k + 1)) old out i
+      → i < length points → length points ≤ length old → (i ≡ k → ⊥) → r ≡ product (getD out i 0) (bitXor (getD points i 0) (getD points k 0))
+      → next ≡ set out i r → Filled (λ (j : ℕ). denominator points j (k + 1)) old next (i + 1)
+  difference-taken k i r old out next d f h u n er en =
+      subst (λ (l : List ℕ). Filled (λ (j : ℕ). denominator points j (k + 1)) old l (i + 1)) (sym en) (filled-more _ old out i r f (omega arith) (by er))
     where
-      by : Dec (k ≡ i) → basisTo byteField k (pointsOf points) i (byte x) .0 ≡ power (others logs points x i k + denominator logs points i k)
-          → basisTo byteField (suc k) (pointsOf points) i (byte x) .0
-          ≡ power ((others logs points x i k + cond (eqb k i) 0 (getD logs (plus x (getD points k 0)) 0))
-          + (denominator logs points i k + cond (eqb k i) 0 (powerCount - getD logs (plus (getD points i 0) (getD points k 0)) 0)))
-      by (yes e) ih =
-          ap (λ (b : Byte). b .0) (basisTo-skip byteField k (pointsOf points) i (byte x) e) ∙ ih
-          ∙ rw (eq-eqb k i e, add-zero (others logs points x i k), add-zero (denominator logs points i k)) refl
-      by (no n) ih =
-          ap (λ (b : Byte). b .0) (basisTo-step byteField k (pointsOf points) i (byte x) n)
-          ∙ mul-is (basisTo byteField k (pointsOf points) i (byte x)) (factor byteField (pointsOf points) i k (byte x))
-          ∙ ap₂ product ih (factor-power k (nx k (omega arith)) (ni k (omega arith) n))
-          ∙ power-add (others logs points x i k + denominator logs points i k)
-          (getD logs (plus x (getD points k 0)) 0 + (powerCount - getD logs (plus (getD points i 0) (getD points k 0)) 0))
-          ∙ ap power
-          (regroup (others logs points x i k) (denominator logs points i k) (getD logs (plus x (getD points k 0)) 0)
-          (powerCount - getD logs (plus (getD points i 0) (getD points k 0)) 0)
-          ∙ ap₂ (λ (s t : ℕ). (others logs points x i k + s) + (denominator logs points i k + t))
-          (sym (cond-other k i (getD logs (plus x (getD points k 0)) 0) n))
-          (sym (cond-other k i (powerCount - getD logs (plus (getD points i 0) (getD points k 0)) 0) n)))
+      by : r ≡ product (getD out i 0) (bitXor (getD points i 0) (getD points k 0)) → r ≡ denominator points i (k + 1)
+      by e =
+          unfold denominator in
+          e ∙ ap₂ product (f .rest i (le-refl i) ∙ d .entry i h) (sym (difference-is (getD points i 0) (getD points k 0) (small i) (small k)))
+          ∙ sym (mul-is (othersTo byteField k (pointsOf points) i (pointsOf points i)) (sub byteField (pointsOf points i) (pointsOf points k)))
+          ∙ ap (λ (b : Byte). b .0) (sym (othersTo-step byteField k (pointsOf points) i (pointsOf points i) (λ q. n (sym q))))
+          ∙ ap (λ (l : ℕ). othersTo byteField l (pointsOf points) i (pointsOf points i) .0) (sym (add-one k))
 
-  -- The weight of point i at x, by sums that are made once a row and once a set of points.
-  pub weight-is : (m : ℕ) → i < m → ((j : ℕ) → j < m → getD points j 0 ≡ x → ⊥)
-      → ((j : ℕ) → j < m → (j ≡ i → ⊥) → getD points j 0 ≡ getD points i 0 → ⊥)
-      → basis byteField m (pointsOf points) i (byte x) .0
-      ≡ power ((numerator logs points x m - getD logs (plus x (getD points i 0)) 0 + denominator logs points i m) % powerCount)
-  unfolding basis
-  weight-is m h nx ni =
-      weight-power m nx ni
-      ∙ ap power (let q = others-after logs points x i m h in omega arith)
-      ∙ sym (power-mod (numerator logs points x m - getD logs (plus x (getD points i 0)) 0 + denominator logs points i m))
+  pub difference-left : (k i : ℕ) (old out next : List ℕ) → Differences points k old → Filled (λ (j : ℕ). denominator points j (k + 1)) old out i
+      → i < length points → i ≡ k → next ≡ out → Filled (λ (j : ℕ). denominator points j (k + 1)) old next (i + 1)
+  difference-left k i old out next d f h q en =
+      subst (λ (l : List ℕ). Filled (λ (j : ℕ). denominator points j (k + 1)) old l (i + 1)) (sym en) (filled-keep _ old out i f (by (d .entry i h)))
+    where
+      by : getD old i 0 ≡ denominator points i k → getD old i 0 ≡ denominator points i (k + 1)
+      by e =
+          unfold denominator in
+          e ∙ ap (λ (b : Byte). b .0) (sym (othersTo-skip byteField k (pointsOf points) i (pointsOf points i) (sym q)))
+          ∙ ap (λ (l : ℕ). othersTo byteField l (pointsOf points) i (pointsOf points i) .0) (sym (add-one k))
+
+  -- The weight of point i at x by its parts, as the code multiplies them.
+  pub weight-by-parts : (powers logs shares : List ℕ) (top x i own share r : ℕ) → PointsReady powers logs points shares → x < 256
+      → ((k : ℕ) → k < length points → getD points k 0 ≡ x → ⊥) → top ≡ numerator points x (length points) → i < length points
+      → own ≡ inverse (bitXor x (getD points i 0)) → share ≡ product own (getD shares i 0) → r ≡ product top share → r ≡ weight points i x
+  unfolding weight numerator denominator
+  weight-by-parts powers logs shares top x i own share r ready hx nx et h eo es er =
+      er ∙ ap₂ product et
+      (es ∙ ap₂ product (eo ∙ ap inverse (sym (difference-is x (getD points i 0) hx (small i))) ∙ sym (inv-is down))
+      (ready .shares-right .entry i h ∙ sym (inv-is others)) ∙ sym (mul-is (byteField .inv down) (byteField .inv others)))
+      ∙ sym (mul-is (rootsTo byteField (length points) (pointsOf points) (byte x)) (byteField .mul (byteField .inv down) (byteField .inv others)))
+      ∙ ap (λ (b : Byte). b .0)
+      (sym (basis-parts byteField bytes-are-a-field (pointsOf points) i (length points) (byte x) one-not-zero h
+      (λ j l n e. n (ready .set .differ j i l h (same j i e))) (λ e. nx i h (sym (sym (byte-small x hx) ∙ ap (λ (b : Byte). b .0) e ∙ byte-small (getD points i 0) (small i))))))
+    where
+      down : Byte
+      down = sub byteField (byte x) (pointsOf points i)
+
+      others : Byte
+      others = othersTo byteField (length points) (pointsOf points) i (pointsOf points i)
+
+      one-not-zero : byte 1 ≡ byte 0 → ⊥
+      one-not-zero e = let z : _≡_ {A = ℕ} 1 0 = ap (λ (b : Byte). b .0) e in omega arith
+
+      same : (j k : ℕ) → pointsOf points j ≡ pointsOf points k → getD points j 0 ≡ getD points k 0
+      same j k e = sym (byte-small (getD points j 0) (small j)) ∙ ap (λ (b : Byte). b .0) e ∙ byte-small (getD points k 0) (small k)

@@ -1,34 +1,23 @@
 -- Blocks as sums of weighted blocks, and blocks in a row.
 use mathlib.Core.Path.{_≡_, refl, sym, ap, ap₂, _∙_}
 use mathlib.Core.List.{List, _++_, append-assoc}
-use Prim.Native.Nat.{ℕ, suc, _+_, _-_, _*_, _%_, _≤_, _<_}
+use Prim.Native.Nat.{ℕ, suc, _+_, _-_, _*_, _≤_, _<_}
 use native.Mathlib.Nat.{zero-mul, suc-mul, mul-le-mul-right}
 use native.Mathlib.Numerals.{add-one}
 use native.Mathlib.Omega.{arith}
-use lib.Bits.{bitXor}
 use lib.ListN.{length, getD, take, drop, length-append, length-drop}
 use lib.Seq.{getD-take, getD-drop, length-take-le, take-all, take-at}
 use borrow.Rule.Slice.PartMut.{putMid, postOf, same-len-mid}
-use Rattle.gf256.specs.Product.{plus, product, power, powerCount}
+use Rattle.gf256.specs.Product.{plus, product}
 use Rattle.interpolate.specs.Bytes.{Byte, byte, byteField}
 use Rattle.interpolate.proofs.Laws.ByteLaws.{byte-small, add-is, mul-is, bytes-are-a-field}
 use Rattle.interpolate.proofs.Laws.FirstPlaceLaws.{place-is, place-not}
-use Rattle.interpolate.specs.Workers.{firstPlace, scaled, numerator, pointsOf, PointsReady, weight}
+use Rattle.interpolate.specs.Workers.{firstPlace, scaled, pointsOf, weight}
 use Rattle.byte_lists.specs.Lists.{tabulate, stacked}
 use Rattle.byte_lists.proofs.Laws.TabulateLaws.{length-tabulate, getD-tabulate, tabulate-by, tabulate-ext}
 use Rattle.interpolate.specs.Values.{byteAt, valueAt, blockAt, PointSet}
-use Rattle.interpolate.proofs.Laws.WeightLaws.{weight-is}
 use Rattle.poly.proofs.Laws.InterpolationLaws.{interpolated-at}
 use Rattle.poly.specs.Polynomial.{Different, sum, basis, interpolated}
-
--- a weight is 2 to what the code sums up
-pub weight-by-logs : (logs points sums : List ℕ) (top x i : ℕ) → PointsReady logs points sums → ((k : ℕ) → getD points k 0 < 256) → x < 256
-    → ((k : ℕ) → k < length points → getD points k 0 ≡ x → ⊥) → top ≡ numerator logs points x (length points) → i < length points
-    → weight points i x ≡ power ((top - getD logs (bitXor x (getD points i 0)) 0 + getD sums i 0) % powerCount)
-unfolding weight plus
-weight-by-logs logs points sums top x i ready small hx nx et h =
-    weight-is logs points (ready .logs-right) small x hx i (length points) h nx (λ j l n e. n (ready .set .differ j i l h e))
-    ∙ ap₂ (λ (a b : ℕ). power ((a - getD logs (plus x (getD points i 0)) 0 + b) % powerCount)) (sym et) (sym (ready .sums-right .entry i h))
 
 -- the sum of the first k terms of a value
 unfoldable pub partial : List ℕ → ℕ → List ℕ → ℕ → ℕ → ℕ → ℕ

@@ -12,14 +12,14 @@ position-requires c κs = search needs
 
 -- the point's own block is within the blocks
 within : (c : tie.Then1)
-    → c .before .position .result * length (c .before .before .before .before .before .args .out .now)
-    + length (c .before .before .before .before .before .args .out .now)
-    ≤ length (c .before .before .before .before .before .args .blocks .now)
+    → c .before .position .result * length (c .before .before .before .before .before .before .args .out .now)
+    + length (c .before .before .before .before .before .before .args .out .now)
+    ≤ length (c .before .before .before .before .before .before .args .blocks .now)
 within c =
-    let s = c .before .before .before .before .before in
+    let s = c .before .before .before .before .before .before in
     let size = length (s .args .out .now) in
     let h = mul-le-mul-right size (c .if1 .taken) in
-    omega (arith, h, suc-mul (c .before .position .result) size, s .pre .1 .1)
+    omega (arith, h, suc-mul (c .before .position .result) size, s .pre .1)
 
 mul-at : tie.Need-mul-at
 mul-at c = omega (arith, within c)
@@ -44,17 +44,17 @@ same-length c = search needs
 
 returns : tie.Need-returns
 returns c =
-    let s = c .before .before .before .before .before .before .before .before .before .before in
+    let s = c .before .before .before .before .before .before .before .before .before .before .before in
     let f = c .before .before .before .before .before in
     row-found (s .args .points .now) (length (s .args .out .now)) (s .args .blocks .now) _ (s .args .x) (f .before .position .result)
-    (λ k. c .before .before .before .before .before .before .before .before .before .shared-slice-known .given k .fits)
-    (λ k. c .before .before .before .before .before .before .before .before .shared-slice-known2 .given k .fits) (s .pre .1 .0 .set)
-    (f .before .position .ensures) (f .if1 .taken) (s .pre .1 .1) (c .before .before .copy .ensures)
+    (λ k. c .before .before .before .before .before .before .before .before .before .before .shared-slice-known .given k .fits)
+    (λ k. c .before .before .before .before .before .before .before .before .shared-slice-known3 .given k .fits) (s .pre .0 .set)
+    (f .before .position .ensures) (f .if1 .taken) (s .pre .1) (c .before .before .copy .ensures)
 
 combine-requires : tie.Need-combine-requires
 combine-requires c κs =
-    let s = c .before .before .before .before .before .before in
-    (s .pre .0, (s .pre .1 .0, (row-not-found _ _ _ (c .before .before .position .ensures) (c .before .if1 .left), s .pre .1 .1)))
+    let s = c .before .before .before .before .before .before .before in
+    (s .pre .0, (row-not-found _ _ _ (c .before .before .position .ensures) (c .before .if1 .left), s .pre .1))
 
 same-length-2 : tie.Need-same-length-2
 same-length-2 c = search needs
