@@ -33,29 +33,30 @@ pub record LogReady (s : Settings) (brick : ℕ) (l : List ℕ) (k : Known) : Ty
   pub high : k .count ≤ s .capacity
   pub most : s .capacity ≤ maxCapacity
 
+-- the time of the entry at a place of the working log
+abbrev pub logTime : List Entry → ℕ → ℕ
+logTime log i = getD log i blank .time
+
 -- the lookup in the working log
 unfoldable pub underIn : List Entry → ℕ → ℕ → ℕ
 underIn log max zero = 0
-underIn log max (suc i) = cond (ltb (getD log i blank .time) max) (suc i) (underIn log max i)
+underIn log max (suc i) = cond (ltb (logTime log i) max) (suc i) (underIn log max i)
 
 -- the answer of a lookup: the entry by its place and 1, none for 0
 unfoldable pub lookedIn : List Entry → ℕ → Looked
 lookedIn log zero = Nothing
 lookedIn log (suc i) = Under (getD log i blank)
 
--- how many entries a Trim drops: d is not the last, those before it are under t, and it is not unless it is the last
-pub record Cut (log : List Entry) (n t d : ℕ) : Type 0 where
-  pub low : d < n
-  pub before : (i : ℕ) → i < d → getD log i blank .time < t
-  pub here : d + 1 < n → t ≤ getD log d blank .time
+-- the first place from d on, or the one n further, whose time is not under t
+unfoldable pub cutFrom : (ℕ → ℕ) → ℕ → ℕ → ℕ → ℕ
+cutFrom times t d zero = d
+cutFrom times t d (suc n) = cond (ltb (times d) t) (cutFrom times t (d + 1) n) d
 
--- the block and the time of an entry by its place and 1, 0 for none
-unfoldable pub lookedPlace : List Entry → ℕ → ℕ
-lookedPlace log n = cond (eqb n 0) 0 (placeIn (getD log (n - 1) blank .holding))
+-- "drops every entry under t other than the newest": how many, of n entries in rising time
+unfoldable pub cutFor : List Entry → ℕ → ℕ → ℕ
+cutFor log n t = cutFrom (logTime log) t 0 (n - 1)
 
-unfoldable pub lookedTime : List Entry → ℕ → ℕ
-lookedTime log n = cond (eqb n 0) 0 (getD log (n - 1) blank .time)
-
+-- a plan by its parts
 unfoldable pub planOf : ℕ → ℕ → ℕ → Plan
 planOf place found cut = record { place = place; found = found; cut = cut }
 
@@ -73,11 +74,11 @@ unfoldable pub underFor : List Entry → Known → Message → ℕ
 underFor log k msg = cond (ltb (k .newest) (msg .time) && leb (k .promise) (msg .time)) (underIn log (msg .max) (k .count)) 0
 
 -- what a message asks for, by its kind
-pub record Planned (log : List Entry) (k : Known) (msg : Message) (brick : ℕ) (p : Plan) : Type 0 where
-  pub cuts : msg .kind ≡ trimKind → Cut log (k .count) (msg .time) (p .cut)
-  pub reads : msg .kind ≡ readKind → (p .place ≡ readPlace k (msg .targets) brick) × (p .found ≡ k .newest)
-  pub looks : msg .kind ≡ orderReadKind → (p .place ≡ lookedPlace log (underFor log k msg)) × (p .found ≡ lookedTime log (underFor log k msg))
-  pub others : (msg .kind ≡ readKind → ⊥) → (msg .kind ≡ orderReadKind → ⊥) → (p .place ≡ 0) × (p .found ≡ 0)
+unfoldable pub planFor : List Entry → Known → Message → ℕ → Plan
+planFor log k msg brick =
+    cond (eqb (msg .kind) trimKind) (planOf 0 0 (cutFor log (k .count) (msg .time)))
+    (cond (eqb (msg .kind) readKind) (planOf (readPlace k (msg .targets) brick) (k .newest) 0)
+    (cond (eqb (msg .kind) orderReadKind) (planIn (lookedIn log (underFor log k msg))) (planOf 0 0 0)))
 
 -- the bytes of a block of the image, or what the buffer held
 unfoldable pub gaveOf : List ℕ → ℕ → ℕ → List ℕ → List ℕ

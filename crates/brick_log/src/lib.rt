@@ -5,7 +5,7 @@ ghost use mathlib.Core.Bool.{_&&_};
 ghost use Prim.Native.Nat.{_≤_, _<_, _+_, _*_};
 ghost use lib.Dec.{leb, ltb};
 ghost use Rattle.message.specs.Flags.{member};
-ghost use Rattle.brick_log.specs.Workers.{Cut, underIn, lookedIn, planIn, readPlace, Planned, LogReady, gaveOf};
+ghost use Rattle.brick_log.specs.Workers.{cutFor, underIn, lookedIn, planIn, readPlace, planFor, LogReady, gaveOf};
 ghost use lib.ListN.{length};
 ghost use Rattle.image.specs.Image.{imageOf};
 ghost use Rattle.image.specs.Parse.{brickIn};
@@ -66,7 +66,7 @@ pub fn order_yes(newest: u64, promise: u64, time: u64) -> bool
 // How many entries a Trim drops: those under its time, other than the newest.
 fn cut_for(log: [Entry; MAX_CAPACITY], count: usize, time: u64) -> usize
     requires { ⌜ (1 ≤ count) × (count ≤ maxCapacity) ⌝ }
-    ensures { λ r. ⌜ Cut log count time r ⌝ }
+    ensures { λ r. ⌜ r ≡ cutFor log count time ⌝ }
 {
     let last = count - 1;
     let mut d: usize = 0;
@@ -142,9 +142,10 @@ fn read_place(k: Known, targets: [u8; MAX_BRICKS], brick: usize) -> usize
 pub fn plan_for(log: [Entry; MAX_CAPACITY], k: Known, msg: Message, brick: usize) -> Plan
     requires { ⌜ (1 ≤ k .count) × (k .count ≤ maxCapacity) ⌝ }
     requires { ⌜ brick < maxBricks ⌝ }
-    ensures { λ r. ⌜ Planned log k msg brick r ⌝ }
+    ensures { λ r. ⌜ r ≡ planFor log k msg brick ⌝ }
 {
-    if msg.kind == TRIM {
+    let kind = msg.kind;
+    if kind == TRIM {
         let d = cut_for(log, k.count, msg.time);
         return Plan {
             place: 0,
@@ -152,7 +153,7 @@ pub fn plan_for(log: [Entry; MAX_CAPACITY], k: Known, msg: Message, brick: usize
             cut: d,
         };
     }
-    if msg.kind == READ {
+    if kind == READ {
         let targets = msg.targets;
         let p = read_place(k, targets, brick);
         return Plan {
@@ -161,7 +162,7 @@ pub fn plan_for(log: [Entry; MAX_CAPACITY], k: Known, msg: Message, brick: usize
             cut: 0,
         };
     }
-    if msg.kind == ORDER_READ {
+    if kind == ORDER_READ {
         if order_yes(k.newest, k.promise, msg.time) {
             let looked = look_under(log, k.count, msg.max);
             return entry_plan(looked);

@@ -1,2 +1,2 @@
--- View: the entry at a place of a saved brick.
+-- View: a saved brick opened as a view, its count and the entry at a place.
 pub mod View

@@ -2,27 +2,50 @@
 use mathlib.Core.Bool.{cond}
 use mathlib.Core.List.{List}
 use Prim.Native.Nat.{ℕ, _+_, _/_}
+use denote.Ref.{RefT, now}
 use lib.Dec.{leb}
 use lib.ListN.{length}
 use Rattle.settings.specs.Refusal.{badLength, badNumber}
+use Rattle.settings.specs.declared.Settings.{Settings}
 use Rattle.image.specs.Brick.{entryCount, timeAt}
-use Rattle.image.specs.Parse.{Parsed, Opens, Refuses, imageBlockAt, timeIn}
+use Rattle.image.specs.Parse.{Parsed, Opens, Refuses, parse, imageBlockAt, timeIn}
 use Rattle.image.specs.declared.Holding.the-variants.{Held}
+use Rattle.image_view.specs.declared.Counted.{Counted}
+use Rattle.image_view.specs.declared.Counted.the-variants.{Entries}
 use Rattle.image_view.specs.declared.Found.{Found}
 use Rattle.image_view.specs.declared.Found.the-variants.{At, Refused}
+use Rattle.image_view.specs.declared.View.{View}
 use Rattle.settings.specs.Refusal.{passed}
 use Rattle.image_block.specs.Block.{blockBytes}
 
--- the entry at a place: its time, and the place of its held block; or 3 for "a view's place not below its count"
+-- "the count": how many entries the brick has, or why the image is refused
+unfoldable pub countOf : Parsed → Counted
+countOf (Opens x) = Entries (entryCount x)
+countOf (Refuses number) = Counted.Refused number
+
+-- "the entry at a place": its time, and the place of its held block; or 3 for "a view's place not below its count"
 unfoldable pub foundOf : Parsed → ℕ → Found
 foundOf (Opens x) place = cond (leb (entryCount x) place) (Refused badNumber) (At (record { time = timeAt x place; holding = Held (place + 1) }))
 foundOf (Refuses k) place = Refused k
 
--- the same read from bytes that have n entries; 2 where they are too short for that
+-- the view of a lent image: "a record holding a reference to the lent image", and the count
+abbrev pub viewOf : Settings → ℕ → RefT (List ℕ) → View
+viewOf s brick image = record { image = image; counted = countOf (parse s brick (now image)) }
+
+-- the entry at a place, read from bytes that have n entries; 2 where they are too short for that
 unfoldable pub foundAt : List ℕ → ℕ → ℕ → Found
 foundAt l n place =
     cond (leb (length l / blockBytes) n) (Refused badLength)
     (cond (leb n place) (Refused badNumber) (At (record { time = timeIn (imageBlockAt l (place + 1)); holding = Held (place + 1) })))
+
+-- the same by what opening gave
+unfoldable pub foundBy : List ℕ → Counted → ℕ → Found
+foundBy l (Entries n) place = foundAt l n place
+foundBy l (Counted.Refused number) place = Refused number
+
+-- the entry at a place of a view
+abbrev pub foundIn : View → ℕ → Found
+foundIn v place = foundBy (now (v .image)) (v .counted) place
 
 -- 0 where there is an entry
 unfoldable pub foundNumber : Found → ℕ

@@ -1,7 +1,6 @@
 // Changing a saved brick where it is lent: a fresh one, its head, an entry more, entries less.
 ghost use mathlib.Core.Path.{_≡_};
-ghost use mathlib.Core.List.{List};
-ghost use Prim.Native.Nat.{ℕ, _+_, _*_, _≤_, _<_};
+ghost use Prim.Native.Nat.{_+_, _-_, _*_, _≤_, _<_};
 ghost use lib.ListN.{length};
 ghost use Rattle.settings.specs.Ranges.{SettingsRange};
 ghost use Rattle.image_block.specs.Block.{headBlock, entryBlock};
@@ -10,7 +9,7 @@ ghost use Rattle.image.specs.Image.{imageSize, imageOf};
 ghost use Rattle.image.specs.Brick.{freshBrick};
 ghost use Rattle.image.specs.Opening.{lendingRefusal};
 ghost use Rattle.image_write.specs.Saving.{freshAfter};
-ghost use Rattle.image_write.specs.Workers.{Blocks, clearedOf, shiftedOf};
+ghost use Rattle.image_write.specs.Workers.{cleared, shifted};
 ghost use Rattle.image_block.specs.Block.{blockBytes};
 ghost use Rattle.settings.specs.Ranges.{maxSize};
 use byte_lists::store;
@@ -46,7 +45,7 @@ pub fn write_entry(image: &mut [u8], at: usize, time: u64, block: &[u8])
 // The blocks from one number up to another, made unused.
 pub fn clear_blocks(image: &mut [u8], from: usize, to: usize)
     requires { ⌜ (from ≤ to) × (blockBytes * to ≤ length (now image)) ⌝ }
-    ensures { λ _. ⌜ ((n : ℕ) (g : ℕ → List ℕ) → Blocks g n (now (image .entry)) → Blocks (clearedOf g from to) n (now (image .exit))) ⌝ }
+    ensures { λ _. ⌜ now (image .exit) ≡ cleared from (to - from) (now (image .entry)) ⌝ }
 {
     let b = unused();
     let mut k = from;
@@ -73,7 +72,7 @@ fn copied(part: &[u8]) -> [u8; BLOCK_BYTES]
 // The entries from number d on, moved down to the front: `kept` blocks.
 pub fn shift_blocks(image: &mut [u8], d: usize, kept: usize)
     requires { ⌜ blockBytes * (d + kept + 1) ≤ length (now image) ⌝ }
-    ensures { λ _. ⌜ ((n : ℕ) (g : ℕ → List ℕ) → Blocks g n (now (image .entry)) → Blocks (shiftedOf g d kept) n (now (image .exit))) ⌝ }
+    ensures { λ _. ⌜ now (image .exit) ≡ shifted d kept (now (image .entry)) ⌝ }
 {
     let mut k: usize = 0;
     while k < kept {

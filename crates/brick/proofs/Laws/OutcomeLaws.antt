@@ -32,8 +32,8 @@ use Rattle.image.specs.declared.ImageAnswer.the-variants.{Refused as Failed}
 use Rattle.image_write.specs.Workers.{without}
 use Rattle.brick_log.specs.BrickRules.{notBelowPromise, aboveNewest, readYes, orderYes, lookup, trimmedTo, timeFor, placeFor, foundFor, yesTo, replyTo, brickAfter, blockAfter}
 use Rattle.brick.specs.Receive.{blocksRefusal, receiveRefusal, Outcome, outcomeWith, refusedWith, givenBy, accepted, outcome}
-use Rattle.brick_log.specs.Workers.{LogReady, Ahead, Planned, Cut, underIn, underFor, lookedPlace, lookedTime, readPlace, gaveOf}
-use Rattle.brick_log.proofs.Laws.LookLaws.{under-brick, under-high, place-brick, time-brick}
+use Rattle.brick_log.specs.Workers.{LogReady, Ahead, planOf, planFor, planIn, cutFor, underIn, underFor, lookedIn, readPlace, gaveOf}
+use Rattle.brick_log.proofs.Laws.LookLaws.{under-brick, under-high, place-brick, time-brick, plan-trim, plan-read, plan-look, plan-other, cut-for}
 use Rattle.brick_log.proofs.Laws.TrimLaws.{cut-trims}
 use Rattle.brick_log.specs.declared.Known.{Known}
 use Rattle.brick_log.specs.declared.Plan.{Plan}
@@ -213,14 +213,14 @@ module _ (s : Settings) (brick : ℕ) (l : List ℕ) (k : Known) (r : LogReady s
         go true h = h
         go false h = omega arith
 
-    place-same : lookedPlace log (underFor log k msg) ≡ underFor log k msg
-    place-same = ap (λ (g : List Entry). lookedPlace g (underFor log k msg)) el ∙ place-brick (brickIn s l) (underFor log k msg) (omega (arith, under-low, r .counts)) few
+    place-same : planIn (lookedIn log (underFor log k msg)) .place ≡ underFor log k msg
+    place-same = ap (λ (g : List Entry). planIn (lookedIn g (underFor log k msg)) .place) el ∙ place-brick (brickIn s l) (underFor log k msg) (omega (arith, under-low, r .counts)) few
 
-    found-look : msg .kind ≡ orderReadKind → lookedTime log (underFor log k msg) ≡ foundFor brick (brickIn s l) msg
+    found-look : msg .kind ≡ orderReadKind → planIn (lookedIn log (underFor log k msg)) .found ≡ foundFor brick (brickIn s l) msg
     unfolding foundFor
     found-look e =
         rw (ne-eqb (msg .kind) readKind (λ q. omega (arith, e, q)))
-        (ap (λ (g : List Entry). lookedTime g (underFor log k msg)) el
+        (ap (λ (g : List Entry). planIn (lookedIn g (underFor log k msg)) .found) el
         ∙ time-brick (brickIn s l) (underFor log k msg) (omega (arith, under-low, r .counts)) few
         ∙ ap (λ (n : ℕ). timeFor (brickIn s l) n) (under-is e))
 
@@ -233,33 +233,46 @@ module _ (s : Settings) (brick : ℕ) (l : List ℕ) (k : Known) (r : LogReady s
   found-none a b = rw (ne-eqb (msg .kind) readKind a, sym (place-none a b)) refl
 
 pub ahead : (s : Settings) (brick : ℕ) (l : List ℕ) (k : Known) (log : List Entry) (msg : Message) (p : Plan) → LogReady s brick l k → log ≡ workingLog (brickIn s l)
-    → Planned log k msg brick p → Ahead brick (brickIn s l) k msg p
-ahead s brick l k log msg p r e q = go (ℕ-discrete (msg .kind) readKind) (ℕ-discrete (msg .kind) orderReadKind)
+    → p ≡ planFor log k msg brick → Ahead brick (brickIn s l) k msg p
+unfolding planOf
+ahead s brick l k log msg p r e q = go (ℕ-discrete (msg .kind) trimKind) (ℕ-discrete (msg .kind) readKind) (ℕ-discrete (msg .kind) orderReadKind)
   where
+    cuts : msg .kind ≡ trimKind → p .cut ≡ cutFor log (k .count) (msg .time)
+    cuts z = ap (λ (w : Plan). w .cut) (q ∙ plan-trim log k msg brick z)
+
     low : msg .kind ≡ trimKind → p .cut < k .count
-    low z = q .cuts z .low
+    low z = subst (λ (d : ℕ). d < k .count) (sym (cuts z)) (cut-for log (k .count) (msg .time) (r .low) .low)
 
     trims : msg .kind ≡ trimKind → trimmedTo (brickIn s l) (msg .time) ≡ without (brickIn s l) (p .cut)
     trims z =
-        cut-trims s (brickIn s l) (msg .time) (p .cut) (r .saved .keeps) (omega (arith, r .counts, r .high, r .most))
-        (subst (λ (g : List Entry). Cut g (entryCount (brickIn s l)) (msg .time) (p .cut)) e
-        (subst (λ (c : ℕ). Cut log c (msg .time) (p .cut)) (r .counts) (q .cuts z)))
+        cut-trims s (brickIn s l) (msg .time) (r .saved .keeps) (few s brick l k r msg)
+        ∙ ap (λ (d : ℕ). without (brickIn s l) d)
+        (sym (cuts z ∙ ap₂ (λ (g : List Entry) (c : ℕ). cutFor g c (msg .time)) e (r .counts)))
 
     made : p .place ≡ placeFor brick (brickIn s l) msg → p .found ≡ foundFor brick (brickIn s l) msg → p .place ≤ k .count → Ahead brick (brickIn s l) k msg p
     made a b c = record { place-is = a; found-is = b; place-high = c; cut-low = low; cut-is = trims }
 
-    go : Dec (msg .kind ≡ readKind) → Dec (msg .kind ≡ orderReadKind) → Ahead brick (brickIn s l) k msg p
-    go (yes a) b =
-        let w = q .reads a in
-        made (w .0 ∙ place-read s brick l k r msg a) (w .1 ∙ found-read s brick l k r msg a) (omega (arith, w .0, read-high s brick l k r msg))
-    go (no a) (yes b) =
-        let w = q .looks b in
-        let m = place-same s brick l k r msg log e in
-        made (w .0 ∙ m ∙ under-is s brick l k r msg log e b) (w .1 ∙ found-look s brick l k r msg log e b)
-        (omega (arith, w .0, m, under-low s brick l k r msg log e))
-    go (no a) (no b) =
-        let w = q .others a b in
-        made (w .0 ∙ place-none s brick l k r msg a b) (w .1 ∙ found-none s brick l k r msg a b) (omega (arith, w .0))
+    -- no block and no time
+    nothing : p .place ≡ 0 → p .found ≡ 0 → (msg .kind ≡ readKind → ⊥) → (msg .kind ≡ orderReadKind → ⊥) → Ahead brick (brickIn s l) k msg p
+    nothing a b m n = made (a ∙ place-none s brick l k r msg m n) (b ∙ found-none s brick l k r msg m n) (omega (arith, a))
+
+    go : Dec (msg .kind ≡ trimKind) → Dec (msg .kind ≡ readKind) → Dec (msg .kind ≡ orderReadKind) → Ahead brick (brickIn s l) k msg p
+    go (yes z) a b =
+        let w = q ∙ plan-trim log k msg brick z in
+        nothing (ap (λ (v : Plan). v .place) w) (ap (λ (v : Plan). v .found) w) (λ c. omega (arith, z, c)) (λ c. omega (arith, z, c))
+    go (no z) (yes a) b =
+        let w = q ∙ plan-read log k msg brick a in
+        let wp : p .place ≡ readPlace k (msg .targets) brick = ap (λ (v : Plan). v .place) w in
+        made (wp ∙ place-read s brick l k r msg a) (ap (λ (v : Plan). v .found) w ∙ found-read s brick l k r msg a)
+        (omega (arith, wp, read-high s brick l k r msg))
+    go (no z) (no a) (yes b) =
+        let w = q ∙ plan-look log k msg brick b in
+        let wp : p .place ≡ underFor log k msg = ap (λ (v : Plan). v .place) w ∙ place-same s brick l k r msg log e in
+        made (wp ∙ under-is s brick l k r msg log e b) (ap (λ (v : Plan). v .found) w ∙ found-look s brick l k r msg log e b)
+        (omega (arith, wp, under-low s brick l k r msg log e))
+    go (no z) (no a) (no b) =
+        let w = q ∙ plan-other log k msg brick z a b in
+        nothing (ap (λ (v : Plan). v .place) w) (ap (λ (v : Plan). v .found) w) a b
 
 -- the bytes of a held block
 held-bytes : (l : List ℕ) (size p : ℕ) → size ≤ maxSize → take size (drop (blockBytes * p + heldFrom) l) ≡ heldIn size (imageBlockAt l p)

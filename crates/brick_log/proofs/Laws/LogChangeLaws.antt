@@ -1,7 +1,7 @@
 -- The ways through the steps of a brick, at its image.
-use mathlib.Core.Path.{_≡_, refl, sym, ap, ap₂, subst, _∙_}
+use mathlib.Core.Path.{_≡_, refl, sym, ap, ap₂, _∙_}
 use mathlib.Core.Bool.{Bool, true, false, _&&_}
-use mathlib.Core.List.{List, []}
+use mathlib.Core.List.{List}
 use Prim.Native.Nat.{ℕ, _+_, _-_, _*_, _≤_, _<_}
 use native.Mathlib.Omega.{arith}
 use lib.Dec.{leb, ltb}
@@ -14,8 +14,7 @@ use Rattle.byte_lists.specs.Lists.{put}
 use Rattle.image.specs.Brick.{Brick, entryCount}
 use Rattle.image.specs.Image.{imageOf}
 use Rattle.image.specs.Parse.{brickIn}
-use Rattle.image_write.specs.Workers.{without}
-use Rattle.image_write.specs.Workers.{Blocks, shiftedOf, clearedOf}
+use Rattle.image_write.specs.Workers.{without, cleared, shifted}
 use Rattle.image_write.proofs.Laws.ImageStepLaws.{promise-written, append-written, without-none, without-written}
 use Rattle.brick_log.specs.BrickRules.{aboveNewest, notBelowPromise, hasFree, readYes, orderYes, writeYes, orderedIfYes, writtenIfYes, yesTo, brickAfter}
 use Rattle.brick_log.specs.Workers.{LogReady}
@@ -84,16 +83,15 @@ module _ (s : Settings) (brick : ℕ) (l : List ℕ) (k : Known) (r : LogReady s
       ∙ ap (λ (y : Brick). imageOf s brick y) (sym (rw (← e) refl))
 
   pub trim-moved : (d kept : ℕ) (l₁ l₂ brickAfter : List ℕ) → d < k .count → kept ≡ k .count - d
-      → ((n : ℕ) (g : ℕ → List ℕ) → Blocks g n l → Blocks (shiftedOf g d kept) n l₁)
-      → ((n : ℕ) (g : ℕ → List ℕ) → Blocks g n l₁ → Blocks (clearedOf g (kept + 1) (k .count + 1)) n l₂)
+      → l₁ ≡ shifted d kept l
+      → l₂ ≡ cleared (kept + 1) (k .count + 1 - (kept + 1)) l₁
       → brickAfter ≡ put 0 (headBlock s brick kept (k .promise)) l₂
       → brickAfter ≡ imageOf s brick (without (brickIn s l) d)
   trim-moved d kept l₁ l₂ brickAfter low ek shift clear w =
       let kx : kept ≡ entryCount (brickIn s l) - d = omega (arith, r .counts) in
       without-written s brick (brickIn s l) d (omega (arith, r .counts)) l₁ l₂ brickAfter (r .saved .range) (r .saved .keeps)
-      (λ n g b. subst (λ (q : ℕ). Blocks (shiftedOf g d q) n l₁) kx (shift n g (subst (λ (y : List ℕ). Blocks g n y) (sym (r .saved .is-image)) b)))
-      (λ n g b. subst (λ (q : ℕ). Blocks (clearedOf g (q + 1) (entryCount (brickIn s l) + 1)) n l₂) kx
-      (subst (λ (q : ℕ). Blocks (clearedOf g (kept + 1) (q + 1)) n l₂) (r .counts) (clear n g b)))
+      (shift ∙ ap₂ (λ (q : ℕ) (y : List ℕ). shifted d q y) kx (r .saved .is-image))
+      (clear ∙ ap₂ (λ (q c : ℕ). cleared (q + 1) (c + 1 - (q + 1)) l₁) kx (r .counts))
       (w ∙ ap₂ (λ (c p : ℕ). put 0 (headBlock s brick c p) l₂) kx (r .promises))
 
 module _ (s : Settings) (brick : ℕ) (l : List ℕ) (k : Known) (r : LogReady s brick l k) (msg : Message) (block : List ℕ) where

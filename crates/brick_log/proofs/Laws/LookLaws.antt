@@ -7,7 +7,8 @@ use native.Mathlib.Omega.{arith}
 use native.Mathlib.Numerals.{add-one}
 use lib.Dec.{leb, ltb}
 use lib.ListN.{length, take, drop, getD, length-take, length-drop, drop-of-length-le}
-use borrow.Author.Tests.{lt-ltb, le-ltb, le-leb, eq-eqb, ne-eqb}
+use borrow.Author.Count.{below-more}
+use borrow.Author.Tests.{lt-ltb, le-ltb, ltb-true, ltb-false, le-leb, eq-eqb, ne-eqb}
 use Rattle.image.specs.Brick.{Brick, entryCount, timeAt}
 use Rattle.image.specs.Opening.{workingLog, placeIn, blank}
 use Rattle.image.proofs.Laws.HubLaws.{log-at}
@@ -20,9 +21,9 @@ use Rattle.brick_log.specs.declared.Known.{Known}
 use Rattle.brick_log.specs.declared.Plan.{Plan}
 use Rattle.brick_log.specs.declared.Looked.{Looked}
 use Rattle.brick_log.specs.declared.Looked.the-variants.{Under, Nothing}
-use Rattle.brick_log.specs.Workers.{underIn, lookedIn, Cut, lookedPlace, lookedTime, planOf, planIn, readPlace, underFor, Planned, gaveOf}
+use Rattle.brick_log.specs.Workers.{logTime, underIn, lookedIn, cutFrom, cutFor, planOf, planIn, readPlace, underFor, planFor, gaveOf}
 use Rattle.image_block.specs.Block.{blockBytes, heldFrom}
-use Rattle.message.specs.Kinds.{orderReadKind}
+use Rattle.message.specs.Kinds.{orderReadKind, readKind, trimKind}
 use Rattle.settings.specs.Ranges.{maxCapacity}
 
 -- turn by turn, from the newest down
@@ -54,11 +55,54 @@ under-brick x max (suc i) h c =
     ap (λ (a : ℕ). cond (ltb a max) (suc i) (underIn (workingLog x) max i)) (ap (λ (v : Entry). v .time) e)
     ∙ ap (λ (r : ℕ). cond (ltb (timeAt x i) max) (suc i) r) (under-brick x max i (omega arith) c)
 
-pub cut-at : (log : List Entry) (n t d : ℕ) → d + 1 < n → ((i : ℕ) → i < d → getD log i blank .time < t) → t ≤ getD log d blank .time → Cut log n t d
-cut-at log n t d h b e = record { low = omega arith; before = b; here = λ _. e }
+-- a Trim's cut, turn by turn: from the front,
+pub cut-start : (log : List Entry) (n t : ℕ) → cutFrom (logTime log) t 0 (n - 1 - 0) ≡ cutFor log n t
+unfolding cutFor
+cut-start log n t = let m : n - 1 - 0 ≡ n - 1 = omega arith in ap (λ (j : ℕ). cutFrom (logTime log) t 0 j) m
 
-pub cut-last : (log : List Entry) (n t d : ℕ) → 1 ≤ n → d < n → n ≤ d + 1 → ((i : ℕ) → i < d → getD log i blank .time < t) → Cut log n t d
-cut-last log n t d h l m b = record { low = l; before = b; here = λ w. absurd (omega (arith, w)) }
+-- it is here,
+pub cut-here : (log : List Entry) (n t d : ℕ) → d < n - 1 → t ≤ logTime log d → cutFrom (logTime log) t d (n - 1 - d) ≡ cutFor log n t → d ≡ cutFor log n t
+unfolding cutFrom
+cut-here log n t d h w e =
+    let m : n - 1 - d ≡ suc (n - 1 - (d + 1)) = omega arith in
+    sym (ap (λ (j : ℕ). cutFrom (logTime log) t d j) m ∙ rw (le-ltb (logTime log d) t w) refl) ∙ e
+
+-- or further on,
+pub cut-next : (log : List Entry) (n t d : ℕ) → d < n - 1 → logTime log d < t → cutFrom (logTime log) t d (n - 1 - d) ≡ cutFor log n t
+    → cutFrom (logTime log) t (d + 1) (n - 1 - (d + 1)) ≡ cutFor log n t
+unfolding cutFrom
+cut-next log n t d h w e =
+    let m : n - 1 - d ≡ suc (n - 1 - (d + 1)) = omega arith in
+    sym (ap (λ (j : ℕ). cutFrom (logTime log) t d j) m ∙ rw (lt-ltb (logTime log d) t w) refl) ∙ e
+
+-- or at the newest
+pub cut-last : (log : List Entry) (n t d : ℕ) → n - 1 ≤ d → cutFrom (logTime log) t d (n - 1 - d) ≡ cutFor log n t → d ≡ cutFor log n t
+unfolding cutFrom
+cut-last log n t d h e =
+    let z : n - 1 - d ≡ 0 = omega arith in
+    sym (ap (λ (j : ℕ). cutFrom (logTime log) t d j) z) ∙ e
+
+-- The first of n times under t are those before place d: it is the last of them, or not under t.
+pub record Cut (times : ℕ → ℕ) (n t d : ℕ) : Type 0 where
+  pub low : d < n
+  pub before : (i : ℕ) → i < d → times i < t
+  pub here : d + 1 < n → t ≤ times d
+
+cut-from : (times : ℕ → ℕ) (n t d m : ℕ) → d + m + 1 ≡ n → ((i : ℕ) → i < d → times i < t) → Cut times n t (cutFrom times t d m)
+unfolding cutFrom
+cut-from times n t d zero e b = record { low = omega arith; before = b; here = λ h. absurd (omega (arith, h)) }
+cut-from times n t d (suc m) e b = go (ltb (times d) t) refl (λ w. cut-from times n t (d + 1) m (omega arith) (below-more (λ (i : ℕ). times i < t) d b w))
+  where
+    go : (v : Bool) → ltb (times d) t ≡ v → (times d < t → Cut times n t (cutFrom times t (d + 1) m)) → Cut times n t (cond v (cutFrom times t (d + 1) m) d)
+    go true q f = f (ltb-true (times d) t q)
+    go false q f = record { low = omega arith; before = b; here = λ h. ltb-false (times d) t q }
+
+pub cut-is : (times : ℕ → ℕ) (n t : ℕ) → 1 ≤ n → Cut times n t (cutFrom times t 0 (n - 1))
+cut-is times n t h = cut-from times n t 0 (n - 1) (omega arith) (λ i w. absurd (omega (arith, w)))
+
+pub cut-for : (log : List Entry) (n t : ℕ) → 1 ≤ n → Cut (logTime log) n t (cutFor log n t)
+unfolding cutFor
+cut-for log n t h = cut-is (logTime log) n t h
 
 pub plan-none : (f : Looked) → f ≡ Nothing → record { place = 0; found = 0; cut = 0 } ≡ planIn f
 unfolding planIn planOf
@@ -68,58 +112,62 @@ pub plan-entry : (f : Looked) (e : Entry) (place : ℕ) → f ≡ Under e → pl
 unfolding planIn planOf
 plan-entry f e place h p = ap (λ (q : ℕ). record { place = q; found = e .time; cut = 0 }) p ∙ sym (ap planIn h)
 
-pub plan-looked : (log : List Entry) (n : ℕ) → planIn (lookedIn log n) ≡ planOf (lookedPlace log n) (lookedTime log n) 0
-unfolding planIn lookedIn planOf lookedPlace lookedTime
-plan-looked log zero = refl
-plan-looked log (suc i) =
-    let m : suc i - 1 ≡ i = omega arith in
-    rw (ne-eqb (suc i) 0 (λ q. omega (arith, q)))
-    (ap (λ (k : ℕ). record { place = placeIn (getD log k blank .holding); found = getD log k blank .time; cut = 0 }) (sym m))
-
-pub place-brick : (x : Brick) (n : ℕ) → n ≤ entryCount x → entryCount x ≤ maxCapacity → lookedPlace (workingLog x) n ≡ n
-unfolding lookedPlace placeIn
+-- the entry that a lookup gave, in the brick's own log
+pub place-brick : (x : Brick) (n : ℕ) → n ≤ entryCount x → entryCount x ≤ maxCapacity → planIn (lookedIn (workingLog x) n) .place ≡ n
+unfolding planIn lookedIn planOf placeIn
 place-brick x zero h c = refl
-place-brick x (suc i) h c =
-    let m : suc i - 1 ≡ i = omega arith in
-    rw (ne-eqb (suc i) 0 (λ q. omega (arith, q)))
-    (ap (λ (k : ℕ). placeIn (getD (workingLog x) k blank .holding)) m
-    ∙ ap (λ (v : Entry). placeIn (v .holding)) (log-at x i blank (omega arith) c) ∙ add-one i)
+place-brick x (suc i) h c = ap (λ (v : Entry). placeIn (v .holding)) (log-at x i blank (omega arith) c) ∙ add-one i
 
-pub time-brick : (x : Brick) (n : ℕ) → n ≤ entryCount x → entryCount x ≤ maxCapacity → lookedTime (workingLog x) n ≡ timeFor x n
-unfolding lookedTime timeFor
+pub time-brick : (x : Brick) (n : ℕ) → n ≤ entryCount x → entryCount x ≤ maxCapacity → planIn (lookedIn (workingLog x) n) .found ≡ timeFor x n
+unfolding planIn lookedIn planOf timeFor
 time-brick x zero h c = refl
 time-brick x (suc i) h c =
     let m : suc i - 1 ≡ i = omega arith in
     rw (ne-eqb (suc i) 0 (λ q. omega (arith, q)))
-    (ap (λ (k : ℕ). getD (workingLog x) k blank .time) m
-    ∙ ap (λ (v : Entry). v .time) (log-at x i blank (omega arith) c)
+    (ap (λ (v : Entry). v .time) (log-at x i blank (omega arith) c)
     ∙ ap (λ (k : ℕ). timeAt x k) (sym m))
 
-pub planned-look : (log : List Entry) (k : Known) (msg : Message) (brick : ℕ) (v : Bool) (f : Looked) (p : Plan) → msg .kind ≡ orderReadKind
-    → v ≡ ltb (k .newest) (msg .time) && leb (k .promise) (msg .time) → v ≡ true → f ≡ lookedIn log (underIn log (msg .max) (k .count))
-    → p ≡ planIn f → Planned log k msg brick p
-unfolding underFor planOf
-planned-look log k msg brick v f p e ev t ef eq =
-    let n : ℕ = underIn log (msg .max) (k .count) in
-    let u : n ≡ cond (ltb (k .newest) (msg .time) && leb (k .promise) (msg .time)) (underIn log (msg .max) (k .count)) 0 = sym (rw (sym ev ∙ t) refl) in
-    let ep : p ≡ planOf (lookedPlace log n) (lookedTime log n) 0 = eq ∙ ap planIn ef ∙ plan-looked log n in
-    record {
-      cuts = λ q. absurd (omega (arith, e, q));
-      reads = λ q. absurd (omega (arith, e, q));
-      looks = λ q. (ap (λ (z : Plan). z .place) ep ∙ ap (λ (j : ℕ). lookedPlace log j) u, ap (λ (z : Plan). z .found) ep ∙ ap (λ (j : ℕ). lookedTime log j) u);
-      others = λ a b. absurd (b e);
-    }
+-- the plan by the message's kind
+module _ (log : List Entry) (k : Known) (msg : Message) (brick : ℕ) where
+  pub plan-trim : msg .kind ≡ trimKind → planFor log k msg brick ≡ planOf 0 0 (cutFor log (k .count) (msg .time))
+  unfolding planFor
+  plan-trim e = rw (eq-eqb (msg .kind) trimKind e) refl
 
-pub planned-no : (log : List Entry) (k : Known) (msg : Message) (brick : ℕ) (v : Bool) → msg .kind ≡ orderReadKind
-    → v ≡ ltb (k .newest) (msg .time) && leb (k .promise) (msg .time) → v ≡ false → Planned log k msg brick (record { place = 0; found = 0; cut = 0 })
-unfolding underFor lookedPlace lookedTime
-planned-no log k msg brick v e ev t =
-    record {
-      cuts = λ q. absurd (omega (arith, e, q));
-      reads = λ q. absurd (omega (arith, e, q));
-      looks = λ q. (rw (sym ev ∙ t) refl, rw (sym ev ∙ t) refl);
-      others = λ a b. (refl, refl);
-    }
+  pub plan-read : msg .kind ≡ readKind → planFor log k msg brick ≡ planOf (readPlace k (msg .targets) brick) (k .newest) 0
+  unfolding planFor
+  plan-read e = rw (ne-eqb (msg .kind) trimKind (λ q. omega (arith, e, q)), eq-eqb (msg .kind) readKind e) refl
+
+  pub plan-look : msg .kind ≡ orderReadKind → planFor log k msg brick ≡ planIn (lookedIn log (underFor log k msg))
+  unfolding planFor
+  plan-look e =
+      rw (ne-eqb (msg .kind) trimKind (λ q. omega (arith, e, q)), ne-eqb (msg .kind) readKind (λ q. omega (arith, e, q)), eq-eqb (msg .kind) orderReadKind e) refl
+
+  pub plan-other : (msg .kind ≡ trimKind → ⊥) → (msg .kind ≡ readKind → ⊥) → (msg .kind ≡ orderReadKind → ⊥) → planFor log k msg brick ≡ planOf 0 0 0
+  unfolding planFor
+  plan-other a b c = rw (ne-eqb (msg .kind) trimKind a, ne-eqb (msg .kind) readKind b, ne-eqb (msg .kind) orderReadKind c) refl
+
+  -- the ways of the code
+  pub plans-trim : (d : ℕ) → msg .kind ≡ trimKind → d ≡ cutFor log (k .count) (msg .time) → record { place = 0; found = 0; cut = d } ≡ planFor log k msg brick
+  unfolding planOf
+  plans-trim d e h = ap (λ (c : ℕ). planOf 0 0 c) h ∙ sym (plan-trim e)
+
+  pub plans-read : (p : ℕ) → msg .kind ≡ readKind → p ≡ readPlace k (msg .targets) brick → record { place = p; found = k .newest; cut = 0 } ≡ planFor log k msg brick
+  unfolding planOf
+  plans-read p e h = ap (λ (c : ℕ). planOf c (k .newest) 0) h ∙ sym (plan-read e)
+
+  pub plans-look : (v : Bool) (f : Looked) (p : Plan) → msg .kind ≡ orderReadKind → v ≡ ltb (k .newest) (msg .time) && leb (k .promise) (msg .time) → v ≡ true
+      → f ≡ lookedIn log (underIn log (msg .max) (k .count)) → p ≡ planIn f → p ≡ planFor log k msg brick
+  unfolding underFor
+  plans-look v f p e ev t ef ep = ep ∙ ap planIn ef ∙ sym (plan-look e ∙ rw (sym ev ∙ t) refl)
+
+  pub plans-no : (v : Bool) → msg .kind ≡ orderReadKind → v ≡ ltb (k .newest) (msg .time) && leb (k .promise) (msg .time) → v ≡ false
+      → record { place = 0; found = 0; cut = 0 } ≡ planFor log k msg brick
+  unfolding underFor planIn lookedIn planOf
+  plans-no v e ev t = sym (plan-look e ∙ rw (sym ev ∙ t) refl)
+
+  pub plans-other : (msg .kind ≡ trimKind → ⊥) → (msg .kind ≡ readKind → ⊥) → (msg .kind ≡ orderReadKind → ⊥) → record { place = 0; found = 0; cut = 0 } ≡ planFor log k msg brick
+  unfolding planOf
+  plans-other a b c = sym (plan-other a b c)
 
 pub gave-none : (l : List ℕ) (size place : ℕ) (out : List ℕ) → place ≡ 0 → out ≡ gaveOf l size place out
 unfolding gaveOf

@@ -5,7 +5,6 @@ use mathlib.Core.List.{List, [], _∷_}
 use Prim.Native.Nat.{ℕ, zero, suc, _+_, _-_, _≤_, _<_}
 use native.Mathlib.Omega.{arith}
 use native.Mathlib.Decide.{decLt}
-use borrow.Author.Count.{below-more}
 use lib.Dec.{ltb}
 use lib.ListN.{length, drop, getD, length-drop}
 use lib.Seq.{getD-drop}
@@ -19,7 +18,8 @@ use Rattle.image.specs.declared.Entry.{Entry}
 use Rattle.image_write.specs.Workers.{without}
 use Rattle.image_write.proofs.Laws.ImageStepLaws.{without-count, without-time, without-means}
 use Rattle.brick_log.specs.BrickRules.{trimmed, trimmedTo}
-use Rattle.brick_log.specs.Workers.{Cut}
+use Rattle.brick_log.specs.Workers.{logTime, cutFrom, cutFor}
+use Rattle.brick_log.proofs.Laws.LookLaws.{Cut, cut-is, cut-for}
 use Rattle.settings.specs.Ranges.{maxCapacity}
 
 -- the last entry stays, so a log never becomes empty,
@@ -91,14 +91,8 @@ trimmed-rest t (e ∷ []) b = refl
 trimmed-rest t (e ∷ f ∷ log) b =
     rw (le-ltb (e .time) t (b 0 (omega arith))) (ap (λ (l : List LogEntry). e ∷ l) (trimmed-rest t (f ∷ log) (λ i w. b (suc i) (omega (arith, w)))))
 
--- The first entries under t are those before place d: it is the newest, or not under t.
-pub record CutAt (x : Brick) (t d : ℕ) : Type 0 where
-  pub low : d < entryCount x
-  pub before : (i : ℕ) → i < d → timeAt x i < t
-  pub here : d + 1 < entryCount x → t ≤ timeAt x d
-
 -- a Trim drops the entries before the cut: in a rising log those under t come first
-trimmed-without : (s : Settings) (x : Brick) (t d : ℕ) → Sound s x → CutAt x t d → trimmedTo x t ≡ without x d
+trimmed-without : (s : Settings) (x : Brick) (t d : ℕ) → Sound s x → Cut (timeAt x) (entryCount x) t d → trimmedTo x t ≡ without x d
 unfolding trimmedTo without timeAt entryCount
 trimmed-without s x t d r q =
     ap (λ (l : List LogEntry). record { promise = x .promise; log = l })
@@ -112,26 +106,20 @@ trimmed-without s x t d r q =
         subst (λ (k : ℕ). t ≤ k) (sym (ap (λ (e : LogEntry). e .time) (getD-drop d (x .log) i noEntry))) (omega arith)
 
 -- the cut that the code finds in the working log
-pub cut-trims : (s : Settings) (x : Brick) (t d : ℕ) → Sound s x → entryCount x ≤ maxCapacity → Cut (workingLog x) (entryCount x) t d → trimmedTo x t ≡ without x d
-cut-trims s x t d r c q =
-    trimmed-without s x t d r
+pub cut-trims : (s : Settings) (x : Brick) (t : ℕ) → Sound s x → entryCount x ≤ maxCapacity → trimmedTo x t ≡ without x (cutFor (workingLog x) (entryCount x) t)
+cut-trims s x t r c =
+    trimmed-without s x t (cutFor (workingLog x) (entryCount x) t) r
     (record {
       low = q .low;
       before = λ i h. subst (λ (k : ℕ). k < t) (time i (omega (arith, h, q .low))) (q .before i h);
-      here = λ h. subst (λ (k : ℕ). t ≤ k) (time d (q .low)) (q .here h);
+      here = λ h. subst (λ (k : ℕ). t ≤ k) (time (cutFor (workingLog x) (entryCount x) t) (q .low)) (q .here h);
     })
   where
-    time : (i : ℕ) → i < entryCount x → getD (workingLog x) i blank .time ≡ timeAt x i
-    time i h = ap (λ (v : Entry). v .time) (log-at x i blank h c)
+    q : Cut (logTime (workingLog x)) (entryCount x) t (cutFor (workingLog x) (entryCount x) t)
+    q = cut-for (workingLog x) (entryCount x) t (r .count-low)
 
--- there is a cut
-cut-from : (x : Brick) (t fuel d : ℕ) → d + suc fuel ≡ entryCount x → ((i : ℕ) → i < d → timeAt x i < t) → (e : ℕ) × CutAt x t e
-cut-from x t zero d m b = (d, record { low = omega arith; before = b; here = λ h. absurd (omega (arith, h)) })
-cut-from x t (suc fuel) d m b = go (decLt (timeAt x d) t) (λ w. cut-from x t fuel (d + 1) (omega arith) (below-more (λ (i : ℕ). timeAt x i < t) d b w))
-  where
-    go : Dec (timeAt x d < t) → (timeAt x d < t → (e : ℕ) × CutAt x t e) → (e : ℕ) × CutAt x t e
-    go (yes w) f = f w
-    go (no w) f = (d, record { low = omega arith; before = b; here = λ h. omega arith })
+    time : (i : ℕ) → i < entryCount x → logTime (workingLog x) i ≡ timeAt x i
+    time i h = ap (λ (v : Entry). v .time) (log-at x i blank h c)
 
 trimmed-promise : (x : Brick) (t : ℕ) → trimmedTo x t .promise ≡ x .promise
 unfolding trimmedTo
@@ -139,7 +127,7 @@ trimmed-promise x t = refl
 
 -- "drops every entry under t other than the newest": d entries, so that place i is what place d + i was
 pub record Trims (x : Brick) (t d : ℕ) : Type 0 where
-  pub cut : CutAt x t d
+  pub cut : Cut (timeAt x) (entryCount x) t d
   pub promise-is : trimmedTo x t .promise ≡ x .promise
   pub count : entryCount (trimmedTo x t) ≡ entryCount x - d
   pub times : (i : ℕ) → timeAt (trimmedTo x t) i ≡ timeAt x (d + i)
@@ -147,15 +135,16 @@ pub record Trims (x : Brick) (t d : ℕ) : Type 0 where
 
 pub trim-places : (s : Settings) (x : Brick) (t : ℕ) → Sound s x → (d : ℕ) × Trims x t d
 trim-places s x t r =
-    let q = cut-from x t (entryCount x - 1) 0 (omega (arith, r .count-low)) (λ i h. absurd (omega (arith, h))) in
-    let w = trimmed-without s x t (q .0) r (q .1) in (
-      q .0,
+    let d : ℕ = cutFrom (timeAt x) t 0 (entryCount x - 1) in
+    let q : Cut (timeAt x) (entryCount x) t d = cut-is (timeAt x) (entryCount x) t (r .count-low) in
+    let w = trimmed-without s x t d r q in (
+      d,
       record {
-        cut = q .1;
+        cut = q;
         promise-is = trimmed-promise x t;
-        count = ap entryCount w ∙ without-count x (q .0);
-        times = λ i. ap (λ (y : Brick). timeAt y i) w ∙ without-time x (q .0) i;
-        means = λ i. ap (λ (y : Brick). meansAt y i) w ∙ without-means x (q .0) i;
+        count = ap entryCount w ∙ without-count x d;
+        times = λ i. ap (λ (y : Brick). timeAt y i) w ∙ without-time x d i;
+        means = λ i. ap (λ (y : Brick). meansAt y i) w ∙ without-means x d i;
       },
     )
 

@@ -1,15 +1,15 @@
-use Prim.Native.Nat.{ℕ, _-_, _≤_, _<_}
+use Prim.Native.Nat.{_-_, _≤_}
 use native.Mathlib.Omega.{arith}
 use borrow.Author.Needs.{needs}
-use borrow.Author.Count.{below-more}
-use lib.ListN.{getD}
-use Rattle.brick_log.proofs.Laws.LookLaws.{cut-at, cut-last}
+use mathlib.Core.Path.{_≡_}
+use Rattle.brick_log.proofs.Laws.LookLaws.{cut-start, cut-here, cut-next, cut-last}
+use Rattle.brick_log.specs.Workers.{logTime, cutFrom, cutFor}
 use Rattle.brick_log.proofs.cut_for.Statement.{statement}
 use Rattle.brick_log.proofs.cut_for.Tie as tie
 use Rattle.image.specs.Opening.{blank}
 
 abbrev Inv-loop : tie.InvT-loop
-Inv-loop count time log last d₀ d = (d ≤ last) × ((i : ℕ) → i < d → getD log i blank .time < time)
+Inv-loop count time log last d₀ d = (d ≤ last) × (cutFrom (logTime log) time d (count - 1 - d) ≡ cutFor log count time)
 
 abbrev μ-loop : tie.MeasureT-loop
 μ-loop count time log last d₀ d = last - d
@@ -18,7 +18,7 @@ sub-last : tie.Need-sub-last Inv-loop μ-loop
 sub-last c = search needs
 
 loop-holds : tie.Need-loop-holds Inv-loop μ-loop
-loop-holds c = (omega arith, λ i h. absurd (omega (arith, h)))
+loop-holds c = (omega arith, cut-start _ _ _)
 
 mul-e : tie.Need-mul-e Inv-loop μ-loop
 mul-e c = omega arith
@@ -28,7 +28,7 @@ array-copy-out-e c = omega arith
 
 returns : tie.Need-returns Inv-loop μ-loop
 unfolding blank
-returns c = cut-at _ _ _ _ (omega arith) (c .before .before .before .before .loop .inv .1) (c .if1 .taken)
+returns c = cut-here _ _ _ _ (omega arith) (c .if1 .taken) (c .before .before .before .before .loop .inv .1)
 
 add-d : tie.Need-add-d Inv-loop μ-loop
 add-d c = omega arith
@@ -38,10 +38,10 @@ loop-less c = omega arith
 
 loop-again : tie.Need-loop-again Inv-loop μ-loop
 unfolding blank
-loop-again c = (omega arith, below-more _ _ (c .before .before .before .before .loop .inv .1) (c .if1 .left))
+loop-again c = (omega arith, cut-next _ _ _ _ (omega arith) (c .if1 .left) (c .before .before .before .before .loop .inv .1))
 
 returns-2 : tie.Need-returns-2 Inv-loop μ-loop
-returns-2 c = cut-last _ _ _ _ (omega arith) (omega arith) (omega arith) (c .before .loop .inv .1)
+returns-2 c = cut-last _ _ _ _ (omega arith) (c .before .loop .inv .1)
 
 pub cut-for-spec : {M : Type 1} → statement M
 cut-for-spec =

@@ -1,9 +1,10 @@
--- The view of an image that opened gives the brick's entries.
+-- The entry at a place, from bytes; the view of an image gives the entries of its brick.
 use mathlib.Core.Path.{_≡_, refl, sym, ap, _∙_}
 use mathlib.Core.Bool.{Bool, true, false, cond}
 use mathlib.Core.List.{List}
 use Prim.Native.Nat.{ℕ, _-_, _+_, _*_, _/_, _≤_, _<_}
 use native.Mathlib.Omega.{arith}
+use denote.Ref.{RefT, now}
 use lib.Dec.{leb}
 use lib.ListN.{length, take, drop}
 use lib.Seq.{take-take, drop-drop}
@@ -12,17 +13,19 @@ use Rattle.settings.specs.declared.Settings.{Settings}
 use Rattle.byte_lists.specs.Little.{number}
 use Rattle.image.specs.Brick.{Brick, entryCount, timeAt}
 use Rattle.image.specs.Image.{imageSize}
-use Rattle.image.specs.Parse.{Parsed, parse, imageBlockAt, countIn, timeIn}
-use Rattle.image.proofs.Laws.ParseLaws.{count-in}
+use Rattle.image.specs.Parse.{Parsed, Opens, Refuses, parse, imageBlockAt, countIn, timeIn}
+use Rattle.image.proofs.Laws.ParseLaws.{count-in, opened}
 use Rattle.image.proofs.Laws.FieldTestLaws.{time-in}
 use Rattle.image.specs.Opening.{opening, answerNumber}
-use Rattle.image.specs.Workers.{Hub}
+use Rattle.image.specs.Workers.{Hub, ImageOpened}
 use Rattle.image.proofs.Laws.HubLaws.{turned}
 use Rattle.image.specs.declared.Opening.{Opening}
 use Rattle.image.specs.declared.Head.{Head}
 use Rattle.image.specs.declared.Holding.the-variants.{Held}
 use Rattle.image.specs.declared.ImageAnswer.the-variants.{Refused as Failed}
-use Rattle.image_view.specs.View.{foundOf, foundAt}
+use Rattle.image_view.specs.View.{countOf, foundOf, foundAt, foundBy, foundIn, viewOf}
+use Rattle.image_view.specs.declared.Counted.{Counted}
+use Rattle.image_view.specs.declared.Counted.the-variants.{Entries}
 use Rattle.image_view.specs.declared.Found.{Found}
 use Rattle.image_view.specs.declared.Found.the-variants.{At, Refused}
 use Rattle.byte_lists.proofs.Laws.PutLaws.{drop-take}
@@ -55,28 +58,45 @@ module _ (l : List ℕ) (n place : ℕ) where
       rw (lt-leb (length l / blockBytes) n h, lt-leb n place k)
       (ap (λ (x : ℕ). At (record { time = x; holding = Held (place + 1) })) (time-there l (place + 1) at time e t))
 
--- an image that opened
-pub look-there : (s : Settings) (brick : ℕ) (l : List ℕ) (o : Opening) (h : Head) (place : ℕ) (r : Found) → Hub s brick l o h
-    → r ≡ foundAt l (h .count) place → r ≡ foundOf (parse s brick l) place
-unfolding foundAt foundOf imageSize
-look-there s brick l o h place r u e = e ∙ go (leb (h .count) place) refl ∙ sym (ap (λ (p : Parsed). foundOf p place) (u .is))
+-- what opening gave
+pub counted-refused : (p : Parsed) (o : Opening) (k n : ℕ) → o ≡ opening p → o .answer ≡ Failed k → n ≡ answerNumber (o .answer) → Counted.Refused n ≡ countOf p
+unfolding countOf
+counted-refused p o k n e f g = sym (ap countOf (turned p o k n e f g))
+
+pub counted-there : (s : Settings) (brick : ℕ) (l : List ℕ) (o : Opening) (h : Head) → Hub s brick l o h → Entries (h .count) ≡ countOf (parse s brick l)
+unfolding countOf
+counted-there s brick l o h u = ap Entries (u .counts) ∙ sym (ap countOf (u .is))
+
+-- and the entry by it
+pub by-entries : (l : List ℕ) (c : Counted) (n place : ℕ) (r : Found) → c ≡ Entries n → r ≡ foundAt l n place → r ≡ foundBy l c place
+unfolding foundBy
+by-entries l c n place r e h = h ∙ sym (ap (λ (d : Counted). foundBy l d place) e)
+
+pub by-refused : (l : List ℕ) (c : Counted) (number place : ℕ) → c ≡ Counted.Refused number → Refused number ≡ foundBy l c place
+unfolding foundBy
+by-refused l c number place e = sym (ap (λ (d : Counted). foundBy l d place) e)
+
+-- The entries of a view are those of the brick that its image holds.
+pub view-entry : (s : Settings) (brick : ℕ) (image : RefT (List ℕ)) (place : ℕ) → foundIn (viewOf s brick image) place ≡ foundOf (parse s brick (now image)) place
+unfolding foundBy countOf foundAt foundOf imageSize
+view-entry s brick image place = go (parse s brick l) refl
   where
-    within : leb (length l / blockBytes) (h .count) ≡ false
-    within = lt-leb (length l / blockBytes) (h .count) (omega (arith, u .saved .long, u .high))
+    l : List ℕ
+    l = now image
 
-    same : (b : Bool) → leb (h .count) place ≡ b → leb (entryCount (u .x)) place ≡ b
-    same b q = ap (λ (k : ℕ). leb k place) (sym (u .counts)) ∙ q
+    within : (x : Brick) → ImageOpened s brick l x → leb (length l / blockBytes) (entryCount x) ≡ false
+    within x u = lt-leb (length l / blockBytes) (entryCount x) (omega (arith, u .long, u .keeps .count-high))
 
-    go : (b : Bool) → leb (h .count) place ≡ b
-        → cond (leb (length l / blockBytes) (h .count)) (Refused badLength)
-        (cond (leb (h .count) place) (Refused badNumber) (At (record { time = timeIn (imageBlockAt l (place + 1)); holding = Held (place + 1) })))
-        ≡ cond (leb (entryCount (u .x)) place) (Refused badNumber) (At (record { time = timeAt (u .x) place; holding = Held (place + 1) }))
-    go true q = rw (within, q, same true q) refl
-    go false q =
-        let low : place < countIn (imageBlockAt l 0) = omega (arith, leb-false (h .count) place q, u .counts, ap entryCount (u .saved .is-read), count-in s l) in
-        let t : timeAt (u .x) place ≡ timeIn (imageBlockAt l (place + 1)) = ap (λ (y : Brick). timeAt y place) (u .saved .is-read) ∙ time-in s l place low in
-        rw (within, q, same false q) (ap (λ (k : ℕ). At (record { time = k; holding = Held (place + 1) })) (sym t))
+    there : (x : Brick) → ImageOpened s brick l x → (b : Bool) → leb (entryCount x) place ≡ b
+        → cond (leb (length l / blockBytes) (entryCount x)) (Refused badLength)
+        (cond (leb (entryCount x) place) (Refused badNumber) (At (record { time = timeIn (imageBlockAt l (place + 1)); holding = Held (place + 1) })))
+        ≡ cond (leb (entryCount x) place) (Refused badNumber) (At (record { time = timeAt x place; holding = Held (place + 1) }))
+    there x u true q = rw (within x u, q) refl
+    there x u false q =
+        let low : place < countIn (imageBlockAt l 0) = omega (arith, leb-false (entryCount x) place q, ap entryCount (u .is-read), count-in s l) in
+        let t : timeAt x place ≡ timeIn (imageBlockAt l (place + 1)) = ap (λ (y : Brick). timeAt y place) (u .is-read) ∙ time-in s l place low in
+        rw (within x u, q) (ap (λ (k : ℕ). At (record { time = k; holding = Held (place + 1) })) (sym t))
 
-pub look-refused : (p : Parsed) (o : Opening) (k n place : ℕ) → o ≡ opening p → o .answer ≡ Failed k → n ≡ answerNumber (o .answer) → Refused n ≡ foundOf p place
-unfolding foundOf
-look-refused p o k n place e f g = sym (ap (λ (q : Parsed). foundOf q place) (turned p o k n e f g))
+    go : (p : Parsed) → parse s brick l ≡ p → foundBy l (countOf p) place ≡ foundOf p place
+    go (Opens x) e = there x (opened s brick l x e) (leb (entryCount x) place) refl
+    go (Refuses number) e = refl

@@ -1,5 +1,5 @@
 -- An image block by block: a block put, blocks cleared, blocks moved down.
-use mathlib.Core.Path.{_≡_, refl, sym, ap, subst, _∙_}
+use mathlib.Core.Path.{_≡_, refl, sym, ap, ap₂, subst, _∙_}
 use mathlib.Core.Bool.{Bool, true, false, cond, _&&_}
 use mathlib.Core.List.{List, _++_, append-nil}
 use Prim.Native.Nat.{ℕ, zero, suc, _+_, _-_, _*_, _≤_, _<_}
@@ -8,19 +8,25 @@ use native.Mathlib.Decide.{ℕ-discrete}
 use lib.Dec.{leb, ltb, eqb}
 use lib.ListN.{length, take, drop, getD, set, length-take, length-drop}
 use native.Mathlib.Nat.{zero-add}
+use native.Mathlib.Numerals.{add-one}
 use borrow.Author.Tests.{lt-ltb, le-ltb, le-leb, lt-leb, eq-eqb, ne-eqb, ltb-true, ltb-false, leb-true, leb-false}
 use Rattle.image_block.specs.Block.{entryBlock, unusedBlock}
 use Rattle.byte_lists.specs.Lists.{put, zeros}
-use Rattle.byte_lists.proofs.Laws.PutLaws.{put-length}
+use Rattle.byte_lists.proofs.Laws.PutLaws.{put-length, put-behind}
 use Rattle.byte_lists.proofs.Laws.PutLaws.{Pasted, pasted-all, pasted-more}
 use Rattle.byte_lists.proofs.Laws.ZeroLaws.{zeros-drop, zeros-take, zeros-length}
 use Rattle.image_block.proofs.Laws.LayoutLaws.{unused-length}
 use Rattle.byte_lists.specs.Lists.{stacked}
 use Rattle.image.proofs.Laws.ImageLaws.{Even, stacked-at, stacked-length, stacked-of, stacked-ext, stacked-put, block-length}
 use Rattle.image.specs.Parse.{imageBlockAt}
-use Rattle.image_write.specs.Workers.{Blocks, clearedOf, shiftedOf}
+use Rattle.image_write.specs.Workers.{cleared, shifted}
 use Rattle.image_block.specs.Block.{blockBytes}
 use Rattle.settings.specs.Ranges.{maxSize}
+
+-- the bytes l are n blocks, block k being g k
+pub record Blocks (g : ℕ → List ℕ) (n : ℕ) (l : List ℕ) : Type 0 where
+  pub long : length l ≡ blockBytes * n
+  pub at : (k : ℕ) → k < n → imageBlockAt l k ≡ g k
 
 pub blocks-of : (l : List ℕ) (n : ℕ) → length l ≡ blockBytes * n → Blocks (imageBlockAt l) n l
 blocks-of l n h = record { long = h; at = λ k b. refl }
@@ -70,11 +76,9 @@ blocks-put g n j b l h nb r =
       at = λ k c. ap (λ (x : List ℕ). imageBlockAt x k) is ∙ stacked-at (placed g j b) n k p c;
     }
 
--- a loop that clears has come to block i
-pub record Clearing (l : List ℕ) (from i : ℕ) (image : List ℕ) : Type 0 where
-  pub low : from ≤ i
-  pub long : length image ≡ length l
-  pub done : (n : ℕ) (g : ℕ → List ℕ) → Blocks g n l → Blocks (clearedOf g from i) n image
+-- the blocks from one number up to another unused
+unfoldable pub clearedOf : (ℕ → List ℕ) → ℕ → ℕ → ℕ → List ℕ
+clearedOf g from to k = cond (leb from k && ltb k to) unusedBlock (g k)
 
 none-cleared : (g : ℕ → List ℕ) (from k : ℕ) → clearedOf g from from k ≡ g k
 unfolding clearedOf
@@ -83,14 +87,6 @@ none-cleared g from k = go (leb from k) refl
     go : (b : Bool) → leb from k ≡ b → cond (leb from k && ltb k from) unusedBlock (g k) ≡ g k
     go true e = rw (e, le-ltb k from (leb-true from k e)) refl
     go false e = rw e refl
-
-pub clearing-none : (l : List ℕ) (from : ℕ) → Clearing l from from l
-clearing-none l from =
-    record {
-      low = omega arith;
-      long = refl;
-      done = λ n g b. blocks-ext g (clearedOf g from from) n l (λ k c. sym (none-cleared g from k)) b;
-    }
 
 one-cleared : (g : ℕ → List ℕ) (from i k : ℕ) → from ≤ i → placed (clearedOf g from i) i unusedBlock k ≡ clearedOf g from (i + 1) k
 unfolding placed clearedOf
@@ -107,26 +103,59 @@ one-cleared g from i k h = go (ℕ-discrete k i)
             next : i ≤ k → i + 1 ≤ k
             next w = omega (arith, q, w)
 
+-- clearing is, block by block, what it says
+blocks-cleared : (g : ℕ → List ℕ) (n from m : ℕ) (l : List ℕ) → from + m ≤ n → Blocks g n l → Blocks (clearedOf g from (from + m)) n (cleared from m l)
+unfolding cleared
+blocks-cleared g n from zero l h b =
+    let e : from + 0 ≡ from = omega arith in
+    blocks-ext g (clearedOf g from (from + 0)) n l (λ k c. sym (ap (λ (j : ℕ). clearedOf g from j k) e ∙ none-cleared g from k)) b
+blocks-cleared g n from (suc m) l h b =
+    let e : from + m + 1 ≡ from + suc m = omega arith in
+    blocks-ext (placed (clearedOf g from (from + m)) (from + m) unusedBlock) (clearedOf g from (from + suc m)) n (put (blockBytes * (from + m)) unusedBlock (cleared from m l))
+    (λ k c. one-cleared g from (from + m) k (omega arith) ∙ ap (λ (j : ℕ). clearedOf g from j k) e)
+    (blocks-put (clearedOf g from (from + m)) n (from + m) unusedBlock (cleared from m l) (omega arith) unused-length (blocks-cleared g n from m l (omega arith) b))
+
+pub cleared-blocks : (g : ℕ → List ℕ) (n from to : ℕ) (l after : List ℕ) → from ≤ to → to ≤ n → after ≡ cleared from (to - from) l → Blocks g n l
+    → Blocks (clearedOf g from to) n after
+cleared-blocks g n from to l after h m e b =
+    let q : from + (to - from) ≡ to = omega arith in
+    subst (λ (x : List ℕ). Blocks (clearedOf g from to) n x) (sym e)
+    (subst (λ (k : ℕ). Blocks (clearedOf g from k) n (cleared from (to - from) l)) q (blocks-cleared g n from (to - from) l (omega arith) b))
+
+-- a loop that clears has come to block i
+pub record Clearing (l : List ℕ) (from i : ℕ) (image : List ℕ) : Type 0 where
+  pub low : from ≤ i
+  pub long : length image ≡ length l
+  pub is : image ≡ cleared from (i - from) l
+
+pub clearing-none : (l : List ℕ) (from : ℕ) → Clearing l from from l
+unfolding cleared
+clearing-none l from =
+    let z : 0 ≡ from - from = omega arith in
+    record { low = omega arith; long = refl; is = ap (λ (k : ℕ). cleared from k l) z }
+
 pub clearing-more : (l : List ℕ) (from i : ℕ) (image b after : List ℕ) → blockBytes * (i + 1) ≤ length l → b ≡ unusedBlock → after ≡ put (blockBytes * i) b image
     → Clearing l from i image → Clearing l from (i + 1) after
+unfolding cleared
 clearing-more l from i image b after h eb ea r =
+    let n : suc (i - from) ≡ i + 1 - from = omega (arith, r .low) in
+    let at : i ≡ from + (i - from) = omega (arith, r .low) in
     let nb : length b ≡ blockBytes = ap length eb ∙ unused-length in
     record {
       low = omega (arith, r .low);
       long = ap length ea ∙ put-length (blockBytes * i) b image (omega (arith, r .long, nb)) ∙ r .long;
-      done = λ n g c. turn n g c nb;
+      is = ea
+          ∙ ap₂ (λ (x y : List ℕ). put (blockBytes * i) x y) eb (r .is)
+          ∙ ap (λ (j : ℕ). put (blockBytes * j) unusedBlock (cleared from (i - from) l)) at
+          ∙ ap (λ (j : ℕ). cleared from j l) n;
     }
-  where
-    turn : (n : ℕ) (g : ℕ → List ℕ) → Blocks g n l → length b ≡ blockBytes → Blocks (clearedOf g from (i + 1)) n after
-    turn n g c nb =
-        subst (λ (x : List ℕ). Blocks (clearedOf g from (i + 1)) n x) (sym ea)
-        (blocks-ext (placed (clearedOf g from i) i b) (clearedOf g from (i + 1)) n (put (blockBytes * i) b image)
-        (λ k w. ap (λ (y : List ℕ). placed (clearedOf g from i) i y k) eb ∙ one-cleared g from i k (r .low))
-        (blocks-put (clearedOf g from i) n i b image (omega (arith, c .long)) nb (r .done n g c)))
 
-pub record Shifting (l : List ℕ) (d i : ℕ) (image : List ℕ) : Type 0 where
-  pub long : length image ≡ length l
-  pub done : (n : ℕ) (g : ℕ → List ℕ) → Blocks g n l → Blocks (shiftedOf g d i) n image
+pub cleared-all : (l : List ℕ) (from to i : ℕ) (image : List ℕ) → i ≡ to → Clearing l from i image → image ≡ cleared from (to - from) l
+cleared-all l from to i image e r = r .is ∙ ap (λ (k : ℕ). cleared from (k - from) l) e
+
+-- the entries from number d on at the front
+unfoldable pub shiftedOf : (ℕ → List ℕ) → ℕ → ℕ → ℕ → List ℕ
+shiftedOf g d kept k = cond (leb 1 k && leb k kept) (g (k + d)) (g k)
 
 none-shifted : (g : ℕ → List ℕ) (d k : ℕ) → shiftedOf g d 0 k ≡ g k
 unfolding shiftedOf
@@ -136,9 +165,6 @@ none-shifted g d (suc k) = rw (lt-leb (suc k) 0 (omega arith)) (go (leb 1 (suc k
     go : (b : Bool) → cond (b && false) (g (suc k + d)) (g (suc k)) ≡ g (suc k)
     go true = refl
     go false = refl
-
-pub shifting-none : (l : List ℕ) (d : ℕ) → Shifting l d 0 l
-shifting-none l d = record { long = refl; done = λ n g b. blocks-ext g (shiftedOf g d 0) n l (λ k c. sym (none-shifted g d k)) b }
 
 one-shifted : (g : ℕ → List ℕ) (d i k : ℕ) → placed (shiftedOf g d i) (i + 1) (g (i + 1 + d)) k ≡ shiftedOf g d (i + 1) k
 unfolding placed shiftedOf
@@ -155,35 +181,60 @@ one-shifted g d i k = go (ℕ-discrete k (i + 1))
             next : i < k → i + 1 < k
             next w = omega (arith, q, w)
 
-later-same : (g : ℕ → List ℕ) (d i k : ℕ) → i < k → shiftedOf g d i k ≡ g k
-unfolding shiftedOf
-later-same g d i k h = rw (lt-leb k i h) (go (leb 1 k))
-  where
-    go : (b : Bool) → cond (b && false) (g (k + d)) (g k) ≡ g k
-    go true = refl
-    go false = refl
+-- shifting is, block by block, what it says
+blocks-shifted : (g : ℕ → List ℕ) (n d m : ℕ) (l : List ℕ) → d + m < n → Blocks g n l → Blocks (shiftedOf g d m) n (shifted d m l)
+unfolding shifted
+blocks-shifted g n d zero l h b = blocks-ext g (shiftedOf g d 0) n l (λ k c. sym (none-shifted g d k)) b
+blocks-shifted g n d (suc m) l h b =
+    let e : d + m + 1 ≡ m + 1 + d = omega arith in
+    let v : imageBlockAt l (d + m + 1) ≡ g (m + 1 + d) = b .at (d + m + 1) (omega arith) ∙ ap g e in
+    blocks-ext (placed (shiftedOf g d m) (m + 1) (imageBlockAt l (d + m + 1))) (shiftedOf g d (suc m)) n (put (blockBytes * (m + 1)) (imageBlockAt l (d + m + 1)) (shifted d m l))
+    (λ k c. ap (λ (y : List ℕ). placed (shiftedOf g d m) (m + 1) y k) v ∙ one-shifted g d m k ∙ ap (λ (j : ℕ). shiftedOf g d j k) (add-one m))
+    (blocks-put (shiftedOf g d m) n (m + 1) (imageBlockAt l (d + m + 1)) (shifted d m l) (omega arith) (block-length l n (d + m + 1) (b .long) (omega arith))
+    (blocks-shifted g n d m l (omega arith) b))
+
+pub shifted-blocks : (g : ℕ → List ℕ) (n d kept : ℕ) (l after : List ℕ) → d + kept < n → after ≡ shifted d kept l → Blocks g n l → Blocks (shiftedOf g d kept) n after
+shifted-blocks g n d kept l after h e b = subst (λ (x : List ℕ). Blocks (shiftedOf g d kept) n x) (sym e) (blocks-shifted g n d kept l h b)
+
+shifted-long : (d k : ℕ) (l : List ℕ) → blockBytes * (d + k + 1) ≤ length l → length (shifted d k l) ≡ length l
+unfolding shifted
+shifted-long d zero l h = refl
+shifted-long d (suc k) l h =
+    let ih = shifted-long d k l (omega arith) in
+    put-length (blockBytes * (k + 1)) (imageBlockAt l (d + k + 1)) (shifted d k l) (omega (arith, block-long l (d + k + 1) (omega arith))) ∙ ih
+
+-- what is not moved yet is as it was
+shifted-later : (d k j : ℕ) (l : List ℕ) → blockBytes * (d + k + 1) ≤ length l → k < j → imageBlockAt (shifted d k l) j ≡ imageBlockAt l j
+unfolding shifted imageBlockAt
+shifted-later d zero j l h c = refl
+shifted-later d (suc k) j l h c =
+    put-behind (blockBytes * (k + 1)) (blockBytes * j) blockBytes (imageBlockAt l (d + k + 1)) (shifted d k l)
+    (omega (arith, block-long l (d + k + 1) (omega arith))) (omega (arith, shifted-long d k l (omega arith)))
+    ∙ shifted-later d k j l (omega arith) (omega arith)
+
+-- a loop that shifts has moved i blocks
+pub record Shifting (l : List ℕ) (d i : ℕ) (image : List ℕ) : Type 0 where
+  pub long : length image ≡ length l
+  pub is : image ≡ shifted d i l
+
+pub shifting-none : (l : List ℕ) (d : ℕ) → Shifting l d 0 l
+unfolding shifted
+shifting-none l d = record { long = refl; is = refl }
 
 pub shifting-more : (l : List ℕ) (d i : ℕ) (image b after : List ℕ) → blockBytes * (d + i + 1 + 1) ≤ length l → b ≡ imageBlockAt image (d + i + 1) → after ≡ put (blockBytes * (i + 1)) b image
     → Shifting l d i image → Shifting l d (i + 1) after
+unfolding shifted
 shifting-more l d i image b after h eb ea r =
-    let nb : length b ≡ blockBytes = ap length eb ∙ block-there in
+    let v : b ≡ imageBlockAt l (d + i + 1) =
+    eb ∙ ap (λ (x : List ℕ). imageBlockAt x (d + i + 1)) (r .is) ∙ shifted-later d i (d + i + 1) l (omega arith) (omega arith) in
+    let nb : length b ≡ blockBytes = ap length v ∙ block-long l (d + i + 1) (omega arith) in
     record {
       long = ap length ea ∙ put-length (blockBytes * (i + 1)) b image (omega (arith, r .long, nb)) ∙ r .long;
-      done = λ n g c. turn n g c nb;
+      is = ea ∙ ap₂ (λ (x y : List ℕ). put (blockBytes * (i + 1)) x y) v (r .is) ∙ ap (λ (k : ℕ). shifted d k l) (sym (add-one i));
     }
-  where
-    block-there : length (imageBlockAt image (d + i + 1)) ≡ blockBytes
-    block-there = block-long image (d + i + 1) (omega (arith, r .long))
 
-    turn : (n : ℕ) (g : ℕ → List ℕ) → Blocks g n l → length b ≡ blockBytes → Blocks (shiftedOf g d (i + 1)) n after
-    turn n g c nb =
-        let e : d + i + 1 ≡ i + 1 + d = omega arith in
-        let is : b ≡ g (i + 1 + d) =
-        eb ∙ r .done n g c .at (d + i + 1) (omega (arith, c .long)) ∙ later-same g d i (d + i + 1) (omega arith) ∙ ap g e in
-        subst (λ (x : List ℕ). Blocks (shiftedOf g d (i + 1)) n x) (sym ea)
-        (blocks-ext (placed (shiftedOf g d i) (i + 1) b) (shiftedOf g d (i + 1)) n (put (blockBytes * (i + 1)) b image)
-        (λ k w. ap (λ (y : List ℕ). placed (shiftedOf g d i) (i + 1) y k) is ∙ one-shifted g d i k)
-        (blocks-put (shiftedOf g d i) n (i + 1) b image (omega (arith, c .long)) nb (r .done n g c)))
+pub shifted-all : (l : List ℕ) (d kept i : ℕ) (image : List ℕ) → i ≡ kept → Shifting l d i image → image ≡ shifted d kept l
+shifted-all l d kept i image e r = r .is ∙ ap (λ (k : ℕ). shifted d k l) e
 
 -- a block that was built is what is placed
 pub put-as : (at : ℕ) (b c l after : List ℕ) → after ≡ put at b l → b ≡ c → after ≡ put at c l
@@ -212,11 +263,3 @@ zero-entry at size l after h e = e ∙ ap (λ (b : List ℕ). put at (entryBlock
 
 pub zero-length : (size : ℕ) → size ≤ maxSize → length (take size (zeros maxSize)) ≡ size
 zero-length size h = ap length (zeros-take maxSize size h) ∙ zeros-length size
-
-pub cleared-all : (l : List ℕ) (from to i : ℕ) (image : List ℕ) → i ≡ to → Clearing l from i image
-    → (n : ℕ) (g : ℕ → List ℕ) → Blocks g n l → Blocks (clearedOf g from to) n image
-cleared-all l from to i image e r n g b = subst (λ (k : ℕ). Blocks (clearedOf g from k) n image) e (r .done n g b)
-
-pub shifted-all : (l : List ℕ) (d kept i : ℕ) (image : List ℕ) → i ≡ kept → Shifting l d i image
-    → (n : ℕ) (g : ℕ → List ℕ) → Blocks g n l → Blocks (shiftedOf g d kept) n image
-shifted-all l d kept i image e r n g b = subst (λ (k : ℕ). Blocks (shiftedOf g d k) n image) e (r .done n g b)

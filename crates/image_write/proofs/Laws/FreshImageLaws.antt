@@ -1,7 +1,7 @@
 -- A fresh image, block by block.
 use mathlib.Core.Path.{_≡_, refl, sym, subst, _∙_}
-use mathlib.Core.List.{List, []}
-use Prim.Native.Nat.{ℕ, zero, suc, _+_, _<_}
+use mathlib.Core.List.{List}
+use Prim.Native.Nat.{ℕ, zero, suc, _+_, _-_, _<_}
 use native.Mathlib.Omega.{arith}
 use lib.ListN.{length}
 use borrow.Author.Tests.{lt-ltb, le-ltb, le-leb, eq-eqb, ne-eqb}
@@ -15,8 +15,8 @@ use Rattle.image.specs.Brick.{entryCount, timeAt, meansAt, freshBrick}
 use Rattle.image.specs.Image.{imageBlock, imageOf, imageSize}
 use Rattle.image.specs.Opening.{lendingRefusal}
 use Rattle.image.specs.Parse.{imageBlockAt}
-use Rattle.image_write.specs.Workers.{Blocks, clearedOf}
-use Rattle.image_write.proofs.Laws.BlocksLaws.{blocks-of, blocks-put, blocks-ext, blocks-is, placed}
+use Rattle.image_write.specs.Workers.{cleared}
+use Rattle.image_write.proofs.Laws.BlocksLaws.{Blocks, blocks-of, blocks-put, blocks-ext, blocks-is, placed, clearedOf, cleared-blocks}
 use Rattle.image_write.specs.Saving.{freshAfter}
 use Rattle.image_block.specs.Block.{blockBytes}
 
@@ -30,10 +30,10 @@ fresh-block s brick g (suc (suc i)) h =
 
 pub fresh-made : (s : Settings) (brick : ℕ) (l l₁ l₂ l₃ : List ℕ) → SettingsRange s → length l ≡ imageSize s
     → l₁ ≡ put 0 (headBlock s brick 1 0) l → l₂ ≡ put blockBytes (entryBlock 0 (zeros (s .size))) l₁
-    → ((n : ℕ) (g : ℕ → List ℕ) → Blocks g n l₂ → Blocks (clearedOf g 2 (s .capacity + 1)) n l₃)
+    → l₃ ≡ cleared 2 (s .capacity + 1 - 2) l₂
     → l₃ ≡ imageOf s brick (freshBrick s)
 unfolding imageSize imageOf
-fresh-made s brick l l₁ l₂ l₃ range long e₁ e₂ clear =
+fresh-made s brick l l₁ l₂ l₃ range long e₁ e₂ e₃ =
     let n : ℕ = s .capacity + 1 in
     let h : List ℕ = headBlock s brick 1 0 in
     let e : List ℕ = entryBlock 0 (zeros (s .size)) in
@@ -46,7 +46,8 @@ fresh-made s brick l l₁ l₂ l₃ range long e₁ e₂ clear =
     (entry-length 0 (zeros (s .size)) (omega (arith, zeros-length (s .size), range .code .size-high))) b₁) in
     blocks-is (imageBlock s brick (freshBrick s)) (s .capacity + 1) l₃
     (blocks-ext (clearedOf (placed (placed (imageBlockAt l) 0 h) 1 e) 2 (s .capacity + 1)) (imageBlock s brick (freshBrick s)) (s .capacity + 1) l₃
-    (fresh-block s brick (imageBlockAt l)) (clear (s .capacity + 1) (placed (placed (imageBlockAt l) 0 h) 1 e) b₂))
+    (fresh-block s brick (imageBlockAt l))
+    (cleared-blocks (placed (placed (imageBlockAt l) 0 h) 1 e) (s .capacity + 1) 2 (s .capacity + 1) l₂ l₃ (omega (arith, range .capacity-low)) (omega arith) e₃ b₂))
 
 -- the ways of the writer
 pub fresh-refused : (s : Settings) (brick : ℕ) (l : List ℕ) (k : ℕ) → k ≡ lendingRefusal s brick (length l) → (k ≡ 0 → ⊥) → l ≡ freshAfter s brick l

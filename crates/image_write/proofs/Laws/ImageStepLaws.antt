@@ -18,8 +18,9 @@ use Rattle.image.specs.Brick.{Brick, LogEntry, noEntry, entryCount, timeAt, mea
 use Rattle.image.specs.Image.{imageBlock, imageOf, imageSize}
 use Rattle.image.specs.Brick.{Sound}
 use Rattle.image.proofs.Laws.ImageSoundLaws.{image-length, image-block, block-held, block-unused}
-use Rattle.image_write.specs.Workers.{Blocks, clearedOf, shiftedOf}
-use Rattle.image_write.proofs.Laws.BlocksLaws.{blocks-put, blocks-ext, blocks-is, placed, placed-there, placed-other}
+use Rattle.image_write.specs.Workers.{cleared, shifted}
+use Rattle.image_write.proofs.Laws.BlocksLaws.{Blocks, blocks-put, blocks-ext, blocks-is, placed, placed-there, placed-other}
+use Rattle.image_write.proofs.Laws.BlocksLaws.{clearedOf, shiftedOf, cleared-blocks, shifted-blocks}
 use Rattle.image_write.specs.Saving.{withPromise, withEntry}
 use Rattle.image_write.specs.Workers.{without}
 use Rattle.image_block.specs.Block.{blockBytes}
@@ -207,8 +208,8 @@ module _ (s : Settings) (brick : ℕ) (x : Brick) (d : ℕ) (low : d < entryCoun
 
   -- a Trim moves the kept entries down, clears what is freed, and writes the head
   pub without-written : (l₁ l₂ l₃ : List ℕ) → SettingsRange s → Sound s x
-      → ((n : ℕ) (g : ℕ → List ℕ) → Blocks g n (imageOf s brick x) → Blocks (shiftedOf g d (entryCount x - d)) n l₁)
-      → ((n : ℕ) (g : ℕ → List ℕ) → Blocks g n l₁ → Blocks (clearedOf g (entryCount x - d + 1) (entryCount x + 1)) n l₂)
+      → l₁ ≡ shifted d (entryCount x - d) (imageOf s brick x)
+      → l₂ ≡ cleared (entryCount x - d + 1) (entryCount x + 1 - (entryCount x - d + 1)) l₁
       → l₃ ≡ put 0 (headBlock s brick (entryCount x - d) (x .promise)) l₂
       → l₃ ≡ imageOf s brick (without x d)
   unfolding imageOf
@@ -216,7 +217,9 @@ module _ (s : Settings) (brick : ℕ) (x : Brick) (d : ℕ) (low : d < entryCoun
       e ∙ blocks-is (imageBlock s brick (without x d)) (s .capacity + 1) _
       (blocks-ext (placed moved 0 head) (imageBlock s brick (without x d)) (s .capacity + 1) _ each
       (blocks-put moved (s .capacity + 1) 0 head l₂ (omega arith) (head-length s brick (entryCount x - d) (x .promise))
-      (clear (s .capacity + 1) (shiftedOf (imageBlock s brick x) d (entryCount x - d)) (shift (s .capacity + 1) (imageBlock s brick x) (image-blocks s brick x range r)))))
+      (cleared-blocks (shiftedOf (imageBlock s brick x) d (entryCount x - d)) (s .capacity + 1) (entryCount x - d + 1) (entryCount x + 1) l₁ l₂ (omega arith)
+      (omega (arith, r .count-high)) clear
+      (shifted-blocks (imageBlock s brick x) (s .capacity + 1) d (entryCount x - d) (imageOf s brick x) l₁ (omega (arith, r .count-high)) shift (image-blocks s brick x range r)))))
     where
       head : List ℕ
       head = headBlock s brick (entryCount x - d) (x .promise)
