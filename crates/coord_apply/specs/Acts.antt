@@ -43,7 +43,8 @@ unfoldable pub nextOp : Op → ℕ → ℕ → Op
 nextOp op phase max = record { kind = op .kind; phase = phase; time = op .time; round = op .round + 1; max = max; first = op .first }
 
 unfoldable pub opened : Coordinator → ℕ → ℕ → List ℕ → Coordinator
-opened c phase max bricks = record { clock = c .clock; op = nextOp (c .op) phase max; tally = nothingCounted; bricks = bricks }
+opened c phase max bricks =
+    record { geometry = c .geometry; clock = c .clock; op = nextOp (c .op) phase max; tally = nothingCounted; bricks = bricks }
 
 -- the next round goes to all bricks; a Write round sends each its block of the stripe
 unfoldable pub nextRound : Buffered → ℕ → ℕ → List ℕ → List ℕ → List ℕ → Went
@@ -58,7 +59,7 @@ nextRound h phase max bricks stripe coded =
 unfoldable pub ending : Buffered → List ℕ → List Broadcast → ℕ → List ℕ → Went
 ending h stripe sent what bricks =
     record {
-      next = record { state = idleWith (h .state .clock); blocks = h .blocks; stripe = stripe };
+      next = record { state = idleWith (h .state .geometry) (h .state .clock); blocks = h .blocks; stripe = stripe };
       sent = sent;
       seen = record { what = what; kind = h .state .op .kind; time = h .state .op .time; bricks = bricks };
     }
@@ -93,7 +94,7 @@ withReplyBlock size b block blocks = put (b * size) block blocks
 
 -- "The first reply of a brick in a round counts"
 unfoldable pub withTally : Coordinator → Tally → Coordinator
-withTally c t = record { clock = c .clock; op = c .op; tally = t; bricks = c .bricks }
+withTally c t = record { geometry = c .geometry; clock = c .clock; op = c .op; tally = t; bricks = c .bricks }
 
 unfoldable pub counting : ℕ → Buffered → Reply → List ℕ → Buffered
 counting size h r block =
@@ -116,7 +117,12 @@ firstOp kind phase time first = record { kind = kind; phase = phase; time = time
 unfoldable pub starting : Buffered → Clock → Op → List ℕ → List ℕ → Went
 starting h clock op stripe targets =
     record {
-      next = record { state = record { clock = clock; op = op; tally = nothingCounted; bricks = noBricks }; blocks = h .blocks; stripe = stripe };
+      next =
+          record {
+            state = record { geometry = h .state .geometry; clock = clock; op = op; tally = nothingCounted; bricks = noBricks };
+            blocks = h .blocks;
+            stripe = stripe;
+          };
       sent = record { message = roundMessage op targets; blocks = [] } ∷ [];
       seen = record { what = beganSeen; kind = op .kind; time = op .time; bricks = noBricks };
     }

@@ -29,7 +29,7 @@ unfoldable pub endAnswer : Coordinator → ℕ → List ℕ → ℕ → Message 
 endAnswer c what bricks sent message =
     record {
       refusal = 0;
-      next = idleWith (c .clock);
+      next = idleWith (c .geometry) (c .clock);
       sent = sent;
       message = message;
       second = noMessage;

@@ -157,14 +157,14 @@ pub fn round_message(op: Op, targets: [u8; MAX_BRICKS]) -> Message
     }
 }
 
-// Trim of an operation's time.
-fn trim_message(op: Op) -> Message
-    ensures { λ r. ⌜ r ≡ trimMessage op ⌝ }
+// Trim of an operation's time, with its last round's number.
+fn trim_message(ended: Op) -> Message
+    ensures { λ r. ⌜ r ≡ trimMessage ended ⌝ }
 {
     Message {
         kind: message::TRIM,
-        time: op.time,
-        round: op.round,
+        time: ended.time,
+        round: ended.round,
         max: 0,
         targets: [0u8; MAX_BRICKS],
     }
@@ -192,9 +192,11 @@ fn open(c: Coordinator, phase: u8, max: u64, bricks: [u8; MAX_BRICKS]) -> Answer
 {
     let old = c.op;
     let op = next_op(old, phase, max);
+    let geometry = c.geometry;
     let clock = c.clock;
     let tally = coord_record::nothing_counted();
     let next = Coordinator {
+        geometry,
         clock,
         op,
         tally,
@@ -223,9 +225,10 @@ pub fn end(
 ) -> Answer
     ensures { λ r. ⌜ r ≡ endAnswer c what bricks sent message ⌝ }
 {
+    let geometry = c.geometry;
     let clock = c.clock;
     let op = c.op;
-    let next = coord_record::idle_with(clock);
+    let next = coord_record::idle_with(geometry, clock);
     let second = no_message();
     let seen = Notice {
         what,

@@ -92,7 +92,7 @@ pub fn reply_answers(n: usize, m: usize, op: Op, t: Tally, reply: Reply) -> bool
 // "Recovery: Order-and-read with max 2^44": the first recovery round has no upper end.
 const FIRST_MAX: u64 = settings::NO_UPPER_END;
 
-// What the q-th reply of a Read round decides.
+// What the q-th reply of a Read round decides: a no does not abort it, the read recovers.
 fn decide_read(n: usize, m: usize, op: Op, t: Tally) -> Decision
     requires { ⌜ n ≤ maxBricks ⌝ }
     requires { ⌜ op .first < n ⌝ }
@@ -101,9 +101,6 @@ fn decide_read(n: usize, m: usize, op: Op, t: Tally) -> Decision
     let counted = t.counted;
     let granted = t.granted;
     let found = t.found;
-    if any_no(counted, granted, n) {
-        return Decision::Look(FIRST_MAX);
-    }
     let newest = highest_of(counted, found, n);
     if any_other(counted, found, newest, n) {
         return Decision::Look(FIRST_MAX);
@@ -111,7 +108,10 @@ fn decide_read(n: usize, m: usize, op: Op, t: Tally) -> Decision
     if any_missing(n, m, op.first, counted) {
         return Decision::Look(FIRST_MAX);
     }
-    Decision::Give
+    if any_no(counted, granted, n) {} else {
+        return Decision::Give;
+    }
+    Decision::Look(FIRST_MAX)
 }
 
 // What the q-th reply of an Order-and-read round decides, where a block is held and this is the highest time found.
@@ -130,10 +130,10 @@ fn decide_at(n: usize, m: usize, round: u64, t: Tally, time: u64) -> Decision
     if time == 0 {
         return Decision::Abort;
     }
-    if round < message::LAST_ROUND {
-        return Decision::Look(time);
+    if message::LAST_ROUND <= round {
+        return Decision::Abort;
     }
-    Decision::Abort
+    Decision::Look(time)
 }
 
 // What the q-th reply of a round decides.

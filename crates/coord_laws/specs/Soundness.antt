@@ -5,7 +5,7 @@ use Rattle.coord_record.specs.declared.Tally.{Tally}
 use mathlib.Core.Bool.{true}
 use Prim.Native.Nat.{ℕ, _≤_, _<_}
 use Rattle.coord_record.specs.CountedRules.{tallyRight, bricksRight}
-use Rattle.coord_record.specs.Sound.{opRight, timeRight, namedCount}
+use Rattle.coord_record.specs.Sound.{sameGeometry, opRight, timeRight, namedCount}
 use Rattle.coord_record.specs.SoundParts.{SoundParts}
 use Rattle.coord_record.specs.declared.Coordinator.{Coordinator}
 use Rattle.settings.specs.Times.{maxCount, lastCoordinator}
@@ -19,12 +19,13 @@ pub record Sized (t : Tally) : Type 0 where
   pub found-size : length (t .found) ≡ maxBricks
 
 -- sound, with arrays of 16 places
-pub record Good (n m : ℕ) (c : Coordinator) : Type 0 where
-  pub parts : SoundParts n m c
+pub record Good (n m size : ℕ) (c : Coordinator) : Type 0 where
+  pub parts : SoundParts n m size c
   pub sizes : Sized (c .tally)
 
 -- a record whose round may be full
-pub record Full (n m : ℕ) (c : Coordinator) : Type 0 where
+pub record Full (n m size : ℕ) (c : Coordinator) : Type 0 where
+  pub made-for : sameGeometry n m size (c .geometry) ≡ true
   pub number-low : c .clock .coordinator ≤ lastCoordinator
   pub last-low : c .clock .last ≤ maxCount
   pub first-low : c .op .first < n

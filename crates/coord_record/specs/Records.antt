@@ -3,9 +3,11 @@ use lib.ListN.{replicate}
 use mathlib.Core.List.{List}
 use Prim.Native.Nat.{ℕ}
 use Rattle.coord_record.specs.declared.Coordinator.{Coordinator}
+use Rattle.coord_record.specs.declared.Geometry.{Geometry}
 use Rattle.coord_record.specs.declared.Op.{Op}
 use Rattle.coord_record.specs.declared.Tally.{Tally}
 use Rattle.settings.specs.declared.Clock.{Clock}
+use Rattle.settings.specs.declared.Settings.{Settings}
 use Rattle.settings.specs.Ranges.{maxBricks}
 
 -- what runs: nothing, a read, a write
@@ -30,6 +32,10 @@ noBricks = replicate maxBricks 0
 unfoldable pub nothingCounted : Tally
 nothingCounted = record { counted = replicate maxBricks 0; granted = replicate maxBricks 0; held = replicate maxBricks 0; found = replicate maxBricks 0 }
 
+-- the settings of a set's coordinators
+unfoldable pub geometryOf : Settings → Geometry
+geometryOf s = record { n = s .n; m = s .m; size = s .size }
+
 -- "A crash makes the coordinator idle and keeps its count."
-unfoldable pub idleWith : Clock → Coordinator
-idleWith clock = record { clock = clock; op = noOp; tally = nothingCounted; bricks = noBricks }
+unfoldable pub idleWith : Geometry → Clock → Coordinator
+idleWith geometry clock = record { geometry = geometry; clock = clock; op = noOp; tally = nothingCounted; bricks = noBricks }

@@ -1,10 +1,12 @@
--- Refusal 6: "a field outside its range, .. an open round with q or more replies counted, a time of another coordinator".
+-- Refusal 6: "settings disagreeing with those given, a field outside its range, .. an open round with q or more replies counted, a time of
+-- another coordinator".
 use mathlib.Core.Bool.{Bool, cond, _&&_}
 use Prim.Native.Nat.{ℕ}
 use lib.Dec.{eqb, leb, ltb}
 use Rattle.coord_record.specs.Records.{idleKind, readingKind, writingKind}
 use Rattle.coord_record.specs.CountedRules.{tallyRight, bricksRight}
 use Rattle.coord_record.specs.declared.Coordinator.{Coordinator}
+use Rattle.coord_record.specs.declared.Geometry.{Geometry}
 use Rattle.coord_record.specs.declared.Op.{Op}
 use Rattle.message.specs.Flags.{members}
 use Rattle.message.specs.Kinds.{readKind, orderKind, orderReadKind, writeKind, lastRound, firstRound, secondRound, thirdRound}
@@ -57,7 +59,15 @@ filledRight n m c =
     bricksRight n (namedCount m (c .op)) (c .bricks) && tallyRight n m (c .op .phase) (c .op .first) (c .tally)
     && ltb (members (c .tally .counted) n) (quorum n m)
 
-unfoldable pub soundRecord : ℕ → ℕ → Coordinator → Bool
-soundRecord n m c =
+-- every rule but that of the settings
+unfoldable pub rulesKept : ℕ → ℕ → Coordinator → Bool
+rulesKept n m c =
     leb (c .clock .coordinator) lastCoordinator && leb (c .clock .last) maxCount && ltb (c .op .first) n
     && opRight (c .op) && timeRight (c .op .kind) (c .op .time) (c .clock) && filledRight n m c
+
+-- "settings disagreeing with those given": the settings that a coordinator was made for are the ones given
+unfoldable pub sameGeometry : ℕ → ℕ → ℕ → Geometry → Bool
+sameGeometry n m size g = eqb (g .n) n && eqb (g .m) m && eqb (g .size) size
+
+unfoldable pub soundRecord : ℕ → ℕ → ℕ → Coordinator → Bool
+soundRecord n m size c = sameGeometry n m size (c .geometry) && rulesKept n m c

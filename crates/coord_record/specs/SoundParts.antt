@@ -3,13 +3,14 @@ use mathlib.Core.Path.{_≡_}
 use mathlib.Core.Bool.{true}
 use Prim.Native.Nat.{ℕ, _≤_, _<_}
 use Rattle.coord_record.specs.CountedRules.{tallyRight, bricksRight}
-use Rattle.coord_record.specs.Sound.{opRight, timeRight, namedCount}
+use Rattle.coord_record.specs.Sound.{sameGeometry, opRight, timeRight, namedCount}
 use Rattle.coord_record.specs.declared.Coordinator.{Coordinator}
 use Rattle.message.specs.Flags.{members}
 use Rattle.settings.specs.Ranges.{quorum}
 use Rattle.settings.specs.Times.{maxCount, lastCoordinator}
 
-pub record SoundParts (n m : ℕ) (c : Coordinator) : Type 0 where
+pub record SoundParts (n m size : ℕ) (c : Coordinator) : Type 0 where
+  pub made-for : sameGeometry n m size (c .geometry) ≡ true
   pub number-low : c .clock .coordinator ≤ lastCoordinator
   pub last-low : c .clock .last ≤ maxCount
   pub first-low : c .op .first < n

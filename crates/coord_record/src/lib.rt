@@ -7,7 +7,7 @@ ghost use Rattle.coord_record.specs.Records.{noOp, nothingCounted, idleW
 ghost use Rattle.coord_record.specs.CountedRules.{isTarget, blockRight, countedRight, entryRight, tallyRight, brickRight, bricksRight};
 ghost use Rattle.message.specs.Messages.{foundRight};
 ghost use Rattle.coord_record.specs.Sound.{maxRight, storedRight, readRight, writeRight, unsetOp, opRight, timeRight, namedCount, filledRight};
-ghost use Rattle.coord_record.specs.Sound.{soundRecord};
+ghost use Rattle.coord_record.specs.Sound.{sameGeometry, rulesKept, soundRecord};
 ghost use Rattle.settings.specs.Times.{maxCount, lastCoordinator};
 ghost use Rattle.settings.specs.Ranges.{maxBricks};
 use message::ORDER;
@@ -43,8 +43,16 @@ pub struct Tally {
     pub found: [u64; MAX_BRICKS],
 }
 
+// The settings that a coordinator was made for.
+pub struct Geometry {
+    pub n: usize,
+    pub m: usize,
+    pub size: usize,
+}
+
 // bricks: the m bricks that a read in its Write round decoded from, rising; else 0.
 pub struct Coordinator {
+    pub geometry: Geometry,
     pub clock: Clock,
     pub op: Op,
     pub tally: Tally,
@@ -77,13 +85,14 @@ pub fn nothing_counted() -> Tally
     }
 }
 
-// An idle coordinator with a clock.
-pub fn idle_with(clock: Clock) -> Coordinator
-    ensures { λ r. ⌜ r ≡ idleWith clock ⌝ }
+// An idle coordinator for these settings, with a clock.
+pub fn idle_with(geometry: Geometry, clock: Clock) -> Coordinator
+    ensures { λ r. ⌜ r ≡ idleWith geometry clock ⌝ }
 {
     let op = no_op();
     let tally = nothing_counted();
     Coordinator {
+        geometry,
         clock,
         op,
         tally,
@@ -387,6 +396,21 @@ fn named_count(m: usize, op: Op) -> usize
     0
 }
 
+impl Geometry {
+    // Whether these are the settings given.
+    fn same(self, n: usize, m: usize, size: usize) -> bool
+        ensures { λ r. ⌜ r ≡ sameGeometry n m size self ⌝ }
+    {
+        if self.n != n {
+            return false;
+        }
+        if self.m != m {
+            return false;
+        }
+        self.size == size
+    }
+}
+
 impl Coordinator {
     // Whether the bricks named and the tally keep their rules.
     fn filled_right(self, n: usize, m: usize) -> bool
@@ -406,10 +430,22 @@ impl Coordinator {
         false
     }
 
-    // Whether the record keeps every rule. n is at most 16.
-    pub fn sound(self, n: usize, m: usize) -> bool
+    // Whether the record is for these settings and keeps every rule. n is at most 16.
+    pub fn sound(self, n: usize, m: usize, size: usize) -> bool
         requires { ⌜ n ≤ maxBricks ⌝ }
-        ensures { λ r. ⌜ r ≡ soundRecord n m self ⌝ }
+        ensures { λ r. ⌜ r ≡ soundRecord n m size self ⌝ }
+    {
+        let geometry = self.geometry;
+        if geometry.same(n, m, size) {
+            return self.rules_kept(n, m);
+        }
+        false
+    }
+
+    // Whether the record keeps every rule but that of the settings.
+    fn rules_kept(self, n: usize, m: usize) -> bool
+        requires { ⌜ n ≤ maxBricks ⌝ }
+        ensures { λ r. ⌜ r ≡ rulesKept n m self ⌝ }
     {
         let clock = self.clock;
         let op = self.op;

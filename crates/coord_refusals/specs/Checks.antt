@@ -13,24 +13,29 @@ use Rattle.settings.specs.Ranges.{codeRefusal}
 use Rattle.settings.specs.Refusal.{firstRefusal, refuseUnless, badLength, badNumber, badRecord, busy, strayReply}
 use Rattle.settings.specs.Times.{drawRefusal, lastCoordinator}
 
--- a coordinator number above 15, a record that breaks a rule
-unfoldable pub recordChecks : ℕ → ℕ → Coordinator → List ℕ → List ℕ
-recordChecks n m c more = refuseUnless (leb (c .clock .coordinator) lastCoordinator) badNumber ∷ refuseUnless (soundRecord n m c) badRecord ∷ more
+-- a coordinator number above 15, a record that is for other settings or breaks a rule
+unfoldable pub recordChecks : ℕ → ℕ → ℕ → Coordinator → List ℕ → List ℕ
+recordChecks n m size c more =
+    refuseUnless (leb (c .clock .coordinator) lastCoordinator) badNumber ∷ refuseUnless (soundRecord n m size c) badRecord ∷ more
 
--- what every start asks: besides these a reading in range, a count left, no operation
-unfoldable pub startChecks : ℕ → ℕ → Coordinator → ℕ → List ℕ
-startChecks n m c reading = recordChecks n m c (drawRefusal (c .clock) reading ∷ refuseUnless (eqb (c .op .kind) idleKind) busy ∷ [])
+-- a write, before its time is drawn: the bytes and the lent stripe have m blocks
+unfoldable pub writeChecks : ℕ → ℕ → ℕ → Coordinator → ℕ → ℕ → List ℕ → List ℕ
+writeChecks n m size c bytes stripe more =
+    codeRefusal n m size ∷ refuseUnless (eqb bytes (m * size) && eqb stripe (m * size)) badLength ∷ recordChecks n m size c more
 
--- a write: the bytes and the lent stripe have m blocks
+-- a read, before its time is drawn: the brick that targets are counted from is below n
+unfoldable pub readChecks : ℕ → ℕ → ℕ → Coordinator → ℕ → List ℕ → List ℕ
+readChecks n m size c first more = codeRefusal n m size ∷ refuseUnless (ltb first n) badNumber ∷ recordChecks n m size c more
+
+-- then every start asks for a reading in range, a count left, no operation
+unfoldable pub startChecks : Coordinator → ℕ → List ℕ
+startChecks c reading = drawRefusal (c .clock) reading ∷ refuseUnless (eqb (c .op .kind) idleKind) busy ∷ []
+
 unfoldable pub writeRefusal : ℕ → ℕ → ℕ → Coordinator → ℕ → ℕ → ℕ → ℕ
-writeRefusal n m size c reading bytes stripe =
-    firstRefusal
-    (codeRefusal n m size ∷ refuseUnless (eqb bytes (m * size) && eqb stripe (m * size)) badLength ∷ startChecks n m c reading)
+writeRefusal n m size c reading bytes stripe = firstRefusal (writeChecks n m size c bytes stripe (startChecks c reading))
 
--- a read: the brick that targets are counted from is below n
 unfoldable pub readRefusal : ℕ → ℕ → ℕ → Coordinator → ℕ → ℕ → ℕ
-readRefusal n m size c reading first =
-    firstRefusal (codeRefusal n m size ∷ refuseUnless (ltb first n) badNumber ∷ startChecks n m c reading)
+readRefusal n m size c reading first = firstRefusal (readChecks n m size c first (startChecks c reading))
 
 -- the lent buffers of a reply: n blocks of replies, m of the stripe, n to send, and the block that it holds
 unfoldable pub lengthsRight : ℕ → ℕ → ℕ → Bool → ℕ → ℕ → ℕ → ℕ → Bool
@@ -38,8 +43,9 @@ lengthsRight n m size held block blocks stripe coded =
     eqb blocks (n * size) && eqb stripe (m * size) && eqb coded (n * size) && (not held || eqb block size)
 
 -- a reply: one that a brick may give, and that answers the open round
-unfoldable pub strayChecks : ℕ → ℕ → Coordinator → Reply → List ℕ
-strayChecks n m c r = recordChecks n m c (replyRefusal n r ∷ refuseUnless (answers n m (c .op) (c .tally) r) strayReply ∷ [])
+unfoldable pub strayChecks : ℕ → ℕ → ℕ → Coordinator → Reply → List ℕ
+strayChecks n m size c r =
+    recordChecks n m size c (replyRefusal n r ∷ refuseUnless (answers n m (c .op) (c .tally) r) strayReply ∷ [])
 
 unfoldable pub takeRefusal : ℕ → ℕ → ℕ → Coordinator → Reply → ℕ → ℕ → ℕ → ℕ → ℕ
 takeRefusal n m size c r block blocks stripe coded =
@@ -47,7 +53,7 @@ takeRefusal n m size c r block blocks stripe coded =
     (codeRefusal n m size
     ∷ refuseUnless (lengthsRight n m size (r .held) block blocks stripe coded) badLength
     ∷ refuseUnless (ltb (r .brick) n) badNumber
-    ∷ strayChecks n m c r)
+    ∷ strayChecks n m size c r)
 
 unfoldable pub crashRefusal : ℕ → ℕ → ℕ → Coordinator → ℕ
-crashRefusal n m size c = firstRefusal (codeRefusal n m size ∷ recordChecks n m c [])
+crashRefusal n m size c = firstRefusal (codeRefusal n m size ∷ recordChecks n m size c [])

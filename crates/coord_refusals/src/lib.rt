@@ -4,65 +4,41 @@ ghost use mathlib.Core.Path.{_≡_};
 ghost use mathlib.Core.Bool.{true};
 ghost use mathlib.Core.List.{[]};
 ghost use Prim.Native.Nat.{_*_, _≤_, _<_};
-ghost use Rattle.coord_refusals.specs.Checks.{recordChecks, startChecks, writeRefusal, readRefusal, lengthsRight, strayChecks, takeRefusal, crashRefusal};
+ghost use Rattle.coord_refusals.specs.Checks.{recordChecks, writeChecks, readChecks, lengthsRight, strayChecks, takeRefusal, crashRefusal};
 ghost use Rattle.settings.specs.Ranges.{CodeRange, maxBricks};
 ghost use Rattle.settings.specs.Refusal.{firstRefusal};
 use coord_record::Coordinator;
-use coord_record::IDLE;
 use message::Reply;
 use settings::BAD_LENGTH;
 use settings::BAD_NUMBER;
 use settings::BAD_RECORD;
-use settings::BUSY;
 use settings::STRAY_REPLY;
 
 // 3 for a coordinator number above 15, 6 for a record that is not sound, else 0.
-fn record_refusal(n: usize, m: usize, c: Coordinator) -> u32
+fn record_refusal(n: usize, m: usize, size: usize, c: Coordinator) -> u32
     requires { ⌜ n ≤ maxBricks ⌝ }
-    ensures { λ r. ⌜ r ≡ firstRefusal (recordChecks n m c []) ⌝ }
+    ensures { λ r. ⌜ r ≡ firstRefusal (recordChecks n m size c []) ⌝ }
 {
     let clock = c.clock;
     if settings::LAST_COORDINATOR < clock.coordinator {
         return BAD_NUMBER;
     }
-    if c.sound(n, m) {
+    if c.sound(n, m, size) {
         return 0;
     }
     BAD_RECORD
 }
 
-// What every start asks of the coordinator.
-fn start_refusal(n: usize, m: usize, c: Coordinator, reading: u64) -> u32
-    requires { ⌜ n ≤ maxBricks ⌝ }
-    ensures { λ r. ⌜ r ≡ firstRefusal (startChecks n m c reading) ⌝ }
-{
-    let broken = record_refusal(n, m, c);
-    if broken != 0 {
-        return broken;
-    }
-    let clock = c.clock;
-    let late = clock.refusal(reading);
-    if late != 0 {
-        return late;
-    }
-    let op = c.op;
-    if op.kind != IDLE {
-        return BUSY;
-    }
-    0
-}
-
-// The refusal of a write, 0 for none: bytes and stripe are lengths.
+// The refusal of a write before its time is drawn, 0 for none: bytes and stripe are lengths.
 pub fn write_refusal(
     n: usize,
     m: usize,
     size: usize,
     c: Coordinator,
-    reading: u64,
     bytes: usize,
     stripe: usize,
 ) -> u32
-    ensures { λ r. ⌜ r ≡ writeRefusal n m size c reading bytes stripe ⌝ }
+    ensures { λ r. ⌜ r ≡ firstRefusal (writeChecks n m size c bytes stripe []) ⌝ }
 {
     let bad = settings::code_refusal(n, m, size);
     if bad != 0 {
@@ -74,19 +50,12 @@ pub fn write_refusal(
     if stripe != m * size {
         return BAD_LENGTH;
     }
-    start_refusal(n, m, c, reading)
+    record_refusal(n, m, size, c)
 }
 
-// The refusal of a read, 0 for none.
-pub fn read_refusal(
-    n: usize,
-    m: usize,
-    size: usize,
-    c: Coordinator,
-    reading: u64,
-    first: usize,
-) -> u32
-    ensures { λ r. ⌜ r ≡ readRefusal n m size c reading first ⌝ }
+// The refusal of a read before its time is drawn, 0 for none.
+pub fn read_refusal(n: usize, m: usize, size: usize, c: Coordinator, first: usize) -> u32
+    ensures { λ r. ⌜ r ≡ firstRefusal (readChecks n m size c first []) ⌝ }
 {
     let bad = settings::code_refusal(n, m, size);
     if bad != 0 {
@@ -95,7 +64,7 @@ pub fn read_refusal(
     if n <= first {
         return BAD_NUMBER;
     }
-    start_refusal(n, m, c, reading)
+    record_refusal(n, m, size, c)
 }
 
 // Whether the lent buffers of a reply have the lengths that the settings require.
@@ -151,16 +120,16 @@ pub fn take_refusal(
     if n <= reply.brick {
         return BAD_NUMBER;
     }
-    stray_refusal(n, m, c, reply)
+    stray_refusal(n, m, size, c, reply)
 }
 
 // The refusal of a reply of a brick below n.
-fn stray_refusal(n: usize, m: usize, c: Coordinator, reply: Reply) -> u32
+fn stray_refusal(n: usize, m: usize, size: usize, c: Coordinator, reply: Reply) -> u32
     requires { ⌜ n ≤ maxBricks ⌝ }
     requires { ⌜ reply .brick < n ⌝ }
-    ensures { λ r. ⌜ r ≡ firstRefusal (strayChecks n m c reply) ⌝ }
+    ensures { λ r. ⌜ r ≡ firstRefusal (strayChecks n m size c reply) ⌝ }
 {
-    let broken = record_refusal(n, m, c);
+    let broken = record_refusal(n, m, size, c);
     if broken != 0 {
         return broken;
     }
@@ -184,5 +153,5 @@ pub fn crash_refusal(n: usize, m: usize, size: usize, c: Coordinator) -> u32
     if bad != 0 {
         return bad;
     }
-    record_refusal(n, m, c)
+    record_refusal(n, m, size, c)
 }

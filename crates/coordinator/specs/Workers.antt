@@ -10,6 +10,7 @@ use Rattle.settings.specs.declared.Clock.{Clock}
 use mathlib.Core.Path.{_≡_}
 use Rattle.coord_apply.specs.declared.Answer.{Answer}
 use Rattle.coord_record.specs.declared.Coordinator.{Coordinator}
+use Rattle.coord_record.specs.declared.Geometry.{Geometry}
 use Rattle.coord_record.specs.declared.Op.{Op}
 
 -- nothing sent and nothing seen
@@ -17,11 +18,11 @@ unfoldable pub keptAnswer : Coordinator → Answer
 keptAnswer c = record { refusal = 0; next = c; sent = 0; message = noMessage; second = noMessage; seen = nothingSeen }
 
 -- an operation begins
-unfoldable pub startAnswer : Clock → Op → List ℕ → Answer
-startAnswer clock op targets =
+unfoldable pub startAnswer : Geometry → Clock → Op → List ℕ → Answer
+startAnswer geometry clock op targets =
     record {
       refusal = 0;
-      next = record { clock = clock; op = op; tally = nothingCounted; bricks = noBricks };
+      next = record { geometry = geometry; clock = clock; op = op; tally = nothingCounted; bricks = noBricks };
       sent = 1;
       message = roundMessage op targets;
       second = noMessage;

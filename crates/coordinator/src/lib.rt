@@ -13,6 +13,7 @@ use coord_apply::BEGAN;
 use coord_apply::CUT;
 use coord_apply::Notice;
 use coord_record::Coordinator;
+use coord_record::Geometry;
 use coord_record::IDLE;
 use coord_record::Op;
 use coord_record::READING;
@@ -78,11 +79,12 @@ fn first_op(kind: u8, phase: u8, time: u64, first: usize) -> Op
 }
 
 // An operation begins: its first round is sent.
-fn begin(clock: Clock, op: Op, targets: [u8; MAX_BRICKS]) -> Answer
-    ensures { λ r. ⌜ r ≡ startAnswer clock op targets ⌝ }
+fn begin(geometry: Geometry, clock: Clock, op: Op, targets: [u8; MAX_BRICKS]) -> Answer
+    ensures { λ r. ⌜ r ≡ startAnswer geometry clock op targets ⌝ }
 {
     let tally = coord_record::nothing_counted();
     let next = Coordinator {
+        geometry,
         clock,
         op,
         tally,
@@ -120,10 +122,12 @@ fn keep(size: usize, reply: Reply, block: &[u8], blocks: &mut [u8])
 fn with_tally(c: Coordinator, tally: Tally) -> Coordinator
     ensures { λ r. ⌜ r ≡ withTally c tally ⌝ }
 {
+    let geometry = c.geometry;
     let clock = c.clock;
     let op = c.op;
     let bricks = c.bricks;
     Coordinator {
+        geometry,
         clock,
         op,
         tally,
@@ -132,7 +136,7 @@ fn with_tally(c: Coordinator, tally: Tally) -> Coordinator
 }
 
 // Starts a write of m blocks, which the lent stripe keeps from then on. Refused: 1 settings, 2 a length, 3 the coordinator's number,
-// 6 the record, 7 the reading, 8 no count left, 9 an operation runs.
+// 6 the record; by the draw 7 the reading, 8 no count left; 9 an operation runs.
 pub fn start_write(
     n: usize,
     m: usize,
@@ -145,7 +149,7 @@ pub fn start_write(
     ensures { λ r. ⌜ ((blocks coded : List ℕ) → returned r blocks (now (stripe .exit)) coded
         ≡ writeCall n m size c blocks (now (stripe .entry)) coded reading (now (bytes .entry))) ⌝ }
 {
-    let bad = write_refusal(n, m, size, c, reading, bytes.len(), stripe.len());
+    let bad = write_refusal(n, m, size, c, bytes.len(), stripe.len());
     if bad != 0 {
         return refuse(c, bad);
     }
@@ -154,13 +158,18 @@ pub fn start_write(
     let Draw::Drawn(time, next) = drawn else {
         return refuse(c, drawn.number());
     };
+    let running = c.op;
+    if running.kind != IDLE {
+        return refuse(c, settings::BUSY);
+    }
     byte_lists::copy(bytes, stripe);
+    let geometry = c.geometry;
     let op = first_op(WRITING, ORDER, time, 0);
-    begin(next, op, [0u8; MAX_BRICKS])
+    begin(geometry, next, op, [0u8; MAX_BRICKS])
 }
 
 // Starts a read whose targets are counted upward from a brick. Refused: 1 settings, 3 the brick or the coordinator's number, 6 the
-// record, 7 the reading, 8 no count left, 9 an operation runs.
+// record; by the draw 7 the reading, 8 no count left; 9 an operation runs.
 pub fn start_read(
     n: usize,
     m: usize,
@@ -171,18 +180,23 @@ pub fn start_read(
 ) -> Answer
     ensures { λ r. ⌜ ((blocks stripe coded : List ℕ) → returned r blocks stripe coded ≡ readCall n m size c blocks stripe coded reading first) ⌝ }
 {
-    let bad = read_refusal(n, m, size, c, reading, first);
+    let bad = read_refusal(n, m, size, c, first);
     if bad != 0 {
         return refuse(c, bad);
     }
     let clock = c.clock;
-    let drawn = clock.draw(reading);
-    let Draw::Drawn(time, next) = drawn else {
-        return refuse(c, drawn.number());
+    let drew = clock.draw(reading);
+    let Draw::Drawn(time, next) = drew else {
+        return refuse(c, drew.number());
     };
+    let current = c.op;
+    if current.kind != IDLE {
+        return refuse(c, settings::BUSY);
+    }
+    let geometry = c.geometry;
     let op = first_op(READING, READ, time, first);
     let targets = coord_tally::target_flags(n, m, first);
-    begin(next, op, targets)
+    begin(geometry, next, op, targets)
 }
 
 // A crash: the coordinator is idle and keeps its count. Refused: 1 settings, 3 the coordinator's number, 6 the record.

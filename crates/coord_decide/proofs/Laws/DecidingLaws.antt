@@ -1,6 +1,6 @@
 -- The ways through a decision: the callees' results as variables.
-use mathlib.Core.Path.{_≡_}
-use mathlib.Core.Bool.{Bool, true, false}
+use mathlib.Core.Path.{_≡_, refl}
+use mathlib.Core.Bool.{Bool, true, false, cond, _||_}
 use Prim.Native.Nat.{ℕ, _≤_, _<_}
 use lib.ListN.{getD}
 use borrow.Author.Tests.{eq-eqb, ne-eqb, le-leb, lt-leb, lt-ltb, le-ltb}
@@ -45,26 +45,33 @@ module _ (n m : ℕ) (op : Op) (t : Tally) (r : Reply) where
 
 -- a Read round
 module _ (n m : ℕ) (op : Op) (t : Tally) where
-  pub read-no : (a : Bool) → a ≡ some (saidNo (t .counted) (t .granted)) n → a ≡ true → Look noUpperEnd ≡ decidedRead n m op t
-  unfolding decidedRead
-  read-no a ea za = rw (← ea, za)
+  -- one of the three is enough to recover
+  look-second : (a d : Bool) → Look noUpperEnd ≡ cond (a || true || d) (Look noUpperEnd) Give
+  look-second true d = refl
+  look-second false d = refl
 
-  pub read-other : (a b : Bool) (h : ℕ) → a ≡ some (saidNo (t .counted) (t .granted)) n → a ≡ false → h ≡ highest (t .counted) (t .found) n
-      → b ≡ some (otherTime (t .counted) (t .found) h) n → b ≡ true → Look noUpperEnd ≡ decidedRead n m op t
-  unfolding decidedRead
-  read-other a b h ea za eh eb zb = rw (← ea, za, ← eh, ← eb, zb)
+  look-third : (a : Bool) → Look noUpperEnd ≡ cond (a || false || true) (Look noUpperEnd) Give
+  look-third true = refl
+  look-third false = refl
 
-  pub read-missing : (a b d : Bool) (h : ℕ) → a ≡ some (saidNo (t .counted) (t .granted)) n → a ≡ false → h ≡ highest (t .counted) (t .found) n
-      → b ≡ some (otherTime (t .counted) (t .found) h) n → b ≡ false → d ≡ some (missing n m (op .first) (t .counted)) n → d ≡ true
+  pub read-other : (b : Bool) (h : ℕ) → h ≡ highest (t .counted) (t .found) n → b ≡ some (otherTime (t .counted) (t .found) h) n → b ≡ true
       → Look noUpperEnd ≡ decidedRead n m op t
   unfolding decidedRead
-  read-missing a b d h ea za eh eb zb ed zd = rw (← ea, za, ← eh, ← eb, zb, ← ed, zd)
+  read-other b h eh eb zb = rw (← eh, ← eb, zb) (look-second (some (saidNo (t .counted) (t .granted)) n) (some (missing n m (op .first) (t .counted)) n))
 
-  pub read-whole : (a b d : Bool) (h : ℕ) → a ≡ some (saidNo (t .counted) (t .granted)) n → a ≡ false → h ≡ highest (t .counted) (t .found) n
-      → b ≡ some (otherTime (t .counted) (t .found) h) n → b ≡ false → d ≡ some (missing n m (op .first) (t .counted)) n → d ≡ false
-      → Give ≡ decidedRead n m op t
-  unfolding decidedRead
-  read-whole a b d h ea za eh eb zb ed zd = rw (← ea, za, ← eh, ← eb, zb, ← ed, zd)
+  module _ (b d : Bool) (h : ℕ) (eh : h ≡ highest (t .counted) (t .found) n) (eb : b ≡ some (otherTime (t .counted) (t .found) h) n) (zb : b ≡ false)
+      (ed : d ≡ some (missing n m (op .first) (t .counted)) n) where
+    pub read-missing : d ≡ true → Look noUpperEnd ≡ decidedRead n m op t
+    unfolding decidedRead
+    read-missing zd = rw (← eh, ← eb, zb, ← ed, zd) (look-third (some (saidNo (t .counted) (t .granted)) n))
+
+    pub read-whole : (a : Bool) → d ≡ false → a ≡ some (saidNo (t .counted) (t .granted)) n → a ≡ false → Give ≡ decidedRead n m op t
+    unfolding decidedRead
+    read-whole a zd ea za = rw (← eh, ← eb, zb, ← ed, zd, ← ea, za)
+
+    pub read-no : (a : Bool) → d ≡ false → a ≡ some (saidNo (t .counted) (t .granted)) n → a ≡ true → Look noUpperEnd ≡ decidedRead n m op t
+    unfolding decidedRead
+    read-no a zd ea za = rw (← eh, ← eb, zb, ← ed, zd, ← ea, za)
 
 -- an Order-and-read round
 module _ (n m round : ℕ) (t : Tally) (time k : ℕ) (ek : k ≡ count (atTimes (t .held) (t .found) time) n) where

@@ -16,10 +16,10 @@ returns-3 : tie.Need-returns-3
 returns-3 c = search (needs, at-zero)
 
 returns-4 : tie.Need-returns-4
-returns-4 c = search (needs, at-look)
+returns-4 c = search (needs, at-look-spent)
 
 returns-5 : tie.Need-returns-5
-returns-5 c = search (needs, at-look-spent)
+returns-5 c = search (needs, at-look)
 
 pub decide-at-spec : {M : Type 1} → statement M
 decide-at-spec =

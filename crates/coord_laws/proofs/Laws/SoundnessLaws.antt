@@ -10,7 +10,8 @@ use lib.ListN.{length, getD, take, replicate, length-take, List·getD-eq-default
 use borrow.Author.Tests.{eq-eqb, ne-eqb, le-leb, lt-ltb, le-ltb, eqb-false, leb-true, ltb-true, ltb-false}
 use Rattle.coord_apply.specs.Acts.{nextOp, opened, nextRound, ending, acted, withTally, counting, waitingOr, firstOp, starting}
 use Rattle.coord_apply.specs.Answers.{Buffered, Went, Step, refused, went, afterChecks, nothingSeen, cutSeen}
-use Rattle.coord_refusals.specs.Checks.{recordChecks, writeRefusal, readRefusal, takeRefusal, crashRefusal}
+use Rattle.coord_refusals.specs.Checks.{recordChecks, writeChecks, readChecks, writeRefusal, readRefusal, takeRefusal, crashRefusal}
+use Rattle.coord_refusals.proofs.Laws.RefusedLaws.{record-passes}
 use Rattle.coordinator.specs.Routines.{drawnThen, writeStep, readStep, takeStep, crashed, crashStep}
 use Rattle.coordinator.proofs.Laws.RoutineLaws.{take-passed, first-low}
 use Rattle.coord_laws.proofs.Laws.OpCaseLaws.{in-read, in-order, in-recovery, first-recovery, next-recovery, write-stores, read-stores}
@@ -19,9 +20,10 @@ use Rattle.coord_laws.proofs.Laws.TallyLaws.{Answering, answering, Repl
 use Rattle.byte_lists.proofs.Laws.EachLaws.{each-all}
 use Rattle.coord_record.specs.Records.{noOp, noBricks, nothingCounted, idleWith, idleKind, readingKind, writingKind}
 use Rattle.coord_record.specs.CountedRules.{entryRight, tallyRight, brickRight, bricksRight}
-use Rattle.coord_record.specs.Sound.{opRight, unsetOp, readRight, writeRight, timeRight, namedCount, soundRecord}
-use Rattle.coord_record.proofs.Laws.SoundPartLaws.{sound-from}
+use Rattle.coord_record.specs.Sound.{sameGeometry, opRight, unsetOp, readRight, writeRight, timeRight, namedCount, soundRecord}
+use Rattle.coord_record.proofs.Laws.SoundPartLaws.{sound-from, sound-parts}
 use Rattle.coord_record.specs.declared.Coordinator.{Coordinator}
+use Rattle.coord_record.specs.declared.Geometry.{Geometry}
 use Rattle.coord_record.specs.declared.Op.{Op}
 use Rattle.coord_record.specs.declared.Tally.{Tally}
 use Rattle.coord_tally.specs.Counting.{atTimes, passing, inRow, picked, targetFlags}
@@ -40,11 +42,12 @@ use Rattle.settings.specs.Ranges.{CodeRange, maxBricks}
 use Rattle.settings.proofs.Laws.RangeLaws.{code-passed}
 use Rattle.settings.specs.Ranges.{quorum, codeRefusal}
 use Rattle.settings.proofs.Laws.TimeLaws.{gave}
+use Rattle.settings.specs.Refusal.{firstRefusal}
 use Rattle.settings.specs.Times.{maxCount, noUpperEnd, timeOf, validTime, nextCount, drawOf, lastCoordinator}
 use Rattle.settings.specs.declared.Clock.{Clock}
 use Rattle.settings.specs.declared.Draw.{Draw}
 use Rattle.settings.specs.declared.Draw.the-variants.{Drawn, Refused}
-use Rattle.settings.proofs.Laws.RefusalLaws.{passed-first}
+use Rattle.settings.proofs.Laws.RefusalLaws.{passed-first, passed-rest}
 use Rattle.coord_laws.specs.Soundness.{Good, Full}
 use Rattle.message.specs.Kinds.{readKind, orderKind, orderReadKind, writeKind}
 
@@ -82,12 +85,14 @@ unfolding namedCount noOp
 idle-bricks n m = no-bricks-right n
 
 -- An idle coordinator is good.
-pub idle-good : (n m size : ℕ) (clock : Clock) → CodeRange n m size → clock .coordinator ≤ lastCoordinator → clock .last ≤ maxCount → Good n m (idleWith clock)
+pub idle-good : (n m size : ℕ) (geometry : Geometry) (clock : Clock) → CodeRange n m size → sameGeometry n m size geometry ≡ true
+    → clock .coordinator ≤ lastCoordinator → clock .last ≤ maxCount → Good n m size (idleWith geometry clock)
 unfolding idleWith noOp
-idle-good n m size clock r a b =
+idle-good n m size geometry clock r same a b =
     record {
       parts =
           record {
+            made-for = same;
             number-low = a;
             last-low = b;
             first-low = omega (arith, r .n-low);
@@ -101,13 +106,14 @@ idle-good n m size clock r a b =
     }
 
 -- the next round
-opened-good : (n m size phase max : ℕ) (c : Coordinator) (bricks : List ℕ) → CodeRange n m size → Full n m c → opRight (nextOp (c .op) phase max) ≡ true
-    → bricksRight n (namedCount m (nextOp (c .op) phase max)) bricks ≡ true → Good n m (opened c phase max bricks)
+opened-good : (n m size phase max : ℕ) (c : Coordinator) (bricks : List ℕ) → CodeRange n m size → Full n m size c → opRight (nextOp (c .op) phase max) ≡ true
+    → bricksRight n (namedCount m (nextOp (c .op) phase max)) bricks ≡ true → Good n m size (opened c phase max bricks)
 unfolding opened nextOp
 opened-good n m size phase max c bricks r f o b =
     record {
       parts =
           record {
+            made-for = f .made-for;
             number-low = f .number-low;
             last-low = f .last-low;
             first-low = f .first-low;
@@ -167,8 +173,8 @@ lowers-valid : (n m : ℕ) (op : Op) (t : Tally) (max : ℕ) → n ≤ maxBricks
 unfolding found-time
 lowers-valid n m op t max few e w = ap validTime (w .time-is) ∙ highest-valid n m (op .phase) (op .first) t few e (λ q. w .not-first (w .time-is ∙ q))
 
-recovered-good : (n m size : ℕ) (c : Coordinator) (time : ℕ) → CodeRange n m size → Full n m c → Recovers n m (c .op) (c .tally) time
-    → Good n m (opened c writeKind 0 (picked (c .tally .held) (c .tally .found) time n m))
+recovered-good : (n m size : ℕ) (c : Coordinator) (time : ℕ) → CodeRange n m size → Full n m size c → Recovers n m (c .op) (c .tally) time
+    → Good n m size (opened c writeKind 0 (picked (c .tally .held) (c .tally .found) time n m))
 unfolding holders
 recovered-good n m size c time r f s =
     let i = in-recovery (c .op) (f .op-right) (s .phase-is) in
@@ -177,26 +183,26 @@ recovered-good n m size c time r f s =
     ∙ picked-right (c .tally .held) (c .tally .found) time n m (omega (arith, r .m-high, r .n-high)) (s .enough))
 
 -- What a decision leaves is good.
-pub acted-good : (n m size : ℕ) (h : Buffered) → CodeRange n m size → Full n m (h .state)
-    → Good n m (acted n m size h (decided n m (h .state .op) (h .state .tally)) .next .state)
+pub acted-good : (n m size : ℕ) (h : Buffered) → CodeRange n m size → Full n m size (h .state)
+    → Good n m size (acted n m size h (decided n m (h .state .op) (h .state .tally)) .next .state)
 unfolding acted ending nextRound DecisionSays
 acted-good n m size h r f = go (decided n m (h .state .op) (h .state .tally)) (decided-says n m (h .state .op) (h .state .tally))
   where
-    idle : Good n m (idleWith (h .state .clock))
-    idle = idle-good n m size (h .state .clock) r (f .number-low) (f .last-low)
+    idle : Good n m size (idleWith (h .state .geometry) (h .state .clock))
+    idle = idle-good n m size (h .state .geometry) (h .state .clock) r (f .made-for) (f .number-low) (f .last-low)
 
-    look : (max : ℕ) → opRight (nextOp (h .state .op) orderReadKind max) ≡ true → Good n m (opened (h .state) orderReadKind max noBricks)
+    look : (max : ℕ) → opRight (nextOp (h .state .op) orderReadKind max) ≡ true → Good n m size (opened (h .state) orderReadKind max noBricks)
     look max o =
         opened-good n m size orderReadKind max (h .state) noBricks r f o (ap (λ (k : ℕ). bricksRight n k noBricks) (named-look m max (h .state .op)) ∙ no-bricks-right n)
 
-    looked : (max : ℕ) → ((h .state .op .phase ≡ readKind) × (max ≡ noUpperEnd)) ⊎ Lowers n m (h .state .op) (h .state .tally) max → Good n m (opened (h .state) orderReadKind max noBricks)
+    looked : (max : ℕ) → ((h .state .op .phase ≡ readKind) × (max ≡ noUpperEnd)) ⊎ Lowers n m (h .state .op) (h .state .tally) max → Good n m size (opened (h .state) orderReadKind max noBricks)
     looked max (inl w) =
         look max (ap (λ (x : ℕ). opRight (nextOp (h .state .op) orderReadKind x)) (w .1) ∙ first-recovery (h .state .op) (in-read (h .state .op) (f .op-right) (w .0)))
     looked max (inr w) =
         look max (next-recovery (h .state .op) max (in-recovery (h .state .op) (f .op-right) (w .phase-is)) (w .round-low)
         (lowers-valid n m (h .state .op) (h .state .tally) max (r .n-high) (f .tally-right) w))
 
-    go : (d : Decision) → DecisionSays n m (h .state .op) (h .state .tally) d → Good n m (acted n m size h d .next .state)
+    go : (d : Decision) → DecisionSays n m (h .state .op) (h .state .tally) d → Good n m size (acted n m size h d .next .state)
     go Abort s = idle
     go Give s = idle
     go (Look max) s = looked max s
@@ -208,11 +214,12 @@ acted-good n m size h r f = go (decided n m (h .state .op) (h .state .tally)) (d
     go Finish s = idle
 
 -- a reply counted
-pub counted-full : (n m size : ℕ) (c : Coordinator) (r : Reply) → CodeRange n m size → Good n m c → ReplyParts n r → Answering n m (c .op) (c .tally) r
-    → Full n m (withTally c (tallied (c .tally) r))
+pub counted-full : (n m size : ℕ) (c : Coordinator) (r : Reply) → CodeRange n m size → Good n m size c → ReplyParts n r → Answering n m (c .op) (c .tally) r
+    → Full n m size (withTally c (tallied (c .tally) r))
 unfolding withTally
 counted-full n m size c r g k p a =
     record {
+      made-for = k .parts .made-for;
       number-low = k .parts .number-low;
       last-low = k .parts .last-low;
       first-low = k .parts .first-low;
@@ -223,15 +230,16 @@ counted-full n m size c r g k p a =
       sizes = tallied-sized (c .tally) r (k .sizes);
     }
 
-pub waiting-good : (n m size : ℕ) (h : Buffered) → CodeRange n m size → Full n m (h .state) → Good n m (waitingOr n m size h .next .state)
+pub waiting-good : (n m size : ℕ) (h : Buffered) → CodeRange n m size → Full n m size (h .state) → Good n m size (waitingOr n m size h .next .state)
 unfolding waitingOr
 waiting-good n m size h r f = go (ltb (members (h .state .tally .counted) n) (quorum n m)) refl
   where
-    kept : members (h .state .tally .counted) n < quorum n m → Good n m (h .state)
+    kept : members (h .state .tally .counted) n < quorum n m → Good n m size (h .state)
     kept l =
         record {
           parts =
               record {
+                made-for = f .made-for;
                 number-low = f .number-low;
                 last-low = f .last-low;
                 first-low = f .first-low;
@@ -245,7 +253,7 @@ waiting-good n m size h r f = go (ltb (members (h .state .tally .counted) n) (qu
         }
 
     go : (b : Bool) → ltb (members (h .state .tally .counted) n) (quorum n m) ≡ b
-        → Good n m (cond b (record { next = h; sent = []; seen = nothingSeen }) (acted n m size h (decided n m (h .state .op) (h .state .tally))) .next .state)
+        → Good n m size (cond b (record { next = h; sent = []; seen = nothingSeen }) (acted n m size h (decided n m (h .state .op) (h .state .tally))) .next .state)
     go true e = kept (ltb-true (members (h .state .tally .counted) n) (quorum n m) e)
     go false e = acted-good n m size h r f
 
@@ -262,18 +270,18 @@ pub same-went : (v w : Went) → went v ≡ went w → v ≡ w
 same-went v w e = cc
 
 -- EVERY RECORD THAT A ROUTINE LEAVES IS SOUND. A reply:
-pub take-good : (n m size : ℕ) (h : Buffered) (r : Reply) (block : List ℕ) (coded : ℕ) (w : Went) → Good n m (h .state)
-    → takeStep n m size h r block coded ≡ went w → Good n m (w .next .state)
+pub take-good : (n m size : ℕ) (h : Buffered) (r : Reply) (block : List ℕ) (coded : ℕ) (w : Went) → Good n m size (h .state)
+    → takeStep n m size h r block coded ≡ went w → Good n m size (w .next .state)
 unfolding takeStep counting
 take-good n m size h r block coded w g e =
     let p = passes (takeRefusal n m size (h .state) r (length block) (length (h .blocks)) (length (h .stripe)) coded) _ w e in
     let t = take-passed n m size (h .state) r (length block) (length (h .blocks)) (length (h .stripe)) coded _ refl (p .0) in
-    subst (λ (v : Went). Good n m (v .next .state)) (same-went (waitingOr n m size (counting size h r block)) w (p .1))
+    subst (λ (v : Went). Good n m size (v .next .state)) (same-went (waitingOr n m size (counting size h r block)) w (p .1))
     (waiting-good n m size (counting size h r block) (t .range)
     (counted-full n m size (h .state) r (t .range) g (reply-parts n r (t .reply-right)) (answering n m (h .state .op) (h .state .tally) r (t .in-round))))
 
 -- A crash:
-pub crash-good : (n m size : ℕ) (h : Buffered) (w : Went) → Good n m (h .state) → crashStep n m size h ≡ went w → Good n m (w .next .state)
+pub crash-good : (n m size : ℕ) (h : Buffered) (w : Went) → Good n m size (h .state) → crashStep n m size h ≡ went w → Good n m size (w .next .state)
 unfolding crashStep crashed crashRefusal ending
 crash-good n m size h w g e = go (eqb (h .state .op .kind) idleKind) (p .1)
   where
@@ -281,13 +289,13 @@ crash-good n m size h w g e = go (eqb (h .state .op .kind) idleKind) (p .1)
     p = passes (crashRefusal n m size (h .state)) (went (crashed h)) w e
 
     range : CodeRange n m size
-    range = code-passed n m size (passed-first (codeRefusal n m size) (recordChecks n m (h .state) []) (p .0))
+    range = code-passed n m size (passed-first (codeRefusal n m size) (recordChecks n m size (h .state) []) (p .0))
 
-    go : (b : Bool) → went (cond b (record { next = h; sent = []; seen = nothingSeen }) (ending h (h .stripe) [] cutSeen noBricks)) ≡ went w → Good n m (w .next .state)
-    go true q = subst (λ (v : Went). Good n m (v .next .state)) (same-went (record { next = h; sent = []; seen = nothingSeen }) w q) g
+    go : (b : Bool) → went (cond b (record { next = h; sent = []; seen = nothingSeen }) (ending h (h .stripe) [] cutSeen noBricks)) ≡ went w → Good n m size (w .next .state)
+    go true q = subst (λ (v : Went). Good n m size (v .next .state)) (same-went (record { next = h; sent = []; seen = nothingSeen }) w q) g
     go false q =
-        subst (λ (v : Went). Good n m (v .next .state)) (same-went (ending h (h .stripe) [] cutSeen noBricks) w q)
-        (idle-good n m size (h .state .clock) range (g .parts .number-low) (g .parts .last-low))
+        subst (λ (v : Went). Good n m size (v .next .state)) (same-went (ending h (h .stripe) [] cutSeen noBricks) w q)
+        (idle-good n m size (h .state .geometry) (h .state .clock) range (g .parts .made-for) (g .parts .number-low) (g .parts .last-low))
 
 -- the time drawn is the record's own
 drawn-right : (kind t reading : ℕ) (clock next : Clock) → (kind ≡ idleKind → ⊥) → drawOf clock reading ≡ Drawn t next → timeRight kind t next ≡ true
@@ -302,15 +310,17 @@ drawn-low t reading clock next e =
     let g = gave clock reading t next e in
     (omega (arith, g .same, g .drew .coordinator-high), omega (arith, g .count, g .drew .last-high, g .drew .reading-high))
 
-begun-good : (n m size kind phase t first reading : ℕ) (clock next : Clock) → CodeRange n m size → (kind ≡ idleKind → ⊥) → drawOf clock reading ≡ Drawn t next → first < n
+begun-good : (n m size kind phase t first reading : ℕ) (geometry : Geometry) (clock next : Clock) → CodeRange n m size → sameGeometry n m size geometry ≡ true
+    → (kind ≡ idleKind → ⊥) → drawOf clock reading ≡ Drawn t next → first < n
     → opRight (firstOp kind phase t first) ≡ true → namedCount m (firstOp kind phase t first) ≡ 0
-    → Good n m (record { clock = next; op = firstOp kind phase t first; tally = nothingCounted; bricks = noBricks })
+    → Good n m size (record { geometry = geometry; clock = next; op = firstOp kind phase t first; tally = nothingCounted; bricks = noBricks })
 unfolding firstOp
-begun-good n m size kind phase t first reading clock next r k e f o z =
+begun-good n m size kind phase t first reading geometry clock next r same k e f o z =
     let l = drawn-low t reading clock next e in
     record {
       parts =
           record {
+            made-for = same;
             number-low = l .0;
             last-low = l .1;
             first-low = f;
@@ -337,30 +347,37 @@ unfolding drawnThen
 drawn-went (Drawn t next) f w e = (t, next, refl, same-went (f t next) w e)
 drawn-went (Refused k) f w e = absurd (let z : _≡_ {A = ℕ} 0 1 = cc in omega arith)
 
+-- a record whose checks pass is for the settings given
+record-same : (n m size : ℕ) (c : Coordinator) (more : List ℕ) → firstRefusal (recordChecks n m size c more) ≡ 0 → sameGeometry n m size (c .geometry) ≡ true
+record-same n m size c more e = sound-parts n m size c (record-passes n m size c more e .0 .is-sound) .made-for
+
 -- A write:
-pub write-good : (n m size : ℕ) (h : Buffered) (reading : ℕ) (bytes : List ℕ) (w : Went) → writeStep n m size h reading bytes ≡ went w → Good n m (w .next .state)
-unfolding writeStep writeRefusal starting
+pub write-good : (n m size : ℕ) (h : Buffered) (reading : ℕ) (bytes : List ℕ) (w : Went) → writeStep n m size h reading bytes ≡ went w → Good n m size (w .next .state)
+unfolding writeStep writeRefusal writeChecks starting
 write-good n m size h reading bytes w e =
     let f : ℕ → Clock → Went = λ time clock. starting h clock (firstOp writingKind orderKind time 0) bytes noBricks in
     let p = passes (writeRefusal n m size (h .state) reading (length bytes) (length (h .stripe))) (drawnThen (drawOf (h .state .clock) reading) f) w e in
     let range = code-passed n m size (passed-first (codeRefusal n m size) _ (p .0)) in
+    let same = record-same n m size (h .state) _ (passed-rest _ _ (passed-rest (codeRefusal n m size) _ (p .0))) in
     let d = drawn-went (drawOf (h .state .clock) reading) f w (p .1) in
-    subst (λ (v : Went). Good n m (v .next .state)) (d .3)
-    (begun-good n m size writingKind orderKind (d .0) 0 reading (h .state .clock) (d .1) range (λ q. absurd (omega arith)) (d .2) (omega (arith, range .n-low))
+    subst (λ (v : Went). Good n m size (v .next .state)) (d .3)
+    (begun-good n m size writingKind orderKind (d .0) 0 reading (h .state .geometry) (h .state .clock) (d .1) range same (λ q. absurd (omega arith)) (d .2) (omega (arith, range .n-low))
     (first-write m (d .0) .0) (first-write m (d .0) .1))
 
 -- A read:
-pub read-good : (n m size : ℕ) (h : Buffered) (reading first : ℕ) (w : Went) → readStep n m size h reading first ≡ went w → Good n m (w .next .state)
-unfolding readStep readRefusal starting
+pub read-good : (n m size : ℕ) (h : Buffered) (reading first : ℕ) (w : Went) → readStep n m size h reading first ≡ went w → Good n m size (w .next .state)
+unfolding readStep readRefusal readChecks starting
 read-good n m size h reading first w e =
     let f : ℕ → Clock → Went = λ time clock. starting h clock (firstOp readingKind readKind time first) (h .stripe) (targetFlags n m first) in
     let p = passes (readRefusal n m size (h .state) reading first) (drawnThen (drawOf (h .state .clock) reading) f) w e in
     let range = code-passed n m size (passed-first (codeRefusal n m size) _ (p .0)) in
     let low = first-low n m size (h .state) reading first _ refl (p .0) in
+    let same = record-same n m size (h .state) _ (passed-rest _ _ (passed-rest (codeRefusal n m size) _ (p .0))) in
     let d = drawn-went (drawOf (h .state .clock) reading) f w (p .1) in
-    subst (λ (v : Went). Good n m (v .next .state)) (d .3)
-    (begun-good n m size readingKind readKind (d .0) first reading (h .state .clock) (d .1) range (λ q. absurd (omega arith)) (d .2) low (first-read m (d .0) first .0) (first-read m (d .0) first .1))
+    subst (λ (v : Went). Good n m size (v .next .state)) (d .3)
+    (begun-good n m size readingKind readKind (d .0) first reading (h .state .geometry) (h .state .clock) (d .1) range same (λ q. absurd (omega arith)) (d .2) low
+    (first-read m (d .0) first .0) (first-read m (d .0) first .1))
 
 -- and a good record is sound.
-pub good-sound : (n m : ℕ) (c : Coordinator) → Good n m c → soundRecord n m c ≡ true
-good-sound n m c g = sound-from n m c (g .parts)
+pub good-sound : (n m size : ℕ) (c : Coordinator) → Good n m size c → soundRecord n m size c ≡ true
+good-sound n m size c g = sound-from n m size c (g .parts)

@@ -5,8 +5,9 @@ use Prim.Native.Nat.{ℕ, _+_, _*_, _≤_, _<_}
 use lib.Dec.{eqb, ltb}
 use borrow.Author.Tests.{lt-ltb, le-ltb, le-leb, lt-leb, eq-eqb, ne-eqb}
 use Rattle.coord_record.specs.CountedRules.{tallyRight, bricksRight}
-use Rattle.coord_record.specs.Sound.{opRight, timeRight, namedCount, filledRight, soundRecord}
+use Rattle.coord_record.specs.Sound.{opRight, timeRight, namedCount, filledRight, rulesKept, sameGeometry, soundRecord}
 use Rattle.coord_record.specs.declared.Coordinator.{Coordinator}
+use Rattle.coord_record.specs.declared.Geometry.{Geometry}
 use Rattle.message.specs.Flags.{members}
 use Rattle.settings.specs.Ranges.{quorum}
 use Rattle.settings.specs.Times.{maxCount, timeOf, coordinatorCount, lastCoordinator}
@@ -26,35 +27,57 @@ pub time-is : (kind time : ℕ) (clock : Clock) → (kind ≡ idleKind → ⊥) 
 unfolding timeRight timeOf
 time-is kind time clock k h = rw (ne-eqb kind idleKind k, le-leb 1 (clock .last) h)
 
+-- the settings that a record is for
+module _ (n m size : ℕ) (g : Geometry) where
+  pub other-n : (g .n ≡ n → ⊥) → false ≡ sameGeometry n m size g
+  unfolding sameGeometry
+  other-n a = rw (ne-eqb (g .n) n a)
+
+  pub other-m : g .n ≡ n → (g .m ≡ m → ⊥) → false ≡ sameGeometry n m size g
+  unfolding sameGeometry
+  other-m a b = rw (eq-eqb (g .n) n a, ne-eqb (g .m) m b)
+
+  pub same-size : g .n ≡ n → g .m ≡ m → eqb (g .size) size ≡ sameGeometry n m size g
+  unfolding sameGeometry
+  same-size a b = rw (eq-eqb (g .n) n a, eq-eqb (g .m) m b)
+
+pub sound-other : (n m size : ℕ) (c : Coordinator) (s : Bool) → s ≡ sameGeometry n m size (c .geometry) → s ≡ false → false ≡ soundRecord n m size c
+unfolding soundRecord
+sound-other n m size c s e z = rw (← e, z)
+
+pub sound-same : (n m size : ℕ) (c : Coordinator) (s k : Bool) → s ≡ sameGeometry n m size (c .geometry) → s ≡ true → k ≡ rulesKept n m c → k ≡ soundRecord n m size c
+unfolding soundRecord
+sound-same n m size c s k e z ek = rw (← e, z) ek
+
 -- What each test of a record gave, in the order of the tests.
 module _ (n m : ℕ) (c : Coordinator) where
-  pub unsound-coordinator : lastCoordinator < c .clock .coordinator → false ≡ soundRecord n m c
-  unfolding soundRecord
+  pub unsound-coordinator : lastCoordinator < c .clock .coordinator → false ≡ rulesKept n m c
+  unfolding rulesKept
   unsound-coordinator a = rw (lt-leb (c .clock .coordinator) lastCoordinator a)
 
-  pub unsound-last : c .clock .coordinator ≤ lastCoordinator → maxCount < c .clock .last → false ≡ soundRecord n m c
-  unfolding soundRecord
+  pub unsound-last : c .clock .coordinator ≤ lastCoordinator → maxCount < c .clock .last → false ≡ rulesKept n m c
+  unfolding rulesKept
   unsound-last a b = rw (le-leb (c .clock .coordinator) lastCoordinator a, lt-leb (c .clock .last) maxCount b)
 
-  pub unsound-first : c .clock .coordinator ≤ lastCoordinator → c .clock .last ≤ maxCount → n ≤ c .op .first → false ≡ soundRecord n m c
-  unfolding soundRecord
+  pub unsound-first : c .clock .coordinator ≤ lastCoordinator → c .clock .last ≤ maxCount → n ≤ c .op .first → false ≡ rulesKept n m c
+  unfolding rulesKept
   unsound-first a b d = rw (le-leb (c .clock .coordinator) lastCoordinator a, le-leb (c .clock .last) maxCount b, le-ltb (c .op .first) n d)
 
   pub sound-rest : c .clock .coordinator ≤ lastCoordinator → c .clock .last ≤ maxCount → c .op .first < n
-      → soundRecord n m c ≡ opRight (c .op) && timeRight (c .op .kind) (c .op .time) (c .clock) && filledRight n m c
-  unfolding soundRecord
+      → rulesKept n m c ≡ opRight (c .op) && timeRight (c .op .kind) (c .op .time) (c .clock) && filledRight n m c
+  unfolding rulesKept
   sound-rest a b d = rw (le-leb (c .clock .coordinator) lastCoordinator a, le-leb (c .clock .last) maxCount b, lt-ltb (c .op .first) n d)
 
   pub unsound-op : (o : Bool) → c .clock .coordinator ≤ lastCoordinator → c .clock .last ≤ maxCount → c .op .first < n → o ≡ opRight (c .op) → o ≡ false
-      → false ≡ soundRecord n m c
+      → false ≡ rulesKept n m c
   unsound-op o a b d eo zo = sym (sound-rest a b d ∙ rw (← eo, zo))
 
   pub unsound-time : (o t : Bool) → c .clock .coordinator ≤ lastCoordinator → c .clock .last ≤ maxCount → c .op .first < n → o ≡ opRight (c .op) → o ≡ true
-      → t ≡ timeRight (c .op .kind) (c .op .time) (c .clock) → t ≡ false → false ≡ soundRecord n m c
+      → t ≡ timeRight (c .op .kind) (c .op .time) (c .clock) → t ≡ false → false ≡ rulesKept n m c
   unsound-time o t a b d eo zo et zt = sym (sound-rest a b d ∙ rw (← eo, zo, ← et, zt))
 
   pub sound-filled : (o t f : Bool) → c .clock .coordinator ≤ lastCoordinator → c .clock .last ≤ maxCount → c .op .first < n → o ≡ opRight (c .op) → o ≡ true
-      → t ≡ timeRight (c .op .kind) (c .op .time) (c .clock) → t ≡ true → f ≡ filledRight n m c → f ≡ soundRecord n m c
+      → t ≡ timeRight (c .op .kind) (c .op .time) (c .clock) → t ≡ true → f ≡ filledRight n m c → f ≡ rulesKept n m c
   sound-filled o t f a b d eo zo et zt ef = ef ∙ sym (sound-rest a b d ∙ rw (← eo, zo, ← et, zt))
 
   pub filled-bricks : (r : Bool) (k : ℕ) → k ≡ namedCount m (c .op) → r ≡ bricksRight n k (c .bricks) → r ≡ false → false ≡ filledRight n m c

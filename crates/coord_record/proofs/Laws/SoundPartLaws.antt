@@ -6,7 +6,7 @@ use native.Mathlib.Omega.{arith}
 use lib.Dec.{eqb, leb, ltb}
 use borrow.Author.Tests.{lt-ltb, le-leb, leb-true, ltb-true, eqb-true}
 use Rattle.coord_record.specs.CountedRules.{tallyRight, bricksRight}
-use Rattle.coord_record.specs.Sound.{maxRight, storedRight, readRight, writeRight, unsetOp, opRight, timeRight, namedCount, filledRight, soundRecord}
+use Rattle.coord_record.specs.Sound.{maxRight, storedRight, readRight, writeRight, unsetOp, opRight, timeRight, namedCount, filledRight, sameGeometry, rulesKept, soundRecord}
 use Rattle.coord_record.specs.declared.Coordinator.{Coordinator}
 use Rattle.coord_record.specs.declared.Op.{Op}
 use Rattle.message.specs.Flags.{members}
@@ -17,10 +17,11 @@ use Rattle.coord_record.specs.SoundParts.{SoundParts}
 use Rattle.message.specs.Kinds.{lastRound, readKind, orderKind, orderReadKind, writeKind, firstRound, secondRound, thirdRound}
 use Rattle.coord_record.specs.Records.{idleKind, readingKind, writingKind}
 
-pub sound-from : (n m : ℕ) (c : Coordinator) → SoundParts n m c → soundRecord n m c ≡ true
-unfolding soundRecord filledRight
-sound-from n m c p =
+pub sound-from : (n m size : ℕ) (c : Coordinator) → SoundParts n m size c → soundRecord n m size c ≡ true
+unfolding soundRecord rulesKept filledRight
+sound-from n m size c p =
     rw (
+      p .made-for,
       le-leb (c .clock .coordinator) lastCoordinator (p .number-low),
       le-leb (c .clock .last) maxCount (p .last-low),
       lt-ltb (c .op .first) n (p .first-low),
@@ -31,23 +32,25 @@ sound-from n m c p =
       lt-ltb (members (c .tally .counted) n) (quorum n m) (p .few-counted),
     )
 
-pub sound-parts : (n m : ℕ) (c : Coordinator) → soundRecord n m c ≡ true → SoundParts n m c
-unfolding soundRecord filledRight
-sound-parts n m c e =
+pub sound-parts : (n m size : ℕ) (c : Coordinator) → soundRecord n m size c ≡ true → SoundParts n m size c
+unfolding soundRecord rulesKept filledRight
+sound-parts n m size c e =
     go (leb (c .clock .coordinator) lastCoordinator) (leb (c .clock .last) maxCount) (ltb (c .op .first) n) (opRight (c .op))
     (timeRight (c .op .kind) (c .op .time) (c .clock)) (bricksRight n (namedCount m (c .op)) (c .bricks))
-    (tallyRight n m (c .op .phase) (c .op .first) (c .tally)) (ltb (members (c .tally .counted) n) (quorum n m)) refl refl refl refl refl refl refl refl e
+    (tallyRight n m (c .op .phase) (c .op .first) (c .tally)) (ltb (members (c .tally .counted) n) (quorum n m)) refl refl refl refl refl refl refl refl
+    (and-right (sameGeometry n m size (c .geometry)) (rulesKept n m c) e)
   where
     go : (a b d o t r w s : Bool) → leb (c .clock .coordinator) lastCoordinator ≡ a → leb (c .clock .last) maxCount ≡ b → ltb (c .op .first) n ≡ d
         → opRight (c .op) ≡ o → timeRight (c .op .kind) (c .op .time) (c .clock) ≡ t → bricksRight n (namedCount m (c .op)) (c .bricks) ≡ r
         → tallyRight n m (c .op .phase) (c .op .first) (c .tally) ≡ w → ltb (members (c .tally .counted) n) (quorum n m) ≡ s
-        → a && b && d && o && t && (r && w && s) ≡ true → SoundParts n m c
+        → a && b && d && o && t && (r && w && s) ≡ true → SoundParts n m size c
     go a b d o t r w s ea eb ed eo et er ew es q =
         let filled = and-right (a && b && d && o && t) (r && w && s) q in
         let timed = and-left (a && b && d && o && t) (r && w && s) q in
         let kept = and-left (a && b && d && o) t timed in
         let low = and-left (a && b && d) o kept in
         record {
+          made-for = and-left (sameGeometry n m size (c .geometry)) (rulesKept n m c) e;
           number-low = leb-true (c .clock .coordinator) lastCoordinator (ea ∙ and-left a b (and-left (a && b) d low));
           last-low = leb-true (c .clock .last) maxCount (eb ∙ and-right a b (and-left (a && b) d low));
           first-low = ltb-true (c .op .first) n (ed ∙ and-right (a && b) d low);

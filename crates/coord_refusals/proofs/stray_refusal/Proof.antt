@@ -17,7 +17,7 @@ returns-2 : tie.Need-returns-2
 returns-2 c = search (needs, stray-wrong)
 
 reply-answers-requires : tie.Need-reply-answers-requires
-reply-answers-requires c κs = (first-within _ _ _ _ (c .before .before .before .before .before .record-refusal .ensures) (c .before .before .before .before .if1 .left), omega arith)
+reply-answers-requires c κs = (first-within _ _ _ _ _ (c .before .before .before .before .before .record-refusal .ensures) (c .before .before .before .before .if1 .left), omega arith)
 
 returns-3 : tie.Need-returns-3
 returns-3 c = search (needs, stray-answers)

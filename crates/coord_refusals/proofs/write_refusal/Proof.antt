@@ -1,4 +1,4 @@
-use Rattle.coord_refusals.proofs.Laws.RefusedLaws.{write-code, write-bytes, write-stripe, write-start, ranged, few-bricks, lengths-fit}
+use Rattle.coord_refusals.proofs.Laws.RefusedLaws.{write-code, write-bytes, write-stripe, write-record, ranged, few-bricks, lengths-fit}
 use native.Mathlib.Omega.{arith}
 use borrow.Author.Needs.{needs}
 use Rattle.coord_refusals.proofs.write_refusal.Statement.{statement}
@@ -22,11 +22,11 @@ mul-if3 c = search needs
 returns-3 : tie.Need-returns-3
 returns-3 c = search (needs, write-stripe)
 
-start-refusal-requires : tie.Need-start-refusal-requires
-start-refusal-requires c κs = few-bricks _ _ _ _ (c .before .before .before .code-refusal .ensures) (c .before .before .if1 .left)
+record-refusal-requires : tie.Need-record-refusal-requires
+record-refusal-requires c κs = few-bricks _ _ _ _ (c .before .before .before .code-refusal .ensures) (c .before .before .if1 .left)
 
 returns-4 : tie.Need-returns-4
-returns-4 c = search (needs, write-start)
+returns-4 c = search (needs, write-record)
 
 pub write-refusal-spec : {M : Type 1} → statement M
 write-refusal-spec =
@@ -38,5 +38,5 @@ write-refusal-spec =
     returns-2
     mul-if3
     returns-3
-    start-refusal-requires
+    record-refusal-requires
     returns-4)

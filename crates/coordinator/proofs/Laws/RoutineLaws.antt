@@ -1,13 +1,13 @@
 -- Laws of `specs/Routines`: what passing the checks says, and the ways through each routine.
 use mathlib.Core.Path.{_≡_, refl, sym, ap, _∙_}
-use mathlib.Core.Bool.{Bool, true, false, not, _&&_, _||_}
-use mathlib.Core.List.{List, [], _∷_}
+use mathlib.Core.Bool.{Bool, true, false, cond, not, _&&_, _||_}
+use mathlib.Core.List.{List, []}
 use Prim.Native.Nat.{ℕ, _+_, _*_, _≤_, _<_}
 use native.Mathlib.Nat.{mul-le-mul-right, suc-mul}
 use native.Mathlib.Omega.{arith}
 use lib.Dec.{eqb, leb, ltb}
 use lib.ListN.{length}
-use borrow.Author.Tests.{eq-eqb, ne-eqb, lt-leb, lt-ltb, le-ltb, eqb-true, ltb-true}
+use borrow.Author.Tests.{eq-eqb, ne-eqb, lt-leb, lt-ltb, le-ltb, eqb-true, leb-false, ltb-true}
 use Rattle.coord_apply.specs.Acts.{buffered}
 use Rattle.coord_apply.specs.Workers.{endAnswer, DecisionReady, Acted}
 use Rattle.coord_apply.specs.Acts.{withReplyBlock, withTally, counting, waitingOr, acted, ending, nextRound, roundMessage, firstOp, starting}
@@ -15,18 +15,18 @@ use Rattle.coord_apply.specs.Answers.{Buffered, Went, Step, refused, went, afte
 use Rattle.coord_apply.specs.Answers.{stripeAfter, codedAfter, returned, returnedBy}
 use Rattle.coord_apply.specs.declared.Answer.{Answer}
 use Rattle.coord_record.specs.Records.{idleKind, readingKind, writingKind, noBricks}
-use Rattle.coord_record.specs.Sound.{soundRecord}
 use Rattle.coord_record.specs.SoundParts.{SoundParts}
 use Rattle.coord_record.proofs.Laws.SoundPartLaws.{sound-parts, round-high}
 use Rattle.coord_record.specs.declared.Coordinator.{Coordinator}
+use Rattle.coord_record.specs.declared.Geometry.{Geometry}
 use Rattle.coord_record.specs.declared.Op.{Op}
 use Rattle.coord_record.specs.declared.Tally.{Tally}
 use Rattle.coord_tally.specs.Counting.{targetFlags}
 use Rattle.coord_decide.specs.Deciding.{answers, tallied, decided}
 use Rattle.coord_decide.specs.declared.Decision.{Decision}
 use Rattle.coord_decide.specs.declared.Decision.the-variants.{Abort, Give, Look, Store, Recover, Finish}
-use Rattle.coord_refusals.proofs.Laws.RefusedLaws.{Recorded, record-passed}
-use Rattle.coord_refusals.specs.Checks.{recordChecks, writeRefusal, readRefusal, lengthsRight, strayChecks, takeRefusal, crashRefusal}
+use Rattle.coord_refusals.proofs.Laws.RefusedLaws.{record-passes, write-stops, write-late, write-busy, write-passes, read-stops, read-late, read-busy, read-passes}
+use Rattle.coord_refusals.specs.Checks.{writeChecks, readChecks, startChecks, writeRefusal, readRefusal, lengthsRight, strayChecks, takeRefusal, crashRefusal}
 use Rattle.coordinator.specs.Routines.{drawnThen, writeStep, readStep, takeStep, crashed, crashStep, writeCall, readCall, takeCall, crashCall}
 use Rattle.message.specs.Flags.{members}
 use Rattle.message.specs.Kinds.{readKind, orderKind}
@@ -36,11 +36,12 @@ use Rattle.settings.specs.Ranges.{CodeRange}
 use Rattle.settings.proofs.Laws.RangeLaws.{code-passed}
 use Rattle.byte_lists.proofs.Laws.BoolLaws.{and-left, and-right}
 use Rattle.settings.specs.Ranges.{codeRefusal, quorum}
-use Rattle.settings.specs.Refusal.{firstRefusal, refuseUnless, badLength, badNumber, badRecord, strayReply}
-use Rattle.settings.specs.Times.{drawOf, numberOf, lastCoordinator}
+use Rattle.settings.specs.Refusal.{passed, firstRefusal, refuseUnless, badLength, badNumber, busy, strayReply}
+use Rattle.settings.specs.Times.{timeOf, nextCount, advanced, drawRefusal, drawOf, numberOf}
 use Rattle.settings.specs.declared.Clock.{Clock}
 use Rattle.settings.specs.declared.Draw.{Draw}
 use Rattle.settings.specs.declared.Draw.the-variants.{Drawn, Refused}
+use Rattle.settings.proofs.Laws.TimeLaws.{draw-number}
 use Rattle.settings.proofs.Laws.RefusalLaws.{passed-first, passed-rest, tested}
 use Rattle.coordinator.specs.Workers.{keptAnswer, startAnswer, keptBlocks, KeepsReply}
 
@@ -52,21 +53,6 @@ pub checked-pass : (k bad : ℕ) (s : Step) → bad ≡ k → bad ≡ 0 → afte
 unfolding afterChecks
 checked-pass k bad s e z = rw (← e, z)
 
--- a record that passes
-low-sound : (n m : ℕ) (c : Coordinator) → leb (c .clock .coordinator) lastCoordinator ≡ true → soundRecord n m c ≡ true → firstRefusal (recordChecks n m c []) ≡ 0
-unfolding recordChecks firstRefusal
-low-sound n m c a b = rw (a, b)
-
-pub record-passes : (n m : ℕ) (c : Coordinator) (more : List ℕ) → firstRefusal (recordChecks n m c more) ≡ 0 → Recorded n m c × (firstRefusal more ≡ 0)
-unfolding recordChecks
-record-passes n m c more e =
-    let a = passed-first (refuseUnless (leb (c .clock .coordinator) lastCoordinator) badNumber) (refuseUnless (soundRecord n m c) badRecord ∷ more) e in
-    let b = passed-rest (refuseUnless (leb (c .clock .coordinator) lastCoordinator) badNumber) (refuseUnless (soundRecord n m c) badRecord ∷ more) e in
-    let d = passed-first (refuseUnless (soundRecord n m c) badRecord) more b in (
-      record-passed n m c 0 (sym (low-sound n m c (tested (leb (c .clock .coordinator) lastCoordinator) _ a) (tested (soundRecord n m c) _ d))) refl,
-      passed-rest (refuseUnless (soundRecord n m c) badRecord) more b,
-    )
-
 -- what a reply that is not refused satisfies
 pub record Takes (n m size : ℕ) (c : Coordinator) (r : Reply) (block blocks stripe coded : ℕ) : Type 0 where
   pub range : CodeRange n m size
@@ -75,7 +61,7 @@ pub record Takes (n m size : ℕ) (c : Coordinator) (r : Reply) (block blocks st
   pub coded-length : coded ≡ n * size
   pub block-length : r .held ≡ true → block ≡ size
   pub brick-low : r .brick < n
-  pub parts : SoundParts n m c
+  pub parts : SoundParts n m size c
   pub reply-right : replyRefusal n r ≡ 0
   pub in-round : answers n m (c .op) (c .tally) r ≡ true
 
@@ -93,7 +79,7 @@ take-passed n m size c r block blocks stripe coded bad e z =
     let lengths = tested (lengthsRight n m size (r .held) block blocks stripe coded) _ (passed-first (refuseUnless (lengthsRight n m size (r .held) block blocks stripe coded) badLength) _ l) in
     let b = passed-rest (refuseUnless (lengthsRight n m size (r .held) block blocks stripe coded) badLength) _ l in
     let brick = tested (ltb (r .brick) n) _ (passed-first (refuseUnless (ltb (r .brick) n) badNumber) _ b) in
-    let s = record-passes n m c _ (passed-rest (refuseUnless (ltb (r .brick) n) badNumber) _ b) in
+    let s = record-passes n m size c _ (passed-rest (refuseUnless (ltb (r .brick) n) badNumber) _ b) in
     let three = and-left (eqb blocks (n * size) && eqb stripe (m * size) && eqb coded (n * size)) (not (r .held) || eqb block size) lengths in
     let two = and-left (eqb blocks (n * size) && eqb stripe (m * size)) (eqb coded (n * size)) three in
     record {
@@ -103,7 +89,7 @@ take-passed n m size c r block blocks stripe coded bad e z =
       coded-length = eqb-true coded (n * size) (and-right (eqb blocks (n * size) && eqb stripe (m * size)) (eqb coded (n * size)) three);
       block-length = held-length (r .held) block size (and-right (eqb blocks (n * size) && eqb stripe (m * size) && eqb coded (n * size)) (not (r .held) || eqb block size) lengths);
       brick-low = ltb-true (r .brick) n brick;
-      parts = sound-parts n m c (s .0 .is-sound);
+      parts = sound-parts n m size c (s .0 .is-sound);
       reply-right = passed-first (replyRefusal n r) _ (s .1);
       in-round = tested (answers n m (c .op) (c .tally) r) _ (passed-first (refuseUnless (answers n m (c .op) (c .tally) r) strayReply) [] (passed-rest (replyRefusal n r) _ (s .1)));
     }
@@ -222,10 +208,6 @@ crashed-runs : (h : Buffered) → (h .state .op .kind ≡ idleKind → ⊥) → 
 unfolding crashed
 crashed-runs h k = rw (ne-eqb (h .state .op .kind) idleKind k)
 
-drawn-refused : (d : Draw) (f : ℕ → Clock → Went) (number : ℕ) → d ≡ Refused number → drawnThen d f ≡ refused number
-unfolding drawnThen
-drawn-refused d f number e = rw e
-
 drawn-given : (d : Draw) (f : ℕ → Clock → Went) (time : ℕ) (next : Clock) → d ≡ Drawn time next → drawnThen d f ≡ went (f time next)
 unfolding drawnThen
 drawn-given d f time next e = rw e
@@ -253,85 +235,126 @@ module _ (n m size : ℕ) (c : Coordinator) (blocks stripe coded : List ℕ) (ba
       ap (λ (x : Answer). returned x blocks stripe coded) q
       ∙ ap (returnedBy (buffered c blocks stripe) coded) (sym (checked-pass _ bad _ e z ∙ ap went (crashed-runs (buffered c blocks stripe) k)))
 
+-- what a draw's answer says of its refusal
+drawn-number : (c : Clock) (reading time : ℕ) (next : Clock) → drawOf c reading ≡ Drawn time next → drawRefusal c reading ≡ 0
+unfolding numberOf
+drawn-number c reading time next e = sym (draw-number c reading) ∙ ap numberOf e
+
+refused-nonzero : (c : Clock) (reading number : ℕ) → drawOf c reading ≡ Refused number → number ≡ 0 → ⊥
+unfolding drawOf
+refused-nonzero c reading number e z = go (leb (drawRefusal c reading) passed) refl e
+  where
+    go : (b : Bool) → leb (drawRefusal c reading) passed ≡ b
+        → cond b (Drawn (timeOf (nextCount (c .last) reading) (c .coordinator)) (advanced c reading)) (Refused (drawRefusal c reading)) ≡ Refused number → ⊥
+    go true l q = let y : _≡_ {A = ℕ} 0 1 = cc in absurd (omega arith)
+    go false l q = let y : drawRefusal c reading ≡ number = cc in let h = leb-false (drawRefusal c reading) passed l in absurd (omega arith)
+
+-- a call whose checks refuse
+module _ (c : Coordinator) (blocks stripe coded : List ℕ) where
+  call-refused : (k : ℕ) (a : Answer) (s : Step) (number : ℕ) → number ≡ k → (number ≡ 0 → ⊥) → a ≡ answerOf c (refused number)
+      → returned a blocks stripe coded ≡ returnedBy (buffered c blocks stripe) coded (afterChecks k s)
+  unfolding buffered returnedBy blocksAfter stripeAfter codedAfter
+  call-refused k a s number e h q =
+      ap (λ (x : Answer). returned x blocks stripe coded) q
+      ∙ ap (returnedBy (buffered c blocks stripe) coded) (sym (checked-stop k number s e h))
+
 -- a write starts
 module _ (n m size : ℕ) (c : Coordinator) (reading : ℕ) (bytes blocks stripe coded : List ℕ) (bad : ℕ)
-    (e : bad ≡ writeRefusal n m size c reading (length bytes) (length stripe)) where
+    (e : bad ≡ firstRefusal (writeChecks n m size c (length bytes) (length stripe) [])) where
   -- what is begun at a time
   abbrev begun : ℕ → Clock → Went
   begun time clock = starting (buffered c blocks stripe) clock (firstOp writingKind orderKind time 0) bytes noBricks
 
   pub write-refused : (a : Answer) → (bad ≡ 0 → ⊥) → a ≡ answerOf c (refused bad)
       → returned a blocks stripe coded ≡ writeCall n m size c blocks stripe coded reading bytes
-  unfolding writeStep buffered returnedBy blocksAfter stripeAfter codedAfter
-  write-refused a h q =
-      ap (λ (x : Answer). returned x blocks stripe coded) q
-      ∙ ap (returnedBy (buffered c blocks stripe) coded) (sym (checked-stop _ bad _ e h))
+  unfolding writeStep buffered
+  write-refused a h q = call-refused c blocks stripe coded _ a _ bad (write-stops n m size c reading (length bytes) (length stripe) bad e h) h q
 
-  pub write-unread : (a : Answer) (number k : ℕ) → bad ≡ 0 → drawOf (c .clock) reading ≡ Refused number → k ≡ number → a ≡ answerOf c (refused k)
-      → returned a blocks stripe coded ≡ writeCall n m size c blocks stripe coded reading bytes
-  unfolding writeStep buffered returnedBy blocksAfter stripeAfter codedAfter
-  write-unread a number k z ed ek q =
-      ap (λ (x : Answer). returned x blocks stripe coded) (q ∙ ap (λ (j : ℕ). answerOf c (refused j)) ek)
-      ∙ ap (returnedBy (buffered c blocks stripe) coded)
-      (sym (checked-pass _ bad _ e z ∙ drawn-refused (drawOf (c .clock) reading) begun number ed))
+  pub write-unread : (a : Answer) (d : Draw) (number k : ℕ) → bad ≡ 0 → d ≡ drawOf (c .clock) reading → d ≡ Refused number → k ≡ numberOf d
+      → a ≡ answerOf c (refused k) → returned a blocks stripe coded ≡ writeCall n m size c blocks stripe coded reading bytes
+  unfolding writeStep buffered numberOf
+  write-unread a d number k z ed er ek q =
+      let h : k ≡ 0 → ⊥ = λ y. refused-nonzero (c .clock) reading number (sym ed ∙ er) (sym (ek ∙ ap numberOf er) ∙ y) in
+      call-refused c blocks stripe coded _ a _ k
+      (write-late n m size c reading (length bytes) (length stripe) bad e k z (ek ∙ ap numberOf ed ∙ draw-number (c .clock) reading) h) h q
 
-  pub write-begun : (a : Answer) (time : ℕ) (next : Clock) (stripe′ : List ℕ) → bad ≡ 0 → drawOf (c .clock) reading ≡ Drawn time next → stripe′ ≡ bytes
-      → a ≡ startAnswer next (firstOp writingKind orderKind time 0) noBricks
+  pub write-running : (a : Answer) (time : ℕ) (next : Clock) → bad ≡ 0 → drawOf (c .clock) reading ≡ Drawn time next → (c .op .kind ≡ idleKind → ⊥)
+      → a ≡ answerOf c (refused busy) → returned a blocks stripe coded ≡ writeCall n m size c blocks stripe coded reading bytes
+  unfolding writeStep buffered
+  write-running a time next z ed r q =
+      call-refused c blocks stripe coded _ a _ busy
+      (write-busy n m size c reading (length bytes) (length stripe) bad e z (drawn-number (c .clock) reading time next ed) r) (λ y. absurd (omega arith)) q
+
+  pub write-begun : (a : Answer) (time : ℕ) (next : Clock) (stripe′ : List ℕ) → bad ≡ 0 → drawOf (c .clock) reading ≡ Drawn time next
+      → c .op .kind ≡ idleKind → stripe′ ≡ bytes → a ≡ startAnswer (c .geometry) next (firstOp writingKind orderKind time 0) noBricks
       → returned a blocks stripe′ coded ≡ writeCall n m size c blocks stripe coded reading bytes
   unfolding writeStep buffered returnedBy blocksAfter stripeAfter codedAfter starting startAnswer answerOf sentCount sentMessage sentBlocks roundMessage firstOp
-  write-begun a time next stripe′ z ed es q =
+  write-begun a time next stripe′ z ed r es q =
       ap (λ (x : Answer). returned x blocks stripe′ coded) q
-      ∙ ap (λ (x : List ℕ). returned (startAnswer next (firstOp writingKind orderKind time 0) noBricks) blocks x coded) es
+      ∙ ap (λ (x : List ℕ). returned (startAnswer (c .geometry) next (firstOp writingKind orderKind time 0) noBricks) blocks x coded) es
       ∙ ap (returnedBy (buffered c blocks stripe) coded)
-      (sym (checked-pass _ bad _ e z ∙ drawn-given (drawOf (c .clock) reading) begun time next ed))
+      (sym (checked-pass _ 0 _ (write-passes n m size c reading (length bytes) (length stripe) bad e z (drawn-number (c .clock) reading time next ed) r) refl
+      ∙ drawn-given (drawOf (c .clock) reading) begun time next ed))
 
 -- a read starts
-module _ (n m size : ℕ) (c : Coordinator) (reading first : ℕ) (blocks stripe coded : List ℕ) (bad : ℕ) (e : bad ≡ readRefusal n m size c reading first) where
+module _ (n m size : ℕ) (c : Coordinator) (reading first : ℕ) (blocks stripe coded : List ℕ) (bad : ℕ)
+    (e : bad ≡ firstRefusal (readChecks n m size c first [])) where
   abbrev begun-read : ℕ → Clock → Went
   begun-read time clock = starting (buffered c blocks stripe) clock (firstOp readingKind readKind time first) stripe (targetFlags n m first)
 
   pub read-refused : (a : Answer) → (bad ≡ 0 → ⊥) → a ≡ answerOf c (refused bad)
       → returned a blocks stripe coded ≡ readCall n m size c blocks stripe coded reading first
-  unfolding readStep buffered returnedBy blocksAfter stripeAfter codedAfter
-  read-refused a h q =
-      ap (λ (x : Answer). returned x blocks stripe coded) q
-      ∙ ap (returnedBy (buffered c blocks stripe) coded) (sym (checked-stop _ bad _ e h))
+  unfolding readStep buffered
+  read-refused a h q = call-refused c blocks stripe coded _ a _ bad (read-stops n m size c reading first bad e h) h q
 
-  pub read-unread : (a : Answer) (number k : ℕ) → bad ≡ 0 → drawOf (c .clock) reading ≡ Refused number → k ≡ number → a ≡ answerOf c (refused k)
-      → returned a blocks stripe coded ≡ readCall n m size c blocks stripe coded reading first
-  unfolding readStep buffered returnedBy blocksAfter stripeAfter codedAfter
-  read-unread a number k z ed ek q =
-      ap (λ (x : Answer). returned x blocks stripe coded) (q ∙ ap (λ (j : ℕ). answerOf c (refused j)) ek)
-      ∙ ap (returnedBy (buffered c blocks stripe) coded)
-      (sym (checked-pass _ bad _ e z ∙ drawn-refused (drawOf (c .clock) reading) begun-read number ed))
+  pub read-unread : (a : Answer) (d : Draw) (number k : ℕ) → bad ≡ 0 → d ≡ drawOf (c .clock) reading → d ≡ Refused number → k ≡ numberOf d
+      → a ≡ answerOf c (refused k) → returned a blocks stripe coded ≡ readCall n m size c blocks stripe coded reading first
+  unfolding readStep buffered numberOf
+  read-unread a d number k z ed er ek q =
+      let h : k ≡ 0 → ⊥ = λ y. refused-nonzero (c .clock) reading number (sym ed ∙ er) (sym (ek ∙ ap numberOf er) ∙ y) in
+      call-refused c blocks stripe coded _ a _ k
+      (read-late n m size c reading first bad e k z (ek ∙ ap numberOf ed ∙ draw-number (c .clock) reading) h) h q
 
-  pub read-begun : (a : Answer) (time : ℕ) (next : Clock) (targets : List ℕ) → bad ≡ 0 → drawOf (c .clock) reading ≡ Drawn time next
-      → targets ≡ targetFlags n m first → a ≡ startAnswer next (firstOp readingKind readKind time first) targets
+  pub read-running : (a : Answer) (time : ℕ) (next : Clock) → bad ≡ 0 → drawOf (c .clock) reading ≡ Drawn time next → (c .op .kind ≡ idleKind → ⊥)
+      → a ≡ answerOf c (refused busy) → returned a blocks stripe coded ≡ readCall n m size c blocks stripe coded reading first
+  unfolding readStep buffered
+  read-running a time next z ed r q =
+      call-refused c blocks stripe coded _ a _ busy (read-busy n m size c reading first bad e z (drawn-number (c .clock) reading time next ed) r) (λ y. absurd (omega arith)) q
+
+  pub read-begun : (a : Answer) (time : ℕ) (next : Clock) (targets : List ℕ) → bad ≡ 0 → drawOf (c .clock) reading ≡ Drawn time next → c .op .kind ≡ idleKind
+      → targets ≡ targetFlags n m first → a ≡ startAnswer (c .geometry) next (firstOp readingKind readKind time first) targets
       → returned a blocks stripe coded ≡ readCall n m size c blocks stripe coded reading first
   unfolding readStep buffered returnedBy blocksAfter stripeAfter codedAfter starting startAnswer answerOf sentCount sentMessage sentBlocks roundMessage firstOp
-  read-begun a time next targets z ed et q =
-      ap (λ (x : Answer). returned x blocks stripe coded) (q ∙ ap (startAnswer next (firstOp readingKind readKind time first)) et)
+  read-begun a time next targets z ed r et q =
+      ap (λ (x : Answer). returned x blocks stripe coded) (q ∙ ap (startAnswer (c .geometry) next (firstOp readingKind readKind time first)) et)
       ∙ ap (returnedBy (buffered c blocks stripe) coded)
-      (sym (checked-pass _ bad _ e z ∙ drawn-given (drawOf (c .clock) reading) begun-read time next ed))
+      (sym (checked-pass _ 0 _ (read-passes n m size c reading first bad e z (drawn-number (c .clock) reading time next ed) r) refl
+      ∙ drawn-given (drawOf (c .clock) reading) begun-read time next ed))
 
--- what a start that is not refused satisfies
-pub write-lengths : (n m size : ℕ) (c : Coordinator) (reading bytes stripe bad : ℕ) → bad ≡ writeRefusal n m size c reading bytes stripe → bad ≡ 0 → bytes ≡ stripe
-unfolding writeRefusal
-write-lengths n m size c reading bytes stripe bad e z =
+-- what the bytes and the first brick of a start that passes satisfy, whatever is asked after them
+pub lengths-same : (n m size : ℕ) (c : Coordinator) (bytes stripe bad : ℕ) (more : List ℕ) → bad ≡ firstRefusal (writeChecks n m size c bytes stripe more) → bad ≡ 0 → bytes ≡ stripe
+unfolding writeChecks
+lengths-same n m size c bytes stripe bad more e z =
     let l = passed-rest (codeRefusal n m size) _ (sym e ∙ z) in
     let t = tested (eqb bytes (m * size) && eqb stripe (m * size)) _ (passed-first (refuseUnless (eqb bytes (m * size) && eqb stripe (m * size)) badLength) _ l) in
     eqb-true bytes (m * size) (and-left (eqb bytes (m * size)) (eqb stripe (m * size)) t)
     ∙ sym (eqb-true stripe (m * size) (and-right (eqb bytes (m * size)) (eqb stripe (m * size)) t))
 
-pub first-low : (n m size : ℕ) (c : Coordinator) (reading first bad : ℕ) → bad ≡ readRefusal n m size c reading first → bad ≡ 0 → first < n
-unfolding readRefusal
-first-low n m size c reading first bad e z =
+pub first-below : (n m size : ℕ) (c : Coordinator) (first bad : ℕ) (more : List ℕ) → bad ≡ firstRefusal (readChecks n m size c first more) → bad ≡ 0 → first < n
+unfolding readChecks
+first-below n m size c first bad more e z =
     let l = passed-rest (codeRefusal n m size) _ (sym e ∙ z) in
     ltb-true first n (tested (ltb first n) _ (passed-first (refuseUnless (ltb first n) badNumber) _ l))
 
-pub start-by : (clock : Clock) (op op′ : Op) (targets : List ℕ) (a : Answer) → a ≡ startAnswer clock op targets → op ≡ op′ → a ≡ startAnswer clock op′ targets
-start-by clock op op′ targets a e eo = e ∙ ap (λ (o : Op). startAnswer clock o targets) eo
+-- what a start that is not refused satisfies
+pub write-lengths : (n m size : ℕ) (c : Coordinator) (reading bytes stripe bad : ℕ) → bad ≡ writeRefusal n m size c reading bytes stripe → bad ≡ 0 → bytes ≡ stripe
+unfolding writeRefusal
+write-lengths n m size c reading bytes stripe bad e z = lengths-same n m size c bytes stripe bad (startChecks c reading) e z
 
-pub refused-number : (d : Draw) (number k : ℕ) → d ≡ Refused number → k ≡ numberOf d → k ≡ number
-unfolding numberOf
-refused-number d number k e ek = ek ∙ ap numberOf e
+pub first-low : (n m size : ℕ) (c : Coordinator) (reading first bad : ℕ) → bad ≡ readRefusal n m size c reading first → bad ≡ 0 → first < n
+unfolding readRefusal
+first-low n m size c reading first bad e z = first-below n m size c first bad (startChecks c reading) e z
+
+pub start-by : (geometry : Geometry) (clock : Clock) (op op′ : Op) (targets : List ℕ) (a : Answer) → a ≡ startAnswer geometry clock op targets → op ≡ op′
+    → a ≡ startAnswer geometry clock op′ targets
+start-by geometry clock op op′ targets a e eo = e ∙ ap (λ (o : Op). startAnswer geometry clock o targets) eo

@@ -1,52 +1,19 @@
-use Rattle.coord_record.proofs.Laws.RecordSoundLaws.{unsound-coordinator, unsound-last, unsound-first, unsound-op, unsound-time, sound-filled}
-use Rattle.settings.specs.Times.{maxCount}
+use Rattle.coord_record.proofs.Laws.RecordSoundLaws.{sound-other, sound-same}
 use borrow.Author.Needs.{needs}
 use Rattle.coord_record.proofs.Coordinator.sound.Statement.{statement}
 use Rattle.coord_record.proofs.Coordinator.sound.Tie as tie
 
+same-requires : tie.Need-same-requires
+same-requires c κs = search needs
+
+rules-kept-requires : tie.Need-rules-kept-requires
+rules-kept-requires c κs = search needs
+
 returns : tie.Need-returns
-returns c = search (needs, unsound-coordinator)
+returns c = search (needs, sound-same)
 
 returns-2 : tie.Need-returns-2
-unfolding maxCount
-returns-2 c = search (needs, unsound-last)
-
-returns-3 : tie.Need-returns-3
-unfolding maxCount
-returns-3 c = search (needs, unsound-first)
-
-op-right-requires : tie.Need-op-right-requires
-op-right-requires c κs = search needs
-
-time-right-requires : tie.Need-time-right-requires
-unfolding maxCount
-time-right-requires c κs = search needs
-
-filled-right-requires : tie.Need-filled-right-requires
-filled-right-requires c κs = search needs
-
-returns-4 : tie.Need-returns-4
-unfolding maxCount
-returns-4 c = search (needs, sound-filled)
-
-returns-5 : tie.Need-returns-5
-unfolding maxCount
-returns-5 c = search (needs, unsound-time)
-
-returns-6 : tie.Need-returns-6
-unfolding maxCount
-returns-6 c = search (needs, unsound-op)
+returns-2 c = search (needs, sound-other)
 
 pub sound-spec : {M : Type 1} → statement M
-sound-spec =
-    tie.close
-    (tie.spec
-    returns
-    returns-2
-    returns-3
-    op-right-requires
-    time-right-requires
-    filled-right-requires
-    returns-4
-    returns-5
-    returns-6)
+sound-spec = tie.close (tie.spec same-requires rules-kept-requires returns returns-2)
