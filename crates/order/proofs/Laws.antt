@@ -3,6 +3,7 @@
 -- The theorem; what one order means for those who read and write.
 pub mod OneOrderTheorem
 pub mod OrderUseLaws
+pub mod LastSetLaws
 -- Definitions for proofs: tests on histories that compute, and the order of a history.
 pub mod Tests
 pub mod Order

@@ -1,11 +1,20 @@
 -- The laws of `register`, for its own proofs and those of the crates above. No contract cites them.
 
--- Demand 3; what it means for a dealer; nothing that is kept is ever refused; the coordinators are 16; the runs are the code's.
+-- Demand 3; what it means for a dealer; nothing that is kept is ever refused; the coordinators are 16; refused events change nothing.
 pub mod TheoremProof
 pub mod CorollaryLaws
 pub mod NeverRefusedLaws
 pub mod NumberedLaws
+pub mod RefusedEventLaws
+-- What a driver makes of the routines' answers; what may be lent, and what a crash leaves.
 pub mod DriverLaws
+pub mod IdleRecordLaws
+pub mod LendingLaws
+-- Whoever calls the routines has made a run: the events so far, what is sent beside messages, the start, the calls.
+pub mod AgreeLaws
+pub mod BesideLaws
+pub mod CallStartLaws
+pub mod CallLoopLaws
 -- All definitions opened, for runs that are computed.
 pub mod Opened
 -- The invariant (definitions), and what goes on to hold under more facts and more items.

@@ -1,18 +1,22 @@
--- Why the runs are the code's: whoever calls the routines, and does with their answers what a driver does, moves through `run`.
--- A brick's routine gives `outcome`, a coordinator's `returnedBy` of its step, that is `answerOf`, `blocksAfter`, `stripeAfter` and
--- `codedAfter`: so their contracts say. From these parts alone the world's next state is made.
+-- What a driver does with what the routines give: all that stands between calls of the routines and a run.
 use mathlib.Core.Path.{_≡_}
-use mathlib.Core.Bool.{false}
+use mathlib.Core.Bool.{Bool, false, cond}
 use mathlib.Core.List.{List, [], _∷_, _++_}
 use Prim.Native.Nat.{ℕ}
 use lib.Dec.{eqb}
-use lib.ListN.{take}
+use lib.ListN.{take, replicate}
 use Rattle.message.specs.Kinds.{writeKind}
 use Rattle.message.specs.declared.Message.{Message}
 use Rattle.settings.specs.declared.Settings.{Settings}
-use Rattle.coord_apply.specs.Answers.{Broadcast, Step, refused, went, answerOf, blocksAfter, stripeAfter, codedAfter}
+use Rattle.brick.specs.declared.Given.{Given}
+use Rattle.brick.specs.declared.Given.the-variants.{Answered, Silent, Refused}
+use Rattle.coord_record.specs.Records.{idleKind, geometryOf, idleWith}
+use Rattle.coord_record.specs.declared.Coordinator.{Coordinator}
+use Rattle.coord_record.specs.declared.Op.{Op}
+use Rattle.coord_apply.specs.Answers.{Buffered, Broadcast, Step, refused, went}
 use Rattle.coord_apply.specs.declared.Answer.{Answer}
-use Rattle.register.specs.Runs.{World, Moved, putAt, seenOf, broadcasts}
+use Rattle.order.specs.Claim.{cut, Seen}
+use Rattle.register.specs.Runs.{plain, World, Moved, putAt, seenOf, broadcasts}
 
 -- so many of an answer's two messages, in their order, each with the blocks of the output buffer
 unfoldable pub listed : ℕ → Message → Message → List ℕ → List Broadcast
@@ -32,6 +36,43 @@ driven s w c a blocks stripe coded =
       seen = seenOf s (a .seen) (record { state = a .next; blocks = blocks; stripe = stripe });
     }
 
+-- what a brick gives holds a block
+unfoldable pub holds : Given → Bool
+holds (Answered r) = r .held
+holds Silent = false
+holds (Refused number) = false
+
+-- The block that a driver sends with a brick's reply: the one it holds. Where it holds none nobody looks at what is sent; here, zeros.
+unfoldable pub heldBlock : Settings → Given → List ℕ → List ℕ
+heldBlock s g out = cond (holds g) out (replicate (s .size) 0)
+
+-- the cut of an operation, if one runs
+unfoldable pub cutOf : (s : Settings) → Op → List (Seen (plain s))
+cutOf s op = cond (eqb (op .kind) idleKind) [] (Seen.ended (op .time) cut ∷ [])
+
+-- Coordinator c after power failed: of its record the last count alone is left. It goes on from `idle_with` of the settings, its number and
+-- this count, with whatever lies in the buffers.
+unfoldable pub backWith : Settings → ℕ → Coordinator → (blocks stripe : List ℕ) → Buffered
+backWith s c old blocks stripe =
+    record {
+      state = idleWith (geometryOf s) (record { coordinator = c; last = old .clock .last });
+      blocks = blocks;
+      stripe = stripe;
+    }
+
+-- power fails at coordinator c
+unfoldable pub failed : (s : Settings) → World → ℕ → (blocks stripe : List ℕ) → Moved s
+failed s w c blocks stripe =
+    record {
+      world = record {
+        images = w .images;
+        up = w .up;
+        coordinators = putAt (w .coordinators) c (backWith s c (w .coordinators c .state) blocks stripe);
+        sent = w .sent;
+      };
+      seen = cutOf s (w .coordinators c .state .op);
+    }
+
 -- two broadcasts at most, of which only the last may be a Write round: the output buffer has room for one
 pub data AtMostTwo : List Broadcast → Type 0 where
   none : AtMostTwo []
@@ -42,11 +83,3 @@ pub data AtMostTwo : List Broadcast → Type 0 where
 abbrev pub Short : Step → Type 0
 Short (refused number) = Unit {0}
 Short (went w) = AtMostTwo (w .sent)
-
--- The events of a run, as calls: each is what the driver makes of the routine's answer. A reply, a start:
-module _ (s : Settings) (w : World) (old : List ℕ) where
-  -- what the driver makes of a routine whose contract gives the parts of this step
-  abbrev pub called : ℕ → Step → Moved s
-  called c p =
-      driven s w c (answerOf (w .coordinators c .state) p) (blocksAfter (w .coordinators c) p) (stripeAfter (w .coordinators c) p)
-      (codedAfter old p)

@@ -3,9 +3,13 @@
 -- The set and its runs; demand 3.
 pub mod Runs
 pub mod Theorem
--- What it means for a dealer; that nothing which is kept is ever refused; that there are 16 coordinators.
+-- What it means for a dealer; that nothing which is kept is ever refused; that there are 16 coordinators; that refused events change
+-- nothing.
 pub mod Corollaries
 pub mod NeverRefused
 pub mod Numbered
--- The runs are the code's.
+pub mod RefusedEvents
+-- What a driver does with what the routines give; what may be lent; whoever calls the routines has made a run.
 pub mod Driver
+pub mod Lending
+pub mod CallLoop

@@ -24,7 +24,7 @@ ImagesOpen =
 
 -- a coordinator that the next routine opens
 pub record Fine (s : Settings) (k : Buffered) : Type 0 where
-  pub sound-is : soundRecord (s .n) (s .m) (k .state) ≡ true
+  pub sound-is : soundRecord (s .n) (s .m) (s .size) (k .state) ≡ true
   pub blocks-long : length (k .blocks) ≡ s .n * s .size
   pub stripe-long : length (k .stripe) ≡ s .m * s .size
 

@@ -16,7 +16,7 @@ use Rattle.image.specs.Image.{imageOf}
 use Rattle.brick.specs.Receive.{Outcome, outcome}
 use Rattle.brick.specs.declared.Given.{Given}
 use Rattle.brick.specs.declared.Given.the-variants.{Answered, Silent, Refused}
-use Rattle.coord_record.specs.Records.{readingKind, idleWith}
+use Rattle.coord_record.specs.Records.{readingKind, geometryOf, idleWith}
 use Rattle.erasure.specs.Code.{blockOf}
 use Rattle.coord_apply.specs.Answers.{Buffered, Broadcast, Step, refused, went, beganSeen, okSeen, readSeen, abortedSeen, cutSeen}
 use Rattle.coord_apply.specs.declared.Notice.{Notice}
@@ -48,7 +48,7 @@ pub record World : Type 0 where
 unfoldable pub idle : Settings → ℕ → Buffered
 idle s c =
     record {
-      state = idleWith (record { coordinator = c; last = 0 });
+      state = idleWith (geometryOf s) (record { coordinator = c; last = 0 });
       blocks = replicate (s .n * s .size) 0;
       stripe = replicate (s .m * s .size) 0;
     }
@@ -80,6 +80,10 @@ pub record Moved (s : Settings) : Type 0 where
 -- nothing is changed and nothing is seen
 unfoldable pub unmoved : (s : Settings) → World → Moved s
 unmoved s w = record { world = w; seen = [] }
+
+-- what came before, and what one event leaves and shows
+abbrev pub joined : (s : Settings) → Moved s → Moved s → Moved s
+joined s r m = record { world = m .world; seen = r .seen ++ m .seen }
 
 -- a function with another value at one place
 unfoldable pub putAt : {A : Type 0} → (ℕ → A) → ℕ → A → ℕ → A
@@ -196,7 +200,7 @@ step s w (comesUp b) = standing s w b true
 
 -- one event after what came before
 unfoldable pub nextMoved : (s : Settings) → Moved s → Event → Moved s
-nextMoved s r e = record { world = step s (r .world) e .world; seen = r .seen ++ step s (r .world) e .seen }
+nextMoved s r e = joined s r (step s (r .world) e)
 
 unfoldable pub runFrom : (s : Settings) → Moved s → List Event → Moved s
 runFrom s r [] = r

@@ -23,7 +23,7 @@ one-order {S} {h = h} v =
       once = once-from v (entries S h) (entries-sorted v) (λ x i. entries-placed v i);
       all = λ t g i. let p = finished-placed v (seen-ended h i) in (p .0 .op, p .1, in-ops (in-entries v (p .2)));
       right = right-from v (entries S h) (at-start v);
-      ahead = λ x y r k i j q. real-time-order v x y k r (ops-in (entries S h) i) (ops-in (entries S h) j) (seen-began-after h q);
+      ahead = λ x y r k i j q. real-time-order v x y k _ (ops-in (entries S h) i) (ops-in (entries S h) j) (seen-began-after h q);
     }
 
 pub valid-history-has-one-order : ValidHistoryHasOneOrder

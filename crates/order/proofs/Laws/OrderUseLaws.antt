@@ -55,12 +55,12 @@ module _ {P : Plain} where
   other-time (w ∷ os) o (later p) q = other-time os (o .1) p q
 
   -- a stripe that both operations saw
-  abbrev Same : (x y : Operation P) (a b : P .Given) → Type 0
+  abbrev pub Same : (x y : Operation P) (a b : P .Given) → Type 0
   Same x y a b = (v : P .Stripe) × (a ≡ P .gives (x .kind) v) × (b ≡ P .gives (y .kind) v)
 
 module _ {P : Plain} {l : List (Seen P)} where
   -- what an operation that is this one gave
-  gave : (o x : Operation P) (s : P .Stripe) (a : P .Given)
+  pub gave : (o x : Operation P) (s : P .Stripe) (a : P .Given)
       → ((g : P .Given) → Seen.ended (o .time) (finished g) ∈ l → g ≡ P .gives (o .kind) s)
       → x ≡ o → Seen.ended (x .time) (finished a) ∈ l → a ≡ P .gives (x .kind) s
   gave o x s a f q m =
@@ -137,7 +137,7 @@ module _ {P : Plain} {l : List (Seen P)} where
       go (inr p) ih = ih p
 
 module _ {P : Plain} {l : List (Seen P)} (o : OneOrder P l) where
-  ahead-of : (x y : Operation P) → x ∈ o .order → y ∈ o .order → EndedBefore l (x .time) (y .time) → Before x y (o .order)
+  pub ahead-of : (x y : Operation P) → x ∈ o .order → y ∈ o .order → EndedBefore l (x .time) (y .time) → Before x y (o .order)
   ahead-of x y m n e = o .ahead x y (e .0) (e .1) m n (e .2)
 
   -- a time began with one kind
@@ -279,7 +279,7 @@ write-sets S z v s = refl
 
 module _ {S : Type 0} {z : S} {l : List (Seen (stripe S z))} (o : OneOrder (stripe S z) l) where
   -- what gave bytes is a read
-  read-began : (t : ℕ) (a : S) → Seen.ended t (finished (bytes a)) ∈ l → Seen.began t read ∈ l
+  pub read-began : (t : ℕ) (a : S) → Seen.ended t (finished (bytes a)) ∈ l → Seen.began t read ∈ l
   unfolding given
   read-began t a m = go (w .0) (w .1) (w .2) (w .3)
     where

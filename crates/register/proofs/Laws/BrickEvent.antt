@@ -26,12 +26,12 @@ use Rattle.brick_log.specs.BrickRules.{placeFor, replyTo, brickAfter, blockAfte
 use Rattle.brick.specs.declared.Given.{Given}
 use Rattle.brick.specs.declared.Given.the-variants.{Answered, Silent, Refused}
 use Rattle.order.specs.Claim.{_∈_}
-use Rattle.register.specs.Runs.{Item, message, Moved, unmoved, putAt, repliedWith, received, arriving}
+use Rattle.register.specs.Runs.{Item, message, Moved, unmoved, joined, putAt, repliedWith, received, arriving}
 use Rattle.register.proofs.Laws.Invariant.{Hist, ItemInv, ImageInv, Inv}
 use Rattle.register.proofs.Laws.UpLaws.{within-more, item-up, coordinator-sent}
 use Rattle.register.proofs.Laws.BrickLogLaws.{Grows, grows-not}
 use Rattle.register.proofs.Laws.ReceiveLaws.{sensible, Received, any-received}
-use Rattle.register.proofs.Laws.Invariant.{joined, Goes}
+use Rattle.register.proofs.Laws.Invariant.{Goes}
 
 -- an event that changes nothing
 pub goes-unmoved : (s : Settings) (g : SettingsRange s) (h : Hist s) (r : Moved s) → Inv s g h r → Goes s g r (unmoved s (r .world))
@@ -61,7 +61,7 @@ pub first-passed : (k : ℕ) (l : List ℕ) → firstRefusal (k ∷ l) ≡ passe
 first-passed k l e = (passed-first k l e, passed-rest k l e)
 
 -- a reply is no message
-no-message : (given : Given) (out : List ℕ) (b : ℕ) (msg : Message) (block : List ℕ) → message b msg block ∈ repliedWith given out → ⊥
+pub no-message : (given : Given) (out : List ℕ) (b : ℕ) (msg : Message) (block : List ℕ) → message b msg block ∈ repliedWith given out → ⊥
 unfolding repliedWith
 no-message (Answered r) out b msg block m = let e = List·Memᴰ·eq-of-singleton m in let z : _≡_ {A = ℕ} 0 1 = cc in omega arith
 no-message Silent out b msg block m = List·Memᴰ·not-nil m

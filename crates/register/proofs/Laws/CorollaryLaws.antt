@@ -13,8 +13,19 @@ use Rattle.coord_apply.specs.declared.Notice.{Notice}
 use Rattle.register.specs.Runs.{Item, message, reply, World, Event, startWrite, startRead, arrives, crashes, goesDown, comesUp, Moved}
 use Rattle.register.specs.Runs.{unmoved, seenOf, coordinated, received, arriving, arrivingAt, standing, step}
 use Rattle.order.proofs.Laws.OrderUseLaws.{reads-agree, written-is-read}
+use Rattle.order.proofs.Laws.LastSetLaws.{stays-away, until-another, zeros-or-written}
+use Rattle.register.specs.Corollaries.{WriteStaysAway, WriteIsThereUntilAnother, ReadGivesOneWrite}
 use Rattle.register.specs.Corollaries.{CutWriteIsThereOrAway, WhatWasStoredIsThere, OneThingSeen}
 use Rattle.register.proofs.Laws.TheoremProof.{every-run-has-one-order}
+
+pub write-stays-away : WriteStaysAway
+write-stays-away s e events w t u v a b = stays-away (every-run-has-one-order s e events) w t u v a b
+
+pub write-is-there-until-another : WriteIsThereUntilAnother
+write-is-there-until-another s e events w t u v b = until-another (every-run-has-one-order s e events) w t u v b
+
+pub read-gives-one-write : ReadGivesOneWrite
+read-gives-one-write s e events t a = zeros-or-written (every-run-has-one-order s e events) t a
 
 pub cut-write-is-there-or-away : CutWriteIsThereOrAway
 cut-write-is-there-or-away s e events t u a b m n f = reads-agree (every-run-has-one-order s e events) t u a b m n f

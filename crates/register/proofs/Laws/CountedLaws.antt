@@ -17,6 +17,8 @@ use Rattle.message.specs.Flags.{member}
 use Rattle.message.specs.declared.Reply.{Reply}
 use Rattle.coord_decide.specs.Deciding.{tallied}
 use Rattle.erasure.specs.Code.{blockOf}
+use Rattle.coord_record.specs.Records.{idleKind, noOp, idleWith}
+use Rattle.coord_record.specs.declared.Coordinator.{Coordinator}
 use Rattle.coord_apply.specs.Acts.{withReplyBlock, withTally, counting}
 use Rattle.coord_apply.specs.Answers.{Buffered, Went}
 use Rattle.coordinator.proofs.Laws.RoutineLaws.{place-fits}
@@ -48,9 +50,16 @@ counting-keeps s g h sent c k r block coded w i t was =
       number = i .number;
       used = i .used;
       sized = tallied-sized (k .state .tally) r (i .sized);
+      idle-is = λ e. absurd (open-round e);
       runs = λ n. running (i .runs n);
     }
   where
+    -- a reply is counted in an open round alone
+    open-round : k .state .op .kind ≡ idleKind → ⊥
+    open-round e =
+        let z : k .state .op .phase ≡ 0 = unfold idleWith noOp in ap (λ (x : Coordinator). x .op .phase) (i .idle-is e) in
+        omega (arith, z, t .reply .kind-low, t .answer .of-phase)
+
     counted : List ℕ
     counted = k .state .tally .counted
 

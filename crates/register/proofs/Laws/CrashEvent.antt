@@ -60,7 +60,7 @@ left-turned s g h sent c left w e same t =
     record {
       later = t .later;
       turns = subst (λ (z : List (Seen (plain s))). Turns s g c h (t .later) z) (same (w .next) _) (t .turns);
-      keeps = record { number = t .keeps .number; used = t .keeps .used; sized = t .keeps .sized; runs = λ n. absurd (n e) };
+      keeps = record { number = t .keeps .number; used = t .keeps .used; sized = t .keeps .sized; idle-is = t .keeps .idle-is; runs = λ n. absurd (n e) };
       items = t .items;
       own = t .own;
     })

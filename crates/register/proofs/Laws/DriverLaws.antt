@@ -6,20 +6,16 @@ use Prim.Native.Nat.{ℕ, zero, suc, _*_, _≤_}
 use native.Mathlib.Omega.{arith}
 use lib.Dec.{leb, ltb, eqb}
 use lib.ListN.{length, replicate}
-use borrow.Author.Tests.{eqb-true, eq-eqb, leb-false}
+use borrow.Author.Tests.{eqb-true, eq-eqb}
 use Rattle.settings.specs.Ranges.{quorum}
-use Rattle.settings.specs.Times.{drawOf, coordinatorOf}
+use Rattle.settings.specs.Times.{drawOf}
 use Rattle.settings.specs.declared.Clock.{Clock}
 use Rattle.settings.specs.declared.Draw.{Draw}
 use Rattle.settings.specs.declared.Draw.the-variants.{Drawn, Refused}
 use Rattle.settings.specs.declared.Settings.{Settings}
-use Rattle.byte_lists.specs.Little.{Bytes}
-use Rattle.byte_lists.proofs.Laws.LittleLaws.{bytes-pass}
 use Rattle.message.specs.Flags.{members}
 use Rattle.message.specs.Kinds.{writeKind}
-use Rattle.message.specs.declared.Message.{Message}
 use Rattle.message.specs.declared.Reply.{Reply}
-use Rattle.brick.specs.Receive.{outcome}
 use Rattle.coord_record.specs.Records.{idleKind, noBricks}
 use Rattle.coord_decide.specs.Deciding.{decided}
 use Rattle.coord_decide.specs.declared.Decision.{Decision}
@@ -33,11 +29,11 @@ use Rattle.coord_apply.specs.declared.Answer.{Answer}
 use Rattle.coord_record.specs.declared.Coordinator.{Coordinator}
 use Rattle.coordinator.specs.Routines.{takeStep, crashStep, crashed, drawnThen, writeStep, readStep}
 use Rattle.order.specs.Claim.{Seen}
-use Rattle.register.specs.Runs.{plain, Item, message, reply, World, startWrite, startRead, untouched, lost, crashes, Moved, unmoved, putAt, seenOf, blockFor, toAll, broadcasts}
-use Rattle.register.specs.Runs.{coordinated, received, arriving, buffersFit, leaving, leftBy, step}
-use Rattle.register.specs.Driver.{listed, driven, AtMostTwo, none, one, two, Short, called}
+use Rattle.register.specs.Runs.{plain, Item, message, World, untouched, lost, Moved, unmoved, putAt, seenOf, blockFor, toAll, broadcasts}
+use Rattle.register.specs.Runs.{coordinated, buffersFit, leaving, leftBy}
+use Rattle.register.specs.Driver.{listed, driven, AtMostTwo, none, one, two, Short}
 
-put-same : {A : Type 0} (f : ℕ → A) (c : ℕ) → putAt f c (f c) ≡ f
+pub put-same : {A : Type 0} (f : ℕ → A) (c : ℕ) → putAt f c (f c) ≡ f
 unfolding putAt
 put-same f c = fun-ext (λ j. go j (eqb j c) refl)
   where
@@ -122,28 +118,10 @@ left-untouched s (refused number) = refl
 left-untouched s (went g) = refl
 
 -- or other lists of the right lengths
-left-lost : (s : Settings) (blocks stripe : List ℕ) (h : Buffered) → length blocks ≡ s .n * s .size → length stripe ≡ s .m * s .size
+pub left-lost : (s : Settings) (blocks stripe : List ℕ) (h : Buffered) → length blocks ≡ s .n * s .size → length stripe ≡ s .m * s .size
     → leaving s (lost blocks stripe) h ≡ record { state = h .state; blocks = blocks; stripe = stripe }
 unfolding leaving buffersFit
 left-lost s blocks stripe h eb es = simp (eq-eqb _ _ eb, eq-eqb _ _ es)
-
-lost-is-driven : (s : Settings) (w : World) (c : ℕ) (blocks stripe old : List ℕ) → length blocks ≡ s .n * s .size → length stripe ≡ s .m * s .size
-    → (k : ℕ) (g : Went) → AtMostTwo (g .sent) → answerOf (w .coordinators c .state) (afterChecks k (went g)) .refusal ≡ 0
-    → coordinated s w c (leftBy s (lost blocks stripe) (afterChecks k (went g)))
-    ≡ driven s w c (answerOf (w .coordinators c .state) (afterChecks k (went g))) blocks stripe (codedAfter old (afterChecks k (went g)))
-unfolding afterChecks leftBy answerOf blocksAfter stripeAfter codedAfter
-lost-is-driven s w c blocks stripe old eb es k g h = go (leb k 0) refl
-  where
-    then : Buffered → Went
-    then x = record { next = x; sent = g .sent; seen = g .seen }
-
-    go : (a : Bool) → leb k 0 ≡ a → answerOf (w .coordinators c .state) (cond a (went g) (refused k)) .refusal ≡ 0
-        → coordinated s w c (leftBy s (lost blocks stripe) (cond a (went g) (refused k)))
-        ≡ driven s w c (answerOf (w .coordinators c .state) (cond a (went g) (refused k))) blocks stripe (codedAfter old (cond a (went g) (refused k)))
-    go true e q =
-        ap (λ (x : Buffered). coordinated s w c (went (then x))) (left-lost s blocks stripe (g .next) eb es)
-        ∙ coordinated-is-driven s w c (went (then (record { state = g .next .state; blocks = blocks; stripe = stripe }))) old h
-    go false e q = let z = leb-false k 0 e in absurd (omega (arith, z, q))
 
 -- the routines send two broadcasts at most, and so far one
 checked-short : (k : ℕ) (p : Step) → Short p → Short (afterChecks k p)
@@ -201,49 +179,3 @@ module _ (n m size : ℕ) (k : Buffered) where
 pub take-short : (n m size : ℕ) (k : Buffered) (r : Reply) (block : List ℕ) (coded : ℕ) → Short (takeStep n m size k r block coded)
 unfolding takeStep
 take-short n m size k r block coded = checked-short _ (went (waitingOr n m size (counting size k r block))) (waiting-short n m size (counting size k r block))
-
--- The events of a run, as calls: each is what the driver makes of the routine's answer. A reply, a start:
-module _ (s : Settings) (w : World) (old : List ℕ) where
-  pub reply-called : (r : Reply) (block : List ℕ)
-      → arriving s w (reply r block)
-      ≡ (called s w old) (coordinatorOf (r .time)) (takeStep (s .n) (s .m) (s .size) (w .coordinators (coordinatorOf (r .time))) r block (s .n * s .size))
-  unfolding arriving
-  reply-called r block =
-      coordinated-is-driven s w (coordinatorOf (r .time)) _ old
-      (take-short (s .n) (s .m) (s .size) (w .coordinators (coordinatorOf (r .time))) r block (s .n * s .size))
-
-  pub write-called : (c reading : ℕ) (content : List ℕ) → Bytes content
-      → step s w (startWrite c reading content) ≡ (called s w old) c (writeStep (s .n) (s .m) (s .size) (w .coordinators c) reading content)
-  unfolding step
-  write-called c reading content small =
-      rw (bytes-pass content small)
-      (coordinated-is-driven s w c _ old (write-short (s .n) (s .m) (s .size) (w .coordinators c) reading content))
-
-  pub read-called : (c reading first : ℕ)
-      → step s w (startRead c reading first) ≡ (called s w old) c (readStep (s .n) (s .m) (s .size) (w .coordinators c) reading first)
-  unfolding step
-  read-called c reading first = coordinated-is-driven s w c _ old (read-short (s .n) (s .m) (s .size) (w .coordinators c) reading first)
-
-  -- a crash, if the driver still has the buffers
-  pub crash-called : (c : ℕ) → step s w (crashes c untouched) ≡ (called s w old) c (crashStep (s .n) (s .m) (s .size) (w .coordinators c))
-  unfolding step
-  crash-called c =
-      ap (coordinated s w c) (left-untouched s (crashStep (s .n) (s .m) (s .size) (w .coordinators c)))
-      ∙ coordinated-is-driven s w c _ old (crash-short (s .n) (s .m) (s .size) (w .coordinators c))
-
-  -- and if it lost them, and goes on with the record that the routine gave and with any bytes in buffers of the right lengths
-  pub lost-called : (c : ℕ) (blocks stripe : List ℕ) → length blocks ≡ s .n * s .size → length stripe ≡ s .m * s .size
-      → answerOf (w .coordinators c .state) (crashStep (s .n) (s .m) (s .size) (w .coordinators c)) .refusal ≡ 0
-      → step s w (crashes c (lost blocks stripe))
-      ≡ driven s w c (answerOf (w .coordinators c .state) (crashStep (s .n) (s .m) (s .size) (w .coordinators c)))
-      blocks stripe (codedAfter old (crashStep (s .n) (s .m) (s .size) (w .coordinators c)))
-  unfolding step crashStep
-  lost-called c blocks stripe eb es accepted =
-      lost-is-driven s w c blocks stripe old eb es _ (crashed (w .coordinators c))
-      (crashed-short (s .n) (s .m) (s .size) (w .coordinators c)) accepted
-
-  -- and a message at a brick that is up, by the answer, the image and the reply's buffer that its routine leaves
-  pub message-called : (b : ℕ) (msg : Message) (block : List ℕ) → w .up b ≡ true
-      → arriving s w (message b msg block) ≡ received s w b (outcome s b (w .images b) msg block (replicate (s .size) 0))
-  unfolding arriving
-  message-called b msg block e = rw e refl

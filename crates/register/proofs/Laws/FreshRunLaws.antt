@@ -98,7 +98,7 @@ module _ (s : Settings) (g : SettingsRange s) where
   fresh-coordinator : (c : ℕ) → CoordinatorInv s g [] [] c (idle s c)
   unfolding idle idleWith noOp
   fresh-coordinator c =
-      record { number = refl; used = λ t w m. absurd (in-none (w .1)); sized = none-sized; runs = λ n. absurd (n refl) }
+      record { number = refl; used = λ t w m. absurd (in-none (w .1)); sized = none-sized; idle-is = λ e. refl; runs = λ n. absurd (n refl) }
 
   pub fresh-holds : Inv s g [] (unmoved s (freshSet s))
   unfolding unmoved freshSet seen

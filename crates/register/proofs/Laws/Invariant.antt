@@ -2,7 +2,7 @@
 use mathlib.Core.Path.{_≡_}
 use mathlib.Core.Logic.{_⊎_}
 use mathlib.Core.Bool.{true}
-use mathlib.Core.List.{List, _++_}
+use mathlib.Core.List.{List}
 use Prim.Native.Nat.{ℕ, _≤_, _<_}
 use lib.ListN.{getD}
 use Rattle.settings.specs.Ranges.{quorum, SettingsRange}
@@ -16,7 +16,7 @@ use Rattle.message.specs.declared.Reply.{Reply}
 use Rattle.image.specs.Brick.{Brick, entryCount, timeAt, meansAt, Sound}
 use Rattle.image.specs.Image.{imageOf}
 use Rattle.erasure.specs.Code.{codedOf, blockOf, Stripe}
-use Rattle.coord_record.specs.Records.{idleKind, writingKind}
+use Rattle.coord_record.specs.Records.{idleKind, writingKind, idleWith}
 use Rattle.coord_record.specs.CountedRules.{isTarget, blockRight}
 use Rattle.coord_apply.specs.Answers.{Buffered}
 use Rattle.coord_laws.specs.Soundness.{Sized}
@@ -25,7 +25,7 @@ use Rattle.order.specs.Facts.{began, promised, stored, showed, History, seen}
 use Rattle.order.specs.Places.{In}
 use Rattle.order.specs.Quorums.{Quorums}
 use Rattle.order.specs.Valid.{Began, Launched, Ended, PromisedUpTo, Val, Committed, Gone, Valid}
-use Rattle.register.specs.Runs.{plain, Item, message, reply, Moved, begunKind}
+use Rattle.register.specs.Runs.{plain, Item, message, reply, Moved, joined, begunKind}
 
 -- The quorums of a setting.
 abbrev pub quorums : (s : Settings) → SettingsRange s → Quorums
@@ -144,6 +144,8 @@ pub record CoordinatorInv (s : Settings) (g : SettingsRange s) (h : Hist s) (sen
   -- the times it used are at most its last
   pub used : (t : ℕ) → Began h t → coordinatorOf t ≡ c → t ≤ timeOf (k .state .clock .last) c
   pub sized : Sized (k .state .tally)
+  -- without an operation, the record is that of its clock alone
+  pub idle-is : k .state .op .kind ≡ idleKind → k .state ≡ idleWith (k .state .geometry) (k .state .clock)
   pub runs : (k .state .op .kind ≡ idleKind → ⊥) → Running s g h sent c k
 
 -- The image of brick b is the saved form of a brick that keeps its rules.
@@ -160,10 +162,6 @@ pub record Inv (s : Settings) (g : SettingsRange s) (h : Hist s) (r : Moved s) :
   pub bricks : (b : ℕ) → b < s .n → ImageInv s g h b (r .world .images b)
   pub items : (i : Item) → i ∈ r .world .sent → ItemInv s g h (r .world .sent) i
   pub coordinators : (c : ℕ) → CoordinatorInv s g h (r .world .sent) c (r .world .coordinators c)
-
--- what came before, and what one event leaves and shows
-abbrev pub joined : (s : Settings) → Moved s → Moved s → Moved s
-joined s r m = record { world = m .world; seen = r .seen ++ m .seen }
 
 -- what holds goes on to hold after an event
 abbrev pub Goes : (s : Settings) (g : SettingsRange s) → Moved s → Moved s → Type 0

@@ -6,7 +6,7 @@ use Prim.Native.Nat.{ℕ, zero, suc, _*_, _≤_}
 use native.Mathlib.Omega.{arith}
 use lib.Dec.{ltb, eqb}
 use lib.ListN.{length, length-replicate}
-use borrow.Author.Tests.{eqb-true, eqb-false, le-leb}
+use borrow.Author.Tests.{eq-eqb, eqb-true, eqb-false, le-leb}
 use Rattle.message.specs.Kinds.{readKind, orderKind}
 use Rattle.settings.specs.Ranges.{bricksInRange, sizeInRange, capacityInRange, inRange, codeRefusal, quorum}
 use Rattle.settings.specs.Ranges.{SettingsRange}
@@ -22,7 +22,8 @@ use Rattle.interpolate.proofs.Laws.BlockLaws.{length-blocksAt}
 use Rattle.erasure.specs.Code.{decodedOf}
 use Rattle.image.specs.Parse.{parse}
 use Rattle.image.proofs.Laws.ParseLaws.{parse-image, range-of}
-use Rattle.coord_record.specs.Records.{noBricks, idleKind, readingKind, writingKind}
+use Rattle.coord_record.specs.Records.{noBricks, geometryOf, idleKind, readingKind, writingKind}
+use Rattle.coord_record.specs.Sound.{sameGeometry}
 use Rattle.coord_record.proofs.Laws.SoundPartLaws.{sound-parts}
 use Rattle.coord_tally.specs.Counting.{targetFlags}
 use Rattle.coord_decide.specs.Deciding.{decided}
@@ -51,8 +52,8 @@ use Rattle.register.specs.NeverRefused.{Fine, ImagesOpen, RecordsOpen, C
 abbrev Long : Settings → Buffered → Type 0
 Long s k = (length (k .blocks) ≡ s .n * s .size) × (length (k .stripe) ≡ s .m * s .size)
 
-fine : (s : Settings) (k : Buffered) → Good (s .n) (s .m) (k .state) → Long s k → Fine s k
-fine s k g l = record { sound-is = good-sound (s .n) (s .m) (k .state) g; blocks-long = l .0; stripe-long = l .1 }
+fine : (s : Settings) (k : Buffered) → Good (s .n) (s .m) (s .size) (k .state) → Long s k → Fine s k
+fine s k g l = record { sound-is = good-sound (s .n) (s .m) (s .size) (k .state) g; blocks-long = l .0; stripe-long = l .1 }
 
 -- what a decision leaves in the buffers
 decoded-long : (m size : ℕ) (row blocks : List ℕ) → length (stripeFrom m size row blocks) ≡ m * size
@@ -116,9 +117,9 @@ module _ (s : Settings) (g : SettingsRange s) where
       at c′ l false e = subst (Fine s) (sym (put-there (w .coordinators) c (q .next) c′ (eqb-false c′ c e))) (f c′ l)
 
   module _ (h : Hist s) (r : Moved s) (i : Inv s g h r) (f : AllFine s (r .world)) where
-    good : (c : ℕ) → c ≤ lastCoordinator → Good (s .n) (s .m) (r .world .coordinators c .state)
+    good : (c : ℕ) → c ≤ lastCoordinator → Good (s .n) (s .m) (s .size) (r .world .coordinators c .state)
     good c l =
-        record { parts = sound-parts (s .n) (s .m) (r .world .coordinators c .state) (f c l .sound-is); sizes = i .coordinators c .sized }
+        record { parts = sound-parts (s .n) (s .m) (s .size) (r .world .coordinators c .state) (f c l .sound-is); sizes = i .coordinators c .sized }
 
     write-fine : (c reading : ℕ) (content : List ℕ) → FineStep s c (writeStep (s .n) (s .m) (s .size) (r .world .coordinators c) reading content)
     unfolding writeStep starting
@@ -206,13 +207,17 @@ module _ (s : Settings) (g : SettingsRange s) where
   from-fine r w f [] = f
   from-fine r w f (e ∷ events) = from-fine (nextMoved s r e) (step-goes s g (w .0) r (w .1) e) (step-fine (w .0) r (w .1) f e) events
 
+own-geometry : (s : Settings) → sameGeometry (s .n) (s .m) (s .size) (geometryOf s) ≡ true
+unfolding sameGeometry geometryOf
+own-geometry s = rw (eq-eqb (s .n) (s .n) refl, eq-eqb (s .m) (s .m) refl, eq-eqb (s .size) (s .size) refl)
+
 pub records-open : RecordsOpen
 unfolding run freshSet idle unmoved maxCount
 records-open s e events =
     let g = range-of s e in
     from-fine s g (unmoved s (freshSet s)) ([], fresh-holds s g)
     (λ c l. record {
-      sound-is = good-sound (s .n) (s .m) _ (idle-good (s .n) (s .m) (s .size) (record { coordinator = c; last = 0 }) (g .code) l (omega arith));
+      sound-is = good-sound (s .n) (s .m) (s .size) _ (idle-good (s .n) (s .m) (s .size) (geometryOf s) (record { coordinator = c; last = 0 }) (g .code) (own-geometry s) l (omega arith));
       blocks-long = length-replicate (s .n * s .size) 0;
       stripe-long = length-replicate (s .m * s .size) 0;
     }) events
@@ -225,7 +230,7 @@ crash-accepted : (s : Settings) (k : Buffered) → inRange s ≡ true → Fine s
     → answerOf (k .state) (crashStep (s .n) (s .m) (s .size) k) .refusal ≡ passed
 unfolding crashStep crashRefusal recordChecks firstRefusal afterChecks answerOf
 crash-accepted s k e f =
-    let p = sound-parts (s .n) (s .m) (k .state) (f .sound-is) in
+    let p = sound-parts (s .n) (s .m) (s .size) (k .state) (f .sound-is) in
     rw (code-accepted s e, le-leb (k .state .clock .coordinator) lastCoordinator (p .number-low), f .sound-is) refl
 
 pub crashes-accepted : CrashesAccepted

@@ -19,7 +19,7 @@ use Rattle.settings.specs.declared.Draw.the-variants.{Drawn, Refused}
 use Rattle.settings.specs.declared.Settings.{Settings}
 use Rattle.settings.proofs.Laws.RefusalLaws.{tested}
 use Rattle.coord_apply.specs.Answers.{Buffered, Went, Step, refused, went, afterChecks}
-use Rattle.coord_refusals.specs.Checks.{recordChecks, startChecks, writeRefusal, readRefusal, crashRefusal}
+use Rattle.coord_refusals.specs.Checks.{recordChecks, writeChecks, readChecks, writeRefusal, readRefusal, crashRefusal}
 use Rattle.coordinator.specs.Routines.{takeStep, crashed, crashStep, drawnThen, writeStep, readStep}
 use Rattle.coordinator.proofs.Laws.RoutineLaws.{take-passed}
 use Rattle.byte_lists.specs.Little.{areBytes}
@@ -55,7 +55,7 @@ module _ (n m size c : ℕ) (k : Buffered) (number : k .state .clock .coordinato
   low-number e = let w = leb-true (k .state .clock .coordinator) lastCoordinator (tested (leb (k .state .clock .coordinator) lastCoordinator) _ e) in omega arith
 
   write-low : (reading : ℕ) (content : List ℕ) → LowStep c (writeStep n m size k reading content)
-  unfolding writeStep writeRefusal startChecks recordChecks
+  unfolding writeStep writeRefusal writeChecks recordChecks
   write-low reading content =
       checked-low c (writeRefusal n m size (k .state) reading (length content) (length (k .stripe))) _
       (λ e.
@@ -65,7 +65,7 @@ module _ (n m size c : ℕ) (k : Buffered) (number : k .state .clock .coordinato
       drawn-low c (drawOf (k .state .clock) reading) _ (low-number (d .0)))
 
   read-low : (reading first : ℕ) → LowStep c (readStep n m size k reading first)
-  unfolding readStep readRefusal startChecks recordChecks
+  unfolding readStep readRefusal readChecks recordChecks
   read-low reading first =
       checked-low c (readRefusal n m size (k .state) reading first) _
       (λ e.

@@ -73,7 +73,6 @@ poly-open = tt
 unfoldable pub interpolate-open : Unit {0}
 unfolding Rattle.byte_lists.specs.Lists.tabulate Rattle.byte_lists.specs.Lists.stacked Rattle.interpolate.specs.Values.byteAt
     Rattle.interpolate.specs.Values.valueAt Rattle.interpolate.specs.Values.blockAt Rattle.interpolate.specs.Values.blocksAt
-    Rattle.interpolate.proofs.Laws.WeightLaws.others
 interpolate-open = tt
 
 unfoldable pub erasure-open : Unit {0}
@@ -83,14 +82,16 @@ erasure-open = tt
 
 unfoldable pub coord-record-open : Unit {0}
 unfolding Rattle.byte_lists.specs.Each.each Rattle.byte_lists.specs.Each.some Rattle.coord_record.specs.Records.noOp
-    Rattle.coord_record.specs.Records.noBricks Rattle.coord_record.specs.Records.nothingCounted Rattle.coord_record.specs.Records.idleWith
+    Rattle.coord_record.specs.Records.noBricks Rattle.coord_record.specs.Records.nothingCounted Rattle.coord_record.specs.Records.geometryOf
+    Rattle.coord_record.specs.Records.idleWith
     Rattle.coord_record.specs.CountedRules.stepsAbove Rattle.coord_record.specs.CountedRules.isTarget
     Rattle.coord_record.specs.CountedRules.blockRight Rattle.coord_record.specs.CountedRules.countedRight
     Rattle.coord_record.specs.CountedRules.entryRight Rattle.coord_record.specs.CountedRules.tallyRight
     Rattle.coord_record.specs.CountedRules.brickRight Rattle.coord_record.specs.CountedRules.bricksRight Rattle.coord_record.specs.Sound.maxRight
     Rattle.coord_record.specs.Sound.storedRight Rattle.coord_record.specs.Sound.readRight Rattle.coord_record.specs.Sound.writeRight
     Rattle.coord_record.specs.Sound.unsetOp Rattle.coord_record.specs.Sound.opRight Rattle.coord_record.specs.Sound.timeRight
-    Rattle.coord_record.specs.Sound.namedCount Rattle.coord_record.specs.Sound.filledRight Rattle.coord_record.specs.Sound.soundRecord
+    Rattle.coord_record.specs.Sound.namedCount Rattle.coord_record.specs.Sound.filledRight Rattle.coord_record.specs.Sound.rulesKept
+    Rattle.coord_record.specs.Sound.sameGeometry Rattle.coord_record.specs.Sound.soundRecord
 coord-record-open = tt
 
 unfoldable pub coord-rounds-open : Unit {0}
@@ -116,7 +117,8 @@ unfolding Rattle.coord_apply.specs.Acts.gathered Rattle.coord_apply.specs.Acts
 coord-acts-open = tt
 
 unfoldable pub coordinator-open : Unit {0}
-unfolding Rattle.coord_refusals.specs.Checks.recordChecks Rattle.coord_refusals.specs.Checks.startChecks
+unfolding Rattle.coord_refusals.specs.Checks.recordChecks Rattle.coord_refusals.specs.Checks.writeChecks
+    Rattle.coord_refusals.specs.Checks.readChecks Rattle.coord_refusals.specs.Checks.startChecks
     Rattle.coord_refusals.specs.Checks.writeRefusal Rattle.coord_refusals.specs.Checks.readRefusal Rattle.coord_refusals.specs.Checks.lengthsRight
     Rattle.coord_refusals.specs.Checks.strayChecks Rattle.coord_refusals.specs.Checks.takeRefusal Rattle.coord_refusals.specs.Checks.crashRefusal
     Rattle.coordinator.specs.Routines.takeStep Rattle.coordinator.specs.Routines.crashed Rattle.coordinator.specs.Routines.crashStep

@@ -59,6 +59,7 @@ module _ (s : Settings) (g : SettingsRange s) (h : Hist s) (sent : List Item) (c
           number = i .number;
           used = λ u w m. i .used u (old u (w .0) (in-cons (w .1))) m;
           sized = none-sized;
+          idle-is = λ _. refl;
           runs = λ n. absurd (n refl);
         };
         items = items;
@@ -88,7 +89,7 @@ module _ (s : Settings) (g : SettingsRange s) (h : Hist s) (sent : List Item) (c
       record {
         later = h′;
         turns = turns;
-        keeps = record { number = i .number; used = λ u w m. i .used u (same u w) m; sized = none-sized; runs = λ _. running };
+        keeps = record { number = i .number; used = λ u w m. i .used u (same u w) m; sized = none-sized; idle-is = λ e. absurd (n e); runs = λ _. running };
         items = λ z m. let w = in-broadcast s sending z m in
             subst (ItemInv s g h′ (sent ++ broadcasts s (sending ∷ []))) (sym (w .2)) (messages (w .0) (w .1));
         own = λ b msg block m. let w = in-broadcast s sending (message b msg block) m in
@@ -120,6 +121,7 @@ module _ (s : Settings) (g : SettingsRange s) (h : Hist s) (sent : List Item) (c
       running : Running s g h′ (sent ++ broadcasts s (sending ∷ [])) c
           (record {
             state = record {
+              geometry = k .state .geometry;
               clock = k .state .clock;
               op = record {
                 kind = k .state .op .kind;

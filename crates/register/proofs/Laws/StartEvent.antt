@@ -24,11 +24,11 @@ use Rattle.byte_lists.proofs.Laws.LittleLaws.{byte-below}
 use Rattle.message.specs.Flags.{member}
 use Rattle.message.specs.Kinds.{firstRound, readKind, orderKind, orderReadKind}
 use Rattle.erasure.specs.Code.{Stripe}
-use Rattle.coord_record.specs.Records.{nothingCounted, noBricks, readingKind, writingKind}
+use Rattle.coord_record.specs.Records.{nothingCounted, noBricks, idleKind, readingKind, writingKind}
 use Rattle.coord_tally.specs.Counting.{targetFlags}
 use Rattle.coord_apply.specs.Acts.{roundMessage, firstOp, starting}
 use Rattle.coord_apply.specs.Answers.{Buffered, Broadcast, Went, refused, afterChecks}
-use Rattle.coord_refusals.specs.Checks.{writeRefusal, readRefusal}
+use Rattle.coord_refusals.specs.Checks.{writeChecks, writeRefusal, readRefusal}
 use Rattle.coordinator.specs.Routines.{drawnThen, writeStep, readStep}
 use Rattle.coord_laws.proofs.Laws.SoundnessLaws.{none-sized}
 use Rattle.coord_laws.proofs.Laws.TallyLaws.{zeros-at}
@@ -69,10 +69,11 @@ module _ (s : Settings) (g : SettingsRange s) (h : Hist s) (sent : List Item) (c
   time-low = let b = drawn-above (k .state .clock) reading t clock d in omega arith
 
   -- a start in its first round: a Read or an Order round
-  started : (kind phase first : ℕ) (stripe targets : List ℕ) → phase ≤ orderKind → (kind ≡ writingKind → Stripe (s .m) (s .size) stripe)
+  started : (kind phase first : ℕ) (stripe targets : List ℕ) → phase ≤ orderKind → (kind ≡ idleKind → ⊥)
+      → (kind ≡ writingKind → Stripe (s .m) (s .size) stripe)
       → TurnedRound s g h sent c (starting k clock (firstOp kind phase t first) stripe targets)
   unfolding starting firstOp seenOf nothingCounted roundMessage timeOf
-  started kind phase first stripe targets low proper =
+  started kind phase first stripe targets low busy proper =
       record {
         later = later;
         turns = turns;
@@ -80,6 +81,7 @@ module _ (s : Settings) (g : SettingsRange s) (h : Hist s) (sent : List Item) (c
           number = gave (k .state .clock) reading t clock d .same ∙ i .number;
           used = λ u w m. used u m (w .0) (in-cons (w .1));
           sized = none-sized;
+          idle-is = λ e. absurd (busy e);
           runs = λ n. running;
         };
         items = λ z m. let w = in-broadcast s sending z m in subst (ItemInv s g later (sent ++ broadcasts s (sending ∷ []))) (sym (w .2)) (asks (w .0) (w .1));
@@ -91,6 +93,7 @@ module _ (s : Settings) (g : SettingsRange s) (h : Hist s) (sent : List Item) (c
       next =
           record {
             state = record {
+              geometry = k .state .geometry;
               clock = clock;
               op = record { kind = kind; phase = phase; time = t; round = firstRound; max = 0; first = first };
               tally = nothingCounted;
@@ -175,7 +178,7 @@ module _ (s : Settings) (g : SettingsRange s) (h : Hist s) (r : Moved s) (i : In
   -- a write starts
   pub write-starts : (reading : ℕ) (content : List ℕ) → Bytes content
       → Goes s g r (coordinated s (r .world) c (writeStep (s .n) (s .m) (s .size) (r .world .coordinators c) reading content))
-  unfolding writeStep afterChecks drawnThen writeRefusal
+  unfolding writeStep afterChecks drawnThen writeRefusal writeChecks
   write-starts reading content small = go (leb refusal passed) refl
     where
       k : Buffered
@@ -191,7 +194,7 @@ module _ (s : Settings) (g : SettingsRange s) (h : Hist s) (r : Moved s) (i : In
       draws l (Refused number) e = goes-refused s g h r i c number
       draws l (Drawn t clock) e =
           goes-turned s g h r i c (begin t clock)
-          (started s g h (r .world .sent) c k (i .valid) (i .coordinators c) (i .items) reading t clock e writingKind orderKind 0 content noBricks (omega arith)
+          (started s g h (r .world .sent) c k (i .valid) (i .coordinators c) (i .items) reading t clock e writingKind orderKind 0 content noBricks (omega arith) (λ e. omega (arith, e))
           (λ _. record { pos = g .code .size-low; length-is = l; small = byte-below content small }))
 
       go : (a : Bool) → leb refusal passed ≡ a → Goes s g r (coordinated s (r .world) c (cond a (drawnThen (drawOf (k .state .clock) reading) begin) (refused refusal)))
@@ -222,7 +225,7 @@ module _ (s : Settings) (g : SettingsRange s) (h : Hist s) (r : Moved s) (i : In
       draws (Drawn t clock) e =
           goes-turned s g h r i c (begin t clock)
           (started s g h (r .world .sent) c k (i .valid) (i .coordinators c) (i .items) reading t clock e readingKind readKind first (k .stripe)
-          (targetFlags (s .n) (s .m) first) (omega arith) (λ e. absurd (omega (arith, e))))
+          (targetFlags (s .n) (s .m) first) (omega arith) (λ e. omega (arith, e)) (λ e. absurd (omega (arith, e))))
 
       go : (a : Bool) → Goes s g r (coordinated s (r .world) c (cond a (drawnThen (drawOf (k .state .clock) reading) begin) (refused refusal)))
       go false = goes-refused s g h r i c refusal

@@ -171,6 +171,7 @@ module _ {s : Settings} {g : SettingsRange s} {h : Hist s} {f : Fact (plain s)} 
         number = i .number;
         used = λ t w m. i .used t (earlier t m (w .0) (in-cons (w .1))) m;
         sized = i .sized;
+        idle-is = i .idle-is;
         runs = λ n. running-up other (i .runs n);
       }
     where
@@ -203,7 +204,7 @@ counted-sent w x =
 
 pub coordinator-sent : {s : Settings} {g : SettingsRange s} {h : Hist s} {old new : List Item} {c : ℕ} {k : Buffered} → Within old new → QuietWorld c old new
     → CoordinatorInv s g h old c k → CoordinatorInv s g h new c k
-coordinator-sent {s} {g} {h} {old} {new} {c} {k} w quiet i = record { number = i .number; used = i .used; sized = i .sized; runs = λ n. go (i .runs n) }
+coordinator-sent {s} {g} {h} {old} {new} {c} {k} w quiet i = record { number = i .number; used = i .used; sized = i .sized; idle-is = i .idle-is; runs = λ n. go (i .runs n) }
   where
     go : Running s g h old c k → Running s g h new c k
     go r =

@@ -1,0 +1,197 @@
+-- Laws of `specs/Lending`.
+use mathlib.Core.Path.{_≡_, refl, sym, ap, ap₂, subst, _∙_}
+use mathlib.Core.Bool.{Bool, true, false, cond, not}
+use mathlib.Core.List.{List, []}
+use Prim.Native.Nat.{ℕ, _≤_}
+use native.Mathlib.Omega.{arith}
+use lib.Dec.{eqb, leb}
+use lib.ListN.{length, replicate}
+use borrow.Author.Tests.{eqb-true, leb-false}
+use Rattle.settings.specs.Ranges.{inRange, codeRefusal}
+use Rattle.settings.proofs.Laws.RefusalLaws.{passed-rest}
+use Rattle.settings.specs.Refusal.{passed}
+use Rattle.settings.specs.Times.{lastCoordinator}
+use Rattle.settings.specs.declared.Settings.{Settings}
+use Rattle.message.specs.Kinds.{writeKind, readKind, trimKind}
+use Rattle.message.specs.declared.Message.{Message}
+use Rattle.message.specs.declared.Reply.{Reply}
+use Rattle.image.specs.Brick.{Brick}
+use Rattle.image.specs.Image.{imageOf}
+use Rattle.image.specs.Parse.{Parsed, Opens, Refuses, parse}
+use Rattle.image.proofs.Laws.ParseLaws.{range-of}
+use Rattle.brick.specs.Receive
+use Rattle.brick.specs.Receive.{Outcome, outcome, receiveRefusal, refusedWith, givenBy}
+use Rattle.brick.specs.declared.Given.the-variants.{Answered, Silent}
+use Rattle.brick_log.specs.BrickRules.{placeFor, replyTo, trimmedTo, writtenIfYes, orderedIfYes, brickAfter, blockAfter}
+use Rattle.coord_record.specs.Records.{idleKind, noBricks, geometryOf, idleWith}
+use Rattle.coord_record.specs.declared.Geometry.{Geometry}
+use Rattle.coord_record.proofs.Laws.SoundPartLaws.{sound-parts}
+use Rattle.coord_record.specs.declared.Coordinator.{Coordinator}
+use Rattle.coord_apply.specs.Acts.{ending, counting}
+use Rattle.coord_apply.specs.Answers.{Buffered, Went, Step, went, refused, afterChecks, nothingSeen, cutSeen, answerOf}
+use Rattle.coord_refusals.specs.Checks.{lengthsRight, takeRefusal, crashRefusal}
+use Rattle.coord_laws.proofs.Laws.OpCaseLaws.{clash}
+use Rattle.coord_laws.proofs.Laws.SoundnessLaws.{passes}
+use Rattle.coord_refusals.proofs.Laws.RefusedLaws.{record-passes}
+use Rattle.coordinator.specs.Routines.{takeStep, crashed, crashStep}
+use Rattle.register.specs.Runs.{Event, repliedWith, run}
+use Rattle.register.specs.Driver.{holds, heldBlock}
+use Rattle.register.specs.Lending.{SameAnswer, LentBytesMakeNoDifference, UnheldBlocksMakeNoDifference, CrashIsIdleWith, AcceptedCrashIsIdleWith}
+use Rattle.register.proofs.Laws.IdleRecordLaws.{made-for, idle-record}
+use Rattle.register.proofs.Laws.NeverRefusedLaws.{records-open, crashes-accepted}
+use Rattle.register.proofs.Laws.TheoremProof.{run-holds}
+
+-- a brick keeps the block of a Write alone
+brick-same : (s : Settings) (x : Brick) (msg : Message) (block block′ : List ℕ) → (msg .kind ≡ writeKind → block ≡ block′)
+    → brickAfter s x msg block ≡ brickAfter s x msg block′
+unfolding brickAfter
+brick-same s x msg block block′ same = go (eqb (msg .kind) trimKind) (eqb (msg .kind) writeKind) refl
+  where
+    rest : Brick
+    rest = cond (eqb (msg .kind) readKind) x (orderedIfYes x (msg .time))
+
+    go : (a b : Bool) → eqb (msg .kind) writeKind ≡ b
+        → cond a (trimmedTo x (msg .time)) (cond b (writtenIfYes s x (msg .time) block) rest)
+        ≡ cond a (trimmedTo x (msg .time)) (cond b (writtenIfYes s x (msg .time) block′) rest)
+    go true b e = refl
+    go false true e = ap (writtenIfYes s x (msg .time)) (same (eqb-true (msg .kind) writeKind e))
+    go false false e = refl
+
+-- the reply's buffer is written where a block is held
+held-out : (a t : Bool) (r : Reply) (out out′ means : List ℕ) → r .held ≡ not t → holds (cond a Silent (Answered r)) ≡ true
+    → cond t out means ≡ cond t out′ means
+unfolding holds
+held-out true t r out out′ means e h = clash h
+held-out false true r out out′ means e h = clash (sym e ∙ h)
+held-out false false r out out′ means e h = refl
+
+opened-same : (s : Settings) (b : ℕ) (image : List ℕ) (msg : Message) (block block′ out out′ : List ℕ) (p : Parsed)
+    → (msg .kind ≡ writeKind → block ≡ block′)
+    → SameAnswer (Receive.accepted s b msg block image out p) (Receive.accepted s b msg block′ image out′ p)
+unfolding Receive.accepted refusedWith holds
+opened-same s b image msg block block′ out out′ (Refuses number) same = record { given-is = refl; image-is = refl; block-is = λ h. clash h }
+opened-same s b image msg block block′ out out′ (Opens x) same =
+    record {
+      given-is = refl;
+      image-is = ap (imageOf s b) (brick-same s x msg block block′ same);
+      block-is = λ h. unfold givenBy replyTo blockAfter in
+          held-out (eqb (msg .kind) trimKind) (eqb (placeFor b x msg) 0) (replyTo s b x msg) out out′ _ refl h;
+    }
+
+pub lent-bytes-make-no-difference : LentBytesMakeNoDifference
+unfolding outcome refusedWith holds
+lent-bytes-make-no-difference s b image msg block block′ out out′ eb eo same =
+    subst (λ (k : ℕ). SameAnswer (by number block out) (by k block′ out′)) (ap₂ (receiveRefusal s b image msg) eb eo)
+    (go (eqb number passed))
+  where
+    number : ℕ
+    number = receiveRefusal s b image msg (length block) (length out)
+
+    by : ℕ → (block out : List ℕ) → Outcome
+    by k block out = cond (eqb k passed) (Receive.accepted s b msg block image out (parse s b image)) (refusedWith k image out)
+
+    go : (a : Bool)
+        → SameAnswer (cond a (Receive.accepted s b msg block image out (parse s b image)) (refusedWith number image out))
+        (cond a (Receive.accepted s b msg block′ image out′ (parse s b image)) (refusedWith number image out′))
+    go true = opened-same s b image msg block block′ out out′ (parse s b image) same
+    go false = record { given-is = refl; image-is = refl; block-is = λ h. clash h }
+
+-- with zeros in the reply's buffer, the block that goes with a reply is what lies there
+zeros-there : (s : Settings) (a t : Bool) (r : Reply) (means : List ℕ) → r .held ≡ not t
+    → repliedWith (cond a Silent (Answered r)) (heldBlock s (cond a Silent (Answered r)) (cond t (replicate (s .size) 0) means))
+    ≡ repliedWith (cond a Silent (Answered r)) (cond t (replicate (s .size) 0) means)
+unfolding repliedWith heldBlock holds
+zeros-there s true t r means e = refl
+zeros-there s false true r means e = rw e refl
+zeros-there s false false r means e = rw e refl
+
+opened-held : (s : Settings) (b : ℕ) (image : List ℕ) (msg : Message) (block : List ℕ) (p : Parsed)
+    → let o = Receive.accepted s b msg block image (replicate (s .size) 0) p in
+    repliedWith (o .given) (heldBlock s (o .given) (o .out)) ≡ repliedWith (o .given) (o .out)
+unfolding Receive.accepted refusedWith repliedWith
+opened-held s b image msg block (Refuses number) = refl
+opened-held s b image msg block (Opens x) =
+    unfold givenBy replyTo blockAfter in
+    zeros-there s (eqb (msg .kind) trimKind) (eqb (placeFor b x msg) 0) (replyTo s b x msg) _ refl
+
+pub zeros-held : (s : Settings) (b : ℕ) (image : List ℕ) (msg : Message) (block : List ℕ)
+    → let o = outcome s b image msg block (replicate (s .size) 0) in
+    repliedWith (o .given) (heldBlock s (o .given) (o .out)) ≡ repliedWith (o .given) (o .out)
+unfolding outcome refusedWith repliedWith
+zeros-held s b image msg block = go (eqb number passed)
+  where
+    out : List ℕ
+    out = replicate (s .size) 0
+
+    number : ℕ
+    number = receiveRefusal s b image msg (length block) (length out)
+
+    go : (a : Bool)
+        → let o = cond a (Receive.accepted s b msg block image out (parse s b image)) (refusedWith number image out) in
+        repliedWith (o .given) (heldBlock s (o .given) (o .out)) ≡ repliedWith (o .given) (o .out)
+    go true = opened-held s b image msg block (parse s b image)
+    go false = refl
+
+pub unheld-blocks-make-no-difference : UnheldBlocksMakeNoDifference
+unfolding takeStep takeRefusal lengthsRight counting
+unheld-blocks-make-no-difference n m size k r block block′ coded same = go (r .held) refl
+  where
+    go : (a : Bool) → r .held ≡ a → takeStep n m size k r block coded ≡ takeStep n m size k r block′ coded
+    go true e = ap (λ (z : List ℕ). takeStep n m size k r z coded) (same e)
+    go false e = rw e refl
+
+-- checks that the answer does not show passed
+accepted-went : (c : Coordinator) (k : ℕ) (g : Went) → answerOf c (afterChecks k (went g)) .refusal ≡ passed → afterChecks k (went g) ≡ went g
+unfolding afterChecks answerOf
+accepted-went c k g = go (leb k 0) refl
+  where
+    go : (a : Bool) → leb k 0 ≡ a → answerOf c (cond a (went g) (refused k)) .refusal ≡ passed → cond a (went g) (refused k) ≡ went g
+    go true e q = refl
+    go false e q = let z = leb-false k 0 e in absurd (omega (arith, z, q))
+
+-- a crash of a coordinator whose record, without an operation, is that of its clock alone
+crashed-idle : (k : Buffered) → (k .state .op .kind ≡ idleKind → k .state ≡ idleWith (k .state .geometry) (k .state .clock))
+    → crashed k .next .state ≡ idleWith (k .state .geometry) (k .state .clock)
+unfolding crashed ending
+crashed-idle k idle = go (eqb (k .state .op .kind) idleKind) refl
+  where
+    go : (a : Bool) → eqb (k .state .op .kind) idleKind ≡ a
+        → cond a (record { next = k; sent = []; seen = nothingSeen }) (ending k (k .stripe) [] cutSeen noBricks)
+        .next .state ≡ idleWith (k .state .geometry) (k .state .clock)
+    go true e = idle (eqb-true (k .state .op .kind) idleKind e)
+    go false e = refl
+
+module _ (s : Settings) (e : inRange s ≡ true) (events : List Event) (c : ℕ) (l : c ≤ lastCoordinator) where
+  abbrev k : Buffered
+  k = run s events .world .coordinators c
+
+  -- no crash of a run is refused
+  pub crash-goes-on : crashStep (s .n) (s .m) (s .size) k ≡ went (crashed k)
+  unfolding crashStep
+  crash-goes-on = accepted-went (k .state) (crashRefusal (s .n) (s .m) (s .size) (k .state)) (crashed k) (crashes-accepted s e events c l)
+
+  pub crash-leaves : crashed k .next .state ≡ idleWith (geometryOf s) (record { coordinator = c; last = k .state .clock .last })
+  unfolding geometryOf
+  crash-leaves =
+      let i = run-holds s (range-of s e) events .1 .coordinators c in
+      let sound = sound-parts (s .n) (s .m) (s .size) (k .state) (records-open s e events c l .sound-is) in
+      crashed-idle k (i .idle-is)
+      ∙ ap₂ (λ (g : Geometry) (j : ℕ). idleWith g (record { coordinator = j; last = k .state .clock .last }))
+      (made-for (s .n) (s .m) (s .size) (k .state .geometry) (sound .made-for)) (i .number)
+
+pub crash-is-idle-with : CrashIsIdleWith
+unfolding answerOf
+crash-is-idle-with s e events c l =
+    ap (λ (p : Step). answerOf (run s events .world .coordinators c .state) p .next) (crash-goes-on s e events c l) ∙ crash-leaves s e events c l
+
+-- what a crash that is not refused gives, of any record
+pub accepted-crash-is-idle-with : AcceptedCrashIsIdleWith
+unfolding crashStep answerOf crashRefusal
+accepted-crash-is-idle-with n m size k z e =
+    let refusal = crashRefusal n m size (k .state) in
+    let went-on = accepted-went (k .state) refusal (crashed k) e in
+    let rest = passed-rest (codeRefusal n m size) _ (passes refusal (went (crashed k)) (crashed k) went-on .0) in
+    let sound = sound-parts n m size (k .state) (record-passes n m size (k .state) [] rest .0 .is-sound) in
+    ap (λ (p : Step). answerOf (k .state) p .next) went-on
+    ∙ crashed-idle k (λ i. idle-record n m size (k .state) sound z i ∙ ap (λ (g : Geometry). idleWith g (k .state .clock)) (sym (made-for n m size (k .state .geometry) (sound .made-for))))
+    ∙ ap (λ (g : Geometry). idleWith g (k .state .clock)) (made-for n m size (k .state .geometry) (sound .made-for))

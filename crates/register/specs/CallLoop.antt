@@ -1,0 +1,126 @@
+-- The runs are the code's: whoever calls the routines, in a loop and as often as they like, has made a run. Each call stands here with the
+-- facts that its contract gives, and with what a driver does with them. Proved in `proofs/Laws/CallLoopLaws`.
+use mathlib.Core.Path.{_≡_}
+use mathlib.Core.Bool.{true, false}
+use mathlib.Core.List.{List, []}
+use Prim.Native.Nat.{ℕ, _*_, _≤_, _<_}
+use lib.ListN.{length}
+use Rattle.settings.specs.Ranges.{inRange}
+use Rattle.settings.specs.Refusal.{passed}
+use Rattle.settings.specs.Times.{lastCoordinator, coordinatorOf}
+use Rattle.settings.specs.declared.Settings.{Settings}
+use Rattle.byte_lists.specs.Little.{Bytes}
+use Rattle.message.specs.Kinds.{writeKind}
+use Rattle.message.specs.declared.Message.{Message}
+use Rattle.message.specs.declared.Reply.{Reply}
+use Rattle.image.specs.Opening.{lendingRefusal}
+use Rattle.image_write.specs.Saving.{freshAfter}
+use Rattle.brick.specs.Receive.{outcomeWith, outcome}
+use Rattle.brick.specs.declared.Given.{Given}
+use Rattle.coord_record.specs.Records.{geometryOf, idleWith}
+use Rattle.coord_apply.specs.Answers.{Buffered, returned}
+use Rattle.coord_apply.specs.declared.Answer.{Answer}
+use Rattle.coordinator.specs.Routines.{writeCall, readCall, takeCall, crashCall}
+use Rattle.order.specs.Claim.{OneOrder, _∈_}
+use Rattle.register.specs.Runs.{plain, message, reply, World, Event, Moved, unmoved, joined, received, standing, run}
+use Rattle.register.specs.Driver.{driven, heldBlock, failed}
+
+-- buffers of the lengths that the settings ask for, with any bytes in them
+pub record Fits (s : Settings) (blocks stripe : List ℕ) : Type 0 where
+  pub blocks-long : length blocks ≡ s .n * s .size
+  pub stripe-long : length stripe ≡ s .m * s .size
+
+-- How it starts, by what `image_write::write_fresh` (not refused, whatever lay in the images) and `coord_record::idle_with` give: "fresh
+-- images, all bricks up, 16 idle coordinators with last count 0, nothing sent".
+pub record Started (s : Settings) (w : World) : Type 0 where
+  pub before : ℕ → List ℕ
+  pub not-refused : (b : ℕ) → b < s .n → lendingRefusal s b (length (before b)) ≡ passed
+  pub images-are : (b : ℕ) → b < s .n → w .images b ≡ freshAfter s b (before b)
+  pub all-up : (b : ℕ) → b < s .n → w .up b ≡ true
+  pub all-idle : (c : ℕ) → c ≤ lastCoordinator → w .coordinators c .state ≡ idleWith (geometryOf s) (record { coordinator = c; last = 0 })
+  pub all-fit : (c : ℕ) → c ≤ lastCoordinator → Fits s (w .coordinators c .blocks) (w .coordinators c .stripe)
+  pub none-sent : w .sent ≡ []
+
+-- What the contracts of the coordinator's routines ensure of the answer a and of the buffers lent, at a coordinator with its buffers.
+module _ (s : Settings) (k : Buffered) (a : Answer) where
+  -- `coordinator::start_write`
+  abbrev pub WriteEnsures : (reading : ℕ) → (content stripe : List ℕ) → Type 0
+  WriteEnsures reading content stripe =
+      (blocks coded : List ℕ)
+      → returned a blocks stripe coded ≡ writeCall (s .n) (s .m) (s .size) (k .state) blocks (k .stripe) coded reading content
+
+  -- `coordinator::start_read`
+  abbrev pub ReadEnsures : (reading first : ℕ) → Type 0
+  ReadEnsures reading first =
+      (blocks stripe coded : List ℕ)
+      → returned a blocks stripe coded ≡ readCall (s .n) (s .m) (s .size) (k .state) blocks stripe coded reading first
+
+  -- `coordinator::take_reply`
+  abbrev pub TakeEnsures : Reply → (block coded blocks′ stripe′ coded′ : List ℕ) → Type 0
+  TakeEnsures r block coded blocks′ stripe′ coded′ =
+      returned a blocks′ stripe′ coded′ ≡ takeCall (s .n) (s .m) (s .size) (k .state) (k .blocks) (k .stripe) coded r block
+
+-- `coordinator::crash`
+abbrev pub CrashEnsures : Settings → Buffered → Answer → Type 0
+CrashEnsures s k a =
+    (blocks stripe coded : List ℕ) → returned a blocks stripe coded ≡ crashCall (s .n) (s .m) (s .size) (k .state) blocks stripe coded
+
+-- What calls may have led to: a world, and what was seen so far. Refused calls are among them, and their contracts say that nothing changed.
+-- What was sent may be carried any number of times, in any order, or never.
+pub data Calls (s : Settings) : Moved s → Type 0 where
+  begin : (w : World) → Started s w → Calls s (unmoved s w)
+  -- `coordinator::start_write`; no start sends blocks
+  start-write : (r : Moved s) → Calls s r → (c : ℕ) → c ≤ lastCoordinator
+      → (reading : ℕ) (content : List ℕ) → Bytes content
+      → (a : Answer) (stripe : List ℕ) → WriteEnsures s (r .world .coordinators c) a reading content stripe
+      → Calls s (joined s r (driven s (r .world) c a (r .world .coordinators c .blocks) stripe []))
+  -- `coordinator::start_read`
+  start-read : (r : Moved s) → Calls s r → (c : ℕ) → c ≤ lastCoordinator
+      → (reading first : ℕ)
+      → (a : Answer) → ReadEnsures s (r .world .coordinators c) a reading first
+      → Calls s (joined s r (driven s (r .world) c a (r .world .coordinators c .blocks) (r .world .coordinators c .stripe) []))
+  -- `coordinator::take_reply`: a reply goes to the coordinator in its time. Beside one that holds no block anything may be lent, and any
+  -- buffer to send from: the contract says what is refused.
+  take-reply : (r : Moved s) → Calls s r → (x : Reply) (block : List ℕ) → reply x block ∈ r .world .sent
+      → (lent : List ℕ)
+      → (x .held ≡ true → lent ≡ block)
+      → (coded : List ℕ) (a : Answer) (blocks′ stripe′ coded′ : List ℕ)
+      → TakeEnsures s (r .world .coordinators (coordinatorOf (x .time))) a x lent coded blocks′ stripe′ coded′
+      → Calls s (joined s r (driven s (r .world) (coordinatorOf (x .time)) a blocks′ stripe′ coded′))
+  -- `coordinator::crash`
+  crash : (r : Moved s) → Calls s r → (c : ℕ) → c ≤ lastCoordinator
+      → (a : Answer) → CrashEnsures s (r .world .coordinators c) a
+      → Calls s (joined s r (driven s (r .world) c a (r .world .coordinators c .blocks) (r .world .coordinators c .stripe) []))
+  -- `brick::receive`: a message goes to its brick if that is up. Beside one that is no Write anything may be lent, and any buffer for the
+  -- reply: the contract says what is refused.
+  receive : (r : Moved s) → Calls s r → (b : ℕ) (msg : Message) (block : List ℕ) → message b msg block ∈ r .world .sent
+      → r .world .up b ≡ true
+      → (lent out : List ℕ)
+      → (msg .kind ≡ writeKind → lent ≡ block)
+      → (g : Given) (image′ out′ : List ℕ)
+      → outcomeWith g image′ out′ ≡ outcome s b (r .world .images b) msg lent out
+      → Calls s (joined s r (received s (r .world) b (outcomeWith g image′ (heldBlock s g out′))))
+  -- a brick goes down, or comes up with its image as saved
+  goes-down : (r : Moved s) → Calls s r → (b : ℕ) → Calls s (joined s r (standing s (r .world) b false))
+  comes-up : (r : Moved s) → Calls s r → (b : ℕ) → Calls s (joined s r (standing s (r .world) b true))
+  -- power fails at a coordinator, where an operation runs or none
+  power-fails : (r : Moved s) → Calls s r → (c : ℕ) → c ≤ lastCoordinator
+      → (blocks stripe : List ℕ) → Fits s blocks stripe
+      → Calls s (joined s r (failed s (r .world) c blocks stripe))
+
+-- the same images and bricks up, below n, the same 16 coordinators, and the same sent
+pub record Agrees (s : Settings) (w v : World) : Type 0 where
+  pub same-image : (b : ℕ) → b < s .n → w .images b ≡ v .images b
+  pub same-up : (b : ℕ) → b < s .n → w .up b ≡ v .up b
+  pub same-coordinator : (c : ℕ) → c ≤ lastCoordinator → w .coordinators c ≡ v .coordinators c
+  pub same-sent : w .sent ≡ v .sent
+
+-- Whoever makes such calls has made a run of some events: what is seen is what is seen of that run, and the world is the run's.
+abbrev pub WhoeverCallsMakesARun : Type 0
+WhoeverCallsMakesARun =
+    (s : Settings) → inRange s ≡ true → (r : Moved s) → Calls s r
+    → (events : List Event) × (r .seen ≡ run s events .seen) × Agrees s (r .world) (run s events .world)
+
+-- Demand 3 of what is seen by whoever makes such calls.
+abbrev pub WhoeverCallsHasOneOrder : Type 0
+WhoeverCallsHasOneOrder = (s : Settings) → inRange s ≡ true → (r : Moved s) → Calls s r → OneOrder (plain s) (r .seen)

@@ -1,0 +1,58 @@
+-- "Refused events stand in the list and change nothing, as does one naming a message not sent so far." Proved in
+-- `proofs/Laws/RefusedEventLaws`.
+use mathlib.Core.Path.{_≡_}
+use mathlib.Core.Logic.{_≢_}
+use mathlib.Core.Bool.{false, cond}
+use mathlib.Core.List.{List, [], _∷_}
+use Prim.Native.Nat.{ℕ, zero, suc, _*_}
+use lib.Dec.{ltb}
+use lib.ListN.{replicate}
+use Rattle.settings.specs.Refusal.{passed, refuseUnless, badNumber, badLine}
+use Rattle.settings.specs.Times.{coordinatorOf}
+use Rattle.settings.specs.declared.Settings.{Settings}
+use Rattle.byte_lists.specs.Little.{areBytes}
+use Rattle.message.specs.declared.Message.{Message}
+use Rattle.brick.specs.Receive.{outcome, givenNumber}
+use Rattle.coord_apply.specs.Answers.{Step, answerOf}
+use Rattle.coordinator.specs.Routines.{takeStep, crashStep, writeStep, readStep}
+use Rattle.register.specs.Runs.{Item, message, reply, World, Event, startWrite, startRead, arrives, crashes, goesDown, comesUp}
+use Rattle.register.specs.Runs.{unmoved, arriving, step}
+
+-- the number in the answer of a coordinator's routine
+abbrev pub routineNumber : World → ℕ → Step → ℕ
+routineNumber w c p = answerOf (w .coordinators c .state) p .refusal
+
+-- the number with which a message is refused by its brick, if that is up, or a reply by its coordinator
+unfoldable pub itemNumber : Settings → World → Item → ℕ
+itemNumber s w (message b msg block) =
+    cond (w .up b) (givenNumber (outcome s b (w .images b) msg block (replicate (s .size) 0) .given)) passed
+itemNumber s w (reply r block) =
+    routineNumber w (coordinatorOf (r .time))
+    (takeStep (s .n) (s .m) (s .size) (w .coordinators (coordinatorOf (r .time))) r block (s .n * s .size))
+
+-- the same by place; 12 for "a number not sent yet"
+unfoldable pub placeNumber : Settings → World → List Item → ℕ → ℕ
+placeNumber s w [] k = badLine
+placeNumber s w (i ∷ is) zero = itemNumber s w i
+placeNumber s w (i ∷ is) (suc k) = placeNumber s w is k
+
+-- The number with which an event is refused in a world, 0 for none. A start whose content is no bytes is none that reads; "a brick number
+-- not below n" is refused also where a brick goes down or comes up.
+unfoldable pub eventNumber : Settings → World → Event → ℕ
+eventNumber s w (startWrite c reading content) =
+    cond (areBytes content) (routineNumber w c (writeStep (s .n) (s .m) (s .size) (w .coordinators c) reading content)) badLine
+eventNumber s w (startRead c reading first) = routineNumber w c (readStep (s .n) (s .m) (s .size) (w .coordinators c) reading first)
+eventNumber s w (arrives k) = placeNumber s w (w .sent) k
+eventNumber s w (crashes c left) = routineNumber w c (crashStep (s .n) (s .m) (s .size) (w .coordinators c))
+eventNumber s w (goesDown b) = refuseUnless (ltb b (s .n)) badNumber
+eventNumber s w (comesUp b) = refuseUnless (ltb b (s .n)) badNumber
+
+-- In any world an event that is refused leaves every image, record, buffer and brick as it was, sends nothing, and nothing is seen of it.
+abbrev pub RefusedEventsChangeNothing : Type 0
+RefusedEventsChangeNothing = (s : Settings) (w : World) (e : Event) → eventNumber s w e ≢ passed → step s w e ≡ unmoved s w
+
+-- "at a down brick it is lost"
+abbrev pub LostAtADownBrick : Type 0
+LostAtADownBrick =
+    (s : Settings) (w : World) (b : ℕ) (msg : Message) (block : List ℕ) → w .up b ≡ false
+    → arriving s w (message b msg block) ≡ unmoved s w
