@@ -52,7 +52,7 @@ toldOf (Answered r) = []
 toldOf Silent = []
 toldOf (Refused number) = refusedText number
 
--- what a brick gave is settled: a reply is one more item, a refusal is printed
+-- what a brick gave is settled: a reply is one more item, a refusal is printed; without a reply the record and the rows keep every byte
 pub record Settled (b : Bench) (g : Given) (block numbers bytes : List ℕ) (at : ℕ) (out : List ℕ) (r : After) (numbers′ bytes′ out′ : List ℕ) : Type 0 where
   pub world-is : (images kept : List ℕ) → worldIn (r .bench) (lent images kept numbers′ bytes′)
       ≡ worldOf b images kept (itemsOf (b .settings .size) numbers bytes (b .sent) ++ repliedWith g block)
@@ -61,3 +61,4 @@ pub record Settled (b : Bench) (g : Given) (block numbers bytes : List ℕ) (at 
   pub text-is : out′ ≡ printedInto at (toldOf g) out
   pub used-is : r .used ≡ at + length (toldOf g)
   pub short : r .used ≤ at + lineRoom
+  pub no-reply-keeps : repliedWith g block ≡ [] → (r .bench ≡ b) × (numbers′ ≡ numbers) × (bytes′ ≡ bytes)

@@ -50,10 +50,12 @@ pub record Heard (t : Turn) (out : List ℕ) (r : LinePlayed) (l′ : Lent) (out
   pub used-is : r .used ≡ length (t .printed)
   pub within : r .used ≤ length out
 
--- A whole call: the refusal; whatever the events so far, the turn from the stage with these events; a refused call leaves everything, and
--- an accepted one leaves a bench that is accepted again.
+-- A whole call: the refusal; whatever the events so far, the turn from the stage with these events; where it leaves the stage as it was (a
+-- refused line, or a refused call) every byte of the record and of the lent buffers is kept, those that mean nothing too; a refused call keeps
+-- the text as well, and an accepted one leaves a bench that is accepted again.
 pub record Called (b : Bench) (l : Lent) (line out : List ℕ) (r : LinePlayed) (l′ : Lent) (out′ : List ℕ) : Type 0 where
   pub refusal-is : r .refusal ≡ refusalOf b l out
   pub plays-on : (events : List Event) → Heard (heard (r .refusal) (stageOf b l events) line) out r l′ out′
+  pub unmoved-keeps : (events : List Event) → heard (r .refusal) (stageOf b l events) line .stage ≡ stageOf b l events → (r .bench ≡ b) × (l′ ≡ l)
   pub refused-keeps : (r .refusal ≡ 0 → ⊥) → (r .bench ≡ b) × (l′ ≡ l) × (out′ ≡ out)
   pub accepted-again : r .refusal ≡ 0 → refusalOf (r .bench) l′ out′ ≡ 0

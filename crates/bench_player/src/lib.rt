@@ -1,13 +1,13 @@
 // The bench's lines, played one at a time over the proved routines (document 01, "The bench"): `play_line` is what a user calls.
 ghost use mathlib.Core.Path.{_≡_};
 ghost use mathlib.Core.Bool.{_||_};
-ghost use mathlib.Core.List.{List, [], _∷_, _++_};
-ghost use Prim.Native.Nat.{_+_, _≤_};
+ghost use mathlib.Core.List.{List};
+ghost use Prim.Native.Nat.{_≤_};
 ghost use lib.Dec.{eqb};
-ghost use lib.ListN.{length, take};
+ghost use lib.ListN.{length};
 ghost use Rattle.bench_player.specs.Lining.{stageOf, lentLengthsRight, benchRefused, Called};
 ghost use Rattle.bench_player.specs.Workers.{First};
-ghost use Rattle.bench_parse.specs.Lines.{heldLength, reads};
+ghost use Rattle.bench_parse.specs.Lines.{reads};
 ghost use Rattle.bench_parse.specs.Workers.{lineOf, LineSound};
 ghost use Rattle.bench_rules.specs.Play.{plays, waiting};
 ghost use Rattle.bench_rules.specs.Turning.{Lent, lent, worldIn};
@@ -24,7 +24,6 @@ use bench_limits::LAST_MESSAGE;
 use bench_limits::NUMBERS_LENGTH;
 use bench_limits::TEXT_LENGTH;
 use bench_limits::UP;
-use bench_parse::HELD_LENGTH;
 use bench_parse::Line;
 use bench_rules::After;
 use bench_state::Bench;
@@ -43,7 +42,8 @@ fn play_first(
     requires { ⌜ (lineOf l (now line) ≡ reads (now line)) × LineSound l (now line) ⌝ }
     requires { ⌜ (b .settings .n ≡ 0) × (b .sent ≤ lastMessage) ⌝ }
     requires { ⌜ (length (now images) ≡ imagesLength) × (length (now kept) ≡ keptLength) × (length (now out) ≡ textLength) ⌝ }
-    ensures { λ r. ⌜ First (reads (now (line .entry))) (now (out .entry)) r (now (images .exit)) (now (kept .exit)) (now (out .exit)) ⌝ }
+    ensures { λ r. ⌜ First b (now (images .entry)) (now (kept .entry)) (reads (now (line .entry))) (now (out .entry)) r
+        (now (images .exit)) (now (kept .exit)) (now (out .exit)) ⌝ }
 {
     match l {
         Line::Set(n, m, size, capacity) => {
@@ -231,17 +231,4 @@ pub fn play_line(
         bench,
         used: r.used,
     }
-}
-
-// A byte more of a line that has not ended: its first 1,001 bytes are kept, since a longer line reads as nothing anyway.
-pub fn add_byte(line: &mut [u8], held: usize, byte: u8) -> usize
-    requires { ⌜ (held ≤ heldLength) × (length (now line) ≡ heldLength) ⌝ }
-    ensures { λ r. ⌜ take r (now (line .exit)) ≡ take heldLength (take held (now (line .entry)) ++ byte ∷ []) ⌝ }
-    ensures { λ r. ⌜ r ≤ heldLength ⌝ }
-{
-    if HELD_LENGTH <= held {
-        return held;
-    }
-    line[held] = byte;
-    held + 1
 }

@@ -8,7 +8,7 @@ use Rattle.settings.specs.Ranges.{inRange}
 use Rattle.settings.specs.declared.Settings.{Settings}
 use Rattle.image.specs.Brick
 use Rattle.image.specs.Image.{imageOf, imageSize}
-use Rattle.coord_record.specs.Records.{idleWith}
+use Rattle.coord_record.specs.Records.{geometryOf, idleWith}
 use Rattle.coord_record.specs.declared.Coordinator.{Coordinator}
 use Rattle.coord_apply.specs.Answers.{Buffered}
 use Rattle.register.specs.Runs.{Item, World, idle}
@@ -28,15 +28,15 @@ unfoldable pub upOf : List ℕ → ℕ → Bool
 upOf up b = eqb (getD up b upFlag) upFlag
 
 -- "16 idle coordinators with last count 0"
-unfoldable pub idleAt : ℕ → Coordinator
-idleAt c = idleWith (record { coordinator = c; last = 0 })
+unfoldable pub idleAt : Settings → ℕ → Coordinator
+idleAt s c = idleWith (geometryOf s) (record { coordinator = c; last = 0 })
 
 -- "coordinators 0 to 3": what coordinator c keeps beside its record: the reply blocks, and the stripe behind their room
 unfoldable pub coordinatorKept : Settings → List Coordinator → List ℕ → ℕ → Buffered
 coordinatorKept s coordinators kept c =
     cond (ltb c benchCoordinators)
     (record {
-      state = getD coordinators c (idleAt c);
+      state = getD coordinators c (idleAt s c);
       blocks = take (s .n * s .size) (drop (c * keptRoom) kept);
       stripe = take (s .m * s .size) (drop (c * keptRoom + stripeRoom) kept);
     })

@@ -24,7 +24,7 @@ freshBench s =
     record {
       settings = s;
       up = upFlag ∷ upFlag ∷ upFlag ∷ upFlag ∷ [];
-      coordinators = idleAt 0 ∷ idleAt 1 ∷ idleAt 2 ∷ idleAt 3 ∷ [];
+      coordinators = idleAt s 0 ∷ idleAt s 1 ∷ idleAt s 2 ∷ idleAt s 3 ∷ [];
       sent = 0;
     }
 

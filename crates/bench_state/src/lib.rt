@@ -22,6 +22,7 @@ use bench_limits::SIZE;
 use bench_limits::STRIPE_ROOM;
 use bench_limits::UP;
 use coord_record::Coordinator;
+use coord_record::Geometry;
 use settings::Clock;
 use settings::Settings;
 
@@ -53,25 +54,30 @@ pub fn bench_refusal(s: Settings) -> u32
     0
 }
 
-// An idle coordinator that drew no time yet.
-fn new_coordinator(c: u64) -> Coordinator
-    ensures { λ r. ⌜ r ≡ idleAt c ⌝ }
+// An idle coordinator of a set that drew no time yet.
+fn new_coordinator(s: Settings, c: u64) -> Coordinator
+    ensures { λ r. ⌜ r ≡ idleAt s c ⌝ }
 {
+    let geometry = Geometry {
+        n: s.n,
+        m: s.m,
+        size: s.size,
+    };
     let clock = Clock {
         coordinator: c,
         last: 0,
     };
-    coord_record::idle_with(clock)
+    coord_record::idle_with(geometry, clock)
 }
 
 // The record of a set that begins.
 pub fn new_bench(s: Settings) -> Bench
     ensures { λ r. ⌜ r ≡ freshBench s ⌝ }
 {
-    let a = new_coordinator(0);
-    let b = new_coordinator(1);
-    let c = new_coordinator(2);
-    let d = new_coordinator(3);
+    let a = new_coordinator(s, 0);
+    let b = new_coordinator(s, 1);
+    let c = new_coordinator(s, 2);
+    let d = new_coordinator(s, 3);
     Bench {
         settings: s,
         up: [UP; BRICKS],
@@ -134,7 +140,7 @@ pub fn with_up(b: Bench, brick: usize, flag: u8) -> Bench
 // A coordinator's record.
 pub fn coordinator_at(b: Bench, c: usize) -> Coordinator
     requires { ⌜ c < benchCoordinators ⌝ }
-    ensures { λ r. ⌜ r ≡ getD (b .coordinators) c (idleAt c) ⌝ }
+    ensures { λ r. ⌜ r ≡ getD (b .coordinators) c (idleAt (b .settings) c) ⌝ }
     ensures { λ _. ⌜ length (b .coordinators) ≡ benchCoordinators ⌝ }
 {
     let all = b.coordinators;

@@ -23,7 +23,7 @@ use Rattle.bench_sent.specs.Sent.{itemsOf, itemAt}
 use Rattle.bench_state.specs.Workers.{Fits}
 use Rattle.bench_state.specs.State.{worldOf}
 use Rattle.bench_state.specs.declared.Bench.{Bench}
-use Rattle.register.specs.Runs.{Item, World}
+use Rattle.register.specs.Runs.{Item, World, Event}
 use Rattle.bench_carry.specs.Workers.{Carrying}
 use Rattle.bench_limits.specs.Limits.{lineRoom, textLength}
 use Rattle.settings.specs.Refusal.{badLine}
@@ -94,11 +94,20 @@ module _ (b : Bench) (l : Lent) (at : ℕ) (out : List ℕ) (r : After) (l′ : 
       ∙ sym (carries-item (b .settings) (worldIn b l) j (b .settings .size) (l .numbers) (l .bytes) (b .sent) j (omega arith)))
       t
 
+-- two lists of events that are none together are none each
+none-before : (xs ys : List Event) → xs ++ ys ≡ [] → xs ≡ []
+none-before [] ys q = refl
+none-before (x ∷ xs) ys q = let z = ap length q in absurd (omega arith)
+
+none-behind : (xs ys : List Event) → xs ++ ys ≡ [] → ys ≡ []
+none-behind xs ys q = ap (λ (l : List Event). l ++ ys) (sym (none-before xs ys q)) ∙ q
+
 module _ (b : Bench) (l : Lent) (line : List ℕ) (first : ℕ) (out : List ℕ) where
   pub carrying-first : BenchReady b l → CarryFrom line first → Carrying b l line first out first (record { bench = b; used = 0 }) l out
   carrying-first ready c =
       record {
         text = [];
+        happened = [];
         ready = ready;
         settings-kept = refl;
         out-long = refl;
@@ -108,6 +117,8 @@ module _ (b : Bench) (l : Lent) (line : List ℕ) (first : ℕ) (out : List ℕ)
         rest = rest-first line first c;
         world-so = refl;
         printed-so = refl;
+        events-so = refl;
+        no-event-keeps = λ q. (refl, refl);
       }
 
   -- one number more
@@ -127,6 +138,7 @@ module _ (b : Bench) (l : Lent) (line : List ℕ) (first : ℕ) (out : List ℕ)
       let now-at : worldIn (r′ .bench) l″ ≡ p .world = t .world-is ∙ ap (λ (x : Played). x .world) same in
       record {
         text = c .text ++ p .printed;
+        happened = c .happened ++ p .events;
         ready = record {
           fits = subst Fits (sym (t .settings-kept)) (c .ready .fits);
           few = t .few;
@@ -155,6 +167,14 @@ module _ (b : Bench) (l : Lent) (line : List ℕ) (first : ℕ) (out : List ℕ)
             c .printed-so ∙ ap (λ (ks : List ℕ). c .text ++ carriedAll s (worldIn (r .bench) l′) ks .printed) split
             ∙ ap (λ (w : World). c .text ++ (p .printed ++ carriedAll s w later .printed)) (sym now-at)
             ∙ sym (append-assoc (c .text) (p .printed) _);
+        events-so =
+            c .events-so ∙ ap (λ (ks : List ℕ). c .happened ++ carriedAll s (worldIn (r .bench) l′) ks .events) split
+            ∙ ap (λ (w : World). c .happened ++ (p .events ++ carriedAll s w later .events)) (sym now-at)
+            ∙ sym (append-assoc (c .happened) (p .events) _);
+        no-event-keeps = λ q.
+            (let before = c .no-event-keeps (none-before (c .happened) (p .events) q) in
+            let after = t .no-event-keeps (ap (λ (x : Played). x .events) same ∙ none-behind (c .happened) (p .events) q) in
+            (after .0 ∙ before .0, after .1 ∙ before .1));
       }
 
   -- no number is left
@@ -168,6 +188,9 @@ module _ (b : Bench) (l : Lent) (line : List ℕ) (first : ℕ) (out : List ℕ)
       let all : carriedAll s (worldIn b l) (numbersOf (wordsFrom line first)) .printed ≡ c .text =
       c .printed-so ∙ ap (λ (ks : List ℕ). c .text ++ carriedAll s (worldIn (r .bench) l′) ks .printed) none ∙ append-nil (c .text)
       in
+      let events-all : carriedAll s (worldIn b l) (numbersOf (wordsFrom line first)) .events ≡ c .happened =
+      c .events-so ∙ ap (λ (ks : List ℕ). c .happened ++ carriedAll s (worldIn (r .bench) l′) ks .events) none ∙ append-nil (c .happened)
+      in
       record {
         world-is = sym (c .world-so ∙ ap (λ (ks : List ℕ). carriedAll s (worldIn (r .bench) l′) ks .world) none);
         settings-kept = c .settings-kept;
@@ -175,6 +198,7 @@ module _ (b : Bench) (l : Lent) (line : List ℕ) (first : ℕ) (out : List ℕ)
         text-is = c .text-is ∙ ap (λ (x : List ℕ). printedInto 0 x out) (sym all);
         used-is = c .used-is ∙ ap length (sym all);
         within = (let a = c .room in let d = c .rest .high in omega arith);
+        no-event-keeps = λ q. c .no-event-keeps (sym events-all ∙ q);
       }
 
 -- what the parts of a carried number ask, of a set that is ready

@@ -30,7 +30,7 @@ use Rattle.bench_print.specs.Printing.{printedInto}
 use Rattle.bench_rules.specs.Play.{Played, carries, reaches, delivered, happens, refuses, passes}
 use Rattle.bench_rules.specs.Turning.{Lent, lent, worldIn}
 use Rattle.bench_rules.specs.Workers.{Turned}
-use Rattle.bench_rules.proofs.Laws.TurningLaws.{turned-nothing}
+use Rattle.bench_rules.proofs.Laws.TurningLaws.{turned-nothing, one-event}
 use Rattle.bench_rules.specs.declared.After.{After}
 use Rattle.bench_carry_message.proofs.Laws.ReplyKeptLaws.{refusal-keeps, room}
 use Rattle.bench_carry_message.specs.Workers.{Lends, Reaching, Settled, maySend, sentAfterMessage, toldOf}
@@ -170,6 +170,7 @@ module _ (b : Bench) (k brick : ℕ) (msg : Message) (images numbers bytes : Lis
             text-is = subst (λ (x : List ℕ). out′ ≡ printedInto at x out) t (d .text-is);
             used-is = subst (λ (x : List ℕ). r .used ≡ at + length x) t (d .used-is);
             short = d .short;
+            no-event-keeps = λ z. absurd (one-event (arrives k) z);
           }
 
       -- a refusal: the image kept its bytes
@@ -186,8 +187,12 @@ module _ (b : Bench) (k brick : ℕ) (msg : Message) (images numbers bytes : Lis
             text-is = d .text-is;
             used-is = d .used-is;
             short = d .short;
+            no-event-keeps = λ z. (let u = d .no-reply-keeps refl in (u .0, all-lent back (u .1) (u .2)));
           }
         where
+          all-lent : {i n′ b′ : List ℕ} → i ≡ images → n′ ≡ numbers → b′ ≡ bytes → lent i kept n′ b′ ≡ lent images kept numbers bytes
+          all-lent p x y = cc
+
           same : new ≡ image
           same = ei ∙ refusal-keeps s brick image msg (sentBlockAt (s .size) bytes k) (replicate (s .size) 0) n (sym e)
 

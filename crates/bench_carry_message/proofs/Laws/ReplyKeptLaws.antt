@@ -113,6 +113,7 @@ module _ (b : Bench) (block numbers bytes : List ℕ) (at : ℕ) (out : List ℕ
         text-is = sym (written-nothing at out);
         used-is = omega arith;
         short = omega arith;
+        no-reply-keeps = λ q. (let z = ap length q in absurd (omega arith));
       })
 
   -- silence leaves all
@@ -127,6 +128,7 @@ module _ (b : Bench) (block numbers bytes : List ℕ) (at : ℕ) (out : List ℕ
         text-is = sym (written-nothing at out);
         used-is = omega arith;
         short = omega arith;
+        no-reply-keeps = λ q. (refl, refl, refl);
       })
 
   -- a refusal is printed
@@ -144,4 +146,5 @@ module _ (b : Bench) (block numbers bytes : List ℕ) (at : ℕ) (out : List ℕ
         text-is = u .text-is;
         used-is = u .used-is;
         short = u .short;
+        no-reply-keeps = λ q. (u .no-event-keeps refl .0, refl, refl);
       })

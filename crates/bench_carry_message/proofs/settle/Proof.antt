@@ -29,9 +29,7 @@ enum-known-g-2 : tie.Need-enum-known-g-2
 enum-known-g-2 c = search needs
 
 refuse-requires : tie.Need-refuse-requires
-refuse-requires c κs =
-    let s = c .before .before .before .before .before .before .before .before in
-    (room-any (s .args .b .sent) (s .args .g) (s .pre .0 .0), s .pre .1 .2)
+refuse-requires c κs = search (needs, room-any)
 
 same-length : tie.Need-same-length
 same-length c = search needs
@@ -57,10 +55,7 @@ same-length-3 : tie.Need-same-length-3
 same-length-3 c = search needs
 
 returns-3 : tie.Need-returns-3
-returns-3 c =
-    let s = c .before .before .before .before .before .before .before .before .before .before .before in
-    settled-refused (s .args .b) (s .args .block .now) (s .args .numbers .now) (s .args .bytes .now) (s .args .at) (s .args .out .now) (s .args .g) _ _ _
-    (c .before .before .before .before .before .g2 .given .1) (c .before .before .refuse .ensures)
+returns-3 c = settled-refused _ _ _ _ _ _ _ _ _ _ (search needs) (c .before .before .refuse .ensures)
 
 pub settle-spec : {M : Type 1} → statement M
 settle-spec =

@@ -88,13 +88,13 @@ module _ (b : Bench) (c : ℕ) (kept numbers bytes : List ℕ) (at : ℕ) (out :
       }
 
   -- the copies are what the coordinator keeps
-  copied : (old : Coordinator) (blocks stripe : List ℕ) → c < benchCoordinators → old ≡ getD (b .coordinators) c (idleAt c)
+  copied : (old : Coordinator) (blocks stripe : List ℕ) → c < benchCoordinators → old ≡ getD (b .coordinators) c (idleAt (b .settings) c)
       → blocks ≡ take (b .settings .n * b .settings .size) (drop (c * keptRoom) kept)
       → stripe ≡ take (b .settings .m * b .settings .size) (drop (c * keptRoom + stripeRoom) kept) → buffered old blocks stripe ≡ here
   unfolding coordinatorKept buffered
   copied old blocks stripe l e eb es = rw (lt-ltb c benchCoordinators l) cc
 
-  module _ (old : Coordinator) (blocks stripe : List ℕ) (low : c < benchCoordinators) (eo : old ≡ getD (b .coordinators) c (idleAt c))
+  module _ (old : Coordinator) (blocks stripe : List ℕ) (low : c < benchCoordinators) (eo : old ≡ getD (b .coordinators) c (idleAt (b .settings) c))
       (eb : blocks ≡ take (b .settings .n * b .settings .size) (drop (c * keptRoom) kept))
       (es : stripe ≡ take (b .settings .m * b .settings .size) (drop (c * keptRoom + stripeRoom) kept)) where
     same : buffered old blocks stripe ≡ here

@@ -28,6 +28,7 @@ use Rattle.bench_state.specs.declared.Bench.{Bench}
 use Rattle.bench_rules.specs.Play.{refuses, happens, acts}
 use Rattle.bench_rules.specs.Turning.{Lent, lent, worldIn}
 use Rattle.bench_rules.specs.Workers.{Turned}
+use Rattle.bench_rules.proofs.Laws.TurningLaws.{one-event}
 use Rattle.bench_rules.specs.declared.After.{After}
 use Rattle.bench_commit.specs.Workers.{answered, sentAfterAnswer}
 use Rattle.bench_commit.specs.Workers.{Round, Seats, Copies, Answers}
@@ -165,6 +166,7 @@ module _ (b : Bench) (l : Lent) (e : Event) (c : ℕ) (a : Answer) (blocks strip
         text-is = eo;
         used-is = eu;
         short = short;
+        no-event-keeps = λ z. absurd (one-event e z);
       })
     where
       make : (ℕ → Buffered) → List Item → World

@@ -5,16 +5,13 @@ use Rattle.bench_commit.proofs.commit.Statement.{statement}
 use Rattle.bench_commit.proofs.commit.Tie as tie
 
 refuse-requires : tie.Need-refuse-requires
-refuse-requires c κs = let s = c .before .before .before .before .before .before .before .before .before .before in (s .pre .0 .few, s .pre .0 .room)
+refuse-requires c κs = search needs
 
 same-length : tie.Need-same-length
 same-length c = search needs
 
 returns : tie.Need-returns
-returns c =
-    let s = c .before .before .before .before .before .before .before .before .before .before .before .before .before in
-    answers-refused (s .args .b) (s .args .c) (s .args .a) (s .args .blocks .now) (s .args .stripe .now) (s .args .coded .now) (s .args .kept .now) (s .args .numbers .now)
-    (s .args .bytes .now) (s .args .at) (s .args .out .now) (s .pre .0) _ _ (c .before .before .before .before .if1 .taken) (c .before .before .refuse .ensures)
+returns c = answers-refused _ _ _ _ _ _ _ _ _ _ _ (search needs) _ _ (search needs) (c .before .before .refuse .ensures)
 
 sent-after-requires : tie.Need-sent-after-requires
 sent-after-requires c κs = let p = c .before .before .before .before .before .before .before .before .before .before .pre .0 in

@@ -11,7 +11,7 @@ use Rattle.byte_lists.proofs.Laws.BoolLaws.{and-left, and-right}
 use Rattle.settings.specs.Refusal.{refuseUnless, firstRefusal, badLength, badRecord, badSetting}
 use Rattle.settings.specs.declared.Settings.{Settings}
 use Rattle.bench_parse.specs.Lines.{reads}
-use Rattle.bench_rules.specs.Play.{waiting, playing, eventsOf, Turn, turn, plays}
+use Rattle.bench_rules.specs.Play.{Stage, waiting, playing, eventsOf, turn, plays}
 use Rattle.bench_rules.specs.Turning.{Lent, lent, worldIn}
 use Rattle.bench_rules.specs.Workers.{BenchReady, Lined}
 use Rattle.bench_rules.specs.declared.After.{After}
@@ -151,13 +151,14 @@ module _ (b : Bench) (l : Lent) (line out : List ℕ) where
               used-is = refl;
               within = omega arith;
             });
+        unmoved-keeps = λ events q. (refl, refl);
         refused-keeps = λ q. (refl, refl, refl);
         accepted-again = λ q. absurd (h q);
       }
 
   -- from the stage that the record has
   called-staged : (r : After) (l′ : Lent) (out′ : List ℕ) → refusalOf b l out ≡ 0
-      → ((events : List Event) → Staged (turn (stageOf b l events) (reads line)) out r l′ out′)
+      → ((events : List Event) → Staged b l (stageOf b l events) (turn (stageOf b l events) (reads line)) out r l′ out′)
       → length (l′ .images) ≡ length (l .images) → length (l′ .kept) ≡ length (l .kept) → length (l′ .numbers) ≡ length (l .numbers)
       → length (l′ .bytes) ≡ length (l .bytes) → length out′ ≡ length out
       → Called b l line out (record { refusal = 0; bench = r .bench; used = r .used }) l′ out′
@@ -173,6 +174,7 @@ module _ (b : Bench) (l : Lent) (line out : List ℕ) where
               used-is = t events .used-is;
               within = (let w = t events .within in let o = a .out-long in omega arith);
             };
+        unmoved-keeps = λ events q. t events .unmoved-keeps q;
         refused-keeps = λ q. absurd (q refl);
         accepted-again = λ q.
             sym
@@ -184,15 +186,15 @@ module _ (b : Bench) (l : Lent) (line out : List ℕ) where
       }
 
   pub called-first : (k : ℕ) (r : After) (images′ kept′ out′ : List ℕ) → k ≡ refusalOf b l out → k ≡ 0 → b .settings .n ≡ 0
-      → First (reads line) out r images′ kept′ out′
+      → First b (l .images) (l .kept) (reads line) out r images′ kept′ out′
       → length images′ ≡ length (l .images) → length kept′ ≡ length (l .kept) → length out′ ≡ length out
       → Called b l line out (record { refusal = 0; bench = r .bench; used = r .used }) (lent images′ kept′ (l .numbers) (l .bytes)) out′
   unfolding stageOf turn
   called-first k r images′ kept′ out′ e z n f ei ek eo =
       called-staged r (lent images′ kept′ (l .numbers) (l .bytes)) out′ (sym e ∙ z)
       (λ events.
-      subst (λ (x : Turn). Staged x out r (lent images′ kept′ (l .numbers) (l .bytes)) out′)
-      (sym (ap (λ (x : Bool). turn (cond x waiting (playing (b .settings) (worldIn b l) events)) (reads line)) (eq-eqb (b .settings .n) 0 n)))
+      subst (λ (x : Stage). Staged b l x (turn x (reads line)) out r (lent images′ kept′ (l .numbers) (l .bytes)) out′)
+      (sym (ap (λ (x : Bool). cond x waiting (playing (b .settings) (worldIn b l) events)) (eq-eqb (b .settings .n) 0 n)))
       (f .staged (l .numbers) (l .bytes)))
       ei ek refl refl eo
 
@@ -207,8 +209,8 @@ module _ (b : Bench) (l : Lent) (line out : List ℕ) where
       let q = set-range (b .settings) (a .right) n in
       called-staged r l′ out′ (sym e ∙ z)
       (λ events.
-      subst (λ (x : Turn). Staged x out r l′ out′)
-      (sym (ap (λ (x : Bool). turn (cond x waiting (playing (b .settings) (worldIn b l) events)) (reads line)) (ne-eqb (b .settings .n) 0 n)))
+      subst (λ (x : Stage). Staged b l x (turn x (reads line)) out r l′ out′)
+      (sym (ap (λ (x : Bool). cond x waiting (playing (b .settings) (worldIn b l) events)) (ne-eqb (b .settings .n) 0 n)))
       (lined-staged b l l′ out out′ r (reads line) events (bench-fits (b .settings) q) q d))
       ei ek en eb eo
 

@@ -15,17 +15,13 @@ bench-refusal-requires : tie.Need-bench-refusal-requires
 bench-refusal-requires c κs = search needs
 
 refuse-requires : tie.Need-refuse-requires
-refuse-requires c κs = let s = c .before .before .before .before .before .before .before .before .before .before in (s .pre .1 .0 .1, omega (arith, s .pre .1 .1 .2))
+refuse-requires c κs = (search needs, omega arith)
 
 same-length : tie.Need-same-length
 same-length c = search needs
 
 returns : tie.Need-returns
-returns c =
-    let s = c .before .before .before .before .before .before .before .before .before .before .before .before .before in
-    first-bad (s .args .b) (s .args .out .now) _ _ (s .pre .1 .0 .0) _ _ _ _ _ (reads (s .args .line .now)) (s .args .images .now) (s .args .kept .now)
-    (said-set (s .args .l) (s .args .line .now) (s .pre .0 .0) _ _ _ _ (c .before .before .before .before .before .before .before .l .given .1))
-    (c .before .before .before .before .before .bench-refusal .ensures) (c .before .before .before .before .if1 .taken) (c .before .before .refuse .ensures)
+returns c = search (needs, first-bad, said-set)
 
 set-up-requires : tie.Need-set-up-requires
 set-up-requires c κs =
@@ -85,7 +81,7 @@ returns-2 : tie.Need-returns-2
 returns-2 c =
     let s = c .before .before .before .before .before .before .before .before .before .before .before .before .before .before .before .before in
     let u = c .before .before .before .before .set-up .ensures in
-    first-set _ _ (s .args .out .now) _ (reads (s .args .line .now)) _ _
+    first-set (s .args .b) (s .args .images .now) (s .args .kept .now) _ _ (s .args .out .now) _ (reads (s .args .line .now)) _ _
     (said-set (s .args .l) (s .args .line .now) (s .pre .0 .0) _ _ _ _ (c .before .before .before .before .before .before .before .before .before .before .l .given .1))
     (c .before .before .before .before .before .before .before .before .bench-refusal .ensures) (c .before .before .before .before .before .before .before .if1 .left) (u .0) (u .1)
 

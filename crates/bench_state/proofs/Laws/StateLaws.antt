@@ -36,12 +36,12 @@ zero-part at k n h =
     ∙ getD-replicate n (at + i) 0 0 (omega arith)
     ∙ sym (getD-replicate k i 0 0 (omega arith)))
 
-fresh-state : (c : ℕ) → getD (idleAt 0 ∷ idleAt 1 ∷ idleAt 2 ∷ idleAt 3 ∷ []) c (idleAt c) ≡ idleAt c
-fresh-state zero = refl
-fresh-state (suc zero) = refl
-fresh-state (suc (suc zero)) = refl
-fresh-state (suc (suc (suc zero))) = refl
-fresh-state (suc (suc (suc (suc c)))) = refl
+fresh-state : (s : Settings) (c : ℕ) → getD (idleAt s 0 ∷ idleAt s 1 ∷ idleAt s 2 ∷ idleAt s 3 ∷ []) c (idleAt s c) ≡ idleAt s c
+fresh-state s zero = refl
+fresh-state s (suc zero) = refl
+fresh-state s (suc (suc zero)) = refl
+fresh-state s (suc (suc (suc zero))) = refl
+fresh-state s (suc (suc (suc (suc c)))) = refl
 
 fresh-up : (b : ℕ) → upOf (upFlag ∷ upFlag ∷ upFlag ∷ upFlag ∷ []) b ≡ true
 unfolding upOf
@@ -56,21 +56,21 @@ abbrev holding : Coordinator → List ℕ → List ℕ → Buffered
 holding state blocks stripe = record { state = state; blocks = blocks; stripe = stripe }
 
 module _ (s : Settings) (small : Small s) where
-  fresh-held : (c : ℕ) → coordinatorKept s (idleAt 0 ∷ idleAt 1 ∷ idleAt 2 ∷ idleAt 3 ∷ []) (replicate keptLength 0) c ≡ idle s c
+  fresh-held : (c : ℕ) → coordinatorKept s (idleAt s 0 ∷ idleAt s 1 ∷ idleAt s 2 ∷ idleAt s 3 ∷ []) (replicate keptLength 0) c ≡ idle s c
   unfolding coordinatorKept idle idleAt
   fresh-held c = by (decLt c benchCoordinators)
     where
-      by : Dec (c < benchCoordinators) → coordinatorKept s (idleAt 0 ∷ idleAt 1 ∷ idleAt 2 ∷ idleAt 3 ∷ []) (replicate keptLength 0) c ≡ idle s c
+      by : Dec (c < benchCoordinators) → coordinatorKept s (idleAt s 0 ∷ idleAt s 1 ∷ idleAt s 2 ∷ idleAt s 3 ∷ []) (replicate keptLength 0) c ≡ idle s c
       by (yes h) =
           ap (λ (t : Bool). cond t
-          (holding (getD (idleAt 0 ∷ idleAt 1 ∷ idleAt 2 ∷ idleAt 3 ∷ []) c (idleAt c)) (take (s .n * s .size) (drop (c * keptRoom) (replicate keptLength 0)))
+          (holding (getD (idleAt s 0 ∷ idleAt s 1 ∷ idleAt s 2 ∷ idleAt s 3 ∷ []) c (idleAt s c)) (take (s .n * s .size) (drop (c * keptRoom) (replicate keptLength 0)))
           (take (s .m * s .size) (drop (c * keptRoom + stripeRoom) (replicate keptLength 0)))) (idle s c)) (lt-ltb c benchCoordinators h)
           ∙ ap (λ (t : Coordinator). holding t (take (s .n * s .size) (drop (c * keptRoom) (replicate keptLength 0)))
-          (take (s .m * s .size) (drop (c * keptRoom + stripeRoom) (replicate keptLength 0)))) (fresh-state c)
-          ∙ ap₂ (holding (idleAt c)) (zero-part (c * keptRoom) (s .n * s .size) keptLength (let q = small .blocks-fit in omega arith))
+          (take (s .m * s .size) (drop (c * keptRoom + stripeRoom) (replicate keptLength 0)))) (fresh-state s c)
+          ∙ ap₂ (holding (idleAt s c)) (zero-part (c * keptRoom) (s .n * s .size) keptLength (let q = small .blocks-fit in omega arith))
           (zero-part (c * keptRoom + stripeRoom) (s .m * s .size) keptLength (let q = small .stripe-fits in omega arith))
       by (no h) = ap (λ (t : Bool). cond t
-          (holding (getD (idleAt 0 ∷ idleAt 1 ∷ idleAt 2 ∷ idleAt 3 ∷ []) c (idleAt c)) (take (s .n * s .size) (drop (c * keptRoom) (replicate keptLength 0)))
+          (holding (getD (idleAt s 0 ∷ idleAt s 1 ∷ idleAt s 2 ∷ idleAt s 3 ∷ []) c (idleAt s c)) (take (s .n * s .size) (drop (c * keptRoom) (replicate keptLength 0)))
           (take (s .m * s .size) (drop (c * keptRoom + stripeRoom) (replicate keptLength 0)))) (idle s c)) (le-ltb c benchCoordinators (omega arith))
 
   fresh-images : (images : List ℕ) → ((b : ℕ) → b < s .n → take (imageSize s) (drop (b * imageRoom) images) ≡ imageOf s b (Brick.freshBrick s))
@@ -87,8 +87,8 @@ module _ (s : Settings) (small : Small s) where
       → kept ≡ replicate keptLength 0 → worldOf (freshBench s) images kept [] ≡ freshSet s
   unfolding worldOf freshBench freshSet
   fresh-world images kept h e =
-      ap₂ (λ (f : ℕ → List ℕ) (g : ℕ → Bool). make f g (coordinatorKept s (idleAt 0 ∷ idleAt 1 ∷ idleAt 2 ∷ idleAt 3 ∷ []) kept)) (fun-ext (fresh-images images h)) (fun-ext fresh-up)
-      ∙ ap (make (λ (b : ℕ). imageOf s b (Brick.freshBrick s)) (λ (b : ℕ). true)) (ap (coordinatorKept s (idleAt 0 ∷ idleAt 1 ∷ idleAt 2 ∷ idleAt 3 ∷ [])) e ∙ fun-ext fresh-held)
+      ap₂ (λ (f : ℕ → List ℕ) (g : ℕ → Bool). make f g (coordinatorKept s (idleAt s 0 ∷ idleAt s 1 ∷ idleAt s 2 ∷ idleAt s 3 ∷ []) kept)) (fun-ext (fresh-images images h)) (fun-ext fresh-up)
+      ∙ ap (make (λ (b : ℕ). imageOf s b (Brick.freshBrick s)) (λ (b : ℕ). true)) (ap (coordinatorKept s (idleAt s 0 ∷ idleAt s 1 ∷ idleAt s 2 ∷ idleAt s 3 ∷ [])) e ∙ fun-ext fresh-held)
     where
       make : (ℕ → List ℕ) → (ℕ → Bool) → (ℕ → Buffered) → World
       make f g h = record { images = f; up = g; coordinators = h; sent = [] }
@@ -128,15 +128,15 @@ module _ (s : Settings) (small : Small s) where
       by : (j : ℕ) → Dec (j ≡ c) → Dec (j < benchCoordinators) → coordinatorKept s (set cs c next) (keptWith c blocks stripe kept) j
           ≡ putAt (coordinatorKept s cs kept) c (holding next blocks stripe) j
       by j (yes q) u =
-          rw (eq-eqb j c q, q, lt-ltb c benchCoordinators l, getD-set-same cs c next (idleAt c) (omega arith))
+          rw (eq-eqb j c q, q, lt-ltb c benchCoordinators l, getD-set-same cs c next (idleAt s c) (omega arith))
           (ap₂ (holding next)
           (put-before (c * keptRoom + stripeRoom) (c * keptRoom) (s .n * s .size) stripe first (let p = small .blocks-fit in omega arith) (let p = small .stripe-fits in let w = long in omega arith)
           ∙ put-in (c * keptRoom) (s .n * s .size) blocks kept eb (omega arith))
           (put-in (c * keptRoom + stripeRoom) (s .m * s .size) stripe first es (let w = long in omega arith)))
       by j (no q) (no u) = rw (ne-eqb j c q, le-ltb j benchCoordinators (omega arith)) refl
       by j (no q) (yes u) =
-          rw (ne-eqb j c q, lt-ltb j benchCoordinators u, getD-set-other cs c j next (idleAt j) q)
-          (ap₂ (holding (getD cs j (idleAt j))) (other (j * keptRoom) (s .n * s .size) (apart-blocks (decLt j c))) (other (j * keptRoom + stripeRoom) (s .m * s .size) (apart-stripe (decLt j c))))
+          rw (ne-eqb j c q, lt-ltb j benchCoordinators u, getD-set-other cs c j next (idleAt s j) q)
+          (ap₂ (holding (getD cs j (idleAt s j))) (other (j * keptRoom) (s .n * s .size) (apart-blocks (decLt j c))) (other (j * keptRoom + stripeRoom) (s .m * s .size) (apart-stripe (decLt j c))))
         where
           apart-blocks : Dec (j < c) → (j * keptRoom + s .n * s .size ≤ c * keptRoom) ⊎ (c * keptRoom + keptRoom ≤ j * keptRoom)
           apart-blocks (yes v) = inl (let p = small .blocks-fit in omega arith)

@@ -1,3 +1,4 @@
+use Rattle.coord_record.specs.Records.{geometryOf}
 use Rattle.bench_state.specs.State.{idleAt}
 use borrow.Author.Needs.{needs}
 use Rattle.bench_state.proofs.new_coordinator.Statement.{statement}
@@ -7,7 +8,7 @@ idle-with-requires : tie.Need-idle-with-requires
 idle-with-requires c κs = search needs
 
 returns : tie.Need-returns
-unfolding idleAt
+unfolding idleAt geometryOf
 returns c = cc
 
 pub new-coordinator-spec : {M : Type 1} → statement M

@@ -12,6 +12,7 @@ use Rattle.bench_print.proofs.Laws.WrittenLaws.{written-nothing}
 use Rattle.bench_rules.specs.Play.{refuses, happens, switches}
 use Rattle.bench_rules.specs.Turning.{Lent, worldIn}
 use Rattle.bench_rules.specs.Workers.{Turned, Lined}
+use Rattle.bench_rules.proofs.Laws.TurningLaws.{one-event}
 use Rattle.bench_rules.specs.declared.After.{After}
 use Rattle.bench_state.specs.State.{worldOf}
 use Rattle.bench_state.specs.Workers.{Fits, withUp}
@@ -35,6 +36,7 @@ switched b l out brick flag e bench fits few h q four eb =
       text-is = sym (written-nothing 0 out);
       used-is = refl;
       within = omega arith;
+      no-event-keeps = λ z. absurd (one-event e z);
     }))
   where
     make : (ℕ → Bool) → World
