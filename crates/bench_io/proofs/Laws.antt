@@ -1,0 +1,2 @@
+-- One line after the other of a chunk.
+pub mod PassLaws

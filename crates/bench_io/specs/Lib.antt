@@ -1,0 +1,2 @@
+-- What the inner workers state.
+pub mod Workers
