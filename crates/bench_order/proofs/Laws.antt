@@ -1,7 +1,7 @@
 -- The laws of `bench_order`: the proofs of its statements, the page's name in parentheses.
 -- Every script is a run with one order (ScriptTheorem).
 pub mod ScriptRunLaws
--- It prints its run (ReportTheorem).
+-- It prints its run, and the number of each refused part (ReportTheorem).
 pub mod ReportLaws
 -- It never sends past message 127 (LimitTheorem).
 pub mod LimitLaws

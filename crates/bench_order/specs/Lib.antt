@@ -4,9 +4,8 @@ pub mod ReportTheorem
 pub mod LimitTheorem
 pub mod CallsTheorem
 pub mod CaseTheorem
--- What they speak of: a script, what is told and reported of a run, calls one after the other, document 01's case.
+-- What they speak of: a script, what is told and reported of a run, document 01's case.
 pub mod Script
 pub mod Told
 pub mod Report
-pub mod Calls
 pub mod WorkedCase

@@ -1,17 +1,9 @@
 -- Document 01, "The bench": "`bench` reads standard input", line by line, and plays each line on what the lines before it left.
-use mathlib.Core.Bool.{cond}
 use mathlib.Core.List.{List, [], _∷_, _++_}
 use Prim.Native.Nat.{ℕ}
-use lib.Dec.{eqb}
-use Rattle.bench_parse.specs.Lines.{longer, reads}
-use Rattle.bench_print.specs.Printing.{newline}
+use Rattle.bench_parse.specs.Lines.{reads}
+use Rattle.bench_lines.specs.Cutting.{lines}
 use Rattle.bench_rules.specs.Play.{Stage, waiting, Turn, turn}
-
--- "one line each": the input cut at each newline. A last line without a newline is a line, a newline at the very end starts no further line,
--- and empty input has no line.
-unfoldable pub lines : List ℕ → List (List ℕ)
-lines [] = []
-lines (x ∷ l) = cond (eqb x newline) ([] ∷ lines l) (longer x (lines l))
 
 -- nothing is played
 unfoldable pub stays : Stage → Turn

@@ -1,6 +1,6 @@
 -- Calls one after the other are the script.
 use mathlib.Core.Path.{_≡_, refl, ap, ap₂, subst, _∙_}
-use mathlib.Core.List.{List, [], _++_}
+use mathlib.Core.List.{List, [], _∷_, _++_, map, flatten}
 use Prim.Native.Nat.{ℕ, _+_}
 use native.Mathlib.Omega.{arith}
 use lib.ListN.{length, take}
@@ -15,8 +15,12 @@ use Rattle.register.specs.Runs.{Event}
 use Rattle.bench_player.specs.declared.LinePlayed.{LinePlayed}
 use Rattle.bench_order.specs.Script.{stays, follows, playsLines, script}
 use Rattle.byte_lists.specs.Lists.{put}
-use Rattle.bench_order.specs.Calls.{Calls, none, call}
-use Rattle.bench_order.specs.CallsTheorem.{CallsAreTheScript}
+use Rattle.bench_player.specs.Calls.{Calls, none, call}
+use Rattle.bench_parse.specs.Lines.{heldLength}
+use Rattle.bench_lines.specs.Cutting.{lines}
+use Rattle.bench_lines.proofs.Laws.CuttingLaws.{cutting-gives-the-lines}
+use Rattle.bench_player.proofs.Laws.HeldLaws.{reads-held}
+use Rattle.bench_order.specs.CallsTheorem.{CallsAreTheScript, CutCallsAreTheScript}
 
 -- one call is one turn, and prints its text
 module _ (b : Bench) (l : Lent) (line out : List ℕ) (r : LinePlayed) (l′ : Lent) (out′ : List ℕ) (t : refusalOf b l out ≡ 0)
@@ -67,3 +71,18 @@ unfolding script eventsOf
 calls-are-the-script input b b′ l l′ out out′ text t w cs =
     let left = calls-play waiting t w cs in
     (left .stage-is, left .text-is)
+
+-- Of each line its first 1,001 bytes are enough.
+held-plays : (stage : Stage) (ls : List (List ℕ)) → playsLines stage (map (take heldLength) ls) ≡ playsLines stage ls
+unfolding playsLines
+held-plays stage [] = refl
+held-plays stage (l ∷ ls) =
+    rw (reads-held l) (ap (follows (turn stage (reads l))) (held-plays (turn stage (reads l) .stage) ls))
+
+pub cut-calls-are-the-script : CutCallsAreTheScript
+unfolding script eventsOf
+cut-calls-are-the-script line chunks handed b b′ l l′ out out′ text n h t w cs =
+    let left = calls-play waiting t w cs in
+    let e : playsLines waiting handed ≡ playsLines waiting (lines (flatten chunks))
+    = ap (playsLines waiting) (cutting-gives-the-lines line chunks handed n h) ∙ held-plays waiting (lines (flatten chunks)) in
+    (subst (λ (u : Turn). stageOf b′ l′ (eventsOf (u .stage)) ≡ u .stage) e (left .stage-is), left .text-is ∙ ap (λ (u : Turn). u .printed) e)

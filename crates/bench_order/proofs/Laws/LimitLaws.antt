@@ -11,16 +11,23 @@ use Rattle.bench_parse.specs.Lines.{Line, setLine, writeLine, readLine, carryLi
 use Rattle.bench_state.specs.State.{benchRange}
 use Rattle.bench_rules.specs.Play.{Played, refuses, passes, happens, andThen, Stage, waiting, playing, waits, begins, first, turn}
 use Rattle.bench_order.specs.LimitTheorem.{NeverPastMessage127}
-use Rattle.bench_order.specs.Script.{lines, stays, follows, playsLines, script}
-use Rattle.bench_order.proofs.Laws.Parts.{FewSent, Part, refusing, passing, happening, both}
+use Rattle.bench_order.specs.Report.{Part}
+use Rattle.bench_lines.specs.Cutting.{lines}
+use Rattle.bench_order.specs.Script.{stays, follows, playsLines, script}
+use Rattle.bench_order.proofs.Laws.Parts.{FewSent, Does, refusing, passing, happening, Parts, none, one, both}
 use Rattle.bench_order.proofs.Laws.ScriptPartLaws.{every-line-by-parts}
 
-part-few : (s : Settings) (w : World) (p : Played) → Part s w p → FewSent w → FewSent (p .world)
-unfolding refuses passes happens andThen
-part-few s w p (refusing _ number) h = h
-part-few s w p (passing _) h = h
-part-few s w p (happening _ e c kind f o) h = f h
-part-few s w p (both _ q r a b) h = part-few s (q .world) r b (part-few s w q a h)
+does-few : (s : Settings) (w : World) (p : Played) → Does s w p → FewSent w → FewSent (p .world)
+unfolding refuses passes happens
+does-few s w p (refusing number) h = h
+does-few s w p passing h = h
+does-few s w p (happening e c kind f o) h = f h
+
+parts-few : (s : Settings) (w : World) (ps : List Part) (p : Played) → Parts s w ps p → FewSent w → FewSent (p .world)
+unfolding passes andThen
+parts-few s w ps p (none _) h = h
+parts-few s w ps p (one _ part d) h = does-few s w p d h
+parts-few s w ps p (both _ xs ys q r a b) h = parts-few s (q .world) ys r b (parts-few s w xs q a h)
 
 -- a set, if there is one, has sent 127 messages at most
 unfoldable FewAt : Stage → Type 0
@@ -45,7 +52,7 @@ turn-few waiting (crashLine c) h = tt
 turn-few waiting (downLine b) h = tt
 turn-few waiting (upLine b) h = tt
 turn-few waiting noLine h = tt
-turn-few (playing s w events) line h = part-few s w _ (every-line-by-parts s w line) h
+turn-few (playing s w events) line h = parts-few s w _ _ (every-line-by-parts s w line) h
 
 lines-few : (stage : Stage) (ls : List (List ℕ)) → FewAt stage → FewAt (playsLines stage ls .stage)
 unfolding playsLines stays follows

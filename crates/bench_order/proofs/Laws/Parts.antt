@@ -1,7 +1,7 @@
 -- What a line does, part by part.
 use mathlib.Core.Path.{_≡_}
 use mathlib.Core.Logic.{_⊎_}
-use mathlib.Core.List.{[], _∷_}
+use mathlib.Core.List.{List, [], _∷_, _++_}
 use Prim.Native.Nat.{ℕ, _≤_}
 use lib.ListN.{length}
 use Rattle.settings.specs.declared.Settings.{Settings}
@@ -10,6 +10,7 @@ use Rattle.coord_record.specs.declared.Op.{Op}
 use Rattle.order.specs.Claim.{Ending, Seen}
 use Rattle.register.specs.Runs.{plain, World, Event, step}
 use Rattle.bench_rules.specs.Play.{Played, refuses, passes, happens, andThen}
+use Rattle.bench_order.specs.Report.{Part, playsPart}
 use Rattle.bench_order.proofs.Laws.ToldLaws.{told}
 use Rattle.bench_limits.specs.Limits.{lastMessage}
 
@@ -23,12 +24,17 @@ pub record Ran (op : Op) (kind time : ℕ) : Type 0 where
 unfoldable pub FewSent : World → Type 0
 FewSent w = length (w .sent) ≤ lastMessage
 
--- Each part of a line is a refusal, or nothing, or an event that happens by the runs' own step. At such an event the bench prints what is
--- seen at that very event, of the operation that ran at its coordinator, and sends no message past 127.
-pub data Part (s : Settings) : World → Played → Type 0 where
-  refusing : (w : World) (number : ℕ) → Part s w (refuses w number)
-  passing : (w : World) → Part s w (passes w)
-  happening : (w : World) (e : Event) (c kind : ℕ) → (FewSent w → FewSent (step s w e .world))
+-- A part of a line is refused, or passes, or is an event that happens by the runs' own step. At such an event the bench prints what is seen
+-- at that very event, of the operation that ran at its coordinator, and sends no message past 127.
+pub data Does (s : Settings) (w : World) : Played → Type 0 where
+  refusing : (number : ℕ) → Does s w (refuses w number)
+  passing : Does s w (passes w)
+  happening : (e : Event) (c kind : ℕ) → (FewSent w → FewSent (step s w e .world))
       → ((time : ℕ) (how : Ending (plain s)) → step s w e .seen ≡ Seen.ended time how ∷ [] → Ran (w .coordinators c .state .op) kind time)
-      → Part s w (happens s w e (told s c kind (step s w e .seen)))
-  both : (w : World) (p q : Played) → Part s w p → Part s (p .world) q → Part s w (andThen p q)
+      → Does s w (happens s w e (told s c kind (step s w e .seen)))
+
+-- What a line does is what its parts do, one after the other.
+pub data Parts (s : Settings) : World → List Part → Played → Type 0 where
+  none : (w : World) → Parts s w [] (passes w)
+  one : (w : World) (part : Part) → Does s w (playsPart s w part) → Parts s w (part ∷ []) (playsPart s w part)
+  both : (w : World) (xs ys : List Part) (p q : Played) → Parts s w xs p → Parts s (p .world) ys q → Parts s w (xs ++ ys) (andThen p q)

@@ -31,7 +31,7 @@ use Rattle.message.specs.Flags.{members}
 use Rattle.message.specs.declared.Reply.{Reply}
 use Rattle.settings.specs.Ranges.{codeRefusal, quorum}
 use Rattle.settings.proofs.Laws.RefusalLaws.{passed-rest}
-use Rattle.coordinator.proofs.Laws.RoutineLaws.{record-passes}
+use Rattle.coord_refusals.proofs.Laws.RefusedLaws.{record-passes}
 use Rattle.order.specs.Claim.{Ending, Seen, began, ended}
 use Rattle.register.specs.Runs.{plain, seenOf}
 use Rattle.bench_print.specs.Printing.{kindWord, endWord, lineText, isEnd, endedText}
@@ -197,7 +197,7 @@ take-agrees n m size h r block coded g e =
 crash-right : (n m size : ℕ) (c : Coordinator) → crashRefusal n m size c ≡ 0 → opRight (c .op) ≡ true
 unfolding crashRefusal
 crash-right n m size c e =
-    sound-parts n m c (record-passes n m c [] (passed-rest (codeRefusal n m size) (recordChecks n m c []) e) .0 .is-sound) .op-right
+    sound-parts n m size c (record-passes n m size c [] (passed-rest (codeRefusal n m size) (recordChecks n m size c []) e) .0 .is-sound) .op-right
 
 pub crash-agrees : (n m size : ℕ) (h : Buffered) (g : Went) → crashStep n m size h ≡ went g → Agrees (h .state .op) (g .seen)
 unfolding crashStep crashed ending

@@ -1,4 +1,4 @@
--- What a script prints is its run, and its refusals.
+-- What a script prints is its run, and the numbers of its refused parts.
 use mathlib.Core.Path.{_≡_, refl, sym, ap, subst, _∙_}
 use mathlib.Core.Logic.{_⊎_, inl, inr}
 use mathlib.Core.Bool.{Bool, true, false, cond}
@@ -23,18 +23,18 @@ use Rattle.register.proofs.Laws.BegunLaws.{reads-begun, writes-begun}
 use Rattle.register.specs.Runs.{plain, World, Event, Moved, unmoved, freshSet, step, nextMoved, runFrom, run}
 use Rattle.register.proofs.Laws.TheoremProof.{step-goes, run-holds}
 use Rattle.bench_parse.specs.Lines.{Line, setLine, writeLine, readLine, carryLine, crashLine, downLine, upLine, noLine, reads}
-use Rattle.bench_print.specs.Printing.{refusedText}
 use Rattle.bench_state.specs.State.{benchRange}
-use Rattle.bench_rules.specs.Play.{Played, refuses, passes, happens, andThen, plays, Stage, waiting, playing, waits, begins, first, turn}
+use Rattle.bench_rules.specs.Play.{Played, refuses, passes, happens, andThen, plays, Stage, waiting, playing, waits, begins, first, Turn, turn}
 use Rattle.bench_order.specs.Told.{toldEnd}
 use Rattle.bench_order.proofs.Laws.ToldLaws.{told}
-use Rattle.bench_order.proofs.Laws.Parts.{Ran, Part, refusing, passing, happening, both}
+use Rattle.bench_order.proofs.Laws.Parts.{Ran, Does, refusing, passing, happening, Parts, none, one, both}
 use Rattle.bench_order.proofs.Laws.ScriptPartLaws.{every-line-by-parts}
-use Rattle.bench_order.specs.Script.{lines, stays, follows, playsLines, script}
+use Rattle.bench_lines.specs.Cutting.{lines}
+use Rattle.bench_order.specs.Script.{stays, follows, playsLines, script}
 use Rattle.bench_order.specs.ScriptTheorem.{StandsFor}
-use Rattle.bench_order.proofs.Laws.ScriptRunLaws.{part-runs, turn-stands, bench-in-range}
-use Rattle.bench_order.specs.Report.{kindOf, kindIn, reported, Reports, nothing, refusal, event}
-use Rattle.bench_order.specs.ReportTheorem.{Reported, EveryScriptPrintsItsRun}
+use Rattle.bench_order.proofs.Laws.ScriptRunLaws.{lines-stand, bench-in-range}
+use Rattle.bench_order.specs.Report.{kindOf, kindIn, reported, Part, partsOf, partsIn, playsPart, Reports, nothing, refusal, event, silence}
+use Rattle.bench_order.specs.ReportTheorem.{Prints, no-line, no-set, set, EveryScriptPrintsItsRun}
 use Rattle.settings.specs.Times.{coordinatorOf}
 use Rattle.coord_record.specs.Records.{readingKind, writingKind, idleKind}
 
@@ -64,17 +64,6 @@ kind-found s (ended u how ∷ l) t k n m = go (List·Memᴰ·cases-cons m) (kind
     go (inl e) ih = kind-here s (ended u how) l t k e
     go (inr p) ih = unfold kindIn in ih p
 
--- texts one after the other
-reports-both : (s : Settings) (r : Moved s) (es fs : List Event) (a b : List ℕ) → Reports s r es a → Reports s (runFrom s r es) fs b
-    → Reports s r (es ++ fs) (a ++ b)
-unfolding runFrom
-reports-both s r es fs a b (nothing _) q = q
-reports-both s r es fs a b (refusal _ number _ text p) q =
-    subst (Reports s r (es ++ fs)) (sym (append-assoc (refusedText number) text b)) (refusal r number (es ++ fs) (text ++ b) (reports-both s r es fs text b p q))
-reports-both s r es fs a b (event _ e es′ text p) q =
-    subst (Reports s r (e ∷ (es′ ++ fs))) (sym (append-assoc (reported s (r .seen) (step s (r .world) e .seen)) text b))
-    (event r e (es′ ++ fs) (text ++ b) (reports-both s (nextMoved s r e) es′ fs text b p q))
-
 -- what the bench tells at an event is what the run reports there, if the operation that ends has c in its time and began with this kind
 told-is-reported : (s : Settings) (before l : List (Seen (plain s))) (c kind : ℕ) → length l ≤ 1
     → ((time : ℕ) (how : Ending (plain s)) → l ≡ ended time how ∷ [] → (c ≡ coordinatorOf time) × (kind ≡ kindIn s before time))
@@ -86,9 +75,6 @@ told-is-reported s before (ended time how ∷ []) c kind h f =
     let q = f time how refl in
     ap (λ (v : ℕ). toldEnd s v kind time how ++ []) (q .0) ∙ ap (λ (v : ℕ). toldEnd s (coordinatorOf time) v time how ++ []) (q .1)
 told-is-reported s before (x ∷ y ∷ l) c kind h f = absurd (omega (arith, h))
-
-refusal-alone : (s : Settings) (r : Moved s) (number : ℕ) → Reports s r [] (refusedText number)
-refusal-alone s r number = subst (Reports s r []) (append-nil (refusedText number)) (refusal r number [] [] (nothing r))
 
 module _ (s : Settings) (g : SettingsRange s) where
   -- in a run, the operation that runs at coordinator c has c in its time, and its kind from its beginning
@@ -120,81 +106,92 @@ module _ (s : Settings) (g : SettingsRange s) where
   abbrev Held-by : Moved s → Type 0
   Held-by r = (h : Hist s) × Inv s g h r
 
-  holds-from : (r : Moved s) → Held-by r → (events : List Event) → Held-by (runFrom s r events)
-  unfolding runFrom nextMoved
-  holds-from r w [] = w
-  holds-from r w (e ∷ events) = holds-from (nextMoved s r e) (step-goes s g (w .0) r (w .1) e) events
+  -- a report from here on, whatever was seen before in the run
+  abbrev From : World → List Part → List Event → List ℕ → Type 0
+  From w parts events text =
+      (before : List (Seen (plain s))) → Held-by (record { world = w; seen = before }) → Reports s (record { world = w; seen = before }) parts events text
 
-  -- a part of a line, at a moment of a run
-  part-reports : (w : World) (p : Played) → Part s w p → (before : List (Seen (plain s))) → Held-by (record { world = w; seen = before })
-      → Reports s (record { world = w; seen = before }) (p .events) (p .printed)
-  unfolding refuses passes happens andThen
-  part-reports w p (refusing _ number) before i = refusal-alone s (record { world = w; seen = before }) number
-  part-reports w p (passing _) before i = nothing (record { world = w; seen = before })
-  part-reports w p (happening _ e c kind f o) before i =
-      subst (Reports s (record { world = w; seen = before }) (e ∷ []))
-      (append-nil (reported s before (step s w e .seen))
-      ∙ sym
-      (told-is-reported s before (step s w e .seen) c kind (one-thing-seen s w e)
-      (λ time how q. ran-own (record { world = w; seen = before }) (i .0) (i .1) c kind time (o time how q))))
-      (event (record { world = w; seen = before }) e [] [] (nothing (nextMoved s (record { world = w; seen = before }) e)))
-  part-reports w p (both _ q t a b) before i =
-      let m = runFrom s (record { world = w; seen = before }) (q .events) in
-      let z = part-runs s w q a before in
-      reports-both s (record { world = w; seen = before }) (q .events) (t .events) (q .printed) (t .printed) (part-reports w q a before i)
-      (subst (λ (v : World). Reports s (record { world = v; seen = m .seen }) (t .events) (t .printed)) (sym z)
-      (part-reports (q .world) t b (m .seen)
-      (subst (λ (v : World). Held-by (record { world = v; seen = m .seen })) z (holds-from (record { world = w; seen = before }) i (q .events)))))
+  does-report : (w : World) (part : Part) (p : Played) → playsPart s w part ≡ p → Does s w p → (parts : List Part) (events : List Event) (text : List ℕ)
+      → From (p .world) parts events text → From w (part ∷ parts) (p .events ++ events) (p .printed ++ text)
+  unfolding refuses passes happens nextMoved
+  does-report w part p q (refusing number) parts events text f before i = refusal number q (f before i)
+  does-report w part p q passing parts events text f before i = silence q (f before i)
+  does-report w part p q (happening e c kind h o) parts events text f before i =
+      let r : Moved s = record { world = w; seen = before } in
+      let z =
+      told-is-reported s before (step s w e .seen) c kind (one-thing-seen s w e) (λ time how d. ran-own r (i .0) (i .1) c kind time (o time how d))
+      in
+      subst (λ (v : List ℕ). Reports s r (part ∷ parts) (e ∷ events) (v ++ text)) (sym z)
+      (event e (q ∙ ap (happens s w e) z) (f (before ++ step s w e .seen) (step-goes s g (i .0) r (i .1) e)))
 
-more-refused : (text : List ℕ) (number : ℕ) → ((s : Settings) → Reports s (unmoved s (freshSet s)) [] text) → (s : Settings)
-    → Reports s (unmoved s (freshSet s)) [] (text ++ refusedText number)
-unfolding runFrom
-more-refused text number h s = reports-both s (unmoved s (freshSet s)) [] [] text (refusedText number) (h s) (refusal-alone s (unmoved s (freshSet s)) number)
+  parts-report : (w : World) (ps : List Part) (p : Played) → Parts s w ps p → (parts : List Part) (events : List Event) (text : List ℕ)
+      → From (p .world) parts events text → From w (ps ++ parts) (p .events ++ events) (p .printed ++ text)
+  unfolding passes andThen
+  parts-report w ps p (none _) parts events text f = f
+  parts-report w ps p (one _ part d) parts events text f = does-report w part p refl d parts events text f
+  parts-report w ps p (both _ xs ys q r a b) parts events text f =
+      rw (append-assoc xs ys parts, append-assoc (q .events) (r .events) events, append-assoc (q .printed) (r .printed) text)
+      (parts-report w xs q a (ys ++ parts) (r .events ++ events) (r .printed ++ text) (parts-report (q .world) ys r b parts events text f))
 
-begins-reports : (s : Settings) (text : List ℕ) → ((z : Settings) → Reports z (unmoved z (freshSet z)) [] text)
-    → Reported (begins s .stage) (text ++ begins s .printed)
-unfolding begins waits Reported
-begins-reports s text h = go (benchRange s)
-  where
-    go : (b : Bool)
-        → Reported (cond b (record { stage = playing s (freshSet s) []; events = []; printed = [] }) (waits badSetting) .stage)
-        (text ++ cond b (record { stage = playing s (freshSet s) []; events = []; printed = [] }) (waits badSetting) .printed)
-    go true = rw (append-nil text) (h s)
-    go false = more-refused text badSetting h
+  lines-report : (w : World) (events : List Event) (ls : List (List ℕ))
+      → From w (partsIn ls) (playsLines (playing s w events) ls .events) (playsLines (playing s w events) ls .printed)
+  unfolding playsLines stays follows turn partsIn
+  lines-report w events [] = λ before i. nothing
+  lines-report w events (l ∷ ls) =
+      parts-report w (partsOf (reads l)) (plays s w (reads l)) (every-line-by-parts s w (reads l)) (partsIn ls) _ _
+      (lines-report (plays s w (reads l) .world) (events ++ plays s w (reads l) .events) ls)
 
-first-reports : (text : List ℕ) (line : Line) → ((z : Settings) → Reports z (unmoved z (freshSet z)) [] text)
-    → Reported (first line .stage) (text ++ first line .printed)
-unfolding first waits Reported
-first-reports text (setLine n m size capacity) h = begins-reports (record { n = n; m = m; size = size; capacity = capacity }) text h
-first-reports text (writeLine c clock digits) h = more-refused text badLine h
-first-reports text (readLine c clock brick) h = more-refused text badLine h
-first-reports text (carryLine messages) h = more-refused text badLine h
-first-reports text (crashLine c) h = more-refused text badLine h
-first-reports text (downLine b) h = more-refused text badLine h
-first-reports text (upLine b) h = more-refused text badLine h
-first-reports text noLine h = more-refused text badLine h
+-- the stage after some lines on a set
+stage-after : (s : Settings) (w : World) (events : List Event) (ls : List (List ℕ))
+    → (v : World) × (playsLines (playing s w events) ls .stage ≡ playing s v (events ++ playsLines (playing s w events) ls .events))
+unfolding playsLines stays follows turn
+stage-after s w events [] = (w, ap (playing s w) (sym (append-nil events)))
+stage-after s w events (l ∷ ls) =
+    let p = plays s w (reads l) in
+    let z = stage-after s (p .world) (events ++ p .events) ls in
+    (z .0, z .1 ∙ ap (playing s (z .0)) (append-assoc events (p .events) _))
 
-turn-reports : (stage : Stage) (text : List ℕ) (line : Line) → StandsFor stage → Reported stage text
-    → Reported (turn stage line .stage) (text ++ turn stage line .printed)
-unfolding turn StandsFor Reported run
-turn-reports waiting text line e h = first-reports text line h
-turn-reports (playing s w events) text line (b, e) h =
+-- the lines after an accepted `set`
+set-prints : (l : List ℕ) (ls : List (List ℕ)) (s : Settings) → reads l ≡ setLine (s .n) (s .m) (s .size) (s .capacity) → benchRange s ≡ true
+    → Prints (l ∷ ls) (playsLines (playing s (freshSet s) []) ls .stage) (playsLines (playing s (freshSet s) []) ls .printed)
+unfolding StandsFor run runFrom unmoved
+set-prints l ls s e b =
     let g = settings-passed s (bench-in-range s b) in
-    reports-both s (unmoved s (freshSet s)) events (plays s w line .events) text (plays s w line .printed) h
-    (subst (λ (v : World). Reports s (record { world = v; seen = run s events .seen }) (plays s w line .events) (plays s w line .printed)) e
-    (part-reports s g w (plays s w line) (every-line-by-parts s w line) (run s events .seen)
-    (subst (λ (v : World). Held-by s g (record { world = v; seen = run s events .seen })) (sym e) (run-holds s g events))))
+    let es = playsLines (playing s (freshSet s) []) ls .events in
+    let z = stage-after s (freshSet s) [] ls in
+    let h = subst StandsFor (z .1) (lines-stand (playing s (freshSet s) []) ls (b, refl)) in
+    subst (λ (v : Stage). Prints (l ∷ ls) v (playsLines (playing s (freshSet s) []) ls .printed))
+    (ap (λ (v : World). playing s v es) (sym (h .1)) ∙ sym (z .1))
+    (set s e b (lines-report s g (freshSet s) [] ls [] (run-holds s g [])))
 
-lines-report : (stage : Stage) (text : List ℕ) (ls : List (List ℕ)) → StandsFor stage → Reported stage text
-    → Reported (playsLines stage ls .stage) (text ++ playsLines stage ls .printed)
-unfolding playsLines stays follows
-lines-report stage text [] h p = rw (append-nil text) p
-lines-report stage text (l ∷ ls) h p =
-    let t = turn stage (reads l) in
-    let u = playsLines (turn stage (reads l) .stage) ls in
-    subst (λ (v : List ℕ). Reported (u .stage) v) (append-assoc text (t .printed) (u .printed))
-    (lines-report (t .stage) (text ++ t .printed) ls (turn-stands stage (reads l) h) (turn-reports stage text (reads l) h p))
+-- the turn of an accepted `set`
+abbrev fresh-turn : Settings → Turn
+fresh-turn s = record { stage = playing s (freshSet s) []; events = []; printed = [] }
+
+lines-print : (ls : List (List ℕ)) → Prints ls (playsLines waiting ls .stage) (playsLines waiting ls .printed)
+unfolding playsLines stays follows turn first waits begins
+lines-print [] = no-line
+lines-print (l ∷ ls) = go (reads l) refl (lines-print ls)
+  where
+    within : (s : Settings) (b : Bool) → benchRange s ≡ b → reads l ≡ setLine (s .n) (s .m) (s .size) (s .capacity)
+        → Prints ls (playsLines waiting ls .stage) (playsLines waiting ls .printed)
+        → Prints (l ∷ ls) (playsLines (cond b (fresh-turn s) (waits badSetting) .stage) ls .stage)
+        (cond b (fresh-turn s) (waits badSetting) .printed
+        ++ playsLines (cond b (fresh-turn s) (waits badSetting) .stage) ls .printed)
+    within s true b e ih = set-prints l ls s e b
+    within s false b e ih = no-set badSetting (ap first e ∙ ap (λ (t : Bool). cond t (fresh-turn s) (waits badSetting)) b) ih
+
+    go : (line : Line) → reads l ≡ line → Prints ls (playsLines waiting ls .stage) (playsLines waiting ls .printed)
+        → Prints (l ∷ ls) (playsLines (first line .stage) ls .stage) (first line .printed ++ playsLines (first line .stage) ls .printed)
+    go (setLine n m size capacity) e ih = within (record { n = n; m = m; size = size; capacity = capacity }) (benchRange _) refl e ih
+    go (writeLine c clock digits) e ih = no-set badLine (ap first e) ih
+    go (readLine c clock brick) e ih = no-set badLine (ap first e) ih
+    go (carryLine messages) e ih = no-set badLine (ap first e) ih
+    go (crashLine c) e ih = no-set badLine (ap first e) ih
+    go (downLine b) e ih = no-set badLine (ap first e) ih
+    go (upLine b) e ih = no-set badLine (ap first e) ih
+    go noLine e ih = no-set badLine (ap first e) ih
 
 pub every-script-prints-its-run : EveryScriptPrintsItsRun
-unfolding script Reported StandsFor
-every-script-prints-its-run input = lines-report waiting [] (lines input) tt (λ s. nothing (unmoved s (freshSet s)))
+unfolding script
+every-script-prints-its-run input = lines-print (lines input)

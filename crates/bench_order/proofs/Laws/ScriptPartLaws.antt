@@ -30,8 +30,9 @@ use Rattle.bench_rules.proofs.Laws.ContentLaws.{content-small}
 use Rattle.byte_lists.proofs.Laws.LittleLaws.{bytes-pass}
 use Rattle.bench_rules.specs.Play.{Played, refuses, passes, happens, acts, atCoordinator, unlessShort, writes, starts}
 use Rattle.bench_rules.specs.Play.{crashesAt, switches, delivered, reaches, carries, carriesAt, carried, carriedAll, plays}
+use Rattle.bench_order.specs.Report.{wholeLine, oneNumber, eachNumber, partsOf, playsPart}
 use Rattle.bench_order.proofs.Laws.ToldLaws.{told}
-use Rattle.bench_order.proofs.Laws.Parts.{FewSent, Ran, Part, refusing, passing, happening, both}
+use Rattle.bench_order.proofs.Laws.Parts.{FewSent, Ran, Does, refusing, passing, happening, Parts, none, one, both}
 use Rattle.bench_order.proofs.Laws.PrintedLaws.{Agrees, printed-is-seen, end-ran, take-agrees, crash-agrees, write-agrees, read-agrees}
 use Rattle.bench_limits.specs.Limits.{benchCoordinators, lastMessage}
 use Rattle.settings.specs.Times.{coordinatorOf}
@@ -84,18 +85,18 @@ module _ (s : Settings) (w : World) where
   -- an event that prints what is seen at it
   printing : (e : Event) (c kind : ℕ) (text : List ℕ) → told s c kind (step s w e .seen) ≡ text → (FewSent w → FewSent (step s w e .world))
       → ((time : ℕ) (how : Ending (plain s)) → step s w e .seen ≡ Seen.ended time how ∷ [] → Ran (w .coordinators c .state .op) kind time)
-      → Part s w (happens s w e text)
-  printing e c kind text q f o = subst (λ (l : List ℕ). Part s w (happens s w e l)) q (happening w e c kind f o)
+      → Does s w (happens s w e text)
+  printing e c kind text q f o = subst (λ (l : List ℕ). Does s w (happens s w e l)) q (happening e c kind f o)
 
   -- an event at a coordinator
-  acts-part : (e : Event) (c : ℕ) (st : Step) → ((g : Went) → st ≡ went g → (step s w e ≡ coordinated s w c (went g)) × Agrees (w .coordinators c .state .op) (g .seen))
-      → Part s w (acts s w e c st)
+  acts-does : (e : Event) (c : ℕ) (st : Step) → ((g : Went) → st ≡ went g → (step s w e ≡ coordinated s w c (went g)) × Agrees (w .coordinators c .state .op) (g .seen))
+      → Does s w (acts s w e c st)
   unfolding acts coordinated FewSent
-  acts-part e c (refused number) f = refusing w number
-  acts-part e c (went g) f = go (leb (length (step s w e .world .sent)) lastMessage) refl
+  acts-does e c (refused number) f = refusing number
+  acts-does e c (went g) f = go (leb (length (step s w e .world .sent)) lastMessage) refl
     where
       go : (b : Bool) → leb (length (step s w e .world .sent)) lastMessage ≡ b
-          → Part s w (cond b (happens s w e (endedText c (g .seen) (g .next .stripe))) (refuses w badLine))
+          → Does s w (cond b (happens s w e (endedText c (g .seen) (g .next .stripe))) (refuses w badLine))
       go true q =
           printing e c (g .seen .kind) _
           (ap (λ (v : Moved s). told s c (g .seen .kind) (v .seen)) (f g refl .0) ∙ printed-is-seen s (w .coordinators c .state .op) c (g .seen) (g .next) (f g refl .1))
@@ -103,39 +104,39 @@ module _ (s : Settings) (w : World) where
           (λ time how z.
           end-ran s (w .coordinators c .state .op) (g .seen) (g .next) time how (f g refl .1)
           (ap (λ (v : Moved s). v .seen) (sym (f g refl .0)) ∙ z))
-      go false q = refusing w badLine
+      go false q = refusing badLine
 
-  at-part : (c : ℕ) (p : Played) → Part s w p → Part s w (atCoordinator w c p)
+  at-does : (c : ℕ) (p : Played) → Does s w p → Does s w (atCoordinator w c p)
   unfolding atCoordinator
-  at-part c p h = go (ltb c benchCoordinators)
+  at-does c p h = go (ltb c benchCoordinators)
     where
-      go : (b : Bool) → Part s w (cond b p (refuses w badNumber))
+      go : (b : Bool) → Does s w (cond b p (refuses w badNumber))
       go true = h
-      go false = refusing w badNumber
+      go false = refusing badNumber
 
-  writes-part : (c clock : ℕ) (digits : List ℕ) → Part s w (writes s w c clock digits)
+  writes-does : (c clock : ℕ) (digits : List ℕ) → Does s w (writes s w c clock digits)
   unfolding writes step
-  writes-part c clock digits =
-      at-part c _
-      (acts-part (startWrite c clock (content s digits)) c _
+  writes-does c clock digits =
+      at-does c _
+      (acts-does (startWrite c clock (content s digits)) c _
       (λ g q.
       let e = unless-went (counted s digits) (writeStep (s .n) (s .m) (s .size) (w .coordinators c) clock (content s digits)) g q in (
         rw (bytes-pass (content s digits) (content-small s digits)) (ap (coordinated s w c) e),
         write-agrees (s .n) (s .m) (s .size) (w .coordinators c) clock (content s digits) g e,
       )))
 
-  starts-part : (c clock brick : ℕ) → Part s w (starts s w c clock brick)
+  starts-does : (c clock brick : ℕ) → Does s w (starts s w c clock brick)
   unfolding starts step
-  starts-part c clock brick =
-      at-part c _
-      (acts-part (startRead c clock brick) c _
+  starts-does c clock brick =
+      at-does c _
+      (acts-does (startRead c clock brick) c _
       (λ g e. (ap (coordinated s w c) e, read-agrees (s .n) (s .m) (s .size) (w .coordinators c) clock brick g e)))
 
-  crashes-part : (c : ℕ) → Part s w (crashesAt s w c)
+  crashes-does : (c : ℕ) → Does s w (crashesAt s w c)
   unfolding crashesAt step
-  crashes-part c =
-      at-part c _
-      (acts-part (crashes c untouched) c _
+  crashes-does c =
+      at-does c _
+      (acts-does (crashes c untouched) c _
       (λ g e. (ap (coordinated s w c) (left-untouched s _ ∙ e), crash-agrees (s .n) (s .m) (s .size) (w .coordinators c) g e)))
 
   -- nothing is seen, and no message is sent past 127
@@ -146,7 +147,7 @@ module _ (s : Settings) (w : World) where
   either-quiet true x y p q = p
   either-quiet false x y p q = q
 
-  quiet : (e : Event) → Quiet (step s w e) → Part s w (happens s w e [])
+  quiet : (e : Event) → Quiet (step s w e) → Does s w (happens s w e [])
   unfolding told
   quiet e q =
       printing e 0 0 [] (ap (told s 0 0) (q .0)) (q .1)
@@ -157,13 +158,13 @@ module _ (s : Settings) (w : World) where
   unfolding standing unmoved FewSent
   standing-quiet b how = either-quiet (ltb b (s .n)) _ _ (refl, λ h. h) (refl, λ h. h)
 
-  switches-part : (b : ℕ) (e : Event) → Quiet (step s w e) → Part s w (switches s w b e)
+  switches-does : (b : ℕ) (e : Event) → Quiet (step s w e) → Does s w (switches s w b e)
   unfolding switches
-  switches-part b e q = go (ltb b (s .n))
+  switches-does b e q = go (ltb b (s .n))
     where
-      go : (t : Bool) → Part s w (cond t (happens s w e []) (refuses w badNumber))
+      go : (t : Bool) → Does s w (cond t (happens s w e []) (refuses w badNumber))
       go true = quiet e q
-      go false = refusing w badNumber
+      go false = refusing badNumber
 
   -- a message at its brick
   received-quiet : (b : ℕ) (o : Outcome) → ((r : Reply) → o .given ≡ Answered r → length (w .sent) < lastMessage) → Quiet (received s w b o)
@@ -175,16 +176,16 @@ module _ (s : Settings) (w : World) where
       go Silent q h = rw (append-nil (w .sent)) h
       go (Refused number) q h = rw (append-nil (w .sent)) h
 
-  delivered-part : (k : ℕ) → Quiet (step s w (arrives k)) → (a : Given) → Part s w (delivered s w k a)
+  delivered-does : (k : ℕ) → Quiet (step s w (arrives k)) → (a : Given) → Does s w (delivered s w k a)
   unfolding delivered
-  delivered-part k q (Answered r) = quiet (arrives k) q
-  delivered-part k q Silent = quiet (arrives k) q
-  delivered-part k q (Refused number) = refusing w number
+  delivered-does k q (Answered r) = quiet (arrives k) q
+  delivered-does k q Silent = quiet (arrives k) q
+  delivered-does k q (Refused number) = refusing number
 
-  reaches-part : (k b : ℕ) (msg : Message) (block : List ℕ)
-      → step s w (arrives k) ≡ received s w b (outcome s b (w .images b) msg block (replicate (s .size) 0)) → Part s w (reaches s w k b msg block)
+  reaches-does : (k b : ℕ) (msg : Message) (block : List ℕ)
+      → step s w (arrives k) ≡ received s w b (outcome s b (w .images b) msg block (replicate (s .size) 0)) → Does s w (reaches s w k b msg block)
   unfolding reaches
-  reaches-part k b msg block e = go (eqb (msg .kind) trimKind || ltb (length (w .sent)) lastMessage) refl
+  reaches-does k b msg block e = go (eqb (msg .kind) trimKind || ltb (length (w .sent)) lastMessage) refl
     where
       quietly : eqb (msg .kind) trimKind || ltb (length (w .sent)) lastMessage ≡ true → Quiet (step s w (arrives k))
       quietly q =
@@ -193,52 +194,53 @@ module _ (s : Settings) (w : World) where
           (λ r h. room msg (length (w .sent)) q (λ z. trim-not-answered s b (w .images b) msg block (replicate (s .size) 0) z r h)))
 
       go : (t : Bool) → eqb (msg .kind) trimKind || ltb (length (w .sent)) lastMessage ≡ t
-          → Part s w (cond t (delivered s w k (outcome s b (w .images b) msg block (replicate (s .size) 0) .given)) (refuses w badLine))
-      go true q = delivered-part k (quietly q) (outcome s b (w .images b) msg block (replicate (s .size) 0) .given)
-      go false q = refusing w badLine
+          → Does s w (cond t (delivered s w k (outcome s b (w .images b) msg block (replicate (s .size) 0) .given)) (refuses w badLine))
+      go true q = delivered-does k (quietly q) (outcome s b (w .images b) msg block (replicate (s .size) 0) .given)
+      go false q = refusing badLine
 
   -- an item, carried as item k of all
-  carries-part : (k : ℕ) (i : Item) → step s w (arrives k) ≡ arriving s w i → Part s w (carries s w k i)
+  carries-does : (k : ℕ) (i : Item) → step s w (arrives k) ≡ arriving s w i → Does s w (carries s w k i)
   unfolding carries arriving
-  carries-part k (message b msg block) e = go (ltb b (s .n)) (w .up b) refl
+  carries-does k (message b msg block) e = go (ltb b (s .n)) (w .up b) refl
     where
       go : (t u : Bool) → w .up b ≡ u
-          → Part s w (cond t (cond u (reaches s w k b msg block) (passes w)) (refuses w badNumber))
-      go true true q = reaches-part k b msg block (rw q at e)
-      go true false q = passing w
-      go false u q = refusing w badNumber
-  carries-part k (reply r block) e =
-      at-part (coordinatorOf (r .time)) _
-      (acts-part (arrives k) (coordinatorOf (r .time)) _
+          → Does s w (cond t (cond u (reaches s w k b msg block) (passes w)) (refuses w badNumber))
+      go true true q = reaches-does k b msg block (rw q at e)
+      go true false q = passing
+      go false u q = refusing badNumber
+  carries-does k (reply r block) e =
+      at-does (coordinatorOf (r .time)) _
+      (acts-does (arrives k) (coordinatorOf (r .time)) _
       (λ g q. (
         e ∙ ap (coordinated s w (coordinatorOf (r .time))) q,
         take-agrees (s .n) (s .m) (s .size) (w .coordinators (coordinatorOf (r .time))) r block (s .n * s .size) g q,
       )))
 
-  carries-at-part : (k : ℕ) (l : List Item) (j : ℕ) → step s w (arrives k) ≡ arrivingAt s w l j → Part s w (carriesAt s w k l j)
+  carries-at-does : (k : ℕ) (l : List Item) (j : ℕ) → step s w (arrives k) ≡ arrivingAt s w l j → Does s w (carriesAt s w k l j)
   unfolding carriesAt arrivingAt
-  carries-at-part k [] j e = refusing w badLine
-  carries-at-part k (i ∷ l) zero e = carries-part k i e
-  carries-at-part k (i ∷ l) (suc j) e = carries-at-part k l j e
+  carries-at-does k [] j e = refusing badLine
+  carries-at-does k (i ∷ l) zero e = carries-does k i e
+  carries-at-does k (i ∷ l) (suc j) e = carries-at-does k l j e
 
-  carried-part : (k : ℕ) → Part s w (carried s w k)
+  carried-does : (k : ℕ) → Does s w (carried s w k)
   unfolding carried step
-  carried-part zero = refusing w badLine
-  carried-part (suc k) = carries-at-part k (w .sent) k refl
+  carried-does zero = refusing badLine
+  carried-does (suc k) = carries-at-does k (w .sent) k refl
 
-carried-all-parts : (s : Settings) (w : World) (ks : List ℕ) → Part s w (carriedAll s w ks)
-unfolding carriedAll
-carried-all-parts s w [] = passing w
-carried-all-parts s w (k ∷ ks) = both w (carried s w k) _ (carried-part s w k) (carried-all-parts s (carried s w k .world) ks)
+carried-all-parts : (s : Settings) (w : World) (ks : List ℕ) → Parts s w (eachNumber ks) (carriedAll s w ks)
+unfolding carriedAll eachNumber playsPart
+carried-all-parts s w [] = none w
+carried-all-parts s w (k ∷ ks) =
+    both w (oneNumber k ∷ []) (eachNumber ks) (carried s w k) _ (one w (oneNumber k) (carried-does s w k)) (carried-all-parts s (carried s w k .world) ks)
 
 -- EVERY LINE IS PLAYED PART BY PART.
-pub every-line-by-parts : (s : Settings) (w : World) (line : Line) → Part s w (plays s w line)
-unfolding plays step
-every-line-by-parts s w (setLine n m size capacity) = refusing w badLine
-every-line-by-parts s w (writeLine c clock digits) = writes-part s w c clock digits
-every-line-by-parts s w (readLine c clock brick) = starts-part s w c clock brick
+pub every-line-by-parts : (s : Settings) (w : World) (line : Line) → Parts s w (partsOf line) (plays s w line)
+unfolding plays step partsOf playsPart
+every-line-by-parts s w (setLine n m size capacity) = one w (wholeLine (setLine n m size capacity)) (refusing badLine)
+every-line-by-parts s w (writeLine c clock digits) = one w (wholeLine (writeLine c clock digits)) (writes-does s w c clock digits)
+every-line-by-parts s w (readLine c clock brick) = one w (wholeLine (readLine c clock brick)) (starts-does s w c clock brick)
 every-line-by-parts s w (carryLine messages) = carried-all-parts s w messages
-every-line-by-parts s w (crashLine c) = crashes-part s w c
-every-line-by-parts s w (downLine b) = switches-part s w b (goesDown b) (standing-quiet s w b false)
-every-line-by-parts s w (upLine b) = switches-part s w b (comesUp b) (standing-quiet s w b true)
-every-line-by-parts s w noLine = refusing w badLine
+every-line-by-parts s w (crashLine c) = one w (wholeLine (crashLine c)) (crashes-does s w c)
+every-line-by-parts s w (downLine b) = one w (wholeLine (downLine b)) (switches-does s w b (goesDown b) (standing-quiet s w b false))
+every-line-by-parts s w (upLine b) = one w (wholeLine (upLine b)) (switches-does s w b (comesUp b) (standing-quiet s w b true))
+every-line-by-parts s w noLine = one w (wholeLine noLine) (refusing badLine)

@@ -9,38 +9,41 @@ use Rattle.settings.specs.Refusal.{refuseUnless, badSetting}
 use Rattle.settings.specs.declared.Settings.{Settings}
 use Rattle.order.specs.Claim.{Seen}
 use Rattle.register.specs.Runs.{plain, World, Event, Moved, unmoved, freshSet, nextMoved, runFrom, run}
+use Rattle.register.proofs.Laws.AgreeLaws.{run-from-both}
 use Rattle.register.proofs.Laws.TheoremProof.{every-run-has-one-order}
 use Rattle.bench_parse.specs.Lines.{Line, setLine, writeLine, readLine, carryLine, crashLine, downLine, upLine, noLine, reads}
 use Rattle.bench_state.proofs.Laws.BenchRangeLaws.{bench-fits}
 use Rattle.bench_state.specs.State.{benchRange}
 use Rattle.bench_rules.specs.Play.{Played, refuses, passes, happens, andThen, plays, Stage, waiting, playing, eventsOf, waits, begins, first, turn}
-use Rattle.bench_order.specs.Script.{lines, stays, follows, playsLines, script}
-use Rattle.bench_order.proofs.Laws.Parts.{Part, refusing, passing, happening, both}
+use Rattle.bench_order.specs.Report.{Part, partsOf}
+use Rattle.bench_lines.specs.Cutting.{lines}
+use Rattle.bench_order.specs.Script.{stays, follows, playsLines, script}
+use Rattle.bench_order.proofs.Laws.Parts.{Does, refusing, passing, happening, Parts, none, one, both}
 use Rattle.bench_order.proofs.Laws.ScriptPartLaws.{every-line-by-parts}
 use Rattle.bench_order.specs.ScriptTheorem.{StandsFor, EveryScriptIsARun, EveryScriptKeepsItsEvents, EveryScriptHasOneOrder}
 
--- some events, then more
-pub run-from-both : (s : Settings) (r : Moved s) (es fs : List Event) → runFrom s r (es ++ fs) ≡ runFrom s (runFrom s r es) fs
-unfolding runFrom
-run-from-both s r [] fs = refl
-run-from-both s r (e ∷ es) fs = run-from-both s (nextMoved s r e) es fs
-
--- what a part of a line leaves is what its events leave, whatever was seen before
-pub part-runs : (s : Settings) (w : World) (p : Played) → Part s w p → (seen : List (Seen (plain s)))
+-- what the parts of a line leave is what their events leave, whatever was seen before
+does-runs : (s : Settings) (w : World) (p : Played) → Does s w p → (seen : List (Seen (plain s)))
     → runFrom s (record { world = w; seen = seen }) (p .events) .world ≡ p .world
-unfolding refuses passes happens andThen runFrom nextMoved
-part-runs s w p (refusing _ number) seen = refl
-part-runs s w p (passing _) seen = refl
-part-runs s w p (happening _ e c kind f o) seen = refl
-part-runs s w p (both _ q r a b) seen =
+unfolding refuses passes happens runFrom nextMoved
+does-runs s w p (refusing number) seen = refl
+does-runs s w p passing seen = refl
+does-runs s w p (happening e c kind f o) seen = refl
+
+parts-run : (s : Settings) (w : World) (ps : List Part) (p : Played) → Parts s w ps p → (seen : List (Seen (plain s)))
+    → runFrom s (record { world = w; seen = seen }) (p .events) .world ≡ p .world
+unfolding passes andThen runFrom
+parts-run s w ps p (none _) seen = refl
+parts-run s w ps p (one _ part d) seen = does-runs s w p d seen
+parts-run s w ps p (both _ xs ys q r a b) seen =
     let m = runFrom s (record { world = w; seen = seen }) (q .events) in
     ap (λ (v : Moved s). v .world) (run-from-both s (record { world = w; seen = seen }) (q .events) (r .events))
-    ∙ ap (λ (v : World). runFrom s (record { world = v; seen = m .seen }) (r .events) .world) (part-runs s w q a seen)
-    ∙ part-runs s (q .world) r b (m .seen)
+    ∙ ap (λ (v : World). runFrom s (record { world = v; seen = m .seen }) (r .events) .world) (parts-run s w xs q a seen)
+    ∙ parts-run s (q .world) ys r b (m .seen)
 
 pub plays-runs : (s : Settings) (w : World) (line : Line) (seen : List (Seen (plain s)))
     → runFrom s (record { world = w; seen = seen }) (plays s w line .events) .world ≡ plays s w line .world
-plays-runs s w line seen = part-runs s w (plays s w line) (every-line-by-parts s w line) seen
+plays-runs s w line seen = parts-run s w (partsOf line) (plays s w line) (every-line-by-parts s w line) seen
 
 -- a set that begins
 begins-stands : (s : Settings) → StandsFor (begins s .stage)
@@ -75,7 +78,7 @@ turn-stands (playing s w events) line (b, e) = (
 )
 
 -- all lines
-lines-stand : (stage : Stage) (ls : List (List ℕ)) → StandsFor stage → StandsFor (playsLines stage ls .stage)
+pub lines-stand : (stage : Stage) (ls : List (List ℕ)) → StandsFor stage → StandsFor (playsLines stage ls .stage)
 unfolding playsLines stays follows
 lines-stand stage [] h = h
 lines-stand stage (l ∷ ls) h = lines-stand (turn stage (reads l) .stage) ls (turn-stands stage (reads l) h)

@@ -11,7 +11,8 @@ use Rattle.bench_state.specs.State.{benchRange}
 use Rattle.bench_rules.specs.Content.{counted, content}
 use Rattle.bench_rules.specs.Play.{refuses, passes, happens, acts, atCoordinator, unlessShort, writes, starts, crashesAt, switches, delivered, reaches, carries, carriesAt, carried, andThen}
 use Rattle.bench_rules.specs.Play.{carriedAll, plays, waits, begins, first, turn}
-use Rattle.bench_order.specs.Script.{lines, stays, follows, playsLines, script}
+use Rattle.bench_lines.specs.Cutting.{lines}
+use Rattle.bench_order.specs.Script.{stays, follows, playsLines, script}
 
 -- the definitions of the bench, opened
 unfoldable bench-words-open : Unit {0}
