@@ -1,52 +1,63 @@
 -- The brick's routines at a boundary of numbers and slices: the number that each gives, and what the lent buffers hold afterwards.
+-- The lowest number comes first here too: 1, then 2 for the boundary's own buffers, then what the brick itself refuses.
 use mathlib.Core.Bool.{Bool, cond, _&&_}
 use mathlib.Core.List.{List, [], _∷_}
-use Prim.Native.Nat.{ℕ}
-use lib.Dec.{eqb}
-use lib.ListN.{length}
+use Prim.Native.Nat.{ℕ, _+_}
+use lib.Dec.{eqb, leb}
+use lib.ListN.{length, getD}
 use Rattle.brick.specs.Receive.{Outcome, givenNumber, outcome}
 use Rattle.brick.specs.declared.Given.{Given}
 use Rattle.brick.specs.declared.Given.the-variants.{Answered, Silent, Refused}
-use Rattle.image.specs.Opening.{panelOf, placeIn, shownNumber}
+use Rattle.byte_lists.specs.Lists.{tabulate}
+use Rattle.image.specs.Opening.{lendingRefusal, panelOf, placeIn, shownNumber}
 use Rattle.image.specs.Parse.{parse}
 use Rattle.image.specs.declared.Shown.{Shown}
 use Rattle.image.specs.declared.Shown.the-variants.{Values}
+use Rattle.image_write.specs.Saving.{freshAfter}
 use Rattle.message.specs.declared.Message.{Message}
 use Rattle.message.specs.declared.Reply.{Reply}
 use Rattle.settings.specs.Count.{one-if}
-use Rattle.settings.specs.Ranges.{maxBricks}
-use Rattle.settings.specs.Refusal.{badLength}
+use Rattle.settings.specs.Ranges.{maxBricks, settingsRefusal}
+use Rattle.settings.specs.Refusal.{passed, refuseUnless, firstRefusal, badLength}
 use Rattle.settings.specs.declared.Settings.{Settings}
 use Rattle.image_view.specs.View.{foundNumber, foundOf}
 use Rattle.image_view.specs.declared.Found.{Found}
 use Rattle.image_view.specs.declared.Found.the-variants.{At}
 
--- settings and a message of these numbers
+-- settings of these numbers
 abbrev pub settingsFor : ℕ → ℕ → ℕ → ℕ → Settings
 settingsFor n m size capacity = record { n = n; m = m; size = size; capacity = capacity }
 
-abbrev pub messageFor : ℕ → ℕ → ℕ → ℕ → List ℕ → Message
-messageFor kind time round max targets = record { kind = kind; time = time; round = round; max = max; targets = targets }
-
--- the lengths of the boundary's own buffers: two numbers of the panel or of an entry, seven numbers of a reply
+-- the lengths of the boundary's own buffers: two numbers of the panel or of an entry, twenty of a message, seven of a reply
 abbrev pub pairLength : ℕ
 pairLength = 2
+
+abbrev pub messageLength : ℕ
+messageLength = 20
 
 abbrev pub replyLength : ℕ
 replyLength = 7
 
--- the number that tells silence from a reply and from every refusal
-abbrev pub silence : ℕ
-silence = 100
+-- 1, a setting outside its range; then 2, where one of the boundary's own buffers has another length
+unfoldable pub ownRefusal : Settings → Bool → ℕ
+ownRefusal s right = firstRefusal (settingsRefusal s ∷ refuseUnless right badLength ∷ [])
+
+-- A fresh image: the number, and the image afterwards.
+pub record FreshGiven : Type 0 where
+  pub number : ℕ
+  pub image : List ℕ
+
+unfoldable pub freshAt : Settings → ℕ → List ℕ → FreshGiven
+freshAt s brick image = record { number = lendingRefusal s brick (length image); image = freshAfter s brick image }
 
 -- The panel, and the entry at a place: the number, and what the buffer of two numbers holds afterwards.
 pub record PairGiven : Type 0 where
   pub number : ℕ
   pub pair : List ℕ
 
--- a buffer of another length is refused
-unfoldable pub pairRefused : List ℕ → PairGiven
-pairRefused old = record { number = badLength; pair = old }
+-- what is given where nothing is refused before; else that number, and the buffer as it was
+unfoldable pub pairUnless : ℕ → List ℕ → PairGiven → PairGiven
+pairUnless refusal old given = cond (eqb refusal passed) given (record { number = refusal; pair = old })
 
 -- the panel's two times, or the buffer as it was
 unfoldable pub shownBuffer : Shown → List ℕ → List ℕ
@@ -57,8 +68,7 @@ unfoldable pub panelPair : Shown → List ℕ → PairGiven
 panelPair shown old = record { number = shownNumber shown; pair = shownBuffer shown old }
 
 unfoldable pub panelAt : Settings → ℕ → List ℕ → List ℕ → PairGiven
-panelAt s brick image old =
-    cond (eqb (length old) pairLength) (panelPair (panelOf (parse s brick image)) old) (pairRefused old)
+panelAt s brick image old = pairUnless (ownRefusal s (eqb (length old) pairLength)) old (panelPair (panelOf (parse s brick image)) old)
 
 -- the entry's time and the place of its block, or the buffer as it was
 unfoldable pub entryBuffer : Found → List ℕ → List ℕ
@@ -70,7 +80,46 @@ entryPair found old = record { number = foundNumber found; pair = entryBuffer fo
 
 unfoldable pub entryPairAt : Settings → ℕ → List ℕ → ℕ → List ℕ → PairGiven
 entryPairAt s brick image place old =
-    cond (eqb (length old) pairLength) (entryPair (foundOf (parse s brick image) place) old) (pairRefused old)
+    pairUnless (ownRefusal s (eqb (length old) pairLength)) old (entryPair (foundOf (parse s brick image) place) old)
+
+-- where a message's numbers stand: kind, time, round, max, and a flag for each brick that a set may have
+abbrev pub askedKindAt : ℕ
+askedKindAt = 0
+
+abbrev pub askedTimeAt : ℕ
+askedTimeAt = 1
+
+abbrev pub askedRoundAt : ℕ
+askedRoundAt = 2
+
+abbrev pub askedMaxAt : ℕ
+askedMaxAt = 3
+
+abbrev pub askedTargetsAt : ℕ
+askedTargetsAt = 4
+
+-- the last byte, which is no kind and no flag
+abbrev pub lastByte : ℕ
+lastByte = 255
+
+-- a number as a byte; one that no byte holds is the last byte, so that the brick refuses it in its place where the field counts
+unfoldable pub asByte : ℕ → ℕ
+asByte k = cond (leb k lastByte) k lastByte
+
+-- so many numbers of a list, from a place on, as bytes
+unfoldable pub asBytes : ℕ → ℕ → List ℕ → List ℕ
+asBytes at count l = tabulate count (λ (i : ℕ). asByte (getD l (at + i) 0))
+
+-- the message of twenty numbers
+unfoldable pub messageOf : List ℕ → Message
+messageOf asked =
+    record {
+      kind = asByte (getD asked askedKindAt 0);
+      time = getD asked askedTimeAt 0;
+      round = getD asked askedRoundAt 0;
+      max = getD asked askedMaxAt 0;
+      targets = asBytes askedTargetsAt maxBricks asked;
+    }
 
 -- A message: the number, and what the image and the two buffers of the reply hold afterwards.
 pub record ReceiptGiven : Type 0 where
@@ -78,6 +127,10 @@ pub record ReceiptGiven : Type 0 where
   pub image : List ℕ
   pub out : List ℕ
   pub reply : List ℕ
+
+-- the number that tells silence from a reply and from every refusal
+abbrev pub silence : ℕ
+silence = 100
 
 -- the number of an answer: silence has one of its own
 unfoldable pub answerCode : Given → ℕ
@@ -98,11 +151,16 @@ givenBuffer (Refused number) old = old
 unfoldable pub receipt : Outcome → List ℕ → ReceiptGiven
 receipt o reply = record { number = answerCode (o .given); image = o .image; out = o .out; reply = givenBuffer (o .given) reply }
 
--- a flag for each brick that a set may have, and the reply's numbers
-unfoldable pub buffersRight : List ℕ → List ℕ → Bool
-buffersRight targets reply = eqb (length targets) maxBricks && eqb (length reply) replyLength
+-- the lengths of the message's numbers and of the reply's
+unfoldable pub numbersRight : ℕ → ℕ → Bool
+numbersRight asked reply = eqb asked messageLength && eqb reply replyLength
 
-unfoldable pub receiptAt : Settings → ℕ → Message → List ℕ → List ℕ → List ℕ → List ℕ → ReceiptGiven
-receiptAt s brick msg block image out reply =
-    cond (buffersRight (msg .targets) reply) (receipt (outcome s brick image msg block out) reply)
-    (record { number = badLength; image = image; out = out; reply = reply })
+-- what is given where nothing is refused before; else that number, and all as it was
+unfoldable pub receiptUnless : ℕ → (image out reply : List ℕ) → ReceiptGiven → ReceiptGiven
+receiptUnless refusal image out reply given =
+    cond (eqb refusal passed) given (record { number = refusal; image = image; out = out; reply = reply })
+
+unfoldable pub receiptAt : Settings → ℕ → (asked block image out reply : List ℕ) → ReceiptGiven
+receiptAt s brick asked block image out reply =
+    receiptUnless (ownRefusal s (numbersRight (length asked) (length reply))) image out reply
+    (receipt (outcome s brick image (messageOf asked) block out) reply)

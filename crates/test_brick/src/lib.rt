@@ -1,12 +1,11 @@
-// The brick at a C boundary of numbers and slices, for the tests and benchmarks that compare it with other code.
+// The brick at a C boundary of numbers and slices, for the tests and benchmarks that compare it with other code. Every routine refuses
+// the lowest number first: 1, then 2 for a buffer of the boundary itself, then what the brick refuses.
 ghost use mathlib.Core.Path.{_≡_};
+ghost use Prim.Native.Nat.{_+_, _≤_};
 ghost use lib.ListN.{length};
-ghost use Rattle.test_brick.specs.BrickBoundary.{settingsFor, messageFor, replyLength};
-ghost use Rattle.test_brick.specs.BrickBoundary.{panelAt, entryPairAt, replyNumbers, answerCode, givenBuffer, receiptAt};
-ghost use Rattle.image.specs.Opening.{lendingRefusal};
-ghost use Rattle.image_write.specs.Saving.{freshAfter};
+ghost use Rattle.test_brick.specs.BrickBoundary.{settingsFor, messageLength, replyLength, ownRefusal, freshAt, panelAt, entryPairAt};
+ghost use Rattle.test_brick.specs.BrickBoundary.{asByte, asBytes, messageOf, numbersRight, replyNumbers, answerCode, givenBuffer, receiptAt};
 ghost use Rattle.settings.specs.Count.{one-if};
-ghost use Rattle.settings.specs.Ranges.{maxBricks};
 use brick::Given;
 use image::Shown;
 use image::place_of;
@@ -21,7 +20,23 @@ use settings::Settings;
 // The panel's two times, or an entry's time and place.
 const PAIR_LENGTH: usize = 2;
 
-// The fields of a reply.
+// The numbers of a message, and where they stand: the last sixteen are the flags of its targets.
+const MESSAGE_LENGTH: usize = 20;
+
+const KIND: usize = 0;
+
+const TIME: usize = 1;
+
+const ROUND: usize = 2;
+
+const MAX: usize = 3;
+
+const TARGETS: usize = 4;
+
+// The last byte, which is no kind and no flag.
+const LAST_BYTE: u64 = 255;
+
+// The numbers of a reply.
 const REPLY_LENGTH: usize = 7;
 
 // The number that tells silence from a reply and from every refusal.
@@ -37,6 +52,20 @@ fn flag(b: bool) -> u64
     0
 }
 
+// 1 for a setting outside its range, then 2 for a buffer of the boundary itself, else 0.
+fn own_refusal(s: Settings, right: bool) -> u32
+    ensures { λ r. ⌜ r ≡ ownRefusal s right ⌝ }
+{
+    let bad = s.refusal();
+    if bad != PASSED {
+        return bad;
+    }
+    if right {
+        return PASSED;
+    }
+    BAD_LENGTH
+}
+
 // A fresh image.
 #[no_mangle]
 pub extern "C" fn brick_fresh(
@@ -47,8 +76,8 @@ pub extern "C" fn brick_fresh(
     brick: usize,
     image: &mut [u8],
 ) -> u32
-    ensures { λ r. ⌜ r ≡ lendingRefusal (settingsFor n m size capacity) brick (length (now (image .entry))) ⌝ }
-    ensures { λ r. ⌜ now (image .exit) ≡ freshAfter (settingsFor n m size capacity) brick (now (image .entry)) ⌝ }
+    ensures { λ r. ⌜
+        record { number = r; image = now (image .exit) } ≡ freshAt (settingsFor n m size capacity) brick (now (image .entry)) ⌝ }
 {
     let s = Settings {
         n: n,
@@ -74,15 +103,16 @@ pub extern "C" fn brick_panel(
         record { number = r; pair = now (times .exit) }
         ≡ panelAt (settingsFor n m size capacity) brick (now (image .entry)) (now (times .entry)) ⌝ }
 {
-    if times.len() != PAIR_LENGTH {
-        return BAD_LENGTH;
-    }
     let s = Settings {
         n: n,
         m: m,
         size: size,
         capacity: capacity,
     };
+    let refusal = own_refusal(s, times.len() == PAIR_LENGTH);
+    if refusal != PASSED {
+        return refusal;
+    }
     let shown = image::show(s, brick, image);
     match shown {
         Shown::Values(p) => {
@@ -110,15 +140,16 @@ pub extern "C" fn brick_entry(
         record { number = r; pair = now (found .exit) }
         ≡ entryPairAt (settingsFor n m size capacity) brick (now (image .entry)) place (now (found .entry)) ⌝ }
 {
-    if found.len() != PAIR_LENGTH {
-        return BAD_LENGTH;
-    }
     let s = Settings {
         n: n,
         m: m,
         size: size,
         capacity: capacity,
     };
+    let refusal = own_refusal(s, found.len() == PAIR_LENGTH);
+    if refusal != PASSED {
+        return refusal;
+    }
     let seen = image_view::look(s, brick, image, place);
     match seen {
         Found::At(e) => {
@@ -162,32 +193,56 @@ fn put_given(g: Given, reply: &mut [u64]) -> u32
     }
 }
 
-// Sixteen flags from a slice of sixteen bytes.
-fn flags_of(t: &[u8]) -> [u8; MAX_BRICKS]
-    requires { ⌜ length (now t) ≡ maxBricks ⌝ }
-    ensures { λ r. ⌜ r ≡ now (t .entry) ⌝ }
+// A number as a byte; one that no byte holds as the last byte.
+fn as_byte(k: u64) -> u8
+    ensures { λ r. ⌜ r ≡ asByte k ⌝ }
 {
-    [
-        t[0],
-        t[1],
-        t[2],
-        t[3],
-        t[4],
-        t[5],
-        t[6],
-        t[7],
-        t[8],
-        t[9],
-        t[10],
-        t[11],
-        t[12],
-        t[13],
-        t[14],
-        t[15],
-    ]
+    if k <= LAST_BYTE {
+        return k as u8;
+    }
+    LAST_BYTE as u8
 }
 
-// One message at one brick: kind, time, round and max as numbers, 16 flags for the targets, seven numbers for the reply.
+// Numbers of a list, from a place on, as bytes.
+fn as_bytes(l: &[u64], at: usize, out: &mut [u8])
+    requires { ⌜ at + length (now out) ≤ length (now l) ⌝ }
+    ensures { λ _. ⌜ now (out .exit) ≡ asBytes at (length (now (out .entry))) (now (l .entry)) ⌝ }
+{
+    let mut i = 0;
+    while i < out.len() {
+        out[i] = as_byte(l[at + i]);
+        i += 1;
+    }
+}
+
+// The message of twenty numbers.
+fn message_of(asked: &[u64]) -> Message
+    requires { ⌜ length (now asked) ≡ messageLength ⌝ }
+    ensures { λ r. ⌜ r ≡ messageOf (now (asked .entry)) ⌝ }
+{
+    let kind = as_byte(asked[KIND]);
+    let mut targets = [0u8; MAX_BRICKS];
+    as_bytes(asked, TARGETS, &mut targets);
+    Message {
+        kind,
+        time: asked[TIME],
+        round: asked[ROUND],
+        max: asked[MAX],
+        targets,
+    }
+}
+
+// Whether a message's numbers and a reply's have their lengths.
+fn numbers_right(asked: usize, reply: usize) -> bool
+    ensures { λ r. ⌜ r ≡ numbersRight asked reply ⌝ }
+{
+    if asked != MESSAGE_LENGTH {
+        return false;
+    }
+    reply == REPLY_LENGTH
+}
+
+// One message at one brick: twenty numbers in (kind, time, round, max, 16 flags for the targets), seven numbers out.
 #[no_mangle]
 pub extern "C" fn brick_receive(
     n: usize,
@@ -196,40 +251,27 @@ pub extern "C" fn brick_receive(
     capacity: usize,
     brick: usize,
     image: &mut [u8],
-    kind: u8,
-    time: u64,
-    round: u64,
-    max: u64,
-    targets: &[u8],
+    asked: &[u64],
     block: &[u8],
     out: &mut [u8],
     reply: &mut [u64],
 ) -> u32
     ensures { λ r. ⌜
         record { number = r; image = now (image .exit); out = now (out .exit); reply = now (reply .exit) }
-        ≡ receiptAt (settingsFor n m size capacity) brick (messageFor kind time round max (now (targets .entry)))
-        (now (block .entry)) (now (image .entry)) (now (out .entry)) (now (reply .entry)) ⌝ }
+        ≡ receiptAt (settingsFor n m size capacity) brick (now (asked .entry)) (now (block .entry))
+        (now (image .entry)) (now (out .entry)) (now (reply .entry)) ⌝ }
 {
-    if targets.len() != MAX_BRICKS {
-        return BAD_LENGTH;
-    }
-    if reply.len() != REPLY_LENGTH {
-        return BAD_LENGTH;
-    }
     let s = Settings {
         n: n,
         m: m,
         size: size,
         capacity: capacity,
     };
-    let flags = flags_of(targets);
-    let msg = Message {
-        kind: kind,
-        time: time,
-        round: round,
-        max: max,
-        targets: flags,
-    };
+    let refusal = own_refusal(s, numbers_right(asked.len(), reply.len()));
+    if refusal != PASSED {
+        return refusal;
+    }
+    let msg = message_of(asked);
     let g = brick::receive(s, brick, image, msg, block, out);
     put_given(g, reply)
 }

@@ -1,4 +1,5 @@
 -- The coordinator's record and answers as numbers and bytes, for a boundary of slices.
+-- The lowest number comes first here too: 1, then 2 for the boundary's own buffers, then what the coordinator itself refuses.
 use mathlib.Core.Bool.{Bool, cond, _&&_}
 use mathlib.Core.List.{List, [], _∷_, _++_}
 use Prim.Native.Nat.{ℕ, _+_}
@@ -9,12 +10,12 @@ use Rattle.coord_apply.specs.declared.Answer.{Answer}
 use Rattle.coord_record.specs.declared.Coordinator.{Coordinator}
 use Rattle.coordinator.specs.Routines.{writeCall, readCall, takeCall, crashCall}
 use Rattle.message.specs.declared.Reply.{Reply}
-use Rattle.settings.specs.Ranges.{maxBricks}
-use Rattle.settings.specs.Refusal.{badLength}
+use Rattle.settings.specs.Ranges.{maxBricks, codeRefusal}
+use Rattle.settings.specs.Refusal.{passed, refuseUnless, firstRefusal, badLength}
 
 -- how many numbers and bytes a record has, and an answer
 abbrev pub recordNumbersLength : ℕ
-recordNumbersLength = 22
+recordNumbersLength = 25
 
 abbrev pub recordBytesLength : ℕ
 recordBytesLength = 66
@@ -44,8 +45,17 @@ maxAt = 4
 abbrev pub firstAt : ℕ
 firstAt = 5
 
+abbrev pub recordNAt : ℕ
+recordNAt = 6
+
+abbrev pub recordMAt : ℕ
+recordMAt = 7
+
+abbrev pub recordSizeAt : ℕ
+recordSizeAt = 8
+
 abbrev pub recordFoundAt : ℕ
-recordFoundAt = 6
+recordFoundAt = 9
 
 -- where its bytes stand
 abbrev pub kindAt : ℕ
@@ -79,10 +89,11 @@ secondTargetsAt = 35
 abbrev pub secondKindAt : ℕ
 secondKindAt = 51
 
--- a record's 22 numbers: clock, time, round, max, first, and the times found
+-- a record's 25 numbers: clock, time, round, max, first, the settings that it is for, and the times found
 unfoldable pub recordNumbers : Coordinator → List ℕ
 recordNumbers c =
-    c .clock .coordinator ∷ c .clock .last ∷ c .op .time ∷ c .op .round ∷ c .op .max ∷ c .op .first ∷ c .tally .found
+    c .clock .coordinator ∷ c .clock .last ∷ c .op .time ∷ c .op .round ∷ c .op .max ∷ c .op .first
+    ∷ c .geometry .n ∷ c .geometry .m ∷ c .geometry .size ∷ c .tally .found
 
 -- its 66 bytes: kind, phase, and the rows counted, granted, held and bricks
 unfoldable pub recordBytes : Coordinator → List ℕ
@@ -96,6 +107,7 @@ rowAt at l = take maxBricks (drop at l)
 unfoldable pub recordFor : List ℕ → List ℕ → Coordinator
 recordFor numbers bytes =
     record {
+      geometry = record { n = getD numbers recordNAt 0; m = getD numbers recordMAt 0; size = getD numbers recordSizeAt 0 };
       clock = record { coordinator = getD numbers coordinatorAt 0; last = getD numbers lastAt 0 };
       op =
           record {
@@ -140,7 +152,7 @@ lentLengths numbers bytes sent shown =
 
 -- an answer laid out in them; a refusal leaves them as they were
 unfoldable pub laidOut : Rows → Answer → Rows
-laidOut l a = cond (eqb (a .refusal) 0) (rows (recordNumbers (a .next)) (recordBytes (a .next)) (answerNumbers a) (answerBytes a)) l
+laidOut l a = cond (eqb (a .refusal) passed) (rows (recordNumbers (a .next)) (recordBytes (a .next)) (answerNumbers a) (answerBytes a)) l
 
 -- What a routine leaves at the boundary: its number, the four buffers, and the reply blocks, the stripe and the blocks to send.
 pub record AtBoundary : Type 0 where
@@ -153,12 +165,19 @@ pub record AtBoundary : Type 0 where
 abbrev pub atBoundary : ℕ → Rows → (blocks stripe coded : List ℕ) → AtBoundary
 atBoundary number l blocks stripe coded = record { number = number; laid = l; blocks = blocks; stripe = stripe; coded = coded }
 
--- a call at the boundary: its answer laid out; or refused where one of the four buffers has another length, and nothing changed
-unfoldable pub crossing : Rows → (blocks stripe coded : List ℕ) → Returned → AtBoundary
-crossing l blocks stripe coded r =
-    cond (lentLengths (length (l .numbers)) (length (l .bytes)) (length (l .sent)) (length (l .shown)))
-    (atBoundary (r .answer .refusal) (laidOut l (r .answer)) (r .blocks) (r .stripe) (r .coded))
-    (atBoundary badLength l blocks stripe coded)
+-- 1, a setting outside its range; then 2, where one of the four buffers has another length
+unfoldable pub lentRefusal : ℕ → ℕ → ℕ → ℕ → ℕ → ℕ → ℕ → ℕ
+lentRefusal n m size numbers bytes sent shown =
+    firstRefusal (codeRefusal n m size ∷ refuseUnless (lentLengths numbers bytes sent shown) badLength ∷ [])
+
+abbrev pub rowsRefusal : ℕ → ℕ → ℕ → Rows → ℕ
+rowsRefusal n m size l = lentRefusal n m size (length (l .numbers)) (length (l .bytes)) (length (l .sent)) (length (l .shown))
+
+-- a call at the boundary: its answer laid out; or refused by the boundary itself, and nothing changed
+unfoldable pub crossing : ℕ → Rows → (blocks stripe coded : List ℕ) → Returned → AtBoundary
+crossing refusal l blocks stripe coded r =
+    cond (eqb refusal passed) (atBoundary (r .answer .refusal) (laidOut l (r .answer)) (r .blocks) (r .stripe) (r .coded))
+    (atBoundary refusal l blocks stripe coded)
 
 -- a row replaced
 unfoldable pub rowPut : ℕ → List ℕ → List ℕ → List ℕ
@@ -171,14 +190,17 @@ replyFor kind brick time round said found held =
 -- The four routines. A buffer that a routine is not lent is none here.
 module _ (n m size : ℕ) (l : Rows) where
   abbrev pub wrote : ℕ → (given stripe : List ℕ) → AtBoundary
-  wrote reading given stripe = crossing l [] stripe [] (writeCall n m size (recordFor (l .numbers) (l .bytes)) [] stripe [] reading given)
+  wrote reading given stripe =
+      crossing (rowsRefusal n m size l) l [] stripe [] (writeCall n m size (recordFor (l .numbers) (l .bytes)) [] stripe [] reading given)
 
   abbrev pub looked : ℕ → ℕ → AtBoundary
-  looked reading first = crossing l [] [] [] (readCall n m size (recordFor (l .numbers) (l .bytes)) [] [] [] reading first)
+  looked reading first =
+      crossing (rowsRefusal n m size l) l [] [] [] (readCall n m size (recordFor (l .numbers) (l .bytes)) [] [] [] reading first)
 
   abbrev pub took : Reply → (block blocks stripe coded : List ℕ) → AtBoundary
   took reply block blocks stripe coded =
-      crossing l blocks stripe coded (takeCall n m size (recordFor (l .numbers) (l .bytes)) blocks stripe coded reply block)
+      crossing (rowsRefusal n m size l) l blocks stripe coded
+      (takeCall n m size (recordFor (l .numbers) (l .bytes)) blocks stripe coded reply block)
 
   abbrev pub fell : AtBoundary
-  fell = crossing l [] [] [] (crashCall n m size (recordFor (l .numbers) (l .bytes)) [] [] [])
+  fell = crossing (rowsRefusal n m size l) l [] [] [] (crashCall n m size (recordFor (l .numbers) (l .bytes)) [] [] [])

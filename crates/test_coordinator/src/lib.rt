@@ -1,5 +1,6 @@
 // The coordinator at a C boundary of numbers and slices, for the tests and benchmarks that compare it with other code. Every routine is
-// lent four buffers: the record's 22 numbers and 66 bytes, and the answer's 8 numbers and 52 bytes. A refusal leaves them as they were.
+// lent four buffers: the record's 25 numbers and 66 bytes, and the answer's 8 numbers and 52 bytes. A refusal leaves them as they were;
+// the lowest number comes first: 1, then 2 for one of these buffers, then what the coordinator refuses.
 ghost use mathlib.Core.Path.{_≡_};
 ghost use mathlib.Core.List.{[]};
 ghost use Prim.Native.Nat.{_+_, _≤_};
@@ -7,10 +8,11 @@ ghost use lib.ListN.{length};
 ghost use Rattle.settings.specs.Ranges.{maxBricks};
 ghost use Rattle.test_coordinator.specs.CoordinatorBoundary.{recordNumbersLength, recordBytesLength, answerNumbersLength, answerBytesLength};
 ghost use Rattle.test_coordinator.specs.CoordinatorBoundary.{recordFor, recordNumbers, recordBytes, answerNumbers, answerBytes};
-ghost use Rattle.test_coordinator.specs.CoordinatorBoundary.{lentLengths, rows, laidOut, atBoundary, rowPut, replyFor};
+ghost use Rattle.test_coordinator.specs.CoordinatorBoundary.{lentLengths, lentRefusal, rows, laidOut, atBoundary, rowPut, replyFor};
 ghost use Rattle.test_coordinator.specs.CoordinatorBoundary.{wrote, looked, took, fell};
 use coord_apply::Answer;
 use coord_record::Coordinator;
+use coord_record::Geometry;
 use coord_record::Op;
 use coord_record::Tally;
 use message::Reply;
@@ -18,7 +20,7 @@ use settings::Clock;
 use settings::MAX_BRICKS;
 
 // How many numbers and bytes a record has, and an answer.
-const RECORD_NUMBERS: usize = 22;
+const RECORD_NUMBERS: usize = 25;
 
 const RECORD_BYTES: usize = 66;
 
@@ -39,7 +41,13 @@ const MAX: usize = 4;
 
 const FIRST: usize = 5;
 
-const FOUND: usize = 6;
+const RECORD_N: usize = 6;
+
+const RECORD_M: usize = 7;
+
+const RECORD_SIZE: usize = 8;
+
+const FOUND: usize = 9;
 
 // Where its bytes stand.
 const KIND: usize = 0;
@@ -102,6 +110,28 @@ fn lent_right(numbers: usize, bytes: usize, sent: usize, shown: usize) -> bool
     shown == ANSWER_BYTES
 }
 
+// 1 for a setting outside its range, then 2 where one of the four buffers has another length, else 0.
+fn lent_refusal(
+    n: usize,
+    m: usize,
+    size: usize,
+    numbers: usize,
+    bytes: usize,
+    sent: usize,
+    shown: usize,
+) -> u32
+    ensures { λ r. ⌜ r ≡ lentRefusal n m size numbers bytes sent shown ⌝ }
+{
+    let bad = settings::code_refusal(n, m, size);
+    if bad != settings::PASSED {
+        return bad;
+    }
+    if lent_right(numbers, bytes, sent, shown) {
+        return settings::PASSED;
+    }
+    settings::BAD_LENGTH
+}
+
 // Sixteen bytes from a slice of sixteen.
 fn row_of(t: &[u8]) -> [u8; MAX_BRICKS]
     requires { ⌜ length (now t) ≡ maxBricks ⌝ }
@@ -158,6 +188,11 @@ fn record_of(numbers: &[u64], bytes: &[u8]) -> Coordinator
     requires { ⌜ length (now bytes) ≡ recordBytesLength ⌝ }
     ensures { λ r. ⌜ r ≡ recordFor (now (numbers .entry)) (now (bytes .entry)) ⌝ }
 {
+    let geometry = Geometry {
+        n: numbers[RECORD_N] as usize,
+        m: numbers[RECORD_M] as usize,
+        size: numbers[RECORD_SIZE] as usize,
+    };
     let clock = Clock {
         coordinator: numbers[COORDINATOR],
         last: numbers[LAST],
@@ -182,6 +217,7 @@ fn record_of(numbers: &[u64], bytes: &[u8]) -> Coordinator
         found,
     };
     Coordinator {
+        geometry,
         clock,
         op,
         tally,
@@ -226,6 +262,7 @@ fn put_numbers(c: Coordinator, out: &mut [u64])
     requires { ⌜ length (now out) ≡ recordNumbersLength ⌝ }
     ensures { λ _. ⌜ now (out .exit) ≡ recordNumbers c ⌝ }
 {
+    let geometry = c.geometry;
     let clock = c.clock;
     let op = c.op;
     let tally = c.tally;
@@ -235,6 +272,9 @@ fn put_numbers(c: Coordinator, out: &mut [u64])
     out[ROUND] = op.round;
     out[MAX] = op.max;
     out[FIRST] = op.first as u64;
+    out[RECORD_N] = geometry.n as u64;
+    out[RECORD_M] = geometry.m as u64;
+    out[RECORD_SIZE] = geometry.size as u64;
     let found = tally.found;
     put_times(found, FOUND, out)
 }
@@ -312,7 +352,7 @@ fn put_answer(
     ensures { λ r. ⌜ rows (now (numbers .exit)) (now (bytes .exit)) (now (sent .exit)) (now (shown .exit))
         ≡ laidOut (rows (now (numbers .entry)) (now (bytes .entry)) (now (sent .entry)) (now (shown .entry))) a ⌝ }
 {
-    if a.refusal != 0 {
+    if a.refusal != settings::PASSED {
         return a.refusal;
     }
     let next = a.next;
@@ -320,10 +360,10 @@ fn put_answer(
     put_bytes(next, bytes);
     put_sent(a, sent);
     put_shown(a, shown);
-    0
+    settings::PASSED
 }
 
-// A write begins. Each of the four routines refuses besides: 2 where one of the four buffers has another length.
+// A write begins.
 #[no_mangle]
 pub extern "C" fn coord_start_write(
     n: usize,
@@ -342,8 +382,17 @@ pub extern "C" fn coord_start_write(
         ≡ wrote n m size (rows (now (numbers .entry)) (now (bytes .entry)) (now (sent .entry)) (now (shown .entry)))
         reading (now (given .entry)) (now (stripe .entry)) ⌝ }
 {
-    if lent_right(numbers.len(), bytes.len(), sent.len(), shown.len()) {} else {
-        return settings::BAD_LENGTH;
+    let refusal = lent_refusal(
+        n,
+        m,
+        size,
+        numbers.len(),
+        bytes.len(),
+        sent.len(),
+        shown.len(),
+    );
+    if refusal != settings::PASSED {
+        return refusal;
     }
     let c = record_of(numbers, bytes);
     let a = coordinator::start_write(n, m, size, c, reading, given, stripe);
@@ -366,8 +415,17 @@ pub extern "C" fn coord_start_read(
     ensures { λ r. ⌜ atBoundary r (rows (now (numbers .exit)) (now (bytes .exit)) (now (sent .exit)) (now (shown .exit))) [] [] []
         ≡ looked n m size (rows (now (numbers .entry)) (now (bytes .entry)) (now (sent .entry)) (now (shown .entry))) reading first ⌝ }
 {
-    if lent_right(numbers.len(), bytes.len(), sent.len(), shown.len()) {} else {
-        return settings::BAD_LENGTH;
+    let refusal = lent_refusal(
+        n,
+        m,
+        size,
+        numbers.len(),
+        bytes.len(),
+        sent.len(),
+        shown.len(),
+    );
+    if refusal != settings::PASSED {
+        return refusal;
     }
     let c = record_of(numbers, bytes);
     let a = coordinator::start_read(n, m, size, c, reading, first);
@@ -402,8 +460,17 @@ pub extern "C" fn coord_take_reply(
         (replyFor kind brick time round yes found has) (now (block .entry))
         (now (blocks .entry)) (now (stripe .entry)) (now (coded .entry)) ⌝ }
 {
-    if lent_right(numbers.len(), bytes.len(), sent.len(), shown.len()) {} else {
-        return settings::BAD_LENGTH;
+    let refusal = lent_refusal(
+        n,
+        m,
+        size,
+        numbers.len(),
+        bytes.len(),
+        sent.len(),
+        shown.len(),
+    );
+    if refusal != settings::PASSED {
+        return refusal;
     }
     let c = record_of(numbers, bytes);
     let reply = Reply {
@@ -433,8 +500,17 @@ pub extern "C" fn coord_crash(
     ensures { λ r. ⌜ atBoundary r (rows (now (numbers .exit)) (now (bytes .exit)) (now (sent .exit)) (now (shown .exit))) [] [] []
         ≡ fell n m size (rows (now (numbers .entry)) (now (bytes .entry)) (now (sent .entry)) (now (shown .entry))) ⌝ }
 {
-    if lent_right(numbers.len(), bytes.len(), sent.len(), shown.len()) {} else {
-        return settings::BAD_LENGTH;
+    let refusal = lent_refusal(
+        n,
+        m,
+        size,
+        numbers.len(),
+        bytes.len(),
+        sent.len(),
+        shown.len(),
+    );
+    if refusal != settings::PASSED {
+        return refusal;
     }
     let c = record_of(numbers, bytes);
     let a = coordinator::crash(n, m, size, c);

@@ -8,7 +8,7 @@ use lib.ListN.{length}
 use Rattle.gf256.specs.Product.{power, powerCount}
 use Rattle.settings.specs.Ranges.{settingsRefusal}
 use Rattle.settings.specs.Refusal.{badLength}
-use Rattle.settings.specs.Times.{drawRefusal, drawOf}
+use Rattle.settings.specs.Times.{drawOf, numberOf}
 use Rattle.settings.specs.declared.Clock.{Clock}
 use Rattle.settings.specs.declared.Draw.{Draw}
 use Rattle.settings.specs.declared.Draw.the-variants.{Drawn, Refused}
@@ -34,14 +34,20 @@ clockOf coordinator last = record { coordinator = coordinator; last = last }
 abbrev pub drawnNumbers : ℕ
 drawnNumbers = 2
 
--- 2 for a buffer that has not two numbers, else the draw's own refusal
-unfoldable pub drawNumber : ℕ → ℕ → ℕ → List ℕ → ℕ
-drawNumber coordinator last reading out = cond (eqb (length out) drawnNumbers) (drawRefusal (clockOf coordinator last) reading) badLength
+-- A draw: the number, and what the buffer of two numbers holds afterwards.
+pub record DrawGiven : Type 0 where
+  pub number : ℕ
+  pub drawn : List ℕ
 
 -- the time and the next last count; a refused draw leaves the buffer
 unfoldable pub drawWritten : Draw → List ℕ → List ℕ
 drawWritten (Drawn time next) out = time ∷ next .last ∷ []
 drawWritten (Refused number) out = out
 
-unfoldable pub drawBuffer : ℕ → ℕ → ℕ → List ℕ → List ℕ
-drawBuffer coordinator last reading out = cond (eqb (length out) drawnNumbers) (drawWritten (drawOf (clockOf coordinator last) reading) out) out
+unfoldable pub drawGiven : Draw → List ℕ → DrawGiven
+drawGiven d out = record { number = numberOf d; drawn = drawWritten d out }
+
+-- 2 for a buffer that has not two numbers, else what the clock gives: the lowest number first
+unfoldable pub drawAt : ℕ → ℕ → ℕ → List ℕ → DrawGiven
+drawAt coordinator last reading out =
+    cond (eqb (length out) drawnNumbers) (drawGiven (drawOf (clockOf coordinator last) reading) out) (record { number = badLength; drawn = out })

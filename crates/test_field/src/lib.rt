@@ -2,7 +2,7 @@
 // inner: call `erasure::stripe_encode`
 ghost use mathlib.Core.Path.{_≡_};
 ghost use Rattle.gf256.specs.Product.{product, inverse, quotient};
-ghost use Rattle.test_field.specs.FieldBoundary.{powerOrZero, IsLog, settingsNumber, drawNumber, drawBuffer};
+ghost use Rattle.test_field.specs.FieldBoundary.{powerOrZero, IsLog, settingsNumber, drawAt};
 ghost use Rattle.settings.specs.Ranges.{quorum};
 ghost use Rattle.settings.specs.Times.{validTime};
 use settings::Clock;
@@ -93,8 +93,7 @@ pub extern "C" fn probe_settings(n: usize, m: usize, size: usize, capacity: usiz
 // A clock's draw: the time and the next clock's last count go into a buffer of two numbers.
 #[no_mangle]
 pub extern "C" fn probe_draw(coordinator: u64, last: u64, reading: u64, out: &mut [u64]) -> u32
-    ensures { λ r. ⌜ r ≡ drawNumber coordinator last reading (now (out .entry)) ⌝ }
-    ensures { λ r. ⌜ now (out .exit) ≡ drawBuffer coordinator last reading (now (out .entry)) ⌝ }
+    ensures { λ r. ⌜ record { number = r; drawn = now (out .exit) } ≡ drawAt coordinator last reading (now (out .entry)) ⌝ }
 {
     if out.len() != DRAWN_NUMBERS {
         return settings::BAD_LENGTH;

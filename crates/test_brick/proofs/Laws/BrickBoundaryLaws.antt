@@ -1,27 +1,31 @@
 -- Buffers filled entry by entry, and the ways through the routines.
-use mathlib.Core.Path.{_≡_, refl, ap, _∙_}
-use mathlib.Core.Bool.{false}
+use mathlib.Core.Path.{_≡_, refl, sym, ap, _∙_}
+use mathlib.Core.Bool.{Bool, true, false}
 use mathlib.Core.List.{List, [], _∷_}
-use Prim.Native.Nat.{ℕ}
+use Prim.Native.Nat.{ℕ, _≤_, _<_}
 use native.Mathlib.Omega.{arith}
+use lib.Dec.{eqb}
 use lib.ListN.{length, getD, set}
-use borrow.Author.Tests.{eq-eqb, ne-eqb}
-use Rattle.byte_lists.specs.Lists.{tabulate}
-use Rattle.byte_lists.proofs.Laws.TabulateLaws.{tabulate-by}
-use Rattle.test_brick.specs.BrickBoundary.{messageFor, pairLength, replyLength, silence, pairRefused, shownBuffer, panelPair, panelAt}
-use Rattle.test_brick.specs.BrickBoundary.{entryBuffer, entryPair, entryPairAt, answerCode, replyNumbers, givenBuffer, receipt, buffersRight, receiptAt}
+use borrow.Author.Tests.{eq-eqb, ne-eqb, eqb-true, le-leb, lt-leb}
+use Rattle.byte_lists.proofs.Laws.BoolLaws.{and-left, and-right}
+use Rattle.test_brick.specs.BrickBoundary.{pairLength, messageLength, replyLength, ownRefusal, FreshGiven, freshAt, PairGiven, pairUnless, shownBuffer, panelPair, panelAt}
+use Rattle.test_brick.specs.BrickBoundary.{entryBuffer, entryPair, entryPairAt, askedKindAt, askedTimeAt, askedRoundAt, askedMaxAt, askedTargetsAt, lastByte, asByte, asBytes, messageOf}
+use Rattle.test_brick.specs.BrickBoundary.{silence, answerCode, replyNumbers, givenBuffer, receipt, numbersRight, receiptUnless, receiptAt}
 use Rattle.brick.specs.Receive.{givenNumber, outcomeWith, outcome}
 use Rattle.image.specs.Parse.{parse}
-use Rattle.settings.specs.Ranges.{maxBricks}
-use Rattle.settings.specs.Refusal.{passed, badLength}
+use Rattle.image_write.specs.Saving.{freshAfter}
+use Rattle.settings.proofs.Laws.RefusalLaws.{first-stop, passed-first, passed-rest, tested}
+use Rattle.settings.specs.Ranges.{maxBricks, settingsRefusal}
+use Rattle.settings.specs.Refusal.{passed, firstRefusal, badLength}
 use Rattle.settings.specs.declared.Settings.{Settings}
 use Rattle.brick.specs.declared.Given.{Given}
 use Rattle.brick.specs.declared.Given.the-variants.{Answered, Silent, Refused}
-use Rattle.image.specs.Opening.{panelOf, placeIn, shownNumber}
+use Rattle.image.specs.Opening.{lendingRefusal, panelOf, placeIn, shownNumber}
 use Rattle.image.specs.declared.Entry.{Entry}
 use Rattle.image.specs.declared.Panel.{Panel}
 use Rattle.image.specs.declared.Shown.{Shown}
 use Rattle.image.specs.declared.Shown.the-variants.{Values}
+use Rattle.message.specs.declared.Message.{Message}
 use Rattle.message.specs.declared.Reply.{Reply}
 use Rattle.settings.specs.Count.{one-if}
 use Rattle.image_view.specs.View.{foundNumber, foundOf}
@@ -56,43 +60,76 @@ two (x ∷ []) a b h = absurd (omega arith)
 two (x ∷ y ∷ []) a b h = refl
 two (x ∷ y ∷ z ∷ l) a b h = absurd (omega arith)
 
--- sixteen bytes, read one by one
-pub sixteen : (t : List ℕ) → length t ≡ maxBricks → t ≡ tabulate maxBricks (λ (i : ℕ). getD t i 0)
-sixteen t e = tabulate-by maxBricks (λ (i : ℕ). getD t i 0) t e (λ i h. refl)
+-- the ways through the boundary's own refusals
+pub own-setting : (s : Settings) (right : Bool) (k : ℕ) → k ≡ settingsRefusal s → (k ≡ passed → ⊥) → k ≡ ownRefusal s right
+unfolding ownRefusal
+own-setting s right k e h = e ∙ first-stop (settingsRefusal s) _ (λ q. h (e ∙ q))
 
--- the ways through the panel
-module _ (s : Settings) (brick : ℕ) (image old : List ℕ) where
-  pub panel-short : (length old ≡ pairLength → ⊥) → record { number = badLength; pair = old } ≡ panelAt s brick image old
-  unfolding panelAt pairRefused
-  panel-short h = rw (ne-eqb (length old) pairLength h) refl
+pub own-right : (s : Settings) (right : Bool) (k : ℕ) → k ≡ settingsRefusal s → k ≡ passed → right ≡ true → passed ≡ ownRefusal s right
+unfolding ownRefusal firstRefusal
+own-right s right k e h r = rw (← e, h, r) refl
 
-  pub panel-values : (r : Shown) (p : Panel) → length old ≡ pairLength → r ≡ panelOf (parse s brick image) → r ≡ Values p
+pub own-short : (s : Settings) (right : Bool) (k : ℕ) → k ≡ settingsRefusal s → k ≡ passed → right ≡ false → badLength ≡ ownRefusal s right
+unfolding ownRefusal firstRefusal
+own-short s right k e h r = rw (← e, h, r) refl
+
+-- where nothing is refused the boundary's buffers are right
+own-tested : (s : Settings) (right : Bool) → ownRefusal s right ≡ passed → right ≡ true
+unfolding ownRefusal
+own-tested s right e = tested right 1 (passed-first _ [] (passed-rest (settingsRefusal s) _ e))
+
+-- a fresh image
+pub fresh-is : (s : Settings) (brick k : ℕ) (image image₁ : List ℕ) → k ≡ lendingRefusal s brick (length image) → image₁ ≡ freshAfter s brick image
+    → _≡_ {A = FreshGiven} (record { number = k; image = image₁ }) (freshAt s brick image)
+unfolding freshAt
+fresh-is s brick k image image₁ e f = rw (e, f) refl
+
+-- the panel's and the view's buffer: k is the boundary's own refusal
+module _ (s : Settings) (old : List ℕ) (k : ℕ) (own : k ≡ ownRefusal s (eqb (length old) pairLength)) where
+  pub pair-long : k ≡ passed → length old ≡ pairLength
+  pair-long h = eqb-true (length old) pairLength (own-tested s _ (sym own ∙ h))
+
+  pair-kept : (given : PairGiven) → (k ≡ passed → ⊥) → record { number = k; pair = old } ≡ pairUnless (ownRefusal s (eqb (length old) pairLength)) old given
+  unfolding pairUnless
+  pair-kept given h = rw (← own, ne-eqb k passed h) refl
+
+  pair-given : (given : PairGiven) → k ≡ passed → given ≡ pairUnless (ownRefusal s (eqb (length old) pairLength)) old given
+  unfolding pairUnless
+  pair-given given h = rw (← own, eq-eqb k passed h) refl
+
+-- the ways through the panel and the view
+module _ (s : Settings) (brick : ℕ) (image old : List ℕ) (k : ℕ) (own : k ≡ ownRefusal s (eqb (length old) pairLength)) where
+  pub panel-kept : (k ≡ passed → ⊥) → record { number = k; pair = old } ≡ panelAt s brick image old
+  unfolding panelAt
+  panel-kept h = pair-kept s old k own _ h
+
+  pub panel-values : (r : Shown) (p : Panel) → k ≡ passed → r ≡ panelOf (parse s brick image) → r ≡ Values p
       → record { number = passed; pair = set (set old 0 (p .promise)) 1 (p .newest) } ≡ panelAt s brick image old
   unfolding panelAt panelPair shownNumber shownBuffer
   panel-values r p h e f =
-      rw (eq-eqb (length old) pairLength h, ← e, f) (ap (λ (l : List ℕ). record { number = passed; pair = l }) (two old (p .promise) (p .newest) h))
+      rw (← e, f) (ap (λ (l : List ℕ). record { number = passed; pair = l }) (two old (p .promise) (p .newest) (pair-long s old k own h)) ∙ pair-given s old k own _ h)
 
-  pub panel-refused : (r : Shown) (k : ℕ) → length old ≡ pairLength → r ≡ panelOf (parse s brick image) → r ≡ Shown.Refused k
-      → record { number = k; pair = old } ≡ panelAt s brick image old
+  pub panel-refused : (r : Shown) (number : ℕ) → k ≡ passed → r ≡ panelOf (parse s brick image) → r ≡ Shown.Refused number
+      → record { number = number; pair = old } ≡ panelAt s brick image old
   unfolding panelAt panelPair shownNumber shownBuffer
-  panel-refused r k h e f = rw (eq-eqb (length old) pairLength h, ← e, f) refl
+  panel-refused r number h e f = rw (← e, f) (pair-given s old k own _ h)
 
-  -- the ways through the view
-  pub entry-short : (place : ℕ) → (length old ≡ pairLength → ⊥) → record { number = badLength; pair = old } ≡ entryPairAt s brick image place old
-  unfolding entryPairAt pairRefused
-  entry-short place h = rw (ne-eqb (length old) pairLength h) refl
+  pub entry-kept : (place : ℕ) → (k ≡ passed → ⊥) → record { number = k; pair = old } ≡ entryPairAt s brick image place old
+  unfolding entryPairAt
+  entry-kept place h = pair-kept s old k own _ h
 
-  pub entry-there : (place : ℕ) (r : Found) (x : Entry) (k : ℕ) → length old ≡ pairLength → r ≡ foundOf (parse s brick image) place → r ≡ At x
-      → k ≡ placeIn (x .holding) → record { number = passed; pair = set (set old 0 (x .time)) 1 k } ≡ entryPairAt s brick image place old
+  pub entry-there : (place : ℕ) (r : Found) (x : Entry) (at : ℕ) → k ≡ passed → r ≡ foundOf (parse s brick image) place → r ≡ At x
+      → at ≡ placeIn (x .holding) → record { number = passed; pair = set (set old 0 (x .time)) 1 at } ≡ entryPairAt s brick image place old
   unfolding entryPairAt entryPair foundNumber entryBuffer
-  entry-there place r x k h e f g =
-      rw (eq-eqb (length old) pairLength h, ← e, f)
-      (ap (λ (l : List ℕ). record { number = passed; pair = l }) (two old (x .time) k h ∙ ap (λ (a : ℕ). x .time ∷ a ∷ []) g))
+  entry-there place r x at h e f g =
+      rw (← e, f)
+      (ap (λ (l : List ℕ). record { number = passed; pair = l }) (two old (x .time) at (pair-long s old k own h) ∙ ap (λ (a : ℕ). x .time ∷ a ∷ []) g)
+      ∙ pair-given s old k own _ h)
 
-  pub entry-refused : (place : ℕ) (r : Found) (k : ℕ) → length old ≡ pairLength → r ≡ foundOf (parse s brick image) place → r ≡ Found.Refused k
-      → record { number = k; pair = old } ≡ entryPairAt s brick image place old
+  pub entry-refused : (place : ℕ) (r : Found) (number : ℕ) → k ≡ passed → r ≡ foundOf (parse s brick image) place → r ≡ Found.Refused number
+      → record { number = number; pair = old } ≡ entryPairAt s brick image place old
   unfolding entryPairAt entryPair foundNumber entryBuffer
-  entry-refused place r k h e f = rw (eq-eqb (length old) pairLength h, ← e, f) refl
+  entry-refused place r number h e f = rw (← e, f) (pair-given s old k own _ h)
 
 -- the ways through what a brick gave
 pub given-reply : (g : Given) (r : Reply) (old new : List ℕ) → g ≡ Answered r → new ≡ replyNumbers r → (passed ≡ answerCode g) × (new ≡ givenBuffer g old)
@@ -107,32 +144,51 @@ pub given-refusal : (g : Given) (k : ℕ) (old : List ℕ) → g ≡ Refused k �
 unfolding givenNumber answerCode givenBuffer
 given-refusal g k old e = rw e (refl, refl)
 
--- the ways through a message: the boundary's own buffers are short, or both are whole
-module _ (s : Settings) (brick kind time round max : ℕ) (targets block image out reply : List ℕ) where
-  short : buffersRight targets reply ≡ false
-      → record { number = badLength; image = image; out = out; reply = reply }
-      ≡ receiptAt s brick (messageFor kind time round max targets) block image out reply
-  unfolding receiptAt
-  short e = rw e refl
+-- a number as a byte
+pub byte-small : (k : ℕ) → k ≤ lastByte → k ≡ asByte k
+unfolding asByte
+byte-small k h = rw (le-leb k lastByte h) refl
 
-  pub receive-short : (length targets ≡ maxBricks → ⊥)
-      → record { number = badLength; image = image; out = out; reply = reply }
-      ≡ receiptAt s brick (messageFor kind time round max targets) block image out reply
-  unfolding buffersRight
-  receive-short h = short (rw (ne-eqb (length targets) maxBricks h) refl)
+pub byte-large : (k : ℕ) → lastByte < k → lastByte ≡ asByte k
+unfolding asByte
+byte-large k h = rw (lt-leb k lastByte h) refl
 
-  pub receive-unanswered : length targets ≡ maxBricks → (length reply ≡ replyLength → ⊥)
-      → record { number = badLength; image = image; out = out; reply = reply }
-      ≡ receiptAt s brick (messageFor kind time round max targets) block image out reply
-  unfolding buffersRight
-  receive-unanswered e h = short (rw (eq-eqb (length targets) maxBricks e, ne-eqb (length reply) replyLength h) refl)
+-- a message read off its numbers
+pub message-is : (asked : List ℕ) (kind : ℕ) (targets : List ℕ) → kind ≡ asByte (getD asked askedKindAt 0) → targets ≡ asBytes askedTargetsAt maxBricks asked
+    → _≡_ {A = Message}
+    (record { kind = kind; time = getD asked askedTimeAt 0; round = getD asked askedRoundAt 0; max = getD asked askedMaxAt 0; targets = targets })
+    (messageOf asked)
+unfolding messageOf
+message-is asked kind targets e f = rw (e, f) refl
 
-  pub receive-whole : (flags : List ℕ) (g : Given) (k : ℕ) (image₁ out₁ reply₁ : List ℕ) → length targets ≡ maxBricks → length reply ≡ replyLength
-      → flags ≡ targets
-      → outcomeWith g image₁ out₁ ≡ outcome s brick image (messageFor kind time round max flags) block out
-      → k ≡ answerCode g → reply₁ ≡ givenBuffer g reply
-      → record { number = k; image = image₁; out = out₁; reply = reply₁ }
-      ≡ receiptAt s brick (messageFor kind time round max targets) block image out reply
-  unfolding receiptAt receipt buffersRight
-  receive-whole flags g k image₁ out₁ reply₁ h w f e ek er =
-      rw (eq-eqb (length targets) maxBricks h, eq-eqb (length reply) replyLength w, ← f, ← e, ← ek, ← er) refl
+-- the ways through the test of the two buffers of numbers, and what it says
+pub numbers-asked : (asked reply : ℕ) → asked ≡ messageLength → eqb reply replyLength ≡ numbersRight asked reply
+unfolding numbersRight
+numbers-asked asked reply e = rw (eq-eqb asked messageLength e) refl
+
+pub numbers-none : (asked reply : ℕ) → (asked ≡ messageLength → ⊥) → false ≡ numbersRight asked reply
+unfolding numbersRight
+numbers-none asked reply h = rw (ne-eqb asked messageLength h) refl
+
+module _ (s : Settings) (asked reply : ℕ) (k : ℕ) (right : Bool) (e : right ≡ numbersRight asked reply) (own : k ≡ ownRefusal s right) (h : k ≡ passed) where
+  pub asked-long : asked ≡ messageLength
+  unfolding numbersRight
+  asked-long = eqb-true asked messageLength (and-left (eqb asked messageLength) _ (sym e ∙ own-tested s right (sym own ∙ h)))
+
+  pub reply-long : reply ≡ replyLength
+  unfolding numbersRight
+  reply-long = eqb-true reply replyLength (and-right (eqb asked messageLength) _ (sym e ∙ own-tested s right (sym own ∙ h)))
+
+-- the ways through a message: k is the boundary's own refusal
+module _ (s : Settings) (brick : ℕ) (asked block image out reply : List ℕ) (k : ℕ) (right : Bool) (e : right ≡ numbersRight (length asked) (length reply))
+    (own : k ≡ ownRefusal s right) where
+  pub receive-kept : (k ≡ passed → ⊥) → record { number = k; image = image; out = out; reply = reply } ≡ receiptAt s brick asked block image out reply
+  unfolding receiptAt receiptUnless
+  receive-kept h = rw (← e, ← own, ne-eqb k passed h) refl
+
+  pub receive-whole : (msg : Message) (g : Given) (number : ℕ) (image₁ out₁ reply₁ : List ℕ) → k ≡ passed → msg ≡ messageOf asked
+      → outcomeWith g image₁ out₁ ≡ outcome s brick image msg block out
+      → number ≡ answerCode g → reply₁ ≡ givenBuffer g reply
+      → record { number = number; image = image₁; out = out₁; reply = reply₁ } ≡ receiptAt s brick asked block image out reply
+  unfolding receiptAt receiptUnless receipt
+  receive-whole msg g number image₁ out₁ reply₁ h f eo en er = rw (← e, ← own, eq-eqb k passed h, ← f, ← eo, ← en, ← er) refl

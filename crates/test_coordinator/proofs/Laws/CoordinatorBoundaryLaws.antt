@@ -1,6 +1,6 @@
 -- Buffers filled row by row, and the ways through a routine at the boundary.
 use mathlib.Core.Path.{_≡_, refl, sym, ap, ap₂, subst, _∙_}
-use mathlib.Core.Bool.{true, false}
+use mathlib.Core.Bool.{Bool, true, false}
 use mathlib.Core.List.{List, [], _∷_, _++_, append-assoc, append-nil}
 use Prim.Native.Nat.{ℕ, _+_, _-_, _≤_}
 use native.Mathlib.Omega.{arith}
@@ -12,12 +12,13 @@ use borrow.Rule.Slice.PartMut.{putMid, post-is}
 use Rattle.byte_lists.specs.Lists.{tabulate}
 use Rattle.byte_lists.proofs.Laws.TabulateLaws.{tabulate-by}
 use Rattle.test_coordinator.specs.CoordinatorBoundary.{recordNumbersLength, recordBytesLength, answerNumbersLength, answerBytesLength, coordinatorAt, lastAt, recordTimeAt, roundAt, maxAt}
-use Rattle.test_coordinator.specs.CoordinatorBoundary.{firstAt, recordFoundAt, kindAt, phaseAt, countedAt, grantedAt, recordHeldAt, bricksAt, targetsAt, seenBricksAt, secondTargetsAt}
-use Rattle.test_coordinator.specs.CoordinatorBoundary.{secondKindAt}
+use Rattle.test_coordinator.specs.CoordinatorBoundary.{firstAt, recordNAt, recordMAt, recordSizeAt, recordFoundAt, kindAt, phaseAt, countedAt, grantedAt, recordHeldAt, bricksAt}
+use Rattle.test_coordinator.specs.CoordinatorBoundary.{targetsAt, seenBricksAt, secondTargetsAt, secondKindAt, lentRefusal, rowsRefusal}
 use Rattle.test_coordinator.specs.CoordinatorBoundary.{recordFor, recordNumbers, recordBytes, answerNumbers, answerBytes, Rows, rows, lentLengths, laidOut, atBoundary, crossing, rowPut, rowAt}
 use Rattle.coord_apply.specs.Answers.{Returned, returned}
-use Rattle.settings.specs.Ranges.{maxBricks}
-use Rattle.settings.specs.Refusal.{badLength}
+use Rattle.settings.specs.Ranges.{maxBricks, codeRefusal}
+use Rattle.settings.specs.Refusal.{passed, firstRefusal, badLength}
+use Rattle.settings.proofs.Laws.RefusalLaws.{first-stop, passed-first, passed-rest, tested}
 use Rattle.coord_apply.specs.declared.Answer.{Answer}
 use Rattle.coord_record.specs.declared.Coordinator.{Coordinator}
 use Rattle.byte_lists.proofs.Laws.BoolLaws.{and-left, and-right}
@@ -58,17 +59,21 @@ pub last-row : (row l : List ℕ) → length l ≡ maxBricks → row ++ drop max
 last-row row l e = ap (λ (z : List ℕ). row ++ z) (none-left (drop maxBricks l) (length-drop maxBricks l ∙ (omega arith))) ∙ append-nil row
 
 -- the numbers of a record
-pub numbers-are : (out : List ℕ) (a b c d e f : ℕ) (row o : List ℕ) → length out ≡ recordNumbersLength
-    → o ≡ rowPut recordFoundAt row (set (set (set (set (set (set out 0 a) 1 b) 2 c) 3 d) 4 e) 5 f) → o ≡ a ∷ b ∷ c ∷ d ∷ e ∷ f ∷ row
-numbers-are [] a b c d e f row o h p = absurd (omega arith)
-numbers-are (x0 ∷ []) a b c d e f row o h p = absurd (omega arith)
-numbers-are (x0 ∷ x1 ∷ []) a b c d e f row o h p = absurd (omega arith)
-numbers-are (x0 ∷ x1 ∷ x2 ∷ []) a b c d e f row o h p = absurd (omega arith)
-numbers-are (x0 ∷ x1 ∷ x2 ∷ x3 ∷ []) a b c d e f row o h p = absurd (omega arith)
-numbers-are (x0 ∷ x1 ∷ x2 ∷ x3 ∷ x4 ∷ []) a b c d e f row o h p = absurd (omega arith)
-numbers-are (x0 ∷ x1 ∷ x2 ∷ x3 ∷ x4 ∷ x5 ∷ l) a b c d e f row o h p =
-    p ∙ put-behind (a ∷ b ∷ c ∷ d ∷ e ∷ f ∷ []) l row (a ∷ b ∷ c ∷ d ∷ e ∷ f ∷ l) 6 refl refl
-    ∙ ap (λ (z : List ℕ). a ∷ b ∷ c ∷ d ∷ e ∷ f ∷ z) (last-row row l (let s : length l ≡ maxBricks = omega arith in s))
+pub numbers-are : (out : List ℕ) (a b c d e f g h i : ℕ) (row o : List ℕ) → length out ≡ recordNumbersLength
+    → o ≡ rowPut recordFoundAt row (set (set (set (set (set (set (set (set (set out 0 a) 1 b) 2 c) 3 d) 4 e) 5 f) 6 g) 7 h) 8 i)
+    → o ≡ a ∷ b ∷ c ∷ d ∷ e ∷ f ∷ g ∷ h ∷ i ∷ row
+numbers-are [] a b c d e f g h i row o k p = absurd (omega arith)
+numbers-are (x0 ∷ []) a b c d e f g h i row o k p = absurd (omega arith)
+numbers-are (x0 ∷ x1 ∷ []) a b c d e f g h i row o k p = absurd (omega arith)
+numbers-are (x0 ∷ x1 ∷ x2 ∷ []) a b c d e f g h i row o k p = absurd (omega arith)
+numbers-are (x0 ∷ x1 ∷ x2 ∷ x3 ∷ []) a b c d e f g h i row o k p = absurd (omega arith)
+numbers-are (x0 ∷ x1 ∷ x2 ∷ x3 ∷ x4 ∷ []) a b c d e f g h i row o k p = absurd (omega arith)
+numbers-are (x0 ∷ x1 ∷ x2 ∷ x3 ∷ x4 ∷ x5 ∷ []) a b c d e f g h i row o k p = absurd (omega arith)
+numbers-are (x0 ∷ x1 ∷ x2 ∷ x3 ∷ x4 ∷ x5 ∷ x6 ∷ []) a b c d e f g h i row o k p = absurd (omega arith)
+numbers-are (x0 ∷ x1 ∷ x2 ∷ x3 ∷ x4 ∷ x5 ∷ x6 ∷ x7 ∷ []) a b c d e f g h i row o k p = absurd (omega arith)
+numbers-are (x0 ∷ x1 ∷ x2 ∷ x3 ∷ x4 ∷ x5 ∷ x6 ∷ x7 ∷ x8 ∷ l) a b c d e f g h i row o k p =
+    p ∙ put-behind (a ∷ b ∷ c ∷ d ∷ e ∷ f ∷ g ∷ h ∷ i ∷ []) l row (a ∷ b ∷ c ∷ d ∷ e ∷ f ∷ g ∷ h ∷ i ∷ l) recordFoundAt refl refl
+    ∙ ap (λ (z : List ℕ). a ∷ b ∷ c ∷ d ∷ e ∷ f ∷ g ∷ h ∷ i ∷ z) (last-row row l (let s : length l ≡ maxBricks = omega arith in s))
 
 -- the bytes of an answer: three bytes and two rows
 pub only : (l : List ℕ) (w : ℕ) → length l ≡ 1 → set l 0 w ≡ w ∷ []
@@ -205,16 +210,12 @@ three-set l n i j k x y z e = length-set (set (set l i x) j y) k z ∙ two-set l
 pub four-set : (l : List ℕ) (n i j k i′ x y z x′ : ℕ) → length l ≡ n → length (set (set (set (set l i x) j y) k z) i′ x′) ≡ n
 four-set l n i j k i′ x y z x′ e = length-set (set (set (set l i x) j y) k z) i′ x′ ∙ three-set l n i j k x y z e
 
-pub six-set : (l : List ℕ) (n i j k i′ j′ k′ x y z x′ y′ z′ : ℕ) → length l ≡ n
-    → length (set (set (set (set (set (set l i x) j y) k z) i′ x′) j′ y′) k′ z′) ≡ n
-six-set l n i j k i′ j′ k′ x y z x′ y′ z′ e =
-    three-set (set (set (set l i x) j y) k z) n i′ j′ k′ x′ y′ z′ (three-set l n i j k x y z e)
-
 -- the record that is read
 pub record-is : (numbers bytes found counted granted held bricks : List ℕ) → found ≡ rowAt recordFoundAt numbers → counted ≡ rowAt countedAt bytes → granted ≡ rowAt grantedAt bytes
     → held ≡ rowAt recordHeldAt bytes → bricks ≡ rowAt bricksAt bytes
     → _≡_ {A = Coordinator}
     (record {
+      geometry = record { n = getD numbers recordNAt 0; m = getD numbers recordMAt 0; size = getD numbers recordSizeAt 0 };
       clock = record { coordinator = getD numbers coordinatorAt 0; last = getD numbers lastAt 0 };
       op =
           record {
@@ -239,9 +240,9 @@ pub record Lengths (numbers bytes sent shown : ℕ) : Type 0 where
   pub sent-long : sent ≡ answerNumbersLength
   pub shown-long : shown ≡ answerBytesLength
 
-pub lengths : (a b c d : ℕ) → lentLengths a b c d ≡ true → Lengths a b c d
+lengths-right : (a b c d : ℕ) → lentLengths a b c d ≡ true → Lengths a b c d
 unfolding lentLengths
-lengths a b c d e =
+lengths-right a b c d e =
     let e2 = and-right (eqb a recordNumbersLength) _ e in
     let e3 = and-right (eqb b recordBytesLength) _ e2 in
     record {
@@ -251,21 +252,37 @@ lengths a b c d e =
       shown-long = eqb-true d answerBytesLength (and-right (eqb c answerNumbersLength) _ e3);
     }
 
--- a call behind a test that fails, or holds
-pub crossed-short : (l : Rows) (blocks stripe coded : List ℕ) (r : Returned)
-    → lentLengths (length (l .numbers)) (length (l .bytes)) (length (l .sent)) (length (l .shown)) ≡ false
-    → atBoundary badLength l blocks stripe coded ≡ crossing l blocks stripe coded r
-unfolding crossing
-crossed-short l blocks stripe coded r e = rw e refl
+-- the ways through the boundary's own refusals, and what it says that none was made
+module _ (n m size a b c d k : ℕ) where
+  pub lent-setting : k ≡ codeRefusal n m size → (k ≡ passed → ⊥) → k ≡ lentRefusal n m size a b c d
+  unfolding lentRefusal
+  lent-setting e h = e ∙ first-stop (codeRefusal n m size) _ (λ q. h (e ∙ q))
 
-pub crossed : (l l′ : Rows) (number : ℕ) (a : Answer) (blocks stripe coded blocks′ stripe′ coded′ : List ℕ) (r : Returned)
-    → lentLengths (length (l .numbers)) (length (l .bytes)) (length (l .sent)) (length (l .shown)) ≡ true
-    → returned a blocks′ stripe′ coded′ ≡ r → number ≡ a .refusal → l′ ≡ laidOut l a
-    → atBoundary number l′ blocks′ stripe′ coded′ ≡ crossing l blocks stripe coded r
+  pub lent-passed : (right : Bool) → k ≡ codeRefusal n m size → k ≡ passed → right ≡ lentLengths a b c d → right ≡ true → passed ≡ lentRefusal n m size a b c d
+  unfolding lentRefusal firstRefusal
+  lent-passed right e h f r = rw (← e, h, ← f, r) refl
+
+  pub lent-short : (right : Bool) → k ≡ codeRefusal n m size → k ≡ passed → right ≡ lentLengths a b c d → right ≡ false → badLength ≡ lentRefusal n m size a b c d
+  unfolding lentRefusal firstRefusal
+  lent-short right e h f r = rw (← e, h, ← f, r) refl
+
+  pub lengths : k ≡ lentRefusal n m size a b c d → k ≡ passed → Lengths a b c d
+  unfolding lentRefusal
+  lengths e h = lengths-right a b c d (tested _ 1 (passed-first _ [] (passed-rest (codeRefusal n m size) _ (sym e ∙ h))))
+
+-- a call that the boundary refuses, or lets through
+pub crossed-refused : (n m size k : ℕ) (l : Rows) (blocks stripe coded : List ℕ) (r : Returned) → k ≡ rowsRefusal n m size l → (k ≡ passed → ⊥)
+    → atBoundary k l blocks stripe coded ≡ crossing (rowsRefusal n m size l) l blocks stripe coded r
 unfolding crossing
-crossed l l′ number a blocks stripe coded blocks′ stripe′ coded′ r e er en el =
-    subst (λ (x : Returned). atBoundary number l′ blocks′ stripe′ coded′ ≡ crossing l blocks stripe coded x) er
-    (rw e (ap₂ (λ (x : ℕ) (y : Rows). atBoundary x y blocks′ stripe′ coded′) en el))
+crossed-refused n m size k l blocks stripe coded r e h = rw (← e, ne-eqb k passed h) refl
+
+pub crossed : (n m size k : ℕ) (l l′ : Rows) (number : ℕ) (a : Answer) (blocks stripe coded blocks′ stripe′ coded′ : List ℕ) (r : Returned)
+    → k ≡ rowsRefusal n m size l → k ≡ passed → returned a blocks′ stripe′ coded′ ≡ r → number ≡ a .refusal → l′ ≡ laidOut l a
+    → atBoundary number l′ blocks′ stripe′ coded′ ≡ crossing (rowsRefusal n m size l) l blocks stripe coded r
+unfolding crossing
+crossed n m size k l l′ number a blocks stripe coded blocks′ stripe′ coded′ r e h er en el =
+    subst (λ (x : Returned). atBoundary number l′ blocks′ stripe′ coded′ ≡ crossing (rowsRefusal n m size l) l blocks stripe coded x) er
+    (rw (← e, eq-eqb k passed h) (ap₂ (λ (x : ℕ) (y : Rows). atBoundary x y blocks′ stripe′ coded′) en el))
 
 -- rows out of a list of rows
 pub row-here : (a rest : List ℕ) → length a ≡ maxBricks → take maxBricks (a ++ rest) ≡ a

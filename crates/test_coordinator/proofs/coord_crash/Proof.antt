@@ -1,23 +1,23 @@
 use mathlib.Core.List.{[]}
-use mathlib.Core.Path.{sym, ap, _∙_}
+use mathlib.Core.Path.{ap, _∙_}
 use lib.ListN.{length}
 use Rattle.coord_record.specs.declared.Coordinator.{Coordinator}
 use Rattle.coordinator.specs.Routines.{crashCall}
-use Rattle.test_coordinator.proofs.Laws.CoordinatorBoundaryLaws.{Lengths, lengths, crossed-short, crossed}
+use Rattle.test_coordinator.proofs.Laws.CoordinatorBoundaryLaws.{Lengths, lengths, crossed-refused, crossed}
 use borrow.Author.Needs.{needs}
 use Rattle.test_coordinator.proofs.coord_crash.Statement.{statement}
 use Rattle.test_coordinator.proofs.coord_crash.Tie as tie
 
-lent-right-requires : tie.Need-lent-right-requires
-lent-right-requires c κs = search needs
+lent-refusal-requires : tie.Need-lent-refusal-requires
+lent-refusal-requires c κs = search needs
 
 returns : tie.Need-returns
-returns c = crossed-short _ _ _ _ _ (sym (c .before .lent-right .ensures) ∙ c .if1 .left)
+returns c = crossed-refused _ _ _ _ _ _ _ _ _ (c .before .lent-refusal .ensures) (c .if1 .taken)
 
 -- the four buffers have their lengths
-long : (c : tie.Then1) → Lengths (length (c .before .before .before .before .before .before .args .numbers .now)) (length (c .before .before .before .before .before .before .args .bytes .now))
+long : (c : tie.Else1) → Lengths (length (c .before .before .before .before .before .before .args .numbers .now)) (length (c .before .before .before .before .before .before .args .bytes .now))
     (length (c .before .before .before .before .before .before .args .sent .now)) (length (c .before .before .before .before .before .before .args .shown .now))
-long c = lengths _ _ _ _ (sym (c .before .lent-right .ensures) ∙ c .if1 .taken)
+long c = lengths _ _ _ _ _ _ _ _ (c .before .lent-refusal .ensures) (c .if1 .left)
 
 record-of-requires : tie.Need-record-of-requires
 record-of-requires c κs = (long (c .before .before) .numbers-long, long (c .before .before) .bytes-long)
@@ -43,20 +43,21 @@ same-length-4 c = search needs
 
 returns-2 : tie.Need-returns-2
 returns-2 c =
-    let s = c .before .before .before .before .before .before .before .before .before .before .before .before .before .before .before .before .before .before .before .before .before .before
-    .before .args in
-    let e = sym (c .before .before .before .before .before .before .before .before .before .before .before .before .before .before .before .before .before .before .lent-right .ensures) ∙
-    c .before .before .before .before .before .before .before .before .before .before .before .before .before .before .before .before .before .if1 .taken in
+    let whole =
+    c .before .before .before .before .before .before .before .before
+    .before .before .before .before .before .before .before .before .before in
+    let s = whole .before .before .before .before .before .before .args in
     let q = c .before .before .before .before .before .before .before .before .before .before .before .before .before .before .record-of .ensures in
     let w = c .before .before .before .before .before .before .before .before .before .before .before .before .before .crash .ensures [] [] [] in
     let p = c .before .before .before .before .before .before .before .before .put-answer .ensures in
-    crossed _ _ _ _ _ _ _ _ _ _ _ e (w ∙ ap (λ (x : Coordinator). crashCall (s .n) (s .m) (s .size) x [] [] []) q) (p .0) (p .1)
+    crossed _ _ _ _ _ _ _ _ _ _ _ _ _ _ _ (whole .before .lent-refusal .ensures) (whole .if1 .left)
+    (w ∙ ap (λ (x : Coordinator). crashCall (s .n) (s .m) (s .size) x [] [] []) q) (p .0) (p .1)
 
 pub coord-crash-spec : {M : Type 1} → statement M
 coord-crash-spec =
     tie.close
     (tie.spec
-    lent-right-requires
+    lent-refusal-requires
     returns
     record-of-requires
     crash-requires

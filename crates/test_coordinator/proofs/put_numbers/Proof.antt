@@ -1,8 +1,8 @@
 use native.Mathlib.Omega.{arith}
-use lib.ListN.{set, length-set}
-use mathlib.Core.Path.{sym, _∙_}
-use Rattle.test_coordinator.specs.CoordinatorBoundary.{recordNumbersLength, recordNumbers}
-use Rattle.test_coordinator.proofs.Laws.CoordinatorBoundaryLaws.{at-least, six-set, numbers-are}
+use lib.ListN.{length-set}
+use mathlib.Core.Path.{refl, _∙_}
+use Rattle.test_coordinator.specs.CoordinatorBoundary.{recordNumbers}
+use Rattle.test_coordinator.proofs.Laws.CoordinatorBoundaryLaws.{numbers-are}
 use borrow.Author.Needs.{needs}
 use Rattle.test_coordinator.proofs.put_numbers.Statement.{statement}
 use Rattle.test_coordinator.proofs.put_numbers.Tie as tie
@@ -25,32 +25,27 @@ slice-write-out-5 c = simp length-set (omega arith)
 slice-write-out-6 : tie.Need-slice-write-out-6
 slice-write-out-6 c = simp length-set (omega arith)
 
+slice-write-out-7 : tie.Need-slice-write-out-7
+slice-write-out-7 c = simp length-set (omega arith)
+
+slice-write-out-8 : tie.Need-slice-write-out-8
+slice-write-out-8 c = simp length-set (omega arith)
+
+slice-write-out-9 : tie.Need-slice-write-out-9
+slice-write-out-9 c = simp length-set (omega arith)
+
 put-times-requires : tie.Need-put-times-requires
-put-times-requires c κs = at-least recordNumbersLength recordNumbersLength
-    (set (set (set (set (set (set (c .before .before .before .before .before .before .args .out .now) 0 (c .before .before .before .before .before .before .args .c .clock .coordinator)) 1
-    (c .before .before .before .before .before .before .args .c .clock .last)) 2 (c .before .before .before .before .before .before .args .c .op .time)) 3
-    (c .before .before .before .before .before .before .args .c .op .round)) 4 (c .before .before .before .before .before .before .args .c .op .max)) 5
-    (c .before .before .before .before .before .before .args .c .op .first))
-    (six-set (c .before .before .before .before .before .before .args .out .now) recordNumbersLength 0 1 2 3 4 5 (c .before .before .before .before .before .before .args .c .clock .coordinator)
-    (c .before .before .before .before .before .before .args .c .clock .last) (c .before .before .before .before .before .before .args .c .op .time)
-    (c .before .before .before .before .before .before .args .c .op .round) (c .before .before .before .before .before .before .args .c .op .max)
-    (c .before .before .before .before .before .before .args .c .op .first) (c .before .before .before .before .before .before .pre)) (omega arith)
+put-times-requires c κs = simp length-set (omega arith)
 
 same-length : tie.Need-same-length
-same-length c = c .before .before .put-times .kept .1 .1 .0 ∙ six-set (c .before .before .before .before .before .before .before .before .before .args .out .now) recordNumbersLength 0 1 2 3 4 5
-    (c .before .before .before .before .before .before .before .before .before .args .c .clock .coordinator)
-    (c .before .before .before .before .before .before .before .before .before .args .c .clock .last)
-    (c .before .before .before .before .before .before .before .before .before .args .c .op .time)
-    (c .before .before .before .before .before .before .before .before .before .args .c .op .round) (c .before .before .before .before .before .before .before .before .before .args .c .op .max)
-    (c .before .before .before .before .before .before .before .before .before .args .c .op .first) (c .before .before .before .before .before .before .before .before .before .pre) ∙ sym
-    (c .before .before .before .before .before .before .before .before .before .pre)
+same-length c = c .before .before .put-times .kept .1 .1 .0 ∙ simp length-set refl
 
 returns : tie.Need-returns
 unfolding recordNumbers
 returns c =
-    let s = c .before .before .before .before .before .before .before .before .before in
+    let s = c .before .before .before .before .before .before .before .before .before .before in
     numbers-are (s .args .out .now) (s .args .c .clock .coordinator) (s .args .c .clock .last) (s .args .c .op .time) (s .args .c .op .round) (s .args .c .op .max) (s .args .c .op .first)
-    (s .args .c .tally .found) _ (s .pre) (c .before .before .put-times .ensures .0)
+    (s .args .c .geometry .n) (s .args .c .geometry .m) (s .args .c .geometry .size) (s .args .c .tally .found) _ (s .pre) (c .before .before .put-times .ensures .0)
 
 pub put-numbers-spec : {M : Type 1} → statement M
 put-numbers-spec =
@@ -62,6 +57,9 @@ put-numbers-spec =
     slice-write-out-4
     slice-write-out-5
     slice-write-out-6
+    slice-write-out-7
+    slice-write-out-8
+    slice-write-out-9
     put-times-requires
     same-length
     returns)

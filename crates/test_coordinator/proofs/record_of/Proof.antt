@@ -4,29 +4,38 @@ use borrow.Author.Needs.{needs}
 use Rattle.test_coordinator.proofs.record_of.Statement.{statement}
 use Rattle.test_coordinator.proofs.record_of.Tie as tie
 
-shared-slice-read-t12 : tie.Need-shared-slice-read-t12
-shared-slice-read-t12 c = search needs
+shared-slice-read-t13 : tie.Need-shared-slice-read-t13
+shared-slice-read-t13 c = search needs
 
-shared-slice-read-t14 : tie.Need-shared-slice-read-t14
-shared-slice-read-t14 c = search needs
+shared-slice-read-times-of : tie.Need-shared-slice-read-times-of
+shared-slice-read-times-of c = search needs
+
+shared-slice-read-row-of : tie.Need-shared-slice-read-row-of
+shared-slice-read-row-of c = search needs
+
+shared-slice-read-t13-2 : tie.Need-shared-slice-read-t13-2
+shared-slice-read-t13-2 c = search needs
 
 shared-slice-read-t16 : tie.Need-shared-slice-read-t16
 shared-slice-read-t16 c = search needs
 
-shared-slice-read-t18 : tie.Need-shared-slice-read-t18
-shared-slice-read-t18 c = search needs
+shared-slice-read-t24 : tie.Need-shared-slice-read-t24
+shared-slice-read-t24 c = search needs
 
-shared-slice-read-t12-2 : tie.Need-shared-slice-read-t12-2
-shared-slice-read-t12-2 c = search needs
+shared-slice-read-t26 : tie.Need-shared-slice-read-t26
+shared-slice-read-t26 c = search needs
 
-shared-slice-read-t14-2 : tie.Need-shared-slice-read-t14-2
-shared-slice-read-t14-2 c = search needs
+shared-slice-read-t19 : tie.Need-shared-slice-read-t19
+shared-slice-read-t19 c = search needs
 
-shared-slice-read-t22 : tie.Need-shared-slice-read-t22
-shared-slice-read-t22 c = search needs
+shared-slice-read-t16-2 : tie.Need-shared-slice-read-t16-2
+shared-slice-read-t16-2 c = search needs
 
-shared-slice-read-times-of : tie.Need-shared-slice-read-times-of
-shared-slice-read-times-of c = search needs
+shared-slice-read-t13-3 : tie.Need-shared-slice-read-t13-3
+shared-slice-read-t13-3 c = search needs
+
+shared-slice-read-row-of-2 : tie.Need-shared-slice-read-row-of-2
+shared-slice-read-row-of-2 c = search needs
 
 sub-times-of : tie.Need-sub-times-of
 sub-times-of c = search needs
@@ -90,23 +99,27 @@ row-of-requires-4 c κs = search needs
 
 returns : tie.Need-returns
 unfolding rowAt
-returns c = record-is (c .before .before .before .before .before .before .before .before .before .before .before .before .before .before .before .before .before .before .before .before .args
-    .numbers .now) (c .before .before .before .before .before .before .before .before .before .before .before .before .before .before .before .before .before .before .before .before .args
-    .bytes .now) _ _ _ _ _ (c .before .before .before .before .before .before .before .before .times-of .ensures) (c .before .before .before .before .before .before .row-of .ensures)
+returns c =
+    let t = c .before .before .before .before .before .before .before .before in
+    let s = t .before .before .before .before .before .before .before .before .before .before .before .before .before .before .before .args in
+    record-is (s .numbers .now) (s .bytes .now) _ _ _ _ _ (t .times-of .ensures) (c .before .before .before .before .before .before .row-of .ensures)
     (c .before .before .before .before .row-of2 .ensures) (c .before .before .row-of3 .ensures) (c .row-of4 .ensures)
 
 pub record-of-spec : {M : Type 1} → statement M
 record-of-spec =
     tie.close
     (tie.spec
-    shared-slice-read-t12
-    shared-slice-read-t14
-    shared-slice-read-t16
-    shared-slice-read-t18
-    shared-slice-read-t12-2
-    shared-slice-read-t14-2
-    shared-slice-read-t22
+    shared-slice-read-t13
     shared-slice-read-times-of
+    shared-slice-read-row-of
+    shared-slice-read-t13-2
+    shared-slice-read-t16
+    shared-slice-read-t24
+    shared-slice-read-t26
+    shared-slice-read-t19
+    shared-slice-read-t16-2
+    shared-slice-read-t13-3
+    shared-slice-read-row-of-2
     sub-times-of
     part-times-of-start
     part-times-of-end

@@ -1,11 +1,12 @@
 use Rattle.test_field.specs.FieldBoundary.{clockOf}
-use Rattle.test_field.proofs.Laws.FieldBoundaryLaws.{wrong-length, number-given, refused-buffer, given-buffer, given-number}
+use Rattle.test_field.proofs.Laws.FieldBoundaryLaws.{draw-short, draw-refused-at, draw-given-at}
 use borrow.Author.Needs.{needs}
+use native.Mathlib.Omega.{arith}
 use Rattle.test_field.proofs.probe_draw.Statement.{statement}
 use Rattle.test_field.proofs.probe_draw.Tie as tie
 
 returns : tie.Need-returns
-returns c = wrong-length _ _ _ _ (c .if1 .taken)
+returns c = draw-short _ _ _ _ (λ e. omega (arith, c .if1 .taken, e))
 
 draw-requires : tie.Need-draw-requires
 draw-requires c κs = search needs
@@ -21,7 +22,7 @@ number-requires c κs = search needs
 
 returns-2 : tie.Need-returns-2
 unfolding clockOf
-returns-2 c = (search (needs, number-given), search (needs, refused-buffer))
+returns-2 c = search (needs, draw-refused-at)
 
 slice-write-out : tie.Need-slice-write-out
 slice-write-out c = search needs
@@ -34,7 +35,7 @@ same-length c = search needs
 
 returns-3 : tie.Need-returns-3
 unfolding clockOf
-returns-3 c = (search (needs, given-number), search (needs, given-buffer))
+returns-3 c = search (needs, draw-given-at)
 
 pub probe-draw-spec : {M : Type 1} → statement M
 probe-draw-spec =

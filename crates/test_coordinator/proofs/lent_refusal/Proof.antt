@@ -1,0 +1,23 @@
+use Rattle.test_coordinator.proofs.Laws.CoordinatorBoundaryLaws.{lent-setting, lent-passed, lent-short}
+use borrow.Author.Needs.{needs}
+use Rattle.test_coordinator.proofs.lent_refusal.Statement.{statement}
+use Rattle.test_coordinator.proofs.lent_refusal.Tie as tie
+
+code-refusal-requires : tie.Need-code-refusal-requires
+code-refusal-requires c κs = search needs
+
+returns : tie.Need-returns
+returns c = search (needs, lent-setting)
+
+lent-right-requires : tie.Need-lent-right-requires
+lent-right-requires c κs = search needs
+
+returns-2 : tie.Need-returns-2
+returns-2 c = search (needs, lent-passed)
+
+returns-3 : tie.Need-returns-3
+returns-3 c = search (needs, lent-short)
+
+pub lent-refusal-spec : {M : Type 1} → statement M
+lent-refusal-spec =
+    tie.close (tie.spec code-refusal-requires returns lent-right-requires returns-2 returns-3)
