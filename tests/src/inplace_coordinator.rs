@@ -1,5 +1,6 @@
 //! A coordinator that works on its own fields in place, as firmware would write it by hand: the yardstick for the proved one's speed.
-//! It makes the same checks of record and reply at every event, keeps sets of bricks as bits, and knows only good settings and lengths.
+//! It makes the same checks of record and reply at every event, that the settings given are the record's too; it keeps sets of bricks as
+//! bits, and knows only settings in range and good lengths.
 
 pub const READ: u8 = 1;
 pub const ORDER: u8 = 2;
@@ -9,6 +10,9 @@ pub const TRIM: u8 = 5;
 
 const READING: u8 = 1;
 const WRITING: u8 = 2;
+/// n, m and the block size, as every event gives them.
+pub type Given = (usize, usize, usize);
+
 const LAST_COUNT: u64 = (1 << 40) - 1;
 const NO_UPPER_END: u64 = 1 << 44;
 
@@ -199,18 +203,18 @@ impl Coordinator {
         within && held && times && self.counted.count_ones() < self.quorum()
     }
 
-    fn refusal(&self) -> u32 {
+    fn refusal(&self, given: Given) -> u32 {
         if self.number > 15 {
             3
-        } else if self.sound() {
+        } else if (self.n, self.m, self.size) == given && self.sound() {
             0
         } else {
             6
         }
     }
 
-    fn begin(&mut self, reading: u64, kind: u8, phase: u8, first: usize) -> Act {
-        let refusal = self.refusal();
+    fn begin(&mut self, given: Given, reading: u64, kind: u8, phase: u8, first: usize) -> Act {
+        let refusal = self.refusal(given);
         if refusal != 0 {
             return Act::Refused(refusal);
         }
@@ -231,19 +235,19 @@ impl Coordinator {
         self.open(phase, 0)
     }
 
-    pub fn start_write(&mut self, reading: u64, data: &[u8]) -> Act {
-        let act = self.begin(reading, WRITING, ORDER, 0);
+    pub fn start_write(&mut self, given: Given, reading: u64, data: &[u8]) -> Act {
+        let act = self.begin(given, reading, WRITING, ORDER, 0);
         if let Act::Sends(_) = act {
             self.stripe.copy_from_slice(data);
         }
         act
     }
 
-    pub fn start_read(&mut self, reading: u64, first: usize) -> Act {
-        if first >= self.n {
+    pub fn start_read(&mut self, given: Given, reading: u64, first: usize) -> Act {
+        if first >= given.0 {
             return Act::Refused(3);
         }
-        self.begin(reading, READING, READ, first)
+        self.begin(given, reading, READING, READ, first)
     }
 
     fn forget(&mut self) {
@@ -305,14 +309,14 @@ impl Coordinator {
         }
     }
 
-    pub fn take(&mut self, r: &Reply, block: &[u8]) -> Act {
-        if r.held && block.len() != self.size {
+    pub fn take(&mut self, given: Given, r: &Reply, block: &[u8]) -> Act {
+        if r.held && block.len() != given.2 {
             return Act::Refused(2);
         }
-        if r.brick >= self.n {
+        if r.brick >= given.0 {
             return Act::Refused(3);
         }
-        let mut refusal = self.refusal();
+        let mut refusal = self.refusal(given);
         if refusal == 0 {
             refusal = self.reply_refusal(r);
         }

@@ -9,9 +9,11 @@ pub mod code;
 pub mod coordinator;
 pub mod edges;
 pub mod field;
+pub mod harness;
 pub mod image;
 pub mod inplace;
 pub mod inplace_coordinator;
+pub mod order;
 #[allow(unsafe_code)]
 pub mod proved;
 pub mod rng;

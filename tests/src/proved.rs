@@ -39,9 +39,8 @@ mod c {
         brick_panel(image: *const u8, image_len: usize, times: *mut u64, times_len: usize)
         brick_entry(image: *const u8, image_len: usize, place: usize, found: *mut u64, found_len: usize)
         brick_receive(
-            image: *mut u8, image_len: usize, kind: u8, time: u64, round: u64, max: u64, targets: *const u8,
-            targets_len: usize, block: *const u8, block_len: usize, out: *mut u8, out_len: usize, reply: *mut u64,
-            reply_len: usize
+            image: *mut u8, image_len: usize, asked: *const u64, asked_len: usize, block: *const u8, block_len: usize,
+            out: *mut u8, out_len: usize, reply: *mut u64, reply_len: usize
         )
     }
 
@@ -124,26 +123,43 @@ pub fn entry((n, m, size, capacity): Four, brick: usize, image: &[u8], place: us
     unsafe { c::brick_entry(n, m, size, capacity, brick, i, image.len(), place, f, found.len()) }
 }
 
-/// A message's numbers: kind, time, round, max.
-pub type Asked = (u8, u64, u64, u64);
+/// A message's numbers: kind, time, round, max, and a flag for each brick that a set may have.
+pub type Asked = [u64; 20];
 
-/// One message at one brick: 0 a reply, 100 silence, else the refusal.
+pub fn asked(kind: u64, time: u64, round: u64, max: u64, flags: [u64; 16]) -> Asked {
+    let mut asked = [0; 20];
+    asked[..4].copy_from_slice(&[kind, time, round, max]);
+    asked[4..].copy_from_slice(&flags);
+    asked
+}
+
+/// The flags of a list of bricks below 16: how often each stands in it.
+pub fn flags(bricks: &[u8]) -> [u64; 16] {
+    let mut flags = [0; 16];
+    for &brick in bricks {
+        flags[usize::from(brick)] += 1;
+    }
+    flags
+}
+
+/// The number that tells silence from a reply and from every refusal.
+pub const SILENCE: u32 = 100;
+
+/// One message at one brick: 0 a reply, `SILENCE`, else the refusal.
 #[allow(clippy::too_many_arguments)]
 pub fn receive(
     (n, m, size, capacity): Four,
     brick: usize,
     image: &mut [u8],
-    (kind, time, round, max): Asked,
-    targets: &[u8],
+    asked: &[u64],
     block: &[u8],
     out: &mut [u8],
     reply: &mut [u64],
 ) -> u32 {
-    let (i, t, b, o, r) = (image.as_mut_ptr(), targets.as_ptr(), block.as_ptr(), out.as_mut_ptr(), reply.as_mut_ptr());
+    let (i, a, b, o, r) = (image.as_mut_ptr(), asked.as_ptr(), block.as_ptr(), out.as_mut_ptr(), reply.as_mut_ptr());
     unsafe {
         c::brick_receive(
-            n, m, size, capacity, brick, i, image.len(), kind, time, round, max, t, targets.len(), b, block.len(), o,
-            out.len(), r, reply.len(),
+            n, m, size, capacity, brick, i, image.len(), a, asked.len(), b, block.len(), o, out.len(), r, reply.len(),
         )
     }
 }
@@ -151,7 +167,54 @@ pub fn receive(
 /// Three settings of a coordinator: n, m, block size.
 pub type Three = (usize, usize, usize);
 
-/// What every routine of a coordinator is lent: the record's 22 numbers and 66 bytes, the answer's 8 numbers and 52 bytes.
+/// A record's numbers and bytes: how many there are, and where each stands, or a row of sixteen begins.
+pub mod record {
+    pub const NUMBERS: usize = 25;
+    pub const COORDINATOR: usize = 0;
+    pub const LAST: usize = 1;
+    pub const TIME: usize = 2;
+    pub const ROUND: usize = 3;
+    pub const MAX: usize = 4;
+    pub const FIRST: usize = 5;
+    pub const N: usize = 6;
+    pub const M: usize = 7;
+    pub const SIZE: usize = 8;
+    pub const FOUND: usize = 9;
+
+    pub const BYTES: usize = 66;
+    pub const KIND: usize = 0;
+    pub const PHASE: usize = 1;
+    pub const COUNTED: usize = 2;
+    pub const GRANTED: usize = 18;
+    pub const HELD: usize = 34;
+    pub const BRICKS: usize = 50;
+}
+
+/// The same of an answer.
+pub mod answer {
+    pub const NUMBERS: usize = 8;
+    pub const SENT: usize = 0;
+    pub const TIME: usize = 1;
+    pub const ROUND: usize = 2;
+    pub const MAX: usize = 3;
+    pub const SEEN_TIME: usize = 4;
+
+    pub const BYTES: usize = 52;
+    pub const KIND: usize = 0;
+    pub const SEEN: usize = 1;
+    pub const SEEN_KIND: usize = 2;
+    pub const TARGETS: usize = 3;
+    pub const BRICKS: usize = 19;
+}
+
+/// What is seen of an operation.
+pub const BEGAN: u8 = 1;
+pub const WROTE: u8 = 2;
+pub const GAVE: u8 = 3;
+pub const ABORTED: u8 = 4;
+pub const CUT: u8 = 5;
+
+/// What every routine of a coordinator is lent: the numbers and bytes of the record and of the answer.
 #[derive(Clone, Debug, PartialEq, Eq)]
 pub struct Lent {
     pub numbers: Vec<u64>,
@@ -161,11 +224,21 @@ pub struct Lent {
 }
 
 impl Lent {
-    /// An idle coordinator that drew no time yet.
-    pub fn fresh(coordinator: u64) -> Lent {
-        let mut numbers = vec![0; 22];
-        numbers[0] = coordinator;
-        Lent { numbers, bytes: vec![0; 66], sent: vec![0; 8], shown: vec![0; 52] }
+    /// An idle coordinator for these settings that drew no time yet.
+    pub fn fresh((n, m, size): Three, coordinator: u64) -> Lent {
+        let mut numbers = vec![0; record::NUMBERS];
+        numbers[record::COORDINATOR] = coordinator;
+        numbers[record::N..=record::SIZE].copy_from_slice(&[n as u64, m as u64, size as u64]);
+        Lent { numbers, bytes: vec![0; record::BYTES], sent: vec![0; answer::NUMBERS], shown: vec![0; answer::BYTES] }
+    }
+
+    /// A row of an answer's bytes.
+    pub fn shown_row(&self, at: usize) -> [u8; 16] {
+        std::array::from_fn(|b| self.shown[at + b])
+    }
+
+    pub fn running(&self) -> bool {
+        self.bytes[record::KIND] != 0
     }
 }
 
@@ -179,6 +252,12 @@ pub struct Coordinator {
 }
 
 impl Coordinator {
+    /// An idle coordinator that drew no time yet, with zeros in its buffers.
+    pub fn fresh((n, m, size): Three, number: u64) -> Coordinator {
+        let (blocks, coded) = (vec![0; n * size], vec![0; n * size]);
+        Coordinator { lent: Lent::fresh((n, m, size), number), blocks, stripe: vec![0; m * size], coded }
+    }
+
     /// Other bytes in the buffers beside the record, as a crash may leave them.
     pub fn overwrite(&mut self, rng: &mut Rng) {
         for buffer in [&mut self.blocks, &mut self.stripe, &mut self.coded] {

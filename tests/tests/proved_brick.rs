@@ -6,32 +6,55 @@ fn settings((n, m, size, capacity): proved::Four) -> Settings {
     Settings::new(n as u64, m as u64, size as u64, capacity as u64)
 }
 
-/// The flags of a list of bricks; a list with a repeat or a brick past 15 has no flags.
-fn flags(targets: &[u8]) -> Option<[u8; 16]> {
-    let mut flags = [0; 16];
-    for &t in targets {
-        if t > 15 || flags[t as usize] == 1 {
-            return None;
-        }
-        flags[t as usize] = 1;
+/// A message as the boundary takes it. Each field is a number of 64 bits, so that values which the brick's own types cannot hold are
+/// answered by the proved code too.
+#[derive(Clone, Debug)]
+struct Numbers {
+    kind: u64,
+    time: u64,
+    round: u64,
+    max: u64,
+    flags: [u64; 16],
+    block: Vec<u8>,
+}
+
+impl Numbers {
+    fn of(message: &brick::Message) -> Numbers {
+        let brick::Message { kind, time, round, max, ref targets, ref block } = *message;
+        Numbers { kind: u64::from(kind), time, round, max, flags: proved::flags(targets), block: block.clone() }
     }
-    Some(flags)
+
+    fn asked(&self) -> proved::Asked {
+        proved::asked(self.kind, self.time, self.round, self.max, self.flags)
+    }
+
+    /// The same for the independent brick: a number that no byte holds is no kind, and a flag says how often its brick is named.
+    fn message(&self) -> brick::Message {
+        let named = |b: u8| vec![b; self.flags[usize::from(b)].min(3) as usize];
+        brick::Message {
+            kind: u8::try_from(self.kind).unwrap_or(0),
+            time: self.time,
+            round: self.round,
+            max: self.max,
+            targets: (0..16).flat_map(named).collect(),
+            block: self.block.clone(),
+        }
+    }
 }
 
 /// Both bricks on one message. Every buffer is compared, and a refusal or a reply without a block must leave the block's buffer.
-fn compare(four: proved::Four, number: usize, bytes: &mut Vec<u8>, message: &brick::Message) -> u32 {
-    let Some(targets) = flags(&message.targets) else { return 10 };
+fn compare(four: proved::Four, number: usize, bytes: &mut Vec<u8>, numbers: &Numbers) -> u32 {
+    let message = numbers.message();
     let size = four.2.min(512);
     let block = if message.kind == brick::WRITE { message.block.clone() } else { vec![0; size] };
     let (mut ours, mut theirs) = (bytes.clone(), bytes.clone());
     let (mut out, mut reply) = (vec![0xEE; size], [77; 7]);
-    let asked = (message.kind, message.time, message.round, message.max);
-    let answer = proved::receive(four, number, &mut ours, asked, &targets, &block, &mut out, &mut reply);
-    let seen = format!("{four:?} brick {number} {message:?}");
+    let answer = proved::receive(four, number, &mut ours, &numbers.asked(), &block, &mut out, &mut reply);
+    let seen = format!("{four:?} brick {number} {numbers:?}");
     let mut left = vec![0xEE; size];
-    match brick::take(settings(four), number as u64, &mut theirs, message) {
+    match brick::take(settings(four), number as u64, &mut theirs, &message) {
         Err(refusal) => assert_eq!((answer, reply), (u32::from(refusal), [77; 7]), "{seen}"),
-        Ok(None) => assert_eq!((answer, reply), (100, [77; 7]), "{seen}"),
+        Ok(None) => assert_eq!((answer, reply), (proved::SILENCE, [77; 7]), "{seen}"),
         Ok(Some(r)) => {
             let held = u64::from(r.block.is_some());
             let fields = [u64::from(r.kind), r.brick, r.time, r.round, u64::from(r.yes), r.found, held];
@@ -60,8 +83,13 @@ fn some_brick(rng: &mut Rng) -> (proved::Four, usize) {
     (four, rng.below(n as u64) as usize)
 }
 
+/// A number that is no flag; three of them end in a byte that is one.
+fn no_flag(rng: &mut Rng) -> u64 {
+    [2, 3, 128, 255, 256, 257, 1 << 32, (1 << 32) + 1, u64::MAX][rng.below(9) as usize]
+}
+
 /// A message, mostly sensible, sometimes not.
-fn random_message(rng: &mut Rng, (n, m, size, _): proved::Four) -> brick::Message {
+fn random_message(rng: &mut Rng, (n, m, size, _): proved::Four) -> Numbers {
     let time = match rng.below(12) {
         0 => rng.number(),
         1 => rng.below(20),
@@ -71,8 +99,17 @@ fn random_message(rng: &mut Rng, (n, m, size, _): proved::Four) -> brick::Messag
     let among = if rng.once_in(12) { 16 } else { n };
     let mut targets: Vec<u8> = rng.shuffled(among).into_iter().map(|b| b as u8).collect();
     targets.truncate(count);
-    brick::Message {
-        kind: if rng.once_in(15) { rng.byte() } else { 1 + rng.below(5) as u8 },
+    let mut flags = proved::flags(&targets);
+    if rng.once_in(12) {
+        flags[rng.below(16) as usize] = no_flag(rng);
+    }
+    let kind = 1 + rng.below(5);
+    Numbers {
+        kind: match rng.below(30) {
+            0 => u64::from(rng.byte()),
+            1 => kind + 256 * (1 + rng.below(1 << 50)),
+            _ => kind,
+        },
         time,
         round: if rng.once_in(12) { rng.below(2) * 1001 } else { 1 + rng.below(1000) },
         max: match rng.below(5) {
@@ -81,7 +118,7 @@ fn random_message(rng: &mut Rng, (n, m, size, _): proved::Four) -> brick::Messag
             2 => 0,
             _ => 16 + rng.below(60) * 8,
         },
-        targets,
+        flags,
         block: rng.bytes(size),
     }
 }
@@ -105,12 +142,52 @@ fn long_runs_of_messages() {
     assert!(answers[0] > 5000 && answers[100] > 500 && answers[10] > 500, "{answers:?}");
 }
 
+/// Each field below, at and above its range, in messages of every kind: 10 where the kind looks at the field, and only there.
+#[test]
+fn fields_in_and_around_their_ranges() {
+    let four = (5, 2, 4, 6);
+    let good = |kind: u64| Numbers { kind, time: 160, round: 2, max: 1 << 44, flags: proved::flags(&[1, 3]), block: vec![7; 4] };
+    let answer = |numbers: &Numbers| compare(four, 3, &mut fresh(four, 3), numbers);
+    let passed = |kind: u64| if kind == u64::from(brick::TRIM) { proved::SILENCE } else { 0 };
+    for kind in [0, 6, 7, 255, 256, 257, 261, 512 + 4, 1 << 32, (1 << 32) + 1, u64::MAX] {
+        assert_eq!(answer(&good(kind)), 10, "kind {kind}");
+    }
+    for kind in 1..=5 {
+        assert_eq!(answer(&good(kind)), passed(kind));
+        for time in [0, 1, 15, 1 << 44, (1 << 44) + 16, u64::MAX] {
+            assert_eq!(answer(&Numbers { time, ..good(kind) }), 10, "kind {kind} time {time}");
+        }
+        for time in [16, (1 << 44) - 1] {
+            assert_eq!(answer(&Numbers { time, ..good(kind) }), passed(kind));
+        }
+        for (round, number) in [(0, 10), (1, passed(kind)), (1000, passed(kind)), (1001, 10), (u64::MAX, 10)] {
+            assert_eq!(answer(&Numbers { round, ..good(kind) }), number, "kind {kind} round {round}");
+        }
+        for max in [(1 << 44) + 1, u64::MAX] {
+            let number = if kind == u64::from(brick::ORDER_READ) { 10 } else { passed(kind) };
+            assert_eq!(answer(&Numbers { max, ..good(kind) }), number, "kind {kind} max {max}");
+        }
+        let of_read = |number: u32| if kind == u64::from(brick::READ) { number } else { passed(kind) };
+        for place in 0..16 {
+            for flag in [0, 1, 2, 255, 256, 257, u64::MAX] {
+                let mut flags = good(kind).flags;
+                let same = flags[place] == flag;
+                flags[place] = flag;
+                assert_eq!(answer(&Numbers { flags, ..good(kind) }), of_read(if same { 0 } else { 10 }), "flag {flag} of {place}");
+            }
+        }
+        // As many targets as asked for, one of them no brick; then two other bricks.
+        assert_eq!(answer(&Numbers { flags: proved::flags(&[1, 5]), ..good(kind) }), of_read(10));
+        assert_eq!(answer(&Numbers { flags: proved::flags(&[0, 4]), ..good(kind) }), of_read(0));
+    }
+}
+
 #[test]
 fn every_changed_byte_of_a_small_image() {
     let four = (3, 1, 1, 2);
     let mut bytes = fresh(four, 1);
     let write = brick::Message { block: vec![9], ..brick::Message::plain(brick::WRITE, 33, 2) };
-    compare(four, 1, &mut bytes, &write);
+    compare(four, 1, &mut bytes, &Numbers::of(&write));
     let read = brick::Message { targets: vec![1], ..brick::Message::plain(brick::READ, 49, 1) };
     for at in 0..bytes.len() {
         for change in 1..=255_u8 {
@@ -118,11 +195,11 @@ fn every_changed_byte_of_a_small_image() {
             damaged[at] ^= change;
             let (mut out, mut reply) = ([0], [0; 7]);
             let kept = damaged.clone();
-            let answer = proved::receive(four, 1, &mut damaged, (1, 49, 1, 0), &flags(&[1]).unwrap(), &[0], &mut out, &mut reply);
+            let answer = proved::receive(four, 1, &mut damaged, &Numbers::of(&read).asked(), &[0], &mut out, &mut reply);
             assert_eq!((answer, &damaged), (5, &kept), "byte {at} by {change}");
         }
     }
-    assert_eq!(compare(four, 1, &mut bytes, &read), 0);
+    assert_eq!(compare(four, 1, &mut bytes, &Numbers::of(&read)), 0);
 }
 
 /// The check of a block, made right again after damage, so that refusal 6 is reached.
@@ -198,7 +275,7 @@ fn views_of_every_place() {
                 // Every other run only writes, in rising time, so that logs grow long and full.
                 time += 1 + rng.below(40);
                 let rising = brick::Message { block: rng.bytes(four.2), ..brick::Message::plain(brick::WRITE, time, 1) };
-                let message = if run % 2 == 0 { rising } else { random_message(&mut rng, four) };
+                let message = if run % 2 == 0 { Numbers::of(&rising) } else { random_message(&mut rng, four) };
                 compare(four, number, &mut bytes, &message);
             }
             look_everywhere(four, number, &bytes, &mut whole);
@@ -238,21 +315,41 @@ fn views_of_every_place() {
     assert!([1, 2, 3, 6].iter().all(|&k| other[k] > 1000), "{other:?}");
 }
 
+/// The lowest number first, the boundary's own buffers included: 1, then 2, then 3, whatever else is wrong.
 #[test]
 fn settings_and_lengths() {
-    let mut bytes = fresh((3, 1, 4, 3), 0);
-    let message = brick::Message { targets: vec![0], ..brick::Message::plain(brick::READ, 16, 1) };
-    for four in [(0, 0, 4, 3), (17, 1, 4, 3), (3, 4, 4, 3), (3, 1, 0, 3), (3, 1, 257, 3), (3, 1, 4, 1), (3, 1, 4, 33)] {
-        assert_eq!(compare(four, 0, &mut bytes, &message), 1);
-    }
-    let (mut out, mut reply, targets) = ([0; 4], [0; 7], flags(&[0]).unwrap());
     let four = (3, 1, 4, 3);
-    let asked = (1, 16, 1, 0);
-    assert_eq!(proved::receive(four, 0, &mut bytes, asked, &targets, &[0; 3], &mut out, &mut reply), 2);
-    assert_eq!(proved::receive(four, 0, &mut bytes, asked, &targets, &[0; 4], &mut out[..3], &mut reply), 2);
-    assert_eq!(proved::receive(four, 0, &mut bytes, asked, &targets[..15], &[0; 4], &mut out, &mut reply), 2);
-    assert_eq!(proved::receive(four, 0, &mut bytes, asked, &targets, &[0; 4], &mut out, &mut reply[..6]), 2);
-    assert_eq!(proved::receive(four, 0, &mut bytes, asked, &targets, &[0; 4], &mut out, &mut reply), 0);
-    let mut times = [0; 3];
-    assert_eq!(proved::panel(four, 0, &bytes, &mut times), 2);
+    let mut bytes = fresh(four, 0);
+    let read = Numbers::of(&brick::Message { targets: vec![0], ..brick::Message::plain(brick::READ, 16, 1) });
+    let asked = read.asked();
+    let (mut out, mut reply) = ([0; 4], [0; 7]);
+    for wrong in [(0, 0, 4, 3), (17, 1, 4, 3), (3, 4, 4, 3), (3, 1, 0, 3), (3, 1, 257, 3), (3, 1, 4, 1), (3, 1, 4, 33)] {
+        assert_eq!(compare(wrong, 0, &mut bytes, &read), 1);
+        assert_eq!(proved::receive(wrong, 9, &mut bytes, &asked[..19], &[0; 3], &mut out, &mut reply[..6]), 1);
+        assert_eq!(proved::panel(wrong, 9, &bytes, &mut [0; 3]), 1);
+        assert_eq!(proved::entry(wrong, 9, &bytes, 9, &mut [0; 1]), 1);
+        assert_eq!(proved::fresh(wrong, 9, &mut [0; 3]), 1);
+    }
+    // Of a brick that is none, at a place that is none, with a kind that is none: the lengths come before.
+    let mut bad = asked;
+    bad[0] = 6;
+    let mut longer = asked.to_vec();
+    longer.push(0);
+    for short in [&bad[..0], &bad[..19], &longer[..]] {
+        assert_eq!(proved::receive(four, 3, &mut bytes, short, &[0; 4], &mut out, &mut reply), 2);
+    }
+    assert_eq!(proved::receive(four, 3, &mut bytes, &bad, &[0; 3], &mut out, &mut reply), 2);
+    assert_eq!(proved::receive(four, 3, &mut bytes, &bad, &[0; 4], &mut out[..3], &mut reply), 2);
+    assert_eq!(proved::receive(four, 3, &mut bytes, &bad, &[0; 4], &mut out, &mut reply[..6]), 2);
+    assert_eq!(proved::receive(four, 3, &mut bytes[1..], &bad, &[0; 4], &mut out, &mut reply), 2);
+    assert_eq!(proved::receive(four, 3, &mut bytes, &bad, &[0; 4], &mut out, &mut reply), 3);
+    assert_eq!(proved::receive(four, 0, &mut bytes, &bad, &[0; 4], &mut out, &mut reply), 10);
+    assert_eq!(proved::receive(four, 0, &mut bytes, &asked, &[0; 4], &mut out, &mut reply), 0);
+    for length in [0, 1, 3] {
+        let mut pair = vec![77; length];
+        assert_eq!(proved::panel(four, 3, &bytes, &mut pair), 2);
+        assert_eq!(proved::entry(four, 3, &bytes, 9, &mut pair), 2);
+        assert_eq!(pair, vec![77; length]);
+    }
+    assert_eq!((proved::panel(four, 3, &bytes, &mut [0; 2]), proved::entry(four, 3, &bytes, 9, &mut [0; 2])), (3, 3));
 }

@@ -2,7 +2,8 @@
 
 use jilbagum_tests::brick::{self, Message, Reply, ORDER_READ, READ, WRITE};
 use jilbagum_tests::coordinator::{self, Kind, Outcome, Record, Running, Step};
-use jilbagum_tests::proved::{self, Coordinator, Lent};
+use jilbagum_tests::proved::record::{BRICKS, COUNTED, FIRST, FOUND, GRANTED, HELD, KIND, LAST, M, MAX, N, PHASE, ROUND, SIZE, TIME};
+use jilbagum_tests::proved::{self, record, Coordinator, Lent};
 use jilbagum_tests::rng::Rng;
 use jilbagum_tests::settings::{Refusal, Settings, Shape, LAST_COUNT, NO_UPPER_END};
 use jilbagum_tests::image;
@@ -28,45 +29,52 @@ fn row(bricks: &[u8]) -> [u8; 16] {
 
 /// The numbers and bytes of a record.
 fn lay_out(record: &Record) -> (Vec<u64>, Vec<u8>) {
-    let (mut numbers, mut bytes) = (vec![0; 22], vec![0; 66]);
-    numbers[..2].copy_from_slice(&[record.number, record.last]);
+    let Lent { mut numbers, mut bytes, .. } = Lent::fresh(three(record.shape), record.number);
+    numbers[LAST] = record.last;
     if let Some(running) = &record.running {
-        numbers[2..6].copy_from_slice(&[running.time, running.round, running.max, running.first]);
-        bytes[..2].copy_from_slice(&[if running.kind == Kind::Read { 1 } else { 2 }, running.open]);
+        for (place, number) in [(TIME, running.time), (ROUND, running.round), (MAX, running.max), (FIRST, running.first)] {
+            numbers[place] = number;
+        }
+        bytes[KIND] = if running.kind == Kind::Read { 1 } else { 2 };
+        bytes[PHASE] = running.open;
         for reply in &running.replies {
             let b = reply.brick as usize;
-            numbers[6 + b] = reply.found;
-            bytes[2 + b] = 1;
-            bytes[18 + b] = u8::from(reply.yes);
-            bytes[34 + b] = u8::from(reply.block.is_some());
+            numbers[FOUND + b] = reply.found;
+            bytes[COUNTED + b] = 1;
+            bytes[GRANTED + b] = u8::from(reply.yes);
+            bytes[HELD + b] = u8::from(reply.block.is_some());
         }
-        bytes[50..].copy_from_slice(&row(&running.bricks));
+        bytes[BRICKS..].copy_from_slice(&row(&running.bricks));
     }
     (numbers, bytes)
 }
 
-/// The record of such numbers and bytes; none where they stand for none.
-fn read_out(shape: Shape, c: &Coordinator) -> Option<Record> {
+/// The record of such numbers and bytes, with the settings that it names itself; none where they stand for none.
+fn read_out(c: &Coordinator) -> Option<Record> {
     let (numbers, bytes) = (&c.lent.numbers, &c.lent.bytes);
-    let mut record = Record { shape, number: numbers[0], last: numbers[1], running: None };
-    let (kind, open) = match (bytes[0], bytes[1]) {
+    let shape = Shape::new(numbers[N], numbers[M], numbers[SIZE]);
+    if shape.refusal().is_some() {
+        return None;
+    }
+    let mut record = Record { shape, number: numbers[record::COORDINATOR], last: numbers[LAST], running: None };
+    let (kind, open) = match (bytes[KIND], bytes[PHASE]) {
         (0, _) => {
-            let unset = numbers[2..].iter().all(|&x| x == 0) && bytes.iter().all(|&x| x == 0);
-            return unset.then_some(record);
+            let unset = [TIME, ROUND, MAX, FIRST].iter().all(|&place| numbers[place] == 0) && numbers[FOUND..].iter().all(|&x| x == 0);
+            return (unset && bytes.iter().all(|&x| x == 0)).then_some(record);
         }
         (1, open) => (Kind::Read, open),
         (2, open) => (Kind::Write, open),
         _ => return None,
     };
     let stored = kind == Kind::Read && open == WRITE;
-    let (bricks, rest) = bytes[50..].split_at(if stored { shape.m as usize } else { 0 });
+    let (bricks, rest) = bytes[BRICKS..].split_at(if stored { shape.m as usize } else { 0 });
     if rest.iter().any(|&b| b != 0) || bricks.windows(2).any(|pair| pair[0] >= pair[1]) {
         return None;
     }
     let size = shape.size as usize;
     let mut replies = Vec::new();
     for b in 0..16 {
-        let (counted, granted, held, found) = (bytes[2 + b], bytes[18 + b], bytes[34 + b], numbers[6 + b]);
+        let (counted, granted, held, found) = (bytes[COUNTED + b], bytes[GRANTED + b], bytes[HELD + b], numbers[FOUND + b]);
         if counted > 1 || granted > 1 || held > 1 || (counted == 0 && (granted, held, found) != (0, 0, 0)) {
             return None;
         }
@@ -75,8 +83,8 @@ fn read_out(shape: Shape, c: &Coordinator) -> Option<Record> {
             replies.push(Reply {
                 kind: open,
                 brick: b as u64,
-                time: numbers[2],
-                round: numbers[3],
+                time: numbers[TIME],
+                round: numbers[ROUND],
                 yes: granted == 1,
                 found,
                 block: (held == 1).then_some(block),
@@ -87,11 +95,11 @@ fn read_out(shape: Shape, c: &Coordinator) -> Option<Record> {
     let stripe = if c.stripe.len() == shape.data_len() { c.stripe.clone() } else { vec![0; shape.data_len()] };
     record.running = Some(Running {
         kind,
-        time: numbers[2],
-        round: numbers[3],
+        time: numbers[TIME],
+        round: numbers[ROUND],
         open,
-        max: numbers[4],
-        first: numbers[5],
+        max: numbers[MAX],
+        first: numbers[FIRST],
         stripe: if kept { stripe } else { Vec::new() },
         bricks: bricks.to_vec(),
         replies,
@@ -103,11 +111,11 @@ fn read_out(shape: Shape, c: &Coordinator) -> Option<Record> {
 fn judged(shape: Shape, c: &Coordinator, event: &Event) -> Result<(Record, Step), Refusal> {
     let number = c.lent.numbers.first().copied().unwrap_or(0);
     let lent = [c.lent.numbers.len(), c.lent.bytes.len(), c.lent.sent.len(), c.lent.shown.len()];
-    if lent != [22, 66, 8, 52] {
-        return Err(2);
-    }
     if shape.refusal().is_some() {
         return Err(1);
+    }
+    if lent != [record::NUMBERS, record::BYTES, proved::answer::NUMBERS, proved::answer::BYTES] {
+        return Err(2);
     }
     let stripe_fits = c.stripe.len() == shape.data_len();
     let blocks_fit = c.blocks.len() == shape.coded_len() && c.coded.len() == shape.coded_len();
@@ -116,7 +124,7 @@ fn judged(shape: Shape, c: &Coordinator, event: &Event) -> Result<(Record, Step)
         Event::Reply(_) if !stripe_fits || !blocks_fit => return Err(2),
         _ => {}
     }
-    let Some(mut record) = read_out(shape, c) else {
+    let Some(mut record) = read_out(c) else {
         return Err(match event {
             Event::Write(_, data) if data.len() != shape.data_len() => 2,
             Event::Reply(reply) if reply.block.as_ref().is_some_and(|b| b.len() as u64 != shape.size) => 2,
@@ -167,9 +175,9 @@ fn answer(shape: Shape, event: &Event, record: &Record, step: &Step) -> (Vec<u64
 /// Why a recovery is aborted by a reply.
 fn recovery_abort(c: &Coordinator, reply: &Reply) -> &'static str {
     let bytes = &c.lent.bytes;
-    if !reply.yes || (0..16).any(|b| bytes[2 + b] == 1 && bytes[18 + b] == 0) {
+    if !reply.yes || (0..16).any(|b| bytes[COUNTED + b] == 1 && bytes[GRANTED + b] == 0) {
         "recovery aborted by a no"
-    } else if reply.block.is_none() && bytes[34..50].iter().all(|&held| held == 0) {
+    } else if reply.block.is_none() && bytes[HELD..BRICKS].iter().all(|&held| held == 0) {
         "recovery aborted without a block"
     } else {
         "recovery aborted at time 0 on few bricks"
@@ -179,7 +187,7 @@ fn recovery_abort(c: &Coordinator, reply: &Reply) -> &'static str {
 /// What the lent coordinator must be after an event, and the number returned.
 fn expected(shape: Shape, c: &Coordinator, event: &Event, tally: &mut Tally) -> (Coordinator, u32, Step) {
     let mut after = c.clone();
-    let before = c.lent.bytes.get(1).copied().unwrap_or(0);
+    let before = c.lent.bytes.get(PHASE).copied().unwrap_or(0);
     let (record, step) = match judged(shape, c, event) {
         Err(number) => {
             tally.add(format!("refusal {number}"), 1);
@@ -264,7 +272,7 @@ struct World {
 }
 
 fn fresh(shape: Shape, number: u64, rng: &mut Rng) -> Coordinator {
-    let mut lent = Lent::fresh(number);
+    let mut lent = Lent::fresh(three(shape), number);
     lent.sent.fill(77);
     lent.shown.fill(77);
     let (blocks, coded) = (rng.bytes(shape.coded_len()), rng.bytes(shape.coded_len()));
@@ -309,7 +317,7 @@ impl World {
     }
 
     fn idle(&self, at: usize) -> bool {
-        self.coordinators[at].lent.bytes[0] == 0
+        !self.coordinators[at].lent.running()
     }
 
     fn start(&mut self, at: usize, rng: &mut Rng, tally: &mut Tally) {
@@ -433,15 +441,15 @@ fn schedules_with_bricks() {
 /// A reply to the open round, right by its rules; sometimes with one field changed.
 fn some_reply(shape: Shape, c: &Coordinator, times: &[u64], rng: &mut Rng) -> Reply {
     let (numbers, bytes) = (&c.lent.numbers, &c.lent.bytes);
-    let kind = if bytes[1] == 0 { 1 + rng.below(4) as u8 } else { bytes[1] };
+    let kind = if bytes[PHASE] == 0 { 1 + rng.below(4) as u8 } else { bytes[PHASE] };
     let brick = rng.below(shape.n);
     let yes = !rng.once_in(24);
-    let target = (brick + shape.n - numbers[5] % shape.n) % shape.n < shape.m;
+    let target = (brick + shape.n - numbers[FIRST] % shape.n) % shape.n < shape.m;
     let found = times[rng.below(times.len() as u64) as usize];
     let held = match kind {
         READ => yes && target,
         // In some operations few bricks hold a block.
-        ORDER_READ if numbers[1] % 4 == 0 => yes && rng.once_in(4),
+        ORDER_READ if numbers[LAST] % 4 == 0 => yes && rng.once_in(4),
         ORDER_READ => yes && !rng.once_in(8),
         _ => false,
     };
@@ -449,8 +457,8 @@ fn some_reply(shape: Shape, c: &Coordinator, times: &[u64], rng: &mut Rng) -> Re
     let mut reply = Reply {
         kind,
         brick,
-        time: if numbers[2] == 0 { 16 + rng.below(64) } else { numbers[2] },
-        round: numbers[3].max(1),
+        time: if numbers[TIME] == 0 { 16 + rng.below(64) } else { numbers[TIME] },
+        round: numbers[ROUND].max(1),
         yes,
         found: if shown { found } else { 0 },
         block: held.then(|| rng.bytes(shape.size as usize)),
@@ -486,7 +494,7 @@ fn some_event(shape: Shape, c: &Coordinator, times: &[u64], rng: &mut Rng) -> Ev
         1 if rng.once_in(8) => Event::Read(reading, shape.n),
         1 => Event::Read(reading, rng.below(shape.n)),
         2 if rng.once_in(2) => Event::Crash,
-        _ if c.lent.numbers.len() < 22 || c.lent.bytes.len() < 66 => Event::Crash,
+        _ if c.lent.numbers.len() < record::NUMBERS || c.lent.bytes.len() < record::BYTES => Event::Crash,
         _ => Event::Reply(some_reply(shape, c, times, rng)),
     }
 }
@@ -504,15 +512,18 @@ fn events_of_every_sort() {
             let event = some_event(shape, &c, &times, &mut rng);
             compare(shape, &mut c, &event, &mut tally);
             let numbers = &mut c.lent.numbers;
-            if c.lent.bytes[1] == ORDER_READ && numbers[3] >= 3 && rng.once_in(6) {
+            if c.lent.bytes[PHASE] == ORDER_READ && numbers[ROUND] >= 3 && rng.once_in(6) {
                 // A sound record in its last round.
-                numbers[3] = 1000;
+                numbers[ROUND] = 1000;
             }
-            if c.lent.bytes[0] == 0 && rng.once_in(6) {
-                numbers[1] = if rng.once_in(3) { LAST_COUNT - rng.below(2) } else { rng.below(9) };
+            if c.lent.bytes[KIND] == 0 && rng.once_in(6) {
+                numbers[LAST] = if rng.once_in(3) { LAST_COUNT - rng.below(2) } else { rng.below(9) };
             }
             if rng.once_in(10) {
                 compare_lent_wrong(shape, &c, &event, &mut rng, &mut tally);
+            }
+            if rng.once_in(10) {
+                compare_elsewhere(shape, &c, &times, &mut rng, &mut tally);
             }
         }
     }
@@ -523,11 +534,105 @@ fn events_of_every_sort() {
             "write begins", "read begins", "waits", "cut", "idle crash", "read in one round", "recovered", "written",
             "recovery round 2", "recovery round 3", "write round 2", "write round 3", "abort at round 1000",
             "abort in phase 2", "abort in phase 4", "recovery aborted by a no", "recovery aborted without a block",
-            "refusal 1", "refusal 2", "refusal 3",
+            "refusal 1", "refusal 2", "refusal 3", "refusal 6",
+            "idle, under other settings", "running, under other settings",
             "refusal 7", "refusal 8", "refusal 9", "refusal 10", "refusal 11",
         ],
     );
     tally.expect(10, &["recovery aborted at time 0 on few bricks"]);
+}
+
+/// Settings other than those given whose buffers have the same lengths, if there are such; else other settings.
+fn other_shape(shape: Shape, rng: &mut Rng) -> Shape {
+    let Shape { n, m, size } = shape;
+    let mut all = Vec::new();
+    for k in 2..=16 {
+        if n % k == 0 && m % k == 0 {
+            all.push(Shape::new(n / k, m / k, size * k));
+        }
+        if size % k == 0 {
+            all.push(Shape::new(n * k, m * k, size / k));
+        }
+    }
+    all.retain(|shape| shape.refusal().is_none());
+    all.extend([Shape::new(n % 16 + 1, 1, size), Shape::new(n, m, size % 256 + 1), Shape::new(n, m % n + 1, size)]);
+    all.retain(|other| *other != shape);
+    all[rng.below(all.len() as u64) as usize]
+}
+
+/// An event of other settings than the record's.
+fn compare_elsewhere(shape: Shape, c: &Coordinator, times: &[u64], rng: &mut Rng, tally: &mut Tally) {
+    let other = other_shape(shape, rng);
+    let event = some_event(other, c, times, rng);
+    let mut called = c.clone();
+    let before = tally.0.get("refusal 6").copied();
+    compare(other, &mut called, &event, tally);
+    assert!(called == *c, "an event of other settings changed something: {shape:?} {other:?} {event:?}");
+    if tally.0.get("refusal 6").copied() != before {
+        tally.add(if c.lent.running() { "running, under other settings" } else { "idle, under other settings" }, 1);
+    }
+}
+
+/// Refusal 6, "settings disagreeing with those given": a record made for one set of settings is called under another whose buffers have
+/// the same lengths. Both coordinators say 6 to every event, idle or in any round, and go on under the record's own settings.
+#[test]
+fn records_of_other_settings() {
+    let mut rng = Rng::printed(34);
+    let mut tally = Tally::default();
+    let pairs = [((4, 2, 2), (2, 1, 4)), ((2, 1, 4), (4, 2, 2)), ((16, 8, 1), (2, 1, 8)), ((6, 3, 32), (2, 1, 96)), ((3, 3, 4), (1, 1, 12))];
+    for ((n, m, size), (n2, m2, size2)) in pairs {
+        let (shape, other) = (Shape::new(n, m, size), Shape::new(n2, m2, size2));
+        assert_eq!((shape.data_len(), shape.coded_len()), (other.data_len(), other.coded_len()));
+        let elsewhere = |c: &Coordinator, tally: &mut Tally, rng: &mut Rng| {
+            let numbers = &c.lent.numbers;
+            let reply = Reply {
+                kind: c.lent.bytes[PHASE].max(1),
+                brick: 0,
+                time: numbers[TIME].max(16),
+                round: numbers[ROUND].max(1),
+                yes: true,
+                found: 0,
+                block: None,
+            };
+            let held = Reply { block: Some(rng.bytes(size2 as usize)), ..reply.clone() };
+            let events = [
+                Event::Write(9, rng.bytes(other.data_len())),
+                Event::Read(9, 0),
+                Event::Reply(reply),
+                Event::Reply(held),
+                Event::Crash,
+            ];
+            for event in events {
+                let mut called = c.clone();
+                let step = compare(other, &mut called, &event, tally);
+                assert!(called == *c && step == Step::default(), "{event:?}");
+                assert!(matches!(judged(other, c, &event), Err(6)), "{event:?}");
+                tally.add("under other settings", 1);
+            }
+        };
+        for write in [true, false] {
+            let mut c = fresh(shape, 3, &mut rng);
+            elsewhere(&c, &mut tally, &mut rng);
+            let begin = if write { Event::Write(5, rng.bytes(shape.data_len())) } else { Event::Read(5, 0) };
+            let mut step = compare(shape, &mut c, &begin, &mut tally);
+            elsewhere(&c, &mut tally, &mut rng);
+            let settings = Settings { shape, capacity: 4 };
+            let mut images: Vec<Vec<u8>> = (0..shape.n).map(|b| image::fresh(settings, b).unwrap()).collect();
+            while c.lent.running() {
+                let sent = std::mem::take(&mut step.sent);
+                for (b, message) in sent.iter().enumerate() {
+                    let reply = brick::take(settings, b as u64, &mut images[b], message).unwrap();
+                    if let (Some(reply), true) = (reply, step.sent.is_empty() && c.lent.running()) {
+                        step = compare(shape, &mut c, &Event::Reply(reply), &mut tally);
+                        elsewhere(&c, &mut tally, &mut rng);
+                    }
+                }
+            }
+        }
+    }
+    println!("{:?}", tally.0);
+    tally.expect(pairs.len(), &["written", "read in one round"]);
+    tally.expect(200, &["under other settings", "refusal 6"]);
 }
 
 /// The same event where one lent buffer has another length, or at other settings.
@@ -576,18 +681,19 @@ fn damaged_records() {
             let event = some_event(shape, &c, &times, &mut rng);
             compare(shape, &mut c, &event, &mut tally);
         }
-        for place in 0..88 {
+        let places = record::NUMBERS + record::BYTES;
+        for place in 0..places {
             let mut damaged = c.clone();
             for k in 0..if rng.once_in(8) { 2 } else { 1 } {
-                let place = if k == 0 { place } else { rng.below(88) as usize };
-                if place < 22 {
+                let place = if k == 0 { place } else { rng.below(places as u64) as usize };
+                if place < record::NUMBERS {
                     let old = damaged.lent.numbers[place];
                     let values = [0, 1, 15, 16, 999, 1000, 1001, LAST_COUNT, NO_UPPER_END, old.wrapping_add(1), old.wrapping_sub(1), rng.number()];
                     damaged.lent.numbers[place] = values[rng.below(12) as usize];
                 } else {
-                    let old = damaged.lent.bytes[place - 22];
+                    let old = damaged.lent.bytes[place - record::NUMBERS];
                     let values = [0, 1, 2, 3, 4, 5, old.wrapping_add(1), old.wrapping_sub(1), rng.byte()];
-                    damaged.lent.bytes[place - 22] = values[rng.below(9) as usize];
+                    damaged.lent.bytes[place - record::NUMBERS] = values[rng.below(9) as usize];
                 }
             }
             let event = some_event(shape, &c, &times, &mut rng);

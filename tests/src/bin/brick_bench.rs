@@ -35,14 +35,14 @@ fn main() {
         for k in 1..capacity as u64 - 1 {
             assert!(hand.write(&mut image, 16 * k, &block));
         }
-        let mut flags = [0; 16];
-        flags[..3].fill(1);
+        let flags = proved::flags(&[0, 1, 2]);
         let time = 16 * capacity as u64;
         for (kind, name) in [(1, "Read"), (2, "Order"), (3, "Order-and-read"), (4, "Write"), (5, "Trim")] {
             let (mut out, mut reply, mut out2) = (vec![0; 256], [0; 7], vec![0; 256]);
+            let asked = proved::asked(kind, time, 1, time, flags);
             let ours = fastest(&image, runs, |work| {
-                let number = proved::receive(four, 1, work, (kind, time, 1, time), &flags, &block, &mut out, &mut reply);
-                assert!(number == 0 || number == 100);
+                let number = proved::receive(four, 1, work, &asked, &block, &mut out, &mut reply);
+                assert!(number == 0 || number == proved::SILENCE);
             });
             let theirs = fastest(&image, runs, |work| match kind {
                 1 => assert!(hand.read(work, true, &mut out2).0),

@@ -5,7 +5,7 @@
 
 use jilbagum_tests::inplace::Brick;
 use jilbagum_tests::inplace_coordinator::{Act, Coordinator, Message, Reply};
-use jilbagum_tests::proved::{self, Lent};
+use jilbagum_tests::proved::{self, answer, Lent};
 use std::time::{Duration, Instant};
 
 const CAPACITY: usize = 4;
@@ -47,16 +47,17 @@ impl Ours {
         };
         assert_eq!(number, 0);
         loop {
-            let asked = (self.lent.shown[0], self.lent.sent[1], self.lent.sent[2], self.lent.sent[3]);
-            let mut targets = [0; 16];
-            targets.copy_from_slice(&self.lent.shown[3..19]);
+            let kind = self.lent.shown[answer::KIND];
+            let flags = self.lent.shown_row(answer::TARGETS).map(u64::from);
+            let sent = &self.lent.sent;
+            let asked = proved::asked(u64::from(kind), sent[answer::TIME], sent[answer::ROUND], sent[answer::MAX], flags);
             for b in 0..n {
                 let block = &self.coded[b * size..][..size];
                 let (out, reply) = (&mut self.outs[b], &mut self.replies[b]);
-                let number = proved::receive((n, m, size, CAPACITY), b, &mut self.images[b], asked, &targets, block, out, reply);
-                assert!(number == if asked.0 == TRIM { 100 } else { 0 });
+                let number = proved::receive((n, m, size, CAPACITY), b, &mut self.images[b], &asked, block, out, reply);
+                assert!(number == if kind == TRIM { proved::SILENCE } else { 0 });
             }
-            if asked.0 == TRIM {
+            if kind == TRIM {
                 break;
             }
             let (mut sent, mut ended) = (false, false);
@@ -67,8 +68,8 @@ impl Ours {
                 let Ours { lent, blocks, stripe, coded, .. } = self;
                 let number = proved::take_reply(self.three, lent, fields, &self.outs[b], blocks, stripe, coded);
                 assert!(number == 0 || (sent || ended) && number == 11);
-                sent |= number == 0 && self.lent.sent[0] == 1;
-                ended |= number == 0 && self.lent.shown[1] != 0;
+                sent |= number == 0 && self.lent.sent[answer::SENT] == 1;
+                ended |= number == 0 && self.lent.shown[answer::SEEN] != 0;
             }
             inside += started.map_or(Duration::ZERO, |t| t.elapsed());
             if !sent {
@@ -77,7 +78,7 @@ impl Ours {
             }
         }
         let whole = began.elapsed();
-        assert!(self.lent.shown[1] == if op == Op::Write { 2 } else { 3 });
+        assert!(self.lent.shown[answer::SEEN] == if op == Op::Write { proved::WROTE } else { proved::GAVE });
         Spent { whole, coordinator: inside }
     }
 }
@@ -116,24 +117,24 @@ impl Hand {
         }
     }
 
-    fn run(&mut self, op: Op, data: &[u8], size: usize, watch: bool) -> Spent {
+    fn run(&mut self, op: Op, data: &[u8], three: proved::Three, watch: bool) -> Spent {
         let mut inside = Duration::ZERO;
         let began = Instant::now();
         let act = match op {
-            Op::Write => self.coordinator.start_write(9, data),
-            Op::Read => self.coordinator.start_read(9, 1),
+            Op::Write => self.coordinator.start_write(three, 9, data),
+            Op::Read => self.coordinator.start_read(three, 9, 1),
         };
         let Act::Sends(mut message) = act else { panic!("the operation starts") };
         let mut done = false;
         loop {
-            self.deliver(&message, size);
+            self.deliver(&message, three.2);
             if message.kind == TRIM || done {
                 break;
             }
             let mut sent = None;
             let started = watch.then(Instant::now);
             for b in 0..self.replies.len() {
-                match self.coordinator.take(&self.replies[b], &self.outs[b]) {
+                match self.coordinator.take(three, &self.replies[b], &self.outs[b]) {
                     Act::Waits => {}
                     Act::Sends(m) => sent = Some(m),
                     Act::Written(m) => (sent, done) = (Some(m), op == Op::Write),
@@ -205,7 +206,7 @@ fn main() {
             let mut ours = Ours {
                 three: (n, m, size),
                 images: images.clone(),
-                lent: Lent::fresh(3),
+                lent: Lent::fresh((n, m, size), 3),
                 blocks: vec![0; n * size],
                 stripe: vec![0; m * size],
                 coded: vec![0; n * size],
@@ -240,7 +241,7 @@ fn main() {
                     }
                     let a = ours.run(op, &data, watch);
                     let [b, c] = &mut hands;
-                    let (b, c) = (b.run(op, &data, size, watch), c.run(op, &data, size, watch));
+                    let (b, c) = (b.run(op, &data, (n, m, size), watch), c.run(op, &data, (n, m, size), watch));
                     let spent = [a.whole, b.whole, c.whole, a.coordinator, b.coordinator];
                     for (sum, spent) in sum.iter_mut().zip(spent) {
                         *sum += spent;
@@ -257,7 +258,7 @@ fn main() {
                 assert!(ours.stripe == *wanted && hand.coordinator.stripe == *wanted, "the stripe");
                 assert!(ours.images == hand.images, "the bricks");
             }
-            assert_eq!(ours.lent.sent[2], last_round, "the rounds");
+            assert_eq!(ours.lent.sent[answer::ROUND], last_round, "the rounds");
             let [a, b, c, d, e] = best;
             println!(
                 "{n:4} {m:3} {size:4}  {name:27} {a:8.1} {b:8.1} {:5.2} {c:8.1} {:5.2} {d:10.1} {e:8.1} {:5.2}",
