@@ -5,7 +5,7 @@ ghost use mathlib.Core.Bool.{cond};
 ghost use Prim.Native.Nat.{_≤_, _<_};
 ghost use lib.Dec.{eqb};
 ghost use lib.ListN.{length};
-ghost use Rattle.bench_io.specs.Workers.{goesOn, atEnd, cannotRead, cannotWrite, failedStatus, leftWith, Plays, Passed, PlayedLast};
+ghost use Rattle.bench_io.specs.Workers.{goesOn, atEnd, cannotRead, cannotWrite, failedStatus, leftWith, Plays, Passed, PlayedLast, TurnMade, Ran};
 ghost use Rattle.bench_limits.specs.Limits.{keptLength, imagesLength, numbersLength, bytesLength};
 ghost use Rattle.bench_rules.specs.Turning.{lent};
 use bench_limits::BYTES_LENGTH;
@@ -216,7 +216,10 @@ fn turn(
     out: &mut [u8],
 ) -> Pass
     requires { ⌜ p .held ≤ length (now line) ⌝ }
-    ensures { λ r. ⌜ r .held ≤ length (now (line .entry)) ⌝ }
+    ensures { λ r. ⌜ (
+        let l = lent (now (images .entry)) (now (kept .entry)) (now (numbers .entry)) (now (bytes .entry)) in
+        let l′ = lent (now (images .exit)) (now (kept .exit)) (now (numbers .exit)) (now (bytes .exit)) in
+        TurnMade (now (line .entry)) (p .held) (p .bench) l (now (out .entry)) r (now (chunk .exit)) (now (line .exit)) l′ (now (out .exit))) ⌝ }
 {
     let got = libc::read(libc::STDIN_FILENO, chunk);
     let status = after_reading(got);
@@ -249,7 +252,7 @@ fn turn(
 // How many turns may follow.
 fn turns_left(turns: u64, status: u32) -> u64
     requires { ⌜ 1 ≤ turns ⌝ }
-    ensures { λ r. ⌜ r < turns ⌝ }
+    ensures { λ r. ⌜ (r < turns) × ((status ≡ goesOn → ⊥) → r ≡ 0) ⌝ }
 {
     if status == GOES_ON {
         return turns - 1;
@@ -266,7 +269,12 @@ fn play_all(
     numbers: &mut [u64],
     bytes: &mut [u8],
     out: &mut [u8],
-) -> u32 {
+) -> u32
+    ensures { λ r. ⌜ (
+        let l = lent (now (images .entry)) (now (kept .entry)) (now (numbers .entry)) (now (bytes .entry)) in
+        let l′ = lent (now (images .exit)) (now (kept .exit)) (now (numbers .exit)) (now (bytes .exit)) in
+        Ran (now (line .entry)) l (now (out .entry)) r l′ (now (out .exit))) ⌝ }
+{
     let b = bench_player::no_set();
     let mut p = Pass {
         bench: b,
@@ -285,9 +293,8 @@ fn play_all(
 fn leave(status: u32) -> u32
     ensures { λ r. ⌜ r ≡ leftWith status ⌝ }
 {
-    if status == CANNOT_READ {
-        io::write_all(libc::STDERR_FILENO, b"bench: cannot read standard input\n");
-        return FAILED;
+    if status == ENDED {
+        return DONE;
     }
     if status == CANNOT_WRITE {
         io::write_all(
@@ -296,7 +303,8 @@ fn leave(status: u32) -> u32
         );
         return FAILED;
     }
-    DONE
+    io::write_all(libc::STDERR_FILENO, b"bench: cannot read standard input\n");
+    FAILED
 }
 
 // The whole program: 0, or 1 where reading or writing failed.

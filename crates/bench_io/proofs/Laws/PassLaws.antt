@@ -1,11 +1,12 @@
 -- One line after the other of a chunk.
-use mathlib.Core.Path.{_≡_, refl, sym, subst}
-use mathlib.Core.Bool.{Bool, true, false, cond, _||_, true≢false}
+use mathlib.Core.Path.{_≡_, refl, sym, subst, _∙_}
+use mathlib.Core.Logic.{_≢_}
+use mathlib.Core.Bool.{Bool, true, false, cond, true≢false}
 use mathlib.Core.List.{List, [], _∷_, _++_, append-assoc}
 use Prim.Native.Nat.{ℕ, _≤_}
 use native.Mathlib.Omega.{arith}
 use lib.Dec.{eqb, ltb}
-use borrow.Author.Tests.{ne-eqb}
+use borrow.Author.Tests.{ne-eqb, eqb-false}
 use lib.ListN.{length, take, drop}
 use Rattle.bench_lines.specs.Cutting.{CutOff, Cuts, none, part, whole, lastLine}
 use Rattle.bench_lines.specs.declared.Cut.{Cut}
@@ -16,29 +17,41 @@ use Rattle.bench_player.specs.Lining.{Called}
 use Rattle.bench_player.specs.declared.LinePlayed.{LinePlayed}
 use Rattle.bench_rules.specs.Turning.{Lent}
 use Rattle.bench_state.specs.declared.Bench.{Bench}
-use Rattle.bench_io.specs.Workers.{goesOn, atEnd, cannotRead, cannotWrite, failedStatus, leftWith, Plays, Passed, PlayedLast}
+use Rattle.bench_io.specs.Workers.{goesOn, atEnd, cannotWrite, failedStatus, leftWith, Plays, Passed, PlayedLast}
 use Rattle.bench_io.specs.declared.Pass.{Pass}
 
 -- bytes that are no line yet, and a line
-pub plays-not : (ended : Bool) (held : ℕ) (line : List ℕ) (b : Bench) (l : Lent) (out : List ℕ) (status : ℕ) → ended ≡ false
+pub plays-not : (ended : Bool) (held : ℕ) (line : List ℕ) (b : Bench) (l : Lent) (out : List ℕ) (status : ℕ) → status ≢ atEnd → ended ≡ false
     → Plays ended held line b l out (record { bench = b; held = held; status = status }) l out
-plays-not true held line b l out status e = absurd (true≢false e)
-plays-not false held line b l out status e = record { text = []; calls = calls.none b l out; held-is = refl }
+plays-not true held line b l out status n e = absurd (true≢false e)
+plays-not false held line b l out status n e = record { text = []; calls = calls.none b l out; held-is = refl; not-ended = n }
 
 pub plays-line : (ended : Bool) (held : ℕ) (line : List ℕ) (b : Bench) (l : Lent) (out : List ℕ) (o : LinePlayed) (l′ : Lent) (out′ : List ℕ) (status : ℕ)
-    → ended ≡ true → Called b l (take held line) out o l′ out′
+    → status ≢ atEnd → ended ≡ true → Called b l (take held line) out o l′ out′
     → Plays ended held line b l out (record { bench = o .bench; held = 0; status = status }) l′ out′
-plays-line true held line b l out o l′ out′ status e c =
-    record { text = take (o .used) out′ ++ []; calls = calls.call o l′ out′ c (calls.none (o .bench) l′ out′); held-is = refl }
-plays-line false held line b l out o l′ out′ status e c = absurd (true≢false (sym e))
+plays-line true held line b l out o l′ out′ status n e c =
+    record { text = take (o .used) out′ ++ []; calls = calls.call o l′ out′ c (calls.none (o .bench) l′ out′); held-is = refl; not-ended = n }
+plays-line false held line b l out o l′ out′ status n e c = absurd (true≢false (sym e))
+
+pub written-not-ended : (written : Bool) (status : ℕ) → status ≡ cond written goesOn cannotWrite → status ≢ atEnd
+written-not-ended true status e q = omega (arith, e, q)
+written-not-ended false status e q = omega (arith, e, q)
+
+-- after the last line the program does not go on
+pub ended-not-on : (status ended : ℕ) → ended ≡ cond (eqb status goesOn) atEnd status → ended ≢ goesOn
+ended-not-on status ended e q = go (eqb status goesOn) refl e
+  where
+    go : (a : Bool) → eqb status goesOn ≡ a → ended ≡ cond a atEnd status → ⊥
+    go true h f = omega (arith, f, q)
+    go false h f = eqb-false status goesOn h (sym f ∙ q)
 
 pub last-played : (held : ℕ) (line : List ℕ) (b : Bench) (l : Lent) (out : List ℕ) (p : Pass) (l′ : Lent) (out′ : List ℕ) (status : ℕ)
-    → Plays (ltb 0 held) held line b l out p l′ out′ → PlayedLast line held b l out (record { bench = p .bench; held = 0; status = status }) l′ out′
+    → status ≢ goesOn → Plays (ltb 0 held) held line b l out p l′ out′ → PlayedLast line held b l out (record { bench = p .bench; held = 0; status = status }) l′ out′
 unfolding lastLine
-last-played held line b l out p l′ out′ status q = record { text = q .text; calls = q .calls; held-is = refl }
+last-played held line b l out p l′ out′ status n q = record { text = q .text; calls = q .calls; held-is = refl; not-on = n }
 
 -- calls after calls
-calls-both : {b b′ b″ : Bench} {l l′ l″ : Lent} {out out′ out″ text more : List ℕ} {ls ks : List (List ℕ)} → Calls b l out ls text b′ l′ out′
+pub calls-both : {b b′ b″ : Bench} {l l′ l″ : Lent} {out out′ out″ text more : List ℕ} {ls ks : List (List ℕ)} → Calls b l out ls text b′ l′ out′
     → Calls b′ l′ out′ ks more b″ l″ out″ → Calls b l out (ls ++ ks) (text ++ more) b″ l″ out″
 calls-both (calls.none b l out) ds = ds
 calls-both {b = b} {b″ = b″} {l = l} {l″ = l″} {out = out} {out″ = out″} {more = more} {ks = ks} (calls.call {line = line} {text = text} {rest = rest} r l′ out′ c cs) ds =
@@ -58,26 +71,27 @@ cut-once false chunk line held at r line′ e c = part r line′ c e (none line�
 
 -- A pass so far.
 pub record Passing
-    (chunk old : List ℕ) (held₀ : ℕ) (b₀ : Bench) (l₀ : Lent) (out₀ line : List ℕ) (held at : ℕ) (b : Bench) (l : Lent) (out : List ℕ) : Type 0 where
+    (chunk old : List ℕ) (held₀ : ℕ) (b₀ : Bench) (l₀ : Lent) (out₀ line : List ℕ) (held at : ℕ) (b : Bench) (l : Lent) (out : List ℕ) (status : ℕ) : Type 0 where
   pub handed : List (List ℕ)
   pub text : List ℕ
   pub cut : Cuts chunk old held₀ 0 handed line held at
   pub calls : Calls b₀ l₀ out₀ handed text b l out
   pub within : held ≤ length line
+  pub not-ended : status ≢ atEnd
 
 pub passing-none : (chunk line : List ℕ) (held : ℕ) (b : Bench) (l : Lent) (out : List ℕ) → held ≤ length line
-    → Passing chunk line held b l out line held 0 b l out
-passing-none chunk line held b l out h = record { handed = []; text = []; cut = none line held 0; calls = calls.none b l out; within = h }
+    → Passing chunk line held b l out line held 0 b l out goesOn
+passing-none chunk line held b l out h = record { handed = []; text = []; cut = none line held 0; calls = calls.none b l out; within = h; not-ended = λ e. omega (arith, e) }
 
 fewer : (w : Bool) (k n : ℕ) → k ≤ n → cond w 0 k ≤ n
 fewer true k n h = omega arith
 fewer false k n h = h
 
 module _ (chunk old : List ℕ) (held₀ : ℕ) (b₀ : Bench) (l₀ : Lent) (out₀ : List ℕ) where
-  pub passing-more : (line : List ℕ) (held at : ℕ) (b : Bench) (l : Lent) (out : List ℕ) (c : Cut) (line′ : List ℕ) (p : Pass) (l′ : Lent) (out′ : List ℕ)
-      → Passing chunk old held₀ b₀ l₀ out₀ line held at b l out → CutOff (drop at chunk) at line held c line′
-      → Plays (c .whole) (c .held) line′ b l out p l′ out′ → Passing chunk old held₀ b₀ l₀ out₀ line′ (p .held) (c .next) (p .bench) l′ out′
-  passing-more line held at b l out c line′ p l′ out′ s k q =
+  pub passing-more : (line : List ℕ) (held at : ℕ) (b : Bench) (l : Lent) (out : List ℕ) (status : ℕ) (c : Cut) (line′ : List ℕ) (p : Pass) (l′ : Lent) (out′ : List ℕ)
+      → Passing chunk old held₀ b₀ l₀ out₀ line held at b l out status → CutOff (drop at chunk) at line held c line′
+      → Plays (c .whole) (c .held) line′ b l out p l′ out′ → Passing chunk old held₀ b₀ l₀ out₀ line′ (p .held) (c .next) (p .bench) l′ out′ (p .status)
+  passing-more line held at b l out status c line′ p l′ out′ s k q =
       let one = cut-once (c .whole) chunk line held at c line′ refl k in
       let few = fewer (c .whole) (c .held) (length line′) (cut-within (drop at chunk) line held at c line′ (s .within) k) in
       record {
@@ -86,12 +100,13 @@ module _ (chunk old : List ℕ) (held₀ : ℕ) (b₀ : Bench) (l₀ : Lent) (ou
         cut = cuts-both (s .cut) (subst (λ (j : ℕ). Cuts chunk line held at (cond (c .whole) (take (c .held) line′ ∷ []) []) line′ j (c .next)) (sym (q .held-is)) one);
         calls = calls-both (s .calls) (q .calls);
         within = subst (λ (j : ℕ). j ≤ length line′) (sym (q .held-is)) few;
+        not-ended = q .not-ended;
       }
 
-  module _ (p : Pass) (line : List ℕ) (at : ℕ) (l : Lent) (out : List ℕ) (s : Passing chunk old held₀ b₀ l₀ out₀ line (p .held) at (p .bench) l out) where
+  module _ (p : Pass) (line : List ℕ) (at : ℕ) (l : Lent) (out : List ℕ) (s : Passing chunk old held₀ b₀ l₀ out₀ line (p .held) at (p .bench) l out (p .status)) where
     passed-if : (p .status ≡ goesOn → length chunk ≤ at) → Passed chunk old held₀ b₀ l₀ out₀ p line l out
     passed-if e =
-        record { handed = s .handed; text = s .text; at = at; cut = s .cut; calls = s .calls; to-the-end = e; within = s .within }
+        record { handed = s .handed; text = s .text; at = at; cut = s .cut; calls = s .calls; to-the-end = e; not-ended = s .not-ended; within = s .within }
 
     pub passed-stopped : (p .status ≡ 0 → ⊥) → Passed chunk old held₀ b₀ l₀ out₀ p line l out
     passed-stopped n = passed-if (λ e. absurd (n e))
@@ -106,23 +121,19 @@ end-comes status e = rw e
 pub end-stays : (status : ℕ) → (status ≡ goesOn → ⊥) → status ≡ cond (eqb status goesOn) atEnd status
 end-stays status h = rw (ne-eqb status goesOn h)
 
--- what the program leaves with: reading failed, writing did, or neither
-pub left-reading : (status : ℕ) → status ≡ cannotRead → failedStatus ≡ leftWith status
+-- what the program leaves with: 0 at the end of the input, else 1
+pub left-well : (status : ℕ) → status ≡ atEnd → 0 ≡ leftWith status
 unfolding leftWith
-left-reading status e = rw e
+left-well status e = rw e
 
-pub left-writing : (status : ℕ) → status ≡ cannotWrite → failedStatus ≡ leftWith status
+pub left-failed : (status : ℕ) → (status ≡ atEnd → ⊥) → failedStatus ≡ leftWith status
 unfolding leftWith
-left-writing status e = rw e
-
-pub left-well : (status : ℕ) → (status ≡ cannotRead → ⊥) → (status ≡ cannotWrite → ⊥) → 0 ≡ leftWith status
-unfolding leftWith
-left-well status r w = rw (ne-eqb status cannotRead r, ne-eqb status cannotWrite w)
+left-failed status h = rw (ne-eqb status atEnd h)
 
 pub left-low : (status left : ℕ) → left ≡ leftWith status → left ≤ failedStatus
 unfolding leftWith
-left-low status left e = subst (λ (x : ℕ). x ≤ failedStatus) (sym e) (low (eqb status cannotRead || eqb status cannotWrite))
+left-low status left e = subst (λ (x : ℕ). x ≤ failedStatus) (sym e) (low (eqb status atEnd))
   where
-    low : (a : Bool) → cond a failedStatus 0 ≤ failedStatus
+    low : (a : Bool) → cond a 0 failedStatus ≤ failedStatus
     low true = omega arith
     low false = omega arith

@@ -1,7 +1,10 @@
 use borrow.Author.Needs.{needs}
+use Rattle.bench_io.proofs.Laws.PassLaws.{left-well, left-failed}
 use Rattle.bench_io.proofs.leave.Statement.{statement}
 use Rattle.bench_io.proofs.leave.Tie as tie
-use Rattle.bench_io.proofs.Laws.PassLaws.{left-reading, left-writing, left-well}
+
+returns : tie.Need-returns
+returns c = search (needs, left-well)
 
 slice-aggregate-write-all : tie.Need-slice-aggregate-write-all
 slice-aggregate-write-all c = search needs
@@ -9,8 +12,8 @@ slice-aggregate-write-all c = search needs
 write-all-requires : tie.Need-write-all-requires
 write-all-requires c κs = search needs
 
-returns : tie.Need-returns
-returns c = search (needs, left-reading)
+returns-2 : tie.Need-returns-2
+returns-2 c = search (needs, left-failed)
 
 slice-aggregate-write-all-2 : tie.Need-slice-aggregate-write-all-2
 slice-aggregate-write-all-2 c = search needs
@@ -18,20 +21,17 @@ slice-aggregate-write-all-2 c = search needs
 write-all-requires-2 : tie.Need-write-all-requires-2
 write-all-requires-2 c κs = search needs
 
-returns-2 : tie.Need-returns-2
-returns-2 c = search (needs, left-writing)
-
 returns-3 : tie.Need-returns-3
-returns-3 c = search (needs, left-well)
+returns-3 c = search (needs, left-failed)
 
 pub leave-spec : {M : Type 1} → statement M
 leave-spec =
     tie.close
     (tie.spec
+    returns
     slice-aggregate-write-all
     write-all-requires
-    returns
+    returns-2
     slice-aggregate-write-all-2
     write-all-requires-2
-    returns-2
     returns-3)

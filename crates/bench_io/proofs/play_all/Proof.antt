@@ -1,14 +1,15 @@
 use mathlib.Core.Path.{_≡_, refl, _∙_}
-use Prim.Native.Nat.{_≤_}
-use native.Mathlib.Omega.{arith}
 use borrow.Author.Needs.{needs}
 use lib.ListN.{length}
+use Rattle.bench_rules.specs.Turning.{lent}
+use Rattle.bench_io.proofs.Laws.ProgramLaws.{Running, running-none, running-more, running-ran}
 use Rattle.bench_io.proofs.play_all.Statement.{statement}
 use Rattle.bench_io.proofs.play_all.Tie as tie
 
 abbrev Inv-loop : tie.InvT-loop
 Inv-loop chunk₀ line₀ images₀ kept₀ numbers₀ bytes₀ out₀ p₀ turns₀ chunk line images kept numbers bytes out p turns =
-    (p .held ≤ length line₀) × (length chunk ≡ length chunk₀) × (length line ≡ length line₀) × (length images ≡ length images₀) × (length kept ≡ length kept₀)
+    Running line₀ (lent images₀ kept₀ numbers₀ bytes₀) out₀ (p₀ .bench) line p (lent images kept numbers bytes) out turns
+    × (length chunk ≡ length chunk₀) × (length line ≡ length line₀) × (length images ≡ length images₀) × (length kept ≡ length kept₀)
     × (length numbers ≡ length numbers₀) × (length bytes ≡ length bytes₀) × (length out ≡ length out₀)
 
 abbrev μ-loop : tie.MeasureT-loop
@@ -18,24 +19,28 @@ no-set-requires : tie.Need-no-set-requires Inv-loop μ-loop
 no-set-requires c κs = search needs
 
 loop-holds : tie.Need-loop-holds Inv-loop μ-loop
-loop-holds c = (omega arith, refl, refl, refl, refl, refl, refl, refl)
+loop-holds c = (running-none _ _ _ _ _, refl, refl, refl, refl, refl, refl, refl)
 
 turn-requires : tie.Need-turn-requires Inv-loop μ-loop
-turn-requires c κs = let v = c .before .before .before .before .before .before .before .before .loop .inv in omega (arith, v .0, v .2)
+turn-requires c κs =
+    let v = c .before .before .before .before .before .before .before .before .loop .inv .0 in
+    v .within (v .on (c .before .before .before .before .before .before .before .loop-test .taken))
 
 turns-left-requires : tie.Need-turns-left-requires Inv-loop μ-loop
 turns-left-requires c κs = c .before .before .before .before .before .before .before .before .before .before .before .before .before .before .before .before .before .before .before .before
     .before .before .loop-test .taken
 
 loop-less : tie.Need-loop-less Inv-loop μ-loop
-loop-less c = c .turns-left .ensures
+loop-less c = c .turns-left .ensures .0
 
 loop-again : tie.Need-loop-again Inv-loop μ-loop
 loop-again c =
     let v = c .before .before .before .before .before .before .before .before .before .before .before .before .before .before .before .before .before .before .before .before .before .before
     .before .before .loop .inv in
+    let h = c .before .before .before .before .before .before .before .before .before .before .before .before .before .before .before .before .before .before .before .before
+    .before .before .before .loop-test .taken in
     let t = c .before .before .before .before .before .before .before .before .before .before .before .before .before .before .before .turn in (
-      omega (arith, t .ensures, v .2),
+      running-more _ _ _ _ _ _ _ _ _ _ _ _ _ _ _ (v .0) h (t .ensures) (c .turns-left .ensures .1),
       t .kept .1 .0 ∙ v .1,
       t .kept .1 .1 .0 ∙ v .2,
       t .kept .1 .1 .1 .0 ∙ v .3,
@@ -67,7 +72,7 @@ same-length-7 : tie.Need-same-length-7 Inv-loop μ-loop
 same-length-7 c = c .before .loop .inv .7
 
 returns : tie.Need-returns Inv-loop μ-loop
-returns c = search needs
+returns c = running-ran _ _ _ _ _ _ _ _ _ (c .before .before .no-set .ensures .0) (c .before .before .no-set .ensures .1) (c .before .loop .inv .0)
 
 pub play-all-spec : {M : Type 1} → statement M
 play-all-spec =

@@ -11,7 +11,7 @@ use Rattle.bench_io.proofs.play_chunk.Tie as tie
 
 abbrev Inv-loop : tie.InvT-loop
 Inv-loop held chunk line₀ images₀ kept₀ numbers₀ bytes₀ out₀ p₀ at₀ line images kept numbers bytes out p at =
-    Passing chunk line₀ held (p₀ .bench) (lent images₀ kept₀ numbers₀ bytes₀) out₀ line (p .held) at (p .bench) (lent images kept numbers bytes) out
+    Passing chunk line₀ held (p₀ .bench) (lent images₀ kept₀ numbers₀ bytes₀) out₀ line (p .held) at (p .bench) (lent images kept numbers bytes) out (p .status)
     × (length line ≡ length line₀) × (length images ≡ length images₀) × (length kept ≡ length kept₀) × (length numbers ≡ length numbers₀)
     × (length bytes ≡ length bytes₀) × (length out ≡ length out₀)
 
@@ -56,7 +56,7 @@ same-length-6 c = c .before .before .before .before .before .before .before .bef
 returns : tie.Need-returns Inv-loop μ-loop
 returns c =
     passed-stopped _ _ _ _ _ _ _ _ _ _ _
-    (passing-more _ _ _ _ _ _ _ _ _ _ _ _ _ _ _ _ _ (c .before .before .before .before .before .before .before .before .before .before .before .before .before .before .before .before
+    (passing-more _ _ _ _ _ _ _ _ _ _ _ _ _ _ _ _ _ _ (c .before .before .before .before .before .before .before .before .before .before .before .before .before .before .before .before
     .before .before .before .before .before .before .before .before .before .loop .inv .0)
     (c .before .before .before .before .before .before .before .before .before .before .before .before .before .before .before .before .before .before .before .before .before .before
     .cut-line .ensures) (c .before .before .before .before .before .before .before .before .before .before .before .before .play .ensures))
@@ -80,7 +80,7 @@ loop-again c =
     let k = c .before .before .before .before .before .before .before .before .before .before .before .before .before .before .before .before .before .before .before .before .before .before
     .cut-line in
     let p = c .before .before .before .before .before .before .before .before .before .before .before .before .play in (
-      passing-more _ _ _ _ _ _ _ _ _ _ _ _ _ _ _ _ _ (v .0) (k .ensures) (p .ensures),
+      passing-more _ _ _ _ _ _ _ _ _ _ _ _ _ _ _ _ _ _ (v .0) (k .ensures) (p .ensures),
       k .kept .1 .1 .0 ∙ v .1,
       p .kept .1 .1 .1 .1 .0 ∙ v .2,
       p .kept .1 .1 .1 .1 .1 .0 ∙ v .3,

@@ -1,5 +1,6 @@
-use native.Mathlib.Omega.{arith}
+use mathlib.Core.Path.{refl}
 use borrow.Author.Needs.{needs}
+use Rattle.bench_io.specs.Workers.{came, ended, failed}
 use Rattle.bench_io.proofs.turn.Statement.{statement}
 use Rattle.bench_io.proofs.turn.Tie as tie
 
@@ -37,13 +38,13 @@ same-length-7 : tie.Need-same-length-7
 same-length-7 c = search needs
 
 returns : tie.Need-returns
-returns c = omega (arith, c .before .before .before .before .before .before .before .before .before .before .play-last .ensures .held-is)
+returns c = ended (c .before .before .before .before .before .before .before .before .before .before .play-last .ensures)
 
 same-length-8 : tie.Need-same-length-8
 same-length-8 c = search needs
 
 returns-2 : tie.Need-returns-2
-returns-2 c = search needs
+returns-2 c = failed (c .if2 .taken) refl
 
 slice-reshare-prefix-play-chunk : tie.Need-slice-reshare-prefix-play-chunk
 slice-reshare-prefix-play-chunk c = search needs
@@ -77,7 +78,10 @@ same-length-15 : tie.Need-same-length-15
 same-length-15 c = search needs
 
 returns-3 : tie.Need-returns-3
-returns-3 c = search needs
+returns-3 c =
+    came (c .before .before .before .before .before .before .before .before .before .before .before .before .before .before .before .before .before .before .before .before
+    .before .before .before .count .result)
+    (c .before .before .before .before .before .before .before .before .before .before .before .before .play-chunk .ensures)
 
 pub turn-spec : {M : Type 1} → statement M
 turn-spec =

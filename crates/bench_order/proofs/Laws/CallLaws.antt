@@ -10,17 +10,18 @@ use Rattle.bench_print.proofs.Laws.WrittenLaws.{written-front}
 use Rattle.bench_rules.specs.Play.{Stage, waiting, eventsOf, Turn, turn}
 use Rattle.bench_rules.specs.Turning.{Lent}
 use Rattle.bench_state.specs.declared.Bench.{Bench}
-use Rattle.bench_player.specs.Lining.{stageOf, refusalOf, heard, Called}
+use Rattle.bench_player.specs.Lining.{stageOf, benchRefused, refusalOf, heard, Called}
 use Rattle.register.specs.Runs.{Event}
 use Rattle.bench_player.specs.declared.LinePlayed.{LinePlayed}
 use Rattle.bench_order.specs.Script.{stays, follows, playsLines, script}
 use Rattle.byte_lists.specs.Lists.{put}
 use Rattle.bench_player.specs.Calls.{Calls, none, call}
 use Rattle.bench_parse.specs.Lines.{heldLength}
+use Rattle.bench_limits.specs.Limits.{keptLength, imagesLength, numbersLength, bytesLength, textLength}
 use Rattle.bench_lines.specs.Cutting.{lines}
 use Rattle.bench_lines.proofs.Laws.CuttingLaws.{cutting-gives-the-lines}
 use Rattle.bench_player.proofs.Laws.HeldLaws.{reads-held}
-use Rattle.bench_order.specs.CallsTheorem.{CallsAreTheScript, CutCallsAreTheScript}
+use Rattle.bench_order.specs.CallsTheorem.{CallsAreTheScript, CutCallsAreTheScript, ProgramPlaysTheScript}
 
 -- one call is one turn, and prints its text
 module _ (b : Bench) (l : Lent) (line out : List ℕ) (r : LinePlayed) (l′ : Lent) (out′ : List ℕ) (t : refusalOf b l out ≡ 0)
@@ -86,3 +87,17 @@ cut-calls-are-the-script line chunks handed b b′ l l′ out out′ text n h t 
     let e : playsLines waiting handed ≡ playsLines waiting (lines (flatten chunks))
     = ap (playsLines waiting) (cutting-gives-the-lines line chunks handed n h) ∙ held-plays waiting (lines (flatten chunks)) in
     (subst (λ (u : Turn). stageOf b′ l′ (eventsOf (u .stage)) ≡ u .stage) e (left .stage-is), left .text-is ∙ ap (λ (u : Turn). u .printed) e)
+
+-- what a bench without a set refuses of buffers with the right lengths: nothing
+not-refused : (b : Bench) (l : Lent) (out : List ℕ) → length (l .images) ≡ imagesLength → length (l .kept) ≡ keptLength
+    → length (l .numbers) ≡ numbersLength → length (l .bytes) ≡ bytesLength → length out ≡ textLength
+    → benchRefused b imagesLength keptLength numbersLength bytesLength textLength ≡ 0 → refusalOf b l out ≡ 0
+not-refused b l out i k n y o e = rw (i, k, n, y, o) e
+
+pub program-plays-the-script : ProgramPlaysTheScript
+program-plays-the-script line l l′ out out′ long i k n y o r =
+    let all = r .all-lines refl in
+    let played =
+    cut-calls-are-the-script line (all .0) (r .handed) (r .first) (r .last) l l′ out out′ (r .text) long (all .1)
+    (not-refused (r .first) l out i k n y o (r .right)) (r .no-set l []) (r .calls) in
+    (all .0, played .0, played .1)
