@@ -38,7 +38,7 @@ unfoldable pub leftWith : ℕ → ℕ
 leftWith status = cond (eqb status atEnd) 0 failedStatus
 
 -- The held bytes were played if they are a line, and then the next line holds none yet.
-pub record Plays (ended : Bool) (held : ℕ) (line : List ℕ) (b : Bench) (l : Lent) (out : List ℕ) (r : Pass) (l′ : Lent) (out′ : List ℕ) : Type 0 where
+pub record HeldPlayed (ended : Bool) (held : ℕ) (line : List ℕ) (b : Bench) (l : Lent) (out : List ℕ) (r : Pass) (l′ : Lent) (out′ : List ℕ) : Type 0 where
   pub text : List ℕ
   pub calls : Calls b l out (cond ended (take held line ∷ []) []) text (r .bench) l′ out′
   pub held-is : r .held ≡ cond ended 0 held
@@ -46,7 +46,7 @@ pub record Plays (ended : Bool) (held : ℕ) (line : List ℕ) (b : Bench) (l : 
 
 -- A pass over a chunk: cut by `cut_line` from its start on, and each line that is handed on was played, in order; if the program goes on, to
 -- the chunk's end.
-pub record Passed
+pub record ChunkPlayed
     (chunk line : List ℕ) (held : ℕ) (b : Bench) (l : Lent) (out : List ℕ) (r : Pass) (line′ : List ℕ) (l′ : Lent) (out′ : List ℕ) : Type 0 where
   pub handed : List (List ℕ)
   pub text : List ℕ
@@ -67,17 +67,17 @@ pub record PlayedLast (line : List ℕ) (held : ℕ) (b : Bench) (l : Lent) (out
 -- One turn: `read` left some bytes at the front of the chunk, and they were played; or the input is at its end, and the last line was played; or
 -- reading failed, and nothing changed.
 pub data TurnMade (line : List ℕ) (held : ℕ) (b : Bench) (l : Lent) (out : List ℕ) (r : Pass) (chunk′ : List ℕ) : List ℕ → Lent → List ℕ → Type 0 where
-  came : (n : ℕ) {line′ : List ℕ} {l′ : Lent} {out′ : List ℕ} → Passed (take n chunk′) line held b l out r line′ l′ out′
+  came : (n : ℕ) {line′ : List ℕ} {l′ : Lent} {out′ : List ℕ} → ChunkPlayed (take n chunk′) line held b l out r line′ l′ out′
       → TurnMade line held b l out r chunk′ line′ l′ out′
   ended : {l′ : Lent} {out′ : List ℕ} → PlayedLast line held b l out r l′ out′ → TurnMade line held b l out r chunk′ line l′ out′
   failed : r .status ≡ cannotRead → r .bench ≡ b → TurnMade line held b l out r chunk′ line l out
 
 -- Whole chunks, one after the other, each cut from its start to its end: what is handed on so far.
-pub data Through : List ℕ → ℕ → List (List ℕ) → List (List ℕ) → List ℕ → ℕ → Type 0 where
-  none : (line : List ℕ) (held : ℕ) → Through line held [] [] line held
+pub data ChunksCut : List ℕ → ℕ → List (List ℕ) → List (List ℕ) → List ℕ → ℕ → Type 0 where
+  none : (line : List ℕ) (held : ℕ) → ChunksCut line held [] [] line held
   one : {line line′ line″ : List ℕ} {held held′ held″ at : ℕ} {bytes : List ℕ} {chunks first rest : List (List ℕ)}
-      → Cuts bytes line held 0 first line′ held′ at → length bytes ≤ at → Through line′ held′ chunks rest line″ held″
-      → Through line held (bytes ∷ chunks) (first ++ rest) line″ held″
+      → Cuts bytes line held 0 first line′ held′ at → length bytes ≤ at → ChunksCut line′ held′ chunks rest line″ held″
+      → ChunksCut line held (bytes ∷ chunks) (first ++ rest) line″ held″
 
 -- All turns: from a bench without a set on, the lines handed on were played, in order; and where the program stands at the end of the input, they
 -- are the lines of all chunks that came.

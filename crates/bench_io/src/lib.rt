@@ -5,7 +5,8 @@ ghost use mathlib.Core.Bool.{cond};
 ghost use Prim.Native.Nat.{_≤_, _<_};
 ghost use lib.Dec.{eqb};
 ghost use lib.ListN.{length};
-ghost use Rattle.bench_io.specs.Workers.{goesOn, atEnd, cannotRead, cannotWrite, failedStatus, leftWith, Plays, Passed, PlayedLast, TurnMade, Ran};
+ghost use Rattle.bench_io.specs.Workers.{goesOn, atEnd, cannotRead, cannotWrite, failedStatus, leftWith};
+ghost use Rattle.bench_io.specs.Workers.{HeldPlayed, ChunkPlayed, PlayedLast, TurnMade, Ran};
 ghost use Rattle.bench_limits.specs.Limits.{keptLength, imagesLength, numbersLength, bytesLength};
 ghost use Rattle.bench_rules.specs.Turning.{lent};
 use bench_limits::BYTES_LENGTH;
@@ -86,7 +87,7 @@ fn play(
     ensures { λ r. ⌜ (
         let l = lent (now (images .entry)) (now (kept .entry)) (now (numbers .entry)) (now (bytes .entry)) in
         let l′ = lent (now (images .exit)) (now (kept .exit)) (now (numbers .exit)) (now (bytes .exit)) in
-        Plays ended held (now (line .entry)) b l (now (out .entry)) r l′ (now (out .exit))) ⌝ }
+        HeldPlayed ended held (now (line .entry)) b l (now (out .entry)) r l′ (now (out .exit))) ⌝ }
 {
     if ended {} else {
         return Pass {
@@ -122,7 +123,7 @@ fn play_chunk(
     ensures { λ r. ⌜ (
         let l = lent (now (images .entry)) (now (kept .entry)) (now (numbers .entry)) (now (bytes .entry)) in
         let l′ = lent (now (images .exit)) (now (kept .exit)) (now (numbers .exit)) (now (bytes .exit)) in
-        Passed (now (chunk .entry)) (now (line .entry)) held b l (now (out .entry)) r (now (line .exit)) l′ (now (out .exit))) ⌝ }
+        ChunkPlayed (now (chunk .entry)) (now (line .entry)) held b l (now (out .entry)) r (now (line .exit)) l′ (now (out .exit))) ⌝ }
 {
     let mut p = Pass {
         bench: b,

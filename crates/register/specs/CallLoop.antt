@@ -26,7 +26,7 @@ use Rattle.register.specs.Runs.{plain, message, reply, World, Event, Mov
 use Rattle.register.specs.Driver.{driven, heldBlock, failed}
 
 -- buffers of the lengths that the settings ask for, with any bytes in them
-pub record Fits (s : Settings) (blocks stripe : List ℕ) : Type 0 where
+pub record BufferLengths (s : Settings) (blocks stripe : List ℕ) : Type 0 where
   pub blocks-long : length blocks ≡ s .n * s .size
   pub stripe-long : length stripe ≡ s .m * s .size
 
@@ -38,7 +38,7 @@ pub record Started (s : Settings) (w : World) : Type 0 where
   pub images-are : (b : ℕ) → b < s .n → w .images b ≡ freshAfter s b (before b)
   pub all-up : (b : ℕ) → b < s .n → w .up b ≡ true
   pub all-idle : (c : ℕ) → c ≤ lastCoordinator → w .coordinators c .state ≡ idleWith (geometryOf s) (record { coordinator = c; last = 0 })
-  pub all-fit : (c : ℕ) → c ≤ lastCoordinator → Fits s (w .coordinators c .blocks) (w .coordinators c .stripe)
+  pub all-fit : (c : ℕ) → c ≤ lastCoordinator → BufferLengths s (w .coordinators c .blocks) (w .coordinators c .stripe)
   pub none-sent : w .sent ≡ []
 
 -- What the contracts of the coordinator's routines ensure of the answer a and of the buffers lent, at a coordinator with its buffers.
@@ -67,46 +67,46 @@ CrashEnsures s k a =
 
 -- What calls may have led to: a world, and what was seen so far. Refused calls are among them, and their contracts say that nothing changed.
 -- What was sent may be carried any number of times, in any order, or never.
-pub data Calls (s : Settings) : Moved s → Type 0 where
-  begin : (w : World) → Started s w → Calls s (unmoved s w)
+pub data RoutineCalls (s : Settings) : Moved s → Type 0 where
+  begin : (w : World) → Started s w → RoutineCalls s (unmoved s w)
   -- `coordinator::start_write`; no start sends blocks
-  start-write : (r : Moved s) → Calls s r → (c : ℕ) → c ≤ lastCoordinator
+  start-write : (r : Moved s) → RoutineCalls s r → (c : ℕ) → c ≤ lastCoordinator
       → (reading : ℕ) (content : List ℕ) → Bytes content
       → (a : Answer) (stripe : List ℕ) → WriteEnsures s (r .world .coordinators c) a reading content stripe
-      → Calls s (joined s r (driven s (r .world) c a (r .world .coordinators c .blocks) stripe []))
+      → RoutineCalls s (joined s r (driven s (r .world) c a (r .world .coordinators c .blocks) stripe []))
   -- `coordinator::start_read`
-  start-read : (r : Moved s) → Calls s r → (c : ℕ) → c ≤ lastCoordinator
+  start-read : (r : Moved s) → RoutineCalls s r → (c : ℕ) → c ≤ lastCoordinator
       → (reading first : ℕ)
       → (a : Answer) → ReadEnsures s (r .world .coordinators c) a reading first
-      → Calls s (joined s r (driven s (r .world) c a (r .world .coordinators c .blocks) (r .world .coordinators c .stripe) []))
+      → RoutineCalls s (joined s r (driven s (r .world) c a (r .world .coordinators c .blocks) (r .world .coordinators c .stripe) []))
   -- `coordinator::take_reply`: a reply goes to the coordinator in its time. Beside one that holds no block anything may be lent, and any
   -- buffer to send from: the contract says what is refused.
-  take-reply : (r : Moved s) → Calls s r → (x : Reply) (block : List ℕ) → reply x block ∈ r .world .sent
+  take-reply : (r : Moved s) → RoutineCalls s r → (x : Reply) (block : List ℕ) → reply x block ∈ r .world .sent
       → (lent : List ℕ)
       → (x .held ≡ true → lent ≡ block)
       → (coded : List ℕ) (a : Answer) (blocks′ stripe′ coded′ : List ℕ)
       → TakeEnsures s (r .world .coordinators (coordinatorOf (x .time))) a x lent coded blocks′ stripe′ coded′
-      → Calls s (joined s r (driven s (r .world) (coordinatorOf (x .time)) a blocks′ stripe′ coded′))
+      → RoutineCalls s (joined s r (driven s (r .world) (coordinatorOf (x .time)) a blocks′ stripe′ coded′))
   -- `coordinator::crash`
-  crash : (r : Moved s) → Calls s r → (c : ℕ) → c ≤ lastCoordinator
+  crash : (r : Moved s) → RoutineCalls s r → (c : ℕ) → c ≤ lastCoordinator
       → (a : Answer) → CrashEnsures s (r .world .coordinators c) a
-      → Calls s (joined s r (driven s (r .world) c a (r .world .coordinators c .blocks) (r .world .coordinators c .stripe) []))
+      → RoutineCalls s (joined s r (driven s (r .world) c a (r .world .coordinators c .blocks) (r .world .coordinators c .stripe) []))
   -- `brick::receive`: a message goes to its brick if that is up. Beside one that is no Write anything may be lent, and any buffer for the
   -- reply: the contract says what is refused.
-  receive : (r : Moved s) → Calls s r → (b : ℕ) (msg : Message) (block : List ℕ) → message b msg block ∈ r .world .sent
+  receive : (r : Moved s) → RoutineCalls s r → (b : ℕ) (msg : Message) (block : List ℕ) → message b msg block ∈ r .world .sent
       → r .world .up b ≡ true
       → (lent out : List ℕ)
       → (msg .kind ≡ writeKind → lent ≡ block)
       → (g : Given) (image′ out′ : List ℕ)
       → outcomeWith g image′ out′ ≡ outcome s b (r .world .images b) msg lent out
-      → Calls s (joined s r (received s (r .world) b (outcomeWith g image′ (heldBlock s g out′))))
+      → RoutineCalls s (joined s r (received s (r .world) b (outcomeWith g image′ (heldBlock s g out′))))
   -- a brick goes down, or comes up with its image as saved
-  goes-down : (r : Moved s) → Calls s r → (b : ℕ) → Calls s (joined s r (standing s (r .world) b false))
-  comes-up : (r : Moved s) → Calls s r → (b : ℕ) → Calls s (joined s r (standing s (r .world) b true))
+  goes-down : (r : Moved s) → RoutineCalls s r → (b : ℕ) → RoutineCalls s (joined s r (standing s (r .world) b false))
+  comes-up : (r : Moved s) → RoutineCalls s r → (b : ℕ) → RoutineCalls s (joined s r (standing s (r .world) b true))
   -- power fails at a coordinator, where an operation runs or none
-  power-fails : (r : Moved s) → Calls s r → (c : ℕ) → c ≤ lastCoordinator
-      → (blocks stripe : List ℕ) → Fits s blocks stripe
-      → Calls s (joined s r (failed s (r .world) c blocks stripe))
+  power-fails : (r : Moved s) → RoutineCalls s r → (c : ℕ) → c ≤ lastCoordinator
+      → (blocks stripe : List ℕ) → BufferLengths s blocks stripe
+      → RoutineCalls s (joined s r (failed s (r .world) c blocks stripe))
 
 -- the same images and bricks up, below n, the same 16 coordinators, and the same sent
 pub record Agrees (s : Settings) (w v : World) : Type 0 where
@@ -118,9 +118,9 @@ pub record Agrees (s : Settings) (w v : World) : Type 0 where
 -- Whoever makes such calls has made a run of some events: what is seen is what is seen of that run, and the world is the run's.
 abbrev pub WhoeverCallsMakesARun : Type 0
 WhoeverCallsMakesARun =
-    (s : Settings) → inRange s ≡ true → (r : Moved s) → Calls s r
+    (s : Settings) → inRange s ≡ true → (r : Moved s) → RoutineCalls s r
     → (events : List Event) × (r .seen ≡ run s events .seen) × Agrees s (r .world) (run s events .world)
 
 -- Demand 3 of what is seen by whoever makes such calls.
 abbrev pub WhoeverCallsHasOneOrder : Type 0
-WhoeverCallsHasOneOrder = (s : Settings) → inRange s ≡ true → (r : Moved s) → Calls s r → OneOrder (plain s) (r .seen)
+WhoeverCallsHasOneOrder = (s : Settings) → inRange s ≡ true → (r : Moved s) → RoutineCalls s r → OneOrder (plain s) (r .seen)

@@ -31,18 +31,18 @@ itemNumber s w (reply r block) =
     (takeStep (s .n) (s .m) (s .size) (w .coordinators (coordinatorOf (r .time))) r block (s .n * s .size))
 
 -- the same by place; 12 for "a number not sent yet"
-unfoldable pub placeNumber : Settings → World → List Item → ℕ → ℕ
-placeNumber s w [] k = badLine
-placeNumber s w (i ∷ is) zero = itemNumber s w i
-placeNumber s w (i ∷ is) (suc k) = placeNumber s w is k
+unfoldable pub arrivalNumber : Settings → World → List Item → ℕ → ℕ
+arrivalNumber s w [] k = badLine
+arrivalNumber s w (i ∷ is) zero = itemNumber s w i
+arrivalNumber s w (i ∷ is) (suc k) = arrivalNumber s w is k
 
--- The number with which an event is refused in a world, 0 for none. A start whose content is no bytes is none that reads; "a brick number
--- not below n" is refused also where a brick goes down or comes up.
+-- The number with which an event is refused in a world, 0 for none. Content that is no list of bytes counts as 12, what does not read; "a
+-- brick number not below n" is refused also where a brick goes down or comes up.
 unfoldable pub eventNumber : Settings → World → Event → ℕ
 eventNumber s w (startWrite c reading content) =
     cond (areBytes content) (routineNumber w c (writeStep (s .n) (s .m) (s .size) (w .coordinators c) reading content)) badLine
 eventNumber s w (startRead c reading first) = routineNumber w c (readStep (s .n) (s .m) (s .size) (w .coordinators c) reading first)
-eventNumber s w (arrives k) = placeNumber s w (w .sent) k
+eventNumber s w (arrives k) = arrivalNumber s w (w .sent) k
 eventNumber s w (crashes c left) = routineNumber w c (crashStep (s .n) (s .m) (s .size) (w .coordinators c))
 eventNumber s w (goesDown b) = refuseUnless (ltb b (s .n)) badNumber
 eventNumber s w (comesUp b) = refuseUnless (ltb b (s .n)) badNumber

@@ -17,18 +17,18 @@ use Rattle.bench_player.specs.Lining.{Called}
 use Rattle.bench_player.specs.declared.LinePlayed.{LinePlayed}
 use Rattle.bench_rules.specs.Turning.{Lent}
 use Rattle.bench_state.specs.declared.Bench.{Bench}
-use Rattle.bench_io.specs.Workers.{goesOn, atEnd, cannotWrite, failedStatus, leftWith, Plays, Passed, PlayedLast}
+use Rattle.bench_io.specs.Workers.{goesOn, atEnd, cannotWrite, failedStatus, leftWith, HeldPlayed, ChunkPlayed, PlayedLast}
 use Rattle.bench_io.specs.declared.Pass.{Pass}
 
 -- bytes that are no line yet, and a line
 pub plays-not : (ended : Bool) (held : ℕ) (line : List ℕ) (b : Bench) (l : Lent) (out : List ℕ) (status : ℕ) → status ≢ atEnd → ended ≡ false
-    → Plays ended held line b l out (record { bench = b; held = held; status = status }) l out
+    → HeldPlayed ended held line b l out (record { bench = b; held = held; status = status }) l out
 plays-not true held line b l out status n e = absurd (true≢false e)
 plays-not false held line b l out status n e = record { text = []; calls = calls.none b l out; held-is = refl; not-ended = n }
 
 pub plays-line : (ended : Bool) (held : ℕ) (line : List ℕ) (b : Bench) (l : Lent) (out : List ℕ) (o : LinePlayed) (l′ : Lent) (out′ : List ℕ) (status : ℕ)
     → status ≢ atEnd → ended ≡ true → Called b l (take held line) out o l′ out′
-    → Plays ended held line b l out (record { bench = o .bench; held = 0; status = status }) l′ out′
+    → HeldPlayed ended held line b l out (record { bench = o .bench; held = 0; status = status }) l′ out′
 plays-line true held line b l out o l′ out′ status n e c =
     record { text = take (o .used) out′ ++ []; calls = calls.call o l′ out′ c (calls.none (o .bench) l′ out′); held-is = refl; not-ended = n }
 plays-line false held line b l out o l′ out′ status n e c = absurd (true≢false (sym e))
@@ -46,7 +46,7 @@ ended-not-on status ended e q = go (eqb status goesOn) refl e
     go false h f = eqb-false status goesOn h (sym f ∙ q)
 
 pub last-played : (held : ℕ) (line : List ℕ) (b : Bench) (l : Lent) (out : List ℕ) (p : Pass) (l′ : Lent) (out′ : List ℕ) (status : ℕ)
-    → status ≢ goesOn → Plays (ltb 0 held) held line b l out p l′ out′ → PlayedLast line held b l out (record { bench = p .bench; held = 0; status = status }) l′ out′
+    → status ≢ goesOn → HeldPlayed (ltb 0 held) held line b l out p l′ out′ → PlayedLast line held b l out (record { bench = p .bench; held = 0; status = status }) l′ out′
 unfolding lastLine
 last-played held line b l out p l′ out′ status n q = record { text = q .text; calls = q .calls; held-is = refl; not-on = n }
 
@@ -90,7 +90,7 @@ fewer false k n h = h
 module _ (chunk old : List ℕ) (held₀ : ℕ) (b₀ : Bench) (l₀ : Lent) (out₀ : List ℕ) where
   pub passing-more : (line : List ℕ) (held at : ℕ) (b : Bench) (l : Lent) (out : List ℕ) (status : ℕ) (c : Cut) (line′ : List ℕ) (p : Pass) (l′ : Lent) (out′ : List ℕ)
       → Passing chunk old held₀ b₀ l₀ out₀ line held at b l out status → CutOff (drop at chunk) at line held c line′
-      → Plays (c .whole) (c .held) line′ b l out p l′ out′ → Passing chunk old held₀ b₀ l₀ out₀ line′ (p .held) (c .next) (p .bench) l′ out′ (p .status)
+      → HeldPlayed (c .whole) (c .held) line′ b l out p l′ out′ → Passing chunk old held₀ b₀ l₀ out₀ line′ (p .held) (c .next) (p .bench) l′ out′ (p .status)
   passing-more line held at b l out status c line′ p l′ out′ s k q =
       let one = cut-once (c .whole) chunk line held at c line′ refl k in
       let few = fewer (c .whole) (c .held) (length line′) (cut-within (drop at chunk) line held at c line′ (s .within) k) in
@@ -104,14 +104,14 @@ module _ (chunk old : List ℕ) (held₀ : ℕ) (b₀ : Bench) (l₀ : Lent) (ou
       }
 
   module _ (p : Pass) (line : List ℕ) (at : ℕ) (l : Lent) (out : List ℕ) (s : Passing chunk old held₀ b₀ l₀ out₀ line (p .held) at (p .bench) l out (p .status)) where
-    passed-if : (p .status ≡ goesOn → length chunk ≤ at) → Passed chunk old held₀ b₀ l₀ out₀ p line l out
+    passed-if : (p .status ≡ goesOn → length chunk ≤ at) → ChunkPlayed chunk old held₀ b₀ l₀ out₀ p line l out
     passed-if e =
         record { handed = s .handed; text = s .text; at = at; cut = s .cut; calls = s .calls; to-the-end = e; not-ended = s .not-ended; within = s .within }
 
-    pub passed-stopped : (p .status ≡ 0 → ⊥) → Passed chunk old held₀ b₀ l₀ out₀ p line l out
+    pub passed-stopped : (p .status ≡ 0 → ⊥) → ChunkPlayed chunk old held₀ b₀ l₀ out₀ p line l out
     passed-stopped n = passed-if (λ e. absurd (n e))
 
-    pub passed-all : length chunk ≤ at → Passed chunk old held₀ b₀ l₀ out₀ p line l out
+    pub passed-all : length chunk ≤ at → ChunkPlayed chunk old held₀ b₀ l₀ out₀ p line l out
     passed-all h = passed-if (λ e. h)
 
 -- after the last line: the end of the input, unless something failed

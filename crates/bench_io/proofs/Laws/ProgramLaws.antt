@@ -17,21 +17,21 @@ use Rattle.bench_rules.specs.Turning.{Lent}
 use Rattle.bench_state.specs.declared.Bench.{Bench}
 use Rattle.register.specs.Runs.{Event}
 use Rattle.bench_io.specs.Workers as workers
-use Rattle.bench_io.specs.Workers.{goesOn, atEnd, TurnMade, Through, Ran}
+use Rattle.bench_io.specs.Workers.{goesOn, atEnd, TurnMade, ChunksCut, Ran}
 use Rattle.bench_io.specs.declared.Pass.{Pass}
 use Rattle.bench_io.proofs.Laws.PassLaws.{calls-both}
 
 -- one chunk more
-through-more : {a b b′ bytes : List ℕ} {h k k′ at : ℕ} {cs hs first : List (List ℕ)} → Through a h cs hs b k → Cuts bytes b k 0 first b′ k′ at
-    → length bytes ≤ at → Through a h (cs ++ bytes ∷ []) (hs ++ first) b′ k′
+through-more : {a b b′ bytes : List ℕ} {h k k′ at : ℕ} {cs hs first : List (List ℕ)} → ChunksCut a h cs hs b k → Cuts bytes b k 0 first b′ k′ at
+    → length bytes ≤ at → ChunksCut a h (cs ++ bytes ∷ []) (hs ++ first) b′ k′
 through-more {b′ = b′} {bytes = bytes} {k′ = k′} {first = first} (workers.none line held) c e =
-    subst (λ (t : List (List ℕ)). Through line held (bytes ∷ []) t b′ k′) (append-nil first) (workers.one c e (workers.none b′ k′))
+    subst (λ (t : List (List ℕ)). ChunksCut line held (bytes ∷ []) t b′ k′) (append-nil first) (workers.one c e (workers.none b′ k′))
 through-more {a = a} {b′ = b′} {bytes = new} {h = h} {k′ = k′} {first = new-lines} (workers.one {bytes = bytes} {chunks = chunks} {first = first} {rest = rest} c₁ e₁ t) c e =
-    subst (λ (u : List (List ℕ)). Through a h (bytes ∷ (chunks ++ new ∷ [])) u b′ k′) (sym (append-assoc first rest new-lines))
+    subst (λ (u : List (List ℕ)). ChunksCut a h (bytes ∷ (chunks ++ new ∷ [])) u b′ k′) (sym (append-assoc first rest new-lines))
     (workers.one c₁ e₁ (through-more t c e))
 
 -- and the end of the input
-through-ended : {a b : List ℕ} {h k : ℕ} {cs hs : List (List ℕ)} → Through a h cs hs b k → HandedOn a h cs (hs ++ lastLine b k)
+through-ended : {a b : List ℕ} {h k : ℕ} {cs hs : List (List ℕ)} → ChunksCut a h cs hs b k → HandedOn a h cs (hs ++ lastLine b k)
 through-ended (workers.none line held) = ended line held
 through-ended {a = a} {b = b} {h = h} {k = k} (workers.one {bytes = bytes} {chunks = chunks} {first = first} {rest = rest} c e t) =
     subst (λ (u : List (List ℕ)). HandedOn a h (bytes ∷ chunks) u) (sym (append-assoc first rest (lastLine b k))) (chunk c e (through-ended t))
@@ -43,7 +43,7 @@ pub record Running (line₀ : List ℕ) (l₀ : Lent) (out₀ : List ℕ) (first
   pub calls : Calls first l₀ out₀ handed text (p .bench) l out
   pub on : 0 < turns → p .status ≡ goesOn
   pub within : p .status ≡ goesOn → p .held ≤ length line
-  pub so-far : p .status ≡ goesOn → (chunks : List (List ℕ)) × Through line₀ 0 chunks handed line (p .held)
+  pub so-far : p .status ≡ goesOn → (chunks : List (List ℕ)) × ChunksCut line₀ 0 chunks handed line (p .held)
   pub all-lines : p .status ≡ atEnd → (chunks : List (List ℕ)) × HandedOn line₀ 0 chunks handed
 
 pub running-none : (line : List ℕ) (l : Lent) (out : List ℕ) (first : Bench) (turns : ℕ)

@@ -18,7 +18,7 @@ use Rattle.register.specs.Runs.{Item, message, reply, World}
 use Rattle.register.specs.Runs.{Moved, unmoved, blockFor, toAll, broadcasts, received}
 use Rattle.register.specs.Runs.{standing}
 use Rattle.register.specs.Driver.{driven, failed}
-use Rattle.register.specs.CallLoop.{Calls, begin, start-write, start-read, take-reply, crash, receive, goes-down, comes-up, power-fails}
+use Rattle.register.specs.CallLoop.{RoutineCalls, begin, start-write, start-read, take-reply, crash, receive, goes-down, comes-up, power-fails}
 use Rattle.register.proofs.Laws.BrickEvent.{no-message}
 use Rattle.register.proofs.Laws.TurnLaws.{kind-of, in-toAll}
 
@@ -67,7 +67,7 @@ module _ (s : Settings) where
       go true m q = q
       go false m q = p
 
-  pub calls-blank : (r : Moved s) → Calls s r → Blank (r .world .sent)
+  pub calls-blank : (r : Moved s) → RoutineCalls s r → Blank (r .world .sent)
   unfolding unmoved failed
   calls-blank r (begin w h) = λ b msg block m n. absurd (List·Memᴰ·not-nil (subst (λ (l : List Item). message b msg block ∈ l) (h .none-sent) m))
   calls-blank r (start-write q p c l reading content small a stripe f) = driven-blank (q .world) c a _ _ _ (calls-blank q p)

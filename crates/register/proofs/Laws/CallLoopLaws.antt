@@ -35,7 +35,8 @@ use Rattle.register.specs.Runs.{plain, Item, message, reply, World, Even
 use Rattle.register.specs.Runs.{coordinated, repliedWith, received, arriving, arrivingAt, standing, step, run, putAt, broadcasts}
 use Rattle.register.specs.Driver.{driven, Short, holds, heldBlock, failed, cutOf, backWith}
 use Rattle.register.specs.Lending.{SameAnswer}
-use Rattle.register.specs.CallLoop.{Fits, Calls, begin, start-write, start-read, take-reply, crash, receive, goes-down, comes-up, power-fails, WriteEnsures, ReadEnsures, TakeEnsures}
+use Rattle.register.specs.CallLoop.{BufferLengths, RoutineCalls, begin, start-write, start-read, take-reply, crash}
+use Rattle.register.specs.CallLoop.{receive, goes-down, comes-up, power-fails, WriteEnsures, ReadEnsures, TakeEnsures}
 use Rattle.register.specs.CallLoop.{CrashEnsures, Agrees, WhoeverCallsMakesARun, WhoeverCallsHasOneOrder}
 use Rattle.register.proofs.Laws.AgreeLaws.{Same, Made, made-more, made-still, driven-is}
 use Rattle.register.proofs.Laws.BesideLaws.{Blank, calls-blank}
@@ -242,7 +243,7 @@ module _ (s : Settings) where
             (driven-is s w c p a blocks′ stripe′ coded coded′ (take-short (s .n) (s .m) (s .size) (w .coordinators c) x lent (length coded)) f
             ∙ not-taken (eqb-false (length coded) (s .n * s .size) e) p refl)
 
-    fails-made : (c : ℕ) → c ≤ lastCoordinator → (blocks stripe : List ℕ) → Fits s blocks stripe → Made s (joined s r (failed s w c blocks stripe))
+    fails-made : (c : ℕ) → c ≤ lastCoordinator → (blocks stripe : List ℕ) → BufferLengths s blocks stripe → Made s (joined s r (failed s w c blocks stripe))
     fails-made c l blocks stripe f =
         made-more s r made (crashes c (lost blocks stripe)) (failed s w c blocks stripe)
         (subst (λ (x : Moved s). Same s (failed s w c blocks stripe) x) (sym (crash-fails s range (made .0) c l blocks stripe f)) (failed-same w v agree c l blocks stripe))
@@ -313,7 +314,7 @@ module _ (s : Settings) where
         go true false e q = wrong (λ x y. eqb-false (length out) (s .size) q y)
         go false u e q = wrong (λ x y. eqb-false (length lent) (s .size) e x)
 
-  calls-made : inRange s ≡ true → (r : Moved s) → Calls s r → Made s r
+  calls-made : inRange s ≡ true → (r : Moved s) → RoutineCalls s r → Made s r
   unfolding step
   calls-made e r (begin fresh h) = start-made s e fresh h
   calls-made e r (start-write q p c l reading content small a stripe f) = write-made e q (calls-made e q p) c l reading content small a stripe f

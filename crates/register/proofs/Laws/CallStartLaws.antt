@@ -22,7 +22,7 @@ use Rattle.register.specs.Runs.{plain, Item, World, freshSet, idle, Even
 use Rattle.register.specs.Runs.{Moved, unmoved, joined, putAt, seenOf, broadcasts, coordinated}
 use Rattle.register.specs.Runs.{leftBy, step, runFrom, run}
 use Rattle.register.specs.Driver.{cutOf, backWith, failed}
-use Rattle.register.specs.CallLoop.{Fits, Started}
+use Rattle.register.specs.CallLoop.{BufferLengths, Started}
 use Rattle.register.proofs.Laws.AgreeLaws.{run-more, Made}
 use Rattle.register.proofs.Laws.DriverLaws.{left-lost}
 use Rattle.register.proofs.Laws.LendingLaws.{crash-goes-on, crash-leaves}
@@ -48,7 +48,7 @@ module _ (s : Settings) where
       go false = refl
 
   -- power fails where the run has a crash that leaves these bytes in the buffers
-  pub crash-fails : inRange s ≡ true → (events : List Event) (c : ℕ) → c ≤ lastCoordinator → (blocks stripe : List ℕ) → Fits s blocks stripe
+  pub crash-fails : inRange s ≡ true → (events : List Event) (c : ℕ) → c ≤ lastCoordinator → (blocks stripe : List ℕ) → BufferLengths s blocks stripe
       → step s (run s events .world) (crashes c (lost blocks stripe)) ≡ failed s (run s events .world) c blocks stripe
   unfolding step leftBy coordinated failed backWith broadcasts
   crash-fails e events c l blocks stripe f =

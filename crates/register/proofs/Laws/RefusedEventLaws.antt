@@ -20,7 +20,7 @@ use Rattle.coord_apply.specs.Answers.{Step, refused, went, answerOf}
 use Rattle.coordinator.specs.Routines.{writeStep}
 use Rattle.register.specs.Runs.{Item, message, reply, World, Left, startWrite, startRead, arrives, crashes, goesDown, comesUp}
 use Rattle.register.specs.Runs.{Moved, unmoved, putAt, coordinated, repliedWith, received, arriving, arrivingAt, standing, leftBy, step}
-use Rattle.register.specs.RefusedEvents.{routineNumber, itemNumber, placeNumber, eventNumber, RefusedEventsChangeNothing, LostAtADownBrick}
+use Rattle.register.specs.RefusedEvents.{routineNumber, itemNumber, arrivalNumber, eventNumber, RefusedEventsChangeNothing, LostAtADownBrick}
 use Rattle.register.proofs.Laws.DriverLaws.{put-same}
 
 -- What a brick refuses leaves its image, and no reply.
@@ -87,8 +87,8 @@ module _ (s : Settings) (w : World) where
       go false n = refl
   item-kept (reply r block) n = step-kept _ _ n
 
-  place-kept : (l : List Item) (k : ℕ) → placeNumber s w l k ≢ passed → arrivingAt s w l k ≡ unmoved s w
-  unfolding placeNumber arrivingAt
+  place-kept : (l : List Item) (k : ℕ) → arrivalNumber s w l k ≢ passed → arrivingAt s w l k ≡ unmoved s w
+  unfolding arrivalNumber arrivingAt
   place-kept [] k n = refl
   place-kept (i ∷ l) zero n = item-kept i n
   place-kept (i ∷ l) (suc k) n = place-kept l k n
