@@ -5,6 +5,9 @@ use crate::coordinator::{self, Ended, Kind, Outcome, Record, Step};
 use crate::image;
 use crate::settings::{coordinator_of, Refusal, Settings};
 
+/// The bench keeps to one stripe, which has number 0.
+const STRIPES: u64 = 1;
+const STRIPE: u64 = 0;
 const MOST_BRICKS: u64 = 4;
 const LARGEST_SIZE: u64 = 8;
 const LARGEST_CAPACITY: u64 = 4;
@@ -127,6 +130,7 @@ fn print_ended(ended: Option<Ended>, printed: &mut String) {
         kind,
         time,
         outcome,
+        ..
     }) = ended
     else {
         return;
@@ -205,7 +209,7 @@ fn read_hex(word: &[u8]) -> Option<Vec<u8>> {
 impl Set {
     /// A fresh set, or refusal 1.
     fn new(n: u64, m: u64, size: u64, capacity: u64) -> Result<Set, Refusal> {
-        let settings = Settings::new(n, m, size, capacity);
+        let settings = Settings::new(n, m, size, capacity, STRIPES);
         if settings.refusal().is_some()
             || n > MOST_BRICKS
             || size > LARGEST_SIZE
@@ -219,7 +223,7 @@ impl Set {
             images: images?,
             up: vec![true; n as usize],
             records: (0..COORDINATORS)
-                .map(|number| Record::fresh(settings.shape, number))
+                .map(|number| Record::fresh(settings.volume(), number))
                 .collect(),
             sent: Vec::new(),
         })
@@ -285,7 +289,8 @@ impl Set {
         digits: &[u8],
         printed: &mut String,
     ) -> Result<(), Refusal> {
-        let shape = self.settings.shape;
+        let volume = self.settings.volume();
+        let shape = volume.shape;
         let counted = digits.len() == 2 * shape.data_len();
         // A wrong count of digits is refused only after the numbers of a start.
         let data = if counted {
@@ -294,7 +299,8 @@ impl Set {
             vec![0; shape.data_len()]
         };
         let mut record = self.record(coordinator)?;
-        let step = coordinator::start_write(shape, coordinator, &mut record, clock, &data)?;
+        let step =
+            coordinator::start_write(volume, coordinator, &mut record, STRIPE, clock, &data)?;
         if !counted {
             return Err(12);
         }
@@ -309,14 +315,14 @@ impl Set {
         printed: &mut String,
     ) -> Result<(), Refusal> {
         let mut record = self.record(coordinator)?;
-        let step =
-            coordinator::start_read(self.settings.shape, coordinator, &mut record, clock, brick)?;
+        let volume = self.settings.volume();
+        let step = coordinator::start_read(volume, coordinator, &mut record, STRIPE, clock, brick)?;
         self.commit(record, step, printed)
     }
 
     fn crash(&mut self, coordinator: u64, printed: &mut String) -> Result<(), Refusal> {
         let mut record = self.record(coordinator)?;
-        let step = coordinator::crash(self.settings.shape, coordinator, &mut record)?;
+        let step = coordinator::crash(self.settings.volume(), coordinator, &mut record)?;
         self.commit(record, step, printed)
     }
 
@@ -358,7 +364,8 @@ impl Set {
     fn carry_back(&mut self, reply: &Reply, printed: &mut String) -> Result<(), Refusal> {
         let coordinator = coordinator_of(reply.time);
         let mut record = self.record(coordinator)?;
-        let step = coordinator::take_reply(self.settings.shape, coordinator, &mut record, reply)?;
+        let step =
+            coordinator::take_reply(self.settings.volume(), coordinator, &mut record, reply)?;
         self.commit(record, step, printed)
     }
 }

@@ -1,4 +1,5 @@
-//! One message at one brick.
+//! One message at one brick: at the image of its stripe, or at the row of all
+//! the images that the brick of a volume has.
 
 use crate::image::{self, Entry, State};
 use crate::settings::{log_time, valid_time, Refusal, Settings, Shape, LAST_ROUND, NO_UPPER_END};
@@ -14,6 +15,7 @@ pub const TRIM: u8 = 5;
 #[derive(Clone, Debug, PartialEq, Eq)]
 pub struct Message {
     pub kind: u8,
+    pub stripe: u64,
     pub time: u64,
     pub round: u64,
     /// Order-and-read: entries under this time are looked for.
@@ -29,6 +31,7 @@ pub struct Message {
 pub struct Reply {
     pub kind: u8,
     pub brick: u64,
+    pub stripe: u64,
     pub time: u64,
     pub round: u64,
     pub yes: bool,
@@ -38,10 +41,11 @@ pub struct Reply {
 }
 
 impl Message {
-    /// A message with no max, no targets and no block.
+    /// A message of stripe 0 with no max, no targets and no block.
     pub fn plain(kind: u8, time: u64, round: u64) -> Message {
         Message {
             kind,
+            stripe: 0,
             time,
             round,
             max: 0,
@@ -76,21 +80,66 @@ fn round_fits(round: u64) -> bool {
     (1..=LAST_ROUND).contains(&round)
 }
 
-/// Takes a message at a brick: changes its image, and gives the reply if the
-/// message has one. Refused: 1 settings, 2 the length of the image or of a
-/// Write's block, 3 brick, 5 and 6 the image, 10 the message.
+/// Takes a message at a brick, on the image of its stripe: changes the image,
+/// and gives the reply if the message has one. Refused: 1 settings, 2 the
+/// length of the image or of a Write's block, 3 brick, 13 the message's
+/// stripe, 5 and 6 the image, 10 the message.
 pub fn take(
     settings: Settings,
     brick: u64,
     image: &mut [u8],
     message: &Message,
 ) -> Result<Option<Reply>, Refusal> {
+    check_lent(settings, brick, image, 1, message)?;
+    take_at(settings, brick, image, message)
+}
+
+/// The same at a brick of a volume, its images one after another: that of the
+/// message's stripe alone is looked at and changed. Refused as above, 2 being
+/// the length of the row.
+pub fn take_in_row(
+    settings: Settings,
+    brick: u64,
+    images: &mut [u8],
+    message: &Message,
+) -> Result<Option<Reply>, Refusal> {
+    check_lent(settings, brick, images, settings.stripes, message)?;
+    let length = image::length(settings);
+    let at = message.stripe as usize * length;
+    take_at(settings, brick, &mut images[at..at + length], message)
+}
+
+/// Refusals 1, 2, 3 and 13, where so many images are lent.
+fn check_lent(
+    settings: Settings,
+    brick: u64,
+    lent: &[u8],
+    images: u64,
+    message: &Message,
+) -> Result<(), Refusal> {
     if settings.refusal().is_some() {
         return Err(1);
     }
-    if message.kind == WRITE && message.block.len() as u64 != settings.shape.size {
+    let block_fits = message.kind != WRITE || message.block.len() as u64 == settings.shape.size;
+    if lent.len() != images as usize * image::length(settings) || !block_fits {
         return Err(2);
     }
+    if brick >= settings.shape.n {
+        return Err(3);
+    }
+    settings
+        .volume()
+        .stripe_refusal(message.stripe)
+        .map_or(Ok(()), Err)
+}
+
+/// Refusals 5, 6 and 10, else what the message does.
+fn take_at(
+    settings: Settings,
+    brick: u64,
+    image: &mut [u8],
+    message: &Message,
+) -> Result<Option<Reply>, Refusal> {
     let mut state = image::parse(settings, brick, image)?;
     if let Some(number) = message.refusal(settings.shape) {
         return Err(number);
@@ -121,6 +170,7 @@ fn act(settings: Settings, brick: u64, state: &mut State, message: &Message) -> 
     Some(Reply {
         kind: message.kind,
         brick,
+        stripe: message.stripe,
         time: message.time,
         round: message.round,
         yes,

@@ -3,7 +3,7 @@
 use crate::brick::{Message, Reply, ORDER, ORDER_READ, READ, TRIM, WRITE};
 use crate::code;
 use crate::settings::{
-    coordinator_of, count_of, draw, quorum, valid_time, Refusal, Shape, LAST_COORDINATOR,
+    coordinator_of, count_of, draw, quorum, valid_time, Refusal, Shape, Volume, LAST_COORDINATOR,
     LAST_COUNT, LAST_ROUND, NO_UPPER_END,
 };
 
@@ -16,7 +16,7 @@ pub enum Kind {
 /// What a coordinator keeps. A crash leaves only the last count.
 #[derive(Clone, Debug, PartialEq, Eq)]
 pub struct Record {
-    pub shape: Shape,
+    pub volume: Volume,
     pub number: u64,
     pub last: u64,
     pub running: Option<Running>,
@@ -26,6 +26,7 @@ pub struct Record {
 #[derive(Clone, Debug, PartialEq, Eq)]
 pub struct Running {
     pub kind: Kind,
+    pub stripe: u64,
     pub time: u64,
     pub round: u64,
     /// The kind of the messages of the open round.
@@ -35,7 +36,7 @@ pub struct Running {
     /// The first target of a read; 0 in a write.
     pub first: u64,
     /// The data of a write, or what a read in its Write round recovered.
-    pub stripe: Vec<u8>,
+    pub data: Vec<u8>,
     /// The bricks that a read in its Write round decoded from.
     pub bricks: Vec<u8>,
     /// The replies counted in the open round.
@@ -61,6 +62,7 @@ pub enum Outcome {
 pub struct Ended {
     pub coordinator: u64,
     pub kind: Kind,
+    pub stripe: u64,
     pub time: u64,
     pub outcome: Outcome,
 }
@@ -75,9 +77,9 @@ pub struct Step {
 
 impl Record {
     /// An idle coordinator that drew no time yet.
-    pub fn fresh(shape: Shape, number: u64) -> Record {
+    pub fn fresh(volume: Volume, number: u64) -> Record {
         Record {
-            shape,
+            volume,
             number,
             last: 0,
             running: None,
@@ -85,19 +87,21 @@ impl Record {
     }
 
     /// Whether some rule is broken, under the settings and number given.
-    fn breaks_a_rule(&self, shape: Shape, number: u64) -> bool {
-        self.shape != shape
+    fn breaks_a_rule(&self, volume: Volume, number: u64) -> bool {
+        self.volume != volume
             || self.number != number
             || self.last > LAST_COUNT
             || self
                 .running
                 .as_ref()
-                .is_some_and(|running| running.breaks_a_rule(shape, number, self.last))
+                .is_some_and(|running| running.breaks_a_rule(volume, number, self.last))
     }
 }
 
 impl Running {
-    fn breaks_a_rule(&self, shape: Shape, number: u64, last: u64) -> bool {
+    fn breaks_a_rule(&self, volume: Volume, number: u64, last: u64) -> bool {
+        let shape = volume.shape;
+        let placed = volume.stripe_refusal(self.stripe).is_none();
         let timed = valid_time(self.time)
             && coordinator_of(self.time) == number
             && count_of(self.time) == last;
@@ -105,13 +109,13 @@ impl Running {
         let open = (self.replies.len() as u64) < quorum_of(shape);
         // Last, since targets are counted from a first brick that is in range only then.
         let counted = || (0..self.replies.len()).all(|i| self.counted_reply_fits(shape, i));
-        !(timed && rounded && self.round_fits(shape) && open && counted())
+        !(placed && timed && rounded && self.round_fits(shape) && open && counted())
     }
 
     /// Whether the open round is one of the operation's, with the fields it needs.
     fn round_fits(&self, shape: Shape) -> bool {
-        let empty = self.stripe.is_empty() && self.bricks.is_empty();
-        let full = self.stripe.len() == shape.data_len();
+        let empty = self.data.is_empty() && self.bricks.is_empty();
+        let full = self.data.len() == shape.data_len();
         match (self.kind, self.open) {
             (Kind::Write, ORDER | WRITE) => {
                 let round = if self.open == ORDER { 1 } else { 2 };
@@ -162,8 +166,10 @@ impl Running {
     /// Whether a reply is of this operation and round, with a block and a time
     /// as the round's rules have them.
     fn answers(&self, shape: Shape, reply: &Reply) -> bool {
-        let of_the_round =
-            reply.time == self.time && reply.round == self.round && reply.kind == self.open;
+        let of_the_round = reply.stripe == self.stripe
+            && reply.time == self.time
+            && reply.round == self.round
+            && reply.kind == self.open;
         let held = reply.block.is_some();
         let fits = match self.open {
             READ => {
@@ -193,7 +199,7 @@ impl Running {
 
     /// The messages of the open round, by brick.
     fn messages(&self, shape: Shape) -> Vec<Message> {
-        let mut message = Message::plain(self.open, self.time, self.round);
+        let mut message = self.message(self.open);
         match self.open {
             READ => message.targets = self.targets(shape),
             ORDER_READ => message.max = self.max,
@@ -201,7 +207,7 @@ impl Running {
         }
         let mut messages = vec![message; shape.n as usize];
         if self.open == WRITE {
-            let coded = encode(shape, &self.stripe);
+            let coded = encode(shape, &self.data);
             for (j, message) in messages.iter_mut().enumerate() {
                 message.block = shape.block(&coded, j).to_vec();
             }
@@ -210,7 +216,15 @@ impl Running {
     }
 
     fn trims(&self, shape: Shape) -> Vec<Message> {
-        vec![Message::plain(TRIM, self.time, self.round); shape.n as usize]
+        vec![self.message(TRIM); shape.n as usize]
+    }
+
+    /// A message of the operation and its round.
+    fn message(&self, kind: u8) -> Message {
+        Message {
+            stripe: self.stripe,
+            ..Message::plain(kind, self.time, self.round)
+        }
     }
 }
 
@@ -243,92 +257,99 @@ fn block_length_fits(shape: Shape, reply: &Reply) -> bool {
         .is_none_or(|block| block.len() as u64 == shape.size)
 }
 
-/// Starts a write. Refused: 1 settings, 2 the length of the data, 3 coordinator,
-/// 6 the record, 7 the reading, 8 no count left, 9 an operation runs.
+/// Starts a write of a stripe. Refused: 1 settings, 2 the length of the data,
+/// 3 coordinator, 13 stripe, 6 the record, 7 the reading, 8 no count left, 9 an
+/// operation runs.
 pub fn start_write(
-    shape: Shape,
+    volume: Volume,
     number: u64,
     record: &mut Record,
+    stripe: u64,
     reading: u64,
     data: &[u8],
 ) -> Result<Step, Refusal> {
-    if shape.refusal().is_some() {
+    if volume.refusal().is_some() {
         return Err(1);
     }
-    if data.len() != shape.data_len() {
+    if data.len() != volume.shape.data_len() {
         return Err(2);
     }
-    start(shape, number, record, reading, Kind::Write, 0, data)
+    start(volume, number, record, stripe, reading, Kind::Write, 0, data)
 }
 
-/// Starts a read whose targets are counted from brick `first`. Refused: 1
-/// settings, 3 coordinator or brick, 6 the record, 7 the reading, 8 no count
-/// left, 9 an operation runs.
+/// Starts a read of a stripe whose targets are counted from brick `first`.
+/// Refused: 1 settings, 3 coordinator or brick, 13 stripe, 6 the record, 7 the
+/// reading, 8 no count left, 9 an operation runs.
 pub fn start_read(
-    shape: Shape,
+    volume: Volume,
     number: u64,
     record: &mut Record,
+    stripe: u64,
     reading: u64,
     first: u64,
 ) -> Result<Step, Refusal> {
-    if shape.refusal().is_some() {
+    if volume.refusal().is_some() {
         return Err(1);
     }
-    if first >= shape.n {
+    if first >= volume.shape.n {
         return Err(3);
     }
-    start(shape, number, record, reading, Kind::Read, first, &[])
+    start(volume, number, record, stripe, reading, Kind::Read, first, &[])
 }
 
+#[allow(clippy::too_many_arguments)]
 fn start(
-    shape: Shape,
+    volume: Volume,
     number: u64,
     record: &mut Record,
+    stripe: u64,
     reading: u64,
     kind: Kind,
     first: u64,
     data: &[u8],
 ) -> Result<Step, Refusal> {
-    check_record(shape, number, record)?;
+    check_record(volume, number, Some(stripe), record)?;
     let (time, last) = draw(number, record.last, reading)?;
     if record.running.is_some() {
         return Err(9);
     }
     let running = Running {
         kind,
+        stripe,
         time,
         round: 1,
         open: if kind == Kind::Read { READ } else { ORDER },
         max: 0,
         first,
-        stripe: data.to_vec(),
+        data: data.to_vec(),
         bricks: Vec::new(),
         replies: Vec::new(),
     };
-    let sent = running.messages(shape);
+    let sent = running.messages(volume.shape);
     record.last = last;
     record.running = Some(running);
     Ok(Step { sent, ended: None })
 }
 
 /// Takes a reply. Refused: 1 settings, 2 the length of the block, 3 coordinator
-/// or brick, 6 the record, 10 and 11 the reply.
+/// or brick, 13 stripe, 6 the record, 10 and 11 the reply.
 pub fn take_reply(
-    shape: Shape,
+    volume: Volume,
     number: u64,
     record: &mut Record,
     reply: &Reply,
 ) -> Result<Step, Refusal> {
-    if shape.refusal().is_some() {
+    if volume.refusal().is_some() {
         return Err(1);
     }
+    let shape = volume.shape;
     if !block_length_fits(shape, reply) {
         return Err(2);
     }
     if reply.brick >= shape.n {
         return Err(3);
     }
-    check_record(shape, number, record)?;
+    check_record(volume, number, Some(reply.stripe), record)?;
     if let Some(refusal) = reply.refusal() {
         return Err(refusal);
     }
@@ -357,23 +378,31 @@ pub fn take_reply(
 
 /// A crash: the coordinator is idle and keeps its count; a running operation
 /// is cut. Refused: 1 settings, 3 coordinator, 6 the record.
-pub fn crash(shape: Shape, number: u64, record: &mut Record) -> Result<Step, Refusal> {
-    if shape.refusal().is_some() {
+pub fn crash(volume: Volume, number: u64, record: &mut Record) -> Result<Step, Refusal> {
+    if volume.refusal().is_some() {
         return Err(1);
     }
-    check_record(shape, number, record)?;
+    check_record(volume, number, None, record)?;
     Ok(Step {
         sent: Vec::new(),
         ended: end(record, Outcome::Cut),
     })
 }
 
-/// Refusals 3 (coordinator) and 6 (record).
-fn check_record(shape: Shape, number: u64, record: &Record) -> Result<(), Refusal> {
+/// Refusals 3 (coordinator), 13 (stripe, where the event names one) and 6 (record).
+fn check_record(
+    volume: Volume,
+    number: u64,
+    stripe: Option<u64>,
+    record: &Record,
+) -> Result<(), Refusal> {
     if number > LAST_COORDINATOR {
         return Err(3);
     }
-    if record.breaks_a_rule(shape, number) {
+    if let Some(refusal) = stripe.and_then(|stripe| volume.stripe_refusal(stripe)) {
+        return Err(refusal);
+    }
+    if record.breaks_a_rule(volume, number) {
         return Err(6);
     }
     Ok(())
@@ -385,6 +414,7 @@ fn end(record: &mut Record, outcome: Outcome) -> Option<Ended> {
     Some(Ended {
         coordinator: record.number,
         kind: running.kind,
+        stripe: running.stripe,
         time: running.time,
         outcome,
     })
@@ -407,7 +437,7 @@ fn finished(running: &Running) -> Outcome {
     match running.kind {
         Kind::Write => Outcome::Ok,
         Kind::Read => Outcome::Stripe {
-            data: running.stripe.clone(),
+            data: running.data.clone(),
             bricks: running.bricks.clone(),
         },
     }
@@ -448,7 +478,7 @@ fn decide_recovery(shape: Shape, running: &mut Running) -> Decision {
         .cloned()
         .collect();
     if chosen.len() as u64 >= shape.m {
-        (running.bricks, running.stripe) = recover(shape, &chosen);
+        (running.bricks, running.data) = recover(shape, &chosen);
         return next_or_abort(running.open_round(shape, WRITE, 0));
     }
     if highest == 0 {

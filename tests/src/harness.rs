@@ -1,11 +1,11 @@
-//! Random runs of a set, for any implementation of the routines: operations among faults, then reads in a row.
+//! Random runs of a volume, for any implementation of the routines: operations on some of its stripes among faults, then reads in a row.
 
 use crate::brick::{self, Message, Reply, TRIM, WRITE};
 use crate::coordinator::{self, Ended, Kind, Outcome, Record, Step};
-use crate::order::{End, Operation};
+use crate::order::{by_stripe, has_order, End, Operation};
 use crate::proved::{self, answer, record};
 use crate::rng::Rng;
-use crate::settings::{coordinator_of, Settings};
+use crate::settings::{coordinator_of, count_of, Settings, Volume};
 use crate::tally::Tally;
 use crate::image;
 use std::collections::HashSet;
@@ -13,13 +13,14 @@ use std::collections::HashSet;
 /// The routines of bricks and coordinators, refused by number.
 pub trait Routines {
     type Coordinator;
-    fn image(settings: Settings, brick: u64) -> Vec<u8>;
-    fn receive(settings: Settings, brick: u64, image: &mut [u8], message: &Message) -> Result<Option<Reply>, u32>;
+    /// The row of a fresh brick's images, one a stripe.
+    fn images(settings: Settings, brick: u64) -> Vec<u8>;
+    fn receive(settings: Settings, brick: u64, images: &mut [u8], message: &Message) -> Result<Option<Reply>, u32>;
     fn coordinator(settings: Settings, number: u64) -> Self::Coordinator;
     /// The time of the running operation.
     fn running(c: &Self::Coordinator) -> Option<u64>;
-    fn write(settings: Settings, c: &mut Self::Coordinator, reading: u64, data: &[u8]) -> Result<Step, u32>;
-    fn read(settings: Settings, c: &mut Self::Coordinator, reading: u64, first: u64) -> Result<Step, u32>;
+    fn write(settings: Settings, c: &mut Self::Coordinator, stripe: u64, reading: u64, data: &[u8]) -> Result<Step, u32>;
+    fn read(settings: Settings, c: &mut Self::Coordinator, stripe: u64, reading: u64, first: u64) -> Result<Step, u32>;
     fn reply(settings: Settings, c: &mut Self::Coordinator, reply: &Reply) -> Result<Step, u32>;
     fn crash(settings: Settings, c: &mut Self::Coordinator) -> Result<Step, u32>;
     /// Other bytes in the buffers beside the record, as a crash may leave them; no where there are none.
@@ -32,36 +33,36 @@ pub struct Independent;
 impl Routines for Independent {
     type Coordinator = Record;
 
-    fn image(settings: Settings, brick: u64) -> Vec<u8> {
-        image::fresh(settings, brick).expect("settings in range")
+    fn images(settings: Settings, brick: u64) -> Vec<u8> {
+        image::fresh_row(settings, brick).expect("settings in range")
     }
 
-    fn receive(settings: Settings, brick: u64, image: &mut [u8], message: &Message) -> Result<Option<Reply>, u32> {
-        brick::take(settings, brick, image, message).map_err(u32::from)
+    fn receive(settings: Settings, brick: u64, images: &mut [u8], message: &Message) -> Result<Option<Reply>, u32> {
+        brick::take_in_row(settings, brick, images, message).map_err(u32::from)
     }
 
     fn coordinator(settings: Settings, number: u64) -> Record {
-        Record::fresh(settings.shape, number)
+        Record::fresh(settings.volume(), number)
     }
 
     fn running(c: &Record) -> Option<u64> {
         c.running.as_ref().map(|running| running.time)
     }
 
-    fn write(settings: Settings, c: &mut Record, reading: u64, data: &[u8]) -> Result<Step, u32> {
-        coordinator::start_write(settings.shape, c.number, c, reading, data).map_err(u32::from)
+    fn write(settings: Settings, c: &mut Record, stripe: u64, reading: u64, data: &[u8]) -> Result<Step, u32> {
+        coordinator::start_write(settings.volume(), c.number, c, stripe, reading, data).map_err(u32::from)
     }
 
-    fn read(settings: Settings, c: &mut Record, reading: u64, first: u64) -> Result<Step, u32> {
-        coordinator::start_read(settings.shape, c.number, c, reading, first).map_err(u32::from)
+    fn read(settings: Settings, c: &mut Record, stripe: u64, reading: u64, first: u64) -> Result<Step, u32> {
+        coordinator::start_read(settings.volume(), c.number, c, stripe, reading, first).map_err(u32::from)
     }
 
     fn reply(settings: Settings, c: &mut Record, reply: &Reply) -> Result<Step, u32> {
-        coordinator::take_reply(settings.shape, c.number, c, reply).map_err(u32::from)
+        coordinator::take_reply(settings.volume(), c.number, c, reply).map_err(u32::from)
     }
 
     fn crash(settings: Settings, c: &mut Record) -> Result<Step, u32> {
-        coordinator::crash(settings.shape, c.number, c).map_err(u32::from)
+        coordinator::crash(settings.volume(), c.number, c).map_err(u32::from)
     }
 
     fn overwrite(_: &mut Record, _: &mut Rng) -> bool {
@@ -73,14 +74,14 @@ impl Routines for Independent {
 pub struct Proved;
 
 impl Proved {
-    fn four(settings: Settings) -> proved::Four {
-        let (n, m, size) = Proved::three(settings);
-        (n, m, size, settings.capacity as usize)
+    pub fn five(settings: Settings) -> proved::Five {
+        let (n, m, size, stripes) = Proved::four(settings.volume());
+        (n, m, size, settings.capacity as usize, stripes)
     }
 
-    fn three(settings: Settings) -> proved::Three {
-        let shape = settings.shape;
-        (shape.n as usize, shape.m as usize, shape.size as usize)
+    pub fn four(volume: Volume) -> proved::Four {
+        let shape = volume.shape;
+        (shape.n as usize, shape.m as usize, shape.size as usize, volume.stripes as usize)
     }
 
     /// What the lent answer says, where it is none of a refusal.
@@ -92,6 +93,7 @@ impl Proved {
         let mut step = Step::default();
         if sent[answer::SENT] == 1 {
             let message = Message {
+                stripe: sent[answer::STRIPE],
                 max: sent[answer::MAX],
                 targets: bricks_of(c.lent.shown_row(answer::TARGETS)),
                 ..Message::plain(shown[answer::KIND], sent[answer::TIME], sent[answer::ROUND])
@@ -116,6 +118,7 @@ impl Proved {
         step.ended = outcome.map(|outcome| Ended {
             coordinator: c.lent.numbers[record::COORDINATOR],
             kind: if shown[answer::SEEN_KIND] == 1 { Kind::Read } else { Kind::Write },
+            stripe: sent[answer::SEEN_STRIPE],
             time: sent[answer::SEEN_TIME],
             outcome,
         });
@@ -131,23 +134,24 @@ fn bricks_of(flags: [u8; 16]) -> Vec<u8> {
 impl Routines for Proved {
     type Coordinator = proved::Coordinator;
 
-    fn image(settings: Settings, brick: u64) -> Vec<u8> {
-        let mut image = vec![0; image::length(settings)];
-        assert_eq!(proved::fresh(Proved::four(settings), brick as usize, &mut image), 0);
-        image
+    fn images(settings: Settings, brick: u64) -> Vec<u8> {
+        let mut images = vec![0; image::length(settings) * settings.stripes as usize];
+        assert_eq!(proved::fresh_row(Proved::five(settings), brick as usize, &mut images), 0);
+        images
     }
 
-    fn receive(settings: Settings, brick: u64, image: &mut [u8], message: &Message) -> Result<Option<Reply>, u32> {
+    fn receive(settings: Settings, brick: u64, images: &mut [u8], message: &Message) -> Result<Option<Reply>, u32> {
         let size = settings.shape.size as usize;
-        let (mut out, mut r) = (vec![0; size], [0; 7]);
+        let (mut out, mut r) = (vec![0; size], [0; 8]);
         let flags = proved::flags(&message.targets);
-        let asked = proved::asked(u64::from(message.kind), message.time, message.round, message.max, flags);
+        let asked = proved::asked(u64::from(message.kind), message.time, message.round, message.max, message.stripe, flags);
         let spare = vec![0; size];
         let block = if message.kind == WRITE { &message.block } else { &spare };
-        match proved::receive(Proved::four(settings), brick as usize, image, &asked, block, &mut out, &mut r) {
+        match proved::receive_in_row(Proved::five(settings), brick as usize, images, &asked, block, &mut out, &mut r) {
             0 => Ok(Some(Reply {
                 kind: r[0] as u8,
                 brick: r[1],
+                stripe: r[7],
                 time: r[2],
                 round: r[3],
                 yes: r[4] == 1,
@@ -160,34 +164,36 @@ impl Routines for Proved {
     }
 
     fn coordinator(settings: Settings, number: u64) -> proved::Coordinator {
-        proved::Coordinator::fresh(Proved::three(settings), number)
+        proved::Coordinator::fresh(Proved::four(settings.volume()), number)
     }
 
     fn running(c: &proved::Coordinator) -> Option<u64> {
         c.lent.running().then_some(c.lent.numbers[record::TIME])
     }
 
-    fn write(settings: Settings, c: &mut proved::Coordinator, reading: u64, data: &[u8]) -> Result<Step, u32> {
-        let number = proved::start_write(Proved::three(settings), &mut c.lent, reading, data, &mut c.stripe);
+    fn write(settings: Settings, c: &mut proved::Coordinator, stripe: u64, reading: u64, data: &[u8]) -> Result<Step, u32> {
+        let four = Proved::four(settings.volume());
+        let number = proved::start_write(four, &mut c.lent, stripe as usize, reading, data, &mut c.stripe);
         Proved::step(settings, c, number)
     }
 
-    fn read(settings: Settings, c: &mut proved::Coordinator, reading: u64, first: u64) -> Result<Step, u32> {
-        let number = proved::start_read(Proved::three(settings), &mut c.lent, reading, first as usize);
+    fn read(settings: Settings, c: &mut proved::Coordinator, stripe: u64, reading: u64, first: u64) -> Result<Step, u32> {
+        let four = Proved::four(settings.volume());
+        let number = proved::start_read(four, &mut c.lent, stripe as usize, reading, first as usize);
         Proved::step(settings, c, number)
     }
 
     fn reply(settings: Settings, c: &mut proved::Coordinator, reply: &Reply) -> Result<Step, u32> {
-        let held = reply.block.is_some();
-        let fields = (reply.kind, reply.brick as usize, reply.time, reply.round, reply.yes, reply.found, held);
-        let block = reply.block.as_deref().unwrap_or(&[]);
+        let &Reply { kind, brick, stripe, time, round, yes, found, ref block } = reply;
+        let fields = (kind, brick as usize, stripe as usize, time, round, yes, found, block.is_some());
+        let block = block.as_deref().unwrap_or(&[]);
         let proved::Coordinator { lent, blocks, stripe, coded } = c;
-        let number = proved::take_reply(Proved::three(settings), lent, fields, block, blocks, stripe, coded);
+        let number = proved::take_reply(Proved::four(settings.volume()), lent, fields, block, blocks, stripe, coded);
         Proved::step(settings, c, number)
     }
 
     fn crash(settings: Settings, c: &mut proved::Coordinator) -> Result<Step, u32> {
-        let number = proved::crash(Proved::three(settings), &mut c.lent);
+        let number = proved::crash(Proved::four(settings.volume()), &mut c.lent);
         Proved::step(settings, c, number)
     }
 
@@ -277,6 +283,12 @@ pub enum Break {
     Hollow,
     /// What a read recovers isn't stored: its Writes do nothing.
     NoWriteBack,
+    /// A brick works on the image of stripe 0, whatever a message's stripe.
+    OneImage,
+    /// A coordinator has a clock for each stripe.
+    ClockEach,
+    /// The same, and it counts a reply whatever its stripe.
+    AnyStripe,
 }
 
 fn once(rng: &mut Rng, calls: u64) -> bool {
@@ -302,7 +314,13 @@ pub struct Noted {
 /// A run from a fresh set.
 pub struct World<R: Routines> {
     pub settings: Settings,
+    /// The stripes that operations are started on: all, or a few of many.
+    stripes: Vec<u64>,
+    /// The row of each brick's images, and as it was before the last event.
     pub images: Vec<Vec<u8>>,
+    before: Vec<Vec<u8>>,
+    /// Events that changed the image of another stripe than their own.
+    pub strayed: usize,
     up: Vec<bool>,
     coordinators: Vec<R::Coordinator>,
     pub sent: Vec<Sent>,
@@ -320,11 +338,15 @@ pub struct World<R: Routines> {
 }
 
 impl<R: Routines> World<R> {
-    pub fn new(settings: Settings, faults: Faults) -> World<R> {
+    pub fn new(settings: Settings, stripes: Vec<u64>, faults: Faults) -> World<R> {
         let n = settings.shape.n;
+        let images: Vec<Vec<u8>> = (0..n).map(|b| R::images(settings, b)).collect();
         World {
             settings,
-            images: (0..n).map(|b| R::image(settings, b)).collect(),
+            stripes,
+            before: images.clone(),
+            images,
+            strayed: 0,
             up: vec![true; n as usize],
             coordinators: (0..16).map(|number| R::coordinator(settings, number)).collect(),
             sent: Vec::new(),
@@ -357,11 +379,14 @@ impl<R: Routines> World<R> {
         if let (Some(k), Some(message)) = (last, step.sent.first()) {
             self.noted[k].round = self.noted[k].round.max(message.round);
         }
+        if let Some(k) = last {
+            assert!(step.sent.iter().all(|message| message.stripe == self.operations[k].stripe));
+        }
         self.fresh.extend(self.sent.len()..self.sent.len() + step.sent.len());
         self.sent.extend(step.sent.into_iter().enumerate().map(|(brick, message)| Sent::To(brick, message)));
-        if let Some(Ended { coordinator, kind, time, outcome }) = step.ended {
+        if let Some(Ended { coordinator, kind, stripe, time, outcome }) = step.ended {
             let k = last.expect("an operation of the coordinator");
-            assert_eq!((coordinator, time), (c as u64, self.noted[k].time));
+            assert_eq!((coordinator, stripe, time), (c as u64, self.operations[k].stripe, self.noted[k].time));
             assert_eq!(kind == Kind::Write, self.operations[k].write.is_some());
             let end = match outcome {
                 Outcome::Ok => End::Wrote,
@@ -373,21 +398,23 @@ impl<R: Routines> World<R> {
         }
     }
 
-    /// A write of these bytes, or a read whose targets are counted from a brick, at a clock's reading. Refused, by 9, where one runs.
-    pub fn start(&mut self, c: usize, reading: u64, what: Start) {
+    /// A write of these bytes, or a read whose targets are counted from a brick, on a stripe, at a clock's reading. Refused, by 9, where
+    /// one runs, on whatever stripe.
+    pub fn start(&mut self, c: usize, stripe: u64, reading: u64, what: Start) {
         self.event += 1;
         let idle = self.idle(c);
+        let reading = if idle && self.clock_each() { self.clock_of(c, stripe, reading) } else { reading };
         let coordinator = &mut self.coordinators[c];
         let step = match &what {
-            Start::Write(data) => R::write(self.settings, coordinator, reading, data),
-            Start::Read(first) => R::read(self.settings, coordinator, reading, *first),
+            Start::Write(data) => R::write(self.settings, coordinator, stripe, reading, data),
+            Start::Read(first) => R::read(self.settings, coordinator, stripe, reading, *first),
         };
         match step {
             Ok(step) => {
                 assert!(idle);
                 let time = R::running(coordinator).expect("an operation runs");
                 let write = if let Start::Write(data) = what { Some(data) } else { None };
-                self.operations.push(Operation { write, began: self.event, ended: None });
+                self.operations.push(Operation { stripe, write, began: self.event, ended: None });
                 self.noted.push(Noted { coordinator: c, time, round: 1, stored: 0 });
                 self.after(c, step);
             }
@@ -395,11 +422,25 @@ impl<R: Routines> World<R> {
         }
     }
 
-    /// The same with bytes that no other write has, or some first target, at a reading as the faults have it.
-    pub fn start_some(&mut self, c: usize, write: bool, rng: &mut Rng) {
+    fn clock_each(&self) -> bool {
+        matches!(self.faults.broken, Break::ClockEach | Break::AnyStripe)
+    }
+
+    /// A coordinator whose last count is that of its last operation on the stripe: it forgets its own, and the reading is past that one.
+    fn clock_of(&mut self, c: usize, stripe: u64, reading: u64) -> u64 {
+        self.coordinators[c] = R::coordinator(self.settings, c as u64);
+        let drawn = |(o, noted): (&Operation, &Noted)| (o.stripe == stripe && noted.coordinator == c).then(|| count_of(noted.time));
+        let last = self.operations.iter().zip(&self.noted).filter_map(drawn).max().unwrap_or(0);
+        reading.max(last + 1)
+    }
+
+    /// The same with bytes that no other write has, on whatever stripe, or some first target, at a reading as the faults have it.
+    pub fn start_some(&mut self, c: usize, stripe: u64, write: bool, rng: &mut Rng) {
         self.clock = match self.faults.broken {
             Break::ClocksForget => 0,
             _ if self.faults.rising => self.clock + rng.below(3),
+            // Each stripe's clock counts from 1, so that times meet.
+            _ if self.clock_each() => 0,
             _ => rng.below(12),
         };
         let what = if write {
@@ -414,7 +455,7 @@ impl<R: Routines> World<R> {
         } else {
             Start::Read(rng.below(self.settings.shape.n))
         };
-        self.start(c, self.clock, what);
+        self.start(c, stripe, self.clock, what);
     }
 
     /// A crash: the coordinator is idle then and keeps its count.
@@ -439,7 +480,8 @@ impl<R: Routines> World<R> {
     pub fn switch(&mut self, brick: usize, up: bool) {
         self.event += 1;
         if up && !self.up[brick] && self.faults.broken == Break::BricksForget {
-            self.images[brick] = R::image(self.settings, brick as u64);
+            self.images[brick] = R::images(self.settings, brick as u64);
+            self.before[brick].clone_from(&self.images[brick]);
         }
         self.up[brick] = up;
     }
@@ -450,8 +492,11 @@ impl<R: Routines> World<R> {
         match self.sent[which].clone() {
             Sent::To(brick, message) if self.up[brick] => self.at_brick(brick, &message),
             Sent::To(..) => {}
-            Sent::Back(reply) => {
+            Sent::Back(mut reply) => {
                 let c = coordinator_of(reply.time) as usize;
+                if let (Break::AnyStripe, Some(k)) = (self.faults.broken, self.noted.iter().rposition(|noted| noted.coordinator == c)) {
+                    reply.stripe = self.operations[k].stripe;
+                }
                 match R::reply(self.settings, &mut self.coordinators[c], &reply) {
                     Ok(step) => self.after(c, step),
                     Err(refusal) => assert_eq!(refusal, 11),
@@ -461,19 +506,26 @@ impl<R: Routines> World<R> {
     }
 
     fn at_brick(&mut self, brick: usize, message: &Message) {
-        let image = &mut self.images[brick];
-        let kept = if self.faults.broken == Break::Nothing { Vec::new() } else { image.clone() };
-        let reply = R::receive(self.settings, brick as u64, image, message).expect("what was sent is never refused");
-        assert_eq!(reply.is_none(), message.kind == TRIM);
-        let of_it = (0..self.noted.len()).find(|&k| self.noted[k].time == message.time);
+        let images = &mut self.images[brick];
+        let of_it = (0..self.noted.len()).find(|&k| (self.operations[k].stripe, self.noted[k].time) == (message.stripe, message.time));
+        let reply = if self.faults.broken == Break::OneImage {
+            let elsewhere = Message { stripe: 0, ..message.clone() };
+            let reply = R::receive(self.settings, brick as u64, images, &elsewhere);
+            reply.map(|reply| reply.map(|reply| Reply { stripe: message.stripe, ..reply }))
+        } else {
+            R::receive(self.settings, brick as u64, images, message)
+        };
+        let reply = reply.expect("what was sent is never refused");
+        assert_eq!(reply.as_ref().map(|reply| reply.stripe), (message.kind != TRIM).then_some(message.stripe));
         if message.kind == WRITE {
             let of_read = of_it.is_some_and(|k| self.operations[k].write.is_none());
             match self.faults.broken {
-                Break::Hollow if self.event % 3 == 0 => *image = kept,
-                Break::NoWriteBack if of_read => *image = kept,
+                Break::Hollow if self.event % 3 == 0 => images.clone_from(&self.before[brick]),
+                Break::NoWriteBack if of_read => images.clone_from(&self.before[brick]),
                 _ => {}
             }
         }
+        self.compare_others(brick, message.stripe);
         if let Some(reply) = reply {
             if let (WRITE, true, Some(k)) = (reply.kind, reply.yes, of_it) {
                 self.noted[k].stored += 1;
@@ -481,6 +533,24 @@ impl<R: Routines> World<R> {
             self.fresh.push(self.sent.len());
             self.sent.push(Sent::Back(reply));
         }
+    }
+
+    /// After an event on a stripe: the bytes of all other stripes' images are those before it.
+    fn compare_others(&mut self, brick: usize, stripe: u64) {
+        let length = image::length(self.settings);
+        let own = stripe as usize * length..(stripe as usize + 1) * length;
+        let (row, before) = (&self.images[brick], &mut self.before[brick]);
+        if row[..own.start] != before[..own.start] || row[own.end..] != before[own.end..] {
+            self.strayed += 1;
+            before.clone_from(row);
+        } else {
+            before[own.clone()].copy_from_slice(&row[own]);
+        }
+    }
+
+    /// One of the stripes in use.
+    fn some_stripe(&self, rng: &mut Rng) -> u64 {
+        self.stripes[rng.below(self.stripes.len() as u64) as usize]
     }
 
     /// One of the things that may happen next.
@@ -509,7 +579,7 @@ impl<R: Routines> World<R> {
         let room = self.operations.len() < most && running.len() < faults.beside;
         if room && (self.fresh.is_empty() || rng.once_in(if running.is_empty() { 6 } else { 25 })) {
             let c = rng.below(faults.coordinators) as usize;
-            self.start_some(c, rng.once_in(2), rng);
+            self.start_some(c, self.some_stripe(rng), rng.once_in(2), rng);
             return;
         }
         if self.fresh.is_empty() {
@@ -556,7 +626,7 @@ impl<R: Routines> World<R> {
         }
     }
 
-    /// A whole run: so many operations among faults, then reads in a row with all bricks up.
+    /// A whole run: so many operations among faults, then reads of each stripe in a row with all bricks up.
     fn play(&mut self, most: usize, reads: usize, rng: &mut Rng) {
         let mut idle = 0;
         while idle < 6 {
@@ -577,12 +647,12 @@ impl<R: Routines> World<R> {
             }
         }
         (0..self.n()).for_each(|b| self.switch(b, true));
-        for _ in 0..reads {
+        for stripe in self.stripes.repeat(reads) {
             let Some(c) = rng.shuffled(16).into_iter().find(|&c| self.idle(c)) else { return };
             // A clock that is ahead of all others.
             self.clock += 40;
             self.faults.rising = true;
-            self.start_some(c, false, rng);
+            self.start_some(c, stripe, false, rng);
             while !self.idle(c) && !self.fresh.is_empty() {
                 let which = self.fresh.swap_remove(rng.below(self.fresh.len() as u64) as usize);
                 self.arrive(which);
@@ -593,9 +663,28 @@ impl<R: Routines> World<R> {
         }
     }
 
-    /// Bytes of the stripe, all zeros at first.
+    /// Bytes of a stripe, all zeros at first.
     pub fn stripe(&self) -> usize {
         self.settings.shape.data_len()
+    }
+
+    /// Whether two operations have one time.
+    pub fn shares_a_time(&self) -> bool {
+        let times: HashSet<u64> = self.noted.iter().map(|noted| noted.time).collect();
+        times.len() < self.noted.len()
+    }
+
+    /// What a run breaks of what is promised, if anything.
+    pub fn fault(&self) -> Option<&'static str> {
+        if self.strayed > 0 {
+            Some("an event on one stripe changed another's image")
+        } else if self.shares_a_time() {
+            Some("two operations of one time")
+        } else if by_stripe(&self.operations).iter().any(|operations| !has_order(operations, self.stripe())) {
+            Some("no order")
+        } else {
+            None
+        }
     }
 
     /// Counts what occurred.
@@ -611,6 +700,10 @@ impl<R: Routines> World<R> {
         tally.add("run with 8 or more at once", usize::from(at_once >= 8));
         tally.add("run of 10 to 16 bricks", usize::from(self.n() >= 10));
         tally.add("run with m above 1", usize::from(self.settings.shape.m > 1));
+        tally.add("run of 64 stripes", usize::from(self.settings.stripes == 64));
+        let stripes = by_stripe(all);
+        tally.add("run on 3 or more stripes", usize::from(stripes.len() >= 3));
+        tally.add("run with 5 or more on each of two stripes", usize::from(stripes.iter().filter(|list| list.len() >= 5).count() >= 2));
         for (o, noted) in all.iter().zip(&self.noted) {
             let kind = match (&o.write, o.ended.as_ref().map(|(_, end)| end)) {
                 (Some(_), Some(End::Wrote)) => "written",
@@ -640,10 +733,10 @@ impl<R: Routines> World<R> {
         }
     }
 
-    /// The run, told where it has no order.
+    /// The run, told where it breaks a promise.
     pub fn story(&self, seed: u64) -> String {
         let rows: Vec<String> = self.operations.iter().zip(&self.noted).map(|row| format!("  {row:?}")).collect();
-        format!("seed {seed}, {:?}, {:?}: no order\n{}", self.settings, self.faults, rows.join("\n"))
+        format!("seed {seed}, {:?}, {:?}: {:?}\n{}", self.settings, self.faults, self.fault(), rows.join("\n"))
     }
 }
 
@@ -672,8 +765,24 @@ fn some_settings(rng: &mut Rng) -> Settings {
     // Mostly an m at which a quorum leaves out some bricks.
     let m = if rng.once_in(3) { rng.between(1, n) } else { rng.between(1, n.div_ceil(2)) };
     let size = if rng.once_in(12) { [16, 64, 256][rng.below(3) as usize] } else { rng.between(1, 4) };
-    let capacity = if rng.once_in(10) { rng.between(7, 32) } else { rng.between(2, 6) };
-    Settings::new(n, m, size, capacity)
+    let stripes = match rng.below(40) {
+        0..=19 => 1,
+        20..=38 => rng.between(2, 5),
+        _ => 64,
+    };
+    let capacity = match rng.below(10) {
+        0 if stripes < 64 => rng.between(7, 32),
+        _ => rng.between(2, 6),
+    };
+    Settings::new(n, m, size, capacity, stripes)
+}
+
+/// The stripes that a run works on: all of a few; of many the first, the last and another.
+fn some_stripes(stripes: u64, rng: &mut Rng) -> Vec<u64> {
+    if stripes <= 5 {
+        return (0..stripes).collect();
+    }
+    vec![0, rng.between(1, stripes - 2), stripes - 1]
 }
 
 /// A run at some settings, with up to so many operations among some faults, changed as asked, then so many reads.
@@ -682,7 +791,8 @@ pub fn some_run<R: Routines>(seed: u64, most: usize, reads: usize, change: impl 
     let settings = some_settings(&mut rng);
     let mut faults = Faults::some(&mut rng);
     change(&mut faults);
-    let mut world = World::new(settings, faults);
+    let stripes = some_stripes(settings.stripes, &mut rng);
+    let mut world = World::new(settings, stripes, faults);
     let most = rng.between(most.min(2) as u64, most as u64) as usize;
     world.play(most, reads, &mut rng);
     world

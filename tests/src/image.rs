@@ -130,6 +130,12 @@ pub fn fresh(settings: Settings, brick: u64) -> Result<Vec<u8>, Refusal> {
     write(settings, brick, &State::fresh(settings))
 }
 
+/// The images of a fresh brick of a volume, one a stripe, one after another.
+/// Refused: 1 settings, 3 brick.
+pub fn fresh_row(settings: Settings, brick: u64) -> Result<Vec<u8>, Refusal> {
+    fresh(settings, brick).map(|image| image.repeat(settings.stripes as usize))
+}
+
 fn check_holds(block: &[u8]) -> bool {
     number16(block, 0) == check(block)
 }

@@ -10,8 +10,8 @@ pub const TRIM: u8 = 5;
 
 const READING: u8 = 1;
 const WRITING: u8 = 2;
-/// n, m and the block size, as every event gives them.
-pub type Given = (usize, usize, usize);
+/// n, m, the block size and the stripes, as every event gives them.
+pub type Given = (usize, usize, usize, usize);
 
 const LAST_COUNT: u64 = (1 << 40) - 1;
 const NO_UPPER_END: u64 = 1 << 44;
@@ -20,6 +20,7 @@ const NO_UPPER_END: u64 = 1 << 44;
 #[derive(Clone, Copy)]
 pub struct Message {
     pub kind: u8,
+    pub stripe: usize,
     pub time: u64,
     pub round: u64,
     pub max: u64,
@@ -30,6 +31,7 @@ pub struct Message {
 pub struct Reply {
     pub kind: u8,
     pub brick: usize,
+    pub stripe: usize,
     pub time: u64,
     pub round: u64,
     pub yes: bool,
@@ -52,10 +54,12 @@ pub struct Coordinator {
     n: usize,
     m: usize,
     size: usize,
+    stripes: usize,
     number: u64,
     last: u64,
     kind: u8,
     phase: u8,
+    stripe_number: usize,
     time: u64,
     round: u64,
     max: u64,
@@ -130,15 +134,17 @@ impl Tables {
 }
 
 impl Coordinator {
-    pub fn new(n: usize, m: usize, size: usize, number: u64) -> Coordinator {
+    pub fn new((n, m, size, stripes): Given, number: u64) -> Coordinator {
         Coordinator {
             n,
             m,
             size,
+            stripes,
             number,
             last: 0,
             kind: 0,
             phase: 0,
+            stripe_number: 0,
             time: 0,
             round: 0,
             max: 0,
@@ -173,7 +179,7 @@ impl Coordinator {
     /// Whether the record keeps every rule.
     fn sound(&self) -> bool {
         let op = match (self.kind, self.phase) {
-            (0, 0) => self.round == 0 && self.max == 0 && self.first == 0,
+            (0, 0) => self.round == 0 && self.max == 0 && self.first == 0 && self.stripe_number == 0,
             (READING, READ) => self.round == 1 && self.max == 0,
             (READING, ORDER_READ) if self.round == 2 => self.max == NO_UPPER_END,
             (READING, ORDER_READ) => (3..=1000).contains(&self.round) && valid(self.max),
@@ -183,7 +189,7 @@ impl Coordinator {
             _ => false,
         };
         let timed = if self.kind == 0 { self.time == 0 } else { self.last > 0 && self.time == self.last * 16 + self.number };
-        if !op || !timed || self.last > LAST_COUNT || self.first >= self.n {
+        if !op || !timed || self.last > LAST_COUNT || self.first >= self.n || self.stripe_number >= self.stripes {
             return false;
         }
         let named = if self.kind == READING && self.phase == WRITE { self.m } else { 0 };
@@ -203,18 +209,20 @@ impl Coordinator {
         within && held && times && self.counted.count_ones() < self.quorum()
     }
 
-    fn refusal(&self, given: Given) -> u32 {
+    fn refusal(&self, given: Given, stripe: usize) -> u32 {
         if self.number > 15 {
             3
-        } else if (self.n, self.m, self.size) == given && self.sound() {
+        } else if stripe >= given.3 {
+            13
+        } else if (self.n, self.m, self.size, self.stripes) == given && self.sound() {
             0
         } else {
             6
         }
     }
 
-    fn begin(&mut self, given: Given, reading: u64, kind: u8, phase: u8, first: usize) -> Act {
-        let refusal = self.refusal(given);
+    fn begin(&mut self, given: Given, stripe: usize, reading: u64, kind: u8, phase: u8, first: usize) -> Act {
+        let refusal = self.refusal(given, stripe);
         if refusal != 0 {
             return Act::Refused(refusal);
         }
@@ -232,22 +240,23 @@ impl Coordinator {
         self.time = self.last * 16 + self.number;
         self.round = 0;
         self.first = first;
+        self.stripe_number = stripe;
         self.open(phase, 0)
     }
 
-    pub fn start_write(&mut self, given: Given, reading: u64, data: &[u8]) -> Act {
-        let act = self.begin(given, reading, WRITING, ORDER, 0);
+    pub fn start_write(&mut self, given: Given, stripe: usize, reading: u64, data: &[u8]) -> Act {
+        let act = self.begin(given, stripe, reading, WRITING, ORDER, 0);
         if let Act::Sends(_) = act {
             self.stripe.copy_from_slice(data);
         }
         act
     }
 
-    pub fn start_read(&mut self, given: Given, reading: u64, first: usize) -> Act {
+    pub fn start_read(&mut self, given: Given, stripe: usize, reading: u64, first: usize) -> Act {
         if first >= given.0 {
             return Act::Refused(3);
         }
-        self.begin(given, reading, READING, READ, first)
+        self.begin(given, stripe, reading, READING, READ, first)
     }
 
     fn forget(&mut self) {
@@ -267,7 +276,7 @@ impl Coordinator {
         self.max = max;
         self.forget();
         let targets = if phase == READ { self.targets() } else { 0 };
-        Act::Sends(Message { kind: phase, time: self.time, round: self.round, max, targets })
+        Act::Sends(Message { kind: phase, stripe: self.stripe_number, time: self.time, round: self.round, max, targets })
     }
 
     fn end(&mut self) {
@@ -277,6 +286,7 @@ impl Coordinator {
         self.round = 0;
         self.max = 0;
         self.first = 0;
+        self.stripe_number = 0;
         self.bricks = [0; 16];
         self.forget();
     }
@@ -289,7 +299,11 @@ impl Coordinator {
         if !sense {
             return 10;
         }
-        let ours = self.kind != 0 && r.time == self.time && r.round == self.round && r.kind == self.phase;
+        let ours = self.kind != 0
+            && r.stripe == self.stripe_number
+            && r.time == self.time
+            && r.round == self.round
+            && r.kind == self.phase;
         let bit = 1_u16 << r.brick;
         let fits = match r.kind {
             READ => r.held == (r.yes && self.targets() & bit != 0),
@@ -316,7 +330,7 @@ impl Coordinator {
         if r.brick >= given.0 {
             return Act::Refused(3);
         }
-        let mut refusal = self.refusal(given);
+        let mut refusal = self.refusal(given, r.stripe);
         if refusal == 0 {
             refusal = self.reply_refusal(r);
         }
@@ -350,7 +364,7 @@ impl Coordinator {
             ORDER => self.store(),
             ORDER_READ => self.decide_recovery(),
             _ => {
-                let trim = Message { kind: TRIM, time: self.time, round: self.round, max: 0, targets: 0 };
+                let trim = Message { kind: TRIM, stripe: self.stripe_number, time: self.time, round: self.round, max: 0, targets: 0 };
                 let read = self.kind == READING;
                 self.end();
                 if read {

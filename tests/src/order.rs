@@ -1,6 +1,7 @@
-//! The order that document 01 asks for, searched in a history of operations.
+//! The order that document 01 asks for, searched in a history of operations. It is promised stripe by stripe, so a history is first
+//! split by stripes.
 
-use std::collections::HashSet;
+use std::collections::{BTreeMap, HashSet};
 
 /// How an operation ended.
 #[derive(Clone, Debug, PartialEq, Eq)]
@@ -14,6 +15,7 @@ pub enum End {
 /// An operation of a run, with the events at which it began and ended. A write has its bytes.
 #[derive(Clone, Debug)]
 pub struct Operation {
+    pub stripe: u64,
     pub write: Option<Vec<u8>>,
     pub began: usize,
     pub ended: Option<(usize, End)>,
@@ -35,6 +37,15 @@ impl Operation {
     pub fn ended_before(&self, other: &Operation) -> bool {
         self.ended.as_ref().is_some_and(|(event, _)| *event < other.began)
     }
+}
+
+/// The operations of each stripe, as they stand in the history.
+pub fn by_stripe(operations: &[Operation]) -> Vec<Vec<Operation>> {
+    let mut stripes = BTreeMap::<u64, Vec<Operation>>::new();
+    for operation in operations {
+        stripes.entry(operation.stripe).or_default().push(operation.clone());
+    }
+    stripes.into_values().collect()
 }
 
 /// Whether operation i may come next after those in the list, where the plain stripe stands at `content`.
@@ -64,7 +75,7 @@ fn search(operations: &[Operation], list: &mut Vec<usize>, content: &[u8]) -> bo
     false
 }
 
-/// The order by brute force, from a stripe of so many zeros.
+/// The order of one stripe's operations by brute force, from so many zeros.
 pub fn brute_order(operations: &[Operation], stripe: usize) -> Option<Vec<usize>> {
     let mut list = Vec::new();
     search(operations, &mut list, &vec![0; stripe]).then_some(list)

@@ -11,7 +11,7 @@ mod c {
         pub fn probe_log(a: u8) -> u8;
         pub fn probe_quorum(n: usize, m: usize) -> usize;
         pub fn probe_time(t: u64) -> bool;
-        pub fn probe_settings(n: usize, m: usize, size: usize, capacity: usize) -> u32;
+        pub fn probe_settings(n: usize, m: usize, size: usize, capacity: usize, stripes: usize) -> u32;
         pub fn probe_draw(coordinator: u64, last: u64, reading: u64, out: *mut u64, len: usize) -> u32;
     }
 
@@ -34,7 +34,12 @@ mod c {
     }
 
     routines! {
-        (n: usize, m: usize, size: usize, capacity: usize, brick: usize)
+        (n: usize, m: usize, size: usize, capacity: usize, stripes: usize)
+        volume_place(block: usize, place: *mut usize, place_len: usize)
+    }
+
+    routines! {
+        (n: usize, m: usize, size: usize, capacity: usize, stripes: usize, brick: usize)
         brick_fresh(image: *mut u8, image_len: usize)
         brick_panel(image: *const u8, image_len: usize, times: *mut u64, times_len: usize)
         brick_entry(image: *const u8, image_len: usize, place: usize, found: *mut u64, found_len: usize)
@@ -42,19 +47,26 @@ mod c {
             image: *mut u8, image_len: usize, asked: *const u64, asked_len: usize, block: *const u8, block_len: usize,
             out: *mut u8, out_len: usize, reply: *mut u64, reply_len: usize
         )
+        volume_fresh(images: *mut u8, images_len: usize)
+        volume_receive(
+            images: *mut u8, images_len: usize, asked: *const u64, asked_len: usize, block: *const u8, block_len: usize,
+            out: *mut u8, out_len: usize, reply: *mut u64, reply_len: usize
+        )
     }
 
     routines! {
         (
-            n: usize, m: usize, size: usize, numbers: *mut u64, numbers_len: usize, bytes: *mut u8, bytes_len: usize,
-            sent: *mut u64, sent_len: usize, shown: *mut u8, shown_len: usize
+            n: usize, m: usize, size: usize, stripes: usize, numbers: *mut u64, numbers_len: usize, bytes: *mut u8,
+            bytes_len: usize, sent: *mut u64, sent_len: usize, shown: *mut u8, shown_len: usize
         )
-        coord_start_write(reading: u64, given: *const u8, given_len: usize, stripe: *mut u8, stripe_len: usize)
-        coord_start_read(reading: u64, first: usize)
+        coord_start_write(
+            stripe_number: usize, reading: u64, given: *const u8, given_len: usize, stripe: *mut u8, stripe_len: usize
+        )
+        coord_start_read(stripe_number: usize, reading: u64, first: usize)
         coord_take_reply(
-            kind: u8, brick: usize, time: u64, round: u64, yes: bool, found: u64, has: bool, block: *const u8,
-            block_len: usize, blocks: *mut u8, blocks_len: usize, stripe: *mut u8, stripe_len: usize, coded: *mut u8,
-            coded_len: usize
+            kind: u8, brick: usize, stripe_number: usize, time: u64, round: u64, yes: bool, found: u64, has: bool,
+            block: *const u8, block_len: usize, blocks: *mut u8, blocks_len: usize, stripe: *mut u8, stripe_len: usize,
+            coded: *mut u8, coded_len: usize
         )
         coord_crash()
     }
@@ -88,8 +100,8 @@ pub fn is_time(t: u64) -> bool {
     unsafe { c::probe_time(t) }
 }
 
-pub fn settings(n: usize, m: usize, size: usize, capacity: usize) -> u32 {
-    unsafe { c::probe_settings(n, m, size, capacity) }
+pub fn settings((n, m, size, capacity, stripes): Five) -> u32 {
+    unsafe { c::probe_settings(n, m, size, capacity, stripes) }
 }
 
 pub fn draw(coordinator: u64, last: u64, reading: u64, out: &mut [u64]) -> u32 {
@@ -105,33 +117,47 @@ pub fn decode(n: usize, m: usize, size: usize, bricks: &[u8], blocks: &[u8], dat
     unsafe { c::stripe_decode(n, m, size, b, bricks.len(), k, blocks.len(), data.as_mut_ptr(), data.len()) }
 }
 
-/// Four settings: n, m, block size, log capacity.
-pub type Four = (usize, usize, usize, usize);
+/// Five settings: n, m, block size, log capacity, stripes.
+pub type Five = (usize, usize, usize, usize, usize);
 
-pub fn fresh((n, m, size, capacity): Four, brick: usize, image: &mut [u8]) -> u32 {
-    unsafe { c::brick_fresh(n, m, size, capacity, brick, image.as_mut_ptr(), image.len()) }
+/// The stripe and data block of a client block.
+pub fn place((n, m, size, capacity, stripes): Five, block: usize, place: &mut [usize]) -> u32 {
+    unsafe { c::volume_place(n, m, size, capacity, stripes, block, place.as_mut_ptr(), place.len()) }
 }
 
-pub fn panel((n, m, size, capacity): Four, brick: usize, image: &[u8], times: &mut [u64]) -> u32 {
+pub fn fresh((n, m, size, capacity, stripes): Five, brick: usize, image: &mut [u8]) -> u32 {
+    unsafe { c::brick_fresh(n, m, size, capacity, stripes, brick, image.as_mut_ptr(), image.len()) }
+}
+
+/// The same for the row of a brick's images, one a stripe.
+pub fn fresh_row((n, m, size, capacity, stripes): Five, brick: usize, images: &mut [u8]) -> u32 {
+    unsafe { c::volume_fresh(n, m, size, capacity, stripes, brick, images.as_mut_ptr(), images.len()) }
+}
+
+pub fn panel((n, m, size, capacity, stripes): Five, brick: usize, image: &[u8], times: &mut [u64]) -> u32 {
     let (i, t) = (image.as_ptr(), times.as_mut_ptr());
-    unsafe { c::brick_panel(n, m, size, capacity, brick, i, image.len(), t, times.len()) }
+    unsafe { c::brick_panel(n, m, size, capacity, stripes, brick, i, image.len(), t, times.len()) }
 }
 
 /// The view's entry at a place: its time and the place of its block.
-pub fn entry((n, m, size, capacity): Four, brick: usize, image: &[u8], place: usize, found: &mut [u64]) -> u32 {
+pub fn entry((n, m, size, capacity, stripes): Five, brick: usize, image: &[u8], place: usize, found: &mut [u64]) -> u32 {
     let (i, f) = (image.as_ptr(), found.as_mut_ptr());
-    unsafe { c::brick_entry(n, m, size, capacity, brick, i, image.len(), place, f, found.len()) }
+    unsafe { c::brick_entry(n, m, size, capacity, stripes, brick, i, image.len(), place, f, found.len()) }
 }
 
-/// A message's numbers: kind, time, round, max, and a flag for each brick that a set may have.
-pub type Asked = [u64; 20];
+/// A message's numbers: kind, time, round, max, stripe, and a flag for each brick that a set may have.
+pub type Asked = [u64; 21];
+const TARGETS: usize = 5;
 
-pub fn asked(kind: u64, time: u64, round: u64, max: u64, flags: [u64; 16]) -> Asked {
-    let mut asked = [0; 20];
-    asked[..4].copy_from_slice(&[kind, time, round, max]);
-    asked[4..].copy_from_slice(&flags);
+pub fn asked(kind: u64, time: u64, round: u64, max: u64, stripe: u64, flags: [u64; 16]) -> Asked {
+    let mut asked = [0; 21];
+    asked[..TARGETS].copy_from_slice(&[kind, time, round, max, stripe]);
+    asked[TARGETS..].copy_from_slice(&flags);
     asked
 }
+
+/// A reply's numbers: kind, brick, time, round, yes, found, whether it holds a block, stripe.
+pub type Replied = [u64; 8];
 
 /// The flags of a list of bricks below 16: how often each stands in it.
 pub fn flags(bricks: &[u8]) -> [u64; 16] {
@@ -145,31 +171,45 @@ pub fn flags(bricks: &[u8]) -> [u64; 16] {
 /// The number that tells silence from a reply and from every refusal.
 pub const SILENCE: u32 = 100;
 
-/// One message at one brick: 0 a reply, `SILENCE`, else the refusal.
-#[allow(clippy::too_many_arguments)]
-pub fn receive(
-    (n, m, size, capacity): Four,
-    brick: usize,
-    image: &mut [u8],
-    asked: &[u64],
-    block: &[u8],
-    out: &mut [u8],
-    reply: &mut [u64],
-) -> u32 {
-    let (i, a, b, o, r) = (image.as_mut_ptr(), asked.as_ptr(), block.as_ptr(), out.as_mut_ptr(), reply.as_mut_ptr());
-    unsafe {
-        c::brick_receive(
-            n, m, size, capacity, brick, i, image.len(), a, asked.len(), b, block.len(), o, out.len(), r, reply.len(),
-        )
-    }
+/// A routine that takes a message on what a brick is lent: 0 a reply, `SILENCE`, else the refusal.
+pub type Receive = fn(Five, usize, &mut [u8], &[u64], &[u8], &mut [u8], &mut [u64]) -> u32;
+
+/// Calls a routine of a brick that takes a message.
+macro_rules! receive {
+    ($(#[$doc:meta])* $name:ident $routine:ident) => {
+        $(#[$doc])*
+        #[allow(clippy::too_many_arguments)]
+        pub fn $name(
+            (n, m, size, capacity, stripes): Five,
+            brick: usize,
+            lent: &mut [u8],
+            asked: &[u64],
+            block: &[u8],
+            out: &mut [u8],
+            reply: &mut [u64],
+        ) -> u32 {
+            let (i, a, b, o, r) = (lent.as_mut_ptr(), asked.as_ptr(), block.as_ptr(), out.as_mut_ptr(), reply.as_mut_ptr());
+            let (j, c, d, e, f) = (lent.len(), asked.len(), block.len(), out.len(), reply.len());
+            unsafe { c::$routine(n, m, size, capacity, stripes, brick, i, j, a, c, b, d, o, e, r, f) }
+        }
+    };
 }
 
-/// Three settings of a coordinator: n, m, block size.
-pub type Three = (usize, usize, usize);
+receive! {
+    /// One message at one brick, on the image of its stripe.
+    receive brick_receive
+}
+receive! {
+    /// The same on the row of a brick's images, one a stripe.
+    receive_in_row volume_receive
+}
+
+/// Four settings of a coordinator: n, m, block size, stripes.
+pub type Four = (usize, usize, usize, usize);
 
 /// A record's numbers and bytes: how many there are, and where each stands, or a row of sixteen begins.
 pub mod record {
-    pub const NUMBERS: usize = 25;
+    pub const NUMBERS: usize = 27;
     pub const COORDINATOR: usize = 0;
     pub const LAST: usize = 1;
     pub const TIME: usize = 2;
@@ -179,7 +219,9 @@ pub mod record {
     pub const N: usize = 6;
     pub const M: usize = 7;
     pub const SIZE: usize = 8;
-    pub const FOUND: usize = 9;
+    pub const STRIPES: usize = 9;
+    pub const STRIPE: usize = 10;
+    pub const FOUND: usize = 11;
 
     pub const BYTES: usize = 66;
     pub const KIND: usize = 0;
@@ -192,12 +234,14 @@ pub mod record {
 
 /// The same of an answer.
 pub mod answer {
-    pub const NUMBERS: usize = 8;
+    pub const NUMBERS: usize = 11;
     pub const SENT: usize = 0;
     pub const TIME: usize = 1;
     pub const ROUND: usize = 2;
     pub const MAX: usize = 3;
     pub const SEEN_TIME: usize = 4;
+    pub const STRIPE: usize = 8;
+    pub const SEEN_STRIPE: usize = 9;
 
     pub const BYTES: usize = 52;
     pub const KIND: usize = 0;
@@ -225,10 +269,10 @@ pub struct Lent {
 
 impl Lent {
     /// An idle coordinator for these settings that drew no time yet.
-    pub fn fresh((n, m, size): Three, coordinator: u64) -> Lent {
+    pub fn fresh((n, m, size, stripes): Four, coordinator: u64) -> Lent {
         let mut numbers = vec![0; record::NUMBERS];
         numbers[record::COORDINATOR] = coordinator;
-        numbers[record::N..=record::SIZE].copy_from_slice(&[n as u64, m as u64, size as u64]);
+        numbers[record::N..=record::STRIPES].copy_from_slice(&[n, m, size, stripes].map(|number| number as u64));
         Lent { numbers, bytes: vec![0; record::BYTES], sent: vec![0; answer::NUMBERS], shown: vec![0; answer::BYTES] }
     }
 
@@ -253,9 +297,9 @@ pub struct Coordinator {
 
 impl Coordinator {
     /// An idle coordinator that drew no time yet, with zeros in its buffers.
-    pub fn fresh((n, m, size): Three, number: u64) -> Coordinator {
+    pub fn fresh((n, m, size, stripes): Four, number: u64) -> Coordinator {
         let (blocks, coded) = (vec![0; n * size], vec![0; n * size]);
-        Coordinator { lent: Lent::fresh((n, m, size), number), blocks, stripe: vec![0; m * size], coded }
+        Coordinator { lent: Lent::fresh((n, m, size, stripes), number), blocks, stripe: vec![0; m * size], coded }
     }
 
     /// Other bytes in the buffers beside the record, as a crash may leave them.
@@ -266,36 +310,41 @@ impl Coordinator {
     }
 }
 
-/// A reply's numbers: kind, brick, time, round, yes, found, and whether it holds a block.
-pub type Replied = (u8, usize, u64, u64, bool, u64, bool);
+/// A reply as a coordinator takes it: kind, brick, stripe, time, round, yes, found, and whether it holds a block.
+pub type Taken = (u8, usize, usize, u64, u64, bool, u64, bool);
+
+/// A brick's reply as a coordinator takes it.
+pub fn taken([kind, brick, time, round, yes, found, held, stripe]: Replied) -> Taken {
+    (kind as u8, brick as usize, stripe as usize, time, round, yes == 1, found, held == 1)
+}
 
 /// Calls a routine of a coordinator: on the settings, what is lent, and its own arguments.
 macro_rules! call {
-    ($routine:ident, $three:expr, $lent:expr $(, $own:expr)*) => {{
-        let ((n, m, size), l): (Three, &mut Lent) = ($three, $lent);
+    ($routine:ident, $four:expr, $lent:expr $(, $own:expr)*) => {{
+        let ((n, m, size, stripes), l): (Four, &mut Lent) = ($four, $lent);
         let (a, b, c, d) = (l.numbers.as_mut_ptr(), l.bytes.as_mut_ptr(), l.sent.as_mut_ptr(), l.shown.as_mut_ptr());
         let (e, f, g, h) = (l.numbers.len(), l.bytes.len(), l.sent.len(), l.shown.len());
-        unsafe { c::$routine(n, m, size, a, e, b, f, c, g, d, h $(, $own)*) }
+        unsafe { c::$routine(n, m, size, stripes, a, e, b, f, c, g, d, h $(, $own)*) }
     }};
 }
 
-pub fn start_write(three: Three, lent: &mut Lent, reading: u64, given: &[u8], stripe: &mut [u8]) -> u32 {
-    call!(coord_start_write, three, lent, reading, given.as_ptr(), given.len(), stripe.as_mut_ptr(), stripe.len())
+pub fn start_write(four: Four, lent: &mut Lent, number: usize, reading: u64, given: &[u8], stripe: &mut [u8]) -> u32 {
+    call!(coord_start_write, four, lent, number, reading, given.as_ptr(), given.len(), stripe.as_mut_ptr(), stripe.len())
 }
 
-pub fn start_read(three: Three, lent: &mut Lent, reading: u64, first: usize) -> u32 {
-    call!(coord_start_read, three, lent, reading, first)
+pub fn start_read(four: Four, lent: &mut Lent, number: usize, reading: u64, first: usize) -> u32 {
+    call!(coord_start_read, four, lent, number, reading, first)
 }
 
-pub fn crash(three: Three, lent: &mut Lent) -> u32 {
-    call!(coord_crash, three, lent)
+pub fn crash(four: Four, lent: &mut Lent) -> u32 {
+    call!(coord_crash, four, lent)
 }
 
 #[allow(clippy::too_many_arguments)]
 pub fn take_reply(
-    three: Three,
+    four: Four,
     lent: &mut Lent,
-    (kind, brick, time, round, yes, found, has): Replied,
+    (kind, brick, number, time, round, yes, found, has): Taken,
     block: &[u8],
     blocks: &mut [u8],
     stripe: &mut [u8],
@@ -303,7 +352,7 @@ pub fn take_reply(
 ) -> u32 {
     let (i, j, k, l) = (block.as_ptr(), blocks.as_mut_ptr(), stripe.as_mut_ptr(), coded.as_mut_ptr());
     call!(
-        coord_take_reply, three, lent, kind, brick, time, round, yes, found, has, i, block.len(), j, blocks.len(), k,
-        stripe.len(), l, coded.len()
+        coord_take_reply, four, lent, kind, brick, number, time, round, yes, found, has, i, block.len(), j, blocks.len(),
+        k, stripe.len(), l, coded.len()
     )
 }

@@ -1,4 +1,4 @@
-//! Ranges of the settings, the quorum, times and clock draws.
+//! Ranges of the settings, the quorum, places of client blocks, times and clock draws.
 
 /// The number of a refusal in document 01.
 pub type Refusal = u8;
@@ -20,11 +20,19 @@ pub struct Shape {
     pub size: u64,
 }
 
-/// The settings of a set: the code's, and the entries that a log has room for.
+/// The settings of a coordinator: the code's, and the stripes of its volume.
+#[derive(Clone, Copy, Debug, PartialEq, Eq)]
+pub struct Volume {
+    pub shape: Shape,
+    pub stripes: u64,
+}
+
+/// The settings of a brick: those, and the entries that a log has room for.
 #[derive(Clone, Copy, Debug, PartialEq, Eq)]
 pub struct Settings {
     pub shape: Shape,
     pub capacity: u64,
+    pub stripes: u64,
 }
 
 impl Shape {
@@ -62,22 +70,66 @@ impl Shape {
     }
 }
 
+impl Volume {
+    pub fn new(n: u64, m: u64, size: u64, stripes: u64) -> Volume {
+        Volume {
+            shape: Shape::new(n, m, size),
+            stripes,
+        }
+    }
+
+    /// Refusal 1.
+    pub fn refusal(self) -> Option<Refusal> {
+        if (1..=64).contains(&self.stripes) {
+            self.shape.refusal()
+        } else {
+            Some(1)
+        }
+    }
+
+    /// Refusal 13: a stripe that the volume doesn't have.
+    pub fn stripe_refusal(self, stripe: u64) -> Option<Refusal> {
+        (stripe >= self.stripes).then_some(13)
+    }
+}
+
 impl Settings {
-    pub fn new(n: u64, m: u64, size: u64, capacity: u64) -> Settings {
+    pub fn new(n: u64, m: u64, size: u64, capacity: u64, stripes: u64) -> Settings {
         Settings {
             shape: Shape::new(n, m, size),
             capacity,
+            stripes,
+        }
+    }
+
+    /// Those of a coordinator, which knows no log.
+    pub fn volume(self) -> Volume {
+        Volume {
+            shape: self.shape,
+            stripes: self.stripes,
         }
     }
 
     /// Refusal 1.
     pub fn refusal(self) -> Option<Refusal> {
         if (2..=32).contains(&self.capacity) {
-            self.shape.refusal()
+            self.volume().refusal()
         } else {
             Some(1)
         }
     }
+}
+
+/// Where a client block lies: its stripe, and the data block there. Refused:
+/// 1 settings, 13 a client block not below S times m.
+pub fn place(settings: Settings, block: u64) -> Result<(u64, u64), Refusal> {
+    if settings.refusal().is_some() {
+        return Err(1);
+    }
+    if block >= settings.stripes * settings.shape.m {
+        return Err(13);
+    }
+    Ok((block % settings.stripes, block / settings.stripes))
 }
 
 fn counts_fit(n: u64, m: u64) -> bool {

@@ -1,12 +1,17 @@
-//! One message at one brick.
+//! One message at one brick, on the image of its stripe and on the row of images.
 
 use jilbagum_tests::brick::*;
-use jilbagum_tests::image::{fresh, parse, write, Entry, State, BLOCK};
+use jilbagum_tests::image::{fresh, fresh_row, length, parse, write, Entry, State, BLOCK};
 use jilbagum_tests::rng::Rng;
 use jilbagum_tests::settings::{Refusal, Settings, NO_UPPER_END};
 
 fn settings() -> Settings {
-    Settings::new(4, 2, 1, 3)
+    Settings::new(4, 2, 1, 3, 3)
+}
+
+/// The message, of another stripe.
+fn of_stripe(stripe: u64, message: Message) -> Message {
+    Message { stripe, ..message }
 }
 
 /// The image of brick 1 with a promise and entries (time, byte).
@@ -58,6 +63,7 @@ fn store(time: u64, byte: u8) -> Message {
 fn answer(image: &mut [u8], message: &Message) -> (bool, u64, Option<u8>) {
     let reply = take(settings(), 1, image, message).unwrap().unwrap();
     assert_eq!((reply.kind, reply.brick), (message.kind, 1));
+    assert_eq!(reply.stripe, message.stripe);
     assert_eq!((reply.time, reply.round), (message.time, message.round));
     (reply.yes, reply.found, reply.block.map(|block| block[0]))
 }
@@ -271,26 +277,126 @@ fn refused_messages() {
 
 #[test]
 fn refused_lowest_first() {
-    let senseless = Message::plain(0, 0, 0);
+    let senseless = of_stripe(3, Message::plain(0, 0, 0));
+    let below = of_stripe(2, senseless.clone());
     let ruled = fresh(settings(), 0).unwrap();
-    assert_eq!(refused(settings(), 1, &ruled, &senseless), 6);
+    assert_eq!(
+        refused(settings(), 1, &fresh(settings(), 1).unwrap(), &below),
+        10
+    );
+    assert_eq!(refused(settings(), 1, &ruled, &below), 6);
     let mut torn = ruled.clone();
     torn[600] ^= 1;
-    assert_eq!(refused(settings(), 1, &torn, &senseless), 5);
+    assert_eq!(refused(settings(), 1, &torn, &below), 5);
+    assert_eq!(refused(settings(), 1, &torn, &senseless), 13);
     assert_eq!(refused(settings(), 4, &torn, &senseless), 3);
     assert_eq!(refused(settings(), 4, &torn[1..], &senseless), 2);
-    assert_eq!(
-        refused(Settings::new(4, 2, 0, 3), 4, &torn[1..], &senseless),
-        1
-    );
+    for wrong in [
+        Settings::new(4, 2, 0, 3, 3),
+        Settings::new(4, 2, 1, 3, 0),
+        Settings::new(4, 2, 1, 3, 65),
+    ] {
+        assert_eq!(refused(wrong, 4, &torn[1..], &senseless), 1);
+    }
     // A Write block of another length.
     for block in [vec![], vec![0; 2]] {
         let message = Message {
             block,
-            ..Message::plain(WRITE, 0, 0)
+            ..of_stripe(3, Message::plain(WRITE, 0, 0))
         };
         assert_eq!(refused(settings(), 4, &torn, &message), 2);
-        assert_eq!(refused(Settings::new(4, 5, 1, 3), 4, &torn, &message), 1);
+        assert_eq!(refused(Settings::new(4, 5, 1, 3, 3), 4, &torn, &message), 1);
+    }
+}
+
+/// The row of brick 1, refused and unchanged.
+fn row_refused(settings: Settings, brick: u64, row: &[u8], message: &Message) -> Refusal {
+    let mut changed = row.to_vec();
+    let refusal = take_in_row(settings, brick, &mut changed, message).unwrap_err();
+    assert_eq!(changed, row);
+    refusal
+}
+
+#[test]
+fn rows_refused_in_order() {
+    let row = fresh_row(settings(), 1).unwrap();
+    let length = length(settings());
+    assert_eq!(row.len(), 3 * length);
+    // A broken rule in stripes 0 and 1, in stripe 1 a broken check too, nothing in stripe 2.
+    let mut hurt = row.clone();
+    hurt[..2 * length].copy_from_slice(&fresh(settings(), 0).unwrap().repeat(2));
+    hurt[length + 600] ^= 1;
+    let senseless = |stripe| of_stripe(stripe, Message::plain(0, 0, 0));
+    assert_eq!(row_refused(settings(), 1, &hurt, &senseless(2)), 10);
+    assert_eq!(row_refused(settings(), 1, &hurt, &senseless(0)), 6);
+    assert_eq!(row_refused(settings(), 1, &hurt, &senseless(1)), 5);
+    assert_eq!(row_refused(settings(), 1, &hurt, &senseless(3)), 13);
+    assert_eq!(row_refused(settings(), 1, &hurt, &senseless(u64::MAX)), 13);
+    assert_eq!(row_refused(settings(), 4, &hurt, &senseless(3)), 3);
+    for lent in [
+        &hurt[1..],
+        &hurt[..length],
+        &[],
+        &[&hurt[..], &[0]].concat(),
+    ] {
+        assert_eq!(row_refused(settings(), 4, lent, &senseless(3)), 2);
+    }
+    let short = Message {
+        block: Vec::new(),
+        ..of_stripe(3, Message::plain(WRITE, 0, 0))
+    };
+    assert_eq!(row_refused(settings(), 4, &hurt, &short), 2);
+    for stripes in [0, 65, u64::MAX] {
+        let wrong = Settings::new(4, 2, 1, 3, stripes);
+        assert_eq!(row_refused(wrong, 4, &hurt[1..], &short), 1);
+    }
+    // One image is no row of three, and a row no image.
+    assert_eq!(refused(settings(), 1, &row, &senseless(0)), 2);
+    // A damaged image of another stripe stops nothing.
+    let read = of_stripe(2, read(64, &[0, 1]));
+    let reply = take_in_row(settings(), 1, &mut hurt, &read)
+        .unwrap()
+        .unwrap();
+    assert_eq!((reply.stripe, reply.yes), (2, true));
+}
+
+#[test]
+fn fresh_rows() {
+    assert_eq!(
+        fresh_row(settings(), 1),
+        Ok(fresh(settings(), 1).unwrap().repeat(3))
+    );
+    assert_eq!(fresh_row(settings(), 4), Err(3));
+    assert_eq!(fresh_row(Settings::new(4, 2, 1, 3, 0), 4), Err(1));
+    assert_eq!(fresh_row(Settings::new(4, 2, 1, 3, 65), 4), Err(1));
+}
+
+/// A message changes the image of its stripe as it would change that image
+/// alone, and no byte of another's.
+#[test]
+fn a_message_changes_its_own_image_alone() {
+    let length = length(settings());
+    let logs: [&[(u64, u8)]; 3] = [&[(0, 5)], &[(0, 6), (32, 7)], &[(16, 8), (32, 9)]];
+    let images = logs.map(|log| image(20, log));
+    let messages = [
+        read(64, &[0, 1]),
+        Message::plain(ORDER, 64, 1),
+        order_read(64, 32),
+        store(64, 3),
+        Message::plain(TRIM, 32, 2),
+    ];
+    for message in messages {
+        for stripe in 0..3 {
+            let message = of_stripe(stripe as u64, message.clone());
+            let mut row = images.concat();
+            let reply = take_in_row(settings(), 1, &mut row, &message);
+            let mut alone = images.clone();
+            assert_eq!(reply, take(settings(), 1, &mut alone[stripe], &message));
+            assert!(row.chunks(length).eq(alone.iter().map(Vec::as_slice)));
+            // A Read changes nothing, nor does a Trim that finds one entry.
+            let unchanged = message.kind == READ || message.kind == TRIM && stripe == 0;
+            assert_eq!(alone[stripe] == images[stripe], unchanged);
+        }
     }
 }
 
@@ -304,6 +410,7 @@ fn random_messages() {
         let before = image.clone();
         let message = Message {
             kind: rng.below(7) as u8,
+            stripe: if rng.once_in(10) { 3 } else { rng.below(3) },
             time: if rng.once_in(20) {
                 rng.number()
             } else {
@@ -321,7 +428,7 @@ fn random_messages() {
         let newest = state(&before).1.last().unwrap().0;
         match take(settings(), 1, &mut image, &message) {
             Err(number) => {
-                assert!(number == 2 || number == 10);
+                assert!([2, 10, 13].contains(&number));
                 assert_eq!(image, before);
             }
             Ok(_) => assert!(state(&image).1.last().unwrap().0 >= newest),

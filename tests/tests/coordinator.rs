@@ -4,28 +4,31 @@ use jilbagum_tests::brick::*;
 use jilbagum_tests::code::encode;
 use jilbagum_tests::coordinator::*;
 use jilbagum_tests::rng::Rng;
-use jilbagum_tests::settings::{Refusal, Shape, LAST_COUNT, NO_UPPER_END};
+use jilbagum_tests::settings::{Refusal, Volume, LAST_COUNT, NO_UPPER_END};
 
-/// n 4, m 2, blocks of 1 byte: the quorum is 3.
-fn shape() -> Shape {
-    Shape::new(4, 2, 1)
+/// n 4, m 2, blocks of 1 byte, 3 stripes: the quorum is 3.
+fn volume() -> Volume {
+    Volume::new(4, 2, 1, 3)
 }
 
+/// The stripe of all operations here, if not said otherwise.
+const STRIPE: u64 = 2;
+
 fn fresh() -> Record {
-    Record::fresh(shape(), 1)
+    Record::fresh(volume(), 1)
 }
 
 /// Coordinator 1 writing bytes 5, 9 at time 17.
 fn writing() -> Record {
     let mut record = fresh();
-    start_write(shape(), 1, &mut record, 1, &[5, 9]).unwrap();
+    start_write(volume(), 1, &mut record, STRIPE, 1, &[5, 9]).unwrap();
     record
 }
 
 /// Coordinator 1 reading at time 17 with targets 3 and 0.
 fn reading() -> Record {
     let mut record = fresh();
-    start_read(shape(), 1, &mut record, 1, 3).unwrap();
+    start_read(volume(), 1, &mut record, STRIPE, 1, 3).unwrap();
     record
 }
 
@@ -34,6 +37,7 @@ fn reply(kind: u8, round: u64, brick: u64, yes: bool, found: u64, block: Option<
     Reply {
         kind,
         brick,
+        stripe: STRIPE,
         time: 17,
         round,
         yes,
@@ -43,13 +47,13 @@ fn reply(kind: u8, round: u64, brick: u64, yes: bool, found: u64, block: Option<
 }
 
 fn take(record: &mut Record, reply: Reply) -> Step {
-    take_reply(shape(), 1, record, &reply).unwrap()
+    take_reply(volume(), 1, record, &reply).unwrap()
 }
 
 /// The reply is refused and the record keeps its content.
 fn refused(record: &Record, reply: &Reply) -> Refusal {
     let mut changed = record.clone();
-    let refusal = take_reply(shape(), 1, &mut changed, reply).unwrap_err();
+    let refusal = take_reply(volume(), 1, &mut changed, reply).unwrap_err();
     assert_eq!(&changed, record);
     refusal
 }
@@ -76,7 +80,7 @@ fn yes_from(kind: u8, round: u64, bricks: &[u64]) -> Vec<Reply> {
 
 fn outcome(step: &Step) -> Outcome {
     let ended = step.ended.clone().expect("the operation ended");
-    assert_eq!((ended.coordinator, ended.time), (1, 17));
+    assert_eq!((ended.coordinator, ended.stripe, ended.time), (1, STRIPE, 17));
     ended.outcome
 }
 
@@ -94,11 +98,19 @@ fn aborts(record: &mut Record, replies: Vec<Reply>) {
     assert!(step.sent.is_empty());
 }
 
+/// A message of the operation.
+fn message(kind: u8, round: u64) -> Message {
+    Message {
+        stripe: STRIPE,
+        ..Message::plain(kind, 17, round)
+    }
+}
+
 /// The messages of an Order-and-read round.
 fn order_reads(max: u64, round: u64) -> Vec<Message> {
     let message = Message {
         max,
-        ..Message::plain(ORDER_READ, 17, round)
+        ..message(ORDER_READ, round)
     };
     vec![message; 4]
 }
@@ -131,11 +143,11 @@ fn recovering() -> Record {
 #[test]
 fn a_write_orders_then_writes_then_trims() {
     let mut record = fresh();
-    let step = start_write(shape(), 1, &mut record, 1, &[5, 9]).unwrap();
+    let step = start_write(volume(), 1, &mut record, STRIPE, 1, &[5, 9]).unwrap();
     assert_eq!(
         step,
         Step {
-            sent: vec![Message::plain(ORDER, 17, 1); 4],
+            sent: vec![message(ORDER, 1); 4],
             ended: None
         }
     );
@@ -147,7 +159,7 @@ fn a_write_orders_then_writes_then_trims() {
         .iter()
         .map(|&byte| Message {
             block: vec![byte],
-            ..Message::plain(WRITE, 17, 2)
+            ..message(WRITE, 2)
         })
         .collect();
     assert_eq!(
@@ -159,7 +171,7 @@ fn a_write_orders_then_writes_then_trims() {
     );
 
     let step = take_all(&mut record, yes_from(WRITE, 2, &[1, 3, 0]));
-    assert_eq!(step.sent, vec![Message::plain(TRIM, 17, 2); 4]);
+    assert_eq!(step.sent, vec![message(TRIM, 2); 4]);
     assert_eq!(outcome(&step), Outcome::Ok);
     assert_eq!(step.ended.unwrap().kind, Kind::Write);
     assert_eq!(record, Record { last: 1, ..fresh() });
@@ -184,13 +196,13 @@ fn the_qth_reply_decides_an_abort() {
 #[test]
 fn a_read_of_one_round() {
     let mut record = fresh();
-    let step = start_read(shape(), 1, &mut record, 1, 3).unwrap();
+    let step = start_read(volume(), 1, &mut record, STRIPE, 1, 3).unwrap();
     assert_eq!(
         step.sent,
         vec![
             Message {
                 targets: vec![3, 0],
-                ..Message::plain(READ, 17, 1)
+                ..message(READ, 1)
             };
             4
         ]
@@ -245,7 +257,7 @@ fn recovery_writes_back_what_it_found() {
         .all(|message| (message.kind, message.time, message.round) == (WRITE, 17, 3)));
     let step = take_all(&mut record, yes_from(WRITE, 3, &[0, 1, 2]));
     assert_eq!(outcome(&step), stripe(&[5, 9], &[2, 3]));
-    assert_eq!(step.sent, vec![Message::plain(TRIM, 17, 3); 4]);
+    assert_eq!(step.sent, vec![message(TRIM, 3); 4]);
 }
 
 #[test]
@@ -282,7 +294,7 @@ fn recovery_looks_further_down() {
     assert_eq!((step.sent[0].kind, step.sent[0].round), (WRITE, 4));
     let step = take_all(&mut record, yes_from(WRITE, 4, &[0, 1, 2]));
     assert_eq!(outcome(&step), stripe(&[0, 0], &[1, 2]));
-    assert_eq!(step.sent, vec![Message::plain(TRIM, 17, 4); 4]);
+    assert_eq!(step.sent, vec![message(TRIM, 4); 4]);
 }
 
 #[test]
@@ -334,69 +346,99 @@ fn no_round_after_1000() {
     assert_eq!((step.sent[3].kind, step.sent[3].round), (WRITE, 1000));
     let step = take_all(&mut record, yes_from(WRITE, 1000, &[0, 1, 2]));
     assert_eq!(outcome(&step), stripe(&[0, 0], &[0, 1]));
-    assert_eq!(step.sent, vec![Message::plain(TRIM, 17, 1000); 4]);
+    assert_eq!(step.sent, vec![message(TRIM, 1000); 4]);
 }
 
 #[test]
 fn a_crash_cuts_and_keeps_the_count() {
     for mut record in [writing(), reading(), recovering()] {
         let kind = record.running.as_ref().unwrap().kind;
-        let step = crash(shape(), 1, &mut record).unwrap();
+        let step = crash(volume(), 1, &mut record).unwrap();
         assert_eq!(outcome(&step), Outcome::Cut);
         assert_eq!(step.ended.unwrap().kind, kind);
         assert!(step.sent.is_empty());
         assert_eq!(record, Record { last: 1, ..fresh() });
-        assert_eq!(crash(shape(), 1, &mut record), Ok(Step::default()));
+        assert_eq!(crash(volume(), 1, &mut record), Ok(Step::default()));
         assert_eq!(record, Record { last: 1, ..fresh() });
-        let step = start_write(shape(), 1, &mut record, 0, &[0, 0]).unwrap();
+        let step = start_write(volume(), 1, &mut record, STRIPE, 0, &[0, 0]).unwrap();
         assert_eq!(step.sent[0].time, 2 * 16 + 1);
     }
 }
 
 #[test]
 fn starts_refused_lowest_first() {
-    let write = |shape, number, record: &Record, reading, data: &[u8]| {
+    let write = |volume, number, record: &Record, stripe, reading, data: &[u8]| {
         let mut changed = record.clone();
-        let refusal = start_write(shape, number, &mut changed, reading, data).unwrap_err();
+        let refusal = start_write(volume, number, &mut changed, stripe, reading, data).unwrap_err();
         assert_eq!(&changed, record);
         refusal
     };
-    let read = |shape, number, record: &Record, reading, first| {
+    let read = |volume, number, record: &Record, stripe, reading, first| {
         let mut changed = record.clone();
-        let refusal = start_read(shape, number, &mut changed, reading, first).unwrap_err();
+        let refusal = start_read(volume, number, &mut changed, stripe, reading, first).unwrap_err();
         assert_eq!(&changed, record);
         refusal
     };
     let late = 1 << 40;
+    // One operation at a time, on whatever stripe.
     let running = writing();
-    assert_eq!(write(shape(), 1, &running, 0, &[1, 2]), 9);
-    assert_eq!(read(shape(), 1, &running, 0, 0), 9);
+    for stripe in 0..3 {
+        assert_eq!(write(volume(), 1, &running, stripe, 0, &[1, 2]), 9);
+        assert_eq!(read(volume(), 1, &running, stripe, 0, 0), 9);
+    }
 
     let mut spent = fresh();
-    start_read(shape(), 1, &mut spent, LAST_COUNT, 0).unwrap();
-    assert_eq!(write(shape(), 1, &spent, 0, &[1, 2]), 8);
-    assert_eq!(read(shape(), 1, &spent, 0, 0), 8);
-    assert_eq!(write(shape(), 1, &spent, late, &[1, 2]), 7);
-    assert_eq!(read(shape(), 1, &spent, late, 0), 7);
+    start_read(volume(), 1, &mut spent, STRIPE, LAST_COUNT, 0).unwrap();
+    assert_eq!(write(volume(), 1, &spent, 0, 0, &[1, 2]), 8);
+    assert_eq!(read(volume(), 1, &spent, 0, 0, 0), 8);
+    assert_eq!(write(volume(), 1, &spent, 0, late, &[1, 2]), 7);
+    assert_eq!(read(volume(), 1, &spent, 0, late, 0), 7);
 
     let broken = Record {
         last: late,
         ..spent.clone()
     };
-    assert_eq!(write(shape(), 1, &broken, late, &[1, 2]), 6);
-    assert_eq!(read(shape(), 1, &broken, late, 0), 6);
-    assert_eq!(write(shape(), 16, &broken, late, &[1, 2]), 3);
-    assert_eq!(read(shape(), 16, &broken, late, 0), 3);
-    assert_eq!(read(shape(), 1, &broken, late, 4), 3);
-    assert_eq!(write(shape(), 16, &broken, late, &[1]), 2);
-    assert_eq!(write(shape(), 16, &broken, late, &[1, 2, 3]), 2);
-    let past = Shape::new(4, 5, 1);
-    assert_eq!(write(past, 16, &broken, late, &[1]), 1);
-    assert_eq!(read(past, 16, &broken, late, 4), 1);
+    assert_eq!(write(volume(), 1, &broken, 2, late, &[1, 2]), 6);
+    assert_eq!(read(volume(), 1, &broken, 2, late, 0), 6);
+    for stripe in [3, 64, u64::MAX] {
+        assert_eq!(write(volume(), 1, &broken, stripe, late, &[1, 2]), 13);
+        assert_eq!(read(volume(), 1, &broken, stripe, late, 0), 13);
+        assert_eq!(write(volume(), 16, &broken, stripe, late, &[1, 2]), 3);
+        assert_eq!(read(volume(), 16, &broken, stripe, late, 0), 3);
+        assert_eq!(read(volume(), 1, &broken, stripe, late, 4), 3);
+        assert_eq!(write(volume(), 16, &broken, stripe, late, &[1]), 2);
+        assert_eq!(write(volume(), 16, &broken, stripe, late, &[1, 2, 3]), 2);
+        for past in [
+            Volume::new(4, 5, 1, 3),
+            Volume::new(4, 2, 1, 0),
+            Volume::new(4, 2, 1, 65),
+        ] {
+            assert_eq!(write(past, 16, &broken, stripe, late, &[1]), 1);
+            assert_eq!(read(past, 16, &broken, stripe, late, 4), 1);
+        }
+    }
+    // 13 on a sound record too, and before 7.
+    assert_eq!(write(volume(), 1, &fresh(), 3, 0, &[1, 2]), 13);
+    assert_eq!(read(volume(), 1, &fresh(), 3, late, 0), 13);
 
-    assert!(start_read(shape(), 1, &mut fresh(), LAST_COUNT, 3).is_ok());
-    let mut last = Record::fresh(shape(), 15);
-    assert!(start_read(shape(), 15, &mut last, 0, 0).is_ok());
+    assert!(start_read(volume(), 1, &mut fresh(), STRIPE, LAST_COUNT, 3).is_ok());
+    let mut last = Record::fresh(volume(), 15);
+    assert!(start_read(volume(), 15, &mut last, STRIPE, 0, 0).is_ok());
+}
+
+/// The clock is one for all stripes: each operation has a later time than the
+/// one before, on whatever stripe, also after a crash.
+#[test]
+fn one_clock_for_all_stripes() {
+    let mut record = fresh();
+    for (count, stripe) in [0, 1, 0, 2, 2, 1].into_iter().enumerate() {
+        let step = start_read(volume(), 1, &mut record, stripe, 0, 0).unwrap();
+        let time = 16 * (count as u64 + 1) + 1;
+        let sent = |message: &Message| (message.stripe, message.time) == (stripe, time);
+        assert!(step.sent.len() == 4 && step.sent.iter().all(sent));
+        let ended = crash(volume(), 1, &mut record).unwrap().ended.unwrap();
+        assert_eq!((ended.stripe, ended.time), (stripe, time));
+    }
 }
 
 #[test]
@@ -405,44 +447,55 @@ fn crashes_refused_lowest_first() {
         last: 1 << 40,
         ..fresh()
     };
-    let refusal = |shape, number| {
+    let refusal = |volume, number| {
         let mut changed = broken.clone();
-        let refusal = crash(shape, number, &mut changed).unwrap_err();
+        let refusal = crash(volume, number, &mut changed).unwrap_err();
         assert_eq!(changed, broken);
         refusal
     };
-    assert_eq!(refusal(shape(), 1), 6);
-    assert_eq!(refusal(shape(), 16), 3);
-    assert_eq!(refusal(Shape::new(0, 0, 0), 16), 1);
+    assert_eq!(refusal(volume(), 1), 6);
+    assert_eq!(refusal(volume(), 16), 3);
+    assert_eq!(refusal(Volume::new(0, 0, 0, 1), 16), 1);
+    assert_eq!(refusal(Volume::new(4, 2, 1, 65), 16), 1);
 }
 
 #[test]
 fn replies_refused_lowest_first() {
     let mut record = writing();
     let fine = reply(ORDER, 1, 2, true, 0, None);
+    // Of another stripe, so 11 as well.
     let senseless = Reply {
         kind: 9,
+        stripe: 0,
         ..fine.clone()
     };
     assert_eq!(refused(&record, &senseless), 10);
     record.last = 1 << 40;
     assert_eq!(refused(&record, &senseless), 6);
-    let past_n = Reply {
-        brick: 4,
-        ..senseless
-    };
-    assert_eq!(refused(&record, &past_n), 3);
-    assert_eq!(take_reply(shape(), 16, &mut record, &fine), Err(3));
-    for block in [vec![], vec![0; 2]] {
-        let long = Reply {
-            block: Some(block),
-            ..past_n.clone()
+    for stripe in [3, 64, u64::MAX] {
+        let past_s = Reply {
+            stripe,
+            ..senseless.clone()
         };
-        assert_eq!(refused(&record, &long), 2);
+        assert_eq!(refused(&record, &past_s), 13);
+        assert_eq!(refused(&writing(), &Reply { stripe, ..fine.clone() }), 13);
+        assert_eq!(refused(&fresh(), &Reply { stripe, ..fine.clone() }), 13);
+        let past_n = Reply { brick: 4, ..past_s };
+        assert_eq!(refused(&record, &past_n), 3);
         assert_eq!(
-            take_reply(Shape::new(4, 2, 0), 1, &mut record, &long),
-            Err(1)
+            take_reply(volume(), 16, &mut record, &Reply { stripe, ..fine.clone() }),
+            Err(3)
         );
+        for block in [vec![], vec![0; 2]] {
+            let long = Reply {
+                block: Some(block),
+                ..past_n.clone()
+            };
+            assert_eq!(refused(&record, &long), 2);
+            for past in [Volume::new(4, 2, 0, 3), Volume::new(4, 2, 1, 65)] {
+                assert_eq!(take_reply(past, 1, &mut record, &long), Err(1));
+            }
+        }
     }
 }
 
@@ -508,6 +561,14 @@ fn replies_refused_11() {
     assert_eq!(refused(&fresh(), &fine), 11);
     let mut record = writing();
     let of_another = [
+        Reply {
+            stripe: 0,
+            ..fine.clone()
+        },
+        Reply {
+            stripe: 1,
+            ..fine.clone()
+        },
         Reply {
             time: 33,
             ..fine.clone()
@@ -622,7 +683,7 @@ fn blocks_of_read_replies() {
     ] {
         for found in [0, 16] {
             let reply = reply(READ, 1, brick, yes, found, block);
-            let taken = take_reply(shape(), 1, &mut reading(), &reply);
+            let taken = take_reply(volume(), 1, &mut reading(), &reply);
             assert_eq!(
                 taken,
                 if fits { Ok(Step::default()) } else { Err(11) },
@@ -645,7 +706,7 @@ fn blocks_of_order_and_read_replies() {
         (false, 16, Some(1), false),
     ] {
         let reply = reply(ORDER_READ, 2, 1, yes, found, block);
-        let taken = take_reply(shape(), 1, &mut recovering(), &reply);
+        let taken = take_reply(volume(), 1, &mut recovering(), &reply);
         assert_eq!(
             taken,
             if fits { Ok(Step::default()) } else { Err(11) },
@@ -658,10 +719,10 @@ fn blocks_of_order_and_read_replies() {
 fn breaks_a_rule(record: &Record) -> bool {
     let mut changed = record.clone();
     let results = [
-        start_read(shape(), 1, &mut changed, 0, 0),
-        start_write(shape(), 1, &mut changed, 0, &[0, 0]),
-        take_reply(shape(), 1, &mut changed, &reply(ORDER, 1, 0, true, 0, None)),
-        crash(shape(), 1, &mut changed.clone()),
+        start_read(volume(), 1, &mut changed, STRIPE, 0, 0),
+        start_write(volume(), 1, &mut changed, STRIPE, 0, &[0, 0]),
+        take_reply(volume(), 1, &mut changed, &reply(ORDER, 1, 0, true, 0, None)),
+        crash(volume(), 1, &mut changed.clone()),
     ];
     let count = results.iter().filter(|&result| *result == Err(6)).count();
     assert!(count == 0 || count == 4);
@@ -698,8 +759,16 @@ fn broken_records() {
     let counted = |record, replies: &[Reply]| with(record, |r| r.replies = replies.to_vec());
     let broken = [
         Record {
-            shape: Shape::new(4, 1, 1),
+            volume: Volume::new(4, 1, 1, 3),
             ..fresh()
+        },
+        Record {
+            volume: Volume::new(4, 2, 1, 2),
+            ..fresh()
+        },
+        Record {
+            volume: Volume::new(4, 2, 1, 4),
+            ..writing()
         },
         Record {
             number: 2,
@@ -717,6 +786,9 @@ fn broken_records() {
             last: 0,
             ..writing()
         },
+        with(writing(), |r| r.stripe = 3),
+        with(reading(), |r| r.stripe = 64),
+        with(storing(), |r| r.stripe = u64::MAX),
         with(writing(), |r| r.time = 18),
         with(writing(), |r| r.time = 33),
         with(writing(), |r| r.time = 1),
@@ -729,12 +801,13 @@ fn broken_records() {
         with(writing(), |r| r.kind = Kind::Read),
         with(writing(), |r| r.max = 16),
         with(writing(), |r| r.first = 1),
-        with(writing(), |r| r.stripe.push(0)),
-        with(writing(), |r| r.stripe.clear()),
+        with(writing(), |r| r.data.push(0)),
+        with(writing(), |r| r.data.clear()),
         with(writing(), |r| r.bricks = vec![0, 1]),
         counted(writing(), &[order(0), order(1), order(2)]),
         counted(writing(), &[order(0), order(0)]),
         counted(writing(), &[order(4)]),
+        counted(writing(), &[Reply { stripe: 0, ..order(0) }]),
         counted(writing(), &[Reply { time: 33, ..order(0) }]),
         counted(writing(), &[Reply { round: 2, ..order(0) }]),
         counted(writing(), &[Reply { kind: WRITE, ..order(0) }]),
@@ -744,7 +817,7 @@ fn broken_records() {
         with(reading(), |r| r.first = 4),
         with(reading(), |r| r.round = 2),
         with(reading(), |r| r.max = NO_UPPER_END),
-        with(reading(), |r| r.stripe = vec![0, 0]),
+        with(reading(), |r| r.data = vec![0, 0]),
         counted(reading(), &[reply(READ, 1, 0, true, 0, None)]),
         counted(reading(), &[Reply { block: Some(vec![0, 0]), ..reply(READ, 1, 0, true, 0, Some(0)) }]),
         with(recovering(), |r| r.round = 1),
@@ -758,7 +831,7 @@ fn broken_records() {
         with(storing(), |r| r.round = 2),
         with(storing(), |r| r.max = 16),
         with(storing(), |r| r.first = 4),
-        with(storing(), |r| r.stripe = vec![0]),
+        with(storing(), |r| r.data = vec![0]),
         with(storing(), |r| r.bricks = vec![0]),
         with(storing(), |r| r.bricks = vec![1, 1]),
         with(storing(), |r| r.bricks = vec![1, 4]),
@@ -768,6 +841,7 @@ fn broken_records() {
     }
     let two = counted(writing(), &[order(0), order(1)]);
     assert!(!breaks_a_rule(&two));
+    assert!(!breaks_a_rule(&with(writing(), |r| r.stripe = 0)));
 }
 
 /// Random replies, many of them senseless: a refusal changes nothing, and what
@@ -780,9 +854,9 @@ fn random_replies() {
     for _ in 0..20_000 {
         if record.running.is_none() {
             if rng.once_in(2) {
-                start_read(shape(), 1, &mut record, 0, rng.below(4)).unwrap();
+                start_read(volume(), 1, &mut record, rng.below(3), 0, rng.below(4)).unwrap();
             } else {
-                start_write(shape(), 1, &mut record, 0, &rng.bytes(2)).unwrap();
+                start_write(volume(), 1, &mut record, rng.below(3), 0, &rng.bytes(2)).unwrap();
             }
         }
         let running = record.running.clone().unwrap();
@@ -794,6 +868,7 @@ fn random_replies() {
                 running.open
             },
             brick: rng.below(if odd { 6 } else { 4 }),
+            stripe: if odd { rng.below(5) } else { running.stripe },
             time: if odd { rng.below(1000) } else { running.time },
             round: if odd { rng.below(1003) } else { running.round },
             yes: !rng.once_in(12),
@@ -805,9 +880,9 @@ fn random_replies() {
             },
         };
         let before = record.clone();
-        match take_reply(shape(), 1, &mut record, &reply) {
+        match take_reply(volume(), 1, &mut record, &reply) {
             Err(number) => {
-                assert!([2, 3, 10, 11].contains(&number));
+                assert!([2, 3, 10, 11, 13].contains(&number));
                 assert_eq!(record, before);
             }
             Ok(step) => {

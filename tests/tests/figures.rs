@@ -34,7 +34,7 @@ fn parity_of_5_and_9() {
 
 #[test]
 fn checks_of_a_fresh_brick() {
-    let image = fresh(Settings::new(3, 1, 1, 4), 0).unwrap();
+    let image = fresh(Settings::new(3, 1, 1, 4, 1), 0).unwrap();
     assert_eq!(check(&image[..BLOCK]), 55);
     assert_eq!(check(&image[BLOCK..2 * BLOCK]), 14);
     assert_eq!(image[..3], [55, 0, 1]);

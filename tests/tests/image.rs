@@ -5,7 +5,7 @@ use jilbagum_tests::rng::Rng;
 use jilbagum_tests::settings::{Settings, LAST_COUNT};
 
 fn small() -> Settings {
-    Settings::new(3, 1, 2, 3)
+    Settings::new(3, 1, 2, 3, 1)
 }
 
 /// A state of two entries.
@@ -52,7 +52,7 @@ fn layout() {
 
 #[test]
 fn large_numbers_are_little_endian() {
-    let settings = Settings::new(16, 16, 256, 32);
+    let settings = Settings::new(16, 16, 256, 32, 1);
     let time = LAST_COUNT * 16 + 9;
     let log = vec![Entry {
         time,
@@ -78,6 +78,7 @@ fn an_image_reads_back_and_rewrites_to_the_same_bytes() {
             rng.between(1, n),
             rng.between(1, 256),
             rng.between(2, 32),
+            rng.between(1, 64),
         );
         let brick = rng.below(n);
         let mut time = rng.below(3) * 16;
@@ -107,8 +108,9 @@ fn fresh_image() {
     assert_eq!((state.promise, state.newest(), state.count()), (0, 0, 1));
     assert_eq!(state.log[0].block, [0, 0]);
     assert_eq!(fresh(small(), 3), Err(3));
-    assert_eq!(fresh(Settings::new(3, 1, 0, 3), 3), Err(1));
-    assert_eq!(fresh(Settings::new(u64::MAX, 1, u64::MAX, 3), 3), Err(1));
+    assert_eq!(fresh(Settings::new(3, 1, 0, 3, 1), 3), Err(1));
+    assert_eq!(fresh(Settings::new(3, 1, 2, 3, 65), 3), Err(1));
+    assert_eq!(fresh(Settings::new(u64::MAX, 1, u64::MAX, 3, 1), 3), Err(1));
 }
 
 #[test]
@@ -122,7 +124,7 @@ fn entries_at_places() {
 
 #[test]
 fn every_change_of_one_byte_is_refused() {
-    let settings = Settings::new(3, 1, 2, 2);
+    let settings = Settings::new(3, 1, 2, 2, 1);
     for state in [State::fresh(settings), two()] {
         let mut image = write(settings, 0, &state).unwrap();
         for at in 0..image.len() {
@@ -168,9 +170,10 @@ fn refused_lowest_first() {
     assert_eq!(parse(small(), 3, &torn), Err(3));
     assert_eq!(parse(small(), 3, &torn[1..]), Err(2));
     assert_eq!(parse(small(), 3, &[]), Err(2));
-    assert_eq!(parse(Settings::new(3, 1, 2, 1), 3, &[]), Err(1));
-    assert_eq!(parse(Settings::new(3, 1, 2, 33), 3, &[]), Err(1));
-    assert_eq!(parse(Settings::new(3, 1, 2, u64::MAX), 3, &[]), Err(1));
+    assert_eq!(parse(Settings::new(3, 1, 2, 1, 1), 3, &[]), Err(1));
+    assert_eq!(parse(Settings::new(3, 1, 2, 33, 1), 3, &[]), Err(1));
+    assert_eq!(parse(Settings::new(3, 1, 2, 3, 0), 3, &[]), Err(1));
+    assert_eq!(parse(Settings::new(3, 1, 2, u64::MAX, 1), 3, &[]), Err(1));
     // A broken rule and a broken check in another block: the check comes first.
     let mut both = forged(&image, 10, 9);
     assert_eq!(parse(small(), 0, &both), Err(6));
@@ -181,13 +184,15 @@ fn refused_lowest_first() {
 #[test]
 fn disagreeing_settings_are_refused() {
     let image = write(small(), 0, &two()).unwrap();
-    assert_eq!(parse(Settings::new(4, 1, 2, 3), 0, &image), Err(6));
-    assert_eq!(parse(Settings::new(3, 2, 2, 3), 0, &image), Err(6));
-    assert_eq!(parse(Settings::new(3, 1, 3, 3), 0, &image), Err(6));
+    assert_eq!(parse(Settings::new(4, 1, 2, 3, 1), 0, &image), Err(6));
+    assert_eq!(parse(Settings::new(3, 2, 2, 3, 1), 0, &image), Err(6));
+    assert_eq!(parse(Settings::new(3, 1, 3, 3, 1), 0, &image), Err(6));
     assert_eq!(parse(small(), 1, &image), Err(6));
-    assert_eq!(parse(Settings::new(3, 1, 2, 4), 0, &image), Err(2));
+    // An image names neither its stripe nor the stripe count.
+    assert_eq!(parse(Settings::new(3, 1, 2, 3, 64), 0, &image), Ok(two()));
+    assert_eq!(parse(Settings::new(3, 1, 2, 4, 1), 0, &image), Err(2));
     let longer = [image.clone(), image[3 * BLOCK..].to_vec()].concat();
-    assert_eq!(parse(Settings::new(3, 1, 2, 4), 0, &longer), Err(6));
+    assert_eq!(parse(Settings::new(3, 1, 2, 4, 1), 0, &longer), Err(6));
 }
 
 #[test]
@@ -252,7 +257,7 @@ fn writing_refused_lowest_first() {
     assert_eq!(write(small(), 3, &state), Err(3));
     state.log[0].block.push(0);
     assert_eq!(write(small(), 3, &state), Err(2));
-    assert_eq!(write(Settings::new(0, 1, 2, 3), 3, &state), Err(1));
+    assert_eq!(write(Settings::new(0, 1, 2, 3, 1), 3, &state), Err(1));
     assert_eq!(
         write(
             small(),

@@ -1,8 +1,10 @@
-//! Random runs of the proved bricks and coordinators, at general settings, each searched for an order as document 01 asks for.
+//! Random runs of the proved bricks and coordinators, at general settings, each searched for an order as document 01 asks for, stripe by
+//! stripe. At each event the images of the other stripes are compared, and no two operations of a run have one time.
 
 use jilbagum_tests::brick::{ORDER_READ, READ, WRITE};
-use jilbagum_tests::harness::{some_run, Break, Faults, Proved, Sent, World, OFTEN};
-use jilbagum_tests::order::{brute_order, has_order, is_order, End, Operation};
+use jilbagum_tests::harness::{some_run, Break, Faults, Proved, Sent, Start, World, OFTEN};
+use jilbagum_tests::order::{brute_order, by_stripe, has_order, is_order, End, Operation};
+use jilbagum_tests::image;
 use jilbagum_tests::rng::Rng;
 use jilbagum_tests::settings::Settings;
 use jilbagum_tests::tally::Tally;
@@ -13,17 +15,19 @@ fn small_runs_by_brute_force() {
     let mut tally = Tally::default();
     for seed in 100_000..125_000 {
         let world = some_run::<Proved>(seed, 5, 2, |_| ());
-        assert!(world.operations.len() <= 7);
-        let stripe = world.stripe();
-        let Some(order) = brute_order(&world.operations, stripe) else { panic!("{}", world.story(seed)) };
-        assert!(is_order(&world.operations, &order, stripe));
-        assert!(has_order(&world.operations, stripe));
+        let len = world.stripe();
+        for operations in by_stripe(&world.operations) {
+            assert!(operations.len() <= 7);
+            let Some(order) = brute_order(&operations, len) else { panic!("{}", world.story(seed)) };
+            assert!(is_order(&operations, &order, len));
+        }
+        assert_eq!(world.fault(), None, "{}", world.story(seed));
         world.note(&mut tally);
     }
     println!("{:?}", tally.0);
     tally.expect(300, &OFTEN);
     tally.expect(20, &["read running", "write running"]);
-    tally.expect(1000, &["crash with other bytes in the buffers"]);
+    tally.expect(1000, &["crash with other bytes in the buffers", "run on 3 or more stripes"]);
 }
 
 #[test]
@@ -31,37 +35,67 @@ fn longer_runs() {
     let mut tally = Tally::default();
     for seed in 200_000..208_000 {
         let world = some_run::<Proved>(seed, 22, 2, |_| ());
-        assert!(has_order(&world.operations, world.stripe()), "{}", world.story(seed));
+        assert_eq!(world.fault(), None, "{}", world.story(seed));
         world.note(&mut tally);
     }
     println!("{:?}", tally.0);
     tally.expect(100, &OFTEN);
     tally.expect(100, &["run with 3 or more at once", "run with 8 or more at once", "run of 10 to 16 bricks", "run with m above 1"]);
-    tally.expect(1000, &["crash with other bytes in the buffers"]);
+    tally.expect(100, &["run of 64 stripes"]);
+    tally.expect(1000, &["crash with other bytes in the buffers", "run on 3 or more stripes", "run with 5 or more on each of two stripes"]);
 }
 
-/// A set that breaks a rule of runs has runs without an order, and both searches say so alike.
-fn broken(seeds: std::ops::Range<u64>, change: impl Fn(&mut Faults) + Copy) -> usize {
-    let mut without = 0;
+/// Runs of up to so many operations on a set that breaks a rule: how many have a stripe without an order, which both searches say
+/// alike; in how many an event changed another stripe's image; and in how many two operations have one time.
+fn broken(seeds: std::ops::Range<u64>, most: usize, change: impl Fn(&mut Faults)) -> [usize; 3] {
+    let mut counts = [0; 3];
     for seed in seeds {
-        let world = some_run::<Proved>(seed, 5, 2, change);
-        let order = brute_order(&world.operations, world.stripe());
-        assert_eq!(order.is_some(), has_order(&world.operations, world.stripe()), "{}", world.story(seed));
-        without += usize::from(order.is_none());
+        let world = some_run::<Proved>(seed, most, 2, &change);
+        let mut ordered = true;
+        for operations in by_stripe(&world.operations) {
+            let order = has_order(&operations, world.stripe());
+            if operations.len() <= 7 {
+                assert_eq!(brute_order(&operations, world.stripe()).is_some(), order, "{}", world.story(seed));
+            }
+            ordered &= order;
+        }
+        for (count, noticed) in counts.iter_mut().zip([!ordered, world.strayed > 0, world.shares_a_time()]) {
+            *count += usize::from(noticed);
+        }
     }
-    without
+    counts
 }
 
 #[test]
 fn broken_sets_are_noticed() {
-    let forget = broken(300_000..301_000, |faults| (faults.broken, faults.down) = (Break::BricksForget, 10));
-    let clocks = broken(310_000..312_000, |faults| (faults.broken, faults.coordinators, faults.short) = (Break::ClocksForget, 1, 2));
-    let hollow = broken(320_000..321_000, |faults| faults.broken = Break::Hollow);
-    let no_write_back = broken(330_000..332_000, |faults| (faults.broken, faults.short, faults.down) = (Break::NoWriteBack, 2, 20));
+    let forget = broken(300_000..301_000, 5, |faults| (faults.broken, faults.down) = (Break::BricksForget, 10));
+    let clocks = broken(310_000..312_000, 5, |faults| (faults.broken, faults.coordinators, faults.short) = (Break::ClocksForget, 1, 2));
+    let hollow = broken(320_000..321_000, 5, |faults| faults.broken = Break::Hollow);
+    let no_write_back = broken(330_000..332_000, 5, |faults| (faults.broken, faults.short, faults.down) = (Break::NoWriteBack, 2, 20));
     println!(
-        "without an order: forgetful bricks {forget}, forgetful clocks {clocks}, hollow writes {hollow}, no write back {no_write_back}"
+        "without an order: forgetful bricks {}, forgetful clocks {}, hollow writes {}, no write back {}",
+        forget[0], clocks[0], hollow[0], no_write_back[0]
     );
-    assert!(forget > 20 && clocks > 5 && hollow > 20 && no_write_back > 20);
+    assert!(forget[0] > 20 && clocks[0] > 5 && hollow[0] > 20 && no_write_back[0] > 20);
+}
+
+/// The same of sets that mix up stripes: one image for all, a clock for each, and, with such clocks, replies counted whatever their stripe.
+#[test]
+fn sets_that_mix_up_stripes_are_noticed() {
+    let [no_order, strayed, shared] = broken(340_000..340_500, 5, |faults| faults.broken = Break::OneImage);
+    println!("one image for all stripes: {no_order} without an order, {strayed} that changed another's image");
+    assert!(no_order > 50 && strayed > 100 && shared == 0);
+    let own_clocks = |faults: &mut Faults, broken: Break| (faults.broken, faults.coordinators, faults.rising) = (broken, 1, false);
+    // Each stripe is still in order, since a reply of another stripe isn't counted.
+    let [no_order, strayed, shared] = broken(350_000..350_500, 5, |faults| own_clocks(faults, Break::ClockEach));
+    println!("a clock for each stripe: {shared} with two operations of one time");
+    assert!(no_order == 0 && strayed == 0 && shared > 100);
+    let [no_order, strayed, shared] = broken(360_000..360_600, 20, |faults| {
+        own_clocks(faults, Break::AnyStripe);
+        (faults.again, faults.lost) = (1, 15);
+    });
+    println!("replies of any stripe: {no_order} without an order, {shared} with two operations of one time");
+    assert!(no_order > 5 && strayed == 0 && shared > 100);
 }
 
 /// A history made by hand: a write's bytes or what a read gave, and the events at which it began and ended.
@@ -75,7 +109,7 @@ fn history(rows: &[(&str, u8, usize, usize)]) -> Vec<Operation> {
             "read" => Some(End::Gave(vec![byte])),
             _ => None,
         };
-        Operation { write, began, ended: end.map(|end| (ended, end)) }
+        Operation { stripe: 0, write, began, ended: end.map(|end| (ended, end)) }
     };
     rows.iter().map(operation).collect()
 }
@@ -116,35 +150,49 @@ fn histories_without_an_order() {
     assert!(orders(&[]) && orders(&[("read cut", 9, 1, 2)]));
 }
 
-/// One read's bytes changed to another value of the run: mostly no order is left.
+/// A read of one stripe that gave what another's write wrote: the whole history has an order, its stripes have none.
+#[test]
+fn histories_are_searched_stripe_by_stripe() {
+    let both = |first: u64, second: u64| {
+        let mut operations = history(&[("write", 1, 1, 2), ("read", 1, 3, 4)]);
+        (operations[0].stripe, operations[1].stripe) = (first, second);
+        assert!(has_order(&operations, 1));
+        by_stripe(&operations).iter().all(|operations| has_order(operations, 1))
+    };
+    assert!(both(0, 0) && both(63, 63));
+    assert!(!both(0, 1) && !both(1, 0));
+}
+
+/// One read's bytes changed to another value of its stripe's history: mostly no order is left.
 #[test]
 fn changed_reads_are_noticed() {
     let (mut changed, mut without) = (0, 0);
     for seed in 500_000..501_000 {
-        let mut world = some_run::<Proved>(seed, 5, 2, |_| ());
-        let stripe = world.stripe();
-        let last = world.operations.iter().rposition(|o| o.gave().is_some());
-        let values: Vec<Vec<u8>> = world.operations.iter().filter(|o| o.finished()).filter_map(|o| o.write.clone()).collect();
-        let (Some(last), Some(value)) = (last, values.first()) else { continue };
-        if world.operations[last].gave() == Some(value) {
-            continue;
+        let world = some_run::<Proved>(seed, 5, 2, |_| ());
+        for mut operations in by_stripe(&world.operations) {
+            let last = operations.iter().rposition(|o| o.gave().is_some());
+            let values: Vec<Vec<u8>> = operations.iter().filter(|o| o.finished()).filter_map(|o| o.write.clone()).collect();
+            let (Some(last), Some(value)) = (last, values.first()) else { continue };
+            if operations[last].gave() == Some(value) {
+                continue;
+            }
+            let ended = operations[last].ended.as_ref().map(|(event, _)| (*event, End::Gave(value.clone())));
+            operations[last].ended = ended;
+            changed += 1;
+            without += usize::from(brute_order(&operations, world.stripe()).is_none());
         }
-        let ended = world.operations[last].ended.as_ref().map(|(event, _)| (*event, End::Gave(value.clone())));
-        world.operations[last].ended = ended;
-        changed += 1;
-        without += usize::from(brute_order(&world.operations, stripe).is_none());
     }
-    println!("{without} of {changed} changed runs without an order");
+    println!("{without} of {changed} changed histories without an order");
     assert!(changed > 100 && 10 * without > 8 * changed);
 }
 
 /// Kinds as the lent answers have them.
 #[test]
 fn a_run_by_hand() {
-    let mut world = World::<Proved>::new(Settings::new(5, 3, 2, 4), Faults::none());
+    let mut world = World::<Proved>::new(Settings::new(5, 3, 2, 4, 1), vec![0], Faults::none());
     let mut rng = Rng::new(1);
     for write in [true, false] {
-        world.start_some(3, write, &mut rng);
+        world.start_some(3, 0, write, &mut rng);
         while !world.fresh.is_empty() {
             let which = world.fresh.remove(0);
             world.arrive(which);
@@ -156,4 +204,38 @@ fn a_run_by_hand() {
     assert_eq!((write.stored, write.round, read.round), (5, 2, 1));
     let kinds: HashSet<u8> = world.sent.iter().map(|sent| if let Sent::To(_, message) = sent { message.kind } else { 0 }).collect();
     assert!(kinds.contains(&READ) && kinds.contains(&WRITE) && !kinds.contains(&ORDER_READ));
+}
+
+/// One coordinator and three stripes: each read gives what was written to its own stripe, times rise over all of them, and a start on
+/// another stripe is refused while an operation runs.
+#[test]
+fn stripes_by_hand() {
+    let settings = Settings::new(5, 3, 1, 4, 3);
+    let mut world = World::<Proved>::new(settings, vec![0, 1, 2], Faults::none());
+    let arrive = |world: &mut World<Proved>| {
+        while !world.fresh.is_empty() {
+            let which = world.fresh.remove(0);
+            world.arrive(which);
+        }
+    };
+    for stripe in [2, 0] {
+        world.start(3, stripe, 0, Start::Write(vec![stripe as u8 + 1; 3]));
+        world.start(3, 1, 0, Start::Read(0));
+        arrive(&mut world);
+    }
+    for stripe in 0..3 {
+        world.start(3, stripe, 0, Start::Read(1));
+        arrive(&mut world);
+    }
+    let times: Vec<u64> = world.noted.iter().map(|noted| noted.time).collect();
+    assert_eq!(times, [19, 35, 51, 67, 83]);
+    let gave: Vec<&[u8]> = world.operations.iter().filter_map(Operation::gave).collect();
+    assert_eq!(gave, [[1; 3], [0; 3], [3; 3]]);
+    assert_eq!(world.fault(), None);
+    // The images of stripe 1 are those of a fresh brick: reads of one round changed nothing.
+    let length = world.images[0].len() / 3;
+    for (brick, row) in world.images.iter().enumerate() {
+        assert_eq!(row[length..2 * length], image::fresh(settings, brick as u64).unwrap());
+        assert!(row[..length] != row[length..2 * length] && row[..length] != row[2 * length..]);
+    }
 }

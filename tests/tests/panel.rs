@@ -21,23 +21,23 @@ fn read(name: &str) -> String {
 }
 
 /// What the panel of a brick shows: promise and newest, or the refusal.
-fn panel(four: proved::Four, brick: usize, image: &[u8]) -> Result<[u64; 2], u32> {
+fn panel(five: proved::Five, brick: usize, image: &[u8]) -> Result<[u64; 2], u32> {
     let mut times = [77; 2];
-    match proved::panel(four, brick, image, &mut times) {
+    match proved::panel(five, brick, image, &mut times) {
         0 => Ok(times),
         number => Err(number),
     }
 }
 
-const FOUR: proved::Four = (3, 1, 1, 4);
+const FIVE: proved::Five = (3, 1, 1, 4, 1);
 
 /// A brick that took these messages of kind and time.
 fn after(brick: usize, messages: &[(u8, u64)]) -> Vec<u8> {
-    let mut image = vec![0; 512 * (FOUR.3 + 1)];
-    assert_eq!(proved::fresh(FOUR, brick, &mut image), 0);
+    let mut image = vec![0; 512 * (FIVE.3 + 1)];
+    assert_eq!(proved::fresh(FIVE, brick, &mut image), 0);
     for &(kind, time) in messages {
-        let asked = proved::asked(u64::from(kind), time, 1, 0, [0; 16]);
-        let number = proved::receive(FOUR, brick, &mut image, &asked, &[10], &mut [0], &mut [0; 7]);
+        let asked = proved::asked(u64::from(kind), time, 1, 0, 0, [0; 16]);
+        let number = proved::receive(FIVE, brick, &mut image, &asked, &[10], &mut [0], &mut [0; 8]);
         assert_eq!(number, if kind == TRIM { proved::SILENCE } else { 0 });
     }
     image
@@ -48,21 +48,21 @@ fn situations() -> Vec<(&'static str, Result<[u64; 2], u32>)> {
     let whole = after(0, &[(ORDER, 16), (WRITE, 16)]);
     let mut damaged = whole.clone();
     damaged[512 + 16] ^= 1;
-    let (n, m, size, capacity) = FOUR;
+    let (n, m, size, capacity, stripes) = FIVE;
     vec![
-        ("fresh", panel(FOUR, 0, &after(0, &[]))),
-        ("store 16 ordered and stored", panel(FOUR, 0, &whole)),
-        ("the same after its Trim", panel(FOUR, 0, &after(0, &[(ORDER, 16), (WRITE, 16), (TRIM, 16)]))),
-        ("store 16 stored, its Order lost", panel(FOUR, 0, &after(0, &[(WRITE, 16)]))),
-        ("store 16 ordered, not stored", panel(FOUR, 1, &after(1, &[(ORDER, 16)]))),
-        ("store 16 stored, store 33 ordered, not stored", panel(FOUR, 1, &after(1, &[(ORDER, 16), (WRITE, 16), (ORDER, 33)]))),
-        ("two bricks, stores 16 and 33: one has both", panel(FOUR, 0, &after(0, &[(WRITE, 16), (ORDER, 33), (WRITE, 33)]))),
-        ("the other missed store 33", panel(FOUR, 1, &after(1, &[(WRITE, 16)]))),
-        ("a byte of a block changed", panel(FOUR, 0, &damaged)),
-        ("the image of brick 0 opened as brick 1", panel(FOUR, 1, &whole)),
-        ("log capacity 33", panel((n, m, size, 33), 0, &whole)),
-        ("a block of 512 bytes missing", panel((n, m, size, capacity), 0, &whole[512..])),
-        ("brick 3 of three", panel(FOUR, 3, &whole)),
+        ("fresh", panel(FIVE, 0, &after(0, &[]))),
+        ("store 16 ordered and stored", panel(FIVE, 0, &whole)),
+        ("the same after its Trim", panel(FIVE, 0, &after(0, &[(ORDER, 16), (WRITE, 16), (TRIM, 16)]))),
+        ("store 16 stored, its Order lost", panel(FIVE, 0, &after(0, &[(WRITE, 16)]))),
+        ("store 16 ordered, not stored", panel(FIVE, 1, &after(1, &[(ORDER, 16)]))),
+        ("store 16 stored, store 33 ordered, not stored", panel(FIVE, 1, &after(1, &[(ORDER, 16), (WRITE, 16), (ORDER, 33)]))),
+        ("two bricks, stores 16 and 33: one has both", panel(FIVE, 0, &after(0, &[(WRITE, 16), (ORDER, 33), (WRITE, 33)]))),
+        ("the other missed store 33", panel(FIVE, 1, &after(1, &[(WRITE, 16)]))),
+        ("a byte of a block changed", panel(FIVE, 0, &damaged)),
+        ("the image of brick 0 opened as brick 1", panel(FIVE, 1, &whole)),
+        ("log capacity 33", panel((n, m, size, 33, stripes), 0, &whole)),
+        ("a block of 512 bytes missing", panel((n, m, size, capacity, stripes), 0, &whole[512..])),
+        ("brick 3 of three", panel(FIVE, 3, &whole)),
     ]
 }
 
@@ -125,16 +125,16 @@ fn the_worked_case_in_the_readme() {
         let numbers: Vec<u64> = words.filter_map(|word| word.parse().ok()).collect();
         if command == "set" {
             let &[n, m, size, capacity] = &numbers[..] else { panic!("{line}") };
-            world = Some(World::new(Settings::new(n, m, size, capacity), Faults::none()));
+            world = Some(World::new(Settings::new(n, m, size, capacity, 1), vec![0], Faults::none()));
         }
         let world = world.as_mut().expect("set comes first");
         match command {
             "set" => moments.push(("fresh", panels(world))),
             "write" => {
                 let data = (0..last.len() / 2).map(|k| u8::from_str_radix(&last[2 * k..2 * k + 2], 16).unwrap()).collect();
-                world.start(numbers[0] as usize, numbers[1], Start::Write(data));
+                world.start(numbers[0] as usize, 0, numbers[1], Start::Write(data));
             }
-            "read" => world.start(numbers[0] as usize, numbers[1], Start::Read(numbers[2])),
+            "read" => world.start(numbers[0] as usize, 0, numbers[1], Start::Read(numbers[2])),
             "carry" => numbers.iter().for_each(|&k| world.arrive(k as usize - 1)),
             "crash" => {
                 world.cut(numbers[0] as usize);
@@ -161,9 +161,7 @@ fn the_worked_case_in_the_readme() {
 
 /// Every brick's panel, as README writes it.
 fn panels(world: &World<Proved>) -> Vec<String> {
-    let settings = world.settings;
-    let shape = settings.shape;
-    let four = (shape.n as usize, shape.m as usize, shape.size as usize, settings.capacity as usize);
-    let shown = world.images.iter().enumerate().map(|(b, image)| panel(four, b, image).unwrap());
+    let five = Proved::five(world.settings);
+    let shown = world.images.iter().enumerate().map(|(b, image)| panel(five, b, image).unwrap());
     shown.map(|[promise, newest]| format!("{promise}, {newest}")).collect()
 }

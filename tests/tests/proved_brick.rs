@@ -1,9 +1,11 @@
-//! The proved brick against the independent one: images, replies and refusals, byte for byte.
+//! The proved brick against the independent one: images, replies and refusals, byte for byte, on one image and on the row of images that
+//! a brick of a volume has.
 
-use jilbagum_tests::{brick, image, proved, rng::Rng, settings::Settings};
+use jilbagum_tests::settings::{Refusal, Settings};
+use jilbagum_tests::{brick, image, proved, rng::Rng};
 
-fn settings((n, m, size, capacity): proved::Four) -> Settings {
-    Settings::new(n as u64, m as u64, size as u64, capacity as u64)
+fn settings((n, m, size, capacity, stripes): proved::Five) -> Settings {
+    Settings::new(n as u64, m as u64, size as u64, capacity as u64, stripes as u64)
 }
 
 /// A message as the boundary takes it. Each field is a number of 64 bits, so that values which the brick's own types cannot hold are
@@ -14,18 +16,19 @@ struct Numbers {
     time: u64,
     round: u64,
     max: u64,
+    stripe: u64,
     flags: [u64; 16],
     block: Vec<u8>,
 }
 
 impl Numbers {
     fn of(message: &brick::Message) -> Numbers {
-        let brick::Message { kind, time, round, max, ref targets, ref block } = *message;
-        Numbers { kind: u64::from(kind), time, round, max, flags: proved::flags(targets), block: block.clone() }
+        let brick::Message { kind, stripe, time, round, max, ref targets, ref block } = *message;
+        Numbers { kind: u64::from(kind), time, round, max, stripe, flags: proved::flags(targets), block: block.clone() }
     }
 
     fn asked(&self) -> proved::Asked {
-        proved::asked(self.kind, self.time, self.round, self.max, self.flags)
+        proved::asked(self.kind, self.time, self.round, self.max, self.stripe, self.flags)
     }
 
     /// The same for the independent brick: a number that no byte holds is no kind, and a flag says how often its brick is named.
@@ -33,6 +36,7 @@ impl Numbers {
         let named = |b: u8| vec![b; self.flags[usize::from(b)].min(3) as usize];
         brick::Message {
             kind: u8::try_from(self.kind).unwrap_or(0),
+            stripe: self.stripe,
             time: self.time,
             round: self.round,
             max: self.max,
@@ -42,22 +46,27 @@ impl Numbers {
     }
 }
 
+/// The two bricks' routines that take a message: on the image of its stripe, or on the row of a brick's images.
+type Take = fn(Settings, u64, &mut [u8], &brick::Message) -> Result<Option<brick::Reply>, Refusal>;
+const ON_ONE_IMAGE: (proved::Receive, Take) = (proved::receive, brick::take);
+const ON_A_ROW: (proved::Receive, Take) = (proved::receive_in_row, brick::take_in_row);
+
 /// Both bricks on one message. Every buffer is compared, and a refusal or a reply without a block must leave the block's buffer.
-fn compare(four: proved::Four, number: usize, bytes: &mut Vec<u8>, numbers: &Numbers) -> u32 {
+fn compare_by((receive, take): (proved::Receive, Take), five: proved::Five, number: usize, bytes: &mut Vec<u8>, numbers: &Numbers) -> u32 {
     let message = numbers.message();
-    let size = four.2.min(512);
+    let size = five.2.min(512);
     let block = if message.kind == brick::WRITE { message.block.clone() } else { vec![0; size] };
     let (mut ours, mut theirs) = (bytes.clone(), bytes.clone());
-    let (mut out, mut reply) = (vec![0xEE; size], [77; 7]);
-    let answer = proved::receive(four, number, &mut ours, &numbers.asked(), &block, &mut out, &mut reply);
-    let seen = format!("{four:?} brick {number} {numbers:?}");
+    let (mut out, mut reply) = (vec![0xEE; size], [77; 8]);
+    let answer = receive(five, number, &mut ours, &numbers.asked(), &block, &mut out, &mut reply);
+    let seen = format!("{five:?} brick {number} {numbers:?}");
     let mut left = vec![0xEE; size];
-    match brick::take(settings(four), number as u64, &mut theirs, &message) {
-        Err(refusal) => assert_eq!((answer, reply), (u32::from(refusal), [77; 7]), "{seen}"),
-        Ok(None) => assert_eq!((answer, reply), (proved::SILENCE, [77; 7]), "{seen}"),
+    match take(settings(five), number as u64, &mut theirs, &message) {
+        Err(refusal) => assert_eq!((answer, reply), (u32::from(refusal), [77; 8]), "{seen}"),
+        Ok(None) => assert_eq!((answer, reply), (proved::SILENCE, [77; 8]), "{seen}"),
         Ok(Some(r)) => {
             let held = u64::from(r.block.is_some());
-            let fields = [u64::from(r.kind), r.brick, r.time, r.round, u64::from(r.yes), r.found, held];
+            let fields = [u64::from(r.kind), r.brick, r.time, r.round, u64::from(r.yes), r.found, held, r.stripe];
             assert_eq!((answer, reply), (0, fields), "{seen}");
             left = r.block.unwrap_or(left);
         }
@@ -68,19 +77,31 @@ fn compare(four: proved::Four, number: usize, bytes: &mut Vec<u8>, numbers: &Num
     answer
 }
 
-fn fresh(four: proved::Four, number: usize) -> Vec<u8> {
-    let mut bytes = vec![0xDD; 512 * (four.3 + 1)];
-    assert_eq!(proved::fresh(four, number, &mut bytes), 0);
-    assert_eq!(bytes, image::fresh(settings(four), number as u64).unwrap());
+fn compare(five: proved::Five, number: usize, bytes: &mut Vec<u8>, numbers: &Numbers) -> u32 {
+    compare_by(ON_ONE_IMAGE, five, number, bytes, numbers)
+}
+
+fn fresh(five: proved::Five, number: usize) -> Vec<u8> {
+    let mut bytes = vec![0xDD; 512 * (five.3 + 1)];
+    assert_eq!(proved::fresh(five, number, &mut bytes), 0);
+    assert_eq!(bytes, image::fresh(settings(five), number as u64).unwrap());
+    bytes
+}
+
+fn fresh_row(five: proved::Five, number: usize) -> Vec<u8> {
+    let mut bytes = vec![0xDD; 512 * (five.3 + 1) * five.4];
+    assert_eq!(proved::fresh_row(five, number, &mut bytes), 0);
+    assert_eq!(bytes, image::fresh_row(settings(five), number as u64).unwrap());
     bytes
 }
 
 /// Settings in range, and the number of a brick.
-fn some_brick(rng: &mut Rng) -> (proved::Four, usize) {
+fn some_brick(rng: &mut Rng) -> (proved::Five, usize) {
     let n = 1 + rng.below(16) as usize;
     let sizes = [1, 2, 7, 64, 255, 256];
-    let four = (n, 1 + rng.below(n as u64) as usize, sizes[rng.below(6) as usize], 2 + rng.below(31) as usize);
-    (four, rng.below(n as u64) as usize)
+    let stripes = [1, 2, 3, 5, 63, 64][rng.below(6) as usize];
+    let five = (n, 1 + rng.below(n as u64) as usize, sizes[rng.below(6) as usize], 2 + rng.below(31) as usize, stripes);
+    (five, rng.below(n as u64) as usize)
 }
 
 /// A number that is no flag; three of them end in a byte that is one.
@@ -89,7 +110,7 @@ fn no_flag(rng: &mut Rng) -> u64 {
 }
 
 /// A message, mostly sensible, sometimes not.
-fn random_message(rng: &mut Rng, (n, m, size, _): proved::Four) -> Numbers {
+fn random_message(rng: &mut Rng, (n, m, size, _, stripes): proved::Five) -> Numbers {
     let time = match rng.below(12) {
         0 => rng.number(),
         1 => rng.below(20),
@@ -118,6 +139,10 @@ fn random_message(rng: &mut Rng, (n, m, size, _): proved::Four) -> Numbers {
             2 => 0,
             _ => 16 + rng.below(60) * 8,
         },
+        stripe: match rng.below(20) {
+            0 => [stripes as u64, stripes as u64 + 1, 64, 256, 1 << 32, u64::MAX][rng.below(6) as usize],
+            _ => rng.below(stripes as u64),
+        },
         flags,
         block: rng.bytes(size),
     }
@@ -128,14 +153,14 @@ fn long_runs_of_messages() {
     let mut rng = Rng::printed(21);
     let mut answers = [0_usize; 128];
     for _ in 0..300 {
-        let (four, number) = some_brick(&mut rng);
-        let mut bytes = fresh(four, number);
+        let (five, number) = some_brick(&mut rng);
+        let mut bytes = fresh(five, number);
         for _ in 0..60 {
-            let message = random_message(&mut rng, four);
-            answers[compare(four, number, &mut bytes, &message) as usize] += 1;
+            let message = random_message(&mut rng, five);
+            answers[compare(five, number, &mut bytes, &message) as usize] += 1;
             let mut times = [0; 2];
-            assert_eq!(proved::panel(four, number, &bytes, &mut times), 0);
-            let state = image::parse(settings(four), number as u64, &bytes).unwrap();
+            assert_eq!(proved::panel(five, number, &bytes, &mut times), 0);
+            let state = image::parse(settings(five), number as u64, &bytes).unwrap();
             assert_eq!(times, [state.promise, state.newest()]);
         }
     }
@@ -145,9 +170,10 @@ fn long_runs_of_messages() {
 /// Each field below, at and above its range, in messages of every kind: 10 where the kind looks at the field, and only there.
 #[test]
 fn fields_in_and_around_their_ranges() {
-    let four = (5, 2, 4, 6);
-    let good = |kind: u64| Numbers { kind, time: 160, round: 2, max: 1 << 44, flags: proved::flags(&[1, 3]), block: vec![7; 4] };
-    let answer = |numbers: &Numbers| compare(four, 3, &mut fresh(four, 3), numbers);
+    let five = (5, 2, 4, 6, 3);
+    let flags = proved::flags(&[1, 3]);
+    let good = |kind: u64| Numbers { kind, time: 160, round: 2, max: 1 << 44, stripe: 1, flags, block: vec![7; 4] };
+    let answer = |numbers: &Numbers| compare(five, 3, &mut fresh(five, 3), numbers);
     let passed = |kind: u64| if kind == u64::from(brick::TRIM) { proved::SILENCE } else { 0 };
     for kind in [0, 6, 7, 255, 256, 257, 261, 512 + 4, 1 << 32, (1 << 32) + 1, u64::MAX] {
         assert_eq!(answer(&good(kind)), 10, "kind {kind}");
@@ -162,6 +188,9 @@ fn fields_in_and_around_their_ranges() {
         }
         for (round, number) in [(0, 10), (1, passed(kind)), (1000, passed(kind)), (1001, 10), (u64::MAX, 10)] {
             assert_eq!(answer(&Numbers { round, ..good(kind) }), number, "kind {kind} round {round}");
+        }
+        for (stripe, number) in [(0, passed(kind)), (2, passed(kind)), (3, 13), (64, 13), (256, 13), (1 << 32, 13), (u64::MAX, 13)] {
+            assert_eq!(answer(&Numbers { stripe, ..good(kind) }), number, "kind {kind} stripe {stripe}");
         }
         for max in [(1 << 44) + 1, u64::MAX] {
             let number = if kind == u64::from(brick::ORDER_READ) { 10 } else { passed(kind) };
@@ -184,22 +213,22 @@ fn fields_in_and_around_their_ranges() {
 
 #[test]
 fn every_changed_byte_of_a_small_image() {
-    let four = (3, 1, 1, 2);
-    let mut bytes = fresh(four, 1);
+    let five = (3, 1, 1, 2, 1);
+    let mut bytes = fresh(five, 1);
     let write = brick::Message { block: vec![9], ..brick::Message::plain(brick::WRITE, 33, 2) };
-    compare(four, 1, &mut bytes, &Numbers::of(&write));
+    compare(five, 1, &mut bytes, &Numbers::of(&write));
     let read = brick::Message { targets: vec![1], ..brick::Message::plain(brick::READ, 49, 1) };
     for at in 0..bytes.len() {
         for change in 1..=255_u8 {
             let mut damaged = bytes.clone();
             damaged[at] ^= change;
-            let (mut out, mut reply) = ([0], [0; 7]);
+            let (mut out, mut reply) = ([0], [0; 8]);
             let kept = damaged.clone();
-            let answer = proved::receive(four, 1, &mut damaged, &Numbers::of(&read).asked(), &[0], &mut out, &mut reply);
+            let answer = proved::receive(five, 1, &mut damaged, &Numbers::of(&read).asked(), &[0], &mut out, &mut reply);
             assert_eq!((answer, &damaged), (5, &kept), "byte {at} by {change}");
         }
     }
-    assert_eq!(compare(four, 1, &mut bytes, &Numbers::of(&read)), 0);
+    assert_eq!(compare(five, 1, &mut bytes, &Numbers::of(&read)), 0);
 }
 
 /// The check of a block, made right again after damage, so that refusal 6 is reached.
@@ -213,11 +242,11 @@ fn damaged_images() {
     let mut rng = Rng::printed(22);
     let mut answers = [0_usize; 128];
     for _ in 0..4000 {
-        let four = (5, 3, [1, 64, 256][rng.below(3) as usize], 2 + rng.below(5) as usize);
-        let mut bytes = fresh(four, 2);
+        let five = (5, 3, [1, 64, 256][rng.below(3) as usize], 2 + rng.below(5) as usize, [1, 4][rng.below(2) as usize]);
+        let mut bytes = fresh(five, 2);
         for _ in 0..rng.below(4) {
-            let message = random_message(&mut rng, four);
-            compare(four, 2, &mut bytes, &message);
+            let message = random_message(&mut rng, five);
+            compare(five, 2, &mut bytes, &message);
         }
         for _ in 0..1 + rng.below(2) {
             let at = if rng.once_in(2) { rng.below(bytes.len() as u64) } else { rng.below(4) * 512 + rng.below(24) } as usize;
@@ -231,29 +260,29 @@ fn damaged_images() {
         if rng.once_in(20) {
             bytes.pop();
         }
-        let message = random_message(&mut rng, four);
+        let message = random_message(&mut rng, five);
         let brick = if rng.once_in(10) { rng.below(8) as usize } else { 2 };
-        answers[compare(four, brick, &mut bytes, &message) as usize] += 1;
+        answers[compare(five, brick, &mut bytes, &message) as usize] += 1;
     }
-    for number in [0, 2, 3, 5, 6, 100] {
+    for number in [0, 2, 3, 5, 6, 13, 100] {
         assert!(answers[number] > 20, "{number}: {answers:?}");
     }
 }
 
 /// The proved view against the independent state at every place from 0 to capacity + 1 and at the last number; a refusal must leave the buffer.
-fn look_everywhere(four: proved::Four, number: usize, bytes: &[u8], answers: &mut [usize; 7]) {
-    let state = image::parse(settings(four), number as u64, bytes);
-    for place in (0..=four.3 + 1).chain([usize::MAX]) {
+fn look_everywhere(five: proved::Five, number: usize, bytes: &[u8], answers: &mut [usize; 7]) {
+    let state = image::parse(settings(five), number as u64, bytes);
+    for place in (0..=five.3 + 1).chain([usize::MAX]) {
         let mut found = [77; 2];
-        let answer = proved::entry(four, number, bytes, place, &mut found);
-        let seen = format!("{four:?} brick {number} place {place}");
+        let answer = proved::entry(five, number, bytes, place, &mut found);
+        let seen = format!("{five:?} brick {number} place {place}");
         match state.as_ref().map_err(|&refusal| refusal).and_then(|s| s.entry(place as u64)) {
             Err(refusal) => assert_eq!((answer, found), (u32::from(refusal), [77; 2]), "{seen}"),
             Ok(entry) => {
                 assert_eq!((answer, found[0]), (0, entry.time), "{seen}");
                 assert_eq!(found[1], place as u64 + 1, "{seen}");
                 let at = found[1] as usize * image::BLOCK + 16;
-                assert_eq!(bytes[at..at + four.2], entry.block, "{seen}");
+                assert_eq!(bytes[at..at + five.2], entry.block, "{seen}");
             }
         }
         answers[answer as usize] += 1;
@@ -266,46 +295,46 @@ fn views_of_every_place() {
     let (mut whole, mut hurt, mut other) = ([0_usize; 7], [0_usize; 7], [0_usize; 7]);
     let mut full = 0;
     for run in 0..400 {
-        let (four, number) = some_brick(&mut rng);
-        let mut bytes = fresh(four, number);
-        look_everywhere(four, number, &bytes, &mut whole);
+        let (five, number) = some_brick(&mut rng);
+        let mut bytes = fresh(five, number);
+        look_everywhere(five, number, &bytes, &mut whole);
         let mut time = 16;
         for _ in 0..4 {
             for _ in 0..rng.below(20) {
                 // Every other run only writes, in rising time, so that logs grow long and full.
                 time += 1 + rng.below(40);
-                let rising = brick::Message { block: rng.bytes(four.2), ..brick::Message::plain(brick::WRITE, time, 1) };
-                let message = if run % 2 == 0 { Numbers::of(&rising) } else { random_message(&mut rng, four) };
-                compare(four, number, &mut bytes, &message);
+                let rising = brick::Message { block: rng.bytes(five.2), ..brick::Message::plain(brick::WRITE, time, 1) };
+                let message = if run % 2 == 0 { Numbers::of(&rising) } else { random_message(&mut rng, five) };
+                compare(five, number, &mut bytes, &message);
             }
-            look_everywhere(four, number, &bytes, &mut whole);
-            full += usize::from(image::parse(settings(four), number as u64, &bytes).unwrap().log.len() == four.3);
+            look_everywhere(five, number, &bytes, &mut whole);
+            full += usize::from(image::parse(settings(five), number as u64, &bytes).unwrap().log.len() == five.3);
             // A changed byte, near the front of a block or anywhere; its check made right again or not.
             let mut damaged = bytes.clone();
-            let block = rng.below(four.3 as u64 + 1) as usize * 512;
+            let block = rng.below(five.3 as u64 + 1) as usize * 512;
             let within = if rng.once_in(2) { 24 } else { 512 };
             let at = block + rng.below(within) as usize;
             damaged[at] ^= 1 + rng.below(255) as u8;
             if rng.once_in(2) {
                 reseal(&mut damaged[block..block + 512]);
             }
-            look_everywhere(four, number, &damaged, &mut hurt);
+            look_everywhere(five, number, &damaged, &mut hurt);
         }
         // Another brick, other settings, another length.
-        let (n, m, size, capacity) = four;
+        let (n, m, size, capacity, stripes) = five;
         for brick in 0..=n + 1 {
-            look_everywhere(four, brick, &bytes, &mut other);
+            look_everywhere(five, brick, &bytes, &mut other);
         }
-        for four in [(n + 1, m, size, capacity), (n, m + 1, size, capacity), (n, m, size + 1, capacity)] {
-            look_everywhere(four, number, &bytes, &mut other);
+        for (n, m, size) in [(n + 1, m, size), (n, m + 1, size), (n, m, size + 1), (n, 0, size), (n, m, 257)] {
+            look_everywhere((n, m, size, capacity, stripes), number, &bytes, &mut other);
         }
-        for four in [(n, m, size, capacity + 1), (n, 0, size, capacity), (n, m, 257, capacity), (n, m, size, 33)] {
-            look_everywhere(four, number, &bytes, &mut other);
+        for (capacity, stripes) in [(capacity + 1, stripes), (33, stripes), (capacity, 0), (capacity, 65)] {
+            look_everywhere((n, m, size, capacity, stripes), number, &bytes, &mut other);
         }
-        look_everywhere(four, number, &bytes[1..], &mut other);
+        look_everywhere(five, number, &bytes[1..], &mut other);
         for length in [0, 1, 3] {
             let mut found = vec![77; length];
-            assert_eq!(proved::entry(four, number, &bytes, 0, &mut found), 2);
+            assert_eq!(proved::entry(five, number, &bytes, 0, &mut found), 2);
             assert_eq!(found, vec![77; length]);
         }
     }
@@ -315,41 +344,152 @@ fn views_of_every_place() {
     assert!([1, 2, 3, 6].iter().all(|&k| other[k] > 1000), "{other:?}");
 }
 
-/// The lowest number first, the boundary's own buffers included: 1, then 2, then 3, whatever else is wrong.
+/// Settings for blocks of 4 bytes and a capacity of 3, one of them out of its range.
+const WRONG: [proved::Five; 9] = [
+    (0, 0, 4, 3, 2),
+    (17, 1, 4, 3, 2),
+    (3, 4, 4, 3, 2),
+    (3, 1, 0, 3, 2),
+    (3, 1, 257, 3, 2),
+    (3, 1, 4, 1, 2),
+    (3, 1, 4, 33, 2),
+    (3, 1, 4, 3, 0),
+    (3, 1, 4, 3, 65),
+];
+
+/// The order of the refusals, the boundary's own buffers included: 1, then 2, 3, 13, whatever else is wrong.
 #[test]
 fn settings_and_lengths() {
-    let four = (3, 1, 4, 3);
-    let mut bytes = fresh(four, 0);
+    let five = (3, 1, 4, 3, 2);
+    let mut bytes = fresh(five, 0);
     let read = Numbers::of(&brick::Message { targets: vec![0], ..brick::Message::plain(brick::READ, 16, 1) });
     let asked = read.asked();
-    let (mut out, mut reply) = ([0; 4], [0; 7]);
-    for wrong in [(0, 0, 4, 3), (17, 1, 4, 3), (3, 4, 4, 3), (3, 1, 0, 3), (3, 1, 257, 3), (3, 1, 4, 1), (3, 1, 4, 33)] {
+    let (mut out, mut reply) = ([0; 4], [0; 8]);
+    for wrong in WRONG {
         assert_eq!(compare(wrong, 0, &mut bytes, &read), 1);
-        assert_eq!(proved::receive(wrong, 9, &mut bytes, &asked[..19], &[0; 3], &mut out, &mut reply[..6]), 1);
+        assert_eq!(proved::receive(wrong, 9, &mut bytes, &asked[..20], &[0; 3], &mut out, &mut reply[..7]), 1);
         assert_eq!(proved::panel(wrong, 9, &bytes, &mut [0; 3]), 1);
         assert_eq!(proved::entry(wrong, 9, &bytes, 9, &mut [0; 1]), 1);
         assert_eq!(proved::fresh(wrong, 9, &mut [0; 3]), 1);
     }
-    // Of a brick that is none, at a place that is none, with a kind that is none: the lengths come before.
+    // Of a brick that is none, at a place that is none, with a stripe and a kind that are none: the lengths come before.
     let mut bad = asked;
-    bad[0] = 6;
+    (bad[0], bad[4]) = (6, 2);
     let mut longer = asked.to_vec();
     longer.push(0);
-    for short in [&bad[..0], &bad[..19], &longer[..]] {
-        assert_eq!(proved::receive(four, 3, &mut bytes, short, &[0; 4], &mut out, &mut reply), 2);
+    for short in [&bad[..0], &bad[..20], &longer[..]] {
+        assert_eq!(proved::receive(five, 3, &mut bytes, short, &[0; 4], &mut out, &mut reply), 2);
     }
-    assert_eq!(proved::receive(four, 3, &mut bytes, &bad, &[0; 3], &mut out, &mut reply), 2);
-    assert_eq!(proved::receive(four, 3, &mut bytes, &bad, &[0; 4], &mut out[..3], &mut reply), 2);
-    assert_eq!(proved::receive(four, 3, &mut bytes, &bad, &[0; 4], &mut out, &mut reply[..6]), 2);
-    assert_eq!(proved::receive(four, 3, &mut bytes[1..], &bad, &[0; 4], &mut out, &mut reply), 2);
-    assert_eq!(proved::receive(four, 3, &mut bytes, &bad, &[0; 4], &mut out, &mut reply), 3);
-    assert_eq!(proved::receive(four, 0, &mut bytes, &bad, &[0; 4], &mut out, &mut reply), 10);
-    assert_eq!(proved::receive(four, 0, &mut bytes, &asked, &[0; 4], &mut out, &mut reply), 0);
+    assert_eq!(proved::receive(five, 3, &mut bytes, &bad, &[0; 3], &mut out, &mut reply), 2);
+    assert_eq!(proved::receive(five, 3, &mut bytes, &bad, &[0; 4], &mut out[..3], &mut reply), 2);
+    assert_eq!(proved::receive(five, 3, &mut bytes, &bad, &[0; 4], &mut out, &mut reply[..7]), 2);
+    assert_eq!(proved::receive(five, 3, &mut bytes[1..], &bad, &[0; 4], &mut out, &mut reply), 2);
+    assert_eq!(proved::receive(five, 3, &mut bytes, &bad, &[0; 4], &mut out, &mut reply), 3);
+    assert_eq!(proved::receive(five, 0, &mut bytes, &bad, &[0; 4], &mut out, &mut reply), 13);
+    bad[4] = 1;
+    assert_eq!(proved::receive(five, 0, &mut bytes, &bad, &[0; 4], &mut out, &mut reply), 10);
+    assert_eq!(proved::receive(five, 0, &mut bytes, &asked, &[0; 4], &mut out, &mut reply), 0);
     for length in [0, 1, 3] {
         let mut pair = vec![77; length];
-        assert_eq!(proved::panel(four, 3, &bytes, &mut pair), 2);
-        assert_eq!(proved::entry(four, 3, &bytes, 9, &mut pair), 2);
+        assert_eq!(proved::panel(five, 3, &bytes, &mut pair), 2);
+        assert_eq!(proved::entry(five, 3, &bytes, 9, &mut pair), 2);
         assert_eq!(pair, vec![77; length]);
     }
-    assert_eq!((proved::panel(four, 3, &bytes, &mut [0; 2]), proved::entry(four, 3, &bytes, 9, &mut [0; 2])), (3, 3));
+    assert_eq!((proved::panel(five, 3, &bytes, &mut [0; 2]), proved::entry(five, 3, &bytes, 9, &mut [0; 2])), (3, 3));
+}
+
+/// Long runs on the rows of bricks of volumes, some images damaged on the way: a damaged one is refused where it is meant, and stops
+/// nothing elsewhere. That no byte of another image changes follows from the comparison; it is looked at for itself too.
+#[test]
+fn rows_of_images() {
+    let mut rng = Rng::printed(24);
+    let (mut answers, mut beside) = ([0_usize; 128], 0);
+    for _ in 0..120 {
+        let (mut five, number) = some_brick(&mut rng);
+        five.3 = 2 + rng.below(3) as usize;
+        let mut row = fresh_row(five, number);
+        let length = 512 * (five.3 + 1);
+        let mut damaged = None;
+        for _ in 0..40 {
+            if rng.once_in(30) {
+                let stripe = rng.below(five.4 as u64) as usize;
+                let block = stripe * length + 512 * rng.below(five.3 as u64 + 1) as usize;
+                row[block + rng.below(512) as usize] ^= 1 + rng.below(255) as u8;
+                if rng.once_in(2) {
+                    reseal(&mut row[block..block + 512]);
+                }
+                damaged = Some(stripe as u64);
+            }
+            let message = random_message(&mut rng, five);
+            let before = row.clone();
+            let answer = compare_by(ON_A_ROW, five, number, &mut row, &message);
+            answers[answer as usize] += 1;
+            beside += usize::from(answer == 0 && damaged.is_some_and(|stripe| stripe != message.stripe));
+            let mut pairs = (0_u64..).zip(row.chunks(length).zip(before.chunks(length)));
+            assert!(pairs.all(|(stripe, (after, before))| stripe == message.stripe || after == before), "{five:?} {message:?}");
+        }
+    }
+    assert!(answers[0] > 2000 && [5, 6, 10, 13, 100].iter().all(|&number| answers[number] > 50), "{answers:?}");
+    assert!(beside > 300, "{beside}");
+}
+
+/// An image of the row, and the same message at that image alone: one and the same.
+#[test]
+fn a_row_is_its_images() {
+    let mut rng = Rng::printed(25);
+    let five = (4, 2, 8, 3, 6);
+    let mut row = fresh_row(five, 2);
+    let length = row.len() / five.4;
+    let mut images: Vec<Vec<u8>> = (0..five.4).map(|_| fresh(five, 2)).collect();
+    let mut replies = 0;
+    for _ in 0..2000 {
+        let message = Numbers { stripe: rng.below(five.4 as u64), ..random_message(&mut rng, five) };
+        let answer = compare_by(ON_A_ROW, five, 2, &mut row, &message);
+        assert_eq!(compare(five, 2, &mut images[message.stripe as usize], &message), answer);
+        assert!(row.chunks(length).eq(images.iter().map(Vec::as_slice)));
+        replies += usize::from(answer == 0);
+    }
+    assert!(replies > 1000);
+}
+
+/// The order of the refusals on a row: 1, 2, 3, 13, then 5 and 6 of the message's own image, then 10; and of a fresh row 1, 2, 3.
+#[test]
+fn rows_refused_in_order() {
+    let five = (3, 1, 4, 3, 2);
+    let row = fresh_row(five, 0);
+    let length = row.len() / 2;
+    let senseless = Numbers { kind: 6, stripe: 2, ..Numbers::of(&brick::Message::plain(brick::READ, 16, 1)) };
+    let refused = |five: proved::Five, number: usize, row: &[u8], numbers: &Numbers, block: usize, out: usize| {
+        let (mut lent, mut out, mut reply) = (row.to_vec(), vec![0xEE; out], [77; 8]);
+        let answer = proved::receive_in_row(five, number, &mut lent, &numbers.asked(), &vec![0; block], &mut out, &mut reply);
+        assert!(lent == row && out.iter().all(|&byte| byte == 0xEE) && reply == [77; 8]);
+        answer
+    };
+    // In both images a byte that should be zero isn't; in that of stripe 1 the check of another block fails too.
+    let mut torn = row.clone();
+    for head in [0, length] {
+        torn[head + 300] = 1;
+        reseal(&mut torn[head..head + 512]);
+    }
+    torn[length + 600] ^= 1;
+    for wrong in WRONG {
+        assert_eq!(refused(wrong, 3, &torn[1..], &senseless, 3, 3), 1);
+        assert_eq!(proved::fresh_row(wrong, 3, &mut torn.clone()[1..]), 1);
+    }
+    for lent in [&torn[..0], &torn[1..], &torn[..length], &[&torn[..], &[0]].concat()] {
+        assert_eq!(refused(five, 3, lent, &senseless, 4, 4), 2);
+        let mut kept = lent.to_vec();
+        assert_eq!(proved::fresh_row(five, 3, &mut kept), 2);
+        assert_eq!(kept, lent);
+    }
+    assert_eq!(refused(five, 3, &torn, &senseless, 3, 4), 2);
+    assert_eq!(refused(five, 3, &torn, &senseless, 4, 5), 2);
+    let mut kept = torn.clone();
+    assert_eq!((proved::fresh_row(five, 3, &mut kept), kept == torn), (3, true));
+    let at = |stripe: u64| Numbers { stripe, ..senseless.clone() };
+    assert_eq!(refused(five, 3, &torn, &at(2), 4, 4), 3);
+    assert_eq!(refused(five, 0, &torn, &at(2), 4, 4), 13);
+    assert_eq!(refused(five, 0, &torn, &at(1), 4, 4), 5);
+    assert_eq!(refused(five, 0, &torn, &at(0), 4, 4), 6);
+    assert_eq!(refused(five, 0, &row, &at(0), 4, 4), 10);
 }

@@ -2,23 +2,33 @@
 
 use jilbagum_tests::brick::{self, Message, Reply, ORDER_READ, READ, WRITE};
 use jilbagum_tests::coordinator::{self, Kind, Outcome, Record, Running, Step};
-use jilbagum_tests::proved::record::{BRICKS, COUNTED, FIRST, FOUND, GRANTED, HELD, KIND, LAST, M, MAX, N, PHASE, ROUND, SIZE, TIME};
+use jilbagum_tests::harness::Proved;
+use jilbagum_tests::proved::record::{
+    BRICKS, COUNTED, FIRST, FOUND, GRANTED, HELD, KIND, LAST, M, MAX, N, PHASE, ROUND, SIZE, STRIPE, STRIPES, TIME,
+};
 use jilbagum_tests::proved::{self, record, Coordinator, Lent};
 use jilbagum_tests::rng::Rng;
-use jilbagum_tests::settings::{Refusal, Settings, Shape, LAST_COUNT, NO_UPPER_END};
+use jilbagum_tests::settings::{Refusal, Settings, Shape, Volume, LAST_COUNT, NO_UPPER_END};
 use jilbagum_tests::image;
 use jilbagum_tests::tally::Tally;
 
+/// What happens at a coordinator. A start has its stripe and the clock's reading first.
 #[derive(Clone, Debug)]
 enum Event {
-    Write(u64, Vec<u8>),
-    Read(u64, u64),
+    Write(u64, u64, Vec<u8>),
+    Read(u64, u64, u64),
     Reply(Reply),
     Crash,
 }
 
-fn three(shape: Shape) -> proved::Three {
-    (shape.n as usize, shape.m as usize, shape.size as usize)
+impl Event {
+    fn stripe(&self) -> Option<u64> {
+        match self {
+            Event::Write(stripe, ..) | Event::Read(stripe, ..) => Some(*stripe),
+            Event::Reply(reply) => Some(reply.stripe),
+            Event::Crash => None,
+        }
+    }
 }
 
 fn row(bricks: &[u8]) -> [u8; 16] {
@@ -29,10 +39,11 @@ fn row(bricks: &[u8]) -> [u8; 16] {
 
 /// The numbers and bytes of a record.
 fn lay_out(record: &Record) -> (Vec<u64>, Vec<u8>) {
-    let Lent { mut numbers, mut bytes, .. } = Lent::fresh(three(record.shape), record.number);
+    let Lent { mut numbers, mut bytes, .. } = Lent::fresh(Proved::four(record.volume), record.number);
     numbers[LAST] = record.last;
     if let Some(running) = &record.running {
-        for (place, number) in [(TIME, running.time), (ROUND, running.round), (MAX, running.max), (FIRST, running.first)] {
+        let Running { stripe, time, round, max, first, .. } = *running;
+        for (place, number) in [(STRIPE, stripe), (TIME, time), (ROUND, round), (MAX, max), (FIRST, first)] {
             numbers[place] = number;
         }
         bytes[KIND] = if running.kind == Kind::Read { 1 } else { 2 };
@@ -52,14 +63,15 @@ fn lay_out(record: &Record) -> (Vec<u64>, Vec<u8>) {
 /// The record of such numbers and bytes, with the settings that it names itself; none where they stand for none.
 fn read_out(c: &Coordinator) -> Option<Record> {
     let (numbers, bytes) = (&c.lent.numbers, &c.lent.bytes);
-    let shape = Shape::new(numbers[N], numbers[M], numbers[SIZE]);
-    if shape.refusal().is_some() {
+    let volume = Volume::new(numbers[N], numbers[M], numbers[SIZE], numbers[STRIPES]);
+    let shape = volume.shape;
+    if volume.refusal().is_some() {
         return None;
     }
-    let mut record = Record { shape, number: numbers[record::COORDINATOR], last: numbers[LAST], running: None };
+    let mut record = Record { volume, number: numbers[record::COORDINATOR], last: numbers[LAST], running: None };
     let (kind, open) = match (bytes[KIND], bytes[PHASE]) {
         (0, _) => {
-            let unset = [TIME, ROUND, MAX, FIRST].iter().all(|&place| numbers[place] == 0) && numbers[FOUND..].iter().all(|&x| x == 0);
+            let unset = [STRIPE, TIME, ROUND, MAX, FIRST].iter().all(|&place| numbers[place] == 0) && numbers[FOUND..].iter().all(|&x| x == 0);
             return (unset && bytes.iter().all(|&x| x == 0)).then_some(record);
         }
         (1, open) => (Kind::Read, open),
@@ -83,6 +95,7 @@ fn read_out(c: &Coordinator) -> Option<Record> {
             replies.push(Reply {
                 kind: open,
                 brick: b as u64,
+                stripe: numbers[STRIPE],
                 time: numbers[TIME],
                 round: numbers[ROUND],
                 yes: granted == 1,
@@ -92,15 +105,16 @@ fn read_out(c: &Coordinator) -> Option<Record> {
         }
     }
     let kept = kind == Kind::Write || stored;
-    let stripe = if c.stripe.len() == shape.data_len() { c.stripe.clone() } else { vec![0; shape.data_len()] };
+    let data = if c.stripe.len() == shape.data_len() { c.stripe.clone() } else { vec![0; shape.data_len()] };
     record.running = Some(Running {
         kind,
+        stripe: numbers[STRIPE],
         time: numbers[TIME],
         round: numbers[ROUND],
         open,
         max: numbers[MAX],
         first: numbers[FIRST],
-        stripe: if kept { stripe } else { Vec::new() },
+        data: if kept { data } else { Vec::new() },
         bricks: bricks.to_vec(),
         replies,
     });
@@ -108,10 +122,11 @@ fn read_out(c: &Coordinator) -> Option<Record> {
 }
 
 /// What the independent coordinator makes of an event: a refusal, or the record that follows and its step.
-fn judged(shape: Shape, c: &Coordinator, event: &Event) -> Result<(Record, Step), Refusal> {
+fn judged(volume: Volume, c: &Coordinator, event: &Event) -> Result<(Record, Step), Refusal> {
+    let shape = volume.shape;
     let number = c.lent.numbers.first().copied().unwrap_or(0);
     let lent = [c.lent.numbers.len(), c.lent.bytes.len(), c.lent.sent.len(), c.lent.shown.len()];
-    if shape.refusal().is_some() {
+    if volume.refusal().is_some() {
         return Err(1);
     }
     if lent != [record::NUMBERS, record::BYTES, proved::answer::NUMBERS, proved::answer::BYTES] {
@@ -126,29 +141,31 @@ fn judged(shape: Shape, c: &Coordinator, event: &Event) -> Result<(Record, Step)
     }
     let Some(mut record) = read_out(c) else {
         return Err(match event {
-            Event::Write(_, data) if data.len() != shape.data_len() => 2,
+            Event::Write(.., data) if data.len() != shape.data_len() => 2,
             Event::Reply(reply) if reply.block.as_ref().is_some_and(|b| b.len() as u64 != shape.size) => 2,
             Event::Reply(reply) if reply.brick >= shape.n => 3,
-            Event::Read(_, first) if *first >= shape.n => 3,
+            Event::Read(.., first) if *first >= shape.n => 3,
             _ if number > 15 => 3,
+            _ if event.stripe().is_some_and(|stripe| volume.stripe_refusal(stripe).is_some()) => 13,
             _ => 6,
         });
     };
     let step = match event {
-        Event::Write(reading, data) => coordinator::start_write(shape, number, &mut record, *reading, data),
-        Event::Read(reading, first) => coordinator::start_read(shape, number, &mut record, *reading, *first),
-        Event::Reply(reply) => coordinator::take_reply(shape, number, &mut record, reply),
-        Event::Crash => coordinator::crash(shape, number, &mut record),
+        Event::Write(stripe, reading, data) => coordinator::start_write(volume, number, &mut record, *stripe, *reading, data),
+        Event::Read(stripe, reading, first) => coordinator::start_read(volume, number, &mut record, *stripe, *reading, *first),
+        Event::Reply(reply) => coordinator::take_reply(volume, number, &mut record, reply),
+        Event::Crash => coordinator::crash(volume, number, &mut record),
     };
     step.map(|step| (record, step))
 }
 
-/// The four buffers' answer: eight numbers and 52 bytes, with nothing in the places of a second message.
+/// The four buffers' answer: eleven numbers and 52 bytes, with nothing in the places of a second message.
 fn answer(shape: Shape, event: &Event, record: &Record, step: &Step) -> (Vec<u64>, Vec<u8>) {
-    let (mut sent, mut shown) = (vec![0; 8], vec![0; 52]);
+    let (mut sent, mut shown) = (vec![0; 11], vec![0; 52]);
     if let Some(message) = step.sent.first() {
         assert_eq!(step.sent.len() as u64, shape.n);
         sent[..4].copy_from_slice(&[1, message.time, message.round, message.max]);
+        sent[8] = message.stripe;
         shown[0] = message.kind;
         for &target in &message.targets {
             shown[3 + target as usize] = 1;
@@ -165,9 +182,11 @@ fn answer(shape: Shape, event: &Event, record: &Record, step: &Step) -> (Vec<u64
         shown[1..3].copy_from_slice(&[what, number(ended.kind)]);
         shown[19..35].copy_from_slice(&row(&bricks));
         sent[4] = ended.time;
+        sent[9] = ended.stripe;
     } else if let (Event::Write(..) | Event::Read(..), Some(running)) = (event, &record.running) {
         shown[1..3].copy_from_slice(&[1, number(running.kind)]);
         sent[4] = running.time;
+        sent[9] = running.stripe;
     }
     (sent, shown)
 }
@@ -185,10 +204,10 @@ fn recovery_abort(c: &Coordinator, reply: &Reply) -> &'static str {
 }
 
 /// What the lent coordinator must be after an event, and the number returned.
-fn expected(shape: Shape, c: &Coordinator, event: &Event, tally: &mut Tally) -> (Coordinator, u32, Step) {
+fn expected(volume: Volume, c: &Coordinator, event: &Event, tally: &mut Tally) -> (Coordinator, u32, Step) {
     let mut after = c.clone();
     let before = c.lent.bytes.get(PHASE).copied().unwrap_or(0);
-    let (record, step) = match judged(shape, c, event) {
+    let (record, step) = match judged(volume, c, event) {
         Err(number) => {
             tally.add(format!("refusal {number}"), 1);
             return (after, u32::from(number), Step::default());
@@ -196,8 +215,8 @@ fn expected(shape: Shape, c: &Coordinator, event: &Event, tally: &mut Tally) -> 
         Ok(done) => done,
     };
     (after.lent.numbers, after.lent.bytes) = lay_out(&record);
-    (after.lent.sent, after.lent.shown) = answer(shape, event, &record, &step);
-    if let Event::Write(_, data) = event {
+    (after.lent.sent, after.lent.shown) = answer(volume.shape, event, &record, &step);
+    if let Event::Write(.., data) = event {
         after.stripe.clone_from(data);
     }
     if let Event::Reply(Reply { brick, block: Some(block), .. }) = event {
@@ -209,7 +228,7 @@ fn expected(shape: Shape, c: &Coordinator, event: &Event, tally: &mut Tally) -> 
     }
     let running = record.running.as_ref();
     if let Some(running) = running.filter(|r| r.kind == Kind::Read && r.open == WRITE) {
-        after.stripe.clone_from(&running.stripe);
+        after.stripe.clone_from(&running.data);
     }
     let outcome = step.ended.as_ref().map(|ended| &ended.outcome);
     if let Some(Outcome::Stripe { data, .. }) = outcome {
@@ -237,32 +256,33 @@ fn expected(shape: Shape, c: &Coordinator, event: &Event, tally: &mut Tally) -> 
 }
 
 /// Both coordinators at one event: every buffer and the number returned are compared.
-fn compare(shape: Shape, c: &mut Coordinator, event: &Event, tally: &mut Tally) -> Step {
-    let (after, number, step) = expected(shape, c, event, tally);
+fn compare(volume: Volume, c: &mut Coordinator, event: &Event, tally: &mut Tally) -> Step {
+    let (after, number, step) = expected(volume, c, event, tally);
     let before = c.clone();
+    let four = Proved::four(volume);
     let ours = match event {
-        Event::Write(reading, data) => {
-            proved::start_write(three(shape), &mut c.lent, *reading, data, &mut c.stripe)
+        Event::Write(stripe, reading, data) => {
+            proved::start_write(four, &mut c.lent, *stripe as usize, *reading, data, &mut c.stripe)
         }
-        Event::Read(reading, first) => proved::start_read(three(shape), &mut c.lent, *reading, *first as usize),
-        Event::Crash => proved::crash(three(shape), &mut c.lent),
+        Event::Read(stripe, reading, first) => proved::start_read(four, &mut c.lent, *stripe as usize, *reading, *first as usize),
+        Event::Crash => proved::crash(four, &mut c.lent),
         Event::Reply(r) => {
             let held = r.block.is_some();
             let block = r.block.clone().unwrap_or_else(|| vec![0xEE; (r.round % 3) as usize]);
-            let fields = (r.kind, r.brick as usize, r.time, r.round, r.yes, r.found, held);
+            let fields = (r.kind, r.brick as usize, r.stripe as usize, r.time, r.round, r.yes, r.found, held);
             let Coordinator { lent, blocks, stripe, coded } = c;
-            proved::take_reply(three(shape), lent, fields, &block, blocks, stripe, coded)
+            proved::take_reply(four, lent, fields, &block, blocks, stripe, coded)
         }
     };
-    assert_eq!(ours, number, "{shape:?} {event:?} at {before:?}");
-    assert!(*c == after, "{shape:?} {event:?} at {before:?}\nours {c:?}\nexpected {after:?}");
+    assert_eq!(ours, number, "{volume:?} {event:?} at {before:?}");
+    assert!(*c == after, "{volume:?} {event:?} at {before:?}\nours {c:?}\nexpected {after:?}");
     step
 }
 
 /// Bricks, coordinators and what is under way between them.
 struct World {
-    shape: Shape,
-    capacity: u64,
+    settings: Settings,
+    /// The row of each brick's images.
     images: Vec<Vec<u8>>,
     coordinators: Vec<Coordinator>,
     messages: Vec<(usize, Message)>,
@@ -271,30 +291,30 @@ struct World {
     clock: u64,
 }
 
-fn fresh(shape: Shape, number: u64, rng: &mut Rng) -> Coordinator {
-    let mut lent = Lent::fresh(three(shape), number);
+fn fresh(volume: Volume, number: u64, rng: &mut Rng) -> Coordinator {
+    let shape = volume.shape;
+    let mut lent = Lent::fresh(Proved::four(volume), number);
     lent.sent.fill(77);
     lent.shown.fill(77);
     let (blocks, coded) = (rng.bytes(shape.coded_len()), rng.bytes(shape.coded_len()));
     Coordinator { lent, blocks, stripe: rng.bytes(shape.data_len()), coded }
 }
 
-fn some_shape(rng: &mut Rng) -> Shape {
+fn some_volume(rng: &mut Rng) -> Volume {
     let pairs = [(1, 1), (3, 1), (5, 3), (7, 5), (16, 8), (16, 16), (4, 2), (6, 2), (9, 4), (2, 2), (16, 1)];
     let sizes = [1, 2, 3, 16, 64, 256];
     let (n, m) = pairs[rng.below(pairs.len() as u64) as usize];
-    Shape::new(n, m, sizes[rng.below(if n > 9 { 4 } else { 6 }) as usize])
+    let stripes = [1, 1, 2, 3, 5, 64][rng.below(6) as usize];
+    Volume::new(n, m, sizes[rng.below(if n > 9 { 4 } else { 6 }) as usize], stripes)
 }
 
 impl World {
-    fn new(shape: Shape, rng: &mut Rng) -> World {
-        let capacity = rng.between(2, 7);
-        let settings = Settings { shape, capacity };
+    fn new(Volume { shape, stripes }: Volume, rng: &mut Rng) -> World {
+        let settings = Settings { shape, capacity: rng.between(2, 7), stripes };
         World {
-            shape,
-            capacity,
-            images: (0..shape.n).map(|b| image::fresh(settings, b).unwrap()).collect(),
-            coordinators: (0..3).map(|number| fresh(shape, number * 7, rng)).collect(),
+            settings,
+            images: (0..shape.n).map(|b| image::fresh_row(settings, b).unwrap()).collect(),
+            coordinators: (0..3).map(|number| fresh(settings.volume(), number * 7, rng)).collect(),
             messages: Vec::new(),
             replies: Vec::new(),
             old: Vec::new(),
@@ -303,7 +323,7 @@ impl World {
     }
 
     fn event(&mut self, at: usize, event: &Event, tally: &mut Tally) {
-        let step = compare(self.shape, &mut self.coordinators[at], event, tally);
+        let step = compare(self.settings.volume(), &mut self.coordinators[at], event, tally);
         self.messages.extend(step.sent.into_iter().enumerate());
     }
 
@@ -320,13 +340,23 @@ impl World {
         !self.coordinators[at].lent.running()
     }
 
+    /// Mostly one of two stripes, so that operations meet.
+    fn some_stripe(&self, rng: &mut Rng) -> u64 {
+        let stripes = self.settings.stripes;
+        if rng.once_in(4) {
+            rng.below(stripes)
+        } else {
+            (stripes - 1) * rng.below(2)
+        }
+    }
+
     fn start(&mut self, at: usize, rng: &mut Rng, tally: &mut Tally) {
         self.clock += rng.below(3);
-        let reading = self.clock;
+        let (stripe, reading, shape) = (self.some_stripe(rng), self.clock, self.settings.shape);
         let event = if rng.once_in(2) {
-            Event::Read(reading, rng.below(self.shape.n))
+            Event::Read(stripe, reading, rng.below(shape.n))
         } else {
-            Event::Write(reading, rng.bytes(self.shape.data_len()))
+            Event::Write(stripe, reading, rng.bytes(shape.data_len()))
         };
         self.event(at, &event, tally);
     }
@@ -334,8 +364,7 @@ impl World {
     /// A message reaches its brick.
     fn deliver(&mut self, which: usize) {
         let (b, message) = self.messages.swap_remove(which);
-        let settings = Settings { shape: self.shape, capacity: self.capacity };
-        self.replies.extend(brick::take(settings, b as u64, &mut self.images[b], &message).unwrap());
+        self.replies.extend(brick::take_in_row(self.settings, b as u64, &mut self.images[b], &message).unwrap());
     }
 
     /// A reply reaches the coordinator in its time.
@@ -363,15 +392,15 @@ impl World {
     /// A write whose blocks reach a few bricks only, and that is cut.
     fn partial_write(&mut self, at: usize, rng: &mut Rng, tally: &mut Tally) {
         self.clock += 1;
-        let data = rng.bytes(self.shape.data_len());
-        self.event(at, &Event::Write(self.clock, data), tally);
+        let data = rng.bytes(self.settings.shape.data_len());
+        self.event(at, &Event::Write(self.some_stripe(rng), self.clock, data), tally);
         while !self.messages.is_empty() && self.messages[0].1.kind != WRITE {
             self.deliver(0);
         }
         while !self.replies.is_empty() {
             self.answer(0, tally);
         }
-        let few = rng.below(self.shape.m.max(2));
+        let few = rng.below(self.settings.shape.m.max(2));
         for _ in 0..few {
             if !self.messages.is_empty() {
                 let k = rng.below(self.messages.len() as u64) as usize;
@@ -389,8 +418,7 @@ fn schedules_with_bricks() {
     let mut rng = Rng::printed(31);
     let mut tally = Tally::default();
     for _ in 0..1000 {
-        let shape = some_shape(&mut rng);
-        let mut world = World::new(shape, &mut rng);
+        let mut world = World::new(some_volume(&mut rng), &mut rng);
         for _ in 0..12 {
             let at = rng.below(3) as usize;
             match rng.below(6) {
@@ -439,7 +467,7 @@ fn schedules_with_bricks() {
 }
 
 /// A reply to the open round, right by its rules; sometimes with one field changed.
-fn some_reply(shape: Shape, c: &Coordinator, times: &[u64], rng: &mut Rng) -> Reply {
+fn some_reply(Volume { shape, stripes }: Volume, c: &Coordinator, times: &[u64], rng: &mut Rng) -> Reply {
     let (numbers, bytes) = (&c.lent.numbers, &c.lent.bytes);
     let kind = if bytes[PHASE] == 0 { 1 + rng.below(4) as u8 } else { bytes[PHASE] };
     let brick = rng.below(shape.n);
@@ -457,6 +485,7 @@ fn some_reply(shape: Shape, c: &Coordinator, times: &[u64], rng: &mut Rng) -> Re
     let mut reply = Reply {
         kind,
         brick,
+        stripe: numbers[STRIPE],
         time: if numbers[TIME] == 0 { 16 + rng.below(64) } else { numbers[TIME] },
         round: numbers[ROUND].max(1),
         yes,
@@ -464,7 +493,7 @@ fn some_reply(shape: Shape, c: &Coordinator, times: &[u64], rng: &mut Rng) -> Re
         block: held.then(|| rng.bytes(shape.size as usize)),
     };
     if rng.once_in(4) {
-        match rng.below(9) {
+        match rng.below(11) {
             0 => reply.kind = [0, 1, 2, 3, 4, 5, 255][rng.below(7) as usize],
             1 => reply.time = [0, 15, 16, 1 << 44, (1 << 44) - 1, u64::MAX, reply.time ^ 1, reply.time + 16][rng.below(8) as usize],
             2 => reply.round = [0, 1, 2, 1000, 1001, reply.round + 1, reply.round - 1, u64::MAX][rng.below(8) as usize],
@@ -475,27 +504,31 @@ fn some_reply(shape: Shape, c: &Coordinator, times: &[u64], rng: &mut Rng) -> Re
                 let less = 2 * rng.below(2) as usize;
                 reply.block = Some(rng.bytes(shape.size as usize + 1 - less));
             }
-            7 => reply.found = [0, 1, 15, 16, 17, (1 << 44) - 1, 1 << 44, u64::MAX][rng.below(8) as usize],
+            7 => reply.stripe = [stripes, stripes + 1, 64, 255, 1 << 32, u64::MAX][rng.below(6) as usize],
+            8 => reply.stripe = rng.below(stripes),
+            9 => reply.found = [0, 1, 15, 16, 17, (1 << 44) - 1, 1 << 44, u64::MAX][rng.below(8) as usize],
             _ => reply.yes = !reply.yes,
         }
     }
     reply
 }
 
-fn some_event(shape: Shape, c: &Coordinator, times: &[u64], rng: &mut Rng) -> Event {
+fn some_event(volume: Volume, c: &Coordinator, times: &[u64], rng: &mut Rng) -> Event {
+    let Volume { shape, stripes } = volume;
+    let stripe = if rng.once_in(12) { stripes + rng.below(3) } else { rng.below(stripes) };
     let readings = [0, rng.below(50), LAST_COUNT - 1, LAST_COUNT, LAST_COUNT + 1, u64::MAX];
     let reading = readings[if rng.once_in(12) { rng.below(6) } else { rng.below(2) } as usize];
     let running = c.lent.bytes.first().is_some_and(|&kind| kind != 0);
     match rng.below(if running { 24 } else { 4 }) {
         0 => {
             let wrong = if rng.once_in(12) { 1 } else { 0 };
-            Event::Write(reading, rng.bytes(shape.data_len() + wrong))
+            Event::Write(stripe, reading, rng.bytes(shape.data_len() + wrong))
         }
-        1 if rng.once_in(8) => Event::Read(reading, shape.n),
-        1 => Event::Read(reading, rng.below(shape.n)),
+        1 if rng.once_in(8) => Event::Read(stripe, reading, shape.n),
+        1 => Event::Read(stripe, reading, rng.below(shape.n)),
         2 if rng.once_in(2) => Event::Crash,
         _ if c.lent.numbers.len() < record::NUMBERS || c.lent.bytes.len() < record::BYTES => Event::Crash,
-        _ => Event::Reply(some_reply(shape, c, times, rng)),
+        _ => Event::Reply(some_reply(volume, c, times, rng)),
     }
 }
 
@@ -505,12 +538,12 @@ fn events_of_every_sort() {
     let mut rng = Rng::printed(32);
     let mut tally = Tally::default();
     for _ in 0..1600 {
-        let shape = some_shape(&mut rng);
-        let mut c = fresh(shape, rng.below(16), &mut rng);
+        let volume = some_volume(&mut rng);
+        let mut c = fresh(volume, rng.below(16), &mut rng);
         let times: Vec<u64> = (0..1 + rng.below(3)).map(|k| if k == 0 && rng.once_in(2) { 0 } else { 16 + rng.below(9) }).collect();
         for _ in 0..60 {
-            let event = some_event(shape, &c, &times, &mut rng);
-            compare(shape, &mut c, &event, &mut tally);
+            let event = some_event(volume, &c, &times, &mut rng);
+            compare(volume, &mut c, &event, &mut tally);
             let numbers = &mut c.lent.numbers;
             if c.lent.bytes[PHASE] == ORDER_READ && numbers[ROUND] >= 3 && rng.once_in(6) {
                 // A sound record in its last round.
@@ -520,10 +553,10 @@ fn events_of_every_sort() {
                 numbers[LAST] = if rng.once_in(3) { LAST_COUNT - rng.below(2) } else { rng.below(9) };
             }
             if rng.once_in(10) {
-                compare_lent_wrong(shape, &c, &event, &mut rng, &mut tally);
+                compare_lent_wrong(volume, &c, &event, &mut rng, &mut tally);
             }
             if rng.once_in(10) {
-                compare_elsewhere(shape, &c, &times, &mut rng, &mut tally);
+                compare_elsewhere(volume, &c, &times, &mut rng, &mut tally);
             }
         }
     }
@@ -534,7 +567,7 @@ fn events_of_every_sort() {
             "write begins", "read begins", "waits", "cut", "idle crash", "read in one round", "recovered", "written",
             "recovery round 2", "recovery round 3", "write round 2", "write round 3", "abort at round 1000",
             "abort in phase 2", "abort in phase 4", "recovery aborted by a no", "recovery aborted without a block",
-            "refusal 1", "refusal 2", "refusal 3", "refusal 6",
+            "refusal 1", "refusal 2", "refusal 3", "refusal 13", "refusal 6",
             "idle, under other settings", "running, under other settings",
             "refusal 7", "refusal 8", "refusal 9", "refusal 10", "refusal 11",
         ],
@@ -542,32 +575,34 @@ fn events_of_every_sort() {
     tally.expect(10, &["recovery aborted at time 0 on few bricks"]);
 }
 
-/// Settings other than those given whose buffers have the same lengths, if there are such; else other settings.
-fn other_shape(shape: Shape, rng: &mut Rng) -> Shape {
-    let Shape { n, m, size } = shape;
+/// Settings other than those given whose buffers have the same lengths, or other settings.
+fn other_volume(volume: Volume, rng: &mut Rng) -> Volume {
+    let Volume { shape: Shape { n, m, size }, stripes } = volume;
     let mut all = Vec::new();
     for k in 2..=16 {
         if n % k == 0 && m % k == 0 {
-            all.push(Shape::new(n / k, m / k, size * k));
+            all.push(Volume::new(n / k, m / k, size * k, stripes));
         }
         if size % k == 0 {
-            all.push(Shape::new(n * k, m * k, size / k));
+            all.push(Volume::new(n * k, m * k, size / k, stripes));
         }
     }
-    all.retain(|shape| shape.refusal().is_none());
-    all.extend([Shape::new(n % 16 + 1, 1, size), Shape::new(n, m, size % 256 + 1), Shape::new(n, m % n + 1, size)]);
-    all.retain(|other| *other != shape);
+    all.retain(|volume| volume.refusal().is_none());
+    let shapes = [Shape::new(n % 16 + 1, 1, size), Shape::new(n, m, size % 256 + 1), Shape::new(n, m % n + 1, size)];
+    all.extend(shapes.map(|shape| Volume { shape, stripes }));
+    all.extend([1, stripes % 64 + 1, 64].map(|stripes| Volume::new(n, m, size, stripes)));
+    all.retain(|other| *other != volume);
     all[rng.below(all.len() as u64) as usize]
 }
 
 /// An event of other settings than the record's.
-fn compare_elsewhere(shape: Shape, c: &Coordinator, times: &[u64], rng: &mut Rng, tally: &mut Tally) {
-    let other = other_shape(shape, rng);
+fn compare_elsewhere(volume: Volume, c: &Coordinator, times: &[u64], rng: &mut Rng, tally: &mut Tally) {
+    let other = other_volume(volume, rng);
     let event = some_event(other, c, times, rng);
     let mut called = c.clone();
     let before = tally.0.get("refusal 6").copied();
     compare(other, &mut called, &event, tally);
-    assert!(called == *c, "an event of other settings changed something: {shape:?} {other:?} {event:?}");
+    assert!(called == *c, "an event of other settings changed something: {volume:?} {other:?} {event:?}");
     if tally.0.get("refusal 6").copied() != before {
         tally.add(if c.lent.running() { "running, under other settings" } else { "idle, under other settings" }, 1);
     }
@@ -579,25 +614,37 @@ fn compare_elsewhere(shape: Shape, c: &Coordinator, times: &[u64], rng: &mut Rng
 fn records_of_other_settings() {
     let mut rng = Rng::printed(34);
     let mut tally = Tally::default();
-    let pairs = [((4, 2, 2), (2, 1, 4)), ((2, 1, 4), (4, 2, 2)), ((16, 8, 1), (2, 1, 8)), ((6, 3, 32), (2, 1, 96)), ((3, 3, 4), (1, 1, 12))];
-    for ((n, m, size), (n2, m2, size2)) in pairs {
-        let (shape, other) = (Shape::new(n, m, size), Shape::new(n2, m2, size2));
-        assert_eq!((shape.data_len(), shape.coded_len()), (other.data_len(), other.coded_len()));
+    let volume = Volume::new;
+    let pairs = [
+        (volume(4, 2, 2, 1), volume(2, 1, 4, 1)),
+        (volume(2, 1, 4, 64), volume(4, 2, 2, 64)),
+        (volume(16, 8, 1, 5), volume(2, 1, 8, 5)),
+        (volume(6, 3, 32, 2), volume(2, 1, 96, 2)),
+        (volume(3, 3, 4, 1), volume(1, 1, 12, 1)),
+        // Another stripe count alone.
+        (volume(5, 3, 2, 3), volume(5, 3, 2, 2)),
+        (volume(5, 3, 2, 3), volume(5, 3, 2, 4)),
+        (volume(3, 1, 1, 1), volume(3, 1, 1, 64)),
+    ];
+    for (volume, other) in pairs {
+        let lengths = |volume: Volume| (volume.shape.data_len(), volume.shape.coded_len());
+        assert_eq!(lengths(volume), lengths(other));
         let elsewhere = |c: &Coordinator, tally: &mut Tally, rng: &mut Rng| {
             let numbers = &c.lent.numbers;
             let reply = Reply {
                 kind: c.lent.bytes[PHASE].max(1),
                 brick: 0,
+                stripe: numbers[STRIPE],
                 time: numbers[TIME].max(16),
                 round: numbers[ROUND].max(1),
                 yes: true,
                 found: 0,
                 block: None,
             };
-            let held = Reply { block: Some(rng.bytes(size2 as usize)), ..reply.clone() };
+            let held = Reply { block: Some(rng.bytes(other.shape.size as usize)), ..reply.clone() };
             let events = [
-                Event::Write(9, rng.bytes(other.data_len())),
-                Event::Read(9, 0),
+                Event::Write(0, 9, rng.bytes(other.shape.data_len())),
+                Event::Read(0, 9, 0),
                 Event::Reply(reply),
                 Event::Reply(held),
                 Event::Crash,
@@ -611,19 +658,22 @@ fn records_of_other_settings() {
             }
         };
         for write in [true, false] {
-            let mut c = fresh(shape, 3, &mut rng);
+            let mut c = fresh(volume, 3, &mut rng);
             elsewhere(&c, &mut tally, &mut rng);
-            let begin = if write { Event::Write(5, rng.bytes(shape.data_len())) } else { Event::Read(5, 0) };
-            let mut step = compare(shape, &mut c, &begin, &mut tally);
+            // A stripe that both have, so that the record is what is refused.
+            let stripe = volume.stripes.min(other.stripes) - 1;
+            let Volume { shape, stripes } = volume;
+            let begin = if write { Event::Write(stripe, 5, rng.bytes(shape.data_len())) } else { Event::Read(stripe, 5, 0) };
+            let mut step = compare(volume, &mut c, &begin, &mut tally);
             elsewhere(&c, &mut tally, &mut rng);
-            let settings = Settings { shape, capacity: 4 };
+            let settings = Settings { shape, capacity: 4, stripes };
             let mut images: Vec<Vec<u8>> = (0..shape.n).map(|b| image::fresh(settings, b).unwrap()).collect();
             while c.lent.running() {
                 let sent = std::mem::take(&mut step.sent);
                 for (b, message) in sent.iter().enumerate() {
                     let reply = brick::take(settings, b as u64, &mut images[b], message).unwrap();
                     if let (Some(reply), true) = (reply, step.sent.is_empty() && c.lent.running()) {
-                        step = compare(shape, &mut c, &Event::Reply(reply), &mut tally);
+                        step = compare(volume, &mut c, &Event::Reply(reply), &mut tally);
                         elsewhere(&c, &mut tally, &mut rng);
                     }
                 }
@@ -635,10 +685,74 @@ fn records_of_other_settings() {
     tally.expect(200, &["under other settings", "refusal 6"]);
 }
 
+/// Each refusal with all that come after it: 1, 2, 3, 13, 6, then of starts 7, 8, 9 and of replies 10, 11.
+#[test]
+fn refused_in_order() {
+    let mut rng = Rng::printed(35);
+    let (good, wrong) = (Volume::new(4, 2, 1, 3), Volume::new(4, 2, 1, 65));
+    let refused = |volume: Volume, c: &Coordinator, event: Event| {
+        let mut called = c.clone();
+        compare(volume, &mut called, &event, &mut Tally::default());
+        assert!(called == *c, "{event:?}");
+        judged(volume, c, &event).expect_err("refused")
+    };
+    // A read of stripe 1 runs that took the last time; then the record is broken; then its number is.
+    let mut running = fresh(good, 15, &mut rng);
+    compare(good, &mut running, &Event::Read(1, LAST_COUNT, 0), &mut Tally::default());
+    assert!(running.lent.running());
+    let mut broken = running.clone();
+    broken.lent.numbers[STRIPE] = 3;
+    let mut none = broken.clone();
+    none.lent.numbers[record::COORDINATOR] = 16;
+    let mut short = none.clone();
+    short.lent.sent.pop();
+    let late = LAST_COUNT + 1;
+    let rows = [(wrong, &short, 3, late, 1), (good, &short, 3, late, 2), (good, &none, 3, late, 3), (good, &broken, 3, late, 13)];
+    let own = [(good, &broken, 2, late, 6), (good, &running, 2, late, 7), (good, &running, 2, 0, 8)];
+    for (volume, c, stripe, reading, number) in rows.into_iter().chain(own) {
+        assert_eq!(refused(volume, c, Event::Read(stripe, reading, 0)), number);
+        assert_eq!(refused(volume, c, Event::Write(stripe, reading, vec![0; 2])), number);
+    }
+    // A first target that is no brick, and data of another length.
+    assert_eq!(refused(good, &broken, Event::Read(3, late, 4)), 3);
+    assert_eq!(refused(good, &none, Event::Write(3, late, vec![0; 3])), 2);
+    // A start on the running operation's stripe, and on another.
+    let mut busy = fresh(good, 15, &mut rng);
+    compare(good, &mut busy, &Event::Write(1, 0, vec![5, 9]), &mut Tally::default());
+    for stripe in 0..3 {
+        assert_eq!(refused(good, &busy, Event::Read(stripe, 0, 0)), 9);
+        assert_eq!(refused(good, &busy, Event::Write(stripe, 0, vec![0; 2])), 9);
+    }
+    // Of brick 3, which is no target.
+    let reply = |stripe: u64, kind: u8| {
+        Event::Reply(Reply { kind, brick: 3, stripe, time: LAST_COUNT * 16 + 15, round: 1, yes: true, found: 0, block: None })
+    };
+    for (volume, c, stripe, _, number) in rows {
+        assert_eq!(refused(volume, c, reply(stripe, 9)), number);
+    }
+    assert_eq!(refused(good, &broken, reply(2, 9)), 6);
+    assert_eq!(refused(good, &running, reply(2, 9)), 10);
+    // Of another stripe than the running operation's: not counted; of its own it is.
+    assert_eq!(refused(good, &running, reply(2, READ)), 11);
+    assert_eq!(refused(good, &running, reply(0, READ)), 11);
+    let mut tally = Tally::default();
+    compare(good, &mut running, &reply(1, READ), &mut tally);
+    tally.expect(1, &["waits"]);
+    // A crash names no stripe.
+    for (volume, c, number) in [(wrong, &short, 1), (good, &short, 2), (good, &none, 3), (good, &broken, 6)] {
+        assert_eq!(refused(volume, c, Event::Crash), number);
+    }
+    // An idle record has stripe 0.
+    let mut idle = fresh(good, 15, &mut rng);
+    idle.lent.numbers[STRIPE] = 1;
+    assert_eq!(refused(good, &idle, Event::Crash), 6);
+    assert_eq!(refused(good, &idle, Event::Read(1, 0, 0)), 6);
+}
+
 /// The same event where one lent buffer has another length, or at other settings.
-fn compare_lent_wrong(shape: Shape, c: &Coordinator, event: &Event, rng: &mut Rng, tally: &mut Tally) {
+fn compare_lent_wrong(volume: Volume, c: &Coordinator, event: &Event, rng: &mut Rng, tally: &mut Tally) {
     let mut other = c.clone();
-    let mut shape = shape;
+    let Volume { mut shape, mut stripes } = volume;
     let grow = rng.once_in(2);
     fn change<T: Clone + Default>(list: &mut Vec<T>, grow: bool) {
         if grow {
@@ -647,7 +761,7 @@ fn compare_lent_wrong(shape: Shape, c: &Coordinator, event: &Event, rng: &mut Rn
             list.pop();
         }
     }
-    match rng.below(16) {
+    match rng.below(18) {
         0 => change(&mut other.lent.numbers, grow),
         1 => change(&mut other.lent.bytes, grow),
         2 => change(&mut other.lent.sent, grow),
@@ -663,9 +777,11 @@ fn compare_lent_wrong(shape: Shape, c: &Coordinator, event: &Event, rng: &mut Rn
         12 => shape.m = 1,
         13 => shape.n = shape.m,
         14 => shape.size = 1 + shape.size % 256,
+        15 => stripes = [0, 65, u64::MAX][rng.below(3) as usize],
+        16 => stripes = 1 + stripes % 64,
         _ => other.lent.numbers[0] = [16, 1 << 32, u64::MAX][rng.below(3) as usize],
     }
-    compare(shape, &mut other, event, tally);
+    compare(Volume { shape, stripes }, &mut other, event, tally);
 }
 
 /// Each field of a record changed, then an event.
@@ -674,12 +790,12 @@ fn damaged_records() {
     let mut rng = Rng::printed(33);
     let mut tally = Tally::default();
     for _ in 0..1600 {
-        let shape = some_shape(&mut rng);
-        let mut c = fresh(shape, rng.below(16), &mut rng);
+        let volume = some_volume(&mut rng);
+        let mut c = fresh(volume, rng.below(16), &mut rng);
         let times: Vec<u64> = (0..1 + rng.below(3)).map(|_| 16 + rng.below(9)).collect();
         for _ in 0..rng.below(40) {
-            let event = some_event(shape, &c, &times, &mut rng);
-            compare(shape, &mut c, &event, &mut tally);
+            let event = some_event(volume, &c, &times, &mut rng);
+            compare(volume, &mut c, &event, &mut tally);
         }
         let places = record::NUMBERS + record::BYTES;
         for place in 0..places {
@@ -696,8 +812,8 @@ fn damaged_records() {
                     damaged.lent.bytes[place - record::NUMBERS] = values[rng.below(9) as usize];
                 }
             }
-            let event = some_event(shape, &c, &times, &mut rng);
-            compare(shape, &mut damaged, &event, &mut tally);
+            let event = some_event(volume, &c, &times, &mut rng);
+            compare(volume, &mut damaged, &event, &mut tally);
         }
     }
     println!("{:?}", tally.0);

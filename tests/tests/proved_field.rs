@@ -38,17 +38,22 @@ fn quorums_of_all_settings() {
 fn settings_in_and_around_their_ranges() {
     let sizes = [0, 1, 2, 255, 256, 257, usize::MAX];
     let capacities = [0, 1, 2, 31, 32, 33, usize::MAX];
+    let stripe_counts = [0, 1, 2, 63, 64, 65, usize::MAX];
+    let compare = |n: usize, m: usize, size: usize, capacity: usize, stripes: usize| {
+        let other = settings::Settings::new(n as u64, m as u64, size as u64, capacity as u64, stripes as u64);
+        let number = other.refusal().map_or(0, u32::from);
+        assert_eq!(proved::settings((n, m, size, capacity, stripes)), number, "{n} {m} {size} {capacity} {stripes}");
+    };
     for n in (0..=18).chain([usize::MAX]) {
         for m in (0..=18).chain([usize::MAX]) {
             for size in sizes {
                 for capacity in capacities {
-                    let other = settings::Settings::new(n as u64, m as u64, size as u64, capacity as u64);
-                    let number = other.refusal().map_or(0, u32::from);
-                    assert_eq!(proved::settings(n, m, size, capacity), number, "{n} {m} {size} {capacity}");
+                    stripe_counts.iter().for_each(|&stripes| compare(n, m, size, capacity, stripes));
                 }
             }
         }
     }
+    (0..=70).for_each(|stripes| compare(5, 3, 64, 4, stripes));
 }
 
 #[test]

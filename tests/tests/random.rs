@@ -2,7 +2,6 @@
 
 use jilbagum_tests::bench::play;
 use jilbagum_tests::harness::{some_run, Independent, OFTEN};
-use jilbagum_tests::order::has_order;
 use jilbagum_tests::rng::Rng;
 use jilbagum_tests::script;
 use jilbagum_tests::tally::Tally;
@@ -60,7 +59,7 @@ fn random_runs_have_an_order() {
     let mut tally = Tally::default();
     for seed in 400_000..404_000 {
         let world = some_run::<Independent>(seed, 12, 2, |_| ());
-        assert!(has_order(&world.operations, world.stripe()), "{}", world.story(seed));
+        assert_eq!(world.fault(), None, "{}", world.story(seed));
         world.note(&mut tally);
     }
     println!("{:?}", tally.0);

@@ -78,7 +78,7 @@ fn deliver_with(
     let end = start + image_block::BLOCK_BYTES * (s.capacity + 1);
     let from = k * ROW_BYTES + BLOCK_PLACE;
     let till = from + s.size;
-    let g = brick::receive(
+    let g = volume::receive(
         s,
         brick,
         &mut images[start..end],

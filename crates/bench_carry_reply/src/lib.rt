@@ -43,7 +43,7 @@ fn reply_with(
     ensures { λ r. ⌜ (
         let s = b .settings in
         BenchActed b c (arrives k)
-        (λ (h : Buffered). takeStep (s .n) (s .m) (s .size) h reply (sentBlockAt (s .size) (now (bytes .entry)) k) (s .n * s .size))
+        (λ (h : Buffered). takeStep (s .n) (s .m) (s .size) (s .stripes) h reply (sentBlockAt (s .size) (now (bytes .entry)) k) (s .n * s .size))
         (now (kept .entry)) (now (numbers .entry)) (now (bytes .entry)) at (now (out .entry)) r
         (now (kept .exit)) (now (numbers .exit)) (now (bytes .exit)) (now (out .exit))) ⌝ }
 {
@@ -56,6 +56,7 @@ fn reply_with(
         s.n,
         s.m,
         s.size,
+        s.stripes,
         old,
         reply,
         &bytes[from..till],

@@ -19,6 +19,14 @@ benchSize = 8
 abbrev pub benchCoordinators : ℕ
 benchCoordinators = 4
 
+-- document 02, E2: "The bench keeps to one stripe"
+abbrev pub benchStripes : ℕ
+benchStripes = 1
+
+-- the number of that one stripe
+abbrev pub benchStripe : ℕ
+benchStripe = 0
+
 -- "message 127"
 abbrev pub lastMessage : ℕ
 lastMessage = 127
@@ -38,7 +46,7 @@ keptRoom = 2 * stripeRoom
 abbrev pub keptLength : ℕ
 keptLength = benchCoordinators * keptRoom
 
--- room for a brick's image: a head and its entries, a block each
+-- room for a brick's row of images, which is one image: a head and its entries, a block each
 abbrev pub imageRoom : ℕ
 imageRoom = (benchCapacity + 1) * blockBytes
 
@@ -92,6 +100,9 @@ yesPlace = 6
 
 abbrev pub heldPlace : ℕ
 heldPlace = 7
+
+abbrev pub stripePlace : ℕ
+stripePlace = 8
 
 -- what the tag says
 abbrev pub messageTag : ℕ

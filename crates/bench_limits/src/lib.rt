@@ -9,6 +9,11 @@ pub const SIZE: usize = 8;
 
 pub const COORDINATORS: usize = 4;
 
+// "The bench keeps to one stripe": so many, and the number of that one.
+pub const BENCH_STRIPES: usize = 1;
+
+pub const BENCH_STRIPE: usize = 0;
+
 // "message 127"
 pub const LAST_MESSAGE: usize = 127;
 
@@ -25,7 +30,7 @@ pub const KEPT_ROOM: usize = 2 * STRIPE_ROOM;
 
 pub const KEPT_LENGTH: usize = COORDINATORS * KEPT_ROOM;
 
-// A brick's image: a head and its entries, a block each.
+// A brick's row of images, which is one image: a head and its entries, a block each.
 pub const IMAGE_ROOM: usize = (CAPACITY + 1) * image_block::BLOCK_BYTES;
 
 pub const IMAGES_LENGTH: usize = BRICKS * IMAGE_ROOM;
@@ -57,6 +62,8 @@ pub const FOUND_PLACE: usize = 5;
 pub const YES_PLACE: usize = 6;
 
 pub const HELD_PLACE: usize = 7;
+
+pub const STRIPE_PLACE: usize = 8;
 
 pub const MESSAGE_TAG: u64 = 0;
 

@@ -12,6 +12,7 @@ use Rattle.register.specs.Runs.{plain, World, Event, Moved, step, nextMoved}
 use Rattle.bench_parse.specs.Lines.{Line, setLine, writeLine, readLine, carryLine, crashLine, downLine, upLine, noLine, reads}
 use Rattle.bench_print.specs.Printing.{refusedText}
 use Rattle.bench_rules.specs.Play.{Played, refuses, passes, happens, carried, plays}
+use Rattle.bench_limits.specs.Limits.{benchStripe}
 use Rattle.bench_order.specs.Told.{toldEnd}
 use Rattle.settings.specs.Times.{coordinatorOf}
 
@@ -71,11 +72,11 @@ pub data Reports (s : Settings) : Moved s → List Part → List Event → List 
       → playsPart s (r .world) part ≡ refuses (r .world) number
       → Reports s r parts events text
       → Reports s r (part ∷ parts) events (refusedText number ++ text)
-  -- the part is this event, and the text is the lines of what is seen at it
+  -- the part is this event, and the text is the lines of what is seen at it on the bench's one stripe
   event : {r : Moved s} {part : Part} {parts : List Part} {events : List Event} {text : List ℕ} (e : Event)
-      → playsPart s (r .world) part ≡ happens s (r .world) e (reported s (r .seen) (step s (r .world) e .seen))
+      → playsPart s (r .world) part ≡ happens s (r .world) e (reported s (r .seen benchStripe) (step s (r .world) e .seen benchStripe))
       → Reports s (nextMoved s r e) parts events text
-      → Reports s r (part ∷ parts) (e ∷ events) (reported s (r .seen) (step s (r .world) e .seen) ++ text)
+      → Reports s r (part ∷ parts) (e ∷ events) (reported s (r .seen benchStripe) (step s (r .world) e .seen benchStripe) ++ text)
   -- the part is lost without a word: "carried to a down brick it is lost"
   silence : {r : Moved s} {part : Part} {parts : List Part} {events : List Event} {text : List ℕ}
       → playsPart s (r .world) part ≡ passes (r .world)

@@ -1,11 +1,14 @@
 -- Document 01, "A run and its order", on the bench: "A run is a list of events on one set .. It starts fresh". Every script is a run, and the
--- operations of the set that it plays have one order.
+-- operations of the set that it plays have one order. "The bench keeps to one stripe" (document 02, E2): the order is that of this stripe.
 use mathlib.Core.Path.{_≡_}
+use mathlib.Core.Logic.{_≢_}
 use mathlib.Core.Bool.{true}
-use mathlib.Core.List.{List}
+use mathlib.Core.List.{List, []}
 use Prim.Native.Nat.{ℕ}
 use Rattle.settings.specs.declared.Settings.{Settings}
-use Rattle.register.specs.Runs.{World, Event, run, RunHasOneOrder}
+use Rattle.order.specs.Claim.{OneOrder}
+use Rattle.register.specs.Runs.{plain, World, Event, run}
+use Rattle.bench_limits.specs.Limits.{benchStripe}
 use Rattle.bench_state.specs.State.{benchRange}
 use Rattle.bench_rules.specs.Play.{Stage, waiting, playing, eventsOf}
 use Rattle.bench_order.specs.Script.{script}
@@ -24,7 +27,15 @@ EveryScriptIsARun = (input : List ℕ) → StandsFor (script input .stage)
 abbrev pub EveryScriptKeepsItsEvents : Type 0
 EveryScriptKeepsItsEvents = (input : List ℕ) → eventsOf (script input .stage) ≡ script input .events
 
--- "Demand 3 says of every run: some order of its operations": whatever the script, the operations of the set that it plays have one order.
+-- "Demand 3 says of every run: some order of its operations": whatever the script, the operations of the set that it plays have one order,
+-- that of the bench's stripe;
 abbrev pub EveryScriptHasOneOrder : Type 0
 EveryScriptHasOneOrder =
-    (input : List ℕ) (s : Settings) (w : World) (events : List Event) → script input .stage ≡ playing s w events → RunHasOneOrder s events
+    (input : List ℕ) (s : Settings) (w : World) (events : List Event) → script input .stage ≡ playing s w events
+    → OneOrder (plain s) (run s events .seen benchStripe)
+
+-- and they are all: nothing is seen on any other stripe.
+abbrev pub EveryScriptKeepsToOneStripe : Type 0
+EveryScriptKeepsToOneStripe =
+    (input : List ℕ) (s : Settings) (w : World) (events : List Event) → script input .stage ≡ playing s w events
+    → (stripe : ℕ) → stripe ≢ benchStripe → run s events .seen stripe ≡ []

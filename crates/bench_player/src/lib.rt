@@ -16,6 +16,7 @@ ghost use Rattle.bench_state.specs.State.{benchRange};
 ghost use Rattle.register.specs.Runs.{Event};
 ghost use Rattle.bench_limits.specs.Limits.{lastMessage, keptLength, imagesLength, numbersLength, bytesLength, textLength};
 use bench_carry::carry_all;
+use bench_limits::BENCH_STRIPES;
 use bench_limits::BYTES_LENGTH;
 use bench_limits::DOWN;
 use bench_limits::IMAGES_LENGTH;
@@ -52,6 +53,7 @@ fn play_first(
                 m: m as usize,
                 size: size as usize,
                 capacity: capacity as usize,
+                stripes: BENCH_STRIPES,
             };
             let bad = bench_state::bench_refusal(s);
             if bad != settings::PASSED {
@@ -178,6 +180,7 @@ pub fn no_set() -> Bench
         m: 0,
         size: 0,
         capacity: 0,
+        stripes: 0,
     };
     bench_state::new_bench(none)
 }

@@ -8,7 +8,7 @@ use Rattle.settings.specs.Refusal.{badSetting, badNumber, badLine}
 use Rattle.settings.specs.declared.Settings.{Settings}
 use Rattle.message.specs.Kinds.{trimKind}
 use Rattle.message.specs.declared.Message.{Message}
-use Rattle.brick.specs.Receive.{outcome}
+use Rattle.volume.specs.Rows.{rowOutcome}
 use Rattle.brick.specs.declared.Given.{Given}
 use Rattle.brick.specs.declared.Given.the-variants.{Answered, Silent, Refused}
 use Rattle.coord_apply.specs.Answers.{Step, refused, went}
@@ -18,7 +18,7 @@ use Rattle.bench_state.specs.State.{benchRange}
 use Rattle.bench_parse.specs.Lines.{Line, setLine, writeLine, readLine, carryLine, crashLine, downLine, upLine, noLine}
 use Rattle.bench_print.specs.Printing.{refusedText, endedText}
 use Rattle.bench_rules.specs.Content.{counted, content}
-use Rattle.bench_limits.specs.Limits.{benchCoordinators, lastMessage}
+use Rattle.bench_limits.specs.Limits.{benchStripes, benchStripe, benchCoordinators, lastMessage}
 use Rattle.settings.specs.Times.{coordinatorOf}
 
 -- What a line, or one carried number, leaves: the world, the events that were accepted, and what is printed.
@@ -57,21 +57,22 @@ unfoldable pub unlessShort : Bool → Step → Step
 unlessShort ok (refused number) = refused number
 unlessShort ok (went g) = cond ok (went g) (refused badLine)
 
--- "`write c clock hex`"
+-- "`write c clock hex`", on the bench's one stripe
 unfoldable pub writes : Settings → World → ℕ → ℕ → List ℕ → Played
 writes s w c clock digits =
     atCoordinator w c
-    (acts s w (startWrite c clock (content s digits)) c
-    (unlessShort (counted s digits) (writeStep (s .n) (s .m) (s .size) (w .coordinators c) clock (content s digits))))
+    (acts s w (startWrite c benchStripe clock (content s digits)) c
+    (unlessShort (counted s digits) (writeStep (s .n) (s .m) (s .size) (s .stripes) (w .coordinators c) benchStripe clock (content s digits))))
 
--- "`read c clock brick`"
+-- "`read c clock brick`", on the same stripe
 unfoldable pub starts : Settings → World → ℕ → ℕ → ℕ → Played
 starts s w c clock brick =
-    atCoordinator w c (acts s w (startRead c clock brick) c (readStep (s .n) (s .m) (s .size) (w .coordinators c) clock brick))
+    atCoordinator w c
+    (acts s w (startRead c benchStripe clock brick) c (readStep (s .n) (s .m) (s .size) (s .stripes) (w .coordinators c) benchStripe clock brick))
 
 -- "`crash c`": the bench still has the buffers after it
 unfoldable pub crashesAt : Settings → World → ℕ → Played
-crashesAt s w c = atCoordinator w c (acts s w (crashes c untouched) c (crashStep (s .n) (s .m) (s .size) (w .coordinators c)))
+crashesAt s w c = atCoordinator w c (acts s w (crashes c untouched) c (crashStep (s .n) (s .m) (s .size) (s .stripes) (w .coordinators c)))
 
 -- "`down b`, `up b`"; "brick .. numbers past them are refusal 3"
 unfoldable pub switches : Settings → World → ℕ → Event → Played
@@ -87,7 +88,7 @@ delivered s w k (Refused number) = refuses w number
 unfoldable pub reaches : Settings → World → ℕ → ℕ → Message → List ℕ → Played
 reaches s w k b msg block =
     cond (eqb (msg .kind) trimKind || ltb (length (w .sent)) lastMessage)
-    (delivered s w k (outcome s b (w .images b) msg block (replicate (s .size) 0) .given))
+    (delivered s w k (rowOutcome s b (w .images b) msg block (replicate (s .size) 0) .given))
     (refuses w badLine)
 
 -- "Any sent message may be carried again; carried to a down brick it is lost." A reply goes to the coordinator in its time.
@@ -97,7 +98,7 @@ carries s w k (message b msg block) =
 carries s w k (reply r block) =
     atCoordinator w (coordinatorOf (r .time))
     (acts s w (arrives k) (coordinatorOf (r .time))
-    (takeStep (s .n) (s .m) (s .size) (w .coordinators (coordinatorOf (r .time))) r block (s .n * s .size)))
+    (takeStep (s .n) (s .m) (s .size) (s .stripes) (w .coordinators (coordinatorOf (r .time))) r block (s .n * s .size)))
 
 -- item j of a list, carried as item k of all: refused if it was "not sent yet"
 unfoldable pub carriesAt : Settings → World → ℕ → List Item → ℕ → Played
@@ -153,9 +154,13 @@ waits number = record { stage = waiting; events = []; printed = refusedText numb
 unfoldable pub begins : Settings → Turn
 begins s = cond (benchRange s) (record { stage = playing s (freshSet s) []; events = []; printed = [] }) (waits badSetting)
 
+-- the settings of a `set` line: "The bench keeps to one stripe"
+abbrev pub oneStripe : (n m size capacity : ℕ) → Settings
+oneStripe n m size capacity = record { n = n; m = m; size = size; capacity = capacity; stripes = benchStripes }
+
 -- what is "no `set` while none is accepted" is refusal 12
 unfoldable pub first : Line → Turn
-first (setLine n m size capacity) = begins (record { n = n; m = m; size = size; capacity = capacity })
+first (setLine n m size capacity) = begins (oneStripe n m size capacity)
 first (writeLine c clock digits) = waits badLine
 first (readLine c clock brick) = waits badLine
 first (carryLine messages) = waits badLine

@@ -7,7 +7,8 @@ use lib.ListN.{getD, take, drop}
 use Rattle.message.specs.declared.Message.{Message}
 use Rattle.message.specs.declared.Reply.{Reply}
 use Rattle.register.specs.Runs.{Item, message, reply}
-use Rattle.bench_limits.specs.Limits.{rowNumbers, rowBytes, tagPlace, brickPlace, kindPlace, timePlace, roundPlace, maxPlace, foundPlace, yesPlace, heldPlace}
+use Rattle.bench_limits.specs.Limits.{rowNumbers, rowBytes, tagPlace, brickPlace, kindPlace, timePlace, roundPlace, maxPlace}
+use Rattle.bench_limits.specs.Limits.{foundPlace, yesPlace, heldPlace, stripePlace}
 use Rattle.bench_limits.specs.Limits.{messageTag, flagCount, blockPlace}
 
 -- number i of row k
@@ -31,6 +32,7 @@ unfoldable pub messageAt : List ℕ → List ℕ → ℕ → Message
 messageAt numbers bytes k =
     record {
       kind = numberAt numbers k kindPlace % 256;
+      stripe = numberAt numbers k stripePlace;
       time = numberAt numbers k timePlace;
       round = numberAt numbers k roundPlace;
       max = numberAt numbers k maxPlace;
@@ -43,6 +45,7 @@ replyAt numbers k =
     record {
       kind = numberAt numbers k kindPlace % 256;
       brick = numberAt numbers k brickPlace;
+      stripe = numberAt numbers k stripePlace;
       time = numberAt numbers k timePlace;
       round = numberAt numbers k roundPlace;
       yes = eqb (numberAt numbers k yesPlace) 1;

@@ -14,16 +14,16 @@ use Rattle.bench_sent.specs.Sent.{itemsOf}
 use Rattle.bench_limits.specs.Limits.{rowNumbers, rowBytes, messageTag, replyTag, flagCount, blockPlace}
 
 -- a row's numbers, each at its place; the other places are free, and 0
-abbrev pub sentRow : ℕ → ℕ → ℕ → ℕ → ℕ → ℕ → ℕ → ℕ → List ℕ
-sentRow tag brick kind time round max agreed held =
-    tag ∷ brick ∷ kind ∷ time ∷ round ∷ max ∷ agreed ∷ held ∷ 0 ∷ 0 ∷ 0 ∷ 0 ∷ 0 ∷ 0 ∷ 0 ∷ 0 ∷ []
+abbrev pub sentRow : (tag brick kind time round max agreed held stripe : ℕ) → List ℕ
+sentRow tag brick kind time round max agreed held stripe =
+    tag ∷ brick ∷ kind ∷ time ∷ round ∷ max ∷ agreed ∷ held ∷ stripe ∷ 0 ∷ 0 ∷ 0 ∷ 0 ∷ 0 ∷ 0 ∷ 0 ∷ []
 
 -- the numbers of a message to a brick, and of a reply
 unfoldable pub messageRow : ℕ → Message → List ℕ
-messageRow brick msg = sentRow messageTag brick (msg .kind) (msg .time) (msg .round) (msg .max) 0 0
+messageRow brick msg = sentRow messageTag brick (msg .kind) (msg .time) (msg .round) (msg .max) 0 0 (msg .stripe)
 
 unfoldable pub replyRow : Reply → List ℕ
-replyRow r = sentRow replyTag (r .brick) (r .kind) (r .time) (r .round) (r .found) (one-if (r .yes)) (one-if (r .held))
+replyRow r = sentRow replyTag (r .brick) (r .kind) (r .time) (r .round) (r .found) (one-if (r .yes)) (one-if (r .held)) (r .stripe)
 
 -- the numbers with another row k; the bytes with other flags and another block in row k (what is behind a shorter block stays)
 unfoldable pub numbersWith : ℕ → List ℕ → List ℕ → List ℕ

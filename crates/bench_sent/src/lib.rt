@@ -9,7 +9,7 @@ ghost use Rattle.settings.specs.Count.{one-if};
 ghost use Rattle.bench_sent.specs.Sent.{numberAt, isReply, flagsAt, messageAt, replyAt};
 ghost use Rattle.bench_sent.specs.Workers.{Added, Coded, Sends, messageRow, replyRow, numbersWith, bytesWith, noFlags};
 ghost use Rattle.bench_sent.specs.Workers.{One};
-ghost use Rattle.bench_limits.specs.Limits.{benchSize, rowNumbers, rowBytes, brickPlace, kindPlace};
+ghost use Rattle.bench_limits.specs.Limits.{benchSize, rowNumbers, rowBytes, brickPlace, kindPlace, stripePlace};
 use bench_limits::BLOCK_PLACE;
 use bench_limits::BRICK_PLACE;
 use bench_limits::FLAGS;
@@ -23,6 +23,7 @@ use bench_limits::ROUND_PLACE;
 use bench_limits::ROW_BYTES;
 use bench_limits::ROW_NUMBERS;
 use bench_limits::SIZE;
+use bench_limits::STRIPE_PLACE;
 use bench_limits::TAG_PLACE;
 use bench_limits::TIME_PLACE;
 use bench_limits::YES_PLACE;
@@ -80,6 +81,7 @@ pub fn put_message(
 {
     let kind = wide(msg.kind);
     let to = brick as u64;
+    let stripe = msg.stripe as u64;
     let row = [
         MESSAGE_TAG,
         to,
@@ -89,7 +91,7 @@ pub fn put_message(
         msg.max,
         0,
         0,
-        0,
+        stripe,
         0,
         0,
         0,
@@ -113,6 +115,7 @@ pub fn put_reply(k: usize, r: Reply, block: &[u8], numbers: &mut [u64], bytes: &
 {
     let kind = wide(r.kind);
     let from = r.brick as u64;
+    let stripe = r.stripe as u64;
     let agreed = flag(r.yes);
     let held = flag(r.held);
     let row = [
@@ -124,7 +127,7 @@ pub fn put_reply(k: usize, r: Reply, block: &[u8], numbers: &mut [u64], bytes: &
         r.found,
         agreed,
         held,
-        0,
+        stripe,
         0,
         0,
         0,
@@ -162,6 +165,14 @@ pub fn brick_at(numbers: &[u64], k: usize) -> usize
     number_at(numbers, k, BRICK_PLACE) as usize
 }
 
+// The stripe of row k.
+fn stripe_at(numbers: &[u64], k: usize) -> usize
+    requires { ⌜ k * rowNumbers + rowNumbers ≤ length (now numbers) ⌝ }
+    ensures { λ r. ⌜ r ≡ numberAt (now (numbers .entry)) k stripePlace ⌝ }
+{
+    number_at(numbers, k, STRIPE_PLACE) as usize
+}
+
 // The kind of row k.
 fn kind_at(numbers: &[u64], k: usize) -> u8
     requires { ⌜ k * rowNumbers + rowNumbers ≤ length (now numbers) ⌝ }
@@ -189,12 +200,14 @@ pub fn message_at(numbers: &[u64], bytes: &[u8], k: usize) -> Message
     ensures { λ r. ⌜ r ≡ messageAt (now (numbers .entry)) (now (bytes .entry)) k ⌝ }
 {
     let kind = kind_at(numbers, k);
+    let stripe = stripe_at(numbers, k);
     let time = number_at(numbers, k, TIME_PLACE);
     let round = number_at(numbers, k, ROUND_PLACE);
     let max = number_at(numbers, k, MAX_PLACE);
     let targets = flags_at(bytes, k);
     Message {
         kind: kind,
+        stripe: stripe,
         time: time,
         round: round,
         max: max,
@@ -209,6 +222,7 @@ pub fn reply_at(numbers: &[u64], k: usize) -> Reply
 {
     let kind = kind_at(numbers, k);
     let brick = brick_at(numbers, k);
+    let stripe = stripe_at(numbers, k);
     let time = number_at(numbers, k, TIME_PLACE);
     let round = number_at(numbers, k, ROUND_PLACE);
     let found = number_at(numbers, k, FOUND_PLACE);
@@ -217,6 +231,7 @@ pub fn reply_at(numbers: &[u64], k: usize) -> Reply
     Reply {
         kind: kind,
         brick: brick,
+        stripe: stripe,
         time: time,
         round: round,
         yes: agreed,

@@ -14,8 +14,9 @@ ghost use Rattle.bench_rules.specs.Play.{unlessShort, writes, starts, crashesAt
 ghost use Rattle.coord_apply.specs.Answers.{Buffered};
 ghost use Rattle.coordinator.specs.Routines.{crashStep, writeStep, readStep};
 ghost use Rattle.register.specs.Runs.{World, startWrite, startRead, untouched, crashes};
-ghost use Rattle.bench_limits.specs.Limits.{stripeRoom};
+ghost use Rattle.bench_limits.specs.Limits.{benchStripe, stripeRoom};
 use bench_commit::commit;
+use bench_limits::BENCH_STRIPE;
 use bench_limits::STRIPE_ROOM;
 use bench_rules::After;
 use bench_state::Bench;
@@ -40,15 +41,15 @@ fn read_with(
     requires { ⌜ Copies (b .settings) (now blocks) (now stripe) (now blocks) ⌝ }
     ensures { λ r. ⌜ (
         let s = b .settings in
-        BenchActed b c (startRead c clock brick)
-        (λ (h : Buffered). readStep (s .n) (s .m) (s .size) h clock brick)
+        BenchActed b c (startRead c benchStripe clock brick)
+        (λ (h : Buffered). readStep (s .n) (s .m) (s .size) (s .stripes) h benchStripe clock brick)
         (now (kept .entry)) (now (numbers .entry)) (now (bytes .entry)) 0 (now (out .entry)) r
         (now (kept .exit)) (now (numbers .exit)) (now (bytes .exit)) (now (out .exit))) ⌝ }
 {
     bench_state::fetch(c, kept, blocks, stripe);
     let s = b.settings;
     let old = bench_state::coordinator_at(b, c);
-    let a = coordinator::start_read(s.n, s.m, s.size, old, clock, brick);
+    let a = coordinator::start_read(s.n, s.m, s.size, s.stripes, old, BENCH_STRIPE, clock, brick);
     commit(
         b,
         c,
@@ -80,14 +81,14 @@ fn crash_with(
     ensures { λ r. ⌜ (
         let s = b .settings in
         BenchActed b c (crashes c untouched)
-        (λ (h : Buffered). crashStep (s .n) (s .m) (s .size) h)
+        (λ (h : Buffered). crashStep (s .n) (s .m) (s .size) (s .stripes) h)
         (now (kept .entry)) (now (numbers .entry)) (now (bytes .entry)) 0 (now (out .entry)) r
         (now (kept .exit)) (now (numbers .exit)) (now (bytes .exit)) (now (out .exit))) ⌝ }
 {
     bench_state::fetch(c, kept, blocks, stripe);
     let s = b.settings;
     let old = bench_state::coordinator_at(b, c);
-    let a = coordinator::crash(s.n, s.m, s.size, old);
+    let a = coordinator::crash(s.n, s.m, s.size, s.stripes, old);
     commit(
         b,
         c,
@@ -148,8 +149,8 @@ fn write_with(
         let s = b .settings in
         let digits = drop hex (now (line .entry)) in
         BenchActed b c
-        (startWrite c clock (content-of s digits))
-        (λ (h : Buffered). unlessShort (counted s digits) (writeStep (s .n) (s .m) (s .size) h clock (content-of s digits)))
+        (startWrite c benchStripe clock (content-of s digits))
+        (λ (h : Buffered). unlessShort (counted s digits) (writeStep (s .n) (s .m) (s .size) (s .stripes) h benchStripe clock (content-of s digits)))
         (now (kept .entry)) (now (numbers .entry)) (now (bytes .entry)) 0 (now (out .entry)) r
         (now (kept .exit)) (now (numbers .exit)) (now (bytes .exit)) (now (out .exit))) ⌝ }
 {
@@ -157,7 +158,17 @@ fn write_with(
     bench_state::fetch(c, kept, blocks, stripe);
     let s = b.settings;
     let old = bench_state::coordinator_at(b, c);
-    let a = coordinator::start_write(s.n, s.m, s.size, old, clock, content, stripe);
+    let a = coordinator::start_write(
+        s.n,
+        s.m,
+        s.size,
+        s.stripes,
+        old,
+        BENCH_STRIPE,
+        clock,
+        content,
+        stripe,
+    );
     if is_short(a.refusal, right) {
         return bench_rules::refuse(b, settings::BAD_LINE, 0, out);
     }

@@ -6,22 +6,25 @@ use lib.Dec.{eqb, leb, ltb}
 use lib.ListN.{getD, take, drop}
 use Rattle.settings.specs.Ranges.{inRange}
 use Rattle.settings.specs.declared.Settings.{Settings}
-use Rattle.image.specs.Brick
-use Rattle.image.specs.Image.{imageOf, imageSize}
+use Rattle.volume.specs.Rows.{rowSize, freshRow}
 use Rattle.coord_record.specs.Records.{geometryOf, idleWith}
 use Rattle.coord_record.specs.declared.Coordinator.{Coordinator}
 use Rattle.coord_apply.specs.Answers.{Buffered}
 use Rattle.register.specs.Runs.{Item, World, idle}
 use Rattle.bench_state.specs.declared.Bench.{Bench}
-use Rattle.bench_limits.specs.Limits.{benchBricks, benchCapacity, benchSize, benchCoordinators, upFlag, stripeRoom, keptRoom, imageRoom}
+use Rattle.bench_limits.specs.Limits.{benchBricks, benchCapacity, benchSize, benchStripes, benchCoordinators, upFlag, stripeRoom, keptRoom, imageRoom}
 
--- "n at most 4, capacity at most 4, block size at most 8"; "Settings past the bench's limits are refusal 1"
+-- "n at most 4, capacity at most 4, block size at most 8"; "The bench keeps to one stripe"
+unfoldable pub benchLimits : Settings → Bool
+benchLimits s = leb (s .n) benchBricks && leb (s .size) benchSize && leb (s .capacity) benchCapacity && eqb (s .stripes) benchStripes
+
+-- "Settings past the bench's limits are refusal 1"
 unfoldable pub benchRange : Settings → Bool
-benchRange s = inRange s && (leb (s .n) benchBricks && leb (s .size) benchSize && leb (s .capacity) benchCapacity)
+benchRange s = inRange s && benchLimits s
 
--- Brick b's image begins at its room. A brick past n is not there: the world has a fresh one in its place.
+-- Brick b's row of images, one on the bench, begins at its room. A brick past n is not there: the world has a fresh one in its place.
 unfoldable pub imagesOf : Settings → List ℕ → ℕ → List ℕ
-imagesOf s images b = cond (ltb b (s .n)) (take (imageSize s) (drop (b * imageRoom) images)) (imageOf s b (Brick.freshBrick s))
+imagesOf s images b = cond (ltb b (s .n)) (take (rowSize s) (drop (b * imageRoom) images)) (freshRow s b)
 
 -- a brick is up by its flag
 unfoldable pub upOf : List ℕ → ℕ → Bool

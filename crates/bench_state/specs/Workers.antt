@@ -6,14 +6,13 @@ use lib.ListN.{set, take, drop, length}
 use Rattle.settings.specs.Ranges.{inRange, SettingsRange}
 use Rattle.settings.specs.Refusal.{refuseUnless, badSetting}
 use Rattle.settings.specs.declared.Settings.{Settings}
-use Rattle.image.specs.Brick
-use Rattle.image.specs.Image.{imageOf, imageSize}
+use Rattle.volume.specs.Rows.{rowSize, freshRow}
 use Rattle.coord_record.specs.declared.Coordinator.{Coordinator}
 use Rattle.byte_lists.specs.Lists.{put}
 use Rattle.bench_state.specs.declared.Bench.{Bench}
 use mathlib.Core.Path.{_≡_}
 use Rattle.bench_state.specs.State.{benchRange, idleAt}
-use Rattle.bench_limits.specs.Limits.{benchBricks, benchCapacity, benchSize, upFlag, stripeRoom, keptRoom, imageRoom, imagesLength}
+use Rattle.bench_limits.specs.Limits.{benchBricks, benchCapacity, benchSize, benchStripes, upFlag, stripeRoom, keptRoom, imageRoom, imagesLength}
 
 unfoldable pub benchRefusal : Settings → ℕ
 benchRefusal s = refuseUnless (benchRange s) badSetting
@@ -45,7 +44,7 @@ keptWith c blocks stripe kept = put (c * keptRoom + stripeRoom) stripe (put (c *
 -- the first k bricks have fresh images
 pub record Begun (s : Settings) (images : List ℕ) (k : ℕ) : Type 0 where
   pub long : length images ≡ imagesLength
-  pub images-fresh : (b : ℕ) → b < k → take (imageSize s) (drop (b * imageRoom) images) ≡ imageOf s b (Brick.freshBrick s)
+  pub images-fresh : (b : ℕ) → b < k → take (rowSize s) (drop (b * imageRoom) images) ≡ freshRow s b
 
 -- what the bench asks of its settings, as numbers
 pub record Small (s : Settings) : Type 0 where
@@ -53,7 +52,8 @@ pub record Small (s : Settings) : Type 0 where
   pub blocks-fit : s .n * s .size ≤ stripeRoom
   pub stripe-fits : s .m * s .size ≤ stripeRoom
   pub log-fits : s .capacity ≤ benchCapacity
-  pub image-fits : imageSize s ≤ imageRoom
+  pub one-stripe : s .stripes ≡ benchStripes
+  pub row-fits : rowSize s ≤ imageRoom
 
 -- what settings within the limits satisfy
 pub record Fits (s : Settings) : Type 0 where

@@ -13,6 +13,7 @@ ghost use Rattle.bench_state.specs.Workers.{Begun};
 ghost use Rattle.register.specs.Runs.{freshSet};
 ghost use Rattle.settings.specs.Ranges.{inRange};
 ghost use Rattle.bench_limits.specs.Limits.{benchBricks, benchCoordinators, stripeRoom, keptRoom, keptLength, imagesLength};
+use bench_limits::BENCH_STRIPES;
 use bench_limits::BRICKS;
 use bench_limits::CAPACITY;
 use bench_limits::COORDINATORS;
@@ -51,6 +52,9 @@ pub fn bench_refusal(s: Settings) -> u32
     if CAPACITY < s.capacity {
         return settings::BAD_SETTING;
     }
+    if s.stripes != BENCH_STRIPES {
+        return settings::BAD_SETTING;
+    }
     0
 }
 
@@ -62,6 +66,7 @@ fn new_coordinator(s: Settings, c: u64) -> Coordinator
         n: s.n,
         m: s.m,
         size: s.size,
+        stripes: s.stripes,
     };
     let clock = Clock {
         coordinator: c,
@@ -176,7 +181,7 @@ pub fn keep(c: usize, blocks: &[u8], stripe: &[u8], kept: &mut [u8])
     byte_lists::copy(stripe, &mut kept[from..till])
 }
 
-// A fresh image for each brick.
+// A fresh row for each brick, which is one image.
 fn fresh_images(s: Settings, images: &mut [u8])
     requires { ⌜ (inRange s ≡ true) × Small s ⌝ }
     requires { ⌜ length (now images) ≡ imagesLength ⌝ }
@@ -186,7 +191,7 @@ fn fresh_images(s: Settings, images: &mut [u8])
     while b < s.n {
         let at = b * IMAGE_ROOM;
         let end = at + image_block::BLOCK_BYTES * (s.capacity + 1);
-        image_write::write_fresh(s, b, &mut images[at..end]);
+        volume::write_fresh(s, b, &mut images[at..end]);
         b += 1;
     }
 }

@@ -1,35 +1,43 @@
--- One message at one brick: the answer, the image and the reply's buffer afterwards, refused calls included.
+-- One message at one brick's image of the message's stripe: the answer, the image and the reply's buffer afterwards, refused calls included.
 use mathlib.Core.Bool.{cond}
 use mathlib.Core.List.{List, [], _∷_}
-use Prim.Native.Nat.{ℕ, _≤_, _<_}
-use lib.Dec.{eqb}
+use Prim.Native.Nat.{ℕ, _*_, _≤_, _<_}
+use lib.Dec.{eqb, ltb}
 use lib.ListN.{length}
-use Rattle.settings.specs.Ranges.{settingsRefusal}
-use Rattle.settings.specs.Refusal.{passed, refuseUnless, firstRefusal, badLength}
+use Rattle.settings.specs.Ranges.{settingsRefusal, stripeRefusal}
+use Rattle.settings.specs.Refusal.{passed, refuseUnless, firstRefusal, badLength, badNumber}
 use Rattle.settings.specs.declared.Settings.{Settings}
 use Rattle.message.specs.Kinds.{trimKind}
 use Rattle.message.specs.Messages.{messageRefusal}
 use Rattle.message.specs.declared.Message.{Message}
 use Rattle.image.specs.Brick.{Brick, entryCount, timeAt}
-use Rattle.image.specs.Image.{imageOf}
+use Rattle.image.specs.Image.{imageOf, imageSize}
 use Rattle.image.specs.Parse.{Parsed, Opens, Refuses, parse, openRefusal}
 use Rattle.brick_log.specs.BrickRules.{placeFor, replyTo, brickAfter, blockAfter}
 use Rattle.brick.specs.declared.Given.{Given}
 use Rattle.brick.specs.declared.Given.the-variants.{Answered, Silent, Refused}
 
--- the settings, then the lengths of the two blocks
-unfoldable pub blocksRefusal : Settings → ℕ → ℕ → ℕ
-blocksRefusal s blockLength outLength =
+-- What is tested before an image is looked at, lowest number first: 1 the settings; 2 the length of the lent images, so many of them, of
+-- the message's block and of the reply's buffer; 3 the brick; 13 the stripe.
+unfoldable pub frontRefusal : Settings → (images brick lent stripe blockLength outLength : ℕ) → ℕ
+frontRefusal s images brick lent stripe blockLength outLength =
     firstRefusal
     (settingsRefusal s
+    ∷ refuseUnless (eqb lent (images * imageSize s)) badLength
     ∷ refuseUnless (eqb blockLength (s .size)) badLength
     ∷ refuseUnless (eqb outLength (s .size)) badLength
+    ∷ refuseUnless (ltb brick (s .n)) badNumber
+    ∷ stripeRefusal (s .stripes) stripe
     ∷ [])
 
--- why a message is refused, lowest number first: the settings and the blocks' lengths, the image, the message itself
+-- why a message is refused at the image of its stripe, lowest number first: what is tested before, the image, the message itself
 unfoldable pub receiveRefusal : Settings → ℕ → List ℕ → Message → ℕ → ℕ → ℕ
 receiveRefusal s brick bytes msg blockLength outLength =
-    firstRefusal (blocksRefusal s blockLength outLength ∷ openRefusal s brick bytes ∷ messageRefusal (s .n) (s .m) msg ∷ [])
+    firstRefusal
+    (frontRefusal s 1 brick (length bytes) (msg .stripe) blockLength outLength
+    ∷ openRefusal s brick bytes
+    ∷ messageRefusal (s .n) (s .m) msg
+    ∷ [])
 
 -- the answer, and what the image and the reply's buffer hold afterwards
 pub record Outcome : Type 0 where

@@ -1,8 +1,10 @@
-// One message at one brick (document 01, "What a brick does").
+// One message at one brick (document 01, "What a brick does"), at its image of one stripe.
 ghost use mathlib.Core.Path.{_≡_};
 ghost use lib.ListN.{length};
 ghost use Rattle.image.specs.Parse.{Opens, brickIn};
-ghost use Rattle.brick.specs.Receive.{blocksRefusal, outcomeWith, accepted, outcome};
+ghost use Rattle.brick.specs.Receive.{frontRefusal, outcomeWith, accepted, outcome};
+ghost use Prim.Native.Nat.{_≤_};
+ghost use Rattle.settings.specs.Ranges.{maxStripes};
 ghost use Rattle.brick_log.specs.Workers.{LogReady, Ahead};
 use brick_log::Known;
 use brick_log::Plan;
@@ -13,12 +15,15 @@ use brick_log::trim;
 use image::ImageAnswer;
 use image::number_of;
 use image::open;
+use image_block::BLOCK_BYTES;
 use message::Message;
 use message::Reply;
 use message::TRIM;
 use settings::BAD_LENGTH;
+use settings::BAD_NUMBER;
 use settings::PASSED;
 use settings::Settings;
+use settings::stripe_refusal;
 
 // The answer to a message.
 pub enum Given {
@@ -55,6 +60,7 @@ fn act(
     Given::Answered(Reply {
         kind: msg.kind,
         brick: brick,
+        stripe: msg.stripe,
         time: msg.time,
         round: msg.round,
         yes: granted,
@@ -63,13 +69,26 @@ fn act(
     })
 }
 
-// 1 for a setting, 2 for a block or a buffer of another length, 0 for none.
-fn blocks_refusal(s: Settings, block: usize, out: usize) -> u32
-    ensures { λ r. ⌜ r ≡ blocksRefusal s block out ⌝ }
+// What is tested before an image is looked at, 0 for none: 1 a setting, 2 a length, 3 the brick, 13 the stripe. images: how many are lent,
+// so many bytes in all; block and out are lengths.
+pub fn front_refusal(
+    s: Settings,
+    images: usize,
+    brick: usize,
+    lent: usize,
+    stripe: usize,
+    block: usize,
+    out: usize,
+) -> u32
+    requires { ⌜ images ≤ maxStripes ⌝ }
+    ensures { λ r. ⌜ r ≡ frontRefusal s images brick lent stripe block out ⌝ }
 {
     let bad = s.refusal();
     if bad != PASSED {
         return bad;
+    }
+    if lent != images * (BLOCK_BYTES * (s.capacity + 1)) {
+        return BAD_LENGTH;
     }
     if block != s.size {
         return BAD_LENGTH;
@@ -77,10 +96,14 @@ fn blocks_refusal(s: Settings, block: usize, out: usize) -> u32
     if out != s.size {
         return BAD_LENGTH;
     }
-    PASSED
+    if s.n <= brick {
+        return BAD_NUMBER;
+    }
+    stripe_refusal(s.stripes, stripe)
 }
 
-// One message at one brick: the reply, with its block in the lent buffer, or silence, or one refusal; the image is changed in place.
+// One message at the brick's image of the message's stripe: the reply, with its block in the lent buffer, or silence, or one refusal; the
+// image is changed in place. A brick of a volume: `volume::receive`.
 pub fn receive(
     s: Settings,
     brick: usize,
@@ -93,7 +116,7 @@ pub fn receive(
         outcomeWith r (now (image .exit)) (now (out .exit))
         ≡ outcome s brick (now (image .entry)) msg (now (block .entry)) (now (out .entry)) ⌝ }
 {
-    let bad = blocks_refusal(s, block.len(), out.len());
+    let bad = front_refusal(s, 1, brick, image.len(), msg.stripe, block.len(), out.len());
     if bad != PASSED {
         return Given::Refused(bad);
     }

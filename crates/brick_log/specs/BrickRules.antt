@@ -85,6 +85,7 @@ replyTo s brick x msg =
     record {
       kind = msg .kind;
       brick = brick;
+      stripe = msg .stripe;
       time = msg .time;
       round = msg .round;
       yes = yesTo s x msg;

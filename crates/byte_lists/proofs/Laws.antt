@@ -3,6 +3,7 @@ pub mod LittleLaws
 pub mod EachLaws
 pub mod TabulateLaws
 pub mod PutLaws
+pub mod StackLaws
 pub mod SameLaws
 pub mod BoolLaws
 pub mod ZeroLaws

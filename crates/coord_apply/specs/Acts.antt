@@ -30,17 +30,19 @@ gathered m size bricks blocks = stacked m (λ (i : ℕ). blockOf size blocks (ge
 unfoldable pub stripeFrom : ℕ → ℕ → List ℕ → List ℕ → List ℕ
 stripeFrom m size bricks blocks = decodedOf m size (take m bricks) (gathered m size bricks blocks)
 
--- "messages and replies carry time and round"
+-- "messages and replies carry time and round"; E1: "Messages and replies gain a stripe number", that of the operation
 unfoldable pub roundMessage : Op → List ℕ → Message
-roundMessage op targets = record { kind = op .phase; time = op .time; round = op .round; max = op .max; targets = targets }
+roundMessage op targets =
+    record { kind = op .phase; stripe = op .stripe; time = op .time; round = op .round; max = op .max; targets = targets }
 
--- "Trim of the operation's time, with that round's number"
+-- "Trim of the operation's time, with that round's number", on the operation's stripe
 unfoldable pub trimMessage : Op → Message
-trimMessage op = record { kind = trimKind; time = op .time; round = op .round; max = 0; targets = noBricks }
+trimMessage op = record { kind = trimKind; stripe = op .stripe; time = op .time; round = op .round; max = 0; targets = noBricks }
 
--- "Rounds count from 1": the next round of an operation, with nothing counted
+-- "Rounds count from 1": the next round of an operation, on its stripe, with nothing counted
 unfoldable pub nextOp : Op → ℕ → ℕ → Op
-nextOp op phase max = record { kind = op .kind; phase = phase; time = op .time; round = op .round + 1; max = max; first = op .first }
+nextOp op phase max =
+    record { kind = op .kind; phase = phase; stripe = op .stripe; time = op .time; round = op .round + 1; max = max; first = op .first }
 
 unfoldable pub opened : Coordinator → ℕ → ℕ → List ℕ → Coordinator
 opened c phase max bricks =
@@ -61,7 +63,7 @@ ending h stripe sent what bricks =
     record {
       next = record { state = idleWith (h .state .geometry) (h .state .clock); blocks = h .blocks; stripe = stripe };
       sent = sent;
-      seen = record { what = what; kind = h .state .op .kind; time = h .state .op .time; bricks = bricks };
+      seen = record { what = what; kind = h .state .op .kind; stripe = h .state .op .stripe; time = h .state .op .time; bricks = bricks };
     }
 
 -- a write is ok; a read gives the stripe that it stored and names the bricks decoded from
@@ -110,9 +112,10 @@ waitingOr n m size h =
     cond (ltb (members (h .state .tally .counted) n) (quorum n m)) (record { next = h; sent = []; seen = nothingSeen })
     (acted n m size h (decided n m (h .state .op) (h .state .tally)))
 
--- "its time is taken at the start"; the first round is round 1
-unfoldable pub firstOp : ℕ → ℕ → ℕ → ℕ → Op
-firstOp kind phase time first = record { kind = kind; phase = phase; time = time; round = firstRound; max = 0; first = first }
+-- "its time is taken at the start", and its stripe; the first round is round 1
+unfoldable pub firstOp : (kind phase stripe time first : ℕ) → Op
+firstOp kind phase stripe time first =
+    record { kind = kind; phase = phase; stripe = stripe; time = time; round = firstRound; max = 0; first = first }
 
 unfoldable pub starting : Buffered → Clock → Op → List ℕ → List ℕ → Went
 starting h clock op stripe targets =
@@ -124,7 +127,7 @@ starting h clock op stripe targets =
             stripe = stripe;
           };
       sent = record { message = roundMessage op targets; blocks = [] } ∷ [];
-      seen = record { what = beganSeen; kind = op .kind; time = op .time; bricks = noBricks };
+      seen = record { what = beganSeen; kind = op .kind; stripe = op .stripe; time = op .time; bricks = noBricks };
     }
 
 unfoldable pub buffered : Coordinator → List ℕ → List ℕ → Buffered

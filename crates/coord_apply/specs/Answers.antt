@@ -55,10 +55,10 @@ abbrev pub cutSeen : ℕ
 cutSeen = 5
 
 unfoldable pub nothingSeen : Notice
-nothingSeen = record { what = noneSeen; kind = idleKind; time = 0; bricks = noBricks }
+nothingSeen = record { what = noneSeen; kind = idleKind; stripe = 0; time = 0; bricks = noBricks }
 
 unfoldable pub noMessage : Message
-noMessage = record { kind = 0; time = 0; round = 0; max = 0; targets = noBricks }
+noMessage = record { kind = 0; stripe = 0; time = 0; round = 0; max = 0; targets = noBricks }
 
 -- an answer has room for the messages of so many broadcasts
 abbrev pub mostBroadcasts : ℕ

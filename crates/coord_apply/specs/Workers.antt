@@ -33,7 +33,7 @@ endAnswer c what bricks sent message =
       sent = sent;
       message = message;
       second = noMessage;
-      seen = record { what = what; kind = c .op .kind; time = c .op .time; bricks = bricks };
+      seen = record { what = what; kind = c .op .kind; stripe = c .op .stripe; time = c .op .time; bricks = bricks };
     }
 
 -- what holds where a decision is carried out: the numbers are the lengths of the reply blocks and of the stripe

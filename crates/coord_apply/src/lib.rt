@@ -37,10 +37,11 @@ pub const ABORTED: u8 = 4;
 
 pub const CUT: u8 = 5;
 
-// what: one of these, of the operation of this kind and time. bricks: the m bricks that a finished read decoded from.
+// what: one of these, of the operation of this kind, stripe and time. bricks: the m bricks that a finished read decoded from.
 pub struct Notice {
     pub what: u8,
     pub kind: u8,
+    pub stripe: usize,
     pub time: u64,
     pub bricks: [u8; MAX_BRICKS],
 }
@@ -63,6 +64,7 @@ pub fn nothing_seen() -> Notice
     Notice {
         what: NOTHING,
         kind: coord_record::IDLE,
+        stripe: 0,
         time: 0,
         bricks: [0u8; MAX_BRICKS],
     }
@@ -74,6 +76,7 @@ pub fn no_message() -> Message
 {
     Message {
         kind: 0,
+        stripe: 0,
         time: 0,
         round: 0,
         max: 0,
@@ -144,12 +147,13 @@ fn decode_from(m: usize, size: usize, bricks: [u8; MAX_BRICKS], blocks: &[u8], s
     decode_by(m, size, bricks, blocks, &mut work, stripe)
 }
 
-// The message of a round, to all bricks.
+// The message of a round, to all bricks, about the operation's stripe.
 pub fn round_message(op: Op, targets: [u8; MAX_BRICKS]) -> Message
     ensures { λ r. ⌜ r ≡ roundMessage op targets ⌝ }
 {
     Message {
         kind: op.phase,
+        stripe: op.stripe,
         time: op.time,
         round: op.round,
         max: op.max,
@@ -157,12 +161,13 @@ pub fn round_message(op: Op, targets: [u8; MAX_BRICKS]) -> Message
     }
 }
 
-// Trim of an operation's time, with its last round's number.
+// Trim of an operation's time on its stripe, with its last round's number.
 fn trim_message(ended: Op) -> Message
     ensures { λ r. ⌜ r ≡ trimMessage ended ⌝ }
 {
     Message {
         kind: message::TRIM,
+        stripe: ended.stripe,
         time: ended.time,
         round: ended.round,
         max: 0,
@@ -178,6 +183,7 @@ fn next_op(op: Op, phase: u8, max: u64) -> Op
     Op {
         kind: op.kind,
         phase,
+        stripe: op.stripe,
         time: op.time,
         round: op.round + 1,
         max,
@@ -233,6 +239,7 @@ pub fn end(
     let seen = Notice {
         what,
         kind: op.kind,
+        stripe: op.stripe,
         time: op.time,
         bricks,
     };

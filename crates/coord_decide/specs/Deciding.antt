@@ -17,10 +17,11 @@ use Rattle.settings.specs.Count.{count, one-if}
 use Rattle.settings.specs.Times.{noUpperEnd}
 
 -- Refusal 11: "A reply not of the running operation and round, from a brick already counted, or with a block missing or present
--- against the rules of that round." The round's kind is its phase; an idle coordinator has none.
+-- against the rules of that round." The round's kind is its phase; an idle coordinator has none. E1: "replies gain a stripe number",
+-- and one of another stripe is not of the running operation.
 unfoldable pub answers : ℕ → ℕ → Op → Tally → Reply → Bool
 answers n m op t r =
-    eqb (r .kind) (op .phase) && eqb (r .time) (op .time) && eqb (r .round) (op .round)
+    eqb (r .kind) (op .phase) && eqb (r .stripe) (op .stripe) && eqb (r .time) (op .time) && eqb (r .round) (op .round)
     && not (member (t .counted) (r .brick))
     && blockRight (op .phase) (isTarget n m (op .first) (r .brick)) (r .yes) (r .held) (r .found)
 

@@ -65,7 +65,7 @@ pub fn tally_with(t: Tally, reply: Reply) -> Tally
     }
 }
 
-// Whether a reply is of the running operation and round, of a brick not counted, with a block by the round's rules.
+// Whether a reply is of the running operation, its stripe and round, of a brick not counted, with a block by the round's rules.
 pub fn reply_answers(n: usize, m: usize, op: Op, t: Tally, reply: Reply) -> bool
     requires { ⌜ op .first ≤ n ⌝ }
     requires { ⌜ reply .brick < maxBricks ⌝ }
@@ -74,6 +74,9 @@ pub fn reply_answers(n: usize, m: usize, op: Op, t: Tally, reply: Reply) -> bool
     let b = reply.brick;
     let counted = t.counted;
     if reply.kind != op.phase {
+        return false;
+    }
+    if reply.stripe != op.stripe {
         return false;
     }
     if reply.time != op.time {

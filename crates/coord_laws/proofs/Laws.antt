@@ -2,6 +2,7 @@
 pub mod CodedBlockLaws
 pub mod OpCaseLaws
 pub mod StepRunLaws
+pub mod StripeLaws
 pub mod SentMessageLaws
 pub mod SoundnessLaws
 pub mod TallyLaws

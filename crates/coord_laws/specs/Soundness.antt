@@ -19,16 +19,17 @@ pub record Sized (t : Tally) : Type 0 where
   pub found-size : length (t .found) ≡ maxBricks
 
 -- sound, with arrays of 16 places
-pub record Good (n m size : ℕ) (c : Coordinator) : Type 0 where
-  pub parts : SoundParts n m size c
+pub record Good (n m size stripes : ℕ) (c : Coordinator) : Type 0 where
+  pub parts : SoundParts n m size stripes c
   pub sizes : Sized (c .tally)
 
 -- a record whose round may be full
-pub record Full (n m size : ℕ) (c : Coordinator) : Type 0 where
-  pub made-for : sameGeometry n m size (c .geometry) ≡ true
+pub record Full (n m size stripes : ℕ) (c : Coordinator) : Type 0 where
+  pub made-for : sameGeometry n m size stripes (c .geometry) ≡ true
   pub number-low : c .clock .coordinator ≤ lastCoordinator
   pub last-low : c .clock .last ≤ maxCount
   pub first-low : c .op .first < n
+  pub stripe-low : c .op .stripe < stripes
   pub op-right : opRight (c .op) ≡ true
   pub time-right : timeRight (c .op .kind) (c .op .time) (c .clock) ≡ true
   pub bricks-right : bricksRight n (namedCount m (c .op)) (c .bricks) ≡ true

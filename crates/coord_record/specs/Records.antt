@@ -22,7 +22,7 @@ writingKind = 2
 
 -- no operation
 unfoldable pub noOp : Op
-noOp = record { kind = idleKind; phase = 0; time = 0; round = 0; max = 0; first = 0 }
+noOp = record { kind = idleKind; phase = 0; stripe = 0; time = 0; round = 0; max = 0; first = 0 }
 
 -- no brick named
 unfoldable pub noBricks : List ℕ
@@ -32,9 +32,9 @@ noBricks = replicate maxBricks 0
 unfoldable pub nothingCounted : Tally
 nothingCounted = record { counted = replicate maxBricks 0; granted = replicate maxBricks 0; held = replicate maxBricks 0; found = replicate maxBricks 0 }
 
--- the settings of a set's coordinators
+-- the settings of a volume's coordinators
 unfoldable pub geometryOf : Settings → Geometry
-geometryOf s = record { n = s .n; m = s .m; size = s .size }
+geometryOf s = record { n = s .n; m = s .m; size = s .size; stripes = s .stripes }
 
 -- "A crash makes the coordinator idle and keeps its count."
 unfoldable pub idleWith : Geometry → Clock → Coordinator

@@ -35,9 +35,9 @@ writeRight op =
     eqb (op .first) 0 && eqb (op .max) 0
     && cond (eqb (op .phase) orderKind) (eqb (op .round) firstRound) (eqb (op .phase) writeKind && eqb (op .round) secondRound)
 
--- no operation: no phase, round, max or first
+-- no operation: no phase, round, max or first, and no stripe ("a field outside its range": an idle record's stripe is 0)
 unfoldable pub unsetOp : Op → Bool
-unsetOp op = eqb (op .phase) 0 && eqb (op .round) 0 && eqb (op .max) 0 && eqb (op .first) 0
+unsetOp op = eqb (op .phase) 0 && eqb (op .round) 0 && eqb (op .max) 0 && eqb (op .first) 0 && eqb (op .stripe) 0
 
 unfoldable pub opRight : Op → Bool
 opRight op =
@@ -59,15 +59,15 @@ filledRight n m c =
     bricksRight n (namedCount m (c .op)) (c .bricks) && tallyRight n m (c .op .phase) (c .op .first) (c .tally)
     && ltb (members (c .tally .counted) n) (quorum n m)
 
--- every rule but that of the settings
-unfoldable pub rulesKept : ℕ → ℕ → Coordinator → Bool
-rulesKept n m c =
-    leb (c .clock .coordinator) lastCoordinator && leb (c .clock .last) maxCount && ltb (c .op .first) n
+-- every rule but that of the settings; E1: "a stripe not below S" is outside its range here too
+unfoldable pub rulesKept : (n m stripes : ℕ) → Coordinator → Bool
+rulesKept n m stripes c =
+    leb (c .clock .coordinator) lastCoordinator && leb (c .clock .last) maxCount && ltb (c .op .first) n && ltb (c .op .stripe) stripes
     && opRight (c .op) && timeRight (c .op .kind) (c .op .time) (c .clock) && filledRight n m c
 
 -- "settings disagreeing with those given": the settings that a coordinator was made for are the ones given
-unfoldable pub sameGeometry : ℕ → ℕ → ℕ → Geometry → Bool
-sameGeometry n m size g = eqb (g .n) n && eqb (g .m) m && eqb (g .size) size
+unfoldable pub sameGeometry : (n m size stripes : ℕ) → Geometry → Bool
+sameGeometry n m size stripes g = eqb (g .n) n && eqb (g .m) m && eqb (g .size) size && eqb (g .stripes) stripes
 
-unfoldable pub soundRecord : ℕ → ℕ → ℕ → Coordinator → Bool
-soundRecord n m size c = sameGeometry n m size (c .geometry) && rulesKept n m c
+unfoldable pub soundRecord : (n m size stripes : ℕ) → Coordinator → Bool
+soundRecord n m size stripes c = sameGeometry n m size stripes (c .geometry) && rulesKept n m stripes c

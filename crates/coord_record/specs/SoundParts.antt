@@ -9,11 +9,12 @@ use Rattle.message.specs.Flags.{members}
 use Rattle.settings.specs.Ranges.{quorum}
 use Rattle.settings.specs.Times.{maxCount, lastCoordinator}
 
-pub record SoundParts (n m size : ℕ) (c : Coordinator) : Type 0 where
-  pub made-for : sameGeometry n m size (c .geometry) ≡ true
+pub record SoundParts (n m size stripes : ℕ) (c : Coordinator) : Type 0 where
+  pub made-for : sameGeometry n m size stripes (c .geometry) ≡ true
   pub number-low : c .clock .coordinator ≤ lastCoordinator
   pub last-low : c .clock .last ≤ maxCount
   pub first-low : c .op .first < n
+  pub stripe-low : c .op .stripe < stripes
   pub op-right : opRight (c .op) ≡ true
   pub time-right : timeRight (c .op .kind) (c .op .time) (c .clock) ≡ true
   pub bricks-right : bricksRight n (namedCount m (c .op)) (c .bricks) ≡ true

@@ -24,11 +24,12 @@ pub const READING: u8 = 1;
 
 pub const WRITING: u8 = 2;
 
-// The running operation. phase: the kind of the open round's messages. max: of an Order-and-read round. first: the brick that a
-// read's targets are counted upward from. A field without meaning is 0.
+// The running operation. phase: the kind of the open round's messages. stripe: the number of the stripe that it is on. max: of an
+// Order-and-read round. first: the brick that a read's targets are counted upward from. A field without meaning is 0.
 pub struct Op {
     pub kind: u8,
     pub phase: u8,
+    pub stripe: usize,
     pub time: u64,
     pub round: u64,
     pub max: u64,
@@ -48,6 +49,7 @@ pub struct Geometry {
     pub n: usize,
     pub m: usize,
     pub size: usize,
+    pub stripes: usize,
 }
 
 // bricks: the m bricks that a read in its Write round decoded from, rising; else 0.
@@ -66,6 +68,7 @@ pub fn no_op() -> Op
     Op {
         kind: IDLE,
         phase: 0,
+        stripe: 0,
         time: 0,
         round: 0,
         max: 0,
@@ -350,7 +353,10 @@ fn unset(op: Op) -> bool
     if op.max != 0 {
         return false;
     }
-    op.first == 0
+    if op.first != 0 {
+        return false;
+    }
+    op.stripe == 0
 }
 
 // Whether phase, round, max and first fit the kind of operation.
@@ -398,8 +404,8 @@ fn named_count(m: usize, op: Op) -> usize
 
 impl Geometry {
     // Whether these are the settings given.
-    fn same(self, n: usize, m: usize, size: usize) -> bool
-        ensures { λ r. ⌜ r ≡ sameGeometry n m size self ⌝ }
+    fn same(self, n: usize, m: usize, size: usize, stripes: usize) -> bool
+        ensures { λ r. ⌜ r ≡ sameGeometry n m size stripes self ⌝ }
     {
         if self.n != n {
             return false;
@@ -407,7 +413,10 @@ impl Geometry {
         if self.m != m {
             return false;
         }
-        self.size == size
+        if self.size != size {
+            return false;
+        }
+        self.stripes == stripes
     }
 }
 
@@ -431,21 +440,21 @@ impl Coordinator {
     }
 
     // Whether the record is for these settings and keeps every rule. n is at most 16.
-    pub fn sound(self, n: usize, m: usize, size: usize) -> bool
+    pub fn sound(self, n: usize, m: usize, size: usize, stripes: usize) -> bool
         requires { ⌜ n ≤ maxBricks ⌝ }
-        ensures { λ r. ⌜ r ≡ soundRecord n m size self ⌝ }
+        ensures { λ r. ⌜ r ≡ soundRecord n m size stripes self ⌝ }
     {
         let geometry = self.geometry;
-        if geometry.same(n, m, size) {
-            return self.rules_kept(n, m);
+        if geometry.same(n, m, size, stripes) {
+            return self.rules_kept(n, m, stripes);
         }
         false
     }
 
     // Whether the record keeps every rule but that of the settings.
-    fn rules_kept(self, n: usize, m: usize) -> bool
+    fn rules_kept(self, n: usize, m: usize, stripes: usize) -> bool
         requires { ⌜ n ≤ maxBricks ⌝ }
-        ensures { λ r. ⌜ r ≡ rulesKept n m self ⌝ }
+        ensures { λ r. ⌜ r ≡ rulesKept n m stripes self ⌝ }
     {
         let clock = self.clock;
         let op = self.op;
@@ -456,6 +465,9 @@ impl Coordinator {
             return false;
         }
         if n <= op.first {
+            return false;
+        }
+        if stripes <= op.stripe {
             return false;
         }
         if op_right(op) {

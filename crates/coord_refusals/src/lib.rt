@@ -2,10 +2,10 @@
 // inner: call `coordinator::take_reply`
 ghost use mathlib.Core.Path.{_≡_};
 ghost use mathlib.Core.Bool.{true};
-ghost use mathlib.Core.List.{[]};
+ghost use mathlib.Core.List.{[], _∷_};
 ghost use Prim.Native.Nat.{_*_, _≤_, _<_};
-ghost use Rattle.coord_refusals.specs.Checks.{recordChecks, writeChecks, readChecks, lengthsRight, strayChecks, takeRefusal, crashRefusal};
-ghost use Rattle.settings.specs.Ranges.{CodeRange, maxBricks};
+ghost use Rattle.coord_refusals.specs.Checks.{recordChecks, stripeChecks, writeChecks, readChecks, lengthsRight, strayChecks, takeRefusal, crashRefusal};
+ghost use Rattle.settings.specs.Ranges.{CodeRange, maxBricks, codeRefusal, stripeCountRefusal};
 ghost use Rattle.settings.specs.Refusal.{firstRefusal};
 use coord_record::Coordinator;
 use message::Reply;
@@ -14,16 +14,53 @@ use settings::BAD_NUMBER;
 use settings::BAD_RECORD;
 use settings::STRAY_REPLY;
 
+// 1 where n, m, the block size or the stripe count is outside its range, else 0.
+fn volume_refusal(n: usize, m: usize, size: usize, stripes: usize) -> u32
+    ensures { λ r. ⌜ r ≡ firstRefusal (codeRefusal n m size ∷ stripeCountRefusal stripes ∷ []) ⌝ }
+{
+    let bad = settings::code_refusal(n, m, size);
+    if bad != 0 {
+        return bad;
+    }
+    settings::stripe_count_refusal(stripes)
+}
+
 // 3 for a coordinator number above 15, 6 for a record that is not sound, else 0.
-fn record_refusal(n: usize, m: usize, size: usize, c: Coordinator) -> u32
+fn record_refusal(n: usize, m: usize, size: usize, stripes: usize, c: Coordinator) -> u32
     requires { ⌜ n ≤ maxBricks ⌝ }
-    ensures { λ r. ⌜ r ≡ firstRefusal (recordChecks n m size c []) ⌝ }
+    ensures { λ r. ⌜ r ≡ firstRefusal (recordChecks n m size stripes c []) ⌝ }
 {
     let clock = c.clock;
     if settings::LAST_COORDINATOR < clock.coordinator {
         return BAD_NUMBER;
     }
-    if c.sound(n, m, size) {
+    if c.sound(n, m, size, stripes) {
+        return 0;
+    }
+    BAD_RECORD
+}
+
+// 3 for a coordinator number above 15, 13 for a stripe that the volume does not have, 6 for a record that is not sound, else 0.
+fn stripe_refusal(
+    n: usize,
+    m: usize,
+    size: usize,
+    stripes: usize,
+    c: Coordinator,
+    stripe_number: usize,
+) -> u32
+    requires { ⌜ n ≤ maxBricks ⌝ }
+    ensures { λ r. ⌜ r ≡ firstRefusal (stripeChecks n m size stripes c «stripe_number» []) ⌝ }
+{
+    let clock = c.clock;
+    if settings::LAST_COORDINATOR < clock.coordinator {
+        return BAD_NUMBER;
+    }
+    let outside = settings::stripe_refusal(stripes, stripe_number);
+    if outside != 0 {
+        return outside;
+    }
+    if c.sound(n, m, size, stripes) {
         return 0;
     }
     BAD_RECORD
@@ -34,13 +71,15 @@ pub fn write_refusal(
     n: usize,
     m: usize,
     size: usize,
+    stripes: usize,
     c: Coordinator,
+    stripe_number: usize,
     bytes: usize,
     stripe: usize,
 ) -> u32
-    ensures { λ r. ⌜ r ≡ firstRefusal (writeChecks n m size c bytes stripe []) ⌝ }
+    ensures { λ r. ⌜ r ≡ firstRefusal (writeChecks n m size stripes c «stripe_number» bytes stripe []) ⌝ }
 {
-    let bad = settings::code_refusal(n, m, size);
+    let bad = volume_refusal(n, m, size, stripes);
     if bad != 0 {
         return bad;
     }
@@ -50,21 +89,29 @@ pub fn write_refusal(
     if stripe != m * size {
         return BAD_LENGTH;
     }
-    record_refusal(n, m, size, c)
+    stripe_refusal(n, m, size, stripes, c, stripe_number)
 }
 
 // The refusal of a read before its time is drawn, 0 for none.
-pub fn read_refusal(n: usize, m: usize, size: usize, c: Coordinator, first: usize) -> u32
-    ensures { λ r. ⌜ r ≡ firstRefusal (readChecks n m size c first []) ⌝ }
+pub fn read_refusal(
+    n: usize,
+    m: usize,
+    size: usize,
+    stripes: usize,
+    c: Coordinator,
+    stripe_number: usize,
+    first: usize,
+) -> u32
+    ensures { λ r. ⌜ r ≡ firstRefusal (readChecks n m size stripes c «stripe_number» first []) ⌝ }
 {
-    let bad = settings::code_refusal(n, m, size);
+    let bad = volume_refusal(n, m, size, stripes);
     if bad != 0 {
         return bad;
     }
     if n <= first {
         return BAD_NUMBER;
     }
-    record_refusal(n, m, size, c)
+    stripe_refusal(n, m, size, stripes, c, stripe_number)
 }
 
 // Whether the lent buffers of a reply have the lengths that the settings require.
@@ -101,6 +148,7 @@ pub fn take_refusal(
     n: usize,
     m: usize,
     size: usize,
+    stripes: usize,
     c: Coordinator,
     reply: Reply,
     block: usize,
@@ -108,9 +156,9 @@ pub fn take_refusal(
     stripe: usize,
     coded: usize,
 ) -> u32
-    ensures { λ r. ⌜ r ≡ takeRefusal n m size c reply block blocks stripe coded ⌝ }
+    ensures { λ r. ⌜ r ≡ takeRefusal n m size stripes c reply block blocks stripe coded ⌝ }
 {
-    let bad = settings::code_refusal(n, m, size);
+    let bad = volume_refusal(n, m, size, stripes);
     if bad != 0 {
         return bad;
     }
@@ -120,16 +168,23 @@ pub fn take_refusal(
     if n <= reply.brick {
         return BAD_NUMBER;
     }
-    stray_refusal(n, m, size, c, reply)
+    stray_refusal(n, m, size, stripes, c, reply)
 }
 
 // The refusal of a reply of a brick below n.
-fn stray_refusal(n: usize, m: usize, size: usize, c: Coordinator, reply: Reply) -> u32
+fn stray_refusal(
+    n: usize,
+    m: usize,
+    size: usize,
+    stripes: usize,
+    c: Coordinator,
+    reply: Reply,
+) -> u32
     requires { ⌜ n ≤ maxBricks ⌝ }
     requires { ⌜ reply .brick < n ⌝ }
-    ensures { λ r. ⌜ r ≡ firstRefusal (strayChecks n m size c reply) ⌝ }
+    ensures { λ r. ⌜ r ≡ firstRefusal (strayChecks n m size stripes c reply) ⌝ }
 {
-    let broken = record_refusal(n, m, size, c);
+    let broken = stripe_refusal(n, m, size, stripes, c, reply.stripe);
     if broken != 0 {
         return broken;
     }
@@ -146,12 +201,12 @@ fn stray_refusal(n: usize, m: usize, size: usize, c: Coordinator, reply: Reply) 
 }
 
 // The refusal of a crash, 0 for none.
-pub fn crash_refusal(n: usize, m: usize, size: usize, c: Coordinator) -> u32
-    ensures { λ r. ⌜ r ≡ crashRefusal n m size c ⌝ }
+pub fn crash_refusal(n: usize, m: usize, size: usize, stripes: usize, c: Coordinator) -> u32
+    ensures { λ r. ⌜ r ≡ crashRefusal n m size stripes c ⌝ }
 {
-    let bad = settings::code_refusal(n, m, size);
+    let bad = volume_refusal(n, m, size, stripes);
     if bad != 0 {
         return bad;
     }
-    record_refusal(n, m, size, c)
+    record_refusal(n, m, size, stripes, c)
 }

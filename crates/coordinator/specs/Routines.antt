@@ -1,4 +1,5 @@
--- Document 01, "What a coordinator does": one step of each routine.
+-- Document 01, "What a coordinator does": one step of each routine. E1: "A coordinator uses one clock for all stripes and one operation
+-- at a time." The number of a stripe is `number`; `stripe` is the lent one.
 use mathlib.Core.Bool.{cond}
 use mathlib.Core.List.{List, []}
 use Prim.Native.Nat.{ℕ}
@@ -18,9 +19,9 @@ use Rattle.settings.specs.declared.Draw.{Draw}
 use Rattle.settings.specs.declared.Draw.the-variants.{Drawn, Refused}
 
 -- a reply reaches the coordinator
-unfoldable pub takeStep : ℕ → ℕ → ℕ → Buffered → Reply → List ℕ → ℕ → Step
-takeStep n m size h r block coded =
-    afterChecks (takeRefusal n m size (h .state) r (length block) (length (h .blocks)) (length (h .stripe)) coded)
+unfoldable pub takeStep : (n m size stripes : ℕ) → Buffered → Reply → List ℕ → ℕ → Step
+takeStep n m size stripes h r block coded =
+    afterChecks (takeRefusal n m size stripes (h .state) r (length block) (length (h .blocks)) (length (h .stripe)) coded)
     (went (waitingOr n m size (counting size h r block)))
 
 -- a crash: "makes the coordinator idle and keeps its count"; at an idle one nothing is seen
@@ -28,40 +29,46 @@ unfoldable pub crashed : Buffered → Went
 crashed h =
     cond (eqb (h .state .op .kind) idleKind) (record { next = h; sent = []; seen = nothingSeen }) (ending h (h .stripe) [] cutSeen noBricks)
 
-unfoldable pub crashStep : ℕ → ℕ → ℕ → Buffered → Step
-crashStep n m size h = afterChecks (crashRefusal n m size (h .state)) (went (crashed h))
+unfoldable pub crashStep : (n m size stripes : ℕ) → Buffered → Step
+crashStep n m size stripes h = afterChecks (crashRefusal n m size stripes (h .state)) (went (crashed h))
 
 -- a draw that is refused passes its number on
 unfoldable pub drawnThen : Draw → (ℕ → Clock → Went) → Step
 drawnThen (Drawn time clock) f = went (f time clock)
 drawnThen (Refused number) f = refused number
 
--- a write starts with an Order round, and keeps its bytes
-unfoldable pub writeStep : ℕ → ℕ → ℕ → Buffered → ℕ → List ℕ → Step
-writeStep n m size h reading bytes =
-    afterChecks (writeRefusal n m size (h .state) reading (length bytes) (length (h .stripe)))
-    (drawnThen (drawOf (h .state .clock) reading)
-    (λ (time : ℕ) (clock : Clock). starting h clock (firstOp writingKind orderKind time 0) bytes noBricks))
+-- "A coordinator uses one clock for all stripes" (E1): what a start on a stripe draws from
+abbrev pub stripeClock : Coordinator → (stripe : ℕ) → Clock
+stripeClock c stripe = c .clock
+
+-- a write starts with an Order round on its stripe, and keeps its bytes
+unfoldable pub writeStep : (n m size stripes : ℕ) → Buffered → (number reading : ℕ) → List ℕ → Step
+writeStep n m size stripes h number reading bytes =
+    afterChecks (writeRefusal n m size stripes (h .state) number reading (length bytes) (length (h .stripe)))
+    (drawnThen (drawOf (stripeClock (h .state) number) reading)
+    (λ (time : ℕ) (clock : Clock). starting h clock (firstOp writingKind orderKind number time 0) bytes noBricks))
 
 -- a read starts with "a Read round whose targets are m bricks counted upward from a given one, wrapping at n"
-unfoldable pub readStep : ℕ → ℕ → ℕ → Buffered → ℕ → ℕ → Step
-readStep n m size h reading first =
-    afterChecks (readRefusal n m size (h .state) reading first)
-    (drawnThen (drawOf (h .state .clock) reading)
-    (λ (time : ℕ) (clock : Clock). starting h clock (firstOp readingKind readKind time first) (h .stripe) (targetFlags n m first)))
+unfoldable pub readStep : (n m size stripes : ℕ) → Buffered → (number reading first : ℕ) → Step
+readStep n m size stripes h number reading first =
+    afterChecks (readRefusal n m size stripes (h .state) number reading first)
+    (drawnThen (drawOf (stripeClock (h .state) number) reading)
+    (λ (time : ℕ) (clock : Clock). starting h clock (firstOp readingKind readKind number time first) (h .stripe) (targetFlags n m first)))
 
 -- What a call of each routine leaves: the answer, the reply blocks, the stripe and the blocks to send. A buffer that a routine is not lent
 -- may be any, and stays.
-module _ (n m size : ℕ) (c : Coordinator) (blocks stripe coded : List ℕ) where
-  abbrev pub writeCall : ℕ → List ℕ → Returned
-  writeCall reading bytes = returnedBy (buffered c blocks stripe) coded (writeStep n m size (buffered c blocks stripe) reading bytes)
+module _ (n m size stripes : ℕ) (c : Coordinator) (blocks stripe coded : List ℕ) where
+  abbrev pub writeCall : (number reading : ℕ) → List ℕ → Returned
+  writeCall number reading bytes =
+      returnedBy (buffered c blocks stripe) coded (writeStep n m size stripes (buffered c blocks stripe) number reading bytes)
 
-  abbrev pub readCall : ℕ → ℕ → Returned
-  readCall reading first = returnedBy (buffered c blocks stripe) coded (readStep n m size (buffered c blocks stripe) reading first)
+  abbrev pub readCall : (number reading first : ℕ) → Returned
+  readCall number reading first =
+      returnedBy (buffered c blocks stripe) coded (readStep n m size stripes (buffered c blocks stripe) number reading first)
 
   abbrev pub takeCall : Reply → List ℕ → Returned
   takeCall reply block =
-      returnedBy (buffered c blocks stripe) coded (takeStep n m size (buffered c blocks stripe) reply block (length coded))
+      returnedBy (buffered c blocks stripe) coded (takeStep n m size stripes (buffered c blocks stripe) reply block (length coded))
 
   abbrev pub crashCall : Returned
-  crashCall = returnedBy (buffered c blocks stripe) coded (crashStep n m size (buffered c blocks stripe))
+  crashCall = returnedBy (buffered c blocks stripe) coded (crashStep n m size stripes (buffered c blocks stripe))

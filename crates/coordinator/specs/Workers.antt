@@ -26,7 +26,7 @@ startAnswer geometry clock op targets =
       sent = 1;
       message = roundMessage op targets;
       second = noMessage;
-      seen = record { what = beganSeen; kind = op .kind; time = op .time; bricks = noBricks };
+      seen = record { what = beganSeen; kind = op .kind; stripe = op .stripe; time = op .time; bricks = noBricks };
     }
 
 -- the reply blocks with a reply's own

@@ -64,13 +64,14 @@ fn kept(c: Coordinator) -> Answer
     }
 }
 
-// The first round of an operation.
-fn first_op(kind: u8, phase: u8, time: u64, first: usize) -> Op
-    ensures { λ r. ⌜ r ≡ firstOp kind phase time first ⌝ }
+// The first round of an operation on a stripe.
+fn first_op(kind: u8, phase: u8, stripe: usize, time: u64, first: usize) -> Op
+    ensures { λ r. ⌜ r ≡ firstOp kind phase stripe time first ⌝ }
 {
     Op {
         kind,
         phase,
+        stripe,
         time,
         round: message::FIRST_ROUND,
         max: 0,
@@ -95,6 +96,7 @@ fn begin(geometry: Geometry, clock: Clock, op: Op, targets: [u8; MAX_BRICKS]) ->
     let seen = Notice {
         what: BEGAN,
         kind: op.kind,
+        stripe: op.stripe,
         time: op.time,
         bricks: [0u8; MAX_BRICKS],
     };
@@ -135,21 +137,32 @@ fn with_tally(c: Coordinator, tally: Tally) -> Coordinator
     }
 }
 
-// Starts a write of m blocks, which the lent stripe keeps from then on. Refused: 1 settings, 2 a length, 3 the coordinator's number,
-// 6 the record; by the draw 7 the reading, 8 no count left; 9 an operation runs.
+// Starts a write of m blocks to a stripe, by its number; the lent stripe keeps the blocks from then on. Refused: 1 settings, 2 a length,
+// 3 the coordinator's number, 13 the stripe's, 6 the record; by the draw 7 the reading, 8 no count left; 9 an operation runs.
 pub fn start_write(
     n: usize,
     m: usize,
     size: usize,
+    stripes: usize,
     c: Coordinator,
+    stripe_number: usize,
     reading: u64,
     bytes: &[u8],
     stripe: &mut [u8],
 ) -> Answer
     ensures { λ r. ⌜ ((blocks coded : List ℕ) → returned r blocks (now (stripe .exit)) coded
-        ≡ writeCall n m size c blocks (now (stripe .entry)) coded reading (now (bytes .entry))) ⌝ }
+        ≡ writeCall n m size stripes c blocks (now (stripe .entry)) coded «stripe_number» reading (now (bytes .entry))) ⌝ }
 {
-    let bad = write_refusal(n, m, size, c, bytes.len(), stripe.len());
+    let bad = write_refusal(
+        n,
+        m,
+        size,
+        stripes,
+        c,
+        stripe_number,
+        bytes.len(),
+        stripe.len(),
+    );
     if bad != 0 {
         return refuse(c, bad);
     }
@@ -164,23 +177,26 @@ pub fn start_write(
     }
     byte_lists::copy(bytes, stripe);
     let geometry = c.geometry;
-    let op = first_op(WRITING, ORDER, time, 0);
+    let op = first_op(WRITING, ORDER, stripe_number, time, 0);
     begin(geometry, next, op, [0u8; MAX_BRICKS])
 }
 
-// Starts a read whose targets are counted upward from a brick. Refused: 1 settings, 3 the brick or the coordinator's number, 6 the
-// record; by the draw 7 the reading, 8 no count left; 9 an operation runs.
+// Starts a read of a stripe, by its number, whose targets are counted upward from a brick. Refused: 1 settings, 3 the brick or the
+// coordinator's number, 13 the stripe's, 6 the record; by the draw 7 the reading, 8 no count left; 9 an operation runs.
 pub fn start_read(
     n: usize,
     m: usize,
     size: usize,
+    stripes: usize,
     c: Coordinator,
+    stripe_number: usize,
     reading: u64,
     first: usize,
 ) -> Answer
-    ensures { λ r. ⌜ ((blocks stripe coded : List ℕ) → returned r blocks stripe coded ≡ readCall n m size c blocks stripe coded reading first) ⌝ }
+    ensures { λ r. ⌜ ((blocks stripe coded : List ℕ) → returned r blocks stripe coded
+        ≡ readCall n m size stripes c blocks stripe coded «stripe_number» reading first) ⌝ }
 {
-    let bad = read_refusal(n, m, size, c, first);
+    let bad = read_refusal(n, m, size, stripes, c, stripe_number, first);
     if bad != 0 {
         return refuse(c, bad);
     }
@@ -194,16 +210,16 @@ pub fn start_read(
         return refuse(c, settings::BUSY);
     }
     let geometry = c.geometry;
-    let op = first_op(READING, READ, time, first);
+    let op = first_op(READING, READ, stripe_number, time, first);
     let targets = coord_tally::target_flags(n, m, first);
     begin(geometry, next, op, targets)
 }
 
 // A crash: the coordinator is idle and keeps its count. Refused: 1 settings, 3 the coordinator's number, 6 the record.
-pub fn crash(n: usize, m: usize, size: usize, c: Coordinator) -> Answer
-    ensures { λ r. ⌜ ((blocks stripe coded : List ℕ) → returned r blocks stripe coded ≡ crashCall n m size c blocks stripe coded) ⌝ }
+pub fn crash(n: usize, m: usize, size: usize, stripes: usize, c: Coordinator) -> Answer
+    ensures { λ r. ⌜ ((blocks stripe coded : List ℕ) → returned r blocks stripe coded ≡ crashCall n m size stripes c blocks stripe coded) ⌝ }
 {
-    let bad = crash_refusal(n, m, size, c);
+    let bad = crash_refusal(n, m, size, stripes, c);
     if bad != 0 {
         return refuse(c, bad);
     }
@@ -214,13 +230,14 @@ pub fn crash(n: usize, m: usize, size: usize, c: Coordinator) -> Answer
     coord_apply::end(c, CUT, [0u8; MAX_BRICKS], 0, coord_apply::no_message())
 }
 
-// Takes a reply; block is the one it holds. Refused: 1 settings, 2 a length, 3 the brick or the coordinator's number, 6 the record,
-// 10 a reply that no brick gives, 11 a reply that does not answer the open round. The reply blocks and the stripe are kept from call to
-// call; coded holds the n blocks of a Write round where one is sent.
+// Takes a reply; block is the one it holds. Refused: 1 settings, 2 a length, 3 the brick or the coordinator's number, 13 the stripe's,
+// 6 the record, 10 a reply that no brick gives, 11 a reply that does not answer the open round. The reply blocks and the stripe are kept
+// from call to call; coded holds the n blocks of a Write round where one is sent.
 pub fn take_reply(
     n: usize,
     m: usize,
     size: usize,
+    stripes: usize,
     c: Coordinator,
     reply: Reply,
     block: &[u8],
@@ -229,12 +246,13 @@ pub fn take_reply(
     coded: &mut [u8],
 ) -> Answer
     ensures { λ r. ⌜ returned r (now (blocks .exit)) (now (stripe .exit)) (now (coded .exit))
-        ≡ takeCall n m size c (now (blocks .entry)) (now (stripe .entry)) (now (coded .entry)) reply (now (block .entry)) ⌝ }
+        ≡ takeCall n m size stripes c (now (blocks .entry)) (now (stripe .entry)) (now (coded .entry)) reply (now (block .entry)) ⌝ }
 {
     let bad = take_refusal(
         n,
         m,
         size,
+        stripes,
         c,
         reply,
         block.len(),

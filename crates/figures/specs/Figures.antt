@@ -14,8 +14,11 @@ use Rattle.image.specs.Parse.{imageBlockAt}
 use Rattle.erasure.specs.Code.{codedOf, decodedOf}
 use Rattle.gf256.specs.Product.{product}
 use Rattle.settings.specs.Ranges.{quorum, settingsRefusal}
-use Rattle.settings.specs.Refusal.{passed, badSetting, badReading}
+use Rattle.settings.specs.Refusal.{passed, badSetting, badReading, badStripe}
 use Rattle.settings.specs.Times.{drawOf}
+use Rattle.volume.specs.ClientPlaces.{placeOf}
+use Rattle.volume.specs.declared.Placed.{Placed}
+use Rattle.volume.specs.declared.Placed.the-variants.{At}
 use Rattle.settings.specs.declared.Draw.{Draw}
 use Rattle.settings.specs.declared.Draw.the-variants.{Drawn, Refused}
 use Rattle.settings.specs.declared.Settings.{Settings}
@@ -45,13 +48,23 @@ drawn (Refused k) = refusal k
 unfoldable pub drawFor : ℕ → ℕ → ℕ → Figure
 drawFor coordinator last reading = drawn (drawOf (record { coordinator = coordinator; last = last }) reading)
 
+-- the place of a client block, a stripe and a data block, or its refusal
+unfoldable pub placed : Placed → Figure
+placed (At stripe block) = bytes (stripe ∷ block ∷ [])
+placed (Placed.Refused k) = refusal k
+
 -- a refusal's number, 0 for none
 unfoldable pub refusedBy : ℕ → Figure
 refusedBy k = cond (eqb k passed) passes (refusal k)
 
--- the refusal of settings n, m, size and capacity
-unfoldable pub refusalFor : ℕ → ℕ → ℕ → ℕ → Figure
-refusalFor n m size capacity = refusedBy (settingsRefusal (record { n = n; m = m; size = size; capacity = capacity }))
+-- the refusal of settings n, m, size, capacity and stripe count
+unfoldable pub refusalFor : ℕ → ℕ → ℕ → ℕ → ℕ → Figure
+refusalFor n m size capacity stripes =
+    refusedBy (settingsRefusal (record { n = n; m = m; size = size; capacity = capacity; stripes = stripes }))
+
+-- the place of a client block in a volume of 4 stripes of 2 data blocks
+unfoldable pub placeIn4 : ℕ → Figure
+placeIn4 v = placed (placeOf (record { n = 3; m = 2; size = 1; capacity = 2; stripes = 4 }) v)
 
 -- "Bytes 0–1 hold the check": as it stands in block k of an image
 unfoldable pub checkAt : List ℕ → ℕ → ℕ
@@ -60,7 +73,7 @@ checkAt image k = Little.number (take checkBytes (imageBlockAt image k))
 -- the fresh image "for n 3, m 1, brick 0, capacity 4, size 1"
 unfoldable pub freshImage : List ℕ
 freshImage =
-    let s : Settings = record { n = 3; m = 1; size = 1; capacity = 4 } in
+    let s : Settings = record { n = 3; m = 1; size = 1; capacity = 4; stripes = 1 } in
     imageOf s 0 (freshBrick s)
 
 unfoldable pub figures : List Row
@@ -86,10 +99,15 @@ figures =
     ∷ row (drawFor 0 5 3) (time 96)
     ∷ row (drawFor 2 0 0) (time 18)
     -- n 16 passes, 17 is refusal 1; reading 2^40−1 passes, 2^40 is refusal 7.
-    ∷ row (refusalFor 16 1 1 2) passes
-    ∷ row (refusalFor 17 1 1 2) (refusal badSetting)
+    ∷ row (refusalFor 16 1 1 2 1) passes
+    ∷ row (refusalFor 17 1 1 2 1) (refusal badSetting)
     ∷ row (drawFor 0 0 (2 ^ 40 - 1)) (time ((2 ^ 40 - 1) * 16))
     ∷ row (drawFor 0 0 (2 ^ 40)) (refusal badReading)
+    -- E1: 64 stripes pass, 65 are refusal 1; of 4 stripes of 2 data blocks client block 6 is data block 1 of stripe 2, and 8 is refusal 13.
+    ∷ row (refusalFor 16 1 1 2 64) passes
+    ∷ row (refusalFor 16 1 1 2 65) (refusal badSetting)
+    ∷ row (placeIn4 6) (bytes (2 ∷ 1 ∷ []))
+    ∷ row (placeIn4 8) (refusal badStripe)
     ∷ []
 
 -- every row gives its figure

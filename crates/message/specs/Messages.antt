@@ -1,6 +1,6 @@
 -- What a message and a reply may hold: refusal 10, "a message or reply of unknown kind, with a time that isn't valid (0 passes only as the
 -- newest or entry time in a reply), a max outside 0 to 2^44, a round outside 1 to 1,000, or Read targets that aren't m different bricks".
--- A field that a kind has no use for is not looked at.
+-- A field that a kind has no use for is not looked at. The stripe is refusal 13, tested before.
 use mathlib.Core.Bool.{Bool, cond, _&&_, _||_}
 use mathlib.Core.List.{[], _∷_}
 use Prim.Native.Nat.{ℕ}

@@ -1,6 +1,6 @@
 // Messages and replies (document 01, "What a brick does", "What a coordinator does"): structs by value with a number for their kind,
 // so that an unknown kind can be refused. A block goes beside them in a slice.
-// inner: call `brick::receive`
+// inner: call `volume::receive`
 ghost use mathlib.Core.Path.{_≡_};
 ghost use Prim.Native.Nat.{_≤_};
 ghost use lib.Dec.{ltb};
@@ -28,19 +28,22 @@ pub const THIRD_ROUND: u64 = 3;
 
 pub const LAST_ROUND: u64 = 1000;
 
-// max: Order-and-read only. targets: Read only, a flag a brick.
+// stripe: the number of the stripe that it is about. max: Order-and-read only. targets: Read only, a flag a brick.
 pub struct Message {
     pub kind: u8,
+    pub stripe: usize,
     pub time: u64,
     pub round: u64,
     pub max: u64,
     pub targets: [u8; settings::MAX_BRICKS],
 }
 
-// found: the newest time in a reply to Read, the entry's time in one to Order-and-read. held: a block goes with it.
+// stripe: that of the message. found: the newest time in a reply to Read, the entry's time in one to Order-and-read. held: a block goes
+// with it.
 pub struct Reply {
     pub kind: u8,
     pub brick: usize,
+    pub stripe: usize,
     pub time: u64,
     pub round: u64,
     pub yes: bool,

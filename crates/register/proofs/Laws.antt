@@ -5,6 +5,7 @@ pub mod TheoremProof
 pub mod CorollaryLaws
 pub mod NeverRefusedLaws
 pub mod NumberedLaws
+pub mod VolumeLaws
 pub mod RefusedEventLaws
 -- What a driver makes of the routines' answers; what may be lent, and what a crash leaves.
 pub mod DriverLaws
@@ -29,6 +30,8 @@ pub mod BrickEvent
 -- One event at one coordinator: starts, crashes, replies counted, what the q-th decides.
 pub mod BegunLaws
 pub mod TurnLaws
+pub mod StripeViewLaws
+pub mod BrickViewLaws
 pub mod StartEvent
 pub mod RoundLaws
 pub mod CrashEvent
@@ -39,3 +42,5 @@ pub mod RecoverLaws
 pub mod GiveLaws
 pub mod DecisionLaws
 pub mod ReplyEvent
+-- The same on whatever stripe.
+pub mod StripeEvent

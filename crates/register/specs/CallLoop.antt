@@ -13,9 +13,8 @@ use Rattle.byte_lists.specs.Little.{Bytes}
 use Rattle.message.specs.Kinds.{writeKind}
 use Rattle.message.specs.declared.Message.{Message}
 use Rattle.message.specs.declared.Reply.{Reply}
-use Rattle.image.specs.Opening.{lendingRefusal}
-use Rattle.image_write.specs.Saving.{freshAfter}
-use Rattle.brick.specs.Receive.{outcomeWith, outcome}
+use Rattle.brick.specs.Receive.{outcomeWith}
+use Rattle.volume.specs.Rows.{rowLendingRefusal, freshRowAfter, rowOutcome}
 use Rattle.brick.specs.declared.Given.{Given}
 use Rattle.coord_record.specs.Records.{geometryOf, idleWith}
 use Rattle.coord_apply.specs.Answers.{Buffered, returned}
@@ -30,12 +29,12 @@ pub record BufferLengths (s : Settings) (blocks stripe : List ℕ) : Type 0 wher
   pub blocks-long : length blocks ≡ s .n * s .size
   pub stripe-long : length stripe ≡ s .m * s .size
 
--- How it starts, by what `image_write::write_fresh` (not refused, whatever lay in the images) and `coord_record::idle_with` give: "fresh
+-- How it starts, by what `volume::write_fresh` (not refused, whatever lay in the rows) and `coord_record::idle_with` give: "fresh
 -- images, all bricks up, 16 idle coordinators with last count 0, nothing sent".
 pub record Started (s : Settings) (w : World) : Type 0 where
   pub before : ℕ → List ℕ
-  pub not-refused : (b : ℕ) → b < s .n → lendingRefusal s b (length (before b)) ≡ passed
-  pub images-are : (b : ℕ) → b < s .n → w .images b ≡ freshAfter s b (before b)
+  pub not-refused : (b : ℕ) → b < s .n → rowLendingRefusal s b (length (before b)) ≡ passed
+  pub images-are : (b : ℕ) → b < s .n → w .images b ≡ freshRowAfter s b (before b)
   pub all-up : (b : ℕ) → b < s .n → w .up b ≡ true
   pub all-idle : (c : ℕ) → c ≤ lastCoordinator → w .coordinators c .state ≡ idleWith (geometryOf s) (record { coordinator = c; last = 0 })
   pub all-fit : (c : ℕ) → c ≤ lastCoordinator → BufferLengths s (w .coordinators c .blocks) (w .coordinators c .stripe)
@@ -44,26 +43,26 @@ pub record Started (s : Settings) (w : World) : Type 0 where
 -- What the contracts of the coordinator's routines ensure of the answer a and of the buffers lent, at a coordinator with its buffers.
 module _ (s : Settings) (k : Buffered) (a : Answer) where
   -- `coordinator::start_write`
-  abbrev pub WriteEnsures : (reading : ℕ) → (content stripe : List ℕ) → Type 0
-  WriteEnsures reading content stripe =
+  abbrev pub WriteEnsures : (number reading : ℕ) → (content stripe : List ℕ) → Type 0
+  WriteEnsures number reading content stripe =
       (blocks coded : List ℕ)
-      → returned a blocks stripe coded ≡ writeCall (s .n) (s .m) (s .size) (k .state) blocks (k .stripe) coded reading content
+      → returned a blocks stripe coded ≡ writeCall (s .n) (s .m) (s .size) (s .stripes) (k .state) blocks (k .stripe) coded number reading content
 
   -- `coordinator::start_read`
-  abbrev pub ReadEnsures : (reading first : ℕ) → Type 0
-  ReadEnsures reading first =
+  abbrev pub ReadEnsures : (number reading first : ℕ) → Type 0
+  ReadEnsures number reading first =
       (blocks stripe coded : List ℕ)
-      → returned a blocks stripe coded ≡ readCall (s .n) (s .m) (s .size) (k .state) blocks stripe coded reading first
+      → returned a blocks stripe coded ≡ readCall (s .n) (s .m) (s .size) (s .stripes) (k .state) blocks stripe coded number reading first
 
   -- `coordinator::take_reply`
   abbrev pub TakeEnsures : Reply → (block coded blocks′ stripe′ coded′ : List ℕ) → Type 0
   TakeEnsures r block coded blocks′ stripe′ coded′ =
-      returned a blocks′ stripe′ coded′ ≡ takeCall (s .n) (s .m) (s .size) (k .state) (k .blocks) (k .stripe) coded r block
+      returned a blocks′ stripe′ coded′ ≡ takeCall (s .n) (s .m) (s .size) (s .stripes) (k .state) (k .blocks) (k .stripe) coded r block
 
 -- `coordinator::crash`
 abbrev pub CrashEnsures : Settings → Buffered → Answer → Type 0
 CrashEnsures s k a =
-    (blocks stripe coded : List ℕ) → returned a blocks stripe coded ≡ crashCall (s .n) (s .m) (s .size) (k .state) blocks stripe coded
+    (blocks stripe coded : List ℕ) → returned a blocks stripe coded ≡ crashCall (s .n) (s .m) (s .size) (s .stripes) (k .state) blocks stripe coded
 
 -- What calls may have led to: a world, and what was seen so far. Refused calls are among them, and their contracts say that nothing changed.
 -- What was sent may be carried any number of times, in any order, or never.
@@ -71,13 +70,13 @@ pub data RoutineCalls (s : Settings) : Moved s → Type 0 where
   begin : (w : World) → Started s w → RoutineCalls s (unmoved s w)
   -- `coordinator::start_write`; no start sends blocks
   start-write : (r : Moved s) → RoutineCalls s r → (c : ℕ) → c ≤ lastCoordinator
-      → (reading : ℕ) (content : List ℕ) → Bytes content
-      → (a : Answer) (stripe : List ℕ) → WriteEnsures s (r .world .coordinators c) a reading content stripe
+      → (number reading : ℕ) (content : List ℕ) → Bytes content
+      → (a : Answer) (stripe : List ℕ) → WriteEnsures s (r .world .coordinators c) a number reading content stripe
       → RoutineCalls s (joined s r (driven s (r .world) c a (r .world .coordinators c .blocks) stripe []))
   -- `coordinator::start_read`
   start-read : (r : Moved s) → RoutineCalls s r → (c : ℕ) → c ≤ lastCoordinator
-      → (reading first : ℕ)
-      → (a : Answer) → ReadEnsures s (r .world .coordinators c) a reading first
+      → (number reading first : ℕ)
+      → (a : Answer) → ReadEnsures s (r .world .coordinators c) a number reading first
       → RoutineCalls s (joined s r (driven s (r .world) c a (r .world .coordinators c .blocks) (r .world .coordinators c .stripe) []))
   -- `coordinator::take_reply`: a reply goes to the coordinator in its time. Beside one that holds no block anything may be lent, and any
   -- buffer to send from: the contract says what is refused.
@@ -91,15 +90,15 @@ pub data RoutineCalls (s : Settings) : Moved s → Type 0 where
   crash : (r : Moved s) → RoutineCalls s r → (c : ℕ) → c ≤ lastCoordinator
       → (a : Answer) → CrashEnsures s (r .world .coordinators c) a
       → RoutineCalls s (joined s r (driven s (r .world) c a (r .world .coordinators c .blocks) (r .world .coordinators c .stripe) []))
-  -- `brick::receive`: a message goes to its brick if that is up. Beside one that is no Write anything may be lent, and any buffer for the
+  -- `volume::receive`: a message goes to its brick if that is up. Beside one that is no Write anything may be lent, and any buffer for the
   -- reply: the contract says what is refused.
   receive : (r : Moved s) → RoutineCalls s r → (b : ℕ) (msg : Message) (block : List ℕ) → message b msg block ∈ r .world .sent
       → r .world .up b ≡ true
       → (lent out : List ℕ)
       → (msg .kind ≡ writeKind → lent ≡ block)
-      → (g : Given) (image′ out′ : List ℕ)
-      → outcomeWith g image′ out′ ≡ outcome s b (r .world .images b) msg lent out
-      → RoutineCalls s (joined s r (received s (r .world) b (outcomeWith g image′ (heldBlock s g out′))))
+      → (g : Given) (images′ out′ : List ℕ)
+      → outcomeWith g images′ out′ ≡ rowOutcome s b (r .world .images b) msg lent out
+      → RoutineCalls s (joined s r (received s (r .world) b (outcomeWith g images′ (heldBlock s g out′))))
   -- a brick goes down, or comes up with its image as saved
   goes-down : (r : Moved s) → RoutineCalls s r → (b : ℕ) → RoutineCalls s (joined s r (standing s (r .world) b false))
   comes-up : (r : Moved s) → RoutineCalls s r → (b : ℕ) → RoutineCalls s (joined s r (standing s (r .world) b true))
@@ -119,8 +118,9 @@ pub record Agrees (s : Settings) (w v : World) : Type 0 where
 abbrev pub WhoeverCallsMakesARun : Type 0
 WhoeverCallsMakesARun =
     (s : Settings) → inRange s ≡ true → (r : Moved s) → RoutineCalls s r
-    → (events : List Event) × (r .seen ≡ run s events .seen) × Agrees s (r .world) (run s events .world)
+    → (events : List Event) × ((k : ℕ) → r .seen k ≡ run s events .seen k) × Agrees s (r .world) (run s events .world)
 
--- Demand 3 of what is seen by whoever makes such calls.
+-- Demand 3 of what is seen by whoever makes such calls, stripe by stripe.
 abbrev pub WhoeverCallsHasOneOrder : Type 0
-WhoeverCallsHasOneOrder = (s : Settings) → inRange s ≡ true → (r : Moved s) → RoutineCalls s r → OneOrder (plain s) (r .seen)
+WhoeverCallsHasOneOrder =
+    (s : Settings) → inRange s ≡ true → (r : Moved s) → RoutineCalls s r → (stripe : ℕ) → stripe < s .stripes → OneOrder (plain s) (r .seen stripe)

@@ -16,7 +16,7 @@ use Rattle.coord_record.specs.declared.Op.{Op}
 use Rattle.coord_apply.specs.Answers.{Buffered, Broadcast, Step, refused, went}
 use Rattle.coord_apply.specs.declared.Answer.{Answer}
 use Rattle.order.specs.Claim.{cut, Seen}
-use Rattle.register.specs.Runs.{plain, World, Moved, putAt, seenOf, broadcasts}
+use Rattle.register.specs.Runs.{plain, World, Moved, putAt, onStripe, seenOf, broadcasts}
 
 -- so many of an answer's two messages, in their order, each with the blocks of the output buffer
 unfoldable pub listed : ℕ → Message → Message → List ℕ → List Broadcast
@@ -33,7 +33,7 @@ driven s w c a blocks stripe coded =
         coordinators = putAt (w .coordinators) c (record { state = a .next; blocks = blocks; stripe = stripe });
         sent = w .sent ++ broadcasts s (listed (a .sent) (a .message) (a .second) coded);
       };
-      seen = seenOf s (a .seen) (record { state = a .next; blocks = blocks; stripe = stripe });
+      seen = onStripe (a .seen .stripe) (seenOf s (a .seen) (record { state = a .next; blocks = blocks; stripe = stripe }));
     }
 
 -- what a brick gives holds a block
@@ -70,7 +70,7 @@ failed s w c blocks stripe =
         coordinators = putAt (w .coordinators) c (backWith s c (w .coordinators c .state) blocks stripe);
         sent = w .sent;
       };
-      seen = cutOf s (w .coordinators c .state .op);
+      seen = onStripe (w .coordinators c .state .op .stripe) (cutOf s (w .coordinators c .state .op));
     }
 
 -- two broadcasts at most, of which only the last may be a Write round: the output buffer has room for one

@@ -8,6 +8,7 @@ pub mod Theorem
 pub mod Corollaries
 pub mod NeverRefused
 pub mod Numbered
+pub mod Volumes
 pub mod RefusedEvents
 -- What a driver does with what the routines give; what may be lent; whoever calls the routines has made a run.
 pub mod Driver

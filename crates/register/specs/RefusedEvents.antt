@@ -12,7 +12,8 @@ use Rattle.settings.specs.Times.{coordinatorOf}
 use Rattle.settings.specs.declared.Settings.{Settings}
 use Rattle.byte_lists.specs.Little.{areBytes}
 use Rattle.message.specs.declared.Message.{Message}
-use Rattle.brick.specs.Receive.{outcome, givenNumber}
+use Rattle.brick.specs.Receive.{givenNumber}
+use Rattle.volume.specs.Rows.{rowOutcome}
 use Rattle.coord_apply.specs.Answers.{Step, answerOf}
 use Rattle.coordinator.specs.Routines.{takeStep, crashStep, writeStep, readStep}
 use Rattle.register.specs.Runs.{Item, message, reply, World, Event, startWrite, startRead, arrives, crashes, goesDown, comesUp}
@@ -25,10 +26,10 @@ routineNumber w c p = answerOf (w .coordinators c .state) p .refusal
 -- the number with which a message is refused by its brick, if that is up, or a reply by its coordinator
 unfoldable pub itemNumber : Settings → World → Item → ℕ
 itemNumber s w (message b msg block) =
-    cond (w .up b) (givenNumber (outcome s b (w .images b) msg block (replicate (s .size) 0) .given)) passed
+    cond (w .up b) (givenNumber (rowOutcome s b (w .images b) msg block (replicate (s .size) 0) .given)) passed
 itemNumber s w (reply r block) =
     routineNumber w (coordinatorOf (r .time))
-    (takeStep (s .n) (s .m) (s .size) (w .coordinators (coordinatorOf (r .time))) r block (s .n * s .size))
+    (takeStep (s .n) (s .m) (s .size) (s .stripes) (w .coordinators (coordinatorOf (r .time))) r block (s .n * s .size))
 
 -- the same by place; 12 for "a number not sent yet"
 unfoldable pub arrivalNumber : Settings → World → List Item → ℕ → ℕ
@@ -39,11 +40,12 @@ arrivalNumber s w (i ∷ is) (suc k) = arrivalNumber s w is k
 -- The number with which an event is refused in a world, 0 for none. Content that is no list of bytes counts as 12, what does not read; "a
 -- brick number not below n" is refused also where a brick goes down or comes up.
 unfoldable pub eventNumber : Settings → World → Event → ℕ
-eventNumber s w (startWrite c reading content) =
-    cond (areBytes content) (routineNumber w c (writeStep (s .n) (s .m) (s .size) (w .coordinators c) reading content)) badLine
-eventNumber s w (startRead c reading first) = routineNumber w c (readStep (s .n) (s .m) (s .size) (w .coordinators c) reading first)
+eventNumber s w (startWrite c stripe reading content) =
+    cond (areBytes content) (routineNumber w c (writeStep (s .n) (s .m) (s .size) (s .stripes) (w .coordinators c) stripe reading content)) badLine
+eventNumber s w (startRead c stripe reading first) =
+    routineNumber w c (readStep (s .n) (s .m) (s .size) (s .stripes) (w .coordinators c) stripe reading first)
 eventNumber s w (arrives k) = arrivalNumber s w (w .sent) k
-eventNumber s w (crashes c left) = routineNumber w c (crashStep (s .n) (s .m) (s .size) (w .coordinators c))
+eventNumber s w (crashes c left) = routineNumber w c (crashStep (s .n) (s .m) (s .size) (s .stripes) (w .coordinators c))
 eventNumber s w (goesDown b) = refuseUnless (ltb b (s .n)) badNumber
 eventNumber s w (comesUp b) = refuseUnless (ltb b (s .n)) badNumber
 

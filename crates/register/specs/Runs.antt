@@ -1,8 +1,8 @@
--- Document 01, "A run and its order": the set, its events, and what is seen of a run. Each event works on what the one before left, by the
--- very definitions that the contracts of a brick and of a coordinator cite.
+-- Document 01, "A run and its order", with document 02's volumes (E1): the set, its events, and what is seen of a run, stripe by stripe.
+-- Each event works on what the one before left, by the very definitions that the contracts of a brick and of a coordinator cite.
 use mathlib.Core.Bool.{Bool, true, false, cond, _&&_}
 use mathlib.Core.List.{List, [], _∷_, _++_}
-use Prim.Native.Nat.{ℕ, zero, suc, _*_}
+use Prim.Native.Nat.{ℕ, zero, suc, _*_, _<_}
 use lib.Dec.{eqb, ltb}
 use lib.ListN.{length, replicate}
 use Rattle.settings.specs.Times.{coordinatorOf}
@@ -11,9 +11,8 @@ use Rattle.byte_lists.specs.Little.{areBytes}
 use Rattle.message.specs.Kinds.{writeKind}
 use Rattle.message.specs.declared.Message.{Message}
 use Rattle.message.specs.declared.Reply.{Reply}
-use Rattle.image.specs.Brick
-use Rattle.image.specs.Image.{imageOf}
-use Rattle.brick.specs.Receive.{Outcome, outcome}
+use Rattle.brick.specs.Receive.{Outcome}
+use Rattle.volume.specs.Rows.{freshRow, rowOutcome}
 use Rattle.brick.specs.declared.Given.{Given}
 use Rattle.brick.specs.declared.Given.the-variants.{Answered, Silent, Refused}
 use Rattle.coord_record.specs.Records.{readingKind, geometryOf, idleWith}
@@ -35,8 +34,8 @@ pub data Item : Type 0 where
   message : ℕ → Message → List ℕ → Item
   reply : Reply → List ℕ → Item
 
--- "images, coordinator records, sent messages and up or down bricks": the images by brick, the coordinators with their buffers by number,
--- what was sent in the order of sending.
+-- "images, coordinator records, sent messages and up or down bricks": the images by brick, a brick's in one row, stripe after stripe
+-- (`volume/Rows.imageAt` is the image of a stripe); the coordinators with their buffers by number; what was sent in the order of sending.
 pub record World : Type 0 where
   pub images : ℕ → List ℕ
   pub up : ℕ → Bool
@@ -54,40 +53,44 @@ idle s c =
     }
 
 unfoldable pub freshSet : Settings → World
-freshSet s = record { images = λ (b : ℕ). imageOf s b (Brick.freshBrick s); up = λ (b : ℕ). true; coordinators = idle s; sent = [] }
+freshSet s = record { images = freshRow s; up = λ (b : ℕ). true; coordinators = idle s; sent = [] }
 
 -- What a crash leaves in the buffers beside a coordinator's record: what lay there, or anything else.
 pub data Left : Type 0 where
   untouched : Left
   lost : (blocks stripe : List ℕ) → Left
 
--- "a read or write started at a coordinator with any clock reading" (a write with its bytes, a read with the brick that its targets are
--- counted from), "a sent message reaching its brick, a sent reply reaching its coordinator" (both by place among what was sent, from 0),
+-- "a read or write started at a coordinator with any clock reading" (on a stripe; a write with its bytes, a read with the brick that its
+-- targets are counted from), "a sent message reaching its brick, a sent reply reaching its coordinator" (both by place among what was sent, from 0),
 -- "a coordinator's crash" (with what it leaves in the buffers), "a brick going down or coming up"
 pub data Event : Type 0 where
-  startWrite : (coordinator reading : ℕ) (content : List ℕ) → Event
-  startRead : (coordinator reading first : ℕ) → Event
+  startWrite : (coordinator stripe reading : ℕ) (content : List ℕ) → Event
+  startRead : (coordinator stripe reading first : ℕ) → Event
   arrives : ℕ → Event
   crashes : (coordinator : ℕ) → Left → Event
   goesDown : ℕ → Event
   comesUp : ℕ → Event
 
--- What an event leaves, and what is seen of it: an operation beginning or ending, or nothing.
+-- What an event leaves, and what is seen of it, by stripe: an operation beginning or ending, or nothing.
 pub record Moved (s : Settings) : Type 0 where
   pub world : World
-  pub seen : List (Seen (plain s))
+  pub seen : ℕ → List (Seen (plain s))
 
 -- nothing is changed and nothing is seen
 unfoldable pub unmoved : (s : Settings) → World → Moved s
-unmoved s w = record { world = w; seen = [] }
+unmoved s w = record { world = w; seen = λ (k : ℕ). [] }
 
 -- what came before, and what one event leaves and shows
 abbrev pub joined : (s : Settings) → Moved s → Moved s → Moved s
-joined s r m = record { world = m .world; seen = r .seen ++ m .seen }
+joined s r m = record { world = m .world; seen = λ (k : ℕ). r .seen k ++ m .seen k }
 
 -- a function with another value at one place
 unfoldable pub putAt : {A : Type 0} → (ℕ → A) → ℕ → A → ℕ → A
 putAt f k a j = cond (eqb j k) a (f j)
+
+-- what is seen on one stripe, and nothing on any other
+unfoldable pub onStripe : {A : Type 0} → ℕ → List A → ℕ → List A
+onStripe stripe l k = cond (eqb k stripe) l []
 
 -- The kind of the operation that a coordinator with its buffers has begun: "their kinds and bytes only". A write's bytes are the stripe
 -- beside the record.
@@ -129,7 +132,7 @@ coordinated s w c (went g) =
         coordinators = putAt (w .coordinators) c (g .next);
         sent = w .sent ++ broadcasts s (g .sent);
       };
-      seen = seenOf s (g .seen) (g .next);
+      seen = onStripe (g .seen .stripe) (seenOf s (g .seen) (g .next));
     }
 
 -- What a brick's routine does in the world.
@@ -147,16 +150,16 @@ received s w b o =
         coordinators = w .coordinators;
         sent = w .sent ++ repliedWith (o .given) (o .out);
       };
-      seen = [];
+      seen = λ (k : ℕ). [];
     }
 
 -- "What was sent arrives unaltered, in any order, any number of times or never; at a down brick it is lost."
 unfoldable pub arriving : (s : Settings) → World → Item → Moved s
 arriving s w (message b msg block) =
-    cond (w .up b) (received s w b (outcome s b (w .images b) msg block (replicate (s .size) 0))) (unmoved s w)
+    cond (w .up b) (received s w b (rowOutcome s b (w .images b) msg block (replicate (s .size) 0))) (unmoved s w)
 arriving s w (reply r block) =
     coordinated s w (coordinatorOf (r .time))
-    (takeStep (s .n) (s .m) (s .size) (w .coordinators (coordinatorOf (r .time))) r block (s .n * s .size))
+    (takeStep (s .n) (s .m) (s .size) (s .stripes) (w .coordinators (coordinatorOf (r .time))) r block (s .n * s .size))
 
 -- the item at a place, if so many were sent: "one naming a message not sent so far" changes nothing
 unfoldable pub arrivingAt : (s : Settings) → World → List Item → ℕ → Moved s
@@ -168,7 +171,7 @@ arrivingAt s w (i ∷ is) (suc k) = arrivingAt s w is k
 unfoldable pub standing : (s : Settings) → World → ℕ → Bool → Moved s
 standing s w b how =
     cond (ltb b (s .n))
-    (record { world = record { images = w .images; up = putAt (w .up) b how; coordinators = w .coordinators; sent = w .sent }; seen = [] })
+    (record { world = record { images = w .images; up = putAt (w .up) b how; coordinators = w .coordinators; sent = w .sent }; seen = λ (k : ℕ). [] })
     (unmoved s w)
 
 -- lists of the lengths that the settings ask for: n blocks of replies, m of the stripe
@@ -188,13 +191,13 @@ leftBy s left (went g) = went (record { next = leaving s left (g .next); sent = 
 
 -- A start's content is bytes: with other numbers no such call can be made, and nothing is changed.
 unfoldable pub step : (s : Settings) → World → Event → Moved s
-step s w (startWrite c reading content) =
+step s w (startWrite c stripe reading content) =
     cond (areBytes content)
-    (coordinated s w c (writeStep (s .n) (s .m) (s .size) (w .coordinators c) reading content))
+    (coordinated s w c (writeStep (s .n) (s .m) (s .size) (s .stripes) (w .coordinators c) stripe reading content))
     (unmoved s w)
-step s w (startRead c reading first) = coordinated s w c (readStep (s .n) (s .m) (s .size) (w .coordinators c) reading first)
+step s w (startRead c stripe reading first) = coordinated s w c (readStep (s .n) (s .m) (s .size) (s .stripes) (w .coordinators c) stripe reading first)
 step s w (arrives k) = arrivingAt s w (w .sent) k
-step s w (crashes c left) = coordinated s w c (leftBy s left (crashStep (s .n) (s .m) (s .size) (w .coordinators c)))
+step s w (crashes c left) = coordinated s w c (leftBy s left (crashStep (s .n) (s .m) (s .size) (s .stripes) (w .coordinators c)))
 step s w (goesDown b) = standing s w b false
 step s w (comesUp b) = standing s w b true
 
@@ -210,6 +213,6 @@ runFrom s r (e ∷ es) = runFrom s (nextMoved s r e) es
 unfoldable pub run : (s : Settings) → List Event → Moved s
 run s events = runFrom s (unmoved s (freshSet s)) events
 
--- Demand 3 of a run.
+-- Demand 3 of a run: "The order of operations is promised stripe by stripe".
 abbrev pub RunHasOneOrder : (s : Settings) → List Event → Type 0
-RunHasOneOrder s events = OneOrder (plain s) (run s events .seen)
+RunHasOneOrder s events = (stripe : ℕ) → stripe < s .stripes → OneOrder (plain s) (run s events .seen stripe)

@@ -1,4 +1,4 @@
--- Document 01, "Refused by number, lowest first": the twelve numbers. 0 stands for "not refused".
+-- Document 01, "Refused by number, lowest first": the twelve numbers, and those that requests added. 0 stands for "not refused".
 -- A refusal returns its number alone, and every image, record and buffer keeps its bytes.
 use mathlib.Core.Bool.{Bool, cond}
 use mathlib.Core.List.{List, [], _∷_}
@@ -64,3 +64,7 @@ strayReply = 11
 -- a bench line that doesn't read, or that names or would send what it may not
 abbrev pub badLine : ℕ
 badLine = 12
+
+-- E1: "a stripe not below S or a client block not below S × m, checked after 3"
+abbrev pub badStripe : ℕ
+badStripe = 13

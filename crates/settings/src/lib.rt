@@ -1,6 +1,6 @@
-// The settings of a set, the quorum, and times (document 01, "Settings and the code", "Times").
+// The settings of a set, the quorum, and times (document 01, "Settings and the code", "Times"); the stripes of a volume (E1).
 ghost use mathlib.Core.Path.{_≡_};
-ghost use Rattle.settings.specs.Ranges.{settingsRefusal, codeRefusal, quorum};
+ghost use Rattle.settings.specs.Ranges.{settingsRefusal, codeRefusal, stripeCountRefusal, stripeRefusal, quorum};
 ghost use Rattle.settings.specs.Times.{drawOf, drawRefusal, numberOf, validTime};
 
 // "n is 1 to 16": so a set of bricks has 16 places.
@@ -13,6 +13,9 @@ pub const MAX_SIZE: usize = 256;
 pub const MIN_CAPACITY: usize = 2;
 
 pub const MAX_CAPACITY: usize = 32;
+
+// "A volume has 1 to 64 stripes".
+pub const MAX_STRIPES: usize = 64;
 
 // Coordinators are numbered 0 to 15.
 pub const COORDINATOR_COUNT: u64 = 16;
@@ -46,18 +49,21 @@ pub const STRAY_REPLY: u32 = 11;
 
 pub const BAD_LINE: u32 = 12;
 
+pub const BAD_STRIPE: u32 = 13;
+
 // The largest count of a time, 2^40 - 1.
 pub const MAX_COUNT: u64 = 1099511627775;
 
 // "No upper end", 2^44.
 pub const NO_UPPER_END: u64 = 17592186044416;
 
-// n bricks, m data blocks, bytes a block, entries a log.
+// n bricks, m data blocks, bytes a block, entries a log, stripes of the volume.
 pub struct Settings {
     pub n: usize,
     pub m: usize,
     pub size: usize,
     pub capacity: usize,
+    pub stripes: usize,
 }
 
 // 1 where n, m or the block size is outside its range, else 0.
@@ -85,6 +91,29 @@ pub fn code_refusal(n: usize, m: usize, size: usize) -> u32
     PASSED
 }
 
+// 1 where a volume has no such number of stripes, else 0.
+pub fn stripe_count_refusal(stripes: usize) -> u32
+    ensures { λ r. ⌜ r ≡ stripeCountRefusal stripes ⌝ }
+{
+    if stripes < 1 {
+        return BAD_SETTING;
+    }
+    if MAX_STRIPES < stripes {
+        return BAD_SETTING;
+    }
+    PASSED
+}
+
+// 13 for a stripe that the volume does not have, else 0.
+pub fn stripe_refusal(stripes: usize, stripe: usize) -> u32
+    ensures { λ r. ⌜ r ≡ stripeRefusal stripes stripe ⌝ }
+{
+    if stripes <= stripe {
+        return BAD_STRIPE;
+    }
+    PASSED
+}
+
 impl Settings {
     // 1 where a setting is outside its range, else 0.
     pub fn refusal(self) -> u32
@@ -100,7 +129,7 @@ impl Settings {
         if MAX_CAPACITY < self.capacity {
             return BAD_SETTING;
         }
-        PASSED
+        stripe_count_refusal(self.stripes)
     }
 }
 

@@ -20,35 +20,38 @@ use Rattle.settings.specs.Count.{one-if}
 use Rattle.settings.specs.Ranges.{maxBricks, settingsRefusal}
 use Rattle.settings.specs.Refusal.{passed, refuseUnless, firstRefusal, badLength}
 use Rattle.settings.specs.declared.Settings.{Settings}
+use Rattle.volume.specs.Rows.{rowLendingRefusal, freshRowAfter, rowOutcome}
 use Rattle.image_view.specs.View.{foundNumber, foundOf}
 use Rattle.image_view.specs.declared.Found.{Found}
 use Rattle.image_view.specs.declared.Found.the-variants.{At}
 
--- settings of these numbers
-abbrev pub settingsFor : ℕ → ℕ → ℕ → ℕ → Settings
-settingsFor n m size capacity = record { n = n; m = m; size = size; capacity = capacity }
-
--- the lengths of the boundary's own buffers: two numbers of the panel or of an entry, twenty of a message, seven of a reply
+-- the lengths of the boundary's own buffers: two numbers of the panel or of an entry, 21 of a message, eight of a reply
 abbrev pub pairLength : ℕ
 pairLength = 2
 
 abbrev pub messageLength : ℕ
-messageLength = 20
+messageLength = 21
 
 abbrev pub replyLength : ℕ
-replyLength = 7
+replyLength = 8
 
 -- 1, a setting outside its range; then 2, where one of the boundary's own buffers has another length
 unfoldable pub ownRefusal : Settings → Bool → ℕ
 ownRefusal s right = firstRefusal (settingsRefusal s ∷ refuseUnless right badLength ∷ [])
 
--- A fresh image: the number, and the image afterwards.
+-- A fresh brick: the number, and the image afterwards, or the row of images.
 pub record FreshGiven : Type 0 where
   pub number : ℕ
   pub image : List ℕ
 
-unfoldable pub freshAt : Settings → ℕ → List ℕ → FreshGiven
-freshAt s brick image = record { number = lendingRefusal s brick (length image); image = freshAfter s brick image }
+abbrev pub freshWith : ℕ → List ℕ → FreshGiven
+freshWith number image = record { number = number; image = image }
+
+abbrev pub freshAt : Settings → ℕ → List ℕ → FreshGiven
+freshAt s brick image = freshWith (lendingRefusal s brick (length image)) (freshAfter s brick image)
+
+abbrev pub freshRowAt : Settings → ℕ → List ℕ → FreshGiven
+freshRowAt s brick row = freshWith (rowLendingRefusal s brick (length row)) (freshRowAfter s brick row)
 
 -- The panel, and the entry at a place: the number, and what the buffer of two numbers holds afterwards.
 pub record PairGiven : Type 0 where
@@ -82,7 +85,7 @@ unfoldable pub entryPairAt : Settings → ℕ → List ℕ → ℕ → List ℕ 
 entryPairAt s brick image place old =
     pairUnless (ownRefusal s (eqb (length old) pairLength)) old (entryPair (foundOf (parse s brick image) place) old)
 
--- where a message's numbers stand: kind, time, round, max, and a flag for each brick that a set may have
+-- where a message's numbers stand: kind, time, round, max, stripe, and a flag for each brick that a set may have
 abbrev pub askedKindAt : ℕ
 askedKindAt = 0
 
@@ -95,8 +98,11 @@ askedRoundAt = 2
 abbrev pub askedMaxAt : ℕ
 askedMaxAt = 3
 
+abbrev pub askedStripeAt : ℕ
+askedStripeAt = 4
+
 abbrev pub askedTargetsAt : ℕ
-askedTargetsAt = 4
+askedTargetsAt = 5
 
 -- the last byte, which is no kind and no flag
 abbrev pub lastByte : ℕ
@@ -110,23 +116,27 @@ asByte k = cond (leb k lastByte) k lastByte
 unfoldable pub asBytes : ℕ → ℕ → List ℕ → List ℕ
 asBytes at count l = tabulate count (λ (i : ℕ). asByte (getD l (at + i) 0))
 
--- the message of twenty numbers
+-- the message of 21 numbers
 unfoldable pub messageOf : List ℕ → Message
 messageOf asked =
     record {
       kind = asByte (getD asked askedKindAt 0);
+      stripe = getD asked askedStripeAt 0;
       time = getD asked askedTimeAt 0;
       round = getD asked askedRoundAt 0;
       max = getD asked askedMaxAt 0;
       targets = asBytes askedTargetsAt maxBricks asked;
     }
 
--- A message: the number, and what the image and the two buffers of the reply hold afterwards.
+-- A message: the number, and what the image (or the row of images) and the two buffers of the reply hold afterwards.
 pub record ReceiptGiven : Type 0 where
   pub number : ℕ
   pub image : List ℕ
   pub out : List ℕ
   pub reply : List ℕ
+
+abbrev pub receiptWith : ℕ → (image out reply : List ℕ) → ReceiptGiven
+receiptWith number image out reply = record { number = number; image = image; out = out; reply = reply }
 
 -- the number that tells silence from a reply and from every refusal
 abbrev pub silence : ℕ
@@ -138,9 +148,9 @@ answerCode (Answered r) = givenNumber (Answered r)
 answerCode Silent = silence
 answerCode (Refused number) = givenNumber (Refused number)
 
--- a reply as seven numbers
+-- a reply as eight numbers
 unfoldable pub replyNumbers : Reply → List ℕ
-replyNumbers r = r .kind ∷ r .brick ∷ r .time ∷ r .round ∷ one-if (r .yes) ∷ r .found ∷ one-if (r .held) ∷ []
+replyNumbers r = r .kind ∷ r .brick ∷ r .time ∷ r .round ∷ one-if (r .yes) ∷ r .found ∷ one-if (r .held) ∷ r .stripe ∷ []
 
 -- the reply's numbers, or the buffer as it was
 unfoldable pub givenBuffer : Given → List ℕ → List ℕ
@@ -149,18 +159,21 @@ givenBuffer Silent old = old
 givenBuffer (Refused number) old = old
 
 unfoldable pub receipt : Outcome → List ℕ → ReceiptGiven
-receipt o reply = record { number = answerCode (o .given); image = o .image; out = o .out; reply = givenBuffer (o .given) reply }
+receipt o reply = receiptWith (answerCode (o .given)) (o .image) (o .out) (givenBuffer (o .given) reply)
 
 -- the lengths of the message's numbers and of the reply's
 unfoldable pub numbersRight : ℕ → ℕ → Bool
 numbersRight asked reply = eqb asked messageLength && eqb reply replyLength
 
--- what is given where nothing is refused before; else that number, and all as it was
-unfoldable pub receiptUnless : ℕ → (image out reply : List ℕ) → ReceiptGiven → ReceiptGiven
-receiptUnless refusal image out reply given =
-    cond (eqb refusal passed) given (record { number = refusal; image = image; out = out; reply = reply })
+-- what the brick gives, where the boundary itself refuses nothing before; else that number, and all as it was
+unfoldable pub receiptAt : Settings → (asked image out reply : List ℕ) → Outcome → ReceiptGiven
+receiptAt s asked image out reply o =
+    let refusal : ℕ = ownRefusal s (numbersRight (length asked) (length reply)) in
+    cond (eqb refusal passed) (receipt o reply) (receiptWith refusal image out reply)
 
-unfoldable pub receiptAt : Settings → ℕ → (asked block image out reply : List ℕ) → ReceiptGiven
-receiptAt s brick asked block image out reply =
-    receiptUnless (ownRefusal s (numbersRight (length asked) (length reply))) image out reply
-    (receipt (outcome s brick image (messageOf asked) block out) reply)
+-- a message at one image, and at the images of all stripes
+abbrev pub receivedAt : Settings → ℕ → (asked block image out reply : List ℕ) → ReceiptGiven
+receivedAt s brick asked block image out reply = receiptAt s asked image out reply (outcome s brick image (messageOf asked) block out)
+
+abbrev pub rowReceivedAt : Settings → ℕ → (asked block row out reply : List ℕ) → ReceiptGiven
+rowReceivedAt s brick asked block row out reply = receiptAt s asked row out reply (rowOutcome s brick row (messageOf asked) block out)

@@ -1,10 +1,13 @@
-// The brick at a C boundary of numbers and slices, for the tests and benchmarks that compare it with other code. Every routine refuses
-// the lowest number first: 1, then 2 for a buffer of the boundary itself, then what the brick refuses.
+// The brick at a C boundary of numbers and slices, for the tests and benchmarks that compare it with other code: brick_.. with its image of
+// one stripe, volume_.. with the images of all stripes in one row. Every routine refuses the lowest number first: 1, then 2 for a buffer of
+// the boundary itself, then what the brick refuses.
 ghost use mathlib.Core.Path.{_≡_};
 ghost use Prim.Native.Nat.{_+_, _≤_};
 ghost use lib.ListN.{length};
-ghost use Rattle.test_brick.specs.BrickBoundary.{settingsFor, messageLength, replyLength, ownRefusal, freshAt, panelAt, entryPairAt};
-ghost use Rattle.test_brick.specs.BrickBoundary.{asByte, asBytes, messageOf, numbersRight, replyNumbers, answerCode, givenBuffer, receiptAt};
+ghost use Rattle.test_brick.specs.BrickBoundary.{messageLength, replyLength, ownRefusal, freshWith, freshAt, freshRowAt, panelAt, entryPairAt};
+ghost use Rattle.test_brick.specs.BrickBoundary.{asByte, asBytes, messageOf, numbersRight, replyNumbers, answerCode, givenBuffer};
+ghost use Rattle.test_brick.specs.BrickBoundary.{receiptWith, receivedAt, rowReceivedAt};
+ghost use Rattle.volume.specs.ClientPlaces.{settingsWith};
 ghost use Rattle.settings.specs.Count.{one-if};
 use brick::Given;
 use image::Shown;
@@ -21,7 +24,7 @@ use settings::Settings;
 const PAIR_LENGTH: usize = 2;
 
 // The numbers of a message, and where they stand: the last sixteen are the flags of its targets.
-const MESSAGE_LENGTH: usize = 20;
+const MESSAGE_LENGTH: usize = 21;
 
 const KIND: usize = 0;
 
@@ -31,13 +34,15 @@ const ROUND: usize = 2;
 
 const MAX: usize = 3;
 
-const TARGETS: usize = 4;
+const STRIPE: usize = 4;
+
+const TARGETS: usize = 5;
 
 // The last byte, which is no kind and no flag.
 const LAST_BYTE: u64 = 255;
 
 // The numbers of a reply.
-const REPLY_LENGTH: usize = 7;
+const REPLY_LENGTH: usize = 8;
 
 // The number that tells silence from a reply and from every refusal.
 const SILENCE: u32 = 100;
@@ -73,19 +78,45 @@ pub extern "C" fn brick_fresh(
     m: usize,
     size: usize,
     capacity: usize,
+    stripes: usize,
     brick: usize,
     image: &mut [u8],
 ) -> u32
     ensures { λ r. ⌜
-        record { number = r; image = now (image .exit) } ≡ freshAt (settingsFor n m size capacity) brick (now (image .entry)) ⌝ }
+        freshWith r (now (image .exit)) ≡ freshAt (settingsWith n m size capacity stripes) brick (now (image .entry)) ⌝ }
 {
     let s = Settings {
-        n: n,
-        m: m,
-        size: size,
-        capacity: capacity,
+        n,
+        m,
+        size,
+        capacity,
+        stripes,
     };
     image_write::write_fresh(s, brick, image)
+}
+
+// A fresh image for each stripe.
+#[no_mangle]
+pub extern "C" fn volume_fresh(
+    n: usize,
+    m: usize,
+    size: usize,
+    capacity: usize,
+    stripes: usize,
+    brick: usize,
+    images: &mut [u8],
+) -> u32
+    ensures { λ r. ⌜
+        freshWith r (now (images .exit)) ≡ freshRowAt (settingsWith n m size capacity stripes) brick (now (images .entry)) ⌝ }
+{
+    let s = Settings {
+        n,
+        m,
+        size,
+        capacity,
+        stripes,
+    };
+    volume::write_fresh(s, brick, images)
 }
 
 // The panel's two times, into a buffer of two numbers.
@@ -95,19 +126,21 @@ pub extern "C" fn brick_panel(
     m: usize,
     size: usize,
     capacity: usize,
+    stripes: usize,
     brick: usize,
     image: &[u8],
     times: &mut [u64],
 ) -> u32
     ensures { λ r. ⌜
         record { number = r; pair = now (times .exit) }
-        ≡ panelAt (settingsFor n m size capacity) brick (now (image .entry)) (now (times .entry)) ⌝ }
+        ≡ panelAt (settingsWith n m size capacity stripes) brick (now (image .entry)) (now (times .entry)) ⌝ }
 {
     let s = Settings {
-        n: n,
-        m: m,
-        size: size,
-        capacity: capacity,
+        n,
+        m,
+        size,
+        capacity,
+        stripes,
     };
     let refusal = own_refusal(s, times.len() == PAIR_LENGTH);
     if refusal != PASSED {
@@ -131,6 +164,7 @@ pub extern "C" fn brick_entry(
     m: usize,
     size: usize,
     capacity: usize,
+    stripes: usize,
     brick: usize,
     image: &[u8],
     place: usize,
@@ -138,13 +172,14 @@ pub extern "C" fn brick_entry(
 ) -> u32
     ensures { λ r. ⌜
         record { number = r; pair = now (found .exit) }
-        ≡ entryPairAt (settingsFor n m size capacity) brick (now (image .entry)) place (now (found .entry)) ⌝ }
+        ≡ entryPairAt (settingsWith n m size capacity stripes) brick (now (image .entry)) place (now (found .entry)) ⌝ }
 {
     let s = Settings {
-        n: n,
-        m: m,
-        size: size,
-        capacity: capacity,
+        n,
+        m,
+        size,
+        capacity,
+        stripes,
     };
     let refusal = own_refusal(s, found.len() == PAIR_LENGTH);
     if refusal != PASSED {
@@ -163,7 +198,7 @@ pub extern "C" fn brick_entry(
     }
 }
 
-// A reply into a buffer of seven numbers.
+// A reply into a buffer of eight numbers.
 fn put_reply(r: Reply, reply: &mut [u64])
     requires { ⌜ length (now reply) ≡ replyLength ⌝ }
     ensures { λ _. ⌜ now (reply .exit) ≡ replyNumbers r ⌝ }
@@ -175,6 +210,7 @@ fn put_reply(r: Reply, reply: &mut [u64])
     reply[4] = flag(r.yes);
     reply[5] = r.found;
     reply[6] = flag(r.held);
+    reply[7] = r.stripe as u64;
 }
 
 // What a brick gave, into the reply's buffer: 0 a reply, or silence, or the refusal.
@@ -215,7 +251,7 @@ fn as_bytes(l: &[u64], at: usize, out: &mut [u8])
     }
 }
 
-// The message of twenty numbers.
+// The message of 21 numbers.
 fn message_of(asked: &[u64]) -> Message
     requires { ⌜ length (now asked) ≡ messageLength ⌝ }
     ensures { λ r. ⌜ r ≡ messageOf (now (asked .entry)) ⌝ }
@@ -225,6 +261,7 @@ fn message_of(asked: &[u64]) -> Message
     as_bytes(asked, TARGETS, &mut targets);
     Message {
         kind,
+        stripe: asked[STRIPE] as usize,
         time: asked[TIME],
         round: asked[ROUND],
         max: asked[MAX],
@@ -242,13 +279,15 @@ fn numbers_right(asked: usize, reply: usize) -> bool
     reply == REPLY_LENGTH
 }
 
-// One message at one brick: twenty numbers in (kind, time, round, max, 16 flags for the targets), seven numbers out.
+// One message at one image of a brick: 21 numbers in (kind, time, round, max, stripe, 16 flags for the targets), eight numbers out (kind,
+// brick, time, round, yes, found, held, stripe).
 #[no_mangle]
 pub extern "C" fn brick_receive(
     n: usize,
     m: usize,
     size: usize,
     capacity: usize,
+    stripes: usize,
     brick: usize,
     image: &mut [u8],
     asked: &[u64],
@@ -257,15 +296,16 @@ pub extern "C" fn brick_receive(
     reply: &mut [u64],
 ) -> u32
     ensures { λ r. ⌜
-        record { number = r; image = now (image .exit); out = now (out .exit); reply = now (reply .exit) }
-        ≡ receiptAt (settingsFor n m size capacity) brick (now (asked .entry)) (now (block .entry))
+        receiptWith r (now (image .exit)) (now (out .exit)) (now (reply .exit))
+        ≡ receivedAt (settingsWith n m size capacity stripes) brick (now (asked .entry)) (now (block .entry))
         (now (image .entry)) (now (out .entry)) (now (reply .entry)) ⌝ }
 {
     let s = Settings {
-        n: n,
-        m: m,
-        size: size,
-        capacity: capacity,
+        n,
+        m,
+        size,
+        capacity,
+        stripes,
     };
     let refusal = own_refusal(s, numbers_right(asked.len(), reply.len()));
     if refusal != PASSED {
@@ -273,5 +313,41 @@ pub extern "C" fn brick_receive(
     }
     let msg = message_of(asked);
     let g = brick::receive(s, brick, image, msg, block, out);
+    put_given(g, reply)
+}
+
+// The same at a brick with the images of all stripes in one row.
+#[no_mangle]
+pub extern "C" fn volume_receive(
+    n: usize,
+    m: usize,
+    size: usize,
+    capacity: usize,
+    stripes: usize,
+    brick: usize,
+    images: &mut [u8],
+    asked: &[u64],
+    block: &[u8],
+    out: &mut [u8],
+    reply: &mut [u64],
+) -> u32
+    ensures { λ r. ⌜
+        receiptWith r (now (images .exit)) (now (out .exit)) (now (reply .exit))
+        ≡ rowReceivedAt (settingsWith n m size capacity stripes) brick (now (asked .entry)) (now (block .entry))
+        (now (images .entry)) (now (out .entry)) (now (reply .entry)) ⌝ }
+{
+    let s = Settings {
+        n,
+        m,
+        size,
+        capacity,
+        stripes,
+    };
+    let refusal = own_refusal(s, numbers_right(asked.len(), reply.len()));
+    if refusal != PASSED {
+        return refusal;
+    }
+    let msg = message_of(asked);
+    let g = volume::receive(s, brick, images, msg, block, out);
     put_given(g, reply)
 }

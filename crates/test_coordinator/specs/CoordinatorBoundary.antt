@@ -10,18 +10,18 @@ use Rattle.coord_apply.specs.declared.Answer.{Answer}
 use Rattle.coord_record.specs.declared.Coordinator.{Coordinator}
 use Rattle.coordinator.specs.Routines.{writeCall, readCall, takeCall, crashCall}
 use Rattle.message.specs.declared.Reply.{Reply}
-use Rattle.settings.specs.Ranges.{maxBricks, codeRefusal}
+use Rattle.settings.specs.Ranges.{maxBricks, codeRefusal, stripeCountRefusal}
 use Rattle.settings.specs.Refusal.{passed, refuseUnless, firstRefusal, badLength}
 
 -- how many numbers and bytes a record has, and an answer
 abbrev pub recordNumbersLength : ℕ
-recordNumbersLength = 25
+recordNumbersLength = 27
 
 abbrev pub recordBytesLength : ℕ
 recordBytesLength = 66
 
 abbrev pub answerNumbersLength : ℕ
-answerNumbersLength = 8
+answerNumbersLength = 11
 
 abbrev pub answerBytesLength : ℕ
 answerBytesLength = 52
@@ -54,8 +54,14 @@ recordMAt = 7
 abbrev pub recordSizeAt : ℕ
 recordSizeAt = 8
 
+abbrev pub recordStripesAt : ℕ
+recordStripesAt = 9
+
+abbrev pub recordStripeAt : ℕ
+recordStripeAt = 10
+
 abbrev pub recordFoundAt : ℕ
-recordFoundAt = 9
+recordFoundAt = 11
 
 -- where its bytes stand
 abbrev pub kindAt : ℕ
@@ -89,11 +95,11 @@ secondTargetsAt = 35
 abbrev pub secondKindAt : ℕ
 secondKindAt = 51
 
--- a record's 25 numbers: clock, time, round, max, first, the settings that it is for, and the times found
+-- a record's 27 numbers: clock, time, round, max, first, the settings that it is for, the operation's stripe, and the times found
 unfoldable pub recordNumbers : Coordinator → List ℕ
 recordNumbers c =
     c .clock .coordinator ∷ c .clock .last ∷ c .op .time ∷ c .op .round ∷ c .op .max ∷ c .op .first
-    ∷ c .geometry .n ∷ c .geometry .m ∷ c .geometry .size ∷ c .tally .found
+    ∷ c .geometry .n ∷ c .geometry .m ∷ c .geometry .size ∷ c .geometry .stripes ∷ c .op .stripe ∷ c .tally .found
 
 -- its 66 bytes: kind, phase, and the rows counted, granted, held and bricks
 unfoldable pub recordBytes : Coordinator → List ℕ
@@ -107,12 +113,19 @@ rowAt at l = take maxBricks (drop at l)
 unfoldable pub recordFor : List ℕ → List ℕ → Coordinator
 recordFor numbers bytes =
     record {
-      geometry = record { n = getD numbers recordNAt 0; m = getD numbers recordMAt 0; size = getD numbers recordSizeAt 0 };
+      geometry =
+          record {
+            n = getD numbers recordNAt 0;
+            m = getD numbers recordMAt 0;
+            size = getD numbers recordSizeAt 0;
+            stripes = getD numbers recordStripesAt 0;
+          };
       clock = record { coordinator = getD numbers coordinatorAt 0; last = getD numbers lastAt 0 };
       op =
           record {
             kind = getD bytes kindAt 0;
             phase = getD bytes phaseAt 0;
+            stripe = getD numbers recordStripeAt 0;
             time = getD numbers recordTimeAt 0;
             round = getD numbers roundAt 0;
             max = getD numbers maxAt 0;
@@ -122,11 +135,13 @@ recordFor numbers bytes =
       bricks = rowAt bricksAt bytes;
     }
 
--- an answer's 8 numbers: broadcasts; time, round and max of the first message; time of what is seen; the same three of the second message
+-- an answer's 11 numbers: broadcasts; time, round and max of the first message; time of what is seen; the same three of the second message;
+-- the stripes of these three
 unfoldable pub answerNumbers : Answer → List ℕ
 answerNumbers a =
     a .sent ∷ a .message .time ∷ a .message .round ∷ a .message .max ∷ a .seen .time
-    ∷ a .second .time ∷ a .second .round ∷ a .second .max ∷ []
+    ∷ a .second .time ∷ a .second .round ∷ a .second .max
+    ∷ a .message .stripe ∷ a .seen .stripe ∷ a .second .stripe ∷ []
 
 -- its 52 bytes: kind of the first message; what is seen, of which kind; targets of the first message, bricks seen;
 -- targets and kind of the second message
@@ -166,12 +181,12 @@ abbrev pub atBoundary : ℕ → Rows → (blocks stripe coded : List ℕ) → At
 atBoundary number l blocks stripe coded = record { number = number; laid = l; blocks = blocks; stripe = stripe; coded = coded }
 
 -- 1, a setting outside its range; then 2, where one of the four buffers has another length
-unfoldable pub lentRefusal : ℕ → ℕ → ℕ → ℕ → ℕ → ℕ → ℕ → ℕ
-lentRefusal n m size numbers bytes sent shown =
-    firstRefusal (codeRefusal n m size ∷ refuseUnless (lentLengths numbers bytes sent shown) badLength ∷ [])
+unfoldable pub lentRefusal : (n m size stripes numbers bytes sent shown : ℕ) → ℕ
+lentRefusal n m size stripes numbers bytes sent shown =
+    firstRefusal (codeRefusal n m size ∷ stripeCountRefusal stripes ∷ refuseUnless (lentLengths numbers bytes sent shown) badLength ∷ [])
 
-abbrev pub rowsRefusal : ℕ → ℕ → ℕ → Rows → ℕ
-rowsRefusal n m size l = lentRefusal n m size (length (l .numbers)) (length (l .bytes)) (length (l .sent)) (length (l .shown))
+abbrev pub rowsRefusal : (n m size stripes : ℕ) → Rows → ℕ
+rowsRefusal n m size stripes l = lentRefusal n m size stripes (length (l .numbers)) (length (l .bytes)) (length (l .sent)) (length (l .shown))
 
 -- a call at the boundary: its answer laid out; or refused by the boundary itself, and nothing changed
 unfoldable pub crossing : ℕ → Rows → (blocks stripe coded : List ℕ) → Returned → AtBoundary
@@ -183,24 +198,26 @@ crossing refusal l blocks stripe coded r =
 unfoldable pub rowPut : ℕ → List ℕ → List ℕ → List ℕ
 rowPut at row l = take at l ++ (row ++ drop (at + maxBricks) l)
 
-abbrev pub replyFor : ℕ → ℕ → ℕ → ℕ → Bool → ℕ → Bool → Reply
-replyFor kind brick time round said found held =
-    record { kind = kind; brick = brick; time = time; round = round; yes = said; found = found; held = held }
+abbrev pub replyFor : (kind brick stripe time round : ℕ) → Bool → ℕ → Bool → Reply
+replyFor kind brick stripe time round said found held =
+    record { kind = kind; brick = brick; stripe = stripe; time = time; round = round; yes = said; found = found; held = held }
 
--- The four routines. A buffer that a routine is not lent is none here.
-module _ (n m size : ℕ) (l : Rows) where
-  abbrev pub wrote : ℕ → (given stripe : List ℕ) → AtBoundary
-  wrote reading given stripe =
-      crossing (rowsRefusal n m size l) l [] stripe [] (writeCall n m size (recordFor (l .numbers) (l .bytes)) [] stripe [] reading given)
+-- The four routines. A buffer that a routine is not lent is none here. The number of a stripe is `number`.
+module _ (n m size stripes : ℕ) (l : Rows) where
+  abbrev pub wrote : (number reading : ℕ) → (given stripe : List ℕ) → AtBoundary
+  wrote number reading given stripe =
+      crossing (rowsRefusal n m size stripes l) l [] stripe []
+      (writeCall n m size stripes (recordFor (l .numbers) (l .bytes)) [] stripe [] number reading given)
 
-  abbrev pub looked : ℕ → ℕ → AtBoundary
-  looked reading first =
-      crossing (rowsRefusal n m size l) l [] [] [] (readCall n m size (recordFor (l .numbers) (l .bytes)) [] [] [] reading first)
+  abbrev pub looked : (number reading first : ℕ) → AtBoundary
+  looked number reading first =
+      crossing (rowsRefusal n m size stripes l) l [] [] []
+      (readCall n m size stripes (recordFor (l .numbers) (l .bytes)) [] [] [] number reading first)
 
   abbrev pub took : Reply → (block blocks stripe coded : List ℕ) → AtBoundary
   took reply block blocks stripe coded =
-      crossing (rowsRefusal n m size l) l blocks stripe coded
-      (takeCall n m size (recordFor (l .numbers) (l .bytes)) blocks stripe coded reply block)
+      crossing (rowsRefusal n m size stripes l) l blocks stripe coded
+      (takeCall n m size stripes (recordFor (l .numbers) (l .bytes)) blocks stripe coded reply block)
 
   abbrev pub fell : AtBoundary
-  fell = crossing (rowsRefusal n m size l) l [] [] [] (crashCall n m size (recordFor (l .numbers) (l .bytes)) [] [] [])
+  fell = crossing (rowsRefusal n m size stripes l) l [] [] [] (crashCall n m size stripes (recordFor (l .numbers) (l .bytes)) [] [] [])

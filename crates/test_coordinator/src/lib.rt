@@ -1,5 +1,5 @@
 // The coordinator at a C boundary of numbers and slices, for the tests and benchmarks that compare it with other code. Every routine is
-// lent four buffers: the record's 25 numbers and 66 bytes, and the answer's 8 numbers and 52 bytes. A refusal leaves them as they were;
+// lent four buffers: the record's 27 numbers and 66 bytes, and the answer's 11 numbers and 52 bytes. A refusal leaves them as they were;
 // the lowest number comes first: 1, then 2 for one of these buffers, then what the coordinator refuses.
 ghost use mathlib.Core.Path.{_≡_};
 ghost use mathlib.Core.List.{[]};
@@ -20,11 +20,11 @@ use settings::Clock;
 use settings::MAX_BRICKS;
 
 // How many numbers and bytes a record has, and an answer.
-const RECORD_NUMBERS: usize = 25;
+const RECORD_NUMBERS: usize = 27;
 
 const RECORD_BYTES: usize = 66;
 
-const ANSWER_NUMBERS: usize = 8;
+const ANSWER_NUMBERS: usize = 11;
 
 const ANSWER_BYTES: usize = 52;
 
@@ -47,7 +47,11 @@ const RECORD_M: usize = 7;
 
 const RECORD_SIZE: usize = 8;
 
-const FOUND: usize = 9;
+const RECORD_STRIPES: usize = 9;
+
+const RECORD_STRIPE: usize = 10;
+
+const FOUND: usize = 11;
 
 // Where its bytes stand.
 const KIND: usize = 0;
@@ -62,7 +66,7 @@ const HELD: usize = 34;
 
 const BRICKS: usize = 50;
 
-// Where an answer's numbers stand: how many broadcasts are sent, the message, what is seen, the second message.
+// Where an answer's numbers stand: how many broadcasts are sent, the message, what is seen, the second message, and their stripes.
 const SENT: usize = 0;
 
 const MESSAGE_TIME: usize = 1;
@@ -78,6 +82,12 @@ const SECOND_MESSAGE_TIME: usize = 5;
 const SECOND_MESSAGE_ROUND: usize = 6;
 
 const SECOND_MESSAGE_MAX: usize = 7;
+
+const MESSAGE_STRIPE: usize = 8;
+
+const SEEN_STRIPE: usize = 9;
+
+const SECOND_MESSAGE_STRIPE: usize = 10;
 
 // Where its bytes stand, then its rows, and the kind of its second message.
 const MESSAGE_KIND: usize = 0;
@@ -115,16 +125,21 @@ fn lent_refusal(
     n: usize,
     m: usize,
     size: usize,
+    stripes: usize,
     numbers: usize,
     bytes: usize,
     sent: usize,
     shown: usize,
 ) -> u32
-    ensures { λ r. ⌜ r ≡ lentRefusal n m size numbers bytes sent shown ⌝ }
+    ensures { λ r. ⌜ r ≡ lentRefusal n m size stripes numbers bytes sent shown ⌝ }
 {
     let bad = settings::code_refusal(n, m, size);
     if bad != settings::PASSED {
         return bad;
+    }
+    let many = settings::stripe_count_refusal(stripes);
+    if many != settings::PASSED {
+        return many;
     }
     if lent_right(numbers, bytes, sent, shown) {
         return settings::PASSED;
@@ -192,6 +207,7 @@ fn record_of(numbers: &[u64], bytes: &[u8]) -> Coordinator
         n: numbers[RECORD_N] as usize,
         m: numbers[RECORD_M] as usize,
         size: numbers[RECORD_SIZE] as usize,
+        stripes: numbers[RECORD_STRIPES] as usize,
     };
     let clock = Clock {
         coordinator: numbers[COORDINATOR],
@@ -200,6 +216,7 @@ fn record_of(numbers: &[u64], bytes: &[u8]) -> Coordinator
     let op = Op {
         kind: bytes[KIND],
         phase: bytes[PHASE],
+        stripe: numbers[RECORD_STRIPE] as usize,
         time: numbers[TIME],
         round: numbers[ROUND],
         max: numbers[MAX],
@@ -275,6 +292,8 @@ fn put_numbers(c: Coordinator, out: &mut [u64])
     out[RECORD_N] = geometry.n as u64;
     out[RECORD_M] = geometry.m as u64;
     out[RECORD_SIZE] = geometry.size as u64;
+    out[RECORD_STRIPES] = geometry.stripes as u64;
+    out[RECORD_STRIPE] = op.stripe as u64;
     let found = tally.found;
     put_times(found, FOUND, out)
 }
@@ -314,6 +333,9 @@ fn put_sent(a: Answer, out: &mut [u64])
     out[SECOND_MESSAGE_TIME] = second.time;
     out[SECOND_MESSAGE_ROUND] = second.round;
     out[SECOND_MESSAGE_MAX] = second.max;
+    out[MESSAGE_STRIPE] = message.stripe as u64;
+    out[SEEN_STRIPE] = seen.stripe as u64;
+    out[SECOND_MESSAGE_STRIPE] = second.stripe as u64;
 }
 
 // The bytes of an answer.
@@ -369,23 +391,26 @@ pub extern "C" fn coord_start_write(
     n: usize,
     m: usize,
     size: usize,
+    stripes: usize,
     numbers: &mut [u64],
     bytes: &mut [u8],
     sent: &mut [u64],
     shown: &mut [u8],
+    stripe_number: usize,
     reading: u64,
     given: &[u8],
     stripe: &mut [u8],
 ) -> u32
     ensures { λ r. ⌜ atBoundary r (rows (now (numbers .exit)) (now (bytes .exit)) (now (sent .exit)) (now (shown .exit)))
         [] (now (stripe .exit)) []
-        ≡ wrote n m size (rows (now (numbers .entry)) (now (bytes .entry)) (now (sent .entry)) (now (shown .entry)))
-        reading (now (given .entry)) (now (stripe .entry)) ⌝ }
+        ≡ wrote n m size stripes (rows (now (numbers .entry)) (now (bytes .entry)) (now (sent .entry)) (now (shown .entry)))
+        «stripe_number» reading (now (given .entry)) (now (stripe .entry)) ⌝ }
 {
     let refusal = lent_refusal(
         n,
         m,
         size,
+        stripes,
         numbers.len(),
         bytes.len(),
         sent.len(),
@@ -395,7 +420,17 @@ pub extern "C" fn coord_start_write(
         return refusal;
     }
     let c = record_of(numbers, bytes);
-    let a = coordinator::start_write(n, m, size, c, reading, given, stripe);
+    let a = coordinator::start_write(
+        n,
+        m,
+        size,
+        stripes,
+        c,
+        stripe_number,
+        reading,
+        given,
+        stripe,
+    );
     put_answer(a, numbers, bytes, sent, shown)
 }
 
@@ -405,20 +440,24 @@ pub extern "C" fn coord_start_read(
     n: usize,
     m: usize,
     size: usize,
+    stripes: usize,
     numbers: &mut [u64],
     bytes: &mut [u8],
     sent: &mut [u64],
     shown: &mut [u8],
+    stripe_number: usize,
     reading: u64,
     first: usize,
 ) -> u32
     ensures { λ r. ⌜ atBoundary r (rows (now (numbers .exit)) (now (bytes .exit)) (now (sent .exit)) (now (shown .exit))) [] [] []
-        ≡ looked n m size (rows (now (numbers .entry)) (now (bytes .entry)) (now (sent .entry)) (now (shown .entry))) reading first ⌝ }
+        ≡ looked n m size stripes (rows (now (numbers .entry)) (now (bytes .entry)) (now (sent .entry)) (now (shown .entry)))
+        «stripe_number» reading first ⌝ }
 {
     let refusal = lent_refusal(
         n,
         m,
         size,
+        stripes,
         numbers.len(),
         bytes.len(),
         sent.len(),
@@ -428,22 +467,24 @@ pub extern "C" fn coord_start_read(
         return refusal;
     }
     let c = record_of(numbers, bytes);
-    let a = coordinator::start_read(n, m, size, c, reading, first);
+    let a = coordinator::start_read(n, m, size, stripes, c, stripe_number, reading, first);
     put_answer(a, numbers, bytes, sent, shown)
 }
 
-// A reply arrives; has: whether it holds a block.
+// A reply arrives; stripe_number: its stripe's, has: whether it holds a block.
 #[no_mangle]
 pub extern "C" fn coord_take_reply(
     n: usize,
     m: usize,
     size: usize,
+    stripes: usize,
     numbers: &mut [u64],
     bytes: &mut [u8],
     sent: &mut [u64],
     shown: &mut [u8],
     kind: u8,
     brick: usize,
+    stripe_number: usize,
     time: u64,
     round: u64,
     yes: bool,
@@ -456,14 +497,15 @@ pub extern "C" fn coord_take_reply(
 ) -> u32
     ensures { λ r. ⌜ atBoundary r (rows (now (numbers .exit)) (now (bytes .exit)) (now (sent .exit)) (now (shown .exit)))
         (now (blocks .exit)) (now (stripe .exit)) (now (coded .exit))
-        ≡ took n m size (rows (now (numbers .entry)) (now (bytes .entry)) (now (sent .entry)) (now (shown .entry)))
-        (replyFor kind brick time round yes found has) (now (block .entry))
+        ≡ took n m size stripes (rows (now (numbers .entry)) (now (bytes .entry)) (now (sent .entry)) (now (shown .entry)))
+        (replyFor kind brick «stripe_number» time round yes found has) (now (block .entry))
         (now (blocks .entry)) (now (stripe .entry)) (now (coded .entry)) ⌝ }
 {
     let refusal = lent_refusal(
         n,
         m,
         size,
+        stripes,
         numbers.len(),
         bytes.len(),
         sent.len(),
@@ -476,13 +518,14 @@ pub extern "C" fn coord_take_reply(
     let reply = Reply {
         kind,
         brick,
+        stripe: stripe_number,
         time,
         round,
         yes,
         found,
         held: has,
     };
-    let a = coordinator::take_reply(n, m, size, c, reply, block, blocks, stripe, coded);
+    let a = coordinator::take_reply(n, m, size, stripes, c, reply, block, blocks, stripe, coded);
     put_answer(a, numbers, bytes, sent, shown)
 }
 
@@ -492,18 +535,20 @@ pub extern "C" fn coord_crash(
     n: usize,
     m: usize,
     size: usize,
+    stripes: usize,
     numbers: &mut [u64],
     bytes: &mut [u8],
     sent: &mut [u64],
     shown: &mut [u8],
 ) -> u32
     ensures { λ r. ⌜ atBoundary r (rows (now (numbers .exit)) (now (bytes .exit)) (now (sent .exit)) (now (shown .exit))) [] [] []
-        ≡ fell n m size (rows (now (numbers .entry)) (now (bytes .entry)) (now (sent .entry)) (now (shown .entry))) ⌝ }
+        ≡ fell n m size stripes (rows (now (numbers .entry)) (now (bytes .entry)) (now (sent .entry)) (now (shown .entry))) ⌝ }
 {
     let refusal = lent_refusal(
         n,
         m,
         size,
+        stripes,
         numbers.len(),
         bytes.len(),
         sent.len(),
@@ -513,6 +558,6 @@ pub extern "C" fn coord_crash(
         return refusal;
     }
     let c = record_of(numbers, bytes);
-    let a = coordinator::crash(n, m, size, c);
+    let a = coordinator::crash(n, m, size, stripes, c);
     put_answer(a, numbers, bytes, sent, shown)
 }

@@ -23,9 +23,9 @@ pub record IsLog (a r : ℕ) : Type 0 where
   pub below : (a ≡ 0 → ⊥) → r < powerCount
   pub entry : (a ≡ 0 → ⊥) → power r ≡ a
 
--- the refusal of four settings
-unfoldable pub settingsNumber : ℕ → ℕ → ℕ → ℕ → ℕ
-settingsNumber n m size capacity = settingsRefusal (record { n = n; m = m; size = size; capacity = capacity })
+-- the refusal of five settings
+unfoldable pub settingsNumber : (n m size capacity stripes : ℕ) → ℕ
+settingsNumber n m size capacity stripes = settingsRefusal (record { n = n; m = m; size = size; capacity = capacity; stripes = stripes })
 
 unfoldable pub clockOf : ℕ → ℕ → Clock
 clockOf coordinator last = record { coordinator = coordinator; last = last }

@@ -76,16 +76,23 @@ pub extern "C" fn probe_time(t: u64) -> bool
     settings::is_time(t)
 }
 
-// The refusal of four settings.
+// The refusal of five settings.
 #[no_mangle]
-pub extern "C" fn probe_settings(n: usize, m: usize, size: usize, capacity: usize) -> u32
-    ensures { λ r. ⌜ r ≡ settingsNumber n m size capacity ⌝ }
+pub extern "C" fn probe_settings(
+    n: usize,
+    m: usize,
+    size: usize,
+    capacity: usize,
+    stripes: usize,
+) -> u32
+    ensures { λ r. ⌜ r ≡ settingsNumber n m size capacity stripes ⌝ }
 {
     let s = Settings {
-        n: n,
-        m: m,
-        size: size,
-        capacity: capacity,
+        n,
+        m,
+        size,
+        capacity,
+        stripes,
     };
     s.refusal()
 }

@@ -9,6 +9,8 @@ use jilbagum_tests::proved::{self, answer, Lent};
 use std::time::{Duration, Instant};
 
 const CAPACITY: usize = 4;
+const STRIPES: usize = 1;
+const STRIPE: usize = 0;
 const TRIM: u8 = 5;
 
 #[derive(Clone, Copy, PartialEq)]
@@ -25,36 +27,37 @@ struct Spent {
 }
 
 struct Ours {
-    three: proved::Three,
+    four: proved::Four,
     images: Vec<Vec<u8>>,
     lent: Lent,
     blocks: Vec<u8>,
     stripe: Vec<u8>,
     coded: Vec<u8>,
     outs: Vec<Vec<u8>>,
-    replies: Vec<[u64; 7]>,
+    replies: Vec<proved::Replied>,
 }
 
 impl Ours {
     /// One operation; `watch` also times the coordinator's calls.
     fn run(&mut self, op: Op, data: &[u8], watch: bool) -> Spent {
-        let (n, m, size) = self.three;
+        let (n, m, size, stripes) = self.four;
         let mut inside = Duration::ZERO;
         let began = Instant::now();
         let number = match op {
-            Op::Write => proved::start_write(self.three, &mut self.lent, 9, data, &mut self.stripe),
-            Op::Read => proved::start_read(self.three, &mut self.lent, 9, 1),
+            Op::Write => proved::start_write(self.four, &mut self.lent, STRIPE, 9, data, &mut self.stripe),
+            Op::Read => proved::start_read(self.four, &mut self.lent, STRIPE, 9, 1),
         };
         assert_eq!(number, 0);
         loop {
             let kind = self.lent.shown[answer::KIND];
             let flags = self.lent.shown_row(answer::TARGETS).map(u64::from);
             let sent = &self.lent.sent;
-            let asked = proved::asked(u64::from(kind), sent[answer::TIME], sent[answer::ROUND], sent[answer::MAX], flags);
+            let [time, round, max, stripe] = [answer::TIME, answer::ROUND, answer::MAX, answer::STRIPE].map(|place| sent[place]);
+            let asked = proved::asked(u64::from(kind), time, round, max, stripe, flags);
             for b in 0..n {
                 let block = &self.coded[b * size..][..size];
                 let (out, reply) = (&mut self.outs[b], &mut self.replies[b]);
-                let number = proved::receive((n, m, size, CAPACITY), b, &mut self.images[b], &asked, block, out, reply);
+                let number = proved::receive((n, m, size, CAPACITY, stripes), b, &mut self.images[b], &asked, block, out, reply);
                 assert!(number == if kind == TRIM { proved::SILENCE } else { 0 });
             }
             if kind == TRIM {
@@ -63,10 +66,9 @@ impl Ours {
             let (mut sent, mut ended) = (false, false);
             let started = watch.then(Instant::now);
             for b in 0..n {
-                let r = self.replies[b];
-                let fields = (r[0] as u8, r[1] as usize, r[2], r[3], r[4] == 1, r[5], r[6] == 1);
+                let fields = proved::taken(self.replies[b]);
                 let Ours { lent, blocks, stripe, coded, .. } = self;
-                let number = proved::take_reply(self.three, lent, fields, &self.outs[b], blocks, stripe, coded);
+                let number = proved::take_reply(self.four, lent, fields, &self.outs[b], blocks, stripe, coded);
                 assert!(number == 0 || (sent || ended) && number == 11);
                 sent |= number == 0 && self.lent.sent[answer::SENT] == 1;
                 ended |= number == 0 && self.lent.shown[answer::SEEN] != 0;
@@ -113,28 +115,29 @@ impl Hand {
                     continue;
                 }
             };
-            replies[b] = Reply { kind: message.kind, brick: b, time: message.time, round: message.round, yes, found, held };
+            let Message { kind, stripe, time, round, .. } = *message;
+            replies[b] = Reply { kind, brick: b, stripe, time, round, yes, found, held };
         }
     }
 
-    fn run(&mut self, op: Op, data: &[u8], three: proved::Three, watch: bool) -> Spent {
+    fn run(&mut self, op: Op, data: &[u8], four: proved::Four, watch: bool) -> Spent {
         let mut inside = Duration::ZERO;
         let began = Instant::now();
         let act = match op {
-            Op::Write => self.coordinator.start_write(three, 9, data),
-            Op::Read => self.coordinator.start_read(three, 9, 1),
+            Op::Write => self.coordinator.start_write(four, STRIPE, 9, data),
+            Op::Read => self.coordinator.start_read(four, STRIPE, 9, 1),
         };
         let Act::Sends(mut message) = act else { panic!("the operation starts") };
         let mut done = false;
         loop {
-            self.deliver(&message, three.2);
+            self.deliver(&message, four.2);
             if message.kind == TRIM || done {
                 break;
             }
             let mut sent = None;
             let started = watch.then(Instant::now);
             for b in 0..self.replies.len() {
-                match self.coordinator.take(three, &self.replies[b], &self.outs[b]) {
+                match self.coordinator.take(four, &self.replies[b], &self.outs[b]) {
                     Act::Waits => {}
                     Act::Sends(m) => sent = Some(m),
                     Act::Written(m) => (sent, done) = (Some(m), op == Op::Write),
@@ -188,6 +191,7 @@ fn main() {
     println!("   n   m size  operation                       ours  by hand ratio     wide ratio       ours  by hand ratio");
     let mut most: [f64; 2] = [0.0; 2];
     for (n, m, size) in [(5, 3, 256), (16, 8, 256)] {
+        let four = (n, m, size, STRIPES);
         let bricks = |wide| -> Vec<Brick> {
             let brick = |b: usize| Brick { n: n as u8, m: m as u8, size, capacity: CAPACITY, brick: b as u8, wide };
             (0..n).map(brick).collect()
@@ -204,19 +208,19 @@ fn main() {
         for (name, op, partial, last_round) in cases {
             let images = start(&bricks(false), n, m, size, partial, &old);
             let mut ours = Ours {
-                three: (n, m, size),
+                four,
                 images: images.clone(),
-                lent: Lent::fresh((n, m, size), 3),
+                lent: Lent::fresh(four, 3),
                 blocks: vec![0; n * size],
                 stripe: vec![0; m * size],
                 coded: vec![0; n * size],
                 outs: vec![vec![0; size]; n],
-                replies: vec![[0; 7]; n],
+                replies: vec![[0; 8]; n],
             };
             let mut hands = [false, true].map(|wide| Hand {
                 bricks: bricks(wide),
                 images: images.clone(),
-                coordinator: Coordinator::new(n, m, size, 3),
+                coordinator: Coordinator::new(four, 3),
                 outs: vec![vec![0; size]; n],
                 replies: vec![Reply::default(); n],
             });
@@ -241,7 +245,7 @@ fn main() {
                     }
                     let a = ours.run(op, &data, watch);
                     let [b, c] = &mut hands;
-                    let (b, c) = (b.run(op, &data, (n, m, size), watch), c.run(op, &data, (n, m, size), watch));
+                    let (b, c) = (b.run(op, &data, four, watch), c.run(op, &data, four, watch));
                     let spent = [a.whole, b.whole, c.whole, a.coordinator, b.coordinator];
                     for (sum, spent) in sum.iter_mut().zip(spent) {
                         *sum += spent;

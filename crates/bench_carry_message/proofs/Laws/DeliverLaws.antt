@@ -11,7 +11,8 @@ use borrow.Rule.Slice.PartMut.{putMid, put-same}
 use Rattle.settings.specs.declared.Settings.{Settings}
 use Rattle.message.specs.declared.Message.{Message}
 use Rattle.image.specs.Image.{imageSize}
-use Rattle.brick.specs.Receive.{Outcome, outcomeWith, outcome}
+use Rattle.brick.specs.Receive.{Outcome, outcomeWith}
+use Rattle.volume.specs.Rows.{rowSize, rowOutcome}
 use Rattle.brick.proofs.Laws.OutcomeLaws.{outcome-given, outcome-image, outcome-out}
 use Rattle.brick.specs.declared.Given.{Given}
 use Rattle.brick.specs.declared.Given.the-variants.{Answered, Silent, Refused}
@@ -21,6 +22,7 @@ use Rattle.byte_lists.specs.Lists.{put}
 use Rattle.byte_lists.proofs.Laws.PutLaws.{put-mid}
 use Rattle.bench_state.proofs.Laws.KeptPartLaws.{any-default}
 use Rattle.bench_state.specs.State.{imagesOf, upOf, coordinatorKept, worldOf}
+use Rattle.bench_state.proofs.Laws.BenchRangeLaws.{row-of-one}
 use Rattle.bench_state.proofs.Laws.StateLaws.{image-put}
 use Rattle.bench_state.specs.declared.Bench.{Bench}
 use Rattle.bench_sent.specs.Sent.{isReply, numberAt, messageAt, sentBlockAt, itemAt, itemsOf}
@@ -53,13 +55,13 @@ module _ (s : Settings) (w : World) (k brick : ℕ) (msg : Message) (block : Lis
   many h u m = rw (lt-ltb brick (s .n) h, u, m) refl
 
   reached : brick < s .n → w .up brick ≡ true → maySend (msg .kind) (length (w .sent)) ≡ true
-      → carries s w k (message brick msg block) ≡ delivered s w k (outcome s brick (w .images brick) msg block (replicate (s .size) 0) .given)
+      → carries s w k (message brick msg block) ≡ delivered s w k (rowOutcome s brick (w .images brick) msg block (replicate (s .size) 0) .given)
   unfolding carries reaches maySend
   reached h u m = rw (lt-ltb brick (s .n) h, u, m) refl
 
   -- the event itself
   arriving-up : w .up brick ≡ true
-      → arriving s w (message brick msg block) ≡ received s w brick (outcome s brick (w .images brick) msg block (replicate (s .size) 0))
+      → arriving s w (message brick msg block) ≡ received s w brick (rowOutcome s brick (w .images brick) msg block (replicate (s .size) 0))
   unfolding arriving
   arriving-up u = rw u refl
 
@@ -74,7 +76,7 @@ module _ (b : Bench) (images kept numbers bytes : List ℕ) where
   world-up brick t e = e
 
   world-image : (brick : ℕ) → brick < b .settings .n
-      → worldIn b (lent images kept numbers bytes) .images brick ≡ take (imageSize (b .settings)) (drop (brick * imageRoom) images)
+      → worldIn b (lent images kept numbers bytes) .images brick ≡ take (rowSize (b .settings)) (drop (brick * imageRoom) images)
   unfolding worldIn worldOf imagesOf
   world-image brick h = rw (lt-ltb brick (b .settings .n) h) refl
 
@@ -111,18 +113,17 @@ module _ (b : Bench) (k brick : ℕ) (msg : Message) (images numbers bytes : Lis
   s = b .settings
 
   abbrev pub image : List ℕ
-  image = take (imageSize s) (drop (brick * imageRoom) images)
+  image = take (rowSize s) (drop (brick * imageRoom) images)
 
   abbrev pub o : Outcome
-  o = outcome s brick image msg (sentBlockAt (s .size) bytes k) (replicate (s .size) 0)
+  o = rowOutcome s brick image msg (sentBlockAt (s .size) bytes k) (replicate (s .size) 0)
 
-  image-long : length image ≡ imageSize s
-  unfolding imageSize
+  image-long : length image ≡ rowSize s
   image-long =
-      length-take-le (imageSize s) (drop (brick * imageRoom) images)
+      length-take-le (rowSize s) (drop (brick * imageRoom) images)
       (let d = length-drop (brick * imageRoom) images in
       let a = l .fits .small .bricks in
-      let c = l .fits .small .log-fits in
+      let c = l .fits .small .row-fits in
       let t = q .there in
       let n = l .images-long in
       omega (arith, c, n))
@@ -131,8 +132,8 @@ module _ (b : Bench) (k brick : ℕ) (msg : Message) (images numbers bytes : Lis
     abbrev pub w : World
     w = worldIn b (lent images kept numbers bytes)
 
-    outcome-at : outcome s brick (w .images brick) msg (sentBlockAt (s .size) bytes k) (replicate (s .size) 0) ≡ o
-    outcome-at = ap (λ (i : List ℕ). outcome s brick i msg (sentBlockAt (s .size) bytes k) (replicate (s .size) 0)) (world-image b images kept numbers bytes brick (q .there))
+    outcome-at : rowOutcome s brick (w .images brick) msg (sentBlockAt (s .size) bytes k) (replicate (s .size) 0) ≡ o
+    outcome-at = ap (λ (i : List ℕ). rowOutcome s brick i msg (sentBlockAt (s .size) bytes k) (replicate (s .size) 0)) (world-image b images kept numbers bytes brick (q .there))
 
     arrives-is : step s w (arrives k) ≡ received s w brick o
     arrives-is =
@@ -148,7 +149,7 @@ module _ (b : Bench) (k brick : ℕ) (msg : Message) (images numbers bytes : Lis
         (ap (maySend (msg .kind)) (sent-length b images kept numbers bytes) ∙ q .may-send)
         ∙ ap (λ (v : Outcome). delivered s w k (v .given)) outcome-at
 
-    module _ (new block numbers′ bytes′ : List ℕ) (at : ℕ) (out out′ : List ℕ) (r : After) (ei : new ≡ o .image) (eo : block ≡ o .out) (long : length new ≡ imageSize s) where
+    module _ (new block numbers′ bytes′ : List ℕ) (at : ℕ) (out out′ : List ℕ) (r : After) (ei : new ≡ o .image) (eo : block ≡ o .out) (long : length new ≡ rowSize s) where
       images-put : imagesOf s (put (brick * imageRoom) new images) ≡ putAt (imagesOf s images) brick (o .image)
       images-put =
           image-put s (l .fits .small) images new brick (q .there) long (l .images-long)
@@ -176,7 +177,7 @@ module _ (b : Bench) (k brick : ℕ) (msg : Message) (images numbers bytes : Lis
       -- a refusal: the image kept its bytes
       refused-there : (n : ℕ) → Refused n ≡ o .given → Settled b (Refused n) block numbers bytes at out r numbers′ bytes′ out′
           → Turned b (lent images kept numbers bytes) at out (refuses w n) r (lent (put (brick * imageRoom) new images) kept numbers′ bytes′) out′
-      unfolding refuses repliedWith toldOf imageSize
+      unfolding refuses repliedWith toldOf
       refused-there n e d =
           record {
             world-is =
@@ -199,9 +200,9 @@ module _ (b : Bench) (k brick : ℕ) (msg : Message) (images numbers bytes : Lis
           back : put (brick * imageRoom) new images ≡ images
           back =
               ap (λ (x : List ℕ). put (brick * imageRoom) x images) same
-              ∙ sym (put-mid (brick * imageRoom) (brick * imageRoom + imageSize s) images image (omega arith) (image-long ∙ (omega arith)))
-              ∙ ap (λ (j : ℕ). putMid (brick * imageRoom) j images image) (let z : brick * imageRoom + imageSize s - brick * imageRoom ≡ imageSize s = omega arith in z)
-              ∙ put-same (brick * imageRoom) (imageSize s) images
+              ∙ sym (put-mid (brick * imageRoom) (brick * imageRoom + rowSize s) images image (omega arith) (image-long ∙ (omega arith)))
+              ∙ ap (λ (j : ℕ). putMid (brick * imageRoom) j images image) (let z : brick * imageRoom + rowSize s - brick * imageRoom ≡ rowSize s = omega arith in z)
+              ∙ put-same (brick * imageRoom) (rowSize s) images
 
       delivered-by : (g : Given) → g ≡ o .given → Settled b g block numbers bytes at out r numbers′ bytes′ out′
           → Turned b (lent images kept numbers bytes) at out (carries s w k (itemAt (s .size) numbers bytes k)) r (lent (put (brick * imageRoom) new images) kept numbers′ bytes′) out′
@@ -224,19 +225,19 @@ module _ (b : Bench) (k brick : ℕ) (msg : Message) (images numbers bytes : Lis
   abbrev pub codeBlock : List ℕ
   codeBlock = take (k * rowBytes + blockPlace + s .size - (k * rowBytes + blockPlace)) (drop (k * rowBytes + blockPlace) bytes)
 
-  code-outcome : (zeros : List ℕ) → zeros ≡ replicate (s .size) 0 → outcome s brick codeImage msg codeBlock zeros ≡ o
+  code-outcome : (zeros : List ℕ) → zeros ≡ replicate (s .size) 0 → rowOutcome s brick codeImage msg codeBlock zeros ≡ o
   unfolding imageSize
   code-outcome zeros ez =
-      ap (λ (j : ℕ). outcome s brick (take j (drop (brick * imageRoom) images)) msg codeBlock zeros) cut
-      ∙ ap (λ (x : List ℕ). outcome s brick image msg x zeros) (block-cut (s .size) k (k * rowBytes + blockPlace) (k * rowBytes + blockPlace + s .size) bytes refl refl)
-      ∙ ap (outcome s brick image msg (sentBlockAt (s .size) bytes k)) ez
+      ap (λ (j : ℕ). rowOutcome s brick (take j (drop (brick * imageRoom) images)) msg codeBlock zeros) cut
+      ∙ ap (λ (x : List ℕ). rowOutcome s brick image msg x zeros) (block-cut (s .size) k (k * rowBytes + blockPlace) (k * rowBytes + blockPlace + s .size) bytes refl refl)
+      ∙ ap (rowOutcome s brick image msg (sentBlockAt (s .size) bytes k)) ez
     where
-      cut : brick * imageRoom + blockBytes * (s .capacity + 1) - brick * imageRoom ≡ blockBytes * (s .capacity + 1)
-      cut = omega arith
+      cut : brick * imageRoom + blockBytes * (s .capacity + 1) - brick * imageRoom ≡ rowSize s
+      cut = omega (arith, row-of-one s (l .fits .small .one-stripe))
 
   -- what the brick gave and left, settled
   pub deliver-settled : (new block zeros numbers′ bytes′ : List ℕ) (at : ℕ) (out out′ : List ℕ) (r : After) (g : Given) → zeros ≡ replicate (s .size) 0
-      → outcomeWith g new block ≡ outcome s brick codeImage msg codeBlock zeros → length new ≡ length codeImage
+      → outcomeWith g new block ≡ rowOutcome s brick codeImage msg codeBlock zeros → length new ≡ length codeImage
       → Settled b g block numbers bytes at out r numbers′ bytes′ out′
       → (kept : List ℕ) → Turned b (lent images kept numbers bytes) at out (carries s (worldIn b (lent images kept numbers bytes)) k (itemAt (s .size) numbers bytes k)) r
       (lent (putMid (brick * imageRoom) (brick * imageRoom + blockBytes * (s .capacity + 1) - brick * imageRoom) images new) kept numbers′ bytes′) out′
@@ -250,16 +251,16 @@ module _ (b : Bench) (k brick : ℕ) (msg : Message) (images numbers bytes : Lis
       w′ : World
       w′ = worldIn b (lent images kept numbers bytes)
 
-      cut : brick * imageRoom + blockBytes * (s .capacity + 1) - brick * imageRoom ≡ blockBytes * (s .capacity + 1)
-      cut = omega arith
+      cut : brick * imageRoom + blockBytes * (s .capacity + 1) - brick * imageRoom ≡ rowSize s
+      cut = omega (arith, row-of-one s (l .fits .small .one-stripe))
 
-      size : length new ≡ blockBytes * (s .capacity + 1)
+      size : length new ≡ rowSize s
       size = long ∙ ap (λ (j : ℕ). length (take j (drop (brick * imageRoom) images))) cut ∙ image-long
 
   -- the limit holds after it
-  pub deliver-room : (zeros : List ℕ) (g : Given) (new block : List ℕ) → outcomeWith g new block ≡ outcome s brick codeImage msg codeBlock zeros
+  pub deliver-room : (zeros : List ℕ) (g : Given) (new block : List ℕ) → outcomeWith g new block ≡ rowOutcome s brick codeImage msg codeBlock zeros
       → sentAfterMessage (b .sent) g ≤ lastMessage
-  deliver-room zeros g new block e = room s brick codeImage msg codeBlock zeros (b .sent) g (l .few) (q .may-send) (outcome-given g new block (outcome s brick codeImage msg codeBlock zeros) e)
+  deliver-room zeros g new block e = room s brick codeImage msg codeBlock zeros (b .sent) g (l .few) (q .may-send) (outcome-given g new block (rowOutcome s brick codeImage msg codeBlock zeros) e)
 
 -- the ways in which it does not come to that
 module _ (b : Bench) (k brick : ℕ) (images numbers bytes : List ℕ) (m : isReply numbers k ≡ false) (eb : brick ≡ numberAt numbers k 1) where

@@ -6,13 +6,17 @@ use Prim.Native.Nat.{ℕ, _+_, _≤_, _<_}
 use native.Mathlib.Omega.{arith}
 use lib.Dec.{eqb, ltb}
 use lib.ListN.{length}
-use borrow.Author.Tests.{eq-eqb, ne-eqb, ltb-true}
+use borrow.Author.Tests.{eq-eqb, ne-eqb, eqb-true, ltb-true}
+use Rattle.settings.specs.Refusal.{passed}
 use Rattle.settings.specs.declared.Settings.{Settings}
 use Rattle.message.specs.Kinds.{trimKind}
 use Rattle.message.specs.declared.Message.{Message}
 use Rattle.message.specs.declared.Reply.{Reply}
 use Rattle.image.specs.Parse.{Parsed, Opens, Refuses, parse}
-use Rattle.brick.specs.Receive.{outcome, accepted, givenBy, refusedWith, receiveRefusal}
+use Rattle.brick.specs.Receive.{outcome, accepted, givenBy, refusedWith, receiveRefusal, frontRefusal}
+use Rattle.brick.proofs.Laws.OutcomeLaws.{fronted}
+use Rattle.volume.specs.Rows.{rowSize, imageAt, withImage, inRow, rowRefusal, rowOutcome}
+use Rattle.volume.proofs.Laws.RowLaws.{image-back}
 use Rattle.brick_log.specs.BrickRules.{replyTo}
 use Rattle.brick.specs.declared.Given.{Given}
 use Rattle.brick.specs.declared.Given.the-variants.{Answered, Silent, Refused}
@@ -30,12 +34,12 @@ use Rattle.bench_rules.specs.declared.After.{After}
 use Rattle.bench_carry_message.specs.Workers.{Settled, maySend, sentAfterMessage, toldOf}
 use Rattle.bench_limits.specs.Limits.{lastMessage}
 
--- the two ways of an outcome: refused with every byte kept, or acted on an opened image
+-- the two ways of an image's outcome: refused with every byte kept, or acted on an opened image
 module _ (s : Settings) (brick : ℕ) (l : List ℕ) (msg : Message) (block out : List ℕ) where
   -- "A refusal returns its number alone and every image .. keeps its bytes."
-  pub refusal-keeps : (n : ℕ) → outcome s brick l msg block out .given ≡ Refused n → outcome s brick l msg block out .image ≡ l
+  image-keeps : (n : ℕ) → outcome s brick l msg block out .given ≡ Refused n → outcome s brick l msg block out .image ≡ l
   unfolding outcome accepted givenBy refusedWith
-  refusal-keeps n = go (eqb (receiveRefusal s brick l msg (length block) (length out)) 0) (parse s brick l)
+  image-keeps n = go (eqb (receiveRefusal s brick l msg (length block) (length out)) 0) (parse s brick l)
     where
       never : (t : Bool) (r : Reply) → cond t Silent (Answered r) ≡ Refused n → ⊥
       never true r e = let z : _≡_ {A = ℕ} 0 1 = cc in absurd (omega arith)
@@ -49,9 +53,9 @@ module _ (s : Settings) (brick : ℕ) (l : List ℕ) (msg : Message) (block out 
       go false p e = refl
 
   -- "Trim t: no reply"
-  pub trim-silent : (r : Reply) → eqb (msg .kind) trimKind ≡ true → outcome s brick l msg block out .given ≡ Answered r → ⊥
+  image-silent : (r : Reply) → eqb (msg .kind) trimKind ≡ true → outcome s brick l msg block out .given ≡ Answered r → ⊥
   unfolding outcome accepted givenBy refusedWith
-  trim-silent r q = go (eqb (receiveRefusal s brick l msg (length block) (length out)) 0) (parse s brick l)
+  image-silent r q = go (eqb (receiveRefusal s brick l msg (length block) (length out)) 0) (parse s brick l)
     where
       never : (t : Bool) (a : Reply) → t ≡ true → cond t Silent (Answered a) ≡ Answered r → ⊥
       never true a z e = let z : _≡_ {A = ℕ} 0 1 = cc in absurd (omega arith)
@@ -63,8 +67,38 @@ module _ (s : Settings) (brick : ℕ) (l : List ℕ) (msg : Message) (block out 
       go true (Refuses k) e = let z : _≡_ {A = ℕ} 0 1 = cc in absurd (omega arith)
       go false p e = let z : _≡_ {A = ℕ} 0 1 = cc in absurd (omega arith)
 
+-- The two ways of a row's outcome: refused before an image is looked at, or what the image of the message's stripe makes of it.
+module _ (s : Settings) (brick : ℕ) (row : List ℕ) (msg : Message) (block out : List ℕ) where
+  abbrev number : ℕ
+  number = frontRefusal s (s .stripes) brick (length row) (msg .stripe) (length block) (length out)
+
+  abbrev image : List ℕ
+  image = imageAt s (msg .stripe) row
+
+  -- a refusal keeps every byte of the row
+  pub refusal-keeps : (n : ℕ) → rowOutcome s brick row msg block out .given ≡ Refused n → rowOutcome s brick row msg block out .image ≡ row
+  unfolding rowOutcome rowRefusal rowSize inRow refusedWith
+  refusal-keeps n = go (eqb number passed) refl
+    where
+      go : (t : Bool) → eqb number passed ≡ t
+          → cond t (inRow s (msg .stripe) row (outcome s brick image msg block out)) (refusedWith number row out) .given ≡ Refused n
+          → cond t (inRow s (msg .stripe) row (outcome s brick image msg block out)) (refusedWith number row out) .image ≡ row
+      go true q e =
+          let f = fronted s (s .stripes) brick (length row) (msg .stripe) (length block) (length out) number refl (eqb-true number passed q) in
+          ap (λ (i : List ℕ). withImage s (msg .stripe) i row) (image-keeps s brick image msg block out n e) ∙ image-back s (msg .stripe) row (f .lent-is) (f .stripe-low)
+      go false q e = refl
+
+  -- "Trim t: no reply"
+  trim-silent : (r : Reply) → eqb (msg .kind) trimKind ≡ true → rowOutcome s brick row msg block out .given ≡ Answered r → ⊥
+  unfolding rowOutcome rowRefusal inRow refusedWith
+  trim-silent r q = go (eqb number passed)
+    where
+      go : (t : Bool) → cond t (inRow s (msg .stripe) row (outcome s brick image msg block out)) (refusedWith number row out) .given ≡ Answered r → ⊥
+      go true e = image-silent s brick image msg block out r q e
+      go false e = let z : _≡_ {A = ℕ} 0 1 = cc in absurd (omega arith)
+
   -- what may be sent stays within message 127
-  pub room : (k : ℕ) (g : Given) → k ≤ lastMessage → maySend (msg .kind) k ≡ true → g ≡ outcome s brick l msg block out .given → sentAfterMessage k g ≤ lastMessage
+  pub room : (k : ℕ) (g : Given) → k ≤ lastMessage → maySend (msg .kind) k ≡ true → g ≡ rowOutcome s brick row msg block out .given → sentAfterMessage k g ≤ lastMessage
   unfolding maySend sentAfterMessage
   room k (Answered r) h m e = go (eqb (msg .kind) trimKind) refl m
     where

@@ -51,23 +51,23 @@ commit-requires c κs =
       s .pre .0,
       (
         record {
-          blocks-long = t .1 .1 .1 .1 .1 .1 .0 ∙ f .1 .1 .0 ∙ s .pre .1 .0 .blocks-long;
-          stripe-long = t .1 .1 .1 .1 .1 .1 .1 .0 ∙ f .1 .1 .1 .0 ∙ s .pre .1 .0 .stripe-long;
-          coded-long = t .1 .1 .1 .1 .1 .1 .1 .1 .0 ∙ s .pre .1 .0 .coded-long;
+          blocks-long = t .1 .1 .1 .1 .1 .1 .1 .0 ∙ f .1 .1 .0 ∙ s .pre .1 .0 .blocks-long;
+          stripe-long = t .1 .1 .1 .1 .1 .1 .1 .1 .0 ∙ f .1 .1 .1 .0 ∙ s .pre .1 .0 .stripe-long;
+          coded-long = t .1 .1 .1 .1 .1 .1 .1 .1 .1 .0 ∙ s .pre .1 .0 .coded-long;
         },
-        few-returned _ _ _ _ _ _ _ _ _ (take-short _ _ _ _ _ _ _) (c .before .before .before .before .before .before .before .before .before .before .before .before .before .take-reply .ensures),
+        few-returned _ _ _ _ _ _ _ _ _ (take-short _ _ _ _ _ _ _ _) (c .before .before .before .before .before .before .before .before .before .before .before .before .before .take-reply .ensures),
       ),
     )
 
 same-length : tie.Need-same-length
 same-length c = c .before .before .before .before .before .before .before .before .before .before .before .before .before .before .before .before .before .before .before .before .before .before
-    .take-reply .kept .1 .1 .1 .1 .1 .1 .0
+    .take-reply .kept .1 .1 .1 .1 .1 .1 .1 .0
     ∙ c .before .before .before .before .before .before .before .before .before .before .before .before .before .before .before .before .before .before .before .before .before .before .before .before
     .before .before .before .before .before .before .before .before .before .before .before .fetch .kept .1 .1 .0
 
 same-length-2 : tie.Need-same-length-2
 same-length-2 c = c .before .before .before .before .before .before .before .before .before .before .before .before .before .before .before .before .before .before .before .before .before .before
-    .take-reply .kept .1 .1 .1 .1 .1 .1 .1 .0
+    .take-reply .kept .1 .1 .1 .1 .1 .1 .1 .1 .0
     ∙ c .before .before .before .before .before .before .before .before .before .before .before .before .before .before .before .before .before .before .before .before .before .before .before .before
     .before .before .before .before .before .before .before .before .before .before .before .fetch .kept .1 .1 .1 .0
 

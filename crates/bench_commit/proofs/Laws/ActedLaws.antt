@@ -38,7 +38,7 @@ use Rattle.bench_commit.proofs.Laws.CommitLaws.{Numbered, answered-is-a
 use Rattle.bench_commit.proofs.Laws.CommitStepLaws.{write-numbered, write-blocks, write-coded, read-numbered, read-blocks, read-stripe, read-coded, crash-numbered, crash-blocks}
 use Rattle.bench_commit.proofs.Laws.CommitStepLaws.{crash-stripe, crash-coded, take-numbered}
 use Rattle.bench_commit.specs.Workers.{BenchActed, Plays}
-use Rattle.bench_limits.specs.Limits.{benchCoordinators, stripeRoom, keptRoom}
+use Rattle.bench_limits.specs.Limits.{benchStripe, benchCoordinators, stripeRoom, keptRoom}
 use Rattle.settings.specs.Times.{coordinatorOf}
 use Rattle.settings.specs.Refusal.{badLine, badNumber}
 
@@ -113,156 +113,174 @@ module _ (b : Bench) (c : ℕ) (kept numbers bytes : List ℕ) (at : ℕ) (out :
     stripe-is = ap (λ (h : Buffered). h .stripe) same
 
     pub acted-read : (clock brick : ℕ) (a : Answer)
-        → ((x y z : List ℕ) → returned a x y z ≡ readCall (b .settings .n) (b .settings .m) (b .settings .size) old x y z clock brick)
+        → ((x y z : List ℕ) → returned a x y z ≡ readCall (b .settings .n) (b .settings .m) (b .settings .size) (b .settings .stripes) old x y z benchStripe clock brick)
         → Answers b c a blocks stripe blocks kept numbers bytes at out r kept′ numbers′ bytes′ out′
-        → BenchActed b c (startRead c clock brick) (λ (h : Buffered). readStep (b .settings .n) (b .settings .m) (b .settings .size) h clock brick) kept numbers bytes at out r kept′ numbers′
+        → BenchActed b c (startRead c benchStripe clock brick)
+        (λ (h : Buffered). readStep (b .settings .n) (b .settings .m) (b .settings .size) (b .settings .stripes) h benchStripe clock brick) kept numbers bytes at out r kept′ numbers′
         bytes′ out′
     unfolding step worldIn worldOf
     acted-read clock brick a ea h =
         let n = b .settings .n in
         let m = b .settings .m in
         let size = b .settings .size in
-        acted-by (startRead c clock brick) (λ (x : Buffered). readStep n m size x clock brick) a blocks stripe blocks blocks (λ images. refl)
-        (read-short n m size here clock brick) (read-numbered n m size here clock brick)
+        let stripes = b .settings .stripes in
+        acted-by (startRead c benchStripe clock brick) (λ (x : Buffered). readStep n m size stripes x benchStripe clock brick) a blocks stripe blocks blocks (λ images. refl)
+        (read-short n m size stripes here benchStripe clock brick) (read-numbered n m size stripes here benchStripe clock brick)
         (returned-answer old blocks stripe blocks _ a blocks stripe blocks (ea blocks stripe blocks) ∙ ap
-        (λ (x : Coordinator). answerOf x (readStep n m size (buffered old blocks stripe) clock brick)) old-is ∙ ap
-        (λ (x : Buffered). answerOf (here .state) (readStep n m size x clock brick)) same)
-        (blocks-are ∙ sym (read-blocks n m size here clock brick)) (stripe-is ∙ sym (read-stripe n m size here clock brick)) (sym (read-coded n m size here clock brick blocks)) h
+        (λ (x : Coordinator). answerOf x (readStep n m size stripes (buffered old blocks stripe) benchStripe clock brick)) old-is ∙ ap
+        (λ (x : Buffered). answerOf (here .state) (readStep n m size stripes x benchStripe clock brick)) same)
+        (blocks-are ∙ sym (read-blocks n m size stripes here benchStripe clock brick)) (stripe-is ∙ sym (read-stripe n m size stripes here benchStripe clock brick))
+        (sym (read-coded n m size stripes here benchStripe clock brick blocks)) h
 
     pub acted-crash : (a : Answer)
-        → ((x y z : List ℕ) → returned a x y z ≡ crashCall (b .settings .n) (b .settings .m) (b .settings .size) old x y z)
+        → ((x y z : List ℕ) → returned a x y z ≡ crashCall (b .settings .n) (b .settings .m) (b .settings .size) (b .settings .stripes) old x y z)
         → Answers b c a blocks stripe blocks kept numbers bytes at out r kept′ numbers′ bytes′ out′
-        → BenchActed b c (crashes c untouched) (λ (h : Buffered). crashStep (b .settings .n) (b .settings .m) (b .settings .size) h) kept numbers bytes at out r kept′ numbers′ bytes′ out′
+        → BenchActed b c (crashes c untouched)
+        (λ (h : Buffered). crashStep (b .settings .n) (b .settings .m) (b .settings .size) (b .settings .stripes) h) kept numbers bytes at out r kept′ numbers′ bytes′ out′
     unfolding step worldIn worldOf
     acted-crash a ea h =
         let n = b .settings .n in
         let m = b .settings .m in
         let size = b .settings .size in
-        acted-by (crashes c untouched) (λ (x : Buffered). crashStep n m size x) a blocks stripe blocks blocks
-        (λ images. ap (coordinated (b .settings) (worldIn b (lent images kept numbers bytes)) c) (left-untouched (b .settings) (crashStep n m size here)))
-        (crash-short n m size here) (crash-numbered n m size here)
-        (returned-answer old blocks stripe blocks _ a blocks stripe blocks (ea blocks stripe blocks) ∙ ap (λ (x : Coordinator). answerOf x (crashStep n m size (buffered old blocks stripe)))
-        old-is ∙ ap (λ (x : Buffered). answerOf (here .state) (crashStep n m size x)) same)
-        (blocks-are ∙ sym (crash-blocks n m size here)) (stripe-is ∙ sym (crash-stripe n m size here)) (sym (crash-coded n m size here blocks)) h
+        let stripes = b .settings .stripes in
+        acted-by (crashes c untouched) (λ (x : Buffered). crashStep n m size stripes x) a blocks stripe blocks blocks
+        (λ images. ap (coordinated (b .settings) (worldIn b (lent images kept numbers bytes)) c) (left-untouched (b .settings) (crashStep n m size stripes here)))
+        (crash-short n m size stripes here) (crash-numbered n m size stripes here)
+        (returned-answer old blocks stripe blocks _ a blocks stripe blocks (ea blocks stripe blocks) ∙ ap (λ (x : Coordinator). answerOf x (crashStep n m size stripes (buffered old blocks stripe)))
+        old-is ∙ ap (λ (x : Buffered). answerOf (here .state) (crashStep n m size stripes x)) same)
+        (blocks-are ∙ sym (crash-blocks n m size stripes here)) (stripe-is ∙ sym (crash-stripe n m size stripes here)) (sym (crash-coded n m size stripes here blocks)) h
 
     pub acted-write : (clock : ℕ) (content : List ℕ) (small : Bytes content) (a : Answer) (stripe′ : List ℕ)
-        → ((x z : List ℕ) → returned a x stripe′ z ≡ writeCall (b .settings .n) (b .settings .m) (b .settings .size) old x stripe z clock content)
+        → ((x z : List ℕ) → returned a x stripe′ z ≡ writeCall (b .settings .n) (b .settings .m) (b .settings .size) (b .settings .stripes) old x stripe z benchStripe clock content)
         → Answers b c a blocks stripe′ blocks kept numbers bytes at out r kept′ numbers′ bytes′ out′
-        → BenchActed b c (startWrite c clock content) (λ (h : Buffered). writeStep (b .settings .n) (b .settings .m) (b .settings .size) h clock content) kept numbers bytes at out r kept′
+        → BenchActed b c (startWrite c benchStripe clock content)
+        (λ (h : Buffered). writeStep (b .settings .n) (b .settings .m) (b .settings .size) (b .settings .stripes) h benchStripe clock content) kept numbers bytes at out r kept′
         numbers′ bytes′ out′
     unfolding step worldIn worldOf
     acted-write clock content small a stripe′ ea h =
         let n = b .settings .n in
         let m = b .settings .m in
         let size = b .settings .size in
-        acted-by (startWrite c clock content) (λ (x : Buffered). writeStep n m size x clock content) a blocks stripe′ blocks blocks (λ images. rw (bytes-pass content small) refl)
-        (write-short n m size here clock content) (write-numbered n m size here clock content)
+        let stripes = b .settings .stripes in
+        acted-by (startWrite c benchStripe clock content) (λ (x : Buffered). writeStep n m size stripes x benchStripe clock content) a blocks stripe′ blocks blocks
+        (λ images. rw (bytes-pass content small) refl)
+        (write-short n m size stripes here benchStripe clock content) (write-numbered n m size stripes here benchStripe clock content)
         (returned-answer old blocks stripe blocks _ a blocks stripe′ blocks (ea blocks blocks) ∙ ap
-        (λ (x : Coordinator). answerOf x (writeStep n m size (buffered old blocks stripe) clock content)) old-is ∙ ap
-        (λ (x : Buffered). answerOf (here .state) (writeStep n m size x clock content)) same)
-        (blocks-are ∙ sym (write-blocks n m size here clock content))
-        (returned-stripe old blocks stripe blocks _ a blocks stripe′ blocks (ea blocks blocks) ∙ ap (λ (x : Buffered). stripeAfter x (writeStep n m size x clock content)) same)
-        (sym (write-coded n m size here clock content blocks)) h
+        (λ (x : Coordinator). answerOf x (writeStep n m size stripes (buffered old blocks stripe) benchStripe clock content)) old-is ∙ ap
+        (λ (x : Buffered). answerOf (here .state) (writeStep n m size stripes x benchStripe clock content)) same)
+        (blocks-are ∙ sym (write-blocks n m size stripes here benchStripe clock content))
+        (returned-stripe old blocks stripe blocks _ a blocks stripe′ blocks (ea blocks blocks) ∙ ap (λ (x : Buffered). stripeAfter x (writeStep n m size stripes x benchStripe clock content)) same)
+        (sym (write-coded n m size stripes here benchStripe clock content blocks)) h
 
     -- a write with a wrong count of digits, after the numbers of its start
     pub short-write : (clock : ℕ) (digits cont : List ℕ) (a : Answer) (ok : Bool) (stripe″ : List ℕ) → cont ≡ content (b .settings) digits → ok ≡ counted (b .settings) digits
-        → ((x z : List ℕ) → returned a x stripe″ z ≡ writeCall (b .settings .n) (b .settings .m) (b .settings .size) old x stripe z clock cont)
+        → ((x z : List ℕ) → returned a x stripe″ z ≡ writeCall (b .settings .n) (b .settings .m) (b .settings .size) (b .settings .stripes) old x stripe z benchStripe clock cont)
         → eqb (a .refusal) 0 && not ok ≡ true → ((l : Lent) → Turned b l at out (refuses (worldIn b l) badLine) r l out′)
-        → BenchActed b c (startWrite c clock (content (b .settings) digits))
-        (λ (h : Buffered). unlessShort (counted (b .settings) digits) (writeStep (b .settings .n) (b .settings .m) (b .settings .size) h clock (content (b .settings) digits)))
+        → BenchActed b c (startWrite c benchStripe clock (content (b .settings) digits))
+        (λ (h : Buffered). unlessShort (counted (b .settings) digits)
+        (writeStep (b .settings .n) (b .settings .m) (b .settings .size) (b .settings .stripes) h benchStripe clock (content (b .settings) digits)))
         kept numbers bytes at out r kept numbers bytes out′
     unfolding worldIn worldOf
     short-write clock digits cont a ok stripe″ e eo′ ea q t =
         let n = b .settings .n in
         let m = b .settings .m in
         let size = b .settings .size in
+        let stripes = b .settings .stripes in
         let step-is =
         returned-answer old blocks stripe blocks _ a blocks stripe″ blocks (ea blocks blocks)
-        ∙ ap (λ (x : List ℕ). answerOf old (writeStep n m size (buffered old blocks stripe) clock x)) e
-        ∙ ap (λ (x : Coordinator). answerOf x (writeStep n m size (buffered old blocks stripe) clock (content (b .settings) digits))) old-is
-        ∙ ap (λ (x : Buffered). answerOf (here .state) (writeStep n m size x clock (content (b .settings) digits))) same
+        ∙ ap (λ (x : List ℕ). answerOf old (writeStep n m size stripes (buffered old blocks stripe) benchStripe clock x)) e
+        ∙ ap (λ (x : Coordinator). answerOf x (writeStep n m size stripes (buffered old blocks stripe) benchStripe clock (content (b .settings) digits))) old-is
+        ∙ ap (λ (x : Buffered). answerOf (here .state) (writeStep n m size stripes x benchStripe clock (content (b .settings) digits))) same
         in
         record {
           turned = λ images.
               subst (λ (x : _). Turned b (lent images kept numbers bytes) at out x r (lent images kept numbers bytes) out′)
               (sym
-              (short-refuses (b .settings) (worldIn b (lent images kept numbers bytes)) (startWrite c clock (content (b .settings) digits)) c (here .state)
-              (writeStep n m size here clock (content (b .settings) digits)) a (counted (b .settings) digits) step-is (write-numbered n m size here clock (content (b .settings) digits))
+              (short-refuses (b .settings) (worldIn b (lent images kept numbers bytes)) (startWrite c benchStripe clock (content (b .settings) digits)) c (here .state)
+              (writeStep n m size stripes here benchStripe clock (content (b .settings) digits)) a (counted (b .settings) digits) step-is
+              (write-numbered n m size stripes here benchStripe clock (content (b .settings) digits))
               (ap (λ (x : Bool). eqb (a .refusal) 0 && not x) (sym eo′) ∙ q)))
               (t (lent images kept numbers bytes));
         }
 
     -- and any other
     pub whole-write : (clock : ℕ) (digits cont : List ℕ) (a : Answer) (ok : Bool) (stripe′ : List ℕ) → cont ≡ content (b .settings) digits → ok ≡ counted (b .settings) digits
-        → ((x z : List ℕ) → returned a x stripe′ z ≡ writeCall (b .settings .n) (b .settings .m) (b .settings .size) old x stripe z clock cont)
+        → ((x z : List ℕ) → returned a x stripe′ z ≡ writeCall (b .settings .n) (b .settings .m) (b .settings .size) (b .settings .stripes) old x stripe z benchStripe clock cont)
         → eqb (a .refusal) 0 && not ok ≡ false
         → Answers b c a blocks stripe′ blocks kept numbers bytes at out r kept′ numbers′ bytes′ out′
-        → BenchActed b c (startWrite c clock (content (b .settings) digits))
-        (λ (h : Buffered). unlessShort (counted (b .settings) digits) (writeStep (b .settings .n) (b .settings .m) (b .settings .size) h clock (content (b .settings) digits)))
+        → BenchActed b c (startWrite c benchStripe clock (content (b .settings) digits))
+        (λ (h : Buffered). unlessShort (counted (b .settings) digits)
+        (writeStep (b .settings .n) (b .settings .m) (b .settings .size) (b .settings .stripes) h benchStripe clock (content (b .settings) digits)))
         kept numbers bytes at out r kept′ numbers′ bytes′ out′
     unfolding worldIn worldOf
     whole-write clock digits cont a ok stripe′ e eo′ ea q h =
         let n = b .settings .n in
         let m = b .settings .m in
         let size = b .settings .size in
+        let stripes = b .settings .stripes in
         let cs = content (b .settings) digits in
         let step-is =
         returned-answer old blocks stripe blocks _ a blocks stripe′ blocks (ea blocks blocks)
-        ∙ ap (λ (y : List ℕ). answerOf old (writeStep n m size (buffered old blocks stripe) clock y)) e
-        ∙ ap (λ (x : Coordinator). answerOf x (writeStep n m size (buffered old blocks stripe) clock cs)) old-is
-        ∙ ap (λ (x : Buffered). answerOf (here .state) (writeStep n m size x clock cs)) same
+        ∙ ap (λ (y : List ℕ). answerOf old (writeStep n m size stripes (buffered old blocks stripe) benchStripe clock y)) e
+        ∙ ap (λ (x : Coordinator). answerOf x (writeStep n m size stripes (buffered old blocks stripe) benchStripe clock cs)) old-is
+        ∙ ap (λ (x : Buffered). answerOf (here .state) (writeStep n m size stripes x benchStripe clock cs)) same
         in
         record {
           turned = λ images.
               subst
               (λ (x : Step).
               Turned b (lent images kept numbers bytes) at out
-              (acts (b .settings) (worldIn b (lent images kept numbers bytes)) (startWrite c clock cs) c x) r (lent images kept′ numbers′ bytes′) out′)
-              (sym (short-same (here .state) (writeStep n m size here clock cs) a (counted (b .settings) digits) step-is (ap (λ (x : Bool). eqb (a .refusal) 0 && not x) (sym eo′) ∙ q)))
+              (acts (b .settings) (worldIn b (lent images kept numbers bytes)) (startWrite c benchStripe clock cs) c x) r (lent images kept′ numbers′ bytes′) out′)
+              (sym (short-same (here .state) (writeStep n m size stripes here benchStripe clock cs) a (counted (b .settings) digits) step-is
+              (ap (λ (x : Bool). eqb (a .refusal) 0 && not x) (sym eo′) ∙ q)))
               (acted-write clock cs (content-small (b .settings) digits) a stripe′
-              (λ (x z : List ℕ). ea x z ∙ ap (λ (y : List ℕ). writeCall n m size old x stripe z clock y) e) h .turned images);
+              (λ (x z : List ℕ). ea x z ∙ ap (λ (y : List ℕ). writeCall n m size stripes old x stripe z benchStripe clock y) e) h .turned images);
         }
 
     -- a reply in row k
     pub acted-reply : (k : ℕ) (reply′ : Reply) (block : List ℕ) (a : Answer) (coded blocks′ stripe′ coded′ : List ℕ) → k < b .sent
         → itemAt (b .settings .size) numbers bytes k ≡ reply reply′ block → c ≡ coordinatorOf (reply′ .time) → length coded ≡ b .settings .n * b .settings .size
-        → returned a blocks′ stripe′ coded′ ≡ takeCall (b .settings .n) (b .settings .m) (b .settings .size) old blocks stripe coded reply′ block
+        → returned a blocks′ stripe′ coded′ ≡ takeCall (b .settings .n) (b .settings .m) (b .settings .size) (b .settings .stripes) old blocks stripe coded reply′ block
         → Answers b c a blocks′ stripe′ coded′ kept numbers bytes at out r kept′ numbers′ bytes′ out′
-        → BenchActed b c (arrives k) (λ (h : Buffered). takeStep (b .settings .n) (b .settings .m) (b .settings .size) h reply′ block (b .settings .n * b .settings .size)) kept numbers bytes at
+        → BenchActed b c (arrives k)
+        (λ (h : Buffered). takeStep (b .settings .n) (b .settings .m) (b .settings .size) (b .settings .stripes) h reply′ block (b .settings .n * b .settings .size)) kept numbers bytes at
         out r kept′ numbers′ bytes′ out′
     unfolding step worldIn worldOf arriving
     acted-reply k reply′ block a coded blocks′ stripe′ coded′ l item ec long ea h =
         let n = b .settings .n in
         let m = b .settings .m in
         let size = b .settings .size in
-        let q = ap (λ (j : ℕ). takeStep n m size (buffered old blocks stripe) reply′ block j) long ∙ ap (λ (x : Buffered). takeStep n m size x reply′ block (n * size)) same in
-        acted-by (arrives k) (λ (x : Buffered). takeStep n m size x reply′ block (n * size)) a blocks′ stripe′ coded′ coded
+        let stripes = b .settings .stripes in
+        let q = ap (λ (j : ℕ). takeStep n m size stripes (buffered old blocks stripe) reply′ block j) long ∙ ap (λ (x : Buffered). takeStep n m size stripes x reply′ block (n * size)) same in
+        acted-by (arrives k) (λ (x : Buffered). takeStep n m size stripes x reply′ block (n * size)) a blocks′ stripe′ coded′ coded
         (λ images.
         arrives-item (b .settings) (worldIn b (lent images kept numbers bytes)) size numbers bytes (b .sent) k l
         ∙ ap (arriving (b .settings) (worldIn b (lent images kept numbers bytes))) item
         ∙ ap (λ (j : ℕ). coordinated (b .settings) (worldIn b (lent images kept numbers bytes)) j
-        (takeStep n m size (coordinatorKept (b .settings) (b .coordinators) kept j) reply′ block (n * size))) (sym ec))
-        (take-short n m size here reply′ block (n * size)) (take-numbered n m size here reply′ block (n * size))
+        (takeStep n m size stripes (coordinatorKept (b .settings) (b .coordinators) kept j) reply′ block (n * size))) (sym ec))
+        (take-short n m size stripes here reply′ block (n * size)) (take-numbered n m size stripes here reply′ block (n * size))
         (returned-answer old blocks stripe coded _ a blocks′ stripe′ coded′ ea ∙ ap
-        (λ (x : Coordinator). answerOf x (takeStep n m size (buffered old blocks stripe) reply′ block (length coded))) old-is ∙ ap (answerOf (here .state)) q)
+        (λ (x : Coordinator). answerOf x (takeStep n m size stripes (buffered old blocks stripe) reply′ block (length coded))) old-is ∙ ap (answerOf (here .state)) q)
         (returned-blocks old blocks stripe coded _ a blocks′ stripe′ coded′ ea ∙ ap
-        (λ (x : Buffered). blocksAfter x (takeStep n m size (buffered old blocks stripe) reply′ block (length coded))) same ∙ ap (blocksAfter here) q)
+        (λ (x : Buffered). blocksAfter x (takeStep n m size stripes (buffered old blocks stripe) reply′ block (length coded))) same ∙ ap (blocksAfter here) q)
         (returned-stripe old blocks stripe coded _ a blocks′ stripe′ coded′ ea ∙ ap
-        (λ (x : Buffered). stripeAfter x (takeStep n m size (buffered old blocks stripe) reply′ block (length coded))) same ∙ ap (stripeAfter here) q)
+        (λ (x : Buffered). stripeAfter x (takeStep n m size stripes (buffered old blocks stripe) reply′ block (length coded))) same ∙ ap (stripeAfter here) q)
         (returned-coded old blocks stripe coded _ a blocks′ stripe′ coded′ ea ∙ ap (codedAfter coded) q) h
 
     -- the same, by what the code read from the row
     pub acted-row : (k : ℕ) (reply′ : Reply) (cut : List ℕ) (a : Answer) (coded blocks′ stripe′ coded′ : List ℕ) → k < b .sent
         → isReply numbers k ≡ true → reply′ ≡ replyAt numbers k → cut ≡ sentBlockAt (b .settings .size) bytes k
         → c ≡ coordinatorOf (reply′ .time) → length coded ≡ b .settings .n * b .settings .size
-        → returned a blocks′ stripe′ coded′ ≡ takeCall (b .settings .n) (b .settings .m) (b .settings .size) old blocks stripe coded reply′ cut
+        → returned a blocks′ stripe′ coded′ ≡ takeCall (b .settings .n) (b .settings .m) (b .settings .size) (b .settings .stripes) old blocks stripe coded reply′ cut
         → Answers b c a blocks′ stripe′ coded′ kept numbers bytes at out r kept′ numbers′ bytes′ out′
         → BenchActed b c (arrives k)
-        (λ (h : Buffered). takeStep (b .settings .n) (b .settings .m) (b .settings .size) h reply′ (sentBlockAt (b .settings .size) bytes k) (b .settings .n * b .settings .size))
+        (λ (h : Buffered). takeStep (b .settings .n) (b .settings .m) (b .settings .size) (b .settings .stripes) h reply′ (sentBlockAt (b .settings .size) bytes k)
+        (b .settings .n * b .settings .size))
         kept numbers bytes at out r kept′ numbers′ bytes′ out′
     acted-row k reply′ cut a coded blocks′ stripe′ coded′ l t er e ec long ea h =
         subst
-        (λ (x : List ℕ). BenchActed b c (arrives k) (λ (h : Buffered). takeStep (b .settings .n) (b .settings .m) (b .settings .size) h reply′ x (b .settings .n * b .settings .size)) kept
+        (λ (x : List ℕ). BenchActed b c (arrives k)
+        (λ (h : Buffered). takeStep (b .settings .n) (b .settings .m) (b .settings .size) (b .settings .stripes) h reply′ x (b .settings .n * b .settings .size)) kept
         numbers bytes at out r kept′ numbers′ bytes′ out′)
         e (acted-reply k reply′ cut a coded blocks′ stripe′ coded′ l (item-reply (b .settings .size) k reply′ cut numbers bytes t er e) ec long ea h)
 
@@ -284,7 +302,8 @@ module _ (b : Bench) (c : ℕ) (kept numbers bytes : List ℕ) (at : ℕ) (out :
   read-past clock brick out′ h t = past-at _ out′ h t
 
   pub read-here : (clock brick : ℕ) (kept′ numbers′ bytes′ out′ : List ℕ) → c < benchCoordinators
-      → BenchActed b c (startRead c clock brick) (λ (h : Buffered). readStep (b .settings .n) (b .settings .m) (b .settings .size) h clock brick) kept numbers bytes at out r kept′ numbers′ bytes′ out′
+      → BenchActed b c (startRead c benchStripe clock brick)
+      (λ (h : Buffered). readStep (b .settings .n) (b .settings .m) (b .settings .size) (b .settings .stripes) h benchStripe clock brick) kept numbers bytes at out r kept′ numbers′ bytes′ out′
       → Plays b (λ (w : World). starts (b .settings) w c clock brick) kept numbers bytes at out r kept′ numbers′ bytes′ out′
   unfolding starts
   read-here clock brick kept′ numbers′ bytes′ out′ h a = here-at _ _ kept′ numbers′ bytes′ out′ h a
@@ -295,10 +314,11 @@ module _ (b : Bench) (c : ℕ) (kept numbers bytes : List ℕ) (at : ℕ) (out :
   crash-past out′ h t = past-at _ out′ h t
 
   pub crash-here : (kept′ numbers′ bytes′ out′ : List ℕ) → c < benchCoordinators
-      → BenchActed b c (crashes c untouched) (λ (h : Buffered). crashStep (b .settings .n) (b .settings .m) (b .settings .size) h) kept numbers bytes at out r kept′ numbers′ bytes′ out′
+      → BenchActed b c (crashes c untouched)
+      (λ (h : Buffered). crashStep (b .settings .n) (b .settings .m) (b .settings .size) (b .settings .stripes) h) kept numbers bytes at out r kept′ numbers′ bytes′ out′
       → Plays b (λ (w : World). crashesAt (b .settings) w c) kept numbers bytes at out r kept′ numbers′ bytes′ out′
   unfolding crashesAt
-  crash-here kept′ numbers′ bytes′ out′ h a = here-at _ (λ (x : Buffered). crashStep (b .settings .n) (b .settings .m) (b .settings .size) x) kept′ numbers′ bytes′ out′ h a
+  crash-here kept′ numbers′ bytes′ out′ h a = here-at _ (λ (x : Buffered). crashStep (b .settings .n) (b .settings .m) (b .settings .size) (b .settings .stripes) x) kept′ numbers′ bytes′ out′ h a
 
   pub write-past : (clock : ℕ) (digits out′ : List ℕ) → benchCoordinators ≤ c → ((l : Lent) → Turned b l at out (refuses (worldIn b l) badNumber) r l out′)
       → Plays b (λ (w : World). writes (b .settings) w c clock digits) kept numbers bytes at out r kept numbers bytes out′
@@ -306,13 +326,15 @@ module _ (b : Bench) (c : ℕ) (kept numbers bytes : List ℕ) (at : ℕ) (out :
   write-past clock digits out′ h t = past-at _ out′ h t
 
   pub write-here : (clock : ℕ) (digits kept′ numbers′ bytes′ out′ : List ℕ) → c < benchCoordinators
-      → BenchActed b c (startWrite c clock (content (b .settings) digits))
-      (λ (h : Buffered). unlessShort (counted (b .settings) digits) (writeStep (b .settings .n) (b .settings .m) (b .settings .size) h clock (content (b .settings) digits)))
+      → BenchActed b c (startWrite c benchStripe clock (content (b .settings) digits))
+      (λ (h : Buffered). unlessShort (counted (b .settings) digits)
+      (writeStep (b .settings .n) (b .settings .m) (b .settings .size) (b .settings .stripes) h benchStripe clock (content (b .settings) digits)))
       kept numbers bytes at out r kept′ numbers′ bytes′ out′
       → Plays b (λ (w : World). writes (b .settings) w c clock digits) kept numbers bytes at out r kept′ numbers′ bytes′ out′
   unfolding writes
   write-here clock digits kept′ numbers′ bytes′ out′ h a =
-      here-at _ (λ (x : Buffered). unlessShort (counted (b .settings) digits) (writeStep (b .settings .n) (b .settings .m) (b .settings .size) x clock (content (b .settings) digits)))
+      here-at _ (λ (x : Buffered). unlessShort (counted (b .settings) digits)
+      (writeStep (b .settings .n) (b .settings .m) (b .settings .size) (b .settings .stripes) x benchStripe clock (content (b .settings) digits)))
       kept′ numbers′ bytes′ out′ h a
 
 -- a reply in row k
@@ -330,12 +352,13 @@ module _ (b : Bench) (k : ℕ) (kept numbers bytes : List ℕ) (at : ℕ) (out :
 
   pub reply-here : (kept′ numbers′ bytes′ out′ : List ℕ) → coordinatorOf (reply′ .time) < benchCoordinators
       → BenchActed b (coordinatorOf (reply′ .time)) (arrives k)
-      (λ (h : Buffered). takeStep (b .settings .n) (b .settings .m) (b .settings .size) h reply′ (sentBlockAt (b .settings .size) bytes k) (b .settings .n * b .settings .size))
+      (λ (h : Buffered). takeStep (b .settings .n) (b .settings .m) (b .settings .size) (b .settings .stripes) h reply′ (sentBlockAt (b .settings .size) bytes k) (b .settings .n * b .settings .size))
       kept numbers bytes at out r kept′ numbers′ bytes′ out′
       → Plays b (λ (w : World). carries (b .settings) w k (itemAt (b .settings .size) numbers bytes k)) kept numbers bytes at out r kept′ numbers′ bytes′ out′
   unfolding carries
   reply-here kept′ numbers′ bytes′ out′ h a =
       subst (λ (i : Item). Plays b (λ (w : World). carries (b .settings) w k i) kept numbers bytes at out r kept′ numbers′ bytes′ out′) (sym item-here)
       (here-at b (coordinatorOf (reply′ .time)) kept numbers bytes at out r (arrives k)
-      (λ (x : Buffered). takeStep (b .settings .n) (b .settings .m) (b .settings .size) x reply′ (sentBlockAt (b .settings .size) bytes k) (b .settings .n * b .settings .size)) kept′ numbers′
+      (λ (x : Buffered). takeStep (b .settings .n) (b .settings .m) (b .settings .size) (b .settings .stripes) x reply′ (sentBlockAt (b .settings .size) bytes k)
+      (b .settings .n * b .settings .size)) kept′ numbers′
       bytes′ out′ h a)

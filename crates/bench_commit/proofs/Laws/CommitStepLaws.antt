@@ -68,38 +68,38 @@ numbered-drawn c reading f = go (leb (drawRefusal c reading) 0) refl
     go true e = tt
     go false e = λ z. (let l = leb-false (drawRefusal c reading) 0 e in absurd (omega arith))
 
-module _ (n m size : ℕ) (h : Buffered) where
-  module _ (reading : ℕ) (bytes : List ℕ) where
-    pub write-numbered : Numbered (writeStep n m size h reading bytes)
+module _ (n m size stripes : ℕ) (h : Buffered) where
+  module _ (number reading : ℕ) (bytes : List ℕ) where
+    pub write-numbered : Numbered (writeStep n m size stripes h number reading bytes)
     unfolding writeStep
     write-numbered = numbered-checked _ _ (numbered-drawn (h .state .clock) reading _)
 
-    pub write-blocks : blocksAfter h (writeStep n m size h reading bytes) ≡ h .blocks
+    pub write-blocks : blocksAfter h (writeStep n m size stripes h number reading bytes) ≡ h .blocks
     unfolding writeStep starting
     write-blocks = blocks-of h _ (so-checked _ _ _ (so-drawn _ (drawOf (h .state .clock) reading) _ (λ t c. refl)))
 
-    pub write-coded : (old : List ℕ) → codedAfter old (writeStep n m size h reading bytes) ≡ old
+    pub write-coded : (old : List ℕ) → codedAfter old (writeStep n m size stripes h number reading bytes) ≡ old
     unfolding writeStep starting sentBlocks roundMessage firstOp
     write-coded old = coded-of old _ (so-checked _ _ _ (so-drawn _ (drawOf (h .state .clock) reading) _ (λ t c. refl)))
 
-  module _ (reading first : ℕ) where
-    pub read-numbered : Numbered (readStep n m size h reading first)
+  module _ (number reading first : ℕ) where
+    pub read-numbered : Numbered (readStep n m size stripes h number reading first)
     unfolding readStep
     read-numbered = numbered-checked _ _ (numbered-drawn (h .state .clock) reading _)
 
-    pub read-blocks : blocksAfter h (readStep n m size h reading first) ≡ h .blocks
+    pub read-blocks : blocksAfter h (readStep n m size stripes h number reading first) ≡ h .blocks
     unfolding readStep starting
     read-blocks = blocks-of h _ (so-checked _ _ _ (so-drawn _ (drawOf (h .state .clock) reading) _ (λ t c. refl)))
 
-    pub read-stripe : stripeAfter h (readStep n m size h reading first) ≡ h .stripe
+    pub read-stripe : stripeAfter h (readStep n m size stripes h number reading first) ≡ h .stripe
     unfolding readStep starting
     read-stripe = stripe-of h _ (so-checked _ _ _ (so-drawn _ (drawOf (h .state .clock) reading) _ (λ t c. refl)))
 
-    pub read-coded : (old : List ℕ) → codedAfter old (readStep n m size h reading first) ≡ old
+    pub read-coded : (old : List ℕ) → codedAfter old (readStep n m size stripes h number reading first) ≡ old
     unfolding readStep starting sentBlocks roundMessage firstOp
     read-coded old = coded-of old _ (so-checked _ _ _ (so-drawn _ (drawOf (h .state .clock) reading) _ (λ t c. refl)))
 
-  crash-so : (P : Went → Type 0) → P (record { next = h; sent = []; seen = nothingSeen }) → P (ending h (h .stripe) [] cutSeen noBricks) → Went-so P (crashStep n m size h)
+  crash-so : (P : Went → Type 0) → P (record { next = h; sent = []; seen = nothingSeen }) → P (ending h (h .stripe) [] cutSeen noBricks) → Went-so P (crashStep n m size stripes h)
   unfolding crashStep crashed
   crash-so P a b = so-checked P _ (went (crashed h)) (go (eqb (h .state .op .kind) idleKind))
     where
@@ -107,22 +107,22 @@ module _ (n m size : ℕ) (h : Buffered) where
       go true = a
       go false = b
 
-  pub crash-numbered : Numbered (crashStep n m size h)
+  pub crash-numbered : Numbered (crashStep n m size stripes h)
   unfolding crashStep
   crash-numbered = numbered-checked _ (went (crashed h)) tt
 
-  pub crash-blocks : blocksAfter h (crashStep n m size h) ≡ h .blocks
+  pub crash-blocks : blocksAfter h (crashStep n m size stripes h) ≡ h .blocks
   unfolding ending
   crash-blocks = blocks-of h _ (crash-so _ refl refl)
 
-  pub crash-stripe : stripeAfter h (crashStep n m size h) ≡ h .stripe
+  pub crash-stripe : stripeAfter h (crashStep n m size stripes h) ≡ h .stripe
   unfolding ending
   crash-stripe = stripe-of h _ (crash-so _ refl refl)
 
-  pub crash-coded : (old : List ℕ) → codedAfter old (crashStep n m size h) ≡ old
+  pub crash-coded : (old : List ℕ) → codedAfter old (crashStep n m size stripes h) ≡ old
   unfolding ending sentBlocks
   crash-coded old = coded-of old _ (crash-so _ refl refl)
 
-  pub take-numbered : (r : Reply) (block : List ℕ) (coded : ℕ) → Numbered (takeStep n m size h r block coded)
+  pub take-numbered : (r : Reply) (block : List ℕ) (coded : ℕ) → Numbered (takeStep n m size stripes h r block coded)
   unfolding takeStep
   take-numbered r block coded = numbered-checked _ _ tt

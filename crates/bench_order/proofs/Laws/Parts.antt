@@ -12,12 +12,13 @@ use Rattle.register.specs.Runs.{plain, World, Event, step}
 use Rattle.bench_rules.specs.Play.{Played, refuses, passes, happens, andThen}
 use Rattle.bench_order.specs.Report.{Part, playsPart}
 use Rattle.bench_order.proofs.Laws.ToldLaws.{told}
-use Rattle.bench_limits.specs.Limits.{lastMessage}
+use Rattle.bench_limits.specs.Limits.{benchStripe, lastMessage}
 
--- The operation of this kind and time runs: it is a read or a write.
+-- The operation of this kind and time runs on the bench's stripe: it is a read or a write.
 pub record Ran (op : Op) (kind time : ℕ) : Type 0 where
   pub time-is : op .time ≡ time
   pub kind-is : op .kind ≡ kind
+  pub stripe-is : op .stripe ≡ benchStripe
   pub known : (kind ≡ readingKind) ⊎ (kind ≡ writingKind)
 
 -- "message 127": so many are sent at most
@@ -25,13 +26,14 @@ unfoldable pub FewSent : World → Type 0
 FewSent w = length (w .sent) ≤ lastMessage
 
 -- A part of a line is refused, or passes, or is an event that happens by the runs' own step. At such an event the bench prints what is seen
--- at that very event, of the operation that ran at its coordinator, and sends no message past 127.
+-- at that very event on its stripe, of the operation that ran at its coordinator; nothing is seen on another; and no message past 127 is sent.
 pub data Does (s : Settings) (w : World) : Played → Type 0 where
   refusing : (number : ℕ) → Does s w (refuses w number)
   passing : Does s w (passes w)
   happening : (e : Event) (c kind : ℕ) → (FewSent w → FewSent (step s w e .world))
-      → ((time : ℕ) (how : Ending (plain s)) → step s w e .seen ≡ Seen.ended time how ∷ [] → Ran (w .coordinators c .state .op) kind time)
-      → Does s w (happens s w e (told s c kind (step s w e .seen)))
+      → ((time : ℕ) (how : Ending (plain s)) → step s w e .seen benchStripe ≡ Seen.ended time how ∷ [] → Ran (w .coordinators c .state .op) kind time)
+      → ((stripe : ℕ) → (stripe ≡ benchStripe → ⊥) → step s w e .seen stripe ≡ [])
+      → Does s w (happens s w e (told s c kind (step s w e .seen benchStripe)))
 
 -- What a line does is what its parts do, one after the other.
 pub data Parts (s : Settings) : World → List Part → Played → Type 0 where

@@ -3,7 +3,7 @@ use mathlib.Core.Path.{_≡_, refl, sym, ap, subst, _∙_}
 use mathlib.Core.Logic.{_⊎_, inl, inr}
 use mathlib.Core.Bool.{Bool, true, false, cond, _&&_}
 use mathlib.Core.List.{List, [], _∷_, append-nil}
-use Prim.Native.Nat.{ℕ, zero, suc, _≤_}
+use Prim.Native.Nat.{ℕ, zero, suc, _≤_, _<_}
 use native.Mathlib.Omega.{arith}
 use lib.Dec.{eqb, ltb}
 use borrow.Author.Tests.{eqb-true, eqb-false, eq-eqb, ne-eqb, le-ltb, lt-leb}
@@ -12,7 +12,7 @@ use Rattle.settings.specs.declared.Settings.{Settings}
 use Rattle.coord_record.specs.Records.{readingKind, noBricks, idleKind, writingKind}
 use Rattle.coord_record.specs.Sound.{unsetOp, readRight, writeRight, opRight}
 use Rattle.coord_record.proofs.Laws.SoundPartLaws.{sound-parts}
-use Rattle.coord_record.specs.declared.Coordinator.{Coordinator}
+use Rattle.coord_record.specs.SoundParts.{SoundParts}
 use Rattle.coord_record.specs.declared.Op.{Op}
 use Rattle.coord_decide.specs.Deciding.{decided}
 use Rattle.coord_decide.specs.Decisions.{DecisionSays}
@@ -22,40 +22,43 @@ use Rattle.coord_decide.specs.declared.Decision.the-variants.{Abort, Give, Look
 use Rattle.coord_apply.specs.Acts.{acted, ending, nextRound, finishedSeen, waitingOr, counting, withTally}
 use Rattle.coord_apply.specs.Answers.{Buffered, Went, went, nothingSeen, beganSeen, okSeen, readSeen, cutSeen, noneSeen, abortedSeen}
 use Rattle.coord_apply.specs.declared.Notice.{Notice}
-use Rattle.coord_refusals.specs.Checks.{recordChecks, crashRefusal}
+use Rattle.coord_refusals.specs.Checks.{crashRefusal}
 use Rattle.coordinator.specs.Routines.{takeStep, crashed, crashStep, writeStep, readStep}
 use Rattle.coord_laws.proofs.Laws.OpCaseLaws.{in-read, Fit, reading, looking, restoring, ordering, storing, fit}
 use Rattle.coord_laws.proofs.Laws.StepRunLaws.{took, write-begins, read-begins}
+use Rattle.coord_laws.proofs.Laws.StripeLaws.{write-starts, read-starts}
 use Rattle.coord_laws.proofs.Laws.SoundnessLaws.{passes, same-went}
 use Rattle.message.specs.Flags.{members}
 use Rattle.message.specs.declared.Reply.{Reply}
-use Rattle.settings.specs.Ranges.{codeRefusal, quorum}
+use Rattle.settings.specs.Ranges.{codeRefusal, stripeCountRefusal, quorum}
 use Rattle.settings.proofs.Laws.RefusalLaws.{passed-rest}
 use Rattle.coord_refusals.proofs.Laws.RefusedLaws.{record-passes}
 use Rattle.order.specs.Claim.{Ending, Seen, began, ended}
 use Rattle.register.specs.Runs.{plain, seenOf}
 use Rattle.bench_print.specs.Printing.{kindWord, endWord, lineText, isEnd, endedText}
+use Rattle.bench_limits.specs.Limits.{benchStripes, benchStripe}
 use Rattle.bench_order.proofs.Laws.Parts.{Ran}
 use Rattle.bench_order.specs.Told.{endLine, toldEnd}
 use Rattle.bench_order.proofs.Laws.ToldLaws.{told}
 
--- ok is the end of a write, and the stripe is the end of a read; what ends is the operation that ran
+-- ok is the end of a write, and the stripe is the end of a read; what ends is the operation that ran; and it is seen on the bench's stripe
 pub record Agrees (op : Op) (e : Notice) : Type 0 where
   pub ok-writes : e .what ≡ okSeen → eqb (e .kind) readingKind ≡ false
   pub bytes-read : e .what ≡ readSeen → eqb (e .kind) readingKind ≡ true
   pub ends-own : (e .what ≡ noneSeen → ⊥) → (e .what ≡ beganSeen → ⊥) → Ran op (e .kind) (e .time)
+  pub on-stripe : e .stripe ≡ benchStripe
 
-told-by-what : (s : Settings) (op : Op) (c what kind time : ℕ) (bricks : List ℕ) (h : Buffered) → Agrees op (record { what = what; kind = kind; time = time; bricks = bricks })
-    → told s c kind (seenOf s (record { what = what; kind = kind; time = time; bricks = bricks }) h)
-    ≡ endedText c (record { what = what; kind = kind; time = time; bricks = bricks }) (h .stripe)
+told-by-what : (s : Settings) (op : Op) (c what kind stripe time : ℕ) (bricks : List ℕ) (h : Buffered) → Agrees op (record { what = what; kind = kind; stripe = stripe; time = time; bricks = bricks })
+    → told s c kind (seenOf s (record { what = what; kind = kind; stripe = stripe; time = time; bricks = bricks }) h)
+    ≡ endedText c (record { what = what; kind = kind; stripe = stripe; time = time; bricks = bricks }) (h .stripe)
 unfolding told toldEnd endLine seenOf endedText isEnd lineText kindWord endWord
-told-by-what s op c zero kind time bricks h a = refl
-told-by-what s op c (suc zero) kind time bricks h a = refl
-told-by-what s op c (suc (suc zero)) kind time bricks h a = rw (a .ok-writes refl) (append-nil _)
-told-by-what s op c (suc (suc (suc zero))) kind time bricks h a = rw (a .bytes-read refl) (append-nil _)
-told-by-what s op c (suc (suc (suc (suc zero)))) kind time bricks h a = append-nil _
-told-by-what s op c (suc (suc (suc (suc (suc zero))))) kind time bricks h a = append-nil _
-told-by-what s op c (suc (suc (suc (suc (suc (suc k)))))) kind time bricks h a =
+told-by-what s op c zero kind stripe time bricks h a = refl
+told-by-what s op c (suc zero) kind stripe time bricks h a = refl
+told-by-what s op c (suc (suc zero)) kind stripe time bricks h a = rw (a .ok-writes refl) (append-nil _)
+told-by-what s op c (suc (suc (suc zero))) kind stripe time bricks h a = rw (a .bytes-read refl) (append-nil _)
+told-by-what s op c (suc (suc (suc (suc zero)))) kind stripe time bricks h a = append-nil _
+told-by-what s op c (suc (suc (suc (suc (suc zero))))) kind stripe time bricks h a = append-nil _
+told-by-what s op c (suc (suc (suc (suc (suc (suc k)))))) kind stripe time bricks h a =
     rw (
       ne-eqb (suc (suc (suc (suc (suc (suc k)))))) beganSeen (λ q. omega (arith, q)),
       ne-eqb (suc (suc (suc (suc (suc (suc k)))))) okSeen (λ q. omega (arith, q)),
@@ -70,7 +73,7 @@ told-by-what s op c (suc (suc (suc (suc (suc (suc k)))))) kind time bricks h a =
 -- what is printed at an event of coordinator c is the line of what is seen there
 pub printed-is-seen : (s : Settings) (op : Op) (c : ℕ) (e : Notice) (h : Buffered) → Agrees op e
     → told s c (e .kind) (seenOf s e h) ≡ endedText c e (h .stripe)
-printed-is-seen s op c e h a = told-by-what s op c (e .what) (e .kind) (e .time) (e .bricks) h a
+printed-is-seen s op c e h a = told-by-what s op c (e .what) (e .kind) (e .stripe) (e .time) (e .bricks) h a
 
 -- what ended is what was shown to end, at its time
 unfoldable endTime : (s : Settings) → List (Seen (plain s)) → ℕ
@@ -113,56 +116,59 @@ end-ran s op e h time how a q =
 -- Every routine of a coordinator shows what agrees. Nothing and a beginning agree by themselves:
 nothing-agrees : (op : Op) → Agrees op nothingSeen
 unfolding nothingSeen
-nothing-agrees op = record { ok-writes = λ q. absurd (omega (arith, q)); bytes-read = λ q. absurd (omega (arith, q)); ends-own = λ a b. absurd (a refl) }
+nothing-agrees op =
+    record { ok-writes = λ q. absurd (omega (arith, q)); bytes-read = λ q. absurd (omega (arith, q)); ends-own = λ a b. absurd (a refl); on-stripe = refl }
 
-began-agrees : (op : Op) (e : Notice) → e .what ≡ beganSeen → Agrees op e
-began-agrees op e w =
-    record { ok-writes = λ q. absurd (omega (arith, w, q)); bytes-read = λ q. absurd (omega (arith, w, q)); ends-own = λ a b. absurd (b w) }
+began-agrees : (op : Op) (e : Notice) → e .what ≡ beganSeen → e .stripe ≡ benchStripe → Agrees op e
+began-agrees op e w z =
+    record { ok-writes = λ q. absurd (omega (arith, w, q)); bytes-read = λ q. absurd (omega (arith, w, q)); ends-own = λ a b. absurd (b w); on-stripe = z }
 
 -- an operation that runs, and ends aborted or cut, or finishes
-running : (op : Op) → (op .kind ≡ readingKind) ⊎ (op .kind ≡ writingKind) → Ran op (op .kind) (op .time)
-running op k = record { time-is = refl; kind-is = refl; known = k }
+running : (op : Op) → op .stripe ≡ benchStripe → (op .kind ≡ readingKind) ⊎ (op .kind ≡ writingKind) → Ran op (op .kind) (op .time)
+running op z k = record { time-is = refl; kind-is = refl; stripe-is = z; known = k }
 
-short-agrees : (op : Op) (what : ℕ) (bricks : List ℕ) → (op .kind ≡ readingKind) ⊎ (op .kind ≡ writingKind) → abortedSeen ≤ what
-    → Agrees op (record { what = what; kind = op .kind; time = op .time; bricks = bricks })
-short-agrees op what bricks k h =
-    record { ok-writes = λ q. absurd (omega (arith, h, q)); bytes-read = λ q. absurd (omega (arith, h, q)); ends-own = λ a b. running op k }
+short-agrees : (op : Op) (what : ℕ) (bricks : List ℕ) → op .stripe ≡ benchStripe → (op .kind ≡ readingKind) ⊎ (op .kind ≡ writingKind) → abortedSeen ≤ what
+    → Agrees op (record { what = what; kind = op .kind; stripe = op .stripe; time = op .time; bricks = bricks })
+short-agrees op what bricks z k h =
+    record { ok-writes = λ q. absurd (omega (arith, h, q)); bytes-read = λ q. absurd (omega (arith, h, q)); ends-own = λ a b. running op z k; on-stripe = z }
 
-finish-agrees : (op : Op) (bricks : List ℕ) → (op .kind ≡ readingKind) ⊎ (op .kind ≡ writingKind)
-    → Agrees op (record { what = finishedSeen op; kind = op .kind; time = op .time; bricks = bricks })
+finish-agrees : (op : Op) (bricks : List ℕ) → op .stripe ≡ benchStripe → (op .kind ≡ readingKind) ⊎ (op .kind ≡ writingKind)
+    → Agrees op (record { what = finishedSeen op; kind = op .kind; stripe = op .stripe; time = op .time; bricks = bricks })
 unfolding finishedSeen
-finish-agrees op bricks k = go (eqb (op .kind) readingKind) refl
+finish-agrees op bricks z k = go (eqb (op .kind) readingKind) refl
   where
-    go : (b : Bool) → eqb (op .kind) readingKind ≡ b → Agrees op (record { what = cond b readSeen okSeen; kind = op .kind; time = op .time; bricks = bricks })
-    go true e = record { ok-writes = λ q. absurd (omega (arith, q)); bytes-read = λ q. e; ends-own = λ a b. running op k }
-    go false e = record { ok-writes = λ q. e; bytes-read = λ q. absurd (omega (arith, q)); ends-own = λ a b. running op k }
+    go : (b : Bool) → eqb (op .kind) readingKind ≡ b → Agrees op (record { what = cond b readSeen okSeen; kind = op .kind; stripe = op .stripe; time = op .time; bricks = bricks })
+    go true e = record { ok-writes = λ q. absurd (omega (arith, q)); bytes-read = λ q. e; ends-own = λ a b. running op z k; on-stripe = z }
+    go false e = record { ok-writes = λ q. e; bytes-read = λ q. absurd (omega (arith, q)); ends-own = λ a b. running op z k; on-stripe = z }
 
-acted-agrees : (n m size : ℕ) (h : Buffered) → opRight (h .state .op) ≡ true → (h .state .op .kind ≡ readingKind) ⊎ (h .state .op .kind ≡ writingKind) → (d : Decision)
+acted-agrees : (n m size : ℕ) (h : Buffered) → opRight (h .state .op) ≡ true → h .state .op .stripe ≡ benchStripe → (h .state .op .kind ≡ readingKind) ⊎ (h .state .op .kind ≡ writingKind) →
+    (d : Decision)
     → DecisionSays n m (h .state .op) (h .state .tally) d → Agrees (h .state .op) (acted n m size h d .seen)
 unfolding acted ending nextRound DecisionSays
-acted-agrees n m size h r k Abort s = short-agrees (h .state .op) abortedSeen noBricks k (omega arith)
-acted-agrees n m size h r k Give s =
+acted-agrees n m size h r z k Abort s = short-agrees (h .state .op) abortedSeen noBricks z k (omega arith)
+acted-agrees n m size h r z k Give s =
     record {
       ok-writes = λ q. absurd (omega (arith, q));
       bytes-read = λ q. eq-eqb (h .state .op .kind) readingKind (in-read (h .state .op) r (s .phase-is) .kind-is);
-      ends-own = λ a b. running (h .state .op) k;
+      ends-own = λ a b. running (h .state .op) z k;
+      on-stripe = z;
     }
-acted-agrees n m size h r k (Look max) s = nothing-agrees (h .state .op)
-acted-agrees n m size h r k Store s = nothing-agrees (h .state .op)
-acted-agrees n m size h r k (Recover time) s = nothing-agrees (h .state .op)
-acted-agrees n m size h r k Finish s = finish-agrees (h .state .op) (h .state .bricks) k
+acted-agrees n m size h r z k (Look max) s = nothing-agrees (h .state .op)
+acted-agrees n m size h r z k Store s = nothing-agrees (h .state .op)
+acted-agrees n m size h r z k (Recover time) s = nothing-agrees (h .state .op)
+acted-agrees n m size h r z k Finish s = finish-agrees (h .state .op) (h .state .bricks) z k
 
-waiting-agrees : (n m size : ℕ) (h : Buffered) → opRight (h .state .op) ≡ true → (h .state .op .kind ≡ readingKind) ⊎ (h .state .op .kind ≡ writingKind)
+waiting-agrees : (n m size : ℕ) (h : Buffered) → opRight (h .state .op) ≡ true → h .state .op .stripe ≡ benchStripe → (h .state .op .kind ≡ readingKind) ⊎ (h .state .op .kind ≡ writingKind)
     → Agrees (h .state .op) (waitingOr n m size h .seen)
 unfolding waitingOr
-waiting-agrees n m size h r k = go (ltb (members (h .state .tally .counted) n) (quorum n m))
+waiting-agrees n m size h r z k = go (ltb (members (h .state .tally .counted) n) (quorum n m))
   where
     go : (b : Bool)
         → Agrees (h .state .op)
         (cond b (record { next = h; sent = []; seen = nothingSeen }) (acted n m size h (decided n m (h .state .op) (h .state .tally))) .seen)
     go true = nothing-agrees (h .state .op)
     go false =
-        acted-agrees n m size h r k (decided n m (h .state .op) (h .state .tally)) (decided-says n m (h .state .op) (h .state .tally))
+        acted-agrees n m size h r z k (decided n m (h .state .op) (h .state .tally)) (decided-says n m (h .state .op) (h .state .tally))
 
 -- the kinds of a sound record
 kind-known : (op : Op) → opRight op ≡ true → (op .kind ≡ idleKind → ⊥) → (op .kind ≡ readingKind) ⊎ (op .kind ≡ writingKind)
@@ -182,42 +188,51 @@ fit-known op (restoring k p _) = inl k
 fit-known op (ordering k p _ _) = inr k
 fit-known op (storing k p _) = inr k
 
+-- the stripe of a volume of one
+only-stripe : (stripes stripe : ℕ) → stripes ≡ benchStripes → stripe < stripes → stripe ≡ benchStripe
+only-stripe stripes stripe one h = omega (arith, one, h)
+
 -- a reply,
-pub take-agrees : (n m size : ℕ) (h : Buffered) (r : Reply) (block : List ℕ) (coded : ℕ) (g : Went) → takeStep n m size h r block coded ≡ went g
-    → Agrees (h .state .op) (g .seen)
-unfolding counting withTally
-take-agrees n m size h r block coded g e =
-    let t = took n m size h r block coded g e in
-    let o = t .takes .parts .op-right in
-    subst (λ (v : Went). Agrees (h .state .op) (v .seen)) (t .is)
-    (waiting-agrees n m size (counting size h r block) o
-    (fit-known (h .state .op) (fit (h .state .op) o (λ _ z. omega (arith, t .answer .of-phase, t .reply .kind-low, z)))))
+module _ (n m size stripes : ℕ) (one : stripes ≡ benchStripes) (h : Buffered) where
+  pub take-agrees : (r : Reply) (block : List ℕ) (coded : ℕ) (g : Went) → takeStep n m size stripes h r block coded ≡ went g
+      → Agrees (h .state .op) (g .seen)
+  unfolding counting withTally
+  take-agrees r block coded g e =
+      let t = took n m size stripes h r block coded g e in
+      let o = t .takes .parts .op-right in
+      subst (λ (v : Went). Agrees (h .state .op) (v .seen)) (t .is)
+      (waiting-agrees n m size (counting size h r block) o (only-stripe stripes (h .state .op .stripe) one (t .takes .parts .stripe-low))
+      (fit-known (h .state .op) (fit (h .state .op) o (λ _ z. omega (arith, t .answer .of-phase, t .reply .kind-low, z)))))
 
--- a crash,
-crash-right : (n m size : ℕ) (c : Coordinator) → crashRefusal n m size c ≡ 0 → opRight (c .op) ≡ true
-unfolding crashRefusal
-crash-right n m size c e =
-    sound-parts n m size c (record-passes n m size c [] (passed-rest (codeRefusal n m size) (recordChecks n m size c []) e) .0 .is-sound) .op-right
+  -- a crash,
+  crash-sound : crashRefusal n m size stripes (h .state) ≡ 0 → SoundParts n m size stripes (h .state)
+  unfolding crashRefusal
+  crash-sound e =
+      sound-parts n m size stripes (h .state)
+      (record-passes n m size stripes (h .state) [] (passed-rest (stripeCountRefusal stripes) _ (passed-rest (codeRefusal n m size) _ e)) .0 .is-sound)
 
-pub crash-agrees : (n m size : ℕ) (h : Buffered) (g : Went) → crashStep n m size h ≡ went g → Agrees (h .state .op) (g .seen)
-unfolding crashStep crashed ending
-crash-agrees n m size h g e =
-    let p = passes (crashRefusal n m size (h .state)) (went (crashed h)) g e in
-    subst (λ (v : Went). Agrees (h .state .op) (v .seen)) (same-went (crashed h) g (p .1))
-    (go (crash-right n m size (h .state) (p .0)) (eqb (h .state .op .kind) idleKind) refl)
-  where
-    go : opRight (h .state .op) ≡ true → (b : Bool) → eqb (h .state .op .kind) idleKind ≡ b
-        → Agrees (h .state .op) (cond b (record { next = h; sent = []; seen = nothingSeen }) (ending h (h .stripe) [] cutSeen noBricks) .seen)
-    go r true q = nothing-agrees (h .state .op)
-    go r false q =
-        short-agrees (h .state .op) cutSeen noBricks (kind-known (h .state .op) r (eqb-false (h .state .op .kind) idleKind q)) (omega arith)
+  pub crash-agrees : (g : Went) → crashStep n m size stripes h ≡ went g → Agrees (h .state .op) (g .seen)
+  unfolding crashStep crashed ending
+  crash-agrees g e =
+      let p = passes (crashRefusal n m size stripes (h .state)) (went (crashed h)) g e in
+      subst (λ (v : Went). Agrees (h .state .op) (v .seen)) (same-went (crashed h) g (p .1))
+      (go (crash-sound (p .0)) (eqb (h .state .op .kind) idleKind) refl)
+    where
+      go : SoundParts n m size stripes (h .state) → (b : Bool) → eqb (h .state .op .kind) idleKind ≡ b
+          → Agrees (h .state .op) (cond b (record { next = h; sent = []; seen = nothingSeen }) (ending h (h .stripe) [] cutSeen noBricks) .seen)
+      go r true q = nothing-agrees (h .state .op)
+      go r false q =
+          short-agrees (h .state .op) cutSeen noBricks (only-stripe stripes (h .state .op .stripe) one (r .stripe-low))
+          (kind-known (h .state .op) (r .op-right) (eqb-false (h .state .op .kind) idleKind q)) (omega arith)
 
 -- the start of a write, and of a read
-pub write-agrees : (n m size : ℕ) (h : Buffered) (clock : ℕ) (bytes : List ℕ) (g : Went) → writeStep n m size h clock bytes ≡ went g
-    → Agrees (h .state .op) (g .seen)
-write-agrees n m size h clock bytes g e =
-    began-agrees (h .state .op) (g .seen) (ap (λ (v : Notice). v .what) (write-begins n m size h clock bytes g e .0 .seen-is))
+module _ (n m size stripes : ℕ) (h : Buffered) where
+  pub write-agrees : (clock : ℕ) (bytes : List ℕ) (g : Went) → writeStep n m size stripes h benchStripe clock bytes ≡ went g → Agrees (h .state .op) (g .seen)
+  write-agrees clock bytes g e =
+      began-agrees (h .state .op) (g .seen) (ap (λ (v : Notice). v .what) (write-begins n m size stripes h benchStripe clock bytes g e .0 .seen-is))
+      (write-starts n m size stripes h benchStripe clock bytes g e .shows)
 
-pub read-agrees : (n m size : ℕ) (h : Buffered) (clock first : ℕ) (g : Went) → readStep n m size h clock first ≡ went g → Agrees (h .state .op) (g .seen)
-read-agrees n m size h clock first g e =
-    began-agrees (h .state .op) (g .seen) (ap (λ (v : Notice). v .what) (read-begins n m size h clock first g e .0 .seen-is))
+  pub read-agrees : (clock first : ℕ) (g : Went) → readStep n m size stripes h benchStripe clock first ≡ went g → Agrees (h .state .op) (g .seen)
+  read-agrees clock first g e =
+      began-agrees (h .state .op) (g .seen) (ap (λ (v : Notice). v .what) (read-begins n m size stripes h benchStripe clock first g e .0 .seen-is))
+      (read-starts n m size stripes h benchStripe clock first g e .shows)

@@ -18,13 +18,14 @@ use Rattle.order.specs.Places.{In}
 use Rattle.order.proofs.Laws.SeenLaws.{seen-began}
 use Rattle.order.proofs.Laws.OneOrderTheorem.{one-order}
 use Rattle.register.proofs.Laws.CorollaryLaws.{one-thing-seen}
-use Rattle.register.proofs.Laws.Invariant.{Hist, Running, Inv}
+use Rattle.register.proofs.Laws.Invariant.{Hist, Running, view, Inv}
+use Rattle.register.proofs.Laws.StripeViewLaws.{viewed-here}
 use Rattle.register.proofs.Laws.BegunLaws.{reads-begun, writes-begun}
 use Rattle.register.specs.Runs.{plain, World, Event, Moved, unmoved, freshSet, step, nextMoved, runFrom, run}
 use Rattle.register.proofs.Laws.TheoremProof.{step-goes, run-holds}
 use Rattle.bench_parse.specs.Lines.{Line, setLine, writeLine, readLine, carryLine, crashLine, downLine, upLine, noLine, reads}
 use Rattle.bench_state.specs.State.{benchRange}
-use Rattle.bench_rules.specs.Play.{Played, refuses, passes, happens, andThen, plays, Stage, waiting, playing, waits, begins, first, Turn, turn}
+use Rattle.bench_rules.specs.Play.{Played, refuses, passes, happens, andThen, plays, Stage, waiting, playing, waits, begins, oneStripe, first, Turn, turn}
 use Rattle.bench_order.specs.Told.{toldEnd}
 use Rattle.bench_order.proofs.Laws.ToldLaws.{told}
 use Rattle.bench_order.proofs.Laws.Parts.{Ran, Does, refusing, passing, happening, Parts, none, one, both}
@@ -32,11 +33,13 @@ use Rattle.bench_order.proofs.Laws.ScriptPartLaws.{every-line-by-parts}
 use Rattle.bench_lines.specs.Cutting.{lines}
 use Rattle.bench_order.specs.Script.{stays, follows, playsLines, script}
 use Rattle.bench_order.specs.ScriptTheorem.{StandsFor}
-use Rattle.bench_order.proofs.Laws.ScriptRunLaws.{lines-stand, bench-in-range}
+use Rattle.bench_order.proofs.Laws.ScriptRunLaws.{lines-stand, one-stripe, bench-in-range}
 use Rattle.bench_order.specs.Report.{kindOf, kindIn, reported, Part, partsOf, partsIn, playsPart, Reports, nothing, refusal, event, silence}
 use Rattle.bench_order.specs.ReportTheorem.{Prints, no-line, no-set, set, EveryScriptPrintsItsRun}
 use Rattle.settings.specs.Times.{coordinatorOf}
 use Rattle.coord_record.specs.Records.{readingKind, writingKind, idleKind}
+use Rattle.coord_apply.specs.Answers.{Buffered}
+use Rattle.bench_limits.specs.Limits.{benchStripes, benchStripe}
 
 -- the kind that an operation began with, if it began one time only
 kind-here : (s : Settings) (x : Seen (plain s)) (l : List (Seen (plain s))) (t : ℕ) (k : Action (List ℕ)) → began t k ≡ x → kindIn s (x ∷ l) t ≡ kindOf k
@@ -78,51 +81,54 @@ told-is-reported s before (x ∷ y ∷ l) c kind h f = absurd (omega (arith, h))
 
 module _ (s : Settings) (g : SettingsRange s) where
   -- in a run, the operation that runs at coordinator c has c in its time, and its kind from its beginning
-  ran-own : (r : Moved s) (h : Hist s) → Inv s g h r → (c kind time : ℕ) → Ran (r .world .coordinators c .state .op) kind time
-      → (c ≡ coordinatorOf time) × (kind ≡ kindIn s (r .seen) time)
-  unfolding kindOf
+  ran-own : (r : Moved s) (h : Hist s) → Inv s g benchStripe h r → (c kind time : ℕ) → Ran (r .world .coordinators c .state .op) kind time
+      → (c ≡ coordinatorOf time) × (kind ≡ kindIn s (r .seen benchStripe) time)
+  unfolding kindOf view
   ran-own r h i c kind time a = (sym own ∙ ap (λ (v : ℕ). coordinatorOf v) (a .time-is), go (a .known))
     where
       not-idle : (kind ≡ readingKind) ⊎ (kind ≡ writingKind) → r .world .coordinators c .state .op .kind ≡ idleKind → ⊥
       not-idle (inl e) q = omega (arith, a .kind-is, e, q)
       not-idle (inr e) q = omega (arith, a .kind-is, e, q)
 
-      runs : Running s g h (r .world .sent) c (r .world .coordinators c)
-      runs = i .coordinators c .runs (not-idle (a .known))
+      runs : Running s g h (view benchStripe r .sent) c (r .world .coordinators c)
+      runs =
+          let n = not-idle (a .known) in
+          subst (λ (x : Buffered). (x .state .op .kind ≡ idleKind → ⊥) → Running s g h (view benchStripe r .sent) c x)
+          (viewed-here benchStripe (r .world .coordinators c) n (a .stripe-is)) (i .coordinators c .runs) n
 
       own : coordinatorOf (r .world .coordinators c .state .op .time) ≡ c
       own = runs .own
 
-      found : (k : Action (List ℕ)) → In (Fact.began (r .world .coordinators c .state .op .time) k) h → kindIn s (r .seen) time ≡ kindOf k
+      found : (k : Action (List ℕ)) → In (Fact.began (r .world .coordinators c .state .op .time) k) h → kindIn s (r .seen benchStripe) time ≡ kindOf k
       found k m =
-          subst (λ (v : ℕ). kindIn s (r .seen) v ≡ kindOf k) (a .time-is)
+          subst (λ (v : ℕ). kindIn s (r .seen benchStripe) v ≡ kindOf k) (a .time-is)
           (subst (λ (l : List (Seen (plain s))). kindIn s l (r .world .coordinators c .state .op .time) ≡ kindOf k) (i .seen-is)
           (kind-found s (seen h) (r .world .coordinators c .state .op .time) k (λ k′ b. one-order (i .valid) .named _ k′ k b) (seen-began m)))
 
-      go : (kind ≡ readingKind) ⊎ (kind ≡ writingKind) → kind ≡ kindIn s (r .seen) time
+      go : (kind ≡ readingKind) ⊎ (kind ≡ writingKind) → kind ≡ kindIn s (r .seen benchStripe) time
       go (inl e) = e ∙ sym (found read (reads-begun runs (a .kind-is ∙ e)))
       go (inr e) = e ∙ sym (found (write (r .world .coordinators c .stripe)) (writes-begun runs (a .kind-is ∙ e)))
 
   abbrev Held-by : Moved s → Type 0
-  Held-by r = (h : Hist s) × Inv s g h r
+  Held-by r = (h : Hist s) × Inv s g benchStripe h r
 
   -- a report from here on, whatever was seen before in the run
   abbrev From : World → List Part → List Event → List ℕ → Type 0
   From w parts events text =
-      (before : List (Seen (plain s))) → Held-by (record { world = w; seen = before }) → Reports s (record { world = w; seen = before }) parts events text
+      (before : ℕ → List (Seen (plain s))) → Held-by (record { world = w; seen = before }) → Reports s (record { world = w; seen = before }) parts events text
 
   does-report : (w : World) (part : Part) (p : Played) → playsPart s w part ≡ p → Does s w p → (parts : List Part) (events : List Event) (text : List ℕ)
       → From (p .world) parts events text → From w (part ∷ parts) (p .events ++ events) (p .printed ++ text)
   unfolding refuses passes happens nextMoved
   does-report w part p q (refusing number) parts events text f before i = refusal number q (f before i)
   does-report w part p q passing parts events text f before i = silence q (f before i)
-  does-report w part p q (happening e c kind h o) parts events text f before i =
+  does-report w part p q (happening e c kind h o _) parts events text f before i =
       let r : Moved s = record { world = w; seen = before } in
       let z =
-      told-is-reported s before (step s w e .seen) c kind (one-thing-seen s w e) (λ time how d. ran-own r (i .0) (i .1) c kind time (o time how d))
+      told-is-reported s (before benchStripe) (step s w e .seen benchStripe) c kind (one-thing-seen s w e benchStripe) (λ time how d. ran-own r (i .0) (i .1) c kind time (o time how d))
       in
       subst (λ (v : List ℕ). Reports s r (part ∷ parts) (e ∷ events) (v ++ text)) (sym z)
-      (event e (q ∙ ap (happens s w e) z) (f (before ++ step s w e .seen) (step-goes s g (i .0) r (i .1) e)))
+      (event e (q ∙ ap (happens s w e) z) (f (λ (k : ℕ). before k ++ step s w e .seen k) (step-goes s g benchStripe (i .0) r (i .1) e)))
 
   parts-report : (w : World) (ps : List Part) (p : Played) → Parts s w ps p → (parts : List Part) (events : List Event) (text : List ℕ)
       → From (p .world) parts events text → From w (ps ++ parts) (p .events ++ events) (p .printed ++ text)
@@ -133,13 +139,13 @@ module _ (s : Settings) (g : SettingsRange s) where
       rw (append-assoc xs ys parts, append-assoc (q .events) (r .events) events, append-assoc (q .printed) (r .printed) text)
       (parts-report w xs q a (ys ++ parts) (r .events ++ events) (r .printed ++ text) (parts-report (q .world) ys r b parts events text f))
 
-  lines-report : (w : World) (events : List Event) (ls : List (List ℕ))
+  lines-report : s .stripes ≡ benchStripes → (w : World) (events : List Event) (ls : List (List ℕ))
       → From w (partsIn ls) (playsLines (playing s w events) ls .events) (playsLines (playing s w events) ls .printed)
   unfolding playsLines stays follows turn partsIn
-  lines-report w events [] = λ before i. nothing
-  lines-report w events (l ∷ ls) =
-      parts-report w (partsOf (reads l)) (plays s w (reads l)) (every-line-by-parts s w (reads l)) (partsIn ls) _ _
-      (lines-report (plays s w (reads l) .world) (events ++ plays s w (reads l) .events) ls)
+  lines-report z w events [] = λ before i. nothing
+  lines-report z w events (l ∷ ls) =
+      parts-report w (partsOf (reads l)) (plays s w (reads l)) (every-line-by-parts s w z (reads l)) (partsIn ls) _ _
+      (lines-report z (plays s w (reads l) .world) (events ++ plays s w (reads l) .events) ls)
 
 -- the stage after some lines on a set
 stage-after : (s : Settings) (w : World) (events : List Event) (ls : List (List ℕ))
@@ -162,7 +168,7 @@ set-prints l ls s e b =
     let h = subst StandsFor (z .1) (lines-stand (playing s (freshSet s) []) ls (b, refl)) in
     subst (λ (v : Stage). Prints (l ∷ ls) v (playsLines (playing s (freshSet s) []) ls .printed))
     (ap (λ (v : World). playing s v es) (sym (h .1)) ∙ sym (z .1))
-    (set s e b (lines-report s g (freshSet s) [] ls [] (run-holds s g [])))
+    (set s e b (lines-report s g (one-stripe s b) (freshSet s) [] ls (λ (k : ℕ). []) (run-holds s g benchStripe (g .stripes-low) [])))
 
 -- the turn of an accepted `set`
 abbrev fresh-turn : Settings → Turn
@@ -173,17 +179,18 @@ unfolding playsLines stays follows turn first waits begins
 lines-print [] = no-line
 lines-print (l ∷ ls) = go (reads l) refl (lines-print ls)
   where
-    within : (s : Settings) (b : Bool) → benchRange s ≡ b → reads l ≡ setLine (s .n) (s .m) (s .size) (s .capacity)
+    within : (n m size capacity : ℕ) (b : Bool) → benchRange (oneStripe n m size capacity) ≡ b → reads l ≡ setLine n m size capacity
         → Prints ls (playsLines waiting ls .stage) (playsLines waiting ls .printed)
-        → Prints (l ∷ ls) (playsLines (cond b (fresh-turn s) (waits badSetting) .stage) ls .stage)
-        (cond b (fresh-turn s) (waits badSetting) .printed
-        ++ playsLines (cond b (fresh-turn s) (waits badSetting) .stage) ls .printed)
-    within s true b e ih = set-prints l ls s e b
-    within s false b e ih = no-set badSetting (ap first e ∙ ap (λ (t : Bool). cond t (fresh-turn s) (waits badSetting)) b) ih
+        → Prints (l ∷ ls) (playsLines (cond b (fresh-turn (oneStripe n m size capacity)) (waits badSetting) .stage) ls .stage)
+        (cond b (fresh-turn (oneStripe n m size capacity)) (waits badSetting) .printed
+        ++ playsLines (cond b (fresh-turn (oneStripe n m size capacity)) (waits badSetting) .stage) ls .printed)
+    within n m size capacity true b e ih = set-prints l ls (oneStripe n m size capacity) e b
+    within n m size capacity false b e ih =
+        no-set badSetting (ap first e ∙ ap (λ (t : Bool). cond t (fresh-turn (oneStripe n m size capacity)) (waits badSetting)) b) ih
 
     go : (line : Line) → reads l ≡ line → Prints ls (playsLines waiting ls .stage) (playsLines waiting ls .printed)
         → Prints (l ∷ ls) (playsLines (first line .stage) ls .stage) (first line .printed ++ playsLines (first line .stage) ls .printed)
-    go (setLine n m size capacity) e ih = within (record { n = n; m = m; size = size; capacity = capacity }) (benchRange _) refl e ih
+    go (setLine n m size capacity) e ih = within n m size capacity (benchRange _) refl e ih
     go (writeLine c clock digits) e ih = no-set badLine (ap first e) ih
     go (readLine c clock brick) e ih = no-set badLine (ap first e) ih
     go (carryLine messages) e ih = no-set badLine (ap first e) ih

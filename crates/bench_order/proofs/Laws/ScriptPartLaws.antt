@@ -15,14 +15,17 @@ use Rattle.message.specs.declared.Reply.{Reply}
 use Rattle.image.specs.Parse.{Parsed, Opens, Refuses, parse}
 use Rattle.brick.specs.Receive.{Outcome, receiveRefusal, refusedWith, givenBy, accepted, outcome}
 use Rattle.brick_log.specs.BrickRules.{replyTo}
+use Rattle.volume.specs.Rows.{imageAt, inRow, rowRefusal, rowOutcome}
 use Rattle.brick.specs.declared.Given.{Given}
 use Rattle.brick.specs.declared.Given.the-variants.{Answered, Silent, Refused}
 use Rattle.coord_apply.specs.Answers.{Step, refused, went, Went}
 use Rattle.coordinator.specs.Routines.{writeStep}
 use Rattle.order.specs.Claim.{Ending, Seen}
-use Rattle.register.specs.Runs.{plain, Item, message, reply, World, untouched, Event, startWrite, startRead, arrives, crashes, goesDown, comesUp, Moved, unmoved, coordinated, repliedWith, received}
+use Rattle.register.specs.Runs.{plain, Item, message, reply, World, untouched, Event, startWrite, startRead, arrives, crashes, goesDown}
+use Rattle.register.specs.Runs.{comesUp, Moved, unmoved, coordinated, seenOf, repliedWith, received}
 use Rattle.register.specs.Runs.{arriving, arrivingAt, standing, step}
 use Rattle.register.proofs.Laws.DriverLaws.{left-untouched}
+use Rattle.register.proofs.Laws.StripeViewLaws.{shown-here, shown-there}
 use Rattle.bench_parse.specs.Lines.{Line, setLine, writeLine, readLine, carryLine, crashLine, downLine, upLine, noLine}
 use Rattle.bench_print.specs.Printing.{endedText}
 use Rattle.bench_rules.specs.Content.{content, counted}
@@ -34,7 +37,7 @@ use Rattle.bench_order.specs.Report.{wholeLine, oneNumber, eachNumber, p
 use Rattle.bench_order.proofs.Laws.ToldLaws.{told}
 use Rattle.bench_order.proofs.Laws.Parts.{FewSent, Ran, Does, refusing, passing, happening, Parts, none, one, both}
 use Rattle.bench_order.proofs.Laws.PrintedLaws.{Agrees, printed-is-seen, end-ran, take-agrees, crash-agrees, write-agrees, read-agrees}
-use Rattle.bench_limits.specs.Limits.{benchCoordinators, lastMessage}
+use Rattle.bench_limits.specs.Limits.{benchStripes, benchStripe, benchCoordinators, lastMessage}
 use Rattle.settings.specs.Times.{coordinatorOf}
 
 -- "Trim t: no reply"
@@ -53,10 +56,10 @@ acted-not-answered s brick msg block bytes out (Opens x) k r e =
     silent-not-answered (eqb (msg .kind) trimKind) (Answered (replyTo s brick x msg)) r (eq-eqb (msg .kind) trimKind k) e
 acted-not-answered s brick msg block bytes out (Refuses number) k r e = refused-not-answered number bytes out r e
 
-pub trim-not-answered : (s : Settings) (brick : ℕ) (bytes : List ℕ) (msg : Message) (block out : List ℕ) → msg .kind ≡ trimKind → (r : Reply)
+image-not-answered : (s : Settings) (brick : ℕ) (bytes : List ℕ) (msg : Message) (block out : List ℕ) → msg .kind ≡ trimKind → (r : Reply)
     → outcome s brick bytes msg block out .given ≡ Answered r → ⊥
 unfolding outcome
-trim-not-answered s brick bytes msg block out k r e = go (eqb (receiveRefusal s brick bytes msg (length block) (length out)) 0) e
+image-not-answered s brick bytes msg block out k r e = go (eqb (receiveRefusal s brick bytes msg (length block) (length out)) 0) e
   where
     go : (b : Bool)
         → cond b (accepted s brick msg block bytes out (parse s brick bytes))
@@ -65,6 +68,19 @@ trim-not-answered s brick bytes msg block out k r e = go (eqb (receiveRefusal s 
         → ⊥
     go true h = acted-not-answered s brick msg block bytes out (parse s brick bytes) k r h
     go false h = refused-not-answered _ bytes out r h
+
+trim-not-answered : (s : Settings) (brick : ℕ) (row : List ℕ) (msg : Message) (block out : List ℕ) → msg .kind ≡ trimKind → (r : Reply)
+    → rowOutcome s brick row msg block out .given ≡ Answered r → ⊥
+unfolding rowOutcome inRow
+trim-not-answered s brick row msg block out k r e = go (eqb (rowRefusal s brick row msg (length block) (length out)) 0) e
+  where
+    go : (b : Bool)
+        → cond b (inRow s (msg .stripe) row (outcome s brick (imageAt s (msg .stripe) row) msg block out))
+        (refusedWith (rowRefusal s brick row msg (length block) (length out)) row out) .given
+        ≡ Answered r
+        → ⊥
+    go true h = image-not-answered s brick (imageAt s (msg .stripe) row) msg block out k r h
+    go false h = refused-not-answered _ row out r h
 
 -- so a message that sends a reply had room for it
 room : (msg : Message) (sent : ℕ) → eqb (msg .kind) trimKind || ltb sent lastMessage ≡ true → (msg .kind ≡ trimKind → ⊥) → sent < lastMessage
@@ -81,12 +97,13 @@ unless-went ok (refused number) g e = e
 unless-went true (went v) g e = e
 unless-went false (went v) g e = absurd (let z : _≡_ {A = ℕ} 0 1 = cc in omega arith)
 
-module _ (s : Settings) (w : World) where
+module _ (s : Settings) (w : World) (one-stripe : s .stripes ≡ benchStripes) where
   -- an event that prints what is seen at it
-  printing : (e : Event) (c kind : ℕ) (text : List ℕ) → told s c kind (step s w e .seen) ≡ text → (FewSent w → FewSent (step s w e .world))
-      → ((time : ℕ) (how : Ending (plain s)) → step s w e .seen ≡ Seen.ended time how ∷ [] → Ran (w .coordinators c .state .op) kind time)
+  printing : (e : Event) (c kind : ℕ) (text : List ℕ) → told s c kind (step s w e .seen benchStripe) ≡ text → (FewSent w → FewSent (step s w e .world))
+      → ((time : ℕ) (how : Ending (plain s)) → step s w e .seen benchStripe ≡ Seen.ended time how ∷ [] → Ran (w .coordinators c .state .op) kind time)
+      → ((stripe : ℕ) → (stripe ≡ benchStripe → ⊥) → step s w e .seen stripe ≡ [])
       → Does s w (happens s w e text)
-  printing e c kind text q f o = subst (λ (l : List ℕ). Does s w (happens s w e l)) q (happening e c kind f o)
+  printing e c kind text q f o z = subst (λ (l : List ℕ). Does s w (happens s w e l)) q (happening e c kind f o z)
 
   -- an event at a coordinator
   acts-does : (e : Event) (c : ℕ) (st : Step) → ((g : Went) → st ≡ went g → (step s w e ≡ coordinated s w c (went g)) × Agrees (w .coordinators c .state .op) (g .seen))
@@ -95,15 +112,20 @@ module _ (s : Settings) (w : World) where
   acts-does e c (refused number) f = refusing number
   acts-does e c (went g) f = go (leb (length (step s w e .world .sent)) lastMessage) refl
     where
+      agrees : Agrees (w .coordinators c .state .op) (g .seen)
+      agrees = f g refl .1
+
+      here : step s w e .seen benchStripe ≡ seenOf s (g .seen) (g .next)
+      here = ap (λ (v : Moved s). v .seen benchStripe) (f g refl .0) ∙ shown-here (g .seen .stripe) benchStripe _ (sym (agrees .on-stripe))
+
       go : (b : Bool) → leb (length (step s w e .world .sent)) lastMessage ≡ b
           → Does s w (cond b (happens s w e (endedText c (g .seen) (g .next .stripe))) (refuses w badLine))
       go true q =
           printing e c (g .seen .kind) _
-          (ap (λ (v : Moved s). told s c (g .seen .kind) (v .seen)) (f g refl .0) ∙ printed-is-seen s (w .coordinators c .state .op) c (g .seen) (g .next) (f g refl .1))
+          (ap (told s c (g .seen .kind)) here ∙ printed-is-seen s (w .coordinators c .state .op) c (g .seen) (g .next) agrees)
           (λ h. leb-true _ lastMessage q)
-          (λ time how z.
-          end-ran s (w .coordinators c .state .op) (g .seen) (g .next) time how (f g refl .1)
-          (ap (λ (v : Moved s). v .seen) (sym (f g refl .0)) ∙ z))
+          (λ time how z. end-ran s (w .coordinators c .state .op) (g .seen) (g .next) time how agrees (sym here ∙ z))
+          (λ k n. ap (λ (v : Moved s). v .seen k) (f g refl .0) ∙ shown-there (g .seen .stripe) k _ (λ z. n (z ∙ agrees .on-stripe)))
       go false q = refusing badLine
 
   at-does : (c : ℕ) (p : Played) → Does s w p → Does s w (atCoordinator w c p)
@@ -118,30 +140,30 @@ module _ (s : Settings) (w : World) where
   unfolding writes step
   writes-does c clock digits =
       at-does c _
-      (acts-does (startWrite c clock (content s digits)) c _
+      (acts-does (startWrite c benchStripe clock (content s digits)) c _
       (λ g q.
-      let e = unless-went (counted s digits) (writeStep (s .n) (s .m) (s .size) (w .coordinators c) clock (content s digits)) g q in (
+      let e = unless-went (counted s digits) (writeStep (s .n) (s .m) (s .size) (s .stripes) (w .coordinators c) benchStripe clock (content s digits)) g q in (
         rw (bytes-pass (content s digits) (content-small s digits)) (ap (coordinated s w c) e),
-        write-agrees (s .n) (s .m) (s .size) (w .coordinators c) clock (content s digits) g e,
+        write-agrees (s .n) (s .m) (s .size) (s .stripes) (w .coordinators c) clock (content s digits) g e,
       )))
 
   starts-does : (c clock brick : ℕ) → Does s w (starts s w c clock brick)
   unfolding starts step
   starts-does c clock brick =
       at-does c _
-      (acts-does (startRead c clock brick) c _
-      (λ g e. (ap (coordinated s w c) e, read-agrees (s .n) (s .m) (s .size) (w .coordinators c) clock brick g e)))
+      (acts-does (startRead c benchStripe clock brick) c _
+      (λ g e. (ap (coordinated s w c) e, read-agrees (s .n) (s .m) (s .size) (s .stripes) (w .coordinators c) clock brick g e)))
 
   crashes-does : (c : ℕ) → Does s w (crashesAt s w c)
   unfolding crashesAt step
   crashes-does c =
       at-does c _
       (acts-does (crashes c untouched) c _
-      (λ g e. (ap (coordinated s w c) (left-untouched s _ ∙ e), crash-agrees (s .n) (s .m) (s .size) (w .coordinators c) g e)))
+      (λ g e. (ap (coordinated s w c) (left-untouched s _ ∙ e), crash-agrees (s .n) (s .m) (s .size) (s .stripes) one-stripe (w .coordinators c) g e)))
 
   -- nothing is seen, and no message is sent past 127
   abbrev Quiet : Moved s → Type 0
-  Quiet m = (m .seen ≡ []) × (FewSent w → FewSent (m .world))
+  Quiet m = ((stripe : ℕ) → m .seen stripe ≡ []) × (FewSent w → FewSent (m .world))
 
   either-quiet : (t : Bool) (x y : Moved s) → Quiet x → Quiet y → Quiet (cond t x y)
   either-quiet true x y p q = p
@@ -150,13 +172,14 @@ module _ (s : Settings) (w : World) where
   quiet : (e : Event) → Quiet (step s w e) → Does s w (happens s w e [])
   unfolding told
   quiet e q =
-      printing e 0 0 [] (ap (told s 0 0) (q .0)) (q .1)
-      (λ time how z. absurd (let l : _≡_ {A = ℕ} 0 1 = ap length (sym (q .0) ∙ z) in omega arith))
+      printing e 0 0 [] (ap (told s 0 0) (q .0 benchStripe)) (q .1)
+      (λ time how z. absurd (let l : _≡_ {A = ℕ} 0 1 = ap length (sym (q .0 benchStripe) ∙ z) in omega arith))
+      (λ stripe n. q .0 stripe)
 
   -- a brick goes down or comes up
   standing-quiet : (b : ℕ) (how : Bool) → Quiet (standing s w b how)
   unfolding standing unmoved FewSent
-  standing-quiet b how = either-quiet (ltb b (s .n)) _ _ (refl, λ h. h) (refl, λ h. h)
+  standing-quiet b how = either-quiet (ltb b (s .n)) _ _ ((λ stripe. refl), λ h. h) ((λ stripe. refl), λ h. h)
 
   switches-does : (b : ℕ) (e : Event) → Quiet (step s w e) → Does s w (switches s w b e)
   unfolding switches
@@ -169,7 +192,7 @@ module _ (s : Settings) (w : World) where
   -- a message at its brick
   received-quiet : (b : ℕ) (o : Outcome) → ((r : Reply) → o .given ≡ Answered r → length (w .sent) < lastMessage) → Quiet (received s w b o)
   unfolding received repliedWith FewSent
-  received-quiet b o f = (refl, λ h. go (o .given) refl h)
+  received-quiet b o f = ((λ stripe. refl), λ h. go (o .given) refl h)
     where
       go : (a : Given) → o .given ≡ a → length (w .sent) ≤ lastMessage → length (w .sent ++ repliedWith a (o .out)) ≤ lastMessage
       go (Answered r) q h = rw (length-append (w .sent) (reply r (o .out) ∷ [])) (let z = f r q in omega arith)
@@ -183,19 +206,19 @@ module _ (s : Settings) (w : World) where
   delivered-does k q (Refused number) = refusing number
 
   reaches-does : (k b : ℕ) (msg : Message) (block : List ℕ)
-      → step s w (arrives k) ≡ received s w b (outcome s b (w .images b) msg block (replicate (s .size) 0)) → Does s w (reaches s w k b msg block)
+      → step s w (arrives k) ≡ received s w b (rowOutcome s b (w .images b) msg block (replicate (s .size) 0)) → Does s w (reaches s w k b msg block)
   unfolding reaches
   reaches-does k b msg block e = go (eqb (msg .kind) trimKind || ltb (length (w .sent)) lastMessage) refl
     where
       quietly : eqb (msg .kind) trimKind || ltb (length (w .sent)) lastMessage ≡ true → Quiet (step s w (arrives k))
       quietly q =
           rw e
-          (received-quiet b (outcome s b (w .images b) msg block (replicate (s .size) 0))
+          (received-quiet b (rowOutcome s b (w .images b) msg block (replicate (s .size) 0))
           (λ r h. room msg (length (w .sent)) q (λ z. trim-not-answered s b (w .images b) msg block (replicate (s .size) 0) z r h)))
 
       go : (t : Bool) → eqb (msg .kind) trimKind || ltb (length (w .sent)) lastMessage ≡ t
-          → Does s w (cond t (delivered s w k (outcome s b (w .images b) msg block (replicate (s .size) 0) .given)) (refuses w badLine))
-      go true q = delivered-does k (quietly q) (outcome s b (w .images b) msg block (replicate (s .size) 0) .given)
+          → Does s w (cond t (delivered s w k (rowOutcome s b (w .images b) msg block (replicate (s .size) 0) .given)) (refuses w badLine))
+      go true q = delivered-does k (quietly q) (rowOutcome s b (w .images b) msg block (replicate (s .size) 0) .given)
       go false q = refusing badLine
 
   -- an item, carried as item k of all
@@ -213,7 +236,7 @@ module _ (s : Settings) (w : World) where
       (acts-does (arrives k) (coordinatorOf (r .time)) _
       (λ g q. (
         e ∙ ap (coordinated s w (coordinatorOf (r .time))) q,
-        take-agrees (s .n) (s .m) (s .size) (w .coordinators (coordinatorOf (r .time))) r block (s .n * s .size) g q,
+        take-agrees (s .n) (s .m) (s .size) (s .stripes) one-stripe (w .coordinators (coordinatorOf (r .time))) r block (s .n * s .size) g q,
       )))
 
   carries-at-does : (k : ℕ) (l : List Item) (j : ℕ) → step s w (arrives k) ≡ arrivingAt s w l j → Does s w (carriesAt s w k l j)
@@ -227,20 +250,20 @@ module _ (s : Settings) (w : World) where
   carried-does zero = refusing badLine
   carried-does (suc k) = carries-at-does k (w .sent) k refl
 
-carried-all-parts : (s : Settings) (w : World) (ks : List ℕ) → Parts s w (eachNumber ks) (carriedAll s w ks)
+carried-all-parts : (s : Settings) (w : World) → s .stripes ≡ benchStripes → (ks : List ℕ) → Parts s w (eachNumber ks) (carriedAll s w ks)
 unfolding carriedAll eachNumber playsPart
-carried-all-parts s w [] = none w
-carried-all-parts s w (k ∷ ks) =
-    both w (oneNumber k ∷ []) (eachNumber ks) (carried s w k) _ (one w (oneNumber k) (carried-does s w k)) (carried-all-parts s (carried s w k .world) ks)
+carried-all-parts s w z [] = none w
+carried-all-parts s w z (k ∷ ks) =
+    both w (oneNumber k ∷ []) (eachNumber ks) (carried s w k) _ (one w (oneNumber k) (carried-does s w z k)) (carried-all-parts s (carried s w k .world) z ks)
 
 -- EVERY LINE IS PLAYED PART BY PART.
-pub every-line-by-parts : (s : Settings) (w : World) (line : Line) → Parts s w (partsOf line) (plays s w line)
+pub every-line-by-parts : (s : Settings) (w : World) → s .stripes ≡ benchStripes → (line : Line) → Parts s w (partsOf line) (plays s w line)
 unfolding plays step partsOf playsPart
-every-line-by-parts s w (setLine n m size capacity) = one w (wholeLine (setLine n m size capacity)) (refusing badLine)
-every-line-by-parts s w (writeLine c clock digits) = one w (wholeLine (writeLine c clock digits)) (writes-does s w c clock digits)
-every-line-by-parts s w (readLine c clock brick) = one w (wholeLine (readLine c clock brick)) (starts-does s w c clock brick)
-every-line-by-parts s w (carryLine messages) = carried-all-parts s w messages
-every-line-by-parts s w (crashLine c) = one w (wholeLine (crashLine c)) (crashes-does s w c)
-every-line-by-parts s w (downLine b) = one w (wholeLine (downLine b)) (switches-does s w b (goesDown b) (standing-quiet s w b false))
-every-line-by-parts s w (upLine b) = one w (wholeLine (upLine b)) (switches-does s w b (comesUp b) (standing-quiet s w b true))
-every-line-by-parts s w noLine = one w (wholeLine noLine) (refusing badLine)
+every-line-by-parts s w z (setLine n m size capacity) = one w (wholeLine (setLine n m size capacity)) (refusing badLine)
+every-line-by-parts s w z (writeLine c clock digits) = one w (wholeLine (writeLine c clock digits)) (writes-does s w z c clock digits)
+every-line-by-parts s w z (readLine c clock brick) = one w (wholeLine (readLine c clock brick)) (starts-does s w z c clock brick)
+every-line-by-parts s w z (carryLine messages) = carried-all-parts s w z messages
+every-line-by-parts s w z (crashLine c) = one w (wholeLine (crashLine c)) (crashes-does s w z c)
+every-line-by-parts s w z (downLine b) = one w (wholeLine (downLine b)) (switches-does s w z b (goesDown b) (standing-quiet s w z b false))
+every-line-by-parts s w z (upLine b) = one w (wholeLine (upLine b)) (switches-does s w z b (comesUp b) (standing-quiet s w z b true))
+every-line-by-parts s w z noLine = one w (wholeLine noLine) (refusing badLine)

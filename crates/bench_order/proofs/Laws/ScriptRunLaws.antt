@@ -1,4 +1,4 @@
--- Every script is a run, keeps its events, and has one order.
+-- Every script is a run, keeps its events, and has one order, on one stripe.
 use mathlib.Core.Path.{_≡_, refl, sym, ap, subst, _∙_}
 use mathlib.Core.Bool.{Bool, true, false, cond}
 use mathlib.Core.List.{List, [], _∷_, _++_, append-nil, append-assoc}
@@ -14,23 +14,24 @@ use Rattle.register.proofs.Laws.TheoremProof.{every-run-has-one-order}
 use Rattle.bench_parse.specs.Lines.{Line, setLine, writeLine, readLine, carryLine, crashLine, downLine, upLine, noLine, reads}
 use Rattle.bench_state.proofs.Laws.BenchRangeLaws.{bench-fits}
 use Rattle.bench_state.specs.State.{benchRange}
-use Rattle.bench_rules.specs.Play.{Played, refuses, passes, happens, andThen, plays, Stage, waiting, playing, eventsOf, waits, begins, first, turn}
+use Rattle.bench_rules.specs.Play.{Played, refuses, passes, happens, andThen, plays, Stage, waiting, playing, eventsOf, waits, begins, oneStripe, first, turn}
+use Rattle.bench_limits.specs.Limits.{benchStripes, benchStripe}
 use Rattle.bench_order.specs.Report.{Part, partsOf}
 use Rattle.bench_lines.specs.Cutting.{lines}
 use Rattle.bench_order.specs.Script.{stays, follows, playsLines, script}
 use Rattle.bench_order.proofs.Laws.Parts.{Does, refusing, passing, happening, Parts, none, one, both}
 use Rattle.bench_order.proofs.Laws.ScriptPartLaws.{every-line-by-parts}
-use Rattle.bench_order.specs.ScriptTheorem.{StandsFor, EveryScriptIsARun, EveryScriptKeepsItsEvents, EveryScriptHasOneOrder}
+use Rattle.bench_order.specs.ScriptTheorem.{StandsFor, EveryScriptIsARun, EveryScriptKeepsItsEvents, EveryScriptHasOneOrder, EveryScriptKeepsToOneStripe}
 
 -- what the parts of a line leave is what their events leave, whatever was seen before
-does-runs : (s : Settings) (w : World) (p : Played) → Does s w p → (seen : List (Seen (plain s)))
+does-runs : (s : Settings) (w : World) (p : Played) → Does s w p → (seen : ℕ → List (Seen (plain s)))
     → runFrom s (record { world = w; seen = seen }) (p .events) .world ≡ p .world
 unfolding refuses passes happens runFrom nextMoved
 does-runs s w p (refusing number) seen = refl
 does-runs s w p passing seen = refl
-does-runs s w p (happening e c kind f o) seen = refl
+does-runs s w p (happening e c kind f o z) seen = refl
 
-parts-run : (s : Settings) (w : World) (ps : List Part) (p : Played) → Parts s w ps p → (seen : List (Seen (plain s)))
+parts-run : (s : Settings) (w : World) (ps : List Part) (p : Played) → Parts s w ps p → (seen : ℕ → List (Seen (plain s)))
     → runFrom s (record { world = w; seen = seen }) (p .events) .world ≡ p .world
 unfolding passes andThen runFrom
 parts-run s w ps p (none _) seen = refl
@@ -41,9 +42,29 @@ parts-run s w ps p (both _ xs ys q r a b) seen =
     ∙ ap (λ (v : World). runFrom s (record { world = v; seen = m .seen }) (r .events) .world) (parts-run s w xs q a seen)
     ∙ parts-run s (q .world) ys r b (m .seen)
 
-pub plays-runs : (s : Settings) (w : World) (line : Line) (seen : List (Seen (plain s)))
+pub plays-runs : (s : Settings) (w : World) → s .stripes ≡ benchStripes → (line : Line) (seen : ℕ → List (Seen (plain s)))
     → runFrom s (record { world = w; seen = seen }) (plays s w line .events) .world ≡ plays s w line .world
-plays-runs s w line seen = parts-run s w (partsOf line) (plays s w line) (every-line-by-parts s w line) seen
+plays-runs s w z line seen = parts-run s w (partsOf line) (plays s w line) (every-line-by-parts s w z line) seen
+
+-- the events of a line show nothing but on the bench's stripe
+does-apart : (s : Settings) (w : World) (p : Played) → Does s w p → (seen : ℕ → List (Seen (plain s))) (k : ℕ) → (k ≡ benchStripe → ⊥)
+    → runFrom s (record { world = w; seen = seen }) (p .events) .seen k ≡ seen k
+unfolding refuses passes happens runFrom nextMoved
+does-apart s w p (refusing number) seen k n = refl
+does-apart s w p passing seen k n = refl
+does-apart s w p (happening e c kind f o z) seen k n = ap (λ (l : List (Seen (plain s))). seen k ++ l) (z k n) ∙ append-nil (seen k)
+
+parts-apart : (s : Settings) (w : World) (ps : List Part) (p : Played) → Parts s w ps p → (seen : ℕ → List (Seen (plain s))) (k : ℕ) → (k ≡ benchStripe → ⊥)
+    → runFrom s (record { world = w; seen = seen }) (p .events) .seen k ≡ seen k
+unfolding passes andThen runFrom
+parts-apart s w ps p (none _) seen k n = refl
+parts-apart s w ps p (one _ part d) seen k n = does-apart s w p d seen k n
+parts-apart s w ps p (both _ xs ys q r a b) seen k n =
+    let m = runFrom s (record { world = w; seen = seen }) (q .events) in
+    ap (λ (v : Moved s). v .seen k) (run-from-both s (record { world = w; seen = seen }) (q .events) (r .events))
+    ∙ ap (λ (v : World). runFrom s (record { world = v; seen = m .seen }) (r .events) .seen k) (parts-run s w xs q a seen)
+    ∙ parts-apart s (q .world) ys r b (m .seen) k n
+    ∙ parts-apart s w xs q a seen k n
 
 -- a set that begins
 begins-stands : (s : Settings) → StandsFor (begins s .stage)
@@ -57,7 +78,7 @@ begins-stands s = go (benchRange s) refl
 
 first-stands : (line : Line) → StandsFor (first line .stage)
 unfolding first waits StandsFor
-first-stands (setLine n m size capacity) = begins-stands (record { n = n; m = m; size = size; capacity = capacity })
+first-stands (setLine n m size capacity) = begins-stands (oneStripe n m size capacity)
 first-stands (writeLine c clock digits) = tt
 first-stands (readLine c clock brick) = tt
 first-stands (carryLine messages) = tt
@@ -66,13 +87,17 @@ first-stands (downLine b) = tt
 first-stands (upLine b) = tt
 first-stands noLine = tt
 
+-- settings within the bench's limits have one stripe
+pub one-stripe : (s : Settings) → benchRange s ≡ true → s .stripes ≡ benchStripes
+one-stripe s e = bench-fits s e .small .one-stripe
+
 -- one line
 pub turn-stands : (stage : Stage) (line : Line) → StandsFor stage → StandsFor (turn stage line .stage)
 unfolding turn StandsFor run
 turn-stands waiting line h = first-stands line
 turn-stands (playing s w events) line (b, e) = (
   b,
-  sym (plays-runs s w line (run s events .seen))
+  sym (plays-runs s w (one-stripe s b) line (run s events .seen))
       ∙ ap (λ (v : World). runFrom s (record { world = v; seen = run s events .seen }) (plays s w line .events) .world) e
       ∙ ap (λ (v : Moved s). v .world) (sym (run-from-both s (unmoved s (freshSet s)) events (plays s w line .events))),
 )
@@ -99,7 +124,7 @@ begins-keeps s = go (benchRange s)
 
 first-keeps : (line : Line) → eventsOf (first line .stage) ≡ first line .events
 unfolding first waits eventsOf
-first-keeps (setLine n m size capacity) = begins-keeps (record { n = n; m = m; size = size; capacity = capacity })
+first-keeps (setLine n m size capacity) = begins-keeps (oneStripe n m size capacity)
 first-keeps (writeLine c clock digits) = refl
 first-keeps (readLine c clock brick) = refl
 first-keeps (carryLine messages) = refl
@@ -138,4 +163,44 @@ stands-range (playing t v fs) s w events h e = let z : t ≡ s = cc in subst (λ
 
 pub every-script-has-one-order : EveryScriptHasOneOrder
 every-script-has-one-order input s w events e =
-    every-run-has-one-order s (bench-fits s (stands-range _ s w events (every-script-is-a-run input) e) .in-range) events
+    let f = bench-fits s (stands-range _ s w events (every-script-is-a-run input) e) in
+    every-run-has-one-order s (f .in-range) events benchStripe (f .range .stripes-low)
+
+-- nothing is seen on another stripe
+unfoldable ShowsApart : Stage → Type 0
+ShowsApart waiting = Unit {0}
+ShowsApart (playing s w events) = (stripe : ℕ) → (stripe ≡ benchStripe → ⊥) → run s events .seen stripe ≡ []
+
+begins-apart : (s : Settings) → ShowsApart (begins s .stage)
+unfolding begins waits ShowsApart run unmoved runFrom
+begins-apart s = go (benchRange s)
+  where
+    go : (b : Bool) → ShowsApart (cond b (record { stage = playing s (freshSet s) []; events = []; printed = [] }) (waits badSetting) .stage)
+    go true = λ stripe n. refl
+    go false = tt
+
+turn-apart : (stage : Stage) (line : Line) → StandsFor stage → ShowsApart stage → ShowsApart (turn stage line .stage)
+unfolding turn first waits StandsFor ShowsApart run
+turn-apart waiting (setLine n m size capacity) h a = begins-apart (oneStripe n m size capacity)
+turn-apart waiting (writeLine c clock digits) h a = tt
+turn-apart waiting (readLine c clock brick) h a = tt
+turn-apart waiting (carryLine messages) h a = tt
+turn-apart waiting (crashLine c) h a = tt
+turn-apart waiting (downLine b) h a = tt
+turn-apart waiting (upLine b) h a = tt
+turn-apart waiting noLine h a = tt
+turn-apart (playing s w events) line (b, e) a = λ stripe n. (
+    ap (λ (v : Moved s). v .seen stripe) (run-from-both s (unmoved s (freshSet s)) events (plays s w line .events))
+    ∙ ap (λ (v : World). runFrom s (record { world = v; seen = run s events .seen }) (plays s w line .events) .seen stripe) (sym e)
+    ∙ parts-apart s w (partsOf line) (plays s w line) (every-line-by-parts s w (one-stripe s b) line) (run s events .seen) stripe n
+    ∙ a stripe n
+    )
+
+lines-apart : (stage : Stage) (ls : List (List ℕ)) → StandsFor stage → ShowsApart stage → ShowsApart (playsLines stage ls .stage)
+unfolding playsLines stays follows
+lines-apart stage [] h a = a
+lines-apart stage (l ∷ ls) h a = lines-apart (turn stage (reads l) .stage) ls (turn-stands stage (reads l) h) (turn-apart stage (reads l) h a)
+
+pub every-script-keeps-to-one-stripe : EveryScriptKeepsToOneStripe
+unfolding script StandsFor ShowsApart
+every-script-keeps-to-one-stripe input s w events e = subst ShowsApart e (lines-apart waiting (lines input) tt tt)

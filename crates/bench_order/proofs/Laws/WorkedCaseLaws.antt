@@ -7,7 +7,7 @@ use Rattle.bench_parse.specs.Lines.{every, longer, words, isDigit, numberWord, 
 use Rattle.bench_parse.specs.Lines.{writeWords, writeOf, readOf, carryOf, oneOf, setText, writeText, readText, carryText, crashText, downText, upText, commandOf, readsWords, reads}
 use Rattle.bench_print.specs.Printing.{refusedWord, readWord, writeWord, okWord, abortWord, cutWord, digitsFrom, decimal, hexDigit, hexText, refusedText, kindWord, endWord, lineText, isEnd, endedText}
 use Rattle.byte_lists.specs.Lists.{same}
-use Rattle.bench_state.specs.State.{benchRange}
+use Rattle.bench_state.specs.State.{benchLimits, benchRange}
 use Rattle.bench_rules.specs.Content.{counted, content}
 use Rattle.bench_rules.specs.Play.{refuses, passes, happens, acts, atCoordinator, unlessShort, writes, starts, crashesAt, switches, delivered, reaches, carries, carriesAt, carried, andThen}
 use Rattle.bench_rules.specs.Play.{carriedAll, plays, waits, begins, first, turn}
@@ -28,7 +28,7 @@ unfolding refusedWord readWord writeWord okWord abortWord cutWord digitsFrom dec
 bench-print-open = tt
 
 unfoldable bench-state-open : Unit {0}
-unfolding benchRange
+unfolding benchLimits benchRange
 bench-state-open = tt
 
 unfoldable bench-play-open : Unit {0}

@@ -9,7 +9,7 @@ use borrow.Author.Tests.{eq-eqb, ne-eqb}
 use Rattle.settings.specs.Refusal.{refuseUnless, badLine, badSetting}
 use Rattle.settings.specs.declared.Settings.{Settings}
 use Rattle.bench_parse.specs.Lines.{Line, setLine, writeLine, readLine, carryLine, crashLine, downLine, upLine, noLine}
-use Rattle.bench_rules.specs.Play.{Played, refuses, writes, starts, crashesAt, switches, carriedAll, plays, waiting, playing, eventsOf, Turn, waits, begins, first, turn}
+use Rattle.bench_rules.specs.Play.{Played, refuses, writes, starts, crashesAt, switches, carriedAll, plays, waiting, playing, eventsOf, Turn, waits, begins, oneStripe, first, turn}
 use Rattle.bench_rules.specs.Turning.{Lent, lent, worldIn}
 use Rattle.bench_rules.specs.Workers.{Turned, Lined}
 use Rattle.bench_rules.proofs.Laws.TurningLaws.{turned-lined}
@@ -118,61 +118,61 @@ module _ (b : Bench) (out out′ : List ℕ) (r : After) (none : b .settings .n 
 
   -- settings past the limits
   pub first-bad : (n m size capacity bad : ℕ) (said : Line) (images kept : List ℕ) → said ≡ setLine n m size capacity
-      → bad ≡ benchRefusal (record { n = n; m = m; size = size; capacity = capacity }) → (bad ≡ 0 → ⊥)
+      → bad ≡ benchRefusal (oneStripe n m size capacity) → (bad ≡ 0 → ⊥)
       → ((l : Lent) → Turned b l 0 out (refuses (worldIn b l) badSetting) r l out′) → First b images kept said out r images kept out′
   unfolding first begins benchRefusal
   first-bad n m size capacity bad said images kept e eb h t =
-      waits-so badSetting said images kept (ap first e ∙ go (benchRange (record { n = n; m = m; size = size; capacity = capacity })) eb) t
+      waits-so badSetting said images kept (ap first e ∙ go (benchRange (oneStripe n m size capacity)) eb) t
     where
       go : (x : Bool) → bad ≡ refuseUnless x badSetting
-          → cond x (record {
-            stage = playing (record { n = n; m = m; size = size; capacity = capacity }) (freshSet (record { n = n; m = m; size = size; capacity = capacity })) [];
-            events =
-                [];
-            printed = [];
-          }) (waits badSetting) ≡ waits badSetting
+          → cond x (record { stage = playing (oneStripe n m size capacity) (freshSet (oneStripe n m size capacity)) []; events = []; printed = [] }) (waits badSetting)
+          ≡ waits badSetting
       go true q = absurd (h q)
       go false q = refl
 
 -- a set that begins
-pub first-set : (b : Bench) (images₀ kept₀ : List ℕ) (s : Settings) (bad : ℕ) (out : List ℕ) (bench : Bench) (said : Line) (images kept : List ℕ)
-    → said ≡ setLine (s .n) (s .m) (s .size) (s .capacity) → bad ≡ benchRefusal s → bad ≡ 0 → bench ≡ freshBench s → worldOf bench images kept [] ≡ freshSet s
-    → First b images₀ kept₀ said out (record { bench = bench; used = 0 }) images kept out
-unfolding first begins benchRefusal stageOf eventsOf worldIn freshBench itemsOf
-first-set b images₀ kept₀ s bad out bench said images kept e eb z ef ew =
-    record {
-      staged = λ numbers bytes.
-          subst (λ (x : Turn). Staged b (lent images₀ kept₀ numbers bytes) waiting x out (record { bench = bench; used = 0 }) (lent images kept numbers bytes) out)
-          (sym (ap first e ∙ begun (benchRange s) refl eb))
-          (subst (λ (x : Bench). Staged b (lent images₀ kept₀ numbers bytes) waiting fresh-turn out (record { bench = x; used = 0 }) (lent images kept numbers bytes) out) (sym ef)
-          (record {
-            stage-is = rw (ne-eqb (s .n) 0 (λ q. absurd (omega (arith, in-limits .range .code .n-low))))
-                (ap (λ (w : World). playing s w []) (ap (λ (x : Bench). worldOf x images kept []) (sym ef) ∙ ew));
-            few = omega arith;
-            right = rw (limits, ne-eqb (s .n) 0 (λ q. absurd (omega (arith, in-limits .range .code .n-low)))) refl;
-            text-is = sym (written-nothing 0 out);
-            used-is = refl;
-            within = omega arith;
-            unmoved-keeps = λ q. (let y : _≡_ {A = ℕ} 0 1 = cc in absurd (omega arith));
-          }));
-    }
-  where
-    fresh-turn : Turn
-    fresh-turn = record { stage = playing s (freshSet s) []; events = []; printed = [] }
+module _ (n m size capacity : ℕ) where
+  abbrev s : Settings
+  s = oneStripe n m size capacity
 
-    tested : (x : Bool) → bad ≡ refuseUnless x badSetting → x ≡ true
-    tested true q = refl
-    tested false q = absurd (omega arith)
+  pub first-set : (b : Bench) (images₀ kept₀ : List ℕ) (bad : ℕ) (out : List ℕ) (bench : Bench) (said : Line) (images kept : List ℕ)
+      → said ≡ setLine n m size capacity → bad ≡ benchRefusal s → bad ≡ 0 → bench ≡ freshBench s → worldOf bench images kept [] ≡ freshSet s
+      → First b images₀ kept₀ said out (record { bench = bench; used = 0 }) images kept out
+  unfolding first begins benchRefusal stageOf eventsOf worldIn freshBench itemsOf
+  first-set b images₀ kept₀ bad out bench said images kept e eb z ef ew =
+      record {
+        staged = λ numbers bytes.
+            subst (λ (x : Turn). Staged b (lent images₀ kept₀ numbers bytes) waiting x out (record { bench = bench; used = 0 }) (lent images kept numbers bytes) out)
+            (sym (ap first e ∙ begun (benchRange s) refl eb))
+            (subst (λ (x : Bench). Staged b (lent images₀ kept₀ numbers bytes) waiting fresh-turn out (record { bench = x; used = 0 }) (lent images kept numbers bytes) out) (sym ef)
+            (record {
+              stage-is = rw (ne-eqb (s .n) 0 (λ q. absurd (omega (arith, in-limits .range .code .n-low))))
+                  (ap (λ (w : World). playing s w []) (ap (λ (x : Bench). worldOf x images kept []) (sym ef) ∙ ew));
+              few = omega arith;
+              right = rw (limits, ne-eqb (s .n) 0 (λ q. absurd (omega (arith, in-limits .range .code .n-low)))) refl;
+              text-is = sym (written-nothing 0 out);
+              used-is = refl;
+              within = omega arith;
+              unmoved-keeps = λ q. (let y : _≡_ {A = ℕ} 0 1 = cc in absurd (omega arith));
+            }));
+      }
+    where
+      fresh-turn : Turn
+      fresh-turn = record { stage = playing s (freshSet s) []; events = []; printed = [] }
 
-    limits : benchRange s ≡ true
-    limits = tested (benchRange s) eb
+      tested : (x : Bool) → bad ≡ refuseUnless x badSetting → x ≡ true
+      tested true q = refl
+      tested false q = absurd (omega arith)
 
-    in-limits : Fits s
-    in-limits = bench-fits s limits
+      limits : benchRange s ≡ true
+      limits = tested (benchRange s) eb
 
-    begun : (x : Bool) → benchRange s ≡ x → bad ≡ refuseUnless x badSetting → cond x fresh-turn (waits badSetting) ≡ fresh-turn
-    begun true q d = refl
-    begun false q d = absurd (omega arith)
+      in-limits : Fits s
+      in-limits = bench-fits s limits
+
+      begun : (x : Bool) → benchRange s ≡ x → bad ≡ refuseUnless x badSetting → cond x fresh-turn (waits badSetting) ≡ fresh-turn
+      begun true q d = refl
+      begun false q d = absurd (omega arith)
 
 -- a list of events that adds nothing is none
 none-more : (xs ys : List Event) → xs ++ ys ≡ xs → ys ≡ []

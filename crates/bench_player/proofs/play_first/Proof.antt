@@ -81,7 +81,7 @@ returns-2 : tie.Need-returns-2
 returns-2 c =
     let s = c .before .before .before .before .before .before .before .before .before .before .before .before .before .before .before .before in
     let u = c .before .before .before .before .set-up .ensures in
-    first-set (s .args .b) (s .args .images .now) (s .args .kept .now) _ _ (s .args .out .now) _ (reads (s .args .line .now)) _ _
+    first-set _ _ _ _ (s .args .b) (s .args .images .now) (s .args .kept .now) _ (s .args .out .now) _ (reads (s .args .line .now)) _ _
     (said-set (s .args .l) (s .args .line .now) (s .pre .0 .0) _ _ _ _ (c .before .before .before .before .before .before .before .before .before .before .l .given .1))
     (c .before .before .before .before .before .before .before .before .bench-refusal .ensures) (c .before .before .before .before .before .before .before .if1 .left) (u .0) (u .1)
 

@@ -10,7 +10,7 @@ use borrow.Author.Tests.{eq-eqb, ne-eqb}
 use Rattle.byte_lists.specs.Lists.{zeros}
 use Rattle.byte_lists.proofs.Laws.ZeroLaws.{zeros-take, zeros-length}
 use Rattle.erasure.specs.Code.{blockOf}
-use Rattle.interpolate.proofs.Laws.WeightRowLaws.{part-length}
+use Rattle.byte_lists.proofs.Laws.StackLaws.{part-length}
 use Rattle.message.specs.Kinds.{writeKind}
 use Rattle.message.specs.declared.Message.{Message}
 use Rattle.register.specs.Runs.{Item, message, blockFor, toAll}

@@ -18,7 +18,8 @@ use Rattle.settings.specs.Count.{one-if}
 use Rattle.settings.proofs.Laws.CountLaws.{one-is}
 use Rattle.bench_sent.specs.Sent.{numberAt, isReply, flagsAt, sentBlockAt, messageAt, replyAt, itemAt, itemsOf}
 use Rattle.bench_sent.specs.Workers.{Added, sentRow, messageRow, replyRow, numbersWith, bytesWith, noFlags}
-use Rattle.bench_limits.specs.Limits.{benchSize, rowNumbers, rowBytes, tagPlace, brickPlace, kindPlace, timePlace, roundPlace, maxPlace, foundPlace, yesPlace, heldPlace, messageTag, replyTag}
+use Rattle.bench_limits.specs.Limits.{benchSize, rowNumbers, rowBytes, tagPlace, brickPlace, kindPlace, timePlace, roundPlace, maxPlace, foundPlace}
+use Rattle.bench_limits.specs.Limits.{yesPlace, heldPlace, stripePlace, messageTag, replyTag}
 use Rattle.bench_limits.specs.Limits.{flagCount, blockPlace}
 
 -- a number that was put is found there
@@ -62,9 +63,10 @@ module _ (k : ℕ) (numbers bytes numbers′ bytes′ : List ℕ) (b : Below k n
       let n5 = number-below j maxPlace hj (omega arith) in
       let n6 = number-below j yesPlace hj (omega arith) in
       let n7 = number-below j heldPlace hj (omega arith) in
+      let n8 = number-below j stripePlace hj (omega arith) in
       let f = flags-below j hj in
       let d = block-below size j hs hj in
-      rw (n0, n1, n2, n3, n4, n5, n6, n7, f, d)
+      rw (n0, n1, n2, n3, n4, n5, n6, n7, n8, f, d)
 
   pub items-below : (size j : ℕ) → size ≤ benchSize → j ≤ k → itemsOf size numbers′ bytes′ j ≡ itemsOf size numbers bytes j
   unfolding itemsOf
@@ -133,10 +135,11 @@ message-read k brick msg block numbers bytes hk nf nb hn hb size e =
     let n3 = n timePlace (omega arith) in
     let n4 = n roundPlace (omega arith) in
     let n5 = n maxPlace (omega arith) in
+    let n8 = n stripePlace (omega arith) in
     let f = flags-stored k row (msg .targets) block numbers bytes refl nf nb hn hb in
     let d = block-stored k row (msg .targets) block numbers bytes refl nf nb hn hb size e in
     let m : msg .kind % 256 ≡ msg .kind = mod-eq-of-lt hk in
-    rw (n0, n1, n2, n3, n4, n5, f, d, m)
+    rw (n0, n1, n2, n3, n4, n5, n8, f, d, m)
 
 -- a reply's row is read back as the reply
 no-flags-length : length noFlags ≡ flagCount
@@ -160,9 +163,10 @@ reply-read k r block numbers bytes hk nb hn hb size e =
     let n5 = n maxPlace (omega arith) in
     let n6 = n yesPlace (omega arith) in
     let n7 = n heldPlace (omega arith) in
+    let n8 = n stripePlace (omega arith) in
     let d = block-stored k row noFlags block numbers bytes refl nf nb hn hb size e in
     let m : r .kind % 256 ≡ r .kind = mod-eq-of-lt hk in
-    rw (n0, n1, n2, n3, n4, n5, n6, n7, d, m, one-is (r .yes), one-is (r .held))
+    rw (n0, n1, n2, n3, n4, n5, n6, n7, n8, d, m, one-is (r .yes), one-is (r .held))
 
 -- what the stores of a message and of a reply leave
 pub message-added : (k brick : ℕ) (msg : Message) (block numbers bytes numbers′ bytes′ : List ℕ) → msg .kind < 256 → length (msg .targets) ≡ flagCount
@@ -195,7 +199,7 @@ reply-added k r block numbers bytes numbers′ bytes′ hk nb hn hb en eb =
 
 pub message-put : (k brick kind : ℕ) (msg : Message) (block numbers bytes numbers′ bytes′ : List ℕ) → kind ≡ msg .kind → kind < 256
     → length (msg .targets) ≡ flagCount → length block ≤ benchSize → k * rowNumbers + rowNumbers ≤ length numbers → k * rowBytes + rowBytes ≤ length bytes
-    → numbers′ ≡ put (k * rowNumbers) (sentRow messageTag brick kind (msg .time) (msg .round) (msg .max) 0 0) numbers
+    → numbers′ ≡ put (k * rowNumbers) (sentRow messageTag brick kind (msg .time) (msg .round) (msg .max) 0 0 (msg .stripe)) numbers
     → bytes′ ≡ bytesWith k (msg .targets) block bytes
     → (numbers′ ≡ numbersWith k (messageRow brick msg) numbers)
     × ((bytes′ ≡ bytesWith k (msg .targets) block bytes)
@@ -203,13 +207,13 @@ pub message-put : (k brick kind : ℕ) (msg : Message) (block numbers bytes numb
 unfolding numbersWith messageRow
 message-put k brick kind msg block numbers bytes numbers′ bytes′ ek hk nf nb hn hb en eb =
     let e : numbers′ ≡ numbersWith k (messageRow brick msg) numbers
-    = en ∙ ap (λ (x : ℕ). put (k * rowNumbers) (sentRow messageTag brick x (msg .time) (msg .round) (msg .max) 0 0) numbers) ek in
+    = en ∙ ap (λ (x : ℕ). put (k * rowNumbers) (sentRow messageTag brick x (msg .time) (msg .round) (msg .max) 0 0 (msg .stripe)) numbers) ek in
     (e, (eb, message-added k brick msg block numbers bytes numbers′ bytes′ (omega arith) nf nb hn hb e eb))
 
 pub reply-put : (k kind y h : ℕ) (r : Reply) (block numbers bytes numbers′ bytes′ : List ℕ) → kind ≡ r .kind → kind < 256
     → y ≡ one-if (r .yes) → h ≡ one-if (r .held)
     → length block ≤ benchSize → k * rowNumbers + rowNumbers ≤ length numbers → k * rowBytes + rowBytes ≤ length bytes
-    → numbers′ ≡ put (k * rowNumbers) (sentRow replyTag (r .brick) kind (r .time) (r .round) (r .found) y h) numbers
+    → numbers′ ≡ put (k * rowNumbers) (sentRow replyTag (r .brick) kind (r .time) (r .round) (r .found) y h (r .stripe)) numbers
     → bytes′ ≡ bytesWith k noFlags block bytes
     → (numbers′ ≡ numbersWith k (replyRow r) numbers)
     × ((bytes′ ≡ bytesWith k noFlags block bytes)
@@ -246,18 +250,19 @@ flags-cut k bytes flags f =
     f ∙ ap (λ (a : ℕ). take a (drop (k * rowBytes) bytes)) e
 
 -- the parts of a row make the message, and the reply
-pub message-of : (k kind time round max : ℕ) (targets numbers bytes : List ℕ) → kind ≡ numberAt numbers k kindPlace % 256
-    → time ≡ numberAt numbers k timePlace → round ≡ numberAt numbers k roundPlace → max ≡ numberAt numbers k maxPlace → targets ≡ flagsAt bytes k
-    → record { kind = kind; time = time; round = round; max = max; targets = targets } ≡ messageAt numbers bytes k
+pub message-of : (k kind stripe time round max : ℕ) (targets numbers bytes : List ℕ) → kind ≡ numberAt numbers k kindPlace % 256
+    → stripe ≡ numberAt numbers k stripePlace → time ≡ numberAt numbers k timePlace → round ≡ numberAt numbers k roundPlace → max ≡ numberAt numbers k maxPlace → targets ≡ flagsAt bytes k
+    → record { kind = kind; stripe = stripe; time = time; round = round; max = max; targets = targets } ≡ messageAt numbers bytes k
 unfolding messageAt
-message-of k kind time round max targets numbers bytes e2 e3 e4 e5 f = rw (e2, e3, e4, e5, f)
+message-of k kind stripe time round max targets numbers bytes e2 e8 e3 e4 e5 f = rw (e2, e8, e3, e4, e5, f)
 
-pub reply-of : (k kind brick time round found y h : ℕ) (numbers : List ℕ) → kind ≡ numberAt numbers k kindPlace % 256
-    → brick ≡ numberAt numbers k brickPlace → time ≡ numberAt numbers k timePlace → round ≡ numberAt numbers k roundPlace → found ≡ numberAt numbers k foundPlace
+pub reply-of : (k kind brick stripe time round found y h : ℕ) (numbers : List ℕ) → kind ≡ numberAt numbers k kindPlace % 256
+    → brick ≡ numberAt numbers k brickPlace → stripe ≡ numberAt numbers k stripePlace → time ≡ numberAt numbers k timePlace → round ≡ numberAt numbers k roundPlace
+    → found ≡ numberAt numbers k foundPlace
     → y ≡ numberAt numbers k yesPlace → h ≡ numberAt numbers k heldPlace
-    → record { kind = kind; brick = brick; time = time; round = round; yes = eqb y 1; found = found; held = eqb h 1 } ≡ replyAt numbers k
+    → record { kind = kind; brick = brick; stripe = stripe; time = time; round = round; yes = eqb y 1; found = found; held = eqb h 1 } ≡ replyAt numbers k
 unfolding replyAt
-reply-of k kind brick time round found y h numbers e2 e1 e3 e4 e5 e6 e7 = rw (e2, e1, e3, e4, e5, e6, e7)
+reply-of k kind brick stripe time round found y h numbers e2 e1 e8 e3 e4 e5 e6 e7 = rw (e2, e1, e8, e3, e4, e5, e6, e7)
 
 pub is-reply : (k tag : ℕ) (numbers : List ℕ) → tag ≡ numberAt numbers k tagPlace → not (eqb tag messageTag) ≡ isReply numbers k
 unfolding isReply

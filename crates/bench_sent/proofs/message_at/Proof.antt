@@ -6,6 +6,9 @@ use Rattle.bench_sent.proofs.message_at.Tie as tie
 kind-at-requires : tie.Need-kind-at-requires
 kind-at-requires c κs = search needs
 
+stripe-at-requires : tie.Need-stripe-at-requires
+stripe-at-requires c κs = search needs
+
 number-at-requires : tie.Need-number-at-requires
 number-at-requires c κs = search needs
 
@@ -26,6 +29,7 @@ message-at-spec =
     tie.close
     (tie.spec
     kind-at-requires
+    stripe-at-requires
     number-at-requires
     number-at-requires-2
     number-at-requires-3

@@ -9,6 +9,9 @@ kind-at-requires c κs = search needs
 brick-at-requires : tie.Need-brick-at-requires
 brick-at-requires c κs = search needs
 
+stripe-at-requires : tie.Need-stripe-at-requires
+stripe-at-requires c κs = search needs
+
 number-at-requires : tie.Need-number-at-requires
 number-at-requires c κs = search needs
 
@@ -33,6 +36,7 @@ reply-at-spec =
     (tie.spec
     kind-at-requires
     brick-at-requires
+    stripe-at-requires
     number-at-requires
     number-at-requires-2
     number-at-requires-3

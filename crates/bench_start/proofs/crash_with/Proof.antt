@@ -23,7 +23,7 @@ commit-requires c κs =
     let s = c .before .before .before .before .before .before .before .before .before .before .before .before .before .before .before .before .before .before .before .before .before .before .before in
     let f = c .before .before .before .before .before .before .before .before .before .before .before .before .before .fetch .kept in
     let long = f .1 .1 .0 ∙ s .pre .1 .blocks-long in
-    let few = few-returned _ _ _ _ _ _ _ _ _ (crash-short _ _ _ _) (c .before .before .before .before .before .before .crash .ensures [] [] []) in
+    let few = few-returned _ _ _ _ _ _ _ _ _ (crash-short _ _ _ _ _) (c .before .before .before .before .before .before .crash .ensures [] [] []) in
     (s .pre .0, (record { blocks-long = long; stripe-long = f .1 .1 .1 .0 ∙ s .pre .1 .stripe-long; coded-long = long }, few))
 
 same-length : tie.Need-same-length

@@ -77,11 +77,11 @@ commit-requires c κs =
       (
         record {
           blocks-long = long;
-          stripe-long = c .before .before .before .before .before .before .before .before .before .before .start-write .kept .1 .1 .1 .1 .1 .1 .0 ∙ f .1 .1 .1 .0
+          stripe-long = c .before .before .before .before .before .before .before .before .before .before .start-write .kept .1 .1 .1 .1 .1 .1 .1 .1 .0 ∙ f .1 .1 .1 .0
               ∙ s .pre .1 .0 .stripe-long;
           coded-long = long;
         },
-        few-returned _ _ _ _ _ _ _ _ _ (write-short _ _ _ _ _ _)
+        few-returned _ _ _ _ _ _ _ _ _ (write-short _ _ _ _ _ _ _ _)
             (c .before .before .before .before .before .before .before .before .before .before .start-write .ensures [] []),
       ),
     )
@@ -95,7 +95,8 @@ same-length-7 c = c .before .before .before .before .before .before .before .bef
     .before .before .before .before .before .before .fetch .kept .1 .1 .0
 
 same-length-8 : tie.Need-same-length-8
-same-length-8 c = c .before .before .before .before .before .before .before .before .before .before .before .before .before .before .before .before .before .before .before .start-write .kept .1 .1 .1
+same-length-8 c =
+    c .before .before .before .before .before .before .before .before .before .before .before .before .before .before .before .before .before .before .before .start-write .kept .1 .1 .1 .1 .1
     .1 .1 .1 .0 ∙ c .before .before .before .before .before .before .before .before .before .before .before .before .before .before .before .before .before .before .before .before .before .before
     .before .before .before .before .before .before .fetch .kept .1 .1 .1 .0
 

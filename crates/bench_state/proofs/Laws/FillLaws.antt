@@ -12,18 +12,17 @@ use lib.Seq.{length-take-le}
 use borrow.Author.Tests.{eq-eqb, lt-ltb}
 use borrow.Rule.Slice.PartMut.{putMid}
 use Rattle.settings.specs.Refusal.{firstRefusal}
-use Rattle.image.specs.Opening.{lendingRefusal}
-use Rattle.image_write.specs.Saving.{freshAfter}
-use Rattle.settings.specs.Ranges.{inRange}
+use Rattle.volume.specs.Rows.{rowSize, freshRow, rowLendingRefusal, freshRowAfter}
+use Rattle.settings.specs.Ranges.{inRange, settingsRefusal}
 use Rattle.settings.specs.declared.Settings.{Settings}
-use Rattle.image.specs.Brick
-use Rattle.image.specs.Image.{imageOf, imageSize}
+use Rattle.image.specs.Image.{imageSize}
 use Rattle.byte_lists.specs.Lists.{put, zeros}
 use Rattle.byte_lists.proofs.Laws.ZeroLaws.{zero-list}
 use Rattle.byte_lists.proofs.Laws.PutLaws.{put-mid, put-length, put-in, put-before}
 use Rattle.bench_state.specs.State.{worldOf}
 use Rattle.bench_state.specs.Workers.{freshBench}
 use Rattle.bench_state.specs.Workers.{Small}
+use Rattle.bench_state.proofs.Laws.BenchRangeLaws.{row-of-one}
 use Rattle.bench_state.proofs.Laws.StateLaws.{fresh-world}
 use Rattle.bench_state.specs.declared.Bench.{Bench}
 use Rattle.register.specs.Runs.{freshSet}
@@ -31,51 +30,52 @@ use Rattle.bench_state.specs.Workers.{Begun}
 use Rattle.bench_limits.specs.Limits.{keptLength, imageRoom, imagesLength}
 use Rattle.image_block.specs.Block.{blockBytes}
 
-lending-passes : (s : Settings) (brick len : ℕ) → inRange s ≡ true → len ≡ imageSize s → brick < s .n → lendingRefusal s brick len ≡ 0
-unfolding lendingRefusal firstRefusal
-lending-passes s brick len r e l = rw (r, eq-eqb len (imageSize s) e, lt-ltb brick (s .n) l) refl
+lending-passes : (s : Settings) (brick len : ℕ) → inRange s ≡ true → len ≡ rowSize s → brick < s .n → rowLendingRefusal s brick len ≡ 0
+unfolding rowLendingRefusal settingsRefusal firstRefusal
+lending-passes s brick len r e l = rw (r, eq-eqb len (rowSize s) e, lt-ltb brick (s .n) l) refl
 
 pub begun-none : (s : Settings) (images : List ℕ) → length images ≡ imagesLength → Begun s images 0
 begun-none s images e = record { long = e; images-fresh = λ b h. absurd (not-suc-le-zero h) }
 
-pub begun-more : (s : Settings) (images new : List ℕ) (k : ℕ) → Small s → Begun s images k → k < s .n → length new ≡ imageSize s
-    → new ≡ imageOf s k (Brick.freshBrick s) → Begun s (put (k * imageRoom) new images) (k + 1)
+pub begun-more : (s : Settings) (images new : List ℕ) (k : ℕ) → Small s → Begun s images k → k < s .n → length new ≡ rowSize s
+    → new ≡ freshRow s k → Begun s (put (k * imageRoom) new images) (k + 1)
 begun-more s images new k small h l e f =
     record {
-      long = put-length (k * imageRoom) new images (let a = small .bricks in let b = small .image-fits in let c = h .long in omega arith) ∙ h .long;
+      long = put-length (k * imageRoom) new images (let a = small .bricks in let b = small .row-fits in let c = h .long in omega arith) ∙ h .long;
       images-fresh = λ b u. by b (eq-or-lt-of-le (let v : b ≤ k = omega arith in v));
     }
   where
-    by : (b : ℕ) → (b ≡ k) ⊎ (b < k) → take (imageSize s) (drop (b * imageRoom) (put (k * imageRoom) new images)) ≡ imageOf s b (Brick.freshBrick s)
+    by : (b : ℕ) → (b ≡ k) ⊎ (b < k) → take (rowSize s) (drop (b * imageRoom) (put (k * imageRoom) new images)) ≡ freshRow s b
     by b (inl q) =
-        ap (λ (j : ℕ). take (imageSize s) (drop (j * imageRoom) (put (k * imageRoom) new images))) q
-        ∙ put-in (k * imageRoom) (imageSize s) new images e (let a = small .bricks in let c = h .long in omega arith)
+        ap (λ (j : ℕ). take (rowSize s) (drop (j * imageRoom) (put (k * imageRoom) new images))) q
+        ∙ put-in (k * imageRoom) (rowSize s) new images e (let a = small .bricks in let c = h .long in omega arith)
         ∙ f
-        ∙ ap (λ (j : ℕ). imageOf s j (Brick.freshBrick s)) (sym q)
+        ∙ ap (freshRow s) (sym q)
     by b (inr v) =
-        put-before (k * imageRoom) (b * imageRoom) (imageSize s) new images (let i = small .image-fits in omega arith)
-        (let a = small .bricks in let i = small .image-fits in let c = h .long in omega arith)
+        put-before (k * imageRoom) (b * imageRoom) (rowSize s) new images (let i = small .row-fits in omega arith)
+        (let a = small .bricks in let i = small .row-fits in let c = h .long in omega arith)
         ∙ h .images-fresh b v
 
 -- one more image, as the code stores it
 pub begun-stored : (s : Settings) (images new : List ℕ) (k len : ℕ) → Small s → inRange s ≡ true → Begun s images k → k < s .n → len ≡ blockBytes * (s .capacity + 1)
     → length new ≡ length (take (k * imageRoom + len - k * imageRoom) (drop (k * imageRoom) images))
-    → new ≡ freshAfter s k (take (k * imageRoom + len - k * imageRoom) (drop (k * imageRoom) images))
+    → new ≡ freshRowAfter s k (take (k * imageRoom + len - k * imageRoom) (drop (k * imageRoom) images))
     → Begun s (putMid (k * imageRoom) (k * imageRoom + len - k * imageRoom) images new) (k + 1)
-unfolding freshAfter imageSize
+unfolding freshRowAfter imageSize
 begun-stored s images new k len small r h l e el f =
     let a = small .bricks in
     let b = small .log-fits in
     let g = h .long in
-    let long : length (take (k * imageRoom + len - k * imageRoom) (drop (k * imageRoom) images)) ≡ blockBytes * (s .capacity + 1) =
-    length-take-le (k * imageRoom + len - k * imageRoom) (drop (k * imageRoom) images) (let d = length-drop (k * imageRoom) images in omega arith) ∙ (omega arith)
+    let long : length (take (k * imageRoom + len - k * imageRoom) (drop (k * imageRoom) images)) ≡ rowSize s =
+    length-take-le (k * imageRoom + len - k * imageRoom) (drop (k * imageRoom) images) (let d = length-drop (k * imageRoom) images in omega arith)
+    ∙ (let o = row-of-one s (small .one-stripe) in omega (arith, o))
     in
-    subst (λ (i : List ℕ). Begun s i (k + 1)) (sym (put-mid (k * imageRoom) (k * imageRoom + len) images new (omega arith) (omega arith)))
+    subst (λ (i : List ℕ). Begun s i (k + 1)) (sym (put-mid (k * imageRoom) (k * imageRoom + len) images new (omega arith) (let o = row-of-one s (small .one-stripe) in omega (arith, el, long, o))))
     (begun-more s images new k small h l (el ∙ long)
-    (f ∙ ap (λ (n : ℕ). cond (eqb n 0) (imageOf s k (Brick.freshBrick s)) (take (k * imageRoom + len - k * imageRoom) (drop (k * imageRoom) images)))
+    (f ∙ ap (λ (n : ℕ). cond (eqb n 0) (freshRow s k) (take (k * imageRoom + len - k * imageRoom) (drop (k * imageRoom) images)))
     (passes (take (k * imageRoom + len - k * imageRoom) (drop (k * imageRoom) images)) long)))
   where
-    passes : (t : List ℕ) → length t ≡ blockBytes * (s .capacity + 1) → lendingRefusal s k (length t) ≡ 0
+    passes : (t : List ℕ) → length t ≡ rowSize s → rowLendingRefusal s k (length t) ≡ 0
     passes t long = lending-passes s k (length t) r long l
 
 -- a set that began, by what the parts of its beginning gave

@@ -11,8 +11,7 @@ use lib.ListN.{length, getD, set, take, drop, replicate, getD-replicate, length-
 use lib.Seq.{ext-getD, length-take-le, getD-take, getD-drop, getD-set-same, getD-set-other}
 use borrow.Author.Tests.{eq-eqb, ne-eqb, lt-ltb, le-ltb}
 use Rattle.settings.specs.declared.Settings.{Settings}
-use Rattle.image.specs.Brick
-use Rattle.image.specs.Image.{imageOf, imageSize}
+use Rattle.volume.specs.Rows.{rowSize, freshRow}
 use Rattle.coord_record.specs.declared.Coordinator.{Coordinator}
 use Rattle.coord_apply.specs.Answers.{Buffered}
 use Rattle.register.specs.Runs.{World, idle, freshSet, putAt}
@@ -73,28 +72,28 @@ module _ (s : Settings) (small : Small s) where
           (holding (getD (idleAt s 0 ∷ idleAt s 1 ∷ idleAt s 2 ∷ idleAt s 3 ∷ []) c (idleAt s c)) (take (s .n * s .size) (drop (c * keptRoom) (replicate keptLength 0)))
           (take (s .m * s .size) (drop (c * keptRoom + stripeRoom) (replicate keptLength 0)))) (idle s c)) (le-ltb c benchCoordinators (omega arith))
 
-  fresh-images : (images : List ℕ) → ((b : ℕ) → b < s .n → take (imageSize s) (drop (b * imageRoom) images) ≡ imageOf s b (Brick.freshBrick s))
-      → (b : ℕ) → imagesOf s images b ≡ imageOf s b (Brick.freshBrick s)
+  fresh-images : (images : List ℕ) → ((b : ℕ) → b < s .n → take (rowSize s) (drop (b * imageRoom) images) ≡ freshRow s b)
+      → (b : ℕ) → imagesOf s images b ≡ freshRow s b
   unfolding imagesOf
   fresh-images images h b = by (decLt b (s .n))
     where
-      by : Dec (b < s .n) → imagesOf s images b ≡ imageOf s b (Brick.freshBrick s)
+      by : Dec (b < s .n) → imagesOf s images b ≡ freshRow s b
       by (yes l) = rw (lt-ltb b (s .n) l) (h b l)
       by (no l) = rw (le-ltb b (s .n) (omega arith)) refl
 
   -- a set that begins
-  pub fresh-world : (images kept : List ℕ) → ((b : ℕ) → b < s .n → take (imageSize s) (drop (b * imageRoom) images) ≡ imageOf s b (Brick.freshBrick s))
+  pub fresh-world : (images kept : List ℕ) → ((b : ℕ) → b < s .n → take (rowSize s) (drop (b * imageRoom) images) ≡ freshRow s b)
       → kept ≡ replicate keptLength 0 → worldOf (freshBench s) images kept [] ≡ freshSet s
   unfolding worldOf freshBench freshSet
   fresh-world images kept h e =
       ap₂ (λ (f : ℕ → List ℕ) (g : ℕ → Bool). make f g (coordinatorKept s (idleAt s 0 ∷ idleAt s 1 ∷ idleAt s 2 ∷ idleAt s 3 ∷ []) kept)) (fun-ext (fresh-images images h)) (fun-ext fresh-up)
-      ∙ ap (make (λ (b : ℕ). imageOf s b (Brick.freshBrick s)) (λ (b : ℕ). true)) (ap (coordinatorKept s (idleAt s 0 ∷ idleAt s 1 ∷ idleAt s 2 ∷ idleAt s 3 ∷ [])) e ∙ fun-ext fresh-held)
+      ∙ ap (make (freshRow s) (λ (b : ℕ). true)) (ap (coordinatorKept s (idleAt s 0 ∷ idleAt s 1 ∷ idleAt s 2 ∷ idleAt s 3 ∷ [])) e ∙ fun-ext fresh-held)
     where
       make : (ℕ → List ℕ) → (ℕ → Bool) → (ℕ → Buffered) → World
       make f g h = record { images = f; up = g; coordinators = h; sent = [] }
 
   -- brick b has another image
-  pub image-put : (images new : List ℕ) (b : ℕ) → b < s .n → length new ≡ imageSize s → length images ≡ imagesLength
+  pub image-put : (images new : List ℕ) (b : ℕ) → b < s .n → length new ≡ rowSize s → length images ≡ imagesLength
       → imagesOf s (put (b * imageRoom) new images) ≡ putAt (imagesOf s images) b new
   unfolding imagesOf putAt
   image-put images new b l e n = fun-ext (λ j. by j (ℕ-discrete j b) (decLt j (s .n)))
@@ -102,15 +101,15 @@ module _ (s : Settings) (small : Small s) where
       by : (j : ℕ) → Dec (j ≡ b) → Dec (j < s .n) → imagesOf s (put (b * imageRoom) new images) j ≡ putAt (imagesOf s images) b new j
       by j (yes q) u =
           rw (eq-eqb j b q, q, lt-ltb b (s .n) l)
-          (put-in (b * imageRoom) (imageSize s) new images e (let k = small .bricks in omega arith))
+          (put-in (b * imageRoom) (rowSize s) new images e (let k = small .bricks in omega arith))
       by j (no q) (no u) = rw (ne-eqb j b q, le-ltb j (s .n) (omega arith)) refl
       by j (no q) (yes u) = rw (ne-eqb j b q, lt-ltb j (s .n) u) (apart (decLt j b))
         where
-          apart : Dec (j < b) → take (imageSize s) (drop (j * imageRoom) (put (b * imageRoom) new images)) ≡ take (imageSize s) (drop (j * imageRoom) images)
-          apart (yes v) = put-before (b * imageRoom) (j * imageRoom) (imageSize s) new images (let k = small .image-fits in omega arith)
-              (let k = small .image-fits in let m = small .bricks in omega arith)
-          apart (no v) = put-behind (b * imageRoom) (j * imageRoom) (imageSize s) new images (let k = small .image-fits in omega arith)
-              (let k = small .image-fits in let m = small .bricks in omega arith)
+          apart : Dec (j < b) → take (rowSize s) (drop (j * imageRoom) (put (b * imageRoom) new images)) ≡ take (rowSize s) (drop (j * imageRoom) images)
+          apart (yes v) = put-before (b * imageRoom) (j * imageRoom) (rowSize s) new images (let k = small .row-fits in omega arith)
+              (let k = small .row-fits in let m = small .bricks in omega arith)
+          apart (no v) = put-behind (b * imageRoom) (j * imageRoom) (rowSize s) new images (let k = small .row-fits in omega arith)
+              (let k = small .row-fits in let m = small .bricks in omega arith)
 
   -- coordinator c has another record, other reply blocks and another stripe
   pub held-put : (cs : List Coordinator) (kept blocks stripe : List ℕ) (c : ℕ) (next : Coordinator) → c < benchCoordinators → length cs ≡ benchCoordinators → length kept ≡ keptLength

@@ -274,7 +274,7 @@ after-sound s x msg block r v size =
     (by-yes (orderYes x (msg .time)) (λ (y : Brick). Sound s y) (withPromise x (msg .time)) x (λ e. promised-sound s x (msg .time) r (saved-valid (msg .time) v)) r)
 
 -- a message that is not refused has a valid time
-message-time : (n m : ℕ) (msg : Message) → messageRefusal n m msg ≡ passed → validTime (msg .time) ≡ true
+pub message-time : (n m : ℕ) (msg : Message) → messageRefusal n m msg ≡ passed → validTime (msg .time) ≡ true
 unfolding messageRefusal
 message-time n m msg e = go (validTime (msg .time)) refl
   where

@@ -7,17 +7,16 @@ use lib.Dec.{eqb}
 use lib.ListN.{length}
 use borrow.Author.Tests.{eqb-true}
 use Rattle.settings.specs.declared.Settings.{Settings}
-use Rattle.settings.proofs.Laws.RefusalLaws.{passed-first, passed-rest}
 use Rattle.message.specs.Kinds.{trimKind}
 use Rattle.message.specs.declared.Message.{Message}
-use Rattle.image.specs.Parse.{Parsed, Opens, brickIn, parse, openRefusal}
+use Rattle.image.specs.Parse.{Parsed, Opens, brickIn, parse}
 use Rattle.image.proofs.Laws.ParseLaws.{parse-opens}
 use Rattle.image.specs.Brick.{Brick}
 use Rattle.brick_log.specs.BrickRules.{replyTo}
-use Rattle.brick.specs.Receive.{blocksRefusal, receiveRefusal, refusedWith, givenBy, accepted, outcome}
-use Rattle.brick.specs.declared.Given.the-variants.{Answered, Silent}
+use Rattle.brick.specs.Receive.{receiveRefusal, refusedWith, givenBy, accepted, outcome}
 use Rattle.brick.specs.Receive.{givenNumber}
-use Rattle.settings.specs.Refusal.{passed}
+use Rattle.brick.specs.declared.Given.the-variants.{Answered, Silent}
+use Rattle.brick.proofs.Laws.OutcomeLaws.{passes}
 
 -- what an image that opens gives has number 0
 acted-number : (s : Settings) (brick : ℕ) (msg : Message) (block bytes out : List ℕ) (x : Brick)
@@ -28,11 +27,6 @@ acted-number s brick msg block bytes out x = go (eqb (msg .kind) trimKind)
     go : (b : Bool) → givenNumber (cond b Silent (Answered (replyTo s brick x msg))) ≡ 0
     go true = refl
     go false = refl
-
-image-opens : (s : Settings) (brick : ℕ) (bytes : List ℕ) (msg : Message) (a b : ℕ) → receiveRefusal s brick bytes msg a b ≡ passed
-    → openRefusal s brick bytes ≡ passed
-unfolding receiveRefusal
-image-opens s brick bytes msg a b e = passed-first (openRefusal s brick bytes) _ (passed-rest (blocksRefusal s a b) _ e)
 
 -- The answer's number is the first refusal's.
 pub outcome-number : (s : Settings) (brick : ℕ) (bytes : List ℕ) (msg : Message) (block out : List ℕ)
@@ -50,7 +44,7 @@ outcome-number s brick bytes msg block out =
     go true e =
         let z = eqb-true (receiveRefusal s brick bytes msg (length block) (length out)) 0 e in
         ap (λ (p : Parsed). givenNumber (accepted s brick msg block bytes out p .given))
-        (parse-opens s brick bytes (image-opens s brick bytes msg (length block) (length out) z))
+        (parse-opens s brick bytes (passes s brick bytes msg (length block) (length out) z .opens))
         ∙ acted-number s brick msg block bytes out (brickIn s bytes)
         ∙ sym z
     go false e = refl

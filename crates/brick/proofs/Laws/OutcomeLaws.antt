@@ -5,19 +5,21 @@ use mathlib.Core.List.{List, [], _∷_}
 use Prim.Native.Nat.{ℕ, zero, suc, _+_, _-_, _*_, _≤_, _<_}
 use native.Mathlib.Omega.{arith}
 use native.Mathlib.Decide.{ℕ-discrete}
+use native.Mathlib.Nat.{mul-le-mul-right}
 use lib.Dec.{leb, ltb, eqb}
 use lib.ListN.{length, take, drop, getD}
 use lib.Seq.{take-take, drop-drop}
-use borrow.Author.Tests.{eq-eqb, ne-eqb, eqb-true, eqb-false}
-use Rattle.settings.specs.Ranges.{settingsRefusal}
+use borrow.Author.Tests.{eq-eqb, ne-eqb, eqb-true, eqb-false, lt-ltb, le-ltb, ltb-true}
+use Rattle.settings.specs.Ranges.{settingsRefusal, stripeRefusal, SettingsRange}
+use Rattle.settings.proofs.Laws.RangeLaws.{settings-passed, stripe-passed}
 use Rattle.settings.specs.Refusal.{firstRefusal, refuseUnless}
 use Rattle.settings.specs.declared.Settings.{Settings}
-use Rattle.settings.proofs.Laws.RefusalLaws.{first-stop, first-pass}
+use Rattle.settings.proofs.Laws.RefusalLaws.{first-stop, first-pass, first-alone, passed-first, passed-rest, tested}
 use Rattle.message.specs.Flags.{member}
 use Rattle.message.specs.Messages.{messageRefusal}
 use Rattle.message.specs.declared.Message.{Message}
 use Rattle.image.specs.Brick.{Brick, entryCount, timeAt, meansAt, newest}
-use Rattle.image.specs.Image.{imageOf}
+use Rattle.image.specs.Image.{imageOf, imageSize}
 use Rattle.image.specs.Parse.{Opens, Refuses, parse, openRefusal, imageBlockAt, countIn, brickIn, heldIn}
 use Rattle.image.specs.Workers.{ImageOpened}
 use Rattle.image.proofs.Laws.ParseLaws.{count-in}
@@ -31,7 +33,7 @@ use Rattle.image.specs.declared.Opening.{Opening}
 use Rattle.image.specs.declared.ImageAnswer.the-variants.{Refused as Failed}
 use Rattle.image_write.specs.Workers.{without}
 use Rattle.brick_log.specs.BrickRules.{notBelowPromise, aboveNewest, readYes, orderYes, lookup, trimmedTo, timeFor, placeFor, foundFor, yesTo, replyTo, brickAfter, blockAfter}
-use Rattle.brick.specs.Receive.{blocksRefusal, receiveRefusal, Outcome, outcomeWith, refusedWith, givenBy, accepted, outcome}
+use Rattle.brick.specs.Receive.{frontRefusal, receiveRefusal, Outcome, outcomeWith, refusedWith, givenBy, accepted, outcome}
 use Rattle.brick_log.specs.Workers.{LogReady, Ahead, planOf, planFor, planIn, cutFor, underIn, underFor, lookedIn, readPlace, gaveOf}
 use Rattle.brick_log.proofs.Laws.LookLaws.{under-brick, under-high, place-brick, time-brick, plan-trim, plan-read, plan-look, plan-other, cut-for}
 use Rattle.brick_log.proofs.Laws.TrimLaws.{cut-trims}
@@ -42,42 +44,78 @@ use Rattle.brick.specs.declared.Given.the-variants.{Answered, Silent, Re
 use Rattle.byte_lists.proofs.Laws.PutLaws.{drop-take}
 use Rattle.image_block.specs.Block.{blockBytes, heldFrom}
 use Rattle.message.specs.Kinds.{orderReadKind, readKind, trimKind}
-use Rattle.settings.specs.Ranges.{maxCapacity, maxSize}
-use Rattle.settings.specs.Refusal.{badLength, passed}
+use Rattle.settings.specs.Ranges.{maxCapacity, maxSize, maxStripes}
+use Rattle.settings.specs.Refusal.{badLength, badNumber, passed}
 
 -- the first refusal of a list
 pub first-is : (a k : ℕ) (rest : List ℕ) → k ≡ a → (k ≡ 0 → ⊥) → firstRefusal (a ∷ rest) ≡ k
 first-is a k rest e h = sym (e ∙ first-stop a rest (λ z. h (e ∙ z)))
 
 -- the ways of the first checks
-module _ (s : Settings) (block out k : ℕ) (e : k ≡ settingsRefusal s) where
-  pub blocks-setting : (k ≡ 0 → ⊥) → k ≡ blocksRefusal s block out
-  unfolding blocksRefusal
-  blocks-setting h = sym (first-is (settingsRefusal s) k _ e h)
+module _ (s : Settings) (images brick lent stripe block out k : ℕ) (e : k ≡ settingsRefusal s) where
+  pub front-setting : (k ≡ 0 → ⊥) → k ≡ frontRefusal s images brick lent stripe block out
+  unfolding frontRefusal
+  front-setting h = sym (first-is (settingsRefusal s) k _ e h)
 
-  pub blocks-block : k ≡ 0 → (block ≡ s .size → ⊥) → badLength ≡ blocksRefusal s block out
-  unfolding blocksRefusal firstRefusal
-  blocks-block z h = rw (sym e ∙ z, ne-eqb block (s .size) h) refl
+  pub front-lent : k ≡ 0 → (lent ≡ images * (blockBytes * (s .capacity + 1)) → ⊥) → badLength ≡ frontRefusal s images brick lent stripe block out
+  unfolding frontRefusal firstRefusal imageSize
+  front-lent z h = rw (sym e ∙ z, ne-eqb lent (images * (blockBytes * (s .capacity + 1))) h) refl
 
-  pub blocks-out : k ≡ 0 → block ≡ s .size → (out ≡ s .size → ⊥) → badLength ≡ blocksRefusal s block out
-  unfolding blocksRefusal firstRefusal
-  blocks-out z b h = rw (sym e ∙ z, eq-eqb block (s .size) b, ne-eqb out (s .size) h) refl
+  module _ (z : k ≡ 0) (l : lent ≡ images * (blockBytes * (s .capacity + 1))) where
+    pub front-block : (block ≡ s .size → ⊥) → badLength ≡ frontRefusal s images brick lent stripe block out
+    unfolding frontRefusal firstRefusal imageSize
+    front-block h = rw (sym e ∙ z, eq-eqb lent (images * (blockBytes * (s .capacity + 1))) l, ne-eqb block (s .size) h) refl
 
-  pub blocks-right : k ≡ 0 → block ≡ s .size → out ≡ s .size → passed ≡ blocksRefusal s block out
-  unfolding blocksRefusal firstRefusal
-  blocks-right z b h = rw (sym e ∙ z, eq-eqb block (s .size) b, eq-eqb out (s .size) h) refl
+    pub front-out : block ≡ s .size → (out ≡ s .size → ⊥) → badLength ≡ frontRefusal s images brick lent stripe block out
+    unfolding frontRefusal firstRefusal imageSize
+    front-out b h = rw (sym e ∙ z, eq-eqb lent (images * (blockBytes * (s .capacity + 1))) l, eq-eqb block (s .size) b, ne-eqb out (s .size) h) refl
 
--- what passes them
-pub blocks-passed : (s : Settings) (block out k : ℕ) → k ≡ blocksRefusal s block out → k ≡ 0 → (block ≡ s .size) × (out ≡ s .size)
-unfolding blocksRefusal firstRefusal
-blocks-passed s block out k e z = go (settingsRefusal s) (eqb block (s .size)) (eqb out (s .size)) refl refl (sym e ∙ z)
-  where
-    go : (a : ℕ) (b c : Bool) → eqb block (s .size) ≡ b → eqb out (s .size) ≡ c → firstRefusal (a ∷ refuseUnless b badLength ∷ refuseUnless c badLength ∷ []) ≡ 0
-        → (block ≡ s .size) × (out ≡ s .size)
-    go (suc a) b c eb ec r = absurd (omega arith)
-    go zero false c eb ec r = absurd (omega arith)
-    go zero true false eb ec r = absurd (omega arith)
-    go zero true true eb ec r = (eqb-true block (s .size) eb, eqb-true out (s .size) ec)
+    pub front-brick : block ≡ s .size → out ≡ s .size → s .n ≤ brick → badNumber ≡ frontRefusal s images brick lent stripe block out
+    unfolding frontRefusal firstRefusal imageSize
+    front-brick b o h =
+        rw (sym e ∙ z, eq-eqb lent (images * (blockBytes * (s .capacity + 1))) l, eq-eqb block (s .size) b, eq-eqb out (s .size) o, le-ltb brick (s .n) h) refl
+
+    pub front-stripe : block ≡ s .size → out ≡ s .size → brick < s .n → (v : ℕ) → v ≡ stripeRefusal (s .stripes) stripe
+        → v ≡ frontRefusal s images brick lent stripe block out
+    unfolding frontRefusal firstRefusal imageSize
+    front-stripe b o h v q =
+        rw (sym e ∙ z, eq-eqb lent (images * (blockBytes * (s .capacity + 1))) l, eq-eqb block (s .size) b, eq-eqb out (s .size) o, lt-ltb brick (s .n) h)
+        (q ∙ sym (first-alone (stripeRefusal (s .stripes) stripe)))
+
+-- the images of all stripes are few bytes
+pub images-small : (images capacity : ℕ) → images ≤ maxStripes → capacity ≤ maxCapacity
+    → images * (blockBytes * (capacity + 1)) ≤ maxStripes * (blockBytes * (maxCapacity + 1))
+images-small images capacity h k =
+    let a = mul-le-mul-right (blockBytes * (capacity + 1)) h in
+    omega (arith, a, k)
+
+-- What passes them.
+pub record Fronted (s : Settings) (images brick lent stripe block out : ℕ) : Type 0 where
+  pub range : SettingsRange s
+  pub lent-is : lent ≡ images * imageSize s
+  pub block-is : block ≡ s .size
+  pub out-is : out ≡ s .size
+  pub brick-low : brick < s .n
+  pub stripe-low : stripe < s .stripes
+
+pub fronted : (s : Settings) (images brick lent stripe block out k : ℕ) → k ≡ frontRefusal s images brick lent stripe block out → k ≡ 0
+    → Fronted s images brick lent stripe block out
+unfolding frontRefusal
+fronted s images brick lent stripe block out k e z =
+    let a = sym e ∙ z in
+    let b = passed-rest (settingsRefusal s) _ a in
+    let c = passed-rest (refuseUnless (eqb lent (images * imageSize s)) badLength) _ b in
+    let d = passed-rest (refuseUnless (eqb block (s .size)) badLength) _ c in
+    let f = passed-rest (refuseUnless (eqb out (s .size)) badLength) _ d in
+    let g = passed-rest (refuseUnless (ltb brick (s .n)) badNumber) _ f in
+    record {
+      range = settings-passed s (passed-first (settingsRefusal s) _ a);
+      lent-is = eqb-true lent (images * imageSize s) (tested _ _ (passed-first (refuseUnless (eqb lent (images * imageSize s)) badLength) _ b));
+      block-is = eqb-true block (s .size) (tested _ _ (passed-first (refuseUnless (eqb block (s .size)) badLength) _ c));
+      out-is = eqb-true out (s .size) (tested _ _ (passed-first (refuseUnless (eqb out (s .size)) badLength) _ d));
+      brick-low = ltb-true brick (s .n) (tested _ _ (passed-first (refuseUnless (ltb brick (s .n)) badNumber) _ f));
+      stripe-low = stripe-passed (s .stripes) stripe (passed-first (stripeRefusal (s .stripes) stripe) _ g);
+    }
 
 -- the numbers of an opening
 open-number : (s : Settings) (brick : ℕ) (l : List ℕ) (n : ℕ) → parse s brick l ≡ Refuses n → (openRefusal s brick l ≡ n) × (n ≡ 0 → ⊥)
@@ -110,6 +148,28 @@ module _ (g : Given) (image out : List ℕ) (o : Outcome) (e : outcomeWith g ima
   pub outcome-out : out ≡ o .out
   outcome-out = ap (λ (w : Outcome). w .out) e
 
+-- An image that does not open is refused by its own number, whatever the message is.
+image-first : (s : Settings) (brick : ℕ) (l : List ℕ) (msg : Message) (a b n : ℕ) → frontRefusal s 1 brick (length l) (msg .stripe) a b ≡ 0
+    → openRefusal s brick l ≡ suc n → receiveRefusal s brick l msg a b ≡ suc n
+unfolding receiveRefusal firstRefusal
+image-first s brick l msg a b n f o = rw (f, o) refl
+
+-- What passes all checks.
+pub record Passes (s : Settings) (brick : ℕ) (l : List ℕ) (msg : Message) (a b : ℕ) : Type 0 where
+  pub front : Fronted s 1 brick (length l) (msg .stripe) a b
+  pub opens : openRefusal s brick l ≡ passed
+  pub message : messageRefusal (s .n) (s .m) msg ≡ passed
+
+pub passes : (s : Settings) (brick : ℕ) (l : List ℕ) (msg : Message) (a b : ℕ) → receiveRefusal s brick l msg a b ≡ passed → Passes s brick l msg a b
+unfolding receiveRefusal
+passes s brick l msg a b e =
+    let rest = passed-rest (frontRefusal s 1 brick (length l) (msg .stripe) a b) _ e in
+    record {
+      front = fronted s 1 brick (length l) (msg .stripe) a b _ refl (passed-first _ _ e);
+      opens = passed-first (openRefusal s brick l) _ rest;
+      message = passed-first (messageRefusal (s .n) (s .m) msg) _ (passed-rest (openRefusal s brick l) _ rest);
+    }
+
 module _ (s : Settings) (brick : ℕ) (l : List ℕ) (msg : Message) (block out : List ℕ) where
   -- a refusal changes nothing
   ends-refused : (n : ℕ) → receiveRefusal s brick l msg (length block) (length out) ≡ n → (n ≡ 0 → ⊥) → outcomeWith (Refused n) l out ≡ outcome s brick l msg block out
@@ -118,26 +178,24 @@ module _ (s : Settings) (brick : ℕ) (l : List ℕ) (msg : Message) (block out 
       let o : outcome s brick l msg block out ≡ refusedWith n l out = rw (e, ne-eqb n 0 z) refl in
       sym o
 
-  pub ends-early : (k : ℕ) → k ≡ blocksRefusal s (length block) (length out) → (k ≡ 0 → ⊥) → outcomeWith (Refused k) l out ≡ outcome s brick l msg block out
+  pub ends-early : (k : ℕ) → k ≡ frontRefusal s 1 brick (length l) (msg .stripe) (length block) (length out) → (k ≡ 0 → ⊥) → outcomeWith (Refused k) l out ≡ outcome s brick l msg block out
   unfolding receiveRefusal
-  ends-early k e z = ends-refused k (first-is (blocksRefusal s (length block) (length out)) k _ e z) z
+  ends-early k e z = ends-refused k (first-is (frontRefusal s 1 brick (length l) (msg .stripe) (length block) (length out)) k _ e z) z
 
-  module _ (k : ℕ) (ek : k ≡ blocksRefusal s (length block) (length out)) (zk : k ≡ 0) where
+  module _ (k : ℕ) (ek : k ≡ frontRefusal s 1 brick (length l) (msg .stripe) (length block) (length out)) (zk : k ≡ 0) where
     pub ends-unopened : (o : Opening) (j n : ℕ) → o ≡ opening (parse s brick l) → o .answer ≡ Failed j → n ≡ answerNumber (o .answer)
         → outcomeWith (Refused n) l out ≡ outcome s brick l msg block out
-    unfolding receiveRefusal
-    ends-unopened o j n e f g =
-        let q = open-number s brick l n (turned (parse s brick l) o j n e f g) in
-        ends-refused n
-        (first-pass (blocksRefusal s (length block) (length out)) (openRefusal s brick l ∷ messageRefusal (s .n) (s .m) msg ∷ []) (sym ek ∙ zk)
-        ∙ first-is (openRefusal s brick l) n (messageRefusal (s .n) (s .m) msg ∷ []) (sym (q .0)) (q .1))
-        (q .1)
+    ends-unopened o j n e f g = let q = open-number s brick l n (turned (parse s brick l) o j n e f g) in ends-refused n (go n (q .0) (q .1)) (q .1)
+      where
+        go : (n : ℕ) → openRefusal s brick l ≡ n → (n ≡ 0 → ⊥) → receiveRefusal s brick l msg (length block) (length out) ≡ n
+        go zero w z = absurd (z refl)
+        go (suc i) w z = image-first s brick l msg (length block) (length out) i (sym ek ∙ zk) w
 
     module _ (x : Brick) (is : parse s brick l ≡ Opens x) (w : ℕ) (ew : w ≡ messageRefusal (s .n) (s .m) msg) where
       rest : receiveRefusal s brick l msg (length block) (length out) ≡ firstRefusal (w ∷ [])
       unfolding receiveRefusal
       rest =
-          first-pass (blocksRefusal s (length block) (length out)) (openRefusal s brick l ∷ messageRefusal (s .n) (s .m) msg ∷ []) (sym ek ∙ zk)
+          first-pass (frontRefusal s 1 brick (length l) (msg .stripe) (length block) (length out)) (openRefusal s brick l ∷ messageRefusal (s .n) (s .m) msg ∷ []) (sym ek ∙ zk)
           ∙ first-pass (openRefusal s brick l) (messageRefusal (s .n) (s .m) msg ∷ []) (open-zero s brick l x is)
           ∙ ap (λ (j : ℕ). firstRefusal (j ∷ [])) (sym ew)
 
@@ -317,6 +375,7 @@ module _ (s : Settings) (brick : ℕ) (l : List ℕ) (k : Known) (msg : Message)
       → outcomeWith (Answered (record {
         kind = msg .kind;
         brick = brick;
+        stripe = msg .stripe;
         time = msg .time;
         round = msg .round;
         yes = v;
@@ -333,10 +392,11 @@ module _ (s : Settings) (brick : ℕ) (l : List ℕ) (k : Known) (msg : Message)
     where
       reply : v ≡ yesTo s (brickIn s l) msg → p .found ≡ foundFor brick (brickIn s l) msg → not (eqb (p .place) 0) ≡ not (eqb (placeFor brick (brickIn s l) msg) 0)
           → _≡_ {A = Given}
-          (Answered (record { kind = msg .kind; brick = brick; time = msg .time; round = msg .round; yes = v; found = p .found; held = not (eqb (p .place) 0) }))
+          (Answered (record { kind = msg .kind; brick = brick; stripe = msg .stripe; time = msg .time; round = msg .round; yes = v; found = p .found; held = not (eqb (p .place) 0) }))
           (Answered (record {
             kind = msg .kind;
             brick = brick;
+            stripe = msg .stripe;
             time = msg .time;
             round = msg .round;
             yes = yesTo s (brickIn s l) msg;
@@ -344,7 +404,7 @@ module _ (s : Settings) (brick : ℕ) (l : List ℕ) (k : Known) (msg : Message)
             held = not (eqb (placeFor brick (brickIn s l) msg) 0);
           }))
       reply a b c =
-          λ i. Answered (record { kind = msg .kind; brick = brick; time = msg .time; round = msg .round; yes = a i; found = b i; held = c i })
+          λ i. Answered (record { kind = msg .kind; brick = brick; stripe = msg .stripe; time = msg .time; round = msg .round; yes = a i; found = b i; held = c i })
 
 pub log-is : (s : Settings) (brick : ℕ) (l : List ℕ) (o : Opening) (h : Head) → Hub s brick l o h → o .log ≡ workingLog (brickIn s l)
 log-is s brick l o h u = u .logs ∙ ap workingLog (u .saved .is-read)

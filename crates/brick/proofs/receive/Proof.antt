@@ -1,14 +1,14 @@
 use native.Mathlib.Omega.{arith}
 use Rattle.image.specs.Workers.{Hub}
 use Rattle.image.proofs.Laws.HubLaws.{hub}
-use Rattle.brick.proofs.Laws.OutcomeLaws.{blocks-passed, ends-early, ends-unopened, ends-wrong, ends-acted, ready, ahead, log-is, hub-reads}
+use Rattle.brick.proofs.Laws.OutcomeLaws.{fronted, ends-early, ends-unopened, ends-wrong, ends-acted, ready, ahead, log-is, hub-reads}
 use borrow.Author.Needs.{needs}
 use Rattle.brick.proofs.receive.Statement.{statement}
 use Rattle.brick.proofs.receive.Tie as tie
 use Rattle.image.specs.Opening.{blank}
 
-blocks-refusal-requires : tie.Need-blocks-refusal-requires
-blocks-refusal-requires c κs = search needs
+front-refusal-requires : tie.Need-front-refusal-requires
+front-refusal-requires c κs = search needs
 
 the-hub : (c : tie.After-answer) → Hub (c .before .before .before .before .before .before .before .before .before .args .s)
     (c .before .before .before .before .before .before .before .before .before .args .brick) (c .before .before .before .before .before .before .before .before .before .args .image .now)
@@ -16,7 +16,7 @@ the-hub : (c : tie.After-answer) → Hub (c .before .before .before .before .bef
 the-hub c = hub _ _ _ _ _ (c .before .before .«open» .ensures) (c .answer .given .1)
 
 returns : tie.Need-returns
-returns c = ends-early _ _ _ _ _ _ _ (c .before .blocks-refusal .ensures) (c .if1 .taken)
+returns c = ends-early _ _ _ _ _ _ _ (c .before .front-refusal .ensures) (c .if1 .taken)
 
 open-requires : tie.Need-open-requires
 open-requires c κs = search needs
@@ -34,7 +34,7 @@ same-length : tie.Need-same-length
 same-length c = search needs
 
 returns-2 : tie.Need-returns-2
-returns-2 c = ends-unopened _ _ _ _ _ _ _ (c .before .before .before .before .before .before .blocks-refusal .ensures) (c .before .before .before .before .before .if1 .left) _ _ _
+returns-2 c = ends-unopened _ _ _ _ _ _ _ (c .before .before .before .before .before .before .front-refusal .ensures) (c .before .before .before .before .before .if1 .left) _ _ _
     (c .before .before .before .«open» .ensures) (c .before .enum-told .given .1) (c .number-of .ensures)
 
 refusal-requires : tie.Need-refusal-requires
@@ -44,8 +44,10 @@ same-length-2 : tie.Need-same-length-2
 same-length-2 c = search needs
 
 returns-3 : tie.Need-returns-3
-returns-3 c = ends-wrong _ _ _ _ _ _ _ (c .before .before .before .before .before .before .before .before .blocks-refusal .ensures)
-    (c .before .before .before .before .before .before .before .if1 .left) _ (the-hub (c .before .before .before) .is) _ (c .before .refusal .ensures) (c .if2 .taken)
+returns-3 c =
+    let front = c .before .before .before .before .before .before .before in
+    ends-wrong _ _ _ _ _ _ _ (front .before .front-refusal .ensures) (front .if1 .left) _ (the-hub (c .before .before .before) .is) _ (c .before .refusal .ensures)
+    (λ z. omega (arith, front .if1 .left, c .if2 .taken, z))
 
 sub-last : tie.Need-sub-last
 sub-last c = omega (arith, the-hub (c .before .before .before .before .before) .low)
@@ -66,9 +68,9 @@ unfolding blank
 act-requires c κs =
     let u = the-hub (c .before .before .before .before .before .before .before .before .before) in
     let r = ready _ _ _ _ _ u in
-    let b = blocks-passed _ _ _ _ (c .before .before .before .before .before .before .before .before .before .before .before .before .before .before .blocks-refusal .ensures)
+    let b = fronted _ _ _ _ _ _ _ _ (c .before .before .before .before .before .before .before .before .before .before .before .before .before .before .front-refusal .ensures)
     (c .before .before .before .before .before .before .before .before .before .before .before .before .before .if1 .left) in
-    (r, (ahead _ _ _ _ _ _ _ r (log-is _ _ _ _ _ u) (c .before .before .plan-for .ensures), (b .0, b .1)))
+    (r, (ahead _ _ _ _ _ _ _ r (log-is _ _ _ _ _ u) (c .before .before .plan-for .ensures), (b .block-is, b .out-is)))
 
 same-length-3 : tie.Need-same-length-3
 same-length-3 c = search needs
@@ -80,7 +82,7 @@ returns-4 : tie.Need-returns-4
 returns-4 c =
     let u = the-hub (c .before .before .before .before .before .before .before .before .before .before .before .before .before .before) in
     ends-acted _ _ _ _ _ _ _ (c .before .before .before .before .before .before .before .before .before .before .before .before .before .before .before .before .before .before .before
-    .blocks-refusal .ensures) (c .before .before .before .before .before .before .before .before .before .before .before .before .before .before .before .before .before .before .if1
+    .front-refusal .ensures) (c .before .before .before .before .before .before .before .before .before .before .before .before .before .before .before .before .before .before .if1
     .left) _ (hub-reads _ _ _ _ _ u) _ (c .before .before .before .before .before .before .before .before .before .before .before .before .refusal .ensures)
     (c .before .before .before .before .before .before .before .before .before .before .before .if2 .left) _ _ _ (c .before .before .before .before .act .ensures)
 
@@ -88,7 +90,7 @@ pub receive-spec : {M : Type 1} → statement M
 receive-spec =
     tie.close
     (tie.spec
-    blocks-refusal-requires
+    front-refusal-requires
     returns
     open-requires
     enum-known-answer

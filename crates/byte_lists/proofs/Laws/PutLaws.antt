@@ -1,10 +1,10 @@
 -- Bytes put into a list: it keeps its length, they stand there, and what stands beside them is as it was.
 use mathlib.Core.Path.{_≡_, refl, sym, ap, _∙_}
-use mathlib.Core.List.{List, [], _∷_, _++_, append-assoc}
+use mathlib.Core.List.{List, [], _∷_, _++_, append-assoc, append-nil}
 use Prim.Native.Nat.{ℕ, zero, suc, _+_, _-_, _≤_, _<_}
 use native.Mathlib.Omega.{arith}
 use lib.ListN.{length, take, drop, length-append, length-take, length-drop, getD, set}
-use lib.Seq.{take-at, drop-at, drop-drop, take-nil, take-take, take-append-le, length-take-le, take-length, paste, paste-zero, paste-suc, length-paste}
+use lib.Seq.{take-at, drop-at, drop-drop, take-nil, take-take, take-append-le, length-take-le, take-length, paste, paste-zero, paste-suc, length-paste, sets, sets-eq, drop-length}
 use borrow.Rule.Slice.PartMut.{putMid, post-is}
 use Rattle.byte_lists.specs.Lists.{put}
 use native.Mathlib.Numerals.{add-one}
@@ -96,3 +96,11 @@ unfolding put
 pasted-all d s l at i h p =
     let e : i ≡ length s = omega (arith, p .so-far) in
     p .left-by ∙ rw (e, take-length s)
+
+-- stores one after the other, from the first place on, fill a buffer of their number
+pub stores : (values l : List ℕ) → length l ≡ length values → sets l 0 values ≡ values
+stores values l e =
+    sets-eq values l 0 (omega (arith, e))
+    ∙ ap (λ (k : ℕ). values ++ drop k l) (let z : 0 + length values ≡ length l = omega (arith, e) in z)
+    ∙ ap (λ (r : List ℕ). values ++ r) (drop-length l)
+    ∙ append-nil values

@@ -6,7 +6,7 @@ use Prim.Native.Nat.{ℕ, _+_, _-_, _*_, _≤_}
 use Rattle.erasure.specs.Code.{blockOf}
 use Rattle.coord_apply.specs.Acts.{gathered}
 use Rattle.coord_apply.proofs.Laws.BufferLaws.{block-here, block-cut, next-within}
-use Rattle.interpolate.proofs.Laws.WeightRowLaws.{Stacked, stacked-none, stacked-more, stacked-all, part-length}
+use Rattle.byte_lists.proofs.Laws.StackLaws.{Stacked, stacked-none, stacked-more, stacked-all, part-length}
 use Rattle.coord_apply.proofs.gather.Statement.{statement}
 use Rattle.coord_apply.proofs.gather.Tie as tie
 

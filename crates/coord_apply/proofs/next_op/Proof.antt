@@ -1,3 +1,4 @@
+use mathlib.Core.Path.{refl}
 use Rattle.coord_apply.specs.Acts.{nextOp}
 use borrow.Author.Needs.{needs}
 use Rattle.coord_apply.proofs.next_op.Statement.{statement}
@@ -8,7 +9,7 @@ add-t4 c = search needs
 
 returns : tie.Need-returns
 unfolding nextOp
-returns c = cc
+returns c = refl
 
 pub next-op-spec : {M : Type 1} → statement M
 next-op-spec = tie.close (tie.spec add-t4 returns)

@@ -24,24 +24,43 @@ module _ (n m : ℕ) (op : Op) (t : Tally) (r : Reply) where
   unfolding answers
   other-kind a = rw (ne-eqb (r .kind) (op .phase) a)
 
-  pub other-operation : r .kind ≡ op .phase → (r .time ≡ op .time → ⊥) → false ≡ answers n m op t r
+  pub other-stripe : r .kind ≡ op .phase → (r .stripe ≡ op .stripe → ⊥) → false ≡ answers n m op t r
   unfolding answers
-  other-operation a b = rw (eq-eqb (r .kind) (op .phase) a, ne-eqb (r .time) (op .time) b)
+  other-stripe a s = rw (eq-eqb (r .kind) (op .phase) a, ne-eqb (r .stripe) (op .stripe) s)
 
-  pub other-round : r .kind ≡ op .phase → r .time ≡ op .time → (r .round ≡ op .round → ⊥) → false ≡ answers n m op t r
+  pub other-operation : r .kind ≡ op .phase → r .stripe ≡ op .stripe → (r .time ≡ op .time → ⊥) → false ≡ answers n m op t r
   unfolding answers
-  other-round a b d = rw (eq-eqb (r .kind) (op .phase) a, eq-eqb (r .time) (op .time) b, ne-eqb (r .round) (op .round) d)
+  other-operation a s b = rw (eq-eqb (r .kind) (op .phase) a, eq-eqb (r .stripe) (op .stripe) s, ne-eqb (r .time) (op .time) b)
 
-  pub counted-before : r .kind ≡ op .phase → r .time ≡ op .time → r .round ≡ op .round → getD (t .counted) (r .brick) 0 ≡ 1 → false ≡ answers n m op t r
+  pub other-round : r .kind ≡ op .phase → r .stripe ≡ op .stripe → r .time ≡ op .time → (r .round ≡ op .round → ⊥) → false ≡ answers n m op t r
+  unfolding answers
+  other-round a s b d =
+      rw (eq-eqb (r .kind) (op .phase) a, eq-eqb (r .stripe) (op .stripe) s, eq-eqb (r .time) (op .time) b, ne-eqb (r .round) (op .round) d)
+
+  pub counted-before : r .kind ≡ op .phase → r .stripe ≡ op .stripe → r .time ≡ op .time → r .round ≡ op .round → getD (t .counted) (r .brick) 0 ≡ 1
+      → false ≡ answers n m op t r
   unfolding answers member
-  counted-before a b d e =
-      rw (eq-eqb (r .kind) (op .phase) a, eq-eqb (r .time) (op .time) b, eq-eqb (r .round) (op .round) d, eq-eqb (getD (t .counted) (r .brick) 0) 1 e)
+  counted-before a s b d e =
+      rw (
+        eq-eqb (r .kind) (op .phase) a,
+        eq-eqb (r .stripe) (op .stripe) s,
+        eq-eqb (r .time) (op .time) b,
+        eq-eqb (r .round) (op .round) d,
+        eq-eqb (getD (t .counted) (r .brick) 0) 1 e,
+      )
 
-  pub answers-by : (g v : Bool) → r .kind ≡ op .phase → r .time ≡ op .time → r .round ≡ op .round → (getD (t .counted) (r .brick) 0 ≡ 1 → ⊥)
+  pub answers-by : (g v : Bool) → r .kind ≡ op .phase → r .stripe ≡ op .stripe → r .time ≡ op .time → r .round ≡ op .round → (getD (t .counted) (r .brick) 0 ≡ 1 → ⊥)
       → g ≡ isTarget n m (op .first) (r .brick) → v ≡ blockRight (op .phase) g (r .yes) (r .held) (r .found) → v ≡ answers n m op t r
   unfolding answers member
-  answers-by g v a b d e eg ev =
-      rw (eq-eqb (r .kind) (op .phase) a, eq-eqb (r .time) (op .time) b, eq-eqb (r .round) (op .round) d, ne-eqb (getD (t .counted) (r .brick) 0) 1 e, ← eg) ev
+  answers-by g v a s b d e eg ev =
+      rw (
+        eq-eqb (r .kind) (op .phase) a,
+        eq-eqb (r .stripe) (op .stripe) s,
+        eq-eqb (r .time) (op .time) b,
+        eq-eqb (r .round) (op .round) d,
+        ne-eqb (getD (t .counted) (r .brick) 0) 1 e,
+        ← eg,
+      ) ev
 
 -- a Read round
 module _ (n m : ℕ) (op : Op) (t : Tally) where

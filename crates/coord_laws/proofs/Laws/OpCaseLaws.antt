@@ -30,10 +30,10 @@ unfolding opRight unsetOp readRight storedRight writeRight
 fit op e n = go (eqb (op .kind) idleKind) (eqb (op .kind) readingKind) refl refl e
   where
     go : (a b : Bool) → eqb (op .kind) idleKind ≡ a → eqb (op .kind) readingKind ≡ b
-        → cond a (eqb (op .phase) 0 && eqb (op .round) 0 && eqb (op .max) 0 && eqb (op .first) 0)
+        → cond a (eqb (op .phase) 0 && eqb (op .round) 0 && eqb (op .max) 0 && eqb (op .first) 0 && eqb (op .stripe) 0)
         (cond b (readRight op) (eqb (op .kind) writingKind && writeRight op)) ≡ true
         → Fit op
-    go true b ea eb q = absurd (n (eqb-true (op .kind) idleKind ea) (eqb-true (op .phase) 0 (and-left _ _ (and-left _ _ (and-left _ _ q)))))
+    go true b ea eb q = absurd (n (eqb-true (op .kind) idleKind ea) (eqb-true (op .phase) 0 (and-left _ _ (and-left _ _ (and-left _ _ (and-left _ _ q))))))
     go false true ea eb q = read-phase (eqb (op .phase) readKind) (eqb (op .phase) orderReadKind) refl refl q
       where
         kind : op .kind ≡ readingKind
@@ -63,6 +63,17 @@ fit op e n = go (eqb (op .kind) idleKind) (eqb (op .kind) readingKind) refl refl
         write-phase : (x : Bool) → eqb (op .phase) orderKind ≡ x → cond x (eqb (op .round) firstRound) (eqb (op .phase) writeKind && eqb (op .round) secondRound) ≡ true → Fit op
         write-phase true ex w = ordering kind (eqb-true (op .phase) orderKind ex) (eqb-true (op .round) firstRound w) first
         write-phase false ex w = storing kind (eqb-true (op .phase) writeKind (and-left _ _ w)) (eqb-true (op .round) secondRound (and-right (eqb (op .phase) writeKind) _ w))
+
+-- an operation in a phase runs
+pub phase-runs : (op : Op) → opRight op ≡ true → readKind ≤ op .phase → op .kind ≡ idleKind → ⊥
+phase-runs op e l i = go (fit op e (λ _ z. omega arith))
+  where
+    go : Fit op → ⊥
+    go (reading k q r) = omega arith
+    go (looking k q r m) = omega arith
+    go (restoring k q r) = omega arith
+    go (ordering k q r f) = omega arith
+    go (storing k q r) = omega arith
 
 pub in-read : (op : Op) → opRight op ≡ true → op .phase ≡ readKind → InRead op
 in-read op e p = go (fit op e (λ _ z. omega arith))

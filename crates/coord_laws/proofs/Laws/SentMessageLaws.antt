@@ -62,10 +62,10 @@ time-valid kind time clock e k a b = go (eqb kind idleKind) refl e
         (eqb-true time (timeOf (clock .last) (clock .coordinator)) (and-right (leb 1 (clock .last)) (eqb time (timeOf (clock .last) (clock .coordinator))) q)) a b
 
 -- EVERY MESSAGE OF AN OPEN ROUND PASSES REFUSAL 10; a Read round's targets are m different bricks.
-pub message-passes : (n m size : ℕ) (c : Coordinator) (targets : List ℕ) → Good n m size c → (c .op .kind ≡ idleKind → ⊥) → (c .op .phase ≡ readKind → brickSet targets n m ≡ true)
+pub message-passes : (n m size stripes : ℕ) (c : Coordinator) (targets : List ℕ) → Good n m size stripes c → (c .op .kind ≡ idleKind → ⊥) → (c .op .phase ≡ readKind → brickSet targets n m ≡ true)
     → messageRefusal n m (roundMessage (c .op) targets) ≡ 0
 unfolding messageRefusal roundMessage roundRight kindRight
-message-passes n m size c targets g k t =
+message-passes n m size stripes c targets g k t =
     let r = running (c .op) (g .parts .op-right) k in
     rw (
       time-valid (c .op .kind) (c .op .time) (c .clock) (g .parts .time-right) k (g .parts .number-low) (g .parts .last-low),

@@ -1,7 +1,7 @@
 -- Every record that a routine leaves is sound.
 use mathlib.Core.Path.{_≡_, refl, sym, ap, subst, _∙_}
 use mathlib.Core.Bool.{Bool, true, false, cond, _&&_, _||_}
-use mathlib.Core.List.{List, []}
+use mathlib.Core.List.{List, [], _∷_}
 use mathlib.Core.Logic.{_⊎_, inl, inr}
 use Prim.Native.Nat.{ℕ, _-_, _≤_, _<_, max}
 use native.Mathlib.Omega.{arith}
@@ -10,8 +10,8 @@ use lib.ListN.{length, getD, take, replicate, length-take, List·getD-eq-default
 use borrow.Author.Tests.{eq-eqb, ne-eqb, le-leb, lt-ltb, le-ltb, eqb-false, leb-true, ltb-true, ltb-false}
 use Rattle.coord_apply.specs.Acts.{nextOp, opened, nextRound, ending, acted, withTally, counting, waitingOr, firstOp, starting}
 use Rattle.coord_apply.specs.Answers.{Buffered, Went, Step, refused, went, afterChecks, nothingSeen, cutSeen}
-use Rattle.coord_refusals.specs.Checks.{recordChecks, writeChecks, readChecks, writeRefusal, readRefusal, takeRefusal, crashRefusal}
-use Rattle.coord_refusals.proofs.Laws.RefusedLaws.{record-passes}
+use Rattle.coord_refusals.specs.Checks.{recordChecks, stripeChecks, writeChecks, readChecks, writeRefusal, readRefusal, takeRefusal, crashRefusal}
+use Rattle.coord_refusals.proofs.Laws.RefusedLaws.{record-passes, stripe-passes}
 use Rattle.coordinator.specs.Routines.{drawnThen, writeStep, readStep, takeStep, crashed, crashStep}
 use Rattle.coordinator.proofs.Laws.RoutineLaws.{take-passed, first-low}
 use Rattle.coord_laws.proofs.Laws.OpCaseLaws.{in-read, in-order, in-recovery, first-recovery, next-recovery, write-stores, read-stores}
@@ -40,7 +40,7 @@ use Rattle.settings.specs.Count.{count}
 use Rattle.settings.proofs.Laws.QuorumLaws.{quorum-low}
 use Rattle.settings.specs.Ranges.{CodeRange, maxBricks}
 use Rattle.settings.proofs.Laws.RangeLaws.{code-passed}
-use Rattle.settings.specs.Ranges.{quorum, codeRefusal}
+use Rattle.settings.specs.Ranges.{quorum, codeRefusal, stripeCountRefusal}
 use Rattle.settings.proofs.Laws.TimeLaws.{gave}
 use Rattle.settings.specs.Refusal.{firstRefusal}
 use Rattle.settings.specs.Times.{maxCount, noUpperEnd, timeOf, validTime, nextCount, drawOf, lastCoordinator}
@@ -85,10 +85,10 @@ unfolding namedCount noOp
 idle-bricks n m = no-bricks-right n
 
 -- An idle coordinator is good.
-pub idle-good : (n m size : ℕ) (geometry : Geometry) (clock : Clock) → CodeRange n m size → sameGeometry n m size geometry ≡ true
-    → clock .coordinator ≤ lastCoordinator → clock .last ≤ maxCount → Good n m size (idleWith geometry clock)
+pub idle-good : (n m size stripes : ℕ) (geometry : Geometry) (clock : Clock) → CodeRange n m size → 1 ≤ stripes → sameGeometry n m size stripes geometry ≡ true
+    → clock .coordinator ≤ lastCoordinator → clock .last ≤ maxCount → Good n m size stripes (idleWith geometry clock)
 unfolding idleWith noOp
-idle-good n m size geometry clock r same a b =
+idle-good n m size stripes geometry clock r some same a b =
     record {
       parts =
           record {
@@ -96,6 +96,7 @@ idle-good n m size geometry clock r same a b =
             number-low = a;
             last-low = b;
             first-low = omega (arith, r .n-low);
+            stripe-low = omega (arith, some);
             op-right = idle-op;
             time-right = idle-time clock;
             bricks-right = idle-bricks n m;
@@ -106,10 +107,10 @@ idle-good n m size geometry clock r same a b =
     }
 
 -- the next round
-opened-good : (n m size phase max : ℕ) (c : Coordinator) (bricks : List ℕ) → CodeRange n m size → Full n m size c → opRight (nextOp (c .op) phase max) ≡ true
-    → bricksRight n (namedCount m (nextOp (c .op) phase max)) bricks ≡ true → Good n m size (opened c phase max bricks)
+opened-good : (n m size stripes phase max : ℕ) (c : Coordinator) (bricks : List ℕ) → CodeRange n m size → Full n m size stripes c → opRight (nextOp (c .op) phase max) ≡ true
+    → bricksRight n (namedCount m (nextOp (c .op) phase max)) bricks ≡ true → Good n m size stripes (opened c phase max bricks)
 unfolding opened nextOp
-opened-good n m size phase max c bricks r f o b =
+opened-good n m size stripes phase max c bricks r f o b =
     record {
       parts =
           record {
@@ -117,6 +118,7 @@ opened-good n m size phase max c bricks r f o b =
             number-low = f .number-low;
             last-low = f .last-low;
             first-low = f .first-low;
+            stripe-low = f .stripe-low;
             op-right = o;
             time-right = f .time-right;
             bricks-right = b;
@@ -173,56 +175,58 @@ lowers-valid : (n m : ℕ) (op : Op) (t : Tally) (max : ℕ) → n ≤ maxBricks
 unfolding found-time
 lowers-valid n m op t max few e w = ap validTime (w .time-is) ∙ highest-valid n m (op .phase) (op .first) t few e (λ q. w .not-first (w .time-is ∙ q))
 
-recovered-good : (n m size : ℕ) (c : Coordinator) (time : ℕ) → CodeRange n m size → Full n m size c → Recovers n m (c .op) (c .tally) time
-    → Good n m size (opened c writeKind 0 (picked (c .tally .held) (c .tally .found) time n m))
+recovered-good : (n m size stripes : ℕ) (c : Coordinator) (time : ℕ) → CodeRange n m size → Full n m size stripes c → Recovers n m (c .op) (c .tally) time
+    → Good n m size stripes (opened c writeKind 0 (picked (c .tally .held) (c .tally .found) time n m))
 unfolding holders
-recovered-good n m size c time r f s =
+recovered-good n m size stripes c time r f s =
     let i = in-recovery (c .op) (f .op-right) (s .phase-is) in
-    opened-good n m size writeKind 0 c (picked (c .tally .held) (c .tally .found) time n m) r f (read-stores (c .op) i (s .round-low))
+    opened-good n m size stripes writeKind 0 c (picked (c .tally .held) (c .tally .found) time n m) r f (read-stores (c .op) i (s .round-low))
     (ap (λ (k : ℕ). bricksRight n k (picked (c .tally .held) (c .tally .found) time n m)) (named-read m (c .op) (i .kind-is))
     ∙ picked-right (c .tally .held) (c .tally .found) time n m (omega (arith, r .m-high, r .n-high)) (s .enough))
 
 -- What a decision leaves is good.
-pub acted-good : (n m size : ℕ) (h : Buffered) → CodeRange n m size → Full n m size (h .state)
-    → Good n m size (acted n m size h (decided n m (h .state .op) (h .state .tally)) .next .state)
+pub acted-good : (n m size stripes : ℕ) (h : Buffered) → CodeRange n m size → Full n m size stripes (h .state)
+    → Good n m size stripes (acted n m size h (decided n m (h .state .op) (h .state .tally)) .next .state)
 unfolding acted ending nextRound DecisionSays
-acted-good n m size h r f = go (decided n m (h .state .op) (h .state .tally)) (decided-says n m (h .state .op) (h .state .tally))
+acted-good n m size stripes h r f = go (decided n m (h .state .op) (h .state .tally)) (decided-says n m (h .state .op) (h .state .tally))
   where
-    idle : Good n m size (idleWith (h .state .geometry) (h .state .clock))
-    idle = idle-good n m size (h .state .geometry) (h .state .clock) r (f .made-for) (f .number-low) (f .last-low)
+    idle : Good n m size stripes (idleWith (h .state .geometry) (h .state .clock))
+    idle = idle-good n m size stripes (h .state .geometry) (h .state .clock) r (omega (arith, f .stripe-low)) (f .made-for) (f .number-low) (f .last-low)
 
-    look : (max : ℕ) → opRight (nextOp (h .state .op) orderReadKind max) ≡ true → Good n m size (opened (h .state) orderReadKind max noBricks)
+    look : (max : ℕ) → opRight (nextOp (h .state .op) orderReadKind max) ≡ true → Good n m size stripes (opened (h .state) orderReadKind max noBricks)
     look max o =
-        opened-good n m size orderReadKind max (h .state) noBricks r f o (ap (λ (k : ℕ). bricksRight n k noBricks) (named-look m max (h .state .op)) ∙ no-bricks-right n)
+        opened-good n m size stripes orderReadKind max (h .state) noBricks r f o (ap (λ (k : ℕ). bricksRight n k noBricks) (named-look m max (h .state .op)) ∙ no-bricks-right n)
 
-    looked : (max : ℕ) → ((h .state .op .phase ≡ readKind) × (max ≡ noUpperEnd)) ⊎ Lowers n m (h .state .op) (h .state .tally) max → Good n m size (opened (h .state) orderReadKind max noBricks)
+    looked : (max : ℕ) → ((h .state .op .phase ≡ readKind) × (max ≡ noUpperEnd)) ⊎ Lowers n m (h .state .op) (h .state .tally) max
+        → Good n m size stripes (opened (h .state) orderReadKind max noBricks)
     looked max (inl w) =
         look max (ap (λ (x : ℕ). opRight (nextOp (h .state .op) orderReadKind x)) (w .1) ∙ first-recovery (h .state .op) (in-read (h .state .op) (f .op-right) (w .0)))
     looked max (inr w) =
         look max (next-recovery (h .state .op) max (in-recovery (h .state .op) (f .op-right) (w .phase-is)) (w .round-low)
         (lowers-valid n m (h .state .op) (h .state .tally) max (r .n-high) (f .tally-right) w))
 
-    go : (d : Decision) → DecisionSays n m (h .state .op) (h .state .tally) d → Good n m size (acted n m size h d .next .state)
+    go : (d : Decision) → DecisionSays n m (h .state .op) (h .state .tally) d → Good n m size stripes (acted n m size h d .next .state)
     go Abort s = idle
     go Give s = idle
     go (Look max) s = looked max s
     go Store s =
         let i = in-order (h .state .op) (f .op-right) (s .phase-is) in
-        opened-good n m size writeKind 0 (h .state) noBricks r f (write-stores (h .state .op) i)
+        opened-good n m size stripes writeKind 0 (h .state) noBricks r f (write-stores (h .state .op) i)
         (ap (λ (k : ℕ). bricksRight n k noBricks) (named-write m (h .state .op) (i .kind-is)) ∙ no-bricks-right n)
-    go (Recover time) s = recovered-good n m size (h .state) time r f s
+    go (Recover time) s = recovered-good n m size stripes (h .state) time r f s
     go Finish s = idle
 
 -- a reply counted
-pub counted-full : (n m size : ℕ) (c : Coordinator) (r : Reply) → CodeRange n m size → Good n m size c → ReplyParts n r → Answering n m (c .op) (c .tally) r
-    → Full n m size (withTally c (tallied (c .tally) r))
+pub counted-full : (n m size stripes : ℕ) (c : Coordinator) (r : Reply) → CodeRange n m size → Good n m size stripes c → ReplyParts n r → Answering n m (c .op) (c .tally) r
+    → Full n m size stripes (withTally c (tallied (c .tally) r))
 unfolding withTally
-counted-full n m size c r g k p a =
+counted-full n m size stripes c r g k p a =
     record {
       made-for = k .parts .made-for;
       number-low = k .parts .number-low;
       last-low = k .parts .last-low;
       first-low = k .parts .first-low;
+      stripe-low = k .parts .stripe-low;
       op-right = k .parts .op-right;
       time-right = k .parts .time-right;
       bricks-right = k .parts .bricks-right;
@@ -230,11 +234,11 @@ counted-full n m size c r g k p a =
       sizes = tallied-sized (c .tally) r (k .sizes);
     }
 
-pub waiting-good : (n m size : ℕ) (h : Buffered) → CodeRange n m size → Full n m size (h .state) → Good n m size (waitingOr n m size h .next .state)
+pub waiting-good : (n m size stripes : ℕ) (h : Buffered) → CodeRange n m size → Full n m size stripes (h .state) → Good n m size stripes (waitingOr n m size h .next .state)
 unfolding waitingOr
-waiting-good n m size h r f = go (ltb (members (h .state .tally .counted) n) (quorum n m)) refl
+waiting-good n m size stripes h r f = go (ltb (members (h .state .tally .counted) n) (quorum n m)) refl
   where
-    kept : members (h .state .tally .counted) n < quorum n m → Good n m size (h .state)
+    kept : members (h .state .tally .counted) n < quorum n m → Good n m size stripes (h .state)
     kept l =
         record {
           parts =
@@ -243,6 +247,7 @@ waiting-good n m size h r f = go (ltb (members (h .state .tally .counted) n) (qu
                 number-low = f .number-low;
                 last-low = f .last-low;
                 first-low = f .first-low;
+                stripe-low = f .stripe-low;
                 op-right = f .op-right;
                 time-right = f .time-right;
                 bricks-right = f .bricks-right;
@@ -253,9 +258,9 @@ waiting-good n m size h r f = go (ltb (members (h .state .tally .counted) n) (qu
         }
 
     go : (b : Bool) → ltb (members (h .state .tally .counted) n) (quorum n m) ≡ b
-        → Good n m size (cond b (record { next = h; sent = []; seen = nothingSeen }) (acted n m size h (decided n m (h .state .op) (h .state .tally))) .next .state)
+        → Good n m size stripes (cond b (record { next = h; sent = []; seen = nothingSeen }) (acted n m size h (decided n m (h .state .op) (h .state .tally))) .next .state)
     go true e = kept (ltb-true (members (h .state .tally .counted) n) (quorum n m) e)
-    go false e = acted-good n m size h r f
+    go false e = acted-good n m size stripes h r f
 
 -- a step that is not refused passed its checks
 pub passes : (k : ℕ) (s : Step) (w : Went) → afterChecks k s ≡ went w → (k ≡ 0) × (s ≡ went w)
@@ -270,32 +275,32 @@ pub same-went : (v w : Went) → went v ≡ went w → v ≡ w
 same-went v w e = cc
 
 -- EVERY RECORD THAT A ROUTINE LEAVES IS SOUND. A reply:
-pub take-good : (n m size : ℕ) (h : Buffered) (r : Reply) (block : List ℕ) (coded : ℕ) (w : Went) → Good n m size (h .state)
-    → takeStep n m size h r block coded ≡ went w → Good n m size (w .next .state)
+pub take-good : (n m size stripes : ℕ) (h : Buffered) (r : Reply) (block : List ℕ) (coded : ℕ) (w : Went) → Good n m size stripes (h .state)
+    → takeStep n m size stripes h r block coded ≡ went w → Good n m size stripes (w .next .state)
 unfolding takeStep counting
-take-good n m size h r block coded w g e =
-    let p = passes (takeRefusal n m size (h .state) r (length block) (length (h .blocks)) (length (h .stripe)) coded) _ w e in
-    let t = take-passed n m size (h .state) r (length block) (length (h .blocks)) (length (h .stripe)) coded _ refl (p .0) in
-    subst (λ (v : Went). Good n m size (v .next .state)) (same-went (waitingOr n m size (counting size h r block)) w (p .1))
-    (waiting-good n m size (counting size h r block) (t .range)
-    (counted-full n m size (h .state) r (t .range) g (reply-parts n r (t .reply-right)) (answering n m (h .state .op) (h .state .tally) r (t .in-round))))
+take-good n m size stripes h r block coded w g e =
+    let p = passes (takeRefusal n m size stripes (h .state) r (length block) (length (h .blocks)) (length (h .stripe)) coded) _ w e in
+    let t = take-passed n m size stripes (h .state) r (length block) (length (h .blocks)) (length (h .stripe)) coded _ refl (p .0) in
+    subst (λ (v : Went). Good n m size stripes (v .next .state)) (same-went (waitingOr n m size (counting size h r block)) w (p .1))
+    (waiting-good n m size stripes (counting size h r block) (t .range)
+    (counted-full n m size stripes (h .state) r (t .range) g (reply-parts n r (t .reply-right)) (answering n m (h .state .op) (h .state .tally) r (t .in-round))))
 
 -- A crash:
-pub crash-good : (n m size : ℕ) (h : Buffered) (w : Went) → Good n m size (h .state) → crashStep n m size h ≡ went w → Good n m size (w .next .state)
+pub crash-good : (n m size stripes : ℕ) (h : Buffered) (w : Went) → Good n m size stripes (h .state) → crashStep n m size stripes h ≡ went w → Good n m size stripes (w .next .state)
 unfolding crashStep crashed crashRefusal ending
-crash-good n m size h w g e = go (eqb (h .state .op .kind) idleKind) (p .1)
+crash-good n m size stripes h w g e = go (eqb (h .state .op .kind) idleKind) (p .1)
   where
-    p : (crashRefusal n m size (h .state) ≡ 0) × (went (crashed h) ≡ went w)
-    p = passes (crashRefusal n m size (h .state)) (went (crashed h)) w e
+    p : (crashRefusal n m size stripes (h .state) ≡ 0) × (went (crashed h) ≡ went w)
+    p = passes (crashRefusal n m size stripes (h .state)) (went (crashed h)) w e
 
     range : CodeRange n m size
-    range = code-passed n m size (passed-first (codeRefusal n m size) (recordChecks n m size (h .state) []) (p .0))
+    range = code-passed n m size (passed-first (codeRefusal n m size) (stripeCountRefusal stripes ∷ recordChecks n m size stripes (h .state) []) (p .0))
 
-    go : (b : Bool) → went (cond b (record { next = h; sent = []; seen = nothingSeen }) (ending h (h .stripe) [] cutSeen noBricks)) ≡ went w → Good n m size (w .next .state)
-    go true q = subst (λ (v : Went). Good n m size (v .next .state)) (same-went (record { next = h; sent = []; seen = nothingSeen }) w q) g
+    go : (b : Bool) → went (cond b (record { next = h; sent = []; seen = nothingSeen }) (ending h (h .stripe) [] cutSeen noBricks)) ≡ went w → Good n m size stripes (w .next .state)
+    go true q = subst (λ (v : Went). Good n m size stripes (v .next .state)) (same-went (record { next = h; sent = []; seen = nothingSeen }) w q) g
     go false q =
-        subst (λ (v : Went). Good n m size (v .next .state)) (same-went (ending h (h .stripe) [] cutSeen noBricks) w q)
-        (idle-good n m size (h .state .geometry) (h .state .clock) range (g .parts .made-for) (g .parts .number-low) (g .parts .last-low))
+        subst (λ (v : Went). Good n m size stripes (v .next .state)) (same-went (ending h (h .stripe) [] cutSeen noBricks) w q)
+        (idle-good n m size stripes (h .state .geometry) (h .state .clock) range (omega (arith, g .parts .stripe-low)) (g .parts .made-for) (g .parts .number-low) (g .parts .last-low))
 
 -- the time drawn is the record's own
 drawn-right : (kind t reading : ℕ) (clock next : Clock) → (kind ≡ idleKind → ⊥) → drawOf clock reading ≡ Drawn t next → timeRight kind t next ≡ true
@@ -310,12 +315,12 @@ drawn-low t reading clock next e =
     let g = gave clock reading t next e in
     (omega (arith, g .same, g .drew .coordinator-high), omega (arith, g .count, g .drew .last-high, g .drew .reading-high))
 
-begun-good : (n m size kind phase t first reading : ℕ) (geometry : Geometry) (clock next : Clock) → CodeRange n m size → sameGeometry n m size geometry ≡ true
-    → (kind ≡ idleKind → ⊥) → drawOf clock reading ≡ Drawn t next → first < n
-    → opRight (firstOp kind phase t first) ≡ true → namedCount m (firstOp kind phase t first) ≡ 0
-    → Good n m size (record { geometry = geometry; clock = next; op = firstOp kind phase t first; tally = nothingCounted; bricks = noBricks })
+begun-good : (n m size stripes kind phase number t first reading : ℕ) (geometry : Geometry) (clock next : Clock) → CodeRange n m size → sameGeometry n m size stripes geometry ≡ true
+    → (kind ≡ idleKind → ⊥) → drawOf clock reading ≡ Drawn t next → first < n → number < stripes
+    → opRight (firstOp kind phase number t first) ≡ true → namedCount m (firstOp kind phase number t first) ≡ 0
+    → Good n m size stripes (record { geometry = geometry; clock = next; op = firstOp kind phase number t first; tally = nothingCounted; bricks = noBricks })
 unfolding firstOp
-begun-good n m size kind phase t first reading geometry clock next r same k e f o z =
+begun-good n m size stripes kind phase number t first reading geometry clock next r same k e f u o z =
     let l = drawn-low t reading clock next e in
     record {
       parts =
@@ -324,6 +329,7 @@ begun-good n m size kind phase t first reading geometry clock next r same k e f 
             number-low = l .0;
             last-low = l .1;
             first-low = f;
+            stripe-low = u;
             op-right = o;
             time-right = drawn-right kind t reading clock next k e;
             bricks-right = ap (λ (j : ℕ). bricksRight n j noBricks) z ∙ no-bricks-right n;
@@ -333,13 +339,13 @@ begun-good n m size kind phase t first reading geometry clock next r same k e f 
       sizes = none-sized;
     }
 
-first-write : (m t : ℕ) → (opRight (firstOp writingKind orderKind t 0) ≡ true) × (namedCount m (firstOp writingKind orderKind t 0) ≡ 0)
+first-write : (m number t : ℕ) → (opRight (firstOp writingKind orderKind number t 0) ≡ true) × (namedCount m (firstOp writingKind orderKind number t 0) ≡ 0)
 unfolding opRight writeRight firstOp namedCount
-first-write m t = (refl, refl)
+first-write m number t = (refl, refl)
 
-first-read : (m t first : ℕ) → (opRight (firstOp readingKind readKind t first) ≡ true) × (namedCount m (firstOp readingKind readKind t first) ≡ 0)
+first-read : (m number t first : ℕ) → (opRight (firstOp readingKind readKind number t first) ≡ true) × (namedCount m (firstOp readingKind readKind number t first) ≡ 0)
 unfolding opRight readRight firstOp namedCount
-first-read m t first = (refl, refl)
+first-read m number t first = (refl, refl)
 
 -- what a draw led to
 pub drawn-went : (d : Draw) (f : ℕ → Clock → Went) (w : Went) → drawnThen d f ≡ went w → (t : ℕ) × (next : Clock) × (d ≡ Drawn t next) × (f t next ≡ w)
@@ -347,37 +353,42 @@ unfolding drawnThen
 drawn-went (Drawn t next) f w e = (t, next, refl, same-went (f t next) w e)
 drawn-went (Refused k) f w e = absurd (let z : _≡_ {A = ℕ} 0 1 = cc in omega arith)
 
--- a record whose checks pass is for the settings given
-record-same : (n m size : ℕ) (c : Coordinator) (more : List ℕ) → firstRefusal (recordChecks n m size c more) ≡ 0 → sameGeometry n m size (c .geometry) ≡ true
-record-same n m size c more e = sound-parts n m size c (record-passes n m size c more e .0 .is-sound) .made-for
+-- a record whose checks pass is for the settings given, and the stripe is one of the volume
+record-same : (n m size stripes : ℕ) (c : Coordinator) (number : ℕ) (more : List ℕ) → firstRefusal (stripeChecks n m size stripes c number more) ≡ 0
+    → (number < stripes) × (sameGeometry n m size stripes (c .geometry) ≡ true)
+record-same n m size stripes c number more e =
+    let k = stripe-passes n m size stripes c number more e in
+    (k .0, sound-parts n m size stripes c (record-passes n m size stripes c more (k .1) .0 .is-sound) .made-for)
 
 -- A write:
-pub write-good : (n m size : ℕ) (h : Buffered) (reading : ℕ) (bytes : List ℕ) (w : Went) → writeStep n m size h reading bytes ≡ went w → Good n m size (w .next .state)
+pub write-good : (n m size stripes : ℕ) (h : Buffered) (number reading : ℕ) (bytes : List ℕ) (w : Went) → writeStep n m size stripes h number reading bytes ≡ went w
+    → Good n m size stripes (w .next .state)
 unfolding writeStep writeRefusal writeChecks starting
-write-good n m size h reading bytes w e =
-    let f : ℕ → Clock → Went = λ time clock. starting h clock (firstOp writingKind orderKind time 0) bytes noBricks in
-    let p = passes (writeRefusal n m size (h .state) reading (length bytes) (length (h .stripe))) (drawnThen (drawOf (h .state .clock) reading) f) w e in
+write-good n m size stripes h number reading bytes w e =
+    let f : ℕ → Clock → Went = λ time clock. starting h clock (firstOp writingKind orderKind number time 0) bytes noBricks in
+    let p = passes (writeRefusal n m size stripes (h .state) number reading (length bytes) (length (h .stripe))) (drawnThen (drawOf (h .state .clock) reading) f) w e in
     let range = code-passed n m size (passed-first (codeRefusal n m size) _ (p .0)) in
-    let same = record-same n m size (h .state) _ (passed-rest _ _ (passed-rest (codeRefusal n m size) _ (p .0))) in
+    let same = record-same n m size stripes (h .state) number _ (passed-rest _ _ (passed-rest (stripeCountRefusal stripes) _ (passed-rest (codeRefusal n m size) _ (p .0)))) in
     let d = drawn-went (drawOf (h .state .clock) reading) f w (p .1) in
-    subst (λ (v : Went). Good n m size (v .next .state)) (d .3)
-    (begun-good n m size writingKind orderKind (d .0) 0 reading (h .state .geometry) (h .state .clock) (d .1) range same (λ q. absurd (omega arith)) (d .2) (omega (arith, range .n-low))
-    (first-write m (d .0) .0) (first-write m (d .0) .1))
+    subst (λ (v : Went). Good n m size stripes (v .next .state)) (d .3)
+    (begun-good n m size stripes writingKind orderKind number (d .0) 0 reading (h .state .geometry) (h .state .clock) (d .1) range (same .1) (λ q. absurd (omega arith)) (d .2)
+    (omega (arith, range .n-low)) (same .0) (first-write m number (d .0) .0) (first-write m number (d .0) .1))
 
 -- A read:
-pub read-good : (n m size : ℕ) (h : Buffered) (reading first : ℕ) (w : Went) → readStep n m size h reading first ≡ went w → Good n m size (w .next .state)
+pub read-good : (n m size stripes : ℕ) (h : Buffered) (number reading first : ℕ) (w : Went) → readStep n m size stripes h number reading first ≡ went w
+    → Good n m size stripes (w .next .state)
 unfolding readStep readRefusal readChecks starting
-read-good n m size h reading first w e =
-    let f : ℕ → Clock → Went = λ time clock. starting h clock (firstOp readingKind readKind time first) (h .stripe) (targetFlags n m first) in
-    let p = passes (readRefusal n m size (h .state) reading first) (drawnThen (drawOf (h .state .clock) reading) f) w e in
+read-good n m size stripes h number reading first w e =
+    let f : ℕ → Clock → Went = λ time clock. starting h clock (firstOp readingKind readKind number time first) (h .stripe) (targetFlags n m first) in
+    let p = passes (readRefusal n m size stripes (h .state) number reading first) (drawnThen (drawOf (h .state .clock) reading) f) w e in
     let range = code-passed n m size (passed-first (codeRefusal n m size) _ (p .0)) in
-    let low = first-low n m size (h .state) reading first _ refl (p .0) in
-    let same = record-same n m size (h .state) _ (passed-rest _ _ (passed-rest (codeRefusal n m size) _ (p .0))) in
+    let low = first-low n m size stripes (h .state) number reading first _ refl (p .0) in
+    let same = record-same n m size stripes (h .state) number _ (passed-rest _ _ (passed-rest (stripeCountRefusal stripes) _ (passed-rest (codeRefusal n m size) _ (p .0)))) in
     let d = drawn-went (drawOf (h .state .clock) reading) f w (p .1) in
-    subst (λ (v : Went). Good n m size (v .next .state)) (d .3)
-    (begun-good n m size readingKind readKind (d .0) first reading (h .state .geometry) (h .state .clock) (d .1) range same (λ q. absurd (omega arith)) (d .2) low
-    (first-read m (d .0) first .0) (first-read m (d .0) first .1))
+    subst (λ (v : Went). Good n m size stripes (v .next .state)) (d .3)
+    (begun-good n m size stripes readingKind readKind number (d .0) first reading (h .state .geometry) (h .state .clock) (d .1) range (same .1) (λ q. absurd (omega arith)) (d .2)
+    low (same .0) (first-read m number (d .0) first .0) (first-read m number (d .0) first .1))
 
 -- and a good record is sound.
-pub good-sound : (n m size : ℕ) (c : Coordinator) → Good n m size c → soundRecord n m size c ≡ true
-good-sound n m size c g = sound-from n m size c (g .parts)
+pub good-sound : (n m size stripes : ℕ) (c : Coordinator) → Good n m size stripes c → soundRecord n m size stripes c ≡ true
+good-sound n m size stripes c g = sound-from n m size stripes c (g .parts)

@@ -20,19 +20,19 @@ use Rattle.settings.specs.declared.Clock.{Clock}
 use Rattle.settings.specs.declared.Draw.the-variants.{Drawn}
 use Rattle.message.specs.Kinds.{readKind, orderKind, firstRound}
 
--- A reply that is not refused: the checks passed; it is of the running operation and round, from a brick not counted before.
-pub record ReplyTaken (n m size : ℕ) (h : Buffered) (r : Reply) (block : List ℕ) (coded : ℕ) (w : Went) : Type 0 where
-  pub takes : Takes n m size (h .state) r (length block) (length (h .blocks)) (length (h .stripe)) coded
+-- A reply that is not refused: the checks passed; it is of the running operation, its stripe and round, from a brick not counted before.
+pub record ReplyTaken (n m size stripes : ℕ) (h : Buffered) (r : Reply) (block : List ℕ) (coded : ℕ) (w : Went) : Type 0 where
+  pub takes : Takes n m size stripes (h .state) r (length block) (length (h .blocks)) (length (h .stripe)) coded
   pub reply : ReplyParts n r
   pub answer : Answering n m (h .state .op) (h .state .tally) r
   pub is : waitingOr n m size (counting size h r block) ≡ w
 
-pub took : (n m size : ℕ) (h : Buffered) (r : Reply) (block : List ℕ) (coded : ℕ) (w : Went) → takeStep n m size h r block coded ≡ went w
-    → ReplyTaken n m size h r block coded w
+pub took : (n m size stripes : ℕ) (h : Buffered) (r : Reply) (block : List ℕ) (coded : ℕ) (w : Went) → takeStep n m size stripes h r block coded ≡ went w
+    → ReplyTaken n m size stripes h r block coded w
 unfolding takeStep
-took n m size h r block coded w e =
-    let p = passes (takeRefusal n m size (h .state) r (length block) (length (h .blocks)) (length (h .stripe)) coded) _ w e in
-    let t = take-passed n m size (h .state) r (length block) (length (h .blocks)) (length (h .stripe)) coded _ refl (p .0) in
+took n m size stripes h r block coded w e =
+    let p = passes (takeRefusal n m size stripes (h .state) r (length block) (length (h .blocks)) (length (h .stripe)) coded) _ w e in
+    let t = take-passed n m size stripes (h .state) r (length block) (length (h .blocks)) (length (h .stripe)) coded _ refl (p .0) in
     record {
       takes = t;
       reply = reply-parts n r (t .reply-right);
@@ -47,33 +47,33 @@ pub record Begins (h : Buffered) (kind : ℕ) (w : Went) : Type 0 where
   pub time-is : w .next .state .op .time ≡ timeOf (w .next .state .clock .last) (h .state .clock .coordinator)
   pub kind-is : w .next .state .op .kind ≡ kind
   pub round-is : w .next .state .op .round ≡ firstRound
-  pub seen-is : w .seen ≡ record { what = beganSeen; kind = kind; time = w .next .state .op .time; bricks = noBricks }
+  pub seen-is : w .seen ≡ record { what = beganSeen; kind = kind; stripe = w .next .state .op .stripe; time = w .next .state .op .time; bricks = noBricks }
 
-begins : (h : Buffered) (reading kind phase first t : ℕ) (next : Clock) (stripe targets : List ℕ) → drawOf (h .state .clock) reading ≡ Drawn t next
-    → Begins h kind (starting h next (firstOp kind phase t first) stripe targets)
+begins : (h : Buffered) (reading kind phase number first t : ℕ) (next : Clock) (stripe targets : List ℕ) → drawOf (h .state .clock) reading ≡ Drawn t next
+    → Begins h kind (starting h next (firstOp kind phase number t first) stripe targets)
 unfolding starting firstOp nextCount
-begins h reading kind phase first t next stripe targets e =
+begins h reading kind phase number first t next stripe targets e =
     let g = gave (h .state .clock) reading t next e in
     record { rises = omega (arith, g .count); same-number = g .same; time-is = g .time; kind-is = refl; round-is = refl; seen-is = refl }
 
-pub write-begins : (n m size : ℕ) (h : Buffered) (reading : ℕ) (bytes : List ℕ) (w : Went) → writeStep n m size h reading bytes ≡ went w
+pub write-begins : (n m size stripes : ℕ) (h : Buffered) (number reading : ℕ) (bytes : List ℕ) (w : Went) → writeStep n m size stripes h number reading bytes ≡ went w
     → Begins h writingKind w × (w .next .stripe ≡ bytes)
 unfolding writeStep starting
-write-begins n m size h reading bytes w e =
-    let f : ℕ → Clock → Went = λ time clock. starting h clock (firstOp writingKind orderKind time 0) bytes noBricks in
-    let p = passes (writeRefusal n m size (h .state) reading (length bytes) (length (h .stripe))) (drawnThen (drawOf (h .state .clock) reading) f) w e in
+write-begins n m size stripes h number reading bytes w e =
+    let f : ℕ → Clock → Went = λ time clock. starting h clock (firstOp writingKind orderKind number time 0) bytes noBricks in
+    let p = passes (writeRefusal n m size stripes (h .state) number reading (length bytes) (length (h .stripe))) (drawnThen (drawOf (h .state .clock) reading) f) w e in
     let d = drawn-went (drawOf (h .state .clock) reading) f w (p .1) in (
-      subst (Begins h writingKind) (d .3) (begins h reading writingKind orderKind 0 (d .0) (d .1) bytes noBricks (d .2)),
+      subst (Begins h writingKind) (d .3) (begins h reading writingKind orderKind number 0 (d .0) (d .1) bytes noBricks (d .2)),
       ap (λ (v : Went). v .next .stripe) (sym (d .3)),
     )
 
-pub read-begins : (n m size : ℕ) (h : Buffered) (reading first : ℕ) (w : Went) → readStep n m size h reading first ≡ went w
+pub read-begins : (n m size stripes : ℕ) (h : Buffered) (number reading first : ℕ) (w : Went) → readStep n m size stripes h number reading first ≡ went w
     → Begins h readingKind w × (w .sent ≡ record { message = roundMessage (w .next .state .op) (targetFlags n m first); blocks = [] } ∷ [])
 unfolding readStep starting
-read-begins n m size h reading first w e =
-    let f : ℕ → Clock → Went = λ time clock. starting h clock (firstOp readingKind readKind time first) (h .stripe) (targetFlags n m first) in
-    let p = passes (readRefusal n m size (h .state) reading first) (drawnThen (drawOf (h .state .clock) reading) f) w e in
+read-begins n m size stripes h number reading first w e =
+    let f : ℕ → Clock → Went = λ time clock. starting h clock (firstOp readingKind readKind number time first) (h .stripe) (targetFlags n m first) in
+    let p = passes (readRefusal n m size stripes (h .state) number reading first) (drawnThen (drawOf (h .state .clock) reading) f) w e in
     let d = drawn-went (drawOf (h .state .clock) reading) f w (p .1) in (
-      subst (Begins h readingKind) (d .3) (begins h reading readingKind readKind first (d .0) (d .1) (h .stripe) (targetFlags n m first) (d .2)),
+      subst (Begins h readingKind) (d .3) (begins h reading readingKind readKind number first (d .0) (d .1) (h .stripe) (targetFlags n m first) (d .2)),
       subst (λ (v : Went). v .sent ≡ record { message = roundMessage (v .next .state .op) (targetFlags n m first); blocks = [] } ∷ []) (d .3) refl,
     )

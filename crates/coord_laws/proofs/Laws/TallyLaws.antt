@@ -30,9 +30,10 @@ use Rattle.settings.specs.Ranges.{maxBricks}
 use Rattle.message.specs.Kinds.{readKind, writeKind}
 use Rattle.byte_lists.proofs.Laws.ZeroLaws.{zero-list, zeros-at as zero-entry}
 
--- A counted reply is of the running operation and round, from a brick not counted before, with a block by the round's rules.
+-- A counted reply is of the running operation, its stripe and round, from a brick not counted before, with a block by the round's rules.
 pub record Answering (n m : ℕ) (op : Op) (t : Tally) (r : Reply) : Type 0 where
   pub of-phase : r .kind ≡ op .phase
+  pub of-stripe : r .stripe ≡ op .stripe
   pub of-operation : r .time ≡ op .time
   pub of-round : r .round ≡ op .round
   pub not-counted : member (t .counted) (r .brick) ≡ false
@@ -42,19 +43,22 @@ pub answering : (n m : ℕ) (op : Op) (t : Tally) (r : Reply) → answers n m op
 unfolding answers
 answering n m op t r e =
     let k = eqb (r .kind) (op .phase) in
+    let s = eqb (r .stripe) (op .stripe) in
     let o = eqb (r .time) (op .time) in
     let u = eqb (r .round) (op .round) in
     let c = not (member (t .counted) (r .brick)) in
     let b = blockRight (op .phase) (isTarget n m (op .first) (r .brick)) (r .yes) (r .held) (r .found) in
-    let four = and-left (k && o && u && c) b e in
-    let three = and-left (k && o && u) c four in
-    let two = and-left (k && o) u three in
+    let five = and-left (k && s && o && u && c) b e in
+    let four = and-left (k && s && o && u) c five in
+    let three = and-left (k && s && o) u four in
+    let two = and-left (k && s) o three in
     record {
-      of-phase = eqb-true (r .kind) (op .phase) (and-left k o two);
-      of-operation = eqb-true (r .time) (op .time) (and-right k o two);
-      of-round = eqb-true (r .round) (op .round) (and-right (k && o) u three);
-      not-counted = not-true (member (t .counted) (r .brick)) (and-right (k && o && u) c four);
-      block-right = and-right (k && o && u && c) b e;
+      of-phase = eqb-true (r .kind) (op .phase) (and-left k s two);
+      of-stripe = eqb-true (r .stripe) (op .stripe) (and-right k s two);
+      of-operation = eqb-true (r .time) (op .time) (and-right (k && s) o three);
+      of-round = eqb-true (r .round) (op .round) (and-right (k && s && o) u four);
+      not-counted = not-true (member (t .counted) (r .brick)) (and-right (k && s && o && u) c five);
+      block-right = and-right (k && s && o && u && c) b e;
     }
 
 -- a reply that a brick may give

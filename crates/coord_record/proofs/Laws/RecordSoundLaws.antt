@@ -28,58 +28,70 @@ unfolding timeRight timeOf
 time-is kind time clock k h = rw (ne-eqb kind idleKind k, le-leb 1 (clock .last) h)
 
 -- the settings that a record is for
-module _ (n m size : ℕ) (g : Geometry) where
-  pub other-n : (g .n ≡ n → ⊥) → false ≡ sameGeometry n m size g
+module _ (n m size stripes : ℕ) (g : Geometry) where
+  pub other-n : (g .n ≡ n → ⊥) → false ≡ sameGeometry n m size stripes g
   unfolding sameGeometry
   other-n a = rw (ne-eqb (g .n) n a)
 
-  pub other-m : g .n ≡ n → (g .m ≡ m → ⊥) → false ≡ sameGeometry n m size g
+  pub other-m : g .n ≡ n → (g .m ≡ m → ⊥) → false ≡ sameGeometry n m size stripes g
   unfolding sameGeometry
   other-m a b = rw (eq-eqb (g .n) n a, ne-eqb (g .m) m b)
 
-  pub same-size : g .n ≡ n → g .m ≡ m → eqb (g .size) size ≡ sameGeometry n m size g
+  pub other-size : g .n ≡ n → g .m ≡ m → (g .size ≡ size → ⊥) → false ≡ sameGeometry n m size stripes g
   unfolding sameGeometry
-  same-size a b = rw (eq-eqb (g .n) n a, eq-eqb (g .m) m b)
+  other-size a b d = rw (eq-eqb (g .n) n a, eq-eqb (g .m) m b, ne-eqb (g .size) size d)
 
-pub sound-other : (n m size : ℕ) (c : Coordinator) (s : Bool) → s ≡ sameGeometry n m size (c .geometry) → s ≡ false → false ≡ soundRecord n m size c
-unfolding soundRecord
-sound-other n m size c s e z = rw (← e, z)
+  pub same-stripes : g .n ≡ n → g .m ≡ m → g .size ≡ size → eqb (g .stripes) stripes ≡ sameGeometry n m size stripes g
+  unfolding sameGeometry
+  same-stripes a b d = rw (eq-eqb (g .n) n a, eq-eqb (g .m) m b, eq-eqb (g .size) size d)
 
-pub sound-same : (n m size : ℕ) (c : Coordinator) (s k : Bool) → s ≡ sameGeometry n m size (c .geometry) → s ≡ true → k ≡ rulesKept n m c → k ≡ soundRecord n m size c
+pub sound-other : (n m size stripes : ℕ) (c : Coordinator) (s : Bool) → s ≡ sameGeometry n m size stripes (c .geometry) → s ≡ false → false ≡ soundRecord n m size stripes c
 unfolding soundRecord
-sound-same n m size c s k e z ek = rw (← e, z) ek
+sound-other n m size stripes c s e z = rw (← e, z)
+
+pub sound-same : (n m size stripes : ℕ) (c : Coordinator) (s k : Bool) → s ≡ sameGeometry n m size stripes (c .geometry) → s ≡ true → k ≡ rulesKept n m stripes c → k ≡ soundRecord n m size stripes c
+unfolding soundRecord
+sound-same n m size stripes c s k e z ek = rw (← e, z) ek
 
 -- What each test of a record gave, in the order of the tests.
-module _ (n m : ℕ) (c : Coordinator) where
-  pub unsound-coordinator : lastCoordinator < c .clock .coordinator → false ≡ rulesKept n m c
+module _ (n m stripes : ℕ) (c : Coordinator) where
+  pub unsound-coordinator : lastCoordinator < c .clock .coordinator → false ≡ rulesKept n m stripes c
   unfolding rulesKept
   unsound-coordinator a = rw (lt-leb (c .clock .coordinator) lastCoordinator a)
 
-  pub unsound-last : c .clock .coordinator ≤ lastCoordinator → maxCount < c .clock .last → false ≡ rulesKept n m c
+  pub unsound-last : c .clock .coordinator ≤ lastCoordinator → maxCount < c .clock .last → false ≡ rulesKept n m stripes c
   unfolding rulesKept
   unsound-last a b = rw (le-leb (c .clock .coordinator) lastCoordinator a, lt-leb (c .clock .last) maxCount b)
 
-  pub unsound-first : c .clock .coordinator ≤ lastCoordinator → c .clock .last ≤ maxCount → n ≤ c .op .first → false ≡ rulesKept n m c
+  pub unsound-first : c .clock .coordinator ≤ lastCoordinator → c .clock .last ≤ maxCount → n ≤ c .op .first → false ≡ rulesKept n m stripes c
   unfolding rulesKept
   unsound-first a b d = rw (le-leb (c .clock .coordinator) lastCoordinator a, le-leb (c .clock .last) maxCount b, le-ltb (c .op .first) n d)
 
-  pub sound-rest : c .clock .coordinator ≤ lastCoordinator → c .clock .last ≤ maxCount → c .op .first < n
-      → rulesKept n m c ≡ opRight (c .op) && timeRight (c .op .kind) (c .op .time) (c .clock) && filledRight n m c
+  pub unsound-stripe : c .clock .coordinator ≤ lastCoordinator → c .clock .last ≤ maxCount → c .op .first < n → stripes ≤ c .op .stripe
+      → false ≡ rulesKept n m stripes c
   unfolding rulesKept
-  sound-rest a b d = rw (le-leb (c .clock .coordinator) lastCoordinator a, le-leb (c .clock .last) maxCount b, lt-ltb (c .op .first) n d)
+  unsound-stripe a b d g =
+      rw (le-leb (c .clock .coordinator) lastCoordinator a, le-leb (c .clock .last) maxCount b, lt-ltb (c .op .first) n d, le-ltb (c .op .stripe) stripes g)
 
-  pub unsound-op : (o : Bool) → c .clock .coordinator ≤ lastCoordinator → c .clock .last ≤ maxCount → c .op .first < n → o ≡ opRight (c .op) → o ≡ false
-      → false ≡ rulesKept n m c
-  unsound-op o a b d eo zo = sym (sound-rest a b d ∙ rw (← eo, zo))
+  pub sound-rest : c .clock .coordinator ≤ lastCoordinator → c .clock .last ≤ maxCount → c .op .first < n → c .op .stripe < stripes
+      → rulesKept n m stripes c ≡ opRight (c .op) && timeRight (c .op .kind) (c .op .time) (c .clock) && filledRight n m c
+  unfolding rulesKept
+  sound-rest a b d g =
+      rw (le-leb (c .clock .coordinator) lastCoordinator a, le-leb (c .clock .last) maxCount b, lt-ltb (c .op .first) n d, lt-ltb (c .op .stripe) stripes g)
 
-  pub unsound-time : (o t : Bool) → c .clock .coordinator ≤ lastCoordinator → c .clock .last ≤ maxCount → c .op .first < n → o ≡ opRight (c .op) → o ≡ true
-      → t ≡ timeRight (c .op .kind) (c .op .time) (c .clock) → t ≡ false → false ≡ rulesKept n m c
-  unsound-time o t a b d eo zo et zt = sym (sound-rest a b d ∙ rw (← eo, zo, ← et, zt))
+  pub unsound-op : (o : Bool) → c .clock .coordinator ≤ lastCoordinator → c .clock .last ≤ maxCount → c .op .first < n → c .op .stripe < stripes → o ≡ opRight (c .op) → o ≡ false
+      → false ≡ rulesKept n m stripes c
+  unsound-op o a b d g eo zo = sym (sound-rest a b d g ∙ rw (← eo, zo))
 
-  pub sound-filled : (o t f : Bool) → c .clock .coordinator ≤ lastCoordinator → c .clock .last ≤ maxCount → c .op .first < n → o ≡ opRight (c .op) → o ≡ true
-      → t ≡ timeRight (c .op .kind) (c .op .time) (c .clock) → t ≡ true → f ≡ filledRight n m c → f ≡ rulesKept n m c
-  sound-filled o t f a b d eo zo et zt ef = ef ∙ sym (sound-rest a b d ∙ rw (← eo, zo, ← et, zt))
+  pub unsound-time : (o t : Bool) → c .clock .coordinator ≤ lastCoordinator → c .clock .last ≤ maxCount → c .op .first < n → c .op .stripe < stripes → o ≡ opRight (c .op) → o ≡ true
+      → t ≡ timeRight (c .op .kind) (c .op .time) (c .clock) → t ≡ false → false ≡ rulesKept n m stripes c
+  unsound-time o t a b d g eo zo et zt = sym (sound-rest a b d g ∙ rw (← eo, zo, ← et, zt))
 
+  pub sound-filled : (o t f : Bool) → c .clock .coordinator ≤ lastCoordinator → c .clock .last ≤ maxCount → c .op .first < n → c .op .stripe < stripes → o ≡ opRight (c .op) → o ≡ true
+      → t ≡ timeRight (c .op .kind) (c .op .time) (c .clock) → t ≡ true → f ≡ filledRight n m c → f ≡ rulesKept n m stripes c
+  sound-filled o t f a b d g eo zo et zt ef = ef ∙ sym (sound-rest a b d g ∙ rw (← eo, zo, ← et, zt))
+
+module _ (n m : ℕ) (c : Coordinator) where
   pub filled-bricks : (r : Bool) (k : ℕ) → k ≡ namedCount m (c .op) → r ≡ bricksRight n k (c .bricks) → r ≡ false → false ≡ filledRight n m c
   unfolding filledRight
   filled-bricks r k ek er zr = let e = er ∙ ap (λ (j : ℕ). bricksRight n j (c .bricks)) ek in rw (← e, zr)

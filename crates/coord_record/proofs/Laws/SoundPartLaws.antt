@@ -17,14 +17,15 @@ use Rattle.coord_record.specs.SoundParts.{SoundParts}
 use Rattle.message.specs.Kinds.{lastRound, readKind, orderKind, orderReadKind, writeKind, firstRound, secondRound, thirdRound}
 use Rattle.coord_record.specs.Records.{idleKind, readingKind, writingKind}
 
-pub sound-from : (n m size : ℕ) (c : Coordinator) → SoundParts n m size c → soundRecord n m size c ≡ true
+pub sound-from : (n m size stripes : ℕ) (c : Coordinator) → SoundParts n m size stripes c → soundRecord n m size stripes c ≡ true
 unfolding soundRecord rulesKept filledRight
-sound-from n m size c p =
+sound-from n m size stripes c p =
     rw (
       p .made-for,
       le-leb (c .clock .coordinator) lastCoordinator (p .number-low),
       le-leb (c .clock .last) maxCount (p .last-low),
       lt-ltb (c .op .first) n (p .first-low),
+      lt-ltb (c .op .stripe) stripes (p .stripe-low),
       p .op-right,
       p .time-right,
       p .bricks-right,
@@ -32,30 +33,32 @@ sound-from n m size c p =
       lt-ltb (members (c .tally .counted) n) (quorum n m) (p .few-counted),
     )
 
-pub sound-parts : (n m size : ℕ) (c : Coordinator) → soundRecord n m size c ≡ true → SoundParts n m size c
+pub sound-parts : (n m size stripes : ℕ) (c : Coordinator) → soundRecord n m size stripes c ≡ true → SoundParts n m size stripes c
 unfolding soundRecord rulesKept filledRight
-sound-parts n m size c e =
-    go (leb (c .clock .coordinator) lastCoordinator) (leb (c .clock .last) maxCount) (ltb (c .op .first) n) (opRight (c .op))
+sound-parts n m size stripes c e =
+    go (leb (c .clock .coordinator) lastCoordinator) (leb (c .clock .last) maxCount) (ltb (c .op .first) n) (ltb (c .op .stripe) stripes) (opRight (c .op))
     (timeRight (c .op .kind) (c .op .time) (c .clock)) (bricksRight n (namedCount m (c .op)) (c .bricks))
-    (tallyRight n m (c .op .phase) (c .op .first) (c .tally)) (ltb (members (c .tally .counted) n) (quorum n m)) refl refl refl refl refl refl refl refl
-    (and-right (sameGeometry n m size (c .geometry)) (rulesKept n m c) e)
+    (tallyRight n m (c .op .phase) (c .op .first) (c .tally)) (ltb (members (c .tally .counted) n) (quorum n m)) refl refl refl refl refl refl refl refl refl
+    (and-right (sameGeometry n m size stripes (c .geometry)) (rulesKept n m stripes c) e)
   where
-    go : (a b d o t r w s : Bool) → leb (c .clock .coordinator) lastCoordinator ≡ a → leb (c .clock .last) maxCount ≡ b → ltb (c .op .first) n ≡ d
-        → opRight (c .op) ≡ o → timeRight (c .op .kind) (c .op .time) (c .clock) ≡ t → bricksRight n (namedCount m (c .op)) (c .bricks) ≡ r
-        → tallyRight n m (c .op .phase) (c .op .first) (c .tally) ≡ w → ltb (members (c .tally .counted) n) (quorum n m) ≡ s
-        → a && b && d && o && t && (r && w && s) ≡ true → SoundParts n m size c
-    go a b d o t r w s ea eb ed eo et er ew es q =
-        let filled = and-right (a && b && d && o && t) (r && w && s) q in
-        let timed = and-left (a && b && d && o && t) (r && w && s) q in
-        let kept = and-left (a && b && d && o) t timed in
-        let low = and-left (a && b && d) o kept in
+    go : (a b d g o t r w s : Bool) → leb (c .clock .coordinator) lastCoordinator ≡ a → leb (c .clock .last) maxCount ≡ b → ltb (c .op .first) n ≡ d
+        → ltb (c .op .stripe) stripes ≡ g → opRight (c .op) ≡ o → timeRight (c .op .kind) (c .op .time) (c .clock) ≡ t
+        → bricksRight n (namedCount m (c .op)) (c .bricks) ≡ r → tallyRight n m (c .op .phase) (c .op .first) (c .tally) ≡ w
+        → ltb (members (c .tally .counted) n) (quorum n m) ≡ s → a && b && d && g && o && t && (r && w && s) ≡ true → SoundParts n m size stripes c
+    go a b d g o t r w s ea eb ed eg eo et er ew es q =
+        let filled = and-right (a && b && d && g && o && t) (r && w && s) q in
+        let timed = and-left (a && b && d && g && o && t) (r && w && s) q in
+        let kept = and-left (a && b && d && g && o) t timed in
+        let ranged = and-left (a && b && d && g) o kept in
+        let low = and-left (a && b && d) g ranged in
         record {
-          made-for = and-left (sameGeometry n m size (c .geometry)) (rulesKept n m c) e;
+          made-for = and-left (sameGeometry n m size stripes (c .geometry)) (rulesKept n m stripes c) e;
           number-low = leb-true (c .clock .coordinator) lastCoordinator (ea ∙ and-left a b (and-left (a && b) d low));
           last-low = leb-true (c .clock .last) maxCount (eb ∙ and-right a b (and-left (a && b) d low));
           first-low = ltb-true (c .op .first) n (ed ∙ and-right (a && b) d low);
-          op-right = eo ∙ and-right (a && b && d) o kept;
-          time-right = et ∙ and-right (a && b && d && o) t timed;
+          stripe-low = ltb-true (c .op .stripe) stripes (eg ∙ and-right (a && b && d) g ranged);
+          op-right = eo ∙ and-right (a && b && d && g) o kept;
+          time-right = et ∙ and-right (a && b && d && g && o) t timed;
           bricks-right = er ∙ and-left r w (and-left (r && w) s filled);
           tally-right = ew ∙ and-right r w (and-left (r && w) s filled);
           few-counted = ltb-true (members (c .tally .counted) n) (quorum n m) (es ∙ and-right (r && w) s filled);
@@ -69,7 +72,7 @@ round-high op e =
     (eqb (op .round) secondRound) (leb (op .round) lastRound) refl refl refl refl e
   where
     go : (k0 k1 p1 p3 p2 r0 r1 r2 h : Bool) → eqb (op .round) 0 ≡ r0 → eqb (op .round) firstRound ≡ r1 → eqb (op .round) secondRound ≡ r2 → leb (op .round) lastRound ≡ h
-        → cond k0 (eqb (op .phase) 0 && r0 && eqb (op .max) 0 && eqb (op .first) 0)
+        → cond k0 (eqb (op .phase) 0 && r0 && eqb (op .max) 0 && eqb (op .first) 0 && eqb (op .stripe) 0)
         (cond k1
         (cond p1 (r1 && eqb (op .max) 0)
         (cond p3 (leb secondRound (op .round) && h && maxRight (op .round) (op .max)) (eqb (op .phase) writeKind && leb thirdRound (op .round) && h && eqb (op .max) 0)))
@@ -78,7 +81,8 @@ round-high op e =
         → op .round ≤ lastRound
     go true k1 p1 p3 p2 r0 r1 r2 h e0 e1 e2 eh q =
         let z = eqb-true (op .round) 0 (e0 ∙ and-right (eqb (op .phase) 0) r0
-        (and-left (eqb (op .phase) 0 && r0) (eqb (op .max) 0) (and-left (eqb (op .phase) 0 && r0 && eqb (op .max) 0) (eqb (op .first) 0) q))) in
+        (and-left (eqb (op .phase) 0 && r0) (eqb (op .max) 0) (and-left (eqb (op .phase) 0 && r0 && eqb (op .max) 0) (eqb (op .first) 0)
+        (and-left (eqb (op .phase) 0 && r0 && eqb (op .max) 0 && eqb (op .first) 0) (eqb (op .stripe) 0) q)))) in
         omega arith
     go false true true p3 p2 r0 r1 r2 h e0 e1 e2 eh q = let z = eqb-true (op .round) firstRound (e1 ∙ and-left r1 (eqb (op .max) 0) q) in omega arith
     go false true false true p2 r0 r1 r2 h e0 e1 e2 eh q =

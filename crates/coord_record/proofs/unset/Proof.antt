@@ -20,5 +20,9 @@ returns-4 : tie.Need-returns-4
 unfolding unsetOp
 returns-4 c = search (needs, lt-ltb, le-ltb, lt-leb, le-leb, eq-eqb, ne-eqb)
 
+returns-5 : tie.Need-returns-5
+unfolding unsetOp
+returns-5 c = search (needs, lt-ltb, le-ltb, lt-leb, le-leb, eq-eqb, ne-eqb)
+
 pub unset-spec : {M : Type 1} → statement M
-unset-spec = tie.close (tie.spec returns returns-2 returns-3 returns-4)
+unset-spec = tie.close (tie.spec returns returns-2 returns-3 returns-4 returns-5)

@@ -11,15 +11,16 @@ use Rattle.coord_record.specs.Sound.{soundRecord}
 use Rattle.coord_record.proofs.Laws.SoundPartLaws.{sound-parts}
 use Rattle.coord_record.specs.declared.Coordinator.{Coordinator}
 use Rattle.coord_decide.specs.Deciding.{answers}
-use Rattle.coord_refusals.specs.Checks.{recordChecks, writeChecks, readChecks, startChecks, writeRefusal, readRefusal, lengthsRight, strayChecks, takeRefusal, crashRefusal}
+use Rattle.coord_refusals.specs.Checks.{recordChecks, stripeChecks, writeChecks, readChecks, startChecks, writeRefusal, readRefusal, lengthsRight, strayChecks, takeRefusal}
+use Rattle.coord_refusals.specs.Checks.{crashRefusal}
 use Rattle.message.specs.Messages.{replyRefusal}
 use Rattle.message.specs.declared.Reply.{Reply}
 use Rattle.settings.specs.Ranges.{CodeRange, maxBricks}
-use Rattle.settings.proofs.Laws.RangeLaws.{code-passed}
-use Rattle.settings.specs.Ranges.{codeRefusal}
+use Rattle.settings.proofs.Laws.RangeLaws.{code-passed, stripe-passed}
+use Rattle.settings.specs.Ranges.{codeRefusal, stripeCountRefusal, stripeRefusal}
 use Rattle.settings.specs.Refusal.{firstRefusal, refuseUnless, badLength, badNumber, badRecord, busy, strayReply}
 use Rattle.settings.specs.Times.{drawRefusal, lastCoordinator}
-use Rattle.settings.proofs.Laws.RefusalLaws.{first-stop, passed-first, passed-rest, tested}
+use Rattle.settings.proofs.Laws.RefusalLaws.{first-stop, first-pass, passed-first, passed-rest, tested}
 use Rattle.coord_record.specs.Records.{idleKind}
 
 -- checks that more follow: a refusal among them is the first of all, else the first of the rest
@@ -35,46 +36,102 @@ joined-pass [] more k e z = refl
 joined-pass (zero ∷ l) more k e z = joined-pass l more k e z
 joined-pass (suc j ∷ l) more k e z = absurd (omega arith)
 
+-- the settings, before all else
+alone : (k : ℕ) → k ≡ firstRefusal (k ∷ [])
+unfolding firstRefusal
+alone zero = refl
+alone (suc k) = refl
+
+module _ (n m size stripes bad : ℕ) (e : bad ≡ codeRefusal n m size) where
+  pub volume-code : (bad ≡ 0 → ⊥) → bad ≡ firstRefusal (codeRefusal n m size ∷ stripeCountRefusal stripes ∷ [])
+  volume-code h = rw (← e) (first-stop bad _ h)
+
+  pub volume-count : (v : ℕ) → bad ≡ 0 → v ≡ stripeCountRefusal stripes → v ≡ firstRefusal (codeRefusal n m size ∷ stripeCountRefusal stripes ∷ [])
+  volume-count v z ev = ev ∙ alone (stripeCountRefusal stripes) ∙ sym (first-pass (codeRefusal n m size) _ (sym e ∙ z))
+
+module _ (n m size stripes bad : ℕ) (e : bad ≡ firstRefusal (codeRefusal n m size ∷ stripeCountRefusal stripes ∷ [])) where
+  volume-stop : (more : List ℕ) → (bad ≡ 0 → ⊥) → bad ≡ firstRefusal (codeRefusal n m size ∷ stripeCountRefusal stripes ∷ more)
+  volume-stop more h = joined-stop (codeRefusal n m size ∷ stripeCountRefusal stripes ∷ []) more bad e h
+
+  code-zero : bad ≡ 0 → codeRefusal n m size ≡ 0
+  code-zero z = passed-first (codeRefusal n m size) _ (sym e ∙ z)
+
+  count-zero : bad ≡ 0 → stripeCountRefusal stripes ≡ 0
+  count-zero z = passed-first (stripeCountRefusal stripes) [] (passed-rest (codeRefusal n m size) _ (sym e ∙ z))
+
 -- the checks of a record
-module _ (n m size : ℕ) (c : Coordinator) where
-  pub record-number : lastCoordinator < c .clock .coordinator → badNumber ≡ firstRefusal (recordChecks n m size c [])
+module _ (n m size stripes : ℕ) (c : Coordinator) where
+  pub record-number : lastCoordinator < c .clock .coordinator → badNumber ≡ firstRefusal (recordChecks n m size stripes c [])
   unfolding recordChecks firstRefusal
   record-number h = rw (lt-leb (c .clock .coordinator) lastCoordinator h)
 
-  pub record-broken : (s : Bool) → c .clock .coordinator ≤ lastCoordinator → s ≡ soundRecord n m size c → s ≡ false → badRecord ≡ firstRefusal (recordChecks n m size c [])
+  pub record-broken : (s : Bool) → c .clock .coordinator ≤ lastCoordinator → s ≡ soundRecord n m size stripes c → s ≡ false
+      → badRecord ≡ firstRefusal (recordChecks n m size stripes c [])
   unfolding recordChecks firstRefusal
   record-broken s h e z = rw (le-leb (c .clock .coordinator) lastCoordinator h, ← e, z)
 
-  pub record-zero : (s : Bool) → c .clock .coordinator ≤ lastCoordinator → s ≡ soundRecord n m size c → s ≡ true → 0 ≡ firstRefusal (recordChecks n m size c [])
+  pub record-zero : (s : Bool) → c .clock .coordinator ≤ lastCoordinator → s ≡ soundRecord n m size stripes c → s ≡ true
+      → 0 ≡ firstRefusal (recordChecks n m size stripes c [])
   unfolding recordChecks firstRefusal
   record-zero s h e z = rw (le-leb (c .clock .coordinator) lastCoordinator h, ← e, z)
 
--- what a record that passes satisfies
-pub record Recorded (n m size : ℕ) (c : Coordinator) : Type 0 where
-  pub number-low : c .clock .coordinator ≤ lastCoordinator
-  pub is-sound : soundRecord n m size c ≡ true
+-- the same with a stripe's number
+module _ (n m size stripes : ℕ) (c : Coordinator) (number : ℕ) where
+  pub stripe-number : lastCoordinator < c .clock .coordinator → badNumber ≡ firstRefusal (stripeChecks n m size stripes c number [])
+  unfolding stripeChecks firstRefusal
+  stripe-number h = rw (lt-leb (c .clock .coordinator) lastCoordinator h)
 
-pub record-passes : (n m size : ℕ) (c : Coordinator) (more : List ℕ) → firstRefusal (recordChecks n m size c more) ≡ 0 → Recorded n m size c × (firstRefusal more ≡ 0)
+  module _ (k : ℕ) (low : c .clock .coordinator ≤ lastCoordinator) (e : k ≡ stripeRefusal stripes number) where
+    pub stripe-outside : (k ≡ 0 → ⊥) → k ≡ firstRefusal (stripeChecks n m size stripes c number [])
+    unfolding stripeChecks firstRefusal
+    stripe-outside h = rw (le-leb (c .clock .coordinator) lastCoordinator low, ← e) (first-stop k (refuseUnless (soundRecord n m size stripes c) badRecord ∷ []) h)
+
+    pub stripe-broken : (s : Bool) → k ≡ 0 → s ≡ soundRecord n m size stripes c → s ≡ false → badRecord ≡ firstRefusal (stripeChecks n m size stripes c number [])
+    unfolding stripeChecks firstRefusal
+    stripe-broken s z es zs = rw (le-leb (c .clock .coordinator) lastCoordinator low, ← e, z, ← es, zs)
+
+    pub stripe-zero : (s : Bool) → k ≡ 0 → s ≡ soundRecord n m size stripes c → s ≡ true → 0 ≡ firstRefusal (stripeChecks n m size stripes c number [])
+    unfolding stripeChecks firstRefusal
+    stripe-zero s z es zs = rw (le-leb (c .clock .coordinator) lastCoordinator low, ← e, z, ← es, zs)
+
+-- what a record that passes satisfies
+pub record Recorded (n m size stripes : ℕ) (c : Coordinator) : Type 0 where
+  pub number-low : c .clock .coordinator ≤ lastCoordinator
+  pub is-sound : soundRecord n m size stripes c ≡ true
+
+pub record-passes : (n m size stripes : ℕ) (c : Coordinator) (more : List ℕ) → firstRefusal (recordChecks n m size stripes c more) ≡ 0
+    → Recorded n m size stripes c × (firstRefusal more ≡ 0)
 unfolding recordChecks
-record-passes n m size c more e =
-    let a = passed-first (refuseUnless (leb (c .clock .coordinator) lastCoordinator) badNumber) (refuseUnless (soundRecord n m size c) badRecord ∷ more) e in
-    let b = passed-rest (refuseUnless (leb (c .clock .coordinator) lastCoordinator) badNumber) (refuseUnless (soundRecord n m size c) badRecord ∷ more) e in
-    let d = tested (soundRecord n m size c) _ (passed-first (refuseUnless (soundRecord n m size c) badRecord) more b) in (
+record-passes n m size stripes c more e =
+    let a = passed-first (refuseUnless (leb (c .clock .coordinator) lastCoordinator) badNumber) (refuseUnless (soundRecord n m size stripes c) badRecord ∷ more) e in
+    let b = passed-rest (refuseUnless (leb (c .clock .coordinator) lastCoordinator) badNumber) (refuseUnless (soundRecord n m size stripes c) badRecord ∷ more) e in
+    let d = tested (soundRecord n m size stripes c) _ (passed-first (refuseUnless (soundRecord n m size stripes c) badRecord) more b) in (
       record {
         number-low = leb-true (c .clock .coordinator) lastCoordinator (tested (leb (c .clock .coordinator) lastCoordinator) _ a);
         is-sound = d;
       },
-      passed-rest (refuseUnless (soundRecord n m size c) badRecord) more b,
+      passed-rest (refuseUnless (soundRecord n m size stripes c) badRecord) more b,
     )
 
-module _ (n m size : ℕ) (c : Coordinator) (k : ℕ) (e : k ≡ firstRefusal (recordChecks n m size c [])) where
-  pub record-stop : (more : List ℕ) → (k ≡ 0 → ⊥) → k ≡ firstRefusal (recordChecks n m size c more)
-  unfolding recordChecks
-  record-stop more h = joined-stop (recordChecks n m size c []) more k e h
+-- a stripe that passes is below the count, and the record passes without it
+pub stripe-passes : (n m size stripes : ℕ) (c : Coordinator) (number : ℕ) (more : List ℕ) → firstRefusal (stripeChecks n m size stripes c number more) ≡ 0
+    → (number < stripes) × (firstRefusal (recordChecks n m size stripes c more) ≡ 0)
+unfolding stripeChecks recordChecks
+stripe-passes n m size stripes c number more e =
+    let a = passed-first (refuseUnless (leb (c .clock .coordinator) lastCoordinator) badNumber) _ e in
+    let b = passed-rest (refuseUnless (leb (c .clock .coordinator) lastCoordinator) badNumber) _ e in (
+      stripe-passed stripes number (passed-first (stripeRefusal stripes number) _ b),
+      first-pass (refuseUnless (leb (c .clock .coordinator) lastCoordinator) badNumber) _ a ∙ passed-rest (stripeRefusal stripes number) _ b,
+    )
 
-  pub record-pass : (more : List ℕ) → k ≡ 0 → firstRefusal (recordChecks n m size c more) ≡ firstRefusal more
-  unfolding recordChecks
-  record-pass more z = joined-pass (recordChecks n m size c []) more k e z
+module _ (n m size stripes : ℕ) (c : Coordinator) (number k : ℕ) (e : k ≡ firstRefusal (stripeChecks n m size stripes c number [])) where
+  stripe-stop : (more : List ℕ) → (k ≡ 0 → ⊥) → k ≡ firstRefusal (stripeChecks n m size stripes c number more)
+  unfolding stripeChecks
+  stripe-stop more h = joined-stop (stripeChecks n m size stripes c number []) more k e h
+
+  stripe-pass : (more : List ℕ) → k ≡ 0 → firstRefusal (stripeChecks n m size stripes c number more) ≡ firstRefusal more
+  unfolding stripeChecks
+  stripe-pass more z = joined-pass (stripeChecks n m size stripes c number []) more k e z
 
 -- what a start asks after its draw
 module _ (c : Coordinator) (reading : ℕ) where
@@ -91,105 +148,107 @@ module _ (c : Coordinator) (reading : ℕ) where
   start-passes z h = rw (z, eq-eqb (c .op .kind) idleKind h)
 
 -- a write before its draw
-module _ (n m size : ℕ) (c : Coordinator) (bytes stripe bad : ℕ) (e : bad ≡ codeRefusal n m size) where
-  pub write-code : (bad ≡ 0 → ⊥) → bad ≡ firstRefusal (writeChecks n m size c bytes stripe [])
+module _ (n m size stripes : ℕ) (c : Coordinator) (number bytes stripe bad : ℕ) (e : bad ≡ firstRefusal (codeRefusal n m size ∷ stripeCountRefusal stripes ∷ [])) where
+  pub write-settings : (bad ≡ 0 → ⊥) → bad ≡ firstRefusal (writeChecks n m size stripes c number bytes stripe [])
   unfolding writeChecks
-  write-code h = rw (← e) (first-stop bad _ h)
+  write-settings h = volume-stop n m size stripes bad e _ h
 
-  pub write-bytes : bad ≡ 0 → (bytes ≡ m * size → ⊥) → badLength ≡ firstRefusal (writeChecks n m size c bytes stripe [])
+  pub write-bytes : bad ≡ 0 → (bytes ≡ m * size → ⊥) → badLength ≡ firstRefusal (writeChecks n m size stripes c number bytes stripe [])
   unfolding writeChecks firstRefusal
-  write-bytes z h = rw (← e, z, ne-eqb bytes (m * size) h)
+  write-bytes z h = rw (code-zero n m size stripes bad e z, count-zero n m size stripes bad e z, ne-eqb bytes (m * size) h)
 
-  pub write-stripe : bad ≡ 0 → bytes ≡ m * size → (stripe ≡ m * size → ⊥) → badLength ≡ firstRefusal (writeChecks n m size c bytes stripe [])
+  pub write-stripe : bad ≡ 0 → bytes ≡ m * size → (stripe ≡ m * size → ⊥) → badLength ≡ firstRefusal (writeChecks n m size stripes c number bytes stripe [])
   unfolding writeChecks firstRefusal
-  write-stripe z b h = rw (← e, z, eq-eqb bytes (m * size) b, ne-eqb stripe (m * size) h)
+  write-stripe z b h = rw (code-zero n m size stripes bad e z, count-zero n m size stripes bad e z, eq-eqb bytes (m * size) b, ne-eqb stripe (m * size) h)
 
-  pub write-record : (v : ℕ) → bad ≡ 0 → bytes ≡ m * size → stripe ≡ m * size → v ≡ firstRefusal (recordChecks n m size c [])
-      → v ≡ firstRefusal (writeChecks n m size c bytes stripe [])
+  pub write-rest : (v : ℕ) → bad ≡ 0 → bytes ≡ m * size → stripe ≡ m * size → v ≡ firstRefusal (stripeChecks n m size stripes c number [])
+      → v ≡ firstRefusal (writeChecks n m size stripes c number bytes stripe [])
   unfolding writeChecks firstRefusal
-  write-record v z b s ev = rw (← e, z, eq-eqb bytes (m * size) b, eq-eqb stripe (m * size) s) ev
+  write-rest v z b s ev = rw (code-zero n m size stripes bad e z, count-zero n m size stripes bad e z, eq-eqb bytes (m * size) b, eq-eqb stripe (m * size) s) ev
 
 -- the whole of a write's checks, from those before its draw
-module _ (n m size : ℕ) (c : Coordinator) (reading bytes stripe bad : ℕ) (e : bad ≡ firstRefusal (writeChecks n m size c bytes stripe [])) where
-  pub write-stops : (bad ≡ 0 → ⊥) → bad ≡ writeRefusal n m size c reading bytes stripe
-  unfolding writeRefusal writeChecks recordChecks
-  write-stops h = joined-stop (writeChecks n m size c bytes stripe []) (startChecks c reading) bad e h
+module _ (n m size stripes : ℕ) (c : Coordinator) (number reading bytes stripe bad : ℕ)
+    (e : bad ≡ firstRefusal (writeChecks n m size stripes c number bytes stripe [])) where
+  pub write-stops : (bad ≡ 0 → ⊥) → bad ≡ writeRefusal n m size stripes c number reading bytes stripe
+  unfolding writeRefusal writeChecks stripeChecks
+  write-stops h = joined-stop (writeChecks n m size stripes c number bytes stripe []) (startChecks c reading) bad e h
 
-  write-goes : bad ≡ 0 → writeRefusal n m size c reading bytes stripe ≡ firstRefusal (startChecks c reading)
-  unfolding writeRefusal writeChecks recordChecks
-  write-goes z = joined-pass (writeChecks n m size c bytes stripe []) (startChecks c reading) bad e z
+  write-goes : bad ≡ 0 → writeRefusal n m size stripes c number reading bytes stripe ≡ firstRefusal (startChecks c reading)
+  unfolding writeRefusal writeChecks stripeChecks
+  write-goes z = joined-pass (writeChecks n m size stripes c number bytes stripe []) (startChecks c reading) bad e z
 
-  pub write-late : (l : ℕ) → bad ≡ 0 → l ≡ drawRefusal (c .clock) reading → (l ≡ 0 → ⊥) → l ≡ writeRefusal n m size c reading bytes stripe
+  pub write-late : (l : ℕ) → bad ≡ 0 → l ≡ drawRefusal (c .clock) reading → (l ≡ 0 → ⊥) → l ≡ writeRefusal n m size stripes c number reading bytes stripe
   write-late l z el h = start-late c reading l el h ∙ sym (write-goes z)
 
-  pub write-busy : bad ≡ 0 → drawRefusal (c .clock) reading ≡ 0 → (c .op .kind ≡ idleKind → ⊥) → busy ≡ writeRefusal n m size c reading bytes stripe
+  pub write-busy : bad ≡ 0 → drawRefusal (c .clock) reading ≡ 0 → (c .op .kind ≡ idleKind → ⊥) → busy ≡ writeRefusal n m size stripes c number reading bytes stripe
   write-busy z l h = start-busy c reading l h ∙ sym (write-goes z)
 
-  pub write-passes : bad ≡ 0 → drawRefusal (c .clock) reading ≡ 0 → c .op .kind ≡ idleKind → 0 ≡ writeRefusal n m size c reading bytes stripe
+  pub write-passes : bad ≡ 0 → drawRefusal (c .clock) reading ≡ 0 → c .op .kind ≡ idleKind → 0 ≡ writeRefusal n m size stripes c number reading bytes stripe
   write-passes z l h = start-passes c reading l h ∙ sym (write-goes z)
 
 -- a read before its draw
-module _ (n m size : ℕ) (c : Coordinator) (first bad : ℕ) (e : bad ≡ codeRefusal n m size) where
-  pub read-code : (bad ≡ 0 → ⊥) → bad ≡ firstRefusal (readChecks n m size c first [])
+module _ (n m size stripes : ℕ) (c : Coordinator) (number first bad : ℕ) (e : bad ≡ firstRefusal (codeRefusal n m size ∷ stripeCountRefusal stripes ∷ [])) where
+  pub read-settings : (bad ≡ 0 → ⊥) → bad ≡ firstRefusal (readChecks n m size stripes c number first [])
   unfolding readChecks
-  read-code h = rw (← e) (first-stop bad _ h)
+  read-settings h = volume-stop n m size stripes bad e _ h
 
-  pub read-first : bad ≡ 0 → n ≤ first → badNumber ≡ firstRefusal (readChecks n m size c first [])
+  pub read-first : bad ≡ 0 → n ≤ first → badNumber ≡ firstRefusal (readChecks n m size stripes c number first [])
   unfolding readChecks firstRefusal
-  read-first z h = rw (← e, z, le-ltb first n h)
+  read-first z h = rw (code-zero n m size stripes bad e z, count-zero n m size stripes bad e z, le-ltb first n h)
 
-  pub read-record : (v : ℕ) → bad ≡ 0 → first < n → v ≡ firstRefusal (recordChecks n m size c []) → v ≡ firstRefusal (readChecks n m size c first [])
+  pub read-rest : (v : ℕ) → bad ≡ 0 → first < n → v ≡ firstRefusal (stripeChecks n m size stripes c number [])
+      → v ≡ firstRefusal (readChecks n m size stripes c number first [])
   unfolding readChecks firstRefusal
-  read-record v z h ev = rw (← e, z, lt-ltb first n h) ev
+  read-rest v z h ev = rw (code-zero n m size stripes bad e z, count-zero n m size stripes bad e z, lt-ltb first n h) ev
 
 -- the whole of a read's checks, from those before its draw
-module _ (n m size : ℕ) (c : Coordinator) (reading first bad : ℕ) (e : bad ≡ firstRefusal (readChecks n m size c first [])) where
-  pub read-stops : (bad ≡ 0 → ⊥) → bad ≡ readRefusal n m size c reading first
-  unfolding readRefusal readChecks recordChecks
-  read-stops h = joined-stop (readChecks n m size c first []) (startChecks c reading) bad e h
+module _ (n m size stripes : ℕ) (c : Coordinator) (number reading first bad : ℕ) (e : bad ≡ firstRefusal (readChecks n m size stripes c number first [])) where
+  pub read-stops : (bad ≡ 0 → ⊥) → bad ≡ readRefusal n m size stripes c number reading first
+  unfolding readRefusal readChecks stripeChecks
+  read-stops h = joined-stop (readChecks n m size stripes c number first []) (startChecks c reading) bad e h
 
-  read-goes : bad ≡ 0 → readRefusal n m size c reading first ≡ firstRefusal (startChecks c reading)
-  unfolding readRefusal readChecks recordChecks
-  read-goes z = joined-pass (readChecks n m size c first []) (startChecks c reading) bad e z
+  read-goes : bad ≡ 0 → readRefusal n m size stripes c number reading first ≡ firstRefusal (startChecks c reading)
+  unfolding readRefusal readChecks stripeChecks
+  read-goes z = joined-pass (readChecks n m size stripes c number first []) (startChecks c reading) bad e z
 
-  pub read-late : (l : ℕ) → bad ≡ 0 → l ≡ drawRefusal (c .clock) reading → (l ≡ 0 → ⊥) → l ≡ readRefusal n m size c reading first
+  pub read-late : (l : ℕ) → bad ≡ 0 → l ≡ drawRefusal (c .clock) reading → (l ≡ 0 → ⊥) → l ≡ readRefusal n m size stripes c number reading first
   read-late l z el h = start-late c reading l el h ∙ sym (read-goes z)
 
-  pub read-busy : bad ≡ 0 → drawRefusal (c .clock) reading ≡ 0 → (c .op .kind ≡ idleKind → ⊥) → busy ≡ readRefusal n m size c reading first
+  pub read-busy : bad ≡ 0 → drawRefusal (c .clock) reading ≡ 0 → (c .op .kind ≡ idleKind → ⊥) → busy ≡ readRefusal n m size stripes c number reading first
   read-busy z l h = start-busy c reading l h ∙ sym (read-goes z)
 
-  pub read-passes : bad ≡ 0 → drawRefusal (c .clock) reading ≡ 0 → c .op .kind ≡ idleKind → 0 ≡ readRefusal n m size c reading first
+  pub read-passes : bad ≡ 0 → drawRefusal (c .clock) reading ≡ 0 → c .op .kind ≡ idleKind → 0 ≡ readRefusal n m size stripes c number reading first
   read-passes z l h = start-passes c reading l h ∙ sym (read-goes z)
 
 -- a crash
-pub crash-code : (n m size : ℕ) (c : Coordinator) (bad : ℕ) → bad ≡ codeRefusal n m size → (bad ≡ 0 → ⊥) → bad ≡ crashRefusal n m size c
-unfolding crashRefusal
-crash-code n m size c bad e h = rw (← e) (first-stop bad _ h)
+module _ (n m size stripes : ℕ) (c : Coordinator) (bad : ℕ) (e : bad ≡ firstRefusal (codeRefusal n m size ∷ stripeCountRefusal stripes ∷ [])) where
+  pub crash-settings : (bad ≡ 0 → ⊥) → bad ≡ crashRefusal n m size stripes c
+  unfolding crashRefusal
+  crash-settings h = volume-stop n m size stripes bad e _ h
 
-pub crash-record : (n m size : ℕ) (c : Coordinator) (bad v : ℕ) → bad ≡ codeRefusal n m size → bad ≡ 0 → v ≡ firstRefusal (recordChecks n m size c [])
-    → v ≡ crashRefusal n m size c
-unfolding crashRefusal firstRefusal
-crash-record n m size c bad v e z ev = rw (← e, z) ev
+  pub crash-record : (v : ℕ) → bad ≡ 0 → v ≡ firstRefusal (recordChecks n m size stripes c []) → v ≡ crashRefusal n m size stripes c
+  unfolding crashRefusal firstRefusal
+  crash-record v z ev = rw (code-zero n m size stripes bad e z, count-zero n m size stripes bad e z) ev
 
 -- a reply of a brick below n
-module _ (n m size : ℕ) (c : Coordinator) (r : Reply) (k : ℕ) (e : k ≡ firstRefusal (recordChecks n m size c [])) where
-  pub stray-record : (k ≡ 0 → ⊥) → k ≡ firstRefusal (strayChecks n m size c r)
+module _ (n m size stripes : ℕ) (c : Coordinator) (r : Reply) (k : ℕ) (e : k ≡ firstRefusal (stripeChecks n m size stripes c (r .stripe) [])) where
+  pub stray-record : (k ≡ 0 → ⊥) → k ≡ firstRefusal (strayChecks n m size stripes c r)
   unfolding strayChecks
-  stray-record h = record-stop n m size c k e _ h
+  stray-record h = stripe-stop n m size stripes c (r .stripe) k e _ h
 
-  pub stray-wrong : (w : ℕ) → k ≡ 0 → w ≡ replyRefusal n r → (w ≡ 0 → ⊥) → w ≡ firstRefusal (strayChecks n m size c r)
+  pub stray-wrong : (w : ℕ) → k ≡ 0 → w ≡ replyRefusal n r → (w ≡ 0 → ⊥) → w ≡ firstRefusal (strayChecks n m size stripes c r)
   unfolding strayChecks
-  stray-wrong w z ew h = sym (record-pass n m size c k e _ z ∙ rw (← ew) (sym (first-stop w _ h)))
+  stray-wrong w z ew h = sym (stripe-pass n m size stripes c (r .stripe) k e _ z ∙ rw (← ew) (sym (first-stop w _ h)))
 
   pub stray-answers : (w : ℕ) (a : Bool) → k ≡ 0 → w ≡ replyRefusal n r → w ≡ 0 → a ≡ answers n m (c .op) (c .tally) r → a ≡ true
-      → 0 ≡ firstRefusal (strayChecks n m size c r)
+      → 0 ≡ firstRefusal (strayChecks n m size stripes c r)
   unfolding strayChecks firstRefusal
-  stray-answers w a z ew zw ea za = sym (record-pass n m size c k e _ z ∙ rw (← ew, zw, ← ea, za))
+  stray-answers w a z ew zw ea za = sym (stripe-pass n m size stripes c (r .stripe) k e _ z ∙ rw (← ew, zw, ← ea, za))
 
   pub stray-not : (w : ℕ) (a : Bool) → k ≡ 0 → w ≡ replyRefusal n r → w ≡ 0 → a ≡ answers n m (c .op) (c .tally) r → a ≡ false
-      → strayReply ≡ firstRefusal (strayChecks n m size c r)
+      → strayReply ≡ firstRefusal (strayChecks n m size stripes c r)
   unfolding strayChecks firstRefusal
-  stray-not w a z ew zw ea za = sym (record-pass n m size c k e _ z ∙ rw (← ew, zw, ← ea, za))
+  stray-not w a z ew zw ea za = sym (stripe-pass n m size stripes c (r .stripe) k e _ z ∙ rw (← ew, zw, ← ea, za))
 
 -- the lengths
 module _ (n m size block blocks stripe coded : ℕ) (held : Bool) where
@@ -214,32 +273,33 @@ module _ (n m size block blocks stripe coded : ℕ) (held : Bool) where
   lengths-none a b d h = rw (eq-eqb blocks (n * size) a, eq-eqb stripe (m * size) b, eq-eqb coded (n * size) d, h)
 
 -- a reply
-module _ (n m size : ℕ) (c : Coordinator) (r : Reply) (block blocks stripe coded bad : ℕ) (e : bad ≡ codeRefusal n m size) where
-  pub take-code : (bad ≡ 0 → ⊥) → bad ≡ takeRefusal n m size c r block blocks stripe coded
+module _ (n m size stripes : ℕ) (c : Coordinator) (r : Reply) (block blocks stripe coded bad : ℕ)
+    (e : bad ≡ firstRefusal (codeRefusal n m size ∷ stripeCountRefusal stripes ∷ [])) where
+  pub take-settings : (bad ≡ 0 → ⊥) → bad ≡ takeRefusal n m size stripes c r block blocks stripe coded
   unfolding takeRefusal
-  take-code h = rw (← e) (first-stop bad _ h)
+  take-settings h = volume-stop n m size stripes bad e _ h
 
   pub take-lengths : (l : Bool) → bad ≡ 0 → l ≡ lengthsRight n m size (r .held) block blocks stripe coded → l ≡ false
-      → badLength ≡ takeRefusal n m size c r block blocks stripe coded
+      → badLength ≡ takeRefusal n m size stripes c r block blocks stripe coded
   unfolding takeRefusal firstRefusal
-  take-lengths l z el zl = rw (← e, z, ← el, zl)
+  take-lengths l z el zl = rw (code-zero n m size stripes bad e z, count-zero n m size stripes bad e z, ← el, zl)
 
   pub take-brick : (l : Bool) → bad ≡ 0 → l ≡ lengthsRight n m size (r .held) block blocks stripe coded → l ≡ true → n ≤ r .brick
-      → badNumber ≡ takeRefusal n m size c r block blocks stripe coded
+      → badNumber ≡ takeRefusal n m size stripes c r block blocks stripe coded
   unfolding takeRefusal firstRefusal
-  take-brick l z el zl h = rw (← e, z, ← el, zl, le-ltb (r .brick) n h)
+  take-brick l z el zl h = rw (code-zero n m size stripes bad e z, count-zero n m size stripes bad e z, ← el, zl, le-ltb (r .brick) n h)
 
   pub take-rest : (l : Bool) (v : ℕ) → bad ≡ 0 → l ≡ lengthsRight n m size (r .held) block blocks stripe coded → l ≡ true → r .brick < n
-      → v ≡ firstRefusal (strayChecks n m size c r) → v ≡ takeRefusal n m size c r block blocks stripe coded
+      → v ≡ firstRefusal (strayChecks n m size stripes c r) → v ≡ takeRefusal n m size stripes c r block blocks stripe coded
   unfolding takeRefusal firstRefusal
-  take-rest l v z el zl h ev = rw (← e, z, ← el, zl, lt-ltb (r .brick) n h) ev
+  take-rest l v z el zl h ev = rw (code-zero n m size stripes bad e z, count-zero n m size stripes bad e z, ← el, zl, lt-ltb (r .brick) n h) ev
 
 -- settings that pass
-pub ranged : (n m size bad : ℕ) → bad ≡ codeRefusal n m size → bad ≡ 0 → CodeRange n m size
-ranged n m size bad e z = code-passed n m size (sym e ∙ z)
+pub ranged : (n m size stripes bad : ℕ) → bad ≡ firstRefusal (codeRefusal n m size ∷ stripeCountRefusal stripes ∷ []) → bad ≡ 0 → CodeRange n m size
+ranged n m size stripes bad e z = code-passed n m size (code-zero n m size stripes bad e z)
 
-pub few-bricks : (n m size bad : ℕ) → bad ≡ codeRefusal n m size → bad ≡ 0 → n ≤ maxBricks
-few-bricks n m size bad e z = ranged n m size bad e z .n-high
+pub few-bricks : (n m size stripes bad : ℕ) → bad ≡ firstRefusal (codeRefusal n m size ∷ stripeCountRefusal stripes ∷ []) → bad ≡ 0 → n ≤ maxBricks
+few-bricks n m size stripes bad e z = ranged n m size stripes bad e z .n-high
 
 pub lengths-fit : (n m size : ℕ) → CodeRange n m size → (m * size ≤ 4096) × (n * size ≤ 4096)
 lengths-fit n m size r =
@@ -247,5 +307,8 @@ lengths-fit n m size r =
     let a = mul-le-mul-right size few in let b = mul-le-mul-right size (r .n-high) in
     (omega (arith, r .size-high), omega (arith, r .size-high))
 
-pub first-within : (n m size k : ℕ) (c : Coordinator) → k ≡ firstRefusal (recordChecks n m size c []) → k ≡ 0 → c .op .first ≤ n
-first-within n m size k c e z = let p = sound-parts n m size c (record-passes n m size c [] (sym e ∙ z) .0 .is-sound) in omega (arith, p .first-low)
+pub first-within : (n m size stripes number k : ℕ) (c : Coordinator) → k ≡ firstRefusal (stripeChecks n m size stripes c number []) → k ≡ 0 → c .op .first ≤ n
+first-within n m size stripes number k c e z =
+    let q = stripe-passes n m size stripes c number [] (sym e ∙ z) in
+    let p = sound-parts n m size stripes c (record-passes n m size stripes c [] (q .1) .0 .is-sound) in
+    omega (arith, p .first-low)

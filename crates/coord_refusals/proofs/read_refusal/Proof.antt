@@ -1,23 +1,23 @@
-use Rattle.coord_refusals.proofs.Laws.RefusedLaws.{read-code, read-first, read-record, few-bricks}
+use Rattle.coord_refusals.proofs.Laws.RefusedLaws.{read-settings, read-first, read-rest, few-bricks}
 use borrow.Author.Needs.{needs}
 use Rattle.coord_refusals.proofs.read_refusal.Statement.{statement}
 use Rattle.coord_refusals.proofs.read_refusal.Tie as tie
 
-code-refusal-requires : tie.Need-code-refusal-requires
-code-refusal-requires c κs = search needs
+volume-refusal-requires : tie.Need-volume-refusal-requires
+volume-refusal-requires c κs = search needs
 
 returns : tie.Need-returns
-returns c = search (needs, read-code)
+returns c = search (needs, read-settings)
 
 returns-2 : tie.Need-returns-2
 returns-2 c = search (needs, read-first)
 
-record-refusal-requires : tie.Need-record-refusal-requires
-record-refusal-requires c κs = few-bricks _ _ _ _ (c .before .before .code-refusal .ensures) (c .before .if1 .left)
+stripe-refusal-requires : tie.Need-stripe-refusal-requires
+stripe-refusal-requires c κs = few-bricks _ _ _ _ _ (c .before .before .volume-refusal .ensures) (c .before .if1 .left)
 
 returns-3 : tie.Need-returns-3
-returns-3 c = search (needs, read-record)
+returns-3 c = search (needs, read-rest)
 
 pub read-refusal-spec : {M : Type 1} → statement M
 read-refusal-spec =
-    tie.close (tie.spec code-refusal-requires returns returns-2 record-refusal-requires returns-3)
+    tie.close (tie.spec volume-refusal-requires returns returns-2 stripe-refusal-requires returns-3)

@@ -4,8 +4,8 @@ use borrow.Author.Needs.{needs}
 use Rattle.coord_refusals.proofs.stray_refusal.Statement.{statement}
 use Rattle.coord_refusals.proofs.stray_refusal.Tie as tie
 
-record-refusal-requires : tie.Need-record-refusal-requires
-record-refusal-requires c κs = search needs
+stripe-refusal-requires : tie.Need-stripe-refusal-requires
+stripe-refusal-requires c κs = search needs
 
 returns : tie.Need-returns
 returns c = search (needs, stray-record)
@@ -17,7 +17,7 @@ returns-2 : tie.Need-returns-2
 returns-2 c = search (needs, stray-wrong)
 
 reply-answers-requires : tie.Need-reply-answers-requires
-reply-answers-requires c κs = (first-within _ _ _ _ _ (c .before .before .before .before .before .record-refusal .ensures) (c .before .before .before .before .if1 .left), omega arith)
+reply-answers-requires c κs = (first-within _ _ _ _ _ _ _ (c .before .before .before .before .before .stripe-refusal .ensures) (c .before .before .before .before .if1 .left), omega arith)
 
 returns-3 : tie.Need-returns-3
 returns-3 c = search (needs, stray-answers)
@@ -29,7 +29,7 @@ pub stray-refusal-spec : {M : Type 1} → statement M
 stray-refusal-spec =
     tie.close
     (tie.spec
-    record-refusal-requires
+    stripe-refusal-requires
     returns
     refusal-requires
     returns-2

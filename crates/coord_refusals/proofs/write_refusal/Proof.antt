@@ -1,17 +1,17 @@
-use Rattle.coord_refusals.proofs.Laws.RefusedLaws.{write-code, write-bytes, write-stripe, write-record, ranged, few-bricks, lengths-fit}
+use Rattle.coord_refusals.proofs.Laws.RefusedLaws.{write-settings, write-bytes, write-stripe, write-rest, ranged, few-bricks, lengths-fit}
 use native.Mathlib.Omega.{arith}
 use borrow.Author.Needs.{needs}
 use Rattle.coord_refusals.proofs.write_refusal.Statement.{statement}
 use Rattle.coord_refusals.proofs.write_refusal.Tie as tie
 
-code-refusal-requires : tie.Need-code-refusal-requires
-code-refusal-requires c κs = search needs
+volume-refusal-requires : tie.Need-volume-refusal-requires
+volume-refusal-requires c κs = search needs
 
 returns : tie.Need-returns
-returns c = search (needs, write-code)
+returns c = search (needs, write-settings)
 
 mul-if2 : tie.Need-mul-if2
-mul-if2 c = omega (arith, lengths-fit _ _ _ (ranged _ _ _ _ (c .before .code-refusal .ensures) (c .if1 .left)))
+mul-if2 c = omega (arith, lengths-fit _ _ _ (ranged _ _ _ _ _ (c .before .volume-refusal .ensures) (c .if1 .left)))
 
 returns-2 : tie.Need-returns-2
 returns-2 c = search (needs, write-bytes)
@@ -22,21 +22,21 @@ mul-if3 c = search needs
 returns-3 : tie.Need-returns-3
 returns-3 c = search (needs, write-stripe)
 
-record-refusal-requires : tie.Need-record-refusal-requires
-record-refusal-requires c κs = few-bricks _ _ _ _ (c .before .before .before .code-refusal .ensures) (c .before .before .if1 .left)
+stripe-refusal-requires : tie.Need-stripe-refusal-requires
+stripe-refusal-requires c κs = few-bricks _ _ _ _ _ (c .before .before .before .volume-refusal .ensures) (c .before .before .if1 .left)
 
 returns-4 : tie.Need-returns-4
-returns-4 c = search (needs, write-record)
+returns-4 c = search (needs, write-rest)
 
 pub write-refusal-spec : {M : Type 1} → statement M
 write-refusal-spec =
     tie.close
     (tie.spec
-    code-refusal-requires
+    volume-refusal-requires
     returns
     mul-if2
     returns-2
     mul-if3
     returns-3
-    record-refusal-requires
+    stripe-refusal-requires
     returns-4)

@@ -25,7 +25,7 @@ use Rattle.coord_tally.specs.Counting.{targetFlags}
 use Rattle.coord_decide.specs.Deciding.{answers, tallied, decided}
 use Rattle.coord_decide.specs.declared.Decision.{Decision}
 use Rattle.coord_decide.specs.declared.Decision.the-variants.{Abort, Give, Look, Store, Recover, Finish}
-use Rattle.coord_refusals.proofs.Laws.RefusedLaws.{record-passes, write-stops, write-late, write-busy, write-passes, read-stops, read-late, read-busy, read-passes}
+use Rattle.coord_refusals.proofs.Laws.RefusedLaws.{record-passes, stripe-passes, write-stops, write-late, write-busy, write-passes, read-stops, read-late, read-busy, read-passes}
 use Rattle.coord_refusals.specs.Checks.{writeChecks, readChecks, startChecks, writeRefusal, readRefusal, lengthsRight, strayChecks, takeRefusal, crashRefusal}
 use Rattle.coordinator.specs.Routines.{drawnThen, writeStep, readStep, takeStep, crashed, crashStep, writeCall, readCall, takeCall, crashCall}
 use Rattle.message.specs.Flags.{members}
@@ -35,7 +35,7 @@ use Rattle.message.specs.declared.Reply.{Reply}
 use Rattle.settings.specs.Ranges.{CodeRange}
 use Rattle.settings.proofs.Laws.RangeLaws.{code-passed}
 use Rattle.byte_lists.proofs.Laws.BoolLaws.{and-left, and-right}
-use Rattle.settings.specs.Ranges.{codeRefusal, quorum}
+use Rattle.settings.specs.Ranges.{codeRefusal, stripeCountRefusal, quorum}
 use Rattle.settings.specs.Refusal.{passed, firstRefusal, refuseUnless, badLength, badNumber, busy, strayReply}
 use Rattle.settings.specs.Times.{timeOf, nextCount, advanced, drawRefusal, drawOf, numberOf}
 use Rattle.settings.specs.declared.Clock.{Clock}
@@ -54,14 +54,15 @@ unfolding afterChecks
 checked-pass k bad s e z = rw (← e, z)
 
 -- what a reply that is not refused satisfies
-pub record Takes (n m size : ℕ) (c : Coordinator) (r : Reply) (block blocks stripe coded : ℕ) : Type 0 where
+pub record Takes (n m size stripes : ℕ) (c : Coordinator) (r : Reply) (block blocks stripe coded : ℕ) : Type 0 where
   pub range : CodeRange n m size
   pub blocks-length : blocks ≡ n * size
   pub stripe-length : stripe ≡ m * size
   pub coded-length : coded ≡ n * size
   pub block-length : r .held ≡ true → block ≡ size
   pub brick-low : r .brick < n
-  pub parts : SoundParts n m size c
+  pub stripe-low : r .stripe < stripes
+  pub parts : SoundParts n m size stripes c
   pub reply-right : replyRefusal n r ≡ 0
   pub in-round : answers n m (c .op) (c .tally) r ≡ true
 
@@ -69,17 +70,18 @@ held-length : (held : Bool) (block size : ℕ) → not held || eqb block size �
 held-length true block size e h = eqb-true block size e
 held-length false block size e h = let z : _≡_ {A = ℕ} 0 1 = cc in absurd (omega arith)
 
-pub take-passed : (n m size : ℕ) (c : Coordinator) (r : Reply) (block blocks stripe coded bad : ℕ) → bad ≡ takeRefusal n m size c r block blocks stripe coded
-    → bad ≡ 0 → Takes n m size c r block blocks stripe coded
+pub take-passed : (n m size stripes : ℕ) (c : Coordinator) (r : Reply) (block blocks stripe coded bad : ℕ) → bad ≡ takeRefusal n m size stripes c r block blocks stripe coded
+    → bad ≡ 0 → Takes n m size stripes c r block blocks stripe coded
 unfolding takeRefusal strayChecks lengthsRight
-take-passed n m size c r block blocks stripe coded bad e z =
+take-passed n m size stripes c r block blocks stripe coded bad e z =
     let all = sym e ∙ z in
     let code = passed-first (codeRefusal n m size) _ all in
-    let l = passed-rest (codeRefusal n m size) _ all in
+    let l = passed-rest (stripeCountRefusal stripes) _ (passed-rest (codeRefusal n m size) _ all) in
     let lengths = tested (lengthsRight n m size (r .held) block blocks stripe coded) _ (passed-first (refuseUnless (lengthsRight n m size (r .held) block blocks stripe coded) badLength) _ l) in
     let b = passed-rest (refuseUnless (lengthsRight n m size (r .held) block blocks stripe coded) badLength) _ l in
     let brick = tested (ltb (r .brick) n) _ (passed-first (refuseUnless (ltb (r .brick) n) badNumber) _ b) in
-    let s = record-passes n m size c _ (passed-rest (refuseUnless (ltb (r .brick) n) badNumber) _ b) in
+    let k = stripe-passes n m size stripes c (r .stripe) _ (passed-rest (refuseUnless (ltb (r .brick) n) badNumber) _ b) in
+    let s = record-passes n m size stripes c _ (k .1) in
     let three = and-left (eqb blocks (n * size) && eqb stripe (m * size) && eqb coded (n * size)) (not (r .held) || eqb block size) lengths in
     let two = and-left (eqb blocks (n * size) && eqb stripe (m * size)) (eqb coded (n * size)) three in
     record {
@@ -89,15 +91,16 @@ take-passed n m size c r block blocks stripe coded bad e z =
       coded-length = eqb-true coded (n * size) (and-right (eqb blocks (n * size) && eqb stripe (m * size)) (eqb coded (n * size)) three);
       block-length = held-length (r .held) block size (and-right (eqb blocks (n * size) && eqb stripe (m * size) && eqb coded (n * size)) (not (r .held) || eqb block size) lengths);
       brick-low = ltb-true (r .brick) n brick;
-      parts = sound-parts n m size c (s .0 .is-sound);
+      stripe-low = k .0;
+      parts = sound-parts n m size stripes c (s .0 .is-sound);
       reply-right = passed-first (replyRefusal n r) _ (s .1);
       in-round = tested (answers n m (c .op) (c .tally) r) _ (passed-first (refuseUnless (answers n m (c .op) (c .tally) r) strayReply) [] (passed-rest (replyRefusal n r) _ (s .1)));
     }
 
 -- a reply's block fits in its place
-pub place-fits : (n m size : ℕ) (c : Coordinator) (r : Reply) (block blocks stripe coded : ℕ) → Takes n m size c r block blocks stripe coded
+pub place-fits : (n m size stripes : ℕ) (c : Coordinator) (r : Reply) (block blocks stripe coded : ℕ) → Takes n m size stripes c r block blocks stripe coded
     → r .brick * size + size ≤ blocks
-place-fits n m size c r block blocks stripe coded t =
+place-fits n m size stripes c r block blocks stripe coded t =
     let q = mul-le-mul-right size (t .brick-low) in let s = suc-mul (r .brick) size in omega (arith, t .blocks-length)
 
 -- no decision touches the reply blocks
@@ -110,11 +113,11 @@ acted-blocks n m size h Store = refl
 acted-blocks n m size h (Recover time) = refl
 acted-blocks n m size h Finish = refl
 
-pub keeps : (n m size : ℕ) (c : Coordinator) (r : Reply) (block blocks stripe coded bad : ℕ) → bad ≡ takeRefusal n m size c r block blocks stripe coded
+pub keeps : (n m size stripes : ℕ) (c : Coordinator) (r : Reply) (block blocks stripe coded bad : ℕ) → bad ≡ takeRefusal n m size stripes c r block blocks stripe coded
     → bad ≡ 0 → KeepsReply size r block blocks
-keeps n m size c r block blocks stripe coded bad e z =
-    let t = take-passed n m size c r block blocks stripe coded bad e z in
-    record { block-length = t .block-length; within = place-fits n m size c r block blocks stripe coded t }
+keeps n m size stripes c r block blocks stripe coded bad e z =
+    let t = take-passed n m size stripes c r block blocks stripe coded bad e z in
+    record { block-length = t .block-length; within = place-fits n m size stripes c r block blocks stripe coded t }
 
 pub kept-held : (size : ℕ) (r : Reply) (block blocks blocks′ : List ℕ) → r .held ≡ true → blocks′ ≡ withReplyBlock size (r .brick) block blocks
     → blocks′ ≡ keptBlocks size r block blocks
@@ -126,14 +129,14 @@ unfolding keptBlocks
 kept-none size r block blocks h = rw h
 
 -- What a reply leads to: the answer and the three buffers.
-module _ (n m size : ℕ) (c : Coordinator) (r : Reply) (block blocks stripe coded : List ℕ) where
+module _ (n m size stripes : ℕ) (c : Coordinator) (r : Reply) (block blocks stripe coded : List ℕ) where
   abbrev stepHere : Step
-  stepHere = takeStep n m size (buffered c blocks stripe) r block (length coded)
+  stepHere = takeStep n m size stripes (buffered c blocks stripe) r block (length coded)
 
   abbrev pub Took : Answer → List ℕ → List ℕ → List ℕ → Type 0
-  Took a blocks′ stripe′ coded′ = returned a blocks′ stripe′ coded′ ≡ takeCall n m size c blocks stripe coded r block
+  Took a blocks′ stripe′ coded′ = returned a blocks′ stripe′ coded′ ≡ takeCall n m size stripes c blocks stripe coded r block
 
-  pub took-refused : (bad : ℕ) (a : Answer) → bad ≡ takeRefusal n m size c r (length block) (length blocks) (length stripe) (length coded) → (bad ≡ 0 → ⊥)
+  pub took-refused : (bad : ℕ) (a : Answer) → bad ≡ takeRefusal n m size stripes c r (length block) (length blocks) (length stripe) (length coded) → (bad ≡ 0 → ⊥)
       → a ≡ answerOf c (refused bad) → Took a blocks stripe coded
   unfolding takeStep buffered returnedBy blocksAfter stripeAfter codedAfter
   took-refused bad a e h q =
@@ -151,7 +154,7 @@ module _ (n m size : ℕ) (c : Coordinator) (r : Reply) (block blocks stripe cod
       ∙ ap (returnedBy (buffered c blocks stripe) coded) (sym s)
 
   -- the reply counted: t is the tally, d the record and blocks′ the blocks with it
-  module _ (bad : ℕ) (e : bad ≡ takeRefusal n m size c r (length block) (length blocks) (length stripe) (length coded)) (z : bad ≡ 0)
+  module _ (bad : ℕ) (e : bad ≡ takeRefusal n m size stripes c r (length block) (length blocks) (length stripe) (length coded)) (z : bad ≡ 0)
       (t : Tally) (et : t ≡ tallied (c .tally) r) (d : Coordinator) (ed : d ≡ withTally c t) (blocks′ : List ℕ) (eb : blocks′ ≡ keptBlocks size r block blocks) where
     counted-is : counting size (buffered c blocks stripe) r block ≡ buffered d blocks′ stripe
     unfolding counting buffered keptBlocks
@@ -165,7 +168,7 @@ module _ (n m size : ℕ) (c : Coordinator) (r : Reply) (block blocks stripe cod
     pub ready-here : length blocks′ ≡ length blocks → DecisionReady n m size d (length blocks′) (length stripe)
     unfolding withTally
     ready-here l =
-        let p = take-passed n m size c r (length block) (length blocks) (length stripe) (length coded) bad e z in
+        let p = take-passed n m size stripes c r (length block) (length blocks) (length stripe) (length coded) bad e z in
         let same : d .op ≡ c .op = ap (λ (x : Coordinator). x .op) ed in
         let f = ap (λ (o : Op). o .first) same in
         let g = ap (λ (o : Op). o .round) same in
@@ -213,23 +216,23 @@ unfolding drawnThen
 drawn-given d f time next e = rw e
 
 -- a crash
-module _ (n m size : ℕ) (c : Coordinator) (blocks stripe coded : List ℕ) (bad : ℕ) (e : bad ≡ crashRefusal n m size c) where
+module _ (n m size stripes : ℕ) (c : Coordinator) (blocks stripe coded : List ℕ) (bad : ℕ) (e : bad ≡ crashRefusal n m size stripes c) where
   pub crash-refused : (a : Answer) → (bad ≡ 0 → ⊥) → a ≡ answerOf c (refused bad)
-      → returned a blocks stripe coded ≡ crashCall n m size c blocks stripe coded
+      → returned a blocks stripe coded ≡ crashCall n m size stripes c blocks stripe coded
   unfolding crashStep buffered returnedBy blocksAfter stripeAfter codedAfter
   crash-refused a h q =
       ap (λ (x : Answer). returned x blocks stripe coded) q
       ∙ ap (returnedBy (buffered c blocks stripe) coded) (sym (checked-stop _ bad _ e h))
 
   pub crash-idle : (a : Answer) → bad ≡ 0 → c .op .kind ≡ idleKind → a ≡ keptAnswer c
-      → returned a blocks stripe coded ≡ crashCall n m size c blocks stripe coded
+      → returned a blocks stripe coded ≡ crashCall n m size stripes c blocks stripe coded
   unfolding crashStep buffered keptAnswer answerOf sentCount sentMessage sentBlocks returnedBy blocksAfter stripeAfter codedAfter
   crash-idle a z k q =
       ap (λ (x : Answer). returned x blocks stripe coded) q
       ∙ ap (returnedBy (buffered c blocks stripe) coded) (sym (checked-pass _ bad _ e z ∙ ap went (crashed-idle (buffered c blocks stripe) k)))
 
   pub crash-cut : (a : Answer) → bad ≡ 0 → (c .op .kind ≡ idleKind → ⊥) → a ≡ endAnswer c cutSeen noBricks 0 noMessage
-      → returned a blocks stripe coded ≡ crashCall n m size c blocks stripe coded
+      → returned a blocks stripe coded ≡ crashCall n m size stripes c blocks stripe coded
   unfolding crashStep ending buffered endAnswer answerOf sentCount sentMessage sentBlocks returnedBy blocksAfter stripeAfter codedAfter
   crash-cut a z k q =
       ap (λ (x : Answer). returned x blocks stripe coded) q
@@ -259,101 +262,102 @@ module _ (c : Coordinator) (blocks stripe coded : List ℕ) where
       ∙ ap (returnedBy (buffered c blocks stripe) coded) (sym (checked-stop k number s e h))
 
 -- a write starts
-module _ (n m size : ℕ) (c : Coordinator) (reading : ℕ) (bytes blocks stripe coded : List ℕ) (bad : ℕ)
-    (e : bad ≡ firstRefusal (writeChecks n m size c (length bytes) (length stripe) [])) where
+module _ (n m size stripes : ℕ) (c : Coordinator) (number reading : ℕ) (bytes blocks stripe coded : List ℕ) (bad : ℕ)
+    (e : bad ≡ firstRefusal (writeChecks n m size stripes c number (length bytes) (length stripe) [])) where
   -- what is begun at a time
   abbrev begun : ℕ → Clock → Went
-  begun time clock = starting (buffered c blocks stripe) clock (firstOp writingKind orderKind time 0) bytes noBricks
+  begun time clock = starting (buffered c blocks stripe) clock (firstOp writingKind orderKind number time 0) bytes noBricks
 
   pub write-refused : (a : Answer) → (bad ≡ 0 → ⊥) → a ≡ answerOf c (refused bad)
-      → returned a blocks stripe coded ≡ writeCall n m size c blocks stripe coded reading bytes
+      → returned a blocks stripe coded ≡ writeCall n m size stripes c blocks stripe coded number reading bytes
   unfolding writeStep buffered
-  write-refused a h q = call-refused c blocks stripe coded _ a _ bad (write-stops n m size c reading (length bytes) (length stripe) bad e h) h q
+  write-refused a h q = call-refused c blocks stripe coded _ a _ bad (write-stops n m size stripes c number reading (length bytes) (length stripe) bad e h) h q
 
-  pub write-unread : (a : Answer) (d : Draw) (number k : ℕ) → bad ≡ 0 → d ≡ drawOf (c .clock) reading → d ≡ Refused number → k ≡ numberOf d
-      → a ≡ answerOf c (refused k) → returned a blocks stripe coded ≡ writeCall n m size c blocks stripe coded reading bytes
+  pub write-unread : (a : Answer) (d : Draw) (late k : ℕ) → bad ≡ 0 → d ≡ drawOf (c .clock) reading → d ≡ Refused late → k ≡ numberOf d
+      → a ≡ answerOf c (refused k) → returned a blocks stripe coded ≡ writeCall n m size stripes c blocks stripe coded number reading bytes
   unfolding writeStep buffered numberOf
-  write-unread a d number k z ed er ek q =
-      let h : k ≡ 0 → ⊥ = λ y. refused-nonzero (c .clock) reading number (sym ed ∙ er) (sym (ek ∙ ap numberOf er) ∙ y) in
+  write-unread a d late k z ed er ek q =
+      let h : k ≡ 0 → ⊥ = λ y. refused-nonzero (c .clock) reading late (sym ed ∙ er) (sym (ek ∙ ap numberOf er) ∙ y) in
       call-refused c blocks stripe coded _ a _ k
-      (write-late n m size c reading (length bytes) (length stripe) bad e k z (ek ∙ ap numberOf ed ∙ draw-number (c .clock) reading) h) h q
+      (write-late n m size stripes c number reading (length bytes) (length stripe) bad e k z (ek ∙ ap numberOf ed ∙ draw-number (c .clock) reading) h) h q
 
   pub write-running : (a : Answer) (time : ℕ) (next : Clock) → bad ≡ 0 → drawOf (c .clock) reading ≡ Drawn time next → (c .op .kind ≡ idleKind → ⊥)
-      → a ≡ answerOf c (refused busy) → returned a blocks stripe coded ≡ writeCall n m size c blocks stripe coded reading bytes
+      → a ≡ answerOf c (refused busy) → returned a blocks stripe coded ≡ writeCall n m size stripes c blocks stripe coded number reading bytes
   unfolding writeStep buffered
   write-running a time next z ed r q =
       call-refused c blocks stripe coded _ a _ busy
-      (write-busy n m size c reading (length bytes) (length stripe) bad e z (drawn-number (c .clock) reading time next ed) r) (λ y. absurd (omega arith)) q
+      (write-busy n m size stripes c number reading (length bytes) (length stripe) bad e z (drawn-number (c .clock) reading time next ed) r) (λ y. absurd (omega arith)) q
 
   pub write-begun : (a : Answer) (time : ℕ) (next : Clock) (stripe′ : List ℕ) → bad ≡ 0 → drawOf (c .clock) reading ≡ Drawn time next
-      → c .op .kind ≡ idleKind → stripe′ ≡ bytes → a ≡ startAnswer (c .geometry) next (firstOp writingKind orderKind time 0) noBricks
-      → returned a blocks stripe′ coded ≡ writeCall n m size c blocks stripe coded reading bytes
+      → c .op .kind ≡ idleKind → stripe′ ≡ bytes → a ≡ startAnswer (c .geometry) next (firstOp writingKind orderKind number time 0) noBricks
+      → returned a blocks stripe′ coded ≡ writeCall n m size stripes c blocks stripe coded number reading bytes
   unfolding writeStep buffered returnedBy blocksAfter stripeAfter codedAfter starting startAnswer answerOf sentCount sentMessage sentBlocks roundMessage firstOp
   write-begun a time next stripe′ z ed r es q =
       ap (λ (x : Answer). returned x blocks stripe′ coded) q
-      ∙ ap (λ (x : List ℕ). returned (startAnswer (c .geometry) next (firstOp writingKind orderKind time 0) noBricks) blocks x coded) es
+      ∙ ap (λ (x : List ℕ). returned (startAnswer (c .geometry) next (firstOp writingKind orderKind number time 0) noBricks) blocks x coded) es
       ∙ ap (returnedBy (buffered c blocks stripe) coded)
-      (sym (checked-pass _ 0 _ (write-passes n m size c reading (length bytes) (length stripe) bad e z (drawn-number (c .clock) reading time next ed) r) refl
+      (sym (checked-pass _ 0 _ (write-passes n m size stripes c number reading (length bytes) (length stripe) bad e z (drawn-number (c .clock) reading time next ed) r) refl
       ∙ drawn-given (drawOf (c .clock) reading) begun time next ed))
 
 -- a read starts
-module _ (n m size : ℕ) (c : Coordinator) (reading first : ℕ) (blocks stripe coded : List ℕ) (bad : ℕ)
-    (e : bad ≡ firstRefusal (readChecks n m size c first [])) where
+module _ (n m size stripes : ℕ) (c : Coordinator) (number reading first : ℕ) (blocks stripe coded : List ℕ) (bad : ℕ)
+    (e : bad ≡ firstRefusal (readChecks n m size stripes c number first [])) where
   abbrev begun-read : ℕ → Clock → Went
-  begun-read time clock = starting (buffered c blocks stripe) clock (firstOp readingKind readKind time first) stripe (targetFlags n m first)
+  begun-read time clock = starting (buffered c blocks stripe) clock (firstOp readingKind readKind number time first) stripe (targetFlags n m first)
 
   pub read-refused : (a : Answer) → (bad ≡ 0 → ⊥) → a ≡ answerOf c (refused bad)
-      → returned a blocks stripe coded ≡ readCall n m size c blocks stripe coded reading first
+      → returned a blocks stripe coded ≡ readCall n m size stripes c blocks stripe coded number reading first
   unfolding readStep buffered
-  read-refused a h q = call-refused c blocks stripe coded _ a _ bad (read-stops n m size c reading first bad e h) h q
+  read-refused a h q = call-refused c blocks stripe coded _ a _ bad (read-stops n m size stripes c number reading first bad e h) h q
 
-  pub read-unread : (a : Answer) (d : Draw) (number k : ℕ) → bad ≡ 0 → d ≡ drawOf (c .clock) reading → d ≡ Refused number → k ≡ numberOf d
-      → a ≡ answerOf c (refused k) → returned a blocks stripe coded ≡ readCall n m size c blocks stripe coded reading first
+  pub read-unread : (a : Answer) (d : Draw) (late k : ℕ) → bad ≡ 0 → d ≡ drawOf (c .clock) reading → d ≡ Refused late → k ≡ numberOf d
+      → a ≡ answerOf c (refused k) → returned a blocks stripe coded ≡ readCall n m size stripes c blocks stripe coded number reading first
   unfolding readStep buffered numberOf
-  read-unread a d number k z ed er ek q =
-      let h : k ≡ 0 → ⊥ = λ y. refused-nonzero (c .clock) reading number (sym ed ∙ er) (sym (ek ∙ ap numberOf er) ∙ y) in
+  read-unread a d late k z ed er ek q =
+      let h : k ≡ 0 → ⊥ = λ y. refused-nonzero (c .clock) reading late (sym ed ∙ er) (sym (ek ∙ ap numberOf er) ∙ y) in
       call-refused c blocks stripe coded _ a _ k
-      (read-late n m size c reading first bad e k z (ek ∙ ap numberOf ed ∙ draw-number (c .clock) reading) h) h q
+      (read-late n m size stripes c number reading first bad e k z (ek ∙ ap numberOf ed ∙ draw-number (c .clock) reading) h) h q
 
   pub read-running : (a : Answer) (time : ℕ) (next : Clock) → bad ≡ 0 → drawOf (c .clock) reading ≡ Drawn time next → (c .op .kind ≡ idleKind → ⊥)
-      → a ≡ answerOf c (refused busy) → returned a blocks stripe coded ≡ readCall n m size c blocks stripe coded reading first
+      → a ≡ answerOf c (refused busy) → returned a blocks stripe coded ≡ readCall n m size stripes c blocks stripe coded number reading first
   unfolding readStep buffered
   read-running a time next z ed r q =
-      call-refused c blocks stripe coded _ a _ busy (read-busy n m size c reading first bad e z (drawn-number (c .clock) reading time next ed) r) (λ y. absurd (omega arith)) q
+      call-refused c blocks stripe coded _ a _ busy (read-busy n m size stripes c number reading first bad e z (drawn-number (c .clock) reading time next ed) r) (λ y. absurd (omega arith)) q
 
   pub read-begun : (a : Answer) (time : ℕ) (next : Clock) (targets : List ℕ) → bad ≡ 0 → drawOf (c .clock) reading ≡ Drawn time next → c .op .kind ≡ idleKind
-      → targets ≡ targetFlags n m first → a ≡ startAnswer (c .geometry) next (firstOp readingKind readKind time first) targets
-      → returned a blocks stripe coded ≡ readCall n m size c blocks stripe coded reading first
+      → targets ≡ targetFlags n m first → a ≡ startAnswer (c .geometry) next (firstOp readingKind readKind number time first) targets
+      → returned a blocks stripe coded ≡ readCall n m size stripes c blocks stripe coded number reading first
   unfolding readStep buffered returnedBy blocksAfter stripeAfter codedAfter starting startAnswer answerOf sentCount sentMessage sentBlocks roundMessage firstOp
   read-begun a time next targets z ed r et q =
-      ap (λ (x : Answer). returned x blocks stripe coded) (q ∙ ap (startAnswer (c .geometry) next (firstOp readingKind readKind time first)) et)
+      ap (λ (x : Answer). returned x blocks stripe coded) (q ∙ ap (startAnswer (c .geometry) next (firstOp readingKind readKind number time first)) et)
       ∙ ap (returnedBy (buffered c blocks stripe) coded)
-      (sym (checked-pass _ 0 _ (read-passes n m size c reading first bad e z (drawn-number (c .clock) reading time next ed) r) refl
+      (sym (checked-pass _ 0 _ (read-passes n m size stripes c number reading first bad e z (drawn-number (c .clock) reading time next ed) r) refl
       ∙ drawn-given (drawOf (c .clock) reading) begun-read time next ed))
 
 -- what the bytes and the first brick of a start that passes satisfy, whatever is asked after them
-pub lengths-same : (n m size : ℕ) (c : Coordinator) (bytes stripe bad : ℕ) (more : List ℕ) → bad ≡ firstRefusal (writeChecks n m size c bytes stripe more) → bad ≡ 0 → bytes ≡ stripe
+pub lengths-same : (n m size stripes : ℕ) (c : Coordinator) (number bytes stripe bad : ℕ) (more : List ℕ)
+    → bad ≡ firstRefusal (writeChecks n m size stripes c number bytes stripe more) → bad ≡ 0 → bytes ≡ stripe
 unfolding writeChecks
-lengths-same n m size c bytes stripe bad more e z =
-    let l = passed-rest (codeRefusal n m size) _ (sym e ∙ z) in
+lengths-same n m size stripes c number bytes stripe bad more e z =
+    let l = passed-rest (stripeCountRefusal stripes) _ (passed-rest (codeRefusal n m size) _ (sym e ∙ z)) in
     let t = tested (eqb bytes (m * size) && eqb stripe (m * size)) _ (passed-first (refuseUnless (eqb bytes (m * size) && eqb stripe (m * size)) badLength) _ l) in
     eqb-true bytes (m * size) (and-left (eqb bytes (m * size)) (eqb stripe (m * size)) t)
     ∙ sym (eqb-true stripe (m * size) (and-right (eqb bytes (m * size)) (eqb stripe (m * size)) t))
 
-pub first-below : (n m size : ℕ) (c : Coordinator) (first bad : ℕ) (more : List ℕ) → bad ≡ firstRefusal (readChecks n m size c first more) → bad ≡ 0 → first < n
+pub first-below : (n m size stripes : ℕ) (c : Coordinator) (number first bad : ℕ) (more : List ℕ) → bad ≡ firstRefusal (readChecks n m size stripes c number first more) → bad ≡ 0 → first < n
 unfolding readChecks
-first-below n m size c first bad more e z =
-    let l = passed-rest (codeRefusal n m size) _ (sym e ∙ z) in
+first-below n m size stripes c number first bad more e z =
+    let l = passed-rest (stripeCountRefusal stripes) _ (passed-rest (codeRefusal n m size) _ (sym e ∙ z)) in
     ltb-true first n (tested (ltb first n) _ (passed-first (refuseUnless (ltb first n) badNumber) _ l))
 
 -- what a start that is not refused satisfies
-pub write-lengths : (n m size : ℕ) (c : Coordinator) (reading bytes stripe bad : ℕ) → bad ≡ writeRefusal n m size c reading bytes stripe → bad ≡ 0 → bytes ≡ stripe
+pub write-lengths : (n m size stripes : ℕ) (c : Coordinator) (number reading bytes stripe bad : ℕ) → bad ≡ writeRefusal n m size stripes c number reading bytes stripe → bad ≡ 0 → bytes ≡ stripe
 unfolding writeRefusal
-write-lengths n m size c reading bytes stripe bad e z = lengths-same n m size c bytes stripe bad (startChecks c reading) e z
+write-lengths n m size stripes c number reading bytes stripe bad e z = lengths-same n m size stripes c number bytes stripe bad (startChecks c reading) e z
 
-pub first-low : (n m size : ℕ) (c : Coordinator) (reading first bad : ℕ) → bad ≡ readRefusal n m size c reading first → bad ≡ 0 → first < n
+pub first-low : (n m size stripes : ℕ) (c : Coordinator) (number reading first bad : ℕ) → bad ≡ readRefusal n m size stripes c number reading first → bad ≡ 0 → first < n
 unfolding readRefusal
-first-low n m size c reading first bad e z = first-below n m size c first bad (startChecks c reading) e z
+first-low n m size stripes c number reading first bad e z = first-below n m size stripes c number first bad (startChecks c reading) e z
 
 pub start-by : (geometry : Geometry) (clock : Clock) (op op′ : Op) (targets : List ℕ) (a : Answer) → a ≡ startAnswer geometry clock op targets → op ≡ op′
     → a ≡ startAnswer geometry clock op′ targets

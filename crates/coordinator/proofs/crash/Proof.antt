@@ -13,13 +13,13 @@ refuse-requires : tie.Need-refuse-requires
 refuse-requires c κs = search needs
 
 returns : tie.Need-returns
-returns c = λ blocks stripe coded. crash-refused _ _ _ _ blocks stripe coded _ (c .before .before .crash-refusal .ensures) _ (c .before .if1 .taken) (c .refuse .ensures)
+returns c = λ blocks stripe coded. crash-refused _ _ _ _ _ blocks stripe coded _ (c .before .before .crash-refusal .ensures) _ (c .before .if1 .taken) (c .refuse .ensures)
 
 kept-requires : tie.Need-kept-requires
 kept-requires c κs = search needs
 
 returns-2 : tie.Need-returns-2
-returns-2 c = λ blocks stripe coded. crash-idle _ _ _ _ blocks stripe coded _ (c .before .before .before .before .before .crash-refusal .ensures) _
+returns-2 c = λ blocks stripe coded. crash-idle _ _ _ _ _ blocks stripe coded _ (c .before .before .before .before .before .crash-refusal .ensures) _
     (c .before .before .before .before .if1 .left) (c .before .if2 .taken) (c .kept .ensures)
 
 no-message-requires : tie.Need-no-message-requires
@@ -30,7 +30,7 @@ end-requires c κs = search needs
 
 returns-3 : tie.Need-returns-3
 unfolding noBricks
-returns-3 c = λ blocks stripe coded. crash-cut _ _ _ _ blocks stripe coded _ (c .before .before .before .before .before .before .crash-refusal .ensures) _
+returns-3 c = λ blocks stripe coded. crash-cut _ _ _ _ _ blocks stripe coded _ (c .before .before .before .before .before .before .crash-refusal .ensures) _
     (c .before .before .before .before .before .if1 .left) (c .before .before .if2 .left) (end-by _ _ _ _ _ _ _ _ _ (c .end .ensures) refl refl (c .before .no-message .ensures))
 
 pub crash-spec : {M : Type 1} → statement M

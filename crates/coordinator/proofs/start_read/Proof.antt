@@ -12,7 +12,7 @@ refuse-requires c κs = search needs
 
 returns : tie.Need-returns
 returns c =
-    λ blocks stripe coded. read-refused _ _ _ _ _ _ blocks stripe coded _ (c .before .before .read-refusal .ensures) _ (c .before .if1 .taken) (c .refuse .ensures)
+    λ blocks stripe coded. read-refused _ _ _ _ _ _ _ _ blocks stripe coded _ (c .before .before .read-refusal .ensures) _ (c .before .if1 .taken) (c .refuse .ensures)
 
 draw-requires : tie.Need-draw-requires
 draw-requires c κs = search needs
@@ -31,7 +31,7 @@ refuse-requires-2 c κs = search needs
 
 returns-2 : tie.Need-returns-2
 returns-2 c =
-    λ blocks stripe coded. read-unread _ _ _ _ _ _ blocks stripe coded _ (c .before .before .before .before .before .before .before .read-refusal .ensures) _ _ _ _
+    λ blocks stripe coded. read-unread _ _ _ _ _ _ _ _ blocks stripe coded _ (c .before .before .before .before .before .before .before .read-refusal .ensures) _ _ _ _
     (c .before .before .before .before .before .before .if1 .left) (c .before .before .before .before .draw .ensures)
     (c .before .before .enum-told .given .1) (c .before .number .ensures) (c .refuse2 .ensures)
 
@@ -41,7 +41,7 @@ refuse-requires-3 c κs = search needs
 returns-3 : tie.Need-returns-3
 returns-3 c =
     let told = c .before .before .before .before in
-    λ blocks stripe coded. read-running _ _ _ _ _ _ blocks stripe coded _ (told .before .before .before .before .before .before .read-refusal .ensures) _ _ _
+    λ blocks stripe coded. read-running _ _ _ _ _ _ _ _ blocks stripe coded _ (told .before .before .before .before .before .before .read-refusal .ensures) _ _ _
     (told .before .before .before .before .before .if1 .left) (sym (told .before .before .before .draw .ensures) ∙ told .before .drew .given .1) (c .before .if2 .taken)
     (c .refuse3 .ensures)
 
@@ -49,7 +49,7 @@ first-op-requires : tie.Need-first-op-requires
 first-op-requires c κs = search needs
 
 target-flags-requires : tie.Need-target-flags-requires
-target-flags-requires c κs = first-below _ _ _ _ _ _ _ (c .before .before .before .before .before .before .before .before .before .before .before .read-refusal .ensures)
+target-flags-requires c κs = first-below _ _ _ _ _ _ _ _ _ (c .before .before .before .before .before .before .before .before .before .before .before .read-refusal .ensures)
     (c .before .before .before .before .before .before .before .before .before .before .if1 .left)
 
 begin-requires : tie.Need-begin-requires
@@ -57,7 +57,7 @@ begin-requires c κs = search needs
 
 returns-4 : tie.Need-returns-4
 returns-4 c =
-    λ blocks stripe coded. read-begun _ _ _ _ _ _ blocks stripe coded _
+    λ blocks stripe coded. read-begun _ _ _ _ _ _ _ _ blocks stripe coded _
     (c .before .before .before .before .before .before .before .before .before .before .before .before .before .read-refusal .ensures) _ _ _ _
     (c .before .before .before .before .before .before .before .before .before .before .before .before .if1 .left)
     (sym (c .before .before .before .before .before .before .before .before .before .before .draw .ensures) ∙ c .before .before .before .before .before .before .before .before .drew .given .1)

@@ -13,7 +13,7 @@ refuse-requires c κs = search needs
 
 returns : tie.Need-returns
 returns c =
-    λ blocks coded. write-refused _ _ _ _ _ _ blocks _ coded _ (c .before .before .write-refusal .ensures) _ (c .before .if1 .taken) (c .refuse .ensures)
+    λ blocks coded. write-refused _ _ _ _ _ _ _ _ blocks _ coded _ (c .before .before .write-refusal .ensures) _ (c .before .if1 .taken) (c .refuse .ensures)
 
 draw-requires : tie.Need-draw-requires
 draw-requires c κs = search needs
@@ -32,7 +32,7 @@ refuse-requires-2 c κs = search needs
 
 returns-2 : tie.Need-returns-2
 returns-2 c =
-    λ blocks coded. write-unread _ _ _ _ _ _ blocks _ coded _ (c .before .before .before .before .before .before .before .write-refusal .ensures) _ _ _ _
+    λ blocks coded. write-unread _ _ _ _ _ _ _ _ blocks _ coded _ (c .before .before .before .before .before .before .before .write-refusal .ensures) _ _ _ _
     (c .before .before .before .before .before .before .if1 .left) (c .before .before .before .before .draw .ensures)
     (c .before .before .enum-told .given .1) (c .before .number .ensures) (c .refuse2 .ensures)
 
@@ -42,13 +42,13 @@ refuse-requires-3 c κs = search needs
 returns-3 : tie.Need-returns-3
 returns-3 c =
     let drew = c .before .before .before .before in
-    λ blocks coded. write-running _ _ _ _ _ _ blocks _ coded _ (drew .before .before .before .before .before .before .write-refusal .ensures) _ _ _
+    λ blocks coded. write-running _ _ _ _ _ _ _ _ blocks _ coded _ (drew .before .before .before .before .before .before .write-refusal .ensures) _ _ _
     (drew .before .before .before .before .before .if1 .left) (sym (drew .before .before .before .draw .ensures) ∙ drew .before .drawn .given .1) (c .before .if2 .taken) (c .refuse3 .ensures)
 
 copy-requires : tie.Need-copy-requires
 copy-requires c κs =
     let told = c .before .before .before .before in
-    lengths-same _ _ _ _ _ _ _ _ (told .before .before .before .before .before .before .write-refusal .ensures) (told .before .before .before .before .before .if1 .left)
+    lengths-same _ _ _ _ _ _ _ _ _ _ (told .before .before .before .before .before .before .write-refusal .ensures) (told .before .before .before .before .before .if1 .left)
 
 first-op-requires : tie.Need-first-op-requires
 first-op-requires c κs = search needs
@@ -63,7 +63,7 @@ returns-4 : tie.Need-returns-4
 unfolding noBricks
 returns-4 c =
     let told = c .before .before .before .before .before .before .before .before .before .before in
-    λ blocks coded. write-begun _ _ _ _ _ _ blocks _ coded _ (told .before .before .before .before .before .before .write-refusal .ensures) _ _ _ _
+    λ blocks coded. write-begun _ _ _ _ _ _ _ _ blocks _ coded _ (told .before .before .before .before .before .before .write-refusal .ensures) _ _ _ _
     (told .before .before .before .before .before .if1 .left) (sym (told .before .before .before .draw .ensures) ∙ told .before .drawn .given .1)
     (c .before .before .before .before .before .before .before .if2 .left) (c .before .before .before .before .before .copy .ensures)
     (start-by _ _ _ _ _ _ (c .begin .ensures) (c .before .first-op .ensures))

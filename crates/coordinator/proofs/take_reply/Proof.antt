@@ -7,10 +7,11 @@ use Rattle.coordinator.proofs.take_reply.Tie as tie
 
 -- what passing the checks says
 passed : (c : tie.Else1) → Takes (c .before .before .before .before .before .before .args .n) (c .before .before .before .before .before .before .args .m)
-    (c .before .before .before .before .before .before .args .size) (c .before .before .before .before .before .before .args .c) (c .before .before .before .before .before .before .args .reply)
+    (c .before .before .before .before .before .before .args .size) (c .before .before .before .before .before .before .args .stripes)
+    (c .before .before .before .before .before .before .args .c) (c .before .before .before .before .before .before .args .reply)
     (length (c .before .before .before .before .before .before .args .block .now)) (length (c .before .before .before .before .before .before .args .blocks .now))
     (length (c .before .before .before .before .before .before .args .stripe .now)) (length (c .before .before .before .before .before .before .args .coded .now))
-passed c = take-passed _ _ _ _ _ _ _ _ _ _ (c .before .take-refusal .ensures) (c .if1 .left)
+passed c = take-passed _ _ _ _ _ _ _ _ _ _ _ (c .before .take-refusal .ensures) (c .if1 .left)
 
 take-refusal-requires : tie.Need-take-refusal-requires
 take-refusal-requires c κs = search needs
@@ -19,12 +20,12 @@ refuse-requires : tie.Need-refuse-requires
 refuse-requires c κs = search needs
 
 returns : tie.Need-returns
-returns c = took-refused _ _ _ _ _ (c .before .before .before .before .before .before .before .args .block .now) (c .before .before .before .before .before .before .before .args .blocks .now)
+returns c = took-refused _ _ _ _ _ _ (c .before .before .before .before .before .before .before .args .block .now) (c .before .before .before .before .before .before .before .args .blocks .now)
     (c .before .before .before .before .before .before .before .args .stripe .now) (c .before .before .before .before .before .before .before .args .coded .now) _ _
     (c .before .before .take-refusal .ensures) (c .before .if1 .taken) (c .refuse .ensures)
 
 keep-requires : tie.Need-keep-requires
-keep-requires c κs = keeps _ _ _ _ _ _ _ _ _ _ (c .before .before .take-refusal .ensures) (c .before .if1 .left)
+keep-requires c κs = keeps _ _ _ _ _ _ _ _ _ _ _ (c .before .before .take-refusal .ensures) (c .before .if1 .left)
 
 tally-with-requires : tie.Need-tally-with-requires
 tally-with-requires c κs = omega (arith, passed (c .before .before .before .before .before) .brick-low, passed (c .before .before .before .before .before) .range .n-high)
@@ -45,7 +46,7 @@ same-length : tie.Need-same-length
 same-length c = search needs
 
 returns-2 : tie.Need-returns-2
-returns-2 c = took-waiting _ _ _ _ _ (c .before .before .before .before .before .before .before .before .before .before .before .before .before .before .before .before .before .before .args
+returns-2 c = took-waiting _ _ _ _ _ _ (c .before .before .before .before .before .before .before .before .before .before .before .before .before .before .before .before .before .before .args
     .block .now) (c .before .before .before .before .before .before .before .before .before .before .before .before .before .before .before .before .before .before .args .blocks .now)
     (c .before .before .before .before .before .before .before .before .before .before .before .before .before .before .before .before .before .before .args .stripe .now)
     (c .before .before .before .before .before .before .before .before .before .before .before .before .before .before .before .before .before .before .args .coded .now) _
@@ -63,7 +64,7 @@ decide-requires c κs = (
 
 act-requires : tie.Need-act-requires
 act-requires c κs = (
-  ready-here _ _ _ _ _
+  ready-here _ _ _ _ _ _
       (c .before .before .before .before .before .before .before .before .before .before .before .before .before .before .before .before .before .before .before .before .before .before .args
       .block .now) (c .before .before .before .before .before .before .before .before .before .before .before .before .before .before .before .before .before .before .before .before .before
       .before .args .blocks .now) (c .before .before .before .before .before .before .before .before .before .before .before .before .before .before .before .before .before .before .before
@@ -78,7 +79,7 @@ act-requires c κs = (
       (c .before .before .before .before .before .before .before .before .before .before .before .before .before .before .keep .kept .1 .1 .1 .0),
   (
     passed (c .before .before .before .before .before .before .before .before .before .before .before .before .before .before .before .before) .coded-length,
-    decided-here _ _ _ _ _
+    decided-here _ _ _ _ _ _
         (c .before .before .before .before .before .before .before .before .before .before .before .before .before .before .before .before .before .before .before .before .before .before .args
         .block .now) (c .before .before .before .before .before .before .before .before .before .before .before .before .before .before .before .before .before .before .before .before .before
         .before .args .blocks .now) (c .before .before .before .before .before .before .before .before .before .before .before .before .before .before .before .before .before .before .before
@@ -103,7 +104,7 @@ same-length-4 : tie.Need-same-length-4
 same-length-4 c = search needs
 
 returns-3 : tie.Need-returns-3
-returns-3 c = took-acted _ _ _ _ _ (c .before .before .before .before .before .before .before .before .before .before .before .before .before .before .before .before .before .before .before
+returns-3 c = took-acted _ _ _ _ _ _ (c .before .before .before .before .before .before .before .before .before .before .before .before .before .before .before .before .before .before .before
     .before .before .before .before .before .before .before .before .args .block .now)
     (c .before .before .before .before .before .before .before .before .before .before .before .before .before .before .before .before .before .before .before .before .before .before .before
     .before .before .before .before .args .blocks .now)

@@ -10,7 +10,7 @@ use Rattle.byte_lists.specs.Lists.{same}
 use Rattle.byte_lists.proofs.Laws.BoolLaws.{and-left, and-right}
 use Rattle.byte_lists.proofs.Laws.SameLaws.{same-true}
 use Rattle.register.proofs.Laws.Opened.{settings-open, little-open, block-open, image-open, gf256-open, poly-open, interpolate-open, erasure-open}
-use Rattle.figures.specs.Figures.{Figure, number, bytes, time, passes, refusal, Row, drawn, drawFor, refusedBy, refusalFor, checkAt, freshImage}
+use Rattle.figures.specs.Figures.{Figure, number, bytes, time, passes, refusal, Row, drawn, drawFor, placed, refusedBy, refusalFor, placeIn4, checkAt, freshImage}
 use Rattle.figures.specs.Figures.{figures, Hold, FiguresHold}
 
 -- a figure as its sort and its content, and read back
@@ -64,5 +64,7 @@ held (r ∷ rows) e = (alike-same (r .given) (r .figure) (and-left _ _ e), held 
 
 pub figures-hold : FiguresHold
 unfolding settings-open little-open block-open image-open gf256-open poly-open interpolate-open erasure-open
-    drawn drawFor refusedBy refusalFor checkAt freshImage figures sort content alike agree
+    Rattle.volume.specs.ClientPlaces.stripeOf Rattle.volume.specs.ClientPlaces.dataBlockOf Rattle.volume.specs.ClientPlaces.clientBlocks
+    Rattle.volume.specs.ClientPlaces.clientRefusal Rattle.volume.specs.ClientPlaces.placeRefusal Rattle.volume.specs.ClientPlaces.placeOf
+    drawn drawFor placed refusedBy refusalFor placeIn4 checkAt freshImage figures sort content alike agree
 figures-hold = held figures refl

@@ -5,7 +5,7 @@ use Rattle.byte_lists.specs.Little.{little, byteOf}
 use Rattle.image_block.specs.Block.{bodyBytes, weighted, checkOf, sealed, headBody, entryBody, unusedBody, unusedBlock}
 use Rattle.byte_lists.specs.Lists.{zeros}
 
-pub fresh-head-check : checkOf (headBody (record { n = 3; m = 1; size = 1; capacity = 4 }) 0 1 0) ≡ 55
+pub fresh-head-check : checkOf (headBody (record { n = 3; m = 1; size = 1; capacity = 4; stripes = 1 }) 0 1 0) ≡ 55
 unfolding weighted checkOf headBody little byteOf zeros
 fresh-head-check = refl
 

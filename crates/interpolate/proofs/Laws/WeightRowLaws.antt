@@ -1,19 +1,19 @@
--- Blocks as sums of weighted blocks, and blocks in a row.
+-- Blocks as sums of weighted blocks.
 use mathlib.Core.Path.{_≡_, refl, sym, ap, ap₂, _∙_}
-use mathlib.Core.List.{List, _++_, append-assoc}
+use mathlib.Core.List.{List}
 use Prim.Native.Nat.{ℕ, suc, _+_, _-_, _*_, _≤_, _<_}
-use native.Mathlib.Nat.{zero-mul, suc-mul, mul-le-mul-right}
+use native.Mathlib.Nat.{suc-mul, mul-le-mul-right}
 use native.Mathlib.Numerals.{add-one}
 use native.Mathlib.Omega.{arith}
-use lib.ListN.{length, getD, take, drop, length-append, length-drop}
-use lib.Seq.{getD-take, getD-drop, length-take-le, take-all, take-at}
-use borrow.Rule.Slice.PartMut.{putMid, postOf, same-len-mid}
+use lib.ListN.{length, getD, take, drop}
+use lib.Seq.{getD-take, getD-drop}
 use Rattle.gf256.specs.Product.{plus, product}
 use Rattle.interpolate.specs.Bytes.{Byte, byte, byteField}
 use Rattle.interpolate.proofs.Laws.ByteLaws.{byte-small, add-is, mul-is, bytes-are-a-field}
 use Rattle.interpolate.proofs.Laws.FirstPlaceLaws.{place-is, place-not}
 use Rattle.interpolate.specs.Workers.{firstPlace, scaled, pointsOf, weight}
-use Rattle.byte_lists.specs.Lists.{tabulate, stacked}
+use Rattle.byte_lists.specs.Lists.{tabulate}
+use Rattle.byte_lists.proofs.Laws.StackLaws.{part-length}
 use Rattle.byte_lists.proofs.Laws.TabulateLaws.{length-tabulate, getD-tabulate, tabulate-by, tabulate-ext}
 use Rattle.interpolate.specs.Values.{byteAt, valueAt, blockAt, PointSet}
 use Rattle.poly.proofs.Laws.InterpolationLaws.{interpolated-at}
@@ -69,10 +69,6 @@ pub part-is : (size : ℕ) (blocks : List ℕ) (k at : ℕ) → at ≡ k * size 
 part-is size blocks k at e =
     ap₂ (λ (a b : ℕ). take a (drop b blocks)) (let s : at + size - at ≡ size = omega arith in s) e
 
-pub part-length : (size : ℕ) (blocks : List ℕ) (at : ℕ) → at + size ≤ length blocks → length (take (at + size - at) (drop at blocks)) ≡ size
-part-length size blocks at h =
-    length-take-le (at + size - at) (drop at blocks) (let d = length-drop at blocks in omega arith) ∙ (let s : at + size - at ≡ size = omega arith in s)
-
 -- one turn of the loop
 pub row-step : (points : List ℕ) (size : ℕ) (blocks out r : List ℕ) (x k at w : ℕ) → ((i : ℕ) → getD blocks i 0 < 256)
     → at ≡ k * size → out ≡ tabulate size (partial points size blocks x k) → weight points k x ≡ w
@@ -116,36 +112,3 @@ row-found points size blocks r x k sp sb ps ek h el er =
 -- where the code finds no point
 pub row-not-found : (points : List ℕ) (x k : ℕ) → k ≡ firstPlace points x → length points ≤ k → (j : ℕ) → j < length points → getD points j 0 ≡ x → ⊥
 row-not-found points x k ek h = place-not points x (let q = ek in omega arith)
-
--- The blocks of a row, one after the other. What the code has after block x: the first x blocks, and then the rest as it was.
-pub record Stacked (f : ℕ → List ℕ) (size : ℕ) (old out : List ℕ) (x at : ℕ) : Type 0 where
-  pub done : take at out ≡ stacked x f
-  pub place : at ≡ x * size
-  pub size-kept : length out ≡ length old
-
-pub stacked-none : (f : ℕ → List ℕ) (size : ℕ) (old : List ℕ) → Stacked f size old old 0 0
-unfolding stacked
-stacked-none f size old = record { done = refl; place = sym (zero-mul size); size-kept = refl }
-
-pub stacked-all : (f : ℕ → List ℕ) (size : ℕ) (old out : List ℕ) (x at count : ℕ) → Stacked f size old out x at → count ≤ x → x ≤ count
-    → length old ≡ count * size → out ≡ stacked count f
-stacked-all f size old out x at count h a b e =
-    let same : x ≡ count = omega arith in
-    let q = ap (λ (j : ℕ). j * size) same in
-    sym (take-all at out (let k = h .size-kept in let p = h .place in omega arith)) ∙ h .done ∙ ap (λ (j : ℕ). stacked j f) same
-
-pub stacked-more : (f : ℕ → List ℕ) (size : ℕ) (old out ys : List ℕ) (x at : ℕ) → Stacked f size old out x at → at + size ≤ length out
-    → length ys ≡ size → ys ≡ f x → Stacked f size old (putMid at (at + size - at) out ys) (x + 1) (at + size)
-unfolding stacked
-stacked-more f size old out ys x at h u l e =
-    let s : at + size - at ≡ size = omega arith in
-    record {
-      done =
-          ap (take (at + size)) (sym (append-assoc (take at out) ys (postOf at (at + size - at) out)))
-          ∙ take-at (take at out ++ ys) (postOf at (at + size - at) out) (at + size)
-          (length-append (take at out) ys ∙ (let t = length-take-le at out (omega arith) in omega arith))
-          ∙ ap₂ (λ (a b : List ℕ). a ++ b) (h .done) e
-          ∙ ap (λ (j : ℕ). stacked j f) (sym (add-one x));
-      place = let p = h .place in omega arith;
-      size-kept = same-len-mid at (at + size - at) out ys (l ∙ sym (part-length size out at u)) ∙ h .size-kept;
-    }

@@ -5,7 +5,8 @@ use native.Mathlib.Omega.{arith}
 use lib.ListN.{length}
 use mathlib.Core.Path.{_≡_, refl, sym, ap, _∙_}
 use Prim.Native.Nat.{_+_, _*_, _-_, _≤_}
-use Rattle.interpolate.proofs.Laws.WeightRowLaws.{partial, row-none, row-step, row-all, part-length}
+use Rattle.interpolate.proofs.Laws.WeightRowLaws.{partial, row-none, row-step, row-all}
+use Rattle.byte_lists.proofs.Laws.StackLaws.{part-length}
 use Rattle.byte_lists.specs.Lists.{tabulate}
 use Rattle.interpolate.proofs.combine.Statement.{statement}
 use Rattle.interpolate.proofs.combine.Tie as tie

@@ -5,7 +5,7 @@ use lib.ListN.{length}
 use mathlib.Core.Path.{refl, sym, ap, _∙_}
 use Prim.Native.Nat.{ℕ, _+_, _-_, _*_, _≤_}
 use Rattle.interpolate.proofs.Laws.WeightLaws.{differences-none}
-use Rattle.interpolate.proofs.Laws.WeightRowLaws.{Stacked, stacked-none, stacked-more, stacked-all, part-length}
+use Rattle.byte_lists.proofs.Laws.StackLaws.{Stacked, stacked-none, stacked-more, stacked-all, part-length}
 use Rattle.interpolate.specs.Values.{blockAt, blocksAt}
 use Rattle.interpolate.proofs.interpolate.Statement.{statement}
 use Rattle.interpolate.proofs.interpolate.Tie as tie

@@ -3,60 +3,59 @@ use mathlib.Core.Path.{_≡_, refl, sym, ap, ap₂, subst, _∙_}
 use mathlib.Core.Bool.{Bool, true, false, cond}
 use mathlib.Core.List.{List, [], List·Memᴰ·head, List·Memᴰ·tail, _++_}
 use Prim.Native.Nat.{ℕ, suc, _%_, _*_, _≤_, _<_}
-use native.Mathlib.Nat.{mod-lt, mul-le-mul-right, suc-mul}
+use native.Mathlib.Nat.{mod-lt}
 use native.Mathlib.Omega.{arith}
 use lib.Dec.{eqb, ltb}
-use lib.ListN.{length, drop, replicate, length-replicate, length-drop}
-use lib.Seq.{length-take-le}
+use lib.ListN.{length, replicate, length-replicate}
 use borrow.Author.Tests.{eqb-true, eqb-false}
 use Rattle.settings.specs.Ranges.{inRange}
 use Rattle.settings.specs.Times.{coordinatorCount, lastCoordinator, coordinatorOf}
 use Rattle.settings.specs.declared.Settings.{Settings}
-use Rattle.settings.proofs.Laws.RefusalLaws.{passed-first}
+use Rattle.settings.specs.Refusal.{passed}
 use Rattle.byte_lists.specs.Little.{Bytes}
 use Rattle.byte_lists.proofs.Laws.LittleLaws.{bytes-pass}
 use Rattle.message.specs.Kinds.{writeKind}
 use Rattle.message.specs.declared.Message.{Message}
 use Rattle.message.specs.declared.Reply.{Reply}
-use Rattle.image.proofs.Laws.ParseLaws.{range-of}
-use Rattle.erasure.specs.Code.{firstPoints, codedOf, blockOf}
-use Rattle.interpolate.proofs.Laws.BlockLaws.{length-blocksAt}
-use Rattle.brick.specs.Receive.{Outcome, outcome, outcomeWith, blocksRefusal, receiveRefusal}
+use Rattle.brick.specs.Receive.{Outcome, outcome, outcomeWith, frontRefusal, refusedWith, givenNumber}
 use Rattle.brick.specs.declared.Given.{Given}
-use Rattle.brick.proofs.Laws.GivenNumberLaws.{outcome-number}
-use Rattle.brick.proofs.Laws.OutcomeLaws.{blocks-passed}
+use Rattle.brick.proofs.Laws.OutcomeLaws.{Fronted, fronted}
+use Rattle.volume.specs.Rows.{imageAt, inRow, rowRefusal, rowOutcome}
 use Rattle.coord_apply.specs.Acts.{buffered}
 use Rattle.coord_apply.specs.Answers.{Buffered, Step, refused, went, returned, returnedBy}
 use Rattle.coord_apply.specs.declared.Answer.{Answer}
 use Rattle.coordinator.specs.Routines.{takeStep, crashStep, writeStep, readStep}
 use Rattle.coord_laws.proofs.Laws.StepRunLaws.{took}
-use Rattle.order.specs.Claim.{OneOrder, _∈_}
-use Rattle.register.specs.Runs.{plain, Item, message, reply, World, Event, startWrite, startRead, arrives, crashes, goesDown, comesUp, untouched, lost, Moved, unmoved, joined}
-use Rattle.register.specs.Runs.{coordinated, repliedWith, received, arriving, arrivingAt, standing, step, run, putAt, broadcasts}
+use Rattle.order.specs.Claim.{_∈_}
+use Rattle.register.specs.Runs.{Item, message, reply, World, Event, startWrite, startRead, arrives, crashes, goesDown, comesUp, untouched, lost, Moved, unmoved, joined}
+use Rattle.register.specs.Runs.{coordinated, repliedWith, received, arriving, arrivingAt, standing, step, run, putAt, onStripe, broadcasts}
 use Rattle.register.specs.Driver.{driven, Short, holds, heldBlock, failed, cutOf, backWith}
 use Rattle.register.specs.Lending.{SameAnswer}
 use Rattle.register.specs.CallLoop.{BufferLengths, RoutineCalls, begin, start-write, start-read, take-reply, crash}
 use Rattle.register.specs.CallLoop.{receive, goes-down, comes-up, power-fails, WriteEnsures, ReadEnsures, TakeEnsures}
 use Rattle.register.specs.CallLoop.{CrashEnsures, Agrees, WhoeverCallsMakesARun, WhoeverCallsHasOneOrder}
-use Rattle.register.proofs.Laws.AgreeLaws.{Same, Made, made-more, made-still, driven-is}
-use Rattle.register.proofs.Laws.BesideLaws.{Blank, calls-blank}
+use Rattle.register.proofs.Laws.AgreeLaws.{Same, Made, made-has-one-order, made-more, made-still, driven-is}
+use Rattle.register.proofs.Laws.BesideLaws.{Proper, calls-proper}
 use Rattle.register.proofs.Laws.CallStartLaws.{crash-fails, start-made}
 use Rattle.register.proofs.Laws.DriverLaws.{left-untouched, write-short, read-short, crash-short, take-short}
-use Rattle.register.proofs.Laws.Invariant.{MessageInv}
 use Rattle.register.proofs.Laws.LendingLaws.{lent-bytes-make-no-difference, unheld-blocks-make-no-difference, zeros-held}
-use Rattle.register.proofs.Laws.RefusedEventLaws.{refused-kept, kept-unmoved}
-use Rattle.register.proofs.Laws.TheoremProof.{run-holds, every-run-has-one-order}
+use Rattle.register.proofs.Laws.RefusedEventLaws.{row-refused-kept, kept-unmoved}
 
--- each coded block has the size of a block
-coded-long : (n m size : ℕ) (stripe : List ℕ) (b : ℕ) → b < n → length (blockOf size (codedOf n m size stripe) b) ≡ size
-unfolding blockOf codedOf
-coded-long n m size stripe b l =
-    length-take-le size (drop (b * size) (codedOf n m size stripe))
-    (let d = length-drop (b * size) (codedOf n m size stripe) in
-    let k = length-blocksAt (firstPoints m) size stripe n in
-    let h = mul-le-mul-right size l in
-    let q = suc-mul b size in
-    omega arith)
+-- what a brick does not refuse was lent with the lengths that the settings ask for
+row-passed : (s : Settings) (b : ℕ) (row : List ℕ) (msg : Message) (block out : List ℕ)
+    → givenNumber (rowOutcome s b row msg block out .given) ≡ passed → Fronted s (s .stripes) b (length row) (msg .stripe) (length block) (length out)
+unfolding rowOutcome rowRefusal refusedWith givenNumber
+row-passed s b row msg block out e =
+    fronted s (s .stripes) b (length row) (msg .stripe) (length block) (length out) number refl (go (eqb number passed) refl e)
+  where
+    number : ℕ
+    number = frontRefusal s (s .stripes) b (length row) (msg .stripe) (length block) (length out)
+
+    go : (a : Bool) → eqb number passed ≡ a
+        → givenNumber (cond a (inRow s (msg .stripe) row (outcome s b (imageAt s (msg .stripe) row) msg block out)) (refusedWith number row out) .given) ≡ passed
+        → number ≡ passed
+    go true q h = eqb-true number passed q
+    go false q h = h
 
 -- two functions with another value at one place
 put-agrees : {A : Type 0} {P : ℕ → Type 0} (f g : ℕ → A) (k : ℕ) (a b : A) → a ≡ b → ((j : ℕ) → P j → f j ≡ g j)
@@ -72,10 +71,10 @@ module _ (s : Settings) where
   module _ (w v : World) (a : Agrees s w v) where
     coordinated-same : (c : ℕ) (p : Step) → Same s (coordinated s w c p) (coordinated s v c p)
     unfolding coordinated unmoved
-    coordinated-same c (refused number) = record { same-seen = refl; agrees = a }
+    coordinated-same c (refused number) = record { same-seen = λ k. refl; agrees = a }
     coordinated-same c (went g) =
         record {
-          same-seen = refl;
+          same-seen = λ k. refl;
           agrees = record {
             same-image = a .same-image;
             same-up = a .same-up;
@@ -95,7 +94,7 @@ module _ (s : Settings) where
     unfolding received
     received-same b o o′ ei er =
         record {
-          same-seen = refl;
+          same-seen = λ k. refl;
           agrees = record {
             same-image = put-agrees (w .images) (v .images) b (o .image) (o′ .image) ei (a .same-image);
             same-up = a .same-up;
@@ -109,12 +108,12 @@ module _ (s : Settings) where
     standing-same b how = go (ltb b (s .n))
       where
         stood : World → Moved s
-        stood x = record { world = record { images = x .images; up = putAt (x .up) b how; coordinators = x .coordinators; sent = x .sent }; seen = [] }
+        stood x = record { world = record { images = x .images; up = putAt (x .up) b how; coordinators = x .coordinators; sent = x .sent }; seen = λ (k : ℕ). [] }
 
         go : (t : Bool) → Same s (cond t (stood w) (unmoved s w)) (cond t (stood v) (unmoved s v))
         go true =
             record {
-              same-seen = refl;
+              same-seen = λ k. refl;
               agrees = record {
                 same-image = a .same-image;
                 same-up = put-agrees (w .up) (v .up) b how how refl (a .same-up);
@@ -122,13 +121,13 @@ module _ (s : Settings) where
                 same-sent = a .same-sent;
               };
             }
-        go false = record { same-seen = refl; agrees = a }
+        go false = record { same-seen = λ k. refl; agrees = a }
 
     failed-same : (c : ℕ) → c ≤ lastCoordinator → (blocks stripe : List ℕ) → Same s (failed s w c blocks stripe) (failed s v c blocks stripe)
     unfolding failed
     failed-same c l blocks stripe =
         record {
-          same-seen = ap (λ (k : Buffered). cutOf s (k .state .op)) (a .same-coordinator c l);
+          same-seen = λ j. ap (λ (k : Buffered). onStripe (k .state .op .stripe) (cutOf s (k .state .op)) j) (a .same-coordinator c l);
           agrees = record {
             same-image = a .same-image;
             same-up = a .same-up;
@@ -176,29 +175,29 @@ module _ (s : Settings) where
         (subst (λ (x : Moved s). Same s x (step s v e)) (sym (driven-is s w c (q (w .coordinators c)) a blocks′ stripe′ coded coded′ (short (w .coordinators c)) f))
         (subst (λ (x : Moved s). Same s (coordinated s w c (q (w .coordinators c))) x) (sym is) (routine-same w v agree c l q)))
 
-    write-made : (c : ℕ) → c ≤ lastCoordinator → (reading : ℕ) (content : List ℕ) → Bytes content
-        → (a : Answer) (stripe : List ℕ) → WriteEnsures s (w .coordinators c) a reading content stripe
+    write-made : (c : ℕ) → c ≤ lastCoordinator → (number reading : ℕ) (content : List ℕ) → Bytes content
+        → (a : Answer) (stripe : List ℕ) → WriteEnsures s (w .coordinators c) a number reading content stripe
         → Made s (joined s r (driven s w c a (w .coordinators c .blocks) stripe []))
     unfolding step buffered
-    write-made c l reading content small a stripe f =
-        routine-made (startWrite c reading content) c l (λ (k : Buffered). writeStep (s .n) (s .m) (s .size) k reading content)
-        (λ k. write-short (s .n) (s .m) (s .size) k reading content) (rw (bytes-pass content small) refl)
+    write-made c l number reading content small a stripe f =
+        routine-made (startWrite c number reading content) c l (λ (k : Buffered). writeStep (s .n) (s .m) (s .size) (s .stripes) k number reading content)
+        (λ k. write-short (s .n) (s .m) (s .size) (s .stripes) k number reading content) (rw (bytes-pass content small) refl)
         a (w .coordinators c .blocks) stripe [] [] (f (w .coordinators c .blocks) [])
 
-    read-made : (c : ℕ) → c ≤ lastCoordinator → (reading first : ℕ) (a : Answer) → ReadEnsures s (w .coordinators c) a reading first
+    read-made : (c : ℕ) → c ≤ lastCoordinator → (number reading first : ℕ) (a : Answer) → ReadEnsures s (w .coordinators c) a number reading first
         → Made s (joined s r (driven s w c a (w .coordinators c .blocks) (w .coordinators c .stripe) []))
     unfolding step buffered
-    read-made c l reading first a f =
-        routine-made (startRead c reading first) c l (λ (k : Buffered). readStep (s .n) (s .m) (s .size) k reading first)
-        (λ k. read-short (s .n) (s .m) (s .size) k reading first) refl
+    read-made c l number reading first a f =
+        routine-made (startRead c number reading first) c l (λ (k : Buffered). readStep (s .n) (s .m) (s .size) (s .stripes) k number reading first)
+        (λ k. read-short (s .n) (s .m) (s .size) (s .stripes) k number reading first) refl
         a (w .coordinators c .blocks) (w .coordinators c .stripe) [] [] (f (w .coordinators c .blocks) (w .coordinators c .stripe) [])
 
     crash-made : (c : ℕ) → c ≤ lastCoordinator → (a : Answer) → CrashEnsures s (w .coordinators c) a
         → Made s (joined s r (driven s w c a (w .coordinators c .blocks) (w .coordinators c .stripe) []))
     unfolding step buffered
     crash-made c l a f =
-        routine-made (crashes c untouched) c l (crashStep (s .n) (s .m) (s .size)) (λ k. crash-short (s .n) (s .m) (s .size) k)
-        (ap (coordinated s v c) (left-untouched s (crashStep (s .n) (s .m) (s .size) (v .coordinators c))))
+        routine-made (crashes c untouched) c l (crashStep (s .n) (s .m) (s .size) (s .stripes)) (λ k. crash-short (s .n) (s .m) (s .size) (s .stripes) k)
+        (ap (coordinated s v c) (left-untouched s (crashStep (s .n) (s .m) (s .size) (s .stripes) (v .coordinators c))))
         a (w .coordinators c .blocks) (w .coordinators c .stripe) [] [] (f (w .coordinators c .blocks) (w .coordinators c .stripe) [])
 
     -- a reply is handed on: with a buffer to send from of the right length, as in the run; with another it is refused
@@ -213,7 +212,7 @@ module _ (s : Settings) where
         c = coordinatorOf (x .time)
 
         taking : List ℕ → ℕ → Buffered → Step
-        taking beside long k = takeStep (s .n) (s .m) (s .size) k x beside long
+        taking beside long k = takeStep (s .n) (s .m) (s .size) (s .stripes) k x beside long
 
         p : Step
         p = taking lent (length coded) (w .coordinators c)
@@ -222,7 +221,7 @@ module _ (s : Settings) where
         not-taken : (length coded ≡ s .n * s .size → ⊥) → (q : Step) → p ≡ q → coordinated s w c q ≡ unmoved s w
         not-taken n (refused number) e = unfold coordinated in refl
         not-taken n (went g) e =
-            absurd (n (took (s .n) (s .m) (s .size) (w .coordinators c) x lent (length coded) g e .takes .coded-length))
+            absurd (n (took (s .n) (s .m) (s .size) (s .stripes) (w .coordinators c) x lent (length coded) g e .takes .coded-length))
 
         low : c ≤ lastCoordinator
         low = let h : x .time % coordinatorCount < coordinatorCount = mod-lt (x .time) (omega arith) in omega (arith, h)
@@ -233,14 +232,14 @@ module _ (s : Settings) where
         go : (t : Bool) → eqb (length coded) (s .n * s .size) ≡ t → Made s (joined s r (driven s w c a blocks′ stripe′ coded′))
         go true e =
             let place = place-of v there in
-            routine-made (arrives (place .0)) c low (taking block (s .n * s .size)) (λ k. take-short (s .n) (s .m) (s .size) k x block (s .n * s .size))
+            routine-made (arrives (place .0)) c low (taking block (s .n * s .size)) (λ k. take-short (s .n) (s .m) (s .size) (s .stripes) k x block (s .n * s .size))
             (place .1) a blocks′ stripe′ coded coded′
             (f ∙ ap (returnedBy (w .coordinators c) coded)
-            (unheld-blocks-make-no-difference (s .n) (s .m) (s .size) (w .coordinators c) x lent block (length coded) same
+            (unheld-blocks-make-no-difference (s .n) (s .m) (s .size) (s .stripes) (w .coordinators c) x lent block (length coded) same
             ∙ ap (λ (long : ℕ). taking block long (w .coordinators c)) (eqb-true (length coded) (s .n * s .size) e)))
         go false e =
             made-still s r made (driven s w c a blocks′ stripe′ coded′)
-            (driven-is s w c p a blocks′ stripe′ coded coded′ (take-short (s .n) (s .m) (s .size) (w .coordinators c) x lent (length coded)) f
+            (driven-is s w c p a blocks′ stripe′ coded coded′ (take-short (s .n) (s .m) (s .size) (s .stripes) (w .coordinators c) x lent (length coded)) f
             ∙ not-taken (eqb-false (length coded) (s .n * s .size) e) p refl)
 
     fails-made : (c : ℕ) → c ≤ lastCoordinator → (blocks stripe : List ℕ) → BufferLengths s blocks stripe → Made s (joined s r (failed s w c blocks stripe))
@@ -253,36 +252,30 @@ module _ (s : Settings) where
         made-more s r made e (standing s w b how) (subst (λ (x : Moved s). Same s (standing s w b how) x) (sym is) (standing-same w v agree b how))
 
     -- a message is handed to its brick: with blocks of the right length, as in the run; with others it is refused
-    receive-made : Blank s (w .sent) → (b : ℕ) (msg : Message) (block : List ℕ) → message b msg block ∈ w .sent → w .up b ≡ true
-        → (lent out : List ℕ) → (msg .kind ≡ writeKind → lent ≡ block) → (g : Given) (image′ out′ : List ℕ)
-        → outcomeWith g image′ out′ ≡ outcome s b (w .images b) msg lent out
-        → Made s (joined s r (received s w b (outcomeWith g image′ (heldBlock s g out′))))
-    unfolding step arriving receiveRefusal
-    receive-made blank b msg block was up lent out same g image′ out′ f = go (eqb (length lent) (s .size)) (eqb (length out) (s .size)) refl refl
+    receive-made : Proper s (w .sent) → (b : ℕ) (msg : Message) (block : List ℕ) → message b msg block ∈ w .sent → w .up b ≡ true
+        → (lent out : List ℕ) → (msg .kind ≡ writeKind → lent ≡ block) → (g : Given) (images′ out′ : List ℕ)
+        → outcomeWith g images′ out′ ≡ rowOutcome s b (w .images b) msg lent out
+        → Made s (joined s r (received s w b (outcomeWith g images′ (heldBlock s g out′))))
+    unfolding step arriving
+    receive-made proper b msg block was up lent out same g images′ out′ f = go (eqb (length lent) (s .size)) (eqb (length out) (s .size)) refl refl
       where
         noted : Outcome
-        noted = outcomeWith g image′ (heldBlock s g out′)
+        noted = outcomeWith g images′ (heldBlock s g out′)
 
         there : message b msg block ∈ v .sent
         there = subst (λ (l : List Item). message b msg block ∈ l) (agree .same-sent) was
 
-        inv : MessageInv s (range-of s range) (run-holds s (range-of s range) (made .0) .0) b msg block
-        inv = run-holds s (range-of s range) (made .0) .1 .items (message b msg block) there
+        beside : (b < s .n) × ((msg .kind ≡ writeKind → ⊥) → block ≡ replicate (s .size) 0)
+        beside = proper b msg block was
 
-        long : (t : Bool) → eqb (msg .kind) writeKind ≡ t → length block ≡ s .size
-        long true e =
-            ap (λ (l : List ℕ). length l) (inv .stores (eqb-true (msg .kind) writeKind e) .1 .coded)
-            ∙ coded-long (s .n) (s .m) (s .size) (inv .stores (eqb-true (msg .kind) writeKind e) .1 .full) b (inv .brick-low)
-        long false e =
-            ap (λ (l : List ℕ). length l) (blank b msg block was (eqb-false (msg .kind) writeKind e)) ∙ length-replicate (s .size) 0
+        -- the block that was sent is as long as the one lent
+        long : length lent ≡ s .size → (t : Bool) → eqb (msg .kind) writeKind ≡ t → length lent ≡ length block
+        long el true e = ap (λ (l : List ℕ). length l) (same (eqb-true (msg .kind) writeKind e))
+        long el false e = el ∙ sym (ap (λ (l : List ℕ). length l) (beside .1 (eqb-false (msg .kind) writeKind e)) ∙ length-replicate (s .size) 0)
 
         wrong : (length lent ≡ s .size → length out ≡ s .size → ⊥) → Made s (joined s r (received s w b noted))
         wrong n =
-            let kept = refused-kept s b (w .images b) msg lent out
-            (λ z.
-            let h = blocks-passed s (length lent) (length out) (blocksRefusal s (length lent) (length out)) refl
-            (passed-first (blocksRefusal s (length lent) (length out)) _ (sym (outcome-number s b (w .images b) msg lent out) ∙ z)) in
-            n (h .0) (h .1)) in
+            let kept = row-refused-kept s b (w .images b) msg lent out (λ z. let h = row-passed s b (w .images b) msg lent out z in n (h .block-is) (h .out-is)) in
             made-still s r made (received s w b noted)
             (kept-unmoved s w b noted
             (record {
@@ -293,17 +286,17 @@ module _ (s : Settings) where
         right : length lent ≡ s .size → length out ≡ s .size → Made s (joined s r (received s w b noted))
         right el eo =
             let place = place-of v there in
-            let o = outcome s b (w .images b) msg block (replicate (s .size) 0) in
-            let answer = lent-bytes-make-no-difference s b (w .images b) msg lent block out (replicate (s .size) 0) (el ∙ sym (long (eqb (msg .kind) writeKind) refl))
+            let o = rowOutcome s b (w .images b) msg block (replicate (s .size) 0) in
+            let answer = lent-bytes-make-no-difference s b (w .images b) msg lent block out (replicate (s .size) 0) (long el (eqb (msg .kind) writeKind) refl)
             (eo ∙ sym (length-replicate (s .size) 0)) same in
             made-more s r made (arrives (place .0)) (received s w b noted)
             (subst (λ (x : Moved s). Same s (received s w b noted) x)
             (sym
             (place .1
             ∙ ap₂
-            (λ (t : Bool) (image : List ℕ). cond t (received s v b (outcome s b image msg block (replicate (s .size) 0))) (unmoved s v))
-            (sym (agree .same-up b (inv .brick-low)) ∙ up)
-            (sym (agree .same-image b (inv .brick-low)))))
+            (λ (t : Bool) (images : List ℕ). cond t (received s v b (rowOutcome s b images msg block (replicate (s .size) 0))) (unmoved s v))
+            (sym (agree .same-up b (beside .0)) ∙ up)
+            (sym (agree .same-image b (beside .0)))))
             (received-same w v agree b noted o (ap (λ (x : Outcome). x .image) f ∙ answer .image-is)
             (ap (λ (x : Outcome). repliedWith (x .given) (heldBlock s (x .given) (x .out))) f
             ∙ held-same _ o answer
@@ -317,13 +310,14 @@ module _ (s : Settings) where
   calls-made : inRange s ≡ true → (r : Moved s) → RoutineCalls s r → Made s r
   unfolding step
   calls-made e r (begin fresh h) = start-made s e fresh h
-  calls-made e r (start-write q p c l reading content small a stripe f) = write-made e q (calls-made e q p) c l reading content small a stripe f
-  calls-made e r (start-read q p c l reading first a f) = read-made e q (calls-made e q p) c l reading first a f
+  calls-made e r (start-write q p c l number reading content small a stripe f) =
+      write-made e q (calls-made e q p) c l number reading content small a stripe f
+  calls-made e r (start-read q p c l number reading first a f) = read-made e q (calls-made e q p) c l number reading first a f
   calls-made e r (take-reply q p x block was lent h coded a blocks′ stripe′ coded′ f) =
       take-made e q (calls-made e q p) x block was lent h coded a blocks′ stripe′ coded′ f
   calls-made e r (crash q p c l a f) = crash-made e q (calls-made e q p) c l a f
-  calls-made e r (receive q p b msg block was up lent out h g image′ out′ f) =
-      receive-made e q (calls-made e q p) (calls-blank s q p) b msg block was up lent out h g image′ out′ f
+  calls-made e r (receive q p b msg block was up lent out h g images′ out′ f) =
+      receive-made e q (calls-made e q p) (calls-proper s q p) b msg block was up lent out h g images′ out′ f
   calls-made e r (goes-down q p b) = stands-made e q (calls-made e q p) (goesDown b) b false refl
   calls-made e r (comes-up q p b) = stands-made e q (calls-made e q p) (comesUp b) b true refl
   calls-made e r (power-fails q p c l blocks stripe f) = fails-made e q (calls-made e q p) c l blocks stripe f
@@ -332,6 +326,4 @@ pub whoever-calls-makes-a-run : WhoeverCallsMakesARun
 whoever-calls-makes-a-run s e r p = calls-made s e r p
 
 pub whoever-calls-has-one-order : WhoeverCallsHasOneOrder
-whoever-calls-has-one-order s e r p =
-    let made = whoever-calls-makes-a-run s e r p in
-    subst (OneOrder (plain s)) (sym (made .1)) (every-run-has-one-order s e (made .0))
+whoever-calls-has-one-order s e r p = made-has-one-order s e r (whoever-calls-makes-a-run s e r p)

@@ -9,22 +9,21 @@ use borrow.Author.Tests.{eqb-true, eqb-false, eq-eqb}
 use Rattle.settings.specs.Ranges.{inRange}
 use Rattle.settings.specs.Times.{coordinatorCount, lastCoordinator}
 use Rattle.settings.specs.declared.Settings.{Settings}
-use Rattle.image.specs.Brick.{freshBrick}
-use Rattle.image.specs.Image.{imageOf}
-use Rattle.image_write.specs.Saving.{freshAfter}
+use Rattle.volume.specs.Rows.{freshRow, freshRowAfter}
 use Rattle.coord_record.specs.Records.{idleKind, noOp, geometryOf, idleWith, noBricks}
 use Rattle.coord_record.specs.declared.Coordinator.{Coordinator}
 use Rattle.coord_apply.specs.Acts.{ending}
 use Rattle.coord_apply.specs.Answers.{Buffered, Broadcast, Step, went, nothingSeen, cutSeen}
+use Rattle.coord_apply.specs.declared.Notice.{Notice}
 use Rattle.coordinator.specs.Routines.{crashed}
 use Rattle.order.specs.Claim.{cut, Seen}
 use Rattle.register.specs.Runs.{plain, Item, World, freshSet, idle, Event, crashes, lost}
-use Rattle.register.specs.Runs.{Moved, unmoved, joined, putAt, seenOf, broadcasts, coordinated}
+use Rattle.register.specs.Runs.{Moved, unmoved, joined, putAt, onStripe, seenOf, broadcasts, coordinated}
 use Rattle.register.specs.Runs.{leftBy, step, runFrom, run}
 use Rattle.register.specs.Driver.{cutOf, backWith, failed}
 use Rattle.register.specs.CallLoop.{BufferLengths, Started}
 use Rattle.register.proofs.Laws.AgreeLaws.{run-more, Made}
-use Rattle.register.proofs.Laws.DriverLaws.{left-lost}
+use Rattle.register.proofs.Laws.DriverLaws.{seen-nowhere, left-lost}
 use Rattle.register.proofs.Laws.LendingLaws.{crash-goes-on, crash-leaves}
 
 module _ (s : Settings) where
@@ -37,14 +36,15 @@ module _ (s : Settings) where
       go true = refl
       go false = refl
 
-  crashed-seen : (k x : Buffered) → seenOf s (crashed k .seen) x ≡ cutOf s (k .state .op)
+  crashed-seen : (k x : Buffered) → onStripe (crashed k .seen .stripe) (seenOf s (crashed k .seen) x) ≡ onStripe (k .state .op .stripe) (cutOf s (k .state .op))
   unfolding crashed ending cutOf seenOf nothingSeen
   crashed-seen k x = go (eqb (k .state .op .kind) idleKind)
     where
-      go : (t : Bool)
-          → seenOf s (cond t (record { next = k; sent = []; seen = nothingSeen }) (ending k (k .stripe) [] cutSeen noBricks) .seen) x
-          ≡ cond t [] (Seen.ended (k .state .op .time) cut ∷ [])
-      go true = refl
+      by : Bool → Notice
+      by t = cond t (record { next = k; sent = []; seen = nothingSeen }) (ending k (k .stripe) [] cutSeen noBricks) .seen
+
+      go : (t : Bool) → onStripe (by t .stripe) (seenOf s (by t) x) ≡ onStripe (k .state .op .stripe) (cond t [] (Seen.ended (k .state .op .time) cut ∷ []))
+      go true = seen-nowhere 0 ∙ sym (seen-nowhere (k .state .op .stripe))
       go false = refl
 
   -- power fails where the run has a crash that leaves these bytes in the buffers
@@ -67,7 +67,7 @@ module _ (s : Settings) where
       came-back : record { state = crashed (v .coordinators c) .next .state; blocks = blocks; stripe = stripe } ≡ back
       came-back = ap (λ (x : Coordinator). record { state = x; blocks = blocks; stripe = stripe }) (crash-leaves s e events c l)
 
-      makes : List Item → List (Seen (plain s)) → Moved s
+      makes : List Item → (ℕ → List (Seen (plain s))) → Moved s
       makes sent seen = record { world = record { images = v .images; up = v .up; coordinators = putAt (v .coordinators) c back; sent = sent }; seen = seen }
 
   -- The start: the buffers of the first k coordinators hold what is lent, by a crash of each, at which nothing is seen.
@@ -77,8 +77,8 @@ module _ (s : Settings) where
 
   module _ (range : inRange s ≡ true) (w : World) (h : Started s w) where
     record LentUpTo (k : ℕ) (m : Moved s) : Type 0 where
-      nothing-seen : m .seen ≡ []
-      fresh-image : (b : ℕ) → m .world .images b ≡ imageOf s b (freshBrick s)
+      nothing-seen : (j : ℕ) → m .seen j ≡ []
+      fresh-images : (b : ℕ) → m .world .images b ≡ freshRow s b
       is-up : (b : ℕ) → m .world .up b ≡ true
       nothing-sent : m .world .sent ≡ []
       is-idle : (c : ℕ) → m .world .coordinators c .state ≡ idleWith (geometryOf s) (record { coordinator = c; last = 0 })
@@ -89,8 +89,10 @@ module _ (s : Settings) where
     unfolding failed backWith cutOf putAt idleWith noOp
     lent-more k m l i =
         record {
-          nothing-seen = ap₂ (λ (a b : List (Seen (plain s))). a ++ b) (i .nothing-seen) (ap (λ (x : Coordinator). cutOf s (x .op)) (i .is-idle k));
-          fresh-image = i .fresh-image;
+          nothing-seen =
+              λ j. ap₂ (λ (a b : List (Seen (plain s))). a ++ b) (i .nothing-seen j)
+              (ap (λ (x : Coordinator). onStripe (x .op .stripe) (cutOf s (x .op)) j) (i .is-idle k) ∙ ap (λ (f : ℕ → List (Seen (plain s))). f j) (seen-nowhere 0));
+          fresh-images = i .fresh-images;
           is-up = i .is-up;
           nothing-sent = i .nothing-sent;
           is-idle = λ c. idle-at c (eqb c k) refl;
@@ -117,8 +119,8 @@ module _ (s : Settings) where
     unfolding lends run runFrom unmoved freshSet idle
     lent-all zero l =
         record {
-          nothing-seen = refl;
-          fresh-image = λ b. refl;
+          nothing-seen = λ j. refl;
+          fresh-images = λ b. refl;
           is-up = λ b. refl;
           nothing-sent = refl;
           is-idle = λ c. refl;
@@ -133,13 +135,13 @@ module _ (s : Settings) where
         (lent-more k (run s (lends w k)) (omega arith) (lent-all k (omega arith)))
 
     pub start-made : Made s (unmoved s w)
-    unfolding unmoved freshAfter
+    unfolding unmoved freshRowAfter
     start-made =
         let i = lent-all coordinatorCount (omega arith) in (
           lends w coordinatorCount,
-          sym (i .nothing-seen),
+          λ j. sym (i .nothing-seen j),
           record {
-            same-image = λ b l. h .images-are b l ∙ rw (eq-eqb _ _ (h .not-refused b l)) (sym (i .fresh-image b));
+            same-image = λ b l. h .images-are b l ∙ rw (eq-eqb _ _ (h .not-refused b l)) (sym (i .fresh-images b));
             same-up = λ b l. h .all-up b l ∙ sym (i .is-up b);
             same-coordinator = λ c l. i .lent-is c (omega arith);
             same-sent = h .none-sent ∙ sym (i .nothing-sent);

@@ -43,7 +43,7 @@ member-other l b j v n = ap (λ (z : ℕ). eqb z 1) (getD-set-other l b j v 0 n)
 
 -- A reply that is not refused is counted.
 pub counting-keeps : (s : Settings) (g : SettingsRange s) (h : Hist s) (sent : List Item) (c : ℕ) (k : Buffered) (r : Reply) (block : List ℕ) (coded : ℕ) (w : Went)
-    → CoordinatorInv s g h sent c k → ReplyTaken (s .n) (s .m) (s .size) k r block coded w → reply r block ∈ sent → CoordinatorInv s g h sent c (counting (s .size) k r block)
+    → CoordinatorInv s g h sent c k → ReplyTaken (s .n) (s .m) (s .size) (s .stripes) k r block coded w → reply r block ∈ sent → CoordinatorInv s g h sent c (counting (s .size) k r block)
 unfolding counting withTally tallied
 counting-keeps s g h sent c k r block coded w i t was =
     record {
@@ -83,13 +83,13 @@ counting-keeps s g h sent c k r block coded w i t was =
 
     -- the block of the brick that is counted, and those of the others
     here : (a : Bool) → r .held ≡ a → a ≡ true → blockOf (s .size) (cond a (withReplyBlock (s .size) (r .brick) block (k .blocks)) (k .blocks)) (r .brick) ≡ block
-    here true e q = placed-same (s .size) (r .brick) block (k .blocks) (t .takes .block-length e) (place-fits _ _ _ _ _ _ _ _ _ (t .takes))
+    here true e q = placed-same (s .size) (r .brick) block (k .blocks) (t .takes .block-length e) (place-fits _ _ _ _ _ _ _ _ _ _ (t .takes))
     here false e q = let z : _≡_ {A = ℕ} 0 1 = cc in absurd (omega arith)
 
     there : (a : Bool) → r .held ≡ a → (b : ℕ) → b ≢ r .brick
         → blockOf (s .size) (cond a (withReplyBlock (s .size) (r .brick) block (k .blocks)) (k .blocks)) b ≡ blockOf (s .size) (k .blocks) b
     there true e b n =
-        placed-other (s .size) (r .brick) b block (k .blocks) (t .takes .block-length e) (place-fits _ _ _ _ _ _ _ _ _ (t .takes)) n
+        placed-other (s .size) (r .brick) b block (k .blocks) (t .takes .block-length e) (place-fits _ _ _ _ _ _ _ _ _ _ (t .takes)) n
     there false e b n = refl
 
     new : CountedInv s sent after (r .brick)

@@ -1,29 +1,27 @@
--- A coordinator crashes: what holds of the world goes on to hold, whatever lies in the buffers then.
+-- A coordinator crashes: what holds of its stripe goes on to hold, whatever lies in the buffers then.
 use mathlib.Core.Path.{_≡_, refl, subst}
 use mathlib.Core.Bool.{Bool, true, false, cond, _&&_}
 use mathlib.Core.Logic.{_↔_}
 use mathlib.Core.List.{List, [], List·Memᴰ·not-nil}
 use Prim.Native.Nat.{ℕ, _*_}
 use native.Mathlib.Omega.{arith}
-use lib.Dec.{leb, eqb}
+use lib.Dec.{eqb}
 use lib.ListN.{length}
 use borrow.Author.Tests.{eqb-true, eqb-false, eq-eqb}
-use Rattle.settings.specs.Refusal.{passed}
 use Rattle.settings.specs.Ranges.{SettingsRange}
 use Rattle.byte_lists.proofs.Laws.BoolLaws.{and-left, and-right}
 use Rattle.settings.specs.declared.Settings.{Settings}
 use Rattle.coord_record.specs.Records.{noBricks, noOp, idleWith, idleKind}
 use Rattle.coord_apply.specs.Acts.{ending}
-use Rattle.coord_apply.specs.Answers.{Buffered, Went, refused, went, afterChecks, nothingSeen, cutSeen}
-use Rattle.coord_refusals.specs.Checks.{crashRefusal}
-use Rattle.coordinator.specs.Routines.{crashed, crashStep}
+use Rattle.coord_apply.specs.Answers.{Buffered, Went, nothingSeen, cutSeen}
+use Rattle.coordinator.specs.Routines.{crashed}
 use Rattle.order.specs.Claim.{Seen}
 use Rattle.order.specs.Facts.{cut, shows, endingOf}
-use Rattle.register.specs.Runs.{plain, Left, untouched, lost, Item, Moved, seenOf, broadcasts, coordinated, buffersFit, leaving, leftBy}
+use Rattle.order.specs.Valid.{Valid}
+use Rattle.register.specs.Runs.{plain, Left, untouched, lost, Item, seenOf, broadcasts, buffersFit, leaving}
 use Rattle.register.proofs.Laws.BegunLaws.{known-begun}
-use Rattle.register.proofs.Laws.Invariant.{Hist, Inv}
-use Rattle.register.proofs.Laws.Invariant.{Goes}
-use Rattle.register.proofs.Laws.TurnLaws.{Turns, TurnedRound, goes-turned, goes-refused}
+use Rattle.register.proofs.Laws.Invariant.{quorums, Hist, CoordinatorInv}
+use Rattle.register.proofs.Laws.TurnLaws.{Turns, TurnedRound}
 use Rattle.register.proofs.Laws.RoundLaws.{stays, ends}
 
 both-equal : (a b c d : ℕ) → (eqb a b && eqb c d ≡ true) ↔ ((a ≡ b) × (c ≡ d))
@@ -65,38 +63,30 @@ left-turned s g h sent c left w e same t =
       own = t .own;
     })
 
-pub crash-goes : (s : Settings) (g : SettingsRange s) (h : Hist s) (r : Moved s) → Inv s g h r → (c : ℕ) (left : Left)
-    → Goes s g r (coordinated s (r .world) c (leftBy s left (crashStep (s .n) (s .m) (s .size) (r .world .coordinators c))))
-unfolding crashStep afterChecks crashed leftBy
-crash-goes s g h r i c left = go (leb refusal passed)
+-- a crash that is not refused, at an idle coordinator or one that runs
+pub crash-turned : (s : Settings) (g : SettingsRange s) (h : Hist s) (sent : List Item) (c : ℕ) (k : Buffered) → Valid (quorums s g) h
+    → CoordinatorInv s g h sent c k → (left : Left)
+    → TurnedRound s g h sent c (record { next = leaving s left (crashed k .next); sent = crashed k .sent; seen = crashed k .seen })
+unfolding crashed
+crash-turned s g h sent c k v i left = busy (eqb (k .state .op .kind) idleKind) refl
   where
-    k : Buffered
-    k = r .world .coordinators c
-
-    refusal : ℕ
-    refusal = crashRefusal (s .n) (s .m) (s .size) (k .state)
-
     -- after a crash
     with-left : Went → Went
     with-left w = record { next = leaving s left (w .next); sent = w .sent; seen = w .seen }
 
-    cuts : (k .state .op .kind ≡ idleKind → ⊥) → TurnedRound s g h (r .world .sent) c (ending k (k .stripe) [] cutSeen noBricks)
+    cuts : (k .state .op .kind ≡ idleKind → ⊥) → TurnedRound s g h sent c (ending k (k .stripe) [] cutSeen noBricks)
     cuts n =
-        let w = i .coordinators c .runs n in
-        ends s g h (r .world .sent) c k (i .coordinators c) (i .valid) cut (k .stripe) [] cutSeen noBricks (w .own)
+        let w = i .runs n in
+        ends s g h sent c k i v cut (k .stripe) [] cutSeen noBricks (w .own)
         (record { known = known-begun w; running = w .unended; answer = tt }) (unfold ending seenOf shows endingOf in refl)
         (λ z m. absurd (unfold broadcasts in List·Memᴰ·not-nil m)) (λ b msg block m. absurd (unfold broadcasts in List·Memᴰ·not-nil m))
 
     busy : (a : Bool) → eqb (k .state .op .kind) idleKind ≡ a
-        → TurnedRound s g h (r .world .sent) c
+        → TurnedRound s g h sent c
         (with-left (cond a (record { next = k; sent = []; seen = nothingSeen }) (ending k (k .stripe) [] cutSeen noBricks)))
     busy true e =
-        left-turned s g h (r .world .sent) c left (record { next = k; sent = []; seen = nothingSeen }) (eqb-true (k .state .op .kind) idleKind e)
-        (λ a b. unfold seenOf nothingSeen in refl) (stays s g h (r .world .sent) c k (i .coordinators c) (i .valid))
+        left-turned s g h sent c left (record { next = k; sent = []; seen = nothingSeen }) (eqb-true (k .state .op .kind) idleKind e)
+        (λ a b. unfold seenOf nothingSeen in refl) (stays s g h sent c k i v)
     busy false e =
-        left-turned s g h (r .world .sent) c left (ending k (k .stripe) [] cutSeen noBricks) (unfold ending idleWith noOp in refl)
+        left-turned s g h sent c left (ending k (k .stripe) [] cutSeen noBricks) (unfold ending idleWith noOp in refl)
         (λ a b. unfold seenOf ending in refl) (cuts (eqb-false (k .state .op .kind) idleKind e))
-
-    go : (a : Bool) → Goes s g r (coordinated s (r .world) c (leftBy s left (cond a (went (crashed k)) (refused refusal))))
-    go true = goes-turned s g h r i c (with-left (crashed k)) (busy (eqb (k .state .op .kind) idleKind) refl)
-    go false = goes-refused s g h r i c refusal

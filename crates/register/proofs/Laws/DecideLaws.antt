@@ -46,7 +46,7 @@ pub record SoundOp (s : Settings) (k : Buffered) : Type 0 where
   pub first-low : k .state .op .first < s .n
   pub time-high : readingKind ≤ k .state .op .kind → k .state .op .time < noUpperEnd
 
-pub sound-op : (s : Settings) (k : Buffered) → SoundParts (s .n) (s .m) (s .size) (k .state) → SoundOp s k
+pub sound-op : (s : Settings) (k : Buffered) → SoundParts (s .n) (s .m) (s .size) (s .stripes) (k .state) → SoundOp s k
 unfolding validTime
 sound-op s k p =
     record {

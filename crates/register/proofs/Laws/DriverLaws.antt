@@ -29,7 +29,7 @@ use Rattle.coord_apply.specs.declared.Answer.{Answer}
 use Rattle.coord_record.specs.declared.Coordinator.{Coordinator}
 use Rattle.coordinator.specs.Routines.{takeStep, crashStep, crashed, drawnThen, writeStep, readStep}
 use Rattle.order.specs.Claim.{Seen}
-use Rattle.register.specs.Runs.{plain, Item, message, World, untouched, lost, Moved, unmoved, putAt, seenOf, blockFor, toAll, broadcasts}
+use Rattle.register.specs.Runs.{plain, Item, message, World, untouched, lost, Moved, unmoved, putAt, onStripe, seenOf, blockFor, toAll, broadcasts}
 use Rattle.register.specs.Runs.{coordinated, buffersFit, leaving, leftBy}
 use Rattle.register.specs.Driver.{listed, driven, AtMostTwo, none, one, two, Short}
 
@@ -40,6 +40,15 @@ put-same f c = fun-ext (λ j. go j (eqb j c) refl)
     go : (j : ℕ) (b : Bool) → eqb j c ≡ b → cond b (f c) (f j) ≡ f j
     go j true e = ap f (sym (eqb-true j c e))
     go j false e = refl
+
+-- where nothing is seen, it is nowhere seen
+pub seen-nowhere : {A : Type 0} (stripe : ℕ) → onStripe {A = A} stripe [] ≡ (λ (k : ℕ). [])
+unfolding onStripe
+seen-nowhere stripe = fun-ext (λ k. go (eqb k stripe))
+  where
+    go : {A : Type 0} (b : Bool) → cond {A = List A} b [] [] ≡ []
+    go true = refl
+    go false = refl
 
 -- only a Write round has blocks: any others in their place make no difference to other messages
 same-block : (s : Settings) (b : Broadcast) (old : List ℕ) (j : ℕ)
@@ -101,14 +110,15 @@ pub coordinated-is-driven : (s : Settings) (w : World) (c : ℕ) (p : Step) (old
     ≡ driven s w c (answerOf (w .coordinators c .state) p) (blocksAfter (w .coordinators c) p) (stripeAfter (w .coordinators c) p) (codedAfter old p)
 unfolding coordinated driven listed broadcasts unmoved answerOf blocksAfter stripeAfter codedAfter nothingSeen seenOf
 coordinated-is-driven s w c (refused number) old h =
-    ap₂ (λ (f : ℕ → Buffered) (l : List Item). makes f l []) (sym (put-same (w .coordinators) c)) (sym (append-nil (w .sent)))
+    ap₂ (λ (f : ℕ → Buffered) (l : List Item). makes f l (λ (k : ℕ). [])) (sym (put-same (w .coordinators) c)) (sym (append-nil (w .sent)))
+    ∙ ap (makes (putAt (w .coordinators) c (w .coordinators c)) (w .sent ++ [])) (sym (seen-nowhere _))
   where
-    makes : (ℕ → Buffered) → List Item → List (Seen (plain s)) → Moved s
+    makes : (ℕ → Buffered) → List Item → (ℕ → List (Seen (plain s))) → Moved s
     makes f l seen = record { world = record { images = w .images; up = w .up; coordinators = f; sent = l }; seen = seen }
 coordinated-is-driven s w c (went g) old h =
-    ap (λ (l : List Item). makes (putAt (w .coordinators) c (g .next)) (w .sent ++ l) (seenOf s (g .seen) (g .next))) (same-sent s old h)
+    ap (λ (l : List Item). makes (putAt (w .coordinators) c (g .next)) (w .sent ++ l) (onStripe (g .seen .stripe) (seenOf s (g .seen) (g .next)))) (same-sent s old h)
   where
-    makes : (ℕ → Buffered) → List Item → List (Seen (plain s)) → Moved s
+    makes : (ℕ → Buffered) → List Item → (ℕ → List (Seen (plain s))) → Moved s
     makes f l seen = record { world = record { images = w .images; up = w .up; coordinators = f; sent = l }; seen = seen }
 
 -- what a crash leaves: the buffers as they were,
@@ -137,7 +147,7 @@ unfolding drawnThen
 drawn-short (Drawn t c) f h = h t c
 drawn-short (Refused k) f h = tt
 
-module _ (n m size : ℕ) (k : Buffered) where
+module _ (n m size stripes : ℕ) (k : Buffered) where
   acted-short : (d : Decision) → AtMostTwo (acted n m size k d .sent)
   unfolding acted nextRound ending
   acted-short Abort = none
@@ -156,13 +166,13 @@ module _ (n m size : ℕ) (k : Buffered) where
       go true = none
       go false = acted-short (decided n m (k .state .op) (k .state .tally))
 
-  pub write-short : (reading : ℕ) (content : List ℕ) → Short (writeStep n m size k reading content)
+  pub write-short : (number reading : ℕ) (content : List ℕ) → Short (writeStep n m size stripes k number reading content)
   unfolding writeStep starting
-  write-short reading content = checked-short _ _ (drawn-short (drawOf (k .state .clock) reading) _ (λ t c. one _))
+  write-short number reading content = checked-short _ _ (drawn-short (drawOf (k .state .clock) reading) _ (λ t c. one _))
 
-  pub read-short : (reading first : ℕ) → Short (readStep n m size k reading first)
+  pub read-short : (number reading first : ℕ) → Short (readStep n m size stripes k number reading first)
   unfolding readStep starting
-  read-short reading first = checked-short _ _ (drawn-short (drawOf (k .state .clock) reading) _ (λ t c. one _))
+  read-short number reading first = checked-short _ _ (drawn-short (drawOf (k .state .clock) reading) _ (λ t c. one _))
 
   crashed-short : AtMostTwo (crashed k .sent)
   unfolding crashed ending
@@ -172,10 +182,11 @@ module _ (n m size : ℕ) (k : Buffered) where
       go true = none
       go false = none
 
-  pub crash-short : Short (crashStep n m size k)
+  pub crash-short : Short (crashStep n m size stripes k)
   unfolding crashStep
   crash-short = checked-short _ (went (crashed k)) crashed-short
 
-pub take-short : (n m size : ℕ) (k : Buffered) (r : Reply) (block : List ℕ) (coded : ℕ) → Short (takeStep n m size k r block coded)
+pub take-short : (n m size stripes : ℕ) (k : Buffered) (r : Reply) (block : List ℕ) (coded : ℕ) → Short (takeStep n m size stripes k r block coded)
 unfolding takeStep
-take-short n m size k r block coded = checked-short _ (went (waitingOr n m size (counting size k r block))) (waiting-short n m size (counting size k r block))
+take-short n m size stripes k r block coded =
+    checked-short _ (went (waitingOr n m size (counting size k r block))) (waiting-short n m size stripes (counting size k r block))

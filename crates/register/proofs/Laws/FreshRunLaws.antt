@@ -1,5 +1,5 @@
 -- What holds of a fresh set.
-use mathlib.Core.Path.{_≡_, refl, sym, ap, _∙_}
+use mathlib.Core.Path.{_≡_, refl, sym, ap, subst, _∙_}
 use mathlib.Core.Logic.{_⊎_, inl, inr}
 use mathlib.Core.List.{List, [], _∷_, List·Memᴰ·not-nil}
 use Prim.Native.Nat.{ℕ, _+_, _*_, _<_}
@@ -23,7 +23,9 @@ use Rattle.order.specs.Facts.{Fact, seen}
 use Rattle.order.specs.Places.{Suf, In}
 use Rattle.order.specs.Valid.{start, Val, Gone}
 use Rattle.register.specs.Runs.{plain, zeroStripe, idle, unmoved, freshSet}
-use Rattle.register.proofs.Laws.Invariant.{quorums, Means, Stands, LogHas, BrickInv, CoordinatorInv, Inv}
+use Rattle.register.proofs.Laws.Invariant.{quorums, Means, Stands, LogHas, BrickInv, CoordinatorInv, itemsOn, viewed, view, Inv}
+use Rattle.register.proofs.Laws.StripeViewLaws.{viewed-there}
+use Rattle.volume.proofs.Laws.RowLaws.{fresh-row-at}
 use Rattle.settings.proofs.Laws.RangeLaws.{in-range}
 use Rattle.register.proofs.Laws.BrickLogLaws.{carried}
 use Rattle.byte_lists.proofs.Laws.ZeroLaws.{zero-list}
@@ -95,18 +97,22 @@ module _ (s : Settings) (g : SettingsRange s) where
       keep u (inl e) = inl (0, omega (arith, fresh-count s), fresh-time s ∙ sym e)
       keep u (inr p) = absurd (in-none p)
 
-  fresh-coordinator : (c : ℕ) → CoordinatorInv s g [] [] c (idle s c)
-  unfolding idle idleWith noOp
-  fresh-coordinator c =
-      record { number = refl; used = λ t w m. absurd (in-none (w .1)); sized = none-sized; idle-is = λ e. refl; runs = λ n. absurd (n refl) }
+  fresh-coordinator : (k c : ℕ) → CoordinatorInv s g [] [] c (viewed k (idle s c))
+  fresh-coordinator k c = subst (CoordinatorInv s g [] [] c) (sym (viewed-there k (idle s c) (λ n _. n (unfold idle idleWith noOp in refl)))) fresh
+    where
+      fresh : CoordinatorInv s g [] [] c
+          (record { state = idleWith (idle s c .state .geometry) (idle s c .state .clock); blocks = idle s c .blocks; stripe = idle s c .stripe })
+      fresh =
+          unfold idle idleWith noOp in
+          record { number = refl; used = λ t w m. absurd (in-none (w .1)); sized = none-sized; idle-is = λ e. refl; runs = λ n. absurd (n refl) }
 
-  pub fresh-holds : Inv s g [] (unmoved s (freshSet s))
-  unfolding unmoved freshSet seen
-  fresh-holds =
+  pub fresh-holds : (k : ℕ) → k < s .stripes → Inv s g k [] (unmoved s (freshSet s))
+  unfolding unmoved freshSet seen view itemsOn
+  fresh-holds k low =
       record {
         valid = start;
         seen-is = refl;
-        bricks = λ b l. record { state = freshBrick s; saved = refl; sound = fresh-sound s (in-range s g); keeps = fresh-brick b l };
+        bricks = λ b l. record { state = freshBrick s; saved = fresh-row-at s g b k low; sound = fresh-sound s (in-range s g); keeps = fresh-brick b l };
         items = λ i m. absurd (List·Memᴰ·not-nil m);
-        coordinators = fresh-coordinator;
+        coordinators = fresh-coordinator k;
       }

@@ -26,14 +26,17 @@ use Rattle.coord_laws.proofs.Laws.TallyLaws.{zeros-at}
 use Rattle.register.specs.Lending.{SixteenPlaces}
 
 -- the settings that a sound record names
-pub made-for : (n m size : ℕ) (g : Geometry) → sameGeometry n m size g ≡ true → g ≡ record { n = n; m = m; size = size }
+pub made-for : (n m size stripes : ℕ) (g : Geometry) → sameGeometry n m size stripes g ≡ true → g ≡ record { n = n; m = m; size = size; stripes = stripes }
 unfolding sameGeometry
-made-for n m size g e =
-    let two = and-left (eqb (g .n) n && eqb (g .m) m) (eqb (g .size) size) e in
+made-for n m size stripes g e =
+    let three = and-left (eqb (g .n) n && eqb (g .m) m && eqb (g .size) size) (eqb (g .stripes) stripes) e in
+    let two = and-left (eqb (g .n) n && eqb (g .m) m) (eqb (g .size) size) three in
     let a = eqb-true (g .n) n (and-left (eqb (g .n) n) (eqb (g .m) m) two) in
     let b = eqb-true (g .m) m (and-right (eqb (g .n) n) (eqb (g .m) m) two) in
-    let d = eqb-true (g .size) size (and-right (eqb (g .n) n && eqb (g .m) m) (eqb (g .size) size) e) in
-    ap₂ (λ (x y : ℕ). record { n = x; m = y; size = g .size }) a b ∙ ap (λ (z : ℕ). record { n = n; m = m; size = z }) d
+    let d = eqb-true (g .size) size (and-right (eqb (g .n) n && eqb (g .m) m) (eqb (g .size) size) three) in
+    let f = eqb-true (g .stripes) stripes (and-right (eqb (g .n) n && eqb (g .m) m && eqb (g .size) size) (eqb (g .stripes) stripes) e) in
+    ap₂ (λ (x y : ℕ). record { n = x; m = y; size = g .size; stripes = g .stripes }) a b
+    ∙ ap₂ (λ (x y : ℕ). record { n = n; m = m; size = x; stripes = y }) d f
 
 -- a list of zeros
 all-zeros : (k : ℕ) (l : List ℕ) → length l ≡ k → ((i : ℕ) → i < k → getD l i 0 ≡ 0) → l ≡ replicate k 0
@@ -83,9 +86,9 @@ idle-bricks n l long e = all-zeros maxBricks l long (λ i h. eqb-true (getD l i 
     at : (i : ℕ) → cond (ltb i 0) (ltb (getD l i 0) n && (eqb i 0 || ltb (getD l (i - 1) 0) (getD l i 0))) (eqb (getD l i 0) 0) ≡ true → eqb (getD l i 0) 0 ≡ true
     at i q = sym (rw (le-ltb i 0 (omega arith)) refl) ∙ q
 
-idle-op : (n m size : ℕ) (c : Coordinator) → SoundParts n m size c → c .op .kind ≡ idleKind → c .op ≡ noOp
+idle-op : (n m size stripes : ℕ) (c : Coordinator) → SoundParts n m size stripes c → c .op .kind ≡ idleKind → c .op ≡ noOp
 unfolding noOp opRight unsetOp
-idle-op n m size c p k = go (sym (rw (eq-eqb (c .op .kind) idleKind k) refl) ∙ p .op-right)
+idle-op n m size stripes c p k = go (sym (rw (eq-eqb (c .op .kind) idleKind k) refl) ∙ p .op-right)
   where
     o : Op
     o = c .op
@@ -93,32 +96,38 @@ idle-op n m size c p k = go (sym (rw (eq-eqb (c .op .kind) idleKind k) refl) ∙
     time : o .time ≡ 0
     time = eqb-true (o .time) 0 (time-idle (o .kind) (o .time) (c .clock) k ∙ p .time-right)
 
-    go : eqb (o .phase) 0 && eqb (o .round) 0 && eqb (o .max) 0 && eqb (o .first) 0 ≡ true → o ≡ record { kind = 0; phase = 0; time = 0; round = 0; max = 0; first = 0 }
+    go : eqb (o .phase) 0 && eqb (o .round) 0 && eqb (o .max) 0 && eqb (o .first) 0 && eqb (o .stripe) 0 ≡ true
+        → o ≡ record { kind = 0; phase = 0; stripe = 0; time = 0; round = 0; max = 0; first = 0 }
     go e =
-        let three = and-left (eqb (o .phase) 0 && eqb (o .round) 0 && eqb (o .max) 0) (eqb (o .first) 0) e in
+        let four = and-left (eqb (o .phase) 0 && eqb (o .round) 0 && eqb (o .max) 0 && eqb (o .first) 0) (eqb (o .stripe) 0) e in
+        let three = and-left (eqb (o .phase) 0 && eqb (o .round) 0 && eqb (o .max) 0) (eqb (o .first) 0) four in
         let two = and-left (eqb (o .phase) 0 && eqb (o .round) 0) (eqb (o .max) 0) three in
         let phase = eqb-true (o .phase) 0 (and-left (eqb (o .phase) 0) (eqb (o .round) 0) two) in
         let round = eqb-true (o .round) 0 (and-right (eqb (o .phase) 0) (eqb (o .round) 0) two) in
         let max = eqb-true (o .max) 0 (and-right (eqb (o .phase) 0 && eqb (o .round) 0) (eqb (o .max) 0) three) in
-        let first = eqb-true (o .first) 0 (and-right (eqb (o .phase) 0 && eqb (o .round) 0 && eqb (o .max) 0) (eqb (o .first) 0) e) in
-        ap₂ (λ (a b : ℕ). record { kind = a; phase = b; time = o .time; round = o .round; max = o .max; first = o .first }) k phase
-        ∙ ap₂ (λ (a b : ℕ). record { kind = 0; phase = 0; time = a; round = b; max = o .max; first = o .first }) time round
-        ∙ ap₂ (λ (a b : ℕ). record { kind = 0; phase = 0; time = 0; round = 0; max = a; first = b }) max first
+        let first = eqb-true (o .first) 0 (and-right (eqb (o .phase) 0 && eqb (o .round) 0 && eqb (o .max) 0) (eqb (o .first) 0) four) in
+        let stripe = eqb-true (o .stripe) 0 (and-right (eqb (o .phase) 0 && eqb (o .round) 0 && eqb (o .max) 0 && eqb (o .first) 0) (eqb (o .stripe) 0) e) in
+        ap₂ (λ (a b : ℕ). record { kind = a; phase = b; stripe = o .stripe; time = o .time; round = o .round; max = o .max; first = o .first }) k phase
+        ∙ ap₂ (λ (a b : ℕ). record { kind = 0; phase = 0; stripe = a; time = b; round = o .round; max = o .max; first = o .first }) stripe time
+        ∙ ap₂ (λ (a b : ℕ). record { kind = 0; phase = 0; stripe = 0; time = 0; round = a; max = b; first = o .first }) round max
+        ∙ ap (λ (a : ℕ). record { kind = 0; phase = 0; stripe = 0; time = 0; round = 0; max = 0; first = a }) first
 
 none-named : (m : ℕ) (op : Op) → op .kind ≡ idleKind → namedCount m op ≡ 0
 unfolding namedCount
 none-named m op k = rw k refl
 
 -- what a sound record without an operation is
-pub idle-record : (n m size : ℕ) (c : Coordinator) → SoundParts n m size c → SixteenPlaces c → c .op .kind ≡ idleKind
-    → c ≡ idleWith (record { n = n; m = m; size = size }) (c .clock)
+pub idle-record : (n m size stripes : ℕ) (c : Coordinator) → SoundParts n m size stripes c → SixteenPlaces c → c .op .kind ≡ idleKind
+    → c ≡ idleWith (record { n = n; m = m; size = size; stripes = stripes }) (c .clock)
 unfolding idleWith noOp
-idle-record n m size c p z k =
-    let op = idle-op n m size c p k in
+idle-record n m size stripes c p z k =
+    let op = idle-op n m size stripes c p k in
     let phase : c .op .phase ≡ 0 = ap (λ (o : Op). o .phase) op in
     let tally = idle-tally n m (c .op .first) (c .tally) (z .tally-sized)
     (subst (λ (j : ℕ). tallyRight n m j (c .op .first) (c .tally) ≡ true) phase (p .tally-right)) in
     let bricks = idle-bricks n (c .bricks) (z .bricks-sized) (subst (λ (j : ℕ). bricksRight n j (c .bricks) ≡ true) (none-named m (c .op) k) (p .bricks-right)) in
     ap₂ (λ (g : Geometry) (o : Op). record { geometry = g; clock = c .clock; op = o; tally = c .tally; bricks = c .bricks })
-    (made-for n m size (c .geometry) (p .made-for)) op
-    ∙ ap₂ (λ (t : Tally) (b : List ℕ). record { geometry = record { n = n; m = m; size = size }; clock = c .clock; op = noOp; tally = t; bricks = b }) tally bricks
+    (made-for n m size stripes (c .geometry) (p .made-for)) op
+    ∙ ap₂
+    (λ (t : Tally) (b : List ℕ). record { geometry = record { n = n; m = m; size = size; stripes = stripes }; clock = c .clock; op = noOp; tally = t; bricks = b })
+    tally bricks

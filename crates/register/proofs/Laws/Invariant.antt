@@ -1,9 +1,11 @@
--- What holds of the world at each moment of a run, with the history of the run so far: for each brick, for each item sent, for each coordinator.
+-- What holds of one stripe at each moment of a run, with the history of the stripe so far: for each brick, for each item sent, for each
+-- coordinator.
 use mathlib.Core.Path.{_≡_}
 use mathlib.Core.Logic.{_⊎_}
-use mathlib.Core.Bool.{true}
-use mathlib.Core.List.{List}
+use mathlib.Core.Bool.{Bool, true, cond, not, _&&_}
+use mathlib.Core.List.{List, [], _∷_}
 use Prim.Native.Nat.{ℕ, _≤_, _<_}
+use lib.Dec.{eqb}
 use lib.ListN.{getD}
 use Rattle.settings.specs.Ranges.{quorum, SettingsRange}
 use Rattle.settings.proofs.Laws.QuorumLaws.{quorum-twice}
@@ -20,12 +22,13 @@ use Rattle.coord_record.specs.Records.{idleKind, writingKind, idleWith}
 use Rattle.coord_record.specs.CountedRules.{isTarget, blockRight}
 use Rattle.coord_apply.specs.Answers.{Buffered}
 use Rattle.coord_laws.specs.Soundness.{Sized}
-use Rattle.order.specs.Claim.{Plain, _∈_}
+use Rattle.volume.specs.Rows.{imageAt}
+use Rattle.order.specs.Claim.{Plain, Seen, _∈_}
 use Rattle.order.specs.Facts.{began, promised, stored, showed, History, seen}
 use Rattle.order.specs.Places.{In}
 use Rattle.order.specs.Quorums.{Quorums}
 use Rattle.order.specs.Valid.{Began, Launched, Ended, PromisedUpTo, Val, Committed, Gone, Valid}
-use Rattle.register.specs.Runs.{plain, Item, message, reply, Moved, joined, begunKind}
+use Rattle.register.specs.Runs.{plain, Item, message, reply, Moved, begunKind}
 
 -- The quorums of a setting.
 abbrev pub quorums : (s : Settings) → SettingsRange s → Quorums
@@ -138,6 +141,11 @@ pub record Running (s : Settings) (g : SettingsRange s) (h : Hist s) (sent : Lis
   pub storing : k .state .op .phase ≡ writeKind
       → Launched h (k .state .op .time) × Val h (k .state .op .time) (k .stripe) × Stripe (s .m) (s .size) (k .stripe)
 
+-- The clock of coordinator c: the times it used are at most its last.
+pub record ClockInv (s : Settings) (h : Hist s) (c : ℕ) (k : Buffered) : Type 0 where
+  pub number : k .state .clock .coordinator ≡ c
+  pub used : (t : ℕ) → Began h t → coordinatorOf t ≡ c → t ≤ timeOf (k .state .clock .last) c
+
 -- Coordinator c with its buffers.
 pub record CoordinatorInv (s : Settings) (g : SettingsRange s) (h : Hist s) (sent : List Item) (c : ℕ) (k : Buffered) : Type 0 where
   pub number : k .state .clock .coordinator ≡ c
@@ -155,14 +163,52 @@ pub record ImageInv (s : Settings) (g : SettingsRange s) (h : Hist s) (b : ℕ) 
   pub sound : Sound s state
   pub keeps : BrickInv s g h b state
 
--- The whole world, with what was seen so far.
-pub record Inv (s : Settings) (g : SettingsRange s) (h : Hist s) (r : Moved s) : Type 0 where
-  pub valid : Valid (quorums s g) h
-  pub seen-is : seen h ≡ r .seen
-  pub bricks : (b : ℕ) → b < s .n → ImageInv s g h b (r .world .images b)
-  pub items : (i : Item) → i ∈ r .world .sent → ItemInv s g h (r .world .sent) i
-  pub coordinators : (c : ℕ) → CoordinatorInv s g h (r .world .sent) c (r .world .coordinators c)
+-- What a world is to one stripe: its images by brick, the coordinators, what was sent and what was seen of it.
+pub record View (s : Settings) : Type 0 where
+  pub images : ℕ → List ℕ
+  pub coordinators : ℕ → Buffered
+  pub sent : List Item
+  pub seen : List (Seen (plain s))
 
--- what holds goes on to hold after an event
-abbrev pub Goes : (s : Settings) (g : SettingsRange s) → Moved s → Moved s → Type 0
-Goes s g r m = (h : Hist s) × Inv s g h (joined s r m)
+-- What holds of a view, with the history of the stripe so far.
+pub record ViewInv (s : Settings) (g : SettingsRange s) (h : Hist s) (v : View s) : Type 0 where
+  pub valid : Valid (quorums s g) h
+  pub seen-is : seen h ≡ v .seen
+  pub bricks : (b : ℕ) → b < s .n → ImageInv s g h b (v .images b)
+  pub items : (i : Item) → i ∈ v .sent → ItemInv s g h (v .sent) i
+  pub coordinators : (c : ℕ) → CoordinatorInv s g h (v .sent) c (v .coordinators c)
+
+-- the same after some event, with a longer history
+abbrev pub Goes : (s : Settings) (g : SettingsRange s) → View s → Type 0
+Goes s g v = (h : Hist s) × ViewInv s g h v
+
+-- an item of this stripe
+unfoldable pub itemOn : ℕ → Item → Bool
+itemOn k (message b msg block) = eqb (msg .stripe) k
+itemOn k (reply r block) = eqb (r .stripe) k
+
+unfoldable pub itemsOn : ℕ → List Item → List Item
+itemsOn k [] = []
+itemsOn k (i ∷ is) = cond (itemOn k i) (i ∷ itemsOn k is) (itemsOn k is)
+
+-- a coordinator runs an operation of this stripe
+unfoldable pub runsOn : ℕ → Buffered → Bool
+runsOn k h = not (eqb (h .state .op .kind) idleKind) && eqb (h .state .op .stripe) k
+
+-- A coordinator that runs on another stripe counts as idle here: of it only the clock matters.
+unfoldable pub viewed : ℕ → Buffered → Buffered
+viewed k h = cond (runsOn k h) h (record { state = idleWith (h .state .geometry) (h .state .clock); blocks = h .blocks; stripe = h .stripe })
+
+-- the world as stripe k sees it
+unfoldable pub view : {s : Settings} → ℕ → Moved s → View s
+view {s} k r =
+    record {
+      images = λ (b : ℕ). imageAt s k (r .world .images b);
+      coordinators = λ (c : ℕ). viewed k (r .world .coordinators c);
+      sent = itemsOn k (r .world .sent);
+      seen = r .seen k;
+    }
+
+-- What holds of stripe k at each moment of a run.
+abbrev pub Inv : (s : Settings) (g : SettingsRange s) → ℕ → Hist s → Moved s → Type 0
+Inv s g k h r = ViewInv s g h (view k r)

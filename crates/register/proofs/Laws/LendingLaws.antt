@@ -7,7 +7,7 @@ use native.Mathlib.Omega.{arith}
 use lib.Dec.{eqb, leb}
 use lib.ListN.{length, replicate}
 use borrow.Author.Tests.{eqb-true, leb-false}
-use Rattle.settings.specs.Ranges.{inRange, codeRefusal}
+use Rattle.settings.specs.Ranges.{inRange, codeRefusal, stripeCountRefusal}
 use Rattle.settings.proofs.Laws.RefusalLaws.{passed-rest}
 use Rattle.settings.specs.Refusal.{passed}
 use Rattle.settings.specs.Times.{lastCoordinator}
@@ -18,10 +18,10 @@ use Rattle.message.specs.declared.Reply.{Reply}
 use Rattle.image.specs.Brick.{Brick}
 use Rattle.image.specs.Image.{imageOf}
 use Rattle.image.specs.Parse.{Parsed, Opens, Refuses, parse}
-use Rattle.image.proofs.Laws.ParseLaws.{range-of}
 use Rattle.brick.specs.Receive
 use Rattle.brick.specs.Receive.{Outcome, outcome, receiveRefusal, refusedWith, givenBy}
 use Rattle.brick.specs.declared.Given.the-variants.{Answered, Silent}
+use Rattle.volume.specs.Rows.{imageAt, withImage, inRow, rowRefusal, rowOutcome}
 use Rattle.brick_log.specs.BrickRules.{placeFor, replyTo, trimmedTo, writtenIfYes, orderedIfYes, brickAfter, blockAfter}
 use Rattle.coord_record.specs.Records.{idleKind, noBricks, geometryOf, idleWith}
 use Rattle.coord_record.specs.declared.Geometry.{Geometry}
@@ -38,8 +38,7 @@ use Rattle.register.specs.Runs.{Event, repliedWith, run}
 use Rattle.register.specs.Driver.{holds, heldBlock}
 use Rattle.register.specs.Lending.{SameAnswer, LentBytesMakeNoDifference, UnheldBlocksMakeNoDifference, CrashIsIdleWith, AcceptedCrashIsIdleWith}
 use Rattle.register.proofs.Laws.IdleRecordLaws.{made-for, idle-record}
-use Rattle.register.proofs.Laws.NeverRefusedLaws.{records-open, crashes-accepted}
-use Rattle.register.proofs.Laws.TheoremProof.{run-holds}
+use Rattle.register.proofs.Laws.NeverRefusedLaws.{Rests, run-known, crashes-accepted}
 
 -- a brick keeps the block of a Write alone
 brick-same : (s : Settings) (x : Brick) (msg : Message) (block block′ : List ℕ) → (msg .kind ≡ writeKind → block ≡ block′)
@@ -78,9 +77,12 @@ opened-same s b image msg block block′ out out′ (Opens x) same =
           held-out (eqb (msg .kind) trimKind) (eqb (placeFor b x msg) 0) (replyTo s b x msg) out out′ _ refl h;
     }
 
-pub lent-bytes-make-no-difference : LentBytesMakeNoDifference
+-- of one image
+image-lent : (s : Settings) (b : ℕ) (image : List ℕ) (msg : Message) (block block′ out out′ : List ℕ)
+    → length block ≡ length block′ → length out ≡ length out′ → (msg .kind ≡ writeKind → block ≡ block′)
+    → SameAnswer (outcome s b image msg block out) (outcome s b image msg block′ out′)
 unfolding outcome refusedWith holds
-lent-bytes-make-no-difference s b image msg block block′ out out′ eb eo same =
+image-lent s b image msg block block′ out out′ eb eo same =
     subst (λ (k : ℕ). SameAnswer (by number block out) (by k block′ out′)) (ap₂ (receiveRefusal s b image msg) eb eo)
     (go (eqb number passed))
   where
@@ -94,6 +96,30 @@ lent-bytes-make-no-difference s b image msg block block′ out out′ eb eo same
         → SameAnswer (cond a (Receive.accepted s b msg block image out (parse s b image)) (refusedWith number image out))
         (cond a (Receive.accepted s b msg block′ image out′ (parse s b image)) (refusedWith number image out′))
     go true = opened-same s b image msg block block′ out out′ (parse s b image) same
+    go false = record { given-is = refl; image-is = refl; block-is = λ h. clash h }
+
+-- of a brick's images in their row
+pub lent-bytes-make-no-difference : LentBytesMakeNoDifference
+unfolding rowOutcome inRow refusedWith holds
+lent-bytes-make-no-difference s b images msg block block′ out out′ eb eo same =
+    subst (λ (k : ℕ). SameAnswer (by number block out) (by k block′ out′)) (ap₂ (rowRefusal s b images msg) eb eo)
+    (go (eqb number passed))
+  where
+    number : ℕ
+    number = rowRefusal s b images msg (length block) (length out)
+
+    acted : (block out : List ℕ) → Outcome
+    acted block out = outcome s b (imageAt s (msg .stripe) images) msg block out
+
+    by : ℕ → (block out : List ℕ) → Outcome
+    by k block out = cond (eqb k passed) (inRow s (msg .stripe) images (acted block out)) (refusedWith k images out)
+
+    go : (a : Bool)
+        → SameAnswer (cond a (inRow s (msg .stripe) images (acted block out)) (refusedWith number images out))
+        (cond a (inRow s (msg .stripe) images (acted block′ out′)) (refusedWith number images out′))
+    go true =
+        let i = image-lent s b (imageAt s (msg .stripe) images) msg block block′ out out′ eb eo same in
+        record { given-is = i .given-is; image-is = ap (λ (l : List ℕ). withImage s (msg .stripe) l images) (i .image-is); block-is = i .block-is }
     go false = record { given-is = refl; image-is = refl; block-is = λ h. clash h }
 
 -- with zeros in the reply's buffer, the block that goes with a reply is what lies there
@@ -114,11 +140,11 @@ opened-held s b image msg block (Opens x) =
     unfold givenBy replyTo blockAfter in
     zeros-there s (eqb (msg .kind) trimKind) (eqb (placeFor b x msg) 0) (replyTo s b x msg) _ refl
 
-pub zeros-held : (s : Settings) (b : ℕ) (image : List ℕ) (msg : Message) (block : List ℕ)
+image-held : (s : Settings) (b : ℕ) (image : List ℕ) (msg : Message) (block : List ℕ)
     → let o = outcome s b image msg block (replicate (s .size) 0) in
     repliedWith (o .given) (heldBlock s (o .given) (o .out)) ≡ repliedWith (o .given) (o .out)
 unfolding outcome refusedWith repliedWith
-zeros-held s b image msg block = go (eqb number passed)
+image-held s b image msg block = go (eqb number passed)
   where
     out : List ℕ
     out = replicate (s .size) 0
@@ -132,12 +158,30 @@ zeros-held s b image msg block = go (eqb number passed)
     go true = opened-held s b image msg block (parse s b image)
     go false = refl
 
+pub zeros-held : (s : Settings) (b : ℕ) (images : List ℕ) (msg : Message) (block : List ℕ)
+    → let o = rowOutcome s b images msg block (replicate (s .size) 0) in
+    repliedWith (o .given) (heldBlock s (o .given) (o .out)) ≡ repliedWith (o .given) (o .out)
+unfolding rowOutcome inRow refusedWith repliedWith
+zeros-held s b images msg block = go (eqb number passed)
+  where
+    out : List ℕ
+    out = replicate (s .size) 0
+
+    number : ℕ
+    number = rowRefusal s b images msg (length block) (length out)
+
+    go : (a : Bool)
+        → let o = cond a (inRow s (msg .stripe) images (outcome s b (imageAt s (msg .stripe) images) msg block out)) (refusedWith number images out) in
+        repliedWith (o .given) (heldBlock s (o .given) (o .out)) ≡ repliedWith (o .given) (o .out)
+    go true = image-held s b (imageAt s (msg .stripe) images) msg block
+    go false = refl
+
 pub unheld-blocks-make-no-difference : UnheldBlocksMakeNoDifference
 unfolding takeStep takeRefusal lengthsRight counting
-unheld-blocks-make-no-difference n m size k r block block′ coded same = go (r .held) refl
+unheld-blocks-make-no-difference n m size stripes k r block block′ coded same = go (r .held) refl
   where
-    go : (a : Bool) → r .held ≡ a → takeStep n m size k r block coded ≡ takeStep n m size k r block′ coded
-    go true e = ap (λ (z : List ℕ). takeStep n m size k r z coded) (same e)
+    go : (a : Bool) → r .held ≡ a → takeStep n m size stripes k r block coded ≡ takeStep n m size stripes k r block′ coded
+    go true e = ap (λ (z : List ℕ). takeStep n m size stripes k r z coded) (same e)
     go false e = rw e refl
 
 -- checks that the answer does not show passed
@@ -150,8 +194,7 @@ accepted-went c k g = go (leb k 0) refl
     go false e q = let z = leb-false k 0 e in absurd (omega (arith, z, q))
 
 -- a crash of a coordinator whose record, without an operation, is that of its clock alone
-crashed-idle : (k : Buffered) → (k .state .op .kind ≡ idleKind → k .state ≡ idleWith (k .state .geometry) (k .state .clock))
-    → crashed k .next .state ≡ idleWith (k .state .geometry) (k .state .clock)
+crashed-idle : (k : Buffered) → Rests (k .state) → crashed k .next .state ≡ idleWith (k .state .geometry) (k .state .clock)
 unfolding crashed ending
 crashed-idle k idle = go (eqb (k .state .op .kind) idleKind) refl
   where
@@ -166,18 +209,17 @@ module _ (s : Settings) (e : inRange s ≡ true) (events : List Event) (c : ℕ)
   k = run s events .world .coordinators c
 
   -- no crash of a run is refused
-  pub crash-goes-on : crashStep (s .n) (s .m) (s .size) k ≡ went (crashed k)
+  pub crash-goes-on : crashStep (s .n) (s .m) (s .size) (s .stripes) k ≡ went (crashed k)
   unfolding crashStep
-  crash-goes-on = accepted-went (k .state) (crashRefusal (s .n) (s .m) (s .size) (k .state)) (crashed k) (crashes-accepted s e events c l)
+  crash-goes-on = accepted-went (k .state) (crashRefusal (s .n) (s .m) (s .size) (s .stripes) (k .state)) (crashed k) (crashes-accepted s e events c l)
 
   pub crash-leaves : crashed k .next .state ≡ idleWith (geometryOf s) (record { coordinator = c; last = k .state .clock .last })
   unfolding geometryOf
   crash-leaves =
-      let i = run-holds s (range-of s e) events .1 .coordinators c in
-      let sound = sound-parts (s .n) (s .m) (s .size) (k .state) (records-open s e events c l .sound-is) in
-      crashed-idle k (i .idle-is)
+      let i = run-known s e events c l in
+      crashed-idle k (i .rests)
       ∙ ap₂ (λ (g : Geometry) (j : ℕ). idleWith g (record { coordinator = j; last = k .state .clock .last }))
-      (made-for (s .n) (s .m) (s .size) (k .state .geometry) (sound .made-for)) (i .number)
+      (made-for (s .n) (s .m) (s .size) (s .stripes) (k .state .geometry) (i .good .parts .made-for)) (i .number)
 
 pub crash-is-idle-with : CrashIsIdleWith
 unfolding answerOf
@@ -187,11 +229,12 @@ crash-is-idle-with s e events c l =
 -- what a crash that is not refused gives, of any record
 pub accepted-crash-is-idle-with : AcceptedCrashIsIdleWith
 unfolding crashStep answerOf crashRefusal
-accepted-crash-is-idle-with n m size k z e =
-    let refusal = crashRefusal n m size (k .state) in
+accepted-crash-is-idle-with n m size stripes k z e =
+    let refusal = crashRefusal n m size stripes (k .state) in
     let went-on = accepted-went (k .state) refusal (crashed k) e in
-    let rest = passed-rest (codeRefusal n m size) _ (passes refusal (went (crashed k)) (crashed k) went-on .0) in
-    let sound = sound-parts n m size (k .state) (record-passes n m size (k .state) [] rest .0 .is-sound) in
+    let rest = passed-rest (stripeCountRefusal stripes) _ (passed-rest (codeRefusal n m size) _ (passes refusal (went (crashed k)) (crashed k) went-on .0)) in
+    let sound = sound-parts n m size stripes (k .state) (record-passes n m size stripes (k .state) [] rest .0 .is-sound) in
+    let same = made-for n m size stripes (k .state .geometry) (sound .made-for) in
     ap (λ (p : Step). answerOf (k .state) p .next) went-on
-    ∙ crashed-idle k (λ i. idle-record n m size (k .state) sound z i ∙ ap (λ (g : Geometry). idleWith g (k .state .clock)) (sym (made-for n m size (k .state .geometry) (sound .made-for))))
-    ∙ ap (λ (g : Geometry). idleWith g (k .state .clock)) (made-for n m size (k .state .geometry) (sound .made-for))
+    ∙ crashed-idle k (λ i. idle-record n m size stripes (k .state) sound z i ∙ ap (λ (g : Geometry). idleWith g (k .state .clock)) (sym same))
+    ∙ ap (λ (g : Geometry). idleWith g (k .state .clock)) same

@@ -2,58 +2,74 @@
 use mathlib.Core.Path.{_≡_, refl, sym, ap, subst, _∙_}
 use mathlib.Core.Bool.{Bool, true, false, cond, _&&_}
 use mathlib.Core.List.{List, [], _∷_}
-use Prim.Native.Nat.{ℕ, zero, suc, _*_, _≤_}
+use Prim.Native.Nat.{ℕ, zero, suc, _*_, _≤_, _<_}
 use native.Mathlib.Omega.{arith}
 use lib.Dec.{ltb, eqb}
 use lib.ListN.{length, length-replicate}
 use borrow.Author.Tests.{eq-eqb, eqb-true, eqb-false, le-leb}
 use Rattle.message.specs.Kinds.{readKind, orderKind}
-use Rattle.settings.specs.Ranges.{bricksInRange, sizeInRange, capacityInRange, inRange, codeRefusal, quorum}
-use Rattle.settings.specs.Ranges.{SettingsRange}
-use Rattle.byte_lists.proofs.Laws.BoolLaws.{and-left}
+use Rattle.settings.specs.Ranges.{bricksInRange, sizeInRange, capacityInRange, stripesInRange, inRange, codeRefusal, stripeCountRefusal, quorum}
+use Rattle.byte_lists.proofs.Laws.BoolLaws.{and-left, and-right}
 use Rattle.settings.specs.Refusal.{passed, firstRefusal}
 use Rattle.settings.specs.Times.{maxCount, lastCoordinator, drawOf, coordinatorOf}
 use Rattle.settings.specs.declared.Clock.{Clock}
 use Rattle.settings.specs.declared.Settings.{Settings}
 use Rattle.byte_lists.specs.Little.{areBytes}
 use Rattle.message.specs.Flags.{members}
+use Rattle.message.specs.declared.Message.{Message}
 use Rattle.message.specs.declared.Reply.{Reply}
 use Rattle.interpolate.proofs.Laws.BlockLaws.{length-blocksAt}
 use Rattle.erasure.specs.Code.{decodedOf}
 use Rattle.image.specs.Parse.{parse}
 use Rattle.image.proofs.Laws.ParseLaws.{parse-image, range-of}
-use Rattle.coord_record.specs.Records.{noBricks, geometryOf, idleKind, readingKind, writingKind}
+use Rattle.volume.specs.Rows.{rowSize, rowOutcome}
+use Rattle.volume.proofs.Laws.RowLaws.{fresh-row-length}
+use Rattle.volume.proofs.Laws.RowTheoremLaws.{row-keeps-its-length}
+use Rattle.coord_record.specs.Records.{noBricks, geometryOf, idleKind, readingKind, writingKind, idleWith}
+use Rattle.coord_record.specs.declared.Coordinator.{Coordinator}
 use Rattle.coord_record.specs.Sound.{sameGeometry}
 use Rattle.coord_record.proofs.Laws.SoundPartLaws.{sound-parts}
 use Rattle.coord_tally.specs.Counting.{targetFlags}
 use Rattle.coord_decide.specs.Deciding.{decided}
 use Rattle.coord_decide.specs.declared.Decision.{Decision}
 use Rattle.coord_decide.specs.declared.Decision.the-variants.{Abort, Give, Look, Store, Recover, Finish}
-use Rattle.coord_apply.specs.Acts.{gathered, stripeFrom, withReplyBlock, nextRound, ending, acted, counting, waitingOr, firstOp, starting}
+use Rattle.coord_apply.specs.Acts.{gathered, stripeFrom, withReplyBlock, nextOp, opened, nextRound, ending, acted, withTally, counting, waitingOr, firstOp, starting}
 use Rattle.coord_apply.specs.Answers.{Buffered, Went, Step, refused, went, afterChecks, nothingSeen, cutSeen, answerOf}
 use Rattle.coord_refusals.specs.Checks.{recordChecks, writeRefusal, readRefusal, crashRefusal}
 use Rattle.coordinator.specs.Routines.{takeStep, crashed, crashStep, drawnThen, writeStep, readStep}
 use Rattle.coordinator.proofs.Laws.RoutineLaws.{place-fits, write-lengths}
 use Rattle.coord_laws.proofs.Laws.CodedBlockLaws.{placed-long}
 use Rattle.coord_laws.proofs.Laws.StepRunLaws.{ReplyTaken, took}
+use Rattle.coord_laws.proofs.Laws.StripeLaws.{write-starts, read-starts, take-keeps-stripe, taken-runs, crash-keeps-stripe}
 use Rattle.coord_laws.specs.Soundness.{Good}
 use Rattle.coord_laws.proofs.Laws.SoundnessLaws.{idle-good, passes, same-went, drawn-went, write-good, read-good, take-good, crash-good, good-sound}
 use Rattle.register.specs.Runs.{Item, message, reply, World, idle, freshSet, Left, Event, startWrite, startRead, arrives, crashes}
 use Rattle.register.specs.Runs.{goesDown, comesUp, Moved, unmoved, putAt, coordinated, received, arriving, arrivingAt, standing}
 use Rattle.register.specs.Runs.{leaving, leftBy, step, nextMoved, runFrom, run}
-use Rattle.register.proofs.Laws.Invariant.{Hist, Inv}
+use Rattle.register.proofs.Laws.Invariant.{view}
 use Rattle.register.proofs.Laws.BrickEvent.{put-here, put-there}
 use Rattle.register.proofs.Laws.CrashEvent.{left-by}
-use Rattle.register.proofs.Laws.FreshRunLaws.{fresh-holds}
-use Rattle.register.proofs.Laws.TheoremProof.{step-goes, run-holds}
-use Rattle.register.specs.NeverRefused.{Fine, ImagesOpen, RecordsOpen, CrashesAccepted}
+use Rattle.register.proofs.Laws.TheoremProof.{run-holds}
+use Rattle.register.specs.NeverRefused.{Fine, ImagesOpen, RowsLong, RecordsOpen, CrashesAccepted}
 
 -- its buffers
-abbrev Long : Settings → Buffered → Type 0
+abbrev pub Long : Settings → Buffered → Type 0
 Long s k = (length (k .blocks) ≡ s .n * s .size) × (length (k .stripe) ≡ s .m * s .size)
 
-fine : (s : Settings) (k : Buffered) → Good (s .n) (s .m) (s .size) (k .state) → Long s k → Fine s k
-fine s k g l = record { sound-is = good-sound (s .n) (s .m) (s .size) (k .state) g; blocks-long = l .0; stripe-long = l .1 }
+-- without an operation, a record is that of its clock alone
+abbrev pub Rests : Coordinator → Type 0
+Rests c = c .op .kind ≡ idleKind → c ≡ idleWith (c .geometry) (c .clock)
+
+-- What a run keeps of coordinator c, whatever stripe it is at.
+pub record Known (s : Settings) (c : ℕ) (k : Buffered) : Type 0 where
+  pub number : k .state .clock .coordinator ≡ c
+  pub good : Good (s .n) (s .m) (s .size) (s .stripes) (k .state)
+  pub long : Long s k
+  pub rests : Rests (k .state)
+
+fine : (s : Settings) (c : ℕ) (k : Buffered) → Known s c k → Fine s k
+fine s c k h =
+    record { sound-is = good-sound (s .n) (s .m) (s .size) (s .stripes) (k .state) (h .good); blocks-long = h .long .0; stripe-long = h .long .1 }
 
 -- what a decision leaves in the buffers
 decoded-long : (m size : ℕ) (row blocks : List ℕ) → length (stripeFrom m size row blocks) ≡ m * size
@@ -80,163 +96,281 @@ waiting-long s k l = go (ltb (members (k .state .tally .counted) (s .n)) (quorum
     go false = acted-long s k l (decided (s .n) (s .m) (k .state .op) (k .state .tally))
 
 -- a reply's block in its place
-counting-long : (s : Settings) (k : Buffered) (r : Reply) (block : List ℕ) (coded : ℕ) (w : Went) → ReplyTaken (s .n) (s .m) (s .size) k r block coded w
+counting-long : (s : Settings) (k : Buffered) (r : Reply) (block : List ℕ) (coded : ℕ) (w : Went) → ReplyTaken (s .n) (s .m) (s .size) (s .stripes) k r block coded w
     → Long s (counting (s .size) k r block)
 unfolding counting
 counting-long s k r block coded w t = (go (r .held) refl, t .takes .stripe-length)
   where
     go : (a : Bool) → r .held ≡ a → length (cond a (withReplyBlock (s .size) (r .brick) block (k .blocks)) (k .blocks)) ≡ s .n * s .size
     go true e =
-        placed-long (s .size) (r .brick) block (k .blocks) (t .takes .block-length e) (place-fits _ _ _ _ _ _ _ _ _ (t .takes)) ∙ t .takes .blocks-length
+        placed-long (s .size) (r .brick) block (k .blocks) (t .takes .block-length e) (place-fits _ _ _ _ _ _ _ _ _ _ (t .takes)) ∙ t .takes .blocks-length
     go false e = t .takes .blocks-length
 
+-- what a decision leaves where an operation ran
+acted-rests : (n m size : ℕ) (k : Buffered) → (k .state .op .kind ≡ idleKind → ⊥) → (d : Decision) → Rests (acted n m size k d .next .state)
+unfolding acted ending nextRound opened nextOp idleWith
+acted-rests n m size k h Abort = λ e. refl
+acted-rests n m size k h Give = λ e. refl
+acted-rests n m size k h (Look max) = λ e. absurd (h e)
+acted-rests n m size k h Store = λ e. absurd (h e)
+acted-rests n m size k h (Recover time) = λ e. absurd (h e)
+acted-rests n m size k h Finish = λ e. refl
+
+waiting-rests : (n m size : ℕ) (k : Buffered) → (k .state .op .kind ≡ idleKind → ⊥) → Rests (waitingOr n m size k .next .state)
+unfolding waitingOr
+waiting-rests n m size k h = go (ltb (members (k .state .tally .counted) n) (quorum n m))
+  where
+    go : (a : Bool)
+        → Rests (cond a (record { next = k; sent = []; seen = nothingSeen }) (acted n m size k (decided n m (k .state .op) (k .state .tally))) .next .state)
+    go true = λ e. absurd (h e)
+    go false = acted-rests n m size k h (decided n m (k .state .op) (k .state .tally))
+
+-- a step that keeps what is known of its coordinator
+abbrev Keeps : Settings → ℕ → Step → Type 0
+Keeps s c p = (w : Went) → p ≡ went w → Known s c (w .next)
+
+module _ (s : Settings) (c : ℕ) (k : Buffered) (h : Known s c k) where
+  write-keeps : (number reading : ℕ) (content : List ℕ) → Keeps s c (writeStep (s .n) (s .m) (s .size) (s .stripes) k number reading content)
+  unfolding writeStep starting
+  write-keeps number reading content w e =
+      let begin : ℕ → Clock → Went = λ time clock. starting k clock (firstOp writingKind orderKind number time 0) content noBricks in
+      let refusal = writeRefusal (s .n) (s .m) (s .size) (s .stripes) (k .state) number reading (length content) (length (k .stripe)) in
+      let p = passes refusal (drawnThen (drawOf (k .state .clock) reading) begin) w e in
+      let o = write-starts (s .n) (s .m) (s .size) (s .stripes) k number reading content w e in
+      record {
+        number = o .same-number ∙ h .number;
+        good = write-good (s .n) (s .m) (s .size) (s .stripes) k number reading content w e;
+        long =
+            subst (λ (v : Went). Long s (v .next)) (drawn-went (drawOf (k .state .clock) reading) begin w (p .1) .3) (
+              h .long .0,
+              write-lengths (s .n) (s .m) (s .size) (s .stripes) (k .state) number reading (length content) (length (k .stripe)) refusal refl (p .0) ∙ h .long .1,
+            );
+        rests = λ q. absurd (o .now-runs q);
+      }
+
+  read-keeps : (number reading first : ℕ) → Keeps s c (readStep (s .n) (s .m) (s .size) (s .stripes) k number reading first)
+  unfolding readStep starting
+  read-keeps number reading first w e =
+      let begin : ℕ → Clock → Went =
+      λ time clock. starting k clock (firstOp readingKind readKind number time first) (k .stripe) (targetFlags (s .n) (s .m) first) in
+      let p = passes (readRefusal (s .n) (s .m) (s .size) (s .stripes) (k .state) number reading first) (drawnThen (drawOf (k .state .clock) reading) begin) w e in
+      let o = read-starts (s .n) (s .m) (s .size) (s .stripes) k number reading first w e in
+      record {
+        number = o .same-number ∙ h .number;
+        good = read-good (s .n) (s .m) (s .size) (s .stripes) k number reading first w e;
+        long = subst (λ (v : Went). Long s (v .next)) (drawn-went (drawOf (k .state .clock) reading) begin w (p .1) .3) (h .long);
+        rests = λ q. absurd (o .now-runs q);
+      }
+
+  take-keeps : (r : Reply) (block : List ℕ) (coded : ℕ) → Keeps s c (takeStep (s .n) (s .m) (s .size) (s .stripes) k r block coded)
+  unfolding counting withTally
+  take-keeps r block coded w e =
+      let t = took (s .n) (s .m) (s .size) (s .stripes) k r block coded w e in
+      let o = take-keeps-stripe (s .n) (s .m) (s .size) (s .stripes) k r block coded w e in
+      record {
+        number = ap (λ (x : Clock). x .coordinator) (o .same-clock) ∙ h .number;
+        good = take-good (s .n) (s .m) (s .size) (s .stripes) k r block coded w (h .good) e;
+        long =
+            subst (λ (v : Went). Long s (v .next)) (t .is)
+            (waiting-long s (counting (s .size) k r block) (counting-long s k r block coded w t));
+        rests =
+            subst (λ (v : Went). Rests (v .next .state)) (t .is)
+            (waiting-rests (s .n) (s .m) (s .size) (counting (s .size) k r block) (taken-runs (s .n) (s .m) (s .size) (s .stripes) k r block coded w e));
+      }
+
+  crash-keeps : Keeps s c (crashStep (s .n) (s .m) (s .size) (s .stripes) k)
+  unfolding crashStep crashed ending idleWith
+  crash-keeps w e =
+      let o = crash-keeps-stripe (s .n) (s .m) (s .size) (s .stripes) k w e in
+      let is = same-went (crashed k) w (passes (crashRefusal (s .n) (s .m) (s .size) (s .stripes) (k .state)) (went (crashed k)) w e .1) in
+      record {
+        number = ap (λ (x : Clock). x .coordinator) (o .same-clock) ∙ h .number;
+        good = crash-good (s .n) (s .m) (s .size) (s .stripes) k w (h .good) e;
+        long = subst (λ (v : Went). Long s (v .next)) is (go-long (eqb (k .state .op .kind) idleKind));
+        rests = subst (λ (v : Went). Rests (v .next .state)) is (go-rests (eqb (k .state .op .kind) idleKind));
+      }
+    where
+      go-long : (a : Bool) → Long s (cond a (record { next = k; sent = []; seen = nothingSeen }) (ending k (k .stripe) [] cutSeen noBricks) .next)
+      go-long true = h .long
+      go-long false = h .long
+
+      go-rests : (a : Bool) → Rests (cond a (record { next = k; sent = []; seen = nothingSeen }) (ending k (k .stripe) [] cutSeen noBricks) .next .state)
+      go-rests true = h .rests
+      go-rests false = λ e. refl
+
 -- a crash: the buffers keep their lengths
-left-fine : (s : Settings) (left : Left) (k : Buffered) → Fine s k → Fine s (leaving s left k)
-left-fine s left k f =
-    left-by s left k (Fine s) f (λ blocks stripe eb es. record { sound-is = f .sound-is; blocks-long = eb; stripe-long = es })
+left-known : (s : Settings) (left : Left) (c : ℕ) (k : Buffered) → Known s c k → Known s c (leaving s left k)
+left-known s left c k f =
+    left-by s left k (Known s c) f (λ blocks stripe eb es. record { number = f .number; good = f .good; long = (eb, es); rests = f .rests })
+
+left-keeps : (s : Settings) (left : Left) (c : ℕ) (p : Step) → Keeps s c p → Keeps s c (leftBy s left p)
+unfolding leftBy
+left-keeps s left c (refused number) h w e = absurd (let z : _≡_ {A = ℕ} 0 1 = cc in omega arith)
+left-keeps s left c (went q) h w e = subst (λ (v : Went). Known s c (v .next)) (same-went _ w e) (left-known s left c (q .next) (h q refl))
 
 -- each coordinator of the world
-abbrev pub AllFine : (s : Settings) → World → Type 0
-AllFine s w = (c : ℕ) → c ≤ lastCoordinator → Fine s (w .coordinators c)
+abbrev pub AllKnown : (s : Settings) → World → Type 0
+AllKnown s w = (c : ℕ) → c ≤ lastCoordinator → Known s c (w .coordinators c)
 
--- a step that leaves its coordinator fine
-abbrev FineStep : Settings → ℕ → Step → Type 0
-FineStep s c p = (w : Went) → p ≡ went w → c ≤ lastCoordinator → Fine s (w .next)
-
-module _ (s : Settings) (g : SettingsRange s) where
-  coordinated-fine : (w : World) (c : ℕ) (p : Step) → AllFine s w → FineStep s c p → AllFine s (coordinated s w c p .world)
+module _ (s : Settings) where
+  coordinated-known : (w : World) (c : ℕ) (p : Step) → AllKnown s w → (c ≤ lastCoordinator → Keeps s c p) → AllKnown s (coordinated s w c p .world)
   unfolding coordinated unmoved
-  coordinated-fine w c (refused number) f h = f
-  coordinated-fine w c (went q) f h = λ c′ l. at c′ l (eqb c′ c) refl
+  coordinated-known w c (refused number) f h = f
+  coordinated-known w c (went q) f h = λ c′ l. at c′ l (eqb c′ c) refl
     where
-      at : (c′ : ℕ) → c′ ≤ lastCoordinator → (a : Bool) → eqb c′ c ≡ a → Fine s (putAt (w .coordinators) c (q .next) c′)
+      at : (c′ : ℕ) → c′ ≤ lastCoordinator → (a : Bool) → eqb c′ c ≡ a → Known s c′ (putAt (w .coordinators) c (q .next) c′)
       at c′ l true e =
           let z = eqb-true c′ c e in
-          subst (λ (j : ℕ). Fine s (putAt (w .coordinators) c (q .next) j)) (sym z)
-          (subst (Fine s) (sym (put-here (w .coordinators) c (q .next))) (h q refl (omega (arith, z))))
-      at c′ l false e = subst (Fine s) (sym (put-there (w .coordinators) c (q .next) c′ (eqb-false c′ c e))) (f c′ l)
+          subst (λ (j : ℕ). Known s j (putAt (w .coordinators) c (q .next) j)) (sym z)
+          (subst (Known s c) (sym (put-here (w .coordinators) c (q .next))) (h (omega (arith, z)) q refl))
+      at c′ l false e = subst (Known s c′) (sym (put-there (w .coordinators) c (q .next) c′ (eqb-false c′ c e))) (f c′ l)
 
-  module _ (h : Hist s) (r : Moved s) (i : Inv s g h r) (f : AllFine s (r .world)) where
-    good : (c : ℕ) → c ≤ lastCoordinator → Good (s .n) (s .m) (s .size) (r .world .coordinators c .state)
-    good c l =
-        record { parts = sound-parts (s .n) (s .m) (s .size) (r .world .coordinators c .state) (f c l .sound-is); sizes = i .coordinators c .sized }
-
-    write-fine : (c reading : ℕ) (content : List ℕ) → FineStep s c (writeStep (s .n) (s .m) (s .size) (r .world .coordinators c) reading content)
-    unfolding writeStep starting
-    write-fine c reading content w e l =
-        let k = r .world .coordinators c in
-        let begin : ℕ → Clock → Went = λ time clock. starting k clock (firstOp writingKind orderKind time 0) content noBricks in
-        let p = passes (writeRefusal (s .n) (s .m) (s .size) (k .state) reading (length content) (length (k .stripe))) (drawnThen (drawOf (k .state .clock) reading) begin) w e in
-        fine s (w .next) (write-good (s .n) (s .m) (s .size) k reading content w e)
-        (subst (λ (v : Went). Long s (v .next)) (drawn-went (drawOf (k .state .clock) reading) begin w (p .1) .3) (
-          f c l .blocks-long,
-          write-lengths (s .n) (s .m) (s .size) (k .state) reading (length content) (length (k .stripe)) _ refl (p .0) ∙ f c l .stripe-long,
-        ))
-
-    read-fine : (c reading first : ℕ) → FineStep s c (readStep (s .n) (s .m) (s .size) (r .world .coordinators c) reading first)
-    unfolding readStep starting
-    read-fine c reading first w e l =
-        let k = r .world .coordinators c in
-        let begin : ℕ → Clock → Went = λ time clock. starting k clock (firstOp readingKind readKind time first) (k .stripe) (targetFlags (s .n) (s .m) first) in
-        let p = passes (readRefusal (s .n) (s .m) (s .size) (k .state) reading first) (drawnThen (drawOf (k .state .clock) reading) begin) w e in
-        fine s (w .next) (read-good (s .n) (s .m) (s .size) k reading first w e)
-        (subst (λ (v : Went). Long s (v .next)) (drawn-went (drawOf (k .state .clock) reading) begin w (p .1) .3) (f c l .blocks-long, f c l .stripe-long))
-
-    crash-fine : (c : ℕ) → FineStep s c (crashStep (s .n) (s .m) (s .size) (r .world .coordinators c))
-    unfolding crashStep crashed ending
-    crash-fine c w e l =
-        fine s (w .next) (crash-good (s .n) (s .m) (s .size) k w (good c l) e)
-        (subst (λ (v : Went). Long s (v .next)) (same-went (crashed k) w (passes (crashRefusal (s .n) (s .m) (s .size) (k .state)) (went (crashed k)) w e .1))
-        (go (eqb (k .state .op .kind) idleKind)))
-      where
-        k : Buffered
-        k = r .world .coordinators c
-
-        go : (a : Bool) → Long s (cond a (record { next = k; sent = []; seen = nothingSeen }) (ending k (k .stripe) [] cutSeen noBricks) .next)
-        go true = (f c l .blocks-long, f c l .stripe-long)
-        go false = (f c l .blocks-long, f c l .stripe-long)
-
-    crash-left-fine : (c : ℕ) (left : Left) → FineStep s c (leftBy s left (crashStep (s .n) (s .m) (s .size) (r .world .coordinators c)))
-    unfolding leftBy
-    crash-left-fine c left = go (crashStep (s .n) (s .m) (s .size) (r .world .coordinators c)) (crash-fine c)
-      where
-        go : (p : Step) → FineStep s c p → FineStep s c (leftBy s left p)
-        go (refused number) h w e l = absurd (let z : _≡_ {A = ℕ} 0 1 = cc in omega arith)
-        go (went q) h w e l = subst (λ (v : Went). Fine s (v .next)) (same-went _ w e) (left-fine s left (q .next) (h q refl l))
-
-    reply-fine : (a : Reply) (block : List ℕ)
-        → FineStep s (coordinatorOf (a .time)) (takeStep (s .n) (s .m) (s .size) (r .world .coordinators (coordinatorOf (a .time))) a block (s .n * s .size))
-    reply-fine a block w e l =
-        let k = r .world .coordinators (coordinatorOf (a .time)) in
-        let t = took (s .n) (s .m) (s .size) k a block (s .n * s .size) w e in
-        fine s (w .next) (take-good (s .n) (s .m) (s .size) k a block (s .n * s .size) w (good (coordinatorOf (a .time)) l) e)
-        (subst (λ (v : Went). Long s (v .next)) (t .is)
-        (waiting-long s (counting (s .size) k a block) (counting-long s k a block (s .n * s .size) w t)))
-
-    either : (a : Bool) (x y : Moved s) → AllFine s (x .world) → AllFine s (y .world) → AllFine s (cond a x y .world)
+  module _ (w : World) (f : AllKnown s w) where
+    either : (a : Bool) (x y : Moved s) → AllKnown s (x .world) → AllKnown s (y .world) → AllKnown s (cond a x y .world)
     either true x y p q = p
     either false x y p q = q
 
-    item-fine : (z : Item) → AllFine s (arriving s (r .world) z .world)
+    item-known : (z : Item) → AllKnown s (arriving s w z .world)
     unfolding arriving received unmoved
-    item-fine (message b msg block) = either (r .world .up b) _ _ f f
-    item-fine (reply a block) = coordinated-fine (r .world) (coordinatorOf (a .time)) _ f (reply-fine a block)
+    item-known (message b msg block) = either (w .up b) _ _ f f
+    item-known (reply a block) =
+        let c = coordinatorOf (a .time) in coordinated-known w c _ f (λ l. take-keeps s c (w .coordinators c) (f c l) a block (s .n * s .size))
 
-    place-fine : (l : List Item) (k : ℕ) → AllFine s (arrivingAt s (r .world) l k .world)
+    place-known : (l : List Item) (k : ℕ) → AllKnown s (arrivingAt s w l k .world)
     unfolding arrivingAt unmoved
-    place-fine [] k = f
-    place-fine (z ∷ l) zero = item-fine z
-    place-fine (z ∷ l) (suc k) = place-fine l k
+    place-known [] k = f
+    place-known (z ∷ l) zero = item-known z
+    place-known (z ∷ l) (suc k) = place-known l k
 
-    stand-fine : (b : ℕ) (how : Bool) → AllFine s (standing s (r .world) b how .world)
+    stand-known : (b : ℕ) (how : Bool) → AllKnown s (standing s w b how .world)
     unfolding standing unmoved
-    stand-fine b how = either (ltb b (s .n)) _ _ f f
+    stand-known b how = either (ltb b (s .n)) _ _ f f
 
-    step-fine : (e : Event) → AllFine s (step s (r .world) e .world)
+    step-known : (e : Event) → AllKnown s (step s w e .world)
     unfolding step unmoved
-    step-fine (startWrite c reading content) =
-        either (areBytes content) _ _ (coordinated-fine (r .world) c _ f (write-fine c reading content)) f
-    step-fine (startRead c reading first) = coordinated-fine (r .world) c _ f (read-fine c reading first)
-    step-fine (arrives k) = place-fine (r .world .sent) k
-    step-fine (crashes c left) = coordinated-fine (r .world) c _ f (crash-left-fine c left)
-    step-fine (goesDown b) = stand-fine b false
-    step-fine (comesUp b) = stand-fine b true
+    step-known (startWrite c number reading content) =
+        either (areBytes content) _ _
+        (coordinated-known w c _ f (λ l. write-keeps s c (w .coordinators c) (f c l) number reading content)) f
+    step-known (startRead c number reading first) =
+        coordinated-known w c _ f (λ l. read-keeps s c (w .coordinators c) (f c l) number reading first)
+    step-known (arrives k) = place-known (w .sent) k
+    step-known (crashes c left) =
+        coordinated-known w c _ f (λ l. left-keeps s left c _ (crash-keeps s c (w .coordinators c) (f c l)))
+    step-known (goesDown b) = stand-known b false
+    step-known (comesUp b) = stand-known b true
 
-  from-fine : (r : Moved s) → (h : Hist s) × Inv s g h r → AllFine s (r .world) → (events : List Event) → AllFine s (runFrom s r events .world)
+  from-known : (r : Moved s) → AllKnown s (r .world) → (events : List Event) → AllKnown s (runFrom s r events .world)
   unfolding runFrom nextMoved
-  from-fine r w f [] = f
-  from-fine r w f (e ∷ events) = from-fine (nextMoved s r e) (step-goes s g (w .0) r (w .1) e) (step-fine (w .0) r (w .1) f e) events
+  from-known r f [] = f
+  from-known r f (e ∷ events) = from-known (nextMoved s r e) (step-known (r .world) f e) events
 
-own-geometry : (s : Settings) → sameGeometry (s .n) (s .m) (s .size) (geometryOf s) ≡ true
+own-geometry : (s : Settings) → sameGeometry (s .n) (s .m) (s .size) (s .stripes) (geometryOf s) ≡ true
 unfolding sameGeometry geometryOf
-own-geometry s = rw (eq-eqb (s .n) (s .n) refl, eq-eqb (s .m) (s .m) refl, eq-eqb (s .size) (s .size) refl)
+own-geometry s = rw (eq-eqb (s .n) (s .n) refl, eq-eqb (s .m) (s .m) refl, eq-eqb (s .size) (s .size) refl, eq-eqb (s .stripes) (s .stripes) refl)
+
+pub run-known : (s : Settings) → inRange s ≡ true → (events : List Event) → AllKnown s (run s events .world)
+unfolding run freshSet idle unmoved maxCount
+run-known s e =
+    let g = range-of s e in
+    from-known s (unmoved s (freshSet s))
+    (λ c l. record {
+      number = unfold idleWith in refl;
+      good =
+          idle-good (s .n) (s .m) (s .size) (s .stripes) (geometryOf s) (record { coordinator = c; last = 0 }) (g .code) (g .stripes-low) (own-geometry s) l (omega arith);
+      long = (length-replicate (s .n * s .size) 0, length-replicate (s .m * s .size) 0);
+      rests = λ q. unfold idleWith in refl;
+    })
 
 pub records-open : RecordsOpen
-unfolding run freshSet idle unmoved maxCount
-records-open s e events =
-    let g = range-of s e in
-    from-fine s g (unmoved s (freshSet s)) ([], fresh-holds s g)
-    (λ c l. record {
-      sound-is = good-sound (s .n) (s .m) (s .size) _ (idle-good (s .n) (s .m) (s .size) (geometryOf s) (record { coordinator = c; last = 0 }) (g .code) (own-geometry s) l (omega arith));
-      blocks-long = length-replicate (s .n * s .size) 0;
-      stripe-long = length-replicate (s .m * s .size) 0;
-    }) events
+records-open s e events c l = fine s c (run s events .world .coordinators c) (run-known s e events c l)
 
 code-accepted : (s : Settings) → inRange s ≡ true → codeRefusal (s .n) (s .m) (s .size) ≡ passed
 unfolding codeRefusal inRange
-code-accepted s e = rw (and-left (bricksInRange (s .n) (s .m) && sizeInRange (s .size)) (capacityInRange (s .capacity)) e) refl
+code-accepted s e =
+    rw
+    (and-left (bricksInRange (s .n) (s .m) && sizeInRange (s .size)) (capacityInRange (s .capacity))
+    (and-left (bricksInRange (s .n) (s .m) && sizeInRange (s .size) && capacityInRange (s .capacity)) (stripesInRange (s .stripes)) e)) refl
+
+stripes-accepted : (s : Settings) → inRange s ≡ true → stripeCountRefusal (s .stripes) ≡ passed
+unfolding stripeCountRefusal inRange
+stripes-accepted s e =
+    rw (and-right (bricksInRange (s .n) (s .m) && sizeInRange (s .size) && capacityInRange (s .capacity)) (stripesInRange (s .stripes)) e) refl
 
 crash-accepted : (s : Settings) (k : Buffered) → inRange s ≡ true → Fine s k
-    → answerOf (k .state) (crashStep (s .n) (s .m) (s .size) k) .refusal ≡ passed
+    → answerOf (k .state) (crashStep (s .n) (s .m) (s .size) (s .stripes) k) .refusal ≡ passed
 unfolding crashStep crashRefusal recordChecks firstRefusal afterChecks answerOf
 crash-accepted s k e f =
-    let p = sound-parts (s .n) (s .m) (s .size) (k .state) (f .sound-is) in
-    rw (code-accepted s e, le-leb (k .state .clock .coordinator) lastCoordinator (p .number-low), f .sound-is) refl
+    let p = sound-parts (s .n) (s .m) (s .size) (s .stripes) (k .state) (f .sound-is) in
+    rw (code-accepted s e, stripes-accepted s e, le-leb (k .state .clock .coordinator) lastCoordinator (p .number-low), f .sound-is) refl
 
 pub crashes-accepted : CrashesAccepted
 crashes-accepted s e events c l = crash-accepted s (run s events .world .coordinators c) e (records-open s e events c l)
 
 pub images-open : ImagesOpen
-images-open s e events b l =
-    let w = run-holds s (range-of s e) events .1 .bricks b l in
+unfolding view
+images-open s e events stripe b h l =
+    let w = run-holds s (range-of s e) stripe h events .1 .bricks b l in
     (w .state, ap (parse s b) (w .saved) ∙ parse-image s b (w .state) e l (w .sound))
+
+-- the row of each brick
+abbrev RowsRight : (s : Settings) → World → Type 0
+RowsRight s w = (b : ℕ) → b < s .n → length (w .images b) ≡ rowSize s
+
+module _ (s : Settings) (w : World) (f : RowsRight s w) where
+  rows-either : (a : Bool) (x y : Moved s) → RowsRight s (x .world) → RowsRight s (y .world) → RowsRight s (cond a x y .world)
+  rows-either true x y p q = p
+  rows-either false x y p q = q
+
+  coordinated-rows : (c : ℕ) (p : Step) → RowsRight s (coordinated s w c p .world)
+  unfolding coordinated unmoved
+  coordinated-rows c (refused number) = f
+  coordinated-rows c (went q) = f
+
+  received-rows : (b : ℕ) (msg : Message) (block out : List ℕ) → RowsRight s (received s w b (rowOutcome s b (w .images b) msg block out) .world)
+  unfolding received
+  received-rows b msg block out = λ j l. at j l (eqb j b) refl
+    where
+      later : List ℕ
+      later = rowOutcome s b (w .images b) msg block out .image
+
+      at : (j : ℕ) → j < s .n → (a : Bool) → eqb j b ≡ a → length (putAt (w .images) b later j) ≡ rowSize s
+      at j l true e =
+          let z = eqb-true j b e in
+          ap (λ (i : ℕ). length (putAt (w .images) b later i)) z
+          ∙ ap (λ (row : List ℕ). length row) (put-here (w .images) b later)
+          ∙ row-keeps-its-length s b (w .images b) msg block out
+          ∙ f b (omega (arith, z, l))
+      at j l false e = ap (λ (row : List ℕ). length row) (put-there (w .images) b later j (eqb-false j b e)) ∙ f j l
+
+  item-rows : (z : Item) → RowsRight s (arriving s w z .world)
+  unfolding arriving unmoved
+  item-rows (message b msg block) = rows-either (w .up b) _ _ (received-rows b msg block _) f
+  item-rows (reply a block) = coordinated-rows (coordinatorOf (a .time)) _
+
+  place-rows : (l : List Item) (k : ℕ) → RowsRight s (arrivingAt s w l k .world)
+  unfolding arrivingAt unmoved
+  place-rows [] k = f
+  place-rows (z ∷ l) zero = item-rows z
+  place-rows (z ∷ l) (suc k) = place-rows l k
+
+  stand-rows : (b : ℕ) (how : Bool) → RowsRight s (standing s w b how .world)
+  unfolding standing unmoved
+  stand-rows b how = rows-either (ltb b (s .n)) _ _ f f
+
+  step-rows : (e : Event) → RowsRight s (step s w e .world)
+  unfolding step unmoved
+  step-rows (startWrite c number reading content) = rows-either (areBytes content) _ _ (coordinated-rows c _) f
+  step-rows (startRead c number reading first) = coordinated-rows c _
+  step-rows (arrives k) = place-rows (w .sent) k
+  step-rows (crashes c left) = coordinated-rows c _
+  step-rows (goesDown b) = stand-rows b false
+  step-rows (comesUp b) = stand-rows b true
+
+from-rows : (s : Settings) (r : Moved s) → RowsRight s (r .world) → (events : List Event) → RowsRight s (runFrom s r events .world)
+unfolding runFrom nextMoved
+from-rows s r f [] = f
+from-rows s r f (e ∷ events) = from-rows s (nextMoved s r e) (step-rows s (r .world) f e) events
+
+pub rows-long : RowsLong
+unfolding run freshSet unmoved
+rows-long s e events = from-rows s (unmoved s (freshSet s)) (λ b l. fresh-row-length s (range-of s e) b) events

@@ -2,8 +2,9 @@
 
 unfoldable pub settings-open : Unit {0}
 unfolding Rattle.settings.specs.Count.count Rattle.settings.specs.Count.common Rattle.settings.specs.Ranges.bricksInRange
-    Rattle.settings.specs.Ranges.sizeInRange Rattle.settings.specs.Ranges.capacityInRange Rattle.settings.specs.Ranges.inRange
-    Rattle.settings.specs.Ranges.settingsRefusal Rattle.settings.specs.Ranges.codeRefusal Rattle.settings.specs.Ranges.faults
+    Rattle.settings.specs.Ranges.sizeInRange Rattle.settings.specs.Ranges.capacityInRange Rattle.settings.specs.Ranges.stripesInRange
+    Rattle.settings.specs.Ranges.inRange Rattle.settings.specs.Ranges.settingsRefusal Rattle.settings.specs.Ranges.codeRefusal
+    Rattle.settings.specs.Ranges.stripeCountRefusal Rattle.settings.specs.Ranges.stripeRefusal Rattle.settings.specs.Ranges.faults
     Rattle.settings.specs.Ranges.quorum Rattle.settings.specs.Refusal.firstRefusal Rattle.settings.specs.Times.maxCount
     Rattle.settings.specs.Times.noUpperEnd Rattle.settings.specs.Times.timeOf Rattle.settings.specs.Times.validTime
     Rattle.settings.specs.Times.nextCount Rattle.settings.specs.Times.drawRefusal Rattle.settings.specs.Times.advanced
@@ -47,7 +48,7 @@ unfolding Rattle.image_write.specs.Saving.freshAfter Rattle.image_write.specs.
 saving-open = tt
 
 unfoldable pub brick-open : Unit {0}
-unfolding Rattle.brick.specs.Receive.blocksRefusal Rattle.brick.specs.Receive.receiveRefusal Rattle.brick.specs.Receive.refusedWith
+unfolding Rattle.brick.specs.Receive.frontRefusal Rattle.brick.specs.Receive.receiveRefusal Rattle.brick.specs.Receive.refusedWith
     Rattle.brick.specs.Receive.givenBy Rattle.brick.specs.Receive.accepted Rattle.brick.specs.Receive.outcome
     Rattle.brick_log.specs.BrickRules.aboveNewest Rattle.brick_log.specs.BrickRules.notBelowPromise Rattle.brick_log.specs.BrickRules.hasFree
     Rattle.brick_log.specs.BrickRules.readYes Rattle.brick_log.specs.BrickRules.orderYes Rattle.brick_log.specs.BrickRules.writeYes
@@ -57,6 +58,12 @@ unfolding Rattle.brick.specs.Receive.blocksRefusal Rattle.brick.specs.Receive.
     Rattle.brick_log.specs.BrickRules.yesTo Rattle.brick_log.specs.BrickRules.replyTo Rattle.brick_log.specs.BrickRules.brickAfter
     Rattle.brick_log.specs.BrickRules.blockAfter
 brick-open = tt
+
+unfoldable pub volume-open : Unit {0}
+unfolding Rattle.volume.specs.Rows.rowSize Rattle.volume.specs.Rows.imageAt Rattle.volume.specs.Rows.withImage Rattle.volume.specs.Rows.freshRow
+    Rattle.volume.specs.Rows.rowLendingRefusal Rattle.volume.specs.Rows.freshRowAfter Rattle.volume.specs.Rows.inRow
+    Rattle.volume.specs.Rows.rowRefusal Rattle.volume.specs.Rows.rowOutcome
+volume-open = tt
 
 unfoldable pub gf256-open : Unit {0}
 unfolding Rattle.gf256.specs.Product.plus Rattle.gf256.specs.Product.twice Rattle.gf256.specs.Product.shiftAdd Rattle.gf256.specs.Product.product
@@ -117,7 +124,7 @@ unfolding Rattle.coord_apply.specs.Acts.gathered Rattle.coord_apply.specs.Acts
 coord-acts-open = tt
 
 unfoldable pub coordinator-open : Unit {0}
-unfolding Rattle.coord_refusals.specs.Checks.recordChecks Rattle.coord_refusals.specs.Checks.writeChecks
+unfolding Rattle.coord_refusals.specs.Checks.recordChecks Rattle.coord_refusals.specs.Checks.stripeChecks Rattle.coord_refusals.specs.Checks.writeChecks
     Rattle.coord_refusals.specs.Checks.readChecks Rattle.coord_refusals.specs.Checks.startChecks
     Rattle.coord_refusals.specs.Checks.writeRefusal Rattle.coord_refusals.specs.Checks.readRefusal Rattle.coord_refusals.specs.Checks.lengthsRight
     Rattle.coord_refusals.specs.Checks.strayChecks Rattle.coord_refusals.specs.Checks.takeRefusal Rattle.coord_refusals.specs.Checks.crashRefusal
@@ -127,7 +134,8 @@ coordinator-open = tt
 
 unfoldable pub register-open : Unit {0}
 unfolding Rattle.register.specs.Runs.zeroStripe Rattle.register.specs.Runs.idle Rattle.register.specs.Runs.freshSet
-    Rattle.register.specs.Runs.unmoved Rattle.register.specs.Runs.putAt Rattle.register.specs.Runs.begunKind Rattle.register.specs.Runs.seenOf
+    Rattle.register.specs.Runs.unmoved Rattle.register.specs.Runs.putAt Rattle.register.specs.Runs.onStripe
+    Rattle.register.specs.Runs.begunKind Rattle.register.specs.Runs.seenOf
     Rattle.register.specs.Runs.blockFor Rattle.register.specs.Runs.toAll Rattle.register.specs.Runs.broadcasts
     Rattle.register.specs.Runs.coordinated Rattle.register.specs.Runs.repliedWith Rattle.register.specs.Runs.received
     Rattle.register.specs.Runs.arriving Rattle.register.specs.Runs.arrivingAt Rattle.register.specs.Runs.standing
@@ -137,6 +145,6 @@ unfolding Rattle.register.specs.Runs.zeroStripe Rattle.register.specs.
 register-open = tt
 
 unfoldable pub all-open : Unit {0}
-unfolding settings-open message-open little-open block-open image-open saving-open brick-open gf256-open poly-open interpolate-open erasure-open
+unfolding settings-open message-open little-open block-open image-open saving-open brick-open volume-open gf256-open poly-open interpolate-open erasure-open
     coord-record-open coord-rounds-open coord-acts-open coordinator-open register-open
 all-open = tt

@@ -6,6 +6,7 @@ use mathlib.Core.List.{List, [], _∷_, _++_, append-nil}
 use Prim.Native.Nat.{ℕ, zero, suc}
 use lib.Dec.{ltb, eqb}
 use lib.ListN.{length, replicate}
+use borrow.Author.Tests.{eqb-true}
 use Rattle.settings.specs.Refusal.{passed, refuseUnless, badNumber, badLine}
 use Rattle.settings.specs.declared.Settings.{Settings}
 use Rattle.byte_lists.specs.Little.{areBytes}
@@ -15,7 +16,10 @@ use Rattle.image.specs.Parse.{Parsed, Opens, Refuses, parse}
 use Rattle.brick.specs.Receive
 use Rattle.brick.specs.Receive.{Outcome, outcome, receiveRefusal, refusedWith, givenBy, givenNumber}
 use Rattle.brick.specs.declared.Given.the-variants.{Answered, Silent}
+use Rattle.brick.proofs.Laws.OutcomeLaws.{fronted}
 use Rattle.brick_log.specs.BrickRules.{replyTo}
+use Rattle.volume.specs.Rows.{rowSize, imageAt, withImage, inRow, rowRefusal, rowOutcome}
+use Rattle.volume.proofs.Laws.RowLaws.{image-back}
 use Rattle.coord_apply.specs.Answers.{Step, refused, went, answerOf}
 use Rattle.coordinator.specs.Routines.{writeStep}
 use Rattle.register.specs.Runs.{Item, message, reply, World, Left, startWrite, startRead, arrives, crashes, goesDown, comesUp}
@@ -52,6 +56,30 @@ refused-kept s b bytes msg block out = go (eqb (receiveRefusal s b bytes msg (le
     go true n = opened-kept s b msg block bytes out (parse s b bytes) n
     go false n = record { image-is = refl; no-reply = λ _. refl }
 
+-- the same of a row of images: the image of the stripe is put back as it was
+pub row-refused-kept : (s : Settings) (b : ℕ) (row : List ℕ) (msg : Message) (block out : List ℕ)
+    → givenNumber (rowOutcome s b row msg block out .given) ≢ passed → Kept row (rowOutcome s b row msg block out)
+unfolding rowOutcome rowRefusal inRow refusedWith repliedWith rowSize
+row-refused-kept s b row msg block out = go (eqb number passed) refl
+  where
+    number : ℕ
+    number = rowRefusal s b row msg (length block) (length out)
+
+    acted : Outcome
+    acted = outcome s b (imageAt s (msg .stripe) row) msg block out
+
+    go : (a : Bool) → eqb number passed ≡ a
+        → givenNumber (cond a (inRow s (msg .stripe) row acted) (refusedWith number row out) .given) ≢ passed
+        → Kept row (cond a (inRow s (msg .stripe) row acted) (refusedWith number row out))
+    go true e n =
+        let k = refused-kept s b (imageAt s (msg .stripe) row) msg block out n in
+        let f = fronted s (s .stripes) b (length row) (msg .stripe) (length block) (length out) number refl (eqb-true number passed e) in
+        record {
+          image-is = ap (λ (l : List ℕ). withImage s (msg .stripe) l row) (k .image-is) ∙ image-back s (msg .stripe) row (f .lent-is) (f .stripe-low);
+          no-reply = k .no-reply;
+        }
+    go false e n = record { image-is = refl; no-reply = λ _. refl }
+
 -- a brick that keeps its image and gives no reply leaves the world as it was
 pub kept-unmoved : (s : Settings) (w : World) (b : ℕ) (o : Outcome) → Kept (w .images b) o → received s w b o ≡ unmoved s w
 unfolding received unmoved
@@ -60,7 +88,7 @@ kept-unmoved s w b o k =
     (ap (λ (l : List Item). w .sent ++ l) (k .no-reply (o .out)) ∙ append-nil (w .sent))
   where
     makes : (ℕ → List ℕ) → List Item → Moved s
-    makes images l = record { world = record { images = images; up = w .up; coordinators = w .coordinators; sent = l }; seen = [] }
+    makes images l = record { world = record { images = images; up = w .up; coordinators = w .coordinators; sent = l }; seen = λ (k : ℕ). [] }
 
 module _ (s : Settings) (w : World) where
   -- a coordinator's routine that refuses
@@ -80,10 +108,10 @@ module _ (s : Settings) (w : World) where
   item-kept (message b msg block) n = go (w .up b) n
     where
       o : Outcome
-      o = outcome s b (w .images b) msg block (replicate (s .size) 0)
+      o = rowOutcome s b (w .images b) msg block (replicate (s .size) 0)
 
       go : (a : Bool) → cond a (givenNumber (o .given)) passed ≢ passed → cond a (received s w b o) (unmoved s w) ≡ unmoved s w
-      go true n = kept-unmoved s w b o (refused-kept s b (w .images b) msg block (replicate (s .size) 0) n)
+      go true n = kept-unmoved s w b o (row-refused-kept s b (w .images b) msg block (replicate (s .size) 0) n)
       go false n = refl
   item-kept (reply r block) n = step-kept _ _ n
 
@@ -104,15 +132,15 @@ module _ (s : Settings) (w : World) where
 
 pub refused-events-change-nothing : RefusedEventsChangeNothing
 unfolding eventNumber step
-refused-events-change-nothing s w (startWrite c reading content) n = go (areBytes content) n
+refused-events-change-nothing s w (startWrite c stripe reading content) n = go (areBytes content) n
   where
     p : Step
-    p = writeStep (s .n) (s .m) (s .size) (w .coordinators c) reading content
+    p = writeStep (s .n) (s .m) (s .size) (s .stripes) (w .coordinators c) stripe reading content
 
     go : (a : Bool) → cond a (routineNumber w c p) badLine ≢ passed → cond a (coordinated s w c p) (unmoved s w) ≡ unmoved s w
     go true n = step-kept s w c p n
     go false n = refl
-refused-events-change-nothing s w (startRead c reading first) n = step-kept s w c _ n
+refused-events-change-nothing s w (startRead c stripe reading first) n = step-kept s w c _ n
 refused-events-change-nothing s w (arrives k) n = place-kept s w (w .sent) k n
 refused-events-change-nothing s w (crashes c left) n = crash-kept s w c left _ n
 refused-events-change-nothing s w (goesDown b) n = standing-kept s w b false n

@@ -1,4 +1,4 @@
--- A reply reaches its coordinator: what holds of the world goes on to hold.
+-- A reply reaches its coordinator: what holds of its stripe goes on to hold.
 use mathlib.Core.Path.{_≡_, refl, sym, subst}
 use mathlib.Core.Logic.{inl, inr}
 use mathlib.Core.Bool.{Bool, true, false, cond, _||_}
@@ -12,7 +12,7 @@ use Rattle.message.specs.Kinds.{readKind, lastRound}
 use Rattle.settings.specs.Count.{count}
 use Rattle.settings.specs.Ranges.{quorum}
 use Rattle.settings.specs.Ranges.{SettingsRange}
-use Rattle.settings.specs.Times.{noUpperEnd, coordinatorOf}
+use Rattle.settings.specs.Times.{noUpperEnd}
 use Rattle.settings.specs.declared.Settings.{Settings}
 use Rattle.message.specs.Flags.{members}
 use Rattle.message.specs.declared.Reply.{Reply}
@@ -22,16 +22,15 @@ use Rattle.coord_decide.specs.Deciding.{decided}
 use Rattle.coord_decide.specs.declared.Decision.{Decision}
 use Rattle.coord_decide.specs.declared.Decision.the-variants.{Abort, Give, Look, Store, Recover, Finish}
 use Rattle.coord_apply.specs.Acts.{acted, withTally, counting, waitingOr}
-use Rattle.coord_apply.specs.Answers.{Buffered, Went, Step, refused, went, nothingSeen}
+use Rattle.coord_apply.specs.Answers.{Buffered, Went, went, nothingSeen}
 use Rattle.coordinator.specs.Routines.{takeStep}
 use Rattle.coord_laws.proofs.Laws.StepRunLaws.{ReplyTaken, took}
 use Rattle.coord_laws.proofs.Laws.OpCaseLaws.{Fit, reading, looking, restoring, ordering, storing}
 use Rattle.order.specs.Claim.{_∈_}
 use Rattle.order.specs.Valid.{Valid}
-use Rattle.register.specs.Runs.{Item, reply, Moved, coordinated, arriving}
-use Rattle.register.proofs.Laws.Invariant.{quorums, Hist, ItemInv, CoordinatorInv, Inv}
-use Rattle.register.proofs.Laws.Invariant.{Goes}
-use Rattle.register.proofs.Laws.TurnLaws.{TurnedRound, goes-turned, goes-refused}
+use Rattle.register.specs.Runs.{Item, reply}
+use Rattle.register.proofs.Laws.Invariant.{quorums, Hist, ItemInv, CoordinatorInv}
+use Rattle.register.proofs.Laws.TurnLaws.{TurnedRound}
 use Rattle.register.proofs.Laws.RoundLaws.{stays}
 use Rattle.register.proofs.Laws.CountedLaws.{counting-keeps}
 use Rattle.register.proofs.Laws.GiveLaws.{does-give}
@@ -119,33 +118,28 @@ module _ (s : Settings) (g : SettingsRange s) (h : Hist s) (sent : List Item) (c
       go true e = does-abort s g h sent c k v i items n
       go false e = does-finish s g h sent c k v i items n (inr kind) phase e enough
 
--- a reply reaches its coordinator
-pub reply-arrives : (s : Settings) (g : SettingsRange s) (h : Hist s) (r : Moved s) → Inv s g h r → (a : Reply) (block : List ℕ)
-    → reply a block ∈ r .world .sent → Goes s g r (arriving s (r .world) (reply a block))
-unfolding arriving
-reply-arrives s g h r i a block was = go (takeStep (s .n) (s .m) (s .size) k a block (s .n * s .size)) refl
+-- a reply that its coordinator takes
+pub reply-turned : (s : Settings) (g : SettingsRange s) (h : Hist s) (sent : List Item) (c : ℕ) (k : Buffered) → Valid (quorums s g) h
+    → CoordinatorInv s g h sent c k → ((z : Item) → z ∈ sent → ItemInv s g h sent z) → (a : Reply) (block : List ℕ) → reply a block ∈ sent → (w : Went)
+    → takeStep (s .n) (s .m) (s .size) (s .stripes) k a block (s .n * s .size) ≡ went w → TurnedRound s g h sent c w
+reply-turned s g h sent c k v i items a block was w e =
+    let t = took (s .n) (s .m) (s .size) (s .stripes) k a block (s .n * s .size) w e in
+    subst (TurnedRound s g h sent c) (t .is) (unfold waitingOr in decides t _ refl)
   where
-    c : ℕ
-    c = coordinatorOf (a .time)
-
-    k : Buffered
-    k = r .world .coordinators c
-
     after : Buffered
     after = counting (s .size) k a block
 
-    decides : (w : Went) → ReplyTaken (s .n) (s .m) (s .size) k a block (s .n * s .size) w → (b : Bool) → ltb (members (after .state .tally .counted) (s .n)) (quorum (s .n) (s .m)) ≡ b
-        → TurnedRound s g h (r .world .sent) c
+    decides : ReplyTaken (s .n) (s .m) (s .size) (s .stripes) k a block (s .n * s .size) w → (b : Bool) → ltb (members (after .state .tally .counted) (s .n)) (quorum (s .n) (s .m)) ≡ b
+        → TurnedRound s g h sent c
         (cond b (record { next = after; sent = []; seen = nothingSeen })
         (acted (s .n) (s .m) (s .size) after (decided (s .n) (s .m) (after .state .op) (after .state .tally))))
-    decides w t true e =
-        stays s g h (r .world .sent) c after (counting-keeps s g h (r .world .sent) c k a block (s .n * s .size) w (i .coordinators c) t was) (i .valid)
-    decides w t false e =
+    decides t true e = stays s g h sent c after (counting-keeps s g h sent c k a block (s .n * s .size) w i t was) v
+    decides t false e =
         let o = sound-op s k (t .takes .parts) in
         let p : readKind ≤ k .state .op .phase = omega (arith, t .reply .kind-low, t .answer .of-phase) in
         let f = o .fits p in
         unfold counting withTally in
-        (does-decide s g h (r .world .sent) c after (i .valid) (counting-keeps s g h (r .world .sent) c k a block (s .n * s .size) w (i .coordinators c) t was) (i .items)
+        (does-decide s g h sent c after v (counting-keeps s g h sent c k a block (s .n * s .size) w i t was) items
         (busy f) (o .first-low) (ltb-false (members (after .state .tally .counted) (s .n)) (quorum (s .n) (s .m)) e) f
         (o .time-high (kind-low f)))
       where
@@ -158,9 +152,3 @@ reply-arrives s g h r i a block was = go (takeStep (s .n) (s .m) (s .size) k a b
 
         busy : Fit (k .state .op) → k .state .op .kind ≡ idleKind → ⊥
         busy f q = omega (arith, kind-low f)
-
-    go : (p : Step) → takeStep (s .n) (s .m) (s .size) k a block (s .n * s .size) ≡ p → Goes s g r (coordinated s (r .world) c p)
-    go (went w) e =
-        let t = took (s .n) (s .m) (s .size) k a block (s .n * s .size) w e in
-        goes-turned s g h r i c w (subst (TurnedRound s g h (r .world .sent) c) (t .is) (unfold waitingOr in decides w t _ refl))
-    go (refused number) e = goes-refused s g h r i c number

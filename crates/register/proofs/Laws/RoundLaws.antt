@@ -101,7 +101,7 @@ module _ (s : Settings) (g : SettingsRange s) (h : Hist s) (sent : List Item) (c
 
       sending : Broadcast
       sending = record {
-        message = record { kind = phase; time = k .state .op .time; round = k .state .op .round + 1; max = max; targets = noBricks };
+        message = record { kind = phase; stripe = k .state .op .stripe; time = k .state .op .time; round = k .state .op .round + 1; max = max; targets = noBricks };
         blocks = coded;
       }
 
@@ -126,6 +126,7 @@ module _ (s : Settings) (g : SettingsRange s) (h : Hist s) (sent : List Item) (c
               op = record {
                 kind = k .state .op .kind;
                 phase = phase;
+                stripe = k .state .op .stripe;
                 time = k .state .op .time;
                 round = k .state .op .round + 1;
                 max = max;

@@ -1,22 +1,21 @@
--- A read or a write starts: what holds of the world goes on to hold.
+-- A read or a write starts: what holds of its stripe goes on to hold.
 use mathlib.Core.Path.{_≡_, refl, sym, ap, subst, _∙_}
 use mathlib.Core.Logic.{_⊎_, inl, inr}
-use mathlib.Core.Bool.{Bool, true, false, cond, _&&_}
+use mathlib.Core.Bool.{true, _&&_}
 use mathlib.Core.List.{List, [], _∷_, _++_, List·Memᴰ·append-cases}
 use Prim.Native.Nat.{ℕ, _*_, _≤_, _<_}
 use native.Mathlib.Omega.{arith}
-use lib.Dec.{leb, eqb}
+use lib.Dec.{eqb}
 use lib.ListN.{length, getD, replicate}
-use borrow.Author.Tests.{leb-true, eqb-true}
-use Rattle.settings.specs.Ranges.{codeRefusal, maxBricks}
+use borrow.Author.Tests.{eqb-true}
+use Rattle.settings.specs.Ranges.{codeRefusal, stripeCountRefusal, maxBricks}
 use Rattle.settings.specs.Ranges.{SettingsRange}
 use Rattle.byte_lists.proofs.Laws.BoolLaws.{and-left}
-use Rattle.settings.specs.Refusal.{refuseUnless, badLength, passed}
+use Rattle.settings.specs.Refusal.{refuseUnless, badLength}
 use Rattle.settings.specs.Times.{timeOf, drawOf, coordinatorOf}
 use Rattle.settings.proofs.Laws.TimeLaws.{gave, drawn-above, drawn-own}
 use Rattle.settings.specs.declared.Clock.{Clock}
-use Rattle.settings.specs.declared.Draw.{Draw}
-use Rattle.settings.specs.declared.Draw.the-variants.{Drawn, Refused}
+use Rattle.settings.specs.declared.Draw.the-variants.{Drawn}
 use Rattle.settings.specs.declared.Settings.{Settings}
 use Rattle.settings.proofs.Laws.RefusalLaws.{tested}
 use Rattle.byte_lists.specs.Little.{Bytes}
@@ -27,10 +26,10 @@ use Rattle.erasure.specs.Code.{Stripe}
 use Rattle.coord_record.specs.Records.{nothingCounted, noBricks, idleKind, readingKind, writingKind}
 use Rattle.coord_tally.specs.Counting.{targetFlags}
 use Rattle.coord_apply.specs.Acts.{roundMessage, firstOp, starting}
-use Rattle.coord_apply.specs.Answers.{Buffered, Broadcast, Went, refused, afterChecks}
+use Rattle.coord_apply.specs.Answers.{Buffered, Broadcast, Went, went}
 use Rattle.coord_refusals.specs.Checks.{writeChecks, writeRefusal, readRefusal}
 use Rattle.coordinator.specs.Routines.{drawnThen, writeStep, readStep}
-use Rattle.coord_laws.proofs.Laws.SoundnessLaws.{none-sized}
+use Rattle.coord_laws.proofs.Laws.SoundnessLaws.{none-sized, passes, drawn-went}
 use Rattle.coord_laws.proofs.Laws.TallyLaws.{zeros-at}
 use Rattle.order.specs.Claim.{Action, Seen, _∈_}
 use Rattle.order.specs.Facts.{Source, End, Fact, began, launched, ended}
@@ -38,12 +37,11 @@ use Rattle.order.specs.Places.{In}
 use Rattle.order.proofs.Laws.PlaceLaws.{suf-below, in-suf, in-top}
 use Rattle.order.specs.Valid.{Began, Valid}
 use Rattle.order.proofs.Laws.FactLaws.{ok-at}
-use Rattle.register.specs.Runs.{plain, Item, message, Moved, begunKind, seenOf, blockFor, broadcasts, coordinated}
-use Rattle.register.proofs.Laws.Invariant.{quorums, Hist, MessageInv, ItemInv, Asked, Running, CoordinatorInv, Inv}
+use Rattle.register.specs.Runs.{plain, Item, message, begunKind, seenOf, blockFor, broadcasts}
+use Rattle.register.proofs.Laws.Invariant.{quorums, Hist, MessageInv, ItemInv, Asked, Running, ClockInv}
 use Rattle.register.proofs.Laws.UpLaws.{in-cons}
-use Rattle.register.proofs.Laws.Invariant.{Goes}
 use Rattle.register.proofs.Laws.BrickEvent.{first-passed}
-use Rattle.register.proofs.Laws.TurnLaws.{time-of, kind-of, Turns, turns-began, in-broadcast, TurnedRound, goes-turned, goes-refused}
+use Rattle.register.proofs.Laws.TurnLaws.{time-of, kind-of, Turns, turns-began, in-broadcast, TurnedRound}
 
 -- no brick is counted in a new round
 pub none-member : (b : ℕ) → member (replicate maxBricks 0) b ≡ true → ⊥
@@ -51,13 +49,13 @@ unfolding member
 none-member b e = let w = zeros-at maxBricks b in let q = eqb-true (getD (replicate maxBricks 0) b 0) 1 e in omega arith
 
 module _ (s : Settings) (g : SettingsRange s) (h : Hist s) (sent : List Item) (c : ℕ) (k : Buffered) (v : Valid (quorums s g) h)
-    (i : CoordinatorInv s g h sent c k) (items : (z : Item) → z ∈ sent → ItemInv s g h sent z)
+    (i : ClockInv s h c k) (items : (z : Item) → z ∈ sent → ItemInv s g h sent z)
     (reading t : ℕ) (clock : Clock) (d : drawOf (k .state .clock) reading ≡ Drawn t clock) where
   own-time : coordinatorOf t ≡ c
   own-time = drawn-own (k .state .clock) reading t clock d ∙ i .number
 
   -- the time is new
-  new-time : Began h t → ⊥
+  pub new-time : Began h t → ⊥
   new-time w =
       let a = i .used t w own-time in
       let b = drawn-above (k .state .clock) reading t clock d in
@@ -69,11 +67,11 @@ module _ (s : Settings) (g : SettingsRange s) (h : Hist s) (sent : List Item) (c
   time-low = let b = drawn-above (k .state .clock) reading t clock d in omega arith
 
   -- a start in its first round: a Read or an Order round
-  started : (kind phase first : ℕ) (stripe targets : List ℕ) → phase ≤ orderKind → (kind ≡ idleKind → ⊥)
+  started : (kind phase number first : ℕ) (stripe targets : List ℕ) → phase ≤ orderKind → (kind ≡ idleKind → ⊥)
       → (kind ≡ writingKind → Stripe (s .m) (s .size) stripe)
-      → TurnedRound s g h sent c (starting k clock (firstOp kind phase t first) stripe targets)
+      → TurnedRound s g h sent c (starting k clock (firstOp kind phase number t first) stripe targets)
   unfolding starting firstOp seenOf nothingCounted roundMessage timeOf
-  started kind phase first stripe targets low busy proper =
+  started kind phase number first stripe targets low busy proper =
       record {
         later = later;
         turns = turns;
@@ -95,7 +93,7 @@ module _ (s : Settings) (g : SettingsRange s) (h : Hist s) (sent : List Item) (c
             state = record {
               geometry = k .state .geometry;
               clock = clock;
-              op = record { kind = kind; phase = phase; time = t; round = firstRound; max = 0; first = first };
+              op = record { kind = kind; phase = phase; stripe = number; time = t; round = firstRound; max = 0; first = first };
               tally = nothingCounted;
               bricks = noBricks;
             };
@@ -110,7 +108,7 @@ module _ (s : Settings) (g : SettingsRange s) (h : Hist s) (sent : List Item) (c
       later = began t action ∷ h
 
       sending : Broadcast
-      sending = record { message = record { kind = phase; time = t; round = firstRound; max = 0; targets = targets }; blocks = [] }
+      sending = record { message = record { kind = phase; stripe = number; time = t; round = firstRound; max = 0; targets = targets }; blocks = [] }
 
       turns : Turns s g c h later (Seen.began t action ∷ [])
       turns = turns-began s g c h v t action (record { positive = time-low; new = λ a w. new-time (a, w) }) own-time (Seen.began t action ∷ []) refl
@@ -170,63 +168,31 @@ module _ (s : Settings) (g : SettingsRange s) (h : Hist s) (sent : List Item) (c
             storing = λ e. absurd (omega arith);
           }
 
--- checks that pass
-pub passes : (k : ℕ) → leb k passed ≡ true → k ≡ passed
-passes k e = let w = leb-true k passed e in omega arith
-
-module _ (s : Settings) (g : SettingsRange s) (h : Hist s) (r : Moved s) (i : Inv s g h r) (c : ℕ) where
+module _ (s : Settings) (g : SettingsRange s) (h : Hist s) (sent : List Item) (c : ℕ) (k : Buffered) (v : Valid (quorums s g) h)
+    (i : ClockInv s h c k) (items : (z : Item) → z ∈ sent → ItemInv s g h sent z) (number reading : ℕ) (w : Went) where
   -- a write starts
-  pub write-starts : (reading : ℕ) (content : List ℕ) → Bytes content
-      → Goes s g r (coordinated s (r .world) c (writeStep (s .n) (s .m) (s .size) (r .world .coordinators c) reading content))
-  unfolding writeStep afterChecks drawnThen writeRefusal writeChecks
-  write-starts reading content small = go (leb refusal passed) refl
-    where
-      k : Buffered
-      k = r .world .coordinators c
-
-      refusal : ℕ
-      refusal = writeRefusal (s .n) (s .m) (s .size) (k .state) reading (length content) (length (k .stripe))
-
-      begin : ℕ → Clock → Went
-      begin time clock = starting k clock (firstOp writingKind orderKind time 0) content noBricks
-
-      draws : length content ≡ s .m * s .size → (d : Draw) → drawOf (k .state .clock) reading ≡ d → Goes s g r (coordinated s (r .world) c (drawnThen d begin))
-      draws l (Refused number) e = goes-refused s g h r i c number
-      draws l (Drawn t clock) e =
-          goes-turned s g h r i c (begin t clock)
-          (started s g h (r .world .sent) c k (i .valid) (i .coordinators c) (i .items) reading t clock e writingKind orderKind 0 content noBricks (omega arith) (λ e. omega (arith, e))
-          (λ _. record { pos = g .code .size-low; length-is = l; small = byte-below content small }))
-
-      go : (a : Bool) → leb refusal passed ≡ a → Goes s g r (coordinated s (r .world) c (cond a (drawnThen (drawOf (k .state .clock) reading) begin) (refused refusal)))
-      go false e = goes-refused s g h r i c refusal
-      go true e =
-          let a = first-passed (codeRefusal (s .n) (s .m) (s .size)) _ (passes refusal e) in
-          let b = first-passed (refuseUnless (eqb (length content) (s .m * s .size) && eqb (length (k .stripe)) (s .m * s .size)) badLength) _ (a .1) in
-          let l = tested (eqb (length content) (s .m * s .size) && eqb (length (k .stripe)) (s .m * s .size)) _ (b .0) in
-          draws (eqb-true (length content) (s .m * s .size) (and-left _ _ l)) (drawOf (k .state .clock) reading) refl
+  pub write-turned : (content : List ℕ) → Bytes content → writeStep (s .n) (s .m) (s .size) (s .stripes) k number reading content ≡ went w → TurnedRound s g h sent c w
+  unfolding writeStep writeRefusal writeChecks
+  write-turned content small e =
+      let f : ℕ → Clock → Went = λ time clock. starting k clock (firstOp writingKind orderKind number time 0) content noBricks in
+      let refusal = writeRefusal (s .n) (s .m) (s .size) (s .stripes) (k .state) number reading (length content) (length (k .stripe)) in
+      let p = passes refusal (drawnThen (drawOf (k .state .clock) reading) f) w e in
+      let d = drawn-went (drawOf (k .state .clock) reading) f w (p .1) in
+      let a = first-passed (codeRefusal (s .n) (s .m) (s .size)) _ (p .0) in
+      let b = first-passed (stripeCountRefusal (s .stripes)) _ (a .1) in
+      let q = first-passed (refuseUnless (eqb (length content) (s .m * s .size) && eqb (length (k .stripe)) (s .m * s .size)) badLength) _ (b .1) in
+      let l = tested (eqb (length content) (s .m * s .size) && eqb (length (k .stripe)) (s .m * s .size)) _ (q .0) in
+      subst (TurnedRound s g h sent c) (d .3)
+      (started s g h sent c k v i items reading (d .0) (d .1) (d .2) writingKind orderKind number 0 content noBricks (omega arith) (λ e. omega (arith, e))
+      (λ _. record { pos = g .code .size-low; length-is = eqb-true (length content) (s .m * s .size) (and-left _ _ l); small = byte-below content small }))
 
   -- a read starts
-  pub read-starts : (reading first : ℕ)
-      → Goes s g r (coordinated s (r .world) c (readStep (s .n) (s .m) (s .size) (r .world .coordinators c) reading first))
-  unfolding readStep afterChecks drawnThen
-  read-starts reading first = go (leb refusal passed)
-    where
-      k : Buffered
-      k = r .world .coordinators c
-
-      refusal : ℕ
-      refusal = readRefusal (s .n) (s .m) (s .size) (k .state) reading first
-
-      begin : ℕ → Clock → Went
-      begin time clock = starting k clock (firstOp readingKind readKind time first) (k .stripe) (targetFlags (s .n) (s .m) first)
-
-      draws : (d : Draw) → drawOf (k .state .clock) reading ≡ d → Goes s g r (coordinated s (r .world) c (drawnThen d begin))
-      draws (Refused number) e = goes-refused s g h r i c number
-      draws (Drawn t clock) e =
-          goes-turned s g h r i c (begin t clock)
-          (started s g h (r .world .sent) c k (i .valid) (i .coordinators c) (i .items) reading t clock e readingKind readKind first (k .stripe)
-          (targetFlags (s .n) (s .m) first) (omega arith) (λ e. omega (arith, e)) (λ e. absurd (omega (arith, e))))
-
-      go : (a : Bool) → Goes s g r (coordinated s (r .world) c (cond a (drawnThen (drawOf (k .state .clock) reading) begin) (refused refusal)))
-      go false = goes-refused s g h r i c refusal
-      go true = draws (drawOf (k .state .clock) reading) refl
+  pub read-turned : (first : ℕ) → readStep (s .n) (s .m) (s .size) (s .stripes) k number reading first ≡ went w → TurnedRound s g h sent c w
+  unfolding readStep
+  read-turned first e =
+      let f : ℕ → Clock → Went = λ time clock. starting k clock (firstOp readingKind readKind number time first) (k .stripe) (targetFlags (s .n) (s .m) first) in
+      let p = passes (readRefusal (s .n) (s .m) (s .size) (s .stripes) (k .state) number reading first) (drawnThen (drawOf (k .state .clock) reading) f) w e in
+      let d = drawn-went (drawOf (k .state .clock) reading) f w (p .1) in
+      subst (TurnedRound s g h sent c) (d .3)
+      (started s g h sent c k v i items reading (d .0) (d .1) (d .2) readingKind readKind number first (k .stripe)
+      (targetFlags (s .n) (s .m) first) (omega arith) (λ e. omega (arith, e)) (λ e. absurd (omega (arith, e))))

@@ -1,9 +1,9 @@
--- Demand 3: every run has one order.
+-- Demand 3: every run has one order, stripe by stripe.
 use mathlib.Core.Path.{_≡_, refl, subst}
 use mathlib.Core.Bool.{Bool, true, false, cond}
 use mathlib.Core.List.{List, [], _∷_, append-nil, List·Memᴰ·head, List·Memᴰ·tail}
 use mathlib.Core.Path.{sym, _∙_}
-use Prim.Native.Nat.{ℕ, zero, suc}
+use Prim.Native.Nat.{ℕ, zero, suc, _<_}
 use lib.Dec.{ltb}
 use Rattle.settings.specs.Ranges.{SettingsRange}
 use Rattle.image.proofs.Laws.ParseLaws.{range-of}
@@ -12,86 +12,89 @@ use Rattle.byte_lists.specs.Little.{areBytes}
 use Rattle.byte_lists.proofs.Laws.LittleLaws.{are-bytes}
 use Rattle.coordinator.specs.Routines.{writeStep}
 use Rattle.order.specs.Claim.{OneOrder, _∈_}
-use Rattle.order.specs.Facts.{seen}
+use Rattle.settings.specs.Times.{coordinatorOf}
 use Rattle.order.proofs.Laws.OneOrderTheorem.{one-order}
 use Rattle.register.specs.Runs.{plain, Item, message, reply, freshSet, Event, startWrite, startRead, arrives, crashes, goesDown}
-use Rattle.register.specs.Runs.{comesUp, Moved, unmoved, putAt, coordinated, arriving, arrivingAt, standing, step, nextMoved, runFrom}
+use Rattle.register.specs.Runs.{comesUp, Moved, unmoved, joined, putAt, coordinated, arriving, arrivingAt, standing, step, nextMoved, runFrom}
 use Rattle.register.specs.Runs.{run}
 use Rattle.register.specs.Theorem.{EveryRunHasOneOrder}
-use Rattle.register.proofs.Laws.Invariant.{Hist, Inv}
-use Rattle.register.proofs.Laws.Invariant.{Goes}
-use Rattle.register.proofs.Laws.BrickEvent.{goes-unmoved, message-arrives}
-use Rattle.register.proofs.Laws.StartEvent.{write-starts, read-starts}
-use Rattle.register.proofs.Laws.CrashEvent.{crash-goes}
-use Rattle.register.proofs.Laws.ReplyEvent.{reply-arrives}
+use Rattle.register.proofs.Laws.Invariant.{Hist, Goes, view, Inv}
+use Rattle.register.proofs.Laws.StripeViewLaws.{goes-unmoved}
+use Rattle.register.proofs.Laws.BrickViewLaws.{message-arrives}
+use Rattle.register.proofs.Laws.StripeEvent.{reply-goes, write-goes, read-goes, crash-goes}
 use Rattle.register.proofs.Laws.FreshRunLaws.{fresh-holds}
 
-module _ (s : Settings) (g : SettingsRange s) where
+module _ (s : Settings) (g : SettingsRange s) (k : ℕ) where
   -- an item among those sent arrives
-  item-arrives : (h : Hist s) (r : Moved s) → Inv s g h r → (z : Item) → z ∈ r .world .sent → Goes s g r (arriving s (r .world) z)
-  item-arrives h r i (message b msg block) m = message-arrives s g h r i b msg block m
-  item-arrives h r i (reply a block) m = reply-arrives s g h r i a block m
+  item-arrives : (h : Hist s) (r : Moved s) → Inv s g k h r → (z : Item) → z ∈ r .world .sent → Goes s g (view k (joined s r (arriving s (r .world) z)))
+  item-arrives h r i (message b msg block) m = message-arrives s k r b g h i msg block m
+  item-arrives h r i (reply a block) m = unfold arriving in reply-goes s g k h r i (coordinatorOf (a .time)) a block m
 
-  place-arrives : (h : Hist s) (r : Moved s) → Inv s g h r → (l : List Item) → ((z : Item) → z ∈ l → z ∈ r .world .sent) → (k : ℕ)
-      → Goes s g r (arrivingAt s (r .world) l k)
+  place-arrives : (h : Hist s) (r : Moved s) → Inv s g k h r → (l : List Item) → ((z : Item) → z ∈ l → z ∈ r .world .sent) → (p : ℕ)
+      → Goes s g (view k (joined s r (arrivingAt s (r .world) l p)))
   unfolding arrivingAt
-  place-arrives h r i [] f k = goes-unmoved s g h r i
+  place-arrives h r i [] f p = goes-unmoved s g k h r i
   place-arrives h r i (z ∷ l) f zero = item-arrives h r i z (f z (List·Memᴰ·head refl))
-  place-arrives h r i (z ∷ l) f (suc k) = place-arrives h r i l (λ y m. f y (List·Memᴰ·tail m)) k
+  place-arrives h r i (z ∷ l) f (suc p) = place-arrives h r i l (λ y m. f y (List·Memᴰ·tail m)) p
 
-  stands : (h : Hist s) (r : Moved s) → Inv s g h r → (b : ℕ) (how : Bool) → Goes s g r (standing s (r .world) b how)
-  unfolding standing
+  stands : (h : Hist s) (r : Moved s) → Inv s g k h r → (b : ℕ) (how : Bool) → Goes s g (view k (joined s r (standing s (r .world) b how)))
+  unfolding standing view
   stands h r i b how = go (ltb b (s .n))
     where
       go : (a : Bool)
-          → Goes s g r
+          → Goes s g
+          (view k
+          (joined s r
           (cond a
           (record {
             world = record { images = r .world .images; up = putAt (r .world .up) b how; coordinators = r .world .coordinators; sent = r .world .sent };
-            seen = [];
+            seen = λ (j : ℕ). [];
           })
-          (unmoved s (r .world)))
+          (unmoved s (r .world)))))
       go true = (
         h,
         record {
           valid = i .valid;
-          seen-is = i .seen-is ∙ sym (append-nil (r .seen));
+          seen-is = i .seen-is ∙ sym (append-nil (r .seen k));
           bricks = i .bricks;
           items = i .items;
           coordinators = i .coordinators;
         },
       )
-      go false = goes-unmoved s g h r i
+      go false = goes-unmoved s g k h r i
 
-  -- what holds goes on to hold after each event,
-  pub step-goes : (h : Hist s) (r : Moved s) → Inv s g h r → (e : Event) → Goes s g r (step s (r .world) e)
+  -- what holds of stripe k goes on to hold after each event,
+  pub step-goes : (h : Hist s) (r : Moved s) → Inv s g k h r → (e : Event) → Goes s g (view k (joined s r (step s (r .world) e)))
   unfolding step
-  step-goes h r i (startWrite c reading content) = go (areBytes content) refl
+  step-goes h r i (startWrite c number reading content) = go (areBytes content) refl
     where
       go : (b : Bool) → areBytes content ≡ b
-          → Goes s g r
+          → Goes s g
+          (view k
+          (joined s r
           (cond b
-          (coordinated s (r .world) c (writeStep (s .n) (s .m) (s .size) (r .world .coordinators c) reading content))
-          (unmoved s (r .world)))
-      go true e = write-starts s g h r i c reading content (are-bytes content e)
-      go false e = goes-unmoved s g h r i
-  step-goes h r i (startRead c reading first) = read-starts s g h r i c reading first
-  step-goes h r i (arrives k) = place-arrives h r i (r .world .sent) (λ z m. m) k
-  step-goes h r i (crashes c left) = crash-goes s g h r i c left
+          (coordinated s (r .world) c (writeStep (s .n) (s .m) (s .size) (s .stripes) (r .world .coordinators c) number reading content))
+          (unmoved s (r .world)))))
+      go true e = write-goes s g k h r i c number reading content (are-bytes content e)
+      go false e = goes-unmoved s g k h r i
+  step-goes h r i (startRead c number reading first) = read-goes s g k h r i c number reading first
+  step-goes h r i (arrives p) = place-arrives h r i (r .world .sent) (λ z m. m) p
+  step-goes h r i (crashes c left) = crash-goes s g k h r i c left
   step-goes h r i (goesDown b) = stands h r i b false
   step-goes h r i (comesUp b) = stands h r i b true
 
   -- so after all of them
-  from-holds : (r : Moved s) → (h : Hist s) × Inv s g h r → (events : List Event) → (h : Hist s) × Inv s g h (runFrom s r events)
+  from-holds : (r : Moved s) → (h : Hist s) × Inv s g k h r → (events : List Event) → (h : Hist s) × Inv s g k h (runFrom s r events)
   unfolding runFrom nextMoved
   from-holds r w [] = w
   from-holds r w (e ∷ events) = from-holds (nextMoved s r e) (step-goes (w .0) r (w .1) e) events
 
-  pub run-holds : (events : List Event) → (h : Hist s) × Inv s g h (run s events)
+  pub run-holds : k < s .stripes → (events : List Event) → (h : Hist s) × Inv s g k h (run s events)
   unfolding run
-  run-holds events = from-holds (unmoved s (freshSet s)) ([], fresh-holds s g) events
+  run-holds low events = from-holds (unmoved s (freshSet s)) ([], fresh-holds s g k low) events
 
 pub every-run-has-one-order : EveryRunHasOneOrder
-every-run-has-one-order s e events =
-    let w = run-holds s (range-of s e) events in
+unfolding view
+every-run-has-one-order s e events k low =
+    let w = run-holds s (range-of s e) k low events in
     subst (OneOrder (plain s)) (w .1 .seen-is) (one-order (w .1 .valid))

@@ -12,16 +12,16 @@ use Rattle.settings.specs.Ranges.{SettingsRange}
 use Rattle.settings.specs.declared.Settings.{Settings}
 use Rattle.message.specs.declared.Message.{Message}
 use Rattle.image.specs.Brick.{Brick}
-use Rattle.coord_apply.specs.Answers.{Buffered, Broadcast, Went, refused, went}
+use Rattle.coord_apply.specs.Answers.{Buffered, Broadcast, Went}
 use Rattle.order.specs.Claim.{Action, Seen, _∈_}
 use Rattle.order.specs.Facts.{Source, End, Fact, began, launched, ended, seen, shows}
 use Rattle.order.specs.Places.{Suf, whole, above}
 use Rattle.order.specs.Valid.{OkBegan, OkLaunched, OkEnded, Ok, Valid, next}
-use Rattle.register.specs.Runs.{plain, Item, message, reply, Moved, putAt, seenOf, blockFor, toAll, broadcasts, coordinated}
-use Rattle.register.proofs.Laws.Invariant.{quorums, Hist, BrickInv, ItemInv, CoordinatorInv, Inv}
+use Rattle.register.specs.Runs.{plain, Item, message, reply, putAt, seenOf, blockFor, toAll, broadcasts}
+use Rattle.register.proofs.Laws.Invariant.{quorums, Hist, BrickInv, ItemInv, CoordinatorInv, View, ViewInv}
 use Rattle.register.proofs.Laws.UpLaws.{within-more, item-up, AtBrick, AtCoordinator, brick-up, coordinator-up, QuietWorld, coordinator-sent}
 use Rattle.register.proofs.Laws.Invariant.{Goes}
-use Rattle.register.proofs.Laws.BrickEvent.{goes-unmoved, put-here, put-there}
+use Rattle.register.proofs.Laws.BrickEvent.{put-here, put-there}
 
 -- the fields of a message among the items
 unfoldable pub time-of : Item → ℕ
@@ -109,17 +109,26 @@ pub record TurnedRound (s : Settings) (g : SettingsRange s) (h : Hist s) (sent :
   pub items : (i : Item) → i ∈ broadcasts s (w .sent) → ItemInv s g later (sent ++ broadcasts s (w .sent)) i
   pub own : (b : ℕ) (msg : Message) (block : List ℕ) → message b msg block ∈ broadcasts s (w .sent) → coordinatorOf (msg .time) ≡ c
 
-pub goes-turned : (s : Settings) (g : SettingsRange s) (h : Hist s) (r : Moved s) → Inv s g h r → (c : ℕ) (w : Went)
-    → TurnedRound s g h (r .world .sent) c w → Goes s g r (coordinated s (r .world) c (went w))
-unfolding coordinated
-goes-turned s g h r i c w t = (
+-- a view in which coordinator c went on
+abbrev pub turnedView : (s : Settings) → View s → ℕ → Went → View s
+turnedView s v c w =
+    record {
+      images = v .images;
+      coordinators = putAt (v .coordinators) c (w .next);
+      sent = v .sent ++ broadcasts s (w .sent);
+      seen = v .seen ++ seenOf s (w .seen) (w .next);
+    }
+
+pub goes-turned : (s : Settings) (g : SettingsRange s) (h : Hist s) (v : View s) → ViewInv s g h v → (c : ℕ) (w : Went)
+    → TurnedRound s g h (v .sent) c w → Goes s g (turnedView s v c w)
+goes-turned s g h v i c w t = (
   t .later,
   record {
     valid = t .turns .valid;
     seen-is = t .turns .seen-more ∙ ap (λ (z : List (Seen (plain s))). z ++ seenOf s (w .seen) (w .next)) (i .seen-is);
     bricks = λ b l. let x = i .bricks b l in
         record { state = x .state; saved = x .saved; sound = x .sound; keeps = t .turns .bricks b (x .state) (x .keeps) };
-    items = λ k m. item k (List·Memᴰ·append-cases (r .world .sent) m);
+    items = λ k m. item k (List·Memᴰ·append-cases (v .sent) m);
     coordinators = λ c′. at c′ (eqb c′ c) refl;
   },
 )
@@ -127,30 +136,24 @@ goes-turned s g h r i c w t = (
     new : List Item
     new = broadcasts s (w .sent)
 
-    item : (k : Item) → (k ∈ r .world .sent) ⊎ (k ∈ new) → ItemInv s g (t .later) (r .world .sent ++ new) k
-    item k (inl m) = item-up s g (t .turns .valid) (t .turns .longer) (within-more (r .world .sent) new) k (i .items k m)
+    item : (k : Item) → (k ∈ v .sent) ⊎ (k ∈ new) → ItemInv s g (t .later) (v .sent ++ new) k
+    item k (inl m) = item-up s g (t .turns .valid) (t .turns .longer) (within-more (v .sent) new) k (i .items k m)
     item k (inr m) = t .items k m
 
-    quiet : (c′ : ℕ) → (c′ ≡ c → ⊥) → QuietWorld c′ (r .world .sent) (r .world .sent ++ new)
-    quiet c′ n b msg block m e q = go (List·Memᴰ·append-cases (r .world .sent) m)
+    quiet : (c′ : ℕ) → (c′ ≡ c → ⊥) → QuietWorld c′ (v .sent) (v .sent ++ new)
+    quiet c′ n b msg block m e q = go (List·Memᴰ·append-cases (v .sent) m)
       where
-        go : (message b msg block ∈ r .world .sent) ⊎ (message b msg block ∈ new) → message b msg block ∈ r .world .sent
+        go : (message b msg block ∈ v .sent) ⊎ (message b msg block ∈ new) → message b msg block ∈ v .sent
         go (inl p) = p
         go (inr p) = absurd (n (sym q ∙ t .own b msg block p))
 
-    at : (c′ : ℕ) (a : Bool) → eqb c′ c ≡ a → CoordinatorInv s g (t .later) (r .world .sent ++ new) c′ (putAt (r .world .coordinators) c (w .next) c′)
+    at : (c′ : ℕ) (a : Bool) → eqb c′ c ≡ a → CoordinatorInv s g (t .later) (v .sent ++ new) c′ (putAt (v .coordinators) c (w .next) c′)
     at c′ true e =
         let q = eqb-true c′ c e in
-        subst (λ (z : ℕ). CoordinatorInv s g (t .later) (r .world .sent ++ new) z (putAt (r .world .coordinators) c (w .next) z)) (sym q)
-        (subst (CoordinatorInv s g (t .later) (r .world .sent ++ new) c) (sym (put-here (r .world .coordinators) c (w .next))) (t .keeps))
+        subst (λ (z : ℕ). CoordinatorInv s g (t .later) (v .sent ++ new) z (putAt (v .coordinators) c (w .next) z)) (sym q)
+        (subst (CoordinatorInv s g (t .later) (v .sent ++ new) c) (sym (put-here (v .coordinators) c (w .next))) (t .keeps))
     at c′ false e =
         let n = eqb-false c′ c e in
-        subst (CoordinatorInv s g (t .later) (r .world .sent ++ new) c′) (sym (put-there (r .world .coordinators) c (w .next) c′ n))
-        (coordinator-sent (within-more (r .world .sent) new) (quiet c′ n)
-        (t .turns .others c′ n (r .world .sent) (r .world .coordinators c′) (i .coordinators c′)))
-
--- a routine that is refused changes nothing
-pub goes-refused : (s : Settings) (g : SettingsRange s) (h : Hist s) (r : Moved s) → Inv s g h r → (c number : ℕ)
-    → Goes s g r (coordinated s (r .world) c (refused number))
-unfolding coordinated
-goes-refused s g h r i c number = goes-unmoved s g h r i
+        subst (CoordinatorInv s g (t .later) (v .sent ++ new) c′) (sym (put-there (v .coordinators) c (w .next) c′ n))
+        (coordinator-sent (within-more (v .sent) new) (quiet c′ n)
+        (t .turns .others c′ n (v .sent) (v .coordinators c′) (i .coordinators c′)))

@@ -1,26 +1,27 @@
 -- Buffers filled entry by entry, and the ways through the routines.
-use mathlib.Core.Path.{_≡_, refl, sym, ap, _∙_}
+use mathlib.Core.Path.{_≡_, refl, sym, ap, ap₂, _∙_}
 use mathlib.Core.Bool.{Bool, true, false}
 use mathlib.Core.List.{List, [], _∷_}
 use Prim.Native.Nat.{ℕ, _≤_, _<_}
-use native.Mathlib.Omega.{arith}
 use lib.Dec.{eqb}
 use lib.ListN.{length, getD, set}
 use borrow.Author.Tests.{eq-eqb, ne-eqb, eqb-true, le-leb, lt-leb}
 use Rattle.byte_lists.proofs.Laws.BoolLaws.{and-left, and-right}
-use Rattle.test_brick.specs.BrickBoundary.{pairLength, messageLength, replyLength, ownRefusal, FreshGiven, freshAt, PairGiven, pairUnless, shownBuffer, panelPair, panelAt}
-use Rattle.test_brick.specs.BrickBoundary.{entryBuffer, entryPair, entryPairAt, askedKindAt, askedTimeAt, askedRoundAt, askedMaxAt, askedTargetsAt, lastByte, asByte, asBytes, messageOf}
-use Rattle.test_brick.specs.BrickBoundary.{silence, answerCode, replyNumbers, givenBuffer, receipt, numbersRight, receiptUnless, receiptAt}
-use Rattle.brick.specs.Receive.{givenNumber, outcomeWith, outcome}
+use Rattle.test_brick.specs.BrickBoundary.{pairLength, messageLength, replyLength, ownRefusal, freshWith, PairGiven, pairUnless, shownBuffer, panelPair, panelAt}
+use Rattle.test_brick.specs.BrickBoundary.{entryBuffer, entryPair, entryPairAt, askedKindAt, askedTimeAt, askedRoundAt, askedMaxAt, askedStripeAt}
+use Rattle.test_brick.specs.BrickBoundary.{askedTargetsAt, lastByte, asByte, asBytes, messageOf}
+use Rattle.test_brick.specs.BrickBoundary.{silence, answerCode, replyNumbers, givenBuffer, receiptWith, receipt, numbersRight, receiptAt}
+use Rattle.brick.specs.Receive.{Outcome, givenNumber, outcomeWith}
 use Rattle.image.specs.Parse.{parse}
-use Rattle.image_write.specs.Saving.{freshAfter}
+use Rattle.byte_lists.proofs.Laws.PutLaws.{stores}
+use Rattle.volume.proofs.Laws.PlaceRefusalLaws.{two}
 use Rattle.settings.proofs.Laws.RefusalLaws.{first-stop, passed-first, passed-rest, tested}
 use Rattle.settings.specs.Ranges.{maxBricks, settingsRefusal}
 use Rattle.settings.specs.Refusal.{passed, firstRefusal, badLength}
 use Rattle.settings.specs.declared.Settings.{Settings}
 use Rattle.brick.specs.declared.Given.{Given}
 use Rattle.brick.specs.declared.Given.the-variants.{Answered, Silent, Refused}
-use Rattle.image.specs.Opening.{lendingRefusal, panelOf, placeIn, shownNumber}
+use Rattle.image.specs.Opening.{panelOf, placeIn, shownNumber}
 use Rattle.image.specs.declared.Entry.{Entry}
 use Rattle.image.specs.declared.Panel.{Panel}
 use Rattle.image.specs.declared.Shown.{Shown}
@@ -32,33 +33,12 @@ use Rattle.image_view.specs.View.{foundNumber, foundOf}
 use Rattle.image_view.specs.declared.Found.{Found}
 use Rattle.image_view.specs.declared.Found.the-variants.{At}
 
--- seven stores fill a buffer of seven
-pub seven : (l : List ℕ) (a b c d e f g : ℕ) → length l ≡ replyLength
-    → set (set (set (set (set (set (set l 0 a) 1 b) 2 c) 3 d) 4 e) 5 f) 6 g ≡ a ∷ b ∷ c ∷ d ∷ e ∷ f ∷ g ∷ []
-seven [] a b c d e f g h = absurd (omega arith)
-seven (x0 ∷ []) a b c d e f g h = absurd (omega arith)
-seven (x0 ∷ x1 ∷ []) a b c d e f g h = absurd (omega arith)
-seven (x0 ∷ x1 ∷ x2 ∷ []) a b c d e f g h = absurd (omega arith)
-seven (x0 ∷ x1 ∷ x2 ∷ x3 ∷ []) a b c d e f g h = absurd (omega arith)
-seven (x0 ∷ x1 ∷ x2 ∷ x3 ∷ x4 ∷ []) a b c d e f g h = absurd (omega arith)
-seven (x0 ∷ x1 ∷ x2 ∷ x3 ∷ x4 ∷ x5 ∷ []) a b c d e f g h = absurd (omega arith)
-seven (x0 ∷ x1 ∷ x2 ∷ x3 ∷ x4 ∷ x5 ∷ x6 ∷ []) a b c d e f g h = refl
-seven (x0 ∷ x1 ∷ x2 ∷ x3 ∷ x4 ∷ x5 ∷ x6 ∷ y ∷ ys) a b c d e f g h = absurd (omega arith)
-
 pub reply-put : (l : List ℕ) (r : Reply) (y h : ℕ) → length l ≡ replyLength → y ≡ one-if (r .yes) → h ≡ one-if (r .held)
-    → set (set (set (set (set (set (set l 0 (r .kind)) 1 (r .brick)) 2 (r .time)) 3 (r .round)) 4 y) 5 (r .found)) 6 h ≡ replyNumbers r
+    → set (set (set (set (set (set (set (set l 0 (r .kind)) 1 (r .brick)) 2 (r .time)) 3 (r .round)) 4 y) 5 (r .found)) 6 h) 7 (r .stripe) ≡ replyNumbers r
 unfolding replyNumbers
 reply-put l r y h e ey eh =
-    seven l (r .kind) (r .brick) (r .time) (r .round) y (r .found) h e
-    ∙ ap (λ (a : ℕ). r .kind ∷ r .brick ∷ r .time ∷ r .round ∷ a ∷ r .found ∷ h ∷ []) ey
-    ∙ ap (λ (a : ℕ). r .kind ∷ r .brick ∷ r .time ∷ r .round ∷ one-if (r .yes) ∷ r .found ∷ a ∷ []) eh
-
--- two stores fill a buffer of two
-pub two : (l : List ℕ) (a b : ℕ) → length l ≡ pairLength → set (set l 0 a) 1 b ≡ a ∷ b ∷ []
-two [] a b h = absurd (omega arith)
-two (x ∷ []) a b h = absurd (omega arith)
-two (x ∷ y ∷ []) a b h = refl
-two (x ∷ y ∷ z ∷ l) a b h = absurd (omega arith)
+    stores (r .kind ∷ r .brick ∷ r .time ∷ r .round ∷ y ∷ r .found ∷ h ∷ r .stripe ∷ []) l e
+    ∙ ap₂ (λ (a b : ℕ). r .kind ∷ r .brick ∷ r .time ∷ r .round ∷ a ∷ r .found ∷ b ∷ r .stripe ∷ []) ey eh
 
 -- the ways through the boundary's own refusals
 pub own-setting : (s : Settings) (right : Bool) (k : ℕ) → k ≡ settingsRefusal s → (k ≡ passed → ⊥) → k ≡ ownRefusal s right
@@ -78,11 +58,9 @@ own-tested : (s : Settings) (right : Bool) → ownRefusal s right ≡ passed →
 unfolding ownRefusal
 own-tested s right e = tested right 1 (passed-first _ [] (passed-rest (settingsRefusal s) _ e))
 
--- a fresh image
-pub fresh-is : (s : Settings) (brick k : ℕ) (image image₁ : List ℕ) → k ≡ lendingRefusal s brick (length image) → image₁ ≡ freshAfter s brick image
-    → _≡_ {A = FreshGiven} (record { number = k; image = image₁ }) (freshAt s brick image)
-unfolding freshAt
-fresh-is s brick k image image₁ e f = rw (e, f) refl
+-- a fresh brick
+pub fresh-is : (k k′ : ℕ) (image image′ : List ℕ) → k ≡ k′ → image ≡ image′ → freshWith k image ≡ freshWith k′ image′
+fresh-is k k′ image image′ e f = ap₂ freshWith e f
 
 -- the panel's and the view's buffer: k is the boundary's own refusal
 module _ (s : Settings) (old : List ℕ) (k : ℕ) (own : k ≡ ownRefusal s (eqb (length old) pairLength)) where
@@ -156,7 +134,7 @@ byte-large k h = rw (lt-leb k lastByte h) refl
 -- a message read off its numbers
 pub message-is : (asked : List ℕ) (kind : ℕ) (targets : List ℕ) → kind ≡ asByte (getD asked askedKindAt 0) → targets ≡ asBytes askedTargetsAt maxBricks asked
     → _≡_ {A = Message}
-    (record { kind = kind; time = getD asked askedTimeAt 0; round = getD asked askedRoundAt 0; max = getD asked askedMaxAt 0; targets = targets })
+    (record { kind = kind; stripe = getD asked askedStripeAt 0; time = getD asked askedTimeAt 0; round = getD asked askedRoundAt 0; max = getD asked askedMaxAt 0; targets = targets })
     (messageOf asked)
 unfolding messageOf
 message-is asked kind targets e f = rw (e, f) refl
@@ -179,16 +157,15 @@ module _ (s : Settings) (asked reply : ℕ) (k : ℕ) (right : Bool) (e : right 
   unfolding numbersRight
   reply-long = eqb-true reply replyLength (and-right (eqb asked messageLength) _ (sym e ∙ own-tested s right (sym own ∙ h)))
 
--- the ways through a message: k is the boundary's own refusal
-module _ (s : Settings) (brick : ℕ) (asked block image out reply : List ℕ) (k : ℕ) (right : Bool) (e : right ≡ numbersRight (length asked) (length reply))
+-- the ways through a message, where it came to outcome o: k is the boundary's own refusal
+module _ (s : Settings) (asked image out reply : List ℕ) (o : Outcome) (k : ℕ) (right : Bool) (e : right ≡ numbersRight (length asked) (length reply))
     (own : k ≡ ownRefusal s right) where
-  pub receive-kept : (k ≡ passed → ⊥) → record { number = k; image = image; out = out; reply = reply } ≡ receiptAt s brick asked block image out reply
-  unfolding receiptAt receiptUnless
+  pub receive-kept : (k ≡ passed → ⊥) → receiptWith k image out reply ≡ receiptAt s asked image out reply o
+  unfolding receiptAt
   receive-kept h = rw (← e, ← own, ne-eqb k passed h) refl
 
-  pub receive-whole : (msg : Message) (g : Given) (number : ℕ) (image₁ out₁ reply₁ : List ℕ) → k ≡ passed → msg ≡ messageOf asked
-      → outcomeWith g image₁ out₁ ≡ outcome s brick image msg block out
+  pub receive-whole : (g : Given) (number : ℕ) (image₁ out₁ reply₁ : List ℕ) → k ≡ passed → outcomeWith g image₁ out₁ ≡ o
       → number ≡ answerCode g → reply₁ ≡ givenBuffer g reply
-      → record { number = number; image = image₁; out = out₁; reply = reply₁ } ≡ receiptAt s brick asked block image out reply
-  unfolding receiptAt receiptUnless receipt
-  receive-whole msg g number image₁ out₁ reply₁ h f eo en er = rw (← e, ← own, eq-eqb k passed h, ← f, ← eo, ← en, ← er) refl
+      → receiptWith number image₁ out₁ reply₁ ≡ receiptAt s asked image out reply o
+  unfolding receiptAt receipt
+  receive-whole g number image₁ out₁ reply₁ h eo en er = rw (← e, ← own, eq-eqb k passed h, ← eo, ← en, ← er) refl

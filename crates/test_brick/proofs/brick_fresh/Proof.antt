@@ -10,7 +10,7 @@ same-length : tie.Need-same-length
 same-length c = search needs
 
 returns : tie.Need-returns
-returns c = fresh-is _ _ _ _ _ (c .before .before .write-fresh .ensures .0) (c .before .before .write-fresh .ensures .1)
+returns c = fresh-is _ _ _ _ (c .before .before .write-fresh .ensures .0) (c .before .before .write-fresh .ensures .1)
 
 pub brick-fresh-spec : {M : Type 1} → statement M
 brick-fresh-spec = tie.close (tie.spec write-fresh-requires same-length returns)

@@ -10,7 +10,7 @@ own-refusal-requires : tie.Need-own-refusal-requires
 own-refusal-requires c κs = search needs
 
 returns : tie.Need-returns
-returns c = receive-kept _ _ _ _ _ _ _ _ _ (c .before .before .numbers-right .ensures) (c .before .own-refusal .ensures) (c .if1 .taken)
+returns c = receive-kept _ _ _ _ _ _ _ _ (c .before .before .numbers-right .ensures) (c .before .own-refusal .ensures) (c .if1 .taken)
 
 message-of-requires : tie.Need-message-of-requires
 message-of-requires c κs = asked-long _ _ _ _ _ (c .before .before .numbers-right .ensures) (c .before .own-refusal .ensures) (c .if1 .left)
@@ -35,9 +35,9 @@ returns-2 : tie.Need-returns-2
 returns-2 c =
     let whole = c .before .before .before .before .before .before .before .before .before .before .before .before in
     let put = c .before .before .put-given .ensures in
-    receive-whole _ _ _ _ _ _ _ _ _ (whole .before .before .numbers-right .ensures) (whole .before .own-refusal .ensures) _ _ _ _ _ _ (whole .if1 .left)
-    (c .before .before .before .before .before .before .before .before .before .before .before .message-of .ensures)
-    (c .before .before .before .before .before .before .before .before .receive .ensures) (put .0) (put .1)
+    let message = c .before .before .before .before .before .before .before .before .before .before .before .message-of .ensures in
+    receive-whole _ _ _ _ _ _ _ _ (whole .before .before .numbers-right .ensures) (whole .before .own-refusal .ensures) _ _ _ _ _ (whole .if1 .left)
+    (rw message at (c .before .before .before .before .before .before .before .before .receive .ensures)) (put .0) (put .1)
 
 pub brick-receive-spec : {M : Type 1} → statement M
 brick-receive-spec =

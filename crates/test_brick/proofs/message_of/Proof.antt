@@ -18,14 +18,18 @@ as-bytes-requires c κs = search needs
 shared-slice-read-t5 : tie.Need-shared-slice-read-t5
 shared-slice-read-t5 c = search needs
 
-shared-slice-read-t11 : tie.Need-shared-slice-read-t11
-shared-slice-read-t11 c = search needs
+shared-slice-read-t12 : tie.Need-shared-slice-read-t12
+shared-slice-read-t12 c = search needs
 
-shared-slice-read-t13 : tie.Need-shared-slice-read-t13
-shared-slice-read-t13 c = search needs
+shared-slice-read-t14 : tie.Need-shared-slice-read-t14
+shared-slice-read-t14 c = search needs
+
+shared-slice-read-t16 : tie.Need-shared-slice-read-t16
+shared-slice-read-t16 c = search needs
 
 returns : tie.Need-returns
-returns c = message-is _ _ _ (c .before .before .before .before .before .before .as-byte .ensures) (c .before .before .before .before .as-bytes .ensures)
+returns c =
+    message-is _ _ _ (c .before .before .before .before .before .before .before .as-byte .ensures) (c .before .before .before .before .before .as-bytes .ensures)
 
 pub message-of-spec : {M : Type 1} → statement M
 message-of-spec =
@@ -36,6 +40,7 @@ message-of-spec =
     slice-aggregate-as-bytes
     as-bytes-requires
     shared-slice-read-t5
-    shared-slice-read-t11
-    shared-slice-read-t13
+    shared-slice-read-t12
+    shared-slice-read-t14
+    shared-slice-read-t16
     returns)

@@ -1,3 +1,4 @@
+use native.Mathlib.Omega.{arith}
 use Rattle.test_brick.proofs.Laws.BrickBoundaryLaws.{own-setting, own-right, own-short}
 use borrow.Author.Needs.{needs}
 use Rattle.test_brick.proofs.own_refusal.Statement.{statement}
@@ -7,7 +8,7 @@ refusal-requires : tie.Need-refusal-requires
 refusal-requires c κs = search needs
 
 returns : tie.Need-returns
-returns c = search (needs, own-setting)
+returns c = own-setting _ _ _ (c .before .refusal .ensures) (λ z. omega (arith, c .if1 .taken, z))
 
 returns-2 : tie.Need-returns-2
 returns-2 c = search (needs, own-right)

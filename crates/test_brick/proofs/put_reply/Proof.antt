@@ -35,6 +35,9 @@ flag-requires-2 c κs = search needs
 slice-write-reply-7 : tie.Need-slice-write-reply-7
 slice-write-reply-7 c = simp length-set (omega arith)
 
+slice-write-reply-8 : tie.Need-slice-write-reply-8
+slice-write-reply-8 c = simp length-set (omega arith)
+
 same-length : tie.Need-same-length
 same-length c = search needs
 
@@ -56,5 +59,6 @@ put-reply-spec =
     slice-write-reply-6
     flag-requires-2
     slice-write-reply-7
+    slice-write-reply-8
     same-length
     returns)

@@ -9,16 +9,18 @@ use lib.ListN.{length, getD, set, take, drop, length-append, length-drop, length
 use lib.Seq.{take-append-add, drop-append-add, take-at, drop-set-add}
 use borrow.Author.Tests.{eq-eqb, ne-eqb, eqb-true}
 use borrow.Rule.Slice.PartMut.{putMid, post-is}
+use Rattle.byte_lists.proofs.Laws.PutLaws.{stores}
 use Rattle.byte_lists.specs.Lists.{tabulate}
 use Rattle.byte_lists.proofs.Laws.TabulateLaws.{tabulate-by}
 use Rattle.test_coordinator.specs.CoordinatorBoundary.{recordNumbersLength, recordBytesLength, answerNumbersLength, answerBytesLength, coordinatorAt, lastAt, recordTimeAt, roundAt, maxAt}
-use Rattle.test_coordinator.specs.CoordinatorBoundary.{firstAt, recordNAt, recordMAt, recordSizeAt, recordFoundAt, kindAt, phaseAt, countedAt, grantedAt, recordHeldAt, bricksAt}
+use Rattle.test_coordinator.specs.CoordinatorBoundary.{firstAt, recordNAt, recordMAt, recordSizeAt, recordStripesAt, recordStripeAt, recordFoundAt}
+use Rattle.test_coordinator.specs.CoordinatorBoundary.{kindAt, phaseAt, countedAt, grantedAt, recordHeldAt, bricksAt}
 use Rattle.test_coordinator.specs.CoordinatorBoundary.{targetsAt, seenBricksAt, secondTargetsAt, secondKindAt, lentRefusal, rowsRefusal}
 use Rattle.test_coordinator.specs.CoordinatorBoundary.{recordFor, recordNumbers, recordBytes, answerNumbers, answerBytes, Rows, rows, lentLengths, laidOut, atBoundary, crossing, rowPut, rowAt}
 use Rattle.coord_apply.specs.Answers.{Returned, returned}
-use Rattle.settings.specs.Ranges.{maxBricks, codeRefusal}
+use Rattle.settings.specs.Ranges.{maxBricks, codeRefusal, stripeCountRefusal}
 use Rattle.settings.specs.Refusal.{passed, firstRefusal, badLength}
-use Rattle.settings.proofs.Laws.RefusalLaws.{first-stop, passed-first, passed-rest, tested}
+use Rattle.settings.proofs.Laws.RefusalLaws.{first-stop, first-pass, passed-first, passed-rest, tested}
 use Rattle.coord_apply.specs.declared.Answer.{Answer}
 use Rattle.coord_record.specs.declared.Coordinator.{Coordinator}
 use Rattle.byte_lists.proofs.Laws.BoolLaws.{and-left, and-right}
@@ -59,21 +61,23 @@ pub last-row : (row l : List ℕ) → length l ≡ maxBricks → row ++ drop max
 last-row row l e = ap (λ (z : List ℕ). row ++ z) (none-left (drop maxBricks l) (length-drop maxBricks l ∙ (omega arith))) ∙ append-nil row
 
 -- the numbers of a record
-pub numbers-are : (out : List ℕ) (a b c d e f g h i : ℕ) (row o : List ℕ) → length out ≡ recordNumbersLength
-    → o ≡ rowPut recordFoundAt row (set (set (set (set (set (set (set (set (set out 0 a) 1 b) 2 c) 3 d) 4 e) 5 f) 6 g) 7 h) 8 i)
-    → o ≡ a ∷ b ∷ c ∷ d ∷ e ∷ f ∷ g ∷ h ∷ i ∷ row
-numbers-are [] a b c d e f g h i row o k p = absurd (omega arith)
-numbers-are (x0 ∷ []) a b c d e f g h i row o k p = absurd (omega arith)
-numbers-are (x0 ∷ x1 ∷ []) a b c d e f g h i row o k p = absurd (omega arith)
-numbers-are (x0 ∷ x1 ∷ x2 ∷ []) a b c d e f g h i row o k p = absurd (omega arith)
-numbers-are (x0 ∷ x1 ∷ x2 ∷ x3 ∷ []) a b c d e f g h i row o k p = absurd (omega arith)
-numbers-are (x0 ∷ x1 ∷ x2 ∷ x3 ∷ x4 ∷ []) a b c d e f g h i row o k p = absurd (omega arith)
-numbers-are (x0 ∷ x1 ∷ x2 ∷ x3 ∷ x4 ∷ x5 ∷ []) a b c d e f g h i row o k p = absurd (omega arith)
-numbers-are (x0 ∷ x1 ∷ x2 ∷ x3 ∷ x4 ∷ x5 ∷ x6 ∷ []) a b c d e f g h i row o k p = absurd (omega arith)
-numbers-are (x0 ∷ x1 ∷ x2 ∷ x3 ∷ x4 ∷ x5 ∷ x6 ∷ x7 ∷ []) a b c d e f g h i row o k p = absurd (omega arith)
-numbers-are (x0 ∷ x1 ∷ x2 ∷ x3 ∷ x4 ∷ x5 ∷ x6 ∷ x7 ∷ x8 ∷ l) a b c d e f g h i row o k p =
-    p ∙ put-behind (a ∷ b ∷ c ∷ d ∷ e ∷ f ∷ g ∷ h ∷ i ∷ []) l row (a ∷ b ∷ c ∷ d ∷ e ∷ f ∷ g ∷ h ∷ i ∷ l) recordFoundAt refl refl
-    ∙ ap (λ (z : List ℕ). a ∷ b ∷ c ∷ d ∷ e ∷ f ∷ g ∷ h ∷ i ∷ z) (last-row row l (let s : length l ≡ maxBricks = omega arith in s))
+pub numbers-are : (out : List ℕ) (a b c d e f g h i j m : ℕ) (row o : List ℕ) → length out ≡ recordNumbersLength
+    → o ≡ rowPut recordFoundAt row (set (set (set (set (set (set (set (set (set (set (set out 0 a) 1 b) 2 c) 3 d) 4 e) 5 f) 6 g) 7 h) 8 i) 9 j) 10 m)
+    → o ≡ a ∷ b ∷ c ∷ d ∷ e ∷ f ∷ g ∷ h ∷ i ∷ j ∷ m ∷ row
+numbers-are [] a b c d e f g h i j m row o k p = absurd (omega arith)
+numbers-are (x0 ∷ []) a b c d e f g h i j m row o k p = absurd (omega arith)
+numbers-are (x0 ∷ x1 ∷ []) a b c d e f g h i j m row o k p = absurd (omega arith)
+numbers-are (x0 ∷ x1 ∷ x2 ∷ []) a b c d e f g h i j m row o k p = absurd (omega arith)
+numbers-are (x0 ∷ x1 ∷ x2 ∷ x3 ∷ []) a b c d e f g h i j m row o k p = absurd (omega arith)
+numbers-are (x0 ∷ x1 ∷ x2 ∷ x3 ∷ x4 ∷ []) a b c d e f g h i j m row o k p = absurd (omega arith)
+numbers-are (x0 ∷ x1 ∷ x2 ∷ x3 ∷ x4 ∷ x5 ∷ []) a b c d e f g h i j m row o k p = absurd (omega arith)
+numbers-are (x0 ∷ x1 ∷ x2 ∷ x3 ∷ x4 ∷ x5 ∷ x6 ∷ []) a b c d e f g h i j m row o k p = absurd (omega arith)
+numbers-are (x0 ∷ x1 ∷ x2 ∷ x3 ∷ x4 ∷ x5 ∷ x6 ∷ x7 ∷ []) a b c d e f g h i j m row o k p = absurd (omega arith)
+numbers-are (x0 ∷ x1 ∷ x2 ∷ x3 ∷ x4 ∷ x5 ∷ x6 ∷ x7 ∷ x8 ∷ []) a b c d e f g h i j m row o k p = absurd (omega arith)
+numbers-are (x0 ∷ x1 ∷ x2 ∷ x3 ∷ x4 ∷ x5 ∷ x6 ∷ x7 ∷ x8 ∷ x9 ∷ []) a b c d e f g h i j m row o k p = absurd (omega arith)
+numbers-are (x0 ∷ x1 ∷ x2 ∷ x3 ∷ x4 ∷ x5 ∷ x6 ∷ x7 ∷ x8 ∷ x9 ∷ x10 ∷ l) a b c d e f g h i j m row o k p =
+    p ∙ put-behind (a ∷ b ∷ c ∷ d ∷ e ∷ f ∷ g ∷ h ∷ i ∷ j ∷ m ∷ []) l row (a ∷ b ∷ c ∷ d ∷ e ∷ f ∷ g ∷ h ∷ i ∷ j ∷ m ∷ l) recordFoundAt refl refl
+    ∙ ap (λ (z : List ℕ). a ∷ b ∷ c ∷ d ∷ e ∷ f ∷ g ∷ h ∷ i ∷ j ∷ m ∷ z) (last-row row l (let s : length l ≡ maxBricks = omega arith in s))
 
 -- the bytes of an answer: three bytes and two rows
 pub only : (l : List ℕ) (w : ℕ) → length l ≡ 1 → set l 0 w ≡ w ∷ []
@@ -157,18 +161,9 @@ bytes-are (x0 ∷ x1 ∷ l) x y a b c d o1 o2 o3 o4 h la lb lc p1 p2 p3 p4 =
     third = p3 ∙ put-behind (x ∷ y ∷ (a ++ b)) l2 c o2 34 long-2 (second ∙ ap (λ (r : List ℕ). x ∷ y ∷ r) (sym (append-assoc a b l2)))
 
 -- the numbers of an answer
-pub eight : (l : List ℕ) (a b c d e f g k : ℕ) → length l ≡ answerNumbersLength
-    → set (set (set (set (set (set (set (set l 0 a) 1 b) 2 c) 3 d) 4 e) 5 f) 6 g) 7 k ≡ a ∷ b ∷ c ∷ d ∷ e ∷ f ∷ g ∷ k ∷ []
-eight [] a b c d e f g k h = absurd (omega arith)
-eight (x0 ∷ []) a b c d e f g k h = absurd (omega arith)
-eight (x0 ∷ x1 ∷ []) a b c d e f g k h = absurd (omega arith)
-eight (x0 ∷ x1 ∷ x2 ∷ []) a b c d e f g k h = absurd (omega arith)
-eight (x0 ∷ x1 ∷ x2 ∷ x3 ∷ []) a b c d e f g k h = absurd (omega arith)
-eight (x0 ∷ x1 ∷ x2 ∷ x3 ∷ x4 ∷ []) a b c d e f g k h = absurd (omega arith)
-eight (x0 ∷ x1 ∷ x2 ∷ x3 ∷ x4 ∷ x5 ∷ []) a b c d e f g k h = absurd (omega arith)
-eight (x0 ∷ x1 ∷ x2 ∷ x3 ∷ x4 ∷ x5 ∷ x6 ∷ []) a b c d e f g k h = absurd (omega arith)
-eight (x0 ∷ x1 ∷ x2 ∷ x3 ∷ x4 ∷ x5 ∷ x6 ∷ x7 ∷ []) a b c d e f g k h = refl
-eight (x0 ∷ x1 ∷ x2 ∷ x3 ∷ x4 ∷ x5 ∷ x6 ∷ x7 ∷ y ∷ l) a b c d e f g k h = absurd (omega arith)
+pub eleven : (l : List ℕ) (a b c d e f g i j k m : ℕ) → length l ≡ answerNumbersLength
+    → set (set (set (set (set (set (set (set (set (set (set l 0 a) 1 b) 2 c) 3 d) 4 e) 5 f) 6 g) 7 i) 8 j) 9 k) 10 m ≡ a ∷ b ∷ c ∷ d ∷ e ∷ f ∷ g ∷ i ∷ j ∷ k ∷ m ∷ []
+eleven l a b c d e f g i j k m h = stores (a ∷ b ∷ c ∷ d ∷ e ∷ f ∷ g ∷ i ∷ j ∷ k ∷ m ∷ []) l h
 
 -- the ways through the test of the four buffers
 pub lent-no-numbers : (a b c d : ℕ) → (a ≡ recordNumbersLength → ⊥) → false ≡ lentLengths a b c d
@@ -215,12 +210,19 @@ pub record-is : (numbers bytes found counted granted held bricks : List ℕ) →
     → held ≡ rowAt recordHeldAt bytes → bricks ≡ rowAt bricksAt bytes
     → _≡_ {A = Coordinator}
     (record {
-      geometry = record { n = getD numbers recordNAt 0; m = getD numbers recordMAt 0; size = getD numbers recordSizeAt 0 };
+      geometry =
+          record {
+            n = getD numbers recordNAt 0;
+            m = getD numbers recordMAt 0;
+            size = getD numbers recordSizeAt 0;
+            stripes = getD numbers recordStripesAt 0;
+          };
       clock = record { coordinator = getD numbers coordinatorAt 0; last = getD numbers lastAt 0 };
       op =
           record {
             kind = getD bytes kindAt 0;
             phase = getD bytes phaseAt 0;
+            stripe = getD numbers recordStripeAt 0;
             time = getD numbers recordTimeAt 0;
             round = getD numbers roundAt 0;
             max = getD numbers maxAt 0;
@@ -253,35 +255,44 @@ lengths-right a b c d e =
     }
 
 -- the ways through the boundary's own refusals, and what it says that none was made
-module _ (n m size a b c d k : ℕ) where
-  pub lent-setting : k ≡ codeRefusal n m size → (k ≡ passed → ⊥) → k ≡ lentRefusal n m size a b c d
+module _ (n m size stripes a b c d k : ℕ) where
+  pub lent-setting : k ≡ codeRefusal n m size → (k ≡ passed → ⊥) → k ≡ lentRefusal n m size stripes a b c d
   unfolding lentRefusal
   lent-setting e h = e ∙ first-stop (codeRefusal n m size) _ (λ q. h (e ∙ q))
 
-  pub lent-passed : (right : Bool) → k ≡ codeRefusal n m size → k ≡ passed → right ≡ lentLengths a b c d → right ≡ true → passed ≡ lentRefusal n m size a b c d
-  unfolding lentRefusal firstRefusal
-  lent-passed right e h f r = rw (← e, h, ← f, r) refl
-
-  pub lent-short : (right : Bool) → k ≡ codeRefusal n m size → k ≡ passed → right ≡ lentLengths a b c d → right ≡ false → badLength ≡ lentRefusal n m size a b c d
-  unfolding lentRefusal firstRefusal
-  lent-short right e h f r = rw (← e, h, ← f, r) refl
-
-  pub lengths : k ≡ lentRefusal n m size a b c d → k ≡ passed → Lengths a b c d
+  pub lent-count : (s : ℕ) → k ≡ codeRefusal n m size → k ≡ passed → s ≡ stripeCountRefusal stripes → (s ≡ passed → ⊥) → s ≡ lentRefusal n m size stripes a b c d
   unfolding lentRefusal
-  lengths e h = lengths-right a b c d (tested _ 1 (passed-first _ [] (passed-rest (codeRefusal n m size) _ (sym e ∙ h))))
+  lent-count s e h f g =
+      f ∙ first-stop (stripeCountRefusal stripes) _ (λ q. g (f ∙ q)) ∙ sym (first-pass (codeRefusal n m size) _ (sym e ∙ h))
+
+  pub lent-passed : (s : ℕ) (right : Bool) → k ≡ codeRefusal n m size → k ≡ passed → s ≡ stripeCountRefusal stripes → s ≡ passed → right ≡ lentLengths a b c d
+      → right ≡ true → passed ≡ lentRefusal n m size stripes a b c d
+  unfolding lentRefusal firstRefusal
+  lent-passed s right e h es hs f r = rw (← e, h, ← es, hs, ← f, r) refl
+
+  pub lent-short : (s : ℕ) (right : Bool) → k ≡ codeRefusal n m size → k ≡ passed → s ≡ stripeCountRefusal stripes → s ≡ passed → right ≡ lentLengths a b c d
+      → right ≡ false → badLength ≡ lentRefusal n m size stripes a b c d
+  unfolding lentRefusal firstRefusal
+  lent-short s right e h es hs f r = rw (← e, h, ← es, hs, ← f, r) refl
+
+  pub lengths : k ≡ lentRefusal n m size stripes a b c d → k ≡ passed → Lengths a b c d
+  unfolding lentRefusal
+  lengths e h =
+      lengths-right a b c d
+      (tested _ 1 (passed-first _ [] (passed-rest (stripeCountRefusal stripes) _ (passed-rest (codeRefusal n m size) _ (sym e ∙ h)))))
 
 -- a call that the boundary refuses, or lets through
-pub crossed-refused : (n m size k : ℕ) (l : Rows) (blocks stripe coded : List ℕ) (r : Returned) → k ≡ rowsRefusal n m size l → (k ≡ passed → ⊥)
-    → atBoundary k l blocks stripe coded ≡ crossing (rowsRefusal n m size l) l blocks stripe coded r
+pub crossed-refused : (n m size stripes k : ℕ) (l : Rows) (blocks stripe coded : List ℕ) (r : Returned) → k ≡ rowsRefusal n m size stripes l → (k ≡ passed → ⊥)
+    → atBoundary k l blocks stripe coded ≡ crossing (rowsRefusal n m size stripes l) l blocks stripe coded r
 unfolding crossing
-crossed-refused n m size k l blocks stripe coded r e h = rw (← e, ne-eqb k passed h) refl
+crossed-refused n m size stripes k l blocks stripe coded r e h = rw (← e, ne-eqb k passed h) refl
 
-pub crossed : (n m size k : ℕ) (l l′ : Rows) (number : ℕ) (a : Answer) (blocks stripe coded blocks′ stripe′ coded′ : List ℕ) (r : Returned)
-    → k ≡ rowsRefusal n m size l → k ≡ passed → returned a blocks′ stripe′ coded′ ≡ r → number ≡ a .refusal → l′ ≡ laidOut l a
-    → atBoundary number l′ blocks′ stripe′ coded′ ≡ crossing (rowsRefusal n m size l) l blocks stripe coded r
+pub crossed : (n m size stripes k : ℕ) (l l′ : Rows) (number : ℕ) (a : Answer) (blocks stripe coded blocks′ stripe′ coded′ : List ℕ) (r : Returned)
+    → k ≡ rowsRefusal n m size stripes l → k ≡ passed → returned a blocks′ stripe′ coded′ ≡ r → number ≡ a .refusal → l′ ≡ laidOut l a
+    → atBoundary number l′ blocks′ stripe′ coded′ ≡ crossing (rowsRefusal n m size stripes l) l blocks stripe coded r
 unfolding crossing
-crossed n m size k l l′ number a blocks stripe coded blocks′ stripe′ coded′ r e h er en el =
-    subst (λ (x : Returned). atBoundary number l′ blocks′ stripe′ coded′ ≡ crossing (rowsRefusal n m size l) l blocks stripe coded x) er
+crossed n m size stripes k l l′ number a blocks stripe coded blocks′ stripe′ coded′ r e h er en el =
+    subst (λ (x : Returned). atBoundary number l′ blocks′ stripe′ coded′ ≡ crossing (rowsRefusal n m size stripes l) l blocks stripe coded x) er
     (rw (← e, eq-eqb k passed h) (ap₂ (λ (x : ℕ) (y : Rows). atBoundary x y blocks′ stripe′ coded′) en el))
 
 -- rows out of a list of rows

@@ -12,12 +12,12 @@ lent-refusal-requires : tie.Need-lent-refusal-requires
 lent-refusal-requires c κs = search needs
 
 returns : tie.Need-returns
-returns c = crossed-refused _ _ _ _ _ _ _ _ _ (c .before .lent-refusal .ensures) (c .if1 .taken)
+returns c = crossed-refused _ _ _ _ _ _ _ _ _ _ (c .before .lent-refusal .ensures) (c .if1 .taken)
 
 -- the four buffers have their lengths
 long : (c : tie.Else1) → Lengths (length (c .before .before .before .before .before .before .args .numbers .now)) (length (c .before .before .before .before .before .before .args .bytes .now))
     (length (c .before .before .before .before .before .before .args .sent .now)) (length (c .before .before .before .before .before .before .args .shown .now))
-long c = lengths _ _ _ _ _ _ _ _ (c .before .lent-refusal .ensures) (c .if1 .left)
+long c = lengths _ _ _ _ _ _ _ _ _ (c .before .lent-refusal .ensures) (c .if1 .left)
 
 record-of-requires : tie.Need-record-of-requires
 record-of-requires c κs = (long (c .before .before) .numbers-long, long (c .before .before) .bytes-long)
@@ -50,8 +50,8 @@ returns-2 c =
     let q = c .before .before .before .before .before .before .before .before .before .before .before .before .before .before .record-of .ensures in
     let w = c .before .before .before .before .before .before .before .before .before .before .before .before .before .start-read .ensures [] [] [] in
     let p = c .before .before .before .before .before .before .before .before .put-answer .ensures in
-    crossed _ _ _ _ _ _ _ _ _ _ _ _ _ _ _ (whole .before .lent-refusal .ensures) (whole .if1 .left)
-    (w ∙ ap (λ (x : Coordinator). readCall (s .n) (s .m) (s .size) x [] [] [] (s .reading) (s .first)) q) (p .0) (p .1)
+    crossed _ _ _ _ _ _ _ _ _ _ _ _ _ _ _ _ (whole .before .lent-refusal .ensures) (whole .if1 .left)
+    (w ∙ ap (λ (x : Coordinator). readCall (s .n) (s .m) (s .size) (s .stripes) x [] [] [] (s .stripe-number) (s .reading) (s .first)) q) (p .0) (p .1)
 
 pub coord-start-read-spec : {M : Type 1} → statement M
 coord-start-read-spec =

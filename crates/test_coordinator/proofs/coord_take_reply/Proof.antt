@@ -12,14 +12,14 @@ lent-refusal-requires : tie.Need-lent-refusal-requires
 lent-refusal-requires c κs = search needs
 
 returns : tie.Need-returns
-returns c = crossed-refused _ _ _ _ _ _ _ _ _ (c .before .lent-refusal .ensures) (c .if1 .taken)
+returns c = crossed-refused _ _ _ _ _ _ _ _ _ _ (c .before .lent-refusal .ensures) (c .if1 .taken)
 
 -- the four buffers have their lengths
 long : (c : tie.Else1) → Lengths (length (c .before .before .before .before .before .before .before .before .before .before .args .numbers .now))
     (length (c .before .before .before .before .before .before .before .before .before .before .args .bytes .now))
     (length (c .before .before .before .before .before .before .before .before .before .before .args .sent .now))
     (length (c .before .before .before .before .before .before .before .before .before .before .args .shown .now))
-long c = lengths _ _ _ _ _ _ _ _ (c .before .lent-refusal .ensures) (c .if1 .left)
+long c = lengths _ _ _ _ _ _ _ _ _ (c .before .lent-refusal .ensures) (c .if1 .left)
 
 record-of-requires : tie.Need-record-of-requires
 record-of-requires c κs = (long (c .before .before) .numbers-long, long (c .before .before) .bytes-long)
@@ -63,9 +63,9 @@ returns-2 c =
     .before .record-of .ensures in
     let w = c .before .before .before .before .before .before .before .before .before .before .before .before .before .before .before .before .before .before .before .take-reply .ensures in
     let p = c .before .before .before .before .before .before .before .before .put-answer .ensures in
-    crossed _ _ _ _ _ _ _ _ _ _ _ _ _ _ _ (whole .before .lent-refusal .ensures) (whole .if1 .left)
-    (w ∙ ap (λ (x : Coordinator). takeCall (s .n) (s .m) (s .size) x (s .blocks .now) (s .stripe .now) (s .coded .now)
-    (replyFor (s .kind) (s .brick) (s .time) (s .round) (s .yes) (s .found) (s .has)) (s .block .now)) q) (p .0) (p .1)
+    crossed _ _ _ _ _ _ _ _ _ _ _ _ _ _ _ _ (whole .before .lent-refusal .ensures) (whole .if1 .left)
+    (w ∙ ap (λ (x : Coordinator). takeCall (s .n) (s .m) (s .size) (s .stripes) x (s .blocks .now) (s .stripe .now) (s .coded .now)
+    (replyFor (s .kind) (s .brick) (s .stripe-number) (s .time) (s .round) (s .yes) (s .found) (s .has)) (s .block .now)) q) (p .0) (p .1)
 
 pub coord-take-reply-spec : {M : Type 1} → statement M
 coord-take-reply-spec =

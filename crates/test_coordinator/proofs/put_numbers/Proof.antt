@@ -34,6 +34,12 @@ slice-write-out-8 c = simp length-set (omega arith)
 slice-write-out-9 : tie.Need-slice-write-out-9
 slice-write-out-9 c = simp length-set (omega arith)
 
+slice-write-out-10 : tie.Need-slice-write-out-10
+slice-write-out-10 c = simp length-set (omega arith)
+
+slice-write-out-11 : tie.Need-slice-write-out-11
+slice-write-out-11 c = simp length-set (omega arith)
+
 put-times-requires : tie.Need-put-times-requires
 put-times-requires c κs = simp length-set (omega arith)
 
@@ -45,7 +51,8 @@ unfolding recordNumbers
 returns c =
     let s = c .before .before .before .before .before .before .before .before .before .before in
     numbers-are (s .args .out .now) (s .args .c .clock .coordinator) (s .args .c .clock .last) (s .args .c .op .time) (s .args .c .op .round) (s .args .c .op .max) (s .args .c .op .first)
-    (s .args .c .geometry .n) (s .args .c .geometry .m) (s .args .c .geometry .size) (s .args .c .tally .found) _ (s .pre) (c .before .before .put-times .ensures .0)
+    (s .args .c .geometry .n) (s .args .c .geometry .m) (s .args .c .geometry .size) (s .args .c .geometry .stripes)
+    (s .args .c .op .stripe) (s .args .c .tally .found) _ (s .pre) (c .before .before .put-times .ensures .0)
 
 pub put-numbers-spec : {M : Type 1} → statement M
 put-numbers-spec =
@@ -60,6 +67,8 @@ put-numbers-spec =
     slice-write-out-7
     slice-write-out-8
     slice-write-out-9
+    slice-write-out-10
+    slice-write-out-11
     put-times-requires
     same-length
     returns)

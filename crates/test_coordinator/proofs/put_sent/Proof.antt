@@ -1,7 +1,8 @@
 use native.Mathlib.Omega.{arith}
 use lib.ListN.{length-set}
+use mathlib.Core.Path.{refl}
 use Rattle.test_coordinator.specs.CoordinatorBoundary.{answerNumbers}
-use Rattle.test_coordinator.proofs.Laws.CoordinatorBoundaryLaws.{eight}
+use Rattle.test_coordinator.proofs.Laws.CoordinatorBoundaryLaws.{eleven}
 use borrow.Author.Needs.{needs}
 use Rattle.test_coordinator.proofs.put_sent.Statement.{statement}
 use Rattle.test_coordinator.proofs.put_sent.Tie as tie
@@ -30,12 +31,21 @@ slice-write-out-7 c = simp length-set (omega arith)
 slice-write-out-8 : tie.Need-slice-write-out-8
 slice-write-out-8 c = simp length-set (omega arith)
 
+slice-write-out-9 : tie.Need-slice-write-out-9
+slice-write-out-9 c = simp length-set (omega arith)
+
+slice-write-out-10 : tie.Need-slice-write-out-10
+slice-write-out-10 c = simp length-set (omega arith)
+
+slice-write-out-11 : tie.Need-slice-write-out-11
+slice-write-out-11 c = simp length-set (omega arith)
+
 same-length : tie.Need-same-length
-same-length c = search needs
+same-length c = simp length-set refl
 
 returns : tie.Need-returns
 unfolding answerNumbers
-returns c = eight (c .before .before .before .args .out .now) _ _ _ _ _ _ _ _ (c .before .before .before .pre)
+returns c = eleven (c .before .before .before .args .out .now) _ _ _ _ _ _ _ _ _ _ _ (c .before .before .before .pre)
 
 pub put-sent-spec : {M : Type 1} → statement M
 put-sent-spec =
@@ -49,5 +59,8 @@ put-sent-spec =
     slice-write-out-6
     slice-write-out-7
     slice-write-out-8
+    slice-write-out-9
+    slice-write-out-10
+    slice-write-out-11
     same-length
     returns)

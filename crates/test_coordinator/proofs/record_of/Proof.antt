@@ -13,26 +13,32 @@ shared-slice-read-times-of c = search needs
 shared-slice-read-row-of : tie.Need-shared-slice-read-row-of
 shared-slice-read-row-of c = search needs
 
+shared-slice-read-t22 : tie.Need-shared-slice-read-t22
+shared-slice-read-t22 c = search needs
+
 shared-slice-read-t13-2 : tie.Need-shared-slice-read-t13-2
 shared-slice-read-t13-2 c = search needs
 
 shared-slice-read-t16 : tie.Need-shared-slice-read-t16
 shared-slice-read-t16 c = search needs
 
-shared-slice-read-t24 : tie.Need-shared-slice-read-t24
-shared-slice-read-t24 c = search needs
+shared-slice-read-t27 : tie.Need-shared-slice-read-t27
+shared-slice-read-t27 c = search needs
 
-shared-slice-read-t26 : tie.Need-shared-slice-read-t26
-shared-slice-read-t26 c = search needs
+shared-slice-read-t29 : tie.Need-shared-slice-read-t29
+shared-slice-read-t29 c = search needs
 
-shared-slice-read-t19 : tie.Need-shared-slice-read-t19
-shared-slice-read-t19 c = search needs
+shared-slice-read-t22-2 : tie.Need-shared-slice-read-t22-2
+shared-slice-read-t22-2 c = search needs
+
+shared-slice-read-t13-3 : tie.Need-shared-slice-read-t13-3
+shared-slice-read-t13-3 c = search needs
 
 shared-slice-read-t16-2 : tie.Need-shared-slice-read-t16-2
 shared-slice-read-t16-2 c = search needs
 
-shared-slice-read-t13-3 : tie.Need-shared-slice-read-t13-3
-shared-slice-read-t13-3 c = search needs
+shared-slice-read-t19 : tie.Need-shared-slice-read-t19
+shared-slice-read-t19 c = search needs
 
 shared-slice-read-row-of-2 : tie.Need-shared-slice-read-row-of-2
 shared-slice-read-row-of-2 c = search needs
@@ -101,7 +107,7 @@ returns : tie.Need-returns
 unfolding rowAt
 returns c =
     let t = c .before .before .before .before .before .before .before .before in
-    let s = t .before .before .before .before .before .before .before .before .before .before .before .before .before .before .before .args in
+    let s = t .before .before .before .before .before .before .before .before .before .before .before .before .before .before .before .before .before .args in
     record-is (s .numbers .now) (s .bytes .now) _ _ _ _ _ (t .times-of .ensures) (c .before .before .before .before .before .before .row-of .ensures)
     (c .before .before .before .before .row-of2 .ensures) (c .before .before .row-of3 .ensures) (c .row-of4 .ensures)
 
@@ -112,13 +118,15 @@ record-of-spec =
     shared-slice-read-t13
     shared-slice-read-times-of
     shared-slice-read-row-of
+    shared-slice-read-t22
     shared-slice-read-t13-2
     shared-slice-read-t16
-    shared-slice-read-t24
-    shared-slice-read-t26
-    shared-slice-read-t19
-    shared-slice-read-t16-2
+    shared-slice-read-t27
+    shared-slice-read-t29
+    shared-slice-read-t22-2
     shared-slice-read-t13-3
+    shared-slice-read-t16-2
+    shared-slice-read-t19
     shared-slice-read-row-of-2
     sub-times-of
     part-times-of-start

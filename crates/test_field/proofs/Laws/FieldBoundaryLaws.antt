@@ -2,9 +2,9 @@
 use mathlib.Core.Path.{_≡_, refl, sym, ap, _∙_}
 use mathlib.Core.List.{List, [], _∷_}
 use Prim.Native.Nat.{ℕ}
-use native.Mathlib.Omega.{arith}
 use lib.ListN.{length, set}
 use borrow.Author.Tests.{eq-eqb, ne-eqb}
+use Rattle.byte_lists.proofs.Laws.PutLaws.{stores}
 use Rattle.test_field.specs.FieldBoundary.{drawnNumbers, clockOf, drawWritten, drawGiven, drawAt}
 use Rattle.settings.specs.Refusal.{passed, badLength}
 use Rattle.settings.specs.Times.{drawOf, numberOf}
@@ -13,10 +13,7 @@ use Rattle.settings.specs.declared.Draw.{Draw}
 use Rattle.settings.specs.declared.Draw.the-variants.{Drawn, Refused}
 
 two : (a b : ℕ) (out : List ℕ) → length out ≡ drawnNumbers → set (set out 0 a) 1 b ≡ a ∷ b ∷ []
-two a b [] h = absurd (omega arith)
-two a b (x ∷ []) h = absurd (omega arith)
-two a b (x ∷ y ∷ []) h = refl
-two a b (x ∷ y ∷ z ∷ out) h = absurd (omega arith)
+two a b out h = stores (a ∷ b ∷ []) out h
 
 module _ (c l r : ℕ) (out : List ℕ) where
   pub draw-short : (length out ≡ drawnNumbers → ⊥) → record { number = badLength; drawn = out } ≡ drawAt c l r out

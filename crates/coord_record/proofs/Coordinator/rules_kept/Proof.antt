@@ -1,6 +1,7 @@
-use Rattle.coord_record.proofs.Laws.RecordSoundLaws.{unsound-coordinator, unsound-last, unsound-first, unsound-op, unsound-time, sound-filled}
+use Rattle.coord_record.proofs.Laws.RecordSoundLaws.{unsound-coordinator, unsound-last, unsound-first, unsound-stripe, unsound-op, unsound-time, sound-filled}
 use Rattle.settings.specs.Times.{maxCount}
 use borrow.Author.Needs.{needs}
+use native.Mathlib.Omega.{arith}
 use Rattle.coord_record.proofs.Coordinator.rules_kept.Statement.{statement}
 use Rattle.coord_record.proofs.Coordinator.rules_kept.Tie as tie
 
@@ -15,6 +16,10 @@ returns-3 : tie.Need-returns-3
 unfolding maxCount
 returns-3 c = search (needs, unsound-first)
 
+returns-4 : tie.Need-returns-4
+unfolding maxCount
+returns-4 c = unsound-stripe _ _ _ _ (search needs) (search needs) (search needs) (omega (arith, c .if4 .taken))
+
 op-right-requires : tie.Need-op-right-requires
 op-right-requires c κs = search needs
 
@@ -25,17 +30,17 @@ time-right-requires c κs = search needs
 filled-right-requires : tie.Need-filled-right-requires
 filled-right-requires c κs = search needs
 
-returns-4 : tie.Need-returns-4
-unfolding maxCount
-returns-4 c = search (needs, sound-filled)
-
 returns-5 : tie.Need-returns-5
 unfolding maxCount
-returns-5 c = search (needs, unsound-time)
+returns-5 c = search (needs, sound-filled)
 
 returns-6 : tie.Need-returns-6
 unfolding maxCount
-returns-6 c = search (needs, unsound-op)
+returns-6 c = search (needs, unsound-time)
+
+returns-7 : tie.Need-returns-7
+unfolding maxCount
+returns-7 c = search (needs, unsound-op)
 
 pub rules-kept-spec : {M : Type 1} → statement M
 rules-kept-spec =
@@ -44,9 +49,10 @@ rules-kept-spec =
     returns
     returns-2
     returns-3
+    returns-4
     op-right-requires
     time-right-requires
     filled-right-requires
-    returns-4
     returns-5
-    returns-6)
+    returns-6
+    returns-7)
