@@ -1,10 +1,10 @@
--- Document 02, E1, of runs: stripes do not touch each other, and a coordinator has one clock and one operation for all of them.
+-- Document 02, E1, of runs: stripes do not touch each other, there are S of them, and a coordinator has one clock and one operation for all.
 -- Proved in `proofs/Laws/VolumeLaws`.
 use mathlib.Core.Path.{_≡_}
 use mathlib.Core.Logic.{_≢_}
 use mathlib.Core.Bool.{Bool, true, false}
 use mathlib.Core.List.{List, [], _∷_}
-use Prim.Native.Nat.{ℕ, zero, suc, _<_}
+use Prim.Native.Nat.{ℕ, zero, suc, _≤_}
 use lib.Dec.{eqb}
 use lib.ListN.{length}
 use Rattle.settings.specs.Ranges.{inRange}
@@ -41,13 +41,17 @@ StripesApart =
     (s : Settings) (w : World) (e : Event) (stripe b : ℕ) → changesImage w e stripe ≡ false
     → imageAt s stripe (step s w e .world .images b) ≡ imageAt s stripe (w .images b)
 
+-- Nothing is seen of a stripe that the volume does not have: all operations are among those that the stripes below S order.
+abbrev pub NothingSeenPastTheStripes : Type 0
+NothingSeenPastTheStripes = (s : Settings) (events : List Event) (stripe : ℕ) → s .stripes ≤ stripe → run s events .seen stripe ≡ []
+
 -- "A coordinator uses one clock for all stripes": when an operation begins, on whatever stripe, its time is that of no operation before, on
 -- whatever stripe.
 abbrev pub OneClock : Type 0
 OneClock =
     (s : Settings) → inRange s ≡ true → (events : List Event) (e : Event) (j t : ℕ) (x : plain s .Kind)
     → Seen.began t x ∈ step s (run s events .world) e .seen j
-    → (k : ℕ) → k < s .stripes → (y : plain s .Kind) → Seen.began t y ∈ run s events .seen k → ⊥
+    → (k : ℕ) (y : plain s .Kind) → Seen.began t y ∈ run s events .seen k → ⊥
 
 -- the numbers below 9 with which a start on a stripe is refused, 0 for none: at coordinator c with this reading
 module _ (s : Settings) (w : World) (c stripe reading : ℕ) where

@@ -1,17 +1,17 @@
 -- Stripes do not touch each other; a coordinator has one clock and one operation for all of them.
 use mathlib.Core.Path.{_≡_, refl, sym, ap, subst, _∙_}
 use mathlib.Core.Bool.{Bool, true, false, cond}
-use mathlib.Core.Logic.{_≢_}
+use mathlib.Core.Logic.{_≢_, _⊎_, inl, inr}
 use mathlib.Core.List.{List, [], _∷_, _++_, List·Memᴰ·not-nil, List·Memᴰ·eq-of-singleton}
-use Prim.Native.Nat.{ℕ, zero, suc}
+use Prim.Native.Nat.{ℕ, zero, suc, _*_, _≤_, _<_}
 use native.Mathlib.Omega.{arith}
 use lib.Dec.{eqb, ltb}
 use lib.ListN.{length, replicate}
-use borrow.Author.Tests.{eqb-true, eqb-false, ne-eqb}
+use borrow.Author.Tests.{eqb-true, eqb-false, ne-eqb, ltb-true, ltb-false}
 use Rattle.settings.specs.Refusal.{passed, refuseUnless, firstRefusal, busy}
 use Rattle.settings.proofs.Laws.RefusalLaws.{first-pass, first-alone, passed-first, passed-rest}
 use Rattle.coord_record.specs.declared.Coordinator.{Coordinator}
-use Rattle.settings.specs.Ranges.{SettingsRange}
+use Rattle.settings.specs.Ranges.{SettingsRange, codeRefusal, stripeCountRefusal}
 use Rattle.settings.specs.Times.{coordinatorOf, drawOf}
 use Rattle.settings.specs.declared.Clock.{Clock}
 use Rattle.settings.specs.declared.Settings.{Settings}
@@ -21,25 +21,29 @@ use Rattle.image.proofs.Laws.ParseLaws.{range-of}
 use Rattle.coord_record.specs.Records.{idleKind, readingKind, writingKind, noBricks}
 use Rattle.coord_tally.specs.Counting.{targetFlags}
 use Rattle.coord_apply.specs.Acts.{firstOp, starting}
-use Rattle.coord_apply.specs.Answers.{Buffered, Went, Step, refused, went, afterChecks, answerOf, beganSeen, okSeen, readSeen, abortedSeen, cutSeen}
+use Rattle.coord_apply.specs.Answers.{Buffered, Went, Step, refused, went, afterChecks, answerOf, nothingSeen, beganSeen, okSeen, readSeen, abortedSeen, cutSeen}
 use Rattle.coord_apply.specs.declared.Notice.{Notice}
-use Rattle.coord_refusals.specs.Checks.{stripeChecks, writeChecks, readChecks, startChecks, writeRefusal, readRefusal}
-use Rattle.coordinator.specs.Routines.{drawnThen, crashStep, writeStep, readStep}
+use Rattle.coord_refusals.specs.Checks.{stripeChecks, writeChecks, readChecks, startChecks, writeRefusal, readRefusal, crashRefusal}
+use Rattle.coord_refusals.proofs.Laws.RefusedLaws.{record-passes}
+use Rattle.coord_record.proofs.Laws.SoundPartLaws.{sound-parts}
+use Rattle.coordinator.specs.Routines.{drawnThen, takeStep, crashed, crashStep, writeStep, readStep}
 use Rattle.coord_laws.proofs.Laws.SoundnessLaws.{passes, same-went, drawn-went}
-use Rattle.coord_laws.proofs.Laws.StripeLaws.{take-keeps-stripe, crash-keeps-stripe}
+use Rattle.coord_laws.proofs.Laws.StripeLaws.{KeepsStripe, take-keeps-stripe, crash-keeps-stripe, write-starts, read-starts}
+use Rattle.coord_laws.proofs.Laws.StepRunLaws.{took}
 use Rattle.volume.specs.Rows.{imageAt, rowOutcome}
 use Rattle.volume.proofs.Laws.RowTheoremLaws.{other-stripes-stay}
 use Rattle.order.specs.Claim.{Ending, Seen, _∈_, aborted, cut, finished, ok, bytes}
 use Rattle.settings.specs.declared.Draw.the-variants.{Drawn}
 use Rattle.order.specs.Valid.{Began}
 use Rattle.order.proofs.Laws.SeenLaws.{seen-began-in}
-use Rattle.register.specs.Runs.{plain, Item, message, reply, World, Event, startWrite, startRead, arrives, crashes, goesDown, comesUp, Left, Moved, unmoved}
-use Rattle.register.specs.Runs.{putAt, onStripe, begunKind, seenOf, coordinated, received, arriving, arrivingAt, standing, leaving, leftBy, step, run}
-use Rattle.register.specs.Volumes.{messageOn, changesImage, StripesApart, OneClock, writeBelowBusy, readBelowBusy, OneOperationAtATime}
+use Rattle.register.specs.Runs.{plain, Item, message, reply, World, Event, startWrite, startRead, arrives, crashes, goesDown, comesUp, Left, Moved, unmoved, freshSet}
+use Rattle.register.specs.Runs.{putAt, onStripe, begunKind, seenOf, coordinated, received, arriving, arrivingAt, standing, leaving, leftBy, step, nextMoved, runFrom, run}
+use Rattle.register.specs.Volumes.{messageOn, changesImage, StripesApart, NothingSeenPastTheStripes, OneClock, writeBelowBusy, readBelowBusy, OneOperationAtATime}
 use Rattle.register.specs.RefusedEvents.{eventNumber}
 use Rattle.register.proofs.Laws.Invariant.{Hist, view, Inv}
 use Rattle.register.proofs.Laws.StartEvent.{new-time}
 use Rattle.register.proofs.Laws.StripeEvent.{own-clock}
+use Rattle.register.proofs.Laws.StripeViewLaws.{shown-there, shown-none, nothing-shown}
 use Rattle.register.proofs.Laws.TheoremProof.{run-holds}
 
 -- AN EVENT ON ONE STRIPE CHANGES NO BYTE OF ANOTHER'S IMAGES.
@@ -223,12 +227,125 @@ module _ (s : Settings) (g : SettingsRange s) (k : ℕ) (h : Hist s) (r : Moved 
   new-event (goesDown b) = new-standing b false
   new-event (comesUp b) = new-standing b true
 
+-- NOTHING IS SEEN PAST THE STRIPES.
+module _ (s : Settings) (w : World) (k : ℕ) (high : s .stripes ≤ k) where
+  None : Moved s → Type 0
+  None m = m .seen k ≡ []
+
+  none-unmoved : None (unmoved s w)
+  unfolding None unmoved
+  none-unmoved = refl
+
+  any : (a : Bool) (x y : Moved s) → None x → None y → None (cond a x y)
+  any true x y p q = p
+  any false x y p q = q
+
+  -- a step that shows something of a stripe below S, or nothing
+  none-step : (c : ℕ) (p : Step) → ((g : Went) → p ≡ went g → (g .seen .stripe < s .stripes) ⊎ (g .seen ≡ nothingSeen)) → None (coordinated s w c p)
+  unfolding None coordinated unmoved
+  none-step c (refused number) f = refl
+  none-step c (went g) f = go (f g refl)
+    where
+      go : (g .seen .stripe < s .stripes) ⊎ (g .seen ≡ nothingSeen) → onStripe (g .seen .stripe) (seenOf s (g .seen) (g .next)) k ≡ []
+      go (inl l) = shown-there (g .seen .stripe) k (seenOf s (g .seen) (g .next)) (λ e. omega (arith, l, high, e))
+      go (inr e) =
+          let z : seenOf s (g .seen) (g .next) ≡ [] = ap (λ (x : Notice). seenOf s x (g .next)) e ∙ nothing-shown s (g .next) in
+          ap (λ (l : List (Seen (plain s))). onStripe (g .seen .stripe) l k) z ∙ shown-none (g .seen .stripe) k
+
+  -- what an operation that goes on or ends shows is of its stripe
+  of-stripe : (h : Buffered) (g : Went) → KeepsStripe h g → h .state .op .stripe < s .stripes → (g .seen .stripe < s .stripes) ⊎ (g .seen ≡ nothingSeen)
+  of-stripe h g keeps low = go (keeps .shows)
+    where
+      go : (g .seen .stripe ≡ h .state .op .stripe) ⊎ (g .seen ≡ nothingSeen) → (g .seen .stripe < s .stripes) ⊎ (g .seen ≡ nothingSeen)
+      go (inl e) = inl (omega (arith, e, low))
+      go (inr e) = inr e
+
+  none-crash : (c : ℕ) (left : Left) → None (coordinated s w c (leftBy s left (crashStep (s .n) (s .m) (s .size) (s .stripes) (w .coordinators c))))
+  none-crash c left = go (crashStep (s .n) (s .m) (s .size) (s .stripes) (w .coordinators c)) refl
+    where
+      sound-stripe : (g : Went) → crashStep (s .n) (s .m) (s .size) (s .stripes) (w .coordinators c) ≡ went g → w .coordinators c .state .op .stripe < s .stripes
+      sound-stripe g e =
+          unfold crashStep crashRefusal in
+          (let p = passes (crashRefusal (s .n) (s .m) (s .size) (s .stripes) (w .coordinators c .state)) (went (crashed (w .coordinators c))) g e in
+          let q = passed-rest (stripeCountRefusal (s .stripes)) _ (passed-rest (codeRefusal (s .n) (s .m) (s .size)) _ (p .0)) in
+          sound-parts (s .n) (s .m) (s .size) (s .stripes) (w .coordinators c .state)
+          (record-passes (s .n) (s .m) (s .size) (s .stripes) (w .coordinators c .state) [] q .0 .is-sound) .stripe-low)
+
+      go : (p : Step) → crashStep (s .n) (s .m) (s .size) (s .stripes) (w .coordinators c) ≡ p → None (coordinated s w c (leftBy s left p))
+      go (refused number) e = unfold leftBy coordinated in none-unmoved
+      go (went g) e =
+          unfold leftBy in
+          none-step c (went (record { next = leaving s left (g .next); sent = g .sent; seen = g .seen }))
+          (λ g′ q.
+          subst (λ (x : Went). (x .seen .stripe < s .stripes) ⊎ (x .seen ≡ nothingSeen))
+          (same-went (record { next = leaving s left (g .next); sent = g .sent; seen = g .seen }) g′ q)
+          (of-stripe (w .coordinators c) g (crash-keeps-stripe (s .n) (s .m) (s .size) (s .stripes) (w .coordinators c) g e) (sound-stripe g e)))
+
+  none-arriving : (i : Item) → None (arriving s w i)
+  unfolding arriving
+  none-arriving (message b msg block) = any (w .up b) _ _ (unfold None received in refl) none-unmoved
+  none-arriving (reply r block) = none-step (coordinatorOf (r .time)) _ (λ g e. shows g e)
+    where
+      c : Buffered
+      c = w .coordinators (coordinatorOf (r .time))
+
+      shows : (g : Went) → takeStep (s .n) (s .m) (s .size) (s .stripes) c r block (s .n * s .size) ≡ went g → (g .seen .stripe < s .stripes) ⊎ (g .seen ≡ nothingSeen)
+      shows g e =
+          let t = took (s .n) (s .m) (s .size) (s .stripes) c r block (s .n * s .size) g e in
+          of-stripe c g (take-keeps-stripe (s .n) (s .m) (s .size) (s .stripes) c r block (s .n * s .size) g e) (t .takes .parts .stripe-low)
+
+  none-at : (l : List Item) (p : ℕ) → None (arrivingAt s w l p)
+  unfolding arrivingAt
+  none-at [] p = none-unmoved
+  none-at (i ∷ l) zero = none-arriving i
+  none-at (i ∷ l) (suc p) = none-at l p
+
+  none-standing : (b : ℕ) (how : Bool) → None (standing s w b how)
+  unfolding standing
+  none-standing b how = any (ltb b (s .n)) _ _ (unfold None in refl) none-unmoved
+
+  none-event : (e : Event) → None (step s w e)
+  unfolding step
+  none-event (startWrite c number reading content) = any (areBytes content) _ _ (none-step c _ (λ g e. inl (low g e))) none-unmoved
+    where
+      low : (g : Went) → writeStep (s .n) (s .m) (s .size) (s .stripes) (w .coordinators c) number reading content ≡ went g → g .seen .stripe < s .stripes
+      low g e =
+          let on = write-starts (s .n) (s .m) (s .size) (s .stripes) (w .coordinators c) number reading content g e in
+          omega (arith, on .shows, on .stripe-low)
+  none-event (startRead c number reading first) = none-step c _ (λ g e. inl (low g e))
+    where
+      low : (g : Went) → readStep (s .n) (s .m) (s .size) (s .stripes) (w .coordinators c) number reading first ≡ went g → g .seen .stripe < s .stripes
+      low g e =
+          let on = read-starts (s .n) (s .m) (s .size) (s .stripes) (w .coordinators c) number reading first g e in
+          omega (arith, on .shows, on .stripe-low)
+  none-event (arrives p) = none-at (w .sent) p
+  none-event (crashes c left) = none-crash c left
+  none-event (goesDown b) = none-standing b false
+  none-event (comesUp b) = none-standing b true
+
+none-from : (s : Settings) (k : ℕ) → s .stripes ≤ k → (r : Moved s) → r .seen k ≡ [] → (events : List Event) → runFrom s r events .seen k ≡ []
+unfolding runFrom nextMoved None
+none-from s k high r e [] = e
+none-from s k high r e (x ∷ events) =
+    none-from s k high (nextMoved s r x)
+    (ap (λ (l : List (Seen (plain s))). l ++ step s (r .world) x .seen k) e ∙ none-event s (r .world) k high x) events
+
+pub nothing-seen-past-the-stripes : NothingSeenPastTheStripes
+unfolding run unmoved
+nothing-seen-past-the-stripes s events k high = none-from s k high (unmoved s (freshSet s)) refl events
+
 pub one-clock : OneClock
 unfolding view New
-one-clock s e events event j t x m k low y n =
-    let w = run-holds s (range-of s e) k low events in
-    let b : Began (w .0) t = (y, seen-began-in (w .0) (subst (λ (l : List (Seen (plain s))). Seen.began t y ∈ l) (sym (w .1 .seen-is)) n)) in
-    new-event s (range-of s e) k (w .0) (run s events) (w .1) j t x b event m
+one-clock s e events event j t x m k y n = go (ltb k (s .stripes)) refl
+  where
+    go : (b : Bool) → ltb k (s .stripes) ≡ b → ⊥
+    go true q =
+        let w = run-holds s (range-of s e) k (ltb-true k (s .stripes) q) events in
+        let b : Began (w .0) t = (y, seen-began-in (w .0) (subst (λ (l : List (Seen (plain s))). Seen.began t y ∈ l) (sym (w .1 .seen-is)) n)) in
+        new-event s (range-of s e) k (w .0) (run s events) (w .1) j t x b event m
+    go false q =
+        List·Memᴰ·not-nil
+        (subst (λ (l : List (Seen (plain s))). Seen.began t y ∈ l) (nothing-seen-past-the-stripes s events k (ltb-false k (s .stripes) q)) n)
 
 -- ONE OPERATION AT A TIME
 last-check : (l : List ℕ) (d x : ℕ) → firstRefusal (l ++ d ∷ []) ≡ 0 → firstRefusal (l ++ d ∷ x ∷ []) ≡ x
