@@ -13,8 +13,8 @@ use Rattle.byte_lists.specs.Little.{Bytes}
 use Rattle.message.specs.Kinds.{writeKind}
 use Rattle.message.specs.declared.Message.{Message}
 use Rattle.message.specs.declared.Reply.{Reply}
-use Rattle.brick.specs.Receive.{outcomeWith}
-use Rattle.volume.specs.Rows.{rowLendingRefusal, freshRowAfter, rowOutcome}
+use Rattle.brick.specs.Receive.{outcomeWith, outcome}
+use Rattle.volume.specs.Rows.{imageAt, withImage, rowLendingRefusal, freshRowAfter, rowOutcome}
 use Rattle.brick.specs.declared.Given.{Given}
 use Rattle.coord_record.specs.Records.{geometryOf, idleWith}
 use Rattle.coord_apply.specs.Answers.{Buffered, returned}
@@ -99,6 +99,15 @@ pub data RoutineCalls (s : Settings) : Moved s → Type 0 where
       → (g : Given) (images′ out′ : List ℕ)
       → outcomeWith g images′ out′ ≡ rowOutcome s b (r .world .images b) msg lent out
       → RoutineCalls s (joined s r (received s (r .world) b (outcomeWith g images′ (heldBlock s g out′))))
+  -- `brick::receive`: the same with the image of the message's stripe lent alone, and put back into its place in the row
+  receive-image : (r : Moved s) → RoutineCalls s r → (b : ℕ) (msg : Message) (block : List ℕ)
+      → message b msg block ∈ r .world .sent → r .world .up b ≡ true
+      → (lent out : List ℕ)
+      → (msg .kind ≡ writeKind → lent ≡ block)
+      → (g : Given) (image′ out′ : List ℕ)
+      → outcomeWith g image′ out′ ≡ outcome s b (imageAt s (msg .stripe) (r .world .images b)) msg lent out
+      → RoutineCalls s
+      (joined s r (received s (r .world) b (outcomeWith g (withImage s (msg .stripe) image′ (r .world .images b)) (heldBlock s g out′))))
   -- a brick goes down, or comes up with its image as saved
   goes-down : (r : Moved s) → RoutineCalls s r → (b : ℕ) → RoutineCalls s (joined s r (standing s (r .world) b false))
   comes-up : (r : Moved s) → RoutineCalls s r → (b : ℕ) → RoutineCalls s (joined s r (standing s (r .world) b true))

@@ -85,7 +85,7 @@ module _ (s : Settings) (brick : ℕ) (row : List ℕ) (msg : Message) (block ou
           → cond t (inRow s (msg .stripe) row (outcome s brick image msg block out)) (refusedWith number row out) .image ≡ row
       go true q e =
           let f = fronted s (s .stripes) brick (length row) (msg .stripe) (length block) (length out) number refl (eqb-true number passed q) in
-          ap (λ (i : List ℕ). withImage s (msg .stripe) i row) (image-keeps s brick image msg block out n e) ∙ image-back s (msg .stripe) row (f .lent-is) (f .stripe-low)
+          ap (λ (i : List ℕ). withImage s (msg .stripe) i row) (image-keeps s brick image msg block out n e) ∙ image-back s (msg .stripe) row
       go false q e = refl
 
   -- "Trim t: no reply"

@@ -18,7 +18,7 @@ use Rattle.register.specs.Runs.{Item, message, reply, World}
 use Rattle.register.specs.Runs.{Moved, unmoved, blockFor, toAll, broadcasts, received}
 use Rattle.register.specs.Runs.{standing}
 use Rattle.register.specs.Driver.{driven, failed}
-use Rattle.register.specs.CallLoop.{RoutineCalls, begin, start-write, start-read, take-reply, crash, receive, goes-down, comes-up, power-fails}
+use Rattle.register.specs.CallLoop.{RoutineCalls, begin, start-write, start-read, take-reply, crash, receive, receive-image, goes-down, comes-up, power-fails}
 use Rattle.register.proofs.Laws.BrickEvent.{no-message}
 use Rattle.register.proofs.Laws.TurnLaws.{kind-of, in-toAll}
 
@@ -82,6 +82,7 @@ module _ (s : Settings) where
   calls-proper r (take-reply q p x block was lent h coded a blocks′ stripe′ coded′ f) = driven-proper (q .world) _ a _ _ _ (calls-proper q p)
   calls-proper r (crash q p c l a f) = driven-proper (q .world) c a _ _ _ (calls-proper q p)
   calls-proper r (receive q p b msg block was up lent out h g images′ out′ f) = received-proper (q .world) b _ (calls-proper q p)
+  calls-proper r (receive-image q p b msg block was up lent out h g image′ out′ f) = received-proper (q .world) b _ (calls-proper q p)
   calls-proper r (goes-down q p b) = standing-proper (q .world) b false (calls-proper q p)
   calls-proper r (comes-up q p b) = standing-proper (q .world) b true (calls-proper q p)
   calls-proper r (power-fails q p c l blocks stripe f) = calls-proper q p

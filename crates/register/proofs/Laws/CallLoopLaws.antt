@@ -7,11 +7,12 @@ use native.Mathlib.Nat.{mod-lt}
 use native.Mathlib.Omega.{arith}
 use lib.Dec.{eqb, ltb}
 use lib.ListN.{length, replicate, length-replicate}
-use borrow.Author.Tests.{eqb-true, eqb-false}
-use Rattle.settings.specs.Ranges.{inRange}
+use borrow.Author.Tests.{eqb-true, eqb-false, eq-eqb, lt-ltb}
+use Rattle.settings.specs.Ranges.{inRange, settingsRefusal, stripeRefusal}
+use Rattle.settings.proofs.Laws.RangeLaws.{in-range}
 use Rattle.settings.specs.Times.{coordinatorCount, lastCoordinator, coordinatorOf}
 use Rattle.settings.specs.declared.Settings.{Settings}
-use Rattle.settings.specs.Refusal.{passed}
+use Rattle.settings.specs.Refusal.{passed, firstRefusal}
 use Rattle.byte_lists.specs.Little.{Bytes}
 use Rattle.byte_lists.proofs.Laws.LittleLaws.{bytes-pass}
 use Rattle.message.specs.Kinds.{writeKind}
@@ -19,8 +20,11 @@ use Rattle.message.specs.declared.Message.{Message}
 use Rattle.message.specs.declared.Reply.{Reply}
 use Rattle.brick.specs.Receive.{Outcome, outcome, outcomeWith, frontRefusal, refusedWith, givenNumber}
 use Rattle.brick.specs.declared.Given.{Given}
-use Rattle.brick.proofs.Laws.OutcomeLaws.{Fronted, fronted}
-use Rattle.volume.specs.Rows.{imageAt, inRow, rowRefusal, rowOutcome}
+use Rattle.brick.proofs.Laws.OutcomeLaws.{Fronted, fronted, passes}
+use Rattle.brick.proofs.Laws.GivenNumberLaws.{outcome-number}
+use Rattle.image.specs.Image.{imageSize}
+use Rattle.volume.proofs.Laws.RowLaws.{image-back}
+use Rattle.volume.specs.Rows.{rowSize, imageAt, withImage, inRow, rowRefusal, rowOutcome}
 use Rattle.coord_apply.specs.Acts.{buffered}
 use Rattle.coord_apply.specs.Answers.{Buffered, Step, refused, went, returned, returnedBy}
 use Rattle.coord_apply.specs.declared.Answer.{Answer}
@@ -32,14 +36,15 @@ use Rattle.register.specs.Runs.{coordinated, repliedWith, received, arri
 use Rattle.register.specs.Driver.{driven, Short, holds, heldBlock, failed, cutOf, backWith}
 use Rattle.register.specs.Lending.{SameAnswer}
 use Rattle.register.specs.CallLoop.{BufferLengths, RoutineCalls, begin, start-write, start-read, take-reply, crash}
-use Rattle.register.specs.CallLoop.{receive, goes-down, comes-up, power-fails, WriteEnsures, ReadEnsures, TakeEnsures}
+use Rattle.register.specs.CallLoop.{receive, receive-image, goes-down, comes-up, power-fails, WriteEnsures, ReadEnsures, TakeEnsures}
 use Rattle.register.specs.CallLoop.{CrashEnsures, Agrees, WhoeverCallsMakesARun, WhoeverCallsHasOneOrder}
 use Rattle.register.proofs.Laws.AgreeLaws.{Same, Made, made-has-one-order, made-more, made-still, driven-is}
 use Rattle.register.proofs.Laws.BesideLaws.{Proper, calls-proper}
 use Rattle.register.proofs.Laws.CallStartLaws.{crash-fails, start-made}
 use Rattle.register.proofs.Laws.DriverLaws.{left-untouched, write-short, read-short, crash-short, take-short}
 use Rattle.register.proofs.Laws.LendingLaws.{lent-bytes-make-no-difference, unheld-blocks-make-no-difference, zeros-held}
-use Rattle.register.proofs.Laws.RefusedEventLaws.{row-refused-kept, kept-unmoved}
+use Rattle.register.proofs.Laws.RefusedEventLaws.{refused-kept, row-refused-kept, kept-unmoved}
+use Rattle.register.proofs.Laws.NeverRefusedLaws.{rows-long}
 
 -- what a brick does not refuse was lent with the lengths that the settings ask for
 row-passed : (s : Settings) (b : ℕ) (row : List ℕ) (msg : Message) (block out : List ℕ)
@@ -56,6 +61,19 @@ row-passed s b row msg block out e =
         → number ≡ passed
     go true q h = eqb-true number passed q
     go false q h = h
+
+-- what satisfies the checks before an image passes them
+front-zero : (s : Settings) (images b lent stripe block out : ℕ) → Fronted s images b lent stripe block out → frontRefusal s images b lent stripe block out ≡ passed
+unfolding frontRefusal settingsRefusal stripeRefusal firstRefusal
+front-zero s images b lent stripe block out f =
+    rw (
+      in-range s (f .range),
+      eq-eqb lent (images * imageSize s) (f .lent-is),
+      eq-eqb block (s .size) (f .block-is),
+      eq-eqb out (s .size) (f .out-is),
+      lt-ltb b (s .n) (f .brick-low),
+      lt-ltb stripe (s .stripes) (f .stripe-low),
+    ) refl
 
 -- two functions with another value at one place
 put-agrees : {A : Type 0} {P : ℕ → Type 0} (f g : ℕ → A) (k : ℕ) (a b : A) → a ≡ b → ((j : ℕ) → P j → f j ≡ g j)
@@ -307,6 +325,61 @@ module _ (s : Settings) where
         go true false e q = wrong (λ x y. eqb-false (length out) (s .size) q y)
         go false u e q = wrong (λ x y. eqb-false (length lent) (s .size) e x)
 
+    -- the same with the image of the message's stripe alone: as with the row, or refused by both
+    image-made : Proper s (w .sent) → (b : ℕ) (msg : Message) (block : List ℕ) → message b msg block ∈ w .sent → w .up b ≡ true
+        → (lent out : List ℕ) → (msg .kind ≡ writeKind → lent ≡ block) → (g : Given) (image′ out′ : List ℕ)
+        → outcomeWith g image′ out′ ≡ outcome s b (imageAt s (msg .stripe) (w .images b)) msg lent out
+        → Made s (joined s r (received s w b (outcomeWith g (withImage s (msg .stripe) image′ (w .images b)) (heldBlock s g out′))))
+    unfolding rowOutcome rowRefusal inRow
+    image-made proper b msg block was up lent out same g image′ out′ f = go (eqb number passed) refl
+      where
+        row : List ℕ
+        row = w .images b
+
+        number : ℕ
+        number = frontRefusal s (s .stripes) b (length row) (msg .stripe) (length lent) (length out)
+
+        own : Outcome
+        own = outcome s b (imageAt s (msg .stripe) row) msg lent out
+
+        noted : Outcome
+        noted = outcomeWith g (withImage s (msg .stripe) image′ row) (heldBlock s g out′)
+
+        long : length row ≡ rowSize s
+        long =
+            ap (λ (l : List ℕ). length l) (agree .same-image b (proper b msg block was .0))
+            ∙ rows-long s range (made .0) b (proper b msg block was .0)
+
+        -- what the image takes the row takes too
+        both : givenNumber (own .given) ≡ passed → number ≡ passed
+        both e =
+            let p = passes s b (imageAt s (msg .stripe) row) msg (length lent) (length out) (sym (outcome-number s b (imageAt s (msg .stripe) row) msg lent out) ∙ e) in
+            front-zero s (s .stripes) b (length row) (msg .stripe) (length lent) (length out)
+            (record {
+              range = p .front .range;
+              lent-is = unfold rowSize in long;
+              block-is = p .front .block-is;
+              out-is = p .front .out-is;
+              brick-low = p .front .brick-low;
+              stripe-low = p .front .stripe-low;
+            })
+
+        go : (t : Bool) → eqb number passed ≡ t → Made s (joined s r (received s w b noted))
+        go true e =
+            receive-made proper b msg block was up lent out same g (withImage s (msg .stripe) image′ row) out′
+            (ap (λ (o : Outcome). outcomeWith (o .given) (withImage s (msg .stripe) (o .image) row) (o .out)) f ∙ sym (rw (eqb-true number passed e) refl))
+        go false e =
+            let kept = refused-kept s b (imageAt s (msg .stripe) row) msg lent out (λ z. eqb-false number passed e (both z)) in
+            made-still s r made (received s w b noted)
+            (kept-unmoved s w b noted
+            (record {
+              image-is =
+                  ap (λ (o : Outcome). withImage s (msg .stripe) (o .image) row) f
+                  ∙ ap (λ (l : List ℕ). withImage s (msg .stripe) l row) (kept .image-is)
+                  ∙ image-back s (msg .stripe) row;
+              no-reply = λ x. ap (λ (o : Outcome). repliedWith (o .given) x) f ∙ kept .no-reply x;
+            }))
+
   calls-made : inRange s ≡ true → (r : Moved s) → RoutineCalls s r → Made s r
   unfolding step
   calls-made e r (begin fresh h) = start-made s e fresh h
@@ -318,6 +391,8 @@ module _ (s : Settings) where
   calls-made e r (crash q p c l a f) = crash-made e q (calls-made e q p) c l a f
   calls-made e r (receive q p b msg block was up lent out h g images′ out′ f) =
       receive-made e q (calls-made e q p) (calls-proper s q p) b msg block was up lent out h g images′ out′ f
+  calls-made e r (receive-image q p b msg block was up lent out h g image′ out′ f) =
+      image-made e q (calls-made e q p) (calls-proper s q p) b msg block was up lent out h g image′ out′ f
   calls-made e r (goes-down q p b) = stands-made e q (calls-made e q p) (goesDown b) b false refl
   calls-made e r (comes-up q p b) = stands-made e q (calls-made e q p) (comesUp b) b true refl
   calls-made e r (power-fails q p c l blocks stripe f) = fails-made e q (calls-made e q p) c l blocks stripe f

@@ -75,7 +75,7 @@ row-refused-kept s b row msg block out = go (eqb number passed) refl
         let k = refused-kept s b (imageAt s (msg .stripe) row) msg block out n in
         let f = fronted s (s .stripes) b (length row) (msg .stripe) (length block) (length out) number refl (eqb-true number passed e) in
         record {
-          image-is = ap (λ (l : List ℕ). withImage s (msg .stripe) l row) (k .image-is) ∙ image-back s (msg .stripe) row (f .lent-is) (f .stripe-low);
+          image-is = ap (λ (l : List ℕ). withImage s (msg .stripe) l row) (k .image-is) ∙ image-back s (msg .stripe) row;
           no-reply = k .no-reply;
         }
     go false e n = record { image-is = refl; no-reply = λ _. refl }

@@ -1,8 +1,8 @@
 -- Images in a row: one is replaced, and the others stay.
 use mathlib.Core.Path.{_≡_, refl, sym, ap, _∙_}
 use mathlib.Core.Bool.{Bool, true, false}
-use mathlib.Core.List.{List, _++_}
-use Prim.Native.Nat.{ℕ, _+_, _*_, _≤_, _<_}
+use mathlib.Core.List.{List, [], _∷_, _++_}
+use Prim.Native.Nat.{ℕ, zero, suc, _+_, _*_, _≤_, _<_}
 use native.Mathlib.Nat.{suc-mul, mul-le-mul-right}
 use lib.Arith.{lt-of-le-ne}
 use native.Mathlib.Omega.{arith}
@@ -60,19 +60,23 @@ module _ (s : Settings) (k : ℕ) (image row : List ℕ) (long : length image �
           let b = suc-mul k (imageSize s) in
           put-behind (k * imageSize s) (j * imageSize s) (imageSize s) image row (omega (arith, a, b, long)) (omega (arith, image-within s k row e h))
 
+-- a part and what stands behind it
+part-rest : (n : ℕ) (l : List ℕ) → take n l ++ drop (length (take n l)) l ≡ l
+part-rest zero l = refl
+part-rest (suc n) [] = refl
+part-rest (suc n) (x ∷ l) = ap (λ (r : List ℕ). x ∷ r) (part-rest n l)
+
 -- bytes put back where they stood
-pub put-back : (at n : ℕ) (l : List ℕ) → at + n ≤ length l → put at (take n (drop at l)) l ≡ l
-put-back at n l h =
+put-back : (at n : ℕ) (l : List ℕ) → put at (take n (drop at l)) l ≡ l
+put-back at n l =
     put-is at (take n (drop at l)) l
-    ∙ ap (λ (k : ℕ). take at l ++ (take n (drop at l) ++ drop (at + k) l))
-    (length-take-le n (drop at l) (let d = length-drop at l in omega (arith, d, h)))
-    ∙ ap (λ (r : List ℕ). take at l ++ (take n (drop at l) ++ r)) (sym (drop-drop n at l))
-    ∙ ap (λ (r : List ℕ). take at l ++ r) (take-append-drop n (drop at l))
+    ∙ ap (λ (r : List ℕ). take at l ++ (take n (drop at l) ++ r)) (sym (drop-drop (length (take n (drop at l))) at l))
+    ∙ ap (λ (r : List ℕ). take at l ++ r) (part-rest n (drop at l))
     ∙ take-append-drop at l
 
-pub image-back : (s : Settings) (k : ℕ) (row : List ℕ) → length row ≡ rowSize s → k < s .stripes → withImage s k (imageAt s k row) row ≡ row
+pub image-back : (s : Settings) (k : ℕ) (row : List ℕ) → withImage s k (imageAt s k row) row ≡ row
 unfolding withImage imageAt
-image-back s k row e h = put-back (k * imageSize s) (imageSize s) row (image-within s k row e h)
+image-back s k row = put-back (k * imageSize s) (imageSize s) row
 
 -- a fresh row
 module _ (s : Settings) (g : SettingsRange s) (brick : ℕ) where
