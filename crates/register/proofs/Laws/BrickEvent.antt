@@ -44,6 +44,11 @@ pub put-there : {A : Type 0} (f : ℕ → A) (k : ℕ) (a : A) (j : ℕ) → (j 
 unfolding putAt
 put-there f k a j n = rw (ne-eqb j k n) refl
 
+-- what holds of both holds of the one that a test picks
+pub either : {A : Type 0} (P : A → Type 0) (a : Bool) (x y : A) → P x → P y → P (cond a x y)
+either P true x y p q = p
+either P false x y p q = q
+
 -- a chain of checks that none refuses
 pub first-passed : (k : ℕ) (l : List ℕ) → firstRefusal (k ∷ l) ≡ passed → (k ≡ passed) × (firstRefusal l ≡ passed)
 first-passed k l e = (passed-first k l e, passed-rest k l e)

@@ -20,6 +20,7 @@ use Rattle.order.proofs.Laws.OrderUseLaws.{reads-agree, written-is-read}
 use Rattle.order.proofs.Laws.LastSetLaws.{stays-away, until-another, zeros-or-written}
 use Rattle.register.specs.Corollaries.{WriteStaysAway, WriteIsThereUntilAnother, ReadGivesOneWrite}
 use Rattle.register.specs.Corollaries.{CutWriteIsThereOrAway, WhatWasStoredIsThere, OneThingSeen, SeenOnOneStripe}
+use Rattle.register.proofs.Laws.BrickEvent.{either}
 use Rattle.register.proofs.Laws.DriverLaws.{seen-nowhere}
 use Rattle.register.proofs.Laws.TheoremProof.{every-run-has-one-order}
 
@@ -65,10 +66,6 @@ module _ (s : Settings) (w : World) where
   none m e =
       record { stripe = 0; shown = []; one = omega arith; there = λ k. e k ∙ ap (λ (f : ℕ → List (Seen (plain s))). f k) (sym (seen-nowhere 0)) }
 
-  either : (a : Bool) (x y : Moved s) → ShowsOne s x → ShowsOne s y → ShowsOne s (cond a x y)
-  either true x y p q = p
-  either false x y p q = q
-
   coordinated-one : (c : ℕ) (p : Step) → ShowsOne s (coordinated s w c p)
   unfolding coordinated unmoved
   coordinated-one c (refused number) = none _ (λ k. refl)
@@ -77,7 +74,7 @@ module _ (s : Settings) (w : World) where
 
   arriving-one : (i : Item) → ShowsOne s (arriving s w i)
   unfolding arriving received unmoved
-  arriving-one (message b msg block) = either (w .up b) _ _ (none _ (λ k. refl)) (none _ (λ k. refl))
+  arriving-one (message b msg block) = either (ShowsOne s) (w .up b) _ _ (none _ (λ k. refl)) (none _ (λ k. refl))
   arriving-one (reply r block) = coordinated-one (coordinatorOf (r .time)) _
 
   at-one : (l : List Item) (k : ℕ) → ShowsOne s (arrivingAt s w l k)
@@ -88,11 +85,11 @@ module _ (s : Settings) (w : World) where
 
   standing-one : (b : ℕ) (how : Bool) → ShowsOne s (standing s w b how)
   unfolding standing unmoved
-  standing-one b how = either (ltb b (s .n)) _ _ (none _ (λ k. refl)) (none _ (λ k. refl))
+  standing-one b how = either (ShowsOne s) (ltb b (s .n)) _ _ (none _ (λ k. refl)) (none _ (λ k. refl))
 
   step-one : (e : Event) → ShowsOne s (step s w e)
   unfolding step unmoved
-  step-one (startWrite c stripe reading content) = either (areBytes content) _ _ (coordinated-one c _) (none _ (λ k. refl))
+  step-one (startWrite c stripe reading content) = either (ShowsOne s) (areBytes content) _ _ (coordinated-one c _) (none _ (λ k. refl))
   step-one (startRead c stripe reading first) = coordinated-one c _
   step-one (arrives k) = at-one (w .sent) k
   step-one (crashes c left) = coordinated-one c _

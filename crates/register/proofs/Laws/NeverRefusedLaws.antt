@@ -47,7 +47,7 @@ use Rattle.register.specs.Runs.{Item, message, reply, World, idle, fresh
 use Rattle.register.specs.Runs.{goesDown, comesUp, Moved, unmoved, putAt, coordinated, received, arriving, arrivingAt, standing}
 use Rattle.register.specs.Runs.{leaving, leftBy, step, nextMoved, runFrom, run}
 use Rattle.register.proofs.Laws.Invariant.{view}
-use Rattle.register.proofs.Laws.BrickEvent.{put-here, put-there}
+use Rattle.register.proofs.Laws.BrickEvent.{either, put-here, put-there}
 use Rattle.register.proofs.Laws.CrashEvent.{left-by}
 use Rattle.register.proofs.Laws.TheoremProof.{run-holds}
 use Rattle.register.specs.NeverRefused.{Fine, ImagesOpen, RowsLong, RecordsOpen, CrashesAccepted}
@@ -226,13 +226,9 @@ module _ (s : Settings) where
       at c′ l false e = subst (Known s c′) (sym (put-there (w .coordinators) c (q .next) c′ (eqb-false c′ c e))) (f c′ l)
 
   module _ (w : World) (f : AllKnown s w) where
-    either : (a : Bool) (x y : Moved s) → AllKnown s (x .world) → AllKnown s (y .world) → AllKnown s (cond a x y .world)
-    either true x y p q = p
-    either false x y p q = q
-
     item-known : (z : Item) → AllKnown s (arriving s w z .world)
     unfolding arriving received unmoved
-    item-known (message b msg block) = either (w .up b) _ _ f f
+    item-known (message b msg block) = either (λ (m : Moved s). AllKnown s (m .world)) (w .up b) _ _ f f
     item-known (reply a block) =
         let c = coordinatorOf (a .time) in coordinated-known w c _ f (λ l. take-keeps s c (w .coordinators c) (f c l) a block (s .n * s .size))
 
@@ -244,12 +240,12 @@ module _ (s : Settings) where
 
     stand-known : (b : ℕ) (how : Bool) → AllKnown s (standing s w b how .world)
     unfolding standing unmoved
-    stand-known b how = either (ltb b (s .n)) _ _ f f
+    stand-known b how = either (λ (m : Moved s). AllKnown s (m .world)) (ltb b (s .n)) _ _ f f
 
     step-known : (e : Event) → AllKnown s (step s w e .world)
     unfolding step unmoved
     step-known (startWrite c number reading content) =
-        either (areBytes content) _ _
+        either (λ (m : Moved s). AllKnown s (m .world)) (areBytes content) _ _
         (coordinated-known w c _ f (λ l. write-keeps s c (w .coordinators c) (f c l) number reading content)) f
     step-known (startRead c number reading first) =
         coordinated-known w c _ f (λ l. read-keeps s c (w .coordinators c) (f c l) number reading first)
@@ -317,10 +313,6 @@ abbrev RowsRight : (s : Settings) → World → Type 0
 RowsRight s w = (b : ℕ) → b < s .n → length (w .images b) ≡ rowSize s
 
 module _ (s : Settings) (w : World) (f : RowsRight s w) where
-  rows-either : (a : Bool) (x y : Moved s) → RowsRight s (x .world) → RowsRight s (y .world) → RowsRight s (cond a x y .world)
-  rows-either true x y p q = p
-  rows-either false x y p q = q
-
   coordinated-rows : (c : ℕ) (p : Step) → RowsRight s (coordinated s w c p .world)
   unfolding coordinated unmoved
   coordinated-rows c (refused number) = f
@@ -344,7 +336,7 @@ module _ (s : Settings) (w : World) (f : RowsRight s w) where
 
   item-rows : (z : Item) → RowsRight s (arriving s w z .world)
   unfolding arriving unmoved
-  item-rows (message b msg block) = rows-either (w .up b) _ _ (received-rows b msg block _) f
+  item-rows (message b msg block) = either (λ (m : Moved s). RowsRight s (m .world)) (w .up b) _ _ (received-rows b msg block _) f
   item-rows (reply a block) = coordinated-rows (coordinatorOf (a .time)) _
 
   place-rows : (l : List Item) (k : ℕ) → RowsRight s (arrivingAt s w l k .world)
@@ -355,11 +347,11 @@ module _ (s : Settings) (w : World) (f : RowsRight s w) where
 
   stand-rows : (b : ℕ) (how : Bool) → RowsRight s (standing s w b how .world)
   unfolding standing unmoved
-  stand-rows b how = rows-either (ltb b (s .n)) _ _ f f
+  stand-rows b how = either (λ (m : Moved s). RowsRight s (m .world)) (ltb b (s .n)) _ _ f f
 
   step-rows : (e : Event) → RowsRight s (step s w e .world)
   unfolding step unmoved
-  step-rows (startWrite c number reading content) = rows-either (areBytes content) _ _ (coordinated-rows c _) f
+  step-rows (startWrite c number reading content) = either (λ (m : Moved s). RowsRight s (m .world)) (areBytes content) _ _ (coordinated-rows c _) f
   step-rows (startRead c number reading first) = coordinated-rows c _
   step-rows (arrives k) = place-rows (w .sent) k
   step-rows (crashes c left) = coordinated-rows c _

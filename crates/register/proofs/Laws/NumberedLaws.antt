@@ -26,7 +26,7 @@ use Rattle.byte_lists.specs.Little.{areBytes}
 use Rattle.register.specs.Runs.{Item, message, reply, World, idle, freshSet, Left, Event, startWrite, startRead, arrives, crashes}
 use Rattle.register.specs.Runs.{goesDown, comesUp, Moved, unmoved, coordinated, received, arriving, arrivingAt, standing, leftBy}
 use Rattle.register.specs.Runs.{step, nextMoved, runFrom, run}
-use Rattle.register.proofs.Laws.BrickEvent.{put-there}
+use Rattle.register.proofs.Laws.BrickEvent.{either, put-there}
 
 -- a step that is refused, or is of a coordinator up to 15
 abbrev LowStep : ℕ → Step → Type 0
@@ -110,14 +110,10 @@ module _ (s : Settings) (c : ℕ) (high : lastCoordinator < c) where
           let low = l (subst (λ (j : ℕ). w .coordinators j .state .clock .coordinator ≡ j) z named) in
           omega (arith, z, low)
 
-  either : (a : Bool) (x y : Moved s) → Still s c (x .world) → Still s c (y .world) → Still s c (cond a x y .world)
-  either true x y p q = p
-  either false x y p q = q
-
   module _ (w : World) (e : Still s c w) where
     item-still : (z : Item) → Still s c (arriving s w z .world)
     unfolding arriving received unmoved
-    item-still (message b msg block) = either (w .up b) _ _ e e
+    item-still (message b msg block) = either (λ (m : Moved s). Still s c (m .world)) (w .up b) _ _ e e
     item-still (reply a block) =
         let d = coordinatorOf (a .time) in
         coordinated-still w d _ (λ n. take-low (s .n) (s .m) (s .size) (s .stripes) d (w .coordinators d) n a block (s .n * s .size)) e
@@ -130,12 +126,12 @@ module _ (s : Settings) (c : ℕ) (high : lastCoordinator < c) where
 
     stand-still : (b : ℕ) (how : Bool) → Still s c (standing s w b how .world)
     unfolding standing unmoved
-    stand-still b how = either (ltb b (s .n)) _ _ e e
+    stand-still b how = either (λ (m : Moved s). Still s c (m .world)) (ltb b (s .n)) _ _ e e
 
     step-still : (v : Event) → Still s c (step s w v .world)
     unfolding step unmoved
     step-still (startWrite d number reading content) =
-        either (areBytes content) _ _
+        either (λ (m : Moved s). Still s c (m .world)) (areBytes content) _ _
         (coordinated-still w d _ (λ n. write-low (s .n) (s .m) (s .size) (s .stripes) d (w .coordinators d) n number reading content) e) e
     step-still (startRead d number reading first) =
         coordinated-still w d _ (λ n. read-low (s .n) (s .m) (s .size) (s .stripes) d (w .coordinators d) n number reading first) e

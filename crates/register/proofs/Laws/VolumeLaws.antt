@@ -40,6 +40,7 @@ use Rattle.register.specs.Runs.{plain, Item, message, reply, World, Even
 use Rattle.register.specs.Runs.{putAt, onStripe, begunKind, seenOf, coordinated, received, arriving, arrivingAt, standing, leaving, leftBy, step, nextMoved, runFrom, run}
 use Rattle.register.specs.Volumes.{messageOn, changesImage, StripesApart, NothingSeenPastTheStripes, OneClock, writeBelowBusy, readBelowBusy, OneOperationAtATime}
 use Rattle.register.specs.RefusedEvents.{eventNumber}
+use Rattle.register.proofs.Laws.BrickEvent.{either}
 use Rattle.register.proofs.Laws.Invariant.{Hist, view, Inv}
 use Rattle.register.proofs.Laws.StartEvent.{new-time}
 use Rattle.register.proofs.Laws.StripeEvent.{own-clock}
@@ -51,10 +52,6 @@ module _ (s : Settings) (w : World) (k b : ℕ) where
   -- the image of stripe k at brick b is as it was
   Same : Moved s → Type 0
   Same m = imageAt s k (m .world .images b) ≡ imageAt s k (w .images b)
-
-  either : (a : Bool) (x y : Moved s) → Same x → Same y → Same (cond a x y)
-  either true x y p q = p
-  either false x y p q = q
 
   same-unmoved : Same (unmoved s w)
   unfolding Same unmoved
@@ -68,7 +65,7 @@ module _ (s : Settings) (w : World) (k b : ℕ) where
   same-arriving : (i : Item) (is : List Item) → messageOn (i ∷ is) zero k ≡ false → Same (arriving s w i)
   unfolding arriving messageOn
   same-arriving (reply r block) is e = same-coordinated (coordinatorOf (r .time)) _
-  same-arriving (message d msg block) is e = either (w .up d) _ _ moved same-unmoved
+  same-arriving (message d msg block) is e = either Same (w .up d) _ _ moved same-unmoved
     where
       out : List ℕ
       out = replicate (s .size) 0
@@ -92,11 +89,11 @@ module _ (s : Settings) (w : World) (k b : ℕ) where
 
   same-standing : (d : ℕ) (how : Bool) → Same (standing s w d how)
   unfolding standing
-  same-standing d how = either (ltb d (s .n)) _ _ (unfold Same in refl) same-unmoved
+  same-standing d how = either Same (ltb d (s .n)) _ _ (unfold Same in refl) same-unmoved
 
   same-step : (e : Event) → changesImage w e k ≡ false → Same (step s w e)
   unfolding step changesImage
-  same-step (startWrite c number reading content) e = either (areBytes content) _ _ (same-coordinated c _) same-unmoved
+  same-step (startWrite c number reading content) e = either Same (areBytes content) _ _ (same-coordinated c _) same-unmoved
   same-step (startRead c number reading first) e = same-coordinated c _
   same-step (arrives p) e = same-at (w .sent) p e
   same-step (crashes c left) e = same-coordinated c _
@@ -150,10 +147,6 @@ module _ (s : Settings) (g : SettingsRange s) (k : ℕ) (h : Hist s) (r : Moved 
   unfolding New unmoved
   new-unmoved m = List·Memᴰ·not-nil m
 
-  choose : (a : Bool) (y z : Moved s) → New y → New z → New (cond a y z)
-  choose true y z p q = p
-  choose false y z p q = q
-
   new-step : (c : ℕ) (p : Step) → ((w : Went) → p ≡ went w → w .seen .what ≡ beganSeen → w .seen .time ≡ t → ⊥) → New (coordinated s (r .world) c p)
   unfolding New coordinated unmoved
   new-step c (refused number) f m = List·Memᴰ·not-nil m
@@ -205,7 +198,7 @@ module _ (s : Settings) (g : SettingsRange s) (k : ℕ) (h : Hist s) (r : Moved 
 
   new-reply : (i : Item) → New (arriving s (r .world) i)
   unfolding arriving
-  new-reply (message b msg block) = choose (r .world .up b) _ _ (unfold New received in λ m. List·Memᴰ·not-nil m) new-unmoved
+  new-reply (message b msg block) = either New (r .world .up b) _ _ (unfold New received in λ m. List·Memᴰ·not-nil m) new-unmoved
   new-reply (reply a block) = new-step (coordinatorOf (a .time)) _ (λ w e q _. take-keeps-stripe _ _ _ _ _ _ _ _ w e .no-start q)
 
   new-at : (l : List Item) (p : ℕ) → New (arrivingAt s (r .world) l p)
@@ -216,11 +209,11 @@ module _ (s : Settings) (g : SettingsRange s) (k : ℕ) (h : Hist s) (r : Moved 
 
   new-standing : (b : ℕ) (how : Bool) → New (standing s (r .world) b how)
   unfolding standing
-  new-standing b how = choose (ltb b (s .n)) _ _ (unfold New in λ m. List·Memᴰ·not-nil m) new-unmoved
+  new-standing b how = either New (ltb b (s .n)) _ _ (unfold New in λ m. List·Memᴰ·not-nil m) new-unmoved
 
   new-event : (e : Event) → New (step s (r .world) e)
   unfolding step
-  new-event (startWrite c number reading content) = choose (areBytes content) _ _ (new-write c number reading content) new-unmoved
+  new-event (startWrite c number reading content) = either New (areBytes content) _ _ (new-write c number reading content) new-unmoved
   new-event (startRead c number reading first) = new-read c number reading first
   new-event (arrives p) = new-at (r .world .sent) p
   new-event (crashes c left) = new-crash c left
@@ -235,10 +228,6 @@ module _ (s : Settings) (w : World) (k : ℕ) (high : s .stripes ≤ k) where
   none-unmoved : None (unmoved s w)
   unfolding None unmoved
   none-unmoved = refl
-
-  any : (a : Bool) (x y : Moved s) → None x → None y → None (cond a x y)
-  any true x y p q = p
-  any false x y p q = q
 
   -- a step that shows something of a stripe below S, or nothing
   none-step : (c : ℕ) (p : Step) → ((g : Went) → p ≡ went g → (g .seen .stripe < s .stripes) ⊎ (g .seen ≡ nothingSeen)) → None (coordinated s w c p)
@@ -283,7 +272,7 @@ module _ (s : Settings) (w : World) (k : ℕ) (high : s .stripes ≤ k) where
 
   none-arriving : (i : Item) → None (arriving s w i)
   unfolding arriving
-  none-arriving (message b msg block) = any (w .up b) _ _ (unfold None received in refl) none-unmoved
+  none-arriving (message b msg block) = either None (w .up b) _ _ (unfold None received in refl) none-unmoved
   none-arriving (reply r block) = none-step (coordinatorOf (r .time)) _ (λ g e. shows g e)
     where
       c : Buffered
@@ -302,11 +291,11 @@ module _ (s : Settings) (w : World) (k : ℕ) (high : s .stripes ≤ k) where
 
   none-standing : (b : ℕ) (how : Bool) → None (standing s w b how)
   unfolding standing
-  none-standing b how = any (ltb b (s .n)) _ _ (unfold None in refl) none-unmoved
+  none-standing b how = either None (ltb b (s .n)) _ _ (unfold None in refl) none-unmoved
 
   none-event : (e : Event) → None (step s w e)
   unfolding step
-  none-event (startWrite c number reading content) = any (areBytes content) _ _ (none-step c _ (λ g e. inl (low g e))) none-unmoved
+  none-event (startWrite c number reading content) = either None (areBytes content) _ _ (none-step c _ (λ g e. inl (low g e))) none-unmoved
     where
       low : (g : Went) → writeStep (s .n) (s .m) (s .size) (s .stripes) (w .coordinators c) number reading content ≡ went g → g .seen .stripe < s .stripes
       low g e =
