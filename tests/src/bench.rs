@@ -1,7 +1,7 @@
 //! The bench: plays a script of one set and prints what ended or was refused.
 
 use crate::brick::{self, Message, Reply, TRIM};
-use crate::coordinator::{self, Ended, Kind, Outcome, Record, Step};
+use crate::coordinator::{self, Ended, Outcome, Record, Step};
 use crate::image;
 use crate::settings::{coordinator_of, Refusal, Settings};
 
@@ -135,13 +135,10 @@ fn print_ended(ended: Option<Ended>, printed: &mut String) {
     else {
         return;
     };
-    let kind = match kind {
-        Kind::Read => "read",
-        Kind::Write => "write",
-    };
+    let kind = if kind.reads() { "read" } else { "write" };
     let outcome = match outcome {
         Outcome::Ok => "ok".to_string(),
-        Outcome::Stripe { data, .. } => data.iter().map(|byte| format!("{byte:02x}")).collect(),
+        Outcome::Gave { data, .. } => data.iter().map(|byte| format!("{byte:02x}")).collect(),
         Outcome::Abort => "abort".to_string(),
         Outcome::Cut => "cut".to_string(),
     };

@@ -67,6 +67,14 @@ pub fn decode(n: u64, m: u64, size: u64, bricks: &[u8], blocks: &[u8]) -> Result
     Ok(evaluate(&coefficients, m as u8))
 }
 
+/// What data block j weighs in the coded block of a brick: the coded value there
+/// of the stripe that is 1 at j and 0 elsewhere. The settings and both numbers
+/// are in range.
+pub fn weight(n: u64, m: u64, brick: u64, j: u64) -> u8 {
+    let data: Vec<u8> = (0..m).map(|i| u8::from(i == j)).collect();
+    encode(n, m, 1, &data).expect("settings in range")[brick as usize]
+}
+
 /// The blocks of a buffer of m blocks, one row each.
 fn rows(shape: Shape, blocks: &[u8]) -> Vec<Vec<u8>> {
     (0..shape.m as usize)

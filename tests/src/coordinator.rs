@@ -1,6 +1,6 @@
 //! One event at one coordinator: a start, a reply, a crash.
 
-use crate::brick::{Message, Reply, ORDER, ORDER_READ, READ, TRIM, WRITE};
+use crate::brick::{Message, Reply, MODIFY, ORDER, ORDER_BLOCK, ORDER_READ, READ, TRIM, WRITE};
 use crate::code;
 use crate::settings::{
     coordinator_of, count_of, draw, quorum, valid_time, Refusal, Shape, Volume, LAST_COORDINATOR,
@@ -11,6 +11,20 @@ use crate::settings::{
 pub enum Kind {
     Read,
     Write,
+    ReadBlock,
+    WriteBlock,
+}
+
+impl Kind {
+    /// Whether it reads, a stripe or a block.
+    pub fn reads(self) -> bool {
+        matches!(self, Kind::Read | Kind::ReadBlock)
+    }
+
+    /// Whether it is of one block.
+    pub fn of_block(self) -> bool {
+        matches!(self, Kind::ReadBlock | Kind::WriteBlock)
+    }
 }
 
 /// What a coordinator keeps. A crash leaves only the last count.
@@ -33,11 +47,13 @@ pub struct Running {
     pub open: u8,
     /// Of an Order-and-read round; 0 in others.
     pub max: u64,
-    /// The first target of a read; 0 in a write.
+    /// The first target of a read of the stripe, the number of the block in an
+    /// operation on one; 0 in a write of the stripe.
     pub first: u64,
-    /// The data of a write, or what a read in its Write round recovered.
+    /// The data of a write, the new block of a block write; in the Write round of
+    /// a recovery the stripe that is stored.
     pub data: Vec<u8>,
-    /// The bricks that a read in its Write round decoded from.
+    /// The bricks that a read in the Write round of its recovery decoded from.
     pub bricks: Vec<u8>,
     /// The replies counted in the open round.
     pub replies: Vec<Reply>,
@@ -48,8 +64,9 @@ pub struct Running {
 pub enum Outcome {
     /// A write that finished.
     Ok,
-    /// A read that finished: the stripe, and the m bricks decoded from.
-    Stripe {
+    /// A read that finished: the stripe or the block, and the bricks it names:
+    /// the m decoded from, or that of a block read in one round.
+    Gave {
         data: Vec<u8>,
         bricks: Vec<u8>,
     },
@@ -63,6 +80,8 @@ pub struct Ended {
     pub coordinator: u64,
     pub kind: Kind,
     pub stripe: u64,
+    /// The number of the block in an operation on one, else 0.
+    pub block: u64,
     pub time: u64,
     pub outcome: Outcome,
 }
@@ -114,36 +133,54 @@ impl Running {
 
     /// Whether the open round is one of the operation's, with the fields it needs.
     fn round_fits(&self, shape: Shape) -> bool {
-        let empty = self.data.is_empty() && self.bricks.is_empty();
-        let full = self.data.len() == shape.data_len();
+        self.number_fits() && self.max_fits() && self.first_fits(shape) && self.kept_fits(shape)
+    }
+
+    /// Whether the operation may have such a round under this number.
+    fn number_fits(&self) -> bool {
         match (self.kind, self.open) {
-            (Kind::Write, ORDER | WRITE) => {
-                let round = if self.open == ORDER { 1 } else { 2 };
-                self.round == round
-                    && full
-                    && self.bricks.is_empty()
-                    && self.max == 0
-                    && self.first == 0
-            }
-            (Kind::Read, READ) => self.round == 1 && empty && self.max == 0 && self.first < shape.n,
-            (Kind::Read, ORDER_READ) => {
-                self.round >= 2 && empty && self.max_fits() && self.first < shape.n
-            }
-            (Kind::Read, WRITE) => {
-                let decoded = full && shape.is_brick_set(&self.bricks);
-                self.round >= 3 && decoded && self.max == 0 && self.first < shape.n
-            }
+            (Kind::Write, ORDER) => self.round == 1,
+            (Kind::Write, WRITE) => self.round == 2,
+            (Kind::Read | Kind::ReadBlock, READ) => self.round == 1,
+            (Kind::WriteBlock, ORDER_BLOCK) => self.round == 1,
+            (Kind::WriteBlock, MODIFY) => self.round == 2,
+            (_, ORDER_READ) => self.kind != Kind::Write && self.round >= 2,
+            (_, WRITE) => self.round >= 3,
             _ => false,
         }
     }
 
     /// The first recovery round has no upper end, each later one a time found.
     fn max_fits(&self) -> bool {
-        if self.round == 2 {
-            self.max == NO_UPPER_END
-        } else {
-            valid_time(self.max)
+        match (self.open, self.round) {
+            (ORDER_READ, 2) => self.max == NO_UPPER_END,
+            (ORDER_READ, _) => valid_time(self.max),
+            _ => self.max == 0,
         }
+    }
+
+    fn first_fits(&self, shape: Shape) -> bool {
+        match self.kind {
+            Kind::Write => self.first == 0,
+            Kind::Read => self.first < shape.n,
+            Kind::ReadBlock | Kind::WriteBlock => shape.block_refusal(self.first).is_none(),
+        }
+    }
+
+    /// Whether the data and the bricks are what the round needs.
+    fn kept_fits(&self, shape: Shape) -> bool {
+        let length = match self.kind {
+            _ if self.open == WRITE => shape.data_len(),
+            Kind::Write => shape.data_len(),
+            Kind::WriteBlock => shape.size as usize,
+            Kind::Read | Kind::ReadBlock => 0,
+        };
+        let named = if self.kind.reads() && self.open == WRITE {
+            shape.is_brick_set(&self.bricks)
+        } else {
+            self.bricks.is_empty()
+        };
+        self.data.len() == length && named
     }
 
     fn counted_reply_fits(&self, shape: Shape, i: usize) -> bool {
@@ -157,8 +194,10 @@ impl Running {
             && self.answers(shape, reply)
     }
 
+    /// The targets of a Read round: that of the block, or m bricks.
     fn targets(&self, shape: Shape) -> Vec<u8> {
-        (0..shape.m)
+        let count = if self.kind.of_block() { 1 } else { shape.m };
+        (0..count)
             .map(|i| ((self.first + i) % shape.n) as u8)
             .collect()
     }
@@ -180,6 +219,7 @@ impl Running {
                 held == (reply.yes && target)
             }
             ORDER_READ if reply.yes => held || reply.found == 0,
+            ORDER_BLOCK if reply.yes => held == (reply.brick == self.first),
             _ => !held && reply.found == 0,
         };
         of_the_round && fits
@@ -203,6 +243,11 @@ impl Running {
         match self.open {
             READ => message.targets = self.targets(shape),
             ORDER_READ => message.max = self.max,
+            ORDER_BLOCK => message.number = self.first,
+            MODIFY => {
+                message.number = self.first;
+                message.block = self.data.clone();
+            }
             _ => {}
         }
         let mut messages = vec![message; shape.n as usize];
@@ -277,6 +322,44 @@ pub fn start_write(
     start(volume, number, record, stripe, reading, Kind::Write, 0, data)
 }
 
+/// Starts a write of data block `block` of a stripe. Refused: 1 settings, 2 the
+/// length of the new block, 3 coordinator, 13 stripe, 14 block, 6 the record, 7
+/// the reading, 8 no count left, 9 an operation runs.
+pub fn start_write_block(
+    volume: Volume,
+    number: u64,
+    record: &mut Record,
+    stripe: u64,
+    reading: u64,
+    block: u64,
+    data: &[u8],
+) -> Result<Step, Refusal> {
+    if volume.refusal().is_some() {
+        return Err(1);
+    }
+    if data.len() as u64 != volume.shape.size {
+        return Err(2);
+    }
+    start(volume, number, record, stripe, reading, Kind::WriteBlock, block, data)
+}
+
+/// Starts a read of data block `block` of a stripe. Refused: 1 settings, 3
+/// coordinator, 13 stripe, 14 block, 6 the record, 7 the reading, 8 no count
+/// left, 9 an operation runs.
+pub fn start_read_block(
+    volume: Volume,
+    number: u64,
+    record: &mut Record,
+    stripe: u64,
+    reading: u64,
+    block: u64,
+) -> Result<Step, Refusal> {
+    if volume.refusal().is_some() {
+        return Err(1);
+    }
+    start(volume, number, record, stripe, reading, Kind::ReadBlock, block, &[])
+}
+
 /// Starts a read of a stripe whose targets are counted from brick `first`.
 /// Refused: 1 settings, 3 coordinator or brick, 13 stripe, 6 the record, 7 the
 /// reading, 8 no count left, 9 an operation runs.
@@ -308,7 +391,8 @@ fn start(
     first: u64,
     data: &[u8],
 ) -> Result<Step, Refusal> {
-    check_record(volume, number, Some(stripe), record)?;
+    let block = kind.of_block().then_some(first);
+    check_record(volume, number, Some(stripe), block, record)?;
     let (time, last) = draw(number, record.last, reading)?;
     if record.running.is_some() {
         return Err(9);
@@ -318,7 +402,11 @@ fn start(
         stripe,
         time,
         round: 1,
-        open: if kind == Kind::Read { READ } else { ORDER },
+        open: match kind {
+            Kind::Read | Kind::ReadBlock => READ,
+            Kind::Write => ORDER,
+            Kind::WriteBlock => ORDER_BLOCK,
+        },
         max: 0,
         first,
         data: data.to_vec(),
@@ -349,7 +437,7 @@ pub fn take_reply(
     if reply.brick >= shape.n {
         return Err(3);
     }
-    check_record(volume, number, Some(reply.stripe), record)?;
+    check_record(volume, number, Some(reply.stripe), None, record)?;
     if let Some(refusal) = reply.refusal() {
         return Err(refusal);
     }
@@ -382,24 +470,29 @@ pub fn crash(volume: Volume, number: u64, record: &mut Record) -> Result<Step, R
     if volume.refusal().is_some() {
         return Err(1);
     }
-    check_record(volume, number, None, record)?;
+    check_record(volume, number, None, None, record)?;
     Ok(Step {
         sent: Vec::new(),
         ended: end(record, Outcome::Cut),
     })
 }
 
-/// Refusals 3 (coordinator), 13 (stripe, where the event names one) and 6 (record).
+/// Refusals 3 (coordinator), 13 and 14 (stripe and block, where the event names
+/// one) and 6 (record).
 fn check_record(
     volume: Volume,
     number: u64,
     stripe: Option<u64>,
+    block: Option<u64>,
     record: &Record,
 ) -> Result<(), Refusal> {
     if number > LAST_COORDINATOR {
         return Err(3);
     }
     if let Some(refusal) = stripe.and_then(|stripe| volume.stripe_refusal(stripe)) {
+        return Err(refusal);
+    }
+    if let Some(refusal) = block.and_then(|block| volume.shape.block_refusal(block)) {
         return Err(refusal);
     }
     if record.breaks_a_rule(volume, number) {
@@ -415,6 +508,7 @@ fn end(record: &mut Record, outcome: Outcome) -> Option<Ended> {
         coordinator: record.number,
         kind: running.kind,
         stripe: running.stripe,
+        block: if running.kind.of_block() { running.first } else { 0 },
         time: running.time,
         outcome,
     })
@@ -428,24 +522,39 @@ fn decide(shape: Shape, running: &mut Running) -> Decision {
         _ if !all_yes => abort(),
         ORDER => next_or_abort(running.open_round(shape, WRITE, 0)),
         ORDER_READ => decide_recovery(shape, running),
-        _ => Decision::End(finished(running), running.trims(shape)),
+        ORDER_BLOCK => decide_order_block(shape, running),
+        _ => Decision::End(finished(shape, running), running.trims(shape)),
     }
 }
 
-/// The outcome of an operation whose Write round is finished.
-fn finished(running: &Running) -> Outcome {
-    match running.kind {
-        Kind::Write => Outcome::Ok,
-        Kind::Read => Outcome::Stripe {
-            data: running.data.clone(),
-            bricks: running.bricks.clone(),
-        },
+/// The outcome of an operation whose Write or Modify round is finished.
+fn finished(shape: Shape, running: &Running) -> Outcome {
+    let data = match running.kind {
+        Kind::Write | Kind::WriteBlock => return Outcome::Ok,
+        Kind::Read => running.data.clone(),
+        Kind::ReadBlock => shape.block(&running.data, running.first as usize).to_vec(),
+    };
+    Outcome::Gave {
+        data,
+        bricks: running.bricks.clone(),
     }
+}
+
+/// The time that all replies have found, if it is one.
+fn common_time(replies: &[Reply]) -> Option<u64> {
+    let time = replies[0].found;
+    replies
+        .iter()
+        .all(|reply| reply.found == time)
+        .then_some(time)
+}
+
+fn recover_from_the_top(shape: Shape, running: &mut Running) -> Decision {
+    next_or_abort(running.open_round(shape, ORDER_READ, NO_UPPER_END))
 }
 
 fn decide_read(shape: Shape, running: &mut Running, all_yes: bool) -> Decision {
-    let newest = running.replies[0].found;
-    let same = running.replies.iter().all(|reply| reply.found == newest);
+    let same = common_time(&running.replies).is_some();
     let targets = running.targets(shape);
     let blocks: Option<Vec<&[u8]>> = targets
         .iter()
@@ -453,16 +562,29 @@ fn decide_read(shape: Shape, running: &mut Running, all_yes: bool) -> Decision {
         .collect();
     match blocks {
         Some(blocks) if all_yes && same => {
-            let data = decode(shape, &targets, &blocks.concat());
-            Decision::End(
-                Outcome::Stripe {
-                    data,
-                    bricks: targets,
-                },
-                Vec::new(),
-            )
+            let data = match running.kind {
+                Kind::ReadBlock => blocks.concat(),
+                _ => decode(shape, &targets, &blocks.concat()),
+            };
+            let bricks = targets;
+            Decision::End(Outcome::Gave { data, bricks }, Vec::new())
         }
-        _ => next_or_abort(running.open_round(shape, ORDER_READ, NO_UPPER_END)),
+        _ => recover_from_the_top(shape, running),
+    }
+}
+
+fn decide_order_block(shape: Shape, running: &mut Running) -> Decision {
+    let old = block_of(&running.replies, running.first as u8).map(<[u8]>::to_vec);
+    match (old, common_time(&running.replies)) {
+        (Some(old_block), Some(old_time)) => {
+            let mut messages = running.open_round(shape, MODIFY, 0);
+            for message in messages.iter_mut().flatten() {
+                message.old_time = old_time;
+                message.old_block.clone_from(&old_block);
+            }
+            next_or_abort(messages)
+        }
+        _ => recover_from_the_top(shape, running),
     }
 }
 
@@ -478,7 +600,14 @@ fn decide_recovery(shape: Shape, running: &mut Running) -> Decision {
         .cloned()
         .collect();
     if chosen.len() as u64 >= shape.m {
-        (running.bricks, running.data) = recover(shape, &chosen);
+        let (bricks, mut data) = recover(shape, &chosen);
+        // A write of a block names no bricks.
+        if running.kind == Kind::WriteBlock {
+            shape.put_block(&mut data, running.first as usize, &running.data);
+        } else {
+            running.bricks = bricks;
+        }
+        running.data = data;
         return next_or_abort(running.open_round(shape, WRITE, 0));
     }
     if highest == 0 {

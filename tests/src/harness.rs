@@ -1,18 +1,21 @@
 //! Random runs of a volume, for any implementation of the routines: operations on some of its stripes among faults, then reads in a row.
 
-use crate::brick::{self, Message, Reply, TRIM, WRITE};
+use crate::brick::{self, Message, Reply, MODIFY, ORDER_BLOCK, ORDER_READ, READ, TRIM, WRITE};
 use crate::coordinator::{self, Ended, Kind, Outcome, Record, Step};
-use crate::order::{by_stripe, has_order, End, Operation};
+use crate::order::{brute_order, by_stripe, has_order, End, Operation};
 use crate::proved::{self, answer, record};
 use crate::rng::Rng;
-use crate::settings::{coordinator_of, count_of, Settings, Volume};
+use crate::settings::{self, coordinator_of, count_of, Settings, Shape, Volume};
 use crate::tally::Tally;
 use crate::image;
 use std::collections::HashSet;
+use std::ops::Range;
 
 /// The routines of bricks and coordinators, refused by number.
 pub trait Routines {
     type Coordinator;
+    /// The stripe and data block of a client block.
+    fn place(settings: Settings, client: u64) -> Result<(u64, u64), u32>;
     /// The row of a fresh brick's images, one a stripe.
     fn images(settings: Settings, brick: u64) -> Vec<u8>;
     fn receive(settings: Settings, brick: u64, images: &mut [u8], message: &Message) -> Result<Option<Reply>, u32>;
@@ -21,10 +24,20 @@ pub trait Routines {
     fn running(c: &Self::Coordinator) -> Option<u64>;
     fn write(settings: Settings, c: &mut Self::Coordinator, stripe: u64, reading: u64, data: &[u8]) -> Result<Step, u32>;
     fn read(settings: Settings, c: &mut Self::Coordinator, stripe: u64, reading: u64, first: u64) -> Result<Step, u32>;
+    fn write_block(settings: Settings, c: &mut Self::Coordinator, at: BlockAt, data: &[u8]) -> Result<Step, u32>;
+    fn read_block(settings: Settings, c: &mut Self::Coordinator, at: BlockAt) -> Result<Step, u32>;
     fn reply(settings: Settings, c: &mut Self::Coordinator, reply: &Reply) -> Result<Step, u32>;
     fn crash(settings: Settings, c: &mut Self::Coordinator) -> Result<Step, u32>;
     /// Other bytes in the buffers beside the record, as a crash may leave them; no where there are none.
     fn overwrite(c: &mut Self::Coordinator, rng: &mut Rng) -> bool;
+}
+
+/// Where and when an operation on one block starts: its stripe, its number there, and the clock's reading.
+#[derive(Clone, Copy)]
+pub struct BlockAt {
+    pub stripe: u64,
+    pub block: u64,
+    pub reading: u64,
 }
 
 /// The independent implementation.
@@ -32,6 +45,10 @@ pub struct Independent;
 
 impl Routines for Independent {
     type Coordinator = Record;
+
+    fn place(settings: Settings, client: u64) -> Result<(u64, u64), u32> {
+        settings::place(settings, client).map_err(u32::from)
+    }
 
     fn images(settings: Settings, brick: u64) -> Vec<u8> {
         image::fresh_row(settings, brick).expect("settings in range")
@@ -55,6 +72,16 @@ impl Routines for Independent {
 
     fn read(settings: Settings, c: &mut Record, stripe: u64, reading: u64, first: u64) -> Result<Step, u32> {
         coordinator::start_read(settings.volume(), c.number, c, stripe, reading, first).map_err(u32::from)
+    }
+
+    fn write_block(settings: Settings, c: &mut Record, at: BlockAt, data: &[u8]) -> Result<Step, u32> {
+        let BlockAt { stripe, block, reading } = at;
+        coordinator::start_write_block(settings.volume(), c.number, c, stripe, reading, block, data).map_err(u32::from)
+    }
+
+    fn read_block(settings: Settings, c: &mut Record, at: BlockAt) -> Result<Step, u32> {
+        let BlockAt { stripe, block, reading } = at;
+        coordinator::start_read_block(settings.volume(), c.number, c, stripe, reading, block).map_err(u32::from)
     }
 
     fn reply(settings: Settings, c: &mut Record, reply: &Reply) -> Result<Step, u32> {
@@ -90,39 +117,70 @@ impl Proved {
             return Err(number);
         }
         let (sent, shown) = (&c.lent.sent, &c.lent.shown);
-        let mut step = Step::default();
-        if sent[answer::SENT] == 1 {
-            let message = Message {
-                stripe: sent[answer::STRIPE],
-                max: sent[answer::MAX],
-                targets: bricks_of(c.lent.shown_row(answer::TARGETS)),
-                ..Message::plain(shown[answer::KIND], sent[answer::TIME], sent[answer::ROUND])
-            };
-            step.sent = vec![message; settings.shape.n as usize];
-            if shown[answer::KIND] == WRITE {
-                for (b, message) in step.sent.iter_mut().enumerate() {
-                    message.block = settings.shape.block(&c.coded, b).to_vec();
-                }
-            }
-        }
+        let step = Step { sent: Proved::messages(settings, c), ended: None };
+        let kind = kind_of(shown[answer::SEEN_KIND]);
         let outcome = match shown[answer::SEEN] {
             proved::WROTE => Some(Outcome::Ok),
-            proved::GAVE => Some(Outcome::Stripe {
-                data: c.stripe.clone(),
-                bricks: c.lent.shown_row(answer::BRICKS)[..settings.shape.m as usize].to_vec(),
-            }),
+            proved::GAVE => {
+                // What ends without a Trim took one round, and a block read in one round names its own brick.
+                let of_block = kind == Kind::ReadBlock;
+                let named = if of_block && step.sent.is_empty() { 1 } else { settings.shape.m as usize };
+                let block = || settings.shape.block(&c.stripe, sent[answer::SEEN_BLOCK] as usize).to_vec();
+                let data = if of_block { block() } else { c.stripe.clone() };
+                Some(Outcome::Gave { data, bricks: c.lent.shown_row(answer::BRICKS)[..named].to_vec() })
+            }
             proved::ABORTED => Some(Outcome::Abort),
             proved::CUT => Some(Outcome::Cut),
             _ => None,
         };
-        step.ended = outcome.map(|outcome| Ended {
+        let ended = outcome.map(|outcome| Ended {
             coordinator: c.lent.numbers[record::COORDINATOR],
-            kind: if shown[answer::SEEN_KIND] == 1 { Kind::Read } else { Kind::Write },
+            kind,
             stripe: sent[answer::SEEN_STRIPE],
+            block: sent[answer::SEEN_BLOCK],
             time: sent[answer::SEEN_TIME],
             outcome,
         });
-        Ok(step)
+        Ok(Step { ended, ..step })
+    }
+
+    /// The messages of a lent answer, with the blocks that stand in the lent buffers.
+    fn messages(settings: Settings, c: &proved::Coordinator) -> Vec<Message> {
+        let (sent, shape) = (&c.lent.sent, settings.shape);
+        if sent[answer::SENT] != 1 {
+            return Vec::new();
+        }
+        let kind = c.lent.shown[answer::KIND];
+        let mut message = Message {
+            stripe: sent[answer::STRIPE],
+            max: sent[answer::MAX],
+            targets: bricks_of(c.lent.shown_row(answer::TARGETS)),
+            old_time: sent[answer::OLD],
+            number: sent[answer::BLOCK],
+            ..Message::plain(kind, sent[answer::TIME], sent[answer::ROUND])
+        };
+        if kind == MODIFY {
+            let j = message.number as usize;
+            message.old_block = shape.block(&c.blocks, j).to_vec();
+            message.block = shape.block(&c.stripe, j).to_vec();
+        }
+        let mut messages = vec![message; shape.n as usize];
+        if kind == WRITE {
+            for (b, message) in messages.iter_mut().enumerate() {
+                message.block = shape.block(&c.coded, b).to_vec();
+            }
+        }
+        messages
+    }
+}
+
+/// The kind of an operation by its number.
+fn kind_of(number: u8) -> Kind {
+    match number {
+        proved::READING => Kind::Read,
+        proved::READING_BLOCK => Kind::ReadBlock,
+        proved::WRITING_BLOCK => Kind::WriteBlock,
+        _ => Kind::Write,
     }
 }
 
@@ -133,6 +191,14 @@ fn bricks_of(flags: [u8; 16]) -> Vec<u8> {
 
 impl Routines for Proved {
     type Coordinator = proved::Coordinator;
+
+    fn place(settings: Settings, client: u64) -> Result<(u64, u64), u32> {
+        let mut place = [0; 2];
+        match proved::place(Proved::five(settings), client as usize, &mut place) {
+            0 => Ok((place[0] as u64, place[1] as u64)),
+            number => Err(number),
+        }
+    }
 
     fn images(settings: Settings, brick: u64) -> Vec<u8> {
         let mut images = vec![0; image::length(settings) * settings.stripes as usize];
@@ -145,9 +211,11 @@ impl Routines for Proved {
         let (mut out, mut r) = (vec![0; size], [0; 8]);
         let flags = proved::flags(&message.targets);
         let asked = proved::asked(u64::from(message.kind), message.time, message.round, message.max, message.stripe, flags);
+        let asked = proved::of_block(asked, message.old_time, message.number);
         let spare = vec![0; size];
-        let block = if message.kind == WRITE { &message.block } else { &spare };
-        match proved::receive_in_row(Proved::five(settings), brick as usize, images, &asked, block, &mut out, &mut r) {
+        let block = if message.holds_a_block() { &message.block } else { &spare };
+        let old = if message.kind == MODIFY { &message.old_block } else { &spare };
+        match proved::receive_in_row(Proved::five(settings), brick as usize, images, &asked, (block, old), &mut out, &mut r) {
             0 => Ok(Some(Reply {
                 kind: r[0] as u8,
                 brick: r[1],
@@ -183,6 +251,20 @@ impl Routines for Proved {
         Proved::step(settings, c, number)
     }
 
+    fn write_block(settings: Settings, c: &mut proved::Coordinator, at: BlockAt, data: &[u8]) -> Result<Step, u32> {
+        let BlockAt { stripe, block, reading } = at;
+        let four = Proved::four(settings.volume());
+        let number = proved::start_write_block(four, &mut c.lent, stripe as usize, reading, block as usize, data, &mut c.stripe);
+        Proved::step(settings, c, number)
+    }
+
+    fn read_block(settings: Settings, c: &mut proved::Coordinator, at: BlockAt) -> Result<Step, u32> {
+        let BlockAt { stripe, block, reading } = at;
+        let four = Proved::four(settings.volume());
+        let number = proved::start_read_block(four, &mut c.lent, stripe as usize, reading, block as usize);
+        Proved::step(settings, c, number)
+    }
+
     fn reply(settings: Settings, c: &mut proved::Coordinator, reply: &Reply) -> Result<Step, u32> {
         let &Reply { kind, brick, stripe, time, round, yes, found, ref block } = reply;
         let fields = (kind, brick as usize, stripe as usize, time, round, yes, found, block.is_some());
@@ -204,7 +286,7 @@ impl Routines for Proved {
 }
 
 /// What was sent: to a brick, or back.
-#[derive(Clone)]
+#[derive(Clone, Debug, PartialEq)]
 pub enum Sent {
     To(usize, Message),
     Back(Reply),
@@ -226,8 +308,12 @@ pub struct Faults {
     pub again: u64,
     pub crash: u64,
     pub down: u64,
-    /// A coordinator that has sent a Write round crashes after a few of its messages.
+    /// A coordinator that has sent a Write or Modify round crashes after a few of its messages.
     pub short: u64,
+    /// A Trim is lost, beside what is lost of all messages.
+    pub trims: u64,
+    /// An operation is of one block.
+    pub blocks: u64,
     /// A crash takes the bytes of the coordinator's lent buffers: they hold others then.
     pub buffers: u64,
     pub rising: bool,
@@ -247,6 +333,8 @@ impl Faults {
             crash: 0,
             down: 0,
             short: 0,
+            trims: 0,
+            blocks: 0,
             buffers: 0,
             rising: true,
             beside: 1,
@@ -263,6 +351,8 @@ impl Faults {
             crash: pick(rng, &[0, 0, 300, 100]),
             down: pick(rng, &[0, 0, 60, 20]),
             short: pick(rng, &[0, 4, 2, 1]),
+            trims: pick(rng, &[0, 0, 2, 1]),
+            blocks: pick(rng, &[0, 2, 2, 1]),
             buffers: pick(rng, &[0, 2, 1]),
             rising: !rng.once_in(4),
             beside: pick(rng, &[1, 1, 1, 2, 3, 16]) as usize,
@@ -279,7 +369,7 @@ pub enum Break {
     BricksForget,
     /// A crash takes the clock's count.
     ClocksForget,
-    /// A brick says yes to a Write and stores nothing, once in 3.
+    /// A brick says yes to a Write or Modify and stores nothing, once in 3.
     Hollow,
     /// What a read recovers isn't stored: its Writes do nothing.
     NoWriteBack,
@@ -289,6 +379,12 @@ pub enum Break {
     ClockEach,
     /// The same, and it counts a reply whatever its stripe.
     AnyStripe,
+    /// An Order-and-read finds the highest entry that has a block of its own, as document 001 has it.
+    BlocksOnly,
+    /// A Modify is taken whatever the newest time.
+    AnyOldTime,
+    /// A Modify leaves the bytes of a parity brick as they were.
+    ParityStays,
 }
 
 fn once(rng: &mut Rng, calls: u64) -> bool {
@@ -299,16 +395,38 @@ fn once(rng: &mut Rng, calls: u64) -> bool {
 pub enum Start {
     Write(Vec<u8>),
     Read(u64),
+    WriteBlock(u64, Vec<u8>),
+    ReadBlock(u64),
+}
+
+impl Start {
+    /// The number of the block, for an operation on one.
+    fn block(&self) -> Option<usize> {
+        match self {
+            Start::WriteBlock(block, _) | Start::ReadBlock(block) => Some(*block as usize),
+            Start::Write(_) | Start::Read(_) => None,
+        }
+    }
+
+    /// The bytes of a write.
+    fn bytes(self) -> Option<Vec<u8>> {
+        match self {
+            Start::Write(bytes) | Start::WriteBlock(_, bytes) => Some(bytes),
+            Start::Read(_) | Start::ReadBlock(_) => None,
+        }
+    }
 }
 
 /// What a run notes of an operation beside its history.
-#[derive(Clone, Debug)]
+#[derive(Clone, Debug, PartialEq)]
 pub struct Noted {
     pub coordinator: usize,
     pub time: u64,
-    /// The last round that was sent, and how many bricks said yes to its Write.
+    /// The last round that was sent, and how many bricks said yes to its Write or Modify.
     pub round: u64,
     pub stored: usize,
+    /// Whether a Modify went out.
+    pub modified: bool,
 }
 
 /// A run from a fresh set.
@@ -331,7 +449,10 @@ pub struct World<R: Routines> {
     pub noted: Vec<Noted>,
     event: usize,
     clock: u64,
-    used: HashSet<Vec<u8>>,
+    /// What stood or was written at each place of a stripe.
+    used: HashSet<(usize, Vec<u8>)>,
+    /// What marks did.
+    marks: Tally,
     /// Crashes that took the bytes of the lent buffers.
     overwritten: usize,
     pub faults: Faults,
@@ -355,7 +476,8 @@ impl<R: Routines> World<R> {
             noted: Vec::new(),
             event: 0,
             clock: 0,
-            used: HashSet::from([vec![0; settings.shape.data_len()]]),
+            used: (0..settings.shape.m as usize).map(|j| (j, vec![0; settings.shape.size as usize])).collect(),
+            marks: Tally::default(),
             overwritten: 0,
             faults,
         }
@@ -378,19 +500,25 @@ impl<R: Routines> World<R> {
         let last = (0..self.noted.len()).rev().find(|&k| self.noted[k].coordinator == c);
         if let (Some(k), Some(message)) = (last, step.sent.first()) {
             self.noted[k].round = self.noted[k].round.max(message.round);
+            self.noted[k].modified |= message.kind == MODIFY;
         }
         if let Some(k) = last {
             assert!(step.sent.iter().all(|message| message.stripe == self.operations[k].stripe));
         }
         self.fresh.extend(self.sent.len()..self.sent.len() + step.sent.len());
         self.sent.extend(step.sent.into_iter().enumerate().map(|(brick, message)| Sent::To(brick, message)));
-        if let Some(Ended { coordinator, kind, stripe, time, outcome }) = step.ended {
+        if let Some(Ended { coordinator, kind, stripe, block, time, outcome }) = step.ended {
             let k = last.expect("an operation of the coordinator");
-            assert_eq!((coordinator, stripe, time), (c as u64, self.operations[k].stripe, self.noted[k].time));
-            assert_eq!(kind == Kind::Write, self.operations[k].write.is_some());
+            let operation = &self.operations[k];
+            assert_eq!((coordinator, stripe, time), (c as u64, operation.stripe, self.noted[k].time));
+            assert_eq!((kind.reads(), kind.of_block()), (operation.write.is_none(), operation.block.is_some()));
+            assert_eq!(block as usize, operation.block.unwrap_or(0));
             let end = match outcome {
                 Outcome::Ok => End::Wrote,
-                Outcome::Stripe { data, .. } => End::Gave(data),
+                Outcome::Gave { data, bricks } => {
+                    self.check_named(k, &data, &bricks);
+                    End::Gave(data)
+                }
                 Outcome::Abort => End::Aborted,
                 Outcome::Cut => End::Cut,
             };
@@ -398,24 +526,38 @@ impl<R: Routines> World<R> {
         }
     }
 
-    /// A write of these bytes, or a read whose targets are counted from a brick, on a stripe, at a clock's reading. Refused, by 9, where
-    /// one runs, on whatever stripe.
+    /// What a finished read gave has the right length, and it names m different bricks, or the one of a block read in one round.
+    fn check_named(&self, k: usize, data: &[u8], bricks: &[u8]) {
+        let shape = self.settings.shape;
+        match self.operations[k].block {
+            Some(block) => {
+                assert_eq!(data.len() as u64, shape.size);
+                assert!(if self.noted[k].round == 1 { bricks == [block as u8] } else { shape.is_brick_set(bricks) });
+            }
+            None => assert!(data.len() == shape.data_len() && shape.is_brick_set(bricks)),
+        }
+    }
+
+    /// A write of these bytes, or a read whose targets are counted from a brick, on a stripe, or the same of one block, at a clock's
+    /// reading. Refused, by 9, where one runs, on whatever stripe.
     pub fn start(&mut self, c: usize, stripe: u64, reading: u64, what: Start) {
         self.event += 1;
         let idle = self.idle(c);
         let reading = if idle && self.clock_each() { self.clock_of(c, stripe, reading) } else { reading };
         let coordinator = &mut self.coordinators[c];
+        let at = |block: u64| BlockAt { stripe, block, reading };
         let step = match &what {
             Start::Write(data) => R::write(self.settings, coordinator, stripe, reading, data),
             Start::Read(first) => R::read(self.settings, coordinator, stripe, reading, *first),
+            Start::WriteBlock(block, data) => R::write_block(self.settings, coordinator, at(*block), data),
+            Start::ReadBlock(block) => R::read_block(self.settings, coordinator, at(*block)),
         };
         match step {
             Ok(step) => {
                 assert!(idle);
                 let time = R::running(coordinator).expect("an operation runs");
-                let write = if let Start::Write(data) = what { Some(data) } else { None };
-                self.operations.push(Operation { stripe, write, began: self.event, ended: None });
-                self.noted.push(Noted { coordinator: c, time, round: 1, stored: 0 });
+                self.operations.push(Operation { stripe, block: what.block(), write: what.bytes(), began: self.event, ended: None });
+                self.noted.push(Noted { coordinator: c, time, round: 1, stored: 0, modified: false });
                 self.after(c, step);
             }
             Err(number) => assert_eq!((number, idle), (9, false)),
@@ -434,8 +576,29 @@ impl<R: Routines> World<R> {
         reading.max(last + 1)
     }
 
-    /// The same with bytes that no other write has, on whatever stripe, or some first target, at a reading as the faults have it.
-    pub fn start_some(&mut self, c: usize, stripe: u64, write: bool, rng: &mut Rng) {
+    /// Bytes of one block of a stripe that no other write has there, on whatever stripe.
+    fn new_block(&mut self, c: usize, place: usize, rng: &mut Rng) -> Vec<u8> {
+        let size = self.settings.shape.size as usize;
+        let mut block = rng.bytes(size);
+        while self.used.contains(&(place, block.clone())) {
+            block = rng.bytes(size);
+        }
+        if self.idle(c) {
+            self.used.insert((place, block.clone()));
+        }
+        block
+    }
+
+    /// Some data block of a stripe, through the number that a client has for it.
+    fn some_block(&self, stripe: u64, rng: &mut Rng) -> u64 {
+        let client = rng.below(self.settings.shape.m) * self.settings.stripes + stripe;
+        let (at, block) = R::place(self.settings, client).expect("a client block of the volume");
+        assert_eq!(at, stripe);
+        block
+    }
+
+    /// The same with bytes that no other write has, or some first target, or some block, at a reading as the faults have it.
+    pub fn start_some(&mut self, c: usize, stripe: u64, kind: Kind, rng: &mut Rng) {
         self.clock = match self.faults.broken {
             Break::ClocksForget => 0,
             _ if self.faults.rising => self.clock + rng.below(3),
@@ -443,17 +606,15 @@ impl<R: Routines> World<R> {
             _ if self.clock_each() => 0,
             _ => rng.below(12),
         };
-        let what = if write {
-            let mut bytes = rng.bytes(self.stripe());
-            while self.used.contains(&bytes) {
-                bytes = rng.bytes(self.stripe());
+        let shape = self.settings.shape;
+        let what = match kind {
+            Kind::Write => Start::Write((0..shape.m as usize).flat_map(|j| self.new_block(c, j, rng)).collect()),
+            Kind::Read => Start::Read(rng.below(shape.n)),
+            Kind::WriteBlock => {
+                let block = self.some_block(stripe, rng);
+                Start::WriteBlock(block, self.new_block(c, block as usize, rng))
             }
-            if self.idle(c) {
-                self.used.insert(bytes.clone());
-            }
-            Start::Write(bytes)
-        } else {
-            Start::Read(rng.below(self.settings.shape.n))
+            Kind::ReadBlock => Start::ReadBlock(self.some_block(stripe, rng)),
         };
         self.start(c, stripe, self.clock, what);
     }
@@ -506,28 +667,23 @@ impl<R: Routines> World<R> {
     }
 
     fn at_brick(&mut self, brick: usize, message: &Message) {
-        let images = &mut self.images[brick];
         let of_it = (0..self.noted.len()).find(|&k| (self.operations[k].stripe, self.noted[k].time) == (message.stripe, message.time));
-        let reply = if self.faults.broken == Break::OneImage {
-            let elsewhere = Message { stripe: 0, ..message.clone() };
-            let reply = R::receive(self.settings, brick as u64, images, &elsewhere);
-            reply.map(|reply| reply.map(|reply| Reply { stripe: message.stripe, ..reply }))
-        } else {
-            R::receive(self.settings, brick as u64, images, message)
-        };
-        let reply = reply.expect("what was sent is never refused");
-        assert_eq!(reply.as_ref().map(|reply| reply.stripe), (message.kind != TRIM).then_some(message.stripe));
-        if message.kind == WRITE {
+        let given = self.given(brick, message);
+        let reply = R::receive(self.settings, brick as u64, &mut self.images[brick], &given).expect("what was sent is never refused");
+        assert_eq!(reply.as_ref().map(|reply| reply.stripe), (message.kind != TRIM).then_some(given.stripe));
+        let reply = reply.map(|reply| self.replied(brick, message, reply));
+        if message.holds_a_block() {
             let of_read = of_it.is_some_and(|k| self.operations[k].write.is_none());
             match self.faults.broken {
-                Break::Hollow if self.event % 3 == 0 => images.clone_from(&self.before[brick]),
-                Break::NoWriteBack if of_read => images.clone_from(&self.before[brick]),
+                Break::Hollow if self.event % 3 == 0 => self.images[brick].clone_from(&self.before[brick]),
+                Break::NoWriteBack if of_read => self.images[brick].clone_from(&self.before[brick]),
                 _ => {}
             }
         }
+        self.note_marks(brick, message, reply.as_ref());
         self.compare_others(brick, message.stripe);
         if let Some(reply) = reply {
-            if let (WRITE, true, Some(k)) = (reply.kind, reply.yes, of_it) {
+            if let (WRITE | MODIFY, true, Some(k)) = (reply.kind, reply.yes, of_it) {
                 self.noted[k].stored += 1;
             }
             self.fresh.push(self.sent.len());
@@ -535,10 +691,60 @@ impl<R: Routines> World<R> {
         }
     }
 
+    /// Where the image of a stripe stands in a brick's row.
+    fn own(&self, stripe: u64) -> Range<usize> {
+        let length = image::length(self.settings);
+        stripe as usize * length..(stripe as usize + 1) * length
+    }
+
+    /// What an image holds.
+    pub fn state(&self, brick: usize, stripe: u64) -> image::State {
+        image::parse(self.settings, brick as u64, &self.images[brick][self.own(stripe)]).expect("an image of the run")
+    }
+
+    /// The message as the brick takes it, a rule broken or not.
+    fn given(&self, brick: usize, message: &Message) -> Message {
+        let mut given = message.clone();
+        match self.faults.broken {
+            Break::OneImage => given.stripe = 0,
+            Break::AnyOldTime if message.kind == MODIFY => given.old_time = self.state(brick, message.stripe).newest(),
+            Break::ParityStays if brick as u64 >= self.settings.shape.m => given.old_block.clone_from(&message.block),
+            _ => {}
+        }
+        given
+    }
+
+    /// The reply as the brick sends it, a rule broken or not.
+    fn replied(&self, brick: usize, message: &Message, reply: Reply) -> Reply {
+        let mut reply = Reply { stripe: message.stripe, ..reply };
+        if self.faults.broken == Break::BlocksOnly && message.kind == ORDER_READ && reply.yes {
+            let state = self.state(brick, message.stripe);
+            let entry = state.log.into_iter().rev().find(|entry| entry.block.is_some() && entry.time < message.max);
+            (reply.found, reply.block) = entry.map_or((0, None), |entry| (entry.time, entry.block));
+        }
+        reply
+    }
+
+    /// Notes what marks did at a message.
+    fn note_marks(&mut self, brick: usize, message: &Message, reply: Option<&Reply>) {
+        let own = self.own(message.stripe);
+        let (before, after) = (&self.before[brick][own.clone()], &self.images[brick][own]);
+        let marks = image::marks(before);
+        let given = reply.is_some_and(|reply| reply.block.is_some() && marks.contains(&reply.found));
+        let what = match message.kind {
+            TRIM if marks.contains(&image::lowest(after)) => "a Trim made a mark its block",
+            MODIFY if image::marks(after).len() > marks.len() => "a Modify stored a mark",
+            READ if given => "a Read gave a mark's block",
+            ORDER_READ if given => "an Order-and-read gave a mark's block",
+            ORDER_BLOCK if given => "the first round of a block write gave a mark's block",
+            _ => return,
+        };
+        self.marks.add(what, 1);
+    }
+
     /// After an event on a stripe: the bytes of all other stripes' images are those before it.
     fn compare_others(&mut self, brick: usize, stripe: u64) {
-        let length = image::length(self.settings);
-        let own = stripe as usize * length..(stripe as usize + 1) * length;
+        let own = self.own(stripe);
         let (row, before) = (&self.images[brick], &mut self.before[brick]);
         if row[..own.start] != before[..own.start] || row[own.end..] != before[own.end..] {
             self.strayed += 1;
@@ -579,20 +785,27 @@ impl<R: Routines> World<R> {
         let room = self.operations.len() < most && running.len() < faults.beside;
         if room && (self.fresh.is_empty() || rng.once_in(if running.is_empty() { 6 } else { 25 })) {
             let c = rng.below(faults.coordinators) as usize;
-            self.start_some(c, self.some_stripe(rng), rng.once_in(2), rng);
+            let kind = match (rng.once_in(2), once(rng, faults.blocks)) {
+                (true, false) => Kind::Write,
+                (false, false) => Kind::Read,
+                (true, true) => Kind::WriteBlock,
+                (false, true) => Kind::ReadBlock,
+            };
+            self.start_some(c, self.some_stripe(rng), kind, rng);
             return;
         }
         if self.fresh.is_empty() {
             return;
         }
         let which = self.fresh.swap_remove(rng.below(self.fresh.len() as u64) as usize);
-        if once(rng, faults.lost) {
+        let trim = matches!(&self.sent[which], Sent::To(_, message) if message.kind == TRIM);
+        if once(rng, faults.lost) || trim && once(rng, faults.trims) {
             return;
         }
         let rounds = self.sent.len();
         self.arrive(which);
         let begun = match self.sent.get(rounds) {
-            Some(Sent::To(_, message)) if message.kind == WRITE => Some(message.time),
+            Some(Sent::To(_, message)) if message.holds_a_block() => Some(message.time),
             _ => None,
         };
         if let (Some(time), true) = (begun, begun.is_some() && once(rng, faults.short)) {
@@ -652,7 +865,8 @@ impl<R: Routines> World<R> {
             // A clock that is ahead of all others.
             self.clock += 40;
             self.faults.rising = true;
-            self.start_some(c, stripe, false, rng);
+            let kind = if self.faults.blocks > 0 && rng.once_in(4) { Kind::ReadBlock } else { Kind::Read };
+            self.start_some(c, stripe, kind, rng);
             while !self.idle(c) && !self.fresh.is_empty() {
                 let which = self.fresh.swap_remove(rng.below(self.fresh.len() as u64) as usize);
                 self.arrive(which);
@@ -661,11 +875,6 @@ impl<R: Routines> World<R> {
                 self.fresh.clear();
             }
         }
-    }
-
-    /// Bytes of a stripe, all zeros at first.
-    pub fn stripe(&self) -> usize {
-        self.settings.shape.data_len()
     }
 
     /// Whether two operations have one time.
@@ -680,7 +889,7 @@ impl<R: Routines> World<R> {
             Some("an event on one stripe changed another's image")
         } else if self.shares_a_time() {
             Some("two operations of one time")
-        } else if by_stripe(&self.operations).iter().any(|operations| !has_order(operations, self.stripe())) {
+        } else if by_stripe(&self.operations).iter().any(|operations| !has_order(operations, self.settings.shape)) {
             Some("no order")
         } else {
             None
@@ -704,29 +913,21 @@ impl<R: Routines> World<R> {
         let stripes = by_stripe(all);
         tally.add("run on 3 or more stripes", usize::from(stripes.len() >= 3));
         tally.add("run with 5 or more on each of two stripes", usize::from(stripes.iter().filter(|list| list.len() >= 5).count() >= 2));
+        for (what, count) in &self.marks.0 {
+            tally.add(what.as_str(), *count);
+        }
         for (o, noted) in all.iter().zip(&self.noted) {
-            let kind = match (&o.write, o.ended.as_ref().map(|(_, end)| end)) {
-                (Some(_), Some(End::Wrote)) => "written",
-                (Some(_), Some(End::Aborted)) => "write aborted",
-                (Some(_), Some(_)) => "write cut",
-                (Some(_), None) => "write running",
-                (None, Some(End::Gave(_))) if noted.round == 1 => "read in one round",
-                (None, Some(End::Gave(_))) if noted.round == 3 => "read recovered",
-                (None, Some(End::Gave(_))) => "read recovered by more rounds",
-                (None, Some(End::Aborted)) => "read aborted",
-                (None, Some(_)) => "read cut",
-                (None, None) => "read running",
-            };
-            tally.add(kind, 1);
-            if let (Some(bytes), false) = (&o.write, o.finished()) {
-                let seen = all.iter().any(|r| r.gave() == Some(bytes));
-                let looked = all.iter().any(|r| o.ended_before(r) && r.gave().is_some());
-                let cut = matches!(o.ended, Some((_, End::Cut)));
-                match (seen, looked && noted.stored > 0, cut) {
-                    (true, _, true) => tally.add("cut write seen", 1),
-                    (true, _, false) => tally.add("other unfinished write seen", 1),
-                    (false, true, true) => tally.add("cut write stored, stayed away", 1),
-                    (false, true, false) => tally.add("other unfinished write stored, stayed away", 1),
+            let of = if o.block.is_some() { "block " } else { "" };
+            tally.add(format!("{of}{}", how_it_went(o, noted)), 1);
+            if o.write.is_some() && !o.finished() {
+                let meets = |r: &&Operation| r.stripe == o.stripe && (r.block.is_none() || o.block.is_none() || r.block == o.block);
+                let mut reads = all.iter().filter(meets).filter(|r| r.gave().is_some());
+                let looked = reads.clone().any(|r| o.ended_before(r)) && noted.stored > 0;
+                let seen = reads.any(|r| o.may_be_seen_by(r, self.settings.shape));
+                let cut = if matches!(o.ended, Some((_, End::Cut))) { "cut" } else { "other unfinished" };
+                match (seen, looked) {
+                    (true, _) => tally.add(format!("{cut} {of}write seen"), 1),
+                    (false, true) => tally.add(format!("{cut} {of}write stored, stayed away"), 1),
                     _ => {}
                 }
             }
@@ -739,6 +940,47 @@ impl<R: Routines> World<R> {
         format!("seed {seed}, {:?}, {:?}: {:?}\n{}", self.settings, self.faults, self.fault(), rows.join("\n"))
     }
 }
+
+/// How an operation went, in words that are the same for stripes and blocks; of a block write also by which way.
+fn how_it_went(o: &Operation, noted: &Noted) -> &'static str {
+    match (&o.write, o.ended.as_ref().map(|(_, end)| end)) {
+        (Some(_), Some(End::Wrote)) if o.block.is_some() && !noted.modified => "written by recovery",
+        (Some(_), Some(End::Wrote)) => "written",
+        (Some(_), Some(End::Aborted)) if noted.modified => "write aborted after Modify",
+        (Some(_), Some(End::Aborted)) if o.block.is_some() && noted.round > 1 => "write aborted in recovery",
+        (Some(_), Some(End::Aborted)) => "write aborted",
+        (Some(_), Some(_)) => "write cut",
+        (Some(_), None) => "write running",
+        (None, Some(End::Gave(_))) if noted.round == 1 => "read in one round",
+        (None, Some(End::Gave(_))) if noted.round == 3 => "read recovered",
+        (None, Some(End::Gave(_))) => "read recovered by more rounds",
+        (None, Some(End::Aborted)) => "read aborted",
+        (None, Some(_)) => "read cut",
+        (None, None) => "read running",
+    }
+}
+
+/// What runs with operations on one block should show often.
+pub const OFTEN_OF_BLOCKS: [&str; 18] = [
+    "block written",
+    "block written by recovery",
+    "block write aborted",
+    "block write aborted after Modify",
+    "block write aborted in recovery",
+    "block write cut",
+    "block read in one round",
+    "block read recovered",
+    "block read aborted",
+    "block read cut",
+    "cut block write seen",
+    "cut block write stored, stayed away",
+    "other unfinished block write seen",
+    "a Trim made a mark its block",
+    "a Modify stored a mark",
+    "a Read gave a mark's block",
+    "an Order-and-read gave a mark's block",
+    "the first round of a block write gave a mark's block",
+];
 
 /// What every run of enough length should show often.
 pub const OFTEN: [&str; 12] = [
@@ -785,15 +1027,52 @@ fn some_stripes(stripes: u64, rng: &mut Rng) -> Vec<u64> {
     vec![0, rng.between(1, stripes - 2), stripes - 1]
 }
 
-/// A run at some settings, with up to so many operations among some faults, changed as asked, then so many reads.
-pub fn some_run<R: Routines>(seed: u64, most: usize, reads: usize, change: impl Fn(&mut Faults)) -> World<R> {
+/// A run at some settings, with up to so many operations among some faults, both changed as asked, then so many reads.
+pub fn some_run<R: Routines>(seed: u64, most: usize, reads: usize, change: impl Fn(&mut Faults, &mut Settings)) -> World<R> {
     let mut rng = Rng::new(seed);
-    let settings = some_settings(&mut rng);
+    let mut settings = some_settings(&mut rng);
     let mut faults = Faults::some(&mut rng);
-    change(&mut faults);
+    change(&mut faults, &mut settings);
     let stripes = some_stripes(settings.stripes, &mut rng);
     let mut world = World::new(settings, stripes, faults);
     let most = rng.between(most.min(2) as u64, most as u64) as usize;
     world.play(most, reads, &mut rng);
     world
+}
+
+/// Runs of up to so many operations on a set that breaks a rule: how many have a stripe without an order, which both searches say
+/// alike; in how many an event changed another stripe's image; and in how many two operations have one time.
+pub fn broken_runs<R: Routines>(seeds: Range<u64>, most: usize, change: impl Fn(&mut Faults, &mut Settings)) -> [usize; 3] {
+    let mut counts = [0; 3];
+    for seed in seeds {
+        let world = some_run::<R>(seed, most, 2, &change);
+        let shape = world.settings.shape;
+        let mut ordered = true;
+        for operations in by_stripe(&world.operations) {
+            let order = has_order(&operations, shape);
+            if operations.len() <= 7 {
+                assert_eq!(brute_order(&operations, shape).is_some(), order, "{}", world.story(seed));
+            }
+            ordered &= order;
+        }
+        for (count, noticed) in counts.iter_mut().zip([!ordered, world.strayed > 0, world.shares_a_time()]) {
+            *count += usize::from(noticed);
+        }
+    }
+    counts
+}
+
+/// Sets that break a rule of operations on one block, each in so many runs: how many of those have no order. With seven bricks, five of
+/// the data, a block written by Modify stands on fewer than m bricks as a block of its own; with ten, four of the data, three bricks may
+/// have missed what was stored before. Trims don't arrive.
+pub fn broken_block_runs<R: Routines>(runs: u64) -> [usize; 3] {
+    [(Break::BlocksOnly, 7, 5), (Break::AnyOldTime, 10, 4), (Break::ParityStays, 7, 5)].map(|(broken, n, m)| {
+        let change = |faults: &mut Faults, settings: &mut Settings| {
+            (faults.broken, faults.blocks, faults.trims, faults.down, faults.lost, faults.short) = (broken, 2, 1, 0, 15, 0);
+            settings.shape = Shape { n, m, ..settings.shape };
+        };
+        let [without, strayed, shared] = broken_runs::<R>(370_000..370_000 + runs, 5, change);
+        assert_eq!((strayed, shared), (0, 0));
+        without
+    })
 }

@@ -7,12 +7,14 @@ pub const BLOCK: usize = 512;
 
 const HEAD: u8 = 1;
 const ENTRY: u8 = 2;
+const MARK: u8 = 3;
 
-/// One entry of a log.
+/// One entry of a log: a block, or a mark, which has none and means the block of
+/// the entry below it.
 #[derive(Clone, Debug, PartialEq, Eq)]
 pub struct Entry {
     pub time: u64,
-    pub block: Vec<u8>,
+    pub block: Option<Vec<u8>>,
 }
 
 /// What an image holds: the promise, and the log in rising time.
@@ -28,7 +30,10 @@ impl State {
         let block = vec![0; settings.shape.size as usize];
         State {
             promise: 0,
-            log: vec![Entry { time: 0, block }],
+            log: vec![Entry {
+                time: 0,
+                block: Some(block),
+            }],
         }
     }
 
@@ -51,12 +56,22 @@ impl State {
         }
     }
 
-    /// Whether some rule on the count, the promise or the times is broken.
+    /// The block that the entry at a place means: its own, or that of the
+    /// nearest entry below which is no mark.
+    pub fn meant(&self, place: usize) -> &[u8] {
+        let below = self.log[..=place].iter().rev();
+        let mut blocks = below.filter_map(|entry| entry.block.as_deref());
+        blocks.next().expect("the lowest entry is no mark")
+    }
+
+    /// Whether some rule on the count, the promise, the times or the lowest entry
+    /// is broken.
     fn breaks_a_rule(&self, settings: Settings) -> bool {
         let counted = (1..=settings.capacity).contains(&self.count());
         let timed = log_time(self.promise) && self.log.iter().all(|entry| log_time(entry.time));
         let rising = self.log.windows(2).all(|pair| pair[0].time < pair[1].time);
-        !(counted && timed && rising)
+        let founded = self.log.first().is_some_and(|entry| entry.block.is_some());
+        !(counted && timed && rising && founded)
     }
 }
 
@@ -106,11 +121,9 @@ pub fn write(settings: Settings, brick: u64, state: &State) -> Result<Vec<u8>, R
     if settings.refusal().is_some() {
         return Err(1);
     }
-    if state
-        .log
-        .iter()
-        .any(|entry| entry.block.len() as u64 != settings.shape.size)
-    {
+    let size = settings.shape.size as usize;
+    let mut blocks = state.log.iter().filter_map(|entry| entry.block.as_ref());
+    if blocks.any(|block| block.len() != size) {
         return Err(2);
     }
     if brick >= settings.shape.n {
@@ -136,6 +149,17 @@ pub fn fresh_row(settings: Settings, brick: u64) -> Result<Vec<u8>, Refusal> {
     fresh(settings, brick).map(|image| image.repeat(settings.stripes as usize))
 }
 
+/// The times of an image's marks.
+pub fn marks(image: &[u8]) -> Vec<u64> {
+    let marks = image.chunks(BLOCK).filter(|block| block[2] == MARK);
+    marks.map(|block| number64(block, 4)).collect()
+}
+
+/// The time of an image's lowest entry.
+pub fn lowest(image: &[u8]) -> u64 {
+    number64(image, BLOCK + 4)
+}
+
 fn check_holds(block: &[u8]) -> bool {
     number16(block, 0) == check(block)
 }
@@ -155,7 +179,7 @@ fn state_of(settings: Settings, image: &[u8], count: usize) -> State {
     let size = settings.shape.size as usize;
     let entry_of = |block: &[u8]| Entry {
         time: number64(block, 4),
-        block: block[16..16 + size].to_vec(),
+        block: (block[2] != MARK).then(|| block[16..16 + size].to_vec()),
     };
     State {
         promise: number64(image, 12),
@@ -195,10 +219,13 @@ fn head_of(settings: Settings, brick: u64, state: &State) -> Vec<u8> {
 
 fn entry_block_of(settings: Settings, entry: &Entry) -> Vec<u8> {
     let mut block = [0; BLOCK];
-    block[2] = ENTRY;
+    block[2] = MARK;
     block[4..12].copy_from_slice(&entry.time.to_le_bytes());
     block[12..14].copy_from_slice(&(settings.shape.size as u16).to_le_bytes());
-    block[16..16 + entry.block.len()].copy_from_slice(&entry.block);
+    if let Some(held) = &entry.block {
+        block[2] = ENTRY;
+        block[16..16 + held.len()].copy_from_slice(held);
+    }
     sealed(block)
 }
 

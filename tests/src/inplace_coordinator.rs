@@ -2,21 +2,28 @@
 //! It makes the same checks of record and reply at every event, that the settings given are the record's too; it keeps sets of bricks as
 //! bits, and knows only settings in range and good lengths.
 
+use crate::inplace_tables::Tables;
+
 pub const READ: u8 = 1;
 pub const ORDER: u8 = 2;
 pub const ORDER_READ: u8 = 3;
-pub const WRITE: u8 = 4;
-pub const TRIM: u8 = 5;
+pub const ORDER_BLOCK: u8 = 4;
+pub const WRITE: u8 = 5;
+pub const MODIFY: u8 = 6;
+pub const TRIM: u8 = 7;
 
 const READING: u8 = 1;
 const WRITING: u8 = 2;
+const READING_BLOCK: u8 = 3;
+const WRITING_BLOCK: u8 = 4;
 /// n, m, the block size and the stripes, as every event gives them.
 pub type Given = (usize, usize, usize, usize);
 
 const LAST_COUNT: u64 = (1 << 40) - 1;
 const NO_UPPER_END: u64 = 1 << 44;
 
-/// A broadcast; targets as bits. A Write round's blocks stand in `coded`.
+/// A broadcast; targets as bits. A Write round's blocks stand in `coded`, the old block of a Modify in `blocks` and its new one in
+/// `stripe`, both at its number.
 #[derive(Clone, Copy)]
 pub struct Message {
     pub kind: u8,
@@ -25,6 +32,9 @@ pub struct Message {
     pub round: u64,
     pub max: u64,
     pub targets: u16,
+    /// The old time of a Modify, and the data block's number of that and of Order-block.
+    pub old: u64,
+    pub block: usize,
 }
 
 #[derive(Clone, Copy, Default)]
@@ -69,7 +79,7 @@ pub struct Coordinator {
     held: u16,
     found: [u64; 16],
     bricks: [u8; 16],
-    blocks: Vec<u8>,
+    pub blocks: Vec<u8>,
     pub stripe: Vec<u8>,
     pub coded: Vec<u8>,
     tables: Tables,
@@ -77,60 +87,6 @@ pub struct Coordinator {
 
 fn valid(t: u64) -> bool {
     (16..NO_UPPER_END).contains(&t)
-}
-
-/// Powers of 2 and logarithms, made once.
-#[derive(Clone)]
-struct Tables {
-    powers: [u8; 512],
-    logs: [u8; 256],
-}
-
-impl Tables {
-    fn new() -> Tables {
-        let mut t = Tables { powers: [0; 512], logs: [0; 256] };
-        let mut a = 1_u16;
-        for k in 0..255 {
-            t.powers[k] = a as u8;
-            t.powers[k + 255] = a as u8;
-            t.logs[a as usize] = k as u8;
-            a <<= 1;
-            if a & 256 != 0 {
-                a ^= 0x11D;
-            }
-        }
-        t
-    }
-
-    fn log(&self, a: u8) -> usize {
-        usize::from(self.logs[usize::from(a)])
-    }
-
-    /// The blocks at points 0 to count - 1 from the blocks of m bricks, which `block` finds.
-    fn interpolate<'a>(&self, points: &[u8], size: usize, block: impl Fn(usize) -> &'a [u8], out: &mut [u8]) {
-        let mut below = [0; 16];
-        for (i, sum) in below.iter_mut().enumerate().take(points.len()) {
-            let others = points.iter().enumerate().filter(|&(k, _)| k != i);
-            *sum = others.map(|(_, &c)| 255 - self.log(points[i] ^ c)).sum::<usize>();
-        }
-        for (x, out) in out.chunks_exact_mut(size).enumerate() {
-            let x = x as u8;
-            if let Some(k) = points.iter().position(|&b| b == x) {
-                out.copy_from_slice(block(k));
-                continue;
-            }
-            let top: usize = points.iter().map(|&b| self.log(x ^ b)).sum();
-            out.fill(0);
-            for (j, &b) in points.iter().enumerate() {
-                let s = (top - self.log(x ^ b) + below[j]) % 255;
-                let w: [u8; 8] = std::array::from_fn(|k| self.powers[s + k]);
-                for (o, &byte) in out.iter_mut().zip(block(j)) {
-                    let bit = |k: usize| (byte >> k & 1) * w[k];
-                    *o ^= bit(0) ^ bit(1) ^ bit(2) ^ bit(3) ^ bit(4) ^ bit(5) ^ bit(6) ^ bit(7);
-                }
-            }
-        }
-    }
 }
 
 impl Coordinator {
@@ -157,7 +113,7 @@ impl Coordinator {
             blocks: vec![0; n * size],
             stripe: vec![0; m * size],
             coded: vec![0; n * size],
-            tables: Tables::new(),
+            tables: Tables::default(),
         }
     }
 
@@ -169,8 +125,11 @@ impl Coordinator {
         (0xFFFF_u32 >> (16 - self.n)) as u16
     }
 
-    /// The m bricks counted upward from the first, wrapping at n.
+    /// The m bricks counted upward from the first, wrapping at n; that of the block in a read of one.
     fn targets(&self) -> u16 {
+        if self.kind == READING_BLOCK {
+            return 1 << self.first;
+        }
         let row = (1_u32 << self.m) - 1;
         let turned = row << self.first;
         (turned | turned >> self.n) as u16 & self.all()
@@ -180,19 +139,22 @@ impl Coordinator {
     fn sound(&self) -> bool {
         let op = match (self.kind, self.phase) {
             (0, 0) => self.round == 0 && self.max == 0 && self.first == 0 && self.stripe_number == 0,
-            (READING, READ) => self.round == 1 && self.max == 0,
-            (READING, ORDER_READ) if self.round == 2 => self.max == NO_UPPER_END,
-            (READING, ORDER_READ) => (3..=1000).contains(&self.round) && valid(self.max),
-            (READING, WRITE) => (3..=1000).contains(&self.round) && self.max == 0,
+            (READING | READING_BLOCK, READ) => self.round == 1 && self.max == 0,
             (WRITING, ORDER) => self.round == 1 && self.max == 0 && self.first == 0,
             (WRITING, WRITE) => self.round == 2 && self.max == 0 && self.first == 0,
+            (WRITING_BLOCK, ORDER_BLOCK) => self.round == 1 && self.max == 0,
+            (WRITING_BLOCK, MODIFY) => self.round == 2 && self.max == 0,
+            (READING | READING_BLOCK | WRITING_BLOCK, ORDER_READ) if self.round == 2 => self.max == NO_UPPER_END,
+            (READING | READING_BLOCK | WRITING_BLOCK, ORDER_READ) => (3..=1000).contains(&self.round) && valid(self.max),
+            (READING | READING_BLOCK | WRITING_BLOCK, WRITE) => (3..=1000).contains(&self.round) && self.max == 0,
             _ => false,
         };
         let timed = if self.kind == 0 { self.time == 0 } else { self.last > 0 && self.time == self.last * 16 + self.number };
-        if !op || !timed || self.last > LAST_COUNT || self.first >= self.n || self.stripe_number >= self.stripes {
+        let firsts = if self.kind >= READING_BLOCK { self.m } else { self.n };
+        if !op || !timed || self.last > LAST_COUNT || self.first >= firsts || self.stripe_number >= self.stripes {
             return false;
         }
-        let named = if self.kind == READING && self.phase == WRITE { self.m } else { 0 };
+        let named = if self.reads() && self.phase == WRITE { self.m } else { 0 };
         let rising = self.bricks[..named].windows(2).all(|w| w[0] < w[1]) && self.bricks[..named].iter().all(|&b| usize::from(b) < self.n);
         if !rising || self.bricks[named..] != [0; 16][named..] {
             return false;
@@ -201,19 +163,31 @@ impl Coordinator {
         let held = match self.phase {
             READ => self.held == self.granted & self.targets(),
             ORDER_READ => self.held & !self.granted == 0,
+            ORDER_BLOCK => self.held == self.granted & 1 << self.first,
             0 => self.counted == 0,
             _ => self.held == 0,
         };
-        let shown = if self.phase == READ { self.counted } else { self.held };
+        let shown = match self.phase {
+            READ => self.counted,
+            ORDER_BLOCK => self.granted,
+            _ => self.held,
+        };
         let times = (0..16).all(|b| self.found[b] == 0 || (shown >> b & 1 == 1 && valid(self.found[b])));
         within && held && times && self.counted.count_ones() < self.quorum()
     }
 
-    fn refusal(&self, given: Given, stripe: usize) -> u32 {
+    /// Whether it reads, a stripe or a block.
+    fn reads(&self) -> bool {
+        self.kind == READING || self.kind == READING_BLOCK
+    }
+
+    fn refusal(&self, given: Given, stripe: usize, block: usize) -> u32 {
         if self.number > 15 {
             3
         } else if stripe >= given.3 {
             13
+        } else if block >= given.1 {
+            14
         } else if (self.n, self.m, self.size, self.stripes) == given && self.sound() {
             0
         } else {
@@ -222,7 +196,7 @@ impl Coordinator {
     }
 
     fn begin(&mut self, given: Given, stripe: usize, reading: u64, kind: u8, phase: u8, first: usize) -> Act {
-        let refusal = self.refusal(given, stripe);
+        let refusal = self.refusal(given, stripe, if kind >= READING_BLOCK { first } else { 0 });
         if refusal != 0 {
             return Act::Refused(refusal);
         }
@@ -259,6 +233,18 @@ impl Coordinator {
         self.begin(given, stripe, reading, READING, READ, first)
     }
 
+    pub fn start_write_block(&mut self, given: Given, stripe: usize, reading: u64, block: usize, data: &[u8]) -> Act {
+        let act = self.begin(given, stripe, reading, WRITING_BLOCK, ORDER_BLOCK, block);
+        if let Act::Sends(_) = act {
+            self.stripe[block * self.size..][..self.size].copy_from_slice(data);
+        }
+        act
+    }
+
+    pub fn start_read_block(&mut self, given: Given, stripe: usize, reading: u64, block: usize) -> Act {
+        self.begin(given, stripe, reading, READING_BLOCK, READ, block)
+    }
+
     fn forget(&mut self) {
         self.counted = 0;
         self.granted = 0;
@@ -276,7 +262,13 @@ impl Coordinator {
         self.max = max;
         self.forget();
         let targets = if phase == READ { self.targets() } else { 0 };
-        Act::Sends(Message { kind: phase, stripe: self.stripe_number, time: self.time, round: self.round, max, targets })
+        let block = if phase == ORDER_BLOCK || phase == MODIFY { self.first } else { 0 };
+        Act::Sends(Message { max, targets, block, ..self.message(phase) })
+    }
+
+    /// A message of the operation and its round that has nothing else.
+    fn message(&self, kind: u8) -> Message {
+        Message { kind, stripe: self.stripe_number, time: self.time, round: self.round, max: 0, targets: 0, old: 0, block: 0 }
     }
 
     fn end(&mut self) {
@@ -292,7 +284,7 @@ impl Coordinator {
     }
 
     fn reply_refusal(&self, r: &Reply) -> u32 {
-        let sense = (READ..=WRITE).contains(&r.kind)
+        let sense = (READ..=MODIFY).contains(&r.kind)
             && valid(r.time)
             && (1..=1000).contains(&r.round)
             && (r.found == 0 || valid(r.found));
@@ -314,6 +306,7 @@ impl Coordinator {
                     r.found == 0
                 }
             }
+            ORDER_BLOCK if r.yes => r.held == (r.brick == self.first),
             _ => !r.held && r.found == 0,
         };
         if ours && fits && self.counted & bit == 0 {
@@ -330,7 +323,7 @@ impl Coordinator {
         if r.brick >= given.0 {
             return Act::Refused(3);
         }
-        let mut refusal = self.refusal(given, r.stripe);
+        let mut refusal = self.refusal(given, r.stripe, 0);
         if refusal == 0 {
             refusal = self.reply_refusal(r);
         }
@@ -363,9 +356,10 @@ impl Coordinator {
             }
             ORDER => self.store(),
             ORDER_READ => self.decide_recovery(),
+            ORDER_BLOCK => self.decide_order_block(),
             _ => {
-                let trim = Message { kind: TRIM, stripe: self.stripe_number, time: self.time, round: self.round, max: 0, targets: 0 };
-                let read = self.kind == READING;
+                let trim = self.message(TRIM);
+                let read = self.reads();
                 self.end();
                 if read {
                     Act::Read(Some(trim))
@@ -376,12 +370,31 @@ impl Coordinator {
         }
     }
 
-    fn decide_read(&mut self, all_yes: bool) -> Act {
-        let targets = self.targets();
+    /// The time that all counted replies have found, if it is one.
+    fn common(&self) -> Option<u64> {
         let newest = self.found[self.counted.trailing_zeros() as usize];
-        let same = (0..16).all(|b| self.counted >> b & 1 == 0 || self.found[b] == newest);
-        if !all_yes || !same || targets & !self.counted != 0 {
+        (0..16).all(|b| self.counted >> b & 1 == 0 || self.found[b] == newest).then_some(newest)
+    }
+
+    fn decide_order_block(&mut self) -> Act {
+        match self.common() {
+            Some(old) if self.held >> self.first & 1 == 1 => match self.open(MODIFY, 0) {
+                Act::Sends(message) => Act::Sends(Message { old, ..message }),
+                act => act,
+            },
+            _ => self.open(ORDER_READ, NO_UPPER_END),
+        }
+    }
+
+    fn decide_read(&mut self, all_yes: bool) -> Act {
+        if !all_yes || self.common().is_none() || self.targets() & !self.counted != 0 {
             return self.open(ORDER_READ, NO_UPPER_END);
+        }
+        if self.kind == READING_BLOCK {
+            let at = self.first * self.size;
+            self.stripe[at..at + self.size].copy_from_slice(&self.blocks[at..at + self.size]);
+            self.end();
+            return Act::Read(None);
         }
         for i in 0..self.m {
             let b = self.first + i;
@@ -405,7 +418,7 @@ impl Coordinator {
         }
         if count >= self.m {
             self.bricks = bricks;
-            self.decode();
+            self.recover();
             return self.store();
         }
         if highest == 0 {
@@ -413,6 +426,20 @@ impl Coordinator {
             return Act::Aborted;
         }
         self.open(ORDER_READ, highest)
+    }
+
+    /// The stripe that was found, with the block of a block write in its place; a block write names no bricks.
+    fn recover(&mut self) {
+        let own = self.first * self.size..(self.first + 1) * self.size;
+        let mut kept = [0; 256];
+        if self.kind == WRITING_BLOCK {
+            kept[..self.size].copy_from_slice(&self.stripe[own.clone()]);
+        }
+        self.decode();
+        if self.kind == WRITING_BLOCK {
+            self.stripe[own].copy_from_slice(&kept[..self.size]);
+            self.bricks = [0; 16];
+        }
     }
 
     fn decode(&mut self) {

@@ -1,5 +1,5 @@
-//! A second implementation of the stripe register, written from document 01
-//! alone, to compare with. It favours short definitions over speed.
+//! A second implementation of the stripe register, written from document 01 and
+//! the requests alone, to compare with. It favours short definitions over speed.
 
 #![deny(unsafe_code)]
 
@@ -9,10 +9,12 @@ pub mod code;
 pub mod coordinator;
 pub mod edges;
 pub mod field;
+pub mod fixtures;
 pub mod harness;
 pub mod image;
 pub mod inplace;
 pub mod inplace_coordinator;
+pub mod inplace_tables;
 pub mod order;
 #[allow(unsafe_code)]
 pub mod proved;

@@ -45,12 +45,12 @@ mod c {
         brick_entry(image: *const u8, image_len: usize, place: usize, found: *mut u64, found_len: usize)
         brick_receive(
             image: *mut u8, image_len: usize, asked: *const u64, asked_len: usize, block: *const u8, block_len: usize,
-            out: *mut u8, out_len: usize, reply: *mut u64, reply_len: usize
+            old: *const u8, old_len: usize, out: *mut u8, out_len: usize, reply: *mut u64, reply_len: usize
         )
         volume_fresh(images: *mut u8, images_len: usize)
         volume_receive(
             images: *mut u8, images_len: usize, asked: *const u64, asked_len: usize, block: *const u8, block_len: usize,
-            out: *mut u8, out_len: usize, reply: *mut u64, reply_len: usize
+            old: *const u8, old_len: usize, out: *mut u8, out_len: usize, reply: *mut u64, reply_len: usize
         )
     }
 
@@ -63,6 +63,11 @@ mod c {
             stripe_number: usize, reading: u64, given: *const u8, given_len: usize, stripe: *mut u8, stripe_len: usize
         )
         coord_start_read(stripe_number: usize, reading: u64, first: usize)
+        coord_start_write_block(
+            stripe_number: usize, reading: u64, block: usize, given: *const u8, given_len: usize, stripe: *mut u8,
+            stripe_len: usize
+        )
+        coord_start_read_block(stripe_number: usize, reading: u64, block: usize)
         coord_take_reply(
             kind: u8, brick: usize, stripe_number: usize, time: u64, round: u64, yes: bool, found: u64, has: bool,
             block: *const u8, block_len: usize, blocks: *mut u8, blocks_len: usize, stripe: *mut u8, stripe_len: usize,
@@ -139,20 +144,30 @@ pub fn panel((n, m, size, capacity, stripes): Five, brick: usize, image: &[u8], 
     unsafe { c::brick_panel(n, m, size, capacity, stripes, brick, i, image.len(), t, times.len()) }
 }
 
-/// The view's entry at a place: its time and the place of its block.
+/// The view's entry at a place: its time and the place of its block, 0 for a mark.
 pub fn entry((n, m, size, capacity, stripes): Five, brick: usize, image: &[u8], place: usize, found: &mut [u64]) -> u32 {
     let (i, f) = (image.as_ptr(), found.as_mut_ptr());
     unsafe { c::brick_entry(n, m, size, capacity, stripes, brick, i, image.len(), place, f, found.len()) }
 }
 
-/// A message's numbers: kind, time, round, max, stripe, and a flag for each brick that a set may have.
-pub type Asked = [u64; 21];
-const TARGETS: usize = 5;
+/// A message's numbers: kind, time, round, max, stripe, the old time and the data block's number, and a flag for each brick that a set
+/// may have.
+pub type Asked = [u64; 23];
+const OLD: usize = 5;
+const BLOCK: usize = 6;
+const TARGETS: usize = 7;
 
+/// A message that has neither an old time nor a data block's number.
 pub fn asked(kind: u64, time: u64, round: u64, max: u64, stripe: u64, flags: [u64; 16]) -> Asked {
-    let mut asked = [0; 21];
-    asked[..TARGETS].copy_from_slice(&[kind, time, round, max, stripe]);
+    let mut asked = [0; 23];
+    asked[..OLD].copy_from_slice(&[kind, time, round, max, stripe]);
     asked[TARGETS..].copy_from_slice(&flags);
+    asked
+}
+
+/// The message with its old time and data block's number.
+pub fn of_block(mut asked: Asked, old: u64, block: u64) -> Asked {
+    (asked[OLD], asked[BLOCK]) = (old, block);
     asked
 }
 
@@ -172,7 +187,10 @@ pub fn flags(bricks: &[u8]) -> [u64; 16] {
 pub const SILENCE: u32 = 100;
 
 /// A routine that takes a message on what a brick is lent: 0 a reply, `SILENCE`, else the refusal.
-pub type Receive = fn(Five, usize, &mut [u8], &[u64], &[u8], &mut [u8], &mut [u64]) -> u32;
+pub type Receive = fn(Five, usize, &mut [u8], &[u64], Blocks, &mut [u8], &mut [u64]) -> u32;
+
+/// What is lent beside a message: its block, and the old block of a Modify.
+pub type Blocks<'a> = (&'a [u8], &'a [u8]);
 
 /// Calls a routine of a brick that takes a message.
 macro_rules! receive {
@@ -184,13 +202,14 @@ macro_rules! receive {
             brick: usize,
             lent: &mut [u8],
             asked: &[u64],
-            block: &[u8],
+            (block, old): Blocks,
             out: &mut [u8],
             reply: &mut [u64],
         ) -> u32 {
             let (i, a, b, o, r) = (lent.as_mut_ptr(), asked.as_ptr(), block.as_ptr(), out.as_mut_ptr(), reply.as_mut_ptr());
             let (j, c, d, e, f) = (lent.len(), asked.len(), block.len(), out.len(), reply.len());
-            unsafe { c::$routine(n, m, size, capacity, stripes, brick, i, j, a, c, b, d, o, e, r, f) }
+            let (p, q) = (old.as_ptr(), old.len());
+            unsafe { c::$routine(n, m, size, capacity, stripes, brick, i, j, a, c, b, d, p, q, o, e, r, f) }
         }
     };
 }
@@ -234,7 +253,7 @@ pub mod record {
 
 /// The same of an answer.
 pub mod answer {
-    pub const NUMBERS: usize = 11;
+    pub const NUMBERS: usize = 16;
     pub const SENT: usize = 0;
     pub const TIME: usize = 1;
     pub const ROUND: usize = 2;
@@ -242,6 +261,9 @@ pub mod answer {
     pub const SEEN_TIME: usize = 4;
     pub const STRIPE: usize = 8;
     pub const SEEN_STRIPE: usize = 9;
+    pub const OLD: usize = 11;
+    pub const BLOCK: usize = 12;
+    pub const SEEN_BLOCK: usize = 15;
 
     pub const BYTES: usize = 52;
     pub const KIND: usize = 0;
@@ -250,6 +272,12 @@ pub mod answer {
     pub const TARGETS: usize = 3;
     pub const BRICKS: usize = 19;
 }
+
+/// Kinds of operations.
+pub const READING: u8 = 1;
+pub const WRITING: u8 = 2;
+pub const READING_BLOCK: u8 = 3;
+pub const WRITING_BLOCK: u8 = 4;
 
 /// What is seen of an operation.
 pub const BEGAN: u8 = 1;
@@ -334,6 +362,25 @@ pub fn start_write(four: Four, lent: &mut Lent, number: usize, reading: u64, giv
 
 pub fn start_read(four: Four, lent: &mut Lent, number: usize, reading: u64, first: usize) -> u32 {
     call!(coord_start_read, four, lent, number, reading, first)
+}
+
+/// The block given has block size; it goes to its place in the stripe.
+#[allow(clippy::too_many_arguments)]
+pub fn start_write_block(
+    four: Four,
+    lent: &mut Lent,
+    number: usize,
+    reading: u64,
+    block: usize,
+    given: &[u8],
+    stripe: &mut [u8],
+) -> u32 {
+    let (i, j) = (given.as_ptr(), stripe.as_mut_ptr());
+    call!(coord_start_write_block, four, lent, number, reading, block, i, given.len(), j, stripe.len())
+}
+
+pub fn start_read_block(four: Four, lent: &mut Lent, number: usize, reading: u64, block: usize) -> u32 {
+    call!(coord_start_read_block, four, lent, number, reading, block)
 }
 
 pub fn crash(four: Four, lent: &mut Lent) -> u32 {

@@ -62,6 +62,17 @@ impl Shape {
         &buffer[j * size..(j + 1) * size]
     }
 
+    /// Puts a block at place j of a buffer of blocks.
+    pub fn put_block(self, buffer: &mut [u8], j: usize, block: &[u8]) {
+        let size = self.size as usize;
+        buffer[j * size..(j + 1) * size].copy_from_slice(block);
+    }
+
+    /// Refusal 14: a data block that a stripe doesn't have.
+    pub fn block_refusal(self, j: u64) -> Option<Refusal> {
+        (j >= self.m).then_some(14)
+    }
+
     /// Whether the list is m different bricks of the set.
     pub fn is_brick_set(self, bricks: &[u8]) -> bool {
         bricks.len() as u64 == self.m

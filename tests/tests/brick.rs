@@ -1,6 +1,7 @@
 //! One message at one brick, on the image of its stripe and on the row of images.
 
 use jilbagum_tests::brick::*;
+use jilbagum_tests::fixtures::{order_read, read};
 use jilbagum_tests::image::{fresh, fresh_row, length, parse, write, Entry, State, BLOCK};
 use jilbagum_tests::rng::Rng;
 use jilbagum_tests::settings::{Refusal, Settings, NO_UPPER_END};
@@ -20,7 +21,7 @@ fn image(promise: u64, log: &[(u64, u8)]) -> Vec<u8> {
         .iter()
         .map(|&(time, byte)| Entry {
             time,
-            block: vec![byte],
+            block: Some(vec![byte]),
         })
         .collect();
     write(settings(), 1, &State { promise, log }).unwrap()
@@ -30,26 +31,10 @@ fn state(image: &[u8]) -> (u64, Vec<(u64, u8)>) {
     let state = parse(settings(), 1, image).unwrap();
     (
         state.promise,
-        state
-            .log
-            .iter()
-            .map(|entry| (entry.time, entry.block[0]))
+        (0..state.log.len())
+            .map(|place| (state.log[place].time, state.meant(place)[0]))
             .collect(),
     )
-}
-
-fn read(time: u64, targets: &[u8]) -> Message {
-    Message {
-        targets: targets.to_vec(),
-        ..Message::plain(READ, time, 1)
-    }
-}
-
-fn order_read(time: u64, max: u64) -> Message {
-    Message {
-        max,
-        ..Message::plain(ORDER_READ, time, 2)
-    }
 }
 
 fn store(time: u64, byte: u8) -> Message {
@@ -213,7 +198,7 @@ fn refused_messages() {
             ..fine.clone()
         },
         Message {
-            kind: 6,
+            kind: 8,
             ..fine.clone()
         },
         Message {
@@ -245,7 +230,7 @@ fn refused_messages() {
             ..fine.clone()
         },
         read(64, &[]),
-        read(64, &[1]),
+        read(64, &[2]),
         read(64, &[0, 1, 2]),
         read(64, &[1, 1]),
         read(64, &[1, 4]),
@@ -382,7 +367,14 @@ fn a_message_changes_its_own_image_alone() {
         read(64, &[0, 1]),
         Message::plain(ORDER, 64, 1),
         order_read(64, 32),
+        Message::plain(ORDER_BLOCK, 64, 1),
         store(64, 3),
+        Message {
+            old_time: 32,
+            block: vec![3],
+            old_block: vec![4],
+            ..Message::plain(MODIFY, 64, 2)
+        },
         Message::plain(TRIM, 32, 2),
     ];
     for message in messages {
@@ -393,8 +385,10 @@ fn a_message_changes_its_own_image_alone() {
             let mut alone = images.clone();
             assert_eq!(reply, take(settings(), 1, &mut alone[stripe], &message));
             assert!(row.chunks(length).eq(alone.iter().map(Vec::as_slice)));
-            // A Read changes nothing, nor does a Trim that finds one entry.
-            let unchanged = message.kind == READ || message.kind == TRIM && stripe == 0;
+            // A Read changes nothing, nor does a Trim that finds one entry, nor a
+            // Modify over another time.
+            let one = stripe == 0 && [TRIM, MODIFY].contains(&message.kind);
+            let unchanged = message.kind == READ || one;
             assert_eq!(alone[stripe] == images[stripe], unchanged);
         }
     }
@@ -409,7 +403,7 @@ fn random_messages() {
     for _ in 0..20_000 {
         let before = image.clone();
         let message = Message {
-            kind: rng.below(7) as u8,
+            kind: rng.below(9) as u8,
             stripe: if rng.once_in(10) { 3 } else { rng.below(3) },
             time: if rng.once_in(20) {
                 rng.number()
@@ -424,11 +418,18 @@ fn random_messages() {
             },
             targets: (0..rng.between(1, 3)).map(|_| rng.below(5) as u8).collect(),
             block: vec![rng.byte(); if rng.once_in(10) { 2 } else { 1 }],
+            number: rng.below(3),
+            old_time: if rng.once_in(4) {
+                rng.below(400)
+            } else {
+                state(&before).1.last().unwrap().0
+            },
+            old_block: vec![rng.byte(); if rng.once_in(10) { 0 } else { 1 }],
         };
         let newest = state(&before).1.last().unwrap().0;
         match take(settings(), 1, &mut image, &message) {
             Err(number) => {
-                assert!([2, 10, 13].contains(&number));
+                assert!([2, 10, 13, 14].contains(&number));
                 assert_eq!(image, before);
             }
             Ok(_) => assert!(state(&image).1.last().unwrap().0 >= newest),

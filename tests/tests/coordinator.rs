@@ -3,20 +3,9 @@
 use jilbagum_tests::brick::*;
 use jilbagum_tests::code::encode;
 use jilbagum_tests::coordinator::*;
+use jilbagum_tests::fixtures::{fresh, reply, take, volume, STRIPE};
 use jilbagum_tests::rng::Rng;
 use jilbagum_tests::settings::{Refusal, Volume, LAST_COUNT, NO_UPPER_END};
-
-/// n 4, m 2, blocks of 1 byte, 3 stripes: the quorum is 3.
-fn volume() -> Volume {
-    Volume::new(4, 2, 1, 3)
-}
-
-/// The stripe of all operations here, if not said otherwise.
-const STRIPE: u64 = 2;
-
-fn fresh() -> Record {
-    Record::fresh(volume(), 1)
-}
 
 /// Coordinator 1 writing bytes 5, 9 at time 17.
 fn writing() -> Record {
@@ -30,24 +19,6 @@ fn reading() -> Record {
     let mut record = fresh();
     start_read(volume(), 1, &mut record, STRIPE, 1, 3).unwrap();
     record
-}
-
-/// A reply to coordinator 1 at time 17.
-fn reply(kind: u8, round: u64, brick: u64, yes: bool, found: u64, block: Option<u8>) -> Reply {
-    Reply {
-        kind,
-        brick,
-        stripe: STRIPE,
-        time: 17,
-        round,
-        yes,
-        found,
-        block: block.map(|byte| vec![byte]),
-    }
-}
-
-fn take(record: &mut Record, reply: Reply) -> Step {
-    take_reply(volume(), 1, record, &reply).unwrap()
 }
 
 /// The reply is refused and the record keeps its content.
@@ -85,7 +56,7 @@ fn outcome(step: &Step) -> Outcome {
 }
 
 fn stripe(data: &[u8], bricks: &[u8]) -> Outcome {
-    Outcome::Stripe {
+    Outcome::Gave {
         data: data.to_vec(),
         bricks: bricks.to_vec(),
     }
@@ -512,7 +483,7 @@ fn replies_refused_10() {
             ..fine.clone()
         },
         Reply {
-            kind: 6,
+            kind: 8,
             ..fine.clone()
         },
         Reply {
@@ -595,6 +566,14 @@ fn replies_refused_11() {
         },
         Reply {
             kind: WRITE,
+            ..fine.clone()
+        },
+        Reply {
+            kind: ORDER_BLOCK,
+            ..fine.clone()
+        },
+        Reply {
+            kind: MODIFY,
             ..fine.clone()
         },
         Reply {
@@ -853,17 +832,21 @@ fn random_replies() {
     let mut ended = 0;
     for _ in 0..20_000 {
         if record.running.is_none() {
-            if rng.once_in(2) {
-                start_read(volume(), 1, &mut record, rng.below(3), 0, rng.below(4)).unwrap();
-            } else {
-                start_write(volume(), 1, &mut record, rng.below(3), 0, &rng.bytes(2)).unwrap();
-            }
+            let (stripe, block) = (rng.below(3), rng.below(2));
+            let c = &mut record;
+            let begun = match rng.below(4) {
+                0 => start_read(volume(), 1, c, stripe, 0, rng.below(4)),
+                1 => start_write(volume(), 1, c, stripe, 0, &rng.bytes(2)),
+                2 => start_read_block(volume(), 1, c, stripe, 0, block),
+                _ => start_write_block(volume(), 1, c, stripe, 0, block, &rng.bytes(1)),
+            };
+            begun.unwrap();
         }
         let running = record.running.clone().unwrap();
         let odd = rng.once_in(5);
         let reply = Reply {
             kind: if odd {
-                rng.below(7) as u8
+                rng.below(9) as u8
             } else {
                 running.open
             },

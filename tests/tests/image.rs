@@ -12,12 +12,19 @@ fn small() -> Settings {
 fn two() -> State {
     let entry = |time, byte: u8| Entry {
         time,
-        block: vec![byte, byte + 1],
+        block: Some(vec![byte, byte + 1]),
     };
     State {
         promise: 50,
         log: vec![entry(17, 3), entry(33, 7)],
     }
+}
+
+/// The same with a mark in place of the second block.
+fn marked() -> State {
+    let mut state = two();
+    state.log[1].block = None;
+    state
 }
 
 /// The image with one byte set and the check of its block made right again.
@@ -56,7 +63,7 @@ fn large_numbers_are_little_endian() {
     let time = LAST_COUNT * 16 + 9;
     let log = vec![Entry {
         time,
-        block: vec![255; 256],
+        block: Some(vec![255; 256]),
     }];
     let image = write(settings, 15, &State { promise: time, log }).unwrap();
     assert_eq!(
@@ -82,11 +89,12 @@ fn an_image_reads_back_and_rewrites_to_the_same_bytes() {
         );
         let brick = rng.below(n);
         let mut time = rng.below(3) * 16;
-        let mut log = Vec::new();
+        let mut log: Vec<Entry> = Vec::new();
         for _ in 0..rng.between(1, settings.capacity) {
+            let mark = !log.is_empty() && rng.once_in(3);
             log.push(Entry {
                 time,
-                block: rng.bytes(settings.shape.size as usize),
+                block: (!mark).then(|| rng.bytes(settings.shape.size as usize)),
             });
             time += rng.between(16, 1 << 30);
         }
@@ -106,7 +114,7 @@ fn fresh_image() {
     let state = parse(small(), 1, &image).unwrap();
     assert_eq!(state, State::fresh(small()));
     assert_eq!((state.promise, state.newest(), state.count()), (0, 0, 1));
-    assert_eq!(state.log[0].block, [0, 0]);
+    assert_eq!(state.log[0].block, Some(vec![0, 0]));
     assert_eq!(fresh(small(), 3), Err(3));
     assert_eq!(fresh(Settings::new(3, 1, 0, 3, 1), 3), Err(1));
     assert_eq!(fresh(Settings::new(3, 1, 2, 3, 65), 3), Err(1));
@@ -125,7 +133,7 @@ fn entries_at_places() {
 #[test]
 fn every_change_of_one_byte_is_refused() {
     let settings = Settings::new(3, 1, 2, 2, 1);
-    for state in [State::fresh(settings), two()] {
+    for state in [State::fresh(settings), two(), marked()] {
         let mut image = write(settings, 0, &state).unwrap();
         for at in 0..image.len() {
             for change in 1..=255 {
@@ -255,7 +263,7 @@ fn writing_refused_lowest_first() {
     state.log[1].time = 17;
     assert_eq!(write(small(), 0, &state), Err(6));
     assert_eq!(write(small(), 3, &state), Err(3));
-    state.log[0].block.push(0);
+    state.log[0].block = Some(vec![0; 3]);
     assert_eq!(write(small(), 3, &state), Err(2));
     assert_eq!(write(Settings::new(0, 1, 2, 3, 1), 3, &state), Err(1));
     assert_eq!(
@@ -274,9 +282,102 @@ fn writing_refused_lowest_first() {
         log: (1..=4)
             .map(|i| Entry {
                 time: 16 * i,
-                block: vec![0; 2],
+                block: Some(vec![0; 2]),
             })
             .collect(),
     };
     assert_eq!(write(small(), 0, &full), Err(6));
+}
+
+/// A mark is kind 3: time and size, and no block bytes.
+#[test]
+fn layout_of_a_mark() {
+    let image = write(small(), 2, &marked()).unwrap();
+    assert_eq!(parse(small(), 2, &image), Ok(marked()));
+    let mark = &image[2 * BLOCK..3 * BLOCK];
+    assert_eq!(
+        mark[2..18],
+        [3, 0, 33, 0, 0, 0, 0, 0, 0, 0, 2, 0, 0, 0, 0, 0]
+    );
+    assert!(mark[18..].iter().all(|&byte| byte == 0));
+    // By hand: 1 + 1 * 3 + 3 * 33 + 11 * 2.
+    assert_eq!(mark[..2], [125, 0]);
+    assert_eq!(marks(&image), [33]);
+    assert_eq!(lowest(&image), 17);
+    assert!(marks(&write(small(), 2, &two()).unwrap()).is_empty());
+}
+
+#[test]
+fn a_mark_means_the_block_below_through_several_marks() {
+    let entry = |time, block: Option<u8>| Entry {
+        time,
+        block: block.map(|byte| vec![byte]),
+    };
+    let log = vec![
+        entry(0, Some(5)),
+        entry(16, None),
+        entry(32, None),
+        entry(48, Some(6)),
+        entry(64, None),
+    ];
+    let state = State { promise: 0, log };
+    let meant: Vec<u8> = (0..5).map(|place| state.meant(place)[0]).collect();
+    assert_eq!(meant, [5, 5, 5, 6, 6]);
+    let settings = Settings::new(3, 1, 1, 5, 1);
+    let image = write(settings, 1, &state).unwrap();
+    assert_eq!(parse(settings, 1, &image), Ok(state));
+    assert_eq!(marks(&image), [16, 32, 64]);
+}
+
+#[test]
+fn the_lowest_entry_is_never_a_mark() {
+    let mut state = marked();
+    state.log.remove(0);
+    assert_eq!(write(small(), 0, &state), Err(6));
+    state = marked();
+    state.log[0].block = None;
+    assert_eq!(write(small(), 0, &state), Err(6));
+    // In an image: the kind byte of the first entry, with its block bytes or without.
+    let image = write(small(), 0, &two()).unwrap();
+    assert_eq!(parse(small(), 0, &forged(&image, BLOCK + 2, 3)), Err(6));
+    let image = forged(&forged(&image, BLOCK + 16, 0), BLOCK + 17, 0);
+    assert!(parse(small(), 0, &image).is_ok());
+    assert_eq!(parse(small(), 0, &forged(&image, BLOCK + 2, 3)), Err(6));
+    // Above it such an entry is a mark.
+    let image = forged(&forged(&image, 2 * BLOCK + 16, 0), 2 * BLOCK + 17, 0);
+    let opened = parse(small(), 0, &forged(&image, 2 * BLOCK + 2, 3)).unwrap();
+    assert_eq!(opened.log[1].block, None);
+    // The check comes first.
+    let mut torn = forged(&image, BLOCK + 2, 3);
+    torn[3 * BLOCK] ^= 1;
+    assert_eq!(parse(small(), 0, &torn), Err(5));
+}
+
+#[test]
+fn a_forged_byte_of_a_mark_is_refused_but_in_its_time() {
+    let image = write(small(), 0, &marked()).unwrap();
+    for at in 2 * BLOCK + 2..3 * BLOCK {
+        if (4..12).contains(&(at % BLOCK)) {
+            continue;
+        }
+        // Kind 2 would be a block of zeros.
+        let changes = if at == 2 * BLOCK + 2 {
+            [2, 3, 4, 7, 128]
+        } else {
+            [1, 2, 3, 128, 255]
+        };
+        for change in changes {
+            assert_eq!(
+                parse(small(), 0, &forged(&image, at, image[at] ^ change)),
+                Err(6),
+                "byte {at}"
+            );
+        }
+    }
+    let block = parse(small(), 0, &forged(&image, 2 * BLOCK + 2, 2)).unwrap();
+    assert_eq!(block.log[1].block, Some(vec![0, 0]));
+    for (time, refusal) in [(18, None), (34, None), (17, Some(6)), (15, Some(6))] {
+        let opened = parse(small(), 0, &forged(&image, 2 * BLOCK + 4, time));
+        assert_eq!(opened.err(), refusal, "time {time}");
+    }
 }

@@ -2,11 +2,14 @@
 //! stripe. At each event the images of the other stripes are compared, and no two operations of a run have one time.
 
 use jilbagum_tests::brick::{ORDER_READ, READ, WRITE};
-use jilbagum_tests::harness::{some_run, Break, Faults, Proved, Sent, Start, World, OFTEN};
+use jilbagum_tests::coordinator::Kind;
+use jilbagum_tests::harness::{
+    broken_block_runs, broken_runs, some_run, Break, Faults, Independent, Proved, Sent, Start, World, OFTEN, OFTEN_OF_BLOCKS,
+};
 use jilbagum_tests::order::{brute_order, by_stripe, has_order, is_order, End, Operation};
 use jilbagum_tests::image;
 use jilbagum_tests::rng::Rng;
-use jilbagum_tests::settings::Settings;
+use jilbagum_tests::settings::{Settings, Shape};
 use jilbagum_tests::tally::Tally;
 use std::collections::HashSet;
 
@@ -14,18 +17,19 @@ use std::collections::HashSet;
 fn small_runs_by_brute_force() {
     let mut tally = Tally::default();
     for seed in 100_000..125_000 {
-        let world = some_run::<Proved>(seed, 5, 2, |_| ());
-        let len = world.stripe();
+        let world = some_run::<Proved>(seed, 5, 2, |_, _| ());
+        let shape = world.settings.shape;
         for operations in by_stripe(&world.operations) {
             assert!(operations.len() <= 7);
-            let Some(order) = brute_order(&operations, len) else { panic!("{}", world.story(seed)) };
-            assert!(is_order(&operations, &order, len));
+            let Some(order) = brute_order(&operations, shape) else { panic!("{}", world.story(seed)) };
+            assert!(is_order(&operations, &order, shape));
         }
         assert_eq!(world.fault(), None, "{}", world.story(seed));
         world.note(&mut tally);
     }
     println!("{:?}", tally.0);
-    tally.expect(300, &OFTEN);
+    tally.expect(150, &OFTEN);
+    tally.expect(100, &OFTEN_OF_BLOCKS);
     tally.expect(20, &["read running", "write running"]);
     tally.expect(1000, &["crash with other bytes in the buffers", "run on 3 or more stripes"]);
 }
@@ -34,44 +38,57 @@ fn small_runs_by_brute_force() {
 fn longer_runs() {
     let mut tally = Tally::default();
     for seed in 200_000..208_000 {
-        let world = some_run::<Proved>(seed, 22, 2, |_| ());
+        let world = some_run::<Proved>(seed, 22, 2, |_, _| ());
         assert_eq!(world.fault(), None, "{}", world.story(seed));
         world.note(&mut tally);
     }
     println!("{:?}", tally.0);
     tally.expect(100, &OFTEN);
+    tally.expect(100, &OFTEN_OF_BLOCKS);
     tally.expect(100, &["run with 3 or more at once", "run with 8 or more at once", "run of 10 to 16 bricks", "run with m above 1"]);
     tally.expect(100, &["run of 64 stripes"]);
     tally.expect(1000, &["crash with other bytes in the buffers", "run on 3 or more stripes", "run with 5 or more on each of two stripes"]);
 }
 
-/// Runs of up to so many operations on a set that breaks a rule: how many have a stripe without an order, which both searches say
-/// alike; in how many an event changed another stripe's image; and in how many two operations have one time.
-fn broken(seeds: std::ops::Range<u64>, most: usize, change: impl Fn(&mut Faults)) -> [usize; 3] {
-    let mut counts = [0; 3];
-    for seed in seeds {
-        let world = some_run::<Proved>(seed, most, 2, &change);
-        let mut ordered = true;
-        for operations in by_stripe(&world.operations) {
-            let order = has_order(&operations, world.stripe());
-            if operations.len() <= 7 {
-                assert_eq!(brute_order(&operations, world.stripe()).is_some(), order, "{}", world.story(seed));
-            }
-            ordered &= order;
-        }
-        for (count, noticed) in counts.iter_mut().zip([!ordered, world.strayed > 0, world.shares_a_time()]) {
-            *count += usize::from(noticed);
-        }
+/// What was sent, the targets of a Read by number, as flags give them.
+fn by_number(sent: &Sent) -> Sent {
+    let mut sent = sent.clone();
+    if let Sent::To(_, message) = &mut sent {
+        message.targets.sort_unstable();
     }
-    counts
+    sent
+}
+
+/// The same run with the independent routines: message by message, reply by reply, and image by image, it is one and the same.
+#[test]
+fn runs_are_those_of_the_independent_routines() {
+    let mut tally = Tally::default();
+    for seed in 210_000..213_000 {
+        // No bytes of lent buffers, which the independent coordinators don't have.
+        let whole = |faults: &mut Faults, _: &mut Settings| faults.buffers = 0;
+        let (ours, theirs) = (some_run::<Proved>(seed, 12, 2, whole), some_run::<Independent>(seed, 12, 2, whole));
+        let first = ours.sent.iter().zip(&theirs.sent).find(|(ours, theirs)| **ours != by_number(theirs));
+        assert_eq!(first, None, "{}", ours.story(seed));
+        assert_eq!(ours.sent.len(), theirs.sent.len(), "{}", ours.story(seed));
+        assert!(ours.images == theirs.images, "{}", ours.story(seed));
+        assert_eq!((&ours.operations, &ours.noted), (&theirs.operations, &theirs.noted), "{}", ours.story(seed));
+        ours.note(&mut tally);
+    }
+    tally.expect(30, &OFTEN_OF_BLOCKS);
+    tally.expect(100, &["written", "read recovered", "run with m above 1", "run on 3 or more stripes"]);
+}
+
+/// Runs of the proved routines on a set that breaks a rule.
+fn broken(seeds: std::ops::Range<u64>, most: usize, change: impl Fn(&mut Faults, &mut Settings)) -> [usize; 3] {
+    broken_runs::<Proved>(seeds, most, change)
 }
 
 #[test]
 fn broken_sets_are_noticed() {
-    let forget = broken(300_000..301_000, 5, |faults| (faults.broken, faults.down) = (Break::BricksForget, 10));
-    let clocks = broken(310_000..312_000, 5, |faults| (faults.broken, faults.coordinators, faults.short) = (Break::ClocksForget, 1, 2));
-    let hollow = broken(320_000..321_000, 5, |faults| faults.broken = Break::Hollow);
-    let no_write_back = broken(330_000..332_000, 5, |faults| (faults.broken, faults.short, faults.down) = (Break::NoWriteBack, 2, 20));
+    let forget = broken(300_000..301_000, 5, |faults, _| (faults.broken, faults.down) = (Break::BricksForget, 10));
+    let clocks = broken(310_000..312_000, 5, |faults, _| (faults.broken, faults.coordinators, faults.short) = (Break::ClocksForget, 1, 2));
+    let hollow = broken(320_000..321_000, 5, |faults, _| faults.broken = Break::Hollow);
+    let no_write_back = broken(330_000..332_000, 5, |faults, _| (faults.broken, faults.short, faults.down) = (Break::NoWriteBack, 2, 20));
     println!(
         "without an order: forgetful bricks {}, forgetful clocks {}, hollow writes {}, no write back {}",
         forget[0], clocks[0], hollow[0], no_write_back[0]
@@ -79,18 +96,26 @@ fn broken_sets_are_noticed() {
     assert!(forget[0] > 20 && clocks[0] > 5 && hollow[0] > 20 && no_write_back[0] > 20);
 }
 
+/// The same of sets that break a rule of operations on one block.
+#[test]
+fn broken_block_writes_are_noticed() {
+    let [lookup, old, parity] = broken_block_runs::<Proved>(1000);
+    println!("without an order: lookups of blocks only {lookup}, any old time {old}, parity left {parity}");
+    assert!(lookup > 50 && old > 2 && parity > 50);
+}
+
 /// The same of sets that mix up stripes: one image for all, a clock for each, and, with such clocks, replies counted whatever their stripe.
 #[test]
 fn sets_that_mix_up_stripes_are_noticed() {
-    let [no_order, strayed, shared] = broken(340_000..340_500, 5, |faults| faults.broken = Break::OneImage);
+    let [no_order, strayed, shared] = broken(340_000..340_500, 5, |faults, _| faults.broken = Break::OneImage);
     println!("one image for all stripes: {no_order} without an order, {strayed} that changed another's image");
     assert!(no_order > 50 && strayed > 100 && shared == 0);
     let own_clocks = |faults: &mut Faults, broken: Break| (faults.broken, faults.coordinators, faults.rising) = (broken, 1, false);
     // Each stripe is still in order, since a reply of another stripe isn't counted.
-    let [no_order, strayed, shared] = broken(350_000..350_500, 5, |faults| own_clocks(faults, Break::ClockEach));
+    let [no_order, strayed, shared] = broken(350_000..350_500, 5, |faults, _| own_clocks(faults, Break::ClockEach));
     println!("a clock for each stripe: {shared} with two operations of one time");
     assert!(no_order == 0 && strayed == 0 && shared > 100);
-    let [no_order, strayed, shared] = broken(360_000..360_600, 20, |faults| {
+    let [no_order, strayed, shared] = broken(360_000..360_600, 20, |faults, _| {
         own_clocks(faults, Break::AnyStripe);
         (faults.again, faults.lost) = (1, 15);
     });
@@ -109,16 +134,19 @@ fn history(rows: &[(&str, u8, usize, usize)]) -> Vec<Operation> {
             "read" => Some(End::Gave(vec![byte])),
             _ => None,
         };
-        Operation { stripe: 0, write, began, ended: end.map(|end| (ended, end)) }
+        Operation { stripe: 0, block: None, write, began, ended: end.map(|end| (ended, end)) }
     };
     rows.iter().map(operation).collect()
 }
 
+/// A stripe of one byte.
+const BYTE: Shape = Shape { n: 1, m: 1, size: 1 };
+
 fn orders(rows: &[(&str, u8, usize, usize)]) -> bool {
     let operations = history(rows);
-    let found = brute_order(&operations, 1);
-    assert_eq!(found.is_some(), has_order(&operations, 1));
-    assert!(found.as_ref().is_none_or(|list| is_order(&operations, list, 1)));
+    let found = brute_order(&operations, BYTE);
+    assert_eq!(found.is_some(), has_order(&operations, BYTE));
+    assert!(found.as_ref().is_none_or(|list| is_order(&operations, list, BYTE)));
     found.is_some()
 }
 
@@ -156,8 +184,8 @@ fn histories_are_searched_stripe_by_stripe() {
     let both = |first: u64, second: u64| {
         let mut operations = history(&[("write", 1, 1, 2), ("read", 1, 3, 4)]);
         (operations[0].stripe, operations[1].stripe) = (first, second);
-        assert!(has_order(&operations, 1));
-        by_stripe(&operations).iter().all(|operations| has_order(operations, 1))
+        assert!(has_order(&operations, BYTE));
+        by_stripe(&operations).iter().all(|operations| has_order(operations, BYTE))
     };
     assert!(both(0, 0) && both(63, 63));
     assert!(!both(0, 1) && !both(1, 0));
@@ -167,19 +195,22 @@ fn histories_are_searched_stripe_by_stripe() {
 #[test]
 fn changed_reads_are_noticed() {
     let (mut changed, mut without) = (0, 0);
-    for seed in 500_000..501_000 {
-        let world = some_run::<Proved>(seed, 5, 2, |_| ());
+    for seed in 500_000..502_500 {
+        let world = some_run::<Proved>(seed, 5, 2, |_, _| ());
         for mut operations in by_stripe(&world.operations) {
             let last = operations.iter().rposition(|o| o.gave().is_some());
-            let values: Vec<Vec<u8>> = operations.iter().filter(|o| o.finished()).filter_map(|o| o.write.clone()).collect();
-            let (Some(last), Some(value)) = (last, values.first()) else { continue };
+            let Some(last) = last else { continue };
+            // Of the same block, or of the whole stripe.
+            let alike = operations.iter().filter(|o| o.finished() && o.block == operations[last].block);
+            let values: Vec<Vec<u8>> = alike.filter_map(|o| o.write.clone()).collect();
+            let Some(value) = values.first() else { continue };
             if operations[last].gave() == Some(value) {
                 continue;
             }
             let ended = operations[last].ended.as_ref().map(|(event, _)| (*event, End::Gave(value.clone())));
             operations[last].ended = ended;
             changed += 1;
-            without += usize::from(brute_order(&operations, world.stripe()).is_none());
+            without += usize::from(brute_order(&operations, world.settings.shape).is_none());
         }
     }
     println!("{without} of {changed} changed histories without an order");
@@ -191,8 +222,8 @@ fn changed_reads_are_noticed() {
 fn a_run_by_hand() {
     let mut world = World::<Proved>::new(Settings::new(5, 3, 2, 4, 1), vec![0], Faults::none());
     let mut rng = Rng::new(1);
-    for write in [true, false] {
-        world.start_some(3, 0, write, &mut rng);
+    for kind in [Kind::Write, Kind::Read] {
+        world.start_some(3, 0, kind, &mut rng);
         while !world.fresh.is_empty() {
             let which = world.fresh.remove(0);
             world.arrive(which);

@@ -37,7 +37,7 @@ fn after(brick: usize, messages: &[(u8, u64)]) -> Vec<u8> {
     assert_eq!(proved::fresh(FIVE, brick, &mut image), 0);
     for &(kind, time) in messages {
         let asked = proved::asked(u64::from(kind), time, 1, 0, 0, [0; 16]);
-        let number = proved::receive(FIVE, brick, &mut image, &asked, &[10], &mut [0], &mut [0; 8]);
+        let number = proved::receive(FIVE, brick, &mut image, &asked, (&[10], &[0]), &mut [0], &mut [0; 8]);
         assert_eq!(number, if kind == TRIM { proved::SILENCE } else { 0 });
     }
     image

@@ -19,16 +19,21 @@ struct Numbers {
     stripe: u64,
     flags: [u64; 16],
     block: Vec<u8>,
+    number: u64,
+    old_time: u64,
+    old_block: Vec<u8>,
 }
 
 impl Numbers {
     fn of(message: &brick::Message) -> Numbers {
-        let brick::Message { kind, stripe, time, round, max, ref targets, ref block } = *message;
-        Numbers { kind: u64::from(kind), time, round, max, stripe, flags: proved::flags(targets), block: block.clone() }
+        let brick::Message { kind, stripe, time, round, max, ref targets, ref block, number, old_time, ref old_block } = *message;
+        let (flags, block, old_block) = (proved::flags(targets), block.clone(), old_block.clone());
+        Numbers { kind: u64::from(kind), time, round, max, stripe, flags, block, number, old_time, old_block }
     }
 
     fn asked(&self) -> proved::Asked {
-        proved::asked(self.kind, self.time, self.round, self.max, self.stripe, self.flags)
+        let asked = proved::asked(self.kind, self.time, self.round, self.max, self.stripe, self.flags);
+        proved::of_block(asked, self.old_time, self.number)
     }
 
     /// The same for the independent brick: a number that no byte holds is no kind, and a flag says how often its brick is named.
@@ -42,6 +47,9 @@ impl Numbers {
             max: self.max,
             targets: (0..16).flat_map(named).collect(),
             block: self.block.clone(),
+            number: self.number,
+            old_time: self.old_time,
+            old_block: self.old_block.clone(),
         }
     }
 }
@@ -55,10 +63,12 @@ const ON_A_ROW: (proved::Receive, Take) = (proved::receive_in_row, brick::take_i
 fn compare_by((receive, take): (proved::Receive, Take), five: proved::Five, number: usize, bytes: &mut Vec<u8>, numbers: &Numbers) -> u32 {
     let message = numbers.message();
     let size = five.2.min(512);
-    let block = if message.kind == brick::WRITE { message.block.clone() } else { vec![0; size] };
+    // Blocks of kinds that have none: of block size, and any bytes.
+    let block = if message.holds_a_block() { message.block.clone() } else { vec![0xAA; size] };
+    let old = if message.kind == brick::MODIFY { message.old_block.clone() } else { vec![0x55; size] };
     let (mut ours, mut theirs) = (bytes.clone(), bytes.clone());
     let (mut out, mut reply) = (vec![0xEE; size], [77; 8]);
-    let answer = receive(five, number, &mut ours, &numbers.asked(), &block, &mut out, &mut reply);
+    let answer = receive(five, number, &mut ours, &numbers.asked(), (&block, &old), &mut out, &mut reply);
     let seen = format!("{five:?} brick {number} {numbers:?}");
     let mut left = vec![0xEE; size];
     match take(settings(five), number as u64, &mut theirs, &message) {
@@ -109,14 +119,41 @@ fn no_flag(rng: &mut Rng) -> u64 {
     [2, 3, 128, 255, 256, 257, 1 << 32, (1 << 32) + 1, u64::MAX][rng.below(9) as usize]
 }
 
-/// A message, mostly sensible, sometimes not.
-fn random_message(rng: &mut Rng, (n, m, size, _, stripes): proved::Five) -> Numbers {
+/// The promise and the newest time of an image, zeros where it is none.
+fn times(five: proved::Five, number: usize, bytes: &[u8]) -> [u64; 2] {
+    image::parse(settings(five), number as u64, bytes).map_or([0; 2], |state| [state.promise, state.newest()])
+}
+
+/// A message for an image.
+fn message_for(rng: &mut Rng, five: proved::Five, number: usize, bytes: &[u8]) -> Numbers {
+    let times = times(five, number, bytes);
+    random_message(rng, five, |_| times)
+}
+
+/// A message for a row of images.
+fn message_for_row(rng: &mut Rng, five: proved::Five, number: usize, row: &[u8]) -> Numbers {
+    let images: Vec<&[u8]> = row.chunks(512 * (five.3 + 1)).collect();
+    random_message(rng, five, |stripe| images.get(stripe as usize).map_or([0; 2], |image| times(five, number, image)))
+}
+
+/// A message, mostly sensible, sometimes not, for a brick whose promise and newest time on a stripe are given.
+fn random_message(rng: &mut Rng, (n, m, size, _, stripes): proved::Five, times: impl Fn(u64) -> [u64; 2]) -> Numbers {
+    let stripe = match rng.below(20) {
+        0 => [stripes as u64, stripes as u64 + 1, 64, 256, 1 << 32, u64::MAX][rng.below(6) as usize],
+        _ => rng.below(stripes as u64),
+    };
+    let [promise, newest] = times(stripe);
     let time = match rng.below(12) {
         0 => rng.number(),
         1 => rng.below(20),
+        2..=6 => (promise.max(newest + 1) + rng.below(24)).max(16),
         _ => 16 + rng.below(60) * 8,
     };
-    let count = if rng.once_in(10) { rng.below(5) as usize } else { m };
+    let count = match rng.below(10) {
+        0 => rng.below(5) as usize,
+        1..=3 => 1,
+        _ => m,
+    };
     let among = if rng.once_in(12) { 16 } else { n };
     let mut targets: Vec<u8> = rng.shuffled(among).into_iter().map(|b| b as u8).collect();
     targets.truncate(count);
@@ -124,7 +161,7 @@ fn random_message(rng: &mut Rng, (n, m, size, _, stripes): proved::Five) -> Numb
     if rng.once_in(12) {
         flags[rng.below(16) as usize] = no_flag(rng);
     }
-    let kind = 1 + rng.below(5);
+    let kind = 1 + rng.below(7);
     Numbers {
         kind: match rng.below(30) {
             0 => u64::from(rng.byte()),
@@ -139,32 +176,44 @@ fn random_message(rng: &mut Rng, (n, m, size, _, stripes): proved::Five) -> Numb
             2 => 0,
             _ => 16 + rng.below(60) * 8,
         },
-        stripe: match rng.below(20) {
-            0 => [stripes as u64, stripes as u64 + 1, 64, 256, 1 << 32, u64::MAX][rng.below(6) as usize],
-            _ => rng.below(stripes as u64),
-        },
+        stripe,
         flags,
         block: rng.bytes(size),
+        number: match rng.below(16) {
+            0 => [m as u64, m as u64 + 1, n as u64, 16, 256, 1 << 32, u64::MAX][rng.below(7) as usize],
+            _ => rng.below(m as u64),
+        },
+        old_time: match rng.below(8) {
+            0 => [0, 1, 15, 16, (1 << 44) - 1, 1 << 44, u64::MAX][rng.below(7) as usize],
+            1 => 16 + rng.below(60) * 8,
+            _ => newest,
+        },
+        old_block: rng.bytes(size),
     }
 }
 
 #[test]
 fn long_runs_of_messages() {
     let mut rng = Rng::printed(21);
-    let mut answers = [0_usize; 128];
-    for _ in 0..300 {
+    let (mut answers, mut marks, mut trimmed) = ([0_usize; 128], 0, 0);
+    for _ in 0..500 {
         let (five, number) = some_brick(&mut rng);
         let mut bytes = fresh(five, number);
         for _ in 0..60 {
-            let message = random_message(&mut rng, five);
+            let message = message_for(&mut rng, five, number, &bytes);
+            let before = image::marks(&bytes);
             answers[compare(five, number, &mut bytes, &message) as usize] += 1;
+            marks += usize::from(image::marks(&bytes).len() > before.len());
+            trimmed += usize::from(before.contains(&image::lowest(&bytes)));
             let mut times = [0; 2];
             assert_eq!(proved::panel(five, number, &bytes, &mut times), 0);
             let state = image::parse(settings(five), number as u64, &bytes).unwrap();
             assert_eq!(times, [state.promise, state.newest()]);
         }
     }
-    assert!(answers[0] > 5000 && answers[100] > 500 && answers[10] > 500, "{answers:?}");
+    assert!(answers[0] > 5000 && answers[100] > 500 && answers[10] > 500 && answers[14] > 100, "{answers:?}");
+    println!("{marks} marks stored, {trimmed} that a Trim made a block");
+    assert!(marks > 300 && trimmed > 50, "{marks} {trimmed}");
 }
 
 /// Each field below, at and above its range, in messages of every kind: 10 where the kind looks at the field, and only there.
@@ -172,13 +221,14 @@ fn long_runs_of_messages() {
 fn fields_in_and_around_their_ranges() {
     let five = (5, 2, 4, 6, 3);
     let flags = proved::flags(&[1, 3]);
-    let good = |kind: u64| Numbers { kind, time: 160, round: 2, max: 1 << 44, stripe: 1, flags, block: vec![7; 4] };
+    let plain = Numbers::of(&brick::Message { block: vec![7; 4], old_block: vec![9; 4], ..brick::Message::plain(0, 160, 2) });
+    let good = |kind: u64| Numbers { kind, max: 1 << 44, stripe: 1, flags, ..plain.clone() };
     let answer = |numbers: &Numbers| compare(five, 3, &mut fresh(five, 3), numbers);
     let passed = |kind: u64| if kind == u64::from(brick::TRIM) { proved::SILENCE } else { 0 };
-    for kind in [0, 6, 7, 255, 256, 257, 261, 512 + 4, 1 << 32, (1 << 32) + 1, u64::MAX] {
+    for kind in [0, 8, 9, 255, 256, 257, 261, 263, 512 + 4, 1 << 32, (1 << 32) + 1, u64::MAX] {
         assert_eq!(answer(&good(kind)), 10, "kind {kind}");
     }
-    for kind in 1..=5 {
+    for kind in 1..=7 {
         assert_eq!(answer(&good(kind)), passed(kind));
         for time in [0, 1, 15, 1 << 44, (1 << 44) + 16, u64::MAX] {
             assert_eq!(answer(&Numbers { time, ..good(kind) }), 10, "kind {kind} time {time}");
@@ -196,14 +246,27 @@ fn fields_in_and_around_their_ranges() {
             let number = if kind == u64::from(brick::ORDER_READ) { 10 } else { passed(kind) };
             assert_eq!(answer(&Numbers { max, ..good(kind) }), number, "kind {kind} max {max}");
         }
+        let of_block = [brick::ORDER_BLOCK, brick::MODIFY].contains(&(kind as u8));
+        for (number, refusal) in [(0, 0), (1, 0), (2, 14), (5, 14), (256, 14), (1 << 32, 14), (u64::MAX, 14)] {
+            let expected = if of_block && refusal > 0 { refusal } else { passed(kind) };
+            assert_eq!(answer(&Numbers { number, ..good(kind) }), expected, "kind {kind} block {number}");
+        }
+        let is_modify = kind == u64::from(brick::MODIFY);
+        for (old_time, refusal) in [(0, 0), (1, 10), (15, 10), (16, 0), ((1 << 44) - 1, 0), (1 << 44, 10), (u64::MAX, 10)] {
+            let expected = if is_modify && refusal > 0 { refusal } else { passed(kind) };
+            assert_eq!(answer(&Numbers { old_time, ..good(kind) }), expected, "kind {kind} old time {old_time}");
+        }
         let of_read = |number: u32| if kind == u64::from(brick::READ) { number } else { passed(kind) };
         for place in 0..16 {
             for flag in [0, 1, 2, 255, 256, 257, u64::MAX] {
                 let mut flags = good(kind).flags;
-                let same = flags[place] == flag;
+                // Without target 3, brick 1 is the single target of a block read.
+                let fits = flags[place] == flag || (place, flag) == (3, 0);
                 flags[place] = flag;
-                assert_eq!(answer(&Numbers { flags, ..good(kind) }), of_read(if same { 0 } else { 10 }), "flag {flag} of {place}");
+                assert_eq!(answer(&Numbers { flags, ..good(kind) }), of_read(if fits { 0 } else { 10 }), "flag {flag} of {place}");
             }
+            let single = Numbers { flags: proved::flags(&[place as u8]), ..good(kind) };
+            assert_eq!(answer(&single), of_read(if place < 2 { 0 } else { 10 }), "single target {place}");
         }
         // As many targets as asked for, one of them no brick; then two other bricks.
         assert_eq!(answer(&Numbers { flags: proved::flags(&[1, 5]), ..good(kind) }), of_read(10));
@@ -213,10 +276,13 @@ fn fields_in_and_around_their_ranges() {
 
 #[test]
 fn every_changed_byte_of_a_small_image() {
-    let five = (3, 1, 1, 2, 1);
+    let five = (3, 2, 1, 3, 1);
     let mut bytes = fresh(five, 1);
     let write = brick::Message { block: vec![9], ..brick::Message::plain(brick::WRITE, 33, 2) };
     compare(five, 1, &mut bytes, &Numbers::of(&write));
+    let modify = brick::Message { old_time: 33, block: vec![8], old_block: vec![7], ..brick::Message::plain(brick::MODIFY, 49, 2) };
+    compare(five, 1, &mut bytes, &Numbers::of(&modify));
+    assert_eq!(image::marks(&bytes), [49]);
     let read = brick::Message { targets: vec![1], ..brick::Message::plain(brick::READ, 49, 1) };
     for at in 0..bytes.len() {
         for change in 1..=255_u8 {
@@ -224,7 +290,7 @@ fn every_changed_byte_of_a_small_image() {
             damaged[at] ^= change;
             let (mut out, mut reply) = ([0], [0; 8]);
             let kept = damaged.clone();
-            let answer = proved::receive(five, 1, &mut damaged, &Numbers::of(&read).asked(), &[0], &mut out, &mut reply);
+            let answer = proved::receive(five, 1, &mut damaged, &Numbers::of(&read).asked(), (&[0], &[0]), &mut out, &mut reply);
             assert_eq!((answer, &damaged), (5, &kept), "byte {at} by {change}");
         }
     }
@@ -240,14 +306,15 @@ fn reseal(block: &mut [u8]) {
 #[test]
 fn damaged_images() {
     let mut rng = Rng::printed(22);
-    let mut answers = [0_usize; 128];
-    for _ in 0..4000 {
+    let (mut answers, mut marked) = ([0_usize; 128], 0);
+    for _ in 0..6000 {
         let five = (5, 3, [1, 64, 256][rng.below(3) as usize], 2 + rng.below(5) as usize, [1, 4][rng.below(2) as usize]);
         let mut bytes = fresh(five, 2);
-        for _ in 0..rng.below(4) {
-            let message = random_message(&mut rng, five);
+        for _ in 0..rng.below(6) {
+            let message = message_for(&mut rng, five, 2, &bytes);
             compare(five, 2, &mut bytes, &message);
         }
+        marked += usize::from(!image::marks(&bytes).is_empty());
         for _ in 0..1 + rng.below(2) {
             let at = if rng.once_in(2) { rng.below(bytes.len() as u64) } else { rng.below(4) * 512 + rng.below(24) } as usize;
             let at = at % bytes.len();
@@ -260,13 +327,55 @@ fn damaged_images() {
         if rng.once_in(20) {
             bytes.pop();
         }
-        let message = random_message(&mut rng, five);
+        let message = message_for(&mut rng, five, 2, &bytes);
         let brick = if rng.once_in(10) { rng.below(8) as usize } else { 2 };
         answers[compare(five, brick, &mut bytes, &message) as usize] += 1;
     }
-    for number in [0, 2, 3, 5, 6, 13, 100] {
+    for number in [0, 2, 3, 5, 6, 13, 14, 100] {
         assert!(answers[number] > 20, "{number}: {answers:?}");
     }
+    assert!(marked > 500, "{marked} images with marks");
+}
+
+/// The lowest entry of an image made a mark, its block's bytes taken or left: refused by 6 whatever is asked, and by 5 where a check fails
+/// too. A higher entry of zeros made a mark opens.
+#[test]
+fn images_with_a_lowest_mark() {
+    let mut rng = Rng::printed(26);
+    let (mut answers, mut opened) = ([0_usize; 128], 0);
+    for _ in 0..1500 {
+        let (mut five, number) = some_brick(&mut rng);
+        five.3 = 2 + rng.below(4) as usize;
+        let mut bytes = fresh(five, number);
+        for _ in 0..rng.below(6) {
+            let message = message_for(&mut rng, five, number, &bytes);
+            compare(five, number, &mut bytes, &message);
+        }
+        let entry = if rng.once_in(3) { 1 + rng.below(five.3 as u64) as usize } else { 1 };
+        let block = &mut bytes[512 * entry..512 * (entry + 1)];
+        let was = block[2];
+        block[2] = 3;
+        if !rng.once_in(4) {
+            block[16..].fill(0);
+        }
+        reseal(block);
+        if rng.once_in(8) {
+            bytes[512 * five.3 + 100] ^= 1;
+        }
+        opened += usize::from(entry > 1 && was == 2 && image::parse(settings(five), number as u64, &bytes).is_ok());
+        for kind in 1..=7 {
+            let message = Numbers { kind, stripe: 0, number: 0, ..message_for(&mut rng, five, number, &bytes) };
+            let answer = compare(five, number, &mut bytes.clone(), &message);
+            assert!(entry > 1 || [5, 6].contains(&answer));
+            answers[answer as usize] += 1;
+        }
+        let mut times = [77; 2];
+        let panel = proved::panel(five, number, &bytes, &mut times);
+        let refusal = image::parse(settings(five), number as u64, &bytes).err().map_or(0, u32::from);
+        assert_eq!((panel, times == [77; 2]), (refusal, refusal != 0));
+        look_everywhere(five, number, &bytes, &mut [0; 7]);
+    }
+    assert!([0, 5, 6, 10].iter().all(|&number| answers[number] > 50) && opened > 20, "{opened} {answers:?}");
 }
 
 /// The proved view against the independent state at every place from 0 to capacity + 1 and at the last number; a refusal must leave the buffer.
@@ -279,10 +388,13 @@ fn look_everywhere(five: proved::Five, number: usize, bytes: &[u8], answers: &mu
         match state.as_ref().map_err(|&refusal| refusal).and_then(|s| s.entry(place as u64)) {
             Err(refusal) => assert_eq!((answer, found), (u32::from(refusal), [77; 2]), "{seen}"),
             Ok(entry) => {
-                assert_eq!((answer, found[0]), (0, entry.time), "{seen}");
-                assert_eq!(found[1], place as u64 + 1, "{seen}");
-                let at = found[1] as usize * image::BLOCK + 16;
-                assert_eq!(bytes[at..at + five.2], entry.block, "{seen}");
+                // The place of a block is that of its entry; a mark has none.
+                let held = if entry.block.is_some() { place as u64 + 1 } else { 0 };
+                assert_eq!((answer, found), (0, [entry.time, held]), "{seen}");
+                if let Some(block) = &entry.block {
+                    let at = held as usize * image::BLOCK + 16;
+                    assert_eq!(bytes[at..at + five.2], *block, "{seen}");
+                }
             }
         }
         answers[answer as usize] += 1;
@@ -304,7 +416,7 @@ fn views_of_every_place() {
                 // Every other run only writes, in rising time, so that logs grow long and full.
                 time += 1 + rng.below(40);
                 let rising = brick::Message { block: rng.bytes(five.2), ..brick::Message::plain(brick::WRITE, time, 1) };
-                let message = if run % 2 == 0 { Numbers::of(&rising) } else { random_message(&mut rng, five) };
+                let message = if run % 2 == 0 { Numbers::of(&rising) } else { message_for(&mut rng, five, number, &bytes) };
                 compare(five, number, &mut bytes, &message);
             }
             look_everywhere(five, number, &bytes, &mut whole);
@@ -367,28 +479,38 @@ fn settings_and_lengths() {
     let (mut out, mut reply) = ([0; 4], [0; 8]);
     for wrong in WRONG {
         assert_eq!(compare(wrong, 0, &mut bytes, &read), 1);
-        assert_eq!(proved::receive(wrong, 9, &mut bytes, &asked[..20], &[0; 3], &mut out, &mut reply[..7]), 1);
+        assert_eq!(proved::receive(wrong, 9, &mut bytes, &asked[..22], (&[0; 3], &[0; 3]), &mut out, &mut reply[..7]), 1);
         assert_eq!(proved::panel(wrong, 9, &bytes, &mut [0; 3]), 1);
         assert_eq!(proved::entry(wrong, 9, &bytes, 9, &mut [0; 1]), 1);
         assert_eq!(proved::fresh(wrong, 9, &mut [0; 3]), 1);
     }
-    // Of a brick that is none, at a place that is none, with a stripe and a kind that are none: the lengths come before.
-    let mut bad = asked;
-    (bad[0], bad[4]) = (6, 2);
-    let mut longer = asked.to_vec();
-    longer.push(0);
-    for short in [&bad[..0], &bad[..20], &longer[..]] {
-        assert_eq!(proved::receive(five, 3, &mut bytes, short, &[0; 4], &mut out, &mut reply), 2);
+    // Of a brick that is none, with a stripe and a data block that are none, in the first round of a block write and in a Modify, at an old
+    // time that is none, and in a kind that is none: the lengths come before.
+    let block = [0; 4];
+    for kind in [brick::ORDER_BLOCK, brick::MODIFY, 8] {
+        let mut bad = proved::of_block(asked, 15, 1);
+        (bad[0], bad[2], bad[4]) = (u64::from(kind), 0, 2);
+        let mut longer = bad.to_vec();
+        longer.push(0);
+        for short in [&bad[..0], &bad[..21], &bad[..22], &longer[..]] {
+            assert_eq!(proved::receive(five, 3, &mut bytes, short, (&block, &block), &mut out, &mut reply), 2);
+        }
+        for lent in [(&block[..3], &block[..]), (&block[..], &block[..3]), (&block[..], &[0; 5][..]), (&[][..], &block[..])] {
+            assert_eq!(proved::receive(five, 3, &mut bytes, &bad, lent, &mut out, &mut reply), 2);
+        }
+        let lent = (&block[..], &block[..]);
+        assert_eq!(proved::receive(five, 3, &mut bytes, &bad, lent, &mut out[..3], &mut reply), 2);
+        assert_eq!(proved::receive(five, 3, &mut bytes, &bad, lent, &mut out, &mut reply[..7]), 2);
+        assert_eq!(proved::receive(five, 3, &mut bytes[1..], &bad, lent, &mut out, &mut reply), 2);
+        assert_eq!(proved::receive(five, 3, &mut bytes, &bad, lent, &mut out, &mut reply), 3);
+        assert_eq!(proved::receive(five, 0, &mut bytes, &bad, lent, &mut out, &mut reply), 13);
+        bad[4] = 1;
+        let number = if kind == 8 { 10 } else { 14 };
+        assert_eq!(proved::receive(five, 0, &mut bytes, &bad, lent, &mut out, &mut reply), number);
+        bad[6] = 0;
+        assert_eq!(proved::receive(five, 0, &mut bytes, &bad, lent, &mut out, &mut reply), 10);
     }
-    assert_eq!(proved::receive(five, 3, &mut bytes, &bad, &[0; 3], &mut out, &mut reply), 2);
-    assert_eq!(proved::receive(five, 3, &mut bytes, &bad, &[0; 4], &mut out[..3], &mut reply), 2);
-    assert_eq!(proved::receive(five, 3, &mut bytes, &bad, &[0; 4], &mut out, &mut reply[..7]), 2);
-    assert_eq!(proved::receive(five, 3, &mut bytes[1..], &bad, &[0; 4], &mut out, &mut reply), 2);
-    assert_eq!(proved::receive(five, 3, &mut bytes, &bad, &[0; 4], &mut out, &mut reply), 3);
-    assert_eq!(proved::receive(five, 0, &mut bytes, &bad, &[0; 4], &mut out, &mut reply), 13);
-    bad[4] = 1;
-    assert_eq!(proved::receive(five, 0, &mut bytes, &bad, &[0; 4], &mut out, &mut reply), 10);
-    assert_eq!(proved::receive(five, 0, &mut bytes, &asked, &[0; 4], &mut out, &mut reply), 0);
+    assert_eq!(proved::receive(five, 0, &mut bytes, &asked, (&block, &block), &mut out, &mut reply), 0);
     for length in [0, 1, 3] {
         let mut pair = vec![77; length];
         assert_eq!(proved::panel(five, 3, &bytes, &mut pair), 2);
@@ -420,7 +542,7 @@ fn rows_of_images() {
                 }
                 damaged = Some(stripe as u64);
             }
-            let message = random_message(&mut rng, five);
+            let message = message_for_row(&mut rng, five, number, &row);
             let before = row.clone();
             let answer = compare_by(ON_A_ROW, five, number, &mut row, &message);
             answers[answer as usize] += 1;
@@ -429,7 +551,7 @@ fn rows_of_images() {
             assert!(pairs.all(|(stripe, (after, before))| stripe == message.stripe || after == before), "{five:?} {message:?}");
         }
     }
-    assert!(answers[0] > 2000 && [5, 6, 10, 13, 100].iter().all(|&number| answers[number] > 50), "{answers:?}");
+    assert!(answers[0] > 2000 && [5, 6, 10, 13, 14, 100].iter().all(|&number| answers[number] > 50), "{answers:?}");
     assert!(beside > 300, "{beside}");
 }
 
@@ -443,7 +565,8 @@ fn a_row_is_its_images() {
     let mut images: Vec<Vec<u8>> = (0..five.4).map(|_| fresh(five, 2)).collect();
     let mut replies = 0;
     for _ in 0..2000 {
-        let message = Numbers { stripe: rng.below(five.4 as u64), ..random_message(&mut rng, five) };
+        let stripe = rng.below(five.4 as u64);
+        let message = Numbers { stripe, ..message_for(&mut rng, five, 2, &images[stripe as usize]) };
         let answer = compare_by(ON_A_ROW, five, 2, &mut row, &message);
         assert_eq!(compare(five, 2, &mut images[message.stripe as usize], &message), answer);
         assert!(row.chunks(length).eq(images.iter().map(Vec::as_slice)));
@@ -458,10 +581,11 @@ fn rows_refused_in_order() {
     let five = (3, 1, 4, 3, 2);
     let row = fresh_row(five, 0);
     let length = row.len() / 2;
-    let senseless = Numbers { kind: 6, stripe: 2, ..Numbers::of(&brick::Message::plain(brick::READ, 16, 1)) };
+    let senseless = Numbers { stripe: 2, number: 1, old_time: 15, ..Numbers::of(&brick::Message::plain(brick::MODIFY, 16, 1)) };
     let refused = |five: proved::Five, number: usize, row: &[u8], numbers: &Numbers, block: usize, out: usize| {
         let (mut lent, mut out, mut reply) = (row.to_vec(), vec![0xEE; out], [77; 8]);
-        let answer = proved::receive_in_row(five, number, &mut lent, &numbers.asked(), &vec![0; block], &mut out, &mut reply);
+        let blocks = (&vec![0; block][..], &vec![0; 4][..]);
+        let answer = proved::receive_in_row(five, number, &mut lent, &numbers.asked(), blocks, &mut out, &mut reply);
         assert!(lent == row && out.iter().all(|&byte| byte == 0xEE) && reply == [77; 8]);
         answer
     };
@@ -484,12 +608,16 @@ fn rows_refused_in_order() {
     }
     assert_eq!(refused(five, 3, &torn, &senseless, 3, 4), 2);
     assert_eq!(refused(five, 3, &torn, &senseless, 4, 5), 2);
+    let short_old = proved::receive_in_row(five, 3, &mut torn.clone(), &senseless.asked(), (&[0; 4], &[0; 3]), &mut [0; 4], &mut [0; 8]);
+    assert_eq!(short_old, 2);
     let mut kept = torn.clone();
     assert_eq!((proved::fresh_row(five, 3, &mut kept), kept == torn), (3, true));
     let at = |stripe: u64| Numbers { stripe, ..senseless.clone() };
     assert_eq!(refused(five, 3, &torn, &at(2), 4, 4), 3);
     assert_eq!(refused(five, 0, &torn, &at(2), 4, 4), 13);
-    assert_eq!(refused(five, 0, &torn, &at(1), 4, 4), 5);
-    assert_eq!(refused(five, 0, &torn, &at(0), 4, 4), 6);
-    assert_eq!(refused(five, 0, &row, &at(0), 4, 4), 10);
+    assert_eq!(refused(five, 0, &torn, &at(1), 4, 4), 14);
+    let known = |stripe: u64| Numbers { number: 0, ..at(stripe) };
+    assert_eq!(refused(five, 0, &torn, &known(1), 4, 4), 5);
+    assert_eq!(refused(five, 0, &torn, &known(0), 4, 4), 6);
+    assert_eq!(refused(five, 0, &row, &known(0), 4, 4), 10);
 }

@@ -1,22 +1,24 @@
 //! The proved coordinator against the independent one: records, answers, buffers and refusals, event by event.
 
-use jilbagum_tests::brick::{self, Message, Reply, ORDER_READ, READ, WRITE};
-use jilbagum_tests::coordinator::{self, Kind, Outcome, Record, Running, Step};
+use jilbagum_tests::brick::{self, Message, Reply, MODIFY, ORDER_BLOCK, ORDER_READ, READ, WRITE};
+use jilbagum_tests::coordinator::{self, Ended, Kind, Outcome, Record, Running, Step};
 use jilbagum_tests::harness::Proved;
 use jilbagum_tests::proved::record::{
     BRICKS, COUNTED, FIRST, FOUND, GRANTED, HELD, KIND, LAST, M, MAX, N, PHASE, ROUND, SIZE, STRIPE, STRIPES, TIME,
 };
-use jilbagum_tests::proved::{self, record, Coordinator, Lent};
+use jilbagum_tests::proved::{self, answer as at, record, Coordinator, Lent};
 use jilbagum_tests::rng::Rng;
 use jilbagum_tests::settings::{Refusal, Settings, Shape, Volume, LAST_COUNT, NO_UPPER_END};
 use jilbagum_tests::image;
 use jilbagum_tests::tally::Tally;
 
-/// What happens at a coordinator. A start has its stripe and the clock's reading first.
+/// What happens at a coordinator. A start has its stripe and the clock's reading first, of one block then its number.
 #[derive(Clone, Debug)]
 enum Event {
     Write(u64, u64, Vec<u8>),
     Read(u64, u64, u64),
+    WriteBlock(u64, u64, u64, Vec<u8>),
+    ReadBlock(u64, u64, u64),
     Reply(Reply),
     Crash,
 }
@@ -25,10 +27,36 @@ impl Event {
     fn stripe(&self) -> Option<u64> {
         match self {
             Event::Write(stripe, ..) | Event::Read(stripe, ..) => Some(*stripe),
+            Event::WriteBlock(stripe, ..) | Event::ReadBlock(stripe, ..) => Some(*stripe),
             Event::Reply(reply) => Some(reply.stripe),
             Event::Crash => None,
         }
     }
+
+    fn block(&self) -> Option<u64> {
+        match self {
+            Event::WriteBlock(_, _, block, _) | Event::ReadBlock(_, _, block) => Some(*block),
+            _ => None,
+        }
+    }
+
+    fn starts(&self) -> bool {
+        !matches!(self, Event::Reply(_) | Event::Crash)
+    }
+}
+
+/// The number of an operation's kind, and the kind of such a number.
+fn number_of(kind: Kind) -> u8 {
+    match kind {
+        Kind::Read => proved::READING,
+        Kind::Write => proved::WRITING,
+        Kind::ReadBlock => proved::READING_BLOCK,
+        Kind::WriteBlock => proved::WRITING_BLOCK,
+    }
+}
+
+fn kind_of(number: u8) -> Option<Kind> {
+    [Kind::Read, Kind::Write, Kind::ReadBlock, Kind::WriteBlock].into_iter().find(|&kind| number_of(kind) == number)
 }
 
 fn row(bricks: &[u8]) -> [u8; 16] {
@@ -46,7 +74,7 @@ fn lay_out(record: &Record) -> (Vec<u64>, Vec<u8>) {
         for (place, number) in [(STRIPE, stripe), (TIME, time), (ROUND, round), (MAX, max), (FIRST, first)] {
             numbers[place] = number;
         }
-        bytes[KIND] = if running.kind == Kind::Read { 1 } else { 2 };
+        bytes[KIND] = number_of(running.kind);
         bytes[PHASE] = running.open;
         for reply in &running.replies {
             let b = reply.brick as usize;
@@ -69,17 +97,14 @@ fn read_out(c: &Coordinator) -> Option<Record> {
         return None;
     }
     let mut record = Record { volume, number: numbers[record::COORDINATOR], last: numbers[LAST], running: None };
-    let (kind, open) = match (bytes[KIND], bytes[PHASE]) {
-        (0, _) => {
-            let unset = [STRIPE, TIME, ROUND, MAX, FIRST].iter().all(|&place| numbers[place] == 0) && numbers[FOUND..].iter().all(|&x| x == 0);
-            return (unset && bytes.iter().all(|&x| x == 0)).then_some(record);
-        }
-        (1, open) => (Kind::Read, open),
-        (2, open) => (Kind::Write, open),
-        _ => return None,
-    };
-    let stored = kind == Kind::Read && open == WRITE;
-    let (bricks, rest) = bytes[BRICKS..].split_at(if stored { shape.m as usize } else { 0 });
+    if bytes[KIND] == 0 {
+        let unset = [STRIPE, TIME, ROUND, MAX, FIRST].iter().all(|&place| numbers[place] == 0) && numbers[FOUND..].iter().all(|&x| x == 0);
+        return (unset && bytes.iter().all(|&x| x == 0)).then_some(record);
+    }
+    let (kind, open) = (kind_of(bytes[KIND])?, bytes[PHASE]);
+    // The bricks that a read decoded from while it stores what it found.
+    let named = if kind.reads() && open == WRITE { shape.m as usize } else { 0 };
+    let (bricks, rest) = bytes[BRICKS..].split_at(named);
     if rest.iter().any(|&b| b != 0) || bricks.windows(2).any(|pair| pair[0] >= pair[1]) {
         return None;
     }
@@ -104,8 +129,15 @@ fn read_out(c: &Coordinator) -> Option<Record> {
             });
         }
     }
-    let kept = kind == Kind::Write || stored;
-    let data = if c.stripe.len() == shape.data_len() { c.stripe.clone() } else { vec![0; shape.data_len()] };
+    // The stripe holds what a write keeps: all of it, or its block at its place.
+    let stripe = if c.stripe.len() == shape.data_len() { c.stripe.clone() } else { vec![0; shape.data_len()] };
+    let data = match kind {
+        Kind::Write => stripe,
+        _ if open == WRITE => stripe,
+        Kind::WriteBlock if numbers[FIRST] < shape.m => shape.block(&stripe, numbers[FIRST] as usize).to_vec(),
+        Kind::WriteBlock => vec![0; size],
+        Kind::Read | Kind::ReadBlock => Vec::new(),
+    };
     record.running = Some(Running {
         kind,
         stripe: numbers[STRIPE],
@@ -114,7 +146,7 @@ fn read_out(c: &Coordinator) -> Option<Record> {
         open,
         max: numbers[MAX],
         first: numbers[FIRST],
-        data: if kept { data } else { Vec::new() },
+        data,
         bricks: bricks.to_vec(),
         replies,
     });
@@ -135,58 +167,64 @@ fn judged(volume: Volume, c: &Coordinator, event: &Event) -> Result<(Record, Ste
     let stripe_fits = c.stripe.len() == shape.data_len();
     let blocks_fit = c.blocks.len() == shape.coded_len() && c.coded.len() == shape.coded_len();
     match event {
-        Event::Write(..) if !stripe_fits => return Err(2),
+        Event::Write(..) | Event::WriteBlock(..) if !stripe_fits => return Err(2),
         Event::Reply(_) if !stripe_fits || !blocks_fit => return Err(2),
         _ => {}
     }
     let Some(mut record) = read_out(c) else {
         return Err(match event {
             Event::Write(.., data) if data.len() != shape.data_len() => 2,
+            Event::WriteBlock(.., data) if data.len() as u64 != shape.size => 2,
             Event::Reply(reply) if reply.block.as_ref().is_some_and(|b| b.len() as u64 != shape.size) => 2,
             Event::Reply(reply) if reply.brick >= shape.n => 3,
             Event::Read(.., first) if *first >= shape.n => 3,
             _ if number > 15 => 3,
             _ if event.stripe().is_some_and(|stripe| volume.stripe_refusal(stripe).is_some()) => 13,
+            _ if event.block().is_some_and(|block| shape.block_refusal(block).is_some()) => 14,
             _ => 6,
         });
     };
     let step = match event {
         Event::Write(stripe, reading, data) => coordinator::start_write(volume, number, &mut record, *stripe, *reading, data),
         Event::Read(stripe, reading, first) => coordinator::start_read(volume, number, &mut record, *stripe, *reading, *first),
+        Event::WriteBlock(stripe, reading, block, data) => {
+            coordinator::start_write_block(volume, number, &mut record, *stripe, *reading, *block, data)
+        }
+        Event::ReadBlock(stripe, reading, block) => {
+            coordinator::start_read_block(volume, number, &mut record, *stripe, *reading, *block)
+        }
         Event::Reply(reply) => coordinator::take_reply(volume, number, &mut record, reply),
         Event::Crash => coordinator::crash(volume, number, &mut record),
     };
     step.map(|step| (record, step))
 }
 
-/// The four buffers' answer: eleven numbers and 52 bytes, with nothing in the places of a second message.
+/// The four buffers' answer: sixteen numbers and 52 bytes, with nothing in the places of a second message.
 fn answer(shape: Shape, event: &Event, record: &Record, step: &Step) -> (Vec<u64>, Vec<u8>) {
-    let (mut sent, mut shown) = (vec![0; 11], vec![0; 52]);
+    let (mut sent, mut shown) = (vec![0; 16], vec![0; 52]);
     if let Some(message) = step.sent.first() {
         assert_eq!(step.sent.len() as u64, shape.n);
         sent[..4].copy_from_slice(&[1, message.time, message.round, message.max]);
-        sent[8] = message.stripe;
+        (sent[at::STRIPE], sent[at::OLD], sent[at::BLOCK]) = (message.stripe, message.old_time, message.number);
         shown[0] = message.kind;
         for &target in &message.targets {
             shown[3 + target as usize] = 1;
         }
     }
-    let number = |kind: Kind| if kind == Kind::Read { 1 } else { 2 };
     if let Some(ended) = &step.ended {
         let (what, bricks) = match &ended.outcome {
             Outcome::Ok => (2, Vec::new()),
-            Outcome::Stripe { bricks, .. } => (3, bricks.clone()),
+            Outcome::Gave { bricks, .. } => (3, bricks.clone()),
             Outcome::Abort => (4, Vec::new()),
             Outcome::Cut => (5, Vec::new()),
         };
-        shown[1..3].copy_from_slice(&[what, number(ended.kind)]);
+        shown[1..3].copy_from_slice(&[what, number_of(ended.kind)]);
         shown[19..35].copy_from_slice(&row(&bricks));
-        sent[4] = ended.time;
-        sent[9] = ended.stripe;
-    } else if let (Event::Write(..) | Event::Read(..), Some(running)) = (event, &record.running) {
-        shown[1..3].copy_from_slice(&[1, number(running.kind)]);
-        sent[4] = running.time;
-        sent[9] = running.stripe;
+        (sent[at::SEEN_TIME], sent[at::SEEN_STRIPE], sent[at::SEEN_BLOCK]) = (ended.time, ended.stripe, ended.block);
+    } else if let (true, Some(running)) = (event.starts(), &record.running) {
+        shown[1..3].copy_from_slice(&[1, number_of(running.kind)]);
+        (sent[at::SEEN_TIME], sent[at::SEEN_STRIPE]) = (running.time, running.stripe);
+        sent[at::SEEN_BLOCK] = event.block().unwrap_or(0);
     }
     (sent, shown)
 }
@@ -203,6 +241,55 @@ fn recovery_abort(c: &Coordinator, reply: &Reply) -> &'static str {
     }
 }
 
+/// What happened, in words that a tally counts.
+fn what_happened(before: u8, c: &Coordinator, event: &Event, record: &Record, step: &Step) -> String {
+    let sent = step.sent.first().map(|message| (message.kind, message.round));
+    let ended = step.ended.as_ref();
+    let running = record.running.as_ref().map(|running| running.kind);
+    let kind = ended.map(|ended| ended.kind).or(running);
+    let of = if kind.is_some_and(Kind::of_block) { "block " } else { "" };
+    let what = match (event, sent, ended.map(|ended| &ended.outcome)) {
+        (Event::Write(..) | Event::WriteBlock(..), ..) => "write begins".to_string(),
+        (Event::Read(..) | Event::ReadBlock(..), ..) => "read begins".to_string(),
+        (Event::Crash, _, Some(_)) => "cut".to_string(),
+        (Event::Crash, _, None) => "idle crash".to_string(),
+        (Event::Reply(_), None, None) => "waits".to_string(),
+        (Event::Reply(_), Some((MODIFY, _)), None) => "modifies".to_string(),
+        (Event::Reply(_), Some((ORDER_READ, round)), _) => format!("recovery round {}", round.min(5)),
+        (Event::Reply(_), Some((WRITE, round)), _) => format!("write round {}", round.min(5)),
+        (Event::Reply(r), _, Some(Outcome::Abort)) if r.round == 1000 => "abort at round 1000".to_string(),
+        (Event::Reply(r), _, Some(Outcome::Abort)) if before == ORDER_READ => recovery_abort(c, r).to_string(),
+        (Event::Reply(_), _, Some(Outcome::Abort)) => format!("abort in phase {before}"),
+        (Event::Reply(_), _, Some(Outcome::Ok)) if before == MODIFY => "written by Modify".to_string(),
+        (Event::Reply(_), _, Some(Outcome::Ok)) => "written".to_string(),
+        (Event::Reply(r), _, Some(Outcome::Gave { .. })) if r.kind == READ => "read in one round".to_string(),
+        (Event::Reply(_), _, Some(Outcome::Gave { .. })) => "recovered".to_string(),
+        other => format!("{other:?}"),
+    };
+    format!("{of}{what}")
+}
+
+/// What the lent stripe must be after an event: a write keeps its bytes there, a block write its block; a read leaves there what it gave, a
+/// recovery the whole stripe.
+fn stripe_after(shape: Shape, before: &[u8], event: &Event, record: &Record, step: &Step) -> Vec<u8> {
+    let mut stripe = before.to_vec();
+    match event {
+        Event::Write(.., data) => stripe.clone_from(data),
+        Event::WriteBlock(.., block, data) => shape.put_block(&mut stripe, *block as usize, data),
+        _ => {}
+    }
+    if let Some(running) = record.running.as_ref().filter(|running| running.open == WRITE) {
+        stripe.clone_from(&running.data);
+    }
+    if let Some(Ended { kind, block, outcome: Outcome::Gave { data, .. }, .. }) = &step.ended {
+        match kind {
+            Kind::ReadBlock => shape.put_block(&mut stripe, *block as usize, data),
+            _ => stripe.clone_from(data),
+        }
+    }
+    stripe
+}
+
 /// What the lent coordinator must be after an event, and the number returned.
 fn expected(volume: Volume, c: &Coordinator, event: &Event, tally: &mut Tally) -> (Coordinator, u32, Step) {
     let mut after = c.clone();
@@ -216,9 +303,7 @@ fn expected(volume: Volume, c: &Coordinator, event: &Event, tally: &mut Tally) -
     };
     (after.lent.numbers, after.lent.bytes) = lay_out(&record);
     (after.lent.sent, after.lent.shown) = answer(volume.shape, event, &record, &step);
-    if let Event::Write(.., data) = event {
-        after.stripe.clone_from(data);
-    }
+    after.stripe = stripe_after(volume.shape, &c.stripe, event, &record, &step);
     if let Event::Reply(Reply { brick, block: Some(block), .. }) = event {
         let at = *brick as usize * block.len();
         after.blocks[at..at + block.len()].copy_from_slice(block);
@@ -226,32 +311,7 @@ fn expected(volume: Volume, c: &Coordinator, event: &Event, tally: &mut Tally) -
     if step.sent.first().is_some_and(|message| message.kind == WRITE) {
         after.coded = step.sent.iter().flat_map(|message| message.block.clone()).collect();
     }
-    let running = record.running.as_ref();
-    if let Some(running) = running.filter(|r| r.kind == Kind::Read && r.open == WRITE) {
-        after.stripe.clone_from(&running.data);
-    }
-    let outcome = step.ended.as_ref().map(|ended| &ended.outcome);
-    if let Some(Outcome::Stripe { data, .. }) = outcome {
-        after.stripe.clone_from(data);
-    }
-    let (sent, ended) = (step.sent.first().map(|message| (message.kind, message.round)), outcome);
-    let kind = match (event, sent, ended) {
-        (Event::Write(..), ..) => "write begins".to_string(),
-        (Event::Read(..), ..) => "read begins".to_string(),
-        (Event::Crash, _, Some(_)) => "cut".to_string(),
-        (Event::Crash, _, None) => "idle crash".to_string(),
-        (Event::Reply(_), None, None) => "waits".to_string(),
-        (Event::Reply(_), Some((ORDER_READ, round)), _) => format!("recovery round {}", round.min(5)),
-        (Event::Reply(_), Some((WRITE, round)), _) => format!("write round {}", round.min(5)),
-        (Event::Reply(r), _, Some(Outcome::Abort)) if r.round == 1000 => "abort at round 1000".to_string(),
-        (Event::Reply(r), _, Some(Outcome::Abort)) if before == ORDER_READ => recovery_abort(c, r).to_string(),
-        (Event::Reply(_), _, Some(Outcome::Abort)) => format!("abort in phase {before}"),
-        (Event::Reply(_), _, Some(Outcome::Ok)) => "written".to_string(),
-        (Event::Reply(r), _, Some(Outcome::Stripe { .. })) if r.kind == READ => "read in one round".to_string(),
-        (Event::Reply(_), _, Some(Outcome::Stripe { .. })) => "recovered".to_string(),
-        other => format!("{other:?}"),
-    };
-    tally.add(kind, 1);
+    tally.add(what_happened(before, c, event, &record, &step), 1);
     (after, 0, step)
 }
 
@@ -265,6 +325,12 @@ fn compare(volume: Volume, c: &mut Coordinator, event: &Event, tally: &mut Tally
             proved::start_write(four, &mut c.lent, *stripe as usize, *reading, data, &mut c.stripe)
         }
         Event::Read(stripe, reading, first) => proved::start_read(four, &mut c.lent, *stripe as usize, *reading, *first as usize),
+        Event::WriteBlock(stripe, reading, block, data) => {
+            proved::start_write_block(four, &mut c.lent, *stripe as usize, *reading, *block as usize, data, &mut c.stripe)
+        }
+        Event::ReadBlock(stripe, reading, block) => {
+            proved::start_read_block(four, &mut c.lent, *stripe as usize, *reading, *block as usize)
+        }
         Event::Crash => proved::crash(four, &mut c.lent),
         Event::Reply(r) => {
             let held = r.block.is_some();
@@ -353,10 +419,12 @@ impl World {
     fn start(&mut self, at: usize, rng: &mut Rng, tally: &mut Tally) {
         self.clock += rng.below(3);
         let (stripe, reading, shape) = (self.some_stripe(rng), self.clock, self.settings.shape);
-        let event = if rng.once_in(2) {
-            Event::Read(stripe, reading, rng.below(shape.n))
-        } else {
-            Event::Write(stripe, reading, rng.bytes(shape.data_len()))
+        let block = rng.below(shape.m);
+        let event = match rng.below(4) {
+            0 => Event::Read(stripe, reading, rng.below(shape.n)),
+            1 => Event::Write(stripe, reading, rng.bytes(shape.data_len())),
+            2 => Event::ReadBlock(stripe, reading, block),
+            _ => Event::WriteBlock(stripe, reading, block, rng.bytes(shape.size as usize)),
         };
         self.event(at, &event, tally);
     }
@@ -392,9 +460,13 @@ impl World {
     /// A write whose blocks reach a few bricks only, and that is cut.
     fn partial_write(&mut self, at: usize, rng: &mut Rng, tally: &mut Tally) {
         self.clock += 1;
-        let data = rng.bytes(self.settings.shape.data_len());
-        self.event(at, &Event::Write(self.some_stripe(rng), self.clock, data), tally);
-        while !self.messages.is_empty() && self.messages[0].1.kind != WRITE {
+        let (stripe, shape) = (self.some_stripe(rng), self.settings.shape);
+        let write = match rng.below(3) {
+            0 => Event::WriteBlock(stripe, self.clock, rng.below(shape.m), rng.bytes(shape.size as usize)),
+            _ => Event::Write(stripe, self.clock, rng.bytes(shape.data_len())),
+        };
+        self.event(at, &write, tally);
+        while !self.messages.is_empty() && !self.messages[0].1.holds_a_block() {
             self.deliver(0);
         }
         while !self.replies.is_empty() {
@@ -417,7 +489,7 @@ impl World {
 fn schedules_with_bricks() {
     let mut rng = Rng::printed(31);
     let mut tally = Tally::default();
-    for _ in 0..1000 {
+    for _ in 0..1600 {
         let mut world = World::new(some_volume(&mut rng), &mut rng);
         for _ in 0..12 {
             let at = rng.below(3) as usize;
@@ -461,7 +533,11 @@ fn schedules_with_bricks() {
             "write begins", "read begins", "waits", "cut", "idle crash", "buffers overwritten", "written",
             "read in one round", "recovered", "recovery round 2", "recovery round 3", "recovery round 4", "recovery round 5", "write round 2",
             "write round 3", "write round 4", "write round 5", "abort in phase 2", "recovery aborted by a no",
-            "abort in phase 4", "refusal 11",
+            "abort in phase 5", "refusal 11",
+            "block write begins", "block read begins", "block waits", "block cut", "block modifies", "block written by Modify",
+            "block written", "block read in one round", "block recovered", "block recovery round 2", "block recovery round 3",
+            "block write round 3", "block write round 4", "block abort in phase 4", "block abort in phase 6",
+            "block recovery aborted by a no",
         ],
     );
 }
@@ -469,19 +545,22 @@ fn schedules_with_bricks() {
 /// A reply to the open round, right by its rules; sometimes with one field changed.
 fn some_reply(Volume { shape, stripes }: Volume, c: &Coordinator, times: &[u64], rng: &mut Rng) -> Reply {
     let (numbers, bytes) = (&c.lent.numbers, &c.lent.bytes);
-    let kind = if bytes[PHASE] == 0 { 1 + rng.below(4) as u8 } else { bytes[PHASE] };
+    let kind = if bytes[PHASE] == 0 { 1 + rng.below(6) as u8 } else { bytes[PHASE] };
     let brick = rng.below(shape.n);
     let yes = !rng.once_in(24);
-    let target = (brick + shape.n - numbers[FIRST] % shape.n) % shape.n < shape.m;
+    let of_block = kind_of(bytes[KIND]).is_some_and(Kind::of_block);
+    let targets = if of_block { 1 } else { shape.m };
+    let target = (brick + shape.n - numbers[FIRST] % shape.n) % shape.n < targets;
     let found = times[rng.below(times.len() as u64) as usize];
     let held = match kind {
         READ => yes && target,
         // In some operations few bricks hold a block.
         ORDER_READ if numbers[LAST] % 4 == 0 => yes && rng.once_in(4),
         ORDER_READ => yes && !rng.once_in(8),
+        ORDER_BLOCK => yes && brick == numbers[FIRST],
         _ => false,
     };
-    let shown = kind == READ || held;
+    let shown = kind == READ || held || kind == ORDER_BLOCK && yes;
     let mut reply = Reply {
         kind,
         brick,
@@ -494,7 +573,7 @@ fn some_reply(Volume { shape, stripes }: Volume, c: &Coordinator, times: &[u64],
     };
     if rng.once_in(4) {
         match rng.below(11) {
-            0 => reply.kind = [0, 1, 2, 3, 4, 5, 255][rng.below(7) as usize],
+            0 => reply.kind = [0, 1, 2, 3, 4, 5, 6, 7, 8, 255][rng.below(10) as usize],
             1 => reply.time = [0, 15, 16, 1 << 44, (1 << 44) - 1, u64::MAX, reply.time ^ 1, reply.time + 16][rng.below(8) as usize],
             2 => reply.round = [0, 1, 2, 1000, 1001, reply.round + 1, reply.round - 1, u64::MAX][rng.below(8) as usize],
             3 => reply.brick = [shape.n, shape.n + 1, 16, 255, 1 << 32, u64::MAX][rng.below(6) as usize],
@@ -519,14 +598,15 @@ fn some_event(volume: Volume, c: &Coordinator, times: &[u64], rng: &mut Rng) -> 
     let readings = [0, rng.below(50), LAST_COUNT - 1, LAST_COUNT, LAST_COUNT + 1, u64::MAX];
     let reading = readings[if rng.once_in(12) { rng.below(6) } else { rng.below(2) } as usize];
     let running = c.lent.bytes.first().is_some_and(|&kind| kind != 0);
-    match rng.below(if running { 24 } else { 4 }) {
-        0 => {
-            let wrong = if rng.once_in(12) { 1 } else { 0 };
-            Event::Write(stripe, reading, rng.bytes(shape.data_len() + wrong))
-        }
+    let block = if rng.once_in(12) { [shape.m, shape.n, 256, u64::MAX][rng.below(4) as usize] } else { rng.below(shape.m) };
+    let wrong = usize::from(rng.once_in(12));
+    match rng.below(if running { 36 } else { 6 }) {
+        0 => Event::Write(stripe, reading, rng.bytes(shape.data_len() + wrong)),
         1 if rng.once_in(8) => Event::Read(stripe, reading, shape.n),
         1 => Event::Read(stripe, reading, rng.below(shape.n)),
-        2 if rng.once_in(2) => Event::Crash,
+        2 => Event::WriteBlock(stripe, reading, block, rng.bytes(shape.size as usize + wrong)),
+        3 => Event::ReadBlock(stripe, reading, block),
+        4 if rng.once_in(2) => Event::Crash,
         _ if c.lent.numbers.len() < record::NUMBERS || c.lent.bytes.len() < record::BYTES => Event::Crash,
         _ => Event::Reply(some_reply(volume, c, times, rng)),
     }
@@ -537,7 +617,7 @@ fn some_event(volume: Volume, c: &Coordinator, times: &[u64], rng: &mut Rng) -> 
 fn events_of_every_sort() {
     let mut rng = Rng::printed(32);
     let mut tally = Tally::default();
-    for _ in 0..1600 {
+    for _ in 0..2800 {
         let volume = some_volume(&mut rng);
         let mut c = fresh(volume, rng.below(16), &mut rng);
         let times: Vec<u64> = (0..1 + rng.below(3)).map(|k| if k == 0 && rng.once_in(2) { 0 } else { 16 + rng.below(9) }).collect();
@@ -566,13 +646,17 @@ fn events_of_every_sort() {
         &[
             "write begins", "read begins", "waits", "cut", "idle crash", "read in one round", "recovered", "written",
             "recovery round 2", "recovery round 3", "write round 2", "write round 3", "abort at round 1000",
-            "abort in phase 2", "abort in phase 4", "recovery aborted by a no", "recovery aborted without a block",
-            "refusal 1", "refusal 2", "refusal 3", "refusal 13", "refusal 6",
+            "abort in phase 2", "abort in phase 5", "recovery aborted by a no", "recovery aborted without a block",
+            "block write begins", "block read begins", "block waits", "block cut", "block modifies", "block written by Modify",
+            "block written", "block read in one round", "block recovered", "block recovery round 2", "block recovery round 3",
+            "block write round 3", "block abort at round 1000", "block abort in phase 4", "block abort in phase 5",
+            "block abort in phase 6", "block recovery aborted by a no", "block recovery aborted without a block",
+            "refusal 1", "refusal 2", "refusal 3", "refusal 13", "refusal 14", "refusal 6",
             "idle, under other settings", "running, under other settings",
             "refusal 7", "refusal 8", "refusal 9", "refusal 10", "refusal 11",
         ],
     );
-    tally.expect(10, &["recovery aborted at time 0 on few bricks"]);
+    tally.expect(10, &["recovery aborted at time 0 on few bricks", "block recovery aborted at time 0 on few bricks"]);
 }
 
 /// Settings other than those given whose buffers have the same lengths, or other settings.
@@ -645,6 +729,8 @@ fn records_of_other_settings() {
             let events = [
                 Event::Write(0, 9, rng.bytes(other.shape.data_len())),
                 Event::Read(0, 9, 0),
+                Event::WriteBlock(0, 9, 0, rng.bytes(other.shape.size as usize)),
+                Event::ReadBlock(0, 9, 0),
                 Event::Reply(reply),
                 Event::Reply(held),
                 Event::Crash,
@@ -657,13 +743,18 @@ fn records_of_other_settings() {
                 tally.add("under other settings", 1);
             }
         };
-        for write in [true, false] {
+        for kind in [Kind::Write, Kind::Read, Kind::WriteBlock, Kind::ReadBlock] {
             let mut c = fresh(volume, 3, &mut rng);
             elsewhere(&c, &mut tally, &mut rng);
             // A stripe that both have, so that the record is what is refused.
             let stripe = volume.stripes.min(other.stripes) - 1;
             let Volume { shape, stripes } = volume;
-            let begin = if write { Event::Write(stripe, 5, rng.bytes(shape.data_len())) } else { Event::Read(stripe, 5, 0) };
+            let begin = match kind {
+                Kind::Write => Event::Write(stripe, 5, rng.bytes(shape.data_len())),
+                Kind::Read => Event::Read(stripe, 5, 0),
+                Kind::WriteBlock => Event::WriteBlock(stripe, 5, 0, rng.bytes(shape.size as usize)),
+                Kind::ReadBlock => Event::ReadBlock(stripe, 5, 0),
+            };
             let mut step = compare(volume, &mut c, &begin, &mut tally);
             elsewhere(&c, &mut tally, &mut rng);
             let settings = Settings { shape, capacity: 4, stripes };
@@ -681,11 +772,61 @@ fn records_of_other_settings() {
         }
     }
     println!("{:?}", tally.0);
-    tally.expect(pairs.len(), &["written", "read in one round"]);
+    tally.expect(pairs.len(), &["written", "read in one round", "block written by Modify", "block read in one round"]);
     tally.expect(200, &["under other settings", "refusal 6"]);
 }
 
-/// Each refusal with all that come after it: 1, 2, 3, 13, 6, then of starts 7, 8, 9 and of replies 10, 11.
+/// A write of one block names no bricks while it stores the stripe found, nor at its end; with bricks named its record is refused by 6. A
+/// read of one block names the m that it decoded from, and its record without them is refused.
+#[test]
+fn a_block_write_names_no_bricks() {
+    let mut rng = Rng::printed(36);
+    let volume = Volume::new(4, 2, 1, 3);
+    let mut tally = Tally::default();
+    let kinds = [
+        (Event::WriteBlock(1, 5, 1, vec![7]), row(&[]), [row(&[1, 2]), row(&[0, 1]), row(&[1])], [5, 7]),
+        (Event::ReadBlock(1, 5, 1), row(&[1, 2]), [row(&[]), row(&[1]), row(&[2, 1])], [5, 9]),
+    ];
+    for (begin, named, others, stored) in kinds {
+        let mut c = fresh(volume, 3, &mut rng);
+        compare(volume, &mut c, &begin, &mut tally);
+        let answer = |c: &Coordinator, brick: u64, found: u64, block: Option<u8>| {
+            let (kind, round, time) = (c.lent.bytes[PHASE], c.lent.numbers[ROUND], c.lent.numbers[TIME]);
+            Event::Reply(Reply { kind, brick, stripe: 1, time, round, yes: true, found, block: block.map(|byte| vec![byte]) })
+        };
+        // Brick 1 is missing; then blocks 5, 9 coded are found at time 40.
+        for brick in [0, 2, 3] {
+            let event = answer(&c, brick, 40, None);
+            compare(volume, &mut c, &event, &mut tally);
+        }
+        for (brick, byte) in [(3, 17), (2, 29), (1, 9)] {
+            let event = answer(&c, brick, 40, Some(byte));
+            compare(volume, &mut c, &event, &mut tally);
+        }
+        assert_eq!((c.lent.bytes[PHASE], c.lent.numbers[ROUND], &c.stripe[..]), (WRITE, 3, &stored[..]));
+        assert_eq!(c.lent.bytes[BRICKS..], named);
+        for other in others {
+            let mut broken = c.clone();
+            broken.lent.bytes[BRICKS..].copy_from_slice(&other);
+            let reply = answer(&c, 0, 0, None);
+            let block = vec![0];
+            for event in [reply, Event::Crash, Event::Read(1, 9, 0), Event::ReadBlock(1, 9, 0), Event::WriteBlock(1, 9, 0, block)] {
+                assert!(matches!(judged(volume, &broken, &event), Err(6)), "{event:?}");
+                compare(volume, &mut broken.clone(), &event, &mut tally);
+            }
+        }
+        for brick in [0, 2, 3] {
+            let event = answer(&c, brick, 0, None);
+            compare(volume, &mut c, &event, &mut tally);
+        }
+        assert!(!c.lent.running());
+        assert_eq!(c.lent.shown_row(at::BRICKS), named);
+    }
+    tally.expect(1, &["block written", "block recovered"]);
+    tally.expect(30, &["refusal 6"]);
+}
+
+/// Each refusal with all that come after it: 1, 2, 3, 13, of a start on one block 14, then 6, then of starts 7, 8, 9 and of replies 10, 11.
 #[test]
 fn refused_in_order() {
     let mut rng = Rng::printed(35);
@@ -712,16 +853,33 @@ fn refused_in_order() {
     for (volume, c, stripe, reading, number) in rows.into_iter().chain(own) {
         assert_eq!(refused(volume, c, Event::Read(stripe, reading, 0)), number);
         assert_eq!(refused(volume, c, Event::Write(stripe, reading, vec![0; 2])), number);
+        assert_eq!(refused(volume, c, Event::ReadBlock(stripe, reading, 1)), number);
+        assert_eq!(refused(volume, c, Event::WriteBlock(stripe, reading, 1, vec![0])), number);
+        // A block that is none is told after the stripe and before the record.
+        for block in [2, 256, u64::MAX] {
+            let number = if [1, 2, 3, 13].contains(&number) { number } else { 14 };
+            assert_eq!(refused(volume, c, Event::ReadBlock(stripe, reading, block)), number);
+            assert_eq!(refused(volume, c, Event::WriteBlock(stripe, reading, block, vec![0])), number);
+        }
     }
     // A first target that is no brick, and data of another length.
     assert_eq!(refused(good, &broken, Event::Read(3, late, 4)), 3);
     assert_eq!(refused(good, &none, Event::Write(3, late, vec![0; 3])), 2);
+    for length in [0, 2] {
+        assert_eq!(refused(good, &none, Event::WriteBlock(3, late, 2, vec![0; length])), 2);
+    }
+    let mut no_stripe = none.clone();
+    no_stripe.stripe.pop();
+    assert_eq!(refused(good, &no_stripe, Event::WriteBlock(3, late, 2, vec![0])), 2);
+    assert_eq!(refused(good, &no_stripe, Event::ReadBlock(3, late, 2)), 3);
     // A start on the running operation's stripe, and on another.
     let mut busy = fresh(good, 15, &mut rng);
     compare(good, &mut busy, &Event::Write(1, 0, vec![5, 9]), &mut Tally::default());
     for stripe in 0..3 {
         assert_eq!(refused(good, &busy, Event::Read(stripe, 0, 0)), 9);
         assert_eq!(refused(good, &busy, Event::Write(stripe, 0, vec![0; 2])), 9);
+        assert_eq!(refused(good, &busy, Event::ReadBlock(stripe, 0, 1)), 9);
+        assert_eq!(refused(good, &busy, Event::WriteBlock(stripe, 0, 1, vec![0])), 9);
     }
     // Of brick 3, which is no target.
     let reply = |stripe: u64, kind: u8| {
@@ -808,8 +966,8 @@ fn damaged_records() {
                     damaged.lent.numbers[place] = values[rng.below(12) as usize];
                 } else {
                     let old = damaged.lent.bytes[place - record::NUMBERS];
-                    let values = [0, 1, 2, 3, 4, 5, old.wrapping_add(1), old.wrapping_sub(1), rng.byte()];
-                    damaged.lent.bytes[place - record::NUMBERS] = values[rng.below(9) as usize];
+                    let values = [0, 1, 2, 3, 4, 5, 6, 7, old.wrapping_add(1), old.wrapping_sub(1), rng.byte()];
+                    damaged.lent.bytes[place - record::NUMBERS] = values[rng.below(11) as usize];
                 }
             }
             let event = some_event(volume, &c, &times, &mut rng);
@@ -819,4 +977,5 @@ fn damaged_records() {
     println!("{:?}", tally.0);
     tally.expect(200, &["refusal 3", "refusal 6", "refusal 10", "refusal 11", "waits"]);
     tally.expect(20, &["recovery round 2", "write round 2", "written", "read in one round", "cut"]);
+    tally.expect(20, &["block recovery round 2", "block modifies", "block written by Modify", "block read in one round", "block cut"]);
 }

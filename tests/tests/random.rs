@@ -1,7 +1,7 @@
 //! Random scripts and random runs.
 
 use jilbagum_tests::bench::play;
-use jilbagum_tests::harness::{some_run, Independent, OFTEN};
+use jilbagum_tests::harness::{some_run, Independent, OFTEN, OFTEN_OF_BLOCKS};
 use jilbagum_tests::rng::Rng;
 use jilbagum_tests::script;
 use jilbagum_tests::tally::Tally;
@@ -57,11 +57,12 @@ fn senseless_input_is_played_to_its_end() {
 #[test]
 fn random_runs_have_an_order() {
     let mut tally = Tally::default();
-    for seed in 400_000..404_000 {
-        let world = some_run::<Independent>(seed, 12, 2, |_| ());
+    for seed in 400_000..406_000 {
+        let world = some_run::<Independent>(seed, 12, 2, |_, _| ());
         assert_eq!(world.fault(), None, "{}", world.story(seed));
         world.note(&mut tally);
     }
     println!("{:?}", tally.0);
     tally.expect(50, &OFTEN);
+    tally.expect(50, &OFTEN_OF_BLOCKS);
 }

@@ -13,7 +13,7 @@ use Rattle.register.specs.Runs.{message, repliedWith}
 use Rattle.bench_state.specs.State.{upOf, worldOf}
 use Rattle.bench_state.specs.Workers.{Fits}
 use Rattle.bench_state.specs.declared.Bench.{Bench}
-use Rattle.bench_sent.specs.Sent.{sentBlockAt, itemAt, itemsOf}
+use Rattle.bench_sent.specs.Sent.{sentBlockAt, oldBlockAt, itemAt, itemsOf}
 use Rattle.bench_print.specs.Printing.{refusedText, printedInto}
 use Rattle.bench_rules.specs.Play.{}
 use Rattle.bench_rules.specs.Turning.{lent, worldIn}
@@ -36,7 +36,8 @@ maySend kind sent = eqb kind trimKind || ltb sent lastMessage
 pub record Reaching (b : Bench) (numbers bytes : List ℕ) (k brick : ℕ) (msg : Message) : Type 0 where
   pub sent-before : k < b .sent
   pub there : brick < b .settings .n
-  pub item-is : itemAt (b .settings .size) numbers bytes k ≡ message brick msg (sentBlockAt (b .settings .size) bytes k)
+  pub item-is :
+      itemAt (b .settings .size) numbers bytes k ≡ message brick msg (sentBlockAt (b .settings .size) bytes k) (oldBlockAt (b .settings .size) bytes k)
   pub is-up : upOf (b .up) brick ≡ true
   pub may-send : maySend (msg .kind) (b .sent) ≡ true
 

@@ -14,6 +14,7 @@ ghost use Rattle.bench_limits.specs.Limits.{benchSize, lastMessage, numbersLeng
 use bench_limits::BLOCK_PLACE;
 use bench_limits::IMAGE_ROOM;
 use bench_limits::LAST_MESSAGE;
+use bench_limits::OLD_BLOCK_PLACE;
 use bench_limits::ROW_BYTES;
 use bench_limits::SIZE;
 use bench_limits::UP;
@@ -78,12 +79,15 @@ fn deliver_with(
     let end = start + image_block::BLOCK_BYTES * (s.capacity + 1);
     let from = k * ROW_BYTES + BLOCK_PLACE;
     let till = from + s.size;
+    let old_from = k * ROW_BYTES + OLD_BLOCK_PLACE;
+    let old_till = old_from + s.size;
     let g = volume::receive(
         s,
         brick,
         &mut images[start..end],
         msg,
         &bytes[from..till],
+        &bytes[old_from..old_till],
         block,
     );
     settle(b, g, block, numbers, bytes, at, out)

@@ -2,3 +2,4 @@
 pub mod ActedLaws
 pub mod CommitLaws
 pub mod CommitStepLaws
+pub mod ListsLaws

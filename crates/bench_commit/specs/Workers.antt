@@ -3,20 +3,21 @@ use mathlib.Core.Bool.{cond}
 use mathlib.Core.List.{List, [], _∷_, _++_}
 use Prim.Native.Nat.{ℕ, _+_, _*_, _≤_, _<_}
 use lib.Dec.{eqb, leb}
-use lib.ListN.{length}
+use lib.ListN.{length, take}
 use Rattle.settings.specs.Refusal.{badLine}
 use Rattle.settings.specs.declared.Settings.{Settings}
 use Rattle.coord_apply.specs.declared.Answer.{Answer}
-use Rattle.register.specs.Driver.{driven, listed}
+use Rattle.register.specs.Driver.{driven, withBlocks}
 use Rattle.register.specs.Runs.{World, Event, broadcasts}
 use Rattle.bench_print.specs.Printing.{endedText}
 use Rattle.bench_rules.specs.Play.{Played, refuses, acts}
-use Rattle.coord_apply.specs.Answers.{Buffered, Step}
+use Rattle.coord_apply.specs.Answers.{Buffered, Step, mostBroadcasts}
 use Rattle.bench_state.specs.declared.Bench.{Bench}
 use Rattle.bench_rules.specs.Turning.{lent, worldIn}
 use Rattle.bench_rules.specs.Workers.{Turned}
 use Rattle.bench_rules.specs.declared.After.{After}
 use mathlib.Core.Path.{_≡_}
+use Rattle.message.specs.Kinds.{modifyKind}
 use Rattle.message.specs.declared.Message.{Message}
 use Rattle.bench_sent.specs.Sent.{itemsOf}
 use Rattle.bench_state.specs.Workers.{Fits}
@@ -49,10 +50,17 @@ pub record Plays (b : Bench) (p : World → Played) (kept numbers bytes : List �
   pub turned : (images : List ℕ)
       → Turned b (lent images kept numbers bytes) at out (p (worldIn b (lent images kept numbers bytes))) r (lent images kept′ numbers′ bytes′) out′
 
+-- what an answer may list: two broadcasts at most, and Modify of none but a block that a stripe has
+pub record Lists (m count : ℕ) (first second : Message) : Type 0 where
+  pub few : count ≤ mostBroadcasts
+  pub first-low : first .kind ≡ modifyKind → first .block < m
+  pub second-low : second .kind ≡ modifyKind → second .block < m
+
 -- the items after an answer's broadcasts
-pub record Round (s : Settings) (sent count : ℕ) (first second : Message) (coded numbers bytes numbers′ bytes′ : List ℕ) : Type 0 where
+pub record Round (s : Settings) (sent count : ℕ) (first second : Message) (blocks stripe coded numbers bytes numbers′ bytes′ : List ℕ) : Type 0 where
   pub items : itemsOf (s .size) numbers′ bytes′ (sentAfterAnswer (s .n) sent count)
-      ≡ itemsOf (s .size) numbers bytes sent ++ broadcasts s (listed count first second coded)
+      ≡ itemsOf (s .size) numbers bytes sent
+      ++ broadcasts s (take count (withBlocks (s .size) first blocks stripe coded ∷ withBlocks (s .size) second blocks stripe coded ∷ []))
 
 -- what the functions at a coordinator are lent: a set that is played, and room for a line
 pub record Seats (b : Bench) (c : ℕ) (kept numbers bytes : List ℕ) (at : ℕ) (out : List ℕ) : Type 0 where

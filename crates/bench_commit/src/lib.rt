@@ -4,9 +4,10 @@ ghost use mathlib.Core.Path.{_≡_};
 ghost use Prim.Native.Nat.{_+_, _*_, _≤_, _<_};
 ghost use lib.ListN.{length};
 ghost use Rattle.coord_apply.specs.Answers.{mostBroadcasts};
-ghost use Rattle.bench_commit.specs.Workers.{Round, Seats, Copies, Answers};
+ghost use Rattle.bench_commit.specs.Workers.{Lists, Round, Seats, Copies, Answers};
 ghost use Rattle.bench_commit.specs.Workers.{sentAfterAnswer};
-ghost use Rattle.bench_limits.specs.Limits.{benchSize, lastMessage, benchBricks, numbersLength, bytesLength};
+ghost use Rattle.bench_limits.specs.Limits.{lastMessage, benchBricks, numbersLength, bytesLength};
+ghost use Rattle.bench_state.specs.Workers.{Fits};
 use bench_limits::LAST_MESSAGE;
 use bench_rules::After;
 use bench_state::Bench;
@@ -22,30 +23,52 @@ fn sent_after(n: usize, sent: usize, broadcasts: usize) -> usize
     sent + broadcasts * n
 }
 
-// The broadcasts of an answer sent, in their order.
+// The broadcasts of an answer sent, in their order, with the blocks from the buffers that it left.
 fn send(
     s: Settings,
     sent: usize,
     broadcasts: usize,
     first: Message,
     second: Message,
+    blocks: &[u8],
+    stripe: &[u8],
     coded: &[u8],
     numbers: &mut [u64],
     bytes: &mut [u8],
 )
-    requires { ⌜ (s .size ≤ benchSize) × (sentAfterAnswer (s .n) sent broadcasts ≤ lastMessage) × (s .n * s .size ≤ length (now coded)) ⌝ }
-    requires { ⌜ (length (now numbers) ≡ numbersLength) × (length (now bytes) ≡ bytesLength) × (broadcasts ≤ mostBroadcasts) ⌝ }
-    ensures { λ _. ⌜ Round s sent broadcasts first second (now (coded .entry))
+    requires { ⌜ Fits s × Copies s (now blocks) (now stripe) (now coded) × (sentAfterAnswer (s .n) sent broadcasts ≤ lastMessage) ⌝ }
+    requires { ⌜ Lists (s .m) broadcasts first second × (length (now numbers) ≡ numbersLength) × (length (now bytes) ≡ bytesLength) ⌝ }
+    ensures { λ _. ⌜ Round s sent broadcasts first second (now (blocks .entry)) (now (stripe .entry)) (now (coded .entry))
         (now (numbers .entry)) (now (bytes .entry)) (now (numbers .exit)) (now (bytes .exit)) ⌝ }
 {
     if broadcasts == 0 {
         return;
     }
-    bench_sent::send_all(s.n, s.size, sent, first, coded, numbers, bytes);
+    bench_sent::send_all(
+        s.n,
+        s.size,
+        sent,
+        first,
+        blocks,
+        stripe,
+        coded,
+        numbers,
+        bytes,
+    );
     if broadcasts == 1 {
         return;
     }
-    bench_sent::send_all(s.n, s.size, sent + s.n, second, coded, numbers, bytes)
+    bench_sent::send_all(
+        s.n,
+        s.size,
+        sent + s.n,
+        second,
+        blocks,
+        stripe,
+        coded,
+        numbers,
+        bytes,
+    )
 }
 
 // What a coordinator's routine answered, with the buffers it left, is kept, sent and printed.
@@ -66,7 +89,7 @@ fn keep_answer(
     requires { ⌜ Seats b c (now kept) (now numbers) (now bytes) at (now out) ⌝ }
     requires { ⌜ Copies (b .settings) (now blocks) (now stripe) (now coded) ⌝ }
     requires { ⌜ (a .refusal ≡ 0) × (sent ≡ sentAfterAnswer (b .settings .n) (b .sent) (a .sent)) × (sent ≤ lastMessage) ⌝ }
-    requires { ⌜ a .sent ≤ mostBroadcasts ⌝ }
+    requires { ⌜ Lists (b .settings .m) (a .sent) (a .message) (a .second) ⌝ }
     ensures { λ r. ⌜ (
         Answers b c a (now (blocks .entry)) (now (stripe .entry)) (now (coded .entry))
         (now (kept .entry)) (now (numbers .entry)) (now (bytes .entry)) at (now (out .entry)) r
@@ -75,7 +98,18 @@ fn keep_answer(
     let s = b.settings;
     let first = a.message;
     let second = a.second;
-    send(s, b.sent, a.sent, first, second, coded, numbers, bytes);
+    send(
+        s,
+        b.sent,
+        a.sent,
+        first,
+        second,
+        blocks,
+        stripe,
+        coded,
+        numbers,
+        bytes,
+    );
     bench_state::keep(c, blocks, stripe, kept);
     let seen = a.seen;
     let used = bench_print::put_ended(c, seen, stripe, at, out);
@@ -100,7 +134,7 @@ pub fn commit(
 ) -> After
     requires { ⌜ Seats b c (now kept) (now numbers) (now bytes) at (now out) ⌝ }
     requires { ⌜ Copies (b .settings) (now blocks) (now stripe) (now coded) ⌝ }
-    requires { ⌜ a .sent ≤ mostBroadcasts ⌝ }
+    requires { ⌜ Lists (b .settings .m) (a .sent) (a .message) (a .second) ⌝ }
     ensures { λ r. ⌜ (
         Answers b c a (now (blocks .entry)) (now (stripe .entry)) (now (coded .entry))
         (now (kept .entry)) (now (numbers .entry)) (now (bytes .entry)) at (now (out .entry)) r

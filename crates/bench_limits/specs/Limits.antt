@@ -53,12 +53,15 @@ imageRoom = (benchCapacity + 1) * blockBytes
 abbrev pub imagesLength : ℕ
 imagesLength = benchBricks * imageRoom
 
--- a row of bytes: the target flags, the block, and room for a second block
+-- a row of bytes: the target flags, the block, and the old block of a message
 abbrev pub flagCount : ℕ
 flagCount = maxBricks
 
 abbrev pub blockPlace : ℕ
 blockPlace = flagCount
+
+abbrev pub oldBlockPlace : ℕ
+oldBlockPlace = blockPlace + benchSize
 
 -- a sent message or reply has a row of numbers and a row of bytes
 abbrev pub rowNumbers : ℕ
@@ -73,7 +76,8 @@ numbersLength = lastMessage * rowNumbers
 abbrev pub bytesLength : ℕ
 bytesLength = lastMessage * rowBytes
 
--- the places in a row of numbers, those behind them are free; a message has its max where a reply has the time found
+-- the places in a row of numbers, those behind them are free; a message has its max where a reply has the time found, and a message alone
+-- has an old time and a data block (E2)
 abbrev pub tagPlace : ℕ
 tagPlace = 0
 
@@ -103,6 +107,12 @@ heldPlace = 7
 
 abbrev pub stripePlace : ℕ
 stripePlace = 8
+
+abbrev pub oldTimePlace : ℕ
+oldTimePlace = 9
+
+abbrev pub dataBlockPlace : ℕ
+dataBlockPlace = 10
 
 -- what the tag says
 abbrev pub messageTag : ℕ

@@ -65,14 +65,20 @@ pub const HELD_PLACE: usize = 7;
 
 pub const STRIPE_PLACE: usize = 8;
 
+pub const OLD_TIME_PLACE: usize = 9;
+
+pub const DATA_BLOCK_PLACE: usize = 10;
+
 pub const MESSAGE_TAG: u64 = 0;
 
 pub const REPLY_TAG: u64 = 1;
 
-// A row of bytes: the target flags, the block, and room for a second block.
+// A row of bytes: the target flags, the block, and the old block of a message.
 pub const FLAGS: usize = settings::MAX_BRICKS;
 
 pub const BLOCK_PLACE: usize = FLAGS;
+
+pub const OLD_BLOCK_PLACE: usize = BLOCK_PLACE + SIZE;
 
 // Room for one printed line, and for all that one line of the input prints.
 pub const LINE_ROOM: usize = 128;

@@ -9,8 +9,9 @@ pub mod LimitLaws
 pub mod CallLaws
 -- Document 01's case, computed (CaseTheorem).
 pub mod WorkedCaseLaws
--- For these: a line, part by part; what is printed at an event is what is seen there.
+-- For these: a line, part by part; no operation on one block; what is printed at an event is what is seen there.
 pub mod Parts
+pub mod WholeStripeLaws
 pub mod ScriptPartLaws
 pub mod ToldLaws
 pub mod PrintedLaws

@@ -7,7 +7,7 @@ use Prim.Native.Nat.{ℕ}
 use lib.Dec.{eqb}
 use Rattle.settings.specs.declared.Settings.{Settings}
 use Rattle.coord_record.specs.Records.{idleKind, readingKind, writingKind}
-use Rattle.order.specs.Claim.{Action, read, write, Seen, began, ended}
+use Rattle.order.specs.Claim.{Blocks, Action, read, write, readBlock, writeBlock, Seen, began, ended}
 use Rattle.register.specs.Runs.{plain, World, Event, Moved, step, nextMoved}
 use Rattle.bench_parse.specs.Lines.{Line, setLine, writeLine, readLine, carryLine, crashLine, downLine, upLine, noLine, reads}
 use Rattle.bench_print.specs.Printing.{refusedText}
@@ -16,9 +16,12 @@ use Rattle.bench_limits.specs.Limits.{benchStripe}
 use Rattle.bench_order.specs.Told.{toldEnd}
 use Rattle.settings.specs.Times.{coordinatorOf}
 
-unfoldable pub kindOf : Action (List ℕ) → ℕ
+-- the kind of an action; "The bench keeps to one stripe and whole-stripe lines" (E2), so none of its runs has one on one block
+unfoldable pub kindOf : {S B : Type 0} {blocks : Blocks S B} → Action blocks → ℕ
 kindOf read = readingKind
 kindOf (write content) = writingKind
+kindOf (readBlock j) = readingKind
+kindOf (writeBlock j b) = writingKind
 
 -- the kind that the operation of this time began with
 unfoldable pub kindIn : (s : Settings) → List (Seen (plain s)) → ℕ → ℕ

@@ -85,16 +85,16 @@ delivered s w k Silent = happens s w (arrives k) []
 delivered s w k (Refused number) = refuses w number
 
 -- a message at its brick, which is up: every message but a Trim sends a reply, and that may be one past message 127
-unfoldable pub reaches : Settings → World → ℕ → ℕ → Message → List ℕ → Played
-reaches s w k b msg block =
+unfoldable pub reaches : Settings → World → ℕ → ℕ → Message → (block old : List ℕ) → Played
+reaches s w k b msg block old =
     cond (eqb (msg .kind) trimKind || ltb (length (w .sent)) lastMessage)
-    (delivered s w k (rowOutcome s b (w .images b) msg block (replicate (s .size) 0) .given))
+    (delivered s w k (rowOutcome s b (w .images b) msg block old (replicate (s .size) 0) .given))
     (refuses w badLine)
 
 -- "Any sent message may be carried again; carried to a down brick it is lost." A reply goes to the coordinator in its time.
 unfoldable pub carries : Settings → World → ℕ → Item → Played
-carries s w k (message b msg block) =
-    cond (ltb b (s .n)) (cond (w .up b) (reaches s w k b msg block) (passes w)) (refuses w badNumber)
+carries s w k (message b msg block old) =
+    cond (ltb b (s .n)) (cond (w .up b) (reaches s w k b msg block old) (passes w)) (refuses w badNumber)
 carries s w k (reply r block) =
     atCoordinator w (coordinatorOf (r .time))
     (acts s w (arrives k) (coordinatorOf (r .time))

@@ -8,8 +8,8 @@ use Rattle.message.specs.declared.Message.{Message}
 use Rattle.message.specs.declared.Reply.{Reply}
 use Rattle.register.specs.Runs.{Item, message, reply}
 use Rattle.bench_limits.specs.Limits.{rowNumbers, rowBytes, tagPlace, brickPlace, kindPlace, timePlace, roundPlace, maxPlace}
-use Rattle.bench_limits.specs.Limits.{foundPlace, yesPlace, heldPlace, stripePlace}
-use Rattle.bench_limits.specs.Limits.{messageTag, flagCount, blockPlace}
+use Rattle.bench_limits.specs.Limits.{foundPlace, yesPlace, heldPlace, stripePlace, oldTimePlace, dataBlockPlace}
+use Rattle.bench_limits.specs.Limits.{messageTag, flagCount, blockPlace, oldBlockPlace}
 
 -- number i of row k
 unfoldable pub numberAt : List ℕ → ℕ → ℕ → ℕ
@@ -27,6 +27,10 @@ flagsAt bytes k = take flagCount (drop (k * rowBytes) bytes)
 unfoldable pub sentBlockAt : ℕ → List ℕ → ℕ → List ℕ
 sentBlockAt size bytes k = take size (drop (k * rowBytes + blockPlace) bytes)
 
+-- and the old block that a message has beside it
+unfoldable pub oldBlockAt : ℕ → List ℕ → ℕ → List ℕ
+oldBlockAt size bytes k = take size (drop (k * rowBytes + oldBlockPlace) bytes)
+
 -- row k read as a message
 unfoldable pub messageAt : List ℕ → List ℕ → ℕ → Message
 messageAt numbers bytes k =
@@ -36,6 +40,8 @@ messageAt numbers bytes k =
       time = numberAt numbers k timePlace;
       round = numberAt numbers k roundPlace;
       max = numberAt numbers k maxPlace;
+      old = numberAt numbers k oldTimePlace;
+      block = numberAt numbers k dataBlockPlace;
       targets = flagsAt bytes k;
     }
 
@@ -58,7 +64,7 @@ unfoldable pub itemAt : ℕ → List ℕ → List ℕ → ℕ → Item
 itemAt size numbers bytes k =
     cond (isReply numbers k)
     (reply (replyAt numbers k) (sentBlockAt size bytes k))
-    (message (numberAt numbers k brickPlace) (messageAt numbers bytes k) (sentBlockAt size bytes k))
+    (message (numberAt numbers k brickPlace) (messageAt numbers bytes k) (sentBlockAt size bytes k) (oldBlockAt size bytes k))
 
 -- the items of the first k rows, in their order
 unfoldable pub itemsOf : ℕ → List ℕ → List ℕ → ℕ → List Item

@@ -7,17 +7,20 @@ ghost use Rattle.byte_lists.specs.Lists.{put};
 ghost use Rattle.register.specs.Runs.{message, reply};
 ghost use Rattle.settings.specs.Count.{one-if};
 ghost use Rattle.bench_sent.specs.Sent.{numberAt, isReply, flagsAt, messageAt, replyAt};
-ghost use Rattle.bench_sent.specs.Workers.{Added, Coded, Sends, messageRow, replyRow, numbersWith, bytesWith, noFlags};
+ghost use Rattle.bench_sent.specs.Workers.{Added, Coded, Sends, messageRow, replyRow, numbersWith, bytesWith, oldWith, noFlags};
 ghost use Rattle.bench_sent.specs.Workers.{One};
-ghost use Rattle.bench_limits.specs.Limits.{benchSize, rowNumbers, rowBytes, brickPlace, kindPlace, stripePlace};
+ghost use Rattle.bench_limits.specs.Limits.{benchSize, rowNumbers, rowBytes, brickPlace, kindPlace, stripePlace, dataBlockPlace};
 use bench_limits::BLOCK_PLACE;
 use bench_limits::BRICK_PLACE;
+use bench_limits::DATA_BLOCK_PLACE;
 use bench_limits::FLAGS;
 use bench_limits::FOUND_PLACE;
 use bench_limits::HELD_PLACE;
 use bench_limits::KIND_PLACE;
 use bench_limits::MAX_PLACE;
 use bench_limits::MESSAGE_TAG;
+use bench_limits::OLD_BLOCK_PLACE;
+use bench_limits::OLD_TIME_PLACE;
 use bench_limits::REPLY_TAG;
 use bench_limits::ROUND_PLACE;
 use bench_limits::ROW_BYTES;
@@ -64,24 +67,27 @@ fn flag(b: bool) -> u64
     0
 }
 
-// A message to a brick, kept in row k.
+// A message to a brick, kept in row k with its block and the old block.
 pub fn put_message(
     k: usize,
     brick: usize,
     msg: Message,
     block: &[u8],
+    old: &[u8],
     numbers: &mut [u64],
     bytes: &mut [u8],
 )
     requires { ⌜ (length (now block) ≤ benchSize) × (k * rowNumbers + rowNumbers ≤ length (now numbers)) × (k * rowBytes + rowBytes ≤ length (now bytes)) ⌝ }
+    requires { ⌜ length (now old) ≡ length (now block) ⌝ }
     ensures { λ _. ⌜ now (numbers .exit) ≡ numbersWith k (messageRow brick msg) (now (numbers .entry)) ⌝ }
-    ensures { λ _. ⌜ now (bytes .exit) ≡ bytesWith k (msg .targets) (now (block .entry)) (now (bytes .entry)) ⌝ }
+    ensures { λ _. ⌜ now (bytes .exit) ≡ oldWith k (now (old .entry)) (bytesWith k (msg .targets) (now (block .entry)) (now (bytes .entry))) ⌝ }
     ensures { λ _. ⌜ Added k (now (block .entry)) (now (numbers .entry)) (now (bytes .entry))
-        (now (numbers .exit)) (now (bytes .exit)) (message brick msg (now (block .entry))) ⌝ }
+        (now (numbers .exit)) (now (bytes .exit)) (message brick msg (now (block .entry)) (now (old .entry))) ⌝ }
 {
     let kind = wide(msg.kind);
     let to = brick as u64;
     let stripe = msg.stripe as u64;
+    let named = msg.block as u64;
     let row = [
         MESSAGE_TAG,
         to,
@@ -92,8 +98,8 @@ pub fn put_message(
         0,
         0,
         stripe,
-        0,
-        0,
+        msg.old,
+        named,
         0,
         0,
         0,
@@ -102,7 +108,8 @@ pub fn put_message(
     ];
     let targets = msg.targets;
     store_row(numbers, k * ROW_NUMBERS, &row);
-    store_bytes(k, targets, block, bytes)
+    store_bytes(k, targets, block, bytes);
+    byte_lists::store(bytes, k * ROW_BYTES + OLD_BLOCK_PLACE, old)
 }
 
 // A reply, kept in row k.
@@ -173,6 +180,14 @@ fn stripe_at(numbers: &[u64], k: usize) -> usize
     number_at(numbers, k, STRIPE_PLACE) as usize
 }
 
+// The data block that a message names.
+fn data_block_at(numbers: &[u64], k: usize) -> usize
+    requires { ⌜ k * rowNumbers + rowNumbers ≤ length (now numbers) ⌝ }
+    ensures { λ r. ⌜ r ≡ numberAt (now (numbers .entry)) k dataBlockPlace ⌝ }
+{
+    number_at(numbers, k, DATA_BLOCK_PLACE) as usize
+}
+
 // The kind of row k.
 fn kind_at(numbers: &[u64], k: usize) -> u8
     requires { ⌜ k * rowNumbers + rowNumbers ≤ length (now numbers) ⌝ }
@@ -204,6 +219,8 @@ pub fn message_at(numbers: &[u64], bytes: &[u8], k: usize) -> Message
     let time = number_at(numbers, k, TIME_PLACE);
     let round = number_at(numbers, k, ROUND_PLACE);
     let max = number_at(numbers, k, MAX_PLACE);
+    let old = number_at(numbers, k, OLD_TIME_PLACE);
+    let block = data_block_at(numbers, k);
     let targets = flags_at(bytes, k);
     Message {
         kind: kind,
@@ -211,6 +228,8 @@ pub fn message_at(numbers: &[u64], bytes: &[u8], k: usize) -> Message
         time: time,
         round: round,
         max: max,
+        old: old,
+        block: block,
         targets: targets,
     }
 }
@@ -240,28 +259,55 @@ pub fn reply_at(numbers: &[u64], k: usize) -> Reply
     }
 }
 
-// A message to brick j in a row, with its block of a Write, or with zeros.
+// A message to brick j in a row: a Write with its block, Modify with the new block of the stripe and the old one of the reply blocks, any other
+// with zeros.
 fn send_one(
     at: usize,
     j: usize,
     size: usize,
     msg: Message,
+    blocks: &[u8],
+    stripe: &[u8],
     coded: &[u8],
     numbers: &mut [u64],
     bytes: &mut [u8],
 )
     requires { ⌜ (size ≤ benchSize) × (at * rowNumbers + rowNumbers ≤ length (now numbers)) × (at * rowBytes + rowBytes ≤ length (now bytes)) ⌝ }
-    requires { ⌜ Coded (j + 1) size msg (now coded) ⌝ }
-    ensures { λ _. ⌜ One at j size msg (now (coded .entry)) (now (numbers .entry)) (now (bytes .entry)) (now (numbers .exit)) (now (bytes .exit)) ⌝ }
+    requires { ⌜ Coded (j + 1) size msg (now blocks) (now stripe) (now coded) ⌝ }
+    ensures { λ _. ⌜ One at j size msg (now (blocks .entry)) (now (stripe .entry)) (now (coded .entry)) (now (numbers .entry)) (now (bytes .entry))
+        (now (numbers .exit)) (now (bytes .exit)) ⌝ }
 {
+    let none = [0u8; SIZE];
+    let no_old = [0u8; SIZE];
     if msg.kind == message::WRITE {
         let from = j * size;
         let till = from + size;
-        put_message(at, j, msg, &coded[from..till], numbers, bytes);
+        put_message(
+            at,
+            j,
+            msg,
+            &coded[from..till],
+            &no_old[..size],
+            numbers,
+            bytes,
+        );
         return;
     }
-    let none = [0u8; SIZE];
-    put_message(at, j, msg, &none[..size], numbers, bytes)
+    if msg.kind == message::MODIFY {
+        let start = msg.block * size;
+        let end = start + size;
+        put_message(
+            at,
+            j,
+            msg,
+            &stripe[start..end],
+            &blocks[start..end],
+            numbers,
+            bytes,
+        );
+        return;
+    }
+    put_message(at, j, msg, &none[..size], &no_old[..size], numbers, bytes)
 }
 
 // A message to each of n bricks, in n rows from row k on.
@@ -270,18 +316,21 @@ pub fn send_all(
     size: usize,
     k: usize,
     msg: Message,
+    blocks: &[u8],
+    stripe: &[u8],
     coded: &[u8],
     numbers: &mut [u64],
     bytes: &mut [u8],
 )
     requires { ⌜ (size ≤ benchSize) × ((k + n) * rowNumbers ≤ length (now numbers)) × ((k + n) * rowBytes ≤ length (now bytes)) ⌝ }
-    requires { ⌜ Coded n size msg (now coded) ⌝ }
-    ensures { λ _. ⌜ Sends k n size msg (now (coded .entry)) (now (numbers .entry)) (now (bytes .entry)) (now (numbers .exit)) (now (bytes .exit)) ⌝ }
+    requires { ⌜ Coded n size msg (now blocks) (now stripe) (now coded) ⌝ }
+    ensures { λ _. ⌜ Sends k n size msg (now (blocks .entry)) (now (stripe .entry)) (now (coded .entry)) (now (numbers .entry)) (now (bytes .entry))
+        (now (numbers .exit)) (now (bytes .exit)) ⌝ }
     ensures { λ _. ⌜ (length (now (numbers .exit)) ≡ length (now (numbers .entry))) × (length (now (bytes .exit)) ≡ length (now (bytes .entry))) ⌝ }
 {
     let mut j = 0;
     while j < n {
-        send_one(k + j, j, size, msg, coded, numbers, bytes);
+        send_one(k + j, j, size, msg, blocks, stripe, coded, numbers, bytes);
         j += 1;
     }
 }

@@ -1,15 +1,16 @@
--- Document 01, "What a brick does", on the abstract brick.
+-- Document 01, "What a brick does", and document 02's operations on one block (E2), on the abstract brick.
 use mathlib.Core.Bool.{Bool, cond, not, _&&_}
 use mathlib.Core.List.{List, [], _∷_}
 use Prim.Native.Nat.{ℕ, zero, suc, _-_}
 use lib.Dec.{leb, ltb, eqb}
 use Rattle.settings.specs.declared.Settings.{Settings}
 use Rattle.message.specs.Flags.{member}
-use Rattle.message.specs.Kinds.{readKind, orderReadKind, writeKind, trimKind}
+use Rattle.message.specs.Kinds.{readKind, orderReadKind, orderBlockKind, writeKind, modifyKind, trimKind}
 use Rattle.message.specs.declared.Message.{Message}
 use Rattle.message.specs.declared.Reply.{Reply}
 use Rattle.image.specs.Brick.{Brick, LogEntry, entryCount, timeAt, meansAt, newest}
-use Rattle.image_write.specs.Saving.{withPromise, withEntry}
+use Rattle.image_write.specs.Saving.{withPromise, appended, blockEntry, markEntry, lowestHeld}
+use Rattle.erasure.specs.Recoding.{recodedBlock}
 
 -- the three comparisons of an answer: "t is above newest",
 unfoldable pub aboveNewest : Brick → ℕ → Bool
@@ -35,13 +36,31 @@ orderYes x t = aboveNewest x t && notBelowPromise x t
 unfoldable pub writeYes : Settings → Brick → ℕ → Bool
 writeYes s x t = orderYes x t && hasFree s x
 
+-- E2: "A brick says yes if its newest is the old time, its own time is above that and not below the promise, and an entry is free."
+unfoldable pub modifyYes : Settings → Brick → (t old : ℕ) → Bool
+modifyYes s x t old = eqb (newest x) old && writeYes s x t
+
 -- "then the promise becomes t"
 unfoldable pub orderedIfYes : Brick → ℕ → Brick
 orderedIfYes x t = cond (orderYes x t) (withPromise x t) x
 
 -- "then it is appended. The promise is left as it is."
 unfoldable pub writtenIfYes : Settings → Brick → ℕ → List ℕ → Brick
-writtenIfYes s x t block = cond (writeYes s x t) (withEntry x t block) x
+writtenIfYes s x t block = cond (writeYes s x t) (appended x (blockEntry t block)) x
+
+-- the block that the newest entry means
+unfoldable pub newestBlock : Brick → List ℕ
+newestBlock x = meansAt x (entryCount x - 1)
+
+-- E2: "Brick j stores the new block, parity bricks their recoded one, other data bricks a mark meaning the block before it"
+unfoldable pub modifiedEntry : Settings → ℕ → Brick → Message → (new old : List ℕ) → LogEntry
+modifiedEntry s brick x msg new old =
+    cond (eqb brick (msg .block)) (blockEntry (msg .time) new)
+    (cond (ltb brick (s .m)) (markEntry x (msg .time))
+    (blockEntry (msg .time) (recodedBlock (s .n) (s .m) brick (msg .block) (newestBlock x) old new)))
+
+unfoldable pub modifiedIfYes : Settings → ℕ → Brick → Message → (new old : List ℕ) → Brick
+modifiedIfYes s brick x msg new old = cond (modifyYes s x (msg .time) (msg .old)) (appended x (modifiedEntry s brick x msg new old)) x
 
 -- "Trim t: .. drops every entry under t other than the newest."
 unfoldable pub trimmed : ℕ → List LogEntry → List LogEntry
@@ -50,10 +69,10 @@ trimmed t (e ∷ []) = e ∷ []
 trimmed t (e ∷ f ∷ log) = cond (ltb (e .time) t) (trimmed t (f ∷ log)) (e ∷ trimmed t (f ∷ log))
 
 unfoldable pub trimmedTo : Brick → ℕ → Brick
-trimmedTo x t = record { promise = x .promise; log = trimmed t (x .log) }
+trimmedTo x t = record { promise = x .promise; log = lowestHeld (trimmed t (x .log)) }
 
--- "the entry holding a block with the highest time under max": looked for from the newest down, among the first n.
--- The number of its block in the image: its place in the log and 1; 0 for none.
+-- E2: "The lookup under max .. gives the highest entry, mark or block": looked for from the newest down, among the first n.
+-- By its place in the log and 1; 0 for none.
 unfoldable pub under : Brick → ℕ → ℕ → ℕ
 under x max zero = 0
 under x max (suc i) = cond (ltb (timeAt x i) max) (suc i) (under x max i)
@@ -61,24 +80,31 @@ under x max (suc i) = cond (ltb (timeAt x i) max) (suc i) (under x max i)
 unfoldable pub lookup : Brick → ℕ → ℕ
 lookup x max = under x max (entryCount x)
 
--- the block that goes with the reply, by its number in the image, 0 for none: Read gives "its block if yes and the brick is a target",
--- Order-and-read "on yes gives the entry .. with the highest time under max", the others none
+-- the entry whose block goes with the reply, by its place and 1, 0 for none: Read gives "its block if yes and the brick is a target",
+-- Order-and-read "on yes gives the entry .. with the highest time under max", the first round of a block write the newest of "brick j",
+-- the others none
 unfoldable pub placeFor : ℕ → Brick → Message → ℕ
 placeFor brick x msg =
     cond (eqb (msg .kind) readKind) (cond (readYes x && member (msg .targets) brick) (entryCount x) 0)
-    (cond (eqb (msg .kind) orderReadKind) (cond (orderYes x (msg .time)) (lookup x (msg .max)) 0) 0)
+    (cond (eqb (msg .kind) orderReadKind) (cond (orderYes x (msg .time)) (lookup x (msg .max)) 0)
+    (cond (eqb (msg .kind) orderBlockKind) (cond (orderYes x (msg .time) && eqb brick (msg .block)) (entryCount x) 0) 0))
 
--- the time of an entry, by the number of its block; 0 for none
+-- the time of an entry, by its place and 1; 0 for none
 unfoldable pub timeFor : Brick → ℕ → ℕ
 timeFor x place = cond (eqb place 0) 0 (timeAt x (place - 1))
 
--- Read "gives newest", Order-and-read the entry's time; "With none, or on a no, time 0 and no block."
+-- Read "gives newest", Order-and-read the entry's time; "With none, or on a no, time 0 and no block." In the first round of a block write
+-- "every brick gives its newest time".
 unfoldable pub foundFor : ℕ → Brick → Message → ℕ
-foundFor brick x msg = cond (eqb (msg .kind) readKind) (newest x) (timeFor x (placeFor brick x msg))
+foundFor brick x msg =
+    cond (eqb (msg .kind) readKind) (newest x)
+    (cond (eqb (msg .kind) orderBlockKind) (cond (orderYes x (msg .time)) (newest x) 0) (timeFor x (placeFor brick x msg)))
 
 unfoldable pub yesTo : Settings → Brick → Message → Bool
 yesTo s x msg =
-    cond (eqb (msg .kind) readKind) (readYes x) (cond (eqb (msg .kind) writeKind) (writeYes s x (msg .time)) (orderYes x (msg .time)))
+    cond (eqb (msg .kind) readKind) (readYes x)
+    (cond (eqb (msg .kind) writeKind) (writeYes s x (msg .time))
+    (cond (eqb (msg .kind) modifyKind) (modifyYes s x (msg .time) (msg .old)) (orderYes x (msg .time))))
 
 unfoldable pub replyTo : Settings → ℕ → Brick → Message → Reply
 replyTo s brick x msg =
@@ -93,12 +119,13 @@ replyTo s brick x msg =
       held = not (eqb (placeFor brick x msg) 0);
     }
 
--- the brick after a message
-unfoldable pub brickAfter : Settings → Brick → Message → List ℕ → Brick
-brickAfter s x msg block =
+-- the brick after a message, with its block and, for Modify, the old block
+unfoldable pub brickAfter : Settings → ℕ → Brick → Message → (block old : List ℕ) → Brick
+brickAfter s brick x msg block old =
     cond (eqb (msg .kind) trimKind) (trimmedTo x (msg .time))
     (cond (eqb (msg .kind) writeKind) (writtenIfYes s x (msg .time) block)
-    (cond (eqb (msg .kind) readKind) x (orderedIfYes x (msg .time))))
+    (cond (eqb (msg .kind) modifyKind) (modifiedIfYes s brick x msg block old)
+    (cond (eqb (msg .kind) readKind) x (orderedIfYes x (msg .time)))))
 
 -- the bytes of the reply's block, or what the buffer held
 unfoldable pub blockAfter : Brick → ℕ → List ℕ → List ℕ

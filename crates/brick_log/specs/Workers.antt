@@ -1,15 +1,15 @@
 -- What the working log shows of the brick: the newest time, the lookup, the cut of a Trim.
 use mathlib.Core.Path.{_≡_}
-use mathlib.Core.Bool.{cond, _&&_}
+use mathlib.Core.Bool.{Bool, cond, _&&_}
 use mathlib.Core.List.{List}
 use Prim.Native.Nat.{ℕ, zero, suc, _+_, _-_, _*_, _≤_, _<_}
 use lib.Dec.{leb, ltb, eqb}
 use lib.ListN.{take, drop, getD}
-use Rattle.image.specs.Brick.{Brick, entryCount, newest}
+use Rattle.image.specs.Brick.{Brick, entryCount, timeAt, newest}
 use Rattle.image.specs.Parse.{brickIn}
 use Rattle.image.specs.Workers.{ImageOpened}
 use Rattle.settings.specs.declared.Settings.{Settings}
-use Rattle.image.specs.Opening.{placeIn, blank}
+use Rattle.image.specs.Opening.{holderOf, workingLog, blank}
 use Rattle.image.specs.declared.Entry.{Entry}
 use Rattle.message.specs.Flags.{member}
 use Rattle.message.specs.declared.Message.{Message}
@@ -20,7 +20,7 @@ use Rattle.brick_log.specs.declared.Plan.{Plan}
 use Rattle.brick_log.specs.declared.Looked.{Looked}
 use Rattle.brick_log.specs.declared.Looked.the-variants.{Under, Nothing}
 use Rattle.image_block.specs.Block.{blockBytes, heldFrom}
-use Rattle.message.specs.Kinds.{orderReadKind, readKind, trimKind}
+use Rattle.message.specs.Kinds.{orderReadKind, orderBlockKind, readKind, trimKind}
 use Rattle.settings.specs.Ranges.{maxCapacity}
 
 -- an opened image, with what is known of its brick
@@ -29,6 +29,7 @@ pub record LogReady (s : Settings) (brick : ℕ) (l : List ℕ) (k : Known) : Ty
   pub counts : k .count ≡ entryCount (brickIn s l)
   pub promises : k .promise ≡ brickIn s l .promise
   pub newests : k .newest ≡ newest (brickIn s l)
+  pub holders : k .holder ≡ holderOf (workingLog (brickIn s l)) (entryCount (brickIn s l) - 1)
   pub low : 1 ≤ k .count
   pub high : k .count ≤ s .capacity
   pub most : s .capacity ≤ maxCapacity
@@ -42,10 +43,10 @@ unfoldable pub underIn : List Entry → ℕ → ℕ → ℕ
 underIn log max zero = 0
 underIn log max (suc i) = cond (ltb (logTime log i) max) (suc i) (underIn log max i)
 
--- the answer of a lookup: the entry by its place and 1, none for 0
-unfoldable pub lookedIn : List Entry → ℕ → Looked
-lookedIn log zero = Nothing
-lookedIn log (suc i) = Under (getD log i blank)
+-- the answer of a lookup: the entry's place, from its place and 1; none for 0
+unfoldable pub lookedIn : ℕ → Looked
+lookedIn zero = Nothing
+lookedIn (suc i) = Under i
 
 -- the first place from d on, or the one n further, whose time is not under t
 unfoldable pub cutFrom : (ℕ → ℕ) → ℕ → ℕ → ℕ → ℕ
@@ -56,38 +57,67 @@ cutFrom times t d (suc n) = cond (ltb (times d) t) (cutFrom times t (d + 1) n) d
 unfoldable pub cutFor : List Entry → ℕ → ℕ → ℕ
 cutFor log n t = cutFrom (logTime log) t 0 (n - 1)
 
--- a plan by its parts
-unfoldable pub planOf : ℕ → ℕ → ℕ → Plan
-planOf place found cut = record { place = place; found = found; cut = cut }
+-- the place that a lookup gave is one of the working log
+unfoldable pub LookedLow : Looked → Type 0
+LookedLow (Under i) = i < maxCapacity
+LookedLow Nothing = Unit {0}
+
+-- a plan by its parts: what goes with a reply,
+unfoldable pub planOf : (place found : ℕ) → Plan
+planOf place found = record { place = place; found = found; cut = 0; holder = 0; lowest = 0 }
+
+-- or what a Trim cuts: so many entries, and the lowest that is kept
+unfoldable pub trimPlan : List Entry → ℕ → Plan
+trimPlan log d = record { place = 0; found = 0; cut = d; holder = holderOf log d; lowest = logTime log d }
 
 -- the plan for the answer of a lookup
-unfoldable pub planIn : Looked → Plan
-planIn (Under e) = planOf (placeIn (e .holding)) (e .time) 0
-planIn Nothing = planOf 0 0 0
+unfoldable pub planIn : List Entry → Looked → Plan
+planIn log (Under i) = planOf (holderOf log i) (logTime log i)
+planIn log Nothing = planOf 0 0
 
 -- the block that Read gives
 unfoldable pub readPlace : Known → List ℕ → ℕ → ℕ
-readPlace k targets brick = cond (leb (k .promise) (k .newest) && member targets brick) (k .count) 0
+readPlace k targets brick = cond (leb (k .promise) (k .newest) && member targets brick) (k .holder) 0
+
+-- an Order of the message's time is granted
+unfoldable pub granted : Known → Message → Bool
+granted k msg = ltb (k .newest) (msg .time) && leb (k .promise) (msg .time)
+
+-- what the first round of a block write gives
+unfoldable pub blockPlan : Known → Message → ℕ → Plan
+blockPlan k msg brick = cond (granted k msg) (planOf (cond (eqb brick (msg .block)) (k .holder) 0) (k .newest)) (planOf 0 0)
 
 -- the block that Order-and-read gives, by the entry's place and 1
 unfoldable pub underFor : List Entry → Known → Message → ℕ
-underFor log k msg = cond (ltb (k .newest) (msg .time) && leb (k .promise) (msg .time)) (underIn log (msg .max) (k .count)) 0
+underFor log k msg = cond (granted k msg) (underIn log (msg .max) (k .count)) 0
 
 -- what a message asks for, by its kind
 unfoldable pub planFor : List Entry → Known → Message → ℕ → Plan
 planFor log k msg brick =
-    cond (eqb (msg .kind) trimKind) (planOf 0 0 (cutFor log (k .count) (msg .time)))
-    (cond (eqb (msg .kind) readKind) (planOf (readPlace k (msg .targets) brick) (k .newest) 0)
-    (cond (eqb (msg .kind) orderReadKind) (planIn (lookedIn log (underFor log k msg))) (planOf 0 0 0)))
+    cond (eqb (msg .kind) trimKind) (trimPlan log (cutFor log (k .count) (msg .time)))
+    (cond (eqb (msg .kind) readKind) (planOf (readPlace k (msg .targets) brick) (k .newest))
+    (cond (eqb (msg .kind) orderReadKind) (planIn log (lookedIn (underFor log k msg)))
+    (cond (eqb (msg .kind) orderBlockKind) (blockPlan k msg brick) (planOf 0 0))))
 
 -- the bytes of a block of the image, or what the buffer held
 unfoldable pub gaveOf : List ℕ → ℕ → ℕ → List ℕ → List ℕ
 gaveOf l size place out = cond (eqb place 0) out (take size (drop (blockBytes * place + heldFrom) l))
 
+-- the block of the image that an entry means, by its place and 1; 0 for none
+unfoldable pub holderFor : Brick → ℕ → ℕ
+holderFor x place = cond (eqb place 0) 0 (holderOf (workingLog x) (place - 1))
+
 -- the plan is what the message asks of the brick
 pub record Ahead (brick : ℕ) (x : Brick) (k : Known) (msg : Message) (p : Plan) : Type 0 where
-  pub place-is : p .place ≡ placeFor brick x msg
+  pub place-is : p .place ≡ holderFor x (placeFor brick x msg)
   pub found-is : p .found ≡ foundFor brick x msg
-  pub place-high : p .place ≤ k .count
   pub cut-low : msg .kind ≡ trimKind → p .cut < k .count
   pub cut-is : msg .kind ≡ trimKind → trimmedTo x (msg .time) ≡ without x (p .cut)
+  pub holder-is : msg .kind ≡ trimKind → p .holder ≡ holderOf (workingLog x) (p .cut)
+  pub lowest-is : msg .kind ≡ trimKind → p .lowest ≡ timeAt x (p .cut)
+
+-- what a Trim is told: how many entries it drops, and of the lowest that it keeps the block of the image that it means and its time
+pub record TrimReady (x : Brick) (k : Known) (d holder lowest : ℕ) : Type 0 where
+  pub low : d < k .count
+  pub holder-is : holder ≡ holderOf (workingLog x) d
+  pub lowest-is : lowest ≡ timeAt x d

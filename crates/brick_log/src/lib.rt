@@ -5,52 +5,66 @@ ghost use mathlib.Core.Bool.{_&&_};
 ghost use Prim.Native.Nat.{_≤_, _<_, _+_, _*_};
 ghost use lib.Dec.{leb, ltb};
 ghost use Rattle.message.specs.Flags.{member};
-ghost use Rattle.brick_log.specs.Workers.{cutFor, underIn, lookedIn, planIn, readPlace, planFor, LogReady, gaveOf};
+ghost use Rattle.brick_log.specs.Workers.{cutFor, underIn, underFor, lookedIn, planOf, trimPlan, planIn, readPlace, blockPlan, planFor, LogReady};
+ghost use Rattle.brick_log.specs.Workers.{gaveOf, LookedLow, TrimReady};
 ghost use lib.ListN.{length};
 ghost use Rattle.image.specs.Image.{imageOf};
 ghost use Rattle.image.specs.Parse.{brickIn};
-ghost use Rattle.image_write.specs.Workers.{without};
+ghost use Rattle.image_write.specs.Workers.{without, slotOf};
 ghost use Rattle.brick_log.specs.BrickRules.{orderYes, orderedIfYes, writeYes, writtenIfYes, yesTo, brickAfter};
-ghost use Rattle.image_block.specs.Block.{blockBytes};
-ghost use Rattle.message.specs.Kinds.{trimKind};
+ghost use Rattle.brick_log.specs.BrickRules.{newestBlock, modifyYes, modifiedEntry, modifiedIfYes};
+ghost use Rattle.byte_lists.specs.Lists.{put};
+ghost use Rattle.erasure.specs.Recoding.{recodedBlock};
+ghost use Rattle.image_block.specs.Block.{blockBytes, entryBlock};
+ghost use Rattle.message.specs.Kinds.{trimKind, modifyKind};
 ghost use Rattle.settings.specs.Ranges.{maxBricks, maxCapacity, maxSize};
 use byte_lists::store;
+use erasure::recode_into;
 use image::Entry;
-use image::place_of;
+use image::holder_of;
 use image_block::BLOCK_BYTES;
 use image_block::ENTRY_HELD;
 use image_write::clear_blocks;
+use image_write::hold_own;
 use image_write::shift_blocks;
 use image_write::write_entry;
 use image_write::write_head;
+use image_write::write_mark;
+use message::MODIFY;
 use message::Message;
+use message::ORDER_BLOCK;
 use message::ORDER_READ;
 use message::READ;
 use message::TRIM;
 use message::WRITE;
 use settings::MAX_BRICKS;
 use settings::MAX_CAPACITY;
+use settings::MAX_SIZE;
 use settings::Settings;
 
-// What is known of an opened brick: how many entries, its promise and its newest time.
+// What is known of an opened brick: how many entries, its promise, its newest time, and the block of the image that the newest entry means.
 pub struct Known {
     pub count: usize,
     pub promise: u64,
     pub newest: u64,
+    pub holder: usize,
 }
 
-// The answer of a lookup: the entry that was found, or none.
+// The answer of a lookup: the place of the entry that was found, or none.
 enum Looked {
-    Under(Entry),
+    Under(usize),
     Nothing,
 }
 
 // What a message asks for, found in the working log: the block that goes with the reply, by its number in the image, 0 for none;
-// the time that the reply names; the entries that a Trim drops.
+// the time that the reply names; how many entries a Trim drops, and of the lowest that it keeps the block of the image that it means and
+// its time.
 pub struct Plan {
     pub place: usize,
     pub found: u64,
     pub cut: usize,
+    pub holder: usize,
+    pub lowest: u64,
 }
 
 // Whether an Order of that time is granted.
@@ -83,36 +97,58 @@ fn cut_for(log: [Entry; MAX_CAPACITY], count: usize, time: u64) -> usize
 // The highest entry under max.
 fn look_under(log: [Entry; MAX_CAPACITY], count: usize, max: u64) -> Looked
     requires { ⌜ count ≤ maxCapacity ⌝ }
-    ensures { λ r. ⌜ r ≡ lookedIn log (underIn log max count) ⌝ }
+    ensures { λ r. ⌜ r ≡ lookedIn (underIn log max count) ⌝ }
 {
     let mut n = count;
     while 0 < n {
         let i = n - 1;
         let e = log[i];
         if e.time < max {
-            return Looked::Under(e);
+            return Looked::Under(i);
         }
         n = i;
     }
     Looked::Nothing
 }
 
-// The block and the time of the entry that a lookup gave, 0 for none.
-fn entry_plan(found: Looked) -> Plan
-    ensures { λ r. ⌜ r ≡ planIn found ⌝ }
+// What goes with a reply, and nothing cut.
+fn reply_plan(place: usize, found: u64) -> Plan
+    ensures { λ r. ⌜ r ≡ planOf place found ⌝ }
 {
-    let Looked::Under(e) = found else {
-        return Plan {
-            place: 0,
-            found: 0,
-            cut: 0,
-        };
-    };
-    let h = e.holding;
     Plan {
-        place: place_of(h),
-        found: e.time,
+        place,
+        found,
         cut: 0,
+        holder: 0,
+        lowest: 0,
+    }
+}
+
+// The block and the time of the entry that a lookup gave, 0 for none.
+fn entry_plan(log: [Entry; MAX_CAPACITY], found: Looked) -> Plan
+    requires { ⌜ LookedLow found ⌝ }
+    ensures { λ r. ⌜ r ≡ planIn log found ⌝ }
+{
+    let Looked::Under(i) = found else {
+        return reply_plan(0, 0);
+    };
+    let e = log[i];
+    reply_plan(holder_of(log, i), e.time)
+}
+
+// What a Trim drops, and of the lowest entry that it keeps where its block stands and its time.
+fn trim_plan(log: [Entry; MAX_CAPACITY], count: usize, time: u64) -> Plan
+    requires { ⌜ (1 ≤ count) × (count ≤ maxCapacity) ⌝ }
+    ensures { λ r. ⌜ r ≡ trimPlan log (cutFor log count time) ⌝ }
+{
+    let d = cut_for(log, count, time);
+    let e = log[d];
+    Plan {
+        place: 0,
+        found: 0,
+        cut: d,
+        holder: holder_of(log, d),
+        lowest: e.time,
     }
 }
 
@@ -133,9 +169,34 @@ fn read_place(k: Known, targets: [u8; MAX_BRICKS], brick: usize) -> usize
         return 0;
     }
     if is_target(targets, brick) {
-        return k.count;
+        return k.holder;
     }
     0
+}
+
+// What Order-and-read gives: the highest entry under max.
+fn look_plan(log: [Entry; MAX_CAPACITY], k: Known, msg: Message) -> Plan
+    requires { ⌜ k .count ≤ maxCapacity ⌝ }
+    ensures { λ r. ⌜ r ≡ planIn log (lookedIn (underFor log k msg)) ⌝ }
+{
+    if order_yes(k.newest, k.promise, msg.time) {} else {
+        return reply_plan(0, 0);
+    }
+    let looked = look_under(log, k.count, msg.max);
+    entry_plan(log, looked)
+}
+
+// What the first round of a block write gives: the newest time, and brick j its block.
+fn block_plan(k: Known, msg: Message, brick: usize) -> Plan
+    ensures { λ r. ⌜ r ≡ blockPlan k msg brick ⌝ }
+{
+    if order_yes(k.newest, k.promise, msg.time) {} else {
+        return reply_plan(0, 0);
+    }
+    if brick == msg.block {
+        return reply_plan(k.holder, k.newest);
+    }
+    reply_plan(0, k.newest)
 }
 
 // What a message asks for.
@@ -146,33 +207,20 @@ pub fn plan_for(log: [Entry; MAX_CAPACITY], k: Known, msg: Message, brick: usize
 {
     let kind = msg.kind;
     if kind == TRIM {
-        let d = cut_for(log, k.count, msg.time);
-        return Plan {
-            place: 0,
-            found: 0,
-            cut: d,
-        };
+        return trim_plan(log, k.count, msg.time);
     }
     if kind == READ {
         let targets = msg.targets;
         let p = read_place(k, targets, brick);
-        return Plan {
-            place: p,
-            found: k.newest,
-            cut: 0,
-        };
+        return reply_plan(p, k.newest);
     }
     if kind == ORDER_READ {
-        if order_yes(k.newest, k.promise, msg.time) {
-            let looked = look_under(log, k.count, msg.max);
-            return entry_plan(looked);
-        }
+        return look_plan(log, k, msg);
     }
-    Plan {
-        place: 0,
-        found: 0,
-        cut: 0,
+    if kind == ORDER_BLOCK {
+        return block_plan(k, msg, brick);
     }
+    reply_plan(0, 0)
 }
 
 // The head with another promise, where that is granted.
@@ -188,6 +236,18 @@ fn order(s: Settings, brick: usize, image: &mut [u8], k: Known, time: u64) -> bo
     true
 }
 
+// Whether a store of that time is granted: as an Order, and an entry is free.
+fn store_yes(s: Settings, k: Known, time: u64) -> bool
+    requires { ⌜ k .count ≤ maxCapacity ⌝ }
+    ensures { λ r. ⌜ r ≡ ltb (k .newest) time && leb (k .promise) time && ltb (k .count) (s .capacity) ⌝ }
+{
+    if order_yes(k.newest, k.promise, time) {} else {
+        return false;
+    }
+    let next = k.count + 1;
+    next <= s.capacity
+}
+
 // An entry more, where that is granted.
 fn write(s: Settings, brick: usize, image: &mut [u8], k: Known, time: u64, block: &[u8]) -> bool
     requires { ⌜ LogReady s brick (now image) k ⌝ }
@@ -195,27 +255,170 @@ fn write(s: Settings, brick: usize, image: &mut [u8], k: Known, time: u64, block
     ensures { λ r. ⌜ r ≡ writeYes s (brickIn s (now (image .entry))) time ⌝ }
     ensures { λ r. ⌜ now (image .exit) ≡ imageOf s brick (writtenIfYes s (brickIn s (now (image .entry))) time (now (block .entry))) ⌝ }
 {
-    if order_yes(k.newest, k.promise, time) {} else {
+    if store_yes(s, k, time) {} else {
         return false;
     }
     let n = k.count + 1;
-    if s.capacity < n {
-        return false;
-    }
     write_entry(image, BLOCK_BYTES * n, time, block);
     write_head(s, brick, image, n, k.promise);
     true
 }
 
-// The entries from number d on, kept.
-pub fn trim(s: Settings, brick: usize, image: &mut [u8], k: Known, d: usize)
+// A parity brick's entry for Modify: its newest block recoded, in a buffer of that size.
+fn write_recoded_in(
+    s: Settings,
+    brick: usize,
+    image: &mut [u8],
+    k: Known,
+    msg: Message,
+    block: &[u8],
+    old: &[u8],
+    work: &mut [u8],
+)
     requires { ⌜ LogReady s brick (now image) k ⌝ }
-    requires { ⌜ d < k .count ⌝ }
+    requires { ⌜ (length (now block) ≡ s .size) × (length (now old) ≡ s .size) × (length (now work) ≡ s .size) ⌝ }
+    requires { ⌜ (msg .block < s .m) × (k .count < s .capacity) ⌝ }
+    ensures { λ _. ⌜ now (image .exit) ≡ put (blockBytes * (k .count + 1))
+        (entryBlock (msg .time)
+        (recodedBlock (s .n) (s .m) brick (msg .block) (newestBlock (brickIn s (now (image .entry)))) (now (old .entry)) (now (block .entry))))
+        (now (image .entry)) ⌝ }
+{
+    let from = BLOCK_BYTES * k.holder + ENTRY_HELD;
+    let e = from + s.size;
+    recode_into(
+        s.n,
+        s.m,
+        brick,
+        msg.block,
+        &image[from..e],
+        old,
+        block,
+        work,
+    );
+    write_entry(image, BLOCK_BYTES * (k.count + 1), msg.time, work);
+}
+
+// The same, in the front of a buffer that is long enough.
+fn write_recoded_by(
+    s: Settings,
+    brick: usize,
+    image: &mut [u8],
+    k: Known,
+    msg: Message,
+    block: &[u8],
+    old: &[u8],
+    work: &mut [u8],
+)
+    requires { ⌜ LogReady s brick (now image) k ⌝ }
+    requires { ⌜ (length (now block) ≡ s .size) × (length (now old) ≡ s .size) × (s .size ≤ length (now work)) ⌝ }
+    requires { ⌜ (msg .block < s .m) × (k .count < s .capacity) ⌝ }
+    ensures { λ _. ⌜ now (image .exit) ≡ put (blockBytes * (k .count + 1))
+        (entryBlock (msg .time)
+        (recodedBlock (s .n) (s .m) brick (msg .block) (newestBlock (brickIn s (now (image .entry)))) (now (old .entry)) (now (block .entry))))
+        (now (image .entry)) ⌝ }
+{
+    let size = s.size;
+    write_recoded_in(s, brick, image, k, msg, block, old, &mut work[..size])
+}
+
+// The same, with a buffer of its own.
+fn write_recoded(
+    s: Settings,
+    brick: usize,
+    image: &mut [u8],
+    k: Known,
+    msg: Message,
+    block: &[u8],
+    old: &[u8],
+)
+    requires { ⌜ LogReady s brick (now image) k ⌝ }
+    requires { ⌜ (length (now block) ≡ s .size) × (length (now old) ≡ s .size) ⌝ }
+    requires { ⌜ (msg .block < s .m) × (k .count < s .capacity) ⌝ }
+    ensures { λ _. ⌜ now (image .exit) ≡ put (blockBytes * (k .count + 1))
+        (entryBlock (msg .time)
+        (recodedBlock (s .n) (s .m) brick (msg .block) (newestBlock (brickIn s (now (image .entry)))) (now (old .entry)) (now (block .entry))))
+        (now (image .entry)) ⌝ }
+{
+    let mut b = [0u8; MAX_SIZE];
+    write_recoded_by(s, brick, image, k, msg, block, old, &mut b)
+}
+
+// A brick's entry for Modify: brick j stores the new block, another data brick a mark, a parity brick its block recoded.
+fn write_modified(
+    s: Settings,
+    brick: usize,
+    image: &mut [u8],
+    k: Known,
+    msg: Message,
+    block: &[u8],
+    old: &[u8],
+)
+    requires { ⌜ LogReady s brick (now image) k ⌝ }
+    requires { ⌜ (length (now block) ≡ s .size) × (length (now old) ≡ s .size) ⌝ }
+    requires { ⌜ (msg .block < s .m) × (k .count < s .capacity) ⌝ }
+    ensures { λ _. ⌜ now (image .exit) ≡ put (blockBytes * (k .count + 1))
+        (slotOf (s .size) (modifiedEntry s brick (brickIn s (now (image .entry))) msg (now (block .entry)) (now (old .entry))))
+        (now (image .entry)) ⌝ }
+{
+    let at = BLOCK_BYTES * (k.count + 1);
+    if brick == msg.block {
+        write_entry(image, at, msg.time, block);
+        return;
+    }
+    if brick < s.m {
+        write_mark(image, at, msg.time, s.size);
+        return;
+    }
+    write_recoded(s, brick, image, k, msg, block, old);
+}
+
+// Modify, where that is granted.
+fn modify(
+    s: Settings,
+    brick: usize,
+    image: &mut [u8],
+    k: Known,
+    msg: Message,
+    block: &[u8],
+    old: &[u8],
+) -> bool
+    requires { ⌜ LogReady s brick (now image) k ⌝ }
+    requires { ⌜ (length (now block) ≡ s .size) × (length (now old) ≡ s .size) ⌝ }
+    requires { ⌜ msg .block < s .m ⌝ }
+    ensures { λ r. ⌜ r ≡ modifyYes s (brickIn s (now (image .entry))) (msg .time) (msg .old) ⌝ }
+    ensures { λ r. ⌜ now (image .exit)
+        ≡ imageOf s brick (modifiedIfYes s brick (brickIn s (now (image .entry))) msg (now (block .entry)) (now (old .entry))) ⌝ }
+{
+    if k.newest != msg.old {
+        return false;
+    }
+    if store_yes(s, k, msg.time) {} else {
+        return false;
+    }
+    write_modified(s, brick, image, k, msg, block, old);
+    write_head(s, brick, image, k.count + 1, k.promise);
+    true
+}
+
+// The entries from number d on, kept; the lowest of them has that time, and gets its block, which stands in block `holder` of the image.
+pub fn trim(
+    s: Settings,
+    brick: usize,
+    image: &mut [u8],
+    k: Known,
+    d: usize,
+    holder: usize,
+    lowest: u64,
+)
+    requires { ⌜ LogReady s brick (now image) k ⌝ }
+    requires { ⌜ TrimReady (brickIn s (now image)) k d holder lowest ⌝ }
     ensures { λ _. ⌜ now (image .exit) ≡ imageOf s brick (without (brickIn s (now (image .entry))) d) ⌝ }
 {
     if d == 0 {
         return;
     }
+    let own = d + 1;
+    hold_own(image, s.size, own, holder, lowest);
     let kept = k.count - d;
     shift_blocks(image, d, kept);
     clear_blocks(image, kept + 1, k.count + 1);
@@ -243,18 +446,23 @@ pub fn change(
     k: Known,
     msg: Message,
     block: &[u8],
+    old: &[u8],
 ) -> bool
     requires { ⌜ LogReady s brick (now image) k ⌝ }
-    requires { ⌜ length (now block) ≡ s .size ⌝ }
-    requires { ⌜ (msg .kind ≡ trimKind → ⊥) ⌝ }
+    requires { ⌜ (length (now block) ≡ s .size) × (length (now old) ≡ s .size) ⌝ }
+    requires { ⌜ (msg .kind ≡ trimKind → ⊥) × (msg .kind ≡ modifyKind → msg .block < s .m) ⌝ }
     ensures { λ r. ⌜ r ≡ yesTo s (brickIn s (now (image .entry))) msg ⌝ }
-    ensures { λ r. ⌜ now (image .exit) ≡ imageOf s brick (brickAfter s (brickIn s (now (image .entry))) msg (now (block .entry))) ⌝ }
+    ensures { λ r. ⌜ now (image .exit)
+        ≡ imageOf s brick (brickAfter s brick (brickIn s (now (image .entry))) msg (now (block .entry)) (now (old .entry))) ⌝ }
 {
     if msg.kind == READ {
         return k.promise <= k.newest;
     }
     if msg.kind == WRITE {
         return write(s, brick, image, k, msg.time, block);
+    }
+    if msg.kind == MODIFY {
+        return modify(s, brick, image, k, msg, block, old);
     }
     order(s, brick, image, k, msg.time)
 }

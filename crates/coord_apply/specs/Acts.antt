@@ -1,23 +1,24 @@
 -- Document 01, "What a coordinator does": what a decision does, and how an operation begins and ends.
 use mathlib.Core.Bool.{cond}
 use mathlib.Core.List.{List, [], _∷_}
-use Prim.Native.Nat.{ℕ, _+_, _*_}
+use Prim.Native.Nat.{ℕ, _+_}
 use lib.Dec.{eqb, ltb}
 use lib.ListN.{getD, take}
 use Rattle.coord_apply.specs.Answers.{Buffered, Broadcast, Went, nothingSeen, beganSeen, okSeen, readSeen, abortedSeen}
-use Rattle.byte_lists.specs.Lists.{put}
-use Rattle.coord_record.specs.Records.{readingKind, idleWith, nothingCounted, noBricks}
+use Rattle.coord_record.specs.Records.{writingBlockKind, isReading, onBlock, targetCount, idleWith, nothingCounted, noBricks}
 use Rattle.coord_record.specs.declared.Coordinator.{Coordinator}
 use Rattle.coord_record.specs.declared.Op.{Op}
 use Rattle.coord_record.specs.declared.Tally.{Tally}
 use Rattle.coord_tally.specs.Counting.{picked, targetRow}
 use Rattle.coord_decide.specs.Deciding.{tallied, decided}
 use Rattle.coord_decide.specs.declared.Decision.{Decision}
-use Rattle.coord_decide.specs.declared.Decision.the-variants.{Abort, Give, Look, Store, Recover, Finish}
-use Rattle.erasure.specs.Code.{codedOf, decodedOf, blockOf}
+use Rattle.coord_decide.specs.declared.Decision.the-variants.{Abort, Give, Look, Store, Modify, Recover, Finish}
+use Rattle.erasure.specs.Code.{codedOf, decodedOf, blockOf, withBlock}
 use Rattle.byte_lists.specs.Lists.{stacked}
 use Rattle.message.specs.Flags.{members}
-use Rattle.message.specs.Kinds.{orderReadKind, writeKind, trimKind, firstRound}
+use Rattle.message.specs.Kinds.{orderReadKind, writeKind, modifyKind, trimKind, firstRound}
+use Rattle.message.specs.Messages.{namesBlock}
+use Rattle.coord_apply.specs.declared.Notice.{Notice}
 use Rattle.message.specs.declared.Message.{Message}
 use Rattle.message.specs.declared.Reply.{Reply}
 use Rattle.settings.specs.Ranges.{quorum}
@@ -31,13 +32,23 @@ unfoldable pub stripeFrom : ℕ → ℕ → List ℕ → List ℕ → List ℕ
 stripeFrom m size bricks blocks = decodedOf m size (take m bricks) (gathered m size bricks blocks)
 
 -- "messages and replies carry time and round"; E1: "Messages and replies gain a stripe number", that of the operation
-unfoldable pub roundMessage : Op → List ℕ → Message
-roundMessage op targets =
-    record { kind = op .phase; stripe = op .stripe; time = op .time; round = op .round; max = op .max; targets = targets }
+-- E2: the first round of a block write and Modify name the block, and Modify has the old time (`old`, 0 in any other)
+unfoldable pub roundMessage : Op → (old : ℕ) → (targets : List ℕ) → Message
+roundMessage op old targets =
+    record {
+      kind = op .phase;
+      stripe = op .stripe;
+      time = op .time;
+      round = op .round;
+      max = op .max;
+      old = old;
+      block = cond (namesBlock (op .phase)) (op .first) 0;
+      targets = targets;
+    }
 
 -- "Trim of the operation's time, with that round's number", on the operation's stripe
 unfoldable pub trimMessage : Op → Message
-trimMessage op = record { kind = trimKind; stripe = op .stripe; time = op .time; round = op .round; max = 0; targets = noBricks }
+trimMessage op = record { kind = trimKind; stripe = op .stripe; time = op .time; round = op .round; max = 0; old = 0; block = 0; targets = noBricks }
 
 -- "Rounds count from 1": the next round of an operation, on its stripe, with nothing counted
 unfoldable pub nextOp : Op → ℕ → ℕ → Op
@@ -53,9 +64,33 @@ unfoldable pub nextRound : Buffered → ℕ → ℕ → List ℕ → List ℕ �
 nextRound h phase max bricks stripe coded =
     record {
       next = record { state = opened (h .state) phase max bricks; blocks = h .blocks; stripe = stripe };
-      sent = record { message = roundMessage (nextOp (h .state .op) phase max) noBricks; blocks = coded } ∷ [];
+      sent = record { message = roundMessage (nextOp (h .state .op) phase max) 0 noBricks; blocks = coded; old = [] } ∷ [];
       seen = nothingSeen;
     }
+
+-- E2: "Modify goes out: old block, new block, that old time, own time": the new block from the stripe, the old one from brick j's reply
+unfoldable pub modifying : ℕ → Buffered → (time : ℕ) → Went
+modifying size h time =
+    record {
+      next = record { state = opened (h .state) modifyKind 0 noBricks; blocks = h .blocks; stripe = h .stripe };
+      sent =
+          record {
+            message = roundMessage (nextOp (h .state .op) modifyKind 0) time noBricks;
+            blocks = blockOf size (h .stripe) (h .state .op .first);
+            old = blockOf size (h .blocks) (h .state .op .first);
+          }
+          ∷ [];
+      seen = nothingSeen;
+    }
+
+-- the block that an operation is seen to be on, 0 for one on the stripe
+unfoldable pub seenBlock : Op → ℕ
+seenBlock op = cond (onBlock (op .kind)) (op .first) 0
+
+-- what is seen of an operation
+abbrev pub noticeOf : Op → (what : ℕ) → List ℕ → Notice
+noticeOf op what bricks =
+    record { what = what; kind = op .kind; stripe = op .stripe; time = op .time; block = seenBlock op; bricks = bricks }
 
 -- the operation ends, and its coordinator is idle
 unfoldable pub ending : Buffered → List ℕ → List Broadcast → ℕ → List ℕ → Went
@@ -63,36 +98,57 @@ ending h stripe sent what bricks =
     record {
       next = record { state = idleWith (h .state .geometry) (h .state .clock); blocks = h .blocks; stripe = stripe };
       sent = sent;
-      seen = record { what = what; kind = h .state .op .kind; stripe = h .state .op .stripe; time = h .state .op .time; bricks = bricks };
+      seen = noticeOf (h .state .op) what bricks;
     }
 
--- a write is ok; a read gives the stripe that it stored and names the bricks decoded from
+-- a write is ok; a read gives the stripe that it stored, or its block, and names the bricks decoded from
 unfoldable pub finishedSeen : Op → ℕ
-finishedSeen op = cond (eqb (op .kind) readingKind) readSeen okSeen
+finishedSeen op = cond (isReading (op .kind)) readSeen okSeen
+
+-- what a read of one round gives: "it decodes"; E2: of a read of block j, that block, from brick j
+unfoldable pub givenStripe : (n m size : ℕ) → Op → (blocks stripe : List ℕ) → List ℕ
+givenStripe n m size op blocks stripe =
+    cond (onBlock (op .kind)) (withBlock size stripe (op .first) (blockOf size blocks (op .first)))
+    (stripeFrom m size (targetRow n m (op .first)) blocks)
+
+-- what a recovery stores: the stripe decoded; E2: of a write of block j, "with block j replaced"
+unfoldable pub storedStripe : (size : ℕ) → Op → (stripe decoded : List ℕ) → List ℕ
+storedStripe size op stripe decoded =
+    cond (eqb (op .kind) writingBlockKind) (withBlock size decoded (op .first) (blockOf size stripe (op .first))) decoded
+
+-- the bricks that a recovery names: a read names those decoded from
+unfoldable pub namedBricks : Op → List ℕ → List ℕ
+namedBricks op row = cond (isReading (op .kind)) row noBricks
+
+-- the first m bricks that gave a time, and what a recovery from them stores
+abbrev pub pickedAt : (n m : ℕ) → Buffered → (time : ℕ) → List ℕ
+pickedAt n m h time = picked (h .state .tally .held) (h .state .tally .found) time n m
+
+abbrev pub recoveredStripe : (n m size : ℕ) → Buffered → (time : ℕ) → List ℕ
+recoveredStripe n m size h time = storedStripe size (h .state .op) (h .stripe) (stripeFrom m size (pickedAt n m h time) (h .blocks))
 
 -- What a decision does.
 unfoldable pub acted : ℕ → ℕ → ℕ → Buffered → Decision → Went
 -- "ends it aborted"
 acted n m size h Abort = ending h (h .stripe) [] abortedSeen noBricks
--- "If all q say yes with one newest time and every target is among them, it decodes."
+-- "If all q say yes with one newest time and every target is among them, it decodes." E2: "has brick j as its only target, and names it alone"
 acted n m size h Give =
-    ending h (stripeFrom m size (targetRow n m (h .state .op .first)) (h .blocks)) [] readSeen (targetRow n m (h .state .op .first))
+    ending h (givenStripe n m size (h .state .op) (h .blocks) (h .stripe)) [] readSeen
+    (targetRow n (targetCount m (h .state .op .kind)) (h .state .op .first))
 -- "Recovery: Order-and-read with max 2^44 .. With fewer, repeat with max = that time."
 acted n m size h (Look max) = nextRound h orderReadKind max noBricks (h .stripe) []
 -- "Order round, then a Write round sending brick j coded block j"
 acted n m size h Store = nextRound h writeKind 0 noBricks (h .stripe) (codedOf n m size (h .stripe))
+-- E2: "If all q times agree and brick j replied, Modify goes out"
+acted n m size h (Modify time) = modifying size h time
 -- "decode and store by a Write round under the operation's own time"
 acted n m size h (Recover time) =
-    nextRound h writeKind 0 (picked (h .state .tally .held) (h .state .tally .found) time n m)
-    (stripeFrom m size (picked (h .state .tally .held) (h .state .tally .found) time n m) (h .blocks))
-    (codedOf n m size (stripeFrom m size (picked (h .state .tally .held) (h .state .tally .found) time n m) (h .blocks)))
+    nextRound h writeKind 0 (namedBricks (h .state .op) (pickedAt n m h time)) (recoveredStripe n m size h time)
+    (codedOf n m size (recoveredStripe n m size h time))
 -- "After a finished Write round, Trim of the operation's time, with that round's number, is sent to all."
+-- E2: "Trim follows a finished Modify round too."
 acted n m size h Finish =
-    ending h (h .stripe) (record { message = trimMessage (h .state .op); blocks = [] } ∷ []) (finishedSeen (h .state .op)) (h .state .bricks)
-
--- a reply's block in its place
-unfoldable pub withReplyBlock : ℕ → ℕ → List ℕ → List ℕ → List ℕ
-withReplyBlock size b block blocks = put (b * size) block blocks
+    ending h (h .stripe) (record { message = trimMessage (h .state .op); blocks = []; old = [] } ∷ []) (finishedSeen (h .state .op)) (h .state .bricks)
 
 -- "The first reply of a brick in a round counts"
 unfoldable pub withTally : Coordinator → Tally → Coordinator
@@ -102,7 +158,7 @@ unfoldable pub counting : ℕ → Buffered → Reply → List ℕ → Buffered
 counting size h r block =
     record {
       state = withTally (h .state) (tallied (h .state .tally) r);
-      blocks = cond (r .held) (withReplyBlock size (r .brick) block (h .blocks)) (h .blocks);
+      blocks = cond (r .held) (withBlock size (h .blocks) (r .brick) block) (h .blocks);
       stripe = h .stripe;
     }
 
@@ -126,8 +182,8 @@ starting h clock op stripe targets =
             blocks = h .blocks;
             stripe = stripe;
           };
-      sent = record { message = roundMessage op targets; blocks = [] } ∷ [];
-      seen = record { what = beganSeen; kind = op .kind; stripe = op .stripe; time = op .time; bricks = noBricks };
+      sent = record { message = roundMessage op 0 targets; blocks = []; old = [] } ∷ [];
+      seen = noticeOf op beganSeen noBricks;
     }
 
 unfoldable pub buffered : Coordinator → List ℕ → List ℕ → Buffered

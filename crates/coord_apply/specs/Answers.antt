@@ -18,9 +18,11 @@ pub record Buffered : Type 0 where
   pub stripe : List ℕ
 
 -- One message to each of the n bricks; a Write round has a block for each, n blocks in a row.
+-- E2: Modify has "old block, new block" for all: `blocks` is then the new block and `old` the old one.
 pub record Broadcast : Type 0 where
   pub message : Message
   pub blocks : List ℕ
+  pub old : List ℕ
 
 pub record Went : Type 0 where
   pub next : Buffered
@@ -35,7 +37,7 @@ pub data Step : Type 0 where
 unfoldable pub afterChecks : ℕ → Step → Step
 afterChecks number step = cond (leb number 0) step (refused number)
 
--- What is seen: nothing, the beginning of an operation, or its end: ok, the stripe read, aborted, cut.
+-- What is seen: nothing, the beginning of an operation, or its end: ok, the stripe or block read, aborted, cut.
 abbrev pub noneSeen : ℕ
 noneSeen = 0
 
@@ -55,10 +57,10 @@ abbrev pub cutSeen : ℕ
 cutSeen = 5
 
 unfoldable pub nothingSeen : Notice
-nothingSeen = record { what = noneSeen; kind = idleKind; stripe = 0; time = 0; bricks = noBricks }
+nothingSeen = record { what = noneSeen; kind = idleKind; stripe = 0; time = 0; block = 0; bricks = noBricks }
 
 unfoldable pub noMessage : Message
-noMessage = record { kind = 0; stripe = 0; time = 0; round = 0; max = 0; targets = noBricks }
+noMessage = record { kind = 0; stripe = 0; time = 0; round = 0; max = 0; old = 0; block = 0; targets = noBricks }
 
 -- an answer has room for the messages of so many broadcasts
 abbrev pub mostBroadcasts : ℕ

@@ -3,24 +3,25 @@ use mathlib.Core.List.{List}
 use Prim.Native.Nat.{ℕ, _+_, _*_, _≤_, _<_}
 use lib.ListN.{getD, length}
 use Rattle.coord_apply.specs.Answers.{Buffered, nothingSeen, noMessage, went, sentBlocks, answerOf}
-use Rattle.coord_record.specs.Records.{idleWith, noBricks}
+use mathlib.Core.Bool.{true}
+use Rattle.coord_record.specs.Records.{onBlock, idleWith, noBricks}
 use Rattle.coord_record.specs.declared.Coordinator.{Coordinator}
 use Rattle.coord_decide.specs.declared.Decision.{Decision}
 use Rattle.message.specs.declared.Message.{Message}
 use Rattle.settings.specs.Ranges.{CodeRange}
 use mathlib.Core.Path.{_≡_}
 use Rattle.coord_apply.specs.declared.Answer.{Answer}
-use Rattle.coord_apply.specs.Acts.{roundMessage, nextOp, opened, acted}
+use Rattle.coord_apply.specs.Acts.{roundMessage, noticeOf, nextOp, opened, acted}
 use Rattle.message.specs.Kinds.{lastRound}
 
 -- the answers that open a round and that end an operation
-unfoldable pub openAnswer : Coordinator → ℕ → ℕ → List ℕ → Answer
-openAnswer c phase max bricks =
+unfoldable pub openAnswer : Coordinator → (phase max old : ℕ) → List ℕ → Answer
+openAnswer c phase max old bricks =
     record {
       refusal = 0;
       next = opened c phase max bricks;
       sent = 1;
-      message = roundMessage (nextOp (c .op) phase max) noBricks;
+      message = roundMessage (nextOp (c .op) phase max) old noBricks;
       second = noMessage;
       seen = nothingSeen;
     }
@@ -33,13 +34,14 @@ endAnswer c what bricks sent message =
       sent = sent;
       message = message;
       second = noMessage;
-      seen = record { what = what; kind = c .op .kind; stripe = c .op .stripe; time = c .op .time; bricks = bricks };
+      seen = noticeOf (c .op) what bricks;
     }
 
 -- what holds where a decision is carried out: the numbers are the lengths of the reply blocks and of the stripe
 pub record DecisionReady (n m size : ℕ) (c : Coordinator) (blocks stripe : ℕ) : Type 0 where
   pub range : CodeRange n m size
   pub first-low : c .op .first < n
+  pub block-low : onBlock (c .op .kind) ≡ true → c .op .first < m
   pub round-low : c .op .round ≤ lastRound
   pub blocks-length : blocks ≡ n * size
   pub stripe-length : stripe ≡ m * size

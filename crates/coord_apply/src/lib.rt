@@ -1,26 +1,29 @@
 // What a coordinator's decisions do (document 01, "What a coordinator does"). A routine gives one refusal, or the record that follows,
 // the broadcasts to all n bricks, and what is seen.
 // inner: call `coordinator::take_reply`
+ghost use mathlib.Core.Bool.{cond, true};
 ghost use mathlib.Core.Path.{_≡_};
 ghost use Prim.Native.Nat.{_+_, _*_, _≤_, _<_};
 ghost use lib.ListN.{length, take};
 ghost use Rattle.coord_apply.specs.Acts.{buffered};
 ghost use Rattle.coord_apply.specs.Workers.{DecisionReady, Acted, openAnswer, endAnswer};
-ghost use Rattle.coord_apply.specs.Acts.{gathered, stripeFrom, withReplyBlock, roundMessage, trimMessage, nextOp, finishedSeen};
+ghost use Rattle.coord_apply.specs.Acts.{gathered, stripeFrom, roundMessage, trimMessage, nextOp, finishedSeen};
+ghost use Rattle.coord_apply.specs.Acts.{seenBlock, noticeOf, givenStripe, storedStripe, namedBricks};
 ghost use Rattle.coord_tally.specs.Counting.{picked, targetRow, atTimes};
 ghost use Rattle.coord_decide.specs.Deciding.{decided};
-ghost use Rattle.erasure.specs.Code.{codedOf};
+ghost use Rattle.coord_record.specs.Records.{onBlock, targetCount};
+ghost use Rattle.erasure.specs.Code.{codedOf, blockOf, withBlock};
 ghost use Rattle.message.specs.Kinds.{writeKind, lastRound};
+ghost use Rattle.message.specs.Messages.{namesBlock};
 ghost use Rattle.settings.specs.Count.{count};
 ghost use Rattle.coord_apply.specs.Workers.{InPlace};
 ghost use Rattle.coord_apply.specs.Answers.{nothingSeen, noMessage, readSeen};
 ghost use Rattle.erasure.specs.Workers.{Encodes};
-ghost use Rattle.settings.specs.Ranges.{CodeRange, maxBricks, maxSize};
+ghost use Rattle.settings.specs.Ranges.{maxBricks, maxSize};
 ghost use Rattle.interpolate.specs.Values.{PointSet};
 use coord_decide::Decision;
 use coord_record::Coordinator;
 use coord_record::Op;
-use coord_record::Tally;
 use message::Message;
 use settings::MAX_BRICKS;
 
@@ -37,17 +40,20 @@ pub const ABORTED: u8 = 4;
 
 pub const CUT: u8 = 5;
 
-// what: one of these, of the operation of this kind, stripe and time. bricks: the m bricks that a finished read decoded from.
+// what: one of these, of the operation of this kind, stripe and time. block: the number of the block that it is on, 0 where it is on the
+// stripe. bricks: the bricks that a finished read decoded from, or the one that gave the block.
 pub struct Notice {
     pub what: u8,
     pub kind: u8,
     pub stripe: usize,
     pub time: u64,
+    pub block: usize,
     pub bricks: [u8; MAX_BRICKS],
 }
 
 // refusal: 0, or the number alone. next: the record that follows. sent: how many broadcasts there are, two at most, each to all n bricks.
-// message, second: what is sent, in this order; the blocks of a Write round stand in the lent output buffer.
+// message, second: what is sent, in this order; the blocks of a Write round stand in the lent output buffer. With Modify of block j go block j
+// of the lent stripe, the new one, and block j of the lent reply blocks, the old one.
 pub struct Answer {
     pub refusal: u32,
     pub next: Coordinator,
@@ -66,6 +72,7 @@ pub fn nothing_seen() -> Notice
         kind: coord_record::IDLE,
         stripe: 0,
         time: 0,
+        block: 0,
         bricks: [0u8; MAX_BRICKS],
     }
 }
@@ -80,6 +87,8 @@ pub fn no_message() -> Message
         time: 0,
         round: 0,
         max: 0,
+        old: 0,
+        block: 0,
         targets: [0u8; MAX_BRICKS],
     }
 }
@@ -87,7 +96,7 @@ pub fn no_message() -> Message
 // A reply's block in its place.
 pub fn place(size: usize, b: usize, block: &[u8], blocks: &mut [u8])
     requires { ⌜ (length (now block) ≡ size) × (b * size + size ≤ length (now blocks)) ⌝ }
-    ensures { λ _. ⌜ now (blocks .exit) ≡ withReplyBlock size b (now (block .entry)) (now (blocks .entry)) ⌝ }
+    ensures { λ _. ⌜ now (blocks .exit) ≡ withBlock size (now (blocks .entry)) b (now (block .entry)) ⌝ }
 {
     let at = b * size;
     let end = at + size;
@@ -147,9 +156,19 @@ fn decode_from(m: usize, size: usize, bricks: [u8; MAX_BRICKS], blocks: &[u8], s
     decode_by(m, size, bricks, blocks, &mut work, stripe)
 }
 
-// The message of a round, to all bricks, about the operation's stripe.
-pub fn round_message(op: Op, targets: [u8; MAX_BRICKS]) -> Message
-    ensures { λ r. ⌜ r ≡ roundMessage op targets ⌝ }
+// The block that a round's message names, 0 where it names none.
+fn named_block(op: Op) -> usize
+    ensures { λ r. ⌜ r ≡ cond (namesBlock (op .phase)) (op .first) 0 ⌝ }
+{
+    if message::names_block(op.phase) {
+        return op.first;
+    }
+    0
+}
+
+// The message of a round, to all bricks, about the operation's stripe; old: Modify's old time, else 0.
+pub fn round_message(op: Op, old: u64, targets: [u8; MAX_BRICKS]) -> Message
+    ensures { λ r. ⌜ r ≡ roundMessage op old targets ⌝ }
 {
     Message {
         kind: op.phase,
@@ -157,6 +176,8 @@ pub fn round_message(op: Op, targets: [u8; MAX_BRICKS]) -> Message
         time: op.time,
         round: op.round,
         max: op.max,
+        old,
+        block: named_block(op),
         targets,
     }
 }
@@ -171,6 +192,8 @@ fn trim_message(ended: Op) -> Message
         time: ended.time,
         round: ended.round,
         max: 0,
+        old: 0,
+        block: 0,
         targets: [0u8; MAX_BRICKS],
     }
 }
@@ -191,13 +214,13 @@ fn next_op(op: Op, phase: u8, max: u64) -> Op
     }
 }
 
-// The answer that opens the next round.
-fn open(c: Coordinator, phase: u8, max: u64, bricks: [u8; MAX_BRICKS]) -> Answer
+// The answer that opens the next round; old: Modify's old time, else 0.
+fn open(c: Coordinator, phase: u8, max: u64, old: u64, bricks: [u8; MAX_BRICKS]) -> Answer
     requires { ⌜ c .op .round ≤ lastRound ⌝ }
-    ensures { λ r. ⌜ r ≡ openAnswer c phase max bricks ⌝ }
+    ensures { λ r. ⌜ r ≡ openAnswer c phase max old bricks ⌝ }
 {
-    let old = c.op;
-    let op = next_op(old, phase, max);
+    let before = c.op;
+    let op = next_op(before, phase, max);
     let geometry = c.geometry;
     let clock = c.clock;
     let tally = coord_record::nothing_counted();
@@ -208,7 +231,7 @@ fn open(c: Coordinator, phase: u8, max: u64, bricks: [u8; MAX_BRICKS]) -> Answer
         tally,
         bricks,
     };
-    let message = round_message(op, [0u8; MAX_BRICKS]);
+    let message = round_message(op, old, [0u8; MAX_BRICKS]);
     let second = no_message();
     let seen = nothing_seen();
     Answer {
@@ -218,6 +241,30 @@ fn open(c: Coordinator, phase: u8, max: u64, bricks: [u8; MAX_BRICKS]) -> Answer
         message,
         second,
         seen,
+    }
+}
+
+// The block that an operation is seen to be on, 0 for one on the stripe.
+fn seen_block(op: Op) -> usize
+    ensures { λ r. ⌜ r ≡ seenBlock op ⌝ }
+{
+    if coord_record::on_block(op.kind) {
+        return op.first;
+    }
+    0
+}
+
+// What is seen of an operation.
+pub fn notice_of(op: Op, what: u8, bricks: [u8; MAX_BRICKS]) -> Notice
+    ensures { λ r. ⌜ r ≡ noticeOf op what bricks ⌝ }
+{
+    Notice {
+        what,
+        kind: op.kind,
+        stripe: op.stripe,
+        time: op.time,
+        block: seen_block(op),
+        bricks,
     }
 }
 
@@ -236,13 +283,7 @@ pub fn end(
     let op = c.op;
     let next = coord_record::idle_with(geometry, clock);
     let second = no_message();
-    let seen = Notice {
-        what,
-        kind: op.kind,
-        stripe: op.stripe,
-        time: op.time,
-        bricks,
-    };
+    let seen = notice_of(op, what, bricks);
     Answer {
         refusal: 0,
         next,
@@ -253,39 +294,129 @@ pub fn end(
     }
 }
 
-// Decodes from the targets and answers.
-fn give(n: usize, m: usize, size: usize, c: Coordinator, blocks: &[u8], stripe: &mut [u8]) -> Answer
+// Block j of one row of blocks in its place in another.
+fn copy_block(size: usize, j: usize, from: &[u8], to: &mut [u8])
+    requires { ⌜ (j * size + size ≤ length (now from)) × (j * size + size ≤ length (now to)) ⌝ }
+    ensures { λ _. ⌜ now (to .exit) ≡ withBlock size (now (to .entry)) j (blockOf size (now (from .entry)) j) ⌝ }
+{
+    let at = j * size;
+    let end = at + size;
+    byte_lists::copy(&from[at..end], &mut to[at..end])
+}
+
+// Decodes from the targets; of a read of one block takes that block alone, from its brick.
+fn take_given(
+    n: usize,
+    m: usize,
+    size: usize,
+    c: Coordinator,
+    row: [u8; MAX_BRICKS],
+    blocks: &[u8],
+    stripe: &mut [u8],
+)
     requires { ⌜ DecisionReady n m size c (length (now blocks)) (length (now stripe)) ⌝ }
-    ensures { λ r. ⌜ r ≡ endAnswer c readSeen (targetRow n m (c .op .first)) 0 noMessage ⌝ }
-    ensures { λ r. ⌜ now (stripe .exit) ≡ stripeFrom m size (targetRow n m (c .op .first)) (now (blocks .entry)) ⌝ }
+    requires { ⌜ row ≡ targetRow n (targetCount m (c .op .kind)) (c .op .first) ⌝ }
+    ensures { λ _. ⌜ now (stripe .exit) ≡ givenStripe n m size (c .op) (now (blocks .entry)) (now (stripe .entry)) ⌝ }
 {
     let op = c.op;
-    let row = coord_tally::target_row(n, m, op.first);
-    decode_from(m, size, row, blocks, stripe);
+    if coord_record::on_block(op.kind) {
+        copy_block(size, op.first, blocks, stripe)
+    } else {
+        decode_from(m, size, row, blocks, stripe)
+    }
+}
+
+// Gives what the targets gave, and names them.
+fn give(n: usize, m: usize, size: usize, c: Coordinator, blocks: &[u8], stripe: &mut [u8]) -> Answer
+    requires { ⌜ DecisionReady n m size c (length (now blocks)) (length (now stripe)) ⌝ }
+    ensures { λ r. ⌜ r ≡ endAnswer c readSeen (targetRow n (targetCount m (c .op .kind)) (c .op .first)) 0 noMessage ⌝ }
+    ensures { λ r. ⌜ now (stripe .exit) ≡ givenStripe n m size (c .op) (now (blocks .entry)) (now (stripe .entry)) ⌝ }
+{
+    let op = c.op;
+    let row = coord_tally::target_row(n, coord_record::target_count(m, op.kind), op.first);
+    take_given(n, m, size, c, row, blocks, stripe);
     end(c, STRIPE, row, 0, no_message())
 }
 
-// The first m bricks that gave this time, and the stripe that they decode to.
+// Decodes, and leaves block j of the stripe as it was: it is kept aside meanwhile, in a buffer that is long enough.
+fn decode_around(
+    m: usize,
+    size: usize,
+    j: usize,
+    row: [u8; MAX_BRICKS],
+    blocks: &[u8],
+    aside: &mut [u8],
+    stripe: &mut [u8],
+)
+    requires { ⌜ (m ≤ maxBricks) × (size ≤ maxSize) ⌝ }
+    requires { ⌜ (j * size + size ≤ length (now stripe)) × (length (now stripe) ≡ m * size) × (size ≤ length (now aside)) ⌝ }
+    requires { ⌜ PointSet (take m row) ⌝ }
+    requires { ⌜ InPlace m size row (now blocks) ⌝ }
+    ensures { λ _. ⌜ now (stripe .exit) ≡ withBlock size (stripeFrom m size row (now (blocks .entry))) j (blockOf size (now (stripe .entry)) j) ⌝ }
+{
+    let at = j * size;
+    let end = at + size;
+    byte_lists::store(aside, 0, &stripe[at..end]);
+    decode_from(m, size, row, blocks, stripe);
+    byte_lists::store(stripe, at, &aside[..size])
+}
+
+// What a recovery stores: the stripe that the blocks of a row of bricks decode to; of a block write with its own block in its place.
+fn decode_stored(
+    m: usize,
+    size: usize,
+    op: Op,
+    row: [u8; MAX_BRICKS],
+    blocks: &[u8],
+    stripe: &mut [u8],
+)
+    requires { ⌜ (m ≤ maxBricks) × (size ≤ maxSize) ⌝ }
+    requires { ⌜ (onBlock (op .kind) ≡ true → op .first < m) × (length (now stripe) ≡ m * size) ⌝ }
+    requires { ⌜ PointSet (take m row) ⌝ }
+    requires { ⌜ InPlace m size row (now blocks) ⌝ }
+    ensures { λ _. ⌜ now (stripe .exit) ≡ storedStripe size op (now (stripe .entry)) (stripeFrom m size row (now (blocks .entry))) ⌝ }
+{
+    if op.kind == coord_record::WRITING_BLOCK {
+        let mut aside = [0u8; settings::MAX_SIZE];
+        decode_around(m, size, op.first, row, blocks, &mut aside, stripe)
+    } else {
+        decode_from(m, size, row, blocks, stripe)
+    }
+}
+
+// The bricks that a recovery names: those decoded from, by a read.
+fn named_bricks(op: Op, row: [u8; MAX_BRICKS]) -> [u8; MAX_BRICKS]
+    ensures { λ r. ⌜ r ≡ namedBricks op row ⌝ }
+{
+    if coord_record::is_reading(op.kind) {
+        return row;
+    }
+    [0u8; MAX_BRICKS]
+}
+
+// Decodes from the first m bricks that gave this time, and gives those that the operation names.
 fn recover(
     n: usize,
     m: usize,
     size: usize,
-    t: Tally,
+    c: Coordinator,
     time: u64,
     blocks: &[u8],
     stripe: &mut [u8],
 ) -> [u8; MAX_BRICKS]
-    requires { ⌜ CodeRange n m size ⌝ }
-    requires { ⌜ (length (now blocks) ≡ n * size) × (length (now stripe) ≡ m * size) ⌝ }
-    requires { ⌜ m ≤ count (atTimes (t .held) (t .found) time) n ⌝ }
-    ensures { λ r. ⌜ r ≡ picked (t .held) (t .found) time n m ⌝ }
-    ensures { λ r. ⌜ now (stripe .exit) ≡ stripeFrom m size (picked (t .held) (t .found) time n m) (now (blocks .entry)) ⌝ }
+    requires { ⌜ DecisionReady n m size c (length (now blocks)) (length (now stripe)) ⌝ }
+    requires { ⌜ m ≤ count (atTimes (c .tally .held) (c .tally .found) time) n ⌝ }
+    ensures { λ r. ⌜ r ≡ namedBricks (c .op) (picked (c .tally .held) (c .tally .found) time n m) ⌝ }
+    ensures { λ r. ⌜ now (stripe .exit) ≡ storedStripe size (c .op) (now (stripe .entry))
+        (stripeFrom m size (picked (c .tally .held) (c .tally .found) time n m) (now (blocks .entry))) ⌝ }
 {
+    let t = c.tally;
+    let op = c.op;
     let held = t.held;
     let found = t.found;
     let row = coord_tally::pick(held, found, time, n, m);
-    decode_from(m, size, row, blocks, stripe);
-    row
+    decode_stored(m, size, op, row, blocks, stripe);
+    named_bricks(op, row)
 }
 
 // The Write round, which names the bricks that a recovered read decoded from.
@@ -300,18 +431,18 @@ fn store(
 ) -> Answer
     requires { ⌜ Encodes n m size (length (now stripe)) (length (now coded)) ⌝ }
     requires { ⌜ c .op .round ≤ lastRound ⌝ }
-    ensures { λ r. ⌜ r ≡ openAnswer c writeKind 0 row ⌝ }
+    ensures { λ r. ⌜ r ≡ openAnswer c writeKind 0 0 row ⌝ }
     ensures { λ r. ⌜ now (coded .exit) ≡ codedOf n m size (now (stripe .entry)) ⌝ }
 {
     erasure::encode_into(n, m, size, stripe, coded);
-    open(c, message::WRITE, 0, row)
+    open(c, message::WRITE, 0, 0, row)
 }
 
-// How a finished Write round is seen.
+// How a finished Write or Modify round is seen.
 fn finished_seen(op: Op) -> u8
     ensures { λ r. ⌜ r ≡ finishedSeen op ⌝ }
 {
-    if op.kind == coord_record::READING {
+    if coord_record::is_reading(op.kind) {
         return STRIPE;
     }
     OK
@@ -346,11 +477,11 @@ pub fn act(
     match d {
         Decision::Abort => end(c, ABORTED, [0u8; MAX_BRICKS], 0, no_message()),
         Decision::Give => give(n, m, size, c, blocks, stripe),
-        Decision::Look(max) => open(c, message::ORDER_READ, max, [0u8; MAX_BRICKS]),
+        Decision::Look(max) => open(c, message::ORDER_READ, max, 0, [0u8; MAX_BRICKS]),
         Decision::Store => store(n, m, size, c, [0u8; MAX_BRICKS], stripe, coded),
+        Decision::Modify(old) => open(c, message::MODIFY, 0, old, [0u8; MAX_BRICKS]),
         Decision::Recover(time) => {
-            let t = c.tally;
-            let row = recover(n, m, size, t, time, blocks, stripe);
+            let row = recover(n, m, size, c, time, blocks, stripe);
             store(n, m, size, c, row, stripe, coded)
         }
         Decision::Finish => finish(c),

@@ -4,15 +4,16 @@ use mathlib.Core.Bool.{false}
 use mathlib.Core.Logic.{_⊎_}
 use Prim.Native.Nat.{ℕ, _≤_, _<_}
 use Rattle.byte_lists.specs.Each.{some}
+use Rattle.coord_record.specs.Records.{targetCount}
 use Rattle.coord_record.specs.declared.Op.{Op}
 use Rattle.coord_record.specs.declared.Tally.{Tally}
 use Rattle.coord_tally.specs.Counting.{saidNo, otherTime, missing, highest, atTimes}
 use Rattle.coord_decide.specs.declared.Decision.{Decision}
-use Rattle.coord_decide.specs.declared.Decision.the-variants.{Abort, Give, Look, Store, Recover, Finish}
+use Rattle.coord_decide.specs.declared.Decision.the-variants.{Abort, Give, Look, Store, Modify, Recover, Finish}
 use Rattle.message.specs.Flags.{members}
 use Rattle.settings.specs.Count.{count}
 use Rattle.settings.specs.Times.{noUpperEnd}
-use Rattle.message.specs.Kinds.{lastRound, readKind, orderKind, orderReadKind}
+use Rattle.message.specs.Kinds.{lastRound, readKind, orderKind, orderReadKind, orderBlockKind}
 
 -- no counted brick said no
 unfoldable pub AllYes : ℕ → Tally → Type 0
@@ -29,11 +30,19 @@ pub record DecidesGive (n m : ℕ) (op : Op) (t : Tally) : Type 0 where
   pub phase-is : op .phase ≡ readKind
   pub all-yes : AllYes n t
   pub one-time : some (otherTime (t .counted) (t .found) (highest (t .counted) (t .found) n)) n ≡ false
-  pub targets-in : some (missing n m (op .first) (t .counted)) n ≡ false
+  pub targets-in : some (missing n (targetCount m (op .kind)) (op .first) (t .counted)) n ≡ false
 
 pub record Stores (n m : ℕ) (op : Op) (t : Tally) : Type 0 where
   pub phase-is : op .phase ≡ orderKind
   pub all-yes : AllYes n t
+
+-- Modify: the old time is the one newest time of all, and the block's brick is among them
+pub record Modifies (n m : ℕ) (op : Op) (t : Tally) (time : ℕ) : Type 0 where
+  pub phase-is : op .phase ≡ orderBlockKind
+  pub all-yes : AllYes n t
+  pub one-time : some (otherTime (t .counted) (t .found) (highest (t .counted) (t .found) n)) n ≡ false
+  pub target-in : some (missing n (targetCount m (op .kind)) (op .first) (t .counted)) n ≡ false
+  pub time-is : time ≡ highest (t .counted) (t .found) n
 
 pub record Recovers (n m : ℕ) (op : Op) (t : Tally) (time : ℕ) : Type 0 where
   pub phase-is : op .phase ≡ orderReadKind
@@ -56,6 +65,7 @@ pub record Lowers (n m : ℕ) (op : Op) (t : Tally) (time : ℕ) : Type 0 where
 pub record Finishes (n m : ℕ) (op : Op) (t : Tally) : Type 0 where
   pub not-read : op .phase ≡ readKind → ⊥
   pub not-order : op .phase ≡ orderKind → ⊥
+  pub not-block-order : op .phase ≡ orderBlockKind → ⊥
   pub not-recovery : op .phase ≡ orderReadKind → ⊥
   pub all-yes : AllYes n t
 
@@ -63,7 +73,9 @@ pub record Finishes (n m : ℕ) (op : Op) (t : Tally) : Type 0 where
 unfoldable pub DecisionSays : ℕ → ℕ → Op → Tally → Decision → Type 0
 DecisionSays n m op t Abort = Unit {0}
 DecisionSays n m op t Give = DecidesGive n m op t
-DecisionSays n m op t (Look max) = ((op .phase ≡ readKind) × (max ≡ noUpperEnd)) ⊎ Lowers n m op t max
+DecisionSays n m op t (Look max) =
+    ((op .phase ≡ readKind) × (max ≡ noUpperEnd)) ⊎ (((op .phase ≡ orderBlockKind) × AllYes n t × (max ≡ noUpperEnd)) ⊎ Lowers n m op t max)
 DecisionSays n m op t Store = Stores n m op t
+DecisionSays n m op t (Modify time) = Modifies n m op t time
 DecisionSays n m op t (Recover time) = Recovers n m op t time
 DecisionSays n m op t Finish = Finishes n m op t

@@ -2,7 +2,8 @@
 // inner: call `coordinator::take_reply`
 ghost use mathlib.Core.Path.{_≡_};
 ghost use Prim.Native.Nat.{_≤_, _<_};
-ghost use Rattle.coord_decide.specs.Deciding.{answers, tallied, decidedRead, decidedAt, decided};
+ghost use Rattle.coord_decide.specs.Deciding.{answers, tallied, apart, decidedRead, decidedBlockOrder, decidedAt, decided};
+ghost use Rattle.coord_tally.specs.Counting.{highest};
 ghost use Rattle.settings.specs.Count.{one-if};
 ghost use Rattle.settings.specs.Ranges.{maxBricks};
 use coord_record::Op;
@@ -13,6 +14,7 @@ use coord_tally::any_other;
 use coord_tally::count_at;
 use coord_tally::highest_of;
 use message::ORDER;
+use message::ORDER_BLOCK;
 use message::ORDER_READ;
 use message::READ;
 use message::Reply;
@@ -27,9 +29,11 @@ pub enum Decision {
     Look(u64),
     // the Write round of a write
     Store,
+    // the Modify round of a block write, with this old time
+    Modify(u64),
     // decode from bricks that gave this time, then the Write round
     Recover(u64),
-    // the Write round is finished: answer, and Trim
+    // the Write or Modify round is finished: answer, and Trim
     Finish,
 }
 
@@ -88,12 +92,28 @@ pub fn reply_answers(n: usize, m: usize, op: Op, t: Tally, reply: Reply) -> bool
     if counted[b] == 1 {
         return false;
     }
-    let target = coord_record::is_target(n, m, op.first, b);
+    let targets = coord_record::target_count(m, op.kind);
+    let target = coord_record::is_target(n, targets, op.first, b);
     coord_record::block_right(op.phase, target, reply.yes, reply.held, reply.found)
 }
 
 // "Recovery: Order-and-read with max 2^44": the first recovery round has no upper end.
 const FIRST_MAX: u64 = settings::NO_UPPER_END;
+
+// Whether the counted replies differ in their newest times, or one of the targets is not among them.
+fn times_apart(n: usize, targets: usize, op: Op, t: Tally, newest: u64) -> bool
+    requires { ⌜ n ≤ maxBricks ⌝ }
+    requires { ⌜ op .first < n ⌝ }
+    requires { ⌜ newest ≡ highest (t .counted) (t .found) n ⌝ }
+    ensures { λ r. ⌜ r ≡ apart n targets op t ⌝ }
+{
+    let counted = t.counted;
+    let found = t.found;
+    if any_other(counted, found, newest, n) {
+        return true;
+    }
+    any_missing(n, targets, op.first, counted)
+}
 
 // What the q-th reply of a Read round decides: a no does not abort it, the read recovers.
 fn decide_read(n: usize, m: usize, op: Op, t: Tally) -> Decision
@@ -105,16 +125,28 @@ fn decide_read(n: usize, m: usize, op: Op, t: Tally) -> Decision
     let granted = t.granted;
     let found = t.found;
     let newest = highest_of(counted, found, n);
-    if any_other(counted, found, newest, n) {
-        return Decision::Look(FIRST_MAX);
-    }
-    if any_missing(n, m, op.first, counted) {
+    if times_apart(n, coord_record::target_count(m, op.kind), op, t, newest) {
         return Decision::Look(FIRST_MAX);
     }
     if any_no(counted, granted, n) {} else {
         return Decision::Give;
     }
     Decision::Look(FIRST_MAX)
+}
+
+// What the q-th reply of a block write's first round decides, where none said no.
+fn decide_block_order(n: usize, m: usize, op: Op, t: Tally) -> Decision
+    requires { ⌜ n ≤ maxBricks ⌝ }
+    requires { ⌜ op .first < n ⌝ }
+    ensures { λ r. ⌜ r ≡ decidedBlockOrder n m op t ⌝ }
+{
+    let counted = t.counted;
+    let found = t.found;
+    let old = highest_of(counted, found, n);
+    if times_apart(n, coord_record::target_count(m, op.kind), op, t, old) {
+        return Decision::Look(FIRST_MAX);
+    }
+    Decision::Modify(old)
 }
 
 // What the q-th reply of an Order-and-read round decides, where a block is held and this is the highest time found.
@@ -155,6 +187,9 @@ pub fn decide(n: usize, m: usize, op: Op, t: Tally) -> Decision
     }
     if op.phase == ORDER {
         return Decision::Store;
+    }
+    if op.phase == ORDER_BLOCK {
+        return decide_block_order(n, m, op, t);
     }
     if op.phase == ORDER_READ {
         let held = t.held;

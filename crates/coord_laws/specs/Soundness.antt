@@ -5,6 +5,7 @@ use Rattle.coord_record.specs.declared.Tally.{Tally}
 use mathlib.Core.Bool.{true}
 use Prim.Native.Nat.{ℕ, _≤_, _<_}
 use Rattle.coord_record.specs.CountedRules.{tallyRight, bricksRight}
+use Rattle.coord_record.specs.Records.{onBlock, targetCount}
 use Rattle.coord_record.specs.Sound.{sameGeometry, opRight, timeRight, namedCount}
 use Rattle.coord_record.specs.SoundParts.{SoundParts}
 use Rattle.coord_record.specs.declared.Coordinator.{Coordinator}
@@ -30,8 +31,9 @@ pub record Full (n m size stripes : ℕ) (c : Coordinator) : Type 0 where
   pub last-low : c .clock .last ≤ maxCount
   pub first-low : c .op .first < n
   pub stripe-low : c .op .stripe < stripes
+  pub block-low : onBlock (c .op .kind) ≡ true → c .op .first < m
   pub op-right : opRight (c .op) ≡ true
   pub time-right : timeRight (c .op .kind) (c .op .time) (c .clock) ≡ true
   pub bricks-right : bricksRight n (namedCount m (c .op)) (c .bricks) ≡ true
-  pub tally-right : tallyRight n m (c .op .phase) (c .op .first) (c .tally) ≡ true
+  pub tally-right : tallyRight n (targetCount m (c .op .kind)) (c .op .phase) (c .op .first) (c .tally) ≡ true
   pub sizes : Sized (c .tally)

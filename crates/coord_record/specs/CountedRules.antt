@@ -6,7 +6,7 @@ use lib.Dec.{eqb, leb, ltb}
 use lib.ListN.{getD}
 use Rattle.byte_lists.specs.Each.{each}
 use Rattle.coord_record.specs.declared.Tally.{Tally}
-use Rattle.message.specs.Kinds.{readKind, orderReadKind}
+use Rattle.message.specs.Kinds.{readKind, orderReadKind, orderBlockKind}
 use Rattle.message.specs.Messages.{foundRight}
 use Rattle.settings.specs.Ranges.{maxBricks}
 
@@ -19,11 +19,13 @@ isTarget n m first b = ltb (stepsAbove n first b) m
 
 -- "with a block missing or present against the rules of that round":
 -- Read: "its block if yes and the brick is a target". Order-and-read: "on yes gives the entry holding a block .., and its time.
--- With none, or on a no, time 0 and no block". Order, Write: no block, and no time.
+-- With none, or on a no, time 0 and no block". E2's first round of a block write: "every brick gives its newest time and brick j its block";
+-- on a no time 0 and no block. Order, Write, Modify: no block, and no time.
 unfoldable pub blockRight : ℕ → Bool → Bool → Bool → ℕ → Bool
 blockRight phase target granted held found =
     cond (eqb phase readKind) (cond (granted && target) held (not held))
-    (cond (eqb phase orderReadKind) (cond held granted (eqb found 0)) (not held && eqb found 0))
+    (cond (eqb phase orderReadKind) (cond held granted (eqb found 0))
+    (cond (eqb phase orderBlockKind && granted) (cond target held (not held)) (not held && eqb found 0)))
 
 -- what is kept of brick b's reply: flags of 0 and 1, a time that a reply may have, the block and the time by the round's rules
 unfoldable pub countedRight : ℕ → ℕ → ℕ → ℕ → ℕ → ℕ → ℕ → ℕ → Bool

@@ -3,14 +3,17 @@
 // inner: call `coordinator::start_read`
 ghost use mathlib.Core.Path.{_≡_};
 ghost use Prim.Native.Nat.{_≤_, _<_};
-ghost use Rattle.coord_record.specs.Records.{noOp, nothingCounted, idleWith};
+ghost use Rattle.coord_record.specs.Records.{isReading, onBlock, targetCount, noOp, nothingCounted, idleWith};
 ghost use Rattle.coord_record.specs.CountedRules.{isTarget, blockRight, countedRight, entryRight, tallyRight, brickRight, bricksRight};
 ghost use Rattle.message.specs.Messages.{foundRight};
-ghost use Rattle.coord_record.specs.Sound.{maxRight, storedRight, readRight, writeRight, unsetOp, opRight, timeRight, namedCount, filledRight};
+ghost use Rattle.coord_record.specs.Sound.{maxRight, storedRight, recoveryRight, openingRight, readRight, writeRight, blockWriteRight, unsetOp};
+ghost use Rattle.coord_record.specs.Sound.{opRight, blockLow, timeRight, namedCount, filledRight};
 ghost use Rattle.coord_record.specs.Sound.{sameGeometry, rulesKept, soundRecord};
 ghost use Rattle.settings.specs.Times.{maxCount, lastCoordinator};
 ghost use Rattle.settings.specs.Ranges.{maxBricks};
+use message::MODIFY;
 use message::ORDER;
+use message::ORDER_BLOCK;
 use message::ORDER_READ;
 use message::READ;
 use message::WRITE;
@@ -24,8 +27,13 @@ pub const READING: u8 = 1;
 
 pub const WRITING: u8 = 2;
 
+pub const READING_BLOCK: u8 = 3;
+
+pub const WRITING_BLOCK: u8 = 4;
+
 // The running operation. phase: the kind of the open round's messages. stripe: the number of the stripe that it is on. max: of an
-// Order-and-read round. first: the brick that a read's targets are counted upward from. A field without meaning is 0.
+// Order-and-read round. first: the brick that a read's targets are counted upward from; of an operation on one block that block's number,
+// which is its brick's. A field without meaning is 0.
 pub struct Op {
     pub kind: u8,
     pub phase: u8,
@@ -59,6 +67,30 @@ pub struct Coordinator {
     pub op: Op,
     pub tally: Tally,
     pub bricks: [u8; MAX_BRICKS],
+}
+
+// Whether a kind is that of a read, of the stripe or of one block.
+pub fn is_reading(kind: u8) -> bool
+    ensures { λ r. ⌜ r ≡ isReading kind ⌝ }
+{
+    kind == READING || kind == READING_BLOCK
+}
+
+// Whether a kind is that of an operation on one block.
+pub fn on_block(kind: u8) -> bool
+    ensures { λ r. ⌜ r ≡ onBlock kind ⌝ }
+{
+    kind == READING_BLOCK || kind == WRITING_BLOCK
+}
+
+// How many bricks, counted upward from the first, are asked for their block in the first round.
+pub fn target_count(m: usize, kind: u8) -> usize
+    ensures { λ r. ⌜ r ≡ targetCount m kind ⌝ }
+{
+    if on_block(kind) {
+        return message::BLOCK_TARGETS;
+    }
+    m
 }
 
 // No operation.
@@ -126,6 +158,18 @@ pub fn block_right(phase: u8, target: bool, granted: bool, held: bool, found: u6
             return !held;
         }
         return !held;
+    }
+    if phase == ORDER_BLOCK {
+        if granted {
+            if target {
+                return held;
+            }
+            return !held;
+        }
+        if held {
+            return false;
+        }
+        return found == 0;
     }
     if held {
         if phase == ORDER_READ {
@@ -283,16 +327,46 @@ fn max_right(round: u64, max: u64) -> bool
     settings::is_time(max)
 }
 
+// Whether round and max are those of an operation's first round.
+fn opening_right(op: Op) -> bool
+    ensures { λ r. ⌜ r ≡ openingRight op ⌝ }
+{
+    if op.round == message::FIRST_ROUND {
+        return op.max == 0;
+    }
+    false
+}
+
 // Whether round and max are those of a read's phase.
 fn read_right(op: Op) -> bool
     ensures { λ r. ⌜ r ≡ readRight op ⌝ }
 {
     if op.phase == READ {
-        if op.round == message::FIRST_ROUND {
+        return opening_right(op);
+    }
+    recovery_right(op)
+}
+
+// Whether round and max are those of a block write's phase.
+fn block_write_right(op: Op) -> bool
+    ensures { λ r. ⌜ r ≡ blockWriteRight op ⌝ }
+{
+    if op.phase == ORDER_BLOCK {
+        return opening_right(op);
+    }
+    if op.phase == MODIFY {
+        if op.round == message::SECOND_ROUND {
             return op.max == 0;
         }
         return false;
     }
+    recovery_right(op)
+}
+
+// Whether round and max are those of a recovery's phase.
+fn recovery_right(op: Op) -> bool
+    ensures { λ r. ⌜ r ≡ recoveryRight op ⌝ }
+{
     if op.phase == ORDER_READ {
         if op.round < message::SECOND_ROUND {
             return false;
@@ -305,7 +379,7 @@ fn read_right(op: Op) -> bool
     stored_right(op)
 }
 
-// The same of a read's Write round.
+// The same of its Write round.
 fn stored_right(op: Op) -> bool
     ensures { λ r. ⌜ r ≡ storedRight op ⌝ }
 {
@@ -366,13 +440,26 @@ fn op_right(op: Op) -> bool
     if op.kind == IDLE {
         return unset(op);
     }
-    if op.kind == READING {
+    if is_reading(op.kind) {
         return read_right(op);
     }
     if op.kind == WRITING {
         return write_right(op);
     }
+    if op.kind == WRITING_BLOCK {
+        return block_write_right(op);
+    }
     false
+}
+
+// Whether an operation on one block is on one of m.
+fn block_low(m: usize, op: Op) -> bool
+    ensures { λ r. ⌜ r ≡ blockLow m op ⌝ }
+{
+    if on_block(op.kind) {
+        return op.first < m;
+    }
+    true
 }
 
 // Whether the operation's time is the one drawn last.
@@ -394,7 +481,7 @@ fn time_right(kind: u8, time: u64, clock: Clock) -> bool
 fn named_count(m: usize, op: Op) -> usize
     ensures { λ r. ⌜ r ≡ namedCount m op ⌝ }
 {
-    if op.kind == READING {
+    if is_reading(op.kind) {
         if op.phase == WRITE {
             return m;
         }
@@ -431,7 +518,7 @@ impl Coordinator {
         let tally = self.tally;
         let bricks = self.bricks;
         if bricks_right(n, named_count(m, op), bricks) {
-            if tally_right(n, m, op.phase, op.first, tally) {
+            if tally_right(n, target_count(m, op.kind), op.phase, op.first, tally) {
                 let counted = tally.counted;
                 return message::members_of(counted, n) < settings::quorum_of(n, m);
             }
@@ -468,6 +555,9 @@ impl Coordinator {
             return false;
         }
         if stripes <= op.stripe {
+            return false;
+        }
+        if block_low(m, op) {} else {
             return false;
         }
         if op_right(op) {

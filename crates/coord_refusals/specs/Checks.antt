@@ -1,5 +1,6 @@
 -- "Refused by number, lowest first": the checks of each routine, in their order. E1: "New numbers: 13, a stripe not below S ..,
--- checked after 3." The number of a stripe is `number`; `stripe` is the length of the lent stripe.
+-- checked after 3." E2: "14, a data block number not below m, checked after 13." The number of a stripe is `number`; `stripe` is the length of the
+-- lent stripe.
 use mathlib.Core.Bool.{Bool, not, _&&_, _||_}
 use mathlib.Core.List.{List, [], _∷_}
 use Prim.Native.Nat.{ℕ, _*_}
@@ -10,7 +11,7 @@ use Rattle.coord_record.specs.declared.Coordinator.{Coordinator}
 use Rattle.coord_decide.specs.Deciding.{answers}
 use Rattle.message.specs.Messages.{replyRefusal}
 use Rattle.message.specs.declared.Reply.{Reply}
-use Rattle.settings.specs.Ranges.{codeRefusal, stripeCountRefusal, stripeRefusal}
+use Rattle.settings.specs.Ranges.{codeRefusal, stripeCountRefusal, stripeRefusal, dataBlockRefusal}
 use Rattle.settings.specs.Refusal.{firstRefusal, refuseUnless, badLength, badNumber, badRecord, busy, strayReply}
 use Rattle.settings.specs.Times.{drawRefusal, lastCoordinator}
 
@@ -41,6 +42,26 @@ readChecks n m size stripes c number first more =
     ∷ refuseUnless (ltb first n) badNumber
     ∷ stripeChecks n m size stripes c number more
 
+-- an operation on one block: the checks of a stripe's number, and after that a data block that the stripe does not have
+unfoldable pub blockChecks : (n m size stripes : ℕ) → Coordinator → (number block : ℕ) → List ℕ → List ℕ
+blockChecks n m size stripes c number block more =
+    refuseUnless (leb (c .clock .coordinator) lastCoordinator) badNumber
+    ∷ stripeRefusal stripes number
+    ∷ dataBlockRefusal m block ∷ refuseUnless (soundRecord n m size stripes c) badRecord ∷ more
+
+-- a read of one block, before its time is drawn
+unfoldable pub readBlockChecks : (n m size stripes : ℕ) → Coordinator → (number block : ℕ) → List ℕ → List ℕ
+readBlockChecks n m size stripes c number block more =
+    codeRefusal n m size ∷ stripeCountRefusal stripes ∷ blockChecks n m size stripes c number block more
+
+-- a write of one block, before its time is drawn: the bytes are one block, and the lent stripe has m
+unfoldable pub writeBlockChecks : (n m size stripes : ℕ) → Coordinator → (number block bytes stripe : ℕ) → List ℕ → List ℕ
+writeBlockChecks n m size stripes c number block bytes stripe more =
+    codeRefusal n m size
+    ∷ stripeCountRefusal stripes
+    ∷ refuseUnless (eqb bytes size && eqb stripe (m * size)) badLength
+    ∷ blockChecks n m size stripes c number block more
+
 -- then every start asks for a reading in range, a count left, no operation
 unfoldable pub startChecks : Coordinator → ℕ → List ℕ
 startChecks c reading = drawRefusal (c .clock) reading ∷ refuseUnless (eqb (c .op .kind) idleKind) busy ∷ []
@@ -51,6 +72,14 @@ writeRefusal n m size stripes c number reading bytes stripe =
 
 unfoldable pub readRefusal : (n m size stripes : ℕ) → Coordinator → (number reading first : ℕ) → ℕ
 readRefusal n m size stripes c number reading first = firstRefusal (readChecks n m size stripes c number first (startChecks c reading))
+
+unfoldable pub readBlockRefusal : (n m size stripes : ℕ) → Coordinator → (number reading block : ℕ) → ℕ
+readBlockRefusal n m size stripes c number reading block =
+    firstRefusal (readBlockChecks n m size stripes c number block (startChecks c reading))
+
+unfoldable pub writeBlockRefusal : (n m size stripes : ℕ) → Coordinator → (number reading block bytes stripe : ℕ) → ℕ
+writeBlockRefusal n m size stripes c number reading block bytes stripe =
+    firstRefusal (writeBlockChecks n m size stripes c number block bytes stripe (startChecks c reading))
 
 -- the lent buffers of a reply: n blocks of replies, m of the stripe, n to send, and the block that it holds
 unfoldable pub lengthsRight : ℕ → ℕ → ℕ → Bool → ℕ → ℕ → ℕ → ℕ → Bool

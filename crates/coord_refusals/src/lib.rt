@@ -5,6 +5,7 @@ ghost use mathlib.Core.Bool.{true};
 ghost use mathlib.Core.List.{[], _∷_};
 ghost use Prim.Native.Nat.{_*_, _≤_, _<_};
 ghost use Rattle.coord_refusals.specs.Checks.{recordChecks, stripeChecks, writeChecks, readChecks, lengthsRight, strayChecks, takeRefusal, crashRefusal};
+ghost use Rattle.coord_refusals.specs.Checks.{blockChecks, readBlockChecks, writeBlockChecks};
 ghost use Rattle.settings.specs.Ranges.{CodeRange, maxBricks, codeRefusal, stripeCountRefusal};
 ghost use Rattle.settings.specs.Refusal.{firstRefusal};
 use coord_record::Coordinator;
@@ -112,6 +113,84 @@ pub fn read_refusal(
         return BAD_NUMBER;
     }
     stripe_refusal(n, m, size, stripes, c, stripe_number)
+}
+
+// 3 for a coordinator number above 15, 13 for a stripe that the volume does not have, 14 for a data block that the stripe does not have,
+// 6 for a record that is not sound, else 0.
+fn block_refusal(
+    n: usize,
+    m: usize,
+    size: usize,
+    stripes: usize,
+    c: Coordinator,
+    stripe_number: usize,
+    block: usize,
+) -> u32
+    requires { ⌜ n ≤ maxBricks ⌝ }
+    ensures { λ r. ⌜ r ≡ firstRefusal (blockChecks n m size stripes c «stripe_number» block []) ⌝ }
+{
+    let clock = c.clock;
+    if settings::LAST_COORDINATOR < clock.coordinator {
+        return BAD_NUMBER;
+    }
+    let past = settings::stripe_refusal(stripes, stripe_number);
+    if past != 0 {
+        return past;
+    }
+    let missing = settings::data_block_refusal(m, block);
+    if missing != 0 {
+        return missing;
+    }
+    if c.sound(n, m, size, stripes) {
+        return 0;
+    }
+    BAD_RECORD
+}
+
+// The refusal of a read of one block before its time is drawn, 0 for none.
+pub fn read_block_refusal(
+    n: usize,
+    m: usize,
+    size: usize,
+    stripes: usize,
+    c: Coordinator,
+    stripe_number: usize,
+    block: usize,
+) -> u32
+    ensures { λ r. ⌜ r ≡ firstRefusal (readBlockChecks n m size stripes c «stripe_number» block []) ⌝ }
+{
+    let bad = volume_refusal(n, m, size, stripes);
+    if bad != 0 {
+        return bad;
+    }
+    block_refusal(n, m, size, stripes, c, stripe_number, block)
+}
+
+// The refusal of a write of one block before its time is drawn, 0 for none: bytes and stripe are lengths.
+pub fn write_block_refusal(
+    n: usize,
+    m: usize,
+    size: usize,
+    stripes: usize,
+    c: Coordinator,
+    stripe_number: usize,
+    block: usize,
+    bytes: usize,
+    stripe: usize,
+) -> u32
+    ensures { λ r. ⌜ r ≡ firstRefusal (writeBlockChecks n m size stripes c «stripe_number» block bytes stripe []) ⌝ }
+{
+    let bad = volume_refusal(n, m, size, stripes);
+    if bad != 0 {
+        return bad;
+    }
+    if bytes != size {
+        return BAD_LENGTH;
+    }
+    if stripe != m * size {
+        return BAD_LENGTH;
+    }
+    block_refusal(n, m, size, stripes, c, stripe_number, block)
 }
 
 // Whether the lent buffers of a reply have the lengths that the settings require.

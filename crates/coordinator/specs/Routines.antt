@@ -8,10 +8,11 @@ use lib.ListN.{length}
 use Rattle.coord_apply.specs.Acts.{buffered, counting, waitingOr, ending, firstOp, starting}
 use Rattle.coord_apply.specs.Answers.{Buffered, Went, Step, refused, went, afterChecks, nothingSeen, cutSeen, Returned, returnedBy}
 use Rattle.coord_record.specs.declared.Coordinator.{Coordinator}
-use Rattle.coord_record.specs.Records.{idleKind, readingKind, writingKind, noBricks}
+use Rattle.coord_record.specs.Records.{idleKind, readingKind, writingKind, readingBlockKind, writingBlockKind, noBricks}
 use Rattle.coord_tally.specs.Counting.{targetFlags}
-use Rattle.coord_refusals.specs.Checks.{writeRefusal, readRefusal, takeRefusal, crashRefusal}
-use Rattle.message.specs.Kinds.{readKind, orderKind}
+use Rattle.coord_refusals.specs.Checks.{writeRefusal, readRefusal, writeBlockRefusal, readBlockRefusal, takeRefusal, crashRefusal}
+use Rattle.erasure.specs.Code.{withBlock}
+use Rattle.message.specs.Kinds.{readKind, orderKind, orderBlockKind, blockTargets}
 use Rattle.message.specs.declared.Reply.{Reply}
 use Rattle.settings.specs.Times.{drawOf}
 use Rattle.settings.specs.declared.Clock.{Clock}
@@ -55,6 +56,23 @@ readStep n m size stripes h number reading first =
     (drawnThen (drawOf (stripeClock (h .state) number) reading)
     (λ (time : ℕ) (clock : Clock). starting h clock (firstOp readingKind readKind number time first) (h .stripe) (targetFlags n m first)))
 
+-- E2, a read of one block: "Reading block j has brick j as its only target"
+unfoldable pub readBlockStep : (n m size stripes : ℕ) → Buffered → (number reading block : ℕ) → Step
+readBlockStep n m size stripes h number reading block =
+    afterChecks (readBlockRefusal n m size stripes (h .state) number reading block)
+    (drawnThen (drawOf (stripeClock (h .state) number) reading)
+    (λ (time : ℕ) (clock : Clock).
+    starting h clock (firstOp readingBlockKind readKind number time block) (h .stripe) (targetFlags n blockTargets block)))
+
+-- E2, a write of one block: "Writing starts with Order-and-read in which every brick gives its newest time and brick j its block"; it keeps its
+-- bytes at that block's place in the lent stripe
+unfoldable pub writeBlockStep : (n m size stripes : ℕ) → Buffered → (number reading block : ℕ) → List ℕ → Step
+writeBlockStep n m size stripes h number reading block bytes =
+    afterChecks (writeBlockRefusal n m size stripes (h .state) number reading block (length bytes) (length (h .stripe)))
+    (drawnThen (drawOf (stripeClock (h .state) number) reading)
+    (λ (time : ℕ) (clock : Clock).
+    starting h clock (firstOp writingBlockKind orderBlockKind number time block) (withBlock size (h .stripe) block bytes) noBricks))
+
 -- What a call of each routine leaves: the answer, the reply blocks, the stripe and the blocks to send. A buffer that a routine is not lent
 -- may be any, and stays.
 module _ (n m size stripes : ℕ) (c : Coordinator) (blocks stripe coded : List ℕ) where
@@ -65,6 +83,14 @@ module _ (n m size stripes : ℕ) (c : Coordinator) (blocks stripe coded : List 
   abbrev pub readCall : (number reading first : ℕ) → Returned
   readCall number reading first =
       returnedBy (buffered c blocks stripe) coded (readStep n m size stripes (buffered c blocks stripe) number reading first)
+
+  abbrev pub writeBlockCall : (number reading block : ℕ) → List ℕ → Returned
+  writeBlockCall number reading block bytes =
+      returnedBy (buffered c blocks stripe) coded (writeBlockStep n m size stripes (buffered c blocks stripe) number reading block bytes)
+
+  abbrev pub readBlockCall : (number reading block : ℕ) → Returned
+  readBlockCall number reading block =
+      returnedBy (buffered c blocks stripe) coded (readBlockStep n m size stripes (buffered c blocks stripe) number reading block)
 
   abbrev pub takeCall : Reply → List ℕ → Returned
   takeCall reply block =

@@ -2,7 +2,7 @@
 use mathlib.Core.Bool.{cond, true}
 use mathlib.Core.List.{List}
 use Prim.Native.Nat.{ℕ, _+_, _*_, _≤_}
-use Rattle.coord_apply.specs.Acts.{roundMessage, withReplyBlock}
+use Rattle.coord_apply.specs.Acts.{roundMessage, noticeOf}
 use Rattle.coord_apply.specs.Answers.{nothingSeen, noMessage, beganSeen}
 use Rattle.coord_record.specs.Records.{noBricks, nothingCounted}
 use Rattle.message.specs.declared.Reply.{Reply}
@@ -12,6 +12,7 @@ use Rattle.coord_apply.specs.declared.Answer.{Answer}
 use Rattle.coord_record.specs.declared.Coordinator.{Coordinator}
 use Rattle.coord_record.specs.declared.Geometry.{Geometry}
 use Rattle.coord_record.specs.declared.Op.{Op}
+use Rattle.erasure.specs.Code.{withBlock}
 
 -- nothing sent and nothing seen
 unfoldable pub keptAnswer : Coordinator → Answer
@@ -24,14 +25,14 @@ startAnswer geometry clock op targets =
       refusal = 0;
       next = record { geometry = geometry; clock = clock; op = op; tally = nothingCounted; bricks = noBricks };
       sent = 1;
-      message = roundMessage op targets;
+      message = roundMessage op 0 targets;
       second = noMessage;
-      seen = record { what = beganSeen; kind = op .kind; stripe = op .stripe; time = op .time; bricks = noBricks };
+      seen = noticeOf op beganSeen noBricks;
     }
 
 -- the reply blocks with a reply's own
 unfoldable pub keptBlocks : ℕ → Reply → List ℕ → List ℕ → List ℕ
-keptBlocks size r block blocks = cond (r .held) (withReplyBlock size (r .brick) block blocks) blocks
+keptBlocks size r block blocks = cond (r .held) (withBlock size blocks (r .brick) block) blocks
 
 -- the same, as the code that keeps it asks
 pub record KeepsReply (size : ℕ) (r : Reply) (block blocks : ℕ) : Type 0 where

@@ -1,29 +1,33 @@
-// The coordinator (document 01, "What a coordinator does"): start a write, start a read, take a reply, crash. Each gives one refusal,
-// lowest number first, and changes nothing; or the record that follows, the broadcasts to all n bricks, and what is seen.
+// The coordinator (document 01, "What a coordinator does"): start a write or a read, of a stripe or of one block, take a reply, crash. Each gives
+// one refusal, lowest number first, and changes nothing; or the record that follows, the broadcasts to all n bricks, and what is seen.
 ghost use mathlib.Core.Path.{_≡_};
 ghost use mathlib.Core.List.{List};
 ghost use Prim.Native.Nat.{ℕ, _<_};
 ghost use lib.ListN.{length};
 ghost use Rattle.coord_apply.specs.Acts.{withTally, firstOp};
 ghost use Rattle.coord_apply.specs.Answers.{refused, answerOf, returned};
-ghost use Rattle.coordinator.specs.Routines.{writeCall, readCall, takeCall, crashCall};
+ghost use Rattle.coordinator.specs.Routines.{writeCall, readCall, writeBlockCall, readBlockCall, takeCall, crashCall};
 ghost use Rattle.coordinator.specs.Workers.{keptAnswer, startAnswer, keptBlocks, KeepsReply};
 use coord_apply::Answer;
 use coord_apply::BEGAN;
 use coord_apply::CUT;
-use coord_apply::Notice;
 use coord_record::Coordinator;
 use coord_record::Geometry;
 use coord_record::IDLE;
 use coord_record::Op;
 use coord_record::READING;
+use coord_record::READING_BLOCK;
 use coord_record::Tally;
 use coord_record::WRITING;
+use coord_record::WRITING_BLOCK;
 use coord_refusals::crash_refusal;
+use coord_refusals::read_block_refusal;
 use coord_refusals::read_refusal;
 use coord_refusals::take_refusal;
+use coord_refusals::write_block_refusal;
 use coord_refusals::write_refusal;
 use message::ORDER;
+use message::ORDER_BLOCK;
 use message::READ;
 use message::Reply;
 use settings::Clock;
@@ -91,15 +95,9 @@ fn begin(geometry: Geometry, clock: Clock, op: Op, targets: [u8; MAX_BRICKS]) ->
         tally,
         bricks: [0u8; MAX_BRICKS],
     };
-    let message = coord_apply::round_message(op, targets);
+    let message = coord_apply::round_message(op, 0, targets);
     let second = coord_apply::no_message();
-    let seen = Notice {
-        what: BEGAN,
-        kind: op.kind,
-        stripe: op.stripe,
-        time: op.time,
-        bricks: [0u8; MAX_BRICKS],
-    };
+    let seen = coord_apply::notice_of(op, BEGAN, [0u8; MAX_BRICKS]);
     Answer {
         refusal: 0,
         next,
@@ -212,6 +210,87 @@ pub fn start_read(
     let geometry = c.geometry;
     let op = first_op(READING, READ, stripe_number, time, first);
     let targets = coord_tally::target_flags(n, m, first);
+    begin(geometry, next, op, targets)
+}
+
+// Starts a write of one block of a stripe, by their numbers; the lent stripe keeps the block in its place from then on. Refused: 1 settings,
+// 2 a length, 3 the coordinator's number, 13 the stripe's, 14 the block's, 6 the record; by the draw 7 the reading, 8 no count left;
+// 9 an operation runs.
+pub fn start_write_block(
+    n: usize,
+    m: usize,
+    size: usize,
+    stripes: usize,
+    c: Coordinator,
+    stripe_number: usize,
+    reading: u64,
+    block: usize,
+    bytes: &[u8],
+    stripe: &mut [u8],
+) -> Answer
+    ensures { λ r. ⌜ ((blocks coded : List ℕ) → returned r blocks (now (stripe .exit)) coded
+        ≡ writeBlockCall n m size stripes c blocks (now (stripe .entry)) coded «stripe_number» reading block (now (bytes .entry))) ⌝ }
+{
+    let bad = write_block_refusal(
+        n,
+        m,
+        size,
+        stripes,
+        c,
+        stripe_number,
+        block,
+        bytes.len(),
+        stripe.len(),
+    );
+    if bad != 0 {
+        return refuse(c, bad);
+    }
+    let clock = c.clock;
+    let taken = clock.draw(reading);
+    let Draw::Drawn(time, next) = taken else {
+        return refuse(c, taken.number());
+    };
+    let present = c.op;
+    if present.kind != IDLE {
+        return refuse(c, settings::BUSY);
+    }
+    byte_lists::store(stripe, block * size, bytes);
+    let geometry = c.geometry;
+    let op = first_op(WRITING_BLOCK, ORDER_BLOCK, stripe_number, time, block);
+    begin(geometry, next, op, [0u8; MAX_BRICKS])
+}
+
+// Starts a read of one block of a stripe, by their numbers: that block's brick is the only target. Refused: 1 settings, 3 the coordinator's
+// number, 13 the stripe's, 14 the block's, 6 the record; by the draw 7 the reading, 8 no count left; 9 an operation runs.
+pub fn start_read_block(
+    n: usize,
+    m: usize,
+    size: usize,
+    stripes: usize,
+    c: Coordinator,
+    stripe_number: usize,
+    reading: u64,
+    block: usize,
+) -> Answer
+    ensures { λ r. ⌜ ((blocks stripe coded : List ℕ) → returned r blocks stripe coded
+        ≡ readBlockCall n m size stripes c blocks stripe coded «stripe_number» reading block) ⌝ }
+{
+    let bad = read_block_refusal(n, m, size, stripes, c, stripe_number, block);
+    if bad != 0 {
+        return refuse(c, bad);
+    }
+    let clock = c.clock;
+    let given = clock.draw(reading);
+    let Draw::Drawn(time, next) = given else {
+        return refuse(c, given.number());
+    };
+    let now_runs = c.op;
+    if now_runs.kind != IDLE {
+        return refuse(c, settings::BUSY);
+    }
+    let geometry = c.geometry;
+    let op = first_op(READING_BLOCK, READ, stripe_number, time, block);
+    let targets = coord_tally::target_flags(n, message::BLOCK_TARGETS, block);
     begin(geometry, next, op, targets)
 }
 

@@ -4,3 +4,6 @@ pub mod CodeTheoremLaws
 pub mod PassedLaws
 pub mod CodeRefusalLaws
 pub mod CodedByteLaws
+pub mod BlockOfLaws
+pub mod RecodingLaws
+pub mod WeightFactorLaws

@@ -2,7 +2,7 @@
 -- polynomial of degree below m. Coded block j holds its value at point j. Decoding from m different bricks gives the data back."
 use mathlib.Core.List.{List}
 use Prim.Native.Nat.{ℕ, _*_, _≤_, _<_}
-use Rattle.byte_lists.specs.Lists.{tabulate, stacked}
+use Rattle.byte_lists.specs.Lists.{tabulate, stacked, put}
 use Rattle.interpolate.specs.Values.{blocksAt, PointSet}
 use mathlib.Core.Path.{_≡_}
 use lib.ListN.{length, getD, take, drop}
@@ -23,6 +23,10 @@ decodedOf m size bricks blocks = blocksAt bricks size blocks m
 -- block j of a row of blocks
 unfoldable pub blockOf : ℕ → List ℕ → ℕ → List ℕ
 blockOf size blocks j = take size (drop (j * size) blocks)
+
+-- E2: "a write of block j sets that block alone": the stripe with block j replaced
+unfoldable pub withBlock : (size : ℕ) → (stripe : List ℕ) → (j : ℕ) → (block : List ℕ) → List ℕ
+withBlock size stripe j block = put (j * size) block stripe
 
 -- the blocks of the given bricks, in their order: what is handed to decoding
 unfoldable pub blocksOf : ℕ → List ℕ → List ℕ → List ℕ

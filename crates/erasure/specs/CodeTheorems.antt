@@ -1,11 +1,12 @@
 -- Document 01, "Settings and the code": "For each byte position, the m data bytes are the values, at points 0 to m−1, of exactly one
 -- polynomial of degree below m. Coded block j holds its value at point j. Decoding from m different bricks gives the data back."
--- Proved in `proofs/Laws/CodeTheoremLaws`.
+-- Proved in `proofs/Laws/CodeTheoremLaws` and, of one block's change, in `proofs/Laws/RecodingLaws`.
 use mathlib.Core.Path.{_≡_}
 use mathlib.Core.List.{List}
 use Prim.Native.Nat.{ℕ, _<_}
 use lib.ListN.{length, getD}
-use Rattle.erasure.specs.Code.{codedOf, decodedOf, blocksOf, Stripe, Bricks}
+use Rattle.erasure.specs.Code.{codedOf, decodedOf, blockOf, blocksOf, withBlock, Stripe, Bricks}
+use Rattle.erasure.specs.Recoding.{recodedBlock}
 use Rattle.erasure.specs.Refusals.{encodeRefusal, decodeRefusal, encodedBuffer, decodedBuffer}
 use Rattle.gf256.specs.Product.{plus, product}
 use Rattle.interpolate.specs.Bytes.{Byte, byte, byteField}
@@ -44,10 +45,33 @@ DecodedIsEncoded =
     → decodeRefusal n m size bricks (length blocks) (length out) ≡ passed → out′ ≡ decodedBuffer n m size bricks blocks out
     → out′ ≡ stripe
 
--- A stripe that is the sum of another and of c times a third has the codes' sum likewise. (What recoding one parity block needs
--- after one data block changed: the third is the change, zeros elsewhere.)
+-- A stripe that is the sum of another and of c times a third has the codes' sum likewise. (Recoding a block after one data block
+-- changed is this at each byte position: the third is the unit stripe, c the change.)
 abbrev pub CodeIsLinear : Type 0
 CodeIsLinear =
     (n m size : ℕ) (a d s : List ℕ) (c : ℕ) → c < 256 → ((i : ℕ) → getD a i 0 < 256) → ((i : ℕ) → getD d i 0 < 256)
     → ((i : ℕ) → getD s i 0 ≡ plus (getD a i 0) (product c (getD d i 0))) → (j p : ℕ) → j < n → p < size
     → byteAt size (codedOf n m size s) j p ≡ plus (byteAt size (codedOf n m size a) j p) (product c (byteAt size (codedOf n m size d) j p))
+
+-- Document 02, E2, "parity bricks their recoded one": at every brick, the block recoded from its own, the old and the new block is the
+-- coded block of the stripe with block j replaced.
+abbrev pub RecodedIsCoded : Type 0
+RecodedIsCoded =
+    (n m size : ℕ) (stripe new : List ℕ) (j brick : ℕ) → CodeRange n m size → Stripe m size stripe → length new ≡ size
+    → ((i : ℕ) → getD new i 0 < 256) → j < m → brick < n
+    → recodedBlock n m brick j (blockOf size (codedOf n m size stripe) brick) (blockOf size stripe j) new
+    ≡ blockOf size (codedOf n m size (withBlock size stripe j new)) brick
+
+-- "other data bricks a mark meaning the block before it": at each other data brick the coded block stays,
+abbrev pub OtherDataBlocksStay : Type 0
+OtherDataBlocksStay =
+    (n m size : ℕ) (stripe new : List ℕ) (j b : ℕ) → CodeRange n m size → Stripe m size stripe → length new ≡ size
+    → ((i : ℕ) → getD new i 0 < 256) → j < m → b < m → (b ≡ j → ⊥)
+    → blockOf size (codedOf n m size (withBlock size stripe j new)) b ≡ blockOf size (codedOf n m size stripe) b
+
+-- and "Brick j stores the new block": it is the coded block there.
+abbrev pub WrittenBlockIsCoded : Type 0
+WrittenBlockIsCoded =
+    (n m size : ℕ) (stripe new : List ℕ) (j : ℕ) → CodeRange n m size → Stripe m size stripe → length new ≡ size
+    → ((i : ℕ) → getD new i 0 < 256) → j < m
+    → blockOf size (codedOf n m size (withBlock size stripe j new)) j ≡ new

@@ -6,7 +6,10 @@ ghost use Prim.Native.Nat.{_*_};
 ghost use lib.ListN.{length};
 ghost use Rattle.erasure.specs.Code.{codedOf, decodedOf};
 ghost use Rattle.erasure.specs.Refusals.{allBelow, allDifferent, numberRefusal, setRefusal, encodeRefusal, decodeRefusal, encodedBuffer, decodedBuffer};
-ghost use Rattle.erasure.specs.Workers.{Encodes};
+ghost use Rattle.erasure.specs.Recoding.{weightAt, withChange, recodedBlock};
+ghost use Rattle.erasure.specs.Workers.{Encodes, RecodeRange, OneLength};
+ghost use Rattle.gf256.specs.Product.{twice};
+ghost use Rattle.gf256.specs.Tables.{IsPowers, IsLogs};
 ghost use Rattle.interpolate.specs.Values.{PointSet};
 ghost use Rattle.settings.specs.Refusal.{firstRefusal};
 
@@ -132,6 +135,120 @@ pub fn decode_into(m: usize, size: usize, bricks: &[u8], blocks: &[u8], stripe: 
     ensures { λ _. ⌜ now (stripe .exit) ≡ decodedOf m size (now (bricks .entry)) (now (blocks .entry)) ⌝ }
 {
     interpolate::interpolate(bricks, size, blocks, m, stripe)
+}
+
+// The weight of data block j at a brick: Lagrange's, a factor for each other data block.
+fn weight_at(
+    powers: &[u8; gf256::POWER_COUNT],
+    logs: &[u8; gf256::BYTE_COUNT],
+    n: usize,
+    m: usize,
+    brick: usize,
+    j: usize,
+) -> u8
+    requires { ⌜ IsPowers (now powers) ⌝ }
+    requires { ⌜ IsLogs (now logs) ⌝ }
+    requires { ⌜ RecodeRange n m brick j ⌝ }
+    ensures { λ r. ⌜ r ≡ weightAt n m brick j ⌝ }
+{
+    let mut w = 1u8;
+    let mut k = 0;
+    while k < m {
+        if k != j {
+            let below = gf256::inv_by(powers, logs, j as u8 ^ k as u8);
+            let factor = gf256::mul_by(powers, logs, brick as u8 ^ k as u8, below);
+            w = gf256::mul_by(powers, logs, w, factor);
+        }
+        k += 1;
+    }
+    w
+}
+
+// The double of a byte.
+fn double(powers: &[u8; gf256::POWER_COUNT], logs: &[u8; gf256::BYTE_COUNT], a: u8) -> u8
+    requires { ⌜ IsPowers (now powers) ⌝ }
+    requires { ⌜ IsLogs (now logs) ⌝ }
+    ensures { λ r. ⌜ r ≡ twice a ⌝ }
+{
+    gf256::mul_by(powers, logs, a, 2)
+}
+
+// A block plus w0 times the sum of two others; each w is the double of the one before.
+fn add_change_multiples(
+    w0: u8,
+    w1: u8,
+    w2: u8,
+    w3: u8,
+    w4: u8,
+    w5: u8,
+    w6: u8,
+    w7: u8,
+    own: &[u8],
+    old: &[u8],
+    new: &[u8],
+    out: &mut [u8],
+)
+    requires { ⌜ OneLength (length (now own)) (length (now old)) (length (now new)) (length (now out)) ⌝ }
+    requires { ⌜ w1 ≡ twice w0 ⌝ }
+    requires { ⌜ w2 ≡ twice w1 ⌝ }
+    requires { ⌜ w3 ≡ twice w2 ⌝ }
+    requires { ⌜ w4 ≡ twice w3 ⌝ }
+    requires { ⌜ w5 ≡ twice w4 ⌝ }
+    requires { ⌜ w6 ≡ twice w5 ⌝ }
+    requires { ⌜ w7 ≡ twice w6 ⌝ }
+    ensures { λ _. ⌜ now (out .exit) ≡ withChange w0 (now (own .entry)) (now (old .entry)) (now (new .entry)) ⌝ }
+{
+    let mut i = 0;
+    while i < out.len() {
+        out[i] = own[i] ^ interpolate::times(w0, w1, w2, w3, w4, w5, w6, w7, old[i] ^ new[i]);
+        i += 1;
+    }
+}
+
+// A block plus w0 times the sum of two others.
+fn add_change(
+    powers: &[u8; gf256::POWER_COUNT],
+    logs: &[u8; gf256::BYTE_COUNT],
+    w0: u8,
+    own: &[u8],
+    old: &[u8],
+    new: &[u8],
+    out: &mut [u8],
+)
+    requires { ⌜ IsPowers (now powers) ⌝ }
+    requires { ⌜ IsLogs (now logs) ⌝ }
+    requires { ⌜ OneLength (length (now own)) (length (now old)) (length (now new)) (length (now out)) ⌝ }
+    ensures { λ _. ⌜ now (out .exit) ≡ withChange w0 (now (own .entry)) (now (old .entry)) (now (new .entry)) ⌝ }
+{
+    let w1 = double(powers, logs, w0);
+    let w2 = double(powers, logs, w1);
+    let w3 = double(powers, logs, w2);
+    let w4 = double(powers, logs, w3);
+    let w5 = double(powers, logs, w4);
+    let w6 = double(powers, logs, w5);
+    let w7 = double(powers, logs, w6);
+    add_change_multiples(w0, w1, w2, w3, w4, w5, w6, w7, own, old, new, out)
+}
+
+// A brick's own block recoded after data block j changed from old to new.
+pub fn recode_into(
+    n: usize,
+    m: usize,
+    brick: usize,
+    j: usize,
+    own: &[u8],
+    old: &[u8],
+    new: &[u8],
+    out: &mut [u8],
+)
+    requires { ⌜ RecodeRange n m brick j ⌝ }
+    requires { ⌜ OneLength (length (now own)) (length (now old)) (length (now new)) (length (now out)) ⌝ }
+    ensures { λ _. ⌜ now (out .exit) ≡ recodedBlock n m brick j (now (own .entry)) (now (old .entry)) (now (new .entry)) ⌝ }
+{
+    let powers = gf256::powers();
+    let logs = gf256::logs();
+    let w = weight_at(&powers, &logs, n, m, brick, j);
+    add_change(&powers, &logs, w, own, old, new, out)
 }
 
 // Encodes, or gives the number of the refusal and leaves the buffer.

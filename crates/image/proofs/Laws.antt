@@ -2,6 +2,7 @@
 -- LogPlaceLaws: a log by place. The others: blocks and fields of an image, opening, what an opened image satisfies.
 pub mod FieldTestLaws
 pub mod FitLaws
+pub mod HolderLaws
 pub mod HubLaws
 pub mod ImageLaws
 pub mod ImageSoundLaws

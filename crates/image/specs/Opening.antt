@@ -1,17 +1,18 @@
 -- The answer of an opening, in the code's own records, and the tests that the code makes on single blocks.
-use mathlib.Core.Bool.{cond}
+use mathlib.Core.Bool.{Bool, cond}
+use lib.ListN.{getD}
 use mathlib.Core.List.{List, [], _∷_, _++_}
 use Prim.Native.Nat.{ℕ, zero, suc, _+_}
 use lib.Dec.{ltb, eqb}
 use Rattle.settings.specs.Ranges.{inRange}
 use Rattle.settings.specs.Refusal.{refuseUnless, firstRefusal, badSetting, badLength, badNumber}
 use Rattle.settings.specs.declared.Settings.{Settings}
-use Rattle.image.specs.Brick.{Brick, entryCount, timeAt, newest}
+use Rattle.image.specs.Brick.{Brick, entryCount, timeAt, markAt, newest}
 use Rattle.image.specs.Image.{imageSize}
 use Rattle.image.specs.Parse.{Parsed, Opens, Refuses}
 use Rattle.image.specs.declared.Entry.{Entry}
 use Rattle.image.specs.declared.Holding.{Holding}
-use Rattle.image.specs.declared.Holding.the-variants.{Held}
+use Rattle.image.specs.declared.Holding.the-variants.{Held, Same}
 use Rattle.image.specs.declared.ImageAnswer.{ImageAnswer}
 use Rattle.image.specs.declared.ImageAnswer.the-variants.{Opened, Refused}
 use Rattle.image.specs.declared.Shown.{Shown}
@@ -30,16 +31,27 @@ rowOf f (suc k) = rowOf f k ++ f k ∷ []
 unfoldable pub blank : Entry
 blank = record { time = 0; holding = Held 0 }
 
--- "an entry names .. a held block's place": entry i of a log has its block in block i + 1 of the image
-unfoldable pub entryFor : ℕ → ℕ → ℕ → Entry
-entryFor time i n = cond (ltb i n) (record { time = time; holding = Held (i + 1) }) blank
+-- "an entry names either a held block's place": entry i of a log has its block in block i + 1 of the image; "or, later, another case":
+-- a mark (E2)
+unfoldable pub holdingFor : Bool → ℕ → Holding
+holdingFor mark i = cond mark Same (Held (i + 1))
+
+unfoldable pub entryFor : (time : ℕ) → Bool → (i n : ℕ) → Entry
+entryFor time mark i n = cond (ltb i n) (record { time = time; holding = holdingFor mark i }) blank
 
 unfoldable pub entryOf : Brick → ℕ → Entry
-entryOf x i = entryFor (timeAt x i) i (entryCount x)
+entryOf x i = entryFor (timeAt x i) (markAt x i) i (entryCount x)
 
--- the place that an entry of the working log names
+-- the place that an entry of the working log names, 0 for a mark
 unfoldable pub placeIn : Holding → ℕ
 placeIn (Held place) = place
+placeIn Same = 0
+
+-- the block of the image that entry i of a working log means: its own, or of a mark that of the entry below it
+unfoldable pub holderOf : List Entry → ℕ → ℕ
+holderOf log zero = placeIn (getD log 0 blank .holding)
+holderOf log (suc i) =
+    cond (eqb (placeIn (getD log (suc i) blank .holding)) 0) (holderOf log i) (placeIn (getD log (suc i) blank .holding))
 
 -- the working log: the brick's entries, then blanks
 unfoldable pub workingLog : Brick → List Entry

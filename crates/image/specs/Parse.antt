@@ -3,7 +3,7 @@ use mathlib.Core.Bool.{Bool, cond, _&&_}
 use mathlib.Core.List.{List, [], _∷_}
 use Prim.Native.Nat.{ℕ, zero, suc, _+_, _*_}
 use lib.Dec.{ltb, eqb}
-use lib.ListN.{length, take, drop}
+use lib.ListN.{length, take, drop, getD}
 use Rattle.settings.specs.Ranges.{inRange}
 use Rattle.settings.specs.Refusal.{passed, refuseUnless, firstRefusal, badSetting, badLength, badNumber, badCheck, badRecord}
 use Rattle.settings.specs.declared.Settings.{Settings}
@@ -13,7 +13,7 @@ use Rattle.byte_lists.specs.Lists.{same}
 use Rattle.image.specs.Brick.{Brick, LogEntry, soundBrick}
 use Rattle.byte_lists.specs.Each.{each}
 use Rattle.image.specs.Image.{imageOf, imageSize}
-use Rattle.image_block.specs.Block.{blockBytes, countBytes, countFrom, heldFrom, promiseFrom, timeBytes, timeFrom}
+use Rattle.image_block.specs.Block.{blockBytes, countBytes, countFrom, heldFrom, kindFrom, markKind, promiseFrom, timeBytes, timeFrom}
 
 -- block k of some bytes
 unfoldable pub imageBlockAt : List ℕ → ℕ → List ℕ
@@ -33,17 +33,31 @@ timeIn block = number (take timeBytes (drop timeFrom block))
 unfoldable pub heldIn : ℕ → List ℕ → List ℕ
 heldIn size block = take size (drop heldFrom block)
 
-unfoldable pub entryIn : ℕ → List ℕ → LogEntry
-entryIn size block = record { time = timeIn block; block = heldIn size block }
+-- E2: "image kind 3"
+unfoldable pub markIn : List ℕ → Bool
+markIn block = eqb (getD block kindFrom 0) markKind
 
--- the entries in n blocks from block k on
+-- The block of the image that entry i means: its own, i + 1, or that of the entry below it. (A lowest mark has none: it is refused.)
+unfoldable pub holderIn : List ℕ → ℕ → ℕ
+holderIn bytes zero = 1
+holderIn bytes (suc i) = cond (markIn (imageBlockAt bytes (i + 2))) (holderIn bytes i) (i + 2)
+
+unfoldable pub entryIn : ℕ → List ℕ → ℕ → LogEntry
+entryIn size bytes i =
+    record {
+      time = timeIn (imageBlockAt bytes (i + 1));
+      block = heldIn size (imageBlockAt bytes (holderIn bytes i));
+      mark = markIn (imageBlockAt bytes (i + 1));
+    }
+
+-- n entries, from entry i on
 unfoldable pub entriesIn : ℕ → List ℕ → ℕ → ℕ → List LogEntry
-entriesIn size bytes k zero = []
-entriesIn size bytes k (suc n) = entryIn size (imageBlockAt bytes k) ∷ entriesIn size bytes (suc k) n
+entriesIn size bytes i zero = []
+entriesIn size bytes i (suc n) = entryIn size bytes i ∷ entriesIn size bytes (suc i) n
 
 -- the brick whose fields stand in some bytes
 unfoldable pub brickIn : Settings → List ℕ → Brick
-brickIn s bytes = record { promise = promiseIn (imageBlockAt bytes 0); log = entriesIn (s .size) bytes 1 (countIn (imageBlockAt bytes 0)) }
+brickIn s bytes = record { promise = promiseIn (imageBlockAt bytes 0); log = entriesIn (s .size) bytes 0 (countIn (imageBlockAt bytes 0)) }
 
 -- whether the check of block k holds
 unfoldable pub checkedAt : List ℕ → ℕ → Bool

@@ -1,16 +1,16 @@
 -- What the inner workers of this crate ask and give.
-use mathlib.Core.Bool.{Bool, cond, _&&_, _||_, true}
+use mathlib.Core.Bool.{Bool, cond, not, _&&_, _||_, true}
 use mathlib.Core.List.{List, _++_}
 use Prim.Native.Nat.{ℕ, _+_, _≤_, _-_}
 use lib.Dec.{ltb, eqb}
 use lib.ListN.{drop, replicate}
 use Rattle.settings.specs.Ranges.{inRange}
 use Rattle.settings.specs.declared.Settings.{Settings}
-use Rattle.image_block.specs.Block.{headBody, entryBody, unusedBody}
+use Rattle.image_block.specs.Block.{headBody, entryBody, markBody, unusedBody}
 use Rattle.byte_lists.specs.Lists.{same}
 use Rattle.image.specs.Brick.{Brick, entryCount, savedTime, countSound}
 use Rattle.image.specs.Image.{imageSize}
-use Rattle.image.specs.Parse.{heldIn, Opens, parse, imageBlockAt, checkedAt, timeIn}
+use Rattle.image.specs.Parse.{heldIn, markIn, Opens, parse, imageBlockAt, checkedAt, timeIn}
 use Rattle.image.specs.declared.Entry.{Entry}
 use Rattle.image.specs.declared.Opening.{Opening}
 use mathlib.Core.Path.{_≡_}
@@ -45,10 +45,19 @@ rises i last time = eqb i 0 || ltb last time
 unfoldable pub headFits : Settings → ℕ → List ℕ → ℕ → ℕ → Bool
 headFits s brick t n promise = countSound s n && savedTime promise && same (drop checkBytes t) (headBody s brick n promise)
 
--- the block of entry i of n, from its kind on: an entry, or unused
+-- a block of the log from its kind on, as its kind, time and bytes say: a mark, or an entry
+unfoldable pub formBody : ℕ → List ℕ → ℕ → List ℕ
+formBody size t time = cond (markIn t) (markBody time size) (entryBody time (heldIn size t))
+
+-- the lowest is no mark
+unfoldable pub formLow : List ℕ → ℕ → Bool
+formLow t i = not (markIn t) || ltb 0 i
+
+-- the block of entry i of n, from its kind on: an entry or a mark, or unused
 unfoldable pub slotFits : ℕ → List ℕ → ℕ → ℕ → ℕ → ℕ → Bool
 slotFits size t time i n last =
-    cond (ltb i n) (savedTime time && rises i last time && same (drop checkBytes t) (entryBody time (heldIn size t))) (same (drop checkBytes t) unusedBody)
+    cond (ltb i n) (savedTime time && rises i last time && formLow t i && same (drop checkBytes t) (formBody size t time))
+    (same (drop checkBytes t) unusedBody)
 
 -- an answer that opened: the brick, and all that is known of it
 pub record Hub (s : Settings) (brick : ℕ) (l : List ℕ) (o : Opening) (h : Head) : Type 0 where
@@ -72,7 +81,7 @@ slotAt size l n i = slotFits size (imageBlockAt l (i + 1)) (timeIn (imageBlockAt
 
 -- the working log's entry i
 unfoldable pub entryAt : List ℕ → ℕ → ℕ → Entry
-entryAt l n i = entryFor (timeIn (imageBlockAt l (i + 1))) i n
+entryAt l n i = entryFor (timeIn (imageBlockAt l (i + 1))) (markIn (imageBlockAt l (i + 1))) i n
 
 -- what the loop gives
 pub record Scanned (size cap : ℕ) (l : List ℕ) (n : ℕ) (checks fits : Bool) (log : List Entry) : Type 0 where

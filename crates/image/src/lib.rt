@@ -4,13 +4,13 @@ ghost use mathlib.Core.Bool.{_&&_};
 ghost use Prim.Native.Nat.{_+_, _*_, _≤_, _<_};
 ghost use lib.ListN.{length, drop};
 ghost use Rattle.settings.specs.Ranges.{SettingsRange};
-ghost use Rattle.image_block.specs.Block.{unusedBody, entryBody};
+ghost use Rattle.image_block.specs.Block.{unusedBody, entryBody, markBody};
 ghost use Rattle.byte_lists.specs.Lists.{same};
 ghost use Rattle.image.specs.Brick.{savedTime};
 ghost use Rattle.image.specs.Image.{imageSize};
-ghost use Rattle.image.specs.Parse.{heldIn, parse, Refuses};
-ghost use Rattle.image.specs.Opening.{answerNumber, entryFor, opening, panelOf, placeIn, lendingRefusal};
-ghost use Rattle.image.specs.Workers.{rises, headFits, slotFits};
+ghost use Rattle.image.specs.Parse.{heldIn, markIn, parse, Refuses};
+ghost use Rattle.image.specs.Opening.{answerNumber, entryFor, holdingFor, holderOf, opening, panelOf, placeIn, lendingRefusal};
+ghost use Rattle.image.specs.Workers.{rises, headFits, slotFits, formLow, formBody};
 ghost use Rattle.image.specs.Workers.{Scanned};
 ghost use Rattle.image_block.specs.Block.{blockBytes, checkBytes};
 ghost use Rattle.settings.specs.Ranges.{maxCapacity, maxSize};
@@ -21,9 +21,12 @@ use image_block::ENTRY_HELD;
 use image_block::ENTRY_TIME;
 use image_block::HEAD_COUNT;
 use image_block::HEAD_PROMISE;
+use image_block::KIND;
+use image_block::MARK_KIND;
 use image_block::check_holds;
 use image_block::entry_fields;
 use image_block::head_fields;
+use image_block::mark_fields;
 use image_block::same_body;
 use settings::BAD_CHECK;
 use settings::BAD_LENGTH;
@@ -35,9 +38,11 @@ use settings::PASSED;
 use settings::Settings;
 use settings::is_time;
 
-// What an entry of the log names: the place of a held block, as its number among the blocks of the image.
+// What an entry of the log names: the place of a held block, as its number among the blocks of the image; or it is a mark, and means the
+// block of the entry below it.
 pub enum Holding {
     Held(usize),
+    Same,
 }
 
 // An entry of the working log.
@@ -71,13 +76,34 @@ struct Scan {
     log: [Entry; MAX_CAPACITY],
 }
 
-// The place that an entry names.
+// The place that an entry names, 0 for a mark.
 pub fn place_of(h: Holding) -> usize
     ensures { λ r. ⌜ r ≡ placeIn h ⌝ }
 {
     match h {
         Holding::Held(place) => place,
+        Holding::Same => 0,
     }
+}
+
+// The block of the image that an entry of the working log means: its own, or of a mark that of the entry below it.
+pub fn holder_of(log: [Entry; MAX_CAPACITY], i: usize) -> usize
+    requires { ⌜ i < maxCapacity ⌝ }
+    ensures { λ r. ⌜ r ≡ holderOf log i ⌝ }
+{
+    let mut k = i;
+    while 0 < k {
+        let e = log[k];
+        let h = e.holding;
+        let place = place_of(h);
+        if place != 0 {
+            return place;
+        }
+        k -= 1;
+    }
+    let lowest = log[0];
+    let held = lowest.holding;
+    place_of(held)
 }
 
 // Whether a number is 0 or a valid time.
@@ -100,15 +126,27 @@ fn rising(i: usize, last: u64, time: u64) -> bool
     last < time
 }
 
-// An entry of the working log: entry i of `count`, or a blank.
-fn entry_for(time: u64, i: usize, count: usize) -> Entry
+// What entry i names.
+fn holding_for(mark: bool, i: usize) -> Holding
     requires { ⌜ i < maxCapacity ⌝ }
-    ensures { λ r. ⌜ r ≡ entryFor time i count ⌝ }
+    ensures { λ r. ⌜ r ≡ holdingFor mark i ⌝ }
+{
+    if mark {
+        return Holding::Same;
+    }
+    Holding::Held(i + 1)
+}
+
+// An entry of the working log: entry i of `count`, or a blank.
+fn entry_for(time: u64, mark: bool, i: usize, count: usize) -> Entry
+    requires { ⌜ i < maxCapacity ⌝ }
+    ensures { λ r. ⌜ r ≡ entryFor time mark i count ⌝ }
 {
     if i < count {
+        let holding = holding_for(mark, i);
         return Entry {
             time: time,
-            holding: Holding::Held(i + 1),
+            holding: holding,
         };
     }
     Entry {
@@ -145,6 +183,37 @@ fn entry_fits(size: usize, t: &[u8], time: u64) -> bool
     same_body(t, &b)
 }
 
+// Whether a block is, from its kind on, the mark of that time.
+fn mark_fits(size: usize, t: &[u8], time: u64) -> bool
+    requires { ⌜ length (now t) ≡ blockBytes ⌝ }
+    ensures { λ r. ⌜ r ≡ same (drop checkBytes (now (t .entry))) (markBody time size) ⌝ }
+{
+    let b = mark_fields(time, size);
+    same_body(t, &b)
+}
+
+// Whether a block of the log says that it is a mark.
+pub fn is_mark(t: &[u8]) -> bool
+    requires { ⌜ length (now t) ≡ blockBytes ⌝ }
+    ensures { λ r. ⌜ r ≡ markIn (now (t .entry)) ⌝ }
+{
+    t[KIND] == MARK_KIND
+}
+
+// Whether a block of the log is as its kind says; the lowest is no mark.
+fn form_fits(size: usize, t: &[u8], time: u64, i: usize) -> bool
+    requires { ⌜ (size ≤ maxSize) × (length (now t) ≡ blockBytes) ⌝ }
+    ensures { λ r. ⌜ r ≡ formLow (now (t .entry)) i && same (drop checkBytes (now (t .entry))) (formBody size (now (t .entry)) time) ⌝ }
+{
+    if is_mark(t) {} else {
+        return entry_fits(size, t, time);
+    }
+    if 0 < i {
+        return mark_fits(size, t, time);
+    }
+    false
+}
+
 // Whether the block of entry i, or the unused block in its place, is as it should be.
 fn slot_fits(size: usize, t: &[u8], time: u64, i: usize, count: usize, last: u64) -> bool
     requires { ⌜ (size ≤ maxSize) × (length (now t) ≡ blockBytes) ⌝ }
@@ -159,7 +228,7 @@ fn slot_fits(size: usize, t: &[u8], time: u64, i: usize, count: usize, last: u64
     if rising(i, last, time) {} else {
         return false;
     }
-    entry_fits(size, t, time)
+    form_fits(size, t, time, i)
 }
 
 // Whether the head is as it should be, from its kind on.
@@ -207,7 +276,7 @@ fn read_blocks(s: Settings, image: &[u8], count: usize) -> Scan
 {
     let size = s.size;
     let capacity = s.capacity;
-    let nothing = entry_for(0, 0, 0);
+    let nothing = entry_for(0, false, 0, 0);
     let mut log = [nothing; MAX_CAPACITY];
     let mut fits = true;
     let mut last: u64 = 0;
@@ -226,7 +295,8 @@ fn read_blocks(s: Settings, image: &[u8], count: usize) -> Scan
         let time = read8(t, ENTRY_TIME);
         let fit = slot_fits(size, t, time, i, count, last);
         fits = both(fits, fit);
-        let entry = entry_for(time, i, count);
+        let mark = is_mark(t);
+        let entry = entry_for(time, mark, i, count);
         log[i] = entry;
         last = time;
         i += 1;
@@ -243,7 +313,7 @@ fn read_blocks(s: Settings, image: &[u8], count: usize) -> Scan
 fn refused(number: u32) -> Opening
     ensures { λ r. ⌜ r ≡ opening (Refuses number) ⌝ }
 {
-    let nothing = entry_for(0, 0, 0);
+    let nothing = entry_for(0, false, 0, 0);
     let log = [nothing; MAX_CAPACITY];
     Opening {
         answer: ImageAnswer::Refused(number),

@@ -65,7 +65,10 @@ sealed body = little checkBytes (checkOf body) ++ body
 unfoldable pub checked : List ℕ → Bool
 checked block = same (take checkBytes block) (little checkBytes (checkOf (drop checkBytes block)))
 
--- "Byte 2 is the kind: 0 unused, 1 head, 2 entry."
+-- "Byte 2 is the kind: 0 unused, 1 head, 2 entry"; E2: "image kind 3", a mark
+abbrev pub kindFrom : ℕ
+kindFrom = 2
+
 abbrev pub unusedKind : ℕ
 unusedKind = 0
 
@@ -74,6 +77,9 @@ headKind = 1
 
 abbrev pub entryKind : ℕ
 entryKind = 2
+
+abbrev pub markKind : ℕ
+markKind = 3
 
 -- "Block 0 is the head: 4 n, 5 m, 6 brick, 7 capacity, 8–9 block size, 10–11 entry count (1 to capacity), 12–19 promise."
 -- "All other bytes are zero"
@@ -86,16 +92,27 @@ headBody s brick count promise =
 unfoldable pub headBlock : Settings → ℕ → ℕ → ℕ → List ℕ
 headBlock s brick count promise = sealed (headBody s brick count promise)
 
--- "entries in rising time: 4–11 time, 12–13 block size, block from 16"
-unfoldable pub entryBody : ℕ → List ℕ → List ℕ
-entryBody time block =
-    entryKind ∷ 0
-    ∷ little timeBytes time ++ little sizeBytes (length block) ++ 0 ∷ 0
+-- a block of the log: "4–11 time, 12–13 block size, block from 16", the bytes that are there
+unfoldable pub slotBody : (kind time size : ℕ) → List ℕ → List ℕ
+slotBody kind time size block =
+    kind ∷ 0
+    ∷ little timeBytes time ++ little sizeBytes size ++ 0 ∷ 0
     ∷ block
     ++ zeros (blockBytes - heldFrom - length block)
 
+-- "entries in rising time: 4–11 time, 12–13 block size, block from 16"
+unfoldable pub entryBody : ℕ → List ℕ → List ℕ
+entryBody time block = slotBody entryKind time (length block) block
+
 unfoldable pub entryBlock : ℕ → List ℕ → List ℕ
 entryBlock time block = sealed (entryBody time block)
+
+-- E2: a mark, "image kind 3: time, size, no block bytes"
+unfoldable pub markBody : (time size : ℕ) → List ℕ
+markBody time size = slotBody markKind time size []
+
+unfoldable pub markBlock : (time size : ℕ) → List ℕ
+markBlock time size = sealed (markBody time size)
 
 -- "an unused block is 510 zeros after a check of 1"
 unfoldable pub unusedBody : List ℕ

@@ -6,7 +6,8 @@ ghost use Prim.Native.Nat.{_+_, _-_, _≤_, _<_};
 ghost use lib.ListN.{length, drop};
 ghost use Rattle.settings.specs.Ranges.{SettingsRange, maxSize};
 ghost use Rattle.image_block.specs.Block.{blockBytes, checkBytes, heldFrom};
-ghost use Rattle.image_block.specs.Block.{weighted, checkOf, checked, sealed, headBody, headBlock, entryBody, entryBlock, unusedBlock};
+ghost use Rattle.image_block.specs.Block.{weighted, checkOf, checked, sealed, headBody, headBlock, slotBody, entryBody, entryBlock};
+ghost use Rattle.image_block.specs.Block.{markBody, markBlock, unusedBlock};
 ghost use Rattle.image_block.specs.Workers.{unchecked, total, sumRowBytes, plainMost, risingMost, rowMost, pastMost};
 ghost use Rattle.byte_lists.specs.Lists.{zeros, same};
 use byte_lists::byte;
@@ -21,12 +22,14 @@ const CHECK_BYTES: usize = 2;
 
 const CHECK_MODULUS: u32 = 65521;
 
-// "Byte 2 is the kind: 0 unused, 1 head, 2 entry."
-const KIND: usize = 2;
+// "Byte 2 is the kind: 0 unused, 1 head, 2 entry", and 3 a mark.
+pub const KIND: usize = 2;
 
 const HEAD_KIND: u8 = 1;
 
 const ENTRY_KIND: u8 = 2;
+
+pub const MARK_KIND: u8 = 3;
 
 // "The head: 4 n, 5 m, 6 brick, 7 capacity, 8–9 block size, 10–11 entry count, 12–19 promise."
 const HEAD_N: usize = 4;
@@ -186,14 +189,13 @@ fn held(block: &[u8]) -> [u8; BLOCK_BYTES]
     b
 }
 
-// An entry without its check.
-pub fn entry_fields(time: u64, block: &[u8]) -> [u8; BLOCK_BYTES]
+// A block of the log without its check: an entry, or a mark.
+fn slot_fields(kind: u8, time: u64, size: usize, block: &[u8]) -> [u8; BLOCK_BYTES]
     requires { ⌜ length (now block) ≤ maxSize ⌝ }
-    ensures { λ r. ⌜ r ≡ unchecked (entryBody time (now (block .entry))) ⌝ }
+    ensures { λ r. ⌜ r ≡ unchecked (slotBody kind time size (now (block .entry))) ⌝ }
 {
-    let size = block.len() as u64;
     let mut b = held(block);
-    b[KIND] = ENTRY_KIND;
+    b[KIND] = kind;
     b[ENTRY_TIME] = byte(time);
     b[ENTRY_TIME + 1] = byte(time / 256);
     b[ENTRY_TIME + 2] = byte(time / 65536);
@@ -202,9 +204,17 @@ pub fn entry_fields(time: u64, block: &[u8]) -> [u8; BLOCK_BYTES]
     b[ENTRY_TIME + 5] = byte(time / 1099511627776);
     b[ENTRY_TIME + 6] = byte(time / 281474976710656);
     b[ENTRY_TIME + 7] = byte(time / 72057594037927936);
-    b[ENTRY_SIZE] = byte(size);
-    b[ENTRY_SIZE + 1] = byte(size / 256);
+    b[ENTRY_SIZE] = byte(size as u64);
+    b[ENTRY_SIZE + 1] = byte(size as u64 / 256);
     b
+}
+
+// An entry without its check.
+pub fn entry_fields(time: u64, block: &[u8]) -> [u8; BLOCK_BYTES]
+    requires { ⌜ length (now block) ≤ maxSize ⌝ }
+    ensures { λ r. ⌜ r ≡ unchecked (entryBody time (now (block .entry))) ⌝ }
+{
+    slot_fields(ENTRY_KIND, time, block.len(), block)
 }
 
 // An entry with its check.
@@ -213,6 +223,21 @@ pub fn entry(time: u64, block: &[u8]) -> [u8; BLOCK_BYTES]
     ensures { λ r. ⌜ r ≡ entryBlock time (now (block .entry)) ⌝ }
 {
     seal(entry_fields(time, block))
+}
+
+// A mark without its check.
+pub fn mark_fields(time: u64, size: usize) -> [u8; BLOCK_BYTES]
+    ensures { λ r. ⌜ r ≡ unchecked (markBody time size) ⌝ }
+{
+    let none = [0u8; 1];
+    slot_fields(MARK_KIND, time, size, &none[..0])
+}
+
+// A mark with its check.
+pub fn mark(time: u64, size: usize) -> [u8; BLOCK_BYTES]
+    ensures { λ r. ⌜ r ≡ markBlock time size ⌝ }
+{
+    seal(mark_fields(time, size))
 }
 
 // An unused block: 510 zeros, and the check of 1 placed in front.

@@ -7,9 +7,9 @@ use lib.Dec.{leb}
 use lib.ListN.{length}
 use Rattle.settings.specs.Refusal.{badLength, badNumber}
 use Rattle.settings.specs.declared.Settings.{Settings}
-use Rattle.image.specs.Brick.{entryCount, timeAt}
-use Rattle.image.specs.Parse.{Parsed, Opens, Refuses, parse, imageBlockAt, timeIn}
-use Rattle.image.specs.declared.Holding.the-variants.{Held}
+use Rattle.image.specs.Brick.{entryCount, timeAt, markAt}
+use Rattle.image.specs.Parse.{Parsed, Opens, Refuses, parse, imageBlockAt, timeIn, markIn}
+use Rattle.image.specs.Opening.{holdingFor}
 use Rattle.image_view.specs.declared.Counted.{Counted}
 use Rattle.image_view.specs.declared.Counted.the-variants.{Entries}
 use Rattle.image_view.specs.declared.Found.{Found}
@@ -23,9 +23,10 @@ unfoldable pub countOf : Parsed → Counted
 countOf (Opens x) = Entries (entryCount x)
 countOf (Refuses number) = Counted.Refused number
 
--- "the entry at a place": its time, and the place of its held block; or 3 for "a view's place not below its count"
+-- "the entry at a place": its time, and the place of its held block, or that it is a mark; or 3 for "a view's place not below its count"
 unfoldable pub foundOf : Parsed → ℕ → Found
-foundOf (Opens x) place = cond (leb (entryCount x) place) (Refused badNumber) (At (record { time = timeAt x place; holding = Held (place + 1) }))
+foundOf (Opens x) place =
+    cond (leb (entryCount x) place) (Refused badNumber) (At (record { time = timeAt x place; holding = holdingFor (markAt x place) place }))
 foundOf (Refuses k) place = Refused k
 
 -- the view of a lent image: "a record holding a reference to the lent image", and the count
@@ -36,7 +37,8 @@ viewOf s brick image = record { image = image; counted = countOf (parse s brick 
 unfoldable pub foundAt : List ℕ → ℕ → ℕ → Found
 foundAt l n place =
     cond (leb (length l / blockBytes) n) (Refused badLength)
-    (cond (leb n place) (Refused badNumber) (At (record { time = timeIn (imageBlockAt l (place + 1)); holding = Held (place + 1) })))
+    (cond (leb n place) (Refused badNumber)
+    (At (record { time = timeIn (imageBlockAt l (place + 1)); holding = holdingFor (markIn (imageBlockAt l (place + 1))) place })))
 
 -- the same by what opening gave
 unfoldable pub foundBy : List ℕ → Counted → ℕ → Found

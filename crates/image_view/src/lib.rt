@@ -8,6 +8,7 @@ use byte_lists::read8;
 use image::Entry;
 use image::Holding;
 use image::ImageAnswer;
+use image::is_mark;
 use image::number_of;
 use image::open;
 use image_block::BLOCK_BYTES;
@@ -58,8 +59,16 @@ fn entry_at(image: &[u8], count: usize, place: usize) -> Found
     if count <= place {
         return Found::Refused(BAD_NUMBER);
     }
-    let at = BLOCK_BYTES * (place + 1) + ENTRY_TIME;
-    let time = read8(image, at);
+    let at = BLOCK_BYTES * (place + 1);
+    let e = at + BLOCK_BYTES;
+    let t = &image[at..e];
+    let time = read8(t, ENTRY_TIME);
+    if is_mark(t) {
+        return Found::At(Entry {
+            time: time,
+            holding: Holding::Same,
+        });
+    }
     Found::At(Entry {
         time: time,
         holding: Holding::Held(place + 1),

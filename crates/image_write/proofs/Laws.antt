@@ -2,4 +2,5 @@
 -- BlocksLaws: an image block by block. FreshImageLaws: a fresh one. ImageStepLaws: each change of a brick, by place and at its image.
 pub mod BlocksLaws
 pub mod FreshImageLaws
+pub mod HoldLaws
 pub mod ImageStepLaws

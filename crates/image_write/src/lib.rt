@@ -3,20 +3,22 @@ ghost use mathlib.Core.Path.{_≡_};
 ghost use Prim.Native.Nat.{_+_, _-_, _*_, _≤_, _<_};
 ghost use lib.ListN.{length};
 ghost use Rattle.settings.specs.Ranges.{SettingsRange};
-ghost use Rattle.image_block.specs.Block.{headBlock, entryBlock};
+ghost use Rattle.image_block.specs.Block.{headBlock, entryBlock, markBlock};
 ghost use Rattle.byte_lists.specs.Lists.{put, zeros};
 ghost use Rattle.image.specs.Image.{imageSize, imageOf};
 ghost use Rattle.image.specs.Brick.{freshBrick};
 ghost use Rattle.image.specs.Opening.{lendingRefusal};
 ghost use Rattle.image_write.specs.Saving.{freshAfter};
-ghost use Rattle.image_write.specs.Workers.{cleared, shifted};
+ghost use Rattle.image_write.specs.Workers.{cleared, shifted, heldOwn};
 ghost use Rattle.image_block.specs.Block.{blockBytes};
 ghost use Rattle.settings.specs.Ranges.{maxSize};
 use byte_lists::store;
 use image::lending_refusal;
 use image_block::BLOCK_BYTES;
+use image_block::ENTRY_HELD;
 use image_block::entry;
 use image_block::head;
+use image_block::mark;
 use image_block::unused;
 use settings::MAX_SIZE;
 use settings::PASSED;
@@ -39,6 +41,15 @@ pub fn write_entry(image: &mut [u8], at: usize, time: u64, block: &[u8])
     ensures { λ _. ⌜ now (image .exit) ≡ put at (entryBlock time (now (block .entry))) (now (image .entry)) ⌝ }
 {
     let b = entry(time, block);
+    store(image, at, &b);
+}
+
+// A mark, written from a place on: 512 bytes.
+pub fn write_mark(image: &mut [u8], at: usize, time: u64, size: usize)
+    requires { ⌜ at + blockBytes ≤ length (now image) ⌝ }
+    ensures { λ _. ⌜ now (image .exit) ≡ put at (markBlock time size) (now (image .entry)) ⌝ }
+{
+    let b = mark(time, size);
     store(image, at, &b);
 }
 
@@ -67,6 +78,21 @@ fn copied(part: &[u8]) -> [u8; BLOCK_BYTES]
         i += 1;
     }
     b
+}
+
+// An entry's block, which stands in another block of the image, written into the entry's own; nothing to do where it stands there.
+pub fn hold_own(image: &mut [u8], size: usize, own: usize, holder: usize, time: u64)
+    requires { ⌜ (size ≤ maxSize) × (blockBytes * (own + 1) ≤ length (now image)) × (blockBytes * (holder + 1) ≤ length (now image)) ⌝ }
+    ensures { λ _. ⌜ now (image .exit) ≡ heldOwn size own holder time (now (image .entry)) ⌝ }
+{
+    if holder == own {
+        return;
+    }
+    let from = BLOCK_BYTES * holder;
+    let e = from + BLOCK_BYTES;
+    let b = copied(&image[from..e]);
+    let end = ENTRY_HELD + size;
+    write_entry(image, BLOCK_BYTES * own, time, &b[ENTRY_HELD..end]);
 }
 
 // The entries from number d on, moved down to the front: `kept` blocks.

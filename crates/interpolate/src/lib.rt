@@ -26,7 +26,7 @@ pub fn position(list: &[u8], x: u8) -> usize
 }
 
 // A byte's product with w0, by its bits: each w is the double of the one before.
-fn times(w0: u8, w1: u8, w2: u8, w3: u8, w4: u8, w5: u8, w6: u8, w7: u8, x: u8) -> u8
+pub fn times(w0: u8, w1: u8, w2: u8, w3: u8, w4: u8, w5: u8, w6: u8, w7: u8, x: u8) -> u8
     requires { ⌜ w1 ≡ twice w0 ⌝ }
     requires { ⌜ w2 ≡ twice w1 ⌝ }
     requires { ⌜ w3 ≡ twice w2 ⌝ }

@@ -1,4 +1,4 @@
--- Document 01, "What a brick does": the five messages. A reply has the kind of the message that it answers; Trim has none.
+-- Document 01, "What a brick does": the messages, and document 02's (E2). A reply has the kind of the message that it answers; Trim has none.
 use Prim.Native.Nat.{ℕ}
 
 abbrev pub readKind : ℕ
@@ -10,11 +10,23 @@ orderKind = 2
 abbrev pub orderReadKind : ℕ
 orderReadKind = 3
 
+-- E2: "Writing starts with Order-and-read in which every brick gives its newest time and brick j its block": a message of its own
+abbrev pub orderBlockKind : ℕ
+orderBlockKind = 4
+
 abbrev pub writeKind : ℕ
-writeKind = 4
+writeKind = 5
+
+-- E2: "Modify goes out: old block, new block, that old time, own time"
+abbrev pub modifyKind : ℕ
+modifyKind = 6
 
 abbrev pub trimKind : ℕ
-trimKind = 5
+trimKind = 7
+
+-- E2: "Reading block j has brick j as its only target"
+abbrev pub blockTargets : ℕ
+blockTargets = 1
 
 -- "Rounds count from 1": the round that a start opens; a write stores in the second, a read recovers from the second on and stores from the third on
 abbrev pub firstRound : ℕ

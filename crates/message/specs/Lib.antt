@@ -1,4 +1,4 @@
--- Kinds: the five messages by number. Flags: sets of bricks. Messages: what a message and a reply may hold.
+-- Kinds: the messages by number. Flags: sets of bricks. Messages: what a message and a reply may hold.
 pub mod Flags
 pub mod Kinds
 pub mod Messages

@@ -7,7 +7,8 @@ ghost use lib.Dec.{ltb};
 ghost use Rattle.settings.specs.Count.{one-if};
 ghost use Rattle.settings.specs.Ranges.{maxBricks};
 ghost use Rattle.message.specs.Flags.{members, flagsWithin, brickSet};
-ghost use Rattle.message.specs.Messages.{roundRight, kindRight, messageRefusal, replyRight, replyRefusal};
+ghost use Rattle.message.specs.Messages.{roundRight, foundRight, targetsRight, kindRight, messageRefusal};
+ghost use Rattle.message.specs.Messages.{namesBlock, messageBlockRefusal, replyRight, replyRefusal};
 
 pub const READ: u8 = 1;
 
@@ -15,9 +16,17 @@ pub const ORDER: u8 = 2;
 
 pub const ORDER_READ: u8 = 3;
 
-pub const WRITE: u8 = 4;
+// The first round of a block write: Order-and-read that gives newest times, and the block of one brick.
+pub const ORDER_BLOCK: u8 = 4;
 
-pub const TRIM: u8 = 5;
+pub const WRITE: u8 = 5;
+
+pub const MODIFY: u8 = 6;
+
+pub const TRIM: u8 = 7;
+
+// A block read has one target.
+pub const BLOCK_TARGETS: usize = 1;
 
 // The round that a start opens; a write stores in the second, a read recovers from the second on and stores from the third on.
 pub const FIRST_ROUND: u64 = 1;
@@ -28,18 +37,21 @@ pub const THIRD_ROUND: u64 = 3;
 
 pub const LAST_ROUND: u64 = 1000;
 
-// stripe: the number of the stripe that it is about. max: Order-and-read only. targets: Read only, a flag a brick.
+// stripe: the number of the stripe that it is about. max: Order-and-read only. old: the old time, Modify only. block: the number of a data
+// block, the first round of a block write and Modify only. targets: Read only, a flag a brick.
 pub struct Message {
     pub kind: u8,
     pub stripe: usize,
     pub time: u64,
     pub round: u64,
     pub max: u64,
+    pub old: u64,
+    pub block: usize,
     pub targets: [u8; settings::MAX_BRICKS],
 }
 
-// stripe: that of the message. found: the newest time in a reply to Read, the entry's time in one to Order-and-read. held: a block goes
-// with it.
+// stripe: that of the message. found: the newest time in a reply to Read or to the first round of a block write, the entry's time in one to
+// Order-and-read. held: a block goes with it.
 pub struct Reply {
     pub kind: u8,
     pub brick: usize,
@@ -109,10 +121,41 @@ pub fn brick_set(flags: [u8; settings::MAX_BRICKS], n: usize, m: usize) -> bool
     false
 }
 
+// Whether the flags are those of m bricks below n, or of one brick below m.
+fn targets_right(targets: [u8; settings::MAX_BRICKS], n: usize, m: usize) -> bool
+    requires { ⌜ (n ≤ maxBricks) × (m ≤ maxBricks) ⌝ }
+    ensures { λ r. ⌜ r ≡ targetsRight n m targets ⌝ }
+{
+    if brick_set(targets, n, m) {
+        return true;
+    }
+    brick_set(targets, m, BLOCK_TARGETS)
+}
+
+// Whether a number is 0 or a valid time.
+fn found_right(t: u64) -> bool
+    ensures { λ r. ⌜ r ≡ foundRight t ⌝ }
+{
+    if t == 0 {
+        return true;
+    }
+    settings::is_time(t)
+}
+
+// Whether messages of a kind name a data block.
+pub fn names_block(kind: u8) -> bool
+    ensures { λ r. ⌜ r ≡ namesBlock kind ⌝ }
+{
+    if kind == ORDER_BLOCK {
+        return true;
+    }
+    kind == MODIFY
+}
+
 impl Message {
     // The rules that a kind adds.
     fn kind_right(self, n: usize, m: usize) -> bool
-        requires { ⌜ n ≤ maxBricks ⌝ }
+        requires { ⌜ (n ≤ maxBricks) × (m ≤ maxBricks) ⌝ }
         ensures { λ r. ⌜ r ≡ kindRight n m self ⌝ }
     {
         if self.kind == ORDER_READ {
@@ -120,14 +163,27 @@ impl Message {
         }
         if self.kind == READ {
             let targets = self.targets;
-            return brick_set(targets, n, m);
+            return targets_right(targets, n, m);
+        }
+        if self.kind == MODIFY {
+            return found_right(self.old);
         }
         READ <= self.kind && self.kind <= TRIM
     }
 
+    // 14 where it names a data block that a stripe does not have, else 0.
+    pub fn block_refusal(self, m: usize) -> u32
+        ensures { λ r. ⌜ r ≡ messageBlockRefusal m self ⌝ }
+    {
+        if names_block(self.kind) {
+            return settings::data_block_refusal(m, self.block);
+        }
+        settings::PASSED
+    }
+
     // 10 for a message that no coordinator sends, else 0.
     pub fn refusal(self, n: usize, m: usize) -> u32
-        requires { ⌜ n ≤ maxBricks ⌝ }
+        requires { ⌜ (n ≤ maxBricks) × (m ≤ maxBricks) ⌝ }
         ensures { λ r. ⌜ r ≡ messageRefusal n m self ⌝ }
     {
         if settings::is_time(self.time) {
@@ -149,12 +205,12 @@ impl Reply {
         if self.kind < READ {
             return false;
         }
-        if WRITE < self.kind {
+        if MODIFY < self.kind {
             return false;
         }
         if settings::is_time(self.time) {
             if round_right(self.round) {
-                return self.found == 0 || settings::is_time(self.found);
+                return found_right(self.found);
             }
         }
         false

@@ -4,6 +4,8 @@
 pub mod OneOrderTheorem
 pub mod OrderUseLaws
 pub mod LastSetLaws
+pub mod StripeUseLaws
+pub mod BlockUseLaws
 -- Definitions for proofs: tests on histories that compute, and the order of a history.
 pub mod Tests
 pub mod Order

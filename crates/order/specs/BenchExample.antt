@@ -4,7 +4,7 @@ use mathlib.Core.Path.{_≡_}
 use mathlib.Core.List.{List, [], _∷_}
 use Prim.Native.Nat.{ℕ}
 use lib.Dec.{lit≤}
-use Rattle.order.specs.Claim.{Plain, stripe, read, write, bytes, Ending, finished, Seen, OneOrder}
+use Rattle.order.specs.Claim.{Plain, Blocks, stripe, read, write, bytes, Ending, finished, Seen, OneOrder}
 use Rattle.order.specs.Facts.{itself, over, began, promised, launched, stored, showed, ended, recovered, cut, History, seen}
 use Rattle.order.specs.Quorums.{Quorums}
 use Rattle.order.specs.Valid.{Valid}
@@ -12,8 +12,12 @@ use Rattle.order.specs.Valid.{Valid}
 abbrev pub three : Quorums
 three = record { n = 3; m = 1; q = 2; share = lit≤ tt; some = lit≤ tt }
 
+-- of one block, the block is the stripe
+abbrev pub whole : Blocks (List ℕ) (List ℕ)
+whole = record { at = λ j s. s; set = λ j b s. b }
+
 abbrev pub one-byte : Plain
-one-byte = stripe (List ℕ) (0 ∷ [])
+one-byte = stripe whole (0 ∷ [])
 
 abbrev pub nought : List ℕ
 nought = 0 ∷ []

@@ -15,27 +15,42 @@ pub record Plain : Type 1 where
   pub effect : Kind → Stripe → Stripe
   pub gives : Kind → Stripe → Given
 
--- Document 01's operations on a stripe, and what they give: ok, or the bytes that were read.
-pub data Action (S : Type 0) : Type 0 where
-  read : Action S
-  write : S → Action S
+-- A stripe is a row of blocks: block j of it, and the stripe with block j set.
+pub record Blocks (S B : Type 0) : Type 0 where
+  pub at : ℕ → S → B
+  pub set : ℕ → B → S → S
 
-pub data Result (S : Type 0) : Type 0 where
-  ok : Result S
-  bytes : S → Result S
+-- Document 01's operations on a stripe of these blocks, and E2's on one block of it;
+pub data Action {S B : Type 0} (blocks : Blocks S B) : Type 0 where
+  read : Action blocks
+  write : S → Action blocks
+  readBlock : ℕ → Action blocks
+  writeBlock : ℕ → B → Action blocks
 
--- "A write sets it to its bytes." "A read gives it as it stands and changes nothing."
-unfoldable pub changed : {S : Type 0} → Action S → S → S
+-- and what they give: ok, the bytes that were read, or the block.
+pub data Result (S B : Type 0) : Type 0 where
+  ok : Result S B
+  bytes : S → Result S B
+  block : B → Result S B
+
+-- "A write sets it to its bytes." "A read gives it as it stands and changes nothing." E2: "on the plain stripe, fed j too, a write of
+-- block j sets that block alone, and a read of block j gives it."
+unfoldable pub changed : {S B : Type 0} {blocks : Blocks S B} → Action blocks → S → S
 changed read s = s
 changed (write v) s = v
+changed (readBlock j) s = s
+changed {S} {B} {blocks} (writeBlock j b) s = blocks .set j b s
 
-unfoldable pub given : {S : Type 0} → Action S → S → Result S
+unfoldable pub given : {S B : Type 0} {blocks : Blocks S B} → Action blocks → S → Result S B
 given read s = bytes s
 given (write v) s = ok
+given {S} {B} {blocks} (readBlock j) s = block (blocks .at j s)
+given (writeBlock j b) s = ok
 
--- The plain stripe of document 01, by its zeros. A read or a write of one block will be one more kind.
-abbrev pub stripe : (S : Type 0) → S → Plain
-stripe S z = record { Kind = Action S; Stripe = S; Given = Result S; zeros = z; effect = changed; gives = given }
+-- The plain stripe of document 01 with the operations of E2, by its blocks and its zeros.
+abbrev pub stripe : {S B : Type 0} → Blocks S B → S → Plain
+stripe {S} {B} blocks z =
+    record { Kind = Action blocks; Stripe = S; Given = Result S B; zeros = z; effect = changed; gives = given }
 
 -- How an operation ends. "It is finished at the event that answers ok or gives what was read, aborted at the event that
 -- answers abort, cut at a crash of its coordinator before either."

@@ -3,7 +3,9 @@
 -- Demand 3; what it means for a dealer; nothing that is kept is ever refused; the coordinators are 16; refused events change nothing.
 pub mod TheoremProof
 pub mod CorollaryLaws
+pub mod BlockCorollaryLaws
 pub mod NeverRefusedLaws
+pub mod EntryLaws
 pub mod NumberedLaws
 pub mod VolumeLaws
 pub mod RefusedEventLaws
@@ -29,6 +31,7 @@ pub mod ReceiveLaws
 pub mod BrickEvent
 -- One event at one coordinator: starts, crashes, replies counted, what the q-th decides.
 pub mod BegunLaws
+pub mod BeganLaws
 pub mod TurnLaws
 pub mod StripeViewLaws
 pub mod BrickViewLaws
@@ -40,6 +43,7 @@ pub mod DecodeLaws
 pub mod DecideLaws
 pub mod RecoverLaws
 pub mod GiveLaws
+pub mod ModifyLaws
 pub mod DecisionLaws
 pub mod ReplyEvent
 -- The same on whatever stripe.

@@ -10,7 +10,7 @@ use Rattle.settings.specs.Refusal.{passed}
 use Rattle.settings.specs.Times.{lastCoordinator, coordinatorOf}
 use Rattle.settings.specs.declared.Settings.{Settings}
 use Rattle.byte_lists.specs.Little.{Bytes}
-use Rattle.message.specs.Kinds.{writeKind}
+use Rattle.message.specs.Kinds.{writeKind, modifyKind}
 use Rattle.message.specs.declared.Message.{Message}
 use Rattle.message.specs.declared.Reply.{Reply}
 use Rattle.brick.specs.Receive.{outcomeWith, outcome}
@@ -19,7 +19,7 @@ use Rattle.brick.specs.declared.Given.{Given}
 use Rattle.coord_record.specs.Records.{geometryOf, idleWith}
 use Rattle.coord_apply.specs.Answers.{Buffered, returned}
 use Rattle.coord_apply.specs.declared.Answer.{Answer}
-use Rattle.coordinator.specs.Routines.{writeCall, readCall, takeCall, crashCall}
+use Rattle.coordinator.specs.Routines.{writeCall, readCall, writeBlockCall, readBlockCall, takeCall, crashCall}
 use Rattle.order.specs.Claim.{OneOrder, _∈_}
 use Rattle.register.specs.Runs.{plain, message, reply, World, Event, Moved, unmoved, joined, received, standing, run}
 use Rattle.register.specs.Driver.{driven, heldBlock, failed}
@@ -54,6 +54,19 @@ module _ (s : Settings) (k : Buffered) (a : Answer) where
       (blocks stripe coded : List ℕ)
       → returned a blocks stripe coded ≡ readCall (s .n) (s .m) (s .size) (s .stripes) (k .state) blocks stripe coded number reading first
 
+  -- `coordinator::start_write_block`
+  abbrev pub WriteBlockEnsures : (number reading block : ℕ) → (content stripe : List ℕ) → Type 0
+  WriteBlockEnsures number reading block content stripe =
+      (blocks coded : List ℕ)
+      → returned a blocks stripe coded
+      ≡ writeBlockCall (s .n) (s .m) (s .size) (s .stripes) (k .state) blocks (k .stripe) coded number reading block content
+
+  -- `coordinator::start_read_block`
+  abbrev pub ReadBlockEnsures : (number reading block : ℕ) → Type 0
+  ReadBlockEnsures number reading block =
+      (blocks stripe coded : List ℕ)
+      → returned a blocks stripe coded ≡ readBlockCall (s .n) (s .m) (s .size) (s .stripes) (k .state) blocks stripe coded number reading block
+
   -- `coordinator::take_reply`
   abbrev pub TakeEnsures : Reply → (block coded blocks′ stripe′ coded′ : List ℕ) → Type 0
   TakeEnsures r block coded blocks′ stripe′ coded′ =
@@ -63,6 +76,11 @@ module _ (s : Settings) (k : Buffered) (a : Answer) where
 abbrev pub CrashEnsures : Settings → Buffered → Answer → Type 0
 CrashEnsures s k a =
     (blocks stripe coded : List ℕ) → returned a blocks stripe coded ≡ crashCall (s .n) (s .m) (s .size) (s .stripes) (k .state) blocks stripe coded
+
+-- What is lent beside a message: the block that was sent with a Write, both blocks that were sent with Modify.
+pub record LentWith (msg : Message) (block old lent lentOld : List ℕ) : Type 0 where
+  pub write : msg .kind ≡ writeKind → lent ≡ block
+  pub modify : msg .kind ≡ modifyKind → (lent ≡ block) × (lentOld ≡ old)
 
 -- What calls may have led to: a world, and what was seen so far. Refused calls are among them, and their contracts say that nothing changed.
 -- What was sent may be carried any number of times, in any order, or never.
@@ -78,6 +96,16 @@ pub data RoutineCalls (s : Settings) : Moved s → Type 0 where
       → (number reading first : ℕ)
       → (a : Answer) → ReadEnsures s (r .world .coordinators c) a number reading first
       → RoutineCalls s (joined s r (driven s (r .world) c a (r .world .coordinators c .blocks) (r .world .coordinators c .stripe) []))
+  -- `coordinator::start_write_block`
+  start-write-block : (r : Moved s) → RoutineCalls s r → (c : ℕ) → c ≤ lastCoordinator
+      → (number reading block : ℕ) (content : List ℕ) → Bytes content
+      → (a : Answer) (stripe : List ℕ) → WriteBlockEnsures s (r .world .coordinators c) a number reading block content stripe
+      → RoutineCalls s (joined s r (driven s (r .world) c a (r .world .coordinators c .blocks) stripe []))
+  -- `coordinator::start_read_block`
+  start-read-block : (r : Moved s) → RoutineCalls s r → (c : ℕ) → c ≤ lastCoordinator
+      → (number reading block : ℕ)
+      → (a : Answer) → ReadBlockEnsures s (r .world .coordinators c) a number reading block
+      → RoutineCalls s (joined s r (driven s (r .world) c a (r .world .coordinators c .blocks) (r .world .coordinators c .stripe) []))
   -- `coordinator::take_reply`: a reply goes to the coordinator in its time. Beside one that holds no block anything may be lent, and any
   -- buffer to send from: the contract says what is refused.
   take-reply : (r : Moved s) → RoutineCalls s r → (x : Reply) (block : List ℕ) → reply x block ∈ r .world .sent
@@ -90,22 +118,20 @@ pub data RoutineCalls (s : Settings) : Moved s → Type 0 where
   crash : (r : Moved s) → RoutineCalls s r → (c : ℕ) → c ≤ lastCoordinator
       → (a : Answer) → CrashEnsures s (r .world .coordinators c) a
       → RoutineCalls s (joined s r (driven s (r .world) c a (r .world .coordinators c .blocks) (r .world .coordinators c .stripe) []))
-  -- `volume::receive`: a message goes to its brick if that is up. Beside one that is no Write anything may be lent, and any buffer for the
-  -- reply: the contract says what is refused.
-  receive : (r : Moved s) → RoutineCalls s r → (b : ℕ) (msg : Message) (block : List ℕ) → message b msg block ∈ r .world .sent
+  -- `volume::receive`: a message goes to its brick if that is up. Beside one that is no Write or Modify anything may be lent, and any buffer
+  -- for the reply: the contract says what is refused.
+  receive : (r : Moved s) → RoutineCalls s r → (b : ℕ) (msg : Message) (block old : List ℕ) → message b msg block old ∈ r .world .sent
       → r .world .up b ≡ true
-      → (lent out : List ℕ)
-      → (msg .kind ≡ writeKind → lent ≡ block)
+      → (lent lentOld out : List ℕ) → LentWith msg block old lent lentOld
       → (g : Given) (images′ out′ : List ℕ)
-      → outcomeWith g images′ out′ ≡ rowOutcome s b (r .world .images b) msg lent out
+      → outcomeWith g images′ out′ ≡ rowOutcome s b (r .world .images b) msg lent lentOld out
       → RoutineCalls s (joined s r (received s (r .world) b (outcomeWith g images′ (heldBlock s g out′))))
   -- `brick::receive`: the same with the image of the message's stripe lent alone, and put back into its place in the row
-  receive-image : (r : Moved s) → RoutineCalls s r → (b : ℕ) (msg : Message) (block : List ℕ)
-      → message b msg block ∈ r .world .sent → r .world .up b ≡ true
-      → (lent out : List ℕ)
-      → (msg .kind ≡ writeKind → lent ≡ block)
+  receive-image : (r : Moved s) → RoutineCalls s r → (b : ℕ) (msg : Message) (block old : List ℕ)
+      → message b msg block old ∈ r .world .sent → r .world .up b ≡ true
+      → (lent lentOld out : List ℕ) → LentWith msg block old lent lentOld
       → (g : Given) (image′ out′ : List ℕ)
-      → outcomeWith g image′ out′ ≡ outcome s b (imageAt s (msg .stripe) (r .world .images b)) msg lent out
+      → outcomeWith g image′ out′ ≡ outcome s b (imageAt s (msg .stripe) (r .world .images b)) msg lent lentOld out
       → RoutineCalls s
       (joined s r (received s (r .world) b (outcomeWith g (withImage s (msg .stripe) image′ (r .world .images b)) (heldBlock s g out′))))
   -- a brick goes down, or comes up with its image as saved

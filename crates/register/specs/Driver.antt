@@ -5,22 +5,34 @@ use mathlib.Core.List.{List, [], _∷_, _++_}
 use Prim.Native.Nat.{ℕ}
 use lib.Dec.{eqb}
 use lib.ListN.{take, replicate}
-use Rattle.message.specs.Kinds.{writeKind}
+use Rattle.message.specs.Kinds.{writeKind, modifyKind}
 use Rattle.message.specs.declared.Message.{Message}
 use Rattle.settings.specs.declared.Settings.{Settings}
+use Rattle.erasure.specs.Code.{blockOf}
 use Rattle.brick.specs.declared.Given.{Given}
 use Rattle.brick.specs.declared.Given.the-variants.{Answered, Silent, Refused}
 use Rattle.coord_record.specs.Records.{idleKind, geometryOf, idleWith}
 use Rattle.coord_record.specs.declared.Coordinator.{Coordinator}
 use Rattle.coord_record.specs.declared.Op.{Op}
-use Rattle.coord_apply.specs.Answers.{Buffered, Broadcast, Step, refused, went}
+use Rattle.coord_apply.specs.Answers.{Buffered, Broadcast, Went, Step, refused, went}
 use Rattle.coord_apply.specs.declared.Answer.{Answer}
 use Rattle.order.specs.Claim.{cut, Seen}
 use Rattle.register.specs.Runs.{plain, World, Moved, putAt, onStripe, seenOf, broadcasts}
 
--- so many of an answer's two messages, in their order, each with the blocks of the output buffer
-unfoldable pub listed : ℕ → Message → Message → List ℕ → List Broadcast
-listed sent message second coded = take sent (record { message = message; blocks = coded } ∷ record { message = second; blocks = coded } ∷ [])
+-- a message with its blocks: a Write round's stand in the output buffer; Modify's new block is block j of the stripe beside the record, its
+-- old block that of the reply blocks
+unfoldable pub withBlocks : (size : ℕ) → Message → (blocks stripe coded : List ℕ) → Broadcast
+withBlocks size message blocks stripe coded =
+    record {
+      message = message;
+      blocks = cond (eqb (message .kind) modifyKind) (blockOf size stripe (message .block)) coded;
+      old = blockOf size blocks (message .block);
+    }
+
+-- so many of an answer's two messages, in their order
+unfoldable pub listed : (size : ℕ) → Answer → (blocks stripe coded : List ℕ) → List Broadcast
+listed size a blocks stripe coded =
+    take (a .sent) (withBlocks size (a .message) blocks stripe coded ∷ withBlocks size (a .second) blocks stripe coded ∷ [])
 
 -- What a driver does with a coordinator's answer, and the buffers it had lent: it keeps the record, sends each broadcast to all n bricks,
 -- and notes what is seen.
@@ -31,7 +43,7 @@ driven s w c a blocks stripe coded =
         images = w .images;
         up = w .up;
         coordinators = putAt (w .coordinators) c (record { state = a .next; blocks = blocks; stripe = stripe });
-        sent = w .sent ++ broadcasts s (listed (a .sent) (a .message) (a .second) coded);
+        sent = w .sent ++ broadcasts s (listed (s .size) a blocks stripe coded);
       };
       seen = onStripe (a .seen .stripe) (seenOf s (a .seen) (record { state = a .next; blocks = blocks; stripe = stripe }));
     }
@@ -73,13 +85,18 @@ failed s w c blocks stripe =
       seen = onStripe (w .coordinators c .state .op .stripe) (cutOf s (w .coordinators c .state .op));
     }
 
--- two broadcasts at most, of which only the last may be a Write round: the output buffer has room for one
-pub data AtMostTwo : List Broadcast → Type 0 where
-  none : AtMostTwo []
-  one : (b : Broadcast) → AtMostTwo (b ∷ [])
-  two : (a b : Broadcast) → eqb (a .message .kind) writeKind ≡ false → AtMostTwo (a ∷ b ∷ [])
+-- Modify's blocks are those that a step leaves in the buffers: the new one in the stripe, the old one among the reply blocks
+pub record InBuffers (size : ℕ) (k : Buffered) (b : Broadcast) : Type 0 where
+  pub new-is : b .message .kind ≡ modifyKind → b .blocks ≡ blockOf size (k .stripe) (b .message .block)
+  pub old-is : b .message .kind ≡ modifyKind → b .old ≡ blockOf size (k .blocks) (b .message .block)
 
--- a step that sends no more than an answer has room for
-abbrev pub Short : Step → Type 0
-Short (refused number) = Unit {0}
-Short (went w) = AtMostTwo (w .sent)
+-- two broadcasts at most, of which only the last may be a Write round: the output buffer has room for one
+pub data AtMostTwo (size : ℕ) (k : Buffered) : List Broadcast → Type 0 where
+  none : AtMostTwo size k []
+  one : (b : Broadcast) → InBuffers size k b → AtMostTwo size k (b ∷ [])
+  two : (a b : Broadcast) → InBuffers size k a → InBuffers size k b → eqb (a .message .kind) writeKind ≡ false → AtMostTwo size k (a ∷ b ∷ [])
+
+-- a step that sends no more than an answer and the buffers have room for
+pub data Short (size : ℕ) : Step → Type 0 where
+  refuses : (number : ℕ) → Short size (refused number)
+  sends : (w : Went) → AtMostTwo size (w .next) (w .sent) → Short size (went w)

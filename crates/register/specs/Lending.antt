@@ -8,7 +8,7 @@ use Rattle.settings.specs.Ranges.{inRange, maxBricks}
 use Rattle.settings.specs.Refusal.{passed}
 use Rattle.settings.specs.Times.{lastCoordinator}
 use Rattle.settings.specs.declared.Settings.{Settings}
-use Rattle.message.specs.Kinds.{writeKind}
+use Rattle.message.specs.Kinds.{writeKind, modifyKind}
 use Rattle.message.specs.declared.Message.{Message}
 use Rattle.message.specs.declared.Reply.{Reply}
 use Rattle.brick.specs.Receive.{Outcome}
@@ -27,14 +27,17 @@ pub record SameAnswer (a b : Outcome) : Type 0 where
   pub image-is : a .image ≡ b .image
   pub block-is : holds (a .given) ≡ true → a .out ≡ b .out
 
--- A brick: the reply's buffer may hold any bytes, and so may the block beside a message that is no Write.
+-- A brick: the reply's buffer may hold any bytes, and so may the block beside a message that is no Write or Modify, and the old block beside
+-- one that is no Modify.
 abbrev pub LentBytesMakeNoDifference : Type 0
 LentBytesMakeNoDifference =
-    (s : Settings) (b : ℕ) (images : List ℕ) (msg : Message) (block block′ out out′ : List ℕ)
+    (s : Settings) (b : ℕ) (images : List ℕ) (msg : Message) (block block′ old old′ out out′ : List ℕ)
     → length block ≡ length block′
+    → length old ≡ length old′
     → length out ≡ length out′
     → (msg .kind ≡ writeKind → block ≡ block′)
-    → SameAnswer (rowOutcome s b images msg block out) (rowOutcome s b images msg block′ out′)
+    → (msg .kind ≡ modifyKind → (block ≡ block′) × (old ≡ old′))
+    → SameAnswer (rowOutcome s b images msg block old out) (rowOutcome s b images msg block′ old′ out′)
 
 -- A coordinator: what lies beside a reply that holds no block may be anything.
 abbrev pub UnheldBlocksMakeNoDifference : Type 0

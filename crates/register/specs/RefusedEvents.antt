@@ -15,9 +15,9 @@ use Rattle.message.specs.declared.Message.{Message}
 use Rattle.brick.specs.Receive.{givenNumber}
 use Rattle.volume.specs.Rows.{rowOutcome}
 use Rattle.coord_apply.specs.Answers.{Step, answerOf}
-use Rattle.coordinator.specs.Routines.{takeStep, crashStep, writeStep, readStep}
-use Rattle.register.specs.Runs.{Item, message, reply, World, Event, startWrite, startRead, arrives, crashes, goesDown, comesUp}
-use Rattle.register.specs.Runs.{unmoved, arriving, step}
+use Rattle.coordinator.specs.Routines.{takeStep, crashStep, writeStep, readStep, writeBlockStep, readBlockStep}
+use Rattle.register.specs.Runs.{Item, message, reply, World, Event, startWrite, startRead, startWriteBlock, startReadBlock, arrives, crashes, goesDown}
+use Rattle.register.specs.Runs.{comesUp, unmoved, arriving, step}
 
 -- the number in the answer of a coordinator's routine
 abbrev pub routineNumber : World → ℕ → Step → ℕ
@@ -25,8 +25,8 @@ routineNumber w c p = answerOf (w .coordinators c .state) p .refusal
 
 -- the number with which a message is refused by its brick, if that is up, or a reply by its coordinator
 unfoldable pub itemNumber : Settings → World → Item → ℕ
-itemNumber s w (message b msg block) =
-    cond (w .up b) (givenNumber (rowOutcome s b (w .images b) msg block (replicate (s .size) 0) .given)) passed
+itemNumber s w (message b msg block old) =
+    cond (w .up b) (givenNumber (rowOutcome s b (w .images b) msg block old (replicate (s .size) 0) .given)) passed
 itemNumber s w (reply r block) =
     routineNumber w (coordinatorOf (r .time))
     (takeStep (s .n) (s .m) (s .size) (s .stripes) (w .coordinators (coordinatorOf (r .time))) r block (s .n * s .size))
@@ -44,6 +44,12 @@ eventNumber s w (startWrite c stripe reading content) =
     cond (areBytes content) (routineNumber w c (writeStep (s .n) (s .m) (s .size) (s .stripes) (w .coordinators c) stripe reading content)) badLine
 eventNumber s w (startRead c stripe reading first) =
     routineNumber w c (readStep (s .n) (s .m) (s .size) (s .stripes) (w .coordinators c) stripe reading first)
+eventNumber s w (startWriteBlock c stripe reading block content) =
+    cond (areBytes content)
+    (routineNumber w c (writeBlockStep (s .n) (s .m) (s .size) (s .stripes) (w .coordinators c) stripe reading block content))
+    badLine
+eventNumber s w (startReadBlock c stripe reading block) =
+    routineNumber w c (readBlockStep (s .n) (s .m) (s .size) (s .stripes) (w .coordinators c) stripe reading block)
 eventNumber s w (arrives k) = arrivalNumber s w (w .sent) k
 eventNumber s w (crashes c left) = routineNumber w c (crashStep (s .n) (s .m) (s .size) (s .stripes) (w .coordinators c))
 eventNumber s w (goesDown b) = refuseUnless (ltb b (s .n)) badNumber
@@ -56,5 +62,5 @@ RefusedEventsChangeNothing = (s : Settings) (w : World) (e : Event) → eventNum
 -- "at a down brick it is lost"
 abbrev pub LostAtADownBrick : Type 0
 LostAtADownBrick =
-    (s : Settings) (w : World) (b : ℕ) (msg : Message) (block : List ℕ) → w .up b ≡ false
-    → arriving s w (message b msg block) ≡ unmoved s w
+    (s : Settings) (w : World) (b : ℕ) (msg : Message) (block old : List ℕ) → w .up b ≡ false
+    → arriving s w (message b msg block old) ≡ unmoved s w

@@ -1,4 +1,5 @@
--- Document 01, "A run and its order", with document 02's volumes (E1): the set, its events, and what is seen of a run, stripe by stripe.
+-- Document 01, "A run and its order", with document 02's volumes (E1) and operations on one block (E2): the set, its events, and what is
+-- seen of a run, stripe by stripe.
 -- Each event works on what the one before left, by the very definitions that the contracts of a brick and of a coordinator cite.
 use mathlib.Core.Bool.{Bool, true, false, cond, _&&_}
 use mathlib.Core.List.{List, [], _∷_, _++_}
@@ -8,30 +9,35 @@ use lib.ListN.{length, replicate}
 use Rattle.settings.specs.Times.{coordinatorOf}
 use Rattle.settings.specs.declared.Settings.{Settings}
 use Rattle.byte_lists.specs.Little.{areBytes}
-use Rattle.message.specs.Kinds.{writeKind}
+use Rattle.message.specs.Kinds.{writeKind, modifyKind}
 use Rattle.message.specs.declared.Message.{Message}
 use Rattle.message.specs.declared.Reply.{Reply}
 use Rattle.brick.specs.Receive.{Outcome}
 use Rattle.volume.specs.Rows.{freshRow, rowOutcome}
 use Rattle.brick.specs.declared.Given.{Given}
 use Rattle.brick.specs.declared.Given.the-variants.{Answered, Silent, Refused}
-use Rattle.coord_record.specs.Records.{readingKind, geometryOf, idleWith}
-use Rattle.erasure.specs.Code.{blockOf}
+use Rattle.coord_record.specs.Records.{readingKind, readingBlockKind, writingBlockKind, onBlock, geometryOf, idleWith}
+use Rattle.erasure.specs.Code.{blockOf, withBlock}
 use Rattle.coord_apply.specs.Answers.{Buffered, Broadcast, Step, refused, went, beganSeen, okSeen, readSeen, abortedSeen, cutSeen}
 use Rattle.coord_apply.specs.declared.Notice.{Notice}
-use Rattle.coordinator.specs.Routines.{takeStep, crashStep, writeStep, readStep}
-use Rattle.order.specs.Claim.{Plain, read, write, ok, bytes, stripe, finished, aborted, cut, Seen, OneOrder}
+use Rattle.coordinator.specs.Routines.{takeStep, crashStep, writeStep, readStep, writeBlockStep, readBlockStep}
+use Rattle.order.specs.Claim.{Plain, Blocks, read, write, readBlock, writeBlock, Result, ok, bytes, stripe, finished, aborted, cut, Seen, OneOrder}
 
 -- "The plain stripe is m blocks, zeros at first."
 unfoldable pub zeroStripe : Settings → List ℕ
 zeroStripe s = replicate (s .m * s .size) 0
 
-abbrev pub plain : Settings → Plain
-plain s = stripe (List ℕ) (zeroStripe s)
+-- block j of it, and the stripe with that block set
+abbrev pub stripeBlocks : Settings → Blocks (List ℕ) (List ℕ)
+stripeBlocks s = record { at = λ (j : ℕ) (v : List ℕ). blockOf (s .size) v j; set = λ (j : ℕ) (b v : List ℕ). withBlock (s .size) v j b }
 
--- What was sent: a message to a brick, or a reply, which goes to the coordinator in its time; each with its block.
+abbrev pub plain : Settings → Plain
+plain s = stripe (stripeBlocks s) (zeroStripe s)
+
+-- What was sent: a message to a brick, or a reply, which goes to the coordinator in its time; each with its block, and a message with the
+-- old block too (E2: "Modify goes out: old block, new block"). Where a kind has no use for a block, zeros stand for it.
 pub data Item : Type 0 where
-  message : ℕ → Message → List ℕ → Item
+  message : ℕ → Message → (block old : List ℕ) → Item
   reply : Reply → List ℕ → Item
 
 -- "images, coordinator records, sent messages and up or down bricks": the images by brick, a brick's in one row, stripe after stripe
@@ -61,11 +67,13 @@ pub data Left : Type 0 where
   lost : (blocks stripe : List ℕ) → Left
 
 -- "a read or write started at a coordinator with any clock reading" (on a stripe; a write with its bytes, a read with the brick that its
--- targets are counted from), "a sent message reaching its brick, a sent reply reaching its coordinator" (both by place among what was sent, from 0),
--- "a coordinator's crash" (with what it leaves in the buffers), "a brick going down or coming up"
+-- targets are counted from; or on one block of it, by its number), "a sent message reaching its brick, a sent reply reaching its
+-- coordinator" (both by place among what was sent, from 0), "a coordinator's crash" (with what it leaves in the buffers), "a brick going down or coming up"
 pub data Event : Type 0 where
   startWrite : (coordinator stripe reading : ℕ) (content : List ℕ) → Event
   startRead : (coordinator stripe reading first : ℕ) → Event
+  startWriteBlock : (coordinator stripe reading block : ℕ) (content : List ℕ) → Event
+  startReadBlock : (coordinator stripe reading block : ℕ) → Event
   arrives : ℕ → Event
   crashes : (coordinator : ℕ) → Left → Event
   goesDown : ℕ → Event
@@ -93,29 +101,43 @@ unfoldable pub onStripe : {A : Type 0} → ℕ → List A → ℕ → List A
 onStripe stripe l k = cond (eqb k stripe) l []
 
 -- The kind of the operation that a coordinator with its buffers has begun: "their kinds and bytes only". A write's bytes are the stripe
--- beside the record.
+-- beside the record, or that block of it.
 unfoldable pub begunKind : (s : Settings) → Buffered → plain s .Kind
-begunKind s k = cond (eqb (k .state .op .kind) readingKind) read (write (k .stripe))
+begunKind s k =
+    cond (eqb (k .state .op .kind) readingKind) read
+    (cond (eqb (k .state .op .kind) readingBlockKind) (readBlock (k .state .op .first))
+    (cond (eqb (k .state .op .kind) writingBlockKind) (writeBlock (k .state .op .first) (blockOf (s .size) (k .stripe) (k .state .op .first)))
+    (write (k .stripe))))
+
+-- What a read is seen to have given: the stripe beside the record, or that block of it.
+unfoldable pub readGiven : (s : Settings) → Notice → (stripe : List ℕ) → plain s .Given
+readGiven s e stripe = cond (onBlock (e .kind)) (Result.block (blockOf (s .size) stripe (e .block))) (bytes stripe)
 
 -- What is seen at an event that leaves a coordinator so: "An operation is a start that isn't refused; it begins there. It is finished at
 -- the event that answers ok or gives what was read, aborted at the event that answers abort, cut at a crash of its coordinator before
--- either". What was read is the stripe beside the record.
+-- either".
 unfoldable pub seenOf : (s : Settings) → Notice → Buffered → List (Seen (plain s))
 seenOf s e k =
     cond (eqb (e .what) beganSeen) (Seen.began (e .time) (begunKind s k) ∷ [])
     (cond (eqb (e .what) okSeen) (Seen.ended (e .time) (finished ok) ∷ [])
-    (cond (eqb (e .what) readSeen) (Seen.ended (e .time) (finished (bytes (k .stripe))) ∷ [])
+    (cond (eqb (e .what) readSeen) (Seen.ended (e .time) (finished (readGiven s e (k .stripe))) ∷ [])
     (cond (eqb (e .what) abortedSeen) (Seen.ended (e .time) aborted ∷ [])
     (cond (eqb (e .what) cutSeen) (Seen.ended (e .time) cut ∷ []) []))))
 
--- the block that goes to brick b with a broadcast: its own in a Write round; other messages have no use for theirs
+-- the block that goes to brick b with a broadcast: its own in a Write round, the new block with Modify; other messages have no use for theirs
 unfoldable pub blockFor : Settings → Broadcast → ℕ → List ℕ
-blockFor s c b = cond (eqb (c .message .kind) writeKind) (blockOf (s .size) (c .blocks) b) (replicate (s .size) 0)
+blockFor s c b =
+    cond (eqb (c .message .kind) writeKind) (blockOf (s .size) (c .blocks) b)
+    (cond (eqb (c .message .kind) modifyKind) (c .blocks) (replicate (s .size) 0))
+
+-- and the old block that goes with Modify
+unfoldable pub oldFor : Settings → Broadcast → List ℕ
+oldFor s c = cond (eqb (c .message .kind) modifyKind) (c .old) (replicate (s .size) 0)
 
 -- a broadcast is one message to each of the first k bricks
 unfoldable pub toAll : Settings → Broadcast → ℕ → List Item
 toAll s c zero = []
-toAll s c (suc k) = toAll s c k ++ message k (c .message) (blockFor s c k) ∷ []
+toAll s c (suc k) = toAll s c k ++ message k (c .message) (blockFor s c k) (oldFor s c) ∷ []
 
 unfoldable pub broadcasts : Settings → List Broadcast → List Item
 broadcasts s [] = []
@@ -155,8 +177,8 @@ received s w b o =
 
 -- "What was sent arrives unaltered, in any order, any number of times or never; at a down brick it is lost."
 unfoldable pub arriving : (s : Settings) → World → Item → Moved s
-arriving s w (message b msg block) =
-    cond (w .up b) (received s w b (rowOutcome s b (w .images b) msg block (replicate (s .size) 0))) (unmoved s w)
+arriving s w (message b msg block old) =
+    cond (w .up b) (received s w b (rowOutcome s b (w .images b) msg block old (replicate (s .size) 0))) (unmoved s w)
 arriving s w (reply r block) =
     coordinated s w (coordinatorOf (r .time))
     (takeStep (s .n) (s .m) (s .size) (s .stripes) (w .coordinators (coordinatorOf (r .time))) r block (s .n * s .size))
@@ -196,6 +218,12 @@ step s w (startWrite c stripe reading content) =
     (coordinated s w c (writeStep (s .n) (s .m) (s .size) (s .stripes) (w .coordinators c) stripe reading content))
     (unmoved s w)
 step s w (startRead c stripe reading first) = coordinated s w c (readStep (s .n) (s .m) (s .size) (s .stripes) (w .coordinators c) stripe reading first)
+step s w (startWriteBlock c stripe reading block content) =
+    cond (areBytes content)
+    (coordinated s w c (writeBlockStep (s .n) (s .m) (s .size) (s .stripes) (w .coordinators c) stripe reading block content))
+    (unmoved s w)
+step s w (startReadBlock c stripe reading block) =
+    coordinated s w c (readBlockStep (s .n) (s .m) (s .size) (s .stripes) (w .coordinators c) stripe reading block)
 step s w (arrives k) = arrivingAt s w (w .sent) k
 step s w (crashes c left) = coordinated s w c (leftBy s left (crashStep (s .n) (s .m) (s .size) (s .stripes) (w .coordinators c)))
 step s w (goesDown b) = standing s w b false

@@ -13,16 +13,17 @@ use Rattle.settings.specs.Times.{drawRefusal}
 use Rattle.settings.specs.declared.Settings.{Settings}
 use Rattle.coord_record.specs.Records.{idleKind}
 use Rattle.byte_lists.specs.Little.{areBytes}
-use Rattle.coord_refusals.specs.Checks.{writeChecks, readChecks}
+use Rattle.coord_refusals.specs.Checks.{writeChecks, readChecks, writeBlockChecks, readBlockChecks}
 use Rattle.volume.specs.Rows.{imageAt}
 use Rattle.order.specs.Claim.{Seen, _∈_}
-use Rattle.register.specs.Runs.{plain, Item, message, reply, World, Event, startWrite, startRead, arrives, crashes, goesDown, comesUp, step, run}
+use Rattle.register.specs.Runs.{plain, Item, message, reply, World, Event, startWrite, startRead, startWriteBlock, startReadBlock, arrives, crashes}
+use Rattle.register.specs.Runs.{goesDown, comesUp, step, run}
 use Rattle.register.specs.RefusedEvents.{eventNumber}
 
 -- the item at a place among those sent is a message of this stripe
 unfoldable pub messageOn : List Item → (place stripe : ℕ) → Bool
 messageOn [] place stripe = false
-messageOn (message b msg block ∷ is) zero stripe = eqb (msg .stripe) stripe
+messageOn (message b msg block old ∷ is) zero stripe = eqb (msg .stripe) stripe
 messageOn (reply r block ∷ is) zero stripe = false
 messageOn (i ∷ is) (suc place) stripe = messageOn is place stripe
 
@@ -31,6 +32,8 @@ unfoldable pub changesImage : World → Event → (stripe : ℕ) → Bool
 changesImage w (arrives place) stripe = messageOn (w .sent) place stripe
 changesImage w (startWrite c number reading content) stripe = false
 changesImage w (startRead c number reading first) stripe = false
+changesImage w (startWriteBlock c number reading block content) stripe = false
+changesImage w (startReadBlock c number reading block) stripe = false
 changesImage w (crashes c left) stripe = false
 changesImage w (goesDown b) stripe = false
 changesImage w (comesUp b) stripe = false
@@ -67,6 +70,18 @@ module _ (s : Settings) (w : World) (c stripe reading : ℕ) where
       (readChecks (s .n) (s .m) (s .size) (s .stripes) (w .coordinators c .state) stripe first
       (drawRefusal (w .coordinators c .state .clock) reading ∷ []))
 
+  abbrev pub writeBlockBelowBusy : (block : ℕ) → List ℕ → ℕ
+  writeBlockBelowBusy block content =
+      firstRefusal
+      (writeBlockChecks (s .n) (s .m) (s .size) (s .stripes) (w .coordinators c .state) stripe block (length content)
+      (length (w .coordinators c .stripe)) (drawRefusal (w .coordinators c .state .clock) reading ∷ []))
+
+  abbrev pub readBlockBelowBusy : (block : ℕ) → ℕ
+  readBlockBelowBusy block =
+      firstRefusal
+      (readBlockChecks (s .n) (s .m) (s .size) (s .stripes) (w .coordinators c .state) stripe block
+      (drawRefusal (w .coordinators c .state .clock) reading ∷ []))
+
 -- "and one operation at a time": while one runs, on whatever stripe, a start that no lower number refuses is 9.
 abbrev pub OneOperationAtATime : Type 0
 OneOperationAtATime =
@@ -74,3 +89,6 @@ OneOperationAtATime =
     → ((content : List ℕ) → areBytes content ≡ true → writeBelowBusy s w c stripe reading content ≡ passed
     → eventNumber s w (startWrite c stripe reading content) ≡ busy)
     × ((first : ℕ) → readBelowBusy s w c stripe reading first ≡ passed → eventNumber s w (startRead c stripe reading first) ≡ busy)
+    × ((block : ℕ) (content : List ℕ) → areBytes content ≡ true → writeBlockBelowBusy s w c stripe reading block content ≡ passed
+    → eventNumber s w (startWriteBlock c stripe reading block content) ≡ busy)
+    × ((block : ℕ) → readBlockBelowBusy s w c stripe reading block ≡ passed → eventNumber s w (startReadBlock c stripe reading block) ≡ busy)

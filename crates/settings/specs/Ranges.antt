@@ -2,7 +2,7 @@
 use mathlib.Core.Bool.{Bool, _&&_}
 use Prim.Native.Nat.{ℕ, _-_, _/_, _≤_}
 use lib.Dec.{leb, ltb}
-use Rattle.settings.specs.Refusal.{refuseUnless, badSetting, badStripe}
+use Rattle.settings.specs.Refusal.{refuseUnless, badSetting, badStripe, badBlock}
 use Rattle.settings.specs.declared.Settings.{Settings}
 
 -- "n is 1 to 16": so a set of bricks has 16 places
@@ -59,6 +59,10 @@ stripeCountRefusal stripes = refuseUnless (stripesInRange stripes) badSetting
 -- refusal 13: "a stripe not below S"
 unfoldable pub stripeRefusal : (stripes stripe : ℕ) → ℕ
 stripeRefusal stripes stripe = refuseUnless (ltb stripe stripes) badStripe
+
+-- refusal 14: "a data block number not below m"
+unfoldable pub dataBlockRefusal : (m block : ℕ) → ℕ
+dataBlockRefusal m block = refuseUnless (ltb block m) badBlock
 
 -- "f being (n−m)/2 rounded down"
 unfoldable pub faults : ℕ → ℕ → ℕ

@@ -68,3 +68,7 @@ badLine = 12
 -- E1: "a stripe not below S or a client block not below S × m, checked after 3"
 abbrev pub badStripe : ℕ
 badStripe = 13
+
+-- E2: "a data block number not below m, checked after 13"
+abbrev pub badBlock : ℕ
+badBlock = 14

@@ -1,6 +1,6 @@
 // The settings of a set, the quorum, and times (document 01, "Settings and the code", "Times"); the stripes of a volume (E1).
 ghost use mathlib.Core.Path.{_≡_};
-ghost use Rattle.settings.specs.Ranges.{settingsRefusal, codeRefusal, stripeCountRefusal, stripeRefusal, quorum};
+ghost use Rattle.settings.specs.Ranges.{settingsRefusal, codeRefusal, stripeCountRefusal, stripeRefusal, dataBlockRefusal, quorum};
 ghost use Rattle.settings.specs.Times.{drawOf, drawRefusal, numberOf, validTime};
 
 // "n is 1 to 16": so a set of bricks has 16 places.
@@ -50,6 +50,8 @@ pub const STRAY_REPLY: u32 = 11;
 pub const BAD_LINE: u32 = 12;
 
 pub const BAD_STRIPE: u32 = 13;
+
+pub const BAD_BLOCK: u32 = 14;
 
 // The largest count of a time, 2^40 - 1.
 pub const MAX_COUNT: u64 = 1099511627775;
@@ -110,6 +112,16 @@ pub fn stripe_refusal(stripes: usize, stripe: usize) -> u32
 {
     if stripes <= stripe {
         return BAD_STRIPE;
+    }
+    PASSED
+}
+
+// 14 for a data block that a stripe does not have, else 0.
+pub fn data_block_refusal(m: usize, block: usize) -> u32
+    ensures { λ r. ⌜ r ≡ dataBlockRefusal m block ⌝ }
+{
+    if m <= block {
+        return BAD_BLOCK;
     }
     PASSED
 }

@@ -25,12 +25,12 @@ use Rattle.image_view.specs.View.{foundNumber, foundOf}
 use Rattle.image_view.specs.declared.Found.{Found}
 use Rattle.image_view.specs.declared.Found.the-variants.{At}
 
--- the lengths of the boundary's own buffers: two numbers of the panel or of an entry, 21 of a message, eight of a reply
+-- the lengths of the boundary's own buffers: two numbers of the panel or of an entry, 23 of a message, eight of a reply
 abbrev pub pairLength : ℕ
 pairLength = 2
 
 abbrev pub messageLength : ℕ
-messageLength = 21
+messageLength = 23
 
 abbrev pub replyLength : ℕ
 replyLength = 8
@@ -73,7 +73,7 @@ panelPair shown old = record { number = shownNumber shown; pair = shownBuffer sh
 unfoldable pub panelAt : Settings → ℕ → List ℕ → List ℕ → PairGiven
 panelAt s brick image old = pairUnless (ownRefusal s (eqb (length old) pairLength)) old (panelPair (panelOf (parse s brick image)) old)
 
--- the entry's time and the place of its block, or the buffer as it was
+-- the entry's time and the place of its block, 0 for a mark; or the buffer as it was
 unfoldable pub entryBuffer : Found → List ℕ → List ℕ
 entryBuffer (At e) old = e .time ∷ placeIn (e .holding) ∷ []
 entryBuffer (Found.Refused number) old = old
@@ -85,7 +85,7 @@ unfoldable pub entryPairAt : Settings → ℕ → List ℕ → ℕ → List ℕ 
 entryPairAt s brick image place old =
     pairUnless (ownRefusal s (eqb (length old) pairLength)) old (entryPair (foundOf (parse s brick image) place) old)
 
--- where a message's numbers stand: kind, time, round, max, stripe, and a flag for each brick that a set may have
+-- where a message's numbers stand: kind, time, round, max, stripe, old time, data block, and a flag for each brick that a set may have
 abbrev pub askedKindAt : ℕ
 askedKindAt = 0
 
@@ -101,8 +101,14 @@ askedMaxAt = 3
 abbrev pub askedStripeAt : ℕ
 askedStripeAt = 4
 
+abbrev pub askedOldAt : ℕ
+askedOldAt = 5
+
+abbrev pub askedBlockAt : ℕ
+askedBlockAt = 6
+
 abbrev pub askedTargetsAt : ℕ
-askedTargetsAt = 5
+askedTargetsAt = 7
 
 -- the last byte, which is no kind and no flag
 abbrev pub lastByte : ℕ
@@ -116,7 +122,7 @@ asByte k = cond (leb k lastByte) k lastByte
 unfoldable pub asBytes : ℕ → ℕ → List ℕ → List ℕ
 asBytes at count l = tabulate count (λ (i : ℕ). asByte (getD l (at + i) 0))
 
--- the message of 21 numbers
+-- the message of 23 numbers
 unfoldable pub messageOf : List ℕ → Message
 messageOf asked =
     record {
@@ -125,6 +131,8 @@ messageOf asked =
       time = getD asked askedTimeAt 0;
       round = getD asked askedRoundAt 0;
       max = getD asked askedMaxAt 0;
+      old = getD asked askedOldAt 0;
+      block = getD asked askedBlockAt 0;
       targets = asBytes askedTargetsAt maxBricks asked;
     }
 
@@ -172,8 +180,8 @@ receiptAt s asked image out reply o =
     cond (eqb refusal passed) (receipt o reply) (receiptWith refusal image out reply)
 
 -- a message at one image, and at the images of all stripes
-abbrev pub receivedAt : Settings → ℕ → (asked block image out reply : List ℕ) → ReceiptGiven
-receivedAt s brick asked block image out reply = receiptAt s asked image out reply (outcome s brick image (messageOf asked) block out)
+abbrev pub receivedAt : Settings → ℕ → (asked block old image out reply : List ℕ) → ReceiptGiven
+receivedAt s brick asked block old image out reply = receiptAt s asked image out reply (outcome s brick image (messageOf asked) block old out)
 
-abbrev pub rowReceivedAt : Settings → ℕ → (asked block row out reply : List ℕ) → ReceiptGiven
-rowReceivedAt s brick asked block row out reply = receiptAt s asked row out reply (rowOutcome s brick row (messageOf asked) block out)
+abbrev pub rowReceivedAt : Settings → ℕ → (asked block old row out reply : List ℕ) → ReceiptGiven
+rowReceivedAt s brick asked block old row out reply = receiptAt s asked row out reply (rowOutcome s brick row (messageOf asked) block old out)

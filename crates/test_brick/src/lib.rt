@@ -24,7 +24,7 @@ use settings::Settings;
 const PAIR_LENGTH: usize = 2;
 
 // The numbers of a message, and where they stand: the last sixteen are the flags of its targets.
-const MESSAGE_LENGTH: usize = 21;
+const MESSAGE_LENGTH: usize = 23;
 
 const KIND: usize = 0;
 
@@ -36,7 +36,11 @@ const MAX: usize = 3;
 
 const STRIPE: usize = 4;
 
-const TARGETS: usize = 5;
+const OLD: usize = 5;
+
+const BLOCK: usize = 6;
+
+const TARGETS: usize = 7;
 
 // The last byte, which is no kind and no flag.
 const LAST_BYTE: u64 = 255;
@@ -157,7 +161,7 @@ pub extern "C" fn brick_panel(
     }
 }
 
-// The view's entry at a place, into a buffer of two numbers: its time and the place of its block.
+// The view's entry at a place, into a buffer of two numbers: its time and the place of its block, 0 for a mark.
 #[no_mangle]
 pub extern "C" fn brick_entry(
     n: usize,
@@ -251,7 +255,7 @@ fn as_bytes(l: &[u64], at: usize, out: &mut [u8])
     }
 }
 
-// The message of 21 numbers.
+// The message of 23 numbers.
 fn message_of(asked: &[u64]) -> Message
     requires { ⌜ length (now asked) ≡ messageLength ⌝ }
     ensures { λ r. ⌜ r ≡ messageOf (now (asked .entry)) ⌝ }
@@ -265,6 +269,8 @@ fn message_of(asked: &[u64]) -> Message
         time: asked[TIME],
         round: asked[ROUND],
         max: asked[MAX],
+        old: asked[OLD],
+        block: asked[BLOCK] as usize,
         targets,
     }
 }
@@ -279,8 +285,8 @@ fn numbers_right(asked: usize, reply: usize) -> bool
     reply == REPLY_LENGTH
 }
 
-// One message at one image of a brick: 21 numbers in (kind, time, round, max, stripe, 16 flags for the targets), eight numbers out (kind,
-// brick, time, round, yes, found, held, stripe).
+// One message at one image of a brick, with its block and the old block that goes with Modify: 23 numbers in (kind, time, round, max, stripe,
+// old time, data block, 16 flags for the targets), eight numbers out (kind, brick, time, round, yes, found, held, stripe).
 #[no_mangle]
 pub extern "C" fn brick_receive(
     n: usize,
@@ -292,12 +298,13 @@ pub extern "C" fn brick_receive(
     image: &mut [u8],
     asked: &[u64],
     block: &[u8],
+    old: &[u8],
     out: &mut [u8],
     reply: &mut [u64],
 ) -> u32
     ensures { λ r. ⌜
         receiptWith r (now (image .exit)) (now (out .exit)) (now (reply .exit))
-        ≡ receivedAt (settingsWith n m size capacity stripes) brick (now (asked .entry)) (now (block .entry))
+        ≡ receivedAt (settingsWith n m size capacity stripes) brick (now (asked .entry)) (now (block .entry)) (now (old .entry))
         (now (image .entry)) (now (out .entry)) (now (reply .entry)) ⌝ }
 {
     let s = Settings {
@@ -312,7 +319,7 @@ pub extern "C" fn brick_receive(
         return refusal;
     }
     let msg = message_of(asked);
-    let g = brick::receive(s, brick, image, msg, block, out);
+    let g = brick::receive(s, brick, image, msg, block, old, out);
     put_given(g, reply)
 }
 
@@ -328,12 +335,13 @@ pub extern "C" fn volume_receive(
     images: &mut [u8],
     asked: &[u64],
     block: &[u8],
+    old: &[u8],
     out: &mut [u8],
     reply: &mut [u64],
 ) -> u32
     ensures { λ r. ⌜
         receiptWith r (now (images .exit)) (now (out .exit)) (now (reply .exit))
-        ≡ rowReceivedAt (settingsWith n m size capacity stripes) brick (now (asked .entry)) (now (block .entry))
+        ≡ rowReceivedAt (settingsWith n m size capacity stripes) brick (now (asked .entry)) (now (block .entry)) (now (old .entry))
         (now (images .entry)) (now (out .entry)) (now (reply .entry)) ⌝ }
 {
     let s = Settings {
@@ -348,6 +356,6 @@ pub extern "C" fn volume_receive(
         return refusal;
     }
     let msg = message_of(asked);
-    let g = volume::receive(s, brick, images, msg, block, out);
+    let g = volume::receive(s, brick, images, msg, block, old, out);
     put_given(g, reply)
 }

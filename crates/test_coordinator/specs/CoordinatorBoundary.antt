@@ -8,7 +8,7 @@ use lib.ListN.{length, getD, take, drop}
 use Rattle.coord_apply.specs.Answers.{Returned}
 use Rattle.coord_apply.specs.declared.Answer.{Answer}
 use Rattle.coord_record.specs.declared.Coordinator.{Coordinator}
-use Rattle.coordinator.specs.Routines.{writeCall, readCall, takeCall, crashCall}
+use Rattle.coordinator.specs.Routines.{writeCall, readCall, writeBlockCall, readBlockCall, takeCall, crashCall}
 use Rattle.message.specs.declared.Reply.{Reply}
 use Rattle.settings.specs.Ranges.{maxBricks, codeRefusal, stripeCountRefusal}
 use Rattle.settings.specs.Refusal.{passed, refuseUnless, firstRefusal, badLength}
@@ -21,7 +21,7 @@ abbrev pub recordBytesLength : ℕ
 recordBytesLength = 66
 
 abbrev pub answerNumbersLength : ℕ
-answerNumbersLength = 11
+answerNumbersLength = 16
 
 abbrev pub answerBytesLength : ℕ
 answerBytesLength = 52
@@ -135,13 +135,14 @@ recordFor numbers bytes =
       bricks = rowAt bricksAt bytes;
     }
 
--- an answer's 11 numbers: broadcasts; time, round and max of the first message; time of what is seen; the same three of the second message;
--- the stripes of these three
+-- an answer's 16 numbers: broadcasts; time, round and max of the first message; time of what is seen; the same three of the second message;
+-- the stripes of these three; old time and block of the two messages, and the block of what is seen
 unfoldable pub answerNumbers : Answer → List ℕ
 answerNumbers a =
     a .sent ∷ a .message .time ∷ a .message .round ∷ a .message .max ∷ a .seen .time
     ∷ a .second .time ∷ a .second .round ∷ a .second .max
-    ∷ a .message .stripe ∷ a .seen .stripe ∷ a .second .stripe ∷ []
+    ∷ a .message .stripe ∷ a .seen .stripe ∷ a .second .stripe
+    ∷ a .message .old ∷ a .message .block ∷ a .second .old ∷ a .second .block ∷ a .seen .block ∷ []
 
 -- its 52 bytes: kind of the first message; what is seen, of which kind; targets of the first message, bricks seen;
 -- targets and kind of the second message
@@ -202,7 +203,7 @@ abbrev pub replyFor : (kind brick stripe time round : ℕ) → Bool → ℕ → 
 replyFor kind brick stripe time round said found held =
     record { kind = kind; brick = brick; stripe = stripe; time = time; round = round; yes = said; found = found; held = held }
 
--- The four routines. A buffer that a routine is not lent is none here. The number of a stripe is `number`.
+-- The six routines. A buffer that a routine is not lent is none here. The number of a stripe is `number`.
 module _ (n m size stripes : ℕ) (l : Rows) where
   abbrev pub wrote : (number reading : ℕ) → (given stripe : List ℕ) → AtBoundary
   wrote number reading given stripe =
@@ -213,6 +214,16 @@ module _ (n m size stripes : ℕ) (l : Rows) where
   looked number reading first =
       crossing (rowsRefusal n m size stripes l) l [] [] []
       (readCall n m size stripes (recordFor (l .numbers) (l .bytes)) [] [] [] number reading first)
+
+  abbrev pub wroteBlock : (number reading block : ℕ) → (given stripe : List ℕ) → AtBoundary
+  wroteBlock number reading block given stripe =
+      crossing (rowsRefusal n m size stripes l) l [] stripe []
+      (writeBlockCall n m size stripes (recordFor (l .numbers) (l .bytes)) [] stripe [] number reading block given)
+
+  abbrev pub lookedBlock : (number reading block : ℕ) → AtBoundary
+  lookedBlock number reading block =
+      crossing (rowsRefusal n m size stripes l) l [] [] []
+      (readBlockCall n m size stripes (recordFor (l .numbers) (l .bytes)) [] [] [] number reading block)
 
   abbrev pub took : Reply → (block blocks stripe coded : List ℕ) → AtBoundary
   took reply block blocks stripe coded =

@@ -1,2 +1,2 @@
--- CoordinatorBoundary: the record and the answer as rows of numbers and bytes, and the four routines on them.
+-- CoordinatorBoundary: the record and the answer as rows of numbers and bytes, and the six routines on them.
 pub mod CoordinatorBoundary

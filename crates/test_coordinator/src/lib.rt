@@ -1,5 +1,5 @@
 // The coordinator at a C boundary of numbers and slices, for the tests and benchmarks that compare it with other code. Every routine is
-// lent four buffers: the record's 27 numbers and 66 bytes, and the answer's 11 numbers and 52 bytes. A refusal leaves them as they were;
+// lent four buffers: the record's 27 numbers and 66 bytes, and the answer's 16 numbers and 52 bytes. A refusal leaves them as they were;
 // the lowest number comes first: 1, then 2 for one of these buffers, then what the coordinator refuses.
 ghost use mathlib.Core.Path.{_≡_};
 ghost use mathlib.Core.List.{[]};
@@ -9,7 +9,7 @@ ghost use Rattle.settings.specs.Ranges.{maxBricks};
 ghost use Rattle.test_coordinator.specs.CoordinatorBoundary.{recordNumbersLength, recordBytesLength, answerNumbersLength, answerBytesLength};
 ghost use Rattle.test_coordinator.specs.CoordinatorBoundary.{recordFor, recordNumbers, recordBytes, answerNumbers, answerBytes};
 ghost use Rattle.test_coordinator.specs.CoordinatorBoundary.{lentLengths, lentRefusal, rows, laidOut, atBoundary, rowPut, replyFor};
-ghost use Rattle.test_coordinator.specs.CoordinatorBoundary.{wrote, looked, took, fell};
+ghost use Rattle.test_coordinator.specs.CoordinatorBoundary.{wrote, looked, wroteBlock, lookedBlock, took, fell};
 use coord_apply::Answer;
 use coord_record::Coordinator;
 use coord_record::Geometry;
@@ -24,7 +24,7 @@ const RECORD_NUMBERS: usize = 27;
 
 const RECORD_BYTES: usize = 66;
 
-const ANSWER_NUMBERS: usize = 11;
+const ANSWER_NUMBERS: usize = 16;
 
 const ANSWER_BYTES: usize = 52;
 
@@ -66,7 +66,8 @@ const HELD: usize = 34;
 
 const BRICKS: usize = 50;
 
-// Where an answer's numbers stand: how many broadcasts are sent, the message, what is seen, the second message, and their stripes.
+// Where an answer's numbers stand: how many broadcasts are sent, the message, what is seen, the second message, their stripes, and the old times
+// and blocks of the messages and the block of what is seen.
 const SENT: usize = 0;
 
 const MESSAGE_TIME: usize = 1;
@@ -88,6 +89,16 @@ const MESSAGE_STRIPE: usize = 8;
 const SEEN_STRIPE: usize = 9;
 
 const SECOND_MESSAGE_STRIPE: usize = 10;
+
+const MESSAGE_OLD: usize = 11;
+
+const MESSAGE_BLOCK: usize = 12;
+
+const SECOND_MESSAGE_OLD: usize = 13;
+
+const SECOND_MESSAGE_BLOCK: usize = 14;
+
+const SEEN_BLOCK: usize = 15;
 
 // Where its bytes stand, then its rows, and the kind of its second message.
 const MESSAGE_KIND: usize = 0;
@@ -336,6 +347,11 @@ fn put_sent(a: Answer, out: &mut [u64])
     out[MESSAGE_STRIPE] = message.stripe as u64;
     out[SEEN_STRIPE] = seen.stripe as u64;
     out[SECOND_MESSAGE_STRIPE] = second.stripe as u64;
+    out[MESSAGE_OLD] = message.old;
+    out[MESSAGE_BLOCK] = message.block as u64;
+    out[SECOND_MESSAGE_OLD] = second.old;
+    out[SECOND_MESSAGE_BLOCK] = second.block as u64;
+    out[SEEN_BLOCK] = seen.block as u64;
 }
 
 // The bytes of an answer.
@@ -468,6 +484,94 @@ pub extern "C" fn coord_start_read(
     }
     let c = record_of(numbers, bytes);
     let a = coordinator::start_read(n, m, size, stripes, c, stripe_number, reading, first);
+    put_answer(a, numbers, bytes, sent, shown)
+}
+
+// A write of one block begins.
+#[no_mangle]
+pub extern "C" fn coord_start_write_block(
+    n: usize,
+    m: usize,
+    size: usize,
+    stripes: usize,
+    numbers: &mut [u64],
+    bytes: &mut [u8],
+    sent: &mut [u64],
+    shown: &mut [u8],
+    stripe_number: usize,
+    reading: u64,
+    block: usize,
+    given: &[u8],
+    stripe: &mut [u8],
+) -> u32
+    ensures { λ r. ⌜ atBoundary r (rows (now (numbers .exit)) (now (bytes .exit)) (now (sent .exit)) (now (shown .exit)))
+        [] (now (stripe .exit)) []
+        ≡ wroteBlock n m size stripes (rows (now (numbers .entry)) (now (bytes .entry)) (now (sent .entry)) (now (shown .entry)))
+        «stripe_number» reading block (now (given .entry)) (now (stripe .entry)) ⌝ }
+{
+    let refusal = lent_refusal(
+        n,
+        m,
+        size,
+        stripes,
+        numbers.len(),
+        bytes.len(),
+        sent.len(),
+        shown.len(),
+    );
+    if refusal != settings::PASSED {
+        return refusal;
+    }
+    let c = record_of(numbers, bytes);
+    let a = coordinator::start_write_block(
+        n,
+        m,
+        size,
+        stripes,
+        c,
+        stripe_number,
+        reading,
+        block,
+        given,
+        stripe,
+    );
+    put_answer(a, numbers, bytes, sent, shown)
+}
+
+// A read of one block begins.
+#[no_mangle]
+pub extern "C" fn coord_start_read_block(
+    n: usize,
+    m: usize,
+    size: usize,
+    stripes: usize,
+    numbers: &mut [u64],
+    bytes: &mut [u8],
+    sent: &mut [u64],
+    shown: &mut [u8],
+    stripe_number: usize,
+    reading: u64,
+    block: usize,
+) -> u32
+    ensures { λ r. ⌜ atBoundary r (rows (now (numbers .exit)) (now (bytes .exit)) (now (sent .exit)) (now (shown .exit))) [] [] []
+        ≡ lookedBlock n m size stripes (rows (now (numbers .entry)) (now (bytes .entry)) (now (sent .entry)) (now (shown .entry)))
+        «stripe_number» reading block ⌝ }
+{
+    let refusal = lent_refusal(
+        n,
+        m,
+        size,
+        stripes,
+        numbers.len(),
+        bytes.len(),
+        sent.len(),
+        shown.len(),
+    );
+    if refusal != settings::PASSED {
+        return refusal;
+    }
+    let c = record_of(numbers, bytes);
+    let a = coordinator::start_read_block(n, m, size, stripes, c, stripe_number, reading, block);
     put_answer(a, numbers, bytes, sent, shown)
 }
 

@@ -2,9 +2,10 @@
 use mathlib.Core.Path.{_≡_}
 use mathlib.Core.Bool.{true}
 use Prim.Native.Nat.{ℕ, _<_}
-use Rattle.settings.specs.Ranges.{inRange}
+use Rattle.settings.specs.Ranges.{inRange, stripeRefusal, dataBlockRefusal}
+use Rattle.settings.specs.Refusal.{passed}
 use Rattle.settings.specs.declared.Settings.{Settings}
-use Rattle.volume.specs.ClientPlaces.{stripeOf, dataBlockOf, clientBlock, clientBlocks}
+use Rattle.volume.specs.ClientPlaces.{stripeOf, dataBlockOf, clientBlock, clientBlocks, clientRefusal}
 
 -- a client block has a stripe below S and a data block below m, and is the one that lies there
 abbrev pub ClientBlockHasItsPlace : Type 0
@@ -18,3 +19,9 @@ PlaceHasItsClientBlock =
     (s : Settings) → inRange s ≡ true → (stripe block : ℕ) → stripe < s .stripes → block < s .m
     → (clientBlock s stripe block < clientBlocks s)
     × (stripeOf s (clientBlock s stripe block) ≡ stripe) × (dataBlockOf s (clientBlock s stripe block) ≡ block)
+
+-- and no message about it is refused for its stripe, by 13, or for its data block, by 14
+abbrev pub ClientBlockIsAccepted : Type 0
+ClientBlockIsAccepted =
+    (s : Settings) → inRange s ≡ true → (v : ℕ) → clientRefusal s v ≡ passed
+    → (stripeRefusal (s .stripes) (stripeOf s v) ≡ passed) × (dataBlockRefusal (s .m) (dataBlockOf s v) ≡ passed)

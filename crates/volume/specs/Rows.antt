@@ -12,7 +12,7 @@ use Rattle.message.specs.declared.Message.{Message}
 use Rattle.byte_lists.specs.Lists.{stacked, put}
 use Rattle.image.specs.Brick.{freshBrick}
 use Rattle.image.specs.Image.{imageOf, imageSize}
-use Rattle.brick.specs.Receive.{Outcome, frontRefusal, refusedWith, outcome}
+use Rattle.brick.specs.Receive.{Beside, beside, Outcome, frontRefusal, refusedWith, outcome}
 
 -- the bytes of a row: S images
 unfoldable pub rowSize : Settings → ℕ
@@ -47,13 +47,13 @@ freshRowAfter s brick row = cond (eqb (rowLendingRefusal s brick (length row)) p
 unfoldable pub inRow : Settings → ℕ → List ℕ → Outcome → Outcome
 inRow s stripe row o = record { given = o .given; image = withImage s stripe (o .image) row; out = o .out }
 
--- why a row is refused before an image is looked at: 1, 2, 3, 13
-unfoldable pub rowRefusal : Settings → ℕ → List ℕ → Message → (blockLength outLength : ℕ) → ℕ
-rowRefusal s brick row msg blockLength outLength = frontRefusal s (s .stripes) brick (length row) (msg .stripe) blockLength outLength
+-- why a row is refused before an image is looked at: 1, 2, 3, 13, 14
+unfoldable pub rowRefusal : Settings → ℕ → List ℕ → Message → Beside → ℕ
+rowRefusal s brick row msg b = frontRefusal s (s .stripes) brick (length row) msg b
 
 -- One message at a brick of a volume: what the image of the message's stripe makes of it, and no other image is looked at.
-unfoldable pub rowOutcome : Settings → ℕ → List ℕ → Message → List ℕ → List ℕ → Outcome
-rowOutcome s brick row msg block out =
-    cond (eqb (rowRefusal s brick row msg (length block) (length out)) passed)
-    (inRow s (msg .stripe) row (outcome s brick (imageAt s (msg .stripe) row) msg block out))
-    (refusedWith (rowRefusal s brick row msg (length block) (length out)) row out)
+unfoldable pub rowOutcome : Settings → ℕ → List ℕ → Message → (block old out : List ℕ) → Outcome
+rowOutcome s brick row msg block old out =
+    cond (eqb (rowRefusal s brick row msg (beside block old out)) passed)
+    (inRow s (msg .stripe) row (outcome s brick (imageAt s (msg .stripe) row) msg block old out))
+    (refusedWith (rowRefusal s brick row msg (beside block old out)) row out)

@@ -133,18 +133,20 @@ pub fn write_fresh(s: Settings, brick: usize, images: &mut [u8]) -> u32
 }
 
 // One message at a brick of a volume: the image of the message's stripe is opened and changed in place, and no other is looked at.
-// Refused: 1 a setting, 2 a length, 3 the brick, 13 the stripe; then of that image 5 and 6; then 10 the message.
+// old: the old block that goes with Modify. Refused: 1 a setting, 2 a length, 3 the brick, 13 the stripe, 14 a data block; then of that image
+// 5 and 6; then 10 the message.
 pub fn receive(
     s: Settings,
     brick: usize,
     images: &mut [u8],
     msg: Message,
     block: &[u8],
+    old: &[u8],
     out: &mut [u8],
 ) -> Given
     ensures { λ r. ⌜
         outcomeWith r (now (images .exit)) (now (out .exit))
-        ≡ rowOutcome s brick (now (images .entry)) msg (now (block .entry)) (now (out .entry)) ⌝ }
+        ≡ rowOutcome s brick (now (images .entry)) msg (now (block .entry)) (now (old .entry)) (now (out .entry)) ⌝ }
 {
     let bad = s.refusal();
     if bad != PASSED {
@@ -156,8 +158,9 @@ pub fn receive(
         s.stripes,
         brick,
         images.len(),
-        stripe,
+        msg,
         block.len(),
+        old.len(),
         out.len(),
     );
     if number != PASSED {
@@ -166,5 +169,5 @@ pub fn receive(
     let room = BLOCK_BYTES * (s.capacity + 1);
     let at = stripe * room;
     let end = at + room;
-    brick::receive(s, brick, &mut images[at..end], msg, block, out)
+    brick::receive(s, brick, &mut images[at..end], msg, block, old, out)
 }

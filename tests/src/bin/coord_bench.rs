@@ -2,28 +2,77 @@
 //! hand that work in place, in one run, in turn. Every message goes to all n bricks and every reply to the coordinator, those too that
 //! come after a round is decided. Prints microseconds an operation, coordinator and bricks together, beside bricks that test zeros byte
 //! by byte (as the brick's benchmark has them) and beside bricks that test them with wide instructions; then the coordinator's part alone.
+//! Last what the proved operations on one block take of those on the stripe: time, and bytes of blocks in messages and replies.
 
 use jilbagum_tests::inplace::Brick;
-use jilbagum_tests::inplace_coordinator::{Act, Coordinator, Message, Reply};
+use jilbagum_tests::inplace_coordinator::{Act, Coordinator, Message, Reply, MODIFY, ORDER, ORDER_BLOCK, ORDER_READ, READ, TRIM, WRITE};
 use jilbagum_tests::proved::{self, answer, Lent};
 use std::time::{Duration, Instant};
 
 const CAPACITY: usize = 4;
 const STRIPES: usize = 1;
 const STRIPE: usize = 0;
-const TRIM: u8 = 5;
+/// The data block of the operations on one block.
+const NUMBER: usize = 1;
+/// The clock's reading at each start.
+const READING: u64 = 9;
+/// How many operations a sample takes.
+const TIMES: u32 = 10;
 
 #[derive(Clone, Copy, PartialEq)]
 enum Op {
     Write,
     Read,
+    WriteBlock,
+    ReadBlock,
 }
+
+impl Op {
+    fn writes(self) -> bool {
+        matches!(self, Op::Write | Op::WriteBlock)
+    }
+}
+
+/// Its name, what it does, how many later writes were left unfinished, and the round of its last message, none where nothing is sent at
+/// the end.
+type Case = (&'static str, Op, usize, u64);
+const CASES: [Case; 8] = [
+    ("write", Op::Write, 0, 2),
+    ("read in one round", Op::Read, 0, 0),
+    ("read, one recovery round", Op::Read, 1, 3),
+    ("read, three recovery rounds", Op::Read, 3, 5),
+    ("block write", Op::WriteBlock, 0, 2),
+    ("block read in one round", Op::ReadBlock, 0, 0),
+    ("block read, one recovery", Op::ReadBlock, 1, 3),
+    ("block write, three recoveries", Op::WriteBlock, 3, 5),
+];
 
 /// The time of an operation, and the time spent in the coordinator.
 #[derive(Clone, Copy)]
 struct Spent {
     whole: Duration,
     coordinator: Duration,
+}
+
+/// Bytes of blocks that messages and replies carry, and those of them that the receiver looks at: of a Modify the brick of the block
+/// looks at the new one alone, a parity brick at both, any other at none.
+#[derive(Clone, Copy, Default)]
+struct Moved {
+    carried: usize,
+    needed: usize,
+}
+
+impl Moved {
+    /// A round's messages to n bricks, m of the data, and so many replies with a block.
+    fn add(&mut self, kind: u8, (n, m, size, _): proved::Four, held: usize) {
+        let (carried, needed) = match kind {
+            WRITE => (n, n),
+            MODIFY => (2 * n, 1 + 2 * (n - m)),
+            _ => (0, 0),
+        };
+        self.carried += (carried + held) * size;
+        self.needed += (needed + held) * size;
+    }
 }
 
 struct Ours {
@@ -35,37 +84,56 @@ struct Ours {
     coded: Vec<u8>,
     outs: Vec<Vec<u8>>,
     replies: Vec<proved::Replied>,
+    moved: Moved,
 }
 
 impl Ours {
-    /// One operation; `watch` also times the coordinator's calls.
-    fn run(&mut self, op: Op, data: &[u8], watch: bool) -> Spent {
-        let (n, m, size, stripes) = self.four;
-        let mut inside = Duration::ZERO;
-        let began = Instant::now();
+    fn start(&mut self, op: Op, data: &[u8]) {
+        let Ours { four, lent, stripe, .. } = self;
         let number = match op {
-            Op::Write => proved::start_write(self.four, &mut self.lent, STRIPE, 9, data, &mut self.stripe),
-            Op::Read => proved::start_read(self.four, &mut self.lent, STRIPE, 9, 1),
+            Op::Write => proved::start_write(*four, lent, STRIPE, READING, data, stripe),
+            Op::Read => proved::start_read(*four, lent, STRIPE, READING, 1),
+            Op::WriteBlock => proved::start_write_block(*four, lent, STRIPE, READING, NUMBER, block_of(data, four.2), stripe),
+            Op::ReadBlock => proved::start_read_block(*four, lent, STRIPE, READING, NUMBER),
         };
         assert_eq!(number, 0);
+    }
+
+    /// The round's message reaches every brick; its kind.
+    fn deliver(&mut self) -> u8 {
+        let (n, m, size, stripes) = self.four;
+        let kind = self.lent.shown[answer::KIND];
+        let flags = self.lent.shown_row(answer::TARGETS).map(u64::from);
+        let sent = &self.lent.sent;
+        let [time, round, max, stripe] = [answer::TIME, answer::ROUND, answer::MAX, answer::STRIPE].map(|place| sent[place]);
+        let asked = proved::asked(u64::from(kind), time, round, max, stripe, flags);
+        let asked = proved::of_block(asked, sent[answer::OLD], sent[answer::BLOCK]);
+        for b in 0..n {
+            let coded = &self.coded[b * size..][..size];
+            let lent = if kind == MODIFY { (block_of(&self.stripe, size), block_of(&self.blocks, size)) } else { (coded, coded) };
+            let (out, reply) = (&mut self.outs[b], &mut self.replies[b]);
+            let number = proved::receive((n, m, size, CAPACITY, stripes), b, &mut self.images[b], &asked, lent, out, reply);
+            assert!(number == if kind == TRIM { proved::SILENCE } else { 0 });
+        }
+        kind
+    }
+
+    /// One operation; `watch` also times the coordinator's calls.
+    fn run(&mut self, op: Op, data: &[u8], watch: bool) -> Spent {
+        let mut inside = Duration::ZERO;
+        self.moved = Moved::default();
+        let began = Instant::now();
+        self.start(op, data);
         loop {
-            let kind = self.lent.shown[answer::KIND];
-            let flags = self.lent.shown_row(answer::TARGETS).map(u64::from);
-            let sent = &self.lent.sent;
-            let [time, round, max, stripe] = [answer::TIME, answer::ROUND, answer::MAX, answer::STRIPE].map(|place| sent[place]);
-            let asked = proved::asked(u64::from(kind), time, round, max, stripe, flags);
-            for b in 0..n {
-                let block = &self.coded[b * size..][..size];
-                let (out, reply) = (&mut self.outs[b], &mut self.replies[b]);
-                let number = proved::receive((n, m, size, CAPACITY, stripes), b, &mut self.images[b], &asked, block, out, reply);
-                assert!(number == if kind == TRIM { proved::SILENCE } else { 0 });
-            }
+            let kind = self.deliver();
+            let held = if kind == TRIM { 0 } else { self.replies.iter().filter(|reply| reply[6] == 1).count() };
+            self.moved.add(kind, self.four, held);
             if kind == TRIM {
                 break;
             }
             let (mut sent, mut ended) = (false, false);
             let started = watch.then(Instant::now);
-            for b in 0..n {
+            for b in 0..self.replies.len() {
                 let fields = proved::taken(self.replies[b]);
                 let Ours { lent, blocks, stripe, coded, .. } = self;
                 let number = proved::take_reply(self.four, lent, fields, &self.outs[b], blocks, stripe, coded);
@@ -80,9 +148,14 @@ impl Ours {
             }
         }
         let whole = began.elapsed();
-        assert!(self.lent.shown[answer::SEEN] == if op == Op::Write { proved::WROTE } else { proved::GAVE });
+        assert!(self.lent.shown[answer::SEEN] == if op.writes() { proved::WROTE } else { proved::GAVE });
         Spent { whole, coordinator: inside }
     }
+}
+
+/// The operation's block in a buffer of blocks.
+fn block_of(buffer: &[u8], size: usize) -> &[u8] {
+    &buffer[NUMBER * size..][..size]
 }
 
 struct Hand {
@@ -96,26 +169,31 @@ struct Hand {
 impl Hand {
     fn deliver(&mut self, message: &Message, size: usize) {
         let Hand { bricks, images, coordinator, outs, replies } = self;
+        let Message { kind, stripe, time, round, max, targets, old, block } = *message;
         for (b, brick) in bricks.iter().enumerate() {
             let (image, out) = (&mut images[b], &mut outs[b]);
-            let (yes, found, held) = match message.kind {
-                1 => {
-                    let target = message.targets >> b & 1 == 1;
+            let (yes, found, held) = match kind {
+                READ => {
+                    let target = targets >> b & 1 == 1;
                     let (yes, found) = brick.read(image, target, out);
                     (yes, found, yes && target)
                 }
-                2 => (brick.order(image, message.time), 0, false),
-                3 => {
-                    let (yes, found) = brick.order_read(image, message.time, message.max, out);
-                    (yes, found, yes)
+                ORDER => (brick.order(image, time), 0, false),
+                ORDER_READ => brick.order_read(image, time, max, out),
+                ORDER_BLOCK => {
+                    let (yes, found) = brick.order_block(image, time, block, out);
+                    (yes, found, yes && b == block)
                 }
-                4 => (brick.write(image, message.time, &coordinator.coded[b * size..][..size]), 0, false),
+                WRITE => (brick.write(image, time, &coordinator.coded[b * size..][..size]), 0, false),
+                MODIFY => {
+                    let (old_block, new) = (block_of(&coordinator.blocks, size), block_of(&coordinator.stripe, size));
+                    (brick.modify(image, time, old, block, old_block, new), 0, false)
+                }
                 _ => {
-                    brick.trim(image, message.time);
+                    brick.trim(image, time);
                     continue;
                 }
             };
-            let Message { kind, stripe, time, round, .. } = *message;
             replies[b] = Reply { kind, brick: b, stripe, time, round, yes, found, held };
         }
     }
@@ -124,8 +202,10 @@ impl Hand {
         let mut inside = Duration::ZERO;
         let began = Instant::now();
         let act = match op {
-            Op::Write => self.coordinator.start_write(four, STRIPE, 9, data),
-            Op::Read => self.coordinator.start_read(four, STRIPE, 9, 1),
+            Op::Write => self.coordinator.start_write(four, STRIPE, READING, data),
+            Op::Read => self.coordinator.start_read(four, STRIPE, READING, 1),
+            Op::WriteBlock => self.coordinator.start_write_block(four, STRIPE, READING, NUMBER, block_of(data, four.2)),
+            Op::ReadBlock => self.coordinator.start_read_block(four, STRIPE, READING, NUMBER),
         };
         let Act::Sends(mut message) = act else { panic!("the operation starts") };
         let mut done = false;
@@ -140,8 +220,8 @@ impl Hand {
                 match self.coordinator.take(four, &self.replies[b], &self.outs[b]) {
                     Act::Waits => {}
                     Act::Sends(m) => sent = Some(m),
-                    Act::Written(m) => (sent, done) = (Some(m), op == Op::Write),
-                    Act::Read(m) => (sent, done) = (m, op == Op::Read),
+                    Act::Written(m) => (sent, done) = (Some(m), op.writes()),
+                    Act::Read(m) => (sent, done) = (m, !op.writes()),
                     Act::Refused(11) => assert!(sent.is_some() || done),
                     Act::Refused(_) | Act::Aborted => panic!("the operation goes on"),
                 }
@@ -159,7 +239,7 @@ impl Hand {
 }
 
 /// Images of n bricks with one whole write; and, as asked, with later writes that one brick each stored.
-fn start(bricks: &[Brick], n: usize, m: usize, size: usize, partial: usize, stripe: &[u8]) -> Vec<Vec<u8>> {
+fn start(bricks: &[Brick], (n, m, size, _): proved::Four, partial: usize, stripe: &[u8]) -> Vec<Vec<u8>> {
     let mut coded = vec![0; n * size];
     assert_eq!(proved::encode(n, m, size, stripe, &mut coded), 0);
     let mut images: Vec<Vec<u8>> = bricks
@@ -185,93 +265,139 @@ fn start(bricks: &[Brick], n: usize, m: usize, size: usize, partial: usize, stri
     images
 }
 
+/// What the lent stripe, zeros at first, holds after an operation.
+fn wanted((_, op, partial, _): Case, data: &[u8], old: &[u8], size: usize) -> Vec<u8> {
+    let block = match op {
+        Op::Write => return data.to_vec(),
+        Op::Read => return old.to_vec(),
+        Op::WriteBlock => block_of(data, size),
+        Op::ReadBlock => block_of(old, size),
+    };
+    // A recovery leaves the whole stripe there.
+    let mut stripe = if partial == 0 { vec![0; old.len()] } else { old.to_vec() };
+    stripe[NUMBER * size..][..size].copy_from_slice(block);
+    stripe
+}
+
+/// A case at some settings, measured: ours, by hand, by hand with wide tests, in microseconds; then the coordinators of the first two.
+fn measure(four: proved::Four, case: Case, samples: usize) -> ([f64; 5], Moved) {
+    let (n, m, size, _) = four;
+    let (_, op, partial, last_round) = case;
+    let bricks = |wide| -> Vec<Brick> { (0..n).map(|b| Brick::new((n, m, size), CAPACITY, b, wide)).collect() };
+    let data: Vec<u8> = (0..m * size).map(|k| (k * 37 + k / 256) as u8).collect();
+    let old: Vec<u8> = (0..m * size).map(|k| (k * 91 + 5) as u8).collect();
+    let images = start(&bricks(false), four, partial, &old);
+    let mut ours = Ours {
+        four,
+        images: images.clone(),
+        lent: Lent::fresh(four, 3),
+        blocks: vec![0; n * size],
+        stripe: vec![0; m * size],
+        coded: vec![0; n * size],
+        outs: vec![vec![0; size]; n],
+        replies: vec![[0; 8]; n],
+        moved: Moved::default(),
+    };
+    let mut hands = [false, true].map(|wide| Hand {
+        bricks: bricks(wide),
+        images: images.clone(),
+        coordinator: Coordinator::new(four, 3),
+        outs: vec![vec![0; size]; n],
+        replies: vec![Reply::default(); n],
+    });
+    let (lent, coordinator) = (ours.lent.clone(), hands[0].coordinator.clone());
+    let mut best = [f64::MAX; 5];
+    for sample in 0..samples {
+        let watch = sample % 2 == 1;
+        let mut sum = [Duration::ZERO; 5];
+        for _ in 0..TIMES {
+            // The start again, not timed.
+            ours.lent.clone_from(&lent);
+            ours.stripe.fill(0);
+            ours.images.clone_from(&images);
+            for hand in &mut hands {
+                hand.coordinator.clone_from(&coordinator);
+                hand.images.clone_from(&images);
+            }
+            let a = ours.run(op, &data, watch);
+            let [b, c] = &mut hands;
+            let (b, c) = (b.run(op, &data, four, watch), c.run(op, &data, four, watch));
+            let spent = [a.whole, b.whole, c.whole, a.coordinator, b.coordinator];
+            for (sum, spent) in sum.iter_mut().zip(spent) {
+                *sum += spent;
+            }
+        }
+        for (k, sum) in sum.iter().enumerate() {
+            if (k >= 3) == watch {
+                best[k] = best[k].min(sum.as_nanos() as f64 / 1000.0 / f64::from(TIMES));
+            }
+        }
+    }
+    let wanted = wanted(case, &data, &old, size);
+    for hand in &hands {
+        assert!(ours.stripe == wanted && hand.coordinator.stripe == wanted, "the stripe");
+        assert!(ours.images == hand.images, "the bricks");
+    }
+    assert_eq!(ours.lent.sent[answer::ROUND], last_round, "the rounds");
+    (best, ours.moved)
+}
+
+/// What an operation on one block takes, beside the operations on the stripe that do the same without it.
+fn beside_the_stripe(name: &str, (time, moved): (f64, Moved), stripe: &[(f64, Moved)]) {
+    let all = |of: fn(&Moved) -> usize| -> usize { stripe.iter().map(|(_, moved)| of(moved)).sum() };
+    let (carried, needed) = (all(|moved| moved.carried), all(|moved| moved.needed));
+    let whole: f64 = stripe.iter().map(|(time, _)| time).sum();
+    println!(
+        "{name:44} {:6.2}   {:6} {carried:6} {:6.2}   {:6} {needed:6} {:6.2}",
+        time / whole,
+        moved.carried,
+        moved.carried as f64 / carried as f64,
+        moved.needed,
+        moved.needed as f64 / needed as f64
+    );
+}
+
+/// Reading one block moves less than reading its stripe. A block write carries more than a write of the stripe: brick j's block, and in
+/// Modify two blocks to each of n bricks, beside n. Writing one block without this operation takes a read and a write of the stripe; a
+/// block write carries more than these two as well, but of what it carries less is looked at.
+fn blocks_beside_stripes(four: proved::Four, found: &[(f64, Moved)]) {
+    let [write, read, _, _, block_write, block_read, ..] = *found else { panic!("every case") };
+    let (n, m, size, _) = four;
+    let head = format!("n {n}, m {m}: of one block beside the stripe");
+    println!("{head:44} {:>6}   {:>20}   {:>20}", "time", "bytes carried, ratio", "bytes needed, ratio");
+    beside_the_stripe("block read beside read", block_read, &[read]);
+    beside_the_stripe("block write beside write", block_write, &[write]);
+    beside_the_stripe("block write beside read, then write", block_write, &[read, write]);
+    assert!(block_read.1.carried < read.1.carried);
+    assert_eq!((block_write.1.carried, write.1.carried), ((2 * n + 1) * size, n * size));
+    assert!(block_write.1.needed < read.1.needed + write.1.needed);
+}
+
 fn main() {
     let samples: usize = std::env::args().nth(1).map_or(200, |a| a.parse().expect("a number of samples"));
-    println!("                                           whole operation, us                       coordinator alone, us");
-    println!("   n   m size  operation                       ours  by hand ratio     wide ratio       ours  by hand ratio");
+    println!("                                             whole operation, us                       coordinator alone, us");
+    println!("   n   m size  operation                         ours  by hand ratio     wide ratio       ours  by hand ratio");
     let mut most: [f64; 2] = [0.0; 2];
+    let mut shapes = Vec::new();
     for (n, m, size) in [(5, 3, 256), (16, 8, 256)] {
         let four = (n, m, size, STRIPES);
-        let bricks = |wide| -> Vec<Brick> {
-            let brick = |b: usize| Brick { n: n as u8, m: m as u8, size, capacity: CAPACITY, brick: b as u8, wide };
-            (0..n).map(brick).collect()
-        };
-        let data: Vec<u8> = (0..m * size).map(|k| (k * 37 + k / 256) as u8).collect();
-        let old: Vec<u8> = (0..m * size).map(|k| (k * 91 + 5) as u8).collect();
-        // With the round of the last message, none where nothing is sent at the end.
-        let cases = [
-            ("write", Op::Write, 0, 2),
-            ("read in one round", Op::Read, 0, 0),
-            ("read, one recovery round", Op::Read, 1, 3),
-            ("read, three recovery rounds", Op::Read, 3, 5),
-        ];
-        for (name, op, partial, last_round) in cases {
-            let images = start(&bricks(false), n, m, size, partial, &old);
-            let mut ours = Ours {
-                four,
-                images: images.clone(),
-                lent: Lent::fresh(four, 3),
-                blocks: vec![0; n * size],
-                stripe: vec![0; m * size],
-                coded: vec![0; n * size],
-                outs: vec![vec![0; size]; n],
-                replies: vec![[0; 8]; n],
-            };
-            let mut hands = [false, true].map(|wide| Hand {
-                bricks: bricks(wide),
-                images: images.clone(),
-                coordinator: Coordinator::new(four, 3),
-                outs: vec![vec![0; size]; n],
-                replies: vec![Reply::default(); n],
-            });
-            let (lent, coordinator) = (ours.lent.clone(), hands[0].coordinator.clone());
-            // Ours, by hand, by hand with wide tests; then the coordinators of the first two.
-            let mut best = [f64::MAX; 5];
-            for sample in 0..samples {
-                let watch = sample % 2 == 1;
-                let mut sum = [Duration::ZERO; 5];
-                let times = 10;
-                for _ in 0..times {
-                    // The start again, not timed.
-                    ours.lent.clone_from(&lent);
-                    for b in 0..n {
-                        ours.images[b].copy_from_slice(&images[b]);
-                    }
-                    for hand in &mut hands {
-                        hand.coordinator.clone_from(&coordinator);
-                        for b in 0..n {
-                            hand.images[b].copy_from_slice(&images[b]);
-                        }
-                    }
-                    let a = ours.run(op, &data, watch);
-                    let [b, c] = &mut hands;
-                    let (b, c) = (b.run(op, &data, four, watch), c.run(op, &data, four, watch));
-                    let spent = [a.whole, b.whole, c.whole, a.coordinator, b.coordinator];
-                    for (sum, spent) in sum.iter_mut().zip(spent) {
-                        *sum += spent;
-                    }
-                }
-                for (k, sum) in sum.iter().enumerate() {
-                    if (k >= 3) == watch {
-                        best[k] = best[k].min(sum.as_nanos() as f64 / 1000.0 / f64::from(times));
-                    }
-                }
-            }
-            let wanted = if op == Op::Write { &data } else { &old };
-            for hand in &hands {
-                assert!(ours.stripe == *wanted && hand.coordinator.stripe == *wanted, "the stripe");
-                assert!(ours.images == hand.images, "the bricks");
-            }
-            assert_eq!(ours.lent.sent[answer::ROUND], last_round, "the rounds");
-            let [a, b, c, d, e] = best;
+        let mut found = Vec::new();
+        for case in CASES {
+            let ([a, b, c, d, e], moved) = measure(four, case, samples);
             println!(
-                "{n:4} {m:3} {size:4}  {name:27} {a:8.1} {b:8.1} {:5.2} {c:8.1} {:5.2} {d:10.1} {e:8.1} {:5.2}",
+                "{n:4} {m:3} {size:4}  {:29} {a:8.1} {b:8.1} {:5.2} {c:8.1} {:5.2} {d:10.1} {e:8.1} {:5.2}",
+                case.0,
                 a / b,
                 a / c,
                 d / e
             );
             most = [most[0].max(a / b), most[1].max(a / c)];
+            found.push((a, moved));
         }
+        shapes.push((four, found));
     }
     println!("greatest ratio of a whole operation {:.2}, beside wide tests of zeros {:.2}", most[0], most[1]);
+    for (four, found) in shapes {
+        blocks_beside_stripes(four, &found);
+    }
 }

@@ -25,8 +25,8 @@ use Rattle.bench_state.specs.State.{imagesOf, upOf, coordinatorKept, worldOf}
 use Rattle.bench_state.proofs.Laws.BenchRangeLaws.{row-of-one}
 use Rattle.bench_state.proofs.Laws.StateLaws.{image-put}
 use Rattle.bench_state.specs.declared.Bench.{Bench}
-use Rattle.bench_sent.specs.Sent.{isReply, numberAt, messageAt, sentBlockAt, itemAt, itemsOf}
-use Rattle.bench_sent.proofs.Laws.SentRowLaws.{item-message, block-cut}
+use Rattle.bench_sent.specs.Sent.{isReply, numberAt, messageAt, sentBlockAt, oldBlockAt, itemAt, itemsOf}
+use Rattle.bench_sent.proofs.Laws.SentRowLaws.{item-message, block-cut, old-cut}
 use Rattle.bench_sent.proofs.Laws.SentItemLaws.{items-length, arrives-item}
 use Rattle.bench_print.specs.Printing.{printedInto}
 use Rattle.bench_rules.specs.Play.{Played, carries, reaches, delivered, happens, refuses, passes}
@@ -36,32 +36,32 @@ use Rattle.bench_rules.proofs.Laws.TurningLaws.{turned-nothing, one-event}
 use Rattle.bench_rules.specs.declared.After.{After}
 use Rattle.bench_carry_message.proofs.Laws.ReplyKeptLaws.{refusal-keeps, room}
 use Rattle.bench_carry_message.specs.Workers.{Lends, Reaching, Settled, maySend, sentAfterMessage, toldOf}
-use Rattle.bench_limits.specs.Limits.{lastMessage, upFlag, imageRoom, rowBytes, blockPlace}
+use Rattle.bench_limits.specs.Limits.{lastMessage, upFlag, imageRoom, rowBytes, blockPlace, oldBlockPlace}
 use Rattle.image_block.specs.Block.{blockBytes}
 use Rattle.settings.specs.Refusal.{badNumber, badLine}
 
 -- the ways of `carries` for a message
-module _ (s : Settings) (w : World) (k brick : ℕ) (msg : Message) (block : List ℕ) where
-  no-brick : s .n ≤ brick → carries s w k (message brick msg block) ≡ refuses w badNumber
+module _ (s : Settings) (w : World) (k brick : ℕ) (msg : Message) (block old : List ℕ) where
+  no-brick : s .n ≤ brick → carries s w k (message brick msg block old) ≡ refuses w badNumber
   unfolding carries
   no-brick h = rw (le-ltb brick (s .n) h) refl
 
-  down : brick < s .n → w .up brick ≡ false → carries s w k (message brick msg block) ≡ passes w
+  down : brick < s .n → w .up brick ≡ false → carries s w k (message brick msg block old) ≡ passes w
   unfolding carries
   down h u = rw (lt-ltb brick (s .n) h, u) refl
 
-  many : brick < s .n → w .up brick ≡ true → maySend (msg .kind) (length (w .sent)) ≡ false → carries s w k (message brick msg block) ≡ refuses w badLine
+  many : brick < s .n → w .up brick ≡ true → maySend (msg .kind) (length (w .sent)) ≡ false → carries s w k (message brick msg block old) ≡ refuses w badLine
   unfolding carries reaches maySend
   many h u m = rw (lt-ltb brick (s .n) h, u, m) refl
 
   reached : brick < s .n → w .up brick ≡ true → maySend (msg .kind) (length (w .sent)) ≡ true
-      → carries s w k (message brick msg block) ≡ delivered s w k (rowOutcome s brick (w .images brick) msg block (replicate (s .size) 0) .given)
+      → carries s w k (message brick msg block old) ≡ delivered s w k (rowOutcome s brick (w .images brick) msg block old (replicate (s .size) 0) .given)
   unfolding carries reaches maySend
   reached h u m = rw (lt-ltb brick (s .n) h, u, m) refl
 
   -- the event itself
   arriving-up : w .up brick ≡ true
-      → arriving s w (message brick msg block) ≡ received s w brick (rowOutcome s brick (w .images brick) msg block (replicate (s .size) 0))
+      → arriving s w (message brick msg block old) ≡ received s w brick (rowOutcome s brick (w .images brick) msg block old (replicate (s .size) 0))
   unfolding arriving
   arriving-up u = rw u refl
 
@@ -116,7 +116,7 @@ module _ (b : Bench) (k brick : ℕ) (msg : Message) (images numbers bytes : Lis
   image = take (rowSize s) (drop (brick * imageRoom) images)
 
   abbrev pub o : Outcome
-  o = rowOutcome s brick image msg (sentBlockAt (s .size) bytes k) (replicate (s .size) 0)
+  o = rowOutcome s brick image msg (sentBlockAt (s .size) bytes k) (oldBlockAt (s .size) bytes k) (replicate (s .size) 0)
 
   image-long : length image ≡ rowSize s
   image-long =
@@ -132,20 +132,22 @@ module _ (b : Bench) (k brick : ℕ) (msg : Message) (images numbers bytes : Lis
     abbrev pub w : World
     w = worldIn b (lent images kept numbers bytes)
 
-    outcome-at : rowOutcome s brick (w .images brick) msg (sentBlockAt (s .size) bytes k) (replicate (s .size) 0) ≡ o
-    outcome-at = ap (λ (i : List ℕ). rowOutcome s brick i msg (sentBlockAt (s .size) bytes k) (replicate (s .size) 0)) (world-image b images kept numbers bytes brick (q .there))
+    outcome-at : rowOutcome s brick (w .images brick) msg (sentBlockAt (s .size) bytes k) (oldBlockAt (s .size) bytes k) (replicate (s .size) 0) ≡ o
+    outcome-at =
+        ap (λ (i : List ℕ). rowOutcome s brick i msg (sentBlockAt (s .size) bytes k) (oldBlockAt (s .size) bytes k) (replicate (s .size) 0))
+        (world-image b images kept numbers bytes brick (q .there))
 
     arrives-is : step s w (arrives k) ≡ received s w brick o
     arrives-is =
         world-arrives b images kept numbers bytes k (q .sent-before)
         ∙ ap (arriving s w) (q .item-is)
-        ∙ arriving-up s w k brick msg (sentBlockAt (s .size) bytes k) (world-up b images kept numbers bytes brick true (q .is-up))
+        ∙ arriving-up s w k brick msg (sentBlockAt (s .size) bytes k) (oldBlockAt (s .size) bytes k) (world-up b images kept numbers bytes brick true (q .is-up))
         ∙ ap (received s w brick) outcome-at
 
     carries-is : carries s w k (itemAt (s .size) numbers bytes k) ≡ delivered s w k (o .given)
     carries-is =
         ap (carries s w k) (q .item-is)
-        ∙ reached s w k brick msg (sentBlockAt (s .size) bytes k) (q .there) (world-up b images kept numbers bytes brick true (q .is-up))
+        ∙ reached s w k brick msg (sentBlockAt (s .size) bytes k) (oldBlockAt (s .size) bytes k) (q .there) (world-up b images kept numbers bytes brick true (q .is-up))
         (ap (maySend (msg .kind)) (sent-length b images kept numbers bytes) ∙ q .may-send)
         ∙ ap (λ (v : Outcome). delivered s w k (v .given)) outcome-at
 
@@ -195,7 +197,7 @@ module _ (b : Bench) (k brick : ℕ) (msg : Message) (images numbers bytes : Lis
           all-lent p x y = cc
 
           same : new ≡ image
-          same = ei ∙ refusal-keeps s brick image msg (sentBlockAt (s .size) bytes k) (replicate (s .size) 0) n (sym e)
+          same = ei ∙ refusal-keeps s brick image msg (sentBlockAt (s .size) bytes k) (oldBlockAt (s .size) bytes k) (replicate (s .size) 0) n (sym e)
 
           back : put (brick * imageRoom) new images ≡ images
           back =
@@ -225,19 +227,24 @@ module _ (b : Bench) (k brick : ℕ) (msg : Message) (images numbers bytes : Lis
   abbrev pub codeBlock : List ℕ
   codeBlock = take (k * rowBytes + blockPlace + s .size - (k * rowBytes + blockPlace)) (drop (k * rowBytes + blockPlace) bytes)
 
-  code-outcome : (zeros : List ℕ) → zeros ≡ replicate (s .size) 0 → rowOutcome s brick codeImage msg codeBlock zeros ≡ o
+  abbrev pub codeOld : List ℕ
+  codeOld = take (k * rowBytes + oldBlockPlace + s .size - (k * rowBytes + oldBlockPlace)) (drop (k * rowBytes + oldBlockPlace) bytes)
+
+  code-outcome : (zeros : List ℕ) → zeros ≡ replicate (s .size) 0 → rowOutcome s brick codeImage msg codeBlock codeOld zeros ≡ o
   unfolding imageSize
   code-outcome zeros ez =
-      ap (λ (j : ℕ). rowOutcome s brick (take j (drop (brick * imageRoom) images)) msg codeBlock zeros) cut
-      ∙ ap (λ (x : List ℕ). rowOutcome s brick image msg x zeros) (block-cut (s .size) k (k * rowBytes + blockPlace) (k * rowBytes + blockPlace + s .size) bytes refl refl)
-      ∙ ap (rowOutcome s brick image msg (sentBlockAt (s .size) bytes k)) ez
+      ap (λ (j : ℕ). rowOutcome s brick (take j (drop (brick * imageRoom) images)) msg codeBlock codeOld zeros) cut
+      ∙ ap (λ (x : List ℕ). rowOutcome s brick image msg x codeOld zeros) (block-cut (s .size) k (k * rowBytes + blockPlace) (k * rowBytes + blockPlace + s .size) bytes refl refl)
+      ∙ ap (λ (x : List ℕ). rowOutcome s brick image msg (sentBlockAt (s .size) bytes k) x zeros)
+      (old-cut (s .size) k (k * rowBytes + oldBlockPlace) (k * rowBytes + oldBlockPlace + s .size) bytes refl refl)
+      ∙ ap (rowOutcome s brick image msg (sentBlockAt (s .size) bytes k) (oldBlockAt (s .size) bytes k)) ez
     where
       cut : brick * imageRoom + blockBytes * (s .capacity + 1) - brick * imageRoom ≡ rowSize s
       cut = omega (arith, row-of-one s (l .fits .small .one-stripe))
 
   -- what the brick gave and left, settled
   pub deliver-settled : (new block zeros numbers′ bytes′ : List ℕ) (at : ℕ) (out out′ : List ℕ) (r : After) (g : Given) → zeros ≡ replicate (s .size) 0
-      → outcomeWith g new block ≡ rowOutcome s brick codeImage msg codeBlock zeros → length new ≡ length codeImage
+      → outcomeWith g new block ≡ rowOutcome s brick codeImage msg codeBlock codeOld zeros → length new ≡ length codeImage
       → Settled b g block numbers bytes at out r numbers′ bytes′ out′
       → (kept : List ℕ) → Turned b (lent images kept numbers bytes) at out (carries s (worldIn b (lent images kept numbers bytes)) k (itemAt (s .size) numbers bytes k)) r
       (lent (putMid (brick * imageRoom) (brick * imageRoom + blockBytes * (s .capacity + 1) - brick * imageRoom) images new) kept numbers′ bytes′) out′
@@ -257,16 +264,17 @@ module _ (b : Bench) (k brick : ℕ) (msg : Message) (images numbers bytes : Lis
       size : length new ≡ rowSize s
       size = long ∙ ap (λ (j : ℕ). length (take j (drop (brick * imageRoom) images))) cut ∙ image-long
 
-  -- the limit holds after it
-  pub deliver-room : (zeros : List ℕ) (g : Given) (new block : List ℕ) → outcomeWith g new block ≡ rowOutcome s brick codeImage msg codeBlock zeros
+  -- the limit holds after it, whatever was lent with the message
+  pub deliver-room : (row given old zeros : List ℕ) (g : Given) (new block : List ℕ) → outcomeWith g new block ≡ rowOutcome s brick row msg given old zeros
       → sentAfterMessage (b .sent) g ≤ lastMessage
-  deliver-room zeros g new block e = room s brick codeImage msg codeBlock zeros (b .sent) g (l .few) (q .may-send) (outcome-given g new block (rowOutcome s brick codeImage msg codeBlock zeros) e)
+  deliver-room row given old zeros g new block e =
+      room s brick row msg given old zeros (b .sent) g (l .few) (q .may-send) (outcome-given g new block (rowOutcome s brick row msg given old zeros) e)
 
 -- the ways in which it does not come to that
 module _ (b : Bench) (k brick : ℕ) (images numbers bytes : List ℕ) (m : isReply numbers k ≡ false) (eb : brick ≡ numberAt numbers k 1) where
   pub item-here : (msg : Message) → msg ≡ messageAt numbers bytes k
-      → itemAt (b .settings .size) numbers bytes k ≡ message brick msg (sentBlockAt (b .settings .size) bytes k)
-  item-here msg em = item-message (b .settings .size) k brick msg (sentBlockAt (b .settings .size) bytes k) numbers bytes m eb em refl
+      → itemAt (b .settings .size) numbers bytes k ≡ message brick msg (sentBlockAt (b .settings .size) bytes k) (oldBlockAt (b .settings .size) bytes k)
+  item-here msg em = item-message (b .settings .size) k brick msg (sentBlockAt (b .settings .size) bytes k) (oldBlockAt (b .settings .size) bytes k) numbers bytes m eb em refl refl
 
   module _ (kept : List ℕ) (at : ℕ) (out out′ : List ℕ) (r : After) where
     abbrev pub Carried : Type 0
@@ -282,7 +290,7 @@ module _ (b : Bench) (k brick : ℕ) (images numbers bytes : List ℕ) (m : isRe
     carried-nowhere h t =
         by-way (refuses (worldIn b (lent images kept numbers bytes)) badNumber)
         (ap (carries (b .settings) (worldIn b (lent images kept numbers bytes)) k) (item-here (messageAt numbers bytes k) refl)
-        ∙ no-brick (b .settings) (worldIn b (lent images kept numbers bytes)) k brick (messageAt numbers bytes k) (sentBlockAt (b .settings .size) bytes k) h)
+        ∙ no-brick (b .settings) (worldIn b (lent images kept numbers bytes)) k brick (messageAt numbers bytes k) (sentBlockAt (b .settings .size) bytes k) (oldBlockAt (b .settings .size) bytes k) h)
         (t (lent images kept numbers bytes))
 
     pub carried-past : (msg : Message) → msg ≡ messageAt numbers bytes k → brick < b .settings .n → upOf (b .up) brick ≡ true → maySend (msg .kind) (b .sent) ≡ false
@@ -290,7 +298,7 @@ module _ (b : Bench) (k brick : ℕ) (images numbers bytes : List ℕ) (m : isRe
     carried-past msg em h u c t =
         by-way (refuses (worldIn b (lent images kept numbers bytes)) badLine)
         (ap (carries (b .settings) (worldIn b (lent images kept numbers bytes)) k) (item-here msg em)
-        ∙ many (b .settings) (worldIn b (lent images kept numbers bytes)) k brick msg (sentBlockAt (b .settings .size) bytes k) h
+        ∙ many (b .settings) (worldIn b (lent images kept numbers bytes)) k brick msg (sentBlockAt (b .settings .size) bytes k) (oldBlockAt (b .settings .size) bytes k) h
         (world-up b images kept numbers bytes brick true u) (ap (maySend (msg .kind)) (sent-length b images kept numbers bytes) ∙ c))
         (t (lent images kept numbers bytes))
 
@@ -299,7 +307,7 @@ module _ (b : Bench) (k brick : ℕ) (images numbers bytes : List ℕ) (m : isRe
   carried-lost kept at out h u f =
       by-way kept at out out (record { bench = b; used = at }) (passes (worldIn b (lent images kept numbers bytes)))
       (ap (carries (b .settings) (worldIn b (lent images kept numbers bytes)) k) (item-here (messageAt numbers bytes k) refl)
-      ∙ down (b .settings) (worldIn b (lent images kept numbers bytes)) k brick (messageAt numbers bytes k) (sentBlockAt (b .settings .size) bytes k) h
+      ∙ down (b .settings) (worldIn b (lent images kept numbers bytes)) k brick (messageAt numbers bytes k) (sentBlockAt (b .settings .size) bytes k) (oldBlockAt (b .settings .size) bytes k) h
       (world-up b images kept numbers bytes brick false u))
       (turned-nothing b (lent images kept numbers bytes) at out f)
 

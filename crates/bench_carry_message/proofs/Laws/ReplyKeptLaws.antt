@@ -6,15 +6,14 @@ use Prim.Native.Nat.{ℕ, _+_, _≤_, _<_}
 use native.Mathlib.Omega.{arith}
 use lib.Dec.{eqb, ltb}
 use lib.ListN.{length}
-use borrow.Author.Tests.{eq-eqb, ne-eqb, eqb-true, ltb-true}
+use borrow.Author.Tests.{eq-eqb, ne-eqb, ltb-true}
 use Rattle.settings.specs.Refusal.{passed}
 use Rattle.settings.specs.declared.Settings.{Settings}
 use Rattle.message.specs.Kinds.{trimKind}
 use Rattle.message.specs.declared.Message.{Message}
 use Rattle.message.specs.declared.Reply.{Reply}
 use Rattle.image.specs.Parse.{Parsed, Opens, Refuses, parse}
-use Rattle.brick.specs.Receive.{outcome, accepted, givenBy, refusedWith, receiveRefusal, frontRefusal}
-use Rattle.brick.proofs.Laws.OutcomeLaws.{fronted}
+use Rattle.brick.specs.Receive.{beside, outcome, accepted, givenBy, refusedWith, receiveRefusal, frontRefusal}
 use Rattle.volume.specs.Rows.{rowSize, imageAt, withImage, inRow, rowRefusal, rowOutcome}
 use Rattle.volume.proofs.Laws.RowLaws.{image-back}
 use Rattle.brick_log.specs.BrickRules.{replyTo}
@@ -35,70 +34,68 @@ use Rattle.bench_carry_message.specs.Workers.{Settled, maySend, sentAfte
 use Rattle.bench_limits.specs.Limits.{lastMessage}
 
 -- the two ways of an image's outcome: refused with every byte kept, or acted on an opened image
-module _ (s : Settings) (brick : ℕ) (l : List ℕ) (msg : Message) (block out : List ℕ) where
+module _ (s : Settings) (brick : ℕ) (l : List ℕ) (msg : Message) (block old out : List ℕ) where
   -- "A refusal returns its number alone and every image .. keeps its bytes."
-  image-keeps : (n : ℕ) → outcome s brick l msg block out .given ≡ Refused n → outcome s brick l msg block out .image ≡ l
+  image-keeps : (n : ℕ) → outcome s brick l msg block old out .given ≡ Refused n → outcome s brick l msg block old out .image ≡ l
   unfolding outcome accepted givenBy refusedWith
-  image-keeps n = go (eqb (receiveRefusal s brick l msg (length block) (length out)) 0) (parse s brick l)
+  image-keeps n = go (eqb (receiveRefusal s brick l msg (beside block old out)) 0) (parse s brick l)
     where
       never : (t : Bool) (r : Reply) → cond t Silent (Answered r) ≡ Refused n → ⊥
       never true r e = let z : _≡_ {A = ℕ} 0 1 = cc in absurd (omega arith)
       never false r e = let z : _≡_ {A = ℕ} 0 1 = cc in absurd (omega arith)
 
       go : (t : Bool) (p : Parsed)
-          → cond t (accepted s brick msg block l out p) (refusedWith (receiveRefusal s brick l msg (length block) (length out)) l out) .given ≡ Refused n
-          → cond t (accepted s brick msg block l out p) (refusedWith (receiveRefusal s brick l msg (length block) (length out)) l out) .image ≡ l
+          → cond t (accepted s brick msg block old l out p) (refusedWith (receiveRefusal s brick l msg (beside block old out)) l out) .given ≡ Refused n
+          → cond t (accepted s brick msg block old l out p) (refusedWith (receiveRefusal s brick l msg (beside block old out)) l out) .image ≡ l
       go true (Opens x) e = absurd (never (eqb (msg .kind) trimKind) (replyTo s brick x msg) e)
       go true (Refuses k) e = refl
       go false p e = refl
 
   -- "Trim t: no reply"
-  image-silent : (r : Reply) → eqb (msg .kind) trimKind ≡ true → outcome s brick l msg block out .given ≡ Answered r → ⊥
+  image-silent : (r : Reply) → eqb (msg .kind) trimKind ≡ true → outcome s brick l msg block old out .given ≡ Answered r → ⊥
   unfolding outcome accepted givenBy refusedWith
-  image-silent r q = go (eqb (receiveRefusal s brick l msg (length block) (length out)) 0) (parse s brick l)
+  image-silent r q = go (eqb (receiveRefusal s brick l msg (beside block old out)) 0) (parse s brick l)
     where
       never : (t : Bool) (a : Reply) → t ≡ true → cond t Silent (Answered a) ≡ Answered r → ⊥
       never true a z e = let z : _≡_ {A = ℕ} 0 1 = cc in absurd (omega arith)
       never false a z e = let y : _≡_ {A = ℕ} 0 1 = cc in absurd (omega arith)
 
       go : (t : Bool) (p : Parsed)
-          → cond t (accepted s brick msg block l out p) (refusedWith (receiveRefusal s brick l msg (length block) (length out)) l out) .given ≡ Answered r → ⊥
+          → cond t (accepted s brick msg block old l out p) (refusedWith (receiveRefusal s brick l msg (beside block old out)) l out) .given ≡ Answered r → ⊥
       go true (Opens x) e = never (eqb (msg .kind) trimKind) (replyTo s brick x msg) q e
       go true (Refuses k) e = let z : _≡_ {A = ℕ} 0 1 = cc in absurd (omega arith)
       go false p e = let z : _≡_ {A = ℕ} 0 1 = cc in absurd (omega arith)
 
 -- The two ways of a row's outcome: refused before an image is looked at, or what the image of the message's stripe makes of it.
-module _ (s : Settings) (brick : ℕ) (row : List ℕ) (msg : Message) (block out : List ℕ) where
+module _ (s : Settings) (brick : ℕ) (row : List ℕ) (msg : Message) (block old out : List ℕ) where
   abbrev number : ℕ
-  number = frontRefusal s (s .stripes) brick (length row) (msg .stripe) (length block) (length out)
+  number = frontRefusal s (s .stripes) brick (length row) msg (beside block old out)
 
   abbrev image : List ℕ
   image = imageAt s (msg .stripe) row
 
   -- a refusal keeps every byte of the row
-  pub refusal-keeps : (n : ℕ) → rowOutcome s brick row msg block out .given ≡ Refused n → rowOutcome s brick row msg block out .image ≡ row
+  pub refusal-keeps : (n : ℕ) → rowOutcome s brick row msg block old out .given ≡ Refused n → rowOutcome s brick row msg block old out .image ≡ row
   unfolding rowOutcome rowRefusal rowSize inRow refusedWith
   refusal-keeps n = go (eqb number passed) refl
     where
       go : (t : Bool) → eqb number passed ≡ t
-          → cond t (inRow s (msg .stripe) row (outcome s brick image msg block out)) (refusedWith number row out) .given ≡ Refused n
-          → cond t (inRow s (msg .stripe) row (outcome s brick image msg block out)) (refusedWith number row out) .image ≡ row
-      go true q e =
-          let f = fronted s (s .stripes) brick (length row) (msg .stripe) (length block) (length out) number refl (eqb-true number passed q) in
-          ap (λ (i : List ℕ). withImage s (msg .stripe) i row) (image-keeps s brick image msg block out n e) ∙ image-back s (msg .stripe) row
+          → cond t (inRow s (msg .stripe) row (outcome s brick image msg block old out)) (refusedWith number row out) .given ≡ Refused n
+          → cond t (inRow s (msg .stripe) row (outcome s brick image msg block old out)) (refusedWith number row out) .image ≡ row
+      go true q e = ap (λ (i : List ℕ). withImage s (msg .stripe) i row) (image-keeps s brick image msg block old out n e) ∙ image-back s (msg .stripe) row
       go false q e = refl
 
   -- "Trim t: no reply"
-  trim-silent : (r : Reply) → eqb (msg .kind) trimKind ≡ true → rowOutcome s brick row msg block out .given ≡ Answered r → ⊥
+  trim-silent : (r : Reply) → eqb (msg .kind) trimKind ≡ true → rowOutcome s brick row msg block old out .given ≡ Answered r → ⊥
   unfolding rowOutcome rowRefusal inRow refusedWith
   trim-silent r q = go (eqb number passed)
     where
-      go : (t : Bool) → cond t (inRow s (msg .stripe) row (outcome s brick image msg block out)) (refusedWith number row out) .given ≡ Answered r → ⊥
-      go true e = image-silent s brick image msg block out r q e
+      go : (t : Bool) → cond t (inRow s (msg .stripe) row (outcome s brick image msg block old out)) (refusedWith number row out) .given ≡ Answered r → ⊥
+      go true e = image-silent s brick image msg block old out r q e
       go false e = let z : _≡_ {A = ℕ} 0 1 = cc in absurd (omega arith)
 
   -- what may be sent stays within message 127
-  pub room : (k : ℕ) (g : Given) → k ≤ lastMessage → maySend (msg .kind) k ≡ true → g ≡ rowOutcome s brick row msg block out .given → sentAfterMessage k g ≤ lastMessage
+  pub room : (k : ℕ) (g : Given) → k ≤ lastMessage → maySend (msg .kind) k ≡ true → g ≡ rowOutcome s brick row msg block old out .given → sentAfterMessage k g ≤ lastMessage
   unfolding maySend sentAfterMessage
   room k (Answered r) h m e = go (eqb (msg .kind) trimKind) refl m
     where

@@ -2,7 +2,7 @@ use mathlib.Core.Path.{refl, ap, _∙_}
 use Prim.Native.Nat.{ℕ, _+_, _*_}
 use native.Mathlib.Omega.{arith}
 use lib.ListN.{take, drop}
-use Rattle.register.proofs.Laws.DriverLaws.{few-returned, take-short}
+use Rattle.bench_commit.proofs.Laws.ListsLaws.{take-lists}
 use Rattle.bench_sent.proofs.Laws.SentRowLaws.{block-cut}
 use Rattle.bench_commit.proofs.Laws.ActedLaws.{acted-row}
 use borrow.Author.Needs.{needs}
@@ -55,7 +55,7 @@ commit-requires c κs =
           stripe-long = t .1 .1 .1 .1 .1 .1 .1 .1 .0 ∙ f .1 .1 .1 .0 ∙ s .pre .1 .0 .stripe-long;
           coded-long = t .1 .1 .1 .1 .1 .1 .1 .1 .1 .0 ∙ s .pre .1 .0 .coded-long;
         },
-        few-returned _ _ _ _ _ _ _ _ _ (take-short _ _ _ _ _ _ _ _) (c .before .before .before .before .before .before .before .before .before .before .before .before .before .take-reply .ensures),
+        take-lists _ _ _ _ _ _ _ _ _ _ _ _ _ _ (c .before .before .before .before .before .before .before .before .before .before .before .before .before .take-reply .ensures),
       ),
     )
 

@@ -70,7 +70,7 @@ module _ (b : Bench) (c : ℕ) (kept numbers bytes : List ℕ) (at : ℕ) (out :
 
   acted-by : (e : Event) (p : Buffered → Step) (a : Answer) (blocks stripe coded old : List ℕ)
       → ((images : List ℕ) → step (b .settings) (worldIn b (lent images kept numbers bytes)) e ≡ coordinated (b .settings) (worldIn b (lent images kept numbers bytes)) c (p here))
-      → Short (p here) → Numbered (p here) → a ≡ answerOf (here .state) (p here) → blocks ≡ blocksAfter here (p here) → stripe ≡ stripeAfter here (p here)
+      → Short (b .settings .size) (p here) → Numbered (p here) → a ≡ answerOf (here .state) (p here) → blocks ≡ blocksAfter here (p here) → stripe ≡ stripeAfter here (p here)
       → coded ≡ codedAfter old (p here) → Answers b c a blocks stripe coded kept numbers bytes at out r kept′ numbers′ bytes′ out′
       → BenchActed b c e p kept numbers bytes at out r kept′ numbers′ bytes′ out′
   unfolding worldIn worldOf

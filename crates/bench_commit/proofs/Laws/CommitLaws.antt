@@ -10,16 +10,17 @@ use lib.ListN.{length, set, take, replicate, length-append, length-replicate, ge
 use lib.Seq.{ext-getD, length-take-le, getD-take}
 use borrow.Author.Tests.{eq-eqb, ne-eqb, le-leb, lt-leb}
 use Rattle.settings.specs.declared.Settings.{Settings}
+use Rattle.message.specs.Kinds.{modifyKind}
 use Rattle.message.specs.declared.Message.{Message}
 use Rattle.coord_apply.specs.Answers.{Buffered, Broadcast, Step, refused, went, mostBroadcasts, answerOf, blocksAfter, stripeAfter, codedAfter}
 use Rattle.coord_apply.specs.declared.Answer.{Answer}
-use Rattle.register.specs.Driver.{driven, listed, Short}
+use Rattle.register.specs.Driver.{driven, listed, withBlocks, Short}
 use Rattle.register.proofs.Laws.DriverLaws.{coordinated-is-driven}
 use Rattle.register.specs.Runs.{Item, World, Event, Moved, step, coordinated, toAll, broadcasts}
 use Rattle.bench_print.specs.Printing.{endedText, printedInto}
-use Rattle.bench_sent.proofs.Laws.SentItemLaws.{items-length}
+use Rattle.bench_sent.proofs.Laws.SentItemLaws.{items-length, coded-long}
 use Rattle.bench_sent.specs.Sent.{itemsOf}
-use Rattle.bench_sent.specs.Workers.{Sends}
+use Rattle.bench_sent.specs.Workers.{Sends, Coded}
 use Rattle.bench_state.specs.Workers.{Fits}
 use Rattle.bench_state.specs.State.{worldOf, coordinatorKept}
 use Rattle.bench_state.specs.Workers.{withCoordinator, keptWith}
@@ -40,7 +41,7 @@ abbrev pub Numbered : Step → Type 0
 Numbered (refused number) = number ≡ 0 → ⊥
 Numbered (went g) = Unit {0}
 
-pub answered-is-acts : (s : Settings) (w : World) (e : Event) (c : ℕ) (p : Step) (old : List ℕ) → Short p → Numbered p → step s w e ≡ coordinated s w c p
+pub answered-is-acts : (s : Settings) (w : World) (e : Event) (c : ℕ) (p : Step) (old : List ℕ) → Short (s .size) p → Numbered p → step s w e ≡ coordinated s w c p
     → answered s w e c (answerOf (w .coordinators c .state) p) (blocksAfter (w .coordinators c) p) (stripeAfter (w .coordinators c) p) (codedAfter old p)
     ≡ acts s w e c p
 unfolding answered acts happens answerOf stripeAfter
@@ -50,13 +51,17 @@ answered-is-acts s w e c (went g) old h n q =
     (sym (coordinated-is-driven s w c (went g) old h) ∙ sym q)
 
 -- no broadcast, one, or two
-module _ (s : Settings) (sent count : ℕ) (first second : Message) (coded numbers bytes : List ℕ) where
-  by-count : (k : ℕ) (numbers′ bytes′ : List ℕ) → count ≡ k → Round s sent k first second coded numbers bytes numbers′ bytes′
-      → Round s sent count first second coded numbers bytes numbers′ bytes′
-  by-count k numbers′ bytes′ e h = subst (λ (j : ℕ). Round s sent j first second coded numbers bytes numbers′ bytes′) (sym e) h
+module _ (s : Settings) (sent count : ℕ) (first second : Message) (blocks stripe coded numbers bytes : List ℕ) where
+  -- a message to all bricks, with its blocks
+  abbrev all-of : Message → List Item
+  all-of msg = toAll s (withBlocks (s .size) msg blocks stripe coded) (s .n)
 
-  pub round-none : count ≡ 0 → Round s sent count first second coded numbers bytes numbers bytes
-  unfolding sentAfterAnswer listed broadcasts
+  by-count : (k : ℕ) (numbers′ bytes′ : List ℕ) → count ≡ k → Round s sent k first second blocks stripe coded numbers bytes numbers′ bytes′
+      → Round s sent count first second blocks stripe coded numbers bytes numbers′ bytes′
+  by-count k numbers′ bytes′ e h = subst (λ (j : ℕ). Round s sent j first second blocks stripe coded numbers bytes numbers′ bytes′) (sym e) h
+
+  pub round-none : count ≡ 0 → Round s sent count first second blocks stripe coded numbers bytes numbers bytes
+  unfolding sentAfterAnswer broadcasts
   round-none e =
       by-count 0 numbers bytes e (record {
         items =
@@ -64,37 +69,41 @@ module _ (s : Settings) (sent count : ℕ) (first second : Message) (coded numbe
             ∙ sym (append-nil (itemsOf (s .size) numbers bytes sent));
       })
 
-  module _ (numbers′ bytes′ : List ℕ) (h : Sends sent (s .n) (s .size) first coded numbers bytes numbers′ bytes′) where
-    pub round-one : count ≡ 1 → Round s sent count first second coded numbers bytes numbers′ bytes′
-    unfolding sentAfterAnswer listed broadcasts
+  module _ (numbers′ bytes′ : List ℕ) (h : Sends sent (s .n) (s .size) first blocks stripe coded numbers bytes numbers′ bytes′) where
+    pub round-one : count ≡ 1 → Round s sent count first second blocks stripe coded numbers bytes numbers′ bytes′
+    unfolding sentAfterAnswer broadcasts
     round-one e =
         by-count 1 numbers′ bytes′ e (record {
           items =
               ap (itemsOf (s .size) numbers′ bytes′) (let z : sent + 1 * s .n ≡ sent + s .n = omega arith in z)
               ∙ h .items s refl
-              ∙ ap (λ (l : List Item). itemsOf (s .size) numbers bytes sent ++ l)
-              (sym (append-nil (toAll s (record { message = first; blocks = coded }) (s .n))));
+              ∙ ap (λ (l : List Item). itemsOf (s .size) numbers bytes sent ++ l) (sym (append-nil (all-of first)));
         })
 
-    pub round-two : (numbers″ bytes″ : List ℕ) → Sends (sent + s .n) (s .n) (s .size) second coded numbers′ bytes′ numbers″ bytes″ → count ≡ 2
-        → Round s sent count first second coded numbers bytes numbers″ bytes″
-    unfolding sentAfterAnswer listed broadcasts
+    pub round-two : (numbers″ bytes″ : List ℕ) → Sends (sent + s .n) (s .n) (s .size) second blocks stripe coded numbers′ bytes′ numbers″ bytes″ → count ≡ 2
+        → Round s sent count first second blocks stripe coded numbers bytes numbers″ bytes″
+    unfolding sentAfterAnswer broadcasts
     round-two numbers″ bytes″ k e =
-        let one = toAll s (record { message = first; blocks = coded }) (s .n) in
-        let two = toAll s (record { message = second; blocks = coded }) (s .n) in
         by-count 2 numbers″ bytes″ e (record {
           items =
               ap (itemsOf (s .size) numbers″ bytes″) (let z : sent + 2 * s .n ≡ sent + s .n + s .n = omega arith in z)
               ∙ k .items s refl
-              ∙ ap (λ (l : List Item). l ++ two) (h .items s refl)
-              ∙ append-assoc (itemsOf (s .size) numbers bytes sent) one two
-              ∙ ap (λ (l : List Item). itemsOf (s .size) numbers bytes sent ++ (one ++ l)) (sym (append-nil two));
+              ∙ ap (λ (l : List Item). l ++ all-of second) (h .items s refl)
+              ∙ append-assoc (itemsOf (s .size) numbers bytes sent) (all-of first) (all-of second)
+              ∙ ap (λ (l : List Item). itemsOf (s .size) numbers bytes sent ++ (all-of first ++ l)) (sym (append-nil (all-of second)));
         })
 
 -- so many messages fit where those of all broadcasts do
 pub sent-fits : (n sent count k : ℕ) → k ≤ count → sentAfterAnswer n sent count ≤ lastMessage → sent + k * n ≤ lastMessage
 unfolding sentAfterAnswer
 sent-fits n sent count k l h = let m = mul-le-mul-right n l in omega arith
+
+-- the buffers have the blocks of a message that names none but a block of the stripe
+pub lent-blocks : (s : Settings) (msg : Message) (blocks stripe coded : List ℕ) → Fits s → Copies s blocks stripe coded → (msg .kind ≡ modifyKind → msg .block < s .m)
+    → Coded (s .n) (s .size) msg blocks stripe coded
+lent-blocks s msg blocks stripe coded f c low =
+    coded-long (s .n) (s .m) (s .size) msg blocks stripe coded (let q = mul-le-mul-right (s .size) (f .range .code .m-high) in omega (arith, q, c .blocks-long))
+    (omega (arith, c .stripe-long)) (omega (arith, c .coded-long)) low
 
 pub sent-bound : (n count : ℕ) → count ≤ mostBroadcasts → count * n ≤ mostBroadcasts * n
 sent-bound n count h = mul-le-mul-right n h
@@ -105,19 +114,19 @@ to-all-length s b zero = refl
 to-all-length s b (suc k) = length-append (toAll s b k) _ ∙ (let e = to-all-length s b k in omega arith)
 
 -- what an answer lists goes to n bricks each
-listed-length : (s : Settings) (k : ℕ) (first second : Message) (coded : List ℕ) → k ≤ mostBroadcasts
-    → length (broadcasts s (listed k first second coded)) ≡ k * s .n
-unfolding listed broadcasts
-listed-length s zero first second coded h = omega arith
-listed-length s (suc zero) first second coded h =
-    let e = to-all-length s (record { message = first; blocks = coded }) (s .n) in
-    length-append (toAll s (record { message = first; blocks = coded }) (s .n)) [] ∙ (omega arith)
-listed-length s (suc (suc zero)) first second coded h =
-    let e = to-all-length s (record { message = first; blocks = coded }) (s .n) in
-    let f = to-all-length s (record { message = second; blocks = coded }) (s .n) in
-    let g = length-append (toAll s (record { message = second; blocks = coded }) (s .n)) [] in
-    length-append (toAll s (record { message = first; blocks = coded }) (s .n)) _ ∙ (omega arith)
-listed-length s (suc (suc (suc k))) first second coded h = absurd (omega arith)
+listed-length : (s : Settings) (k : ℕ) (first second : Broadcast) → k ≤ mostBroadcasts
+    → length (broadcasts s (take k (first ∷ second ∷ []))) ≡ k * s .n
+unfolding broadcasts
+listed-length s zero first second h = omega arith
+listed-length s (suc zero) first second h =
+    let e = to-all-length s first (s .n) in
+    length-append (toAll s first (s .n)) [] ∙ (omega arith)
+listed-length s (suc (suc zero)) first second h =
+    let e = to-all-length s first (s .n) in
+    let f = to-all-length s second (s .n) in
+    let g = length-append (toAll s second (s .n)) [] in
+    length-append (toAll s first (s .n)) _ ∙ (omega arith)
+listed-length s (suc (suc (suc k))) first second h = absurd (omega arith)
 
 -- the number of messages is known before anything is sent
 module _ (b : Bench) (l : Lent) (e : Event) (c : ℕ) (a : Answer) (blocks stripe coded : List ℕ) where
@@ -125,11 +134,11 @@ module _ (b : Bench) (l : Lent) (e : Event) (c : ℕ) (a : Answer) (blocks strip
   made = driven (b .settings) (worldIn b l) c a blocks stripe coded .world
 
   made-sent : a .sent ≤ mostBroadcasts → length (made .sent) ≡ sentAfterAnswer (b .settings .n) (b .sent) (a .sent)
-  unfolding driven worldIn worldOf sentAfterAnswer
+  unfolding driven listed worldIn worldOf sentAfterAnswer
   made-sent h =
       length-append (itemsOf (b .settings .size) (l .numbers) (l .bytes) (b .sent)) _
       ∙ ap₂ _+_ (items-length (b .settings .size) (l .numbers) (l .bytes) (b .sent))
-      (listed-length (b .settings) (a .sent) (a .message) (a .second) coded h)
+      (listed-length (b .settings) (a .sent) _ _ h)
 
   -- refused with its number
   pub answered-refused : (at : ℕ) (out out′ : List ℕ) (r : After) → (a .refusal ≡ 0 → ⊥)
@@ -149,12 +158,12 @@ module _ (b : Bench) (l : Lent) (e : Event) (c : ℕ) (a : Answer) (blocks strip
       sent ≤ lastMessage
       → Fits (b .settings) → c < benchCoordinators → length (b .coordinators) ≡ benchCoordinators → length (l .kept) ≡ keptLength
       → length blocks ≡ b .settings .n * b .settings .size → length stripe ≡ b .settings .m * b .settings .size
-      → Round (b .settings) (b .sent) (a .sent) (a .message) (a .second) coded (l .numbers) (l .bytes) numbers′ bytes′
+      → Round (b .settings) (b .sent) (a .sent) (a .message) (a .second) blocks stripe coded (l .numbers) (l .bytes) numbers′ bytes′
       → kept′ ≡ keptWith c blocks stripe (l .kept)
       → used ≡ at + length (endedText c (a .seen) stripe) → out′ ≡ printedInto at (endedText c (a .seen) stripe) out → used ≤ at + lineRoom
       → Turned b l at out (answered (b .settings) (worldIn b l) e c a blocks stripe coded) (record { bench = withCoordinator b c (a .next) sent; used = used })
       (lent (l .images) kept′ numbers′ bytes′) out′
-  unfolding answered withCoordinator worldIn worldOf driven
+  unfolding answered withCoordinator worldIn worldOf driven listed
   answered-kept at sent used out out′ kept′ numbers′ bytes′ most z q few fits low four long eb es round ek eu eo short =
       rw (eq-eqb (a .refusal) 0 z, le-leb (length (made .sent)) lastMessage (let m = made-sent most in omega arith))
       (record {
@@ -186,7 +195,7 @@ module _ (b : Bench) (c : ℕ) (a : Answer) (blocks stripe coded kept numbers by
 
   pub answers-kept : (sent used : ℕ) (bench : Bench) (out′ kept′ numbers′ bytes′ : List ℕ) → Copies (b .settings) blocks stripe coded
       → a .sent ≤ mostBroadcasts → a .refusal ≡ 0 → sent ≡ sentAfterAnswer (b .settings .n) (b .sent) (a .sent) → sent ≤ lastMessage
-      → Round (b .settings) (b .sent) (a .sent) (a .message) (a .second) coded numbers bytes numbers′ bytes′
+      → Round (b .settings) (b .sent) (a .sent) (a .message) (a .second) blocks stripe coded numbers bytes numbers′ bytes′
       → kept′ ≡ keptWith c blocks stripe kept
       → used ≡ at + length (endedText c (a .seen) stripe) → out′ ≡ printedInto at (endedText c (a .seen) stripe) out → used ≤ at + lineRoom
       → bench ≡ withCoordinator b c (a .next) sent → length (b .coordinators) ≡ benchCoordinators

@@ -18,11 +18,11 @@ use Rattle.coordinator.specs.Routines.{takeStep, crashed, crashStep, drawnThen,
 use Rattle.bench_commit.proofs.Laws.CommitLaws.{Numbered}
 
 -- a property of what was done, or of nothing where it was refused
-abbrev Went-so : (Went → Type 0) → Step → Type 0
+abbrev pub Went-so : (Went → Type 0) → Step → Type 0
 Went-so P (refused number) = Unit {0}
 Went-so P (went g) = P g
 
-so-checked : (P : Went → Type 0) (k : ℕ) (p : Step) → Went-so P p → Went-so P (afterChecks k p)
+pub so-checked : (P : Went → Type 0) (k : ℕ) (p : Step) → Went-so P p → Went-so P (afterChecks k p)
 unfolding afterChecks
 so-checked P k p h = go (leb k 0)
   where
@@ -30,7 +30,7 @@ so-checked P k p h = go (leb k 0)
     go true = h
     go false = tt
 
-so-drawn : (P : Went → Type 0) (d : Draw) (f : ℕ → Clock → Went) → ((t : ℕ) (c : Clock) → P (f t c)) → Went-so P (drawnThen d f)
+pub so-drawn : (P : Went → Type 0) (d : Draw) (f : ℕ → Clock → Went) → ((t : ℕ) (c : Clock) → P (f t c)) → Went-so P (drawnThen d f)
 unfolding drawnThen
 so-drawn P (Drawn t c) f h = h t c
 so-drawn P (Refused k) f h = tt
@@ -99,7 +99,7 @@ module _ (n m size stripes : ℕ) (h : Buffered) where
     unfolding readStep starting sentBlocks roundMessage firstOp
     read-coded old = coded-of old _ (so-checked _ _ _ (so-drawn _ (drawOf (h .state .clock) reading) _ (λ t c. refl)))
 
-  crash-so : (P : Went → Type 0) → P (record { next = h; sent = []; seen = nothingSeen }) → P (ending h (h .stripe) [] cutSeen noBricks) → Went-so P (crashStep n m size stripes h)
+  pub crash-so : (P : Went → Type 0) → P (record { next = h; sent = []; seen = nothingSeen }) → P (ending h (h .stripe) [] cutSeen noBricks) → Went-so P (crashStep n m size stripes h)
   unfolding crashStep crashed
   crash-so P a b = so-checked P _ (went (crashed h)) (go (eqb (h .state .op .kind) idleKind))
     where

@@ -15,7 +15,7 @@ returns c = answers-refused _ _ _ _ _ _ _ _ _ _ _ (search needs) _ _ (search nee
 
 sent-after-requires : tie.Need-sent-after-requires
 sent-after-requires c κs = let p = c .before .before .before .before .before .before .before .before .before .before .pre .0 in
-    (c .before .before .before .before .before .before .before .before .before .before .pre .1 .1, omega (arith, p .few, p .fits .small .bricks))
+    (c .before .before .before .before .before .before .before .before .before .before .pre .1 .1 .few, omega (arith, p .few, p .fits .small .bricks))
 
 refuse-requires-2 : tie.Need-refuse-requires-2
 refuse-requires-2 c κs = let s = c .before .before .before .before .before .before .before .before .before .before .before .before .before in (s .pre .0 .few, s .pre .0 .room)
@@ -27,7 +27,7 @@ returns-2 : tie.Need-returns-2
 returns-2 c =
     let s = c .before .before .before .before .before .before .before .before .before .before .before .before .before .before .before .before in
     answers-past (s .args .b) (s .args .c) (s .args .a) (s .args .blocks .now) (s .args .stripe .now) (s .args .coded .now) (s .args .kept .now) (s .args .numbers .now)
-    (s .args .bytes .now) (s .args .at) (s .args .out .now) (s .pre .0) _ _ _ (s .pre .1 .1) (c .before .before .before .before .before .before .before .if1 .left)
+    (s .args .bytes .now) (s .args .at) (s .args .out .now) (s .pre .0) _ _ _ (s .pre .1 .1 .few) (c .before .before .before .before .before .before .before .if1 .left)
     (c .before .before .before .before .before .sent-after .ensures) (omega (arith, c .before .before .before .before .if2 .taken)) (c .before .before .refuse2 .ensures)
 
 keep-answer-requires : tie.Need-keep-answer-requires

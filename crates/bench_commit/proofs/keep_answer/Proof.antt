@@ -1,6 +1,5 @@
 use mathlib.Core.Path.{sym, subst}
 use Prim.Native.Nat.{ℕ, _≤_}
-use native.Mathlib.Nat.{le-of-eq}
 use Rattle.bench_commit.proofs.Laws.CommitLaws.{answers-kept}
 use borrow.Author.Needs.{needs}
 use Rattle.bench_commit.proofs.keep_answer.Statement.{statement}
@@ -10,9 +9,10 @@ use Rattle.bench_limits.specs.Limits.{lastMessage, stripeRoom}
 send-requires : tie.Need-send-requires
 send-requires c κs =
     let s = c .before .before .before .before .before .before .before .before .before .before .before .before in
-    let p = s .pre .0 in (
-      (p .fits .size-fits, subst (λ (k : ℕ). k ≤ lastMessage) (s .pre .1 .1 .0 .1) (s .pre .1 .1 .0 .2), le-of-eq (sym (s .pre .1 .0 .coded-long))),
-      (p .numbers-long, p .bytes-long, s .pre .1 .1 .1),
+    let p = s .pre .0 in
+    let a = s .pre .1 .1 .1 in (
+      (p .fits, s .pre .1 .0, subst (λ (k : ℕ). k ≤ lastMessage) (s .pre .1 .1 .0 .1) (s .pre .1 .1 .0 .2)),
+      (record { few = a .few; first-low = a .first-low; second-low = a .second-low }, p .numbers-long, p .bytes-long),
     )
 
 keep-requires : tie.Need-keep-requires
@@ -54,7 +54,7 @@ returns c =
     .before .before .before .before .before .before in
     let e = c .before .before .before .before .put-ended .ensures in
     answers-kept (s .args .b) (s .args .c) (s .args .a) (s .args .blocks .now) (s .args .stripe .now) (s .args .coded .now) (s .args .kept .now) (s .args .numbers .now)
-    (s .args .bytes .now) (s .args .at) (s .args .out .now) (s .pre .0) (s .args .sent) _ _ _ _ _ _ (s .pre .1 .0) (s .pre .1 .1 .1) (s .pre .1 .1 .0 .0) (s .pre .1 .1 .0 .1) (s .pre .1 .1 .0 .2)
+    (s .args .bytes .now) (s .args .at) (s .args .out .now) (s .pre .0) (s .args .sent) _ _ _ _ _ _ (s .pre .1 .0) (s .pre .1 .1 .1 .few) (s .pre .1 .1 .0 .0) (s .pre .1 .1 .0 .1) (s .pre .1 .1 .0 .2)
     (c .before .before .before .before .before .before .before .before .before .before .before .before .before .before .before .send .ensures)
     (c .before .before .before .before .before .before .before .before .before .keep .ensures) (e .0) (e .1 .0) (e .1 .1) (c .with-coordinator .ensures .0) (c .with-coordinator .ensures .1)
 

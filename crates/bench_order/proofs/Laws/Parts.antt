@@ -1,6 +1,7 @@
 -- What a line does, part by part.
 use mathlib.Core.Path.{_≡_}
 use mathlib.Core.Logic.{_⊎_}
+use mathlib.Core.Bool.{false}
 use mathlib.Core.List.{List, [], _∷_, _++_}
 use Prim.Native.Nat.{ℕ, _≤_}
 use lib.ListN.{length}
@@ -11,6 +12,7 @@ use Rattle.order.specs.Claim.{Ending, Seen}
 use Rattle.register.specs.Runs.{plain, World, Event, step}
 use Rattle.bench_rules.specs.Play.{Played, refuses, passes, happens, andThen}
 use Rattle.bench_order.specs.Report.{Part, playsPart}
+use Rattle.bench_order.specs.ScriptTheorem.{startsOnBlock}
 use Rattle.bench_order.proofs.Laws.ToldLaws.{told}
 use Rattle.bench_limits.specs.Limits.{benchStripe, lastMessage}
 
@@ -25,12 +27,13 @@ pub record Ran (op : Op) (kind time : ℕ) : Type 0 where
 unfoldable pub FewSent : World → Type 0
 FewSent w = length (w .sent) ≤ lastMessage
 
--- A part of a line is refused, or passes, or is an event that happens by the runs' own step. At such an event the bench prints what is seen
--- at that very event on its stripe, of the operation that ran at its coordinator; nothing is seen on another; and no message past 127 is sent.
+-- A part of a line is refused, or passes, or is an event that happens by the runs' own step and starts no operation on one block. At such an
+-- event the bench prints what is seen at that very event on its stripe, of the operation that ran at its coordinator; nothing is seen on
+-- another; and no message past 127 is sent.
 pub data Does (s : Settings) (w : World) : Played → Type 0 where
   refusing : (number : ℕ) → Does s w (refuses w number)
   passing : Does s w (passes w)
-  happening : (e : Event) (c kind : ℕ) → (FewSent w → FewSent (step s w e .world))
+  happening : (e : Event) (c kind : ℕ) → startsOnBlock e ≡ false → (FewSent w → FewSent (step s w e .world))
       → ((time : ℕ) (how : Ending (plain s)) → step s w e .seen benchStripe ≡ Seen.ended time how ∷ [] → Ran (w .coordinators c .state .op) kind time)
       → ((stripe : ℕ) → (stripe ≡ benchStripe → ⊥) → step s w e .seen stripe ≡ [])
       → Does s w (happens s w e (told s c kind (step s w e .seen benchStripe)))

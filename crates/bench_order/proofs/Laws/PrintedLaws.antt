@@ -1,16 +1,15 @@
 -- What is printed is what is seen.
 use mathlib.Core.Path.{_≡_, refl, sym, ap, subst, _∙_}
 use mathlib.Core.Logic.{_⊎_, inl, inr}
-use mathlib.Core.Bool.{Bool, true, false, cond, _&&_}
+use mathlib.Core.Bool.{Bool, true, false, cond, _||_}
 use mathlib.Core.List.{List, [], _∷_, append-nil}
 use Prim.Native.Nat.{ℕ, zero, suc, _≤_, _<_}
 use native.Mathlib.Omega.{arith}
 use lib.Dec.{eqb, ltb}
 use borrow.Author.Tests.{eqb-true, eqb-false, eq-eqb, ne-eqb, le-ltb, lt-leb}
-use Rattle.byte_lists.proofs.Laws.BoolLaws.{and-left}
 use Rattle.settings.specs.declared.Settings.{Settings}
-use Rattle.coord_record.specs.Records.{readingKind, noBricks, idleKind, writingKind}
-use Rattle.coord_record.specs.Sound.{unsetOp, readRight, writeRight, opRight}
+use Rattle.coord_record.specs.Records.{readingKind, noBricks, idleKind, writingKind, readingBlockKind, writingBlockKind, isReading, onBlock}
+use Rattle.coord_record.specs.Sound.{opRight}
 use Rattle.coord_record.proofs.Laws.SoundPartLaws.{sound-parts}
 use Rattle.coord_record.specs.SoundParts.{SoundParts}
 use Rattle.coord_record.specs.declared.Op.{Op}
@@ -18,13 +17,14 @@ use Rattle.coord_decide.specs.Deciding.{decided}
 use Rattle.coord_decide.specs.Decisions.{DecisionSays}
 use Rattle.coord_decide.proofs.Laws.SaysLaws.{decided-says}
 use Rattle.coord_decide.specs.declared.Decision.{Decision}
-use Rattle.coord_decide.specs.declared.Decision.the-variants.{Abort, Give, Look, Store, Recover, Finish}
-use Rattle.coord_apply.specs.Acts.{acted, ending, nextRound, finishedSeen, waitingOr, counting, withTally}
+use Rattle.coord_decide.specs.declared.Decision.the-variants.{Abort, Give, Look, Store, Modify, Recover, Finish}
+use Rattle.coord_apply.specs.Acts.{acted, ending, nextRound, modifying, noticeOf, finishedSeen, waitingOr, counting, withTally}
 use Rattle.coord_apply.specs.Answers.{Buffered, Went, went, nothingSeen, beganSeen, okSeen, readSeen, cutSeen, noneSeen, abortedSeen}
 use Rattle.coord_apply.specs.declared.Notice.{Notice}
 use Rattle.coord_refusals.specs.Checks.{crashRefusal}
 use Rattle.coordinator.specs.Routines.{takeStep, crashed, crashStep, writeStep, readStep}
-use Rattle.coord_laws.proofs.Laws.OpCaseLaws.{in-read, Fit, reading, looking, restoring, ordering, storing, fit}
+use Rattle.coord_laws.specs.OpCases.{canRecover}
+use Rattle.coord_laws.proofs.Laws.OpCaseLaws.{clash, in-read, Fit, reading, looking, restoring, ordering, storing, block-ordering, modifying as modify-sent, fit, reading-recovers}
 use Rattle.coord_laws.proofs.Laws.StepRunLaws.{took, write-begins, read-begins}
 use Rattle.coord_laws.proofs.Laws.StripeLaws.{write-starts, read-starts}
 use Rattle.coord_laws.proofs.Laws.SoundnessLaws.{passes, same-went}
@@ -34,12 +34,13 @@ use Rattle.settings.specs.Ranges.{codeRefusal, stripeCountRefusal, quorum}
 use Rattle.settings.proofs.Laws.RefusalLaws.{passed-rest}
 use Rattle.coord_refusals.proofs.Laws.RefusedLaws.{record-passes}
 use Rattle.order.specs.Claim.{Ending, Seen, began, ended}
-use Rattle.register.specs.Runs.{plain, seenOf}
+use Rattle.register.specs.Runs.{plain, readGiven, seenOf}
 use Rattle.bench_print.specs.Printing.{kindWord, endWord, lineText, isEnd, endedText}
 use Rattle.bench_limits.specs.Limits.{benchStripes, benchStripe}
 use Rattle.bench_order.proofs.Laws.Parts.{Ran}
 use Rattle.bench_order.specs.Told.{endLine, toldEnd}
 use Rattle.bench_order.proofs.Laws.ToldLaws.{told}
+use Rattle.bench_order.proofs.Laws.WholeStripeLaws.{Whole}
 
 -- ok is the end of a write, and the stripe is the end of a read; what ends is the operation that ran; and it is seen on the bench's stripe
 pub record Agrees (op : Op) (e : Notice) : Type 0 where
@@ -48,17 +49,23 @@ pub record Agrees (op : Op) (e : Notice) : Type 0 where
   pub ends-own : (e .what ≡ noneSeen → ⊥) → (e .what ≡ beganSeen → ⊥) → Ran op (e .kind) (e .time)
   pub on-stripe : e .stripe ≡ benchStripe
 
-told-by-what : (s : Settings) (op : Op) (c what kind stripe time : ℕ) (bricks : List ℕ) (h : Buffered) → Agrees op (record { what = what; kind = kind; stripe = stripe; time = time; bricks = bricks })
-    → told s c kind (seenOf s (record { what = what; kind = kind; stripe = stripe; time = time; bricks = bricks }) h)
-    ≡ endedText c (record { what = what; kind = kind; stripe = stripe; time = time; bricks = bricks }) (h .stripe)
-unfolding told toldEnd endLine seenOf endedText isEnd lineText kindWord endWord
-told-by-what s op c zero kind stripe time bricks h a = refl
-told-by-what s op c (suc zero) kind stripe time bricks h a = refl
-told-by-what s op c (suc (suc zero)) kind stripe time bricks h a = rw (a .ok-writes refl) (append-nil _)
-told-by-what s op c (suc (suc (suc zero))) kind stripe time bricks h a = rw (a .bytes-read refl) (append-nil _)
-told-by-what s op c (suc (suc (suc (suc zero)))) kind stripe time bricks h a = append-nil _
-told-by-what s op c (suc (suc (suc (suc (suc zero))))) kind stripe time bricks h a = append-nil _
-told-by-what s op c (suc (suc (suc (suc (suc (suc k)))))) kind stripe time bricks h a =
+-- a read of the stripe is none of one block
+read-whole : (kind : ℕ) → eqb kind readingKind ≡ true → onBlock kind ≡ false
+unfolding onBlock
+read-whole kind e = rw (eqb-true kind readingKind e) refl
+
+told-by-what : (s : Settings) (op : Op) (c what kind stripe time block : ℕ) (bricks : List ℕ) (h : Buffered)
+    → Agrees op (record { what = what; kind = kind; stripe = stripe; time = time; block = block; bricks = bricks })
+    → told s c kind (seenOf s (record { what = what; kind = kind; stripe = stripe; time = time; block = block; bricks = bricks }) h)
+    ≡ endedText c (record { what = what; kind = kind; stripe = stripe; time = time; block = block; bricks = bricks }) (h .stripe)
+unfolding told toldEnd endLine seenOf readGiven endedText isEnd lineText kindWord endWord
+told-by-what s op c zero kind stripe time block bricks h a = refl
+told-by-what s op c (suc zero) kind stripe time block bricks h a = refl
+told-by-what s op c (suc (suc zero)) kind stripe time block bricks h a = rw (a .ok-writes refl) (append-nil _)
+told-by-what s op c (suc (suc (suc zero))) kind stripe time block bricks h a = rw (read-whole kind (a .bytes-read refl), a .bytes-read refl) (append-nil _)
+told-by-what s op c (suc (suc (suc (suc zero)))) kind stripe time block bricks h a = append-nil _
+told-by-what s op c (suc (suc (suc (suc (suc zero))))) kind stripe time block bricks h a = append-nil _
+told-by-what s op c (suc (suc (suc (suc (suc (suc k)))))) kind stripe time block bricks h a =
     rw (
       ne-eqb (suc (suc (suc (suc (suc (suc k)))))) beganSeen (λ q. omega (arith, q)),
       ne-eqb (suc (suc (suc (suc (suc (suc k)))))) okSeen (λ q. omega (arith, q)),
@@ -73,7 +80,7 @@ told-by-what s op c (suc (suc (suc (suc (suc (suc k)))))) kind stripe time brick
 -- what is printed at an event of coordinator c is the line of what is seen there
 pub printed-is-seen : (s : Settings) (op : Op) (c : ℕ) (e : Notice) (h : Buffered) → Agrees op e
     → told s c (e .kind) (seenOf s e h) ≡ endedText c e (h .stripe)
-printed-is-seen s op c e h a = told-by-what s op c (e .what) (e .kind) (e .stripe) (e .time) (e .bricks) h a
+printed-is-seen s op c e h a = told-by-what s op c (e .what) (e .kind) (e .stripe) (e .time) (e .block) (e .bricks) h a
 
 -- what ended is what was shown to end, at its time
 unfoldable endTime : (s : Settings) → List (Seen (plain s)) → ℕ
@@ -128,33 +135,46 @@ running : (op : Op) → op .stripe ≡ benchStripe → (op .kind ≡ readingKind
 running op z k = record { time-is = refl; kind-is = refl; stripe-is = z; known = k }
 
 short-agrees : (op : Op) (what : ℕ) (bricks : List ℕ) → op .stripe ≡ benchStripe → (op .kind ≡ readingKind) ⊎ (op .kind ≡ writingKind) → abortedSeen ≤ what
-    → Agrees op (record { what = what; kind = op .kind; stripe = op .stripe; time = op .time; bricks = bricks })
+    → Agrees op (noticeOf op what bricks)
 short-agrees op what bricks z k h =
     record { ok-writes = λ q. absurd (omega (arith, h, q)); bytes-read = λ q. absurd (omega (arith, h, q)); ends-own = λ a b. running op z k; on-stripe = z }
 
 finish-agrees : (op : Op) (bricks : List ℕ) → op .stripe ≡ benchStripe → (op .kind ≡ readingKind) ⊎ (op .kind ≡ writingKind)
-    → Agrees op (record { what = finishedSeen op; kind = op .kind; stripe = op .stripe; time = op .time; bricks = bricks })
-unfolding finishedSeen
-finish-agrees op bricks z k = go (eqb (op .kind) readingKind) refl
+    → Agrees op (noticeOf op (finishedSeen op) bricks)
+unfolding finishedSeen isReading
+finish-agrees op bricks z k = go k
   where
-    go : (b : Bool) → eqb (op .kind) readingKind ≡ b → Agrees op (record { what = cond b readSeen okSeen; kind = op .kind; stripe = op .stripe; time = op .time; bricks = bricks })
-    go true e = record { ok-writes = λ q. absurd (omega (arith, q)); bytes-read = λ q. e; ends-own = λ a b. running op z k; on-stripe = z }
-    go false e = record { ok-writes = λ q. e; bytes-read = λ q. absurd (omega (arith, q)); ends-own = λ a b. running op z k; on-stripe = z }
+    go : (op .kind ≡ readingKind) ⊎ (op .kind ≡ writingKind) → Agrees op (noticeOf op (cond (isReading (op .kind)) readSeen okSeen) bricks)
+    go (inl e) =
+        let r : isReading (op .kind) ≡ true = rw e refl in
+        rw r
+        (record { ok-writes = λ q. absurd (omega (arith, q)); bytes-read = λ q. eq-eqb (op .kind) readingKind e; ends-own = λ a b. running op z k; on-stripe = z })
+    go (inr e) =
+        let r : isReading (op .kind) ≡ false = rw e refl in
+        rw r
+        (record { ok-writes = λ q. rw e refl; bytes-read = λ q. absurd (omega (arith, q)); ends-own = λ a b. running op z k; on-stripe = z })
+
+-- a read, of those that run on the whole stripe
+reading-is : (kind : ℕ) → (kind ≡ readingKind) ⊎ (kind ≡ writingKind) → isReading kind ≡ true → eqb kind readingKind ≡ true
+unfolding isReading
+reading-is kind (inl k) e = eq-eqb kind readingKind k
+reading-is kind (inr k) e = clash (rw k at e)
 
 acted-agrees : (n m size : ℕ) (h : Buffered) → opRight (h .state .op) ≡ true → h .state .op .stripe ≡ benchStripe → (h .state .op .kind ≡ readingKind) ⊎ (h .state .op .kind ≡ writingKind) →
     (d : Decision)
     → DecisionSays n m (h .state .op) (h .state .tally) d → Agrees (h .state .op) (acted n m size h d .seen)
-unfolding acted ending nextRound DecisionSays
+unfolding acted ending nextRound modifying DecisionSays
 acted-agrees n m size h r z k Abort s = short-agrees (h .state .op) abortedSeen noBricks z k (omega arith)
 acted-agrees n m size h r z k Give s =
     record {
       ok-writes = λ q. absurd (omega (arith, q));
-      bytes-read = λ q. eq-eqb (h .state .op .kind) readingKind (in-read (h .state .op) r (s .phase-is) .kind-is);
+      bytes-read = λ q. reading-is (h .state .op .kind) k (in-read (h .state .op) r (s .phase-is) .kind-is);
       ends-own = λ a b. running (h .state .op) z k;
       on-stripe = z;
     }
 acted-agrees n m size h r z k (Look max) s = nothing-agrees (h .state .op)
 acted-agrees n m size h r z k Store s = nothing-agrees (h .state .op)
+acted-agrees n m size h r z k (Modify time) s = nothing-agrees (h .state .op)
 acted-agrees n m size h r z k (Recover time) s = nothing-agrees (h .state .op)
 acted-agrees n m size h r z k Finish s = finish-agrees (h .state .op) (h .state .bricks) z k
 
@@ -170,30 +190,36 @@ waiting-agrees n m size h r z k = go (ltb (members (h .state .tally .counted) n)
     go false =
         acted-agrees n m size h r z k (decided n m (h .state .op) (h .state .tally)) (decided-says n m (h .state .op) (h .state .tally))
 
--- the kinds of a sound record
-kind-known : (op : Op) → opRight op ≡ true → (op .kind ≡ idleKind → ⊥) → (op .kind ≡ readingKind) ⊎ (op .kind ≡ writingKind)
-unfolding opRight
-kind-known op e n = go (eqb (op .kind) idleKind) (eqb (op .kind) readingKind) refl refl e
+-- the kinds of a sound record that runs nothing on one block
+recovering-is : (kind : ℕ) → onBlock kind ≡ false → canRecover kind ≡ true → kind ≡ readingKind
+unfolding onBlock canRecover isReading
+recovering-is kind w e = go (eqb kind readingKind) (eqb kind readingBlockKind) (eqb kind writingBlockKind) refl w e
   where
-    go : (a b : Bool) → eqb (op .kind) idleKind ≡ a → eqb (op .kind) readingKind ≡ b
-        → cond a (unsetOp op) (cond b (readRight op) (eqb (op .kind) writingKind && writeRight op)) ≡ true → (op .kind ≡ readingKind) ⊎ (op .kind ≡ writingKind)
-    go true b ea eb h = absurd (n (eqb-true (op .kind) idleKind ea))
-    go false true ea eb h = inl (eqb-true (op .kind) readingKind eb)
-    go false false ea eb h = inr (eqb-true (op .kind) writingKind (and-left (eqb (op .kind) writingKind) (writeRight op) h))
+    go : (a b c : Bool) → eqb kind readingKind ≡ a → b || c ≡ false → (a || b) || c ≡ true → kind ≡ readingKind
+    go true b c ea w e = eqb-true kind readingKind ea
+    go false true c ea w e = clash (sym w)
+    go false false true ea w e = clash (sym w)
+    go false false false ea w e = clash e
 
-fit-known : (op : Op) → Fit op → (op .kind ≡ readingKind) ⊎ (op .kind ≡ writingKind)
-fit-known op (reading k p _) = inl k
-fit-known op (looking k p _ _) = inl k
-fit-known op (restoring k p _) = inl k
-fit-known op (ordering k p _ _) = inr k
-fit-known op (storing k p _) = inr k
+not-writing-block : (kind : ℕ) → onBlock kind ≡ false → kind ≡ writingBlockKind → ⊥
+unfolding onBlock
+not-writing-block kind w e = clash (sym (rw e at w))
+
+fit-known : (op : Op) → onBlock (op .kind) ≡ false → Fit op → (op .kind ≡ readingKind) ⊎ (op .kind ≡ writingKind)
+fit-known op w (reading k p _) = inl (recovering-is (op .kind) w (reading-recovers (op .kind) k))
+fit-known op w (looking k p _ _) = inl (recovering-is (op .kind) w k)
+fit-known op w (restoring k p _) = inl (recovering-is (op .kind) w k)
+fit-known op w (ordering k p _ _) = inr k
+fit-known op w (storing k p _) = inr k
+fit-known op w (block-ordering k p _) = absurd (not-writing-block (op .kind) w k)
+fit-known op w (modify-sent k p _) = absurd (not-writing-block (op .kind) w k)
 
 -- the stripe of a volume of one
 only-stripe : (stripes stripe : ℕ) → stripes ≡ benchStripes → stripe < stripes → stripe ≡ benchStripe
 only-stripe stripes stripe one h = omega (arith, one, h)
 
 -- a reply,
-module _ (n m size stripes : ℕ) (one : stripes ≡ benchStripes) (h : Buffered) where
+module _ (n m size stripes : ℕ) (one : stripes ≡ benchStripes) (h : Buffered) (whole : Whole h) where
   pub take-agrees : (r : Reply) (block : List ℕ) (coded : ℕ) (g : Went) → takeStep n m size stripes h r block coded ≡ went g
       → Agrees (h .state .op) (g .seen)
   unfolding counting withTally
@@ -202,7 +228,7 @@ module _ (n m size stripes : ℕ) (one : stripes ≡ benchStripes) (h : Buffered
       let o = t .takes .parts .op-right in
       subst (λ (v : Went). Agrees (h .state .op) (v .seen)) (t .is)
       (waiting-agrees n m size (counting size h r block) o (only-stripe stripes (h .state .op .stripe) one (t .takes .parts .stripe-low))
-      (fit-known (h .state .op) (fit (h .state .op) o (λ _ z. omega (arith, t .answer .of-phase, t .reply .kind-low, z)))))
+      (fit-known (h .state .op) whole (fit (h .state .op) o (λ _ z. omega (arith, t .answer .of-phase, t .reply .kind-low, z)))))
 
   -- a crash,
   crash-sound : crashRefusal n m size stripes (h .state) ≡ 0 → SoundParts n m size stripes (h .state)
@@ -223,7 +249,7 @@ module _ (n m size stripes : ℕ) (one : stripes ≡ benchStripes) (h : Buffered
       go r true q = nothing-agrees (h .state .op)
       go r false q =
           short-agrees (h .state .op) cutSeen noBricks (only-stripe stripes (h .state .op .stripe) one (r .stripe-low))
-          (kind-known (h .state .op) (r .op-right) (eqb-false (h .state .op .kind) idleKind q)) (omega arith)
+          (fit-known (h .state .op) whole (fit (h .state .op) (r .op-right) (λ i _. eqb-false (h .state .op .kind) idleKind q i))) (omega arith)
 
 -- the start of a write, and of a read
 module _ (n m size stripes : ℕ) (h : Buffered) where

@@ -12,7 +12,7 @@ use Rattle.settings.specs.Ranges.{SettingsRange}
 use Rattle.settings.proofs.Laws.RangeLaws.{settings-passed}
 use Rattle.settings.specs.Refusal.{badSetting, badLine}
 use Rattle.settings.specs.declared.Settings.{Settings}
-use Rattle.order.specs.Claim.{Action, read, write, Ending, Seen, began, ended, Before, here, later, _∈_}
+use Rattle.order.specs.Claim.{Ending, Seen, began, ended, Before, here, later, _∈_}
 use Rattle.order.specs.Facts.{Fact, seen}
 use Rattle.order.specs.Places.{In}
 use Rattle.order.proofs.Laws.SeenLaws.{seen-began}
@@ -20,8 +20,8 @@ use Rattle.order.proofs.Laws.OneOrderTheorem.{one-order}
 use Rattle.register.proofs.Laws.CorollaryLaws.{one-thing-seen}
 use Rattle.register.proofs.Laws.Invariant.{Hist, Running, view, Inv}
 use Rattle.register.proofs.Laws.StripeViewLaws.{viewed-here}
-use Rattle.register.proofs.Laws.BegunLaws.{reads-begun, writes-begun}
-use Rattle.register.specs.Runs.{plain, World, Event, Moved, unmoved, freshSet, step, nextMoved, runFrom, run}
+use Rattle.register.proofs.Laws.BegunLaws.{begun-read, begun-write}
+use Rattle.register.specs.Runs.{plain, World, Event, Moved, unmoved, freshSet, begunKind, step, nextMoved, runFrom, run}
 use Rattle.register.proofs.Laws.TheoremProof.{step-goes, run-holds}
 use Rattle.bench_parse.specs.Lines.{Line, setLine, writeLine, readLine, carryLine, crashLine, downLine, upLine, noLine, reads}
 use Rattle.bench_state.specs.State.{benchRange}
@@ -30,10 +30,11 @@ use Rattle.bench_order.specs.Told.{toldEnd}
 use Rattle.bench_order.proofs.Laws.ToldLaws.{told}
 use Rattle.bench_order.proofs.Laws.Parts.{Ran, Does, refusing, passing, happening, Parts, none, one, both}
 use Rattle.bench_order.proofs.Laws.ScriptPartLaws.{every-line-by-parts}
+use Rattle.bench_order.proofs.Laws.WholeStripeLaws.{WholeStripes, fresh-whole, parts-whole}
 use Rattle.bench_lines.specs.Cutting.{lines}
 use Rattle.bench_order.specs.Script.{stays, follows, playsLines, script}
 use Rattle.bench_order.specs.ScriptTheorem.{StandsFor}
-use Rattle.bench_order.proofs.Laws.ScriptRunLaws.{lines-stand, one-stripe, bench-in-range}
+use Rattle.bench_order.proofs.Laws.ScriptRunLaws.{WholeAt, lines-stand, one-stripe, bench-in-range}
 use Rattle.bench_order.specs.Report.{kindOf, kindIn, reported, Part, partsOf, partsIn, playsPart, Reports, nothing, refusal, event, silence}
 use Rattle.bench_order.specs.ReportTheorem.{Prints, no-line, no-set, set, EveryScriptPrintsItsRun}
 use Rattle.settings.specs.Times.{coordinatorOf}
@@ -42,12 +43,12 @@ use Rattle.coord_apply.specs.Answers.{Buffered}
 use Rattle.bench_limits.specs.Limits.{benchStripes, benchStripe}
 
 -- the kind that an operation began with, if it began one time only
-kind-here : (s : Settings) (x : Seen (plain s)) (l : List (Seen (plain s))) (t : ℕ) (k : Action (List ℕ)) → began t k ≡ x → kindIn s (x ∷ l) t ≡ kindOf k
+kind-here : (s : Settings) (x : Seen (plain s)) (l : List (Seen (plain s))) (t : ℕ) (k : plain s .Kind) → began t k ≡ x → kindIn s (x ∷ l) t ≡ kindOf k
 unfolding kindIn
 kind-here s x l t k e = sym (ap (λ (y : Seen (plain s)). kindIn s (y ∷ l) t) e) ∙ rw (eq-eqb t t refl) refl
 
-kind-found : (s : Settings) (l : List (Seen (plain s))) (t : ℕ) (k : Action (List ℕ))
-    → ((k′ : Action (List ℕ)) → Before {A = Seen (plain s)} (began t k′) (began t k) l → ⊥) → _∈_ {A = Seen (plain s)} (began t k) l → kindIn s l t ≡ kindOf k
+kind-found : (s : Settings) (l : List (Seen (plain s))) (t : ℕ) (k : plain s .Kind)
+    → ((k′ : plain s .Kind) → Before {A = Seen (plain s)} (began t k′) (began t k) l → ⊥) → _∈_ {A = Seen (plain s)} (began t k) l → kindIn s l t ≡ kindOf k
 kind-found s [] t k n m = absurd (List·Memᴰ·not-nil m)
 kind-found s (began u a ∷ l) t k n m = go (List·Memᴰ·cases-cons m) (kind-found s l t k (λ k′ b. n k′ (later b)))
   where
@@ -99,15 +100,18 @@ module _ (s : Settings) (g : SettingsRange s) where
       own : coordinatorOf (r .world .coordinators c .state .op .time) ≡ c
       own = runs .own
 
-      found : (k : Action (List ℕ)) → In (Fact.began (r .world .coordinators c .state .op .time) k) h → kindIn s (r .seen benchStripe) time ≡ kindOf k
+      found : (k : plain s .Kind) → In (Fact.began (r .world .coordinators c .state .op .time) k) h → kindIn s (r .seen benchStripe) time ≡ kindOf k
       found k m =
           subst (λ (v : ℕ). kindIn s (r .seen benchStripe) v ≡ kindOf k) (a .time-is)
           (subst (λ (l : List (Seen (plain s))). kindIn s l (r .world .coordinators c .state .op .time) ≡ kindOf k) (i .seen-is)
           (kind-found s (seen h) (r .world .coordinators c .state .op .time) k (λ k′ b. one-order (i .valid) .named _ k′ k b) (seen-began m)))
 
+      began-so : kindIn s (r .seen benchStripe) time ≡ kindOf (begunKind s (r .world .coordinators c))
+      began-so = found (begunKind s (r .world .coordinators c)) (runs .begun)
+
       go : (kind ≡ readingKind) ⊎ (kind ≡ writingKind) → kind ≡ kindIn s (r .seen benchStripe) time
-      go (inl e) = e ∙ sym (found read (reads-begun runs (a .kind-is ∙ e)))
-      go (inr e) = e ∙ sym (found (write (r .world .coordinators c .stripe)) (writes-begun runs (a .kind-is ∙ e)))
+      go (inl e) = e ∙ sym (began-so ∙ ap kindOf (begun-read s (r .world .coordinators c) (a .kind-is ∙ e)))
+      go (inr e) = e ∙ sym (began-so ∙ ap kindOf (begun-write s (r .world .coordinators c) (a .kind-is ∙ e)))
 
   abbrev Held-by : Moved s → Type 0
   Held-by r = (h : Hist s) × Inv s g benchStripe h r
@@ -122,7 +126,7 @@ module _ (s : Settings) (g : SettingsRange s) where
   unfolding refuses passes happens nextMoved
   does-report w part p q (refusing number) parts events text f before i = refusal number q (f before i)
   does-report w part p q passing parts events text f before i = silence q (f before i)
-  does-report w part p q (happening e c kind h o _) parts events text f before i =
+  does-report w part p q (happening e c kind b h o _) parts events text f before i =
       let r : Moved s = record { world = w; seen = before } in
       let z =
       told-is-reported s (before benchStripe) (step s w e .seen benchStripe) c kind (one-thing-seen s w e benchStripe) (λ time how d. ran-own r (i .0) (i .1) c kind time (o time how d))
@@ -139,13 +143,14 @@ module _ (s : Settings) (g : SettingsRange s) where
       rw (append-assoc xs ys parts, append-assoc (q .events) (r .events) events, append-assoc (q .printed) (r .printed) text)
       (parts-report w xs q a (ys ++ parts) (r .events ++ events) (r .printed ++ text) (parts-report (q .world) ys r b parts events text f))
 
-  lines-report : s .stripes ≡ benchStripes → (w : World) (events : List Event) (ls : List (List ℕ))
+  lines-report : s .stripes ≡ benchStripes → (w : World) → WholeStripes w → (events : List Event) (ls : List (List ℕ))
       → From w (partsIn ls) (playsLines (playing s w events) ls .events) (playsLines (playing s w events) ls .printed)
   unfolding playsLines stays follows turn partsIn
-  lines-report z w events [] = λ before i. nothing
-  lines-report z w events (l ∷ ls) =
-      parts-report w (partsOf (reads l)) (plays s w (reads l)) (every-line-by-parts s w z (reads l)) (partsIn ls) _ _
-      (lines-report z (plays s w (reads l) .world) (events ++ plays s w (reads l) .events) ls)
+  lines-report z w h events [] = λ before i. nothing
+  lines-report z w h events (l ∷ ls) =
+      let d = every-line-by-parts s w z h (reads l) in
+      parts-report w (partsOf (reads l)) (plays s w (reads l)) d (partsIn ls) _ _
+      (lines-report z (plays s w (reads l) .world) (parts-whole s w (partsOf (reads l)) (plays s w (reads l)) d h) (events ++ plays s w (reads l) .events) ls)
 
 -- the stage after some lines on a set
 stage-after : (s : Settings) (w : World) (events : List Event) (ls : List (List ℕ))
@@ -160,15 +165,15 @@ stage-after s w events (l ∷ ls) =
 -- the lines after an accepted `set`
 set-prints : (l : List ℕ) (ls : List (List ℕ)) (s : Settings) → reads l ≡ setLine (s .n) (s .m) (s .size) (s .capacity) → benchRange s ≡ true
     → Prints (l ∷ ls) (playsLines (playing s (freshSet s) []) ls .stage) (playsLines (playing s (freshSet s) []) ls .printed)
-unfolding StandsFor run runFrom unmoved
+unfolding StandsFor WholeAt run runFrom unmoved
 set-prints l ls s e b =
     let g = settings-passed s (bench-in-range s b) in
     let es = playsLines (playing s (freshSet s) []) ls .events in
     let z = stage-after s (freshSet s) [] ls in
-    let h = subst StandsFor (z .1) (lines-stand (playing s (freshSet s) []) ls (b, refl)) in
+    let h = subst StandsFor (z .1) (lines-stand (playing s (freshSet s) []) ls (one-stripe s b, fresh-whole s) (b, refl)) in
     subst (λ (v : Stage). Prints (l ∷ ls) v (playsLines (playing s (freshSet s) []) ls .printed))
     (ap (λ (v : World). playing s v es) (sym (h .1)) ∙ sym (z .1))
-    (set s e b (lines-report s g (one-stripe s b) (freshSet s) [] ls (λ (k : ℕ). []) (run-holds s g benchStripe (g .stripes-low) [])))
+    (set s e b (lines-report s g (one-stripe s b) (freshSet s) (fresh-whole s) [] ls (λ (k : ℕ). []) (run-holds s g benchStripe (g .stripes-low) [])))
 
 -- the turn of an accepted `set`
 abbrev fresh-turn : Settings → Turn

@@ -13,7 +13,7 @@ use Rattle.message.specs.Kinds.{trimKind}
 use Rattle.message.specs.declared.Message.{Message}
 use Rattle.message.specs.declared.Reply.{Reply}
 use Rattle.image.specs.Parse.{Parsed, Opens, Refuses, parse}
-use Rattle.brick.specs.Receive.{Outcome, receiveRefusal, refusedWith, givenBy, accepted, outcome}
+use Rattle.brick.specs.Receive.{beside, Outcome, receiveRefusal, refusedWith, givenBy, accepted, outcome}
 use Rattle.brick_log.specs.BrickRules.{replyTo}
 use Rattle.volume.specs.Rows.{imageAt, inRow, rowRefusal, rowOutcome}
 use Rattle.brick.specs.declared.Given.{Given}
@@ -34,7 +34,9 @@ use Rattle.byte_lists.proofs.Laws.LittleLaws.{bytes-pass}
 use Rattle.bench_rules.specs.Play.{Played, refuses, passes, happens, acts, atCoordinator, unlessShort, writes, starts}
 use Rattle.bench_rules.specs.Play.{crashesAt, switches, delivered, reaches, carries, carriesAt, carried, carriedAll, plays}
 use Rattle.bench_order.specs.Report.{wholeLine, oneNumber, eachNumber, partsOf, playsPart}
+use Rattle.bench_order.specs.ScriptTheorem.{startsOnBlock}
 use Rattle.bench_order.proofs.Laws.ToldLaws.{told}
+use Rattle.bench_order.proofs.Laws.WholeStripeLaws.{WholeStripes, does-whole}
 use Rattle.bench_order.proofs.Laws.Parts.{FewSent, Ran, Does, refusing, passing, happening, Parts, none, one, both}
 use Rattle.bench_order.proofs.Laws.PrintedLaws.{Agrees, printed-is-seen, end-ran, take-agrees, crash-agrees, write-agrees, read-agrees}
 use Rattle.bench_limits.specs.Limits.{benchStripes, benchStripe, benchCoordinators, lastMessage}
@@ -49,37 +51,37 @@ silent-not-answered : (b : Bool) (a : Given) (r : Reply) → b ≡ true → cond
 silent-not-answered true a r q e = let z : _≡_ {A = ℕ} 0 1 = cc in omega arith
 silent-not-answered false a r q e = let z : _≡_ {A = ℕ} 0 1 = cc in omega arith
 
-acted-not-answered : (s : Settings) (brick : ℕ) (msg : Message) (block bytes out : List ℕ) (p : Parsed) → msg .kind ≡ trimKind → (r : Reply)
-    → accepted s brick msg block bytes out p .given ≡ Answered r → ⊥
+acted-not-answered : (s : Settings) (brick : ℕ) (msg : Message) (block old bytes out : List ℕ) (p : Parsed) → msg .kind ≡ trimKind → (r : Reply)
+    → accepted s brick msg block old bytes out p .given ≡ Answered r → ⊥
 unfolding accepted givenBy
-acted-not-answered s brick msg block bytes out (Opens x) k r e =
+acted-not-answered s brick msg block old bytes out (Opens x) k r e =
     silent-not-answered (eqb (msg .kind) trimKind) (Answered (replyTo s brick x msg)) r (eq-eqb (msg .kind) trimKind k) e
-acted-not-answered s brick msg block bytes out (Refuses number) k r e = refused-not-answered number bytes out r e
+acted-not-answered s brick msg block old bytes out (Refuses number) k r e = refused-not-answered number bytes out r e
 
-image-not-answered : (s : Settings) (brick : ℕ) (bytes : List ℕ) (msg : Message) (block out : List ℕ) → msg .kind ≡ trimKind → (r : Reply)
-    → outcome s brick bytes msg block out .given ≡ Answered r → ⊥
+image-not-answered : (s : Settings) (brick : ℕ) (bytes : List ℕ) (msg : Message) (block old out : List ℕ) → msg .kind ≡ trimKind → (r : Reply)
+    → outcome s brick bytes msg block old out .given ≡ Answered r → ⊥
 unfolding outcome
-image-not-answered s brick bytes msg block out k r e = go (eqb (receiveRefusal s brick bytes msg (length block) (length out)) 0) e
+image-not-answered s brick bytes msg block old out k r e = go (eqb (receiveRefusal s brick bytes msg (beside block old out)) 0) e
   where
     go : (b : Bool)
-        → cond b (accepted s brick msg block bytes out (parse s brick bytes))
-        (refusedWith (receiveRefusal s brick bytes msg (length block) (length out)) bytes out) .given
+        → cond b (accepted s brick msg block old bytes out (parse s brick bytes))
+        (refusedWith (receiveRefusal s brick bytes msg (beside block old out)) bytes out) .given
         ≡ Answered r
         → ⊥
-    go true h = acted-not-answered s brick msg block bytes out (parse s brick bytes) k r h
+    go true h = acted-not-answered s brick msg block old bytes out (parse s brick bytes) k r h
     go false h = refused-not-answered _ bytes out r h
 
-trim-not-answered : (s : Settings) (brick : ℕ) (row : List ℕ) (msg : Message) (block out : List ℕ) → msg .kind ≡ trimKind → (r : Reply)
-    → rowOutcome s brick row msg block out .given ≡ Answered r → ⊥
+trim-not-answered : (s : Settings) (brick : ℕ) (row : List ℕ) (msg : Message) (block old out : List ℕ) → msg .kind ≡ trimKind → (r : Reply)
+    → rowOutcome s brick row msg block old out .given ≡ Answered r → ⊥
 unfolding rowOutcome inRow
-trim-not-answered s brick row msg block out k r e = go (eqb (rowRefusal s brick row msg (length block) (length out)) 0) e
+trim-not-answered s brick row msg block old out k r e = go (eqb (rowRefusal s brick row msg (beside block old out)) 0) e
   where
     go : (b : Bool)
-        → cond b (inRow s (msg .stripe) row (outcome s brick (imageAt s (msg .stripe) row) msg block out))
-        (refusedWith (rowRefusal s brick row msg (length block) (length out)) row out) .given
+        → cond b (inRow s (msg .stripe) row (outcome s brick (imageAt s (msg .stripe) row) msg block old out))
+        (refusedWith (rowRefusal s brick row msg (beside block old out)) row out) .given
         ≡ Answered r
         → ⊥
-    go true h = image-not-answered s brick (imageAt s (msg .stripe) row) msg block out k r h
+    go true h = image-not-answered s brick (imageAt s (msg .stripe) row) msg block old out k r h
     go false h = refused-not-answered _ row out r h
 
 -- so a message that sends a reply had room for it
@@ -97,20 +99,20 @@ unless-went ok (refused number) g e = e
 unless-went true (went v) g e = e
 unless-went false (went v) g e = absurd (let z : _≡_ {A = ℕ} 0 1 = cc in omega arith)
 
-module _ (s : Settings) (w : World) (one-stripe : s .stripes ≡ benchStripes) where
+module _ (s : Settings) (w : World) (one-stripe : s .stripes ≡ benchStripes) (whole : WholeStripes w) where
   -- an event that prints what is seen at it
-  printing : (e : Event) (c kind : ℕ) (text : List ℕ) → told s c kind (step s w e .seen benchStripe) ≡ text → (FewSent w → FewSent (step s w e .world))
+  printing : (e : Event) (c kind : ℕ) (text : List ℕ) → startsOnBlock e ≡ false → told s c kind (step s w e .seen benchStripe) ≡ text → (FewSent w → FewSent (step s w e .world))
       → ((time : ℕ) (how : Ending (plain s)) → step s w e .seen benchStripe ≡ Seen.ended time how ∷ [] → Ran (w .coordinators c .state .op) kind time)
       → ((stripe : ℕ) → (stripe ≡ benchStripe → ⊥) → step s w e .seen stripe ≡ [])
       → Does s w (happens s w e text)
-  printing e c kind text q f o z = subst (λ (l : List ℕ). Does s w (happens s w e l)) q (happening e c kind f o z)
+  printing e c kind text n q f o z = subst (λ (l : List ℕ). Does s w (happens s w e l)) q (happening e c kind n f o z)
 
   -- an event at a coordinator
-  acts-does : (e : Event) (c : ℕ) (st : Step) → ((g : Went) → st ≡ went g → (step s w e ≡ coordinated s w c (went g)) × Agrees (w .coordinators c .state .op) (g .seen))
+  acts-does : (e : Event) (c : ℕ) (st : Step) → startsOnBlock e ≡ false → ((g : Went) → st ≡ went g → (step s w e ≡ coordinated s w c (went g)) × Agrees (w .coordinators c .state .op) (g .seen))
       → Does s w (acts s w e c st)
   unfolding acts coordinated FewSent
-  acts-does e c (refused number) f = refusing number
-  acts-does e c (went g) f = go (leb (length (step s w e .world .sent)) lastMessage) refl
+  acts-does e c (refused number) n f = refusing number
+  acts-does e c (went g) n f = go (leb (length (step s w e .world .sent)) lastMessage) refl
     where
       agrees : Agrees (w .coordinators c .state .op) (g .seen)
       agrees = f g refl .1
@@ -121,11 +123,11 @@ module _ (s : Settings) (w : World) (one-stripe : s .stripes ≡ benchStripes) w
       go : (b : Bool) → leb (length (step s w e .world .sent)) lastMessage ≡ b
           → Does s w (cond b (happens s w e (endedText c (g .seen) (g .next .stripe))) (refuses w badLine))
       go true q =
-          printing e c (g .seen .kind) _
+          printing e c (g .seen .kind) _ n
           (ap (told s c (g .seen .kind)) here ∙ printed-is-seen s (w .coordinators c .state .op) c (g .seen) (g .next) agrees)
           (λ h. leb-true _ lastMessage q)
           (λ time how z. end-ran s (w .coordinators c .state .op) (g .seen) (g .next) time how agrees (sym here ∙ z))
-          (λ k n. ap (λ (v : Moved s). v .seen k) (f g refl .0) ∙ shown-there (g .seen .stripe) k _ (λ z. n (z ∙ agrees .on-stripe)))
+          (λ k o. ap (λ (v : Moved s). v .seen k) (f g refl .0) ∙ shown-there (g .seen .stripe) k _ (λ z. o (z ∙ agrees .on-stripe)))
       go false q = refusing badLine
 
   at-does : (c : ℕ) (p : Played) → Does s w p → Does s w (atCoordinator w c p)
@@ -137,10 +139,10 @@ module _ (s : Settings) (w : World) (one-stripe : s .stripes ≡ benchStripes) w
       go false = refusing badNumber
 
   writes-does : (c clock : ℕ) (digits : List ℕ) → Does s w (writes s w c clock digits)
-  unfolding writes step
+  unfolding writes step startsOnBlock
   writes-does c clock digits =
       at-does c _
-      (acts-does (startWrite c benchStripe clock (content s digits)) c _
+      (acts-does (startWrite c benchStripe clock (content s digits)) c _ refl
       (λ g q.
       let e = unless-went (counted s digits) (writeStep (s .n) (s .m) (s .size) (s .stripes) (w .coordinators c) benchStripe clock (content s digits)) g q in (
         rw (bytes-pass (content s digits) (content-small s digits)) (ap (coordinated s w c) e),
@@ -148,18 +150,18 @@ module _ (s : Settings) (w : World) (one-stripe : s .stripes ≡ benchStripes) w
       )))
 
   starts-does : (c clock brick : ℕ) → Does s w (starts s w c clock brick)
-  unfolding starts step
+  unfolding starts step startsOnBlock
   starts-does c clock brick =
       at-does c _
-      (acts-does (startRead c benchStripe clock brick) c _
+      (acts-does (startRead c benchStripe clock brick) c _ refl
       (λ g e. (ap (coordinated s w c) e, read-agrees (s .n) (s .m) (s .size) (s .stripes) (w .coordinators c) clock brick g e)))
 
   crashes-does : (c : ℕ) → Does s w (crashesAt s w c)
-  unfolding crashesAt step
+  unfolding crashesAt step startsOnBlock
   crashes-does c =
       at-does c _
-      (acts-does (crashes c untouched) c _
-      (λ g e. (ap (coordinated s w c) (left-untouched s _ ∙ e), crash-agrees (s .n) (s .m) (s .size) (s .stripes) one-stripe (w .coordinators c) g e)))
+      (acts-does (crashes c untouched) c _ refl
+      (λ g e. (ap (coordinated s w c) (left-untouched s _ ∙ e), crash-agrees (s .n) (s .m) (s .size) (s .stripes) one-stripe (w .coordinators c) (whole c) g e)))
 
   -- nothing is seen, and no message is sent past 127
   abbrev Quiet : Moved s → Type 0
@@ -169,10 +171,10 @@ module _ (s : Settings) (w : World) (one-stripe : s .stripes ≡ benchStripes) w
   either-quiet true x y p q = p
   either-quiet false x y p q = q
 
-  quiet : (e : Event) → Quiet (step s w e) → Does s w (happens s w e [])
+  quiet : (e : Event) → startsOnBlock e ≡ false → Quiet (step s w e) → Does s w (happens s w e [])
   unfolding told
-  quiet e q =
-      printing e 0 0 [] (ap (told s 0 0) (q .0 benchStripe)) (q .1)
+  quiet e b q =
+      printing e 0 0 [] b (ap (told s 0 0) (q .0 benchStripe)) (q .1)
       (λ time how z. absurd (let l : _≡_ {A = ℕ} 0 1 = ap length (sym (q .0 benchStripe) ∙ z) in omega arith))
       (λ stripe n. q .0 stripe)
 
@@ -181,12 +183,12 @@ module _ (s : Settings) (w : World) (one-stripe : s .stripes ≡ benchStripes) w
   unfolding standing unmoved FewSent
   standing-quiet b how = either-quiet (ltb b (s .n)) _ _ ((λ stripe. refl), λ h. h) ((λ stripe. refl), λ h. h)
 
-  switches-does : (b : ℕ) (e : Event) → Quiet (step s w e) → Does s w (switches s w b e)
+  switches-does : (b : ℕ) (e : Event) → startsOnBlock e ≡ false → Quiet (step s w e) → Does s w (switches s w b e)
   unfolding switches
-  switches-does b e q = go (ltb b (s .n))
+  switches-does b e n q = go (ltb b (s .n))
     where
       go : (t : Bool) → Does s w (cond t (happens s w e []) (refuses w badNumber))
-      go true = quiet e q
+      go true = quiet e n q
       go false = refusing badNumber
 
   -- a message at its brick
@@ -200,43 +202,43 @@ module _ (s : Settings) (w : World) (one-stripe : s .stripes ≡ benchStripes) w
       go (Refused number) q h = rw (append-nil (w .sent)) h
 
   delivered-does : (k : ℕ) → Quiet (step s w (arrives k)) → (a : Given) → Does s w (delivered s w k a)
-  unfolding delivered
-  delivered-does k q (Answered r) = quiet (arrives k) q
-  delivered-does k q Silent = quiet (arrives k) q
+  unfolding delivered startsOnBlock
+  delivered-does k q (Answered r) = quiet (arrives k) refl q
+  delivered-does k q Silent = quiet (arrives k) refl q
   delivered-does k q (Refused number) = refusing number
 
-  reaches-does : (k b : ℕ) (msg : Message) (block : List ℕ)
-      → step s w (arrives k) ≡ received s w b (rowOutcome s b (w .images b) msg block (replicate (s .size) 0)) → Does s w (reaches s w k b msg block)
+  reaches-does : (k b : ℕ) (msg : Message) (block old : List ℕ)
+      → step s w (arrives k) ≡ received s w b (rowOutcome s b (w .images b) msg block old (replicate (s .size) 0)) → Does s w (reaches s w k b msg block old)
   unfolding reaches
-  reaches-does k b msg block e = go (eqb (msg .kind) trimKind || ltb (length (w .sent)) lastMessage) refl
+  reaches-does k b msg block old e = go (eqb (msg .kind) trimKind || ltb (length (w .sent)) lastMessage) refl
     where
       quietly : eqb (msg .kind) trimKind || ltb (length (w .sent)) lastMessage ≡ true → Quiet (step s w (arrives k))
       quietly q =
           rw e
-          (received-quiet b (rowOutcome s b (w .images b) msg block (replicate (s .size) 0))
-          (λ r h. room msg (length (w .sent)) q (λ z. trim-not-answered s b (w .images b) msg block (replicate (s .size) 0) z r h)))
+          (received-quiet b (rowOutcome s b (w .images b) msg block old (replicate (s .size) 0))
+          (λ r h. room msg (length (w .sent)) q (λ z. trim-not-answered s b (w .images b) msg block old (replicate (s .size) 0) z r h)))
 
       go : (t : Bool) → eqb (msg .kind) trimKind || ltb (length (w .sent)) lastMessage ≡ t
-          → Does s w (cond t (delivered s w k (rowOutcome s b (w .images b) msg block (replicate (s .size) 0) .given)) (refuses w badLine))
-      go true q = delivered-does k (quietly q) (rowOutcome s b (w .images b) msg block (replicate (s .size) 0) .given)
+          → Does s w (cond t (delivered s w k (rowOutcome s b (w .images b) msg block old (replicate (s .size) 0) .given)) (refuses w badLine))
+      go true q = delivered-does k (quietly q) (rowOutcome s b (w .images b) msg block old (replicate (s .size) 0) .given)
       go false q = refusing badLine
 
   -- an item, carried as item k of all
   carries-does : (k : ℕ) (i : Item) → step s w (arrives k) ≡ arriving s w i → Does s w (carries s w k i)
-  unfolding carries arriving
-  carries-does k (message b msg block) e = go (ltb b (s .n)) (w .up b) refl
+  unfolding carries arriving startsOnBlock
+  carries-does k (message b msg block old) e = go (ltb b (s .n)) (w .up b) refl
     where
       go : (t u : Bool) → w .up b ≡ u
-          → Does s w (cond t (cond u (reaches s w k b msg block) (passes w)) (refuses w badNumber))
-      go true true q = reaches-does k b msg block (rw q at e)
+          → Does s w (cond t (cond u (reaches s w k b msg block old) (passes w)) (refuses w badNumber))
+      go true true q = reaches-does k b msg block old (rw q at e)
       go true false q = passing
       go false u q = refusing badNumber
   carries-does k (reply r block) e =
       at-does (coordinatorOf (r .time)) _
-      (acts-does (arrives k) (coordinatorOf (r .time)) _
+      (acts-does (arrives k) (coordinatorOf (r .time)) _ refl
       (λ g q. (
         e ∙ ap (coordinated s w (coordinatorOf (r .time))) q,
-        take-agrees (s .n) (s .m) (s .size) (s .stripes) one-stripe (w .coordinators (coordinatorOf (r .time))) r block (s .n * s .size) g q,
+        take-agrees (s .n) (s .m) (s .size) (s .stripes) one-stripe (w .coordinators (coordinatorOf (r .time))) (whole (coordinatorOf (r .time))) r block (s .n * s .size) g q,
       )))
 
   carries-at-does : (k : ℕ) (l : List Item) (j : ℕ) → step s w (arrives k) ≡ arrivingAt s w l j → Does s w (carriesAt s w k l j)
@@ -250,20 +252,21 @@ module _ (s : Settings) (w : World) (one-stripe : s .stripes ≡ benchStripes) w
   carried-does zero = refusing badLine
   carried-does (suc k) = carries-at-does k (w .sent) k refl
 
-carried-all-parts : (s : Settings) (w : World) → s .stripes ≡ benchStripes → (ks : List ℕ) → Parts s w (eachNumber ks) (carriedAll s w ks)
+carried-all-parts : (s : Settings) (w : World) → s .stripes ≡ benchStripes → WholeStripes w → (ks : List ℕ) → Parts s w (eachNumber ks) (carriedAll s w ks)
 unfolding carriedAll eachNumber playsPart
-carried-all-parts s w z [] = none w
-carried-all-parts s w z (k ∷ ks) =
-    both w (oneNumber k ∷ []) (eachNumber ks) (carried s w k) _ (one w (oneNumber k) (carried-does s w z k)) (carried-all-parts s (carried s w k .world) z ks)
+carried-all-parts s w z h [] = none w
+carried-all-parts s w z h (k ∷ ks) =
+    let d = carried-does s w z h k in
+    both w (oneNumber k ∷ []) (eachNumber ks) (carried s w k) _ (one w (oneNumber k) d) (carried-all-parts s (carried s w k .world) z (does-whole s w (carried s w k) d h) ks)
 
 -- EVERY LINE IS PLAYED PART BY PART.
-pub every-line-by-parts : (s : Settings) (w : World) → s .stripes ≡ benchStripes → (line : Line) → Parts s w (partsOf line) (plays s w line)
-unfolding plays step partsOf playsPart
-every-line-by-parts s w z (setLine n m size capacity) = one w (wholeLine (setLine n m size capacity)) (refusing badLine)
-every-line-by-parts s w z (writeLine c clock digits) = one w (wholeLine (writeLine c clock digits)) (writes-does s w z c clock digits)
-every-line-by-parts s w z (readLine c clock brick) = one w (wholeLine (readLine c clock brick)) (starts-does s w z c clock brick)
-every-line-by-parts s w z (carryLine messages) = carried-all-parts s w z messages
-every-line-by-parts s w z (crashLine c) = one w (wholeLine (crashLine c)) (crashes-does s w z c)
-every-line-by-parts s w z (downLine b) = one w (wholeLine (downLine b)) (switches-does s w z b (goesDown b) (standing-quiet s w z b false))
-every-line-by-parts s w z (upLine b) = one w (wholeLine (upLine b)) (switches-does s w z b (comesUp b) (standing-quiet s w z b true))
-every-line-by-parts s w z noLine = one w (wholeLine noLine) (refusing badLine)
+pub every-line-by-parts : (s : Settings) (w : World) → s .stripes ≡ benchStripes → WholeStripes w → (line : Line) → Parts s w (partsOf line) (plays s w line)
+unfolding plays step partsOf playsPart startsOnBlock
+every-line-by-parts s w z h (setLine n m size capacity) = one w (wholeLine (setLine n m size capacity)) (refusing badLine)
+every-line-by-parts s w z h (writeLine c clock digits) = one w (wholeLine (writeLine c clock digits)) (writes-does s w z h c clock digits)
+every-line-by-parts s w z h (readLine c clock brick) = one w (wholeLine (readLine c clock brick)) (starts-does s w z h c clock brick)
+every-line-by-parts s w z h (carryLine messages) = carried-all-parts s w z h messages
+every-line-by-parts s w z h (crashLine c) = one w (wholeLine (crashLine c)) (crashes-does s w z h c)
+every-line-by-parts s w z h (downLine b) = one w (wholeLine (downLine b)) (switches-does s w z h b (goesDown b) refl (standing-quiet s w z h b false))
+every-line-by-parts s w z h (upLine b) = one w (wholeLine (upLine b)) (switches-does s w z h b (comesUp b) refl (standing-quiet s w z h b true))
+every-line-by-parts s w z h noLine = one w (wholeLine noLine) (refusing badLine)

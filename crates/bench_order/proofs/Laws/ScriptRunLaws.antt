@@ -21,7 +21,9 @@ use Rattle.bench_lines.specs.Cutting.{lines}
 use Rattle.bench_order.specs.Script.{stays, follows, playsLines, script}
 use Rattle.bench_order.proofs.Laws.Parts.{Does, refusing, passing, happening, Parts, none, one, both}
 use Rattle.bench_order.proofs.Laws.ScriptPartLaws.{every-line-by-parts}
-use Rattle.bench_order.specs.ScriptTheorem.{StandsFor, EveryScriptIsARun, EveryScriptKeepsItsEvents, EveryScriptHasOneOrder, EveryScriptKeepsToOneStripe}
+use Rattle.bench_order.proofs.Laws.WholeStripeLaws.{WholeStripes, fresh-whole, parts-whole, whole-both, parts-start}
+use Rattle.bench_order.specs.ScriptTheorem.{StandsFor, onWholeStripes, EveryScriptIsARun, EveryScriptKeepsItsEvents, EveryScriptHasOneOrder, EveryScriptKeepsToOneStripe}
+use Rattle.bench_order.specs.ScriptTheorem.{EveryScriptKeepsToWholeStripes}
 
 -- what the parts of a line leave is what their events leave, whatever was seen before
 does-runs : (s : Settings) (w : World) (p : Played) → Does s w p → (seen : ℕ → List (Seen (plain s)))
@@ -29,7 +31,7 @@ does-runs : (s : Settings) (w : World) (p : Played) → Does s w p → (seen : �
 unfolding refuses passes happens runFrom nextMoved
 does-runs s w p (refusing number) seen = refl
 does-runs s w p passing seen = refl
-does-runs s w p (happening e c kind f o z) seen = refl
+does-runs s w p (happening e c kind b f o z) seen = refl
 
 parts-run : (s : Settings) (w : World) (ps : List Part) (p : Played) → Parts s w ps p → (seen : ℕ → List (Seen (plain s)))
     → runFrom s (record { world = w; seen = seen }) (p .events) .world ≡ p .world
@@ -42,9 +44,9 @@ parts-run s w ps p (both _ xs ys q r a b) seen =
     ∙ ap (λ (v : World). runFrom s (record { world = v; seen = m .seen }) (r .events) .world) (parts-run s w xs q a seen)
     ∙ parts-run s (q .world) ys r b (m .seen)
 
-pub plays-runs : (s : Settings) (w : World) → s .stripes ≡ benchStripes → (line : Line) (seen : ℕ → List (Seen (plain s)))
+pub plays-runs : (s : Settings) (w : World) → s .stripes ≡ benchStripes → WholeStripes w → (line : Line) (seen : ℕ → List (Seen (plain s)))
     → runFrom s (record { world = w; seen = seen }) (plays s w line .events) .world ≡ plays s w line .world
-plays-runs s w z line seen = parts-run s w (partsOf line) (plays s w line) (every-line-by-parts s w z line) seen
+plays-runs s w z h line seen = parts-run s w (partsOf line) (plays s w line) (every-line-by-parts s w z h line) seen
 
 -- the events of a line show nothing but on the bench's stripe
 does-apart : (s : Settings) (w : World) (p : Played) → Does s w p → (seen : ℕ → List (Seen (plain s))) (k : ℕ) → (k ≡ benchStripe → ⊥)
@@ -52,7 +54,7 @@ does-apart : (s : Settings) (w : World) (p : Played) → Does s w p → (seen : 
 unfolding refuses passes happens runFrom nextMoved
 does-apart s w p (refusing number) seen k n = refl
 does-apart s w p passing seen k n = refl
-does-apart s w p (happening e c kind f o z) seen k n = ap (λ (l : List (Seen (plain s))). seen k ++ l) (z k n) ∙ append-nil (seen k)
+does-apart s w p (happening e c kind b f o z) seen k n = ap (λ (l : List (Seen (plain s))). seen k ++ l) (z k n) ∙ append-nil (seen k)
 
 parts-apart : (s : Settings) (w : World) (ps : List Part) (p : Played) → Parts s w ps p → (seen : ℕ → List (Seen (plain s))) (k : ℕ) → (k ≡ benchStripe → ⊥)
     → runFrom s (record { world = w; seen = seen }) (p .events) .seen k ≡ seen k
@@ -91,26 +93,51 @@ first-stands noLine = tt
 pub one-stripe : (s : Settings) → benchRange s ≡ true → s .stripes ≡ benchStripes
 one-stripe s e = bench-fits s e .small .one-stripe
 
+-- a set, if there is one, has one stripe, and no coordinator runs an operation on one block
+unfoldable pub WholeAt : Stage → Type 0
+WholeAt waiting = Unit {0}
+WholeAt (playing s w events) = (s .stripes ≡ benchStripes) × WholeStripes w
+
+begins-whole : (s : Settings) → WholeAt (begins s .stage)
+unfolding begins waits WholeAt
+begins-whole s = go (benchRange s) refl
+  where
+    go : (b : Bool) → benchRange s ≡ b → WholeAt (cond b (record { stage = playing s (freshSet s) []; events = []; printed = [] }) (waits badSetting) .stage)
+    go true e = (one-stripe s e, fresh-whole s)
+    go false e = tt
+
+pub turn-whole : (stage : Stage) (line : Line) → WholeAt stage → WholeAt (turn stage line .stage)
+unfolding turn first waits WholeAt
+turn-whole waiting (setLine n m size capacity) h = begins-whole (oneStripe n m size capacity)
+turn-whole waiting (writeLine c clock digits) h = tt
+turn-whole waiting (readLine c clock brick) h = tt
+turn-whole waiting (carryLine messages) h = tt
+turn-whole waiting (crashLine c) h = tt
+turn-whole waiting (downLine b) h = tt
+turn-whole waiting (upLine b) h = tt
+turn-whole waiting noLine h = tt
+turn-whole (playing s w events) line (z, h) = (z, parts-whole s w (partsOf line) (plays s w line) (every-line-by-parts s w z h line) h)
+
 -- one line
-pub turn-stands : (stage : Stage) (line : Line) → StandsFor stage → StandsFor (turn stage line .stage)
-unfolding turn StandsFor run
-turn-stands waiting line h = first-stands line
-turn-stands (playing s w events) line (b, e) = (
+pub turn-stands : (stage : Stage) (line : Line) → WholeAt stage → StandsFor stage → StandsFor (turn stage line .stage)
+unfolding turn StandsFor WholeAt run
+turn-stands waiting line a h = first-stands line
+turn-stands (playing s w events) line a (b, e) = (
   b,
-  sym (plays-runs s w (one-stripe s b) line (run s events .seen))
+  sym (plays-runs s w (a .0) (a .1) line (run s events .seen))
       ∙ ap (λ (v : World). runFrom s (record { world = v; seen = run s events .seen }) (plays s w line .events) .world) e
       ∙ ap (λ (v : Moved s). v .world) (sym (run-from-both s (unmoved s (freshSet s)) events (plays s w line .events))),
 )
 
 -- all lines
-pub lines-stand : (stage : Stage) (ls : List (List ℕ)) → StandsFor stage → StandsFor (playsLines stage ls .stage)
+pub lines-stand : (stage : Stage) (ls : List (List ℕ)) → WholeAt stage → StandsFor stage → StandsFor (playsLines stage ls .stage)
 unfolding playsLines stays follows
-lines-stand stage [] h = h
-lines-stand stage (l ∷ ls) h = lines-stand (turn stage (reads l) .stage) ls (turn-stands stage (reads l) h)
+lines-stand stage [] a h = h
+lines-stand stage (l ∷ ls) a h = lines-stand (turn stage (reads l) .stage) ls (turn-whole stage (reads l) a) (turn-stands stage (reads l) a h)
 
 pub every-script-is-a-run : EveryScriptIsARun
-unfolding script StandsFor
-every-script-is-a-run input = lines-stand waiting (lines input) tt
+unfolding script StandsFor WholeAt
+every-script-is-a-run input = lines-stand waiting (lines input) tt tt
 
 -- a line adds its events to those of the stage
 begins-keeps : (s : Settings) → eventsOf (begins s .stage) ≡ begins s .events
@@ -179,28 +206,60 @@ begins-apart s = go (benchRange s)
     go true = λ stripe n. refl
     go false = tt
 
-turn-apart : (stage : Stage) (line : Line) → StandsFor stage → ShowsApart stage → ShowsApart (turn stage line .stage)
-unfolding turn first waits StandsFor ShowsApart run
-turn-apart waiting (setLine n m size capacity) h a = begins-apart (oneStripe n m size capacity)
-turn-apart waiting (writeLine c clock digits) h a = tt
-turn-apart waiting (readLine c clock brick) h a = tt
-turn-apart waiting (carryLine messages) h a = tt
-turn-apart waiting (crashLine c) h a = tt
-turn-apart waiting (downLine b) h a = tt
-turn-apart waiting (upLine b) h a = tt
-turn-apart waiting noLine h a = tt
-turn-apart (playing s w events) line (b, e) a = λ stripe n. (
+turn-apart : (stage : Stage) (line : Line) → WholeAt stage → StandsFor stage → ShowsApart stage → ShowsApart (turn stage line .stage)
+unfolding turn first waits StandsFor WholeAt ShowsApart run
+turn-apart waiting (setLine n m size capacity) i h a = begins-apart (oneStripe n m size capacity)
+turn-apart waiting (writeLine c clock digits) i h a = tt
+turn-apart waiting (readLine c clock brick) i h a = tt
+turn-apart waiting (carryLine messages) i h a = tt
+turn-apart waiting (crashLine c) i h a = tt
+turn-apart waiting (downLine b) i h a = tt
+turn-apart waiting (upLine b) i h a = tt
+turn-apart waiting noLine i h a = tt
+turn-apart (playing s w events) line i (b, e) a = λ stripe n. (
     ap (λ (v : Moved s). v .seen stripe) (run-from-both s (unmoved s (freshSet s)) events (plays s w line .events))
     ∙ ap (λ (v : World). runFrom s (record { world = v; seen = run s events .seen }) (plays s w line .events) .seen stripe) (sym e)
-    ∙ parts-apart s w (partsOf line) (plays s w line) (every-line-by-parts s w (one-stripe s b) line) (run s events .seen) stripe n
+    ∙ parts-apart s w (partsOf line) (plays s w line) (every-line-by-parts s w (i .0) (i .1) line) (run s events .seen) stripe n
     ∙ a stripe n
     )
 
-lines-apart : (stage : Stage) (ls : List (List ℕ)) → StandsFor stage → ShowsApart stage → ShowsApart (playsLines stage ls .stage)
+lines-apart : (stage : Stage) (ls : List (List ℕ)) → WholeAt stage → StandsFor stage → ShowsApart stage → ShowsApart (playsLines stage ls .stage)
 unfolding playsLines stays follows
-lines-apart stage [] h a = a
-lines-apart stage (l ∷ ls) h a = lines-apart (turn stage (reads l) .stage) ls (turn-stands stage (reads l) h) (turn-apart stage (reads l) h a)
+lines-apart stage [] i h a = a
+lines-apart stage (l ∷ ls) i h a =
+    lines-apart (turn stage (reads l) .stage) ls (turn-whole stage (reads l) i) (turn-stands stage (reads l) i h) (turn-apart stage (reads l) i h a)
 
 pub every-script-keeps-to-one-stripe : EveryScriptKeepsToOneStripe
-unfolding script StandsFor ShowsApart
-every-script-keeps-to-one-stripe input s w events e = subst ShowsApart e (lines-apart waiting (lines input) tt tt)
+unfolding script StandsFor WholeAt ShowsApart
+every-script-keeps-to-one-stripe input s w events e = subst ShowsApart e (lines-apart waiting (lines input) tt tt tt)
+
+-- no event of a line starts an operation on one block
+begins-start : (s : Settings) → onWholeStripes (begins s .events) ≡ true
+unfolding begins waits onWholeStripes
+begins-start s = go (benchRange s)
+  where
+    go : (b : Bool) → onWholeStripes (cond b (record { stage = playing s (freshSet s) []; events = []; printed = [] }) (waits badSetting) .events) ≡ true
+    go true = refl
+    go false = refl
+
+turn-starts : (stage : Stage) (line : Line) → WholeAt stage → onWholeStripes (turn stage line .events) ≡ true
+unfolding turn first waits WholeAt onWholeStripes
+turn-starts waiting (setLine n m size capacity) h = begins-start (oneStripe n m size capacity)
+turn-starts waiting (writeLine c clock digits) h = refl
+turn-starts waiting (readLine c clock brick) h = refl
+turn-starts waiting (carryLine messages) h = refl
+turn-starts waiting (crashLine c) h = refl
+turn-starts waiting (downLine b) h = refl
+turn-starts waiting (upLine b) h = refl
+turn-starts waiting noLine h = refl
+turn-starts (playing s w events) line h = parts-start s w (partsOf line) (plays s w line) (every-line-by-parts s w (h .0) (h .1) line)
+
+lines-start : (stage : Stage) (ls : List (List ℕ)) → WholeAt stage → onWholeStripes (playsLines stage ls .events) ≡ true
+unfolding playsLines stays follows onWholeStripes
+lines-start stage [] h = refl
+lines-start stage (l ∷ ls) h =
+    whole-both (turn stage (reads l) .events) _ (turn-starts stage (reads l) h) (lines-start (turn stage (reads l) .stage) ls (turn-whole stage (reads l) h))
+
+pub every-script-keeps-to-whole-stripes : EveryScriptKeepsToWholeStripes
+unfolding script WholeAt
+every-script-keeps-to-whole-stripes input = lines-start waiting (lines input) tt

@@ -4,7 +4,9 @@ use mathlib.Core.List.{List, [], _∷_, _++_}
 use Prim.Native.Nat.{ℕ, zero, suc, _+_, _*_, _≤_, _<_}
 use native.Mathlib.Omega.{arith}
 use native.Mathlib.Decide.{decLt}
+use native.Mathlib.Nat.{suc-mul, mul-le-mul-right}
 use lib.ListN.{length, length-append}
+use Rattle.message.specs.Kinds.{modifyKind}
 use Rattle.message.specs.declared.Message.{Message}
 use Rattle.register.specs.Runs.{Item, World, arriving, arrivingAt}
 use Rattle.settings.specs.declared.Settings.{Settings}
@@ -53,6 +55,12 @@ module _ (s : Settings) (w : World) where
           let e : j ≡ k = omega arith in
           at-end l (itemAt size numbers bytes k) j (omega (arith, n)) ∙ ap (λ (x : ℕ). arriving s w (itemAt size numbers bytes x)) (sym e)
 
--- a buffer that is long enough for n blocks
-pub coded-long : (n size : ℕ) (msg : Message) (coded : List ℕ) → n * size ≤ length coded → Coded n size msg coded
-coded-long n size msg coded h = record { enough = λ e. h }
+-- buffers that are long enough: for n blocks, and for m with the one that Modify names among them
+pub coded-long : (n m size : ℕ) (msg : Message) (blocks stripe coded : List ℕ) → m * size ≤ length blocks → m * size ≤ length stripe → n * size ≤ length coded
+    → (msg .kind ≡ modifyKind → msg .block < m) → Coded n size msg blocks stripe coded
+coded-long n m size msg blocks stripe coded hb hs hc low =
+    record {
+      enough = λ e. hc;
+      new-there = λ e. (let q = mul-le-mul-right size (low e) in let p = suc-mul (msg .block) size in omega arith);
+      old-there = λ e. (let q = mul-le-mul-right size (low e) in let p = suc-mul (msg .block) size in omega arith);
+    }

@@ -18,6 +18,12 @@ number-at-requires-2 c κs = search needs
 number-at-requires-3 : tie.Need-number-at-requires-3
 number-at-requires-3 c κs = search needs
 
+number-at-requires-4 : tie.Need-number-at-requires-4
+number-at-requires-4 c κs = search needs
+
+data-block-at-requires : tie.Need-data-block-at-requires
+data-block-at-requires c κs = search needs
+
 flags-at-requires : tie.Need-flags-at-requires
 flags-at-requires c κs = search needs
 
@@ -33,5 +39,7 @@ message-at-spec =
     number-at-requires
     number-at-requires-2
     number-at-requires-3
+    number-at-requires-4
+    data-block-at-requires
     flags-at-requires
     returns)

@@ -2,7 +2,7 @@ use mathlib.Core.Path.{ap, _∙_}
 use Prim.Native.Nat.{ℕ, _+_, _*_}
 use mathlib.Core.List.{[]}
 use lib.ListN.{take, drop}
-use Rattle.register.proofs.Laws.DriverLaws.{few-returned, crash-short}
+use Rattle.bench_commit.proofs.Laws.ListsLaws.{crash-lists}
 use Rattle.bench_commit.proofs.Laws.ActedLaws.{acted-crash}
 use borrow.Author.Needs.{needs}
 use Rattle.bench_start.proofs.crash_with.Statement.{statement}
@@ -23,8 +23,8 @@ commit-requires c κs =
     let s = c .before .before .before .before .before .before .before .before .before .before .before .before .before .before .before .before .before .before .before .before .before .before .before in
     let f = c .before .before .before .before .before .before .before .before .before .before .before .before .before .fetch .kept in
     let long = f .1 .1 .0 ∙ s .pre .1 .blocks-long in
-    let few = few-returned _ _ _ _ _ _ _ _ _ (crash-short _ _ _ _ _) (c .before .before .before .before .before .before .crash .ensures [] [] []) in
-    (s .pre .0, (record { blocks-long = long; stripe-long = f .1 .1 .1 .0 ∙ s .pre .1 .stripe-long; coded-long = long }, few))
+    let lists = crash-lists _ _ _ _ _ _ _ _ _ _ _ _ (c .before .before .before .before .before .before .crash .ensures [] [] []) in
+    (s .pre .0, (record { blocks-long = long; stripe-long = f .1 .1 .1 .0 ∙ s .pre .1 .stripe-long; coded-long = long }, lists))
 
 same-length : tie.Need-same-length
 same-length c = c .before .before .before .before .before .before .before .before .before .before .before .before .before .before .before .before .before .before .before .before .before .before .fetch

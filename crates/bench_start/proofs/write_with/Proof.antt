@@ -2,7 +2,7 @@ use mathlib.Core.Path.{sym, ap, subst, _∙_}
 use Prim.Native.Nat.{ℕ, _+_, _*_, _≤_}
 use mathlib.Core.List.{[]}
 use lib.ListN.{take, drop}
-use Rattle.register.proofs.Laws.DriverLaws.{few-returned, write-short}
+use Rattle.bench_commit.proofs.Laws.ListsLaws.{write-lists}
 use Rattle.bench_commit.proofs.Laws.ActedLaws.{short-write, whole-write}
 use Rattle.bench_start.proofs.Laws.ShortLaws.{content-long, count-is, content-is}
 use borrow.Author.Needs.{needs}
@@ -81,7 +81,7 @@ commit-requires c κs =
               ∙ s .pre .1 .0 .stripe-long;
           coded-long = long;
         },
-        few-returned _ _ _ _ _ _ _ _ _ (write-short _ _ _ _ _ _ _ _)
+        write-lists _ _ _ _ _ _ _ _ _ _ _ _ _ _ _
             (c .before .before .before .before .before .before .before .before .before .before .start-write .ensures [] []),
       ),
     )

@@ -1,96 +1,136 @@
 -- What each message does to a brick.
 use mathlib.Core.Path.{_≡_, refl, sym, ap, subst, _∙_}
-use mathlib.Core.Bool.{Bool, true, false, cond, _&&_}
+use mathlib.Core.Bool.{Bool, true, false, cond, _&&_, true≢false}
 use mathlib.Core.List.{List}
 use Prim.Native.Nat.{ℕ, zero, suc, _+_, _-_, _≤_, _<_}
 use native.Mathlib.Omega.{arith}
 use native.Mathlib.Decide.{ℕ-discrete, decLt}
 use lib.Arith.{lt-of-le-ne}
-use lib.Dec.{ltb}
+use lib.Dec.{eqb, ltb}
 use lib.ListN.{length}
-use borrow.Author.Tests.{ltb-true, ltb-false, leb-true, eq-eqb, ne-eqb}
+use borrow.Author.Tests.{ltb-true, ltb-false, lt-ltb, le-ltb, leb-true, eq-eqb, ne-eqb, eqb-true}
 use Rattle.byte_lists.proofs.Laws.BoolLaws.{and-left, and-right}
+use Rattle.erasure.specs.Recoding.{recodedBlock}
 use Rattle.settings.specs.Times.{validTime}
 use Rattle.settings.specs.declared.Settings.{Settings}
 use Rattle.message.specs.declared.Message.{Message}
-use Rattle.image.specs.Brick.{Brick, entryCount, timeAt, meansAt, newest, savedTime}
+use Rattle.image.specs.Brick.{Brick, LogEntry, entryCount, timeAt, meansAt, markAt, newest, savedTime}
 use Rattle.image.specs.Image.{imageOf}
 use Rattle.image.specs.Parse.{Opens, parse}
 use Rattle.image.proofs.Laws.ParseLaws.{opened, parse-image}
 use Rattle.image.specs.Brick.{Sound}
-use Rattle.image_write.specs.Saving.{withPromise, withEntry}
+use Rattle.image_write.specs.Saving.{withPromise, appended, blockEntry, markEntry}
 use Rattle.settings.specs.Refusal.{refuseUnless}
 use Rattle.message.specs.Messages.{messageRefusal, roundRight, kindRight}
-use Rattle.image_write.proofs.Laws.ImageStepLaws.{promised-promise, appended-promise, promised-count, promised-time, promised-means}
-use Rattle.image_write.proofs.Laws.ImageStepLaws.{appended-count, appended-time-old, appended-means-old, appended-time-new, appended-means-new}
-use Rattle.brick_log.specs.BrickRules.{aboveNewest, notBelowPromise, hasFree, orderYes, writeYes, orderedIfYes, writtenIfYes, trimmedTo, under, lookup, yesTo, brickAfter}
+use Rattle.image_write.proofs.Laws.ImageStepLaws.{promised-promise, appended-promise, promised-count, promised-time, promised-means, promised-mark}
+use Rattle.image_write.proofs.Laws.ImageStepLaws.{appended-count, appended-time-old, appended-means-old, appended-mark-old}
+use Rattle.image_write.proofs.Laws.ImageStepLaws.{appended-time-new, appended-means-new, appended-mark-new}
+use Rattle.brick_log.specs.BrickRules.{aboveNewest, notBelowPromise, hasFree, orderYes, writeYes, modifyYes, orderedIfYes, writtenIfYes, modifiedIfYes}
+use Rattle.brick_log.specs.BrickRules.{newestBlock, modifiedEntry, trimmedTo, under, lookup, yesTo, brickAfter}
 use Rattle.image.proofs.Laws.LogPlaceLaws.{saved-valid, newest-at, rises-next, rises-to, sound-of}
+use Rattle.brick_log.proofs.Laws.LogChangeLaws.{modified-sized}
 use Rattle.brick_log.proofs.Laws.TrimLaws.{trim-not-empty, trim-keeps-newest, Trims, trim-places}
 use Rattle.brick.specs.Receive.{Highest}
-use Rattle.message.specs.Kinds.{readKind, trimKind, writeKind}
+use Rattle.message.specs.Kinds.{readKind, trimKind, writeKind, modifyKind}
 use Rattle.settings.specs.Refusal.{badMessage, passed}
 
 -- the brick after a message, by its kind
-module _ (s : Settings) (x : Brick) (msg : Message) (block : List ℕ) where
-  after-trim : msg .kind ≡ trimKind → brickAfter s x msg block ≡ trimmedTo x (msg .time)
+module _ (s : Settings) (brick : ℕ) (x : Brick) (msg : Message) (block old : List ℕ) where
+  pub after-trim : msg .kind ≡ trimKind → brickAfter s brick x msg block old ≡ trimmedTo x (msg .time)
   unfolding brickAfter
   after-trim e = rw (eq-eqb (msg .kind) trimKind e) refl
 
-  after-write : msg .kind ≡ writeKind → brickAfter s x msg block ≡ writtenIfYes s x (msg .time) block
+  pub after-write : msg .kind ≡ writeKind → brickAfter s brick x msg block old ≡ writtenIfYes s x (msg .time) block
   unfolding brickAfter
   after-write e = rw (ne-eqb (msg .kind) trimKind (λ q. omega (arith, e, q)), eq-eqb (msg .kind) writeKind e) refl
 
-  after-read : msg .kind ≡ readKind → brickAfter s x msg block ≡ x
+  pub after-modify : msg .kind ≡ modifyKind → brickAfter s brick x msg block old ≡ modifiedIfYes s brick x msg block old
   unfolding brickAfter
-  after-read e = rw (ne-eqb (msg .kind) trimKind (λ q. omega (arith, e, q)), ne-eqb (msg .kind) writeKind (λ q. omega (arith, e, q)), eq-eqb (msg .kind) readKind e) refl
+  after-modify e =
+      rw
+      (ne-eqb (msg .kind) trimKind (λ q. omega (arith, e, q)), ne-eqb (msg .kind) writeKind (λ q. omega (arith, e, q)), eq-eqb (msg .kind) modifyKind e)
+      refl
 
-  after-order : (msg .kind ≡ trimKind → ⊥) → (msg .kind ≡ writeKind → ⊥) → (msg .kind ≡ readKind → ⊥) → brickAfter s x msg block ≡ orderedIfYes x (msg .time)
+  pub after-read : msg .kind ≡ readKind → brickAfter s brick x msg block old ≡ x
   unfolding brickAfter
-  after-order a b c = rw (ne-eqb (msg .kind) trimKind a, ne-eqb (msg .kind) writeKind b, ne-eqb (msg .kind) readKind c) refl
+  after-read e =
+      rw (
+        ne-eqb (msg .kind) trimKind (λ q. omega (arith, e, q)),
+        ne-eqb (msg .kind) writeKind (λ q. omega (arith, e, q)),
+        ne-eqb (msg .kind) modifyKind (λ q. omega (arith, e, q)),
+        eq-eqb (msg .kind) readKind e,
+      )
+      refl
 
-  -- a claim about the brick after a message is shown for each of the three changes and for none
-  by-kind : (P : Brick → Type 0) → P (trimmedTo x (msg .time)) → P (writtenIfYes s x (msg .time) block) → P x → P (orderedIfYes x (msg .time)) → P (brickAfter s x msg block)
-  by-kind P t w r o = go (ℕ-discrete (msg .kind) trimKind) (ℕ-discrete (msg .kind) writeKind) (ℕ-discrete (msg .kind) readKind)
+  pub after-order : (msg .kind ≡ trimKind → ⊥) → (msg .kind ≡ writeKind → ⊥) → (msg .kind ≡ modifyKind → ⊥) → (msg .kind ≡ readKind → ⊥)
+      → brickAfter s brick x msg block old ≡ orderedIfYes x (msg .time)
+  unfolding brickAfter
+  after-order a b c d =
+      rw (ne-eqb (msg .kind) trimKind a, ne-eqb (msg .kind) writeKind b, ne-eqb (msg .kind) modifyKind c, ne-eqb (msg .kind) readKind d) refl
+
+  -- a claim about the brick after a message is shown for each of the four changes and for none
+  by-kind : (P : Brick → Type 0) → P (trimmedTo x (msg .time)) → P (writtenIfYes s x (msg .time) block) → P (modifiedIfYes s brick x msg block old) → P x
+      → P (orderedIfYes x (msg .time)) → P (brickAfter s brick x msg block old)
+  by-kind P t w m r o =
+      go (ℕ-discrete (msg .kind) trimKind) (ℕ-discrete (msg .kind) writeKind) (ℕ-discrete (msg .kind) modifyKind) (ℕ-discrete (msg .kind) readKind)
     where
-      go : Dec (msg .kind ≡ trimKind) → Dec (msg .kind ≡ writeKind) → Dec (msg .kind ≡ readKind) → P (brickAfter s x msg block)
-      go (yes a) b c = subst P (sym (after-trim a)) t
-      go (no a) (yes b) c = subst P (sym (after-write b)) w
-      go (no a) (no b) (yes c) = subst P (sym (after-read c)) r
-      go (no a) (no b) (no c) = subst P (sym (after-order a b c)) o
+      go : Dec (msg .kind ≡ trimKind) → Dec (msg .kind ≡ writeKind) → Dec (msg .kind ≡ modifyKind) → Dec (msg .kind ≡ readKind)
+          → P (brickAfter s brick x msg block old)
+      go (yes a) b c d = subst P (sym (after-trim a)) t
+      go (no a) (yes b) c d = subst P (sym (after-write b)) w
+      go (no a) (no b) (yes c) d = subst P (sym (after-modify c)) m
+      go (no a) (no b) (no c) (yes d) = subst P (sym (after-read d)) r
+      go (no a) (no b) (no c) (no d) = subst P (sym (after-order a b c d)) o
+
+  -- "A no changes nothing": all but Trim that are not granted.
+  pub no-changes-nothing : (msg .kind ≡ trimKind → ⊥) → yesTo s x msg ≡ false → brickAfter s brick x msg block old ≡ x
+  unfolding yesTo writtenIfYes modifiedIfYes orderedIfYes
+  no-changes-nothing n e = go (ℕ-discrete (msg .kind) writeKind) (ℕ-discrete (msg .kind) modifyKind) (ℕ-discrete (msg .kind) readKind)
+    where
+      go : Dec (msg .kind ≡ writeKind) → Dec (msg .kind ≡ modifyKind) → Dec (msg .kind ≡ readKind) → brickAfter s brick x msg block old ≡ x
+      go b c (yes d) = after-read d
+      go (yes b) c (no d) =
+          let w : writeYes s x (msg .time) ≡ false = rw (ne-eqb (msg .kind) readKind d, eq-eqb (msg .kind) writeKind b) at e in
+          after-write b ∙ rw w refl
+      go (no b) (yes c) (no d) =
+          let w : modifyYes s x (msg .time) (msg .old) ≡ false =
+          rw (ne-eqb (msg .kind) readKind d, ne-eqb (msg .kind) writeKind b, eq-eqb (msg .kind) modifyKind c) at e in
+          after-modify c ∙ rw w refl
+      go (no b) (no c) (no d) =
+          let w : orderYes x (msg .time) ≡ false =
+          rw (ne-eqb (msg .kind) readKind d, ne-eqb (msg .kind) writeKind b, ne-eqb (msg .kind) modifyKind c) at e in
+          after-order n b c d ∙ rw w refl
+
+  -- A yes to Write appends exactly that entry,
+  pub write-appends : msg .kind ≡ writeKind → yesTo s x msg ≡ true → brickAfter s brick x msg block old ≡ appended x (blockEntry (msg .time) block)
+  unfolding yesTo writtenIfYes
+  write-appends e y =
+      let w : writeYes s x (msg .time) ≡ true = rw (ne-eqb (msg .kind) readKind (λ q. omega (arith, e, q)), eq-eqb (msg .kind) writeKind e) at y in
+      after-write e ∙ rw w refl
+
+  -- one to Modify the entry of this brick,
+  pub modify-appends : msg .kind ≡ modifyKind → yesTo s x msg ≡ true
+      → brickAfter s brick x msg block old ≡ appended x (modifiedEntry s brick x msg block old)
+  unfolding yesTo modifiedIfYes
+  modify-appends e y =
+      let w : modifyYes s x (msg .time) (msg .old) ≡ true =
+      rw
+      (ne-eqb (msg .kind) readKind (λ q. omega (arith, e, q)), ne-eqb (msg .kind) writeKind (λ q. omega (arith, e, q)), eq-eqb (msg .kind) modifyKind e)
+      at y in
+      after-modify e ∙ rw w refl
+
+  -- and one to an Order of any kind promises its time, and nothing else.
+  pub order-promises : (msg .kind ≡ trimKind → ⊥) → (msg .kind ≡ writeKind → ⊥) → (msg .kind ≡ modifyKind → ⊥) → (msg .kind ≡ readKind → ⊥)
+      → yesTo s x msg ≡ true → brickAfter s brick x msg block old ≡ withPromise x (msg .time)
+  unfolding yesTo orderedIfYes
+  order-promises a b c d y =
+      let w : orderYes x (msg .time) ≡ true =
+      rw (ne-eqb (msg .kind) readKind d, ne-eqb (msg .kind) writeKind b, ne-eqb (msg .kind) modifyKind c) at y in
+      after-order a b c d ∙ rw w refl
 
 by-yes : (b : Bool) (P : Brick → Type 0) (x y : Brick) → (b ≡ true → P x) → P y → P (cond b x y)
 by-yes true P x y f g = f refl
 by-yes false P x y f g = g
-
--- "A no changes nothing": Read, Order, Order-and-read and Write that are not granted.
-pub no-changes-nothing : (s : Settings) (x : Brick) (msg : Message) (block : List ℕ) → (msg .kind ≡ trimKind → ⊥) → yesTo s x msg ≡ false → brickAfter s x msg block ≡ x
-unfolding yesTo writtenIfYes orderedIfYes
-no-changes-nothing s x msg block n e = go (ℕ-discrete (msg .kind) writeKind) (ℕ-discrete (msg .kind) readKind)
-  where
-    go : Dec (msg .kind ≡ writeKind) → Dec (msg .kind ≡ readKind) → brickAfter s x msg block ≡ x
-    go b (yes c) = after-read s x msg block c
-    go (yes b) (no c) =
-        let w : writeYes s x (msg .time) ≡ false = rw (ne-eqb (msg .kind) readKind c, eq-eqb (msg .kind) writeKind b) at e in
-        after-write s x msg block b ∙ rw w refl
-    go (no b) (no c) =
-        let w : orderYes x (msg .time) ≡ false = rw (ne-eqb (msg .kind) readKind c, ne-eqb (msg .kind) writeKind b) at e in
-        after-order s x msg block n b c ∙ rw w refl
-
--- A yes to Write appends exactly that entry.
-pub write-appends : (s : Settings) (x : Brick) (msg : Message) (block : List ℕ) → msg .kind ≡ writeKind → yesTo s x msg ≡ true
-    → brickAfter s x msg block ≡ withEntry x (msg .time) block
-unfolding yesTo writtenIfYes
-write-appends s x msg block e y =
-    let w : writeYes s x (msg .time) ≡ true = rw (ne-eqb (msg .kind) readKind (λ q. omega (arith, e, q)), eq-eqb (msg .kind) writeKind e) at y in
-    after-write s x msg block e ∙ rw w refl
-
--- A yes to Order or Order-and-read promises its time, and nothing else.
-pub order-promises : (s : Settings) (x : Brick) (msg : Message) (block : List ℕ) → (msg .kind ≡ trimKind → ⊥) → (msg .kind ≡ writeKind → ⊥) → (msg .kind ≡ readKind → ⊥)
-    → yesTo s x msg ≡ true → brickAfter s x msg block ≡ withPromise x (msg .time)
-unfolding yesTo orderedIfYes
-order-promises s x msg block a b c y =
-    let w : orderYes x (msg .time) ≡ true = rw (ne-eqb (msg .kind) readKind c, ne-eqb (msg .kind) writeKind b) at y in
-    after-order s x msg block a b c ∙ rw w refl
 
 -- what a yes says of the time
 pub order-above : (x : Brick) (t : ℕ) → orderYes x t ≡ true → newest x < t
@@ -109,43 +149,111 @@ pub write-free : (s : Settings) (x : Brick) (t : ℕ) → writeYes s x t ≡ tru
 unfolding writeYes hasFree
 write-free s x t e = ltb-true (entryCount x) (s .capacity) (and-right (orderYes x t) _ e)
 
--- The promise never falls.
-pub promise-never-falls : (s : Settings) (x : Brick) (msg : Message) (block : List ℕ) → x .promise ≤ brickAfter s x msg block .promise
-unfolding trimmedTo writtenIfYes orderedIfYes withPromise withEntry
-promise-never-falls s x msg block =
-    by-kind s x msg block (λ (y : Brick). x .promise ≤ y .promise) (omega arith)
-    (by-yes (writeYes s x (msg .time)) (λ (y : Brick). x .promise ≤ y .promise) (withEntry x (msg .time) block) x (λ e. omega arith) (omega arith))
-    (omega arith)
-    (by-yes (orderYes x (msg .time)) (λ (y : Brick). x .promise ≤ y .promise) (withPromise x (msg .time)) x (λ e. order-not-below x (msg .time) e) (omega arith))
+pub modify-written : (s : Settings) (x : Brick) (t old : ℕ) → modifyYes s x t old ≡ true → (newest x ≡ old) × (writeYes s x t ≡ true)
+unfolding modifyYes
+modify-written s x t old e = (eqb-true (newest x) old (and-left _ _ e), and-right (eqb (newest x) old) _ e)
 
--- A log never becomes empty.
-pub never-empty : (s : Settings) (x : Brick) (msg : Message) (block : List ℕ) → 1 ≤ entryCount x → 1 ≤ entryCount (brickAfter s x msg block)
-unfolding writtenIfYes orderedIfYes
-never-empty s x msg block h =
-    by-kind s x msg block (λ (y : Brick). 1 ≤ entryCount y) (trim-not-empty x (msg .time) h)
-    (by-yes (writeYes s x (msg .time)) (λ (y : Brick). 1 ≤ entryCount y) (withEntry x (msg .time) block) x (λ e. omega (arith, appended-count x (msg .time) block)) h)
-    h
-    (by-yes (orderYes x (msg .time)) (λ (y : Brick). 1 ≤ entryCount y) (withPromise x (msg .time)) x (λ e. omega (arith, promised-count x (msg .time))) h)
+-- the entry that Modify appends: brick j stores the new block, another data brick a mark, a parity brick its block recoded
+module _ (s : Settings) (brick : ℕ) (x : Brick) (msg : Message) (new old : List ℕ) where
+  pub modified-of-block : brick ≡ msg .block → modifiedEntry s brick x msg new old ≡ blockEntry (msg .time) new
+  unfolding modifiedEntry
+  modified-of-block e = rw (eq-eqb brick (msg .block) e) refl
 
-pub appended-newest : (x : Brick) (t : ℕ) (block : List ℕ) → newest (withEntry x t block) ≡ t
+  pub modified-of-data : (brick ≡ msg .block → ⊥) → brick < s .m → modifiedEntry s brick x msg new old ≡ markEntry x (msg .time)
+  unfolding modifiedEntry
+  modified-of-data n h = rw (ne-eqb brick (msg .block) n, lt-ltb brick (s .m) h) refl
+
+  pub modified-of-parity : (brick ≡ msg .block → ⊥) → s .m ≤ brick
+      → modifiedEntry s brick x msg new old
+      ≡ blockEntry (msg .time) (recodedBlock (s .n) (s .m) brick (msg .block) (newestBlock x) old new)
+  unfolding modifiedEntry
+  modified-of-parity n h = rw (ne-eqb brick (msg .block) n, le-ltb brick (s .m) h) refl
+
+  pub modified-time : modifiedEntry s brick x msg new old .time ≡ msg .time
+  unfolding modifiedEntry blockEntry markEntry
+  modified-time = go (eqb brick (msg .block)) (ltb brick (s .m))
+    where
+      go : (a b : Bool)
+          → cond a (blockEntry (msg .time) new)
+          (cond b (markEntry x (msg .time)) (blockEntry (msg .time) (recodedBlock (s .n) (s .m) brick (msg .block) (newestBlock x) old new)))
+          .time
+          ≡ msg .time
+      go true b = refl
+      go false true = refl
+      go false false = refl
+
+  -- a mark means the block before it
+  pub modified-marked : modifiedEntry s brick x msg new old .mark ≡ true → modifiedEntry s brick x msg new old .block ≡ newestBlock x
+  unfolding modifiedEntry blockEntry markEntry newestBlock
+  modified-marked = go (eqb brick (msg .block)) (ltb brick (s .m))
+    where
+      entry : Bool → Bool → LogEntry
+      entry a b =
+          cond a (blockEntry (msg .time) new)
+          (cond b (markEntry x (msg .time)) (blockEntry (msg .time) (recodedBlock (s .n) (s .m) brick (msg .block) (newestBlock x) old new)))
+
+      go : (a b : Bool) → entry a b .mark ≡ true → entry a b .block ≡ meansAt x (entryCount x - 1)
+      go true b e = absurd (true≢false (sym e))
+      go false true e = refl
+      go false false e = absurd (true≢false (sym e))
+
+module _ (s : Settings) (brick : ℕ) (x : Brick) (msg : Message) (block old : List ℕ) where
+  -- The promise never falls.
+  pub promise-never-falls : x .promise ≤ brickAfter s brick x msg block old .promise
+  unfolding trimmedTo writtenIfYes modifiedIfYes orderedIfYes withPromise appended
+  promise-never-falls =
+      by-kind s brick x msg block old (λ (y : Brick). x .promise ≤ y .promise) (omega arith)
+      (by-yes (writeYes s x (msg .time)) (λ (y : Brick). x .promise ≤ y .promise) (appended x (blockEntry (msg .time) block)) x (λ e. omega arith) (omega arith))
+      (by-yes (modifyYes s x (msg .time) (msg .old)) (λ (y : Brick). x .promise ≤ y .promise) (appended x (modifiedEntry s brick x msg block old)) x
+      (λ e. omega arith) (omega arith))
+      (omega arith)
+      (by-yes (orderYes x (msg .time)) (λ (y : Brick). x .promise ≤ y .promise) (withPromise x (msg .time)) x (λ e. order-not-below x (msg .time) e) (omega arith))
+
+  -- A log never becomes empty.
+  pub never-empty : 1 ≤ entryCount x → 1 ≤ entryCount (brickAfter s brick x msg block old)
+  unfolding writtenIfYes modifiedIfYes orderedIfYes
+  never-empty h =
+      by-kind s brick x msg block old (λ (y : Brick). 1 ≤ entryCount y) (trim-not-empty x (msg .time) h)
+      (by-yes (writeYes s x (msg .time)) (λ (y : Brick). 1 ≤ entryCount y) (appended x (blockEntry (msg .time) block)) x
+      (λ e. omega (arith, appended-count x (blockEntry (msg .time) block))) h)
+      (by-yes (modifyYes s x (msg .time) (msg .old)) (λ (y : Brick). 1 ≤ entryCount y) (appended x (modifiedEntry s brick x msg block old)) x
+      (λ e. omega (arith, appended-count x (modifiedEntry s brick x msg block old))) h)
+      h
+      (by-yes (orderYes x (msg .time)) (λ (y : Brick). 1 ≤ entryCount y) (withPromise x (msg .time)) x (λ e. omega (arith, promised-count x (msg .time))) h)
+
+pub appended-newest : (x : Brick) (e : LogEntry) → newest (appended x e) ≡ e .time
 unfolding newest
-appended-newest x t block =
-    let m : entryCount (withEntry x t block) - 1 ≡ entryCount x = omega (arith, appended-count x t block) in
-    ap (λ (k : ℕ). timeAt (withEntry x t block) k) m ∙ appended-time-new x t block
+appended-newest x e =
+    let m : entryCount (appended x e) - 1 ≡ entryCount x = omega (arith, appended-count x e) in
+    ap (λ (k : ℕ). timeAt (appended x e) k) m ∙ appended-time-new x e
 
 pub promised-newest : (x : Brick) (t : ℕ) → newest (withPromise x t) ≡ newest x
 unfolding newest
 promised-newest x t = promised-time x t (entryCount (withPromise x t) - 1) ∙ ap (λ (k : ℕ). timeAt x (k - 1)) (promised-count x t)
 
+block-time : (t : ℕ) (block : List ℕ) → blockEntry t block .time ≡ t
+unfolding blockEntry
+block-time t block = refl
+
+block-held : (t : ℕ) (block : List ℕ) → blockEntry t block .mark ≡ false
+unfolding blockEntry
+block-held t block = refl
+
 -- The newest time never falls: a law of today, which request E6 gives up.
-pub newest-never-falls : (s : Settings) (x : Brick) (msg : Message) (block : List ℕ) → 1 ≤ entryCount x → newest x ≤ newest (brickAfter s x msg block)
-unfolding writtenIfYes orderedIfYes
-newest-never-falls s x msg block h =
-    by-kind s x msg block (λ (y : Brick). newest x ≤ newest y) (omega (arith, trim-keeps-newest x (msg .time) h))
-    (by-yes (writeYes s x (msg .time)) (λ (y : Brick). newest x ≤ newest y) (withEntry x (msg .time) block) x
-    (λ e. omega (arith, appended-newest x (msg .time) block, order-above x (msg .time) (write-ordered s x (msg .time) e))) (omega arith))
+pub newest-never-falls : (s : Settings) (brick : ℕ) (x : Brick) (msg : Message) (block old : List ℕ) → 1 ≤ entryCount x
+    → newest x ≤ newest (brickAfter s brick x msg block old)
+unfolding writtenIfYes modifiedIfYes orderedIfYes
+newest-never-falls s brick x msg block old h =
+    by-kind s brick x msg block old (λ (y : Brick). newest x ≤ newest y) (omega (arith, trim-keeps-newest x (msg .time) h))
+    (by-yes (writeYes s x (msg .time)) (λ (y : Brick). newest x ≤ newest y) (appended x (blockEntry (msg .time) block)) x
+    (λ e. above (blockEntry (msg .time) block) (block-time (msg .time) block) e) (omega arith))
+    (by-yes (modifyYes s x (msg .time) (msg .old)) (λ (y : Brick). newest x ≤ newest y) (appended x (modifiedEntry s brick x msg block old)) x
+    (λ e. above (modifiedEntry s brick x msg block old) (modified-time s brick x msg block old) (modify-written s x (msg .time) (msg .old) e .1)) (omega arith))
     (omega arith)
     (by-yes (orderYes x (msg .time)) (λ (y : Brick). newest x ≤ newest y) (withPromise x (msg .time)) x (λ e. omega (arith, promised-newest x (msg .time))) (omega arith))
+  where
+    above : (e : LogEntry) → e .time ≡ msg .time → writeYes s x (msg .time) ≡ true → newest x ≤ newest (appended x e)
+    above e t y = omega (arith, t, appended-newest x e, order-above x (msg .time) (write-ordered s x (msg .time) y))
 
 under-some : (x : Brick) (max n i : ℕ) → under x max n ≡ suc i → (i < n) × (timeAt x i < max) × ((j : ℕ) → i < j → j < n → max ≤ timeAt x j)
 unfolding under
@@ -205,6 +313,9 @@ promised-sound s x t r v =
     (λ i h. ap savedTime (promised-time x t i) ∙ r .entries i (omega (arith, h)) .saved)
     (λ i h. let u = rises-next s x r i (omega (arith, h)) in omega (arith, promised-time x t i, promised-time x t (suc i)))
     (λ i h. ap length (promised-means x t i) ∙ r .entries i (omega (arith, h)) .sized)
+    (λ i h m.
+    let w = r .entries i (omega (arith, h)) .marked (sym (promised-mark x t i) ∙ m) in
+    (w .0, promised-means x t i ∙ w .1 ∙ sym (promised-means x t (i - 1))))
 
 -- place i of a log with one more: an old one, or the new one
 pub by-place : {P : ℕ → Type 0} (n : ℕ) → ((i : ℕ) → i < n → P i) → P n → (i : ℕ) → i < n + 1 → P i
@@ -214,32 +325,41 @@ by-place {P} n old new i h = go (ℕ-discrete i n)
     go (yes q) = subst P (sym q) new
     go (no q) = old i (lt-of-le-ne (omega arith) q)
 
-pub appended-sound : (s : Settings) (x : Brick) (t : ℕ) (block : List ℕ) → Sound s x → entryCount x < s .capacity → newest x < t → savedTime t ≡ true
-    → length block ≡ s .size → Sound s (withEntry x t block)
-appended-sound s x t block r free above v size =
-    let c = appended-count x t block in
-    sound-of s (withEntry x t block) (omega arith) (omega arith) (ap savedTime (appended-promise x t block) ∙ r .promise-saved)
-    (λ i h. by-place {P = λ (j : ℕ). savedTime (timeAt (withEntry x t block) j) ≡ true} (entryCount x)
-    (λ j l. ap savedTime (appended-time-old x t block j l) ∙ r .entries j l .saved)
-    (ap savedTime (appended-time-new x t block) ∙ v) i (omega (arith, h)))
+pub appended-sound : (s : Settings) (x : Brick) (e : LogEntry) → Sound s x → entryCount x < s .capacity → newest x < e .time → savedTime (e .time) ≡ true
+    → length (e .block) ≡ s .size → (e .mark ≡ true → e .block ≡ newestBlock x) → Sound s (appended x e)
+unfolding newestBlock
+appended-sound s x e r free above v size mark =
+    let c = appended-count x e in
+    sound-of s (appended x e) (omega arith) (omega arith) (ap savedTime (appended-promise x e) ∙ r .promise-saved)
+    (λ i h. by-place {P = λ (j : ℕ). savedTime (timeAt (appended x e) j) ≡ true} (entryCount x)
+    (λ j l. ap savedTime (appended-time-old x e j l) ∙ r .entries j l .saved)
+    (ap savedTime (appended-time-new x e) ∙ v) i (omega (arith, h)))
     (λ i h. rise i (omega (arith, h)))
-    (λ i h. by-place {P = λ (j : ℕ). length (meansAt (withEntry x t block) j) ≡ s .size} (entryCount x)
-    (λ j l. ap length (appended-means-old x t block j l) ∙ r .entries j l .sized)
-    (ap length (appended-means-new x t block) ∙ size) i (omega (arith, h)))
+    (λ i h. by-place {P = λ (j : ℕ). length (meansAt (appended x e) j) ≡ s .size} (entryCount x)
+    (λ j l. ap length (appended-means-old x e j l) ∙ r .entries j l .sized)
+    (ap length (appended-means-new x e) ∙ size) i (omega (arith, h)))
+    (λ i h. by-place {P = λ (j : ℕ). markAt (appended x e) j ≡ true → (0 < j) × (meansAt (appended x e) j ≡ meansAt (appended x e) (j - 1))} (entryCount x)
+    (λ j l m.
+    let w = r .entries j l .marked (sym (appended-mark-old x e j l) ∙ m) in
+    (w .0, appended-means-old x e j l ∙ w .1 ∙ sym (appended-means-old x e (j - 1) (omega (arith, l)))))
+    (λ m. (
+      omega (arith, r .count-low),
+      appended-means-new x e ∙ mark (sym (appended-mark-new x e) ∙ m) ∙ sym (appended-means-old x e (entryCount x - 1) (omega (arith, r .count-low))),
+    )) i (omega (arith, h)))
   where
-    rise : (i : ℕ) → suc i < entryCount x + 1 → timeAt (withEntry x t block) i < timeAt (withEntry x t block) (suc i)
+    rise : (i : ℕ) → suc i < entryCount x + 1 → timeAt (appended x e) i < timeAt (appended x e) (suc i)
     rise i h = go (ℕ-discrete (suc i) (entryCount x))
       where
-        go : Dec (suc i ≡ entryCount x) → timeAt (withEntry x t block) i < timeAt (withEntry x t block) (suc i)
+        go : Dec (suc i ≡ entryCount x) → timeAt (appended x e) i < timeAt (appended x e) (suc i)
         go (yes q) =
-            let old = appended-time-old x t block i (omega arith) in
-            let new : timeAt (withEntry x t block) (suc i) ≡ t = ap (timeAt (withEntry x t block)) q ∙ appended-time-new x t block in
+            let old = appended-time-old x e i (omega arith) in
+            let new : timeAt (appended x e) (suc i) ≡ e .time = ap (timeAt (appended x e)) q ∙ appended-time-new x e in
             let last = newest-at x i (omega arith) in
             omega arith
         go (no q) =
             let low : suc i < entryCount x = lt-of-le-ne (omega arith) q in
-            let old = appended-time-old x t block i (omega arith) in
-            let next = appended-time-old x t block (suc i) low in
+            let old = appended-time-old x e i (omega arith) in
+            let next = appended-time-old x e (suc i) low in
             let up = rises-next s x r i low in
             omega arith
 
@@ -253,7 +373,16 @@ trimmed-sound s x t r = go (trim-places s x t r)
         (λ i h. ap savedTime (q .times i) ∙ r .entries (d + i) (omega (arith, h, q .count)) .saved)
         (λ i h. rise i (omega (arith, h, q .count)))
         (λ i h. ap length (q .means i) ∙ r .entries (d + i) (omega (arith, h, q .count)) .sized)
+        (λ i h m. mark i (omega (arith, h, q .count)) m)
       where
+        mark : (i : ℕ) → d + i < entryCount x → markAt (trimmedTo x t) i ≡ true → (0 < i) × (meansAt (trimmedTo x t) i ≡ meansAt (trimmedTo x t) (i - 1))
+        mark zero h m = absurd (true≢false (sym m ∙ q .lowest))
+        mark (suc i) h m =
+            let n : suc i - 1 ≡ i = omega arith in
+            let k : d + suc i - 1 ≡ d + i = omega arith in
+            let w = r .entries (d + suc i) h .marked (sym (q .marks i) ∙ m) in
+            (omega arith, q .means (suc i) ∙ w .1 ∙ ap (meansAt x) k ∙ sym (ap (meansAt (trimmedTo x t)) n ∙ q .means i))
+
         rise : (i : ℕ) → d + suc i < entryCount x → timeAt (trimmedTo x t) i < timeAt (trimmedTo x t) (suc i)
         rise i h =
             let m : d + suc i ≡ suc (d + i) = omega arith in
@@ -262,16 +391,24 @@ trimmed-sound s x t r = go (trim-places s x t r)
             let b = q .times (suc i) ∙ ap (timeAt x) m in
             omega arith
 
-pub after-sound : (s : Settings) (x : Brick) (msg : Message) (block : List ℕ) → Sound s x → validTime (msg .time) ≡ true → length block ≡ s .size
-    → Sound s (brickAfter s x msg block)
-unfolding writtenIfYes orderedIfYes
-after-sound s x msg block r v size =
-    by-kind s x msg block (λ (y : Brick). Sound s y) (trimmed-sound s x (msg .time) r)
-    (by-yes (writeYes s x (msg .time)) (λ (y : Brick). Sound s y) (withEntry x (msg .time) block) x
-    (λ e. appended-sound s x (msg .time) block r (write-free s x (msg .time) e) (order-above x (msg .time) (write-ordered s x (msg .time) e))
-    (saved-valid (msg .time) v) size) r)
+pub after-sound : (s : Settings) (brick : ℕ) (x : Brick) (msg : Message) (block old : List ℕ) → Sound s x → validTime (msg .time) ≡ true → length block ≡ s .size
+    → Sound s (brickAfter s brick x msg block old)
+unfolding writtenIfYes modifiedIfYes orderedIfYes
+after-sound s brick x msg block old r v size =
+    by-kind s brick x msg block old (λ (y : Brick). Sound s y) (trimmed-sound s x (msg .time) r)
+    (by-yes (writeYes s x (msg .time)) (λ (y : Brick). Sound s y) (appended x (blockEntry (msg .time) block)) x
+    (λ e. stored (blockEntry (msg .time) block) (block-time (msg .time) block) e (unfold blockEntry in size) (λ m. absurd (true≢false (sym m ∙ block-held (msg .time) block)))) r)
+    (by-yes (modifyYes s x (msg .time) (msg .old)) (λ (y : Brick). Sound s y) (appended x (modifiedEntry s brick x msg block old)) x
+    (λ e. stored (modifiedEntry s brick x msg block old) (modified-time s brick x msg block old) (modify-written s x (msg .time) (msg .old) e .1)
+    (modified-sized s brick x msg block old r size) (modified-marked s brick x msg block old)) r)
     r
     (by-yes (orderYes x (msg .time)) (λ (y : Brick). Sound s y) (withPromise x (msg .time)) x (λ e. promised-sound s x (msg .time) r (saved-valid (msg .time) v)) r)
+  where
+    stored : (e : LogEntry) → e .time ≡ msg .time → writeYes s x (msg .time) ≡ true → length (e .block) ≡ s .size → (e .mark ≡ true → e .block ≡ newestBlock x)
+        → Sound s (appended x e)
+    stored e t y long mark =
+        appended-sound s x e r (write-free s x (msg .time) y) (omega (arith, t, order-above x (msg .time) (write-ordered s x (msg .time) y)))
+        (ap savedTime t ∙ saved-valid (msg .time) v) long mark
 
 -- a message that is not refused has a valid time
 pub message-time : (n m : ℕ) (msg : Message) → messageRefusal n m msg ≡ passed → validTime (msg .time) ≡ true
@@ -286,10 +423,10 @@ message-time n m msg e = go (validTime (msg .time)) refl
         refused w = rw w refl
 
 -- An image that opened opens again after any message, as the brick after it.
-pub opens-again : (s : Settings) (brick : ℕ) (bytes : List ℕ) (x : Brick) (msg : Message) (block : List ℕ) → parse s brick bytes ≡ Opens x
+pub opens-again : (s : Settings) (brick : ℕ) (bytes : List ℕ) (x : Brick) (msg : Message) (block old : List ℕ) → parse s brick bytes ≡ Opens x
     → messageRefusal (s .n) (s .m) msg ≡ passed → length block ≡ s .size
-    → parse s brick (imageOf s brick (brickAfter s x msg block)) ≡ Opens (brickAfter s x msg block)
-opens-again s brick bytes x msg block e m size =
+    → parse s brick (imageOf s brick (brickAfter s brick x msg block old)) ≡ Opens (brickAfter s brick x msg block old)
+opens-again s brick bytes x msg block old e m size =
     let o = opened s brick bytes x e in
-    parse-image s brick (brickAfter s x msg block) (o .in-range) (o .brick-low)
-    (after-sound s x msg block (o .keeps) (message-time (s .n) (s .m) msg m) size)
+    parse-image s brick (brickAfter s brick x msg block old) (o .in-range) (o .brick-low)
+    (after-sound s brick x msg block old (o .keeps) (message-time (s .n) (s .m) msg m) size)

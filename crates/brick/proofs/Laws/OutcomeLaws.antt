@@ -7,24 +7,24 @@ use native.Mathlib.Omega.{arith}
 use native.Mathlib.Decide.{ℕ-discrete}
 use native.Mathlib.Nat.{mul-le-mul-right}
 use lib.Dec.{leb, ltb, eqb}
-use lib.ListN.{length, take, drop, getD}
-use lib.Seq.{take-take, drop-drop}
+use lib.ListN.{length, getD}
 use borrow.Author.Tests.{eq-eqb, ne-eqb, eqb-true, eqb-false, lt-ltb, le-ltb, ltb-true}
-use Rattle.settings.specs.Ranges.{settingsRefusal, stripeRefusal, SettingsRange}
-use Rattle.settings.proofs.Laws.RangeLaws.{settings-passed, stripe-passed}
+use Rattle.byte_lists.proofs.Laws.BoolLaws.{and-left, and-right}
+use Rattle.settings.specs.Ranges.{settingsRefusal, stripeRefusal, dataBlockRefusal, SettingsRange}
+use Rattle.settings.proofs.Laws.RangeLaws.{settings-passed, stripe-passed, in-range}
 use Rattle.settings.specs.Refusal.{firstRefusal, refuseUnless}
 use Rattle.settings.specs.declared.Settings.{Settings}
 use Rattle.settings.proofs.Laws.RefusalLaws.{first-stop, first-pass, first-alone, passed-first, passed-rest, tested}
 use Rattle.message.specs.Flags.{member}
-use Rattle.message.specs.Messages.{messageRefusal}
+use Rattle.message.specs.Messages.{messageRefusal, namesBlock, messageBlockRefusal}
 use Rattle.message.specs.declared.Message.{Message}
 use Rattle.image.specs.Brick.{Brick, entryCount, timeAt, meansAt, newest}
 use Rattle.image.specs.Image.{imageOf, imageSize}
-use Rattle.image.specs.Parse.{Opens, Refuses, parse, openRefusal, imageBlockAt, countIn, brickIn, heldIn}
+use Rattle.image.specs.Parse.{Opens, Refuses, parse, openRefusal, brickIn}
 use Rattle.image.specs.Workers.{ImageOpened}
-use Rattle.image.proofs.Laws.ParseLaws.{count-in}
-use Rattle.image.proofs.Laws.FieldTestLaws.{held-in}
-use Rattle.image.specs.Opening.{workingLog, opening, answerNumber, blank}
+use Rattle.image.proofs.Laws.FitLaws.{held-bytes}
+use Rattle.image.proofs.Laws.HolderLaws.{meant}
+use Rattle.image.specs.Opening.{workingLog, opening, answerNumber, blank, holderOf}
 use Rattle.image.specs.Workers.{Hub}
 use Rattle.image.proofs.Laws.HubLaws.{turned, log-at}
 use Rattle.image.specs.declared.Entry.{Entry}
@@ -32,55 +32,71 @@ use Rattle.image.specs.declared.Head.{Head}
 use Rattle.image.specs.declared.Opening.{Opening}
 use Rattle.image.specs.declared.ImageAnswer.the-variants.{Refused as Failed}
 use Rattle.image_write.specs.Workers.{without}
-use Rattle.brick_log.specs.BrickRules.{notBelowPromise, aboveNewest, readYes, orderYes, lookup, trimmedTo, timeFor, placeFor, foundFor, yesTo, replyTo, brickAfter, blockAfter}
-use Rattle.brick.specs.Receive.{frontRefusal, receiveRefusal, Outcome, outcomeWith, refusedWith, givenBy, accepted, outcome}
-use Rattle.brick_log.specs.Workers.{LogReady, Ahead, planOf, planFor, planIn, cutFor, underIn, underFor, lookedIn, readPlace, gaveOf}
-use Rattle.brick_log.proofs.Laws.LookLaws.{under-brick, under-high, place-brick, time-brick, plan-trim, plan-read, plan-look, plan-other, cut-for}
+use Rattle.brick_log.specs.BrickRules.{notBelowPromise, aboveNewest, readYes, orderYes, under, lookup, timeFor, placeFor, foundFor, yesTo, replyTo, brickAfter, blockAfter}
+use Rattle.brick.specs.Receive.{Beside, beside, besideRight, frontRefusal, receiveRefusal, Outcome, outcomeWith, refusedWith, givenBy, accepted, outcome}
+use Rattle.brick_log.specs.Workers.{LogReady, Ahead, TrimReady, logTime, planOf, trimPlan, blockPlan, planFor, planIn, cutFor, granted, underIn, underFor, lookedIn}
+use Rattle.brick_log.specs.Workers.{readPlace, gaveOf, holderFor}
+use Rattle.brick_log.proofs.Laws.LookLaws.{under-brick, place-brick, time-brick, plan-trim, plan-read, plan-look, plan-block, plan-other, cut-for}
 use Rattle.brick_log.proofs.Laws.TrimLaws.{cut-trims}
 use Rattle.brick_log.specs.declared.Known.{Known}
 use Rattle.brick_log.specs.declared.Plan.{Plan}
 use Rattle.brick.specs.declared.Given.{Given}
 use Rattle.brick.specs.declared.Given.the-variants.{Answered, Silent, Refused}
-use Rattle.byte_lists.proofs.Laws.PutLaws.{drop-take}
-use Rattle.image_block.specs.Block.{blockBytes, heldFrom}
-use Rattle.message.specs.Kinds.{orderReadKind, readKind, trimKind}
-use Rattle.settings.specs.Ranges.{maxCapacity, maxSize, maxStripes}
-use Rattle.settings.specs.Refusal.{badLength, badNumber, passed}
+use Rattle.image_block.specs.Block.{blockBytes}
+use Rattle.message.specs.Kinds.{orderReadKind, orderBlockKind, readKind, modifyKind, trimKind}
+use Rattle.settings.specs.Ranges.{maxCapacity, maxStripes}
+use Rattle.settings.specs.Refusal.{badLength, badNumber, badBlock, passed}
 
 -- the first refusal of a list
 pub first-is : (a k : ℕ) (rest : List ℕ) → k ≡ a → (k ≡ 0 → ⊥) → firstRefusal (a ∷ rest) ≡ k
 first-is a k rest e h = sym (e ∙ first-stop a rest (λ z. h (e ∙ z)))
 
+-- the ways of what is lent beside a message
+module _ (s : Settings) (block old out : ℕ) where
+  pub beside-block : (block ≡ s .size → ⊥) → false ≡ besideRight s (record { block = block; old = old; out = out })
+  unfolding besideRight
+  beside-block h = rw (ne-eqb block (s .size) h) refl
+
+  pub beside-old : block ≡ s .size → (old ≡ s .size → ⊥) → false ≡ besideRight s (record { block = block; old = old; out = out })
+  unfolding besideRight
+  beside-old b h = rw (eq-eqb block (s .size) b, ne-eqb old (s .size) h) refl
+
+  pub beside-out : block ≡ s .size → old ≡ s .size → eqb out (s .size) ≡ besideRight s (record { block = block; old = old; out = out })
+  unfolding besideRight
+  beside-out b o = rw (eq-eqb block (s .size) b, eq-eqb old (s .size) o) refl
+
 -- the ways of the first checks
-module _ (s : Settings) (images brick lent stripe block out k : ℕ) (e : k ≡ settingsRefusal s) where
-  pub front-setting : (k ≡ 0 → ⊥) → k ≡ frontRefusal s images brick lent stripe block out
+module _ (s : Settings) (images brick lent : ℕ) (msg : Message) (b : Beside) (k : ℕ) (e : k ≡ settingsRefusal s) where
+  pub front-setting : (k ≡ 0 → ⊥) → k ≡ frontRefusal s images brick lent msg b
   unfolding frontRefusal
   front-setting h = sym (first-is (settingsRefusal s) k _ e h)
 
-  pub front-lent : k ≡ 0 → (lent ≡ images * (blockBytes * (s .capacity + 1)) → ⊥) → badLength ≡ frontRefusal s images brick lent stripe block out
+  pub front-lent : k ≡ 0 → (lent ≡ images * (blockBytes * (s .capacity + 1)) → ⊥) → badLength ≡ frontRefusal s images brick lent msg b
   unfolding frontRefusal firstRefusal imageSize
   front-lent z h = rw (sym e ∙ z, ne-eqb lent (images * (blockBytes * (s .capacity + 1))) h) refl
 
-  module _ (z : k ≡ 0) (l : lent ≡ images * (blockBytes * (s .capacity + 1))) where
-    pub front-block : (block ≡ s .size → ⊥) → badLength ≡ frontRefusal s images brick lent stripe block out
+  module _ (z : k ≡ 0) (l : lent ≡ images * (blockBytes * (s .capacity + 1))) (v : Bool) (ev : v ≡ besideRight s b) where
+    pub front-beside : v ≡ false → badLength ≡ frontRefusal s images brick lent msg b
     unfolding frontRefusal firstRefusal imageSize
-    front-block h = rw (sym e ∙ z, eq-eqb lent (images * (blockBytes * (s .capacity + 1))) l, ne-eqb block (s .size) h) refl
+    front-beside f = rw (sym e ∙ z, eq-eqb lent (images * (blockBytes * (s .capacity + 1))) l, sym ev ∙ f) refl
 
-    pub front-out : block ≡ s .size → (out ≡ s .size → ⊥) → badLength ≡ frontRefusal s images brick lent stripe block out
-    unfolding frontRefusal firstRefusal imageSize
-    front-out b h = rw (sym e ∙ z, eq-eqb lent (images * (blockBytes * (s .capacity + 1))) l, eq-eqb block (s .size) b, ne-eqb out (s .size) h) refl
+    module _ (f : v ≡ true) where
+      pub front-brick : s .n ≤ brick → badNumber ≡ frontRefusal s images brick lent msg b
+      unfolding frontRefusal firstRefusal imageSize
+      front-brick h = rw (sym e ∙ z, eq-eqb lent (images * (blockBytes * (s .capacity + 1))) l, sym ev ∙ f, le-ltb brick (s .n) h) refl
 
-    pub front-brick : block ≡ s .size → out ≡ s .size → s .n ≤ brick → badNumber ≡ frontRefusal s images brick lent stripe block out
-    unfolding frontRefusal firstRefusal imageSize
-    front-brick b o h =
-        rw (sym e ∙ z, eq-eqb lent (images * (blockBytes * (s .capacity + 1))) l, eq-eqb block (s .size) b, eq-eqb out (s .size) o, le-ltb brick (s .n) h) refl
+      module _ (h : brick < s .n) (w : ℕ) (ew : w ≡ stripeRefusal (s .stripes) (msg .stripe)) where
+        pub front-stripe : (w ≡ 0 → ⊥) → w ≡ frontRefusal s images brick lent msg b
+        unfolding frontRefusal firstRefusal imageSize
+        front-stripe n =
+            rw (sym e ∙ z, eq-eqb lent (images * (blockBytes * (s .capacity + 1))) l, sym ev ∙ f, lt-ltb brick (s .n) h)
+            (sym (first-is (stripeRefusal (s .stripes) (msg .stripe)) w (messageBlockRefusal (s .m) msg ∷ []) ew n))
 
-    pub front-stripe : block ≡ s .size → out ≡ s .size → brick < s .n → (v : ℕ) → v ≡ stripeRefusal (s .stripes) stripe
-        → v ≡ frontRefusal s images brick lent stripe block out
-    unfolding frontRefusal firstRefusal imageSize
-    front-stripe b o h v q =
-        rw (sym e ∙ z, eq-eqb lent (images * (blockBytes * (s .capacity + 1))) l, eq-eqb block (s .size) b, eq-eqb out (s .size) o, lt-ltb brick (s .n) h)
-        (q ∙ sym (first-alone (stripeRefusal (s .stripes) stripe)))
+        pub front-block : w ≡ 0 → (u : ℕ) → u ≡ messageBlockRefusal (s .m) msg → u ≡ frontRefusal s images brick lent msg b
+        unfolding frontRefusal firstRefusal imageSize
+        front-block n u q =
+            rw (sym e ∙ z, eq-eqb lent (images * (blockBytes * (s .capacity + 1))) l, sym ev ∙ f, lt-ltb brick (s .n) h, sym ew ∙ n)
+            (q ∙ sym (first-alone (messageBlockRefusal (s .m) msg)))
 
 -- the images of all stripes are few bytes
 pub images-small : (images capacity : ℕ) → images ≤ maxStripes → capacity ≤ maxCapacity
@@ -90,32 +106,73 @@ images-small images capacity h k =
     omega (arith, a, k)
 
 -- What passes them.
-pub record Fronted (s : Settings) (images brick lent stripe block out : ℕ) : Type 0 where
+pub record Fronted (s : Settings) (images brick lent : ℕ) (msg : Message) (b : Beside) : Type 0 where
   pub range : SettingsRange s
   pub lent-is : lent ≡ images * imageSize s
-  pub block-is : block ≡ s .size
-  pub out-is : out ≡ s .size
+  pub block-is : b .block ≡ s .size
+  pub old-is : b .old ≡ s .size
+  pub out-is : b .out ≡ s .size
   pub brick-low : brick < s .n
-  pub stripe-low : stripe < s .stripes
+  pub stripe-low : msg .stripe < s .stripes
+  pub block-low : namesBlock (msg .kind) ≡ true → msg .block < s .m
 
-pub fronted : (s : Settings) (images brick lent stripe block out k : ℕ) → k ≡ frontRefusal s images brick lent stripe block out → k ≡ 0
-    → Fronted s images brick lent stripe block out
-unfolding frontRefusal
-fronted s images brick lent stripe block out k e z =
+message-block : (m : ℕ) (msg : Message) → messageBlockRefusal m msg ≡ passed → namesBlock (msg .kind) ≡ true → msg .block < m
+unfolding messageBlockRefusal dataBlockRefusal
+message-block m msg e n =
+    let d : refuseUnless (ltb (msg .block) m) badBlock ≡ passed = rw n at e in
+    ltb-true (msg .block) m (tested _ _ d)
+
+pub fronted : (s : Settings) (images brick lent : ℕ) (msg : Message) (b : Beside) (k : ℕ) → k ≡ frontRefusal s images brick lent msg b → k ≡ 0
+    → Fronted s images brick lent msg b
+unfolding frontRefusal besideRight
+fronted s images brick lent msg b k e z =
     let a = sym e ∙ z in
-    let b = passed-rest (settingsRefusal s) _ a in
-    let c = passed-rest (refuseUnless (eqb lent (images * imageSize s)) badLength) _ b in
-    let d = passed-rest (refuseUnless (eqb block (s .size)) badLength) _ c in
-    let f = passed-rest (refuseUnless (eqb out (s .size)) badLength) _ d in
+    let c = passed-rest (settingsRefusal s) _ a in
+    let d = passed-rest (refuseUnless (eqb lent (images * imageSize s)) badLength) _ c in
+    let f = passed-rest (refuseUnless (besideRight s b) badLength) _ d in
     let g = passed-rest (refuseUnless (ltb brick (s .n)) badNumber) _ f in
+    let h = passed-rest (stripeRefusal (s .stripes) (msg .stripe)) _ g in
+    let v : eqb (b .block) (s .size) && eqb (b .old) (s .size) && eqb (b .out) (s .size) ≡ true =
+    tested _ _ (passed-first (refuseUnless (besideRight s b) badLength) _ d) in
     record {
       range = settings-passed s (passed-first (settingsRefusal s) _ a);
-      lent-is = eqb-true lent (images * imageSize s) (tested _ _ (passed-first (refuseUnless (eqb lent (images * imageSize s)) badLength) _ b));
-      block-is = eqb-true block (s .size) (tested _ _ (passed-first (refuseUnless (eqb block (s .size)) badLength) _ c));
-      out-is = eqb-true out (s .size) (tested _ _ (passed-first (refuseUnless (eqb out (s .size)) badLength) _ d));
+      lent-is = eqb-true lent (images * imageSize s) (tested _ _ (passed-first (refuseUnless (eqb lent (images * imageSize s)) badLength) _ c));
+      block-is = eqb-true (b .block) (s .size) (and-left _ _ (and-left _ _ v));
+      old-is = eqb-true (b .old) (s .size) (and-right (eqb (b .block) (s .size)) _ (and-left _ _ v));
+      out-is = eqb-true (b .out) (s .size) (and-right (eqb (b .block) (s .size) && eqb (b .old) (s .size)) _ v);
       brick-low = ltb-true brick (s .n) (tested _ _ (passed-first (refuseUnless (ltb brick (s .n)) badNumber) _ f));
-      stripe-low = stripe-passed (s .stripes) stripe (passed-first (stripeRefusal (s .stripes) stripe) _ g);
+      stripe-low = stripe-passed (s .stripes) (msg .stripe) (passed-first (stripeRefusal (s .stripes) (msg .stripe)) _ g);
+      block-low = message-block (s .m) msg (passed-first (messageBlockRefusal (s .m) msg) _ h);
     }
+
+-- Modify names a data block
+pub modify-names : (kind : ℕ) → kind ≡ modifyKind → namesBlock kind ≡ true
+unfolding namesBlock
+modify-names kind e = rw (ne-eqb kind orderBlockKind (λ q. omega (arith, e, q)), eq-eqb kind modifyKind e) refl
+
+block-passes : (m : ℕ) (msg : Message) → (namesBlock (msg .kind) ≡ true → msg .block < m) → messageBlockRefusal m msg ≡ passed
+unfolding messageBlockRefusal dataBlockRefusal
+block-passes m msg h = go (namesBlock (msg .kind)) refl
+  where
+    go : (a : Bool) → namesBlock (msg .kind) ≡ a → cond a (refuseUnless (ltb (msg .block) m) badBlock) passed ≡ passed
+    go true q = rw (lt-ltb (msg .block) m (h q)) refl
+    go false q = refl
+
+-- and what satisfies this passes them
+pub front-zero : (s : Settings) (images brick lent : ℕ) (msg : Message) (b : Beside) → Fronted s images brick lent msg b
+    → frontRefusal s images brick lent msg b ≡ passed
+unfolding frontRefusal settingsRefusal stripeRefusal besideRight firstRefusal
+front-zero s images brick lent msg b f =
+    rw (
+      in-range s (f .range),
+      eq-eqb lent (images * imageSize s) (f .lent-is),
+      eq-eqb (b .block) (s .size) (f .block-is),
+      eq-eqb (b .old) (s .size) (f .old-is),
+      eq-eqb (b .out) (s .size) (f .out-is),
+      lt-ltb brick (s .n) (f .brick-low),
+      lt-ltb (msg .stripe) (s .stripes) (f .stripe-low),
+      block-passes (s .m) msg (f .block-low),
+    ) refl
 
 -- the numbers of an opening
 open-number : (s : Settings) (brick : ℕ) (l : List ℕ) (n : ℕ) → parse s brick l ≡ Refuses n → (openRefusal s brick l ≡ n) × (n ≡ 0 → ⊥)
@@ -149,72 +206,74 @@ module _ (g : Given) (image out : List ℕ) (o : Outcome) (e : outcomeWith g ima
   outcome-out = ap (λ (w : Outcome). w .out) e
 
 -- An image that does not open is refused by its own number, whatever the message is.
-image-first : (s : Settings) (brick : ℕ) (l : List ℕ) (msg : Message) (a b n : ℕ) → frontRefusal s 1 brick (length l) (msg .stripe) a b ≡ 0
-    → openRefusal s brick l ≡ suc n → receiveRefusal s brick l msg a b ≡ suc n
+image-first : (s : Settings) (brick : ℕ) (l : List ℕ) (msg : Message) (b : Beside) (n : ℕ) → frontRefusal s 1 brick (length l) msg b ≡ 0
+    → openRefusal s brick l ≡ suc n → receiveRefusal s brick l msg b ≡ suc n
 unfolding receiveRefusal firstRefusal
-image-first s brick l msg a b n f o = rw (f, o) refl
+image-first s brick l msg b n f o = rw (f, o) refl
 
 -- What passes all checks.
-pub record Passes (s : Settings) (brick : ℕ) (l : List ℕ) (msg : Message) (a b : ℕ) : Type 0 where
-  pub front : Fronted s 1 brick (length l) (msg .stripe) a b
+pub record Passes (s : Settings) (brick : ℕ) (l : List ℕ) (msg : Message) (b : Beside) : Type 0 where
+  pub front : Fronted s 1 brick (length l) msg b
   pub opens : openRefusal s brick l ≡ passed
   pub message : messageRefusal (s .n) (s .m) msg ≡ passed
 
-pub passes : (s : Settings) (brick : ℕ) (l : List ℕ) (msg : Message) (a b : ℕ) → receiveRefusal s brick l msg a b ≡ passed → Passes s brick l msg a b
+pub passes : (s : Settings) (brick : ℕ) (l : List ℕ) (msg : Message) (b : Beside) → receiveRefusal s brick l msg b ≡ passed → Passes s brick l msg b
 unfolding receiveRefusal
-passes s brick l msg a b e =
-    let rest = passed-rest (frontRefusal s 1 brick (length l) (msg .stripe) a b) _ e in
+passes s brick l msg b e =
+    let rest = passed-rest (frontRefusal s 1 brick (length l) msg b) _ e in
     record {
-      front = fronted s 1 brick (length l) (msg .stripe) a b _ refl (passed-first _ _ e);
+      front = fronted s 1 brick (length l) msg b _ refl (passed-first _ _ e);
       opens = passed-first (openRefusal s brick l) _ rest;
       message = passed-first (messageRefusal (s .n) (s .m) msg) _ (passed-rest (openRefusal s brick l) _ rest);
     }
 
-module _ (s : Settings) (brick : ℕ) (l : List ℕ) (msg : Message) (block out : List ℕ) where
+module _ (s : Settings) (brick : ℕ) (l : List ℕ) (msg : Message) (block old out : List ℕ) where
   -- a refusal changes nothing
-  ends-refused : (n : ℕ) → receiveRefusal s brick l msg (length block) (length out) ≡ n → (n ≡ 0 → ⊥) → outcomeWith (Refused n) l out ≡ outcome s brick l msg block out
+  ends-refused : (n : ℕ) → receiveRefusal s brick l msg (beside block old out) ≡ n → (n ≡ 0 → ⊥)
+      → outcomeWith (Refused n) l out ≡ outcome s brick l msg block old out
   unfolding outcome refusedWith
   ends-refused n e z =
-      let o : outcome s brick l msg block out ≡ refusedWith n l out = rw (e, ne-eqb n 0 z) refl in
+      let o : outcome s brick l msg block old out ≡ refusedWith n l out = rw (e, ne-eqb n 0 z) refl in
       sym o
 
-  pub ends-early : (k : ℕ) → k ≡ frontRefusal s 1 brick (length l) (msg .stripe) (length block) (length out) → (k ≡ 0 → ⊥) → outcomeWith (Refused k) l out ≡ outcome s brick l msg block out
+  pub ends-early : (k : ℕ) → k ≡ frontRefusal s 1 brick (length l) msg (beside block old out) → (k ≡ 0 → ⊥)
+      → outcomeWith (Refused k) l out ≡ outcome s brick l msg block old out
   unfolding receiveRefusal
-  ends-early k e z = ends-refused k (first-is (frontRefusal s 1 brick (length l) (msg .stripe) (length block) (length out)) k _ e z) z
+  ends-early k e z = ends-refused k (first-is (frontRefusal s 1 brick (length l) msg (beside block old out)) k _ e z) z
 
-  module _ (k : ℕ) (ek : k ≡ frontRefusal s 1 brick (length l) (msg .stripe) (length block) (length out)) (zk : k ≡ 0) where
+  module _ (k : ℕ) (ek : k ≡ frontRefusal s 1 brick (length l) msg (beside block old out)) (zk : k ≡ 0) where
     pub ends-unopened : (o : Opening) (j n : ℕ) → o ≡ opening (parse s brick l) → o .answer ≡ Failed j → n ≡ answerNumber (o .answer)
-        → outcomeWith (Refused n) l out ≡ outcome s brick l msg block out
+        → outcomeWith (Refused n) l out ≡ outcome s brick l msg block old out
     ends-unopened o j n e f g = let q = open-number s brick l n (turned (parse s brick l) o j n e f g) in ends-refused n (go n (q .0) (q .1)) (q .1)
       where
-        go : (n : ℕ) → openRefusal s brick l ≡ n → (n ≡ 0 → ⊥) → receiveRefusal s brick l msg (length block) (length out) ≡ n
+        go : (n : ℕ) → openRefusal s brick l ≡ n → (n ≡ 0 → ⊥) → receiveRefusal s brick l msg (beside block old out) ≡ n
         go zero w z = absurd (z refl)
-        go (suc i) w z = image-first s brick l msg (length block) (length out) i (sym ek ∙ zk) w
+        go (suc i) w z = image-first s brick l msg (beside block old out) i (sym ek ∙ zk) w
 
     module _ (x : Brick) (is : parse s brick l ≡ Opens x) (w : ℕ) (ew : w ≡ messageRefusal (s .n) (s .m) msg) where
-      rest : receiveRefusal s brick l msg (length block) (length out) ≡ firstRefusal (w ∷ [])
+      rest : receiveRefusal s brick l msg (beside block old out) ≡ firstRefusal (w ∷ [])
       unfolding receiveRefusal
       rest =
-          first-pass (frontRefusal s 1 brick (length l) (msg .stripe) (length block) (length out)) (openRefusal s brick l ∷ messageRefusal (s .n) (s .m) msg ∷ []) (sym ek ∙ zk)
+          first-pass (frontRefusal s 1 brick (length l) msg (beside block old out)) (openRefusal s brick l ∷ messageRefusal (s .n) (s .m) msg ∷ []) (sym ek ∙ zk)
           ∙ first-pass (openRefusal s brick l) (messageRefusal (s .n) (s .m) msg ∷ []) (open-zero s brick l x is)
           ∙ ap (λ (j : ℕ). firstRefusal (j ∷ [])) (sym ew)
 
-      pub ends-wrong : (w ≡ 0 → ⊥) → outcomeWith (Refused w) l out ≡ outcome s brick l msg block out
+      pub ends-wrong : (w ≡ 0 → ⊥) → outcomeWith (Refused w) l out ≡ outcome s brick l msg block old out
       ends-wrong z = ends-refused w (rest ∙ first-is w w [] refl z) z
 
-      pub ends-acted : w ≡ 0 → (g : Given) (image out′ : List ℕ) → outcomeWith g image out′ ≡ accepted s brick msg block l out (Opens x)
-          → outcomeWith g image out′ ≡ outcome s brick l msg block out
+      pub ends-acted : w ≡ 0 → (g : Given) (image out′ : List ℕ) → outcomeWith g image out′ ≡ accepted s brick msg block old l out (Opens x)
+          → outcomeWith g image out′ ≡ outcome s brick l msg block old out
       unfolding outcome firstRefusal
       ends-acted z g image out′ e =
-          let r : receiveRefusal s brick l msg (length block) (length out) ≡ 0 = rest ∙ first-pass w [] z in
-          let o : outcome s brick l msg block out ≡ accepted s brick msg block l out (Opens x) = rw (r, is) refl in
+          let r : receiveRefusal s brick l msg (beside block old out) ≡ 0 = rest ∙ first-pass w [] z in
+          let o : outcome s brick l msg block old out ≡ accepted s brick msg block old l out (Opens x) = rw (r, is) refl in
           e ∙ sym o
 
 -- an opened image, and the plan that was made in its log
-pub ready : (s : Settings) (brick : ℕ) (l : List ℕ) (o : Opening) (h : Head) → Hub s brick l o h
-    → LogReady s brick l (record { count = h .count; promise = h .promise; newest = getD (o .log) (h .count - 1) blank .time })
+pub ready : (s : Settings) (brick : ℕ) (l : List ℕ) (o : Opening) (h : Head) (holder : ℕ) → Hub s brick l o h → holder ≡ holderOf (o .log) (h .count - 1)
+    → LogReady s brick l (record { count = h .count; promise = h .promise; newest = getD (o .log) (h .count - 1) blank .time; holder = holder })
 unfolding newest
-ready s brick l o h u =
+ready s brick l o h holder u eh =
     let e = u .saved .is-read in
     let c : h .count ≡ entryCount (brickIn s l) = u .counts ∙ ap entryCount e in
     record {
@@ -226,185 +285,287 @@ ready s brick l o h u =
           ∙ ap (λ (g : List Entry). getD g (entryCount (u .x) - 1) blank .time) (u .logs)
           ∙ ap (λ (v : Entry). v .time) (log-at (u .x) (entryCount (u .x) - 1) blank (omega (arith, u .low, u .counts)) (omega (arith, u .most, u .counts)))
           ∙ ap (λ (y : Brick). timeAt y (entryCount y - 1)) e;
+      holders =
+          eh
+          ∙ ap₂ (λ (g : List Entry) (k : ℕ). holderOf g (k - 1)) (u .logs) (u .counts)
+          ∙ ap (λ (y : Brick). holderOf (workingLog y) (entryCount y - 1)) e;
       low = u .low;
       high = u .high;
       most = u .saved .range .capacity-high;
     }
 
-module _ (s : Settings) (brick : ℕ) (l : List ℕ) (k : Known) (r : LogReady s brick l k) (msg : Message) where
+-- the block of an entry, or none
+holder-none : (x : Brick) → holderFor x 0 ≡ 0
+unfolding holderFor
+holder-none x = refl
+
+holder-some : (x : Brick) (i : ℕ) → holderFor x (suc i) ≡ holderOf (workingLog x) i
+unfolding holderFor
+holder-some x i =
+    let m : suc i - 1 ≡ i = omega arith in
+    rw (ne-eqb (suc i) 0 (λ q. omega (arith, q))) (ap (holderOf (workingLog x)) m)
+
+-- the lookup gives one of the entries
+under-most : (x : Brick) (max n : ℕ) → under x max n ≤ n
+unfolding under
+under-most x max zero = omega arith
+under-most x max (suc i) = go (ltb (timeAt x i) max) (under-most x max i)
+  where
+    go : (b : Bool) → under x max i ≤ i → cond b (suc i) (under x max i) ≤ suc i
+    go true h = omega arith
+    go false h = omega arith
+
+-- the entry whose block goes with the reply is one of the log
+place-high : (brick : ℕ) (x : Brick) (msg : Message) → placeFor brick x msg ≤ entryCount x
+unfolding placeFor lookup
+place-high brick x msg =
+    go (eqb (msg .kind) readKind) (eqb (msg .kind) orderReadKind) (eqb (msg .kind) orderBlockKind) (readYes x && member (msg .targets) brick)
+    (orderYes x (msg .time)) (orderYes x (msg .time) && eqb brick (msg .block)) (under x (msg .max) (entryCount x)) (under-most x (msg .max) (entryCount x))
+  where
+    go : (a b c d e f : Bool) (u : ℕ) → u ≤ entryCount x
+        → cond a (cond d (entryCount x) 0) (cond b (cond e u 0) (cond c (cond f (entryCount x) 0) 0)) ≤ entryCount x
+    go true b c true e f u h = omega arith
+    go true b c false e f u h = omega arith
+    go false true c d true f u h = h
+    go false true c d false f u h = omega arith
+    go false false true d e true u h = omega arith
+    go false false true d e false u h = omega arith
+    go false false false d e f u h = omega arith
+
+module _ (s : Settings) (brick : ℕ) (l : List ℕ) (k : Known) (r : LogReady s brick l k) where
   few : entryCount (brickIn s l) ≤ maxCapacity
   few = omega (arith, r .counts, r .high, r .most)
 
-  place-read : msg .kind ≡ readKind → readPlace k (msg .targets) brick ≡ placeFor brick (brickIn s l) msg
-  unfolding placeFor readPlace readYes notBelowPromise
-  place-read e =
-      rw (eq-eqb (msg .kind) readKind e)
-      (ap₂ (λ (a b : ℕ). cond (leb a b && member (msg .targets) brick) (k .count) 0) (r .promises) (r .newests)
-      ∙ ap (λ (c : ℕ). cond (leb (brickIn s l .promise) (newest (brickIn s l)) && member (msg .targets) brick) c 0) (r .counts))
+  -- the block that an entry means stands in the image,
+  pub holder-high : (place : ℕ) → place ≤ entryCount (brickIn s l) → holderFor (brickIn s l) place ≤ k .count
+  holder-high zero h = omega (arith, holder-none (brickIn s l))
+  holder-high (suc i) h =
+      omega (arith, holder-some (brickIn s l) i, meant s brick l (brickIn s l) (r .saved) i (omega arith) .high, r .counts)
 
-  found-read : msg .kind ≡ readKind → k .newest ≡ foundFor brick (brickIn s l) msg
-  unfolding foundFor
-  found-read e = rw (eq-eqb (msg .kind) readKind e) (r .newests)
+  -- and is what is copied from it
+  gave-is : (place : ℕ) (out : List ℕ) → place ≤ entryCount (brickIn s l)
+      → gaveOf l (s .size) (holderFor (brickIn s l) place) out ≡ blockAfter (brickIn s l) place out
+  unfolding gaveOf blockAfter
+  gave-is zero out h = rw (holder-none (brickIn s l)) refl
+  gave-is (suc i) out h =
+      let n : i ≡ suc i - 1 = omega arith in
+      let m = meant s brick l (brickIn s l) (r .saved) i (omega arith) in
+      rw (holder-some (brickIn s l) i, ne-eqb (holderOf (workingLog (brickIn s l)) i) 0 (λ q. omega (arith, q, m .low)), ne-eqb (suc i) 0 (λ q. omega (arith, q)))
+      (held-bytes l (s .size) (holderOf (workingLog (brickIn s l)) i) (r .saved .range .code .size-high) ∙ m .means
+      ∙ ap (meansAt (brickIn s l)) n)
 
-  read-high : readPlace k (msg .targets) brick ≤ k .count
-  unfolding readPlace
-  read-high = go (leb (k .promise) (k .newest) && member (msg .targets) brick)
-    where
-      go : (b : Bool) → cond b (k .count) 0 ≤ k .count
-      go true = omega arith
-      go false = omega arith
+  -- the newest entry's block
+  newest-holder : k .holder ≡ holderFor (brickIn s l) (entryCount (brickIn s l))
+  unfolding holderFor
+  newest-holder = r .holders ∙ sym (rw (ne-eqb (entryCount (brickIn s l)) 0 (λ q. omega (arith, q, r .low, r .counts))) refl)
 
-  module _ (log : List Entry) (el : log ≡ workingLog (brickIn s l)) where
-    under-is : msg .kind ≡ orderReadKind → underFor log k msg ≡ placeFor brick (brickIn s l) msg
-    unfolding placeFor underFor lookup orderYes aboveNewest notBelowPromise
-    under-is e =
-        rw (ne-eqb (msg .kind) readKind (λ q. omega (arith, e, q)), eq-eqb (msg .kind) orderReadKind e)
-        (ap₂ (λ (a b : ℕ). cond (ltb a (msg .time) && leb b (msg .time)) (underIn log (msg .max) (k .count)) 0) (r .newests) (r .promises)
-        ∙ ap (λ (u : ℕ). cond (ltb (newest (brickIn s l)) (msg .time) && leb (brickIn s l .promise) (msg .time)) u 0)
-        (ap₂ (λ (g : List Entry) (c : ℕ). underIn g (msg .max) c) el (r .counts) ∙ under-brick (brickIn s l) (msg .max) (entryCount (brickIn s l)) (omega arith) few))
+  -- where it is given, or none
+  given-holder : (b : Bool) → cond b (k .holder) 0 ≡ holderFor (brickIn s l) (cond b (entryCount (brickIn s l)) 0)
+  given-holder true = newest-holder
+  given-holder false = sym (holder-none (brickIn s l))
 
-    under-low : underFor log k msg ≤ k .count
-    unfolding underFor
-    under-low = go (ltb (k .newest) (msg .time) && leb (k .promise) (msg .time)) (under-high log (msg .max) (k .count))
-      where
-        go : (b : Bool) → underIn log (msg .max) (k .count) ≤ k .count → cond b (underIn log (msg .max) (k .count)) 0 ≤ k .count
-        go true h = h
-        go false h = omega arith
+  module _ (msg : Message) where
+    granted-is : granted k msg ≡ orderYes (brickIn s l) (msg .time)
+    unfolding granted orderYes aboveNewest notBelowPromise
+    granted-is = ap₂ (λ (a b : ℕ). ltb a (msg .time) && leb b (msg .time)) (r .newests) (r .promises)
 
-    place-same : planIn (lookedIn log (underFor log k msg)) .place ≡ underFor log k msg
-    place-same = ap (λ (g : List Entry). planIn (lookedIn g (underFor log k msg)) .place) el ∙ place-brick (brickIn s l) (underFor log k msg) (omega (arith, under-low, r .counts)) few
+    place-read : msg .kind ≡ readKind → readPlace k (msg .targets) brick ≡ holderFor (brickIn s l) (placeFor brick (brickIn s l) msg)
+    unfolding placeFor readPlace readYes notBelowPromise
+    place-read e =
+        rw (eq-eqb (msg .kind) readKind e)
+        (ap₂ (λ (a b : ℕ). cond (leb a b && member (msg .targets) brick) (k .holder) 0) (r .promises) (r .newests)
+        ∙ given-holder (leb (brickIn s l .promise) (newest (brickIn s l)) && member (msg .targets) brick))
 
-    found-look : msg .kind ≡ orderReadKind → planIn (lookedIn log (underFor log k msg)) .found ≡ foundFor brick (brickIn s l) msg
+    found-read : msg .kind ≡ readKind → k .newest ≡ foundFor brick (brickIn s l) msg
     unfolding foundFor
-    found-look e =
-        rw (ne-eqb (msg .kind) readKind (λ q. omega (arith, e, q)))
-        (ap (λ (g : List Entry). planIn (lookedIn g (underFor log k msg)) .found) el
-        ∙ time-brick (brickIn s l) (underFor log k msg) (omega (arith, under-low, r .counts)) few
-        ∙ ap (λ (n : ℕ). timeFor (brickIn s l) n) (under-is e))
+    found-read e = rw (eq-eqb (msg .kind) readKind e) (r .newests)
 
-  place-none : (msg .kind ≡ readKind → ⊥) → (msg .kind ≡ orderReadKind → ⊥) → 0 ≡ placeFor brick (brickIn s l) msg
-  unfolding placeFor
-  place-none a b = rw (ne-eqb (msg .kind) readKind a, ne-eqb (msg .kind) orderReadKind b) refl
+    module _ (log : List Entry) (el : log ≡ workingLog (brickIn s l)) where
+      under-is : msg .kind ≡ orderReadKind → underFor log k msg ≡ placeFor brick (brickIn s l) msg
+      unfolding placeFor underFor lookup
+      under-is e =
+          rw (ne-eqb (msg .kind) readKind (λ q. omega (arith, e, q)), eq-eqb (msg .kind) orderReadKind e)
+          (ap₂ (λ (b : Bool) (u : ℕ). cond b u 0) granted-is
+          (ap₂ (λ (g : List Entry) (c : ℕ). underIn g (msg .max) c) el (r .counts) ∙ under-brick (brickIn s l) (msg .max) (entryCount (brickIn s l)) (omega arith) few))
 
-  found-none : (msg .kind ≡ readKind → ⊥) → (msg .kind ≡ orderReadKind → ⊥) → 0 ≡ foundFor brick (brickIn s l) msg
-  unfolding foundFor timeFor
-  found-none a b = rw (ne-eqb (msg .kind) readKind a, sym (place-none a b)) refl
+      place-look : msg .kind ≡ orderReadKind → planIn log (lookedIn (underFor log k msg)) .place ≡ holderFor (brickIn s l) (placeFor brick (brickIn s l) msg)
+      place-look e =
+          ap (λ (g : List Entry). planIn g (lookedIn (underFor log k msg)) .place) el
+          ∙ place-brick (brickIn s l) (underFor log k msg)
+          ∙ ap (holderFor (brickIn s l)) (under-is e)
+
+      found-look : msg .kind ≡ orderReadKind → planIn log (lookedIn (underFor log k msg)) .found ≡ foundFor brick (brickIn s l) msg
+      unfolding foundFor
+      found-look e =
+          let u = under-is e in
+          rw (ne-eqb (msg .kind) readKind (λ q. omega (arith, e, q)), ne-eqb (msg .kind) orderBlockKind (λ q. omega (arith, e, q)))
+          (ap (λ (g : List Entry). planIn g (lookedIn (underFor log k msg)) .found) el
+          ∙ time-brick (brickIn s l) (underFor log k msg) (omega (arith, u, place-high brick (brickIn s l) msg)) few
+          ∙ ap (λ (n : ℕ). timeFor (brickIn s l) n) u)
+
+    place-block : msg .kind ≡ orderBlockKind → blockPlan k msg brick .place ≡ holderFor (brickIn s l) (placeFor brick (brickIn s l) msg)
+    unfolding placeFor blockPlan planOf
+    place-block e =
+        rw (
+          ne-eqb (msg .kind) readKind (λ q. omega (arith, e, q)),
+          ne-eqb (msg .kind) orderReadKind (λ q. omega (arith, e, q)),
+          eq-eqb (msg .kind) orderBlockKind e,
+          ← granted-is,
+        )
+        (go (granted k msg) (eqb brick (msg .block)))
+      where
+        go : (a b : Bool) → cond a (planOf (cond b (k .holder) 0) (k .newest)) (planOf 0 0) .place
+            ≡ holderFor (brickIn s l) (cond (a && b) (entryCount (brickIn s l)) 0)
+        go true b = given-holder b
+        go false b = sym (holder-none (brickIn s l))
+
+    found-block : msg .kind ≡ orderBlockKind → blockPlan k msg brick .found ≡ foundFor brick (brickIn s l) msg
+    unfolding foundFor blockPlan planOf
+    found-block e =
+        rw (ne-eqb (msg .kind) readKind (λ q. omega (arith, e, q)), eq-eqb (msg .kind) orderBlockKind e, ← granted-is)
+        (go (granted k msg) (cond (eqb brick (msg .block)) (k .holder) 0))
+      where
+        go : (a : Bool) (p : ℕ) → cond a (planOf p (k .newest)) (planOf 0 0) .found ≡ cond a (newest (brickIn s l)) 0
+        go true p = r .newests
+        go false p = refl
+
+    module _ (a : msg .kind ≡ readKind → ⊥) (b : msg .kind ≡ orderReadKind → ⊥) (c : msg .kind ≡ orderBlockKind → ⊥) where
+      place-none : placeFor brick (brickIn s l) msg ≡ 0
+      unfolding placeFor
+      place-none = rw (ne-eqb (msg .kind) readKind a, ne-eqb (msg .kind) orderReadKind b, ne-eqb (msg .kind) orderBlockKind c) refl
+
+      found-none : 0 ≡ foundFor brick (brickIn s l) msg
+      unfolding foundFor timeFor
+      found-none = rw (ne-eqb (msg .kind) readKind a, ne-eqb (msg .kind) orderBlockKind c, place-none) refl
 
 pub ahead : (s : Settings) (brick : ℕ) (l : List ℕ) (k : Known) (log : List Entry) (msg : Message) (p : Plan) → LogReady s brick l k → log ≡ workingLog (brickIn s l)
     → p ≡ planFor log k msg brick → Ahead brick (brickIn s l) k msg p
-unfolding planOf
-ahead s brick l k log msg p r e q = go (ℕ-discrete (msg .kind) trimKind) (ℕ-discrete (msg .kind) readKind) (ℕ-discrete (msg .kind) orderReadKind)
+unfolding planOf trimPlan
+ahead s brick l k log msg p r e q =
+    go (ℕ-discrete (msg .kind) trimKind) (ℕ-discrete (msg .kind) readKind) (ℕ-discrete (msg .kind) orderReadKind) (ℕ-discrete (msg .kind) orderBlockKind)
   where
-    cuts : msg .kind ≡ trimKind → p .cut ≡ cutFor log (k .count) (msg .time)
-    cuts z = ap (λ (w : Plan). w .cut) (q ∙ plan-trim log k msg brick z)
+    -- what a Trim cuts
+    trims : msg .kind ≡ trimKind → p ≡ trimPlan log (cutFor log (k .count) (msg .time))
+    trims z = q ∙ plan-trim log k msg brick z
+
+    cut : msg .kind ≡ trimKind → p .cut ≡ cutFor (workingLog (brickIn s l)) (entryCount (brickIn s l)) (msg .time)
+    cut z = ap (λ (w : Plan). w .cut) (trims z) ∙ ap₂ (λ (g : List Entry) (c : ℕ). cutFor g c (msg .time)) e (r .counts)
 
     low : msg .kind ≡ trimKind → p .cut < k .count
-    low z = subst (λ (d : ℕ). d < k .count) (sym (cuts z)) (cut-for log (k .count) (msg .time) (r .low) .low)
+    low z =
+        omega (arith, cut z, cut-for (workingLog (brickIn s l)) (entryCount (brickIn s l)) (msg .time) (r .saved .keeps .count-low) .low, r .counts)
 
-    trims : msg .kind ≡ trimKind → trimmedTo (brickIn s l) (msg .time) ≡ without (brickIn s l) (p .cut)
-    trims z =
-        cut-trims s (brickIn s l) (msg .time) (r .saved .keeps) (few s brick l k r msg)
-        ∙ ap (λ (d : ℕ). without (brickIn s l) d)
-        (sym (cuts z ∙ ap₂ (λ (g : List Entry) (c : ℕ). cutFor g c (msg .time)) e (r .counts)))
-
-    made : p .place ≡ placeFor brick (brickIn s l) msg → p .found ≡ foundFor brick (brickIn s l) msg → p .place ≤ k .count → Ahead brick (brickIn s l) k msg p
-    made a b c = record { place-is = a; found-is = b; place-high = c; cut-low = low; cut-is = trims }
+    made : p .place ≡ holderFor (brickIn s l) (placeFor brick (brickIn s l) msg) → p .found ≡ foundFor brick (brickIn s l) msg → Ahead brick (brickIn s l) k msg p
+    made a b =
+        record {
+          place-is = a;
+          found-is = b;
+          cut-low = low;
+          cut-is = λ z. cut-trims s (brickIn s l) (msg .time) (r .saved .keeps) (few s brick l k r) ∙ ap (without (brickIn s l)) (sym (cut z));
+          holder-is = λ z.
+              ap (λ (w : Plan). w .holder) (trims z) ∙ ap₂ (λ (g : List Entry) (d : ℕ). holderOf g d) e (sym (ap (λ (w : Plan). w .cut) (trims z)));
+          lowest-is = λ z.
+              ap (λ (w : Plan). w .lowest) (trims z) ∙ ap₂ (λ (g : List Entry) (d : ℕ). logTime g d) e (sym (ap (λ (w : Plan). w .cut) (trims z)))
+              ∙ ap (λ (v : Entry). v .time) (log-at (brickIn s l) (p .cut) blank (omega (arith, low z, r .counts)) (few s brick l k r));
+        }
 
     -- no block and no time
-    nothing : p .place ≡ 0 → p .found ≡ 0 → (msg .kind ≡ readKind → ⊥) → (msg .kind ≡ orderReadKind → ⊥) → Ahead brick (brickIn s l) k msg p
-    nothing a b m n = made (a ∙ place-none s brick l k r msg m n) (b ∙ found-none s brick l k r msg m n) (omega (arith, a))
+    nothing : p .place ≡ 0 → p .found ≡ 0 → (msg .kind ≡ readKind → ⊥) → (msg .kind ≡ orderReadKind → ⊥) → (msg .kind ≡ orderBlockKind → ⊥)
+        → Ahead brick (brickIn s l) k msg p
+    nothing a b m n o =
+        made (a ∙ sym (holder-none (brickIn s l)) ∙ ap (holderFor (brickIn s l)) (sym (place-none s brick l k r msg m n o)))
+        (b ∙ found-none s brick l k r msg m n o)
 
-    go : Dec (msg .kind ≡ trimKind) → Dec (msg .kind ≡ readKind) → Dec (msg .kind ≡ orderReadKind) → Ahead brick (brickIn s l) k msg p
-    go (yes z) a b =
-        let w = q ∙ plan-trim log k msg brick z in
-        nothing (ap (λ (v : Plan). v .place) w) (ap (λ (v : Plan). v .found) w) (λ c. omega (arith, z, c)) (λ c. omega (arith, z, c))
-    go (no z) (yes a) b =
+    go : Dec (msg .kind ≡ trimKind) → Dec (msg .kind ≡ readKind) → Dec (msg .kind ≡ orderReadKind) → Dec (msg .kind ≡ orderBlockKind)
+        → Ahead brick (brickIn s l) k msg p
+    go (yes z) a b c =
+        nothing (ap (λ (v : Plan). v .place) (trims z)) (ap (λ (v : Plan). v .found) (trims z)) (λ i. omega (arith, z, i)) (λ i. omega (arith, z, i))
+        (λ i. omega (arith, z, i))
+    go (no z) (yes a) b c =
         let w = q ∙ plan-read log k msg brick a in
-        let wp : p .place ≡ readPlace k (msg .targets) brick = ap (λ (v : Plan). v .place) w in
-        made (wp ∙ place-read s brick l k r msg a) (ap (λ (v : Plan). v .found) w ∙ found-read s brick l k r msg a)
-        (omega (arith, wp, read-high s brick l k r msg))
-    go (no z) (no a) (yes b) =
+        made (ap (λ (v : Plan). v .place) w ∙ place-read s brick l k r msg a) (ap (λ (v : Plan). v .found) w ∙ found-read s brick l k r msg a)
+    go (no z) (no a) (yes b) c =
         let w = q ∙ plan-look log k msg brick b in
-        let wp : p .place ≡ underFor log k msg = ap (λ (v : Plan). v .place) w ∙ place-same s brick l k r msg log e in
-        made (wp ∙ under-is s brick l k r msg log e b) (ap (λ (v : Plan). v .found) w ∙ found-look s brick l k r msg log e b)
-        (omega (arith, wp, under-low s brick l k r msg log e))
-    go (no z) (no a) (no b) =
-        let w = q ∙ plan-other log k msg brick z a b in
-        nothing (ap (λ (v : Plan). v .place) w) (ap (λ (v : Plan). v .found) w) a b
-
--- the bytes of a held block
-held-bytes : (l : List ℕ) (size p : ℕ) → size ≤ maxSize → take size (drop (blockBytes * p + heldFrom) l) ≡ heldIn size (imageBlockAt l p)
-unfolding heldIn imageBlockAt
-held-bytes l size p h =
-    ap (λ (m : List ℕ). take size m) (sym (drop-drop heldFrom (blockBytes * p) l))
-    ∙ sym (take-take size (blockBytes - heldFrom) (drop heldFrom (drop (blockBytes * p) l)) (omega arith))
-    ∙ ap (λ (m : List ℕ). take size m) (sym (drop-take heldFrom (blockBytes - heldFrom) (drop (blockBytes * p) l)))
-
-pub gave-is : (s : Settings) (brick : ℕ) (l : List ℕ) (k : Known) (place : ℕ) (out : List ℕ) → LogReady s brick l k → place ≤ k .count
-    → gaveOf l (s .size) place out ≡ blockAfter (brickIn s l) place out
-unfolding gaveOf blockAfter
-gave-is s brick l k zero out r h = refl
-gave-is s brick l k (suc i) out r h =
-    let m : suc i - 1 ≡ i = omega arith in
-    let low : i < countIn (imageBlockAt l 0) = omega (arith, r .counts, count-in s l) in
-    let n : i + 1 ≡ suc i = omega arith in
-    rw (ne-eqb (suc i) 0 (λ q. omega (arith, q)))
-    (held-bytes l (s .size) (suc i) (r .saved .range .code .size-high)
-    ∙ sym (ap (λ (j : ℕ). meansAt (brickIn s l) j) m ∙ held-in s l i low ∙ ap (λ (j : ℕ). heldIn (s .size) (imageBlockAt l j)) n))
+        made (ap (λ (v : Plan). v .place) w ∙ place-look s brick l k r msg log e b) (ap (λ (v : Plan). v .found) w ∙ found-look s brick l k r msg log e b)
+    go (no z) (no a) (no b) (yes c) =
+        let w = q ∙ plan-block log k msg brick c in
+        made (ap (λ (v : Plan). v .place) w ∙ place-block s brick l k r msg c) (ap (λ (v : Plan). v .found) w ∙ found-block s brick l k r msg c)
+    go (no z) (no a) (no b) (no c) =
+        let w = q ∙ plan-other log k msg brick z a b c in
+        nothing (ap (λ (v : Plan). v .place) w) (ap (λ (v : Plan). v .found) w) a b c
 
 -- the ways of acting
-module _ (s : Settings) (brick : ℕ) (l : List ℕ) (k : Known) (msg : Message) (p : Plan) (block out : List ℕ) (r : LogReady s brick l k) (h : Ahead brick (brickIn s l) k msg p) where
-  -- part by part
-  acts : (g : Given) (image out′ : List ℕ) → g ≡ givenBy s brick (brickIn s l) msg → image ≡ imageOf s brick (brickAfter s (brickIn s l) msg block)
-      → out′ ≡ blockAfter (brickIn s l) (placeFor brick (brickIn s l) msg) out
-      → outcomeWith g image out′ ≡ accepted s brick msg block l out (Opens (brickIn s l))
-  unfolding accepted
-  acts g image out′ a b c = λ i. outcomeWith (a i) (b i) (c i)
+module _ (s : Settings) (brick : ℕ) (l : List ℕ) (k : Known) (msg : Message) (p : Plan) (r : LogReady s brick l k) (h : Ahead brick (brickIn s l) k msg p) where
+  -- what a Trim is told
+  pub trim-ready : msg .kind ≡ trimKind → TrimReady (brickIn s l) k (p .cut) (p .holder) (p .lowest)
+  trim-ready e = record { low = h .cut-low e; holder-is = h .holder-is e; lowest-is = h .lowest-is e }
 
-  pub acts-trim : (image : List ℕ) → msg .kind ≡ trimKind → image ≡ imageOf s brick (without (brickIn s l) (p .cut))
-      → outcomeWith Silent image out ≡ accepted s brick msg block l out (Opens (brickIn s l))
-  unfolding givenBy brickAfter blockAfter
-  acts-trim image e w =
-      acts Silent image out
-      (sym (rw (eq-eqb (msg .kind) trimKind e) refl))
-      (w ∙ ap (λ (y : Brick). imageOf s brick y) (sym (rw (eq-eqb (msg .kind) trimKind e) (h .cut-is e))))
-      (sym (rw (sym (place-none s brick l k r msg (λ q. omega (arith, e, q)) (λ q. omega (arith, e, q)))) refl))
+  -- the block that goes with the reply stands in the image
+  pub place-low : p .place ≤ k .count
+  place-low = omega (arith, h .place-is, holder-high s brick l k r (placeFor brick (brickIn s l) msg) (place-high brick (brickIn s l) msg))
 
-  pub acts-reply : (v : Bool) (image out′ : List ℕ) → (msg .kind ≡ trimKind → ⊥) → v ≡ yesTo s (brickIn s l) msg
-      → image ≡ imageOf s brick (brickAfter s (brickIn s l) msg block) → out′ ≡ gaveOf l (s .size) (p .place) out
-      → outcomeWith (Answered (record {
-        kind = msg .kind;
-        brick = brick;
-        stripe = msg .stripe;
-        time = msg .time;
-        round = msg .round;
-        yes = v;
-        found = p .found;
-        held = not (eqb (p .place) 0);
-      })) image out′
-      ≡ accepted s brick msg block l out (Opens (brickIn s l))
-  unfolding givenBy replyTo
-  acts-reply v image out′ e ev ei eo =
-      acts _ image out′
-      (sym (rw (ne-eqb (msg .kind) trimKind e) (sym (reply ev (h .found-is) (ap (λ (n : ℕ). not (eqb n 0)) (h .place-is))))))
-      ei
-      (eo ∙ gave-is s brick l k (p .place) out r (h .place-high) ∙ ap (λ (n : ℕ). blockAfter (brickIn s l) n out) (h .place-is))
-    where
-      reply : v ≡ yesTo s (brickIn s l) msg → p .found ≡ foundFor brick (brickIn s l) msg → not (eqb (p .place) 0) ≡ not (eqb (placeFor brick (brickIn s l) msg) 0)
-          → _≡_ {A = Given}
-          (Answered (record { kind = msg .kind; brick = brick; stripe = msg .stripe; time = msg .time; round = msg .round; yes = v; found = p .found; held = not (eqb (p .place) 0) }))
-          (Answered (record {
-            kind = msg .kind;
-            brick = brick;
-            stripe = msg .stripe;
-            time = msg .time;
-            round = msg .round;
-            yes = yesTo s (brickIn s l) msg;
-            found = foundFor brick (brickIn s l) msg;
-            held = not (eqb (placeFor brick (brickIn s l) msg) 0);
-          }))
-      reply a b c =
-          λ i. Answered (record { kind = msg .kind; brick = brick; stripe = msg .stripe; time = msg .time; round = msg .round; yes = a i; found = b i; held = c i })
+  -- and there is one exactly where an entry is named
+  held-same : (n : ℕ) → n ≤ entryCount (brickIn s l) → eqb (holderFor (brickIn s l) n) 0 ≡ eqb n 0
+  held-same zero i = ap (λ (j : ℕ). eqb j 0) (holder-none (brickIn s l))
+  held-same (suc n) i =
+      ne-eqb (holderFor (brickIn s l) (suc n)) 0
+      (λ q. omega (arith, q, holder-some (brickIn s l) n, meant s brick l (brickIn s l) (r .saved) n (omega arith) .low))
+      ∙ sym (ne-eqb (suc n) 0 (λ q. omega (arith, q)))
+
+  module _ (block old out : List ℕ) where
+    -- part by part
+    acts : (g : Given) (image out′ : List ℕ) → g ≡ givenBy s brick (brickIn s l) msg → image ≡ imageOf s brick (brickAfter s brick (brickIn s l) msg block old)
+        → out′ ≡ blockAfter (brickIn s l) (placeFor brick (brickIn s l) msg) out
+        → outcomeWith g image out′ ≡ accepted s brick msg block old l out (Opens (brickIn s l))
+    unfolding accepted
+    acts g image out′ a b c = λ i. outcomeWith (a i) (b i) (c i)
+
+    pub acts-trim : (image : List ℕ) → msg .kind ≡ trimKind → image ≡ imageOf s brick (without (brickIn s l) (p .cut))
+        → outcomeWith Silent image out ≡ accepted s brick msg block old l out (Opens (brickIn s l))
+    unfolding givenBy brickAfter blockAfter
+    acts-trim image e w =
+        acts Silent image out
+        (sym (rw (eq-eqb (msg .kind) trimKind e) refl))
+        (w ∙ ap (λ (y : Brick). imageOf s brick y) (sym (rw (eq-eqb (msg .kind) trimKind e) (h .cut-is e))))
+        (sym (rw (place-none s brick l k r msg (λ q. omega (arith, e, q)) (λ q. omega (arith, e, q)) (λ q. omega (arith, e, q))) refl))
+
+    pub acts-reply : (v : Bool) (image out′ : List ℕ) → (msg .kind ≡ trimKind → ⊥) → v ≡ yesTo s (brickIn s l) msg
+        → image ≡ imageOf s brick (brickAfter s brick (brickIn s l) msg block old) → out′ ≡ gaveOf l (s .size) (p .place) out
+        → outcomeWith (Answered (record {
+          kind = msg .kind;
+          brick = brick;
+          stripe = msg .stripe;
+          time = msg .time;
+          round = msg .round;
+          yes = v;
+          found = p .found;
+          held = not (eqb (p .place) 0);
+        })) image out′
+        ≡ accepted s brick msg block old l out (Opens (brickIn s l))
+    unfolding givenBy replyTo
+    acts-reply v image out′ e ev ei eo =
+        let high = place-high brick (brickIn s l) msg in
+        acts _ image out′
+        (sym (rw (ne-eqb (msg .kind) trimKind e)
+        (sym (reply ev (h .found-is) (ap (λ (n : ℕ). not (eqb n 0)) (h .place-is) ∙ ap not (held-same (placeFor brick (brickIn s l) msg) high))))))
+        ei
+        (eo ∙ ap (λ (n : ℕ). gaveOf l (s .size) n out) (h .place-is) ∙ gave-is s brick l k r (placeFor brick (brickIn s l) msg) out high)
+      where
+        reply : v ≡ yesTo s (brickIn s l) msg → p .found ≡ foundFor brick (brickIn s l) msg → not (eqb (p .place) 0) ≡ not (eqb (placeFor brick (brickIn s l) msg) 0)
+            → _≡_ {A = Given}
+            (Answered (record { kind = msg .kind; brick = brick; stripe = msg .stripe; time = msg .time; round = msg .round; yes = v; found = p .found; held = not (eqb (p .place) 0) }))
+            (Answered (record {
+              kind = msg .kind;
+              brick = brick;
+              stripe = msg .stripe;
+              time = msg .time;
+              round = msg .round;
+              yes = yesTo s (brickIn s l) msg;
+              found = foundFor brick (brickIn s l) msg;
+              held = not (eqb (placeFor brick (brickIn s l) msg) 0);
+            }))
+        reply a b c =
+            λ i. Answered (record { kind = msg .kind; brick = brick; stripe = msg .stripe; time = msg .time; round = msg .round; yes = a i; found = b i; held = c i })
 
 pub log-is : (s : Settings) (brick : ℕ) (l : List ℕ) (o : Opening) (h : Head) → Hub s brick l o h → o .log ≡ workingLog (brickIn s l)
 log-is s brick l o h u = u .logs ∙ ap workingLog (u .saved .is-read)

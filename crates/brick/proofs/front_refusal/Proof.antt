@@ -2,7 +2,7 @@ use mathlib.Core.Path.{sym, _∙_}
 use native.Mathlib.Omega.{arith}
 use Rattle.settings.specs.Ranges.{SettingsRange}
 use Rattle.settings.proofs.Laws.RangeLaws.{settings-passed}
-use Rattle.brick.proofs.Laws.OutcomeLaws.{front-setting, front-lent, front-block, front-out, front-brick, front-stripe, images-small}
+use Rattle.brick.proofs.Laws.OutcomeLaws.{front-setting, front-lent, front-beside, front-brick, front-stripe, front-block, images-small}
 use borrow.Author.Needs.{needs}
 use Rattle.brick.proofs.front_refusal.Statement.{statement}
 use Rattle.brick.proofs.front_refusal.Tie as tie
@@ -28,20 +28,26 @@ mul-if2-2 c = omega (arith, images-small _ _ (c .before .before .before .pre) (r
 returns-2 : tie.Need-returns-2
 returns-2 c = search (needs, front-lent)
 
+beside-right-requires : tie.Need-beside-right-requires
+beside-right-requires c κs = search needs
+
 returns-3 : tie.Need-returns-3
-returns-3 c = search (needs, front-block)
+returns-3 c = search (needs, front-beside)
 
 returns-4 : tie.Need-returns-4
-returns-4 c = search (needs, front-out)
-
-returns-5 : tie.Need-returns-5
-returns-5 c = search (needs, front-brick)
+returns-4 c = search (needs, front-brick)
 
 stripe-refusal-requires : tie.Need-stripe-refusal-requires
 stripe-refusal-requires c κs = search needs
 
+returns-5 : tie.Need-returns-5
+returns-5 c = search (needs, front-stripe)
+
+block-refusal-requires : tie.Need-block-refusal-requires
+block-refusal-requires c κs = search needs
+
 returns-6 : tie.Need-returns-6
-returns-6 c = search (needs, front-stripe)
+returns-6 c = search (needs, front-block)
 
 pub front-refusal-spec : {M : Type 1} → statement M
 front-refusal-spec =
@@ -53,8 +59,10 @@ front-refusal-spec =
     mul-if2
     mul-if2-2
     returns-2
+    beside-right-requires
     returns-3
     returns-4
-    returns-5
     stripe-refusal-requires
+    returns-5
+    block-refusal-requires
     returns-6)

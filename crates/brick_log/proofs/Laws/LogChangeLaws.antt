@@ -1,31 +1,69 @@
 -- The ways through the steps of a brick, at its image.
 use mathlib.Core.Path.{_≡_, refl, sym, ap, ap₂, _∙_}
-use mathlib.Core.Bool.{Bool, true, false, _&&_}
+use mathlib.Core.Bool.{Bool, true, false, cond, _&&_}
 use mathlib.Core.List.{List}
 use Prim.Native.Nat.{ℕ, _+_, _-_, _*_, _≤_, _<_}
 use native.Mathlib.Omega.{arith}
-use lib.Dec.{leb, ltb}
-use lib.ListN.{length}
-use borrow.Author.Tests.{lt-ltb, le-ltb, eq-eqb, ne-eqb}
+use native.Mathlib.Decide.{decLt}
+use lib.Dec.{eqb, leb, ltb}
+use lib.ListN.{length, take, drop, length-take}
+use borrow.Author.Tests.{lt-ltb, le-ltb, ltb-true, le-leb, lt-leb, eq-eqb, ne-eqb}
+use Rattle.byte_lists.proofs.Laws.BoolLaws.{and-right}
 use Rattle.message.specs.declared.Message.{Message}
 use Rattle.settings.specs.declared.Settings.{Settings}
-use Rattle.image_block.specs.Block.{headBlock, entryBlock}
+use Rattle.image_block.specs.Block.{headBlock, entryBlock, markBlock}
 use Rattle.byte_lists.specs.Lists.{put}
-use Rattle.image.specs.Brick.{Brick, entryCount}
-use Rattle.image.specs.Image.{imageOf}
-use Rattle.image.specs.Parse.{brickIn}
-use Rattle.image_write.specs.Workers.{without, cleared, shifted}
-use Rattle.image_write.proofs.Laws.ImageStepLaws.{promise-written, append-written, without-none, without-written}
+use Rattle.image.specs.Brick.{Brick, LogEntry, entryCount, meansAt, newest, Sound}
+use Rattle.image.specs.Image.{imageOf, imageSize}
+use Rattle.settings.specs.Ranges.{maxSize}
+use Rattle.image.specs.Parse.{brickIn, imageBlockAt, heldIn}
+use Rattle.image.proofs.Laws.FitLaws.{held-bytes}
+use Rattle.image.proofs.Laws.HolderLaws.{meant}
+use Rattle.image_write.specs.Workers.{without, slotOf, cleared, shifted, heldOwn}
+use Rattle.image_write.specs.Saving.{appended, blockEntry, markEntry}
+use Rattle.image_write.proofs.Laws.ImageStepLaws.{promise-written, append-placed, slot-block, slot-mark, slot-long, without-none, without-written}
+use Rattle.erasure.specs.Recoding.{recodedBlock}
+use Rattle.erasure.proofs.Laws.RecodingLaws.{recoded-length}
 use Rattle.brick_log.specs.BrickRules.{aboveNewest, notBelowPromise, hasFree, readYes, orderYes, writeYes, orderedIfYes, writtenIfYes, yesTo, brickAfter}
-use Rattle.brick_log.specs.Workers.{LogReady}
+use Rattle.brick_log.specs.BrickRules.{modifyYes, newestBlock, modifiedEntry, modifiedIfYes}
+use Rattle.brick_log.specs.Workers.{LogReady, TrimReady}
 use Rattle.brick_log.specs.declared.Known.{Known}
-use Rattle.image_block.specs.Block.{blockBytes}
-use Rattle.message.specs.Kinds.{readKind, trimKind, writeKind}
+use Rattle.image_block.specs.Block.{blockBytes, heldFrom}
+use Rattle.message.specs.Kinds.{readKind, trimKind, writeKind, modifyKind}
+
+-- a store as the code tests it: not granted as an Order, or by the free entry alone
+pub store-no : (newest promise t : ℕ) (v free : Bool) → v ≡ ltb newest t && leb promise t → v ≡ false
+    → false ≡ ltb newest t && leb promise t && free
+store-no newest promise t v free e f = sym (rw (sym e ∙ f) refl)
+
+pub store-yes : (newest promise t n capacity : ℕ) (v : Bool) → v ≡ ltb newest t && leb promise t → v ≡ true
+    → leb (n + 1) capacity ≡ ltb newest t && leb promise t && ltb n capacity
+store-yes newest promise t n capacity v e f = go (decLt n capacity) ∙ sym (rw (sym e ∙ f) refl)
+  where
+    go : Dec (n < capacity) → leb (n + 1) capacity ≡ ltb n capacity
+    go (yes h) = le-leb (n + 1) capacity (omega arith) ∙ sym (lt-ltb n capacity h)
+    go (no h) = lt-leb (n + 1) capacity (omega arith) ∙ sym (le-ltb n capacity (omega arith))
+
+-- the front of a buffer that is long enough
+pub prefix-length : (size : ℕ) (l : List ℕ) → size ≤ length l → length (take size l) ≡ size
+prefix-length size l h = let t = length-take size l in omega arith
+
+-- what Modify appends has the block size
+pub modified-sized : (s : Settings) (brick : ℕ) (x : Brick) (msg : Message) (new old : List ℕ) → Sound s x → length new ≡ s .size
+    → length (modifiedEntry s brick x msg new old .block) ≡ s .size
+unfolding modifiedEntry blockEntry markEntry newestBlock
+modified-sized s brick x msg new old r size = go (eqb brick (msg .block)) (ltb brick (s .m))
+  where
+    newest-size : length (meansAt x (entryCount x - 1)) ≡ s .size
+    newest-size = r .entries (entryCount x - 1) (omega (arith, r .count-low)) .sized
+
+    go : (a b : Bool) → length (cond a (blockEntry (msg .time) new)
+        (cond b (markEntry x (msg .time)) (blockEntry (msg .time) (recodedBlock (s .n) (s .m) brick (msg .block) (newestBlock x) old new))) .block) ≡ s .size
+    go true b = size
+    go false true = newest-size
+    go false false = recoded-length (s .n) (s .m) brick (msg .block) (newestBlock x) old new ∙ newest-size
 
 module _ (s : Settings) (brick : ℕ) (l : List ℕ) (k : Known) (r : LogReady s brick l k) where
-  x : Brick
-  x = brickIn s l
-
   pub yes-is : (t : ℕ) (v : Bool) → v ≡ ltb (k .newest) t && leb (k .promise) t → v ≡ orderYes (brickIn s l) t
   unfolding orderYes aboveNewest notBelowPromise
   yes-is t v e = e ∙ ap₂ (λ (a b : ℕ). ltb a t && leb b t) (r .newests) (r .promises)
@@ -43,85 +81,195 @@ module _ (s : Settings) (brick : ℕ) (l : List ℕ) (k : Known) (r : LogReady s
       ∙ promise-written s brick (brickIn s l) (r .saved .range) (r .saved .keeps) t
       ∙ ap (λ (y : Brick). imageOf s brick y) (sym (rw (sym (yes-is t v e) ∙ f) refl))
 
-  free-is : s .capacity ≤ k .count → hasFree s (brickIn s l) ≡ false
-  unfolding hasFree
-  free-is h = le-ltb (entryCount (brickIn s l)) (s .capacity) (omega (arith, r .counts))
+  -- a store is granted as the code tests it
+  pub store-is : (t : ℕ) (v : Bool) → v ≡ ltb (k .newest) t && leb (k .promise) t && ltb (k .count) (s .capacity) → v ≡ writeYes s (brickIn s l) t
+  unfolding writeYes orderYes aboveNewest notBelowPromise hasFree
+  store-is t v e = e ∙ rw (r .newests, r .promises, r .counts) refl
 
-  has-free : k .count < s .capacity → hasFree s (brickIn s l) ≡ true
-  unfolding hasFree
-  has-free h = lt-ltb (entryCount (brickIn s l)) (s .capacity) (omega (arith, r .counts))
+  pub store-free : (t : ℕ) (v : Bool) → v ≡ ltb (k .newest) t && leb (k .promise) t && ltb (k .count) (s .capacity) → v ≡ true → k .count < s .capacity
+  store-free t v e f = ltb-true (k .count) (s .capacity) (and-right (ltb (k .newest) t && leb (k .promise) t) _ (sym e ∙ f))
 
-  pub write-no : (t : ℕ) (v : Bool) → v ≡ ltb (k .newest) t && leb (k .promise) t → v ≡ false → false ≡ writeYes s (brickIn s l) t
-  unfolding writeYes
-  write-no t v e f = rw (sym (yes-is t v e) ∙ f) refl
-
-  pub write-full : (t : ℕ) (v : Bool) → v ≡ ltb (k .newest) t && leb (k .promise) t → v ≡ true → s .capacity ≤ k .count → false ≡ writeYes s (brickIn s l) t
-  unfolding writeYes
-  write-full t v e f h = rw (sym (yes-is t v e) ∙ f, free-is h) refl
-
-  pub write-yes : (t : ℕ) (v : Bool) → v ≡ ltb (k .newest) t && leb (k .promise) t → v ≡ true → k .count < s .capacity → true ≡ writeYes s (brickIn s l) t
-  unfolding writeYes
-  write-yes t v e f h = rw (sym (yes-is t v e) ∙ f, has-free h) refl
+  -- an entry more: its block and the head are written
+  stored : (e : LogEntry) (n at : ℕ) (l₁ after : List ℕ) → k .count < s .capacity → length (e .block) ≡ s .size
+      → n ≡ k .count + 1 → at ≡ blockBytes * n → l₁ ≡ put at (slotOf (s .size) e) l → after ≡ put 0 (headBlock s brick n (k .promise)) l₁
+      → after ≡ imageOf s brick (appended (brickIn s l) e)
+  stored e n at l₁ after free size en ea w₁ w₂ =
+      let nx : n ≡ entryCount (brickIn s l) + 1 = omega (arith, r .counts) in
+      let ax : at ≡ blockBytes * (entryCount (brickIn s l) + 1) = omega (arith, nx) in
+      w₂
+      ∙ ap₂ (λ (c : ℕ) (y : List ℕ). put 0 (headBlock s brick c (k .promise)) y) nx
+      (w₁ ∙ ap₂ (λ (c : ℕ) (y : List ℕ). put c (slotOf (s .size) e) y) ax (r .saved .is-image))
+      ∙ ap (λ (p : ℕ). put 0 (headBlock s brick (entryCount (brickIn s l) + 1) p)
+      (put (blockBytes * (entryCount (brickIn s l) + 1)) (slotOf (s .size) e) (imageOf s brick (brickIn s l))))
+      (r .promises)
+      ∙ append-placed s brick (brickIn s l) e (r .saved .range) (r .saved .keeps) (omega (arith, r .counts))
+      (slot-long (s .size) e (omega (arith, size, r .saved .range .code .size-high)))
 
   pub write-kept : (t : ℕ) (block : List ℕ) → false ≡ writeYes s (brickIn s l) t → l ≡ imageOf s brick (writtenIfYes s (brickIn s l) t block)
   unfolding writtenIfYes
   write-kept t block e = r .saved .is-image ∙ ap (λ (y : Brick). imageOf s brick y) (sym (rw (← e) refl))
 
-  pub write-moved : (t n at : ℕ) (block l₁ brickAfter : List ℕ) → true ≡ writeYes s (brickIn s l) t → k .count < s .capacity → length block ≡ s .size
-      → n ≡ k .count + 1 → at ≡ blockBytes * n → l₁ ≡ put at (entryBlock t block) l → brickAfter ≡ put 0 (headBlock s brick n (k .promise)) l₁
-      → brickAfter ≡ imageOf s brick (writtenIfYes s (brickIn s l) t block)
+  pub write-moved : (t n at : ℕ) (block l₁ after : List ℕ) → true ≡ writeYes s (brickIn s l) t → k .count < s .capacity → length block ≡ s .size
+      → n ≡ k .count + 1 → at ≡ blockBytes * n → l₁ ≡ put at (entryBlock t block) l → after ≡ put 0 (headBlock s brick n (k .promise)) l₁
+      → after ≡ imageOf s brick (writtenIfYes s (brickIn s l) t block)
   unfolding writtenIfYes
-  write-moved t n at block l₁ brickAfter e free size en ea w₁ w₂ =
-      let nx : n ≡ entryCount (brickIn s l) + 1 = omega (arith, r .counts) in
-      let ax : at ≡ blockBytes * (entryCount (brickIn s l) + 1) = omega (arith, nx) in
-      w₂
-      ∙ ap₂ (λ (c : ℕ) (y : List ℕ). put 0 (headBlock s brick c (k .promise)) y) nx
-      (w₁ ∙ ap₂ (λ (c : ℕ) (y : List ℕ). put c (entryBlock t block) y) ax (r .saved .is-image))
-      ∙ ap (λ (p : ℕ). put 0 (headBlock s brick (entryCount (brickIn s l) + 1) p) (put (blockBytes * (entryCount (brickIn s l) + 1)) (entryBlock t block) (imageOf s brick (brickIn s l))))
-      (r .promises)
-      ∙ append-written s brick (brickIn s l) t block (r .saved .range) (r .saved .keeps) (omega (arith, r .counts)) size
+  write-moved t n at block l₁ after e free size en ea w₁ w₂ =
+      stored (blockEntry t block) n at l₁ after free (unfold blockEntry in size) en ea
+      (w₁ ∙ ap (λ (b : List ℕ). put at b l) (sym (slot-block (s .size) t block))) w₂
       ∙ ap (λ (y : Brick). imageOf s brick y) (sym (rw (← e) refl))
 
-  pub trim-moved : (d kept : ℕ) (l₁ l₂ brickAfter : List ℕ) → d < k .count → kept ≡ k .count - d
-      → l₁ ≡ shifted d kept l
+  -- Modify: refused at another newest time, or as a store is
+  pub modify-other : (t o : ℕ) → (k .newest ≡ o → ⊥) → false ≡ modifyYes s (brickIn s l) t o
+  unfolding modifyYes
+  modify-other t o n = sym (rw (ne-eqb (newest (brickIn s l)) o (λ q. n (r .newests ∙ q))) refl)
+
+  pub modify-is : (t o : ℕ) (v : Bool) → k .newest ≡ o → v ≡ ltb (k .newest) t && leb (k .promise) t && ltb (k .count) (s .capacity)
+      → v ≡ modifyYes s (brickIn s l) t o
+  unfolding modifyYes
+  modify-is t o v e f = store-is t v f ∙ sym (rw (eq-eqb (newest (brickIn s l)) o (sym (r .newests) ∙ e)) refl)
+
+  module _ (msg : Message) (block old : List ℕ) where
+    pub modify-kept : false ≡ modifyYes s (brickIn s l) (msg .time) (msg .old)
+        → l ≡ imageOf s brick (modifiedIfYes s brick (brickIn s l) msg block old)
+    unfolding modifiedIfYes
+    modify-kept e = r .saved .is-image ∙ ap (λ (y : Brick). imageOf s brick y) (sym (rw (← e) refl))
+
+    pub modify-moved : (n : ℕ) (l₁ after : List ℕ) → true ≡ modifyYes s (brickIn s l) (msg .time) (msg .old) → k .count < s .capacity → length block ≡ s .size
+        → n ≡ k .count + 1
+        → l₁ ≡ put (blockBytes * (k .count + 1)) (slotOf (s .size) (modifiedEntry s brick (brickIn s l) msg block old)) l
+        → after ≡ put 0 (headBlock s brick n (k .promise)) l₁
+        → after ≡ imageOf s brick (modifiedIfYes s brick (brickIn s l) msg block old)
+    unfolding modifiedIfYes
+    modify-moved n l₁ after e free size en w₁ w₂ =
+        stored (modifiedEntry s brick (brickIn s l) msg block old) n (blockBytes * (k .count + 1)) l₁ after free
+        (modified-sized s brick (brickIn s l) msg block old (r .saved .keeps) size) en (omega arith) w₁ w₂
+        ∙ ap (λ (y : Brick). imageOf s brick y) (sym (rw (← e) refl))
+
+    -- the three entries of Modify
+    pub modified-own : brick ≡ msg .block → (l₁ : List ℕ) (at : ℕ) → l₁ ≡ put at (entryBlock (msg .time) block) l
+        → l₁ ≡ put at (slotOf (s .size) (modifiedEntry s brick (brickIn s l) msg block old)) l
+    unfolding modifiedEntry
+    modified-own e l₁ at w = w ∙ ap (λ (b : List ℕ). put at b l) (sym (rw (eq-eqb brick (msg .block) e) (slot-block (s .size) (msg .time) block)))
+
+    pub modified-mark : (brick ≡ msg .block → ⊥) → brick < s .m → (l₁ : List ℕ) (at : ℕ) → l₁ ≡ put at (markBlock (msg .time) (s .size)) l
+        → l₁ ≡ put at (slotOf (s .size) (modifiedEntry s brick (brickIn s l) msg block old)) l
+    unfolding modifiedEntry
+    modified-mark n h l₁ at w =
+        w ∙ ap (λ (b : List ℕ). put at b l)
+        (sym (rw (ne-eqb brick (msg .block) n, lt-ltb brick (s .m) h) (slot-mark (s .size) (brickIn s l) (msg .time))))
+
+    pub modified-parity : (brick ≡ msg .block → ⊥) → s .m ≤ brick → (l₁ : List ℕ) (at : ℕ)
+        → l₁ ≡ put at (entryBlock (msg .time) (recodedBlock (s .n) (s .m) brick (msg .block) (newestBlock (brickIn s l)) old block)) l
+        → l₁ ≡ put at (slotOf (s .size) (modifiedEntry s brick (brickIn s l) msg block old)) l
+    unfolding modifiedEntry
+    modified-parity n h l₁ at w =
+        w ∙ ap (λ (b : List ℕ). put at b l)
+        (sym (rw (ne-eqb brick (msg .block) n, le-ltb brick (s .m) h) (slot-block (s .size) (msg .time) _)))
+
+  -- the newest entry's block, where it stands in the image
+  pub holder-high : k .holder ≤ k .count
+  holder-high =
+      let m = meant s brick l (brickIn s l) (r .saved) (entryCount (brickIn s l) - 1) (omega (arith, r .saved .keeps .count-low)) in
+      omega (arith, m .high, r .holders, r .counts, r .saved .keeps .count-low)
+
+  newest-held : (a e : ℕ) → a ≡ blockBytes * k .holder + heldFrom → e ≡ a + s .size → take (e - a) (drop a l) ≡ newestBlock (brickIn s l)
+  unfolding newestBlock
+  newest-held a e ea ee =
+      let m = meant s brick l (brickIn s l) (r .saved) (entryCount (brickIn s l) - 1) (omega (arith, r .saved .keeps .count-low)) in
+      let n : e - a ≡ s .size = omega arith in
+      ap₂ (λ (i j : ℕ). take i (drop j l)) n ea ∙ held-bytes l (s .size) (k .holder) (r .saved .range .code .size-high)
+      ∙ ap (λ (h : ℕ). heldIn (s .size) (imageBlockAt l h)) (r .holders) ∙ m .means
+
+  pub recoded-written : (a e t j : ℕ) (block old out after : List ℕ) → a ≡ blockBytes * k .holder + heldFrom → e ≡ a + s .size
+      → out ≡ recodedBlock (s .n) (s .m) brick j (take (e - a) (drop a l)) old block
+      → after ≡ put (blockBytes * (k .count + 1)) (entryBlock t out) l
+      → after ≡ put (blockBytes * (k .count + 1))
+      (entryBlock t (recodedBlock (s .n) (s .m) brick j (newestBlock (brickIn s l)) old block)) l
+  recoded-written a e t j block old out after ea ee eo w =
+      w ∙ ap (λ (b : List ℕ). put (blockBytes * (k .count + 1)) (entryBlock t b) l)
+      (eo ∙ ap (λ (b : List ℕ). recodedBlock (s .n) (s .m) brick j b old block) (newest-held a e ea ee))
+
+  -- the blocks that a Trim looks at are there
+  pub trim-places : (d holder lowest : ℕ) → TrimReady (brickIn s l) k d holder lowest
+      → (s .size ≤ maxSize) × (blockBytes * (d + 1 + 1) ≤ length l) × (blockBytes * (holder + 1) ≤ length l)
+  unfolding imageSize
+  trim-places d holder lowest ready =
+      let m = meant s brick l (brickIn s l) (r .saved) d (omega (arith, r .counts, ready .low)) in (
+        r .saved .range .code .size-high,
+        omega (arith, r .saved .long, r .high, ready .low),
+        omega (arith, r .saved .long, r .high, ready .low, m .high, ready .holder-is),
+      )
+
+  pub trim-moved : (d holder lowest kept : ℕ) (l₀ l₁ l₂ brickAfter : List ℕ) → TrimReady (brickIn s l) k d holder lowest → kept ≡ k .count - d
+      → l₀ ≡ heldOwn (s .size) (d + 1) holder lowest l
+      → l₁ ≡ shifted d kept l₀
       → l₂ ≡ cleared (kept + 1) (k .count + 1 - (kept + 1)) l₁
       → brickAfter ≡ put 0 (headBlock s brick kept (k .promise)) l₂
       → brickAfter ≡ imageOf s brick (without (brickIn s l) d)
-  trim-moved d kept l₁ l₂ brickAfter low ek shift clear w =
+  trim-moved d holder lowest kept l₀ l₁ l₂ brickAfter ready ek hold shift clear w =
       let kx : kept ≡ entryCount (brickIn s l) - d = omega (arith, r .counts) in
-      without-written s brick (brickIn s l) d (omega (arith, r .counts)) l₁ l₂ brickAfter (r .saved .range) (r .saved .keeps)
-      (shift ∙ ap₂ (λ (q : ℕ) (y : List ℕ). shifted d q y) kx (r .saved .is-image))
+      let low : d < entryCount (brickIn s l) = omega (arith, r .counts, ready .low) in
+      let m = meant s brick l (brickIn s l) (r .saved) d low in
+      without-written s brick (brickIn s l) d low holder l₀ l₁ l₂ brickAfter (r .saved .range) (r .saved .keeps)
+      (ap₂ (λ (y : List ℕ) (h : ℕ). heldIn (s .size) (imageBlockAt y h)) (sym (r .saved .is-image)) (ready .holder-is) ∙ m .means)
+      (λ q. m .own (sym (ready .holder-is) ∙ q))
+      (hold ∙ ap₂ (λ (t : ℕ) (y : List ℕ). heldOwn (s .size) (d + 1) holder t y) (ready .lowest-is) (r .saved .is-image))
+      (shift ∙ ap (λ (q : ℕ). shifted d q l₀) kx)
       (clear ∙ ap₂ (λ (q c : ℕ). cleared (q + 1) (c + 1 - (q + 1)) l₁) kx (r .counts))
       (w ∙ ap₂ (λ (c p : ℕ). put 0 (headBlock s brick c p) l₂) kx (r .promises))
 
-module _ (s : Settings) (brick : ℕ) (l : List ℕ) (k : Known) (r : LogReady s brick l k) (msg : Message) (block : List ℕ) where
+module _ (s : Settings) (brick : ℕ) (l : List ℕ) (k : Known) (r : LogReady s brick l k) (msg : Message) (block old : List ℕ) where
   pub change-read : msg .kind ≡ readKind
-      → (leb (k .promise) (k .newest) ≡ yesTo s (brickIn s l) msg) × (l ≡ imageOf s brick (brickAfter s (brickIn s l) msg block))
+      → (leb (k .promise) (k .newest) ≡ yesTo s (brickIn s l) msg) × (l ≡ imageOf s brick (brickAfter s brick (brickIn s l) msg block old))
   unfolding yesTo brickAfter readYes notBelowPromise
   change-read e = (
     sym (rw (eq-eqb (msg .kind) readKind e) (ap₂ (λ (a b : ℕ). leb a b) (sym (r .promises)) (sym (r .newests)))),
     r .saved .is-image ∙ ap (λ (y : Brick). imageOf s brick y)
-        (sym (rw (ne-eqb (msg .kind) trimKind (λ q. omega (arith, e, q)), ne-eqb (msg .kind) writeKind (λ q. omega (arith, e, q)), eq-eqb (msg .kind) readKind e) refl)),
+        (sym
+        (rw (
+          ne-eqb (msg .kind) trimKind (λ q. omega (arith, e, q)),
+          ne-eqb (msg .kind) writeKind (λ q. omega (arith, e, q)),
+          ne-eqb (msg .kind) modifyKind (λ q. omega (arith, e, q)),
+          eq-eqb (msg .kind) readKind e,
+        )
+        refl)),
   )
 
   pub change-write : (v : Bool) (image : List ℕ) → msg .kind ≡ writeKind → v ≡ writeYes s (brickIn s l) (msg .time)
       → image ≡ imageOf s brick (writtenIfYes s (brickIn s l) (msg .time) block)
-      → (v ≡ yesTo s (brickIn s l) msg) × (image ≡ imageOf s brick (brickAfter s (brickIn s l) msg block))
+      → (v ≡ yesTo s (brickIn s l) msg) × (image ≡ imageOf s brick (brickAfter s brick (brickIn s l) msg block old))
   unfolding yesTo brickAfter
   change-write v image e ev ei = (
     ev ∙ sym (rw (ne-eqb (msg .kind) readKind (λ q. omega (arith, e, q)), eq-eqb (msg .kind) writeKind e) refl),
     ei ∙ ap (λ (y : Brick). imageOf s brick y) (sym (rw (ne-eqb (msg .kind) trimKind (λ q. omega (arith, e, q)), eq-eqb (msg .kind) writeKind e) refl)),
   )
 
-  pub change-order : (v : Bool) (image : List ℕ) → (msg .kind ≡ trimKind → ⊥) → (msg .kind ≡ readKind → ⊥) → (msg .kind ≡ writeKind → ⊥) → v ≡ orderYes (brickIn s l) (msg .time)
-      → image ≡ imageOf s brick (orderedIfYes (brickIn s l) (msg .time))
-      → (v ≡ yesTo s (brickIn s l) msg) × (image ≡ imageOf s brick (brickAfter s (brickIn s l) msg block))
+  pub change-modify : (v : Bool) (image : List ℕ) → msg .kind ≡ modifyKind → v ≡ modifyYes s (brickIn s l) (msg .time) (msg .old)
+      → image ≡ imageOf s brick (modifiedIfYes s brick (brickIn s l) msg block old)
+      → (v ≡ yesTo s (brickIn s l) msg) × (image ≡ imageOf s brick (brickAfter s brick (brickIn s l) msg block old))
   unfolding yesTo brickAfter
-  change-order v image a b c ev ei = (
-    ev ∙ sym (rw (ne-eqb (msg .kind) readKind b, ne-eqb (msg .kind) writeKind c) refl),
-    ei ∙ ap (λ (y : Brick). imageOf s brick y) (sym (rw (ne-eqb (msg .kind) trimKind a, ne-eqb (msg .kind) writeKind c, ne-eqb (msg .kind) readKind b) refl)),
+  change-modify v image e ev ei = (
+    ev ∙ sym
+        (rw (ne-eqb (msg .kind) readKind (λ q. omega (arith, e, q)), ne-eqb (msg .kind) writeKind (λ q. omega (arith, e, q)), eq-eqb (msg .kind) modifyKind e)
+        refl),
+    ei ∙ ap (λ (y : Brick). imageOf s brick y)
+        (sym
+        (rw (ne-eqb (msg .kind) trimKind (λ q. omega (arith, e, q)), ne-eqb (msg .kind) writeKind (λ q. omega (arith, e, q)), eq-eqb (msg .kind) modifyKind e)
+        refl)),
+  )
+
+  pub change-order : (v : Bool) (image : List ℕ) → (msg .kind ≡ trimKind → ⊥) → (msg .kind ≡ readKind → ⊥) → (msg .kind ≡ writeKind → ⊥)
+      → (msg .kind ≡ modifyKind → ⊥) → v ≡ orderYes (brickIn s l) (msg .time)
+      → image ≡ imageOf s brick (orderedIfYes (brickIn s l) (msg .time))
+      → (v ≡ yesTo s (brickIn s l) msg) × (image ≡ imageOf s brick (brickAfter s brick (brickIn s l) msg block old))
+  unfolding yesTo brickAfter
+  change-order v image a b c d ev ei = (
+    ev ∙ sym (rw (ne-eqb (msg .kind) readKind b, ne-eqb (msg .kind) writeKind c, ne-eqb (msg .kind) modifyKind d) refl),
+    ei ∙ ap (λ (y : Brick). imageOf s brick y)
+        (sym (rw (ne-eqb (msg .kind) trimKind a, ne-eqb (msg .kind) writeKind c, ne-eqb (msg .kind) modifyKind d, ne-eqb (msg .kind) readKind b) refl)),
   )
 
 -- nothing to drop
 pub trim-none : (s : Settings) (brick : ℕ) (l : List ℕ) (k : Known) (d : ℕ) → LogReady s brick l k → d ≡ 0 → l ≡ imageOf s brick (without (brickIn s l) d)
-trim-none s brick l k d r e = r .saved .is-image ∙ ap (imageOf s brick) (without-none (brickIn s l) ∙ ap (without (brickIn s l)) (sym e))
+trim-none s brick l k d r e =
+    r .saved .is-image ∙ ap (imageOf s brick) (without-none s (brickIn s l) (r .saved .keeps) ∙ ap (without (brickIn s l)) (sym e))

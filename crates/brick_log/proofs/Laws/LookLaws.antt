@@ -1,16 +1,15 @@
 -- What is found in the working log, and the plan for a message.
-use mathlib.Core.Path.{_≡_, refl, sym, ap, ap₂, _∙_}
+use mathlib.Core.Path.{_≡_, refl, sym, ap, ap₂, subst, _∙_}
 use mathlib.Core.Bool.{Bool, true, false, cond, _&&_}
 use mathlib.Core.List.{List, _++_, append-nil}
 use Prim.Native.Nat.{ℕ, zero, suc, _+_, _-_, _*_, _≤_, _<_}
 use native.Mathlib.Omega.{arith}
-use native.Mathlib.Numerals.{add-one}
 use lib.Dec.{leb, ltb}
 use lib.ListN.{length, take, drop, getD, length-take, length-drop, drop-of-length-le}
 use borrow.Author.Count.{below-more}
 use borrow.Author.Tests.{lt-ltb, le-ltb, ltb-true, ltb-false, le-leb, eq-eqb, ne-eqb}
 use Rattle.image.specs.Brick.{Brick, entryCount, timeAt}
-use Rattle.image.specs.Opening.{workingLog, placeIn, blank}
+use Rattle.image.specs.Opening.{workingLog, holderOf, blank}
 use Rattle.image.proofs.Laws.HubLaws.{log-at}
 use Rattle.image.specs.declared.Entry.{Entry}
 use Rattle.byte_lists.specs.Lists.{put}
@@ -21,17 +20,18 @@ use Rattle.brick_log.specs.declared.Known.{Known}
 use Rattle.brick_log.specs.declared.Plan.{Plan}
 use Rattle.brick_log.specs.declared.Looked.{Looked}
 use Rattle.brick_log.specs.declared.Looked.the-variants.{Under, Nothing}
-use Rattle.brick_log.specs.Workers.{logTime, underIn, lookedIn, cutFrom, cutFor, planOf, planIn, readPlace, underFor, planFor, gaveOf}
+use Rattle.brick_log.specs.Workers.{logTime, underIn, lookedIn, LookedLow, cutFrom, cutFor, planOf, trimPlan, planIn, readPlace, granted, underFor}
+use Rattle.brick_log.specs.Workers.{blockPlan, planFor, holderFor, gaveOf}
 use Rattle.image_block.specs.Block.{blockBytes, heldFrom}
-use Rattle.message.specs.Kinds.{orderReadKind, readKind, trimKind}
+use Rattle.message.specs.Kinds.{orderReadKind, orderBlockKind, readKind, trimKind}
 use Rattle.settings.specs.Ranges.{maxCapacity}
 
 -- turn by turn, from the newest down
 pub under-found : (log : List Entry) (max n i entryCount : ℕ) → n ≡ suc i → getD log i blank .time < max → underIn log max n ≡ underIn log max entryCount
-    → Under (getD log i blank) ≡ lookedIn log (underIn log max entryCount)
+    → Under i ≡ lookedIn (underIn log max entryCount)
 unfolding underIn lookedIn
 under-found log max n i entryCount e h w =
-    sym (ap (λ (k : ℕ). lookedIn log (underIn log max k)) e ∙ rw (lt-ltb (getD log i blank .time) max h) refl) ∙ ap (λ (k : ℕ). lookedIn log k) w
+    sym (ap (λ (k : ℕ). lookedIn (underIn log max k)) e ∙ rw (lt-ltb (getD log i blank .time) max h) refl) ∙ ap lookedIn w
 
 pub under-high : (log : List Entry) (max n : ℕ) → underIn log max n ≤ n
 unfolding underIn
@@ -41,6 +41,19 @@ under-high log max (suc i) = go (ltb (getD log i blank .time) max) (under-high l
     go : (b : Bool) → underIn log max i ≤ i → cond b (suc i) (underIn log max i) ≤ suc i
     go true h = omega arith
     go false h = omega arith
+
+-- the place that a lookup gives is one of the log
+pub looked-low : (log : List Entry) (max n : ℕ) (f : Looked) → n ≤ maxCapacity → f ≡ lookedIn (underIn log max n) → LookedLow f
+unfolding LookedLow lookedIn
+looked-low log max n f h e = subst LookedLow (sym e) (go (underIn log max n) (under-high log max n))
+  where
+    go : (i : ℕ) → i ≤ n → LookedLow (lookedIn i)
+    go zero l = tt
+    go (suc i) l = omega arith
+
+pub looked-is : (f : Looked) (i : ℕ) → f ≡ Under i → LookedLow f → i < maxCapacity
+unfolding LookedLow
+looked-is f i e h = subst LookedLow e h
 
 pub under-down : (log : List Entry) (max n i : ℕ) → n ≡ suc i → max ≤ getD log i blank .time → underIn log max n ≡ underIn log max i
 unfolding underIn
@@ -104,21 +117,15 @@ pub cut-for : (log : List Entry) (n t : ℕ) → 1 ≤ n → Cut (logTime log) n
 unfolding cutFor
 cut-for log n t h = cut-is (logTime log) n t h
 
-pub plan-none : (f : Looked) → f ≡ Nothing → record { place = 0; found = 0; cut = 0 } ≡ planIn f
-unfolding planIn planOf
-plan-none f e = sym (ap planIn e)
-
-pub plan-entry : (f : Looked) (e : Entry) (place : ℕ) → f ≡ Under e → place ≡ placeIn (e .holding) → record { place = place; found = e .time; cut = 0 } ≡ planIn f
-unfolding planIn planOf
-plan-entry f e place h p = ap (λ (q : ℕ). record { place = q; found = e .time; cut = 0 }) p ∙ sym (ap planIn h)
-
 -- the entry that a lookup gave, in the brick's own log
-pub place-brick : (x : Brick) (n : ℕ) → n ≤ entryCount x → entryCount x ≤ maxCapacity → planIn (lookedIn (workingLog x) n) .place ≡ n
-unfolding planIn lookedIn planOf placeIn
-place-brick x zero h c = refl
-place-brick x (suc i) h c = ap (λ (v : Entry). placeIn (v .holding)) (log-at x i blank (omega arith) c) ∙ add-one i
+pub place-brick : (x : Brick) (n : ℕ) → planIn (workingLog x) (lookedIn n) .place ≡ holderFor x n
+unfolding planIn lookedIn planOf holderFor
+place-brick x zero = refl
+place-brick x (suc i) =
+    let m : i ≡ suc i - 1 = omega arith in
+    rw (ne-eqb (suc i) 0 (λ q. omega (arith, q))) (ap (holderOf (workingLog x)) m)
 
-pub time-brick : (x : Brick) (n : ℕ) → n ≤ entryCount x → entryCount x ≤ maxCapacity → planIn (lookedIn (workingLog x) n) .found ≡ timeFor x n
+pub time-brick : (x : Brick) (n : ℕ) → n ≤ entryCount x → entryCount x ≤ maxCapacity → planIn (workingLog x) (lookedIn n) .found ≡ timeFor x n
 unfolding planIn lookedIn planOf timeFor
 time-brick x zero h c = refl
 time-brick x (suc i) h c =
@@ -127,47 +134,101 @@ time-brick x (suc i) h c =
     (ap (λ (v : Entry). v .time) (log-at x i blank (omega arith) c)
     ∙ ap (λ (k : ℕ). timeAt x k) (sym m))
 
+pub plan-none : (log : List Entry) (f : Looked) (p : Plan) → f ≡ Nothing → p ≡ planOf 0 0 → p ≡ planIn log f
+unfolding planIn
+plan-none log f p e q = q ∙ sym (ap (planIn log) e)
+
+pub plan-entry : (log : List Entry) (f : Looked) (i place : ℕ) (p : Plan) → f ≡ Under i → place ≡ holderOf log i
+    → p ≡ planOf place (logTime log i) → p ≡ planIn log f
+unfolding planIn
+plan-entry log f i place p e h q = q ∙ ap (λ (k : ℕ). planOf k (logTime log i)) h ∙ sym (ap (planIn log) e)
+
 -- the plan by the message's kind
 module _ (log : List Entry) (k : Known) (msg : Message) (brick : ℕ) where
-  pub plan-trim : msg .kind ≡ trimKind → planFor log k msg brick ≡ planOf 0 0 (cutFor log (k .count) (msg .time))
+  pub plan-trim : msg .kind ≡ trimKind → planFor log k msg brick ≡ trimPlan log (cutFor log (k .count) (msg .time))
   unfolding planFor
   plan-trim e = rw (eq-eqb (msg .kind) trimKind e) refl
 
-  pub plan-read : msg .kind ≡ readKind → planFor log k msg brick ≡ planOf (readPlace k (msg .targets) brick) (k .newest) 0
+  pub plan-read : msg .kind ≡ readKind → planFor log k msg brick ≡ planOf (readPlace k (msg .targets) brick) (k .newest)
   unfolding planFor
   plan-read e = rw (ne-eqb (msg .kind) trimKind (λ q. omega (arith, e, q)), eq-eqb (msg .kind) readKind e) refl
 
-  pub plan-look : msg .kind ≡ orderReadKind → planFor log k msg brick ≡ planIn (lookedIn log (underFor log k msg))
+  pub plan-look : msg .kind ≡ orderReadKind → planFor log k msg brick ≡ planIn log (lookedIn (underFor log k msg))
   unfolding planFor
   plan-look e =
       rw (ne-eqb (msg .kind) trimKind (λ q. omega (arith, e, q)), ne-eqb (msg .kind) readKind (λ q. omega (arith, e, q)), eq-eqb (msg .kind) orderReadKind e) refl
 
-  pub plan-other : (msg .kind ≡ trimKind → ⊥) → (msg .kind ≡ readKind → ⊥) → (msg .kind ≡ orderReadKind → ⊥) → planFor log k msg brick ≡ planOf 0 0 0
+  pub plan-block : msg .kind ≡ orderBlockKind → planFor log k msg brick ≡ blockPlan k msg brick
   unfolding planFor
-  plan-other a b c = rw (ne-eqb (msg .kind) trimKind a, ne-eqb (msg .kind) readKind b, ne-eqb (msg .kind) orderReadKind c) refl
+  plan-block e =
+      rw (
+        ne-eqb (msg .kind) trimKind (λ q. omega (arith, e, q)),
+        ne-eqb (msg .kind) readKind (λ q. omega (arith, e, q)),
+        ne-eqb (msg .kind) orderReadKind (λ q. omega (arith, e, q)),
+        eq-eqb (msg .kind) orderBlockKind e,
+      )
+      refl
+
+  pub plan-other : (msg .kind ≡ trimKind → ⊥) → (msg .kind ≡ readKind → ⊥) → (msg .kind ≡ orderReadKind → ⊥) → (msg .kind ≡ orderBlockKind → ⊥)
+      → planFor log k msg brick ≡ planOf 0 0
+  unfolding planFor
+  plan-other a b c d =
+      rw (ne-eqb (msg .kind) trimKind a, ne-eqb (msg .kind) readKind b, ne-eqb (msg .kind) orderReadKind c, ne-eqb (msg .kind) orderBlockKind d) refl
 
   -- the ways of the code
-  pub plans-trim : (d : ℕ) → msg .kind ≡ trimKind → d ≡ cutFor log (k .count) (msg .time) → record { place = 0; found = 0; cut = d } ≡ planFor log k msg brick
-  unfolding planOf
-  plans-trim d e h = ap (λ (c : ℕ). planOf 0 0 c) h ∙ sym (plan-trim e)
+  pub plans-trim : (p : Plan) → msg .kind ≡ trimKind → p ≡ trimPlan log (cutFor log (k .count) (msg .time)) → p ≡ planFor log k msg brick
+  plans-trim p e h = h ∙ sym (plan-trim e)
 
-  pub plans-read : (p : ℕ) → msg .kind ≡ readKind → p ≡ readPlace k (msg .targets) brick → record { place = p; found = k .newest; cut = 0 } ≡ planFor log k msg brick
-  unfolding planOf
-  plans-read p e h = ap (λ (c : ℕ). planOf c (k .newest) 0) h ∙ sym (plan-read e)
+  pub plans-read : (q : ℕ) (p : Plan) → msg .kind ≡ readKind → q ≡ readPlace k (msg .targets) brick → p ≡ planOf q (k .newest) → p ≡ planFor log k msg brick
+  plans-read q p e h w = w ∙ ap (λ (c : ℕ). planOf c (k .newest)) h ∙ sym (plan-read e)
 
-  pub plans-look : (v : Bool) (f : Looked) (p : Plan) → msg .kind ≡ orderReadKind → v ≡ ltb (k .newest) (msg .time) && leb (k .promise) (msg .time) → v ≡ true
-      → f ≡ lookedIn log (underIn log (msg .max) (k .count)) → p ≡ planIn f → p ≡ planFor log k msg brick
-  unfolding underFor
-  plans-look v f p e ev t ef ep = ep ∙ ap planIn ef ∙ sym (plan-look e ∙ rw (sym ev ∙ t) refl)
+  pub plans-look : (p : Plan) → msg .kind ≡ orderReadKind → p ≡ planIn log (lookedIn (underFor log k msg)) → p ≡ planFor log k msg brick
+  plans-look p e h = h ∙ sym (plan-look e)
 
-  pub plans-no : (v : Bool) → msg .kind ≡ orderReadKind → v ≡ ltb (k .newest) (msg .time) && leb (k .promise) (msg .time) → v ≡ false
-      → record { place = 0; found = 0; cut = 0 } ≡ planFor log k msg brick
-  unfolding underFor planIn lookedIn planOf
-  plans-no v e ev t = sym (plan-look e ∙ rw (sym ev ∙ t) refl)
+  pub plans-block : (p : Plan) → msg .kind ≡ orderBlockKind → p ≡ blockPlan k msg brick → p ≡ planFor log k msg brick
+  plans-block p e h = h ∙ sym (plan-block e)
 
-  pub plans-other : (msg .kind ≡ trimKind → ⊥) → (msg .kind ≡ readKind → ⊥) → (msg .kind ≡ orderReadKind → ⊥) → record { place = 0; found = 0; cut = 0 } ≡ planFor log k msg brick
-  unfolding planOf
-  plans-other a b c = sym (plan-other a b c)
+  pub plans-other : (p : Plan) → (msg .kind ≡ trimKind → ⊥) → (msg .kind ≡ readKind → ⊥) → (msg .kind ≡ orderReadKind → ⊥)
+      → (msg .kind ≡ orderBlockKind → ⊥) → p ≡ planOf 0 0 → p ≡ planFor log k msg brick
+  plans-other p a b c d h = h ∙ sym (plan-other a b c d)
+
+  -- Order-and-read granted, or not
+  pub looks-yes : (v : Bool) (f : Looked) (p : Plan) → v ≡ ltb (k .newest) (msg .time) && leb (k .promise) (msg .time) → v ≡ true
+      → f ≡ lookedIn (underIn log (msg .max) (k .count)) → p ≡ planIn log f → p ≡ planIn log (lookedIn (underFor log k msg))
+  unfolding underFor granted
+  looks-yes v f p ev t ef ep = ep ∙ ap (planIn log) (ef ∙ sym (rw (sym ev ∙ t) refl))
+
+  pub looks-no : (v : Bool) (p : Plan) → v ≡ ltb (k .newest) (msg .time) && leb (k .promise) (msg .time) → v ≡ false
+      → p ≡ planOf 0 0 → p ≡ planIn log (lookedIn (underFor log k msg))
+  unfolding underFor granted planIn lookedIn
+  looks-no v p ev t h = h ∙ sym (rw (sym ev ∙ t) refl)
+
+-- the first round of a block write likewise
+module _ (k : Known) (msg : Message) (brick : ℕ) where
+  pub block-no : (v : Bool) (p : Plan) → v ≡ ltb (k .newest) (msg .time) && leb (k .promise) (msg .time) → v ≡ false
+      → p ≡ planOf 0 0 → p ≡ blockPlan k msg brick
+  unfolding blockPlan granted
+  block-no v p ev t h = h ∙ sym (rw (sym ev ∙ t) refl)
+
+  pub block-own : (v : Bool) (p : Plan) → v ≡ ltb (k .newest) (msg .time) && leb (k .promise) (msg .time) → v ≡ true
+      → brick ≡ msg .block → p ≡ planOf (k .holder) (k .newest) → p ≡ blockPlan k msg brick
+  unfolding blockPlan granted
+  block-own v p ev t e h = h ∙ sym (rw (sym ev ∙ t, eq-eqb brick (msg .block) e) refl)
+
+  pub block-other : (v : Bool) (p : Plan) → v ≡ ltb (k .newest) (msg .time) && leb (k .promise) (msg .time) → v ≡ true
+      → (brick ≡ msg .block → ⊥) → p ≡ planOf 0 (k .newest) → p ≡ blockPlan k msg brick
+  unfolding blockPlan granted
+  block-other v p ev t e h = h ∙ sym (rw (sym ev ∙ t, ne-eqb brick (msg .block) e) refl)
+
+-- a Trim's plan
+pub trim-plan : (log : List Entry) (n t d holder : ℕ) → d ≡ cutFor log n t → holder ≡ holderOf log d
+    → record { place = 0; found = 0; cut = d; holder = holder; lowest = logTime log d } ≡ trimPlan log (cutFor log n t)
+unfolding trimPlan
+trim-plan log n t d holder e h =
+    ap (λ (k : ℕ). record { place = 0; found = 0; cut = d; holder = k; lowest = logTime log d }) h ∙ ap (trimPlan log) e
+
+pub cut-low : (log : List Entry) (n t d : ℕ) → 1 ≤ n → n ≤ maxCapacity → d ≡ cutFor log n t → d < maxCapacity
+cut-low log n t d l h e = omega (arith, cut-for log n t l .low)
 
 pub gave-none : (l : List ℕ) (size place : ℕ) (out : List ℕ) → place ≡ 0 → out ≡ gaveOf l size place out
 unfolding gaveOf
@@ -189,12 +250,12 @@ gave-block l size place a out after z n e h w =
     ∙ is
     ∙ sym (rw (ne-eqb place 0 z) refl)
 
-pub under-none : (log : List Entry) (max n entryCount : ℕ) → n ≤ 0 → underIn log max n ≡ underIn log max entryCount → Nothing ≡ lookedIn log (underIn log max entryCount)
+pub under-none : (log : List Entry) (max n entryCount : ℕ) → n ≤ 0 → underIn log max n ≡ underIn log max entryCount → Nothing ≡ lookedIn (underIn log max entryCount)
 unfolding underIn lookedIn
-under-none log max n entryCount h e = let z : n ≡ 0 = omega arith in ap (λ (k : ℕ). lookedIn log (underIn log max k)) (sym z) ∙ ap (λ (k : ℕ). lookedIn log k) e
+under-none log max n entryCount h e = let z : n ≡ 0 = omega arith in ap (λ (k : ℕ). lookedIn (underIn log max k)) (sym z) ∙ ap lookedIn e
 
 -- the ways of Read
-pub read-target : (k : Known) (targets : List ℕ) (brick : ℕ) (v : Bool) → k .promise ≤ k .newest → v ≡ member targets brick → v ≡ true → k .count ≡ readPlace k targets brick
+pub read-target : (k : Known) (targets : List ℕ) (brick : ℕ) (v : Bool) → k .promise ≤ k .newest → v ≡ member targets brick → v ≡ true → k .holder ≡ readPlace k targets brick
 unfolding readPlace
 read-target k targets brick v h e t = rw (le-leb (k .promise) (k .newest) h, sym e ∙ t) refl
 

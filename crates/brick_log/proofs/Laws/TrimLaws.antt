@@ -10,13 +10,14 @@ use lib.ListN.{length, drop, getD, length-drop}
 use lib.Seq.{getD-drop}
 use borrow.Author.Tests.{lt-ltb, le-ltb}
 use Rattle.settings.specs.declared.Settings.{Settings}
-use Rattle.image.specs.Brick.{Brick, LogEntry, noEntry, entryCount, timeAt, meansAt, newest, Sound}
+use Rattle.image.specs.Brick.{Brick, LogEntry, noEntry, entryCount, timeAt, meansAt, markAt, newest, Sound}
 use Rattle.image.proofs.Laws.HubLaws.{log-at}
 use Rattle.image.proofs.Laws.LogPlaceLaws.{rises-to}
 use Rattle.image.specs.Opening.{workingLog, blank}
 use Rattle.image.specs.declared.Entry.{Entry}
 use Rattle.image_write.specs.Workers.{without}
-use Rattle.image_write.proofs.Laws.ImageStepLaws.{without-count, without-time, without-means}
+use Rattle.image_write.proofs.Laws.ImageStepLaws.{lowest-length, lowest-time, without-count, without-time, without-means, without-lowest, without-mark}
+use Rattle.image_write.specs.Saving.{lowestHeld}
 use Rattle.brick_log.specs.BrickRules.{trimmed, trimmedTo}
 use Rattle.brick_log.specs.Workers.{logTime, cutFrom, cutFor}
 use Rattle.brick_log.proofs.Laws.LookLaws.{Cut, cut-is, cut-for}
@@ -34,7 +35,7 @@ trimmed-some t e (f ∷ log) = go (ltb (e .time) t) (trimmed-some t f log)
 
 pub trim-not-empty : (x : Brick) (t : ℕ) → 1 ≤ entryCount x → 1 ≤ entryCount (trimmedTo x t)
 unfolding entryCount trimmedTo
-trim-not-empty x t h = go (x .log) h
+trim-not-empty x t h = subst (λ (k : ℕ). 1 ≤ k) (sym (lowest-length (trimmed t (x .log)))) (go (x .log) h)
   where
     go : (log : List LogEntry) → 1 ≤ length log → 1 ≤ length (trimmed t log)
     go [] h = absurd (omega arith)
@@ -67,7 +68,9 @@ trimmed-last t e (f ∷ log) = go (ltb (e .time) t) (trimmed-last t f log) ∙ s
 
 pub trim-keeps-newest : (x : Brick) (t : ℕ) → 1 ≤ entryCount x → newest (trimmedTo x t) ≡ newest x
 unfolding newest timeAt entryCount trimmedTo last-of
-trim-keeps-newest x t h = go (x .log) h
+trim-keeps-newest x t h =
+    lowest-time (trimmed t (x .log)) (length (lowestHeld (trimmed t (x .log))) - 1)
+    ∙ ap (λ (k : ℕ). getD (trimmed t (x .log)) (k - 1) noEntry .time) (lowest-length (trimmed t (x .log))) ∙ go (x .log) h
   where
     go : (log : List LogEntry) → 1 ≤ length log → last-of (trimmed t log) .time ≡ last-of log .time
     go [] h = absurd (omega arith)
@@ -95,7 +98,7 @@ trimmed-rest t (e ∷ f ∷ log) b =
 trimmed-without : (s : Settings) (x : Brick) (t d : ℕ) → Sound s x → Cut (timeAt x) (entryCount x) t d → trimmedTo x t ≡ without x d
 unfolding trimmedTo without timeAt entryCount
 trimmed-without s x t d r q =
-    ap (λ (l : List LogEntry). record { promise = x .promise; log = l })
+    ap (λ (l : List LogEntry). record { promise = x .promise; log = lowestHeld l })
     (trimmed-front t (x .log) d (q .low) (q .before) ∙ trimmed-rest t (drop d (x .log)) rest)
   where
     rest : (i : ℕ) → i + 1 < length (drop d (x .log)) → t ≤ getD (drop d (x .log)) i noEntry .time
@@ -132,6 +135,8 @@ pub record Trims (x : Brick) (t d : ℕ) : Type 0 where
   pub count : entryCount (trimmedTo x t) ≡ entryCount x - d
   pub times : (i : ℕ) → timeAt (trimmedTo x t) i ≡ timeAt x (d + i)
   pub means : (i : ℕ) → meansAt (trimmedTo x t) i ≡ meansAt x (d + i)
+  pub lowest : markAt (trimmedTo x t) 0 ≡ false
+  pub marks : (i : ℕ) → markAt (trimmedTo x t) (suc i) ≡ markAt x (d + suc i)
 
 pub trim-places : (s : Settings) (x : Brick) (t : ℕ) → Sound s x → (d : ℕ) × Trims x t d
 trim-places s x t r =
@@ -145,6 +150,8 @@ trim-places s x t r =
         count = ap entryCount w ∙ without-count x d;
         times = λ i. ap (λ (y : Brick). timeAt y i) w ∙ without-time x d i;
         means = λ i. ap (λ (y : Brick). meansAt y i) w ∙ without-means x d i;
+        lowest = ap (λ (y : Brick). markAt y 0) w ∙ without-lowest x d;
+        marks = λ i. ap (λ (y : Brick). markAt y (suc i)) w ∙ without-mark x d i;
       },
     )
 

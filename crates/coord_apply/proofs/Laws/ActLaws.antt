@@ -3,10 +3,10 @@ use mathlib.Core.Path.{_≡_, refl, sym, ap, subst, _∙_}
 use mathlib.Core.List.{List}
 use Prim.Native.Nat.{ℕ, _*_, _≤_, _<_}
 use native.Mathlib.Omega.{arith}
-use Rattle.coord_apply.specs.Acts.{stripeFrom, roundMessage, trimMessage, nextOp, nextRound, ending, finishedSeen, acted}
+use Rattle.coord_apply.specs.Acts.{stripeFrom, roundMessage, trimMessage, nextOp, nextRound, modifying, ending, finishedSeen, givenStripe, storedStripe, namedBricks, acted}
 use Rattle.coord_apply.specs.Answers.{Buffered, noMessage, readSeen, abortedSeen, sentCount, sentMessage, sentBlocks, answerOf}
 use Rattle.coord_apply.specs.declared.Answer.{Answer}
-use Rattle.coord_record.specs.Records.{noBricks}
+use Rattle.coord_record.specs.Records.{targetCount, noBricks}
 use Rattle.coord_record.specs.declared.Coordinator.{Coordinator}
 use Rattle.coord_tally.specs.Counting.{picked, targetRow, atTimes}
 use Rattle.coord_record.specs.declared.Op.{Op}
@@ -15,9 +15,9 @@ use Rattle.coord_decide.specs.Deciding.{decided}
 use Rattle.coord_decide.specs.Decisions.{DecisionSays, holders}
 use Rattle.coord_decide.proofs.Laws.SaysLaws.{says-of}
 use Rattle.coord_decide.specs.declared.Decision.{Decision}
-use Rattle.coord_decide.specs.declared.Decision.the-variants.{Abort, Give, Look, Store, Recover, Finish}
+use Rattle.coord_decide.specs.declared.Decision.the-variants.{Abort, Give, Look, Store, Modify, Recover, Finish}
 use Rattle.erasure.specs.Code.{codedOf}
-use Rattle.message.specs.Kinds.{orderReadKind, writeKind}
+use Rattle.message.specs.Kinds.{orderReadKind, writeKind, modifyKind}
 use Rattle.message.specs.declared.Message.{Message}
 use Rattle.settings.specs.Ranges.{CodeRange, maxBricks}
 use Rattle.settings.specs.Count.{count}
@@ -34,36 +34,30 @@ module _ (n m size : ℕ) (c : Coordinator) (blocks stripe coded : List ℕ) whe
   unfolding acted ending answerOf sentCount sentMessage sentBlocks endAnswer buffered
   acted-abort r e = record { answer = e; stripe-left = refl; coded-left = refl }
 
-  pub acted-give : (r : Answer) (row stripe′ : List ℕ) → row ≡ targetRow n m (c .op .first) → stripe′ ≡ stripeFrom m size row blocks
-      → r ≡ endAnswer c readSeen row 0 noMessage → Acted n m size (buffered c blocks stripe) Give coded r stripe′ coded
+  pub acted-give : (r : Answer) (stripe′ : List ℕ) → stripe′ ≡ givenStripe n m size (c .op) blocks stripe
+      → r ≡ endAnswer c readSeen (targetRow n (targetCount m (c .op .kind)) (c .op .first)) 0 noMessage → Acted n m size (buffered c blocks stripe) Give coded r stripe′ coded
   unfolding acted ending answerOf sentCount sentMessage sentBlocks endAnswer buffered
-  acted-give r row stripe′ er es e =
-      record {
-        answer = e ∙ ap (λ (l : List ℕ). endAnswer c readSeen l 0 noMessage) er;
-        stripe-left = es ∙ ap (λ (l : List ℕ). stripeFrom m size l blocks) er;
-        coded-left = refl;
-      }
+  acted-give r stripe′ es e = record { answer = e; stripe-left = es; coded-left = refl }
 
-  pub acted-look : (r : Answer) (max : ℕ) → r ≡ openAnswer c orderReadKind max noBricks → Acted n m size (buffered c blocks stripe) (Look max) coded r stripe coded
+  pub acted-look : (r : Answer) (max : ℕ) → r ≡ openAnswer c orderReadKind max 0 noBricks → Acted n m size (buffered c blocks stripe) (Look max) coded r stripe coded
   unfolding acted nextRound roundMessage nextOp answerOf sentCount sentMessage sentBlocks openAnswer buffered
   acted-look r max e = record { answer = e; stripe-left = refl; coded-left = refl }
 
-  pub acted-store : (r : Answer) (coded′ : List ℕ) → coded′ ≡ codedOf n m size stripe → r ≡ openAnswer c writeKind 0 noBricks
+  pub acted-store : (r : Answer) (coded′ : List ℕ) → coded′ ≡ codedOf n m size stripe → r ≡ openAnswer c writeKind 0 0 noBricks
       → Acted n m size (buffered c blocks stripe) Store coded r stripe coded′
   unfolding acted nextRound roundMessage nextOp answerOf sentCount sentMessage sentBlocks openAnswer buffered
   acted-store r coded′ ec e = record { answer = e; stripe-left = refl; coded-left = ec }
 
-  pub acted-recover : (r : Answer) (time : ℕ) (row stripe′ coded′ : List ℕ) → row ≡ picked (c .tally .held) (c .tally .found) time n m
-      → stripe′ ≡ stripeFrom m size row blocks → coded′ ≡ codedOf n m size stripe′ → r ≡ openAnswer c writeKind 0 row
-      → Acted n m size (buffered c blocks stripe) (Recover time) coded r stripe′ coded′
+  pub acted-modify : (r : Answer) (old : ℕ) → r ≡ openAnswer c modifyKind 0 old noBricks → Acted n m size (buffered c blocks stripe) (Modify old) coded r stripe coded
+  unfolding acted modifying roundMessage nextOp answerOf sentCount sentMessage sentBlocks openAnswer buffered
+  acted-modify r old e = record { answer = e; stripe-left = refl; coded-left = refl }
+
+  pub acted-recover : (r : Answer) (time : ℕ) (named stripe′ coded′ : List ℕ) → named ≡ namedBricks (c .op) (picked (c .tally .held) (c .tally .found) time n m)
+      → stripe′ ≡ storedStripe size (c .op) stripe (stripeFrom m size (picked (c .tally .held) (c .tally .found) time n m) blocks)
+      → coded′ ≡ codedOf n m size stripe′ → r ≡ openAnswer c writeKind 0 0 named → Acted n m size (buffered c blocks stripe) (Recover time) coded r stripe′ coded′
   unfolding acted nextRound roundMessage nextOp answerOf sentCount sentMessage sentBlocks openAnswer buffered
-  acted-recover r time row stripe′ coded′ er es ec e =
-      let s = es ∙ ap (λ (l : List ℕ). stripeFrom m size l blocks) er in
-      record {
-        answer = e ∙ ap (openAnswer c writeKind 0) er;
-        stripe-left = s;
-        coded-left = ec ∙ ap (codedOf n m size) s;
-      }
+  acted-recover r time named stripe′ coded′ er es ec e =
+      record { answer = e ∙ ap (openAnswer c writeKind 0 0) er; stripe-left = es; coded-left = ec ∙ ap (codedOf n m size) es }
 
   pub acted-finish : (r : Answer) (what : ℕ) (trim : Message) → what ≡ finishedSeen (c .op) → trim ≡ trimMessage (c .op)
       → r ≡ endAnswer c what (c .bricks) 1 trim → Acted n m size (buffered c blocks stripe) Finish coded r stripe coded
@@ -100,9 +94,6 @@ picked-decodes n m size time held found row blocks r k e er =
     let few : m ≤ maxBricks = omega (arith, r .m-high, r .n-high) in
     subst (λ (l : List ℕ). PointSet (take m l) × InPlace m size l blocks) (sym er)
     (picked-set held found time n m k few, in-place n m size (picked held found time n m) blocks e (picked-below held found time n m k few))
-
-pub stripe-by : (m size : ℕ) (row row′ blocks s : List ℕ) → s ≡ stripeFrom m size row blocks → row ≡ row′ → s ≡ stripeFrom m size row′ blocks
-stripe-by m size row row′ blocks s e er = e ∙ ap (λ (l : List ℕ). stripeFrom m size l blocks) er
 
 -- a recovery is decided only with enough blocks
 pub recover-enough : (n m time : ℕ) (op : Op) (t : Tally) (d : Decision) → d ≡ Recover time → d ≡ decided n m op t

@@ -4,21 +4,21 @@ use mathlib.Core.List.{List, _++_}
 use Prim.Native.Nat.{ℕ, _+_, _-_, _*_, _≤_, _<_}
 use native.Mathlib.Nat.{suc-mul, mul-le-mul-right}
 use lib.Seq.{take-at}
-use Rattle.erasure.specs.Code.{decodedOf}
+use Rattle.erasure.specs.Code.{decodedOf, withBlock}
 use native.Mathlib.Omega.{arith}
 use lib.ListN.{length, getD, take, drop}
 use borrow.Rule.Slice.PartMut.{putMid}
 use Rattle.byte_lists.specs.Lists.{put}
 use Rattle.byte_lists.proofs.Laws.PutLaws.{put-mid}
 use Rattle.erasure.specs.Code.{blockOf}
-use Rattle.coord_apply.specs.Acts.{gathered, stripeFrom, withReplyBlock}
+use Rattle.coord_apply.specs.Acts.{gathered, stripeFrom}
 use Rattle.coord_apply.specs.Workers.{InPlace}
 use Rattle.settings.specs.Ranges.{maxBricks, maxSize}
 
 -- a part of the blocks replaced
 pub place-is : (size b at : ℕ) (block blocks ys : List ℕ) → length block ≡ size → at ≡ b * size → ys ≡ block
-    → putMid at (at + size - at) blocks ys ≡ withReplyBlock size b block blocks
-unfolding withReplyBlock
+    → putMid at (at + size - at) blocks ys ≡ withBlock size blocks b block
+unfolding withBlock
 place-is size b at block blocks ys n e f =
     ap (putMid at (at + size - at) blocks) f ∙ put-mid at (at + size) blocks block (omega arith) (omega arith)
     ∙ ap (λ (k : ℕ). put k block blocks) e

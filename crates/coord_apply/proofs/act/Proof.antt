@@ -1,6 +1,6 @@
-use mathlib.Core.Path.{refl, sym}
+use mathlib.Core.Path.{refl}
 use Rattle.coord_record.specs.Records.{noBricks}
-use Rattle.coord_apply.proofs.Laws.ActLaws.{recover-enough, acted-at, acted-abort, acted-give, acted-look, acted-store, acted-recover, acted-finish, end-by, stripe-by}
+use Rattle.coord_apply.proofs.Laws.ActLaws.{recover-enough, acted-at, acted-abort, acted-give, acted-look, acted-store, acted-modify, acted-recover, acted-finish, end-by}
 use borrow.Author.Needs.{needs}
 use Rattle.coord_apply.proofs.act.Statement.{statement}
 use Rattle.coord_apply.proofs.act.Tie as tie
@@ -35,9 +35,14 @@ store-requires c κs = search needs
 enum-known-d-2 : tie.Need-enum-known-d-2
 enum-known-d-2 c = search needs
 
+open-requires-2 : tie.Need-open-requires-2
+open-requires-2 c κs = search needs
+
+enum-known-d-3 : tie.Need-enum-known-d-3
+enum-known-d-3 c = search needs
+
 recover-requires : tie.Need-recover-requires
-recover-requires c κs = let s = c .before .before .before .before .before .before .before .before in
-    (s .pre .0 .range, ((s .pre .0 .blocks-length, s .pre .0 .stripe-length), recover-enough _ _ _ _ _ _ (c .before .before .before .d2 .given .1) (s .pre .1 .1)))
+recover-requires c κs = let s = c .before .before .before .before .before .before .before in (s .pre .0, recover-enough _ _ _ _ _ _ (c .before .before .d3 .given .1) (s .pre .1 .1))
 
 store-requires-2 : tie.Need-store-requires-2
 store-requires-2 c κs = search needs
@@ -50,14 +55,15 @@ finish-requires c κs = search needs
 
 returns : tie.Need-returns
 unfolding noBricks
-returns c = acted-at _ _ _ _ _ _ _ _ _ _ (c .before .before .enum-told .given .1) (acted-abort _ _ _ _ _ _ _ _ (end-by _ _ _ _ _ _ _ _ _ (c .end .ensures) refl refl (c .before .no-message .ensures)))
+returns c = acted-at _ _ _ _ _ _ _ _ _ _ (c .before .before .enum-told .given .1)
+    (acted-abort _ _ _ _ _ _ _ _ (end-by _ _ _ _ _ _ _ _ _ (c .end .ensures) refl refl (c .before .no-message .ensures)))
 
 same-length : tie.Need-same-length
 same-length c = search needs
 
 returns-2 : tie.Need-returns-2
 returns-2 c = acted-at _ _ _ _ _ _ _ _ _ _ (c .before .before .before .before .enum-told2 .given .1)
-    (acted-give _ _ _ _ _ _ _ _ _ _ refl (c .before .before .give .ensures .1) (c .before .before .give .ensures .0))
+    (acted-give _ _ _ _ _ _ _ _ _ (c .before .before .give .ensures .1) (c .before .before .give .ensures .0))
 
 returns-3 : tie.Need-returns-3
 unfolding noBricks
@@ -74,19 +80,23 @@ unfolding noBricks
 returns-4 c = acted-at _ _ _ _ _ _ _ _ _ _ (c .before .before .before .before .before .enum-told3 .given .1)
     (acted-store _ _ _ _ _ _ _ _ _ (c .before .before .store .ensures .1) (c .before .before .store .ensures .0))
 
+returns-5 : tie.Need-returns-5
+unfolding noBricks
+returns-5 c = acted-at _ _ _ _ _ _ _ _ _ _ (c .before .before .d2 .given .1) (acted-modify _ _ _ _ _ _ _ _ _ (c .open2 .ensures))
+
 same-length-4 : tie.Need-same-length-4
 same-length-4 c = search needs
 
 same-length-5 : tie.Need-same-length-5
 same-length-5 c = search needs
 
-returns-5 : tie.Need-returns-5
-returns-5 c = let r = c .before .before .before .before .before .before .before in acted-at _ _ _ _ _ _ _ _ _ _ (r .before .before .before .before .d2 .given .1)
-    (acted-recover _ _ _ _ _ _ _ _ _ _ _ _ (r .recover .ensures .0) (stripe-by _ _ _ _ _ _ (r .recover .ensures .1) (sym (r .recover .ensures .0))) (c .before .before .store2 .ensures .1)
-    (c .before .before .store2 .ensures .0))
-
 returns-6 : tie.Need-returns-6
-returns-6 c = acted-at _ _ _ _ _ _ _ _ _ _ (c .before .enum-told4 .given .1) (acted-finish _ _ _ _ _ _ _ _ _ _ refl refl (c .finish .ensures))
+returns-6 c =
+    let r = c .before .before .before .before .before .before .before in acted-at _ _ _ _ _ _ _ _ _ _ (r .before .before .before .d3 .given .1)
+    (acted-recover _ _ _ _ _ _ _ _ _ _ _ _ (r .recover .ensures .0) (r .recover .ensures .1) (c .before .before .store2 .ensures .1) (c .before .before .store2 .ensures .0))
+
+returns-7 : tie.Need-returns-7
+returns-7 c = acted-at _ _ _ _ _ _ _ _ _ _ (c .before .enum-told4 .given .1) (acted-finish _ _ _ _ _ _ _ _ _ _ refl refl (c .finish .ensures))
 
 pub act-spec : {M : Type 1} → statement M
 act-spec =
@@ -102,6 +112,8 @@ act-spec =
     enum-told-3
     store-requires
     enum-known-d-2
+    open-requires-2
+    enum-known-d-3
     recover-requires
     store-requires-2
     enum-told-4
@@ -113,7 +125,8 @@ act-spec =
     same-length-2
     same-length-3
     returns-4
+    returns-5
     same-length-4
     same-length-5
-    returns-5
-    returns-6)
+    returns-6
+    returns-7)

@@ -1,18 +1,18 @@
-use native.Mathlib.Omega.{arith}
+use Rattle.coord_apply.proofs.Laws.OneBlockLaws.{few-targets, target-row-by}
+use Rattle.coord_apply.proofs.Laws.ActLaws.{end-by}
 use mathlib.Core.Path.{refl}
-use Rattle.coord_apply.proofs.Laws.ActLaws.{end-by, target-decodes, stripe-by}
 use borrow.Author.Needs.{needs}
 use Rattle.coord_apply.proofs.give.Statement.{statement}
 use Rattle.coord_apply.proofs.give.Tie as tie
 
-target-row-requires : tie.Need-target-row-requires
-target-row-requires c κs = search needs
+target-count-requires : tie.Need-target-count-requires
+target-count-requires c κs = search needs
 
-decode-from-requires : tie.Need-decode-from-requires
-decode-from-requires c κs = let s = c .before .before .before .before .before in let p = s .pre in (
-  (omega (arith, p .range .m-high, p .range .n-high), p .range .size-high),
-  (p .stripe-length, target-decodes _ _ _ _ _ _ (p .range) (p .first-low) (p .blocks-length) (c .before .target-row .ensures)),
-)
+target-row-requires : tie.Need-target-row-requires
+target-row-requires c κs = let p = c .before .before .before .before .pre in ((p .range .n-high, few-targets _ _ _ _ _ (p .range) (c .target-count .ensures)), p .first-low)
+
+take-given-requires : tie.Need-take-given-requires
+take-given-requires c κs = (c .before .before .before .before .before .before .pre, target-row-by _ _ _ _ _ _ (c .before .target-row .ensures) (c .before .before .target-count .ensures))
 
 no-message-requires : tie.Need-no-message-requires
 no-message-requires c κs = search needs
@@ -24,18 +24,18 @@ same-length : tie.Need-same-length
 same-length c = search needs
 
 returns : tie.Need-returns
-returns c = let w = c .before .before .before .before .before .before in (
-  end-by _ _ _ _ _ _ _ _ _ (c .end .ensures) refl (w .target-row .ensures) (c .before .no-message .ensures),
-  stripe-by _ _ _ _ _ _ (c .before .before .before .before .decode-from .ensures)
-      (w .target-row .ensures),
+returns c = let w = c .before .before .before .before .before .before .before in let r = c .before .before .before .before .before .before in (
+  end-by _ _ _ _ _ _ _ _ _ (c .end .ensures) refl (target-row-by _ _ _ _ _ _ (r .target-row .ensures) (w .target-count .ensures)) (c .before .no-message .ensures),
+  c .before .before .before .before .take-given .ensures,
 )
 
 pub give-spec : {M : Type 1} → statement M
 give-spec =
     tie.close
     (tie.spec
+    target-count-requires
     target-row-requires
-    decode-from-requires
+    take-given-requires
     no-message-requires
     end-requires
     same-length

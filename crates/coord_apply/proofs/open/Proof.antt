@@ -31,5 +31,6 @@ open-spec =
     next-op-requires
     nothing-counted-requires
     round-message-requires
-    no-message-requires nothing-seen-requires
+    no-message-requires
+    nothing-seen-requires
     returns)

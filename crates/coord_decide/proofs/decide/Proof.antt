@@ -1,4 +1,4 @@
-use Rattle.coord_decide.proofs.Laws.DecidingLaws.{decide-first, decide-no, decide-ordered, decide-empty, decide-found, decide-stored}
+use Rattle.coord_decide.proofs.Laws.DecidingLaws.{decide-first, decide-no, decide-ordered, decide-block-order, decide-empty, decide-found, decide-stored}
 use borrow.Author.Needs.{needs}
 use Rattle.coord_decide.proofs.decide.Statement.{statement}
 use Rattle.coord_decide.proofs.decide.Tie as tie
@@ -18,11 +18,17 @@ returns-2 c = search (needs, decide-no)
 returns-3 : tie.Need-returns-3
 returns-3 c = search (needs, decide-ordered)
 
+decide-block-order-requires : tie.Need-decide-block-order-requires
+decide-block-order-requires c κs = search needs
+
+returns-4 : tie.Need-returns-4
+returns-4 c = search (needs, decide-block-order)
+
 members-of-requires : tie.Need-members-of-requires
 members-of-requires c κs = search needs
 
-returns-4 : tie.Need-returns-4
-returns-4 c = search (needs, decide-empty)
+returns-5 : tie.Need-returns-5
+returns-5 c = search (needs, decide-empty)
 
 highest-of-requires : tie.Need-highest-of-requires
 highest-of-requires c κs = search needs
@@ -30,11 +36,11 @@ highest-of-requires c κs = search needs
 decide-at-requires : tie.Need-decide-at-requires
 decide-at-requires c κs = search needs
 
-returns-5 : tie.Need-returns-5
-returns-5 c = search (needs, decide-found)
-
 returns-6 : tie.Need-returns-6
-returns-6 c = search (needs, decide-stored)
+returns-6 c = search (needs, decide-found)
+
+returns-7 : tie.Need-returns-7
+returns-7 c = search (needs, decide-stored)
 
 pub decide-spec : {M : Type 1} → statement M
 decide-spec =
@@ -45,9 +51,11 @@ decide-spec =
     any-no-requires
     returns-2
     returns-3
-    members-of-requires
+    decide-block-order-requires
     returns-4
+    members-of-requires
+    returns-5
     highest-of-requires
     decide-at-requires
-    returns-5
-    returns-6)
+    returns-6
+    returns-7)

@@ -1,6 +1,6 @@
 use Rattle.coord_decide.proofs.Laws.DecidingLaws.{other-kind, other-stripe, other-operation, other-round, counted-before, answers-by}
-use borrow.Author.Needs.{needs}
 use native.Mathlib.Omega.{arith}
+use borrow.Author.Needs.{needs}
 use Rattle.coord_decide.proofs.reply_answers.Statement.{statement}
 use Rattle.coord_decide.proofs.reply_answers.Tie as tie
 
@@ -22,6 +22,9 @@ array-read-if5 c = search needs
 returns-5 : tie.Need-returns-5
 returns-5 c = search (needs, counted-before)
 
+target-count-requires : tie.Need-target-count-requires
+target-count-requires c κs = search needs
+
 is-target-requires : tie.Need-is-target-requires
 is-target-requires c κs = search needs
 
@@ -41,6 +44,7 @@ reply-answers-spec =
     returns-4
     array-read-if5
     returns-5
+    target-count-requires
     is-target-requires
     block-right-requires
     returns-6)

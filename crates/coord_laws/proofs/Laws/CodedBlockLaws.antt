@@ -1,42 +1,18 @@
--- The reply blocks and the stripe: a block put in its place stands there and the others are as they were; m right blocks give the stripe.
+-- The reply blocks and the stripe: m right blocks give the stripe.
 use mathlib.Core.Path.{_≡_, refl, sym, ap, _∙_}
 use mathlib.Core.List.{List, _++_}
-use Prim.Native.Nat.{ℕ, zero, suc, _+_, _*_, _≤_, _<_}
-use native.Mathlib.Decide.{decLt}
-use native.Mathlib.Nat.{mul-le-mul-right, suc-mul, le-refl}
+use Prim.Native.Nat.{ℕ, zero, suc, _+_, _≤_, _<_}
+use native.Mathlib.Nat.{le-refl}
 use native.Mathlib.Omega.{arith}
-use lib.ListN.{length, getD, take, drop}
+use lib.ListN.{length, getD, take}
 use lib.Seq.{getD-take, length-take-le}
-use Rattle.byte_lists.specs.Lists.{put}
-use Rattle.byte_lists.proofs.Laws.PutLaws.{put-length, put-in, put-before, put-behind}
-use Rattle.coord_apply.specs.Acts.{gathered, stripeFrom, withReplyBlock}
+use Rattle.coord_apply.specs.Acts.{gathered, stripeFrom}
 use Rattle.erasure.specs.Code.{codedOf, decodedOf}
 use Rattle.erasure.specs.Code.{blockOf, Stripe, Bricks, blocksOf}
 use Rattle.erasure.proofs.Laws.CodeTheoremLaws.{decode-after-encode}
 use Rattle.interpolate.specs.Values.{PointSet}
 use Rattle.byte_lists.specs.Lists.{stacked}
 use Rattle.settings.specs.Ranges.{CodeRange, maxBricks}
-
--- a brick's own block
-pub placed-same : (size b : ℕ) (block blocks : List ℕ) → length block ≡ size → b * size + size ≤ length blocks → blockOf size (withReplyBlock size b block blocks) b ≡ block
-unfolding blockOf withReplyBlock
-placed-same size b block blocks e h = put-in (b * size) size block blocks e (omega arith)
-
-pub placed-long : (size b : ℕ) (block blocks : List ℕ) → length block ≡ size → b * size + size ≤ length blocks → length (withReplyBlock size b block blocks) ≡ length blocks
-unfolding withReplyBlock
-placed-long size b block blocks e h = put-length (b * size) block blocks (omega arith)
-
--- the others
-pub placed-other : (size b j : ℕ) (block blocks : List ℕ) → length block ≡ size → b * size + size ≤ length blocks → (j ≡ b → ⊥)
-    → blockOf size (withReplyBlock size b block blocks) j ≡ blockOf size blocks j
-unfolding blockOf withReplyBlock
-placed-other size b j block blocks e h n = go (decLt j b)
-  where
-    go : Dec (j < b) → take size (drop (j * size) (put (b * size) block blocks)) ≡ take size (drop (j * size) blocks)
-    go (yes l) = put-before (b * size) (j * size) size block blocks (let q = mul-le-mul-right size l in let s = suc-mul j size in omega arith) (omega arith)
-    go (no l) =
-        let above : b < j = omega arith in
-        put-behind (b * size) (j * size) size block blocks (let q = mul-le-mul-right size above in let s = suc-mul b size in omega arith) (omega arith)
 
 -- rows of blocks that agree
 stacked-ext : (k : ℕ) (f g : ℕ → List ℕ) → ((i : ℕ) → i < k → f i ≡ g i) → stacked k f ≡ stacked k g

@@ -1,30 +1,32 @@
--- What a coordinator sends, a brick does not refuse: every message of an open round of a good record passes refusal 10.
-use mathlib.Core.Path.{_≡_, refl}
-use mathlib.Core.Bool.{Bool, true, false, cond, _&&_}
+-- What a coordinator sends, a brick does not refuse: every message of an open round of a good record passes refusals 10 and 14.
+use mathlib.Core.Path.{_≡_, refl, ap, _∙_}
+use mathlib.Core.Bool.{Bool, true, false, cond, _&&_, _||_}
 use mathlib.Core.List.{List}
-use Prim.Native.Nat.{ℕ, _^_, _≤_}
+use Prim.Native.Nat.{ℕ, _^_, _≤_, _<_}
 use native.Mathlib.Omega.{arith}
 use lib.Dec.{eqb, leb, ltb}
 use borrow.Author.Tests.{le-leb, lt-ltb, leb-true, ltb-true, eqb-true}
-use Rattle.coord_apply.specs.Acts.{roundMessage}
-use Rattle.coord_laws.proofs.Laws.OpCaseLaws.{Fit, reading, looking, restoring, ordering, storing, fit}
-use Rattle.coord_laws.specs.Soundness.{Good}
+use Rattle.coord_apply.specs.Acts.{roundMessage, trimMessage}
+use Rattle.coord_laws.proofs.Laws.OpCaseLaws.{Fit, reading, looking, restoring, ordering, storing, block-ordering, modifying, fit, in-block-order, in-modify}
+use Rattle.coord_laws.proofs.Laws.TallyLaws.{highest-right}
+use Rattle.coord_laws.specs.Soundness.{Good, Full}
+use Rattle.coord_decide.specs.Decisions.{Modifies}
 use Rattle.coord_record.specs.Sound.{maxRight, opRight, timeRight}
 use Rattle.coord_record.proofs.Laws.SoundPartLaws.{round-high}
 use Rattle.coord_record.specs.declared.Coordinator.{Coordinator}
 use Rattle.coord_record.specs.declared.Op.{Op}
-use Rattle.message.specs.Flags.{brickSet}
-use Rattle.message.specs.Messages.{roundRight, kindRight, messageRefusal}
+use Rattle.message.specs.Messages.{roundRight, foundRight, targetsRight, kindRight, messageRefusal, namesBlock, messageBlockRefusal}
+use Rattle.settings.specs.Ranges.{maxBricks, dataBlockRefusal}
 use Rattle.byte_lists.proofs.Laws.BoolLaws.{and-left, and-right}
 use Rattle.settings.specs.Times.{maxCount, noUpperEnd, timeOf, validTime, coordinatorCount, lastCoordinator}
 use Rattle.settings.specs.declared.Clock.{Clock}
-use Rattle.message.specs.Kinds.{lastRound, readKind, orderReadKind, writeKind, trimKind, firstRound, secondRound}
-use Rattle.coord_record.specs.Records.{idleKind}
+use Rattle.message.specs.Kinds.{lastRound, readKind, orderReadKind, orderBlockKind, modifyKind, trimKind, firstRound, secondRound}
+use Rattle.coord_record.specs.Records.{idleKind, writingBlockKind, onBlock, targetCount}
 
 -- what a running operation that is right has
 pub record RunningOp (op : Op) : Type 0 where
   pub phase-low : readKind ≤ op .phase
-  pub phase-high : op .phase ≤ writeKind
+  pub phase-high : op .phase ≤ modifyKind
   pub round-low : firstRound ≤ op .round
   pub max-low : op .phase ≡ orderReadKind → op .max ≤ noUpperEnd
 
@@ -44,6 +46,8 @@ running op e k = go (fit op e (λ z _. k z))
     go (looking k p r m) = record { phase-low = omega arith; phase-high = omega arith; round-low = omega arith; max-low = λ q. max-high (op .round) (op .max) m }
     go (restoring k p r) = record { phase-low = omega arith; phase-high = omega arith; round-low = omega arith; max-low = λ q. absurd (omega arith) }
     go (ordering k p r f) = record { phase-low = omega arith; phase-high = omega arith; round-low = omega arith; max-low = λ q. absurd (omega arith) }
+    go (block-ordering k p r) = record { phase-low = omega arith; phase-high = omega arith; round-low = omega arith; max-low = λ q. absurd (omega arith) }
+    go (modifying k p r) = record { phase-low = omega arith; phase-high = omega arith; round-low = omega arith; max-low = λ q. absurd (omega arith) }
     go (storing k p r) = record { phase-low = omega arith; phase-high = omega arith; round-low = omega arith; max-low = λ q. absurd (omega arith) }
 
 -- its time is valid
@@ -61,21 +65,61 @@ time-valid kind time clock e k a b = go (eqb kind idleKind) refl e
         valid-of time clock (leb-true 1 (clock .last) (and-left (leb 1 (clock .last)) (eqb time (timeOf (clock .last) (clock .coordinator))) q))
         (eqb-true time (timeOf (clock .last) (clock .coordinator)) (and-right (leb 1 (clock .last)) (eqb time (timeOf (clock .last) (clock .coordinator))) q)) a b
 
--- EVERY MESSAGE OF AN OPEN ROUND PASSES REFUSAL 10; a Read round's targets are m different bricks.
-pub message-passes : (n m size stripes : ℕ) (c : Coordinator) (targets : List ℕ) → Good n m size stripes c → (c .op .kind ≡ idleKind → ⊥) → (c .op .phase ≡ readKind → brickSet targets n m ≡ true)
-    → messageRefusal n m (roundMessage (c .op) targets) ≡ 0
+-- EVERY MESSAGE OF AN OPEN ROUND PASSES REFUSAL 10; a Read round's targets are m different bricks or one data brick, Modify's old time is 0 or valid.
+pub message-passes : (n m size stripes : ℕ) (c : Coordinator) (old : ℕ) (targets : List ℕ) → Good n m size stripes c → (c .op .kind ≡ idleKind → ⊥)
+    → (c .op .phase ≡ readKind → targetsRight n m targets ≡ true) → (c .op .phase ≡ modifyKind → foundRight old ≡ true)
+    → messageRefusal n m (roundMessage (c .op) old targets) ≡ 0
 unfolding messageRefusal roundMessage roundRight kindRight
-message-passes n m size stripes c targets g k t =
+message-passes n m size stripes c old targets g k t o =
     let r = running (c .op) (g .parts .op-right) k in
     rw (
       time-valid (c .op .kind) (c .op .time) (c .clock) (g .parts .time-right) k (g .parts .number-low) (g .parts .last-low),
       le-leb firstRound (c .op .round) (r .round-low),
       le-leb (c .op .round) lastRound (round-high (c .op) (g .parts .op-right)),
     )
-    (go r (eqb (c .op .phase) orderReadKind) (eqb (c .op .phase) readKind) refl refl)
+    (go r (eqb (c .op .phase) orderReadKind) (eqb (c .op .phase) readKind) (eqb (c .op .phase) modifyKind) refl refl refl)
   where
-    go : RunningOp (c .op) → (a b : Bool) → eqb (c .op .phase) orderReadKind ≡ a → eqb (c .op .phase) readKind ≡ b
-        → _≡_ {A = ℕ} (cond (cond a (leb (c .op .max) noUpperEnd) (cond b (brickSet targets n m) (leb readKind (c .op .phase) && leb (c .op .phase) trimKind))) 0 10) 0
-    go r true b ea eb = rw (le-leb (c .op .max) noUpperEnd (r .max-low (eqb-true (c .op .phase) orderReadKind ea)))
-    go r false true ea eb = rw (t (eqb-true (c .op .phase) readKind eb))
-    go r false false ea eb = rw (le-leb readKind (c .op .phase) (r .phase-low), le-leb (c .op .phase) trimKind (let q = r .phase-high in omega arith))
+    go : RunningOp (c .op) → (a b d : Bool) → eqb (c .op .phase) orderReadKind ≡ a → eqb (c .op .phase) readKind ≡ b → eqb (c .op .phase) modifyKind ≡ d
+        → _≡_ {A = ℕ}
+        (cond (cond a (leb (c .op .max) noUpperEnd) (cond b (targetsRight n m targets) (cond d (foundRight old) (leb readKind (c .op .phase) && leb (c .op .phase) trimKind)))) 0 10) 0
+    go r true b d ea eb ed = rw (le-leb (c .op .max) noUpperEnd (r .max-low (eqb-true (c .op .phase) orderReadKind ea)))
+    go r false true d ea eb ed = rw (t (eqb-true (c .op .phase) readKind eb))
+    go r false false true ea eb ed = rw (o (eqb-true (c .op .phase) modifyKind ed))
+    go r false false false ea eb ed = rw (le-leb readKind (c .op .phase) (r .phase-low), le-leb (c .op .phase) trimKind (let q = r .phase-high in omega arith))
+
+-- AND REFUSAL 14: a round that names a block is one of a block write, on one of m.
+block-named : (n m size stripes : ℕ) (c : Coordinator) → Good n m size stripes c → namesBlock (c .op .phase) ≡ true → c .op .first < m
+unfolding namesBlock onBlock
+block-named n m size stripes c g e = g .parts .block-low (rw (kind (eqb (c .op .phase) orderBlockKind) refl e))
+  where
+    kind : (a : Bool) → eqb (c .op .phase) orderBlockKind ≡ a → a || eqb (c .op .phase) modifyKind ≡ true → c .op .kind ≡ writingBlockKind
+    kind true ea q = in-block-order (c .op) (g .parts .op-right) (eqb-true (c .op .phase) orderBlockKind ea) .kind-is
+    kind false ea q = in-modify (c .op) (g .parts .op-right) (eqb-true (c .op .phase) modifyKind q) .kind-is
+
+pub message-block-passes : (n m size stripes : ℕ) (c : Coordinator) (old : ℕ) (targets : List ℕ) → Good n m size stripes c
+    → messageBlockRefusal m (roundMessage (c .op) old targets) ≡ 0
+unfolding messageBlockRefusal roundMessage dataBlockRefusal
+message-block-passes n m size stripes c old targets g = go (namesBlock (c .op .phase)) refl
+  where
+    go : (b : Bool) → namesBlock (c .op .phase) ≡ b → _≡_ {A = ℕ} (cond b (cond (ltb (cond b (c .op .first) 0) m) 0 14) 0) 0
+    go true e = rw (lt-ltb (c .op .first) m (block-named n m size stripes c g e))
+    go false e = refl
+
+-- Modify's old time is 0 or valid
+pub old-right : (n m size stripes : ℕ) (c : Coordinator) (time : ℕ) → n ≤ maxBricks → Full n m size stripes c → Modifies n m (c .op) (c .tally) time → foundRight time ≡ true
+old-right n m size stripes c time few f s =
+    ap foundRight (s .time-is) ∙ highest-right n (targetCount m (c .op .kind)) (c .op .phase) (c .op .first) (c .tally) (c .tally .counted) few (f .tally-right)
+
+-- The Trim that an ended operation sends passes both.
+pub trim-passes : (n m size stripes : ℕ) (c : Coordinator) → Good n m size stripes c → (c .op .kind ≡ idleKind → ⊥)
+    → (messageRefusal n m (trimMessage (c .op)) ≡ 0) × (messageBlockRefusal m (trimMessage (c .op)) ≡ 0)
+unfolding messageRefusal messageBlockRefusal namesBlock trimMessage roundRight kindRight
+trim-passes n m size stripes c g k =
+    let r = running (c .op) (g .parts .op-right) k in (
+      rw (
+        time-valid (c .op .kind) (c .op .time) (c .clock) (g .parts .time-right) k (g .parts .number-low) (g .parts .last-low),
+        le-leb firstRound (c .op .round) (r .round-low),
+        le-leb (c .op .round) lastRound (round-high (c .op) (g .parts .op-right)),
+      ),
+      refl,
+    )

@@ -8,19 +8,21 @@ use native.Mathlib.Omega.{arith}
 use lib.Dec.{eqb, leb, ltb}
 use lib.ListN.{length, getD, take, replicate, length-take, List·getD-eq-default}
 use borrow.Author.Tests.{eq-eqb, ne-eqb, le-leb, lt-ltb, le-ltb, eqb-false, leb-true, ltb-true, ltb-false}
-use Rattle.coord_apply.specs.Acts.{nextOp, opened, nextRound, ending, acted, withTally, counting, waitingOr, firstOp, starting}
+use Rattle.coord_apply.specs.Acts.{nextOp, opened, nextRound, modifying, ending, namedBricks, acted, withTally, counting, waitingOr, firstOp, starting}
 use Rattle.coord_apply.specs.Answers.{Buffered, Went, Step, refused, went, afterChecks, nothingSeen, cutSeen}
-use Rattle.coord_refusals.specs.Checks.{recordChecks, stripeChecks, writeChecks, readChecks, writeRefusal, readRefusal, takeRefusal, crashRefusal}
+use Rattle.coord_refusals.specs.Checks.{recordChecks, stripeChecks, writeChecks, readChecks, startChecks, writeRefusal, readRefusal, writeBlockRefusal, readBlockRefusal, takeRefusal, crashRefusal}
 use Rattle.coord_refusals.proofs.Laws.RefusedLaws.{record-passes, stripe-passes}
-use Rattle.coordinator.specs.Routines.{drawnThen, writeStep, readStep, takeStep, crashed, crashStep}
-use Rattle.coordinator.proofs.Laws.RoutineLaws.{take-passed, first-low}
-use Rattle.coord_laws.proofs.Laws.OpCaseLaws.{in-read, in-order, in-recovery, first-recovery, next-recovery, write-stores, read-stores}
+use Rattle.coordinator.specs.Routines.{drawnThen, writeStep, readStep, writeBlockStep, readBlockStep, takeStep, crashed, crashStep}
+use Rattle.coordinator.proofs.Laws.RoutineLaws.{take-passed, first-low, write-block-passed, read-block-passed}
+use Rattle.erasure.specs.Code.{withBlock}
+use Rattle.coord_laws.proofs.Laws.OpCaseLaws.{clash, reading-recovers, block-recovers, in-read, in-order, in-block-order, in-recovery, first-recovery, next-recovery}
+use Rattle.coord_laws.proofs.Laws.OpCaseLaws.{write-stores, block-modifies, recovery-stores}
 use Rattle.coord_laws.specs.Soundness.{Sized}
 use Rattle.coord_laws.proofs.Laws.TallyLaws.{Answering, answering, ReplyParts, reply-parts, tallied-sized, tallied-right, zeros-at, zeros-counted, highest-valid}
 use Rattle.byte_lists.proofs.Laws.EachLaws.{each-all}
-use Rattle.coord_record.specs.Records.{noOp, noBricks, nothingCounted, idleWith, idleKind, readingKind, writingKind}
+use Rattle.coord_record.specs.Records.{noOp, noBricks, nothingCounted, idleWith, idleKind, readingKind, writingKind, readingBlockKind, writingBlockKind, isReading, onBlock, targetCount}
 use Rattle.coord_record.specs.CountedRules.{entryRight, tallyRight, brickRight, bricksRight}
-use Rattle.coord_record.specs.Sound.{sameGeometry, opRight, unsetOp, readRight, writeRight, timeRight, namedCount, soundRecord}
+use Rattle.coord_record.specs.Sound.{sameGeometry, opRight, unsetOp, openingRight, readRight, writeRight, blockWriteRight, timeRight, namedCount, soundRecord}
 use Rattle.coord_record.proofs.Laws.SoundPartLaws.{sound-from, sound-parts}
 use Rattle.coord_record.specs.declared.Coordinator.{Coordinator}
 use Rattle.coord_record.specs.declared.Geometry.{Geometry}
@@ -28,11 +30,11 @@ use Rattle.coord_record.specs.declared.Op.{Op}
 use Rattle.coord_record.specs.declared.Tally.{Tally}
 use Rattle.coord_tally.specs.Counting.{atTimes, passing, inRow, picked, targetFlags}
 use Rattle.coord_decide.specs.Deciding.{tallied, decided}
-use Rattle.coord_decide.specs.Decisions.{DecisionSays, Lowers, Recovers, found-time, holders}
+use Rattle.coord_decide.specs.Decisions.{AllYes, DecisionSays, Lowers, Recovers, found-time, holders}
 use Rattle.coord_decide.proofs.Laws.SaysLaws.{decided-says}
 use Rattle.coord_tally.proofs.Laws.RowSets.{picked-below, picked-rises}
 use Rattle.coord_decide.specs.declared.Decision.{Decision}
-use Rattle.coord_decide.specs.declared.Decision.the-variants.{Abort, Give, Look, Store, Recover, Finish}
+use Rattle.coord_decide.specs.declared.Decision.the-variants.{Abort, Give, Look, Store, Modify, Recover, Finish}
 use Rattle.byte_lists.proofs.Laws.TabulateLaws.{getD-tabulate}
 use Rattle.message.specs.Flags.{members}
 use Rattle.message.specs.declared.Reply.{Reply}
@@ -49,7 +51,7 @@ use Rattle.settings.specs.declared.Draw.{Draw}
 use Rattle.settings.specs.declared.Draw.the-variants.{Drawn, Refused}
 use Rattle.settings.proofs.Laws.RefusalLaws.{passed-first, passed-rest}
 use Rattle.coord_laws.specs.Soundness.{Good, Full}
-use Rattle.message.specs.Kinds.{readKind, orderKind, orderReadKind, writeKind}
+use Rattle.message.specs.Kinds.{readKind, orderKind, orderReadKind, orderBlockKind, writeKind, modifyKind, blockTargets}
 
 pub none-sized : Sized nothingCounted
 unfolding nothingCounted
@@ -81,8 +83,12 @@ unfolding timeRight
 idle-time clock = refl
 
 idle-bricks : (n m : ℕ) → bricksRight n (namedCount m noOp) noBricks ≡ true
-unfolding namedCount noOp
+unfolding namedCount noOp isReading
 idle-bricks n m = no-bricks-right n
+
+idle-block : (m : ℕ) → onBlock idleKind ≡ true → 0 < m
+unfolding onBlock
+idle-block m e = clash e
 
 -- An idle coordinator is good.
 pub idle-good : (n m size stripes : ℕ) (geometry : Geometry) (clock : Clock) → CodeRange n m size → 1 ≤ stripes → sameGeometry n m size stripes geometry ≡ true
@@ -97,10 +103,11 @@ idle-good n m size stripes geometry clock r some same a b =
             last-low = b;
             first-low = omega (arith, r .n-low);
             stripe-low = omega (arith, some);
+            block-low = idle-block m;
             op-right = idle-op;
             time-right = idle-time clock;
             bricks-right = idle-bricks n m;
-            tally-right = none-right n m 0 0;
+            tally-right = none-right n (targetCount m idleKind) 0 0;
             few-counted = none-few n m size r;
           };
       sizes = none-sized;
@@ -119,10 +126,11 @@ opened-good n m size stripes phase max c bricks r f o b =
             last-low = f .last-low;
             first-low = f .first-low;
             stripe-low = f .stripe-low;
+            block-low = f .block-low;
             op-right = o;
             time-right = f .time-right;
             bricks-right = b;
-            tally-right = none-right n m phase (c .op .first);
+            tally-right = none-right n (targetCount m (c .op .kind)) phase (c .op .first);
             few-counted = none-few n m size r;
           };
       sizes = none-sized;
@@ -154,56 +162,71 @@ picked-right held found time n m few enough =
         )
     go i l false z ea ez = rw (picked-past held found time n m i (ltb-false i m ea) l)
 
+-- how many are named: none by a write, and none but in a Write round
 named-write : (m : ℕ) (op : Op) → op .kind ≡ writingKind → namedCount m (nextOp op writeKind 0) ≡ 0
-unfolding namedCount nextOp
+unfolding namedCount nextOp isReading
 named-write m op k = rw k
 
-named-read : (m : ℕ) (op : Op) → op .kind ≡ readingKind → namedCount m (nextOp op writeKind 0) ≡ m
+named-none : (m phase max : ℕ) (op : Op) → eqb phase writeKind ≡ false → namedCount m (nextOp op phase max) ≡ 0
 unfolding namedCount nextOp
-named-read m op k = rw k
-
-named-look : (m max : ℕ) (op : Op) → namedCount m (nextOp op orderReadKind max) ≡ 0
-unfolding namedCount nextOp
-named-look m max op = go (eqb (op .kind) readingKind)
+named-none m phase max op e = rw e (go (isReading (op .kind)))
   where
     go : (a : Bool) → cond (a && false) m 0 ≡ 0
     go true = refl
     go false = refl
 
+named-right : (n m : ℕ) (op : Op) (row : List ℕ) → bricksRight n m row ≡ true → bricksRight n (namedCount m (nextOp op writeKind 0)) (namedBricks op row) ≡ true
+unfolding namedCount nextOp namedBricks
+named-right n m op row e = go (isReading (op .kind))
+  where
+    go : (a : Bool) → bricksRight n (cond (a && true) m 0) (cond a row noBricks) ≡ true
+    go true = e
+    go false = no-bricks-right n
+
 -- a max that is a time found is valid
-lowers-valid : (n m : ℕ) (op : Op) (t : Tally) (max : ℕ) → n ≤ maxBricks → tallyRight n m (op .phase) (op .first) t ≡ true → Lowers n m op t max → validTime max ≡ true
+lowers-valid : (n m k : ℕ) (op : Op) (t : Tally) (max : ℕ) → n ≤ maxBricks → tallyRight n k (op .phase) (op .first) t ≡ true → Lowers n m op t max → validTime max ≡ true
 unfolding found-time
-lowers-valid n m op t max few e w = ap validTime (w .time-is) ∙ highest-valid n m (op .phase) (op .first) t few e (λ q. w .not-first (w .time-is ∙ q))
+lowers-valid n m k op t max few e w = ap validTime (w .time-is) ∙ highest-valid n k (op .phase) (op .first) t few e (λ q. w .not-first (w .time-is ∙ q))
 
 recovered-good : (n m size stripes : ℕ) (c : Coordinator) (time : ℕ) → CodeRange n m size → Full n m size stripes c → Recovers n m (c .op) (c .tally) time
-    → Good n m size stripes (opened c writeKind 0 (picked (c .tally .held) (c .tally .found) time n m))
+    → Good n m size stripes (opened c writeKind 0 (namedBricks (c .op) (picked (c .tally .held) (c .tally .found) time n m)))
 unfolding holders
 recovered-good n m size stripes c time r f s =
     let i = in-recovery (c .op) (f .op-right) (s .phase-is) in
-    opened-good n m size stripes writeKind 0 c (picked (c .tally .held) (c .tally .found) time n m) r f (read-stores (c .op) i (s .round-low))
-    (ap (λ (k : ℕ). bricksRight n k (picked (c .tally .held) (c .tally .found) time n m)) (named-read m (c .op) (i .kind-is))
-    ∙ picked-right (c .tally .held) (c .tally .found) time n m (omega (arith, r .m-high, r .n-high)) (s .enough))
+    let row = picked (c .tally .held) (c .tally .found) time n m in
+    opened-good n m size stripes writeKind 0 c (namedBricks (c .op) row) r f (recovery-stores (c .op) i (s .round-low))
+    (named-right n m (c .op) row (picked-right (c .tally .held) (c .tally .found) time n m (omega (arith, r .m-high, r .n-high)) (s .enough)))
 
 -- What a decision leaves is good.
 pub acted-good : (n m size stripes : ℕ) (h : Buffered) → CodeRange n m size → Full n m size stripes (h .state)
     → Good n m size stripes (acted n m size h (decided n m (h .state .op) (h .state .tally)) .next .state)
-unfolding acted ending nextRound DecisionSays
+unfolding acted ending nextRound modifying DecisionSays
 acted-good n m size stripes h r f = go (decided n m (h .state .op) (h .state .tally)) (decided-says n m (h .state .op) (h .state .tally))
   where
     idle : Good n m size stripes (idleWith (h .state .geometry) (h .state .clock))
     idle = idle-good n m size stripes (h .state .geometry) (h .state .clock) r (omega (arith, f .stripe-low)) (f .made-for) (f .number-low) (f .last-low)
 
-    look : (max : ℕ) → opRight (nextOp (h .state .op) orderReadKind max) ≡ true → Good n m size stripes (opened (h .state) orderReadKind max noBricks)
-    look max o =
-        opened-good n m size stripes orderReadKind max (h .state) noBricks r f o (ap (λ (k : ℕ). bricksRight n k noBricks) (named-look m max (h .state .op)) ∙ no-bricks-right n)
+    -- a round that names no brick
+    plain : (phase max : ℕ) → eqb phase writeKind ≡ false → opRight (nextOp (h .state .op) phase max) ≡ true → Good n m size stripes (opened (h .state) phase max noBricks)
+    plain phase max p o =
+        opened-good n m size stripes phase max (h .state) noBricks r f o (ap (λ (k : ℕ). bricksRight n k noBricks) (named-none m phase max (h .state .op) p) ∙ no-bricks-right n)
 
-    looked : (max : ℕ) → ((h .state .op .phase ≡ readKind) × (max ≡ noUpperEnd)) ⊎ Lowers n m (h .state .op) (h .state .tally) max
+    looked : (max : ℕ)
+        → ((h .state .op .phase ≡ readKind) × (max ≡ noUpperEnd))
+        ⊎ (((h .state .op .phase ≡ orderBlockKind) × AllYes n (h .state .tally) × (max ≡ noUpperEnd)) ⊎ Lowers n m (h .state .op) (h .state .tally) max)
         → Good n m size stripes (opened (h .state) orderReadKind max noBricks)
     looked max (inl w) =
-        look max (ap (λ (x : ℕ). opRight (nextOp (h .state .op) orderReadKind x)) (w .1) ∙ first-recovery (h .state .op) (in-read (h .state .op) (f .op-right) (w .0)))
-    looked max (inr w) =
-        look max (next-recovery (h .state .op) max (in-recovery (h .state .op) (f .op-right) (w .phase-is)) (w .round-low)
-        (lowers-valid n m (h .state .op) (h .state .tally) max (r .n-high) (f .tally-right) w))
+        let i = in-read (h .state .op) (f .op-right) (w .0) in
+        plain orderReadKind max refl
+        (ap (λ (x : ℕ). opRight (nextOp (h .state .op) orderReadKind x)) (w .1) ∙ first-recovery (h .state .op) (reading-recovers (h .state .op .kind) (i .kind-is)) (i .round-is))
+    looked max (inr (inl w)) =
+        let i = in-block-order (h .state .op) (f .op-right) (w .0) in
+        plain orderReadKind max refl
+        (ap (λ (x : ℕ). opRight (nextOp (h .state .op) orderReadKind x)) (w .2) ∙ first-recovery (h .state .op) (block-recovers (h .state .op .kind) (i .kind-is)) (i .round-is))
+    looked max (inr (inr w)) =
+        plain orderReadKind max refl
+        (next-recovery (h .state .op) max (in-recovery (h .state .op) (f .op-right) (w .phase-is)) (w .round-low)
+        (lowers-valid n m (targetCount m (h .state .op .kind)) (h .state .op) (h .state .tally) max (r .n-high) (f .tally-right) w))
 
     go : (d : Decision) → DecisionSays n m (h .state .op) (h .state .tally) d → Good n m size stripes (acted n m size h d .next .state)
     go Abort s = idle
@@ -213,6 +236,7 @@ acted-good n m size stripes h r f = go (decided n m (h .state .op) (h .state .ta
         let i = in-order (h .state .op) (f .op-right) (s .phase-is) in
         opened-good n m size stripes writeKind 0 (h .state) noBricks r f (write-stores (h .state .op) i)
         (ap (λ (k : ℕ). bricksRight n k noBricks) (named-write m (h .state .op) (i .kind-is)) ∙ no-bricks-right n)
+    go (Modify time) s = plain modifyKind 0 refl (block-modifies (h .state .op) (in-block-order (h .state .op) (f .op-right) (s .phase-is)))
     go (Recover time) s = recovered-good n m size stripes (h .state) time r f s
     go Finish s = idle
 
@@ -227,6 +251,7 @@ counted-full n m size stripes c r g k p a =
       last-low = k .parts .last-low;
       first-low = k .parts .first-low;
       stripe-low = k .parts .stripe-low;
+      block-low = k .parts .block-low;
       op-right = k .parts .op-right;
       time-right = k .parts .time-right;
       bricks-right = k .parts .bricks-right;
@@ -248,6 +273,7 @@ waiting-good n m size stripes h r f = go (ltb (members (h .state .tally .counted
                 last-low = f .last-low;
                 first-low = f .first-low;
                 stripe-low = f .stripe-low;
+                block-low = f .block-low;
                 op-right = f .op-right;
                 time-right = f .time-right;
                 bricks-right = f .bricks-right;
@@ -316,11 +342,11 @@ drawn-low t reading clock next e =
     (omega (arith, g .same, g .drew .coordinator-high), omega (arith, g .count, g .drew .last-high, g .drew .reading-high))
 
 begun-good : (n m size stripes kind phase number t first reading : ℕ) (geometry : Geometry) (clock next : Clock) → CodeRange n m size → sameGeometry n m size stripes geometry ≡ true
-    → (kind ≡ idleKind → ⊥) → drawOf clock reading ≡ Drawn t next → first < n → number < stripes
+    → (kind ≡ idleKind → ⊥) → drawOf clock reading ≡ Drawn t next → first < n → (onBlock kind ≡ true → first < m) → number < stripes
     → opRight (firstOp kind phase number t first) ≡ true → namedCount m (firstOp kind phase number t first) ≡ 0
     → Good n m size stripes (record { geometry = geometry; clock = next; op = firstOp kind phase number t first; tally = nothingCounted; bricks = noBricks })
 unfolding firstOp
-begun-good n m size stripes kind phase number t first reading geometry clock next r same k e f u o z =
+begun-good n m size stripes kind phase number t first reading geometry clock next r same k e f b u o z =
     let l = drawn-low t reading clock next e in
     record {
       parts =
@@ -330,22 +356,42 @@ begun-good n m size stripes kind phase number t first reading geometry clock nex
             last-low = l .1;
             first-low = f;
             stripe-low = u;
+            block-low = b;
             op-right = o;
             time-right = drawn-right kind t reading clock next k e;
             bricks-right = ap (λ (j : ℕ). bricksRight n j noBricks) z ∙ no-bricks-right n;
-            tally-right = none-right n m phase first;
+            tally-right = none-right n (targetCount m kind) phase first;
             few-counted = none-few n m size r;
           };
       sizes = none-sized;
     }
 
 first-write : (m number t : ℕ) → (opRight (firstOp writingKind orderKind number t 0) ≡ true) × (namedCount m (firstOp writingKind orderKind number t 0) ≡ 0)
-unfolding opRight writeRight firstOp namedCount
+unfolding opRight isReading writeRight firstOp namedCount
 first-write m number t = (refl, refl)
 
 first-read : (m number t first : ℕ) → (opRight (firstOp readingKind readKind number t first) ≡ true) × (namedCount m (firstOp readingKind readKind number t first) ≡ 0)
-unfolding opRight readRight firstOp namedCount
+unfolding opRight isReading readRight openingRight firstOp namedCount
 first-read m number t first = (refl, refl)
+
+first-write-block : (m number t block : ℕ)
+    → (opRight (firstOp writingBlockKind orderBlockKind number t block) ≡ true) × (namedCount m (firstOp writingBlockKind orderBlockKind number t block) ≡ 0)
+unfolding opRight isReading blockWriteRight openingRight firstOp namedCount
+first-write-block m number t block = (refl, refl)
+
+first-read-block : (m number t block : ℕ)
+    → (opRight (firstOp readingBlockKind readKind number t block) ≡ true) × (namedCount m (firstOp readingBlockKind readKind number t block) ≡ 0)
+unfolding opRight isReading readRight openingRight firstOp namedCount
+first-read-block m number t block = (refl, refl)
+
+-- an operation on the stripe is on no block
+write-whole : {A : Type 0} → onBlock writingKind ≡ true → A
+unfolding onBlock
+write-whole e = clash e
+
+read-whole : {A : Type 0} → onBlock readingKind ≡ true → A
+unfolding onBlock
+read-whole e = clash e
 
 -- what a draw led to
 pub drawn-went : (d : Draw) (f : ℕ → Clock → Went) (w : Went) → drawnThen d f ≡ went w → (t : ℕ) × (next : Clock) × (d ≡ Drawn t next) × (f t next ≡ w)
@@ -372,7 +418,7 @@ write-good n m size stripes h number reading bytes w e =
     let d = drawn-went (drawOf (h .state .clock) reading) f w (p .1) in
     subst (λ (v : Went). Good n m size stripes (v .next .state)) (d .3)
     (begun-good n m size stripes writingKind orderKind number (d .0) 0 reading (h .state .geometry) (h .state .clock) (d .1) range (same .1) (λ q. absurd (omega arith)) (d .2)
-    (omega (arith, range .n-low)) (same .0) (first-write m number (d .0) .0) (first-write m number (d .0) .1))
+    (omega (arith, range .n-low)) write-whole (same .0) (first-write m number (d .0) .0) (first-write m number (d .0) .1))
 
 -- A read:
 pub read-good : (n m size stripes : ℕ) (h : Buffered) (number reading first : ℕ) (w : Went) → readStep n m size stripes h number reading first ≡ went w
@@ -387,7 +433,35 @@ read-good n m size stripes h number reading first w e =
     let d = drawn-went (drawOf (h .state .clock) reading) f w (p .1) in
     subst (λ (v : Went). Good n m size stripes (v .next .state)) (d .3)
     (begun-good n m size stripes readingKind readKind number (d .0) first reading (h .state .geometry) (h .state .clock) (d .1) range (same .1) (λ q. absurd (omega arith)) (d .2)
-    low (same .0) (first-read m number (d .0) first .0) (first-read m number (d .0) first .1))
+    low read-whole (same .0) (first-read m number (d .0) first .0) (first-read m number (d .0) first .1))
+
+-- A write of one block:
+pub write-block-good : (n m size stripes : ℕ) (h : Buffered) (number reading block : ℕ) (bytes : List ℕ) (w : Went)
+    → writeBlockStep n m size stripes h number reading block bytes ≡ went w → Good n m size stripes (w .next .state)
+unfolding writeBlockStep writeBlockRefusal starting
+write-block-good n m size stripes h number reading block bytes w e =
+    let f : ℕ → Clock → Went = λ time clock. starting h clock (firstOp writingBlockKind orderBlockKind number time block) (withBlock size (h .stripe) block bytes) noBricks in
+    let p = passes (writeBlockRefusal n m size stripes (h .state) number reading block (length bytes) (length (h .stripe))) (drawnThen (drawOf (h .state .clock) reading) f) w e in
+    let k = write-block-passed n m size stripes (h .state) number block (length bytes) (length (h .stripe)) _ (startChecks (h .state) reading) refl (p .0) in
+    let same = record-same n m size stripes (h .state) number _ (k .checked) in
+    let d = drawn-went (drawOf (h .state .clock) reading) f w (p .1) in
+    subst (λ (v : Went). Good n m size stripes (v .next .state)) (d .3)
+    (begun-good n m size stripes writingBlockKind orderBlockKind number (d .0) block reading (h .state .geometry) (h .state .clock) (d .1) (k .range) (same .1) (λ q. absurd (omega arith)) (d .2)
+    (omega (arith, k .block-low, k .range .m-high)) (λ q. k .block-low) (same .0) (first-write-block m number (d .0) block .0) (first-write-block m number (d .0) block .1))
+
+-- A read of one block:
+pub read-block-good : (n m size stripes : ℕ) (h : Buffered) (number reading block : ℕ) (w : Went) → readBlockStep n m size stripes h number reading block ≡ went w
+    → Good n m size stripes (w .next .state)
+unfolding readBlockStep readBlockRefusal starting
+read-block-good n m size stripes h number reading block w e =
+    let f : ℕ → Clock → Went = λ time clock. starting h clock (firstOp readingBlockKind readKind number time block) (h .stripe) (targetFlags n blockTargets block) in
+    let p = passes (readBlockRefusal n m size stripes (h .state) number reading block) (drawnThen (drawOf (h .state .clock) reading) f) w e in
+    let k = read-block-passed n m size stripes (h .state) number block _ (startChecks (h .state) reading) refl (p .0) in
+    let same = record-same n m size stripes (h .state) number _ (k .checked) in
+    let d = drawn-went (drawOf (h .state .clock) reading) f w (p .1) in
+    subst (λ (v : Went). Good n m size stripes (v .next .state)) (d .3)
+    (begun-good n m size stripes readingBlockKind readKind number (d .0) block reading (h .state .geometry) (h .state .clock) (d .1) (k .range) (same .1) (λ q. absurd (omega arith)) (d .2)
+    (omega (arith, k .block-low, k .range .m-high)) (λ q. k .block-low) (same .0) (first-read-block m number (d .0) block .0) (first-read-block m number (d .0) block .1))
 
 -- and a good record is sound.
 pub good-sound : (n m size stripes : ℕ) (c : Coordinator) → Good n m size stripes c → soundRecord n m size stripes c ≡ true

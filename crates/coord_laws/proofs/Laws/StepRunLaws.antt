@@ -4,7 +4,7 @@ use mathlib.Core.List.{List, [], _∷_}
 use Prim.Native.Nat.{ℕ, _<_}
 use native.Mathlib.Omega.{arith}
 use lib.ListN.{length}
-use Rattle.coord_apply.specs.Acts.{roundMessage, counting, waitingOr, firstOp, starting}
+use Rattle.coord_apply.specs.Acts.{roundMessage, seenBlock, counting, waitingOr, firstOp, starting}
 use Rattle.coord_apply.specs.Answers.{Buffered, Went, went, beganSeen}
 use Rattle.coord_laws.proofs.Laws.SoundnessLaws.{passes, same-went, drawn-went}
 use Rattle.coord_laws.proofs.Laws.TallyLaws.{Answering, answering, ReplyParts, reply-parts}
@@ -47,7 +47,16 @@ pub record Begins (h : Buffered) (kind : ℕ) (w : Went) : Type 0 where
   pub time-is : w .next .state .op .time ≡ timeOf (w .next .state .clock .last) (h .state .clock .coordinator)
   pub kind-is : w .next .state .op .kind ≡ kind
   pub round-is : w .next .state .op .round ≡ firstRound
-  pub seen-is : w .seen ≡ record { what = beganSeen; kind = kind; stripe = w .next .state .op .stripe; time = w .next .state .op .time; bricks = noBricks }
+  pub seen-is :
+      w .seen
+      ≡ record {
+        what = beganSeen;
+        kind = kind;
+        stripe = w .next .state .op .stripe;
+        time = w .next .state .op .time;
+        block = seenBlock (w .next .state .op);
+        bricks = noBricks;
+      }
 
 begins : (h : Buffered) (reading kind phase number first t : ℕ) (next : Clock) (stripe targets : List ℕ) → drawOf (h .state .clock) reading ≡ Drawn t next
     → Begins h kind (starting h next (firstOp kind phase number t first) stripe targets)
@@ -68,12 +77,12 @@ write-begins n m size stripes h number reading bytes w e =
     )
 
 pub read-begins : (n m size stripes : ℕ) (h : Buffered) (number reading first : ℕ) (w : Went) → readStep n m size stripes h number reading first ≡ went w
-    → Begins h readingKind w × (w .sent ≡ record { message = roundMessage (w .next .state .op) (targetFlags n m first); blocks = [] } ∷ [])
+    → Begins h readingKind w × (w .sent ≡ record { message = roundMessage (w .next .state .op) 0 (targetFlags n m first); blocks = []; old = [] } ∷ [])
 unfolding readStep starting
 read-begins n m size stripes h number reading first w e =
     let f : ℕ → Clock → Went = λ time clock. starting h clock (firstOp readingKind readKind number time first) (h .stripe) (targetFlags n m first) in
     let p = passes (readRefusal n m size stripes (h .state) number reading first) (drawnThen (drawOf (h .state .clock) reading) f) w e in
     let d = drawn-went (drawOf (h .state .clock) reading) f w (p .1) in (
       subst (Begins h readingKind) (d .3) (begins h reading readingKind readKind number first (d .0) (d .1) (h .stripe) (targetFlags n m first) (d .2)),
-      subst (λ (v : Went). v .sent ≡ record { message = roundMessage (v .next .state .op) (targetFlags n m first); blocks = [] } ∷ []) (d .3) refl,
+      subst (λ (v : Went). v .sent ≡ record { message = roundMessage (v .next .state .op) 0 (targetFlags n m first); blocks = []; old = [] } ∷ []) (d .3) refl,
     )

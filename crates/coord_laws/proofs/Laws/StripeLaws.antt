@@ -8,23 +8,25 @@ use native.Mathlib.Omega.{arith}
 use lib.Dec.{eqb, ltb}
 use lib.ListN.{length}
 use borrow.Author.Tests.{eqb-true}
-use Rattle.coord_apply.specs.Acts.{finishedSeen, roundMessage, trimMessage, nextOp, opened, nextRound, ending, acted, withTally, counting, waitingOr, firstOp, starting}
+use Rattle.coord_apply.specs.Acts.{finishedSeen, roundMessage, trimMessage, nextOp, opened, nextRound, modifying, ending, acted, withTally, counting, waitingOr, firstOp, starting}
 use Rattle.coord_apply.specs.Answers.{Buffered, Broadcast, Went, went, nothingSeen, beganSeen, okSeen, readSeen, cutSeen}
 use Rattle.coord_decide.specs.Deciding.{decided}
 use Rattle.coord_decide.specs.declared.Decision.{Decision}
-use Rattle.coord_decide.specs.declared.Decision.the-variants.{Abort, Give, Look, Store, Recover, Finish}
+use Rattle.coord_decide.specs.declared.Decision.the-variants.{Abort, Give, Look, Store, Modify, Recover, Finish}
 use Rattle.coord_laws.proofs.Laws.OpCaseLaws.{phase-runs}
 use Rattle.coord_laws.proofs.Laws.SoundnessLaws.{passes, same-went, drawn-went}
 use Rattle.coord_laws.proofs.Laws.StepRunLaws.{took}
-use Rattle.coord_record.specs.Records.{noOp, noBricks, idleWith, idleKind, readingKind, writingKind}
+use Rattle.coord_record.specs.Records.{noOp, noBricks, idleWith, idleKind, readingKind, writingKind, readingBlockKind, writingBlockKind, isReading}
 use Rattle.coord_record.specs.declared.Coordinator.{Coordinator}
 use Rattle.coord_record.specs.declared.Op.{Op}
 use Rattle.coord_refusals.proofs.Laws.RefusedLaws.{record-passes, stripe-passes}
-use Rattle.coord_refusals.specs.Checks.{stripeChecks, writeChecks, readChecks, startChecks, writeRefusal, readRefusal, crashRefusal}
+use Rattle.coord_refusals.specs.Checks.{stripeChecks, writeChecks, readChecks, startChecks, writeRefusal, readRefusal, writeBlockRefusal, readBlockRefusal, crashRefusal}
 use Rattle.coord_tally.specs.Counting.{targetFlags}
-use Rattle.coordinator.specs.Routines.{drawnThen, writeStep, readStep, takeStep, crashed, crashStep}
+use Rattle.coordinator.specs.Routines.{drawnThen, writeStep, readStep, writeBlockStep, readBlockStep, takeStep, crashed, crashStep}
+use Rattle.coordinator.proofs.Laws.RoutineLaws.{write-block-passed, read-block-passed}
+use Rattle.erasure.specs.Code.{blockOf, withBlock}
 use Rattle.message.specs.Flags.{members}
-use Rattle.message.specs.Kinds.{readKind, orderKind}
+use Rattle.message.specs.Kinds.{readKind, orderKind, orderBlockKind, modifyKind, blockTargets}
 use Rattle.message.specs.declared.Reply.{Reply}
 use Rattle.settings.proofs.Laws.RefusalLaws.{passed-first, passed-rest, tested}
 use Rattle.settings.proofs.Laws.TimeLaws.{gave}
@@ -78,7 +80,26 @@ opens h phase max bricks stripe coded =
       same-clock = refl;
       same-geometry = refl;
       still = λ k. refl;
-      sends = one-sent (h .state .op .stripe) (record { message = roundMessage (nextOp (h .state .op) phase max) noBricks; blocks = coded }) refl;
+      sends = one-sent (h .state .op .stripe) (record { message = roundMessage (nextOp (h .state .op) phase max) 0 noBricks; blocks = coded; old = [] }) refl;
+      shows = inr refl;
+      no-start = λ e. omega (arith, e);
+    }
+
+modifies : (size : ℕ) (h : Buffered) (time : ℕ) → KeepsStripe h (modifying size h time)
+unfolding modifying opened nextOp roundMessage nothingSeen
+modifies size h time =
+    record {
+      same-clock = refl;
+      same-geometry = refl;
+      still = λ k. refl;
+      sends =
+          one-sent (h .state .op .stripe)
+          (record {
+            message = roundMessage (nextOp (h .state .op) modifyKind 0) time noBricks;
+            blocks = blockOf size (h .stripe) (h .state .op .first);
+            old = blockOf size (h .blocks) (h .state .op .first);
+          })
+          refl;
       shows = inr refl;
       no-start = λ e. omega (arith, e);
     }
@@ -86,7 +107,7 @@ opens h phase max bricks stripe coded =
 -- a finished operation is told as such
 finished-told : (op : Op) → finishedSeen op ≡ beganSeen → ⊥
 unfolding finishedSeen
-finished-told op = go (eqb (op .kind) readingKind)
+finished-told op = go (isReading (op .kind))
   where
     go : (b : Bool) → cond b readSeen okSeen ≡ beganSeen → ⊥
     go true e = omega (arith, e)
@@ -98,9 +119,10 @@ acted-keeps n m size h Abort = ends h _ _ [] _ (none-sent (h .state .op .stripe)
 acted-keeps n m size h Give = ends h _ _ [] _ (none-sent (h .state .op .stripe)) (λ e. omega (arith, e))
 acted-keeps n m size h (Look max) = opens h _ _ _ _ _
 acted-keeps n m size h Store = opens h _ _ _ _ _
+acted-keeps n m size h (Modify time) = modifies size h time
 acted-keeps n m size h (Recover time) = opens h _ _ _ _ _
 acted-keeps n m size h Finish =
-    ends h _ _ _ _ (one-sent (h .state .op .stripe) (record { message = trimMessage (h .state .op); blocks = [] }) refl) (finished-told (h .state .op))
+    ends h _ _ _ _ (one-sent (h .state .op .stripe) (record { message = trimMessage (h .state .op); blocks = []; old = [] }) refl) (finished-told (h .state .op))
 
 waiting-keeps : (n m size : ℕ) (h : Buffered) → KeepsStripe h (waitingOr n m size h)
 unfolding waitingOr
@@ -177,7 +199,7 @@ starts stripes number h reading kind phase first t next stripe targets c k e =
       stripe-low = c .0;
       stripe-is = refl;
       now-runs = k;
-      sends = one-sent number (record { message = roundMessage (firstOp kind phase number t first) targets; blocks = [] }) refl;
+      sends = one-sent number (record { message = roundMessage (firstOp kind phase number t first) 0 targets; blocks = []; old = [] }) refl;
       shows = refl;
       same-number = g .same;
       rises = omega (arith, g .count);
@@ -207,3 +229,29 @@ read-starts n m size stripes h number reading first w e =
     let d = drawn-went (drawOf (h .state .clock) reading) f w (p .1) in
     subst (StartsOn stripes number h) (d .3)
     (starts stripes number h reading readingKind readKind first (d .0) (d .1) (h .stripe) (targetFlags n m first) c (λ q. absurd (omega arith)) (d .2))
+
+-- A write of one block:
+pub write-block-starts : (n m size stripes : ℕ) (h : Buffered) (number reading block : ℕ) (bytes : List ℕ) (w : Went)
+    → writeBlockStep n m size stripes h number reading block bytes ≡ went w → StartsOn stripes number h w
+unfolding writeBlockStep writeBlockRefusal
+write-block-starts n m size stripes h number reading block bytes w e =
+    let f : ℕ → Clock → Went = λ time clock. starting h clock (firstOp writingBlockKind orderBlockKind number time block) (withBlock size (h .stripe) block bytes) noBricks in
+    let p = passes (writeBlockRefusal n m size stripes (h .state) number reading block (length bytes) (length (h .stripe))) (drawnThen (drawOf (h .state .clock) reading) f) w e in
+    let k = write-block-passed n m size stripes (h .state) number block (length bytes) (length (h .stripe)) _ (startChecks (h .state) reading) refl (p .0) in
+    let c = start-checked n m size stripes (h .state) number reading (k .checked) in
+    let d = drawn-went (drawOf (h .state .clock) reading) f w (p .1) in
+    subst (StartsOn stripes number h) (d .3)
+    (starts stripes number h reading writingBlockKind orderBlockKind block (d .0) (d .1) (withBlock size (h .stripe) block bytes) noBricks c (λ q. absurd (omega arith)) (d .2))
+
+-- A read of one block:
+pub read-block-starts : (n m size stripes : ℕ) (h : Buffered) (number reading block : ℕ) (w : Went) → readBlockStep n m size stripes h number reading block ≡ went w
+    → StartsOn stripes number h w
+unfolding readBlockStep readBlockRefusal
+read-block-starts n m size stripes h number reading block w e =
+    let f : ℕ → Clock → Went = λ time clock. starting h clock (firstOp readingBlockKind readKind number time block) (h .stripe) (targetFlags n blockTargets block) in
+    let p = passes (readBlockRefusal n m size stripes (h .state) number reading block) (drawnThen (drawOf (h .state .clock) reading) f) w e in
+    let k = read-block-passed n m size stripes (h .state) number block _ (startChecks (h .state) reading) refl (p .0) in
+    let c = start-checked n m size stripes (h .state) number reading (k .checked) in
+    let d = drawn-went (drawOf (h .state .clock) reading) f w (p .1) in
+    subst (StartsOn stripes number h) (d .3)
+    (starts stripes number h reading readingBlockKind readKind block (d .0) (d .1) (h .stripe) (targetFlags n blockTargets block) c (λ q. absurd (omega arith)) (d .2))

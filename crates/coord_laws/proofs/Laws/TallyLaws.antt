@@ -10,9 +10,9 @@ use lib.Dec.{eqb, leb, ltb}
 use lib.ListN.{getD, set, replicate, length-set}
 use lib.Seq.{getD-set-same, getD-set-other}
 use borrow.Author.Tests.{lt-ltb, eqb-true, leb-true, ltb-true, not-true}
-use Rattle.coord_laws.proofs.Laws.OpCaseLaws.{clash}
 use Rattle.byte_lists.proofs.Laws.EachLaws.{each-all, each-at}
 use Rattle.coord_record.specs.CountedRules.{isTarget, blockRight, countedRight, entryRight, tallyRight}
+use Rattle.coord_record.specs.Records.{targetCount}
 use Rattle.coord_record.specs.declared.Op.{Op}
 use Rattle.coord_record.specs.declared.Tally.{Tally}
 use Rattle.coord_tally.specs.Counting.{highest}
@@ -27,7 +27,7 @@ use Rattle.settings.specs.Refusal.{firstRefusal, refuseUnless, badNumber, badMe
 use Rattle.settings.specs.Times.{validTime}
 use Rattle.coord_laws.specs.Soundness.{Sized}
 use Rattle.settings.specs.Ranges.{maxBricks}
-use Rattle.message.specs.Kinds.{readKind, writeKind}
+use Rattle.message.specs.Kinds.{readKind, modifyKind}
 use Rattle.byte_lists.proofs.Laws.ZeroLaws.{zero-list, zeros-at as zero-entry}
 
 -- A counted reply is of the running operation, its stripe and round, from a brick not counted before, with a block by the round's rules.
@@ -37,7 +37,7 @@ pub record Answering (n m : ℕ) (op : Op) (t : Tally) (r : Reply) : Type 0 wher
   pub of-operation : r .time ≡ op .time
   pub of-round : r .round ≡ op .round
   pub not-counted : member (t .counted) (r .brick) ≡ false
-  pub block-right : blockRight (op .phase) (isTarget n m (op .first) (r .brick)) (r .yes) (r .held) (r .found) ≡ true
+  pub block-right : blockRight (op .phase) (isTarget n (targetCount m (op .kind)) (op .first) (r .brick)) (r .yes) (r .held) (r .found) ≡ true
 
 pub answering : (n m : ℕ) (op : Op) (t : Tally) (r : Reply) → answers n m op t r ≡ true → Answering n m op t r
 unfolding answers
@@ -47,7 +47,7 @@ answering n m op t r e =
     let o = eqb (r .time) (op .time) in
     let u = eqb (r .round) (op .round) in
     let c = not (member (t .counted) (r .brick)) in
-    let b = blockRight (op .phase) (isTarget n m (op .first) (r .brick)) (r .yes) (r .held) (r .found) in
+    let b = blockRight (op .phase) (isTarget n (targetCount m (op .kind)) (op .first) (r .brick)) (r .yes) (r .held) (r .found) in
     let five = and-left (k && s && o && u && c) b e in
     let four = and-left (k && s && o && u) c five in
     let three = and-left (k && s && o) u four in
@@ -65,7 +65,7 @@ answering n m op t r e =
 pub record ReplyParts (n : ℕ) (r : Reply) : Type 0 where
   pub brick-low : r .brick < n
   pub kind-low : readKind ≤ r .kind
-  pub kind-high : r .kind ≤ writeKind
+  pub kind-high : r .kind ≤ modifyKind
   pub time-valid : validTime (r .time) ≡ true
   pub found-right : foundRight (r .found) ≡ true
 
@@ -73,7 +73,7 @@ right-parts : (n : ℕ) (r : Reply) → r .brick < n → replyRight r ≡ true �
 unfolding replyRight
 right-parts n r h e =
     let l = leb readKind (r .kind) in
-    let k = leb (r .kind) writeKind in
+    let k = leb (r .kind) modifyKind in
     let v = validTime (r .time) in
     let u = roundRight (r .round) in
     let f = foundRight (r .found) in
@@ -83,7 +83,7 @@ right-parts n r h e =
     record {
       brick-low = h;
       kind-low = leb-true readKind (r .kind) (and-left l k two);
-      kind-high = leb-true (r .kind) writeKind (and-right l k two);
+      kind-high = leb-true (r .kind) modifyKind (and-right l k two);
       time-valid = and-right (l && k) v three;
       found-right = and-right (l && k && v && u) f e;
     }
@@ -122,7 +122,7 @@ flag-low true = refl
 flag-low false = refl
 
 kept-right : (n m : ℕ) (op : Op) (t : Tally) (r : Reply) → ReplyParts n r → Answering n m op t r
-    → entryRight n m (op .phase) (op .first) (r .brick) 1 (one-if (r .yes)) (one-if (r .held)) (r .found) ≡ true
+    → entryRight n (targetCount m (op .kind)) (op .phase) (op .first) (r .brick) 1 (one-if (r .yes)) (one-if (r .held)) (r .found) ≡ true
 unfolding entryRight countedRight
 kept-right n m op t r p a =
     rw (
@@ -136,23 +136,24 @@ kept-right n m op t r p a =
     ) (a .block-right)
 
 -- the tally with it is right
-pub tallied-right : (n m : ℕ) (op : Op) (t : Tally) (r : Reply) → n ≤ maxBricks → Sized t → tallyRight n m (op .phase) (op .first) t ≡ true → ReplyParts n r → Answering n m op t r
-    → tallyRight n m (op .phase) (op .first) (tallied t r) ≡ true
+pub tallied-right : (n m : ℕ) (op : Op) (t : Tally) (r : Reply) → n ≤ maxBricks → Sized t → tallyRight n (targetCount m (op .kind)) (op .phase) (op .first) t ≡ true
+    → ReplyParts n r → Answering n m op t r
+    → tallyRight n (targetCount m (op .kind)) (op .phase) (op .first) (tallied t r) ≡ true
 unfolding tallyRight tallied
 tallied-right n m op t r few s e p a =
     each-all
-    (λ (b : ℕ). entryRight n m (op .phase) (op .first) b (getD (set (t .counted) (r .brick) 1) b 0) (getD (set (t .granted) (r .brick) (one-if (r .yes))) b 0)
+    (λ (b : ℕ). entryRight n (targetCount m (op .kind)) (op .phase) (op .first) b (getD (set (t .counted) (r .brick) 1) b 0) (getD (set (t .granted) (r .brick) (one-if (r .yes))) b 0)
     (getD (set (t .held) (r .brick) (one-if (r .held))) b 0) (getD (set (t .found) (r .brick) (r .found)) b 0))
     maxBricks (λ b l. go b l (ℕ-discrete b (r .brick)))
   where
-    old : (b : ℕ) → b < maxBricks → entryRight n m (op .phase) (op .first) b (getD (t .counted) b 0) (getD (t .granted) b 0) (getD (t .held) b 0) (getD (t .found) b 0) ≡ true
+    old : (b : ℕ) → b < maxBricks → entryRight n (targetCount m (op .kind)) (op .phase) (op .first) b (getD (t .counted) b 0) (getD (t .granted) b 0) (getD (t .held) b 0) (getD (t .found) b 0) ≡ true
     old b l =
         each-at
-        (λ (b : ℕ). entryRight n m (op .phase) (op .first) b (getD (t .counted) b 0) (getD (t .granted) b 0) (getD (t .held) b 0) (getD (t .found) b 0))
+        (λ (b : ℕ). entryRight n (targetCount m (op .kind)) (op .phase) (op .first) b (getD (t .counted) b 0) (getD (t .granted) b 0) (getD (t .held) b 0) (getD (t .found) b 0))
         maxBricks b e l
 
     go : (b : ℕ) → b < maxBricks → Dec (b ≡ r .brick)
-        → entryRight n m (op .phase) (op .first) b (getD (set (t .counted) (r .brick) 1) b 0) (getD (set (t .granted) (r .brick) (one-if (r .yes))) b 0)
+        → entryRight n (targetCount m (op .kind)) (op .phase) (op .first) b (getD (set (t .counted) (r .brick) 1) b 0) (getD (set (t .granted) (r .brick) (one-if (r .yes))) b 0)
         (getD (set (t .held) (r .brick) (one-if (r .held))) b 0) (getD (set (t .found) (r .brick) (r .found)) b 0) ≡ true
     go b l (yes q) =
         let w : r .brick < maxBricks = omega arith in
@@ -189,20 +190,26 @@ highest-found flags found (suc n) = go (member flags n) refl (highest-found flag
     go false e (inl z) d = inl z
     go false e (inr w) d = inr (w .0, omega (arith, w .1), w .2, w .3)
 
--- a time found that is not 0 is a valid time
-held-found : (n m phase first b counted granted held found : ℕ) → entryRight n m phase first b counted granted held found ≡ true → held ≡ 1 → foundRight found ≡ true
-unfolding entryRight countedRight
-held-found n m phase first b counted granted held found e h = go (eqb counted 0) (rw h at e)
+-- what is kept of a brick found 0 or a valid time
+entry-found : (n m phase first b counted granted held found : ℕ) → entryRight n m phase first b counted granted held found ≡ true → foundRight found ≡ true
+unfolding entryRight countedRight foundRight
+entry-found n m phase first b counted granted held found e = go (eqb counted 0) e
   where
     go : (a : Bool)
-        → cond a (eqb granted 0 && false && eqb found 0)
-        (eqb counted 1 && (ltb 0 phase && ltb b n && leb granted 1 && true && foundRight found && blockRight phase (isTarget n m first b) (eqb granted 1) true found))
-        ≡ true → foundRight found ≡ true
-    go true q = clash (and-right (eqb granted 0) false (and-left (eqb granted 0 && false) (eqb found 0) q))
+        → cond a (eqb granted 0 && eqb held 0 && eqb found 0)
+        (eqb counted 1
+        && (ltb 0 phase && ltb b n && leb granted 1 && leb held 1 && (eqb found 0 || validTime found) && blockRight phase (isTarget n m first b) (eqb granted 1) (eqb held 1) found))
+        ≡ true → eqb found 0 || validTime found ≡ true
+    go true q = rw (and-right (eqb granted 0 && eqb held 0) (eqb found 0) q)
     go false q =
-        let k = blockRight phase (isTarget n m first b) (eqb granted 1) true found in
-        let c = and-right (eqb counted 1) (ltb 0 phase && ltb b n && leb granted 1 && true && foundRight found && k) q in
-        and-right (ltb 0 phase && ltb b n && leb granted 1 && true) (foundRight found) (and-left (ltb 0 phase && ltb b n && leb granted 1 && true && foundRight found) k c)
+        let k = blockRight phase (isTarget n m first b) (eqb granted 1) (eqb held 1) found in
+        let f = eqb found 0 || validTime found in
+        let c = and-right (eqb counted 1) (ltb 0 phase && ltb b n && leb granted 1 && leb held 1 && f && k) q in
+        and-right (ltb 0 phase && ltb b n && leb granted 1 && leb held 1) f (and-left (ltb 0 phase && ltb b n && leb granted 1 && leb held 1 && f) k c)
+
+zero-found : foundRight 0 ≡ true
+unfolding foundRight
+zero-found = refl
 
 found-valid : (t : ℕ) → foundRight t ≡ true → (t ≡ 0 → ⊥) → validTime t ≡ true
 unfolding foundRight
@@ -212,22 +219,22 @@ found-valid t e h = go (eqb t 0) refl e
     go true ea q = absurd (h (eqb-true t 0 ea))
     go false ea q = q
 
-pub highest-valid : (n m phase first : ℕ) (t : Tally) → n ≤ maxBricks → tallyRight n m phase first t ≡ true → (highest (t .held) (t .found) n ≡ 0 → ⊥)
-    → validTime (highest (t .held) (t .found) n) ≡ true
-unfolding tallyRight member
-highest-valid n m phase first t few e h = go (highest-found (t .held) (t .found) n)
+-- and so is the highest time of any set of bricks
+pub highest-right : (n m phase first : ℕ) (t : Tally) (flags : List ℕ) → n ≤ maxBricks → tallyRight n m phase first t ≡ true → foundRight (highest flags (t .found) n) ≡ true
+unfolding tallyRight
+highest-right n m phase first t flags few e = go (highest-found flags (t .found) n)
   where
-    go : (highest (t .held) (t .found) n ≡ 0)
-        ⊎ ((b : ℕ) × (b < n) × (member (t .held) b ≡ true) × (highest (t .held) (t .found) n ≡ getD (t .found) b 0))
-        → validTime (highest (t .held) (t .found) n) ≡ true
-    go (inl z) = absurd (h z)
+    go : (highest flags (t .found) n ≡ 0) ⊎ ((b : ℕ) × (b < n) × (member flags b ≡ true) × (highest flags (t .found) n ≡ getD (t .found) b 0))
+        → foundRight (highest flags (t .found) n) ≡ true
+    go (inl z) = ap foundRight z ∙ zero-found
     go (inr w) =
         let b = w .0 in
         let right = each-at
         (λ (b : ℕ). entryRight n m phase first b (getD (t .counted) b 0) (getD (t .granted) b 0) (getD (t .held) b 0) (getD (t .found) b 0))
         maxBricks b e (omega (arith, w .1))
         in
-        found-valid (highest (t .held) (t .found) n)
-        (ap foundRight (w .3)
-        ∙ held-found n m phase first b (getD (t .counted) b 0) (getD (t .granted) b 0) (getD (t .held) b 0) (getD (t .found) b 0) right
-        (eqb-true (getD (t .held) b 0) 1 (w .2))) h
+        ap foundRight (w .3) ∙ entry-found n m phase first b (getD (t .counted) b 0) (getD (t .granted) b 0) (getD (t .held) b 0) (getD (t .found) b 0) right
+
+pub highest-valid : (n m phase first : ℕ) (t : Tally) → n ≤ maxBricks → tallyRight n m phase first t ≡ true → (highest (t .held) (t .found) n ≡ 0 → ⊥)
+    → validTime (highest (t .held) (t .found) n) ≡ true
+highest-valid n m phase first t few e h = found-valid (highest (t .held) (t .found) n) (highest-right n m phase first t (t .held) few e) h

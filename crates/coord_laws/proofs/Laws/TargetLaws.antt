@@ -1,16 +1,21 @@
--- The targets of a read are m different bricks: the Read message that a start sends passes refusal 10's rule.
-use mathlib.Core.Path.{_≡_, refl, ap, _∙_}
-use mathlib.Core.Bool.{Bool, true, false, cond, _&&_}
+-- The targets of a read are m different bricks, or one data brick: the Read message that a start sends passes refusal 10's rule.
+use mathlib.Core.Path.{_≡_, refl, sym, ap, _∙_}
+use mathlib.Core.List.{List}
+use mathlib.Core.Bool.{Bool, true, false, cond, _&&_, _||_, and-false}
 use Prim.Native.Nat.{ℕ, zero, suc, _+_, _-_, _≤_, _<_, min}
 use native.Mathlib.Nat.{add-suc, add-zero, le-refl}
 use native.Mathlib.Omega.{arith}
 use lib.Dec.{eqb, leb, ltb}
 use lib.ListN.{getD}
-use borrow.Author.Tests.{eq-eqb, le-leb, lt-leb, lt-ltb, ltb-true, ltb-false}
+use borrow.Author.Tests.{eq-eqb, ne-eqb, le-leb, lt-leb, lt-ltb, le-ltb, leb-true, leb-false, ltb-true, ltb-false, eqb-true}
+use native.Mathlib.Decide.{ℕ-discrete}
+use Rattle.byte_lists.specs.Lists.{tabulate}
 use Rattle.coord_record.specs.CountedRules.{stepsAbove, isTarget}
 use Rattle.coord_tally.specs.Counting.{targetFlag, targetFlags}
-use Rattle.byte_lists.proofs.Laws.TabulateLaws.{getD-tabulate}
+use Rattle.byte_lists.proofs.Laws.TabulateLaws.{getD-tabulate, tabulate-ext}
 use Rattle.message.specs.Flags.{member, members, flagsWithin, brickSet}
+use Rattle.message.specs.Kinds.{blockTargets}
+use Rattle.message.specs.Messages.{targetsRight}
 use Rattle.settings.specs.Count.{count, one-if}
 use Rattle.settings.specs.Ranges.{maxBricks}
 
@@ -84,3 +89,40 @@ module _ (n m first : ℕ) (few : n ≤ maxBricks) (within : m ≤ n) (start : f
   targets-set =
       rw (flags-within maxBricks (le-refl _))
       (eq-eqb (count (member (targetFlags n m first)) n) m (count-ext (member (targetFlags n m first)) (isTarget n m first) n target-member ∙ all-targets))
+
+  pub targets-right : targetsRight n m (targetFlags n m first) ≡ true
+  unfolding targetsRight
+  targets-right = rw targets-set
+
+-- the only target of a read of one block is that block's brick
+pub one-target : (n j b : ℕ) → j < n → isTarget n blockTargets j b ≡ eqb b j
+unfolding isTarget stepsAbove
+one-target n j b h = go (leb j b) refl (ℕ-discrete b j)
+  where
+    go : (x : Bool) → leb j b ≡ x → Dec (b ≡ j) → ltb (cond x (b - j) (n - j + b)) blockTargets ≡ eqb b j
+    go true ex (yes e) = lt-ltb (b - j) blockTargets (omega arith) ∙ sym (eq-eqb b j e)
+    go true ex (no e) = let l = leb-true j b ex in le-ltb (b - j) blockTargets (omega arith) ∙ sym (ne-eqb b j e)
+    go false ex (yes e) = let l = leb-false j b ex in absurd (omega arith)
+    go false ex (no e) = let l = leb-false j b ex in le-ltb (n - j + b) blockTargets (omega arith) ∙ sym (ne-eqb b j e)
+
+one-flag : (n j b : ℕ) → j < n → targetFlag n blockTargets j b ≡ one-if (eqb b j)
+unfolding targetFlag
+one-flag n j b h = ap (λ (x : Bool). one-if (ltb b n && x)) (one-target n j b h) ∙ go (eqb b j) refl
+  where
+    go : (x : Bool) → eqb b j ≡ x → one-if (ltb b n && x) ≡ one-if x
+    go true e = let q = eqb-true b j e in rw (lt-ltb b n (omega arith))
+    go false e = ap one-if (and-false (ltb b n))
+
+-- "Refusal 10 allows a block read's single target", a data brick.
+pub block-target-right : (n m j : ℕ) → n ≤ maxBricks → m ≤ n → j < m → targetsRight n m (targetFlags n blockTargets j) ≡ true
+unfolding targetsRight targetFlags
+block-target-right n m j few within low =
+    or-true (brickSet (tabulate maxBricks (targetFlag n blockTargets j)) n m)
+    (ap (λ (l : List ℕ). brickSet l m blockTargets) same ∙ targets-set m blockTargets j (omega arith) (omega arith) low)
+  where
+    same : tabulate maxBricks (targetFlag n blockTargets j) ≡ tabulate maxBricks (targetFlag m blockTargets j)
+    same = tabulate-ext maxBricks (targetFlag n blockTargets j) (targetFlag m blockTargets j) (λ b l. one-flag n j b (omega arith) ∙ sym (one-flag m j b low))
+
+    or-true : (a : Bool) → {b : Bool} → b ≡ true → a || b ≡ true
+    or-true true e = refl
+    or-true false e = e

@@ -5,14 +5,14 @@ use Prim.Native.Nat.{ℕ, _+_, _*_, _≤_, _<_}
 use lib.Dec.{eqb, ltb}
 use borrow.Author.Tests.{lt-ltb, le-ltb, le-leb, lt-leb, eq-eqb, ne-eqb}
 use Rattle.coord_record.specs.CountedRules.{tallyRight, bricksRight}
-use Rattle.coord_record.specs.Sound.{opRight, timeRight, namedCount, filledRight, rulesKept, sameGeometry, soundRecord}
+use Rattle.coord_record.specs.Sound.{opRight, blockLow, timeRight, namedCount, filledRight, rulesKept, sameGeometry, soundRecord}
 use Rattle.coord_record.specs.declared.Coordinator.{Coordinator}
 use Rattle.coord_record.specs.declared.Geometry.{Geometry}
 use Rattle.message.specs.Flags.{members}
 use Rattle.settings.specs.Ranges.{quorum}
 use Rattle.settings.specs.Times.{maxCount, timeOf, coordinatorCount, lastCoordinator}
 use Rattle.settings.specs.declared.Clock.{Clock}
-use Rattle.coord_record.specs.Records.{idleKind}
+use Rattle.coord_record.specs.Records.{idleKind, targetCount}
 
 pub time-idle : (kind time : ℕ) (clock : Clock) → kind ≡ idleKind → eqb time 0 ≡ timeRight kind time clock
 unfolding timeRight
@@ -73,37 +73,47 @@ module _ (n m stripes : ℕ) (c : Coordinator) where
   unsound-stripe a b d g =
       rw (le-leb (c .clock .coordinator) lastCoordinator a, le-leb (c .clock .last) maxCount b, lt-ltb (c .op .first) n d, le-ltb (c .op .stripe) stripes g)
 
-  pub sound-rest : c .clock .coordinator ≤ lastCoordinator → c .clock .last ≤ maxCount → c .op .first < n → c .op .stripe < stripes
-      → rulesKept n m stripes c ≡ opRight (c .op) && timeRight (c .op .kind) (c .op .time) (c .clock) && filledRight n m c
+  ranges-kept : c .clock .coordinator ≤ lastCoordinator → c .clock .last ≤ maxCount → c .op .first < n → c .op .stripe < stripes
+      → rulesKept n m stripes c ≡ blockLow m (c .op) && opRight (c .op) && timeRight (c .op .kind) (c .op .time) (c .clock) && filledRight n m c
   unfolding rulesKept
-  sound-rest a b d g =
+  ranges-kept a b d g =
       rw (le-leb (c .clock .coordinator) lastCoordinator a, le-leb (c .clock .last) maxCount b, lt-ltb (c .op .first) n d, lt-ltb (c .op .stripe) stripes g)
 
-  pub unsound-op : (o : Bool) → c .clock .coordinator ≤ lastCoordinator → c .clock .last ≤ maxCount → c .op .first < n → c .op .stripe < stripes → o ≡ opRight (c .op) → o ≡ false
-      → false ≡ rulesKept n m stripes c
-  unsound-op o a b d g eo zo = sym (sound-rest a b d g ∙ rw (← eo, zo))
+  pub unsound-block : (k : Bool) → c .clock .coordinator ≤ lastCoordinator → c .clock .last ≤ maxCount → c .op .first < n → c .op .stripe < stripes
+      → k ≡ blockLow m (c .op) → k ≡ false → false ≡ rulesKept n m stripes c
+  unsound-block k a b d g ek zk = sym (ranges-kept a b d g ∙ rw (← ek, zk))
 
-  pub unsound-time : (o t : Bool) → c .clock .coordinator ≤ lastCoordinator → c .clock .last ≤ maxCount → c .op .first < n → c .op .stripe < stripes → o ≡ opRight (c .op) → o ≡ true
-      → t ≡ timeRight (c .op .kind) (c .op .time) (c .clock) → t ≡ false → false ≡ rulesKept n m stripes c
-  unsound-time o t a b d g eo zo et zt = sym (sound-rest a b d g ∙ rw (← eo, zo, ← et, zt))
+  module _ (k : Bool) (a : c .clock .coordinator ≤ lastCoordinator) (b : c .clock .last ≤ maxCount) (d : c .op .first < n) (g : c .op .stripe < stripes)
+      (ek : k ≡ blockLow m (c .op)) (zk : k ≡ true) where
+    sound-rest : rulesKept n m stripes c ≡ opRight (c .op) && timeRight (c .op .kind) (c .op .time) (c .clock) && filledRight n m c
+    sound-rest = ranges-kept a b d g ∙ rw (← ek, zk)
 
-  pub sound-filled : (o t f : Bool) → c .clock .coordinator ≤ lastCoordinator → c .clock .last ≤ maxCount → c .op .first < n → c .op .stripe < stripes → o ≡ opRight (c .op) → o ≡ true
-      → t ≡ timeRight (c .op .kind) (c .op .time) (c .clock) → t ≡ true → f ≡ filledRight n m c → f ≡ rulesKept n m stripes c
-  sound-filled o t f a b d g eo zo et zt ef = ef ∙ sym (sound-rest a b d g ∙ rw (← eo, zo, ← et, zt))
+    pub unsound-op : (o : Bool) → o ≡ opRight (c .op) → o ≡ false → false ≡ rulesKept n m stripes c
+    unsound-op o eo zo = sym (sound-rest ∙ rw (← eo, zo))
+
+    pub unsound-time : (o t : Bool) → o ≡ opRight (c .op) → o ≡ true → t ≡ timeRight (c .op .kind) (c .op .time) (c .clock) → t ≡ false → false ≡ rulesKept n m stripes c
+    unsound-time o t eo zo et zt = sym (sound-rest ∙ rw (← eo, zo, ← et, zt))
+
+    pub sound-filled : (o t f : Bool) → o ≡ opRight (c .op) → o ≡ true → t ≡ timeRight (c .op .kind) (c .op .time) (c .clock) → t ≡ true → f ≡ filledRight n m c → f ≡ rulesKept n m stripes c
+    sound-filled o t f eo zo et zt ef = ef ∙ sym (sound-rest ∙ rw (← eo, zo, ← et, zt))
 
 module _ (n m : ℕ) (c : Coordinator) where
   pub filled-bricks : (r : Bool) (k : ℕ) → k ≡ namedCount m (c .op) → r ≡ bricksRight n k (c .bricks) → r ≡ false → false ≡ filledRight n m c
   unfolding filledRight
   filled-bricks r k ek er zr = let e = er ∙ ap (λ (j : ℕ). bricksRight n j (c .bricks)) ek in rw (← e, zr)
 
-  pub filled-tally : (r w : Bool) (k : ℕ) → k ≡ namedCount m (c .op) → r ≡ bricksRight n k (c .bricks) → r ≡ true
-      → w ≡ tallyRight n m (c .op .phase) (c .op .first) (c .tally) → w ≡ false → false ≡ filledRight n m c
-  unfolding filledRight
-  filled-tally r w k ek er zr ew zw = let e = er ∙ ap (λ (j : ℕ). bricksRight n j (c .bricks)) ek in rw (← e, zr, ← ew, zw)
+  module _ (r w : Bool) (k targets : ℕ) (ek : k ≡ namedCount m (c .op)) (er : r ≡ bricksRight n k (c .bricks)) (zr : r ≡ true)
+      (et : targets ≡ targetCount m (c .op .kind)) (ew : w ≡ tallyRight n targets (c .op .phase) (c .op .first) (c .tally)) where
+    named : r ≡ bricksRight n (namedCount m (c .op)) (c .bricks)
+    named = er ∙ ap (λ (j : ℕ). bricksRight n j (c .bricks)) ek
 
-  pub filled-open : (r w : Bool) (k s q : ℕ) → k ≡ namedCount m (c .op) → r ≡ bricksRight n k (c .bricks) → r ≡ true
-      → w ≡ tallyRight n m (c .op .phase) (c .op .first) (c .tally) → w ≡ true
-      → s ≡ members (c .tally .counted) n → q ≡ quorum n m → ltb s q ≡ filledRight n m c
-  unfolding filledRight
-  filled-open r w k s q ek er zr ew zw es eq =
-      let e = er ∙ ap (λ (j : ℕ). bricksRight n j (c .bricks)) ek in rw (← e, zr, ← ew, zw, es, eq)
+    asked : w ≡ tallyRight n (targetCount m (c .op .kind)) (c .op .phase) (c .op .first) (c .tally)
+    asked = ew ∙ ap (λ (j : ℕ). tallyRight n j (c .op .phase) (c .op .first) (c .tally)) et
+
+    pub filled-tally : w ≡ false → false ≡ filledRight n m c
+    unfolding filledRight
+    filled-tally zw = rw (← named, zr, ← asked, zw)
+
+    pub filled-open : (s q : ℕ) → w ≡ true → s ≡ members (c .tally .counted) n → q ≡ quorum n m → ltb s q ≡ filledRight n m c
+    unfolding filledRight
+    filled-open s q zw es eq = rw (← named, zr, ← asked, zw, es, eq)

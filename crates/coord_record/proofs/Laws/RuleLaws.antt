@@ -12,7 +12,7 @@ use Rattle.coord_record.specs.CountedRules.{stepsAbove, isTarget, blockR
 use Rattle.coord_record.specs.declared.Tally.{Tally}
 use Rattle.message.specs.Messages.{foundRight}
 use Rattle.settings.specs.Ranges.{maxBricks}
-use Rattle.message.specs.Kinds.{readKind, orderReadKind}
+use Rattle.message.specs.Kinds.{readKind, orderReadKind, orderBlockKind}
 
 pub target-up : (n m first b : ℕ) → first ≤ b → ltb (b - first) m ≡ isTarget n m first b
 unfolding isTarget stepsAbove
@@ -37,20 +37,41 @@ pub block-no : (phase found : ℕ) (target granted held : Bool) → phase ≡ re
 unfolding blockRight
 block-no phase found target granted held p g = rw (eq-eqb phase readKind p, g)
 
+-- the first round of a block write
+pub block-asked : (phase found : ℕ) (target granted held : Bool) → phase ≡ orderBlockKind → granted ≡ true → target ≡ true
+    → held ≡ blockRight phase target granted held found
+unfolding blockRight
+block-asked phase found target granted held p g t = rw (p, g, t)
+
+pub block-not-asked : (phase found : ℕ) (target granted held : Bool) → phase ≡ orderBlockKind → granted ≡ true → target ≡ false
+    → not held ≡ blockRight phase target granted held found
+unfolding blockRight
+block-not-asked phase found target granted held p g t = rw (p, g, t)
+
+pub block-refused : (phase found : ℕ) (target granted held : Bool) → phase ≡ orderBlockKind → granted ≡ false → held ≡ true
+    → false ≡ blockRight phase target granted held found
+unfolding blockRight
+block-refused phase found target granted held p g h = rw (p, g, h)
+
+pub block-refused-none : (phase found : ℕ) (target granted held : Bool) → phase ≡ orderBlockKind → granted ≡ false → held ≡ false
+    → eqb found 0 ≡ blockRight phase target granted held found
+unfolding blockRight
+block-refused-none phase found target granted held p g h = rw (p, g, h)
+
 pub block-held : (phase found : ℕ) (target granted held : Bool) → (phase ≡ readKind → ⊥) → held ≡ true → phase ≡ orderReadKind
     → granted ≡ blockRight phase target granted held found
 unfolding blockRight
 block-held phase found target granted held p h q = rw (ne-eqb phase readKind p, eq-eqb phase orderReadKind q, h)
 
-pub block-present : (phase found : ℕ) (target granted held : Bool) → (phase ≡ readKind → ⊥) → held ≡ true → (phase ≡ orderReadKind → ⊥)
+pub block-present : (phase found : ℕ) (target granted held : Bool) → (phase ≡ readKind → ⊥) → (phase ≡ orderBlockKind → ⊥) → held ≡ true → (phase ≡ orderReadKind → ⊥)
     → false ≡ blockRight phase target granted held found
 unfolding blockRight
-block-present phase found target granted held p h q = rw (ne-eqb phase readKind p, ne-eqb phase orderReadKind q, h)
+block-present phase found target granted held p o h q = rw (ne-eqb phase readKind p, ne-eqb phase orderReadKind q, ne-eqb phase orderBlockKind o, h)
 
-pub block-none : (phase found : ℕ) (target granted held : Bool) → (phase ≡ readKind → ⊥) → held ≡ false
+pub block-none : (phase found : ℕ) (target granted held : Bool) → (phase ≡ readKind → ⊥) → (phase ≡ orderBlockKind → ⊥) → held ≡ false
     → eqb found 0 ≡ blockRight phase target granted held found
 unfolding blockRight
-block-none phase found target granted held p h = rw (ne-eqb phase readKind p, h) (go (eqb phase orderReadKind) (eqb found 0))
+block-none phase found target granted held p o h = rw (ne-eqb phase readKind p, ne-eqb phase orderBlockKind o, h) (go (eqb phase orderReadKind) (eqb found 0))
   where
     go : (a b : Bool) → b ≡ cond a b (true && b)
     go true b = refl

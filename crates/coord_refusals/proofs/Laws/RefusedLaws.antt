@@ -6,18 +6,18 @@ use Prim.Native.Nat.{ℕ, zero, suc, _*_, _≤_, _<_}
 use native.Mathlib.Nat.{mul-le-mul-right}
 use native.Mathlib.Omega.{arith}
 use lib.Dec.{eqb, leb}
-use borrow.Author.Tests.{eq-eqb, ne-eqb, le-leb, lt-leb, lt-ltb, le-ltb, leb-true}
+use borrow.Author.Tests.{eq-eqb, ne-eqb, le-leb, lt-leb, lt-ltb, le-ltb, leb-true, ltb-true}
 use Rattle.coord_record.specs.Sound.{soundRecord}
 use Rattle.coord_record.proofs.Laws.SoundPartLaws.{sound-parts}
 use Rattle.coord_record.specs.declared.Coordinator.{Coordinator}
 use Rattle.coord_decide.specs.Deciding.{answers}
-use Rattle.coord_refusals.specs.Checks.{recordChecks, stripeChecks, writeChecks, readChecks, startChecks, writeRefusal, readRefusal, lengthsRight, strayChecks, takeRefusal}
-use Rattle.coord_refusals.specs.Checks.{crashRefusal}
+use Rattle.coord_refusals.specs.Checks.{recordChecks, stripeChecks, writeChecks, readChecks, blockChecks, readBlockChecks, writeBlockChecks, startChecks}
+use Rattle.coord_refusals.specs.Checks.{lengthsRight, strayChecks, takeRefusal, crashRefusal}
 use Rattle.message.specs.Messages.{replyRefusal}
 use Rattle.message.specs.declared.Reply.{Reply}
 use Rattle.settings.specs.Ranges.{CodeRange, maxBricks}
 use Rattle.settings.proofs.Laws.RangeLaws.{code-passed, stripe-passed}
-use Rattle.settings.specs.Ranges.{codeRefusal, stripeCountRefusal, stripeRefusal}
+use Rattle.settings.specs.Ranges.{codeRefusal, stripeCountRefusal, stripeRefusal, dataBlockRefusal}
 use Rattle.settings.specs.Refusal.{firstRefusal, refuseUnless, badLength, badNumber, badRecord, busy, strayReply}
 use Rattle.settings.specs.Times.{drawRefusal, lastCoordinator}
 use Rattle.settings.proofs.Laws.RefusalLaws.{first-stop, first-pass, passed-first, passed-rest, tested}
@@ -133,19 +133,25 @@ module _ (n m size stripes : ℕ) (c : Coordinator) (number k : ℕ) (e : k ≡ 
   unfolding stripeChecks
   stripe-pass more z = joined-pass (stripeChecks n m size stripes c number []) more k e z
 
--- what a start asks after its draw
-module _ (c : Coordinator) (reading : ℕ) where
-  start-late : (l : ℕ) → l ≡ drawRefusal (c .clock) reading → (l ≡ 0 → ⊥) → l ≡ firstRefusal (startChecks c reading)
+-- any start: l are its checks before its draw, and then it asks for a reading in range, a count left, no operation
+module _ (l : List ℕ) (c : Coordinator) (reading bad : ℕ) (e : bad ≡ firstRefusal l) where
+  pub start-stops : (bad ≡ 0 → ⊥) → bad ≡ firstRefusal (l ++ startChecks c reading)
+  start-stops h = joined-stop l (startChecks c reading) bad e h
+
+  start-goes : bad ≡ 0 → firstRefusal (l ++ startChecks c reading) ≡ firstRefusal (startChecks c reading)
+  start-goes z = joined-pass l (startChecks c reading) bad e z
+
+  pub start-late : (k : ℕ) → bad ≡ 0 → k ≡ drawRefusal (c .clock) reading → (k ≡ 0 → ⊥) → k ≡ firstRefusal (l ++ startChecks c reading)
   unfolding startChecks
-  start-late l el h = rw (← el) (first-stop l _ h)
+  start-late k z ek h = rw (start-goes z, ← ek) (first-stop k _ h)
 
-  start-busy : drawRefusal (c .clock) reading ≡ 0 → (c .op .kind ≡ idleKind → ⊥) → busy ≡ firstRefusal (startChecks c reading)
+  pub start-busy : bad ≡ 0 → drawRefusal (c .clock) reading ≡ 0 → (c .op .kind ≡ idleKind → ⊥) → busy ≡ firstRefusal (l ++ startChecks c reading)
   unfolding startChecks firstRefusal
-  start-busy z h = rw (z, ne-eqb (c .op .kind) idleKind h)
+  start-busy z k h = sym (start-goes z ∙ rw (k, ne-eqb (c .op .kind) idleKind h))
 
-  start-passes : drawRefusal (c .clock) reading ≡ 0 → c .op .kind ≡ idleKind → 0 ≡ firstRefusal (startChecks c reading)
+  pub start-passes : bad ≡ 0 → drawRefusal (c .clock) reading ≡ 0 → c .op .kind ≡ idleKind → 0 ≡ firstRefusal (l ++ startChecks c reading)
   unfolding startChecks firstRefusal
-  start-passes z h = rw (z, eq-eqb (c .op .kind) idleKind h)
+  start-passes z k h = sym (start-goes z ∙ rw (k, eq-eqb (c .op .kind) idleKind h))
 
 -- a write before its draw
 module _ (n m size stripes : ℕ) (c : Coordinator) (number bytes stripe bad : ℕ) (e : bad ≡ firstRefusal (codeRefusal n m size ∷ stripeCountRefusal stripes ∷ [])) where
@@ -166,26 +172,6 @@ module _ (n m size stripes : ℕ) (c : Coordinator) (number bytes stripe bad : �
   unfolding writeChecks firstRefusal
   write-rest v z b s ev = rw (code-zero n m size stripes bad e z, count-zero n m size stripes bad e z, eq-eqb bytes (m * size) b, eq-eqb stripe (m * size) s) ev
 
--- the whole of a write's checks, from those before its draw
-module _ (n m size stripes : ℕ) (c : Coordinator) (number reading bytes stripe bad : ℕ)
-    (e : bad ≡ firstRefusal (writeChecks n m size stripes c number bytes stripe [])) where
-  pub write-stops : (bad ≡ 0 → ⊥) → bad ≡ writeRefusal n m size stripes c number reading bytes stripe
-  unfolding writeRefusal writeChecks stripeChecks
-  write-stops h = joined-stop (writeChecks n m size stripes c number bytes stripe []) (startChecks c reading) bad e h
-
-  write-goes : bad ≡ 0 → writeRefusal n m size stripes c number reading bytes stripe ≡ firstRefusal (startChecks c reading)
-  unfolding writeRefusal writeChecks stripeChecks
-  write-goes z = joined-pass (writeChecks n m size stripes c number bytes stripe []) (startChecks c reading) bad e z
-
-  pub write-late : (l : ℕ) → bad ≡ 0 → l ≡ drawRefusal (c .clock) reading → (l ≡ 0 → ⊥) → l ≡ writeRefusal n m size stripes c number reading bytes stripe
-  write-late l z el h = start-late c reading l el h ∙ sym (write-goes z)
-
-  pub write-busy : bad ≡ 0 → drawRefusal (c .clock) reading ≡ 0 → (c .op .kind ≡ idleKind → ⊥) → busy ≡ writeRefusal n m size stripes c number reading bytes stripe
-  write-busy z l h = start-busy c reading l h ∙ sym (write-goes z)
-
-  pub write-passes : bad ≡ 0 → drawRefusal (c .clock) reading ≡ 0 → c .op .kind ≡ idleKind → 0 ≡ writeRefusal n m size stripes c number reading bytes stripe
-  write-passes z l h = start-passes c reading l h ∙ sym (write-goes z)
-
 -- a read before its draw
 module _ (n m size stripes : ℕ) (c : Coordinator) (number first bad : ℕ) (e : bad ≡ firstRefusal (codeRefusal n m size ∷ stripeCountRefusal stripes ∷ [])) where
   pub read-settings : (bad ≡ 0 → ⊥) → bad ≡ firstRefusal (readChecks n m size stripes c number first [])
@@ -201,24 +187,83 @@ module _ (n m size stripes : ℕ) (c : Coordinator) (number first bad : ℕ) (e 
   unfolding readChecks firstRefusal
   read-rest v z h ev = rw (code-zero n m size stripes bad e z, count-zero n m size stripes bad e z, lt-ltb first n h) ev
 
--- the whole of a read's checks, from those before its draw
-module _ (n m size stripes : ℕ) (c : Coordinator) (number reading first bad : ℕ) (e : bad ≡ firstRefusal (readChecks n m size stripes c number first [])) where
-  pub read-stops : (bad ≡ 0 → ⊥) → bad ≡ readRefusal n m size stripes c number reading first
-  unfolding readRefusal readChecks stripeChecks
-  read-stops h = joined-stop (readChecks n m size stripes c number first []) (startChecks c reading) bad e h
+-- an operation on one block: the stripe's number, then the block's
+module _ (n m size stripes : ℕ) (c : Coordinator) (number block : ℕ) where
+  pub block-number : lastCoordinator < c .clock .coordinator → badNumber ≡ firstRefusal (blockChecks n m size stripes c number block [])
+  unfolding blockChecks firstRefusal
+  block-number h = rw (lt-leb (c .clock .coordinator) lastCoordinator h)
 
-  read-goes : bad ≡ 0 → readRefusal n m size stripes c number reading first ≡ firstRefusal (startChecks c reading)
-  unfolding readRefusal readChecks stripeChecks
-  read-goes z = joined-pass (readChecks n m size stripes c number first []) (startChecks c reading) bad e z
+  module _ (k : ℕ) (low : c .clock .coordinator ≤ lastCoordinator) (e : k ≡ stripeRefusal stripes number) where
+    pub block-stripe : (k ≡ 0 → ⊥) → k ≡ firstRefusal (blockChecks n m size stripes c number block [])
+    unfolding blockChecks firstRefusal
+    block-stripe h =
+        rw (le-leb (c .clock .coordinator) lastCoordinator low, ← e)
+        (first-stop k (dataBlockRefusal m block ∷ refuseUnless (soundRecord n m size stripes c) badRecord ∷ []) h)
 
-  pub read-late : (l : ℕ) → bad ≡ 0 → l ≡ drawRefusal (c .clock) reading → (l ≡ 0 → ⊥) → l ≡ readRefusal n m size stripes c number reading first
-  read-late l z el h = start-late c reading l el h ∙ sym (read-goes z)
+    module _ (d : ℕ) (z : k ≡ 0) (ed : d ≡ dataBlockRefusal m block) where
+      pub block-past : (d ≡ 0 → ⊥) → d ≡ firstRefusal (blockChecks n m size stripes c number block [])
+      unfolding blockChecks firstRefusal
+      block-past h =
+          rw (le-leb (c .clock .coordinator) lastCoordinator low, ← e, z, ← ed) (first-stop d (refuseUnless (soundRecord n m size stripes c) badRecord ∷ []) h)
 
-  pub read-busy : bad ≡ 0 → drawRefusal (c .clock) reading ≡ 0 → (c .op .kind ≡ idleKind → ⊥) → busy ≡ readRefusal n m size stripes c number reading first
-  read-busy z l h = start-busy c reading l h ∙ sym (read-goes z)
+      pub block-broken : (s : Bool) → d ≡ 0 → s ≡ soundRecord n m size stripes c → s ≡ false → badRecord ≡ firstRefusal (blockChecks n m size stripes c number block [])
+      unfolding blockChecks firstRefusal
+      block-broken s zd es zs = rw (le-leb (c .clock .coordinator) lastCoordinator low, ← e, z, ← ed, zd, ← es, zs)
 
-  pub read-passes : bad ≡ 0 → drawRefusal (c .clock) reading ≡ 0 → c .op .kind ≡ idleKind → 0 ≡ readRefusal n m size stripes c number reading first
-  read-passes z l h = start-passes c reading l h ∙ sym (read-goes z)
+      pub block-zero : (s : Bool) → d ≡ 0 → s ≡ soundRecord n m size stripes c → s ≡ true → 0 ≡ firstRefusal (blockChecks n m size stripes c number block [])
+      unfolding blockChecks firstRefusal
+      block-zero s zd es zs = rw (le-leb (c .clock .coordinator) lastCoordinator low, ← e, z, ← ed, zd, ← es, zs)
+
+-- a data block that passes is below m
+data-block-passed : (m block : ℕ) → dataBlockRefusal m block ≡ 0 → block < m
+unfolding dataBlockRefusal
+data-block-passed m block e = ltb-true block m (tested _ _ e)
+
+-- a block that passes is below m, and the stripe's checks pass without it
+pub block-passes : (n m size stripes : ℕ) (c : Coordinator) (number block : ℕ) (more : List ℕ) → firstRefusal (blockChecks n m size stripes c number block more) ≡ 0
+    → (block < m) × (firstRefusal (stripeChecks n m size stripes c number more) ≡ 0)
+unfolding blockChecks stripeChecks
+block-passes n m size stripes c number block more e =
+    let a = passed-first (refuseUnless (leb (c .clock .coordinator) lastCoordinator) badNumber) _ e in
+    let b = passed-rest (refuseUnless (leb (c .clock .coordinator) lastCoordinator) badNumber) _ e in
+    let d = passed-first (stripeRefusal stripes number) _ b in
+    let g = passed-rest (stripeRefusal stripes number) _ b in (
+      data-block-passed m block (passed-first (dataBlockRefusal m block) _ g),
+      first-pass (refuseUnless (leb (c .clock .coordinator) lastCoordinator) badNumber) _ a
+          ∙ first-pass (stripeRefusal stripes number) _ d
+          ∙ passed-rest (dataBlockRefusal m block) _ g,
+    )
+
+-- a read and a write of one block, before their draw
+module _ (n m size stripes : ℕ) (c : Coordinator) (number block bad : ℕ) (e : bad ≡ firstRefusal (codeRefusal n m size ∷ stripeCountRefusal stripes ∷ [])) where
+  pub read-block-settings : (bad ≡ 0 → ⊥) → bad ≡ firstRefusal (readBlockChecks n m size stripes c number block [])
+  unfolding readBlockChecks
+  read-block-settings h = volume-stop n m size stripes bad e _ h
+
+  pub read-block-rest : (v : ℕ) → bad ≡ 0 → v ≡ firstRefusal (blockChecks n m size stripes c number block [])
+      → v ≡ firstRefusal (readBlockChecks n m size stripes c number block [])
+  unfolding readBlockChecks firstRefusal
+  read-block-rest v z ev = rw (code-zero n m size stripes bad e z, count-zero n m size stripes bad e z) ev
+
+  module _ (bytes stripe : ℕ) where
+    pub write-block-settings : (bad ≡ 0 → ⊥) → bad ≡ firstRefusal (writeBlockChecks n m size stripes c number block bytes stripe [])
+    unfolding writeBlockChecks
+    write-block-settings h = volume-stop n m size stripes bad e _ h
+
+    pub write-block-bytes : bad ≡ 0 → (bytes ≡ size → ⊥) → badLength ≡ firstRefusal (writeBlockChecks n m size stripes c number block bytes stripe [])
+    unfolding writeBlockChecks firstRefusal
+    write-block-bytes z h = rw (code-zero n m size stripes bad e z, count-zero n m size stripes bad e z, ne-eqb bytes size h)
+
+    pub write-block-stripe : bad ≡ 0 → bytes ≡ size → (stripe ≡ m * size → ⊥) → badLength ≡ firstRefusal (writeBlockChecks n m size stripes c number block bytes stripe [])
+    unfolding writeBlockChecks firstRefusal
+    write-block-stripe z b h =
+        rw (code-zero n m size stripes bad e z, count-zero n m size stripes bad e z, eq-eqb bytes size b, ne-eqb stripe (m * size) h)
+
+    pub write-block-rest : (v : ℕ) → bad ≡ 0 → bytes ≡ size → stripe ≡ m * size → v ≡ firstRefusal (blockChecks n m size stripes c number block [])
+        → v ≡ firstRefusal (writeBlockChecks n m size stripes c number block bytes stripe [])
+    unfolding writeBlockChecks firstRefusal
+    write-block-rest v z b s ev =
+        rw (code-zero n m size stripes bad e z, count-zero n m size stripes bad e z, eq-eqb bytes size b, eq-eqb stripe (m * size) s) ev
 
 -- a crash
 module _ (n m size stripes : ℕ) (c : Coordinator) (bad : ℕ) (e : bad ≡ firstRefusal (codeRefusal n m size ∷ stripeCountRefusal stripes ∷ [])) where

@@ -1,7 +1,7 @@
 -- Laws of `specs/Routines`: what passing the checks says, and the ways through each routine.
-use mathlib.Core.Path.{_≡_, refl, sym, ap, _∙_}
+use mathlib.Core.Path.{_≡_, refl, sym, ap, subst, _∙_}
 use mathlib.Core.Bool.{Bool, true, false, cond, not, _&&_, _||_}
-use mathlib.Core.List.{List, []}
+use mathlib.Core.List.{List, [], _++_}
 use Prim.Native.Nat.{ℕ, _+_, _*_, _≤_, _<_}
 use native.Mathlib.Nat.{mul-le-mul-right, suc-mul}
 use native.Mathlib.Omega.{arith}
@@ -10,11 +10,11 @@ use lib.ListN.{length}
 use borrow.Author.Tests.{eq-eqb, ne-eqb, lt-leb, lt-ltb, le-ltb, eqb-true, leb-false, ltb-true}
 use Rattle.coord_apply.specs.Acts.{buffered}
 use Rattle.coord_apply.specs.Workers.{endAnswer, DecisionReady, Acted}
-use Rattle.coord_apply.specs.Acts.{withReplyBlock, withTally, counting, waitingOr, acted, ending, nextRound, roundMessage, firstOp, starting}
+use Rattle.coord_apply.specs.Acts.{withTally, counting, waitingOr, acted, ending, nextRound, modifying, roundMessage, firstOp, starting}
 use Rattle.coord_apply.specs.Answers.{Buffered, Went, Step, refused, went, afterChecks, nothingSeen, noMessage, cutSeen, sentCount, sentMessage, sentBlocks, answerOf, blocksAfter}
-use Rattle.coord_apply.specs.Answers.{stripeAfter, codedAfter, returned, returnedBy}
+use Rattle.coord_apply.specs.Answers.{stripeAfter, codedAfter, Returned, returned, returnedBy}
 use Rattle.coord_apply.specs.declared.Answer.{Answer}
-use Rattle.coord_record.specs.Records.{idleKind, readingKind, writingKind, noBricks}
+use Rattle.coord_record.specs.Records.{idleKind, readingKind, writingKind, readingBlockKind, writingBlockKind, onBlock, noBricks}
 use Rattle.coord_record.specs.SoundParts.{SoundParts}
 use Rattle.coord_record.proofs.Laws.SoundPartLaws.{sound-parts, round-high}
 use Rattle.coord_record.specs.declared.Coordinator.{Coordinator}
@@ -24,15 +24,18 @@ use Rattle.coord_record.specs.declared.Tally.{Tally}
 use Rattle.coord_tally.specs.Counting.{targetFlags}
 use Rattle.coord_decide.specs.Deciding.{answers, tallied, decided}
 use Rattle.coord_decide.specs.declared.Decision.{Decision}
-use Rattle.coord_decide.specs.declared.Decision.the-variants.{Abort, Give, Look, Store, Recover, Finish}
-use Rattle.coord_refusals.proofs.Laws.RefusedLaws.{record-passes, stripe-passes, write-stops, write-late, write-busy, write-passes, read-stops, read-late, read-busy, read-passes}
-use Rattle.coord_refusals.specs.Checks.{writeChecks, readChecks, startChecks, writeRefusal, readRefusal, lengthsRight, strayChecks, takeRefusal, crashRefusal}
-use Rattle.coordinator.specs.Routines.{drawnThen, writeStep, readStep, takeStep, crashed, crashStep, writeCall, readCall, takeCall, crashCall}
+use Rattle.coord_decide.specs.declared.Decision.the-variants.{Abort, Give, Look, Store, Modify, Recover, Finish}
+use Rattle.coord_refusals.proofs.Laws.RefusedLaws.{record-passes, stripe-passes, block-passes, lengths-fit, start-stops, start-late, start-busy, start-passes}
+use Rattle.coord_refusals.specs.Checks.{stripeChecks, writeChecks, readChecks, blockChecks, writeBlockChecks, readBlockChecks, startChecks, lengthsRight, strayChecks, takeRefusal}
+use Rattle.coord_refusals.specs.Checks.{writeRefusal, readRefusal, writeBlockRefusal, readBlockRefusal, crashRefusal}
+use Rattle.coordinator.specs.Routines.{drawnThen, writeStep, readStep, writeBlockStep, readBlockStep, takeStep, crashed, crashStep}
+use Rattle.coordinator.specs.Routines.{writeCall, readCall, writeBlockCall, readBlockCall, takeCall, crashCall}
+use Rattle.erasure.specs.Code.{withBlock}
 use Rattle.message.specs.Flags.{members}
-use Rattle.message.specs.Kinds.{readKind, orderKind}
+use Rattle.message.specs.Kinds.{readKind, orderKind, orderBlockKind, writeKind, blockTargets}
 use Rattle.message.specs.Messages.{replyRefusal}
 use Rattle.message.specs.declared.Reply.{Reply}
-use Rattle.settings.specs.Ranges.{CodeRange}
+use Rattle.settings.specs.Ranges.{CodeRange, maxBricks, maxSize}
 use Rattle.settings.proofs.Laws.RangeLaws.{code-passed}
 use Rattle.byte_lists.proofs.Laws.BoolLaws.{and-left, and-right}
 use Rattle.settings.specs.Ranges.{codeRefusal, stripeCountRefusal, quorum}
@@ -105,11 +108,12 @@ place-fits n m size stripes c r block blocks stripe coded t =
 
 -- no decision touches the reply blocks
 pub acted-blocks : (n m size : ℕ) (h : Buffered) (d : Decision) → acted n m size h d .next .blocks ≡ h .blocks
-unfolding acted ending nextRound
+unfolding acted ending nextRound modifying
 acted-blocks n m size h Abort = refl
 acted-blocks n m size h Give = refl
 acted-blocks n m size h (Look max) = refl
 acted-blocks n m size h Store = refl
+acted-blocks n m size h (Modify time) = refl
 acted-blocks n m size h (Recover time) = refl
 acted-blocks n m size h Finish = refl
 
@@ -119,7 +123,7 @@ keeps n m size stripes c r block blocks stripe coded bad e z =
     let t = take-passed n m size stripes c r block blocks stripe coded bad e z in
     record { block-length = t .block-length; within = place-fits n m size stripes c r block blocks stripe coded t }
 
-pub kept-held : (size : ℕ) (r : Reply) (block blocks blocks′ : List ℕ) → r .held ≡ true → blocks′ ≡ withReplyBlock size (r .brick) block blocks
+pub kept-held : (size : ℕ) (r : Reply) (block blocks blocks′ : List ℕ) → r .held ≡ true → blocks′ ≡ withBlock size blocks (r .brick) block
     → blocks′ ≡ keptBlocks size r block blocks
 unfolding keptBlocks
 kept-held size r block blocks blocks′ h e = rw h e
@@ -175,6 +179,7 @@ module _ (n m size stripes : ℕ) (c : Coordinator) (r : Reply) (block blocks st
         record {
           range = p .range;
           first-low = omega (arith, f, p .parts .first-low);
+          block-low = subst (λ (o : Op). onBlock (o .kind) ≡ true → o .first < m) (sym same) (p .parts .block-low);
           round-low = omega (arith, g, round-high (c .op) (p .parts .op-right));
           blocks-length = l ∙ p .blocks-length;
           stripe-length = p .stripe-length;
@@ -261,78 +266,75 @@ module _ (c : Coordinator) (blocks stripe coded : List ℕ) where
       ap (λ (x : Answer). returned x blocks stripe coded) q
       ∙ ap (returnedBy (buffered c blocks stripe) coded) (sym (checked-stop k number s e h))
 
--- a write starts
-module _ (n m size stripes : ℕ) (c : Coordinator) (number reading : ℕ) (bytes blocks stripe coded : List ℕ) (bad : ℕ)
-    (e : bad ≡ firstRefusal (writeChecks n m size stripes c number (length bytes) (length stripe) [])) where
+-- any start: l are its checks before its draw; its first round is of this kind and phase, on a stripe from a brick on, with this stripe kept
+module _ (l : List ℕ) (c : Coordinator) (reading kind phase number first : ℕ) (blocks stripe coded kept targets : List ℕ) where
   -- what is begun at a time
   abbrev begun : ℕ → Clock → Went
-  begun time clock = starting (buffered c blocks stripe) clock (firstOp writingKind orderKind number time 0) bytes noBricks
+  begun time clock = starting (buffered c blocks stripe) clock (firstOp kind phase number time first) kept targets
 
-  pub write-refused : (a : Answer) → (bad ≡ 0 → ⊥) → a ≡ answerOf c (refused bad)
-      → returned a blocks stripe coded ≡ writeCall n m size stripes c blocks stripe coded number reading bytes
-  unfolding writeStep buffered
-  write-refused a h q = call-refused c blocks stripe coded _ a _ bad (write-stops n m size stripes c number reading (length bytes) (length stripe) bad e h) h q
+  abbrev startCall : Returned
+  startCall =
+      returnedBy (buffered c blocks stripe) coded (afterChecks (firstRefusal (l ++ startChecks c reading)) (drawnThen (drawOf (c .clock) reading) begun))
 
-  pub write-unread : (a : Answer) (d : Draw) (late k : ℕ) → bad ≡ 0 → d ≡ drawOf (c .clock) reading → d ≡ Refused late → k ≡ numberOf d
-      → a ≡ answerOf c (refused k) → returned a blocks stripe coded ≡ writeCall n m size stripes c blocks stripe coded number reading bytes
-  unfolding writeStep buffered numberOf
-  write-unread a d late k z ed er ek q =
-      let h : k ≡ 0 → ⊥ = λ y. refused-nonzero (c .clock) reading late (sym ed ∙ er) (sym (ek ∙ ap numberOf er) ∙ y) in
-      call-refused c blocks stripe coded _ a _ k
-      (write-late n m size stripes c number reading (length bytes) (length stripe) bad e k z (ek ∙ ap numberOf ed ∙ draw-number (c .clock) reading) h) h q
+  -- a first round that is no Write round sends no blocks
+  none-coded : eqb phase writeKind ≡ false → coded ≡ cond (eqb phase writeKind) [] coded
+  none-coded p = rw p
 
-  pub write-running : (a : Answer) (time : ℕ) (next : Clock) → bad ≡ 0 → drawOf (c .clock) reading ≡ Drawn time next → (c .op .kind ≡ idleKind → ⊥)
-      → a ≡ answerOf c (refused busy) → returned a blocks stripe coded ≡ writeCall n m size stripes c blocks stripe coded number reading bytes
-  unfolding writeStep buffered
-  write-running a time next z ed r q =
-      call-refused c blocks stripe coded _ a _ busy
-      (write-busy n m size stripes c number reading (length bytes) (length stripe) bad e z (drawn-number (c .clock) reading time next ed) r) (λ y. absurd (omega arith)) q
+  module _ (bad : ℕ) (e : bad ≡ firstRefusal l) where
+    pub start-refused : (a : Answer) → (bad ≡ 0 → ⊥) → a ≡ answerOf c (refused bad) → returned a blocks stripe coded ≡ startCall
+    start-refused a h q = call-refused c blocks stripe coded _ a _ bad (start-stops l c reading bad e h) h q
 
-  pub write-begun : (a : Answer) (time : ℕ) (next : Clock) (stripe′ : List ℕ) → bad ≡ 0 → drawOf (c .clock) reading ≡ Drawn time next
-      → c .op .kind ≡ idleKind → stripe′ ≡ bytes → a ≡ startAnswer (c .geometry) next (firstOp writingKind orderKind number time 0) noBricks
-      → returned a blocks stripe′ coded ≡ writeCall n m size stripes c blocks stripe coded number reading bytes
-  unfolding writeStep buffered returnedBy blocksAfter stripeAfter codedAfter starting startAnswer answerOf sentCount sentMessage sentBlocks roundMessage firstOp
-  write-begun a time next stripe′ z ed r es q =
-      ap (λ (x : Answer). returned x blocks stripe′ coded) q
-      ∙ ap (λ (x : List ℕ). returned (startAnswer (c .geometry) next (firstOp writingKind orderKind number time 0) noBricks) blocks x coded) es
-      ∙ ap (returnedBy (buffered c blocks stripe) coded)
-      (sym (checked-pass _ 0 _ (write-passes n m size stripes c number reading (length bytes) (length stripe) bad e z (drawn-number (c .clock) reading time next ed) r) refl
-      ∙ drawn-given (drawOf (c .clock) reading) begun time next ed))
+    pub start-unread : (a : Answer) (d : Draw) (late k : ℕ) → bad ≡ 0 → d ≡ drawOf (c .clock) reading → d ≡ Refused late → k ≡ numberOf d
+        → a ≡ answerOf c (refused k) → returned a blocks stripe coded ≡ startCall
+    unfolding numberOf
+    start-unread a d late k z ed er ek q =
+        let h : k ≡ 0 → ⊥ = λ y. refused-nonzero (c .clock) reading late (sym ed ∙ er) (sym (ek ∙ ap numberOf er) ∙ y) in
+        call-refused c blocks stripe coded _ a _ k (start-late l c reading bad e k z (ek ∙ ap numberOf ed ∙ draw-number (c .clock) reading) h) h q
 
--- a read starts
-module _ (n m size stripes : ℕ) (c : Coordinator) (number reading first : ℕ) (blocks stripe coded : List ℕ) (bad : ℕ)
-    (e : bad ≡ firstRefusal (readChecks n m size stripes c number first [])) where
-  abbrev begun-read : ℕ → Clock → Went
-  begun-read time clock = starting (buffered c blocks stripe) clock (firstOp readingKind readKind number time first) stripe (targetFlags n m first)
+    pub start-running : (a : Answer) (time : ℕ) (next : Clock) → bad ≡ 0 → drawOf (c .clock) reading ≡ Drawn time next → (c .op .kind ≡ idleKind → ⊥)
+        → a ≡ answerOf c (refused busy) → returned a blocks stripe coded ≡ startCall
+    start-running a time next z ed r q =
+        call-refused c blocks stripe coded _ a _ busy (start-busy l c reading bad e z (drawn-number (c .clock) reading time next ed) r) (λ y. absurd (omega arith)) q
 
-  pub read-refused : (a : Answer) → (bad ≡ 0 → ⊥) → a ≡ answerOf c (refused bad)
-      → returned a blocks stripe coded ≡ readCall n m size stripes c blocks stripe coded number reading first
-  unfolding readStep buffered
-  read-refused a h q = call-refused c blocks stripe coded _ a _ bad (read-stops n m size stripes c number reading first bad e h) h q
+    pub start-begun : (a : Answer) (time : ℕ) (next : Clock) (stripe′ targets′ : List ℕ) → bad ≡ 0 → drawOf (c .clock) reading ≡ Drawn time next → c .op .kind ≡ idleKind
+        → stripe′ ≡ kept → targets′ ≡ targets → eqb phase writeKind ≡ false → a ≡ startAnswer (c .geometry) next (firstOp kind phase number time first) targets′
+        → returned a blocks stripe′ coded ≡ startCall
+    unfolding buffered returnedBy blocksAfter stripeAfter codedAfter starting startAnswer answerOf sentCount sentMessage sentBlocks roundMessage firstOp
+    start-begun a time next stripe′ targets′ z ed r es et p q =
+        ap (λ (x : Answer). returned x blocks stripe′ coded) (q ∙ ap (startAnswer (c .geometry) next (firstOp kind phase number time first)) et)
+        ∙ ap (λ (x : List ℕ). returned (startAnswer (c .geometry) next (firstOp kind phase number time first) targets) blocks x coded) es
+        ∙ ap (returned (startAnswer (c .geometry) next (firstOp kind phase number time first) targets) blocks kept) (none-coded p)
+        ∙ ap (returnedBy (buffered c blocks stripe) coded)
+        (sym (checked-pass _ 0 _ (start-passes l c reading bad e z (drawn-number (c .clock) reading time next ed) r) refl
+        ∙ drawn-given (drawOf (c .clock) reading) begun time next ed))
 
-  pub read-unread : (a : Answer) (d : Draw) (late k : ℕ) → bad ≡ 0 → d ≡ drawOf (c .clock) reading → d ≡ Refused late → k ≡ numberOf d
-      → a ≡ answerOf c (refused k) → returned a blocks stripe coded ≡ readCall n m size stripes c blocks stripe coded number reading first
-  unfolding readStep buffered numberOf
-  read-unread a d late k z ed er ek q =
-      let h : k ≡ 0 → ⊥ = λ y. refused-nonzero (c .clock) reading late (sym ed ∙ er) (sym (ek ∙ ap numberOf er) ∙ y) in
-      call-refused c blocks stripe coded _ a _ k
-      (read-late n m size stripes c number reading first bad e k z (ek ∙ ap numberOf ed ∙ draw-number (c .clock) reading) h) h q
+-- each of the four is such a start
+module _ (n m size stripes : ℕ) (c : Coordinator) (number reading : ℕ) (blocks stripe coded : List ℕ) (x : Returned) where
+  pub write-call : (bytes : List ℕ)
+      → x ≡ startCall (writeChecks n m size stripes c number (length bytes) (length stripe) []) c reading writingKind orderKind number 0 blocks stripe coded bytes noBricks
+      → x ≡ writeCall n m size stripes c blocks stripe coded number reading bytes
+  unfolding writeStep writeRefusal writeChecks stripeChecks buffered
+  write-call bytes q = q
 
-  pub read-running : (a : Answer) (time : ℕ) (next : Clock) → bad ≡ 0 → drawOf (c .clock) reading ≡ Drawn time next → (c .op .kind ≡ idleKind → ⊥)
-      → a ≡ answerOf c (refused busy) → returned a blocks stripe coded ≡ readCall n m size stripes c blocks stripe coded number reading first
-  unfolding readStep buffered
-  read-running a time next z ed r q =
-      call-refused c blocks stripe coded _ a _ busy (read-busy n m size stripes c number reading first bad e z (drawn-number (c .clock) reading time next ed) r) (λ y. absurd (omega arith)) q
+  pub read-call : (first : ℕ)
+      → x ≡ startCall (readChecks n m size stripes c number first []) c reading readingKind readKind number first blocks stripe coded stripe (targetFlags n m first)
+      → x ≡ readCall n m size stripes c blocks stripe coded number reading first
+  unfolding readStep readRefusal readChecks stripeChecks buffered
+  read-call first q = q
 
-  pub read-begun : (a : Answer) (time : ℕ) (next : Clock) (targets : List ℕ) → bad ≡ 0 → drawOf (c .clock) reading ≡ Drawn time next → c .op .kind ≡ idleKind
-      → targets ≡ targetFlags n m first → a ≡ startAnswer (c .geometry) next (firstOp readingKind readKind number time first) targets
-      → returned a blocks stripe coded ≡ readCall n m size stripes c blocks stripe coded number reading first
-  unfolding readStep buffered returnedBy blocksAfter stripeAfter codedAfter starting startAnswer answerOf sentCount sentMessage sentBlocks roundMessage firstOp
-  read-begun a time next targets z ed r et q =
-      ap (λ (x : Answer). returned x blocks stripe coded) (q ∙ ap (startAnswer (c .geometry) next (firstOp readingKind readKind number time first)) et)
-      ∙ ap (returnedBy (buffered c blocks stripe) coded)
-      (sym (checked-pass _ 0 _ (read-passes n m size stripes c number reading first bad e z (drawn-number (c .clock) reading time next ed) r) refl
-      ∙ drawn-given (drawOf (c .clock) reading) begun-read time next ed))
+  pub write-block-call : (block : ℕ) (bytes : List ℕ)
+      → x ≡ startCall (writeBlockChecks n m size stripes c number block (length bytes) (length stripe) []) c reading writingBlockKind orderBlockKind number block
+      blocks stripe coded (withBlock size stripe block bytes) noBricks
+      → x ≡ writeBlockCall n m size stripes c blocks stripe coded number reading block bytes
+  unfolding writeBlockStep writeBlockRefusal writeBlockChecks blockChecks buffered
+  write-block-call block bytes q = q
+
+  pub read-block-call : (block : ℕ)
+      → x ≡ startCall (readBlockChecks n m size stripes c number block []) c reading readingBlockKind readKind number block blocks stripe coded stripe
+      (targetFlags n blockTargets block)
+      → x ≡ readBlockCall n m size stripes c blocks stripe coded number reading block
+  unfolding readBlockStep readBlockRefusal readBlockChecks blockChecks buffered
+  read-block-call block q = q
 
 -- what the bytes and the first brick of a start that passes satisfy, whatever is asked after them
 pub lengths-same : (n m size stripes : ℕ) (c : Coordinator) (number bytes stripe bad : ℕ) (more : List ℕ)
@@ -358,6 +360,56 @@ write-lengths n m size stripes c number reading bytes stripe bad e z = lengths-s
 pub first-low : (n m size stripes : ℕ) (c : Coordinator) (number reading first bad : ℕ) → bad ≡ readRefusal n m size stripes c number reading first → bad ≡ 0 → first < n
 unfolding readRefusal
 first-low n m size stripes c number reading first bad e z = first-below n m size stripes c number first bad (startChecks c reading) e z
+
+-- an operation on one block that is not refused: its block is below m, and a write's bytes are one block and its stripe m
+pub record ReadsBlock (n m size stripes : ℕ) (c : Coordinator) (number block : ℕ) (more : List ℕ) : Type 0 where
+  pub range : CodeRange n m size
+  pub block-low : block < m
+  pub checked : firstRefusal (stripeChecks n m size stripes c number more) ≡ 0
+
+pub read-block-passed : (n m size stripes : ℕ) (c : Coordinator) (number block bad : ℕ) (more : List ℕ) → bad ≡ firstRefusal (readBlockChecks n m size stripes c number block more)
+    → bad ≡ 0 → ReadsBlock n m size stripes c number block more
+unfolding readBlockChecks
+read-block-passed n m size stripes c number block bad more e z =
+    let all = sym e ∙ z in
+    let k = block-passes n m size stripes c number block more (passed-rest (stripeCountRefusal stripes) _ (passed-rest (codeRefusal n m size) _ all)) in
+    record { range = code-passed n m size (passed-first (codeRefusal n m size) _ all); block-low = k .0; checked = k .1 }
+
+pub record WritesBlock (n m size stripes : ℕ) (c : Coordinator) (number block bytes stripe : ℕ) (more : List ℕ) : Type 0 where
+  pub range : CodeRange n m size
+  pub bytes-length : bytes ≡ size
+  pub stripe-length : stripe ≡ m * size
+  pub block-low : block < m
+  pub checked : firstRefusal (stripeChecks n m size stripes c number more) ≡ 0
+
+pub write-block-passed : (n m size stripes : ℕ) (c : Coordinator) (number block bytes stripe bad : ℕ) (more : List ℕ)
+    → bad ≡ firstRefusal (writeBlockChecks n m size stripes c number block bytes stripe more) → bad ≡ 0 → WritesBlock n m size stripes c number block bytes stripe more
+unfolding writeBlockChecks
+write-block-passed n m size stripes c number block bytes stripe bad more e z =
+    let all = sym e ∙ z in
+    let l = passed-rest (stripeCountRefusal stripes) _ (passed-rest (codeRefusal n m size) _ all) in
+    let t = tested (eqb bytes size && eqb stripe (m * size)) _ (passed-first (refuseUnless (eqb bytes size && eqb stripe (m * size)) badLength) _ l) in
+    let k = block-passes n m size stripes c number block more (passed-rest (refuseUnless (eqb bytes size && eqb stripe (m * size)) badLength) _ l) in
+    record {
+      range = code-passed n m size (passed-first (codeRefusal n m size) _ all);
+      bytes-length = eqb-true bytes size (and-left (eqb bytes size) (eqb stripe (m * size)) t);
+      stripe-length = eqb-true stripe (m * size) (and-right (eqb bytes size) (eqb stripe (m * size)) t);
+      block-low = k .0;
+      checked = k .1;
+    }
+
+-- the block is within the stripe, and that is not long
+pub block-fits : (n m size stripes : ℕ) (c : Coordinator) (number block bytes stripe bad : ℕ) → bad ≡ firstRefusal (writeBlockChecks n m size stripes c number block bytes stripe [])
+    → bad ≡ 0 → (block * size + bytes ≤ stripe) × (stripe ≤ maxBricks * maxSize)
+block-fits n m size stripes c number block bytes stripe bad e z =
+    let p = write-block-passed n m size stripes c number block bytes stripe bad [] e z in
+    let q = mul-le-mul-right size (p .block-low) in let s = suc-mul block size in
+    (omega (arith, p .bytes-length, p .stripe-length), omega (arith, p .stripe-length, lengths-fit n m size (p .range)))
+
+-- and its brick is below n
+pub block-brick : (n m size stripes : ℕ) (c : Coordinator) (number block bad : ℕ) → bad ≡ firstRefusal (readBlockChecks n m size stripes c number block []) → bad ≡ 0 → block < n
+block-brick n m size stripes c number block bad e z =
+    let p = read-block-passed n m size stripes c number block bad [] e z in omega (arith, p .block-low, p .range .m-high)
 
 pub start-by : (geometry : Geometry) (clock : Clock) (op op′ : Op) (targets : List ℕ) (a : Answer) → a ≡ startAnswer geometry clock op targets → op ≡ op′
     → a ≡ startAnswer geometry clock op′ targets

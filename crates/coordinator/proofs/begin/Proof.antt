@@ -13,9 +13,19 @@ round-message-requires c κs = search needs
 no-message-requires : tie.Need-no-message-requires
 no-message-requires c κs = search needs
 
+notice-of-requires : tie.Need-notice-of-requires
+notice-of-requires c κs = search needs
+
 returns : tie.Need-returns
 unfolding startAnswer noBricks
 returns c = cc
 
 pub begin-spec : {M : Type 1} → statement M
-begin-spec = tie.close (tie.spec nothing-counted-requires round-message-requires no-message-requires returns)
+begin-spec =
+    tie.close
+    (tie.spec
+    nothing-counted-requires
+    round-message-requires
+    no-message-requires
+    notice-of-requires
+    returns)

@@ -1,5 +1,5 @@
-use mathlib.Core.Path.{sym, _∙_}
-use Rattle.coordinator.proofs.Laws.RoutineLaws.{read-refused, read-unread, read-running, read-begun, first-below, start-by}
+use mathlib.Core.Path.{refl, sym, _∙_}
+use Rattle.coordinator.proofs.Laws.RoutineLaws.{read-call, start-refused, start-unread, start-running, start-begun, first-below, start-by}
 use borrow.Author.Needs.{needs}
 use Rattle.coordinator.proofs.start_read.Statement.{statement}
 use Rattle.coordinator.proofs.start_read.Tie as tie
@@ -12,7 +12,8 @@ refuse-requires c κs = search needs
 
 returns : tie.Need-returns
 returns c =
-    λ blocks stripe coded. read-refused _ _ _ _ _ _ _ _ blocks stripe coded _ (c .before .before .read-refusal .ensures) _ (c .before .if1 .taken) (c .refuse .ensures)
+    λ blocks stripe coded. read-call _ _ _ _ _ _ _ blocks stripe coded _ _
+    (start-refused _ _ _ _ _ _ _ blocks stripe coded _ _ _ (c .before .before .read-refusal .ensures) _ (c .before .if1 .taken) (c .refuse .ensures))
 
 draw-requires : tie.Need-draw-requires
 draw-requires c κs = search needs
@@ -31,9 +32,10 @@ refuse-requires-2 c κs = search needs
 
 returns-2 : tie.Need-returns-2
 returns-2 c =
-    λ blocks stripe coded. read-unread _ _ _ _ _ _ _ _ blocks stripe coded _ (c .before .before .before .before .before .before .before .read-refusal .ensures) _ _ _ _
+    λ blocks stripe coded. read-call _ _ _ _ _ _ _ blocks stripe coded _ _
+    (start-unread _ _ _ _ _ _ _ blocks stripe coded _ _ _ (c .before .before .before .before .before .before .before .read-refusal .ensures) _ _ _ _
     (c .before .before .before .before .before .before .if1 .left) (c .before .before .before .before .draw .ensures)
-    (c .before .before .enum-told .given .1) (c .before .number .ensures) (c .refuse2 .ensures)
+    (c .before .before .enum-told .given .1) (c .before .number .ensures) (c .refuse2 .ensures))
 
 refuse-requires-3 : tie.Need-refuse-requires-3
 refuse-requires-3 c κs = search needs
@@ -41,9 +43,10 @@ refuse-requires-3 c κs = search needs
 returns-3 : tie.Need-returns-3
 returns-3 c =
     let told = c .before .before .before .before in
-    λ blocks stripe coded. read-running _ _ _ _ _ _ _ _ blocks stripe coded _ (told .before .before .before .before .before .before .read-refusal .ensures) _ _ _
+    λ blocks stripe coded. read-call _ _ _ _ _ _ _ blocks stripe coded _ _
+    (start-running _ _ _ _ _ _ _ blocks stripe coded _ _ _ (told .before .before .before .before .before .before .read-refusal .ensures) _ _ _
     (told .before .before .before .before .before .if1 .left) (sym (told .before .before .before .draw .ensures) ∙ told .before .drew .given .1) (c .before .if2 .taken)
-    (c .refuse3 .ensures)
+    (c .refuse3 .ensures))
 
 first-op-requires : tie.Need-first-op-requires
 first-op-requires c κs = search needs
@@ -57,12 +60,13 @@ begin-requires c κs = search needs
 
 returns-4 : tie.Need-returns-4
 returns-4 c =
-    λ blocks stripe coded. read-begun _ _ _ _ _ _ _ _ blocks stripe coded _
-    (c .before .before .before .before .before .before .before .before .before .before .before .before .before .read-refusal .ensures) _ _ _ _
+    λ blocks stripe coded. read-call _ _ _ _ _ _ _ blocks stripe coded _ _
+    (start-begun _ _ _ _ _ _ _ blocks stripe coded _ _ _
+    (c .before .before .before .before .before .before .before .before .before .before .before .before .before .read-refusal .ensures) _ _ _ _ _
     (c .before .before .before .before .before .before .before .before .before .before .before .before .if1 .left)
     (sym (c .before .before .before .before .before .before .before .before .before .before .draw .ensures) ∙ c .before .before .before .before .before .before .before .before .drew .given .1)
-    (c .before .before .before .before .if2 .left) (c .before .target-flags .ensures)
-    (start-by _ _ _ _ _ _ (c .begin .ensures) (c .before .before .first-op .ensures))
+    (c .before .before .before .before .if2 .left) refl (c .before .target-flags .ensures) refl
+    (start-by _ _ _ _ _ _ (c .begin .ensures) (c .before .before .first-op .ensures)))
 
 pub start-read-spec : {M : Type 1} → statement M
 start-read-spec =

@@ -1,6 +1,6 @@
 use Rattle.coord_record.specs.Records.{noBricks}
-use mathlib.Core.Path.{sym, _∙_}
-use Rattle.coordinator.proofs.Laws.RoutineLaws.{write-refused, write-unread, write-running, write-begun, lengths-same, start-by}
+use mathlib.Core.Path.{refl, sym, _∙_}
+use Rattle.coordinator.proofs.Laws.RoutineLaws.{write-call, start-refused, start-unread, start-running, start-begun, lengths-same, start-by}
 use borrow.Author.Needs.{needs}
 use Rattle.coordinator.proofs.start_write.Statement.{statement}
 use Rattle.coordinator.proofs.start_write.Tie as tie
@@ -13,7 +13,8 @@ refuse-requires c κs = search needs
 
 returns : tie.Need-returns
 returns c =
-    λ blocks coded. write-refused _ _ _ _ _ _ _ _ blocks _ coded _ (c .before .before .write-refusal .ensures) _ (c .before .if1 .taken) (c .refuse .ensures)
+    λ blocks coded. write-call _ _ _ _ _ _ _ blocks _ coded _ _
+    (start-refused _ _ _ _ _ _ _ blocks _ coded _ _ _ (c .before .before .write-refusal .ensures) _ (c .before .if1 .taken) (c .refuse .ensures))
 
 draw-requires : tie.Need-draw-requires
 draw-requires c κs = search needs
@@ -32,9 +33,10 @@ refuse-requires-2 c κs = search needs
 
 returns-2 : tie.Need-returns-2
 returns-2 c =
-    λ blocks coded. write-unread _ _ _ _ _ _ _ _ blocks _ coded _ (c .before .before .before .before .before .before .before .write-refusal .ensures) _ _ _ _
+    λ blocks coded. write-call _ _ _ _ _ _ _ blocks _ coded _ _
+    (start-unread _ _ _ _ _ _ _ blocks _ coded _ _ _ (c .before .before .before .before .before .before .before .write-refusal .ensures) _ _ _ _
     (c .before .before .before .before .before .before .if1 .left) (c .before .before .before .before .draw .ensures)
-    (c .before .before .enum-told .given .1) (c .before .number .ensures) (c .refuse2 .ensures)
+    (c .before .before .enum-told .given .1) (c .before .number .ensures) (c .refuse2 .ensures))
 
 refuse-requires-3 : tie.Need-refuse-requires-3
 refuse-requires-3 c κs = search needs
@@ -42,8 +44,9 @@ refuse-requires-3 c κs = search needs
 returns-3 : tie.Need-returns-3
 returns-3 c =
     let drew = c .before .before .before .before in
-    λ blocks coded. write-running _ _ _ _ _ _ _ _ blocks _ coded _ (drew .before .before .before .before .before .before .write-refusal .ensures) _ _ _
-    (drew .before .before .before .before .before .if1 .left) (sym (drew .before .before .before .draw .ensures) ∙ drew .before .drawn .given .1) (c .before .if2 .taken) (c .refuse3 .ensures)
+    λ blocks coded. write-call _ _ _ _ _ _ _ blocks _ coded _ _
+    (start-running _ _ _ _ _ _ _ blocks _ coded _ _ _ (drew .before .before .before .before .before .before .write-refusal .ensures) _ _ _
+    (drew .before .before .before .before .before .if1 .left) (sym (drew .before .before .before .draw .ensures) ∙ drew .before .drawn .given .1) (c .before .if2 .taken) (c .refuse3 .ensures))
 
 copy-requires : tie.Need-copy-requires
 copy-requires c κs =
@@ -63,10 +66,11 @@ returns-4 : tie.Need-returns-4
 unfolding noBricks
 returns-4 c =
     let told = c .before .before .before .before .before .before .before .before .before .before in
-    λ blocks coded. write-begun _ _ _ _ _ _ _ _ blocks _ coded _ (told .before .before .before .before .before .before .write-refusal .ensures) _ _ _ _
+    λ blocks coded. write-call _ _ _ _ _ _ _ blocks _ coded _ _
+    (start-begun _ _ _ _ _ _ _ blocks _ coded _ _ _ (told .before .before .before .before .before .before .write-refusal .ensures) _ _ _ _ _
     (told .before .before .before .before .before .if1 .left) (sym (told .before .before .before .draw .ensures) ∙ told .before .drawn .given .1)
     (c .before .before .before .before .before .before .before .if2 .left) (c .before .before .before .before .before .copy .ensures)
-    (start-by _ _ _ _ _ _ (c .begin .ensures) (c .before .first-op .ensures))
+    refl refl (start-by _ _ _ _ _ _ (c .begin .ensures) (c .before .first-op .ensures)))
 
 pub start-write-spec : {M : Type 1} → statement M
 start-write-spec =

@@ -32,7 +32,7 @@ decode-after-encode n m size stripe bricks s b =
     (decoded-byte n m size stripe bricks s b))
 
 -- coded bytes as values at points 0, 1, ..
-coded-value : (n m size : ℕ) (stripe : List ℕ) (j p : ℕ) → j < n → p < size
+pub coded-value : (n m size : ℕ) (stripe : List ℕ) (j p : ℕ) → j < n → p < size
     → byteAt size (codedOf n m size stripe) j p
     ≡ interpolated byteField m (pointsOf (firstPoints m)) (λ (i : ℕ). byte (byteAt size stripe i p)) (byte j) .0
 coded-value n m size stripe j p hj hp = coded-byte n m size stripe j p hj hp ∙ value-is (firstPoints m) m size stripe j p (length-first m)

@@ -3,16 +3,15 @@ use mathlib.Core.Path.{_≡_, sym, ap, subst, _∙_}
 use mathlib.Core.List.{List}
 use Prim.Native.Nat.{ℕ, _+_, _*_, _≤_, _<_}
 use native.Mathlib.Decide.{decLt}
-use native.Mathlib.Nat.{mul-le-mul-right, suc-mul}
 use native.Mathlib.Omega.{arith}
-use lib.ListN.{length, getD, drop, length-drop, List·getD-eq-default}
-use lib.Seq.{length-take-le}
+use lib.ListN.{length, getD, List·getD-eq-default}
 use Rattle.erasure.specs.Code.{firstPoints, codedOf, blockOf, blocksOf, Stripe, Bricks}
+use Rattle.erasure.proofs.Laws.BlockOfLaws.{block-within, block-length, block-byte}
 use Rattle.erasure.proofs.Laws.PassedLaws.{length-first}
 use Rattle.interpolate.proofs.Laws.BlockLaws.{byte-stacked, length-blocksAt, blocks-byte, value-byte}
 use Rattle.interpolate.specs.Bytes.{Byte, byte, byteField}
 use Rattle.interpolate.proofs.Laws.ByteLaws.{same-byte, byte-small, bytes-are-a-field}
-use Rattle.interpolate.proofs.Laws.WeightRowLaws.{different-points, part-byte}
+use Rattle.interpolate.proofs.Laws.WeightRowLaws.{different-points}
 use Rattle.byte_lists.proofs.Laws.TabulateLaws.{getD-tabulate}
 use Rattle.interpolate.specs.Values.{byteAt, valueAt}
 use Rattle.interpolate.specs.Workers.{pointsOf}
@@ -56,22 +55,18 @@ module _ (n m size : ℕ) (stripe bricks : List ℕ) (s : Stripe m size stripe) 
       by (no k) = subst (λ (x : ℕ). x < n) (sym (List·getD-eq-default bricks 0 {n = i} (let c = b .count in omega arith))) (b .some)
 
   length-block : (i : ℕ) → length (blockOf size (codedOf n m size stripe) (getD bricks i 0)) ≡ size
-  unfolding blockOf codedOf
+  unfolding codedOf
   length-block i =
-      length-take-le size (drop (getD bricks i 0 * size) (codedOf n m size stripe))
-      (let d = length-drop (getD bricks i 0 * size) (codedOf n m size stripe) in
-      let l = length-blocksAt (firstPoints m) size stripe n in
-      let h = mul-le-mul-right size (all-below i) in
-      let q = suc-mul (getD bricks i 0) size in
-      omega arith)
+      block-length size (codedOf n m size stripe) (getD bricks i 0)
+      (block-within n size (getD bricks i 0) (codedOf n m size stripe) (length-blocksAt (firstPoints m) size stripe n) (all-below i))
 
   -- the byte of brick i that is handed over
   handed-byte : (i p : ℕ) → i < m → p < size
       → byteAt size (blocksOf size (codedOf n m size stripe) bricks) i p ≡ valueAt (firstPoints m) size stripe (getD bricks i 0) p
-  unfolding blocksOf blockOf
+  unfolding blocksOf
   handed-byte i p hi hp =
       byte-stacked (length bricks) size (λ (i : ℕ). blockOf size (codedOf n m size stripe) (getD bricks i 0)) length-block i p (let c = b .count in omega arith) hp
-      ∙ part-byte size (codedOf n m size stripe) (getD bricks i 0) p hp
+      ∙ block-byte size (codedOf n m size stripe) (getD bricks i 0) p hp
       ∙ coded-byte n m size stripe (getD bricks i 0) p (b .below i hi) hp
 
   m-few : m ≤ maxBricks

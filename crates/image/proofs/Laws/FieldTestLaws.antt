@@ -1,31 +1,31 @@
 -- The tests on single blocks, taken together, are the test that the bytes are a brick's image.
 use mathlib.Core.Path.{_≡_, refl, sym, ap, ap₂, _∙_}
-use mathlib.Core.Bool.{Bool, true, false, _&&_, _||_}
+use mathlib.Core.Bool.{Bool, true, false, cond, not, _&&_, _||_}
 use mathlib.Core.List.{List, []}
 use Prim.Native.Nat.{ℕ, zero, suc, _+_, _-_, _≤_, _<_}
 use native.Mathlib.Omega.{arith}
 use native.Mathlib.Numerals.{add-one}
 use lib.Dec.{leb, ltb, eqb}
-use lib.ListN.{length, drop, length-take, length-drop}
+use lib.ListN.{length, drop, getD, length-take, length-drop}
 use borrow.Author.Tests.{lt-ltb, le-ltb, le-leb, leb-true, ltb-true, ltb-false}
 use Rattle.settings.specs.Ranges.{SettingsRange}
 use Rattle.byte_lists.proofs.Laws.BoolLaws.{and-left, and-right}
 use Rattle.settings.specs.declared.Settings.{Settings}
-use Rattle.image_block.specs.Block.{sealed, headBody, headBlock, entryBody, entryBlock, unusedBody, unusedBlock}
+use Rattle.image_block.specs.Block.{sealed, headBody, headBlock, entryBody, entryBlock, markBody, markBlock, unusedBody, unusedBlock}
 use Rattle.byte_lists.specs.Lists.{same}
 use Rattle.image_block.proofs.Laws.CheckLaws.{checked-sealed, sealed-body}
 use Rattle.byte_lists.proofs.Laws.SameLaws.{same-true, same-of}
-use Rattle.image.specs.Brick.{Brick, LogEntry, entryCount, timeAt, meansAt, savedTime, risesAt, countSound, soundBrick}
+use Rattle.image.specs.Brick.{Brick, LogEntry, noEntry, entryCount, timeAt, meansAt, markAt, savedTime, risesAt, countSound, soundBrick}
 use Rattle.byte_lists.specs.Each.{each}
 use Rattle.byte_lists.proofs.Laws.EachLaws.{each-at, each-all}
-use Rattle.image.specs.Image.{imageBlock, imageOf, imageSize}
+use Rattle.image.specs.Image.{slotBlock, imageBlock, imageOf, imageSize}
 use Rattle.image.proofs.Laws.ImageLaws.{stacked-ext, stacked-of, block-length}
-use Rattle.image.specs.Parse.{imageBlockAt, countIn, promiseIn, timeIn, heldIn, entryIn, brickIn, checkedAt, isImage}
+use Rattle.image.specs.Parse.{imageBlockAt, countIn, promiseIn, timeIn, heldIn, markIn, holderIn, entryIn, brickIn, checkedAt, isImage}
 use Rattle.image.proofs.Laws.ParseLaws.{entries-at, count-in}
-use Rattle.image.specs.Workers.{rises, headFits, slotFits}
+use Rattle.image.specs.Workers.{rises, headFits, slotFits, formLow, formBody}
 use Rattle.image.specs.Workers.{slotAt}
 use Rattle.image.specs.Brick.{Sound, EntrySound}
-use Rattle.image.proofs.Laws.ImageSoundLaws.{soundness, sound-again, image-block, block-0, block-held, block-unused}
+use Rattle.image.proofs.Laws.ImageSoundLaws.{soundness, sound-again, image-block, block-0, block-slot, block-unused}
 use Rattle.image_block.specs.Block.{blockBytes, checkBytes, heldFrom}
 use Rattle.settings.specs.Ranges.{maxSize}
 
@@ -38,32 +38,71 @@ both-ways false false f g = refl
 and-both : (a b : Bool) → a ≡ true → b ≡ true → a && b ≡ true
 and-both a b e f = rw (e, f) refl
 
-entry-time′ : (size : ℕ) (b : List ℕ) → entryIn size b .time ≡ timeIn b
-unfolding entryIn
-entry-time′ size b = refl
-
-entry-block′ : (size : ℕ) (b : List ℕ) → entryIn size b .block ≡ heldIn size b
-unfolding entryIn
-entry-block′ size b = refl
-
 -- entry i of what is read
+at-in : (s : Settings) (l : List ℕ) (i : ℕ) → i < countIn (imageBlockAt l 0) → getD (brickIn s l .log) i noEntry ≡ entryIn (s .size) l i
+unfolding brickIn
+at-in s l i h =
+    let e : 0 + i ≡ i = omega arith in
+    entries-at (s .size) l 0 (countIn (imageBlockAt l 0)) i h ∙ ap (entryIn (s .size) l) e
+
 pub time-in : (s : Settings) (l : List ℕ) (i : ℕ) → i < countIn (imageBlockAt l 0) → timeAt (brickIn s l) i ≡ timeIn (imageBlockAt l (i + 1))
-unfolding timeAt brickIn
-time-in s l i h =
-    let e : 1 + i ≡ i + 1 = omega arith in
-    ap (λ (x : LogEntry). x .time) (entries-at (s .size) l 1 (countIn (imageBlockAt l 0)) i h ∙ ap (λ (k : ℕ). entryIn (s .size) (imageBlockAt l k)) e)
-    ∙ entry-time′ (s .size) (imageBlockAt l (i + 1))
+unfolding timeAt entryIn
+time-in s l i h = ap (λ (x : LogEntry). x .time) (at-in s l i h)
 
-pub held-in : (s : Settings) (l : List ℕ) (i : ℕ) → i < countIn (imageBlockAt l 0) → meansAt (brickIn s l) i ≡ heldIn (s .size) (imageBlockAt l (i + 1))
-unfolding meansAt brickIn
-held-in s l i h =
-    let e : 1 + i ≡ i + 1 = omega arith in
-    ap (λ (x : LogEntry). x .block) (entries-at (s .size) l 1 (countIn (imageBlockAt l 0)) i h ∙ ap (λ (k : ℕ). entryIn (s .size) (imageBlockAt l k)) e)
-    ∙ entry-block′ (s .size) (imageBlockAt l (i + 1))
+pub held-in : (s : Settings) (l : List ℕ) (i : ℕ) → i < countIn (imageBlockAt l 0)
+    → meansAt (brickIn s l) i ≡ heldIn (s .size) (imageBlockAt l (holderIn l i))
+unfolding meansAt entryIn
+held-in s l i h = ap (λ (x : LogEntry). x .block) (at-in s l i h)
 
-entry-is : (time : ℕ) (block : List ℕ) → entryBlock time block ≡ sealed (entryBody time block)
-unfolding entryBlock
-entry-is time block = refl
+pub mark-in : (s : Settings) (l : List ℕ) (i : ℕ) → i < countIn (imageBlockAt l 0) → markAt (brickIn s l) i ≡ markIn (imageBlockAt l (i + 1))
+unfolding markAt entryIn
+mark-in s l i h = ap (λ (x : LogEntry). x .mark) (at-in s l i h)
+
+-- the block that an entry means is its own or one below
+pub holder-own : (l : List ℕ) (i : ℕ) → markIn (imageBlockAt l (i + 1)) ≡ false → holderIn l i ≡ i + 1
+unfolding holderIn
+holder-own l zero e = refl
+holder-own l (suc i) e =
+    let p : suc i + 1 ≡ i + 2 = omega arith in
+    rw (ap (λ (k : ℕ). markIn (imageBlockAt l k)) (sym p) ∙ e) (sym p)
+
+holder-below : (l : List ℕ) (i : ℕ) → markIn (imageBlockAt l (suc i + 1)) ≡ true → holderIn l (suc i) ≡ holderIn l i
+unfolding holderIn
+holder-below l i e = let p : suc i + 1 ≡ i + 2 = omega arith in rw (ap (λ (k : ℕ). markIn (imageBlockAt l k)) (sym p) ∙ e) refl
+
+holder-high : (l : List ℕ) (i : ℕ) → holderIn l i ≤ i + 1
+unfolding holderIn
+holder-high l zero = omega arith
+holder-high l (suc i) = go (markIn (imageBlockAt l (i + 2))) (holder-high l i)
+  where
+    go : (b : Bool) → holderIn l i ≤ i + 1 → cond b (holderIn l i) (i + 2) ≤ suc i + 1
+    go true h = omega arith
+    go false h = omega arith
+
+-- an entry's form, as it stands in a brick
+form-is : (s : Settings) (x : Brick) (i : ℕ) → slotBlock s x i ≡ sealed (cond (markAt x i) (markBody (timeAt x i) (s .size)) (entryBody (timeAt x i) (meansAt x i)))
+unfolding slotBlock entryBlock markBlock
+form-is s x i = go (markAt x i)
+  where
+    go : (b : Bool) → cond b (sealed (markBody (timeAt x i) (s .size))) (sealed (entryBody (timeAt x i) (meansAt x i)))
+        ≡ sealed (cond b (markBody (timeAt x i) (s .size)) (entryBody (timeAt x i) (meansAt x i)))
+    go true = refl
+    go false = refl
+
+-- ... and as it is read
+form-in : (s : Settings) (l : List ℕ) (i : ℕ) → i < countIn (imageBlockAt l 0)
+    → cond (markAt (brickIn s l) i) (markBody (timeAt (brickIn s l) i) (s .size)) (entryBody (timeAt (brickIn s l) i) (meansAt (brickIn s l) i))
+    ≡ formBody (s .size) (imageBlockAt l (i + 1)) (timeIn (imageBlockAt l (i + 1)))
+unfolding formBody
+form-in s l i h = rw (mark-in s l i h, time-in s l i h) (go (markIn (imageBlockAt l (i + 1))) refl)
+  where
+    go : (b : Bool) → markIn (imageBlockAt l (i + 1)) ≡ b
+        → cond b (markBody (timeIn (imageBlockAt l (i + 1))) (s .size)) (entryBody (timeIn (imageBlockAt l (i + 1))) (meansAt (brickIn s l) i))
+        ≡ cond b (markBody (timeIn (imageBlockAt l (i + 1))) (s .size)) (entryBody (timeIn (imageBlockAt l (i + 1))) (heldIn (s .size) (imageBlockAt l (i + 1))))
+    go true e = refl
+    go false e =
+        ap (entryBody (timeIn (imageBlockAt l (i + 1))))
+        (held-in s l i h ∙ ap (λ (k : ℕ). heldIn (s .size) (imageBlockAt l k)) (holder-own l i e))
 
 unused-is : unusedBlock ≡ sealed unusedBody
 unfolding unusedBlock
@@ -80,22 +119,37 @@ held-size size b h n =
 record Slot (size : ℕ) (t : List ℕ) (time i last : ℕ) : Type 0 where
   saved : savedTime time ≡ true
   rising : rises i last time ≡ true
-  body : drop checkBytes t ≡ entryBody time (heldIn size t)
+  low : markIn t ≡ true → 0 < i
+  body : drop checkBytes t ≡ formBody size t time
+
+low-parts : (t : List ℕ) (i : ℕ) → formLow t i ≡ true → markIn t ≡ true → 0 < i
+unfolding formLow
+low-parts t i e m = ltb-true 0 i (rw m at e)
+
+low-again : (t : List ℕ) (i : ℕ) → (markIn t ≡ true → 0 < i) → formLow t i ≡ true
+unfolding formLow
+low-again t i f = go (markIn t) f
+  where
+    go : (b : Bool) → (b ≡ true → 0 < i) → not b || ltb 0 i ≡ true
+    go false g = refl
+    go true g = lt-ltb 0 i (g refl)
 
 slot-parts : (size : ℕ) (t : List ℕ) (time i n last : ℕ) → i < n → slotFits size t time i n last ≡ true → Slot size t time i last
 unfolding slotFits
 slot-parts size t time i n last h e =
-    let f : savedTime time && rises i last time && same (drop checkBytes t) (entryBody time (heldIn size t)) ≡ true = rw (lt-ltb i n h) at e in
-    let g = and-left (savedTime time && rises i last time) _ f in
+    let f : savedTime time && rises i last time && formLow t i && same (drop checkBytes t) (formBody size t time) ≡ true = rw (lt-ltb i n h) at e in
+    let k = and-left (savedTime time && rises i last time && formLow t i) _ f in
+    let g = and-left (savedTime time && rises i last time) _ k in
     record {
       saved = and-left (savedTime time) _ g;
       rising = and-right (savedTime time) _ g;
-      body = same-true _ _ (and-right (savedTime time && rises i last time) _ f);
+      low = low-parts t i (and-right (savedTime time && rises i last time) _ k);
+      body = same-true _ _ (and-right (savedTime time && rises i last time && formLow t i) _ f);
     }
 
 slot-again : (size : ℕ) (t : List ℕ) (time i n last : ℕ) → i < n → Slot size t time i last → slotFits size t time i n last ≡ true
 unfolding slotFits
-slot-again size t time i n last h p = rw (lt-ltb i n h, p .saved, p .rising, same-of _ _ (p .body)) refl
+slot-again size t time i n last h p = rw (lt-ltb i n h, p .saved, p .rising, low-again t i (p .low)) (same-of _ _ (p .body))
 
 free-parts : (size : ℕ) (t : List ℕ) (time i n last : ℕ) → n ≤ i → slotFits size t time i n last ≡ true → drop checkBytes t ≡ unusedBody
 unfolding slotFits
@@ -145,6 +199,16 @@ module _ (s : Settings) (brick : ℕ) (l : List ℕ) (range : SettingsRange s) (
         entries = λ i h. each i (omega (arith, h)) (omega (arith, h));
       }
     where
+      marked : (i : ℕ) → i < n → (markIn (imageBlockAt l (i + 1)) ≡ true → 0 < i) → markIn (imageBlockAt l (i + 1)) ≡ true
+          → (0 < i) × (meansAt x i ≡ meansAt x (i - 1))
+      marked zero h f m = absurd (omega (arith, f m))
+      marked (suc i) h f m =
+          let p : suc i - 1 ≡ i = omega arith in (
+            f m,
+            held-in s l (suc i) h ∙ ap (λ (k : ℕ). heldIn (s .size) (imageBlockAt l k)) (holder-below l i m)
+                ∙ sym (ap (meansAt x) p ∙ held-in s l i (omega arith)),
+          )
+
       each : (i : ℕ) → i < n → i < s .capacity → EntrySound s x i
       each i h b =
           let q = slot-parts (s .size) (imageBlockAt l (i + 1)) (timeIn (imageBlockAt l (i + 1))) i n (timeIn (imageBlockAt l i)) h
@@ -152,7 +216,9 @@ module _ (s : Settings) (brick : ℕ) (l : List ℕ) (range : SettingsRange s) (
           record {
             saved = ap savedTime (time-in s l i h) ∙ q .saved;
             rises = rises-in s l i h ∙ q .rising;
-            sized = ap length (held-in s l i h) ∙ held-size (s .size) (imageBlockAt l (i + 1)) (range .code .size-high) (blocks (i + 1) (omega arith));
+            sized = ap length (held-in s l i h)
+                ∙ held-size (s .size) (imageBlockAt l (holderIn l i)) (range .code .size-high) (blocks (holderIn l i) (omega (arith, holder-high l i)));
+            marked = λ m. marked i h (q .low) (sym (mark-in s l i h) ∙ m);
           }
 
   -- ... whose blocks stand there
@@ -178,10 +244,10 @@ module _ (s : Settings) (brick : ℕ) (l : List ℕ) (range : SettingsRange s) (
       go true e =
           let h₁ = ltb-true i n e in
           let q = slot-parts (s .size) (imageBlockAt l (i + 1)) (timeIn (imageBlockAt l (i + 1))) i n (timeIn (imageBlockAt l i)) h₁ here in
-          block-held s brick x i (omega (arith, count-in s l))
-          ∙ ap₂ (λ (a : ℕ) (z : List ℕ). entryBlock a z) (time-in s l i h₁) (held-in s l i h₁)
-          ∙ entry-is (timeIn (imageBlockAt l (i + 1))) (heldIn (s .size) (imageBlockAt l (i + 1)))
-          ∙ sym (sealed-at (i + 1) (entryBody (timeIn (imageBlockAt l (i + 1))) (heldIn (s .size) (imageBlockAt l (i + 1)))) (omega arith) (q .body))
+          block-slot s brick x i (omega (arith, count-in s l))
+          ∙ form-is s x i
+          ∙ ap sealed (form-in s l i h₁)
+          ∙ sym (sealed-at (i + 1) (formBody (s .size) (imageBlockAt l (i + 1)) (timeIn (imageBlockAt l (i + 1)))) (omega arith) (q .body))
           ∙ sym one
       go false e =
           let h₁ = ltb-false i n e in
@@ -210,9 +276,10 @@ module _ (s : Settings) (brick : ℕ) (l : List ℕ) (range : SettingsRange s) (
           (record {
             saved = ap savedTime (sym (time-in s l i h₁)) ∙ q .saved;
             rising = sym (rises-in s l i h₁) ∙ q .rises;
-            body = ap (λ (z : List ℕ). drop checkBytes z) (at ∙ block-held s brick x i (omega (arith, count-in s l)) ∙ entry-is (timeAt x i) (meansAt x i))
-                ∙ sealed-body (entryBody (timeAt x i) (meansAt x i))
-                ∙ ap₂ (λ (a : ℕ) (z : List ℕ). entryBody a z) (time-in s l i h₁) (held-in s l i h₁);
+            low = λ m. q .marked (mark-in s l i h₁ ∙ m) .0;
+            body = ap (λ (z : List ℕ). drop checkBytes z) (at ∙ block-slot s brick x i (omega (arith, count-in s l)) ∙ form-is s x i)
+                ∙ sealed-body _
+                ∙ form-in s l i h₁;
           })
       go false w =
           let h₁ = ltb-false i n w in

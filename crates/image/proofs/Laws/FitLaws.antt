@@ -1,23 +1,25 @@
 -- The ways through the tests on single blocks.
 use mathlib.Core.Path.{_≡_, refl, sym, ap, _∙_}
-use mathlib.Core.Bool.{Bool, true, false, and-false}
+use mathlib.Core.Bool.{Bool, true, false, _&&_, and-false}
 use mathlib.Core.List.{List, [], _∷_}
 use Prim.Native.Nat.{ℕ, _+_, _-_, _*_, _≤_, _<_}
 use native.Mathlib.Omega.{arith}
 use lib.Dec.{ltb, eqb}
 use lib.ListN.{take, drop}
+use lib.Seq.{take-take, drop-drop}
+use Rattle.byte_lists.proofs.Laws.PutLaws.{drop-take}
 use borrow.Author.Tests.{lt-ltb, le-ltb, le-leb, lt-leb, eq-eqb, ne-eqb}
-use Rattle.settings.specs.Ranges.{inRange, settingsRefusal}
+use Rattle.settings.specs.Ranges.{inRange, settingsRefusal, maxSize}
 use Rattle.settings.specs.Refusal.{refuseUnless, firstRefusal}
 use Rattle.settings.specs.declared.Settings.{Settings}
-use Rattle.image_block.specs.Block.{headBody, entryBody, unusedBody}
+use Rattle.image_block.specs.Block.{headBody, entryBody, markBody, unusedBody}
 use Rattle.image_block.specs.Workers.{unchecked}
 use Rattle.byte_lists.specs.Lists.{same}
 use Rattle.image.specs.Brick.{savedTime, countSound}
 use Rattle.image.specs.Image.{imageSize}
-use Rattle.image.specs.Parse.{heldIn}
+use Rattle.image.specs.Parse.{imageBlockAt, heldIn, markIn}
 use Rattle.image.specs.Opening.{lendingRefusal}
-use Rattle.image.specs.Workers.{rises, headFits, slotFits}
+use Rattle.image.specs.Workers.{rises, headFits, slotFits, formLow, formBody}
 use Rattle.image_block.specs.Block.{blockBytes, checkBytes, heldFrom}
 use Rattle.settings.specs.Refusal.{badLength, badNumber, badSetting, passed}
 
@@ -59,9 +61,32 @@ module _ (size : ℕ) (t : List ℕ) (time i n last : ℕ) where
   slot-rises v h e f = rw (lt-ltb i n h, sym e ∙ f, and-false) refl
 
   pub slot-entry : (v w r : Bool) → i < n → v ≡ savedTime time → v ≡ true → w ≡ rises i last time → w ≡ true
-      → r ≡ same (drop checkBytes t) (entryBody time (heldIn size t)) → r ≡ slotFits size t time i n last
+      → r ≡ formLow t i && same (drop checkBytes t) (formBody size t time) → r ≡ slotFits size t time i n last
   unfolding slotFits
   slot-entry v w r h e f g k q = q ∙ sym (rw (lt-ltb i n h, sym e ∙ f, sym g ∙ k) refl)
+
+  -- the form of a block of the log, as its kind says
+  pub form-entry : (v r : Bool) → v ≡ markIn t → v ≡ false → r ≡ same (drop checkBytes t) (entryBody time (heldIn size t))
+      → r ≡ formLow t i && same (drop checkBytes t) (formBody size t time)
+  unfolding formLow formBody
+  form-entry v r e f q = q ∙ sym (rw (sym e ∙ f) refl)
+
+  pub form-mark : (v r : Bool) → v ≡ markIn t → v ≡ true → 0 < i → r ≡ same (drop checkBytes t) (markBody time size)
+      → r ≡ formLow t i && same (drop checkBytes t) (formBody size t time)
+  unfolding formLow formBody
+  form-mark v r e f h q = q ∙ sym (rw (sym e ∙ f, lt-ltb 0 i h) refl)
+
+  pub form-lowest : (v : Bool) → v ≡ markIn t → v ≡ true → i ≤ 0 → false ≡ formLow t i && same (drop checkBytes t) (formBody size t time)
+  unfolding formLow formBody
+  form-lowest v e f h = sym (rw (sym e ∙ f, le-ltb 0 i h) refl)
+
+-- the bytes of a held block
+pub held-bytes : (l : List ℕ) (size p : ℕ) → size ≤ maxSize → take size (drop (blockBytes * p + heldFrom) l) ≡ heldIn size (imageBlockAt l p)
+unfolding heldIn imageBlockAt
+held-bytes l size p h =
+    ap (λ (m : List ℕ). take size m) (sym (drop-drop heldFrom (blockBytes * p) l))
+    ∙ sym (take-take size (blockBytes - heldFrom) (drop heldFrom (drop (blockBytes * p) l)) (omega arith))
+    ∙ ap (λ (m : List ℕ). take size m) (sym (drop-take heldFrom (blockBytes - heldFrom) (drop (blockBytes * p) l)))
 
 -- the part of a block that holds the entry's bytes
 pub held-part : (size : ℕ) (t : List ℕ) → take (heldFrom + size - heldFrom) (drop heldFrom t) ≡ heldIn size t

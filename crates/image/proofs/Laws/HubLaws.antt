@@ -9,13 +9,12 @@ use lib.ListN.{length, getD, List·getD-append, length-append}
 use lib.Seq.{getD-at}
 use borrow.Author.Tests.{lt-ltb}
 use Rattle.settings.specs.declared.Settings.{Settings}
-use Rattle.image.specs.Brick.{Brick, entryCount, timeAt, newest}
+use Rattle.image.specs.Brick.{Brick, entryCount, timeAt, markAt, newest}
 use Rattle.image.specs.Parse.{Parsed, Opens, Refuses, parse}
 use Rattle.image.proofs.Laws.ParseLaws.{opened}
-use Rattle.image.specs.Opening.{rowOf, entryFor, entryOf, workingLog, opening, answerNumber, panelOf}
+use Rattle.image.specs.Opening.{rowOf, holdingFor, entryFor, entryOf, workingLog, opening, answerNumber, panelOf}
 use Rattle.image.specs.declared.Entry.{Entry}
 use Rattle.image.specs.declared.Head.{Head}
-use Rattle.image.specs.declared.Holding.the-variants.{Held}
 use Rattle.image.specs.declared.Opening.{Opening}
 use Rattle.image.specs.declared.ImageAnswer.the-variants.{Opened, Refused}
 use Rattle.image.specs.declared.Shown.{Shown}
@@ -40,7 +39,7 @@ row-at f (suc n) i d h = go (ℕ-discrete i n) (row-at f n i d)
         List·getD-append (rowOf f n) (f n ∷ []) d i (omega (arith, row-length f n)) ∙ ih low
 
 -- entry i of the working log
-pub log-at : (x : Brick) (i : ℕ) (d : Entry) → i < entryCount x → entryCount x ≤ maxCapacity → getD (workingLog x) i d ≡ record { time = timeAt x i; holding = Held (i + 1) }
+pub log-at : (x : Brick) (i : ℕ) (d : Entry) → i < entryCount x → entryCount x ≤ maxCapacity → getD (workingLog x) i d ≡ record { time = timeAt x i; holding = holdingFor (markAt x i) i }
 unfolding workingLog entryOf entryFor
 log-at x i d h c = row-at (entryOf x) maxCapacity i d (omega arith) ∙ rw (lt-ltb i (entryCount x) h) refl
 

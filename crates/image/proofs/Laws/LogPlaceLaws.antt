@@ -10,7 +10,7 @@ use borrow.Author.Tests.{lt-ltb, ltb-true, ne-eqb}
 use Rattle.settings.specs.Times.{validTime}
 use Rattle.settings.specs.declared.Settings.{Settings}
 use Rattle.byte_lists.specs.Lists.{zeros}
-use Rattle.image.specs.Brick.{Brick, freshBrick, entryCount, timeAt, meansAt, newest, savedTime, risesAt, Sound}
+use Rattle.image.specs.Brick.{Brick, freshBrick, entryCount, timeAt, meansAt, markAt, newest, savedTime, risesAt, Sound}
 
 pub saved-valid : (t : ℕ) → validTime t ≡ true → savedTime t ≡ true
 unfolding savedTime
@@ -54,6 +54,14 @@ at-most-newest s x r i h =
     let up = rises-to s x r i (entryCount x - 1) (omega arith) (omega arith) in
     omega arith
 
+-- the lowest entry is no mark
+pub lowest-held : (s : Settings) (x : Brick) → Sound s x → markAt x 0 ≡ false
+lowest-held s x r = go (markAt x 0) refl
+  where
+    go : (b : Bool) → markAt x 0 ≡ b → markAt x 0 ≡ false
+    go false e = e
+    go true e = absurd (omega (arith, r .entries 0 (omega (arith, r .count-low)) .marked e .0))
+
 -- the rules, place by place
 rises-of : (x : Brick) (i : ℕ) → timeAt x i < timeAt x (suc i) → risesAt x (suc i) ≡ true
 unfolding risesAt
@@ -69,13 +77,14 @@ rises-first x = refl
 pub sound-of : (s : Settings) (x : Brick) → 1 ≤ entryCount x → entryCount x ≤ s .capacity → savedTime (x .promise) ≡ true
     → ((i : ℕ) → i < entryCount x → savedTime (timeAt x i) ≡ true)
     → ((i : ℕ) → suc i < entryCount x → timeAt x i < timeAt x (suc i))
-    → ((i : ℕ) → i < entryCount x → length (meansAt x i) ≡ s .size) → Sound s x
-sound-of s x low high promise saved rises sized =
+    → ((i : ℕ) → i < entryCount x → length (meansAt x i) ≡ s .size)
+    → ((i : ℕ) → i < entryCount x → markAt x i ≡ true → (0 < i) × (meansAt x i ≡ meansAt x (i - 1))) → Sound s x
+sound-of s x low high promise saved rises sized marked =
     record {
       count-low = low;
       count-high = high;
       promise-saved = promise;
-      entries = λ i h. record { saved = saved i h; rises = up i h; sized = sized i h };
+      entries = λ i h. record { saved = saved i h; rises = up i h; sized = sized i h; marked = marked i h };
     }
   where
     up : (i : ℕ) → i < entryCount x → risesAt x i ≡ true

@@ -17,16 +17,16 @@ use Rattle.settings.specs.Ranges.{SettingsRange}
 use Rattle.byte_lists.proofs.Laws.BoolLaws.{and-left, and-right}
 use Rattle.settings.specs.declared.Settings.{Settings}
 use Rattle.image_block.specs.Block.{checked}
-use Rattle.image.specs.Brick.{entryCount, timeAt, countSound}
+use Rattle.image.specs.Brick.{entryCount, timeAt, markAt, countSound}
 use Rattle.byte_lists.specs.Each.{each}
 use Rattle.byte_lists.proofs.Laws.EachLaws.{each-at, each-all, each-not}
 use Rattle.image.specs.Image.{imageSize}
-use Rattle.image.specs.Parse.{imageBlockAt, countIn, promiseIn, timeIn, brickIn, checkedAt, isImage, openRefusal, Refuses, parse}
+use Rattle.image.specs.Parse.{imageBlockAt, countIn, promiseIn, timeIn, markIn, brickIn, checkedAt, isImage, openRefusal, Refuses, parse}
 use Rattle.image.proofs.Laws.ParseLaws.{range-of, count-in, refusal-0, refusal-5, refusal-6, parse-opens, parse-refuses}
 use Rattle.image.specs.Opening.{rowOf, blank, noBlank, entryFor, entryOf, workingLog, opening, lendingRefusal}
 use Rattle.image.specs.Workers.{headFits}
 use Rattle.image.specs.Workers.{checkAfter, slotAt, entryAt, Scanned}
-use Rattle.image.proofs.Laws.FieldTestLaws.{tests-image, time-in}
+use Rattle.image.proofs.Laws.FieldTestLaws.{tests-image, time-in, mark-in}
 use Rattle.image.specs.declared.Entry.{Entry}
 use Rattle.image.specs.declared.Opening.{Opening}
 use Rattle.image.specs.declared.ImageAnswer.the-variants.{Opened, Refused}
@@ -101,9 +101,9 @@ row-blank f n (suc j) e =
     ∙ ap (λ (b : Entry). (rowOf f n ++ b ∷ []) ++ replicate j blank) (e n (omega arith))
     ∙ append-snoc (rowOf f n) blank (replicate j blank)
 
-entry-past : (time i n : ℕ) → n ≤ i → entryFor time i n ≡ blank
+entry-past : (time : ℕ) (mark : Bool) (i n : ℕ) → n ≤ i → entryFor time mark i n ≡ blank
 unfolding entryFor
-entry-past time i n h = rw (le-ltb i n h) refl
+entry-past time mark i n h = rw (le-ltb i n h) refl
 
 working : (s : Settings) (l : List ℕ) → s .capacity ≤ maxCapacity → countIn (imageBlockAt l 0) ≤ s .capacity
     → rowOf (entryAt l (countIn (imageBlockAt l 0))) (s .capacity) ++ replicate (maxCapacity - s .capacity) blank ≡ workingLog (brickIn s l)
@@ -114,16 +114,18 @@ working s l c h =
     ∙ sym (row-blank (entryOf (brickIn s l)) (s .capacity) (maxCapacity - s .capacity) past)
     ∙ ap (λ (k : ℕ). rowOf (entryOf (brickIn s l)) k) m
   where
-    past : (i : ℕ) → s .capacity ≤ i → entryFor (timeAt (brickIn s l) i) i (entryCount (brickIn s l)) ≡ blank
-    past i b = entry-past _ i (entryCount (brickIn s l)) (omega (arith, b, count-in s l))
+    past : (i : ℕ) → s .capacity ≤ i → entryFor (timeAt (brickIn s l) i) (markAt (brickIn s l) i) i (entryCount (brickIn s l)) ≡ blank
+    past i b = entry-past _ _ i (entryCount (brickIn s l)) (omega (arith, b, count-in s l))
 
-    each : (i : ℕ) → entryFor (timeIn (imageBlockAt l (i + 1))) i (countIn (imageBlockAt l 0)) ≡ entryFor (timeAt (brickIn s l) i) i (entryCount (brickIn s l))
+    each : (i : ℕ) → entryFor (timeIn (imageBlockAt l (i + 1))) (markIn (imageBlockAt l (i + 1))) i (countIn (imageBlockAt l 0))
+        ≡ entryFor (timeAt (brickIn s l) i) (markAt (brickIn s l) i) i (entryCount (brickIn s l))
     each i = go (decLt i (countIn (imageBlockAt l 0)))
       where
         go : Dec (i < countIn (imageBlockAt l 0))
-            → entryFor (timeIn (imageBlockAt l (i + 1))) i (countIn (imageBlockAt l 0)) ≡ entryFor (timeAt (brickIn s l) i) i (entryCount (brickIn s l))
-        go (yes b) = ap₂ (λ (a k : ℕ). entryFor a i k) (sym (time-in s l i b)) (sym (count-in s l))
-        go (no b) = entry-past _ i _ (omega (arith, b)) ∙ sym (entry-past _ i (entryCount (brickIn s l)) (omega (arith, b, count-in s l)))
+            → entryFor (timeIn (imageBlockAt l (i + 1))) (markIn (imageBlockAt l (i + 1))) i (countIn (imageBlockAt l 0))
+            ≡ entryFor (timeAt (brickIn s l) i) (markAt (brickIn s l) i) i (entryCount (brickIn s l))
+        go (yes b) = rw (time-in s l i b, mark-in s l i b, count-in s l) refl
+        go (no b) = entry-past _ _ i _ (omega (arith, b)) ∙ sym (entry-past _ _ i (entryCount (brickIn s l)) (omega (arith, b, count-in s l)))
 
 head-count-high : (s : Settings) (brick : ℕ) (t : List ℕ) (n promise : ℕ) → headFits s brick t n promise ≡ true → n ≤ s .capacity
 unfolding headFits countSound
@@ -198,7 +200,7 @@ module _ (s : Settings) (brick : ℕ) (l t : List ℕ) (e : LentImage s brick (l
         made a b d = λ i. record { answer = Opened (record { count = a i; promise = b i }); log = d i }
 
 -- a refusal is made
-pub refused-made : (number : ℕ) (b : Entry) → b ≡ entryFor 0 0 0
+pub refused-made : (number : ℕ) (b : Entry) → b ≡ entryFor 0 false 0 0
     → _≡_ {A = Opening} (record { answer = Refused number; log = replicate maxCapacity b }) (opening (Refuses number))
 unfolding opening rowOf noBlank entryFor
 refused-made number b e = λ i. record { answer = Refused number; log = replicate maxCapacity (e i) }

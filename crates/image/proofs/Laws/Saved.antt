@@ -1,6 +1,6 @@
 -- The promises of the saved brick, in one place: there and back, one changed byte, and a fresh image.
 use mathlib.Core.Path.{_≡_, refl, sym, ap, _∙_}
-use mathlib.Core.Bool.{true, false}
+use mathlib.Core.Bool.{true, false, true≢false}
 use mathlib.Core.List.{List, [], _∷_}
 use Prim.Native.Nat.{ℕ, zero, suc, _+_, _*_, _/_, _%_, _<_}
 use native.Mathlib.Omega.{arith}
@@ -13,7 +13,7 @@ use Rattle.byte_lists.specs.Little.{Bytes}
 use Rattle.image_block.specs.Block.{checked}
 use Rattle.byte_lists.proofs.Laws.ZeroLaws.{zeros-length}
 use Rattle.image_block.proofs.Laws.ChangeLaws.{change-unchecked}
-use Rattle.image.specs.Brick.{Brick, entryCount, timeAt, meansAt, freshBrick, savedTime, risesAt, soundBrick}
+use Rattle.image.specs.Brick.{Brick, entryCount, timeAt, meansAt, markAt, freshBrick, savedTime, risesAt, soundBrick}
 use Rattle.byte_lists.proofs.Laws.EachLaws.{each-at, each-not}
 use Rattle.image.specs.Image.{imageOf, imageSize}
 use Rattle.image.proofs.Laws.ImageLaws.{block-length}
@@ -84,7 +84,7 @@ one-byte-changed s brick bytes x i v e b h hv ne =
         (each-at (checkedAt bytes) (s .capacity + 1) (i / blockBytes) (o .checks) low)
 
 pub fresh-sound : (s : Settings) → inRange s ≡ true → Sound s (freshBrick s)
-unfolding freshBrick entryCount timeAt meansAt savedTime risesAt
+unfolding freshBrick entryCount timeAt meansAt markAt savedTime risesAt
 fresh-sound s a =
     record {
       count-low = omega arith;
@@ -94,7 +94,7 @@ fresh-sound s a =
     }
   where
     first : (i : ℕ) → i < 1 → Rattle.image.specs.Brick.EntrySound s (freshBrick s) i
-    first zero h = record { saved = refl; rises = refl; sized = zeros-length (s .size) }
+    first zero h = record { saved = refl; rises = refl; sized = zeros-length (s .size); marked = λ e. absurd (true≢false (sym e)) }
     first (suc i) h = absurd (omega arith)
 
 -- A fresh image opens.

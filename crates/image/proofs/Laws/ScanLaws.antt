@@ -11,7 +11,7 @@ use Rattle.image_block.specs.Block.{checked}
 use Rattle.byte_lists.specs.Each.{each}
 use Rattle.byte_lists.proofs.Laws.EachLaws.{each-none, each-more, each-not}
 use Rattle.image.proofs.Laws.ImageLaws.{block-length}
-use Rattle.image.specs.Parse.{imageBlockAt, checkedAt, timeIn}
+use Rattle.image.specs.Parse.{imageBlockAt, checkedAt, timeIn, markIn}
 use Rattle.image.specs.Opening.{rowOf, blank, entryFor}
 use Rattle.image.specs.Workers.{rises, slotFits}
 use Rattle.image.specs.declared.Entry.{Entry}
@@ -29,7 +29,7 @@ pub record Scanning (size cap : ℕ) (l : List ℕ) (n : ℕ) (fits : Bool) (las
   pub before : 0 < i → last ≡ timeIn (imageBlockAt l i)
   pub logged : log ≡ rowOf (entryAt l n) i ++ replicate (maxCapacity - i) blank
 
-pub scanning-none : (size cap : ℕ) (l : List ℕ) (n : ℕ) (b : Entry) (log : List Entry) → b ≡ entryFor 0 0 0 → log ≡ replicate maxCapacity b
+pub scanning-none : (size cap : ℕ) (l : List ℕ) (n : ℕ) (b : Entry) (log : List Entry) → b ≡ entryFor 0 false 0 0 → log ≡ replicate maxCapacity b
     → Scanning size cap l n true 0 0 blockBytes log
 unfolding rowOf entryFor
 scanning-none size cap l n b log e k =
@@ -67,11 +67,11 @@ slot-last size l n (suc i) last b = ap (λ (x : ℕ). slotFits size (imageBlockA
 
 module _ (size cap : ℕ) (l : List ℕ) (n : ℕ) (fits : Bool) (last i at : ℕ) (log : List Entry) (most : cap ≤ maxCapacity) (h : i < cap)
     (r : Scanning size cap l n fits last i at log) where
-  pub scanning-more : (t : List ℕ) (holds fit fits′ : Bool) (time : ℕ) (entry : Entry) → t ≡ imageBlockAt l (i + 1) → holds ≡ checked t → holds ≡ true
-      → time ≡ timeIn t → fit ≡ slotFits size t time i n last → fits′ ≡ fits && fit → entry ≡ entryFor time i n
+  pub scanning-more : (t : List ℕ) (holds fit fits′ mark : Bool) (time : ℕ) (entry : Entry) → t ≡ imageBlockAt l (i + 1) → holds ≡ checked t → holds ≡ true
+      → time ≡ timeIn t → fit ≡ slotFits size t time i n last → fits′ ≡ fits && fit → mark ≡ markIn t → entry ≡ entryFor time mark i n
       → Scanning size cap l n fits′ time (i + 1) (at + blockBytes) (set log i entry)
   unfolding checkAfter checkedAt entryAt
-  scanning-more t holds fit fits′ time entry et eh h1 em ef eb ee =
+  scanning-more t holds fit fits′ mark time entry et eh h1 em ef eb ek ee =
       let tm : time ≡ timeIn (imageBlockAt l (i + 1)) = em ∙ ap timeIn et in
       let fit-is : fit ≡ slotAt size l n i =
       ef ∙ ap₂ (λ (a : List ℕ) (b : ℕ). slotFits size a b i n last) et tm ∙ slot-last size l n i last (r .before) in
@@ -81,7 +81,7 @@ module _ (size cap : ℕ) (l : List ℕ) (n : ℕ) (fits : Bool) (last i at : �
         so-checked = each-more (checkAfter l) i ∙ rw (r .so-checked) (sym (ap checked et) ∙ sym eh ∙ h1);
         so-fit = eb ∙ ap₂ (λ (a b : Bool). a && b) (r .so-fit) fit-is ∙ sym (each-more (slotAt size l n) i);
         before = λ z. tm;
-        logged = ap (λ (x : Entry). set log i x) (ee ∙ ap (λ (k : ℕ). entryFor k i n) tm)
+        logged = ap (λ (x : Entry). set log i x) (ee ∙ ap₂ (λ (k : ℕ) (b : Bool). entryFor k b i n) tm (ek ∙ ap markIn et))
             ∙ row-more (entryAt l n) i log (omega arith) (r .logged);
       }
 

@@ -73,6 +73,9 @@ slot-fits-requires c κs = (omega (arith, c .before .before .before .before .bef
 both-requires : tie.Need-both-requires Inv-loop μ-loop
 both-requires c κs = search needs
 
+is-mark-requires : tie.Need-is-mark-requires Inv-loop μ-loop
+is-mark-requires c κs = long (c .before .before .before .before .before)
+
 entry-for-requires-2 : tie.Need-entry-for-requires-2 Inv-loop μ-loop
 entry-for-requires-2 c κs = search needs
 
@@ -91,11 +94,13 @@ loop-less c = omega arith
 loop-again : tie.Need-loop-again Inv-loop μ-loop
 unfolding timeIn
 loop-again c =
-    let t = c .before .before .before .before .before .before in
+    let marked = c .before in
+    let joined = marked .before in
+    let t = joined .before .before .before .before .before in
     let start = t .before .before .before .before .before in
-    scanning-more _ _ _ _ _ _ _ _ _ (start .pre .0 .capacity-high) (t .before .loop-test .taken) (t .before .before .loop .inv) _ _ _ _ _ _ (is-part t)
-    (c .before .before .before .before .before .check-holds .ensures) (c .before .before .before .before .if1 .taken) (c .before .before .before .read8 .ensures)
-    (c .before .before .slot-fits .ensures) (c .before .both .ensures) (c .entry-for2 .ensures)
+    scanning-more _ _ _ _ _ _ _ _ _ (start .pre .0 .capacity-high) (t .before .loop-test .taken) (t .before .before .loop .inv) _ _ _ _ _ _ _ (is-part t)
+    (joined .before .before .before .before .check-holds .ensures) (joined .before .before .before .if1 .taken) (joined .before .before .read8 .ensures)
+    (joined .before .slot-fits .ensures) (joined .both .ensures) (marked .is-mark .ensures) (c .entry-for2 .ensures)
 
 returns-2 : tie.Need-returns-2 Inv-loop μ-loop
 returns-2 c = scanned-all _ _ _ _ _ _ _ _ _ (c .loop-test .left) (c .before .loop .inv)
@@ -117,6 +122,7 @@ read-blocks-spec =
     read8-requires
     slot-fits-requires
     both-requires
+    is-mark-requires
     entry-for-requires-2
     mul-log
     array-set-from-log

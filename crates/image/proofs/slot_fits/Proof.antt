@@ -21,8 +21,8 @@ rising-requires c κs = search needs
 returns-3 : tie.Need-returns-3
 returns-3 c = search (needs, slot-rises)
 
-entry-fits-requires : tie.Need-entry-fits-requires
-entry-fits-requires c κs = search needs
+form-fits-requires : tie.Need-form-fits-requires
+form-fits-requires c κs = search needs
 
 returns-4 : tie.Need-returns-4
 returns-4 c = search (needs, slot-entry)
@@ -37,5 +37,5 @@ slot-fits-spec =
     returns-2
     rising-requires
     returns-3
-    entry-fits-requires
+    form-fits-requires
     returns-4)

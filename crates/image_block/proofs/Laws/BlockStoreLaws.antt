@@ -7,7 +7,7 @@ use lib.ListN.{length, drop, set}
 use Rattle.byte_lists.specs.Little.{byteOf}
 use Rattle.byte_lists.proofs.Laws.LittleLaws.{little-2, little-8}
 use Rattle.settings.specs.declared.Settings.{Settings}
-use Rattle.image_block.specs.Block.{blockBytes, checkBytes, headEnd, heldFrom, checkOf, sealed, headKind, headBody, entryKind, entryBody}
+use Rattle.image_block.specs.Block.{blockBytes, checkBytes, headEnd, heldFrom, checkOf, sealed, headKind, headBody, slotBody}
 use Rattle.image_block.specs.Workers.{unchecked}
 use Rattle.byte_lists.specs.Lists.{zeros, put}
 use Rattle.byte_lists.proofs.Laws.ZeroLaws.{zeros-length, zeros-take, zeros-drop}
@@ -45,21 +45,20 @@ held-all block b i h p =
     ∙ rw (zeros-take blockBytes heldFrom (omega arith), zeros-drop blockBytes (heldFrom + length block) w)
     (ap (λ (k : ℕ). zeros heldFrom ++ block ++ zeros k) (omega arith))
 
--- the stores of an entry
-pub entry-stored : (time size : ℕ) (block b : List ℕ) (z0 z1 p0 p1 p2 p3 p4 p5 p6 p7 : ℕ)
+-- the stores of a block of the log
+pub slot-stored : (kind time size : ℕ) (block b : List ℕ) (z0 z1 p0 p1 p2 p3 p4 p5 p6 p7 : ℕ)
     → b ≡ zeros heldFrom ++ block ++ zeros (blockBytes - heldFrom - length block)
-    → size ≡ length block
     → p0 ≡ byteOf time → p1 ≡ byteOf (time / 256) → p2 ≡ byteOf (time / 65536)
     → p3 ≡ byteOf (time / 16777216) → p4 ≡ byteOf (time / 4294967296) → p5 ≡ byteOf (time / 1099511627776)
     → p6 ≡ byteOf (time / 281474976710656) → p7 ≡ byteOf (time / 72057594037927936)
     → z0 ≡ byteOf size → z1 ≡ byteOf (size / 256)
-    → set (set (set (set (set (set (set (set (set (set (set b 2 entryKind) 4 p0) 5 p1) 6 p2) 7 p3) 8 p4) 9 p5) 10 p6) 11 p7) 12 z0) 13 z1
-    ≡ unchecked (entryBody time block)
-unfolding unchecked entryBody zeros
-entry-stored time size block b z0 z1 p0 p1 p2 p3 p4 p5 p6 p7 e n e0 e1 e2 e3 e4 e5 e6 e7 ez0 ez1 =
+    → set (set (set (set (set (set (set (set (set (set (set b 2 kind) 4 p0) 5 p1) 6 p2) 7 p3) 8 p4) 9 p5) 10 p6) 11 p7) 12 z0) 13 z1
+    ≡ unchecked (slotBody kind time size block)
+unfolding unchecked slotBody zeros
+slot-stored kind time size block b z0 z1 p0 p1 p2 p3 p4 p5 p6 p7 e e0 e1 e2 e3 e4 e5 e6 e7 ez0 ez1 =
     let z = little-2 size z0 z1 ez0 ez1 in
     let p = little-8 time p0 p1 p2 p3 p4 p5 p6 p7 e0 e1 e2 e3 e4 e5 e6 e7 in
-    rw (e, ← n, ← z, ← p)
+    rw (e, ← z, ← p)
 
 -- sealing what was stored
 pub sealed-of : (b r body : List ℕ) → b ≡ unchecked body → r ≡ sealed (drop checkBytes b) → r ≡ sealed body

@@ -2,7 +2,7 @@
 use mathlib.Core.Path.{_≡_, refl}
 use mathlib.Core.List.{[], _∷_}
 use Rattle.byte_lists.specs.Little.{little, byteOf}
-use Rattle.image_block.specs.Block.{bodyBytes, weighted, checkOf, sealed, headBody, entryBody, unusedBody, unusedBlock}
+use Rattle.image_block.specs.Block.{bodyBytes, weighted, checkOf, sealed, headBody, slotBody, entryBody, unusedBody, unusedBlock}
 use Rattle.byte_lists.specs.Lists.{zeros}
 
 pub fresh-head-check : checkOf (headBody (record { n = 3; m = 1; size = 1; capacity = 4; stripes = 1 }) 0 1 0) ≡ 55
@@ -10,7 +10,7 @@ unfolding weighted checkOf headBody little byteOf zeros
 fresh-head-check = refl
 
 pub fresh-entry-check : checkOf (entryBody 0 (0 ∷ [])) ≡ 14
-unfolding weighted checkOf entryBody little byteOf zeros
+unfolding weighted checkOf entryBody slotBody little byteOf zeros
 fresh-entry-check = refl
 
 -- "an unused block is 510 zeros after a check of 1"

@@ -1,12 +1,12 @@
 -- The number of what a view gives.
 use mathlib.Core.Path.{_≡_, refl}
 use mathlib.Core.Bool.{Bool, true, false, cond}
-use Prim.Native.Nat.{ℕ, _+_}
+use Prim.Native.Nat.{ℕ}
 use lib.Dec.{leb}
 use Rattle.settings.specs.Refusal.{passed, badNumber}
-use Rattle.image.specs.Brick.{entryCount, timeAt}
+use Rattle.image.specs.Brick.{entryCount, timeAt, markAt}
 use Rattle.image.specs.Parse.{Parsed, Opens, Refuses}
-use Rattle.image.specs.declared.Holding.the-variants.{Held}
+use Rattle.image.specs.Opening.{holdingFor}
 use Rattle.image_view.specs.View.{foundOf}
 use Rattle.image_view.specs.declared.Found.the-variants.{At, Refused}
 use Rattle.image_view.specs.View.{foundNumber, placeNumber}
@@ -16,7 +16,7 @@ unfolding foundNumber foundOf placeNumber
 found-number (Opens x) place = go (leb (entryCount x) place)
   where
     go : (b : Bool)
-        → foundNumber (cond b (Refused badNumber) (At (record { time = timeAt x place; holding = Held (place + 1) }))) ≡ cond b badNumber passed
+        → foundNumber (cond b (Refused badNumber) (At (record { time = timeAt x place; holding = holdingFor (markAt x place) place }))) ≡ cond b badNumber passed
     go true = refl
     go false = refl
 found-number (Refuses number) place = refl

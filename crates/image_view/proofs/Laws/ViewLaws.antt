@@ -1,46 +1,33 @@
 -- The entry at a place, from bytes; the view of an image gives the entries of its brick.
-use mathlib.Core.Path.{_≡_, refl, sym, ap, _∙_}
+use mathlib.Core.Path.{_≡_, refl, sym, ap, ap₂, _∙_}
 use mathlib.Core.Bool.{Bool, true, false, cond}
 use mathlib.Core.List.{List}
-use Prim.Native.Nat.{ℕ, _-_, _+_, _*_, _/_, _≤_, _<_}
+use Prim.Native.Nat.{ℕ, _+_, _/_, _≤_, _<_}
 use native.Mathlib.Omega.{arith}
 use denote.Ref.{RefT, now}
 use lib.Dec.{leb}
-use lib.ListN.{length, take, drop}
-use lib.Seq.{take-take, drop-drop}
+use lib.ListN.{length}
 use borrow.Author.Tests.{le-leb, lt-leb, leb-false}
 use Rattle.settings.specs.declared.Settings.{Settings}
-use Rattle.byte_lists.specs.Little.{number}
-use Rattle.image.specs.Brick.{Brick, entryCount, timeAt}
+use Rattle.image.specs.Brick.{Brick, entryCount, timeAt, markAt}
 use Rattle.image.specs.Image.{imageSize}
-use Rattle.image.specs.Parse.{Parsed, Opens, Refuses, parse, imageBlockAt, countIn, timeIn}
+use Rattle.image.specs.Parse.{Parsed, Opens, Refuses, parse, imageBlockAt, countIn, timeIn, markIn}
 use Rattle.image.proofs.Laws.ParseLaws.{count-in, opened}
-use Rattle.image.proofs.Laws.FieldTestLaws.{time-in}
-use Rattle.image.specs.Opening.{opening, answerNumber}
+use Rattle.image.proofs.Laws.FieldTestLaws.{time-in, mark-in}
+use Rattle.image.specs.Opening.{opening, answerNumber, holdingFor}
 use Rattle.image.specs.Workers.{Hub, ImageOpened}
 use Rattle.image.proofs.Laws.HubLaws.{turned}
 use Rattle.image.specs.declared.Opening.{Opening}
 use Rattle.image.specs.declared.Head.{Head}
-use Rattle.image.specs.declared.Holding.the-variants.{Held}
+use Rattle.image.specs.declared.Holding.the-variants.{Held, Same}
 use Rattle.image.specs.declared.ImageAnswer.the-variants.{Refused as Failed}
 use Rattle.image_view.specs.View.{countOf, foundOf, foundAt, foundBy, foundIn, viewOf}
 use Rattle.image_view.specs.declared.Counted.{Counted}
 use Rattle.image_view.specs.declared.Counted.the-variants.{Entries}
 use Rattle.image_view.specs.declared.Found.{Found}
 use Rattle.image_view.specs.declared.Found.the-variants.{At, Refused}
-use Rattle.byte_lists.proofs.Laws.PutLaws.{drop-take}
-use Rattle.image_block.specs.Block.{blockBytes, timeBytes, timeFrom}
+use Rattle.image_block.specs.Block.{blockBytes}
 use Rattle.settings.specs.Refusal.{badLength, badNumber}
-
--- the time field, read from the whole image
-pub time-there : (l : List ℕ) (k at time : ℕ) → at ≡ blockBytes * k + timeFrom → time ≡ number (take timeBytes (drop at l)) → time ≡ timeIn (imageBlockAt l k)
-unfolding timeIn imageBlockAt
-time-there l k at time e t =
-    t
-    ∙ ap (λ (j : ℕ). number (take timeBytes (drop j l))) e
-    ∙ ap (λ (m : List ℕ). number (take timeBytes m)) (sym (drop-drop timeFrom (blockBytes * k) l))
-    ∙ ap number (sym (take-take timeBytes (blockBytes - timeFrom) (drop timeFrom (drop (blockBytes * k) l)) (omega arith)))
-    ∙ ap (λ (m : List ℕ). number (take timeBytes m)) (sym (drop-take timeFrom (blockBytes - timeFrom) (drop (blockBytes * k) l)))
 
 module _ (l : List ℕ) (n place : ℕ) where
   pub at-short : length l / blockBytes ≤ n → Refused badLength ≡ foundAt l n place
@@ -51,12 +38,22 @@ module _ (l : List ℕ) (n place : ℕ) where
   unfolding foundAt
   at-past h k = rw (lt-leb (length l / blockBytes) n h, le-leb n place k) refl
 
-  pub at-there : (time at : ℕ) → n < length l / blockBytes → place < n → at ≡ blockBytes * (place + 1) + timeFrom → time ≡ number (take timeBytes (drop at l))
-      → At (record { time = time; holding = Held (place + 1) }) ≡ foundAt l n place
-  unfolding foundAt
-  at-there time at h k e t =
-      rw (lt-leb (length l / blockBytes) n h, lt-leb n place k)
-      (ap (λ (x : ℕ). At (record { time = x; holding = Held (place + 1) })) (time-there l (place + 1) at time e t))
+  -- and the entry, by the block that stands there
+  module _ (t : List ℕ) (time : ℕ) (mark : Bool) (h : n < length l / blockBytes) (k : place < n) (is-block : t ≡ imageBlockAt l (place + 1))
+      (is-time : time ≡ timeIn t) (is-mark : mark ≡ markIn t) where
+    there : At (record { time = time; holding = holdingFor mark place }) ≡ foundAt l n place
+    unfolding foundAt
+    there =
+        rw (lt-leb (length l / blockBytes) n h, lt-leb n place k)
+        (ap₂ (λ (x : ℕ) (m : Bool). At (record { time = x; holding = holdingFor m place })) (is-time ∙ ap timeIn is-block) (is-mark ∙ ap markIn is-block))
+
+    pub at-mark : mark ≡ true → At (record { time = time; holding = Same }) ≡ foundAt l n place
+    unfolding holdingFor
+    at-mark e = rw e at there
+
+    pub at-held : mark ≡ false → At (record { time = time; holding = Held (place + 1) }) ≡ foundAt l n place
+    unfolding holdingFor
+    at-held e = rw e at there
 
 -- what opening gave
 pub counted-refused : (p : Parsed) (o : Opening) (k n : ℕ) → o ≡ opening p → o .answer ≡ Failed k → n ≡ answerNumber (o .answer) → Counted.Refused n ≡ countOf p
@@ -89,13 +86,14 @@ view-entry s brick image place = go (parse s brick l) refl
 
     there : (x : Brick) → ImageOpened s brick l x → (b : Bool) → leb (entryCount x) place ≡ b
         → cond (leb (length l / blockBytes) (entryCount x)) (Refused badLength)
-        (cond (leb (entryCount x) place) (Refused badNumber) (At (record { time = timeIn (imageBlockAt l (place + 1)); holding = Held (place + 1) })))
-        ≡ cond (leb (entryCount x) place) (Refused badNumber) (At (record { time = timeAt x place; holding = Held (place + 1) }))
+        (cond (leb (entryCount x) place) (Refused badNumber) (At (record { time = timeIn (imageBlockAt l (place + 1)); holding = holdingFor (markIn (imageBlockAt l (place + 1))) place })))
+        ≡ cond (leb (entryCount x) place) (Refused badNumber) (At (record { time = timeAt x place; holding = holdingFor (markAt x place) place }))
     there x u true q = rw (within x u, q) refl
     there x u false q =
         let low : place < countIn (imageBlockAt l 0) = omega (arith, leb-false (entryCount x) place q, ap entryCount (u .is-read), count-in s l) in
         let t : timeAt x place ≡ timeIn (imageBlockAt l (place + 1)) = ap (λ (y : Brick). timeAt y place) (u .is-read) ∙ time-in s l place low in
-        rw (within x u, q) (ap (λ (k : ℕ). At (record { time = k; holding = Held (place + 1) })) (sym t))
+        let m : markAt x place ≡ markIn (imageBlockAt l (place + 1)) = ap (λ (y : Brick). markAt y place) (u .is-read) ∙ mark-in s l place low in
+        rw (within x u, q) (ap₂ (λ (k : ℕ) (b : Bool). At (record { time = k; holding = holdingFor b place })) (sym t) (sym m))
 
     go : (p : Parsed) → parse s brick l ≡ p → foundBy l (countOf p) place ≡ foundOf p place
     go (Opens x) e = there x (opened s brick l x e) (leb (entryCount x) place) refl

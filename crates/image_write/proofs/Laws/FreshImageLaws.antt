@@ -11,8 +11,8 @@ use Rattle.image_block.specs.Block.{headBlock, entryBlock}
 use Rattle.byte_lists.specs.Lists.{put, zeros}
 use Rattle.image_block.proofs.Laws.LayoutLaws.{head-length, entry-length}
 use Rattle.byte_lists.proofs.Laws.ZeroLaws.{zeros-length}
-use Rattle.image.specs.Brick.{entryCount, timeAt, meansAt, freshBrick}
-use Rattle.image.specs.Image.{imageBlock, imageOf, imageSize}
+use Rattle.image.specs.Brick.{entryCount, timeAt, meansAt, markAt, freshBrick}
+use Rattle.image.specs.Image.{slotBlock, imageBlock, imageOf, imageSize}
 use Rattle.image.specs.Opening.{lendingRefusal}
 use Rattle.image.specs.Parse.{imageBlockAt}
 use Rattle.image_write.specs.Workers.{cleared}
@@ -22,7 +22,7 @@ use Rattle.image_block.specs.Block.{blockBytes}
 
 fresh-block : (s : Settings) (brick : ℕ) (g : ℕ → List ℕ) (k : ℕ) → k < s .capacity + 1
     → clearedOf (placed (placed g 0 (headBlock s brick 1 0)) 1 (entryBlock 0 (zeros (s .size)))) 2 (s .capacity + 1) k ≡ imageBlock s brick (freshBrick s) k
-unfolding clearedOf placed imageBlock freshBrick entryCount timeAt meansAt
+unfolding clearedOf placed imageBlock slotBlock freshBrick entryCount timeAt meansAt markAt
 fresh-block s brick g zero h = refl
 fresh-block s brick g (suc zero) h = refl
 fresh-block s brick g (suc (suc i)) h =

@@ -19,7 +19,7 @@ use Rattle.poly.specs.Polynomial.{sub, rootsTo, othersTo}
 use Rattle.settings.specs.Ranges.{maxBricks}
 
 -- a difference of bytes by their numbers
-difference-is : (a b : ℕ) → a < 256 → b < 256 → sub byteField (byte a) (byte b) .0 ≡ bitXor a b
+pub difference-is : (a b : ℕ) → a < 256 → b < 256 → sub byteField (byte a) (byte b) .0 ≡ bitXor a b
 unfolding sub plus
 difference-is a b ha hb = add-is (byte a) (byte b) ∙ ap₂ plus (byte-small a ha) (byte-small b hb)
 

@@ -1,21 +1,22 @@
 -- The ways through the refusals of messages and replies.
 use mathlib.Core.Path.{_≡_, refl, sym, _∙_}
 use mathlib.Core.Bool.{Bool, true, false, _&&_}
-use mathlib.Core.List.{[], _∷_}
+use mathlib.Core.List.{List, [], _∷_}
 use Prim.Native.Nat.{ℕ, _≤_, _<_}
-use lib.Dec.{eqb}
 use borrow.Author.Tests.{lt-ltb, le-ltb, le-leb, lt-leb, eq-eqb, ne-eqb}
-use Rattle.message.specs.Messages.{roundRight, kindRight, messageRefusal, foundRight, replyRight, replyRefusal}
+use Rattle.message.specs.Messages.{roundRight, kindRight, messageRefusal, foundRight, targetsRight, namesBlock, messageBlockRefusal, replyRight, replyRefusal}
+use Rattle.message.specs.Flags.{brickSet}
+use Rattle.settings.specs.Ranges.{dataBlockRefusal}
 use Rattle.message.specs.declared.Message.{Message}
 use Rattle.message.specs.declared.Reply.{Reply}
 use Rattle.settings.specs.Refusal.{passed, badNumber, badMessage, firstRefusal, refuseUnless}
-use Rattle.message.specs.Kinds.{readKind, writeKind}
+use Rattle.message.specs.Kinds.{readKind, modifyKind, blockTargets}
 use Rattle.settings.specs.Times.{validTime}
 
 -- a reply of a known kind: its time, round and found time are left
-pub reply-rest : (r : Reply) → readKind ≤ r .kind → r .kind ≤ writeKind → replyRight r ≡ validTime (r .time) && roundRight (r .round) && foundRight (r .found)
+pub reply-rest : (r : Reply) → readKind ≤ r .kind → r .kind ≤ modifyKind → replyRight r ≡ validTime (r .time) && roundRight (r .round) && foundRight (r .found)
 unfolding replyRight
-reply-rest r a b = rw (le-leb readKind (r .kind) a, le-leb (r .kind) writeKind b)
+reply-rest r a b = rw (le-leb readKind (r .kind) a, le-leb (r .kind) modifyKind b)
 
 pub reply-brick : (n : ℕ) (r : Reply) → n ≤ r .brick → badNumber ≡ replyRefusal n r
 unfolding replyRefusal firstRefusal
@@ -60,25 +61,44 @@ pub reply-low : (r : Reply) → r .kind < readKind → false ≡ replyRight r
 unfolding replyRight
 reply-low r h = rw (lt-leb readKind (r .kind) h)
 
-pub reply-high : (r : Reply) → readKind ≤ r .kind → writeKind < r .kind → false ≡ replyRight r
+pub reply-high : (r : Reply) → readKind ≤ r .kind → modifyKind < r .kind → false ≡ replyRight r
 unfolding replyRight
-reply-high r a h = rw (le-leb readKind (r .kind) a, lt-leb (r .kind) writeKind h)
+reply-high r a h = rw (le-leb readKind (r .kind) a, lt-leb (r .kind) modifyKind h)
 
-pub reply-time : (r : Reply) (a : Bool) → readKind ≤ r .kind → r .kind ≤ writeKind → a ≡ validTime (r .time) → a ≡ false → false ≡ replyRight r
+pub reply-time : (r : Reply) (a : Bool) → readKind ≤ r .kind → r .kind ≤ modifyKind → a ≡ validTime (r .time) → a ≡ false → false ≡ replyRight r
 reply-time r a l h ea ta = sym (reply-rest r l h ∙ rw (← ea, ta))
 
-pub reply-round : (r : Reply) (a b : Bool) → readKind ≤ r .kind → r .kind ≤ writeKind → a ≡ validTime (r .time) → a ≡ true → b ≡ roundRight (r .round) → b ≡ false
+pub reply-round : (r : Reply) (a b : Bool) → readKind ≤ r .kind → r .kind ≤ modifyKind → a ≡ validTime (r .time) → a ≡ true → b ≡ roundRight (r .round) → b ≡ false
     → false ≡ replyRight r
 reply-round r a b l h ea ta eb tb = sym (reply-rest r l h ∙ rw (← ea, ← eb, ta, tb))
 
-pub reply-found : (r : Reply) (a b v : Bool) → readKind ≤ r .kind → r .kind ≤ writeKind → a ≡ validTime (r .time) → a ≡ true → b ≡ roundRight (r .round) → b ≡ true
+pub reply-found : (r : Reply) (a b v : Bool) → readKind ≤ r .kind → r .kind ≤ modifyKind → a ≡ validTime (r .time) → a ≡ true → b ≡ roundRight (r .round) → b ≡ true
     → v ≡ foundRight (r .found) → v ≡ replyRight r
 reply-found r a b v l h ea ta eb tb e = e ∙ sym (reply-rest r l h ∙ rw (← ea, ← eb, ta, tb))
 
-pub found-zero : (t : ℕ) (v : Bool) → t ≡ 0 → v ≡ eqb t 0 → v ≡ foundRight t
+pub found-zero : (t : ℕ) → t ≡ 0 → true ≡ foundRight t
 unfolding foundRight
-found-zero t v e f = f ∙ rw (eq-eqb t 0 e)
+found-zero t e = rw (eq-eqb t 0 e)
 
 pub found-time : (t : ℕ) (v : Bool) → (t ≡ 0 → ⊥) → v ≡ validTime t → v ≡ foundRight t
 unfolding foundRight
 found-time t v n e = e ∙ rw (ne-eqb t 0 n)
+
+-- Read's targets: a is what the first test gave.
+pub targets-many : (n m : ℕ) (l : List ℕ) (a : Bool) → a ≡ brickSet l n m → a ≡ true → true ≡ targetsRight n m l
+unfolding targetsRight
+targets-many n m l a e t = rw (← e, t)
+
+pub targets-one : (n m : ℕ) (l : List ℕ) (a v : Bool) → a ≡ brickSet l n m → a ≡ false → v ≡ brickSet l m blockTargets → v ≡ targetsRight n m l
+unfolding targetsRight
+targets-one n m l a v e t f = f ∙ rw (← e, t)
+
+-- A message's data block.
+pub block-named : (m : ℕ) (msg : Message) (a : Bool) (v : ℕ) → a ≡ namesBlock (msg .kind) → a ≡ true → v ≡ dataBlockRefusal m (msg .block)
+    → v ≡ messageBlockRefusal m msg
+unfolding messageBlockRefusal
+block-named m msg a v e t f = f ∙ rw (← e, t)
+
+pub block-unnamed : (m : ℕ) (msg : Message) (a : Bool) → a ≡ namesBlock (msg .kind) → a ≡ false → passed ≡ messageBlockRefusal m msg
+unfolding messageBlockRefusal
+block-unnamed m msg a e t = rw (← e, t)

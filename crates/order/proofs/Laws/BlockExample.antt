@@ -1,12 +1,11 @@
--- Another plain stripe, whose kinds read and write one block: a finished write, a finished write of one block over it,
--- and a read of that block in one round.
+-- Operations on one block: a finished write, a finished write of one block over it, and a read of that block in one round.
 -- 4 bricks, 2 data blocks, quorums of 3.
 use mathlib.Core.Path.{_≡_, refl}
 use mathlib.Core.List.{List, [], _∷_}
 use Prim.Native.Nat.{ℕ}
 use lib.Dec.{lit≤}
 use lib.ListN.{getD, set as replaced}
-use Rattle.order.specs.Claim.{Plain, Result, ok, bytes}
+use Rattle.order.specs.Claim.{Plain, Blocks, write, readBlock, writeBlock, Result, ok, changed, given, stripe}
 use Rattle.order.specs.Facts.{itself, over, began, promised, launched, stored, showed, ended, written, one-round, History}
 use Rattle.order.specs.Quorums.{Quorums}
 use Rattle.order.specs.Valid.{Valid, start, sets, onto}
@@ -14,24 +13,12 @@ use Rattle.order.proofs.Laws.OneOrderTheorem.{one-order, the-order}
 use Rattle.order.proofs.Laws.ExampleLaws.{began-ok, promised-ok, stored-ok, showed-ok, launched-ok, launched-over-ok, committed-ok}
 use Rattle.order.proofs.Laws.ExampleLaws.{showed-many, not-launched, ended-ok, at, _▷_, tests, orders}
 
--- the stripe as a list of blocks
-data BlockAction : Type 0 where
-  write-all : List ℕ → BlockAction
-  write-block : ℕ → ℕ → BlockAction
-  read-block : ℕ → BlockAction
+-- the stripe as a list of blocks of one byte
+abbrev row : Blocks (List ℕ) ℕ
+row = record { at = λ j s. getD s j 0; set = λ j b s. replaced s j b }
 
-after : BlockAction → List ℕ → List ℕ
-after (write-all v) s = v
-after (write-block j x) s = replaced s j x
-after (read-block j) s = s
-
-tells : BlockAction → List ℕ → Result (List ℕ)
-tells (write-all v) s = ok
-tells (write-block j x) s = ok
-tells (read-block j) s = bytes (getD s j 0 ∷ [])
-
-abbrev blocks : Plain
-blocks = record { Kind = BlockAction; Stripe = List ℕ; Given = Result (List ℕ); zeros = 0 ∷ 0 ∷ []; effect = after; gives = tells }
+abbrev two-blocks : Plain
+two-blocks = stripe row (0 ∷ 0 ∷ [])
 
 abbrev four : Quorums
 four = record { n = 4; m = 2; q = 3; share = lit≤ tt; some = lit≤ tt }
@@ -42,35 +29,32 @@ five-six = 5 ∷ 6 ∷ []
 abbrev five-nine : List ℕ
 five-nine = 5 ∷ 9 ∷ []
 
-abbrev nine : List ℕ
-nine = 9 ∷ []
-
-abbrev two-writes : History blocks
+abbrev two-writes : History two-blocks
 two-writes =
     ended 32 (written ok) ∷ stored 2 32 ∷ stored 1 32 ∷ stored 0 32
     ∷ launched 32 (over 16) ∷ promised 2 32 ∷ promised 1 32 ∷ promised 0 32
-    ∷ began 32 (write-block 1 9)
+    ∷ began 32 (writeBlock 1 9)
     ∷ ended 16 (written ok) ∷ stored 2 16 ∷ stored 1 16 ∷ stored 0 16
     ∷ launched 16 itself ∷ promised 2 16 ∷ promised 1 16 ∷ promised 0 16
-    ∷ began 16 (write-all five-six) ∷ []
+    ∷ began 16 (write five-six) ∷ []
 
-abbrev block-writes : History blocks
+abbrev block-writes : History two-blocks
 block-writes =
-    ended 48 (one-round 32 (bytes nine)) ∷ showed 2 48 32 ∷ showed 1 48 32 ∷ showed 0 48 32
-    ∷ began 48 (read-block 1) ∷ two-writes
+    ended 48 (one-round 32 (Result.block 9)) ∷ showed 2 48 32 ∷ showed 1 48 32 ∷ showed 0 48 32
+    ∷ began 48 (readBlock 1) ∷ two-writes
 
 two-writes-valid : Valid four two-writes
-unfolding tests after tells
+unfolding tests changed given
 two-writes-valid = start
     ▷ began-ok tt tt
     ▷ promised-ok tt tt
     ▷ promised-ok tt tt
     ▷ promised-ok tt tt
-    ▷ launched-ok four tt tt tt tt (write-all five-six) five-six (_, at 3 _) (λ s. refl)
+    ▷ launched-ok four tt tt tt tt (write five-six) five-six (_, at 3 _) (λ s. refl)
     ▷ stored-ok tt tt
     ▷ stored-ok tt tt
     ▷ stored-ok tt tt
-    ▷ ended-ok four tt tt (committed-ok four tt, record { kind = write-all five-six; asked = (_, at 7 _); blind = λ s. refl })
+    ▷ ended-ok four tt tt (committed-ok four tt, record { kind = write five-six; asked = (_, at 7 _); blind = λ s. refl })
     ▷ began-ok tt tt
     ▷ promised-ok tt tt
     ▷ promised-ok tt tt
@@ -79,10 +63,10 @@ two-writes-valid = start
     ▷ stored-ok tt tt
     ▷ stored-ok tt tt
     ▷ stored-ok tt tt
-    ▷ ended-ok four tt tt (committed-ok four tt, record { kind = write-block 1 9; asked = (_, at 7 _); blind = λ s. refl })
+    ▷ ended-ok four tt tt (committed-ok four tt, record { kind = writeBlock 1 9; asked = (_, at 7 _); blind = λ s. refl })
 
 block-writes-valid : Valid four block-writes
-unfolding tests after tells
+unfolding tests changed given
 block-writes-valid = two-writes-valid
     ▷ began-ok tt tt
     ▷ showed-ok tt tt tt
@@ -92,7 +76,7 @@ block-writes-valid = two-writes-valid
       not-launched four tt,
       showed-many four tt,
       record {
-        kind = read-block 1;
+        kind = readBlock 1;
         asked = (_, at 3 _);
         keeps = λ s. refl;
         stripe = five-nine;
@@ -103,8 +87,8 @@ block-writes-valid = two-writes-valid
 
 -- The order: as they came.
 block-writes-order : one-order block-writes-valid .order
-    ≡ record { time = 16; kind = write-all five-six }
-    ∷ record { time = 32; kind = write-block 1 9 }
-    ∷ record { time = 48; kind = read-block 1 } ∷ []
+    ≡ record { time = 16; kind = write five-six }
+    ∷ record { time = 32; kind = writeBlock 1 9 }
+    ∷ record { time = 48; kind = readBlock 1 } ∷ []
 unfolding orders
 block-writes-order = the-order block-writes-valid

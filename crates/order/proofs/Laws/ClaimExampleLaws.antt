@@ -4,7 +4,7 @@ use mathlib.Core.Logic.{_⊎_, inl, inr}
 use mathlib.Core.List.{List, [], _∷_, List·Memᴰ·head, List·Memᴰ·tail, List·Memᴰ·not-nil}
 use Prim.Native.Nat.{ℕ}
 use native.Mathlib.Omega.{arith}
-use Rattle.order.specs.Claim.{Ending, Action, read, bytes, changed, given, finished, Seen, Operation, _∈_, Before, here, later, Once, Right}
+use Rattle.order.specs.Claim.{Ending, read, bytes, changed, given, finished, Seen, Operation, _∈_, Before, here, later, Once, Right}
 use Rattle.order.specs.BenchExample.{one-byte, nought, ten}
 use Rattle.order.specs.ClaimExample.{turned-up, TurnedUpHasNoOrder}
 
@@ -42,7 +42,7 @@ after-first (x ∷ os) b r (List·Memᴰ·head e) t k =
     omega arith
 after-first (x ∷ os) b r (List·Memᴰ·tail i) t k =
     let q = k x (List·Memᴰ·head refl) in
-    after-first os b (subst (λ (z : Action (List ℕ)). Right turned-up (changed z nought) os) q (r .1)) i t (λ o j. k o (List·Memᴰ·tail j))
+    after-first os b (subst (λ (z : one-byte .Kind). Right turned-up (changed z nought) os) q (r .1)) i t (λ o j. k o (List·Memᴰ·tail j))
 
 -- no order has both reads: 16 stands before the first or nowhere
 no-order : (os : List (Operation one-byte)) (a b : Operation one-byte) (s : List ℕ)

@@ -58,7 +58,7 @@ module _ (s : Settings) where
   )
 
   -- what a driver makes of a routine's answer is the routine's step in the world
-  pub driven-is : (w : World) (c : ℕ) (p : Step) (a : Answer) (blocks′ stripe′ coded coded′ : List ℕ) → Short p
+  pub driven-is : (w : World) (c : ℕ) (p : Step) (a : Answer) (blocks′ stripe′ coded coded′ : List ℕ) → Short (s .size) p
       → returned a blocks′ stripe′ coded′ ≡ returnedBy (w .coordinators c) coded p → driven s w c a blocks′ stripe′ coded′ ≡ coordinated s w c p
   unfolding returnedBy
   driven-is w c p a blocks′ stripe′ coded coded′ short e =

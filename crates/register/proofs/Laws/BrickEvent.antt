@@ -14,14 +14,13 @@ use Rattle.settings.specs.Ranges.{SettingsRange}
 use Rattle.settings.specs.Refusal.{firstRefusal, passed}
 use Rattle.settings.specs.declared.Settings.{Settings}
 use Rattle.settings.proofs.Laws.RefusalLaws.{passed-first, passed-rest}
-use Rattle.message.specs.Messages.{messageRefusal}
 use Rattle.message.specs.declared.Message.{Message}
 use Rattle.image.specs.Brick.{Brick}
-use Rattle.image.specs.Parse.{Parsed, Opens, parse, openRefusal}
+use Rattle.image.specs.Parse.{Parsed, Opens, parse}
 use Rattle.image.proofs.Laws.ParseLaws.{parse-image}
 use Rattle.brick.specs.Receive
-use Rattle.brick.specs.Receive.{Outcome, outcome, frontRefusal, receiveRefusal, refusedWith, givenBy}
-use Rattle.brick.proofs.Laws.OutcomeLaws.{fronted}
+use Rattle.brick.specs.Receive.{Outcome, beside, outcome, receiveRefusal, refusedWith, givenBy}
+use Rattle.brick.proofs.Laws.OutcomeLaws.{passes}
 use Rattle.image.specs.Image.{imageSize}
 use Rattle.image.proofs.Laws.ImageSoundLaws.{image-length}
 use Rattle.brick_log.specs.BrickRules.{placeFor, replyTo, brickAfter, blockAfter}
@@ -54,11 +53,11 @@ pub first-passed : (k : ℕ) (l : List ℕ) → firstRefusal (k ∷ l) ≡ passe
 first-passed k l e = (passed-first k l e, passed-rest k l e)
 
 -- a reply is no message
-pub no-message : (given : Given) (out : List ℕ) (b : ℕ) (msg : Message) (block : List ℕ) → message b msg block ∈ repliedWith given out → ⊥
+pub no-message : (given : Given) (out : List ℕ) (b : ℕ) (msg : Message) (block old : List ℕ) → message b msg block old ∈ repliedWith given out → ⊥
 unfolding repliedWith
-no-message (Answered r) out b msg block m = let e = List·Memᴰ·eq-of-singleton m in let z : _≡_ {A = ℕ} 0 1 = cc in omega arith
-no-message Silent out b msg block m = List·Memᴰ·not-nil m
-no-message (Refused k) out b msg block m = List·Memᴰ·not-nil m
+no-message (Answered r) out b msg block old m = let e = List·Memᴰ·eq-of-singleton m in let z : _≡_ {A = ℕ} 0 1 = cc in omega arith
+no-message Silent out b msg block old m = List·Memᴰ·not-nil m
+no-message (Refused k) out b msg block old m = List·Memᴰ·not-nil m
 
 -- a view in which brick b has another image, and replies went out
 abbrev pub brickView : (s : Settings) → View s → ℕ → (image : List ℕ) → (replies : List Item) → View s
@@ -76,7 +75,7 @@ module _ (s : Settings) (g : SettingsRange s) (h : Hist s) (v : View s) (i : Vie
         bricks = λ b′ l. at b′ l (eqb b′ b) refl;
         items = λ k m. item k (List·Memᴰ·append-cases (v .sent) m);
         coordinators = λ c.
-            coordinator-sent (within-more (v .sent) replies) (λ b′ msg block m e t. quiet b′ msg block (List·Memᴰ·append-cases (v .sent) m))
+            coordinator-sent (within-more (v .sent) replies) (λ b′ msg block old m e t. quiet b′ msg block old (List·Memᴰ·append-cases (v .sent) m))
             (gr .coordinators (v .sent) c (v .coordinators c) (i .coordinators c));
       }
     where
@@ -98,17 +97,17 @@ module _ (s : Settings) (g : SettingsRange s) (h : Hist s) (v : View s) (i : Vie
       item k (inl m) = item-up s g (gr .valid) (gr .longer) (within-more (v .sent) replies) k (i .items k m)
       item k (inr m) = new k m
 
-      quiet : (b′ : ℕ) (msg : Message) (block : List ℕ) → (message b′ msg block ∈ v .sent) ⊎ (message b′ msg block ∈ replies)
-          → message b′ msg block ∈ v .sent
-      quiet b′ msg block (inl m) = m
-      quiet b′ msg block (inr m) = absurd (no-message (o .given) (o .out) b′ msg block m)
+      quiet : (b′ : ℕ) (msg : Message) (block old : List ℕ) → (message b′ msg block old ∈ v .sent) ⊎ (message b′ msg block old ∈ replies)
+          → message b′ msg block old ∈ v .sent
+      quiet b′ msg block old (inl m) = m
+      quiet b′ msg block old (inr m) = absurd (no-message (o .given) (o .out) b′ msg block old m)
 
   -- A message of the stripe reaches its brick: what the image of the stripe makes of it.
-  pub message-received : (b : ℕ) (msg : Message) (block : List ℕ) → message b msg block ∈ v .sent
-      → let o = outcome s b (v .images b) msg block (replicate (s .size) 0) in
+  pub message-received : (b : ℕ) (msg : Message) (block old : List ℕ) → message b msg block old ∈ v .sent
+      → let o = outcome s b (v .images b) msg block old (replicate (s .size) 0) in
       (length (o .image) ≡ imageSize s) × Goes s g (brickView s v b (o .image) (repliedWith (o .given) (o .out)))
   unfolding outcome receiveRefusal Receive.accepted refusedWith givenBy repliedWith
-  message-received b msg block was = decide (eqb refusal passed) refl
+  message-received b msg block old was = decide (eqb refusal passed) refl
     where
       out : List ℕ
       out = replicate (s .size) 0
@@ -117,16 +116,13 @@ module _ (s : Settings) (g : SettingsRange s) (h : Hist s) (v : View s) (i : Vie
       image = v .images b
 
       low : b < s .n
-      low = i .items (message b msg block) was .brick-low
+      low = i .items (message b msg block old) was .brick-low
 
       x : Brick
       x = i .bricks b low .state
 
-      front : ℕ
-      front = frontRefusal s 1 b (length image) (msg .stripe) (length block) (length out)
-
       refusal : ℕ
-      refusal = firstRefusal (front ∷ openRefusal s b image ∷ messageRefusal (s .n) (s .m) msg ∷ [])
+      refusal = receiveRefusal s b image msg (beside block old out)
 
       opens : parse s b image ≡ Opens x
       opens = ap (parse s b) (i .bricks b low .saved) ∙ parse-image s b x (in-range s g) low (i .bricks b low .sound)
@@ -141,13 +137,13 @@ module _ (s : Settings) (g : SettingsRange s) (h : Hist s) (v : View s) (i : Vie
         (h, brick-moved b (refusedWith refusal image out) h (grows-not s g b h (i .valid)) (i .bricks b low) (λ k m. absurd (List·Memᴰ·not-nil m))),
       )
 
-      acts : Received s g h (v .sent) b x msg block out → Left (Receive.accepted s b msg block image out (Opens x))
+      acts : Received s g h (v .sent) b x msg block old out → Left (Receive.accepted s b msg block old image out (Opens x))
       acts w = (
-        image-length s b (brickAfter s x msg block) g (w .sound),
+        image-length s b (brickAfter s b x msg block old) g (w .sound),
         (
           w .later,
-          brick-moved b (Receive.accepted s b msg block image out (Opens x)) (w .later) (w .grows)
-              (record { state = brickAfter s x msg block; saved = refl; sound = w .sound; keeps = w .keeps }) (λ k m. answered k (eqb (msg .kind) trimKind) refl m),
+          brick-moved b (Receive.accepted s b msg block old image out (Opens x)) (w .later) (w .grows)
+              (record { state = brickAfter s b x msg block old; saved = refl; sound = w .sound; keeps = w .keeps }) (λ k m. answered k (eqb (msg .kind) trimKind) refl m),
         ),
       )
         where
@@ -161,17 +157,15 @@ module _ (s : Settings) (g : SettingsRange s) (h : Hist s) (v : View s) (i : Vie
               (sym q)
               (w .answers (eqb-false (msg .kind) trimKind e) _ (within-more (v .sent) _))
 
-      passes : refusal ≡ passed → Received s g h (v .sent) b x msg block out
-      passes e =
-          let a = first-passed front _ e in
-          let c = first-passed (openRefusal s b image) _ (a .1) in
-          let d = first-passed (messageRefusal (s .n) (s .m) msg) _ (c .1) in
-          any-received out (i .valid) (i .bricks b low .keeps) (i .bricks b low .sound) (i .items (message b msg block) was)
-          (sensible (s .n) (s .m) msg (d .0)) was (fronted s 1 b (length image) (msg .stripe) (length block) (length out) front refl (a .0) .block-is)
+      acting : refusal ≡ passed → Received s g h (v .sent) b x msg block old out
+      acting e =
+          let a = passes s b image msg (beside block old out) e in
+          any-received (v .sent) out (i .valid) (i .bricks b low .keeps) (i .bricks b low .sound) (i .items (message b msg block old) was)
+          (sensible (s .n) (s .m) msg (a .message)) (a .front .block-is) was
 
       decide : (a : Bool) → eqb refusal passed ≡ a
-          → Left (cond a (Receive.accepted s b msg block image out (parse s b image)) (refusedWith refusal image out))
+          → Left (cond a (Receive.accepted s b msg block old image out (parse s b image)) (refusedWith refusal image out))
       decide true e =
-          subst (λ (z : Parsed). Left (Receive.accepted s b msg block image out z)) (sym opens)
-          (acts (passes (eqb-true refusal passed e)))
+          subst (λ (z : Parsed). Left (Receive.accepted s b msg block old image out z)) (sym opens)
+          (acts (acting (eqb-true refusal passed e)))
       decide false e = still

@@ -9,17 +9,16 @@ use native.Mathlib.Decide.{decLt}
 use lib.Dec.{ltb}
 use borrow.Author.Tests.{ltb-true, ltb-false, leb-true}
 use Rattle.settings.specs.Ranges.{SettingsRange}
-use Rattle.byte_lists.proofs.Laws.BoolLaws.{and-left, and-right}
 use Rattle.settings.specs.declared.Settings.{Settings}
 use Rattle.image.proofs.Laws.LogPlaceLaws.{newest-at}
 use Rattle.image_write.proofs.Laws.ImageStepLaws.{promised-promise, promised-count, promised-time, promised-means, appended-promise}
 use Rattle.image_write.proofs.Laws.ImageStepLaws.{appended-count, appended-time-old, appended-means-old, appended-time-new, appended-means-new}
 use Rattle.brick_log.proofs.Laws.TrimLaws.{Trims, trim-places}
-use Rattle.brick.proofs.Laws.BrickLaws.{by-place}
-use Rattle.image.specs.Brick.{Brick, entryCount, timeAt, meansAt, newest}
+use Rattle.brick.proofs.Laws.BrickLaws.{by-place, order-not-below, write-ordered}
+use Rattle.image.specs.Brick.{Brick, LogEntry, entryCount, timeAt, meansAt, newest}
 use Rattle.image.specs.Brick.{Sound}
 use Rattle.image_write.specs.Saving
-use Rattle.brick_log.specs.BrickRules.{aboveNewest, notBelowPromise, hasFree, readYes, orderYes, writeYes, trimmedTo, under}
+use Rattle.brick_log.specs.BrickRules.{notBelowPromise, readYes, orderYes, writeYes, trimmedTo, under}
 use Rattle.order.specs.Facts.{Fact, promised, stored, showed, seen, shows}
 use Rattle.order.specs.Places.{Suf, whole, above, In}
 use Rattle.order.proofs.Laws.PlaceLaws.{in-top}
@@ -65,17 +64,6 @@ module _ (s : Settings) (g : SettingsRange s) (b : ℕ) (h : Hist s) (v : Valid 
   unfolding seen shows
   grows-showed t c o = grows-by (showed b t c) o (append-nil (seen h)) (λ b′ a. absurd a) (λ d a. a)
 
--- the three comparisons
-pub order-above : (x : Brick) (t : ℕ) → orderYes x t ≡ true → (newest x < t) × (x .promise ≤ t)
-unfolding orderYes aboveNewest notBelowPromise
-order-above x t e = (ltb-true (newest x) t (and-left _ _ e), leb-true (x .promise) t (and-right (ltb (newest x) t) _ e))
-
-pub write-above : (s : Settings) (x : Brick) (t : ℕ) → writeYes s x t ≡ true → (newest x < t) × (x .promise ≤ t) × (entryCount x < s .capacity)
-unfolding writeYes hasFree
-write-above s x t e =
-    let w = order-above x t (and-left _ _ e) in
-    (w .0, w .1, ltb-true (entryCount x) (s .capacity) (and-right (orderYes x t) _ e))
-
 pub read-settled : (x : Brick) → readYes x ≡ true → x .promise ≤ newest x
 unfolding readYes notBelowPromise
 read-settled x e = leb-true (x .promise) (newest x) e
@@ -89,7 +77,7 @@ carried {s} {h} {b} {t} {t′} {block} {block′} e q w =
 module _ {s : Settings} {g : SettingsRange s} {b : ℕ} {h : Hist s} {x : Brick} (i : BrickInv s g h b x) (r : Sound s x) where
   -- a yes to Order or Order-and-read
   pub ok-promised : (t : ℕ) → Began h t → orderYes x t ≡ true → OkPromised h b t
-  ok-promised t k e = record { known = k; rising = λ u p. let w = i .bounded u p in omega (arith, order-above x t e .1) }
+  ok-promised t k e = record { known = k; rising = λ u p. let w = i .bounded u p in omega (arith, order-not-below x t e) }
 
   pub brick-promised : (t : ℕ) → Valid (quorums s g) (promised b t ∷ h) → orderYes x t ≡ true → BrickInv s g (promised b t ∷ h) b (Saving.withPromise x t)
   brick-promised t v e =
@@ -103,7 +91,7 @@ module _ {s : Settings} {g : SettingsRange s} {b : ℕ} {h : Hist s} {x : Brick}
     where
       bound : (u : ℕ) → (_≡_ {A = Fact (plain s)} (promised b u) (promised b t)) ⊎ In (promised b u) h → u ≤ t
       bound u (inl q) = let z : u ≡ t = cc in omega arith
-      bound u (inr p) = let w = i .bounded u p in omega (arith, order-above x t e .1)
+      bound u (inr p) = let w = i .bounded u p in omega (arith, order-not-below x t e)
 
       old : (u : ℕ) → (_≡_ {A = Fact (plain s)} (stored b u) (promised b t)) ⊎ In (stored b u) h → Stands h b u
       old u (inl q) = let z : _≡_ {A = ℕ} 0 1 = cc in absurd (omega arith)
@@ -119,42 +107,46 @@ module _ {s : Settings} {g : SettingsRange s} {b : ℕ} {h : Hist s} {x : Brick}
 
   -- a yes to Write
   pub ok-stored : (t : ℕ) → Launched h t → writeYes s x t ≡ true → OkStored h b t
-  ok-stored t k e = record { known = k; allowed = λ u p. let w = i .bounded u p in omega (arith, write-above s x t e .1) }
+  ok-stored t k e = record { known = k; allowed = λ u p. let w = i .bounded u p in omega (arith, order-not-below x t (write-ordered s x t e)) }
 
-  pub brick-stored : (t : ℕ) (block : List ℕ) → Valid (quorums s g) (stored b t ∷ h) → Means s h t b block
-      → BrickInv s g (stored b t ∷ h) b (Saving.withEntry x t block)
-  brick-stored t block v means =
+  pub brick-stored : (e : LogEntry) → Valid (quorums s g) (stored b (e .time) ∷ h) → Means s h (e .time) b (e .block)
+      → BrickInv s g (stored b (e .time) ∷ h) b (Saving.appended x e)
+  brick-stored e v means =
       record {
-        bounded = λ u p. subst (λ (k : ℕ). u ≤ k) (sym (appended-promise x t block)) (bound u (in-cons p));
-        entries = λ j l. entry j (omega (arith, l, appended-count x t block));
+        bounded = λ u p. subst (λ (k : ℕ). u ≤ k) (sym (appended-promise x e)) (bound u (in-cons p));
+        entries = λ j l. entry j (omega (arith, l, appended-count x e));
         kept = λ u w. stood u w;
       }
     where
-      bound : (u : ℕ) → (_≡_ {A = Fact (plain s)} (promised b u) (stored b t)) ⊎ In (promised b u) h → u ≤ x .promise
+      later : Hist s
+      later = stored b (e .time) ∷ h
+
+      bound : (u : ℕ) → (_≡_ {A = Fact (plain s)} (promised b u) (stored b (e .time))) ⊎ In (promised b u) h → u ≤ x .promise
       bound u (inl q) = let z : _≡_ {A = ℕ} 0 1 = cc in absurd (omega arith)
       bound u (inr p) = i .bounded u p
 
-      entry : (j : ℕ) → j < entryCount x + 1 → Stands (stored b t ∷ h) b (timeAt (Saving.withEntry x t block) j)
-          × Means s (stored b t ∷ h) (timeAt (Saving.withEntry x t block) j) b (meansAt (Saving.withEntry x t block) j)
+      entry : (j : ℕ) → j < entryCount x + 1 → Stands later b (timeAt (Saving.appended x e) j)
+          × Means s later (timeAt (Saving.appended x e) j) b (meansAt (Saving.appended x e) j)
       entry = by-place (entryCount x)
           (λ j l. let w = i .entries j l in
-          carried (appended-time-old x t block j l) (appended-means-old x t block j l) (stands-up (above whole) (w .0), means-up (above whole) (w .1)))
-          (carried (appended-time-new x t block) (appended-means-new x t block) (inr in-top, means-up (above whole) means))
+          carried (appended-time-old x e j l) (appended-means-old x e j l) (stands-up (above whole) (w .0), means-up (above whole) (w .1)))
+          (carried (appended-time-new x e) (appended-means-new x e) (inr in-top, means-up (above whole) means))
 
-      keep : (u : ℕ) → LogHas x u ⊎ Gone (quorums s g) h u → LogHas (Saving.withEntry x t block) u ⊎ Gone (quorums s g) (stored b t ∷ h) u
-      keep u (inl (j, l, q)) = inl (j, omega (arith, l, appended-count x t block), appended-time-old x t block j l ∙ q)
+      keep : (u : ℕ) → LogHas x u ⊎ Gone (quorums s g) h u → LogHas (Saving.appended x e) u ⊎ Gone (quorums s g) later u
+      keep u (inl (j, l, q)) = inl (j, omega (arith, l, appended-count x e), appended-time-old x e j l ∙ q)
       keep u (inr w) = inr (gone-up v (above whole) w)
 
-      one : (u : ℕ) → (_≡_ {A = Fact (plain s)} (stored b u) (stored b t)) ⊎ In (stored b u) h
-          → LogHas (Saving.withEntry x t block) u ⊎ Gone (quorums s g) (stored b t ∷ h) u
-      one u (inl q) = let z : t ≡ u = cc in inl (entryCount x, omega (arith, appended-count x t block), appended-time-new x t block ∙ z)
+      one : (u : ℕ) → (_≡_ {A = Fact (plain s)} (stored b u) (stored b (e .time))) ⊎ In (stored b u) h
+          → LogHas (Saving.appended x e) u ⊎ Gone (quorums s g) later u
+      one u (inl q) = let z : e .time ≡ u = cc in inl (entryCount x, omega (arith, appended-count x e), appended-time-new x e ∙ z)
       one u (inr p) = keep u (i .kept u (inr p))
 
-      stood : (u : ℕ) → Stands (stored b t ∷ h) b u → LogHas (Saving.withEntry x t block) u ⊎ Gone (quorums s g) (stored b t ∷ h) u
+      stood : (u : ℕ) → Stands later b u → LogHas (Saving.appended x e) u ⊎ Gone (quorums s g) later u
       stood u (inl q) = keep u (i .kept u (inl q))
       stood u (inr p) = one u (in-cons p)
 
-  newest-there : Stands h b (newest x) × Means s h (newest x) b (meansAt x (entryCount x - 1))
+  -- the newest entry is the brick's own, with its block
+  pub newest-there : Stands h b (newest x) × Means s h (newest x) b (meansAt x (entryCount x - 1))
   newest-there =
       let e = newest-at x (entryCount x - 1) refl in
       carried e refl (i .entries (entryCount x - 1) (omega (arith, r .count-low)))
@@ -167,10 +159,6 @@ module _ {s : Settings} {g : SettingsRange s} {b : ℕ} {h : Hist s} {x : Brick}
         has = newest-there .0;
         settled = λ u p. let q = i .bounded u p in omega (arith, read-settled x e);
       }
-
-  -- what the newest entry means
-  pub newest-means : Means s h (newest x) b (meansAt x (entryCount x - 1))
-  newest-means = newest-there .1
 
   -- a Trim of a committed time drops only what is gone
   pub brick-trimmed : (t : ℕ) → Committed (quorums s g) h t → BrickInv s g h b (trimmedTo x t)

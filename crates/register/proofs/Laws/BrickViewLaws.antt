@@ -15,7 +15,7 @@ use Rattle.image.specs.Brick.{Brick}
 use Rattle.image.specs.Image.{imageSize}
 use Rattle.image.specs.Parse.{Parsed, Opens, Refuses, parse}
 use Rattle.brick.specs.Receive
-use Rattle.brick.specs.Receive.{Outcome, outcome, receiveRefusal, refusedWith, givenBy}
+use Rattle.brick.specs.Receive.{Outcome, beside, outcome, receiveRefusal, refusedWith, givenBy}
 use Rattle.brick.specs.declared.Given.{Given}
 use Rattle.brick.specs.declared.Given.the-variants.{Answered, Silent, Refused}
 use Rattle.brick.proofs.Laws.OutcomeLaws.{fronted}
@@ -47,30 +47,30 @@ module _ (s : Settings) (b : ℕ) (msg : Message) (j : ℕ) where
       go true out i m = absurd (List·Memᴰ·not-nil m)
       go false out i m = ap (itemOn j) (List·Memᴰ·eq-of-singleton m) ∙ (unfold itemOn replyTo in refl)
 
-  accepted-on : (block bytes out : List ℕ) (p : Parsed) → Stays (Receive.accepted s b msg block bytes out p .given)
+  accepted-on : (block old bytes out : List ℕ) (p : Parsed) → Stays (Receive.accepted s b msg block old bytes out p .given)
   unfolding Receive.accepted refusedWith
-  accepted-on block bytes out (Opens x) = given-on x
-  accepted-on block bytes out (Refuses number) = refused-on number
+  accepted-on block old bytes out (Opens x) = given-on x
+  accepted-on block old bytes out (Refuses number) = refused-on number
 
-  outcome-on : (bytes block out : List ℕ) → Stays (outcome s b bytes msg block out .given)
+  outcome-on : (bytes block old out : List ℕ) → Stays (outcome s b bytes msg block old out .given)
   unfolding outcome refusedWith
-  outcome-on bytes block out = go (eqb (receiveRefusal s b bytes msg (length block) (length out)) passed)
+  outcome-on bytes block old out = go (eqb (receiveRefusal s b bytes msg (beside block old out)) passed)
     where
       go : (a : Bool)
           → Stays
-          (cond a (Receive.accepted s b msg block bytes out (parse s b bytes)) (refusedWith (receiveRefusal s b bytes msg (length block) (length out)) bytes out) .given)
-      go true = accepted-on block bytes out (parse s b bytes)
-      go false = refused-on (receiveRefusal s b bytes msg (length block) (length out))
+          (cond a (Receive.accepted s b msg block old bytes out (parse s b bytes)) (refusedWith (receiveRefusal s b bytes msg (beside block old out)) bytes out) .given)
+      go true = accepted-on block old bytes out (parse s b bytes)
+      go false = refused-on (receiveRefusal s b bytes msg (beside block old out))
 
-  row-on : (row block out : List ℕ) → Stays (rowOutcome s b row msg block out .given)
+  row-on : (row block old out : List ℕ) → Stays (rowOutcome s b row msg block old out .given)
   unfolding rowOutcome inRow refusedWith
-  row-on row block out = go (eqb (rowRefusal s b row msg (length block) (length out)) passed)
+  row-on row block old out = go (eqb (rowRefusal s b row msg (beside block old out)) passed)
     where
       go : (a : Bool)
           → Stays
-          (cond a (inRow s (msg .stripe) row (outcome s b (imageAt s (msg .stripe) row) msg block out)) (refusedWith (rowRefusal s b row msg (length block) (length out)) row out) .given)
-      go true = outcome-on (imageAt s (msg .stripe) row) block out
-      go false = refused-on (rowRefusal s b row msg (length block) (length out))
+          (cond a (inRow s (msg .stripe) row (outcome s b (imageAt s (msg .stripe) row) msg block old out)) (refusedWith (rowRefusal s b row msg (beside block old out)) row out) .given)
+      go true = outcome-on (imageAt s (msg .stripe) row) block old out
+      go false = refused-on (rowRefusal s b row msg (beside block old out))
 
   replies-on : (given : Given) (out : List ℕ) → Stays given → (i : Item) → i ∈ repliedWith given out → itemOn j i ≡ eqb (msg .stripe) j
   unfolding Stays
@@ -121,10 +121,10 @@ module _ (s : Settings) (k : ℕ) (r : Moved s) (b : ℕ) where
     stays-so o e q = subst (Goes s g) (sym (view-received o (imageAt s k (r .world .images b)) [] e q ∙ view-kept)) (h, i)
 
     -- A message reaches its brick, on whatever stripe.
-    pub message-arrives : (msg : Message) (block : List ℕ) → message b msg block ∈ r .world .sent
-        → Goes s g (view k (joined s r (arriving s (r .world) (message b msg block))))
+    pub message-arrives : (msg : Message) (block old : List ℕ) → message b msg block old ∈ r .world .sent
+        → Goes s g (view k (joined s r (arriving s (r .world) (message b msg block old))))
     unfolding arriving rowOutcome rowRefusal rowSize inRow refusedWith repliedWith itemsOn itemOn view
-    message-arrives msg block was = up (r .world .up b)
+    message-arrives msg block old was = up (r .world .up b)
       where
         row : List ℕ
         row = r .world .images b
@@ -133,36 +133,36 @@ module _ (s : Settings) (k : ℕ) (r : Moved s) (b : ℕ) where
         out = replicate (s .size) 0
 
         o : Outcome
-        o = rowOutcome s b row msg block out
+        o = rowOutcome s b row msg block old out
 
         elsewhere : (msg .stripe ≡ k → ⊥) → Goes s g (view k (joined s r (received s (r .world) b o)))
         elsewhere n =
-            stays-so o (other-stripes-stay s b row msg block out k (λ z. n (sym z)))
+            stays-so o (other-stripes-stay s b row msg block old out k (λ z. n (sym z)))
             (items-none k (repliedWith (o .given) (o .out))
-            (λ z m. replies-on s b msg k (o .given) (o .out) (row-on s b msg k row block out) z m ∙ ne-eqb (msg .stripe) k n))
+            (λ z m. replies-on s b msg k (o .given) (o .out) (row-on s b msg k row block old out) z m ∙ ne-eqb (msg .stripe) k n))
 
         here : msg .stripe ≡ k → Goes s g (view k (joined s r (received s (r .world) b o)))
         here e = dec (eqb number passed) refl
           where
             number : ℕ
-            number = rowRefusal s b row msg (length block) (length out)
+            number = rowRefusal s b row msg (beside block old out)
 
             -- what the image of the stripe makes of it
             own : Outcome
-            own = outcome s b (imageAt s k row) msg block out
+            own = outcome s b (imageAt s k row) msg block old out
 
             moved : (length (own .image) ≡ imageSize s) × Goes s g (brickView s (view k r) b (own .image) (repliedWith (own .given) (own .out)))
-            moved = message-received s g h (view k r) i b msg block (in-items k (r .world .sent) (message b msg block) was (eq-eqb (msg .stripe) k e))
+            moved = message-received s g h (view k r) i b msg block old (in-items k (r .world .sent) (message b msg block old) was (eq-eqb (msg .stripe) k e))
 
             -- the outcome at the stripe's number in the row
             at : ℕ → Outcome
-            at j = outcome s b (imageAt s j row) msg block out
+            at j = outcome s b (imageAt s j row) msg block old out
 
             dec : (a : Bool) → eqb number passed ≡ a
                 → Goes s g
-                (view k (joined s r (received s (r .world) b (cond a (inRow s (msg .stripe) row (outcome s b (imageAt s (msg .stripe) row) msg block out)) (refusedWith number row out)))))
+                (view k (joined s r (received s (r .world) b (cond a (inRow s (msg .stripe) row (outcome s b (imageAt s (msg .stripe) row) msg block old out)) (refusedWith number row out)))))
             dec true q =
-                let f = fronted s (s .stripes) b (length row) (msg .stripe) (length block) (length out) number refl (eqb-true number passed q) in
+                let f = fronted s (s .stripes) b (length row) msg (beside block old out) number refl (eqb-true number passed q) in
                 let low : k < s .stripes = subst (λ (j : ℕ). j < s .stripes) e (f .stripe-low) in
                 subst (Goes s g)
                 (sym
@@ -170,7 +170,7 @@ module _ (s : Settings) (k : ℕ) (r : Moved s) (b : ℕ) where
                 (ap (λ (j : ℕ). imageAt s k (withImage s j (at j .image) row)) e ∙ image-here s k (own .image) row (moved .0) (f .lent-is) low)
                 (ap (λ (j : ℕ). itemsOn k (repliedWith (at j .given) (at j .out))) e
                 ∙ items-all k (repliedWith (own .given) (own .out))
-                (λ z m. replies-on s b msg k (own .given) (own .out) (outcome-on s b msg k (imageAt s k row) block out) z m ∙ eq-eqb (msg .stripe) k e))))
+                (λ z m. replies-on s b msg k (own .given) (own .out) (outcome-on s b msg k (imageAt s k row) block old out) z m ∙ eq-eqb (msg .stripe) k e))))
                 (moved .1)
             dec false q = stays-so (refusedWith number row out) refl refl
 

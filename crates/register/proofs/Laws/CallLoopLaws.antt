@@ -7,73 +7,58 @@ use native.Mathlib.Nat.{mod-lt}
 use native.Mathlib.Omega.{arith}
 use lib.Dec.{eqb, ltb}
 use lib.ListN.{length, replicate, length-replicate}
-use borrow.Author.Tests.{eqb-true, eqb-false, eq-eqb, lt-ltb}
-use Rattle.settings.specs.Ranges.{inRange, settingsRefusal, stripeRefusal}
-use Rattle.settings.proofs.Laws.RangeLaws.{in-range}
+use borrow.Author.Tests.{eqb-true, eqb-false}
+use Rattle.settings.specs.Ranges.{inRange}
 use Rattle.settings.specs.Times.{coordinatorCount, lastCoordinator, coordinatorOf}
 use Rattle.settings.specs.declared.Settings.{Settings}
-use Rattle.settings.specs.Refusal.{passed, firstRefusal}
+use Rattle.settings.specs.Refusal.{passed}
 use Rattle.byte_lists.specs.Little.{Bytes}
 use Rattle.byte_lists.proofs.Laws.LittleLaws.{bytes-pass}
-use Rattle.message.specs.Kinds.{writeKind}
+use Rattle.message.specs.Kinds.{writeKind, modifyKind}
 use Rattle.message.specs.declared.Message.{Message}
 use Rattle.message.specs.declared.Reply.{Reply}
-use Rattle.brick.specs.Receive.{Outcome, outcome, outcomeWith, frontRefusal, refusedWith, givenNumber}
+use Rattle.brick.specs.Receive.{Outcome, beside, outcome, outcomeWith, frontRefusal, refusedWith, givenNumber}
 use Rattle.brick.specs.declared.Given.{Given}
-use Rattle.brick.proofs.Laws.OutcomeLaws.{Fronted, fronted, passes}
+use Rattle.brick.proofs.Laws.OutcomeLaws.{Fronted, fronted, front-zero, passes}
 use Rattle.brick.proofs.Laws.GivenNumberLaws.{outcome-number}
-use Rattle.image.specs.Image.{imageSize}
 use Rattle.volume.proofs.Laws.RowLaws.{image-back}
 use Rattle.volume.specs.Rows.{rowSize, imageAt, withImage, inRow, rowRefusal, rowOutcome}
 use Rattle.coord_apply.specs.Acts.{buffered}
 use Rattle.coord_apply.specs.Answers.{Buffered, Step, refused, went, returned, returnedBy}
 use Rattle.coord_apply.specs.declared.Answer.{Answer}
-use Rattle.coordinator.specs.Routines.{takeStep, crashStep, writeStep, readStep}
+use Rattle.coordinator.specs.Routines.{takeStep, crashStep, writeStep, readStep, writeBlockStep, readBlockStep}
 use Rattle.coord_laws.proofs.Laws.StepRunLaws.{took}
 use Rattle.order.specs.Claim.{_∈_}
-use Rattle.register.specs.Runs.{Item, message, reply, World, Event, startWrite, startRead, arrives, crashes, goesDown, comesUp, untouched, lost, Moved, unmoved, joined}
+use Rattle.register.specs.Runs.{Item, message, reply, World, Event, startWrite, startRead, startWriteBlock, startReadBlock, arrives}
+use Rattle.register.specs.Runs.{crashes, goesDown, comesUp, untouched, lost, Moved, unmoved, joined}
 use Rattle.register.specs.Runs.{coordinated, repliedWith, received, arriving, arrivingAt, standing, step, run, putAt, onStripe, broadcasts}
 use Rattle.register.specs.Driver.{driven, Short, holds, heldBlock, failed, cutOf, backWith}
 use Rattle.register.specs.Lending.{SameAnswer}
-use Rattle.register.specs.CallLoop.{BufferLengths, RoutineCalls, begin, start-write, start-read, take-reply, crash}
-use Rattle.register.specs.CallLoop.{receive, receive-image, goes-down, comes-up, power-fails, WriteEnsures, ReadEnsures, TakeEnsures}
-use Rattle.register.specs.CallLoop.{CrashEnsures, Agrees, WhoeverCallsMakesARun, WhoeverCallsHasOneOrder}
+use Rattle.register.specs.CallLoop.{BufferLengths, RoutineCalls, LentWith, begin, start-write, start-read, start-write-block, start-read-block, take-reply, crash}
+use Rattle.register.specs.CallLoop.{receive, receive-image, goes-down, comes-up, power-fails, WriteEnsures, ReadEnsures, WriteBlockEnsures}
+use Rattle.register.specs.CallLoop.{ReadBlockEnsures, TakeEnsures, CrashEnsures, Agrees, WhoeverCallsMakesARun, WhoeverCallsHasOneOrder}
 use Rattle.register.proofs.Laws.AgreeLaws.{Same, Made, made-has-one-order, made-more, made-still, driven-is}
-use Rattle.register.proofs.Laws.BesideLaws.{Proper, calls-proper}
+use Rattle.register.proofs.Laws.BesideLaws.{SentRight, Proper, calls-proper}
 use Rattle.register.proofs.Laws.CallStartLaws.{crash-fails, start-made}
-use Rattle.register.proofs.Laws.DriverLaws.{left-untouched, write-short, read-short, crash-short, take-short}
+use Rattle.register.proofs.Laws.DriverLaws.{left-untouched, write-short, read-short, write-block-short, read-block-short, crash-short, take-short}
 use Rattle.register.proofs.Laws.LendingLaws.{lent-bytes-make-no-difference, unheld-blocks-make-no-difference, zeros-held}
 use Rattle.register.proofs.Laws.RefusedEventLaws.{refused-kept, row-refused-kept, kept-unmoved}
 use Rattle.register.proofs.Laws.NeverRefusedLaws.{rows-long}
 
 -- what a brick does not refuse was lent with the lengths that the settings ask for
-row-passed : (s : Settings) (b : ℕ) (row : List ℕ) (msg : Message) (block out : List ℕ)
-    → givenNumber (rowOutcome s b row msg block out .given) ≡ passed → Fronted s (s .stripes) b (length row) (msg .stripe) (length block) (length out)
+row-passed : (s : Settings) (b : ℕ) (row : List ℕ) (msg : Message) (block old out : List ℕ)
+    → givenNumber (rowOutcome s b row msg block old out .given) ≡ passed → Fronted s (s .stripes) b (length row) msg (beside block old out)
 unfolding rowOutcome rowRefusal refusedWith givenNumber
-row-passed s b row msg block out e =
-    fronted s (s .stripes) b (length row) (msg .stripe) (length block) (length out) number refl (go (eqb number passed) refl e)
+row-passed s b row msg block old out e = fronted s (s .stripes) b (length row) msg (beside block old out) number refl (go (eqb number passed) refl e)
   where
     number : ℕ
-    number = frontRefusal s (s .stripes) b (length row) (msg .stripe) (length block) (length out)
+    number = frontRefusal s (s .stripes) b (length row) msg (beside block old out)
 
     go : (a : Bool) → eqb number passed ≡ a
-        → givenNumber (cond a (inRow s (msg .stripe) row (outcome s b (imageAt s (msg .stripe) row) msg block out)) (refusedWith number row out) .given) ≡ passed
+        → givenNumber (cond a (inRow s (msg .stripe) row (outcome s b (imageAt s (msg .stripe) row) msg block old out)) (refusedWith number row out) .given) ≡ passed
         → number ≡ passed
     go true q h = eqb-true number passed q
     go false q h = h
-
--- what satisfies the checks before an image passes them
-front-zero : (s : Settings) (images b lent stripe block out : ℕ) → Fronted s images b lent stripe block out → frontRefusal s images b lent stripe block out ≡ passed
-unfolding frontRefusal settingsRefusal stripeRefusal firstRefusal
-front-zero s images b lent stripe block out f =
-    rw (
-      in-range s (f .range),
-      eq-eqb lent (images * imageSize s) (f .lent-is),
-      eq-eqb block (s .size) (f .block-is),
-      eq-eqb out (s .size) (f .out-is),
-      lt-ltb b (s .n) (f .brick-low),
-      lt-ltb stripe (s .stripes) (f .stripe-low),
-    ) refl
 
 -- two functions with another value at one place
 put-agrees : {A : Type 0} {P : ℕ → Type 0} (f g : ℕ → A) (k : ℕ) (a b : A) → a ≡ b → ((j : ℕ) → P j → f j ≡ g j)
@@ -184,7 +169,7 @@ module _ (s : Settings) where
     agree = made .2
 
     -- a routine of a coordinator is called
-    routine-made : (e : Event) (c : ℕ) → c ≤ lastCoordinator → (q : Buffered → Step) → ((k : Buffered) → Short (q k))
+    routine-made : (e : Event) (c : ℕ) → c ≤ lastCoordinator → (q : Buffered → Step) → ((k : Buffered) → Short (s .size) (q k))
         → step s v e ≡ coordinated s v c (q (v .coordinators c))
         → (a : Answer) (blocks′ stripe′ coded coded′ : List ℕ) → returned a blocks′ stripe′ coded′ ≡ returnedBy (w .coordinators c) coded (q (w .coordinators c))
         → Made s (joined s r (driven s w c a blocks′ stripe′ coded′))
@@ -208,6 +193,24 @@ module _ (s : Settings) where
     read-made c l number reading first a f =
         routine-made (startRead c number reading first) c l (λ (k : Buffered). readStep (s .n) (s .m) (s .size) (s .stripes) k number reading first)
         (λ k. read-short (s .n) (s .m) (s .size) (s .stripes) k number reading first) refl
+        a (w .coordinators c .blocks) (w .coordinators c .stripe) [] [] (f (w .coordinators c .blocks) (w .coordinators c .stripe) [])
+
+    write-block-made : (c : ℕ) → c ≤ lastCoordinator → (number reading block : ℕ) (content : List ℕ) → Bytes content
+        → (a : Answer) (stripe : List ℕ) → WriteBlockEnsures s (w .coordinators c) a number reading block content stripe
+        → Made s (joined s r (driven s w c a (w .coordinators c .blocks) stripe []))
+    unfolding step buffered
+    write-block-made c l number reading block content small a stripe f =
+        routine-made (startWriteBlock c number reading block content) c l
+        (λ (k : Buffered). writeBlockStep (s .n) (s .m) (s .size) (s .stripes) k number reading block content)
+        (λ k. write-block-short (s .n) (s .m) (s .size) (s .stripes) k number reading block content) (rw (bytes-pass content small) refl)
+        a (w .coordinators c .blocks) stripe [] [] (f (w .coordinators c .blocks) [])
+
+    read-block-made : (c : ℕ) → c ≤ lastCoordinator → (number reading block : ℕ) (a : Answer) → ReadBlockEnsures s (w .coordinators c) a number reading block
+        → Made s (joined s r (driven s w c a (w .coordinators c .blocks) (w .coordinators c .stripe) []))
+    unfolding step buffered
+    read-block-made c l number reading block a f =
+        routine-made (startReadBlock c number reading block) c l (λ (k : Buffered). readBlockStep (s .n) (s .m) (s .size) (s .stripes) k number reading block)
+        (λ k. read-block-short (s .n) (s .m) (s .size) (s .stripes) k number reading block) refl
         a (w .coordinators c .blocks) (w .coordinators c .stripe) [] [] (f (w .coordinators c .blocks) (w .coordinators c .stripe) [])
 
     crash-made : (c : ℕ) → c ≤ lastCoordinator → (a : Answer) → CrashEnsures s (w .coordinators c) a
@@ -270,30 +273,44 @@ module _ (s : Settings) where
         made-more s r made e (standing s w b how) (subst (λ (x : Moved s). Same s (standing s w b how) x) (sym is) (standing-same w v agree b how))
 
     -- a message is handed to its brick: with blocks of the right length, as in the run; with others it is refused
-    receive-made : Proper s (w .sent) → (b : ℕ) (msg : Message) (block : List ℕ) → message b msg block ∈ w .sent → w .up b ≡ true
-        → (lent out : List ℕ) → (msg .kind ≡ writeKind → lent ≡ block) → (g : Given) (images′ out′ : List ℕ)
-        → outcomeWith g images′ out′ ≡ rowOutcome s b (w .images b) msg lent out
+    receive-made : Proper s (w .sent) → (b : ℕ) (msg : Message) (block old : List ℕ) → message b msg block old ∈ w .sent → w .up b ≡ true
+        → (lent lentOld out : List ℕ) → LentWith msg block old lent lentOld → (g : Given) (images′ out′ : List ℕ)
+        → outcomeWith g images′ out′ ≡ rowOutcome s b (w .images b) msg lent lentOld out
         → Made s (joined s r (received s w b (outcomeWith g images′ (heldBlock s g out′))))
     unfolding step arriving
-    receive-made proper b msg block was up lent out same g images′ out′ f = go (eqb (length lent) (s .size)) (eqb (length out) (s .size)) refl refl
+    receive-made proper b msg block old was up lent lentOld out same g images′ out′ f =
+        go (eqb (length lent) (s .size)) (eqb (length lentOld) (s .size)) (eqb (length out) (s .size)) refl refl refl
       where
         noted : Outcome
         noted = outcomeWith g images′ (heldBlock s g out′)
 
-        there : message b msg block ∈ v .sent
-        there = subst (λ (l : List Item). message b msg block ∈ l) (agree .same-sent) was
+        zeros : List ℕ
+        zeros = replicate (s .size) 0
 
-        beside : (b < s .n) × ((msg .kind ≡ writeKind → ⊥) → block ≡ replicate (s .size) 0)
-        beside = proper b msg block was
+        there : message b msg block old ∈ v .sent
+        there = subst (λ (l : List Item). message b msg block old ∈ l) (agree .same-sent) was
 
-        -- the block that was sent is as long as the one lent
-        long : length lent ≡ s .size → (t : Bool) → eqb (msg .kind) writeKind ≡ t → length lent ≡ length block
-        long el true e = ap (λ (l : List ℕ). length l) (same (eqb-true (msg .kind) writeKind e))
-        long el false e = el ∙ sym (ap (λ (l : List ℕ). length l) (beside .1 (eqb-false (msg .kind) writeKind e)) ∙ length-replicate (s .size) 0)
+        right-one : SentRight s b msg block old
+        right-one = proper b msg block old was
 
-        wrong : (length lent ≡ s .size → length out ≡ s .size → ⊥) → Made s (joined s r (received s w b noted))
+        -- what was sent is as long as what is lent
+        as-zeros : (l k : List ℕ) → length l ≡ s .size → k ≡ zeros → length l ≡ length k
+        as-zeros l k e z = e ∙ sym (ap (λ (x : List ℕ). length x) z ∙ length-replicate (s .size) 0)
+
+        block-long : length lent ≡ s .size → (t u : Bool) → eqb (msg .kind) writeKind ≡ t → eqb (msg .kind) modifyKind ≡ u → length lent ≡ length block
+        block-long el true u e q = ap (λ (l : List ℕ). length l) (same .write (eqb-true (msg .kind) writeKind e))
+        block-long el false true e q = ap (λ (l : List ℕ). length l) (same .modify (eqb-true (msg .kind) modifyKind q) .0)
+        block-long el false false e q =
+            as-zeros lent block el (right-one .no-block (eqb-false (msg .kind) writeKind e) (eqb-false (msg .kind) modifyKind q))
+
+        old-long : length lentOld ≡ s .size → (u : Bool) → eqb (msg .kind) modifyKind ≡ u → length lentOld ≡ length old
+        old-long el true q = ap (λ (l : List ℕ). length l) (same .modify (eqb-true (msg .kind) modifyKind q) .1)
+        old-long el false q = as-zeros lentOld old el (right-one .no-old (eqb-false (msg .kind) modifyKind q))
+
+        wrong : (length lent ≡ s .size → length lentOld ≡ s .size → length out ≡ s .size → ⊥) → Made s (joined s r (received s w b noted))
         wrong n =
-            let kept = row-refused-kept s b (w .images b) msg lent out (λ z. let h = row-passed s b (w .images b) msg lent out z in n (h .block-is) (h .out-is)) in
+            let kept = row-refused-kept s b (w .images b) msg lent lentOld out
+            (λ z. let h = row-passed s b (w .images b) msg lent lentOld out z in n (h .block-is) (h .old-is) (h .out-is)) in
             made-still s r made (received s w b noted)
             (kept-unmoved s w b noted
             (record {
@@ -301,75 +318,82 @@ module _ (s : Settings) where
               no-reply = λ x. ap (λ (o : Outcome). repliedWith (o .given) x) f ∙ kept .no-reply x;
             }))
 
-        right : length lent ≡ s .size → length out ≡ s .size → Made s (joined s r (received s w b noted))
-        right el eo =
+        right : length lent ≡ s .size → length lentOld ≡ s .size → length out ≡ s .size → Made s (joined s r (received s w b noted))
+        right el eold eo =
             let place = place-of v there in
-            let o = rowOutcome s b (w .images b) msg block (replicate (s .size) 0) in
-            let answer = lent-bytes-make-no-difference s b (w .images b) msg lent block out (replicate (s .size) 0) (long el (eqb (msg .kind) writeKind) refl)
-            (eo ∙ sym (length-replicate (s .size) 0)) same in
+            let o = rowOutcome s b (w .images b) msg block old zeros in
+            let answer = lent-bytes-make-no-difference s b (w .images b) msg lent block lentOld old out zeros
+            (block-long el (eqb (msg .kind) writeKind) (eqb (msg .kind) modifyKind) refl refl) (old-long eold (eqb (msg .kind) modifyKind) refl)
+            (eo ∙ sym (length-replicate (s .size) 0)) (same .write) (same .modify) in
             made-more s r made (arrives (place .0)) (received s w b noted)
             (subst (λ (x : Moved s). Same s (received s w b noted) x)
             (sym
             (place .1
             ∙ ap₂
-            (λ (t : Bool) (images : List ℕ). cond t (received s v b (rowOutcome s b images msg block (replicate (s .size) 0))) (unmoved s v))
-            (sym (agree .same-up b (beside .0)) ∙ up)
-            (sym (agree .same-image b (beside .0)))))
+            (λ (t : Bool) (images : List ℕ). cond t (received s v b (rowOutcome s b images msg block old zeros)) (unmoved s v))
+            (sym (agree .same-up b (right-one .to-brick)) ∙ up)
+            (sym (agree .same-image b (right-one .to-brick)))))
             (received-same w v agree b noted o (ap (λ (x : Outcome). x .image) f ∙ answer .image-is)
             (ap (λ (x : Outcome). repliedWith (x .given) (heldBlock s (x .given) (x .out))) f
             ∙ held-same _ o answer
-            ∙ zeros-held s b (w .images b) msg block)))
+            ∙ zeros-held s b (w .images b) msg block old)))
 
-        go : (t u : Bool) → eqb (length lent) (s .size) ≡ t → eqb (length out) (s .size) ≡ u → Made s (joined s r (received s w b noted))
-        go true true e q = right (eqb-true (length lent) (s .size) e) (eqb-true (length out) (s .size) q)
-        go true false e q = wrong (λ x y. eqb-false (length out) (s .size) q y)
-        go false u e q = wrong (λ x y. eqb-false (length lent) (s .size) e x)
+        go : (t u x : Bool) → eqb (length lent) (s .size) ≡ t → eqb (length lentOld) (s .size) ≡ u → eqb (length out) (s .size) ≡ x
+            → Made s (joined s r (received s w b noted))
+        go true true true e q z = right (eqb-true (length lent) (s .size) e) (eqb-true (length lentOld) (s .size) q) (eqb-true (length out) (s .size) z)
+        go true true false e q z = wrong (λ _ _ k. eqb-false (length out) (s .size) z k)
+        go true false x e q z = wrong (λ _ k _. eqb-false (length lentOld) (s .size) q k)
+        go false u x e q z = wrong (λ k _ _. eqb-false (length lent) (s .size) e k)
 
     -- the same with the image of the message's stripe alone: as with the row, or refused by both
-    image-made : Proper s (w .sent) → (b : ℕ) (msg : Message) (block : List ℕ) → message b msg block ∈ w .sent → w .up b ≡ true
-        → (lent out : List ℕ) → (msg .kind ≡ writeKind → lent ≡ block) → (g : Given) (image′ out′ : List ℕ)
-        → outcomeWith g image′ out′ ≡ outcome s b (imageAt s (msg .stripe) (w .images b)) msg lent out
+    image-made : Proper s (w .sent) → (b : ℕ) (msg : Message) (block old : List ℕ) → message b msg block old ∈ w .sent → w .up b ≡ true
+        → (lent lentOld out : List ℕ) → LentWith msg block old lent lentOld → (g : Given) (image′ out′ : List ℕ)
+        → outcomeWith g image′ out′ ≡ outcome s b (imageAt s (msg .stripe) (w .images b)) msg lent lentOld out
         → Made s (joined s r (received s w b (outcomeWith g (withImage s (msg .stripe) image′ (w .images b)) (heldBlock s g out′))))
     unfolding rowOutcome rowRefusal inRow
-    image-made proper b msg block was up lent out same g image′ out′ f = go (eqb number passed) refl
+    image-made proper b msg block old was up lent lentOld out same g image′ out′ f = go (eqb number passed) refl
       where
         row : List ℕ
         row = w .images b
 
         number : ℕ
-        number = frontRefusal s (s .stripes) b (length row) (msg .stripe) (length lent) (length out)
+        number = frontRefusal s (s .stripes) b (length row) msg (beside lent lentOld out)
 
         own : Outcome
-        own = outcome s b (imageAt s (msg .stripe) row) msg lent out
+        own = outcome s b (imageAt s (msg .stripe) row) msg lent lentOld out
 
         noted : Outcome
         noted = outcomeWith g (withImage s (msg .stripe) image′ row) (heldBlock s g out′)
 
+        low : b < s .n
+        low = proper b msg block old was .to-brick
+
         long : length row ≡ rowSize s
-        long =
-            ap (λ (l : List ℕ). length l) (agree .same-image b (proper b msg block was .0))
-            ∙ rows-long s range (made .0) b (proper b msg block was .0)
+        long = ap (λ (l : List ℕ). length l) (agree .same-image b low) ∙ rows-long s range (made .0) b low
 
         -- what the image takes the row takes too
         both : givenNumber (own .given) ≡ passed → number ≡ passed
         both e =
-            let p = passes s b (imageAt s (msg .stripe) row) msg (length lent) (length out) (sym (outcome-number s b (imageAt s (msg .stripe) row) msg lent out) ∙ e) in
-            front-zero s (s .stripes) b (length row) (msg .stripe) (length lent) (length out)
+            let image = imageAt s (msg .stripe) row in
+            let p = passes s b image msg (beside lent lentOld out) (sym (outcome-number s b image msg lent lentOld out) ∙ e) in
+            front-zero s (s .stripes) b (length row) msg (beside lent lentOld out)
             (record {
               range = p .front .range;
               lent-is = unfold rowSize in long;
               block-is = p .front .block-is;
+              old-is = p .front .old-is;
               out-is = p .front .out-is;
               brick-low = p .front .brick-low;
               stripe-low = p .front .stripe-low;
+              block-low = p .front .block-low;
             })
 
         go : (t : Bool) → eqb number passed ≡ t → Made s (joined s r (received s w b noted))
         go true e =
-            receive-made proper b msg block was up lent out same g (withImage s (msg .stripe) image′ row) out′
+            receive-made proper b msg block old was up lent lentOld out same g (withImage s (msg .stripe) image′ row) out′
             (ap (λ (o : Outcome). outcomeWith (o .given) (withImage s (msg .stripe) (o .image) row) (o .out)) f ∙ sym (rw (eqb-true number passed e) refl))
         go false e =
-            let kept = refused-kept s b (imageAt s (msg .stripe) row) msg lent out (λ z. eqb-false number passed e (both z)) in
+            let kept = refused-kept s b (imageAt s (msg .stripe) row) msg lent lentOld out (λ z. eqb-false number passed e (both z)) in
             made-still s r made (received s w b noted)
             (kept-unmoved s w b noted
             (record {
@@ -386,13 +410,16 @@ module _ (s : Settings) where
   calls-made e r (start-write q p c l number reading content small a stripe f) =
       write-made e q (calls-made e q p) c l number reading content small a stripe f
   calls-made e r (start-read q p c l number reading first a f) = read-made e q (calls-made e q p) c l number reading first a f
+  calls-made e r (start-write-block q p c l number reading block content small a stripe f) =
+      write-block-made e q (calls-made e q p) c l number reading block content small a stripe f
+  calls-made e r (start-read-block q p c l number reading block a f) = read-block-made e q (calls-made e q p) c l number reading block a f
   calls-made e r (take-reply q p x block was lent h coded a blocks′ stripe′ coded′ f) =
       take-made e q (calls-made e q p) x block was lent h coded a blocks′ stripe′ coded′ f
   calls-made e r (crash q p c l a f) = crash-made e q (calls-made e q p) c l a f
-  calls-made e r (receive q p b msg block was up lent out h g images′ out′ f) =
-      receive-made e q (calls-made e q p) (calls-proper s q p) b msg block was up lent out h g images′ out′ f
-  calls-made e r (receive-image q p b msg block was up lent out h g image′ out′ f) =
-      image-made e q (calls-made e q p) (calls-proper s q p) b msg block was up lent out h g image′ out′ f
+  calls-made e r (receive q p b msg block old was up lent lentOld out h g images′ out′ f) =
+      receive-made e q (calls-made e q p) (calls-proper s q p) b msg block old was up lent lentOld out h g images′ out′ f
+  calls-made e r (receive-image q p b msg block old was up lent lentOld out h g image′ out′ f) =
+      image-made e q (calls-made e q p) (calls-proper s q p) b msg block old was up lent lentOld out h g image′ out′ f
   calls-made e r (goes-down q p b) = stands-made e q (calls-made e q p) (goesDown b) b false refl
   calls-made e r (comes-up q p b) = stands-made e q (calls-made e q p) (comesUp b) b true refl
   calls-made e r (power-fails q p c l blocks stripe f) = fails-made e q (calls-made e q p) c l blocks stripe f

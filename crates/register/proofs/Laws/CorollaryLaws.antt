@@ -13,11 +13,10 @@ use Rattle.settings.specs.declared.Settings.{Settings}
 use Rattle.byte_lists.specs.Little.{areBytes}
 use Rattle.coord_apply.specs.Answers.{Buffered, Step, refused, went, beganSeen, okSeen, readSeen, abortedSeen, cutSeen}
 use Rattle.coord_apply.specs.declared.Notice.{Notice}
-use Rattle.register.specs.Runs.{plain, Item, message, reply, World, Event, startWrite, startRead, arrives, crashes, goesDown, comesUp, Moved}
-use Rattle.register.specs.Runs.{unmoved, onStripe, seenOf, coordinated, received, arriving, arrivingAt, standing, step}
+use Rattle.register.specs.Runs.{plain, Item, message, reply, World, Event, startWrite, startRead, startWriteBlock, startReadBlock, arrives}
+use Rattle.register.specs.Runs.{crashes, goesDown, comesUp, Moved, unmoved, onStripe, seenOf, coordinated, received, arriving, arrivingAt, standing, step}
 use Rattle.order.specs.Claim.{Seen}
-use Rattle.order.proofs.Laws.OrderUseLaws.{reads-agree, written-is-read}
-use Rattle.order.proofs.Laws.LastSetLaws.{stays-away, until-another, zeros-or-written}
+use Rattle.order.proofs.Laws.StripeUseLaws.{whole-zeros-or-written, whole-stays-away, whole-until-another, whole-reads-agree, whole-written-is-read}
 use Rattle.register.specs.Corollaries.{WriteStaysAway, WriteIsThereUntilAnother, ReadGivesOneWrite}
 use Rattle.register.specs.Corollaries.{CutWriteIsThereOrAway, WhatWasStoredIsThere, OneThingSeen, SeenOnOneStripe}
 use Rattle.register.proofs.Laws.BrickEvent.{either}
@@ -25,19 +24,19 @@ use Rattle.register.proofs.Laws.DriverLaws.{seen-nowhere}
 use Rattle.register.proofs.Laws.TheoremProof.{every-run-has-one-order}
 
 pub write-stays-away : WriteStaysAway
-write-stays-away s e events stripe l w t u v a b = stays-away (every-run-has-one-order s e events stripe l) w t u v a b
+write-stays-away s e events stripe l w t u v a b none = whole-stays-away (every-run-has-one-order s e events stripe l) none w t u v a b
 
 pub write-is-there-until-another : WriteIsThereUntilAnother
-write-is-there-until-another s e events stripe l w t u v b = until-another (every-run-has-one-order s e events stripe l) w t u v b
+write-is-there-until-another s e events stripe l w t u v b none = whole-until-another (every-run-has-one-order s e events stripe l) none w t u v b
 
 pub read-gives-one-write : ReadGivesOneWrite
-read-gives-one-write s e events stripe l t a = zeros-or-written (every-run-has-one-order s e events stripe l) t a
+read-gives-one-write s e events stripe l t a none = whole-zeros-or-written (every-run-has-one-order s e events stripe l) none t a
 
 pub cut-write-is-there-or-away : CutWriteIsThereOrAway
-cut-write-is-there-or-away s e events stripe l t u a b m n f = reads-agree (every-run-has-one-order s e events stripe l) t u a b m n f
+cut-write-is-there-or-away s e events stripe l t u a b = whole-reads-agree (every-run-has-one-order s e events stripe l) t u a b
 
 pub what-was-stored-is-there : WhatWasStoredIsThere
-what-was-stored-is-there s e events stripe l w t v a b m n d f = written-is-read (every-run-has-one-order s e events stripe l) w t v a b m n d f
+what-was-stored-is-there s e events stripe l w t v a = whole-written-is-read (every-run-has-one-order s e events stripe l) w t v a
 
 -- one thing is seen at most
 one-of : {A : Type 0} (a b c d f : Bool) (p q r x y : A)
@@ -74,7 +73,7 @@ module _ (s : Settings) (w : World) where
 
   arriving-one : (i : Item) → ShowsOne s (arriving s w i)
   unfolding arriving received unmoved
-  arriving-one (message b msg block) = either (ShowsOne s) (w .up b) _ _ (none _ (λ k. refl)) (none _ (λ k. refl))
+  arriving-one (message b msg block old) = either (ShowsOne s) (w .up b) _ _ (none _ (λ k. refl)) (none _ (λ k. refl))
   arriving-one (reply r block) = coordinated-one (coordinatorOf (r .time)) _
 
   at-one : (l : List Item) (k : ℕ) → ShowsOne s (arrivingAt s w l k)
@@ -91,6 +90,8 @@ module _ (s : Settings) (w : World) where
   unfolding step unmoved
   step-one (startWrite c stripe reading content) = either (ShowsOne s) (areBytes content) _ _ (coordinated-one c _) (none _ (λ k. refl))
   step-one (startRead c stripe reading first) = coordinated-one c _
+  step-one (startWriteBlock c stripe reading block content) = either (ShowsOne s) (areBytes content) _ _ (coordinated-one c _) (none _ (λ k. refl))
+  step-one (startReadBlock c stripe reading block) = coordinated-one c _
   step-one (arrives k) = at-one (w .sent) k
   step-one (crashes c left) = coordinated-one c _
   step-one (goesDown b) = standing-one b false

@@ -16,19 +16,19 @@ use Rattle.settings.specs.declared.Settings.{Settings}
 use Rattle.message.specs.Flags.{member}
 use Rattle.message.specs.declared.Reply.{Reply}
 use Rattle.coord_decide.specs.Deciding.{tallied}
-use Rattle.erasure.specs.Code.{blockOf}
+use Rattle.erasure.specs.Code.{blockOf, withBlock}
 use Rattle.coord_record.specs.Records.{idleKind, noOp, idleWith}
 use Rattle.coord_record.specs.declared.Coordinator.{Coordinator}
-use Rattle.coord_apply.specs.Acts.{withReplyBlock, withTally, counting}
+use Rattle.coord_apply.specs.Acts.{withTally, counting}
 use Rattle.coord_apply.specs.Answers.{Buffered, Went}
 use Rattle.coordinator.proofs.Laws.RoutineLaws.{place-fits}
-use Rattle.coord_laws.proofs.Laws.CodedBlockLaws.{placed-same, placed-other}
+use Rattle.erasure.proofs.Laws.BlockOfLaws.{block-with, block-beside}
 use Rattle.coord_laws.proofs.Laws.StepRunLaws.{ReplyTaken}
 use Rattle.coord_laws.proofs.Laws.TallyLaws.{tallied-sized}
-use Rattle.order.specs.Claim.{Action, _∈_}
+use Rattle.order.specs.Claim.{_∈_}
 use Rattle.order.specs.Facts.{began}
 use Rattle.order.specs.Places.{In}
-use Rattle.register.specs.Runs.{Item, reply}
+use Rattle.register.specs.Runs.{plain, Item, reply}
 use Rattle.register.proofs.Laws.BegunLaws.{same-begun}
 use Rattle.register.proofs.Laws.Invariant.{Hist, CountedInv, Running, CoordinatorInv}
 
@@ -76,20 +76,20 @@ counting-keeps s g h sent c k r block coded w i t was =
     low = let a = t .takes .brick-low in let b = g .code .n-high in omega arith
 
     blocks : List ℕ
-    blocks = cond (r .held) (withReplyBlock (s .size) (r .brick) block (k .blocks)) (k .blocks)
+    blocks = cond (r .held) (withBlock (s .size) (k .blocks) (r .brick) block) (k .blocks)
 
     after : Buffered
     after = counting (s .size) k r block
 
     -- the block of the brick that is counted, and those of the others
-    here : (a : Bool) → r .held ≡ a → a ≡ true → blockOf (s .size) (cond a (withReplyBlock (s .size) (r .brick) block (k .blocks)) (k .blocks)) (r .brick) ≡ block
-    here true e q = placed-same (s .size) (r .brick) block (k .blocks) (t .takes .block-length e) (place-fits _ _ _ _ _ _ _ _ _ _ (t .takes))
+    here : (a : Bool) → r .held ≡ a → a ≡ true → blockOf (s .size) (cond a (withBlock (s .size) (k .blocks) (r .brick) block) (k .blocks)) (r .brick) ≡ block
+    here true e q = block-with (s .size) (k .blocks) (r .brick) block (t .takes .block-length e) (place-fits _ _ _ _ _ _ _ _ _ _ (t .takes))
     here false e q = let z : _≡_ {A = ℕ} 0 1 = cc in absurd (omega arith)
 
     there : (a : Bool) → r .held ≡ a → (b : ℕ) → b ≢ r .brick
-        → blockOf (s .size) (cond a (withReplyBlock (s .size) (r .brick) block (k .blocks)) (k .blocks)) b ≡ blockOf (s .size) (k .blocks) b
+        → blockOf (s .size) (cond a (withBlock (s .size) (k .blocks) (r .brick) block) (k .blocks)) b ≡ blockOf (s .size) (k .blocks) b
     there true e b n =
-        placed-other (s .size) (r .brick) b block (k .blocks) (t .takes .block-length e) (place-fits _ _ _ _ _ _ _ _ _ _ (t .takes)) n
+        block-beside (s .size) (k .blocks) (r .brick) block (t .takes .block-length e) (place-fits _ _ _ _ _ _ _ _ _ _ (t .takes)) b n
     there false e b n = refl
 
     new : CountedInv s sent after (r .brick)
@@ -132,8 +132,9 @@ counting-keeps s g h sent c k r block coded w i t was =
     running x =
         record {
           own = x .own;
-          begun = subst (λ (a : Action (List ℕ)). In (began (k .state .op .time) a) h) (same-begun s k after refl refl) (x .begun);
+          begun = subst (λ (a : plain s .Kind). In (began (k .state .op .time) a) h) (same-begun s k after refl refl refl) (x .begun);
           proper = x .proper;
+          piece = x .piece;
           unended = x .unended;
           unsent = x .unsent;
           counts = λ b m. counts b m (ℕ-discrete b (r .brick));
@@ -141,6 +142,7 @@ counting-keeps s g h sent c k r block coded w i t was =
           asked = x .asked;
           cleared = x .cleared;
           storing = x .storing;
+          modifying = x .modifying;
         }
       where
         counts : (b : ℕ) → member (set counted (r .brick) 1) b ≡ true → Dec (b ≡ r .brick) → CountedInv s sent after b

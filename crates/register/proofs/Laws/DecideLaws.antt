@@ -1,13 +1,13 @@
 -- The q-th reply decides: an abort, the Write round of a write, the end after a Write round.
 use mathlib.Core.Path.{_≡_, refl, sym, ap, subst, _∙_}
 use mathlib.Core.Logic.{_⊎_, inl, inr}
-use mathlib.Core.Bool.{Bool, true, false, not, _&&_}
+use mathlib.Core.Bool.{Bool, true, false, true≢false, not, _&&_}
 use mathlib.Core.List.{List, [], _∷_, _++_, List·Memᴰ·not-nil}
 use Prim.Native.Nat.{ℕ, _+_, _≤_, _<_}
 use native.Mathlib.Omega.{arith}
 use lib.Dec.{T, leb}
-use borrow.Author.Tests.{eq-eqb, ne-eqb, ltb-true}
-use Rattle.message.specs.Kinds.{readKind, orderKind, writeKind}
+use borrow.Author.Tests.{ltb-true}
+use Rattle.message.specs.Kinds.{readKind, orderKind, writeKind, modifyKind}
 use Rattle.settings.specs.Ranges.{quorum}
 use Rattle.settings.specs.Ranges.{SettingsRange}
 use Rattle.byte_lists.proofs.Laws.BoolLaws.{and-right}
@@ -16,24 +16,24 @@ use Rattle.settings.specs.declared.Settings.{Settings}
 use Rattle.message.specs.Flags.{member, members}
 use Rattle.message.specs.declared.Message.{Message}
 use Rattle.erasure.specs.Code.{codedOf}
-use Rattle.erasure.specs.Code.{Stripe}
+use Rattle.erasure.specs.Code.{blockOf, Stripe}
 use Rattle.byte_lists.specs.Each.{some}
 use Rattle.byte_lists.proofs.Laws.EachLaws.{some-at}
-use Rattle.coord_record.specs.Records.{noBricks, idleKind, readingKind, writingKind}
+use Rattle.coord_record.specs.Records.{noBricks, idleKind, readingKind, writingKind, writingBlockKind, isReading, onBlock}
 use Rattle.coord_record.specs.SoundParts.{SoundParts}
 use Rattle.coord_tally.specs.Counting.{saidNo}
 use Rattle.coord_apply.specs.Acts.{roundMessage, trimMessage, nextOp, opened, nextRound, ending, finishedSeen}
-use Rattle.coord_apply.specs.Answers.{Buffered, abortedSeen}
-use Rattle.order.specs.Claim.{Action, read, write, ok, bytes, changed, given, _∈_}
+use Rattle.coord_apply.specs.Answers.{Buffered, Broadcast, readSeen, abortedSeen}
+use Rattle.order.specs.Claim.{write, ok, changed, Ending, Seen, _∈_}
 use Rattle.order.specs.Facts.{Source, itself, End, written, recovered, aborted, Fact, began, promised, launched, stored, ended, shows, endingOf}
 use Rattle.order.specs.Places.{whole, above, In}
 use Rattle.order.proofs.Laws.PlaceLaws.{in-above, in-top}
 use Rattle.order.specs.Quorums.{Many}
 use Rattle.order.specs.Valid.{Began, Val, sets, OkLaunched, Valid}
 use Rattle.order.proofs.Laws.FactLaws.{committed-up}
-use Rattle.register.specs.Runs.{plain, Item, message, reply, begunKind, seenOf, blockFor, broadcasts}
-use Rattle.register.proofs.Laws.BegunLaws.{same-begun, known-begun, reads-begun, writes-begun}
-use Rattle.register.proofs.Laws.Invariant.{quorums, Hist, MessageInv, ReplyInv, ItemInv, Running, CoordinatorInv}
+use Rattle.register.specs.Runs.{plain, Item, message, reply, begunKind, seenOf, blockFor, oldFor, broadcasts}
+use Rattle.register.proofs.Laws.BegunLaws.{read-keeps, read-gives, write-says, same-begun, known-begun, writes-begun}
+use Rattle.register.proofs.Laws.Invariant.{quorums, Hist, Piece, MessageInv, ReplyInv, ItemInv, Running, CoordinatorInv}
 use Rattle.register.proofs.Laws.UpLaws.{in-cons}
 use Rattle.register.proofs.Laws.TurnLaws.{time-of, turns-launched, in-broadcast, TurnedRound}
 use Rattle.register.proofs.Laws.RoundLaws.{ends, opens}
@@ -44,6 +44,7 @@ use Rattle.coord_laws.proofs.Laws.SentMessageLaws.{time-valid}
 pub record SoundOp (s : Settings) (k : Buffered) : Type 0 where
   pub fits : readKind ≤ k .state .op .phase → Fit (k .state .op)
   pub first-low : k .state .op .first < s .n
+  pub block-low : onBlock (k .state .op .kind) ≡ true → k .state .op .first < s .m
   pub time-high : readingKind ≤ k .state .op .kind → k .state .op .time < noUpperEnd
 
 pub sound-op : (s : Settings) (k : Buffered) → SoundParts (s .n) (s .m) (s .size) (s .stripes) (k .state) → SoundOp s k
@@ -52,6 +53,7 @@ sound-op s k p =
     record {
       fits = λ l. fit (k .state .op) (p .op-right) (λ _ z. omega arith);
       first-low = p .first-low;
+      block-low = p .block-low;
       time-high = λ l. ltb-true (k .state .op .time) noUpperEnd
           (and-right (leb (timeOf 1 0) (k .state .op .time)) _
           (time-valid (k .state .op .kind) (k .state .op .time) (k .state .clock) (p .time-right) (λ z. omega arith) (p .number-low) (p .last-low)));
@@ -100,30 +102,34 @@ module _ (s : Settings) (g : SettingsRange s) (h : Hist s) (sent : List Item) (c
   does-abort =
       ends s g h sent c k i v aborted (k .stripe) [] abortedSeen noBricks (now .own)
       (record { known = known-begun now; running = now .unended; answer = tt }) (unfold ending seenOf shows endingOf in refl)
-      (λ z m. absurd (unfold broadcasts in List·Memᴰ·not-nil m)) (λ b msg block m. absurd (unfold broadcasts in List·Memᴰ·not-nil m))
+      (λ z m. absurd (unfold broadcasts in List·Memᴰ·not-nil m)) (λ b msg block old m. absurd (unfold broadcasts in List·Memᴰ·not-nil m))
 
   -- a Write round is sent
   pub launches : (source : Source) (bricks stripe : List ℕ) → OkLaunched (quorums s g) h (k .state .op .time) source
       → Val (launched (k .state .op .time) source ∷ h) (k .state .op .time) stripe
       → Stripe (s .m) (s .size) stripe
+      → (k .state .op .kind ≡ writingBlockKind → Piece s (k .state .op .first) (blockOf (s .size) stripe (k .state .op .first)))
       → begunKind s (nextRound k writeKind 0 bricks stripe (codedOf (s .n) (s .m) (s .size) stripe) .next) ≡ begunKind s k
       → TurnedRound s g h sent c (nextRound k writeKind 0 bricks stripe (codedOf (s .n) (s .m) (s .size) stripe))
-  launches source bricks stripe o value proper kept =
-      opens s g h sent c k i n later writeKind 0 bricks stripe (codedOf (s .n) (s .m) (s .size) stripe)
+  unfolding nextRound
+  launches source bricks stripe o value proper piece kept =
+      opens s g h sent c k i n later writeKind 0 0 bricks stripe (codedOf (s .n) (s .m) (s .size) stripe) []
       (turns-launched s g c h v (k .state .op .time) source o (now .own) [] refl)
       (λ u w. old u (w .0) (in-cons (w .1)))
       (λ w. unended (w .0) (in-cons (w .1)))
-      (λ p. absurd (p refl))
+      (λ p o. absurd (p refl))
       kept
       (λ e. proper)
+      piece
       (λ e. absurd (omega (arith, e)))
       (λ e. ((source, in-top), value, proper))
+      (λ e. absurd (omega (arith, e)))
       messages
     where
       later : Hist s
       later = launched (k .state .op .time) source ∷ h
 
-      old : (u : ℕ) (a : Action (List ℕ)) → (_≡_ {A = Fact (plain s)} (began u a) (launched (k .state .op .time) source)) ⊎ In (began u a) h → Began h u
+      old : (u : ℕ) (a : plain s .Kind) → (_≡_ {A = Fact (plain s)} (began u a) (launched (k .state .op .time) source)) ⊎ In (began u a) h → Began h u
       old u a (inl q) = let z : _≡_ {A = ℕ} 0 1 = cc in absurd (omega arith)
       old u a (inr q) = (a, q)
 
@@ -132,14 +138,16 @@ module _ (s : Settings) (g : SettingsRange s) (h : Hist s) (sent : List Item) (c
       unended e (inr q) = now .unended (e, q)
 
       messages : (b : ℕ) → b < s .n
-          → MessageInv s g later b (roundMessage (nextOp (k .state .op) writeKind 0) noBricks)
-          (blockFor s (record { message = roundMessage (nextOp (k .state .op) writeKind 0) noBricks; blocks = codedOf (s .n) (s .m) (s .size) stripe }) b)
+          → MessageInv s g later b (roundMessage (nextOp (k .state .op) writeKind 0) 0 noBricks)
+          (blockFor s (record { message = roundMessage (nextOp (k .state .op) writeKind 0) 0 noBricks; blocks = codedOf (s .n) (s .m) (s .size) stripe; old = [] }) b)
+          (oldFor s (record { message = roundMessage (nextOp (k .state .op) writeKind 0) 0 noBricks; blocks = codedOf (s .n) (s .m) (s .size) stripe; old = [] }))
       messages b l =
-          unfold roundMessage nextOp blockFor in
+          unfold roundMessage nextOp blockFor oldFor in
           (record {
             brick-low = l;
             asks = λ e. absurd (omega (arith, e));
             stores = λ e. ((source, in-top), record { full = stripe; value = value; proper = proper; coded = refl });
+            modifies = λ e. absurd (omega (arith, e));
             trims = λ e. absurd (omega (arith, e));
           })
 
@@ -154,12 +162,12 @@ module _ (s : Settings) (g : SettingsRange s) (h : Hist s) (sent : List Item) (c
       (record {
         known = known-begun now;
         running = now .unended;
-        new = now .unsent (λ e. omega (arith, e));
+        new = now .unsent (λ e. omega (arith, e)) (λ e. omega (arith, e));
         order = quorum-of (λ (b : ℕ). In (promised b (k .state .op .time)) h) enough ordered;
         source = (write (k .stripe), k .stripe, w, λ z. refl);
       })
-      (sets in-top (in-above w) (λ z. refl)) (now .proper kind)
-      (unfold nextRound opened nextOp in same-begun s _ k refl refl)
+      (sets in-top (in-above w) (λ z. refl)) (now .proper kind) (now .piece)
+      (unfold nextRound opened nextOp in same-begun s _ k refl refl refl)
     where
       ordered : (b : ℕ) → member (k .state .tally .counted) b ≡ true → In (promised b (k .state .op .time)) h
       ordered b m =
@@ -168,7 +176,7 @@ module _ (s : Settings) (g : SettingsRange s) (h : Hist s) (sent : List Item) (c
           (subst (λ (z : ℕ). In (promised z (x .from .time)) h) (x .brick-is) (reply-at b m .orders (said-yes yeses b m) (x .kind-is ∙ phase)))
 
   -- a quorum stored the operation's time
-  stored-quorum : k .state .op .phase ≡ writeKind → some (saidNo (k .state .tally .counted) (k .state .tally .granted)) (s .n) ≡ false
+  stored-quorum : (k .state .op .phase ≡ writeKind) ⊎ (k .state .op .phase ≡ modifyKind) → some (saidNo (k .state .tally .counted) (k .state .tally .granted)) (s .n) ≡ false
       → quorum (s .n) (s .m) ≤ members (k .state .tally .counted) (s .n) → Many (s .n) (quorum (s .n) (s .m)) (λ b. In (stored b (k .state .op .time)) h)
   stored-quorum phase yeses enough = quorum-of (λ (b : ℕ). In (stored b (k .state .op .time)) h) enough stores
     where
@@ -176,63 +184,85 @@ module _ (s : Settings) (g : SettingsRange s) (h : Hist s) (sent : List Item) (c
       stores b m =
           let x = now .counts b m in
           subst (λ (t : ℕ). In (stored b t) h) (x .time-is)
-          (subst (λ (z : ℕ). In (stored z (x .from .time)) h) (x .brick-is) (reply-at b m .writes (said-yes yeses b m) (x .kind-is ∙ phase)))
+          (subst (λ (z : ℕ). In (stored z (x .from .time)) h) (x .brick-is) (said phase))
+        where
+          said : (k .state .op .phase ≡ writeKind) ⊎ (k .state .op .phase ≡ modifyKind) → In (stored (now .counts b m .from .brick) (now .counts b m .from .time)) h
+          said (inl p) = reply-at b m .writes (said-yes yeses b m) (now .counts b m .kind-is ∙ p)
+          said (inr p) = reply-at b m .modifies (said-yes yeses b m) (now .counts b m .kind-is ∙ p)
+
+  abbrev trimming : Broadcast
+  trimming = record { message = trimMessage (k .state .op); blocks = []; old = [] }
 
   trims : Many (s .n) (quorum (s .n) (s .m)) (λ b. In (stored b (k .state .op .time)) h) → (e : End (plain s)) (z : Item)
-      → z ∈ broadcasts s (record { message = trimMessage (k .state .op); blocks = [] } ∷ [])
-      → ItemInv s g (ended (k .state .op .time) e ∷ h) (sent ++ broadcasts s (record { message = trimMessage (k .state .op); blocks = [] } ∷ [])) z
+      → z ∈ broadcasts s (trimming ∷ []) → ItemInv s g (ended (k .state .op .time) e ∷ h) (sent ++ broadcasts s (trimming ∷ [])) z
   trims many e z m =
-      let w = in-broadcast s (record { message = trimMessage (k .state .op); blocks = [] }) z m in
-      subst (ItemInv s g (ended (k .state .op .time) e ∷ h) (sent ++ broadcasts s (record { message = trimMessage (k .state .op); blocks = [] } ∷ [])))
-      (sym (w .2)) (one (w .0) (w .1))
+      let w = in-broadcast s trimming z m in
+      subst (ItemInv s g (ended (k .state .op .time) e ∷ h) (sent ++ broadcasts s (trimming ∷ []))) (sym (w .2)) (one (w .0) (w .1))
     where
       one : (b : ℕ) → b < s .n
-          → MessageInv s g (ended (k .state .op .time) e ∷ h) b (trimMessage (k .state .op)) (blockFor s (record { message = trimMessage (k .state .op); blocks = [] }) b)
+          → MessageInv s g (ended (k .state .op .time) e ∷ h) b (trimMessage (k .state .op)) (blockFor s trimming b) (oldFor s trimming)
       one b l =
           unfold trimMessage in
           (record {
             brick-low = l;
             asks = λ q. absurd (omega (arith, q));
             stores = λ q. absurd (omega (arith, q));
+            modifies = λ q. absurd (omega (arith, q));
             trims = λ q. committed-up (quorums s g) (above whole) (inr many);
           })
 
-  owns : (b : ℕ) (msg : Message) (block : List ℕ)
-      → message b msg block ∈ broadcasts s (record { message = trimMessage (k .state .op); blocks = [] } ∷ []) → coordinatorOf (msg .time) ≡ c
-  owns b msg block m =
-      let w = in-broadcast s (record { message = trimMessage (k .state .op); blocks = [] }) (message b msg block) m in
+  owns : (b : ℕ) (msg : Message) (block old : List ℕ) → message b msg block old ∈ broadcasts s (trimming ∷ []) → coordinatorOf (msg .time) ≡ c
+  owns b msg block old m =
+      let w = in-broadcast s trimming (message b msg block old) m in
       let e : msg .time ≡ k .state .op .time = unfold time-of trimMessage in ap time-of (w .2) in
       ap coordinatorOf e ∙ now .own
 
-  -- the Write round is finished: a write is ok, a read gives its stripe
-  pub does-finish : (k .state .op .kind ≡ readingKind) ⊎ (k .state .op .kind ≡ writingKind) → k .state .op .phase ≡ writeKind
+  -- the Write or Modify round is finished: a write is ok, a read gives its stripe or its block
+  pub does-finish : (k .state .op .phase ≡ writeKind) ⊎ ((k .state .op .phase ≡ modifyKind) × (isReading (k .state .op .kind) ≡ false))
       → some (saidNo (k .state .tally .counted) (k .state .tally .granted)) (s .n) ≡ false
       → quorum (s .n) (s .m) ≤ members (k .state .tally .counted) (s .n)
-      → TurnedRound s g h sent c
-      (ending k (k .stripe) (record { message = trimMessage (k .state .op); blocks = [] } ∷ []) (finishedSeen (k .state .op)) (k .state .bricks))
-  unfolding changed given
-  does-finish (inl kind) phase yeses enough =
-      let many = stored-quorum phase yeses enough in
-      ends s g h sent c k i v (recovered (bytes (k .stripe))) (k .stripe) (record { message = trimMessage (k .state .op); blocks = [] } ∷ [])
-      (finishedSeen (k .state .op)) (k .state .bricks) (now .own)
-      (record {
-        known = known-begun now;
-        running = now .unended;
-        answer = (
-          inr many,
-          record { kind = read; asked = reads-begun now kind; keeps = λ z. refl; stripe = k .stripe; value = now .storing phase .1; bytes = refl },
-        );
-      })
-      (unfold ending seenOf shows endingOf finishedSeen in rw (eq-eqb (k .state .op .kind) readingKind kind) refl)
-      (trims many (recovered (bytes (k .stripe)))) owns
-  does-finish (inr kind) phase yeses enough =
-      let many = stored-quorum phase yeses enough in
-      ends s g h sent c k i v (written ok) (k .stripe) (record { message = trimMessage (k .state .op); blocks = [] } ∷ [])
-      (finishedSeen (k .state .op)) (k .state .bricks) (now .own)
-      (record {
-        known = known-begun now;
-        running = now .unended;
-        answer = (inr many, record { kind = write (k .stripe); asked = writes-begun now kind; blind = λ z. refl });
-      })
-      (unfold ending seenOf shows endingOf finishedSeen in rw (ne-eqb (k .state .op .kind) readingKind (λ q. omega (arith, q))) refl)
-      (trims many (written ok)) owns
+      → TurnedRound s g h sent c (ending k (k .stripe) (trimming ∷ []) (finishedSeen (k .state .op)) (k .state .bricks))
+  does-finish phase yeses enough = go (isReading (k .state .op .kind)) refl phase
+    where
+      round : (k .state .op .phase ≡ writeKind) ⊎ ((k .state .op .phase ≡ modifyKind) × (isReading (k .state .op .kind) ≡ false))
+          → (k .state .op .phase ≡ writeKind) ⊎ (k .state .op .phase ≡ modifyKind)
+      round (inl p) = inl p
+      round (inr p) = inr (p .0)
+
+      many : Many (s .n) (quorum (s .n) (s .m)) (λ b. In (stored b (k .state .op .time)) h)
+      many = stored-quorum (round phase) yeses enough
+
+      -- what a read gives
+      gave : plain s .Given
+      gave = plain s .gives (begunKind s k) (k .stripe)
+
+      finished-read : isReading (k .state .op .kind) ≡ true → k .state .op .phase ≡ writeKind
+          → TurnedRound s g h sent c (ending k (k .stripe) (trimming ∷ []) (finishedSeen (k .state .op)) (k .state .bricks))
+      finished-read q p =
+          ends s g h sent c k i v (recovered gave) (k .stripe) (trimming ∷ []) (finishedSeen (k .state .op)) (k .state .bricks) (now .own)
+          (record {
+            known = known-begun now;
+            running = now .unended;
+            answer = (
+              inr many,
+              record { kind = begunKind s k; asked = now .begun; keeps = read-keeps s k q; stripe = k .stripe; value = now .storing p .1; bytes = refl },
+            );
+          })
+          (unfold ending seenOf shows endingOf finishedSeen in
+          rw q (ap (λ (a : plain s .Given). Seen.ended (k .state .op .time) (Ending.finished a) ∷ []) (read-gives s k q readSeen (k .state .bricks) (k .stripe))))
+          (trims many (recovered gave)) owns
+
+      go : (a : Bool) → isReading (k .state .op .kind) ≡ a
+          → (k .state .op .phase ≡ writeKind) ⊎ ((k .state .op .phase ≡ modifyKind) × (isReading (k .state .op .kind) ≡ false))
+          → TurnedRound s g h sent c (ending k (k .stripe) (trimming ∷ []) (finishedSeen (k .state .op)) (k .state .bricks))
+      go true q (inl p) = finished-read q p
+      go true q (inr p) = absurd (true≢false (sym q ∙ p .1))
+      go false q p =
+          ends s g h sent c k i v (written ok) (k .stripe) (trimming ∷ []) (finishedSeen (k .state .op)) (k .state .bricks) (now .own)
+          (record {
+            known = known-begun now;
+            running = now .unended;
+            answer = (inr many, record { kind = begunKind s k; asked = now .begun; blind = λ z. write-says s k q z });
+          })
+          (unfold ending seenOf shows endingOf finishedSeen in rw q refl)
+          (trims many (written ok)) owns

@@ -1,11 +1,12 @@
 -- What is decided in a round, by its phase.
 use mathlib.Core.Path.{_≡_, refl}
 use mathlib.Core.Bool.{cond, _||_}
-use Prim.Native.Nat.{ℕ}
+use Prim.Native.Nat.{ℕ, _<_}
 use native.Mathlib.Omega.{arith}
 use lib.Dec.{leb, ltb, eqb}
 use borrow.Author.Tests.{eq-eqb, ne-eqb}
-use Rattle.message.specs.Kinds.{readKind, orderKind, orderReadKind, writeKind, lastRound}
+use Rattle.message.specs.Kinds.{readKind, orderKind, orderReadKind, orderBlockKind, lastRound}
+use Rattle.coord_record.specs.Records.{targetCount}
 use Rattle.settings.specs.Count.{count}
 use Rattle.settings.specs.Times.{noUpperEnd}
 use Rattle.message.specs.Flags.{members}
@@ -13,19 +14,30 @@ use Rattle.byte_lists.specs.Each.{some}
 use Rattle.coord_record.specs.declared.Op.{Op}
 use Rattle.coord_record.specs.declared.Tally.{Tally}
 use Rattle.coord_tally.specs.Counting.{saidNo, highest, otherTime, missing, atTimes}
-use Rattle.coord_decide.specs.Deciding.{decidedRead, unlessSpent, decidedAt, decidedRecovery, decided}
-use Rattle.coord_decide.specs.declared.Decision.the-variants.{Abort, Give, Look, Store, Recover, Finish}
+use Rattle.coord_decide.specs.Deciding.{apart, decidedRead, decidedBlockOrder, unlessSpent, decidedAt, decidedRecovery, decided}
+use Rattle.coord_decide.specs.declared.Decision.the-variants.{Abort, Give, Look, Store, Modify, Recover, Finish}
 
 module _ (n m : ℕ) (op : Op) (t : Tally) where
   pub decided-reading : op .phase ≡ readKind
       → decided n m op t
       ≡ cond
       (some (saidNo (t .counted) (t .granted)) n
-      || some (otherTime (t .counted) (t .found) (highest (t .counted) (t .found) n)) n
-      || some (missing n m (op .first) (t .counted)) n)
+      || (some (otherTime (t .counted) (t .found) (highest (t .counted) (t .found) n)) n
+      || some (missing n (targetCount m (op .kind)) (op .first) (t .counted)) n))
       (Look noUpperEnd) Give
-  unfolding decided decidedRead
+  unfolding decided decidedRead apart
   decided-reading e = rw (eq-eqb (op .phase) readKind e) refl
+
+  pub decided-block-ordering : op .phase ≡ orderBlockKind
+      → decided n m op t
+      ≡ cond (some (saidNo (t .counted) (t .granted)) n) Abort
+      (cond
+      (some (otherTime (t .counted) (t .found) (highest (t .counted) (t .found) n)) n
+      || some (missing n (targetCount m (op .kind)) (op .first) (t .counted)) n)
+      (Look noUpperEnd) (Modify (highest (t .counted) (t .found) n)))
+  unfolding decided decidedBlockOrder apart
+  decided-block-ordering e =
+      rw (ne-eqb (op .phase) readKind (λ q. omega (arith, q)), ne-eqb (op .phase) orderKind (λ q. omega (arith, q)), eq-eqb (op .phase) orderBlockKind e) refl
 
   pub decided-ordering : op .phase ≡ orderKind → decided n m op t ≡ cond (some (saidNo (t .counted) (t .granted)) n) Abort Store
   unfolding decided
@@ -41,9 +53,22 @@ module _ (n m : ℕ) (op : Op) (t : Tally) where
       (cond (ltb (op .round) lastRound) (Look (highest (t .held) (t .found) n)) Abort))))
   unfolding decided decidedRecovery decidedAt unlessSpent
   decided-looking e =
-      rw (ne-eqb (op .phase) readKind (λ q. omega (arith, q)), ne-eqb (op .phase) orderKind (λ q. omega (arith, q)), eq-eqb (op .phase) orderReadKind e) refl
+      rw (
+        ne-eqb (op .phase) readKind (λ q. omega (arith, q)),
+        ne-eqb (op .phase) orderKind (λ q. omega (arith, q)),
+        ne-eqb (op .phase) orderBlockKind (λ q. omega (arith, q)),
+        eq-eqb (op .phase) orderReadKind e,
+      )
+      refl
 
-  pub decided-storing : op .phase ≡ writeKind → decided n m op t ≡ cond (some (saidNo (t .counted) (t .granted)) n) Abort Finish
+  -- a Write or a Modify round
+  pub decided-storing : orderBlockKind < op .phase → decided n m op t ≡ cond (some (saidNo (t .counted) (t .granted)) n) Abort Finish
   unfolding decided
-  decided-storing e =
-      rw (ne-eqb (op .phase) readKind (λ q. omega (arith, q)), ne-eqb (op .phase) orderKind (λ q. omega (arith, q)), ne-eqb (op .phase) orderReadKind (λ q. omega (arith, q))) refl
+  decided-storing l =
+      rw (
+        ne-eqb (op .phase) readKind (λ q. omega (arith, q)),
+        ne-eqb (op .phase) orderKind (λ q. omega (arith, q)),
+        ne-eqb (op .phase) orderBlockKind (λ q. omega (arith, q)),
+        ne-eqb (op .phase) orderReadKind (λ q. omega (arith, q)),
+      )
+      refl

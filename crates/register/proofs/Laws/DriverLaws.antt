@@ -1,11 +1,11 @@
 -- Laws of `specs/Driver`.
 use mathlib.Core.Path.{_≡_, refl, sym, ap, ap₂, subst, fun-ext, _∙_}
-use mathlib.Core.Bool.{Bool, true, false, cond}
+use mathlib.Core.Bool.{Bool, true, false, cond, true≢false}
 use mathlib.Core.List.{List, [], _∷_, _++_, append-nil}
 use Prim.Native.Nat.{ℕ, zero, suc, _*_, _≤_}
 use native.Mathlib.Omega.{arith}
 use lib.Dec.{leb, ltb, eqb}
-use lib.ListN.{length, replicate}
+use lib.ListN.{length, take}
 use borrow.Author.Tests.{eqb-true, eq-eqb}
 use Rattle.settings.specs.Ranges.{quorum}
 use Rattle.settings.specs.Times.{drawOf}
@@ -14,24 +14,26 @@ use Rattle.settings.specs.declared.Draw.{Draw}
 use Rattle.settings.specs.declared.Draw.the-variants.{Drawn, Refused}
 use Rattle.settings.specs.declared.Settings.{Settings}
 use Rattle.message.specs.Flags.{members}
-use Rattle.message.specs.Kinds.{writeKind}
+use Rattle.message.specs.Kinds.{writeKind, modifyKind}
+use Rattle.message.specs.Messages.{namesBlock}
 use Rattle.message.specs.declared.Reply.{Reply}
 use Rattle.coord_record.specs.Records.{idleKind, noBricks}
 use Rattle.coord_decide.specs.Deciding.{decided}
 use Rattle.coord_decide.specs.declared.Decision.{Decision}
-use Rattle.coord_decide.specs.declared.Decision.the-variants.{Abort, Give, Look, Store, Recover, Finish}
-use Rattle.erasure.specs.Code.{blockOf}
-use Rattle.coord_apply.specs.Acts.{buffered, nextRound, ending, acted, counting, waitingOr, starting}
+use Rattle.coord_decide.specs.declared.Decision.the-variants.{Abort, Give, Look, Store, Modify, Recover, Finish}
+use Rattle.coord_apply.specs.Acts.{buffered, roundMessage, trimMessage, nextOp, opened, nextRound, modifying, ending, acted, counting, waitingOr, firstOp}
+use Rattle.coord_apply.specs.Acts.{starting}
 use Rattle.coord_apply.specs.Answers.{Buffered, Broadcast, Went, Step, refused, went, afterChecks, nothingSeen, cutSeen, mostBroadcasts, sentCount, sentMessage, sentBlocks, answerOf}
 use Rattle.coord_apply.specs.Answers.{blocksAfter, stripeAfter, codedAfter, returned, returnedBy}
 use Rattle.coord_apply.proofs.Laws.AnswerLaws.{returned-answer}
 use Rattle.coord_apply.specs.declared.Answer.{Answer}
 use Rattle.coord_record.specs.declared.Coordinator.{Coordinator}
-use Rattle.coordinator.specs.Routines.{takeStep, crashStep, crashed, drawnThen, writeStep, readStep}
+use Rattle.coord_record.specs.declared.Op.{Op}
+use Rattle.coordinator.specs.Routines.{takeStep, crashStep, crashed, drawnThen, writeStep, readStep, writeBlockStep, readBlockStep}
 use Rattle.order.specs.Claim.{Seen}
-use Rattle.register.specs.Runs.{plain, Item, message, World, untouched, lost, Moved, unmoved, putAt, onStripe, seenOf, blockFor, toAll, broadcasts}
+use Rattle.register.specs.Runs.{plain, Item, message, World, untouched, lost, Moved, unmoved, putAt, onStripe, seenOf, blockFor, oldFor, toAll, broadcasts}
 use Rattle.register.specs.Runs.{coordinated, buffersFit, leaving, leftBy}
-use Rattle.register.specs.Driver.{listed, driven, AtMostTwo, none, one, two, Short}
+use Rattle.register.specs.Driver.{withBlocks, listed, driven, InBuffers, AtMostTwo, none, one, two, Short, refuses, sends}
 
 pub put-same : {A : Type 0} (f : ℕ → A) (c : ℕ) → putAt f c (f c) ≡ f
 unfolding putAt
@@ -50,73 +52,81 @@ seen-nowhere stripe = fun-ext (λ k. go (eqb k stripe))
     go true = refl
     go false = refl
 
--- only a Write round has blocks: any others in their place make no difference to other messages
-same-block : (s : Settings) (b : Broadcast) (old : List ℕ) (j : ℕ)
-    → blockFor s b j ≡ blockFor s (record { message = b .message; blocks = cond (eqb (b .message .kind) writeKind) (b .blocks) old }) j
-unfolding blockFor
-same-block s b old j = go (eqb (b .message .kind) writeKind)
-  where
-    go : (a : Bool)
-        → cond a (blockOf (s .size) (b .blocks) j) (replicate (s .size) 0)
-        ≡ cond a (blockOf (s .size) (cond a (b .blocks) old) j) (replicate (s .size) 0)
-    go true = refl
-    go false = refl
+-- the blocks that a driver sends with a broadcast of a step are the step's, where the output buffer holds those of a Write round
+module _ (s : Settings) (k : Buffered) (b : Broadcast) (i : InBuffers (s .size) k b) (coded : List ℕ)
+    (e : eqb (b .message .kind) writeKind ≡ true → coded ≡ b .blocks) where
+  same-block : (j : ℕ) → blockFor s b j ≡ blockFor s (withBlocks (s .size) (b .message) (k .blocks) (k .stripe) coded) j
+  unfolding blockFor withBlocks
+  same-block j = go (eqb (b .message .kind) writeKind) (eqb (b .message .kind) modifyKind) refl refl
+    where
+      go : (x y : Bool) → eqb (b .message .kind) writeKind ≡ x → eqb (b .message .kind) modifyKind ≡ y
+          → blockFor s b j ≡ blockFor s (withBlocks (s .size) (b .message) (k .blocks) (k .stripe) coded) j
+      go true true ex ey = absurd (omega (arith, eqb-true (b .message .kind) writeKind ex, eqb-true (b .message .kind) modifyKind ey))
+      go true false ex ey = rw (ex, ey, e ex) refl
+      go false true ex ey = rw (ex, ey) (i .new-is (eqb-true (b .message .kind) modifyKind ey))
+      go false false ex ey = rw (ex, ey) refl
 
-same-items : (s : Settings) (b : Broadcast) (old : List ℕ) (k : ℕ)
-    → toAll s b k ≡ toAll s (record { message = b .message; blocks = cond (eqb (b .message .kind) writeKind) (b .blocks) old }) k
-unfolding toAll
-same-items s b old zero = refl
-same-items s b old (suc k) =
-    ap₂ (λ (l : List Item) (block : List ℕ). l ++ message k (b .message) block ∷ []) (same-items s b old k) (same-block s b old k)
+  same-old : oldFor s b ≡ oldFor s (withBlocks (s .size) (b .message) (k .blocks) (k .stripe) coded)
+  unfolding oldFor withBlocks
+  same-old = go (eqb (b .message .kind) modifyKind) refl
+    where
+      go : (y : Bool) → eqb (b .message .kind) modifyKind ≡ y
+          → oldFor s b ≡ oldFor s (withBlocks (s .size) (b .message) (k .blocks) (k .stripe) coded)
+      go true ey = rw ey (i .old-is (eqb-true (b .message .kind) modifyKind ey))
+      go false ey = rw ey refl
 
-no-block : (s : Settings) (b : Broadcast) (other : List ℕ) (k : ℕ) → eqb (b .message .kind) writeKind ≡ false
-    → toAll s b k ≡ toAll s (record { message = b .message; blocks = other }) k
-no-block s b other k e =
-    same-items s b other k
-    ∙ ap (λ (t : Bool). toAll s (record { message = b .message; blocks = cond t (b .blocks) other }) k) e
+  same-items : (j : ℕ) → toAll s b j ≡ toAll s (withBlocks (s .size) (b .message) (k .blocks) (k .stripe) coded) j
+  unfolding toAll withBlocks
+  same-items zero = refl
+  same-items (suc j) = cc (same-items j, same-block j, same-old)
 
--- what is sent by a step is what its answer lists
-same-sent : (s : Settings) (old : List ℕ) {l : List Broadcast} → AtMostTwo l
-    → broadcasts s l ≡ broadcasts s (listed (sentCount l) (sentMessage 0 l) (sentMessage 1 l) (sentBlocks l old))
-unfolding broadcasts listed sentCount sentMessage sentBlocks
-same-sent s old none = refl
-same-sent s old (one b) = ap (λ (l : List Item). l ++ []) (same-items s b old (s .n))
-same-sent s old (two a b e) =
-    ap₂ (λ (l k : List Item). l ++ (k ++ [])) (no-block s a _ (s .n) e)
-    (same-items s b (cond (eqb (a .message .kind) writeKind) (a .blocks) old) (s .n))
+-- what is sent by a step is what its answer and buffers list
+same-sent : (s : Settings) (k : Buffered) (old : List ℕ) {l : List Broadcast} → AtMostTwo (s .size) k l
+    → let coded = sentBlocks l old in
+    broadcasts s l
+    ≡ broadcasts s
+    (take (sentCount l)
+    (withBlocks (s .size) (sentMessage 0 l) (k .blocks) (k .stripe) coded ∷ withBlocks (s .size) (sentMessage 1 l) (k .blocks) (k .stripe) coded ∷ []))
+unfolding broadcasts withBlocks sentCount sentMessage sentBlocks
+same-sent s k old none = refl
+same-sent s k old (one b i) = cc (same-items s k b i (cond (eqb (b .message .kind) writeKind) (b .blocks) old) (λ e. rw e refl) (s .n))
+same-sent s k old (two a b i j e) =
+    let first : List ℕ = cond (eqb (a .message .kind) writeKind) (a .blocks) old in
+    let coded : List ℕ = cond (eqb (b .message .kind) writeKind) (b .blocks) first in
+    cc (same-items s k a i coded (λ q. absurd (true≢false (sym q ∙ e))) (s .n), same-items s k b j coded (λ e. rw e refl) (s .n))
 
 -- an answer lists no more than it has room for
-pub few-sent : (c : Coordinator) (p : Step) (a : Answer) → Short p → a ≡ answerOf c p → a .sent ≤ mostBroadcasts
+pub few-sent : {size : ℕ} (c : Coordinator) (p : Step) (a : Answer) → Short size p → a ≡ answerOf c p → a .sent ≤ mostBroadcasts
 unfolding answerOf sentCount
-few-sent c p a h e = subst (λ (x : Answer). x .sent ≤ mostBroadcasts) (sym e) (few p h)
+few-sent {size} c p a h e = subst (λ (x : Answer). x .sent ≤ mostBroadcasts) (sym e) (few p h)
   where
-    most : {l : List Broadcast} → AtMostTwo l → length l ≤ mostBroadcasts
+    most : {k : Buffered} {l : List Broadcast} → AtMostTwo size k l → length l ≤ mostBroadcasts
     most none = omega arith
-    most (one b) = omega arith
-    most (two a b e) = omega arith
+    most (one b i) = omega arith
+    most (two a b i j e) = omega arith
 
-    few : (q : Step) → Short q → answerOf c q .sent ≤ mostBroadcasts
-    few (refused number) h = omega arith
-    few (went g) h = most h
+    few : (q : Step) → Short size q → answerOf c q .sent ≤ mostBroadcasts
+    few q (refuses number) = omega arith
+    few q (sends g h) = most h
 
-pub few-returned : (c : Coordinator) (blocks stripe coded : List ℕ) (p : Step) (a : Answer) (blocks′ stripe′ coded′ : List ℕ) → Short p
+pub few-returned : {size : ℕ} (c : Coordinator) (blocks stripe coded : List ℕ) (p : Step) (a : Answer) (blocks′ stripe′ coded′ : List ℕ) → Short size p
     → returned a blocks′ stripe′ coded′ ≡ returnedBy (buffered c blocks stripe) coded p → a .sent ≤ mostBroadcasts
 few-returned c blocks stripe coded p a blocks′ stripe′ coded′ h e =
     few-sent c p a h (returned-answer c blocks stripe coded p a blocks′ stripe′ coded′ e)
 
 -- A coordinator's step in the world is what the driver makes of the routine's answer and buffers.
-pub coordinated-is-driven : (s : Settings) (w : World) (c : ℕ) (p : Step) (old : List ℕ) → Short p
+pub coordinated-is-driven : (s : Settings) (w : World) (c : ℕ) (p : Step) (old : List ℕ) → Short (s .size) p
     → coordinated s w c p
     ≡ driven s w c (answerOf (w .coordinators c .state) p) (blocksAfter (w .coordinators c) p) (stripeAfter (w .coordinators c) p) (codedAfter old p)
 unfolding coordinated driven listed broadcasts unmoved answerOf blocksAfter stripeAfter codedAfter nothingSeen seenOf
-coordinated-is-driven s w c (refused number) old h =
+coordinated-is-driven s w c p old (refuses number) =
     ap₂ (λ (f : ℕ → Buffered) (l : List Item). makes f l (λ (k : ℕ). [])) (sym (put-same (w .coordinators) c)) (sym (append-nil (w .sent)))
     ∙ ap (makes (putAt (w .coordinators) c (w .coordinators c)) (w .sent ++ [])) (sym (seen-nowhere _))
   where
     makes : (ℕ → Buffered) → List Item → (ℕ → List (Seen (plain s))) → Moved s
     makes f l seen = record { world = record { images = w .images; up = w .up; coordinators = f; sent = l }; seen = seen }
-coordinated-is-driven s w c (went g) old h =
-    ap (λ (l : List Item). makes (putAt (w .coordinators) c (g .next)) (w .sent ++ l) (onStripe (g .seen .stripe) (seenOf s (g .seen) (g .next)))) (same-sent s old h)
+coordinated-is-driven s w c p old (sends g h) =
+    ap (λ (l : List Item). makes (putAt (w .coordinators) c (g .next)) (w .sent ++ l) (onStripe (g .seen .stripe) (seenOf s (g .seen) (g .next)))) (same-sent s (g .next) old h)
   where
     makes : (ℕ → Buffered) → List Item → (ℕ → List (Seen (plain s))) → Moved s
     makes f l seen = record { world = record { images = w .images; up = w .up; coordinators = f; sent = l }; seen = seen }
@@ -134,59 +144,93 @@ unfolding leaving buffersFit
 left-lost s blocks stripe h eb es = simp (eq-eqb _ _ eb, eq-eqb _ _ es)
 
 -- the routines send two broadcasts at most, and so far one
-checked-short : (k : ℕ) (p : Step) → Short p → Short (afterChecks k p)
+checked-short : (size k : ℕ) (p : Step) → Short size p → Short size (afterChecks k p)
 unfolding afterChecks
-checked-short k p h = go (leb k 0)
+checked-short size k p h = go (leb k 0)
   where
-    go : (a : Bool) → Short (cond a p (refused k))
+    go : (a : Bool) → Short size (cond a p (refused k))
     go true = h
-    go false = tt
+    go false = refuses k
 
-drawn-short : (d : Draw) (f : ℕ → Clock → Went) → ((t : ℕ) (c : Clock) → AtMostTwo (f t c .sent)) → Short (drawnThen d f)
+drawn-short : (size : ℕ) (d : Draw) (f : ℕ → Clock → Went) → ((t : ℕ) (c : Clock) → AtMostTwo size (f t c .next) (f t c .sent)) → Short size (drawnThen d f)
 unfolding drawnThen
-drawn-short (Drawn t c) f h = h t c
-drawn-short (Refused k) f h = tt
+drawn-short size (Drawn t c) f h = sends (f t c) (h t c)
+drawn-short size (Refused k) f h = refuses k
 
-module _ (n m size stripes : ℕ) (k : Buffered) where
-  acted-short : (d : Decision) → AtMostTwo (acted n m size k d .sent)
-  unfolding acted nextRound ending
+-- a message that is no Modify
+no-modify : (size : ℕ) (k : Buffered) (b : Broadcast) → (b .message .kind ≡ modifyKind → ⊥) → InBuffers size k b
+no-modify size k b n = record { new-is = λ e. absurd (n e); old-is = λ e. absurd (n e) }
+
+-- a start
+started-short : (size : ℕ) (h : Buffered) (clock : Clock) (op : Op) (stripe targets : List ℕ) → (op .phase ≡ modifyKind → ⊥)
+    → AtMostTwo size (starting h clock op stripe targets .next) (starting h clock op stripe targets .sent)
+unfolding starting roundMessage
+started-short size h clock op stripe targets n = one _ (no-modify size _ _ n)
+
+module _ (n m size : ℕ) (k : Buffered) where
+  round-short : (phase max : ℕ) (bricks stripe coded : List ℕ) → (phase ≡ modifyKind → ⊥)
+      → AtMostTwo size (nextRound k phase max bricks stripe coded .next) (nextRound k phase max bricks stripe coded .sent)
+  unfolding nextRound roundMessage nextOp
+  round-short phase max bricks stripe coded n = one _ (no-modify size _ _ n)
+
+  acted-short : (d : Decision) → AtMostTwo size (acted n m size k d .next) (acted n m size k d .sent)
+  unfolding acted ending modifying roundMessage nextOp opened namesBlock trimMessage
   acted-short Abort = none
   acted-short Give = none
-  acted-short (Look max) = one _
-  acted-short Store = one _
-  acted-short (Recover t) = one _
-  acted-short Finish = one _
+  acted-short (Look max) = round-short _ _ _ _ _ (λ e. omega (arith, e))
+  acted-short Store = round-short _ _ _ _ _ (λ e. omega (arith, e))
+  acted-short (Modify time) = one _ (record { new-is = λ e. refl; old-is = λ e. refl })
+  acted-short (Recover t) = round-short _ _ _ _ _ (λ e. omega (arith, e))
+  acted-short Finish = one _ (no-modify size _ (record { message = trimMessage (k .state .op); blocks = []; old = [] }) (λ e. omega (arith, e)))
 
-  waiting-short : AtMostTwo (waitingOr n m size k .sent)
+  waiting-short : AtMostTwo size (waitingOr n m size k .next) (waitingOr n m size k .sent)
   unfolding waitingOr
   waiting-short = go (ltb (members (k .state .tally .counted) n) (quorum n m))
     where
-      go : (a : Bool)
-          → AtMostTwo (cond a (record { next = k; sent = []; seen = nothingSeen }) (acted n m size k (decided n m (k .state .op) (k .state .tally))) .sent)
+      waits : Bool → Went
+      waits a = cond a (record { next = k; sent = []; seen = nothingSeen }) (acted n m size k (decided n m (k .state .op) (k .state .tally)))
+
+      go : (a : Bool) → AtMostTwo size (waits a .next) (waits a .sent)
       go true = none
       go false = acted-short (decided n m (k .state .op) (k .state .tally))
 
-  pub write-short : (number reading : ℕ) (content : List ℕ) → Short (writeStep n m size stripes k number reading content)
-  unfolding writeStep starting
-  write-short number reading content = checked-short _ _ (drawn-short (drawOf (k .state .clock) reading) _ (λ t c. one _))
+module _ (n m size stripes : ℕ) (k : Buffered) where
+  pub write-short : (number reading : ℕ) (content : List ℕ) → Short size (writeStep n m size stripes k number reading content)
+  unfolding writeStep firstOp
+  write-short number reading content =
+      checked-short size _ _ (drawn-short size (drawOf (k .state .clock) reading) _ (λ t c. started-short size k c _ _ _ (λ e. omega (arith, e))))
 
-  pub read-short : (number reading first : ℕ) → Short (readStep n m size stripes k number reading first)
-  unfolding readStep starting
-  read-short number reading first = checked-short _ _ (drawn-short (drawOf (k .state .clock) reading) _ (λ t c. one _))
+  pub read-short : (number reading first : ℕ) → Short size (readStep n m size stripes k number reading first)
+  unfolding readStep firstOp
+  read-short number reading first =
+      checked-short size _ _ (drawn-short size (drawOf (k .state .clock) reading) _ (λ t c. started-short size k c _ _ _ (λ e. omega (arith, e))))
 
-  crashed-short : AtMostTwo (crashed k .sent)
+  pub write-block-short : (number reading block : ℕ) (content : List ℕ) → Short size (writeBlockStep n m size stripes k number reading block content)
+  unfolding writeBlockStep firstOp
+  write-block-short number reading block content =
+      checked-short size _ _ (drawn-short size (drawOf (k .state .clock) reading) _ (λ t c. started-short size k c _ _ _ (λ e. omega (arith, e))))
+
+  pub read-block-short : (number reading block : ℕ) → Short size (readBlockStep n m size stripes k number reading block)
+  unfolding readBlockStep firstOp
+  read-block-short number reading block =
+      checked-short size _ _ (drawn-short size (drawOf (k .state .clock) reading) _ (λ t c. started-short size k c _ _ _ (λ e. omega (arith, e))))
+
+  crashed-short : AtMostTwo size (crashed k .next) (crashed k .sent)
   unfolding crashed ending
   crashed-short = go (eqb (k .state .op .kind) idleKind)
     where
-      go : (a : Bool) → AtMostTwo (cond a (record { next = k; sent = []; seen = nothingSeen }) (ending k (k .stripe) [] cutSeen noBricks) .sent)
+      cuts : Bool → Went
+      cuts a = cond a (record { next = k; sent = []; seen = nothingSeen }) (ending k (k .stripe) [] cutSeen noBricks)
+
+      go : (a : Bool) → AtMostTwo size (cuts a .next) (cuts a .sent)
       go true = none
       go false = none
 
-  pub crash-short : Short (crashStep n m size stripes k)
+  pub crash-short : Short size (crashStep n m size stripes k)
   unfolding crashStep
-  crash-short = checked-short _ (went (crashed k)) crashed-short
+  crash-short = checked-short size _ (went (crashed k)) (sends (crashed k) crashed-short)
 
-pub take-short : (n m size stripes : ℕ) (k : Buffered) (r : Reply) (block : List ℕ) (coded : ℕ) → Short (takeStep n m size stripes k r block coded)
+pub take-short : (n m size stripes : ℕ) (k : Buffered) (r : Reply) (block : List ℕ) (coded : ℕ) → Short size (takeStep n m size stripes k r block coded)
 unfolding takeStep
 take-short n m size stripes k r block coded =
-    checked-short _ (went (waitingOr n m size (counting size k r block))) (waiting-short n m size stripes (counting size k r block))
+    checked-short size _ _ (sends (waitingOr n m size (counting size k r block)) (waiting-short n m size (counting size k r block)))

@@ -11,7 +11,7 @@ use borrow.Author.Tests.{eqb-true, eq-eqb, le-ltb}
 use Rattle.byte_lists.proofs.Laws.BoolLaws.{and-left, and-right}
 use Rattle.byte_lists.proofs.Laws.EachLaws.{each-at}
 use Rattle.settings.specs.Ranges.{maxBricks}
-use Rattle.coord_record.specs.Records.{idleKind, noOp, noBricks, nothingCounted, idleWith}
+use Rattle.coord_record.specs.Records.{idleKind, isReading, targetCount, noOp, noBricks, nothingCounted, idleWith}
 use Rattle.coord_record.specs.CountedRules.{countedRight, entryRight, tallyRight, brickRight, bricksRight}
 use Rattle.coord_record.specs.Sound.{sameGeometry, opRight, unsetOp, namedCount}
 use Rattle.coord_record.specs.SoundParts.{SoundParts}
@@ -50,12 +50,12 @@ record Unkept (counted granted held found : ℕ) : Type 0 where
   no-hold : held ≡ 0
   no-find : found ≡ 0
 
-unkept : (n m first b counted granted held found : ℕ) → entryRight n m 0 first b counted granted held found ≡ true → Unkept counted granted held found
+unkept : (n targets first b counted granted held found : ℕ) → entryRight n targets 0 first b counted granted held found ≡ true → Unkept counted granted held found
 unfolding entryRight countedRight
-unkept n m first b counted granted held found = go (eqb counted 0) refl
+unkept n targets first b counted granted held found = go (eqb counted 0) refl
   where
     go : (a : Bool) → eqb counted 0 ≡ a
-        → cond a (eqb granted 0 && eqb held 0 && eqb found 0) (eqb counted 1 && countedRight n m 0 first b granted held found) ≡ true
+        → cond a (eqb granted 0 && eqb held 0 && eqb found 0) (eqb counted 1 && countedRight n targets 0 first b granted held found) ≡ true
         → Unkept counted granted held found
     go true e q =
         let two = and-left (eqb granted 0 && eqb held 0) (eqb found 0) q in
@@ -65,13 +65,13 @@ unkept n m first b counted granted held found = go (eqb counted 0) refl
           no-hold = eqb-true held 0 (and-right (eqb granted 0) (eqb held 0) two);
           no-find = eqb-true found 0 (and-right (eqb granted 0 && eqb held 0) (eqb found 0) q);
         }
-    go false e q = clash (and-right (eqb counted 1) (countedRight n m 0 first b granted held found) q)
+    go false e q = clash (and-right (eqb counted 1) (countedRight n targets 0 first b granted held found) q)
 
-idle-tally : (n m first : ℕ) (t : Tally) → Sized t → tallyRight n m 0 first t ≡ true → t ≡ nothingCounted
+idle-tally : (n targets first : ℕ) (t : Tally) → Sized t → tallyRight n targets 0 first t ≡ true → t ≡ nothingCounted
 unfolding tallyRight nothingCounted
-idle-tally n m first t z e =
+idle-tally n targets first t z e =
     let at : (b : ℕ) → b < maxBricks → Unkept (getD (t .counted) b 0) (getD (t .granted) b 0) (getD (t .held) b 0) (getD (t .found) b 0) =
-    λ b l. unkept n m first b _ _ _ _ (each-at _ maxBricks b e l) in
+    λ b l. unkept n targets first b _ _ _ _ (each-at _ maxBricks b e l) in
     ap₂ (λ (a b : List ℕ). record { counted = a; granted = b; held = t .held; found = t .found })
     (all-zeros maxBricks (t .counted) (z .counted-size) (λ b l. at b l .no-count))
     (all-zeros maxBricks (t .granted) (z .granted-size) (λ b l. at b l .no-grant))
@@ -113,7 +113,7 @@ idle-op n m size stripes c p k = go (sym (rw (eq-eqb (c .op .kind) idleKind k) r
         ∙ ap (λ (a : ℕ). record { kind = 0; phase = 0; stripe = 0; time = 0; round = 0; max = 0; first = a }) first
 
 none-named : (m : ℕ) (op : Op) → op .kind ≡ idleKind → namedCount m op ≡ 0
-unfolding namedCount
+unfolding namedCount isReading
 none-named m op k = rw k refl
 
 -- what a sound record without an operation is
@@ -123,8 +123,9 @@ unfolding idleWith noOp
 idle-record n m size stripes c p z k =
     let op = idle-op n m size stripes c p k in
     let phase : c .op .phase ≡ 0 = ap (λ (o : Op). o .phase) op in
-    let tally = idle-tally n m (c .op .first) (c .tally) (z .tally-sized)
-    (subst (λ (j : ℕ). tallyRight n m j (c .op .first) (c .tally) ≡ true) phase (p .tally-right)) in
+    let targets = targetCount m (c .op .kind) in
+    let tally = idle-tally n targets (c .op .first) (c .tally) (z .tally-sized)
+    (subst (λ (j : ℕ). tallyRight n targets j (c .op .first) (c .tally) ≡ true) phase (p .tally-right)) in
     let bricks = idle-bricks n (c .bricks) (z .bricks-sized) (subst (λ (j : ℕ). bricksRight n j (c .bricks) ≡ true) (none-named m (c .op) k) (p .bricks-right)) in
     ap₂ (λ (g : Geometry) (o : Op). record { geometry = g; clock = c .clock; op = o; tally = c .tally; bricks = c .bricks })
     (made-for n m size stripes (c .geometry) (p .made-for)) op

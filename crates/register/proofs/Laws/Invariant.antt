@@ -6,19 +6,19 @@ use mathlib.Core.Bool.{Bool, true, cond, not, _&&_}
 use mathlib.Core.List.{List, [], _∷_}
 use Prim.Native.Nat.{ℕ, _≤_, _<_}
 use lib.Dec.{eqb}
-use lib.ListN.{getD}
+use lib.ListN.{length, getD}
 use Rattle.settings.specs.Ranges.{quorum, SettingsRange}
 use Rattle.settings.proofs.Laws.QuorumLaws.{quorum-twice}
 use Rattle.settings.specs.Times.{timeOf, coordinatorOf}
 use Rattle.settings.specs.declared.Settings.{Settings}
 use Rattle.message.specs.Flags.{member}
-use Rattle.message.specs.Kinds.{readKind, orderKind, orderReadKind, writeKind, trimKind}
+use Rattle.message.specs.Kinds.{readKind, orderKind, orderReadKind, orderBlockKind, writeKind, modifyKind, trimKind}
 use Rattle.message.specs.declared.Message.{Message}
 use Rattle.message.specs.declared.Reply.{Reply}
 use Rattle.image.specs.Brick.{Brick, entryCount, timeAt, meansAt, Sound}
 use Rattle.image.specs.Image.{imageOf}
-use Rattle.erasure.specs.Code.{codedOf, blockOf, Stripe}
-use Rattle.coord_record.specs.Records.{idleKind, writingKind, idleWith}
+use Rattle.erasure.specs.Code.{codedOf, blockOf, withBlock, Stripe}
+use Rattle.coord_record.specs.Records.{idleKind, writingKind, writingBlockKind, targetCount, idleWith}
 use Rattle.coord_record.specs.CountedRules.{isTarget, blockRight}
 use Rattle.coord_apply.specs.Answers.{Buffered}
 use Rattle.coord_laws.specs.Soundness.{Sized}
@@ -68,38 +68,66 @@ pub record BrickInv (s : Settings) (g : SettingsRange s) (h : Hist s) (b : ℕ) 
   -- what it stored is at some place of its log, or gone
   pub kept : (u : ℕ) → Stands h b u → LogHas x u ⊎ Gone (quorums s g) h u
 
+-- a block that block j of a stripe may become
+pub record Piece (s : Settings) (j : ℕ) (block : List ℕ) : Type 0 where
+  pub low : j < s .m
+  pub sized : length block ≡ s .size
+  pub small : (i : ℕ) → getD block i 0 < 256
+
+-- Modify over its old time: that stands for a stripe whose block j is the old block, and the message's time for the stripe with the new one.
+pub record Modifies (s : Settings) (h : Hist s) (msg : Message) (new old : List ℕ) : Type 0 where
+  pub sent : Launched h (msg .time)
+  pub full : List ℕ
+  pub value : Val h (msg .old) full
+  pub proper : Stripe (s .m) (s .size) full
+  pub piece : Piece s (msg .block) new
+  pub old-is : old ≡ blockOf (s .size) full (msg .block)
+  pub after : Val h (msg .time) (withBlock (s .size) full (msg .block) new)
+
 -- A message to brick b.
-pub record MessageInv (s : Settings) (g : SettingsRange s) (h : Hist s) (b : ℕ) (msg : Message) (block : List ℕ) : Type 0 where
+pub record MessageInv (s : Settings) (g : SettingsRange s) (h : Hist s) (b : ℕ) (msg : Message) (block old : List ℕ) : Type 0 where
   pub brick-low : b < s .n
-  pub asks : msg .kind ≤ orderReadKind → Began h (msg .time)
+  pub asks : msg .kind ≤ orderBlockKind → Began h (msg .time)
   pub stores : msg .kind ≡ writeKind → Launched h (msg .time) × Means s h (msg .time) b block
+  pub modifies : msg .kind ≡ modifyKind → Modifies s h msg block old
   pub trims : msg .kind ≡ trimKind → Committed (quorums s g) h (msg .time)
 
 -- What a yes to Order-and-read says of all that the brick stored: for the max of some such message of that time and round that was sent.
 pub record Looked (s : Settings) (g : SettingsRange s) (h : Hist s) (sent : List Item) (r : Reply) : Type 0 where
   pub asked : Message
   pub with-block : List ℕ
-  pub was-sent : message (r .brick) asked with-block ∈ sent
+  pub with-old : List ℕ
+  pub was-sent : message (r .brick) asked with-block with-old ∈ sent
   pub kind-is : asked .kind ≡ orderReadKind
   pub time-is : asked .time ≡ r .time
   pub round-is : asked .round ≡ r .round
   pub nothing-else : (u : ℕ) → u < r .time → u < asked .max → Stands h (r .brick) u
       → ((r .held ≡ true) × (u ≤ r .found)) ⊎ Gone (quorums s g) h u
 
+-- What a yes to the first round of a block write says: the time found is the brick's own, and all that it stored is at most that or gone.
+pub record Newest (s : Settings) (g : SettingsRange s) (h : Hist s) (r : Reply) : Type 0 where
+  pub below : r .found < r .time
+  pub stands : Stands h (r .brick) (r .found)
+  pub nothing-else : (u : ℕ) → u < r .time → Stands h (r .brick) u → (u ≤ r .found) ⊎ Gone (quorums s g) h u
+
 -- A reply that says yes.
 pub record ReplyInv (s : Settings) (g : SettingsRange s) (h : Hist s) (sent : List Item) (r : Reply) (block : List ℕ) : Type 0 where
   pub brick-low : r .brick < s .n
   pub orders : r .yes ≡ true → r .kind ≡ orderKind → In (promised (r .brick) (r .time)) h
   pub writes : r .yes ≡ true → r .kind ≡ writeKind → In (stored (r .brick) (r .time)) h
+  pub modifies : r .yes ≡ true → r .kind ≡ modifyKind → In (stored (r .brick) (r .time)) h
   pub reads : r .yes ≡ true → r .kind ≡ readKind → In (showed (r .brick) (r .time) (r .found)) h
   pub shows : r .yes ≡ true → r .kind ≡ readKind → r .held ≡ true → Means s h (r .found) (r .brick) block
   pub looks : r .yes ≡ true → r .kind ≡ orderReadKind → In (promised (r .brick) (r .time)) h
   pub finds : r .yes ≡ true → r .kind ≡ orderReadKind → r .held ≡ true
       → (r .found < r .time) × Stands h (r .brick) (r .found) × Means s h (r .found) (r .brick) block
   pub looked : r .yes ≡ true → r .kind ≡ orderReadKind → Looked s g h sent r
+  pub joins : r .yes ≡ true → r .kind ≡ orderBlockKind → In (promised (r .brick) (r .time)) h
+  pub newest : r .yes ≡ true → r .kind ≡ orderBlockKind → Newest s g h r
+  pub lends : r .yes ≡ true → r .kind ≡ orderBlockKind → r .held ≡ true → Means s h (r .found) (r .brick) block
 
 abbrev pub ItemInv : (s : Settings) (g : SettingsRange s) → Hist s → List Item → Item → Type 0
-ItemInv s g h sent (message b msg block) = MessageInv s g h b msg block
+ItemInv s g h sent (message b msg block old) = MessageInv s g h b msg block old
 ItemInv s g h sent (reply r block) = ReplyInv s g h sent r block
 
 -- A brick that a coordinator has counted in the open round: its reply was sent, fits the round, and is what is kept of it.
@@ -116,12 +144,13 @@ pub record CountedInv (s : Settings) (sent : List Item) (k : Buffered) (b : ℕ)
   pub held-is : from .held ≡ member (k .state .tally .held) b
   pub found-is : from .found ≡ getD (k .state .tally .found) b 0
   pub block-is : from .held ≡ true → blockOf (s .size) (k .blocks) b ≡ block
-  pub right : blockRight (k .state .op .phase) (isTarget (s .n) (s .m) (k .state .op .first) b) (from .yes) (from .held) (from .found) ≡ true
+  pub right : blockRight (k .state .op .phase) (isTarget (s .n) (targetCount (s .m) (k .state .op .kind)) (k .state .op .first) b)
+      (from .yes) (from .held) (from .found) ≡ true
 
 -- What was sent asks of an operation: an Order-and-read of its time is of an earlier round, or of this one with this max.
 abbrev pub Asked : List Item → (time round phase max : ℕ) → Type 0
 Asked sent time round phase max =
-    (b : ℕ) (msg : Message) (block : List ℕ) → message b msg block ∈ sent → msg .kind ≡ orderReadKind → msg .time ≡ time
+    (b : ℕ) (msg : Message) (block old : List ℕ) → message b msg block old ∈ sent → msg .kind ≡ orderReadKind → msg .time ≡ time
     → (msg .round ≤ round) × (msg .round ≡ round → (phase ≡ orderReadKind) × (msg .max ≡ max))
 
 -- The running operation of coordinator c.
@@ -130,8 +159,9 @@ pub record Running (s : Settings) (g : SettingsRange s) (h : Hist s) (sent : Lis
   -- it began as what the record and the stripe beside it say
   pub begun : In (began (k .state .op .time) (begunKind s k)) h
   pub proper : k .state .op .kind ≡ writingKind → Stripe (s .m) (s .size) (k .stripe)
+  pub piece : k .state .op .kind ≡ writingBlockKind → Piece s (k .state .op .first) (blockOf (s .size) (k .stripe) (k .state .op .first))
   pub unended : ¬ Ended h (k .state .op .time)
-  pub unsent : (k .state .op .phase ≡ writeKind → ⊥) → ¬ Launched h (k .state .op .time)
+  pub unsent : (k .state .op .phase ≡ writeKind → ⊥) → (k .state .op .phase ≡ modifyKind → ⊥) → ¬ Launched h (k .state .op .time)
   pub counts : (b : ℕ) → member (k .state .tally .counted) b ≡ true → CountedInv s sent k b
   pub holds : (b : ℕ) → member (k .state .tally .held) b ≡ true → member (k .state .tally .counted) b ≡ true
   pub asked : Asked sent (k .state .op .time) (k .state .op .round) (k .state .op .phase) (k .state .op .max)
@@ -140,6 +170,8 @@ pub record Running (s : Settings) (g : SettingsRange s) (h : Hist s) (sent : Lis
   -- in a Write round, what is stored is what the operation's time stands for
   pub storing : k .state .op .phase ≡ writeKind
       → Launched h (k .state .op .time) × Val h (k .state .op .time) (k .stripe) × Stripe (s .m) (s .size) (k .stripe)
+  -- in a Modify round it was sent
+  pub modifying : k .state .op .phase ≡ modifyKind → Launched h (k .state .op .time)
 
 -- The clock of coordinator c: the times it used are at most its last.
 pub record ClockInv (s : Settings) (h : Hist s) (c : ℕ) (k : Buffered) : Type 0 where
@@ -184,7 +216,7 @@ Goes s g v = (h : Hist s) × ViewInv s g h v
 
 -- an item of this stripe
 unfoldable pub itemOn : ℕ → Item → Bool
-itemOn k (message b msg block) = eqb (msg .stripe) k
+itemOn k (message b msg block old) = eqb (msg .stripe) k
 itemOn k (reply r block) = eqb (r .stripe) k
 
 unfoldable pub itemsOn : ℕ → List Item → List Item

@@ -12,17 +12,17 @@ use Rattle.settings.proofs.Laws.RefusalLaws.{passed-rest}
 use Rattle.settings.specs.Refusal.{passed}
 use Rattle.settings.specs.Times.{lastCoordinator}
 use Rattle.settings.specs.declared.Settings.{Settings}
-use Rattle.message.specs.Kinds.{writeKind, readKind, trimKind}
+use Rattle.message.specs.Kinds.{writeKind, modifyKind, readKind, trimKind}
 use Rattle.message.specs.declared.Message.{Message}
 use Rattle.message.specs.declared.Reply.{Reply}
 use Rattle.image.specs.Brick.{Brick}
 use Rattle.image.specs.Image.{imageOf}
 use Rattle.image.specs.Parse.{Parsed, Opens, Refuses, parse}
 use Rattle.brick.specs.Receive
-use Rattle.brick.specs.Receive.{Outcome, outcome, receiveRefusal, refusedWith, givenBy}
+use Rattle.brick.specs.Receive.{Outcome, beside, outcome, receiveRefusal, refusedWith, givenBy}
 use Rattle.brick.specs.declared.Given.the-variants.{Answered, Silent}
 use Rattle.volume.specs.Rows.{imageAt, withImage, inRow, rowRefusal, rowOutcome}
-use Rattle.brick_log.specs.BrickRules.{placeFor, replyTo, trimmedTo, writtenIfYes, orderedIfYes, brickAfter, blockAfter}
+use Rattle.brick_log.specs.BrickRules.{placeFor, replyTo, trimmedTo, writtenIfYes, modifiedIfYes, orderedIfYes, brickAfter, blockAfter}
 use Rattle.coord_record.specs.Records.{idleKind, noBricks, geometryOf, idleWith}
 use Rattle.coord_record.specs.declared.Geometry.{Geometry}
 use Rattle.coord_record.proofs.Laws.SoundPartLaws.{sound-parts}
@@ -40,22 +40,6 @@ use Rattle.register.specs.Lending.{SameAnswer, LentBytesMakeNoDifference
 use Rattle.register.proofs.Laws.IdleRecordLaws.{made-for, idle-record}
 use Rattle.register.proofs.Laws.NeverRefusedLaws.{Rests, run-known, crashes-accepted}
 
--- a brick keeps the block of a Write alone
-brick-same : (s : Settings) (x : Brick) (msg : Message) (block block′ : List ℕ) → (msg .kind ≡ writeKind → block ≡ block′)
-    → brickAfter s x msg block ≡ brickAfter s x msg block′
-unfolding brickAfter
-brick-same s x msg block block′ same = go (eqb (msg .kind) trimKind) (eqb (msg .kind) writeKind) refl
-  where
-    rest : Brick
-    rest = cond (eqb (msg .kind) readKind) x (orderedIfYes x (msg .time))
-
-    go : (a b : Bool) → eqb (msg .kind) writeKind ≡ b
-        → cond a (trimmedTo x (msg .time)) (cond b (writtenIfYes s x (msg .time) block) rest)
-        ≡ cond a (trimmedTo x (msg .time)) (cond b (writtenIfYes s x (msg .time) block′) rest)
-    go true b e = refl
-    go false true e = ap (writtenIfYes s x (msg .time)) (same (eqb-true (msg .kind) writeKind e))
-    go false false e = refl
-
 -- the reply's buffer is written where a block is held
 held-out : (a t : Bool) (r : Reply) (out out′ means : List ℕ) → r .held ≡ not t → holds (cond a Silent (Answered r)) ≡ true
     → cond t out means ≡ cond t out′ means
@@ -64,63 +48,88 @@ held-out true t r out out′ means e h = clash h
 held-out false true r out out′ means e h = clash (sym e ∙ h)
 held-out false false r out out′ means e h = refl
 
-opened-same : (s : Settings) (b : ℕ) (image : List ℕ) (msg : Message) (block block′ out out′ : List ℕ) (p : Parsed)
-    → (msg .kind ≡ writeKind → block ≡ block′)
-    → SameAnswer (Receive.accepted s b msg block image out p) (Receive.accepted s b msg block′ image out′ p)
-unfolding Receive.accepted refusedWith holds
-opened-same s b image msg block block′ out out′ (Refuses number) same = record { given-is = refl; image-is = refl; block-is = λ h. clash h }
-opened-same s b image msg block block′ out out′ (Opens x) same =
-    record {
-      given-is = refl;
-      image-is = ap (imageOf s b) (brick-same s x msg block block′ same);
-      block-is = λ h. unfold givenBy replyTo blockAfter in
-          held-out (eqb (msg .kind) trimKind) (eqb (placeFor b x msg) 0) (replyTo s b x msg) out out′ _ refl h;
-    }
+-- the blocks lent beside a message: the same where it is a Write or Modify
+module _ (s : Settings) (b : ℕ) (msg : Message) (block block′ old old′ : List ℕ) (write : msg .kind ≡ writeKind → block ≡ block′)
+    (modify : msg .kind ≡ modifyKind → (block ≡ block′) × (old ≡ old′)) where
+  -- a brick keeps the block of a Write and what Modify makes of both, alone
+  brick-same : (x : Brick) → brickAfter s b x msg block old ≡ brickAfter s b x msg block′ old′
+  unfolding brickAfter
+  brick-same x = go (eqb (msg .kind) trimKind) (eqb (msg .kind) writeKind) (eqb (msg .kind) modifyKind) refl refl
+    where
+      rest : Brick
+      rest = cond (eqb (msg .kind) readKind) x (orderedIfYes x (msg .time))
 
--- of one image
-image-lent : (s : Settings) (b : ℕ) (image : List ℕ) (msg : Message) (block block′ out out′ : List ℕ)
-    → length block ≡ length block′ → length out ≡ length out′ → (msg .kind ≡ writeKind → block ≡ block′)
-    → SameAnswer (outcome s b image msg block out) (outcome s b image msg block′ out′)
-unfolding outcome refusedWith holds
-image-lent s b image msg block block′ out out′ eb eo same =
-    subst (λ (k : ℕ). SameAnswer (by number block out) (by k block′ out′)) (ap₂ (receiveRefusal s b image msg) eb eo)
-    (go (eqb number passed))
-  where
-    number : ℕ
-    number = receiveRefusal s b image msg (length block) (length out)
+      go : (a c d : Bool) → eqb (msg .kind) writeKind ≡ c → eqb (msg .kind) modifyKind ≡ d
+          → cond a (trimmedTo x (msg .time)) (cond c (writtenIfYes s x (msg .time) block) (cond d (modifiedIfYes s b x msg block old) rest))
+          ≡ cond a (trimmedTo x (msg .time)) (cond c (writtenIfYes s x (msg .time) block′) (cond d (modifiedIfYes s b x msg block′ old′) rest))
+      go true c d ec ed = refl
+      go false true d ec ed = ap (writtenIfYes s x (msg .time)) (write (eqb-true (msg .kind) writeKind ec))
+      go false false true ec ed = let q = modify (eqb-true (msg .kind) modifyKind ed) in ap₂ (modifiedIfYes s b x msg) (q .0) (q .1)
+      go false false false ec ed = refl
 
-    by : ℕ → (block out : List ℕ) → Outcome
-    by k block out = cond (eqb k passed) (Receive.accepted s b msg block image out (parse s b image)) (refusedWith k image out)
+  opened-same : (image out out′ : List ℕ) (p : Parsed)
+      → SameAnswer (Receive.accepted s b msg block old image out p) (Receive.accepted s b msg block′ old′ image out′ p)
+  unfolding Receive.accepted refusedWith holds
+  opened-same image out out′ (Refuses number) = record { given-is = refl; image-is = refl; block-is = λ h. clash h }
+  opened-same image out out′ (Opens x) =
+      record {
+        given-is = refl;
+        image-is = ap (imageOf s b) (brick-same x);
+        block-is = λ h. unfold givenBy replyTo blockAfter in
+            held-out (eqb (msg .kind) trimKind) (eqb (placeFor b x msg) 0) (replyTo s b x msg) out out′ _ refl h;
+      }
 
-    go : (a : Bool)
-        → SameAnswer (cond a (Receive.accepted s b msg block image out (parse s b image)) (refusedWith number image out))
-        (cond a (Receive.accepted s b msg block′ image out′ (parse s b image)) (refusedWith number image out′))
-    go true = opened-same s b image msg block block′ out out′ (parse s b image) same
-    go false = record { given-is = refl; image-is = refl; block-is = λ h. clash h }
+  module _ (out out′ : List ℕ) (eb : length block ≡ length block′) (eold : length old ≡ length old′) (eo : length out ≡ length out′) where
+    -- of one length, they are refused alike
+    same-beside : beside block old out ≡ beside block′ old′ out′
+    same-beside = cc (eb, eold, eo)
 
--- of a brick's images in their row
+    -- of one image
+    image-lent : (image : List ℕ) → SameAnswer (outcome s b image msg block old out) (outcome s b image msg block′ old′ out′)
+    unfolding outcome refusedWith holds
+    image-lent image =
+        subst (λ (k : ℕ). SameAnswer (by number block old out) (by k block′ old′ out′)) (ap (receiveRefusal s b image msg) same-beside)
+        (go (eqb number passed))
+      where
+        number : ℕ
+        number = receiveRefusal s b image msg (beside block old out)
+
+        by : ℕ → (block old out : List ℕ) → Outcome
+        by k block old out = cond (eqb k passed) (Receive.accepted s b msg block old image out (parse s b image)) (refusedWith k image out)
+
+        go : (a : Bool)
+            → SameAnswer (cond a (Receive.accepted s b msg block old image out (parse s b image)) (refusedWith number image out))
+            (cond a (Receive.accepted s b msg block′ old′ image out′ (parse s b image)) (refusedWith number image out′))
+        go true = opened-same image out out′ (parse s b image)
+        go false = record { given-is = refl; image-is = refl; block-is = λ h. clash h }
+
+    -- of a brick's images in their row
+    row-lent : (images : List ℕ) → SameAnswer (rowOutcome s b images msg block old out) (rowOutcome s b images msg block′ old′ out′)
+    unfolding rowOutcome inRow refusedWith holds
+    row-lent images =
+        subst (λ (k : ℕ). SameAnswer (by number block old out) (by k block′ old′ out′)) (ap (rowRefusal s b images msg) same-beside)
+        (go (eqb number passed))
+      where
+        number : ℕ
+        number = rowRefusal s b images msg (beside block old out)
+
+        acted : (block old out : List ℕ) → Outcome
+        acted block old out = outcome s b (imageAt s (msg .stripe) images) msg block old out
+
+        by : ℕ → (block old out : List ℕ) → Outcome
+        by k block old out = cond (eqb k passed) (inRow s (msg .stripe) images (acted block old out)) (refusedWith k images out)
+
+        go : (a : Bool)
+            → SameAnswer (cond a (inRow s (msg .stripe) images (acted block old out)) (refusedWith number images out))
+            (cond a (inRow s (msg .stripe) images (acted block′ old′ out′)) (refusedWith number images out′))
+        go true =
+            let i = image-lent (imageAt s (msg .stripe) images) in
+            record { given-is = i .given-is; image-is = ap (λ (l : List ℕ). withImage s (msg .stripe) l images) (i .image-is); block-is = i .block-is }
+        go false = record { given-is = refl; image-is = refl; block-is = λ h. clash h }
+
 pub lent-bytes-make-no-difference : LentBytesMakeNoDifference
-unfolding rowOutcome inRow refusedWith holds
-lent-bytes-make-no-difference s b images msg block block′ out out′ eb eo same =
-    subst (λ (k : ℕ). SameAnswer (by number block out) (by k block′ out′)) (ap₂ (rowRefusal s b images msg) eb eo)
-    (go (eqb number passed))
-  where
-    number : ℕ
-    number = rowRefusal s b images msg (length block) (length out)
-
-    acted : (block out : List ℕ) → Outcome
-    acted block out = outcome s b (imageAt s (msg .stripe) images) msg block out
-
-    by : ℕ → (block out : List ℕ) → Outcome
-    by k block out = cond (eqb k passed) (inRow s (msg .stripe) images (acted block out)) (refusedWith k images out)
-
-    go : (a : Bool)
-        → SameAnswer (cond a (inRow s (msg .stripe) images (acted block out)) (refusedWith number images out))
-        (cond a (inRow s (msg .stripe) images (acted block′ out′)) (refusedWith number images out′))
-    go true =
-        let i = image-lent s b (imageAt s (msg .stripe) images) msg block block′ out out′ eb eo same in
-        record { given-is = i .given-is; image-is = ap (λ (l : List ℕ). withImage s (msg .stripe) l images) (i .image-is); block-is = i .block-is }
-    go false = record { given-is = refl; image-is = refl; block-is = λ h. clash h }
+lent-bytes-make-no-difference s b images msg block block′ old old′ out out′ eb eold eo write modify =
+    row-lent s b msg block block′ old old′ write modify out out′ eb eold eo images
 
 -- with zeros in the reply's buffer, the block that goes with a reply is what lies there
 zeros-there : (s : Settings) (a t : Bool) (r : Reply) (means : List ℕ) → r .held ≡ not t
@@ -131,49 +140,49 @@ zeros-there s true t r means e = refl
 zeros-there s false true r means e = rw e refl
 zeros-there s false false r means e = rw e refl
 
-opened-held : (s : Settings) (b : ℕ) (image : List ℕ) (msg : Message) (block : List ℕ) (p : Parsed)
-    → let o = Receive.accepted s b msg block image (replicate (s .size) 0) p in
+opened-held : (s : Settings) (b : ℕ) (image : List ℕ) (msg : Message) (block old : List ℕ) (p : Parsed)
+    → let o = Receive.accepted s b msg block old image (replicate (s .size) 0) p in
     repliedWith (o .given) (heldBlock s (o .given) (o .out)) ≡ repliedWith (o .given) (o .out)
 unfolding Receive.accepted refusedWith repliedWith
-opened-held s b image msg block (Refuses number) = refl
-opened-held s b image msg block (Opens x) =
+opened-held s b image msg block old (Refuses number) = refl
+opened-held s b image msg block old (Opens x) =
     unfold givenBy replyTo blockAfter in
     zeros-there s (eqb (msg .kind) trimKind) (eqb (placeFor b x msg) 0) (replyTo s b x msg) _ refl
 
-image-held : (s : Settings) (b : ℕ) (image : List ℕ) (msg : Message) (block : List ℕ)
-    → let o = outcome s b image msg block (replicate (s .size) 0) in
+image-held : (s : Settings) (b : ℕ) (image : List ℕ) (msg : Message) (block old : List ℕ)
+    → let o = outcome s b image msg block old (replicate (s .size) 0) in
     repliedWith (o .given) (heldBlock s (o .given) (o .out)) ≡ repliedWith (o .given) (o .out)
 unfolding outcome refusedWith repliedWith
-image-held s b image msg block = go (eqb number passed)
+image-held s b image msg block old = go (eqb number passed)
   where
     out : List ℕ
     out = replicate (s .size) 0
 
     number : ℕ
-    number = receiveRefusal s b image msg (length block) (length out)
+    number = receiveRefusal s b image msg (beside block old out)
 
     go : (a : Bool)
-        → let o = cond a (Receive.accepted s b msg block image out (parse s b image)) (refusedWith number image out) in
+        → let o = cond a (Receive.accepted s b msg block old image out (parse s b image)) (refusedWith number image out) in
         repliedWith (o .given) (heldBlock s (o .given) (o .out)) ≡ repliedWith (o .given) (o .out)
-    go true = opened-held s b image msg block (parse s b image)
+    go true = opened-held s b image msg block old (parse s b image)
     go false = refl
 
-pub zeros-held : (s : Settings) (b : ℕ) (images : List ℕ) (msg : Message) (block : List ℕ)
-    → let o = rowOutcome s b images msg block (replicate (s .size) 0) in
+pub zeros-held : (s : Settings) (b : ℕ) (images : List ℕ) (msg : Message) (block old : List ℕ)
+    → let o = rowOutcome s b images msg block old (replicate (s .size) 0) in
     repliedWith (o .given) (heldBlock s (o .given) (o .out)) ≡ repliedWith (o .given) (o .out)
 unfolding rowOutcome inRow refusedWith repliedWith
-zeros-held s b images msg block = go (eqb number passed)
+zeros-held s b images msg block old = go (eqb number passed)
   where
     out : List ℕ
     out = replicate (s .size) 0
 
     number : ℕ
-    number = rowRefusal s b images msg (length block) (length out)
+    number = rowRefusal s b images msg (beside block old out)
 
     go : (a : Bool)
-        → let o = cond a (inRow s (msg .stripe) images (outcome s b (imageAt s (msg .stripe) images) msg block out)) (refusedWith number images out) in
+        → let o = cond a (inRow s (msg .stripe) images (outcome s b (imageAt s (msg .stripe) images) msg block old out)) (refusedWith number images out) in
         repliedWith (o .given) (heldBlock s (o .given) (o .out)) ≡ repliedWith (o .given) (o .out)
-    go true = image-held s b (imageAt s (msg .stripe) images) msg block
+    go true = image-held s b (imageAt s (msg .stripe) images) msg block old
     go false = refl
 
 pub unheld-blocks-make-no-difference : UnheldBlocksMakeNoDifference

@@ -7,7 +7,7 @@ use native.Mathlib.Omega.{arith}
 use lib.Dec.{ltb, eqb}
 use lib.ListN.{length, length-replicate}
 use borrow.Author.Tests.{eq-eqb, eqb-true, eqb-false, le-leb}
-use Rattle.message.specs.Kinds.{readKind, orderKind}
+use Rattle.message.specs.Kinds.{readKind, orderKind, orderBlockKind, blockTargets}
 use Rattle.settings.specs.Ranges.{bricksInRange, sizeInRange, capacityInRange, stripesInRange, inRange, codeRefusal, stripeCountRefusal, quorum}
 use Rattle.byte_lists.proofs.Laws.BoolLaws.{and-left, and-right}
 use Rattle.settings.specs.Refusal.{passed, firstRefusal}
@@ -19,32 +19,37 @@ use Rattle.message.specs.Flags.{members}
 use Rattle.message.specs.declared.Message.{Message}
 use Rattle.message.specs.declared.Reply.{Reply}
 use Rattle.interpolate.proofs.Laws.BlockLaws.{length-blocksAt}
-use Rattle.erasure.specs.Code.{decodedOf}
+use Rattle.erasure.specs.Code.{decodedOf, blockOf, withBlock}
+use Rattle.erasure.proofs.Laws.BlockOfLaws.{block-within, block-length, with-block-length}
 use Rattle.image.specs.Parse.{parse}
 use Rattle.image.proofs.Laws.ParseLaws.{parse-image, range-of}
 use Rattle.volume.specs.Rows.{rowSize, rowOutcome}
 use Rattle.volume.proofs.Laws.RowLaws.{fresh-row-length}
 use Rattle.volume.proofs.Laws.RowTheoremLaws.{row-keeps-its-length}
-use Rattle.coord_record.specs.Records.{noBricks, geometryOf, idleKind, readingKind, writingKind, idleWith}
+use Rattle.coord_record.specs.Records.{noBricks, geometryOf, idleKind, readingKind, writingKind, readingBlockKind, writingBlockKind, onBlock, idleWith}
+use Rattle.coord_record.specs.declared.Op.{Op}
 use Rattle.coord_record.specs.declared.Coordinator.{Coordinator}
 use Rattle.coord_record.specs.Sound.{sameGeometry}
 use Rattle.coord_record.proofs.Laws.SoundPartLaws.{sound-parts}
-use Rattle.coord_tally.specs.Counting.{targetFlags}
+use Rattle.coord_tally.specs.Counting.{targetRow, targetFlags}
 use Rattle.coord_decide.specs.Deciding.{decided}
 use Rattle.coord_decide.specs.declared.Decision.{Decision}
-use Rattle.coord_decide.specs.declared.Decision.the-variants.{Abort, Give, Look, Store, Recover, Finish}
-use Rattle.coord_apply.specs.Acts.{gathered, stripeFrom, withReplyBlock, nextOp, opened, nextRound, ending, acted, withTally, counting, waitingOr, firstOp, starting}
+use Rattle.coord_decide.specs.declared.Decision.the-variants.{Abort, Give, Look, Store, Modify, Recover, Finish}
+use Rattle.coord_apply.specs.Acts.{gathered, stripeFrom, nextOp, opened, nextRound, modifying, ending, givenStripe, storedStripe, acted}
+use Rattle.coord_apply.specs.Acts.{withTally, counting, waitingOr, firstOp, starting}
+use Rattle.coord_apply.proofs.Laws.OneBlockLaws.{write-within}
 use Rattle.coord_apply.specs.Answers.{Buffered, Went, Step, refused, went, afterChecks, nothingSeen, cutSeen, answerOf}
-use Rattle.coord_refusals.specs.Checks.{recordChecks, writeRefusal, readRefusal, crashRefusal}
-use Rattle.coordinator.specs.Routines.{takeStep, crashed, crashStep, drawnThen, writeStep, readStep}
-use Rattle.coordinator.proofs.Laws.RoutineLaws.{place-fits, write-lengths}
-use Rattle.coord_laws.proofs.Laws.CodedBlockLaws.{placed-long}
+use Rattle.coord_refusals.specs.Checks.{recordChecks, startChecks, writeRefusal, readRefusal, writeBlockRefusal, readBlockRefusal, crashRefusal}
+use Rattle.coordinator.specs.Routines.{takeStep, crashed, crashStep, drawnThen, writeStep, readStep, writeBlockStep, readBlockStep}
+use Rattle.coordinator.proofs.Laws.RoutineLaws.{place-fits, write-lengths, write-block-passed}
+use Rattle.erasure.proofs.Laws.BlockOfLaws.{with-block-length}
 use Rattle.coord_laws.proofs.Laws.StepRunLaws.{ReplyTaken, took}
-use Rattle.coord_laws.proofs.Laws.StripeLaws.{write-starts, read-starts, take-keeps-stripe, taken-runs, crash-keeps-stripe}
+use Rattle.coord_laws.proofs.Laws.StripeLaws.{write-starts, read-starts, write-block-starts, read-block-starts, take-keeps-stripe, taken-runs, crash-keeps-stripe}
 use Rattle.coord_laws.specs.Soundness.{Good}
-use Rattle.coord_laws.proofs.Laws.SoundnessLaws.{idle-good, passes, same-went, drawn-went, write-good, read-good, take-good, crash-good, good-sound}
-use Rattle.register.specs.Runs.{Item, message, reply, World, idle, freshSet, Left, Event, startWrite, startRead, arrives, crashes}
-use Rattle.register.specs.Runs.{goesDown, comesUp, Moved, unmoved, putAt, coordinated, received, arriving, arrivingAt, standing}
+use Rattle.coord_laws.proofs.Laws.SoundnessLaws.{idle-good, passes, same-went, drawn-went, write-good, read-good, write-block-good, read-block-good, take-good}
+use Rattle.coord_laws.proofs.Laws.SoundnessLaws.{crash-good, good-sound}
+use Rattle.register.specs.Runs.{Item, message, reply, World, idle, freshSet, Left, Event, startWrite, startRead, startWriteBlock, startReadBlock}
+use Rattle.register.specs.Runs.{arrives, crashes, goesDown, comesUp, Moved, unmoved, putAt, coordinated, received, arriving, arrivingAt, standing}
 use Rattle.register.specs.Runs.{leaving, leftBy, step, nextMoved, runFrom, run}
 use Rattle.register.proofs.Laws.Invariant.{view}
 use Rattle.register.proofs.Laws.BrickEvent.{either, put-here, put-there}
@@ -76,24 +81,62 @@ decoded-long : (m size : ℕ) (row blocks : List ℕ) → length (stripeFrom m s
 unfolding stripeFrom decodedOf
 decoded-long m size row blocks = length-blocksAt _ size (gathered m size row blocks) m
 
-acted-long : (s : Settings) (k : Buffered) → Long s k → (d : Decision) → Long s (acted (s .n) (s .m) (s .size) k d .next)
-unfolding acted ending nextRound
-acted-long s k l Abort = l
-acted-long s k l Give = (l .0, decoded-long (s .m) (s .size) _ (k .blocks))
-acted-long s k l (Look max) = l
-acted-long s k l Store = l
-acted-long s k l (Recover time) = (l .0, decoded-long (s .m) (s .size) _ (k .blocks))
-acted-long s k l Finish = l
+-- block j of an operation on one block is one of m
+abbrev OneOfThem : Settings → Op → Type 0
+OneOfThem s op = onBlock (op .kind) ≡ true → op .first < s .m
 
-waiting-long : (s : Settings) (k : Buffered) → Long s k → Long s (waitingOr (s .n) (s .m) (s .size) k .next)
-unfolding waitingOr
-waiting-long s k l = go (ltb (members (k .state .tally .counted) (s .n)) (quorum (s .n) (s .m)))
+given-long : (s : Settings) (op : Op) (blocks stripe : List ℕ) → s .m ≤ s .n → OneOfThem s op → length blocks ≡ s .n * s .size → length stripe ≡ s .m * s .size
+    → length (givenStripe (s .n) (s .m) (s .size) op blocks stripe) ≡ s .m * s .size
+unfolding givenStripe
+given-long s op blocks stripe few low eb es = go (onBlock (op .kind)) refl
   where
-    go : (a : Bool)
-        → Long s
-        (cond a (record { next = k; sent = []; seen = nothingSeen }) (acted (s .n) (s .m) (s .size) k (decided (s .n) (s .m) (k .state .op) (k .state .tally))) .next)
-    go true = l
-    go false = acted-long s k l (decided (s .n) (s .m) (k .state .op) (k .state .tally))
+    go : (a : Bool) → onBlock (op .kind) ≡ a
+        → length
+        (cond a (withBlock (s .size) stripe (op .first) (blockOf (s .size) blocks (op .first))) (stripeFrom (s .m) (s .size) (targetRow (s .n) (s .m) (op .first)) blocks))
+        ≡ s .m * s .size
+    go true e =
+        let j = low e in
+        with-block-length (s .size) stripe (op .first) (blockOf (s .size) blocks (op .first))
+        (block-length (s .size) blocks (op .first) (block-within (s .n) (s .size) (op .first) blocks eb (omega (arith, j, few))))
+        (block-within (s .m) (s .size) (op .first) stripe es j)
+        ∙ es
+    go false e = decoded-long (s .m) (s .size) _ blocks
+
+stored-long : (s : Settings) (op : Op) (stripe decoded : List ℕ) → OneOfThem s op → length stripe ≡ s .m * s .size → length decoded ≡ s .m * s .size
+    → length (storedStripe (s .size) op stripe decoded) ≡ s .m * s .size
+unfolding storedStripe
+stored-long s op stripe decoded low es ed = go (eqb (op .kind) writingBlockKind) refl
+  where
+    go : (a : Bool) → eqb (op .kind) writingBlockKind ≡ a
+        → length (cond a (withBlock (s .size) decoded (op .first) (blockOf (s .size) stripe (op .first))) decoded) ≡ s .m * s .size
+    go true e =
+        let k = eqb-true (op .kind) writingBlockKind e in
+        with-block-length (s .size) decoded (op .first) (blockOf (s .size) stripe (op .first))
+        (block-length (s .size) stripe (op .first) (write-within (s .m) (s .size) (length stripe) op low es k))
+        (write-within (s .m) (s .size) (length decoded) op low ed k)
+        ∙ ed
+    go false e = ed
+
+module _ (s : Settings) (k : Buffered) (few : s .m ≤ s .n) (low : OneOfThem s (k .state .op)) (l : Long s k) where
+  acted-long : (d : Decision) → Long s (acted (s .n) (s .m) (s .size) k d .next)
+  unfolding acted ending nextRound modifying
+  acted-long Abort = l
+  acted-long Give = (l .0, given-long s (k .state .op) (k .blocks) (k .stripe) few low (l .0) (l .1))
+  acted-long (Look max) = l
+  acted-long Store = l
+  acted-long (Modify time) = l
+  acted-long (Recover time) = (l .0, stored-long s (k .state .op) (k .stripe) _ low (l .1) (decoded-long (s .m) (s .size) _ (k .blocks)))
+  acted-long Finish = l
+
+  waiting-long : Long s (waitingOr (s .n) (s .m) (s .size) k .next)
+  unfolding waitingOr
+  waiting-long = go (ltb (members (k .state .tally .counted) (s .n)) (quorum (s .n) (s .m)))
+    where
+      go : (a : Bool)
+          → Long s
+          (cond a (record { next = k; sent = []; seen = nothingSeen }) (acted (s .n) (s .m) (s .size) k (decided (s .n) (s .m) (k .state .op) (k .state .tally))) .next)
+      go true = l
+      go false = acted-long (decided (s .n) (s .m) (k .state .op) (k .state .tally))
 
 -- a reply's block in its place
 counting-long : (s : Settings) (k : Buffered) (r : Reply) (block : List ℕ) (coded : ℕ) (w : Went) → ReplyTaken (s .n) (s .m) (s .size) (s .stripes) k r block coded w
@@ -101,18 +144,19 @@ counting-long : (s : Settings) (k : Buffered) (r : Reply) (block : List ℕ) (co
 unfolding counting
 counting-long s k r block coded w t = (go (r .held) refl, t .takes .stripe-length)
   where
-    go : (a : Bool) → r .held ≡ a → length (cond a (withReplyBlock (s .size) (r .brick) block (k .blocks)) (k .blocks)) ≡ s .n * s .size
+    go : (a : Bool) → r .held ≡ a → length (cond a (withBlock (s .size) (k .blocks) (r .brick) block) (k .blocks)) ≡ s .n * s .size
     go true e =
-        placed-long (s .size) (r .brick) block (k .blocks) (t .takes .block-length e) (place-fits _ _ _ _ _ _ _ _ _ _ (t .takes)) ∙ t .takes .blocks-length
+        with-block-length (s .size) (k .blocks) (r .brick) block (t .takes .block-length e) (place-fits _ _ _ _ _ _ _ _ _ _ (t .takes)) ∙ t .takes .blocks-length
     go false e = t .takes .blocks-length
 
 -- what a decision leaves where an operation ran
 acted-rests : (n m size : ℕ) (k : Buffered) → (k .state .op .kind ≡ idleKind → ⊥) → (d : Decision) → Rests (acted n m size k d .next .state)
-unfolding acted ending nextRound opened nextOp idleWith
+unfolding acted ending nextRound modifying opened nextOp idleWith
 acted-rests n m size k h Abort = λ e. refl
 acted-rests n m size k h Give = λ e. refl
 acted-rests n m size k h (Look max) = λ e. absurd (h e)
 acted-rests n m size k h Store = λ e. absurd (h e)
+acted-rests n m size k h (Modify time) = λ e. absurd (h e)
 acted-rests n m size k h (Recover time) = λ e. absurd (h e)
 acted-rests n m size k h Finish = λ e. refl
 
@@ -162,6 +206,44 @@ module _ (s : Settings) (c : ℕ) (k : Buffered) (h : Known s c k) where
         rests = λ q. absurd (o .now-runs q);
       }
 
+  write-block-keeps : (number reading block : ℕ) (content : List ℕ)
+      → Keeps s c (writeBlockStep (s .n) (s .m) (s .size) (s .stripes) k number reading block content)
+  unfolding writeBlockStep writeBlockRefusal starting
+  write-block-keeps number reading block content w e =
+      let stripe′ = withBlock (s .size) (k .stripe) block content in
+      let begin : ℕ → Clock → Went = λ time clock. starting k clock (firstOp writingBlockKind orderBlockKind number time block) stripe′ noBricks in
+      let refusal = writeBlockRefusal (s .n) (s .m) (s .size) (s .stripes) (k .state) number reading block (length content) (length (k .stripe)) in
+      let p = passes refusal (drawnThen (drawOf (k .state .clock) reading) begin) w e in
+      let q = write-block-passed (s .n) (s .m) (s .size) (s .stripes) (k .state) number block _ _ refusal (startChecks (k .state) reading) refl (p .0) in
+      let o = write-block-starts (s .n) (s .m) (s .size) (s .stripes) k number reading block content w e in
+      record {
+        number = o .same-number ∙ h .number;
+        good = write-block-good (s .n) (s .m) (s .size) (s .stripes) k number reading block content w e;
+        long =
+            subst (λ (v : Went). Long s (v .next)) (drawn-went (drawOf (k .state .clock) reading) begin w (p .1) .3) (
+              h .long .0,
+              with-block-length (s .size) (k .stripe) block content (q .bytes-length)
+                  (block-within (s .m) (s .size) block (k .stripe) (q .stripe-length) (q .block-low))
+                  ∙ h .long .1,
+            );
+        rests = λ q. absurd (o .now-runs q);
+      }
+
+  read-block-keeps : (number reading block : ℕ) → Keeps s c (readBlockStep (s .n) (s .m) (s .size) (s .stripes) k number reading block)
+  unfolding readBlockStep starting
+  read-block-keeps number reading block w e =
+      let targets = targetFlags (s .n) blockTargets block in
+      let begin : ℕ → Clock → Went = λ time clock. starting k clock (firstOp readingBlockKind readKind number time block) (k .stripe) targets in
+      let refusal = readBlockRefusal (s .n) (s .m) (s .size) (s .stripes) (k .state) number reading block in
+      let p = passes refusal (drawnThen (drawOf (k .state .clock) reading) begin) w e in
+      let o = read-block-starts (s .n) (s .m) (s .size) (s .stripes) k number reading block w e in
+      record {
+        number = o .same-number ∙ h .number;
+        good = read-block-good (s .n) (s .m) (s .size) (s .stripes) k number reading block w e;
+        long = subst (λ (v : Went). Long s (v .next)) (drawn-went (drawOf (k .state .clock) reading) begin w (p .1) .3) (h .long);
+        rests = λ q. absurd (o .now-runs q);
+      }
+
   take-keeps : (r : Reply) (block : List ℕ) (coded : ℕ) → Keeps s c (takeStep (s .n) (s .m) (s .size) (s .stripes) k r block coded)
   unfolding counting withTally
   take-keeps r block coded w e =
@@ -172,7 +254,7 @@ module _ (s : Settings) (c : ℕ) (k : Buffered) (h : Known s c k) where
         good = take-good (s .n) (s .m) (s .size) (s .stripes) k r block coded w (h .good) e;
         long =
             subst (λ (v : Went). Long s (v .next)) (t .is)
-            (waiting-long s (counting (s .size) k r block) (counting-long s k r block coded w t));
+            (waiting-long s (counting (s .size) k r block) (t .takes .range .m-high) (t .takes .parts .block-low) (counting-long s k r block coded w t));
         rests =
             subst (λ (v : Went). Rests (v .next .state)) (t .is)
             (waiting-rests (s .n) (s .m) (s .size) (counting (s .size) k r block) (taken-runs (s .n) (s .m) (s .size) (s .stripes) k r block coded w e));
@@ -228,7 +310,7 @@ module _ (s : Settings) where
   module _ (w : World) (f : AllKnown s w) where
     item-known : (z : Item) → AllKnown s (arriving s w z .world)
     unfolding arriving received unmoved
-    item-known (message b msg block) = either (λ (m : Moved s). AllKnown s (m .world)) (w .up b) _ _ f f
+    item-known (message b msg block old) = either (λ (m : Moved s). AllKnown s (m .world)) (w .up b) _ _ f f
     item-known (reply a block) =
         let c = coordinatorOf (a .time) in coordinated-known w c _ f (λ l. take-keeps s c (w .coordinators c) (f c l) a block (s .n * s .size))
 
@@ -249,6 +331,11 @@ module _ (s : Settings) where
         (coordinated-known w c _ f (λ l. write-keeps s c (w .coordinators c) (f c l) number reading content)) f
     step-known (startRead c number reading first) =
         coordinated-known w c _ f (λ l. read-keeps s c (w .coordinators c) (f c l) number reading first)
+    step-known (startWriteBlock c number reading block content) =
+        either (λ (m : Moved s). AllKnown s (m .world)) (areBytes content) _ _
+        (coordinated-known w c _ f (λ l. write-block-keeps s c (w .coordinators c) (f c l) number reading block content)) f
+    step-known (startReadBlock c number reading block) =
+        coordinated-known w c _ f (λ l. read-block-keeps s c (w .coordinators c) (f c l) number reading block)
     step-known (arrives k) = place-known (w .sent) k
     step-known (crashes c left) =
         coordinated-known w c _ f (λ l. left-keeps s left c _ (crash-keeps s c (w .coordinators c) (f c l)))
@@ -318,25 +405,25 @@ module _ (s : Settings) (w : World) (f : RowsRight s w) where
   coordinated-rows c (refused number) = f
   coordinated-rows c (went q) = f
 
-  received-rows : (b : ℕ) (msg : Message) (block out : List ℕ) → RowsRight s (received s w b (rowOutcome s b (w .images b) msg block out) .world)
+  received-rows : (b : ℕ) (msg : Message) (block old out : List ℕ) → RowsRight s (received s w b (rowOutcome s b (w .images b) msg block old out) .world)
   unfolding received
-  received-rows b msg block out = λ j l. at j l (eqb j b) refl
+  received-rows b msg block old out = λ j l. at j l (eqb j b) refl
     where
       later : List ℕ
-      later = rowOutcome s b (w .images b) msg block out .image
+      later = rowOutcome s b (w .images b) msg block old out .image
 
       at : (j : ℕ) → j < s .n → (a : Bool) → eqb j b ≡ a → length (putAt (w .images) b later j) ≡ rowSize s
       at j l true e =
           let z = eqb-true j b e in
           ap (λ (i : ℕ). length (putAt (w .images) b later i)) z
           ∙ ap (λ (row : List ℕ). length row) (put-here (w .images) b later)
-          ∙ row-keeps-its-length s b (w .images b) msg block out
+          ∙ row-keeps-its-length s b (w .images b) msg block old out
           ∙ f b (omega (arith, z, l))
       at j l false e = ap (λ (row : List ℕ). length row) (put-there (w .images) b later j (eqb-false j b e)) ∙ f j l
 
   item-rows : (z : Item) → RowsRight s (arriving s w z .world)
   unfolding arriving unmoved
-  item-rows (message b msg block) = either (λ (m : Moved s). RowsRight s (m .world)) (w .up b) _ _ (received-rows b msg block _) f
+  item-rows (message b msg block old) = either (λ (m : Moved s). RowsRight s (m .world)) (w .up b) _ _ (received-rows b msg block old _) f
   item-rows (reply a block) = coordinated-rows (coordinatorOf (a .time)) _
 
   place-rows : (l : List Item) (k : ℕ) → RowsRight s (arrivingAt s w l k .world)
@@ -353,6 +440,8 @@ module _ (s : Settings) (w : World) (f : RowsRight s w) where
   unfolding step unmoved
   step-rows (startWrite c number reading content) = either (λ (m : Moved s). RowsRight s (m .world)) (areBytes content) _ _ (coordinated-rows c _) f
   step-rows (startRead c number reading first) = coordinated-rows c _
+  step-rows (startWriteBlock c number reading block content) = either (λ (m : Moved s). RowsRight s (m .world)) (areBytes content) _ _ (coordinated-rows c _) f
+  step-rows (startReadBlock c number reading block) = coordinated-rows c _
   step-rows (arrives k) = place-rows (w .sent) k
   step-rows (crashes c left) = coordinated-rows c _
   step-rows (goesDown b) = stand-rows b false

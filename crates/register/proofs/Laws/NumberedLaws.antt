@@ -9,22 +9,24 @@ use lib.ListN.{length}
 use borrow.Author.Tests.{leb-true}
 use Rattle.settings.specs.Ranges.{codeRefusal, stripeCountRefusal}
 use Rattle.register.specs.Numbered.{SixteenCoordinators}
-use Rattle.settings.specs.Refusal.{passed, refuseUnless, badLength, badNumber}
+use Rattle.settings.specs.Refusal.{passed, refuseUnless, firstRefusal, badLength, badNumber}
 use Rattle.settings.specs.Times.{drawOf, coordinatorOf, lastCoordinator}
 use Rattle.settings.specs.declared.Clock.{Clock}
 use Rattle.settings.specs.declared.Draw.{Draw}
 use Rattle.settings.specs.declared.Draw.the-variants.{Drawn, Refused}
 use Rattle.settings.specs.declared.Settings.{Settings}
-use Rattle.settings.proofs.Laws.RefusalLaws.{passed-first, passed-rest, tested}
+use Rattle.settings.proofs.Laws.RefusalLaws.{passed-rest}
 use Rattle.message.specs.declared.Reply.{Reply}
 use Rattle.coord_record.specs.Records.{idleWith}
 use Rattle.coord_apply.specs.Answers.{Buffered, Went, Step, refused, went, afterChecks}
-use Rattle.coord_refusals.specs.Checks.{recordChecks, stripeChecks, writeChecks, readChecks, writeRefusal, readRefusal, takeRefusal, crashRefusal}
-use Rattle.coordinator.specs.Routines.{takeStep, crashed, crashStep, drawnThen, writeStep, readStep}
-use Rattle.coordinator.proofs.Laws.RoutineLaws.{take-passed}
+use Rattle.coord_refusals.specs.Checks.{recordChecks, stripeChecks, writeChecks, readChecks, startChecks, writeRefusal, readRefusal}
+use Rattle.coord_refusals.specs.Checks.{writeBlockRefusal, readBlockRefusal, takeRefusal, crashRefusal}
+use Rattle.coord_refusals.proofs.Laws.RefusedLaws.{record-passes, stripe-passes}
+use Rattle.coordinator.specs.Routines.{takeStep, crashed, crashStep, drawnThen, writeStep, readStep, writeBlockStep, readBlockStep}
+use Rattle.coordinator.proofs.Laws.RoutineLaws.{take-passed, write-block-passed, read-block-passed}
 use Rattle.byte_lists.specs.Little.{areBytes}
-use Rattle.register.specs.Runs.{Item, message, reply, World, idle, freshSet, Left, Event, startWrite, startRead, arrives, crashes}
-use Rattle.register.specs.Runs.{goesDown, comesUp, Moved, unmoved, coordinated, received, arriving, arrivingAt, standing, leftBy}
+use Rattle.register.specs.Runs.{Item, message, reply, World, idle, freshSet, Left, Event, startWrite, startRead, startWriteBlock, startReadBlock}
+use Rattle.register.specs.Runs.{arrives, crashes, goesDown, comesUp, Moved, unmoved, coordinated, received, arriving, arrivingAt, standing, leftBy}
 use Rattle.register.specs.Runs.{step, nextMoved, runFrom, run}
 use Rattle.register.proofs.Laws.BrickEvent.{either, put-there}
 
@@ -47,28 +49,46 @@ drawn-low c (Drawn t clock) f l = l
 drawn-low c (Refused number) f l = tt
 
 module _ (n m size stripes c : ℕ) (k : Buffered) (named : k .state .clock .coordinator ≡ c) where
-  low-number : refuseUnless (leb (k .state .clock .coordinator) lastCoordinator) badNumber ≡ passed → c ≤ lastCoordinator
-  low-number e = let w = leb-true (k .state .clock .coordinator) lastCoordinator (tested (leb (k .state .clock .coordinator) lastCoordinator) _ e) in omega arith
+  -- the checks of a record ask for such a number
+  record-low : (more : List ℕ) → firstRefusal (recordChecks n m size stripes (k .state) more) ≡ passed → c ≤ lastCoordinator
+  record-low more e = let l = record-passes n m size stripes (k .state) more e .0 .number-low in omega arith
+
+  stripe-low : (number : ℕ) (more : List ℕ) → firstRefusal (stripeChecks n m size stripes (k .state) number more) ≡ passed → c ≤ lastCoordinator
+  stripe-low number more e = record-low more (stripe-passes n m size stripes (k .state) number more e .1)
 
   write-low : (number reading : ℕ) (content : List ℕ) → LowStep c (writeStep n m size stripes k number reading content)
-  unfolding writeStep writeRefusal writeChecks stripeChecks
+  unfolding writeStep writeRefusal writeChecks
   write-low number reading content =
       checked-low c (writeRefusal n m size stripes (k .state) number reading (length content) (length (k .stripe))) _
       (λ e.
       let a = passed-rest (stripeCountRefusal stripes) _ (passed-rest (codeRefusal n m size) _ e) in
       let b = passed-rest (refuseUnless (eqb (length content) (m * size) && eqb (length (k .stripe)) (m * size)) badLength) _ a in
-      drawn-low c (drawOf (k .state .clock) reading) _
-      (low-number (passed-first (refuseUnless (leb (k .state .clock .coordinator) lastCoordinator) badNumber) _ b)))
+      drawn-low c (drawOf (k .state .clock) reading) _ (stripe-low number _ b))
 
   read-low : (number reading first : ℕ) → LowStep c (readStep n m size stripes k number reading first)
-  unfolding readStep readRefusal readChecks stripeChecks
+  unfolding readStep readRefusal readChecks
   read-low number reading first =
       checked-low c (readRefusal n m size stripes (k .state) number reading first) _
       (λ e.
       let a = passed-rest (stripeCountRefusal stripes) _ (passed-rest (codeRefusal n m size) _ e) in
       let b = passed-rest (refuseUnless (ltb first n) badNumber) _ a in
-      drawn-low c (drawOf (k .state .clock) reading) _
-      (low-number (passed-first (refuseUnless (leb (k .state .clock .coordinator) lastCoordinator) badNumber) _ b)))
+      drawn-low c (drawOf (k .state .clock) reading) _ (stripe-low number _ b))
+
+  write-block-low : (number reading block : ℕ) (content : List ℕ) → LowStep c (writeBlockStep n m size stripes k number reading block content)
+  unfolding writeBlockStep writeBlockRefusal
+  write-block-low number reading block content =
+      checked-low c (writeBlockRefusal n m size stripes (k .state) number reading block (length content) (length (k .stripe))) _
+      (λ e.
+      let b = write-block-passed n m size stripes (k .state) number block _ _ _ (startChecks (k .state) reading) refl e in
+      drawn-low c (drawOf (k .state .clock) reading) _ (stripe-low number _ (b .checked)))
+
+  read-block-low : (number reading block : ℕ) → LowStep c (readBlockStep n m size stripes k number reading block)
+  unfolding readBlockStep readBlockRefusal
+  read-block-low number reading block =
+      checked-low c (readBlockRefusal n m size stripes (k .state) number reading block) _
+      (λ e.
+      let b = read-block-passed n m size stripes (k .state) number block _ (startChecks (k .state) reading) refl e in
+      drawn-low c (drawOf (k .state .clock) reading) _ (stripe-low number _ (b .checked)))
 
   take-low : (r : Reply) (block : List ℕ) (coded : ℕ) → LowStep c (takeStep n m size stripes k r block coded)
   unfolding takeStep
@@ -77,12 +97,10 @@ module _ (n m size stripes c : ℕ) (k : Buffered) (named : k .state .clock .coo
       (λ e. let t = take-passed n m size stripes (k .state) r _ _ _ coded _ refl e in let l = t .parts .number-low in omega arith)
 
   crash-low : LowStep c (crashStep n m size stripes k)
-  unfolding crashStep crashRefusal recordChecks
+  unfolding crashStep crashRefusal
   crash-low =
       checked-low c (crashRefusal n m size stripes (k .state)) (went (crashed k))
-      (λ e.
-      let a = passed-rest (stripeCountRefusal stripes) _ (passed-rest (codeRefusal n m size) _ e) in
-      low-number (passed-first (refuseUnless (leb (k .state .clock .coordinator) lastCoordinator) badNumber) _ a))
+      (λ e. record-low _ (passed-rest (stripeCountRefusal stripes) _ (passed-rest (codeRefusal n m size) _ e)))
 
 -- what a crash leaves in the buffers is no matter
 left-low : (s : Settings) (left : Left) (c : ℕ) (p : Step) → LowStep c p → LowStep c (leftBy s left p)
@@ -113,7 +131,7 @@ module _ (s : Settings) (c : ℕ) (high : lastCoordinator < c) where
   module _ (w : World) (e : Still s c w) where
     item-still : (z : Item) → Still s c (arriving s w z .world)
     unfolding arriving received unmoved
-    item-still (message b msg block) = either (λ (m : Moved s). Still s c (m .world)) (w .up b) _ _ e e
+    item-still (message b msg block old) = either (λ (m : Moved s). Still s c (m .world)) (w .up b) _ _ e e
     item-still (reply a block) =
         let d = coordinatorOf (a .time) in
         coordinated-still w d _ (λ n. take-low (s .n) (s .m) (s .size) (s .stripes) d (w .coordinators d) n a block (s .n * s .size)) e
@@ -135,6 +153,11 @@ module _ (s : Settings) (c : ℕ) (high : lastCoordinator < c) where
         (coordinated-still w d _ (λ n. write-low (s .n) (s .m) (s .size) (s .stripes) d (w .coordinators d) n number reading content) e) e
     step-still (startRead d number reading first) =
         coordinated-still w d _ (λ n. read-low (s .n) (s .m) (s .size) (s .stripes) d (w .coordinators d) n number reading first) e
+    step-still (startWriteBlock d number reading block content) =
+        either (λ (m : Moved s). Still s c (m .world)) (areBytes content) _ _
+        (coordinated-still w d _ (λ n. write-block-low (s .n) (s .m) (s .size) (s .stripes) d (w .coordinators d) n number reading block content) e) e
+    step-still (startReadBlock d number reading block) =
+        coordinated-still w d _ (λ n. read-block-low (s .n) (s .m) (s .size) (s .stripes) d (w .coordinators d) n number reading block) e
     step-still (arrives k) = place-still (w .sent) k
     step-still (crashes d left) =
         coordinated-still w d _ (λ n. left-low s left d _ (crash-low (s .n) (s .m) (s .size) (s .stripes) d (w .coordinators d) n)) e

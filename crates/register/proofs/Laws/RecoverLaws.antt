@@ -2,14 +2,14 @@
 use mathlib.Core.Path.{_≡_, refl, sym, ap, subst, _∙_}
 use mathlib.Core.Logic.{_⊎_, inl, inr}
 use mathlib.Core.Bool.{Bool, true, false, cond, _&&_}
-use mathlib.Core.List.{List, [], _∷_}
+use mathlib.Core.List.{List, []}
 use Prim.Native.Nat.{ℕ, zero, suc, _≤_, _<_, max}
 use native.Mathlib.Omega.{arith}
 use native.Mathlib.Decide.{decLt, ℕ-discrete}
 use lib.Dec.{T, eqb}
 use lib.ListN.{getD}
 use borrow.Author.Tests.{eqb-true, eq-eqb}
-use Rattle.message.specs.Kinds.{orderReadKind, writeKind}
+use Rattle.message.specs.Kinds.{orderReadKind, writeKind, modifyKind}
 use Rattle.settings.specs.Count.{count}
 use Rattle.settings.specs.Ranges.{quorum, maxBricks}
 use Rattle.settings.specs.Ranges.{SettingsRange}
@@ -19,14 +19,15 @@ use Rattle.message.specs.Flags.{member, members}
 use Rattle.erasure.specs.Code.{codedOf}
 use Rattle.erasure.specs.Code.{blockOf, Stripe}
 use Rattle.byte_lists.specs.Each.{some}
-use Rattle.coord_record.specs.Records.{noBricks, idleKind, readingKind}
+use Rattle.coord_record.specs.Records.{noBricks, idleKind}
+use Rattle.coord_laws.specs.OpCases.{canRecover}
 use Rattle.coord_tally.specs.Counting.{saidNo, highest, atTime, atTimes, picked}
-use Rattle.coord_apply.specs.Acts.{stripeFrom, roundMessage, nextOp, opened, nextRound}
+use Rattle.coord_apply.specs.Acts.{stripeFrom, roundMessage, nextOp, opened, nextRound, storedStripe, namedBricks, pickedAt, recoveredStripe}
 use Rattle.coord_apply.specs.Answers.{Buffered}
 use Rattle.coord_tally.proofs.Laws.RowSets.{picked-gave}
 use Rattle.coord_laws.proofs.Laws.CodedBlockLaws.{stripe-read}
-use Rattle.order.specs.Claim.{changed, _∈_}
-use Rattle.order.specs.Facts.{over, promised, launched, stored}
+use Rattle.order.specs.Claim.{_∈_}
+use Rattle.order.specs.Facts.{over, promised, stored}
 use Rattle.order.specs.Places.{whole, above, In}
 use Rattle.order.proofs.Laws.PlaceLaws.{suf-below, in-suf, in-above, in-top}
 use Rattle.order.specs.Quorums.{Many}
@@ -35,8 +36,8 @@ use Rattle.order.proofs.Laws.FactLaws.{ok-at}
 use Rattle.order.proofs.Laws.GoneLaws.{round-gone}
 use Rattle.order.proofs.Laws.ValueLaws.{val-up, one-value}
 use Rattle.register.specs.Runs.{Item}
-use Rattle.register.proofs.Laws.BegunLaws.{begun-read, same-begun, known-begun, reads-begun}
-use Rattle.register.proofs.Laws.Invariant.{quorums, Hist, Means, Stands, ItemInv, CountedInv, Looked, Running, CoordinatorInv}
+use Rattle.register.proofs.Laws.BegunLaws.{same-begun, known-begun, stored-effect, stored-proper, piece-stored, begun-stored}
+use Rattle.register.proofs.Laws.Invariant.{quorums, Hist, Means, Stands, Piece, ItemInv, CountedInv, Looked, Running, CoordinatorInv}
 use Rattle.register.proofs.Laws.TurnLaws.{turns-not, TurnedRound}
 use Rattle.register.proofs.Laws.RoundLaws.{opens}
 use Rattle.register.proofs.Laws.DecodeLaws.{DecodedRow, picked-row}
@@ -55,7 +56,7 @@ highest-most flags found (suc n) b l e = go (member flags n) refl (ℕ-discrete 
     go false q (yes z) ih = let w : false ≡ true = sym q ∙ sym (ap (member flags) z) ∙ e in let u : _≡_ {A = ℕ} 0 1 = cc in absurd (omega arith)
     go false q (no z) ih = ih (omega arith) e
 
-count-none : (n : ℕ) → count (λ (b : ℕ). false) n ≡ 0
+pub count-none : (n : ℕ) → count (λ (b : ℕ). false) n ≡ 0
 unfolding count
 count-none zero = refl
 count-none (suc n) = let w = count-none n in omega arith
@@ -83,24 +84,28 @@ topOf s k = highest (k .state .tally .held) (k .state .tally .found) (s .n)
 module _ (s : Settings) (g : SettingsRange s) (h : Hist s) (sent : List Item) (c : ℕ) (k : Buffered) (v : Valid (quorums s g) h)
     (i : CoordinatorInv s g h sent c k) (items : (z : Item) → z ∈ sent → ItemInv s g h sent z) (n : k .state .op .kind ≡ idleKind → ⊥) where
   -- a round of Order-and-read with a bound from which on all is gone
-  pub does-look : (bound : ℕ) → (k .state .op .phase ≡ writeKind → ⊥) → ((u : ℕ) → bound ≤ u → u < k .state .op .time → Gone (quorums s g) h u)
+  pub does-look : (bound : ℕ) → (k .state .op .phase ≡ writeKind → ⊥) → (k .state .op .phase ≡ modifyKind → ⊥) → ((u : ℕ) → bound ≤ u → u < k .state .op .time → Gone (quorums s g) h u)
       → TurnedRound s g h sent c (nextRound k orderReadKind bound noBricks (k .stripe) [])
-  does-look bound phase gone =
+  unfolding nextRound
+  does-look bound phase other gone =
       let r = now s g h sent c k v i items n in
-      opens s g h sent c k i n h orderReadKind bound noBricks (k .stripe) []
+      opens s g h sent c k i n h orderReadKind bound 0 noBricks (k .stripe) [] []
       (turns-not s g c h v [] refl)
       (λ u w. w)
       (r .unended)
-      (λ p. r .unsent phase)
-      (unfold nextRound opened nextOp in same-begun s _ k refl refl)
+      (λ p o. r .unsent phase other)
+      (unfold opened nextOp in same-begun s _ k refl refl refl)
       (r .proper)
+      (r .piece)
       (λ e u l m. gone u l m)
+      (λ e. absurd (omega (arith, e)))
       (λ e. absurd (omega (arith, e)))
       (λ b l. unfold roundMessage nextOp in
       (record {
         brick-low = l;
         asks = λ e. known-begun r;
         stores = λ e. absurd (omega (arith, e));
+        modifies = λ e. absurd (omega (arith, e));
         trims = λ e. absurd (omega (arith, e));
       }))
 
@@ -133,7 +138,7 @@ module _ (s : Settings) (g : SettingsRange s) (h : Hist s) (sent : List Item) (c
 
         bound-is : look .asked .max ≡ k .state .op .max
         bound-is =
-            now s g h sent c k v i items n .asked (x .from .brick) (look .asked) (look .with-block) (look .was-sent) (look .kind-is) (look .time-is ∙ x .time-is)
+            now s g h sent c k v i items n .asked (x .from .brick) (look .asked) (look .with-block) (look .with-old) (look .was-sent) (look .kind-is) (look .time-is ∙ x .time-is)
             .1 (look .round-is ∙ x .round-is) .1
 
         go : ((x .from .held ≡ true) × (u ≤ x .from .found)) ⊎ Gone (quorums s g) h u
@@ -196,26 +201,26 @@ module _ (s : Settings) (g : SettingsRange s) (h : Hist s) (sent : List Item) (c
               (subst (λ (l : List ℕ). Means s h (x .from .found) (x .from .brick) l) (sym (x .block-is (x .held-is ∙ held))) (w .2))),
         )
 
-    -- the Write round of a recovered stripe
-    pub does-recover : k .state .op .kind ≡ readingKind → s .m ≤ count (atTimes (k .state .tally .held) (k .state .tally .found) (topOf s k)) (s .n)
+    -- the Write round of a recovered stripe, or of one with its block replaced
+    pub does-recover : canRecover (k .state .op .kind) ≡ true → s .m ≤ count (atTimes (k .state .tally .held) (k .state .tally .found) (topOf s k)) (s .n)
         → TurnedRound s g h sent c
-        (nextRound k writeKind 0 (picked (k .state .tally .held) (k .state .tally .found) (topOf s k) (s .n) (s .m))
-        (stripeFrom (s .m) (s .size) (picked (k .state .tally .held) (k .state .tally .found) (topOf s k) (s .n) (s .m)) (k .blocks))
-        (codedOf (s .n) (s .m) (s .size) (stripeFrom (s .m) (s .size) (picked (k .state .tally .held) (k .state .tally .found) (topOf s k) (s .n) (s .m)) (k .blocks))))
-    unfolding picked changed
+        (nextRound k writeKind 0 (namedBricks (k .state .op) (pickedAt (s .n) (s .m) k (topOf s k))) (recoveredStripe (s .n) (s .m) (s .size) k (topOf s k))
+        (codedOf (s .n) (s .m) (s .size) (recoveredStripe (s .n) (s .m) (s .size) k (topOf s k))))
+    unfolding picked
     does-recover kind many =
-        launches s g h sent c k v i items n (over (topOf s k)) row stripe
+        launches s g h sent c k v i items n (over (topOf s k)) (namedBricks (k .state .op) row) stored-stripe
         (record {
           known = known-begun r;
           running = r .unended;
-          new = r .unsent (λ e. omega (arith, e));
+          new = r .unsent (λ e. omega (arith, e)) (λ e. omega (arith, e));
           order = promised-quorum;
           source = record { below = first .0; known = launched-or-zero (first .1); between = λ u l w. gone-above u l w };
         })
-        (subst (Val (launched (k .state .op .time) (over (topOf s k)) ∷ h) (k .state .op .time)) (sym (d .3))
-        (onto in-top (in-above (reads-begun r kind)) (val-up (above whole) (d .1)) refl))
-        (subst (Stripe (s .m) (s .size)) (sym (d .3)) (d .2))
-        (unfold nextRound opened nextOp in begun-read s _ kind ∙ sym (begun-read s k kind))
+        (onto in-top (in-above (r .begun)) (val-up (above whole) (d .1)) (stored-effect s k (d .0) (d .2) kind ∙ sym stored-is))
+        (subst (Stripe (s .m) (s .size)) (sym stored-is) (stored-proper s k (d .0) (d .2) (r .piece) kind))
+        (λ q. subst (λ (z : List ℕ). Piece s (k .state .op .first) (blockOf (s .size) z (k .state .op .first))) (sym stored-is)
+        (piece-stored s k (d .0) (d .2) (r .piece) q))
+        (unfold nextRound opened nextOp in begun-stored s k (d .0) (d .2) (r .piece) kind _ refl refl stored-is)
       where
         p : ℕ → Bool
         p = atTimes (k .state .tally .held) (k .state .tally .found) (topOf s k)
@@ -225,6 +230,9 @@ module _ (s : Settings) (g : SettingsRange s) (h : Hist s) (sent : List Item) (c
 
         stripe : List ℕ
         stripe = stripeFrom (s .m) (s .size) row (k .blocks)
+
+        stored-stripe : List ℕ
+        stored-stripe = storedStripe (s .size) (k .state .op) (k .stripe) stripe
 
         r : Running s g h sent c k
         r = now s g h sent c k v i items n
@@ -238,6 +246,9 @@ module _ (s : Settings) (g : SettingsRange s) (h : Hist s) (sent : List Item) (c
         d : (full : List ℕ) × Val h (topOf s k) full × Stripe (s .m) (s .size) full × (stripe ≡ full)
         d = means-decode s g h v (topOf s k) row (k .blocks) (picked-row (k .state .tally .held) (k .state .tally .found) (topOf s k) (s .n) (s .m) many few)
             (λ j l. gave (getD row j 0) (passes j l) .2)
+
+        stored-is : stored-stripe ≡ storedStripe (s .size) (k .state .op) (k .stripe) (d .0)
+        stored-is = ap (storedStripe (s .size) (k .state .op) (k .stripe)) (d .3)
 
         first : (topOf s k < k .state .op .time) × Stands h (getD row 0 0) (topOf s k) × Means s h (topOf s k) (getD row 0 0) (blockOf (s .size) (k .blocks) (getD row 0 0))
         first = gave (getD row 0 0) (passes 0 (g .code .m-low))

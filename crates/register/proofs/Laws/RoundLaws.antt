@@ -4,30 +4,41 @@ use mathlib.Core.Logic.{_⊎_, inl, inr}
 use mathlib.Core.List.{List, [], _∷_, _++_, append-nil, List·Memᴰ·not-nil, List·Memᴰ·append-cases}
 use Prim.Native.Nat.{ℕ, _+_, _≤_, _<_}
 use native.Mathlib.Omega.{arith}
-use Rattle.message.specs.Kinds.{orderReadKind, writeKind}
+use mathlib.Core.Bool.{cond}
+use Rattle.message.specs.Kinds.{orderReadKind, writeKind, modifyKind}
+use Rattle.message.specs.Messages.{namesBlock}
 use Rattle.settings.specs.Times.{coordinatorOf}
 use Rattle.settings.specs.Ranges.{SettingsRange}
 use Rattle.settings.specs.declared.Settings.{Settings}
 use Rattle.message.specs.declared.Message.{Message}
-use Rattle.erasure.specs.Code.{Stripe}
-use Rattle.coord_record.specs.Records.{nothingCounted, noBricks, noOp, idleWith, idleKind, writingKind}
-use Rattle.coord_apply.specs.Acts.{roundMessage, nextOp, opened, nextRound, ending}
-use Rattle.coord_apply.specs.Answers.{Buffered, Broadcast, nothingSeen}
+use Rattle.erasure.specs.Code.{blockOf, Stripe}
+use Rattle.coord_record.specs.Records.{nothingCounted, noBricks, noOp, idleWith, idleKind, writingKind, writingBlockKind}
+use Rattle.coord_apply.specs.Acts.{roundMessage, nextOp, opened, ending}
+use Rattle.coord_apply.specs.Answers.{Buffered, Broadcast, Went, nothingSeen}
 use Rattle.coord_laws.proofs.Laws.SoundnessLaws.{none-sized}
-use Rattle.order.specs.Claim.{Action, _∈_}
+use Rattle.order.specs.Claim.{_∈_}
 use Rattle.order.specs.Facts.{End, Fact, began, ended, shows}
 use Rattle.order.specs.Places.{In}
 use Rattle.order.proofs.Laws.PlaceLaws.{in-suf}
 use Rattle.order.specs.Valid.{Began, Launched, Ended, Val, Gone, OkEnded, Valid}
-use Rattle.register.specs.Runs.{plain, Item, message, reply, begunKind, seenOf, blockFor, broadcasts}
-use Rattle.register.proofs.Laws.Invariant.{quorums, Hist, MessageInv, ItemInv, Asked, Running, CoordinatorInv}
+use Rattle.register.specs.Runs.{plain, Item, message, reply, begunKind, seenOf, blockFor, oldFor, broadcasts}
+use Rattle.register.proofs.Laws.Invariant.{quorums, Hist, Piece, MessageInv, ItemInv, Asked, Running, CoordinatorInv}
 use Rattle.register.proofs.Laws.UpLaws.{in-cons}
 use Rattle.register.proofs.Laws.TurnLaws.{time-of, kind-of, round-of, Turns, turns-not, turns-ended, in-broadcast, TurnedRound}
 use Rattle.register.proofs.Laws.StartEvent.{none-member}
 
 unfoldable pub max-of : Item → ℕ
-max-of (message b msg block) = msg .max
+max-of (message b msg block old) = msg .max
 max-of (reply r block) = 0
+
+-- a round that is sent, with its blocks and, where it is Modify, the old time and the old block
+abbrev pub roundWent : Buffered → (phase max time : ℕ) → (bricks stripe coded old : List ℕ) → Went
+roundWent k phase max time bricks stripe coded old =
+    record {
+      next = record { state = opened (k .state) phase max bricks; blocks = k .blocks; stripe = stripe };
+      sent = record { message = roundMessage (nextOp (k .state .op) phase max) time noBricks; blocks = coded; old = old } ∷ [];
+      seen = nothingSeen;
+    }
 
 module _ (s : Settings) (g : SettingsRange s) (h : Hist s) (sent : List Item) (c : ℕ) (k : Buffered) (i : CoordinatorInv s g h sent c k) where
   -- nothing is sent and nothing is seen
@@ -39,7 +50,7 @@ module _ (s : Settings) (g : SettingsRange s) (h : Hist s) (sent : List Item) (c
         turns = turns-not s g c h v [] refl;
         keeps = subst (λ (z : List Item). CoordinatorInv s g h z c k) (sym (append-nil sent)) i;
         items = λ z m. absurd (List·Memᴰ·not-nil m);
-        own = λ b msg block m. absurd (List·Memᴰ·not-nil m);
+        own = λ b msg block old m. absurd (List·Memᴰ·not-nil m);
       }
 
   -- the operation ends and its coordinator is idle
@@ -48,7 +59,7 @@ module _ (s : Settings) (g : SettingsRange s) (h : Hist s) (sent : List Item) (c
       → OkEnded (quorums s g) h (k .state .op .time) e
       → seenOf s (ending k stripe more what bricks .seen) (ending k stripe more what bricks .next) ≡ shows {P = plain s} (ended (k .state .op .time) e)
       → ((z : Item) → z ∈ broadcasts s more → ItemInv s g (ended (k .state .op .time) e ∷ h) (sent ++ broadcasts s more) z)
-      → ((b : ℕ) (msg : Message) (block : List ℕ) → message b msg block ∈ broadcasts s more → coordinatorOf (msg .time) ≡ c)
+      → ((b : ℕ) (msg : Message) (block old : List ℕ) → message b msg block old ∈ broadcasts s more → coordinatorOf (msg .time) ≡ c)
       → TurnedRound s g h sent c (ending k stripe more what bricks)
   unfolding ending idleWith noOp
   ends v e stripe more what bricks own o shown items owns =
@@ -66,33 +77,36 @@ module _ (s : Settings) (g : SettingsRange s) (h : Hist s) (sent : List Item) (c
         own = owns;
       }
     where
-      old : (u : ℕ) (a : Action (List ℕ)) → (_≡_ {A = Fact (plain s)} (began u a) (ended (k .state .op .time) e)) ⊎ In (began u a) h → Began h u
+      old : (u : ℕ) (a : plain s .Kind) → (_≡_ {A = Fact (plain s)} (began u a) (ended (k .state .op .time) e)) ⊎ In (began u a) h → Began h u
       old u a (inl q) = let z : _≡_ {A = ℕ} 0 1 = cc in absurd (omega arith)
       old u a (inr q) = (a, q)
 
-  -- the next round is sent
-  pub opens : (n : k .state .op .kind ≡ idleKind → ⊥) (h′ : Hist s) (phase max : ℕ) (bricks stripe coded : List ℕ)
+  -- the next round is sent: with its blocks, and where it is Modify with the old time and the old block
+  pub opens : (n : k .state .op .kind ≡ idleKind → ⊥) (h′ : Hist s) (phase max time : ℕ) (bricks stripe coded old : List ℕ)
       → Turns s g c h h′ []
       → ((u : ℕ) → Began h′ u → Began h u)
       → (¬ Ended h′ (k .state .op .time))
-      → ((phase ≡ writeKind → ⊥) → ¬ Launched h′ (k .state .op .time))
-      → begunKind s (nextRound k phase max bricks stripe coded .next) ≡ begunKind s k
+      → ((phase ≡ writeKind → ⊥) → (phase ≡ modifyKind → ⊥) → ¬ Launched h′ (k .state .op .time))
+      → begunKind s (roundWent k phase max time bricks stripe coded old .next) ≡ begunKind s k
       → (k .state .op .kind ≡ writingKind → Stripe (s .m) (s .size) stripe)
+      → (k .state .op .kind ≡ writingBlockKind → Piece s (k .state .op .first) (blockOf (s .size) stripe (k .state .op .first)))
       → (phase ≡ orderReadKind → (u : ℕ) → max ≤ u → u < k .state .op .time → Gone (quorums s g) h′ u)
       → (phase ≡ writeKind → Launched h′ (k .state .op .time) × Val h′ (k .state .op .time) stripe × Stripe (s .m) (s .size) stripe)
+      → (phase ≡ modifyKind → Launched h′ (k .state .op .time))
       → ((b : ℕ) → b < s .n
-      → MessageInv s g h′ b (roundMessage (nextOp (k .state .op) phase max) noBricks)
-      (blockFor s (record { message = roundMessage (nextOp (k .state .op) phase max) noBricks; blocks = coded }) b))
-      → TurnedRound s g h sent c (nextRound k phase max bricks stripe coded)
-  unfolding nextRound opened seenOf nothingSeen nothingCounted nextOp roundMessage
-  opens n h′ phase max bricks stripe coded turns same unended unsent kept proper cleared storing messages =
+      → MessageInv s g h′ b (roundMessage (nextOp (k .state .op) phase max) time noBricks)
+      (blockFor s (record { message = roundMessage (nextOp (k .state .op) phase max) time noBricks; blocks = coded; old = old }) b)
+      (oldFor s (record { message = roundMessage (nextOp (k .state .op) phase max) time noBricks; blocks = coded; old = old })))
+      → TurnedRound s g h sent c (roundWent k phase max time bricks stripe coded old)
+  unfolding opened seenOf nothingSeen nothingCounted nextOp roundMessage
+  opens n h′ phase max time bricks stripe coded old turns same unended unsent kept proper piece cleared storing modifying messages =
       record {
         later = h′;
         turns = turns;
         keeps = record { number = i .number; used = λ u w m. i .used u (same u w) m; sized = none-sized; idle-is = λ e. absurd (n e); runs = λ _. running };
         items = λ z m. let w = in-broadcast s sending z m in
             subst (ItemInv s g h′ (sent ++ broadcasts s (sending ∷ []))) (sym (w .2)) (messages (w .0) (w .1));
-        own = λ b msg block m. let w = in-broadcast s sending (message b msg block) m in
+        own = λ b msg block o m. let w = in-broadcast s sending (message b msg block o) m in
             let e : msg .time ≡ k .state .op .time = unfold time-of in ap time-of (w .2) in ap coordinatorOf e ∙ r .own;
       }
     where
@@ -101,18 +115,28 @@ module _ (s : Settings) (g : SettingsRange s) (h : Hist s) (sent : List Item) (c
 
       sending : Broadcast
       sending = record {
-        message = record { kind = phase; stripe = k .state .op .stripe; time = k .state .op .time; round = k .state .op .round + 1; max = max; targets = noBricks };
+        message = record {
+          kind = phase;
+          stripe = k .state .op .stripe;
+          time = k .state .op .time;
+          round = k .state .op .round + 1;
+          max = max;
+          old = time;
+          block = cond (namesBlock phase) (k .state .op .first) 0;
+          targets = noBricks;
+        };
         blocks = coded;
+        old = old;
       }
 
       asked : Asked (sent ++ broadcasts s (sending ∷ [])) (k .state .op .time) (k .state .op .round + 1) phase max
-      asked b msg block m e q = go (List·Memᴰ·append-cases sent m)
+      asked b msg block o m e q = go (List·Memᴰ·append-cases sent m)
         where
-          go : (message b msg block ∈ sent) ⊎ (message b msg block ∈ broadcasts s (sending ∷ []))
+          go : (message b msg block o ∈ sent) ⊎ (message b msg block o ∈ broadcasts s (sending ∷ []))
               → (msg .round ≤ k .state .op .round + 1) × (msg .round ≡ k .state .op .round + 1 → (phase ≡ orderReadKind) × (msg .max ≡ max))
-          go (inl p) = let w = r .asked b msg block p e q in (omega (arith, w .0), λ f. absurd (omega (arith, f, w .0)))
+          go (inl p) = let w = r .asked b msg block o p e q in (omega (arith, w .0), λ f. absurd (omega (arith, f, w .0)))
           go (inr p) =
-              let w = in-broadcast s sending (message b msg block) p in
+              let w = in-broadcast s sending (message b msg block o) p in
               let f : msg .round ≡ k .state .op .round + 1 = unfold round-of in ap round-of (w .2) in
               let l : msg .kind ≡ phase = unfold kind-of in ap kind-of (w .2) in
               let j : msg .max ≡ max = unfold max-of in ap max-of (w .2) in
@@ -141,8 +165,9 @@ module _ (s : Settings) (g : SettingsRange s) (h : Hist s) (sent : List Item) (c
       running =
           record {
             own = r .own;
-            begun = subst (λ (a : Action (List ℕ)). In (began (k .state .op .time) a) h′) (sym kept) (in-suf (turns .longer) (r .begun));
+            begun = subst (λ (a : plain s .Kind). In (began (k .state .op .time) a) h′) (sym kept) (in-suf (turns .longer) (r .begun));
             proper = proper;
+            piece = piece;
             unended = unended;
             unsent = unsent;
             counts = λ b m. absurd (none-member b m);
@@ -150,4 +175,5 @@ module _ (s : Settings) (g : SettingsRange s) (h : Hist s) (sent : List Item) (c
             asked = asked;
             cleared = cleared;
             storing = storing;
+            modifying = modifying;
           }

@@ -20,7 +20,7 @@ use Rattle.coord_apply.specs.Answers.{Buffered, Broadcast, Went, Step, refused,
 use Rattle.coord_apply.specs.Acts.{ending}
 use Rattle.coord_laws.proofs.Laws.SoundnessLaws.{passes, same-went}
 use Rattle.coord_refusals.specs.Checks.{crashRefusal}
-use Rattle.coordinator.specs.Routines.{takeStep, crashed, crashStep, writeStep, readStep}
+use Rattle.coordinator.specs.Routines.{takeStep, crashed, crashStep, writeStep, readStep, writeBlockStep, readBlockStep}
 use Rattle.coord_laws.proofs.Laws.StripeLaws
 use Rattle.coord_laws.proofs.Laws.StripeLaws.{KeepsStripe, take-keeps-stripe, crash-keeps-stripe, taken-stripe, taken-runs, StartsOn}
 use Rattle.order.specs.Claim.{_∈_}
@@ -28,7 +28,7 @@ use Rattle.register.specs.Runs.{reply, Left, Moved, joined, coordinated,
 use Rattle.register.proofs.Laws.Invariant.{Hist, ClockInv, CoordinatorInv, Goes, itemOn, viewed, view, Inv}
 use Rattle.register.proofs.Laws.TurnLaws.{TurnedRound}
 use Rattle.register.proofs.Laws.StripeViewLaws.{in-items, viewed-clock, viewed-here, viewed-same, goes-here, goes-there, goes-unmoved}
-use Rattle.register.proofs.Laws.StartEvent.{write-turned, read-turned}
+use Rattle.register.proofs.Laws.StartEvent.{write-turned, read-turned, write-block-turned, read-block-turned}
 use Rattle.register.proofs.Laws.CrashEvent.{left-by, crash-turned}
 use Rattle.register.proofs.Laws.ReplyEvent.{reply-turned}
 
@@ -157,6 +157,22 @@ module _ (s : Settings) (g : SettingsRange s) (k : ℕ) (h : Hist s) (r : Moved 
       after-step (readStep (s .n) (s .m) (s .size) (s .stripes) raw number reading first)
       (λ w e. starts number w (StripeLaws.read-starts (s .n) (s .m) (s .size) (s .stripes) raw number reading first w e)
       (λ _. read-turned s g h (view k r .sent) c raw (i .valid) own-clock (i .items) number reading w first e))
+
+  pub write-block-goes : (number reading block : ℕ) (content : List ℕ) → Bytes content
+      → Goes s g (view k (joined s r (coordinated s (r .world) c (writeBlockStep (s .n) (s .m) (s .size) (s .stripes) (r .world .coordinators c) number reading block content))))
+  unfolding After raw
+  write-block-goes number reading block content small =
+      after-step (writeBlockStep (s .n) (s .m) (s .size) (s .stripes) raw number reading block content)
+      (λ w e. starts number w (StripeLaws.write-block-starts (s .n) (s .m) (s .size) (s .stripes) raw number reading block content w e)
+      (λ _. write-block-turned s g h (view k r .sent) c raw (i .valid) own-clock (i .items) number reading w block content small e))
+
+  pub read-block-goes : (number reading block : ℕ)
+      → Goes s g (view k (joined s r (coordinated s (r .world) c (readBlockStep (s .n) (s .m) (s .size) (s .stripes) (r .world .coordinators c) number reading block))))
+  unfolding After raw
+  read-block-goes number reading block =
+      after-step (readBlockStep (s .n) (s .m) (s .size) (s .stripes) raw number reading block)
+      (λ w e. starts number w (StripeLaws.read-block-starts (s .n) (s .m) (s .size) (s .stripes) raw number reading block w e)
+      (λ _. read-block-turned s g h (view k r .sent) c raw (i .valid) own-clock (i .items) number reading w block e))
 
   -- A COORDINATOR CRASHES
   module _ (left : Left) where

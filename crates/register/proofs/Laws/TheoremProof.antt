@@ -8,26 +8,27 @@ use lib.Dec.{ltb}
 use Rattle.settings.specs.Ranges.{SettingsRange}
 use Rattle.image.proofs.Laws.ParseLaws.{range-of}
 use Rattle.settings.specs.declared.Settings.{Settings}
-use Rattle.byte_lists.specs.Little.{areBytes}
+use Rattle.byte_lists.specs.Little.{Bytes, areBytes}
 use Rattle.byte_lists.proofs.Laws.LittleLaws.{are-bytes}
-use Rattle.coordinator.specs.Routines.{writeStep}
+use Rattle.coord_apply.specs.Answers.{Step}
+use Rattle.coordinator.specs.Routines.{writeStep, writeBlockStep}
 use Rattle.order.specs.Claim.{OneOrder, _∈_}
 use Rattle.settings.specs.Times.{coordinatorOf}
 use Rattle.order.proofs.Laws.OneOrderTheorem.{one-order}
-use Rattle.register.specs.Runs.{plain, Item, message, reply, freshSet, Event, startWrite, startRead, arrives, crashes, goesDown}
+use Rattle.register.specs.Runs.{plain, Item, message, reply, freshSet, Event, startWrite, startRead, startWriteBlock, startReadBlock, arrives, crashes, goesDown}
 use Rattle.register.specs.Runs.{comesUp, Moved, unmoved, joined, putAt, coordinated, arriving, arrivingAt, standing, step, nextMoved, runFrom}
 use Rattle.register.specs.Runs.{run}
 use Rattle.register.specs.Theorem.{EveryRunHasOneOrder}
 use Rattle.register.proofs.Laws.Invariant.{Hist, Goes, view, Inv}
 use Rattle.register.proofs.Laws.StripeViewLaws.{goes-unmoved}
 use Rattle.register.proofs.Laws.BrickViewLaws.{message-arrives}
-use Rattle.register.proofs.Laws.StripeEvent.{reply-goes, write-goes, read-goes, crash-goes}
+use Rattle.register.proofs.Laws.StripeEvent.{reply-goes, write-goes, read-goes, write-block-goes, read-block-goes, crash-goes}
 use Rattle.register.proofs.Laws.FreshRunLaws.{fresh-holds}
 
 module _ (s : Settings) (g : SettingsRange s) (k : ℕ) where
   -- an item among those sent arrives
   item-arrives : (h : Hist s) (r : Moved s) → Inv s g k h r → (z : Item) → z ∈ r .world .sent → Goes s g (view k (joined s r (arriving s (r .world) z)))
-  item-arrives h r i (message b msg block) m = message-arrives s k r b g h i msg block m
+  item-arrives h r i (message b msg block old) m = message-arrives s k r b g h i msg block old m
   item-arrives h r i (reply a block) m = unfold arriving in reply-goes s g k h r i (coordinatorOf (a .time)) a block m
 
   place-arrives : (h : Hist s) (r : Moved s) → Inv s g k h r → (l : List Item) → ((z : Item) → z ∈ l → z ∈ r .world .sent) → (p : ℕ)
@@ -63,20 +64,26 @@ module _ (s : Settings) (g : SettingsRange s) (k : ℕ) where
       )
       go false = goes-unmoved s g k h r i
 
+  -- a start with bytes; with other numbers nothing is changed
+  with-bytes : (h : Hist s) (r : Moved s) → Inv s g k h r → (c : ℕ) (content : List ℕ) (p : Step)
+      → (Bytes content → Goes s g (view k (joined s r (coordinated s (r .world) c p))))
+      → Goes s g (view k (joined s r (cond (areBytes content) (coordinated s (r .world) c p) (unmoved s (r .world)))))
+  with-bytes h r i c content p f = go (areBytes content) refl
+    where
+      go : (b : Bool) → areBytes content ≡ b → Goes s g (view k (joined s r (cond b (coordinated s (r .world) c p) (unmoved s (r .world)))))
+      go true e = f (are-bytes content e)
+      go false e = goes-unmoved s g k h r i
+
   -- what holds of stripe k goes on to hold after each event,
   pub step-goes : (h : Hist s) (r : Moved s) → Inv s g k h r → (e : Event) → Goes s g (view k (joined s r (step s (r .world) e)))
   unfolding step
-  step-goes h r i (startWrite c number reading content) = go (areBytes content) refl
-    where
-      go : (b : Bool) → areBytes content ≡ b
-          → Goes s g
-          (view k
-          (joined s r
-          (cond b
-          (coordinated s (r .world) c (writeStep (s .n) (s .m) (s .size) (s .stripes) (r .world .coordinators c) number reading content))
-          (unmoved s (r .world)))))
-      go true e = write-goes s g k h r i c number reading content (are-bytes content e)
-      go false e = goes-unmoved s g k h r i
+  step-goes h r i (startWrite c number reading content) =
+      with-bytes h r i c content (writeStep (s .n) (s .m) (s .size) (s .stripes) (r .world .coordinators c) number reading content)
+      (λ small. write-goes s g k h r i c number reading content small)
+  step-goes h r i (startWriteBlock c number reading block content) =
+      with-bytes h r i c content (writeBlockStep (s .n) (s .m) (s .size) (s .stripes) (r .world .coordinators c) number reading block content)
+      (λ small. write-block-goes s g k h r i c number reading block content small)
+  step-goes h r i (startReadBlock c number reading block) = read-block-goes s g k h r i c number reading block
   step-goes h r i (startRead c number reading first) = read-goes s g k h r i c number reading first
   step-goes h r i (arrives p) = place-arrives h r i (r .world .sent) (λ z m. m) p
   step-goes h r i (crashes c left) = crash-goes s g k h r i c left

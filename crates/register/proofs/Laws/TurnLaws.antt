@@ -13,11 +13,11 @@ use Rattle.settings.specs.declared.Settings.{Settings}
 use Rattle.message.specs.declared.Message.{Message}
 use Rattle.image.specs.Brick.{Brick}
 use Rattle.coord_apply.specs.Answers.{Buffered, Broadcast, Went}
-use Rattle.order.specs.Claim.{Action, Seen, _∈_}
+use Rattle.order.specs.Claim.{Seen, _∈_}
 use Rattle.order.specs.Facts.{Source, End, Fact, began, launched, ended, seen, shows}
 use Rattle.order.specs.Places.{Suf, whole, above}
 use Rattle.order.specs.Valid.{OkBegan, OkLaunched, OkEnded, Ok, Valid, next}
-use Rattle.register.specs.Runs.{plain, Item, message, reply, putAt, seenOf, blockFor, toAll, broadcasts}
+use Rattle.register.specs.Runs.{plain, Item, message, reply, putAt, seenOf, blockFor, oldFor, toAll, broadcasts}
 use Rattle.register.proofs.Laws.Invariant.{quorums, Hist, BrickInv, ItemInv, CoordinatorInv, View, ViewInv}
 use Rattle.register.proofs.Laws.UpLaws.{within-more, item-up, AtBrick, AtCoordinator, brick-up, coordinator-up, QuietWorld, coordinator-sent}
 use Rattle.register.proofs.Laws.Invariant.{Goes}
@@ -25,15 +25,15 @@ use Rattle.register.proofs.Laws.BrickEvent.{put-here, put-there}
 
 -- the fields of a message among the items
 unfoldable pub time-of : Item → ℕ
-time-of (message b msg block) = msg .time
+time-of (message b msg block old) = msg .time
 time-of (reply r block) = 0
 
 unfoldable pub kind-of : Item → ℕ
-kind-of (message b msg block) = msg .kind
+kind-of (message b msg block old) = msg .kind
 kind-of (reply r block) = 0
 
 unfoldable pub round-of : Item → ℕ
-round-of (message b msg block) = msg .round
+round-of (message b msg block old) = msg .round
 round-of (reply r block) = 0
 
 -- The history grows by what concerns coordinator c alone, and this is seen of it.
@@ -67,7 +67,7 @@ module _ (s : Settings) (g : SettingsRange s) (c : ℕ) (h : Hist s) (v : Valid 
         others = λ c′ n sent k i. coordinator-up (next v o) (λ a. n (co c′ a)) i;
       }
 
-  pub turns-began : (t : ℕ) (k : Action (List ℕ)) → OkBegan h t → coordinatorOf t ≡ c → (shown : List (Seen (plain s)))
+  pub turns-began : (t : ℕ) (k : plain s .Kind) → OkBegan h t → coordinatorOf t ≡ c → (shown : List (Seen (plain s)))
       → shown ≡ Seen.began t k ∷ [] → Turns s g c h (began t k ∷ h) shown
   unfolding shows
   turns-began t k o e shown q = turns-by (began t k) o (λ b a. a) (λ c′ a. sym a ∙ e) shown q
@@ -82,22 +82,23 @@ module _ (s : Settings) (g : SettingsRange s) (c : ℕ) (h : Hist s) (v : Valid 
   turns-ended t k o e shown q = turns-by (ended t k) o (λ b a. a) (λ c′ a. sym a ∙ e) shown q
 
 -- what a broadcast sends
-pub in-toAll : (s : Settings) (z : Broadcast) (k : ℕ) (i : Item) → i ∈ toAll s z k → (b : ℕ) × (b < k) × (i ≡ message b (z .message) (blockFor s z b))
+pub in-toAll : (s : Settings) (z : Broadcast) (k : ℕ) (i : Item) → i ∈ toAll s z k → (b : ℕ) × (b < k) × (i ≡ message b (z .message) (blockFor s z b) (oldFor s z))
 unfolding toAll
 in-toAll s z zero i m = absurd (List·Memᴰ·not-nil m)
 in-toAll s z (suc k) i m = go (List·Memᴰ·append-cases (toAll s z k) m) (in-toAll s z k i)
   where
-    go : (i ∈ toAll s z k) ⊎ (i ∈ (message k (z .message) (blockFor s z k) ∷ [])) → (i ∈ toAll s z k → (b : ℕ) × (b < k) × (i ≡ message b (z .message) (blockFor s z b)))
-        → (b : ℕ) × (b < suc k) × (i ≡ message b (z .message) (blockFor s z b))
+    go : (i ∈ toAll s z k) ⊎ (i ∈ (message k (z .message) (blockFor s z k) (oldFor s z) ∷ []))
+        → (i ∈ toAll s z k → (b : ℕ) × (b < k) × (i ≡ message b (z .message) (blockFor s z b) (oldFor s z)))
+        → (b : ℕ) × (b < suc k) × (i ≡ message b (z .message) (blockFor s z b) (oldFor s z))
     go (inl p) ih = let w = ih p in (w .0, omega (arith, w .1), w .2)
     go (inr p) ih = (k, omega arith, List·Memᴰ·eq-of-singleton p)
 
 pub in-broadcast : (s : Settings) (z : Broadcast) (i : Item) → i ∈ broadcasts s (z ∷ [])
-    → (b : ℕ) × (b < s .n) × (i ≡ message b (z .message) (blockFor s z b))
+    → (b : ℕ) × (b < s .n) × (i ≡ message b (z .message) (blockFor s z b) (oldFor s z))
 unfolding broadcasts
 in-broadcast s z i m = go (List·Memᴰ·append-cases (toAll s z (s .n)) m)
   where
-    go : (i ∈ toAll s z (s .n)) ⊎ (i ∈ []) → (b : ℕ) × (b < s .n) × (i ≡ message b (z .message) (blockFor s z b))
+    go : (i ∈ toAll s z (s .n)) ⊎ (i ∈ []) → (b : ℕ) × (b < s .n) × (i ≡ message b (z .message) (blockFor s z b) (oldFor s z))
     go (inl p) = in-toAll s z (s .n) i p
     go (inr p) = absurd (List·Memᴰ·not-nil p)
 
@@ -107,7 +108,7 @@ pub record TurnedRound (s : Settings) (g : SettingsRange s) (h : Hist s) (sent :
   pub turns : Turns s g c h later (seenOf s (w .seen) (w .next))
   pub keeps : CoordinatorInv s g later (sent ++ broadcasts s (w .sent)) c (w .next)
   pub items : (i : Item) → i ∈ broadcasts s (w .sent) → ItemInv s g later (sent ++ broadcasts s (w .sent)) i
-  pub own : (b : ℕ) (msg : Message) (block : List ℕ) → message b msg block ∈ broadcasts s (w .sent) → coordinatorOf (msg .time) ≡ c
+  pub own : (b : ℕ) (msg : Message) (block old : List ℕ) → message b msg block old ∈ broadcasts s (w .sent) → coordinatorOf (msg .time) ≡ c
 
 -- a view in which coordinator c went on
 abbrev pub turnedView : (s : Settings) → View s → ℕ → Went → View s
@@ -141,11 +142,11 @@ goes-turned s g h v i c w t = (
     item k (inr m) = t .items k m
 
     quiet : (c′ : ℕ) → (c′ ≡ c → ⊥) → QuietWorld c′ (v .sent) (v .sent ++ new)
-    quiet c′ n b msg block m e q = go (List·Memᴰ·append-cases (v .sent) m)
+    quiet c′ n b msg block old m e q = go (List·Memᴰ·append-cases (v .sent) m)
       where
-        go : (message b msg block ∈ v .sent) ⊎ (message b msg block ∈ new) → message b msg block ∈ v .sent
+        go : (message b msg block old ∈ v .sent) ⊎ (message b msg block old ∈ new) → message b msg block old ∈ v .sent
         go (inl p) = p
-        go (inr p) = absurd (n (sym q ∙ t .own b msg block p))
+        go (inr p) = absurd (n (sym q ∙ t .own b msg block old p))
 
     at : (c′ : ℕ) (a : Bool) → eqb c′ c ≡ a → CoordinatorInv s g (t .later) (v .sent ++ new) c′ (putAt (v .coordinators) c (w .next) c′)
     at c′ true e =

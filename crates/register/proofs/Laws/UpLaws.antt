@@ -7,7 +7,7 @@ use Prim.Native.Nat.{ℕ, _≤_, _<_}
 use Rattle.settings.specs.Times.{coordinatorOf}
 use Rattle.settings.specs.Ranges.{SettingsRange}
 use Rattle.settings.specs.declared.Settings.{Settings}
-use Rattle.message.specs.Kinds.{orderReadKind, writeKind}
+use Rattle.message.specs.Kinds.{orderReadKind, writeKind, modifyKind}
 use Rattle.message.specs.declared.Message.{Message}
 use Rattle.message.specs.declared.Reply.{Reply}
 use Rattle.image.specs.Brick.{Brick}
@@ -22,7 +22,8 @@ use Rattle.order.proofs.Laws.StoredLaws.{stored-before}
 use Rattle.order.proofs.Laws.GoneLaws.{gone-up}
 use Rattle.order.proofs.Laws.ValueLaws.{val-up}
 use Rattle.register.specs.Runs.{plain, Item, message, reply}
-use Rattle.register.proofs.Laws.Invariant.{quorums, Hist, Means, Stands, BrickInv, MessageInv, Looked, ReplyInv, ItemInv, CountedInv, Running, CoordinatorInv, LogHas}
+use Rattle.register.proofs.Laws.Invariant.{quorums, Hist, Means, Stands, BrickInv, Modifies, MessageInv, Looked, Newest, ReplyInv, ItemInv, CountedInv}
+use Rattle.register.proofs.Laws.Invariant.{Running, CoordinatorInv, LogHas}
 
 -- all that stands in the one list stands in the other
 abbrev pub Within : List Item → List Item → Type 0
@@ -47,13 +48,26 @@ module _ {s : Settings} where
   pub means-up : {a h : Hist s} {t b : ℕ} {block : List ℕ} → Suf a h → Means s a t b block → Means s h t b block
   means-up q x = record { full = x .full; value = val-up q (x .value); proper = x .proper; coded = x .coded }
 
+  modifies-up : {a h : Hist s} {msg : Message} {block old : List ℕ} → Suf a h → Modifies s a msg block old → Modifies s h msg block old
+  modifies-up q x =
+      record {
+        sent = (x .sent .0, in-suf q (x .sent .1));
+        full = x .full;
+        value = val-up q (x .value);
+        proper = x .proper;
+        piece = x .piece;
+        old-is = x .old-is;
+        after = val-up q (x .after);
+      }
+
 module _ {s : Settings} {g : SettingsRange s} {a h : Hist s} (v : Valid (quorums s g) h) (q : Suf a h) where
-  pub message-up : {b : ℕ} {msg : Message} {block : List ℕ} → MessageInv s g a b msg block → MessageInv s g h b msg block
+  pub message-up : {b : ℕ} {msg : Message} {block old : List ℕ} → MessageInv s g a b msg block old → MessageInv s g h b msg block old
   message-up x =
       record {
         brick-low = x .brick-low;
         asks = λ l. let w = x .asks l in (w .0, in-suf q (w .1));
         stores = λ e. let w = x .stores e in ((w .0 .0, in-suf q (w .0 .1)), means-up q (w .1));
+        modifies = λ e. modifies-up q (x .modifies e);
         trims = λ e. committed-up (quorums s g) q (x .trims e);
       }
 
@@ -62,6 +76,7 @@ module _ {s : Settings} {g : SettingsRange s} {a h : Hist s} (v : Valid (quorums
       record {
         asked = x .asked;
         with-block = x .with-block;
+        with-old = x .with-old;
         was-sent = w _ (x .was-sent);
         kind-is = x .kind-is;
         time-is = x .time-is;
@@ -78,22 +93,42 @@ module _ {s : Settings} {g : SettingsRange s} {a h : Hist s} (v : Valid (quorums
       go u (inl y) = inl y
       go u (inr y) = inr (gone-up v q y)
 
+  newest-up : {r : Reply} → In (promised (r .brick) (r .time)) a → Newest s g a r → Newest s g h r
+  newest-up {r} p x =
+      record {
+        below = x .below;
+        stands = stands-up q (x .stands);
+        nothing-else = λ u l n. go u (x .nothing-else u l (before u l n));
+      }
+    where
+      before : (u : ℕ) → u < r .time → Stands h (r .brick) u → Stands a (r .brick) u
+      before u l (inl e) = inl e
+      before u l (inr i) = inr (stored-before v q l p i)
+
+      go : (u : ℕ) → (u ≤ r .found) ⊎ Gone (quorums s g) a u → (u ≤ r .found) ⊎ Gone (quorums s g) h u
+      go u (inl y) = inl y
+      go u (inr y) = inr (gone-up v q y)
+
   pub reply-up : {old new : List Item} {r : Reply} {block : List ℕ} → Within old new → ReplyInv s g a old r block → ReplyInv s g h new r block
   reply-up w x =
       record {
         brick-low = x .brick-low;
         orders = λ y k. in-suf q (x .orders y k);
         writes = λ y k. in-suf q (x .writes y k);
+        modifies = λ y k. in-suf q (x .modifies y k);
         reads = λ y k. in-suf q (x .reads y k);
         shows = λ y k d. means-up q (x .shows y k d);
         looks = λ y k. in-suf q (x .looks y k);
         finds = λ y k d. let z = x .finds y k d in (z .0, stands-up q (z .1), means-up q (z .2));
         looked = λ y k. looked-up w (x .looks y k) (x .looked y k);
+        joins = λ y k. in-suf q (x .joins y k);
+        newest = λ y k. newest-up (x .joins y k) (x .newest y k);
+        lends = λ y k d. means-up q (x .lends y k d);
       }
 
 pub item-up : (s : Settings) (g : SettingsRange s) {a h : Hist s} {old new : List Item} → Valid (quorums s g) h → Suf a h → Within old new
     → (i : Item) → ItemInv s g a old i → ItemInv s g h new i
-item-up s g v q w (message b msg block) x = message-up v q x
+item-up s g v q w (message b msg block old) x = message-up v q x
 item-up s g v q w (reply r block) x = reply-up v q w x
 
 -- The facts that concern what brick b promised and stored.
@@ -147,22 +182,25 @@ module _ {s : Settings} {g : SettingsRange s} {h : Hist s} {f : Fact (plain s)} 
         own = i .own;
         begun = in-above (i .begun);
         proper = i .proper;
+        piece = i .piece;
         unended = λ w. ended-not (w .0) (in-cons (w .1));
-        unsent = λ p w. launched-not p (w .0) (in-cons (w .1));
+        unsent = λ p o w. launched-not p o (w .0) (in-cons (w .1));
         counts = i .counts;
         holds = i .holds;
         asked = i .asked;
         cleared = λ p u l m. gone-up v (above whole) (i .cleared p u l m);
         storing = λ p. let w = i .storing p in ((w .0 .0, in-above (w .0 .1)), val-up (above whole) (w .1), w .2);
+        modifying = λ p. let w = i .modifying p in (w .0, in-above (w .1));
       }
     where
       ended-not : (e : _) → (ended (k .state .op .time) e ≡ f) ⊎ In (ended (k .state .op .time) e) h → ⊥
       ended-not e (inl q) = other (subst (AtCoordinator c) q (i .own))
       ended-not e (inr q) = i .unended (e, q)
 
-      launched-not : (k .state .op .phase ≡ writeKind → ⊥) → (e : _) → (launched (k .state .op .time) e ≡ f) ⊎ In (launched (k .state .op .time) e) h → ⊥
-      launched-not p e (inl q) = other (subst (AtCoordinator c) q (i .own))
-      launched-not p e (inr q) = i .unsent p (e, q)
+      launched-not : (k .state .op .phase ≡ writeKind → ⊥) → (k .state .op .phase ≡ modifyKind → ⊥) → (e : _)
+          → (launched (k .state .op .time) e ≡ f) ⊎ In (launched (k .state .op .time) e) h → ⊥
+      launched-not p o e (inl q) = other (subst (AtCoordinator c) q (i .own))
+      launched-not p o e (inr q) = i .unsent p o (e, q)
 
   pub coordinator-up : {sent : List Item} {c : ℕ} {k : Buffered} → (AtCoordinator c f → ⊥) → CoordinatorInv s g h sent c k
       → CoordinatorInv s g (f ∷ h) sent c k
@@ -182,7 +220,8 @@ module _ {s : Settings} {g : SettingsRange s} {h : Hist s} {f : Fact (plain s)} 
 -- what is sent anew is no Order-and-read of coordinator c
 abbrev pub QuietWorld : ℕ → List Item → List Item → Type 0
 QuietWorld c old new =
-    (b : ℕ) (msg : Message) (block : List ℕ) → message b msg block ∈ new → msg .kind ≡ orderReadKind → coordinatorOf (msg .time) ≡ c → message b msg block ∈ old
+    (b : ℕ) (msg : Message) (block before : List ℕ) → message b msg block before ∈ new → msg .kind ≡ orderReadKind → coordinatorOf (msg .time) ≡ c
+    → message b msg block before ∈ old
 
 pub counted-sent : {s : Settings} {old new : List Item} {k : Buffered} {b : ℕ} → Within old new → CountedInv s old k b → CountedInv s new k b
 counted-sent w x =
@@ -212,11 +251,13 @@ coordinator-sent {s} {g} {h} {old} {new} {c} {k} w quiet i = record { number = i
           own = r .own;
           begun = r .begun;
           proper = r .proper;
+          piece = r .piece;
           unended = r .unended;
           unsent = r .unsent;
           counts = λ b m. counted-sent w (r .counts b m);
           holds = r .holds;
-          asked = λ b msg block m e t. r .asked b msg block (quiet b msg block m e (ap coordinatorOf t ∙ r .own)) e t;
+          asked = λ b msg block before m e t. r .asked b msg block before (quiet b msg block before m e (ap coordinatorOf t ∙ r .own)) e t;
           cleared = r .cleared;
           storing = r .storing;
+          modifying = r .modifying;
         }

@@ -2,7 +2,7 @@
 use mathlib.Core.Path.{_≡_, refl, sym, ap, subst, _∙_}
 use mathlib.Core.Bool.{Bool, true, false, cond}
 use mathlib.Core.Logic.{_≢_, _⊎_, inl, inr}
-use mathlib.Core.List.{List, [], _∷_, _++_, List·Memᴰ·not-nil, List·Memᴰ·eq-of-singleton}
+use mathlib.Core.List.{List, [], _∷_, _++_, List·Memᴰ·not-nil}
 use Prim.Native.Nat.{ℕ, zero, suc, _*_, _≤_, _<_}
 use native.Mathlib.Omega.{arith}
 use lib.Dec.{eqb, ltb}
@@ -16,30 +16,35 @@ use Rattle.settings.specs.Times.{coordinatorOf, drawOf}
 use Rattle.settings.specs.declared.Clock.{Clock}
 use Rattle.settings.specs.declared.Settings.{Settings}
 use Rattle.byte_lists.specs.Little.{areBytes}
-use Rattle.message.specs.Kinds.{readKind, orderKind}
+use Rattle.message.specs.Kinds.{readKind, orderKind, orderBlockKind}
 use Rattle.image.proofs.Laws.ParseLaws.{range-of}
-use Rattle.coord_record.specs.Records.{idleKind, readingKind, writingKind, noBricks}
-use Rattle.coord_tally.specs.Counting.{targetFlags}
+use Rattle.coord_record.specs.Records.{idleKind, readingKind, writingKind, readingBlockKind, writingBlockKind, noBricks}
+use Rattle.coord_record.specs.declared.Op.{Op}
 use Rattle.coord_apply.specs.Acts.{firstOp, starting}
-use Rattle.coord_apply.specs.Answers.{Buffered, Went, Step, refused, went, afterChecks, answerOf, nothingSeen, beganSeen, okSeen, readSeen, abortedSeen, cutSeen}
+use Rattle.coord_apply.specs.Answers.{Buffered, Went, Step, refused, went, afterChecks, answerOf, nothingSeen, beganSeen}
 use Rattle.coord_apply.specs.declared.Notice.{Notice}
-use Rattle.coord_refusals.specs.Checks.{stripeChecks, writeChecks, readChecks, startChecks, writeRefusal, readRefusal, crashRefusal}
+use Rattle.coord_refusals.specs.Checks.{stripeChecks, writeChecks, readChecks, blockChecks, writeBlockChecks, readBlockChecks, startChecks}
+use Rattle.coord_refusals.specs.Checks.{writeRefusal, readRefusal, writeBlockRefusal, readBlockRefusal, crashRefusal}
 use Rattle.coord_refusals.proofs.Laws.RefusedLaws.{record-passes}
 use Rattle.coord_record.proofs.Laws.SoundPartLaws.{sound-parts}
-use Rattle.coordinator.specs.Routines.{drawnThen, takeStep, crashed, crashStep, writeStep, readStep}
+use Rattle.coordinator.specs.Routines.{drawnThen, takeStep, crashed, crashStep, writeStep, readStep, writeBlockStep, readBlockStep}
 use Rattle.coord_laws.proofs.Laws.SoundnessLaws.{passes, same-went, drawn-went}
-use Rattle.coord_laws.proofs.Laws.StripeLaws.{KeepsStripe, take-keeps-stripe, crash-keeps-stripe, write-starts, read-starts}
+use Rattle.coord_laws.proofs.Laws.StripeLaws.{KeepsStripe, StartsOn, take-keeps-stripe, crash-keeps-stripe, write-starts, read-starts, write-block-starts}
+use Rattle.coord_laws.proofs.Laws.StripeLaws.{read-block-starts}
 use Rattle.coord_laws.proofs.Laws.StepRunLaws.{took}
 use Rattle.volume.specs.Rows.{imageAt, rowOutcome}
 use Rattle.volume.proofs.Laws.RowTheoremLaws.{other-stripes-stay}
-use Rattle.order.specs.Claim.{Ending, Seen, _∈_, aborted, cut, finished, ok, bytes}
+use Rattle.order.specs.Claim.{Seen, _∈_}
 use Rattle.settings.specs.declared.Draw.the-variants.{Drawn}
 use Rattle.order.specs.Valid.{Began}
 use Rattle.order.proofs.Laws.SeenLaws.{seen-began-in}
-use Rattle.register.specs.Runs.{plain, Item, message, reply, World, Event, startWrite, startRead, arrives, crashes, goesDown, comesUp, Left, Moved, unmoved, freshSet}
-use Rattle.register.specs.Runs.{putAt, onStripe, begunKind, seenOf, coordinated, received, arriving, arrivingAt, standing, leaving, leftBy, step, nextMoved, runFrom, run}
-use Rattle.register.specs.Volumes.{messageOn, changesImage, StripesApart, NothingSeenPastTheStripes, OneClock, writeBelowBusy, readBelowBusy, OneOperationAtATime}
+use Rattle.register.specs.Runs.{plain, Item, message, reply, World, Event, startWrite, startRead, startWriteBlock, startReadBlock, arrives}
+use Rattle.register.specs.Runs.{crashes, goesDown, comesUp, Left, Moved, unmoved, freshSet}
+use Rattle.register.specs.Runs.{putAt, onStripe, seenOf, coordinated, received, arriving, arrivingAt, standing, leaving, leftBy, step, nextMoved, runFrom, run}
+use Rattle.register.specs.Volumes.{messageOn, changesImage, StripesApart, NothingSeenPastTheStripes, OneClock, writeBelowBusy, readBelowBusy}
+use Rattle.register.specs.Volumes.{writeBlockBelowBusy, readBlockBelowBusy, OneOperationAtATime}
 use Rattle.register.specs.RefusedEvents.{eventNumber}
+use Rattle.register.proofs.Laws.BeganLaws.{shown-told, crash-begins-none}
 use Rattle.register.proofs.Laws.BrickEvent.{either}
 use Rattle.register.proofs.Laws.Invariant.{Hist, view, Inv}
 use Rattle.register.proofs.Laws.StartEvent.{new-time}
@@ -65,18 +70,18 @@ module _ (s : Settings) (w : World) (k b : ℕ) where
   same-arriving : (i : Item) (is : List Item) → messageOn (i ∷ is) zero k ≡ false → Same (arriving s w i)
   unfolding arriving messageOn
   same-arriving (reply r block) is e = same-coordinated (coordinatorOf (r .time)) _
-  same-arriving (message d msg block) is e = either Same (w .up d) _ _ moved same-unmoved
+  same-arriving (message d msg block old) is e = either Same (w .up d) _ _ moved same-unmoved
     where
       out : List ℕ
       out = replicate (s .size) 0
 
-      moved : Same (received s w d (rowOutcome s d (w .images d) msg block out))
+      moved : Same (received s w d (rowOutcome s d (w .images d) msg block old out))
       moved = unfold Same received putAt in go (eqb b d) refl
         where
           go : (a : Bool) → eqb b d ≡ a
-              → imageAt s k (cond a (rowOutcome s d (w .images d) msg block out .image) (w .images b)) ≡ imageAt s k (w .images b)
+              → imageAt s k (cond a (rowOutcome s d (w .images d) msg block old out .image) (w .images b)) ≡ imageAt s k (w .images b)
           go true q =
-              other-stripes-stay s d (w .images d) msg block out k (λ z. eqb-false (msg .stripe) k e (sym z))
+              other-stripes-stay s d (w .images d) msg block old out k (λ z. eqb-false (msg .stripe) k e (sym z))
               ∙ ap (λ (j : ℕ). imageAt s k (w .images j)) (sym (eqb-true b d q))
           go false q = refl
 
@@ -84,7 +89,7 @@ module _ (s : Settings) (w : World) (k b : ℕ) where
   unfolding arrivingAt messageOn
   same-at [] p e = same-unmoved
   same-at (i ∷ l) zero e = same-arriving i l (unfold messageOn in e)
-  same-at (message d msg block ∷ l) (suc p) e = same-at l p e
+  same-at (message d msg block old ∷ l) (suc p) e = same-at l p e
   same-at (reply r block ∷ l) (suc p) e = same-at l p e
 
   same-standing : (d : ℕ) (how : Bool) → Same (standing s w d how)
@@ -95,6 +100,8 @@ module _ (s : Settings) (w : World) (k b : ℕ) where
   unfolding step changesImage
   same-step (startWrite c number reading content) e = either Same (areBytes content) _ _ (same-coordinated c _) same-unmoved
   same-step (startRead c number reading first) e = same-coordinated c _
+  same-step (startWriteBlock c number reading block content) e = either Same (areBytes content) _ _ (same-coordinated c _) same-unmoved
+  same-step (startReadBlock c number reading block) e = same-coordinated c _
   same-step (arrives p) e = same-at (w .sent) p e
   same-step (crashes c left) e = same-coordinated c _
   same-step (goesDown d) e = same-standing d false
@@ -103,41 +110,7 @@ module _ (s : Settings) (w : World) (k b : ℕ) where
 pub stripes-apart : StripesApart
 stripes-apart s w e k b h = unfold Same in same-step s w k b e h
 
--- ONE CLOCK. What begins is told as such, with its time.
--- an end is no beginning
-no-end : (s : Settings) (t u : ℕ) (x : plain s .Kind) (r : Ending (plain s)) (a : Bool) (rest : List (Seen (plain s))) → (Seen.began t x ∈ rest → ⊥)
-    → Seen.began t x ∈ cond a (Seen.ended u r ∷ []) rest → ⊥
-no-end s t u x r true rest f m =
-    let z : _≡_ {A = Seen (plain s)} (Seen.began t x) (Seen.ended u r) = List·Memᴰ·eq-of-singleton m in let y : _≡_ {A = ℕ} 0 1 = cc in omega arith
-no-end s t u x r false rest f m = f m
-
-began-first : (s : Settings) (what t u : ℕ) (x y : plain s .Kind) (a : Bool) (rest : List (Seen (plain s))) → eqb what beganSeen ≡ a → (Seen.began t x ∈ rest → ⊥)
-    → Seen.began t x ∈ cond a (Seen.began u y ∷ []) rest → (what ≡ beganSeen) × (u ≡ t)
-began-first s what t u x y true rest q f m =
-    let z : _≡_ {A = Seen (plain s)} (Seen.began t x) (Seen.began u y) = List·Memᴰ·eq-of-singleton m in
-    let e : u ≡ t = cc in
-    (eqb-true what beganSeen q, e)
-began-first s what t u x y false rest q f m = absurd (f m)
-
-began-told : (s : Settings) (e : Notice) (h : Buffered) (t : ℕ) (x : plain s .Kind) → Seen.began t x ∈ seenOf s e h → (e .what ≡ beganSeen) × (e .time ≡ t)
-unfolding seenOf
-began-told s e h t x m =
-    began-first s (e .what) t (e .time) x (begunKind s h) (eqb (e .what) beganSeen) _ refl
-    (no-end s t (e .time) x (finished ok) (eqb (e .what) okSeen) _
-    (no-end s t (e .time) x (finished (bytes (h .stripe))) (eqb (e .what) readSeen) _
-    (no-end s t (e .time) x aborted (eqb (e .what) abortedSeen) _ (no-end s t (e .time) x cut (eqb (e .what) cutSeen) [] (λ n. List·Memᴰ·not-nil n)))))
-    m
-
--- the same of what a step shows on some stripe
-shown-told : (s : Settings) (g : Went) (j t : ℕ) (x : plain s .Kind) → Seen.began t x ∈ onStripe (g .seen .stripe) (seenOf s (g .seen) (g .next)) j
-    → (g .seen .what ≡ beganSeen) × (g .seen .time ≡ t)
-unfolding onStripe
-shown-told s g j t x = go (eqb j (g .seen .stripe))
-  where
-    go : (a : Bool) → Seen.began t x ∈ cond a (seenOf s (g .seen) (g .next)) [] → (g .seen .what ≡ beganSeen) × (g .seen .time ≡ t)
-    go true m = began-told s (g .seen) (g .next) t x m
-    go false m = absurd (List·Memᴰ·not-nil m)
-
+-- ONE CLOCK.
 module _ (s : Settings) (g : SettingsRange s) (k : ℕ) (h : Hist s) (r : Moved s) (i : Inv s g k h r) (j t : ℕ) (x : plain s .Kind) (used : Began h t) where
   -- no operation of this time begins at an event
   New : Moved s → Type 0
@@ -163,42 +136,46 @@ module _ (s : Settings) (g : SettingsRange s) (k : ℕ) (h : Hist s) (r : Moved 
         new-time s g h (view k r .sent) c (r .world .coordinators c) (i .valid) (own-clock s g k h r i c) (i .items) reading u next d
         (subst (Began h) (sym e) used)
 
+    -- an operation that starts now has such a time
+    new-start : (number reading : ℕ) (op : ℕ → Op) (stripe targets : List ℕ) → ((u : ℕ) → op u .time ≡ u)
+        → New
+        (coordinated s (r .world) c
+        (afterChecks number
+        (drawnThen (drawOf (r .world .coordinators c .state .clock) reading)
+        (λ time clock. starting (r .world .coordinators c) clock (op time) stripe targets))))
+    unfolding raw starting
+    new-start number reading op stripe targets same = new-step c _ (λ w e _ q.
+        let f : ℕ → Clock → Went = λ time clock. starting raw clock (op time) stripe targets in
+        let p = passes number (drawnThen (drawOf (raw .state .clock) reading) f) w e in
+        let d = drawn-went (drawOf (raw .state .clock) reading) f w (p .1) in
+        not-drawn reading (d .0) (d .1) (d .2) (sym (same (d .0)) ∙ ap (λ (z : Went). z .seen .time) (d .3) ∙ q))
+
     new-write : (number reading : ℕ) (content : List ℕ)
         → New (coordinated s (r .world) c (writeStep (s .n) (s .m) (s .size) (s .stripes) (r .world .coordinators c) number reading content))
-    unfolding writeStep raw starting firstOp
-    new-write number reading content = new-step c _ (λ w e _ q.
-        let f : ℕ → Clock → Went = λ time clock. starting raw clock (firstOp writingKind orderKind number time 0) content noBricks in
-        let p = passes (writeRefusal (s .n) (s .m) (s .size) (s .stripes) (raw .state) number reading (length content) (length (raw .stripe)))
-        (drawnThen (drawOf (raw .state .clock) reading) f) w e in
-        let d = drawn-went (drawOf (raw .state .clock) reading) f w (p .1) in
-        not-drawn reading (d .0) (d .1) (d .2) (ap (λ (z : Went). z .seen .time) (d .3) ∙ q))
+    unfolding writeStep firstOp
+    new-write number reading content = new-start _ reading (λ time. firstOp writingKind orderKind number time 0) content noBricks (λ u. refl)
 
     new-read : (number reading first : ℕ)
         → New (coordinated s (r .world) c (readStep (s .n) (s .m) (s .size) (s .stripes) (r .world .coordinators c) number reading first))
-    unfolding readStep raw starting firstOp
-    new-read number reading first = new-step c _ (λ w e _ q.
-        let f : ℕ → Clock → Went = λ time clock. starting raw clock (firstOp readingKind readKind number time first) (raw .stripe) (targetFlags (s .n) (s .m) first) in
-        let p = passes (readRefusal (s .n) (s .m) (s .size) (s .stripes) (raw .state) number reading first) (drawnThen (drawOf (raw .state .clock) reading) f) w e in
-        let d = drawn-went (drawOf (raw .state .clock) reading) f w (p .1) in
-        not-drawn reading (d .0) (d .1) (d .2) (ap (λ (z : Went). z .seen .time) (d .3) ∙ q))
+    unfolding readStep firstOp
+    new-read number reading first = new-start _ reading (λ time. firstOp readingKind readKind number time first) _ _ (λ u. refl)
+
+    new-write-block : (number reading block : ℕ) (content : List ℕ)
+        → New (coordinated s (r .world) c (writeBlockStep (s .n) (s .m) (s .size) (s .stripes) (r .world .coordinators c) number reading block content))
+    unfolding writeBlockStep firstOp
+    new-write-block number reading block content = new-start _ reading (λ time. firstOp writingBlockKind orderBlockKind number time block) _ _ (λ u. refl)
+
+    new-read-block : (number reading block : ℕ)
+        → New (coordinated s (r .world) c (readBlockStep (s .n) (s .m) (s .size) (s .stripes) (r .world .coordinators c) number reading block))
+    unfolding readBlockStep firstOp
+    new-read-block number reading block = new-start _ reading (λ time. firstOp readingBlockKind readKind number time block) _ _ (λ u. refl)
 
     new-crash : (left : Left) → New (coordinated s (r .world) c (leftBy s left (crashStep (s .n) (s .m) (s .size) (s .stripes) (r .world .coordinators c))))
-    new-crash left = go (crashStep (s .n) (s .m) (s .size) (s .stripes) (r .world .coordinators c)) refl
-      where
-        go : (p : Step) → crashStep (s .n) (s .m) (s .size) (s .stripes) (r .world .coordinators c) ≡ p → New (coordinated s (r .world) c (leftBy s left p))
-        go (refused number) e = unfold leftBy in new-step c (refused number) (λ w q. absurd (no-went number w q))
-          where
-            no-went : (number : ℕ) (w : Went) → refused number ≡ went w → ⊥
-            no-went number w q = let y : _≡_ {A = ℕ} 0 1 = cc in omega arith
-        go (went w) e =
-            let keeps = crash-keeps-stripe (s .n) (s .m) (s .size) (s .stripes) (r .world .coordinators c) w e in
-            unfold leftBy in
-            new-step c (went (record { next = leaving s left (w .next); sent = w .sent; seen = w .seen }))
-            (λ w′ q b _. keeps .no-start (ap (λ (z : Went). z .seen .what) (same-went (record { next = leaving s left (w .next); sent = w .sent; seen = w .seen }) w′ q) ∙ b))
+    new-crash left = new-step c _ (λ w e q _. crash-begins-none s (r .world .coordinators c) left w e q)
 
   new-reply : (i : Item) → New (arriving s (r .world) i)
   unfolding arriving
-  new-reply (message b msg block) = either New (r .world .up b) _ _ (unfold New received in λ m. List·Memᴰ·not-nil m) new-unmoved
+  new-reply (message b msg block old) = either New (r .world .up b) _ _ (unfold New received in λ m. List·Memᴰ·not-nil m) new-unmoved
   new-reply (reply a block) = new-step (coordinatorOf (a .time)) _ (λ w e q _. take-keeps-stripe _ _ _ _ _ _ _ _ w e .no-start q)
 
   new-at : (l : List Item) (p : ℕ) → New (arrivingAt s (r .world) l p)
@@ -215,6 +192,8 @@ module _ (s : Settings) (g : SettingsRange s) (k : ℕ) (h : Hist s) (r : Moved 
   unfolding step
   new-event (startWrite c number reading content) = either New (areBytes content) _ _ (new-write c number reading content) new-unmoved
   new-event (startRead c number reading first) = new-read c number reading first
+  new-event (startWriteBlock c number reading block content) = either New (areBytes content) _ _ (new-write-block c number reading block content) new-unmoved
+  new-event (startReadBlock c number reading block) = new-read-block c number reading block
   new-event (arrives p) = new-at (r .world .sent) p
   new-event (crashes c left) = new-crash c left
   new-event (goesDown b) = new-standing b false
@@ -272,7 +251,7 @@ module _ (s : Settings) (w : World) (k : ℕ) (high : s .stripes ≤ k) where
 
   none-arriving : (i : Item) → None (arriving s w i)
   unfolding arriving
-  none-arriving (message b msg block) = either None (w .up b) _ _ (unfold None received in refl) none-unmoved
+  none-arriving (message b msg block old) = either None (w .up b) _ _ (unfold None received in refl) none-unmoved
   none-arriving (reply r block) = none-step (coordinatorOf (r .time)) _ (λ g e. shows g e)
     where
       c : Buffered
@@ -293,20 +272,22 @@ module _ (s : Settings) (w : World) (k : ℕ) (high : s .stripes ≤ k) where
   unfolding standing
   none-standing b how = either None (ltb b (s .n)) _ _ (unfold None in refl) none-unmoved
 
+  -- a start shows its stripe
+  none-start : (c number : ℕ) (p : Step) → ((g : Went) → p ≡ went g → StartsOn (s .stripes) number (w .coordinators c) g) → None (coordinated s w c p)
+  none-start c number p f = none-step c p (λ g e. let on = f g e in inl (omega (arith, on .shows, on .stripe-low)))
+
   none-event : (e : Event) → None (step s w e)
   unfolding step
-  none-event (startWrite c number reading content) = either None (areBytes content) _ _ (none-step c _ (λ g e. inl (low g e))) none-unmoved
-    where
-      low : (g : Went) → writeStep (s .n) (s .m) (s .size) (s .stripes) (w .coordinators c) number reading content ≡ went g → g .seen .stripe < s .stripes
-      low g e =
-          let on = write-starts (s .n) (s .m) (s .size) (s .stripes) (w .coordinators c) number reading content g e in
-          omega (arith, on .shows, on .stripe-low)
-  none-event (startRead c number reading first) = none-step c _ (λ g e. inl (low g e))
-    where
-      low : (g : Went) → readStep (s .n) (s .m) (s .size) (s .stripes) (w .coordinators c) number reading first ≡ went g → g .seen .stripe < s .stripes
-      low g e =
-          let on = read-starts (s .n) (s .m) (s .size) (s .stripes) (w .coordinators c) number reading first g e in
-          omega (arith, on .shows, on .stripe-low)
+  none-event (startWrite c number reading content) =
+      either None (areBytes content) _ _
+      (none-start c number _ (write-starts (s .n) (s .m) (s .size) (s .stripes) (w .coordinators c) number reading content)) none-unmoved
+  none-event (startRead c number reading first) =
+      none-start c number _ (read-starts (s .n) (s .m) (s .size) (s .stripes) (w .coordinators c) number reading first)
+  none-event (startWriteBlock c number reading block content) =
+      either None (areBytes content) _ _
+      (none-start c number _ (write-block-starts (s .n) (s .m) (s .size) (s .stripes) (w .coordinators c) number reading block content)) none-unmoved
+  none-event (startReadBlock c number reading block) =
+      none-start c number _ (read-block-starts (s .n) (s .m) (s .size) (s .stripes) (w .coordinators c) number reading block)
   none-event (arrives p) = none-at (w .sent) p
   none-event (crashes c left) = none-crash c left
   none-event (goesDown b) = none-standing b false
@@ -360,9 +341,24 @@ module _ (s : Settings) (w : World) (c stripe reading : ℕ) (n : w .coordinator
   unfolding readRefusal readChecks stripeChecks startChecks state
   read-busy first e = last-check (readChecks (s .n) (s .m) (s .size) (s .stripes) state stripe first []) _ _ e ∙ is-busy
 
+  write-block-busy : (block : ℕ) (content : List ℕ) → writeBlockBelowBusy s w c stripe reading block content ≡ passed
+      → writeBlockRefusal (s .n) (s .m) (s .size) (s .stripes) (w .coordinators c .state) stripe reading block (length content)
+      (length (w .coordinators c .stripe))
+      ≡ busy
+  unfolding writeBlockRefusal writeBlockChecks blockChecks startChecks state
+  write-block-busy block content e =
+      last-check (writeBlockChecks (s .n) (s .m) (s .size) (s .stripes) state stripe block (length content) (length (w .coordinators c .stripe)) []) _ _ e ∙ is-busy
+
+  read-block-busy : (block : ℕ) → readBlockBelowBusy s w c stripe reading block ≡ passed
+      → readBlockRefusal (s .n) (s .m) (s .size) (s .stripes) (w .coordinators c .state) stripe reading block ≡ busy
+  unfolding readBlockRefusal readBlockChecks blockChecks startChecks state
+  read-block-busy block e = last-check (readBlockChecks (s .n) (s .m) (s .size) (s .stripes) state stripe block []) _ _ e ∙ is-busy
+
 pub one-operation-at-a-time : OneOperationAtATime
-unfolding eventNumber writeStep readStep afterChecks answerOf
+unfolding eventNumber writeStep readStep writeBlockStep readBlockStep afterChecks answerOf
 one-operation-at-a-time s w c stripe reading n = (
   λ content b e. rw (b, write-busy s w c stripe reading n content e) refl,
   λ first e. rw (read-busy s w c stripe reading n first e) refl,
+  λ block content b e. rw (b, write-block-busy s w c stripe reading n block content e) refl,
+  λ block e. rw (read-block-busy s w c stripe reading n block e) refl,
 )

@@ -9,7 +9,7 @@ use borrow.Author.Tests.{eq-eqb, ne-eqb, eqb-true, le-leb, lt-leb}
 use Rattle.byte_lists.proofs.Laws.BoolLaws.{and-left, and-right}
 use Rattle.test_brick.specs.BrickBoundary.{pairLength, messageLength, replyLength, ownRefusal, freshWith, PairGiven, pairUnless, shownBuffer, panelPair, panelAt}
 use Rattle.test_brick.specs.BrickBoundary.{entryBuffer, entryPair, entryPairAt, askedKindAt, askedTimeAt, askedRoundAt, askedMaxAt, askedStripeAt}
-use Rattle.test_brick.specs.BrickBoundary.{askedTargetsAt, lastByte, asByte, asBytes, messageOf}
+use Rattle.test_brick.specs.BrickBoundary.{askedOldAt, askedBlockAt, askedTargetsAt, lastByte, asByte, asBytes, messageOf}
 use Rattle.test_brick.specs.BrickBoundary.{silence, answerCode, replyNumbers, givenBuffer, receiptWith, receipt, numbersRight, receiptAt}
 use Rattle.brick.specs.Receive.{Outcome, givenNumber, outcomeWith}
 use Rattle.image.specs.Parse.{parse}
@@ -134,7 +134,16 @@ byte-large k h = rw (lt-leb k lastByte h) refl
 -- a message read off its numbers
 pub message-is : (asked : List ℕ) (kind : ℕ) (targets : List ℕ) → kind ≡ asByte (getD asked askedKindAt 0) → targets ≡ asBytes askedTargetsAt maxBricks asked
     → _≡_ {A = Message}
-    (record { kind = kind; stripe = getD asked askedStripeAt 0; time = getD asked askedTimeAt 0; round = getD asked askedRoundAt 0; max = getD asked askedMaxAt 0; targets = targets })
+    (record {
+      kind = kind;
+      stripe = getD asked askedStripeAt 0;
+      time = getD asked askedTimeAt 0;
+      round = getD asked askedRoundAt 0;
+      max = getD asked askedMaxAt 0;
+      old = getD asked askedOldAt 0;
+      block = getD asked askedBlockAt 0;
+      targets = targets;
+    })
     (messageOf asked)
 unfolding messageOf
 message-is asked kind targets e f = rw (e, f) refl

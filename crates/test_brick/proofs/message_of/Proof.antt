@@ -27,9 +27,16 @@ shared-slice-read-t14 c = search needs
 shared-slice-read-t16 : tie.Need-shared-slice-read-t16
 shared-slice-read-t16 c = search needs
 
+shared-slice-read-t18 : tie.Need-shared-slice-read-t18
+shared-slice-read-t18 c = search needs
+
+shared-slice-read-t20 : tie.Need-shared-slice-read-t20
+shared-slice-read-t20 c = search needs
+
 returns : tie.Need-returns
 returns c =
-    message-is _ _ _ (c .before .before .before .before .before .before .before .as-byte .ensures) (c .before .before .before .before .before .as-bytes .ensures)
+    let read = c .before .before .before .before .before .before .before in
+    message-is _ _ _ (read .before .before .as-byte .ensures) (read .as-bytes .ensures)
 
 pub message-of-spec : {M : Type 1} → statement M
 message-of-spec =
@@ -43,4 +50,6 @@ message-of-spec =
     shared-slice-read-t12
     shared-slice-read-t14
     shared-slice-read-t16
+    shared-slice-read-t18
+    shared-slice-read-t20
     returns)

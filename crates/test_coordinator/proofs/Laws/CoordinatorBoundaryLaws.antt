@@ -161,9 +161,10 @@ bytes-are (x0 ∷ x1 ∷ l) x y a b c d o1 o2 o3 o4 h la lb lc p1 p2 p3 p4 =
     third = p3 ∙ put-behind (x ∷ y ∷ (a ++ b)) l2 c o2 34 long-2 (second ∙ ap (λ (r : List ℕ). x ∷ y ∷ r) (sym (append-assoc a b l2)))
 
 -- the numbers of an answer
-pub eleven : (l : List ℕ) (a b c d e f g i j k m : ℕ) → length l ≡ answerNumbersLength
-    → set (set (set (set (set (set (set (set (set (set (set l 0 a) 1 b) 2 c) 3 d) 4 e) 5 f) 6 g) 7 i) 8 j) 9 k) 10 m ≡ a ∷ b ∷ c ∷ d ∷ e ∷ f ∷ g ∷ i ∷ j ∷ k ∷ m ∷ []
-eleven l a b c d e f g i j k m h = stores (a ∷ b ∷ c ∷ d ∷ e ∷ f ∷ g ∷ i ∷ j ∷ k ∷ m ∷ []) l h
+pub answer-stored : (l : List ℕ) (a b c d e f g i j k m n o p q r : ℕ) → length l ≡ answerNumbersLength
+    → set (set (set (set (set (set (set (set (set (set (set (set (set (set (set (set l 0 a) 1 b) 2 c) 3 d) 4 e) 5 f) 6 g) 7 i) 8 j) 9 k) 10 m) 11 n) 12 o) 13 p) 14 q) 15 r
+    ≡ a ∷ b ∷ c ∷ d ∷ e ∷ f ∷ g ∷ i ∷ j ∷ k ∷ m ∷ n ∷ o ∷ p ∷ q ∷ r ∷ []
+answer-stored l a b c d e f g i j k m n o p q r h = stores (a ∷ b ∷ c ∷ d ∷ e ∷ f ∷ g ∷ i ∷ j ∷ k ∷ m ∷ n ∷ o ∷ p ∷ q ∷ r ∷ []) l h
 
 -- the ways through the test of the four buffers
 pub lent-no-numbers : (a b c d : ℕ) → (a ≡ recordNumbersLength → ⊥) → false ≡ lentLengths a b c d

@@ -2,7 +2,7 @@ use native.Mathlib.Omega.{arith}
 use lib.ListN.{length-set}
 use mathlib.Core.Path.{refl}
 use Rattle.test_coordinator.specs.CoordinatorBoundary.{answerNumbers}
-use Rattle.test_coordinator.proofs.Laws.CoordinatorBoundaryLaws.{eleven}
+use Rattle.test_coordinator.proofs.Laws.CoordinatorBoundaryLaws.{answer-stored}
 use borrow.Author.Needs.{needs}
 use Rattle.test_coordinator.proofs.put_sent.Statement.{statement}
 use Rattle.test_coordinator.proofs.put_sent.Tie as tie
@@ -40,12 +40,27 @@ slice-write-out-10 c = simp length-set (omega arith)
 slice-write-out-11 : tie.Need-slice-write-out-11
 slice-write-out-11 c = simp length-set (omega arith)
 
+slice-write-out-12 : tie.Need-slice-write-out-12
+slice-write-out-12 c = simp length-set (omega arith)
+
+slice-write-out-13 : tie.Need-slice-write-out-13
+slice-write-out-13 c = simp length-set (omega arith)
+
+slice-write-out-14 : tie.Need-slice-write-out-14
+slice-write-out-14 c = simp length-set (omega arith)
+
+slice-write-out-15 : tie.Need-slice-write-out-15
+slice-write-out-15 c = simp length-set (omega arith)
+
+slice-write-out-16 : tie.Need-slice-write-out-16
+slice-write-out-16 c = simp length-set (omega arith)
+
 same-length : tie.Need-same-length
 same-length c = simp length-set refl
 
 returns : tie.Need-returns
 unfolding answerNumbers
-returns c = eleven (c .before .before .before .args .out .now) _ _ _ _ _ _ _ _ _ _ _ (c .before .before .before .pre)
+returns c = answer-stored (c .before .before .before .args .out .now) _ _ _ _ _ _ _ _ _ _ _ _ _ _ _ _ (c .before .before .before .pre)
 
 pub put-sent-spec : {M : Type 1} → statement M
 put-sent-spec =
@@ -62,5 +77,10 @@ put-sent-spec =
     slice-write-out-9
     slice-write-out-10
     slice-write-out-11
+    slice-write-out-12
+    slice-write-out-13
+    slice-write-out-14
+    slice-write-out-15
+    slice-write-out-16
     same-length
     returns)

@@ -4,9 +4,12 @@ use Prim.Native.Nat.{ℕ, _*_, _/_, _≤_, _<_}
 use native.Mathlib.Nat.{mod-lt, mod-eq-of-lt, div-eq-of-lt, div-add-mod', div-lt-iff-lt-mul, mul-add-div-right, mul-add-mod-self-right, mul-comm, suc-mul}
 use native.Mathlib.Nat.{mul-le-mul-right}
 use native.Mathlib.Omega.{arith}
+use borrow.Author.Tests.{lt-ltb, ltb-true}
+use Rattle.settings.specs.Ranges.{stripeRefusal, dataBlockRefusal}
+use Rattle.settings.proofs.Laws.RefusalLaws.{tested}
 use Rattle.image.proofs.Laws.ParseLaws.{range-of}
-use Rattle.volume.specs.ClientPlaces.{stripeOf, dataBlockOf, clientBlock, clientBlocks}
-use Rattle.volume.specs.PlaceTheorem.{ClientBlockHasItsPlace, PlaceHasItsClientBlock}
+use Rattle.volume.specs.ClientPlaces.{stripeOf, dataBlockOf, clientBlock, clientBlocks, clientRefusal}
+use Rattle.volume.specs.PlaceTheorem.{ClientBlockHasItsPlace, PlaceHasItsClientBlock, ClientBlockIsAccepted}
 
 -- below S × m, divided by S it is below m
 pub block-low : (stripes m v : ℕ) → 1 ≤ stripes → v < stripes * m → v / stripes < m
@@ -29,3 +32,9 @@ place-has-its-client-block s e stripe block h k =
       mul-add-mod-self-right block (s .stripes) stripe ∙ mod-eq-of-lt h,
       mul-add-div-right p block stripe ∙ (let z = div-eq-of-lt h in omega (arith, z)),
     )
+
+pub client-block-is-accepted : ClientBlockIsAccepted
+unfolding clientRefusal stripeRefusal dataBlockRefusal
+client-block-is-accepted s e v h =
+    let p = client-block-has-its-place s e v (ltb-true v (clientBlocks s) (tested _ _ h)) in
+    (rw (lt-ltb (stripeOf s v) (s .stripes) (p .0)), rw (lt-ltb (dataBlockOf s v) (s .m) (p .1)))

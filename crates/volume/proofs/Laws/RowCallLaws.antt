@@ -21,46 +21,46 @@ use Rattle.image.specs.Brick.{freshBrick}
 use Rattle.image.specs.Image.{imageOf, imageSize}
 use Rattle.image.specs.Opening.{lendingRefusal}
 use Rattle.image_write.specs.Saving.{freshAfter}
-use Rattle.brick.specs.Receive.{Outcome, outcomeWith, refusedWith, frontRefusal, outcome}
+use Rattle.brick.specs.Receive.{Beside, beside, Outcome, outcomeWith, refusedWith, frontRefusal, outcome}
 use Rattle.brick.proofs.Laws.OutcomeLaws.{Fronted}
 use Rattle.brick.specs.declared.Given.{Given}
 use Rattle.brick.specs.declared.Given.the-variants.{Refused}
 use Rattle.volume.specs.Rows.{rowSize, imageAt, withImage, freshRow, rowLendingRefusal, freshRowAfter, inRow, rowRefusal, rowOutcome}
 
-module _ (s : Settings) (brick : ℕ) (row : List ℕ) (msg : Message) (block out : List ℕ) where
+module _ (s : Settings) (brick : ℕ) (row : List ℕ) (msg : Message) (block old out : List ℕ) where
   -- a refusal changes nothing
-  rows-refused : (k : ℕ) → rowRefusal s brick row msg (length block) (length out) ≡ k → (k ≡ 0 → ⊥)
-      → outcomeWith (Refused k) row out ≡ rowOutcome s brick row msg block out
+  rows-refused : (k : ℕ) → rowRefusal s brick row msg (beside block old out) ≡ k → (k ≡ 0 → ⊥)
+      → outcomeWith (Refused k) row out ≡ rowOutcome s brick row msg block old out
   unfolding rowOutcome refusedWith
   rows-refused k e z = sym (rw (e, ne-eqb k 0 z) refl)
 
-  pub rows-setting : (k : ℕ) → k ≡ settingsRefusal s → (k ≡ 0 → ⊥) → outcomeWith (Refused k) row out ≡ rowOutcome s brick row msg block out
+  pub rows-setting : (k : ℕ) → k ≡ settingsRefusal s → (k ≡ 0 → ⊥) → outcomeWith (Refused k) row out ≡ rowOutcome s brick row msg block old out
   unfolding rowRefusal frontRefusal
   rows-setting k e z = rows-refused k (sym (first-stop (settingsRefusal s) _ (λ q. z (e ∙ q))) ∙ sym e) z
 
-  pub rows-front : (k : ℕ) → k ≡ frontRefusal s (s .stripes) brick (length row) (msg .stripe) (length block) (length out) → (k ≡ 0 → ⊥)
-      → outcomeWith (Refused k) row out ≡ rowOutcome s brick row msg block out
+  pub rows-front : (k : ℕ) → k ≡ frontRefusal s (s .stripes) brick (length row) msg (beside block old out) → (k ≡ 0 → ⊥)
+      → outcomeWith (Refused k) row out ≡ rowOutcome s brick row msg block old out
   unfolding rowRefusal
   rows-front k e z = rows-refused k (sym e) z
 
   -- what the image of the stripe makes of it, in its place
-  pub rows-acted : (k : ℕ) → k ≡ frontRefusal s (s .stripes) brick (length row) (msg .stripe) (length block) (length out) → k ≡ 0
+  pub rows-acted : (k : ℕ) → k ≡ frontRefusal s (s .stripes) brick (length row) msg (beside block old out) → k ≡ 0
       → (room : ℕ) → room ≡ blockBytes * (s .capacity + 1)
       → (g : Given) (image′ out′ : List ℕ)
       → length image′ ≡ length (take (msg .stripe * room + room - msg .stripe * room) (drop (msg .stripe * room) row))
       → length (take (msg .stripe * room + room - msg .stripe * room) (drop (msg .stripe * room) row)) ≡ room
-      → outcomeWith g image′ out′ ≡ outcome s brick (take (msg .stripe * room + room - msg .stripe * room) (drop (msg .stripe * room) row)) msg block out
+      → outcomeWith g image′ out′ ≡ outcome s brick (take (msg .stripe * room + room - msg .stripe * room) (drop (msg .stripe * room) row)) msg block old out
       → outcomeWith g (putMid (msg .stripe * room) (msg .stripe * room + room - msg .stripe * room) row image′) out′
-      ≡ rowOutcome s brick row msg block out
+      ≡ rowOutcome s brick row msg block old out
   unfolding rowOutcome rowRefusal inRow withImage imageAt imageSize
   rows-acted k e z room er g image′ out′ el long o =
       let at : ℕ = msg .stripe * room in
       let cut : at + room - at ≡ room = omega arith in
-      let q : frontRefusal s (s .stripes) brick (length row) (msg .stripe) (length block) (length out) ≡ 0 = sym e ∙ z in
-      let same : outcome s brick (take (at + room - at) (drop at row)) msg block out
-      ≡ outcome s brick (take (blockBytes * (s .capacity + 1)) (drop (msg .stripe * (blockBytes * (s .capacity + 1))) row)) msg block out =
-      ap (λ (j : ℕ). outcome s brick (take j (drop at row)) msg block out) cut
-      ∙ ap (λ (j : ℕ). outcome s brick (take j (drop (msg .stripe * j) row)) msg block out) er in
+      let q : frontRefusal s (s .stripes) brick (length row) msg (beside block old out) ≡ 0 = sym e ∙ z in
+      let same : outcome s brick (take (at + room - at) (drop at row)) msg block old out
+      ≡ outcome s brick (take (blockBytes * (s .capacity + 1)) (drop (msg .stripe * (blockBytes * (s .capacity + 1))) row)) msg block old out =
+      ap (λ (j : ℕ). outcome s brick (take j (drop at row)) msg block old out) cut
+      ∙ ap (λ (j : ℕ). outcome s brick (take j (drop (msg .stripe * j) row)) msg block old out) er in
       let p = o ∙ same in
       ap (λ (r : List ℕ). outcomeWith g r out′) (put-mid at (at + room) row image′ (omega arith) (el ∙ long ∙ sym cut))
       ∙ ap (λ (j : ℕ). outcomeWith g (put (msg .stripe * j) image′ row) out′) er
@@ -68,14 +68,14 @@ module _ (s : Settings) (brick : ℕ) (row : List ℕ) (msg : Message) (block ou
       ∙ sym (rw q refl)
 
 -- the image of the stripe stands within the row
-pub image-room : (s : Settings) (brick lent stripe block out room : ℕ) → Fronted s (s .stripes) brick lent stripe block out
-    → room ≡ blockBytes * (s .capacity + 1) → stripe * room + room ≤ lent
+pub image-room : (s : Settings) (brick lent : ℕ) (msg : Message) (b : Beside) (room : ℕ) → Fronted s (s .stripes) brick lent msg b
+    → room ≡ blockBytes * (s .capacity + 1) → msg .stripe * room + room ≤ lent
 unfolding imageSize
-image-room s brick lent stripe block out room f e =
+image-room s brick lent msg b room f e =
     let a = mul-le-mul-right room (f .stripe-low) in
-    let b = suc-mul stripe room in
-    let c = f .lent-is ∙ ap (λ (j : ℕ). s .stripes * j) (sym e) in
-    omega (arith, a, b, c)
+    let c = suc-mul (msg .stripe) room in
+    let d = f .lent-is ∙ ap (λ (j : ℕ). s .stripes * j) (sym e) in
+    omega (arith, a, c, d)
 
 -- the ways of a row for a fresh brick
 module _ (s : Settings) (brick len k : ℕ) (e : k ≡ settingsRefusal s) where

@@ -9,6 +9,9 @@ named-count-requires c κs = search needs
 bricks-right-requires : tie.Need-bricks-right-requires
 bricks-right-requires c κs = search needs
 
+target-count-requires : tie.Need-target-count-requires
+target-count-requires c κs = search needs
+
 tally-right-requires : tie.Need-tally-right-requires
 tally-right-requires c κs = search needs
 
@@ -33,6 +36,7 @@ filled-right-spec =
     (tie.spec
     named-count-requires
     bricks-right-requires
+    target-count-requires
     tally-right-requires
     members-of-requires
     quorum-of-requires

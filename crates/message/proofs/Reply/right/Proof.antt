@@ -1,4 +1,4 @@
-use Rattle.message.proofs.Laws.MessageLaws.{reply-low, reply-high, reply-time, reply-round, reply-found, found-zero, found-time}
+use Rattle.message.proofs.Laws.MessageLaws.{reply-low, reply-high, reply-time, reply-round, reply-found}
 use borrow.Author.Needs.{needs}
 use Rattle.message.proofs.Reply.right.Statement.{statement}
 use Rattle.message.proofs.Reply.right.Tie as tie
@@ -15,20 +15,17 @@ is-time-requires c κs = search needs
 round-right-requires : tie.Need-round-right-requires
 round-right-requires c κs = search needs
 
-is-time-requires-2 : tie.Need-is-time-requires-2
-is-time-requires-2 c κs = search needs
+found-right-requires : tie.Need-found-right-requires
+found-right-requires c κs = search needs
 
 returns-3 : tie.Need-returns-3
-returns-3 c = search (needs, reply-found, found-zero)
+returns-3 c = search (needs, reply-found)
 
 returns-4 : tie.Need-returns-4
-returns-4 c = search (needs, reply-found, found-time)
+returns-4 c = search (needs, reply-round)
 
 returns-5 : tie.Need-returns-5
-returns-5 c = search (needs, reply-round)
-
-returns-6 : tie.Need-returns-6
-returns-6 c = search (needs, reply-time)
+returns-5 c = search (needs, reply-time)
 
 pub right-spec : {M : Type 1} → statement M
 right-spec =
@@ -38,8 +35,7 @@ right-spec =
     returns-2
     is-time-requires
     round-right-requires
-    is-time-requires-2
+    found-right-requires
     returns-3
     returns-4
-    returns-5
-    returns-6)
+    returns-5)

@@ -1,0 +1,312 @@
+//! Operations on one block in the order of their stripe: schedules played by hand, histories, and random runs of the independent bricks and
+//! coordinators.
+
+use jilbagum_tests::brick::{Message, MODIFY, ORDER_READ, TRIM, WRITE};
+use jilbagum_tests::harness::{
+    broken_block_runs, some_run, Break, Faults, Independent, Proved, Routines, Sent, Start, World, OFTEN_OF_BLOCKS,
+};
+use jilbagum_tests::order::{brute_order, by_stripe, has_order, is_order, End, Operation};
+use jilbagum_tests::settings::{Settings, Shape};
+use jilbagum_tests::tally::Tally;
+
+/// Everything under way arrives, in the order of sending; a message that doesn't reach its brick is lost.
+fn settle<R: Routines>(world: &mut World<R>, reaches: impl Fn(usize, &Message) -> bool) {
+    settle_late(world, None, reaches);
+}
+
+/// The same, but what goes to one brick or comes from it waits until nothing else is under way.
+fn settle_late<R: Routines>(world: &mut World<R>, late: Option<usize>, reaches: impl Fn(usize, &Message) -> bool) {
+    while !world.fresh.is_empty() {
+        let brick = |which: &usize| match &world.sent[*which] {
+            Sent::To(brick, _) => *brick,
+            Sent::Back(reply) => reply.brick as usize,
+        };
+        let first = world.fresh.iter().position(|which| Some(brick(which)) != late).unwrap_or(0);
+        let which = world.fresh.remove(first);
+        let lost = matches!(&world.sent[which], Sent::To(brick, message) if !reaches(*brick, message));
+        if !lost {
+            world.arrive(which);
+        }
+    }
+}
+
+/// How the operations ended, in the order of their starts.
+fn ends<R: Routines>(world: &World<R>) -> Vec<&End> {
+    world.operations.iter().map(|o| &o.ended.as_ref().expect("it ended").1).collect()
+}
+
+/// Of messages of one kind, how many rounds were sent.
+fn rounds<R: Routines>(world: &World<R>, kind: u8) -> usize {
+    world.sent.iter().filter(|sent| matches!(sent, Sent::To(0, message) if message.kind == kind)).count()
+}
+
+/// Seven bricks, five of the data: the quorum is six. A stripe is written, then its block 2; that Modify reaches bricks 0 to 5, its Trims
+/// are lost, brick 5 goes down, and a read of the stripe has to recover. Of the bricks that answer, 0 to 4 hold the finished block
+/// write, all but brick 2 as a mark.
+fn five_of_seven<R: Routines>(broken: Break) -> World<R> {
+    let faults = Faults { broken, ..Faults::none() };
+    let mut world = World::<R>::new(Settings::new(7, 5, 1, 4, 1), vec![0], faults);
+    world.start(0, 0, 1, Start::Write(vec![1, 2, 3, 4, 5]));
+    settle(&mut world, |_, _| true);
+    world.start(0, 0, 2, Start::WriteBlock(2, vec![9]));
+    settle(&mut world, |brick, message| message.kind != TRIM && (message.kind != MODIFY || brick < 6));
+    world.switch(5, false);
+    world.start(1, 0, 3, Start::Read(0));
+    settle(&mut world, |_, _| true);
+    world
+}
+
+/// The right lookup gives a mark at its own time: the finished block write stays.
+fn stays<R: Routines>() {
+    let world = five_of_seven::<R>(Break::Nothing);
+    assert_eq!(ends(&world), [&End::Wrote, &End::Wrote, &End::Gave(vec![1, 2, 9, 4, 5])]);
+    // One recovery round found time 32 on five bricks.
+    assert_eq!((rounds(&world, ORDER_READ), rounds(&world, WRITE)), (1, 2));
+    assert_eq!(world.fault(), None);
+    assert_eq!(brute_order(&world.operations, world.settings.shape), Some(vec![0, 1, 2]));
+}
+
+/// Document 001's lookup counts entries with blocks: brick 2 alone has one of time 32, so the recovery goes on to time 16, stores that
+/// stripe again, and the finished block write is undone.
+fn is_undone<R: Routines>() {
+    let world = five_of_seven::<R>(Break::BlocksOnly);
+    assert_eq!(ends(&world), [&End::Wrote, &End::Wrote, &End::Gave(vec![1, 2, 3, 4, 5])]);
+    assert_eq!((rounds(&world, ORDER_READ), rounds(&world, WRITE)), (2, 2));
+    assert_eq!(world.fault(), Some("no order"));
+    assert_eq!(brute_order(&world.operations, world.settings.shape), None);
+}
+
+#[test]
+fn a_finished_block_write_stays_on_five_of_seven() {
+    stays::<Independent>();
+}
+
+#[test]
+fn a_lookup_of_blocks_only_undoes_it() {
+    is_undone::<Independent>();
+}
+
+#[test]
+fn the_same_with_the_proved_routines() {
+    stays::<Proved>();
+    is_undone::<Proved>();
+    client_blocks::<Proved>();
+}
+
+/// Every client block of a volume of four stripes, written by its number, in some order; then read by its number, and by its stripe.
+fn client_blocks<R: Routines>() {
+    let settings = Settings::new(5, 3, 2, 4, 4);
+    let mut world = World::<R>::new(settings, vec![0, 1, 2, 3], Faults::none());
+    let place = |client: u64| R::place(settings, client).expect("a client block of the volume");
+    let bytes = |client: u64| vec![client as u8 + 1, 100 - client as u8];
+    assert_eq!([12, 13, u64::MAX].map(|client| R::place(settings, client)), [Err(13); 3]);
+    for k in 0..12 {
+        let client = 7 * k % 12;
+        let (stripe, block) = place(client);
+        assert_eq!((stripe, block), (client % 4, client / 4));
+        world.start((k % 16) as usize, stripe, k, Start::WriteBlock(block, bytes(client)));
+        settle(&mut world, |_, _| true);
+    }
+    for client in 0..12 {
+        let (stripe, block) = place(client);
+        world.start(0, stripe, 20, Start::ReadBlock(block));
+        settle(&mut world, |_, _| true);
+        assert_eq!(world.operations.last().and_then(Operation::gave), Some(&bytes(client)[..]));
+    }
+    for stripe in 0..4 {
+        world.start(0, stripe, 20, Start::Read(4));
+        settle(&mut world, |_, _| true);
+        let whole = [stripe, stripe + 4, stripe + 8].map(bytes).concat();
+        assert_eq!(world.operations.last().and_then(Operation::gave), Some(&whole[..]));
+    }
+    assert_eq!(rounds(&world, MODIFY), 12);
+    assert_eq!(world.fault(), None);
+}
+
+#[test]
+fn client_blocks_by_their_numbers() {
+    client_blocks::<Independent>();
+}
+
+/// Brick 0 missed the stripe's write and gets the Modify of block 1 over it. It says no, so a later read recovers; a brick that takes a
+/// Modify whatever its newest time would hold a mark that means its older block.
+#[test]
+fn a_modify_is_taken_over_its_old_time_alone() {
+    for (broken, gave) in [(Break::Nothing, [1, 7, 3]), (Break::AnyOldTime, [0, 7, 3])] {
+        let faults = Faults { broken, ..Faults::none() };
+        let mut world = World::<Independent>::new(Settings::new(5, 3, 1, 4, 1), vec![0], faults);
+        world.start(0, 0, 1, Start::Write(vec![1, 2, 3]));
+        settle(&mut world, |brick, message| brick > 0 || message.kind != WRITE);
+        world.start(0, 0, 1, Start::WriteBlock(1, vec![7]));
+        settle_late(&mut world, Some(0), |_, message| message.kind != TRIM);
+        world.start(1, 0, 9, Start::Read(0));
+        settle(&mut world, |_, _| true);
+        assert_eq!(ends(&world), [&End::Wrote, &End::Wrote, &End::Gave(gave.to_vec())]);
+        assert_eq!(rounds(&world, MODIFY), 1);
+        assert_eq!(world.fault(), (broken == Break::AnyOldTime).then_some("no order"));
+    }
+}
+
+/// Three block writes whose Trims are lost: marks on marks. A read of one round, a block read of one round, then recoveries of both give
+/// what the marks mean.
+#[test]
+fn marks_on_marks() {
+    let mut world = World::<Independent>::new(Settings::new(5, 3, 1, 6, 1), vec![0], Faults::none());
+    world.start(0, 0, 1, Start::Write(vec![1, 2, 3]));
+    settle(&mut world, |_, _| true);
+    for (block, byte) in [(0, 7), (1, 8), (0, 9)] {
+        world.start(0, 0, 1, Start::WriteBlock(block, vec![byte]));
+        settle(&mut world, |_, message| message.kind != TRIM);
+    }
+    // Brick 2 has three marks, brick 0 one between its blocks, a parity brick none.
+    let bytes = |world: &World<Independent>, brick: usize| -> Vec<Option<u8>> {
+        world.state(brick, 0).log.iter().map(|entry| entry.block.as_ref().map(|block| block[0])).collect()
+    };
+    assert_eq!(bytes(&world, 0), [Some(1), Some(7), None, Some(9)]);
+    assert_eq!(bytes(&world, 1), [Some(2), None, Some(8), None]);
+    assert_eq!(bytes(&world, 2), [Some(3), None, None, None]);
+    assert!(bytes(&world, 3).iter().chain(&bytes(&world, 4)).all(Option::is_some));
+    world.start(1, 0, 9, Start::Read(0));
+    world.start(2, 0, 9, Start::ReadBlock(2));
+    settle(&mut world, |_, _| true);
+    // A write that is ordered and cut makes the next reads recover.
+    world.start(3, 0, 9, Start::Write(vec![0; 3]));
+    settle(&mut world, |brick, message| message.kind != WRITE || brick > 4);
+    world.cut(3);
+    world.start(1, 0, 20, Start::ReadBlock(1));
+    settle(&mut world, |_, _| true);
+    world.start(4, 0, 20, Start::Write(vec![0; 3]));
+    settle(&mut world, |_, message| message.kind != WRITE);
+    world.cut(4);
+    world.start(1, 0, 30, Start::Read(2));
+    settle(&mut world, |_, _| true);
+    let gave: Vec<&[u8]> = world.operations.iter().filter_map(Operation::gave).collect();
+    assert_eq!(gave, [&[9, 8, 3][..], &[3], &[8], &[9, 8, 3]]);
+    assert_eq!(world.fault(), None);
+    // After the Trim of the last store one entry is left.
+    assert_eq!([0, 1, 2].map(|b| bytes(&world, b)), [[Some(9)], [Some(8)], [Some(3)]].map(Vec::from));
+}
+
+/// A Modify that reached fewer than q bricks and was cut: brick 1 and the parity bricks hold its block. The next write, of another block,
+/// recovers: where those three answer it puts its own block beside that one, else it finds the stripe before.
+#[test]
+fn a_block_write_over_a_cut_one_recovers() {
+    for (missing, stripe) in [(0, [1, 7, 8]), (4, [1, 2, 8])] {
+        let mut world = World::<Independent>::new(Settings::new(5, 3, 1, 6, 1), vec![0], Faults::none());
+        world.start(0, 0, 1, Start::Write(vec![1, 2, 3]));
+        settle(&mut world, |_, _| true);
+        world.start(0, 0, 1, Start::WriteBlock(1, vec![7]));
+        settle(&mut world, |brick, message| message.kind != MODIFY || [1, 3, 4].contains(&brick));
+        world.cut(0);
+        world.start(1, 0, 9, Start::WriteBlock(2, vec![8]));
+        settle(&mut world, |brick, _| brick != missing);
+        world.start(1, 0, 9, Start::Read(0));
+        settle(&mut world, |_, _| true);
+        assert_eq!(ends(&world), [&End::Wrote, &End::Cut, &End::Wrote, &End::Gave(stripe.to_vec())]);
+        assert_eq!((rounds(&world, MODIFY), world.noted[2].modified), (1, false));
+        assert_eq!(world.fault(), None);
+    }
+}
+
+/// Two writes of different blocks at once: the one whose promise is overtaken is told no, and aborts although its Modify went out.
+#[test]
+fn an_overtaken_block_write_aborts() {
+    let mut world = World::<Independent>::new(Settings::new(5, 3, 1, 6, 1), vec![0], Faults::none());
+    world.start(0, 0, 1, Start::WriteBlock(0, vec![7]));
+    // Its first round and the replies; the Modify is sent.
+    (0..10).for_each(|_| {
+        let which = world.fresh.remove(0);
+        world.arrive(which);
+    });
+    let waiting = std::mem::take(&mut world.fresh);
+    world.start(1, 0, 1, Start::WriteBlock(1, vec![8]));
+    settle(&mut world, |_, _| true);
+    world.fresh = waiting;
+    settle(&mut world, |_, _| true);
+    world.start(2, 0, 9, Start::Read(0));
+    settle(&mut world, |_, _| true);
+    assert_eq!(ends(&world), [&End::Aborted, &End::Wrote, &End::Gave(vec![0, 8, 0])]);
+    assert_eq!((rounds(&world, MODIFY), world.noted[0].modified), (2, true));
+    assert_eq!(world.fault(), None);
+}
+
+/// A history of a stripe of two bytes made by hand: what it is, its block, its bytes, and the events at which it began and ended.
+type Row = (&'static str, Option<usize>, &'static [u8], usize, usize);
+
+fn orders(rows: &[Row]) -> bool {
+    let operation = |&(what, block, bytes, began, ended): &Row| {
+        let write = what.starts_with("write").then(|| bytes.to_vec());
+        let end = match what {
+            "write" => Some(End::Wrote),
+            "write cut" => Some(End::Cut),
+            "read" => Some(End::Gave(bytes.to_vec())),
+            _ => None,
+        };
+        Operation { stripe: 0, block, write, began, ended: end.map(|end| (ended, end)) }
+    };
+    let operations: Vec<Operation> = rows.iter().map(operation).collect();
+    let shape = Shape::new(2, 2, 1);
+    let found = brute_order(&operations, shape);
+    assert_eq!(found.is_some(), has_order(&operations, shape));
+    assert!(found.as_ref().is_none_or(|list| is_order(&operations, list, shape)));
+    found.is_some()
+}
+
+#[test]
+fn histories_of_blocks() {
+    let (zero, one) = (Some(0), Some(1));
+    let write: Row = ("write", None, &[1, 2], 1, 2);
+    // A write of block 1 sets that block alone, and a read of it gives it.
+    assert!(orders(&[write, ("write", one, &[7], 3, 4), ("read", None, &[1, 7], 5, 6), ("read", one, &[7], 7, 8)]));
+    assert!(!orders(&[write, ("write", one, &[7], 3, 4), ("read", None, &[1, 2], 5, 6)]));
+    assert!(!orders(&[write, ("write", one, &[7], 3, 4), ("read", None, &[7, 2], 5, 6)]));
+    assert!(!orders(&[write, ("write", one, &[7], 3, 4), ("read", None, &[0, 7], 5, 6)]));
+    assert!(!orders(&[write, ("write", one, &[7], 3, 4), ("read", zero, &[7], 5, 6)]));
+    assert!(orders(&[("write", one, &[7], 1, 2), ("read", zero, &[0], 3, 4), ("read", one, &[7], 5, 6)]));
+    // Later writes of the stripe take its place, of another block they don't.
+    assert!(orders(&[("write", one, &[7], 1, 2), ("write", None, &[1, 2], 3, 4), ("read", one, &[2], 5, 6)]));
+    assert!(!orders(&[("write", one, &[7], 1, 2), ("write", None, &[1, 2], 3, 4), ("read", one, &[7], 5, 6)]));
+    assert!(orders(&[("write", one, &[7], 1, 2), ("write", zero, &[8], 3, 4), ("read", None, &[8, 7], 5, 6)]));
+    // A cut block write is there for good or away for good, also where reads of the stripe and of the block look in turn.
+    assert!(orders(&[write, ("write cut", one, &[7], 3, 4), ("read", one, &[7], 5, 6), ("read", None, &[1, 7], 7, 8)]));
+    assert!(orders(&[write, ("write cut", one, &[7], 3, 4), ("read", one, &[2], 5, 6), ("read", None, &[1, 2], 7, 8)]));
+    assert!(!orders(&[write, ("write cut", one, &[7], 3, 4), ("read", one, &[2], 5, 6), ("read", None, &[1, 7], 7, 8)]));
+    assert!(!orders(&[write, ("write cut", one, &[7], 3, 4), ("read", one, &[7], 5, 6), ("read", None, &[1, 2], 7, 8)]));
+    // A cut write of the stripe of which one block was seen, the other being written over.
+    let cut: Row = ("write cut", None, &[3, 4], 3, 4);
+    assert!(orders(&[write, cut, ("write", one, &[7], 5, 6), ("read", None, &[3, 7], 7, 8)]));
+    assert!(orders(&[write, cut, ("write", one, &[7], 5, 6), ("read", zero, &[3], 7, 8)]));
+    assert!(!orders(&[write, cut, ("write", one, &[7], 5, 6), ("read", zero, &[1], 7, 8), ("read", None, &[3, 7], 9, 10)]));
+    assert!(!orders(&[write, cut, ("read", zero, &[3], 5, 6), ("read", one, &[2], 7, 8)]));
+    // Two block writes at once, seen in one order by all.
+    let both: [Row; 2] = [("write", zero, &[5], 1, 20), ("write", one, &[6], 1, 20)];
+    let seen = |first: &'static [u8], second: &'static [u8]| {
+        orders(&[both[0], both[1], ("read", None, first, 2, 3), ("read", None, second, 4, 5)])
+    };
+    assert!(seen(&[5, 0], &[5, 6]) && seen(&[0, 6], &[5, 6]) && seen(&[0, 0], &[0, 6]));
+    assert!(!seen(&[5, 0], &[0, 6]) && !seen(&[0, 6], &[5, 0]) && !seen(&[5, 6], &[5, 0]));
+}
+
+#[test]
+fn small_runs_by_brute_force() {
+    let mut tally = Tally::default();
+    for seed in 600_000..604_000 {
+        let world = some_run::<Independent>(seed, 5, 2, |faults, _| faults.blocks = 1 + seed % 2);
+        let shape = world.settings.shape;
+        for operations in by_stripe(&world.operations) {
+            let Some(order) = brute_order(&operations, shape) else { panic!("{}", world.story(seed)) };
+            assert!(is_order(&operations, &order, shape));
+        }
+        assert_eq!(world.fault(), None, "{}", world.story(seed));
+        world.note(&mut tally);
+    }
+    println!("{:?}", tally.0);
+    tally.expect(30, &OFTEN_OF_BLOCKS);
+}
+
+#[test]
+fn broken_block_writes_are_noticed() {
+    let [lookup, old, parity] = broken_block_runs::<Independent>(1000);
+    println!("without an order: lookups of blocks only {lookup}, any old time {old}, parity left {parity}");
+    assert!(lookup > 50 && old > 2 && parity > 50);
+}
