@@ -22,8 +22,8 @@ pub fn encode_refusal(
     None
 }
 
-/// Why `decode` refuses, lowest number first.
-pub fn decode_refusal(
+/// Why `decode` refuses by settings, lengths and list, lowest number first.
+pub fn list_refusal(
     n: u64,
     m: u64,
     size: u64,
@@ -35,13 +35,13 @@ pub fn decode_refusal(
     if shape.refusal().is_some() {
         return Some(1);
     }
-    if blocks_len != shape.data_len() || data_len != shape.data_len() {
+    if blocks_len != bricks.len() * size as usize || data_len != shape.data_len() {
         return Some(2);
     }
     if bricks.iter().any(|&b| u64::from(b) >= n) {
         return Some(3);
     }
-    if bricks.len() as u64 != m || !all_differ(bricks) {
+    if (bricks.len() as u64) < m || !all_differ(bricks) {
         return Some(4);
     }
     None
@@ -54,17 +54,31 @@ pub fn encode(n: u64, m: u64, size: u64, data: &[u8]) -> Result<Vec<u8>, Refusal
         return Err(number);
     }
     let points: Vec<u8> = (0..m as u8).collect();
-    let coefficients = interpolate(&points, &rows(shape, data));
+    let coefficients = interpolate(&points, &rows(size, data));
     Ok(evaluate(&coefficients, n as u8))
 }
 
-/// The m data blocks of m coded blocks, block i being that of brick `bricks[i]`.
-pub fn decode(n: u64, m: u64, size: u64, bricks: &[u8], blocks: &[u8]) -> Result<Vec<u8>, Refusal> {
-    if let Some(number) = decode_refusal(n, m, size, bricks, blocks.len(), blocks.len()) {
+/// The m data blocks of m or more coded blocks, block i being that of brick
+/// `bricks[i]`, into an output of `data_len` bytes. Refused last: 15, the blocks
+/// disagree. Through all of them goes one polynomial of a degree below their
+/// number; they agree if its degree is below m.
+pub fn decode(
+    n: u64,
+    m: u64,
+    size: u64,
+    bricks: &[u8],
+    blocks: &[u8],
+    data_len: usize,
+) -> Result<Vec<u8>, Refusal> {
+    if let Some(number) = list_refusal(n, m, size, bricks, blocks.len(), data_len) {
         return Err(number);
     }
-    let coefficients = interpolate(bricks, &rows(Shape::new(n, m, size), blocks));
-    Ok(evaluate(&coefficients, m as u8))
+    let coefficients = interpolate(bricks, &rows(size, blocks));
+    let (low, high) = coefficients.split_at(m as usize);
+    if high.iter().flatten().any(|&coefficient| coefficient != 0) {
+        return Err(15);
+    }
+    Ok(evaluate(low, m as u8))
 }
 
 /// What data block j weighs in the coded block of a brick: the coded value there
@@ -75,11 +89,9 @@ pub fn weight(n: u64, m: u64, brick: u64, j: u64) -> u8 {
     encode(n, m, 1, &data).expect("settings in range")[brick as usize]
 }
 
-/// The blocks of a buffer of m blocks, one row each.
-fn rows(shape: Shape, blocks: &[u8]) -> Vec<Vec<u8>> {
-    (0..shape.m as usize)
-        .map(|i| shape.block(blocks, i).to_vec())
-        .collect()
+/// The blocks of a buffer of blocks, one row each.
+fn rows(size: u64, blocks: &[u8]) -> Vec<Vec<u8>> {
+    blocks.chunks(size as usize).map(<[u8]>::to_vec).collect()
 }
 
 /// The coefficients of the polynomials that take the values `rows[i]` at

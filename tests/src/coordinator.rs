@@ -564,7 +564,7 @@ fn decide_read(shape: Shape, running: &mut Running, all_yes: bool) -> Decision {
         Some(blocks) if all_yes && same => {
             let data = match running.kind {
                 Kind::ReadBlock => blocks.concat(),
-                _ => decode(shape, &targets, &blocks.concat()),
+                _ => decode(shape, &targets, &blocks.concat()).expect("m blocks agree"),
             };
             let bricks = targets;
             Decision::End(Outcome::Gave { data, bricks }, Vec::new())
@@ -600,7 +600,9 @@ fn decide_recovery(shape: Shape, running: &mut Running) -> Decision {
         .cloned()
         .collect();
     if chosen.len() as u64 >= shape.m {
-        let (bricks, mut data) = recover(shape, &chosen);
+        let Some((bricks, mut data)) = recover(shape, &chosen) else {
+            return abort();
+        };
         // A write of a block names no bricks.
         if running.kind == Kind::WriteBlock {
             shape.put_block(&mut data, running.first as usize, &running.data);
@@ -616,17 +618,18 @@ fn decide_recovery(shape: Shape, running: &mut Running) -> Decision {
     next_or_abort(running.open_round(shape, ORDER_READ, highest))
 }
 
-/// The first m bricks by number, and the stripe that their blocks decode to.
-fn recover(shape: Shape, chosen: &[Reply]) -> (Vec<u8>, Vec<u8>) {
+/// The first m bricks by number, and the stripe that all blocks of the chosen
+/// time decode to; none if they disagree.
+fn recover(shape: Shape, chosen: &[Reply]) -> Option<(Vec<u8>, Vec<u8>)> {
     let mut bricks: Vec<u8> = chosen.iter().map(|reply| reply.brick as u8).collect();
     bricks.sort_unstable();
-    bricks.truncate(shape.m as usize);
     let blocks: Vec<&[u8]> = bricks
         .iter()
         .filter_map(|&brick| block_of(chosen, brick))
         .collect();
-    let data = decode(shape, &bricks, &blocks.concat());
-    (bricks, data)
+    let data = decode(shape, &bricks, &blocks.concat())?;
+    bricks.truncate(shape.m as usize);
+    Some((bricks, data))
 }
 
 /// The block in the reply of a brick.
@@ -638,7 +641,12 @@ fn block_of(replies: &[Reply], brick: u8) -> Option<&[u8]> {
         .as_deref()
 }
 
-fn decode(shape: Shape, bricks: &[u8], blocks: &[u8]) -> Vec<u8> {
-    code::decode(shape.n, shape.m, shape.size, bricks, blocks)
-        .expect("m blocks of different bricks")
+/// The stripe of m or more blocks of different bricks; none if they disagree.
+fn decode(shape: Shape, bricks: &[u8], blocks: &[u8]) -> Option<Vec<u8>> {
+    let Shape { n, m, size } = shape;
+    match code::decode(n, m, size, bricks, blocks, shape.data_len()) {
+        Ok(data) => Some(data),
+        Err(15) => None,
+        Err(number) => panic!("m or more blocks of different bricks, refused {number}"),
+    }
 }

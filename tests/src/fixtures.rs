@@ -2,6 +2,7 @@
 
 use crate::brick::{Message, Reply, ORDER_READ, READ};
 use crate::coordinator::{take_reply, Record, Step};
+use crate::rng::Rng;
 use crate::settings::Volume;
 
 /// Read, round 1.
@@ -50,4 +51,22 @@ pub fn reply(kind: u8, round: u64, brick: u64, yes: bool, found: u64, block: Opt
 /// A reply that coordinator 1 counts.
 pub fn take(record: &mut Record, reply: Reply) -> Step {
     take_reply(volume(), 1, record, &reply).unwrap()
+}
+
+/// Whether these replies of a recovery's round hold m or more blocks of the highest time among them.
+pub fn enough_blocks(m: u64, replies: &[Reply]) -> bool {
+    let holding = || replies.iter().filter(|reply| reply.block.is_some());
+    let highest = holding().map(|reply| reply.found).max();
+    holding()
+        .filter(|reply| Some(reply.found) == highest)
+        .count() as u64
+        >= m
+}
+
+/// Changes one byte of the reply's block, if it holds one: a brick that gives another block of the same time.
+pub fn alter(reply: &mut Reply, rng: &mut Rng) {
+    if let Some(block) = &mut reply.block {
+        let place = rng.below(block.len() as u64) as usize;
+        block[place] ^= rng.between(1, 255) as u8;
+    }
 }

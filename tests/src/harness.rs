@@ -2,6 +2,7 @@
 
 use crate::brick::{self, Message, Reply, MODIFY, ORDER_BLOCK, ORDER_READ, READ, TRIM, WRITE};
 use crate::coordinator::{self, Ended, Kind, Outcome, Record, Step};
+use crate::fixtures::enough_blocks;
 use crate::order::{brute_order, by_stripe, has_order, End, Operation};
 use crate::proved::{self, answer, record};
 use crate::rng::Rng;
@@ -455,6 +456,10 @@ pub struct World<R: Routines> {
     marks: Tally,
     /// Crashes that took the bytes of the lent buffers.
     overwritten: usize,
+    /// The replies that each coordinator counted in its open round.
+    counted: Vec<Vec<Reply>>,
+    /// Recoveries that were aborted though all said yes and m or more gave a block of the highest time: these disagree.
+    pub disagreed: usize,
     pub faults: Faults,
 }
 
@@ -479,6 +484,8 @@ impl<R: Routines> World<R> {
             used: (0..settings.shape.m as usize).map(|j| (j, vec![0; settings.shape.size as usize])).collect(),
             marks: Tally::default(),
             overwritten: 0,
+            counted: vec![Vec::new(); 16],
+            disagreed: 0,
             faults,
         }
     }
@@ -558,6 +565,7 @@ impl<R: Routines> World<R> {
                 let time = R::running(coordinator).expect("an operation runs");
                 self.operations.push(Operation { stripe, block: what.block(), write: what.bytes(), began: self.event, ended: None });
                 self.noted.push(Noted { coordinator: c, time, round: 1, stored: 0, modified: false });
+                self.counted[c].clear();
                 self.after(c, step);
             }
             Err(number) => assert_eq!((number, idle), (9, false)),
@@ -659,10 +667,26 @@ impl<R: Routines> World<R> {
                     reply.stripe = self.operations[k].stripe;
                 }
                 match R::reply(self.settings, &mut self.coordinators[c], &reply) {
-                    Ok(step) => self.after(c, step),
+                    Ok(step) => {
+                        self.note_counted(c, reply, &step);
+                        self.after(c, step);
+                    }
                     Err(refusal) => assert_eq!(refusal, 11),
                 }
             }
+        }
+    }
+
+    /// Notes a reply that was counted, and whether it ended a recovery whose blocks disagree.
+    fn note_counted(&mut self, c: usize, reply: Reply, step: &Step) {
+        let counted = &mut self.counted[c];
+        counted.push(reply);
+        if step.ended.as_ref().is_some_and(|ended| ended.outcome == Outcome::Abort) {
+            let all_yes = counted.iter().all(|reply| reply.kind == ORDER_READ && reply.yes);
+            self.disagreed += usize::from(all_yes && enough_blocks(self.settings.shape.m, counted));
+        }
+        if !step.sent.is_empty() || step.ended.is_some() {
+            counted.clear();
         }
     }
 
@@ -891,6 +915,8 @@ impl<R: Routines> World<R> {
             Some("two operations of one time")
         } else if by_stripe(&self.operations).iter().any(|operations| !has_order(operations, self.settings.shape)) {
             Some("no order")
+        } else if self.disagreed > 0 {
+            Some("blocks of one time that disagree")
         } else {
             None
         }
@@ -1041,9 +1067,10 @@ pub fn some_run<R: Routines>(seed: u64, most: usize, reads: usize, change: impl 
 }
 
 /// Runs of up to so many operations on a set that breaks a rule: how many have a stripe without an order, which both searches say
-/// alike; in how many an event changed another stripe's image; and in how many two operations have one time.
-pub fn broken_runs<R: Routines>(seeds: Range<u64>, most: usize, change: impl Fn(&mut Faults, &mut Settings)) -> [usize; 3] {
-    let mut counts = [0; 3];
+/// alike; in how many an event changed another stripe's image; in how many two operations have one time; and in how many a recovery met
+/// blocks that disagree.
+pub fn broken_runs<R: Routines>(seeds: Range<u64>, most: usize, change: impl Fn(&mut Faults, &mut Settings)) -> [usize; 4] {
+    let mut counts = [0; 4];
     for seed in seeds {
         let world = some_run::<R>(seed, most, 2, &change);
         let shape = world.settings.shape;
@@ -1055,24 +1082,24 @@ pub fn broken_runs<R: Routines>(seeds: Range<u64>, most: usize, change: impl Fn(
             }
             ordered &= order;
         }
-        for (count, noticed) in counts.iter_mut().zip([!ordered, world.strayed > 0, world.shares_a_time()]) {
+        for (count, noticed) in counts.iter_mut().zip([!ordered, world.strayed > 0, world.shares_a_time(), world.disagreed > 0]) {
             *count += usize::from(noticed);
         }
     }
     counts
 }
 
-/// Sets that break a rule of operations on one block, each in so many runs: how many of those have no order. With seven bricks, five of
-/// the data, a block written by Modify stands on fewer than m bricks as a block of its own; with ten, four of the data, three bricks may
-/// have missed what was stored before. Trims don't arrive.
-pub fn broken_block_runs<R: Routines>(runs: u64) -> [usize; 3] {
+/// Sets that break a rule of operations on one block, each in so many runs: how many of those have no order, and in how many blocks
+/// disagree. With seven bricks, five of the data, a block written by Modify stands on fewer than m bricks as a block of its own; with ten,
+/// four of the data, three bricks may have missed what was stored before. Trims don't arrive.
+pub fn broken_block_runs<R: Routines>(runs: u64) -> [[usize; 2]; 3] {
     [(Break::BlocksOnly, 7, 5), (Break::AnyOldTime, 10, 4), (Break::ParityStays, 7, 5)].map(|(broken, n, m)| {
         let change = |faults: &mut Faults, settings: &mut Settings| {
             (faults.broken, faults.blocks, faults.trims, faults.down, faults.lost, faults.short) = (broken, 2, 1, 0, 15, 0);
             settings.shape = Shape { n, m, ..settings.shape };
         };
-        let [without, strayed, shared] = broken_runs::<R>(370_000..370_000 + runs, 5, change);
+        let [without, strayed, shared, disagreed] = broken_runs::<R>(370_000..370_000 + runs, 5, change);
         assert_eq!((strayed, shared), (0, 0));
-        without
+        [without, disagreed]
     })
 }

@@ -396,11 +396,12 @@ impl Coordinator {
             self.end();
             return Act::Read(None);
         }
-        for i in 0..self.m {
+        let mut bricks = [0; 16];
+        for (i, brick) in bricks[..self.m].iter_mut().enumerate() {
             let b = self.first + i;
-            self.bricks[i] = if b < self.n { b } else { b - self.n } as u8;
+            *brick = if b < self.n { b } else { b - self.n } as u8;
         }
-        self.decode();
+        self.decode(&bricks[..self.m]);
         self.end();
         Act::Read(None)
     }
@@ -411,14 +412,14 @@ impl Coordinator {
         let mut bricks = [0; 16];
         let mut count = 0;
         for b in (0..self.n).filter(holds).filter(|&b| self.found[b] == highest) {
-            if count < self.m {
-                bricks[count] = b as u8;
-            }
+            bricks[count] = b as u8;
             count += 1;
         }
         if count >= self.m {
-            self.bricks = bricks;
-            self.recover();
+            if !self.recover(&bricks[..count]) {
+                self.end();
+                return Act::Aborted;
+            }
             return self.store();
         }
         if highest == 0 {
@@ -428,30 +429,46 @@ impl Coordinator {
         self.open(ORDER_READ, highest)
     }
 
-    /// The stripe that was found, with the block of a block write in its place; a block write names no bricks.
-    fn recover(&mut self) {
+    /// The stripe that was found on these bricks, with the block of a block write in its place; a block write names no bricks. Says whether
+    /// their blocks agree; if not, nothing is changed.
+    fn recover(&mut self, found: &[u8]) -> bool {
         let own = self.first * self.size..(self.first + 1) * self.size;
         let mut kept = [0; 256];
         if self.kind == WRITING_BLOCK {
             kept[..self.size].copy_from_slice(&self.stripe[own.clone()]);
         }
-        self.decode();
+        if !self.decode(found) {
+            return false;
+        }
         if self.kind == WRITING_BLOCK {
             self.stripe[own].copy_from_slice(&kept[..self.size]);
-            self.bricks = [0; 16];
+        } else {
+            self.bricks[..self.m].copy_from_slice(&found[..self.m]);
         }
+        true
     }
 
-    fn decode(&mut self) {
-        let (size, blocks, bricks) = (self.size, &self.blocks, &self.bricks[..self.m]);
-        let block = |k: usize| &blocks[usize::from(bricks[k]) * size..][..size];
-        self.tables.interpolate(bricks, size, block, &mut self.stripe);
+    /// Decodes the blocks of m or more bricks: from the first m, if the others are on the same polynomials.
+    fn decode(&mut self, bricks: &[u8]) -> bool {
+        let (size, blocks) = (self.size, &self.blocks);
+        let block_of = |b: u8| &blocks[usize::from(b) * size..][..size];
+        let (points, further) = bricks.split_at(self.m);
+        let through = self.tables.through(points);
+        let mut made = [0; 256];
+        for &b in further {
+            through.block_at(b, |k| block_of(points[k]), &mut made[..size]);
+            if made[..size] != *block_of(b) {
+                return false;
+            }
+        }
+        through.blocks(size, |k| block_of(points[k]), &mut self.stripe);
+        true
     }
 
     fn store(&mut self) -> Act {
         let (size, stripe) = (self.size, &self.stripe);
         let points = [0, 1, 2, 3, 4, 5, 6, 7, 8, 9, 10, 11, 12, 13, 14, 15];
-        self.tables.interpolate(&points[..self.m], size, |k| &stripe[k * size..][..size], &mut self.coded);
+        self.tables.through(&points[..self.m]).blocks(size, |k| &stripe[k * size..][..size], &mut self.coded);
         self.open(WRITE, 0)
     }
 }

@@ -40,25 +40,44 @@ impl Tables {
         others.map(|i| self.log(brick ^ i) + 255 - self.log(j ^ i)).sum::<usize>() % 255
     }
 
-    /// The blocks at points 0 to count - 1 from the blocks of m bricks, which `block` finds.
-    pub fn interpolate<'a>(&self, points: &[u8], size: usize, block: impl Fn(usize) -> &'a [u8], out: &mut [u8]) {
+    /// The polynomials through the blocks of m bricks.
+    pub fn through<'a>(&'a self, points: &'a [u8]) -> Through<'a> {
         let mut below = [0; 16];
         for (i, sum) in below.iter_mut().enumerate().take(points.len()) {
             let others = points.iter().enumerate().filter(|&(k, _)| k != i);
             *sum = others.map(|(_, &c)| 255 - self.log(points[i] ^ c)).sum::<usize>();
         }
+        Through { tables: self, points, below }
+    }
+}
+
+/// The points of m bricks, and the logarithm of the part of each one's weight that is the same for every other point.
+pub struct Through<'a> {
+    tables: &'a Tables,
+    points: &'a [u8],
+    below: [usize; 16],
+}
+
+impl Through<'_> {
+    /// The block at a point from the blocks of the m bricks, which `block` finds by their places.
+    pub fn block_at<'b>(&self, x: u8, block: impl Fn(usize) -> &'b [u8], out: &mut [u8]) {
+        let Through { tables, points, below } = self;
+        if let Some(k) = points.iter().position(|&b| b == x) {
+            out.copy_from_slice(block(k));
+            return;
+        }
+        let top: usize = points.iter().map(|&b| tables.log(x ^ b)).sum();
+        out.fill(0);
+        for (j, &b) in points.iter().enumerate() {
+            let s = (top - tables.log(x ^ b) + below[j]) % 255;
+            add_products(&tables.doublings(s), block(j), out);
+        }
+    }
+
+    /// The blocks at points 0 to count - 1.
+    pub fn blocks<'b>(&self, size: usize, block: impl Fn(usize) -> &'b [u8], out: &mut [u8]) {
         for (x, out) in out.chunks_exact_mut(size).enumerate() {
-            let x = x as u8;
-            if let Some(k) = points.iter().position(|&b| b == x) {
-                out.copy_from_slice(block(k));
-                continue;
-            }
-            let top: usize = points.iter().map(|&b| self.log(x ^ b)).sum();
-            out.fill(0);
-            for (j, &b) in points.iter().enumerate() {
-                let s = (top - self.log(x ^ b) + below[j]) % 255;
-                add_products(&self.doublings(s), block(j), out);
-            }
+            self.block_at(x as u8, &block, out);
         }
     }
 }

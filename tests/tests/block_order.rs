@@ -287,6 +287,53 @@ fn histories_of_blocks() {
     assert!(!seen(&[5, 0], &[0, 6]) && !seen(&[0, 6], &[5, 0]) && !seen(&[5, 6], &[5, 0]));
 }
 
+/// Four bricks, two of the data. A stripe and then its block 1 are written; a write that is ordered and cut makes the read after it
+/// recover, from three bricks.
+fn recovered_from_three<R: Routines>(broken: Break) -> World<R> {
+    let faults = Faults { broken, ..Faults::none() };
+    let mut world = World::<R>::new(Settings::new(4, 2, 1, 4, 1), vec![0], faults);
+    world.start(0, 0, 1, Start::Write(vec![5, 9]));
+    settle(&mut world, |_, _| true);
+    world.start(0, 0, 2, Start::WriteBlock(1, vec![7]));
+    settle(&mut world, |_, _| true);
+    world.start(1, 0, 3, Start::Write(vec![1, 1]));
+    settle(&mut world, |_, message| message.kind != WRITE);
+    world.cut(1);
+    world.start(2, 0, 4, Start::Read(0));
+    settle(&mut world, |_, _| true);
+    assert_eq!(ends(&world)[..3], [&End::Wrote, &End::Wrote, &End::Cut]);
+    world
+}
+
+/// Document 02, E3: on the right set a recovery's blocks agree. Where Modify left the parity as it was, three blocks of one time aren't on
+/// one line: the read is aborted and stores nothing.
+fn disagreement_aborts<R: Routines>() {
+    let right = recovered_from_three::<R>(Break::Nothing);
+    assert_eq!((ends(&right)[3], right.disagreed), (&End::Gave(vec![5, 7]), 0));
+    assert_eq!((right.fault(), rounds(&right, WRITE)), (None, 3));
+    let wrong = recovered_from_three::<R>(Break::ParityStays);
+    assert_eq!((ends(&wrong)[3], wrong.disagreed), (&End::Aborted, 1));
+    assert_eq!((wrong.fault(), rounds(&wrong, WRITE)), (Some("blocks of one time that disagree"), 2));
+    // In random runs as well.
+    let change = |faults: &mut Faults, settings: &mut Settings| {
+        (faults.broken, faults.blocks, faults.down, faults.short) = (Break::ParityStays, 2, 0, 2);
+        settings.shape = Shape { n: 7, m: 3, ..settings.shape };
+    };
+    let disagreed = (640_000..640_300).filter(|&seed| some_run::<R>(seed, 5, 2, change).disagreed > 0).count();
+    println!("{disagreed} runs in which blocks disagree");
+    assert!(disagreed > 20);
+}
+
+#[test]
+fn blocks_that_disagree_abort_a_recovery() {
+    disagreement_aborts::<Independent>();
+}
+
+#[test]
+fn blocks_that_disagree_abort_a_recovery_of_the_proved_routines() {
+    disagreement_aborts::<Proved>();
+}
+
 #[test]
 fn small_runs_by_brute_force() {
     let mut tally = Tally::default();
@@ -307,6 +354,7 @@ fn small_runs_by_brute_force() {
 #[test]
 fn broken_block_writes_are_noticed() {
     let [lookup, old, parity] = broken_block_runs::<Independent>(1000);
-    println!("without an order: lookups of blocks only {lookup}, any old time {old}, parity left {parity}");
-    assert!(lookup > 50 && old > 2 && parity > 50);
+    println!("without an order, with blocks that disagree: lookups of blocks only {lookup:?}, any old time {old:?}, parity left {parity:?}");
+    // A recovery finds most of the blocks that a Modify of any old time spoils, and aborts.
+    assert!(lookup[0] > 50 && old[0] + old[1] > 2 && parity[0] > 50 && parity[1] > 50);
 }

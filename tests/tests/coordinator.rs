@@ -287,6 +287,68 @@ fn recovery_aborts() {
     aborts(&mut record, replies);
 }
 
+/// Every block of the chosen time is looked at, in each order of the replies and
+/// for each of the blocks: one that is off the line through the others ends the
+/// read aborted, and nothing is sent.
+#[test]
+fn recovery_aborts_where_blocks_disagree() {
+    let coded = [5, 9, 29, 17];
+    for bricks in [[0, 1, 2], [3, 1, 2], [2, 0, 3], [1, 3, 0]] {
+        let found =
+            bricks.map(|brick| reply(ORDER_READ, 2, brick, true, 16, Some(coded[brick as usize])));
+        for place in 0..3 {
+            for bit in 0..8 {
+                let mut replies = found.to_vec();
+                replies[place].block = Some(vec![coded[bricks[place] as usize] ^ 1 << bit]);
+                let mut record = recovering();
+                aborts(&mut record, replies);
+                assert_eq!(record, Record { last: 1, ..fresh() });
+            }
+        }
+    }
+    // Time 0 too.
+    let at_0 = |byte| {
+        [(0, 0), (1, byte), (2, 0)].map(|(b, byte)| reply(ORDER_READ, 2, b, true, 0, Some(byte)))
+    };
+    aborts(&mut recovering(), at_0(1).to_vec());
+    let step = take_all(&mut recovering(), at_0(0).to_vec());
+    assert_eq!((step.sent[0].kind, step.ended), (WRITE, None));
+    // In a later round, and in the last one.
+    for mut record in [recovering_in(3), recovering_in(1000)] {
+        let round = record.running.as_ref().unwrap().round;
+        let replies = [(0, 5), (1, 9), (2, 28)]
+            .map(|(b, byte)| reply(ORDER_READ, round, b, true, 16, Some(byte)));
+        aborts(&mut record, replies.to_vec());
+    }
+}
+
+/// A block of a lower time isn't handed on, m blocks are on one line whatever
+/// they are, and a read of one round doesn't look at more than its targets.
+#[test]
+fn what_recovery_does_not_check() {
+    let mut record = recovering();
+    let replies = vec![
+        reply(ORDER_READ, 2, 0, true, 16, Some(5)),
+        reply(ORDER_READ, 2, 1, true, 0, Some(200)),
+        reply(ORDER_READ, 2, 2, true, 16, Some(29)),
+    ];
+    take_all(&mut record, replies.clone());
+    assert_eq!(record.running.as_ref().unwrap().data, [5, 9]);
+    let mut record = recovering();
+    let mut altered = replies;
+    altered[2].block = Some(vec![28]);
+    let step = take_all(&mut record, altered);
+    assert_eq!((step.sent[0].kind, step.sent[0].block[0]), (WRITE, 5));
+    assert_ne!(record.running.as_ref().unwrap().data, [5, 9]);
+    let mut record = reading();
+    let mut replies = fine();
+    replies[0].block = Some(vec![4]);
+    let Outcome::Gave { data, bricks } = outcome(&take_all(&mut record, replies)) else {
+        panic!("the read ends in one round")
+    };
+    assert_eq!((data[0], &bricks[..]), (4, &[3, 0][..]));
+}
+
 /// A read whose recovery stands in the given round.
 fn recovering_in(round: u64) -> Record {
     let mut record = recovering();

@@ -253,6 +253,35 @@ fn a_recovered_block_write_aborts_as_a_read_does() {
     aborts(last, Kind::WriteBlock, recovered(1000));
 }
 
+/// Three blocks of the chosen time, one of them off the line through the other
+/// two: the block write, and a block read, end aborted.
+#[test]
+fn a_recovery_aborts_where_blocks_disagree() {
+    for place in 0..3 {
+        for bit in 0..8 {
+            let mut replies = recovered(2);
+            replies[place].block.as_mut().unwrap()[0] ^= 1 << bit;
+            aborts(recovering(), Kind::WriteBlock, replies.clone());
+            let mut record = reading();
+            let other = [0, 2, 3].map(|b| reply(READ, 1, b, true, 40, None));
+            assert_eq!(
+                sent(take_all(&mut record, other)),
+                order_reads(NO_UPPER_END, 2)
+            );
+            aborts(record, Kind::ReadBlock, replies);
+        }
+    }
+}
+
+/// The block that is replaced is checked as the others are: brick 1 gives a
+/// block 1 that was altered, and the write doesn't hide it.
+#[test]
+fn the_replaced_block_is_checked() {
+    let replies =
+        [(1, 8), (0, 5), (2, 29)].map(|(b, byte)| reply(ORDER_READ, 2, b, true, 40, Some(byte)));
+    aborts(recovering(), Kind::WriteBlock, replies);
+}
+
 /// Replies with which a read of block 1 ends after one round.
 fn fine() -> [Reply; 3] {
     [

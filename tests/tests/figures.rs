@@ -29,7 +29,7 @@ fn products() {
 #[test]
 fn parity_of_5_and_9() {
     assert_eq!(encode(4, 2, 1, &[5, 9]), Ok(vec![5, 9, 29, 17]));
-    assert_eq!(decode(4, 2, 1, &[2, 3], &[29, 17]), Ok(vec![5, 9]));
+    assert_eq!(decode(4, 2, 1, &[2, 3], &[29, 17], 2), Ok(vec![5, 9]));
 }
 
 #[test]

@@ -2,6 +2,7 @@
 
 use jilbagum_tests::brick::{self, MODIFY, ORDER, ORDER_BLOCK, ORDER_READ, READ, TRIM, WRITE};
 use jilbagum_tests::coordinator::{self, Outcome, Record, Step};
+use jilbagum_tests::fixtures::{alter, enough_blocks};
 use jilbagum_tests::image;
 use jilbagum_tests::inplace::Brick;
 use jilbagum_tests::inplace_coordinator::{Act, Coordinator, Message, Reply};
@@ -198,6 +199,8 @@ fn coordinators() {
         let mut images: Vec<Vec<u8>> = (0..shape.n).map(|b| image::fresh_row(settings, b).unwrap()).collect();
         let (mut record, mut hand) = (Record::fresh(volume, 3), Coordinator::new(four, 3));
         let mut clock = 0;
+        // In some runs blocks are altered on their way, so that a recovery meets blocks that disagree.
+        let altered = if rng.once_in(2) { 6 } else { u64::MAX };
         for _ in 0..8 {
             clock += rng.below(3);
             let blocks = shape.m + u64::from(rng.once_in(9));
@@ -222,7 +225,10 @@ fn coordinators() {
                     if rng.once_in(12) {
                         continue;
                     }
-                    let Some(reply) = brick::take_in_row(settings, b as u64, &mut images[b], &messages[b]).unwrap() else { continue };
+                    let Some(mut reply) = brick::take_in_row(settings, b as u64, &mut images[b], &messages[b]).unwrap() else { continue };
+                    if rng.once_in(altered) {
+                        alter(&mut reply, &mut rng);
+                    }
                     let given = Reply {
                         kind: reply.kind,
                         brick: b,
@@ -233,9 +239,19 @@ fn coordinators() {
                         found: reply.found,
                         held: reply.block.is_some(),
                     };
+                    let mut replies = record.running.as_ref().map_or(Vec::new(), |running| running.replies.clone());
+                    replies.push(reply.clone());
+                    let (stripe, coded) = (hand.stripe.clone(), hand.coded.clone());
                     let act = hand.take(four, &given, reply.block.as_deref().unwrap_or(&[]));
                     let taken = coordinator::take_reply(volume, 3, &mut record, &reply);
                     let step = compare(volume, taken, act, &hand, &record, &mut tally);
+                    if step.ended.as_ref().is_some_and(|ended| ended.outcome == Outcome::Abort) {
+                        assert!(hand.stripe == stripe && hand.coded == coded, "an abort leaves the buffers");
+                        if reply.kind == ORDER_READ && replies.iter().all(|reply| reply.yes) && enough_blocks(shape.m, &replies) {
+                            assert!(altered < u64::MAX, "blocks that bricks gave agree");
+                            tally.add(format!("blocks disagree, {:?}", step.ended.as_ref().unwrap().kind), 1);
+                        }
+                    }
                     if !step.sent.is_empty() {
                         next = step;
                     }
@@ -265,4 +281,5 @@ fn coordinators() {
         &["sends 1", "sends 2", "sends 3", "sends 4", "sends 5", "sends 6", "written 7", "read 0", "read 7", "aborted 0", "waits 0"],
     );
     tally.expect(20, &["refusal 11", "refusal 14"]);
+    tally.expect(20, &["blocks disagree, Read", "blocks disagree, ReadBlock", "blocks disagree, WriteBlock"]);
 }

@@ -79,7 +79,7 @@ fn runs_are_those_of_the_independent_routines() {
 }
 
 /// Runs of the proved routines on a set that breaks a rule.
-fn broken(seeds: std::ops::Range<u64>, most: usize, change: impl Fn(&mut Faults, &mut Settings)) -> [usize; 3] {
+fn broken(seeds: std::ops::Range<u64>, most: usize, change: impl Fn(&mut Faults, &mut Settings)) -> [usize; 4] {
     broken_runs::<Proved>(seeds, most, change)
 }
 
@@ -93,29 +93,32 @@ fn broken_sets_are_noticed() {
         "without an order: forgetful bricks {}, forgetful clocks {}, hollow writes {}, no write back {}",
         forget[0], clocks[0], hollow[0], no_write_back[0]
     );
-    assert!(forget[0] > 20 && clocks[0] > 5 && hollow[0] > 20 && no_write_back[0] > 20);
+    println!("with blocks that disagree: {} {} {} {}", forget[3], clocks[3], hollow[3], no_write_back[3]);
+    // Two writes of one time may leave blocks of both: a recovery notices these.
+    assert!(forget[0] > 20 && clocks[0] + clocks[3] > 5 && hollow[0] > 20 && no_write_back[0] > 20);
 }
 
 /// The same of sets that break a rule of operations on one block.
 #[test]
 fn broken_block_writes_are_noticed() {
     let [lookup, old, parity] = broken_block_runs::<Proved>(1000);
-    println!("without an order: lookups of blocks only {lookup}, any old time {old}, parity left {parity}");
-    assert!(lookup > 50 && old > 2 && parity > 50);
+    println!("without an order, with blocks that disagree: lookups of blocks only {lookup:?}, any old time {old:?}, parity left {parity:?}");
+    // A recovery finds most of the blocks that a Modify of any old time spoils, and aborts.
+    assert!(lookup[0] > 50 && old[0] + old[1] > 2 && parity[0] > 50 && parity[1] > 50);
 }
 
 /// The same of sets that mix up stripes: one image for all, a clock for each, and, with such clocks, replies counted whatever their stripe.
 #[test]
 fn sets_that_mix_up_stripes_are_noticed() {
-    let [no_order, strayed, shared] = broken(340_000..340_500, 5, |faults, _| faults.broken = Break::OneImage);
+    let [no_order, strayed, shared, _] = broken(340_000..340_500, 5, |faults, _| faults.broken = Break::OneImage);
     println!("one image for all stripes: {no_order} without an order, {strayed} that changed another's image");
     assert!(no_order > 50 && strayed > 100 && shared == 0);
     let own_clocks = |faults: &mut Faults, broken: Break| (faults.broken, faults.coordinators, faults.rising) = (broken, 1, false);
     // Each stripe is still in order, since a reply of another stripe isn't counted.
-    let [no_order, strayed, shared] = broken(350_000..350_500, 5, |faults, _| own_clocks(faults, Break::ClockEach));
+    let [no_order, strayed, shared, _] = broken(350_000..350_500, 5, |faults, _| own_clocks(faults, Break::ClockEach));
     println!("a clock for each stripe: {shared} with two operations of one time");
     assert!(no_order == 0 && strayed == 0 && shared > 100);
-    let [no_order, strayed, shared] = broken(360_000..360_600, 20, |faults, _| {
+    let [no_order, strayed, shared, _] = broken(360_000..360_600, 20, |faults, _| {
         own_clocks(faults, Break::AnyStripe);
         (faults.again, faults.lost) = (1, 15);
     });

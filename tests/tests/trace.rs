@@ -251,7 +251,7 @@ fn every_edit_fits_its_file() {
     assert!(wrong.is_empty(), "found wrong:\n{}", wrong.join("\n"));
 }
 
-/// The names of a text that must be in scope where it stands: not numerals, fields (`.name`, `name =`, `s.name`) or what a path leads to.
+/// The names of a text that must be in scope where it stands: not numerals, λ, fields (`.name`, `name =`, `s.name`) or what a path leads to.
 fn needed(text: &str) -> BTreeSet<&str> {
     let part = |letter: char| letter.is_alphanumeric() || "_-'·".contains(letter);
     let mut found = BTreeSet::new();
@@ -260,7 +260,7 @@ fn needed(text: &str) -> BTreeSet<&str> {
         let word = piece.trim_end_matches(|letter: char| !part(letter));
         let after = &text[at + word.len()..];
         let field = before == '.' || before == ':' || after.starts_with(" = ") || after.starts_with("::");
-        if word.starts_with(char::is_alphabetic) && !field {
+        if word.starts_with(char::is_alphabetic) && word != "λ" && !field {
             found.insert(word);
         }
         at += piece.len();

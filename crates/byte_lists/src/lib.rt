@@ -1,10 +1,10 @@
-// Bytes and lists: a byte widened, little-endian numbers (document 01, "The saved brick"), bytes cleared, copied and stored.
+// Bytes and lists: a byte widened, little-endian numbers (document 01, "The saved brick"), bytes cleared, copied, compared and stored.
 // inner: call `image::open`
 ghost use mathlib.Core.Path.{_≡_};
 ghost use Prim.Native.Nat.{_+_, _≤_, _<_};
 ghost use lib.ListN.{length, take, drop};
 ghost use Rattle.byte_lists.specs.Little.{number, byteOf};
-ghost use Rattle.byte_lists.specs.Lists.{put, zeros};
+ghost use Rattle.byte_lists.specs.Lists.{put, zeros, same};
 
 // A byte as a number of 64 bits.
 pub fn wide(x: u8) -> u64
@@ -77,6 +77,22 @@ pub fn copy(from: &[u8], to: &mut [u8])
         to[i] = from[i];
         i += 1;
     }
+}
+
+// Whether bytes are the same as others of the same number.
+pub fn same_bytes(a: &[u8], b: &[u8]) -> bool
+    requires { ⌜ length (now a) ≡ length (now b) ⌝ }
+    ensures { λ r. ⌜ r ≡ same (now (a .entry)) (now (b .entry)) ⌝ }
+{
+    let mut differ: u8 = 0;
+    let mut p = 0;
+    while p < b.len() {
+        if a[p] != b[p] {
+            differ = 1;
+        }
+        p += 1;
+    }
+    differ == 0
 }
 
 // Bytes stored in a list from a place on.

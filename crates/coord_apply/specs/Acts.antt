@@ -1,20 +1,19 @@
 -- Document 01, "What a coordinator does": what a decision does, and how an operation begins and ends.
-use mathlib.Core.Bool.{cond}
+use mathlib.Core.Bool.{Bool, cond}
 use mathlib.Core.List.{List, [], _∷_}
 use Prim.Native.Nat.{ℕ, _+_}
 use lib.Dec.{eqb, ltb}
-use lib.ListN.{getD, take}
+use lib.ListN.{take}
 use Rattle.coord_apply.specs.Answers.{Buffered, Broadcast, Went, nothingSeen, beganSeen, okSeen, readSeen, abortedSeen}
 use Rattle.coord_record.specs.Records.{writingBlockKind, isReading, onBlock, targetCount, idleWith, nothingCounted, noBricks}
 use Rattle.coord_record.specs.declared.Coordinator.{Coordinator}
 use Rattle.coord_record.specs.declared.Op.{Op}
 use Rattle.coord_record.specs.declared.Tally.{Tally}
-use Rattle.coord_tally.specs.Counting.{picked, targetRow}
+use Rattle.coord_tally.specs.Counting.{givers, picked, targetRow}
 use Rattle.coord_decide.specs.Deciding.{tallied, decided}
 use Rattle.coord_decide.specs.declared.Decision.{Decision}
 use Rattle.coord_decide.specs.declared.Decision.the-variants.{Abort, Give, Look, Store, Modify, Recover, Finish}
-use Rattle.erasure.specs.Code.{codedOf, decodedOf, blockOf, withBlock}
-use Rattle.byte_lists.specs.Lists.{stacked}
+use Rattle.erasure.specs.Code.{codedOf, decodedOf, agree, blockOf, blocksOf, withBlock}
 use Rattle.message.specs.Flags.{members}
 use Rattle.message.specs.Kinds.{orderReadKind, writeKind, modifyKind, trimKind, firstRound}
 use Rattle.message.specs.Messages.{namesBlock}
@@ -24,12 +23,13 @@ use Rattle.message.specs.declared.Reply.{Reply}
 use Rattle.settings.specs.Ranges.{quorum}
 use Rattle.settings.specs.declared.Clock.{Clock}
 
--- the blocks of the first m bricks of a row, one after the other, and the stripe that they decode to
-unfoldable pub gathered : ℕ → ℕ → List ℕ → List ℕ → List ℕ
-gathered m size bricks blocks = stacked m (λ (i : ℕ). blockOf size blocks (getD bricks i 0))
+-- the stripe that the blocks of a list of bricks decode to, out of the reply blocks
+unfoldable pub stripeFrom : (m size : ℕ) → (bricks blocks : List ℕ) → List ℕ
+stripeFrom m size bricks blocks = decodedOf m size bricks (blocksOf size blocks bricks)
 
-unfoldable pub stripeFrom : ℕ → ℕ → List ℕ → List ℕ → List ℕ
-stripeFrom m size bricks blocks = decodedOf m size (take m bricks) (gathered m size bricks blocks)
+-- E3: whether they lie on one polynomial
+unfoldable pub agreeing : (m size : ℕ) → (bricks blocks : List ℕ) → Bool
+agreeing m size bricks blocks = agree m size bricks (blocksOf size blocks bricks)
 
 -- "messages and replies carry time and round"; E1: "Messages and replies gain a stripe number", that of the operation
 -- E2: the first round of a block write and Modify name the block, and Modify has the old time (`old`, 0 in any other)
@@ -109,7 +109,7 @@ finishedSeen op = cond (isReading (op .kind)) readSeen okSeen
 unfoldable pub givenStripe : (n m size : ℕ) → Op → (blocks stripe : List ℕ) → List ℕ
 givenStripe n m size op blocks stripe =
     cond (onBlock (op .kind)) (withBlock size stripe (op .first) (blockOf size blocks (op .first)))
-    (stripeFrom m size (targetRow n m (op .first)) blocks)
+    (stripeFrom m size (take m (targetRow n m (op .first))) blocks)
 
 -- what a recovery stores: the stripe decoded; E2: of a write of block j, "with block j replaced"
 unfoldable pub storedStripe : (size : ℕ) → Op → (stripe decoded : List ℕ) → List ℕ
@@ -120,17 +120,31 @@ storedStripe size op stripe decoded =
 unfoldable pub namedBricks : Op → List ℕ → List ℕ
 namedBricks op row = cond (isReading (op .kind)) row noBricks
 
--- the first m bricks that gave a time, and what a recovery from them stores
+-- E3: "Recovery hands on every block of the chosen time": the bricks that gave it, rising, and what a recovery from their blocks stores
+abbrev pub giversAt : (n : ℕ) → Buffered → (time : ℕ) → List ℕ
+giversAt n h time = givers (h .state .tally .held) (h .state .tally .found) time n
+
+abbrev pub recoveredStripe : (n m size : ℕ) → Buffered → (time : ℕ) → List ℕ
+recoveredStripe n m size h time = storedStripe size (h .state .op) (h .stripe) (stripeFrom m size (giversAt n h time) (h .blocks))
+
+-- the first m of them, which are named
 abbrev pub pickedAt : (n m : ℕ) → Buffered → (time : ℕ) → List ℕ
 pickedAt n m h time = picked (h .state .tally .held) (h .state .tally .found) time n m
 
-abbrev pub recoveredStripe : (n m size : ℕ) → Buffered → (time : ℕ) → List ℕ
-recoveredStripe n m size h time = storedStripe size (h .state .op) (h .stripe) (stripeFrom m size (pickedAt n m h time) (h .blocks))
+-- "decode and store by a Write round under the operation's own time"
+abbrev pub storing : (n m size : ℕ) → Buffered → (time : ℕ) → Went
+storing n m size h time =
+    nextRound h writeKind 0 (namedBricks (h .state .op) (pickedAt n m h time)) (recoveredStripe n m size h time)
+    (codedOf n m size (recoveredStripe n m size h time))
+
+-- "ends it aborted": nothing is sent
+abbrev pub aborting : Buffered → Went
+aborting h = ending h (h .stripe) [] abortedSeen noBricks
 
 -- What a decision does.
 unfoldable pub acted : ℕ → ℕ → ℕ → Buffered → Decision → Went
 -- "ends it aborted"
-acted n m size h Abort = ending h (h .stripe) [] abortedSeen noBricks
+acted n m size h Abort = aborting h
 -- "If all q say yes with one newest time and every target is among them, it decodes." E2: "has brick j as its only target, and names it alone"
 acted n m size h Give =
     ending h (givenStripe n m size (h .state .op) (h .blocks) (h .stripe)) [] readSeen
@@ -141,10 +155,9 @@ acted n m size h (Look max) = nextRound h orderReadKind max noBricks (h .stripe)
 acted n m size h Store = nextRound h writeKind 0 noBricks (h .stripe) (codedOf n m size (h .stripe))
 -- E2: "If all q times agree and brick j replied, Modify goes out"
 acted n m size h (Modify time) = modifying size h time
--- "decode and store by a Write round under the operation's own time"
+-- "decode and store". E3: "a disagreement ends it aborted"
 acted n m size h (Recover time) =
-    nextRound h writeKind 0 (namedBricks (h .state .op) (pickedAt n m h time)) (recoveredStripe n m size h time)
-    (codedOf n m size (recoveredStripe n m size h time))
+    cond (agreeing m size (giversAt n h time) (h .blocks)) (storing n m size h time) (aborting h)
 -- "After a finished Write round, Trim of the operation's time, with that round's number, is sent to all."
 -- E2: "Trim follows a finished Modify round too."
 acted n m size h Finish =

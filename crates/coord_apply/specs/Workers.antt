@@ -8,7 +8,7 @@ use Rattle.coord_record.specs.Records.{onBlock, idleWith, noBricks}
 use Rattle.coord_record.specs.declared.Coordinator.{Coordinator}
 use Rattle.coord_decide.specs.declared.Decision.{Decision}
 use Rattle.message.specs.declared.Message.{Message}
-use Rattle.settings.specs.Ranges.{CodeRange}
+use Rattle.settings.specs.Ranges.{CodeRange, maxBricks, maxSize}
 use mathlib.Core.Path.{_≡_}
 use Rattle.coord_apply.specs.declared.Answer.{Answer}
 use Rattle.coord_apply.specs.Acts.{roundMessage, noticeOf, nextOp, opened, acted}
@@ -52,6 +52,15 @@ pub record Acted (n m size : ℕ) (h : Buffered) (d : Decision) (coded : List �
   pub stripe-left : stripe′ ≡ acted n m size h d .next .stripe
   pub coded-left : coded′ ≡ sentBlocks (acted n m size h d .sent) coded
 
--- the block of each of the first m bricks of a row is within the blocks
-pub record InPlace (m size : ℕ) (bricks blocks : List ℕ) : Type 0 where
-  pub within : (i : ℕ) → i < m → getD bricks i 0 * size + size ≤ length blocks
+-- the block of each of the first k bricks of a row is within the blocks
+pub record InPlace (k size : ℕ) (bricks blocks : List ℕ) : Type 0 where
+  pub within : (i : ℕ) → i < k → getD bricks i 0 * size + size ≤ length blocks
+
+-- the first k bricks of a row are m or more to decode from, all different, each with its block in place
+pub record HandedOn (m size k : ℕ) (row blocks : List ℕ) : Type 0 where
+  pub size-low : 0 < size
+  pub size-high : size ≤ maxSize
+  pub few : k ≤ maxBricks
+  pub enough : m ≤ k
+  pub differ : (i j : ℕ) → i < k → j < k → getD row i 0 ≡ getD row j 0 → i ≡ j
+  pub in-place : InPlace k size row blocks

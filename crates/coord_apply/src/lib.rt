@@ -7,17 +7,18 @@ ghost use Prim.Native.Nat.{_+_, _*_, _≤_, _<_};
 ghost use lib.ListN.{length, take};
 ghost use Rattle.coord_apply.specs.Acts.{buffered};
 ghost use Rattle.coord_apply.specs.Workers.{DecisionReady, Acted, openAnswer, endAnswer};
-ghost use Rattle.coord_apply.specs.Acts.{gathered, stripeFrom, roundMessage, trimMessage, nextOp, finishedSeen};
+ghost use Rattle.coord_apply.specs.Acts.{stripeFrom, agreeing, roundMessage, trimMessage, nextOp, finishedSeen};
 ghost use Rattle.coord_apply.specs.Acts.{seenBlock, noticeOf, givenStripe, storedStripe, namedBricks};
-ghost use Rattle.coord_tally.specs.Counting.{picked, targetRow, atTimes};
+ghost use Rattle.coord_tally.specs.Counting.{givers, picked, targetRow, atTimes};
 ghost use Rattle.coord_decide.specs.Deciding.{decided};
-ghost use Rattle.coord_record.specs.Records.{onBlock, targetCount};
-ghost use Rattle.erasure.specs.Code.{codedOf, blockOf, withBlock};
+ghost use Rattle.coord_decide.specs.declared.Decision.the-variants.{Recover};
+ghost use Rattle.coord_record.specs.Records.{onBlock, targetCount, noBricks};
+ghost use Rattle.erasure.specs.Code.{codedOf, blockOf, blocksOf, withBlock};
 ghost use Rattle.message.specs.Kinds.{writeKind, lastRound};
 ghost use Rattle.message.specs.Messages.{namesBlock};
 ghost use Rattle.settings.specs.Count.{count};
-ghost use Rattle.coord_apply.specs.Workers.{InPlace};
-ghost use Rattle.coord_apply.specs.Answers.{nothingSeen, noMessage, readSeen};
+ghost use Rattle.coord_apply.specs.Workers.{InPlace, HandedOn};
+ghost use Rattle.coord_apply.specs.Answers.{nothingSeen, noMessage, readSeen, abortedSeen};
 ghost use Rattle.erasure.specs.Workers.{Encodes};
 ghost use Rattle.settings.specs.Ranges.{maxBricks, maxSize};
 ghost use Rattle.interpolate.specs.Values.{PointSet};
@@ -103,15 +104,15 @@ pub fn place(size: usize, b: usize, block: &[u8], blocks: &mut [u8])
     byte_lists::copy(block, &mut blocks[at..end])
 }
 
-// The blocks of the first m bricks of a row, one after the other.
-fn gather(m: usize, size: usize, bricks: [u8; MAX_BRICKS], blocks: &[u8], out: &mut [u8])
-    requires { ⌜ (m ≤ maxBricks) × (length (now out) ≡ m * size) ⌝ }
-    requires { ⌜ InPlace m size bricks (now blocks) ⌝ }
-    ensures { λ _. ⌜ now (out .exit) ≡ gathered m size bricks (now (blocks .entry)) ⌝ }
+// The blocks of the first k bricks of a row, one after the other.
+fn gather(k: usize, size: usize, bricks: [u8; MAX_BRICKS], blocks: &[u8], out: &mut [u8])
+    requires { ⌜ (k ≤ maxBricks) × (length (now out) ≡ k * size) ⌝ }
+    requires { ⌜ InPlace k size bricks (now blocks) ⌝ }
+    ensures { λ _. ⌜ now (out .exit) ≡ blocksOf size (now (blocks .entry)) (take k bricks) ⌝ }
 {
     let mut i = 0;
     let mut at = 0;
-    while i < m {
+    while i < k {
         let from = byte_lists::wide_index(bricks[i]) * size;
         let till = from + size;
         let end = at + size;
@@ -134,14 +135,14 @@ fn decode_by(
     requires { ⌜ length (now stripe) ≡ m * size ⌝ }
     requires { ⌜ PointSet (take m bricks) ⌝ }
     requires { ⌜ InPlace m size bricks (now blocks) ⌝ }
-    ensures { λ _. ⌜ now (stripe .exit) ≡ stripeFrom m size bricks (now (blocks .entry)) ⌝ }
+    ensures { λ _. ⌜ now (stripe .exit) ≡ stripeFrom m size (take m bricks) (now (blocks .entry)) ⌝ }
 {
     let end = m * size;
     gather(m, size, bricks, blocks, &mut work[..end]);
     erasure::decode_into(m, size, &bricks[..m], &work[..end], stripe)
 }
 
-// Room for the blocks of any m bricks: 16 of 256 bytes.
+// Room for the blocks of any bricks: 16 of 256 bytes.
 const WORK: usize = 4096;
 
 // The same, with a buffer of its own.
@@ -150,10 +151,49 @@ fn decode_from(m: usize, size: usize, bricks: [u8; MAX_BRICKS], blocks: &[u8], s
     requires { ⌜ length (now stripe) ≡ m * size ⌝ }
     requires { ⌜ PointSet (take m bricks) ⌝ }
     requires { ⌜ InPlace m size bricks (now blocks) ⌝ }
-    ensures { λ _. ⌜ now (stripe .exit) ≡ stripeFrom m size bricks (now (blocks .entry)) ⌝ }
+    ensures { λ _. ⌜ now (stripe .exit) ≡ stripeFrom m size (take m bricks) (now (blocks .entry)) ⌝ }
 {
     let mut work = [0u8; WORK];
     decode_by(m, size, bricks, blocks, &mut work, stripe)
+}
+
+// Whether the blocks of the first k bricks of a row agree; if so, the stripe that they decode to, else nothing is written. They are gathered
+// in a buffer that is long enough.
+fn check_by(
+    m: usize,
+    size: usize,
+    k: usize,
+    bricks: [u8; MAX_BRICKS],
+    blocks: &[u8],
+    work: &mut [u8],
+    stripe: &mut [u8],
+) -> bool
+    requires { ⌜ HandedOn m size k bricks (now blocks) ⌝ }
+    requires { ⌜ (length (now stripe) ≡ m * size) × (k * size ≤ length (now work)) ⌝ }
+    ensures { λ r. ⌜ r ≡ agreeing m size (take k bricks) (now (blocks .entry)) ⌝ }
+    ensures { λ r. ⌜ now (stripe .exit) ≡ cond r (stripeFrom m size (take k bricks) (now (blocks .entry))) (now (stripe .entry)) ⌝ }
+{
+    let end = k * size;
+    gather(k, size, bricks, blocks, &mut work[..end]);
+    erasure::decode_checked(m, size, &bricks[..k], &work[..end], stripe)
+}
+
+// The same, with a buffer of its own.
+fn check_from(
+    m: usize,
+    size: usize,
+    k: usize,
+    bricks: [u8; MAX_BRICKS],
+    blocks: &[u8],
+    stripe: &mut [u8],
+) -> bool
+    requires { ⌜ HandedOn m size k bricks (now blocks) ⌝ }
+    requires { ⌜ length (now stripe) ≡ m * size ⌝ }
+    ensures { λ r. ⌜ r ≡ agreeing m size (take k bricks) (now (blocks .entry)) ⌝ }
+    ensures { λ r. ⌜ now (stripe .exit) ≡ cond r (stripeFrom m size (take k bricks) (now (blocks .entry))) (now (stripe .entry)) ⌝ }
+{
+    let mut work = [0u8; WORK];
+    check_by(m, size, k, bricks, blocks, &mut work, stripe)
 }
 
 // The block that a round's message names, 0 where it names none.
@@ -294,6 +334,13 @@ pub fn end(
     }
 }
 
+// The answer that ends the operation aborted.
+fn abort(c: Coordinator) -> Answer
+    ensures { λ r. ⌜ r ≡ endAnswer c abortedSeen noBricks 0 noMessage ⌝ }
+{
+    end(c, ABORTED, [0u8; MAX_BRICKS], 0, no_message())
+}
+
 // Block j of one row of blocks in its place in another.
 fn copy_block(size: usize, j: usize, from: &[u8], to: &mut [u8])
     requires { ⌜ (j * size + size ≤ length (now from)) × (j * size + size ≤ length (now to)) ⌝ }
@@ -338,50 +385,55 @@ fn give(n: usize, m: usize, size: usize, c: Coordinator, blocks: &[u8], stripe: 
     end(c, STRIPE, row, 0, no_message())
 }
 
-// Decodes, and leaves block j of the stripe as it was: it is kept aside meanwhile, in a buffer that is long enough.
-fn decode_around(
+// As `check_from`, but block j of the stripe stays as it was: it is kept aside meanwhile, in a buffer that is long enough.
+fn check_around(
     m: usize,
     size: usize,
     j: usize,
+    k: usize,
     row: [u8; MAX_BRICKS],
     blocks: &[u8],
     aside: &mut [u8],
     stripe: &mut [u8],
-)
-    requires { ⌜ (m ≤ maxBricks) × (size ≤ maxSize) ⌝ }
+) -> bool
+    requires { ⌜ HandedOn m size k row (now blocks) ⌝ }
     requires { ⌜ (j * size + size ≤ length (now stripe)) × (length (now stripe) ≡ m * size) × (size ≤ length (now aside)) ⌝ }
-    requires { ⌜ PointSet (take m row) ⌝ }
-    requires { ⌜ InPlace m size row (now blocks) ⌝ }
-    ensures { λ _. ⌜ now (stripe .exit) ≡ withBlock size (stripeFrom m size row (now (blocks .entry))) j (blockOf size (now (stripe .entry)) j) ⌝ }
+    ensures { λ r. ⌜ r ≡ agreeing m size (take k row) (now (blocks .entry)) ⌝ }
+    ensures { λ r. ⌜ now (stripe .exit) ≡ cond r (withBlock size (stripeFrom m size (take k row) (now (blocks .entry))) j
+        (blockOf size (now (stripe .entry)) j)) (now (stripe .entry)) ⌝ }
 {
     let at = j * size;
     let end = at + size;
     byte_lists::store(aside, 0, &stripe[at..end]);
-    decode_from(m, size, row, blocks, stripe);
-    byte_lists::store(stripe, at, &aside[..size])
+    if check_from(m, size, k, row, blocks, stripe) {
+        byte_lists::store(stripe, at, &aside[..size]);
+        return true;
+    }
+    false
 }
 
-// What a recovery stores: the stripe that the blocks of a row of bricks decode to; of a block write with its own block in its place.
+// What a recovery stores: the stripe that the blocks of the first k bricks of a row decode to; of a block write with its own block in its place.
+// Whether the blocks agree; if not, nothing is written.
 fn decode_stored(
     m: usize,
     size: usize,
     op: Op,
+    k: usize,
     row: [u8; MAX_BRICKS],
     blocks: &[u8],
     stripe: &mut [u8],
-)
-    requires { ⌜ (m ≤ maxBricks) × (size ≤ maxSize) ⌝ }
+) -> bool
+    requires { ⌜ HandedOn m size k row (now blocks) ⌝ }
     requires { ⌜ (onBlock (op .kind) ≡ true → op .first < m) × (length (now stripe) ≡ m * size) ⌝ }
-    requires { ⌜ PointSet (take m row) ⌝ }
-    requires { ⌜ InPlace m size row (now blocks) ⌝ }
-    ensures { λ _. ⌜ now (stripe .exit) ≡ storedStripe size op (now (stripe .entry)) (stripeFrom m size row (now (blocks .entry))) ⌝ }
+    ensures { λ r. ⌜ r ≡ agreeing m size (take k row) (now (blocks .entry)) ⌝ }
+    ensures { λ r. ⌜ now (stripe .exit) ≡ cond r (storedStripe size op (now (stripe .entry)) (stripeFrom m size (take k row) (now (blocks .entry))))
+        (now (stripe .entry)) ⌝ }
 {
     if op.kind == coord_record::WRITING_BLOCK {
         let mut aside = [0u8; settings::MAX_SIZE];
-        decode_around(m, size, op.first, row, blocks, &mut aside, stripe)
-    } else {
-        decode_from(m, size, row, blocks, stripe)
+        return check_around(m, size, op.first, k, row, blocks, &mut aside, stripe);
     }
+    check_from(m, size, k, row, blocks, stripe)
 }
 
 // The bricks that a recovery names: those decoded from, by a read.
@@ -394,7 +446,7 @@ fn named_bricks(op: Op, row: [u8; MAX_BRICKS]) -> [u8; MAX_BRICKS]
     [0u8; MAX_BRICKS]
 }
 
-// Decodes from the first m bricks that gave this time, and gives those that the operation names.
+// Decodes from the blocks of all bricks that gave this time. Whether they agree; if not, nothing is written.
 fn recover(
     n: usize,
     m: usize,
@@ -403,20 +455,32 @@ fn recover(
     time: u64,
     blocks: &[u8],
     stripe: &mut [u8],
-) -> [u8; MAX_BRICKS]
+) -> bool
     requires { ⌜ DecisionReady n m size c (length (now blocks)) (length (now stripe)) ⌝ }
     requires { ⌜ m ≤ count (atTimes (c .tally .held) (c .tally .found) time) n ⌝ }
-    ensures { λ r. ⌜ r ≡ namedBricks (c .op) (picked (c .tally .held) (c .tally .found) time n m) ⌝ }
-    ensures { λ r. ⌜ now (stripe .exit) ≡ storedStripe size (c .op) (now (stripe .entry))
-        (stripeFrom m size (picked (c .tally .held) (c .tally .found) time n m) (now (blocks .entry))) ⌝ }
+    ensures { λ r. ⌜ r ≡ agreeing m size (givers (c .tally .held) (c .tally .found) time n) (now (blocks .entry)) ⌝ }
+    ensures { λ r. ⌜ now (stripe .exit) ≡ cond r (storedStripe size (c .op) (now (stripe .entry))
+        (stripeFrom m size (givers (c .tally .held) (c .tally .found) time n) (now (blocks .entry)))) (now (stripe .entry)) ⌝ }
 {
     let t = c.tally;
     let op = c.op;
     let held = t.held;
     let found = t.found;
-    let row = coord_tally::pick(held, found, time, n, m);
-    decode_stored(m, size, op, row, blocks, stripe);
-    named_bricks(op, row)
+    let row = coord_tally::pick(held, found, time, n, n);
+    let k = coord_tally::count_at(held, found, time, n);
+    decode_stored(m, size, op, k, row, blocks, stripe)
+}
+
+// The bricks that the recovery at this time names: the first m that gave it, by a read.
+fn recovery_names(n: usize, m: usize, c: Coordinator, time: u64) -> [u8; MAX_BRICKS]
+    requires { ⌜ n ≤ maxBricks ⌝ }
+    ensures { λ r. ⌜ r ≡ namedBricks (c .op) (picked (c .tally .held) (c .tally .found) time n m) ⌝ }
+{
+    let t = c.tally;
+    let op = c.op;
+    let held = t.held;
+    let found = t.found;
+    named_bricks(op, coord_tally::pick(held, found, time, n, m))
 }
 
 // The Write round, which names the bricks that a recovered read decoded from.
@@ -436,6 +500,28 @@ fn store(
 {
     erasure::encode_into(n, m, size, stripe, coded);
     open(c, message::WRITE, 0, 0, row)
+}
+
+// Recovers at this time: the Write round of what the blocks that gave it decode to; aborted, and nothing sent, if they disagree.
+fn recover_and_store(
+    n: usize,
+    m: usize,
+    size: usize,
+    c: Coordinator,
+    time: u64,
+    blocks: &[u8],
+    stripe: &mut [u8],
+    coded: &mut [u8],
+) -> Answer
+    requires { ⌜ DecisionReady n m size c (length (now blocks)) (length (now stripe)) ⌝ }
+    requires { ⌜ (length (now coded) ≡ n * size) × (m ≤ count (atTimes (c .tally .held) (c .tally .found) time) n) ⌝ }
+    ensures { λ r. ⌜ Acted n m size (buffered c (now (blocks .entry)) (now (stripe .entry))) (Recover time) (now (coded .entry))
+        r (now (stripe .exit)) (now (coded .exit)) ⌝ }
+{
+    if recover(n, m, size, c, time, blocks, stripe) {
+        return store(n, m, size, c, recovery_names(n, m, c, time), stripe, coded);
+    }
+    abort(c)
 }
 
 // How a finished Write or Modify round is seen.
@@ -475,15 +561,12 @@ pub fn act(
         r (now (stripe .exit)) (now (coded .exit)) ⌝ }
 {
     match d {
-        Decision::Abort => end(c, ABORTED, [0u8; MAX_BRICKS], 0, no_message()),
+        Decision::Abort => abort(c),
         Decision::Give => give(n, m, size, c, blocks, stripe),
         Decision::Look(max) => open(c, message::ORDER_READ, max, 0, [0u8; MAX_BRICKS]),
         Decision::Store => store(n, m, size, c, [0u8; MAX_BRICKS], stripe, coded),
         Decision::Modify(old) => open(c, message::MODIFY, 0, old, [0u8; MAX_BRICKS]),
-        Decision::Recover(time) => {
-            let row = recover(n, m, size, c, time, blocks, stripe);
-            store(n, m, size, c, row, stripe, coded)
-        }
+        Decision::Recover(time) => recover_and_store(n, m, size, c, time, blocks, stripe, coded),
         Decision::Finish => finish(c),
     }
 }

@@ -43,9 +43,13 @@ passing p (suc k) = passing p k ++ cond (p k) (k ∷ []) []
 unfoldable pub inRow : List ℕ → List ℕ
 inRow l = tabulate maxBricks (λ (i : ℕ). getD l i 0)
 
--- the first m bricks by number among those of a set that found a time
+-- the bricks of a set that found a time, by number
+abbrev pub givers : (flags found : List ℕ) → (time n : ℕ) → List ℕ
+givers flags found time n = passing (atTimes flags found time) n
+
+-- the first m of them, in a row of 16
 unfoldable pub picked : List ℕ → List ℕ → ℕ → ℕ → ℕ → List ℕ
-picked flags found time n m = inRow (take m (passing (atTimes flags found time) n))
+picked flags found time n m = inRow (take m (givers flags found time n))
 
 -- the brick that is i above the first, wrapping at n
 unfoldable pub upward : ℕ → ℕ → ℕ → ℕ

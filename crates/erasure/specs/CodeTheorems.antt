@@ -1,13 +1,14 @@
 -- Document 01, "Settings and the code": "For each byte position, the m data bytes are the values, at points 0 to m−1, of exactly one
 -- polynomial of degree below m. Coded block j holds its value at point j. Decoding from m different bricks gives the data back."
--- Proved in `proofs/Laws/CodeTheoremLaws` and, of one block's change, in `proofs/Laws/RecodingLaws`.
+-- Proved in `proofs/Laws/CodeTheoremLaws`, of agreement in `OnePolynomialLaws` there, and of one block's change in `RecodingLaws`.
+use mathlib.Core.Bool.{true}
 use mathlib.Core.Path.{_≡_}
 use mathlib.Core.List.{List}
-use Prim.Native.Nat.{ℕ, _<_}
+use Prim.Native.Nat.{ℕ, _*_, _<_}
 use lib.ListN.{length, getD}
-use Rattle.erasure.specs.Code.{codedOf, decodedOf, blockOf, blocksOf, withBlock, Stripe, Bricks}
+use Rattle.erasure.specs.Code.{codedOf, decodedOf, agree, PassesThrough, OnOnePolynomial, blockOf, blocksOf, bricksAt, withBlock, Stripe, Bricks}
 use Rattle.erasure.specs.Recoding.{recodedBlock}
-use Rattle.erasure.specs.Refusals.{encodeRefusal, decodeRefusal, encodedBuffer, decodedBuffer}
+use Rattle.erasure.specs.Refusals.{encodeRefusal, listRefusal, decodeRefusal, encodedBuffer, decodedBuffer}
 use Rattle.gf256.specs.Product.{plus, product}
 use Rattle.interpolate.specs.Bytes.{Byte, byte, byteField}
 use Rattle.interpolate.specs.Values.{byteAt}
@@ -29,21 +30,50 @@ CodedByOnePolynomial =
     × ((d : List Byte) → DataPolynomial m size stripe p d → d ≡ c)
     × ((j : ℕ) → j < n → byteAt size (codedOf n m size stripe) j p ≡ eval byteField c (byte j) .0)
 
--- "Decoding from m different bricks gives the data back": any m blocks of one coded stripe decode to its m data blocks.
+-- "Decoding from m different bricks gives the data back": any m or more blocks of one coded stripe decode to its m data blocks,
 abbrev pub DecodeAfterEncode : Type 0
 DecodeAfterEncode =
     (n m size : ℕ) (stripe bricks : List ℕ) → Stripe m size stripe → Bricks n m bricks
     → decodedOf m size bricks (blocksOf size (codedOf n m size stripe) bricks) ≡ stripe
 
+-- and they agree: they are never refused as 15.
+abbrev pub CodedBlocksAgree : Type 0
+CodedBlocksAgree =
+    (n m size : ℕ) (stripe bricks : List ℕ) → Stripe m size stripe → Bricks n m bricks
+    → agree m size bricks (blocksOf size (codedOf n m size stripe) bricks) ≡ true
+
+-- Document 02, E3, "checks that all lie on one polynomial": blocks of bytes agree exactly if one polynomial of degree below m passes through all given
+-- values at every byte position.
+abbrev pub AgreeOnOnePolynomial : Type 0
+AgreeOnOnePolynomial =
+    (n m size : ℕ) (bricks blocks : List ℕ) → Bricks n m bricks → length blocks ≡ length bricks * size → ((i : ℕ) → getD blocks i 0 < 256)
+    → (agree m size bricks blocks ≡ true → OnOnePolynomial m size bricks blocks)
+    × (OnOnePolynomial m size bricks blocks → agree m size bricks blocks ≡ true)
+
+-- The data are then its values at points 0 to m − 1,
+abbrev pub DecodedOnThePolynomial : Type 0
+DecodedOnThePolynomial =
+    (n m size : ℕ) (bricks blocks : List ℕ) → Bricks n m bricks → (p : ℕ) → p < size → (c : List Byte) → PassesThrough m size bricks blocks p c
+    → (j : ℕ) → j < m → byteAt size (decodedOf m size bricks blocks) j p ≡ eval byteField c (byte j) .0
+
+-- whichever m of the list one takes, by their places in it.
+abbrev pub AnyMOfTheList : Type 0
+AnyMOfTheList =
+    (n m size : ℕ) (bricks blocks : List ℕ) → Bricks n m bricks → 0 < size → length blocks ≡ length bricks * size
+    → ((i : ℕ) → getD blocks i 0 < 256) → agree m size bricks blocks ≡ true
+    → (places : List ℕ) → length places ≡ m → ((i : ℕ) → i < m → getD places i 0 < length bricks)
+    → ((i j : ℕ) → i < m → j < m → getD places i 0 ≡ getD places j 0 → i ≡ j)
+    → decodedOf m size (bricksAt bricks places) (blocksOf size blocks places) ≡ decodedOf m size bricks blocks
+
 -- The same over the buffers of `stripe_encode` and `stripe_decode`: where both calls are accepted, and the second is lent the blocks
--- of its bricks among those that the first left, it leaves the data.
+-- of its bricks among those that the first left, it leaves the data; it is accepted if its list and lengths are right.
 abbrev pub DecodedIsEncoded : Type 0
 DecodedIsEncoded =
     (n m size : ℕ) (stripe coded coded′ bricks blocks out out′ : List ℕ) → ((i : ℕ) → getD stripe i 0 < 256)
     → encodeRefusal n m size (length stripe) (length coded) ≡ passed → coded′ ≡ encodedBuffer n m size stripe coded
     → blocks ≡ blocksOf size coded′ bricks
-    → decodeRefusal n m size bricks (length blocks) (length out) ≡ passed → out′ ≡ decodedBuffer n m size bricks blocks out
-    → out′ ≡ stripe
+    → listRefusal n m size bricks (length blocks) (length out) ≡ passed → out′ ≡ decodedBuffer n m size bricks blocks out
+    → (decodeRefusal n m size bricks blocks (length out) ≡ passed) × (out′ ≡ stripe)
 
 -- A stripe that is the sum of another and of c times a third has the codes' sum likewise. (Recoding a block after one data block
 -- changed is this at each byte position: the third is the unit stripe, c the change.)

@@ -1,13 +1,14 @@
 // The erasure code (document 01, "Settings and the code"): encode and decode, and their C entry points.
 ghost use mathlib.Core.Path.{_≡_};
-ghost use mathlib.Core.Bool.{true};
+ghost use mathlib.Core.Bool.{true, cond};
 ghost use mathlib.Core.List.{[], _∷_};
 ghost use Prim.Native.Nat.{_*_};
 ghost use lib.ListN.{length};
-ghost use Rattle.erasure.specs.Code.{codedOf, decodedOf};
-ghost use Rattle.erasure.specs.Refusals.{allBelow, allDifferent, numberRefusal, setRefusal, encodeRefusal, decodeRefusal, encodedBuffer, decodedBuffer};
+ghost use Rattle.erasure.specs.Code.{codedOf, decodedOf, agree};
+ghost use Rattle.erasure.specs.Refusals.{allBelow, allDifferent, numberRefusal, setRefusal, encodeRefusal, listRefusal, decodeRefusal};
+ghost use Rattle.erasure.specs.Refusals.{encodedBuffer, decodedBuffer, DecodedByPolynomials};
 ghost use Rattle.erasure.specs.Recoding.{weightAt, withChange, recodedBlock};
-ghost use Rattle.erasure.specs.Workers.{Encodes, RecodeRange, OneLength};
+ghost use Rattle.erasure.specs.Workers.{Encodes, Decodes, RecodeRange, OneLength};
 ghost use Rattle.gf256.specs.Product.{twice};
 ghost use Rattle.gf256.specs.Tables.{IsPowers, IsLogs};
 ghost use Rattle.interpolate.specs.Values.{PointSet};
@@ -52,11 +53,11 @@ fn number_refusal(n: usize, bricks: &[u8]) -> u32
     settings::BAD_NUMBER
 }
 
-// 4 where a list isn't m different bricks, else 0.
+// 4 where a list has fewer than m bricks or a repeat, else 0.
 fn set_refusal(m: usize, bricks: &[u8]) -> u32
     ensures { λ r. ⌜ r ≡ setRefusal m (now (bricks .entry)) ⌝ }
 {
-    if bricks.len() != m {
+    if bricks.len() < m {
         return settings::BAD_BRICK_SET;
     }
     if all_different(bricks) {
@@ -92,22 +93,18 @@ pub fn encode_refusal(n: usize, m: usize, size: usize, stripe: usize, coded: usi
     settings::PASSED
 }
 
-// The refusal of decoding, 0 for none: blocks and stripe are the buffers' lengths.
-pub fn decode_refusal(
-    n: usize,
-    m: usize,
-    size: usize,
-    bricks: &[u8],
-    blocks: usize,
-    stripe: usize,
-) -> u32
-    ensures { λ r. ⌜ r ≡ decodeRefusal n m size (now (bricks .entry)) blocks stripe ⌝ }
+// The refusal of a decoding by its settings, list and lengths, 0 for none: blocks and stripe are the buffers' lengths.
+fn list_refusal(n: usize, m: usize, size: usize, bricks: &[u8], blocks: usize, stripe: usize) -> u32
+    ensures { λ r. ⌜ r ≡ listRefusal n m size (now (bricks .entry)) blocks stripe ⌝ }
 {
     let bad = settings::code_refusal(n, m, size);
     if bad != settings::PASSED {
         return bad;
     }
-    if blocks != m * size {
+    if blocks / size != bricks.len() {
+        return settings::BAD_LENGTH;
+    }
+    if blocks % size != 0 {
         return settings::BAD_LENGTH;
     }
     if stripe != m * size {
@@ -135,6 +132,30 @@ pub fn decode_into(m: usize, size: usize, bricks: &[u8], blocks: &[u8], stripe: 
     ensures { λ _. ⌜ now (stripe .exit) ≡ decodedOf m size (now (bricks .entry)) (now (blocks .entry)) ⌝ }
 {
     interpolate::interpolate(bricks, size, blocks, m, stripe)
+}
+
+// Whether the blocks of m or more different bricks agree; if so, the m data blocks, else nothing is written.
+pub fn decode_checked(
+    m: usize,
+    size: usize,
+    bricks: &[u8],
+    blocks: &[u8],
+    stripe: &mut [u8],
+) -> bool
+    requires { ⌜ Decodes m size (now bricks) (length (now blocks)) (length (now stripe)) ⌝ }
+    ensures { λ r. ⌜ r ≡ agree m size (now (bricks .entry)) (now (blocks .entry)) ⌝ }
+    ensures { λ r. ⌜ now (stripe .exit) ≡ cond r (decodedOf m size (now (bricks .entry)) (now (blocks .entry))) (now (stripe .entry)) ⌝ }
+{
+    let own = m * size;
+    interpolate::interpolate_checked(
+        &bricks[..m],
+        size,
+        &blocks[..own],
+        &bricks[m..],
+        &blocks[own..],
+        m,
+        stripe,
+    )
 }
 
 // The weight of data block j at a brick: Lagrange's, a factor for each other data block.
@@ -271,7 +292,7 @@ pub extern "C" fn stripe_encode(
     settings::PASSED
 }
 
-// Decodes, or gives the number of the refusal and leaves the buffer.
+// Decodes from the blocks of m or more bricks, or gives the number of the refusal and leaves the buffer.
 #[no_mangle]
 pub extern "C" fn stripe_decode(
     n: usize,
@@ -281,13 +302,16 @@ pub extern "C" fn stripe_decode(
     blocks: &[u8],
     data: &mut [u8],
 ) -> u32
-    ensures { λ r. ⌜ r ≡ decodeRefusal n m size (now (bricks .entry)) (length (now (blocks .entry))) (length (now («data» .entry))) ⌝ }
+    ensures { λ r. ⌜ r ≡ decodeRefusal n m size (now (bricks .entry)) (now (blocks .entry)) (length (now («data» .entry))) ⌝ }
     ensures { λ r. ⌜ now («data» .exit) ≡ decodedBuffer n m size (now (bricks .entry)) (now (blocks .entry)) (now («data» .entry)) ⌝ }
+    ensures { λ r. ⌜ DecodedByPolynomials n m size (now (bricks .entry)) (now (blocks .entry)) (now («data» .entry)) r (now («data» .exit)) ⌝ }
 {
-    let reason = decode_refusal(n, m, size, bricks, blocks.len(), data.len());
+    let reason = list_refusal(n, m, size, bricks, blocks.len(), data.len());
     if reason != settings::PASSED {
         return reason;
     }
-    decode_into(m, size, bricks, blocks, data);
-    settings::PASSED
+    if decode_checked(m, size, bricks, blocks, data) {
+        return settings::PASSED;
+    }
+    settings::BLOCKS_DISAGREE
 }

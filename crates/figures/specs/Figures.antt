@@ -12,9 +12,10 @@ use Rattle.image.specs.Brick.{freshBrick}
 use Rattle.image.specs.Image.{imageOf}
 use Rattle.image.specs.Parse.{imageBlockAt}
 use Rattle.erasure.specs.Code.{codedOf, decodedOf}
+use Rattle.erasure.specs.Refusals.{decodeRefusal}
 use Rattle.gf256.specs.Product.{product}
 use Rattle.settings.specs.Ranges.{quorum, settingsRefusal}
-use Rattle.settings.specs.Refusal.{passed, badSetting, badReading, badStripe}
+use Rattle.settings.specs.Refusal.{passed, badSetting, badReading, badStripe, badBrickSet, blocksDisagree}
 use Rattle.settings.specs.Times.{drawOf}
 use Rattle.volume.specs.ClientPlaces.{placeOf}
 use Rattle.volume.specs.declared.Placed.{Placed}
@@ -108,6 +109,13 @@ figures =
     ∷ row (refusalFor 16 1 1 2 65) (refusal badSetting)
     ∷ row (placeIn4 6) (bytes (2 ∷ 1 ∷ []))
     ∷ row (placeIn4 8) (refusal badStripe)
+    -- E3, with the blocks above: those of bricks 2, 3 and 0 agree and give 5, 9; with 6 for the block of brick 0 they are refusal 15; brick 2
+    -- alone, or twice, is refusal 4.
+    ∷ row (refusedBy (decodeRefusal 4 2 1 (2 ∷ 3 ∷ 0 ∷ []) (29 ∷ 17 ∷ 5 ∷ []) 2)) passes
+    ∷ row (bytes (decodedOf 2 1 (2 ∷ 3 ∷ 0 ∷ []) (29 ∷ 17 ∷ 5 ∷ []))) (bytes (5 ∷ 9 ∷ []))
+    ∷ row (refusedBy (decodeRefusal 4 2 1 (2 ∷ 3 ∷ 0 ∷ []) (29 ∷ 17 ∷ 6 ∷ []) 2)) (refusal blocksDisagree)
+    ∷ row (refusedBy (decodeRefusal 4 2 1 (2 ∷ []) (29 ∷ []) 2)) (refusal badBrickSet)
+    ∷ row (refusedBy (decodeRefusal 4 2 1 (2 ∷ 3 ∷ 2 ∷ []) (29 ∷ 17 ∷ 29 ∷ []) 2)) (refusal badBrickSet)
     ∷ []
 
 -- every row gives its figure

@@ -27,9 +27,10 @@ use Rattle.register.specs.Runs.{plain, received, arriving, step, freshSet, run}
 abbrev pub fiveOfSeven : Settings
 fiveOfSeven = record { n = 7; m = 5; size = 1; capacity = 3; stripes = 1 }
 
--- Block 2 of the fresh stripe is written by coordinator 0, in two rounds that bricks 0 to 5 hear; its Trims are lost. Then brick 5 is down
--- and coordinator 1 reads the stripe: of the six bricks that answer, 0 to 4 have the write, all but brick 2 as a mark, and brick 6 has
--- not heard of it, so the read recovers: a round of Order-and-read, and one more, which stores.
+-- Block 2 of the fresh stripe is written by coordinator 0, in two rounds that bricks 0 to 5 hear; of its Trims only brick 0's arrives. Then
+-- brick 5 is down and coordinator 1 reads the stripe: of the six bricks that answer, 0 to 4 have the write, 1, 3 and 4 as a mark, and brick 6
+-- has not heard of it, so the read recovers: a round of Order-and-read, and one more, which stores. (By its Trim brick 0 has nothing under
+-- time 16, so that with document 001's lookup five blocks of time 0 are found, and no sixth has to be checked.)
 unfoldable pub fiveOfSevenEvents : List Event
 fiveOfSevenEvents =
     startWriteBlock 0 0 1 2 (9 ∷ [])
@@ -37,6 +38,7 @@ fiveOfSevenEvents =
     ∷ arrives 7 ∷ arrives 8 ∷ arrives 9 ∷ arrives 10 ∷ arrives 11 ∷ arrives 12
     ∷ arrives 13 ∷ arrives 14 ∷ arrives 15 ∷ arrives 16 ∷ arrives 17 ∷ arrives 18
     ∷ arrives 20 ∷ arrives 21 ∷ arrives 22 ∷ arrives 23 ∷ arrives 24 ∷ arrives 25
+    ∷ arrives 26
     ∷ goesDown 5
     ∷ startRead 1 0 2 0
     ∷ arrives 33 ∷ arrives 34 ∷ arrives 35 ∷ arrives 36 ∷ arrives 37 ∷ arrives 39

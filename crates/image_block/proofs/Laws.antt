@@ -1,9 +1,8 @@
 -- The laws of `image_block`, for its own proofs and those of the crates above. No contract cites them.
--- Blocks: BlockStoreLaws, LayoutLaws. The check: CheckLaws, CheckRowLaws, ChangeLaws, CheckFigures. Two blocks compared: CompareLaws.
+-- Blocks: BlockStoreLaws, LayoutLaws. The check: CheckLaws, CheckRowLaws, ChangeLaws, CheckFigures.
 pub mod BlockStoreLaws
 pub mod ChangeLaws
 pub mod CheckFigures
 pub mod CheckLaws
 pub mod CheckRowLaws
-pub mod CompareLaws
 pub mod LayoutLaws

@@ -255,13 +255,5 @@ pub fn same_body(a: &[u8], b: &[u8]) -> bool
     requires { ⌜ length (now b) ≡ blockBytes ⌝ }
     ensures { λ r. ⌜ r ≡ same (drop checkBytes (now (a .entry))) (drop checkBytes (now (b .entry))) ⌝ }
 {
-    let mut differ: u8 = 0;
-    let mut p: usize = CHECK_BYTES;
-    while p < BLOCK_BYTES {
-        if a[p] != b[p] {
-            differ = 1;
-        }
-        p += 1;
-    }
-    differ == 0
+    byte_lists::same_bytes(&a[CHECK_BYTES..], &b[CHECK_BYTES..])
 }

@@ -3,6 +3,7 @@ pub mod BitLaws
 pub mod BlockLaws
 pub mod ByteLaws
 pub mod FirstPlaceLaws
+pub mod FurtherBlockLaws
 pub mod PolynomialLaws
 pub mod WeightRowLaws
 pub mod WeightLaws

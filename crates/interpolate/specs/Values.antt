@@ -1,9 +1,11 @@
 -- What a code computes (document 01, "Settings and the code"): blocks as values of polynomials, byte position by byte position.
+use mathlib.Core.Bool.{Bool}
 use mathlib.Core.List.{List}
 use Prim.Native.Nat.{ℕ, _+_, _*_, _≤_, _<_}
-use lib.ListN.{length, getD}
+use lib.ListN.{length, getD, take, drop}
 use Rattle.interpolate.specs.Bytes.{byteField, byte}
-use Rattle.byte_lists.specs.Lists.{tabulate, stacked}
+use Rattle.byte_lists.specs.Each.{each}
+use Rattle.byte_lists.specs.Lists.{tabulate, stacked, same}
 use Rattle.poly.specs.Polynomial.{interpolated}
 use Rattle.settings.specs.Ranges.{maxBricks}
 use mathlib.Core.Path.{_≡_}
@@ -25,6 +27,11 @@ blockAt points size blocks x = tabulate size (valueAt points size blocks x)
 -- the blocks at points 0 to count − 1, one after the other
 unfoldable pub blocksAt : List ℕ → ℕ → List ℕ → ℕ → List ℕ
 blocksAt points size blocks count = stacked count (blockAt points size blocks)
+
+-- E3: whether each of the blocks given at further points, one after the other, is the block there
+unfoldable pub blocksFit : (points : List ℕ) → (size : ℕ) → (blocks further given : List ℕ) → Bool
+blocksFit points size blocks further given =
+    each (λ (i : ℕ). same (take size (drop (i * size) given)) (blockAt points size blocks (getD further i 0))) (length further)
 
 -- at most as many points as there are bricks, all different
 pub record PointSet (points : List ℕ) : Type 0 where

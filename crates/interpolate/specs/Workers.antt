@@ -49,6 +49,10 @@ pub record Shares (points shares : List ℕ) : Type 0 where
 pub record Weights (points : List ℕ) (x : ℕ) (weights : List ℕ) : Type 0 where
   pub entry : (i : ℕ) → i < length points → getD weights i 0 ≡ weight points i x
 
+-- none of the further points is among the points
+pub record Apart (points further : List ℕ) : Type 0 where
+  pub none : (i k : ℕ) → i < length further → k < length points → getD points k 0 ≡ getD further i 0 → ⊥
+
 -- What the inner functions are lent: the two tables, the points, and the share of each.
 pub record PointsReady (powers logs points shares : List ℕ) : Type 0 where
   pub powers-right : IsPowers powers

@@ -2,14 +2,16 @@
 // inner: call `erasure::stripe_encode`
 // The inner functions take the two tables of `gf256` as lent, since a constant array is built anew where it is named.
 // Every product and inverse of a weight, and every doubling of it, is `gf256`'s by these tables.
+ghost use mathlib.Core.Bool.{cond};
 ghost use mathlib.Core.Path.{_≡_};
 ghost use Prim.Native.Nat.{ℕ, _+_, _*_, _<_, _≤_};
 ghost use lib.ListN.{length, getD};
 ghost use Rattle.gf256.specs.Product.{product, inverse, twice};
 ghost use Rattle.gf256.specs.Tables.{IsPowers, IsLogs};
-ghost use Rattle.settings.specs.Ranges.{maxBricks};
-ghost use Rattle.interpolate.specs.Workers.{firstPlace, scaled, weight, numerator, Differences, Shares, Weights, PointsReady};
-ghost use Rattle.interpolate.specs.Values.{PointSet, blockAt, blocksAt};
+ghost use Rattle.settings.specs.Ranges.{maxBricks, maxSize};
+ghost use Rattle.interpolate.specs.Workers.{firstPlace, scaled, weight, numerator, Differences, Shares, Weights, PointsReady, Apart};
+ghost use Rattle.interpolate.specs.Values.{PointSet, blockAt, blocksAt, blocksFit};
+ghost use Rattle.byte_lists.specs.Lists.{same};
 
 // Where x first stands in a list; the list's length if nowhere.
 pub fn position(list: &[u8], x: u8) -> usize
@@ -309,4 +311,118 @@ pub fn interpolate(points: &[u8], size: usize, blocks: &[u8], count: usize, out:
         at = end;
         x += 1;
     }
+}
+
+// Whether a block is the one at x, where x is none of the points; that one is made in a buffer of its length.
+fn fits(
+    powers: &[u8; gf256::POWER_COUNT],
+    logs: &[u8; gf256::BYTE_COUNT],
+    points: &[u8],
+    shares: &[u8],
+    blocks: &[u8],
+    x: u8,
+    block: &[u8],
+    made: &mut [u8],
+) -> bool
+    requires { ⌜ PointsReady (now powers) (now logs) (now points) (now shares) ⌝ }
+    requires { ⌜ ((k : ℕ) → k < length (now points) → getD (now points) k 0 ≡ x → ⊥) ⌝ }
+    requires { ⌜ (length (now blocks) ≡ length (now points) * length (now made)) × (length (now block) ≡ length (now made)) ⌝ }
+    ensures { λ r. ⌜ r ≡ same (now (block .entry)) (blockAt (now (points .entry)) (length (now (made .entry))) (now (blocks .entry)) x) ⌝ }
+{
+    combine(powers, logs, points, shares, blocks, x, made);
+    byte_lists::same_bytes(block, made)
+}
+
+// Whether the blocks given at further points, none of them among the points, are those there; each is made in a buffer of its length.
+fn all_fit(
+    powers: &[u8; gf256::POWER_COUNT],
+    logs: &[u8; gf256::BYTE_COUNT],
+    points: &[u8],
+    shares: &[u8],
+    blocks: &[u8],
+    further: &[u8],
+    given: &[u8],
+    made: &mut [u8],
+) -> bool
+    requires { ⌜ PointsReady (now powers) (now logs) (now points) (now shares) ⌝ }
+    requires { ⌜ Apart (now points) (now further) ⌝ }
+    requires { ⌜ length (now blocks) ≡ length (now points) * length (now made) ⌝ }
+    requires { ⌜ length (now given) ≡ length (now further) * length (now made) ⌝ }
+    ensures { λ r. ⌜ r ≡ blocksFit (now (points .entry)) (length (now (made .entry))) (now (blocks .entry)) (now (further .entry)) (now (given .entry)) ⌝ }
+{
+    let size = made.len();
+    let mut f = 0;
+    let mut from = 0;
+    while f < further.len() {
+        let till = from + size;
+        if fits(
+            powers,
+            logs,
+            points,
+            shares,
+            blocks,
+            further[f],
+            &given[from..till],
+            made,
+        ) {} else {
+            return false;
+        }
+        from = till;
+        f += 1;
+    }
+    true
+}
+
+// Whether the blocks given at further points, none of them among the points, are those there; without such points nothing is computed.
+fn further_fit(points: &[u8], size: usize, blocks: &[u8], further: &[u8], given: &[u8]) -> bool
+    requires { ⌜ PointSet (now points) ⌝ }
+    requires { ⌜ Apart (now points) (now further) ⌝ }
+    requires { ⌜ (length (now blocks) ≡ length (now points) * size) × (size ≤ maxSize) ⌝ }
+    requires { ⌜ length (now given) ≡ length (now further) * size ⌝ }
+    ensures { λ r. ⌜ r ≡ blocksFit (now (points .entry)) size (now (blocks .entry)) (now (further .entry)) (now (given .entry)) ⌝ }
+{
+    if further.len() == 0 {
+        return true;
+    }
+    let powers = gf256::powers();
+    let logs = gf256::logs();
+    let mut shares = [1u8; settings::MAX_BRICKS];
+    shares_of(&powers, &logs, points, &mut shares);
+    let mut made = [0u8; settings::MAX_SIZE];
+    all_fit(
+        &powers,
+        &logs,
+        points,
+        &shares,
+        blocks,
+        further,
+        given,
+        &mut made[..size],
+    )
+}
+
+// The same as `interpolate`, if the blocks given at further points, none of them among the points, fit: whether they do. If not, nothing is
+// written.
+pub fn interpolate_checked(
+    points: &[u8],
+    size: usize,
+    blocks: &[u8],
+    further: &[u8],
+    given: &[u8],
+    count: usize,
+    out: &mut [u8],
+) -> bool
+    requires { ⌜ PointSet (now points) ⌝ }
+    requires { ⌜ Apart (now points) (now further) ⌝ }
+    requires { ⌜ (length (now blocks) ≡ length (now points) * size) × (size ≤ maxSize) ⌝ }
+    requires { ⌜ length (now given) ≡ length (now further) * size ⌝ }
+    requires { ⌜ (length (now out) ≡ count * size) × (count ≤ maxBricks) ⌝ }
+    ensures { λ r. ⌜ r ≡ blocksFit (now (points .entry)) size (now (blocks .entry)) (now (further .entry)) (now (given .entry)) ⌝ }
+    ensures { λ r. ⌜ now (out .exit) ≡ cond r (blocksAt (now (points .entry)) size (now (blocks .entry)) count) (now (out .entry)) ⌝ }
+{
+    if further_fit(points, size, blocks, further, given) {
+        interpolate(points, size, blocks, count, out);
+        return true;
+    }
+    false
 }

@@ -6,6 +6,7 @@ pub mod CorollaryLaws
 pub mod BlockCorollaryLaws
 pub mod NeverRefusedLaws
 pub mod EntryLaws
+pub mod AgreementLaws
 pub mod NumberedLaws
 pub mod VolumeLaws
 pub mod RefusedEventLaws

@@ -29,7 +29,7 @@ badLength = 2
 abbrev pub badNumber : ℕ
 badNumber = 3
 
--- a brick set for decoding that isn't m different bricks
+-- a brick set for decoding with fewer than m bricks, or with a repeat (E3: "Refusal 4 now means fewer than m, or a repeat")
 abbrev pub badBrickSet : ℕ
 badBrickSet = 4
 
@@ -72,3 +72,7 @@ badStripe = 13
 -- E2: "a data block number not below m, checked after 13"
 abbrev pub badBlock : ℕ
 badBlock = 14
+
+-- E3: "coded blocks that disagree, last in decoding"
+abbrev pub blocksDisagree : ℕ
+blocksDisagree = 15

@@ -53,6 +53,8 @@ pub const BAD_STRIPE: u32 = 13;
 
 pub const BAD_BLOCK: u32 = 14;
 
+pub const BLOCKS_DISAGREE: u32 = 15;
+
 // The largest count of a time, 2^40 - 1.
 pub const MAX_COUNT: u64 = 1099511627775;
 

@@ -22,6 +22,7 @@ use Rattle.coord_decide.specs.Decisions.{DecisionSays}
 use Rattle.coord_decide.proofs.Laws.SaysLaws.{decided-says}
 use Rattle.coord_decide.specs.declared.Decision.{Decision}
 use Rattle.coord_decide.specs.declared.Decision.the-variants.{Abort, Give, Look, Store, Modify, Recover, Finish}
+use Rattle.coord_apply.proofs.Laws.ActLaws.{recover-either}
 use Rattle.coord_apply.specs.Acts.{buffered, roundMessage, trimMessage, nextOp, nextRound, modifying, ending, acted, counting, withTally, waitingOr, firstOp}
 use Rattle.coord_apply.specs.Acts.{starting}
 use Rattle.coord_apply.specs.Answers.{Buffered, Broadcast, Went, Step, refused, went, nothingSeen, noMessage, sentMessage, answerOf, returned, returnedBy}
@@ -83,7 +84,7 @@ module _ (n m size : ℕ) (h : Buffered) (right : opRight (h .state .op) ≡ tru
   acted-low (Look max) s = ((λ e. absurd (omega (arith, e))), tt)
   acted-low Store s = ((λ e. absurd (omega (arith, e))), tt)
   acted-low (Modify time) s = ((λ e. modify-low (s .phase-is)), tt)
-  acted-low (Recover time) s = ((λ e. absurd (omega (arith, e))), tt)
+  acted-low (Recover time) s = recover-either n m size h time (λ (w : Went). NamesLow m (w .sent)) ((λ e. absurd (omega (arith, e))), tt) tt
   acted-low Finish s = ((λ e. absurd (omega (arith, e))), tt)
 
   waits-low : NamesLow m (waitingOr n m size h .sent)

@@ -18,6 +18,7 @@ use Rattle.coord_decide.specs.Decisions.{DecisionSays}
 use Rattle.coord_decide.proofs.Laws.SaysLaws.{decided-says}
 use Rattle.coord_decide.specs.declared.Decision.{Decision}
 use Rattle.coord_decide.specs.declared.Decision.the-variants.{Abort, Give, Look, Store, Modify, Recover, Finish}
+use Rattle.coord_apply.proofs.Laws.ActLaws.{recover-either}
 use Rattle.coord_apply.specs.Acts.{acted, ending, nextRound, modifying, noticeOf, finishedSeen, waitingOr, counting, withTally}
 use Rattle.coord_apply.specs.Answers.{Buffered, Went, went, nothingSeen, beganSeen, okSeen, readSeen, cutSeen, noneSeen, abortedSeen}
 use Rattle.coord_apply.specs.declared.Notice.{Notice}
@@ -175,7 +176,9 @@ acted-agrees n m size h r z k Give s =
 acted-agrees n m size h r z k (Look max) s = nothing-agrees (h .state .op)
 acted-agrees n m size h r z k Store s = nothing-agrees (h .state .op)
 acted-agrees n m size h r z k (Modify time) s = nothing-agrees (h .state .op)
-acted-agrees n m size h r z k (Recover time) s = nothing-agrees (h .state .op)
+acted-agrees n m size h r z k (Recover time) s =
+    recover-either n m size h time (λ (w : Went). Agrees (h .state .op) (w .seen)) (nothing-agrees (h .state .op))
+    (short-agrees (h .state .op) abortedSeen noBricks z k (omega arith))
 acted-agrees n m size h r z k Finish s = finish-agrees (h .state .op) (h .state .bricks) z k
 
 waiting-agrees : (n m size : ℕ) (h : Buffered) → opRight (h .state .op) ≡ true → h .state .op .stripe ≡ benchStripe → (h .state .op .kind ≡ readingKind) ⊎ (h .state .op .kind ≡ writingKind)

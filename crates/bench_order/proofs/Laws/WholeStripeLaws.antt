@@ -16,6 +16,7 @@ use Rattle.coord_record.specs.Records.{idleKind, noBricks, noOp, onBlock, idleW
 use Rattle.coord_decide.specs.Deciding.{decided}
 use Rattle.coord_decide.specs.declared.Decision.{Decision}
 use Rattle.coord_decide.specs.declared.Decision.the-variants.{Abort, Give, Look, Store, Modify, Recover, Finish}
+use Rattle.coord_apply.proofs.Laws.ActLaws.{recover-either}
 use Rattle.coord_apply.specs.Acts.{nextOp, opened, nextRound, modifying, ending, acted, counting, withTally, waitingOr}
 use Rattle.coord_apply.specs.Answers.{Buffered, Went, Step, refused, went, nothingSeen, cutSeen}
 use Rattle.coordinator.specs.Routines.{takeStep, crashed, crashStep}
@@ -58,7 +59,7 @@ module _ (n m size : ℕ) (h : Buffered) (q : Whole h) where
   acted-whole (Look max) = q
   acted-whole Store = q
   acted-whole (Modify time) = q
-  acted-whole (Recover time) = q
+  acted-whole (Recover time) = recover-either n m size h time (λ (w : Went). Whole (w .next)) q refl
   acted-whole Finish = refl
 
   waiting-whole : Whole (waitingOr n m size h .next)

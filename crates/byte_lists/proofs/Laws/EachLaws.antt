@@ -21,6 +21,11 @@ unfolding each
 each-all p zero h = refl
 each-all p (suc k) h = rw (each-all p k (λ i l. h i (omega arith)), h k (le-refl _))
 
+pub each-ext : (p q : ℕ → Bool) (k : ℕ) → ((i : ℕ) → p i ≡ q i) → each p k ≡ each q k
+unfolding each
+each-ext p q zero h = refl
+each-ext p q (suc k) h = rw (each-ext p q k h, h k)
+
 pub each-at : (p : ℕ → Bool) (k i : ℕ) → each p k ≡ true → i < k → p i ≡ true
 unfolding each
 each-at p zero i e h = absurd (not-suc-le-zero h)

@@ -1,14 +1,16 @@
 -- The answer and the buffers of each decision, by what the callees gave.
-use mathlib.Core.Path.{_≡_, refl, sym, ap, subst, _∙_}
+use mathlib.Core.Path.{_≡_, refl, sym, ap, ap₂, subst, _∙_}
+use mathlib.Core.Bool.{Bool, true, false, cond}
 use mathlib.Core.List.{List}
 use Prim.Native.Nat.{ℕ, _*_, _≤_, _<_}
 use native.Mathlib.Omega.{arith}
-use Rattle.coord_apply.specs.Acts.{stripeFrom, roundMessage, trimMessage, nextOp, nextRound, modifying, ending, finishedSeen, givenStripe, storedStripe, namedBricks, acted}
-use Rattle.coord_apply.specs.Answers.{Buffered, noMessage, readSeen, abortedSeen, sentCount, sentMessage, sentBlocks, answerOf}
+use Rattle.coord_apply.specs.Acts.{stripeFrom, agreeing, roundMessage, trimMessage, nextOp, nextRound, modifying, ending, finishedSeen, givenStripe, storedStripe, namedBricks}
+use Rattle.coord_apply.specs.Acts.{giversAt, storing, aborting, acted}
+use Rattle.coord_apply.specs.Answers.{Buffered, Went, went, noMessage, readSeen, abortedSeen, sentCount, sentMessage, sentBlocks, answerOf}
 use Rattle.coord_apply.specs.declared.Answer.{Answer}
 use Rattle.coord_record.specs.Records.{targetCount, noBricks}
 use Rattle.coord_record.specs.declared.Coordinator.{Coordinator}
-use Rattle.coord_tally.specs.Counting.{picked, targetRow, atTimes}
+use Rattle.coord_tally.specs.Counting.{givers, picked, targetRow, atTimes}
 use Rattle.coord_record.specs.declared.Op.{Op}
 use Rattle.coord_record.specs.declared.Tally.{Tally}
 use Rattle.coord_decide.specs.Deciding.{decided}
@@ -19,15 +21,35 @@ use Rattle.coord_decide.specs.declared.Decision.the-variants.{Abort, Give, Look
 use Rattle.erasure.specs.Code.{codedOf}
 use Rattle.message.specs.Kinds.{orderReadKind, writeKind, modifyKind}
 use Rattle.message.specs.declared.Message.{Message}
-use Rattle.settings.specs.Ranges.{CodeRange, maxBricks}
+use Rattle.settings.specs.Ranges.{CodeRange}
 use Rattle.settings.specs.Count.{count}
 use lib.ListN.{length, take}
-use Rattle.coord_tally.proofs.Laws.RowSets.{target-set, target-below, picked-set, picked-below}
-use Rattle.coord_apply.specs.Workers.{InPlace}
+use Rattle.coord_tally.proofs.Laws.RowSets.{target-set, target-below, givers-cut, giver-below, givers-differ}
+use Rattle.settings.proofs.Laws.CountLaws.{count-at-most}
+use Rattle.coord_apply.specs.Workers.{InPlace, HandedOn}
 use Rattle.coord_apply.proofs.Laws.BufferLaws.{in-place}
+use Rattle.coord_apply.proofs.Laws.OneBlockLaws.{left-as-it-was}
 use Rattle.interpolate.specs.Values.{PointSet}
 use Rattle.coord_apply.specs.Acts.{buffered}
 use Rattle.coord_apply.specs.Workers.{openAnswer, endAnswer, Acted}
+
+-- a recovery stores, or, where blocks of the chosen time disagree, ends aborted
+module _ (n m size : ℕ) (h : Buffered) (time : ℕ) where
+  pub recover-agreed : agreeing m size (giversAt n h time) (h .blocks) ≡ true → acted n m size h (Recover time) ≡ storing n m size h time
+  unfolding acted
+  recover-agreed e = ap (λ (b : Bool). cond b (storing n m size h time) (aborting h)) e
+
+  pub recover-disagreed : agreeing m size (giversAt n h time) (h .blocks) ≡ false → acted n m size h (Recover time) ≡ aborting h
+  unfolding acted
+  recover-disagreed e = ap (λ (b : Bool). cond b (storing n m size h time) (aborting h)) e
+
+  pub recover-either : (P : Went → Type 0) → P (storing n m size h time) → P (aborting h) → P (acted n m size h (Recover time))
+  unfolding acted
+  recover-either P s a = go (agreeing m size (giversAt n h time) (h .blocks))
+    where
+      go : (b : Bool) → P (cond b (storing n m size h time) (aborting h))
+      go true = s
+      go false = a
 
 module _ (n m size : ℕ) (c : Coordinator) (blocks stripe coded : List ℕ) where
   pub acted-abort : (r : Answer) → r ≡ endAnswer c abortedSeen noBricks 0 noMessage → Acted n m size (buffered c blocks stripe) Abort coded r stripe coded
@@ -52,12 +74,35 @@ module _ (n m size : ℕ) (c : Coordinator) (blocks stripe coded : List ℕ) whe
   unfolding acted modifying roundMessage nextOp answerOf sentCount sentMessage sentBlocks openAnswer buffered
   acted-modify r old e = record { answer = e; stripe-left = refl; coded-left = refl }
 
-  pub acted-recover : (r : Answer) (time : ℕ) (named stripe′ coded′ : List ℕ) → named ≡ namedBricks (c .op) (picked (c .tally .held) (c .tally .found) time n m)
-      → stripe′ ≡ storedStripe size (c .op) stripe (stripeFrom m size (picked (c .tally .held) (c .tally .found) time n m) blocks)
+  -- a recovery whose blocks agree, by what the callees gave,
+  pub acted-recover : (r : Answer) (time : ℕ) (b : Bool) (named stripe′ coded′ : List ℕ)
+      → b ≡ agreeing m size (givers (c .tally .held) (c .tally .found) time n) blocks → b ≡ true
+      → named ≡ namedBricks (c .op) (picked (c .tally .held) (c .tally .found) time n m)
+      → stripe′ ≡ cond b (storedStripe size (c .op) stripe (stripeFrom m size (givers (c .tally .held) (c .tally .found) time n) blocks)) stripe
       → coded′ ≡ codedOf n m size stripe′ → r ≡ openAnswer c writeKind 0 0 named → Acted n m size (buffered c blocks stripe) (Recover time) coded r stripe′ coded′
-  unfolding acted nextRound roundMessage nextOp answerOf sentCount sentMessage sentBlocks openAnswer buffered
-  acted-recover r time named stripe′ coded′ er es ec e =
-      record { answer = e ∙ ap (openAnswer c writeKind 0 0) er; stripe-left = es; coded-left = ec ∙ ap (codedOf n m size) es }
+  unfolding nextRound roundMessage nextOp answerOf sentCount sentMessage sentBlocks openAnswer buffered
+  acted-recover r time b named stripe′ coded′ eb et er es ec e =
+      let q = recover-agreed n m size (buffered c blocks stripe) time (sym eb ∙ et) in
+      let es′ = es ∙ ap (λ (a : Bool). cond a (storedStripe size (c .op) stripe (stripeFrom m size (givers (c .tally .held) (c .tally .found) time n) blocks)) stripe) et in
+      record {
+        answer = e ∙ ap (openAnswer c writeKind 0 0) er ∙ ap (λ (w : Went). answerOf c (went w)) (sym q);
+        stripe-left = es′ ∙ ap (λ (w : Went). w .next .stripe) (sym q);
+        coded-left = ec ∙ ap (codedOf n m size) es′ ∙ ap (λ (w : Went). sentBlocks (w .sent) coded) (sym q);
+      }
+
+  -- and one whose blocks disagree
+  pub acted-disagreed : (r : Answer) (time : ℕ) (b : Bool) (stripe′ : List ℕ)
+      → b ≡ agreeing m size (givers (c .tally .held) (c .tally .found) time n) blocks → b ≡ false
+      → stripe′ ≡ cond b (storedStripe size (c .op) stripe (stripeFrom m size (givers (c .tally .held) (c .tally .found) time n) blocks)) stripe
+      → r ≡ endAnswer c abortedSeen noBricks 0 noMessage → Acted n m size (buffered c blocks stripe) (Recover time) coded r stripe′ coded
+  unfolding ending answerOf sentCount sentMessage sentBlocks endAnswer buffered
+  acted-disagreed r time b stripe′ eb et es e =
+      let q = recover-disagreed n m size (buffered c blocks stripe) time (sym eb ∙ et) in
+      record {
+        answer = e ∙ ap (λ (w : Went). answerOf c (went w)) (sym q);
+        stripe-left = left-as-it-was b _ stripe stripe′ et es ∙ ap (λ (w : Went). w .next .stripe) (sym q);
+        coded-left = ap (λ (w : Went). sentBlocks (w .sent) coded) (sym q);
+      }
 
   pub acted-finish : (r : Answer) (what : ℕ) (trim : Message) → what ≡ finishedSeen (c .op) → trim ≡ trimMessage (c .op)
       → r ≡ endAnswer c what (c .bricks) 1 trim → Acted n m size (buffered c blocks stripe) Finish coded r stripe coded
@@ -81,19 +126,31 @@ end-by c what what′ sent row row′ message message′ r e ew er em =
     e ∙ ap (λ (w : ℕ). endAnswer c w row sent message) ew ∙ ap (λ (l : List ℕ). endAnswer c what′ l sent message) er
     ∙ ap (endAnswer c what′ row′ sent) em
 
--- the targets, and the bricks picked, can be decoded from
+-- the targets can be decoded from
 pub target-decodes : (n m size first : ℕ) (row blocks : List ℕ) → CodeRange n m size → first < n → length blocks ≡ n * size → row ≡ targetRow n m first
     → PointSet (take m row) × InPlace m size row blocks
 target-decodes n m size first row blocks r f e er =
     subst (λ (l : List ℕ). PointSet (take m l) × InPlace m size l blocks) (sym er)
     (target-set n m first (r .n-high) (r .m-high) f, in-place n m size (targetRow n m first) blocks e (target-below n m first (r .n-high) (r .m-high) f))
 
-pub picked-decodes : (n m size time : ℕ) (held found row blocks : List ℕ) → CodeRange n m size → m ≤ count (atTimes held found time) n
-    → length blocks ≡ n * size → row ≡ picked held found time n m → PointSet (take m row) × InPlace m size row blocks
-picked-decodes n m size time held found row blocks r k e er =
-    let few : m ≤ maxBricks = omega (arith, r .m-high, r .n-high) in
-    subst (λ (l : List ℕ). PointSet (take m l) × InPlace m size l blocks) (sym er)
-    (picked-set held found time n m k few, in-place n m size (picked held found time n m) blocks e (picked-below held found time n m k few))
+-- and so can all bricks that gave a time, by a row of them
+module _ (n m size time : ℕ) (held found row : List ℕ) (k : ℕ) (range : CodeRange n m size) (ek : k ≡ count (atTimes held found time) n)
+    (er : row ≡ picked held found time n n) where
+  pub givers-by : take k row ≡ givers held found time n
+  givers-by = ap₂ (λ (j : ℕ) (l : List ℕ). take j l) ek er ∙ givers-cut held found time n (range .n-high)
+
+  pub givers-decode : (blocks : List ℕ) → m ≤ count (atTimes held found time) n → length blocks ≡ n * size → HandedOn m size k row blocks
+  givers-decode blocks enough e =
+      let most = count-at-most (atTimes held found time) n in
+      subst (λ (l : List ℕ). HandedOn m size k l blocks) (sym er)
+      (record {
+        size-low = range .size-low;
+        size-high = range .size-high;
+        few = omega (arith, ek, most, range .n-high);
+        enough = omega (arith, ek);
+        differ = λ i j u w q. givers-differ held found time n (range .n-high) i j (omega arith) (omega arith) q;
+        in-place = in-place n k size (picked held found time n n) blocks e (λ i h. giver-below held found time n (range .n-high) i (omega arith));
+      })
 
 -- a recovery is decided only with enough blocks
 pub recover-enough : (n m time : ℕ) (op : Op) (t : Tally) (d : Decision) → d ≡ Recover time → d ≡ decided n m op t

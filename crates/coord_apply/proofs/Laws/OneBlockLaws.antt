@@ -12,7 +12,7 @@ use Rattle.byte_lists.specs.Lists.{put}
 use Rattle.byte_lists.proofs.Laws.PutLaws.{put-in}
 use Rattle.byte_lists.proofs.Laws.StackLaws.{part-length}
 use Rattle.coord_apply.proofs.Laws.BufferLaws.{place-is}
-use Rattle.coord_apply.specs.Acts.{stripeFrom, seenBlock, finishedSeen, givenStripe, storedStripe, namedBricks}
+use Rattle.coord_apply.specs.Acts.{stripeFrom, agreeing, seenBlock, finishedSeen, givenStripe, storedStripe, namedBricks}
 use Rattle.coord_apply.specs.Answers.{okSeen, readSeen}
 use Rattle.coord_apply.specs.Workers.{DecisionReady}
 use Rattle.coord_record.specs.Records.{writingBlockKind, isReading, onBlock, targetCount, noBricks}
@@ -47,9 +47,10 @@ module _ (op : Op) (b : Bool) (e : b ≡ onBlock (op .kind)) where
     unfolding givenStripe
     given-block z q = rw (← e, z) q
 
-    pub given-stripe : b ≡ false → (row : List ℕ) → row ≡ targetRow n m (op .first) → stripe′ ≡ stripeFrom m size row blocks → stripe′ ≡ givenStripe n m size op blocks stripe
+    pub given-stripe : b ≡ false → (row : List ℕ) → row ≡ targetRow n m (op .first) → stripe′ ≡ stripeFrom m size (take m row) blocks
+        → stripe′ ≡ givenStripe n m size op blocks stripe
     unfolding givenStripe
-    given-stripe z row er q = rw (← e, z) (q ∙ ap (λ (l : List ℕ). stripeFrom m size l blocks) er)
+    given-stripe z row er q = rw (← e, z) (q ∙ ap (λ (l : List ℕ). stripeFrom m size (take m l) blocks) er)
 
 -- a read, and a write
 module _ (op : Op) (r : Bool) (e : r ≡ isReading (op .kind)) where
@@ -101,19 +102,23 @@ whole-row n m first kind b row e z er = er ∙ ap (λ (k : ℕ). targetRow n k f
 pub target-row-by : (n m first kind k : ℕ) (row : List ℕ) → row ≡ targetRow n k first → k ≡ targetCount m kind → row ≡ targetRow n (targetCount m kind) first
 target-row-by n m first kind k row er e = er ∙ ap (λ (j : ℕ). targetRow n j first) e
 
--- what a recovery stores
-pub stored-block : (size : ℕ) (op : Op) (stripe decoded stripe′ : List ℕ) → op .kind ≡ writingBlockKind
-    → stripe′ ≡ withBlock size decoded (op .first) (blockOf size stripe (op .first)) → stripe′ ≡ storedStripe size op stripe decoded
+-- what a recovery stores, if the blocks agree
+pub stored-block : (size : ℕ) (op : Op) (b : Bool) (stripe decoded stripe′ : List ℕ) → op .kind ≡ writingBlockKind
+    → stripe′ ≡ cond b (withBlock size decoded (op .first) (blockOf size stripe (op .first))) stripe → stripe′ ≡ cond b (storedStripe size op stripe decoded) stripe
 unfolding storedStripe
-stored-block size op stripe decoded stripe′ k q = rw (eq-eqb (op .kind) writingBlockKind k) q
+stored-block size op b stripe decoded stripe′ k q = rw (eq-eqb (op .kind) writingBlockKind k) q
 
-pub stored-whole : (size : ℕ) (op : Op) (stripe decoded stripe′ : List ℕ) → (op .kind ≡ writingBlockKind → ⊥) → stripe′ ≡ decoded → stripe′ ≡ storedStripe size op stripe decoded
+pub stored-whole : (size : ℕ) (op : Op) (b : Bool) (stripe decoded stripe′ : List ℕ) → (op .kind ≡ writingBlockKind → ⊥) → stripe′ ≡ cond b decoded stripe
+    → stripe′ ≡ cond b (storedStripe size op stripe decoded) stripe
 unfolding storedStripe
-stored-whole size op stripe decoded stripe′ k q = rw (ne-eqb (op .kind) writingBlockKind k) q
+stored-whole size op b stripe decoded stripe′ k q = rw (ne-eqb (op .kind) writingBlockKind k) q
 
-pub stored-by : (m size : ℕ) (op : Op) (row row′ blocks stripe s : List ℕ) → s ≡ storedStripe size op stripe (stripeFrom m size row blocks) → row ≡ row′
-    → s ≡ storedStripe size op stripe (stripeFrom m size row′ blocks)
-stored-by m size op row row′ blocks stripe s e er = e ∙ ap (λ (l : List ℕ). storedStripe size op stripe (stripeFrom m size l blocks)) er
+pub stored-by : (m size : ℕ) (op : Op) (b : Bool) (row row′ blocks stripe s : List ℕ) → s ≡ cond b (storedStripe size op stripe (stripeFrom m size row blocks)) stripe
+    → row ≡ row′ → s ≡ cond b (storedStripe size op stripe (stripeFrom m size row′ blocks)) stripe
+stored-by m size op b row row′ blocks stripe s e er = e ∙ ap (λ (l : List ℕ). cond b (storedStripe size op stripe (stripeFrom m size l blocks)) stripe) er
+
+pub agreeing-by : (m size : ℕ) (b : Bool) (row row′ blocks : List ℕ) → b ≡ agreeing m size row blocks → row ≡ row′ → b ≡ agreeing m size row′ blocks
+agreeing-by m size b row row′ blocks e er = e ∙ ap (λ (l : List ℕ). agreeing m size l blocks) er
 
 -- block j, as the code cuts it out
 cut-block : (size j : ℕ) (l : List ℕ) → take (j * size + size - j * size) (drop (j * size) l) ≡ blockOf size l j
@@ -129,11 +134,16 @@ pub copied-block : (size j : ℕ) (from to ys : List ℕ) → j * size + size �
 copied-block size j from to ys h e = place-is size j (j * size) (blockOf size from j) to ys (cut-length size j from h) refl (e ∙ cut-block size j from)
 
 -- kept aside while the stripe is decoded, and put back
-pub put-back : (m size j : ℕ) (row blocks stripe aside aside′ stripe′ stripe″ : List ℕ) → j * size + size ≤ length stripe
-    → aside′ ≡ put 0 (take (j * size + size - j * size) (drop (j * size) stripe)) aside → stripe′ ≡ stripeFrom m size row blocks
-    → stripe″ ≡ put (j * size) (take size aside′) stripe′ → stripe″ ≡ withBlock size (stripeFrom m size row blocks) j (blockOf size stripe j)
+pub put-back : (size j : ℕ) (b : Bool) (decoded stripe aside aside′ stripe′ stripe″ : List ℕ) → j * size + size ≤ length stripe
+    → aside′ ≡ put 0 (take (j * size + size - j * size) (drop (j * size) stripe)) aside → b ≡ true → stripe′ ≡ cond b decoded stripe
+    → stripe″ ≡ put (j * size) (take size aside′) stripe′ → stripe″ ≡ withBlock size decoded j (blockOf size stripe j)
 unfolding withBlock
-put-back m size j row blocks stripe aside aside′ stripe′ stripe″ h ea es e =
+put-back size j b decoded stripe aside aside′ stripe′ stripe″ h ea eb es e =
     let kept = ap (take size) (ea ∙ ap (λ (l : List ℕ). put 0 l aside) (cut-block size j stripe))
     ∙ put-in 0 size (blockOf size stripe j) aside (cut-length size j stripe h) (omega arith) in
-    e ∙ ap (λ (l : List ℕ). put (j * size) l stripe′) kept ∙ ap (put (j * size) (blockOf size stripe j)) es
+    e ∙ ap (λ (l : List ℕ). put (j * size) l stripe′) kept
+    ∙ ap (put (j * size) (blockOf size stripe j)) (es ∙ ap (λ (a : Bool). cond a decoded stripe) eb)
+
+-- left, where the blocks disagree
+pub left-as-it-was : (b : Bool) (decoded stripe stripe′ : List ℕ) → b ≡ false → stripe′ ≡ cond b decoded stripe → stripe′ ≡ stripe
+left-as-it-was b decoded stripe stripe′ eb es = es ∙ ap (λ (a : Bool). cond a decoded stripe) eb

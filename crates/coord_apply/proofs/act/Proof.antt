@@ -1,6 +1,6 @@
 use mathlib.Core.Path.{refl}
 use Rattle.coord_record.specs.Records.{noBricks}
-use Rattle.coord_apply.proofs.Laws.ActLaws.{recover-enough, acted-at, acted-abort, acted-give, acted-look, acted-store, acted-modify, acted-recover, acted-finish, end-by}
+use Rattle.coord_apply.proofs.Laws.ActLaws.{recover-enough, acted-at, acted-abort, acted-give, acted-look, acted-store, acted-modify, acted-finish}
 use borrow.Author.Needs.{needs}
 use Rattle.coord_apply.proofs.act.Statement.{statement}
 use Rattle.coord_apply.proofs.act.Tie as tie
@@ -8,11 +8,8 @@ use Rattle.coord_apply.proofs.act.Tie as tie
 enum-told : tie.Need-enum-told
 enum-told c = search needs
 
-no-message-requires : tie.Need-no-message-requires
-no-message-requires c κs = search needs
-
-end-requires : tie.Need-end-requires
-end-requires c κs = search needs
+abort-requires : tie.Need-abort-requires
+abort-requires c κs = search needs
 
 enum-told-2 : tie.Need-enum-told-2
 enum-told-2 c = search needs
@@ -41,11 +38,10 @@ open-requires-2 c κs = search needs
 enum-known-d-3 : tie.Need-enum-known-d-3
 enum-known-d-3 c = search needs
 
-recover-requires : tie.Need-recover-requires
-recover-requires c κs = let s = c .before .before .before .before .before .before .before in (s .pre .0, recover-enough _ _ _ _ _ _ (c .before .before .d3 .given .1) (s .pre .1 .1))
-
-store-requires-2 : tie.Need-store-requires-2
-store-requires-2 c κs = search needs
+recover-and-store-requires : tie.Need-recover-and-store-requires
+recover-and-store-requires c κs =
+    let s = c .before .before .before .before .before .before .before .before in
+    (s .pre .0, (s .pre .1 .0, recover-enough _ _ _ _ _ _ (c .before .before .before .d3 .given .1) (s .pre .1 .1)))
 
 enum-told-4 : tie.Need-enum-told-4
 enum-told-4 c = search needs
@@ -54,9 +50,7 @@ finish-requires : tie.Need-finish-requires
 finish-requires c κs = search needs
 
 returns : tie.Need-returns
-unfolding noBricks
-returns c = acted-at _ _ _ _ _ _ _ _ _ _ (c .before .before .enum-told .given .1)
-    (acted-abort _ _ _ _ _ _ _ _ (end-by _ _ _ _ _ _ _ _ _ (c .end .ensures) refl refl (c .before .no-message .ensures)))
+returns c = acted-at _ _ _ _ _ _ _ _ _ _ (c .before .enum-told .given .1) (acted-abort _ _ _ _ _ _ _ _ (c .abort .ensures))
 
 same-length : tie.Need-same-length
 same-length c = search needs
@@ -91,9 +85,7 @@ same-length-5 : tie.Need-same-length-5
 same-length-5 c = search needs
 
 returns-6 : tie.Need-returns-6
-returns-6 c =
-    let r = c .before .before .before .before .before .before .before in acted-at _ _ _ _ _ _ _ _ _ _ (r .before .before .before .d3 .given .1)
-    (acted-recover _ _ _ _ _ _ _ _ _ _ _ _ (r .recover .ensures .0) (r .recover .ensures .1) (c .before .before .store2 .ensures .1) (c .before .before .store2 .ensures .0))
+returns-6 c = acted-at _ _ _ _ _ _ _ _ _ _ (c .before .before .before .before .before .before .before .before .d3 .given .1) (c .before .before .before .before .recover-and-store .ensures)
 
 returns-7 : tie.Need-returns-7
 returns-7 c = acted-at _ _ _ _ _ _ _ _ _ _ (c .before .enum-told4 .given .1) (acted-finish _ _ _ _ _ _ _ _ _ _ refl refl (c .finish .ensures))
@@ -103,8 +95,7 @@ act-spec =
     tie.close
     (tie.spec
     enum-told
-    no-message-requires
-    end-requires
+    abort-requires
     enum-told-2
     give-requires
     enum-known-d
@@ -114,8 +105,7 @@ act-spec =
     enum-known-d-2
     open-requires-2
     enum-known-d-3
-    recover-requires
-    store-requires-2
+    recover-and-store-requires
     enum-told-4
     finish-requires
     returns

@@ -68,7 +68,7 @@ same-length-2 c = search needs
 returns : tie.Need-returns
 returns c =
     let g = c .before .before .before .before .before .before .before .before in
-    stripe-from-is _ _ _ _ _ _ _ (gathered-length g) (g .gather .ensures) (c .before .before .decode-into .ensures)
+    stripe-from-is _ _ _ _ _ _ _ (gathered-length g) (g .gather .ensures) _ (c .before .before .decode-into .ensures)
 
 pub decode-by-spec : {M : Type 1} → statement M
 decode-by-spec =

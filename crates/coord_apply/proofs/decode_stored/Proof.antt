@@ -4,36 +4,41 @@ use borrow.Author.Needs.{needs}
 use Rattle.coord_apply.proofs.decode_stored.Statement.{statement}
 use Rattle.coord_apply.proofs.decode_stored.Tie as tie
 
-slice-aggregate-decode-around : tie.Need-slice-aggregate-decode-around
-slice-aggregate-decode-around c = search needs
+slice-aggregate-check-around : tie.Need-slice-aggregate-check-around
+slice-aggregate-check-around c = search needs
 
-decode-around-requires : tie.Need-decode-around-requires
-decode-around-requires c κs = let s = c .before .before .before .before .before .before in let p = s .pre in
-    (p .0, ((write-within (s .args .m) (s .args .size) (length (s .args .stripe .now)) (s .args .op) (p .1 .0 .0) (p .1 .0 .1) (c .before .before .if1 .taken), p .1 .0 .1, p .0 .1), p .1 .1))
-
-decode-from-requires : tie.Need-decode-from-requires
-decode-from-requires c κs = search needs
+check-around-requires : tie.Need-check-around-requires
+check-around-requires c κs =
+    let s = c .before .before .before .before .before .before in let p = s .pre in
+    (p .0, (write-within (s .args .m) (s .args .size) (length (s .args .stripe .now)) (s .args .op) (p .1 .0) (p .1 .1) (c .before .before .if1 .taken), p .1 .1, p .0 .size-high))
 
 same-length : tie.Need-same-length
 same-length c = search needs
 
 returns : tie.Need-returns
-returns c = stored-block _ _ _ _ _ (c .before .before .before .before .before .before .if1 .taken) (c .before .before .before .decode-around .ensures)
+returns c =
+    let d = c .before .before .before .check-around in
+    (d .ensures .0, stored-block _ _ (d .result) _ _ _ (c .before .before .before .before .before .before .if1 .taken) (d .ensures .1))
+
+check-from-requires : tie.Need-check-from-requires
+check-from-requires c κs = search needs
 
 same-length-2 : tie.Need-same-length-2
 same-length-2 c = search needs
 
 returns-2 : tie.Need-returns-2
-returns-2 c = stored-whole _ _ _ _ _ (c .before .before .before .before .if1 .left) (c .before .before .decode-from .ensures)
+returns-2 c =
+    let d = c .before .before .check-from in
+    (d .ensures .0, stored-whole _ _ (d .result) _ _ _ (c .before .before .before .before .if1 .left) (d .ensures .1))
 
 pub decode-stored-spec : {M : Type 1} → statement M
 decode-stored-spec =
     tie.close
     (tie.spec
-    slice-aggregate-decode-around
-    decode-around-requires
-    decode-from-requires
+    slice-aggregate-check-around
+    check-around-requires
     same-length
     returns
+    check-from-requires
     same-length-2
     returns-2)

@@ -1,21 +1,20 @@
 use borrow.Author.Needs.{needs}
 use native.Mathlib.Omega.{arith}
-use lib.ListN.{getD, length}
+use lib.ListN.{getD, length, take}
 use mathlib.Core.Path.{sym, ap, _∙_}
 use Prim.Native.Nat.{ℕ, _+_, _-_, _*_, _≤_}
 use Rattle.erasure.specs.Code.{blockOf}
-use Rattle.coord_apply.specs.Acts.{gathered}
-use Rattle.coord_apply.proofs.Laws.BufferLaws.{block-here, block-cut, next-within}
+use Rattle.coord_apply.proofs.Laws.BufferLaws.{block-here, block-cut, next-within, first-bricks}
 use Rattle.byte_lists.proofs.Laws.StackLaws.{Stacked, stacked-none, stacked-more, stacked-all, part-length}
 use Rattle.coord_apply.proofs.gather.Statement.{statement}
 use Rattle.coord_apply.proofs.gather.Tie as tie
 
 abbrev Inv-loop : tie.InvT-loop
-Inv-loop m size blocks out₀ bricks i₀ at₀ out i at =
-    Stacked (λ (j : ℕ). blockOf size blocks (getD bricks j 0)) size out₀ out i at × (i ≤ m)
+Inv-loop k size blocks out₀ bricks i₀ at₀ out i at =
+    Stacked (λ (j : ℕ). blockOf size blocks (getD (take k bricks) j 0)) size out₀ out i at × (i ≤ k)
 
 abbrev μ-loop : tie.MeasureT-loop
-μ-loop m size blocks out₀ bricks i₀ at₀ out i at = m - i
+μ-loop k size blocks out₀ bricks i₀ at₀ out i at = k - i
 
 loop-holds : tie.Need-loop-holds Inv-loop μ-loop
 loop-holds c = (stacked-none _ _ _, omega arith)
@@ -36,7 +35,7 @@ from-fits c =
 to-fits : (c : tie.In-loop Inv-loop μ-loop) → c .before .loop .at + c .before .before .before .before .args .size ≤ length (c .before .loop .out)
 to-fits c =
     let s = c .before .before .before .before in
-    next-within (s .args .m) _ _ _ (c .before .loop .out) (c .before .loop .inv .0 .place) (c .loop-test .taken) (c .before .loop .inv .0 .size-kept ∙ s .pre .0 .1)
+    next-within (s .args .k) _ _ _ (c .before .loop .out) (c .before .loop .inv .0 .place) (c .loop-test .taken) (c .before .loop .inv .0 .size-kept ∙ s .pre .0 .1)
 
 mul-from : tie.Need-mul-from Inv-loop μ-loop
 mul-from c = record { fits = omega (arith, from-fits c) }
@@ -82,7 +81,7 @@ loop-again c =
     let s = w .before .before .before .before .before in (
       stacked-more _ (s .args .size) _ _ _ _ _ (l .inv .0) (to-fits (w .before))
           (ap length (c .before .before .copy .ensures) ∙ part-length _ _ _ (from-fits w))
-          (c .before .before .copy .ensures ∙ block-cut _ (l .i) _ (s .args .t3) _ (w .wide-index .ensures .0)),
+          (c .before .before .copy .ensures ∙ block-cut (s .args .k) _ (l .i) _ (s .args .t3) _ (w .before .loop-test .taken) (w .wide-index .ensures .0)),
       omega arith,
     )
 
@@ -90,8 +89,9 @@ same-length : tie.Need-same-length Inv-loop μ-loop
 same-length c = c .before .loop .inv .0 .size-kept
 
 returns : tie.Need-returns Inv-loop μ-loop
-unfolding gathered
-returns c = stacked-all _ _ _ _ _ _ _ (c .before .loop .inv .0) (c .loop-test .left) (c .before .loop .inv .1) (c .before .before .before .before .pre .0 .1)
+returns c =
+    let s = c .before .before .before .before in
+    first-bricks _ _ _ _ _ (omega (arith, s .pre .0 .0)) (stacked-all _ _ _ _ _ _ _ (c .before .loop .inv .0) (c .loop-test .left) (c .before .loop .inv .1) (s .pre .0 .1))
 
 pub gather-spec : {M : Type 1} → statement M
 gather-spec =

@@ -8,6 +8,7 @@ use native.Mathlib.Omega.{arith}
 use lib.Dec.{eqb, leb, ltb}
 use lib.ListN.{length, getD, take, replicate, length-take, List·getD-eq-default}
 use borrow.Author.Tests.{eq-eqb, ne-eqb, le-leb, lt-ltb, le-ltb, eqb-false, leb-true, ltb-true, ltb-false}
+use Rattle.coord_apply.proofs.Laws.ActLaws.{recover-either}
 use Rattle.coord_apply.specs.Acts.{nextOp, opened, nextRound, modifying, ending, namedBricks, acted, withTally, counting, waitingOr, firstOp, starting}
 use Rattle.coord_apply.specs.Answers.{Buffered, Went, Step, refused, went, afterChecks, nothingSeen, cutSeen}
 use Rattle.coord_refusals.specs.Checks.{recordChecks, stripeChecks, writeChecks, readChecks, startChecks, writeRefusal, readRefusal, writeBlockRefusal, readBlockRefusal, takeRefusal, crashRefusal}
@@ -237,7 +238,8 @@ acted-good n m size stripes h r f = go (decided n m (h .state .op) (h .state .ta
         opened-good n m size stripes writeKind 0 (h .state) noBricks r f (write-stores (h .state .op) i)
         (ap (λ (k : ℕ). bricksRight n k noBricks) (named-write m (h .state .op) (i .kind-is)) ∙ no-bricks-right n)
     go (Modify time) s = plain modifyKind 0 refl (block-modifies (h .state .op) (in-block-order (h .state .op) (f .op-right) (s .phase-is)))
-    go (Recover time) s = recovered-good n m size stripes (h .state) time r f s
+    go (Recover time) s =
+        recover-either n m size h time (λ (w : Went). Good n m size stripes (w .next .state)) (recovered-good n m size stripes (h .state) time r f s) idle
     go Finish s = idle
 
 -- a reply counted

@@ -8,6 +8,7 @@ use native.Mathlib.Omega.{arith}
 use lib.Dec.{eqb, ltb}
 use lib.ListN.{length}
 use borrow.Author.Tests.{eqb-true}
+use Rattle.coord_apply.proofs.Laws.ActLaws.{recover-either}
 use Rattle.coord_apply.specs.Acts.{finishedSeen, roundMessage, trimMessage, nextOp, opened, nextRound, modifying, ending, acted, withTally, counting, waitingOr, firstOp, starting}
 use Rattle.coord_apply.specs.Answers.{Buffered, Broadcast, Went, went, nothingSeen, beganSeen, okSeen, readSeen, cutSeen}
 use Rattle.coord_decide.specs.Deciding.{decided}
@@ -120,7 +121,8 @@ acted-keeps n m size h Give = ends h _ _ [] _ (none-sent (h .state .op .stripe))
 acted-keeps n m size h (Look max) = opens h _ _ _ _ _
 acted-keeps n m size h Store = opens h _ _ _ _ _
 acted-keeps n m size h (Modify time) = modifies size h time
-acted-keeps n m size h (Recover time) = opens h _ _ _ _ _
+acted-keeps n m size h (Recover time) =
+    recover-either n m size h time (KeepsStripe h) (opens h _ _ _ _ _) (ends h _ _ [] _ (none-sent (h .state .op .stripe)) (λ e. omega (arith, e)))
 acted-keeps n m size h Finish =
     ends h _ _ _ _ (one-sent (h .state .op .stripe) (record { message = trimMessage (h .state .op); blocks = []; old = [] }) refl) (finished-told (h .state .op))
 

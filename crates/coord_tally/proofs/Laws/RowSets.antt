@@ -9,12 +9,13 @@ use native.Mathlib.Nat.{not-suc-le-zero}
 use native.Mathlib.Omega.{arith}
 use lib.Dec.{ltb}
 use lib.ListN.{length, getD, take, length-append, List·getD-append}
-use lib.Seq.{getD-at, getD-take, length-take-le}
+use lib.Seq.{ext-getD, getD-at, getD-take, length-take-le}
 use borrow.Author.Tests.{lt-ltb, ltb-true, ltb-false}
-use Rattle.coord_tally.specs.Counting.{passing, inRow, picked, atTimes, upward, targetRow}
+use Rattle.coord_tally.specs.Counting.{passing, inRow, givers, picked, atTimes, upward, targetRow}
 use Rattle.interpolate.specs.Values.{PointSet}
 use Rattle.byte_lists.proofs.Laws.TabulateLaws.{length-tabulate, getD-tabulate}
 use Rattle.settings.specs.Count.{count, one-if}
+use Rattle.settings.proofs.Laws.CountLaws.{count-at-most}
 use Rattle.settings.specs.Ranges.{maxBricks}
 
 -- one more brick: as it was below, the brick itself at the end
@@ -64,6 +65,14 @@ passing-rises p (suc k) i j l h = go (p k) h (decLt j (length (passing p k))) (p
     go false u d ih bl =
         let e = append-nil (passing p k) in
         subst (λ (l : List ℕ). getD l i 0 < getD l j 0) (sym e) (ih (subst (λ (l : List ℕ). j < length l) e u))
+
+pub passing-differ : (p : ℕ → Bool) (k i j : ℕ) → i < length (passing p k) → j < length (passing p k) → getD (passing p k) i 0 ≡ getD (passing p k) j 0 → i ≡ j
+passing-differ p k i j u w q = go (decLt i j) (decLt j i)
+  where
+    go : Dec (i < j) → Dec (j < i) → i ≡ j
+    go (yes a) d = absurd (let r = passing-rises p k i j a w in omega arith)
+    go (no a) (yes b) = absurd (let r = passing-rises p k j i b u in omega arith)
+    go (no a) (no b) = omega arith
 
 -- each of them passes
 pub passing-holds : (p : ℕ → Bool) (k i : ℕ) → i < length (passing p k) → p (getD (passing p k) i 0) ≡ true
@@ -119,13 +128,42 @@ module _ (flags found : List ℕ) (time n m : ℕ) (enough : m ≤ count (atTime
       let b = passing-rises (atTimes flags found time) n i j l (omega arith) in omega arith
 
   pub picked-set : PointSet (take m (picked flags found time n m))
-  picked-set = row-set m (picked flags found time n m) picked-long few (λ i j u w q. go i j u w q (decLt i j) (decLt j i))
-    where
-      go : (i j : ℕ) → i < m → j < m → getD (picked flags found time n m) i 0 ≡ getD (picked flags found time n m) j 0
-          → Dec (i < j) → Dec (j < i) → i ≡ j
-      go i j u w q (yes a) d = absurd (let r = picked-rises i j a w in omega arith)
-      go i j u w q (no a) (yes b) = absurd (let r = picked-rises j i b u in omega arith)
-      go i j u w q (no a) (no b) = omega arith
+  picked-set =
+      let z = passing-long (atTimes flags found time) n in
+      row-set m (picked flags found time n m) picked-long few
+      (λ i j u w q. passing-differ (atTimes flags found time) n i j (omega arith) (omega arith) (sym (picked-at i u) ∙ q ∙ picked-at j w))
+
+-- all that pass, in a row
+module _ (flags found : List ℕ) (time n : ℕ) (few : n ≤ maxBricks) where
+  pub giver-at : (i : ℕ) → i < count (atTimes flags found time) n → getD (picked flags found time n n) i 0 ≡ getD (givers flags found time n) i 0
+  unfolding picked inRow
+  giver-at i h =
+      let m = count-at-most (atTimes flags found time) n in
+      getD-tabulate maxBricks (λ (k : ℕ). getD (take n (passing (atTimes flags found time) n)) k 0) i (omega arith)
+      ∙ getD-take n (passing (atTimes flags found time) n) i 0 (omega arith)
+
+  pub givers-cut : take (count (atTimes flags found time) n) (picked flags found time n n) ≡ givers flags found time n
+  unfolding picked inRow
+  givers-cut =
+      let k = count (atTimes flags found time) n in
+      let row = picked flags found time n n in
+      let m = count-at-most (atTimes flags found time) n in
+      let z = passing-long (atTimes flags found time) n in
+      let e = length-tabulate maxBricks (λ (k : ℕ). getD (take n (passing (atTimes flags found time) n)) k 0) in
+      let w = length-take-le k row (omega arith) in
+      ext-getD 0 (take k row) (givers flags found time n) (w ∙ sym z) (λ i u. getD-take k row i 0 (omega arith) ∙ giver-at i (omega arith))
+
+  pub giver-below : (i : ℕ) → i < count (atTimes flags found time) n → getD (picked flags found time n n) i 0 < n
+  giver-below i h =
+      let e = giver-at i h in
+      let z = passing-long (atTimes flags found time) n in
+      let b = passing-below (atTimes flags found time) n i (omega arith) in omega arith
+
+  pub givers-differ : (i j : ℕ) → i < count (atTimes flags found time) n → j < count (atTimes flags found time) n
+      → getD (picked flags found time n n) i 0 ≡ getD (picked flags found time n n) j 0 → i ≡ j
+  givers-differ i j u w q =
+      passing-differ (atTimes flags found time) n i j (let z = passing-long (atTimes flags found time) n in omega arith)
+      (let z = passing-long (atTimes flags found time) n in omega arith) (sym (giver-at i u) ∙ q ∙ giver-at j w)
 
 -- the targets
 module _ (n m first : ℕ) (few : n ≤ maxBricks) (within : m ≤ n) (start : first < n) where

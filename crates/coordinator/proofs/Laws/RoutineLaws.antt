@@ -10,6 +10,7 @@ use lib.ListN.{length}
 use borrow.Author.Tests.{eq-eqb, ne-eqb, lt-leb, lt-ltb, le-ltb, eqb-true, leb-false, ltb-true}
 use Rattle.coord_apply.specs.Acts.{buffered}
 use Rattle.coord_apply.specs.Workers.{endAnswer, DecisionReady, Acted}
+use Rattle.coord_apply.proofs.Laws.ActLaws.{recover-either}
 use Rattle.coord_apply.specs.Acts.{withTally, counting, waitingOr, acted, ending, nextRound, modifying, roundMessage, firstOp, starting}
 use Rattle.coord_apply.specs.Answers.{Buffered, Went, Step, refused, went, afterChecks, nothingSeen, noMessage, cutSeen, sentCount, sentMessage, sentBlocks, answerOf, blocksAfter}
 use Rattle.coord_apply.specs.Answers.{stripeAfter, codedAfter, Returned, returned, returnedBy}
@@ -114,7 +115,7 @@ acted-blocks n m size h Give = refl
 acted-blocks n m size h (Look max) = refl
 acted-blocks n m size h Store = refl
 acted-blocks n m size h (Modify time) = refl
-acted-blocks n m size h (Recover time) = refl
+acted-blocks n m size h (Recover time) = recover-either n m size h time (λ (w : Went). w .next .blocks ≡ h .blocks) refl refl
 acted-blocks n m size h Finish = refl
 
 pub keeps : (n m size stripes : ℕ) (c : Coordinator) (r : Reply) (block blocks stripe coded bad : ℕ) → bad ≡ takeRefusal n m size stripes c r block blocks stripe coded

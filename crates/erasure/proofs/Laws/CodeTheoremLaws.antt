@@ -3,15 +3,16 @@ use mathlib.Core.Path.{_≡_, refl, sym, ap, ap₂, _∙_}
 use mathlib.Core.List.{List}
 use Prim.Native.Nat.{ℕ, _+_, _*_, _≤_, _<_}
 use native.Mathlib.Omega.{arith}
-use lib.ListN.{length, getD, replicate, length-replicate}
+use lib.ListN.{length, getD, take, replicate, length-replicate}
 use Rattle.byte_lists.specs.Lists.{zeros}
 use Rattle.byte_lists.proofs.Laws.ZeroLaws.{zeros-at}
-use Rattle.erasure.specs.Code.{firstPoints, codedOf, decodedOf, blocksOf}
-use Rattle.erasure.specs.CodeTheorems.{DataPolynomial, CodedByOnePolynomial, DecodeAfterEncode, DecodedIsEncoded, CodeIsLinear}
+use Rattle.erasure.specs.Code.{firstPoints, codedOf, decodedOf, blocksOf, agree, PassesThrough, Stripe, Bricks}
+use Rattle.erasure.specs.CodeTheorems.{DataPolynomial, CodedByOnePolynomial, DecodeAfterEncode, CodedBlocksAgree, DecodedIsEncoded, CodeIsLinear}
 use Rattle.erasure.specs.Refusals.{encodedBuffer, decodedBuffer}
-use Rattle.erasure.proofs.Laws.PassedLaws.{length-first, first-set, encode-passed, decode-passed, below-at}
-use Rattle.erasure.proofs.Laws.CodeRefusalLaws.{passed-gives}
-use Rattle.erasure.proofs.Laws.CodedByteLaws.{first-at, first-small, coded-byte, value-is, decoded-byte}
+use Rattle.erasure.proofs.Laws.PassedLaws.{length-first, first-set, listed-bricks, bricks-small, m-few, encode-passed, decode-passed}
+use Rattle.erasure.proofs.Laws.CodeRefusalLaws.{passed-gives, decode-agrees}
+use Rattle.erasure.proofs.Laws.OnePolynomialLaws.{value-on, through-agree}
+use Rattle.erasure.proofs.Laws.CodedByteLaws.{first-at, first-small, coded-byte, value-is, handed-length, handed-byte}
 use Rattle.gf256.specs.Product.{plus, product}
 use Rattle.interpolate.proofs.Laws.BlockLaws.{blocks-by}
 use Rattle.interpolate.specs.Bytes.{Byte, byte, byteField}
@@ -23,13 +24,6 @@ use Rattle.interpolate.specs.Workers.{pointsOf}
 use Rattle.poly.proofs.Laws.InterpolationLaws.{interpolated-cong, interpolated-linear, interpolated-zero}
 use Rattle.poly.specs.Polynomial.{eval, interpolated}
 use Rattle.settings.specs.Ranges.{maxBricks}
-
-pub decode-after-encode : DecodeAfterEncode
-unfolding decodedOf
-decode-after-encode n m size stripe bricks s b =
-    sym
-    (blocks-by bricks size (blocksOf size (codedOf n m size stripe) bricks) stripe m (s .pos) (s .length-is)
-    (decoded-byte n m size stripe bricks s b))
 
 -- coded bytes as values at points 0, 1, ..
 pub coded-value : (n m size : ℕ) (stripe : List ℕ) (j p : ℕ) → j < n → p < size
@@ -70,23 +64,54 @@ coded-by-one-polynomial n m size stripe p r small hp =
       (λ j h. coded-byte n m size stripe j p h hp ∙ e .3 j),
     )
 
+-- The blocks of bricks of n lie on the polynomial of the data.
+module _ (n m size : ℕ) (stripe bricks : List ℕ) (s : Stripe m size stripe) (b : Bricks n m bricks) where
+  handed : List ℕ
+  handed = blocksOf size (codedOf n m size stripe) bricks
+
+  handed-through : (p : ℕ) → p < size → (c : List Byte) × DataPolynomial m size stripe p c × PassesThrough m size bricks handed p c
+  unfolding handed
+  handed-through p hp =
+      let e = exactly-one-polynomial (firstPoints m) size stripe p (first-small m (m-few n m bricks b)) (first-set m (m-few n m bricks b)) in
+      let d = data-polynomial m size stripe p (s .small) (e .0) (e .1) in (
+        e .0,
+        d,
+        record { degree = d .degree; at = λ i h. sym (e .3 (getD bricks i 0)) ∙ sym (handed-byte n m size stripe bricks b i p h hp) },
+      )
+
+pub decode-after-encode : DecodeAfterEncode
+unfolding decodedOf handed
+decode-after-encode n m size stripe bricks s b =
+    sym
+    (blocks-by (take m bricks) size (blocksOf size (codedOf n m size stripe) bricks) stripe m (s .pos) (s .length-is)
+    (λ x p hx hp.
+    let t = handed-through n m size stripe bricks s b p hp in
+    sym
+    (value-on m size bricks (blocksOf size (codedOf n m size stripe) bricks) (m-few n m bricks b) (b .enough) (b .differ)
+    (bricks-small n m bricks b) p (t .0) (t .2) x
+    ∙ t .1 .at x hx)))
+
+pub coded-blocks-agree : CodedBlocksAgree
+unfolding handed
+coded-blocks-agree n m size stripe bricks s b =
+    through-agree m size bricks (blocksOf size (codedOf n m size stripe) bricks) (m-few n m bricks b) (b .enough) (b .differ) (bricks-small n m bricks b)
+    (handed-length n m size stripe bricks b)
+    (λ p hp. let t = handed-through n m size stripe bricks s b p hp in (t .0, t .2))
+
 pub decoded-is-encoded : DecodedIsEncoded
 unfolding encodedBuffer decodedBuffer
 decoded-is-encoded n m size stripe coded coded′ bricks blocks out out′ small accepted ec eb taken eo =
     let e = encode-passed n m size (length stripe) (length coded) accepted in
     let d = decode-passed n m size bricks (length blocks) (length out) taken in
-    eo ∙ sym (passed-gives _ out (decodedOf m size bricks blocks) _ taken refl)
-    ∙ ap (decodedOf m size bricks)
-    (eb ∙ ap (λ (l : List ℕ). blocksOf size l bricks) (ec ∙ sym (passed-gives _ coded (codedOf n m size stripe) _ accepted refl)))
-    ∙ decode-after-encode n m size stripe bricks
-    (record { pos = e .range .size-low; length-is = e .stripe-length; small = small })
-    (record {
-      some = d .range .n-low;
-      few = d .range .n-high;
-      count = d .count;
-      set = d .set;
-      below = λ i h. below-at bricks n (d .below) i (let q = d .count in omega arith);
-    })
+    let eh = eb ∙ ap (λ (l : List ℕ). blocksOf size l bricks) (ec ∙ sym (passed-gives _ coded (codedOf n m size stripe) _ accepted refl)) in
+    let s : Stripe m size stripe = record { pos = e .range .size-low; length-is = e .stripe-length; small = small } in
+    let b = listed-bricks d in
+    let a = ap (agree m size bricks) eh ∙ coded-blocks-agree n m size stripe bricks s b in
+    let ok = sym (decode-agrees n m size bricks blocks (length out) _ taken refl a) in (
+      ok,
+      eo ∙ sym (passed-gives _ out (decodedOf m size bricks blocks) _ ok refl)
+          ∙ ap (decodedOf m size bricks) eh ∙ decode-after-encode n m size stripe bricks s b,
+    )
 
 pub code-is-linear : CodeIsLinear
 unfolding byteAt

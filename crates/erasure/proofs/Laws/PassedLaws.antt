@@ -6,12 +6,12 @@ use Prim.Native.Nat.{ℕ, zero, suc, _*_, _≤_, _<_}
 use native.Mathlib.Decide.{decLt}
 use native.Mathlib.Nat.{le-of-suc-le-suc, not-suc-le-zero}
 use native.Mathlib.Omega.{arith}
-use lib.Dec.{eqb, ltb}
-use lib.ListN.{length, getD, take}
+use lib.Dec.{eqb, leb, ltb}
+use lib.ListN.{length, getD, take, List·getD-eq-default}
 use lib.Seq.{getD-take, length-take-le}
-use borrow.Author.Tests.{eq-eqb, eqb-true, ltb-true, not-true}
-use Rattle.erasure.specs.Code.{firstPoints}
-use Rattle.erasure.specs.Refusals.{allBelow, stands, allDifferent, encodeRefusal, decodeRefusal}
+use borrow.Author.Tests.{eq-eqb, eqb-true, leb-true, ltb-true, not-true}
+use Rattle.erasure.specs.Code.{firstPoints, Bricks}
+use Rattle.erasure.specs.Refusals.{allBelow, stands, allDifferent, encodeRefusal, listRefusal}
 use Rattle.byte_lists.specs.Each.{each}
 use Rattle.byte_lists.proofs.Laws.EachLaws.{each-at}
 use Rattle.interpolate.specs.Values.{PointSet}
@@ -21,7 +21,7 @@ use Rattle.settings.proofs.Laws.RangeLaws.{code-passed}
 use Rattle.byte_lists.proofs.Laws.BoolLaws.{and-left, and-right}
 use Rattle.settings.specs.Refusal.{refuseUnless, badLength, badNumber}
 use Rattle.settings.proofs.Laws.RefusalLaws.{passed-first, passed-rest, tested}
-use Rattle.erasure.specs.Workers.{Encodes}
+use Rattle.erasure.specs.Workers.{Encodes, Decodes}
 
 stands-nowhere : (x : ℕ) (l : List ℕ) → stands x l ≡ false → (k : ℕ) → k < length l → getD l k 0 ≡ x → ⊥
 unfolding stands
@@ -42,13 +42,13 @@ apart (b ∷ bs) e i zero h u q = not-suc-le-zero h
 apart (b ∷ bs) e zero (suc j) h u q = stands-nowhere b bs (not-true _ (and-left _ _ e)) j (le-of-suc-le-suc u) (sym q)
 apart (b ∷ bs) e (suc i) (suc j) h u q = apart bs (and-right (not (stands b bs)) _ e) i j (le-of-suc-le-suc h) (le-of-suc-le-suc u) q
 
-pub different-set : (l : List ℕ) → allDifferent l ≡ true → length l ≤ maxBricks → PointSet l
-different-set l e f = record { few = f; differ = λ i j hi hj q. by i j hi hj q (decLt i j) (decLt j i) }
+different-places : (l : List ℕ) → allDifferent l ≡ true → (i j : ℕ) → i < length l → j < length l → getD l i 0 ≡ getD l j 0 → i ≡ j
+different-places l e i j hi hj q = by (decLt i j) (decLt j i)
   where
-    by : (i j : ℕ) → i < length l → j < length l → getD l i 0 ≡ getD l j 0 → Dec (i < j) → Dec (j < i) → i ≡ j
-    by i j hi hj q (yes h) d = absurd (apart l e i j h hj q)
-    by i j hi hj q (no n) (yes h) = absurd (apart l e j i h hi (sym q))
-    by i j hi hj q (no n) (no k) = omega arith
+    by : Dec (i < j) → Dec (j < i) → i ≡ j
+    by (yes h) d = absurd (apart l e i j h hj q)
+    by (no n) (yes h) = absurd (apart l e j i h hi (sym q))
+    by (no n) (no k) = omega arith
 
 -- bricks below n, by their places
 pub below-at : (l : List ℕ) (n : ℕ) → allBelow l n ≡ true → (i : ℕ) → i < length l → getD l i 0 < n
@@ -77,14 +77,37 @@ unfolding firstPoints
 first-by l m e h u =
     tabulate-by m (λ (i : ℕ). i) (take m l) (length-take-le m l (omega arith)) (λ i k. getD-take m l i 0 k ∙ h i (omega arith))
 
--- a decoding that is not refused
-pub record Decodes (n m size : ℕ) (bricks : List ℕ) (blocks stripe : ℕ) : Type 0 where
+-- a decoding whose settings, list and lengths are not refused
+pub record Listed (n m size : ℕ) (bricks : List ℕ) (blocks stripe : ℕ) : Type 0 where
   pub range : CodeRange n m size
-  pub blocks-length : blocks ≡ m * size
-  pub stripe-length : stripe ≡ m * size
   pub below : allBelow bricks n ≡ true
-  pub count : length bricks ≡ m
-  pub set : PointSet bricks
+  pub decodes : Decodes m size bricks blocks stripe
+
+-- a list of m or more different bricks of n
+pub listed-bricks : {n m size blocks stripe : ℕ} {bricks : List ℕ} → Listed n m size bricks blocks stripe → Bricks n m bricks
+listed-bricks {n} {m} {size} {blocks} {stripe} {bricks} d =
+    record {
+      some = d .range .n-low;
+      few = d .range .n-high;
+      low = d .range .m-high;
+      enough = d .decodes .enough;
+      differ = d .decodes .differ;
+      below = below-at bricks n (d .below);
+    }
+
+module _ (n m : ℕ) (bricks : List ℕ) (b : Bricks n m bricks) where
+  pub bricks-below : (i : ℕ) → getD bricks i 0 < n
+  bricks-below i = by (decLt i (length bricks))
+    where
+      by : Dec (i < length bricks) → getD bricks i 0 < n
+      by (yes h) = b .below i h
+      by (no k) = subst (λ (x : ℕ). x < n) (sym (List·getD-eq-default bricks 0 {n = i} (omega arith))) (b .some)
+
+  pub bricks-small : (i : ℕ) → getD bricks i 0 < 256
+  bricks-small i = let h = bricks-below i in let f = b .few in omega arith
+
+  pub m-few : m ≤ maxBricks
+  m-few = omega (arith, b .low, b .few)
 
 pub encode-passed : (n m size s c : ℕ) → encodeRefusal n m size s c ≡ 0 → Encodes n m size s c
 unfolding encodeRefusal
@@ -96,23 +119,27 @@ encode-passed n m size s c e =
       coded-length = eqb-true c (n * size) (and-right (eqb s (m * size)) _ l);
     }
 
-pub decode-passed : (n m size : ℕ) (bricks : List ℕ) (b s : ℕ) → decodeRefusal n m size bricks b s ≡ 0 → Decodes n m size bricks b s
-unfolding decodeRefusal
+pub decode-passed : (n m size : ℕ) (bricks : List ℕ) (b s : ℕ) → listRefusal n m size bricks b s ≡ 0 → Listed n m size bricks b s
+unfolding listRefusal
 decode-passed n m size bricks b s e =
     let r1 = passed-rest (codeRefusal n m size) _ e in
-    let l = tested (eqb b (m * size) && eqb s (m * size)) _ (passed-first _ _ r1) in
-    let r2 = passed-rest (refuseUnless (eqb b (m * size) && eqb s (m * size)) badLength) _ r1 in
+    let l = tested (eqb b (length bricks * size) && eqb s (m * size)) _ (passed-first _ _ r1) in
+    let r2 = passed-rest (refuseUnless (eqb b (length bricks * size) && eqb s (m * size)) badLength) _ r1 in
     let r3 = passed-rest (refuseUnless (allBelow bricks n) badNumber) _ r2 in
-    let d = tested (eqb (length bricks) m && allDifferent bricks) _ (passed-first _ [] r3) in
+    let d = tested (leb m (length bricks) && allDifferent bricks) _ (passed-first _ [] r3) in
     let range = code-passed n m size (passed-first (codeRefusal n m size) _ e) in
-    let count = eqb-true (length bricks) m (and-left _ _ d) in
     record {
       range = range;
-      blocks-length = eqb-true b (m * size) (and-left _ _ l);
-      stripe-length = eqb-true s (m * size) (and-right (eqb b (m * size)) _ l);
       below = tested (allBelow bricks n) _ (passed-first _ _ r2);
-      count = count;
-      set = different-set bricks (and-right (eqb (length bricks) m) _ d) (let a = range .m-high in let c = range .n-high in omega arith);
+      decodes = record {
+        m-high = let a = range .m-high in let c = range .n-high in omega arith;
+        size-low = range .size-low;
+        size-high = range .size-high;
+        enough = leb-true m (length bricks) (and-left _ _ d);
+        differ = different-places bricks (and-right (leb m (length bricks)) _ d);
+        blocks-length = eqb-true b (length bricks * size) (and-left _ _ l);
+        stripe-length = eqb-true s (m * size) (and-right (eqb b (length bricks * size)) _ l);
+      };
     }
 
 -- the points that the code takes the first m of

@@ -1,11 +1,10 @@
-use native.Mathlib.Omega.{arith}
 use Rattle.erasure.proofs.Laws.CodeRefusalLaws.{set-count, set-repeat, set-passes}
 use borrow.Author.Needs.{needs}
 use Rattle.erasure.proofs.set_refusal.Statement.{statement}
 use Rattle.erasure.proofs.set_refusal.Tie as tie
 
 returns : tie.Need-returns
-returns c = let s = c .before .before in set-count (s .args .m) (s .args .bricks .now) (λ e. omega (arith, c .if1 .taken, e))
+returns c = let s = c .before .before in set-count (s .args .m) (s .args .bricks .now) (c .if1 .taken)
 
 all-different-requires : tie.Need-all-different-requires
 all-different-requires c κs = search needs

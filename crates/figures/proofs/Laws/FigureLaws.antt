@@ -66,5 +66,7 @@ pub figures-hold : FiguresHold
 unfolding settings-open little-open block-open image-open gf256-open poly-open interpolate-open erasure-open
     Rattle.volume.specs.ClientPlaces.stripeOf Rattle.volume.specs.ClientPlaces.dataBlockOf Rattle.volume.specs.ClientPlaces.clientBlocks
     Rattle.volume.specs.ClientPlaces.clientRefusal Rattle.volume.specs.ClientPlaces.placeRefusal Rattle.volume.specs.ClientPlaces.placeOf
+    Rattle.byte_lists.specs.Each.each Rattle.erasure.specs.Refusals.allBelow Rattle.erasure.specs.Refusals.stands
+    Rattle.erasure.specs.Refusals.allDifferent Rattle.erasure.specs.Refusals.listRefusal Rattle.erasure.specs.Refusals.decodeRefusal
     drawn drawFor placed refusedBy refusalFor placeIn4 checkAt freshImage figures sort content alike agree
 figures-hold = held figures refl

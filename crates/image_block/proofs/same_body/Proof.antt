@@ -1,56 +1,54 @@
-use Prim.Native.Nat.{_-_}
+use borrow.Author.Needs.{needs}
 use native.Mathlib.Omega.{arith}
-use mathlib.Core.Logic.{⊎-elim}
-use Rattle.image_block.specs.Block.{blockBytes}
-use Rattle.image_block.proofs.Laws.CompareLaws.{Comparing, comparing-none, comparing-same, comparing-other, comparing-all}
+use mathlib.Core.Path.{_≡_, ap₂, _∙_}
+use mathlib.Core.List.{List}
+use Prim.Native.Nat.{ℕ, _-_}
+use lib.ListN.{length, take, drop, length-drop}
+use lib.Seq.{take-all}
+use Rattle.byte_lists.specs.Lists.{same}
+use Rattle.image_block.specs.Block.{checkBytes}
 use Rattle.image_block.proofs.same_body.Statement.{statement}
 use Rattle.image_block.proofs.same_body.Tie as tie
 
-abbrev Inv-loop : tie.InvT-loop
-Inv-loop a b differ₀ p₀ differ p = Comparing a b differ p
+sub-same-bytes : tie.Need-sub-same-bytes
+sub-same-bytes c = search needs
 
-abbrev μ-loop : tie.MeasureT-loop
-μ-loop a b differ₀ p₀ differ p = blockBytes - p
+part-same-bytes-start : tie.Need-part-same-bytes-start
+part-same-bytes-start c = search needs
 
-loop-holds : tie.Need-loop-holds Inv-loop μ-loop
-loop-holds c = comparing-none _ _
+part-same-bytes-end : tie.Need-part-same-bytes-end
+part-same-bytes-end c = search needs
 
-shared-slice-read-if1 : tie.Need-shared-slice-read-if1 Inv-loop μ-loop
-shared-slice-read-if1 c = omega arith
+sub-same-bytes-2 : tie.Need-sub-same-bytes-2
+sub-same-bytes-2 c = search needs
 
-shared-slice-read-if1-2 : tie.Need-shared-slice-read-if1-2 Inv-loop μ-loop
-shared-slice-read-if1-2 c = omega arith
+part-same-bytes-start-2 : tie.Need-part-same-bytes-start-2
+part-same-bytes-start-2 c = search needs
 
-add-p : tie.Need-add-p Inv-loop μ-loop
-add-p c = omega arith
+part-same-bytes-end-2 : tie.Need-part-same-bytes-end-2
+part-same-bytes-end-2 c = search needs
 
-loop-less : tie.Need-loop-less Inv-loop μ-loop
-loop-less c = omega arith
+same-bytes-requires : tie.Need-same-bytes-requires
+same-bytes-requires c κs = search needs
 
-loop-again : tie.Need-loop-again Inv-loop μ-loop
-loop-again c =
-    let s = c .before .before .before .before in
-    let na = s .before .pre .0 in
-    let nb = s .before .pre .1 in
-    let h = c .before .before .before .loop-test .taken in
-    ⊎-elim
-    (λ w. comparing-other _ _ na nb _ _ _ (w .1) h (w .0 .taken) (s .loop .inv))
-    (λ w. comparing-same _ _ na nb _ _ _ (w .1) h (w .0 .left) (s .loop .inv))
-    (c .if1 .came)
+-- what the code cuts off behind the check
+behind : (l : List ℕ) → take (length l - checkBytes) (drop checkBytes l) ≡ drop checkBytes l
+behind l = take-all (length l - checkBytes) (drop checkBytes l) (let d = length-drop checkBytes l in omega arith)
 
-returns : tie.Need-returns Inv-loop μ-loop
-returns c = comparing-all _ _ (c .before .before .pre .0) (c .before .before .pre .1) _ _ (c .loop-test .left) (c .before .loop .inv)
+returns : tie.Need-returns
+returns c =
+    let s = c .before .before .before .before .before in
+    c .same-bytes .ensures ∙ ap₂ same (behind (s .args .a .now)) (behind (s .args .b .now))
 
 pub same-body-spec : {M : Type 1} → statement M
 same-body-spec =
     tie.close
     (tie.spec
-    Inv-loop
-    μ-loop
-    loop-holds
-    shared-slice-read-if1
-    shared-slice-read-if1-2
-    add-p
-    loop-less
-    loop-again
+    sub-same-bytes
+    part-same-bytes-start
+    part-same-bytes-end
+    sub-same-bytes-2
+    part-same-bytes-start-2
+    part-same-bytes-end-2
+    same-bytes-requires
     returns)

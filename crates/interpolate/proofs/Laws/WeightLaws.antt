@@ -9,10 +9,12 @@ use lib.Bits.{bitXor}
 use lib.ListN.{length, getD, set, replicate, getD-replicate}
 use Rattle.byte_lists.proofs.Laws.TabulateLaws.{Filled, filled-more, filled-keep}
 use Rattle.gf256.specs.Product.{plus, product, inverse}
+use Rattle.gf256.specs.Tables.{IsPowers, IsLogs}
 use Rattle.gf256.proofs.Laws.FieldLaws.{one-product}
 use Rattle.gf256.proofs.Laws.XorLaws.{plus-byte}
 use Rattle.interpolate.specs.Bytes.{Byte, byte, byteField}
 use Rattle.interpolate.proofs.Laws.ByteLaws.{byte-small, add-is, mul-is, inv-is, bytes-are-a-field}
+use Rattle.interpolate.specs.Values.{PointSet}
 use Rattle.interpolate.specs.Workers.{pointsOf, numerator, denominator, weight, Differences, Shares, PointsReady}
 use Rattle.poly.proofs.Laws.BasisPartLaws.{rootsTo-step, othersTo-skip, othersTo-step, basis-parts}
 use Rattle.poly.specs.Polynomial.{sub, rootsTo, othersTo}
@@ -33,6 +35,12 @@ pub shares-done : (points products shares : List ℕ) (k : ℕ) → Differences 
     → ((i : ℕ) → i < length points → getD shares i 0 ≡ inverse (getD products i 0)) → Shares points shares
 shares-done points products shares k d a b e =
     record { entry = λ i h. e i h ∙ ap inverse (d .entry i h ∙ ap (denominator points i) (omega arith)) }
+
+-- what the inner functions are lent, from the two tables and the shares
+pub points-ready : (powers logs points shares : List ℕ) → IsPowers powers → IsLogs logs → PointSet points → length shares ≡ maxBricks
+    → Shares points shares → PointsReady powers logs points shares
+points-ready powers logs points shares p l s n e =
+    record { powers-right = p; logs-right = l; set = s; size = omega (arith, n, s .few); shares-right = e }
 
 -- no point
 pub numerator-none : (points : List ℕ) (x : ℕ) → length points ≡ 0 → 1 ≡ numerator points x (length points)

@@ -4,7 +4,7 @@ use native.Mathlib.Omega.{arith}
 use lib.ListN.{length}
 use mathlib.Core.Path.{refl, sym, ap, _∙_}
 use Prim.Native.Nat.{ℕ, _+_, _-_, _*_, _≤_}
-use Rattle.interpolate.proofs.Laws.WeightLaws.{differences-none}
+use Rattle.interpolate.proofs.Laws.WeightLaws.{differences-none, points-ready}
 use Rattle.byte_lists.proofs.Laws.StackLaws.{Stacked, stacked-none, stacked-more, stacked-all, part-length}
 use Rattle.interpolate.specs.Values.{blockAt, blocksAt}
 use Rattle.interpolate.proofs.interpolate.Statement.{statement}
@@ -65,13 +65,9 @@ row-requires c κs =
     let s = c .before .before .before .before .before .before .before .before .before .before .before .before .before .before .before .before in
     let l = c .before .before .before .before .before .loop in
     let size = part-length (s .args .size) (l .out) (l .at) (within (c .before .before .before .before)) in (
-      record {
-        powers-right = c .before .before .before .before .before .before .before .before .before .before .before .before .powers .ensures;
-        logs-right = c .before .before .before .before .before .before .before .before .before .before .before .logs .ensures;
-        set = s .pre .0;
-        size = omega (arith, c .before .before .before .before .before .before .before .shares-of .kept .1 .1 .1 .0, s .pre .0 .few);
-        shares-right = c .before .before .before .before .before .before .before .shares-of .ensures;
-      },
+      points-ready _ _ _ _ (c .before .before .before .before .before .before .before .before .before .before .before .before .powers .ensures)
+          (c .before .before .before .before .before .before .before .before .before .before .before .logs .ensures) (s .pre .0)
+          (c .before .before .before .before .before .before .before .shares-of .kept .1 .1 .1 .0) (c .before .before .before .before .before .before .before .shares-of .ensures),
       s .pre .1 .0 ∙ ap (λ (k : ℕ). length (s .args .points .now) * k) (sym size),
     )
 

@@ -21,6 +21,7 @@ use Rattle.coord_record.specs.Records.{idleKind, noBricks}
 use Rattle.coord_decide.specs.Deciding.{decided}
 use Rattle.coord_decide.specs.declared.Decision.{Decision}
 use Rattle.coord_decide.specs.declared.Decision.the-variants.{Abort, Give, Look, Store, Modify, Recover, Finish}
+use Rattle.coord_apply.proofs.Laws.ActLaws.{recover-either}
 use Rattle.coord_apply.specs.Acts.{buffered, roundMessage, trimMessage, nextOp, opened, nextRound, modifying, ending, acted, counting, waitingOr, firstOp}
 use Rattle.coord_apply.specs.Acts.{starting}
 use Rattle.coord_apply.specs.Answers.{Buffered, Broadcast, Went, Step, refused, went, afterChecks, nothingSeen, cutSeen, mostBroadcasts, sentCount, sentMessage, sentBlocks, answerOf}
@@ -180,7 +181,8 @@ module _ (n m size : ℕ) (k : Buffered) where
   acted-short (Look max) = round-short _ _ _ _ _ (λ e. omega (arith, e))
   acted-short Store = round-short _ _ _ _ _ (λ e. omega (arith, e))
   acted-short (Modify time) = one _ (record { new-is = λ e. refl; old-is = λ e. refl })
-  acted-short (Recover t) = round-short _ _ _ _ _ (λ e. omega (arith, e))
+  acted-short (Recover t) =
+      recover-either n m size k t (λ (w : Went). AtMostTwo size (w .next) (w .sent)) (round-short _ _ _ _ _ (λ e. omega (arith, e))) none
   acted-short Finish = one _ (no-modify size _ (record { message = trimMessage (k .state .op); blocks = []; old = [] }) (λ e. omega (arith, e)))
 
   waiting-short : AtMostTwo size (waitingOr n m size k .next) (waitingOr n m size k .sent)

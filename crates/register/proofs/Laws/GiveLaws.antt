@@ -6,7 +6,7 @@ use mathlib.Core.List.{List, [], _∷_, List·Memᴰ·not-nil}
 use Prim.Native.Nat.{ℕ, _-_, _*_, _≤_, _<_}
 use native.Mathlib.Omega.{arith}
 use lib.Dec.{eqb}
-use lib.ListN.{length, getD}
+use lib.ListN.{length, getD, take}
 use borrow.Author.Tests.{eqb-true, eq-eqb, ne-eqb, lt-ltb, le-leb}
 use Rattle.coord_record.specs.Records.{idleKind, readingKind, readingBlockKind, writingBlockKind, isReading, onBlock, targetCount}
 use Rattle.message.specs.Kinds.{readKind, blockTargets}
@@ -32,7 +32,7 @@ use Rattle.register.proofs.Laws.BegunLaws.{read-cases, begun-read-block
 use Rattle.register.proofs.Laws.Invariant.{quorums, Hist, Means, ItemInv, Running, CoordinatorInv}
 use Rattle.register.proofs.Laws.TurnLaws.{TurnedRound}
 use Rattle.register.proofs.Laws.RoundLaws.{ends}
-use Rattle.register.proofs.Laws.DecodeLaws.{target-row, target-is}
+use Rattle.register.proofs.Laws.DecodeLaws.{target-bricks, target-is}
 use Rattle.register.proofs.Laws.DecideLaws.{now, reply-at, said-yes, quorum-of}
 use Rattle.register.proofs.Laws.RecoverLaws.{means-decode}
 
@@ -143,17 +143,18 @@ module _ (s : Settings) (g : SettingsRange s) (h : Hist s) (sent : List Item) (c
     shows-whole : k .state .op .kind ≡ readingKind → isReading (k .state .op .kind) ≡ true → Shows
     unfolding Shows givenStripe
     shows-whole q e =
-        let w = target-row (s .n) (s .m) (k .state .op .first) (g .code .n-high) (g .code .m-high) low in
-        let d = means-decode s g h v newestOf (targetRow (s .n) (s .m) (k .state .op .first)) (k .blocks) w
-        (λ j l. means (getD (targetRow (s .n) (s .m) (k .state .op .first)) j 0) (w .below j l)
-        (subst (λ (t : ℕ). isTarget (s .n) t (k .state .op .first) (getD (targetRow (s .n) (s .m) (k .state .op .first)) j 0) ≡ true)
+        let first = k .state .op .first in
+        let b = target-bricks (s .n) (s .m) first (g .code .n-high) (g .code .m-high) low in
+        let d = means-decode s g h v newestOf (take (s .m) (targetRow (s .n) (s .m) first)) (k .blocks) b
+        (λ j l. means (getD (take (s .m) (targetRow (s .n) (s .m) first)) j 0) (b .below j l)
+        (subst (λ (t : ℕ). isTarget (s .n) t first (getD (take (s .m) (targetRow (s .n) (s .m) first)) j 0) ≡ true)
         (sym (targets-whole (s .m) (k .state .op .kind) q))
-        (target-is (s .n) (s .m) (k .state .op .first) (g .code .n-high) (g .code .m-high) low j l))) in (
-          d .0,
-          d .1,
+        (target-is (s .n) (s .m) first (g .code .n-high) (g .code .m-high) low j l))) in (
+          d .full,
+          d .value,
           rw (not-on-block (k .state .op .kind) q)
-              (read-gives s k e readSeen (targetRow (s .n) asked (k .state .op .first)) (stripeFrom (s .m) (s .size) (targetRow (s .n) (s .m) (k .state .op .first)) (k .blocks))
-              ∙ ap (plain s .gives (begunKind s k)) (d .3)),
+              (read-gives s k e readSeen (targetRow (s .n) asked first) (stripeFrom (s .m) (s .size) (take (s .m) (targetRow (s .n) (s .m) first)) (k .blocks))
+              ∙ ap (plain s .gives (begunKind s k)) (d .gives)),
         )
 
     shows-block : k .state .op .kind ≡ readingBlockKind → isReading (k .state .op .kind) ≡ true → k .state .op .first < s .m

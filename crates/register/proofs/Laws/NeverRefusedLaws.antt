@@ -5,7 +5,7 @@ use mathlib.Core.List.{List, [], _∷_}
 use Prim.Native.Nat.{ℕ, zero, suc, _*_, _≤_, _<_}
 use native.Mathlib.Omega.{arith}
 use lib.Dec.{ltb, eqb}
-use lib.ListN.{length, length-replicate}
+use lib.ListN.{length, take, length-replicate}
 use borrow.Author.Tests.{eq-eqb, eqb-true, eqb-false, le-leb}
 use Rattle.message.specs.Kinds.{readKind, orderKind, orderBlockKind, blockTargets}
 use Rattle.settings.specs.Ranges.{bricksInRange, sizeInRange, capacityInRange, stripesInRange, inRange, codeRefusal, stripeCountRefusal, quorum}
@@ -19,7 +19,7 @@ use Rattle.message.specs.Flags.{members}
 use Rattle.message.specs.declared.Message.{Message}
 use Rattle.message.specs.declared.Reply.{Reply}
 use Rattle.interpolate.proofs.Laws.BlockLaws.{length-blocksAt}
-use Rattle.erasure.specs.Code.{decodedOf, blockOf, withBlock}
+use Rattle.erasure.specs.Code.{decodedOf, blockOf, blocksOf, withBlock}
 use Rattle.erasure.proofs.Laws.BlockOfLaws.{block-within, block-length, with-block-length}
 use Rattle.image.specs.Parse.{parse}
 use Rattle.image.proofs.Laws.ParseLaws.{parse-image, range-of}
@@ -35,7 +35,8 @@ use Rattle.coord_tally.specs.Counting.{targetRow, targetFlags}
 use Rattle.coord_decide.specs.Deciding.{decided}
 use Rattle.coord_decide.specs.declared.Decision.{Decision}
 use Rattle.coord_decide.specs.declared.Decision.the-variants.{Abort, Give, Look, Store, Modify, Recover, Finish}
-use Rattle.coord_apply.specs.Acts.{gathered, stripeFrom, nextOp, opened, nextRound, modifying, ending, givenStripe, storedStripe, acted}
+use Rattle.coord_apply.proofs.Laws.ActLaws.{recover-either}
+use Rattle.coord_apply.specs.Acts.{stripeFrom, nextOp, opened, nextRound, modifying, ending, givenStripe, storedStripe, acted}
 use Rattle.coord_apply.specs.Acts.{withTally, counting, waitingOr, firstOp, starting}
 use Rattle.coord_apply.proofs.Laws.OneBlockLaws.{write-within}
 use Rattle.coord_apply.specs.Answers.{Buffered, Went, Step, refused, went, afterChecks, nothingSeen, cutSeen, answerOf}
@@ -79,7 +80,7 @@ fine s c k h =
 -- what a decision leaves in the buffers
 decoded-long : (m size : ℕ) (row blocks : List ℕ) → length (stripeFrom m size row blocks) ≡ m * size
 unfolding stripeFrom decodedOf
-decoded-long m size row blocks = length-blocksAt _ size (gathered m size row blocks) m
+decoded-long m size row blocks = length-blocksAt _ size (blocksOf size blocks row) m
 
 -- block j of an operation on one block is one of m
 abbrev OneOfThem : Settings → Op → Type 0
@@ -92,7 +93,7 @@ given-long s op blocks stripe few low eb es = go (onBlock (op .kind)) refl
   where
     go : (a : Bool) → onBlock (op .kind) ≡ a
         → length
-        (cond a (withBlock (s .size) stripe (op .first) (blockOf (s .size) blocks (op .first))) (stripeFrom (s .m) (s .size) (targetRow (s .n) (s .m) (op .first)) blocks))
+        (cond a (withBlock (s .size) stripe (op .first) (blockOf (s .size) blocks (op .first))) (stripeFrom (s .m) (s .size) (take (s .m) (targetRow (s .n) (s .m) (op .first))) blocks))
         ≡ s .m * s .size
     go true e =
         let j = low e in
@@ -125,7 +126,9 @@ module _ (s : Settings) (k : Buffered) (few : s .m ≤ s .n) (low : OneOfThem s 
   acted-long (Look max) = l
   acted-long Store = l
   acted-long (Modify time) = l
-  acted-long (Recover time) = (l .0, stored-long s (k .state .op) (k .stripe) _ low (l .1) (decoded-long (s .m) (s .size) _ (k .blocks)))
+  acted-long (Recover time) =
+      recover-either (s .n) (s .m) (s .size) k time (λ (w : Went). Long s (w .next))
+      (l .0, stored-long s (k .state .op) (k .stripe) _ low (l .1) (decoded-long (s .m) (s .size) _ (k .blocks))) l
   acted-long Finish = l
 
   waiting-long : Long s (waitingOr (s .n) (s .m) (s .size) k .next)
@@ -157,7 +160,8 @@ acted-rests n m size k h Give = λ e. refl
 acted-rests n m size k h (Look max) = λ e. absurd (h e)
 acted-rests n m size k h Store = λ e. absurd (h e)
 acted-rests n m size k h (Modify time) = λ e. absurd (h e)
-acted-rests n m size k h (Recover time) = λ e. absurd (h e)
+acted-rests n m size k h (Recover time) =
+    recover-either n m size k time (λ (w : Went). Rests (w .next .state)) (λ e. absurd (h e)) (λ e. refl)
 acted-rests n m size k h Finish = λ e. refl
 
 waiting-rests : (n m size : ℕ) (k : Buffered) → (k .state .op .kind ≡ idleKind → ⊥) → Rests (waitingOr n m size k .next .state)

@@ -94,6 +94,7 @@ interpolate-open = tt
 
 unfoldable pub erasure-open : Unit {0}
 unfolding Rattle.erasure.specs.Code.firstPoints Rattle.erasure.specs.Code.codedOf Rattle.erasure.specs.Code.decodedOf
+    Rattle.erasure.specs.Code.agree Rattle.erasure.specs.Code.blocksOf
     Rattle.erasure.specs.Code.blockOf Rattle.erasure.specs.Code.withBlock Rattle.erasure.specs.Recoding.unitStripe
     Rattle.erasure.specs.Recoding.weightAt Rattle.erasure.specs.Recoding.withChange Rattle.erasure.specs.Recoding.recodedBlock
 erasure-open = tt
@@ -127,7 +128,7 @@ unfolding Rattle.coord_tally.specs.Counting.saidNo Rattle.coord_tally.specs.Co
 coord-rounds-open = tt
 
 unfoldable pub coord-acts-open : Unit {0}
-unfolding Rattle.coord_apply.specs.Acts.gathered Rattle.coord_apply.specs.Acts.stripeFrom Rattle.coord_apply.specs.Acts.roundMessage
+unfolding Rattle.coord_apply.specs.Acts.agreeing Rattle.coord_apply.specs.Acts.stripeFrom Rattle.coord_apply.specs.Acts.roundMessage
     Rattle.coord_apply.specs.Acts.trimMessage Rattle.coord_apply.specs.Acts.nextOp Rattle.coord_apply.specs.Acts.opened
     Rattle.coord_apply.specs.Acts.nextRound Rattle.coord_apply.specs.Acts.ending Rattle.coord_apply.specs.Acts.finishedSeen
     Rattle.coord_apply.specs.Acts.modifying Rattle.coord_apply.specs.Acts.seenBlock Rattle.coord_apply.specs.Acts.givenStripe

@@ -7,25 +7,27 @@ use Prim.Native.Nat.{ℕ, zero, suc, _≤_, _<_, max}
 use native.Mathlib.Omega.{arith}
 use native.Mathlib.Decide.{decLt, ℕ-discrete}
 use lib.Dec.{T, eqb}
-use lib.ListN.{getD}
+use lib.ListN.{length, getD}
 use borrow.Author.Tests.{eqb-true, eq-eqb}
 use Rattle.message.specs.Kinds.{orderReadKind, writeKind, modifyKind}
 use Rattle.settings.specs.Count.{count}
-use Rattle.settings.specs.Ranges.{quorum, maxBricks}
+use Rattle.settings.specs.Ranges.{quorum}
 use Rattle.settings.specs.Ranges.{SettingsRange}
 use Rattle.byte_lists.proofs.Laws.BoolLaws.{and-left, and-right}
 use Rattle.settings.specs.declared.Settings.{Settings}
 use Rattle.message.specs.Flags.{member, members}
 use Rattle.erasure.specs.Code.{codedOf}
-use Rattle.erasure.specs.Code.{blockOf, Stripe}
+use Rattle.erasure.specs.Code.{blockOf, Stripe, Bricks}
 use Rattle.byte_lists.specs.Each.{some}
 use Rattle.coord_record.specs.Records.{noBricks, idleKind}
 use Rattle.coord_laws.specs.OpCases.{canRecover}
-use Rattle.coord_tally.specs.Counting.{saidNo, highest, atTime, atTimes, picked}
-use Rattle.coord_apply.specs.Acts.{stripeFrom, roundMessage, nextOp, opened, nextRound, storedStripe, namedBricks, pickedAt, recoveredStripe}
+use Rattle.coord_tally.specs.Counting.{saidNo, highest, atTime, atTimes}
+use Rattle.coord_apply.specs.Acts.{stripeFrom, agreeing, roundMessage, nextOp, opened, nextRound, storedStripe, namedBricks, giversAt, pickedAt, recoveredStripe, storing, acted}
+use Rattle.coord_apply.proofs.Laws.ActLaws.{recover-agreed}
+use Rattle.coord_decide.specs.declared.Decision.the-variants.{Recover}
 use Rattle.coord_apply.specs.Answers.{Buffered}
-use Rattle.coord_tally.proofs.Laws.RowSets.{picked-gave}
-use Rattle.coord_laws.proofs.Laws.CodedBlockLaws.{stripe-read}
+use Rattle.coord_tally.proofs.Laws.RowSets.{passing-holds}
+use Rattle.coord_laws.proofs.Laws.CodedBlockLaws.{stripe-read, blocks-agree}
 use Rattle.order.specs.Claim.{_∈_}
 use Rattle.order.specs.Facts.{over, promised, stored}
 use Rattle.order.specs.Places.{whole, above, In}
@@ -40,7 +42,7 @@ use Rattle.register.proofs.Laws.BegunLaws.{same-begun, known-begun, sto
 use Rattle.register.proofs.Laws.Invariant.{quorums, Hist, Means, Stands, Piece, ItemInv, CountedInv, Looked, Running, CoordinatorInv}
 use Rattle.register.proofs.Laws.TurnLaws.{turns-not, TurnedRound}
 use Rattle.register.proofs.Laws.RoundLaws.{opens}
-use Rattle.register.proofs.Laws.DecodeLaws.{DecodedRow, picked-row}
+use Rattle.register.proofs.Laws.DecodeLaws.{giver-bricks}
 use Rattle.register.proofs.Laws.DecideLaws.{true-T, T-true, now, reply-at, said-yes, quorum-of, launches}
 
 -- no time found is above the highest
@@ -61,21 +63,33 @@ unfolding count
 count-none zero = refl
 count-none (suc n) = let w = count-none n in omega arith
 
--- blocks of one time on m different bricks decode to what that time stands for
-pub means-decode : (s : Settings) (g : SettingsRange s) (h : Hist s) → Valid (quorums s g) h → (t : ℕ) (row blocks : List ℕ) → DecodedRow (s .n) (s .m) row
-    → ((j : ℕ) → j < s .m → Means s h t (getD row j 0) (blockOf (s .size) blocks (getD row j 0)))
-    → (full : List ℕ) × Val h t full × Stripe (s .m) (s .size) full × (stripeFrom (s .m) (s .size) row blocks ≡ full)
-means-decode s g h v t row blocks r f =
-    let z = f 0 (g .code .m-low) in (
-      z .full,
-      z .value,
-      z .proper,
-      stripe-read (s .n) (s .m) (s .size) row blocks (z .full) (g .code) (z .proper) (r .long) (r .set) (r .below)
-          (λ j l.
-          let w = f j l in
-          w .coded
-          ∙ ap (λ (x : List ℕ). blockOf (s .size) (codedOf (s .n) (s .m) (s .size) x) (getD row j 0)) (one-value v (w .value) (z .value) refl)),
-    )
+-- what blocks of one time on m or more different bricks decode to: they agree, and it is what that time stands for
+pub record Decoded (s : Settings) (h : Hist s) (t : ℕ) (bricks blocks : List ℕ) : Type 0 where
+  pub full : List ℕ
+  pub value : Val h t full
+  pub proper : Stripe (s .m) (s .size) full
+  pub gives : stripeFrom (s .m) (s .size) bricks blocks ≡ full
+  pub agreed : agreeing (s .m) (s .size) bricks blocks ≡ true
+
+pub means-decode : (s : Settings) (g : SettingsRange s) (h : Hist s) → Valid (quorums s g) h → (t : ℕ) (bricks blocks : List ℕ) → Bricks (s .n) (s .m) bricks
+    → ((j : ℕ) → j < length bricks → Means s h t (getD bricks j 0) (blockOf (s .size) blocks (getD bricks j 0))) → Decoded s h t bricks blocks
+means-decode s g h v t bricks blocks b f =
+    record {
+      full = z .full;
+      value = z .value;
+      proper = z .proper;
+      gives = stripe-read (s .n) (s .m) (s .size) bricks blocks (z .full) (z .proper) b coded;
+      agreed = blocks-agree (s .n) (s .m) (s .size) bricks blocks (z .full) (z .proper) b coded;
+    }
+  where
+    z : Means s h t (getD bricks 0 0) (blockOf (s .size) blocks (getD bricks 0 0))
+    z = f 0 (omega (arith, g .code .m-low, b .enough))
+
+    coded : (j : ℕ) → j < length bricks → blockOf (s .size) blocks (getD bricks j 0) ≡ blockOf (s .size) (codedOf (s .n) (s .m) (s .size) (z .full)) (getD bricks j 0)
+    coded j l =
+        let w = f j l in
+        w .coded
+        ∙ ap (λ (x : List ℕ). blockOf (s .size) (codedOf (s .n) (s .m) (s .size) x) (getD bricks j 0)) (one-value v (w .value) (z .value) refl)
 
 -- the highest time among the replies that hold a block
 abbrev pub topOf : Settings → Buffered → ℕ
@@ -201,58 +215,59 @@ module _ (s : Settings) (g : SettingsRange s) (h : Hist s) (sent : List Item) (c
               (subst (λ (l : List ℕ). Means s h (x .from .found) (x .from .brick) l) (sym (x .block-is (x .held-is ∙ held))) (w .2))),
         )
 
-    -- the Write round of a recovered stripe, or of one with its block replaced
-    pub does-recover : canRecover (k .state .op .kind) ≡ true → s .m ≤ count (atTimes (k .state .tally .held) (k .state .tally .found) (topOf s k)) (s .n)
-        → TurnedRound s g h sent c
-        (nextRound k writeKind 0 (namedBricks (k .state .op) (pickedAt (s .n) (s .m) k (topOf s k))) (recoveredStripe (s .n) (s .m) (s .size) k (topOf s k))
-        (codedOf (s .n) (s .m) (s .size) (recoveredStripe (s .n) (s .m) (s .size) k (topOf s k))))
-    unfolding picked
-    does-recover kind many =
-        launches s g h sent c k v i items n (over (topOf s k)) (namedBricks (k .state .op) row) stored-stripe
-        (record {
-          known = known-begun r;
-          running = r .unended;
-          new = r .unsent (λ e. omega (arith, e)) (λ e. omega (arith, e));
-          order = promised-quorum;
-          source = record { below = first .0; known = launched-or-zero (first .1); between = λ u l w. gone-above u l w };
-        })
-        (onto in-top (in-above (r .begun)) (val-up (above whole) (d .1)) (stored-effect s k (d .0) (d .2) kind ∙ sym stored-is))
-        (subst (Stripe (s .m) (s .size)) (sym stored-is) (stored-proper s k (d .0) (d .2) (r .piece) kind))
-        (λ q. subst (λ (z : List ℕ). Piece s (k .state .op .first) (blockOf (s .size) z (k .state .op .first))) (sym stored-is)
-        (piece-stored s k (d .0) (d .2) (r .piece) q))
-        (unfold nextRound opened nextOp in begun-stored s k (d .0) (d .2) (r .piece) kind _ refl refl stored-is)
-      where
-        p : ℕ → Bool
-        p = atTimes (k .state .tally .held) (k .state .tally .found) (topOf s k)
+    -- m or more blocks of the highest time
+    module _ (many : s .m ≤ count (atTimes (k .state .tally .held) (k .state .tally .found) (topOf s k)) (s .n)) where
+      abbrev bricks : List ℕ
+      bricks = giversAt (s .n) k (topOf s k)
 
-        row : List ℕ
-        row = picked (k .state .tally .held) (k .state .tally .found) (topOf s k) (s .n) (s .m)
+      handed-on : Bricks (s .n) (s .m) bricks
+      handed-on =
+          giver-bricks (k .state .tally .held) (k .state .tally .found) (topOf s k) (s .n) (s .m) (g .code .n-high) (omega (arith, g .code .n-low)) (g .code .m-high) many
 
-        stripe : List ℕ
-        stripe = stripeFrom (s .m) (s .size) row (k .blocks)
+      gave-each : (j : ℕ) → j < length bricks
+          → (topOf s k < k .state .op .time) × Stands h (getD bricks j 0) (topOf s k) × Means s h (topOf s k) (getD bricks j 0) (blockOf (s .size) (k .blocks) (getD bricks j 0))
+      gave-each j l = gave (getD bricks j 0) (passing-holds (atTimes (k .state .tally .held) (k .state .tally .found) (topOf s k)) (s .n) j l)
 
-        stored-stripe : List ℕ
-        stored-stripe = storedStripe (s .size) (k .state .op) (k .stripe) stripe
+      decoded : Decoded s h (topOf s k) bricks (k .blocks)
+      decoded = means-decode s g h v (topOf s k) bricks (k .blocks) handed-on (λ j l. gave-each j l .2)
 
-        r : Running s g h sent c k
-        r = now s g h sent c k v i items n
+      -- ALL LIE ON ONE POLYNOMIAL
+      pub agrees : agreeing (s .m) (s .size) (giversAt (s .n) k (topOf s k)) (k .blocks) ≡ true
+      agrees = decoded .agreed
 
-        few : s .m ≤ maxBricks
-        few = let a = g .code .m-high in let b = g .code .n-high in omega arith
+      -- the Write round of a recovered stripe, or of one with its block replaced
+      does-store-recovered : canRecover (k .state .op .kind) ≡ true → TurnedRound s g h sent c (storing (s .n) (s .m) (s .size) k (topOf s k))
+      does-store-recovered kind =
+          launches s g h sent c k v i items n (over (topOf s k)) (namedBricks (k .state .op) (pickedAt (s .n) (s .m) k (topOf s k))) stored-stripe
+          (record {
+            known = known-begun r;
+            running = r .unended;
+            new = r .unsent (λ e. omega (arith, e)) (λ e. omega (arith, e));
+            order = promised-quorum;
+            source = record { below = first .0; known = launched-or-zero (first .1); between = λ u l w. gone-above u l w };
+          })
+          (onto in-top (in-above (r .begun)) (val-up (above whole) (decoded .value)) (stored-effect s k (decoded .full) (decoded .proper) kind ∙ sym stored-is))
+          (subst (Stripe (s .m) (s .size)) (sym stored-is) (stored-proper s k (decoded .full) (decoded .proper) (r .piece) kind))
+          (λ q. subst (λ (z : List ℕ). Piece s (k .state .op .first) (blockOf (s .size) z (k .state .op .first))) (sym stored-is)
+          (piece-stored s k (decoded .full) (decoded .proper) (r .piece) q))
+          (unfold nextRound opened nextOp in begun-stored s k (decoded .full) (decoded .proper) (r .piece) kind _ refl refl stored-is)
+        where
+          stored-stripe : List ℕ
+          stored-stripe = recoveredStripe (s .n) (s .m) (s .size) k (topOf s k)
 
-        passes : (j : ℕ) → j < s .m → p (getD row j 0) ≡ true
-        passes = picked-gave (k .state .tally .held) (k .state .tally .found) (topOf s k) (s .n) (s .m) many few
+          r : Running s g h sent c k
+          r = now s g h sent c k v i items n
 
-        d : (full : List ℕ) × Val h (topOf s k) full × Stripe (s .m) (s .size) full × (stripe ≡ full)
-        d = means-decode s g h v (topOf s k) row (k .blocks) (picked-row (k .state .tally .held) (k .state .tally .found) (topOf s k) (s .n) (s .m) many few)
-            (λ j l. gave (getD row j 0) (passes j l) .2)
+          stored-is : stored-stripe ≡ storedStripe (s .size) (k .state .op) (k .stripe) (decoded .full)
+          stored-is = ap (storedStripe (s .size) (k .state .op) (k .stripe)) (decoded .gives)
 
-        stored-is : stored-stripe ≡ storedStripe (s .size) (k .state .op) (k .stripe) (d .0)
-        stored-is = ap (storedStripe (s .size) (k .state .op) (k .stripe)) (d .3)
+          first : (topOf s k < k .state .op .time) × Stands h (getD bricks 0 0) (topOf s k) × Means s h (topOf s k) (getD bricks 0 0) (blockOf (s .size) (k .blocks) (getD bricks 0 0))
+          first = gave-each 0 (omega (arith, g .code .m-low, handed-on .enough))
 
-        first : (topOf s k < k .state .op .time) × Stands h (getD row 0 0) (topOf s k) × Means s h (topOf s k) (getD row 0 0) (blockOf (s .size) (k .blocks) (getD row 0 0))
-        first = gave (getD row 0 0) (passes 0 (g .code .m-low))
+          launched-or-zero : Stands h (getD bricks 0 0) (topOf s k) → (topOf s k ≡ 0) ⊎ Launched h (topOf s k)
+          launched-or-zero (inl e) = inl e
+          launched-or-zero (inr w) = let o = ok-at (w .1) v .known in inr (o .0, in-suf (suf-below (w .1)) (o .1))
 
-        launched-or-zero : Stands h (getD row 0 0) (topOf s k) → (topOf s k ≡ 0) ⊎ Launched h (topOf s k)
-        launched-or-zero (inl e) = inl e
-        launched-or-zero (inr w) = let o = ok-at (w .1) v .known in inr (o .0, in-suf (suf-below (w .1)) (o .1))
+      pub does-recover : canRecover (k .state .op .kind) ≡ true → TurnedRound s g h sent c (acted (s .n) (s .m) (s .size) k (Recover (topOf s k)))
+      does-recover kind =
+          subst (TurnedRound s g h sent c) (sym (recover-agreed (s .n) (s .m) (s .size) k (topOf s k) agrees)) (does-store-recovered kind)

@@ -88,8 +88,8 @@ module _ (s : Settings) (g : SettingsRange s) (h : Hist s) (sent : List Item) (c
       go false true y z f ex ey = abort
       go false false true z false ex ey = abort
       go false false true z true ex ey =
-          does-recover s g h sent c k v i items n phase ex enough kind
-          (leb-true (s .m) (count (atTimes (k .state .tally .held) (k .state .tally .found) (topOf s k)) (s .n)) ey)
+          does-recover s g h sent c k v i items n phase ex enough
+          (leb-true (s .m) (count (atTimes (k .state .tally .held) (k .state .tally .found) (topOf s k)) (s .n)) ey) kind
       go false false false true f ex ey = abort
       go false false false false false ex ey = abort
       go false false false false true ex ey =

@@ -1,0 +1,19 @@
+use mathlib.Core.Path.{refl}
+use Rattle.coord_record.specs.Records.{noBricks}
+use Rattle.coord_apply.proofs.Laws.ActLaws.{end-by}
+use borrow.Author.Needs.{needs}
+use Rattle.coord_apply.proofs.abort.Statement.{statement}
+use Rattle.coord_apply.proofs.abort.Tie as tie
+
+no-message-requires : tie.Need-no-message-requires
+no-message-requires c κs = search needs
+
+end-requires : tie.Need-end-requires
+end-requires c κs = search needs
+
+returns : tie.Need-returns
+unfolding noBricks
+returns c = end-by _ _ _ _ _ _ _ _ _ (c .end .ensures) refl refl (c .before .no-message .ensures)
+
+pub abort-spec : {M : Type 1} → statement M
+abort-spec = tie.close (tie.spec no-message-requires end-requires returns)
