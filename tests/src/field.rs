@@ -66,3 +66,17 @@ pub fn logs() -> [u8; 256] {
     }
     table
 }
+
+/// What the bits of a register keep of a sum of two logarithms.
+pub fn held(bits: u32, sum: u32) -> u32 {
+    sum % (1 << bits)
+}
+
+/// Product by the two tables, with the sum of the logarithms held in so many bits. A sum that passes the table's end is taken round once.
+pub fn mul_held(bits: u32, a: u8, b: u8, powers: &[u8; 255], logs: &[u8; 256]) -> u8 {
+    if a == 0 || b == 0 {
+        return 0;
+    }
+    let sum = held(bits, u32::from(logs[usize::from(a)]) + u32::from(logs[usize::from(b)]));
+    powers[if sum < 255 { sum } else { sum - 255 } as usize]
+}

@@ -1,6 +1,6 @@
 //! Laws of the field, over all its elements.
 
-use jilbagum_tests::field::{add, double, inverse, logs, mul, power, powers};
+use jilbagum_tests::field::{add, double, held, inverse, logs, mul, mul_held, power, powers};
 
 fn elements() -> impl Iterator<Item = u8> {
     0..=255
@@ -73,4 +73,32 @@ fn tables_of_powers_and_logs() {
         }
     }
     assert_eq!(logs[0], 0);
+}
+
+/// E4: the sum is at most 508, a pair reaches that, and 9 bits or more hold it.
+#[test]
+fn sums_of_two_logarithms() {
+    let logs = logs();
+    let largest = u32::from(*logs.iter().max().unwrap());
+    assert_eq!(2 * largest, 508);
+    assert_eq!(held(16, 508), 508);
+    assert_eq!(held(9, 508), 508);
+    assert_eq!(held(8, 508), 252);
+}
+
+/// E4: products by tables are as before for every pair, in 16 bits as in 31; in 8 bits they are not.
+#[test]
+fn products_by_a_sum_in_16_bits() {
+    let (powers, logs) = (powers(), logs());
+    let mut wrong_in_8 = 0;
+    for a in elements() {
+        for b in elements() {
+            let product = mul(a, b);
+            assert_eq!(mul_held(16, a, b, &powers, &logs), product, "{a} x {b}");
+            assert_eq!(mul_held(31, a, b, &powers, &logs), product, "{a} x {b}");
+            wrong_in_8 += usize::from(mul_held(8, a, b, &powers, &logs) != product);
+        }
+    }
+    // the pairs whose logarithms make 256 or more
+    assert_eq!(wrong_in_8, (1..=253).sum::<usize>());
 }

@@ -14,6 +14,22 @@ fn all_products_and_quotients() {
     }
 }
 
+/// E4: products, quotients and inverses from the proved tables with the sum as it was held before, in a word, and in 16 bits.
+#[test]
+fn products_as_before_for_every_pair() {
+    let powers: [u8; 255] = std::array::from_fn(proved::power);
+    let logs: [u8; 256] = std::array::from_fn(|a| proved::log(a as u8));
+    for a in 0..=255_u8 {
+        for b in 0..=255_u8 {
+            for bits in [16, 31] {
+                assert_eq!(proved::mul(a, b), field::mul_held(bits, a, b, &powers, &logs), "{a} x {b} in {bits} bits");
+                let inverse = proved::inv(b);
+                assert_eq!(proved::div(a, b), field::mul_held(bits, a, inverse, &powers, &logs), "{a} / {b} in {bits} bits");
+            }
+        }
+    }
+}
+
 #[test]
 fn powers_and_logarithms() {
     let (powers, logs) = (field::powers(), field::logs());

@@ -1,13 +1,19 @@
 // The field of 256 elements with polynomial hexadecimal 11D (document 01, "Settings and the code"), by two constant tables.
 // inner: call `erasure::stripe_encode`
 ghost use mathlib.Core.Path.{_≡_};
+ghost use Prim.Native.Nat.{_≤_};
+ghost use lib.ListN.{getD};
 ghost use Rattle.gf256.specs.Product.{product, inverse, quotient};
 ghost use Rattle.gf256.specs.Tables.{IsPowers, IsLogs};
+ghost use Rattle.gf256.specs.LogSums.{logSum, maxLogSum, folded};
 
 // The bytes, and the powers of 2 among them: all but 0.
 pub const BYTE_COUNT: usize = 256;
 
 pub const POWER_COUNT: usize = 255;
+
+// The same for a sum of logarithms, which 16 bits hold: 2 to the 255 is 1 again.
+const CYCLE: u16 = POWER_COUNT as u16;
 
 // Entry k is 2 to the k.
 const POWERS: [u8; POWER_COUNT] = [
@@ -542,6 +548,26 @@ pub fn logs() -> [u8; BYTE_COUNT]
     LOGS
 }
 
+// The sum of two bytes' logarithms, in 16 bits.
+fn log_sum(logs: &[u8; BYTE_COUNT], a: u8, b: u8) -> u16
+    requires { ⌜ IsLogs (now logs) ⌝ }
+    ensures { λ r. ⌜ r ≡ logSum (now (logs .entry)) a b ⌝ }
+    ensures { λ r. ⌜ r ≤ maxLogSum ⌝ }
+{
+    logs[a as usize] as u16 + logs[b as usize] as u16
+}
+
+// The power at a sum of two logarithms: from 255 on that at 255 less.
+fn power_at(powers: &[u8; POWER_COUNT], sum: u16) -> u8
+    requires { ⌜ sum ≤ maxLogSum ⌝ }
+    ensures { λ r. ⌜ r ≡ getD (now (powers .entry)) (folded sum) 0 ⌝ }
+{
+    if sum < CYCLE {
+        return powers[sum as usize];
+    }
+    powers[sum as usize - POWER_COUNT]
+}
+
 // The product by lent tables: two loads, a sum, a load.
 pub fn mul_by(powers: &[u8; POWER_COUNT], logs: &[u8; BYTE_COUNT], a: u8, b: u8) -> u8
     requires { ⌜ IsPowers (now powers) ⌝ }
@@ -554,11 +580,7 @@ pub fn mul_by(powers: &[u8; POWER_COUNT], logs: &[u8; BYTE_COUNT], a: u8, b: u8)
     if b == 0 {
         return 0;
     }
-    let s = logs[a as usize] as usize + logs[b as usize] as usize;
-    if s < POWER_COUNT {
-        return powers[s];
-    }
-    powers[s - POWER_COUNT]
+    power_at(powers, log_sum(logs, a, b))
 }
 
 // The inverse by lent tables; 0 for 0.
@@ -570,11 +592,7 @@ pub fn inv_by(powers: &[u8; POWER_COUNT], logs: &[u8; BYTE_COUNT], a: u8) -> u8
     if a == 0 {
         return 0;
     }
-    let s = POWER_COUNT - logs[a as usize] as usize;
-    if s < POWER_COUNT {
-        return powers[s];
-    }
-    1
+    power_at(powers, CYCLE - logs[a as usize] as u16)
 }
 
 // The product of two bytes.

@@ -1,14 +1,18 @@
 -- The theorems of `specs/TableTheorems` (the tests: `TableLaws`).
-use mathlib.Core.Path.{_≡_, sym, ap, _∙_}
-use Prim.Native.Nat.{ℕ, _+_, _%_, _<_}
-use native.Mathlib.Nat.{mod-lt}
+use mathlib.Core.Path.{_≡_, refl, sym, ap, _∙_}
+use mathlib.Core.List.{List}
+use Prim.Native.Nat.{ℕ, zero, suc, _+_, _%_, _^_, _<_}
+use native.Mathlib.Nat.{mod-lt, mod-eq-of-lt}
 use native.Mathlib.Decide.{ℕ-discrete}
 use native.Mathlib.Omega.{arith}
+use borrow.Author.Tests.{ne-eqb}
 use lib.ListN.{getD}
 use lib.Seq.{ext-getD}
-use Rattle.gf256.specs.Product.{power, powerCount}
-use Rattle.gf256.specs.TableTheorems.{OnePowersTable, OneLogsTable, ProductsByTables}
-use Rattle.gf256.proofs.Laws.LookupLaws.{by-logs}
+use Rattle.gf256.specs.Product.{product, power, byteCount, powerCount}
+use Rattle.gf256.specs.Tables.{IsPowers, IsLogs}
+use Rattle.gf256.specs.LogSums.{logSum, maxLogSum, held, productIn, sumBits, wordBits}
+use Rattle.gf256.specs.TableTheorems.{OnePowersTable, OneLogsTable, ProductsByTables, SumsAtMost508, ProductsAsBefore}
+use Rattle.gf256.proofs.Laws.LookupLaws.{left-zero, right-zero, by-logs, sum-at-most, product-at}
 use Rattle.gf256.proofs.Laws.TableLaws.{allPowers, placeOf, power-mod, power-place}
 
 pub one-powers-table : OnePowersTable
@@ -29,7 +33,27 @@ one-logs-table s t hs ht = ext-getD 0 s t (hs .size ∙ sym (ht .size)) (λ i h.
         (hs .entry i (omega arith) h ∙ sym (ht .entry i (omega arith) h))
 
 pub products-by-tables : ProductsByTables
+unfolding logSum
 products-by-tables powers logs hp hl a b pa la pb lb =
     hp .entry ((getD logs a 0 + getD logs b 0) % powerCount) (mod-lt _ (omega arith))
     ∙ power-mod (getD logs a 0 + getD logs b 0)
     ∙ sym (by-logs logs hl a (λ z. omega arith) la b (λ z. omega arith) lb)
+
+pub sums-at-most-508 : SumsAtMost508
+sums-at-most-508 = sum-at-most
+
+-- a register that holds 508 holds every sum
+product-in : (bits : ℕ) → maxLogSum < 2 ^ bits → (powers logs : List ℕ) → IsPowers powers → IsLogs logs → (a b : ℕ) → a < byteCount → b < byteCount
+    → productIn bits powers logs a b ≡ product a b
+unfolding productIn held
+product-in bits h powers logs hp hl zero b la lb = left-zero zero b refl
+product-in bits h powers logs hp hl (suc a) zero la lb = rw (ne-eqb (suc a) 0 (λ z. omega arith)) (right-zero (suc a) zero refl)
+product-in bits h powers logs hp hl (suc a) (suc b) la lb =
+    let whole : logSum logs (suc a) (suc b) % 2 ^ bits ≡ logSum logs (suc a) (suc b) = mod-eq-of-lt (let s = sum-at-most logs hl (suc a) (suc b) la lb in omega arith) in
+    rw (ne-eqb (suc a) 0 (λ z. omega arith), ne-eqb (suc b) 0 (λ z. omega arith), whole)
+    (product-at powers logs hp hl (suc a) (λ z. omega arith) la (suc b) _ _ (λ z. omega arith) lb refl refl)
+
+pub products-as-before : ProductsAsBefore
+products-as-before powers logs hp hl a b la lb =
+    let narrow = product-in sumBits (omega arith) powers logs hp hl a b la lb in
+    (narrow ∙ sym (product-in wordBits (omega arith) powers logs hp hl a b la lb), narrow)
