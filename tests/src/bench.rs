@@ -130,6 +130,7 @@ fn print_ended(ended: Option<Ended>, printed: &mut String) {
         kind,
         time,
         outcome,
+        letter,
         ..
     }) = ended
     else {
@@ -142,7 +143,7 @@ fn print_ended(ended: Option<Ended>, printed: &mut String) {
         Outcome::Abort => "abort".to_string(),
         Outcome::Cut => "cut".to_string(),
     };
-    printed.push_str(&format!("{coordinator} {kind} {time} {outcome}\n"));
+    printed.push_str(&format!("{coordinator} {kind} {time} {letter} {outcome}\n"));
 }
 
 fn read_line(line: &[u8]) -> Option<Line> {

@@ -16,6 +16,15 @@ pub const WRITE: u8 = 5;
 pub const MODIFY: u8 = 6;
 pub const TRIM: u8 = 7;
 
+/// The comparison that said no, in a reply: none on a yes.
+pub const NONE: u8 = 0;
+/// The time isn't above newest; of a Modify also: newest isn't the old time.
+pub const NEWER: u8 = 1;
+/// The time is below the promise; of a Read: newest is.
+pub const PROMISE: u8 = 2;
+/// The log has no free entry.
+pub const FULL: u8 = 3;
+
 /// A message to a brick. A field that the kind has no use for isn't looked at.
 #[derive(Clone, Debug, PartialEq, Eq)]
 pub struct Message {
@@ -50,6 +59,8 @@ pub struct Reply {
     /// found.
     pub found: u64,
     pub block: Option<Vec<u8>>,
+    /// The first comparison that said no.
+    pub comparison: u8,
 }
 
 impl Message {
@@ -76,7 +87,7 @@ impl Message {
 
     /// Whether it brings a block.
     pub fn holds_a_block(&self) -> bool {
-        self.kind == WRITE || self.kind == MODIFY
+        stores(self.kind)
     }
 
     /// Refusal 10.
@@ -104,9 +115,26 @@ impl Reply {
         let fits = (READ..=MODIFY).contains(&self.kind)
             && valid_time(self.time)
             && round_fits(self.round)
-            && log_time(self.found);
+            && log_time(self.found)
+            && self.comparison_fits();
         (!fits).then_some(10)
     }
+
+    /// Whether the kind and the answer allow the comparison.
+    fn comparison_fits(&self) -> bool {
+        match self.comparison {
+            NONE => self.yes,
+            NEWER => !self.yes && self.kind != READ,
+            PROMISE => !self.yes,
+            FULL => !self.yes && stores(self.kind),
+            _ => false,
+        }
+    }
+}
+
+/// Whether messages of a kind append to the log.
+pub fn stores(kind: u8) -> bool {
+    kind == WRITE || kind == MODIFY
 }
 
 /// Whether the targets are m different bricks, or the one that holds a data block.
@@ -193,7 +221,7 @@ fn take_at(
 
 /// What a message does to the state of a brick, and its reply.
 fn act(settings: Settings, brick: u64, state: &mut State, message: &Message) -> Option<Reply> {
-    let (yes, found, block) = match message.kind {
+    let (comparison, found, block) = match message.kind {
         READ => read(
             state,
             message
@@ -217,15 +245,23 @@ fn act(settings: Settings, brick: u64, state: &mut State, message: &Message) -> 
         stripe: message.stripe,
         time: message.time,
         round: message.round,
-        yes,
+        yes: comparison == NONE,
         found,
         block,
+        comparison,
     })
 }
 
-/// Whether a time may be ordered or written: above newest, not below the promise.
-fn admits(state: &State, time: u64) -> bool {
-    time > state.newest() && time >= state.promise
+/// What says no to the order of a time, which must be above newest and not
+/// below the promise.
+fn against_order(state: &State, time: u64) -> u8 {
+    if time <= state.newest() {
+        NEWER
+    } else if time < state.promise {
+        PROMISE
+    } else {
+        NONE
+    }
 }
 
 /// The block that the newest entry means.
@@ -233,62 +269,78 @@ fn newest_block(state: &State) -> &[u8] {
     state.meant(state.log.len() - 1)
 }
 
-fn read(state: &State, target: bool) -> (bool, u64, Option<Vec<u8>>) {
-    let yes = state.newest() >= state.promise;
-    let block = (yes && target).then(|| newest_block(state).to_vec());
-    (yes, state.newest(), block)
+/// An answer: the comparison that said no, the time given and the block.
+type Answer = (u8, u64, Option<Vec<u8>>);
+
+fn read(state: &State, target: bool) -> Answer {
+    let newest = state.newest();
+    if newest < state.promise {
+        return (PROMISE, newest, None);
+    }
+    let block = target.then(|| newest_block(state).to_vec());
+    (NONE, newest, block)
 }
 
-fn order(state: &mut State, time: u64) -> bool {
-    let yes = admits(state, time);
-    if yes {
+fn order(state: &mut State, time: u64) -> u8 {
+    let comparison = against_order(state, time);
+    if comparison == NONE {
         state.promise = time;
     }
-    yes
+    comparison
 }
 
-fn order_and_read(state: &mut State, time: u64, max: u64) -> (bool, u64, Option<Vec<u8>>) {
-    let yes = order(state, time);
+fn order_and_read(state: &mut State, time: u64, max: u64) -> Answer {
+    let comparison = order(state, time);
+    if comparison != NONE {
+        return (comparison, 0, None);
+    }
     // The log rises, so the last entry under max is the highest, mark or block.
-    let place = state.log.iter().rposition(|entry| yes && entry.time < max);
-    place.map_or((yes, 0, None), |place| {
+    let place = state.log.iter().rposition(|entry| entry.time < max);
+    place.map_or((NONE, 0, None), |place| {
         let block = state.meant(place).to_vec();
-        (yes, state.log[place].time, Some(block))
+        (NONE, state.log[place].time, Some(block))
     })
 }
 
-fn order_block(state: &mut State, time: u64, gives: bool) -> (bool, u64, Option<Vec<u8>>) {
-    if !order(state, time) {
-        return (false, 0, None);
+fn order_block(state: &mut State, time: u64, gives: bool) -> Answer {
+    let comparison = order(state, time);
+    if comparison != NONE {
+        return (comparison, 0, None);
     }
     let block = gives.then(|| newest_block(state).to_vec());
-    (true, state.newest(), block)
+    (NONE, state.newest(), block)
 }
 
-/// Whether a time may be appended.
-fn takes(settings: Settings, state: &State, time: u64) -> bool {
-    admits(state, time) && state.count() < settings.capacity
+/// What says no to appending a time: the same, then a full log.
+fn against_append(settings: Settings, state: &State, time: u64) -> u8 {
+    match against_order(state, time) {
+        NONE if state.count() >= settings.capacity => FULL,
+        comparison => comparison,
+    }
 }
 
 fn append(state: &mut State, time: u64, block: Option<Vec<u8>>) {
     state.log.push(Entry { time, block });
 }
 
-fn store(settings: Settings, state: &mut State, message: &Message) -> bool {
-    let yes = takes(settings, state, message.time);
-    if yes {
+fn store(settings: Settings, state: &mut State, message: &Message) -> u8 {
+    let comparison = against_append(settings, state, message.time);
+    if comparison == NONE {
         append(state, message.time, Some(message.block.clone()));
     }
-    yes
+    comparison
 }
 
-fn modify(settings: Settings, brick: u64, state: &mut State, message: &Message) -> bool {
-    let yes = state.newest() == message.old_time && takes(settings, state, message.time);
-    if yes {
+fn modify(settings: Settings, brick: u64, state: &mut State, message: &Message) -> u8 {
+    if state.newest() != message.old_time {
+        return NEWER;
+    }
+    let comparison = against_append(settings, state, message.time);
+    if comparison == NONE {
         let block = modified(settings.shape, brick, newest_block(state), message);
         append(state, message.time, block);
     }
-    yes
+    comparison
 }
 
 /// What a brick stores for a Modify: brick j the new block, a parity brick its

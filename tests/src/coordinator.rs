@@ -1,6 +1,8 @@
 //! One event at one coordinator: a start, a reply, a crash.
 
-use crate::brick::{Message, Reply, MODIFY, ORDER, ORDER_BLOCK, ORDER_READ, READ, TRIM, WRITE};
+use crate::brick::{
+    stores, Message, Reply, FULL, MODIFY, ORDER, ORDER_BLOCK, ORDER_READ, READ, TRIM, WRITE,
+};
 use crate::code;
 use crate::settings::{
     coordinator_of, count_of, draw, quorum, valid_time, Refusal, Shape, Volume, LAST_COORDINATOR,
@@ -84,6 +86,8 @@ pub struct Ended {
     pub block: u64,
     pub time: u64,
     pub outcome: Outcome,
+    /// Which rule ended it: a letter of E5's.
+    pub letter: char,
 }
 
 /// What one event does besides changing the record: the messages sent, either
@@ -203,7 +207,7 @@ impl Running {
     }
 
     /// Whether a reply is of this operation and round, with a block and a time
-    /// as the round's rules have them.
+    /// as the round's rules have them. Its comparison is refusal 10's matter.
     fn answers(&self, shape: Shape, reply: &Reply) -> bool {
         let of_the_round = reply.stripe == self.stripe
             && reply.time == self.time
@@ -504,6 +508,7 @@ fn check_record(
 /// Ends the running operation, if there is one.
 fn end(record: &mut Record, outcome: Outcome) -> Option<Ended> {
     let running = record.running.take()?;
+    let letter = letter(&running, &outcome);
     Some(Ended {
         coordinator: record.number,
         kind: running.kind,
@@ -511,7 +516,37 @@ fn end(record: &mut Record, outcome: Outcome) -> Option<Ended> {
         block: if running.kind.of_block() { running.first } else { 0 },
         time: running.time,
         outcome,
+        letter,
     })
+}
+
+/// The letter of an operation that ends in its open round.
+fn letter(running: &Running, outcome: &Outcome) -> char {
+    match outcome {
+        Outcome::Ok => 'S',
+        Outcome::Gave { .. } => match running.round {
+            1 => 'F',
+            // Stored after the first round of recovery.
+            3 => 'H',
+            _ => 'L',
+        },
+        Outcome::Abort => abort_letter(running),
+        Outcome::Cut => 'C',
+    }
+}
+
+/// The letter of an abort, by the replies counted in the open round alone.
+fn abort_letter(running: &Running) -> char {
+    let nos: Vec<&Reply> = running.replies.iter().filter(|reply| !reply.yes).collect();
+    if nos.is_empty() {
+        'X'
+    } else if !stores(running.open) {
+        'O'
+    } else if nos.iter().all(|reply| reply.comparison == FULL) {
+        'G'
+    } else {
+        'W'
+    }
 }
 
 /// Decides a round in which q replies are counted.

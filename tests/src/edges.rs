@@ -44,6 +44,7 @@ pub fn all() -> Vec<Edge> {
     bytes(&mut edges);
     lengths(&mut edges);
     ends(&mut edges);
+    letters(&mut edges);
     limit(&mut edges);
     chunks(&mut edges);
     edges.0
@@ -76,7 +77,7 @@ fn settings(edges: &mut Edges) {
                 let numbers = |from: usize, to: usize| (from..=to).map(|k| format!(" {k}")).collect::<String>();
                 let script = format!("set {n} {m} {size} {capacity}; read 3 7 0; carry{}; carry{}", numbers(1, n), numbers(n + 1, n + q));
                 // With targets 0 to m - 1 all among the first q replies, the read ends in one round.
-                edges.say(&script, &format!("3 read 115 {zeros}"));
+                edges.say(&script, &format!("3 read 115 F {zeros}"));
             }
         }
     }
@@ -101,7 +102,7 @@ fn numbers(edges: &mut Edges) {
                 "refused 3; refused 3; refused 3; refused 3",
             );
         }
-        edges.say(&format!("{set}; down {0}; down {0}; up {0}; up {0}; read 0 1 {0}; crash 0", n - 1), "0 read 16 cut");
+        edges.say(&format!("{set}; down {0}; down {0}; up {0}; up {0}; read 0 1 {0}; crash 0", n - 1), "0 read 16 C cut");
     }
     for past in ["4", "5", "15", "16"].into_iter().chain(WIDE) {
         edges.say(&format!("set 2 1 1 2; crash {past}; read {past} 1 0; write {past} 1 0a"), "refused 3; refused 3; refused 3");
@@ -123,11 +124,11 @@ fn numbers(edges: &mut Edges) {
             let pick = |flag: &str, digit: &str| if flag == "1" { word(digit) } else { digit.to_string() };
             edges.say(
                 &format!("set 1 1 1 2; read {} {} {}; crash 0", pick(a, "0"), pick(b, "2"), pick(c, "0")),
-                &printed("0 read 32 cut", "refused 12"),
+                &printed("0 read 32 C cut", "refused 12"),
             );
         }
-        edges.say(&format!("set 1 1 1 2; write {} 1 0a; crash 0", word("0")), &printed("0 write 16 cut", "refused 12"));
-        edges.say(&format!("set 1 1 1 2; write 0 {} 0a; crash 0", word("1")), &printed("0 write 16 cut", "refused 12"));
+        edges.say(&format!("set 1 1 1 2; write {} 1 0a; crash 0", word("0")), &printed("0 write 16 C cut", "refused 12"));
+        edges.say(&format!("set 1 1 1 2; write 0 {} 0a; crash 0", word("1")), &printed("0 write 16 C cut", "refused 12"));
         edges.say(&format!("set 1 1 1 2; carry 1 {}", word("7")), &printed("refused 12; refused 12", "refused 12"));
         edges.say(&format!("set 1 1 1 2; carry {} 1", word("7")), &printed("refused 12; refused 12", "refused 12"));
     }
@@ -139,8 +140,8 @@ fn numbers(edges: &mut Edges) {
     }
     edges.say("set 1 1 1 2; carry 9999999999999999999 9999999999999999999 0 1", "refused 12; refused 12; refused 12; refused 12");
     // A word that doesn't read: nothing of the line is carried.
-    edges.say("set 1 1 1 2; read 0 1 0; carry 1 2 x; carry 1; carry 2", "refused 12; 0 read 16 00");
-    edges.say("set 1 1 1 2; read 0 1 0; carry 9 1 0 2 7", "refused 12; refused 12; 0 read 16 00; refused 12");
+    edges.say("set 1 1 1 2; read 0 1 0; carry 1 2 x; carry 1; carry 2", "refused 12; 0 read 16 F 00");
+    edges.say("set 1 1 1 2; read 0 1 0; carry 9 1 0 2 7", "refused 12; refused 12; 0 read 16 F 00; refused 12");
 }
 
 fn clocks(edges: &mut Edges) {
@@ -148,18 +149,18 @@ fn clocks(edges: &mut Edges) {
         let last = ((1_u64 << 40) - 1) * 16 + c;
         let start = format!("set 2 1 1 2; read {c} 1099511627775 0; crash {c}");
         let past = format!("read {c} 0 0; write {c} 5 0a; read {c} 1099511627776 0; read {c} 0 2; write {c} 0 0");
-        edges.say(&format!("{start}; {past}"), &format!("{c} read {last} cut; refused 8; refused 8; refused 7; refused 3; refused 8"));
+        edges.say(&format!("{start}; {past}"), &format!("{c} read {last} C cut; refused 8; refused 8; refused 7; refused 3; refused 8"));
         // While it runs, 8 comes before 9.
         edges
-            .say(&format!("set 2 1 1 2; write {c} 1099511627775 0a; read {c} 0 0; crash {c}"), &format!("refused 8; {c} write {last} cut"));
+            .say(&format!("set 2 1 1 2; write {c} 1099511627775 0a; read {c} 0 0; crash {c}"), &format!("refused 8; {c} write {last} C cut"));
         // The last but one count, then the last.
         edges.say(
             &format!("set 2 1 1 2; read {c} 1099511627774 0; crash {c}; read {c} 0 0; crash {c}; read {c} 0 0"),
-            &format!("{c} read {} cut; {c} read {last} cut; refused 8", last - 16),
+            &format!("{c} read {} C cut; {c} read {last} C cut; refused 8", last - 16),
         );
         edges.say(
             &format!("set 2 1 1 2; read {c} 0 0; crash {c}; read {c} 0 0; crash {c}"),
-            &format!("{c} read {} cut; {c} read {} cut", 16 + c, 32 + c),
+            &format!("{c} read {} C cut; {c} read {} C cut", 16 + c, 32 + c),
         );
     }
     for past in ["1099511627776", "1099511627777", "2199023255553", "9223372036854775808", "9999999999999999999"] {
@@ -171,11 +172,11 @@ fn clocks(edges: &mut Edges) {
     // A refused start leaves the count; a crash keeps it.
     edges.say(
         "set 1 1 1 2; write 0 9 0; write 0 9 0a0; read 0 9 1; write 0 1 0a; crash 0; read 0 0 0; crash 0",
-        "refused 12; refused 12; refused 3; 0 write 16 cut; 0 read 32 cut",
+        "refused 12; refused 12; refused 3; 0 write 16 C cut; 0 read 32 C cut",
     );
     edges.say(
         "set 2 1 1 2; read 0 1 0; read 0 1099511627776 0; read 0 9 0; write 0 9 0; write 0 9 0a; read 0 9 2; crash 0; read 0 0 0; crash 0",
-        "refused 7; refused 9; refused 9; refused 9; refused 3; 0 read 16 cut; 0 read 32 cut",
+        "refused 7; refused 9; refused 9; refused 9; refused 3; 0 read 16 C cut; 0 read 32 C cut",
     );
 }
 
@@ -188,7 +189,7 @@ fn hex(edges: &mut Edges) {
             // The count of digits comes after 3, 7, 8 and 9.
             edges.say(
                 &format!("set {n} {m} {size} 2; write 0 1 {zeros}; crash 0; write 4 1 {zeros}; write 0 1099511627776 {zeros}; read 1 1 0; write 1 1 {zeros}"),
-                &format!("{printed}{}refused 3; refused 7; refused 9", if count == right { "0 write 16 cut; " } else { "" }),
+                &format!("{printed}{}refused 3; refused 7; refused 9", if count == right { "0 write 16 C cut; " } else { "" }),
             );
             // A character that is no digit: the line doesn't read, whatever else.
             edges.say(
@@ -208,7 +209,7 @@ fn hex(edges: &mut Edges) {
     ] {
         edges.say(
             &format!("set 1 1 3 2; write 0 1 {given}; carry 1 2 3 4; read 0 1 0; carry 6 7"),
-            &format!("0 write 16 ok; 0 read 32 {shown}"),
+            &format!("0 write 16 S ok; 0 read 32 F {shown}"),
         );
     }
     // Every byte value in a stripe, through write and read.
@@ -216,7 +217,7 @@ fn hex(edges: &mut Edges) {
         let bytes: String = (0..8).map(|j| format!("{:02x}", 8 * k + j)).collect();
         edges.say(
             &format!("set 1 1 8 2; write 0 1 {}; carry 1 2 3 4 5; read 0 1 0; carry 6 7", bytes.to_uppercase()),
-            &format!("0 write 16 ok; 0 read 32 {bytes}"),
+            &format!("0 write 16 S ok; 0 read 32 F {bytes}"),
         );
     }
 }
@@ -357,13 +358,13 @@ fn lengths(edges: &mut Edges) {
     for length in [1_000_000, 3_000_000] {
         for fill in ["0", " ", "\0", "carry 1 "] {
             let long = fill.repeat(length / fill.len());
-            edges.raw(&format!("{length} of {fill:?}"), format!("{set}{long}\nread 0 1 0\ncrash 0\n"), refused(&[12]) + "0 read 16 cut\n");
+            edges.raw(&format!("{length} of {fill:?}"), format!("{set}{long}\nread 0 1 0\ncrash 0\n"), refused(&[12]) + "0 read 16 C cut\n");
             edges.raw(&format!("{length} of {fill:?}, no set"), format!("{long}\n{set}crash 4\n{long}"), refused(&[12, 3, 12]));
         }
     }
     // The longest line of a bench's own: 64 hex digits.
     let digits = "5a".repeat(32);
-    edges.say(&format!("set 4 4 8 4; write 3 1099511627774 {digits}; crash 3"), "3 write 17592186044387 cut");
+    edges.say(&format!("set 4 4 8 4; write 3 1099511627774 {digits}; crash 3"), "3 write 17592186044387 C cut");
 }
 
 fn ends(edges: &mut Edges) {
@@ -376,8 +377,8 @@ fn ends(edges: &mut Edges) {
     edges.raw("CR", "\r", refused(&[12]));
     edges.raw("byte 255", vec![255_u8], refused(&[12]));
     edges.raw("set, no newline", "set 1 1 1 2", String::new());
-    edges.raw("no newline at the end", "set 1 1 1 2\nread 0 1 0\ncrash 0", "0 read 16 cut\n".to_string());
-    edges.raw("a blank line at the end", "set 1 1 1 2\nread 0 1 0\ncrash 0\n\n", "0 read 16 cut\n".to_string() + &refused(&[12]));
+    edges.raw("no newline at the end", "set 1 1 1 2\nread 0 1 0\ncrash 0", "0 read 16 C cut\n".to_string());
+    edges.raw("a blank line at the end", "set 1 1 1 2\nread 0 1 0\ncrash 0\n\n", "0 read 16 C cut\n".to_string() + &refused(&[12]));
     edges.raw("a half word at the end", "set 1 1 1 2\nread 0 1 0\ncras", refused(&[12]));
     edges.raw("CR before newlines", "set 1 1 1 2\r\nread 0 1 0\r\ncrash 0\r\n", refused(&[12, 12, 12]));
     edges.raw("CR for newlines", "set 1 1 1 2\rread 0 1 0\rcrash 0\r", refused(&[12]));
@@ -386,6 +387,35 @@ fn ends(edges: &mut Edges) {
         "blank lines between",
         format!("{}set 1 1 1 2{}crash 4", "\n".repeat(777), "\n".repeat(1500)),
         refused(&[12; 777]) + &refused(&[12; 1499]) + "refused 3\n",
+    );
+}
+
+/// Each letter on the fewest bricks that can show it.
+fn letters(edges: &mut Edges) {
+    let one = "set 1 1 1 2; write 0 1 0a; carry 1 2 3 4";
+    edges.say(one, "0 write 16 S ok");
+    edges.say(&format!("{one}; read 1 1 0; carry 6 7"), "0 write 16 S ok; 1 read 17 F 0a");
+    // The log is full: no Trim was carried, or it was.
+    edges.say(&format!("{one}; write 0 2 0b; carry 6 7 8 9"), "0 write 16 S ok; 0 write 32 G abort");
+    edges.say(&format!("{one}; carry 5; write 0 2 0b; carry 6 7 8 9"), "0 write 16 S ok; 0 write 32 S ok");
+    // A later promise comes before the full log, and an equal time is newer.
+    edges.say(&format!("{one}; write 0 2 0b; carry 6 7; write 1 3 0c; carry 9 8 11"), "0 write 16 S ok; 0 write 32 W abort");
+    edges.say("set 1 1 1 2; write 0 1 0a; carry 1 2; write 1 2 0b; carry 4 5 3 7", "0 write 16 W abort");
+    edges.say("set 1 1 1 2; write 0 1 0a; carry 1 2 3 3 5", "0 write 16 W abort");
+    // An Order told no, by the promise and by a newer time; an Order-and-read told no.
+    edges.say("set 1 1 1 2; write 1 5 0a; carry 1 2; write 0 1 0b; carry 4 5", "0 write 16 O abort");
+    edges.say("set 1 1 1 2; write 1 5 0a; carry 1 2 3 4; write 0 1 0b; carry 6 7", "1 write 81 S ok; 0 write 16 O abort");
+    edges.say("set 1 1 1 2; write 1 5 0a; carry 1; read 0 1 0; carry 3 4 5 6", "0 read 16 O abort");
+    // A promise makes a read recover; its store meets a free entry or a full log.
+    edges.say("set 1 1 1 2; write 0 1 0a; carry 1; crash 0; read 1 2 0; carry 3 4 5 6 7 8", "0 write 16 C cut; 1 read 33 H 00");
+    edges.say(
+        &format!("{one}; write 0 2 0b; carry 6; crash 0; read 1 3 0; carry 8 9 10 11 12 13"),
+        "0 write 16 S ok; 0 write 32 C cut; 1 read 49 G abort",
+    );
+    // A Write that one of two bricks has, with m 2: the recovery goes on to time 0.
+    edges.say(
+        "set 2 2 1 4; write 0 1 0102; carry 1 2 3 4 5; crash 0; read 1 2 0; carry 8 9 10 11 12 13 14 15 16 17 18 19 20 21 22 23",
+        "0 write 16 C cut; 1 read 33 L 0000",
     );
 }
 
@@ -438,7 +468,7 @@ fn limit(edges: &mut Edges) {
             "set 1 1 1 2; write 0 1 0a; carry 1 2 3 4 5{}; carry 5 5 5; carry 1; read 1 1 0; down 0; carry 1 5",
             "; carry 1".repeat(122)
         ),
-        "0 write 16 ok; refused 12; refused 12",
+        "0 write 16 S ok; refused 12; refused 12",
     );
 }
 
@@ -458,7 +488,7 @@ fn chunks(edges: &mut Edges) {
                 printed.push(12);
             }
             script.extend(b"crash 4\ncarry 7\ncrash 0\n\nread 9 1 0");
-            let expected = refused(&printed) + "refused 3\nrefused 12\n0 read 16 cut\nrefused 12\nrefused 3\n";
+            let expected = refused(&printed) + "refused 3\nrefused 12\n0 read 16 C cut\nrefused 12\nrefused 3\n";
             edges.0.push((format!("chunk {chunk} less {past}"), script, Some(expected)));
         }
     }

@@ -1,6 +1,6 @@
 //! What several test files start from: two messages to a brick, and coordinator 1 of a set of four bricks with the replies to it.
 
-use crate::brick::{Message, Reply, ORDER_READ, READ};
+use crate::brick::{Message, Reply, FULL, MODIFY, NEWER, NONE, ORDER_READ, PROMISE, READ, WRITE};
 use crate::coordinator::{take_reply, Record, Step};
 use crate::rng::Rng;
 use crate::settings::Volume;
@@ -34,7 +34,7 @@ pub fn fresh() -> Record {
     Record::fresh(volume(), 1)
 }
 
-/// A reply to coordinator 1 at time 17.
+/// A reply to coordinator 1 at time 17. A no is the promise's.
 pub fn reply(kind: u8, round: u64, brick: u64, yes: bool, found: u64, block: Option<u8>) -> Reply {
     Reply {
         kind,
@@ -45,7 +45,27 @@ pub fn reply(kind: u8, round: u64, brick: u64, yes: bool, found: u64, block: Opt
         yes,
         found,
         block: block.map(|byte| vec![byte]),
+        comparison: if yes { NONE } else { PROMISE },
     }
+}
+
+/// The reply as a no of a comparison.
+pub fn told(reply: &Reply, comparison: u8) -> Reply {
+    Reply {
+        yes: false,
+        comparison,
+        ..reply.clone()
+    }
+}
+
+/// Whether a no to a message of a kind may name the comparison.
+pub fn may_say(kind: u8, comparison: u8) -> bool {
+    let allowed: &[u8] = match kind {
+        READ => &[PROMISE],
+        WRITE | MODIFY => &[NEWER, PROMISE, FULL],
+        _ => &[NEWER, PROMISE],
+    };
+    allowed.contains(&comparison)
 }
 
 /// A reply that coordinator 1 counts.

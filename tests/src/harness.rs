@@ -1,6 +1,6 @@
 //! Random runs of a volume, for any implementation of the routines: operations on some of its stripes among faults, then reads in a row.
 
-use crate::brick::{self, Message, Reply, MODIFY, ORDER_BLOCK, ORDER_READ, READ, TRIM, WRITE};
+use crate::brick::{self, stores, Message, Reply, FULL, MODIFY, ORDER_BLOCK, ORDER_READ, READ, TRIM, WRITE};
 use crate::coordinator::{self, Ended, Kind, Outcome, Record, Step};
 use crate::fixtures::enough_blocks;
 use crate::order::{brute_order, by_stripe, has_order, End, Operation};
@@ -141,6 +141,7 @@ impl Proved {
             block: sent[answer::SEEN_BLOCK],
             time: sent[answer::SEEN_TIME],
             outcome,
+            letter: char::from(shown[answer::LETTER]),
         });
         Ok(Step { ended, ..step })
     }
@@ -209,7 +210,7 @@ impl Routines for Proved {
 
     fn receive(settings: Settings, brick: u64, images: &mut [u8], message: &Message) -> Result<Option<Reply>, u32> {
         let size = settings.shape.size as usize;
-        let (mut out, mut r) = (vec![0; size], [0; 8]);
+        let (mut out, mut r) = (vec![0; size], [0; 9]);
         let flags = proved::flags(&message.targets);
         let asked = proved::asked(u64::from(message.kind), message.time, message.round, message.max, message.stripe, flags);
         let asked = proved::of_block(asked, message.old_time, message.number);
@@ -226,6 +227,7 @@ impl Routines for Proved {
                 yes: r[4] == 1,
                 found: r[5],
                 block: (r[6] == 1).then_some(out),
+                comparison: r[8] as u8,
             })),
             proved::SILENCE => Ok(None),
             number => Err(number),
@@ -267,8 +269,8 @@ impl Routines for Proved {
     }
 
     fn reply(settings: Settings, c: &mut proved::Coordinator, reply: &Reply) -> Result<Step, u32> {
-        let &Reply { kind, brick, stripe, time, round, yes, found, ref block } = reply;
-        let fields = (kind, brick as usize, stripe as usize, time, round, yes, found, block.is_some());
+        let &Reply { kind, brick, stripe, time, round, yes, found, ref block, comparison } = reply;
+        let fields = (kind, brick as usize, stripe as usize, time, round, yes, found, block.is_some(), comparison);
         let block = block.as_deref().unwrap_or(&[]);
         let proved::Coordinator { lent, blocks, stripe, coded } = c;
         let number = proved::take_reply(Proved::four(settings.volume()), lent, fields, block, blocks, stripe, coded);
@@ -386,6 +388,8 @@ pub enum Break {
     AnyOldTime,
     /// A Modify leaves the bytes of a parity brick as they were.
     ParityStays,
+    /// An operation's letter is the one that stands after its own in the list.
+    NextLetter,
 }
 
 fn once(rng: &mut Rng, calls: u64) -> bool {
@@ -428,6 +432,30 @@ pub struct Noted {
     pub stored: usize,
     /// Whether a Modify went out.
     pub modified: bool,
+    /// The letter of its end.
+    pub letter: Option<char>,
+}
+
+/// Every letter.
+pub const LETTERS: &str = "FHLSOGWXC";
+
+/// Whether a letter fits how an operation ended: with this outcome, after so many rounds, with these replies counted in the last.
+pub fn letter_fits(letter: char, outcome: &Outcome, rounds: u64, counted: &[Reply]) -> bool {
+    let (gave, aborted) = (matches!(outcome, Outcome::Gave { .. }), *outcome == Outcome::Abort);
+    let storing = counted.iter().any(|reply| stores(reply.kind));
+    let mut nos = counted.iter().filter(|reply| !reply.yes);
+    match letter {
+        'F' => gave && rounds == 1,
+        'H' => gave && rounds == 3,
+        'L' => gave && rounds > 3,
+        'S' => *outcome == Outcome::Ok,
+        'O' => aborted && !storing && nos.next().is_some(),
+        'G' => aborted && storing && nos.clone().next().is_some() && nos.all(|reply| reply.comparison == FULL),
+        'W' => aborted && storing && nos.any(|reply| reply.comparison != FULL),
+        'X' => aborted && nos.next().is_none(),
+        'C' => *outcome == Outcome::Cut,
+        _ => false,
+    }
 }
 
 /// A run from a fresh set.
@@ -460,6 +488,8 @@ pub struct World<R: Routines> {
     counted: Vec<Vec<Reply>>,
     /// Recoveries that were aborted though all said yes and m or more gave a block of the highest time: these disagree.
     pub disagreed: usize,
+    /// Ends whose letter doesn't fit them.
+    pub misled: usize,
     pub faults: Faults,
 }
 
@@ -486,6 +516,7 @@ impl<R: Routines> World<R> {
             overwritten: 0,
             counted: vec![Vec::new(); 16],
             disagreed: 0,
+            misled: 0,
             faults,
         }
     }
@@ -512,10 +543,15 @@ impl<R: Routines> World<R> {
         if let Some(k) = last {
             assert!(step.sent.iter().all(|message| message.stripe == self.operations[k].stripe));
         }
+        let decided = !step.sent.is_empty() || step.ended.is_some();
+        let counted = if decided { std::mem::take(&mut self.counted[c]) } else { Vec::new() };
         self.fresh.extend(self.sent.len()..self.sent.len() + step.sent.len());
         self.sent.extend(step.sent.into_iter().enumerate().map(|(brick, message)| Sent::To(brick, message)));
-        if let Some(Ended { coordinator, kind, stripe, block, time, outcome }) = step.ended {
+        if let Some(Ended { coordinator, kind, stripe, block, time, outcome, letter }) = step.ended {
             let k = last.expect("an operation of the coordinator");
+            let letter = self.shown_letter(letter);
+            self.misled += usize::from(!letter_fits(letter, &outcome, self.noted[k].round, &counted));
+            self.noted[k].letter = Some(letter);
             let operation = &self.operations[k];
             assert_eq!((coordinator, stripe, time), (c as u64, operation.stripe, self.noted[k].time));
             assert_eq!((kind.reads(), kind.of_block()), (operation.write.is_none(), operation.block.is_some()));
@@ -531,6 +567,15 @@ impl<R: Routines> World<R> {
             };
             self.operations[k].ended = Some((self.event, end));
         }
+    }
+
+    /// The letter as it is shown, a rule broken or not.
+    fn shown_letter(&self, letter: char) -> char {
+        if self.faults.broken != Break::NextLetter {
+            return letter;
+        }
+        let next = LETTERS.find(letter).map_or(0, |place| (place + 1) % LETTERS.len());
+        char::from(LETTERS.as_bytes()[next])
     }
 
     /// What a finished read gave has the right length, and it names m different bricks, or the one of a block read in one round.
@@ -564,8 +609,7 @@ impl<R: Routines> World<R> {
                 assert!(idle);
                 let time = R::running(coordinator).expect("an operation runs");
                 self.operations.push(Operation { stripe, block: what.block(), write: what.bytes(), began: self.event, ended: None });
-                self.noted.push(Noted { coordinator: c, time, round: 1, stored: 0, modified: false });
-                self.counted[c].clear();
+                self.noted.push(Noted { coordinator: c, time, round: 1, stored: 0, modified: false, letter: None });
                 self.after(c, step);
             }
             Err(number) => assert_eq!((number, idle), (9, false)),
@@ -684,9 +728,6 @@ impl<R: Routines> World<R> {
         if step.ended.as_ref().is_some_and(|ended| ended.outcome == Outcome::Abort) {
             let all_yes = counted.iter().all(|reply| reply.kind == ORDER_READ && reply.yes);
             self.disagreed += usize::from(all_yes && enough_blocks(self.settings.shape.m, counted));
-        }
-        if !step.sent.is_empty() || step.ended.is_some() {
-            counted.clear();
         }
     }
 
@@ -917,6 +958,8 @@ impl<R: Routines> World<R> {
             Some("no order")
         } else if self.disagreed > 0 {
             Some("blocks of one time that disagree")
+        } else if self.misled > 0 {
+            Some("a letter that doesn't fit")
         } else {
             None
         }
@@ -945,6 +988,9 @@ impl<R: Routines> World<R> {
         for (o, noted) in all.iter().zip(&self.noted) {
             let of = if o.block.is_some() { "block " } else { "" };
             tally.add(format!("{of}{}", how_it_went(o, noted)), 1);
+            if let Some(letter) = noted.letter {
+                tally.add(format!("{of}letter {letter}"), 1);
+            }
             if o.write.is_some() && !o.finished() {
                 let meets = |r: &&Operation| r.stripe == o.stripe && (r.block.is_none() || o.block.is_none() || r.block == o.block);
                 let mut reads = all.iter().filter(meets).filter(|r| r.gave().is_some());
@@ -987,7 +1033,7 @@ fn how_it_went(o: &Operation, noted: &Noted) -> &'static str {
 }
 
 /// What runs with operations on one block should show often.
-pub const OFTEN_OF_BLOCKS: [&str; 18] = [
+pub const OFTEN_OF_BLOCKS: [&str; 26] = [
     "block written",
     "block written by recovery",
     "block write aborted",
@@ -1006,10 +1052,18 @@ pub const OFTEN_OF_BLOCKS: [&str; 18] = [
     "a Read gave a mark's block",
     "an Order-and-read gave a mark's block",
     "the first round of a block write gave a mark's block",
+    "block letter F",
+    "block letter H",
+    "block letter L",
+    "block letter S",
+    "block letter O",
+    "block letter G",
+    "block letter W",
+    "block letter C",
 ];
 
-/// What every run of enough length should show often.
-pub const OFTEN: [&str; 12] = [
+/// What every run of enough length should show often. X is rare: it takes a recovery that a later write overtakes.
+pub const OFTEN: [&str; 20] = [
     "written",
     "write aborted",
     "write cut",
@@ -1022,6 +1076,14 @@ pub const OFTEN: [&str; 12] = [
     "cut write stored, stayed away",
     "other unfinished write seen",
     "other unfinished write stored, stayed away",
+    "letter F",
+    "letter H",
+    "letter L",
+    "letter S",
+    "letter O",
+    "letter G",
+    "letter W",
+    "letter C",
 ];
 
 fn some_settings(rng: &mut Rng) -> Settings {

@@ -1,6 +1,7 @@
 //! A brick that works on its image in place, as firmware would write it by hand: the yardstick for the proved one's speed.
-//! It knows only good settings and blocks of the right length.
+//! It knows only good settings and blocks of the right length. It answers by the comparison that said no, `NONE` being a yes.
 
+use crate::brick::{FULL, NEWER, NONE, PROMISE};
 use crate::inplace_tables::{add_products, Tables};
 
 const BLOCK: usize = 512;
@@ -159,72 +160,85 @@ impl Brick {
         self.write_head(image, 1, 0);
     }
 
-    fn admits(opened: &Opened, time: u64) -> bool {
-        time > opened.newest() && time >= opened.promise
+    fn against_order(opened: &Opened, time: u64) -> u8 {
+        if time <= opened.newest() {
+            NEWER
+        } else if time < opened.promise {
+            PROMISE
+        } else {
+            NONE
+        }
     }
 
-    fn takes(&self, opened: &Opened, time: u64) -> bool {
-        Self::admits(opened, time) && opened.count < self.capacity
+    fn against_append(&self, opened: &Opened, time: u64) -> u8 {
+        let said = Self::against_order(opened, time);
+        if said == NONE && opened.count == self.capacity {
+            FULL
+        } else {
+            said
+        }
     }
 
-    pub fn read(&self, image: &[u8], target: bool, out: &mut [u8]) -> (bool, u64) {
+    pub fn read(&self, image: &[u8], target: bool, out: &mut [u8]) -> (u8, u64) {
         let opened = self.open(image).unwrap();
-        let yes = opened.newest() >= opened.promise;
-        if yes && target {
+        let said = if opened.newest() < opened.promise { PROMISE } else { NONE };
+        if said == NONE && target {
             out.copy_from_slice(self.meant(image, &opened, opened.count - 1));
         }
-        (yes, opened.newest())
+        (said, opened.newest())
     }
 
-    pub fn order(&self, image: &mut [u8], time: u64) -> bool {
+    pub fn order(&self, image: &mut [u8], time: u64) -> u8 {
         let opened = self.open(image).unwrap();
-        let yes = Self::admits(&opened, time);
-        if yes {
+        let said = Self::against_order(&opened, time);
+        if said == NONE {
             self.write_head(image, opened.count, time);
         }
-        yes
+        said
     }
 
     /// With whether an entry was found.
-    pub fn order_read(&self, image: &mut [u8], time: u64, max: u64, out: &mut [u8]) -> (bool, u64, bool) {
+    pub fn order_read(&self, image: &mut [u8], time: u64, max: u64, out: &mut [u8]) -> (u8, u64, bool) {
         let opened = self.open(image).unwrap();
-        if !Self::admits(&opened, time) {
-            return (false, 0, false);
+        let said = Self::against_order(&opened, time);
+        if said != NONE {
+            return (said, 0, false);
         }
         self.write_head(image, opened.count, time);
-        let Some(k) = (0..opened.count).rev().find(|&k| opened.times[k] < max) else { return (true, 0, false) };
+        let Some(k) = (0..opened.count).rev().find(|&k| opened.times[k] < max) else { return (NONE, 0, false) };
         out.copy_from_slice(self.meant(image, &opened, k));
-        (true, opened.times[k], true)
+        (NONE, opened.times[k], true)
     }
 
     /// The first round of a write of block j.
-    pub fn order_block(&self, image: &mut [u8], time: u64, j: usize, out: &mut [u8]) -> (bool, u64) {
+    pub fn order_block(&self, image: &mut [u8], time: u64, j: usize, out: &mut [u8]) -> (u8, u64) {
         let opened = self.open(image).unwrap();
-        if !Self::admits(&opened, time) {
-            return (false, 0);
+        let said = Self::against_order(&opened, time);
+        if said != NONE {
+            return (said, 0);
         }
         self.write_head(image, opened.count, time);
         if usize::from(self.brick) == j {
             out.copy_from_slice(self.meant(image, &opened, opened.count - 1));
         }
-        (true, opened.newest())
+        (NONE, opened.newest())
     }
 
-    pub fn write(&self, image: &mut [u8], time: u64, data: &[u8]) -> bool {
+    pub fn write(&self, image: &mut [u8], time: u64, data: &[u8]) -> u8 {
         let opened = self.open(image).unwrap();
-        let yes = self.takes(&opened, time);
-        if yes {
+        let said = self.against_append(&opened, time);
+        if said == NONE {
             self.append(image, &opened, time, Some(data));
         }
-        yes
+        said
     }
 
     /// Block j goes from old to new, over the entry of the old time.
-    pub fn modify(&self, image: &mut [u8], time: u64, old_time: u64, j: usize, old: &[u8], new: &[u8]) -> bool {
+    pub fn modify(&self, image: &mut [u8], time: u64, old_time: u64, j: usize, old: &[u8], new: &[u8]) -> u8 {
         let opened = self.open(image).unwrap();
-        let yes = opened.newest() == old_time && self.takes(&opened, time);
-        if !yes {
-            return false;
+        let said = if opened.newest() == old_time { self.against_append(&opened, time) } else { NEWER };
+        if said != NONE {
+            return said;
         }
         if usize::from(self.brick) == j {
             self.append(image, &opened, time, Some(new));
@@ -239,7 +253,7 @@ impl Brick {
             add_products(&self.weights[j], &change[..self.size], &mut own[..self.size]);
             self.append(image, &opened, time, Some(&own[..self.size]));
         }
-        true
+        NONE
     }
 
     pub fn trim(&self, image: &mut [u8], time: u64) {

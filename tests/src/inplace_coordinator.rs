@@ -2,6 +2,7 @@
 //! It makes the same checks of record and reply at every event, that the settings given are the record's too; it keeps sets of bricks as
 //! bits, and knows only settings in range and good lengths.
 
+use crate::brick::{stores, FULL, NEWER, NONE, PROMISE};
 use crate::inplace_tables::Tables;
 
 pub const READ: u8 = 1;
@@ -47,16 +48,18 @@ pub struct Reply {
     pub yes: bool,
     pub found: u64,
     pub held: bool,
+    /// The comparison that said no.
+    pub said: u8,
 }
 
-/// What an event leads to.
+/// What an event leads to; an end has its letter.
 pub enum Act {
     Refused(u32),
     Waits,
     Sends(Message),
-    Written(Message),
-    Read(Option<Message>),
-    Aborted,
+    Written(Message, char),
+    Read(Option<Message>, char),
+    Aborted(char),
 }
 
 #[derive(Clone)]
@@ -77,6 +80,10 @@ pub struct Coordinator {
     counted: u16,
     granted: u16,
     held: u16,
+    /// Who said no by which comparison.
+    newer: u16,
+    promised: u16,
+    full: u16,
     found: [u64; 16],
     bricks: [u8; 16],
     pub blocks: Vec<u8>,
@@ -108,6 +115,9 @@ impl Coordinator {
             counted: 0,
             granted: 0,
             held: 0,
+            newer: 0,
+            promised: 0,
+            full: 0,
             found: [0; 16],
             bricks: [0; 16],
             blocks: vec![0; n * size],
@@ -173,7 +183,15 @@ impl Coordinator {
             _ => self.held,
         };
         let times = (0..16).all(|b| self.found[b] == 0 || (shown >> b & 1 == 1 && valid(self.found[b])));
-        within && held && times && self.counted.count_ones() < self.quorum()
+        within && held && self.nos_sound() && times && self.counted.count_ones() < self.quorum()
+    }
+
+    /// Whether every counted no has one comparison, which the round allows, and nothing else has one.
+    fn nos_sound(&self) -> bool {
+        let (nos, all) = (self.counted & !self.granted, self.newer | self.promised | self.full);
+        let once = self.newer & self.promised == 0 && (self.newer | self.promised) & self.full == 0;
+        let allowed = (self.newer == 0 || self.phase != READ) && (self.full == 0 || stores(self.phase));
+        all == nos && once && allowed
     }
 
     /// Whether it reads, a stripe or a block.
@@ -249,13 +267,15 @@ impl Coordinator {
         self.counted = 0;
         self.granted = 0;
         self.held = 0;
+        self.newer = 0;
+        self.promised = 0;
+        self.full = 0;
         self.found = [0; 16];
     }
 
     fn open(&mut self, phase: u8, max: u64) -> Act {
         if self.round == 1000 {
-            self.end();
-            return Act::Aborted;
+            return self.abort();
         }
         self.round += 1;
         self.phase = phase;
@@ -287,7 +307,14 @@ impl Coordinator {
         let sense = (READ..=MODIFY).contains(&r.kind)
             && valid(r.time)
             && (1..=1000).contains(&r.round)
-            && (r.found == 0 || valid(r.found));
+            && (r.found == 0 || valid(r.found))
+            && match r.said {
+                NONE => r.yes,
+                NEWER => !r.yes && r.kind != READ,
+                PROMISE => !r.yes,
+                FULL => !r.yes && stores(r.kind),
+                _ => false,
+            };
         if !sense {
             return 10;
         }
@@ -333,8 +360,11 @@ impl Coordinator {
         let bit = 1 << r.brick;
         self.counted |= bit;
         self.found[r.brick] = r.found;
-        if r.yes {
-            self.granted |= bit;
+        match r.said {
+            NEWER => self.newer |= bit,
+            PROMISE => self.promised |= bit,
+            FULL => self.full |= bit,
+            _ => self.granted |= bit,
         }
         if r.held {
             self.held |= bit;
@@ -350,24 +380,37 @@ impl Coordinator {
         let all_yes = self.granted == self.counted;
         match self.phase {
             READ => self.decide_read(all_yes),
-            _ if !all_yes => {
-                self.end();
-                Act::Aborted
-            }
+            _ if !all_yes => self.abort(),
             ORDER => self.store(),
             ORDER_READ => self.decide_recovery(),
             ORDER_BLOCK => self.decide_order_block(),
             _ => {
-                let trim = self.message(TRIM);
-                let read = self.reads();
+                let (trim, read) = (self.message(TRIM), self.reads());
+                let letter = if self.round == 3 { 'H' } else { 'L' };
                 self.end();
                 if read {
-                    Act::Read(Some(trim))
+                    Act::Read(Some(trim), letter)
                 } else {
-                    Act::Written(trim)
+                    Act::Written(trim, 'S')
                 }
             }
         }
+    }
+
+    /// The end of an operation that is aborted, with the letter of its open round.
+    fn abort(&mut self) -> Act {
+        let others = self.newer | self.promised;
+        let letter = if others | self.full == 0 {
+            'X'
+        } else if !stores(self.phase) {
+            'O'
+        } else if others == 0 {
+            'G'
+        } else {
+            'W'
+        };
+        self.end();
+        Act::Aborted(letter)
     }
 
     /// The time that all counted replies have found, if it is one.
@@ -394,7 +437,7 @@ impl Coordinator {
             let at = self.first * self.size;
             self.stripe[at..at + self.size].copy_from_slice(&self.blocks[at..at + self.size]);
             self.end();
-            return Act::Read(None);
+            return Act::Read(None, 'F');
         }
         let mut bricks = [0; 16];
         for (i, brick) in bricks[..self.m].iter_mut().enumerate() {
@@ -403,7 +446,7 @@ impl Coordinator {
         }
         self.decode(&bricks[..self.m]);
         self.end();
-        Act::Read(None)
+        Act::Read(None, 'F')
     }
 
     fn decide_recovery(&mut self) -> Act {
@@ -417,14 +460,12 @@ impl Coordinator {
         }
         if count >= self.m {
             if !self.recover(&bricks[..count]) {
-                self.end();
-                return Act::Aborted;
+                return self.abort();
             }
             return self.store();
         }
         if highest == 0 {
-            self.end();
-            return Act::Aborted;
+            return self.abort();
         }
         self.open(ORDER_READ, highest)
     }

@@ -70,7 +70,7 @@ mod c {
         coord_start_read_block(stripe_number: usize, reading: u64, block: usize)
         coord_take_reply(
             kind: u8, brick: usize, stripe_number: usize, time: u64, round: u64, yes: bool, found: u64, has: bool,
-            block: *const u8, block_len: usize, blocks: *mut u8, blocks_len: usize, stripe: *mut u8, stripe_len: usize,
+            comparison: u8, block: *const u8, block_len: usize, blocks: *mut u8, blocks_len: usize, stripe: *mut u8, stripe_len: usize,
             coded: *mut u8, coded_len: usize
         )
         coord_crash()
@@ -171,8 +171,8 @@ pub fn of_block(mut asked: Asked, old: u64, block: u64) -> Asked {
     asked
 }
 
-/// A reply's numbers: kind, brick, time, round, yes, found, whether it holds a block, stripe.
-pub type Replied = [u64; 8];
+/// A reply's numbers: kind, brick, time, round, yes, found, whether it holds a block, stripe, the comparison that said no.
+pub type Replied = [u64; 9];
 
 /// The flags of a list of bricks below 16: how often each stands in it.
 pub fn flags(bricks: &[u8]) -> [u64; 16] {
@@ -242,13 +242,14 @@ pub mod record {
     pub const STRIPE: usize = 10;
     pub const FOUND: usize = 11;
 
-    pub const BYTES: usize = 66;
+    pub const BYTES: usize = 82;
     pub const KIND: usize = 0;
     pub const PHASE: usize = 1;
     pub const COUNTED: usize = 2;
     pub const GRANTED: usize = 18;
     pub const HELD: usize = 34;
     pub const BRICKS: usize = 50;
+    pub const COMPARISON: usize = 66;
 }
 
 /// The same of an answer.
@@ -265,12 +266,13 @@ pub mod answer {
     pub const BLOCK: usize = 12;
     pub const SEEN_BLOCK: usize = 15;
 
-    pub const BYTES: usize = 52;
+    pub const BYTES: usize = 53;
     pub const KIND: usize = 0;
     pub const SEEN: usize = 1;
     pub const SEEN_KIND: usize = 2;
     pub const TARGETS: usize = 3;
     pub const BRICKS: usize = 19;
+    pub const LETTER: usize = 52;
 }
 
 /// Kinds of operations.
@@ -338,12 +340,13 @@ impl Coordinator {
     }
 }
 
-/// A reply as a coordinator takes it: kind, brick, stripe, time, round, yes, found, and whether it holds a block.
-pub type Taken = (u8, usize, usize, u64, u64, bool, u64, bool);
+/// A reply as a coordinator takes it: kind, brick, stripe, time, round, yes, found, whether it holds a block, and the comparison that
+/// said no.
+pub type Taken = (u8, usize, usize, u64, u64, bool, u64, bool, u8);
 
 /// A brick's reply as a coordinator takes it.
-pub fn taken([kind, brick, time, round, yes, found, held, stripe]: Replied) -> Taken {
-    (kind as u8, brick as usize, stripe as usize, time, round, yes == 1, found, held == 1)
+pub fn taken([kind, brick, time, round, yes, found, held, stripe, comparison]: Replied) -> Taken {
+    (kind as u8, brick as usize, stripe as usize, time, round, yes == 1, found, held == 1, comparison as u8)
 }
 
 /// Calls a routine of a coordinator: on the settings, what is lent, and its own arguments.
@@ -391,7 +394,7 @@ pub fn crash(four: Four, lent: &mut Lent) -> u32 {
 pub fn take_reply(
     four: Four,
     lent: &mut Lent,
-    (kind, brick, number, time, round, yes, found, has): Taken,
+    (kind, brick, number, time, round, yes, found, has, comparison): Taken,
     block: &[u8],
     blocks: &mut [u8],
     stripe: &mut [u8],
@@ -399,7 +402,7 @@ pub fn take_reply(
 ) -> u32 {
     let (i, j, k, l) = (block.as_ptr(), blocks.as_mut_ptr(), stripe.as_mut_ptr(), coded.as_mut_ptr());
     call!(
-        coord_take_reply, four, lent, kind, brick, number, time, round, yes, found, has, i, block.len(), j, blocks.len(),
-        k, stripe.len(), l, coded.len()
+        coord_take_reply, four, lent, kind, brick, number, time, round, yes, found, has, comparison, i, block.len(), j,
+        blocks.len(), k, stripe.len(), l, coded.len()
     )
 }

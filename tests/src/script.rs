@@ -139,6 +139,7 @@ fn clock(rng: &mut Rng) -> u64 {
 #[derive(Clone, Default)]
 struct Open {
     runs: bool,
+    writes: bool,
     /// Messages of its round that weren't carried so far.
     round: Vec<usize>,
     /// Replies that weren't carried so far.
@@ -254,7 +255,8 @@ impl Plan {
             rng.below(20)
         };
         let before = self.script.bench.sent();
-        let line = if rng.once_in(2) {
+        let writes = rng.once_in(2);
+        let line = if writes {
             let hex: String = rng
                 .bytes(self.script.stripe)
                 .iter()
@@ -268,6 +270,7 @@ impl Plan {
         let round: Vec<usize> = (before + 1..=self.script.bench.sent()).collect();
         self.open[c] = Open {
             runs: !round.is_empty(),
+            writes,
             round,
             replies: Vec::new(),
         };
@@ -322,12 +325,19 @@ impl Plan {
                 self.trims.extend(sent);
             }
         } else if !sent.is_empty() {
+            let (first, writes) = (sent[0], self.open[c].writes);
             self.leave(c);
             self.open[c] = Open {
                 runs: true,
+                writes,
                 round: sent,
                 replies: Vec::new(),
             };
+            // A cut that leaves a Write on one brick: a later recovery looks further down.
+            if writes && rng.once_in(4) {
+                self.carry(&[first]);
+                self.crash(c);
+            }
         }
     }
 

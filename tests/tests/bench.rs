@@ -25,7 +25,10 @@ fn the_worked_case() {
          carry 11 13 12 14 16 18 17 19 21 23 22 24; up 0; read 1 3 0; \
          carry 28 31 29 32 33 36 34 37 38 41 39 42",
     );
-    assert_eq!(printed, "0 write 16 cut\n1 read 33 00\n1 read 49 00\n");
+    assert_eq!(
+        printed,
+        "0 write 16 C cut\n1 read 33 H 00\n1 read 49 H 00\n"
+    );
 }
 
 #[test]
@@ -35,11 +38,11 @@ fn ends_of_the_input() {
     assert_eq!(play(b"\n\n"), b"refused 12\nrefused 12\n");
     assert_eq!(
         play(b"set 1 1 1 2\nread 0 1 0\ncrash 0"),
-        b"0 read 16 cut\n"
+        b"0 read 16 C cut\n"
     );
     assert_eq!(
         play(b"set 1 1 1 2\n\nread 0 1 0\ncrash 0\n"),
-        b"refused 12\n0 read 16 cut\n"
+        b"refused 12\n0 read 16 C cut\n"
     );
 }
 
@@ -128,7 +131,7 @@ fn numbers_of_19_digits_read() {
     );
     assert_eq!(
         played("set 1 1 1 2; read 0000000000000000000 0000000000000000001 0; crash 00"),
-        "0 read 16 cut\n"
+        "0 read 16 C cut\n"
     );
 }
 
@@ -174,14 +177,14 @@ fn start_refusals_in_order() {
 fn a_refused_start_leaves_the_count() {
     assert_eq!(
         played("set 2 1 1 2; write 0 9 0; write 0 1 0a; crash 0"),
-        "refused 12\n0 write 16 cut\n"
+        "refused 12\n0 write 16 C cut\n"
     );
 }
 
 #[test]
 fn hex_of_either_case() {
     let printed = played("set 1 1 3 2; write 0 1 aBCdeF; carry 1 2 3 4; read 0 1 0; carry 6 7");
-    assert_eq!(printed, "0 write 16 ok\n0 read 32 abcdef\n");
+    assert_eq!(printed, "0 write 16 S ok\n0 read 32 F abcdef\n");
 }
 
 #[test]
@@ -206,5 +209,5 @@ fn no_message_past_127() {
     assert_eq!(bench.line(b"read 1 1 0"), b"refused 12\n");
     assert_eq!(bench.line(b"down 0"), b"");
     assert_eq!(bench.line(b"carry 127 1"), b"", "lost");
-    assert_eq!(bench.line(b"crash 0"), b"0 write 16 cut\n");
+    assert_eq!(bench.line(b"crash 0"), b"0 write 16 C cut\n");
 }

@@ -1,13 +1,16 @@
 //! Operations on one block in the order of their stripe: schedules played by hand, histories, and random runs of the independent bricks and
-//! coordinators.
+//! coordinators. Letters of ends, in runs and by hand.
 
-use jilbagum_tests::brick::{Message, MODIFY, ORDER_READ, TRIM, WRITE};
+use jilbagum_tests::brick::{Message, FULL, MODIFY, NEWER, ORDER, ORDER_BLOCK, ORDER_READ, PROMISE, TRIM, WRITE};
+use jilbagum_tests::coordinator::Outcome;
+use jilbagum_tests::fixtures::{reply, told};
 use jilbagum_tests::harness::{
-    broken_block_runs, some_run, Break, Faults, Independent, Proved, Routines, Sent, Start, World, OFTEN_OF_BLOCKS,
+    broken_block_runs, letter_fits, some_run, Break, Faults, Independent, Proved, Routines, Sent, Start, World, LETTERS, OFTEN_OF_BLOCKS,
 };
 use jilbagum_tests::order::{brute_order, by_stripe, has_order, is_order, End, Operation};
 use jilbagum_tests::settings::{Settings, Shape};
 use jilbagum_tests::tally::Tally;
+use std::ops::Range;
 
 /// Everything under way arrives, in the order of sending; a message that doesn't reach its brick is lost.
 fn settle<R: Routines>(world: &mut World<R>, reaches: impl Fn(usize, &Message) -> bool) {
@@ -33,6 +36,11 @@ fn settle_late<R: Routines>(world: &mut World<R>, late: Option<usize>, reaches: 
 /// How the operations ended, in the order of their starts.
 fn ends<R: Routines>(world: &World<R>) -> Vec<&End> {
     world.operations.iter().map(|o| &o.ended.as_ref().expect("it ended").1).collect()
+}
+
+/// Their letters.
+fn letters<R: Routines>(world: &World<R>) -> String {
+    world.noted.iter().map(|noted| noted.letter.expect("it ended")).collect()
 }
 
 /// Of messages of one kind, how many rounds were sent.
@@ -62,6 +70,7 @@ fn stays<R: Routines>() {
     assert_eq!(ends(&world), [&End::Wrote, &End::Wrote, &End::Gave(vec![1, 2, 9, 4, 5])]);
     // One recovery round found time 32 on five bricks.
     assert_eq!((rounds(&world, ORDER_READ), rounds(&world, WRITE)), (1, 2));
+    assert_eq!(letters(&world), "SSH");
     assert_eq!(world.fault(), None);
     assert_eq!(brute_order(&world.operations, world.settings.shape), Some(vec![0, 1, 2]));
 }
@@ -72,6 +81,7 @@ fn is_undone<R: Routines>() {
     let world = five_of_seven::<R>(Break::BlocksOnly);
     assert_eq!(ends(&world), [&End::Wrote, &End::Wrote, &End::Gave(vec![1, 2, 3, 4, 5])]);
     assert_eq!((rounds(&world, ORDER_READ), rounds(&world, WRITE)), (2, 2));
+    assert_eq!(letters(&world), "SSL");
     assert_eq!(world.fault(), Some("no order"));
     assert_eq!(brute_order(&world.operations, world.settings.shape), None);
 }
@@ -91,6 +101,8 @@ fn the_same_with_the_proved_routines() {
     stays::<Proved>();
     is_undone::<Proved>();
     client_blocks::<Proved>();
+    finds_too_little::<Proved>();
+    next_letters_are_noticed::<Proved>(650_000..650_500);
 }
 
 /// Every client block of a volume of four stripes, written by its number, in some order; then read by its number, and by its stripe.
@@ -226,8 +238,91 @@ fn an_overtaken_block_write_aborts() {
     world.start(2, 0, 9, Start::Read(0));
     settle(&mut world, |_, _| true);
     assert_eq!(ends(&world), [&End::Aborted, &End::Wrote, &End::Gave(vec![0, 8, 0])]);
+    assert_eq!(letters(&world), "WSF");
     assert_eq!((rounds(&world, MODIFY), world.noted[0].modified), (2, true));
     assert_eq!(world.fault(), None);
+}
+
+/// X in a run of right bricks: six of them, two of the data. Time 16 is on bricks 0 to 3, a cut write's 33 on 0, 1 and 4, where the Trim of
+/// 16 leaves nothing else. The read's recovery meets 33 on one of four bricks and looks below it: brick 4 has nothing there, brick 5 time
+/// 0. Meanwhile a write finishes on bricks 2 to 5, and its Trim leaves 33 alone on bricks 0 and 1, which then still say yes: all four said
+/// yes, and time 0 is on one brick.
+fn finds_too_little<R: Routines>() {
+    let mut world = World::<R>::new(Settings::new(6, 2, 1, 4, 1), vec![0], Faults::none());
+    let sent = |world: &World<R>, kind: u8, time: u64, to: usize| {
+        let wanted = |sent: &Sent| matches!(sent, Sent::To(brick, message) if (*brick, message.kind, message.time) == (to, kind, time));
+        world.sent.iter().rposition(wanted).expect("such a message")
+    };
+    world.start(0, 0, 1, Start::Write(vec![1, 2]));
+    settle(&mut world, |brick, message| message.kind == ORDER || message.kind == WRITE && brick < 4);
+    world.start(1, 0, 2, Start::Write(vec![3, 4]));
+    settle(&mut world, |brick, message| message.kind == ORDER || [0, 1, 4].contains(&brick));
+    world.cut(1);
+    world.arrive(sent(&world, TRIM, 16, 4));
+    world.start(2, 0, 3, Start::Read(0));
+    settle(&mut world, |brick, message| if message.round < 3 { [1, 2, 3, 5].contains(&brick) } else { brick >= 4 });
+    world.start(3, 0, 4, Start::Write(vec![5, 6]));
+    settle(&mut world, |brick, message| brick >= 2 || message.kind == TRIM);
+    for brick in [0, 1] {
+        world.arrive(sent(&world, ORDER_READ, 50, brick));
+    }
+    settle(&mut world, |_, _| true);
+    assert_eq!(ends(&world), [&End::Wrote, &End::Cut, &End::Aborted, &End::Wrote]);
+    assert_eq!((&letters(&world)[..], rounds(&world, ORDER_READ), world.disagreed), ("SCXS", 2, 0));
+    assert_eq!(world.fault(), None);
+}
+
+#[test]
+fn an_overtaken_recovery_finds_too_little() {
+    finds_too_little::<Independent>();
+}
+
+/// Of all letters the one that fits is that of the end.
+#[test]
+fn one_letter_fits_an_end() {
+    let yes = |kind: u8| reply(kind, 2, 0, true, 0, None);
+    let gave = Outcome::Gave { data: vec![0], bricks: vec![0] };
+    let ends = [
+        ("F", gave.clone(), 1, vec![]),
+        ("H", gave.clone(), 3, vec![yes(WRITE)]),
+        ("L", gave.clone(), 4, vec![yes(WRITE)]),
+        ("L", gave, 1000, vec![yes(WRITE)]),
+        ("S", Outcome::Ok, 2, vec![yes(MODIFY)]),
+        ("S", Outcome::Ok, 4, vec![yes(WRITE)]),
+        ("O", Outcome::Abort, 1, vec![yes(ORDER), told(&yes(ORDER), NEWER)]),
+        ("O", Outcome::Abort, 1, vec![told(&yes(ORDER_BLOCK), PROMISE)]),
+        ("O", Outcome::Abort, 3, vec![told(&yes(ORDER_READ), NEWER), yes(ORDER_READ)]),
+        ("G", Outcome::Abort, 2, vec![told(&yes(MODIFY), FULL), yes(MODIFY)]),
+        ("G", Outcome::Abort, 3, vec![told(&yes(WRITE), FULL), told(&yes(WRITE), FULL)]),
+        ("W", Outcome::Abort, 2, vec![told(&yes(WRITE), FULL), told(&yes(WRITE), PROMISE)]),
+        ("W", Outcome::Abort, 2, vec![told(&yes(MODIFY), NEWER), yes(MODIFY)]),
+        ("X", Outcome::Abort, 2, vec![yes(ORDER_READ), yes(ORDER_READ)]),
+        ("C", Outcome::Cut, 1, vec![]),
+        ("C", Outcome::Cut, 2, vec![told(&yes(WRITE), FULL)]),
+    ];
+    for (letter, outcome, rounds, counted) in ends {
+        let fitting: String = LETTERS.chars().filter(|&letter| letter_fits(letter, &outcome, rounds, &counted)).collect();
+        assert_eq!(fitting, letter, "{outcome:?} after {rounds} rounds, {counted:?}");
+    }
+}
+
+/// A letter that is the next one in the list fits no end: each is noticed.
+fn next_letters_are_noticed<R: Routines>(seeds: Range<u64>) {
+    let mut noticed = 0;
+    for seed in seeds {
+        let world = some_run::<R>(seed, 5, 2, |faults, _| faults.broken = Break::NextLetter);
+        let ended = world.operations.iter().filter(|o| o.ended.is_some()).count();
+        assert_eq!(world.misled, ended, "{}", world.story(seed));
+        assert_eq!(world.fault(), (ended > 0).then_some("a letter that doesn't fit"));
+        noticed += ended;
+    }
+    println!("{noticed} letters noticed");
+    assert!(noticed > 1000);
+}
+
+#[test]
+fn wrong_letters_are_noticed() {
+    next_letters_are_noticed::<Independent>(650_000..650_500);
 }
 
 /// A history of a stripe of two bytes made by hand: what it is, its block, its bytes, and the events at which it began and ended.
@@ -313,6 +408,7 @@ fn disagreement_aborts<R: Routines>() {
     assert_eq!((right.fault(), rounds(&right, WRITE)), (None, 3));
     let wrong = recovered_from_three::<R>(Break::ParityStays);
     assert_eq!((ends(&wrong)[3], wrong.disagreed), (&End::Aborted, 1));
+    assert_eq!([letters(&right), letters(&wrong)], ["SSCH", "SSCX"]);
     assert_eq!((wrong.fault(), rounds(&wrong, WRITE)), (Some("blocks of one time that disagree"), 2));
     // In random runs as well.
     let change = |faults: &mut Faults, settings: &mut Settings| {

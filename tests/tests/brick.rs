@@ -44,13 +44,20 @@ fn store(time: u64, byte: u8) -> Message {
     }
 }
 
-/// The answer of brick 1: yes or no, the time given, the block's byte.
-fn answer(image: &mut [u8], message: &Message) -> (bool, u64, Option<u8>) {
+/// The answer of brick 1: the comparison that said no, the time given, the block's byte.
+fn answer(image: &mut [u8], message: &Message) -> (u8, u64, Option<u8>) {
     let reply = take(settings(), 1, image, message).unwrap().unwrap();
     assert_eq!((reply.kind, reply.brick), (message.kind, 1));
     assert_eq!(reply.stripe, message.stripe);
     assert_eq!((reply.time, reply.round), (message.time, message.round));
-    (reply.yes, reply.found, reply.block.map(|block| block[0]))
+    assert_eq!(reply.yes, reply.comparison == NONE);
+    // No brick gives a reply that is refused by 10.
+    assert_eq!(reply.refusal(), None);
+    (
+        reply.comparison,
+        reply.found,
+        reply.block.map(|block| block[0]),
+    )
 }
 
 /// The message is refused and the image keeps its bytes.
@@ -64,45 +71,59 @@ fn refused(settings: Settings, brick: u64, image: &[u8], message: &Message) -> R
 #[test]
 fn read_says_yes_unless_a_promise_is_ahead() {
     let log = [(0, 5), (32, 6)];
-    for (promise, yes) in [(0, true), (31, true), (32, true), (33, false)] {
+    for (promise, said) in [(0, NONE), (31, NONE), (32, NONE), (33, PROMISE)] {
         let mut image = image(promise, &log);
         let before = image.clone();
-        assert_eq!(
-            answer(&mut image, &read(64, &[0, 1])),
-            (yes, 32, yes.then_some(6))
-        );
-        assert_eq!(
-            answer(&mut image, &read(64, &[1, 3])),
-            (yes, 32, yes.then_some(6))
-        );
-        assert_eq!(answer(&mut image, &read(16, &[3, 0])), (yes, 32, None));
+        let byte = (said == NONE).then_some(6);
+        for targets in [&[0, 1], &[1, 3]] {
+            assert_eq!(answer(&mut image, &read(64, targets)), (said, 32, byte));
+        }
+        // Its own time is no matter: 16 isn't above newest.
+        assert_eq!(answer(&mut image, &read(16, &[3, 0])), (said, 32, None));
         assert_eq!(image, before);
     }
 }
 
-/// A promise, a time, and whether a brick whose newest time is 32 takes that time.
-const AFTER_32: [(u64, u64, bool); 6] = [
-    (0, 32, false),
-    (0, 33, true),
-    (0, 31, false),
-    (40, 39, false),
-    (40, 40, true),
-    (40, 41, true),
+/// A promise, a time, and what a brick whose newest time is 32 says to that time. An equal
+/// time counts as newer, and a newer time comes before the promise.
+const AFTER_32: [(u64, u64, u8); 9] = [
+    (0, 32, NEWER),
+    (0, 33, NONE),
+    (0, 31, NEWER),
+    (40, 39, PROMISE),
+    (40, 33, PROMISE),
+    (40, 40, NONE),
+    (40, 41, NONE),
+    (40, 32, NEWER),
+    (40, 16, NEWER),
 ];
 
 #[test]
 fn order_promises_a_time_above_newest_and_not_below_the_promise() {
     let log = [(0, 5), (32, 6)];
-    for (promise, time, yes) in AFTER_32 {
+    for (promise, time, said) in AFTER_32 {
         let mut image = image(promise, &log);
         assert_eq!(
             answer(&mut image, &Message::plain(ORDER, time, 1)),
-            (yes, 0, None)
+            (said, 0, None)
         );
-        assert_eq!(
-            state(&image),
-            (if yes { time } else { promise }, log.to_vec())
-        );
+        let promise = if said == NONE { time } else { promise };
+        assert_eq!(state(&image), (promise, log.to_vec()));
+    }
+}
+
+/// A full log says nothing to an Order, an Order-and-read and the first round of a block write.
+#[test]
+fn orders_do_not_look_for_a_free_entry() {
+    let log = [(0, 5), (16, 4), (32, 6)];
+    for (promise, time, said) in AFTER_32 {
+        for message in [
+            Message::plain(ORDER, time, 1),
+            order_read(time, NO_UPPER_END),
+            Message::plain(ORDER_BLOCK, time, 1),
+        ] {
+            assert_eq!(answer(&mut image(promise, &log), &message).0, said);
+        }
     }
 }
 
@@ -121,23 +142,28 @@ fn order_and_read_finds_the_highest_entry_under_max() {
         let mut image = image(40, &log);
         assert_eq!(
             answer(&mut image, &order_read(64, max)),
-            (true, found, byte),
+            (NONE, found, byte),
             "max {max}"
         );
         assert_eq!(state(&image), (64, log.to_vec()));
     }
     let mut trimmed = image(0, &[(32, 6)]);
-    assert_eq!(answer(&mut trimmed, &order_read(64, 32)), (true, 0, None));
+    assert_eq!(answer(&mut trimmed, &order_read(64, 32)), (NONE, 0, None));
 }
 
 #[test]
 fn order_and_read_gives_nothing_on_a_no() {
-    for (promise, time) in [(0, 48), (0, 47), (65, 64)] {
+    for (promise, time, said) in [
+        (0, 48, NEWER),
+        (0, 47, NEWER),
+        (65, 64, PROMISE),
+        (65, 48, NEWER),
+    ] {
         let mut image = image(promise, &[(0, 5), (48, 7)]);
         let before = image.clone();
         assert_eq!(
             answer(&mut image, &order_read(time, NO_UPPER_END)),
-            (false, 0, None)
+            (said, 0, None)
         );
         assert_eq!(image, before);
     }
@@ -145,10 +171,10 @@ fn order_and_read_gives_nothing_on_a_no() {
 
 #[test]
 fn write_appends_and_leaves_the_promise() {
-    for (promise, time, yes) in AFTER_32 {
+    for (promise, time, said) in AFTER_32 {
         let mut image = image(promise, &[(0, 5), (32, 6)]);
-        assert_eq!(answer(&mut image, &store(time, 9)), (yes, 0, None));
-        let log = if yes {
+        assert_eq!(answer(&mut image, &store(time, 9)), (said, 0, None));
+        let log = if said == NONE {
             vec![(0, 5), (32, 6), (time, 9)]
         } else {
             vec![(0, 5), (32, 6)]
@@ -161,14 +187,28 @@ fn write_appends_and_leaves_the_promise() {
 fn a_full_log_says_no_until_a_trim() {
     let mut image = image(0, &[(0, 5), (32, 6), (48, 7)]);
     let before = image.clone();
-    assert_eq!(answer(&mut image, &store(64, 9)), (false, 0, None));
+    assert_eq!(answer(&mut image, &store(64, 9)), (FULL, 0, None));
     assert_eq!(image, before);
     assert_eq!(
         take(settings(), 1, &mut image, &Message::plain(TRIM, 32, 2)),
         Ok(None)
     );
-    assert_eq!(answer(&mut image, &store(64, 9)), (true, 0, None));
+    assert_eq!(answer(&mut image, &store(64, 9)), (NONE, 0, None));
     assert_eq!(state(&image), (0, vec![(32, 6), (48, 7), (64, 9)]));
+}
+
+/// On a full log a Write hears of the newer time first, then of the promise, and of the log
+/// only where neither says no.
+#[test]
+fn write_names_the_first_comparison() {
+    let log = [(0, 5), (16, 4), (32, 6)];
+    for (promise, time, said) in AFTER_32 {
+        let mut image = image(promise, &log);
+        let before = image.clone();
+        let expected = if said == NONE { FULL } else { said };
+        assert_eq!(answer(&mut image, &store(time, 9)), (expected, 0, None));
+        assert_eq!(image, before);
+    }
 }
 
 #[test]
@@ -432,7 +472,10 @@ fn random_messages() {
                 assert!([2, 10, 13, 14].contains(&number));
                 assert_eq!(image, before);
             }
-            Ok(_) => assert!(state(&image).1.last().unwrap().0 >= newest),
+            Ok(reply) => {
+                assert!(state(&image).1.last().unwrap().0 >= newest);
+                assert!(reply.is_none_or(|reply| reply.refusal().is_none()));
+            }
         }
         if newest > 350 {
             image = crate::image(0, &[(0, 5)]);

@@ -49,13 +49,19 @@ fn modify(time: u64, old_time: u64, number: u64, old: u8, new: u8) -> Message {
     }
 }
 
-/// The answer of a brick: yes or no, the time given, the block's byte.
-fn answer(brick: u64, image: &mut [u8], message: &Message) -> (bool, u64, Option<u8>) {
+/// The answer of a brick: the comparison that said no, the time given, the block's byte.
+fn answer(brick: u64, image: &mut [u8], message: &Message) -> (u8, u64, Option<u8>) {
     let reply = take(settings(), brick, image, message).unwrap().unwrap();
     assert_eq!((reply.kind, reply.brick), (message.kind, brick));
     assert_eq!(reply.stripe, message.stripe);
     assert_eq!((reply.time, reply.round), (message.time, message.round));
-    (reply.yes, reply.found, reply.block.map(|block| block[0]))
+    assert_eq!(reply.yes, reply.comparison == NONE);
+    assert_eq!(reply.refusal(), None);
+    (
+        reply.comparison,
+        reply.found,
+        reply.block.map(|block| block[0]),
+    )
 }
 
 fn trim(brick: u64, image: &mut [u8], time: u64) {
@@ -76,15 +82,15 @@ const MARKED: [(u64, Option<u8>); 4] = [(0, Some(5)), (32, Some(6)), (48, None),
 
 #[test]
 fn read_gives_the_newest_entry_at_its_time_with_the_block_it_means() {
-    for (promise, yes) in [(0, true), (64, true), (65, false)] {
+    for (promise, said) in [(0, NONE), (64, NONE), (65, PROMISE)] {
         let mut image = image(1, promise, &MARKED);
         let before = image.clone();
         for targets in [&[0, 1][..], &[1, 3], &[1]] {
             let given = answer(1, &mut image, &read(80, targets));
-            assert_eq!(given, (yes, 64, yes.then_some(6)));
+            assert_eq!(given, (said, 64, (said == NONE).then_some(6)));
         }
         for targets in [&[0, 3][..], &[0]] {
-            assert_eq!(answer(1, &mut image, &read(80, targets)), (yes, 64, None));
+            assert_eq!(answer(1, &mut image, &read(80, targets)), (said, 64, None));
         }
         assert_eq!(image, before);
     }
@@ -103,41 +109,44 @@ fn the_lookup_under_max_gives_the_highest_entry_mark_or_block() {
     ] {
         let mut image = image(1, 0, &MARKED);
         let given = answer(1, &mut image, &order_read(80, max));
-        assert_eq!(given, (true, found, byte), "max {max}");
+        assert_eq!(given, (NONE, found, byte), "max {max}");
         assert_eq!(state(1, &image), (80, MARKED.to_vec()));
     }
 }
 
-/// A promise, a time, and whether a brick whose newest time is 64 takes that time.
-const AFTER_64: [(u64, u64, bool); 6] = [
-    (0, 64, false),
-    (0, 65, true),
-    (0, 63, false),
-    (80, 79, false),
-    (80, 80, true),
-    (80, 81, true),
+/// A promise, a time, and what a brick whose newest time is 64 says to that time.
+const AFTER_64: [(u64, u64, u8); 9] = [
+    (0, 64, NEWER),
+    (0, 65, NONE),
+    (0, 63, NEWER),
+    (80, 79, PROMISE),
+    (80, 65, PROMISE),
+    (80, 80, NONE),
+    (80, 81, NONE),
+    (80, 64, NEWER),
+    (80, 16, NEWER),
 ];
 
 #[test]
 fn order_block_gives_newest_and_brick_j_its_block() {
-    for (promise, time, yes) in AFTER_64 {
+    for (promise, time, said) in AFTER_64 {
         for (brick, byte) in [(0, None), (1, Some(6)), (2, None), (3, None)] {
             let mut image = image(brick, promise, &MARKED);
             let given = answer(brick, &mut image, &order_block(time, 1));
-            let expected = if yes {
-                (true, 64, byte)
+            let expected = if said == NONE {
+                (NONE, 64, byte)
             } else {
-                (false, 0, None)
+                (said, 0, None)
             };
             assert_eq!(given, expected, "brick {brick} time {time}");
-            let promise = if yes { time } else { promise };
+            let promise = if said == NONE { time } else { promise };
             assert_eq!(state(brick, &image), (promise, MARKED.to_vec()));
         }
     }
     // A fresh brick: newest is 0, and its block zero.
     let mut image = fresh(settings(), 0).unwrap();
     let given = answer(0, &mut image, &order_block(16, 0));
-    assert_eq!(given, (true, 0, Some(0)));
+    assert_eq!(given, (NONE, 0, Some(0)));
 }
 
 /// Data 5, 9; block 1 becomes 7: every brick then holds, or means, its block of
@@ -154,7 +163,7 @@ fn modify_by_hand() {
     for (brick, byte) in [5, 9, 29, 17].into_iter().enumerate() {
         let mut image = image(brick as u64, 40, &[(0, Some(0)), (32, Some(byte))]);
         let given = answer(brick as u64, &mut image, &modify(48, 32, 1, 9, 7));
-        assert_eq!(given, (true, 0, None));
+        assert_eq!(given, (NONE, 0, None));
         let log = vec![(0, Some(0)), (32, Some(byte)), (48, stored[brick])];
         assert_eq!(state(brick as u64, &image), (40, log));
     }
@@ -165,7 +174,7 @@ fn modify_by_hand() {
     for (brick, byte) in [5, 9, 29, 17].into_iter().enumerate() {
         let mut image = image(brick as u64, 0, &[(32, Some(byte))]);
         let given = answer(brick as u64, &mut image, &modify(48, 32, 0, 5, 4));
-        assert_eq!(given, (true, 0, None));
+        assert_eq!(given, (NONE, 0, None));
         let log = vec![(32, Some(byte)), (48, stored[brick])];
         assert_eq!(state(brick as u64, &image), (0, log));
     }
@@ -176,7 +185,7 @@ fn modify_by_hand() {
 fn modify_over_marks() {
     let mut zero = image(0, 0, &MARKED);
     let given = answer(0, &mut zero, &modify(80, 64, 1, 9, 7));
-    assert_eq!(given, (true, 0, None));
+    assert_eq!(given, (NONE, 0, None));
     assert_eq!(state(0, &zero).1[4], (80, None));
     assert_eq!(marks(&zero), [48, 64, 80]);
     let mut parity = image(2, 0, &MARKED);
@@ -189,14 +198,15 @@ fn modify_over_marks() {
 
 #[test]
 fn modify_says_yes_over_the_old_time_alone() {
-    for (promise, time, yes) in AFTER_64 {
+    for (promise, time, said) in AFTER_64 {
         for old_time in [0, 16, 32, 48, 64, 65, 80] {
             let mut image = image(1, promise, &MARKED);
             let before = image.clone();
             let given = answer(1, &mut image, &modify(time, old_time, 1, 6, 7));
-            let yes = yes && old_time == 64;
-            assert_eq!(given, (yes, 0, None), "time {time} old {old_time}");
-            if yes {
+            // Another newest counts as newer, whatever else says no.
+            let said = if old_time == 64 { said } else { NEWER };
+            assert_eq!(given, (said, 0, None), "time {time} old {old_time}");
+            if said == NONE {
                 let log = [&MARKED[..], &[(time, Some(7))]].concat();
                 assert_eq!(state(1, &image), (promise, log));
             } else {
@@ -208,7 +218,7 @@ fn modify_says_yes_over_the_old_time_alone() {
     let mut image = fresh(settings(), 0).unwrap();
     assert_eq!(
         answer(0, &mut image, &modify(16, 0, 1, 0, 7)),
-        (true, 0, None)
+        (NONE, 0, None)
     );
     assert_eq!(state(0, &image), (0, vec![(0, Some(0)), (16, None)]));
 }
@@ -220,10 +230,33 @@ fn a_full_log_says_no_to_modify_until_a_trim() {
         let mut image = image(brick, 0, &log);
         let before = image.clone();
         let message = modify(96, 80, 1, 6, 7);
-        assert_eq!(answer(brick, &mut image, &message), (false, 0, None));
+        assert_eq!(answer(brick, &mut image, &message), (FULL, 0, None));
         assert_eq!(image, before);
         trim(brick, &mut image, 32);
-        assert_eq!(answer(brick, &mut image, &message), (true, 0, None));
+        assert_eq!(answer(brick, &mut image, &message), (NONE, 0, None));
+    }
+}
+
+/// On a full log a Modify hears of another newest or a newer time first, then of the promise,
+/// and of the log only where neither says no.
+#[test]
+fn modify_names_the_first_comparison() {
+    let log = [&[(0, Some(3)), (16, Some(4))], &MARKED[1..]].concat();
+    for (promise, time, said) in AFTER_64 {
+        for (old_time, said) in [
+            (64, if said == NONE { FULL } else { said }),
+            (0, NEWER),
+            (48, NEWER),
+            (80, NEWER),
+        ] {
+            for brick in 0..4 {
+                let mut image = image(brick, promise, &log);
+                let before = image.clone();
+                let given = answer(brick, &mut image, &modify(time, old_time, 1, 6, 7));
+                assert_eq!(given, (said, 0, None), "time {time} old {old_time}");
+                assert_eq!(image, before);
+            }
+        }
     }
 }
 

@@ -18,7 +18,7 @@ fn scripts() -> Vec<PathBuf> {
 #[test]
 fn every_case_prints_its_output() {
     let scripts = scripts();
-    assert!(scripts.len() >= 56, "cases are missing");
+    assert!(scripts.len() >= 74, "cases are missing");
     for script in scripts {
         let input = fs::read(&script).unwrap();
         let expected = fs::read(script.with_extension("out")).unwrap();

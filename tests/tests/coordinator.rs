@@ -3,7 +3,7 @@
 use jilbagum_tests::brick::*;
 use jilbagum_tests::code::encode;
 use jilbagum_tests::coordinator::*;
-use jilbagum_tests::fixtures::{fresh, reply, take, volume, STRIPE};
+use jilbagum_tests::fixtures::{fresh, may_say, reply, take, told, volume, STRIPE};
 use jilbagum_tests::rng::Rng;
 use jilbagum_tests::settings::{Refusal, Volume, LAST_COUNT, NO_UPPER_END};
 
@@ -49,10 +49,11 @@ fn yes_from(kind: u8, round: u64, bricks: &[u64]) -> Vec<Reply> {
         .collect()
 }
 
-fn outcome(step: &Step) -> Outcome {
+/// How it ended, with its letter.
+fn outcome(step: &Step) -> (char, Outcome) {
     let ended = step.ended.clone().expect("the operation ended");
     assert_eq!((ended.coordinator, ended.stripe, ended.time), (1, STRIPE, 17));
-    ended.outcome
+    (ended.letter, ended.outcome)
 }
 
 fn stripe(data: &[u8], bricks: &[u8]) -> Outcome {
@@ -62,10 +63,10 @@ fn stripe(data: &[u8], bricks: &[u8]) -> Outcome {
     }
 }
 
-/// Takes replies, the last of which ends the operation aborted.
-fn aborts(record: &mut Record, replies: Vec<Reply>) {
+/// Takes replies, the last of which ends the operation aborted, with a letter.
+fn aborts(record: &mut Record, letter: char, replies: Vec<Reply>) {
     let step = take_all(record, replies);
-    assert_eq!(outcome(&step), Outcome::Abort);
+    assert_eq!(outcome(&step), (letter, Outcome::Abort));
     assert!(step.sent.is_empty());
 }
 
@@ -143,7 +144,7 @@ fn a_write_orders_then_writes_then_trims() {
 
     let step = take_all(&mut record, yes_from(WRITE, 2, &[1, 3, 0]));
     assert_eq!(step.sent, vec![message(TRIM, 2); 4]);
-    assert_eq!(outcome(&step), Outcome::Ok);
+    assert_eq!(outcome(&step), ('S', Outcome::Ok));
     assert_eq!(step.ended.unwrap().kind, Kind::Write);
     assert_eq!(record, Record { last: 1, ..fresh() });
 }
@@ -151,17 +152,99 @@ fn a_write_orders_then_writes_then_trims() {
 #[test]
 fn the_qth_reply_decides_an_abort() {
     for place in 0..3 {
-        let mut replies = yes_from(ORDER, 1, &[3, 0, 2]);
-        replies[place].yes = false;
-        let mut record = writing();
-        aborts(&mut record, replies);
-        assert_eq!(record, Record { last: 1, ..fresh() });
+        for comparison in [NEWER, PROMISE] {
+            let mut replies = yes_from(ORDER, 1, &[3, 0, 2]);
+            replies[place] = told(&replies[place], comparison);
+            let mut record = writing();
+            aborts(&mut record, 'O', replies);
+            assert_eq!(record, Record { last: 1, ..fresh() });
+        }
     }
+}
+
+/// A write in its Write round.
+fn storing() -> Record {
     let mut record = writing();
     take_all(&mut record, yes_from(ORDER, 1, &[0, 1, 2]));
-    let mut replies = yes_from(WRITE, 2, &[0, 1, 3]);
-    replies[0].yes = false;
-    aborts(&mut record, replies);
+    record
+}
+
+/// A read that recovered zeros, after the first round of recovery, and stores them.
+fn storing_back() -> Record {
+    let mut record = recovering();
+    let zeros = [0, 1, 2].map(|brick| reply(ORDER_READ, 2, brick, true, 0, Some(0)));
+    take_all(&mut record, zeros.to_vec());
+    record
+}
+
+/// Every answer of three bricks to a Write round, of a write and of a recovered read: G where each
+/// no is a full log's, W where some no isn't, and the operation finishes where none says no.
+#[test]
+fn nos_of_a_write_round() {
+    let comparisons = [NONE, NEWER, PROMISE, FULL];
+    for (begun, round, finished) in [
+        (storing(), 2, ('S', Outcome::Ok)),
+        (storing_back(), 3, ('H', stripe(&[0, 0], &[0, 1]))),
+    ] {
+        for a in comparisons {
+            for b in comparisons {
+                for c in comparisons {
+                    let replies = [(3, a), (0, b), (2, c)].map(|(brick, comparison)| Reply {
+                        yes: comparison == NONE,
+                        comparison,
+                        ..reply(WRITE, round, brick, true, 0, None)
+                    });
+                    let mut record = begun.clone();
+                    let step = take_all(&mut record, replies.to_vec());
+                    let nos = [a, b, c].into_iter().filter(|&said| said != NONE);
+                    let expected = if [a, b, c] == [NONE; 3] {
+                        finished.clone()
+                    } else if nos.clone().all(|said| said == FULL) {
+                        ('G', Outcome::Abort)
+                    } else {
+                        ('W', Outcome::Abort)
+                    };
+                    assert_eq!(outcome(&step), expected, "{:?}", [a, b, c]);
+                    assert_eq!(record, Record { last: 1, ..fresh() });
+                }
+            }
+        }
+    }
+}
+
+/// The letter is that of the q replies counted: what comes later is refused, whatever it says, and a
+/// no to an Order isn't counted in the Write round.
+#[test]
+fn late_nos_do_not_change_the_letter() {
+    let full = |brick| told(&reply(WRITE, 2, brick, true, 0, None), FULL);
+    let mut record = storing();
+    // The fourth brick's no to the Order comes now.
+    let late = told(&reply(ORDER, 1, 3, true, 0, None), PROMISE);
+    assert_eq!(refused(&record, &late), 11);
+    aborts(&mut record, 'G', vec![full(0), full(3), reply(WRITE, 2, 1, true, 0, None)]);
+    let late = told(&reply(WRITE, 2, 2, true, 0, None), NEWER);
+    assert_eq!(refused(&record, &late), 11);
+    // A second reply of a brick that was counted as a full log.
+    let mut record = storing();
+    take(&mut record, full(0));
+    assert_eq!(refused(&record, &told(&full(0), PROMISE)), 11);
+    assert_eq!(refused(&record, &reply(WRITE, 2, 0, true, 0, None)), 11);
+    aborts(&mut record, 'G', vec![full(1), full(2)]);
+}
+
+/// A no to a Read doesn't abort and leaves no letter; the recovery's own nos do.
+#[test]
+fn nos_of_a_recovery() {
+    for comparison in [NEWER, PROMISE] {
+        for place in 0..3 {
+            for mut record in [recovering(), recovering_in(3), recovering_in(1000)] {
+                let round = record.running.as_ref().unwrap().round;
+                let mut replies = [0, 1, 2].map(|b| reply(ORDER_READ, round, b, true, 0, None));
+                replies[place] = told(&replies[place], comparison);
+                aborts(&mut record, 'O', replies.to_vec());
+            }
+        }
+    }
 }
 
 #[test]
@@ -179,7 +262,7 @@ fn a_read_of_one_round() {
         ]
     );
     let step = take_all(&mut record, fine());
-    assert_eq!(outcome(&step), stripe(&[5, 9], &[3, 0]));
+    assert_eq!(outcome(&step), ('F', stripe(&[5, 9], &[3, 0])));
     assert!(step.sent.is_empty());
     assert_eq!(record, Record { last: 1, ..fresh() });
 }
@@ -227,7 +310,7 @@ fn recovery_writes_back_what_it_found() {
         .iter()
         .all(|message| (message.kind, message.time, message.round) == (WRITE, 17, 3)));
     let step = take_all(&mut record, yes_from(WRITE, 3, &[0, 1, 2]));
-    assert_eq!(outcome(&step), stripe(&[5, 9], &[2, 3]));
+    assert_eq!(outcome(&step), ('H', stripe(&[5, 9], &[2, 3])));
     assert_eq!(step.sent, vec![message(TRIM, 3); 4]);
 }
 
@@ -239,7 +322,7 @@ fn recovery_names_the_first_m_bricks_by_number() {
         [3, 1, 2].map(|brick| reply(ORDER_READ, 2, brick, true, 16, Some(coded[brick as usize])));
     take_all(&mut record, replies.to_vec());
     let step = take_all(&mut record, yes_from(WRITE, 3, &[0, 1, 2]));
-    assert_eq!(outcome(&step), stripe(&[5, 9], &[1, 2]));
+    assert_eq!(outcome(&step), ('H', stripe(&[5, 9], &[1, 2])));
 }
 
 #[test]
@@ -264,7 +347,7 @@ fn recovery_looks_further_down() {
     );
     assert_eq!((step.sent[0].kind, step.sent[0].round), (WRITE, 4));
     let step = take_all(&mut record, yes_from(WRITE, 4, &[0, 1, 2]));
-    assert_eq!(outcome(&step), stripe(&[0, 0], &[1, 2]));
+    assert_eq!(outcome(&step), ('L', stripe(&[0, 0], &[1, 2])));
     assert_eq!(step.sent, vec![message(TRIM, 4); 4]);
 }
 
@@ -273,18 +356,14 @@ fn recovery_aborts() {
     let none = |brick| reply(ORDER_READ, 2, brick, true, 0, None);
     let zero = |brick| reply(ORDER_READ, 2, brick, true, 0, Some(0));
     let no = |brick| reply(ORDER_READ, 2, brick, false, 0, None);
-    for replies in [
-        vec![none(0), none(1), none(2)],
-        vec![none(0), zero(1), none(2)],
-        vec![zero(0), zero(1), no(2)],
+    for (letter, replies) in [
+        ('X', vec![none(0), none(1), none(2)]),
+        ('X', vec![none(0), zero(1), none(2)]),
+        ('O', vec![zero(0), zero(1), no(2)]),
+        ('O', vec![none(0), no(1), none(2)]),
     ] {
-        aborts(&mut recovering(), replies);
+        aborts(&mut recovering(), letter, replies);
     }
-    let mut record = recovering();
-    take_all(&mut record, vec![zero(0), zero(1), none(2)]);
-    let mut replies = yes_from(WRITE, 3, &[0, 1, 2]);
-    replies[2].yes = false;
-    aborts(&mut record, replies);
 }
 
 /// Every block of the chosen time is looked at, in each order of the replies and
@@ -301,7 +380,7 @@ fn recovery_aborts_where_blocks_disagree() {
                 let mut replies = found.to_vec();
                 replies[place].block = Some(vec![coded[bricks[place] as usize] ^ 1 << bit]);
                 let mut record = recovering();
-                aborts(&mut record, replies);
+                aborts(&mut record, 'X', replies);
                 assert_eq!(record, Record { last: 1, ..fresh() });
             }
         }
@@ -310,7 +389,7 @@ fn recovery_aborts_where_blocks_disagree() {
     let at_0 = |byte| {
         [(0, 0), (1, byte), (2, 0)].map(|(b, byte)| reply(ORDER_READ, 2, b, true, 0, Some(byte)))
     };
-    aborts(&mut recovering(), at_0(1).to_vec());
+    aborts(&mut recovering(), 'X', at_0(1).to_vec());
     let step = take_all(&mut recovering(), at_0(0).to_vec());
     assert_eq!((step.sent[0].kind, step.ended), (WRITE, None));
     // In a later round, and in the last one.
@@ -318,7 +397,7 @@ fn recovery_aborts_where_blocks_disagree() {
         let round = record.running.as_ref().unwrap().round;
         let replies = [(0, 5), (1, 9), (2, 28)]
             .map(|(b, byte)| reply(ORDER_READ, round, b, true, 16, Some(byte)));
-        aborts(&mut record, replies.to_vec());
+        aborts(&mut record, 'X', replies.to_vec());
     }
 }
 
@@ -343,7 +422,7 @@ fn what_recovery_does_not_check() {
     let mut record = reading();
     let mut replies = fine();
     replies[0].block = Some(vec![4]);
-    let Outcome::Gave { data, bricks } = outcome(&take_all(&mut record, replies)) else {
+    let ('F', Outcome::Gave { data, bricks }) = outcome(&take_all(&mut record, replies)) else {
         panic!("the read ends in one round")
     };
     assert_eq!((data[0], &bricks[..]), (4, &[3, 0][..]));
@@ -371,23 +450,33 @@ fn no_round_after_1000() {
     // Neither a further recovery round nor the Write round may be round 1,001.
     for found in [16, 0] {
         let replies = vec![single(0, found), single(1, 0), single(2, 0)];
-        aborts(&mut last.clone(), replies);
+        aborts(&mut last.clone(), 'X', replies);
     }
     let mut record = recovering_in(999);
     let zeros = [0, 1, 2].map(|brick| reply(ORDER_READ, 999, brick, true, 0, Some(0)));
     let step = take_all(&mut record, zeros.to_vec());
     assert_eq!((step.sent[3].kind, step.sent[3].round), (WRITE, 1000));
     let step = take_all(&mut record, yes_from(WRITE, 1000, &[0, 1, 2]));
-    assert_eq!(outcome(&step), stripe(&[0, 0], &[0, 1]));
+    assert_eq!(outcome(&step), ('L', stripe(&[0, 0], &[0, 1])));
     assert_eq!(step.sent, vec![message(TRIM, 1000); 4]);
 }
 
 #[test]
 fn a_crash_cuts_and_keeps_the_count() {
-    for mut record in [writing(), reading(), recovering()] {
+    let mut told_no = storing();
+    take(&mut told_no, told(&reply(WRITE, 2, 0, true, 0, None), FULL));
+    for mut record in [
+        writing(),
+        storing(),
+        told_no,
+        reading(),
+        recovering(),
+        recovering_in(3),
+        storing_back(),
+    ] {
         let kind = record.running.as_ref().unwrap().kind;
         let step = crash(volume(), 1, &mut record).unwrap();
-        assert_eq!(outcome(&step), Outcome::Cut);
+        assert_eq!(outcome(&step), ('C', Outcome::Cut));
         assert_eq!(step.ended.unwrap().kind, kind);
         assert!(step.sent.is_empty());
         assert_eq!(record, Record { last: 1, ..fresh() });
@@ -588,6 +677,54 @@ fn replies_refused_10() {
     }
 }
 
+/// Every kind, answer and comparison: a yes has none, a no has one that its kind allows; any other is
+/// 10, which comes before 11, and after 6.
+#[test]
+fn comparisons_refused_10() {
+    for kind in READ..=MODIFY {
+        for comparison in [0, 1, 2, 3, 4, 5, 16, 128, 255] {
+            for yes in [true, false] {
+                let fits = if yes { comparison == NONE } else { may_say(kind, comparison) };
+                // Of brick 1, which is no target of the read below.
+                let fine = reply(kind, 1, 1, true, 0, None);
+                let given = Reply { yes, comparison, ..fine };
+                assert_eq!(given.refusal(), (!fits).then_some(10), "{given:?}");
+                for record in [writing(), reading(), fresh(), recovering(), storing()] {
+                    let running = record.running.as_ref();
+                    let counts = running.is_some_and(|r| (r.open, r.round) == (kind, 1));
+                    let expected = if !fits {
+                        Err(10)
+                    } else if counts {
+                        Ok(Step::default())
+                    } else {
+                        Err(11)
+                    };
+                    let taken = take_reply(volume(), 1, &mut record.clone(), &given);
+                    assert_eq!(taken, expected, "{given:?} at {record:?}");
+                }
+                let broken = Record { last: 1 << 40, ..writing() };
+                assert_eq!(refused(&broken, &given), 6);
+            }
+        }
+    }
+    // In later rounds: Order-and-read, and the Write round of a write and of a recovered read.
+    for (record, kind, round) in [
+        (recovering(), ORDER_READ, 2),
+        (storing(), WRITE, 2),
+        (storing_back(), WRITE, 3),
+    ] {
+        for comparison in [0, 1, 2, 3, 4, 255] {
+            let given = told(&reply(kind, round, 1, true, 0, None), comparison);
+            let expected = if may_say(kind, comparison) { Ok(Step::default()) } else { Err(10) };
+            assert_eq!(take_reply(volume(), 1, &mut record.clone(), &given), expected);
+            // From a brick that was counted: 10 still, else 11.
+            let mut counted = record.clone();
+            take(&mut counted, reply(kind, round, 1, true, 0, None));
+            assert_eq!(refused(&counted, &given), if expected.is_ok() { 11 } else { 10 });
+        }
+    }
+}
+
 #[test]
 fn replies_refused_11() {
     let fine = reply(ORDER, 1, 2, true, 0, None);
@@ -647,9 +784,8 @@ fn replies_refused_11() {
             ..fine.clone()
         },
         Reply {
-            yes: false,
             found: 16,
-            ..fine.clone()
+            ..told(&fine, PROMISE)
         },
     ];
     for reply in &of_another {
@@ -657,16 +793,7 @@ fn replies_refused_11() {
     }
     take(&mut record, fine.clone());
     assert_eq!(refused(&record, &fine), 11);
-    assert_eq!(
-        refused(
-            &record,
-            &Reply {
-                yes: false,
-                ..fine.clone()
-            }
-        ),
-        11
-    );
+    assert_eq!(refused(&record, &told(&fine, PROMISE)), 11);
     take(
         &mut record,
         Reply {
@@ -779,12 +906,7 @@ fn with(mut record: Record, change: impl FnOnce(&mut Running)) -> Record {
 
 #[test]
 fn broken_records() {
-    let storing = || {
-        let mut record = recovering();
-        let zeros = [0, 1, 2].map(|brick| reply(ORDER_READ, 2, brick, true, 0, Some(0)));
-        take_all(&mut record, zeros.to_vec());
-        record
-    };
+    let storing = storing_back;
     for record in [
         fresh(),
         writing(),
@@ -882,7 +1004,33 @@ fn broken_records() {
     }
     let two = counted(writing(), &[order(0), order(1)]);
     assert!(!breaks_a_rule(&two));
+    let mixed = counted(writing(), &[told(&order(0), NEWER), order(1)]);
+    assert!(!breaks_a_rule(&mixed));
     assert!(!breaks_a_rule(&with(writing(), |r| r.stripe = 0)));
+}
+
+/// What a counted reply said is kept: none on a yes, on a no one that the round's kind allows.
+#[test]
+fn comparisons_of_a_record() {
+    for (record, kind, round) in [
+        (writing(), ORDER, 1),
+        (storing(), WRITE, 2),
+        (reading(), READ, 1),
+        (recovering(), ORDER_READ, 2),
+        (recovering_in(3), ORDER_READ, 3),
+        (storing_back(), WRITE, 3),
+    ] {
+        for comparison in [0, 1, 2, 3, 4, 128, 255] {
+            for yes in [true, false] {
+                // Brick 1 is no target of the read.
+                let fine = reply(kind, round, 1, true, 0, None);
+                let kept = Reply { yes, comparison, ..fine };
+                let fits = if yes { comparison == NONE } else { may_say(kind, comparison) };
+                let record = with(record.clone(), |r| r.replies = vec![kept]);
+                assert_eq!(breaks_a_rule(&record), !fits, "{record:?}");
+            }
+        }
+    }
 }
 
 /// Random replies, many of them senseless: a refusal changes nothing, and what
@@ -906,6 +1054,7 @@ fn random_replies() {
         }
         let running = record.running.clone().unwrap();
         let odd = rng.once_in(5);
+        let yes = !rng.once_in(12);
         let reply = Reply {
             kind: if odd {
                 rng.below(9) as u8
@@ -916,12 +1065,17 @@ fn random_replies() {
             stripe: if odd { rng.below(5) } else { running.stripe },
             time: if odd { rng.below(1000) } else { running.time },
             round: if odd { rng.below(1003) } else { running.round },
-            yes: !rng.once_in(12),
+            yes,
             found: if rng.once_in(2) { 0 } else { rng.below(200) },
             block: if rng.once_in(2) {
                 None
             } else {
                 Some(vec![rng.byte(); if odd { 2 } else { 1 }])
+            },
+            comparison: match rng.below(16) {
+                0 => rng.below(5) as u8,
+                _ if yes => NONE,
+                _ => rng.between(1, 3) as u8,
             },
         };
         let before = record.clone();

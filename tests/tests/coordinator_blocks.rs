@@ -2,7 +2,7 @@
 
 use jilbagum_tests::brick::*;
 use jilbagum_tests::coordinator::*;
-use jilbagum_tests::fixtures::{fresh, reply, take, volume, STRIPE};
+use jilbagum_tests::fixtures::{fresh, may_say, reply, take, told, volume, STRIPE};
 use jilbagum_tests::settings::{Refusal, Volume, LAST_COUNT, NO_UPPER_END};
 
 /// The block of all operations here, if not said otherwise.
@@ -64,12 +64,12 @@ fn order_reads(max: u64, round: u64) -> Vec<Message> {
     vec![message; 4]
 }
 
-/// How it ended, with block 1's number in its place.
-fn outcome(step: &Step, kind: Kind) -> Outcome {
+/// How it ended, with its letter, and with block 1's number in its place.
+fn outcome(step: &Step, kind: Kind) -> (char, Outcome) {
     let ended = step.ended.clone().expect("the operation ended");
     assert_eq!((ended.coordinator, ended.kind), (1, kind));
     assert_eq!((ended.stripe, ended.block, ended.time), (STRIPE, BLOCK, 17));
-    ended.outcome
+    (ended.letter, ended.outcome)
 }
 
 fn gave(byte: u8, bricks: &[u8]) -> Outcome {
@@ -79,10 +79,10 @@ fn gave(byte: u8, bricks: &[u8]) -> Outcome {
     }
 }
 
-/// The replies end the operation aborted, and nothing is sent.
-fn aborts(mut record: Record, kind: Kind, replies: impl IntoIterator<Item = Reply>) {
+/// The replies end the operation aborted, with a letter, and nothing is sent.
+fn aborts(mut record: Record, kind: Kind, letter: char, replies: impl IntoIterator<Item = Reply>) {
     let step = take_all(&mut record, replies);
-    assert_eq!(outcome(&step, kind), Outcome::Abort);
+    assert_eq!(outcome(&step, kind), (letter, Outcome::Abort));
     assert!(step.sent.is_empty());
     assert_eq!(record, idle());
 }
@@ -114,6 +114,15 @@ fn recovering() -> Record {
     record
 }
 
+/// A block read in its first recovery round: brick 1 is missing.
+fn recovering_read() -> Record {
+    let mut record = reading();
+    let others = [0, 2, 3].map(|b| reply(READ, 1, b, true, 40, None));
+    let step = take_all(&mut record, others);
+    assert_eq!(sent(step), order_reads(NO_UPPER_END, 2));
+    record
+}
+
 /// Blocks 5, 9 coded, as bricks 1, 2, 3 give them at time 40.
 fn recovered(round: u64) -> [Reply; 3] {
     [(3, 17), (2, 29), (1, 9)].map(|(b, byte)| reply(ORDER_READ, round, b, true, 40, Some(byte)))
@@ -139,7 +148,7 @@ fn a_block_write_orders_then_modifies_then_trims() {
     assert_eq!(sent(step), vec![modify; 4]);
     let step = take_all(&mut record, yes_from(MODIFY, 2, [2, 3, 0]));
     assert_eq!(step.sent, vec![message(TRIM, 2); 4]);
-    assert_eq!(outcome(&step, Kind::WriteBlock), Outcome::Ok);
+    assert_eq!(outcome(&step, Kind::WriteBlock), ('S', Outcome::Ok));
     assert_eq!(record, idle());
 }
 
@@ -156,20 +165,67 @@ fn a_block_write_over_time_0() {
 #[test]
 fn a_no_in_either_round_aborts() {
     for place in 0..3 {
-        let mut replies = ordered();
-        let brick = replies[place].brick;
-        replies[place] = reply(ORDER_BLOCK, 1, brick, false, 0, None);
-        aborts(writing(), Kind::WriteBlock, replies);
+        for comparison in [NEWER, PROMISE] {
+            let mut replies = ordered();
+            let no = reply(ORDER_BLOCK, 1, replies[place].brick, false, 0, None);
+            replies[place] = told(&no, comparison);
+            aborts(writing(), Kind::WriteBlock, 'O', replies);
+        }
         // After Modify went out there is no second way.
-        let mut replies = yes_from(MODIFY, 2, [1, 2, 3]);
-        replies[place].yes = false;
-        aborts(modifying(), Kind::WriteBlock, replies);
+        for (comparison, letter) in [(NEWER, 'W'), (PROMISE, 'W'), (FULL, 'G')] {
+            let mut replies = yes_from(MODIFY, 2, [1, 2, 3]);
+            replies[place] = told(&replies[place], comparison);
+            aborts(modifying(), Kind::WriteBlock, letter, replies);
+        }
     }
     // A no aborts also where times differ and where brick j didn't reply.
     let no = reply(ORDER_BLOCK, 1, 3, false, 0, None);
     let other = |brick, found| reply(ORDER_BLOCK, 1, brick, true, found, None);
     let replies = [other(0, 40), no, other(2, 24)];
-    aborts(writing(), Kind::WriteBlock, replies);
+    aborts(writing(), Kind::WriteBlock, 'O', replies);
+}
+
+/// Every answer of three bricks to a Modify, and to the Write round of a recovered block write and of
+/// a recovered block read: G where each no is a full log's, W where some no isn't.
+#[test]
+fn nos_of_a_modify_or_a_store() {
+    let comparisons = [NONE, NEWER, PROMISE, FULL];
+    let mut records = vec![(modifying(), MODIFY, ('S', Outcome::Ok))];
+    for (mut record, finished) in [
+        (recovering(), ('S', Outcome::Ok)),
+        (recovering_read(), ('H', gave(9, &[1, 2]))),
+    ] {
+        take_all(&mut record, recovered(2));
+        records.push((record, WRITE, finished));
+    }
+    for (begun, open, finished) in records {
+        let running = begun.running.as_ref().unwrap();
+        assert_eq!(running.open, open);
+        for a in comparisons {
+            for b in comparisons {
+                for c in comparisons {
+                    let said = [(3, a), (0, b), (2, c)].map(|(brick, comparison)| Reply {
+                        yes: comparison == NONE,
+                        comparison,
+                        ..reply(open, running.round, brick, true, 0, None)
+                    });
+                    let nos: Vec<u8> = [a, b, c].into_iter().filter(|&k| k != NONE).collect();
+                    let expected = match &nos[..] {
+                        [] => finished.clone(),
+                        nos if nos.iter().all(|&k| k == FULL) => ('G', Outcome::Abort),
+                        _ => ('W', Outcome::Abort),
+                    };
+                    let mut record = begun.clone();
+                    let step = take_all(&mut record, said);
+                    assert_eq!(outcome(&step, running.kind), expected, "{nos:?}");
+                    assert_eq!(record, idle());
+                    // The fourth brick's no comes too late.
+                    let late = told(&reply(open, running.round, 1, true, 0, None), PROMISE);
+                    assert!(!counted(&record, &late));
+                }
+            }
+        }
+    }
 }
 
 #[test]
@@ -208,7 +264,7 @@ fn a_recovered_block_write_stores_its_block_in_the_stripe_found() {
         .iter()
         .all(|message| plain(message) == (WRITE, 3, 0)));
     let step = take_all(&mut record, yes_from(WRITE, 3, [0, 2, 3]));
-    assert_eq!(outcome(&step, Kind::WriteBlock), Outcome::Ok);
+    assert_eq!(outcome(&step, Kind::WriteBlock), ('S', Outcome::Ok));
     assert_eq!(step.sent, vec![message(TRIM, 3); 4]);
     assert_eq!(record, idle());
 }
@@ -227,6 +283,23 @@ fn a_recovered_block_write_looks_further_down() {
     let messages = sent(take_all(&mut record, recovered(3)));
     let blocks: Vec<u8> = messages.iter().map(|message| message.block[0]).collect();
     assert_eq!((messages[0].round, blocks), (4, vec![5, 7, 1, 3]));
+    let step = take_all(&mut record, yes_from(WRITE, 4, [0, 2, 3]));
+    assert_eq!(outcome(&step, Kind::WriteBlock), ('S', Outcome::Ok));
+}
+
+/// The same of a block read: L, where the first round would have been H.
+#[test]
+fn a_recovered_block_read_looks_further_down() {
+    let mut record = recovering_read();
+    let few = [
+        reply(ORDER_READ, 2, 0, true, 16, Some(5)),
+        reply(ORDER_READ, 2, 1, true, 48, Some(8)),
+        reply(ORDER_READ, 2, 2, true, 16, Some(29)),
+    ];
+    assert_eq!(sent(take_all(&mut record, few)), order_reads(48, 3));
+    take_all(&mut record, recovered(3));
+    let step = take_all(&mut record, yes_from(WRITE, 4, [0, 2, 3]));
+    assert_eq!(outcome(&step, Kind::ReadBlock), ('L', gave(9, &[1, 2])));
 }
 
 #[test]
@@ -234,23 +307,23 @@ fn a_recovered_block_write_aborts_as_a_read_does() {
     let none = |brick| reply(ORDER_READ, 2, brick, true, 0, None);
     let zero = |brick| reply(ORDER_READ, 2, brick, true, 0, Some(0));
     let no = |brick| reply(ORDER_READ, 2, brick, false, 0, None);
-    for replies in [
-        [none(0), none(1), none(2)],
-        [none(0), zero(1), none(2)],
-        [zero(0), zero(1), no(2)],
+    for (record, kind) in [
+        (recovering(), Kind::WriteBlock),
+        (recovering_read(), Kind::ReadBlock),
     ] {
-        aborts(recovering(), Kind::WriteBlock, replies);
+        for (letter, replies) in [
+            ('X', [none(0), none(1), none(2)]),
+            ('X', [none(0), zero(1), none(2)]),
+            ('O', [zero(0), zero(1), no(2)]),
+        ] {
+            aborts(record.clone(), kind, letter, replies);
+        }
+        // Round 1,000 is the last.
+        let mut last = record;
+        let running = last.running.as_mut().unwrap();
+        (running.round, running.max) = (1000, 64);
+        aborts(last, kind, 'X', recovered(1000));
     }
-    let mut record = recovering();
-    take_all(&mut record, recovered(2));
-    let mut replies = yes_from(WRITE, 3, [0, 1, 2]);
-    replies[1].yes = false;
-    aborts(record, Kind::WriteBlock, replies);
-    // Round 1,000 is the last.
-    let mut last = recovering();
-    let running = last.running.as_mut().unwrap();
-    (running.round, running.max) = (1000, 64);
-    aborts(last, Kind::WriteBlock, recovered(1000));
 }
 
 /// Three blocks of the chosen time, one of them off the line through the other
@@ -261,14 +334,8 @@ fn a_recovery_aborts_where_blocks_disagree() {
         for bit in 0..8 {
             let mut replies = recovered(2);
             replies[place].block.as_mut().unwrap()[0] ^= 1 << bit;
-            aborts(recovering(), Kind::WriteBlock, replies.clone());
-            let mut record = reading();
-            let other = [0, 2, 3].map(|b| reply(READ, 1, b, true, 40, None));
-            assert_eq!(
-                sent(take_all(&mut record, other)),
-                order_reads(NO_UPPER_END, 2)
-            );
-            aborts(record, Kind::ReadBlock, replies);
+            aborts(recovering(), Kind::WriteBlock, 'X', replies.clone());
+            aborts(recovering_read(), Kind::ReadBlock, 'X', replies);
         }
     }
 }
@@ -279,7 +346,7 @@ fn a_recovery_aborts_where_blocks_disagree() {
 fn the_replaced_block_is_checked() {
     let replies =
         [(1, 8), (0, 5), (2, 29)].map(|(b, byte)| reply(ORDER_READ, 2, b, true, 40, Some(byte)));
-    aborts(recovering(), Kind::WriteBlock, replies);
+    aborts(recovering(), Kind::WriteBlock, 'X', replies);
 }
 
 /// Replies with which a read of block 1 ends after one round.
@@ -301,7 +368,7 @@ fn a_block_read_of_one_round_names_its_brick_alone() {
     };
     assert_eq!(sent(step), vec![asked; 4]);
     let step = take_all(&mut record, fine());
-    assert_eq!(outcome(&step, Kind::ReadBlock), gave(9, &[1]));
+    assert_eq!(outcome(&step, Kind::ReadBlock), ('F', gave(9, &[1])));
     assert!(step.sent.is_empty());
     assert_eq!(record, idle());
 }
@@ -328,17 +395,23 @@ fn a_block_read_recovers_otherwise_and_gives_its_block() {
         assert_eq!(blocks, [5, 9, 29, 17]);
         let step = take_all(&mut record, yes_from(WRITE, 3, [0, 2, 3]));
         // It names the m bricks decoded from.
-        assert_eq!(outcome(&step, Kind::ReadBlock), gave(9, &[1, 2]));
+        assert_eq!(outcome(&step, Kind::ReadBlock), ('H', gave(9, &[1, 2])));
         assert_eq!(step.sent, vec![message(TRIM, 3); 4]);
     }
 }
 
 #[test]
 fn crashes_cut_and_keep_the_count() {
-    for mut record in [writing(), modifying(), recovering(), reading()] {
+    for mut record in [
+        writing(),
+        modifying(),
+        recovering(),
+        reading(),
+        recovering_read(),
+    ] {
         let kind = record.running.as_ref().unwrap().kind;
         let step = crash(volume(), 1, &mut record).unwrap();
-        assert_eq!(outcome(&step, kind), Outcome::Cut);
+        assert_eq!(outcome(&step, kind), ('C', Outcome::Cut));
         assert!(step.sent.is_empty());
         assert_eq!(record, idle());
     }
@@ -355,6 +428,36 @@ fn counted(record: &Record, reply: &Reply) -> bool {
         Err(number) => {
             assert_eq!((number, &changed), (11, record));
             false
+        }
+    }
+}
+
+/// The first round of a block write and its Modify: comparisons that they don't allow are 10.
+#[test]
+fn comparisons_refused_10() {
+    for (record, fine) in [
+        (writing(), reply(ORDER_BLOCK, 1, 1, true, 0, Some(9))),
+        (modifying(), reply(MODIFY, 2, 1, true, 0, None)),
+        (reading(), reply(READ, 1, 1, true, 40, Some(9))),
+    ] {
+        for comparison in [0, 1, 2, 3, 4, 128, 255] {
+            let taken = |reply: Reply| take_reply(volume(), 1, &mut record.clone(), &reply).err();
+            let yes = Reply {
+                comparison,
+                ..fine.clone()
+            };
+            assert_eq!(taken(yes), (comparison != NONE).then_some(10));
+            let no = Reply {
+                block: None,
+                ..told(&fine, comparison)
+            };
+            let fits = may_say(fine.kind, comparison);
+            assert_eq!(taken(no.clone()), (!fits).then_some(10), "{no:?}");
+            // With a block, so that it is 11 as well: 10 comes first.
+            let held = told(&fine, comparison);
+            let with_block = held.block.is_some();
+            let expected = if fits { 11 } else { 10 };
+            assert_eq!(taken(held), (with_block || !fits).then_some(expected));
         }
     }
 }
@@ -634,6 +737,28 @@ fn broken_records() {
     ];
     for record in &broken {
         assert!(breaks_a_rule(record), "{record:?}");
+    }
+    // A counted no keeps its comparison, a yes none; the first round knows no full log.
+    for (record, fine) in [
+        (writing(), reply(ORDER_BLOCK, 1, 0, true, 0, None)),
+        (modifying(), reply(MODIFY, 2, 0, true, 0, None)),
+        (reading(), reply(READ, 1, 0, true, 0, None)),
+        (recovering(), reply(ORDER_READ, 2, 0, true, 0, None)),
+        (recovering_read(), reply(ORDER_READ, 2, 0, true, 0, None)),
+        (storing(), reply(WRITE, 3, 0, true, 0, None)),
+        (restoring(), reply(WRITE, 3, 0, true, 0, None)),
+    ] {
+        for comparison in [0, 1, 2, 3, 4, 255] {
+            let yes = Reply {
+                comparison,
+                ..fine.clone()
+            };
+            let kept = counted(record.clone(), yes);
+            assert_eq!(breaks_a_rule(&kept), comparison != NONE, "{kept:?}");
+            let kept = counted(record.clone(), told(&fine, comparison));
+            let allowed = may_say(fine.kind, comparison);
+            assert_eq!(breaks_a_rule(&kept), !allowed, "{kept:?}");
+        }
     }
     // A read of the block in the rounds of a recovery has no data, as one of the stripe.
     let read = with(recovering(), |r| {

@@ -1,8 +1,8 @@
 //! The brick and the coordinator written by hand, which the benchmarks measure against, do what the independent ones do.
 
-use jilbagum_tests::brick::{self, MODIFY, ORDER, ORDER_BLOCK, ORDER_READ, READ, TRIM, WRITE};
+use jilbagum_tests::brick::{self, FULL, MODIFY, NEWER, NONE, ORDER, ORDER_BLOCK, ORDER_READ, PROMISE, READ, TRIM, WRITE};
 use jilbagum_tests::coordinator::{self, Outcome, Record, Step};
-use jilbagum_tests::fixtures::{alter, enough_blocks};
+use jilbagum_tests::fixtures::{alter, enough_blocks, may_say};
 use jilbagum_tests::image;
 use jilbagum_tests::inplace::Brick;
 use jilbagum_tests::inplace_coordinator::{Act, Coordinator, Message, Reply};
@@ -20,22 +20,22 @@ fn by_hand(settings: Settings, brick: u64, wide: bool) -> Brick {
     Brick::new((shape.n as usize, shape.m as usize, shape.size as usize), settings.capacity as usize, brick as usize, wide)
 }
 
-/// What a brick by hand answers: yes or no, the time, the block.
-fn answer(hand: &Brick, brick: u64, image: &mut [u8], message: &brick::Message, size: usize) -> Option<(bool, u64, Option<Vec<u8>>)> {
+/// What a brick by hand answers: the comparison that said no, the time, the block.
+fn answer(hand: &Brick, brick: u64, image: &mut [u8], message: &brick::Message, size: usize) -> Option<(u8, u64, Option<Vec<u8>>)> {
     let brick::Message { kind, time, max, number, old_time, ref block, ref old_block, .. } = *message;
     let mut out = vec![0; size];
     let own = number == brick;
-    let (yes, found, held) = match kind {
+    let (said, found, held) = match kind {
         READ => {
             let target = message.targets.iter().any(|&target| u64::from(target) == brick);
-            let (yes, found) = hand.read(image, target, &mut out);
-            (yes, found, yes && target)
+            let (said, found) = hand.read(image, target, &mut out);
+            (said, found, said == NONE && target)
         }
         ORDER => (hand.order(image, time), 0, false),
         ORDER_READ => hand.order_read(image, time, max, &mut out),
         ORDER_BLOCK => {
-            let (yes, found) = hand.order_block(image, time, number as usize, &mut out);
-            (yes, found, yes && own)
+            let (said, found) = hand.order_block(image, time, number as usize, &mut out);
+            (said, found, said == NONE && own)
         }
         WRITE => (hand.write(image, time, block), 0, false),
         MODIFY => (hand.modify(image, time, old_time, number as usize, old_block, block), 0, false),
@@ -44,7 +44,7 @@ fn answer(hand: &Brick, brick: u64, image: &mut [u8], message: &brick::Message, 
             return None;
         }
     };
-    Some((yes, found, held.then_some(out)))
+    Some((said, found, held.then_some(out)))
 }
 
 fn some_message(rng: &mut Rng, settings: Settings, state: &image::State) -> brick::Message {
@@ -80,15 +80,19 @@ fn bricks() {
             let mut other = image.clone();
             let reply = brick::take(settings, brick, &mut image, &message).unwrap();
             let theirs = answer(&hand, brick, &mut other, &message, settings.shape.size as usize);
-            assert_eq!(reply.map(|r| (r.yes, r.found, r.block)), theirs, "{settings:?} {brick} {message:?}");
+            assert_eq!(reply.map(|r| (r.comparison, r.found, r.block)), theirs, "{settings:?} {brick} {message:?}");
             assert!(image == other, "{settings:?} {brick} {message:?}");
-            tally.add(format!("kind {}, {:?}", message.kind, theirs.map(|(yes, ..)| yes)), 1);
+            tally.add(format!("kind {}, {:?}", message.kind, theirs.map(|(said, ..)| said)), 1);
             tally.add("marks", image::marks(&image).len());
         }
     }
     println!("{:?}", tally.0);
     for kind in READ..TRIM {
-        tally.expect(50, &[&format!("kind {kind}, Some(true)"), &format!("kind {kind}, Some(false)")]);
+        for said in [NONE, NEWER, PROMISE, FULL] {
+            if said == NONE || may_say(kind, said) {
+                tally.expect(50, &[&format!("kind {kind}, Some({said})")]);
+            }
+        }
     }
     tally.expect(500, &["kind 7, None", "marks"]);
 }
@@ -146,15 +150,19 @@ fn compare(volume: Volume, step: Result<Step, u8>, act: Act, hand: &Coordinator,
             return Step::default();
         }
         (Ok(step), act) => {
-            let (message, what) = match act {
-                Act::Waits => (None, "waits"),
-                Act::Sends(message) => (Some(message), "sends"),
-                Act::Written(message) => (Some(message), "written"),
-                Act::Read(message) => (message, "read"),
-                Act::Aborted => (None, "aborted"),
+            let (message, what, letter) = match act {
+                Act::Waits => (None, "waits", None),
+                Act::Sends(message) => (Some(message), "sends", None),
+                Act::Written(message, letter) => (Some(message), "written", Some(letter)),
+                Act::Read(message, letter) => (message, "read", Some(letter)),
+                Act::Aborted(letter) => (None, "aborted", Some(letter)),
                 Act::Refused(number) => panic!("refused {number} by hand alone"),
             };
             assert_eq!(sent(&step), message.as_ref().map(sent_by_hand));
+            assert_eq!(step.ended.as_ref().map(|ended| ended.letter), letter);
+            if let Some(letter) = letter {
+                tally.add(format!("letter {letter}"), 1);
+            }
             (step, what)
         }
         (Err(refusal), _) => panic!("refused {refusal}, and not by hand"),
@@ -229,6 +237,10 @@ fn coordinators() {
                     if rng.once_in(altered) {
                         alter(&mut reply, &mut rng);
                     }
+                    if rng.once_in(20) {
+                        // A comparison of any number, so that some are refused by 10.
+                        reply.comparison = rng.below(5) as u8;
+                    }
                     let given = Reply {
                         kind: reply.kind,
                         brick: b,
@@ -238,6 +250,7 @@ fn coordinators() {
                         yes: reply.yes,
                         found: reply.found,
                         held: reply.block.is_some(),
+                        said: reply.comparison,
                     };
                     let mut replies = record.running.as_ref().map_or(Vec::new(), |running| running.replies.clone());
                     replies.push(reply.clone());
@@ -280,6 +293,7 @@ fn coordinators() {
         20,
         &["sends 1", "sends 2", "sends 3", "sends 4", "sends 5", "sends 6", "written 7", "read 0", "read 7", "aborted 0", "waits 0"],
     );
-    tally.expect(20, &["refusal 11", "refusal 14"]);
+    tally.expect(20, &["refusal 10", "refusal 11", "refusal 14"]);
+    tally.expect(20, &["letter F", "letter H", "letter L", "letter S", "letter O", "letter G", "letter W", "letter X"]);
     tally.expect(20, &["blocks disagree, Read", "blocks disagree, ReadBlock", "blocks disagree, WriteBlock"]);
 }

@@ -1,5 +1,6 @@
 //! Random runs of the proved bricks and coordinators, at general settings, each searched for an order as document 01 asks for, stripe by
-//! stripe. At each event the images of the other stripes are compared, and no two operations of a run have one time.
+//! stripe. At each event the images of the other stripes are compared, no two operations of a run have one time, and each end has the
+//! letter that fits it.
 
 use jilbagum_tests::brick::{ORDER_READ, READ, WRITE};
 use jilbagum_tests::coordinator::Kind;

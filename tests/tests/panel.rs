@@ -37,7 +37,7 @@ fn after(brick: usize, messages: &[(u8, u64)]) -> Vec<u8> {
     assert_eq!(proved::fresh(FIVE, brick, &mut image), 0);
     for &(kind, time) in messages {
         let asked = proved::asked(u64::from(kind), time, 1, 0, 0, [0; 16]);
-        let number = proved::receive(FIVE, brick, &mut image, &asked, (&[10], &[0]), &mut [0], &mut [0; 8]);
+        let number = proved::receive(FIVE, brick, &mut image, &asked, (&[10], &[0]), &mut [0], &mut [0; 9]);
         assert_eq!(number, if kind == TRIM { proved::SILENCE } else { 0 });
     }
     image
@@ -151,6 +151,7 @@ fn the_worked_case_in_the_readme() {
     let world = world.unwrap();
     let ends: Vec<&End> = world.operations.iter().map(|o| &o.ended.as_ref().unwrap().1).collect();
     assert_eq!(ends, [&End::Cut, &End::Gave(vec![0]), &End::Gave(vec![0])]);
+    assert_eq!(world.noted.iter().filter_map(|noted| noted.letter).collect::<String>(), "CHH");
     moments.push(("after the second read", panels(&world)));
     let text = read("README.md");
     for (moment, panels) in moments {

@@ -1,8 +1,10 @@
 //! The proved brick against the independent one: images, replies and refusals, byte for byte, on one image and on the row of images that
 //! a brick of a volume has.
 
+use jilbagum_tests::fixtures::may_say;
 use jilbagum_tests::settings::{Refusal, Settings};
 use jilbagum_tests::{brick, image, proved, rng::Rng};
+use std::collections::BTreeMap;
 
 fn settings((n, m, size, capacity, stripes): proved::Five) -> Settings {
     Settings::new(n as u64, m as u64, size as u64, capacity as u64, stripes as u64)
@@ -67,16 +69,17 @@ fn compare_by((receive, take): (proved::Receive, Take), five: proved::Five, numb
     let block = if message.holds_a_block() { message.block.clone() } else { vec![0xAA; size] };
     let old = if message.kind == brick::MODIFY { message.old_block.clone() } else { vec![0x55; size] };
     let (mut ours, mut theirs) = (bytes.clone(), bytes.clone());
-    let (mut out, mut reply) = (vec![0xEE; size], [77; 8]);
+    let (mut out, mut reply) = (vec![0xEE; size], [77; 9]);
     let answer = receive(five, number, &mut ours, &numbers.asked(), (&block, &old), &mut out, &mut reply);
     let seen = format!("{five:?} brick {number} {numbers:?}");
     let mut left = vec![0xEE; size];
     match take(settings(five), number as u64, &mut theirs, &message) {
-        Err(refusal) => assert_eq!((answer, reply), (u32::from(refusal), [77; 8]), "{seen}"),
-        Ok(None) => assert_eq!((answer, reply), (proved::SILENCE, [77; 8]), "{seen}"),
+        Err(refusal) => assert_eq!((answer, reply), (u32::from(refusal), [77; 9]), "{seen}"),
+        Ok(None) => assert_eq!((answer, reply), (proved::SILENCE, [77; 9]), "{seen}"),
         Ok(Some(r)) => {
             let held = u64::from(r.block.is_some());
-            let fields = [u64::from(r.kind), r.brick, r.time, r.round, u64::from(r.yes), r.found, held, r.stripe];
+            let (yes, comparison) = (u64::from(r.yes), u64::from(r.comparison));
+            let fields = [u64::from(r.kind), r.brick, r.time, r.round, yes, r.found, held, r.stripe, comparison];
             assert_eq!((answer, reply), (0, fields), "{seen}");
             left = r.block.unwrap_or(left);
         }
@@ -216,6 +219,57 @@ fn long_runs_of_messages() {
     assert!(marks > 300 && trimmed > 50, "{marks} {trimmed}");
 }
 
+/// What says no, to every kind of message, wherever its time lies beside newest and promise, with an entry free and with none: newer time
+/// first, then promise, then full log; for a Modify another newest than the old time is newer too.
+#[test]
+fn comparisons_of_every_kind() {
+    let mut seen = BTreeMap::<(u8, u64), usize>::new();
+    for (capacity, promise) in [2, 3].into_iter().flat_map(|capacity| [0, 16, 64, 65, 80, 81, 96].map(|promise| (capacity, promise))) {
+        for number in 0..4 {
+            let five = (4, 2, 1, capacity, 1);
+            let log = [0, 64].map(|time| image::Entry { time, block: Some(vec![time as u8]) }).to_vec();
+            let bytes = image::write(settings(five), number as u64, &image::State { promise, log }).unwrap();
+            for (kind, time, old_time) in (brick::READ..brick::TRIM)
+                .flat_map(|kind| [16, 63, 64, 65, 80, 81, 96].map(|time| (kind, time)))
+                .flat_map(|(kind, time)| [0, 64, 80].map(|old_time| (kind, time, old_time)))
+            {
+                let against_order = match (time, promise) {
+                    (0..=64, _) => brick::NEWER,
+                    _ if time < promise => brick::PROMISE,
+                    _ => brick::NONE,
+                };
+                let against_append = if against_order == brick::NONE && capacity == 2 { brick::FULL } else { against_order };
+                let expected = match kind {
+                    brick::READ if promise > 64 => brick::PROMISE,
+                    brick::READ => brick::NONE,
+                    brick::WRITE => against_append,
+                    brick::MODIFY if old_time != 64 => brick::NEWER,
+                    brick::MODIFY => against_append,
+                    _ => against_order,
+                };
+                let message = brick::Message {
+                    targets: vec![0, 1],
+                    max: 1 << 44,
+                    block: vec![7],
+                    old_time,
+                    old_block: vec![9],
+                    ..brick::Message::plain(kind, time, 1)
+                };
+                let numbers = Numbers::of(&message);
+                assert_eq!(compare(five, number, &mut bytes.clone(), &numbers), 0);
+                let mut reply = [77; 9];
+                proved::receive(five, number, &mut bytes.clone(), &numbers.asked(), (&[7], &[9]), &mut [0], &mut reply);
+                assert_eq!((reply[4], reply[8]), (u64::from(expected == brick::NONE), u64::from(expected)), "{numbers:?}");
+                *seen.entry((kind, reply[8])).or_default() += 1;
+            }
+        }
+    }
+    println!("{seen:?}");
+    for (kind, comparison) in (brick::READ..brick::TRIM).flat_map(|kind| [1, 2, 3].map(|comparison| (kind, comparison))) {
+        assert_eq!(seen.contains_key(&(kind, u64::from(comparison))), may_say(kind, comparison), "{kind} {comparison}");
+    }
+}
+
 /// Each field below, at and above its range, in messages of every kind: 10 where the kind looks at the field, and only there.
 #[test]
 fn fields_in_and_around_their_ranges() {
@@ -288,7 +342,7 @@ fn every_changed_byte_of_a_small_image() {
         for change in 1..=255_u8 {
             let mut damaged = bytes.clone();
             damaged[at] ^= change;
-            let (mut out, mut reply) = ([0], [0; 8]);
+            let (mut out, mut reply) = ([0], [0; 9]);
             let kept = damaged.clone();
             let answer = proved::receive(five, 1, &mut damaged, &Numbers::of(&read).asked(), (&[0], &[0]), &mut out, &mut reply);
             assert_eq!((answer, &damaged), (5, &kept), "byte {at} by {change}");
@@ -476,10 +530,10 @@ fn settings_and_lengths() {
     let mut bytes = fresh(five, 0);
     let read = Numbers::of(&brick::Message { targets: vec![0], ..brick::Message::plain(brick::READ, 16, 1) });
     let asked = read.asked();
-    let (mut out, mut reply) = ([0; 4], [0; 8]);
+    let (mut out, mut reply) = ([0; 4], [0; 10]);
     for wrong in WRONG {
         assert_eq!(compare(wrong, 0, &mut bytes, &read), 1);
-        assert_eq!(proved::receive(wrong, 9, &mut bytes, &asked[..22], (&[0; 3], &[0; 3]), &mut out, &mut reply[..7]), 1);
+        assert_eq!(proved::receive(wrong, 9, &mut bytes, &asked[..22], (&[0; 3], &[0; 3]), &mut out, &mut reply[..8]), 1);
         assert_eq!(proved::panel(wrong, 9, &bytes, &mut [0; 3]), 1);
         assert_eq!(proved::entry(wrong, 9, &bytes, 9, &mut [0; 1]), 1);
         assert_eq!(proved::fresh(wrong, 9, &mut [0; 3]), 1);
@@ -493,24 +547,27 @@ fn settings_and_lengths() {
         let mut longer = bad.to_vec();
         longer.push(0);
         for short in [&bad[..0], &bad[..21], &bad[..22], &longer[..]] {
-            assert_eq!(proved::receive(five, 3, &mut bytes, short, (&block, &block), &mut out, &mut reply), 2);
+            assert_eq!(proved::receive(five, 3, &mut bytes, short, (&block, &block), &mut out, &mut reply[..9]), 2);
         }
         for lent in [(&block[..3], &block[..]), (&block[..], &block[..3]), (&block[..], &[0; 5][..]), (&[][..], &block[..])] {
-            assert_eq!(proved::receive(five, 3, &mut bytes, &bad, lent, &mut out, &mut reply), 2);
+            assert_eq!(proved::receive(five, 3, &mut bytes, &bad, lent, &mut out, &mut reply[..9]), 2);
         }
         let lent = (&block[..], &block[..]);
-        assert_eq!(proved::receive(five, 3, &mut bytes, &bad, lent, &mut out[..3], &mut reply), 2);
-        assert_eq!(proved::receive(five, 3, &mut bytes, &bad, lent, &mut out, &mut reply[..7]), 2);
-        assert_eq!(proved::receive(five, 3, &mut bytes[1..], &bad, lent, &mut out, &mut reply), 2);
-        assert_eq!(proved::receive(five, 3, &mut bytes, &bad, lent, &mut out, &mut reply), 3);
-        assert_eq!(proved::receive(five, 0, &mut bytes, &bad, lent, &mut out, &mut reply), 13);
+        for length in [0, 7, 8, 10] {
+            assert_eq!(proved::receive(five, 3, &mut bytes, &bad, lent, &mut out, &mut reply[..length]), 2);
+        }
+        let reply = &mut reply[..9];
+        assert_eq!(proved::receive(five, 3, &mut bytes, &bad, lent, &mut out[..3], reply), 2);
+        assert_eq!(proved::receive(five, 3, &mut bytes[1..], &bad, lent, &mut out, reply), 2);
+        assert_eq!(proved::receive(five, 3, &mut bytes, &bad, lent, &mut out, reply), 3);
+        assert_eq!(proved::receive(five, 0, &mut bytes, &bad, lent, &mut out, reply), 13);
         bad[4] = 1;
         let number = if kind == 8 { 10 } else { 14 };
-        assert_eq!(proved::receive(five, 0, &mut bytes, &bad, lent, &mut out, &mut reply), number);
+        assert_eq!(proved::receive(five, 0, &mut bytes, &bad, lent, &mut out, reply), number);
         bad[6] = 0;
-        assert_eq!(proved::receive(five, 0, &mut bytes, &bad, lent, &mut out, &mut reply), 10);
+        assert_eq!(proved::receive(five, 0, &mut bytes, &bad, lent, &mut out, reply), 10);
     }
-    assert_eq!(proved::receive(five, 0, &mut bytes, &asked, (&block, &block), &mut out, &mut reply), 0);
+    assert_eq!(proved::receive(five, 0, &mut bytes, &asked, (&block, &block), &mut out, &mut reply[..9]), 0);
     for length in [0, 1, 3] {
         let mut pair = vec![77; length];
         assert_eq!(proved::panel(five, 3, &bytes, &mut pair), 2);
@@ -583,10 +640,10 @@ fn rows_refused_in_order() {
     let length = row.len() / 2;
     let senseless = Numbers { stripe: 2, number: 1, old_time: 15, ..Numbers::of(&brick::Message::plain(brick::MODIFY, 16, 1)) };
     let refused = |five: proved::Five, number: usize, row: &[u8], numbers: &Numbers, block: usize, out: usize| {
-        let (mut lent, mut out, mut reply) = (row.to_vec(), vec![0xEE; out], [77; 8]);
+        let (mut lent, mut out, mut reply) = (row.to_vec(), vec![0xEE; out], [77; 9]);
         let blocks = (&vec![0; block][..], &vec![0; 4][..]);
         let answer = proved::receive_in_row(five, number, &mut lent, &numbers.asked(), blocks, &mut out, &mut reply);
-        assert!(lent == row && out.iter().all(|&byte| byte == 0xEE) && reply == [77; 8]);
+        assert!(lent == row && out.iter().all(|&byte| byte == 0xEE) && reply == [77; 9]);
         answer
     };
     // In both images a byte that should be zero isn't; in that of stripe 1 the check of another block fails too.
@@ -608,7 +665,7 @@ fn rows_refused_in_order() {
     }
     assert_eq!(refused(five, 3, &torn, &senseless, 3, 4), 2);
     assert_eq!(refused(five, 3, &torn, &senseless, 4, 5), 2);
-    let short_old = proved::receive_in_row(five, 3, &mut torn.clone(), &senseless.asked(), (&[0; 4], &[0; 3]), &mut [0; 4], &mut [0; 8]);
+    let short_old = proved::receive_in_row(five, 3, &mut torn.clone(), &senseless.asked(), (&[0; 4], &[0; 3]), &mut [0; 4], &mut [0; 9]);
     assert_eq!(short_old, 2);
     let mut kept = torn.clone();
     assert_eq!((proved::fresh_row(five, 3, &mut kept), kept == torn), (3, true));

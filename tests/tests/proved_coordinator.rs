@@ -1,12 +1,12 @@
 //! The proved coordinator against the independent one: records, answers, buffers and refusals, event by event.
 
-use jilbagum_tests::brick::{self, Message, Reply, MODIFY, ORDER_BLOCK, ORDER_READ, READ, WRITE};
+use jilbagum_tests::brick::{self, Message, Reply, FULL, MODIFY, NEWER, NONE, ORDER, ORDER_BLOCK, ORDER_READ, PROMISE, READ, WRITE};
 use jilbagum_tests::code;
 use jilbagum_tests::coordinator::{self, Ended, Kind, Outcome, Record, Running, Step};
-use jilbagum_tests::fixtures::{alter, enough_blocks};
+use jilbagum_tests::fixtures::{alter, enough_blocks, may_say};
 use jilbagum_tests::harness::Proved;
 use jilbagum_tests::proved::record::{
-    BRICKS, COUNTED, FIRST, FOUND, GRANTED, HELD, KIND, LAST, M, MAX, N, PHASE, ROUND, SIZE, STRIPE, STRIPES, TIME,
+    BRICKS, COMPARISON, COUNTED, FIRST, FOUND, GRANTED, HELD, KIND, LAST, M, MAX, N, PHASE, ROUND, SIZE, STRIPE, STRIPES, TIME,
 };
 use jilbagum_tests::proved::{self, answer as at, record, Coordinator, Lent};
 use jilbagum_tests::rng::Rng;
@@ -84,8 +84,9 @@ fn lay_out(record: &Record) -> (Vec<u64>, Vec<u8>) {
             bytes[COUNTED + b] = 1;
             bytes[GRANTED + b] = u8::from(reply.yes);
             bytes[HELD + b] = u8::from(reply.block.is_some());
+            bytes[COMPARISON + b] = reply.comparison;
         }
-        bytes[BRICKS..].copy_from_slice(&row(&running.bricks));
+        bytes[BRICKS..COMPARISON].copy_from_slice(&row(&running.bricks));
     }
     (numbers, bytes)
 }
@@ -106,7 +107,7 @@ fn read_out(c: &Coordinator) -> Option<Record> {
     let (kind, open) = (kind_of(bytes[KIND])?, bytes[PHASE]);
     // The bricks that a read decoded from while it stores what it found.
     let named = if kind.reads() && open == WRITE { shape.m as usize } else { 0 };
-    let (bricks, rest) = bytes[BRICKS..].split_at(named);
+    let (bricks, rest) = bytes[BRICKS..COMPARISON].split_at(named);
     if rest.iter().any(|&b| b != 0) || bricks.windows(2).any(|pair| pair[0] >= pair[1]) {
         return None;
     }
@@ -114,7 +115,8 @@ fn read_out(c: &Coordinator) -> Option<Record> {
     let mut replies = Vec::new();
     for b in 0..16 {
         let (counted, granted, held, found) = (bytes[COUNTED + b], bytes[GRANTED + b], bytes[HELD + b], numbers[FOUND + b]);
-        if counted > 1 || granted > 1 || held > 1 || (counted == 0 && (granted, held, found) != (0, 0, 0)) {
+        let comparison = bytes[COMPARISON + b];
+        if counted > 1 || granted > 1 || held > 1 || (counted == 0 && (granted, held, found, comparison) != (0, 0, 0, 0)) {
             return None;
         }
         let block = c.blocks.get(b * size..(b + 1) * size).map_or(vec![0; size], <[u8]>::to_vec);
@@ -128,6 +130,7 @@ fn read_out(c: &Coordinator) -> Option<Record> {
                 yes: granted == 1,
                 found,
                 block: (held == 1).then_some(block),
+                comparison,
             });
         }
     }
@@ -201,9 +204,9 @@ fn judged(volume: Volume, c: &Coordinator, event: &Event) -> Result<(Record, Ste
     step.map(|step| (record, step))
 }
 
-/// The four buffers' answer: sixteen numbers and 52 bytes, with nothing in the places of a second message.
+/// The four buffers' answer: sixteen numbers and 53 bytes, with nothing in the places of a second message. What ended has its letter.
 fn answer(shape: Shape, event: &Event, record: &Record, step: &Step) -> (Vec<u64>, Vec<u8>) {
-    let (mut sent, mut shown) = (vec![0; 16], vec![0; 52]);
+    let (mut sent, mut shown) = (vec![0; 16], vec![0; 53]);
     if let Some(message) = step.sent.first() {
         assert_eq!(step.sent.len() as u64, shape.n);
         sent[..4].copy_from_slice(&[1, message.time, message.round, message.max]);
@@ -222,6 +225,7 @@ fn answer(shape: Shape, event: &Event, record: &Record, step: &Step) -> (Vec<u64
         };
         shown[1..3].copy_from_slice(&[what, number_of(ended.kind)]);
         shown[19..35].copy_from_slice(&row(&bricks));
+        shown[52] = ended.letter as u8;
         (sent[at::SEEN_TIME], sent[at::SEEN_STRIPE], sent[at::SEEN_BLOCK]) = (ended.time, ended.stripe, ended.block);
     } else if let (true, Some(running)) = (event.starts(), &record.running) {
         shown[1..3].copy_from_slice(&[1, number_of(running.kind)]);
@@ -318,6 +322,10 @@ fn expected(volume: Volume, c: &Coordinator, event: &Event, tally: &mut Tally) -
         after.coded = step.sent.iter().flat_map(|message| message.block.clone()).collect();
     }
     tally.add(what_happened(before, c, event, &record, &step), 1);
+    if let Some(ended) = &step.ended {
+        let of = if ended.kind.of_block() { "block " } else { "" };
+        tally.add(format!("{of}letter {}", ended.letter), 1);
+    }
     (after, 0, step)
 }
 
@@ -341,7 +349,7 @@ fn compare(volume: Volume, c: &mut Coordinator, event: &Event, tally: &mut Tally
         Event::Reply(r) => {
             let held = r.block.is_some();
             let block = r.block.clone().unwrap_or_else(|| vec![0xEE; (r.round % 3) as usize]);
-            let fields = (r.kind, r.brick as usize, r.stripe as usize, r.time, r.round, r.yes, r.found, held);
+            let fields = (r.kind, r.brick as usize, r.stripe as usize, r.time, r.round, r.yes, r.found, held, r.comparison);
             let Coordinator { lent, blocks, stripe, coded } = c;
             proved::take_reply(four, lent, fields, &block, blocks, stripe, coded)
         }
@@ -559,7 +567,15 @@ fn schedules_with_bricks() {
             "block recovery aborted by a no",
         ],
     );
+    tally.expect(20, &LETTERS_OF_RUNS);
 }
+
+/// The letters that runs of bricks lead to, on stripes and on blocks; X is hardly among them.
+const LETTERS_OF_RUNS: [&str; 16] = [
+    "letter F", "letter H", "letter L", "letter S", "letter O", "letter G", "letter W", "letter C",
+    "block letter F", "block letter H", "block letter L", "block letter S", "block letter O", "block letter G", "block letter W",
+    "block letter C",
+];
 
 /// The same with blocks altered on their way: a read in one round gives what it decodes to, a recovery with more than m blocks aborts.
 #[test]
@@ -588,7 +604,8 @@ fn recovering(volume: Volume, kind: Kind, rng: &mut Rng, tally: &mut Tally) -> C
         let own = kind == Kind::WriteBlock && brick == block;
         let block = own.then(|| rng.bytes(size as usize));
         let (kind, yes) = (c.lent.bytes[PHASE], kind == Kind::WriteBlock);
-        let reply = Reply { kind, brick, stripe: 1, time: 83, round: 1, yes, found: 16 + brick % 2, block };
+        let comparison = if yes { NONE } else { PROMISE };
+        let reply = Reply { kind, brick, stripe: 1, time: 83, round: 1, yes, found: 16 + brick % 2, block, comparison };
         compare(volume, &mut c, &Event::Reply(reply), tally);
     }
     assert_eq!((c.lent.bytes[PHASE], c.lent.numbers[ROUND]), (ORDER_READ, 2));
@@ -630,8 +647,8 @@ fn a_recovery_whose_blocks_disagree_is_aborted() {
                     }
                     shape.put_block(&mut given, brick, &block);
                     let found = if chosen { 40 } else { 16 * rng.below(2) };
-                    let brick = brick as u64;
-                    let reply = Reply { kind: ORDER_READ, brick, stripe: 1, time: 83, round, yes: true, found, block: Some(block) };
+                    let (kind, brick, block) = (ORDER_READ, brick as u64, Some(block));
+                    let reply = Reply { kind, brick, stripe: 1, time: 83, round, yes: true, found, block, comparison: NONE };
                     compare(volume, &mut c, &Event::Reply(reply), &mut tally);
                 }
                 assert!(c.blocks == given);
@@ -642,6 +659,7 @@ fn a_recovery_whose_blocks_disagree_is_aborted() {
                 let mut idle = Lent::fresh(Proved::four(volume), 3);
                 idle.numbers[LAST] = 5;
                 idle.shown[at::SEEN..=at::SEEN_KIND].copy_from_slice(&[proved::ABORTED, number_of(kind)]);
+                idle.shown[at::LETTER] = b'X';
                 (idle.sent[at::SEEN_TIME], idle.sent[at::SEEN_STRIPE]) = (83, 1);
                 idle.sent[at::SEEN_BLOCK] = if kind.of_block() { number } else { 0 };
                 assert!(c.lent == idle, "{:?}", c.lent);
@@ -652,6 +670,7 @@ fn a_recovery_whose_blocks_disagree_is_aborted() {
     println!("{:?}", tally.0);
     tally.expect(100, &["recovery aborted as blocks disagree", "block recovery aborted as blocks disagree"]);
     tally.expect(6, &["write round 3", "block write round 3"]);
+    tally.expect(100, &["letter X", "block letter X"]);
 }
 
 /// A read of one round decodes from its targets and looks at nothing else: altered blocks of m targets give other bytes and no abort.
@@ -670,10 +689,10 @@ fn a_read_of_one_round_checks_nothing() {
             for k in 0..4 {
                 let brick = (first + k) % 5;
                 let block = (targets[brick as usize] == 1).then(|| rng.bytes(2));
-                let reply = Reply { kind: READ, brick, stripe: 1, time: 83, round: 1, yes: true, found: 40, block };
+                let reply = Reply { kind: READ, brick, stripe: 1, time: 83, round: 1, yes: true, found: 40, block, comparison: NONE };
                 compare(volume, &mut c, &Event::Reply(reply), &mut tally);
             }
-            assert_eq!(c.lent.shown[at::SEEN], proved::GAVE);
+            assert_eq!((c.lent.shown[at::SEEN], c.lent.shown[at::LETTER]), (proved::GAVE, b'F'));
         }
     }
     tally.expect(5, &["read in one round", "block read in one round"]);
@@ -715,6 +734,7 @@ fn some_reply(Volume { shape, stripes }: Volume, c: &Coordinator, stored: &Store
         yes,
         found: if shown { *found } else { 0 },
         block: held.then(|| coded.chunks(shape.size as usize).nth(brick as usize).map(<[u8]>::to_vec)).flatten(),
+        comparison: if yes { NONE } else { some_no(kind, rng) },
     };
     if held && (reply.block.is_none() || rng.once_in(16)) {
         reply.block = Some(rng.bytes(shape.size as usize));
@@ -722,7 +742,7 @@ fn some_reply(Volume { shape, stripes }: Volume, c: &Coordinator, stored: &Store
         alter(&mut reply, rng);
     }
     if rng.once_in(4) {
-        match rng.below(11) {
+        match rng.below(13) {
             0 => reply.kind = [0, 1, 2, 3, 4, 5, 6, 7, 8, 255][rng.below(10) as usize],
             1 => reply.time = [0, 15, 16, 1 << 44, (1 << 44) - 1, u64::MAX, reply.time ^ 1, reply.time + 16][rng.below(8) as usize],
             2 => reply.round = [0, 1, 2, 1000, 1001, reply.round + 1, reply.round - 1, u64::MAX][rng.below(8) as usize],
@@ -736,10 +756,22 @@ fn some_reply(Volume { shape, stripes }: Volume, c: &Coordinator, stored: &Store
             7 => reply.stripe = [stripes, stripes + 1, 64, 255, 1 << 32, u64::MAX][rng.below(6) as usize],
             8 => reply.stripe = rng.below(stripes),
             9 => reply.found = [0, 1, 15, 16, 17, (1 << 44) - 1, 1 << 44, u64::MAX][rng.below(8) as usize],
-            _ => reply.yes = !reply.yes,
+            10 => reply.comparison = [0, 1, 2, 3, 4, 5, 128, 255][rng.below(8) as usize],
+            11 => reply.yes = !reply.yes,
+            _ => (reply.yes, reply.comparison) = if reply.yes { (false, some_no(kind, rng)) } else { (true, NONE) },
         }
     }
     reply
+}
+
+/// A comparison that a no of this kind may name. A full log is the likeliest where it may be, so that some rounds have no other.
+fn some_no(kind: u8, rng: &mut Rng) -> u8 {
+    let comparison = [NEWER, PROMISE, FULL, FULL, FULL, FULL][rng.below(6) as usize];
+    if may_say(kind, comparison) {
+        comparison
+    } else {
+        PROMISE
+    }
 }
 
 fn some_event(volume: Volume, c: &Coordinator, stored: &Stored, rng: &mut Rng) -> Event {
@@ -807,6 +839,8 @@ fn events_of_every_sort() {
             "refusal 7", "refusal 8", "refusal 9", "refusal 10", "refusal 11",
         ],
     );
+    tally.expect(5, &LETTERS_OF_RUNS);
+    tally.expect(20, &["letter X", "block letter X"]);
     tally.expect(10, &["recovery aborted at time 0 on few bricks", "block recovery aborted at time 0 on few bricks"]);
     tally.expect(20, &["recovery aborted as blocks disagree", "block recovery aborted as blocks disagree"]);
 }
@@ -876,6 +910,7 @@ fn records_of_other_settings() {
                 yes: true,
                 found: 0,
                 block: None,
+                comparison: NONE,
             };
             let held = Reply { block: Some(rng.bytes(other.shape.size as usize)), ..reply.clone() };
             let events = [
@@ -944,7 +979,8 @@ fn a_block_write_names_no_bricks() {
         compare(volume, &mut c, &begin, &mut tally);
         let answer = |c: &Coordinator, brick: u64, found: u64, block: Option<u8>| {
             let (kind, round, time) = (c.lent.bytes[PHASE], c.lent.numbers[ROUND], c.lent.numbers[TIME]);
-            Event::Reply(Reply { kind, brick, stripe: 1, time, round, yes: true, found, block: block.map(|byte| vec![byte]) })
+            let block = block.map(|byte| vec![byte]);
+            Event::Reply(Reply { kind, brick, stripe: 1, time, round, yes: true, found, block, comparison: NONE })
         };
         // Brick 1 is missing; then blocks 5, 9 coded are found at time 40.
         for brick in [0, 2, 3] {
@@ -956,10 +992,10 @@ fn a_block_write_names_no_bricks() {
             compare(volume, &mut c, &event, &mut tally);
         }
         assert_eq!((c.lent.bytes[PHASE], c.lent.numbers[ROUND], &c.stripe[..]), (WRITE, 3, &stored[..]));
-        assert_eq!(c.lent.bytes[BRICKS..], named);
+        assert_eq!(c.lent.bytes[BRICKS..COMPARISON], named);
         for other in others {
             let mut broken = c.clone();
-            broken.lent.bytes[BRICKS..].copy_from_slice(&other);
+            broken.lent.bytes[BRICKS..COMPARISON].copy_from_slice(&other);
             let reply = answer(&c, 0, 0, None);
             let block = vec![0];
             for event in [reply, Event::Crash, Event::Read(1, 9, 0), Event::ReadBlock(1, 9, 0), Event::WriteBlock(1, 9, 0, block)] {
@@ -1034,14 +1070,19 @@ fn refused_in_order() {
         assert_eq!(refused(good, &busy, Event::WriteBlock(stripe, 0, 1, vec![0])), 9);
     }
     // Of brick 3, which is no target.
-    let reply = |stripe: u64, kind: u8| {
-        Event::Reply(Reply { kind, brick: 3, stripe, time: LAST_COUNT * 16 + 15, round: 1, yes: true, found: 0, block: None })
+    let said = |stripe: u64, kind: u8, comparison: u8| {
+        let time = LAST_COUNT * 16 + 15;
+        Event::Reply(Reply { kind, brick: 3, stripe, time, round: 1, yes: true, found: 0, block: None, comparison })
     };
+    let reply = |stripe: u64, kind: u8| said(stripe, kind, NONE);
     for (volume, c, stripe, _, number) in rows {
         assert_eq!(refused(volume, c, reply(stripe, 9)), number);
     }
     assert_eq!(refused(good, &broken, reply(2, 9)), 6);
     assert_eq!(refused(good, &running, reply(2, 9)), 10);
+    // A comparison in a yes, which is of another stripe too.
+    assert_eq!(refused(good, &broken, said(2, READ, PROMISE)), 6);
+    assert_eq!(refused(good, &running, said(2, READ, PROMISE)), 10);
     // Of another stripe than the running operation's: not counted; of its own it is.
     assert_eq!(refused(good, &running, reply(2, READ)), 11);
     assert_eq!(refused(good, &running, reply(0, READ)), 11);
@@ -1057,6 +1098,106 @@ fn refused_in_order() {
     idle.lent.numbers[STRIPE] = 1;
     assert_eq!(refused(good, &idle, Event::Crash), 6);
     assert_eq!(refused(good, &idle, Event::Read(1, 0, 0)), 6);
+}
+
+/// A coordinator in each kind of round, the Write round of a write and that of a recovered read.
+fn in_every_round(volume: Volume, rng: &mut Rng, tally: &mut Tally) -> Vec<Coordinator> {
+    let Shape { n, m, size } = volume.shape;
+    let q = quorum(n, m).unwrap();
+    let mut all = Vec::new();
+    for begin in [
+        Event::Read(1, 5, 0),
+        Event::Write(1, 5, rng.bytes(volume.shape.data_len())),
+        Event::WriteBlock(1, 5, 0, rng.bytes(size as usize)),
+    ] {
+        let mut c = fresh(volume, 3, rng);
+        compare(volume, &mut c, &begin, tally);
+        all.push(c.clone());
+        // The read is told no, then finds zeros.
+        while c.lent.running() {
+            let (kind, round) = (c.lent.bytes[PHASE], c.lent.numbers[ROUND]);
+            let yes = kind != READ;
+            for brick in 0..q {
+                let holds = kind == ORDER_READ || kind == ORDER_BLOCK && brick == 0;
+                let (block, comparison) = (holds.then(|| vec![0; size as usize]), if yes { NONE } else { PROMISE });
+                let reply = Reply { kind, brick, stripe: 1, time: 83, round, yes, found: 0, block, comparison };
+                compare(volume, &mut c, &Event::Reply(reply), tally);
+            }
+            if c.lent.running() {
+                all.push(c.clone());
+            }
+        }
+    }
+    let rounds: Vec<(u8, u64)> = all.iter().map(|c| (c.lent.bytes[PHASE], c.lent.numbers[ROUND])).collect();
+    assert_eq!(rounds, [(READ, 1), (ORDER_READ, 2), (WRITE, 3), (ORDER, 1), (WRITE, 2), (ORDER_BLOCK, 1), (MODIFY, 2)]);
+    all
+}
+
+/// Every number as the comparison of a yes and of a no, in each kind of round: in a reply it is counted or refused by 10, in a record,
+/// counted or not, it stands or is refused by 6.
+#[test]
+fn every_comparison_in_replies_and_records() {
+    let mut rng = Rng::printed(40);
+    let mut tally = Tally::default();
+    let volume = Volume::new(5, 3, 2, 2);
+    for c in in_every_round(volume, &mut rng, &mut tally) {
+        let (kind, round) = (c.lent.bytes[PHASE], c.lent.numbers[ROUND]);
+        // Brick 4 is no target, and holds no block that is written; an Order-and-read may find none.
+        let reply = |yes: bool, comparison: u8| {
+            Event::Reply(Reply { kind, brick: 4, stripe: 1, time: 83, round, yes, found: 0, block: None, comparison })
+        };
+        for comparison in 0..=255 {
+            for yes in [true, false] {
+                let fits = if yes { comparison == NONE } else { may_say(kind, comparison) };
+                let mut called = c.clone();
+                compare(volume, &mut called, &reply(yes, comparison), &mut tally);
+                assert_eq!(called != c, fits, "kind {kind}, yes {yes}, comparison {comparison}");
+                for counted in [true, false] {
+                    let mut kept = c.clone();
+                    let bytes = &mut kept.lent.bytes;
+                    (bytes[COUNTED + 4], bytes[GRANTED + 4]) = (u8::from(counted), u8::from(counted && yes));
+                    bytes[COMPARISON + 4] = comparison;
+                    let sound = if counted { fits } else { comparison == NONE };
+                    for event in [Event::Crash, Event::Read(1, 9, 0), reply(true, NONE)] {
+                        let refusal = judged(volume, &kept, &event).err();
+                        assert_eq!(refusal == Some(6), !sound, "kind {kind}, yes {yes}, comparison {comparison}");
+                        compare(volume, &mut kept.clone(), &event, &mut tally);
+                    }
+                }
+            }
+        }
+    }
+    println!("{:?}", tally.0);
+    tally.expect(3000, &["refusal 6", "refusal 10"]);
+    tally.expect(10, &["waits", "block waits", "cut", "block cut"]);
+}
+
+/// Every answer of three bricks to the rounds of a set of four with m 2, by comparisons: the letters of all aborts.
+#[test]
+fn letters_of_every_answer() {
+    let mut rng = Rng::printed(44);
+    let mut tally = Tally::default();
+    let volume = Volume::new(4, 2, 1, 2);
+    for begun in in_every_round(volume, &mut rng, &mut tally) {
+        let (kind, round) = (begun.lent.bytes[PHASE], begun.lent.numbers[ROUND]);
+        for code in 0..64 {
+            let said = [code % 4, code / 4 % 4, code / 16];
+            if said.iter().any(|&said| said != NONE && !may_say(kind, said)) {
+                continue;
+            }
+            let mut c = begun.clone();
+            for (brick, comparison) in [3, 0, 2].into_iter().zip(said) {
+                let yes = comparison == NONE;
+                let holds = yes && (kind == ORDER_READ || brick == 0 && [READ, ORDER_BLOCK].contains(&kind));
+                let reply = Reply { kind, brick, stripe: 1, time: 83, round, yes, found: 0, block: holds.then(|| vec![0]), comparison };
+                compare(volume, &mut c, &Event::Reply(reply), &mut tally);
+            }
+        }
+    }
+    println!("{:?}", tally.0);
+    tally.expect(7, &["letter G", "block letter G"]);
+    tally.expect(20, &["letter O", "block letter O", "letter W", "block letter W"]);
+    tally.expect(1, &["letter S", "letter H", "block letter S"]);
 }
 
 /// The same event where one lent buffer has another length, or at other settings.
@@ -1123,11 +1264,16 @@ fn damaged_records() {
                     damaged.lent.bytes[place - record::NUMBERS] = values[rng.below(11) as usize];
                 }
             }
+            let brick = place.checked_sub(record::NUMBERS + COMPARISON);
+            if brick.is_some_and(|b| c.lent.bytes[COUNTED + b] == 1 && c.lent.bytes[GRANTED + b] == 0) {
+                tally.add("what a counted no said", 1);
+            }
             let event = some_event(volume, &c, &stored, &mut rng);
             compare(volume, &mut damaged, &event, &mut tally);
         }
     }
     println!("{:?}", tally.0);
+    tally.expect(50, &["what a counted no said"]);
     tally.expect(200, &["refusal 3", "refusal 6", "refusal 10", "refusal 11", "waits"]);
     tally.expect(20, &["recovery round 2", "write round 2", "written", "read in one round", "cut"]);
     tally.expect(20, &["block recovery round 2", "block modifies", "block written by Modify", "block read in one round", "block cut"]);

@@ -10,8 +10,12 @@ fn line_is_known(line: &str) -> bool {
     let words: Vec<&str> = line.split(' ').collect();
     match words.as_slice() {
         ["refused", number] => ["1", "3", "7", "8", "9", "11", "12"].contains(number),
-        [_, "write", _, end] => ["ok", "abort", "cut"].contains(end),
-        [_, "read", _, end] => *end == "abort" || *end == "cut" || end.len() % 2 == 0,
+        [_, _, _, "C", end] => *end == "cut",
+        [_, _, _, "O" | "G" | "W", end] => *end == "abort",
+        [_, "write", _, "S", end] => *end == "ok",
+        [_, "read", _, "F" | "H" | "L", end] => {
+            end.len() % 2 == 0 && end.bytes().all(|byte| byte.is_ascii_hexdigit())
+        }
         _ => false,
     }
 }
@@ -32,6 +36,24 @@ fn random_scripts_print_known_lines() {
     }
     println!("{oks} writes and {stripes} reads finished");
     assert!(oks > 200 && stripes > 200);
+}
+
+/// The scripts that the program is compared on show every letter but X, which none leads to.
+#[test]
+fn mixed_scripts_show_the_letters() {
+    let mut rng = Rng::printed(9);
+    let mut tally = Tally::default();
+    for _ in 0..3000 {
+        let printed = String::from_utf8(play(&script::mixed(&mut rng).1)).unwrap();
+        for line in printed.lines() {
+            assert!(line_is_known(line), "{line}");
+            if let [_, _, _, letter, _] = line.split(' ').collect::<Vec<_>>()[..] {
+                tally.add(letter, 1);
+            }
+        }
+    }
+    println!("{:?}", tally.0);
+    tally.expect(25, &["F", "H", "L", "S", "O", "G", "W", "C"]);
 }
 
 /// Bytes with a few changed, lost or doubled: anything may come in.

@@ -77,7 +77,7 @@ abbrev pub bytesLength : ℕ
 bytesLength = lastMessage * rowBytes
 
 -- the places in a row of numbers, those behind them are free; a message has its max where a reply has the time found, and a message alone
--- has an old time and a data block (E2)
+-- has an old time and a data block (E2), a reply alone a comparison (E5)
 abbrev pub tagPlace : ℕ
 tagPlace = 0
 
@@ -113,6 +113,9 @@ oldTimePlace = 9
 
 abbrev pub dataBlockPlace : ℕ
 dataBlockPlace = 10
+
+abbrev pub comparisonPlace : ℕ
+comparisonPlace = 11
 
 -- what the tag says
 abbrev pub messageTag : ℕ

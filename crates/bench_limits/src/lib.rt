@@ -69,6 +69,8 @@ pub const OLD_TIME_PLACE: usize = 9;
 
 pub const DATA_BLOCK_PLACE: usize = 10;
 
+pub const COMPARISON_PLACE: usize = 11;
+
 pub const MESSAGE_TAG: u64 = 0;
 
 pub const REPLY_TAG: u64 = 1;

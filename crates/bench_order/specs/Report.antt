@@ -1,5 +1,5 @@
 -- Document 01, "The bench": "It prints per ended operation: coordinator, kind, time, then ok, the stripe .., abort or cut; per refusal, `refused`
--- and the number, and plays on." Here all that is printed is made from the run alone, and from the refused parts.
+-- and the number, and plays on." E5: the letter stands after the time. Here all that is printed is made from the run alone, and from the refused parts.
 use mathlib.Core.Path.{_≡_}
 use mathlib.Core.Bool.{cond}
 use mathlib.Core.List.{List, [], _∷_, _++_}
@@ -9,6 +9,7 @@ use Rattle.settings.specs.declared.Settings.{Settings}
 use Rattle.coord_record.specs.Records.{idleKind, readingKind, writingKind}
 use Rattle.order.specs.Claim.{Blocks, Action, read, write, readBlock, writeBlock, Seen, began, ended}
 use Rattle.register.specs.Runs.{plain, World, Event, Moved, step, nextMoved}
+use Rattle.register.specs.RunLetters.{letterAt}
 use Rattle.bench_parse.specs.Lines.{Line, setLine, writeLine, readLine, carryLine, crashLine, downLine, upLine, noLine, reads}
 use Rattle.bench_print.specs.Printing.{refusedText}
 use Rattle.bench_rules.specs.Play.{Played, refuses, passes, happens, carried, plays}
@@ -29,12 +30,16 @@ kindIn s [] time = idleKind
 kindIn s (began other action ∷ l) time = cond (eqb other time) (kindOf action) (kindIn s l time)
 kindIn s (ended other how ∷ l) time = kindIn s l time
 
--- The lines of what is seen now, after what was seen before: "A time is count × 16 + coordinator number", so the coordinator is in the time,
--- and the kind is that of the operation's beginning.
-unfoldable pub reported : (s : Settings) → List (Seen (plain s)) → List (Seen (plain s)) → List ℕ
-reported s before [] = []
-reported s before (began time action ∷ l) = reported s before l
-reported s before (ended time how ∷ l) = toldEnd s (coordinatorOf time) (kindIn s before time) time how ++ reported s before l
+-- The lines of what is seen now, with the letter of the event, after what was seen before: "A time is count × 16 + coordinator number", so the
+-- coordinator is in the time, and the kind is that of the operation's beginning.
+unfoldable pub reported : (s : Settings) → List (Seen (plain s)) → (letter : ℕ) → List (Seen (plain s)) → List ℕ
+reported s before letter [] = []
+reported s before letter (began time action ∷ l) = reported s before letter l
+reported s before letter (ended time how ∷ l) = toldEnd s (coordinatorOf time) (kindIn s before time) time letter how ++ reported s before letter l
+
+-- what is reported of an event of the run, on the bench's one stripe
+abbrev pub reportedAt : (s : Settings) → Moved s → Event → List ℕ
+reportedAt s r e = reported s (r .seen benchStripe) (letterAt s (r .world) e) (step s (r .world) e .seen benchStripe)
 
 -- "A line, or one carried number": a part of what is played on a set, which is accepted or refused by itself.
 pub data Part : Type 0 where
@@ -77,9 +82,9 @@ pub data Reports (s : Settings) : Moved s → List Part → List Event → List 
       → Reports s r (part ∷ parts) events (refusedText number ++ text)
   -- the part is this event, and the text is the lines of what is seen at it on the bench's one stripe
   event : {r : Moved s} {part : Part} {parts : List Part} {events : List Event} {text : List ℕ} (e : Event)
-      → playsPart s (r .world) part ≡ happens s (r .world) e (reported s (r .seen benchStripe) (step s (r .world) e .seen benchStripe))
+      → playsPart s (r .world) part ≡ happens s (r .world) e (reportedAt s r e)
       → Reports s (nextMoved s r e) parts events text
-      → Reports s r (part ∷ parts) (e ∷ events) (reported s (r .seen benchStripe) (step s (r .world) e .seen benchStripe) ++ text)
+      → Reports s r (part ∷ parts) (e ∷ events) (reportedAt s r e ++ text)
   -- the part is lost without a word: "carried to a down brick it is lost"
   silence : {r : Moved s} {part : Part} {parts : List Part} {events : List Event} {text : List ℕ}
       → playsPart s (r .world) part ≡ passes (r .world)

@@ -1,4 +1,4 @@
--- Document 01's bench case, from the bytes of its lines to the bytes that are printed: computed.
+-- Document 01's bench case, from the bytes of its lines to the bytes that are printed: computed. E5: "Document 01's case shows C, H, H."
 use mathlib.Core.List.{List, [], _∷_, _++_}
 use Prim.Native.Nat.{ℕ}
 
@@ -40,11 +40,11 @@ worked-input =
 -- what is printed
 unfoldable pub worked-output : List ℕ
 worked-output =
-    -- 0 write 16 cut
-    (48 ∷ 32 ∷ 119 ∷ 114 ∷ 105 ∷ 116 ∷ 101 ∷ 32 ∷ 49 ∷ 54 ∷ 32 ∷ 99 ∷ 117 ∷ 116 ∷ 10 ∷ [])
+    -- 0 write 16 C cut
+    (48 ∷ 32 ∷ 119 ∷ 114 ∷ 105 ∷ 116 ∷ 101 ∷ 32 ∷ 49 ∷ 54 ∷ 32 ∷ 67 ∷ 32 ∷ 99 ∷ 117 ∷ 116 ∷ 10 ∷ [])
     ++
-    -- 1 read 33 00
-    (49 ∷ 32 ∷ 114 ∷ 101 ∷ 97 ∷ 100 ∷ 32 ∷ 51 ∷ 51 ∷ 32 ∷ 48 ∷ 48 ∷ 10 ∷ [])
+    -- 1 read 33 H 00
+    (49 ∷ 32 ∷ 114 ∷ 101 ∷ 97 ∷ 100 ∷ 32 ∷ 51 ∷ 51 ∷ 32 ∷ 72 ∷ 32 ∷ 48 ∷ 48 ∷ 10 ∷ [])
     ++
-    -- 1 read 49 00
-    (49 ∷ 32 ∷ 114 ∷ 101 ∷ 97 ∷ 100 ∷ 32 ∷ 52 ∷ 57 ∷ 32 ∷ 48 ∷ 48 ∷ 10 ∷ [])
+    -- 1 read 49 H 00
+    (49 ∷ 32 ∷ 114 ∷ 101 ∷ 97 ∷ 100 ∷ 32 ∷ 52 ∷ 57 ∷ 32 ∷ 72 ∷ 32 ∷ 48 ∷ 48 ∷ 10 ∷ [])

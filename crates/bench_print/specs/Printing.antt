@@ -1,5 +1,6 @@
 -- Document 01, "The bench": "It prints per ended operation: coordinator, kind, time, then ok, the stripe in lower-case hexadecimal,
--- abort or cut; per refusal, `refused` and the number". A text is the list of its bytes.
+-- abort or cut; per refusal, `refused` and the number". Document 02, E5: "The letter stands after the time in each bench line". A text is the
+-- list of its bytes.
 use mathlib.Core.Bool.{Bool, false, cond}
 use mathlib.Core.List.{List, [], _∷_, _++_}
 use Prim.Native.Nat.{ℕ, zero, suc, _+_, _/_, _%_}
@@ -80,9 +81,9 @@ endWord what stripe =
     (cond (eqb what readSeen) (hexText stripe) (cond (eqb what abortedSeen) abortWord cutWord))
 
 -- the line of an operation that ended
-unfoldable pub lineText : ℕ → ℕ → ℕ → ℕ → List ℕ → List ℕ
-lineText c kind time what stripe =
-    decimal c ++ space ∷ kindWord kind ++ space ∷ decimal time ++ space ∷ endWord what stripe ++ newline ∷ []
+unfoldable pub lineText : (c kind time letter what : ℕ) → List ℕ → List ℕ
+lineText c kind time letter what stripe =
+    decimal c ++ space ∷ kindWord kind ++ space ∷ decimal time ++ space ∷ letter ∷ space ∷ endWord what stripe ++ newline ∷ []
 
 -- whether what is seen is the end of an operation: neither nothing nor a beginning
 unfoldable pub isEnd : ℕ → Bool
@@ -90,7 +91,7 @@ isEnd what = cond (ltb what okSeen) false (leb what cutSeen)
 
 -- what is printed at the coordinator c
 unfoldable pub endedText : ℕ → Notice → List ℕ → List ℕ
-endedText c seen stripe = cond (isEnd (seen .what)) (lineText c (seen .kind) (seen .time) (seen .what) stripe) []
+endedText c seen stripe = cond (isEnd (seen .what)) (lineText c (seen .kind) (seen .time) (seen .letter) (seen .what) stripe) []
 
 -- a list with a text in place of what it had from a place on
 abbrev pub printedInto : ℕ → List ℕ → List ℕ → List ℕ

@@ -6,7 +6,7 @@ ghost use Prim.Native.Nat.{_+_, _≤_, _<_};
 ghost use lib.ListN.{length};
 ghost use Rattle.bench_print.specs.Printing.{space, newline, digit, decimal, hexDigit, hexText, refusedText, kindWord, endWord, lineText, endedText};
 ghost use Rattle.bench_print.specs.Printing.{printedInto};
-ghost use Rattle.bench_print.specs.Workers.{numberRoom, kindRoom, endRoom, endedRoom, PrintedAt};
+ghost use Rattle.bench_print.specs.Workers.{numberRoom, kindRoom, letterRoom, endRoom, endedRoom, PrintedAt};
 ghost use Rattle.bench_limits.specs.Limits.{stripeRoom, lineRoom};
 use coord_apply::ABORTED;
 use coord_apply::CUT;
@@ -118,6 +118,16 @@ fn put_kind(kind: u8, at: usize, out: &mut [u8]) -> usize
     put_word(b"write ", at, out)
 }
 
+// A letter and a space.
+fn put_letter(letter: u8, at: usize, out: &mut [u8]) -> usize
+    requires { ⌜ at + letterRoom ≤ length (now out) ⌝ }
+    ensures { λ r. ⌜ PrintedAt at (letter ∷ space ∷ []) (now (out .entry)) (now (out .exit)) r ⌝ }
+    ensures { λ r. ⌜ r ≤ at + letterRoom ⌝ }
+{
+    let to = put_byte(letter, at, out);
+    put_byte(b' ', to, out)
+}
+
 // How an operation ended, and the end of the line.
 fn put_end(what: u8, stripe: &[u8], at: usize, out: &mut [u8]) -> usize
     requires { ⌜ (at + endRoom ≤ length (now out)) × (length (now stripe) ≤ stripeRoom) ⌝ }
@@ -142,19 +152,21 @@ fn put_line(
     c: usize,
     kind: u8,
     time: u64,
+    letter: u8,
     what: u8,
     stripe: &[u8],
     at: usize,
     out: &mut [u8],
 ) -> usize
     requires { ⌜ (at + lineRoom ≤ length (now out)) × (length (now stripe) ≤ stripeRoom) ⌝ }
-    ensures { λ r. ⌜ PrintedAt at (lineText c kind time what (now (stripe .entry))) (now (out .entry)) (now (out .exit)) r ⌝ }
+    ensures { λ r. ⌜ PrintedAt at (lineText c kind time letter what (now (stripe .entry))) (now (out .entry)) (now (out .exit)) r ⌝ }
     ensures { λ r. ⌜ r ≤ at + endedRoom ⌝ }
 {
     let first = put_spaced(c as u64, at, out);
     let second = put_kind(kind, first, out);
     let third = put_spaced(time, second, out);
-    put_end(what, stripe, third, out)
+    let fourth = put_letter(letter, third, out);
+    put_end(what, stripe, fourth, out)
 }
 
 // What is printed of what is seen at the coordinator c: nothing, or the line of the operation that ended.
@@ -171,5 +183,5 @@ pub fn put_ended(c: usize, seen: Notice, stripe: &[u8], at: usize, out: &mut [u8
     if CUT < what {
         return at;
     }
-    put_line(c, seen.kind, seen.time, what, stripe, at, out)
+    put_line(c, seen.kind, seen.time, seen.letter, what, stripe, at, out)
 }

@@ -8,7 +8,7 @@ use Rattle.message.specs.declared.Message.{Message}
 use Rattle.message.specs.declared.Reply.{Reply}
 use Rattle.register.specs.Runs.{Item, message, reply}
 use Rattle.bench_limits.specs.Limits.{rowNumbers, rowBytes, tagPlace, brickPlace, kindPlace, timePlace, roundPlace, maxPlace}
-use Rattle.bench_limits.specs.Limits.{foundPlace, yesPlace, heldPlace, stripePlace, oldTimePlace, dataBlockPlace}
+use Rattle.bench_limits.specs.Limits.{foundPlace, yesPlace, heldPlace, stripePlace, oldTimePlace, dataBlockPlace, comparisonPlace}
 use Rattle.bench_limits.specs.Limits.{messageTag, flagCount, blockPlace, oldBlockPlace}
 
 -- number i of row k
@@ -57,6 +57,7 @@ replyAt numbers k =
       yes = eqb (numberAt numbers k yesPlace) 1;
       found = numberAt numbers k foundPlace;
       held = eqb (numberAt numbers k heldPlace) 1;
+      comparison = numberAt numbers k comparisonPlace % 256;
     }
 
 -- the item that row k stands for

@@ -15,16 +15,16 @@ use Rattle.bench_sent.specs.Sent.{itemsOf}
 use Rattle.bench_limits.specs.Limits.{rowNumbers, rowBytes, messageTag, replyTag, flagCount, blockPlace, oldBlockPlace}
 
 -- a row's numbers, each at its place; the other places are free, and 0
-abbrev pub sentRow : (tag brick kind time round max agreed held stripe old block : ℕ) → List ℕ
-sentRow tag brick kind time round max agreed held stripe old block =
-    tag ∷ brick ∷ kind ∷ time ∷ round ∷ max ∷ agreed ∷ held ∷ stripe ∷ old ∷ block ∷ 0 ∷ 0 ∷ 0 ∷ 0 ∷ 0 ∷ []
+abbrev pub sentRow : (tag brick kind time round max agreed held stripe old block comparison : ℕ) → List ℕ
+sentRow tag brick kind time round max agreed held stripe old block comparison =
+    tag ∷ brick ∷ kind ∷ time ∷ round ∷ max ∷ agreed ∷ held ∷ stripe ∷ old ∷ block ∷ comparison ∷ 0 ∷ 0 ∷ 0 ∷ 0 ∷ []
 
--- the numbers of a message to a brick, and of a reply, which has no old time and names no block
+-- the numbers of a message to a brick, which has no comparison, and of a reply, which has no old time and names no block
 unfoldable pub messageRow : ℕ → Message → List ℕ
-messageRow brick msg = sentRow messageTag brick (msg .kind) (msg .time) (msg .round) (msg .max) 0 0 (msg .stripe) (msg .old) (msg .block)
+messageRow brick msg = sentRow messageTag brick (msg .kind) (msg .time) (msg .round) (msg .max) 0 0 (msg .stripe) (msg .old) (msg .block) 0
 
 unfoldable pub replyRow : Reply → List ℕ
-replyRow r = sentRow replyTag (r .brick) (r .kind) (r .time) (r .round) (r .found) (one-if (r .yes)) (one-if (r .held)) (r .stripe) 0 0
+replyRow r = sentRow replyTag (r .brick) (r .kind) (r .time) (r .round) (r .found) (one-if (r .yes)) (one-if (r .held)) (r .stripe) 0 0 (r .comparison)
 
 -- the numbers with another row k; the bytes with other flags and another block in row k (what is behind a shorter block stays)
 unfoldable pub numbersWith : ℕ → List ℕ → List ℕ → List ℕ

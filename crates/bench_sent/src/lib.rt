@@ -9,9 +9,10 @@ ghost use Rattle.settings.specs.Count.{one-if};
 ghost use Rattle.bench_sent.specs.Sent.{numberAt, isReply, flagsAt, messageAt, replyAt};
 ghost use Rattle.bench_sent.specs.Workers.{Added, Coded, Sends, messageRow, replyRow, numbersWith, bytesWith, oldWith, noFlags};
 ghost use Rattle.bench_sent.specs.Workers.{One};
-ghost use Rattle.bench_limits.specs.Limits.{benchSize, rowNumbers, rowBytes, brickPlace, kindPlace, stripePlace, dataBlockPlace};
+ghost use Rattle.bench_limits.specs.Limits.{benchSize, rowNumbers, rowBytes, brickPlace, kindPlace, stripePlace, dataBlockPlace, comparisonPlace};
 use bench_limits::BLOCK_PLACE;
 use bench_limits::BRICK_PLACE;
+use bench_limits::COMPARISON_PLACE;
 use bench_limits::DATA_BLOCK_PLACE;
 use bench_limits::FLAGS;
 use bench_limits::FOUND_PLACE;
@@ -125,6 +126,7 @@ pub fn put_reply(k: usize, r: Reply, block: &[u8], numbers: &mut [u64], bytes: &
     let stripe = r.stripe as u64;
     let agreed = flag(r.yes);
     let held = flag(r.held);
+    let comparison = wide(r.comparison);
     let row = [
         REPLY_TAG,
         from,
@@ -137,7 +139,7 @@ pub fn put_reply(k: usize, r: Reply, block: &[u8], numbers: &mut [u64], bytes: &
         stripe,
         0,
         0,
-        0,
+        comparison,
         0,
         0,
         0,
@@ -197,6 +199,15 @@ fn kind_at(numbers: &[u64], k: usize) -> u8
     (kind % 256) as u8
 }
 
+// The comparison of row k, a reply.
+fn comparison_at(numbers: &[u64], k: usize) -> u8
+    requires { ⌜ k * rowNumbers + rowNumbers ≤ length (now numbers) ⌝ }
+    ensures { λ r. ⌜ r ≡ numberAt (now (numbers .entry)) k comparisonPlace % 256 ⌝ }
+{
+    let comparison = number_at(numbers, k, COMPARISON_PLACE);
+    (comparison % 256) as u8
+}
+
 // The target flags of row k.
 fn flags_at(bytes: &[u8], k: usize) -> [u8; FLAGS]
     requires { ⌜ k * rowBytes + rowBytes ≤ length (now bytes) ⌝ }
@@ -247,6 +258,7 @@ pub fn reply_at(numbers: &[u64], k: usize) -> Reply
     let found = number_at(numbers, k, FOUND_PLACE);
     let agreed = number_at(numbers, k, YES_PLACE) == 1;
     let held = number_at(numbers, k, HELD_PLACE) == 1;
+    let comparison = comparison_at(numbers, k);
     Reply {
         kind: kind,
         brick: brick,
@@ -256,6 +268,7 @@ pub fn reply_at(numbers: &[u64], k: usize) -> Reply
         yes: agreed,
         found: found,
         held: held,
+        comparison: comparison,
     }
 }
 

@@ -7,6 +7,7 @@ ghost use Rattle.message.specs.Kinds.{modifyKind};
 ghost use Prim.Native.Nat.{_≤_, _<_};
 ghost use Rattle.settings.specs.Ranges.{maxStripes};
 ghost use Rattle.brick_log.specs.Workers.{LogReady, Ahead};
+use brick_answer::comparison_of;
 use brick_log::Known;
 use brick_log::Plan;
 use brick_log::change;
@@ -19,6 +20,7 @@ use image::number_of;
 use image::open;
 use image_block::BLOCK_BYTES;
 use message::Message;
+use message::NO_COMPARISON;
 use message::Reply;
 use message::TRIM;
 use settings::BAD_LENGTH;
@@ -60,16 +62,18 @@ fn act(
     }
     let place = p.place;
     give(image, s.size, place, out);
-    let granted = change(s, brick, image, k, msg, block, old);
+    let said = comparison_of(s.capacity, k.count, k.newest, k.promise, msg);
+    change(s, brick, image, k, msg, said, block, old);
     Given::Answered(Reply {
         kind: msg.kind,
         brick: brick,
         stripe: msg.stripe,
         time: msg.time,
         round: msg.round,
-        yes: granted,
+        yes: said == NO_COMPARISON,
         found: p.found,
         held: place != 0,
+        comparison: said,
     })
 }
 

@@ -2,39 +2,28 @@
 use mathlib.Core.Bool.{Bool, cond, not, _&&_}
 use mathlib.Core.List.{List, [], _∷_}
 use Prim.Native.Nat.{ℕ, zero, suc, _-_}
-use lib.Dec.{leb, ltb, eqb}
+use lib.Dec.{ltb, eqb}
 use Rattle.settings.specs.declared.Settings.{Settings}
 use Rattle.message.specs.Flags.{member}
 use Rattle.message.specs.Kinds.{readKind, orderReadKind, orderBlockKind, writeKind, modifyKind, trimKind}
 use Rattle.message.specs.declared.Message.{Message}
 use Rattle.message.specs.declared.Reply.{Reply}
+use Rattle.brick_answer.specs.Comparisons.{aboveNewest, notBelowPromise, hasFree, noneSaysNo, firstNo}
 use Rattle.image.specs.Brick.{Brick, LogEntry, entryCount, timeAt, meansAt, newest}
 use Rattle.image_write.specs.Saving.{withPromise, appended, blockEntry, markEntry, lowestHeld}
 use Rattle.erasure.specs.Recoding.{recodedBlock}
 
--- the three comparisons of an answer: "t is above newest",
-unfoldable pub aboveNewest : Brick → ℕ → Bool
-aboveNewest x t = ltb (newest x) t
-
--- "not below the promise",
-unfoldable pub notBelowPromise : Brick → ℕ → Bool
-notBelowPromise x t = leb (x .promise) t
-
--- "and the log has a free entry"
-unfoldable pub hasFree : Settings → Brick → Bool
-hasFree s x = ltb (entryCount x) (s .capacity)
-
 -- "Read: yes if newest is not below the promise."
 unfoldable pub readYes : Brick → Bool
-readYes x = notBelowPromise x (newest x)
+readYes x = notBelowPromise (x .promise) (newest x)
 
 -- "Order t: yes if t is above newest and not below the promise"
 unfoldable pub orderYes : Brick → ℕ → Bool
-orderYes x t = aboveNewest x t && notBelowPromise x t
+orderYes x t = aboveNewest (newest x) t && notBelowPromise (x .promise) t
 
 -- "Write t, block: yes if t is above newest, not below the promise, and the log has a free entry"
 unfoldable pub writeYes : Settings → Brick → ℕ → Bool
-writeYes s x t = orderYes x t && hasFree s x
+writeYes s x t = orderYes x t && hasFree (s .capacity) (entryCount x)
 
 -- E2: "A brick says yes if its newest is the old time, its own time is above that and not below the promise, and an entry is free."
 unfoldable pub modifyYes : Settings → Brick → (t old : ℕ) → Bool
@@ -100,11 +89,13 @@ foundFor brick x msg =
     cond (eqb (msg .kind) readKind) (newest x)
     (cond (eqb (msg .kind) orderBlockKind) (cond (orderYes x (msg .time)) (newest x) 0) (timeFor x (placeFor brick x msg)))
 
+-- yes: none of the three comparisons says no
 unfoldable pub yesTo : Settings → Brick → Message → Bool
-yesTo s x msg =
-    cond (eqb (msg .kind) readKind) (readYes x)
-    (cond (eqb (msg .kind) writeKind) (writeYes s x (msg .time))
-    (cond (eqb (msg .kind) modifyKind) (modifyYes s x (msg .time) (msg .old)) (orderYes x (msg .time))))
+yesTo s x msg = noneSaysNo (s .capacity) (entryCount x) (newest x) (x .promise) msg
+
+-- E5: "A brick's reply gains the comparison that said no"
+unfoldable pub comparisonTo : Settings → Brick → Message → ℕ
+comparisonTo s x msg = firstNo (s .capacity) (entryCount x) (newest x) (x .promise) msg
 
 unfoldable pub replyTo : Settings → ℕ → Brick → Message → Reply
 replyTo s brick x msg =
@@ -117,6 +108,7 @@ replyTo s brick x msg =
       yes = yesTo s x msg;
       found = foundFor brick x msg;
       held = not (eqb (placeFor brick x msg) 0);
+      comparison = comparisonTo s x msg;
     }
 
 -- the brick after a message, with its block and, for Modify, the old block

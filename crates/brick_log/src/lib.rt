@@ -11,8 +11,8 @@ ghost use lib.ListN.{length};
 ghost use Rattle.image.specs.Image.{imageOf};
 ghost use Rattle.image.specs.Parse.{brickIn};
 ghost use Rattle.image_write.specs.Workers.{without, slotOf};
-ghost use Rattle.brick_log.specs.BrickRules.{orderYes, orderedIfYes, writeYes, writtenIfYes, yesTo, brickAfter};
-ghost use Rattle.brick_log.specs.BrickRules.{newestBlock, modifyYes, modifiedEntry, modifiedIfYes};
+ghost use Rattle.image_write.specs.Saving.{withPromise, appended, blockEntry};
+ghost use Rattle.brick_log.specs.BrickRules.{newestBlock, modifiedEntry, comparisonTo, brickAfter};
 ghost use Rattle.byte_lists.specs.Lists.{put};
 ghost use Rattle.erasure.specs.Recoding.{recodedBlock};
 ghost use Rattle.image_block.specs.Block.{blockBytes, entryBlock};
@@ -32,6 +32,7 @@ use image_write::write_head;
 use image_write::write_mark;
 use message::MODIFY;
 use message::Message;
+use message::NO_COMPARISON;
 use message::ORDER_BLOCK;
 use message::ORDER_READ;
 use message::READ;
@@ -223,45 +224,23 @@ pub fn plan_for(log: [Entry; MAX_CAPACITY], k: Known, msg: Message, brick: usize
     reply_plan(0, 0)
 }
 
-// The head with another promise, where that is granted.
-fn order(s: Settings, brick: usize, image: &mut [u8], k: Known, time: u64) -> bool
+// The head with another promise.
+fn order(s: Settings, brick: usize, image: &mut [u8], k: Known, time: u64)
     requires { ⌜ LogReady s brick (now image) k ⌝ }
-    ensures { λ r. ⌜ r ≡ orderYes (brickIn s (now (image .entry))) time ⌝ }
-    ensures { λ r. ⌜ now (image .exit) ≡ imageOf s brick (orderedIfYes (brickIn s (now (image .entry))) time) ⌝ }
+    ensures { λ _. ⌜ now (image .exit) ≡ imageOf s brick (withPromise (brickIn s (now (image .entry))) time) ⌝ }
 {
-    if order_yes(k.newest, k.promise, time) {} else {
-        return false;
-    }
     write_head(s, brick, image, k.count, time);
-    true
 }
 
-// Whether a store of that time is granted: as an Order, and an entry is free.
-fn store_yes(s: Settings, k: Known, time: u64) -> bool
-    requires { ⌜ k .count ≤ maxCapacity ⌝ }
-    ensures { λ r. ⌜ r ≡ ltb (k .newest) time && leb (k .promise) time && ltb (k .count) (s .capacity) ⌝ }
-{
-    if order_yes(k.newest, k.promise, time) {} else {
-        return false;
-    }
-    let next = k.count + 1;
-    next <= s.capacity
-}
-
-// An entry more, where that is granted.
-fn write(s: Settings, brick: usize, image: &mut [u8], k: Known, time: u64, block: &[u8]) -> bool
+// An entry more.
+fn write(s: Settings, brick: usize, image: &mut [u8], k: Known, time: u64, block: &[u8])
     requires { ⌜ LogReady s brick (now image) k ⌝ }
-    requires { ⌜ length (now block) ≡ s .size ⌝ }
-    ensures { λ r. ⌜ r ≡ writeYes s (brickIn s (now (image .entry))) time ⌝ }
-    ensures { λ r. ⌜ now (image .exit) ≡ imageOf s brick (writtenIfYes s (brickIn s (now (image .entry))) time (now (block .entry))) ⌝ }
+    requires { ⌜ (length (now block) ≡ s .size) × (k .count < s .capacity) ⌝ }
+    ensures { λ _. ⌜ now (image .exit) ≡ imageOf s brick (appended (brickIn s (now (image .entry))) (blockEntry time (now (block .entry)))) ⌝ }
 {
-    if store_yes(s, k, time) {} else {
-        return false;
-    }
     let n = k.count + 1;
     write_entry(image, BLOCK_BYTES * n, time, block);
     write_head(s, brick, image, n, k.promise);
-    true
 }
 
 // A parity brick's entry for Modify: its newest block recoded, in a buffer of that size.
@@ -372,7 +351,7 @@ fn write_modified(
     write_recoded(s, brick, image, k, msg, block, old);
 }
 
-// Modify, where that is granted.
+// Modify.
 fn modify(
     s: Settings,
     brick: usize,
@@ -381,23 +360,16 @@ fn modify(
     msg: Message,
     block: &[u8],
     old: &[u8],
-) -> bool
+)
     requires { ⌜ LogReady s brick (now image) k ⌝ }
     requires { ⌜ (length (now block) ≡ s .size) × (length (now old) ≡ s .size) ⌝ }
-    requires { ⌜ msg .block < s .m ⌝ }
-    ensures { λ r. ⌜ r ≡ modifyYes s (brickIn s (now (image .entry))) (msg .time) (msg .old) ⌝ }
-    ensures { λ r. ⌜ now (image .exit)
-        ≡ imageOf s brick (modifiedIfYes s brick (brickIn s (now (image .entry))) msg (now (block .entry)) (now (old .entry))) ⌝ }
+    requires { ⌜ (msg .block < s .m) × (k .count < s .capacity) ⌝ }
+    ensures { λ _. ⌜ now (image .exit)
+        ≡ imageOf s brick (appended (brickIn s (now (image .entry)))
+        (modifiedEntry s brick (brickIn s (now (image .entry))) msg (now (block .entry)) (now (old .entry)))) ⌝ }
 {
-    if k.newest != msg.old {
-        return false;
-    }
-    if store_yes(s, k, msg.time) {} else {
-        return false;
-    }
     write_modified(s, brick, image, k, msg, block, old);
     write_head(s, brick, image, k.count + 1, k.promise);
-    true
 }
 
 // The entries from number d on, kept; the lowest of them has that time, and gets its block, which stands in block `holder` of the image.
@@ -438,31 +410,36 @@ pub fn give(image: &[u8], size: usize, place: usize, out: &mut [u8])
     store(out, 0, &image[a..e]);
 }
 
-// What a message other than Trim changes.
+// What a message other than Trim changes, by the comparison that said no: nothing, unless none did.
 pub fn change(
     s: Settings,
     brick: usize,
     image: &mut [u8],
     k: Known,
     msg: Message,
+    said: u8,
     block: &[u8],
     old: &[u8],
-) -> bool
+)
     requires { ⌜ LogReady s brick (now image) k ⌝ }
     requires { ⌜ (length (now block) ≡ s .size) × (length (now old) ≡ s .size) ⌝ }
-    requires { ⌜ (msg .kind ≡ trimKind → ⊥) × (msg .kind ≡ modifyKind → msg .block < s .m) ⌝ }
-    ensures { λ r. ⌜ r ≡ yesTo s (brickIn s (now (image .entry))) msg ⌝ }
-    ensures { λ r. ⌜ now (image .exit)
+    requires { ⌜ (msg .kind ≡ trimKind → ⊥) × (msg .kind ≡ modifyKind → msg .block < s .m) × (said ≡ comparisonTo s (brickIn s (now image)) msg) ⌝ }
+    ensures { λ _. ⌜ now (image .exit)
         ≡ imageOf s brick (brickAfter s brick (brickIn s (now (image .entry))) msg (now (block .entry)) (now (old .entry))) ⌝ }
 {
+    if said != NO_COMPARISON {
+        return;
+    }
     if msg.kind == READ {
-        return k.promise <= k.newest;
+        return;
     }
     if msg.kind == WRITE {
-        return write(s, brick, image, k, msg.time, block);
+        write(s, brick, image, k, msg.time, block);
+        return;
     }
     if msg.kind == MODIFY {
-        return modify(s, brick, image, k, msg, block, old);
+        modify(s, brick, image, k, msg, block, old);
+        return;
     }
     order(s, brick, image, k, msg.time)
 }

@@ -4,7 +4,8 @@ use mathlib.Core.List.{List, [], _∷_}
 use Prim.Native.Nat.{ℕ, _+_}
 use lib.Dec.{eqb, ltb}
 use lib.ListN.{take}
-use Rattle.coord_apply.specs.Answers.{Buffered, Broadcast, Went, nothingSeen, beganSeen, okSeen, readSeen, abortedSeen}
+use Rattle.coord_apply.specs.Answers.{Buffered, Broadcast, Went, nothingSeen, beganSeen, okSeen, readSeen, abortedSeen, letterOf}
+use Rattle.coord_letters.specs.Letters.{noLetter}
 use Rattle.coord_record.specs.Records.{writingBlockKind, isReading, onBlock, targetCount, idleWith, nothingCounted, noBricks}
 use Rattle.coord_record.specs.declared.Coordinator.{Coordinator}
 use Rattle.coord_record.specs.declared.Op.{Op}
@@ -87,18 +88,18 @@ modifying size h time =
 unfoldable pub seenBlock : Op → ℕ
 seenBlock op = cond (onBlock (op .kind)) (op .first) 0
 
--- what is seen of an operation
-abbrev pub noticeOf : Op → (what : ℕ) → List ℕ → Notice
-noticeOf op what bricks =
-    record { what = what; kind = op .kind; stripe = op .stripe; time = op .time; block = seenBlock op; bricks = bricks }
+-- what is seen of an operation, with its letter
+abbrev pub noticeOf : Op → (what letter : ℕ) → List ℕ → Notice
+noticeOf op what letter bricks =
+    record { what = what; kind = op .kind; stripe = op .stripe; time = op .time; block = seenBlock op; bricks = bricks; letter = letter }
 
--- the operation ends, and its coordinator is idle
-unfoldable pub ending : Buffered → List ℕ → List Broadcast → ℕ → List ℕ → Went
-ending h stripe sent what bricks =
+-- the operation ends, with its letter, and its coordinator is idle
+unfoldable pub ending : (n : ℕ) → Buffered → List ℕ → List Broadcast → ℕ → List ℕ → Went
+ending n h stripe sent what bricks =
     record {
       next = record { state = idleWith (h .state .geometry) (h .state .clock); blocks = h .blocks; stripe = stripe };
       sent = sent;
-      seen = noticeOf (h .state .op) what bricks;
+      seen = noticeOf (h .state .op) what (letterOf n (h .state .op) (h .state .tally) what) bricks;
     }
 
 -- a write is ok; a read gives the stripe that it stored, or its block, and names the bricks decoded from
@@ -138,16 +139,16 @@ storing n m size h time =
     (codedOf n m size (recoveredStripe n m size h time))
 
 -- "ends it aborted": nothing is sent
-abbrev pub aborting : Buffered → Went
-aborting h = ending h (h .stripe) [] abortedSeen noBricks
+abbrev pub aborting : (n : ℕ) → Buffered → Went
+aborting n h = ending n h (h .stripe) [] abortedSeen noBricks
 
 -- What a decision does.
 unfoldable pub acted : ℕ → ℕ → ℕ → Buffered → Decision → Went
 -- "ends it aborted"
-acted n m size h Abort = aborting h
+acted n m size h Abort = aborting n h
 -- "If all q say yes with one newest time and every target is among them, it decodes." E2: "has brick j as its only target, and names it alone"
 acted n m size h Give =
-    ending h (givenStripe n m size (h .state .op) (h .blocks) (h .stripe)) [] readSeen
+    ending n h (givenStripe n m size (h .state .op) (h .blocks) (h .stripe)) [] readSeen
     (targetRow n (targetCount m (h .state .op .kind)) (h .state .op .first))
 -- "Recovery: Order-and-read with max 2^44 .. With fewer, repeat with max = that time."
 acted n m size h (Look max) = nextRound h orderReadKind max noBricks (h .stripe) []
@@ -157,11 +158,11 @@ acted n m size h Store = nextRound h writeKind 0 noBricks (h .stripe) (codedOf n
 acted n m size h (Modify time) = modifying size h time
 -- "decode and store". E3: "a disagreement ends it aborted"
 acted n m size h (Recover time) =
-    cond (agreeing m size (giversAt n h time) (h .blocks)) (storing n m size h time) (aborting h)
+    cond (agreeing m size (giversAt n h time) (h .blocks)) (storing n m size h time) (aborting n h)
 -- "After a finished Write round, Trim of the operation's time, with that round's number, is sent to all."
 -- E2: "Trim follows a finished Modify round too."
 acted n m size h Finish =
-    ending h (h .stripe) (record { message = trimMessage (h .state .op); blocks = []; old = [] } ∷ []) (finishedSeen (h .state .op)) (h .state .bricks)
+    ending n h (h .stripe) (record { message = trimMessage (h .state .op); blocks = []; old = [] } ∷ []) (finishedSeen (h .state .op)) (h .state .bricks)
 
 -- "The first reply of a brick in a round counts"
 unfoldable pub withTally : Coordinator → Tally → Coordinator
@@ -196,7 +197,7 @@ starting h clock op stripe targets =
             stripe = stripe;
           };
       sent = record { message = roundMessage op 0 targets; blocks = []; old = [] } ∷ [];
-      seen = noticeOf op beganSeen noBricks;
+      seen = noticeOf op beganSeen noLetter noBricks;
     }
 
 unfoldable pub buffered : Coordinator → List ℕ → List ℕ → Buffered

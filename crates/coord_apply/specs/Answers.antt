@@ -5,7 +5,10 @@ use Prim.Native.Nat.{ℕ, zero, suc}
 use lib.Dec.{eqb, leb}
 use lib.ListN.{length}
 use Rattle.coord_record.specs.Records.{idleKind, noBricks}
+use Rattle.coord_letters.specs.Letters.{noLetter, letterS, letterC, readLetter, abortLetter}
 use Rattle.coord_record.specs.declared.Coordinator.{Coordinator}
+use Rattle.coord_record.specs.declared.Op.{Op}
+use Rattle.coord_record.specs.declared.Tally.{Tally}
 use Rattle.coord_apply.specs.declared.Answer.{Answer}
 use Rattle.coord_apply.specs.declared.Notice.{Notice}
 use Rattle.message.specs.Kinds.{writeKind}
@@ -56,8 +59,17 @@ abortedSeen = 4
 abbrev pub cutSeen : ℕ
 cutSeen = 5
 
+-- E5: the letter of what is seen of an operation, by how it ended and where it stood. S with ok; F, H or L with what was read; O, G, W or X
+-- with an abort; C with a cut; none with a beginning.
+unfoldable pub letterOf : (n : ℕ) → Op → Tally → (what : ℕ) → ℕ
+letterOf n op t what =
+    cond (eqb what okSeen) letterS
+    (cond (eqb what readSeen) (readLetter op)
+    (cond (eqb what abortedSeen) (abortLetter n op t)
+    (cond (eqb what cutSeen) letterC noLetter)))
+
 unfoldable pub nothingSeen : Notice
-nothingSeen = record { what = noneSeen; kind = idleKind; stripe = 0; time = 0; block = 0; bricks = noBricks }
+nothingSeen = record { what = noneSeen; kind = idleKind; stripe = 0; time = 0; block = 0; bricks = noBricks; letter = noLetter }
 
 unfoldable pub noMessage : Message
 noMessage = record { kind = 0; stripe = 0; time = 0; round = 0; max = 0; old = 0; block = 0; targets = noBricks }

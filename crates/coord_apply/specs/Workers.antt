@@ -3,8 +3,10 @@ use mathlib.Core.List.{List}
 use Prim.Native.Nat.{ℕ, _+_, _*_, _≤_, _<_}
 use lib.ListN.{getD, length}
 use Rattle.coord_apply.specs.Answers.{Buffered, nothingSeen, noMessage, went, sentBlocks, answerOf}
-use mathlib.Core.Bool.{true}
-use Rattle.coord_record.specs.Records.{onBlock, idleWith, noBricks}
+use mathlib.Core.Bool.{cond, true}
+use Rattle.coord_letters.specs.Letters.{letterS, readLetter}
+use Rattle.coord_record.specs.Records.{isReading, onBlock, idleWith, noBricks}
+use Rattle.coord_record.specs.declared.Op.{Op}
 use Rattle.coord_record.specs.declared.Coordinator.{Coordinator}
 use Rattle.coord_decide.specs.declared.Decision.{Decision}
 use Rattle.message.specs.declared.Message.{Message}
@@ -26,16 +28,20 @@ openAnswer c phase max old bricks =
       seen = nothingSeen;
     }
 
-unfoldable pub endAnswer : Coordinator → ℕ → List ℕ → ℕ → Message → Answer
-endAnswer c what bricks sent message =
+unfoldable pub endAnswer : Coordinator → (what letter : ℕ) → List ℕ → ℕ → Message → Answer
+endAnswer c what letter bricks sent message =
     record {
       refusal = 0;
       next = idleWith (c .geometry) (c .clock);
       sent = sent;
       message = message;
       second = noMessage;
-      seen = noticeOf (c .op) what bricks;
+      seen = noticeOf (c .op) what letter bricks;
     }
+
+-- the letter of a finished Write or Modify round: a recovered read's, or that of what was written
+unfoldable pub finishedLetter : Op → ℕ
+finishedLetter op = cond (isReading (op .kind)) (readLetter op) letterS
 
 -- what holds where a decision is carried out: the numbers are the lengths of the reply blocks and of the stripe
 pub record DecisionReady (n m size : ℕ) (c : Coordinator) (blocks stripe : ℕ) : Type 0 where

@@ -6,7 +6,7 @@ ghost use mathlib.Core.Path.{_≡_};
 ghost use Prim.Native.Nat.{_+_, _*_, _≤_, _<_};
 ghost use lib.ListN.{length, take};
 ghost use Rattle.coord_apply.specs.Acts.{buffered};
-ghost use Rattle.coord_apply.specs.Workers.{DecisionReady, Acted, openAnswer, endAnswer};
+ghost use Rattle.coord_apply.specs.Workers.{DecisionReady, Acted, openAnswer, endAnswer, finishedLetter};
 ghost use Rattle.coord_apply.specs.Acts.{stripeFrom, agreeing, roundMessage, trimMessage, nextOp, finishedSeen};
 ghost use Rattle.coord_apply.specs.Acts.{seenBlock, noticeOf, givenStripe, storedStripe, namedBricks};
 ghost use Rattle.coord_tally.specs.Counting.{givers, picked, targetRow, atTimes};
@@ -18,7 +18,7 @@ ghost use Rattle.message.specs.Kinds.{writeKind, lastRound};
 ghost use Rattle.message.specs.Messages.{namesBlock};
 ghost use Rattle.settings.specs.Count.{count};
 ghost use Rattle.coord_apply.specs.Workers.{InPlace, HandedOn};
-ghost use Rattle.coord_apply.specs.Answers.{nothingSeen, noMessage, readSeen, abortedSeen};
+ghost use Rattle.coord_apply.specs.Answers.{nothingSeen, noMessage, readSeen, abortedSeen, letterOf};
 ghost use Rattle.erasure.specs.Workers.{Encodes};
 ghost use Rattle.settings.specs.Ranges.{maxBricks, maxSize};
 ghost use Rattle.interpolate.specs.Values.{PointSet};
@@ -42,7 +42,8 @@ pub const ABORTED: u8 = 4;
 pub const CUT: u8 = 5;
 
 // what: one of these, of the operation of this kind, stripe and time. block: the number of the block that it is on, 0 where it is on the
-// stripe. bricks: the bricks that a finished read decoded from, or the one that gave the block.
+// stripe. bricks: the bricks that a finished read decoded from, or the one that gave the block. letter: which rule ended it, of those in
+// `coord_letters`; none where nothing ended.
 pub struct Notice {
     pub what: u8,
     pub kind: u8,
@@ -50,6 +51,7 @@ pub struct Notice {
     pub time: u64,
     pub block: usize,
     pub bricks: [u8; MAX_BRICKS],
+    pub letter: u8,
 }
 
 // refusal: 0, or the number alone. next: the record that follows. sent: how many broadcasts there are, two at most, each to all n bricks.
@@ -75,6 +77,7 @@ pub fn nothing_seen() -> Notice
         time: 0,
         block: 0,
         bricks: [0u8; MAX_BRICKS],
+        letter: coord_letters::NO_LETTER,
     }
 }
 
@@ -295,8 +298,8 @@ fn seen_block(op: Op) -> usize
 }
 
 // What is seen of an operation.
-pub fn notice_of(op: Op, what: u8, bricks: [u8; MAX_BRICKS]) -> Notice
-    ensures { λ r. ⌜ r ≡ noticeOf op what bricks ⌝ }
+pub fn notice_of(op: Op, what: u8, letter: u8, bricks: [u8; MAX_BRICKS]) -> Notice
+    ensures { λ r. ⌜ r ≡ noticeOf op what letter bricks ⌝ }
 {
     Notice {
         what,
@@ -305,6 +308,7 @@ pub fn notice_of(op: Op, what: u8, bricks: [u8; MAX_BRICKS]) -> Notice
         time: op.time,
         block: seen_block(op),
         bricks,
+        letter,
     }
 }
 
@@ -312,18 +316,19 @@ pub fn notice_of(op: Op, what: u8, bricks: [u8; MAX_BRICKS]) -> Notice
 pub fn end(
     c: Coordinator,
     what: u8,
+    letter: u8,
     bricks: [u8; MAX_BRICKS],
     sent: usize,
     message: Message,
 ) -> Answer
-    ensures { λ r. ⌜ r ≡ endAnswer c what bricks sent message ⌝ }
+    ensures { λ r. ⌜ r ≡ endAnswer c what letter bricks sent message ⌝ }
 {
     let geometry = c.geometry;
     let clock = c.clock;
     let op = c.op;
     let next = coord_record::idle_with(geometry, clock);
     let second = no_message();
-    let seen = notice_of(op, what, bricks);
+    let seen = notice_of(op, what, letter, bricks);
     Answer {
         refusal: 0,
         next,
@@ -335,10 +340,14 @@ pub fn end(
 }
 
 // The answer that ends the operation aborted.
-fn abort(c: Coordinator) -> Answer
-    ensures { λ r. ⌜ r ≡ endAnswer c abortedSeen noBricks 0 noMessage ⌝ }
+fn abort(n: usize, c: Coordinator) -> Answer
+    requires { ⌜ n ≤ maxBricks ⌝ }
+    ensures { λ r. ⌜ r ≡ endAnswer c abortedSeen (letterOf n (c .op) (c .tally) abortedSeen) noBricks 0 noMessage ⌝ }
 {
-    end(c, ABORTED, [0u8; MAX_BRICKS], 0, no_message())
+    let op = c.op;
+    let tally = c.tally;
+    let letter = coord_letters::abort_letter(n, op, tally);
+    end(c, ABORTED, letter, [0u8; MAX_BRICKS], 0, no_message())
 }
 
 // Block j of one row of blocks in its place in another.
@@ -376,13 +385,15 @@ fn take_given(
 // Gives what the targets gave, and names them.
 fn give(n: usize, m: usize, size: usize, c: Coordinator, blocks: &[u8], stripe: &mut [u8]) -> Answer
     requires { ⌜ DecisionReady n m size c (length (now blocks)) (length (now stripe)) ⌝ }
-    ensures { λ r. ⌜ r ≡ endAnswer c readSeen (targetRow n (targetCount m (c .op .kind)) (c .op .first)) 0 noMessage ⌝ }
+    ensures { λ r. ⌜ r ≡ endAnswer c readSeen (letterOf n (c .op) (c .tally) readSeen)
+        (targetRow n (targetCount m (c .op .kind)) (c .op .first)) 0 noMessage ⌝ }
     ensures { λ r. ⌜ now (stripe .exit) ≡ givenStripe n m size (c .op) (now (blocks .entry)) (now (stripe .entry)) ⌝ }
 {
     let op = c.op;
     let row = coord_tally::target_row(n, coord_record::target_count(m, op.kind), op.first);
     take_given(n, m, size, c, row, blocks, stripe);
-    end(c, STRIPE, row, 0, no_message())
+    let letter = coord_letters::read_letter(op);
+    end(c, STRIPE, letter, row, 0, no_message())
 }
 
 // As `check_from`, but block j of the stripe stays as it was: it is kept aside meanwhile, in a buffer that is long enough.
@@ -521,7 +532,7 @@ fn recover_and_store(
     if recover(n, m, size, c, time, blocks, stripe) {
         return store(n, m, size, c, recovery_names(n, m, c, time), stripe, coded);
     }
-    abort(c)
+    abort(n, c)
 }
 
 // How a finished Write or Modify round is seen.
@@ -534,13 +545,24 @@ fn finished_seen(op: Op) -> u8
     OK
 }
 
+// The letter of a finished Write or Modify round.
+fn finished_letter(op: Op) -> u8
+    ensures { λ r. ⌜ r ≡ finishedLetter op ⌝ }
+{
+    if coord_record::is_reading(op.kind) {
+        return coord_letters::read_letter(op);
+    }
+    coord_letters::S
+}
+
 // Answers, and sends Trim.
 fn finish(c: Coordinator) -> Answer
-    ensures { λ r. ⌜ r ≡ endAnswer c (finishedSeen (c .op)) (c .bricks) 1 (trimMessage (c .op)) ⌝ }
+    ensures { λ r. ⌜ r ≡ endAnswer c (finishedSeen (c .op)) (finishedLetter (c .op)) (c .bricks) 1 (trimMessage (c .op)) ⌝ }
 {
     let op = c.op;
     let bricks = c.bricks;
-    end(c, finished_seen(op), bricks, 1, trim_message(op))
+    let letter = finished_letter(op);
+    end(c, finished_seen(op), letter, bricks, 1, trim_message(op))
 }
 
 // Carries a decision out.
@@ -561,7 +583,7 @@ pub fn act(
         r (now (stripe .exit)) (now (coded .exit)) ⌝ }
 {
     match d {
-        Decision::Abort => abort(c),
+        Decision::Abort => abort(n, c),
         Decision::Give => give(n, m, size, c, blocks, stripe),
         Decision::Look(max) => open(c, message::ORDER_READ, max, 0, [0u8; MAX_BRICKS]),
         Decision::Store => store(n, m, size, c, [0u8; MAX_BRICKS], stripe, coded),

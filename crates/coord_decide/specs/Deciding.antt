@@ -34,6 +34,7 @@ tallied t r =
       granted = set (t .granted) (r .brick) (one-if (r .yes));
       held = set (t .held) (r .brick) (one-if (r .held));
       found = set (t .found) (r .brick) (r .found);
+      said = set (t .said) (r .brick) (r .comparison);
     }
 
 -- the counted replies differ in their newest times, or a target is not among them

@@ -1,6 +1,6 @@
 -- What each decision says of the round that was decided: the run's proof reads these.
 use mathlib.Core.Path.{_≡_}
-use mathlib.Core.Bool.{false}
+use mathlib.Core.Bool.{true, false}
 use mathlib.Core.Logic.{_⊎_}
 use Prim.Native.Nat.{ℕ, _≤_, _<_}
 use Rattle.byte_lists.specs.Each.{some}
@@ -25,6 +25,14 @@ found-time n t = highest (t .held) (t .found) n
 
 unfoldable pub holders : ℕ → Tally → ℕ → ℕ
 holders n t time = count (atTimes (t .held) (t .found) time) n
+
+-- an abort: a counted brick said no, in another round than Read's; or all said yes to an Order-and-read, but "no reply holds a block", "the time
+-- found is 0 and on fewer than m bricks", or "a round 1,001 would be sent"
+pub data Aborts (n m : ℕ) (op : Op) (t : Tally) : Type 0 where
+  told-no : (op .phase ≡ readKind → ⊥) → some (saidNo (t .counted) (t .granted)) n ≡ true → Aborts n m op t
+  none-held : op .phase ≡ orderReadKind → AllYes n t → members (t .held) n ≡ 0 → Aborts n m op t
+  zero-on-few : op .phase ≡ orderReadKind → AllYes n t → found-time n t ≡ 0 → holders n t 0 < m → Aborts n m op t
+  rounds-spent : op .phase ≡ orderReadKind → AllYes n t → lastRound ≤ op .round → Aborts n m op t
 
 pub record DecidesGive (n m : ℕ) (op : Op) (t : Tally) : Type 0 where
   pub phase-is : op .phase ≡ readKind
@@ -71,7 +79,7 @@ pub record Finishes (n m : ℕ) (op : Op) (t : Tally) : Type 0 where
 
 -- What a decision says.
 unfoldable pub DecisionSays : ℕ → ℕ → Op → Tally → Decision → Type 0
-DecisionSays n m op t Abort = Unit {0}
+DecisionSays n m op t Abort = Aborts n m op t
 DecisionSays n m op t Give = DecidesGive n m op t
 DecisionSays n m op t (Look max) =
     ((op .phase ≡ readKind) × (max ≡ noUpperEnd)) ⊎ (((op .phase ≡ orderBlockKind) × AllYes n t × (max ≡ noUpperEnd)) ⊎ Lowers n m op t max)

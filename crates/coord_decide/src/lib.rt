@@ -57,15 +57,18 @@ pub fn tally_with(t: Tally, reply: Reply) -> Tally
     let mut granted = t.granted;
     let mut held = t.held;
     let mut found = t.found;
+    let mut said = t.said;
     counted[b] = 1;
     granted[b] = flag_of(reply.yes);
     held[b] = flag_of(reply.held);
     found[b] = reply.found;
+    said[b] = reply.comparison;
     Tally {
         counted,
         granted,
         held,
         found,
+        said,
     }
 }
 

@@ -7,3 +7,4 @@ pub mod SentMessageLaws
 pub mod SoundnessLaws
 pub mod TallyLaws
 pub mod TargetLaws
+pub mod UnletteredLaws

@@ -18,6 +18,7 @@ pub record Sized (t : Tally) : Type 0 where
   pub granted-size : length (t .granted) ≡ maxBricks
   pub held-size : length (t .held) ≡ maxBricks
   pub found-size : length (t .found) ≡ maxBricks
+  pub said-size : length (t .said) ≡ maxBricks
 
 -- sound, with arrays of 16 places
 pub record Good (n m size stripes : ℕ) (c : Coordinator) : Type 0 where

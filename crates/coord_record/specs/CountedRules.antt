@@ -6,8 +6,8 @@ use lib.Dec.{eqb, leb, ltb}
 use lib.ListN.{getD}
 use Rattle.byte_lists.specs.Each.{each}
 use Rattle.coord_record.specs.declared.Tally.{Tally}
-use Rattle.message.specs.Kinds.{readKind, orderReadKind, orderBlockKind}
-use Rattle.message.specs.Messages.{foundRight}
+use Rattle.message.specs.Kinds.{readKind, orderReadKind, orderBlockKind, noComparison}
+use Rattle.message.specs.Messages.{foundRight, comparisonRight}
 use Rattle.settings.specs.Ranges.{maxBricks}
 
 -- "targets are m bricks counted upward from a given one, wrapping at n": how far brick b is above the first
@@ -39,11 +39,18 @@ entryRight n m phase first b counted granted held found =
     cond (eqb counted 0) (eqb granted 0 && eqb held 0 && eqb found 0)
     (eqb counted 1 && countedRight n m phase first b granted held found)
 
+-- E5: what a counted no said, by the comparisons of its round: none is kept of a yes, nor of a brick that is not counted
+unfoldable pub saidRight : (phase counted granted said : ℕ) → Bool
+saidRight phase counted granted said = cond (eqb counted 0) (eqb said noComparison) (comparisonRight phase (eqb granted 1) said)
+
+-- what a tally keeps of brick b is right
+unfoldable pub keptRight : (n m phase first : ℕ) → Tally → ℕ → Bool
+keptRight n m phase first t b =
+    entryRight n m phase first b (getD (t .counted) b 0) (getD (t .granted) b 0) (getD (t .held) b 0) (getD (t .found) b 0)
+    && saidRight phase (getD (t .counted) b 0) (getD (t .granted) b 0) (getD (t .said) b 0)
+
 unfoldable pub tallyRight : ℕ → ℕ → ℕ → ℕ → Tally → Bool
-tallyRight n m phase first t =
-    each
-    (λ (b : ℕ). entryRight n m phase first b (getD (t .counted) b 0) (getD (t .granted) b 0) (getD (t .held) b 0) (getD (t .found) b 0))
-    maxBricks
+tallyRight n m phase first t = each (keptRight n m phase first t) maxBricks
 
 -- place i of a list of k bricks below n in rising order: the brick there is above the one before; past the k-th it is 0
 unfoldable pub brickRight : ℕ → ℕ → ℕ → ℕ → ℕ → Bool

@@ -8,7 +8,7 @@ use Rattle.coord_record.specs.declared.Coordinator.{Coordinator}
 use Rattle.coord_record.specs.declared.Geometry.{Geometry}
 use Rattle.coord_record.specs.declared.Op.{Op}
 use Rattle.coord_record.specs.declared.Tally.{Tally}
-use Rattle.message.specs.Kinds.{blockTargets}
+use Rattle.message.specs.Kinds.{blockTargets, noComparison}
 use Rattle.settings.specs.declared.Clock.{Clock}
 use Rattle.settings.specs.declared.Settings.{Settings}
 use Rattle.settings.specs.Ranges.{maxBricks}
@@ -52,7 +52,14 @@ noBricks = replicate maxBricks 0
 
 -- an open round before its first reply
 unfoldable pub nothingCounted : Tally
-nothingCounted = record { counted = replicate maxBricks 0; granted = replicate maxBricks 0; held = replicate maxBricks 0; found = replicate maxBricks 0 }
+nothingCounted =
+    record {
+      counted = replicate maxBricks 0;
+      granted = replicate maxBricks 0;
+      held = replicate maxBricks 0;
+      found = replicate maxBricks 0;
+      said = replicate maxBricks noComparison;
+    }
 
 -- the settings of a volume's coordinators
 unfoldable pub geometryOf : Settings → Geometry

@@ -4,7 +4,8 @@
 ghost use mathlib.Core.Path.{_≡_};
 ghost use Prim.Native.Nat.{_≤_, _<_};
 ghost use Rattle.coord_record.specs.Records.{isReading, onBlock, targetCount, noOp, nothingCounted, idleWith};
-ghost use Rattle.coord_record.specs.CountedRules.{isTarget, blockRight, countedRight, entryRight, tallyRight, brickRight, bricksRight};
+ghost use Rattle.coord_record.specs.CountedRules.{isTarget, blockRight, countedRight, entryRight, saidRight, tallyRight};
+ghost use Rattle.coord_record.specs.CountedRules.{brickRight, bricksRight};
 ghost use Rattle.message.specs.Messages.{foundRight};
 ghost use Rattle.coord_record.specs.Sound.{maxRight, storedRight, recoveryRight, openingRight, readRight, writeRight, blockWriteRight, unsetOp};
 ghost use Rattle.coord_record.specs.Sound.{opRight, blockLow, timeRight, namedCount, filledRight};
@@ -44,12 +45,14 @@ pub struct Op {
     pub first: usize,
 }
 
-// The replies counted in the open round, an entry a brick, 0 where none is counted: counted, said yes, holds a block, the time found.
+// The replies counted in the open round, an entry a brick, 0 where none is counted: counted, said yes, holds a block, the time found, the
+// comparison that said no.
 pub struct Tally {
     pub counted: [u8; MAX_BRICKS],
     pub granted: [u8; MAX_BRICKS],
     pub held: [u8; MAX_BRICKS],
     pub found: [u64; MAX_BRICKS],
+    pub said: [u8; MAX_BRICKS],
 }
 
 // The settings that a coordinator was made for.
@@ -117,6 +120,7 @@ pub fn nothing_counted() -> Tally
         granted: [0u8; MAX_BRICKS],
         held: [0u8; MAX_BRICKS],
         found: [0u64; MAX_BRICKS],
+        said: [message::NO_COMPARISON; MAX_BRICKS],
     }
 }
 
@@ -253,6 +257,16 @@ fn entry_right(
     counted_right(n, m, phase, first, b, granted, held, found)
 }
 
+// Whether what is kept of a brick's no is right.
+fn said_right(phase: u8, counted: u8, granted: u8, said: u8) -> bool
+    ensures { λ r. ⌜ r ≡ saidRight phase counted granted said ⌝ }
+{
+    if counted == 0 {
+        return said == message::NO_COMPARISON;
+    }
+    message::comparison_right(phase, granted == 1, said)
+}
+
 // Whether what is kept of each brick is right.
 fn tally_right(n: usize, m: usize, phase: u8, first: usize, t: Tally) -> bool
     requires { ⌜ first ≤ n ⌝ }
@@ -262,6 +276,7 @@ fn tally_right(n: usize, m: usize, phase: u8, first: usize, t: Tally) -> bool
     let granted = t.granted;
     let held = t.held;
     let found = t.found;
+    let said = t.said;
     let mut b = 0;
     while b < MAX_BRICKS {
         if entry_right(
@@ -274,7 +289,10 @@ fn tally_right(n: usize, m: usize, phase: u8, first: usize, t: Tally) -> bool
             granted[b],
             held[b],
             found[b],
-        ) {
+        ) {} else {
+            return false;
+        }
+        if said_right(phase, counted[b], granted[b], said[b]) {
             b += 1;
         } else {
             return false;

@@ -26,12 +26,12 @@ takeStep n m size stripes h r block coded =
     (went (waitingOr n m size (counting size h r block)))
 
 -- a crash: "makes the coordinator idle and keeps its count"; at an idle one nothing is seen
-unfoldable pub crashed : Buffered → Went
-crashed h =
-    cond (eqb (h .state .op .kind) idleKind) (record { next = h; sent = []; seen = nothingSeen }) (ending h (h .stripe) [] cutSeen noBricks)
+unfoldable pub crashed : (n : ℕ) → Buffered → Went
+crashed n h =
+    cond (eqb (h .state .op .kind) idleKind) (record { next = h; sent = []; seen = nothingSeen }) (ending n h (h .stripe) [] cutSeen noBricks)
 
 unfoldable pub crashStep : (n m size stripes : ℕ) → Buffered → Step
-crashStep n m size stripes h = afterChecks (crashRefusal n m size stripes (h .state)) (went (crashed h))
+crashStep n m size stripes h = afterChecks (crashRefusal n m size stripes (h .state)) (went (crashed n h))
 
 -- a draw that is refused passes its number on
 unfoldable pub drawnThen : Draw → (ℕ → Clock → Went) → Step

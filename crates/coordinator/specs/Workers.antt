@@ -4,6 +4,7 @@ use mathlib.Core.List.{List}
 use Prim.Native.Nat.{ℕ, _+_, _*_, _≤_}
 use Rattle.coord_apply.specs.Acts.{roundMessage, noticeOf}
 use Rattle.coord_apply.specs.Answers.{nothingSeen, noMessage, beganSeen}
+use Rattle.coord_letters.specs.Letters.{noLetter}
 use Rattle.coord_record.specs.Records.{noBricks, nothingCounted}
 use Rattle.message.specs.declared.Reply.{Reply}
 use Rattle.settings.specs.declared.Clock.{Clock}
@@ -27,7 +28,7 @@ startAnswer geometry clock op targets =
       sent = 1;
       message = roundMessage op 0 targets;
       second = noMessage;
-      seen = noticeOf op beganSeen noBricks;
+      seen = noticeOf op beganSeen noLetter noBricks;
     }
 
 -- the reply blocks with a reply's own

@@ -97,7 +97,7 @@ fn begin(geometry: Geometry, clock: Clock, op: Op, targets: [u8; MAX_BRICKS]) ->
     };
     let message = coord_apply::round_message(op, 0, targets);
     let second = coord_apply::no_message();
-    let seen = coord_apply::notice_of(op, BEGAN, [0u8; MAX_BRICKS]);
+    let seen = coord_apply::notice_of(op, BEGAN, coord_letters::NO_LETTER, [0u8; MAX_BRICKS]);
     Answer {
         refusal: 0,
         next,
@@ -306,7 +306,14 @@ pub fn crash(n: usize, m: usize, size: usize, stripes: usize, c: Coordinator) ->
     if op.kind == IDLE {
         return kept(c);
     }
-    coord_apply::end(c, CUT, [0u8; MAX_BRICKS], 0, coord_apply::no_message())
+    coord_apply::end(
+        c,
+        CUT,
+        coord_letters::C,
+        [0u8; MAX_BRICKS],
+        0,
+        coord_apply::no_message(),
+    )
 }
 
 // Takes a reply; block is the one it holds. Refused: 1 settings, 2 a length, 3 the brick or the coordinator's number, 13 the stripe's,

@@ -73,6 +73,7 @@ givingEntry x place r =
       yes = r .yes;
       found = timeFor x place;
       held = not (eqb place 0);
+      comparison = r .comparison;
     }
 
 -- a yes to Order-and-read gives the entry at this place, and nothing else changes

@@ -41,3 +41,16 @@ thirdRound = 3
 -- "if a round 1,001 would be sent"
 abbrev pub lastRound : ℕ
 lastRound = 1000
+
+-- E5: "the comparison that said no, newer time first, then promise, then full log"; none goes with a yes
+abbrev pub noComparison : ℕ
+noComparison = 0
+
+abbrev pub newerTime : ℕ
+newerTime = 1
+
+abbrev pub promiseAhead : ℕ
+promiseAhead = 2
+
+abbrev pub fullLog : ℕ
+fullLog = 3

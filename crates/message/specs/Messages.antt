@@ -2,12 +2,13 @@
 -- newest or entry time in a reply), a max outside 0 to 2^44, a round outside 1 to 1,000, or Read targets that aren't m different bricks".
 -- E2: "Refusal 10 allows a block read's single target, and 0 as Modify's old time." A field that a kind has no use for is not looked at.
 -- The stripe is refusal 13 and the number of a data block 14, both tested before.
-use mathlib.Core.Bool.{Bool, cond, _&&_, _||_}
+use mathlib.Core.Bool.{Bool, true, cond, not, _&&_, _||_}
 use mathlib.Core.List.{List, [], _∷_}
 use Prim.Native.Nat.{ℕ}
 use lib.Dec.{eqb, leb, ltb}
 use Rattle.message.specs.Flags.{brickSet}
-use Rattle.message.specs.Kinds.{readKind, orderReadKind, orderBlockKind, modifyKind, trimKind, blockTargets, lastRound, firstRound}
+use Rattle.message.specs.Kinds.{readKind, orderReadKind, orderBlockKind, writeKind, modifyKind, trimKind, blockTargets, lastRound, firstRound}
+use Rattle.message.specs.Kinds.{noComparison, newerTime, promiseAhead, fullLog}
 use Rattle.message.specs.declared.Message.{Message}
 use Rattle.message.specs.declared.Reply.{Reply}
 use Rattle.settings.specs.Refusal.{passed, refuseUnless, firstRefusal, badNumber, badMessage}
@@ -43,9 +44,26 @@ namesBlock kind = eqb kind orderBlockKind || eqb kind modifyKind
 unfoldable pub messageBlockRefusal : (m : ℕ) → Message → ℕ
 messageBlockRefusal m msg = cond (namesBlock (msg .kind)) (dataBlockRefusal m (msg .block)) passed
 
+-- these two store an entry, and so need a free one
+unfoldable pub storesEntry : ℕ → Bool
+storesEntry kind = eqb kind writeKind || eqb kind modifyKind
+
+-- E5: the comparisons that an answer of a kind makes: every one with the promise, each but Read's with the newest time, and of what stores an
+-- entry with a full log
+unfoldable pub compares : (kind comparison : ℕ) → Bool
+compares kind comparison =
+    cond (eqb comparison newerTime) (not (eqb kind readKind))
+    (cond (eqb comparison promiseAhead) true (eqb comparison fullLog && storesEntry kind))
+
+-- E5: "One missing on a no, or one that the reply's kind or answer doesn't allow, is refusal 10."
+unfoldable pub comparisonRight : (kind : ℕ) → (granted : Bool) → (comparison : ℕ) → Bool
+comparisonRight kind granted comparison = cond granted (eqb comparison noComparison) (compares kind comparison)
+
 -- a reply's own fields; its brick is refusal 3
 unfoldable pub replyRight : Reply → Bool
-replyRight r = leb readKind (r .kind) && leb (r .kind) modifyKind && validTime (r .time) && roundRight (r .round) && foundRight (r .found)
+replyRight r =
+    leb readKind (r .kind) && leb (r .kind) modifyKind && validTime (r .time) && roundRight (r .round) && foundRight (r .found)
+    && comparisonRight (r .kind) (r .yes) (r .comparison)
 
 unfoldable pub replyRefusal : ℕ → Reply → ℕ
 replyRefusal n r =

@@ -9,6 +9,7 @@ ghost use Rattle.settings.specs.Ranges.{maxBricks};
 ghost use Rattle.message.specs.Flags.{members, flagsWithin, brickSet};
 ghost use Rattle.message.specs.Messages.{roundRight, foundRight, targetsRight, kindRight, messageRefusal};
 ghost use Rattle.message.specs.Messages.{namesBlock, messageBlockRefusal, replyRight, replyRefusal};
+ghost use Rattle.message.specs.Messages.{storesEntry, compares, comparisonRight};
 
 pub const READ: u8 = 1;
 
@@ -24,6 +25,15 @@ pub const WRITE: u8 = 5;
 pub const MODIFY: u8 = 6;
 
 pub const TRIM: u8 = 7;
+
+// The comparison that said no: the newest time, the promise, a full log; none with a yes.
+pub const NO_COMPARISON: u8 = 0;
+
+pub const NEWER_TIME: u8 = 1;
+
+pub const PROMISE_AHEAD: u8 = 2;
+
+pub const FULL_LOG: u8 = 3;
 
 // A block read has one target.
 pub const BLOCK_TARGETS: usize = 1;
@@ -51,7 +61,7 @@ pub struct Message {
 }
 
 // stripe: that of the message. found: the newest time in a reply to Read or to the first round of a block write, the entry's time in one to
-// Order-and-read. held: a block goes with it.
+// Order-and-read. held: a block goes with it. comparison: the one that said no.
 pub struct Reply {
     pub kind: u8,
     pub brick: usize,
@@ -61,6 +71,7 @@ pub struct Reply {
     pub yes: bool,
     pub found: u64,
     pub held: bool,
+    pub comparison: u8,
 }
 
 // How many bricks below n are in a set.
@@ -152,6 +163,42 @@ pub fn names_block(kind: u8) -> bool
     kind == MODIFY
 }
 
+// Whether messages of a kind store an entry.
+pub fn stores_entry(kind: u8) -> bool
+    ensures { λ r. ⌜ r ≡ storesEntry kind ⌝ }
+{
+    if kind == WRITE {
+        return true;
+    }
+    kind == MODIFY
+}
+
+// Whether the answer to a kind makes a comparison.
+fn makes_comparison(kind: u8, comparison: u8) -> bool
+    ensures { λ r. ⌜ r ≡ compares kind comparison ⌝ }
+{
+    if comparison == NEWER_TIME {
+        return kind != READ;
+    }
+    if comparison == PROMISE_AHEAD {
+        return true;
+    }
+    if comparison == FULL_LOG {
+        return stores_entry(kind);
+    }
+    false
+}
+
+// Whether a reply of a kind has the comparison that its answer allows: none on a yes, one that the kind makes on a no.
+pub fn comparison_right(kind: u8, granted: bool, comparison: u8) -> bool
+    ensures { λ r. ⌜ r ≡ comparisonRight kind granted comparison ⌝ }
+{
+    if granted {
+        return comparison == NO_COMPARISON;
+    }
+    makes_comparison(kind, comparison)
+}
+
 impl Message {
     // The rules that a kind adds.
     fn kind_right(self, n: usize, m: usize) -> bool
@@ -210,7 +257,9 @@ impl Reply {
         }
         if settings::is_time(self.time) {
             if round_right(self.round) {
-                return found_right(self.found);
+                if found_right(self.found) {
+                    return comparison_right(self.kind, self.yes, self.comparison);
+                }
             }
         }
         false

@@ -7,6 +7,8 @@ pub mod BlockCorollaryLaws
 pub mod NeverRefusedLaws
 pub mod EntryLaws
 pub mod AgreementLaws
+pub mod RunLetterLaws
+pub mod EndLetterLaws
 pub mod NumberedLaws
 pub mod VolumeLaws
 pub mod RefusedEventLaws

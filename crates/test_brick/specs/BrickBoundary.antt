@@ -25,7 +25,7 @@ use Rattle.image_view.specs.View.{foundNumber, foundOf}
 use Rattle.image_view.specs.declared.Found.{Found}
 use Rattle.image_view.specs.declared.Found.the-variants.{At}
 
--- the lengths of the boundary's own buffers: two numbers of the panel or of an entry, 23 of a message, eight of a reply
+-- the lengths of the boundary's own buffers: two numbers of the panel or of an entry, 23 of a message, nine of a reply
 abbrev pub pairLength : ℕ
 pairLength = 2
 
@@ -33,7 +33,7 @@ abbrev pub messageLength : ℕ
 messageLength = 23
 
 abbrev pub replyLength : ℕ
-replyLength = 8
+replyLength = 9
 
 -- 1, a setting outside its range; then 2, where one of the boundary's own buffers has another length
 unfoldable pub ownRefusal : Settings → Bool → ℕ
@@ -156,9 +156,9 @@ answerCode (Answered r) = givenNumber (Answered r)
 answerCode Silent = silence
 answerCode (Refused number) = givenNumber (Refused number)
 
--- a reply as eight numbers
+-- a reply as nine numbers
 unfoldable pub replyNumbers : Reply → List ℕ
-replyNumbers r = r .kind ∷ r .brick ∷ r .time ∷ r .round ∷ one-if (r .yes) ∷ r .found ∷ one-if (r .held) ∷ r .stripe ∷ []
+replyNumbers r = r .kind ∷ r .brick ∷ r .time ∷ r .round ∷ one-if (r .yes) ∷ r .found ∷ one-if (r .held) ∷ r .stripe ∷ r .comparison ∷ []
 
 -- the reply's numbers, or the buffer as it was
 unfoldable pub givenBuffer : Given → List ℕ → List ℕ

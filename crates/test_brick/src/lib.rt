@@ -46,7 +46,7 @@ const TARGETS: usize = 7;
 const LAST_BYTE: u64 = 255;
 
 // The numbers of a reply.
-const REPLY_LENGTH: usize = 8;
+const REPLY_LENGTH: usize = 9;
 
 // The number that tells silence from a reply and from every refusal.
 const SILENCE: u32 = 100;
@@ -202,7 +202,7 @@ pub extern "C" fn brick_entry(
     }
 }
 
-// A reply into a buffer of eight numbers.
+// A reply into a buffer of nine numbers.
 fn put_reply(r: Reply, reply: &mut [u64])
     requires { ⌜ length (now reply) ≡ replyLength ⌝ }
     ensures { λ _. ⌜ now (reply .exit) ≡ replyNumbers r ⌝ }
@@ -215,6 +215,7 @@ fn put_reply(r: Reply, reply: &mut [u64])
     reply[5] = r.found;
     reply[6] = flag(r.held);
     reply[7] = r.stripe as u64;
+    reply[8] = r.comparison as u64;
 }
 
 // What a brick gave, into the reply's buffer: 0 a reply, or silence, or the refusal.
@@ -286,7 +287,7 @@ fn numbers_right(asked: usize, reply: usize) -> bool
 }
 
 // One message at one image of a brick, with its block and the old block that goes with Modify: 23 numbers in (kind, time, round, max, stripe,
-// old time, data block, 16 flags for the targets), eight numbers out (kind, brick, time, round, yes, found, held, stripe).
+// old time, data block, 16 flags for the targets), nine numbers out (kind, brick, time, round, yes, found, held, stripe, comparison).
 #[no_mangle]
 pub extern "C" fn brick_receive(
     n: usize,

@@ -18,13 +18,13 @@ abbrev pub recordNumbersLength : ℕ
 recordNumbersLength = 27
 
 abbrev pub recordBytesLength : ℕ
-recordBytesLength = 66
+recordBytesLength = 82
 
 abbrev pub answerNumbersLength : ℕ
 answerNumbersLength = 16
 
 abbrev pub answerBytesLength : ℕ
-answerBytesLength = 52
+answerBytesLength = 53
 
 -- where a record's numbers stand
 abbrev pub coordinatorAt : ℕ
@@ -82,7 +82,10 @@ recordHeldAt = 34
 abbrev pub bricksAt : ℕ
 bricksAt = 50
 
--- where an answer's rows stand among its bytes, and the kind of its second message
+abbrev pub saidAt : ℕ
+saidAt = 66
+
+-- where an answer's rows stand among its bytes, the kind of its second message, and the letter of what is seen
 abbrev pub targetsAt : ℕ
 targetsAt = 3
 
@@ -95,15 +98,18 @@ secondTargetsAt = 35
 abbrev pub secondKindAt : ℕ
 secondKindAt = 51
 
+abbrev pub seenLetterAt : ℕ
+seenLetterAt = 52
+
 -- a record's 27 numbers: clock, time, round, max, first, the settings that it is for, the operation's stripe, and the times found
 unfoldable pub recordNumbers : Coordinator → List ℕ
 recordNumbers c =
     c .clock .coordinator ∷ c .clock .last ∷ c .op .time ∷ c .op .round ∷ c .op .max ∷ c .op .first
     ∷ c .geometry .n ∷ c .geometry .m ∷ c .geometry .size ∷ c .geometry .stripes ∷ c .op .stripe ∷ c .tally .found
 
--- its 66 bytes: kind, phase, and the rows counted, granted, held and bricks
+-- its 82 bytes: kind, phase, and the rows counted, granted, held, bricks and said
 unfoldable pub recordBytes : Coordinator → List ℕ
-recordBytes c = c .op .kind ∷ c .op .phase ∷ (c .tally .counted ++ (c .tally .granted ++ (c .tally .held ++ c .bricks)))
+recordBytes c = c .op .kind ∷ c .op .phase ∷ (c .tally .counted ++ (c .tally .granted ++ (c .tally .held ++ (c .bricks ++ c .tally .said))))
 
 -- a row from a place on: an entry for each brick that there may be
 unfoldable pub rowAt : ℕ → List ℕ → List ℕ
@@ -131,7 +137,14 @@ recordFor numbers bytes =
             max = getD numbers maxAt 0;
             first = getD numbers firstAt 0;
           };
-      tally = record { counted = rowAt countedAt bytes; granted = rowAt grantedAt bytes; held = rowAt recordHeldAt bytes; found = rowAt recordFoundAt numbers };
+      tally =
+          record {
+            counted = rowAt countedAt bytes;
+            granted = rowAt grantedAt bytes;
+            held = rowAt recordHeldAt bytes;
+            found = rowAt recordFoundAt numbers;
+            said = rowAt saidAt bytes;
+          };
       bricks = rowAt bricksAt bytes;
     }
 
@@ -144,12 +157,12 @@ answerNumbers a =
     ∷ a .message .stripe ∷ a .seen .stripe ∷ a .second .stripe
     ∷ a .message .old ∷ a .message .block ∷ a .second .old ∷ a .second .block ∷ a .seen .block ∷ []
 
--- its 52 bytes: kind of the first message; what is seen, of which kind; targets of the first message, bricks seen;
--- targets and kind of the second message
+-- its 53 bytes: kind of the first message; what is seen, of which kind; targets of the first message, bricks seen;
+-- targets and kind of the second message, and the letter of what is seen
 unfoldable pub answerBytes : Answer → List ℕ
 answerBytes a =
     a .message .kind ∷ a .seen .what ∷ a .seen .kind
-    ∷ (a .message .targets ++ (a .seen .bricks ++ (a .second .targets ++ a .second .kind ∷ [])))
+    ∷ (a .message .targets ++ (a .seen .bricks ++ (a .second .targets ++ a .second .kind ∷ a .seen .letter ∷ [])))
 
 -- The four buffers that every routine is lent: the record's numbers and bytes, the answer's numbers and bytes.
 pub record Rows : Type 0 where
@@ -199,9 +212,19 @@ crossing refusal l blocks stripe coded r =
 unfoldable pub rowPut : ℕ → List ℕ → List ℕ → List ℕ
 rowPut at row l = take at l ++ (row ++ drop (at + maxBricks) l)
 
-abbrev pub replyFor : (kind brick stripe time round : ℕ) → Bool → ℕ → Bool → Reply
-replyFor kind brick stripe time round said found held =
-    record { kind = kind; brick = brick; stripe = stripe; time = time; round = round; yes = said; found = found; held = held }
+abbrev pub replyFor : (kind brick stripe time round : ℕ) → Bool → ℕ → Bool → ℕ → Reply
+replyFor kind brick stripe time round said found held comparison =
+    record {
+      kind = kind;
+      brick = brick;
+      stripe = stripe;
+      time = time;
+      round = round;
+      yes = said;
+      found = found;
+      held = held;
+      comparison = comparison;
+    }
 
 -- The six routines. A buffer that a routine is not lent is none here. The number of a stripe is `number`.
 module _ (n m size stripes : ℕ) (l : Rows) where

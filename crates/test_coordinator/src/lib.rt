@@ -1,5 +1,5 @@
 // The coordinator at a C boundary of numbers and slices, for the tests and benchmarks that compare it with other code. Every routine is
-// lent four buffers: the record's 27 numbers and 66 bytes, and the answer's 16 numbers and 52 bytes. A refusal leaves them as they were;
+// lent four buffers: the record's 27 numbers and 82 bytes, and the answer's 16 numbers and 53 bytes. A refusal leaves them as they were;
 // the lowest number comes first: 1, then 2 for one of these buffers, then what the coordinator refuses.
 ghost use mathlib.Core.Path.{_≡_};
 ghost use mathlib.Core.List.{[]};
@@ -22,11 +22,11 @@ use settings::MAX_BRICKS;
 // How many numbers and bytes a record has, and an answer.
 const RECORD_NUMBERS: usize = 27;
 
-const RECORD_BYTES: usize = 66;
+const RECORD_BYTES: usize = 82;
 
 const ANSWER_NUMBERS: usize = 16;
 
-const ANSWER_BYTES: usize = 52;
+const ANSWER_BYTES: usize = 53;
 
 // Where a record's numbers stand.
 const COORDINATOR: usize = 0;
@@ -66,6 +66,8 @@ const HELD: usize = 34;
 
 const BRICKS: usize = 50;
 
+const SAID: usize = 66;
+
 // Where an answer's numbers stand: how many broadcasts are sent, the message, what is seen, the second message, their stripes, and the old times
 // and blocks of the messages and the block of what is seen.
 const SENT: usize = 0;
@@ -100,7 +102,7 @@ const SECOND_MESSAGE_BLOCK: usize = 14;
 
 const SEEN_BLOCK: usize = 15;
 
-// Where its bytes stand, then its rows, and the kind of its second message.
+// Where its bytes stand, then its rows, the kind of its second message, and the letter of what is seen.
 const MESSAGE_KIND: usize = 0;
 
 const SEEN_WHAT: usize = 1;
@@ -114,6 +116,8 @@ const SEEN_BRICKS: usize = 19;
 const SECOND_TARGETS: usize = 35;
 
 const SECOND_KIND: usize = 51;
+
+const SEEN_LETTER: usize = 52;
 
 // Whether the four buffers have their lengths.
 fn lent_right(numbers: usize, bytes: usize, sent: usize, shown: usize) -> bool
@@ -237,12 +241,14 @@ fn record_of(numbers: &[u64], bytes: &[u8]) -> Coordinator
     let counted = row_of(&bytes[COUNTED..GRANTED]);
     let granted = row_of(&bytes[GRANTED..HELD]);
     let held = row_of(&bytes[HELD..BRICKS]);
-    let bricks = row_of(&bytes[BRICKS..RECORD_BYTES]);
+    let bricks = row_of(&bytes[BRICKS..SAID]);
+    let said = row_of(&bytes[SAID..RECORD_BYTES]);
     let tally = Tally {
         counted,
         granted,
         held,
         found,
+        said,
     };
     Coordinator {
         geometry,
@@ -322,10 +328,12 @@ fn put_bytes(c: Coordinator, out: &mut [u8])
     let granted = tally.granted;
     let held = tally.held;
     let bricks = c.bricks;
+    let said = tally.said;
     put_row(counted, COUNTED, out);
     put_row(granted, GRANTED, out);
     put_row(held, HELD, out);
-    put_row(bricks, BRICKS, out)
+    put_row(bricks, BRICKS, out);
+    put_row(said, SAID, out)
 }
 
 // The numbers of an answer.
@@ -366,6 +374,7 @@ fn put_shown(a: Answer, out: &mut [u8])
     out[SEEN_WHAT] = seen.what;
     out[SEEN_KIND] = seen.kind;
     out[SECOND_KIND] = second.kind;
+    out[SEEN_LETTER] = seen.letter;
     let targets = message.targets;
     let bricks = seen.bricks;
     let more = second.targets;
@@ -575,7 +584,7 @@ pub extern "C" fn coord_start_read_block(
     put_answer(a, numbers, bytes, sent, shown)
 }
 
-// A reply arrives; stripe_number: its stripe's, has: whether it holds a block.
+// A reply arrives; stripe_number: its stripe's, has: whether it holds a block, comparison: the one that said no.
 #[no_mangle]
 pub extern "C" fn coord_take_reply(
     n: usize,
@@ -594,6 +603,7 @@ pub extern "C" fn coord_take_reply(
     yes: bool,
     found: u64,
     has: bool,
+    comparison: u8,
     block: &[u8],
     blocks: &mut [u8],
     stripe: &mut [u8],
@@ -602,7 +612,7 @@ pub extern "C" fn coord_take_reply(
     ensures { λ r. ⌜ atBoundary r (rows (now (numbers .exit)) (now (bytes .exit)) (now (sent .exit)) (now (shown .exit)))
         (now (blocks .exit)) (now (stripe .exit)) (now (coded .exit))
         ≡ took n m size stripes (rows (now (numbers .entry)) (now (bytes .entry)) (now (sent .entry)) (now (shown .entry)))
-        (replyFor kind brick «stripe_number» time round yes found has) (now (block .entry))
+        (replyFor kind brick «stripe_number» time round yes found has comparison) (now (block .entry))
         (now (blocks .entry)) (now (stripe .entry)) (now (coded .entry)) ⌝ }
 {
     let refusal = lent_refusal(
@@ -628,6 +638,7 @@ pub extern "C" fn coord_take_reply(
         yes,
         found,
         held: has,
+        comparison,
     };
     let a = coordinator::take_reply(n, m, size, stripes, c, reply, block, blocks, stripe, coded);
     put_answer(a, numbers, bytes, sent, shown)

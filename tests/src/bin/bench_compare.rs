@@ -138,7 +138,7 @@ fn jobs(here: &Path) -> Vec<Job> {
         }
         cases += 1;
     }
-    assert!(cases >= 56, "cases are missing");
+    assert!(cases >= 74, "cases are missing");
     jobs.extend(long_inputs());
     jobs.extend((0..PIECED_SCRIPTS as u64).map(|k| Job::Pieced(1_000_000 + k)));
     jobs.extend((0..number("SCRIPTS").unwrap_or(RANDOM_SCRIPTS) as u64).map(|k| Job::Random(2_000_000 + k)));
@@ -209,11 +209,14 @@ fn note(tally: &mut Tally, bench: &Bench, printed: &[u8]) {
         let words: Vec<&str> = line.split(' ').collect();
         let kind = match words.as_slice() {
             ["refused", number] => format!("refused {number}"),
-            [_, kind, _, end @ ("ok" | "abort" | "cut")] => format!("{kind} {end}"),
-            [_, "read", _, stripe] if stripe.bytes().any(|byte| byte != b'0') => "read finished".to_string(),
-            [_, "read", _, _] => "read zeros".to_string(),
+            [_, kind, _, _, end @ ("ok" | "abort" | "cut")] => format!("{kind} {end}"),
+            [_, "read", _, _, stripe] if stripe.bytes().any(|byte| byte != b'0') => "read finished".to_string(),
+            [_, "read", _, _, _] => "read zeros".to_string(),
             _ => panic!("the independent bench prints {line}"),
         };
+        if let [_, _, _, letter, _] = words.as_slice() {
+            count(tally, &format!("letter {letter}"), 1);
+        }
         written += usize::from(kind == "write ok");
         count(tally, &kind, 1);
     }
@@ -223,7 +226,11 @@ fn note(tally: &mut Tally, bench: &Bench, printed: &[u8]) {
     count(tally, "sent 127", usize::from(bench.sent() == 127));
 }
 
-/// Kinds that must have occurred, and didn't often enough.
+/// Kinds that must have occurred, and didn't often enough. Letter X isn't among them, since no script of the bench leads to it: the blocks
+/// of a run agree, and four logs of four entries hold too few times to spend the rounds. In the first recovery round every brick gives its
+/// newest entry, so time 0 is the highest only where all q hold it. A later round needs m 2 or more; then at most one brick lacks a
+/// finished write, and only that one can lose its lower entries to the Trim of a write later than the recovery and still say yes. Another
+/// brick gives the last finished time then, and a further round is told no. With six bricks X occurs: tests/block_order.rs plays it.
 fn missing(tally: &Tally) -> Vec<String> {
     let often = [
         "write ok",
@@ -249,6 +256,14 @@ fn missing(tally: &Tally) -> Vec<String> {
         "words",
         "bytes",
         "in pieces",
+        "letter F",
+        "letter H",
+        "letter L",
+        "letter S",
+        "letter O",
+        "letter G",
+        "letter W",
+        "letter C",
     ];
     let few = |kind: &&str| tally.get(*kind).copied().unwrap_or(0) < 200;
     often.into_iter().filter(few).map(String::from).collect()

@@ -2,7 +2,7 @@
 //! Prints nanoseconds a message and how many times as long the proved one takes. Then the proved routine on the row of images of a
 //! brick of 64 stripes beside that of one stripe.
 
-use jilbagum_tests::brick::{MODIFY, ORDER, ORDER_BLOCK, ORDER_READ, READ, TRIM, WRITE};
+use jilbagum_tests::brick::{MODIFY, NONE, ORDER, ORDER_BLOCK, ORDER_READ, READ, TRIM, WRITE};
 use jilbagum_tests::{inplace::Brick, proved};
 use std::time::{Duration, Instant};
 
@@ -90,7 +90,7 @@ fn filled(shape: Shape, capacity: usize, brick: usize) -> (Brick, Vec<u8>) {
     hand.fresh(&mut other);
     assert!(image == other);
     for k in 1..capacity as u64 - 1 {
-        assert!(hand.write(&mut image, 16 * k, &block()));
+        assert_eq!(hand.write(&mut image, 16 * k, &block()), NONE);
     }
     (hand, image)
 }
@@ -106,7 +106,7 @@ fn asked(kind: u8, (_, m, _): Shape, capacity: usize, stripe: usize) -> proved::
 /// The same by hand.
 fn by_hand(hand: &Brick, kind: u8, capacity: usize, work: &mut [u8], out: &mut [u8], (block, old): proved::Blocks) {
     let (time, old_time) = times(capacity);
-    let yes = match kind {
+    let said = match kind {
         READ => hand.read(work, true, out).0,
         ORDER => hand.order(work, time),
         ORDER_READ => hand.order_read(work, time, time, out).0,
@@ -115,10 +115,10 @@ fn by_hand(hand: &Brick, kind: u8, capacity: usize, work: &mut [u8], out: &mut [
         MODIFY => hand.modify(work, time, old_time, NUMBER, old, block),
         _ => {
             hand.trim(work, time);
-            true
+            NONE
         }
     };
-    assert!(yes);
+    assert_eq!(said, NONE);
 }
 
 fn against_by_hand(runs: usize) {
@@ -130,7 +130,7 @@ fn against_by_hand(runs: usize) {
             for (kind, name, at) in KINDS {
                 let brick = at.brick(shape);
                 let (hand, image) = filled(shape, capacity, brick);
-                let (mut out, mut reply, mut out2) = (vec![0; 256], [0; 8], vec![0; 256]);
+                let (mut out, mut reply, mut out2) = (vec![0; 256], [0; 9], vec![0; 256]);
                 let asked = asked(kind, shape, capacity, 0);
                 let (mut left, mut left2) = (Vec::new(), Vec::new());
                 let ours = fastest(
@@ -172,7 +172,7 @@ impl Row {
     /// So many messages, each on the image as given; only the messages are timed. The other images stay as they are, so the row isn't
     /// copied.
     fn batch(&mut self, image: &[u8], blocks: proved::Blocks) -> Duration {
-        let (mut out, mut reply, mut spent) = (vec![0; 256], [0; 8], Duration::ZERO);
+        let (mut out, mut reply, mut spent) = (vec![0; 256], [0; 9], Duration::ZERO);
         for _ in 0..BATCH {
             self.images[self.at..self.at + image.len()].copy_from_slice(image);
             let began = Instant::now();

@@ -4,6 +4,7 @@
 //! by byte (as the brick's benchmark has them) and beside bricks that test them with wide instructions; then the coordinator's part alone.
 //! Last what the proved operations on one block take of those on the stripe: time, and bytes of blocks in messages and replies.
 
+use jilbagum_tests::brick::NONE;
 use jilbagum_tests::inplace::Brick;
 use jilbagum_tests::inplace_coordinator::{Act, Coordinator, Message, Reply, MODIFY, ORDER, ORDER_BLOCK, ORDER_READ, READ, TRIM, WRITE};
 use jilbagum_tests::proved::{self, answer, Lent};
@@ -33,18 +34,18 @@ impl Op {
     }
 }
 
-/// Its name, what it does, how many later writes were left unfinished, and the round of its last message, none where nothing is sent at
-/// the end.
-type Case = (&'static str, Op, usize, u64);
+/// Its name, what it does, how many later writes were left unfinished, the round of its last message, none where nothing is sent at
+/// the end, and its letter.
+type Case = (&'static str, Op, usize, u64, char);
 const CASES: [Case; 8] = [
-    ("write", Op::Write, 0, 2),
-    ("read in one round", Op::Read, 0, 0),
-    ("read, one recovery round", Op::Read, 1, 3),
-    ("read, three recovery rounds", Op::Read, 3, 5),
-    ("block write", Op::WriteBlock, 0, 2),
-    ("block read in one round", Op::ReadBlock, 0, 0),
-    ("block read, one recovery", Op::ReadBlock, 1, 3),
-    ("block write, three recoveries", Op::WriteBlock, 3, 5),
+    ("write", Op::Write, 0, 2, 'S'),
+    ("read in one round", Op::Read, 0, 0, 'F'),
+    ("read, one recovery round", Op::Read, 1, 3, 'H'),
+    ("read, three recovery rounds", Op::Read, 3, 5, 'L'),
+    ("block write", Op::WriteBlock, 0, 2, 'S'),
+    ("block read in one round", Op::ReadBlock, 0, 0, 'F'),
+    ("block read, one recovery", Op::ReadBlock, 1, 3, 'H'),
+    ("block write, three recoveries", Op::WriteBlock, 3, 5, 'S'),
 ];
 
 /// The time of an operation, and the time spent in the coordinator.
@@ -164,25 +165,27 @@ struct Hand {
     coordinator: Coordinator,
     outs: Vec<Vec<u8>>,
     replies: Vec<Reply>,
+    /// The letter of the last operation's end.
+    letter: char,
 }
 
 impl Hand {
     fn deliver(&mut self, message: &Message, size: usize) {
-        let Hand { bricks, images, coordinator, outs, replies } = self;
+        let Hand { bricks, images, coordinator, outs, replies, .. } = self;
         let Message { kind, stripe, time, round, max, targets, old, block } = *message;
         for (b, brick) in bricks.iter().enumerate() {
             let (image, out) = (&mut images[b], &mut outs[b]);
-            let (yes, found, held) = match kind {
+            let (said, found, held) = match kind {
                 READ => {
                     let target = targets >> b & 1 == 1;
-                    let (yes, found) = brick.read(image, target, out);
-                    (yes, found, yes && target)
+                    let (said, found) = brick.read(image, target, out);
+                    (said, found, said == NONE && target)
                 }
                 ORDER => (brick.order(image, time), 0, false),
                 ORDER_READ => brick.order_read(image, time, max, out),
                 ORDER_BLOCK => {
-                    let (yes, found) = brick.order_block(image, time, block, out);
-                    (yes, found, yes && b == block)
+                    let (said, found) = brick.order_block(image, time, block, out);
+                    (said, found, said == NONE && b == block)
                 }
                 WRITE => (brick.write(image, time, &coordinator.coded[b * size..][..size]), 0, false),
                 MODIFY => {
@@ -194,7 +197,7 @@ impl Hand {
                     continue;
                 }
             };
-            replies[b] = Reply { kind, brick: b, stripe, time, round, yes, found, held };
+            replies[b] = Reply { kind, brick: b, stripe, time, round, yes: said == NONE, found, held, said };
         }
     }
 
@@ -220,10 +223,10 @@ impl Hand {
                 match self.coordinator.take(four, &self.replies[b], &self.outs[b]) {
                     Act::Waits => {}
                     Act::Sends(m) => sent = Some(m),
-                    Act::Written(m) => (sent, done) = (Some(m), op.writes()),
-                    Act::Read(m) => (sent, done) = (m, !op.writes()),
+                    Act::Written(m, letter) => (sent, done, self.letter) = (Some(m), op.writes(), letter),
+                    Act::Read(m, letter) => (sent, done, self.letter) = (m, !op.writes(), letter),
                     Act::Refused(11) => assert!(sent.is_some() || done),
-                    Act::Refused(_) | Act::Aborted => panic!("the operation goes on"),
+                    Act::Refused(_) | Act::Aborted(_) => panic!("the operation goes on"),
                 }
             }
             inside += started.map_or(Duration::ZERO, |t| t.elapsed());
@@ -248,7 +251,7 @@ fn start(bricks: &[Brick], (n, m, size, _): proved::Four, partial: usize, stripe
         .map(|(b, brick)| {
             let mut image = vec![0; 512 * (CAPACITY + 1)];
             brick.fresh(&mut image);
-            assert!(brick.write(&mut image, 16, &coded[b * size..][..size]));
+            assert_eq!(brick.write(&mut image, 16, &coded[b * size..][..size]), NONE);
             brick.trim(&mut image, 16);
             image
         })
@@ -256,17 +259,17 @@ fn start(bricks: &[Brick], (n, m, size, _): proved::Four, partial: usize, stripe
     for k in 0..partial {
         let time = 32 + 16 * k as u64;
         for (b, brick) in bricks.iter().enumerate() {
-            assert!(brick.order(&mut images[b], time));
+            assert_eq!(brick.order(&mut images[b], time), NONE);
         }
         if k + 1 < partial {
-            assert!(bricks[k].write(&mut images[k], time, &vec![7; size]));
+            assert_eq!(bricks[k].write(&mut images[k], time, &vec![7; size]), NONE);
         }
     }
     images
 }
 
 /// What the lent stripe, zeros at first, holds after an operation.
-fn wanted((_, op, partial, _): Case, data: &[u8], old: &[u8], size: usize) -> Vec<u8> {
+fn wanted((_, op, partial, ..): Case, data: &[u8], old: &[u8], size: usize) -> Vec<u8> {
     let block = match op {
         Op::Write => return data.to_vec(),
         Op::Read => return old.to_vec(),
@@ -282,7 +285,7 @@ fn wanted((_, op, partial, _): Case, data: &[u8], old: &[u8], size: usize) -> Ve
 /// A case at some settings, measured: ours, by hand, by hand with wide tests, in microseconds; then the coordinators of the first two.
 fn measure(four: proved::Four, case: Case, samples: usize) -> ([f64; 5], Moved) {
     let (n, m, size, _) = four;
-    let (_, op, partial, last_round) = case;
+    let (_, op, partial, last_round, letter) = case;
     let bricks = |wide| -> Vec<Brick> { (0..n).map(|b| Brick::new((n, m, size), CAPACITY, b, wide)).collect() };
     let data: Vec<u8> = (0..m * size).map(|k| (k * 37 + k / 256) as u8).collect();
     let old: Vec<u8> = (0..m * size).map(|k| (k * 91 + 5) as u8).collect();
@@ -295,7 +298,7 @@ fn measure(four: proved::Four, case: Case, samples: usize) -> ([f64; 5], Moved) 
         stripe: vec![0; m * size],
         coded: vec![0; n * size],
         outs: vec![vec![0; size]; n],
-        replies: vec![[0; 8]; n],
+        replies: vec![[0; 9]; n],
         moved: Moved::default(),
     };
     let mut hands = [false, true].map(|wide| Hand {
@@ -304,6 +307,7 @@ fn measure(four: proved::Four, case: Case, samples: usize) -> ([f64; 5], Moved) 
         coordinator: Coordinator::new(four, 3),
         outs: vec![vec![0; size]; n],
         replies: vec![Reply::default(); n],
+        letter: ' ',
     });
     let (lent, coordinator) = (ours.lent.clone(), hands[0].coordinator.clone());
     let mut best = [f64::MAX; 5];
@@ -337,6 +341,7 @@ fn measure(four: proved::Four, case: Case, samples: usize) -> ([f64; 5], Moved) 
     for hand in &hands {
         assert!(ours.stripe == wanted && hand.coordinator.stripe == wanted, "the stripe");
         assert!(ours.images == hand.images, "the bricks");
+        assert!([char::from(ours.lent.shown[answer::LETTER]), hand.letter] == [letter; 2], "the letter");
     }
     assert_eq!(ours.lent.sent[answer::ROUND], last_round, "the rounds");
     (best, ours.moved)

@@ -99,17 +99,17 @@ module _ (n m size stripes : ℕ) (h : Buffered) where
     unfolding readStep starting sentBlocks roundMessage firstOp
     read-coded old = coded-of old _ (so-checked _ _ _ (so-drawn _ (drawOf (h .state .clock) reading) _ (λ t c. refl)))
 
-  pub crash-so : (P : Went → Type 0) → P (record { next = h; sent = []; seen = nothingSeen }) → P (ending h (h .stripe) [] cutSeen noBricks) → Went-so P (crashStep n m size stripes h)
+  pub crash-so : (P : Went → Type 0) → P (record { next = h; sent = []; seen = nothingSeen }) → P (ending n h (h .stripe) [] cutSeen noBricks) → Went-so P (crashStep n m size stripes h)
   unfolding crashStep crashed
-  crash-so P a b = so-checked P _ (went (crashed h)) (go (eqb (h .state .op .kind) idleKind))
+  crash-so P a b = so-checked P _ (went (crashed n h)) (go (eqb (h .state .op .kind) idleKind))
     where
-      go : (t : Bool) → P (cond t (record { next = h; sent = []; seen = nothingSeen }) (ending h (h .stripe) [] cutSeen noBricks))
+      go : (t : Bool) → P (cond t (record { next = h; sent = []; seen = nothingSeen }) (ending n h (h .stripe) [] cutSeen noBricks))
       go true = a
       go false = b
 
   pub crash-numbered : Numbered (crashStep n m size stripes h)
   unfolding crashStep
-  crash-numbered = numbered-checked _ (went (crashed h)) tt
+  crash-numbered = numbered-checked _ (went (crashed n h)) tt
 
   pub crash-blocks : blocksAfter h (crashStep n m size stripes h) ≡ h .blocks
   unfolding ending

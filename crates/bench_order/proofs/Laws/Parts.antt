@@ -10,6 +10,7 @@ use Rattle.coord_record.specs.Records.{readingKind, writingKind}
 use Rattle.coord_record.specs.declared.Op.{Op}
 use Rattle.order.specs.Claim.{Ending, Seen}
 use Rattle.register.specs.Runs.{plain, World, Event, step}
+use Rattle.register.specs.RunLetters.{letterAt}
 use Rattle.bench_rules.specs.Play.{Played, refuses, passes, happens, andThen}
 use Rattle.bench_order.specs.Report.{Part, playsPart}
 use Rattle.bench_order.specs.ScriptTheorem.{startsOnBlock}
@@ -36,7 +37,7 @@ pub data Does (s : Settings) (w : World) : Played → Type 0 where
   happening : (e : Event) (c kind : ℕ) → startsOnBlock e ≡ false → (FewSent w → FewSent (step s w e .world))
       → ((time : ℕ) (how : Ending (plain s)) → step s w e .seen benchStripe ≡ Seen.ended time how ∷ [] → Ran (w .coordinators c .state .op) kind time)
       → ((stripe : ℕ) → (stripe ≡ benchStripe → ⊥) → step s w e .seen stripe ≡ [])
-      → Does s w (happens s w e (told s c kind (step s w e .seen benchStripe)))
+      → Does s w (happens s w e (told s c kind (letterAt s w e) (step s w e .seen benchStripe)))
 
 -- What a line does is what its parts do, one after the other.
 pub data Parts (s : Settings) : World → List Part → Played → Type 0 where

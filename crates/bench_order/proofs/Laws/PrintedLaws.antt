@@ -55,18 +55,18 @@ read-whole : (kind : ℕ) → eqb kind readingKind ≡ true → onBlock kind ≡
 unfolding onBlock
 read-whole kind e = rw (eqb-true kind readingKind e) refl
 
-told-by-what : (s : Settings) (op : Op) (c what kind stripe time block : ℕ) (bricks : List ℕ) (h : Buffered)
-    → Agrees op (record { what = what; kind = kind; stripe = stripe; time = time; block = block; bricks = bricks })
-    → told s c kind (seenOf s (record { what = what; kind = kind; stripe = stripe; time = time; block = block; bricks = bricks }) h)
-    ≡ endedText c (record { what = what; kind = kind; stripe = stripe; time = time; block = block; bricks = bricks }) (h .stripe)
+told-by-what : (s : Settings) (op : Op) (c what kind stripe time block letter : ℕ) (bricks : List ℕ) (h : Buffered)
+    → Agrees op (record { what = what; kind = kind; stripe = stripe; time = time; block = block; bricks = bricks; letter = letter })
+    → told s c kind letter (seenOf s (record { what = what; kind = kind; stripe = stripe; time = time; block = block; bricks = bricks; letter = letter }) h)
+    ≡ endedText c (record { what = what; kind = kind; stripe = stripe; time = time; block = block; bricks = bricks; letter = letter }) (h .stripe)
 unfolding told toldEnd endLine seenOf readGiven endedText isEnd lineText kindWord endWord
-told-by-what s op c zero kind stripe time block bricks h a = refl
-told-by-what s op c (suc zero) kind stripe time block bricks h a = refl
-told-by-what s op c (suc (suc zero)) kind stripe time block bricks h a = rw (a .ok-writes refl) (append-nil _)
-told-by-what s op c (suc (suc (suc zero))) kind stripe time block bricks h a = rw (read-whole kind (a .bytes-read refl), a .bytes-read refl) (append-nil _)
-told-by-what s op c (suc (suc (suc (suc zero)))) kind stripe time block bricks h a = append-nil _
-told-by-what s op c (suc (suc (suc (suc (suc zero))))) kind stripe time block bricks h a = append-nil _
-told-by-what s op c (suc (suc (suc (suc (suc (suc k)))))) kind stripe time block bricks h a =
+told-by-what s op c zero kind stripe time block letter bricks h a = refl
+told-by-what s op c (suc zero) kind stripe time block letter bricks h a = refl
+told-by-what s op c (suc (suc zero)) kind stripe time block letter bricks h a = rw (a .ok-writes refl) (append-nil _)
+told-by-what s op c (suc (suc (suc zero))) kind stripe time block letter bricks h a = rw (read-whole kind (a .bytes-read refl), a .bytes-read refl) (append-nil _)
+told-by-what s op c (suc (suc (suc (suc zero)))) kind stripe time block letter bricks h a = append-nil _
+told-by-what s op c (suc (suc (suc (suc (suc zero))))) kind stripe time block letter bricks h a = append-nil _
+told-by-what s op c (suc (suc (suc (suc (suc (suc k)))))) kind stripe time block letter bricks h a =
     rw (
       ne-eqb (suc (suc (suc (suc (suc (suc k)))))) beganSeen (λ q. omega (arith, q)),
       ne-eqb (suc (suc (suc (suc (suc (suc k)))))) okSeen (λ q. omega (arith, q)),
@@ -80,8 +80,8 @@ told-by-what s op c (suc (suc (suc (suc (suc (suc k)))))) kind stripe time block
 
 -- what is printed at an event of coordinator c is the line of what is seen there
 pub printed-is-seen : (s : Settings) (op : Op) (c : ℕ) (e : Notice) (h : Buffered) → Agrees op e
-    → told s c (e .kind) (seenOf s e h) ≡ endedText c e (h .stripe)
-printed-is-seen s op c e h a = told-by-what s op c (e .what) (e .kind) (e .stripe) (e .time) (e .block) (e .bricks) h a
+    → told s c (e .kind) (e .letter) (seenOf s e h) ≡ endedText c e (h .stripe)
+printed-is-seen s op c e h a = told-by-what s op c (e .what) (e .kind) (e .stripe) (e .time) (e .block) (e .letter) (e .bricks) h a
 
 -- what ended is what was shown to end, at its time
 unfoldable endTime : (s : Settings) → List (Seen (plain s)) → ℕ
@@ -135,17 +135,17 @@ began-agrees op e w z =
 running : (op : Op) → op .stripe ≡ benchStripe → (op .kind ≡ readingKind) ⊎ (op .kind ≡ writingKind) → Ran op (op .kind) (op .time)
 running op z k = record { time-is = refl; kind-is = refl; stripe-is = z; known = k }
 
-short-agrees : (op : Op) (what : ℕ) (bricks : List ℕ) → op .stripe ≡ benchStripe → (op .kind ≡ readingKind) ⊎ (op .kind ≡ writingKind) → abortedSeen ≤ what
-    → Agrees op (noticeOf op what bricks)
-short-agrees op what bricks z k h =
+short-agrees : (op : Op) (what letter : ℕ) (bricks : List ℕ) → op .stripe ≡ benchStripe → (op .kind ≡ readingKind) ⊎ (op .kind ≡ writingKind) → abortedSeen ≤ what
+    → Agrees op (noticeOf op what letter bricks)
+short-agrees op what letter bricks z k h =
     record { ok-writes = λ q. absurd (omega (arith, h, q)); bytes-read = λ q. absurd (omega (arith, h, q)); ends-own = λ a b. running op z k; on-stripe = z }
 
-finish-agrees : (op : Op) (bricks : List ℕ) → op .stripe ≡ benchStripe → (op .kind ≡ readingKind) ⊎ (op .kind ≡ writingKind)
-    → Agrees op (noticeOf op (finishedSeen op) bricks)
+finish-agrees : (op : Op) (letter : ℕ) (bricks : List ℕ) → op .stripe ≡ benchStripe → (op .kind ≡ readingKind) ⊎ (op .kind ≡ writingKind)
+    → Agrees op (noticeOf op (finishedSeen op) letter bricks)
 unfolding finishedSeen isReading
-finish-agrees op bricks z k = go k
+finish-agrees op letter bricks z k = go k
   where
-    go : (op .kind ≡ readingKind) ⊎ (op .kind ≡ writingKind) → Agrees op (noticeOf op (cond (isReading (op .kind)) readSeen okSeen) bricks)
+    go : (op .kind ≡ readingKind) ⊎ (op .kind ≡ writingKind) → Agrees op (noticeOf op (cond (isReading (op .kind)) readSeen okSeen) letter bricks)
     go (inl e) =
         let r : isReading (op .kind) ≡ true = rw e refl in
         rw r
@@ -165,7 +165,7 @@ acted-agrees : (n m size : ℕ) (h : Buffered) → opRight (h .state .op) ≡ tr
     (d : Decision)
     → DecisionSays n m (h .state .op) (h .state .tally) d → Agrees (h .state .op) (acted n m size h d .seen)
 unfolding acted ending nextRound modifying DecisionSays
-acted-agrees n m size h r z k Abort s = short-agrees (h .state .op) abortedSeen noBricks z k (omega arith)
+acted-agrees n m size h r z k Abort s = short-agrees (h .state .op) abortedSeen _ noBricks z k (omega arith)
 acted-agrees n m size h r z k Give s =
     record {
       ok-writes = λ q. absurd (omega (arith, q));
@@ -178,8 +178,8 @@ acted-agrees n m size h r z k Store s = nothing-agrees (h .state .op)
 acted-agrees n m size h r z k (Modify time) s = nothing-agrees (h .state .op)
 acted-agrees n m size h r z k (Recover time) s =
     recover-either n m size h time (λ (w : Went). Agrees (h .state .op) (w .seen)) (nothing-agrees (h .state .op))
-    (short-agrees (h .state .op) abortedSeen noBricks z k (omega arith))
-acted-agrees n m size h r z k Finish s = finish-agrees (h .state .op) (h .state .bricks) z k
+    (short-agrees (h .state .op) abortedSeen _ noBricks z k (omega arith))
+acted-agrees n m size h r z k Finish s = finish-agrees (h .state .op) _ (h .state .bricks) z k
 
 waiting-agrees : (n m size : ℕ) (h : Buffered) → opRight (h .state .op) ≡ true → h .state .op .stripe ≡ benchStripe → (h .state .op .kind ≡ readingKind) ⊎ (h .state .op .kind ≡ writingKind)
     → Agrees (h .state .op) (waitingOr n m size h .seen)
@@ -243,15 +243,15 @@ module _ (n m size stripes : ℕ) (one : stripes ≡ benchStripes) (h : Buffered
   pub crash-agrees : (g : Went) → crashStep n m size stripes h ≡ went g → Agrees (h .state .op) (g .seen)
   unfolding crashStep crashed ending
   crash-agrees g e =
-      let p = passes (crashRefusal n m size stripes (h .state)) (went (crashed h)) g e in
-      subst (λ (v : Went). Agrees (h .state .op) (v .seen)) (same-went (crashed h) g (p .1))
+      let p = passes (crashRefusal n m size stripes (h .state)) (went (crashed n h)) g e in
+      subst (λ (v : Went). Agrees (h .state .op) (v .seen)) (same-went (crashed n h) g (p .1))
       (go (crash-sound (p .0)) (eqb (h .state .op .kind) idleKind) refl)
     where
       go : SoundParts n m size stripes (h .state) → (b : Bool) → eqb (h .state .op .kind) idleKind ≡ b
-          → Agrees (h .state .op) (cond b (record { next = h; sent = []; seen = nothingSeen }) (ending h (h .stripe) [] cutSeen noBricks) .seen)
+          → Agrees (h .state .op) (cond b (record { next = h; sent = []; seen = nothingSeen }) (ending n h (h .stripe) [] cutSeen noBricks) .seen)
       go r true q = nothing-agrees (h .state .op)
       go r false q =
-          short-agrees (h .state .op) cutSeen noBricks (only-stripe stripes (h .state .op .stripe) one (r .stripe-low))
+          short-agrees (h .state .op) cutSeen _ noBricks (only-stripe stripes (h .state .op .stripe) one (r .stripe-low))
           (fit-known (h .state .op) whole (fit (h .state .op) (r .op-right) (λ i _. eqb-false (h .state .op .kind) idleKind q i))) (omega arith)
 
 -- the start of a write, and of a read

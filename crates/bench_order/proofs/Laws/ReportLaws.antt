@@ -21,6 +21,7 @@ use Rattle.register.proofs.Laws.CorollaryLaws.{one-thing-seen}
 use Rattle.register.proofs.Laws.Invariant.{Hist, Running, view, Inv}
 use Rattle.register.proofs.Laws.StripeViewLaws.{viewed-here}
 use Rattle.register.proofs.Laws.BegunLaws.{begun-read, begun-write}
+use Rattle.register.specs.RunLetters.{letterAt}
 use Rattle.register.specs.Runs.{plain, World, Event, Moved, unmoved, freshSet, begunKind, step, nextMoved, runFrom, run}
 use Rattle.register.proofs.Laws.TheoremProof.{step-goes, run-holds}
 use Rattle.bench_parse.specs.Lines.{Line, setLine, writeLine, readLine, carryLine, crashLine, downLine, upLine, noLine, reads}
@@ -69,16 +70,16 @@ kind-found s (ended u how ∷ l) t k n m = go (List·Memᴰ·cases-cons m) (kind
     go (inr p) ih = unfold kindIn in ih p
 
 -- what the bench tells at an event is what the run reports there, if the operation that ends has c in its time and began with this kind
-told-is-reported : (s : Settings) (before l : List (Seen (plain s))) (c kind : ℕ) → length l ≤ 1
+told-is-reported : (s : Settings) (before l : List (Seen (plain s))) (c kind letter : ℕ) → length l ≤ 1
     → ((time : ℕ) (how : Ending (plain s)) → l ≡ ended time how ∷ [] → (c ≡ coordinatorOf time) × (kind ≡ kindIn s before time))
-    → told s c kind l ≡ reported s before l
+    → told s c kind letter l ≡ reported s before letter l
 unfolding told reported
-told-is-reported s before [] c kind h f = refl
-told-is-reported s before (began time action ∷ []) c kind h f = refl
-told-is-reported s before (ended time how ∷ []) c kind h f =
+told-is-reported s before [] c kind letter h f = refl
+told-is-reported s before (began time action ∷ []) c kind letter h f = refl
+told-is-reported s before (ended time how ∷ []) c kind letter h f =
     let q = f time how refl in
-    ap (λ (v : ℕ). toldEnd s v kind time how ++ []) (q .0) ∙ ap (λ (v : ℕ). toldEnd s (coordinatorOf time) v time how ++ []) (q .1)
-told-is-reported s before (x ∷ y ∷ l) c kind h f = absurd (omega (arith, h))
+    ap (λ (v : ℕ). toldEnd s v kind time letter how ++ []) (q .0) ∙ ap (λ (v : ℕ). toldEnd s (coordinatorOf time) v time letter how ++ []) (q .1)
+told-is-reported s before (x ∷ y ∷ l) c kind letter h f = absurd (omega (arith, h))
 
 module _ (s : Settings) (g : SettingsRange s) where
   -- in a run, the operation that runs at coordinator c has c in its time, and its kind from its beginning
@@ -129,7 +130,8 @@ module _ (s : Settings) (g : SettingsRange s) where
   does-report w part p q (happening e c kind b h o _) parts events text f before i =
       let r : Moved s = record { world = w; seen = before } in
       let z =
-      told-is-reported s (before benchStripe) (step s w e .seen benchStripe) c kind (one-thing-seen s w e benchStripe) (λ time how d. ran-own r (i .0) (i .1) c kind time (o time how d))
+      told-is-reported s (before benchStripe) (step s w e .seen benchStripe) c kind (letterAt s w e) (one-thing-seen s w e benchStripe)
+      (λ time how d. ran-own r (i .0) (i .1) c kind time (o time how d))
       in
       subst (λ (v : List ℕ). Reports s r (part ∷ parts) (e ∷ events) (v ++ text)) (sym z)
       (event e (q ∙ ap (happens s w e) z) (f (λ (k : ℕ). before k ++ step s w e .seen k) (step-goes s g benchStripe (i .0) r (i .1) e)))

@@ -1,5 +1,5 @@
 -- Every line, part by part.
-use mathlib.Core.Path.{_≡_, refl, sym, ap, subst, _∙_}
+use mathlib.Core.Path.{_≡_, refl, sym, ap, ap₂, subst, _∙_}
 use mathlib.Core.Bool.{Bool, true, false, cond, _||_}
 use mathlib.Core.List.{List, [], _∷_, _++_, append-nil}
 use Prim.Native.Nat.{ℕ, zero, suc, _*_, _≤_, _<_}
@@ -24,6 +24,7 @@ use Rattle.order.specs.Claim.{Ending, Seen}
 use Rattle.register.specs.Runs.{plain, Item, message, reply, World, untouched, Event, startWrite, startRead, arrives, crashes, goesDown}
 use Rattle.register.specs.Runs.{comesUp, Moved, unmoved, coordinated, seenOf, repliedWith, received}
 use Rattle.register.specs.Runs.{arriving, arrivingAt, standing, step}
+use Rattle.register.specs.RunLetters.{stepLetter, arrivingLetter, arrivingLetterAt, letterAt}
 use Rattle.register.proofs.Laws.DriverLaws.{left-untouched}
 use Rattle.register.proofs.Laws.StripeViewLaws.{shown-here, shown-there}
 use Rattle.bench_parse.specs.Lines.{Line, setLine, writeLine, readLine, carryLine, crashLine, downLine, upLine, noLine}
@@ -101,21 +102,22 @@ unless-went false (went v) g e = absurd (let z : _≡_ {A = ℕ} 0 1 = cc in ome
 
 module _ (s : Settings) (w : World) (one-stripe : s .stripes ≡ benchStripes) (whole : WholeStripes w) where
   -- an event that prints what is seen at it
-  printing : (e : Event) (c kind : ℕ) (text : List ℕ) → startsOnBlock e ≡ false → told s c kind (step s w e .seen benchStripe) ≡ text → (FewSent w → FewSent (step s w e .world))
+  printing : (e : Event) (c kind : ℕ) (text : List ℕ) → startsOnBlock e ≡ false → told s c kind (letterAt s w e) (step s w e .seen benchStripe) ≡ text → (FewSent w → FewSent (step s w e .world))
       → ((time : ℕ) (how : Ending (plain s)) → step s w e .seen benchStripe ≡ Seen.ended time how ∷ [] → Ran (w .coordinators c .state .op) kind time)
       → ((stripe : ℕ) → (stripe ≡ benchStripe → ⊥) → step s w e .seen stripe ≡ [])
       → Does s w (happens s w e text)
   printing e c kind text n q f o z = subst (λ (l : List ℕ). Does s w (happens s w e l)) q (happening e c kind n f o z)
 
   -- an event at a coordinator
-  acts-does : (e : Event) (c : ℕ) (st : Step) → startsOnBlock e ≡ false → ((g : Went) → st ≡ went g → (step s w e ≡ coordinated s w c (went g)) × Agrees (w .coordinators c .state .op) (g .seen))
+  acts-does : (e : Event) (c : ℕ) (st : Step) → startsOnBlock e ≡ false
+      → ((g : Went) → st ≡ went g → (step s w e ≡ coordinated s w c (went g)) × (letterAt s w e ≡ g .seen .letter) × Agrees (w .coordinators c .state .op) (g .seen))
       → Does s w (acts s w e c st)
   unfolding acts coordinated FewSent
   acts-does e c (refused number) n f = refusing number
   acts-does e c (went g) n f = go (leb (length (step s w e .world .sent)) lastMessage) refl
     where
       agrees : Agrees (w .coordinators c .state .op) (g .seen)
-      agrees = f g refl .1
+      agrees = f g refl .2
 
       here : step s w e .seen benchStripe ≡ seenOf s (g .seen) (g .next)
       here = ap (λ (v : Moved s). v .seen benchStripe) (f g refl .0) ∙ shown-here (g .seen .stripe) benchStripe _ (sym (agrees .on-stripe))
@@ -124,7 +126,7 @@ module _ (s : Settings) (w : World) (one-stripe : s .stripes ≡ benchStripes) (
           → Does s w (cond b (happens s w e (endedText c (g .seen) (g .next .stripe))) (refuses w badLine))
       go true q =
           printing e c (g .seen .kind) _ n
-          (ap (told s c (g .seen .kind)) here ∙ printed-is-seen s (w .coordinators c .state .op) c (g .seen) (g .next) agrees)
+          (ap₂ (told s c (g .seen .kind)) (f g refl .1) here ∙ printed-is-seen s (w .coordinators c .state .op) c (g .seen) (g .next) agrees)
           (λ h. leb-true _ lastMessage q)
           (λ time how z. end-ran s (w .coordinators c .state .op) (g .seen) (g .next) time how agrees (sym here ∙ z))
           (λ k o. ap (λ (v : Moved s). v .seen k) (f g refl .0) ∙ shown-there (g .seen .stripe) k _ (λ z. o (z ∙ agrees .on-stripe)))
@@ -139,29 +141,30 @@ module _ (s : Settings) (w : World) (one-stripe : s .stripes ≡ benchStripes) (
       go false = refusing badNumber
 
   writes-does : (c clock : ℕ) (digits : List ℕ) → Does s w (writes s w c clock digits)
-  unfolding writes step startsOnBlock
+  unfolding writes step startsOnBlock letterAt stepLetter
   writes-does c clock digits =
       at-does c _
       (acts-does (startWrite c benchStripe clock (content s digits)) c _ refl
       (λ g q.
       let e = unless-went (counted s digits) (writeStep (s .n) (s .m) (s .size) (s .stripes) (w .coordinators c) benchStripe clock (content s digits)) g q in (
         rw (bytes-pass (content s digits) (content-small s digits)) (ap (coordinated s w c) e),
+        rw (bytes-pass (content s digits) (content-small s digits)) (ap stepLetter e),
         write-agrees (s .n) (s .m) (s .size) (s .stripes) (w .coordinators c) clock (content s digits) g e,
       )))
 
   starts-does : (c clock brick : ℕ) → Does s w (starts s w c clock brick)
-  unfolding starts step startsOnBlock
+  unfolding starts step startsOnBlock letterAt stepLetter
   starts-does c clock brick =
       at-does c _
       (acts-does (startRead c benchStripe clock brick) c _ refl
-      (λ g e. (ap (coordinated s w c) e, read-agrees (s .n) (s .m) (s .size) (s .stripes) (w .coordinators c) clock brick g e)))
+      (λ g e. (ap (coordinated s w c) e, ap stepLetter e, read-agrees (s .n) (s .m) (s .size) (s .stripes) (w .coordinators c) clock brick g e)))
 
   crashes-does : (c : ℕ) → Does s w (crashesAt s w c)
-  unfolding crashesAt step startsOnBlock
+  unfolding crashesAt step startsOnBlock letterAt stepLetter
   crashes-does c =
       at-does c _
       (acts-does (crashes c untouched) c _ refl
-      (λ g e. (ap (coordinated s w c) (left-untouched s _ ∙ e), crash-agrees (s .n) (s .m) (s .size) (s .stripes) one-stripe (w .coordinators c) (whole c) g e)))
+      (λ g e. (ap (coordinated s w c) (left-untouched s _ ∙ e), ap stepLetter e, crash-agrees (s .n) (s .m) (s .size) (s .stripes) one-stripe (w .coordinators c) (whole c) g e)))
 
   -- nothing is seen, and no message is sent past 127
   abbrev Quiet : Moved s → Type 0
@@ -174,7 +177,7 @@ module _ (s : Settings) (w : World) (one-stripe : s .stripes ≡ benchStripes) (
   quiet : (e : Event) → startsOnBlock e ≡ false → Quiet (step s w e) → Does s w (happens s w e [])
   unfolding told
   quiet e b q =
-      printing e 0 0 [] b (ap (told s 0 0) (q .0 benchStripe)) (q .1)
+      printing e 0 0 [] b (ap (told s 0 0 (letterAt s w e)) (q .0 benchStripe)) (q .1)
       (λ time how z. absurd (let l : _≡_ {A = ℕ} 0 1 = ap length (sym (q .0 benchStripe) ∙ z) in omega arith))
       (λ stripe n. q .0 stripe)
 
@@ -224,33 +227,35 @@ module _ (s : Settings) (w : World) (one-stripe : s .stripes ≡ benchStripes) (
       go false q = refusing badLine
 
   -- an item, carried as item k of all
-  carries-does : (k : ℕ) (i : Item) → step s w (arrives k) ≡ arriving s w i → Does s w (carries s w k i)
-  unfolding carries arriving startsOnBlock
-  carries-does k (message b msg block old) e = go (ltb b (s .n)) (w .up b) refl
+  carries-does : (k : ℕ) (i : Item) → step s w (arrives k) ≡ arriving s w i → letterAt s w (arrives k) ≡ arrivingLetter s w i → Does s w (carries s w k i)
+  unfolding carries arriving startsOnBlock arrivingLetter stepLetter
+  carries-does k (message b msg block old) e l = go (ltb b (s .n)) (w .up b) refl
     where
       go : (t u : Bool) → w .up b ≡ u
           → Does s w (cond t (cond u (reaches s w k b msg block old) (passes w)) (refuses w badNumber))
       go true true q = reaches-does k b msg block old (rw q at e)
       go true false q = passing
       go false u q = refusing badNumber
-  carries-does k (reply r block) e =
+  carries-does k (reply r block) e l =
       at-does (coordinatorOf (r .time)) _
       (acts-does (arrives k) (coordinatorOf (r .time)) _ refl
       (λ g q. (
         e ∙ ap (coordinated s w (coordinatorOf (r .time))) q,
+        l ∙ ap stepLetter q,
         take-agrees (s .n) (s .m) (s .size) (s .stripes) one-stripe (w .coordinators (coordinatorOf (r .time))) (whole (coordinatorOf (r .time))) r block (s .n * s .size) g q,
       )))
 
-  carries-at-does : (k : ℕ) (l : List Item) (j : ℕ) → step s w (arrives k) ≡ arrivingAt s w l j → Does s w (carriesAt s w k l j)
-  unfolding carriesAt arrivingAt
-  carries-at-does k [] j e = refusing badLine
-  carries-at-does k (i ∷ l) zero e = carries-does k i e
-  carries-at-does k (i ∷ l) (suc j) e = carries-at-does k l j e
+  carries-at-does : (k : ℕ) (l : List Item) (j : ℕ) → step s w (arrives k) ≡ arrivingAt s w l j → letterAt s w (arrives k) ≡ arrivingLetterAt s w l j
+      → Does s w (carriesAt s w k l j)
+  unfolding carriesAt arrivingAt arrivingLetterAt
+  carries-at-does k [] j e d = refusing badLine
+  carries-at-does k (i ∷ l) zero e d = carries-does k i e d
+  carries-at-does k (i ∷ l) (suc j) e d = carries-at-does k l j e d
 
   carried-does : (k : ℕ) → Does s w (carried s w k)
-  unfolding carried step
+  unfolding carried step letterAt
   carried-does zero = refusing badLine
-  carried-does (suc k) = carries-at-does k (w .sent) k refl
+  carried-does (suc k) = carries-at-does k (w .sent) k refl refl
 
 carried-all-parts : (s : Settings) (w : World) → s .stripes ≡ benchStripes → WholeStripes w → (ks : List ℕ) → Parts s w (eachNumber ks) (carriedAll s w ks)
 unfolding carriedAll eachNumber playsPart

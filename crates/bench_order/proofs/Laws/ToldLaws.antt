@@ -6,8 +6,8 @@ use Rattle.order.specs.Claim.{Seen, began, ended}
 use Rattle.register.specs.Runs.{plain}
 use Rattle.bench_order.specs.Told.{toldEnd}
 
--- a line for each end, at coordinator c, and nothing for a beginning
-unfoldable pub told : (s : Settings) → ℕ → ℕ → List (Seen (plain s)) → List ℕ
-told s c kind [] = []
-told s c kind (began time action ∷ l) = told s c kind l
-told s c kind (ended time how ∷ l) = toldEnd s c kind time how ++ told s c kind l
+-- a line for each end, at coordinator c and with this letter, and nothing for a beginning
+unfoldable pub told : (s : Settings) → (c kind letter : ℕ) → List (Seen (plain s)) → List ℕ
+told s c kind letter [] = []
+told s c kind letter (began time action ∷ l) = told s c kind letter l
+told s c kind letter (ended time how ∷ l) = toldEnd s c kind time letter how ++ told s c kind letter l

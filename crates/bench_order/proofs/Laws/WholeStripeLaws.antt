@@ -79,9 +79,9 @@ module _ (n m size stripes : ℕ) (h : Buffered) (q : Whole h) where
   -- a crash,
   crash-whole : (g : Went) → crashStep n m size stripes h ≡ went g → Whole (g .next)
   unfolding crashStep crashed ending idleWith noOp onBlock
-  crash-whole g e = subst (λ (v : Went). Whole (v .next)) (same-went (crashed h) g (passes _ (went (crashed h)) g e .1)) (go (eqb (h .state .op .kind) idleKind))
+  crash-whole g e = subst (λ (v : Went). Whole (v .next)) (same-went (crashed n h) g (passes _ (went (crashed n h)) g e .1)) (go (eqb (h .state .op .kind) idleKind))
     where
-      go : (b : Bool) → Whole (cond b (record { next = h; sent = []; seen = nothingSeen }) (ending h (h .stripe) [] cutSeen noBricks) .next)
+      go : (b : Bool) → Whole (cond b (record { next = h; sent = []; seen = nothingSeen }) (ending n h (h .stripe) [] cutSeen noBricks) .next)
       go true = q
       go false = refl
 

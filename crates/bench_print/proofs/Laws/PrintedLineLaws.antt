@@ -62,20 +62,22 @@ pub end-cut : (what at : ℕ) (stripe old out : List ℕ) (r : ℕ) → (what �
 unfolding endWord
 end-cut what at stripe old out r n1 n2 n3 p = rw (ne-eqb what okSeen n1, ne-eqb what readSeen n2, ne-eqb what abortedSeen n3) p
 
--- the four parts of a line
-line-parts : (c kind time what : ℕ) (stripe : List ℕ)
-    → (decimal c ++ space ∷ []) ++ (kindWord kind ++ space ∷ []) ++ (decimal time ++ space ∷ []) ++ (endWord what stripe ++ newline ∷ [])
-    ≡ lineText c kind time what stripe
+-- the five parts of a line
+line-parts : (c kind time letter what : ℕ) (stripe : List ℕ)
+    → (decimal c ++ space ∷ []) ++ (kindWord kind ++ space ∷ []) ++ (decimal time ++ space ∷ []) ++ (letter ∷ space ∷ []) ++ (endWord what stripe ++ newline ∷ [])
+    ≡ lineText c kind time letter what stripe
 unfolding lineText
-line-parts c kind time what stripe = simp append-assoc
+line-parts c kind time letter what stripe = simp append-assoc
 
-pub line-placed : (c kind time what at : ℕ) (stripe old o1 o2 o3 out : List ℕ) (r1 r2 r3 r : ℕ) → at ≤ length old
+pub line-placed : (c kind time letter what at : ℕ) (stripe old o1 o2 o3 o4 out : List ℕ) (r1 r2 r3 r4 r : ℕ) → at ≤ length old
     → PrintedAt at (decimal c ++ space ∷ []) old o1 r1 → PrintedAt r1 (kindWord kind ++ space ∷ []) o1 o2 r2
-    → PrintedAt r2 (decimal time ++ space ∷ []) o2 o3 r3 → PrintedAt r3 (endWord what stripe ++ newline ∷ []) o3 out r
-    → PrintedAt at (lineText c kind time what stripe) old out r
-line-placed c kind time what at stripe old o1 o2 o3 out r1 r2 r3 r h p1 p2 p3 p4 =
-    placed-as at _ (lineText c kind time what stripe) old out r (line-parts c kind time what stripe)
-    (placed-both at _ _ old o3 out r3 r h (placed-both at _ _ old o2 o3 r2 r3 h (placed-both at _ _ old o1 o2 r1 r2 h p1 p2) p3) p4)
+    → PrintedAt r2 (decimal time ++ space ∷ []) o2 o3 r3 → PrintedAt r3 (letter ∷ space ∷ []) o3 o4 r4
+    → PrintedAt r4 (endWord what stripe ++ newline ∷ []) o4 out r
+    → PrintedAt at (lineText c kind time letter what stripe) old out r
+line-placed c kind time letter what at stripe old o1 o2 o3 o4 out r1 r2 r3 r4 r h p1 p2 p3 p4 p5 =
+    placed-as at _ (lineText c kind time letter what stripe) old out r (line-parts c kind time letter what stripe)
+    (placed-both at _ _ old o4 out r4 r h
+    (placed-both at _ _ old o3 o4 r3 r4 h (placed-both at _ _ old o2 o3 r2 r3 h (placed-both at _ _ old o1 o2 r1 r2 h p1 p2) p3) p4) p5)
 
 -- what is printed: nothing, or the line
 pub ended-before : (c : ℕ) (seen : Notice) (stripe : List ℕ) → seen .what < okSeen → endedText c seen stripe ≡ []
@@ -87,7 +89,7 @@ unfolding endedText isEnd
 ended-past c seen stripe h = rw (le-ltb (seen .what) okSeen (omega arith), lt-leb (seen .what) cutSeen h)
 
 pub ended-line : (c : ℕ) (seen : Notice) (stripe : List ℕ) → okSeen ≤ seen .what → seen .what ≤ cutSeen
-    → endedText c seen stripe ≡ lineText c (seen .kind) (seen .time) (seen .what) stripe
+    → endedText c seen stripe ≡ lineText c (seen .kind) (seen .time) (seen .letter) (seen .what) stripe
 unfolding endedText isEnd
 ended-line c seen stripe h l = rw (le-ltb (seen .what) okSeen h, le-leb (seen .what) cutSeen l)
 
@@ -107,10 +109,10 @@ pub printed-past : (c at : ℕ) (seen : Notice) (stripe old : List ℕ) → cutS
 printed-past c at seen stripe old h = silent at (endedText c seen stripe) old (ended-past c seen stripe h)
 
 pub printed-line : (c at : ℕ) (seen : Notice) (stripe old out : List ℕ) (r : ℕ) → okSeen ≤ seen .what → seen .what ≤ cutSeen
-    → PrintedAt at (lineText c (seen .kind) (seen .time) (seen .what) stripe) old out r → r ≤ at + endedRoom
+    → PrintedAt at (lineText c (seen .kind) (seen .time) (seen .letter) (seen .what) stripe) old out r → r ≤ at + endedRoom
     → Printed at (endedText c seen stripe) old out r
 printed-line c at seen stripe old out r h l p b =
-    let q = placed-as at (lineText c (seen .kind) (seen .time) (seen .what) stripe) (endedText c seen stripe) old out r (sym (ended-line c seen stripe h l)) p in
+    let q = placed-as at (lineText c (seen .kind) (seen .time) (seen .letter) (seen .what) stripe) (endedText c seen stripe) old out r (sym (ended-line c seen stripe h l)) p in
     (q .next-is, (q .holds, omega arith))
 
 pub printed-refused : (k at : ℕ) (old o1 o2 out : List ℕ) (r1 r2 r : ℕ) → at ≤ length old

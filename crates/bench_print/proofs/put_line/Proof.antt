@@ -13,6 +13,9 @@ put-kind-requires c κs = search needs
 put-spaced-requires-2 : tie.Need-put-spaced-requires-2
 put-spaced-requires-2 c κs = search needs
 
+put-letter-requires : tie.Need-put-letter-requires
+put-letter-requires c κs = search needs
+
 put-end-requires : tie.Need-put-end-requires
 put-end-requires c κs = search needs
 
@@ -21,10 +24,11 @@ same-length c = search needs
 
 returns : tie.Need-returns
 returns c = (
-  line-placed _ _ _ _ _ _ _ _ _ _ _ _ _ _ _ (omega arith)
-      (c .before .before .before .before .before .before .before .before .before .before .before .before .before .before .put-spaced .ensures .0)
-      (c .before .before .before .before .before .before .before .before .before .before .put-kind .ensures .0)
-      (c .before .before .before .before .before .before .put-spaced2 .ensures .0)
+  line-placed _ _ _ _ _ _ _ _ _ _ _ _ _ _ _ _ _ _ (omega arith)
+      (c .before .before .before .before .before .before .before .before .before .before .before .before .before .before .before .before .before .before .put-spaced .ensures .0)
+      (c .before .before .before .before .before .before .before .before .before .before .before .before .before .before .put-kind .ensures .0)
+      (c .before .before .before .before .before .before .before .before .before .before .put-spaced2 .ensures .0)
+      (c .before .before .before .before .before .before .put-letter .ensures .0)
       (c .before .before .put-end .ensures .0),
   omega arith,
 )
@@ -36,6 +40,7 @@ put-line-spec =
     put-spaced-requires
     put-kind-requires
     put-spaced-requires-2
+    put-letter-requires
     put-end-requires
     same-length
     returns)

@@ -19,7 +19,7 @@ use Rattle.settings.proofs.Laws.CountLaws.{one-is}
 use Rattle.bench_sent.specs.Sent.{numberAt, isReply, flagsAt, sentBlockAt, oldBlockAt, messageAt, replyAt, itemAt, itemsOf}
 use Rattle.bench_sent.specs.Workers.{Added, sentRow, messageRow, replyRow, numbersWith, bytesWith, oldWith, noFlags}
 use Rattle.bench_limits.specs.Limits.{benchSize, rowNumbers, rowBytes, tagPlace, brickPlace, kindPlace, timePlace, roundPlace, maxPlace, foundPlace}
-use Rattle.bench_limits.specs.Limits.{yesPlace, heldPlace, stripePlace, oldTimePlace, dataBlockPlace, messageTag, replyTag}
+use Rattle.bench_limits.specs.Limits.{yesPlace, heldPlace, stripePlace, oldTimePlace, dataBlockPlace, comparisonPlace, messageTag, replyTag}
 use Rattle.bench_limits.specs.Limits.{flagCount, blockPlace, oldBlockPlace}
 
 -- a number that was put is found there
@@ -70,10 +70,11 @@ module _ (k : ℕ) (numbers bytes numbers′ bytes′ : List ℕ) (b : Below k n
       let n8 = number-below j stripePlace hj (omega arith) in
       let n9 = number-below j oldTimePlace hj (omega arith) in
       let n10 = number-below j dataBlockPlace hj (omega arith) in
+      let n11 = number-below j comparisonPlace hj (omega arith) in
       let f = flags-below j hj in
       let d = block-below size j hs hj in
       let o = old-below size j hs hj in
-      rw (n0, n1, n2, n3, n4, n5, n6, n7, n8, n9, n10, f, d, o)
+      rw (n0, n1, n2, n3, n4, n5, n6, n7, n8, n9, n10, n11, f, d, o)
 
   pub items-below : (size j : ℕ) → size ≤ benchSize → j ≤ k → itemsOf size numbers′ bytes′ j ≡ itemsOf size numbers bytes j
   unfolding itemsOf
@@ -188,11 +189,11 @@ no-flags-length : length noFlags ≡ flagCount
 unfolding noFlags zeros
 no-flags-length = refl
 
-reply-read : (k : ℕ) (r : Reply) (block numbers bytes : List ℕ) → r .kind < 256 → length block ≤ benchSize
+reply-read : (k : ℕ) (r : Reply) (block numbers bytes : List ℕ) → r .kind < 256 → r .comparison < 256 → length block ≤ benchSize
     → k * rowNumbers + rowNumbers ≤ length numbers → k * rowBytes + rowBytes ≤ length bytes → (size : ℕ) → length block ≡ size
     → itemAt size (numbersWith k (replyRow r) numbers) (bytesWith k noFlags block bytes) k ≡ reply r block
 unfolding itemAt isReply messageAt replyAt replyRow
-reply-read k r block numbers bytes hk nb hn hb size e =
+reply-read k r block numbers bytes hk hc nb hn hb size e =
     let row = replyRow r in
     let nf = no-flags-length in
     let n : (i : ℕ) → i < rowNumbers → numberAt (numbersWith k row numbers) k i ≡ getD row i 0
@@ -206,9 +207,11 @@ reply-read k r block numbers bytes hk nb hn hb size e =
     let n6 = n yesPlace (omega arith) in
     let n7 = n heldPlace (omega arith) in
     let n8 = n stripePlace (omega arith) in
+    let n11 = n comparisonPlace (omega arith) in
     let d = block-stored k row noFlags block numbers bytes refl nf nb hn hb size e in
     let m : r .kind % 256 ≡ r .kind = mod-eq-of-lt hk in
-    rw (n0, n1, n2, n3, n4, n5, n6, n7, n8, d, m, one-is (r .yes), one-is (r .held))
+    let c : r .comparison % 256 ≡ r .comparison = mod-eq-of-lt hc in
+    rw (n0, n1, n2, n3, n4, n5, n6, n7, n8, n11, d, m, c, one-is (r .yes), one-is (r .held))
 
 -- what the stores of a message and of a reply leave
 pub message-added : (k brick : ℕ) (msg : Message) (block old numbers bytes numbers′ bytes′ : List ℕ) → msg .kind < 256 → length (msg .targets) ≡ flagCount
@@ -225,24 +228,24 @@ message-added k brick msg block old numbers bytes numbers′ bytes′ hk nf nb l
           );
     }
 
-pub reply-added : (k : ℕ) (r : Reply) (block numbers bytes numbers′ bytes′ : List ℕ) → r .kind < 256
+pub reply-added : (k : ℕ) (r : Reply) (block numbers bytes numbers′ bytes′ : List ℕ) → r .kind < 256 → r .comparison < 256
     → length block ≤ benchSize → k * rowNumbers + rowNumbers ≤ length numbers → k * rowBytes + rowBytes ≤ length bytes
     → numbers′ ≡ numbersWith k (replyRow r) numbers → bytes′ ≡ bytesWith k noFlags block bytes
     → Added k block numbers bytes numbers′ bytes′ (reply r block)
 unfolding replyRow
-reply-added k r block numbers bytes numbers′ bytes′ hk nb hn hb en eb =
+reply-added k r block numbers bytes numbers′ bytes′ hk hc nb hn hb en eb =
     record {
       items = λ size e. (
           ap₂ (λ (n b : List ℕ). itemsOf size n b (k + 1)) en eb
           ∙ items-more k numbers bytes _ _ (stored-below k (replyRow r) noFlags block numbers bytes refl no-flags-length nb hn hb) size _
-          (omega arith) (reply-read k r block numbers bytes hk nb hn hb size e)
+          (omega arith) (reply-read k r block numbers bytes hk hc nb hn hb size e)
           );
     }
 
 pub message-put : (k brick kind : ℕ) (msg : Message) (block old numbers bytes numbers′ mid bytes′ : List ℕ) → kind ≡ msg .kind → kind < 256
     → length (msg .targets) ≡ flagCount → length block ≤ benchSize → k * rowNumbers + rowNumbers ≤ length numbers → k * rowBytes + rowBytes ≤ length bytes
     → length old ≡ length block
-    → numbers′ ≡ put (k * rowNumbers) (sentRow messageTag brick kind (msg .time) (msg .round) (msg .max) 0 0 (msg .stripe) (msg .old) (msg .block)) numbers
+    → numbers′ ≡ put (k * rowNumbers) (sentRow messageTag brick kind (msg .time) (msg .round) (msg .max) 0 0 (msg .stripe) (msg .old) (msg .block) 0) numbers
     → mid ≡ bytesWith k (msg .targets) block bytes → bytes′ ≡ put (k * rowBytes + oldBlockPlace) old mid
     → (numbers′ ≡ numbersWith k (messageRow brick msg) numbers)
     × ((bytes′ ≡ oldWith k old (bytesWith k (msg .targets) block bytes))
@@ -253,19 +256,19 @@ message-put k brick kind msg block old numbers bytes numbers′ mid bytes′ ek 
     let f : bytes′ ≡ oldWith k old (bytesWith k (msg .targets) block bytes) = eb ∙ ap (put (k * rowBytes + oldBlockPlace) old) em in
     (e, (f, message-added k brick msg block old numbers bytes numbers′ bytes′ (omega arith) nf nb lo hn hb e f))
 
-pub reply-put : (k kind y h : ℕ) (r : Reply) (block numbers bytes numbers′ bytes′ : List ℕ) → kind ≡ r .kind → kind < 256
-    → y ≡ one-if (r .yes) → h ≡ one-if (r .held)
+pub reply-put : (k kind y h said : ℕ) (r : Reply) (block numbers bytes numbers′ bytes′ : List ℕ) → kind ≡ r .kind → kind < 256
+    → y ≡ one-if (r .yes) → h ≡ one-if (r .held) → said ≡ r .comparison → said < 256
     → length block ≤ benchSize → k * rowNumbers + rowNumbers ≤ length numbers → k * rowBytes + rowBytes ≤ length bytes
-    → numbers′ ≡ put (k * rowNumbers) (sentRow replyTag (r .brick) kind (r .time) (r .round) (r .found) y h (r .stripe) 0 0) numbers
+    → numbers′ ≡ put (k * rowNumbers) (sentRow replyTag (r .brick) kind (r .time) (r .round) (r .found) y h (r .stripe) 0 0 said) numbers
     → bytes′ ≡ bytesWith k noFlags block bytes
     → (numbers′ ≡ numbersWith k (replyRow r) numbers)
     × ((bytes′ ≡ bytesWith k noFlags block bytes)
     × Added k block numbers bytes numbers′ bytes′ (reply r block))
 unfolding numbersWith replyRow
-reply-put k kind y h r block numbers bytes numbers′ bytes′ ek hk ey eh nb hn hb en eb =
+reply-put k kind y h said r block numbers bytes numbers′ bytes′ ek hk ey eh ec hc nb hn hb en eb =
     let e : numbers′ ≡ numbersWith k (replyRow r) numbers
-    = en ∙ rw (ek, ey, eh) in
-    (e, (eb, reply-added k r block numbers bytes numbers′ bytes′ (omega arith) nb hn hb e eb))
+    = en ∙ rw (ek, ey, eh, ec) in
+    (e, (eb, reply-added k r block numbers bytes numbers′ bytes′ (omega arith) (omega arith) nb hn hb e eb))
 
 -- a row as its reader takes it apart
 pub item-message : (size k b : ℕ) (msg : Message) (block old numbers bytes : List ℕ) → isReply numbers k ≡ false → b ≡ numberAt numbers k brickPlace
@@ -309,13 +312,13 @@ pub message-of : (k kind stripe time round max old block : ℕ) (targets numbers
 unfolding messageAt
 message-of k kind stripe time round max old block targets numbers bytes e2 e8 e3 e4 e5 e9 e10 f = rw (e2, e8, e3, e4, e5, e9, e10, f)
 
-pub reply-of : (k kind brick stripe time round found y h : ℕ) (numbers : List ℕ) → kind ≡ numberAt numbers k kindPlace % 256
+pub reply-of : (k kind brick stripe time round found y h said : ℕ) (numbers : List ℕ) → kind ≡ numberAt numbers k kindPlace % 256
     → brick ≡ numberAt numbers k brickPlace → stripe ≡ numberAt numbers k stripePlace → time ≡ numberAt numbers k timePlace → round ≡ numberAt numbers k roundPlace
     → found ≡ numberAt numbers k foundPlace
-    → y ≡ numberAt numbers k yesPlace → h ≡ numberAt numbers k heldPlace
-    → record { kind = kind; brick = brick; stripe = stripe; time = time; round = round; yes = eqb y 1; found = found; held = eqb h 1 } ≡ replyAt numbers k
+    → y ≡ numberAt numbers k yesPlace → h ≡ numberAt numbers k heldPlace → said ≡ numberAt numbers k comparisonPlace % 256
+    → record { kind = kind; brick = brick; stripe = stripe; time = time; round = round; yes = eqb y 1; found = found; held = eqb h 1; comparison = said } ≡ replyAt numbers k
 unfolding replyAt
-reply-of k kind brick stripe time round found y h numbers e2 e1 e8 e3 e4 e5 e6 e7 = rw (e2, e1, e8, e3, e4, e5, e6, e7)
+reply-of k kind brick stripe time round found y h said numbers e2 e1 e8 e3 e4 e5 e6 e7 e11 = rw (e2, e1, e8, e3, e4, e5, e6, e7, e11)
 
 pub is-reply : (k tag : ℕ) (numbers : List ℕ) → tag ≡ numberAt numbers k tagPlace → not (eqb tag messageTag) ≡ isReply numbers k
 unfolding isReply

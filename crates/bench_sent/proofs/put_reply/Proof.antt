@@ -14,6 +14,9 @@ flag-requires c κs = search needs
 flag-requires-2 : tie.Need-flag-requires-2
 flag-requires-2 c κs = search needs
 
+wide-requires-2 : tie.Need-wide-requires-2
+wide-requires-2 c κs = search needs
+
 mul-store-row : tie.Need-mul-store-row
 mul-store-row c = search needs
 
@@ -35,10 +38,12 @@ same-length-2 c = search needs
 returns : tie.Need-returns
 unfolding noFlags zeros
 returns c =
-    let s = c .before .before .before .before .before .before .before .before .before .before .before .before .before .before .before in
-    let w = c .before .before .before .before .before .before .before .before .before .before .before .wide .ensures in
-    reply-put (s .args .k) _ _ _ (s .args .r) (s .args .block .now) (s .args .numbers .now) (s .args .bytes .now) _ _ (w .0) (w .1)
-    (c .before .before .before .before .before .before .before .before .before .before .flag .ensures) (c .before .before .before .before .before .before .before .before .before .flag2 .ensures)
+    let s = c .before .before .before .before .before .before .before .before .before .before .before .before .before .before .before .before in
+    let w = c .before .before .before .before .before .before .before .before .before .before .before .before .wide .ensures in
+    let said = c .before .before .before .before .before .before .before .before .before .wide2 .ensures in
+    reply-put (s .args .k) _ _ _ _ (s .args .r) (s .args .block .now) (s .args .numbers .now) (s .args .bytes .now) _ _ (w .0) (w .1)
+    (c .before .before .before .before .before .before .before .before .before .before .before .flag .ensures)
+    (c .before .before .before .before .before .before .before .before .before .before .flag2 .ensures) (said .0) (said .1)
     (s .pre .0) (s .pre .1) (s .pre .2) (c .before .before .before .before .before .before .store-row .ensures) (c .before .before .store-bytes .ensures)
 
 pub put-reply-spec : {M : Type 1} → statement M
@@ -48,6 +53,7 @@ put-reply-spec =
     wide-requires
     flag-requires
     flag-requires-2
+    wide-requires-2
     mul-store-row
     slice-aggregate-store-row
     store-row-requires

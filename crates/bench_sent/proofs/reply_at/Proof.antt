@@ -27,6 +27,9 @@ number-at-requires-4 c κs = search needs
 number-at-requires-5 : tie.Need-number-at-requires-5
 number-at-requires-5 c κs = search needs
 
+comparison-at-requires : tie.Need-comparison-at-requires
+comparison-at-requires c κs = search needs
+
 returns : tie.Need-returns
 returns c = search (needs, reply-of)
 
@@ -42,4 +45,5 @@ reply-at-spec =
     number-at-requires-3
     number-at-requires-4
     number-at-requires-5
+    comparison-at-requires
     returns)

@@ -8,7 +8,7 @@ use native.Mathlib.Decide.{ℕ-discrete, decLt}
 use lib.Arith.{lt-of-le-ne}
 use lib.Dec.{eqb, ltb}
 use lib.ListN.{length}
-use borrow.Author.Tests.{ltb-true, ltb-false, lt-ltb, le-ltb, leb-true, eq-eqb, ne-eqb, eqb-true}
+use borrow.Author.Tests.{ltb-true, ltb-false, lt-ltb, le-ltb, leb-true, eq-eqb, ne-eqb}
 use Rattle.byte_lists.proofs.Laws.BoolLaws.{and-left, and-right}
 use Rattle.erasure.specs.Recoding.{recodedBlock}
 use Rattle.settings.specs.Times.{validTime}
@@ -25,50 +25,19 @@ use Rattle.message.specs.Messages.{messageRefusal, roundRight, kindRight}
 use Rattle.image_write.proofs.Laws.ImageStepLaws.{promised-promise, appended-promise, promised-count, promised-time, promised-means, promised-mark}
 use Rattle.image_write.proofs.Laws.ImageStepLaws.{appended-count, appended-time-old, appended-means-old, appended-mark-old}
 use Rattle.image_write.proofs.Laws.ImageStepLaws.{appended-time-new, appended-means-new, appended-mark-new}
-use Rattle.brick_log.specs.BrickRules.{aboveNewest, notBelowPromise, hasFree, orderYes, writeYes, modifyYes, orderedIfYes, writtenIfYes, modifiedIfYes}
-use Rattle.brick_log.specs.BrickRules.{newestBlock, modifiedEntry, trimmedTo, under, lookup, yesTo, brickAfter}
+use Rattle.brick_answer.specs.Comparisons.{aboveNewest, notBelowPromise}
+use Rattle.brick_log.specs.BrickRules.{orderYes, writeYes, modifyYes, orderedIfYes, writtenIfYes, modifiedIfYes}
+use Rattle.brick_log.specs.BrickRules.{newestBlock, modifiedEntry, trimmedTo, under, lookup, brickAfter}
 use Rattle.image.proofs.Laws.LogPlaceLaws.{saved-valid, newest-at, rises-next, rises-to, sound-of}
+use Rattle.brick_log.proofs.Laws.AnsweredLaws.{after-trim, after-write, after-modify, after-read, after-order, write-free, modify-written}
 use Rattle.brick_log.proofs.Laws.LogChangeLaws.{modified-sized}
 use Rattle.brick_log.proofs.Laws.TrimLaws.{trim-not-empty, trim-keeps-newest, Trims, trim-places}
 use Rattle.brick.specs.Receive.{Highest}
 use Rattle.message.specs.Kinds.{readKind, trimKind, writeKind, modifyKind}
 use Rattle.settings.specs.Refusal.{badMessage, passed}
 
--- the brick after a message, by its kind
+-- a claim about the brick after a message is shown for each of the four changes and for none
 module _ (s : Settings) (brick : ℕ) (x : Brick) (msg : Message) (block old : List ℕ) where
-  pub after-trim : msg .kind ≡ trimKind → brickAfter s brick x msg block old ≡ trimmedTo x (msg .time)
-  unfolding brickAfter
-  after-trim e = rw (eq-eqb (msg .kind) trimKind e) refl
-
-  pub after-write : msg .kind ≡ writeKind → brickAfter s brick x msg block old ≡ writtenIfYes s x (msg .time) block
-  unfolding brickAfter
-  after-write e = rw (ne-eqb (msg .kind) trimKind (λ q. omega (arith, e, q)), eq-eqb (msg .kind) writeKind e) refl
-
-  pub after-modify : msg .kind ≡ modifyKind → brickAfter s brick x msg block old ≡ modifiedIfYes s brick x msg block old
-  unfolding brickAfter
-  after-modify e =
-      rw
-      (ne-eqb (msg .kind) trimKind (λ q. omega (arith, e, q)), ne-eqb (msg .kind) writeKind (λ q. omega (arith, e, q)), eq-eqb (msg .kind) modifyKind e)
-      refl
-
-  pub after-read : msg .kind ≡ readKind → brickAfter s brick x msg block old ≡ x
-  unfolding brickAfter
-  after-read e =
-      rw (
-        ne-eqb (msg .kind) trimKind (λ q. omega (arith, e, q)),
-        ne-eqb (msg .kind) writeKind (λ q. omega (arith, e, q)),
-        ne-eqb (msg .kind) modifyKind (λ q. omega (arith, e, q)),
-        eq-eqb (msg .kind) readKind e,
-      )
-      refl
-
-  pub after-order : (msg .kind ≡ trimKind → ⊥) → (msg .kind ≡ writeKind → ⊥) → (msg .kind ≡ modifyKind → ⊥) → (msg .kind ≡ readKind → ⊥)
-      → brickAfter s brick x msg block old ≡ orderedIfYes x (msg .time)
-  unfolding brickAfter
-  after-order a b c d =
-      rw (ne-eqb (msg .kind) trimKind a, ne-eqb (msg .kind) writeKind b, ne-eqb (msg .kind) modifyKind c, ne-eqb (msg .kind) readKind d) refl
-
-  -- a claim about the brick after a message is shown for each of the four changes and for none
   by-kind : (P : Brick → Type 0) → P (trimmedTo x (msg .time)) → P (writtenIfYes s x (msg .time) block) → P (modifiedIfYes s brick x msg block old) → P x
       → P (orderedIfYes x (msg .time)) → P (brickAfter s brick x msg block old)
   by-kind P t w m r o =
@@ -76,57 +45,11 @@ module _ (s : Settings) (brick : ℕ) (x : Brick) (msg : Message) (block old : L
     where
       go : Dec (msg .kind ≡ trimKind) → Dec (msg .kind ≡ writeKind) → Dec (msg .kind ≡ modifyKind) → Dec (msg .kind ≡ readKind)
           → P (brickAfter s brick x msg block old)
-      go (yes a) b c d = subst P (sym (after-trim a)) t
-      go (no a) (yes b) c d = subst P (sym (after-write b)) w
-      go (no a) (no b) (yes c) d = subst P (sym (after-modify c)) m
-      go (no a) (no b) (no c) (yes d) = subst P (sym (after-read d)) r
-      go (no a) (no b) (no c) (no d) = subst P (sym (after-order a b c d)) o
-
-  -- "A no changes nothing": all but Trim that are not granted.
-  pub no-changes-nothing : (msg .kind ≡ trimKind → ⊥) → yesTo s x msg ≡ false → brickAfter s brick x msg block old ≡ x
-  unfolding yesTo writtenIfYes modifiedIfYes orderedIfYes
-  no-changes-nothing n e = go (ℕ-discrete (msg .kind) writeKind) (ℕ-discrete (msg .kind) modifyKind) (ℕ-discrete (msg .kind) readKind)
-    where
-      go : Dec (msg .kind ≡ writeKind) → Dec (msg .kind ≡ modifyKind) → Dec (msg .kind ≡ readKind) → brickAfter s brick x msg block old ≡ x
-      go b c (yes d) = after-read d
-      go (yes b) c (no d) =
-          let w : writeYes s x (msg .time) ≡ false = rw (ne-eqb (msg .kind) readKind d, eq-eqb (msg .kind) writeKind b) at e in
-          after-write b ∙ rw w refl
-      go (no b) (yes c) (no d) =
-          let w : modifyYes s x (msg .time) (msg .old) ≡ false =
-          rw (ne-eqb (msg .kind) readKind d, ne-eqb (msg .kind) writeKind b, eq-eqb (msg .kind) modifyKind c) at e in
-          after-modify c ∙ rw w refl
-      go (no b) (no c) (no d) =
-          let w : orderYes x (msg .time) ≡ false =
-          rw (ne-eqb (msg .kind) readKind d, ne-eqb (msg .kind) writeKind b, ne-eqb (msg .kind) modifyKind c) at e in
-          after-order n b c d ∙ rw w refl
-
-  -- A yes to Write appends exactly that entry,
-  pub write-appends : msg .kind ≡ writeKind → yesTo s x msg ≡ true → brickAfter s brick x msg block old ≡ appended x (blockEntry (msg .time) block)
-  unfolding yesTo writtenIfYes
-  write-appends e y =
-      let w : writeYes s x (msg .time) ≡ true = rw (ne-eqb (msg .kind) readKind (λ q. omega (arith, e, q)), eq-eqb (msg .kind) writeKind e) at y in
-      after-write e ∙ rw w refl
-
-  -- one to Modify the entry of this brick,
-  pub modify-appends : msg .kind ≡ modifyKind → yesTo s x msg ≡ true
-      → brickAfter s brick x msg block old ≡ appended x (modifiedEntry s brick x msg block old)
-  unfolding yesTo modifiedIfYes
-  modify-appends e y =
-      let w : modifyYes s x (msg .time) (msg .old) ≡ true =
-      rw
-      (ne-eqb (msg .kind) readKind (λ q. omega (arith, e, q)), ne-eqb (msg .kind) writeKind (λ q. omega (arith, e, q)), eq-eqb (msg .kind) modifyKind e)
-      at y in
-      after-modify e ∙ rw w refl
-
-  -- and one to an Order of any kind promises its time, and nothing else.
-  pub order-promises : (msg .kind ≡ trimKind → ⊥) → (msg .kind ≡ writeKind → ⊥) → (msg .kind ≡ modifyKind → ⊥) → (msg .kind ≡ readKind → ⊥)
-      → yesTo s x msg ≡ true → brickAfter s brick x msg block old ≡ withPromise x (msg .time)
-  unfolding yesTo orderedIfYes
-  order-promises a b c d y =
-      let w : orderYes x (msg .time) ≡ true =
-      rw (ne-eqb (msg .kind) readKind d, ne-eqb (msg .kind) writeKind b, ne-eqb (msg .kind) modifyKind c) at y in
-      after-order a b c d ∙ rw w refl
+      go (yes a) b c d = subst P (sym (after-trim s brick x msg block old a)) t
+      go (no a) (yes b) c d = subst P (sym (after-write s brick x msg block old b)) w
+      go (no a) (no b) (yes c) d = subst P (sym (after-modify s brick x msg block old c)) m
+      go (no a) (no b) (no c) (yes d) = subst P (sym (after-read s brick x msg block old d)) r
+      go (no a) (no b) (no c) (no d) = subst P (sym (after-order s brick x msg block old a b c d)) o
 
 by-yes : (b : Bool) (P : Brick → Type 0) (x y : Brick) → (b ≡ true → P x) → P y → P (cond b x y)
 by-yes true P x y f g = f refl
@@ -139,19 +62,11 @@ order-above x t e = ltb-true (newest x) t (and-left _ _ e)
 
 pub order-not-below : (x : Brick) (t : ℕ) → orderYes x t ≡ true → x .promise ≤ t
 unfolding orderYes notBelowPromise
-order-not-below x t e = leb-true (x .promise) t (and-right (aboveNewest x t) _ e)
+order-not-below x t e = leb-true (x .promise) t (and-right (aboveNewest (newest x) t) _ e)
 
 pub write-ordered : (s : Settings) (x : Brick) (t : ℕ) → writeYes s x t ≡ true → orderYes x t ≡ true
 unfolding writeYes
 write-ordered s x t e = and-left _ _ e
-
-pub write-free : (s : Settings) (x : Brick) (t : ℕ) → writeYes s x t ≡ true → entryCount x < s .capacity
-unfolding writeYes hasFree
-write-free s x t e = ltb-true (entryCount x) (s .capacity) (and-right (orderYes x t) _ e)
-
-pub modify-written : (s : Settings) (x : Brick) (t old : ℕ) → modifyYes s x t old ≡ true → (newest x ≡ old) × (writeYes s x t ≡ true)
-unfolding modifyYes
-modify-written s x t old e = (eqb-true (newest x) old (and-left _ _ e), and-right (eqb (newest x) old) _ e)
 
 -- the entry that Modify appends: brick j stores the new block, another data brick a mark, a parity brick its block recoded
 module _ (s : Settings) (brick : ℕ) (x : Brick) (msg : Message) (new old : List ℕ) where

@@ -32,7 +32,9 @@ use Rattle.image.specs.declared.Head.{Head}
 use Rattle.image.specs.declared.Opening.{Opening}
 use Rattle.image.specs.declared.ImageAnswer.the-variants.{Refused as Failed}
 use Rattle.image_write.specs.Workers.{without}
-use Rattle.brick_log.specs.BrickRules.{notBelowPromise, aboveNewest, readYes, orderYes, under, lookup, timeFor, placeFor, foundFor, yesTo, replyTo, brickAfter, blockAfter}
+use Rattle.brick_answer.specs.Comparisons.{notBelowPromise, aboveNewest, firstNo}
+use Rattle.brick_answer.proofs.Laws.ComparisonLaws.{none-first}
+use Rattle.brick_log.specs.BrickRules.{comparisonTo, readYes, orderYes, under, lookup, timeFor, placeFor, foundFor, yesTo, replyTo, brickAfter, blockAfter}
 use Rattle.brick.specs.Receive.{Beside, beside, besideRight, frontRefusal, receiveRefusal, Outcome, outcomeWith, refusedWith, givenBy, accepted, outcome}
 use Rattle.brick_log.specs.Workers.{LogReady, Ahead, TrimReady, logTime, planOf, trimPlan, blockPlan, planFor, planIn, cutFor, granted, underIn, underFor, lookedIn}
 use Rattle.brick_log.specs.Workers.{readPlace, gaveOf, holderFor}
@@ -43,7 +45,7 @@ use Rattle.brick_log.specs.declared.Plan.{Plan}
 use Rattle.brick.specs.declared.Given.{Given}
 use Rattle.brick.specs.declared.Given.the-variants.{Answered, Silent, Refused}
 use Rattle.image_block.specs.Block.{blockBytes}
-use Rattle.message.specs.Kinds.{orderReadKind, orderBlockKind, readKind, modifyKind, trimKind}
+use Rattle.message.specs.Kinds.{orderReadKind, orderBlockKind, readKind, modifyKind, trimKind, noComparison}
 use Rattle.settings.specs.Ranges.{maxCapacity, maxStripes}
 use Rattle.settings.specs.Refusal.{badLength, badNumber, badBlock, passed}
 
@@ -512,6 +514,11 @@ module _ (s : Settings) (brick : ℕ) (l : List ℕ) (k : Known) (msg : Message)
       (λ q. omega (arith, q, holder-some (brickIn s l) n, meant s brick l (brickIn s l) (r .saved) n (omega arith) .low))
       ∙ sym (ne-eqb (suc n) 0 (λ q. omega (arith, q)))
 
+  -- the comparison that the code finds is the brick's
+  pub said-is : (said : ℕ) → said ≡ firstNo (s .capacity) (k .count) (k .newest) (k .promise) msg → said ≡ comparisonTo s (brickIn s l) msg
+  unfolding comparisonTo
+  said-is said e = e ∙ rw (r .counts, r .newests, r .promises) refl
+
   module _ (block old out : List ℕ) where
     -- part by part
     acts : (g : Given) (image out′ : List ℕ) → g ≡ givenBy s brick (brickIn s l) msg → image ≡ imageOf s brick (brickAfter s brick (brickIn s l) msg block old)
@@ -529,7 +536,7 @@ module _ (s : Settings) (brick : ℕ) (l : List ℕ) (k : Known) (msg : Message)
         (w ∙ ap (λ (y : Brick). imageOf s brick y) (sym (rw (eq-eqb (msg .kind) trimKind e) (h .cut-is e))))
         (sym (rw (place-none s brick l k r msg (λ q. omega (arith, e, q)) (λ q. omega (arith, e, q)) (λ q. omega (arith, e, q))) refl))
 
-    pub acts-reply : (v : Bool) (image out′ : List ℕ) → (msg .kind ≡ trimKind → ⊥) → v ≡ yesTo s (brickIn s l) msg
+    pub acts-reply : (said : ℕ) (image out′ : List ℕ) → (msg .kind ≡ trimKind → ⊥) → said ≡ firstNo (s .capacity) (k .count) (k .newest) (k .promise) msg
         → image ≡ imageOf s brick (brickAfter s brick (brickIn s l) msg block old) → out′ ≡ gaveOf l (s .size) (p .place) out
         → outcomeWith (Answered (record {
           kind = msg .kind;
@@ -537,35 +544,39 @@ module _ (s : Settings) (brick : ℕ) (l : List ℕ) (k : Known) (msg : Message)
           stripe = msg .stripe;
           time = msg .time;
           round = msg .round;
-          yes = v;
+          yes = eqb said noComparison;
           found = p .found;
           held = not (eqb (p .place) 0);
+          comparison = said;
         })) image out′
         ≡ accepted s brick msg block old l out (Opens (brickIn s l))
-    unfolding givenBy replyTo
-    acts-reply v image out′ e ev ei eo =
+    unfolding givenBy replyTo yesTo comparisonTo
+    acts-reply said image out′ e es ei eo =
         let high = place-high brick (brickIn s l) msg in
+        let said-so = said-is said es in
         acts _ image out′
         (sym (rw (ne-eqb (msg .kind) trimKind e)
-        (sym (reply ev (h .found-is) (ap (λ (n : ℕ). not (eqb n 0)) (h .place-is) ∙ ap not (held-same (placeFor brick (brickIn s l) msg) high))))))
+        (sym (reply (ap (λ (n : ℕ). eqb n noComparison) said-so ∙ none-first (s .capacity) (entryCount (brickIn s l)) (newest (brickIn s l)) (brickIn s l .promise) msg)
+        (h .found-is) (ap (λ (n : ℕ). not (eqb n 0)) (h .place-is) ∙ ap not (held-same (placeFor brick (brickIn s l) msg) high)) said-so))))
         ei
         (eo ∙ ap (λ (n : ℕ). gaveOf l (s .size) n out) (h .place-is) ∙ gave-is s brick l k r (placeFor brick (brickIn s l) msg) out high)
       where
-        reply : v ≡ yesTo s (brickIn s l) msg → p .found ≡ foundFor brick (brickIn s l) msg → not (eqb (p .place) 0) ≡ not (eqb (placeFor brick (brickIn s l) msg) 0)
-            → _≡_ {A = Given}
-            (Answered (record { kind = msg .kind; brick = brick; stripe = msg .stripe; time = msg .time; round = msg .round; yes = v; found = p .found; held = not (eqb (p .place) 0) }))
-            (Answered (record {
+        answered : (yes′ : Bool) (found : ℕ) (held : Bool) (comparison : ℕ) → Given
+        answered yes′ found held comparison =
+            Answered (record {
               kind = msg .kind;
               brick = brick;
               stripe = msg .stripe;
               time = msg .time;
               round = msg .round;
-              yes = yesTo s (brickIn s l) msg;
-              found = foundFor brick (brickIn s l) msg;
-              held = not (eqb (placeFor brick (brickIn s l) msg) 0);
-            }))
-        reply a b c =
-            λ i. Answered (record { kind = msg .kind; brick = brick; stripe = msg .stripe; time = msg .time; round = msg .round; yes = a i; found = b i; held = c i })
+              yes = yes′;
+              found = found;
+              held = held;
+              comparison = comparison;
+            })
+
+        reply : {a a′ : Bool} {b b′ : ℕ} {c c′ : Bool} {d d′ : ℕ} → a ≡ a′ → b ≡ b′ → c ≡ c′ → d ≡ d′ → answered a b c d ≡ answered a′ b′ c′ d′
+        reply ea eb ec ed = λ i. answered (ea i) (eb i) (ec i) (ed i)
 
 pub log-is : (s : Settings) (brick : ℕ) (l : List ℕ) (o : Opening) (h : Head) → Hub s brick l o h → o .log ≡ workingLog (brickIn s l)
 log-is s brick l o h u = u .logs ∙ ap workingLog (u .saved .is-read)

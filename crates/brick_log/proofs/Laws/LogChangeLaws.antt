@@ -1,48 +1,34 @@
 -- The ways through the steps of a brick, at its image.
-use mathlib.Core.Path.{_≡_, refl, sym, ap, ap₂, _∙_}
-use mathlib.Core.Bool.{Bool, true, false, cond, _&&_}
+use mathlib.Core.Path.{_≡_, sym, ap, ap₂, _∙_}
+use mathlib.Core.Bool.{Bool, true, false, cond}
 use mathlib.Core.List.{List}
 use Prim.Native.Nat.{ℕ, _+_, _-_, _*_, _≤_, _<_}
 use native.Mathlib.Omega.{arith}
-use native.Mathlib.Decide.{decLt}
-use lib.Dec.{eqb, leb, ltb}
+use lib.Dec.{eqb, ltb}
 use lib.ListN.{length, take, drop, length-take}
-use borrow.Author.Tests.{lt-ltb, le-ltb, ltb-true, le-leb, lt-leb, eq-eqb, ne-eqb}
-use Rattle.byte_lists.proofs.Laws.BoolLaws.{and-right}
+use borrow.Author.Tests.{lt-ltb, le-ltb, eq-eqb, ne-eqb}
 use Rattle.message.specs.declared.Message.{Message}
 use Rattle.settings.specs.declared.Settings.{Settings}
 use Rattle.image_block.specs.Block.{headBlock, entryBlock, markBlock}
 use Rattle.byte_lists.specs.Lists.{put}
-use Rattle.image.specs.Brick.{Brick, LogEntry, entryCount, meansAt, newest, Sound}
+use Rattle.image.specs.Brick.{Brick, LogEntry, entryCount, meansAt, Sound}
 use Rattle.image.specs.Image.{imageOf, imageSize}
 use Rattle.settings.specs.Ranges.{maxSize}
 use Rattle.image.specs.Parse.{brickIn, imageBlockAt, heldIn}
 use Rattle.image.proofs.Laws.FitLaws.{held-bytes}
 use Rattle.image.proofs.Laws.HolderLaws.{meant}
 use Rattle.image_write.specs.Workers.{without, slotOf, cleared, shifted, heldOwn}
-use Rattle.image_write.specs.Saving.{appended, blockEntry, markEntry}
+use Rattle.image_write.specs.Saving.{withPromise, appended, blockEntry, markEntry}
 use Rattle.image_write.proofs.Laws.ImageStepLaws.{promise-written, append-placed, slot-block, slot-mark, slot-long, without-none, without-written}
 use Rattle.erasure.specs.Recoding.{recodedBlock}
 use Rattle.erasure.proofs.Laws.RecodingLaws.{recoded-length}
-use Rattle.brick_log.specs.BrickRules.{aboveNewest, notBelowPromise, hasFree, readYes, orderYes, writeYes, orderedIfYes, writtenIfYes, yesTo, brickAfter}
-use Rattle.brick_log.specs.BrickRules.{modifyYes, newestBlock, modifiedEntry, modifiedIfYes}
+use Rattle.brick_log.specs.BrickRules.{newestBlock, modifiedEntry, yesTo, comparisonTo, brickAfter}
+use Rattle.brick_log.proofs.Laws.AnsweredLaws.{after-read, yes-write, yes-modify, said-none, said-one, no-changes-nothing, write-appends, modify-appends}
+use Rattle.brick_log.proofs.Laws.AnsweredLaws.{order-promises, write-free, modify-written}
 use Rattle.brick_log.specs.Workers.{LogReady, TrimReady}
 use Rattle.brick_log.specs.declared.Known.{Known}
 use Rattle.image_block.specs.Block.{blockBytes, heldFrom}
-use Rattle.message.specs.Kinds.{readKind, trimKind, writeKind, modifyKind}
-
--- a store as the code tests it: not granted as an Order, or by the free entry alone
-pub store-no : (newest promise t : ℕ) (v free : Bool) → v ≡ ltb newest t && leb promise t → v ≡ false
-    → false ≡ ltb newest t && leb promise t && free
-store-no newest promise t v free e f = sym (rw (sym e ∙ f) refl)
-
-pub store-yes : (newest promise t n capacity : ℕ) (v : Bool) → v ≡ ltb newest t && leb promise t → v ≡ true
-    → leb (n + 1) capacity ≡ ltb newest t && leb promise t && ltb n capacity
-store-yes newest promise t n capacity v e f = go (decLt n capacity) ∙ sym (rw (sym e ∙ f) refl)
-  where
-    go : Dec (n < capacity) → leb (n + 1) capacity ≡ ltb n capacity
-    go (yes h) = le-leb (n + 1) capacity (omega arith) ∙ sym (lt-ltb n capacity h)
-    go (no h) = lt-leb (n + 1) capacity (omega arith) ∙ sym (le-ltb n capacity (omega arith))
+use Rattle.message.specs.Kinds.{readKind, trimKind, writeKind, modifyKind, noComparison}
 
 -- the front of a buffer that is long enough
 pub prefix-length : (size : ℕ) (l : List ℕ) → size ≤ length l → length (take size l) ≡ size
@@ -64,30 +50,12 @@ modified-sized s brick x msg new old r size = go (eqb brick (msg .block)) (ltb b
     go false false = recoded-length (s .n) (s .m) brick (msg .block) (newestBlock x) old new ∙ newest-size
 
 module _ (s : Settings) (brick : ℕ) (l : List ℕ) (k : Known) (r : LogReady s brick l k) where
-  pub yes-is : (t : ℕ) (v : Bool) → v ≡ ltb (k .newest) t && leb (k .promise) t → v ≡ orderYes (brickIn s l) t
-  unfolding orderYes aboveNewest notBelowPromise
-  yes-is t v e = e ∙ ap₂ (λ (a b : ℕ). ltb a t && leb b t) (r .newests) (r .promises)
-
-  pub order-kept : (t : ℕ) (v : Bool) → v ≡ ltb (k .newest) t && leb (k .promise) t → v ≡ false → l ≡ imageOf s brick (orderedIfYes (brickIn s l) t)
-  unfolding orderedIfYes
-  order-kept t v e f = r .saved .is-image ∙ ap (λ (y : Brick). imageOf s brick y) (sym (rw (sym (yes-is t v e) ∙ f) refl))
-
-  pub order-moved : (t : ℕ) (v : Bool) (brickAfter : List ℕ) → v ≡ ltb (k .newest) t && leb (k .promise) t → v ≡ true → brickAfter ≡ put 0 (headBlock s brick (k .count) t) l
-      → brickAfter ≡ imageOf s brick (orderedIfYes (brickIn s l) t)
-  unfolding orderedIfYes
-  order-moved t v brickAfter e f w =
+  -- another promise: the head is written
+  pub order-moved : (t : ℕ) (after : List ℕ) → after ≡ put 0 (headBlock s brick (k .count) t) l → after ≡ imageOf s brick (withPromise (brickIn s l) t)
+  order-moved t after w =
       w
       ∙ ap₂ (λ (c : ℕ) (y : List ℕ). put 0 (headBlock s brick c t) y) (r .counts) (r .saved .is-image)
       ∙ promise-written s brick (brickIn s l) (r .saved .range) (r .saved .keeps) t
-      ∙ ap (λ (y : Brick). imageOf s brick y) (sym (rw (sym (yes-is t v e) ∙ f) refl))
-
-  -- a store is granted as the code tests it
-  pub store-is : (t : ℕ) (v : Bool) → v ≡ ltb (k .newest) t && leb (k .promise) t && ltb (k .count) (s .capacity) → v ≡ writeYes s (brickIn s l) t
-  unfolding writeYes orderYes aboveNewest notBelowPromise hasFree
-  store-is t v e = e ∙ rw (r .newests, r .promises, r .counts) refl
-
-  pub store-free : (t : ℕ) (v : Bool) → v ≡ ltb (k .newest) t && leb (k .promise) t && ltb (k .count) (s .capacity) → v ≡ true → k .count < s .capacity
-  store-free t v e f = ltb-true (k .count) (s .capacity) (and-right (ltb (k .newest) t && leb (k .promise) t) _ (sym e ∙ f))
 
   -- an entry more: its block and the head are written
   stored : (e : LogEntry) (n at : ℕ) (l₁ after : List ℕ) → k .count < s .capacity → length (e .block) ≡ s .size
@@ -105,45 +73,21 @@ module _ (s : Settings) (brick : ℕ) (l : List ℕ) (k : Known) (r : LogReady s
       ∙ append-placed s brick (brickIn s l) e (r .saved .range) (r .saved .keeps) (omega (arith, r .counts))
       (slot-long (s .size) e (omega (arith, size, r .saved .range .code .size-high)))
 
-  pub write-kept : (t : ℕ) (block : List ℕ) → false ≡ writeYes s (brickIn s l) t → l ≡ imageOf s brick (writtenIfYes s (brickIn s l) t block)
-  unfolding writtenIfYes
-  write-kept t block e = r .saved .is-image ∙ ap (λ (y : Brick). imageOf s brick y) (sym (rw (← e) refl))
-
-  pub write-moved : (t n at : ℕ) (block l₁ after : List ℕ) → true ≡ writeYes s (brickIn s l) t → k .count < s .capacity → length block ≡ s .size
+  pub write-moved : (t n at : ℕ) (block l₁ after : List ℕ) → k .count < s .capacity → length block ≡ s .size
       → n ≡ k .count + 1 → at ≡ blockBytes * n → l₁ ≡ put at (entryBlock t block) l → after ≡ put 0 (headBlock s brick n (k .promise)) l₁
-      → after ≡ imageOf s brick (writtenIfYes s (brickIn s l) t block)
-  unfolding writtenIfYes
-  write-moved t n at block l₁ after e free size en ea w₁ w₂ =
+      → after ≡ imageOf s brick (appended (brickIn s l) (blockEntry t block))
+  write-moved t n at block l₁ after free size en ea w₁ w₂ =
       stored (blockEntry t block) n at l₁ after free (unfold blockEntry in size) en ea
       (w₁ ∙ ap (λ (b : List ℕ). put at b l) (sym (slot-block (s .size) t block))) w₂
-      ∙ ap (λ (y : Brick). imageOf s brick y) (sym (rw (← e) refl))
-
-  -- Modify: refused at another newest time, or as a store is
-  pub modify-other : (t o : ℕ) → (k .newest ≡ o → ⊥) → false ≡ modifyYes s (brickIn s l) t o
-  unfolding modifyYes
-  modify-other t o n = sym (rw (ne-eqb (newest (brickIn s l)) o (λ q. n (r .newests ∙ q))) refl)
-
-  pub modify-is : (t o : ℕ) (v : Bool) → k .newest ≡ o → v ≡ ltb (k .newest) t && leb (k .promise) t && ltb (k .count) (s .capacity)
-      → v ≡ modifyYes s (brickIn s l) t o
-  unfolding modifyYes
-  modify-is t o v e f = store-is t v f ∙ sym (rw (eq-eqb (newest (brickIn s l)) o (sym (r .newests) ∙ e)) refl)
 
   module _ (msg : Message) (block old : List ℕ) where
-    pub modify-kept : false ≡ modifyYes s (brickIn s l) (msg .time) (msg .old)
-        → l ≡ imageOf s brick (modifiedIfYes s brick (brickIn s l) msg block old)
-    unfolding modifiedIfYes
-    modify-kept e = r .saved .is-image ∙ ap (λ (y : Brick). imageOf s brick y) (sym (rw (← e) refl))
-
-    pub modify-moved : (n : ℕ) (l₁ after : List ℕ) → true ≡ modifyYes s (brickIn s l) (msg .time) (msg .old) → k .count < s .capacity → length block ≡ s .size
-        → n ≡ k .count + 1
+    pub modify-moved : (n : ℕ) (l₁ after : List ℕ) → k .count < s .capacity → length block ≡ s .size → n ≡ k .count + 1
         → l₁ ≡ put (blockBytes * (k .count + 1)) (slotOf (s .size) (modifiedEntry s brick (brickIn s l) msg block old)) l
         → after ≡ put 0 (headBlock s brick n (k .promise)) l₁
-        → after ≡ imageOf s brick (modifiedIfYes s brick (brickIn s l) msg block old)
-    unfolding modifiedIfYes
-    modify-moved n l₁ after e free size en w₁ w₂ =
+        → after ≡ imageOf s brick (appended (brickIn s l) (modifiedEntry s brick (brickIn s l) msg block old))
+    modify-moved n l₁ after free size en w₁ w₂ =
         stored (modifiedEntry s brick (brickIn s l) msg block old) n (blockBytes * (k .count + 1)) l₁ after free
         (modified-sized s brick (brickIn s l) msg block old (r .saved .keeps) size) en (omega arith) w₁ w₂
-        ∙ ap (λ (y : Brick). imageOf s brick y) (sym (rw (← e) refl))
 
     -- the three entries of Modify
     pub modified-own : brick ≡ msg .block → (l₁ : List ℕ) (at : ℕ) → l₁ ≡ put at (entryBlock (msg .time) block) l
@@ -218,56 +162,49 @@ module _ (s : Settings) (brick : ℕ) (l : List ℕ) (k : Known) (r : LogReady s
       (clear ∙ ap₂ (λ (q c : ℕ). cleared (q + 1) (c + 1 - (q + 1)) l₁) kx (r .counts))
       (w ∙ ap₂ (λ (c p : ℕ). put 0 (headBlock s brick c p) l₂) kx (r .promises))
 
-module _ (s : Settings) (brick : ℕ) (l : List ℕ) (k : Known) (r : LogReady s brick l k) (msg : Message) (block old : List ℕ) where
-  pub change-read : msg .kind ≡ readKind
-      → (leb (k .promise) (k .newest) ≡ yesTo s (brickIn s l) msg) × (l ≡ imageOf s brick (brickAfter s brick (brickIn s l) msg block old))
-  unfolding yesTo brickAfter readYes notBelowPromise
-  change-read e = (
-    sym (rw (eq-eqb (msg .kind) readKind e) (ap₂ (λ (a b : ℕ). leb a b) (sym (r .promises)) (sym (r .newests)))),
-    r .saved .is-image ∙ ap (λ (y : Brick). imageOf s brick y)
-        (sym
-        (rw (
-          ne-eqb (msg .kind) trimKind (λ q. omega (arith, e, q)),
-          ne-eqb (msg .kind) writeKind (λ q. omega (arith, e, q)),
-          ne-eqb (msg .kind) modifyKind (λ q. omega (arith, e, q)),
-          eq-eqb (msg .kind) readKind e,
-        )
-        refl)),
-  )
+-- a yes, by what the comparison said; where something is stored an entry is free
+module _ (s : Settings) (brick : ℕ) (l : List ℕ) (k : Known) (r : LogReady s brick l k) (msg : Message)
+    (said : ℕ) (e : said ≡ comparisonTo s (brickIn s l) msg) (z : said ≡ noComparison) where
+  yes-told : yesTo s (brickIn s l) msg ≡ true
+  yes-told = said-none s (brickIn s l) msg said e z
 
-  pub change-write : (v : Bool) (image : List ℕ) → msg .kind ≡ writeKind → v ≡ writeYes s (brickIn s l) (msg .time)
-      → image ≡ imageOf s brick (writtenIfYes s (brickIn s l) (msg .time) block)
-      → (v ≡ yesTo s (brickIn s l) msg) × (image ≡ imageOf s brick (brickAfter s brick (brickIn s l) msg block old))
-  unfolding yesTo brickAfter
-  change-write v image e ev ei = (
-    ev ∙ sym (rw (ne-eqb (msg .kind) readKind (λ q. omega (arith, e, q)), eq-eqb (msg .kind) writeKind e) refl),
-    ei ∙ ap (λ (y : Brick). imageOf s brick y) (sym (rw (ne-eqb (msg .kind) trimKind (λ q. omega (arith, e, q)), eq-eqb (msg .kind) writeKind e) refl)),
-  )
+  pub free-to-write : msg .kind ≡ writeKind → k .count < s .capacity
+  free-to-write q =
+      let f = write-free s (brickIn s l) (msg .time) (sym (yes-write s (brickIn s l) msg q) ∙ yes-told) in omega (arith, f, r .counts)
 
-  pub change-modify : (v : Bool) (image : List ℕ) → msg .kind ≡ modifyKind → v ≡ modifyYes s (brickIn s l) (msg .time) (msg .old)
-      → image ≡ imageOf s brick (modifiedIfYes s brick (brickIn s l) msg block old)
-      → (v ≡ yesTo s (brickIn s l) msg) × (image ≡ imageOf s brick (brickAfter s brick (brickIn s l) msg block old))
-  unfolding yesTo brickAfter
-  change-modify v image e ev ei = (
-    ev ∙ sym
-        (rw (ne-eqb (msg .kind) readKind (λ q. omega (arith, e, q)), ne-eqb (msg .kind) writeKind (λ q. omega (arith, e, q)), eq-eqb (msg .kind) modifyKind e)
-        refl),
-    ei ∙ ap (λ (y : Brick). imageOf s brick y)
-        (sym
-        (rw (ne-eqb (msg .kind) trimKind (λ q. omega (arith, e, q)), ne-eqb (msg .kind) writeKind (λ q. omega (arith, e, q)), eq-eqb (msg .kind) modifyKind e)
-        refl)),
-  )
+  pub free-to-modify : msg .kind ≡ modifyKind → k .count < s .capacity
+  free-to-modify q =
+      let y = modify-written s (brickIn s l) (msg .time) (msg .old) (sym (yes-modify s (brickIn s l) msg q) ∙ yes-told) in
+      let f = write-free s (brickIn s l) (msg .time) (y .1) in omega (arith, f, r .counts)
 
-  pub change-order : (v : Bool) (image : List ℕ) → (msg .kind ≡ trimKind → ⊥) → (msg .kind ≡ readKind → ⊥) → (msg .kind ≡ writeKind → ⊥)
-      → (msg .kind ≡ modifyKind → ⊥) → v ≡ orderYes (brickIn s l) (msg .time)
-      → image ≡ imageOf s brick (orderedIfYes (brickIn s l) (msg .time))
-      → (v ≡ yesTo s (brickIn s l) msg) × (image ≡ imageOf s brick (brickAfter s brick (brickIn s l) msg block old))
-  unfolding yesTo brickAfter
-  change-order v image a b c d ev ei = (
-    ev ∙ sym (rw (ne-eqb (msg .kind) readKind b, ne-eqb (msg .kind) writeKind c, ne-eqb (msg .kind) modifyKind d) refl),
-    ei ∙ ap (λ (y : Brick). imageOf s brick y)
-        (sym (rw (ne-eqb (msg .kind) trimKind a, ne-eqb (msg .kind) writeKind c, ne-eqb (msg .kind) modifyKind d, ne-eqb (msg .kind) readKind b) refl)),
-  )
+-- the ways through a change
+module _ (s : Settings) (brick : ℕ) (l : List ℕ) (k : Known) (r : LogReady s brick l k) (msg : Message) (block old : List ℕ)
+    (said : ℕ) (e : said ≡ comparisonTo s (brickIn s l) msg) where
+  -- the image of the brick after the message
+  changed : (y : Brick) (image : List ℕ) → brickAfter s brick (brickIn s l) msg block old ≡ y → image ≡ imageOf s brick y
+      → image ≡ imageOf s brick (brickAfter s brick (brickIn s l) msg block old)
+  changed y image q w = w ∙ ap (imageOf s brick) (sym q)
+
+  pub change-none : (msg .kind ≡ trimKind → ⊥) → (said ≡ noComparison → ⊥) → l ≡ imageOf s brick (brickAfter s brick (brickIn s l) msg block old)
+  change-none n d =
+      changed (brickIn s l) l (no-changes-nothing s brick (brickIn s l) msg block old n (said-one s (brickIn s l) msg said e d)) (r .saved .is-image)
+
+  pub change-read : msg .kind ≡ readKind → l ≡ imageOf s brick (brickAfter s brick (brickIn s l) msg block old)
+  change-read q = changed (brickIn s l) l (after-read s brick (brickIn s l) msg block old q) (r .saved .is-image)
+
+  module _ (z : said ≡ noComparison) where
+    pub change-write : (image : List ℕ) → msg .kind ≡ writeKind → image ≡ imageOf s brick (appended (brickIn s l) (blockEntry (msg .time) block))
+        → image ≡ imageOf s brick (brickAfter s brick (brickIn s l) msg block old)
+    change-write image q w = changed _ image (write-appends s brick (brickIn s l) msg block old q (yes-told s brick l k r msg said e z)) w
+
+    pub change-modify : (image : List ℕ) → msg .kind ≡ modifyKind
+        → image ≡ imageOf s brick (appended (brickIn s l) (modifiedEntry s brick (brickIn s l) msg block old))
+        → image ≡ imageOf s brick (brickAfter s brick (brickIn s l) msg block old)
+    change-modify image q w = changed _ image (modify-appends s brick (brickIn s l) msg block old q (yes-told s brick l k r msg said e z)) w
+
+    pub change-order : (image : List ℕ) → (msg .kind ≡ trimKind → ⊥) → (msg .kind ≡ readKind → ⊥) → (msg .kind ≡ writeKind → ⊥) → (msg .kind ≡ modifyKind → ⊥)
+        → image ≡ imageOf s brick (withPromise (brickIn s l) (msg .time)) → image ≡ imageOf s brick (brickAfter s brick (brickIn s l) msg block old)
+    change-order image a b c d w = changed _ image (order-promises s brick (brickIn s l) msg block old a c d b (yes-told s brick l k r msg said e z)) w
 
 -- nothing to drop
 pub trim-none : (s : Settings) (brick : ℕ) (l : List ℕ) (k : Known) (d : ℕ) → LogReady s brick l k → d ≡ 0 → l ≡ imageOf s brick (without (brickIn s l) d)

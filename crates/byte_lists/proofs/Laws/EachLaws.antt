@@ -1,6 +1,6 @@
 -- A rule for each place, or for some place, below a number.
 use mathlib.Core.Path.{_≡_, refl, sym, ap, _∙_}
-use mathlib.Core.Bool.{Bool, true, false, _&&_, _||_}
+use mathlib.Core.Bool.{Bool, true, false, _&&_, _||_, true≢false}
 use mathlib.Core.Logic.{_⊎_, inl, inr}
 use Prim.Native.Nat.{ℕ, zero, suc, _+_, _<_}
 use native.Mathlib.Nat.{le-of-suc-le-suc, not-suc-le-zero, eq-or-lt-of-le, le-refl}
@@ -64,3 +64,15 @@ some-found p k i l e = go (some p k) refl
     go : (a : Bool) → some p k ≡ a → a ≡ true
     go false ea = sym (some-at p k i ea l) ∙ e
     go true ea = refl
+
+-- a search that succeeds finds a number
+pub some-witness : (p : ℕ → Bool) (n : ℕ) → some p n ≡ true → (b : ℕ) × (b < n) × (p b ≡ true)
+unfolding some
+some-witness p zero e = absurd (true≢false (sym e))
+some-witness p (suc n) e = go (p n) refl (some p n) refl e (some-witness p n)
+  where
+    go : (x : Bool) → p n ≡ x → (y : Bool) → some p n ≡ y → y || x ≡ true → (some p n ≡ true → (b : ℕ) × (b < n) × (p b ≡ true))
+        → (b : ℕ) × (b < suc n) × (p b ≡ true)
+    go true ex y ey h f = (n, omega arith, ex)
+    go false ex true ey h f = let w = f ey in (w .0, omega (arith, w .1), w .2)
+    go false ex false ey h f = absurd (true≢false (sym h))

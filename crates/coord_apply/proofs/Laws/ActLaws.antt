@@ -4,11 +4,13 @@ use mathlib.Core.Bool.{Bool, true, false, cond}
 use mathlib.Core.List.{List}
 use Prim.Native.Nat.{ℕ, _*_, _≤_, _<_}
 use native.Mathlib.Omega.{arith}
+use lib.Dec.{eqb}
 use Rattle.coord_apply.specs.Acts.{stripeFrom, agreeing, roundMessage, trimMessage, nextOp, nextRound, modifying, ending, finishedSeen, givenStripe, storedStripe, namedBricks}
 use Rattle.coord_apply.specs.Acts.{giversAt, storing, aborting, acted}
-use Rattle.coord_apply.specs.Answers.{Buffered, Went, went, noMessage, readSeen, abortedSeen, sentCount, sentMessage, sentBlocks, answerOf}
+use Rattle.coord_apply.specs.Answers.{Buffered, Went, went, noMessage, okSeen, readSeen, abortedSeen, cutSeen, letterOf, sentCount, sentMessage, sentBlocks, answerOf}
 use Rattle.coord_apply.specs.declared.Answer.{Answer}
-use Rattle.coord_record.specs.Records.{targetCount, noBricks}
+use Rattle.coord_letters.specs.Letters.{noLetter, letterS, letterC, readLetter, abortLetter}
+use Rattle.coord_record.specs.Records.{isReading, targetCount, noBricks}
 use Rattle.coord_record.specs.declared.Coordinator.{Coordinator}
 use Rattle.coord_tally.specs.Counting.{givers, picked, targetRow, atTimes}
 use Rattle.coord_record.specs.declared.Op.{Op}
@@ -31,33 +33,65 @@ use Rattle.coord_apply.proofs.Laws.BufferLaws.{in-place}
 use Rattle.coord_apply.proofs.Laws.OneBlockLaws.{left-as-it-was}
 use Rattle.interpolate.specs.Values.{PointSet}
 use Rattle.coord_apply.specs.Acts.{buffered}
-use Rattle.coord_apply.specs.Workers.{openAnswer, endAnswer, Acted}
+use Rattle.coord_apply.specs.Workers.{openAnswer, endAnswer, finishedLetter, Acted}
 
 -- a recovery stores, or, where blocks of the chosen time disagree, ends aborted
 module _ (n m size : ℕ) (h : Buffered) (time : ℕ) where
   pub recover-agreed : agreeing m size (giversAt n h time) (h .blocks) ≡ true → acted n m size h (Recover time) ≡ storing n m size h time
   unfolding acted
-  recover-agreed e = ap (λ (b : Bool). cond b (storing n m size h time) (aborting h)) e
+  recover-agreed e = ap (λ (b : Bool). cond b (storing n m size h time) (aborting n h)) e
 
-  pub recover-disagreed : agreeing m size (giversAt n h time) (h .blocks) ≡ false → acted n m size h (Recover time) ≡ aborting h
+  pub recover-disagreed : agreeing m size (giversAt n h time) (h .blocks) ≡ false → acted n m size h (Recover time) ≡ aborting n h
   unfolding acted
-  recover-disagreed e = ap (λ (b : Bool). cond b (storing n m size h time) (aborting h)) e
+  recover-disagreed e = ap (λ (b : Bool). cond b (storing n m size h time) (aborting n h)) e
 
-  pub recover-either : (P : Went → Type 0) → P (storing n m size h time) → P (aborting h) → P (acted n m size h (Recover time))
+  pub recover-either : (P : Went → Type 0) → P (storing n m size h time) → P (aborting n h) → P (acted n m size h (Recover time))
   unfolding acted
   recover-either P s a = go (agreeing m size (giversAt n h time) (h .blocks))
     where
-      go : (b : Bool) → P (cond b (storing n m size h time) (aborting h))
+      go : (b : Bool) → P (cond b (storing n m size h time) (aborting n h))
       go true = s
       go false = a
 
+-- the letter of an end, by how it ended
+module _ (n : ℕ) (op : Op) (t : Tally) where
+  pub aborted-letter : abortLetter n op t ≡ letterOf n op t abortedSeen
+  unfolding letterOf
+  aborted-letter = refl
+
+  pub given-letter : readLetter op ≡ letterOf n op t readSeen
+  unfolding letterOf
+  given-letter = refl
+
+  pub finished-letter : finishedLetter op ≡ letterOf n op t (finishedSeen op)
+  unfolding letterOf finishedLetter finishedSeen
+  finished-letter = go (isReading (op .kind))
+    where
+      go : (b : Bool)
+          → cond b (readLetter op) letterS
+          ≡ cond (eqb (cond b readSeen okSeen) okSeen) letterS
+          (cond (eqb (cond b readSeen okSeen) readSeen) (readLetter op)
+          (cond (eqb (cond b readSeen okSeen) abortedSeen) (abortLetter n op t) (cond (eqb (cond b readSeen okSeen) cutSeen) letterC noLetter)))
+      go true = refl
+      go false = refl
+
+-- the letter of a finished round
+pub finished-read-letter : (op : Op) (b : Bool) (v : ℕ) → b ≡ isReading (op .kind) → b ≡ true → v ≡ readLetter op → v ≡ finishedLetter op
+unfolding finishedLetter
+finished-read-letter op b v e z f = f ∙ sym (rw (← e, z) refl)
+
+pub finished-write-letter : (op : Op) (b : Bool) → b ≡ isReading (op .kind) → b ≡ false → letterS ≡ finishedLetter op
+unfolding finishedLetter
+finished-write-letter op b e z = sym (rw (← e, z) refl)
+
 module _ (n m size : ℕ) (c : Coordinator) (blocks stripe coded : List ℕ) where
-  pub acted-abort : (r : Answer) → r ≡ endAnswer c abortedSeen noBricks 0 noMessage → Acted n m size (buffered c blocks stripe) Abort coded r stripe coded
+  pub acted-abort : (r : Answer) → r ≡ endAnswer c abortedSeen (letterOf n (c .op) (c .tally) abortedSeen) noBricks 0 noMessage → Acted n m size (buffered c blocks stripe) Abort coded r stripe coded
   unfolding acted ending answerOf sentCount sentMessage sentBlocks endAnswer buffered
   acted-abort r e = record { answer = e; stripe-left = refl; coded-left = refl }
 
   pub acted-give : (r : Answer) (stripe′ : List ℕ) → stripe′ ≡ givenStripe n m size (c .op) blocks stripe
-      → r ≡ endAnswer c readSeen (targetRow n (targetCount m (c .op .kind)) (c .op .first)) 0 noMessage → Acted n m size (buffered c blocks stripe) Give coded r stripe′ coded
+      → r ≡ endAnswer c readSeen (letterOf n (c .op) (c .tally) readSeen) (targetRow n (targetCount m (c .op .kind)) (c .op .first)) 0 noMessage
+      → Acted n m size (buffered c blocks stripe) Give coded r stripe′ coded
   unfolding acted ending answerOf sentCount sentMessage sentBlocks endAnswer buffered
   acted-give r stripe′ es e = record { answer = e; stripe-left = es; coded-left = refl }
 
@@ -94,7 +128,7 @@ module _ (n m size : ℕ) (c : Coordinator) (blocks stripe coded : List ℕ) whe
   pub acted-disagreed : (r : Answer) (time : ℕ) (b : Bool) (stripe′ : List ℕ)
       → b ≡ agreeing m size (givers (c .tally .held) (c .tally .found) time n) blocks → b ≡ false
       → stripe′ ≡ cond b (storedStripe size (c .op) stripe (stripeFrom m size (givers (c .tally .held) (c .tally .found) time n) blocks)) stripe
-      → r ≡ endAnswer c abortedSeen noBricks 0 noMessage → Acted n m size (buffered c blocks stripe) (Recover time) coded r stripe′ coded
+      → r ≡ endAnswer c abortedSeen (letterOf n (c .op) (c .tally) abortedSeen) noBricks 0 noMessage → Acted n m size (buffered c blocks stripe) (Recover time) coded r stripe′ coded
   unfolding ending answerOf sentCount sentMessage sentBlocks endAnswer buffered
   acted-disagreed r time b stripe′ eb et es e =
       let q = recover-disagreed n m size (buffered c blocks stripe) time (sym eb ∙ et) in
@@ -104,12 +138,12 @@ module _ (n m size : ℕ) (c : Coordinator) (blocks stripe coded : List ℕ) whe
         coded-left = ap (λ (w : Went). sentBlocks (w .sent) coded) (sym q);
       }
 
-  pub acted-finish : (r : Answer) (what : ℕ) (trim : Message) → what ≡ finishedSeen (c .op) → trim ≡ trimMessage (c .op)
-      → r ≡ endAnswer c what (c .bricks) 1 trim → Acted n m size (buffered c blocks stripe) Finish coded r stripe coded
+  pub acted-finish : (r : Answer) → r ≡ endAnswer c (finishedSeen (c .op)) (finishedLetter (c .op)) (c .bricks) 1 (trimMessage (c .op))
+      → Acted n m size (buffered c blocks stripe) Finish coded r stripe coded
   unfolding acted ending answerOf sentCount sentMessage sentBlocks endAnswer buffered trimMessage
-  acted-finish r what trim ew et e =
+  acted-finish r e =
       record {
-        answer = e ∙ ap (λ (w : ℕ). endAnswer c w (c .bricks) 1 trim) ew ∙ ap (λ (t : Message). endAnswer c (finishedSeen (c .op)) (c .bricks) 1 t) et;
+        answer = e ∙ ap (λ (l : ℕ). endAnswer c (finishedSeen (c .op)) l (c .bricks) 1 (trimMessage (c .op))) (finished-letter n (c .op) (c .tally));
         stripe-left = refl;
         coded-left = refl;
       }
@@ -120,11 +154,10 @@ pub acted-at : (n m size : ℕ) (h : Buffered) (d d′ : Decision) (coded : List
 acted-at n m size h d d′ coded r stripe′ coded′ e a = subst (λ (x : Decision). Acted n m size h x coded r stripe′ coded′) (sym e) a
 
 -- an end by what the callees gave
-pub end-by : (c : Coordinator) (what what′ sent : ℕ) (row row′ : List ℕ) (message message′ : Message) (r : Answer) → r ≡ endAnswer c what row sent message
-    → what ≡ what′ → row ≡ row′ → message ≡ message′ → r ≡ endAnswer c what′ row′ sent message′
-end-by c what what′ sent row row′ message message′ r e ew er em =
-    e ∙ ap (λ (w : ℕ). endAnswer c w row sent message) ew ∙ ap (λ (l : List ℕ). endAnswer c what′ l sent message) er
-    ∙ ap (endAnswer c what′ row′ sent) em
+pub end-by : (c : Coordinator) (what what′ letter letter′ sent : ℕ) (row row′ : List ℕ) (message message′ : Message) (r : Answer)
+    → r ≡ endAnswer c what letter row sent message → what ≡ what′ → letter ≡ letter′ → row ≡ row′ → message ≡ message′
+    → r ≡ endAnswer c what′ letter′ row′ sent message′
+end-by c what what′ letter letter′ sent row row′ message message′ r e ew el er em = e ∙ (λ i. endAnswer c (ew i) (el i) (er i) sent (em i))
 
 -- the targets can be decoded from
 pub target-decodes : (n m size first : ℕ) (row blocks : List ℕ) → CodeRange n m size → first < n → length blocks ≡ n * size → row ≡ targetRow n m first

@@ -1,4 +1,3 @@
-use mathlib.Core.Path.{refl}
 use Rattle.coord_record.specs.Records.{noBricks}
 use Rattle.coord_apply.proofs.Laws.ActLaws.{recover-enough, acted-at, acted-abort, acted-give, acted-look, acted-store, acted-modify, acted-finish}
 use borrow.Author.Needs.{needs}
@@ -88,7 +87,7 @@ returns-6 : tie.Need-returns-6
 returns-6 c = acted-at _ _ _ _ _ _ _ _ _ _ (c .before .before .before .before .before .before .before .before .d3 .given .1) (c .before .before .before .before .recover-and-store .ensures)
 
 returns-7 : tie.Need-returns-7
-returns-7 c = acted-at _ _ _ _ _ _ _ _ _ _ (c .before .enum-told4 .given .1) (acted-finish _ _ _ _ _ _ _ _ _ _ refl refl (c .finish .ensures))
+returns-7 c = acted-at _ _ _ _ _ _ _ _ _ _ (c .before .enum-told4 .given .1) (acted-finish _ _ _ _ _ _ _ _ (c .finish .ensures))
 
 pub act-spec : {M : Type 1} → statement M
 act-spec =

@@ -4,6 +4,9 @@ use borrow.Author.Needs.{needs}
 use Rattle.coord_apply.proofs.finish.Statement.{statement}
 use Rattle.coord_apply.proofs.finish.Tie as tie
 
+finished-letter-requires : tie.Need-finished-letter-requires
+finished-letter-requires c κs = search needs
+
 finished-seen-requires : tie.Need-finished-seen-requires
 finished-seen-requires c κs = search needs
 
@@ -14,8 +17,11 @@ end-requires : tie.Need-end-requires
 end-requires c κs = search needs
 
 returns : tie.Need-returns
-returns c = end-by _ _ _ _ _ _ _ _ _ (c .end .ensures) (c .before .before .finished-seen .ensures) refl (c .before .trim-message .ensures)
+returns c =
+    end-by _ _ _ _ _ _ _ _ _ _ _ (c .end .ensures) (c .before .before .finished-seen .ensures) (c .before .before .before .finished-letter .ensures) refl
+    (c .before .trim-message .ensures)
 
 pub finish-spec : {M : Type 1} → statement M
 finish-spec =
-    tie.close (tie.spec finished-seen-requires trim-message-requires end-requires returns)
+    tie.close
+    (tie.spec finished-letter-requires finished-seen-requires trim-message-requires end-requires returns)

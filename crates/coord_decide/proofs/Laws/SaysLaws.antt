@@ -1,10 +1,10 @@
 -- Laws of `specs/Decisions`.
-use mathlib.Core.Path.{_≡_, refl}
+use mathlib.Core.Path.{_≡_, refl, sym, subst, _∙_}
 use mathlib.Core.Bool.{Bool, true, false, cond, _||_}
 use mathlib.Core.Logic.{inl, inr}
-use Prim.Native.Nat.{ℕ}
+use Prim.Native.Nat.{ℕ, _<_}
 use lib.Dec.{eqb, leb, ltb}
-use borrow.Author.Tests.{eqb-true, eqb-false, leb-true, leb-false, ltb-true}
+use borrow.Author.Tests.{eqb-true, eqb-false, leb-true, leb-false, ltb-true, ltb-false}
 use Rattle.byte_lists.specs.Each.{some}
 use Rattle.coord_record.specs.Records.{targetCount}
 use Rattle.coord_record.specs.declared.Op.{Op}
@@ -16,7 +16,7 @@ use Rattle.coord_decide.specs.declared.Decision.the-variants.{Abort, Giv
 use Rattle.message.specs.Flags.{members}
 use Rattle.settings.specs.Count.{count}
 use Rattle.settings.specs.Times.{noUpperEnd}
-use Rattle.coord_decide.specs.Decisions.{AllYes, found-time, holders, DecisionSays}
+use Rattle.coord_decide.specs.Decisions.{AllYes, found-time, holders, told-no, none-held, zero-on-few, rounds-spent, DecisionSays}
 use Rattle.message.specs.Kinds.{lastRound, readKind, orderKind, orderReadKind, orderBlockKind}
 
 module _ (n m : ℕ) (op : Op) (t : Tally) where
@@ -64,8 +64,11 @@ module _ (n m : ℕ) (op : Op) (t : Tally) where
             enough = leb-true m (count (atTimes (t .held) (t .found) time) n) ea;
             round-low = ltb-true (op .round) lastRound eb;
           }
-      go true false d ea eb ed = tt
-      go false b true ea eb ed = tt
+      go true false d ea eb ed = rounds-spent p y (ltb-false (op .round) lastRound eb)
+      go false b true ea eb ed =
+          let z = eqb-true time 0 ed in
+          zero-on-few p y (sym e ∙ z)
+          (subst (λ (u : ℕ). count (atTimes (t .held) (t .found) u) n < m) z (leb-false m (count (atTimes (t .held) (t .found) time) n) ea))
       go false true false ea eb ed =
           inr
           (inr
@@ -78,7 +81,7 @@ module _ (n m : ℕ) (op : Op) (t : Tally) where
             not-first = eqb-false time 0 ed;
             round-low = ltb-true (op .round) lastRound eb;
           }))
-      go false false false ea eb ed = tt
+      go false false false ea eb ed = rounds-spent p y (ltb-false (op .round) lastRound eb)
 
   -- Each decision says this of its round.
   pub decided-says : DecisionSays n m op t (decided n m op t)
@@ -94,10 +97,11 @@ module _ (n m : ℕ) (op : Op) (t : Tally) where
           (cond b Abort
           (cond d Store (cond o (decidedBlockOrder n m op t) (cond f (cond g Abort (decidedAt n m (op .round) t (highest (t .held) (t .found) n))) Finish)))))
       go true b d o f g ea eb ed eo ef eg = says-read (eqb-true (op .phase) readKind ea)
-      go false true d o f g ea eb ed eo ef eg = tt
+      go false true d o f g ea eb ed eo ef eg = told-no (eqb-false (op .phase) readKind ea) eb
       go false false true o f g ea eb ed eo ef eg = record { phase-is = eqb-true (op .phase) orderKind ed; all-yes = eb }
       go false false false true f g ea eb ed eo ef eg = says-block-order (eqb-true (op .phase) orderBlockKind eo) eb
-      go false false false false true true ea eb ed eo ef eg = tt
+      go false false false false true true ea eb ed eo ef eg =
+          none-held (eqb-true (op .phase) orderReadKind ef) eb (eqb-true (members (t .held) n) 0 eg)
       go false false false false true false ea eb ed eo ef eg =
           says-at (highest (t .held) (t .found) n) (eqb-true (op .phase) orderReadKind ef) eb (eqb-false (members (t .held) n) 0 eg) refl
       go false false false false false g ea eb ed eo ef eg =

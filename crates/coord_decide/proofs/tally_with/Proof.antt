@@ -24,6 +24,9 @@ mul-found c = search needs
 array-write-found : tie.Need-array-write-found
 array-write-found c = search needs
 
+array-write-said : tie.Need-array-write-said
+array-write-said c = search needs
+
 returns : tie.Need-returns
 unfolding tallied
 returns c = cc
@@ -39,4 +42,5 @@ tally-with-spec =
     array-write-held
     mul-found
     array-write-found
+    array-write-said
     returns)

@@ -22,7 +22,7 @@ use Rattle.coord_laws.specs.Soundness.{Sized}
 use Rattle.coord_laws.proofs.Laws.TallyLaws.{Answering, answering, ReplyParts, reply-parts, tallied-sized, tallied-right, zeros-at, zeros-counted, highest-valid}
 use Rattle.byte_lists.proofs.Laws.EachLaws.{each-all}
 use Rattle.coord_record.specs.Records.{noOp, noBricks, nothingCounted, idleWith, idleKind, readingKind, writingKind, readingBlockKind, writingBlockKind, isReading, onBlock, targetCount}
-use Rattle.coord_record.specs.CountedRules.{entryRight, tallyRight, brickRight, bricksRight}
+use Rattle.coord_record.specs.CountedRules.{entryRight, saidRight, keptRight, tallyRight, brickRight, bricksRight}
 use Rattle.coord_record.specs.Sound.{sameGeometry, opRight, unsetOp, openingRight, readRight, writeRight, blockWriteRight, timeRight, namedCount, soundRecord}
 use Rattle.coord_record.proofs.Laws.SoundPartLaws.{sound-from, sound-parts}
 use Rattle.coord_record.specs.declared.Coordinator.{Coordinator}
@@ -56,14 +56,11 @@ use Rattle.message.specs.Kinds.{readKind, orderKind, orderReadKind, orderBlockK
 
 pub none-sized : Sized nothingCounted
 unfolding nothingCounted
-none-sized = record { counted-size = refl; granted-size = refl; held-size = refl; found-size = refl }
+none-sized = record { counted-size = refl; granted-size = refl; held-size = refl; found-size = refl; said-size = refl }
 
 none-right : (n m phase first : ℕ) → tallyRight n m phase first nothingCounted ≡ true
-unfolding tallyRight nothingCounted entryRight
-none-right n m phase first =
-    each-all
-    (λ (b : ℕ). entryRight n m phase first b (getD (replicate maxBricks 0) b 0) (getD (replicate maxBricks 0) b 0) (getD (replicate maxBricks 0) b 0) (getD (replicate maxBricks 0) b 0))
-    maxBricks (λ b l. rw (zeros-at maxBricks b))
+unfolding tallyRight keptRight nothingCounted entryRight saidRight
+none-right n m phase first = each-all (keptRight n m phase first nothingCounted) maxBricks (λ b l. rw (zeros-at maxBricks b))
 
 none-few : (n m size : ℕ) → CodeRange n m size → members (nothingCounted .counted) n < quorum n m
 unfolding nothingCounted
@@ -318,16 +315,16 @@ pub crash-good : (n m size stripes : ℕ) (h : Buffered) (w : Went) → Good n m
 unfolding crashStep crashed crashRefusal ending
 crash-good n m size stripes h w g e = go (eqb (h .state .op .kind) idleKind) (p .1)
   where
-    p : (crashRefusal n m size stripes (h .state) ≡ 0) × (went (crashed h) ≡ went w)
-    p = passes (crashRefusal n m size stripes (h .state)) (went (crashed h)) w e
+    p : (crashRefusal n m size stripes (h .state) ≡ 0) × (went (crashed n h) ≡ went w)
+    p = passes (crashRefusal n m size stripes (h .state)) (went (crashed n h)) w e
 
     range : CodeRange n m size
     range = code-passed n m size (passed-first (codeRefusal n m size) (stripeCountRefusal stripes ∷ recordChecks n m size stripes (h .state) []) (p .0))
 
-    go : (b : Bool) → went (cond b (record { next = h; sent = []; seen = nothingSeen }) (ending h (h .stripe) [] cutSeen noBricks)) ≡ went w → Good n m size stripes (w .next .state)
+    go : (b : Bool) → went (cond b (record { next = h; sent = []; seen = nothingSeen }) (ending n h (h .stripe) [] cutSeen noBricks)) ≡ went w → Good n m size stripes (w .next .state)
     go true q = subst (λ (v : Went). Good n m size stripes (v .next .state)) (same-went (record { next = h; sent = []; seen = nothingSeen }) w q) g
     go false q =
-        subst (λ (v : Went). Good n m size stripes (v .next .state)) (same-went (ending h (h .stripe) [] cutSeen noBricks) w q)
+        subst (λ (v : Went). Good n m size stripes (v .next .state)) (same-went (ending n h (h .stripe) [] cutSeen noBricks) w q)
         (idle-good n m size stripes (h .state .geometry) (h .state .clock) range (omega (arith, g .parts .stripe-low)) (g .parts .made-for) (g .parts .number-low) (g .parts .last-low))
 
 -- the time drawn is the record's own

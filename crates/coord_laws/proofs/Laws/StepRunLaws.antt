@@ -8,6 +8,7 @@ use Rattle.coord_apply.specs.Acts.{roundMessage, seenBlock, counting, waitingOr
 use Rattle.coord_apply.specs.Answers.{Buffered, Went, went, beganSeen}
 use Rattle.coord_laws.proofs.Laws.SoundnessLaws.{passes, same-went, drawn-went}
 use Rattle.coord_laws.proofs.Laws.TallyLaws.{Answering, answering, ReplyParts, reply-parts}
+use Rattle.coord_letters.specs.Letters.{noLetter}
 use Rattle.coord_record.specs.Records.{noBricks, readingKind, writingKind}
 use Rattle.coord_tally.specs.Counting.{targetFlags}
 use Rattle.coord_refusals.specs.Checks.{writeRefusal, readRefusal, takeRefusal}
@@ -56,6 +57,7 @@ pub record Begins (h : Buffered) (kind : ℕ) (w : Went) : Type 0 where
         time = w .next .state .op .time;
         block = seenBlock (w .next .state .op);
         bricks = noBricks;
+        letter = noLetter;
       }
 
 begins : (h : Buffered) (reading kind phase number first t : ℕ) (next : Clock) (stripe targets : List ℕ) → drawOf (h .state .clock) reading ≡ Drawn t next

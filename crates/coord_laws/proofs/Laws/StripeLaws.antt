@@ -61,11 +61,11 @@ waits h =
     }
 
 -- an end sends nothing, or messages of the stripe
-ends : (h : Buffered) (stripe bricks : List ℕ) (sent : List Broadcast) (what : ℕ) → ((z : Broadcast) → List·Memᴰ z sent → z .message .stripe ≡ h .state .op .stripe)
-    → (what ≡ beganSeen → ⊥) → KeepsStripe h (ending h stripe sent what bricks)
+ends : (n : ℕ) (h : Buffered) (stripe bricks : List ℕ) (sent : List Broadcast) (what : ℕ) → ((z : Broadcast) → List·Memᴰ z sent → z .message .stripe ≡ h .state .op .stripe)
+    → (what ≡ beganSeen → ⊥) → KeepsStripe h (ending n h stripe sent what bricks)
 unfolding ending idleWith noOp
-ends h stripe bricks sent what s n =
-    record { same-clock = refl; same-geometry = refl; still = λ k. absurd (k refl); sends = s; shows = inl refl; no-start = n }
+ends n h stripe bricks sent what s not-begun =
+    record { same-clock = refl; same-geometry = refl; still = λ k. absurd (k refl); sends = s; shows = inl refl; no-start = not-begun }
 
 none-sent : (s : ℕ) (z : Broadcast) → List·Memᴰ z [] → z .message .stripe ≡ s
 none-sent s z m = absurd (List·Memᴰ·not-nil m)
@@ -116,15 +116,15 @@ finished-told op = go (isReading (op .kind))
 
 acted-keeps : (n m size : ℕ) (h : Buffered) (d : Decision) → KeepsStripe h (acted n m size h d)
 unfolding acted trimMessage
-acted-keeps n m size h Abort = ends h _ _ [] _ (none-sent (h .state .op .stripe)) (λ e. omega (arith, e))
-acted-keeps n m size h Give = ends h _ _ [] _ (none-sent (h .state .op .stripe)) (λ e. omega (arith, e))
+acted-keeps n m size h Abort = ends n h _ _ [] _ (none-sent (h .state .op .stripe)) (λ e. omega (arith, e))
+acted-keeps n m size h Give = ends n h _ _ [] _ (none-sent (h .state .op .stripe)) (λ e. omega (arith, e))
 acted-keeps n m size h (Look max) = opens h _ _ _ _ _
 acted-keeps n m size h Store = opens h _ _ _ _ _
 acted-keeps n m size h (Modify time) = modifies size h time
 acted-keeps n m size h (Recover time) =
-    recover-either n m size h time (KeepsStripe h) (opens h _ _ _ _ _) (ends h _ _ [] _ (none-sent (h .state .op .stripe)) (λ e. omega (arith, e)))
+    recover-either n m size h time (KeepsStripe h) (opens h _ _ _ _ _) (ends n h _ _ [] _ (none-sent (h .state .op .stripe)) (λ e. omega (arith, e)))
 acted-keeps n m size h Finish =
-    ends h _ _ _ _ (one-sent (h .state .op .stripe) (record { message = trimMessage (h .state .op); blocks = []; old = [] }) refl) (finished-told (h .state .op))
+    ends n h _ _ _ _ (one-sent (h .state .op .stripe) (record { message = trimMessage (h .state .op); blocks = []; old = [] }) refl) (finished-told (h .state .op))
 
 waiting-keeps : (n m size : ℕ) (h : Buffered) → KeepsStripe h (waitingOr n m size h)
 unfolding waitingOr
@@ -162,12 +162,12 @@ taken-runs n m size stripes h r block coded w e =
 pub crash-keeps-stripe : (n m size stripes : ℕ) (h : Buffered) (w : Went) → crashStep n m size stripes h ≡ went w → KeepsStripe h w
 unfolding crashStep crashed
 crash-keeps-stripe n m size stripes h w e =
-    go (eqb (h .state .op .kind) idleKind) (passes (crashRefusal n m size stripes (h .state)) (went (crashed h)) w e .1)
+    go (eqb (h .state .op .kind) idleKind) (passes (crashRefusal n m size stripes (h .state)) (went (crashed n h)) w e .1)
   where
-    go : (b : Bool) → went (cond b (record { next = h; sent = []; seen = nothingSeen }) (ending h (h .stripe) [] cutSeen noBricks)) ≡ went w → KeepsStripe h w
+    go : (b : Bool) → went (cond b (record { next = h; sent = []; seen = nothingSeen }) (ending n h (h .stripe) [] cutSeen noBricks)) ≡ went w → KeepsStripe h w
     go true q = subst (KeepsStripe h) (same-went (record { next = h; sent = []; seen = nothingSeen }) w q) (waits h)
     go false q =
-        subst (KeepsStripe h) (same-went (ending h (h .stripe) [] cutSeen noBricks) w q) (ends h (h .stripe) noBricks [] cutSeen (none-sent (h .state .op .stripe)) (λ e. omega (arith, e)))
+        subst (KeepsStripe h) (same-went (ending n h (h .stripe) [] cutSeen noBricks) w q) (ends n h (h .stripe) noBricks [] cutSeen (none-sent (h .state .op .stripe)) (λ e. omega (arith, e)))
 
 -- A START AT AN IDLE COORDINATOR RUNS ON THE STRIPE GIVEN; "one clock for all stripes": the count rises whichever stripe it is.
 pub record StartsOn (stripes number : ℕ) (h : Buffered) (w : Went) : Type 0 where

@@ -3,7 +3,7 @@ use mathlib.Core.Path.{_≡_, refl, sym, ap, _∙_}
 use mathlib.Core.Bool.{Bool, true, false, cond, not, _&&_, _||_}
 use mathlib.Core.List.{List, [], _∷_}
 use mathlib.Core.Logic.{_⊎_, inl, inr}
-use Prim.Native.Nat.{ℕ, zero, suc, _≤_, _<_, max}
+use Prim.Native.Nat.{ℕ, zero, suc, _+_, _≤_, _<_, max}
 use native.Mathlib.Decide.{ℕ-discrete, decLt}
 use native.Mathlib.Omega.{arith}
 use lib.Dec.{eqb, leb, ltb}
@@ -11,17 +11,17 @@ use lib.ListN.{getD, set, replicate, length-set}
 use lib.Seq.{getD-set-same, getD-set-other}
 use borrow.Author.Tests.{lt-ltb, eqb-true, leb-true, ltb-true, not-true}
 use Rattle.byte_lists.proofs.Laws.EachLaws.{each-all, each-at}
-use Rattle.coord_record.specs.CountedRules.{isTarget, blockRight, countedRight, entryRight, tallyRight}
+use Rattle.coord_record.specs.CountedRules.{isTarget, blockRight, countedRight, entryRight, saidRight, keptRight, tallyRight}
 use Rattle.coord_record.specs.Records.{targetCount}
 use Rattle.coord_record.specs.declared.Op.{Op}
 use Rattle.coord_record.specs.declared.Tally.{Tally}
 use Rattle.coord_tally.specs.Counting.{highest}
 use Rattle.coord_decide.specs.Deciding.{answers, tallied}
 use Rattle.message.specs.Flags.{member, members}
-use Rattle.message.specs.Messages.{roundRight, foundRight, replyRight, replyRefusal}
+use Rattle.message.specs.Messages.{roundRight, foundRight, comparisonRight, replyRight, replyRefusal}
 use Rattle.message.specs.declared.Reply.{Reply}
 use Rattle.settings.specs.Count.{count, one-if}
-use Rattle.settings.proofs.Laws.CountLaws.{one-is}
+use Rattle.settings.proofs.Laws.CountLaws.{one-is, count-close}
 use Rattle.byte_lists.proofs.Laws.BoolLaws.{and-left, and-right}
 use Rattle.settings.specs.Refusal.{firstRefusal, refuseUnless, badNumber, badMessage}
 use Rattle.settings.specs.Times.{validTime}
@@ -68,6 +68,7 @@ pub record ReplyParts (n : ℕ) (r : Reply) : Type 0 where
   pub kind-high : r .kind ≤ modifyKind
   pub time-valid : validTime (r .time) ≡ true
   pub found-right : foundRight (r .found) ≡ true
+  pub comparison-right : comparisonRight (r .kind) (r .yes) (r .comparison) ≡ true
 
 right-parts : (n : ℕ) (r : Reply) → r .brick < n → replyRight r ≡ true → ReplyParts n r
 unfolding replyRight
@@ -77,7 +78,9 @@ right-parts n r h e =
     let v = validTime (r .time) in
     let u = roundRight (r .round) in
     let f = foundRight (r .found) in
-    let four = and-left (l && k && v && u) f e in
+    let c = comparisonRight (r .kind) (r .yes) (r .comparison) in
+    let five = and-left (l && k && v && u && f) c e in
+    let four = and-left (l && k && v && u) f five in
     let three = and-left (l && k && v) u four in
     let two = and-left (l && k) v three in
     record {
@@ -85,7 +88,8 @@ right-parts n r h e =
       kind-low = leb-true readKind (r .kind) (and-left l k two);
       kind-high = leb-true (r .kind) modifyKind (and-right l k two);
       time-valid = and-right (l && k) v three;
-      found-right = and-right (l && k && v && u) f e;
+      found-right = and-right (l && k && v && u) f five;
+      comparison-right = and-right (l && k && v && u && f) c e;
     }
 
 pub reply-parts : (n : ℕ) (r : Reply) → replyRefusal n r ≡ 0 → ReplyParts n r
@@ -105,6 +109,7 @@ tallied-sized t r s =
       granted-size = length-set (t .granted) (r .brick) (one-if (r .yes)) ∙ s .granted-size;
       held-size = length-set (t .held) (r .brick) (one-if (r .held)) ∙ s .held-size;
       found-size = length-set (t .found) (r .brick) (r .found) ∙ s .found-size;
+      said-size = length-set (t .said) (r .brick) (r .comparison) ∙ s .said-size;
     }
 
 -- none counted
@@ -135,26 +140,23 @@ kept-right n m op t r p a =
       one-is (r .held),
     ) (a .block-right)
 
+kept-said : (n m : ℕ) (op : Op) (t : Tally) (r : Reply) → ReplyParts n r → Answering n m op t r
+    → saidRight (op .phase) 1 (one-if (r .yes)) (r .comparison) ≡ true
+unfolding saidRight
+kept-said n m op t r p a = rw (one-is (r .yes), ← a .of-phase) (p .comparison-right)
+
 -- the tally with it is right
 pub tallied-right : (n m : ℕ) (op : Op) (t : Tally) (r : Reply) → n ≤ maxBricks → Sized t → tallyRight n (targetCount m (op .kind)) (op .phase) (op .first) t ≡ true
     → ReplyParts n r → Answering n m op t r
     → tallyRight n (targetCount m (op .kind)) (op .phase) (op .first) (tallied t r) ≡ true
-unfolding tallyRight tallied
+unfolding tallyRight keptRight tallied
 tallied-right n m op t r few s e p a =
-    each-all
-    (λ (b : ℕ). entryRight n (targetCount m (op .kind)) (op .phase) (op .first) b (getD (set (t .counted) (r .brick) 1) b 0) (getD (set (t .granted) (r .brick) (one-if (r .yes))) b 0)
-    (getD (set (t .held) (r .brick) (one-if (r .held))) b 0) (getD (set (t .found) (r .brick) (r .found)) b 0))
-    maxBricks (λ b l. go b l (ℕ-discrete b (r .brick)))
+    each-all (keptRight n (targetCount m (op .kind)) (op .phase) (op .first) (tallied t r)) maxBricks (λ b l. go b l (ℕ-discrete b (r .brick)))
   where
-    old : (b : ℕ) → b < maxBricks → entryRight n (targetCount m (op .kind)) (op .phase) (op .first) b (getD (t .counted) b 0) (getD (t .granted) b 0) (getD (t .held) b 0) (getD (t .found) b 0) ≡ true
-    old b l =
-        each-at
-        (λ (b : ℕ). entryRight n (targetCount m (op .kind)) (op .phase) (op .first) b (getD (t .counted) b 0) (getD (t .granted) b 0) (getD (t .held) b 0) (getD (t .found) b 0))
-        maxBricks b e l
+    old : (b : ℕ) → b < maxBricks → keptRight n (targetCount m (op .kind)) (op .phase) (op .first) t b ≡ true
+    old b l = each-at (keptRight n (targetCount m (op .kind)) (op .phase) (op .first) t) maxBricks b e l
 
-    go : (b : ℕ) → b < maxBricks → Dec (b ≡ r .brick)
-        → entryRight n (targetCount m (op .kind)) (op .phase) (op .first) b (getD (set (t .counted) (r .brick) 1) b 0) (getD (set (t .granted) (r .brick) (one-if (r .yes))) b 0)
-        (getD (set (t .held) (r .brick) (one-if (r .held))) b 0) (getD (set (t .found) (r .brick) (r .found)) b 0) ≡ true
+    go : (b : ℕ) → b < maxBricks → Dec (b ≡ r .brick) → keptRight n (targetCount m (op .kind)) (op .phase) (op .first) (tallied t r) b ≡ true
     go b l (yes q) =
         let w : r .brick < maxBricks = omega arith in
         rw (
@@ -163,14 +165,31 @@ tallied-right n m op t r few s e p a =
           getD-set-same (t .granted) (r .brick) (one-if (r .yes)) 0 (let z = s .granted-size in omega arith),
           getD-set-same (t .held) (r .brick) (one-if (r .held)) 0 (let z = s .held-size in omega arith),
           getD-set-same (t .found) (r .brick) (r .found) 0 (let z = s .found-size in omega arith),
-        ) (kept-right n m op t r p a)
+          getD-set-same (t .said) (r .brick) (r .comparison) 0 (let z = s .said-size in omega arith),
+          kept-right n m op t r p a,
+        ) (kept-said n m op t r p a)
     go b l (no q) =
         rw (
           getD-set-other (t .counted) (r .brick) b 1 0 q,
           getD-set-other (t .granted) (r .brick) b (one-if (r .yes)) 0 q,
           getD-set-other (t .held) (r .brick) b (one-if (r .held)) 0 q,
           getD-set-other (t .found) (r .brick) b (r .found) 0 q,
+          getD-set-other (t .said) (r .brick) b (r .comparison) 0 q,
         ) (old b l)
+
+-- what is kept of one brick
+pub entry-kept : (n m phase first : ℕ) (t : Tally) (b : ℕ) → b < maxBricks → tallyRight n m phase first t ≡ true
+    → entryRight n m phase first b (getD (t .counted) b 0) (getD (t .granted) b 0) (getD (t .held) b 0) (getD (t .found) b 0) ≡ true
+unfolding tallyRight keptRight
+entry-kept n m phase first t b l e =
+    and-left _ (saidRight phase (getD (t .counted) b 0) (getD (t .granted) b 0) (getD (t .said) b 0)) (each-at (keptRight n m phase first t) maxBricks b e l)
+
+pub said-kept : (n m phase first : ℕ) (t : Tally) (b : ℕ) → b < maxBricks → tallyRight n m phase first t ≡ true
+    → saidRight phase (getD (t .counted) b 0) (getD (t .granted) b 0) (getD (t .said) b 0) ≡ true
+unfolding tallyRight keptRight
+said-kept n m phase first t b l e =
+    and-right (entryRight n m phase first b (getD (t .counted) b 0) (getD (t .granted) b 0) (getD (t .held) b 0) (getD (t .found) b 0)) _
+    (each-at (keptRight n m phase first t) maxBricks b e l)
 
 -- the highest time is 0 or that of a brick of the set
 pub highest-found : (flags found : List ℕ) (n : ℕ)
@@ -221,7 +240,6 @@ found-valid t e h = go (eqb t 0) refl e
 
 -- and so is the highest time of any set of bricks
 pub highest-right : (n m phase first : ℕ) (t : Tally) (flags : List ℕ) → n ≤ maxBricks → tallyRight n m phase first t ≡ true → foundRight (highest flags (t .found) n) ≡ true
-unfolding tallyRight
 highest-right n m phase first t flags few e = go (highest-found flags (t .found) n)
   where
     go : (highest flags (t .found) n ≡ 0) ⊎ ((b : ℕ) × (b < n) × (member flags b ≡ true) × (highest flags (t .found) n ≡ getD (t .found) b 0))
@@ -229,12 +247,14 @@ highest-right n m phase first t flags few e = go (highest-found flags (t .found)
     go (inl z) = ap foundRight z ∙ zero-found
     go (inr w) =
         let b = w .0 in
-        let right = each-at
-        (λ (b : ℕ). entryRight n m phase first b (getD (t .counted) b 0) (getD (t .granted) b 0) (getD (t .held) b 0) (getD (t .found) b 0))
-        maxBricks b e (omega (arith, w .1))
-        in
+        let right = entry-kept n m phase first t b (omega (arith, w .1)) e in
         ap foundRight (w .3) ∙ entry-found n m phase first b (getD (t .counted) b 0) (getD (t .granted) b 0) (getD (t .held) b 0) (getD (t .found) b 0) right
 
 pub highest-valid : (n m phase first : ℕ) (t : Tally) → n ≤ maxBricks → tallyRight n m phase first t ≡ true → (highest (t .held) (t .found) n ≡ 0 → ⊥)
     → validTime (highest (t .held) (t .found) n) ≡ true
 highest-valid n m phase first t few e h = found-valid (highest (t .held) (t .found) n) (highest-right n m phase first t (t .held) few e) h
+
+pub counted-more : (l : List ℕ) (b v n : ℕ) → members (set l b v) n ≤ members l n + 1
+unfolding members member
+counted-more l b v n =
+    count-close (λ (i : ℕ). eqb (getD l i 0) 1) (λ (i : ℕ). eqb (getD (set l b v) i 0) 1) b n (λ i d. ap (λ (z : ℕ). eqb z 1) (getD-set-other l b i v 0 d)) .1

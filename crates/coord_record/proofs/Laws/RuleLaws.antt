@@ -8,11 +8,12 @@ use borrow.Author.Tests.{lt-ltb, le-ltb, le-leb, lt-leb, eq-eqb, ne-eqb}
 use lib.ListN.{getD}
 use mathlib.Core.List.{List}
 use Rattle.byte_lists.proofs.Laws.EachLaws.{each-all, each-not}
-use Rattle.coord_record.specs.CountedRules.{stepsAbove, isTarget, blockRight, countedRight, entryRight, tallyRight, brickRight, bricksRight}
+use Rattle.coord_record.specs.CountedRules.{stepsAbove, isTarget, blockRight, countedRight, entryRight, saidRight, keptRight, tallyRight}
+use Rattle.coord_record.specs.CountedRules.{brickRight, bricksRight}
 use Rattle.coord_record.specs.declared.Tally.{Tally}
-use Rattle.message.specs.Messages.{foundRight}
+use Rattle.message.specs.Messages.{foundRight, comparisonRight}
 use Rattle.settings.specs.Ranges.{maxBricks}
-use Rattle.message.specs.Kinds.{readKind, orderReadKind, orderBlockKind}
+use Rattle.message.specs.Kinds.{readKind, orderReadKind, orderBlockKind, noComparison}
 
 pub target-up : (n m first b : ℕ) → first ≤ b → ltb (b - first) m ≡ isTarget n m first b
 unfolding isTarget stepsAbove
@@ -113,25 +114,49 @@ unfolding countedRight
 counted-block n m phase first b granted held found f t v p h g k e z et ev =
     rw (lt-ltb 0 phase p, lt-ltb b n h, le-leb granted 1 g, le-leb held 1 k, ← e, z, ← et) ev
 
--- one brick's entry that is not right
-pub tally-not : (n m phase first : ℕ) (t : Tally) (b : ℕ) (v : Bool) → b < maxBricks
-    → v ≡ entryRight n m phase first b (getD (t .counted) b 0) (getD (t .granted) b 0) (getD (t .held) b 0) (getD (t .found) b 0)
-    → v ≡ false → false ≡ tallyRight n m phase first t
-unfolding tallyRight
-tally-not n m phase first t b v l e z =
-    sym (each-not
-    (λ (b : ℕ). entryRight n m phase first b (getD (t .counted) b 0) (getD (t .granted) b 0) (getD (t .held) b 0) (getD (t .found) b 0))
-    maxBricks b l (sym e ∙ z))
+-- what is kept of a no
+pub said-none : (phase counted granted said : ℕ) → counted ≡ 0 → eqb said noComparison ≡ saidRight phase counted granted said
+unfolding saidRight
+said-none phase counted granted said e = rw (eq-eqb counted 0 e)
+
+pub said-counted : (phase counted granted said : ℕ) (v : Bool) → (counted ≡ 0 → ⊥) → v ≡ comparisonRight phase (eqb granted 1) said
+    → v ≡ saidRight phase counted granted said
+unfolding saidRight
+said-counted phase counted granted said v n e = e ∙ rw (ne-eqb counted 0 n)
+
+-- one brick's entry, or what is kept of its no, that is not right
+module _ (n m phase first : ℕ) (t : Tally) (b : ℕ) where
+  entry-of : Bool
+  entry-of = entryRight n m phase first b (getD (t .counted) b 0) (getD (t .granted) b 0) (getD (t .held) b 0) (getD (t .found) b 0)
+
+  said-of : Bool
+  said-of = saidRight phase (getD (t .counted) b 0) (getD (t .granted) b 0) (getD (t .said) b 0)
+
+  pub tally-not : (v : Bool) → b < maxBricks
+      → v ≡ entryRight n m phase first b (getD (t .counted) b 0) (getD (t .granted) b 0) (getD (t .held) b 0) (getD (t .found) b 0)
+      → v ≡ false → false ≡ tallyRight n m phase first t
+  unfolding tallyRight keptRight entry-of said-of
+  tally-not v l e z = sym (each-not (keptRight n m phase first t) maxBricks b l (ap (λ (x : Bool). x && said-of) (sym e ∙ z)))
+
+  pub tally-unsaid : (v w : Bool) → b < maxBricks
+      → v ≡ entryRight n m phase first b (getD (t .counted) b 0) (getD (t .granted) b 0) (getD (t .held) b 0) (getD (t .found) b 0) → v ≡ true
+      → w ≡ saidRight phase (getD (t .counted) b 0) (getD (t .granted) b 0) (getD (t .said) b 0)
+      → w ≡ false → false ≡ tallyRight n m phase first t
+  unfolding tallyRight keptRight entry-of said-of
+  tally-unsaid v w l e ve d z =
+      sym (each-not (keptRight n m phase first t) maxBricks b l (ap (λ (x : Bool). x && said-of) (sym e ∙ ve) ∙ sym d ∙ z))
+
+-- both tests of one brick pass
+pub both-pass : (a b v w : Bool) → v ≡ a → v ≡ true → w ≡ b → w ≡ true → true ≡ a && b
+both-pass a b v w e ve d z = sym (rw (← e, ← d, ve, z) refl)
 
 pub tally-all : (n m phase first : ℕ) (t : Tally) (b : ℕ) → maxBricks ≤ b
     → ((k : ℕ) → k < b
-    → true ≡ entryRight n m phase first k (getD (t .counted) k 0) (getD (t .granted) k 0) (getD (t .held) k 0) (getD (t .found) k 0))
+    → true ≡ entryRight n m phase first k (getD (t .counted) k 0) (getD (t .granted) k 0) (getD (t .held) k 0) (getD (t .found) k 0)
+    && saidRight phase (getD (t .counted) k 0) (getD (t .granted) k 0) (getD (t .said) k 0))
     → true ≡ tallyRight n m phase first t
-unfolding tallyRight
-tally-all n m phase first t b l h =
-    sym (each-all
-    (λ (b : ℕ). entryRight n m phase first b (getD (t .counted) b 0) (getD (t .granted) b 0) (getD (t .held) b 0) (getD (t .found) b 0))
-    maxBricks (λ i u. sym (h i (omega arith))))
+unfolding tallyRight keptRight
+tally-all n m phase first t b l h = sym (each-all (keptRight n m phase first t) maxBricks (λ i u. sym (h i (omega arith))))
 
 -- the same of the bricks named
 pub bricks-not : (n k : ℕ) (bricks : List ℕ) (i before : ℕ) (v : Bool) → i < maxBricks → before ≡ getD bricks (i - 1) 0

@@ -12,7 +12,8 @@ use Rattle.coord_apply.specs.Acts.{buffered}
 use Rattle.coord_apply.specs.Workers.{endAnswer, DecisionReady, Acted}
 use Rattle.coord_apply.proofs.Laws.ActLaws.{recover-either}
 use Rattle.coord_apply.specs.Acts.{withTally, counting, waitingOr, acted, ending, nextRound, modifying, roundMessage, firstOp, starting}
-use Rattle.coord_apply.specs.Answers.{Buffered, Went, Step, refused, went, afterChecks, nothingSeen, noMessage, cutSeen, sentCount, sentMessage, sentBlocks, answerOf, blocksAfter}
+use Rattle.coord_apply.specs.Answers.{Buffered, Went, Step, refused, went, afterChecks, nothingSeen, noMessage, cutSeen, sentCount, sentMessage, sentBlocks, answerOf, blocksAfter, letterOf}
+use Rattle.coord_letters.specs.Letters.{letterC}
 use Rattle.coord_apply.specs.Answers.{stripeAfter, codedAfter, Returned, returned, returnedBy}
 use Rattle.coord_apply.specs.declared.Answer.{Answer}
 use Rattle.coord_record.specs.Records.{idleKind, readingKind, writingKind, readingBlockKind, writingBlockKind, onBlock, noBricks}
@@ -209,13 +210,13 @@ module _ (n m size stripes : ℕ) (c : Coordinator) (r : Reply) (block blocks st
           (step-is ∙ ap went (rw (← count-here, ← eq, le-ltb k q l) (ap (acted n m size (buffered d blocks′ stripe)) (sym (decided-here x ex)))))
           (ac .answer) (sym (acted-blocks n m size (buffered d blocks′ stripe) x)) (ac .stripe-left) (ac .coded-left)
 
-crashed-idle : (h : Buffered) → h .state .op .kind ≡ idleKind → crashed h ≡ record { next = h; sent = []; seen = nothingSeen }
+crashed-idle : (n : ℕ) (h : Buffered) → h .state .op .kind ≡ idleKind → crashed n h ≡ record { next = h; sent = []; seen = nothingSeen }
 unfolding crashed
-crashed-idle h k = rw (eq-eqb (h .state .op .kind) idleKind k)
+crashed-idle n h k = rw (eq-eqb (h .state .op .kind) idleKind k)
 
-crashed-runs : (h : Buffered) → (h .state .op .kind ≡ idleKind → ⊥) → crashed h ≡ ending h (h .stripe) [] cutSeen noBricks
+crashed-runs : (n : ℕ) (h : Buffered) → (h .state .op .kind ≡ idleKind → ⊥) → crashed n h ≡ ending n h (h .stripe) [] cutSeen noBricks
 unfolding crashed
-crashed-runs h k = rw (ne-eqb (h .state .op .kind) idleKind k)
+crashed-runs n h k = rw (ne-eqb (h .state .op .kind) idleKind k)
 
 drawn-given : (d : Draw) (f : ℕ → Clock → Went) (time : ℕ) (next : Clock) → d ≡ Drawn time next → drawnThen d f ≡ went (f time next)
 unfolding drawnThen
@@ -235,14 +236,14 @@ module _ (n m size stripes : ℕ) (c : Coordinator) (blocks stripe coded : List 
   unfolding crashStep buffered keptAnswer answerOf sentCount sentMessage sentBlocks returnedBy blocksAfter stripeAfter codedAfter
   crash-idle a z k q =
       ap (λ (x : Answer). returned x blocks stripe coded) q
-      ∙ ap (returnedBy (buffered c blocks stripe) coded) (sym (checked-pass _ bad _ e z ∙ ap went (crashed-idle (buffered c blocks stripe) k)))
+      ∙ ap (returnedBy (buffered c blocks stripe) coded) (sym (checked-pass _ bad _ e z ∙ ap went (crashed-idle n (buffered c blocks stripe) k)))
 
-  pub crash-cut : (a : Answer) → bad ≡ 0 → (c .op .kind ≡ idleKind → ⊥) → a ≡ endAnswer c cutSeen noBricks 0 noMessage
+  pub crash-cut : (a : Answer) → bad ≡ 0 → (c .op .kind ≡ idleKind → ⊥) → a ≡ endAnswer c cutSeen letterC noBricks 0 noMessage
       → returned a blocks stripe coded ≡ crashCall n m size stripes c blocks stripe coded
-  unfolding crashStep ending buffered endAnswer answerOf sentCount sentMessage sentBlocks returnedBy blocksAfter stripeAfter codedAfter
+  unfolding crashStep ending letterOf buffered endAnswer answerOf sentCount sentMessage sentBlocks returnedBy blocksAfter stripeAfter codedAfter
   crash-cut a z k q =
       ap (λ (x : Answer). returned x blocks stripe coded) q
-      ∙ ap (returnedBy (buffered c blocks stripe) coded) (sym (checked-pass _ bad _ e z ∙ ap went (crashed-runs (buffered c blocks stripe) k)))
+      ∙ ap (returnedBy (buffered c blocks stripe) coded) (sym (checked-pass _ bad _ e z ∙ ap went (crashed-runs n (buffered c blocks stripe) k)))
 
 -- what a draw's answer says of its refusal
 drawn-number : (c : Clock) (reading time : ℕ) (next : Clock) → drawOf c reading ≡ Drawn time next → drawRefusal c reading ≡ 0

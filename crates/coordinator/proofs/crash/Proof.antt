@@ -31,7 +31,7 @@ end-requires c κs = search needs
 returns-3 : tie.Need-returns-3
 unfolding noBricks
 returns-3 c = λ blocks stripe coded. crash-cut _ _ _ _ _ blocks stripe coded _ (c .before .before .before .before .before .before .crash-refusal .ensures) _
-    (c .before .before .before .before .before .if1 .left) (c .before .before .if2 .left) (end-by _ _ _ _ _ _ _ _ _ (c .end .ensures) refl refl (c .before .no-message .ensures))
+    (c .before .before .before .before .before .if1 .left) (c .before .before .if2 .left) (end-by _ _ _ _ _ _ _ _ _ _ _ (c .end .ensures) refl refl refl (c .before .no-message .ensures))
 
 pub crash-spec : {M : Type 1} → statement M
 crash-spec =

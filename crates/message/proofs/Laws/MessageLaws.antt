@@ -1,20 +1,23 @@
 -- The ways through the refusals of messages and replies.
 use mathlib.Core.Path.{_≡_, refl, sym, _∙_}
-use mathlib.Core.Bool.{Bool, true, false, _&&_}
+use mathlib.Core.Bool.{Bool, true, false, not, _&&_}
 use mathlib.Core.List.{List, [], _∷_}
 use Prim.Native.Nat.{ℕ, _≤_, _<_}
+use lib.Dec.{eqb}
 use borrow.Author.Tests.{lt-ltb, le-ltb, le-leb, lt-leb, eq-eqb, ne-eqb}
 use Rattle.message.specs.Messages.{roundRight, kindRight, messageRefusal, foundRight, targetsRight, namesBlock, messageBlockRefusal, replyRight, replyRefusal}
+use Rattle.message.specs.Messages.{storesEntry, compares, comparisonRight}
 use Rattle.message.specs.Flags.{brickSet}
 use Rattle.settings.specs.Ranges.{dataBlockRefusal}
 use Rattle.message.specs.declared.Message.{Message}
 use Rattle.message.specs.declared.Reply.{Reply}
 use Rattle.settings.specs.Refusal.{passed, badNumber, badMessage, firstRefusal, refuseUnless}
-use Rattle.message.specs.Kinds.{readKind, modifyKind, blockTargets}
+use Rattle.message.specs.Kinds.{readKind, writeKind, modifyKind, blockTargets, noComparison, newerTime, promiseAhead, fullLog}
 use Rattle.settings.specs.Times.{validTime}
 
--- a reply of a known kind: its time, round and found time are left
-pub reply-rest : (r : Reply) → readKind ≤ r .kind → r .kind ≤ modifyKind → replyRight r ≡ validTime (r .time) && roundRight (r .round) && foundRight (r .found)
+-- a reply of a known kind: its time, round, found time and comparison are left
+pub reply-rest : (r : Reply) → readKind ≤ r .kind → r .kind ≤ modifyKind
+    → replyRight r ≡ validTime (r .time) && roundRight (r .round) && foundRight (r .found) && comparisonRight (r .kind) (r .yes) (r .comparison)
 unfolding replyRight
 reply-rest r a b = rw (le-leb readKind (r .kind) a, le-leb (r .kind) modifyKind b)
 
@@ -72,9 +75,46 @@ pub reply-round : (r : Reply) (a b : Bool) → readKind ≤ r .kind → r .kind 
     → false ≡ replyRight r
 reply-round r a b l h ea ta eb tb = sym (reply-rest r l h ∙ rw (← ea, ← eb, ta, tb))
 
-pub reply-found : (r : Reply) (a b v : Bool) → readKind ≤ r .kind → r .kind ≤ modifyKind → a ≡ validTime (r .time) → a ≡ true → b ≡ roundRight (r .round) → b ≡ true
-    → v ≡ foundRight (r .found) → v ≡ replyRight r
-reply-found r a b v l h ea ta eb tb e = e ∙ sym (reply-rest r l h ∙ rw (← ea, ← eb, ta, tb))
+pub reply-found : (r : Reply) (a b c : Bool) → readKind ≤ r .kind → r .kind ≤ modifyKind → a ≡ validTime (r .time) → a ≡ true → b ≡ roundRight (r .round) → b ≡ true
+    → c ≡ foundRight (r .found) → c ≡ false → false ≡ replyRight r
+reply-found r a b c l h ea ta eb tb ec tc = sym (reply-rest r l h ∙ rw (← ea, ← eb, ← ec, ta, tb, tc))
+
+pub reply-comparison : (r : Reply) (a b c v : Bool) → readKind ≤ r .kind → r .kind ≤ modifyKind → a ≡ validTime (r .time) → a ≡ true → b ≡ roundRight (r .round) → b ≡ true
+    → c ≡ foundRight (r .found) → c ≡ true → v ≡ comparisonRight (r .kind) (r .yes) (r .comparison) → v ≡ replyRight r
+reply-comparison r a b c v l h ea ta eb tb ec tc e = e ∙ sym (reply-rest r l h ∙ rw (← ea, ← eb, ← ec, ta, tb, tc))
+
+-- The comparison that said no: the ways through its rules.
+pub stores-write : (kind : ℕ) → kind ≡ writeKind → true ≡ storesEntry kind
+unfolding storesEntry
+stores-write kind e = rw (eq-eqb kind writeKind e)
+
+pub stores-else : (kind : ℕ) → (kind ≡ writeKind → ⊥) → eqb kind modifyKind ≡ storesEntry kind
+unfolding storesEntry
+stores-else kind n = rw (ne-eqb kind writeKind n)
+
+pub compares-newer : (kind c : ℕ) → c ≡ newerTime → not (eqb kind readKind) ≡ compares kind c
+unfolding compares
+compares-newer kind c e = rw (eq-eqb c newerTime e)
+
+pub compares-promise : (kind c : ℕ) → (c ≡ newerTime → ⊥) → c ≡ promiseAhead → true ≡ compares kind c
+unfolding compares
+compares-promise kind c a e = rw (ne-eqb c newerTime a, eq-eqb c promiseAhead e)
+
+pub compares-full : (kind c : ℕ) (v : Bool) → (c ≡ newerTime → ⊥) → (c ≡ promiseAhead → ⊥) → c ≡ fullLog → v ≡ storesEntry kind → v ≡ compares kind c
+unfolding compares
+compares-full kind c v a b e f = f ∙ rw (ne-eqb c newerTime a, ne-eqb c promiseAhead b, eq-eqb c fullLog e)
+
+pub compares-none : (kind c : ℕ) → (c ≡ newerTime → ⊥) → (c ≡ promiseAhead → ⊥) → (c ≡ fullLog → ⊥) → false ≡ compares kind c
+unfolding compares
+compares-none kind c a b d = rw (ne-eqb c newerTime a, ne-eqb c promiseAhead b, ne-eqb c fullLog d)
+
+pub comparison-yes : (kind c : ℕ) (granted : Bool) → granted ≡ true → eqb c noComparison ≡ comparisonRight kind granted c
+unfolding comparisonRight
+comparison-yes kind c granted e = rw e
+
+pub comparison-no : (kind c : ℕ) (granted v : Bool) → granted ≡ false → v ≡ compares kind c → v ≡ comparisonRight kind granted c
+unfolding comparisonRight
+comparison-no kind c granted v e f = f ∙ rw e
 
 pub found-zero : (t : ℕ) → t ≡ 0 → true ≡ foundRight t
 unfolding foundRight

@@ -83,10 +83,10 @@ module _ (s : Settings) (k : Buffered) where
       go (inl q) = ap (λ (a : plain s .Kind). plain s .effect a z) (begun-read q)
       go (inr q) = ap (λ (a : plain s .Kind). plain s .effect a z) (begun-read-block q)
 
-  pub read-gives : isReading (k .state .op .kind) ≡ true → (what : ℕ) (bricks v : List ℕ)
-      → readGiven s (noticeOf (k .state .op) what bricks) v ≡ plain s .gives (begunKind s k) v
+  pub read-gives : isReading (k .state .op .kind) ≡ true → (what letter : ℕ) (bricks v : List ℕ)
+      → readGiven s (noticeOf (k .state .op) what letter bricks) v ≡ plain s .gives (begunKind s k) v
   unfolding readGiven given onBlock seenBlock
-  read-gives e what bricks v = go (read-cases (k .state .op .kind) e)
+  read-gives e what letter bricks v = go (read-cases (k .state .op .kind) e)
     where
       go : (k .state .op .kind ≡ readingKind) ⊎ (k .state .op .kind ≡ readingBlockKind)
           → cond (eqb (k .state .op .kind) readingBlockKind || eqb (k .state .op .kind) writingBlockKind)

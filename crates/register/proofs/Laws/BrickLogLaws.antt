@@ -18,7 +18,8 @@ use Rattle.brick.proofs.Laws.BrickLaws.{by-place, order-not-below, write-ordere
 use Rattle.image.specs.Brick.{Brick, LogEntry, entryCount, timeAt, meansAt, newest}
 use Rattle.image.specs.Brick.{Sound}
 use Rattle.image_write.specs.Saving
-use Rattle.brick_log.specs.BrickRules.{notBelowPromise, readYes, orderYes, writeYes, trimmedTo, under}
+use Rattle.brick_answer.specs.Comparisons.{notBelowPromise}
+use Rattle.brick_log.specs.BrickRules.{readYes, orderYes, writeYes, trimmedTo, under}
 use Rattle.order.specs.Facts.{Fact, promised, stored, showed, seen, shows}
 use Rattle.order.specs.Places.{Suf, whole, above, In}
 use Rattle.order.proofs.Laws.PlaceLaws.{in-top}

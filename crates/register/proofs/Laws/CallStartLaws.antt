@@ -28,20 +28,20 @@ use Rattle.register.proofs.Laws.LendingLaws.{crash-goes-on, crash-leave
 
 module _ (s : Settings) where
   -- a crash sends nothing, and what is seen of it is the cut of an operation that ran
-  crashed-sent : (k : Buffered) → crashed k .sent ≡ []
+  crashed-sent : (k : Buffered) → crashed (s .n) k .sent ≡ []
   unfolding crashed ending
   crashed-sent k = go (eqb (k .state .op .kind) idleKind)
     where
-      go : (t : Bool) → cond t (record { next = k; sent = []; seen = nothingSeen }) (ending k (k .stripe) [] cutSeen noBricks) .sent ≡ []
+      go : (t : Bool) → cond t (record { next = k; sent = []; seen = nothingSeen }) (ending (s .n) k (k .stripe) [] cutSeen noBricks) .sent ≡ []
       go true = refl
       go false = refl
 
-  crashed-seen : (k x : Buffered) → onStripe (crashed k .seen .stripe) (seenOf s (crashed k .seen) x) ≡ onStripe (k .state .op .stripe) (cutOf s (k .state .op))
+  crashed-seen : (k x : Buffered) → onStripe (crashed (s .n) k .seen .stripe) (seenOf s (crashed (s .n) k .seen) x) ≡ onStripe (k .state .op .stripe) (cutOf s (k .state .op))
   unfolding crashed ending cutOf seenOf nothingSeen
   crashed-seen k x = go (eqb (k .state .op .kind) idleKind)
     where
       by : Bool → Notice
-      by t = cond t (record { next = k; sent = []; seen = nothingSeen }) (ending k (k .stripe) [] cutSeen noBricks) .seen
+      by t = cond t (record { next = k; sent = []; seen = nothingSeen }) (ending (s .n) k (k .stripe) [] cutSeen noBricks) .seen
 
       go : (t : Bool) → onStripe (by t .stripe) (seenOf s (by t) x) ≡ onStripe (k .state .op .stripe) (cond t [] (Seen.ended (k .state .op .time) cut ∷ []))
       go true = seen-nowhere 0 ∙ sym (seen-nowhere (k .state .op .stripe))
@@ -53,8 +53,8 @@ module _ (s : Settings) where
   unfolding step leftBy coordinated failed backWith broadcasts
   crash-fails e events c l blocks stripe f =
       ap (λ (p : Step). coordinated s v c (leftBy s (lost blocks stripe) p)) (crash-goes-on s e events c l)
-      ∙ ap (λ (k : Buffered). coordinated s v c (went (record { next = k; sent = crashed (v .coordinators c) .sent; seen = crashed (v .coordinators c) .seen })))
-      (left-lost s blocks stripe (crashed (v .coordinators c) .next) (f .blocks-long) (f .stripe-long) ∙ came-back)
+      ∙ ap (λ (k : Buffered). coordinated s v c (went (record { next = k; sent = crashed (s .n) (v .coordinators c) .sent; seen = crashed (s .n) (v .coordinators c) .seen })))
+      (left-lost s blocks stripe (crashed (s .n) (v .coordinators c) .next) (f .blocks-long) (f .stripe-long) ∙ came-back)
       ∙ ap₂ makes (ap (λ (l : List Broadcast). v .sent ++ broadcasts s l) (crashed-sent (v .coordinators c)) ∙ append-nil (v .sent))
       (crashed-seen (v .coordinators c) back)
     where
@@ -64,7 +64,7 @@ module _ (s : Settings) where
       back : Buffered
       back = backWith s c (v .coordinators c .state) blocks stripe
 
-      came-back : record { state = crashed (v .coordinators c) .next .state; blocks = blocks; stripe = stripe } ≡ back
+      came-back : record { state = crashed (s .n) (v .coordinators c) .next .state; blocks = blocks; stripe = stripe } ≡ back
       came-back = ap (λ (x : Coordinator). record { state = x; blocks = blocks; stripe = stripe }) (crash-leaves s e events c l)
 
       makes : List Item → (ℕ → List (Seen (plain s))) → Moved s

@@ -72,6 +72,9 @@ counting-keeps s g h sent c k r block coded w i t was =
     found : List ℕ
     found = k .state .tally .found
 
+    said : List ℕ
+    said = k .state .tally .said
+
     low : r .brick < maxBricks
     low = let a = t .takes .brick-low in let b = g .code .n-high in omega arith
 
@@ -106,6 +109,7 @@ counting-keeps s g h sent c k r block coded w i t was =
           yes-is = sym (member-same granted (r .brick) (r .yes) (let w = i .sized .granted-size in omega (arith, low)));
           held-is = sym (member-same held (r .brick) (r .held) (let w = i .sized .held-size in omega (arith, low)));
           found-is = sym (getD-set-same found (r .brick) (r .found) 0 (let w = i .sized .found-size in omega (arith, low)));
+          said-is = sym (getD-set-same said (r .brick) (r .comparison) 0 (let w = i .sized .said-size in omega (arith, low)));
           block-is = λ e. here (r .held) refl e;
           right = t .answer .block-right;
         }
@@ -124,6 +128,7 @@ counting-keeps s g h sent c k r block coded w i t was =
           yes-is = x .yes-is ∙ sym (member-other granted (r .brick) b (one-if (r .yes)) n);
           held-is = x .held-is ∙ sym (member-other held (r .brick) b (one-if (r .held)) n);
           found-is = x .found-is ∙ sym (getD-set-other found (r .brick) b (r .found) 0 n);
+          said-is = x .said-is ∙ sym (getD-set-other said (r .brick) b (r .comparison) 0 n);
           block-is = λ e. there (r .held) refl b n ∙ x .block-is e;
           right = x .right;
         }
@@ -140,6 +145,8 @@ counting-keeps s g h sent c k r block coded w i t was =
           counts = λ b m. counts b m (ℕ-discrete b (r .brick));
           holds = λ b m. holds b m (ℕ-discrete b (r .brick));
           asked = x .asked;
+          looked-lower = x .looked-lower;
+          stored-lower = x .stored-lower;
           cleared = x .cleared;
           storing = x .storing;
           modifying = x .modifying;

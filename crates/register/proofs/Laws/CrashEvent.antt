@@ -66,7 +66,7 @@ left-turned s g h sent c left w e same t =
 -- a crash that is not refused, at an idle coordinator or one that runs
 pub crash-turned : (s : Settings) (g : SettingsRange s) (h : Hist s) (sent : List Item) (c : ℕ) (k : Buffered) → Valid (quorums s g) h
     → CoordinatorInv s g h sent c k → (left : Left)
-    → TurnedRound s g h sent c (record { next = leaving s left (crashed k .next); sent = crashed k .sent; seen = crashed k .seen })
+    → TurnedRound s g h sent c (record { next = leaving s left (crashed (s .n) k .next); sent = crashed (s .n) k .sent; seen = crashed (s .n) k .seen })
 unfolding crashed
 crash-turned s g h sent c k v i left = busy (eqb (k .state .op .kind) idleKind) refl
   where
@@ -74,7 +74,7 @@ crash-turned s g h sent c k v i left = busy (eqb (k .state .op .kind) idleKind) 
     with-left : Went → Went
     with-left w = record { next = leaving s left (w .next); sent = w .sent; seen = w .seen }
 
-    cuts : (k .state .op .kind ≡ idleKind → ⊥) → TurnedRound s g h sent c (ending k (k .stripe) [] cutSeen noBricks)
+    cuts : (k .state .op .kind ≡ idleKind → ⊥) → TurnedRound s g h sent c (ending (s .n) k (k .stripe) [] cutSeen noBricks)
     cuts n =
         let w = i .runs n in
         ends s g h sent c k i v cut (k .stripe) [] cutSeen noBricks (w .own)
@@ -83,10 +83,10 @@ crash-turned s g h sent c k v i left = busy (eqb (k .state .op .kind) idleKind) 
 
     busy : (a : Bool) → eqb (k .state .op .kind) idleKind ≡ a
         → TurnedRound s g h sent c
-        (with-left (cond a (record { next = k; sent = []; seen = nothingSeen }) (ending k (k .stripe) [] cutSeen noBricks)))
+        (with-left (cond a (record { next = k; sent = []; seen = nothingSeen }) (ending (s .n) k (k .stripe) [] cutSeen noBricks)))
     busy true e =
         left-turned s g h sent c left (record { next = k; sent = []; seen = nothingSeen }) (eqb-true (k .state .op .kind) idleKind e)
         (λ a b. unfold seenOf nothingSeen in refl) (stays s g h sent c k i v)
     busy false e =
-        left-turned s g h sent c left (ending k (k .stripe) [] cutSeen noBricks) (unfold ending idleWith noOp in refl)
+        left-turned s g h sent c left (ending (s .n) k (k .stripe) [] cutSeen noBricks) (unfold ending idleWith noOp in refl)
         (λ a b. unfold seenOf ending in refl) (cuts (eqb-false (k .state .op .kind) idleKind e))

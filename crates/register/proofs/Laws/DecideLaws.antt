@@ -7,7 +7,7 @@ use Prim.Native.Nat.{ℕ, _+_, _≤_, _<_}
 use native.Mathlib.Omega.{arith}
 use lib.Dec.{T, leb}
 use borrow.Author.Tests.{ltb-true}
-use Rattle.message.specs.Kinds.{readKind, orderKind, writeKind, modifyKind}
+use Rattle.message.specs.Kinds.{readKind, orderKind, orderReadKind, writeKind, modifyKind, firstRound, thirdRound}
 use Rattle.settings.specs.Ranges.{quorum}
 use Rattle.settings.specs.Ranges.{SettingsRange}
 use Rattle.byte_lists.proofs.Laws.BoolLaws.{and-right}
@@ -98,7 +98,7 @@ module _ (s : Settings) (g : SettingsRange s) (h : Hist s) (sent : List Item) (c
       record { set = member (k .state .tally .counted); enough = l; each = λ b w t. f b (T-true (member (k .state .tally .counted) b) t) }
 
   -- the operation ends aborted
-  pub does-abort : TurnedRound s g h sent c (ending k (k .stripe) [] abortedSeen noBricks)
+  pub does-abort : TurnedRound s g h sent c (ending (s .n) k (k .stripe) [] abortedSeen noBricks)
   does-abort =
       ends s g h sent c k i v aborted (k .stripe) [] abortedSeen noBricks (now .own)
       (record { known = known-begun now; running = now .unended; answer = tt }) (unfold ending seenOf shows endingOf in refl)
@@ -109,10 +109,11 @@ module _ (s : Settings) (g : SettingsRange s) (h : Hist s) (sent : List Item) (c
       → Val (launched (k .state .op .time) source ∷ h) (k .state .op .time) stripe
       → Stripe (s .m) (s .size) stripe
       → (k .state .op .kind ≡ writingBlockKind → Piece s (k .state .op .first) (blockOf (s .size) stripe (k .state .op .first)))
+      → (thirdRound ≤ k .state .op .round → k .state .op .phase ≡ orderReadKind)
       → begunKind s (nextRound k writeKind 0 bricks stripe (codedOf (s .n) (s .m) (s .size) stripe) .next) ≡ begunKind s k
       → TurnedRound s g h sent c (nextRound k writeKind 0 bricks stripe (codedOf (s .n) (s .m) (s .size) stripe))
   unfolding nextRound
-  launches source bricks stripe o value proper piece kept =
+  launches source bricks stripe o value proper piece recovered-from kept =
       opens s g h sent c k i n later writeKind 0 0 bricks stripe (codedOf (s .n) (s .m) (s .size) stripe) []
       (turns-launched s g c h v (k .state .op .time) source o (now .own) [] refl)
       (λ u w. old u (w .0) (in-cons (w .1)))
@@ -121,6 +122,7 @@ module _ (s : Settings) (g : SettingsRange s) (h : Hist s) (sent : List Item) (c
       kept
       (λ e. proper)
       piece
+      (λ e. recovered-from)
       (λ e. absurd (omega (arith, e)))
       (λ e. ((source, in-top), value, proper))
       (λ e. absurd (omega (arith, e)))
@@ -152,11 +154,12 @@ module _ (s : Settings) (g : SettingsRange s) (h : Hist s) (sent : List Item) (c
           })
 
   -- the Write round of a write
-  pub does-store : k .state .op .kind ≡ writingKind → k .state .op .phase ≡ orderKind → some (saidNo (k .state .tally .counted) (k .state .tally .granted)) (s .n) ≡ false
+  pub does-store : k .state .op .kind ≡ writingKind → k .state .op .phase ≡ orderKind → k .state .op .round ≡ firstRound
+      → some (saidNo (k .state .tally .counted) (k .state .tally .granted)) (s .n) ≡ false
       → quorum (s .n) (s .m) ≤ members (k .state .tally .counted) (s .n)
       → TurnedRound s g h sent c (nextRound k writeKind 0 noBricks (k .stripe) (codedOf (s .n) (s .m) (s .size) (k .stripe)))
   unfolding changed
-  does-store kind phase yeses enough =
+  does-store kind phase round yeses enough =
       let w = writes-begun now kind in
       launches itself noBricks (k .stripe)
       (record {
@@ -166,7 +169,7 @@ module _ (s : Settings) (g : SettingsRange s) (h : Hist s) (sent : List Item) (c
         order = quorum-of (λ (b : ℕ). In (promised b (k .state .op .time)) h) enough ordered;
         source = (write (k .stripe), k .stripe, w, λ z. refl);
       })
-      (sets in-top (in-above w) (λ z. refl)) (now .proper kind) (now .piece)
+      (sets in-top (in-above w) (λ z. refl)) (now .proper kind) (now .piece) (λ l. absurd (omega (arith, l, round)))
       (unfold nextRound opened nextOp in same-begun s _ k refl refl refl)
     where
       ordered : (b : ℕ) → member (k .state .tally .counted) b ≡ true → In (promised b (k .state .op .time)) h
@@ -221,7 +224,7 @@ module _ (s : Settings) (g : SettingsRange s) (h : Hist s) (sent : List Item) (c
   pub does-finish : (k .state .op .phase ≡ writeKind) ⊎ ((k .state .op .phase ≡ modifyKind) × (isReading (k .state .op .kind) ≡ false))
       → some (saidNo (k .state .tally .counted) (k .state .tally .granted)) (s .n) ≡ false
       → quorum (s .n) (s .m) ≤ members (k .state .tally .counted) (s .n)
-      → TurnedRound s g h sent c (ending k (k .stripe) (trimming ∷ []) (finishedSeen (k .state .op)) (k .state .bricks))
+      → TurnedRound s g h sent c (ending (s .n) k (k .stripe) (trimming ∷ []) (finishedSeen (k .state .op)) (k .state .bricks))
   does-finish phase yeses enough = go (isReading (k .state .op .kind)) refl phase
     where
       round : (k .state .op .phase ≡ writeKind) ⊎ ((k .state .op .phase ≡ modifyKind) × (isReading (k .state .op .kind) ≡ false))
@@ -237,7 +240,7 @@ module _ (s : Settings) (g : SettingsRange s) (h : Hist s) (sent : List Item) (c
       gave = plain s .gives (begunKind s k) (k .stripe)
 
       finished-read : isReading (k .state .op .kind) ≡ true → k .state .op .phase ≡ writeKind
-          → TurnedRound s g h sent c (ending k (k .stripe) (trimming ∷ []) (finishedSeen (k .state .op)) (k .state .bricks))
+          → TurnedRound s g h sent c (ending (s .n) k (k .stripe) (trimming ∷ []) (finishedSeen (k .state .op)) (k .state .bricks))
       finished-read q p =
           ends s g h sent c k i v (recovered gave) (k .stripe) (trimming ∷ []) (finishedSeen (k .state .op)) (k .state .bricks) (now .own)
           (record {
@@ -249,12 +252,12 @@ module _ (s : Settings) (g : SettingsRange s) (h : Hist s) (sent : List Item) (c
             );
           })
           (unfold ending seenOf shows endingOf finishedSeen in
-          rw q (ap (λ (a : plain s .Given). Seen.ended (k .state .op .time) (Ending.finished a) ∷ []) (read-gives s k q readSeen (k .state .bricks) (k .stripe))))
+          rw q (ap (λ (a : plain s .Given). Seen.ended (k .state .op .time) (Ending.finished a) ∷ []) (read-gives s k q readSeen _ (k .state .bricks) (k .stripe))))
           (trims many (recovered gave)) owns
 
       go : (a : Bool) → isReading (k .state .op .kind) ≡ a
           → (k .state .op .phase ≡ writeKind) ⊎ ((k .state .op .phase ≡ modifyKind) × (isReading (k .state .op .kind) ≡ false))
-          → TurnedRound s g h sent c (ending k (k .stripe) (trimming ∷ []) (finishedSeen (k .state .op)) (k .state .bricks))
+          → TurnedRound s g h sent c (ending (s .n) k (k .stripe) (trimming ∷ []) (finishedSeen (k .state .op)) (k .state .bricks))
       go true q (inl p) = finished-read q p
       go true q (inr p) = absurd (true≢false (sym q ∙ p .1))
       go false q p =

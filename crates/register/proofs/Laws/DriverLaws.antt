@@ -217,12 +217,12 @@ module _ (n m size stripes : ℕ) (k : Buffered) where
   read-block-short number reading block =
       checked-short size _ _ (drawn-short size (drawOf (k .state .clock) reading) _ (λ t c. started-short size k c _ _ _ (λ e. omega (arith, e))))
 
-  crashed-short : AtMostTwo size (crashed k .next) (crashed k .sent)
+  crashed-short : AtMostTwo size (crashed n k .next) (crashed n k .sent)
   unfolding crashed ending
   crashed-short = go (eqb (k .state .op .kind) idleKind)
     where
       cuts : Bool → Went
-      cuts a = cond a (record { next = k; sent = []; seen = nothingSeen }) (ending k (k .stripe) [] cutSeen noBricks)
+      cuts a = cond a (record { next = k; sent = []; seen = nothingSeen }) (ending n k (k .stripe) [] cutSeen noBricks)
 
       go : (a : Bool) → AtMostTwo size (cuts a .next) (cuts a .sent)
       go true = none
@@ -230,7 +230,7 @@ module _ (n m size stripes : ℕ) (k : Buffered) where
 
   pub crash-short : Short size (crashStep n m size stripes k)
   unfolding crashStep
-  crash-short = checked-short size _ (went (crashed k)) (sends (crashed k) crashed-short)
+  crash-short = checked-short size _ (went (crashed n k)) (sends (crashed n k) crashed-short)
 
 pub take-short : (n m size stripes : ℕ) (k : Buffered) (r : Reply) (block : List ℕ) (coded : ℕ) → Short size (takeStep n m size stripes k r block coded)
 unfolding takeStep

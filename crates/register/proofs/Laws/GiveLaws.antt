@@ -22,7 +22,7 @@ use Rattle.byte_lists.proofs.Laws.EachLaws.{some-at}
 use Rattle.coord_record.specs.CountedRules.{stepsAbove, isTarget, blockRight}
 use Rattle.coord_tally.specs.Counting.{saidNo, highest, otherTime, missing, targetRow}
 use Rattle.coord_apply.specs.Acts.{stripeFrom, givenStripe, noticeOf, ending}
-use Rattle.coord_apply.specs.Answers.{Buffered, readSeen}
+use Rattle.coord_apply.specs.Answers.{Buffered, readSeen, letterOf}
 use Rattle.order.specs.Claim.{Result, given, Ending, Seen, _∈_}
 use Rattle.order.specs.Facts.{one-round, showed, shows, endingOf}
 use Rattle.order.specs.Places.{In}
@@ -136,7 +136,7 @@ module _ (s : Settings) (g : SettingsRange s) (h : Hist s) (sent : List Item) (c
     Shows : Type 0
     Shows =
         (full : List ℕ) × Val h newestOf full
-        × (readGiven s (noticeOf (k .state .op) readSeen (targetRow (s .n) asked (k .state .op .first)))
+        × (readGiven s (noticeOf (k .state .op) readSeen (letterOf (s .n) (k .state .op) (k .state .tally) readSeen) (targetRow (s .n) asked (k .state .op .first)))
         (givenStripe (s .n) (s .m) (s .size) (k .state .op) (k .blocks) (k .stripe))
         ≡ plain s .gives (begunKind s k) full)
 
@@ -153,7 +153,7 @@ module _ (s : Settings) (g : SettingsRange s) (h : Hist s) (sent : List Item) (c
           d .full,
           d .value,
           rw (not-on-block (k .state .op .kind) q)
-              (read-gives s k e readSeen (targetRow (s .n) asked first) (stripeFrom (s .m) (s .size) (take (s .m) (targetRow (s .n) (s .m) first)) (k .blocks))
+              (read-gives s k e readSeen _ (targetRow (s .n) asked first) (stripeFrom (s .m) (s .size) (take (s .m) (targetRow (s .n) (s .m) first)) (k .blocks))
               ∙ ap (plain s .gives (begunKind s k)) (d .gives)),
         )
 
@@ -164,7 +164,7 @@ module _ (s : Settings) (g : SettingsRange s) (h : Hist s) (sent : List Item) (c
       w .full,
       w .value,
       rw on
-          (read-gives s k e readSeen (targetRow (s .n) asked j) (withBlock (s .size) (k .stripe) j (blockOf (s .size) (k .blocks) j))
+          (read-gives s k e readSeen _ (targetRow (s .n) asked j) (withBlock (s .size) (k .stripe) j (blockOf (s .size) (k .blocks) j))
           ∙ ap (λ (a : plain s .Kind). plain s .gives a (withBlock (s .size) (k .stripe) j (blockOf (s .size) (k .blocks) j))) (begun-read-block s k q)
           ∙ ap Result.block (block-with (s .size) (k .stripe) j (blockOf (s .size) (k .blocks) j) sized (block-within (s .m) (s .size) j (k .stripe) long l) ∙ coded)
           ∙ sym (ap (λ (a : plain s .Kind). plain s .gives a (w .full)) (begun-read-block s k q))),
@@ -190,7 +190,7 @@ module _ (s : Settings) (g : SettingsRange s) (h : Hist s) (sent : List Item) (c
     pub does-give : isReading (k .state .op .kind) ≡ true → (onBlock (k .state .op .kind) ≡ true → k .state .op .first < s .m)
         → length (k .stripe) ≡ s .m * s .size
         → TurnedRound s g h sent c
-        (ending k (givenStripe (s .n) (s .m) (s .size) (k .state .op) (k .blocks) (k .stripe)) [] readSeen (targetRow (s .n) asked (k .state .op .first)))
+        (ending (s .n) k (givenStripe (s .n) (s .m) (s .size) (k .state .op) (k .blocks) (k .stripe)) [] readSeen (targetRow (s .n) asked (k .state .op .first)))
     unfolding Shows
     does-give e block-low long =
         let r = now s g h sent c k v i items n in

@@ -11,8 +11,9 @@ use borrow.Author.Tests.{eqb-true, eq-eqb, le-ltb}
 use Rattle.byte_lists.proofs.Laws.BoolLaws.{and-left, and-right}
 use Rattle.byte_lists.proofs.Laws.EachLaws.{each-at}
 use Rattle.settings.specs.Ranges.{maxBricks}
+use Rattle.message.specs.Kinds.{noComparison}
 use Rattle.coord_record.specs.Records.{idleKind, isReading, targetCount, noOp, noBricks, nothingCounted, idleWith}
-use Rattle.coord_record.specs.CountedRules.{countedRight, entryRight, tallyRight, brickRight, bricksRight}
+use Rattle.coord_record.specs.CountedRules.{countedRight, entryRight, saidRight, tallyRight, brickRight, bricksRight}
 use Rattle.coord_record.specs.Sound.{sameGeometry, opRight, unsetOp, namedCount}
 use Rattle.coord_record.specs.SoundParts.{SoundParts}
 use Rattle.coord_record.specs.declared.Coordinator.{Coordinator}
@@ -22,7 +23,7 @@ use Rattle.coord_record.specs.declared.Tally.{Tally}
 use Rattle.coord_record.proofs.Laws.RecordSoundLaws.{time-idle}
 use Rattle.coord_laws.specs.Soundness.{Sized}
 use Rattle.coord_laws.proofs.Laws.OpCaseLaws.{clash}
-use Rattle.coord_laws.proofs.Laws.TallyLaws.{zeros-at}
+use Rattle.coord_laws.proofs.Laws.TallyLaws.{zeros-at, entry-kept, said-kept}
 use Rattle.register.specs.Lending.{SixteenPlaces}
 
 -- the settings that a sound record names
@@ -67,17 +68,24 @@ unkept n targets first b counted granted held found = go (eqb counted 0) refl
         }
     go false e q = clash (and-right (eqb counted 1) (countedRight n targets 0 first b granted held found) q)
 
+-- nor of a no
+unsaid : (phase counted granted said : ℕ) → counted ≡ 0 → saidRight phase counted granted said ≡ true → said ≡ 0
+unfolding saidRight
+unsaid phase counted granted said e q = eqb-true said noComparison (rw (eq-eqb counted 0 e) at q)
+
 idle-tally : (n targets first : ℕ) (t : Tally) → Sized t → tallyRight n targets 0 first t ≡ true → t ≡ nothingCounted
-unfolding tallyRight nothingCounted
+unfolding nothingCounted
 idle-tally n targets first t z e =
     let at : (b : ℕ) → b < maxBricks → Unkept (getD (t .counted) b 0) (getD (t .granted) b 0) (getD (t .held) b 0) (getD (t .found) b 0) =
-    λ b l. unkept n targets first b _ _ _ _ (each-at _ maxBricks b e l) in
-    ap₂ (λ (a b : List ℕ). record { counted = a; granted = b; held = t .held; found = t .found })
+    λ b l. unkept n targets first b _ _ _ _ (entry-kept n targets 0 first t b l e) in
+    ap₂ (λ (a b : List ℕ). record { counted = a; granted = b; held = t .held; found = t .found; said = t .said })
     (all-zeros maxBricks (t .counted) (z .counted-size) (λ b l. at b l .no-count))
     (all-zeros maxBricks (t .granted) (z .granted-size) (λ b l. at b l .no-grant))
-    ∙ ap₂ (λ (a b : List ℕ). record { counted = replicate maxBricks 0; granted = replicate maxBricks 0; held = a; found = b })
+    ∙ ap₂ (λ (a b : List ℕ). record { counted = replicate maxBricks 0; granted = replicate maxBricks 0; held = a; found = b; said = t .said })
     (all-zeros maxBricks (t .held) (z .held-size) (λ b l. at b l .no-hold))
     (all-zeros maxBricks (t .found) (z .found-size) (λ b l. at b l .no-find))
+    ∙ ap (λ (a : List ℕ). record { counted = replicate maxBricks 0; granted = replicate maxBricks 0; held = replicate maxBricks 0; found = replicate maxBricks 0; said = a })
+    (all-zeros maxBricks (t .said) (z .said-size) (λ b l. unsaid 0 _ _ _ (at b l .no-count) (said-kept n targets 0 first t b l e)))
 
 idle-bricks : (n : ℕ) (l : List ℕ) → length l ≡ maxBricks → bricksRight n 0 l ≡ true → l ≡ noBricks
 unfolding bricksRight brickRight noBricks

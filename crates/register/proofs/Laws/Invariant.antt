@@ -12,7 +12,7 @@ use Rattle.settings.proofs.Laws.QuorumLaws.{quorum-twice}
 use Rattle.settings.specs.Times.{timeOf, coordinatorOf}
 use Rattle.settings.specs.declared.Settings.{Settings}
 use Rattle.message.specs.Flags.{member}
-use Rattle.message.specs.Kinds.{readKind, orderKind, orderReadKind, orderBlockKind, writeKind, modifyKind, trimKind}
+use Rattle.message.specs.Kinds.{readKind, orderKind, orderReadKind, orderBlockKind, writeKind, modifyKind, trimKind, thirdRound}
 use Rattle.message.specs.declared.Message.{Message}
 use Rattle.message.specs.declared.Reply.{Reply}
 use Rattle.image.specs.Brick.{Brick, entryCount, timeAt, meansAt, Sound}
@@ -143,6 +143,7 @@ pub record CountedInv (s : Settings) (sent : List Item) (k : Buffered) (b : ℕ)
   pub yes-is : from .yes ≡ member (k .state .tally .granted) b
   pub held-is : from .held ≡ member (k .state .tally .held) b
   pub found-is : from .found ≡ getD (k .state .tally .found) b 0
+  pub said-is : from .comparison ≡ getD (k .state .tally .said) b 0
   pub block-is : from .held ≡ true → blockOf (s .size) (k .blocks) b ≡ block
   pub right : blockRight (k .state .op .phase) (isTarget (s .n) (targetCount (s .m) (k .state .op .kind)) (k .state .op .first) b)
       (from .yes) (from .held) (from .found) ≡ true
@@ -152,6 +153,17 @@ abbrev pub Asked : List Item → (time round phase max : ℕ) → Type 0
 Asked sent time round phase max =
     (b : ℕ) (msg : Message) (block old : List ℕ) → message b msg block old ∈ sent → msg .kind ≡ orderReadKind → msg .time ≡ time
     → (msg .round ≤ round) × (msg .round ≡ round → (phase ≡ orderReadKind) × (msg .max ≡ max))
+
+-- An Order-and-read of a round after the second was sent for the operation of this time: its recovery tried a lower time.
+pub record Lowered (sent : List Item) (time : ℕ) : Type 0 where
+  pub brick : ℕ
+  pub asked : Message
+  pub block : List ℕ
+  pub old : List ℕ
+  pub was-sent : message brick asked block old ∈ sent
+  pub kind-is : asked .kind ≡ orderReadKind
+  pub time-is : asked .time ≡ time
+  pub late : thirdRound ≤ asked .round
 
 -- The running operation of coordinator c.
 pub record Running (s : Settings) (g : SettingsRange s) (h : Hist s) (sent : List Item) (c : ℕ) (k : Buffered) : Type 0 where
@@ -165,6 +177,9 @@ pub record Running (s : Settings) (g : SettingsRange s) (h : Hist s) (sent : Lis
   pub counts : (b : ℕ) → member (k .state .tally .counted) b ≡ true → CountedInv s sent k b
   pub holds : (b : ℕ) → member (k .state .tally .held) b ≡ true → member (k .state .tally .counted) b ≡ true
   pub asked : Asked sent (k .state .op .time) (k .state .op .round) (k .state .op .phase) (k .state .op .max)
+  -- a recovery past its first round has tried a lower time, and so has a store after that
+  pub looked-lower : k .state .op .phase ≡ orderReadKind → thirdRound ≤ k .state .op .round → Lowered sent (k .state .op .time)
+  pub stored-lower : k .state .op .phase ≡ writeKind → thirdRound < k .state .op .round → Lowered sent (k .state .op .time)
   -- in a recovery, every time from its bound on is gone
   pub cleared : k .state .op .phase ≡ orderReadKind → (u : ℕ) → k .state .op .max ≤ u → u < k .state .op .time → Gone (quorums s g) h u
   -- in a Write round, what is stored is what the operation's time stands for

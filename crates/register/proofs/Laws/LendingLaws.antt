@@ -203,12 +203,12 @@ accepted-went c k g = go (leb k 0) refl
     go false e q = let z = leb-false k 0 e in absurd (omega (arith, z, q))
 
 -- a crash of a coordinator whose record, without an operation, is that of its clock alone
-crashed-idle : (k : Buffered) → Rests (k .state) → crashed k .next .state ≡ idleWith (k .state .geometry) (k .state .clock)
+crashed-idle : (n : ℕ) (k : Buffered) → Rests (k .state) → crashed n k .next .state ≡ idleWith (k .state .geometry) (k .state .clock)
 unfolding crashed ending
-crashed-idle k idle = go (eqb (k .state .op .kind) idleKind) refl
+crashed-idle n k idle = go (eqb (k .state .op .kind) idleKind) refl
   where
     go : (a : Bool) → eqb (k .state .op .kind) idleKind ≡ a
-        → cond a (record { next = k; sent = []; seen = nothingSeen }) (ending k (k .stripe) [] cutSeen noBricks)
+        → cond a (record { next = k; sent = []; seen = nothingSeen }) (ending n k (k .stripe) [] cutSeen noBricks)
         .next .state ≡ idleWith (k .state .geometry) (k .state .clock)
     go true e = idle (eqb-true (k .state .op .kind) idleKind e)
     go false e = refl
@@ -218,15 +218,15 @@ module _ (s : Settings) (e : inRange s ≡ true) (events : List Event) (c : ℕ)
   k = run s events .world .coordinators c
 
   -- no crash of a run is refused
-  pub crash-goes-on : crashStep (s .n) (s .m) (s .size) (s .stripes) k ≡ went (crashed k)
+  pub crash-goes-on : crashStep (s .n) (s .m) (s .size) (s .stripes) k ≡ went (crashed (s .n) k)
   unfolding crashStep
-  crash-goes-on = accepted-went (k .state) (crashRefusal (s .n) (s .m) (s .size) (s .stripes) (k .state)) (crashed k) (crashes-accepted s e events c l)
+  crash-goes-on = accepted-went (k .state) (crashRefusal (s .n) (s .m) (s .size) (s .stripes) (k .state)) (crashed (s .n) k) (crashes-accepted s e events c l)
 
-  pub crash-leaves : crashed k .next .state ≡ idleWith (geometryOf s) (record { coordinator = c; last = k .state .clock .last })
+  pub crash-leaves : crashed (s .n) k .next .state ≡ idleWith (geometryOf s) (record { coordinator = c; last = k .state .clock .last })
   unfolding geometryOf
   crash-leaves =
       let i = run-known s e events c l in
-      crashed-idle k (i .rests)
+      crashed-idle (s .n) k (i .rests)
       ∙ ap₂ (λ (g : Geometry) (j : ℕ). idleWith g (record { coordinator = j; last = k .state .clock .last }))
       (made-for (s .n) (s .m) (s .size) (s .stripes) (k .state .geometry) (i .good .parts .made-for)) (i .number)
 
@@ -240,10 +240,10 @@ pub accepted-crash-is-idle-with : AcceptedCrashIsIdleWith
 unfolding crashStep answerOf crashRefusal
 accepted-crash-is-idle-with n m size stripes k z e =
     let refusal = crashRefusal n m size stripes (k .state) in
-    let went-on = accepted-went (k .state) refusal (crashed k) e in
-    let rest = passed-rest (stripeCountRefusal stripes) _ (passed-rest (codeRefusal n m size) _ (passes refusal (went (crashed k)) (crashed k) went-on .0)) in
+    let went-on = accepted-went (k .state) refusal (crashed n k) e in
+    let rest = passed-rest (stripeCountRefusal stripes) _ (passed-rest (codeRefusal n m size) _ (passes refusal (went (crashed n k)) (crashed n k) went-on .0)) in
     let sound = sound-parts n m size stripes (k .state) (record-passes n m size stripes (k .state) [] rest .0 .is-sound) in
     let same = made-for n m size stripes (k .state .geometry) (sound .made-for) in
     ap (λ (p : Step). answerOf (k .state) p .next) went-on
-    ∙ crashed-idle k (λ i. idle-record n m size stripes (k .state) sound z i ∙ ap (λ (g : Geometry). idleWith g (k .state .clock)) (sym same))
+    ∙ crashed-idle n k (λ i. idle-record n m size stripes (k .state) sound z i ∙ ap (λ (g : Geometry). idleWith g (k .state .clock)) (sym same))
     ∙ ap (λ (g : Geometry). idleWith g (k .state .clock)) same

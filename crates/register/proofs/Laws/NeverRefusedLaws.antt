@@ -268,7 +268,7 @@ module _ (s : Settings) (c : ℕ) (k : Buffered) (h : Known s c k) where
   unfolding crashStep crashed ending idleWith
   crash-keeps w e =
       let o = crash-keeps-stripe (s .n) (s .m) (s .size) (s .stripes) k w e in
-      let is = same-went (crashed k) w (passes (crashRefusal (s .n) (s .m) (s .size) (s .stripes) (k .state)) (went (crashed k)) w e .1) in
+      let is = same-went (crashed (s .n) k) w (passes (crashRefusal (s .n) (s .m) (s .size) (s .stripes) (k .state)) (went (crashed (s .n) k)) w e .1) in
       record {
         number = ap (λ (x : Clock). x .coordinator) (o .same-clock) ∙ h .number;
         good = crash-good (s .n) (s .m) (s .size) (s .stripes) k w (h .good) e;
@@ -276,11 +276,11 @@ module _ (s : Settings) (c : ℕ) (k : Buffered) (h : Known s c k) where
         rests = subst (λ (v : Went). Rests (v .next .state)) is (go-rests (eqb (k .state .op .kind) idleKind));
       }
     where
-      go-long : (a : Bool) → Long s (cond a (record { next = k; sent = []; seen = nothingSeen }) (ending k (k .stripe) [] cutSeen noBricks) .next)
+      go-long : (a : Bool) → Long s (cond a (record { next = k; sent = []; seen = nothingSeen }) (ending (s .n) k (k .stripe) [] cutSeen noBricks) .next)
       go-long true = h .long
       go-long false = h .long
 
-      go-rests : (a : Bool) → Rests (cond a (record { next = k; sent = []; seen = nothingSeen }) (ending k (k .stripe) [] cutSeen noBricks) .next .state)
+      go-rests : (a : Bool) → Rests (cond a (record { next = k; sent = []; seen = nothingSeen }) (ending (s .n) k (k .stripe) [] cutSeen noBricks) .next .state)
       go-rests true = h .rests
       go-rests false = λ e. refl
 

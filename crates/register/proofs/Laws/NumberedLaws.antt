@@ -99,7 +99,7 @@ module _ (n m size stripes c : ℕ) (k : Buffered) (named : k .state .clock .coo
   crash-low : LowStep c (crashStep n m size stripes k)
   unfolding crashStep crashRefusal
   crash-low =
-      checked-low c (crashRefusal n m size stripes (k .state)) (went (crashed k))
+      checked-low c (crashRefusal n m size stripes (k .state)) (went (crashed n k))
       (λ e. record-low _ (passed-rest (stripeCountRefusal stripes) _ (passed-rest (codeRefusal n m size) _ e)))
 
 -- what a crash leaves in the buffers is no matter

@@ -17,6 +17,7 @@ unfolding Rattle.message.specs.Flags.member Rattle.message.specs.Flags.members
     Rattle.message.specs.Flags.brickSet Rattle.message.specs.Messages.roundRight Rattle.message.specs.Messages.kindRight
     Rattle.message.specs.Messages.targetsRight Rattle.message.specs.Messages.namesBlock Rattle.message.specs.Messages.messageBlockRefusal
     Rattle.message.specs.Messages.messageRefusal Rattle.message.specs.Messages.foundRight Rattle.message.specs.Messages.replyRight
+    Rattle.message.specs.Messages.storesEntry Rattle.message.specs.Messages.compares Rattle.message.specs.Messages.comparisonRight
     Rattle.message.specs.Messages.replyRefusal
 message-open = tt
 
@@ -58,14 +59,16 @@ unfoldable pub brick-open : Unit {0}
 unfolding Rattle.brick.specs.Receive.besideRight Rattle.brick.specs.Receive.frontRefusal Rattle.brick.specs.Receive.receiveRefusal
     Rattle.brick.specs.Receive.refusedWith
     Rattle.brick.specs.Receive.givenBy Rattle.brick.specs.Receive.accepted Rattle.brick.specs.Receive.outcome
-    Rattle.brick_log.specs.BrickRules.aboveNewest Rattle.brick_log.specs.BrickRules.notBelowPromise Rattle.brick_log.specs.BrickRules.hasFree
+    Rattle.brick_answer.specs.Comparisons.aboveNewest Rattle.brick_answer.specs.Comparisons.notBelowPromise Rattle.brick_answer.specs.Comparisons.hasFree
+    Rattle.brick_answer.specs.Comparisons.newerSaysNo Rattle.brick_answer.specs.Comparisons.promiseSaysNo
+    Rattle.brick_answer.specs.Comparisons.fullSaysNo Rattle.brick_answer.specs.Comparisons.noneSaysNo Rattle.brick_answer.specs.Comparisons.firstNo
     Rattle.brick_log.specs.BrickRules.readYes Rattle.brick_log.specs.BrickRules.orderYes Rattle.brick_log.specs.BrickRules.writeYes
     Rattle.brick_log.specs.BrickRules.modifyYes Rattle.brick_log.specs.BrickRules.newestBlock Rattle.brick_log.specs.BrickRules.modifiedEntry
     Rattle.brick_log.specs.BrickRules.modifiedIfYes Rattle.brick_log.specs.BrickRules.orderedIfYes Rattle.brick_log.specs.BrickRules.writtenIfYes
     Rattle.brick_log.specs.BrickRules.trimmed
     Rattle.brick_log.specs.BrickRules.trimmedTo Rattle.brick_log.specs.BrickRules.under Rattle.brick_log.specs.BrickRules.lookup
     Rattle.brick_log.specs.BrickRules.placeFor Rattle.brick_log.specs.BrickRules.timeFor Rattle.brick_log.specs.BrickRules.foundFor
-    Rattle.brick_log.specs.BrickRules.yesTo Rattle.brick_log.specs.BrickRules.replyTo Rattle.brick_log.specs.BrickRules.brickAfter
+    Rattle.brick_log.specs.BrickRules.yesTo Rattle.brick_log.specs.BrickRules.comparisonTo Rattle.brick_log.specs.BrickRules.replyTo Rattle.brick_log.specs.BrickRules.brickAfter
     Rattle.brick_log.specs.BrickRules.blockAfter
 brick-open = tt
 
@@ -106,7 +109,8 @@ unfolding Rattle.byte_lists.specs.Each.each Rattle.byte_lists.specs.Each.some 
     Rattle.coord_record.specs.Records.targetCount
     Rattle.coord_record.specs.CountedRules.stepsAbove Rattle.coord_record.specs.CountedRules.isTarget
     Rattle.coord_record.specs.CountedRules.blockRight Rattle.coord_record.specs.CountedRules.countedRight
-    Rattle.coord_record.specs.CountedRules.entryRight Rattle.coord_record.specs.CountedRules.tallyRight
+    Rattle.coord_record.specs.CountedRules.entryRight Rattle.coord_record.specs.CountedRules.saidRight Rattle.coord_record.specs.CountedRules.keptRight
+    Rattle.coord_record.specs.CountedRules.tallyRight
     Rattle.coord_record.specs.CountedRules.brickRight Rattle.coord_record.specs.CountedRules.bricksRight Rattle.coord_record.specs.Sound.maxRight
     Rattle.coord_record.specs.Sound.storedRight Rattle.coord_record.specs.Sound.recoveryRight Rattle.coord_record.specs.Sound.openingRight
     Rattle.coord_record.specs.Sound.blockWriteRight Rattle.coord_record.specs.Sound.blockLow Rattle.coord_record.specs.Sound.readRight
@@ -128,7 +132,8 @@ unfolding Rattle.coord_tally.specs.Counting.saidNo Rattle.coord_tally.specs.Co
 coord-rounds-open = tt
 
 unfoldable pub coord-acts-open : Unit {0}
-unfolding Rattle.coord_apply.specs.Acts.agreeing Rattle.coord_apply.specs.Acts.stripeFrom Rattle.coord_apply.specs.Acts.roundMessage
+unfolding Rattle.coord_letters.specs.Letters.readLetter Rattle.coord_letters.specs.Letters.saidOther Rattle.coord_letters.specs.Letters.abortLetter
+    Rattle.coord_apply.specs.Answers.letterOf Rattle.coord_apply.specs.Acts.agreeing Rattle.coord_apply.specs.Acts.stripeFrom Rattle.coord_apply.specs.Acts.roundMessage
     Rattle.coord_apply.specs.Acts.trimMessage Rattle.coord_apply.specs.Acts.nextOp Rattle.coord_apply.specs.Acts.opened
     Rattle.coord_apply.specs.Acts.nextRound Rattle.coord_apply.specs.Acts.ending Rattle.coord_apply.specs.Acts.finishedSeen
     Rattle.coord_apply.specs.Acts.modifying Rattle.coord_apply.specs.Acts.seenBlock Rattle.coord_apply.specs.Acts.givenStripe

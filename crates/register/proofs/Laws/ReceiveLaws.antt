@@ -42,7 +42,9 @@ use Rattle.register.proofs.Laws.UpLaws.{Within, in-cons, means-up, stan
 use Rattle.image.proofs.Laws.LogPlaceLaws.{rises-to, at-most-newest}
 use Rattle.register.proofs.Laws.BrickLogLaws.{Grows, grows-not, grows-promised, grows-stored, grows-showed, carried, ok-promised, brick-promised}
 use Rattle.register.proofs.Laws.BrickLogLaws.{ok-stored, brick-stored, ok-showed, newest-there, brick-trimmed, Found, none, entry, found-under}
-use Rattle.brick.proofs.Laws.BrickLaws.{after-trim, after-read, no-changes-nothing, write-appends, modify-appends, order-promises, order-above, modify-written}
+use Rattle.brick_log.proofs.Laws.AnsweredLaws.{after-trim, after-read, yes-read, yes-write, yes-modify, yes-order, no-changes-nothing, write-appends}
+use Rattle.brick_log.proofs.Laws.AnsweredLaws.{modify-appends, order-promises, modify-written}
+use Rattle.brick.proofs.Laws.BrickLaws.{order-above}
 use Rattle.brick.proofs.Laws.BrickLaws.{modified-of-block, modified-of-data, modified-of-parity, modified-time, after-sound, message-time}
 
 -- what a message that is not refused satisfies
@@ -229,11 +231,11 @@ module _ {s : Settings} {g : SettingsRange s} {h : Hist s} (sent : List Item) {b
 
   -- Read
   read-received : msg .kind ≡ readKind → After
-  unfolding replyTo yesTo foundFor placeFor blockAfter
+  unfolding replyTo foundFor placeFor blockAfter
   read-received e = go (readYes x) refl
     where
       yes-is : yesTo s x msg ≡ readYes x
-      yes-is = rw (eq-eqb (msg .kind) readKind e) refl
+      yes-is = yes-read s x msg e
 
       found-is : foundFor b x msg ≡ newest x
       found-is = rw (eq-eqb (msg .kind) readKind e) refl
@@ -285,13 +287,10 @@ module _ {s : Settings} {g : SettingsRange s} {h : Hist s} (sent : List Item) {b
       → (orderYes x (msg .time) ≡ true → Valid (quorums s g) promising → (new : List Item) → Within sent new
       → ReplyInv s g promising new (replyTo s b x msg) shown)
       → After
-  unfolding yesTo
   orders-received low high answer = go (orderYes x (msg .time)) refl
     where
       yes-is : yesTo s x msg ≡ orderYes x (msg .time)
-      yes-is = rw
-          (ne-eqb (msg .kind) readKind (λ q. omega (arith, q)), ne-eqb (msg .kind) writeKind (λ q. omega (arith, q)), ne-eqb (msg .kind) modifyKind (λ q. omega (arith, q)))
-          refl
+      yes-is = yes-order s x msg (λ q. omega (arith, q)) (λ q. omega (arith, q)) (λ q. omega (arith, q))
 
       go : (y : Bool) → orderYes x (msg .time) ≡ y → After
       go false y = no-received (λ q. omega (arith, high, q)) (yes-is ∙ y)
@@ -444,11 +443,11 @@ module _ {s : Settings} {g : SettingsRange s} {h : Hist s} (sent : List Item) {b
 
   -- Write
   write-received : msg .kind ≡ writeKind → After
-  unfolding yesTo Saving.blockEntry
+  unfolding Saving.blockEntry
   write-received e = go (writeYes s x (msg .time)) refl
     where
       yes-is : yesTo s x msg ≡ writeYes s x (msg .time)
-      yes-is = rw (ne-eqb (msg .kind) readKind (λ q. omega (arith, e, q)), eq-eqb (msg .kind) writeKind e) refl
+      yes-is = yes-write s x msg e
 
       go : (y : Bool) → writeYes s x (msg .time) ≡ y → After
       go false y = no-received (λ q. omega (arith, e, q)) (yes-is ∙ y)
@@ -489,13 +488,10 @@ module _ {s : Settings} {g : SettingsRange s} {h : Hist s} (sent : List Item) {b
           ∙ recoded-is-coded (s .n) (s .m) (s .size) (w .full) block (msg .block) b (g .code) (w .proper) size (w .piece .small) (w .piece .low) (z .brick-low)
 
   modify-received : msg .kind ≡ modifyKind → After
-  unfolding yesTo
   modify-received e = go (modifyYes s x (msg .time) (msg .old)) refl
     where
       yes-is : yesTo s x msg ≡ modifyYes s x (msg .time) (msg .old)
-      yes-is = rw
-          (ne-eqb (msg .kind) readKind (λ q. omega (arith, e, q)), ne-eqb (msg .kind) writeKind (λ q. omega (arith, e, q)), eq-eqb (msg .kind) modifyKind e)
-          refl
+      yes-is = yes-modify s x msg e
 
       go : (y : Bool) → modifyYes s x (msg .time) (msg .old) ≡ y → After
       go false y = no-received (λ q. omega (arith, e, q)) (yes-is ∙ y)

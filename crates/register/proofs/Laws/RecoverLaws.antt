@@ -111,6 +111,7 @@ module _ (s : Settings) (g : SettingsRange s) (h : Hist s) (sent : List Item) (c
       (unfold opened nextOp in same-begun s _ k refl refl refl)
       (r .proper)
       (r .piece)
+      (λ e. absurd (omega (arith, e)))
       (λ e u l m. gone u l m)
       (λ e. absurd (omega (arith, e)))
       (λ e. absurd (omega (arith, e)))
@@ -250,6 +251,7 @@ module _ (s : Settings) (g : SettingsRange s) (h : Hist s) (sent : List Item) (c
           (subst (Stripe (s .m) (s .size)) (sym stored-is) (stored-proper s k (decoded .full) (decoded .proper) (r .piece) kind))
           (λ q. subst (λ (z : List ℕ). Piece s (k .state .op .first) (blockOf (s .size) z (k .state .op .first))) (sym stored-is)
           (piece-stored s k (decoded .full) (decoded .proper) (r .piece) q))
+          (λ l. phase)
           (unfold nextRound opened nextOp in begun-stored s k (decoded .full) (decoded .proper) (r .piece) kind _ refl refl stored-is)
         where
           stored-stripe : List ℕ

@@ -104,14 +104,14 @@ module _ (s : Settings) (g : SettingsRange s) (h : Hist s) (sent : List Item) (c
           → TurnedRound s g h sent c (acted (s .n) (s .m) (s .size) k (cond x Abort Finish))
       go true e = does-abort s g h sent c k v i items n
       go false e = does-finish s g h sent c k v i items n (inl phase) e enough
-  does-decide (ordering kind phase _ _) high =
+  does-decide (ordering kind phase round _) high =
       subst turned (sym (decided-ordering (s .n) (s .m) (k .state .op) (k .state .tally) phase))
       (go (some (saidNo (k .state .tally .counted) (k .state .tally .granted)) (s .n)) refl)
     where
       go : (x : Bool) → some (saidNo (k .state .tally .counted) (k .state .tally .granted)) (s .n) ≡ x
           → TurnedRound s g h sent c (acted (s .n) (s .m) (s .size) k (cond x Abort Store))
       go true e = does-abort s g h sent c k v i items n
-      go false e = does-store s g h sent c k v i items n kind phase e enough
+      go false e = does-store s g h sent c k v i items n kind phase round e enough
   does-decide (storing kind phase _) high =
       subst turned (sym (decided-storing (s .n) (s .m) (k .state .op) (k .state .tally) (omega arith)))
       (go (some (saidNo (k .state .tally .counted) (k .state .tally .granted)) (s .n)) refl)

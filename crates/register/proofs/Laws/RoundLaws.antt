@@ -1,11 +1,11 @@
 -- An operation ends, or its next round is sent: what holds of its coordinator and of what is sent.
 use mathlib.Core.Path.{_≡_, refl, sym, ap, subst, _∙_}
 use mathlib.Core.Logic.{_⊎_, inl, inr}
-use mathlib.Core.List.{List, [], _∷_, _++_, append-nil, List·Memᴰ·not-nil, List·Memᴰ·append-cases}
+use mathlib.Core.List.{List, [], _∷_, _++_, append-nil, List·Memᴰ·not-nil, List·Memᴰ·append-cases, Memᴰ·append-right}
 use Prim.Native.Nat.{ℕ, _+_, _≤_, _<_}
 use native.Mathlib.Omega.{arith}
 use mathlib.Core.Bool.{cond}
-use Rattle.message.specs.Kinds.{orderReadKind, writeKind, modifyKind}
+use Rattle.message.specs.Kinds.{orderReadKind, writeKind, modifyKind, thirdRound}
 use Rattle.message.specs.Messages.{namesBlock}
 use Rattle.settings.specs.Times.{coordinatorOf}
 use Rattle.settings.specs.Ranges.{SettingsRange}
@@ -22,9 +22,9 @@ use Rattle.order.specs.Places.{In}
 use Rattle.order.proofs.Laws.PlaceLaws.{in-suf}
 use Rattle.order.specs.Valid.{Began, Launched, Ended, Val, Gone, OkEnded, Valid}
 use Rattle.register.specs.Runs.{plain, Item, message, reply, begunKind, seenOf, blockFor, oldFor, broadcasts}
-use Rattle.register.proofs.Laws.Invariant.{quorums, Hist, Piece, MessageInv, ItemInv, Asked, Running, CoordinatorInv}
-use Rattle.register.proofs.Laws.UpLaws.{in-cons}
-use Rattle.register.proofs.Laws.TurnLaws.{time-of, kind-of, round-of, Turns, turns-not, turns-ended, in-broadcast, TurnedRound}
+use Rattle.register.proofs.Laws.Invariant.{quorums, Hist, Piece, MessageInv, ItemInv, Asked, Lowered, Running, CoordinatorInv}
+use Rattle.register.proofs.Laws.UpLaws.{in-cons, within-more, lowered-sent}
+use Rattle.register.proofs.Laws.TurnLaws.{time-of, kind-of, round-of, Turns, turns-not, turns-ended, in-broadcast, some-broadcast, TurnedRound}
 use Rattle.register.proofs.Laws.StartEvent.{none-member}
 
 unfoldable pub max-of : Item → ℕ
@@ -57,10 +57,10 @@ module _ (s : Settings) (g : SettingsRange s) (h : Hist s) (sent : List Item) (c
   pub ends : Valid (quorums s g) h → (e : End (plain s)) (stripe : List ℕ) (more : List Broadcast) (what : ℕ) (bricks : List ℕ)
       → coordinatorOf (k .state .op .time) ≡ c
       → OkEnded (quorums s g) h (k .state .op .time) e
-      → seenOf s (ending k stripe more what bricks .seen) (ending k stripe more what bricks .next) ≡ shows {P = plain s} (ended (k .state .op .time) e)
+      → seenOf s (ending (s .n) k stripe more what bricks .seen) (ending (s .n) k stripe more what bricks .next) ≡ shows {P = plain s} (ended (k .state .op .time) e)
       → ((z : Item) → z ∈ broadcasts s more → ItemInv s g (ended (k .state .op .time) e ∷ h) (sent ++ broadcasts s more) z)
       → ((b : ℕ) (msg : Message) (block old : List ℕ) → message b msg block old ∈ broadcasts s more → coordinatorOf (msg .time) ≡ c)
-      → TurnedRound s g h sent c (ending k stripe more what bricks)
+      → TurnedRound s g h sent c (ending (s .n) k stripe more what bricks)
   unfolding ending idleWith noOp
   ends v e stripe more what bricks own o shown items owns =
       record {
@@ -90,6 +90,7 @@ module _ (s : Settings) (g : SettingsRange s) (h : Hist s) (sent : List Item) (c
       → begunKind s (roundWent k phase max time bricks stripe coded old .next) ≡ begunKind s k
       → (k .state .op .kind ≡ writingKind → Stripe (s .m) (s .size) stripe)
       → (k .state .op .kind ≡ writingBlockKind → Piece s (k .state .op .first) (blockOf (s .size) stripe (k .state .op .first)))
+      → (phase ≡ writeKind → thirdRound ≤ k .state .op .round → k .state .op .phase ≡ orderReadKind)
       → (phase ≡ orderReadKind → (u : ℕ) → max ≤ u → u < k .state .op .time → Gone (quorums s g) h′ u)
       → (phase ≡ writeKind → Launched h′ (k .state .op .time) × Val h′ (k .state .op .time) stripe × Stripe (s .m) (s .size) stripe)
       → (phase ≡ modifyKind → Launched h′ (k .state .op .time))
@@ -99,7 +100,7 @@ module _ (s : Settings) (g : SettingsRange s) (h : Hist s) (sent : List Item) (c
       (oldFor s (record { message = roundMessage (nextOp (k .state .op) phase max) time noBricks; blocks = coded; old = old })))
       → TurnedRound s g h sent c (roundWent k phase max time bricks stripe coded old)
   unfolding opened seenOf nothingSeen nothingCounted nextOp roundMessage
-  opens n h′ phase max time bricks stripe coded old turns same unended unsent kept proper piece cleared storing modifying messages =
+  opens n h′ phase max time bricks stripe coded old turns same unended unsent kept proper piece stored cleared storing modifying messages =
       record {
         later = h′;
         turns = turns;
@@ -142,6 +143,15 @@ module _ (s : Settings) (g : SettingsRange s) (h : Hist s) (sent : List Item) (c
               let j : msg .max ≡ max = unfold max-of in ap max-of (w .2) in
               (omega arith, λ _. (sym l ∙ e, j))
 
+      -- this round asks for a lower time, or one before it did
+      looked-lower : phase ≡ orderReadKind → thirdRound ≤ k .state .op .round + 1 → Lowered (sent ++ broadcasts s (sending ∷ [])) (k .state .op .time)
+      looked-lower e l =
+          let w = some-broadcast s sending (g .code .n-low) in
+          record { brick = w .0; asked = sending .message; block = _; old = _; was-sent = Memᴰ·append-right sent (w .1); kind-is = e; time-is = refl; late = l }
+
+      stored-lower : phase ≡ writeKind → thirdRound < k .state .op .round + 1 → Lowered (sent ++ broadcasts s (sending ∷ [])) (k .state .op .time)
+      stored-lower e l = lowered-sent (within-more sent (broadcasts s (sending ∷ []))) (r .looked-lower (stored e (omega (arith, l))) (omega (arith, l)))
+
       running : Running s g h′ (sent ++ broadcasts s (sending ∷ [])) c
           (record {
             state = record {
@@ -173,6 +183,8 @@ module _ (s : Settings) (g : SettingsRange s) (h : Hist s) (sent : List Item) (c
             counts = λ b m. absurd (none-member b m);
             holds = λ b m. absurd (none-member b m);
             asked = asked;
+            looked-lower = looked-lower;
+            stored-lower = stored-lower;
             cleared = cleared;
             storing = storing;
             modifying = modifying;

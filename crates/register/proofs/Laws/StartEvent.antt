@@ -185,6 +185,8 @@ module _ (s : Settings) (g : SettingsRange s) (h : Hist s) (sent : List Item) (c
             counts = λ b m. absurd (none-member b m);
             holds = λ b m. absurd (none-member b m);
             asked = asked;
+            looked-lower = λ e l. absurd (other e);
+            stored-lower = λ e l. absurd (omega (arith, l));
             cleared = λ e. absurd (other e);
             storing = λ e. absurd (omega arith);
             modifying = λ e. absurd (omega arith);

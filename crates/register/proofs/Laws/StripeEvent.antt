@@ -196,16 +196,16 @@ module _ (s : Settings) (g : SettingsRange s) (k : ℕ) (h : Hist s) (r : Moved 
         }
 
     -- it is idle afterwards
-    crashed-idle : crashed raw .next .state .op .kind ≡ idleKind
+    crashed-idle : crashed (s .n) raw .next .state .op .kind ≡ idleKind
     unfolding crashed ending idleWith noOp
     crashed-idle = go (eqb (raw .state .op .kind) idleKind) refl
       where
         go : (a : Bool) → eqb (raw .state .op .kind) idleKind ≡ a
-            → cond a (record { next = raw; sent = []; seen = nothingSeen }) (ending raw (raw .stripe) [] cutSeen noBricks) .next .state .op .kind ≡ idleKind
+            → cond a (record { next = raw; sent = []; seen = nothingSeen }) (ending (s .n) raw (raw .stripe) [] cutSeen noBricks) .next .state .op .kind ≡ idleKind
         go true e = eqb-true (raw .state .op .kind) idleKind e
         go false e = refl
 
-    idle-crash : raw .state .op .kind ≡ idleKind → crashed raw ≡ record { next = raw; sent = []; seen = nothingSeen }
+    idle-crash : raw .state .op .kind ≡ idleKind → crashed (s .n) raw ≡ record { next = raw; sent = []; seen = nothingSeen }
     unfolding crashed
     idle-crash e = rw (eq-eqb (raw .state .op .kind) idleKind e) refl
 
@@ -214,7 +214,7 @@ module _ (s : Settings) (g : SettingsRange s) (k : ℕ) (h : Hist s) (r : Moved 
     unfolding After raw leftBy
     crash-goes = go (crashStep (s .n) (s .m) (s .size) (s .stripes) raw) refl
       where
-        falls : (w : Went) → KeepsStripe raw (left-went w) → crashed raw ≡ w → Dec (raw .state .op .kind ≡ idleKind) → Dec (raw .state .op .stripe ≡ k)
+        falls : (w : Went) → KeepsStripe raw (left-went w) → crashed (s .n) raw ≡ w → Dec (raw .state .op .kind ≡ idleKind) → Dec (raw .state .op .stripe ≡ k)
             → After (went (left-went w))
         falls w keeps q (no n) (yes e) =
             here (left-went w) keeps e
@@ -243,5 +243,5 @@ module _ (s : Settings) (g : SettingsRange s) (k : ℕ) (h : Hist s) (r : Moved 
             let keeps = left-keeps w (crash-keeps-stripe (s .n) (s .m) (s .size) (s .stripes) raw w e) in
             falls w keeps (fell w e) (ℕ-discrete (raw .state .op .kind) idleKind) (ℕ-discrete (raw .state .op .stripe) k)
           where
-            fell : (w : Went) → crashStep (s .n) (s .m) (s .size) (s .stripes) raw ≡ went w → crashed raw ≡ w
-            fell w e = unfold crashStep in same-went (crashed raw) w (passes (crashRefusal (s .n) (s .m) (s .size) (s .stripes) (raw .state)) (went (crashed raw)) w e .1)
+            fell : (w : Went) → crashStep (s .n) (s .m) (s .size) (s .stripes) raw ≡ went w → crashed (s .n) raw ≡ w
+            fell w e = unfold crashStep in same-went (crashed (s .n) raw) w (passes (crashRefusal (s .n) (s .m) (s .size) (s .stripes) (raw .state)) (went (crashed (s .n) raw)) w e .1)

@@ -2,7 +2,7 @@
 use mathlib.Core.Path.{_≡_, refl, sym, ap, subst, _∙_}
 use mathlib.Core.Logic.{_⊎_, inl, inr}
 use mathlib.Core.Bool.{Bool, true, false}
-use mathlib.Core.List.{List, [], _∷_, _++_, append-nil, List·Memᴰ·not-nil, List·Memᴰ·append-cases, List·Memᴰ·eq-of-singleton}
+use mathlib.Core.List.{List, [], _∷_, _++_, append-nil, List·Memᴰ·head, List·Memᴰ·not-nil, List·Memᴰ·append-cases, List·Memᴰ·eq-of-singleton, Memᴰ·append-left, Memᴰ·append-right}
 use Prim.Native.Nat.{ℕ, zero, suc, _<_}
 use native.Mathlib.Omega.{arith}
 use lib.Dec.{eqb}
@@ -101,6 +101,16 @@ in-broadcast s z i m = go (List·Memᴰ·append-cases (toAll s z (s .n)) m)
     go : (i ∈ toAll s z (s .n)) ⊎ (i ∈ []) → (b : ℕ) × (b < s .n) × (i ≡ message b (z .message) (blockFor s z b) (oldFor s z))
     go (inl p) = in-toAll s z (s .n) i p
     go (inr p) = absurd (List·Memᴰ·not-nil p)
+
+-- and where there is a brick, it goes to one
+some-toAll : (s : Settings) (z : Broadcast) (k : ℕ) → 0 < k → (b : ℕ) × (message b (z .message) (blockFor s z b) (oldFor s z) ∈ toAll s z k)
+unfolding toAll
+some-toAll s z zero l = absurd (omega (arith, l))
+some-toAll s z (suc k) l = (k, Memᴰ·append-right (toAll s z k) (List·Memᴰ·head refl))
+
+pub some-broadcast : (s : Settings) (z : Broadcast) → 0 < s .n → (b : ℕ) × (message b (z .message) (blockFor s z b) (oldFor s z) ∈ broadcasts s (z ∷ []))
+unfolding broadcasts
+some-broadcast s z l = let w = some-toAll s z (s .n) l in (w .0, Memᴰ·append-left [] (w .1))
 
 -- What an event leaves of coordinator c and what it sends.
 pub record TurnedRound (s : Settings) (g : SettingsRange s) (h : Hist s) (sent : List Item) (c : ℕ) (w : Went) : Type 0 where

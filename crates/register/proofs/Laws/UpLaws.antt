@@ -22,7 +22,7 @@ use Rattle.order.proofs.Laws.StoredLaws.{stored-before}
 use Rattle.order.proofs.Laws.GoneLaws.{gone-up}
 use Rattle.order.proofs.Laws.ValueLaws.{val-up}
 use Rattle.register.specs.Runs.{plain, Item, message, reply}
-use Rattle.register.proofs.Laws.Invariant.{quorums, Hist, Means, Stands, BrickInv, Modifies, MessageInv, Looked, Newest, ReplyInv, ItemInv, CountedInv}
+use Rattle.register.proofs.Laws.Invariant.{quorums, Hist, Means, Stands, BrickInv, Modifies, MessageInv, Looked, Newest, ReplyInv, ItemInv, CountedInv, Lowered}
 use Rattle.register.proofs.Laws.Invariant.{Running, CoordinatorInv, LogHas}
 
 -- all that stands in the one list stands in the other
@@ -188,6 +188,8 @@ module _ {s : Settings} {g : SettingsRange s} {h : Hist s} {f : Fact (plain s)} 
         counts = i .counts;
         holds = i .holds;
         asked = i .asked;
+        looked-lower = i .looked-lower;
+        stored-lower = i .stored-lower;
         cleared = λ p u l m. gone-up v (above whole) (i .cleared p u l m);
         storing = λ p. let w = i .storing p in ((w .0 .0, in-above (w .0 .1)), val-up (above whole) (w .1), w .2);
         modifying = λ p. let w = i .modifying p in (w .0, in-above (w .1));
@@ -237,9 +239,14 @@ counted-sent w x =
       yes-is = x .yes-is;
       held-is = x .held-is;
       found-is = x .found-is;
+      said-is = x .said-is;
       block-is = x .block-is;
       right = x .right;
     }
+
+pub lowered-sent : {old new : List Item} {time : ℕ} → Within old new → Lowered old time → Lowered new time
+lowered-sent w x =
+    record { brick = x .brick; asked = x .asked; block = x .block; old = x .old; was-sent = w _ (x .was-sent); kind-is = x .kind-is; time-is = x .time-is; late = x .late }
 
 pub coordinator-sent : {s : Settings} {g : SettingsRange s} {h : Hist s} {old new : List Item} {c : ℕ} {k : Buffered} → Within old new → QuietWorld c old new
     → CoordinatorInv s g h old c k → CoordinatorInv s g h new c k
@@ -257,6 +264,8 @@ coordinator-sent {s} {g} {h} {old} {new} {c} {k} w quiet i = record { number = i
           counts = λ b m. counted-sent w (r .counts b m);
           holds = r .holds;
           asked = λ b msg block before m e t. r .asked b msg block before (quiet b msg block before m e (ap coordinatorOf t ∙ r .own)) e t;
+          looked-lower = λ p l. lowered-sent w (r .looked-lower p l);
+          stored-lower = λ p l. lowered-sent w (r .stored-lower p l);
           cleared = r .cleared;
           storing = r .storing;
           modifying = r .modifying;

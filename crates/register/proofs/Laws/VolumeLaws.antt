@@ -234,7 +234,7 @@ module _ (s : Settings) (w : World) (k : ℕ) (high : s .stripes ≤ k) where
       sound-stripe : (g : Went) → crashStep (s .n) (s .m) (s .size) (s .stripes) (w .coordinators c) ≡ went g → w .coordinators c .state .op .stripe < s .stripes
       sound-stripe g e =
           unfold crashStep crashRefusal in
-          (let p = passes (crashRefusal (s .n) (s .m) (s .size) (s .stripes) (w .coordinators c .state)) (went (crashed (w .coordinators c))) g e in
+          (let p = passes (crashRefusal (s .n) (s .m) (s .size) (s .stripes) (w .coordinators c .state)) (went (crashed (s .n) (w .coordinators c))) g e in
           let q = passed-rest (stripeCountRefusal (s .stripes)) _ (passed-rest (codeRefusal (s .n) (s .m) (s .size)) _ (p .0)) in
           sound-parts (s .n) (s .m) (s .size) (s .stripes) (w .coordinators c .state)
           (record-passes (s .n) (s .m) (s .size) (s .stripes) (w .coordinators c .state) [] q .0 .is-sound) .stripe-low)

@@ -1,7 +1,9 @@
 -- Laws of `specs/Count`.
-use mathlib.Core.Path.{_≡_, refl, sym, subst}
+use mathlib.Core.Path.{_≡_, refl, sym, ap, subst, _∙_}
 use mathlib.Core.Bool.{Bool, true, false, _&&_}
 use Prim.Native.Nat.{ℕ, zero, suc, _+_, _≤_, _<_}
+use mathlib.Core.Logic.{_≢_}
+use native.Mathlib.Decide.{ℕ-discrete}
 use native.Mathlib.Omega.{arith}
 use native.Mathlib.Nat.{le-refl}
 use lib.Dec.{T, eqb}
@@ -55,3 +57,33 @@ count-witness p (suc n) h = go (p n) refl h (count-witness p n)
     go : (a : Bool) → p n ≡ a → 0 < count p n + one-if a → (0 < count p n → (b : ℕ) × (b < n) × T (p b)) → (b : ℕ) × (b < suc n) × T (p b)
     go true e l f = (n, le-refl _, subst T (sym e) tt)
     go false e l f = let w = f (omega arith) in (w .0, omega (arith, w .1), w .2)
+
+-- a set that counts none has none
+pub count-none : (p : ℕ → Bool) (n b : ℕ) → count p n ≡ 0 → b < n → p b ≡ false
+unfolding count
+count-none p zero b e l = absurd (omega (arith, l))
+count-none p (suc n) b e l = go (ℕ-discrete b n) (p n) refl e (count-none p n b)
+  where
+    go : Dec (b ≡ n) → (x : Bool) → p n ≡ x → count p n + one-if x ≡ 0 → (count p n ≡ 0 → b < n → p b ≡ false) → p b ≡ false
+    go d true ex q ih = absurd (omega (arith, q))
+    go (yes d) false ex q ih = ap p d ∙ ex
+    go (no d) false ex q ih = ih (omega (arith, q)) (omega (arith, l, d))
+
+-- a set with one brick more has at most one more
+pub count-close : (p r : ℕ → Bool) (b n : ℕ) → ((i : ℕ) → i ≢ b → r i ≡ p i) → (n ≤ b → count r n ≤ count p n) × (count r n ≤ count p n + 1)
+unfolding count
+count-close p r b zero f = ((λ h. le-refl _), omega arith)
+count-close p r b (suc n) f = go (ℕ-discrete n b) (r n) (p n) (f n) (count-close p r b n f)
+  where
+    go : Dec (n ≡ b) → (x y : Bool) → (n ≢ b → x ≡ y) → (n ≤ b → count r n ≤ count p n) × (count r n ≤ count p n + 1)
+        → (suc n ≤ b → count r n + one-if x ≤ count p n + one-if y) × (count r n + one-if x ≤ count p n + one-if y + 1)
+    go (yes e) x y g ih = ((λ h. absurd (omega (arith, e, h))), (let l = ih .0 (omega (arith, e)) in most x y l))
+      where
+        most : (x y : Bool) → count r n ≤ count p n → count r n + one-if x ≤ count p n + one-if y + 1
+        most true true l = omega arith
+        most true false l = omega arith
+        most false true l = omega arith
+        most false false l = omega arith
+    go (no e) x y g ih =
+        subst (λ (z : Bool). (suc n ≤ b → count r n + one-if x ≤ count p n + one-if z) × (count r n + one-if x ≤ count p n + one-if z + 1)) (g e)
+        ((λ h. (let l = ih .0 (omega (arith, h)) in omega (arith, l))), omega (arith, ih .1))

@@ -34,11 +34,12 @@ use Rattle.image_view.specs.declared.Found.{Found}
 use Rattle.image_view.specs.declared.Found.the-variants.{At}
 
 pub reply-put : (l : List ℕ) (r : Reply) (y h : ℕ) → length l ≡ replyLength → y ≡ one-if (r .yes) → h ≡ one-if (r .held)
-    → set (set (set (set (set (set (set (set l 0 (r .kind)) 1 (r .brick)) 2 (r .time)) 3 (r .round)) 4 y) 5 (r .found)) 6 h) 7 (r .stripe) ≡ replyNumbers r
+    → set (set (set (set (set (set (set (set (set l 0 (r .kind)) 1 (r .brick)) 2 (r .time)) 3 (r .round)) 4 y) 5 (r .found)) 6 h) 7 (r .stripe)) 8 (r .comparison)
+    ≡ replyNumbers r
 unfolding replyNumbers
 reply-put l r y h e ey eh =
-    stores (r .kind ∷ r .brick ∷ r .time ∷ r .round ∷ y ∷ r .found ∷ h ∷ r .stripe ∷ []) l e
-    ∙ ap₂ (λ (a b : ℕ). r .kind ∷ r .brick ∷ r .time ∷ r .round ∷ a ∷ r .found ∷ b ∷ r .stripe ∷ []) ey eh
+    stores (r .kind ∷ r .brick ∷ r .time ∷ r .round ∷ y ∷ r .found ∷ h ∷ r .stripe ∷ r .comparison ∷ []) l e
+    ∙ ap₂ (λ (a b : ℕ). r .kind ∷ r .brick ∷ r .time ∷ r .round ∷ a ∷ r .found ∷ b ∷ r .stripe ∷ r .comparison ∷ []) ey eh
 
 -- the ways through the boundary's own refusals
 pub own-setting : (s : Settings) (right : Bool) (k : ℕ) → k ≡ settingsRefusal s → (k ≡ passed → ⊥) → k ≡ ownRefusal s right

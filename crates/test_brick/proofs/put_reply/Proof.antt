@@ -38,12 +38,19 @@ slice-write-reply-7 c = simp length-set (omega arith)
 slice-write-reply-8 : tie.Need-slice-write-reply-8
 slice-write-reply-8 c = simp length-set (omega arith)
 
+cast-reply-2 : tie.Need-cast-reply-2
+cast-reply-2 c = search needs
+
+slice-write-reply-9 : tie.Need-slice-write-reply-9
+slice-write-reply-9 c = simp length-set (omega arith)
+
 same-length : tie.Need-same-length
 same-length c = search needs
 
 returns : tie.Need-returns
-returns c = reply-put (c .before .before .before .before .args .reply .now) (c .before .before .before .before .args .r) _ _ (c .before .before .before .before .pre)
-    (c .before .flag .ensures) (c .flag2 .ensures)
+returns c =
+    let s = c .before .before .before .before .before in
+    reply-put (s .args .reply .now) (s .args .r) _ _ (s .pre) (c .before .before .flag .ensures) (c .before .flag2 .ensures)
 
 pub put-reply-spec : {M : Type 1} → statement M
 put-reply-spec =
@@ -60,5 +67,7 @@ put-reply-spec =
     flag-requires-2
     slice-write-reply-7
     slice-write-reply-8
+    cast-reply-2
+    slice-write-reply-9
     same-length
     returns)

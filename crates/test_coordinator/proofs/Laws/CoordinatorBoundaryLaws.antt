@@ -2,10 +2,10 @@
 use mathlib.Core.Path.{_≡_, refl, sym, ap, ap₂, subst, _∙_}
 use mathlib.Core.Bool.{Bool, true, false}
 use mathlib.Core.List.{List, [], _∷_, _++_, append-assoc, append-nil}
-use Prim.Native.Nat.{ℕ, _+_, _-_, _≤_}
+use Prim.Native.Nat.{ℕ, _+_, _-_}
 use native.Mathlib.Omega.{arith}
 use lib.Dec.{eqb}
-use lib.ListN.{length, getD, set, take, drop, length-append, length-drop, length-set}
+use lib.ListN.{length, getD, set, take, drop, length-append, length-drop}
 use lib.Seq.{take-append-add, drop-append-add, take-at, drop-set-add}
 use borrow.Author.Tests.{eq-eqb, ne-eqb, eqb-true}
 use borrow.Rule.Slice.PartMut.{putMid, post-is}
@@ -14,8 +14,8 @@ use Rattle.byte_lists.specs.Lists.{tabulate}
 use Rattle.byte_lists.proofs.Laws.TabulateLaws.{tabulate-by}
 use Rattle.test_coordinator.specs.CoordinatorBoundary.{recordNumbersLength, recordBytesLength, answerNumbersLength, answerBytesLength, coordinatorAt, lastAt, recordTimeAt, roundAt, maxAt}
 use Rattle.test_coordinator.specs.CoordinatorBoundary.{firstAt, recordNAt, recordMAt, recordSizeAt, recordStripesAt, recordStripeAt, recordFoundAt}
-use Rattle.test_coordinator.specs.CoordinatorBoundary.{kindAt, phaseAt, countedAt, grantedAt, recordHeldAt, bricksAt}
-use Rattle.test_coordinator.specs.CoordinatorBoundary.{targetsAt, seenBricksAt, secondTargetsAt, secondKindAt, lentRefusal, rowsRefusal}
+use Rattle.test_coordinator.specs.CoordinatorBoundary.{kindAt, phaseAt, countedAt, grantedAt, recordHeldAt, bricksAt, saidAt}
+use Rattle.test_coordinator.specs.CoordinatorBoundary.{targetsAt, seenBricksAt, secondTargetsAt, secondKindAt, seenLetterAt, lentRefusal, rowsRefusal}
 use Rattle.test_coordinator.specs.CoordinatorBoundary.{recordFor, recordNumbers, recordBytes, answerNumbers, answerBytes, Rows, rows, lentLengths, laidOut, atBoundary, crossing, rowPut, rowAt}
 use Rattle.coord_apply.specs.Answers.{Returned, returned}
 use Rattle.settings.specs.Ranges.{maxBricks, codeRefusal, stripeCountRefusal}
@@ -79,30 +79,32 @@ numbers-are (x0 ∷ x1 ∷ x2 ∷ x3 ∷ x4 ∷ x5 ∷ x6 ∷ x7 ∷ x8 ∷ x9 �
     p ∙ put-behind (a ∷ b ∷ c ∷ d ∷ e ∷ f ∷ g ∷ h ∷ i ∷ j ∷ m ∷ []) l row (a ∷ b ∷ c ∷ d ∷ e ∷ f ∷ g ∷ h ∷ i ∷ j ∷ m ∷ l) recordFoundAt refl refl
     ∙ ap (λ (z : List ℕ). a ∷ b ∷ c ∷ d ∷ e ∷ f ∷ g ∷ h ∷ i ∷ j ∷ m ∷ z) (last-row row l (let s : length l ≡ maxBricks = omega arith in s))
 
--- the bytes of an answer: three bytes and two rows
-pub only : (l : List ℕ) (w : ℕ) → length l ≡ 1 → set l 0 w ≡ w ∷ []
-only [] w h = absurd (omega arith)
-only (x ∷ []) w h = refl
-only (x ∷ y ∷ l) w h = absurd (omega arith)
+-- two stores behind what is dropped
+drop-two : (k i j : ℕ) (l : List ℕ) (w v : ℕ) → drop k (set (set l (k + i) w) (k + j) v) ≡ set (set (drop k l) i w) j v
+drop-two k i j l w v = drop-set-add k (set l (k + i) w) j v ∙ ap (λ (r : List ℕ). set r j v) (drop-set-add k l i w)
 
-pub shown-are : (out : List ℕ) (x y z w : ℕ) (a b c o1 o2 o3 : List ℕ) → length out ≡ answerBytesLength → length a ≡ maxBricks → length b ≡ maxBricks
-    → o1 ≡ rowPut targetsAt a (set (set (set (set out 0 x) 1 y) 2 z) secondKindAt w) → o2 ≡ rowPut seenBricksAt b o1 → o3 ≡ rowPut secondTargetsAt c o2
-    → o3 ≡ x ∷ y ∷ z ∷ (a ++ (b ++ (c ++ w ∷ [])))
-shown-are [] x y z w a b c o1 o2 o3 h la lb p1 p2 p3 = absurd (omega arith)
-shown-are (x0 ∷ []) x y z w a b c o1 o2 o3 h la lb p1 p2 p3 = absurd (omega arith)
-shown-are (x0 ∷ x1 ∷ []) x y z w a b c o1 o2 o3 h la lb p1 p2 p3 = absurd (omega arith)
-shown-are (x0 ∷ x1 ∷ x2 ∷ l) x y z w a b c o1 o2 o3 h la lb p1 p2 p3 =
+-- the bytes of an answer: three bytes, three rows and two bytes
+pub shown-are : (out : List ℕ) (x y z w v : ℕ) (a b c o1 o2 o3 : List ℕ) → length out ≡ answerBytesLength → length a ≡ maxBricks → length b ≡ maxBricks
+    → o1 ≡ rowPut targetsAt a (set (set (set (set (set out 0 x) 1 y) 2 z) secondKindAt w) seenLetterAt v) → o2 ≡ rowPut seenBricksAt b o1 → o3 ≡ rowPut secondTargetsAt c o2
+    → o3 ≡ x ∷ y ∷ z ∷ (a ++ (b ++ (c ++ w ∷ v ∷ [])))
+shown-are [] x y z w v a b c o1 o2 o3 h la lb p1 p2 p3 = absurd (omega arith)
+shown-are (x0 ∷ []) x y z w v a b c o1 o2 o3 h la lb p1 p2 p3 = absurd (omega arith)
+shown-are (x0 ∷ x1 ∷ []) x y z w v a b c o1 o2 o3 h la lb p1 p2 p3 = absurd (omega arith)
+shown-are (x0 ∷ x1 ∷ x2 ∷ l) x y z w v a b c o1 o2 o3 h la lb p1 p2 p3 =
     third ∙ ap (λ (r : List ℕ). x ∷ y ∷ z ∷ r) (append-assoc a b (c ++ drop maxBricks l2))
     ∙ ap (λ (r : List ℕ). x ∷ y ∷ z ∷ (a ++ (b ++ (c ++ r)))) left
   where
+    l0 : List ℕ
+    l0 = set (set l 48 w) 49 v
+
     l1 : List ℕ
-    l1 = drop maxBricks (set l 48 w)
+    l1 = drop maxBricks l0
 
     l2 : List ℕ
     l2 = drop maxBricks l1
 
     first : o1 ≡ x ∷ y ∷ z ∷ (a ++ l1)
-    first = p1 ∙ put-behind (x ∷ y ∷ z ∷ []) (set l 48 w) a (x ∷ y ∷ z ∷ set l 48 w) 3 refl refl
+    first = p1 ∙ put-behind (x ∷ y ∷ z ∷ []) l0 a (x ∷ y ∷ z ∷ l0) 3 refl refl
 
     second : o2 ≡ x ∷ y ∷ z ∷ (a ++ (b ++ l2))
     second = p2 ∙ put-behind (x ∷ y ∷ z ∷ a) l1 b o1 19 (omega arith) first
@@ -112,25 +114,25 @@ shown-are (x0 ∷ x1 ∷ x2 ∷ l) x y z w a b c o1 o2 o3 h la lb p1 p2 p3 =
         p3 ∙ put-behind (x ∷ y ∷ z ∷ (a ++ b)) l2 c o2 35 (omega (arith, length-append a b))
         (second ∙ ap (λ (r : List ℕ). x ∷ y ∷ z ∷ r) (sym (append-assoc a b l2)))
 
-    left : drop maxBricks l2 ≡ w ∷ []
+    left : drop maxBricks l2 ≡ w ∷ v ∷ []
     left =
-        ap (λ (r : List ℕ). drop maxBricks (drop maxBricks r)) (drop-set-add maxBricks l 32 w) ∙ ap (drop maxBricks) (drop-set-add maxBricks (drop maxBricks l) maxBricks w)
-        ∙ drop-set-add maxBricks (drop maxBricks (drop maxBricks l)) 0 w
-        ∙ only (drop maxBricks (drop maxBricks (drop maxBricks l))) w
-        (length-drop maxBricks (drop maxBricks (drop maxBricks l)) ∙ ap (λ (k : ℕ). k - maxBricks) (length-drop maxBricks (drop maxBricks l))
-        ∙ ap (λ (k : ℕ). k - maxBricks - maxBricks) (length-drop maxBricks l) ∙ (omega arith))
+        ap (λ (r : List ℕ). drop maxBricks (drop maxBricks r)) (drop-two maxBricks 32 33 l w v)
+        ∙ ap (drop maxBricks) (drop-two maxBricks maxBricks 17 (drop maxBricks l) w v)
+        ∙ drop-two maxBricks 0 1 (drop maxBricks (drop maxBricks l)) w v
+        ∙ stores (w ∷ v ∷ []) (drop maxBricks (drop maxBricks (drop maxBricks l)))
+        (omega (arith, length-drop maxBricks l, length-drop maxBricks (drop maxBricks l), length-drop maxBricks (drop maxBricks (drop maxBricks l))))
 
--- the bytes of a record: two bytes and four rows
-pub bytes-are : (out : List ℕ) (x y : ℕ) (a b c d o1 o2 o3 o4 : List ℕ) → length out ≡ recordBytesLength → length a ≡ maxBricks → length b ≡ maxBricks → length c ≡ maxBricks
-    → o1 ≡ rowPut countedAt a (set (set out 0 x) 1 y) → o2 ≡ rowPut grantedAt b o1 → o3 ≡ rowPut recordHeldAt c o2 → o4 ≡ rowPut bricksAt d o3
-    → o4 ≡ x ∷ y ∷ (a ++ (b ++ (c ++ d)))
-bytes-are [] x y a b c d o1 o2 o3 o4 h la lb lc p1 p2 p3 p4 = absurd (omega arith)
-bytes-are (x0 ∷ []) x y a b c d o1 o2 o3 o4 h la lb lc p1 p2 p3 p4 = absurd (omega arith)
-bytes-are (x0 ∷ x1 ∷ l) x y a b c d o1 o2 o3 o4 h la lb lc p1 p2 p3 p4 =
-    p4 ∙ put-behind ((x ∷ y ∷ (a ++ b)) ++ c) l3 d o3 50 (omega (arith, long-3)) (third ∙ sym (append-assoc (x ∷ y ∷ (a ++ b)) c l3))
-    ∙ append-assoc (x ∷ y ∷ (a ++ b)) c (d ++ drop maxBricks l3)
-    ∙ ap (λ (r : List ℕ). x ∷ y ∷ r) (append-assoc a b (c ++ (d ++ drop maxBricks l3)))
-    ∙ ap (λ (r : List ℕ). x ∷ y ∷ (a ++ (b ++ (c ++ r)))) (last-row d l3 left-3)
+-- the bytes of a record: two bytes and five rows
+pub bytes-are : (out : List ℕ) (x y : ℕ) (a b c d e o1 o2 o3 o4 o5 : List ℕ) → length out ≡ recordBytesLength
+    → length a ≡ maxBricks → length b ≡ maxBricks → length c ≡ maxBricks → length d ≡ maxBricks
+    → o1 ≡ rowPut countedAt a (set (set out 0 x) 1 y) → o2 ≡ rowPut grantedAt b o1 → o3 ≡ rowPut recordHeldAt c o2 → o4 ≡ rowPut bricksAt d o3 → o5 ≡ rowPut saidAt e o4
+    → o5 ≡ x ∷ y ∷ (a ++ (b ++ (c ++ (d ++ e))))
+bytes-are [] x y a b c d e o1 o2 o3 o4 o5 h la lb lc ld p1 p2 p3 p4 p5 = absurd (omega arith)
+bytes-are (x0 ∷ []) x y a b c d e o1 o2 o3 o4 o5 h la lb lc ld p1 p2 p3 p4 p5 = absurd (omega arith)
+bytes-are (x0 ∷ x1 ∷ l) x y a b c d e o1 o2 o3 o4 o5 h la lb lc ld p1 p2 p3 p4 p5 =
+    fifth ∙ append-assoc (front ++ c) d (e ++ drop maxBricks l4) ∙ append-assoc front c (d ++ (e ++ drop maxBricks l4))
+    ∙ ap (λ (r : List ℕ). x ∷ y ∷ r) (append-assoc a b (c ++ (d ++ (e ++ drop maxBricks l4))))
+    ∙ ap (λ (r : List ℕ). x ∷ y ∷ (a ++ (b ++ (c ++ (d ++ r))))) (last-row e l4 left)
   where
     l1 : List ℕ
     l1 = drop maxBricks l
@@ -141,15 +143,23 @@ bytes-are (x0 ∷ x1 ∷ l) x y a b c d o1 o2 o3 o4 h la lb lc p1 p2 p3 p4 =
     l3 : List ℕ
     l3 = drop maxBricks l2
 
-    left-3 : length l3 ≡ maxBricks
-    left-3 =
-        length-drop maxBricks l2 ∙ ap (λ (k : ℕ). k - maxBricks) (length-drop maxBricks l1) ∙ ap (λ (k : ℕ). k - maxBricks - maxBricks) (length-drop maxBricks l) ∙ (omega arith)
+    l4 : List ℕ
+    l4 = drop maxBricks l3
 
-    long-2 : length (x ∷ y ∷ (a ++ b)) ≡ 34
+    left : length l4 ≡ maxBricks
+    left = omega (arith, length-drop maxBricks l, length-drop maxBricks l1, length-drop maxBricks l2, length-drop maxBricks l3)
+
+    front : List ℕ
+    front = x ∷ y ∷ (a ++ b)
+
+    long-2 : length front ≡ 34
     long-2 = omega (arith, length-append a b)
 
-    long-3 : length ((x ∷ y ∷ (a ++ b)) ++ c) ≡ 34 + maxBricks
-    long-3 = omega (arith, length-append (x ∷ y ∷ (a ++ b)) c, long-2)
+    long-3 : length (front ++ c) ≡ 50
+    long-3 = omega (arith, length-append front c, long-2)
+
+    long-4 : length ((front ++ c) ++ d) ≡ 66
+    long-4 = omega (arith, length-append (front ++ c) d, long-3)
 
     first : o1 ≡ x ∷ y ∷ (a ++ l1)
     first = p1 ∙ put-behind (x ∷ y ∷ []) l a (x ∷ y ∷ l) 2 refl refl
@@ -157,8 +167,14 @@ bytes-are (x0 ∷ x1 ∷ l) x y a b c d o1 o2 o3 o4 h la lb lc p1 p2 p3 p4 =
     second : o2 ≡ x ∷ y ∷ (a ++ (b ++ l2))
     second = p2 ∙ put-behind (x ∷ y ∷ a) l1 b o1 18 (omega arith) first
 
-    third : o3 ≡ (x ∷ y ∷ (a ++ b)) ++ (c ++ l3)
-    third = p3 ∙ put-behind (x ∷ y ∷ (a ++ b)) l2 c o2 34 long-2 (second ∙ ap (λ (r : List ℕ). x ∷ y ∷ r) (sym (append-assoc a b l2)))
+    third : o3 ≡ front ++ (c ++ l3)
+    third = p3 ∙ put-behind front l2 c o2 34 long-2 (second ∙ ap (λ (r : List ℕ). x ∷ y ∷ r) (sym (append-assoc a b l2)))
+
+    fourth : o4 ≡ (front ++ c) ++ (d ++ l4)
+    fourth = p4 ∙ put-behind (front ++ c) l3 d o3 50 long-3 (third ∙ sym (append-assoc front c l3))
+
+    fifth : o5 ≡ ((front ++ c) ++ d) ++ (e ++ drop maxBricks l4)
+    fifth = p5 ∙ put-behind ((front ++ c) ++ d) l4 e o4 66 long-4 (fourth ∙ sym (append-assoc (front ++ c) d l4))
 
 -- the numbers of an answer
 pub answer-stored : (l : List ℕ) (a b c d e f g i j k m n o p q r : ℕ) → length l ≡ answerNumbersLength
@@ -193,22 +209,9 @@ pub laid-given : (l : Rows) (a : Answer) (numbers bytes sent shown : List ℕ) �
 unfolding laidOut
 laid-given l a numbers bytes sent shown h en eb es eo = rw (eq-eqb (a .refusal) 0 h) cc
 
--- lengths after single stores and after rows
-pub at-least : (k n : ℕ) (l : List ℕ) → length l ≡ n → k ≤ n → k ≤ length l
-at-least k n l e h = omega (arith, e, h)
-
-pub two-set : (l : List ℕ) (n i j x y : ℕ) → length l ≡ n → length (set (set l i x) j y) ≡ n
-two-set l n i j x y e = length-set (set l i x) j y ∙ length-set l i x ∙ e
-
-pub three-set : (l : List ℕ) (n i j k x y z : ℕ) → length l ≡ n → length (set (set (set l i x) j y) k z) ≡ n
-three-set l n i j k x y z e = length-set (set (set l i x) j y) k z ∙ two-set l n i j x y e
-
-pub four-set : (l : List ℕ) (n i j k i′ x y z x′ : ℕ) → length l ≡ n → length (set (set (set (set l i x) j y) k z) i′ x′) ≡ n
-four-set l n i j k i′ x y z x′ e = length-set (set (set (set l i x) j y) k z) i′ x′ ∙ three-set l n i j k x y z e
-
 -- the record that is read
-pub record-is : (numbers bytes found counted granted held bricks : List ℕ) → found ≡ rowAt recordFoundAt numbers → counted ≡ rowAt countedAt bytes → granted ≡ rowAt grantedAt bytes
-    → held ≡ rowAt recordHeldAt bytes → bricks ≡ rowAt bricksAt bytes
+pub record-is : (numbers bytes found counted granted held bricks said : List ℕ) → found ≡ rowAt recordFoundAt numbers → counted ≡ rowAt countedAt bytes → granted ≡ rowAt grantedAt bytes
+    → held ≡ rowAt recordHeldAt bytes → bricks ≡ rowAt bricksAt bytes → said ≡ rowAt saidAt bytes
     → _≡_ {A = Coordinator}
     (record {
       geometry =
@@ -229,12 +232,12 @@ pub record-is : (numbers bytes found counted granted held bricks : List ℕ) →
             max = getD numbers maxAt 0;
             first = getD numbers firstAt 0;
           };
-      tally = record { counted = counted; granted = granted; held = held; found = found };
+      tally = record { counted = counted; granted = granted; held = held; found = found; said = said };
       bricks = bricks;
     })
     (recordFor numbers bytes)
 unfolding recordFor
-record-is numbers bytes found counted granted held bricks ef ec eg eh eb = rw (ef, ec, eg, eh, eb) refl
+record-is numbers bytes found counted granted held bricks said ef ec eg eh eb es = rw (ef, ec, eg, eh, eb, es) refl
 
 -- what the test says of the four lengths
 pub record Lengths (numbers bytes sent shown : ℕ) : Type 0 where
@@ -309,15 +312,17 @@ row-only a e = ap (take maxBricks) (sym (append-nil a)) ∙ row-here a [] e
 
 -- what is written is read back: the numbers and bytes of a record have its every field
 pub read-back : (c : Coordinator) → length (c .tally .counted) ≡ maxBricks → length (c .tally .granted) ≡ maxBricks → length (c .tally .held) ≡ maxBricks
-    → length (c .tally .found) ≡ maxBricks → length (c .bricks) ≡ maxBricks → recordFor (recordNumbers c) (recordBytes c) ≡ c
+    → length (c .tally .found) ≡ maxBricks → length (c .bricks) ≡ maxBricks → length (c .tally .said) ≡ maxBricks → recordFor (recordNumbers c) (recordBytes c) ≡ c
 unfolding recordNumbers recordBytes rowAt
-read-back c la lb lc lf ld =
+read-back c la lb lc lf ld ls =
     let t = c .tally in
-    let r2 = t .held ++ c .bricks in
+    let r3 = c .bricks ++ t .said in
+    let r2 = t .held ++ r3 in
     let r1 = t .granted ++ r2 in
     let e1 = row-here (t .counted) r1 la in
     let e2 = row-later 0 (t .counted) r1 la ∙ row-here (t .granted) r2 lb in
-    let e3 = row-later maxBricks (t .counted) r1 la ∙ row-later 0 (t .granted) r2 lb ∙ row-here (t .held) (c .bricks) lc in
-    let e4 = row-later 32 (t .counted) r1 la ∙ row-later maxBricks (t .granted) r2 lb ∙ row-later 0 (t .held) (c .bricks) lc ∙ row-only (c .bricks) ld in
+    let e3 = row-later maxBricks (t .counted) r1 la ∙ row-later 0 (t .granted) r2 lb ∙ row-here (t .held) r3 lc in
+    let e4 = row-later 32 (t .counted) r1 la ∙ row-later maxBricks (t .granted) r2 lb ∙ row-later 0 (t .held) r3 lc ∙ row-here (c .bricks) (t .said) ld in
     let e5 = row-only (t .found) lf in
-    sym (record-is (recordNumbers c) (recordBytes c) (t .found) (t .counted) (t .granted) (t .held) (c .bricks) (sym e5) (sym e1) (sym e2) (sym e3) (sym e4))
+    let e6 = row-later 48 (t .counted) r1 la ∙ row-later 32 (t .granted) r2 lb ∙ row-later maxBricks (t .held) r3 lc ∙ row-later 0 (c .bricks) (t .said) ld ∙ row-only (t .said) ls in
+    sym (record-is (recordNumbers c) (recordBytes c) (t .found) (t .counted) (t .granted) (t .held) (c .bricks) (t .said) (sym e5) (sym e1) (sym e2) (sym e3) (sym e4) (sym e6))

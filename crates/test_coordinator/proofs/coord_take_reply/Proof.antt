@@ -65,7 +65,7 @@ returns-2 c =
     let p = c .before .before .before .before .before .before .before .before .put-answer .ensures in
     crossed _ _ _ _ _ _ _ _ _ _ _ _ _ _ _ _ (whole .before .lent-refusal .ensures) (whole .if1 .left)
     (w ∙ ap (λ (x : Coordinator). takeCall (s .n) (s .m) (s .size) (s .stripes) x (s .blocks .now) (s .stripe .now) (s .coded .now)
-    (replyFor (s .kind) (s .brick) (s .stripe-number) (s .time) (s .round) (s .yes) (s .found) (s .has)) (s .block .now)) q) (p .0) (p .1)
+    (replyFor (s .kind) (s .brick) (s .stripe-number) (s .time) (s .round) (s .yes) (s .found) (s .has) (s .comparison)) (s .block .now)) q) (p .0) (p .1)
 
 pub coord-take-reply-spec : {M : Type 1} → statement M
 coord-take-reply-spec =

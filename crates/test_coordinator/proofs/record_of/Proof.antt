@@ -4,8 +4,8 @@ use borrow.Author.Needs.{needs}
 use Rattle.test_coordinator.proofs.record_of.Statement.{statement}
 use Rattle.test_coordinator.proofs.record_of.Tie as tie
 
-shared-slice-read-t13 : tie.Need-shared-slice-read-t13
-shared-slice-read-t13 c = search needs
+shared-slice-read-t14 : tie.Need-shared-slice-read-t14
+shared-slice-read-t14 c = search needs
 
 shared-slice-read-times-of : tie.Need-shared-slice-read-times-of
 shared-slice-read-times-of c = search needs
@@ -13,32 +13,32 @@ shared-slice-read-times-of c = search needs
 shared-slice-read-row-of : tie.Need-shared-slice-read-row-of
 shared-slice-read-row-of c = search needs
 
-shared-slice-read-t22 : tie.Need-shared-slice-read-t22
-shared-slice-read-t22 c = search needs
+shared-slice-read-t23 : tie.Need-shared-slice-read-t23
+shared-slice-read-t23 c = search needs
 
-shared-slice-read-t13-2 : tie.Need-shared-slice-read-t13-2
-shared-slice-read-t13-2 c = search needs
+shared-slice-read-t14-2 : tie.Need-shared-slice-read-t14-2
+shared-slice-read-t14-2 c = search needs
 
-shared-slice-read-t16 : tie.Need-shared-slice-read-t16
-shared-slice-read-t16 c = search needs
+shared-slice-read-t17 : tie.Need-shared-slice-read-t17
+shared-slice-read-t17 c = search needs
 
-shared-slice-read-t27 : tie.Need-shared-slice-read-t27
-shared-slice-read-t27 c = search needs
+shared-slice-read-t28 : tie.Need-shared-slice-read-t28
+shared-slice-read-t28 c = search needs
 
-shared-slice-read-t29 : tie.Need-shared-slice-read-t29
-shared-slice-read-t29 c = search needs
+shared-slice-read-t30 : tie.Need-shared-slice-read-t30
+shared-slice-read-t30 c = search needs
 
-shared-slice-read-t22-2 : tie.Need-shared-slice-read-t22-2
-shared-slice-read-t22-2 c = search needs
+shared-slice-read-t23-2 : tie.Need-shared-slice-read-t23-2
+shared-slice-read-t23-2 c = search needs
 
-shared-slice-read-t13-3 : tie.Need-shared-slice-read-t13-3
-shared-slice-read-t13-3 c = search needs
+shared-slice-read-t14-3 : tie.Need-shared-slice-read-t14-3
+shared-slice-read-t14-3 c = search needs
 
-shared-slice-read-t16-2 : tie.Need-shared-slice-read-t16-2
-shared-slice-read-t16-2 c = search needs
+shared-slice-read-t17-2 : tie.Need-shared-slice-read-t17-2
+shared-slice-read-t17-2 c = search needs
 
-shared-slice-read-t19 : tie.Need-shared-slice-read-t19
-shared-slice-read-t19 c = search needs
+shared-slice-read-t20 : tie.Need-shared-slice-read-t20
+shared-slice-read-t20 c = search needs
 
 shared-slice-read-row-of-2 : tie.Need-shared-slice-read-row-of-2
 shared-slice-read-row-of-2 c = search needs
@@ -103,30 +103,42 @@ part-row-of-end-4 c = search needs
 row-of-requires-4 : tie.Need-row-of-requires-4
 row-of-requires-4 c κs = search needs
 
+sub-row-of-5 : tie.Need-sub-row-of-5
+sub-row-of-5 c = search needs
+
+part-row-of-start-5 : tie.Need-part-row-of-start-5
+part-row-of-start-5 c = search needs
+
+part-row-of-end-5 : tie.Need-part-row-of-end-5
+part-row-of-end-5 c = search needs
+
+row-of-requires-5 : tie.Need-row-of-requires-5
+row-of-requires-5 c κs = search needs
+
 returns : tie.Need-returns
 unfolding rowAt
 returns c =
-    let t = c .before .before .before .before .before .before .before .before in
+    let t = c .before .before .before .before .before .before .before .before .before .before in
     let s = t .before .before .before .before .before .before .before .before .before .before .before .before .before .before .before .before .before .args in
-    record-is (s .numbers .now) (s .bytes .now) _ _ _ _ _ (t .times-of .ensures) (c .before .before .before .before .before .before .row-of .ensures)
-    (c .before .before .before .before .row-of2 .ensures) (c .before .before .row-of3 .ensures) (c .row-of4 .ensures)
+    record-is (s .numbers .now) (s .bytes .now) _ _ _ _ _ _ (t .times-of .ensures) (c .before .before .before .before .before .before .before .before .row-of .ensures)
+    (c .before .before .before .before .before .before .row-of2 .ensures) (c .before .before .before .before .row-of3 .ensures) (c .before .before .row-of4 .ensures) (c .row-of5 .ensures)
 
 pub record-of-spec : {M : Type 1} → statement M
 record-of-spec =
     tie.close
     (tie.spec
-    shared-slice-read-t13
+    shared-slice-read-t14
     shared-slice-read-times-of
     shared-slice-read-row-of
-    shared-slice-read-t22
-    shared-slice-read-t13-2
-    shared-slice-read-t16
-    shared-slice-read-t27
-    shared-slice-read-t29
-    shared-slice-read-t22-2
-    shared-slice-read-t13-3
-    shared-slice-read-t16-2
-    shared-slice-read-t19
+    shared-slice-read-t23
+    shared-slice-read-t14-2
+    shared-slice-read-t17
+    shared-slice-read-t28
+    shared-slice-read-t30
+    shared-slice-read-t23-2
+    shared-slice-read-t14-3
+    shared-slice-read-t17-2
+    shared-slice-read-t20
     shared-slice-read-row-of-2
     sub-times-of
     part-times-of-start
@@ -148,4 +160,8 @@ record-of-spec =
     part-row-of-start-4
     part-row-of-end-4
     row-of-requires-4
+    sub-row-of-5
+    part-row-of-start-5
+    part-row-of-end-5
+    row-of-requires-5
     returns)
