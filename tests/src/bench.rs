@@ -1,6 +1,6 @@
 //! The bench: plays a script of one set and prints what ended or was refused.
 
-use crate::brick::{self, Message, Reply, TRIM};
+use crate::brick::{self, clears, Message, Reply, DROP, TRIM};
 use crate::coordinator::{self, Ended, Outcome, Record, Step};
 use crate::image;
 use crate::settings::{coordinator_of, Refusal, Settings};
@@ -42,8 +42,22 @@ enum Line {
 
 /// A sent message, to a brick or to a coordinator.
 enum Sent {
-    ToBrick(usize, Message),
+    ToBrick {
+        brick: usize,
+        message: Message,
+        /// Whether a round follows it at the same event, as it does Drops and early Trims.
+        ahead: bool,
+    },
     Back(Reply),
+}
+
+/// What Drops and early Trims did: those that reached a brick, and entries freed there.
+#[derive(Clone, Copy, Debug, Default)]
+pub struct Cleared {
+    pub drops: usize,
+    pub dropped: usize,
+    pub early_trims: usize,
+    pub trimmed: usize,
 }
 
 /// The set that a script plays on.
@@ -53,6 +67,7 @@ struct Set {
     up: Vec<bool>,
     records: Vec<Record>,
     sent: Vec<Sent>,
+    cleared: Cleared,
 }
 
 /// A bench between two lines.
@@ -109,12 +124,18 @@ impl Bench {
         self.set.as_ref().map_or(0, |set| set.sent.len())
     }
 
-    /// How many rounds of a kind were sent, Trims too.
+    /// How many rounds of a kind were sent, Trims and Drops too.
     pub fn rounds(&self, kind: u8) -> usize {
         let Some(set) = &self.set else { return 0 };
-        let of_kind =
-            |sent: &&Sent| matches!(sent, Sent::ToBrick(0, message) if message.kind == kind);
+        let of_kind = |sent: &&Sent| matches!(sent, Sent::ToBrick { brick: 0, message, .. } if message.kind == kind);
         set.sent.iter().filter(of_kind).count()
+    }
+
+    /// What Drops and early Trims did so far.
+    pub fn cleared(&self) -> Cleared {
+        self.set
+            .as_ref()
+            .map_or(Cleared::default(), |set| set.cleared)
     }
 }
 
@@ -224,6 +245,7 @@ impl Set {
                 .map(|number| Record::fresh(settings.volume(), number))
                 .collect(),
             sent: Vec::new(),
+            cleared: Cleared::default(),
         })
     }
 
@@ -271,9 +293,14 @@ impl Set {
         if !self.fits(step.sent.len()) {
             return Err(12);
         }
-        let messages = step.sent.into_iter().enumerate();
+        let (n, count) = (self.up.len(), step.sent.len());
+        let to_brick = |(place, message)| Sent::ToBrick {
+            brick: place % n,
+            message,
+            ahead: place + n < count,
+        };
         self.sent
-            .extend(messages.map(|(brick, message)| Sent::ToBrick(brick, message)));
+            .extend(step.sent.into_iter().enumerate().map(to_brick));
         let place = record.number as usize;
         self.records[place] = record;
         print_ended(step.ended, printed);
@@ -337,24 +364,38 @@ impl Set {
             return Err(12);
         }
         match &self.sent[number as usize - 1] {
-            Sent::ToBrick(brick, message) => self.carry_to_brick(*brick, &message.clone()),
+            Sent::ToBrick {
+                brick,
+                message,
+                ahead,
+            } => self.carry_to_brick(*brick, &message.clone(), *ahead),
             Sent::Back(reply) => self.carry_back(&reply.clone(), printed),
         }
     }
 
-    fn carry_to_brick(&mut self, brick: usize, message: &Message) -> Result<(), Refusal> {
+    fn carry_to_brick(
+        &mut self,
+        brick: usize,
+        message: &Message,
+        ahead: bool,
+    ) -> Result<(), Refusal> {
         if !self.up[brick] {
             return Ok(());
         }
-        if message.kind != TRIM && !self.fits(1) {
+        if !clears(message.kind) && !self.fits(1) {
             return Err(12);
         }
-        let reply = brick::take(
-            self.settings,
-            brick as u64,
-            &mut self.images[brick],
-            message,
-        )?;
+        let image = &mut self.images[brick];
+        let before = image::times(image).len();
+        let reply = brick::take(self.settings, brick as u64, image, message)?;
+        let after = image::times(image).len();
+        if message.kind == DROP {
+            self.cleared.drops += 1;
+            self.cleared.dropped += before - after;
+        } else if message.kind == TRIM && ahead {
+            self.cleared.early_trims += 1;
+            self.cleared.trimmed += before - after;
+        }
         self.sent.extend(reply.map(Sent::Back));
         Ok(())
     }

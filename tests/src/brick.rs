@@ -6,7 +6,8 @@ use crate::field::{add, mul};
 use crate::image::{self, Entry, State};
 use crate::settings::{log_time, valid_time, Refusal, Settings, Shape, LAST_ROUND, NO_UPPER_END};
 
-/// Kinds of messages. A reply has the kind of its message; Trim has no reply.
+/// Kinds of messages. A reply has the kind of its message; Trim and Drop have no
+/// reply.
 pub const READ: u8 = 1;
 pub const ORDER: u8 = 2;
 pub const ORDER_READ: u8 = 3;
@@ -15,6 +16,7 @@ pub const ORDER_BLOCK: u8 = 4;
 pub const WRITE: u8 = 5;
 pub const MODIFY: u8 = 6;
 pub const TRIM: u8 = 7;
+pub const DROP: u8 = 8;
 
 /// The comparison that said no, in a reply: none on a yes.
 pub const NONE: u8 = 0;
@@ -92,7 +94,7 @@ impl Message {
 
     /// Refusal 10.
     pub fn refusal(&self, shape: Shape) -> Option<Refusal> {
-        let fits = (READ..=TRIM).contains(&self.kind)
+        let fits = (READ..=DROP).contains(&self.kind)
             && valid_time(self.time)
             && round_fits(self.round)
             && (self.kind != ORDER_READ || self.max <= NO_UPPER_END)
@@ -135,6 +137,11 @@ impl Reply {
 /// Whether messages of a kind append to the log.
 pub fn stores(kind: u8) -> bool {
     kind == WRITE || kind == MODIFY
+}
+
+/// Whether messages of a kind free entries; these have no reply.
+pub fn clears(kind: u8) -> bool {
+    kind == TRIM || kind == DROP
 }
 
 /// Whether the targets are m different bricks, or the one that holds a data block.
@@ -234,8 +241,12 @@ fn act(settings: Settings, brick: u64, state: &mut State, message: &Message) -> 
         ORDER_BLOCK => order_block(state, message.time, brick == message.number),
         WRITE => (store(settings, state, message), 0, None),
         MODIFY => (modify(settings, brick, state, message), 0, None),
-        _ => {
+        TRIM => {
             trim(state, message.time);
+            return None;
+        }
+        _ => {
+            drop_entry(state, message.time);
             return None;
         }
     };
@@ -370,4 +381,17 @@ fn trim(state: &mut State, time: u64) {
     let block = state.meant(lowest).to_vec();
     state.log.drain(..lowest);
     state.log[0].block = Some(block);
+}
+
+/// The entry of a time goes, unless it is the only one. If it had a block and the
+/// entry right above it is a mark, that mark becomes the block.
+fn drop_entry(state: &mut State, time: u64) {
+    let place = state.log.iter().position(|entry| entry.time == time);
+    let Some(place) = place.filter(|_| state.log.len() > 1) else {
+        return;
+    };
+    let dropped = state.log.remove(place);
+    if let (Some(block), Some(above)) = (dropped.block, state.log.get_mut(place)) {
+        above.block.get_or_insert(block);
+    }
 }

@@ -1,7 +1,7 @@
 //! One event at one coordinator: a start, a reply, a crash.
 
 use crate::brick::{
-    stores, Message, Reply, FULL, MODIFY, ORDER, ORDER_BLOCK, ORDER_READ, READ, TRIM, WRITE,
+    stores, Message, Reply, DROP, FULL, MODIFY, ORDER, ORDER_BLOCK, ORDER_READ, READ, TRIM, WRITE,
 };
 use crate::code;
 use crate::settings::{
@@ -90,8 +90,9 @@ pub struct Ended {
     pub letter: char,
 }
 
-/// What one event does besides changing the record: the messages sent, either
-/// none or one to each brick by its number, and the operation that ended.
+/// What one event does besides changing the record: the messages sent, none, one
+/// to each brick by its number or two such lists, and the operation that ended.
+/// With two lists the first is of Drops or early Trims, the second a round.
 #[derive(Clone, Debug, Default, PartialEq, Eq)]
 pub struct Step {
     pub sent: Vec<Message>,
@@ -264,8 +265,13 @@ impl Running {
         messages
     }
 
-    fn trims(&self, shape: Shape) -> Vec<Message> {
-        vec![self.message(TRIM); shape.n as usize]
+    /// Trims or Drops of a time, with the number of the open round.
+    fn clearing(&self, shape: Shape, kind: u8, time: u64) -> Vec<Message> {
+        let message = Message {
+            time,
+            ..self.message(kind)
+        };
+        vec![message; shape.n as usize]
     }
 
     /// A message of the operation and its round.
@@ -289,6 +295,11 @@ fn abort() -> Decision {
 
 fn next_or_abort(messages: Option<Vec<Message>>) -> Decision {
     messages.map_or_else(abort, Decision::Next)
+}
+
+/// The same with Drops or early Trims ahead, which aren't sent if no round follows.
+fn clear_then_next(clearing: Vec<Message>, messages: Option<Vec<Message>>) -> Decision {
+    next_or_abort(messages.map(|messages| [clearing, messages].concat()))
 }
 
 fn quorum_of(shape: Shape) -> u64 {
@@ -558,7 +569,10 @@ fn decide(shape: Shape, running: &mut Running) -> Decision {
         ORDER => next_or_abort(running.open_round(shape, WRITE, 0)),
         ORDER_READ => decide_recovery(shape, running),
         ORDER_BLOCK => decide_order_block(shape, running),
-        _ => Decision::End(finished(shape, running), running.trims(shape)),
+        _ => {
+            let trims = running.clearing(shape, TRIM, running.time);
+            Decision::End(finished(shape, running), trims)
+        }
     }
 }
 
@@ -645,12 +659,18 @@ fn decide_recovery(shape: Shape, running: &mut Running) -> Decision {
             running.bricks = bricks;
         }
         running.data = data;
-        return next_or_abort(running.open_round(shape, WRITE, 0));
+        let trims = if highest != 0 && chosen.len() == running.replies.len() {
+            running.clearing(shape, TRIM, highest)
+        } else {
+            Vec::new()
+        };
+        return clear_then_next(trims, running.open_round(shape, WRITE, 0));
     }
     if highest == 0 {
         return abort();
     }
-    next_or_abort(running.open_round(shape, ORDER_READ, highest))
+    let drops = running.clearing(shape, DROP, highest);
+    clear_then_next(drops, running.open_round(shape, ORDER_READ, highest))
 }
 
 /// The first m bricks by number, and the stripe that all blocks of the chosen

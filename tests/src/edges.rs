@@ -408,18 +408,22 @@ fn letters(edges: &mut Edges) {
     edges.say("set 1 1 1 2; write 1 5 0a; carry 1; read 0 1 0; carry 3 4 5 6", "0 read 16 O abort");
     // A promise makes a read recover; its store meets a free entry or a full log.
     edges.say("set 1 1 1 2; write 0 1 0a; carry 1; crash 0; read 1 2 0; carry 3 4 5 6 7 8", "0 write 16 C cut; 1 read 33 H 00");
-    edges.say(
-        &format!("{one}; write 0 2 0b; carry 6; crash 0; read 1 3 0; carry 8 9 10 11 12 13"),
-        "0 write 16 S ok; 0 write 32 C cut; 1 read 49 G abort",
-    );
-    // A Write that one of two bricks has, with m 2: the recovery goes on to time 0.
-    edges.say(
-        "set 2 2 1 4; write 0 1 0102; carry 1 2 3 4 5; crash 0; read 1 2 0; carry 8 9 10 11 12 13 14 15 16 17 18 19 20 21 22 23",
-        "0 write 16 C cut; 1 read 33 L 0000",
-    );
+    // Message 12 is the early Trim of the store: it makes room, or comes too late.
+    let full = format!("{one}; write 0 2 0b; carry 6; crash 0; read 1 3 0; carry 8 9 10 11");
+    edges.say(&format!("{full}; carry 13 14"), "0 write 16 S ok; 0 write 32 C cut; 1 read 49 G abort");
+    edges.say(&format!("{full}; carry 13 12 14"), "0 write 16 S ok; 0 write 32 C cut; 1 read 49 G abort");
+    edges.say(&format!("{full}; carry 12 13 14"), "0 write 16 S ok; 0 write 32 C cut; 1 read 49 H 0a");
+    // A Write that one of two bricks has, with m 2: the recovery goes on to time 0. Drops are 16 and 17.
+    let two = "write 0 1 0102; carry 1 2 3 4 5; crash 0; read 1 2 0; carry 8 9 10 11 12 13 14 15";
+    for (capacity, drops, end) in [(4, "", "L 0000"), (4, "carry 16 17; ", "L 0000"), (2, "", "G abort"), (2, "carry 16; ", "L 0000")] {
+        edges.say(
+            &format!("set 2 2 1 {capacity}; {two}; {drops}carry 18 19 20 21 22 23 24 25"),
+            &format!("0 write 16 C cut; 1 read 33 {end}"),
+        );
+    }
 }
 
-/// Sent messages near 127, by starts, replies, rounds and Trims.
+/// Sent messages near 127, by starts, replies, rounds, Trims and Drops.
 fn limit(edges: &mut Edges) {
     for n in 1..=4_usize {
         let q = n - (n - 1) / 2;
@@ -460,6 +464,26 @@ fn limit(edges: &mut Edges) {
             let sent = opened + q + n;
             let counted = format!("{writes}carry{}\ncarry{}\n", list(opened + q + 1, q), list(sent + 1, q - 1));
             put("Trims of a read", format!("{counted}{}carry {}\ncarry {}\n", pump(sent + q, wanted), sent + q, sent + q));
+            // A stored write, then one that is ordered at all bricks. The last reply of the recovery's round sends early Trims and the
+            // store; it is carried twice, and then what it sent, if it did.
+            let twice = |last: usize| {
+                let sent = list(last.max(wanted) + 1, 2 * n);
+                format!("{}carry {last}\ncarry {last}\ncarry{sent}\n", pump(last, wanted))
+            };
+            let carry = |parts: &[(usize, usize)]| -> String {
+                parts.iter().map(|&(from, count)| format!("carry{}\n", list(from, count))).collect()
+            };
+            let stored = format!("{set}write 0 1 0a\n{}", carry(&[(1, n), (n + 1, q), (2 * n + 1, n), (3 * n + 1, q)]));
+            let ordered = format!("{stored}write 1 2 0b\n{}read 2 3 0\n", carry(&[(5 * n + 1, n)]));
+            let found = carry(&[(7 * n + 1, q), (8 * n + 1, q), (8 * n + q + 1, q), (9 * n + q + 1, q - 1)]);
+            put("early Trims", format!("{ordered}{found}{}", twice(9 * n + 2 * q)));
+            if n > 1 {
+                // With m n, a Write that one brick has; the last reply of the recovery's round sends Drops and the next round.
+                let write = format!("set {n} {n} 1 2\nwrite 0 1 {}\n", "0a".repeat(n));
+                let cut = format!("{write}{}crash 0\nread 1 2 0\n", carry(&[(1, n), (n + 1, n), (2 * n + 1, 1)]));
+                let found = carry(&[(3 * n + 2, n), (4 * n + 2, n), (5 * n + 2, n), (6 * n + 2, n - 1)]);
+                put("Drops", format!("{cut}{found}{}", twice(7 * n + 1)));
+            }
         }
     }
     // Trims are carried at 127, and a second set of them isn't sent.

@@ -1,6 +1,6 @@
 //! Random runs of a volume, for any implementation of the routines: operations on some of its stripes among faults, then reads in a row.
 
-use crate::brick::{self, stores, Message, Reply, FULL, MODIFY, ORDER_BLOCK, ORDER_READ, READ, TRIM, WRITE};
+use crate::brick::{self, clears, stores, Message, Reply, DROP, FULL, MODIFY, ORDER_BLOCK, ORDER_READ, READ, TRIM, WRITE};
 use crate::coordinator::{self, Ended, Kind, Outcome, Record, Step};
 use crate::fixtures::enough_blocks;
 use crate::order::{brute_order, by_stripe, has_order, End, Operation};
@@ -9,7 +9,7 @@ use crate::rng::Rng;
 use crate::settings::{self, coordinator_of, count_of, Settings, Shape, Volume};
 use crate::tally::Tally;
 use crate::image;
-use std::collections::HashSet;
+use std::collections::{HashMap, HashSet};
 use std::ops::Range;
 
 /// The routines of bricks and coordinators, refused by number.
@@ -146,20 +146,22 @@ impl Proved {
         Ok(Step { ended, ..step })
     }
 
-    /// The messages of a lent answer, with the blocks that stand in the lent buffers.
+    /// The messages of a lent answer.
     fn messages(settings: Settings, c: &proved::Coordinator) -> Vec<Message> {
+        c.lent.sent().iter().flat_map(|&at| Proved::broadcast(settings, c, at)).collect()
+    }
+
+    /// Those of a broadcast, with the blocks that stand in the lent buffers.
+    fn broadcast(settings: Settings, c: &proved::Coordinator, at: answer::Message) -> Vec<Message> {
         let (sent, shape) = (&c.lent.sent, settings.shape);
-        if sent[answer::SENT] != 1 {
-            return Vec::new();
-        }
-        let kind = c.lent.shown[answer::KIND];
+        let kind = c.lent.shown[at.kind];
         let mut message = Message {
-            stripe: sent[answer::STRIPE],
-            max: sent[answer::MAX],
-            targets: bricks_of(c.lent.shown_row(answer::TARGETS)),
-            old_time: sent[answer::OLD],
-            number: sent[answer::BLOCK],
-            ..Message::plain(kind, sent[answer::TIME], sent[answer::ROUND])
+            stripe: sent[at.stripe],
+            max: sent[at.max],
+            targets: bricks_of(c.lent.shown_row(at.targets)),
+            old_time: sent[at.old],
+            number: sent[at.block],
+            ..Message::plain(kind, sent[at.time], sent[at.round])
         };
         if kind == MODIFY {
             let j = message.number as usize;
@@ -313,8 +315,14 @@ pub struct Faults {
     pub down: u64,
     /// A coordinator that has sent a Write or Modify round crashes after a few of its messages.
     pub short: u64,
-    /// A Trim is lost, beside what is lost of all messages.
+    /// A Trim of a finished store is lost, beside what is lost of all messages.
     pub trims: u64,
+    /// The same of a Drop or an early Trim.
+    pub drops: u64,
+    /// A Drop or an early Trim is held back; it arrives some events later, now and then more than once.
+    pub late: u64,
+    /// The Drops or early Trims of an event arrive at once, ahead of all that is under way; a store that a Drop undid then comes again.
+    pub first: u64,
     /// An operation is of one block.
     pub blocks: u64,
     /// A crash takes the bytes of the coordinator's lent buffers: they hold others then.
@@ -337,6 +345,9 @@ impl Faults {
             down: 0,
             short: 0,
             trims: 0,
+            drops: 0,
+            late: 0,
+            first: 0,
             blocks: 0,
             buffers: 0,
             rising: true,
@@ -355,6 +366,9 @@ impl Faults {
             down: pick(rng, &[0, 0, 60, 20]),
             short: pick(rng, &[0, 4, 2, 1]),
             trims: pick(rng, &[0, 0, 2, 1]),
+            drops: pick(rng, &[0, 0, 3, 1]),
+            late: pick(rng, &[0, 0, 3, 1]),
+            first: pick(rng, &[0, 0, 3, 1]),
             blocks: pick(rng, &[0, 2, 2, 1]),
             buffers: pick(rng, &[0, 2, 1]),
             rising: !rng.once_in(4),
@@ -390,6 +404,12 @@ pub enum Break {
     ParityStays,
     /// An operation's letter is the one that stands after its own in the list.
     NextLetter,
+    /// A Drop takes the newest entry, whatever its time.
+    DropsNewest,
+    /// A Drop takes the promise back to the newest time.
+    DropsPromise,
+    /// An early Trim is taken as a Drop.
+    DropsChosen,
 }
 
 fn once(rng: &mut Rng, calls: u64) -> bool {
@@ -480,8 +500,16 @@ pub struct World<R: Routines> {
     clock: u64,
     /// What stood or was written at each place of a stripe.
     used: HashSet<(usize, Vec<u8>)>,
-    /// What marks did.
-    marks: Tally,
+    /// What marks, Drops and early Trims did.
+    did: Tally,
+    /// The Drops and early Trims: places of what was sent, each with the place of its operation.
+    ahead: HashMap<usize, usize>,
+    /// Places of Drops and early Trims that are held back.
+    late: Vec<usize>,
+    /// Places of Drops that reached their brick.
+    carried: HashSet<usize>,
+    /// Times that were dropped: brick, stripe and time.
+    dropped: HashSet<(usize, u64, u64)>,
     /// Crashes that took the bytes of the lent buffers.
     overwritten: usize,
     /// The replies that each coordinator counted in its open round.
@@ -512,7 +540,11 @@ impl<R: Routines> World<R> {
             event: 0,
             clock: 0,
             used: (0..settings.shape.m as usize).map(|j| (j, vec![0; settings.shape.size as usize])).collect(),
-            marks: Tally::default(),
+            did: Tally::default(),
+            ahead: HashMap::new(),
+            late: Vec::new(),
+            carried: HashSet::new(),
+            dropped: HashSet::new(),
             overwritten: 0,
             counted: vec![Vec::new(); 16],
             disagreed: 0,
@@ -536,7 +568,7 @@ impl<R: Routines> World<R> {
     /// Takes over what a coordinator sent and showed at an event that wasn't refused.
     fn after(&mut self, c: usize, step: Step) {
         let last = (0..self.noted.len()).rev().find(|&k| self.noted[k].coordinator == c);
-        if let (Some(k), Some(message)) = (last, step.sent.first()) {
+        if let (Some(k), Some(message)) = (last, step.sent.last()) {
             self.noted[k].round = self.noted[k].round.max(message.round);
             self.noted[k].modified |= message.kind == MODIFY;
         }
@@ -545,8 +577,14 @@ impl<R: Routines> World<R> {
         }
         let decided = !step.sent.is_empty() || step.ended.is_some();
         let counted = if decided { std::mem::take(&mut self.counted[c]) } else { Vec::new() };
-        self.fresh.extend(self.sent.len()..self.sent.len() + step.sent.len());
-        self.sent.extend(step.sent.into_iter().enumerate().map(|(brick, message)| Sent::To(brick, message)));
+        let (n, before, after) = (self.n(), self.sent.len(), self.sent.len() + step.sent.len());
+        assert!([0, n, 2 * n].contains(&step.sent.len()));
+        self.fresh.extend(before..after);
+        // Of two broadcasts the first one clears.
+        for place in (before..after).take(step.sent.len().saturating_sub(n)) {
+            self.ahead.insert(place, last.expect("an operation of the coordinator"));
+        }
+        self.sent.extend(step.sent.into_iter().enumerate().map(|(k, message)| Sent::To(k % n, message)));
         if let Some(Ended { coordinator, kind, stripe, block, time, outcome, letter }) = step.ended {
             let k = last.expect("an operation of the coordinator");
             let letter = self.shown_letter(letter);
@@ -703,7 +741,7 @@ impl<R: Routines> World<R> {
     pub fn arrive(&mut self, which: usize) {
         self.event += 1;
         match self.sent[which].clone() {
-            Sent::To(brick, message) if self.up[brick] => self.at_brick(brick, &message),
+            Sent::To(brick, message) if self.up[brick] => self.at_brick(which, brick, &message),
             Sent::To(..) => {}
             Sent::Back(mut reply) => {
                 let c = coordinator_of(reply.time) as usize;
@@ -731,12 +769,16 @@ impl<R: Routines> World<R> {
         }
     }
 
-    fn at_brick(&mut self, brick: usize, message: &Message) {
+    /// A message, by its place among what was sent.
+    fn at_brick(&mut self, which: usize, brick: usize, message: &Message) {
         let of_it = (0..self.noted.len()).find(|&k| (self.operations[k].stripe, self.noted[k].time) == (message.stripe, message.time));
-        let given = self.given(brick, message);
+        let given = self.given(which, brick, message);
         let reply = R::receive(self.settings, brick as u64, &mut self.images[brick], &given).expect("what was sent is never refused");
-        assert_eq!(reply.as_ref().map(|reply| reply.stripe), (message.kind != TRIM).then_some(given.stripe));
+        assert_eq!(reply.as_ref().map(|reply| reply.stripe), (!clears(message.kind)).then_some(given.stripe));
         let reply = reply.map(|reply| self.replied(brick, message, reply));
+        if message.kind == DROP && self.faults.broken == Break::DropsPromise {
+            self.drop_promise(brick, message.stripe);
+        }
         if message.holds_a_block() {
             let of_read = of_it.is_some_and(|k| self.operations[k].write.is_none());
             match self.faults.broken {
@@ -746,10 +788,14 @@ impl<R: Routines> World<R> {
             }
         }
         self.note_marks(brick, message, reply.as_ref());
+        self.note_clearing(which, brick, message);
         self.compare_others(brick, message.stripe);
         if let Some(reply) = reply {
             if let (WRITE | MODIFY, true, Some(k)) = (reply.kind, reply.yes, of_it) {
                 self.noted[k].stored += 1;
+                if self.dropped.remove(&(brick, message.stripe, message.time)) {
+                    self.did.add("a dropped time was stored again", 1);
+                }
             }
             self.fresh.push(self.sent.len());
             self.sent.push(Sent::Back(reply));
@@ -768,10 +814,13 @@ impl<R: Routines> World<R> {
     }
 
     /// The message as the brick takes it, a rule broken or not.
-    fn given(&self, brick: usize, message: &Message) -> Message {
+    fn given(&self, which: usize, brick: usize, message: &Message) -> Message {
         let mut given = message.clone();
         match self.faults.broken {
             Break::OneImage => given.stripe = 0,
+            // A Drop has no time 0.
+            Break::DropsNewest if message.kind == DROP => given.time = self.state(brick, message.stripe).newest().max(16),
+            Break::DropsChosen if message.kind == TRIM && self.ahead.contains_key(&which) => given.kind = DROP,
             Break::AnyOldTime if message.kind == MODIFY => given.old_time = self.state(brick, message.stripe).newest(),
             Break::ParityStays if brick as u64 >= self.settings.shape.m => given.old_block.clone_from(&message.block),
             _ => {}
@@ -790,6 +839,43 @@ impl<R: Routines> World<R> {
         reply
     }
 
+    /// Takes a promise that is ahead back to the newest time.
+    fn drop_promise(&mut self, brick: usize, stripe: u64) {
+        let (own, mut state) = (self.own(stripe), self.state(brick, stripe));
+        state.promise = state.promise.min(state.newest());
+        let image = image::write(self.settings, brick as u64, &state).expect("an image of the run");
+        self.images[brick][own].copy_from_slice(&image);
+    }
+
+    /// Notes what a Drop or an early Trim did.
+    fn note_clearing(&mut self, which: usize, brick: usize, message: &Message) {
+        let Some(&sender) = self.ahead.get(&which) else { return };
+        let own = self.own(message.stripe);
+        let (before, after) = (&self.before[brick][own.clone()], &self.images[brick][own]);
+        let (times, left) = (image::times(before), image::times(after));
+        let freed = times.len() - left.len();
+        let did = &mut self.did;
+        if message.kind == TRIM {
+            did.add("an early Trim reached a brick", 1);
+            did.add("an early Trim freed entries", usize::from(freed > 0));
+            return;
+        }
+        let marks = image::marks(before);
+        did.add("a Drop reached a brick", 1);
+        did.add("a Drop took an entry", freed);
+        did.add("a Drop took the newest entry", usize::from(freed > 0 && times.last() == Some(&message.time)));
+        did.add("a Drop took a mark", usize::from(freed > 0 && marks.contains(&message.time)));
+        did.add("a Drop made a mark its block", usize::from(!marks.contains(&message.time) && image::marks(after).len() < marks.len()));
+        did.add("a Drop met the only entry", usize::from(times == [message.time]));
+        did.add("a Drop came again", usize::from(!self.carried.insert(which)));
+        let ended = self.operations[sender].ended.as_ref().map(|(_, end)| end);
+        did.add("a Drop came after its coordinator's crash", usize::from(ended == Some(&End::Cut)));
+        did.add("a Drop came after its operation's end", usize::from(ended.is_some_and(|end| *end != End::Cut)));
+        if freed > 0 {
+            self.dropped.insert((brick, message.stripe, message.time));
+        }
+    }
+
     /// Notes what marks did at a message.
     fn note_marks(&mut self, brick: usize, message: &Message, reply: Option<&Reply>) {
         let own = self.own(message.stripe);
@@ -804,7 +890,7 @@ impl<R: Routines> World<R> {
             ORDER_BLOCK if given => "the first round of a block write gave a mark's block",
             _ => return,
         };
-        self.marks.add(what, 1);
+        self.did.add(what, 1);
     }
 
     /// After an event on a stripe: the bytes of all other stripes' images are those before it.
@@ -843,6 +929,9 @@ impl<R: Routines> World<R> {
         if once(rng, faults.down / 2) {
             self.switch(rng.below(n as u64) as usize, true);
         }
+        if !self.late.is_empty() && rng.once_in(12) {
+            self.arrive_late(rng);
+        }
         if once(rng, faults.again) && !self.sent.is_empty() {
             // Anything sent so far: again, late, or though it was lost.
             self.arrive(rng.below(self.sent.len() as u64) as usize);
@@ -863,12 +952,27 @@ impl<R: Routines> World<R> {
             return;
         }
         let which = self.fresh.swap_remove(rng.below(self.fresh.len() as u64) as usize);
-        let trim = matches!(&self.sent[which], Sent::To(_, message) if message.kind == TRIM);
-        if once(rng, faults.lost) || trim && once(rng, faults.trims) {
+        let ahead = self.ahead.contains_key(&which);
+        let trim = !ahead && matches!(&self.sent[which], Sent::To(_, message) if message.kind == TRIM);
+        if once(rng, faults.lost) || trim && once(rng, faults.trims) || ahead && once(rng, faults.drops) {
             return;
         }
-        let rounds = self.sent.len();
+        if ahead && once(rng, faults.late) {
+            self.late.push(which);
+            return;
+        }
+        let mut rounds = self.sent.len();
         self.arrive(which);
+        if self.ahead.contains_key(&rounds) {
+            if once(rng, faults.first) {
+                for place in rounds..rounds + n {
+                    self.fresh.retain(|&other| other != place);
+                    self.arrive(place);
+                    self.store_again(place);
+                }
+            }
+            rounds += n;
+        }
         let begun = match self.sent.get(rounds) {
             Some(Sent::To(_, message)) if message.holds_a_block() => Some(message.time),
             _ => None,
@@ -888,6 +992,26 @@ impl<R: Routines> World<R> {
                 self.fresh.retain(|&place| !(rounds..rounds + n).contains(&place));
             }
             self.crash(coordinator_of(time) as usize, rng);
+        }
+    }
+
+    /// A Drop or an early Trim that was held back arrives; half of them may come again.
+    fn arrive_late(&mut self, rng: &mut Rng) {
+        let k = rng.below(self.late.len() as u64) as usize;
+        let which = if rng.once_in(2) { self.late.swap_remove(k) } else { self.late[k] };
+        self.arrive(which);
+    }
+
+    /// The Write or Modify of a time that its brick just dropped comes again.
+    fn store_again(&mut self, dropped: usize) {
+        let Sent::To(brick, Message { stripe, time, .. }) = self.sent[dropped] else { return };
+        let of_it = |sent: &Sent| match sent {
+            Sent::To(to, message) => message.holds_a_block() && (*to, message.stripe, message.time) == (brick, stripe, time),
+            Sent::Back(_) => false,
+        };
+        let again = self.sent.iter().position(of_it).filter(|_| self.dropped.contains(&(brick, stripe, time)));
+        if let Some(which) = again {
+            self.arrive(which);
         }
     }
 
@@ -935,6 +1059,9 @@ impl<R: Routines> World<R> {
             while !self.idle(c) && !self.fresh.is_empty() {
                 let which = self.fresh.swap_remove(rng.below(self.fresh.len() as u64) as usize);
                 self.arrive(which);
+                if !self.late.is_empty() && rng.once_in(4) {
+                    self.arrive_late(rng);
+                }
             }
             if rng.once_in(2) {
                 self.fresh.clear();
@@ -982,7 +1109,7 @@ impl<R: Routines> World<R> {
         let stripes = by_stripe(all);
         tally.add("run on 3 or more stripes", usize::from(stripes.len() >= 3));
         tally.add("run with 5 or more on each of two stripes", usize::from(stripes.iter().filter(|list| list.len() >= 5).count() >= 2));
-        for (what, count) in &self.marks.0 {
+        for (what, count) in &self.did.0 {
             tally.add(what.as_str(), *count);
         }
         for (o, noted) in all.iter().zip(&self.noted) {
@@ -1011,6 +1138,42 @@ impl<R: Routines> World<R> {
         let rows: Vec<String> = self.operations.iter().zip(&self.noted).map(|row| format!("  {row:?}")).collect();
         format!("seed {seed}, {:?}, {:?}: {:?}\n{}", self.settings, self.faults, self.fault(), rows.join("\n"))
     }
+}
+
+/// Everything under way arrives, in the order of sending; a message that doesn't reach its brick is lost.
+pub fn settle<R: Routines>(world: &mut World<R>, reaches: impl Fn(usize, &Message) -> bool) {
+    settle_late(world, None, reaches);
+}
+
+/// The same, but what goes to one brick or comes from it waits until nothing else is under way.
+pub fn settle_late<R: Routines>(world: &mut World<R>, late: Option<usize>, reaches: impl Fn(usize, &Message) -> bool) {
+    while !world.fresh.is_empty() {
+        let brick = |which: &usize| match &world.sent[*which] {
+            Sent::To(brick, _) => *brick,
+            Sent::Back(reply) => reply.brick as usize,
+        };
+        let first = world.fresh.iter().position(|which| Some(brick(which)) != late).unwrap_or(0);
+        let which = world.fresh.remove(first);
+        let lost = matches!(&world.sent[which], Sent::To(brick, message) if !reaches(*brick, message));
+        if !lost {
+            world.arrive(which);
+        }
+    }
+}
+
+/// How the operations ended, in the order of their starts.
+pub fn ends<R: Routines>(world: &World<R>) -> Vec<&End> {
+    world.operations.iter().map(|o| &o.ended.as_ref().expect("it ended").1).collect()
+}
+
+/// Their letters.
+pub fn letters<R: Routines>(world: &World<R>) -> String {
+    world.noted.iter().map(|noted| noted.letter.expect("it ended")).collect()
+}
+
+/// Of messages of one kind, how many rounds were sent.
+pub fn rounds<R: Routines>(world: &World<R>, kind: u8) -> usize {
+    world.sent.iter().filter(|sent| matches!(sent, Sent::To(0, message) if message.kind == kind)).count()
 }
 
 /// How an operation went, in words that are the same for stripes and blocks; of a block write also by which way.
@@ -1060,6 +1223,21 @@ pub const OFTEN_OF_BLOCKS: [&str; 26] = [
     "block letter G",
     "block letter W",
     "block letter C",
+];
+
+/// What runs with cut writes and short logs should show often.
+pub const OFTEN_OF_DROPS: [&str; 11] = [
+    "a Drop reached a brick",
+    "a Drop took an entry",
+    "a Drop took the newest entry",
+    "a Drop took a mark",
+    "a Drop met the only entry",
+    "a Drop came again",
+    "a Drop came after its coordinator's crash",
+    "a Drop came after its operation's end",
+    "a dropped time was stored again",
+    "an early Trim reached a brick",
+    "an early Trim freed entries",
 ];
 
 /// What every run of enough length should show often. X is rare: it takes a recovery that a later write overtakes.
@@ -1128,6 +1306,18 @@ pub fn some_run<R: Routines>(seed: u64, most: usize, reads: usize, change: impl 
     world
 }
 
+/// Faults and settings under which Drops go about: m above 1, logs of two entries (of some more in a few runs), stores that are mostly cut
+/// after a few of their messages, and Drops and early Trims that come late, again or never.
+pub fn cut_short(faults: &mut Faults, settings: &mut Settings) {
+    let shape = &mut settings.shape;
+    shape.n = shape.n.max(4);
+    shape.m = shape.m.max(2);
+    settings.capacity = if settings.capacity == 6 { 4 } else { 2 };
+    faults.short = if faults.short == 0 { 1 } else { faults.short.min(2) };
+    faults.again = if faults.again == 0 { 6 } else { faults.again };
+    faults.first = if faults.first == 0 { 3 } else { faults.first };
+}
+
 /// Runs of up to so many operations on a set that breaks a rule: how many have a stripe without an order, which both searches say
 /// alike; in how many an event changed another stripe's image; in how many two operations have one time; and in how many a recovery met
 /// blocks that disagree.
@@ -1163,5 +1353,18 @@ pub fn broken_block_runs<R: Routines>(runs: u64) -> [[usize; 2]; 3] {
         let [without, strayed, shared, disagreed] = broken_runs::<R>(370_000..370_000 + runs, 5, change);
         assert_eq!((strayed, shared), (0, 0));
         [without, disagreed]
+    })
+}
+
+/// Sets in which Drops take the newest entry, or early Trims the chosen time, each in so many runs: how many of those have no order.
+pub fn broken_drop_runs<R: Routines>(runs: u64) -> [usize; 2] {
+    [Break::DropsNewest, Break::DropsChosen].map(|broken| {
+        let change = |faults: &mut Faults, settings: &mut Settings| {
+            cut_short(faults, settings);
+            (faults.broken, faults.drops) = (broken, 0);
+        };
+        let [without, strayed, shared, _] = broken_runs::<R>(380_000..380_000 + runs, 6, change);
+        assert_eq!((strayed, shared), (0, 0));
+        without
     })
 }

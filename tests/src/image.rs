@@ -155,6 +155,14 @@ pub fn marks(image: &[u8]) -> Vec<u64> {
     marks.map(|block| number64(block, 4)).collect()
 }
 
+/// The times of an image's entries, marks too.
+pub fn times(image: &[u8]) -> Vec<u64> {
+    let entries = image
+        .chunks(BLOCK)
+        .filter(|block| [ENTRY, MARK].contains(&block[2]));
+    entries.map(|block| number64(block, 4)).collect()
+}
+
 /// The time of an image's lowest entry.
 pub fn lowest(image: &[u8]) -> u64 {
     number64(image, BLOCK + 4)

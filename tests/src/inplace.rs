@@ -262,17 +262,40 @@ impl Brick {
         if drop == 0 {
             return;
         }
-        let kept = opened.count - drop;
         if opened.marks >> drop & 1 == 1 {
-            // The lowest entry that stays is a mark: it becomes its block.
-            let from = BLOCK * opened.held(drop) + 16;
-            image.copy_within(from..from + self.size, BLOCK * (drop + 1) + 16);
-            image[BLOCK * (drop + 1) + 2] = ENTRY;
-            Self::seal(&mut image[BLOCK * (drop + 1)..][..BLOCK]);
+            // The lowest entry that stays is a mark.
+            self.hold(image, &opened, drop);
         }
-        image.copy_within(BLOCK * (drop + 1)..BLOCK * (opened.count + 1), BLOCK);
-        image[BLOCK * (kept + 1)..BLOCK * (opened.count + 1)].fill(0);
-        for block in image[BLOCK * (kept + 1)..BLOCK * (opened.count + 1)].chunks_exact_mut(BLOCK) {
+        self.remove(image, &opened, 0, drop);
+    }
+
+    pub fn drop_entry(&self, image: &mut [u8], time: u64) {
+        let opened = self.open(image).unwrap();
+        let Some(k) = (0..opened.count).find(|&k| opened.times[k] == time) else { return };
+        if opened.count == 1 {
+            return;
+        }
+        if k + 1 < opened.count && opened.marks >> k & 0b11 == 0b10 {
+            // A block goes, and a mark stands right above it.
+            self.hold(image, &opened, k + 1);
+        }
+        self.remove(image, &opened, k, 1);
+    }
+
+    /// Makes entry k, a mark, the block that it means.
+    fn hold(&self, image: &mut [u8], opened: &Opened, k: usize) {
+        let from = BLOCK * opened.held(k) + 16;
+        image.copy_within(from..from + self.size, BLOCK * (k + 1) + 16);
+        image[BLOCK * (k + 1) + 2] = ENTRY;
+        Self::seal(&mut image[BLOCK * (k + 1)..][..BLOCK]);
+    }
+
+    /// Takes out so many entries from entry k on; the last blocks are unused then.
+    fn remove(&self, image: &mut [u8], opened: &Opened, k: usize, count: usize) {
+        let (kept, end) = (opened.count - count, BLOCK * (opened.count + 1));
+        image.copy_within(BLOCK * (k + count + 1)..end, BLOCK * (k + 1));
+        image[BLOCK * (kept + 1)..end].fill(0);
+        for block in image[BLOCK * (kept + 1)..end].chunks_exact_mut(BLOCK) {
             block[0] = 1;
         }
         self.write_head(image, kept, opened.promise);

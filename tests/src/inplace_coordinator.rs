@@ -12,6 +12,7 @@ pub const ORDER_BLOCK: u8 = 4;
 pub const WRITE: u8 = 5;
 pub const MODIFY: u8 = 6;
 pub const TRIM: u8 = 7;
+pub const DROP: u8 = 8;
 
 const READING: u8 = 1;
 const WRITING: u8 = 2;
@@ -57,6 +58,8 @@ pub enum Act {
     Refused(u32),
     Waits,
     Sends(Message),
+    /// Drops or early Trims, then a round.
+    Clears(Message, Message),
     Written(Message, char),
     Read(Option<Message>, char),
     Aborted(char),
@@ -462,12 +465,25 @@ impl Coordinator {
             if !self.recover(&bricks[..count]) {
                 return self.abort();
             }
-            return self.store();
+            if highest == 0 || count < self.counted.count_ones() as usize {
+                return self.store();
+            }
+            let trim = Message { time: highest, ..self.message(TRIM) };
+            return Self::after(trim, self.store());
         }
         if highest == 0 {
             return self.abort();
         }
-        self.open(ORDER_READ, highest)
+        let drop = Message { time: highest, ..self.message(DROP) };
+        Self::after(drop, self.open(ORDER_READ, highest))
+    }
+
+    /// A round with a message ahead of it, which isn't sent if no round is.
+    fn after(ahead: Message, act: Act) -> Act {
+        match act {
+            Act::Sends(round) => Act::Clears(ahead, round),
+            act => act,
+        }
     }
 
     /// The stripe that was found on these bricks, with the block of a block write in its place; a block write names no bricks. Says whether

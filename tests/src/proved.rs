@@ -255,24 +255,36 @@ pub mod record {
 /// The same of an answer.
 pub mod answer {
     pub const NUMBERS: usize = 16;
+    /// How many broadcasts there are.
     pub const SENT: usize = 0;
-    pub const TIME: usize = 1;
-    pub const ROUND: usize = 2;
-    pub const MAX: usize = 3;
     pub const SEEN_TIME: usize = 4;
-    pub const STRIPE: usize = 8;
     pub const SEEN_STRIPE: usize = 9;
-    pub const OLD: usize = 11;
-    pub const BLOCK: usize = 12;
     pub const SEEN_BLOCK: usize = 15;
 
     pub const BYTES: usize = 53;
-    pub const KIND: usize = 0;
     pub const SEEN: usize = 1;
     pub const SEEN_KIND: usize = 2;
-    pub const TARGETS: usize = 3;
     pub const BRICKS: usize = 19;
     pub const LETTER: usize = 52;
+
+    /// Where a broadcast's message stands: its numbers, then its kind and targets among the bytes.
+    #[derive(Clone, Copy)]
+    pub struct Message {
+        pub time: usize,
+        pub round: usize,
+        pub max: usize,
+        pub stripe: usize,
+        pub old: usize,
+        pub block: usize,
+        pub kind: usize,
+        pub targets: usize,
+    }
+
+    /// The messages in the order in which they are sent: a lone one is the first, of two the second is that of the round.
+    pub const MESSAGES: [Message; 2] = [
+        Message { time: 1, round: 2, max: 3, stripe: 8, old: 11, block: 12, kind: 0, targets: 3 },
+        Message { time: 5, round: 6, max: 7, stripe: 10, old: 13, block: 14, kind: 51, targets: 35 },
+    ];
 }
 
 /// Kinds of operations.
@@ -304,6 +316,11 @@ impl Lent {
         numbers[record::COORDINATOR] = coordinator;
         numbers[record::N..=record::STRIPES].copy_from_slice(&[n, m, size, stripes].map(|number| number as u64));
         Lent { numbers, bytes: vec![0; record::BYTES], sent: vec![0; answer::NUMBERS], shown: vec![0; answer::BYTES] }
+    }
+
+    /// The places of the messages that the answer sends.
+    pub fn sent(&self) -> &'static [answer::Message] {
+        &answer::MESSAGES[..self.sent[answer::SENT] as usize]
     }
 
     /// A row of an answer's bytes.

@@ -160,11 +160,14 @@ pub fn schedule(rng: &mut Rng) -> Vec<u8> {
         (4, 1),
         (4, 2),
         (4, 2),
+        (4, 2),
         (4, 3),
         (4, 4),
     ];
     let (n, m) = shapes[rng.below(shapes.len() as u64) as usize];
-    let (size, capacity) = (rng.between(1, 8), rng.between(2, 4));
+    // Mostly short logs, so that cut writes fill them.
+    let capacity = if rng.once_in(2) { 2 } else { rng.between(2, 4) };
+    let size = rng.between(1, 8);
     let mut script = Script {
         bench: Bench::default(),
         text: Vec::new(),
@@ -180,6 +183,7 @@ pub fn schedule(rng: &mut Rng) -> Vec<u8> {
         open: vec![Open::default(); 4],
         old: Vec::new(),
         trims: Vec::new(),
+        cuts: rng.between(1, 4),
         clock: 0,
         rising: !rng.once_in(4),
         at_once: rng.between(1, 3) as usize,
@@ -196,7 +200,10 @@ struct Plan {
     open: Vec<Open>,
     /// Messages and replies left behind by rounds that are over.
     old: Vec<usize>,
+    /// Trims and Drops that are carried before long.
     trims: Vec<usize>,
+    /// A write is cut in its Write round once in so many.
+    cuts: u64,
     clock: u64,
     /// Whether each start reads a higher clock than the one before.
     rising: bool,
@@ -325,19 +332,53 @@ impl Plan {
                 self.trims.extend(sent);
             }
         } else if !sent.is_empty() {
-            let (first, writes) = (sent[0], self.open[c].writes);
+            let writes = self.open[c].writes;
             self.leave(c);
+            // Drops or early Trims come before the round's messages.
+            let (ahead, round) = sent.split_at(sent.len() - self.script.n as usize);
             self.open[c] = Open {
                 runs: true,
                 writes,
-                round: sent,
+                round: round.to_vec(),
                 replies: Vec::new(),
             };
-            // A cut that leaves a Write on one brick: a later recovery looks further down.
-            if writes && rng.once_in(4) {
-                self.carry(&[first]);
+            self.clear(rng, ahead);
+            // A cut that leaves a Write on a few bricks: a later recovery looks further down.
+            if writes && rng.once_in(self.cuts) {
+                let few = rng.between(1, self.quorum.min(2) as u64) as usize;
+                let stored: Vec<usize> = rng
+                    .shuffled(round.len())
+                    .into_iter()
+                    .take(few)
+                    .map(|k| round[k])
+                    .collect();
+                self.carry(&stored);
                 self.crash(c);
             }
+        }
+    }
+
+    /// Drops or early Trims are carried now, all or some, with some again; soon; late; or never.
+    fn clear(&mut self, rng: &mut Rng, ahead: &[usize]) {
+        match rng.below(6) {
+            _ if ahead.is_empty() => {}
+            0 | 1 => {
+                self.carry(ahead);
+            }
+            2 => {
+                let some = rng.between(1, ahead.len() as u64) as usize;
+                let mut numbers: Vec<usize> = rng
+                    .shuffled(ahead.len())
+                    .into_iter()
+                    .take(some)
+                    .map(|k| ahead[k])
+                    .collect();
+                numbers.push(numbers[0]);
+                self.carry(&numbers);
+            }
+            3 => self.trims.extend(ahead),
+            4 => self.old.extend(ahead),
+            _ => {}
         }
     }
 

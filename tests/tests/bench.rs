@@ -1,6 +1,7 @@
 //! The bench: its worked case, and the lines that read.
 
 use jilbagum_tests::bench::{play, Bench};
+use jilbagum_tests::brick::DROP;
 
 /// Plays lines that stand between semicolons.
 fn played(script: &str) -> String {
@@ -210,4 +211,111 @@ fn no_message_past_127() {
     assert_eq!(bench.line(b"down 0"), b"");
     assert_eq!(bench.line(b"carry 127 1"), b"", "lost");
     assert_eq!(bench.line(b"crash 0"), b"0 write 16 C cut\n");
+}
+
+/// A script, then message 1 again until so many are sent.
+fn pumped(script: &str, sent: usize) -> Bench {
+    let mut bench = Bench::default();
+    for line in script.split(';') {
+        bench.line(line.trim_start().as_bytes());
+    }
+    while bench.sent() < sent {
+        assert_eq!(bench.line(b"carry 1"), b"");
+    }
+    assert_eq!(bench.sent(), sent);
+    bench
+}
+
+/// Two bricks, m 2: a cut write left time 16 on brick 0, and message 15 is the reply with which
+/// the recovery of a read finds it there alone.
+const TO_DROPS: &str = "set 2 2 1 2; write 0 1 0102; carry 1 2 3 4 5; crash 0; \
+    read 1 2 0; carry 8 9 10 11 12 13 14";
+
+/// One brick whose log is full; message 11 is the reply with which a recovery finds time 16 on it.
+const TO_EARLY_TRIMS: &str = "set 1 1 1 2; write 0 1 0a; carry 1 2 3 4; write 0 2 0b; carry 6; \
+    crash 0; read 1 3 0; carry 8 9 10";
+
+#[test]
+fn drops_come_first_by_brick_then_the_round() {
+    let mut bench = pumped(TO_DROPS, 15);
+    assert_eq!(bench.line(b"carry 15"), b"");
+    assert_eq!((bench.sent(), bench.rounds(DROP)), (19, 1));
+    // 16 and 17 are the Drops, of which that to brick 0 finds an entry, once.
+    for (carried, drops, dropped) in [("17", 1, 0), ("16", 2, 1), ("16 17", 4, 1)] {
+        assert_eq!(bench.line(format!("carry {carried}").as_bytes()), b"");
+        let cleared = bench.cleared();
+        assert_eq!((cleared.drops, cleared.dropped), (drops, dropped));
+        assert_eq!(bench.sent(), 19, "no replies");
+    }
+    // 18 and 19 are the round: they have replies.
+    bench.line(b"carry 18 19");
+    assert_eq!(bench.sent(), 21);
+    // Time 0 is found: no early Trims, the store alone.
+    bench.line(b"carry 20 21");
+    assert_eq!((bench.sent(), bench.cleared().early_trims), (23, 0));
+    assert_eq!(bench.line(b"carry 22 23 24 25"), b"1 read 33 L 0000\n");
+}
+
+#[test]
+fn early_trims_come_before_the_store() {
+    let mut bench = pumped(TO_EARLY_TRIMS, 11);
+    assert_eq!(bench.line(b"carry 11"), b"");
+    assert_eq!(bench.sent(), 13);
+    assert_eq!(bench.line(b"carry 12"), b"");
+    let cleared = bench.cleared();
+    assert_eq!((cleared.early_trims, cleared.trimmed), (1, 1));
+    assert_eq!(bench.line(b"carry 13 14"), b"1 read 49 H 0a\n");
+    // Message 15 is the store's own Trim, which is no early one.
+    assert_eq!(bench.line(b"carry 15"), b"");
+    assert_eq!((bench.sent(), bench.cleared().early_trims), (15, 1));
+}
+
+/// All 2n messages fit under 127, or the reply is refused and stays uncounted.
+#[test]
+fn what_is_ahead_fits_with_its_round_or_not_at_all() {
+    for (script, reply, n) in [(TO_DROPS, 15, 2), (TO_EARLY_TRIMS, 11, 1)] {
+        let carry = format!("carry {reply}");
+        for sent in 120..=127 {
+            let mut bench = pumped(script, sent);
+            let fits = sent + 2 * n <= 127;
+            let (first, again) = if fits {
+                ("", "refused 11\n")
+            } else {
+                ("refused 12\n", "refused 12\n")
+            };
+            assert_eq!(bench.line(carry.as_bytes()), first.as_bytes(), "at {sent}");
+            assert_eq!(bench.sent(), if fits { sent + 2 * n } else { sent });
+            assert_eq!(bench.line(carry.as_bytes()), again.as_bytes(), "at {sent}");
+            let cut = format!("1 read {} C cut\n", if n == 2 { 33 } else { 49 });
+            assert_eq!(bench.line(b"crash 1"), cut.as_bytes());
+        }
+    }
+}
+
+/// At the limit a Drop and an early Trim are carried, and lost at a down brick; a message of the
+/// round isn't, since its reply would be past it.
+#[test]
+fn drops_and_early_trims_are_carried_at_the_limit() {
+    let mut bench = pumped(TO_DROPS, 123);
+    assert_eq!(bench.line(b"carry 15"), b"");
+    assert_eq!(bench.sent(), 127);
+    bench.line(b"down 0");
+    assert_eq!(
+        (bench.line(b"carry 124 126"), bench.cleared().drops),
+        (vec![], 0)
+    );
+    bench.line(b"up 0");
+    assert_eq!(
+        bench.line(b"carry 124 126 127 125 124"),
+        b"refused 12\nrefused 12\n"
+    );
+    let cleared = bench.cleared();
+    assert_eq!((cleared.drops, cleared.dropped, bench.sent()), (3, 1, 127));
+    let mut bench = pumped(TO_EARLY_TRIMS, 125);
+    assert_eq!(bench.line(b"carry 11 126 127 126"), b"refused 12\n");
+    let cleared = bench.cleared();
+    assert_eq!(
+        (cleared.early_trims, cleared.trimmed, bench.sent()),
+        (2, 1, 127)
+    );
 }

@@ -1,52 +1,17 @@
 //! Operations on one block in the order of their stripe: schedules played by hand, histories, and random runs of the independent bricks and
 //! coordinators. Letters of ends, in runs and by hand.
 
-use jilbagum_tests::brick::{Message, FULL, MODIFY, NEWER, ORDER, ORDER_BLOCK, ORDER_READ, PROMISE, TRIM, WRITE};
+use jilbagum_tests::brick::{DROP, FULL, MODIFY, NEWER, ORDER, ORDER_BLOCK, ORDER_READ, PROMISE, TRIM, WRITE};
 use jilbagum_tests::coordinator::Outcome;
 use jilbagum_tests::fixtures::{reply, told};
 use jilbagum_tests::harness::{
-    broken_block_runs, letter_fits, some_run, Break, Faults, Independent, Proved, Routines, Sent, Start, World, LETTERS, OFTEN_OF_BLOCKS,
+    broken_block_runs, ends, letter_fits, letters, rounds, settle, settle_late, some_run, Break, Faults, Independent, Proved, Routines,
+    Sent, Start, World, LETTERS, OFTEN_OF_BLOCKS,
 };
 use jilbagum_tests::order::{brute_order, by_stripe, has_order, is_order, End, Operation};
 use jilbagum_tests::settings::{Settings, Shape};
 use jilbagum_tests::tally::Tally;
 use std::ops::Range;
-
-/// Everything under way arrives, in the order of sending; a message that doesn't reach its brick is lost.
-fn settle<R: Routines>(world: &mut World<R>, reaches: impl Fn(usize, &Message) -> bool) {
-    settle_late(world, None, reaches);
-}
-
-/// The same, but what goes to one brick or comes from it waits until nothing else is under way.
-fn settle_late<R: Routines>(world: &mut World<R>, late: Option<usize>, reaches: impl Fn(usize, &Message) -> bool) {
-    while !world.fresh.is_empty() {
-        let brick = |which: &usize| match &world.sent[*which] {
-            Sent::To(brick, _) => *brick,
-            Sent::Back(reply) => reply.brick as usize,
-        };
-        let first = world.fresh.iter().position(|which| Some(brick(which)) != late).unwrap_or(0);
-        let which = world.fresh.remove(first);
-        let lost = matches!(&world.sent[which], Sent::To(brick, message) if !reaches(*brick, message));
-        if !lost {
-            world.arrive(which);
-        }
-    }
-}
-
-/// How the operations ended, in the order of their starts.
-fn ends<R: Routines>(world: &World<R>) -> Vec<&End> {
-    world.operations.iter().map(|o| &o.ended.as_ref().expect("it ended").1).collect()
-}
-
-/// Their letters.
-fn letters<R: Routines>(world: &World<R>) -> String {
-    world.noted.iter().map(|noted| noted.letter.expect("it ended")).collect()
-}
-
-/// Of messages of one kind, how many rounds were sent.
-fn rounds<R: Routines>(world: &World<R>, kind: u8) -> usize {
-    world.sent.iter().filter(|sent| matches!(sent, Sent::To(0, message) if message.kind == kind)).count()
-}
 
 /// Seven bricks, five of the data: the quorum is six. A stripe is written, then its block 2; that Modify reaches bricks 0 to 5, its Trims
 /// are lost, brick 5 goes down, and a read of the stripe has to recover. Of the bricks that answer, 0 to 4 hold the finished block
@@ -244,9 +209,9 @@ fn an_overtaken_block_write_aborts() {
 }
 
 /// X in a run of right bricks: six of them, two of the data. Time 16 is on bricks 0 to 3, a cut write's 33 on 0, 1 and 4, where the Trim of
-/// 16 leaves nothing else. The read's recovery meets 33 on one of four bricks and looks below it: brick 4 has nothing there, brick 5 time
-/// 0. Meanwhile a write finishes on bricks 2 to 5, and its Trim leaves 33 alone on bricks 0 and 1, which then still say yes: all four said
-/// yes, and time 0 is on one brick.
+/// 16 leaves nothing else. The read's recovery meets 33 on one of four bricks and looks below it, its Drops being lost: brick 4 has nothing
+/// there, brick 5 time 0. Meanwhile a write finishes on bricks 2 to 5, and its Trim leaves 33 alone on bricks 0 and 1, which then still say
+/// yes: all four said yes, and time 0 is on one brick.
 fn finds_too_little<R: Routines>() {
     let mut world = World::<R>::new(Settings::new(6, 2, 1, 4, 1), vec![0], Faults::none());
     let sent = |world: &World<R>, kind: u8, time: u64, to: usize| {
@@ -260,7 +225,8 @@ fn finds_too_little<R: Routines>() {
     world.cut(1);
     world.arrive(sent(&world, TRIM, 16, 4));
     world.start(2, 0, 3, Start::Read(0));
-    settle(&mut world, |brick, message| if message.round < 3 { [1, 2, 3, 5].contains(&brick) } else { brick >= 4 });
+    let reaches = |round: u64, brick: usize| if round < 3 { [1, 2, 3, 5].contains(&brick) } else { brick >= 4 };
+    settle(&mut world, |brick, message| message.kind != DROP && reaches(message.round, brick));
     world.start(3, 0, 4, Start::Write(vec![5, 6]));
     settle(&mut world, |brick, message| brick >= 2 || message.kind == TRIM);
     for brick in [0, 1] {
@@ -449,7 +415,7 @@ fn small_runs_by_brute_force() {
 
 #[test]
 fn broken_block_writes_are_noticed() {
-    let [lookup, old, parity] = broken_block_runs::<Independent>(1000);
+    let [lookup, old, parity] = broken_block_runs::<Independent>(3000);
     println!("without an order, with blocks that disagree: lookups of blocks only {lookup:?}, any old time {old:?}, parity left {parity:?}");
     // A recovery finds most of the blocks that a Modify of any old time spoils, and aborts.
     assert!(lookup[0] > 50 && old[0] + old[1] > 2 && parity[0] > 50 && parity[1] > 50);

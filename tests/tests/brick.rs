@@ -228,6 +228,160 @@ fn trim_drops_what_is_under_its_time_but_never_the_newest() {
     assert_eq!(image[2 * BLOCK..2 * BLOCK + 3], [1, 0, 0]);
 }
 
+/// A Drop of a time, at brick 1: it has no reply.
+fn drop_time(image: &mut [u8], time: u64) {
+    let message = Message::plain(DROP, time, 2);
+    assert_eq!(take(settings(), 1, image, &message), Ok(None));
+}
+
+#[test]
+fn drop_takes_the_entry_of_its_time_alone() {
+    let log = [(0, 5), (32, 6), (48, 7)];
+    for (time, dropped) in [
+        (32, Some(1)),
+        (48, Some(2)),
+        // Not in the log.
+        (16, None),
+        (31, None),
+        (33, None),
+        (47, None),
+        (49, None),
+        (1000, None),
+        (NO_UPPER_END - 1, None),
+    ] {
+        for promise in [0, 32, 40, 48, 1000] {
+            let mut image = image(promise, &log);
+            let before = image.clone();
+            let mut kept = log.to_vec();
+            if let Some(place) = dropped {
+                kept.remove(place);
+            }
+            // A repeated Drop finds nothing more.
+            for _ in 0..3 {
+                drop_time(&mut image, time);
+                assert_eq!(state(&image), (promise, kept.clone()), "drop {time}");
+            }
+            assert_eq!(image == before, dropped.is_none());
+        }
+    }
+    // A freed block of the image is an unused block again, and the entries stand in a row.
+    let mut image = image(40, &log);
+    drop_time(&mut image, 32);
+    assert_eq!(image[2 * BLOCK + 4], 48);
+    assert_eq!(image[3 * BLOCK..3 * BLOCK + 3], [1, 0, 0]);
+}
+
+#[test]
+fn drop_leaves_the_only_entry() {
+    for log in [[(0, 5)], [(32, 6)], [(1 << 40, 7)]] {
+        let mut image = image(40, &log);
+        let before = image.clone();
+        for time in [16, 32, 33, 1 << 40] {
+            drop_time(&mut image, time);
+            assert_eq!(image, before);
+        }
+    }
+    // One after another: the last entry stays, whichever it is.
+    for order in [[16, 32, 48], [48, 32, 16], [32, 48, 16]] {
+        let mut image = image(40, &[(16, 5), (32, 6), (48, 7)]);
+        order.iter().for_each(|&time| drop_time(&mut image, time));
+        let last = order[2];
+        assert_eq!(state(&image), (40, vec![(last, (last / 16 + 4) as u8)]));
+    }
+}
+
+#[test]
+fn a_full_log_says_no_until_a_drop() {
+    let mut image = image(0, &[(0, 5), (32, 6), (48, 7)]);
+    assert_eq!(answer(&mut image, &store(64, 9)), (FULL, 0, None));
+    drop_time(&mut image, 33);
+    assert_eq!(answer(&mut image, &store(64, 9)), (FULL, 0, None));
+    drop_time(&mut image, 32);
+    assert_eq!(answer(&mut image, &store(64, 9)), (NONE, 0, None));
+    assert_eq!(state(&image), (0, vec![(0, 5), (48, 7), (64, 9)]));
+}
+
+/// Newest falls: a Read gives the entry below, and a late Write of the dropped time, or of
+/// one between, is stored again unless the promise is ahead of it.
+#[test]
+fn a_dropped_time_may_be_stored_again() {
+    for (promise, time, said) in [
+        (0, 48, NONE),
+        (48, 48, NONE),
+        (49, 48, PROMISE),
+        (1000, 48, PROMISE),
+        (0, 33, NONE),
+        (40, 39, PROMISE),
+        (0, 32, NEWER),
+        (49, 32, NEWER),
+    ] {
+        let mut image = image(promise, &[(0, 5), (32, 6), (48, 7)]);
+        assert_eq!(answer(&mut image, &store(time, 8)), (NEWER, 0, None));
+        drop_time(&mut image, 48);
+        // A Read says yes or no by the newest time there is now.
+        let fits = promise <= 32;
+        let read = answer(&mut image, &read(64, &[0, 1]));
+        assert_eq!(
+            read,
+            (if fits { NONE } else { PROMISE }, 32, fits.then_some(6))
+        );
+        assert_eq!(answer(&mut image, &store(time, 8)), (said, 0, None));
+        let mut log = vec![(0, 5), (32, 6)];
+        if said == NONE {
+            log.push((time, 8));
+        }
+        assert_eq!(state(&image), (promise, log));
+    }
+    // An Order of the dropped time is taken as any above newest is.
+    let mut image = image(48, &[(0, 5), (32, 6), (48, 7)]);
+    drop_time(&mut image, 48);
+    assert_eq!(
+        answer(&mut image, &Message::plain(ORDER, 48, 1)),
+        (NONE, 0, None)
+    );
+}
+
+/// Whatever is wrong with it, a Drop is refused as a Trim is.
+#[test]
+fn drops_are_refused_as_trims() {
+    let whole = image(40, &[(0, 5), (32, 6)]);
+    let mut torn = whole.clone();
+    torn[600] ^= 1;
+    let ruled = fresh(settings(), 0).unwrap();
+    let mut refusals = Vec::new();
+    for lent in [&whole[..], &torn, &ruled, &whole[1..]] {
+        for brick in [1, 4] {
+            for (stripe, time, round) in [
+                (2, 32, 1),
+                (2, 32, 1000),
+                (2, 0, 1),
+                (2, 15, 1),
+                (2, NO_UPPER_END, 1),
+                (2, u64::MAX, 1),
+                (2, 32, 0),
+                (2, 32, 1001),
+                (3, 32, 1),
+                (3, 0, 0),
+            ] {
+                for wrong in [settings(), Settings::new(4, 2, 1, 33, 3)] {
+                    let [trim, drop] = [TRIM, DROP].map(|kind| {
+                        let message = of_stripe(stripe, Message::plain(kind, time, round));
+                        let mut image = lent.to_vec();
+                        let refusal = take(wrong, brick, &mut image, &message).err();
+                        assert!(refusal.is_none() || image == lent);
+                        refusal
+                    });
+                    assert_eq!(trim, drop, "time {time} round {round} stripe {stripe}");
+                    refusals.extend(drop);
+                }
+            }
+        }
+    }
+    refusals.sort_unstable();
+    refusals.dedup();
+    assert_eq!(refusals, [1, 2, 3, 5, 6, 10, 13]);
+}
+
 #[test]
 fn refused_messages() {
     let image = image(0, &[(0, 5)]);
@@ -238,7 +392,7 @@ fn refused_messages() {
             ..fine.clone()
         },
         Message {
-            kind: 8,
+            kind: DROP + 1,
             ..fine.clone()
         },
         Message {
@@ -280,6 +434,11 @@ fn refused_messages() {
         Message::plain(ORDER, 15, 1),
         Message::plain(TRIM, 0, 1),
         Message::plain(TRIM, 64, 0),
+        Message::plain(DROP, 0, 1),
+        Message::plain(DROP, 15, 1),
+        Message::plain(DROP, NO_UPPER_END, 1),
+        Message::plain(DROP, 64, 0),
+        Message::plain(DROP, 64, 1001),
         Message {
             round: 1001,
             ..store(64, 1)
@@ -416,6 +575,7 @@ fn a_message_changes_its_own_image_alone() {
             ..Message::plain(MODIFY, 64, 2)
         },
         Message::plain(TRIM, 32, 2),
+        Message::plain(DROP, 32, 2),
     ];
     for message in messages {
         for stripe in 0..3 {
@@ -425,9 +585,9 @@ fn a_message_changes_its_own_image_alone() {
             let mut alone = images.clone();
             assert_eq!(reply, take(settings(), 1, &mut alone[stripe], &message));
             assert!(row.chunks(length).eq(alone.iter().map(Vec::as_slice)));
-            // A Read changes nothing, nor does a Trim that finds one entry, nor a
-            // Modify over another time.
-            let one = stripe == 0 && [TRIM, MODIFY].contains(&message.kind);
+            // A Read changes nothing, nor does a Trim or a Drop that finds one entry, nor
+            // a Modify over another time.
+            let one = stripe == 0 && [TRIM, DROP, MODIFY].contains(&message.kind);
             let unchanged = message.kind == READ || one;
             assert_eq!(alone[stripe] == images[stripe], unchanged);
         }
@@ -435,20 +595,23 @@ fn a_message_changes_its_own_image_alone() {
 }
 
 /// Random messages, many of them senseless: a refusal changes nothing, and what
-/// is taken leaves an image that opens, with the newest time never falling.
+/// is taken leaves an image that opens, with the newest time falling by its own
+/// Drop alone.
 #[test]
 fn random_messages() {
     let mut rng = Rng::printed(5);
     let mut image = image(0, &[(0, 5)]);
+    let mut fallen = 0;
     for _ in 0..20_000 {
         let before = image.clone();
+        let newest = state(&before).1.last().unwrap().0;
         let message = Message {
-            kind: rng.below(9) as u8,
+            kind: rng.below(10) as u8,
             stripe: if rng.once_in(10) { 3 } else { rng.below(3) },
-            time: if rng.once_in(20) {
-                rng.number()
-            } else {
-                rng.below(400)
+            time: match rng.below(20) {
+                0 => rng.number(),
+                1..=4 => newest,
+                _ => rng.below(400),
             },
             round: rng.below(1003),
             max: if rng.once_in(3) {
@@ -466,19 +629,23 @@ fn random_messages() {
             },
             old_block: vec![rng.byte(); if rng.once_in(10) { 0 } else { 1 }],
         };
-        let newest = state(&before).1.last().unwrap().0;
         match take(settings(), 1, &mut image, &message) {
             Err(number) => {
                 assert!([2, 10, 13, 14].contains(&number));
                 assert_eq!(image, before);
             }
             Ok(reply) => {
-                assert!(state(&image).1.last().unwrap().0 >= newest);
+                let falls = state(&image).1.last().unwrap().0 < newest;
+                assert!(!falls || (message.kind, message.time) == (DROP, newest));
+                fallen += usize::from(falls);
+                assert_eq!(reply.is_none(), clears(message.kind));
                 assert!(reply.is_none_or(|reply| reply.refusal().is_none()));
             }
         }
-        if newest > 350 {
+        if newest.max(state(&image).0) > 350 {
             image = crate::image(0, &[(0, 5)]);
         }
     }
+    println!("newest fell {fallen} times");
+    assert!(fallen > 20);
 }

@@ -289,6 +289,106 @@ fn trim_makes_the_lowest_kept_mark_its_block() {
     assert_eq!(state(1, &image), (40, vec![(64, Some(6))]));
 }
 
+fn drop_time(brick: u64, image: &mut [u8], time: u64) {
+    let message = Message::plain(DROP, time, 2);
+    assert_eq!(take(settings(), brick, image, &message), Ok(None));
+}
+
+/// The mark right above a dropped block becomes that block; one above a dropped mark, or
+/// one that means another block, stays as it is.
+#[test]
+fn a_dropped_block_makes_the_mark_above_it_its_block() {
+    let log = [&MARKED[..], &[(80, Some(9))]].concat();
+    for (time, kept) in [
+        (
+            32,
+            vec![(0, Some(5)), (48, Some(6)), (64, None), (80, Some(9))],
+        ),
+        (
+            48,
+            vec![(0, Some(5)), (32, Some(6)), (64, None), (80, Some(9))],
+        ),
+        (
+            64,
+            vec![(0, Some(5)), (32, Some(6)), (48, None), (80, Some(9))],
+        ),
+        (80, MARKED.to_vec()),
+        (16, log.clone()),
+        (79, log.clone()),
+    ] {
+        let mut image = image(1, 40, &log);
+        for _ in 0..2 {
+            drop_time(1, &mut image, time);
+            assert_eq!(state(1, &image), (40, kept.clone()), "drop {time}");
+        }
+    }
+    // The lowest entry of all: the next one is lowest then, so no mark.
+    let low = [(16, Some(5)), (32, None), (48, None), (64, Some(9)), (80, None)];
+    for (first, kept) in [
+        (
+            16,
+            vec![(32, Some(5)), (48, None), (64, Some(9)), (80, None)],
+        ),
+        (
+            64,
+            vec![(16, Some(5)), (32, None), (48, None), (80, Some(9))],
+        ),
+    ] {
+        let mut image = image(1, 40, &low);
+        drop_time(1, &mut image, first);
+        assert_eq!(state(1, &image), (40, kept));
+    }
+    let mut image = image(1, 40, &low);
+    for time in [16, 32, 48, 64] {
+        drop_time(1, &mut image, time);
+    }
+    assert_eq!(state(1, &image), (40, vec![(80, Some(9))]));
+    drop_time(1, &mut image, 80);
+    assert_eq!(state(1, &image), (40, vec![(80, Some(9))]));
+}
+
+/// Drops and Trims in any order leave the meaning of every entry that stays, and a lowest
+/// entry that is no mark.
+#[test]
+fn what_stays_means_what_it_meant() {
+    let mut rng = Rng::printed(11);
+    let (mut dropped, mut made) = (0, 0);
+    for _ in 0..3000 {
+        let mut log: Log = vec![(16 * rng.below(2), Some(rng.byte()))];
+        for k in 2..=rng.between(2, 5) {
+            log.push((16 * k, (!rng.once_in(2)).then(|| rng.byte())));
+        }
+        let mut image = image(1, 0, &log);
+        for _ in 0..4 {
+            let before = parse(settings(), 1, &image).unwrap();
+            let time = 16 * rng.between(1, 6);
+            if rng.once_in(6) {
+                trim(1, &mut image, time);
+            } else {
+                let marked = marks(&image);
+                drop_time(1, &mut image, time);
+                let is_mark = marked.contains(&time);
+                made += usize::from(!is_mark && marks(&image).len() < marked.len());
+                let there = before.log.iter().any(|entry| entry.time == time);
+                let gone = there && before.log.len() > 1;
+                assert_eq!(
+                    parse(settings(), 1, &image).unwrap().log.len(),
+                    before.log.len() - usize::from(gone)
+                );
+                dropped += usize::from(gone);
+            }
+            let after = parse(settings(), 1, &image).unwrap();
+            assert_eq!(after.promise, before.promise);
+            for (place, entry) in after.log.iter().enumerate() {
+                let old = before.log.iter().position(|old| old.time == entry.time);
+                assert_eq!(after.meant(place), before.meant(old.expect("an old entry")));
+            }
+        }
+    }
+    println!("{dropped} entries dropped, {made} marks made blocks");
+    assert!(dropped > 1000 && made > 200);
+}
+
 #[test]
 fn refused_10() {
     let image = image(1, 0, &MARKED);
@@ -355,13 +455,13 @@ fn refused_14() {
             assert_eq!(refused(settings(), 4, &torn[1..], &elsewhere), 2);
         }
         // Other kinds, unknown ones too, don't look at it.
-        for kind in [0, READ, ORDER, ORDER_READ, TRIM, 8] {
+        for kind in [0, READ, ORDER, ORDER_READ, TRIM, DROP, DROP + 1] {
             let message = Message {
                 number,
                 targets: vec![0, 1],
                 ..Message::plain(kind, 80, 1)
             };
-            let known = (READ..=TRIM).contains(&kind);
+            let known = (READ..=DROP).contains(&kind);
             let taken = take(settings(), 1, &mut image(1, 0, &MARKED), &message);
             assert_eq!(taken.err(), (!known).then_some(10), "kind {kind}");
         }
@@ -400,7 +500,8 @@ fn images_with_a_lowest_mark_are_refused() {
         order_block(80, 1),
         modify(80, 32, 1, 0, 7),
         Message::plain(TRIM, 80, 1),
-        Message::plain(9, 0, 0),
+        Message::plain(DROP, 32, 1),
+        Message::plain(DROP + 1, 0, 0),
     ];
     for message in messages {
         assert_eq!(refused(settings(), 1, &image, &message), 6);

@@ -87,6 +87,29 @@ fn order_reads(max: u64, round: u64) -> Vec<Message> {
     vec![message; 4]
 }
 
+/// Drops or early Trims of a time, with the number of a recovery round.
+fn clearing(kind: u8, time: u64, round: u64) -> Vec<Message> {
+    let message = Message {
+        time,
+        ..message(kind, round)
+    };
+    vec![message; 4]
+}
+
+/// Drops of a time that a recovery round found, then the next round.
+fn drops_and_order_reads(time: u64, round: u64) -> Vec<Message> {
+    [clearing(DROP, time, round), order_reads(time, round + 1)].concat()
+}
+
+/// The messages of the Write round of data 5, 9.
+fn stores_5_9(round: u64) -> Vec<Message> {
+    let store = |byte| Message {
+        block: vec![byte],
+        ..message(WRITE, round)
+    };
+    [5, 9, 29, 17].map(store).to_vec()
+}
+
 /// Replies with which a read ends after one round.
 fn fine() -> Vec<Reply> {
     vec![
@@ -336,7 +359,7 @@ fn recovery_looks_further_down() {
             reply(ORDER_READ, 2, 2, true, 0, Some(0)),
         ],
     );
-    assert_eq!(step.sent, order_reads(16, 3));
+    assert_eq!(step.sent, drops_and_order_reads(16, 2));
     let step = take_all(
         &mut record,
         vec![
@@ -349,6 +372,126 @@ fn recovery_looks_further_down() {
     let step = take_all(&mut record, yes_from(WRITE, 4, &[0, 1, 2]));
     assert_eq!(outcome(&step), ('L', stripe(&[0, 0], &[1, 2])));
     assert_eq!(step.sent, vec![message(TRIM, 4); 4]);
+}
+
+/// A round whose highest time is on fewer than m of its q bricks: Drop of it, with the number of
+/// that round, to all bricks, then the next round; whatever the others hold, and in each order of
+/// the replies.
+#[test]
+fn a_time_on_too_few_bricks_is_dropped() {
+    let found = |brick, time| reply(ORDER_READ, 2, brick, true, time, Some(7));
+    for others in [
+        [found(0, 0), found(3, 0)],
+        [found(0, 32), found(3, 32)],
+        [found(0, 16), found(3, 32)],
+        [found(0, 16), reply(ORDER_READ, 2, 3, true, 0, None)],
+        [0, 3].map(|brick| reply(ORDER_READ, 2, brick, true, 0, None)),
+    ] {
+        for place in 0..3 {
+            let mut replies = others.to_vec();
+            replies.insert(place, found(1, 48));
+            let mut record = recovering();
+            let step = take_all(&mut record, replies);
+            let expected = Step {
+                sent: drops_and_order_reads(48, 2),
+                ended: None,
+            };
+            assert_eq!(step, expected);
+            let running = record.running.as_ref().unwrap();
+            assert_eq!((running.open, running.round, running.max), (ORDER_READ, 3, 48));
+        }
+    }
+}
+
+/// Round after round, each Drop has the time and the number of its own round; then the time found
+/// below.
+#[test]
+fn drops_of_several_rounds() {
+    let mut record = recovering();
+    for (round, time) in [(2, 80), (3, 64), (4, 48)] {
+        let replies = [
+            reply(ORDER_READ, round, 2, true, time, Some(7)),
+            reply(ORDER_READ, round, 0, true, 16, Some(5)),
+            reply(ORDER_READ, round, 1, true, 16, Some(9)),
+        ];
+        let step = take_all(&mut record, replies.to_vec());
+        assert_eq!(step.sent, drops_and_order_reads(time, round));
+    }
+    // An early Trim may follow Drops of earlier rounds.
+    let found = |(brick, byte)| reply(ORDER_READ, 5, brick, true, 16, Some(byte));
+    let all = [(2, 29), (0, 5), (1, 9)].map(found);
+    let step = take_all(&mut record, all.to_vec());
+    assert_eq!(step.sent, [clearing(TRIM, 16, 5), stores_5_9(6)].concat());
+    let step = take_all(&mut record, yes_from(WRITE, 6, &[0, 1, 2]));
+    assert_eq!(outcome(&step), ('L', stripe(&[5, 9], &[0, 1])));
+    assert_eq!(step.sent, vec![message(TRIM, 6); 4]);
+}
+
+/// Nothing is dropped before the first recovery round, whatever the times of the Read round, nor
+/// where the recovery aborts.
+#[test]
+fn what_drops_nothing() {
+    let kinds = |step: &Step| step.sent.iter().map(|message| message.kind).collect::<Vec<_>>();
+    for found in [[40, 24, 24], [40, 40, 24], [16, 0, 40]] {
+        let mut replies = fine();
+        for (reply, found) in replies.iter_mut().zip(found) {
+            reply.found = found;
+        }
+        let mut record = reading();
+        assert_eq!(kinds(&take_all(&mut record, replies)), [ORDER_READ; 4]);
+    }
+    // A no aborts, with a time on one brick only.
+    let one = reply(ORDER_READ, 2, 0, true, 48, Some(7));
+    let zero = reply(ORDER_READ, 2, 1, true, 0, Some(0));
+    let no = reply(ORDER_READ, 2, 2, false, 0, None);
+    aborts(&mut recovering(), 'O', vec![one.clone(), zero.clone(), no]);
+    // Time 0 on few bricks is no time to drop.
+    let none = |brick| reply(ORDER_READ, 2, brick, true, 0, None);
+    aborts(&mut recovering(), 'X', vec![none(0), zero, none(2)]);
+    // Two replies of three decide nothing.
+    let mut record = recovering();
+    take(&mut record, one);
+    assert_eq!(take(&mut record, none(2)), Step::default());
+    // A crash sends nothing.
+    assert!(crash(volume(), 1, &mut record).unwrap().sent.is_empty());
+}
+
+/// An early Trim of the chosen time where each of the q replies holds it, and it isn't 0.
+#[test]
+fn an_early_trim_where_all_hold_the_chosen_time() {
+    let coded = [5, 9, 29, 17];
+    for round in [2, 3, 999] {
+        for bricks in [[0, 1, 2], [3, 1, 2], [2, 0, 3]] {
+            let found = |brick: u64, time| {
+                reply(ORDER_READ, round, brick, true, time, Some(coded[brick as usize]))
+            };
+            let all = bricks.map(|brick| found(brick, 16));
+            let mut record = recovering_in(round);
+            let step = take_all(&mut record, all.to_vec());
+            let expected = [clearing(TRIM, 16, round), stores_5_9(round + 1)].concat();
+            assert_eq!((step.sent, step.ended), (expected, None));
+            let running = record.running.as_ref().unwrap();
+            assert_eq!((running.open, running.round), (WRITE, round + 1));
+            // One of them has an older time, or none: the store alone.
+            for place in 0..3 {
+                let none = reply(ORDER_READ, round, bricks[place], true, 0, None);
+                for other in [found(bricks[place], 0), none] {
+                    let mut replies = all.to_vec();
+                    replies[place] = other;
+                    let step = take_all(&mut recovering_in(round), replies);
+                    assert_eq!(step.sent, stores_5_9(round + 1));
+                }
+            }
+            // Time 0 is on all of them.
+            let zeros = bricks.map(|brick| reply(ORDER_READ, round, brick, true, 0, Some(0)));
+            let step = take_all(&mut recovering_in(round), zeros.to_vec());
+            assert!(step.sent.len() == 4 && step.sent[0].kind == WRITE);
+            // Blocks that disagree: nothing is sent.
+            let mut wrong = all.to_vec();
+            wrong[2].block = Some(vec![1]);
+            aborts(&mut recovering_in(round), 'X', wrong);
+        }
+    }
 }
 
 #[test]
@@ -438,7 +581,7 @@ fn recovering_in(round: u64) -> Record {
             &mut record,
             vec![single(0, time(round)), single(1, 0), single(2, 0)],
         );
-        assert_eq!(step.sent, order_reads(time(round), round + 1));
+        assert_eq!(step.sent, drops_and_order_reads(time(round), round));
     }
     record
 }
@@ -447,11 +590,14 @@ fn recovering_in(round: u64) -> Record {
 fn no_round_after_1000() {
     let last = recovering_in(1000);
     let single = |brick, found| reply(ORDER_READ, 1000, brick, true, found, Some(0));
-    // Neither a further recovery round nor the Write round may be round 1,001.
+    // Neither a further recovery round nor the Write round may be round 1,001; no Drop or early
+    // Trim goes out then.
     for found in [16, 0] {
         let replies = vec![single(0, found), single(1, 0), single(2, 0)];
         aborts(&mut last.clone(), 'X', replies);
     }
+    let all = [0, 1, 2].map(|brick| single(brick, 16));
+    aborts(&mut last.clone(), 'X', all.to_vec());
     let mut record = recovering_in(999);
     let zeros = [0, 1, 2].map(|brick| reply(ORDER_READ, 999, brick, true, 0, Some(0)));
     let step = take_all(&mut record, zeros.to_vec());
@@ -634,7 +780,11 @@ fn replies_refused_10() {
             ..fine.clone()
         },
         Reply {
-            kind: 8,
+            kind: DROP,
+            ..fine.clone()
+        },
+        Reply {
+            kind: DROP + 1,
             ..fine.clone()
         },
         Reply {
@@ -961,6 +1111,7 @@ fn broken_records() {
         with(writing(), |r| r.open = WRITE),
         with(writing(), |r| r.open = 0),
         with(writing(), |r| r.open = TRIM),
+        with(writing(), |r| r.open = DROP),
         with(writing(), |r| r.kind = Kind::Read),
         with(writing(), |r| r.max = 16),
         with(writing(), |r| r.first = 1),
@@ -1039,7 +1190,7 @@ fn comparisons_of_a_record() {
 fn random_replies() {
     let mut rng = Rng::printed(6);
     let mut record = fresh();
-    let mut ended = 0;
+    let (mut ended, mut drops, mut trims) = (0, 0, 0);
     for _ in 0..20_000 {
         if record.running.is_none() {
             let (stripe, block) = (rng.below(3), rng.below(2));
@@ -1066,11 +1217,17 @@ fn random_replies() {
             time: if odd { rng.below(1000) } else { running.time },
             round: if odd { rng.below(1003) } else { running.round },
             yes,
-            found: if rng.once_in(2) { 0 } else { rng.below(200) },
-            block: if rng.once_in(2) {
-                None
-            } else {
-                Some(vec![rng.byte(); if odd { 2 } else { 1 }])
+            found: match rng.below(4) {
+                0 => 0,
+                1 | 2 if running.open == ORDER_READ => 16,
+                1 | 2 => 0,
+                _ => rng.below(200),
+            },
+            // Zeros agree.
+            block: match rng.below(6) {
+                0 | 1 => None,
+                2 => Some(vec![rng.byte(); if odd { 2 } else { 1 }]),
+                _ => Some(vec![0]),
             },
             comparison: match rng.below(16) {
                 0 => rng.below(5) as u8,
@@ -1086,10 +1243,19 @@ fn random_replies() {
             }
             Ok(step) => {
                 assert!(!breaks_a_rule(&record));
-                assert!(step.sent.is_empty() || step.sent.len() == 4);
+                let (ahead, last) = step.sent.split_at(step.sent.len().saturating_sub(4));
+                assert!(last.is_empty() || last.len() == 4);
+                // Drops and early Trims stand ahead of a round, of the round before it.
+                assert!(ahead.is_empty() || ahead.len() == 4 && step.ended.is_none());
+                assert!(ahead.iter().all(|message| {
+                    clears(message.kind) && message.round + 1 == last[0].round
+                }));
+                drops += usize::from(ahead.first().is_some_and(|m| m.kind == DROP));
+                trims += usize::from(ahead.first().is_some_and(|m| m.kind == TRIM));
                 ended += u64::from(step.ended.is_some());
             }
         }
     }
-    assert!(ended > 100);
+    println!("{drops} Drops, {trims} early Trims");
+    assert!(ended > 100 && drops > 50 && trims > 5);
 }

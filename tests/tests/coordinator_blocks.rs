@@ -64,6 +64,26 @@ fn order_reads(max: u64, round: u64) -> Vec<Message> {
     vec![message; 4]
 }
 
+/// Drops or early Trims of a time, with the number of a recovery round.
+fn clearing(kind: u8, time: u64, round: u64) -> Vec<Message> {
+    let message = Message {
+        time,
+        ..message(kind, round)
+    };
+    vec![message; 4]
+}
+
+/// The blocks of a Write round that follows an early Trim of time 40, with its round.
+fn stores_after_trim(messages: &[Message], round: u64) -> Vec<u8> {
+    let (trims, stores) = messages.split_at(4);
+    assert_eq!(trims, clearing(TRIM, 40, round));
+    let plain = |message: &Message| (message.kind, message.time, message.round, message.number);
+    assert!(stores
+        .iter()
+        .all(|message| plain(message) == (WRITE, 17, round + 1, 0)));
+    stores.iter().map(|message| message.block[0]).collect()
+}
+
 /// How it ended, with its letter, and with block 1's number in its place.
 fn outcome(step: &Step, kind: Kind) -> (char, Outcome) {
     let ended = step.ended.clone().expect("the operation ended");
@@ -256,13 +276,7 @@ fn a_recovered_block_write_stores_its_block_in_the_stripe_found() {
         (&running.data[..], &running.bricks[..]),
         (&[5, 7][..], &[][..])
     );
-    let messages = sent(step);
-    let blocks: Vec<u8> = messages.iter().map(|message| message.block[0]).collect();
-    assert_eq!(blocks, [5, 7, 1, 3]);
-    let plain = |message: &Message| (message.kind, message.round, message.number);
-    assert!(messages
-        .iter()
-        .all(|message| plain(message) == (WRITE, 3, 0)));
+    assert_eq!(stores_after_trim(&sent(step), 2), [5, 7, 1, 3]);
     let step = take_all(&mut record, yes_from(WRITE, 3, [0, 2, 3]));
     assert_eq!(outcome(&step, Kind::WriteBlock), ('S', Outcome::Ok));
     assert_eq!(step.sent, vec![message(TRIM, 3); 4]);
@@ -277,14 +291,56 @@ fn a_recovered_block_write_looks_further_down() {
         reply(ORDER_READ, 2, 1, true, 48, Some(8)),
         reply(ORDER_READ, 2, 2, true, 16, Some(29)),
     ];
-    assert_eq!(sent(take_all(&mut record, few)), order_reads(48, 3));
+    let expected = [clearing(DROP, 48, 2), order_reads(48, 3)].concat();
+    assert_eq!(sent(take_all(&mut record, few)), expected);
     // It keeps its block meanwhile.
     assert_eq!(record.running.as_ref().unwrap().data, [7]);
     let messages = sent(take_all(&mut record, recovered(3)));
-    let blocks: Vec<u8> = messages.iter().map(|message| message.block[0]).collect();
-    assert_eq!((messages[0].round, blocks), (4, vec![5, 7, 1, 3]));
+    assert_eq!(stores_after_trim(&messages, 3), [5, 7, 1, 3]);
     let step = take_all(&mut record, yes_from(WRITE, 4, [0, 2, 3]));
     assert_eq!(outcome(&step, Kind::WriteBlock), ('S', Outcome::Ok));
+}
+
+/// Times that differ in the first round of a block write, or a newest time of one brick only, drop
+/// nothing: that is no round of recovery.
+#[test]
+fn the_first_round_of_a_block_write_drops_nothing() {
+    let other = |brick, found| reply(ORDER_BLOCK, 1, brick, true, found, None);
+    let own = |found| reply(ORDER_BLOCK, 1, 1, true, found, Some(9));
+    for replies in [
+        [other(0, 16), own(48), other(3, 16)],
+        [other(0, 48), own(16), other(3, 16)],
+        [other(0, 48), other(2, 16), other(3, 32)],
+        [other(0, 40), other(2, 40), other(3, 40)],
+    ] {
+        let messages = sent(take_all(&mut writing(), replies));
+        assert_eq!(messages, order_reads(NO_UPPER_END, 2));
+    }
+    // Nor is anything trimmed ahead of a Modify, where all hold one time.
+    let messages = sent(take_all(&mut writing(), ordered()));
+    assert!(messages.len() == 4 && messages.iter().all(|message| message.kind == MODIFY));
+}
+
+/// A block write's recovery trims early where all q hold the chosen time, and only there.
+#[test]
+fn early_trims_of_a_block_write() {
+    for (record, blocks) in [
+        (recovering(), [5, 7, 1, 3]),
+        (recovering_read(), [5, 9, 29, 17]),
+    ] {
+        let messages = sent(take_all(&mut record.clone(), recovered(2)));
+        assert_eq!(stores_after_trim(&messages, 2), blocks);
+        for place in 0..3 {
+            let mut replies = recovered(2);
+            replies[place].found = 16;
+            let messages = sent(take_all(&mut record.clone(), replies));
+            let stored: Vec<u8> = messages.iter().map(|message| message.block[0]).collect();
+            assert_eq!((messages[0].kind, stored), (WRITE, blocks.to_vec()));
+        }
+        let zeros = [0, 1, 2].map(|brick| reply(ORDER_READ, 2, brick, true, 0, Some(0)));
+        let messages = sent(take_all(&mut record.clone(), zeros));
+        assert!(messages.len() == 4 && messages[0].kind == WRITE);
+    }
 }
 
 /// The same of a block read: L, where the first round would have been H.
@@ -296,8 +352,10 @@ fn a_recovered_block_read_looks_further_down() {
         reply(ORDER_READ, 2, 1, true, 48, Some(8)),
         reply(ORDER_READ, 2, 2, true, 16, Some(29)),
     ];
-    assert_eq!(sent(take_all(&mut record, few)), order_reads(48, 3));
-    take_all(&mut record, recovered(3));
+    let expected = [clearing(DROP, 48, 2), order_reads(48, 3)].concat();
+    assert_eq!(sent(take_all(&mut record, few)), expected);
+    let messages = sent(take_all(&mut record, recovered(3)));
+    assert_eq!(stores_after_trim(&messages, 3), [5, 9, 29, 17]);
     let step = take_all(&mut record, yes_from(WRITE, 4, [0, 2, 3]));
     assert_eq!(outcome(&step, Kind::ReadBlock), ('L', gave(9, &[1, 2])));
 }
@@ -391,8 +449,7 @@ fn a_block_read_recovers_otherwise_and_gives_its_block() {
         let step = take_all(&mut record, replies);
         assert_eq!(sent(step), order_reads(NO_UPPER_END, 2));
         let messages = sent(take_all(&mut record, recovered(2)));
-        let blocks: Vec<u8> = messages.iter().map(|message| message.block[0]).collect();
-        assert_eq!(blocks, [5, 9, 29, 17]);
+        assert_eq!(stores_after_trim(&messages, 2), [5, 9, 29, 17]);
         let step = take_all(&mut record, yes_from(WRITE, 3, [0, 2, 3]));
         // It names the m bricks decoded from.
         assert_eq!(outcome(&step, Kind::ReadBlock), ('H', gave(9, &[1, 2])));
@@ -689,6 +746,7 @@ fn broken_records() {
         with(writing(), |r| r.open = MODIFY),
         with(writing(), |r| r.open = WRITE),
         with(writing(), |r| r.open = TRIM),
+        with(writing(), |r| r.open = DROP),
         with(modifying(), |r| r.round = 1),
         with(modifying(), |r| r.round = 3),
         with(modifying(), |r| r.max = NO_UPPER_END),

@@ -1,6 +1,6 @@
 //! The brick and the coordinator written by hand, which the benchmarks measure against, do what the independent ones do.
 
-use jilbagum_tests::brick::{self, FULL, MODIFY, NEWER, NONE, ORDER, ORDER_BLOCK, ORDER_READ, PROMISE, READ, TRIM, WRITE};
+use jilbagum_tests::brick::{self, clears, DROP, FULL, MODIFY, NEWER, NONE, ORDER, ORDER_BLOCK, ORDER_READ, PROMISE, READ, TRIM, WRITE};
 use jilbagum_tests::coordinator::{self, Outcome, Record, Step};
 use jilbagum_tests::fixtures::{alter, enough_blocks, may_say};
 use jilbagum_tests::image;
@@ -39,8 +39,12 @@ fn answer(hand: &Brick, brick: u64, image: &mut [u8], message: &brick::Message, 
         }
         WRITE => (hand.write(image, time, block), 0, false),
         MODIFY => (hand.modify(image, time, old_time, number as usize, old_block, block), 0, false),
-        _ => {
+        TRIM => {
             hand.trim(image, time);
+            return None;
+        }
+        _ => {
+            hand.drop_entry(image, time);
             return None;
         }
     };
@@ -51,6 +55,14 @@ fn some_message(rng: &mut Rng, settings: Settings, state: &image::State) -> bric
     let shape = settings.shape;
     let ahead = state.promise.max(state.newest() + 1).max(16);
     let targets = if rng.once_in(3) { vec![rng.below(shape.m) as u8] } else { (0..shape.m as u8).collect() };
+    let kind = 1 + rng.below(u64::from(DROP)) as u8;
+    let held = state.log[rng.below(state.log.len() as u64) as usize].time;
+    let time = match rng.below(4) {
+        0 => 16 + rng.below(ahead),
+        // A Drop has no time 0.
+        _ if kind == DROP && held > 0 => held,
+        _ => ahead + rng.below(20),
+    };
     brick::Message {
         targets,
         max: if rng.once_in(2) { NO_UPPER_END } else { rng.below(ahead + 40) },
@@ -58,7 +70,7 @@ fn some_message(rng: &mut Rng, settings: Settings, state: &image::State) -> bric
         old_time: if rng.once_in(8) { 16 } else { state.newest() },
         block: rng.bytes(shape.size as usize),
         old_block: rng.bytes(shape.size as usize),
-        ..brick::Message::plain(1 + rng.below(7) as u8, if rng.once_in(4) { 16 + rng.below(ahead) } else { ahead + rng.below(20) }, 1)
+        ..brick::Message::plain(kind, time, 1)
     }
 }
 
@@ -84,6 +96,15 @@ fn bricks() {
             assert!(image == other, "{settings:?} {brick} {message:?}");
             tally.add(format!("kind {}, {:?}", message.kind, theirs.map(|(said, ..)| said)), 1);
             tally.add("marks", image::marks(&image).len());
+            if message.kind == DROP {
+                let marks = |image: &image::State| image.log.iter().filter(|entry| entry.block.is_none()).count();
+                let after = image::parse(settings, brick, &image).unwrap();
+                let mark = state.log.iter().any(|entry| entry.time == message.time && entry.block.is_none());
+                tally.add("dropped", usize::from(after.log.len() < state.log.len()));
+                tally.add("only entry kept", usize::from(after.log.len() == 1 && after.newest() == message.time));
+                tally.add("dropped mark", usize::from(mark));
+                tally.add("mark made its block", usize::from(!mark && marks(&after) < marks(&state)));
+            }
         }
     }
     println!("{:?}", tally.0);
@@ -94,7 +115,8 @@ fn bricks() {
             }
         }
     }
-    tally.expect(500, &["kind 7, None", "marks"]);
+    tally.expect(500, &["kind 7, None", "kind 8, None", "marks", "dropped"]);
+    tally.expect(50, &["only entry kept", "dropped mark", "mark made its block"]);
 }
 
 /// Images that the independent brick refuses, by check or by rule, don't open by hand, and those that it opens do.
@@ -128,11 +150,13 @@ fn damaged_images() {
 /// A message's kind, stripe, time, round, max, targets as bits, old time and data block's number.
 type Sent = (u8, u64, u64, u64, u64, u16, u64, u64);
 
-/// The message of a round.
-fn sent(step: &Step) -> Option<Sent> {
-    let message = step.sent.first()?;
-    let targets = message.targets.iter().map(|&b| 1 << b).sum();
-    Some((message.kind, message.stripe, message.time, message.round, message.max, targets, message.old_time, message.number))
+/// The messages of the broadcasts, one to each of n bricks.
+fn sent(n: u64, step: &Step) -> Vec<Sent> {
+    let of = |message: &brick::Message| {
+        let targets = message.targets.iter().map(|&b| 1 << b).sum();
+        (message.kind, message.stripe, message.time, message.round, message.max, targets, message.old_time, message.number)
+    };
+    step.sent.chunks(n as usize).map(|broadcast| of(&broadcast[0])).collect()
 }
 
 fn sent_by_hand(message: &Message) -> Sent {
@@ -150,15 +174,16 @@ fn compare(volume: Volume, step: Result<Step, u8>, act: Act, hand: &Coordinator,
             return Step::default();
         }
         (Ok(step), act) => {
-            let (message, what, letter) = match act {
-                Act::Waits => (None, "waits", None),
-                Act::Sends(message) => (Some(message), "sends", None),
-                Act::Written(message, letter) => (Some(message), "written", Some(letter)),
-                Act::Read(message, letter) => (message, "read", Some(letter)),
-                Act::Aborted(letter) => (None, "aborted", Some(letter)),
+            let (messages, what, letter) = match act {
+                Act::Waits => (vec![], "waits", None),
+                Act::Sends(message) => (vec![message], "sends", None),
+                Act::Clears(ahead, message) => (vec![ahead, message], "sends", None),
+                Act::Written(message, letter) => (vec![message], "written", Some(letter)),
+                Act::Read(message, letter) => (message.into_iter().collect(), "read", Some(letter)),
+                Act::Aborted(letter) => (vec![], "aborted", Some(letter)),
                 Act::Refused(number) => panic!("refused {number} by hand alone"),
             };
-            assert_eq!(sent(&step), message.as_ref().map(sent_by_hand));
+            assert_eq!(sent(shape.n, &step), messages.iter().map(sent_by_hand).collect::<Vec<_>>());
             assert_eq!(step.ended.as_ref().map(|ended| ended.letter), letter);
             if let Some(letter) = letter {
                 tally.add(format!("letter {letter}"), 1);
@@ -167,9 +192,9 @@ fn compare(volume: Volume, step: Result<Step, u8>, act: Act, hand: &Coordinator,
         }
         (Err(refusal), _) => panic!("refused {refusal}, and not by hand"),
     };
-    for (b, message) in step.sent.iter().enumerate() {
+    for (k, message) in step.sent.iter().enumerate() {
         match message.kind {
-            WRITE => assert_eq!(message.block, shape.block(&hand.coded, b)),
+            WRITE => assert_eq!(message.block, shape.block(&hand.coded, k % shape.n as usize)),
             MODIFY => {
                 let j = message.number as usize;
                 assert_eq!((&message.old_block[..], &message.block[..]), (shape.block(&hand.blocks, j), shape.block(&hand.stripe, j)));
@@ -193,6 +218,9 @@ fn compare(volume: Volume, step: Result<Step, u8>, act: Act, hand: &Coordinator,
     }
     let kind = step.sent.first().map_or(0, |message| message.kind);
     tally.add(format!("{what} {kind}"), 1);
+    if let (Some(last), true) = (step.sent.last(), clears(kind) && ended.is_none()) {
+        tally.add(format!("{what} {kind}, then {}", last.kind), 1);
+    }
     step
 }
 
@@ -229,11 +257,12 @@ fn coordinators() {
             while !step.sent.is_empty() {
                 let messages = std::mem::take(&mut step.sent);
                 let mut next = Step::default();
-                for b in rng.shuffled(messages.len()) {
+                for k in rng.shuffled(messages.len()) {
                     if rng.once_in(12) {
                         continue;
                     }
-                    let Some(mut reply) = brick::take_in_row(settings, b as u64, &mut images[b], &messages[b]).unwrap() else { continue };
+                    let b = k % shape.n as usize;
+                    let Some(mut reply) = brick::take_in_row(settings, b as u64, &mut images[b], &messages[k]).unwrap() else { continue };
                     if rng.once_in(altered) {
                         alter(&mut reply, &mut rng);
                     }
@@ -293,6 +322,7 @@ fn coordinators() {
         20,
         &["sends 1", "sends 2", "sends 3", "sends 4", "sends 5", "sends 6", "written 7", "read 0", "read 7", "aborted 0", "waits 0"],
     );
+    tally.expect(20, &["sends 7, then 5", "sends 8, then 3"]);
     tally.expect(20, &["refusal 10", "refusal 11", "refusal 14"]);
     tally.expect(20, &["letter F", "letter H", "letter L", "letter S", "letter O", "letter G", "letter W", "letter X"]);
     tally.expect(20, &["blocks disagree, Read", "blocks disagree, ReadBlock", "blocks disagree, WriteBlock"]);

@@ -5,7 +5,8 @@
 use jilbagum_tests::brick::{ORDER_READ, READ, WRITE};
 use jilbagum_tests::coordinator::Kind;
 use jilbagum_tests::harness::{
-    broken_block_runs, broken_runs, some_run, Break, Faults, Independent, Proved, Sent, Start, World, OFTEN, OFTEN_OF_BLOCKS,
+    broken_block_runs, broken_runs, cut_short, some_run, Break, Faults, Independent, Proved, Sent, Start, World, OFTEN, OFTEN_OF_BLOCKS,
+    OFTEN_OF_DROPS,
 };
 use jilbagum_tests::order::{brute_order, by_stripe, has_order, is_order, End, Operation};
 use jilbagum_tests::image;
@@ -64,9 +65,14 @@ fn by_number(sent: &Sent) -> Sent {
 #[test]
 fn runs_are_those_of_the_independent_routines() {
     let mut tally = Tally::default();
-    for seed in 210_000..213_000 {
-        // No bytes of lent buffers, which the independent coordinators don't have.
-        let whole = |faults: &mut Faults, _: &mut Settings| faults.buffers = 0;
+    for seed in 210_000..214_000 {
+        // No bytes of lent buffers, which the independent coordinators don't have. In every other run Drops go about.
+        let whole = |faults: &mut Faults, settings: &mut Settings| {
+            faults.buffers = 0;
+            if seed % 2 == 0 {
+                cut_short(faults, settings);
+            }
+        };
         let (ours, theirs) = (some_run::<Proved>(seed, 12, 2, whole), some_run::<Independent>(seed, 12, 2, whole));
         let first = ours.sent.iter().zip(&theirs.sent).find(|(ours, theirs)| **ours != by_number(theirs));
         assert_eq!(first, None, "{}", ours.story(seed));
@@ -76,6 +82,8 @@ fn runs_are_those_of_the_independent_routines() {
         ours.note(&mut tally);
     }
     tally.expect(30, &OFTEN_OF_BLOCKS);
+    tally.expect(5, &OFTEN_OF_DROPS);
+    tally.expect(1000, &["a Drop reached a brick", "a Drop took an entry", "an early Trim freed entries"]);
     tally.expect(100, &["written", "read recovered", "run with m above 1", "run on 3 or more stripes"]);
 }
 
@@ -102,7 +110,7 @@ fn broken_sets_are_noticed() {
 /// The same of sets that break a rule of operations on one block.
 #[test]
 fn broken_block_writes_are_noticed() {
-    let [lookup, old, parity] = broken_block_runs::<Proved>(1000);
+    let [lookup, old, parity] = broken_block_runs::<Proved>(3000);
     println!("without an order, with blocks that disagree: lookups of blocks only {lookup:?}, any old time {old:?}, parity left {parity:?}");
     // A recovery finds most of the blocks that a Modify of any old time spoils, and aborts.
     assert!(lookup[0] > 50 && old[0] + old[1] > 2 && parity[0] > 50 && parity[1] > 50);

@@ -122,33 +122,38 @@ fn no_flag(rng: &mut Rng) -> u64 {
     [2, 3, 128, 255, 256, 257, 1 << 32, (1 << 32) + 1, u64::MAX][rng.below(9) as usize]
 }
 
-/// The promise and the newest time of an image, zeros where it is none.
-fn times(five: proved::Five, number: usize, bytes: &[u8]) -> [u64; 2] {
-    image::parse(settings(five), number as u64, bytes).map_or([0; 2], |state| [state.promise, state.newest()])
+/// The promise of an image and the times of its entries, zeros where it is none.
+fn times(five: proved::Five, number: usize, bytes: &[u8]) -> (u64, Vec<u64>) {
+    let times = |state: image::State| (state.promise, state.log.iter().map(|entry| entry.time).collect());
+    image::parse(settings(five), number as u64, bytes).map_or((0, vec![0]), times)
 }
 
 /// A message for an image.
 fn message_for(rng: &mut Rng, five: proved::Five, number: usize, bytes: &[u8]) -> Numbers {
     let times = times(five, number, bytes);
-    random_message(rng, five, |_| times)
+    random_message(rng, five, |_| times.clone())
 }
 
 /// A message for a row of images.
 fn message_for_row(rng: &mut Rng, five: proved::Five, number: usize, row: &[u8]) -> Numbers {
     let images: Vec<&[u8]> = row.chunks(512 * (five.3 + 1)).collect();
-    random_message(rng, five, |stripe| images.get(stripe as usize).map_or([0; 2], |image| times(five, number, image)))
+    random_message(rng, five, |stripe| images.get(stripe as usize).map_or((0, vec![0]), |image| times(five, number, image)))
 }
 
-/// A message, mostly sensible, sometimes not, for a brick whose promise and newest time on a stripe are given.
-fn random_message(rng: &mut Rng, (n, m, size, _, stripes): proved::Five, times: impl Fn(u64) -> [u64; 2]) -> Numbers {
+/// A message, mostly sensible, sometimes not, for a brick whose promise and entries on a stripe are given.
+fn random_message(rng: &mut Rng, (n, m, size, _, stripes): proved::Five, times: impl Fn(u64) -> (u64, Vec<u64>)) -> Numbers {
     let stripe = match rng.below(20) {
         0 => [stripes as u64, stripes as u64 + 1, 64, 256, 1 << 32, u64::MAX][rng.below(6) as usize],
         _ => rng.below(stripes as u64),
     };
-    let [promise, newest] = times(stripe);
+    let (promise, log) = times(stripe);
+    let newest = log[log.len() - 1];
+    let kind = 1 + rng.below(u64::from(brick::DROP));
     let time = match rng.below(12) {
         0 => rng.number(),
         1 => rng.below(20),
+        // Of an entry, 0 among them.
+        2..=8 if kind == u64::from(brick::DROP) => log[rng.below(log.len() as u64) as usize],
         2..=6 => (promise.max(newest + 1) + rng.below(24)).max(16),
         _ => 16 + rng.below(60) * 8,
     };
@@ -164,7 +169,6 @@ fn random_message(rng: &mut Rng, (n, m, size, _, stripes): proved::Five, times: 
     if rng.once_in(12) {
         flags[rng.below(16) as usize] = no_flag(rng);
     }
-    let kind = 1 + rng.below(7);
     Numbers {
         kind: match rng.below(30) {
             0 => u64::from(rng.byte()),
@@ -199,15 +203,23 @@ fn random_message(rng: &mut Rng, (n, m, size, _, stripes): proved::Five, times: 
 fn long_runs_of_messages() {
     let mut rng = Rng::printed(21);
     let (mut answers, mut marks, mut trimmed) = ([0_usize; 128], 0, 0);
+    let (mut dropped, mut made, mut only) = (0, 0, 0);
     for _ in 0..500 {
         let (five, number) = some_brick(&mut rng);
         let mut bytes = fresh(five, number);
         for _ in 0..60 {
             let message = message_for(&mut rng, five, number, &bytes);
-            let before = image::marks(&bytes);
-            answers[compare(five, number, &mut bytes, &message) as usize] += 1;
+            let (before, times_before) = (image::marks(&bytes), image::times(&bytes));
+            let answer = compare(five, number, &mut bytes, &message);
+            answers[answer as usize] += 1;
             marks += usize::from(image::marks(&bytes).len() > before.len());
-            trimmed += usize::from(before.contains(&image::lowest(&bytes)));
+            if (message.kind, answer) == (u64::from(brick::DROP), proved::SILENCE) {
+                dropped += times_before.len() - image::times(&bytes).len();
+                made += usize::from(!before.contains(&message.time) && image::marks(&bytes).len() < before.len());
+                only += usize::from(times_before == [message.time]);
+            } else {
+                trimmed += usize::from(before.contains(&image::lowest(&bytes)));
+            }
             let mut times = [0; 2];
             assert_eq!(proved::panel(five, number, &bytes, &mut times), 0);
             let state = image::parse(settings(five), number as u64, &bytes).unwrap();
@@ -216,7 +228,43 @@ fn long_runs_of_messages() {
     }
     assert!(answers[0] > 5000 && answers[100] > 500 && answers[10] > 500 && answers[14] > 100, "{answers:?}");
     println!("{marks} marks stored, {trimmed} that a Trim made a block");
+    println!("{dropped} entries dropped, {made} marks that a Drop made a block, {only} only entries");
     assert!(marks > 300 && trimmed > 50, "{marks} {trimmed}");
+    assert!(dropped > 500 && made > 20 && only > 50, "{dropped} {made} {only}");
+}
+
+/// A Drop of each time, at every log of up to five entries of blocks and marks, with entries free and none, again and of a time that isn't
+/// there.
+#[test]
+fn drops_at_every_small_log() {
+    let (mut dropped, mut made) = (0, 0);
+    for (count, capacity) in (1..=5).flat_map(|count| [count, 6].map(|capacity| (count, capacity.max(2)))) {
+        let five = (4, 2, 3, capacity, 2);
+        for pattern in 0..1 << (count - 1) {
+            // Times 16, 32 and so on, or from 0 on; the lowest is no mark.
+            for base in [0, 1] {
+                let entry = |k: usize| {
+                    let mark = k > 0 && pattern >> (k - 1) & 1 == 1;
+                    image::Entry { time: 16 * (base + k as u64), block: (!mark).then(|| vec![k as u8 + 1; 3]) }
+                };
+                let state = image::State { promise: 40, log: (0..count).map(entry).collect() };
+                let bytes = image::write(settings(five), 1, &state).unwrap();
+                for time in (0..=7).map(|k| 16 * k).chain([1, 15, 17, 33, (1 << 44) - 1, 1 << 44]) {
+                    let message = Numbers::of(&brick::Message { stripe: 1, ..brick::Message::plain(brick::DROP, time, 3) });
+                    let mut left = bytes.clone();
+                    let number = if (16..1 << 44).contains(&time) { proved::SILENCE } else { 10 };
+                    for _ in 0..2 {
+                        assert_eq!(compare(five, 1, &mut left, &message), number);
+                    }
+                    dropped += count - image::times(&left).len();
+                    let mark = image::marks(&bytes).contains(&time);
+                    made += usize::from(!mark && image::marks(&left).len() < image::marks(&bytes).len());
+                }
+            }
+        }
+    }
+    println!("{dropped} entries dropped, {made} marks that a Drop made a block");
+    assert!(dropped > 400 && made > 90, "{dropped} {made}");
 }
 
 /// What says no, to every kind of message, wherever its time lies beside newest and promise, with an entry free and with none: newer time
@@ -278,11 +326,11 @@ fn fields_in_and_around_their_ranges() {
     let plain = Numbers::of(&brick::Message { block: vec![7; 4], old_block: vec![9; 4], ..brick::Message::plain(0, 160, 2) });
     let good = |kind: u64| Numbers { kind, max: 1 << 44, stripe: 1, flags, ..plain.clone() };
     let answer = |numbers: &Numbers| compare(five, 3, &mut fresh(five, 3), numbers);
-    let passed = |kind: u64| if kind == u64::from(brick::TRIM) { proved::SILENCE } else { 0 };
-    for kind in [0, 8, 9, 255, 256, 257, 261, 263, 512 + 4, 1 << 32, (1 << 32) + 1, u64::MAX] {
+    let passed = |kind: u64| if kind >= u64::from(brick::TRIM) { proved::SILENCE } else { 0 };
+    for kind in [0, 9, 10, 255, 256, 257, 261, 263, 264, 512 + 4, 1 << 32, (1 << 32) + 1, u64::MAX] {
         assert_eq!(answer(&good(kind)), 10, "kind {kind}");
     }
-    for kind in 1..=7 {
+    for kind in 1..=u64::from(brick::DROP) {
         assert_eq!(answer(&good(kind)), passed(kind));
         for time in [0, 1, 15, 1 << 44, (1 << 44) + 16, u64::MAX] {
             assert_eq!(answer(&Numbers { time, ..good(kind) }), 10, "kind {kind} time {time}");
@@ -361,7 +409,7 @@ fn reseal(block: &mut [u8]) {
 fn damaged_images() {
     let mut rng = Rng::printed(22);
     let (mut answers, mut marked) = ([0_usize; 128], 0);
-    for _ in 0..6000 {
+    for _ in 0..7000 {
         let five = (5, 3, [1, 64, 256][rng.below(3) as usize], 2 + rng.below(5) as usize, [1, 4][rng.below(2) as usize]);
         let mut bytes = fresh(five, 2);
         for _ in 0..rng.below(6) {
@@ -417,7 +465,7 @@ fn images_with_a_lowest_mark() {
             bytes[512 * five.3 + 100] ^= 1;
         }
         opened += usize::from(entry > 1 && was == 2 && image::parse(settings(five), number as u64, &bytes).is_ok());
-        for kind in 1..=7 {
+        for kind in 1..=u64::from(brick::DROP) {
             let message = Numbers { kind, stripe: 0, number: 0, ..message_for(&mut rng, five, number, &bytes) };
             let answer = compare(five, number, &mut bytes.clone(), &message);
             assert!(entry > 1 || [5, 6].contains(&answer));
@@ -541,7 +589,8 @@ fn settings_and_lengths() {
     // Of a brick that is none, with a stripe and a data block that are none, in the first round of a block write and in a Modify, at an old
     // time that is none, and in a kind that is none: the lengths come before.
     let block = [0; 4];
-    for kind in [brick::ORDER_BLOCK, brick::MODIFY, 8] {
+    let unknown = brick::DROP + 1;
+    for kind in [brick::ORDER_BLOCK, brick::MODIFY, unknown] {
         let mut bad = proved::of_block(asked, 15, 1);
         (bad[0], bad[2], bad[4]) = (u64::from(kind), 0, 2);
         let mut longer = bad.to_vec();
@@ -562,7 +611,7 @@ fn settings_and_lengths() {
         assert_eq!(proved::receive(five, 3, &mut bytes, &bad, lent, &mut out, reply), 3);
         assert_eq!(proved::receive(five, 0, &mut bytes, &bad, lent, &mut out, reply), 13);
         bad[4] = 1;
-        let number = if kind == 8 { 10 } else { 14 };
+        let number = if kind == unknown { 10 } else { 14 };
         assert_eq!(proved::receive(five, 0, &mut bytes, &bad, lent, &mut out, reply), number);
         bad[6] = 0;
         assert_eq!(proved::receive(five, 0, &mut bytes, &bad, lent, &mut out, reply), 10);
@@ -583,7 +632,7 @@ fn settings_and_lengths() {
 fn rows_of_images() {
     let mut rng = Rng::printed(24);
     let (mut answers, mut beside) = ([0_usize; 128], 0);
-    for _ in 0..120 {
+    for _ in 0..140 {
         let (mut five, number) = some_brick(&mut rng);
         five.3 = 2 + rng.below(3) as usize;
         let mut row = fresh_row(five, number);

@@ -1,6 +1,6 @@
 //! The proved coordinator against the independent one: records, answers, buffers and refusals, event by event.
 
-use jilbagum_tests::brick::{self, Message, Reply, FULL, MODIFY, NEWER, NONE, ORDER, ORDER_BLOCK, ORDER_READ, PROMISE, READ, WRITE};
+use jilbagum_tests::brick::{self, Message, Reply, DROP, FULL, MODIFY, NEWER, NONE, ORDER, ORDER_BLOCK, ORDER_READ, PROMISE, READ, WRITE};
 use jilbagum_tests::code;
 use jilbagum_tests::coordinator::{self, Ended, Kind, Outcome, Record, Running, Step};
 use jilbagum_tests::fixtures::{alter, enough_blocks, may_say};
@@ -204,16 +204,20 @@ fn judged(volume: Volume, c: &Coordinator, event: &Event) -> Result<(Record, Ste
     step.map(|step| (record, step))
 }
 
-/// The four buffers' answer: sixteen numbers and 53 bytes, with nothing in the places of a second message. What ended has its letter.
+/// The four buffers' answer: sixteen numbers and 53 bytes, with nothing in the places of a message that isn't sent. What ended has its
+/// letter.
 fn answer(shape: Shape, event: &Event, record: &Record, step: &Step) -> (Vec<u64>, Vec<u8>) {
-    let (mut sent, mut shown) = (vec![0; 16], vec![0; 53]);
-    if let Some(message) = step.sent.first() {
-        assert_eq!(step.sent.len() as u64, shape.n);
-        sent[..4].copy_from_slice(&[1, message.time, message.round, message.max]);
-        (sent[at::STRIPE], sent[at::OLD], sent[at::BLOCK]) = (message.stripe, message.old_time, message.number);
-        shown[0] = message.kind;
+    let (mut sent, mut shown) = (vec![0; at::NUMBERS], vec![0; at::BYTES]);
+    let broadcasts = step.sent.chunks(shape.n as usize);
+    sent[at::SENT] = broadcasts.len() as u64;
+    for (broadcast, place) in broadcasts.zip(at::MESSAGES) {
+        assert_eq!(broadcast.len() as u64, shape.n);
+        let message = &broadcast[0];
+        (sent[place.time], sent[place.round], sent[place.max]) = (message.time, message.round, message.max);
+        (sent[place.stripe], sent[place.old], sent[place.block]) = (message.stripe, message.old_time, message.number);
+        shown[place.kind] = message.kind;
         for &target in &message.targets {
-            shown[3 + target as usize] = 1;
+            shown[place.targets + target as usize] = 1;
         }
     }
     if let Some(ended) = &step.ended {
@@ -253,7 +257,7 @@ fn recovery_abort(shape: Shape, c: &Coordinator, reply: &Reply) -> &'static str 
 /// What happened, in words that a tally counts.
 fn what_happened(before: u8, c: &Coordinator, event: &Event, record: &Record, step: &Step) -> String {
     let shape = record.volume.shape;
-    let sent = step.sent.first().map(|message| (message.kind, message.round));
+    let sent = step.sent.last().map(|message| (message.kind, message.round));
     let ended = step.ended.as_ref();
     let running = record.running.as_ref().map(|running| running.kind);
     let kind = ended.map(|ended| ended.kind).or(running);
@@ -318,10 +322,16 @@ fn expected(volume: Volume, c: &Coordinator, event: &Event, tally: &mut Tally) -
         let at = *brick as usize * block.len();
         after.blocks[at..at + block.len()].copy_from_slice(block);
     }
-    if step.sent.first().is_some_and(|message| message.kind == WRITE) {
-        after.coded = step.sent.iter().flat_map(|message| message.block.clone()).collect();
+    let stores: Vec<&Message> = step.sent.iter().filter(|message| message.kind == WRITE).collect();
+    if !stores.is_empty() {
+        after.coded = stores.into_iter().flat_map(|message| message.block.clone()).collect();
     }
     tally.add(what_happened(before, c, event, &record, &step), 1);
+    if let (Some(running), true) = (&record.running, step.sent.len() as u64 > volume.shape.n) {
+        let of = if running.kind.of_block() { "block " } else { "" };
+        let ahead = if step.sent[0].kind == DROP { "Drops" } else { "early Trims" };
+        tally.add(format!("{of}{ahead} ahead"), 1);
+    }
     if let Some(ended) = &step.ended {
         let of = if ended.kind.of_block() { "block " } else { "" };
         tally.add(format!("{of}letter {}", ended.letter), 1);
@@ -392,7 +402,7 @@ fn some_volume(rng: &mut Rng) -> Volume {
 
 impl World {
     fn new(Volume { shape, stripes }: Volume, altered: u64, rng: &mut Rng) -> World {
-        let settings = Settings { shape, capacity: rng.between(2, 7), stripes };
+        let settings = Settings { shape, capacity: if rng.once_in(2) { 2 } else { rng.between(3, 7) }, stripes };
         World {
             settings,
             images: (0..shape.n).map(|b| image::fresh_row(settings, b).unwrap()).collect(),
@@ -407,7 +417,8 @@ impl World {
 
     fn event(&mut self, at: usize, event: &Event, tally: &mut Tally) {
         let step = compare(self.settings.volume(), &mut self.coordinators[at], event, tally);
-        self.messages.extend(step.sent.into_iter().enumerate());
+        let n = self.images.len();
+        self.messages.extend(step.sent.into_iter().enumerate().map(|(k, message)| (k % n, message)));
     }
 
     /// A crash; half of them take the bytes of the lent buffers, which hold others then.
@@ -550,7 +561,7 @@ fn schedules(count: usize, altered: u64, rng: &mut Rng, tally: &mut Tally) {
 fn schedules_with_bricks() {
     let mut rng = Rng::printed(31);
     let mut tally = Tally::default();
-    schedules(1600, u64::MAX, &mut rng, &mut tally);
+    schedules(2400, u64::MAX, &mut rng, &mut tally);
     // "In a run from a fresh set this is shown never to happen."
     assert!(tally.0.keys().all(|what| !what.contains("disagree")), "{:?}", tally.0);
     println!("{:?}", tally.0);
@@ -568,7 +579,11 @@ fn schedules_with_bricks() {
         ],
     );
     tally.expect(20, &LETTERS_OF_RUNS);
+    tally.expect(20, &AHEAD);
 }
+
+/// Drops and early Trims, of operations on stripes and on blocks.
+const AHEAD: [&str; 4] = ["Drops ahead", "early Trims ahead", "block Drops ahead", "block early Trims ahead"];
 
 /// The letters that runs of bricks lead to, on stripes and on blocks; X is hardly among them.
 const LETTERS_OF_RUNS: [&str; 16] = [
@@ -685,7 +700,7 @@ fn a_read_of_one_round_checks_nothing() {
             let first = if kind == Kind::Read { first } else { first % 3 };
             let begin = if kind == Kind::Read { Event::Read(1, 5, first) } else { Event::ReadBlock(1, 5, first) };
             compare(volume, &mut c, &begin, &mut tally);
-            let targets = c.lent.shown_row(at::TARGETS);
+            let targets = c.lent.shown_row(at::MESSAGES[0].targets);
             for k in 0..4 {
                 let brick = (first + k) % 5;
                 let block = (targets[brick as usize] == 1).then(|| rng.bytes(2));
@@ -696,6 +711,55 @@ fn a_read_of_one_round_checks_nothing() {
         }
     }
     tally.expect(5, &["read in one round", "block read in one round"]);
+}
+
+/// Every choice of what the q bricks of a recovery's round give (no block, or one of time 0, 16 or 40), in a first round, later ones and
+/// the last two: Drops go ahead of a further round where the highest time other than 0 is on fewer than m, early Trims ahead of the store
+/// where all q hold the chosen time, other than 0, and nothing else goes ahead of anything.
+#[test]
+fn drops_and_early_trims_of_every_round() {
+    let mut rng = Rng::printed(45);
+    let mut tally = Tally::default();
+    for (n, m) in [(2, 2), (3, 1), (3, 2), (3, 3), (4, 2), (4, 4), (5, 3)] {
+        let volume = Volume::new(n, m, 2, 3);
+        let q = quorum(n, m).unwrap() as u32;
+        let stored = stored(volume, [0, 16, 40], &mut rng);
+        for kind in [Kind::Read, Kind::ReadBlock, Kind::WriteBlock] {
+            let first = recovering(volume, kind, &mut rng, &mut tally);
+            for (choice, round) in (0..4_usize.pow(q)).flat_map(|choice| [2, 3, 7, 999, 1000].map(|round| (choice, round))) {
+                let mut c = first.clone();
+                if round > 2 {
+                    (c.lent.numbers[ROUND], c.lent.numbers[MAX]) = (round, 64);
+                }
+                let chosen: Vec<usize> = (0..q).map(|k| choice / 4_usize.pow(k) % 4).collect();
+                let mut step = Step::default();
+                for (brick, &which) in chosen.iter().enumerate() {
+                    let (found, block) = match which {
+                        0 => (0, None),
+                        _ => (stored[which - 1].0, Some(volume.shape.block(&stored[which - 1].1, brick).to_vec())),
+                    };
+                    let (kind, brick) = (ORDER_READ, brick as u64);
+                    let reply = Reply { kind, brick, stripe: 1, time: 83, round, yes: true, found, block, comparison: NONE };
+                    step = compare(volume, &mut c, &Event::Reply(reply), &mut tally);
+                }
+                let highest = *chosen.iter().max().unwrap();
+                let count = chosen.iter().filter(|&&which| which == highest).count() as u64;
+                let found = highest >= 2 && round < 1000;
+                let ahead = match count {
+                    _ if !found => None,
+                    _ if count < m => Some(DROP),
+                    _ if count == u64::from(q) => Some(brick::TRIM),
+                    _ => None,
+                };
+                let expected = ahead.map_or(vec![], |kind| vec![(kind, stored[highest - 1].0, round); n as usize]);
+                let sent: Vec<(u8, u64, u64)> = step.sent.iter().map(|message| (message.kind, message.time, message.round)).collect();
+                assert_eq!(sent[..sent.len().saturating_sub(n as usize)], expected, "{chosen:?} in round {round}");
+            }
+        }
+    }
+    println!("{:?}", tally.0);
+    tally.expect(50, &AHEAD);
+    tally.expect(100, &["abort at round 1000", "block abort at round 1000"]);
 }
 
 /// Times, each with the n coded blocks of a stripe.
@@ -743,7 +807,7 @@ fn some_reply(Volume { shape, stripes }: Volume, c: &Coordinator, stored: &Store
     }
     if rng.once_in(4) {
         match rng.below(13) {
-            0 => reply.kind = [0, 1, 2, 3, 4, 5, 6, 7, 8, 255][rng.below(10) as usize],
+            0 => reply.kind = [0, 1, 2, 3, 4, 5, 6, 7, 8, 9, 255][rng.below(11) as usize],
             1 => reply.time = [0, 15, 16, 1 << 44, (1 << 44) - 1, u64::MAX, reply.time ^ 1, reply.time + 16][rng.below(8) as usize],
             2 => reply.round = [0, 1, 2, 1000, 1001, reply.round + 1, reply.round - 1, u64::MAX][rng.below(8) as usize],
             3 => reply.brick = [shape.n, shape.n + 1, 16, 255, 1 << 32, u64::MAX][rng.below(6) as usize],
@@ -840,6 +904,7 @@ fn events_of_every_sort() {
         ],
     );
     tally.expect(5, &LETTERS_OF_RUNS);
+    tally.expect(20, &AHEAD);
     tally.expect(20, &["letter X", "block letter X"]);
     tally.expect(10, &["recovery aborted at time 0 on few bricks", "block recovery aborted at time 0 on few bricks"]);
     tally.expect(20, &["recovery aborted as blocks disagree", "block recovery aborted as blocks disagree"]);

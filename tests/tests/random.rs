@@ -1,6 +1,7 @@
 //! Random scripts and random runs.
 
-use jilbagum_tests::bench::play;
+use jilbagum_tests::bench::{play, Bench};
+use jilbagum_tests::brick::DROP;
 use jilbagum_tests::harness::{some_run, Independent, OFTEN, OFTEN_OF_BLOCKS};
 use jilbagum_tests::rng::Rng;
 use jilbagum_tests::script;
@@ -38,13 +39,21 @@ fn random_scripts_print_known_lines() {
     assert!(oks > 200 && stripes > 200);
 }
 
-/// The scripts that the program is compared on show every letter but X, which none leads to.
+/// The scripts that the program is compared on show every letter but X, which none leads to, and
+/// Drops and early Trims that free entries.
 #[test]
 fn mixed_scripts_show_the_letters() {
     let mut rng = Rng::printed(9);
     let mut tally = Tally::default();
     for _ in 0..3000 {
-        let printed = String::from_utf8(play(&script::mixed(&mut rng).1)).unwrap();
+        let mut bench = Bench::default();
+        let printed = String::from_utf8(bench.play(&script::mixed(&mut rng).1)).unwrap();
+        let cleared = bench.cleared();
+        tally.add("Drops sent", bench.rounds(DROP));
+        tally.add("Drops carried", cleared.drops);
+        tally.add("entries dropped", cleared.dropped);
+        tally.add("early Trims carried", cleared.early_trims);
+        tally.add("entries trimmed early", cleared.trimmed);
         for line in printed.lines() {
             assert!(line_is_known(line), "{line}");
             if let [_, _, _, letter, _] = line.split(' ').collect::<Vec<_>>()[..] {
@@ -54,6 +63,16 @@ fn mixed_scripts_show_the_letters() {
     }
     println!("{:?}", tally.0);
     tally.expect(25, &["F", "H", "L", "S", "O", "G", "W", "C"]);
+    tally.expect(
+        100,
+        &[
+            "Drops sent",
+            "Drops carried",
+            "entries dropped",
+            "early Trims carried",
+            "entries trimmed early",
+        ],
+    );
 }
 
 /// Bytes with a few changed, lost or doubled: anything may come in.

@@ -3,9 +3,9 @@ use mathlib.Core.Path.{_≡_}
 use mathlib.Core.Bool.{Bool, true, _||_}
 use mathlib.Core.List.{List, [], _++_}
 use Prim.Native.Nat.{ℕ, _+_, _≤_, _<_}
-use lib.Dec.{eqb, ltb}
+use lib.Dec.{ltb}
 use lib.ListN.{length}
-use Rattle.message.specs.Kinds.{trimKind}
+use Rattle.message.specs.Messages.{isSilent}
 use Rattle.message.specs.declared.Message.{Message}
 use Rattle.brick.specs.declared.Given.{Given}
 use Rattle.brick.specs.declared.Given.the-variants.{Answered, Silent, Refused}
@@ -28,9 +28,9 @@ pub record Lends (b : Bench) (images numbers bytes : List ℕ) : Type 0 where
   pub numbers-long : length numbers ≡ numbersLength
   pub bytes-long : length bytes ≡ bytesLength
 
--- every message but a Trim sends a reply, and that may be no message past 127
+-- every message but a Trim or a Drop sends a reply, and that may be no message past 127
 unfoldable pub maySend : ℕ → ℕ → Bool
-maySend kind sent = eqb kind trimKind || ltb sent lastMessage
+maySend kind sent = isSilent kind || ltb sent lastMessage
 
 -- item k is a message to a brick of the set that is up, and its reply may be sent
 pub record Reaching (b : Bench) (numbers bytes : List ℕ) (k brick : ℕ) (msg : Message) : Type 0 where

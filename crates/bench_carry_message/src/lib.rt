@@ -23,7 +23,7 @@ use bench_rules::refuse;
 use bench_state::Bench;
 use brick::Given;
 use message::Message;
-use message::TRIM;
+use message::is_silent;
 
 // What a brick gave: a reply is sent.
 fn settle(
@@ -93,11 +93,11 @@ fn deliver_with(
     settle(b, g, block, numbers, bytes, at, out)
 }
 
-// Whether a message may be carried: every one but a Trim sends a reply.
+// Whether a message may be carried: every one but a Trim or a Drop sends a reply.
 fn may_send(kind: u8, sent: usize) -> bool
     ensures { λ r. ⌜ r ≡ maySend kind sent ⌝ }
 {
-    if kind == TRIM {
+    if is_silent(kind) {
         return true;
     }
     sent < LAST_MESSAGE

@@ -2,11 +2,11 @@
 use mathlib.Core.Bool.{Bool, cond, _||_}
 use mathlib.Core.List.{List, [], _∷_, _++_}
 use Prim.Native.Nat.{ℕ, zero, suc, _*_}
-use lib.Dec.{eqb, leb, ltb}
+use lib.Dec.{leb, ltb}
 use lib.ListN.{length, replicate}
 use Rattle.settings.specs.Refusal.{badSetting, badNumber, badLine}
 use Rattle.settings.specs.declared.Settings.{Settings}
-use Rattle.message.specs.Kinds.{trimKind}
+use Rattle.message.specs.Messages.{isSilent}
 use Rattle.message.specs.declared.Message.{Message}
 use Rattle.volume.specs.Rows.{rowOutcome}
 use Rattle.brick.specs.declared.Given.{Given}
@@ -78,16 +78,16 @@ crashesAt s w c = atCoordinator w c (acts s w (crashes c untouched) c (crashStep
 unfoldable pub switches : Settings → World → ℕ → Event → Played
 switches s w b e = cond (ltb b (s .n)) (happens s w e []) (refuses w badNumber)
 
--- what the brick gave: a reply, silence after a Trim, or a refusal
+-- what the brick gave: a reply, silence after a Trim or a Drop, or a refusal
 unfoldable pub delivered : Settings → World → ℕ → Given → Played
 delivered s w k (Answered r) = happens s w (arrives k) []
 delivered s w k Silent = happens s w (arrives k) []
 delivered s w k (Refused number) = refuses w number
 
--- a message at its brick, which is up: every message but a Trim sends a reply, and that may be one past message 127
+-- a message at its brick, which is up: every message but a Trim or a Drop sends a reply, and that may be one past message 127
 unfoldable pub reaches : Settings → World → ℕ → ℕ → Message → (block old : List ℕ) → Played
 reaches s w k b msg block old =
-    cond (eqb (msg .kind) trimKind || ltb (length (w .sent)) lastMessage)
+    cond (isSilent (msg .kind) || ltb (length (w .sent)) lastMessage)
     (delivered s w k (rowOutcome s b (w .images b) msg block old (replicate (s .size) 0) .given))
     (refuses w badLine)
 

@@ -7,8 +7,7 @@ use lib.ListN.{length}
 use Rattle.settings.specs.Ranges.{settingsRefusal, stripeRefusal}
 use Rattle.settings.specs.Refusal.{passed, refuseUnless, firstRefusal, badLength, badNumber}
 use Rattle.settings.specs.declared.Settings.{Settings}
-use Rattle.message.specs.Kinds.{trimKind}
-use Rattle.message.specs.Messages.{messageRefusal, messageBlockRefusal}
+use Rattle.message.specs.Messages.{isSilent, messageRefusal, messageBlockRefusal}
 use Rattle.message.specs.declared.Message.{Message}
 use Rattle.image.specs.Brick.{Brick, entryCount, timeAt}
 use Rattle.image.specs.Image.{imageOf, imageSize}
@@ -66,9 +65,9 @@ outcomeWith g image out = record { given = g; image = image; out = out }
 unfoldable pub refusedWith : ℕ → List ℕ → List ℕ → Outcome
 refusedWith number bytes out = record { given = Refused number; image = bytes; out = out }
 
--- "Trim t: no reply"
+-- "Trim t: no reply"; E6: "a Drop has no reply"
 unfoldable pub givenBy : Settings → ℕ → Brick → Message → Given
-givenBy s brick x msg = cond (eqb (msg .kind) trimKind) Silent (Answered (replyTo s brick x msg))
+givenBy s brick x msg = cond (isSilent (msg .kind)) Silent (Answered (replyTo s brick x msg))
 
 unfoldable pub accepted : Settings → ℕ → Message → (block old bytes out : List ℕ) → Parsed → Outcome
 accepted s brick msg block old bytes out (Opens x) =

@@ -13,7 +13,7 @@ use brick_log::Plan;
 use brick_log::change;
 use brick_log::give;
 use brick_log::plan_for;
-use brick_log::trim;
+use brick_log::remove;
 use image::ImageAnswer;
 use image::holder_of;
 use image::number_of;
@@ -22,7 +22,7 @@ use image_block::BLOCK_BYTES;
 use message::Message;
 use message::NO_COMPARISON;
 use message::Reply;
-use message::TRIM;
+use message::is_silent;
 use settings::BAD_LENGTH;
 use settings::BAD_NUMBER;
 use settings::PASSED;
@@ -56,8 +56,8 @@ fn act(
         outcomeWith r (now (image .exit)) (now (out .exit))
         ≡ accepted s brick msg (now (block .entry)) (now (old .entry)) (now (image .entry)) (now (out .entry)) (Opens (brickIn s (now (image .entry)))) ⌝ }
 {
-    if msg.kind == TRIM {
-        trim(s, brick, image, k, p.cut, p.holder, p.lowest);
+    if is_silent(msg.kind) {
+        remove(s, brick, image, k, p);
         return Given::Silent;
     }
     let place = p.place;

@@ -1,11 +1,11 @@
--- Document 01, "What a brick does", and document 02's operations on one block (E2), on the abstract brick.
+-- Document 01, "What a brick does", document 02's operations on one block (E2) and its Drop (E6), on the abstract brick.
 use mathlib.Core.Bool.{Bool, cond, not, _&&_}
 use mathlib.Core.List.{List, [], _∷_}
 use Prim.Native.Nat.{ℕ, zero, suc, _-_}
 use lib.Dec.{ltb, eqb}
 use Rattle.settings.specs.declared.Settings.{Settings}
 use Rattle.message.specs.Flags.{member}
-use Rattle.message.specs.Kinds.{readKind, orderReadKind, orderBlockKind, writeKind, modifyKind, trimKind}
+use Rattle.message.specs.Kinds.{readKind, orderReadKind, orderBlockKind, writeKind, modifyKind, trimKind, dropKind}
 use Rattle.message.specs.declared.Message.{Message}
 use Rattle.message.specs.declared.Reply.{Reply}
 use Rattle.brick_answer.specs.Comparisons.{aboveNewest, notBelowPromise, hasFree, noneSaysNo, firstNo}
@@ -59,6 +59,16 @@ trimmed t (e ∷ f ∷ log) = cond (ltb (e .time) t) (trimmed t (f ∷ log)) (e 
 
 unfoldable pub trimmedTo : Brick → ℕ → Brick
 trimmedTo x t = record { promise = x .promise; log = lowestHeld (trimmed t (x .log)) }
+
+-- E6: "A brick drops that entry .. the lowest mark that means the dropped block becomes that block first": the entry of time t goes. A mark just
+-- goes; where it had its own block, the entry right above it has that block then, if it was a mark.
+unfoldable pub dropped : ℕ → List LogEntry → List LogEntry
+dropped t [] = []
+dropped t (e ∷ log) = cond (eqb (e .time) t) (cond (e .mark) log (lowestHeld log)) (e ∷ dropped t log)
+
+-- "unless it is the only one it has", "and the promise remains"
+unfoldable pub droppedFrom : Brick → ℕ → Brick
+droppedFrom x t = record { promise = x .promise; log = cond (eqb (entryCount x) 1) (x .log) (dropped t (x .log)) }
 
 -- E2: "The lookup under max .. gives the highest entry, mark or block": looked for from the newest down, among the first n.
 -- By its place in the log and 1; 0 for none.
@@ -115,9 +125,10 @@ replyTo s brick x msg =
 unfoldable pub brickAfter : Settings → ℕ → Brick → Message → (block old : List ℕ) → Brick
 brickAfter s brick x msg block old =
     cond (eqb (msg .kind) trimKind) (trimmedTo x (msg .time))
+    (cond (eqb (msg .kind) dropKind) (droppedFrom x (msg .time))
     (cond (eqb (msg .kind) writeKind) (writtenIfYes s x (msg .time) block)
     (cond (eqb (msg .kind) modifyKind) (modifiedIfYes s brick x msg block old)
-    (cond (eqb (msg .kind) readKind) x (orderedIfYes x (msg .time)))))
+    (cond (eqb (msg .kind) readKind) x (orderedIfYes x (msg .time))))))
 
 -- the bytes of the reply's block, or what the buffer held
 unfoldable pub blockAfter : Brick → ℕ → List ℕ → List ℕ

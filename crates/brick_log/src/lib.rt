@@ -5,18 +5,20 @@ ghost use mathlib.Core.Bool.{_&&_};
 ghost use Prim.Native.Nat.{_≤_, _<_, _+_, _*_};
 ghost use lib.Dec.{leb, ltb};
 ghost use Rattle.message.specs.Flags.{member};
-ghost use Rattle.brick_log.specs.Workers.{cutFor, underIn, underFor, lookedIn, planOf, trimPlan, planIn, readPlace, blockPlan, planFor, LogReady};
-ghost use Rattle.brick_log.specs.Workers.{gaveOf, LookedLow, TrimReady};
+ghost use Rattle.brick_log.specs.Workers.{cutFor, underIn, timeIn, underFor, lookedIn, planOf, removePlan, trimPlan, dropAt, dropPlan, planIn};
+ghost use Rattle.brick_log.specs.Workers.{readPlace, blockPlan, planFor, LogReady, gaveOf, LookedLow, RemoveReady, removedBy};
 ghost use lib.ListN.{length};
 ghost use Rattle.image.specs.Image.{imageOf};
 ghost use Rattle.image.specs.Parse.{brickIn};
-ghost use Rattle.image_write.specs.Workers.{without, slotOf};
+ghost use Rattle.image_write.specs.Workers.{slotOf};
 ghost use Rattle.image_write.specs.Saving.{withPromise, appended, blockEntry};
 ghost use Rattle.brick_log.specs.BrickRules.{newestBlock, modifiedEntry, comparisonTo, brickAfter};
 ghost use Rattle.byte_lists.specs.Lists.{put};
 ghost use Rattle.erasure.specs.Recoding.{recodedBlock};
 ghost use Rattle.image_block.specs.Block.{blockBytes, entryBlock};
-ghost use Rattle.message.specs.Kinds.{trimKind, modifyKind};
+ghost use mathlib.Core.Bool.{false};
+ghost use Rattle.message.specs.Kinds.{modifyKind};
+ghost use Rattle.message.specs.Messages.{isSilent};
 ghost use Rattle.settings.specs.Ranges.{maxBricks, maxCapacity, maxSize};
 use byte_lists::store;
 use erasure::recode_into;
@@ -30,6 +32,7 @@ use image_write::shift_blocks;
 use image_write::write_entry;
 use image_write::write_head;
 use image_write::write_mark;
+use message::DROP;
 use message::MODIFY;
 use message::Message;
 use message::NO_COMPARISON;
@@ -58,11 +61,12 @@ enum Looked {
 }
 
 // What a message asks for, found in the working log: the block that goes with the reply, by its number in the image, 0 for none;
-// the time that the reply names; how many entries a Trim drops, and of the lowest that it keeps the block of the image that it means and
-// its time.
+// the time that the reply names; how many entries go, from which place of the log on, and of the entry right above them the block of the image
+// that holds it and its time.
 pub struct Plan {
     pub place: usize,
     pub found: u64,
+    pub from: usize,
     pub cut: usize,
     pub holder: usize,
     pub lowest: u64,
@@ -112,16 +116,48 @@ fn look_under(log: [Entry; MAX_CAPACITY], count: usize, max: u64) -> Looked
     Looked::Nothing
 }
 
-// What goes with a reply, and nothing cut.
+// The entry of that time.
+fn find_time(log: [Entry; MAX_CAPACITY], count: usize, time: u64) -> Looked
+    requires { ⌜ count ≤ maxCapacity ⌝ }
+    ensures { λ r. ⌜ r ≡ lookedIn (timeIn log time count) ⌝ }
+{
+    let mut n = count;
+    while 0 < n {
+        let i = n - 1;
+        let e = log[i];
+        if e.time == time {
+            return Looked::Under(i);
+        }
+        n = i;
+    }
+    Looked::Nothing
+}
+
+// What goes with a reply; no entry goes.
 fn reply_plan(place: usize, found: u64) -> Plan
     ensures { λ r. ⌜ r ≡ planOf place found ⌝ }
 {
     Plan {
         place,
         found,
+        from: 0,
         cut: 0,
         holder: 0,
         lowest: 0,
+    }
+}
+
+// What goes from the log.
+fn remove_plan(from: usize, cut: usize, holder: usize, lowest: u64) -> Plan
+    ensures { λ r. ⌜ r ≡ removePlan from cut holder lowest ⌝ }
+{
+    Plan {
+        place: 0,
+        found: 0,
+        from,
+        cut,
+        holder,
+        lowest,
     }
 }
 
@@ -144,13 +180,37 @@ fn trim_plan(log: [Entry; MAX_CAPACITY], count: usize, time: u64) -> Plan
 {
     let d = cut_for(log, count, time);
     let e = log[d];
-    Plan {
-        place: 0,
-        found: 0,
-        cut: d,
-        holder: holder_of(log, d),
-        lowest: e.time,
+    remove_plan(0, d, holder_of(log, d), e.time)
+}
+
+// A Drop of entry i: the entry right above it becomes its block, if it is a mark that means the block that goes.
+fn drop_at(log: [Entry; MAX_CAPACITY], count: usize, i: usize) -> Plan
+    requires { ⌜ (i < count) × (count ≤ maxCapacity) ⌝ }
+    ensures { λ r. ⌜ r ≡ dropAt log count i ⌝ }
+{
+    let above = i + 1;
+    if above == count {
+        return remove_plan(i, 1, above + 1, 0);
     }
+    if holder_of(log, above) != above {
+        return remove_plan(i, 1, above + 1, 0);
+    }
+    let e = log[above];
+    remove_plan(i, 1, above, e.time)
+}
+
+// What a Drop takes out: the entry of its time, unless it is the only one.
+fn drop_plan(log: [Entry; MAX_CAPACITY], count: usize, time: u64) -> Plan
+    requires { ⌜ count ≤ maxCapacity ⌝ }
+    ensures { λ r. ⌜ r ≡ dropPlan log count time ⌝ }
+{
+    if count == 1 {
+        return reply_plan(0, 0);
+    }
+    let Looked::Under(i) = find_time(log, count, time) else {
+        return reply_plan(0, 0);
+    };
+    drop_at(log, count, i)
 }
 
 // Whether a brick is a target.
@@ -209,6 +269,9 @@ pub fn plan_for(log: [Entry; MAX_CAPACITY], k: Known, msg: Message, brick: usize
     let kind = msg.kind;
     if kind == TRIM {
         return trim_plan(log, k.count, msg.time);
+    }
+    if kind == DROP {
+        return drop_plan(log, k.count, msg.time);
     }
     if kind == READ {
         let targets = msg.targets;
@@ -372,27 +435,21 @@ fn modify(
     write_head(s, brick, image, k.count + 1, k.promise);
 }
 
-// The entries from number d on, kept; the lowest of them has that time, and gets its block, which stands in block `holder` of the image.
-pub fn trim(
-    s: Settings,
-    brick: usize,
-    image: &mut [u8],
-    k: Known,
-    d: usize,
-    holder: usize,
-    lowest: u64,
-)
+// A Trim or a Drop: the entries of the plan go, and the promise remains. The entry right above them gets its block first, where another block of
+// the image holds it.
+pub fn remove(s: Settings, brick: usize, image: &mut [u8], k: Known, p: Plan)
     requires { ⌜ LogReady s brick (now image) k ⌝ }
-    requires { ⌜ TrimReady (brickIn s (now image)) k d holder lowest ⌝ }
-    ensures { λ _. ⌜ now (image .exit) ≡ imageOf s brick (without (brickIn s (now (image .entry))) d) ⌝ }
+    requires { ⌜ RemoveReady (brickIn s (now image)) k p ⌝ }
+    ensures { λ _. ⌜ now (image .exit) ≡ imageOf s brick (removedBy (brickIn s (now (image .entry))) p) ⌝ }
 {
-    if d == 0 {
+    if p.cut == 0 {
         return;
     }
-    let own = d + 1;
-    hold_own(image, s.size, own, holder, lowest);
-    let kept = k.count - d;
-    shift_blocks(image, d, kept);
+    let above = p.from + p.cut;
+    let own = above + 1;
+    hold_own(image, s.size, own, p.holder, p.lowest);
+    shift_blocks(image, p.from, p.cut, k.count - above);
+    let kept = k.count - p.cut;
     clear_blocks(image, kept + 1, k.count + 1);
     write_head(s, brick, image, kept, k.promise);
 }
@@ -410,7 +467,7 @@ pub fn give(image: &[u8], size: usize, place: usize, out: &mut [u8])
     store(out, 0, &image[a..e]);
 }
 
-// What a message other than Trim changes, by the comparison that said no: nothing, unless none did.
+// What a message with a reply changes, by the comparison that said no: nothing, unless none did.
 pub fn change(
     s: Settings,
     brick: usize,
@@ -423,7 +480,7 @@ pub fn change(
 )
     requires { ⌜ LogReady s brick (now image) k ⌝ }
     requires { ⌜ (length (now block) ≡ s .size) × (length (now old) ≡ s .size) ⌝ }
-    requires { ⌜ (msg .kind ≡ trimKind → ⊥) × (msg .kind ≡ modifyKind → msg .block < s .m) × (said ≡ comparisonTo s (brickIn s (now image)) msg) ⌝ }
+    requires { ⌜ (isSilent (msg .kind) ≡ false) × (msg .kind ≡ modifyKind → msg .block < s .m) × (said ≡ comparisonTo s (brickIn s (now image)) msg) ⌝ }
     ensures { λ _. ⌜ now (image .exit)
         ≡ imageOf s brick (brickAfter s brick (brickIn s (now (image .entry))) msg (now (block .entry)) (now (old .entry))) ⌝ }
 {

@@ -1,36 +1,29 @@
 -- Document 01, "What a coordinator does": what a decision does, and how an operation begins and ends.
-use mathlib.Core.Bool.{Bool, cond}
-use mathlib.Core.List.{List, [], _∷_}
+use mathlib.Core.Bool.{Bool, cond, not, _&&_}
+use mathlib.Core.List.{List, [], _∷_, _++_}
 use Prim.Native.Nat.{ℕ, _+_}
-use lib.Dec.{eqb, ltb}
-use lib.ListN.{take}
+use lib.Dec.{eqb, leb, ltb}
+use Rattle.coord_blocks.specs.Blocks.{stripeFrom, agreeing, givenStripe, storedStripe}
 use Rattle.coord_apply.specs.Answers.{Buffered, Broadcast, Went, nothingSeen, beganSeen, okSeen, readSeen, abortedSeen, letterOf}
 use Rattle.coord_letters.specs.Letters.{noLetter}
-use Rattle.coord_record.specs.Records.{writingBlockKind, isReading, onBlock, targetCount, idleWith, nothingCounted, noBricks}
+use Rattle.coord_record.specs.Records.{isReading, onBlock, targetCount, idleWith, nothingCounted, noBricks}
 use Rattle.coord_record.specs.declared.Coordinator.{Coordinator}
 use Rattle.coord_record.specs.declared.Op.{Op}
 use Rattle.coord_record.specs.declared.Tally.{Tally}
-use Rattle.coord_tally.specs.Counting.{givers, picked, targetRow}
+use Rattle.coord_tally.specs.Counting.{atTimes, givers, picked, targetRow}
 use Rattle.coord_decide.specs.Deciding.{tallied, decided}
 use Rattle.coord_decide.specs.declared.Decision.{Decision}
 use Rattle.coord_decide.specs.declared.Decision.the-variants.{Abort, Give, Look, Store, Modify, Recover, Finish}
-use Rattle.erasure.specs.Code.{codedOf, decodedOf, agree, blockOf, blocksOf, withBlock}
+use Rattle.erasure.specs.Code.{codedOf, blockOf, withBlock}
 use Rattle.message.specs.Flags.{members}
-use Rattle.message.specs.Kinds.{orderReadKind, writeKind, modifyKind, trimKind, firstRound}
+use Rattle.message.specs.Kinds.{orderReadKind, writeKind, modifyKind, trimKind, dropKind, firstRound}
 use Rattle.message.specs.Messages.{namesBlock}
 use Rattle.coord_apply.specs.declared.Notice.{Notice}
 use Rattle.message.specs.declared.Message.{Message}
 use Rattle.message.specs.declared.Reply.{Reply}
+use Rattle.settings.specs.Count.{count}
 use Rattle.settings.specs.Ranges.{quorum}
 use Rattle.settings.specs.declared.Clock.{Clock}
-
--- the stripe that the blocks of a list of bricks decode to, out of the reply blocks
-unfoldable pub stripeFrom : (m size : ℕ) → (bricks blocks : List ℕ) → List ℕ
-stripeFrom m size bricks blocks = decodedOf m size bricks (blocksOf size blocks bricks)
-
--- E3: whether they lie on one polynomial
-unfoldable pub agreeing : (m size : ℕ) → (bricks blocks : List ℕ) → Bool
-agreeing m size bricks blocks = agree m size bricks (blocksOf size blocks bricks)
 
 -- "messages and replies carry time and round"; E1: "Messages and replies gain a stripe number", that of the operation
 -- E2: the first round of a block write and Modify name the block, and Modify has the old time (`old`, 0 in any other)
@@ -47,9 +40,32 @@ roundMessage op old targets =
       targets = targets;
     }
 
--- "Trim of the operation's time, with that round's number", on the operation's stripe
-unfoldable pub trimMessage : Op → Message
-trimMessage op = record { kind = trimKind; stripe = op .stripe; time = op .time; round = op .round; max = 0; old = 0; block = 0; targets = noBricks }
+-- Trim or Drop of a time, "with that round's number", on the operation's stripe
+unfoldable pub clearMessage : (kind : ℕ) → Op → (time : ℕ) → Message
+clearMessage kind op time =
+    record { kind = kind; stripe = op .stripe; time = time; round = op .round; max = 0; old = 0; block = 0; targets = noBricks }
+
+-- the same to all bricks
+unfoldable pub clearing : (kind : ℕ) → Op → (time : ℕ) → Broadcast
+clearing kind op time = record { message = clearMessage kind op time; blocks = []; old = [] }
+
+-- E6: q replies gave a block of a time: "all q replies hold the chosen time", since the q-th reply decides
+unfoldable pub allHold : (n m : ℕ) → Tally → (time : ℕ) → Bool
+allHold n m t time = leb (quorum n m) (count (atTimes (t .held) (t .found) time) n)
+
+-- E6: "The coordinator then sends Drop of that time, with that round's number, to all bricks before its next round": where a recovery round is
+-- followed by another, of the highest time that it found, which is the next max; before the first recovery round there is nothing to drop
+unfoldable pub dropsFirst : Op → (max : ℕ) → List Broadcast
+dropsFirst op max = cond (eqb (op .phase) orderReadKind) (clearing dropKind op max ∷ []) []
+
+-- E6: "If all q replies hold the chosen time, other than 0, Trim of that time, with the number of the round that found it, goes to all before the
+-- store"
+unfoldable pub trimsFirst : (n m : ℕ) → Op → Tally → (time : ℕ) → List Broadcast
+trimsFirst n m op t time = cond (not (eqb time 0) && allHold n m t time) (clearing trimKind op time ∷ []) []
+
+-- broadcasts ahead of those that a step sends: at one event, one list
+unfoldable pub sendingFirst : List Broadcast → Went → Went
+sendingFirst first w = record { next = w .next; sent = first ++ w .sent; seen = w .seen }
 
 -- "Rounds count from 1": the next round of an operation, on its stripe, with nothing counted
 unfoldable pub nextOp : Op → ℕ → ℕ → Op
@@ -106,17 +122,6 @@ ending n h stripe sent what bricks =
 unfoldable pub finishedSeen : Op → ℕ
 finishedSeen op = cond (isReading (op .kind)) readSeen okSeen
 
--- what a read of one round gives: "it decodes"; E2: of a read of block j, that block, from brick j
-unfoldable pub givenStripe : (n m size : ℕ) → Op → (blocks stripe : List ℕ) → List ℕ
-givenStripe n m size op blocks stripe =
-    cond (onBlock (op .kind)) (withBlock size stripe (op .first) (blockOf size blocks (op .first)))
-    (stripeFrom m size (take m (targetRow n m (op .first))) blocks)
-
--- what a recovery stores: the stripe decoded; E2: of a write of block j, "with block j replaced"
-unfoldable pub storedStripe : (size : ℕ) → Op → (stripe decoded : List ℕ) → List ℕ
-storedStripe size op stripe decoded =
-    cond (eqb (op .kind) writingBlockKind) (withBlock size decoded (op .first) (blockOf size stripe (op .first))) decoded
-
 -- the bricks that a recovery names: a read names those decoded from
 unfoldable pub namedBricks : Op → List ℕ → List ℕ
 namedBricks op row = cond (isReading (op .kind)) row noBricks
@@ -132,11 +137,12 @@ recoveredStripe n m size h time = storedStripe size (h .state .op) (h .stripe) (
 abbrev pub pickedAt : (n m : ℕ) → Buffered → (time : ℕ) → List ℕ
 pickedAt n m h time = picked (h .state .tally .held) (h .state .tally .found) time n m
 
--- "decode and store by a Write round under the operation's own time"
+-- "decode and store by a Write round under the operation's own time"; E6: after the early Trim, if any
 abbrev pub storing : (n m size : ℕ) → Buffered → (time : ℕ) → Went
 storing n m size h time =
-    nextRound h writeKind 0 (namedBricks (h .state .op) (pickedAt n m h time)) (recoveredStripe n m size h time)
-    (codedOf n m size (recoveredStripe n m size h time))
+    sendingFirst (trimsFirst n m (h .state .op) (h .state .tally) time)
+    (nextRound h writeKind 0 (namedBricks (h .state .op) (pickedAt n m h time)) (recoveredStripe n m size h time)
+    (codedOf n m size (recoveredStripe n m size h time)))
 
 -- "ends it aborted": nothing is sent
 abbrev pub aborting : (n : ℕ) → Buffered → Went
@@ -150,8 +156,8 @@ acted n m size h Abort = aborting n h
 acted n m size h Give =
     ending n h (givenStripe n m size (h .state .op) (h .blocks) (h .stripe)) [] readSeen
     (targetRow n (targetCount m (h .state .op .kind)) (h .state .op .first))
--- "Recovery: Order-and-read with max 2^44 .. With fewer, repeat with max = that time."
-acted n m size h (Look max) = nextRound h orderReadKind max noBricks (h .stripe) []
+-- "Recovery: Order-and-read with max 2^44 .. With fewer, repeat with max = that time." E6: after the Drop of that time
+acted n m size h (Look max) = sendingFirst (dropsFirst (h .state .op) max) (nextRound h orderReadKind max noBricks (h .stripe) [])
 -- "Order round, then a Write round sending brick j coded block j"
 acted n m size h Store = nextRound h writeKind 0 noBricks (h .stripe) (codedOf n m size (h .stripe))
 -- E2: "If all q times agree and brick j replied, Modify goes out"
@@ -162,7 +168,7 @@ acted n m size h (Recover time) =
 -- "After a finished Write round, Trim of the operation's time, with that round's number, is sent to all."
 -- E2: "Trim follows a finished Modify round too."
 acted n m size h Finish =
-    ending n h (h .stripe) (record { message = trimMessage (h .state .op); blocks = []; old = [] } ∷ []) (finishedSeen (h .state .op)) (h .state .bricks)
+    ending n h (h .stripe) (clearing trimKind (h .state .op) (h .state .op .time) ∷ []) (finishedSeen (h .state .op)) (h .state .bricks)
 
 -- "The first reply of a brick in a round counts"
 unfoldable pub withTally : Coordinator → Tally → Coordinator

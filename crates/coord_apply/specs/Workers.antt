@@ -1,8 +1,7 @@
 -- What the inner workers of this crate ask and give.
-use mathlib.Core.List.{List}
-use Prim.Native.Nat.{ℕ, _+_, _*_, _≤_, _<_}
-use lib.ListN.{getD, length}
-use Rattle.coord_apply.specs.Answers.{Buffered, nothingSeen, noMessage, went, sentBlocks, answerOf}
+use mathlib.Core.List.{List, [], _∷_}
+use Prim.Native.Nat.{ℕ, _*_, _≤_, _<_}
+use Rattle.coord_apply.specs.Answers.{Buffered, Broadcast, nothingSeen, noMessage, went, mostBroadcasts, sentBlocks, answerOf}
 use mathlib.Core.Bool.{cond, true}
 use Rattle.coord_letters.specs.Letters.{letterS, readLetter}
 use Rattle.coord_record.specs.Records.{isReading, onBlock, idleWith, noBricks}
@@ -10,7 +9,7 @@ use Rattle.coord_record.specs.declared.Op.{Op}
 use Rattle.coord_record.specs.declared.Coordinator.{Coordinator}
 use Rattle.coord_decide.specs.declared.Decision.{Decision}
 use Rattle.message.specs.declared.Message.{Message}
-use Rattle.settings.specs.Ranges.{CodeRange, maxBricks, maxSize}
+use Rattle.settings.specs.Ranges.{CodeRange}
 use mathlib.Core.Path.{_≡_}
 use Rattle.coord_apply.specs.declared.Answer.{Answer}
 use Rattle.coord_apply.specs.Acts.{roundMessage, noticeOf, nextOp, opened, acted}
@@ -27,6 +26,16 @@ openAnswer c phase max old bricks =
       second = noMessage;
       seen = nothingSeen;
     }
+
+-- an answer that has one message, with one ahead of it
+unfoldable pub precededAnswer : Message → Answer → Answer
+precededAnswer first a =
+    record { refusal = a .refusal; next = a .next; sent = mostBroadcasts; message = first; second = a .message; seen = a .seen }
+
+-- E6: the same with what goes out ahead, if anything
+unfoldable pub aheadAnswer : List Broadcast → Answer → Answer
+aheadAnswer [] a = a
+aheadAnswer (b ∷ rest) a = precededAnswer (b .message) a
 
 unfoldable pub endAnswer : Coordinator → (what letter : ℕ) → List ℕ → ℕ → Message → Answer
 endAnswer c what letter bricks sent message =
@@ -57,16 +66,3 @@ pub record Acted (n m size : ℕ) (h : Buffered) (d : Decision) (coded : List �
   pub answer : r ≡ answerOf (h .state) (went (acted n m size h d))
   pub stripe-left : stripe′ ≡ acted n m size h d .next .stripe
   pub coded-left : coded′ ≡ sentBlocks (acted n m size h d .sent) coded
-
--- the block of each of the first k bricks of a row is within the blocks
-pub record InPlace (k size : ℕ) (bricks blocks : List ℕ) : Type 0 where
-  pub within : (i : ℕ) → i < k → getD bricks i 0 * size + size ≤ length blocks
-
--- the first k bricks of a row are m or more to decode from, all different, each with its block in place
-pub record HandedOn (m size k : ℕ) (row blocks : List ℕ) : Type 0 where
-  pub size-low : 0 < size
-  pub size-high : size ≤ maxSize
-  pub few : k ≤ maxBricks
-  pub enough : m ≤ k
-  pub differ : (i j : ℕ) → i < k → j < k → getD row i 0 ≡ getD row j 0 → i ≡ j
-  pub in-place : InPlace k size row blocks

@@ -114,7 +114,7 @@ fn keep(size: usize, reply: Reply, block: &[u8], blocks: &mut [u8])
     ensures { λ _. ⌜ now (blocks .exit) ≡ keptBlocks size reply (now (block .entry)) (now (blocks .entry)) ⌝ }
 {
     if reply.held {
-        coord_apply::place(size, reply.brick, block, blocks)
+        coord_blocks::place(size, reply.brick, block, blocks)
     }
 }
 

@@ -2,3 +2,4 @@
 pub mod FigureLaws
 pub mod WorkedRunLaws
 pub mod FiveOfSevenLaws
+pub mod ShortLogLaws

@@ -29,7 +29,7 @@ fiveOfSeven = record { n = 7; m = 5; size = 1; capacity = 3; stripes = 1 }
 
 -- Block 2 of the fresh stripe is written by coordinator 0, in two rounds that bricks 0 to 5 hear; of its Trims only brick 0's arrives. Then
 -- brick 5 is down and coordinator 1 reads the stripe: of the six bricks that answer, 0 to 4 have the write, 1, 3 and 4 as a mark, and brick 6
--- has not heard of it, so the read recovers: a round of Order-and-read, and one more, which stores. (By its Trim brick 0 has nothing under
+-- has not heard of it, so the read recovers: a round of Order-and-read, and then one more, which stores. (By its Trim brick 0 has nothing under
 -- time 16, so that with document 001's lookup five blocks of time 0 are found, and no sixth has to be checked.)
 unfoldable pub fiveOfSevenEvents : List Event
 fiveOfSevenEvents =
@@ -45,15 +45,22 @@ fiveOfSevenEvents =
     ∷ arrives 40 ∷ arrives 41 ∷ arrives 42 ∷ arrives 43 ∷ arrives 44 ∷ arrives 45
     ∷ arrives 46 ∷ arrives 47 ∷ arrives 48 ∷ arrives 49 ∷ arrives 50 ∷ arrives 52
     ∷ arrives 53 ∷ arrives 54 ∷ arrives 55 ∷ arrives 56 ∷ arrives 57 ∷ arrives 58
-    ∷ arrives 59 ∷ arrives 60 ∷ arrives 61 ∷ arrives 62 ∷ arrives 63 ∷ arrives 65
+    ∷ []
+
+-- the read stores what it found
+unfoldable pub storing : List Event
+storing =
+    arrives 59 ∷ arrives 60 ∷ arrives 61 ∷ arrives 62 ∷ arrives 63 ∷ arrives 65
     ∷ arrives 66 ∷ arrives 67 ∷ arrives 68 ∷ arrives 69 ∷ arrives 70 ∷ arrives 71
     ∷ []
 
--- with document 001's lookup the last of those rounds is a second Order-and-read, and another stores
+-- with document 001's lookup the next round is a second Order-and-read, after Drops (E6) that are lost, and another stores
 unfoldable pub oneRoundMore : List Event
 oneRoundMore =
-    arrives 72 ∷ arrives 73 ∷ arrives 74 ∷ arrives 75 ∷ arrives 76 ∷ arrives 78
-    ∷ arrives 79 ∷ arrives 80 ∷ arrives 81 ∷ arrives 82 ∷ arrives 83 ∷ arrives 84
+    arrives 66 ∷ arrives 67 ∷ arrives 68 ∷ arrives 69 ∷ arrives 70 ∷ arrives 72
+    ∷ arrives 73 ∷ arrives 74 ∷ arrives 75 ∷ arrives 76 ∷ arrives 77 ∷ arrives 78
+    ∷ arrives 79 ∷ arrives 80 ∷ arrives 81 ∷ arrives 82 ∷ arrives 83 ∷ arrives 85
+    ∷ arrives 86 ∷ arrives 87 ∷ arrives 88 ∷ arrives 89 ∷ arrives 90 ∷ arrives 91
     ∷ []
 
 -- document 001's lookup: the highest entry with a block under max, among the first n; by its place and 1, 0 for none
@@ -133,7 +140,7 @@ seenGiving given =
 
 -- The finished block write stays,
 abbrev pub FinishedBlockWriteStays : Type 0
-FinishedBlockWriteStays = run fiveOfSeven fiveOfSevenEvents .seen 0 ≡ seenGiving (0 ∷ 0 ∷ 9 ∷ 0 ∷ 0 ∷ [])
+FinishedBlockWriteStays = run fiveOfSeven (fiveOfSevenEvents ++ storing) .seen 0 ≡ seenGiving (0 ∷ 0 ∷ 9 ∷ 0 ∷ 0 ∷ [])
 
 -- and with document 001's lookup the recovery undoes it.
 abbrev pub LookupOf001UndoesIt : Type 0

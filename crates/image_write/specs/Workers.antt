@@ -1,9 +1,9 @@
 -- What the inner workers of this crate ask and give.
-use mathlib.Core.Bool.{cond}
-use mathlib.Core.List.{List}
+use mathlib.Core.Bool.{Bool, cond}
+use mathlib.Core.List.{List, _++_}
 use lib.Dec.{eqb}
 use Prim.Native.Nat.{ℕ, zero, suc, _+_, _*_}
-use lib.ListN.{drop}
+use lib.ListN.{take, drop}
 use Rattle.byte_lists.specs.Lists.{put}
 use Rattle.image.specs.Brick.{Brick, LogEntry}
 use Rattle.image_block.specs.Block.{entryBlock, markBlock, unusedBlock}
@@ -11,9 +11,13 @@ use Rattle.image.specs.Parse.{imageBlockAt, heldIn}
 use Rattle.image_write.specs.Saving.{lowestHeld}
 use Rattle.image_block.specs.Block.{blockBytes}
 
--- without the first d entries; the lowest that is kept has its block
-unfoldable pub without : Brick → ℕ → Brick
-without x d = record { promise = x .promise; log = lowestHeld (drop d (x .log)) }
+-- the lowest entry of a log has its block, where it must
+unfoldable pub heldIf : (held : Bool) → List LogEntry → List LogEntry
+heldIf held log = cond held (lowestHeld log) log
+
+-- without the d entries from place `from` on; where `held`, the entry right above them has its block
+unfoldable pub removed : Brick → (from d : ℕ) → (held : Bool) → Brick
+removed x from d held = record { promise = x .promise; log = take from (x .log) ++ heldIf held (drop (from + d) (x .log)) }
 
 -- the block of the image for an entry: a mark, or an entry with its block
 unfoldable pub slotOf : (size : ℕ) → LogEntry → List ℕ
@@ -29,7 +33,7 @@ unfoldable pub cleared : ℕ → ℕ → List ℕ → List ℕ
 cleared from zero l = l
 cleared from (suc n) l = put (blockBytes * (from + n)) unusedBlock (cleared from n l)
 
--- the entries from number d on, `kept` of them, moved down to the front: block k + 1 becomes what block d + k + 1 was
-unfoldable pub shifted : ℕ → ℕ → List ℕ → List ℕ
-shifted d zero l = l
-shifted d (suc k) l = put (blockBytes * (k + 1)) (imageBlockAt l (d + k + 1)) (shifted d k l)
+-- the `kept` entries above the d that go from place `from` on, moved down: block from + k + 1 becomes what block from + d + k + 1 was
+unfoldable pub shifted : (from d kept : ℕ) → List ℕ → List ℕ
+shifted from d zero l = l
+shifted from d (suc k) l = put (blockBytes * (from + k + 1)) (imageBlockAt l (from + d + k + 1)) (shifted from d k l)

@@ -82,7 +82,8 @@ fn copied(part: &[u8]) -> [u8; BLOCK_BYTES]
 
 // An entry's block, which stands in another block of the image, written into the entry's own; nothing to do where it stands there.
 pub fn hold_own(image: &mut [u8], size: usize, own: usize, holder: usize, time: u64)
-    requires { ⌜ (size ≤ maxSize) × (blockBytes * (own + 1) ≤ length (now image)) × (blockBytes * (holder + 1) ≤ length (now image)) ⌝ }
+    requires { ⌜ size ≤ maxSize ⌝ }
+    requires { ⌜ ((holder ≡ own → ⊥) → (blockBytes * (own + 1) ≤ length (now image)) × (blockBytes * (holder + 1) ≤ length (now image))) ⌝ }
     ensures { λ _. ⌜ now (image .exit) ≡ heldOwn size own holder time (now (image .entry)) ⌝ }
 {
     if holder == own {
@@ -95,17 +96,17 @@ pub fn hold_own(image: &mut [u8], size: usize, own: usize, holder: usize, time: 
     write_entry(image, BLOCK_BYTES * own, time, &b[ENTRY_HELD..end]);
 }
 
-// The entries from number d on, moved down to the front: `kept` blocks.
-pub fn shift_blocks(image: &mut [u8], d: usize, kept: usize)
-    requires { ⌜ blockBytes * (d + kept + 1) ≤ length (now image) ⌝ }
-    ensures { λ _. ⌜ now (image .exit) ≡ shifted d kept (now (image .entry)) ⌝ }
+// The `kept` entries above the d that go from place `from` on, moved down to it.
+pub fn shift_blocks(image: &mut [u8], from: usize, d: usize, kept: usize)
+    requires { ⌜ blockBytes * (from + d + kept + 1) ≤ length (now image) ⌝ }
+    ensures { λ _. ⌜ now (image .exit) ≡ shifted from d kept (now (image .entry)) ⌝ }
 {
     let mut k: usize = 0;
     while k < kept {
-        let from = BLOCK_BYTES * (d + k + 1);
-        let e = from + BLOCK_BYTES;
-        let b = copied(&image[from..e]);
-        store(image, BLOCK_BYTES * (k + 1), &b);
+        let start = BLOCK_BYTES * (from + d + k + 1);
+        let e = start + BLOCK_BYTES;
+        let b = copied(&image[start..e]);
+        store(image, BLOCK_BYTES * (from + k + 1), &b);
         k += 1;
     }
 }

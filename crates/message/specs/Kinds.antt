@@ -1,4 +1,5 @@
--- Document 01, "What a brick does": the messages, and document 02's (E2). A reply has the kind of the message that it answers; Trim has none.
+-- Document 01, "What a brick does": the messages, and document 02's (E2, E6). A reply has the kind of the message that it answers; Trim and Drop
+-- have none.
 use Prim.Native.Nat.{ℕ}
 
 abbrev pub readKind : ℕ
@@ -23,6 +24,10 @@ modifyKind = 6
 
 abbrev pub trimKind : ℕ
 trimKind = 7
+
+-- E6: "The coordinator then sends Drop of that time"
+abbrev pub dropKind : ℕ
+dropKind = 8
 
 -- E2: "Reading block j has brick j as its only target"
 abbrev pub blockTargets : ℕ

@@ -7,7 +7,7 @@ use mathlib.Core.List.{List, [], _∷_}
 use Prim.Native.Nat.{ℕ}
 use lib.Dec.{eqb, leb, ltb}
 use Rattle.message.specs.Flags.{brickSet}
-use Rattle.message.specs.Kinds.{readKind, orderReadKind, orderBlockKind, writeKind, modifyKind, trimKind, blockTargets, lastRound, firstRound}
+use Rattle.message.specs.Kinds.{readKind, orderReadKind, orderBlockKind, writeKind, modifyKind, trimKind, dropKind, blockTargets, lastRound, firstRound}
 use Rattle.message.specs.Kinds.{noComparison, newerTime, promiseAhead, fullLog}
 use Rattle.message.specs.declared.Message.{Message}
 use Rattle.message.specs.declared.Reply.{Reply}
@@ -31,7 +31,7 @@ unfoldable pub kindRight : ℕ → ℕ → Message → Bool
 kindRight n m msg =
     cond (eqb (msg .kind) orderReadKind) (leb (msg .max) noUpperEnd)
     (cond (eqb (msg .kind) readKind) (targetsRight n m (msg .targets))
-    (cond (eqb (msg .kind) modifyKind) (foundRight (msg .old)) (leb readKind (msg .kind) && leb (msg .kind) trimKind)))
+    (cond (eqb (msg .kind) modifyKind) (foundRight (msg .old)) (leb readKind (msg .kind) && leb (msg .kind) dropKind)))
 
 unfoldable pub messageRefusal : ℕ → ℕ → Message → ℕ
 messageRefusal n m msg = refuseUnless (validTime (msg .time) && roundRight (msg .round) && kindRight n m msg) badMessage
@@ -43,6 +43,10 @@ namesBlock kind = eqb kind orderBlockKind || eqb kind modifyKind
 -- refusal 14 of a message, where it names a data block
 unfoldable pub messageBlockRefusal : (m : ℕ) → Message → ℕ
 messageBlockRefusal m msg = cond (namesBlock (msg .kind)) (dataBlockRefusal m (msg .block)) passed
+
+-- "Trim t: no reply"; E6: "a Drop has no reply"
+unfoldable pub isSilent : ℕ → Bool
+isSilent kind = eqb kind trimKind || eqb kind dropKind
 
 -- these two store an entry, and so need a free one
 unfoldable pub storesEntry : ℕ → Bool

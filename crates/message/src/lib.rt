@@ -9,7 +9,7 @@ ghost use Rattle.settings.specs.Ranges.{maxBricks};
 ghost use Rattle.message.specs.Flags.{members, flagsWithin, brickSet};
 ghost use Rattle.message.specs.Messages.{roundRight, foundRight, targetsRight, kindRight, messageRefusal};
 ghost use Rattle.message.specs.Messages.{namesBlock, messageBlockRefusal, replyRight, replyRefusal};
-ghost use Rattle.message.specs.Messages.{storesEntry, compares, comparisonRight};
+ghost use Rattle.message.specs.Messages.{isSilent, storesEntry, compares, comparisonRight};
 
 pub const READ: u8 = 1;
 
@@ -25,6 +25,8 @@ pub const WRITE: u8 = 5;
 pub const MODIFY: u8 = 6;
 
 pub const TRIM: u8 = 7;
+
+pub const DROP: u8 = 8;
 
 // The comparison that said no: the newest time, the promise, a full log; none with a yes.
 pub const NO_COMPARISON: u8 = 0;
@@ -163,6 +165,16 @@ pub fn names_block(kind: u8) -> bool
     kind == MODIFY
 }
 
+// Whether messages of a kind have no reply.
+pub fn is_silent(kind: u8) -> bool
+    ensures { λ r. ⌜ r ≡ isSilent kind ⌝ }
+{
+    if kind == TRIM {
+        return true;
+    }
+    kind == DROP
+}
+
 // Whether messages of a kind store an entry.
 pub fn stores_entry(kind: u8) -> bool
     ensures { λ r. ⌜ r ≡ storesEntry kind ⌝ }
@@ -215,7 +227,7 @@ impl Message {
         if self.kind == MODIFY {
             return found_right(self.old);
         }
-        READ <= self.kind && self.kind <= TRIM
+        READ <= self.kind && self.kind <= DROP
     }
 
     // 14 where it names a data block that a stripe does not have, else 0.

@@ -7,6 +7,7 @@ pub mod BlockCorollaryLaws
 pub mod NeverRefusedLaws
 pub mod EntryLaws
 pub mod AgreementLaws
+pub mod SupersededLaws
 pub mod RunLetterLaws
 pub mod EndLetterLaws
 pub mod NumberedLaws

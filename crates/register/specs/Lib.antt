@@ -9,6 +9,7 @@ pub mod Corollaries
 pub mod NeverRefused
 pub mod Entries
 pub mod Recoveries
+pub mod Superseded
 pub mod RunLetters
 pub mod Numbered
 pub mod Volumes

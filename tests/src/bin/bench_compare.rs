@@ -3,7 +3,7 @@
 //! Ends with 1 if any output differs.
 
 use jilbagum_tests::bench::Bench;
-use jilbagum_tests::brick::{ORDER_READ, TRIM};
+use jilbagum_tests::brick::{DROP, ORDER_READ};
 use jilbagum_tests::rng::Rng;
 use jilbagum_tests::{edges, script};
 use std::collections::BTreeMap;
@@ -16,6 +16,8 @@ use std::sync::Mutex;
 use std::thread;
 use std::time::{Duration, Instant};
 
+/// How many cases there are at least.
+const CASES: u64 = 95;
 const RANDOM_SCRIPTS: usize = 24_000;
 const PIECED_SCRIPTS: usize = 600;
 const WORKERS: usize = 2;
@@ -138,7 +140,7 @@ fn jobs(here: &Path) -> Vec<Job> {
         }
         cases += 1;
     }
-    assert!(cases >= 74, "cases are missing");
+    assert!(cases >= CASES, "cases are missing");
     jobs.extend(long_inputs());
     jobs.extend((0..PIECED_SCRIPTS as u64).map(|k| Job::Pieced(1_000_000 + k)));
     jobs.extend((0..number("SCRIPTS").unwrap_or(RANDOM_SCRIPTS) as u64).map(|k| Job::Random(2_000_000 + k)));
@@ -204,7 +206,6 @@ fn count(tally: &mut Tally, kind: &str, more: usize) {
 /// Counts what a script led to.
 fn note(tally: &mut Tally, bench: &Bench, printed: &[u8]) {
     count(tally, "scripts", 1);
-    let mut written = 0;
     for line in String::from_utf8_lossy(printed).lines() {
         let words: Vec<&str> = line.split(' ').collect();
         let kind = match words.as_slice() {
@@ -216,13 +217,17 @@ fn note(tally: &mut Tally, bench: &Bench, printed: &[u8]) {
         };
         if let [_, _, _, letter, _] = words.as_slice() {
             count(tally, &format!("letter {letter}"), 1);
+            count(tally, "read recovered", usize::from(["H", "L"].contains(letter)));
         }
-        written += usize::from(kind == "write ok");
         count(tally, &kind, 1);
     }
-    // Trims follow finished writes and recovered reads.
-    count(tally, "read recovered", bench.rounds(TRIM) - written);
     count(tally, "recovery rounds", bench.rounds(ORDER_READ));
+    count(tally, "Drops sent", bench.rounds(DROP));
+    let cleared = bench.cleared();
+    count(tally, "Drops carried", cleared.drops);
+    count(tally, "entries dropped", cleared.dropped);
+    count(tally, "early Trims carried", cleared.early_trims);
+    count(tally, "entries trimmed early", cleared.trimmed);
     count(tally, "sent 127", usize::from(bench.sent() == 127));
 }
 
@@ -230,7 +235,8 @@ fn note(tally: &mut Tally, bench: &Bench, printed: &[u8]) {
 /// of a run agree, and four logs of four entries hold too few times to spend the rounds. In the first recovery round every brick gives its
 /// newest entry, so time 0 is the highest only where all q hold it. A later round needs m 2 or more; then at most one brick lacks a
 /// finished write, and only that one can lose its lower entries to the Trim of a write later than the recovery and still say yes. Another
-/// brick gives the last finished time then, and a further round is told no. With six bricks X occurs: tests/block_order.rs plays it.
+/// brick gives the last finished time then, and a further round is told no. Drops change none of this: what a quorum of these bricks stored
+/// is on two of those that answer, unless they say no. With six bricks X occurs: tests/block_order.rs plays it.
 fn missing(tally: &Tally) -> Vec<String> {
     let often = [
         "write ok",
@@ -242,6 +248,11 @@ fn missing(tally: &Tally) -> Vec<String> {
         "read cut",
         "read recovered",
         "recovery rounds",
+        "Drops sent",
+        "Drops carried",
+        "entries dropped",
+        "early Trims carried",
+        "entries trimmed early",
         "refused 1",
         "refused 3",
         "refused 7",

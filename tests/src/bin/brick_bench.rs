@@ -2,14 +2,14 @@
 //! Prints nanoseconds a message and how many times as long the proved one takes. Then the proved routine on the row of images of a
 //! brick of 64 stripes beside that of one stripe.
 
-use jilbagum_tests::brick::{MODIFY, NONE, ORDER, ORDER_BLOCK, ORDER_READ, READ, TRIM, WRITE};
+use jilbagum_tests::brick::{clears, DROP, MODIFY, NONE, ORDER, ORDER_BLOCK, ORDER_READ, READ, TRIM, WRITE};
 use jilbagum_tests::{inplace::Brick, proved};
 use std::time::{Duration, Instant};
 
 /// The data block that Order-block and Modify are of.
 const NUMBER: usize = 1;
 /// Messages, and where they are taken: at the brick of that block, at another of the data, or at the last, which holds parity.
-const KINDS: [(u8, &str, At); 10] = [
+const KINDS: [(u8, &str, At); 11] = [
     (READ, "Read", At::Own),
     (ORDER, "Order", At::Own),
     (ORDER_READ, "Order-and-read", At::Own),
@@ -20,6 +20,7 @@ const KINDS: [(u8, &str, At); 10] = [
     (MODIFY, "Modify, mark", At::Other),
     (MODIFY, "Modify, parity", At::Parity),
     (TRIM, "Trim", At::Own),
+    (DROP, "Drop", At::Own),
 ];
 const SHAPES: [Shape; 2] = [(5, 3, 256), (16, 8, 256)];
 const CAPACITIES: [usize; 2] = [4, 32];
@@ -76,7 +77,10 @@ fn old_block() -> Vec<u8> {
     (0..=255).rev().collect()
 }
 
-/// The time of every message, and the newest time of the log below.
+/// The time that a Drop takes out of the log below: all entries but one move.
+const DROPPED: u64 = 16;
+
+/// The time of every other message, and the newest time of the log below.
 fn times(capacity: usize) -> (u64, u64) {
     (16 * capacity as u64, 16 * (capacity as u64 - 2))
 }
@@ -99,7 +103,8 @@ fn filled(shape: Shape, capacity: usize, brick: usize) -> (Brick, Vec<u8>) {
 fn asked(kind: u8, (_, m, _): Shape, capacity: usize, stripe: usize) -> proved::Asked {
     let (time, old) = times(capacity);
     let targets: Vec<u8> = (0..m as u8).collect();
-    let asked = proved::asked(u64::from(kind), time, 1, time, stripe as u64, proved::flags(&targets));
+    let own = if kind == DROP { DROPPED } else { time };
+    let asked = proved::asked(u64::from(kind), own, 1, time, stripe as u64, proved::flags(&targets));
     proved::of_block(asked, old, NUMBER as u64)
 }
 
@@ -113,8 +118,12 @@ fn by_hand(hand: &Brick, kind: u8, capacity: usize, work: &mut [u8], out: &mut [
         ORDER_BLOCK => hand.order_block(work, time, NUMBER, out).0,
         WRITE => hand.write(work, time, block),
         MODIFY => hand.modify(work, time, old_time, NUMBER, old, block),
-        _ => {
+        TRIM => {
             hand.trim(work, time);
+            NONE
+        }
+        _ => {
+            hand.drop_entry(work, DROPPED);
             NONE
         }
     };
@@ -138,7 +147,7 @@ fn against_by_hand(runs: usize) {
                     runs,
                     |work| {
                         let number = proved::receive(five(shape, capacity, 1), brick, work, &asked, (&block, &old), &mut out, &mut reply);
-                        assert!(number == if kind == TRIM { proved::SILENCE } else { 0 });
+                        assert!(number == if clears(kind) { proved::SILENCE } else { 0 });
                     },
                     &mut left,
                 );

@@ -4,9 +4,11 @@
 //! by byte (as the brick's benchmark has them) and beside bricks that test them with wide instructions; then the coordinator's part alone.
 //! Last what the proved operations on one block take of those on the stripe: time, and bytes of blocks in messages and replies.
 
-use jilbagum_tests::brick::NONE;
+use jilbagum_tests::brick::{clears, NONE};
 use jilbagum_tests::inplace::Brick;
-use jilbagum_tests::inplace_coordinator::{Act, Coordinator, Message, Reply, MODIFY, ORDER, ORDER_BLOCK, ORDER_READ, READ, TRIM, WRITE};
+use jilbagum_tests::inplace_coordinator::{
+    Act, Coordinator, Message, Reply, MODIFY, ORDER, ORDER_BLOCK, ORDER_READ, READ, TRIM, WRITE,
+};
 use jilbagum_tests::proved::{self, answer, Lent};
 use std::time::{Duration, Instant};
 
@@ -34,18 +36,49 @@ impl Op {
     }
 }
 
-/// Its name, what it does, how many later writes were left unfinished, the round of its last message, none where nothing is sent at
-/// the end, and its letter.
-type Case = (&'static str, Op, usize, u64, char);
-const CASES: [Case; 8] = [
-    ("write", Op::Write, 0, 2, 'S'),
-    ("read in one round", Op::Read, 0, 0, 'F'),
-    ("read, one recovery round", Op::Read, 1, 3, 'H'),
-    ("read, three recovery rounds", Op::Read, 3, 5, 'L'),
-    ("block write", Op::WriteBlock, 0, 2, 'S'),
-    ("block read in one round", Op::ReadBlock, 0, 0, 'F'),
-    ("block read, one recovery", Op::ReadBlock, 1, 3, 'H'),
-    ("block write, three recoveries", Op::WriteBlock, 3, 5, 'S'),
+/// Writes that were begun later than the stored one and cut: the last was ordered alone, each before it was stored too, by one brick,
+/// each by another, or by m - 1, the same ones. A recovery clears those stored.
+#[derive(Clone, Copy, PartialEq)]
+enum Cut {
+    None,
+    OnOne(usize),
+    /// As many as fill the logs of these bricks: nothing can be stored there unless Drops clear them.
+    OnSome,
+}
+
+impl Cut {
+    fn count(self) -> usize {
+        match self {
+            Cut::None => 0,
+            Cut::OnOne(count) => count,
+            Cut::OnSome => CAPACITY,
+        }
+    }
+
+    /// Those that stored the k-th of them.
+    fn bricks(self, k: usize, m: usize) -> std::ops::Range<usize> {
+        match self {
+            _ if k + 1 >= self.count() => 0..0,
+            Cut::OnSome => 0..m - 1,
+            _ => k..k + 1,
+        }
+    }
+}
+
+/// Its name, what it does, the writes that were cut before it, the round of its last message, none where nothing is sent at the end, and
+/// its letter.
+type Case = (&'static str, Op, Cut, u64, char);
+const CASES: [Case; 10] = [
+    ("write", Op::Write, Cut::None, 2, 'S'),
+    ("read in one round", Op::Read, Cut::None, 0, 'F'),
+    ("read, one recovery round", Op::Read, Cut::OnOne(1), 3, 'H'),
+    ("read, three recovery rounds", Op::Read, Cut::OnOne(3), 5, 'L'),
+    ("block write", Op::WriteBlock, Cut::None, 2, 'S'),
+    ("block read in one round", Op::ReadBlock, Cut::None, 0, 'F'),
+    ("block read, one recovery", Op::ReadBlock, Cut::OnOne(1), 3, 'H'),
+    ("block write, three recoveries", Op::WriteBlock, Cut::OnOne(3), 5, 'S'),
+    ("read, Drops on full logs", Op::Read, Cut::OnSome, 6, 'L'),
+    ("block write, Drops on full logs", Op::WriteBlock, Cut::OnSome, 6, 'S'),
 ];
 
 /// The time of an operation, and the time spent in the coordinator.
@@ -100,21 +133,25 @@ impl Ours {
         assert_eq!(number, 0);
     }
 
-    /// The round's message reaches every brick; its kind.
+    /// What was sent reaches every brick, one broadcast after the other; the kind of the last.
     fn deliver(&mut self) -> u8 {
+        let kinds = self.lent.sent().iter().map(|&at| self.deliver_one(at));
+        kinds.last().expect("a message")
+    }
+
+    fn deliver_one(&mut self, at: answer::Message) -> u8 {
         let (n, m, size, stripes) = self.four;
-        let kind = self.lent.shown[answer::KIND];
-        let flags = self.lent.shown_row(answer::TARGETS).map(u64::from);
+        let kind = self.lent.shown[at.kind];
+        let flags = self.lent.shown_row(at.targets).map(u64::from);
         let sent = &self.lent.sent;
-        let [time, round, max, stripe] = [answer::TIME, answer::ROUND, answer::MAX, answer::STRIPE].map(|place| sent[place]);
-        let asked = proved::asked(u64::from(kind), time, round, max, stripe, flags);
-        let asked = proved::of_block(asked, sent[answer::OLD], sent[answer::BLOCK]);
+        let asked = proved::asked(u64::from(kind), sent[at.time], sent[at.round], sent[at.max], sent[at.stripe], flags);
+        let asked = proved::of_block(asked, sent[at.old], sent[at.block]);
         for b in 0..n {
             let coded = &self.coded[b * size..][..size];
             let lent = if kind == MODIFY { (block_of(&self.stripe, size), block_of(&self.blocks, size)) } else { (coded, coded) };
             let (out, reply) = (&mut self.outs[b], &mut self.replies[b]);
             let number = proved::receive((n, m, size, CAPACITY, stripes), b, &mut self.images[b], &asked, lent, out, reply);
-            assert!(number == if kind == TRIM { proved::SILENCE } else { 0 });
+            assert!(number == if clears(kind) { proved::SILENCE } else { 0 });
         }
         kind
     }
@@ -139,7 +176,7 @@ impl Ours {
                 let Ours { lent, blocks, stripe, coded, .. } = self;
                 let number = proved::take_reply(self.four, lent, fields, &self.outs[b], blocks, stripe, coded);
                 assert!(number == 0 || (sent || ended) && number == 11);
-                sent |= number == 0 && self.lent.sent[answer::SENT] == 1;
+                sent |= number == 0 && self.lent.sent[answer::SENT] > 0;
                 ended |= number == 0 && self.lent.shown[answer::SEEN] != 0;
             }
             inside += started.map_or(Duration::ZERO, |t| t.elapsed());
@@ -192,8 +229,12 @@ impl Hand {
                     let (old_block, new) = (block_of(&coordinator.blocks, size), block_of(&coordinator.stripe, size));
                     (brick.modify(image, time, old, block, old_block, new), 0, false)
                 }
-                _ => {
+                TRIM => {
                     brick.trim(image, time);
+                    continue;
+                }
+                _ => {
+                    brick.drop_entry(image, time);
                     continue;
                 }
             };
@@ -217,12 +258,13 @@ impl Hand {
             if message.kind == TRIM || done {
                 break;
             }
-            let mut sent = None;
+            let (mut ahead, mut sent) = (None, None);
             let started = watch.then(Instant::now);
             for b in 0..self.replies.len() {
                 match self.coordinator.take(four, &self.replies[b], &self.outs[b]) {
                     Act::Waits => {}
                     Act::Sends(m) => sent = Some(m),
+                    Act::Clears(first, m) => (ahead, sent) = (Some(first), Some(m)),
                     Act::Written(m, letter) => (sent, done, self.letter) = (Some(m), op.writes(), letter),
                     Act::Read(m, letter) => (sent, done, self.letter) = (m, !op.writes(), letter),
                     Act::Refused(11) => assert!(sent.is_some() || done),
@@ -230,6 +272,9 @@ impl Hand {
                 }
             }
             inside += started.map_or(Duration::ZERO, |t| t.elapsed());
+            if let Some(first) = ahead {
+                self.deliver(&first, four.2);
+            }
             match sent {
                 Some(m) => message = m,
                 None => break,
@@ -241,8 +286,8 @@ impl Hand {
     }
 }
 
-/// Images of n bricks with one whole write; and, as asked, with later writes that one brick each stored.
-fn start(bricks: &[Brick], (n, m, size, _): proved::Four, partial: usize, stripe: &[u8]) -> Vec<Vec<u8>> {
+/// Images of n bricks with one whole write, and with later ones that were cut.
+fn start(bricks: &[Brick], (n, m, size, _): proved::Four, cut: Cut, stripe: &[u8]) -> Vec<Vec<u8>> {
     let mut coded = vec![0; n * size];
     assert_eq!(proved::encode(n, m, size, stripe, &mut coded), 0);
     let mut images: Vec<Vec<u8>> = bricks
@@ -256,20 +301,20 @@ fn start(bricks: &[Brick], (n, m, size, _): proved::Four, partial: usize, stripe
             image
         })
         .collect();
-    for k in 0..partial {
+    for k in 0..cut.count() {
         let time = 32 + 16 * k as u64;
         for (b, brick) in bricks.iter().enumerate() {
             assert_eq!(brick.order(&mut images[b], time), NONE);
         }
-        if k + 1 < partial {
-            assert_eq!(bricks[k].write(&mut images[k], time, &vec![7; size]), NONE);
+        for b in cut.bricks(k, m) {
+            assert_eq!(bricks[b].write(&mut images[b], time, &vec![7; size]), NONE);
         }
     }
     images
 }
 
 /// What the lent stripe, zeros at first, holds after an operation.
-fn wanted((_, op, partial, ..): Case, data: &[u8], old: &[u8], size: usize) -> Vec<u8> {
+fn wanted((_, op, cut, ..): Case, data: &[u8], old: &[u8], size: usize) -> Vec<u8> {
     let block = match op {
         Op::Write => return data.to_vec(),
         Op::Read => return old.to_vec(),
@@ -277,7 +322,7 @@ fn wanted((_, op, partial, ..): Case, data: &[u8], old: &[u8], size: usize) -> V
         Op::ReadBlock => block_of(old, size),
     };
     // A recovery leaves the whole stripe there.
-    let mut stripe = if partial == 0 { vec![0; old.len()] } else { old.to_vec() };
+    let mut stripe = if cut == Cut::None { vec![0; old.len()] } else { old.to_vec() };
     stripe[NUMBER * size..][..size].copy_from_slice(block);
     stripe
 }
@@ -285,11 +330,11 @@ fn wanted((_, op, partial, ..): Case, data: &[u8], old: &[u8], size: usize) -> V
 /// A case at some settings, measured: ours, by hand, by hand with wide tests, in microseconds; then the coordinators of the first two.
 fn measure(four: proved::Four, case: Case, samples: usize) -> ([f64; 5], Moved) {
     let (n, m, size, _) = four;
-    let (_, op, partial, last_round, letter) = case;
+    let (_, op, cut, last_round, letter) = case;
     let bricks = |wide| -> Vec<Brick> { (0..n).map(|b| Brick::new((n, m, size), CAPACITY, b, wide)).collect() };
     let data: Vec<u8> = (0..m * size).map(|k| (k * 37 + k / 256) as u8).collect();
     let old: Vec<u8> = (0..m * size).map(|k| (k * 91 + 5) as u8).collect();
-    let images = start(&bricks(false), four, partial, &old);
+    let images = start(&bricks(false), four, cut, &old);
     let mut ours = Ours {
         four,
         images: images.clone(),
@@ -343,7 +388,7 @@ fn measure(four: proved::Four, case: Case, samples: usize) -> ([f64; 5], Moved) 
         assert!(ours.images == hand.images, "the bricks");
         assert!([char::from(ours.lent.shown[answer::LETTER]), hand.letter] == [letter; 2], "the letter");
     }
-    assert_eq!(ours.lent.sent[answer::ROUND], last_round, "the rounds");
+    assert_eq!(ours.lent.sent[answer::MESSAGES[0].round], last_round, "the rounds");
     (best, ours.moved)
 }
 
@@ -380,8 +425,8 @@ fn blocks_beside_stripes(four: proved::Four, found: &[(f64, Moved)]) {
 
 fn main() {
     let samples: usize = std::env::args().nth(1).map_or(200, |a| a.parse().expect("a number of samples"));
-    println!("                                             whole operation, us                       coordinator alone, us");
-    println!("   n   m size  operation                         ours  by hand ratio     wide ratio       ours  by hand ratio");
+    println!("                                               whole operation, us                       coordinator alone, us");
+    println!("   n   m size  operation                           ours  by hand ratio     wide ratio       ours  by hand ratio");
     let mut most: [f64; 2] = [0.0; 2];
     let mut shapes = Vec::new();
     for (n, m, size) in [(5, 3, 256), (16, 8, 256)] {
@@ -390,7 +435,7 @@ fn main() {
         for case in CASES {
             let ([a, b, c, d, e], moved) = measure(four, case, samples);
             println!(
-                "{n:4} {m:3} {size:4}  {:29} {a:8.1} {b:8.1} {:5.2} {c:8.1} {:5.2} {d:10.1} {e:8.1} {:5.2}",
+                "{n:4} {m:3} {size:4}  {:31} {a:8.1} {b:8.1} {:5.2} {c:8.1} {:5.2} {d:10.1} {e:8.1} {:5.2}",
                 case.0,
                 a / b,
                 a / c,

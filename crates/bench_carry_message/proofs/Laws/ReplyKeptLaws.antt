@@ -6,10 +6,10 @@ use Prim.Native.Nat.{ℕ, _+_, _≤_, _<_}
 use native.Mathlib.Omega.{arith}
 use lib.Dec.{eqb, ltb}
 use lib.ListN.{length}
-use borrow.Author.Tests.{eq-eqb, ne-eqb, ltb-true}
+use borrow.Author.Tests.{ltb-true}
 use Rattle.settings.specs.Refusal.{passed}
 use Rattle.settings.specs.declared.Settings.{Settings}
-use Rattle.message.specs.Kinds.{trimKind}
+use Rattle.message.specs.Messages.{isSilent}
 use Rattle.message.specs.declared.Message.{Message}
 use Rattle.message.specs.declared.Reply.{Reply}
 use Rattle.image.specs.Parse.{Parsed, Opens, Refuses, parse}
@@ -47,12 +47,12 @@ module _ (s : Settings) (brick : ℕ) (l : List ℕ) (msg : Message) (block old 
       go : (t : Bool) (p : Parsed)
           → cond t (accepted s brick msg block old l out p) (refusedWith (receiveRefusal s brick l msg (beside block old out)) l out) .given ≡ Refused n
           → cond t (accepted s brick msg block old l out p) (refusedWith (receiveRefusal s brick l msg (beside block old out)) l out) .image ≡ l
-      go true (Opens x) e = absurd (never (eqb (msg .kind) trimKind) (replyTo s brick x msg) e)
+      go true (Opens x) e = absurd (never (isSilent (msg .kind)) (replyTo s brick x msg) e)
       go true (Refuses k) e = refl
       go false p e = refl
 
-  -- "Trim t: no reply"
-  image-silent : (r : Reply) → eqb (msg .kind) trimKind ≡ true → outcome s brick l msg block old out .given ≡ Answered r → ⊥
+  -- "Trim t: no reply"; "a Drop has no reply"
+  image-silent : (r : Reply) → isSilent (msg .kind) ≡ true → outcome s brick l msg block old out .given ≡ Answered r → ⊥
   unfolding outcome accepted givenBy refusedWith
   image-silent r q = go (eqb (receiveRefusal s brick l msg (beside block old out)) 0) (parse s brick l)
     where
@@ -62,7 +62,7 @@ module _ (s : Settings) (brick : ℕ) (l : List ℕ) (msg : Message) (block old 
 
       go : (t : Bool) (p : Parsed)
           → cond t (accepted s brick msg block old l out p) (refusedWith (receiveRefusal s brick l msg (beside block old out)) l out) .given ≡ Answered r → ⊥
-      go true (Opens x) e = never (eqb (msg .kind) trimKind) (replyTo s brick x msg) q e
+      go true (Opens x) e = never (isSilent (msg .kind)) (replyTo s brick x msg) q e
       go true (Refuses k) e = let z : _≡_ {A = ℕ} 0 1 = cc in absurd (omega arith)
       go false p e = let z : _≡_ {A = ℕ} 0 1 = cc in absurd (omega arith)
 
@@ -85,10 +85,10 @@ module _ (s : Settings) (brick : ℕ) (row : List ℕ) (msg : Message) (block ol
       go true q e = ap (λ (i : List ℕ). withImage s (msg .stripe) i row) (image-keeps s brick image msg block old out n e) ∙ image-back s (msg .stripe) row
       go false q e = refl
 
-  -- "Trim t: no reply"
-  trim-silent : (r : Reply) → eqb (msg .kind) trimKind ≡ true → rowOutcome s brick row msg block old out .given ≡ Answered r → ⊥
+  -- "Trim t: no reply"; "a Drop has no reply"
+  row-silent : (r : Reply) → isSilent (msg .kind) ≡ true → rowOutcome s brick row msg block old out .given ≡ Answered r → ⊥
   unfolding rowOutcome rowRefusal inRow refusedWith
-  trim-silent r q = go (eqb number passed)
+  row-silent r q = go (eqb number passed)
     where
       go : (t : Bool) → cond t (inRow s (msg .stripe) row (outcome s brick image msg block old out)) (refusedWith number row out) .given ≡ Answered r → ⊥
       go true e = image-silent s brick image msg block old out r q e
@@ -97,22 +97,22 @@ module _ (s : Settings) (brick : ℕ) (row : List ℕ) (msg : Message) (block ol
   -- what may be sent stays within message 127
   pub room : (k : ℕ) (g : Given) → k ≤ lastMessage → maySend (msg .kind) k ≡ true → g ≡ rowOutcome s brick row msg block old out .given → sentAfterMessage k g ≤ lastMessage
   unfolding maySend sentAfterMessage
-  room k (Answered r) h m e = go (eqb (msg .kind) trimKind) refl m
+  room k (Answered r) h m e = go (isSilent (msg .kind)) refl m
     where
-      go : (t : Bool) → eqb (msg .kind) trimKind ≡ t → t || ltb k lastMessage ≡ true → k + 1 ≤ lastMessage
-      go true q z = absurd (trim-silent r q (sym e))
+      go : (t : Bool) → isSilent (msg .kind) ≡ t → t || ltb k lastMessage ≡ true → k + 1 ≤ lastMessage
+      go true q z = absurd (row-silent r q (sym e))
       go false q z = let w = ltb-true k lastMessage z in omega arith
   room k Silent h m e = h
   room k (Refused n) h m e = h
 
 -- the two ways of the limit
-pub may-trim : (kind sent : ℕ) → kind ≡ trimKind → true ≡ maySend kind sent
+pub may-silent : (kind sent : ℕ) (b : Bool) → b ≡ isSilent kind → b ≡ true → true ≡ maySend kind sent
 unfolding maySend
-may-trim kind sent e = sym (rw (eq-eqb kind trimKind e) refl)
+may-silent kind sent b e t = sym (rw (← e, t) refl)
 
-pub may-other : (kind sent : ℕ) → (kind ≡ trimKind → ⊥) → ltb sent lastMessage ≡ maySend kind sent
+pub may-other : (kind sent : ℕ) (b : Bool) → b ≡ isSilent kind → b ≡ false → ltb sent lastMessage ≡ maySend kind sent
 unfolding maySend
-may-other kind sent e = sym (rw (ne-eqb kind trimKind e) refl)
+may-other kind sent b e t = sym (rw (← e, t) refl)
 
 -- what the limit means for each answer
 pub room-answered : (k : ℕ) (g : Given) (r : Reply) → g ≡ Answered r → sentAfterMessage k g ≤ lastMessage → k < lastMessage

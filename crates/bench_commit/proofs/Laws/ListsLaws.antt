@@ -1,7 +1,7 @@
 -- What the answers of the four routines list: two broadcasts at most, and Modify of none but a block that a stripe has.
 use mathlib.Core.Path.{_≡_, refl, sym, subst}
 use mathlib.Core.Bool.{Bool, true, false, cond}
-use mathlib.Core.List.{List, [], _∷_}
+use mathlib.Core.List.{List, [], _∷_, _++_}
 use Prim.Native.Nat.{ℕ, _<_}
 use native.Mathlib.Omega.{arith}
 use lib.Dec.{ltb}
@@ -10,7 +10,7 @@ use Rattle.settings.specs.Ranges.{quorum}
 use Rattle.settings.specs.Times.{drawOf}
 use Rattle.settings.specs.declared.Clock.{Clock}
 use Rattle.message.specs.Flags.{members}
-use Rattle.message.specs.Kinds.{readKind, orderKind, orderBlockKind, modifyKind}
+use Rattle.message.specs.Kinds.{readKind, orderKind, orderBlockKind, modifyKind, trimKind, dropKind}
 use Rattle.message.specs.Messages.{namesBlock}
 use Rattle.message.specs.declared.Reply.{Reply}
 use Rattle.coord_record.specs.Records.{readingKind, writingKind, onBlock}
@@ -23,7 +23,9 @@ use Rattle.coord_decide.proofs.Laws.SaysLaws.{decided-says}
 use Rattle.coord_decide.specs.declared.Decision.{Decision}
 use Rattle.coord_decide.specs.declared.Decision.the-variants.{Abort, Give, Look, Store, Modify, Recover, Finish}
 use Rattle.coord_apply.proofs.Laws.ActLaws.{recover-either}
-use Rattle.coord_apply.specs.Acts.{buffered, roundMessage, trimMessage, nextOp, nextRound, modifying, ending, acted, counting, withTally, waitingOr, firstOp}
+use Rattle.coord_apply.proofs.Laws.FirstLaws.{drops-either, trims-either}
+use Rattle.coord_apply.specs.Acts.{buffered, roundMessage, clearMessage, clearing, dropsFirst, trimsFirst, sendingFirst, nextOp, nextRound, modifying}
+use Rattle.coord_apply.specs.Acts.{ending, acted, counting, withTally, waitingOr, firstOp}
 use Rattle.coord_apply.specs.Acts.{starting}
 use Rattle.coord_apply.specs.Answers.{Buffered, Broadcast, Went, Step, refused, went, nothingSeen, noMessage, sentMessage, answerOf, returned, returnedBy}
 use Rattle.coord_apply.specs.declared.Answer.{Answer}
@@ -71,6 +73,16 @@ start-low : (m : ℕ) (h : Buffered) (clock : Clock) (op : Op) (stripe targets :
 unfolding starting roundMessage
 start-low m h clock op stripe targets n = ((λ e. absurd (n e)), tt)
 
+-- what goes out first, and what follows
+ahead-low : (m : ℕ) (a b : List Broadcast) → NamesLow m a → NamesLow m b → NamesLow m (a ++ b)
+ahead-low m [] b x y = y
+ahead-low m (z ∷ a) b x y = (x .0, ahead-low m a b (x .1) y)
+
+-- Trim and Drop are no Modify
+clear-low : (m kind time : ℕ) (op : Op) → (kind ≡ modifyKind → ⊥) → NamesLow m (clearing kind op time ∷ [])
+unfolding clearing clearMessage
+clear-low m kind time op n = ((λ e. absurd (n e)), tt)
+
 -- a decision sends it in a block write, whose block is one of m
 module _ (n m size : ℕ) (h : Buffered) (right : opRight (h .state .op) ≡ true) (low : onBlock (h .state .op .kind) ≡ true → h .state .op .first < m) where
   modify-low : h .state .op .phase ≡ orderBlockKind → h .state .op .first < m
@@ -78,13 +90,17 @@ module _ (n m size : ℕ) (h : Buffered) (right : opRight (h .state .op) ≡ tru
   modify-low e = low (rw (in-block-order (h .state .op) right e .kind-is) refl)
 
   acted-low : (d : Decision) → DecisionSays n m (h .state .op) (h .state .tally) d → NamesLow m (acted n m size h d .sent)
-  unfolding acted ending nextRound modifying roundMessage nextOp trimMessage namesBlock DecisionSays
+  unfolding acted ending sendingFirst nextRound modifying roundMessage nextOp clearing clearMessage namesBlock DecisionSays
   acted-low Abort s = tt
   acted-low Give s = tt
-  acted-low (Look max) s = ((λ e. absurd (omega (arith, e))), tt)
+  acted-low (Look max) s =
+      ahead-low m (dropsFirst (h .state .op) max) _
+      (drops-either (h .state .op) max (NamesLow m) (λ _. tt) (λ _. clear-low m dropKind max (h .state .op) (λ e. omega (arith, e)))) ((λ e. absurd (omega (arith, e))), tt)
   acted-low Store s = ((λ e. absurd (omega (arith, e))), tt)
   acted-low (Modify time) s = ((λ e. modify-low (s .phase-is)), tt)
-  acted-low (Recover time) s = recover-either n m size h time (λ (w : Went). NamesLow m (w .sent)) ((λ e. absurd (omega (arith, e))), tt) tt
+  acted-low (Recover time) s = recover-either n m size h time (λ (w : Went). NamesLow m (w .sent))
+      (ahead-low m (trimsFirst n m (h .state .op) (h .state .tally) time) _
+      (trims-either n m (h .state .op) (h .state .tally) time (NamesLow m) (λ _. tt) (λ _. clear-low m trimKind time (h .state .op) (λ e. omega (arith, e)))) ((λ e. absurd (omega (arith, e))), tt)) tt
   acted-low Finish s = ((λ e. absurd (omega (arith, e))), tt)
 
   waits-low : NamesLow m (waitingOr n m size h .sent)

@@ -19,7 +19,7 @@ use Rattle.coord_decide.proofs.Laws.SaysLaws.{decided-says}
 use Rattle.coord_decide.specs.declared.Decision.{Decision}
 use Rattle.coord_decide.specs.declared.Decision.the-variants.{Abort, Give, Look, Store, Modify, Recover, Finish}
 use Rattle.coord_apply.proofs.Laws.ActLaws.{recover-either}
-use Rattle.coord_apply.specs.Acts.{acted, ending, nextRound, modifying, noticeOf, finishedSeen, waitingOr, counting, withTally}
+use Rattle.coord_apply.specs.Acts.{acted, ending, sendingFirst, nextRound, modifying, noticeOf, finishedSeen, waitingOr, counting, withTally}
 use Rattle.coord_apply.specs.Answers.{Buffered, Went, went, nothingSeen, beganSeen, okSeen, readSeen, cutSeen, noneSeen, abortedSeen}
 use Rattle.coord_apply.specs.declared.Notice.{Notice}
 use Rattle.coord_refusals.specs.Checks.{crashRefusal}
@@ -164,7 +164,7 @@ reading-is kind (inr k) e = clash (rw k at e)
 acted-agrees : (n m size : ℕ) (h : Buffered) → opRight (h .state .op) ≡ true → h .state .op .stripe ≡ benchStripe → (h .state .op .kind ≡ readingKind) ⊎ (h .state .op .kind ≡ writingKind) →
     (d : Decision)
     → DecisionSays n m (h .state .op) (h .state .tally) d → Agrees (h .state .op) (acted n m size h d .seen)
-unfolding acted ending nextRound modifying DecisionSays
+unfolding acted ending sendingFirst nextRound modifying DecisionSays
 acted-agrees n m size h r z k Abort s = short-agrees (h .state .op) abortedSeen _ noBricks z k (omega arith)
 acted-agrees n m size h r z k Give s =
     record {

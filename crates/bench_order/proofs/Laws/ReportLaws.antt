@@ -129,12 +129,13 @@ module _ (s : Settings) (g : SettingsRange s) where
   does-report w part p q passing parts events text f before i = silence q (f before i)
   does-report w part p q (happening e c kind b h o _) parts events text f before i =
       let r : Moved s = record { world = w; seen = before } in
+      let n = step-goes s g benchStripe (i .0) r (i .1) e in
       let z =
       told-is-reported s (before benchStripe) (step s w e .seen benchStripe) c kind (letterAt s w e) (one-thing-seen s w e benchStripe)
       (λ time how d. ran-own r (i .0) (i .1) c kind time (o time how d))
       in
       subst (λ (v : List ℕ). Reports s r (part ∷ parts) (e ∷ events) (v ++ text)) (sym z)
-      (event e (q ∙ ap (happens s w e) z) (f (λ (k : ℕ). before k ++ step s w e .seen k) (step-goes s g benchStripe (i .0) r (i .1) e)))
+      (event e (q ∙ ap (happens s w e) z) (f (λ (k : ℕ). before k ++ step s w e .seen k) (n .0, n .2)))
 
   parts-report : (w : World) (ps : List Part) (p : Played) → Parts s w ps p → (parts : List Part) (events : List Event) (text : List ℕ)
       → From (p .world) parts events text → From w (ps ++ parts) (p .events ++ events) (p .printed ++ text)

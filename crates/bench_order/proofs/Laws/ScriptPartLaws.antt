@@ -6,10 +6,10 @@ use Prim.Native.Nat.{ℕ, zero, suc, _*_, _≤_, _<_}
 use native.Mathlib.Omega.{arith}
 use lib.Dec.{eqb, leb, ltb}
 use lib.ListN.{length, length-append, replicate}
-use borrow.Author.Tests.{leb-true, ltb-true, eqb-true, eq-eqb}
+use borrow.Author.Tests.{leb-true, ltb-true}
 use Rattle.settings.specs.Refusal.{badNumber, badLine}
 use Rattle.settings.specs.declared.Settings.{Settings}
-use Rattle.message.specs.Kinds.{trimKind}
+use Rattle.message.specs.Messages.{isSilent}
 use Rattle.message.specs.declared.Message.{Message}
 use Rattle.message.specs.declared.Reply.{Reply}
 use Rattle.image.specs.Parse.{Parsed, Opens, Refuses, parse}
@@ -43,7 +43,7 @@ use Rattle.bench_order.proofs.Laws.PrintedLaws.{Agrees, printed-is-seen
 use Rattle.bench_limits.specs.Limits.{benchStripes, benchStripe, benchCoordinators, lastMessage}
 use Rattle.settings.specs.Times.{coordinatorOf}
 
--- "Trim t: no reply"
+-- "Trim t: no reply"; "a Drop has no reply"
 refused-not-answered : (number : ℕ) (bytes out : List ℕ) (r : Reply) → refusedWith number bytes out .given ≡ Answered r → ⊥
 unfolding refusedWith
 refused-not-answered number bytes out r e = let z : _≡_ {A = ℕ} 0 1 = cc in omega arith
@@ -52,14 +52,14 @@ silent-not-answered : (b : Bool) (a : Given) (r : Reply) → b ≡ true → cond
 silent-not-answered true a r q e = let z : _≡_ {A = ℕ} 0 1 = cc in omega arith
 silent-not-answered false a r q e = let z : _≡_ {A = ℕ} 0 1 = cc in omega arith
 
-acted-not-answered : (s : Settings) (brick : ℕ) (msg : Message) (block old bytes out : List ℕ) (p : Parsed) → msg .kind ≡ trimKind → (r : Reply)
+acted-not-answered : (s : Settings) (brick : ℕ) (msg : Message) (block old bytes out : List ℕ) (p : Parsed) → isSilent (msg .kind) ≡ true → (r : Reply)
     → accepted s brick msg block old bytes out p .given ≡ Answered r → ⊥
 unfolding accepted givenBy
 acted-not-answered s brick msg block old bytes out (Opens x) k r e =
-    silent-not-answered (eqb (msg .kind) trimKind) (Answered (replyTo s brick x msg)) r (eq-eqb (msg .kind) trimKind k) e
+    silent-not-answered (isSilent (msg .kind)) (Answered (replyTo s brick x msg)) r k e
 acted-not-answered s brick msg block old bytes out (Refuses number) k r e = refused-not-answered number bytes out r e
 
-image-not-answered : (s : Settings) (brick : ℕ) (bytes : List ℕ) (msg : Message) (block old out : List ℕ) → msg .kind ≡ trimKind → (r : Reply)
+image-not-answered : (s : Settings) (brick : ℕ) (bytes : List ℕ) (msg : Message) (block old out : List ℕ) → isSilent (msg .kind) ≡ true → (r : Reply)
     → outcome s brick bytes msg block old out .given ≡ Answered r → ⊥
 unfolding outcome
 image-not-answered s brick bytes msg block old out k r e = go (eqb (receiveRefusal s brick bytes msg (beside block old out)) 0) e
@@ -72,10 +72,10 @@ image-not-answered s brick bytes msg block old out k r e = go (eqb (receiveRefus
     go true h = acted-not-answered s brick msg block old bytes out (parse s brick bytes) k r h
     go false h = refused-not-answered _ bytes out r h
 
-trim-not-answered : (s : Settings) (brick : ℕ) (row : List ℕ) (msg : Message) (block old out : List ℕ) → msg .kind ≡ trimKind → (r : Reply)
+row-not-answered : (s : Settings) (brick : ℕ) (row : List ℕ) (msg : Message) (block old out : List ℕ) → isSilent (msg .kind) ≡ true → (r : Reply)
     → rowOutcome s brick row msg block old out .given ≡ Answered r → ⊥
 unfolding rowOutcome inRow
-trim-not-answered s brick row msg block old out k r e = go (eqb (rowRefusal s brick row msg (beside block old out)) 0) e
+row-not-answered s brick row msg block old out k r e = go (eqb (rowRefusal s brick row msg (beside block old out)) 0) e
   where
     go : (b : Bool)
         → cond b (inRow s (msg .stripe) row (outcome s brick (imageAt s (msg .stripe) row) msg block old out))
@@ -86,11 +86,11 @@ trim-not-answered s brick row msg block old out k r e = go (eqb (rowRefusal s br
     go false h = refused-not-answered _ row out r h
 
 -- so a message that sends a reply had room for it
-room : (msg : Message) (sent : ℕ) → eqb (msg .kind) trimKind || ltb sent lastMessage ≡ true → (msg .kind ≡ trimKind → ⊥) → sent < lastMessage
-room msg sent e n = go (eqb (msg .kind) trimKind) refl e
+room : (msg : Message) (sent : ℕ) → isSilent (msg .kind) || ltb sent lastMessage ≡ true → (isSilent (msg .kind) ≡ true → ⊥) → sent < lastMessage
+room msg sent e n = go (isSilent (msg .kind)) refl e
   where
-    go : (b : Bool) → eqb (msg .kind) trimKind ≡ b → b || ltb sent lastMessage ≡ true → sent < lastMessage
-    go true q h = absurd (n (eqb-true (msg .kind) trimKind q))
+    go : (b : Bool) → isSilent (msg .kind) ≡ b → b || ltb sent lastMessage ≡ true → sent < lastMessage
+    go true q h = absurd (n q)
     go false q h = ltb-true sent lastMessage h
 
 -- a write whose digits are not counted right never starts
@@ -213,15 +213,15 @@ module _ (s : Settings) (w : World) (one-stripe : s .stripes ≡ benchStripes) (
   reaches-does : (k b : ℕ) (msg : Message) (block old : List ℕ)
       → step s w (arrives k) ≡ received s w b (rowOutcome s b (w .images b) msg block old (replicate (s .size) 0)) → Does s w (reaches s w k b msg block old)
   unfolding reaches
-  reaches-does k b msg block old e = go (eqb (msg .kind) trimKind || ltb (length (w .sent)) lastMessage) refl
+  reaches-does k b msg block old e = go (isSilent (msg .kind) || ltb (length (w .sent)) lastMessage) refl
     where
-      quietly : eqb (msg .kind) trimKind || ltb (length (w .sent)) lastMessage ≡ true → Quiet (step s w (arrives k))
+      quietly : isSilent (msg .kind) || ltb (length (w .sent)) lastMessage ≡ true → Quiet (step s w (arrives k))
       quietly q =
           rw e
           (received-quiet b (rowOutcome s b (w .images b) msg block old (replicate (s .size) 0))
-          (λ r h. room msg (length (w .sent)) q (λ z. trim-not-answered s b (w .images b) msg block old (replicate (s .size) 0) z r h)))
+          (λ r h. room msg (length (w .sent)) q (λ z. row-not-answered s b (w .images b) msg block old (replicate (s .size) 0) z r h)))
 
-      go : (t : Bool) → eqb (msg .kind) trimKind || ltb (length (w .sent)) lastMessage ≡ t
+      go : (t : Bool) → isSilent (msg .kind) || ltb (length (w .sent)) lastMessage ≡ t
           → Does s w (cond t (delivered s w k (rowOutcome s b (w .images b) msg block old (replicate (s .size) 0) .given)) (refuses w badLine))
       go true q = delivered-does k (quietly q) (rowOutcome s b (w .images b) msg block old (replicate (s .size) 0) .given)
       go false q = refusing badLine

@@ -17,7 +17,7 @@ use Rattle.coord_decide.specs.Deciding.{decided}
 use Rattle.coord_decide.specs.declared.Decision.{Decision}
 use Rattle.coord_decide.specs.declared.Decision.the-variants.{Abort, Give, Look, Store, Modify, Recover, Finish}
 use Rattle.coord_apply.proofs.Laws.ActLaws.{recover-either}
-use Rattle.coord_apply.specs.Acts.{nextOp, opened, nextRound, modifying, ending, acted, counting, withTally, waitingOr}
+use Rattle.coord_apply.specs.Acts.{sendingFirst, nextOp, opened, nextRound, modifying, ending, acted, counting, withTally, waitingOr}
 use Rattle.coord_apply.specs.Answers.{Buffered, Went, Step, refused, went, nothingSeen, cutSeen}
 use Rattle.coordinator.specs.Routines.{takeStep, crashed, crashStep}
 use Rattle.coord_laws.proofs.Laws.OpCaseLaws.{clash}
@@ -53,7 +53,7 @@ put-whole f c k h q j = go (eqb j c)
 -- a reply,
 module _ (n m size : ℕ) (h : Buffered) (q : Whole h) where
   acted-whole : (d : Decision) → Whole (acted n m size h d .next)
-  unfolding acted ending nextRound modifying opened nextOp idleWith noOp onBlock
+  unfolding acted ending sendingFirst nextRound modifying opened nextOp idleWith noOp onBlock
   acted-whole Abort = refl
   acted-whole Give = refl
   acted-whole (Look max) = q

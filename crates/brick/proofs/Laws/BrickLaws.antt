@@ -21,35 +21,41 @@ use Rattle.image.proofs.Laws.ParseLaws.{opened, parse-image}
 use Rattle.image.specs.Brick.{Sound}
 use Rattle.image_write.specs.Saving.{withPromise, appended, blockEntry, markEntry}
 use Rattle.settings.specs.Refusal.{refuseUnless}
-use Rattle.message.specs.Messages.{messageRefusal, roundRight, kindRight}
+use Rattle.message.specs.Messages.{isSilent, messageRefusal, roundRight, kindRight}
 use Rattle.image_write.proofs.Laws.ImageStepLaws.{promised-promise, appended-promise, promised-count, promised-time, promised-means, promised-mark}
 use Rattle.image_write.proofs.Laws.ImageStepLaws.{appended-count, appended-time-old, appended-means-old, appended-mark-old}
 use Rattle.image_write.proofs.Laws.ImageStepLaws.{appended-time-new, appended-means-new, appended-mark-new}
 use Rattle.brick_answer.specs.Comparisons.{aboveNewest, notBelowPromise}
 use Rattle.brick_log.specs.BrickRules.{orderYes, writeYes, modifyYes, orderedIfYes, writtenIfYes, modifiedIfYes}
-use Rattle.brick_log.specs.BrickRules.{newestBlock, modifiedEntry, trimmedTo, under, lookup, brickAfter}
+use Rattle.brick_log.specs.BrickRules.{newestBlock, modifiedEntry, trimmedTo, droppedFrom, under, lookup, brickAfter}
 use Rattle.image.proofs.Laws.LogPlaceLaws.{saved-valid, newest-at, rises-next, rises-to, sound-of}
-use Rattle.brick_log.proofs.Laws.AnsweredLaws.{after-trim, after-write, after-modify, after-read, after-order, write-free, modify-written}
+use Rattle.brick_log.proofs.Laws.AnsweredLaws.{after-trim, after-drop, after-write, after-modify, after-read, after-order, write-free, modify-written}
+use Rattle.brick_log.proofs.Laws.DropLaws.{drop-promise, drop-not-empty, dropped-sound}
 use Rattle.brick_log.proofs.Laws.LogChangeLaws.{modified-sized}
-use Rattle.brick_log.proofs.Laws.TrimLaws.{trim-not-empty, trim-keeps-newest, Trims, trim-places}
+use Rattle.brick_log.proofs.Laws.TrimLaws.{trim-not-empty, trim-keeps-newest, trimmed-sound}
 use Rattle.brick.specs.Receive.{Highest}
-use Rattle.message.specs.Kinds.{readKind, trimKind, writeKind, modifyKind}
+use Rattle.message.specs.Kinds.{readKind, trimKind, dropKind, writeKind, modifyKind}
 use Rattle.settings.specs.Refusal.{badMessage, passed}
 
--- a claim about the brick after a message is shown for each of the four changes and for none
+-- a claim about the brick after a message is shown for each of the five changes and for none
 module _ (s : Settings) (brick : ℕ) (x : Brick) (msg : Message) (block old : List ℕ) where
-  by-kind : (P : Brick → Type 0) → P (trimmedTo x (msg .time)) → P (writtenIfYes s x (msg .time) block) → P (modifiedIfYes s brick x msg block old) → P x
+  by-kind : (P : Brick → Type 0) → P (trimmedTo x (msg .time)) → (msg .kind ≡ dropKind → P (droppedFrom x (msg .time)))
+      → P (writtenIfYes s x (msg .time) block) → P (modifiedIfYes s brick x msg block old) → P x
       → P (orderedIfYes x (msg .time)) → P (brickAfter s brick x msg block old)
-  by-kind P t w m r o =
-      go (ℕ-discrete (msg .kind) trimKind) (ℕ-discrete (msg .kind) writeKind) (ℕ-discrete (msg .kind) modifyKind) (ℕ-discrete (msg .kind) readKind)
+  unfolding isSilent
+  by-kind P t g w m r o =
+      go (ℕ-discrete (msg .kind) trimKind) (ℕ-discrete (msg .kind) dropKind) (ℕ-discrete (msg .kind) writeKind) (ℕ-discrete (msg .kind) modifyKind)
+      (ℕ-discrete (msg .kind) readKind)
     where
-      go : Dec (msg .kind ≡ trimKind) → Dec (msg .kind ≡ writeKind) → Dec (msg .kind ≡ modifyKind) → Dec (msg .kind ≡ readKind)
+      go : Dec (msg .kind ≡ trimKind) → Dec (msg .kind ≡ dropKind) → Dec (msg .kind ≡ writeKind) → Dec (msg .kind ≡ modifyKind) → Dec (msg .kind ≡ readKind)
           → P (brickAfter s brick x msg block old)
-      go (yes a) b c d = subst P (sym (after-trim s brick x msg block old a)) t
-      go (no a) (yes b) c d = subst P (sym (after-write s brick x msg block old b)) w
-      go (no a) (no b) (yes c) d = subst P (sym (after-modify s brick x msg block old c)) m
-      go (no a) (no b) (no c) (yes d) = subst P (sym (after-read s brick x msg block old d)) r
-      go (no a) (no b) (no c) (no d) = subst P (sym (after-order s brick x msg block old a b c d)) o
+      go (yes a) e b c d = subst P (sym (after-trim s brick x msg block old a)) t
+      go (no a) (yes e) b c d = subst P (sym (after-drop s brick x msg block old e)) (g e)
+      go (no a) (no e) (yes b) c d = subst P (sym (after-write s brick x msg block old b)) w
+      go (no a) (no e) (no b) (yes c) d = subst P (sym (after-modify s brick x msg block old c)) m
+      go (no a) (no e) (no b) (no c) (yes d) = subst P (sym (after-read s brick x msg block old d)) r
+      go (no a) (no e) (no b) (no c) (no d) =
+          subst P (sym (after-order s brick x msg block old (rw (ne-eqb (msg .kind) trimKind a, ne-eqb (msg .kind) dropKind e) refl) b c d)) o
 
 by-yes : (b : Bool) (P : Brick → Type 0) (x y : Brick) → (b ≡ true → P x) → P y → P (cond b x y)
 by-yes true P x y f g = f refl
@@ -117,7 +123,7 @@ module _ (s : Settings) (brick : ℕ) (x : Brick) (msg : Message) (block old : L
   pub promise-never-falls : x .promise ≤ brickAfter s brick x msg block old .promise
   unfolding trimmedTo writtenIfYes modifiedIfYes orderedIfYes withPromise appended
   promise-never-falls =
-      by-kind s brick x msg block old (λ (y : Brick). x .promise ≤ y .promise) (omega arith)
+      by-kind s brick x msg block old (λ (y : Brick). x .promise ≤ y .promise) (omega arith) (λ d. omega (arith, drop-promise x (msg .time)))
       (by-yes (writeYes s x (msg .time)) (λ (y : Brick). x .promise ≤ y .promise) (appended x (blockEntry (msg .time) block)) x (λ e. omega arith) (omega arith))
       (by-yes (modifyYes s x (msg .time) (msg .old)) (λ (y : Brick). x .promise ≤ y .promise) (appended x (modifiedEntry s brick x msg block old)) x
       (λ e. omega arith) (omega arith))
@@ -128,7 +134,7 @@ module _ (s : Settings) (brick : ℕ) (x : Brick) (msg : Message) (block old : L
   pub never-empty : 1 ≤ entryCount x → 1 ≤ entryCount (brickAfter s brick x msg block old)
   unfolding writtenIfYes modifiedIfYes orderedIfYes
   never-empty h =
-      by-kind s brick x msg block old (λ (y : Brick). 1 ≤ entryCount y) (trim-not-empty x (msg .time) h)
+      by-kind s brick x msg block old (λ (y : Brick). 1 ≤ entryCount y) (trim-not-empty x (msg .time) h) (λ d. drop-not-empty x (msg .time) h)
       (by-yes (writeYes s x (msg .time)) (λ (y : Brick). 1 ≤ entryCount y) (appended x (blockEntry (msg .time) block)) x
       (λ e. omega (arith, appended-count x (blockEntry (msg .time) block))) h)
       (by-yes (modifyYes s x (msg .time) (msg .old)) (λ (y : Brick). 1 ≤ entryCount y) (appended x (modifiedEntry s brick x msg block old)) x
@@ -154,12 +160,12 @@ block-held : (t : ℕ) (block : List ℕ) → blockEntry t block .mark ≡ false
 unfolding blockEntry
 block-held t block = refl
 
--- The newest time never falls: a law of today, which request E6 gives up.
-pub newest-never-falls : (s : Settings) (brick : ℕ) (x : Brick) (msg : Message) (block old : List ℕ) → 1 ≤ entryCount x
-    → newest x ≤ newest (brickAfter s brick x msg block old)
+-- The newest time falls by a Drop alone: E6 gives up that it never does, and every other kind keeps it.
+pub newest-falls-by-drop-alone : (s : Settings) (brick : ℕ) (x : Brick) (msg : Message) (block old : List ℕ) → (msg .kind ≡ dropKind → ⊥)
+    → 1 ≤ entryCount x → newest x ≤ newest (brickAfter s brick x msg block old)
 unfolding writtenIfYes modifiedIfYes orderedIfYes
-newest-never-falls s brick x msg block old h =
-    by-kind s brick x msg block old (λ (y : Brick). newest x ≤ newest y) (omega (arith, trim-keeps-newest x (msg .time) h))
+newest-falls-by-drop-alone s brick x msg block old n h =
+    by-kind s brick x msg block old (λ (y : Brick). newest x ≤ newest y) (omega (arith, trim-keeps-newest x (msg .time) h)) (λ d. absurd (n d))
     (by-yes (writeYes s x (msg .time)) (λ (y : Brick). newest x ≤ newest y) (appended x (blockEntry (msg .time) block)) x
     (λ e. above (blockEntry (msg .time) block) (block-time (msg .time) block) e) (omega arith))
     (by-yes (modifyYes s x (msg .time) (msg .old)) (λ (y : Brick). newest x ≤ newest y) (appended x (modifiedEntry s brick x msg block old)) x
@@ -278,39 +284,11 @@ appended-sound s x e r free above v size mark =
             let up = rises-next s x r i low in
             omega arith
 
-pub trimmed-sound : (s : Settings) (x : Brick) (t : ℕ) → Sound s x → Sound s (trimmedTo x t)
-trimmed-sound s x t r = go (trim-places s x t r)
-  where
-    go : (d : ℕ) × Trims x t d → Sound s (trimmedTo x t)
-    go (d, q) =
-        sound-of s (trimmedTo x t) (omega (arith, q .count, q .cut .low)) (omega (arith, q .count, r .count-high))
-        (ap savedTime (q .promise-is) ∙ r .promise-saved)
-        (λ i h. ap savedTime (q .times i) ∙ r .entries (d + i) (omega (arith, h, q .count)) .saved)
-        (λ i h. rise i (omega (arith, h, q .count)))
-        (λ i h. ap length (q .means i) ∙ r .entries (d + i) (omega (arith, h, q .count)) .sized)
-        (λ i h m. mark i (omega (arith, h, q .count)) m)
-      where
-        mark : (i : ℕ) → d + i < entryCount x → markAt (trimmedTo x t) i ≡ true → (0 < i) × (meansAt (trimmedTo x t) i ≡ meansAt (trimmedTo x t) (i - 1))
-        mark zero h m = absurd (true≢false (sym m ∙ q .lowest))
-        mark (suc i) h m =
-            let n : suc i - 1 ≡ i = omega arith in
-            let k : d + suc i - 1 ≡ d + i = omega arith in
-            let w = r .entries (d + suc i) h .marked (sym (q .marks i) ∙ m) in
-            (omega arith, q .means (suc i) ∙ w .1 ∙ ap (meansAt x) k ∙ sym (ap (meansAt (trimmedTo x t)) n ∙ q .means i))
-
-        rise : (i : ℕ) → d + suc i < entryCount x → timeAt (trimmedTo x t) i < timeAt (trimmedTo x t) (suc i)
-        rise i h =
-            let m : d + suc i ≡ suc (d + i) = omega arith in
-            let up = rises-next s x r (d + i) (omega arith) in
-            let a = q .times i in
-            let b = q .times (suc i) ∙ ap (timeAt x) m in
-            omega arith
-
 pub after-sound : (s : Settings) (brick : ℕ) (x : Brick) (msg : Message) (block old : List ℕ) → Sound s x → validTime (msg .time) ≡ true → length block ≡ s .size
     → Sound s (brickAfter s brick x msg block old)
 unfolding writtenIfYes modifiedIfYes orderedIfYes
 after-sound s brick x msg block old r v size =
-    by-kind s brick x msg block old (λ (y : Brick). Sound s y) (trimmed-sound s x (msg .time) r)
+    by-kind s brick x msg block old (λ (y : Brick). Sound s y) (trimmed-sound s x (msg .time) r) (λ d. dropped-sound s x (msg .time) r)
     (by-yes (writeYes s x (msg .time)) (λ (y : Brick). Sound s y) (appended x (blockEntry (msg .time) block)) x
     (λ e. stored (blockEntry (msg .time) block) (block-time (msg .time) block) e (unfold blockEntry in size) (λ m. absurd (true≢false (sym m ∙ block-held (msg .time) block)))) r)
     (by-yes (modifyYes s x (msg .time) (msg .old)) (λ (y : Brick). Sound s y) (appended x (modifiedEntry s brick x msg block old)) x

@@ -6,7 +6,7 @@ use Prim.Native.Nat.{ℕ}
 use lib.Dec.{eqb}
 use borrow.Author.Tests.{eqb-true}
 use Rattle.settings.specs.declared.Settings.{Settings}
-use Rattle.message.specs.Kinds.{trimKind}
+use Rattle.message.specs.Messages.{isSilent}
 use Rattle.message.specs.declared.Message.{Message}
 use Rattle.image.specs.Parse.{Parsed, Opens, brickIn, parse}
 use Rattle.image.proofs.Laws.ParseLaws.{parse-opens}
@@ -21,7 +21,7 @@ use Rattle.brick.proofs.Laws.OutcomeLaws.{passes}
 acted-number : (s : Settings) (brick : ℕ) (msg : Message) (block old bytes out : List ℕ) (x : Brick)
     → givenNumber (accepted s brick msg block old bytes out (Opens x) .given) ≡ 0
 unfolding givenNumber accepted givenBy
-acted-number s brick msg block old bytes out x = go (eqb (msg .kind) trimKind)
+acted-number s brick msg block old bytes out x = go (isSilent (msg .kind))
   where
     go : (b : Bool) → givenNumber (cond b Silent (Answered (replyTo s brick x msg))) ≡ 0
     go true = refl

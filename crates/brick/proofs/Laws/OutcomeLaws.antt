@@ -1,6 +1,6 @@
 -- From the answers of the parts to the outcome of a message.
 use mathlib.Core.Path.{_≡_, refl, sym, ap, ap₂, subst, _∙_}
-use mathlib.Core.Bool.{Bool, true, false, cond, not, _&&_}
+use mathlib.Core.Bool.{Bool, true, false, cond, not, _&&_, true≢false}
 use mathlib.Core.List.{List, [], _∷_}
 use Prim.Native.Nat.{ℕ, zero, suc, _+_, _-_, _*_, _≤_, _<_}
 use native.Mathlib.Omega.{arith}
@@ -16,7 +16,7 @@ use Rattle.settings.specs.Refusal.{firstRefusal, refuseUnless}
 use Rattle.settings.specs.declared.Settings.{Settings}
 use Rattle.settings.proofs.Laws.RefusalLaws.{first-stop, first-pass, first-alone, passed-first, passed-rest, tested}
 use Rattle.message.specs.Flags.{member}
-use Rattle.message.specs.Messages.{messageRefusal, namesBlock, messageBlockRefusal}
+use Rattle.message.specs.Messages.{isSilent, messageRefusal, namesBlock, messageBlockRefusal}
 use Rattle.message.specs.declared.Message.{Message}
 use Rattle.image.specs.Brick.{Brick, entryCount, timeAt, meansAt, newest}
 use Rattle.image.specs.Image.{imageOf, imageSize}
@@ -31,21 +31,22 @@ use Rattle.image.specs.declared.Entry.{Entry}
 use Rattle.image.specs.declared.Head.{Head}
 use Rattle.image.specs.declared.Opening.{Opening}
 use Rattle.image.specs.declared.ImageAnswer.the-variants.{Refused as Failed}
-use Rattle.image_write.specs.Workers.{without}
 use Rattle.brick_answer.specs.Comparisons.{notBelowPromise, aboveNewest, firstNo}
 use Rattle.brick_answer.proofs.Laws.ComparisonLaws.{none-first}
 use Rattle.brick_log.specs.BrickRules.{comparisonTo, readYes, orderYes, under, lookup, timeFor, placeFor, foundFor, yesTo, replyTo, brickAfter, blockAfter}
 use Rattle.brick.specs.Receive.{Beside, beside, besideRight, frontRefusal, receiveRefusal, Outcome, outcomeWith, refusedWith, givenBy, accepted, outcome}
-use Rattle.brick_log.specs.Workers.{LogReady, Ahead, TrimReady, logTime, planOf, trimPlan, blockPlan, planFor, planIn, cutFor, granted, underIn, underFor, lookedIn}
-use Rattle.brick_log.specs.Workers.{readPlace, gaveOf, holderFor}
-use Rattle.brick_log.proofs.Laws.LookLaws.{under-brick, place-brick, time-brick, plan-trim, plan-read, plan-look, plan-block, plan-other, cut-for}
-use Rattle.brick_log.proofs.Laws.TrimLaws.{cut-trims}
+use Rattle.brick_log.specs.Workers.{LogReady, Ahead, RemoveReady, Removes, removedBy, planOf, removePlan, trimPlan, blockPlan, planFor, planIn, cutFor, granted, underIn, underFor, lookedIn}
+use Rattle.brick_log.specs.Workers.{dropPlan, readPlace, gaveOf, holderFor}
+use Rattle.brick_log.proofs.Laws.LookLaws.{under-brick, place-brick, time-brick, plan-trim, plan-drop, plan-read, plan-look, plan-block, plan-other, drop-names-none}
+use Rattle.brick_log.proofs.Laws.AnsweredLaws.{after-trim, after-drop}
+use Rattle.brick_log.proofs.Laws.RemovalLaws.{trim-removes, drop-removes}
+use Rattle.message.proofs.Laws.MessageLaws.{by-silent, not-silent}
 use Rattle.brick_log.specs.declared.Known.{Known}
 use Rattle.brick_log.specs.declared.Plan.{Plan}
 use Rattle.brick.specs.declared.Given.{Given}
 use Rattle.brick.specs.declared.Given.the-variants.{Answered, Silent, Refused}
 use Rattle.image_block.specs.Block.{blockBytes}
-use Rattle.message.specs.Kinds.{orderReadKind, orderBlockKind, readKind, modifyKind, trimKind, noComparison}
+use Rattle.message.specs.Kinds.{orderReadKind, orderBlockKind, readKind, modifyKind, trimKind, dropKind, noComparison}
 use Rattle.settings.specs.Ranges.{maxCapacity, maxStripes}
 use Rattle.settings.specs.Refusal.{badLength, badNumber, badBlock, passed}
 
@@ -442,33 +443,25 @@ module _ (s : Settings) (brick : ℕ) (l : List ℕ) (k : Known) (r : LogReady s
 
 pub ahead : (s : Settings) (brick : ℕ) (l : List ℕ) (k : Known) (log : List Entry) (msg : Message) (p : Plan) → LogReady s brick l k → log ≡ workingLog (brickIn s l)
     → p ≡ planFor log k msg brick → Ahead brick (brickIn s l) k msg p
-unfolding planOf trimPlan
+unfolding planOf removePlan trimPlan
 ahead s brick l k log msg p r e q =
-    go (ℕ-discrete (msg .kind) trimKind) (ℕ-discrete (msg .kind) readKind) (ℕ-discrete (msg .kind) orderReadKind) (ℕ-discrete (msg .kind) orderBlockKind)
+    go (ℕ-discrete (msg .kind) trimKind) (ℕ-discrete (msg .kind) dropKind) (ℕ-discrete (msg .kind) readKind) (ℕ-discrete (msg .kind) orderReadKind)
+    (ℕ-discrete (msg .kind) orderBlockKind)
   where
-    -- what a Trim cuts
+    -- what a Trim and a Drop take out
     trims : msg .kind ≡ trimKind → p ≡ trimPlan log (cutFor log (k .count) (msg .time))
     trims z = q ∙ plan-trim log k msg brick z
 
-    cut : msg .kind ≡ trimKind → p .cut ≡ cutFor (workingLog (brickIn s l)) (entryCount (brickIn s l)) (msg .time)
-    cut z = ap (λ (w : Plan). w .cut) (trims z) ∙ ap₂ (λ (g : List Entry) (c : ℕ). cutFor g c (msg .time)) e (r .counts)
-
-    low : msg .kind ≡ trimKind → p .cut < k .count
-    low z =
-        omega (arith, cut z, cut-for (workingLog (brickIn s l)) (entryCount (brickIn s l)) (msg .time) (r .saved .keeps .count-low) .low, r .counts)
+    drops : msg .kind ≡ dropKind → p ≡ dropPlan log (k .count) (msg .time)
+    drops z = q ∙ plan-drop log k msg brick z
 
     made : p .place ≡ holderFor (brickIn s l) (placeFor brick (brickIn s l) msg) → p .found ≡ foundFor brick (brickIn s l) msg → Ahead brick (brickIn s l) k msg p
     made a b =
         record {
           place-is = a;
           found-is = b;
-          cut-low = low;
-          cut-is = λ z. cut-trims s (brickIn s l) (msg .time) (r .saved .keeps) (few s brick l k r) ∙ ap (without (brickIn s l)) (sym (cut z));
-          holder-is = λ z.
-              ap (λ (w : Plan). w .holder) (trims z) ∙ ap₂ (λ (g : List Entry) (d : ℕ). holderOf g d) e (sym (ap (λ (w : Plan). w .cut) (trims z)));
-          lowest-is = λ z.
-              ap (λ (w : Plan). w .lowest) (trims z) ∙ ap₂ (λ (g : List Entry) (d : ℕ). logTime g d) e (sym (ap (λ (w : Plan). w .cut) (trims z)))
-              ∙ ap (λ (v : Entry). v .time) (log-at (brickIn s l) (p .cut) blank (omega (arith, low z, r .counts)) (few s brick l k r));
+          trims = λ z. trim-removes s brick l k r (msg .time) p (trims z ∙ ap₂ (λ (g : List Entry) (c : ℕ). trimPlan g (cutFor g c (msg .time))) e (r .counts));
+          drops = λ z. drop-removes s brick l k r (msg .time) p (drops z ∙ ap₂ (λ (g : List Entry) (c : ℕ). dropPlan g c (msg .time)) e (r .counts));
         }
 
     -- no block and no time
@@ -478,29 +471,38 @@ ahead s brick l k log msg p r e q =
         made (a ∙ sym (holder-none (brickIn s l)) ∙ ap (holderFor (brickIn s l)) (sym (place-none s brick l k r msg m n o)))
         (b ∙ found-none s brick l k r msg m n o)
 
-    go : Dec (msg .kind ≡ trimKind) → Dec (msg .kind ≡ readKind) → Dec (msg .kind ≡ orderReadKind) → Dec (msg .kind ≡ orderBlockKind)
+    go : Dec (msg .kind ≡ trimKind) → Dec (msg .kind ≡ dropKind) → Dec (msg .kind ≡ readKind) → Dec (msg .kind ≡ orderReadKind) → Dec (msg .kind ≡ orderBlockKind)
         → Ahead brick (brickIn s l) k msg p
-    go (yes z) a b c =
+    go (yes z) d a b c =
         nothing (ap (λ (v : Plan). v .place) (trims z)) (ap (λ (v : Plan). v .found) (trims z)) (λ i. omega (arith, z, i)) (λ i. omega (arith, z, i))
         (λ i. omega (arith, z, i))
-    go (no z) (yes a) b c =
+    go (no z) (yes d) a b c =
+        let none = drop-names-none log (k .count) (msg .time) in
+        nothing (ap (λ (v : Plan). v .place) (drops d) ∙ none .0) (ap (λ (v : Plan). v .found) (drops d) ∙ none .1) (λ i. omega (arith, d, i)) (λ i. omega (arith, d, i)) (λ i. omega (arith, d, i))
+    go (no z) (no d) (yes a) b c =
         let w = q ∙ plan-read log k msg brick a in
         made (ap (λ (v : Plan). v .place) w ∙ place-read s brick l k r msg a) (ap (λ (v : Plan). v .found) w ∙ found-read s brick l k r msg a)
-    go (no z) (no a) (yes b) c =
+    go (no z) (no d) (no a) (yes b) c =
         let w = q ∙ plan-look log k msg brick b in
         made (ap (λ (v : Plan). v .place) w ∙ place-look s brick l k r msg log e b) (ap (λ (v : Plan). v .found) w ∙ found-look s brick l k r msg log e b)
-    go (no z) (no a) (no b) (yes c) =
+    go (no z) (no d) (no a) (no b) (yes c) =
         let w = q ∙ plan-block log k msg brick c in
         made (ap (λ (v : Plan). v .place) w ∙ place-block s brick l k r msg c) (ap (λ (v : Plan). v .found) w ∙ found-block s brick l k r msg c)
-    go (no z) (no a) (no b) (no c) =
-        let w = q ∙ plan-other log k msg brick z a b c in
+    go (no z) (no d) (no a) (no b) (no c) =
+        let w = q ∙ plan-other log k msg brick z d a b c in
         nothing (ap (λ (v : Plan). v .place) w) (ap (λ (v : Plan). v .found) w) a b c
 
 -- the ways of acting
 module _ (s : Settings) (brick : ℕ) (l : List ℕ) (k : Known) (msg : Message) (p : Plan) (r : LogReady s brick l k) (h : Ahead brick (brickIn s l) k msg p) where
-  -- what a Trim is told
-  pub trim-ready : msg .kind ≡ trimKind → TrimReady (brickIn s l) k (p .cut) (p .holder) (p .lowest)
-  trim-ready e = record { low = h .cut-low e; holder-is = h .holder-is e; lowest-is = h .lowest-is e }
+  -- a Trim or a Drop takes out what leaves the brick after it
+  removes : (block old : List ℕ) → isSilent (msg .kind) ≡ true → Removes (brickIn s l) k p (brickAfter s brick (brickIn s l) msg block old)
+  removes block old e =
+      by-silent (Removes (brickIn s l) k p (brickAfter s brick (brickIn s l) msg block old)) (msg .kind) e
+      (λ z. subst (Removes (brickIn s l) k p) (sym (after-trim s brick (brickIn s l) msg block old z)) (h .trims z))
+      (λ z. subst (Removes (brickIn s l) k p) (sym (after-drop s brick (brickIn s l) msg block old z)) (h .drops z))
+
+  pub remove-ready : (v : Bool) → v ≡ isSilent (msg .kind) → v ≡ true → RemoveReady (brickIn s l) k p
+  remove-ready v e t = removes [] [] (sym e ∙ t) .ready
 
   -- the block that goes with the reply stands in the image
   pub place-low : p .place ≤ k .count
@@ -527,16 +529,20 @@ module _ (s : Settings) (brick : ℕ) (l : List ℕ) (k : Known) (msg : Message)
     unfolding accepted
     acts g image out′ a b c = λ i. outcomeWith (a i) (b i) (c i)
 
-    pub acts-trim : (image : List ℕ) → msg .kind ≡ trimKind → image ≡ imageOf s brick (without (brickIn s l) (p .cut))
+    pub acts-silent : (v : Bool) (image : List ℕ) → v ≡ isSilent (msg .kind) → v ≡ true → image ≡ imageOf s brick (removedBy (brickIn s l) p)
         → outcomeWith Silent image out ≡ accepted s brick msg block old l out (Opens (brickIn s l))
-    unfolding givenBy brickAfter blockAfter
-    acts-trim image e w =
+    unfolding givenBy blockAfter
+    acts-silent v image e t w =
+        let silent = sym e ∙ t in
         acts Silent image out
-        (sym (rw (eq-eqb (msg .kind) trimKind e) refl))
-        (w ∙ ap (λ (y : Brick). imageOf s brick y) (sym (rw (eq-eqb (msg .kind) trimKind e) (h .cut-is e))))
-        (sym (rw (place-none s brick l k r msg (λ q. omega (arith, e, q)) (λ q. omega (arith, e, q)) (λ q. omega (arith, e, q))) refl))
+        (sym (rw silent refl))
+        (w ∙ ap (imageOf s brick) (sym (removes block old silent .leaves)))
+        (sym (rw (place-none s brick l k r msg (speaks silent readKind (omega arith)) (speaks silent orderReadKind (omega arith)) (speaks silent orderBlockKind (omega arith))) refl))
+      where
+        speaks : isSilent (msg .kind) ≡ true → (kind : ℕ) → kind < trimKind → msg .kind ≡ kind → ⊥
+        speaks y kind low q = true≢false (sym y ∙ ap isSilent q ∙ not-silent kind low)
 
-    pub acts-reply : (said : ℕ) (image out′ : List ℕ) → (msg .kind ≡ trimKind → ⊥) → said ≡ firstNo (s .capacity) (k .count) (k .newest) (k .promise) msg
+    pub acts-reply : (v : Bool) (said : ℕ) (image out′ : List ℕ) → v ≡ isSilent (msg .kind) → v ≡ false → said ≡ firstNo (s .capacity) (k .count) (k .newest) (k .promise) msg
         → image ≡ imageOf s brick (brickAfter s brick (brickIn s l) msg block old) → out′ ≡ gaveOf l (s .size) (p .place) out
         → outcomeWith (Answered (record {
           kind = msg .kind;
@@ -551,11 +557,11 @@ module _ (s : Settings) (brick : ℕ) (l : List ℕ) (k : Known) (msg : Message)
         })) image out′
         ≡ accepted s brick msg block old l out (Opens (brickIn s l))
     unfolding givenBy replyTo yesTo comparisonTo
-    acts-reply said image out′ e es ei eo =
+    acts-reply v said image out′ e f es ei eo =
         let high = place-high brick (brickIn s l) msg in
         let said-so = said-is said es in
         acts _ image out′
-        (sym (rw (ne-eqb (msg .kind) trimKind e)
+        (sym (rw (sym e ∙ f)
         (sym (reply (ap (λ (n : ℕ). eqb n noComparison) said-so ∙ none-first (s .capacity) (entryCount (brickIn s l)) (newest (brickIn s l)) (brickIn s l .promise) msg)
         (h .found-is) (ap (λ (n : ℕ). not (eqb n 0)) (h .place-is) ∙ ap not (held-same (placeFor brick (brickIn s l) msg) high)) said-so))))
         ei

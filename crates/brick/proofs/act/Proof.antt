@@ -1,22 +1,27 @@
+use mathlib.Core.Path.{sym, _∙_}
 use native.Mathlib.Omega.{arith}
 use Rattle.image.specs.Image.{imageSize}
-use Rattle.brick.proofs.Laws.OutcomeLaws.{trim-ready, place-low, said-is, acts-trim, acts-reply}
+use Rattle.brick.proofs.Laws.OutcomeLaws.{remove-ready, place-low, said-is, acts-silent, acts-reply}
 use borrow.Author.Needs.{needs}
 use Rattle.brick.proofs.act.Statement.{statement}
 use Rattle.brick.proofs.act.Tie as tie
 
-trim-requires : tie.Need-trim-requires
-trim-requires c κs =
+is-silent-requires : tie.Need-is-silent-requires
+is-silent-requires c κs = search needs
+
+remove-requires : tie.Need-remove-requires
+remove-requires c κs =
     let p = c .before .before .before .before .before .before .before .pre in
-    (p .0, trim-ready _ _ _ _ _ _ (p .0) (p .1 .0) (c .before .if1 .taken))
+    (p .0, remove-ready _ _ _ _ _ _ (p .0) (p .1 .0) _ (c .before .before .is-silent .ensures) (c .before .if1 .taken))
 
 same-length : tie.Need-same-length
 same-length c = search needs
 
 returns : tie.Need-returns
 returns c =
-    let p = c .before .before .before .before .before .before .before .before .before .before .pre in
-    acts-trim _ _ _ _ _ _ (p .0) (p .1 .0) _ _ _ _ (c .before .before .before .before .if1 .taken) (c .before .before .trim .ensures)
+    let told = c .before .before .before .before .before in
+    let p = told .before .before .before .before .before .pre in
+    acts-silent _ _ _ _ _ _ (p .0) (p .1 .0) _ _ _ _ _ (told .is-silent .ensures) (c .before .before .before .before .if1 .taken) (c .before .before .remove .ensures)
 
 give-requires : tie.Need-give-requires
 unfolding imageSize
@@ -30,12 +35,10 @@ comparison-of-requires c κs = search needs
 
 change-requires : tie.Need-change-requires
 change-requires c κs =
-    let p = c .before .before .before .before .before .before .before .before .before .before .before .before .before .pre in (
+    let p = c .before .before .before .before .before .before .before .before .before .before .before .before .before .pre in
+    let speaks = sym (c .before .before .before .before .before .before .before .before .is-silent .ensures) ∙ c .before .before .before .before .before .before .before .if1 .left in (
       p .0,
-      (
-        (p .1 .1 .0 .0, p .1 .1 .0 .1),
-        (c .before .before .before .before .before .before .before .if1 .left, p .1 .1 .1, said-is _ _ _ _ _ _ (p .0) (p .1 .0) _ (c .before .comparison-of .ensures)),
-      ),
+      ((p .1 .1 .0 .0, p .1 .1 .0 .1), (speaks, p .1 .1 .1, said-is _ _ _ _ _ _ (p .0) (p .1 .0) _ (c .before .comparison-of .ensures))),
     )
 
 same-length-2 : tie.Need-same-length-2
@@ -46,15 +49,17 @@ same-length-3 c = search needs
 
 returns-2 : tie.Need-returns-2
 returns-2 c =
-    let p = c .before .before .before .before .before .before .before .before .before .before .before .before .before .before .before .before .pre in
-    acts-reply _ _ _ _ _ _ (p .0) (p .1 .0) _ _ _ _ _ _ (c .before .before .before .before .before .before .before .before .before .before .if1 .left)
+    let told = c .before .before .before .before .before .before .before .before .before .before .before in
+    let p = told .before .before .before .before .before .pre in
+    acts-reply _ _ _ _ _ _ (p .0) (p .1 .0) _ _ _ _ _ _ _ (told .is-silent .ensures) (c .before .before .before .before .before .before .before .before .before .before .if1 .left)
     (c .before .before .before .before .comparison-of .ensures) (c .before .before .change .ensures) (c .before .before .before .before .before .before .before .give .ensures)
 
 pub act-spec : {M : Type 1} → statement M
 act-spec =
     tie.close
     (tie.spec
-    trim-requires
+    is-silent-requires
+    remove-requires
     same-length
     returns
     give-requires

@@ -9,15 +9,16 @@ use lib.Dec.{eqb, leb, ltb}
 use borrow.Author.Tests.{ltb-true, eqb-true, eq-eqb, ne-eqb}
 use Rattle.byte_lists.proofs.Laws.BoolLaws.{and-left, and-right}
 use Rattle.settings.specs.declared.Settings.{Settings}
-use Rattle.message.specs.Kinds.{readKind, trimKind, writeKind, modifyKind, noComparison}
-use Rattle.message.specs.Messages.{storesEntry}
+use Rattle.message.specs.Kinds.{readKind, trimKind, dropKind, writeKind, modifyKind, noComparison}
+use Rattle.message.specs.Messages.{isSilent, storesEntry}
+use Rattle.message.proofs.Laws.MessageLaws.{no-trim, no-drop}
 use Rattle.message.specs.declared.Message.{Message}
 use Rattle.image.specs.Brick.{Brick, entryCount, newest}
 use Rattle.image_write.specs.Saving.{withPromise, appended, blockEntry}
 use Rattle.brick_answer.specs.Comparisons.{aboveNewest, notBelowPromise, hasFree, newerSaysNo, promiseSaysNo, fullSaysNo, noneSaysNo}
 use Rattle.brick_answer.proofs.Laws.ComparisonLaws.{none-first, comparison-allowed}
 use Rattle.brick_log.specs.AnswerTheorem.{yesByKind, AnswersAsBefore, ComparisonIsAllowed}
-use Rattle.brick_log.specs.BrickRules.{readYes, orderYes, writeYes, modifyYes, orderedIfYes, writtenIfYes, modifiedEntry, modifiedIfYes, trimmedTo}
+use Rattle.brick_log.specs.BrickRules.{readYes, orderYes, writeYes, modifyYes, orderedIfYes, writtenIfYes, modifiedEntry, modifiedIfYes, trimmedTo, droppedFrom}
 use Rattle.brick_log.specs.BrickRules.{yesTo, comparisonTo, brickAfter}
 
 unfoldable answer-tests : Unit {0}
@@ -89,15 +90,26 @@ module _ (s : Settings) (brick : ℕ) (x : Brick) (msg : Message) (block old : L
   unfolding brickAfter
   after-trim e = rw (eq-eqb (msg .kind) trimKind e) refl
 
+  pub after-drop : msg .kind ≡ dropKind → brickAfter s brick x msg block old ≡ droppedFrom x (msg .time)
+  unfolding brickAfter
+  after-drop e = rw (ne-eqb (msg .kind) trimKind (λ q. omega (arith, e, q)), eq-eqb (msg .kind) dropKind e) refl
+
   pub after-write : msg .kind ≡ writeKind → brickAfter s brick x msg block old ≡ writtenIfYes s x (msg .time) block
   unfolding brickAfter
-  after-write e = rw (ne-eqb (msg .kind) trimKind (λ q. omega (arith, e, q)), eq-eqb (msg .kind) writeKind e) refl
+  after-write e =
+      rw
+      (ne-eqb (msg .kind) trimKind (λ q. omega (arith, e, q)), ne-eqb (msg .kind) dropKind (λ q. omega (arith, e, q)), eq-eqb (msg .kind) writeKind e)
+      refl
 
   pub after-modify : msg .kind ≡ modifyKind → brickAfter s brick x msg block old ≡ modifiedIfYes s brick x msg block old
   unfolding brickAfter
   after-modify e =
-      rw
-      (ne-eqb (msg .kind) trimKind (λ q. omega (arith, e, q)), ne-eqb (msg .kind) writeKind (λ q. omega (arith, e, q)), eq-eqb (msg .kind) modifyKind e)
+      rw (
+        ne-eqb (msg .kind) trimKind (λ q. omega (arith, e, q)),
+        ne-eqb (msg .kind) dropKind (λ q. omega (arith, e, q)),
+        ne-eqb (msg .kind) writeKind (λ q. omega (arith, e, q)),
+        eq-eqb (msg .kind) modifyKind e,
+      )
       refl
 
   pub after-read : msg .kind ≡ readKind → brickAfter s brick x msg block old ≡ x
@@ -105,20 +117,28 @@ module _ (s : Settings) (brick : ℕ) (x : Brick) (msg : Message) (block old : L
   after-read e =
       rw (
         ne-eqb (msg .kind) trimKind (λ q. omega (arith, e, q)),
+        ne-eqb (msg .kind) dropKind (λ q. omega (arith, e, q)),
         ne-eqb (msg .kind) writeKind (λ q. omega (arith, e, q)),
         ne-eqb (msg .kind) modifyKind (λ q. omega (arith, e, q)),
         eq-eqb (msg .kind) readKind e,
       )
       refl
 
-  pub after-order : (msg .kind ≡ trimKind → ⊥) → (msg .kind ≡ writeKind → ⊥) → (msg .kind ≡ modifyKind → ⊥) → (msg .kind ≡ readKind → ⊥)
+  pub after-order : isSilent (msg .kind) ≡ false → (msg .kind ≡ writeKind → ⊥) → (msg .kind ≡ modifyKind → ⊥) → (msg .kind ≡ readKind → ⊥)
       → brickAfter s brick x msg block old ≡ orderedIfYes x (msg .time)
   unfolding brickAfter
   after-order a b c d =
-      rw (ne-eqb (msg .kind) trimKind a, ne-eqb (msg .kind) writeKind b, ne-eqb (msg .kind) modifyKind c, ne-eqb (msg .kind) readKind d) refl
+      rw (
+        ne-eqb (msg .kind) trimKind (no-trim (msg .kind) a),
+        ne-eqb (msg .kind) dropKind (no-drop (msg .kind) a),
+        ne-eqb (msg .kind) writeKind b,
+        ne-eqb (msg .kind) modifyKind c,
+        ne-eqb (msg .kind) readKind d,
+      )
+      refl
 
-  -- "A no changes nothing": all but Trim that are not granted.
-  pub no-changes-nothing : (msg .kind ≡ trimKind → ⊥) → yesTo s x msg ≡ false → brickAfter s brick x msg block old ≡ x
+  -- "A no changes nothing": all but Trim and Drop that are not granted.
+  pub no-changes-nothing : isSilent (msg .kind) ≡ false → yesTo s x msg ≡ false → brickAfter s brick x msg block old ≡ x
   unfolding writtenIfYes modifiedIfYes orderedIfYes
   no-changes-nothing n e = go (ℕ-discrete (msg .kind) writeKind) (ℕ-discrete (msg .kind) modifyKind) (ℕ-discrete (msg .kind) readKind)
     where
@@ -140,7 +160,7 @@ module _ (s : Settings) (brick : ℕ) (x : Brick) (msg : Message) (block old : L
   modify-appends e y = after-modify e ∙ rw (sym (yes-modify s x msg e) ∙ y) refl
 
   -- and one to an Order of any kind promises its time, and nothing else.
-  pub order-promises : (msg .kind ≡ trimKind → ⊥) → (msg .kind ≡ writeKind → ⊥) → (msg .kind ≡ modifyKind → ⊥) → (msg .kind ≡ readKind → ⊥)
+  pub order-promises : isSilent (msg .kind) ≡ false → (msg .kind ≡ writeKind → ⊥) → (msg .kind ≡ modifyKind → ⊥) → (msg .kind ≡ readKind → ⊥)
       → yesTo s x msg ≡ true → brickAfter s brick x msg block old ≡ withPromise x (msg .time)
   unfolding orderedIfYes
   order-promises a b c d y = after-order a b c d ∙ rw (sym (yes-order s x msg b c d) ∙ y) refl

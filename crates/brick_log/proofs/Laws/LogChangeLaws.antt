@@ -1,5 +1,5 @@
 -- The ways through the steps of a brick, at its image.
-use mathlib.Core.Path.{_≡_, sym, ap, ap₂, _∙_}
+use mathlib.Core.Path.{_≡_, refl, sym, ap, ap₂, _∙_}
 use mathlib.Core.Bool.{Bool, true, false, cond}
 use mathlib.Core.List.{List}
 use Prim.Native.Nat.{ℕ, _+_, _-_, _*_, _≤_, _<_}
@@ -7,28 +7,30 @@ use native.Mathlib.Omega.{arith}
 use lib.Dec.{eqb, ltb}
 use lib.ListN.{length, take, drop, length-take}
 use borrow.Author.Tests.{lt-ltb, le-ltb, eq-eqb, ne-eqb}
+use Rattle.message.specs.Messages.{isSilent}
 use Rattle.message.specs.declared.Message.{Message}
 use Rattle.settings.specs.declared.Settings.{Settings}
 use Rattle.image_block.specs.Block.{headBlock, entryBlock, markBlock}
 use Rattle.byte_lists.specs.Lists.{put}
 use Rattle.image.specs.Brick.{Brick, LogEntry, entryCount, meansAt, Sound}
 use Rattle.image.specs.Image.{imageOf, imageSize}
-use Rattle.settings.specs.Ranges.{maxSize}
 use Rattle.image.specs.Parse.{brickIn, imageBlockAt, heldIn}
 use Rattle.image.proofs.Laws.FitLaws.{held-bytes}
 use Rattle.image.proofs.Laws.HolderLaws.{meant}
-use Rattle.image_write.specs.Workers.{without, slotOf, cleared, shifted, heldOwn}
+use Rattle.image_write.specs.Workers.{slotOf, cleared, shifted, heldOwn}
 use Rattle.image_write.specs.Saving.{withPromise, appended, blockEntry, markEntry}
-use Rattle.image_write.proofs.Laws.ImageStepLaws.{promise-written, append-placed, slot-block, slot-mark, slot-long, without-none, without-written}
+use Rattle.image_write.proofs.Laws.ImageStepLaws.{promise-written, append-placed, slot-block, slot-mark, slot-long}
+use Rattle.image_write.proofs.Laws.RemovedLaws.{Above, removed-written}
 use Rattle.erasure.specs.Recoding.{recodedBlock}
 use Rattle.erasure.proofs.Laws.RecodingLaws.{recoded-length}
 use Rattle.brick_log.specs.BrickRules.{newestBlock, modifiedEntry, yesTo, comparisonTo, brickAfter}
 use Rattle.brick_log.proofs.Laws.AnsweredLaws.{after-read, yes-write, yes-modify, said-none, said-one, no-changes-nothing, write-appends, modify-appends}
 use Rattle.brick_log.proofs.Laws.AnsweredLaws.{order-promises, write-free, modify-written}
-use Rattle.brick_log.specs.Workers.{LogReady, TrimReady}
+use Rattle.brick_log.specs.Workers.{LogReady, RemoveReady, removedBy}
 use Rattle.brick_log.specs.declared.Known.{Known}
+use Rattle.brick_log.specs.declared.Plan.{Plan}
 use Rattle.image_block.specs.Block.{blockBytes, heldFrom}
-use Rattle.message.specs.Kinds.{readKind, trimKind, writeKind, modifyKind, noComparison}
+use Rattle.message.specs.Kinds.{readKind, writeKind, modifyKind, noComparison}
 
 -- the front of a buffer that is long enough
 pub prefix-length : (size : ℕ) (l : List ℕ) → size ≤ length l → length (take size l) ≡ size
@@ -133,34 +135,49 @@ module _ (s : Settings) (brick : ℕ) (l : List ℕ) (k : Known) (r : LogReady s
       w ∙ ap (λ (b : List ℕ). put (blockBytes * (k .count + 1)) (entryBlock t b) l)
       (eo ∙ ap (λ (b : List ℕ). recodedBlock (s .n) (s .m) brick j b old block) (newest-held a e ea ee))
 
-  -- the blocks that a Trim looks at are there
-  pub trim-places : (d holder lowest : ℕ) → TrimReady (brickIn s l) k d holder lowest
-      → (s .size ≤ maxSize) × (blockBytes * (d + 1 + 1) ≤ length l) × (blockBytes * (holder + 1) ≤ length l)
+  -- the blocks that are looked at where another block holds the entry right above are there
+  pub remove-places : (p : Plan) → RemoveReady (brickIn s l) k p → (p .cut ≡ 0 → ⊥) → (p .holder ≡ p .from + p .cut + 1 → ⊥)
+      → (blockBytes * (p .from + p .cut + 1 + 1) ≤ length l) × (blockBytes * (p .holder + 1) ≤ length l)
   unfolding imageSize
-  trim-places d holder lowest ready =
-      let m = meant s brick l (brickIn s l) (r .saved) d (omega (arith, r .counts, ready .low)) in (
-        r .saved .range .code .size-high,
-        omega (arith, r .saved .long, r .high, ready .low),
-        omega (arith, r .saved .long, r .high, ready .low, m .high, ready .holder-is),
+  remove-places p ready some other =
+      let above = ready .above some other in
+      let m = meant s brick l (brickIn s l) (r .saved) (p .from + p .cut) (omega (arith, r .counts, above .low)) in (
+        omega (arith, r .saved .long, r .high, above .low),
+        omega (arith, r .saved .long, r .high, above .low, m .high, above .holder-is),
       )
 
-  pub trim-moved : (d holder lowest kept : ℕ) (l₀ l₁ l₂ brickAfter : List ℕ) → TrimReady (brickIn s l) k d holder lowest → kept ≡ k .count - d
-      → l₀ ≡ heldOwn (s .size) (d + 1) holder lowest l
-      → l₁ ≡ shifted d kept l₀
-      → l₂ ≡ cleared (kept + 1) (k .count + 1 - (kept + 1)) l₁
-      → brickAfter ≡ put 0 (headBlock s brick kept (k .promise)) l₂
-      → brickAfter ≡ imageOf s brick (without (brickIn s l) d)
-  trim-moved d holder lowest kept l₀ l₁ l₂ brickAfter ready ek hold shift clear w =
-      let kx : kept ≡ entryCount (brickIn s l) - d = omega (arith, r .counts) in
-      let low : d < entryCount (brickIn s l) = omega (arith, r .counts, ready .low) in
-      let m = meant s brick l (brickIn s l) (r .saved) d low in
-      without-written s brick (brickIn s l) d low holder l₀ l₁ l₂ brickAfter (r .saved .range) (r .saved .keeps)
-      (ap₂ (λ (y : List ℕ) (h : ℕ). heldIn (s .size) (imageBlockAt y h)) (sym (r .saved .is-image)) (ready .holder-is) ∙ m .means)
-      (λ q. m .own (sym (ready .holder-is) ∙ q))
-      (hold ∙ ap₂ (λ (t : ℕ) (y : List ℕ). heldOwn (s .size) (d + 1) holder t y) (ready .lowest-is) (r .saved .is-image))
-      (shift ∙ ap (λ (q : ℕ). shifted d q l₀) kx)
-      (clear ∙ ap₂ (λ (q c : ℕ). cleared (q + 1) (c + 1 - (q + 1)) l₁) kx (r .counts))
-      (w ∙ ap₂ (λ (c p : ℕ). put 0 (headBlock s brick c p) l₂) kx (r .promises))
+  -- entries less: the entry right above gets its block, the others above move down, what is freed is cleared, and the head is written
+  pub remove-moved : (p : Plan) (l₀ l₁ l₂ after : List ℕ) → RemoveReady (brickIn s l) k p → (p .cut ≡ 0 → ⊥)
+      → l₀ ≡ heldOwn (s .size) (p .from + p .cut + 1) (p .holder) (p .lowest) l
+      → l₁ ≡ shifted (p .from) (p .cut) (k .count - (p .from + p .cut)) l₀
+      → l₂ ≡ cleared (k .count - p .cut + 1) (k .count + 1 - (k .count - p .cut + 1)) l₁
+      → after ≡ put 0 (headBlock s brick (k .count - p .cut) (k .promise)) l₂
+      → after ≡ imageOf s brick (removedBy (brickIn s l) p)
+  unfolding removedBy
+  remove-moved p l₀ l₁ l₂ after ready some hold shift clear w =
+      removed-written s brick (brickIn s l) (p .from) (p .cut) (p .holder) (p .lowest) l₀ l₁ l₂ after (r .saved .range) (r .saved .keeps)
+      (omega (arith, r .counts, ready .within)) above
+      (hold ∙ ap (heldOwn (s .size) (p .from + p .cut + 1) (p .holder) (p .lowest)) (r .saved .is-image))
+      (shift ∙ ap (λ (c : ℕ). shifted (p .from) (p .cut) (c - (p .from + p .cut)) l₀) (r .counts))
+      (clear ∙ ap (λ (c : ℕ). cleared (c - p .cut + 1) (c + 1 - (c - p .cut + 1)) l₁) (r .counts))
+      (w ∙ ap₂ (λ (c q : ℕ). put 0 (headBlock s brick (c - p .cut) q) l₂) (r .counts) (r .promises))
+      ∙ ap (imageOf s brick) (sym (rw (ne-eqb (p .cut) 0 some) refl))
+    where
+      above : (p .holder ≡ p .from + p .cut + 1 → ⊥) → Above s brick (brickIn s l) (p .from) (p .cut) (p .holder) (p .lowest)
+      above other =
+          let e = ready .above some other in
+          let low : p .from + p .cut < entryCount (brickIn s l) = omega (arith, r .counts, e .low) in
+          record {
+            low = low;
+            lowest-is = e .lowest-is;
+            means = ap₂ (λ (y : List ℕ) (h : ℕ). heldIn (s .size) (imageBlockAt y h)) (sym (r .saved .is-image)) (e .holder-is)
+                ∙ meant s brick l (brickIn s l) (r .saved) (p .from + p .cut) low .means;
+          }
+
+  -- nothing goes
+  pub remove-none : (p : Plan) → p .cut ≡ 0 → l ≡ imageOf s brick (removedBy (brickIn s l) p)
+  unfolding removedBy
+  remove-none p e = r .saved .is-image ∙ ap (imageOf s brick) (sym (rw (eq-eqb (p .cut) 0 e) refl))
 
 -- a yes, by what the comparison said; where something is stored an entry is free
 module _ (s : Settings) (brick : ℕ) (l : List ℕ) (k : Known) (r : LogReady s brick l k) (msg : Message)
@@ -185,7 +202,7 @@ module _ (s : Settings) (brick : ℕ) (l : List ℕ) (k : Known) (r : LogReady s
       → image ≡ imageOf s brick (brickAfter s brick (brickIn s l) msg block old)
   changed y image q w = w ∙ ap (imageOf s brick) (sym q)
 
-  pub change-none : (msg .kind ≡ trimKind → ⊥) → (said ≡ noComparison → ⊥) → l ≡ imageOf s brick (brickAfter s brick (brickIn s l) msg block old)
+  pub change-none : isSilent (msg .kind) ≡ false → (said ≡ noComparison → ⊥) → l ≡ imageOf s brick (brickAfter s brick (brickIn s l) msg block old)
   change-none n d =
       changed (brickIn s l) l (no-changes-nothing s brick (brickIn s l) msg block old n (said-one s (brickIn s l) msg said e d)) (r .saved .is-image)
 
@@ -202,11 +219,6 @@ module _ (s : Settings) (brick : ℕ) (l : List ℕ) (k : Known) (r : LogReady s
         → image ≡ imageOf s brick (brickAfter s brick (brickIn s l) msg block old)
     change-modify image q w = changed _ image (modify-appends s brick (brickIn s l) msg block old q (yes-told s brick l k r msg said e z)) w
 
-    pub change-order : (image : List ℕ) → (msg .kind ≡ trimKind → ⊥) → (msg .kind ≡ readKind → ⊥) → (msg .kind ≡ writeKind → ⊥) → (msg .kind ≡ modifyKind → ⊥)
+    pub change-order : (image : List ℕ) → isSilent (msg .kind) ≡ false → (msg .kind ≡ readKind → ⊥) → (msg .kind ≡ writeKind → ⊥) → (msg .kind ≡ modifyKind → ⊥)
         → image ≡ imageOf s brick (withPromise (brickIn s l) (msg .time)) → image ≡ imageOf s brick (brickAfter s brick (brickIn s l) msg block old)
     change-order image a b c d w = changed _ image (order-promises s brick (brickIn s l) msg block old a c d b (yes-told s brick l k r msg said e z)) w
-
--- nothing to drop
-pub trim-none : (s : Settings) (brick : ℕ) (l : List ℕ) (k : Known) (d : ℕ) → LogReady s brick l k → d ≡ 0 → l ≡ imageOf s brick (without (brickIn s l) d)
-trim-none s brick l k d r e =
-    r .saved .is-image ∙ ap (imageOf s brick) (without-none s (brickIn s l) (r .saved .keeps) ∙ ap (without (brickIn s l)) (sym e))

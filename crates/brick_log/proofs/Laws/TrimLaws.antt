@@ -1,22 +1,24 @@
 -- What a Trim leaves, place by place. Only this module walks along `trimmed`.
 use mathlib.Core.Path.{_≡_, refl, sym, ap, subst, _∙_}
-use mathlib.Core.Bool.{Bool, true, false, cond}
+use mathlib.Core.Bool.{Bool, true, false, cond, true≢false}
 use mathlib.Core.List.{List, [], _∷_}
 use Prim.Native.Nat.{ℕ, zero, suc, _+_, _-_, _≤_, _<_}
 use native.Mathlib.Omega.{arith}
+use native.Mathlib.Nat.{zero-add, add-comm}
 use native.Mathlib.Decide.{decLt}
 use lib.Dec.{ltb}
 use lib.ListN.{length, drop, getD, length-drop}
 use lib.Seq.{getD-drop}
 use borrow.Author.Tests.{lt-ltb, le-ltb}
 use Rattle.settings.specs.declared.Settings.{Settings}
-use Rattle.image.specs.Brick.{Brick, LogEntry, noEntry, entryCount, timeAt, meansAt, markAt, newest, Sound}
+use Rattle.image.specs.Brick.{Brick, LogEntry, noEntry, entryCount, timeAt, meansAt, newest, Sound}
 use Rattle.image.proofs.Laws.HubLaws.{log-at}
 use Rattle.image.proofs.Laws.LogPlaceLaws.{rises-to}
 use Rattle.image.specs.Opening.{workingLog, blank}
 use Rattle.image.specs.declared.Entry.{Entry}
-use Rattle.image_write.specs.Workers.{without}
-use Rattle.image_write.proofs.Laws.ImageStepLaws.{lowest-length, lowest-time, without-count, without-time, without-means, without-lowest, without-mark}
+use Rattle.image_write.specs.Workers.{heldIf, removed}
+use Rattle.image_write.proofs.Laws.RemovedLaws.{lowest-length, lowest-time, removed-count, removed-lowest, removed-sound}
+use Rattle.image_write.proofs.Laws.RemovedLaws.{moved as moved-to, moved-above, time-moved, means-moved}
 use Rattle.image_write.specs.Saving.{lowestHeld}
 use Rattle.brick_log.specs.BrickRules.{trimmed, trimmedTo}
 use Rattle.brick_log.specs.Workers.{logTime, cutFrom, cutFor}
@@ -95,11 +97,12 @@ trimmed-rest t (e ∷ f ∷ log) b =
     rw (le-ltb (e .time) t (b 0 (omega arith))) (ap (λ (l : List LogEntry). e ∷ l) (trimmed-rest t (f ∷ log) (λ i w. b (suc i) (omega (arith, w)))))
 
 -- a Trim drops the entries before the cut: in a rising log those under t come first
-trimmed-without : (s : Settings) (x : Brick) (t d : ℕ) → Sound s x → Cut (timeAt x) (entryCount x) t d → trimmedTo x t ≡ without x d
-unfolding trimmedTo without timeAt entryCount
-trimmed-without s x t d r q =
+trimmed-removed : (s : Settings) (x : Brick) (t d : ℕ) → Sound s x → Cut (timeAt x) (entryCount x) t d → trimmedTo x t ≡ removed x 0 d true
+unfolding trimmedTo removed heldIf timeAt entryCount
+trimmed-removed s x t d r q =
     ap (λ (l : List LogEntry). record { promise = x .promise; log = lowestHeld l })
     (trimmed-front t (x .log) d (q .low) (q .before) ∙ trimmed-rest t (drop d (x .log)) rest)
+    ∙ ap (λ (k : ℕ). record { promise = x .promise; log = lowestHeld (drop k (x .log)) }) (sym (zero-add d))
   where
     rest : (i : ℕ) → i + 1 < length (drop d (x .log)) → t ≤ getD (drop d (x .log)) i noEntry .time
     rest i h =
@@ -109,9 +112,10 @@ trimmed-without s x t d r q =
         subst (λ (k : ℕ). t ≤ k) (sym (ap (λ (e : LogEntry). e .time) (getD-drop d (x .log) i noEntry))) (omega arith)
 
 -- the cut that the code finds in the working log
-pub cut-trims : (s : Settings) (x : Brick) (t : ℕ) → Sound s x → entryCount x ≤ maxCapacity → trimmedTo x t ≡ without x (cutFor (workingLog x) (entryCount x) t)
+pub cut-trims : (s : Settings) (x : Brick) (t : ℕ) → Sound s x → entryCount x ≤ maxCapacity
+    → trimmedTo x t ≡ removed x 0 (cutFor (workingLog x) (entryCount x) t) true
 cut-trims s x t r c =
-    trimmed-without s x t (cutFor (workingLog x) (entryCount x) t) r
+    trimmed-removed s x t (cutFor (workingLog x) (entryCount x) t) r
     (record {
       low = q .low;
       before = λ i h. subst (λ (k : ℕ). k < t) (time i (omega (arith, h, q .low))) (q .before i h);
@@ -135,25 +139,37 @@ pub record Trims (x : Brick) (t d : ℕ) : Type 0 where
   pub count : entryCount (trimmedTo x t) ≡ entryCount x - d
   pub times : (i : ℕ) → timeAt (trimmedTo x t) i ≡ timeAt x (d + i)
   pub means : (i : ℕ) → meansAt (trimmedTo x t) i ≡ meansAt x (d + i)
-  pub lowest : markAt (trimmedTo x t) 0 ≡ false
-  pub marks : (i : ℕ) → markAt (trimmedTo x t) (suc i) ≡ markAt x (d + suc i)
 
 pub trim-places : (s : Settings) (x : Brick) (t : ℕ) → Sound s x → (d : ℕ) × Trims x t d
-trim-places s x t r =
-    let d : ℕ = cutFrom (timeAt x) t 0 (entryCount x - 1) in
-    let q : Cut (timeAt x) (entryCount x) t d = cut-is (timeAt x) (entryCount x) t (r .count-low) in
-    let w = trimmed-without s x t d r q in (
-      d,
-      record {
-        cut = q;
-        promise-is = trimmed-promise x t;
-        count = ap entryCount w ∙ without-count x d;
-        times = λ i. ap (λ (y : Brick). timeAt y i) w ∙ without-time x d i;
-        means = λ i. ap (λ (y : Brick). meansAt y i) w ∙ without-means x d i;
-        lowest = ap (λ (y : Brick). markAt y 0) w ∙ without-lowest x d;
-        marks = λ i. ap (λ (y : Brick). markAt y (suc i)) w ∙ without-mark x d i;
-      },
-    )
+trim-places s x t r = (cutFrom (timeAt x) t 0 (entryCount x - 1), trims (cutFrom (timeAt x) t 0 (entryCount x - 1)) (cut-is (timeAt x) (entryCount x) t (r .count-low)))
+  where
+    trims : (d : ℕ) → Cut (timeAt x) (entryCount x) t d → Trims x t d
+    trims d q =
+        record {
+          cut = q;
+          promise-is = trimmed-promise x t;
+          count = ap entryCount w ∙ removed-count x 0 d true within;
+          times = λ i. ap (λ (y : Brick). timeAt y i) w ∙ time-moved x 0 d true within i ∙ ap (timeAt x) (moved i);
+          means = λ i. ap (λ (y : Brick). meansAt y i) w ∙ means-moved x 0 d true within i ∙ ap (meansAt x) (moved i);
+        }
+      where
+        w : trimmedTo x t ≡ removed x 0 d true
+        w = trimmed-removed s x t d r q
+
+        within : 0 + d ≤ entryCount x
+        within = omega (arith, q .low)
+
+        moved : (i : ℕ) → moved-to 0 d i ≡ d + i
+        moved i = moved-above 0 d i (omega arith) ∙ add-comm i d
+
+-- and a brick that keeps to the rules keeps to them
+pub trimmed-sound : (s : Settings) (x : Brick) (t : ℕ) → Sound s x → Sound s (trimmedTo x t)
+trimmed-sound s x t r = go (trim-places s x t r)
+  where
+    go : (d : ℕ) × Trims x t d → Sound s (trimmedTo x t)
+    go (d, q) =
+        subst (Sound s) (sym (trimmed-removed s x t d r (q .cut)))
+        (removed-sound x 0 d true (omega (arith, q .cut .low)) s r (q .cut .low) (λ h m. absurd (true≢false (sym m ∙ removed-lowest x 0 d true (omega (arith, q .cut .low)) refl))))
 
 -- everything at or above its time stays,
 pub trim-keeps : (s : Settings) (x : Brick) (t i : ℕ) → Sound s x → i < entryCount x → t ≤ timeAt x i

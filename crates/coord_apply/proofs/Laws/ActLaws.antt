@@ -1,12 +1,12 @@
 -- The answer and the buffers of each decision, by what the callees gave.
 use mathlib.Core.Path.{_≡_, refl, sym, ap, ap₂, subst, _∙_}
 use mathlib.Core.Bool.{Bool, true, false, cond}
-use mathlib.Core.List.{List}
-use Prim.Native.Nat.{ℕ, _*_, _≤_, _<_}
+use mathlib.Core.List.{List, []}
+use Prim.Native.Nat.{ℕ, _*_, _≤_}
 use native.Mathlib.Omega.{arith}
 use lib.Dec.{eqb}
-use Rattle.coord_apply.specs.Acts.{stripeFrom, agreeing, roundMessage, trimMessage, nextOp, nextRound, modifying, ending, finishedSeen, givenStripe, storedStripe, namedBricks}
-use Rattle.coord_apply.specs.Acts.{giversAt, storing, aborting, acted}
+use Rattle.coord_apply.specs.Acts.{roundMessage, clearMessage, clearing, dropsFirst, trimsFirst, sendingFirst, nextOp, nextRound, modifying, ending, finishedSeen, namedBricks}
+use Rattle.coord_apply.specs.Acts.{giversAt, pickedAt, recoveredStripe, storing, aborting, acted}
 use Rattle.coord_apply.specs.Answers.{Buffered, Went, went, noMessage, okSeen, readSeen, abortedSeen, cutSeen, letterOf, sentCount, sentMessage, sentBlocks, answerOf}
 use Rattle.coord_apply.specs.declared.Answer.{Answer}
 use Rattle.coord_letters.specs.Letters.{noLetter, letterS, letterC, readLetter, abortLetter}
@@ -21,19 +21,20 @@ use Rattle.coord_decide.proofs.Laws.SaysLaws.{says-of}
 use Rattle.coord_decide.specs.declared.Decision.{Decision}
 use Rattle.coord_decide.specs.declared.Decision.the-variants.{Abort, Give, Look, Store, Modify, Recover, Finish}
 use Rattle.erasure.specs.Code.{codedOf}
-use Rattle.message.specs.Kinds.{orderReadKind, writeKind, modifyKind}
+use Rattle.message.specs.Kinds.{orderReadKind, writeKind, modifyKind, trimKind}
 use Rattle.message.specs.declared.Message.{Message}
 use Rattle.settings.specs.Ranges.{CodeRange}
 use Rattle.settings.specs.Count.{count}
 use lib.ListN.{length, take}
-use Rattle.coord_tally.proofs.Laws.RowSets.{target-set, target-below, givers-cut, giver-below, givers-differ}
+use Rattle.coord_tally.proofs.Laws.RowSets.{givers-cut, giver-below, givers-differ}
 use Rattle.settings.proofs.Laws.CountLaws.{count-at-most}
-use Rattle.coord_apply.specs.Workers.{InPlace, HandedOn}
-use Rattle.coord_apply.proofs.Laws.BufferLaws.{in-place}
-use Rattle.coord_apply.proofs.Laws.OneBlockLaws.{left-as-it-was}
-use Rattle.interpolate.specs.Values.{PointSet}
+use Rattle.coord_blocks.specs.Blocks.{stripeFrom, agreeing, givenStripe, storedStripe}
+use Rattle.coord_blocks.specs.Workers.{HandedOn, BlocksReady}
+use Rattle.coord_blocks.proofs.Laws.BufferLaws.{in-place}
+use Rattle.coord_apply.proofs.Laws.FirstLaws.{drops-ahead, trims-ahead}
+use Rattle.coord_blocks.proofs.Laws.OneBlockLaws.{left-as-it-was}
 use Rattle.coord_apply.specs.Acts.{buffered}
-use Rattle.coord_apply.specs.Workers.{openAnswer, endAnswer, finishedLetter, Acted}
+use Rattle.coord_apply.specs.Workers.{openAnswer, aheadAnswer, endAnswer, finishedLetter, DecisionReady, Acted}
 
 -- a recovery stores, or, where blocks of the chosen time disagree, ends aborted
 module _ (n m size : ℕ) (h : Buffered) (time : ℕ) where
@@ -95,9 +96,12 @@ module _ (n m size : ℕ) (c : Coordinator) (blocks stripe coded : List ℕ) whe
   unfolding acted ending answerOf sentCount sentMessage sentBlocks endAnswer buffered
   acted-give r stripe′ es e = record { answer = e; stripe-left = es; coded-left = refl }
 
-  pub acted-look : (r : Answer) (max : ℕ) → r ≡ openAnswer c orderReadKind max 0 noBricks → Acted n m size (buffered c blocks stripe) (Look max) coded r stripe coded
-  unfolding acted nextRound roundMessage nextOp answerOf sentCount sentMessage sentBlocks openAnswer buffered
-  acted-look r max e = record { answer = e; stripe-left = refl; coded-left = refl }
+  pub acted-look : (r : Answer) (max : ℕ) → r ≡ aheadAnswer (dropsFirst (c .op) max) (openAnswer c orderReadKind max 0 noBricks)
+      → Acted n m size (buffered c blocks stripe) (Look max) coded r stripe coded
+  unfolding acted sendingFirst nextRound roundMessage nextOp sentBlocks buffered
+  acted-look r max e =
+      let d = drops-ahead (buffered c blocks stripe) orderReadKind max noBricks stripe [] max in
+      record { answer = e ∙ d .answer; stripe-left = refl; coded-left = sym (d .coded-left coded) }
 
   pub acted-store : (r : Answer) (coded′ : List ℕ) → coded′ ≡ codedOf n m size stripe → r ≡ openAnswer c writeKind 0 0 noBricks
       → Acted n m size (buffered c blocks stripe) Store coded r stripe coded′
@@ -109,19 +113,22 @@ module _ (n m size : ℕ) (c : Coordinator) (blocks stripe coded : List ℕ) whe
   acted-modify r old e = record { answer = e; stripe-left = refl; coded-left = refl }
 
   -- a recovery whose blocks agree, by what the callees gave,
-  pub acted-recover : (r : Answer) (time : ℕ) (b : Bool) (named stripe′ coded′ : List ℕ)
+  pub acted-recover : (r : Answer) (time : ℕ) (b : Bool) (stripe′ coded′ : List ℕ)
       → b ≡ agreeing m size (givers (c .tally .held) (c .tally .found) time n) blocks → b ≡ true
-      → named ≡ namedBricks (c .op) (picked (c .tally .held) (c .tally .found) time n m)
       → stripe′ ≡ cond b (storedStripe size (c .op) stripe (stripeFrom m size (givers (c .tally .held) (c .tally .found) time n) blocks)) stripe
-      → coded′ ≡ codedOf n m size stripe′ → r ≡ openAnswer c writeKind 0 0 named → Acted n m size (buffered c blocks stripe) (Recover time) coded r stripe′ coded′
-  unfolding nextRound roundMessage nextOp answerOf sentCount sentMessage sentBlocks openAnswer buffered
-  acted-recover r time b named stripe′ coded′ eb et er es ec e =
-      let q = recover-agreed n m size (buffered c blocks stripe) time (sym eb ∙ et) in
+      → coded′ ≡ codedOf n m size stripe′
+      → r ≡ aheadAnswer (trimsFirst n m (c .op) (c .tally) time) (openAnswer c writeKind 0 0 (namedBricks (c .op) (picked (c .tally .held) (c .tally .found) time n m)))
+      → Acted n m size (buffered c blocks stripe) (Recover time) coded r stripe′ coded′
+  unfolding sendingFirst nextRound roundMessage nextOp sentBlocks buffered
+  acted-recover r time b stripe′ coded′ eb et es ec e =
+      let h = buffered c blocks stripe in
+      let q = recover-agreed n m size h time (sym eb ∙ et) in
+      let d = trims-ahead h writeKind 0 (namedBricks (c .op) (pickedAt n m h time)) (recoveredStripe n m size h time) (codedOf n m size (recoveredStripe n m size h time)) n m (c .tally) time in
       let es′ = es ∙ ap (λ (a : Bool). cond a (storedStripe size (c .op) stripe (stripeFrom m size (givers (c .tally .held) (c .tally .found) time n) blocks)) stripe) et in
       record {
-        answer = e ∙ ap (openAnswer c writeKind 0 0) er ∙ ap (λ (w : Went). answerOf c (went w)) (sym q);
+        answer = e ∙ d .answer ∙ ap (λ (w : Went). answerOf c (went w)) (sym q);
         stripe-left = es′ ∙ ap (λ (w : Went). w .next .stripe) (sym q);
-        coded-left = ec ∙ ap (codedOf n m size) es′ ∙ ap (λ (w : Went). sentBlocks (w .sent) coded) (sym q);
+        coded-left = ec ∙ ap (codedOf n m size) es′ ∙ sym (d .coded-left coded) ∙ ap (λ (w : Went). sentBlocks (w .sent) coded) (sym q);
       }
 
   -- and one whose blocks disagree
@@ -138,12 +145,12 @@ module _ (n m size : ℕ) (c : Coordinator) (blocks stripe coded : List ℕ) whe
         coded-left = ap (λ (w : Went). sentBlocks (w .sent) coded) (sym q);
       }
 
-  pub acted-finish : (r : Answer) → r ≡ endAnswer c (finishedSeen (c .op)) (finishedLetter (c .op)) (c .bricks) 1 (trimMessage (c .op))
+  pub acted-finish : (r : Answer) → r ≡ endAnswer c (finishedSeen (c .op)) (finishedLetter (c .op)) (c .bricks) 1 (clearMessage trimKind (c .op) (c .op .time))
       → Acted n m size (buffered c blocks stripe) Finish coded r stripe coded
-  unfolding acted ending answerOf sentCount sentMessage sentBlocks endAnswer buffered trimMessage
+  unfolding acted ending answerOf sentCount sentMessage sentBlocks endAnswer buffered clearing clearMessage
   acted-finish r e =
       record {
-        answer = e ∙ ap (λ (l : ℕ). endAnswer c (finishedSeen (c .op)) l (c .bricks) 1 (trimMessage (c .op))) (finished-letter n (c .op) (c .tally));
+        answer = e ∙ ap (λ (l : ℕ). endAnswer c (finishedSeen (c .op)) l (c .bricks) 1 (clearMessage trimKind (c .op) (c .op .time))) (finished-letter n (c .op) (c .tally));
         stripe-left = refl;
         coded-left = refl;
       }
@@ -159,20 +166,24 @@ pub end-by : (c : Coordinator) (what what′ letter letter′ sent : ℕ) (row r
     → r ≡ endAnswer c what′ letter′ row′ sent message′
 end-by c what what′ letter letter′ sent row row′ message message′ r e ew el er em = e ∙ (λ i. endAnswer c (ew i) (el i) (er i) sent (em i))
 
--- the targets can be decoded from
-pub target-decodes : (n m size first : ℕ) (row blocks : List ℕ) → CodeRange n m size → first < n → length blocks ≡ n * size → row ≡ targetRow n m first
-    → PointSet (take m row) × InPlace m size row blocks
-target-decodes n m size first row blocks r f e er =
-    subst (λ (l : List ℕ). PointSet (take m l) × InPlace m size l blocks) (sym er)
-    (target-set n m first (r .n-high) (r .m-high) f, in-place n m size (targetRow n m first) blocks e (target-below n m first (r .n-high) (r .m-high) f))
+-- where a decision is carried out, blocks can be taken
+pub decision-blocks : (n m size : ℕ) (c : Coordinator) (blocks stripe : ℕ) → DecisionReady n m size c blocks stripe → BlocksReady n m size (c .op) blocks stripe
+decision-blocks n m size c blocks stripe p =
+    record {
+      range = p .range;
+      first-low = p .first-low;
+      block-low = p .block-low;
+      blocks-length = p .blocks-length;
+      stripe-length = p .stripe-length;
+    }
 
--- and so can all bricks that gave a time, by a row of them
+-- all bricks that gave a time can be decoded from, by a row of them
 module _ (n m size time : ℕ) (held found row : List ℕ) (k : ℕ) (range : CodeRange n m size) (ek : k ≡ count (atTimes held found time) n)
     (er : row ≡ picked held found time n n) where
   pub givers-by : take k row ≡ givers held found time n
   givers-by = ap₂ (λ (j : ℕ) (l : List ℕ). take j l) ek er ∙ givers-cut held found time n (range .n-high)
 
-  pub givers-decode : (blocks : List ℕ) → m ≤ count (atTimes held found time) n → length blocks ≡ n * size → HandedOn m size k row blocks
+  pub givers-decode : (blocks : List ℕ) → m ≤ k → length blocks ≡ n * size → HandedOn m size k row blocks
   givers-decode blocks enough e =
       let most = count-at-most (atTimes held found time) n in
       subst (λ (l : List ℕ). HandedOn m size k l blocks) (sym er)
@@ -180,7 +191,7 @@ module _ (n m size time : ℕ) (held found row : List ℕ) (k : ℕ) (range : Co
         size-low = range .size-low;
         size-high = range .size-high;
         few = omega (arith, ek, most, range .n-high);
-        enough = omega (arith, ek);
+        enough = enough;
         differ = λ i j u w q. givers-differ held found time n (range .n-high) i j (omega arith) (omega arith) q;
         in-place = in-place n k size (picked held found time n n) blocks e (λ i h. giver-below held found time n (range .n-high) i (omega arith));
       })

@@ -19,8 +19,8 @@ give-requires c κs = search needs
 enum-known-d : tie.Need-enum-known-d
 enum-known-d c = search needs
 
-open-requires : tie.Need-open-requires
-open-requires c κs = search needs
+look-requires : tie.Need-look-requires
+look-requires c κs = search needs
 
 enum-told-3 : tie.Need-enum-told-3
 enum-told-3 c = search needs
@@ -31,8 +31,8 @@ store-requires c κs = search needs
 enum-known-d-2 : tie.Need-enum-known-d-2
 enum-known-d-2 c = search needs
 
-open-requires-2 : tie.Need-open-requires-2
-open-requires-2 c κs = search needs
+open-requires : tie.Need-open-requires
+open-requires c κs = search needs
 
 enum-known-d-3 : tie.Need-enum-known-d-3
 enum-known-d-3 c = search needs
@@ -59,8 +59,7 @@ returns-2 c = acted-at _ _ _ _ _ _ _ _ _ _ (c .before .before .before .before .e
     (acted-give _ _ _ _ _ _ _ _ _ (c .before .before .give .ensures .1) (c .before .before .give .ensures .0))
 
 returns-3 : tie.Need-returns-3
-unfolding noBricks
-returns-3 c = acted-at _ _ _ _ _ _ _ _ _ _ (c .before .before .d .given .1) (acted-look _ _ _ _ _ _ _ _ _ (c .«open» .ensures))
+returns-3 c = acted-at _ _ _ _ _ _ _ _ _ _ (c .before .before .d .given .1) (acted-look _ _ _ _ _ _ _ _ _ (c .look .ensures))
 
 same-length-2 : tie.Need-same-length-2
 same-length-2 c = search needs
@@ -75,7 +74,7 @@ returns-4 c = acted-at _ _ _ _ _ _ _ _ _ _ (c .before .before .before .before .b
 
 returns-5 : tie.Need-returns-5
 unfolding noBricks
-returns-5 c = acted-at _ _ _ _ _ _ _ _ _ _ (c .before .before .d2 .given .1) (acted-modify _ _ _ _ _ _ _ _ _ (c .open2 .ensures))
+returns-5 c = acted-at _ _ _ _ _ _ _ _ _ _ (c .before .before .d2 .given .1) (acted-modify _ _ _ _ _ _ _ _ _ (c .«open» .ensures))
 
 same-length-4 : tie.Need-same-length-4
 same-length-4 c = search needs
@@ -98,11 +97,11 @@ act-spec =
     enum-told-2
     give-requires
     enum-known-d
-    open-requires
+    look-requires
     enum-told-3
     store-requires
     enum-known-d-2
-    open-requires-2
+    open-requires
     enum-known-d-3
     recover-and-store-requires
     enum-told-4

@@ -1,4 +1,4 @@
-use Rattle.coord_apply.proofs.Laws.OneBlockLaws.{finished-read, finished-write}
+use Rattle.coord_apply.proofs.Laws.NoticeLaws.{finished-read, finished-write}
 use borrow.Author.Needs.{needs}
 use Rattle.coord_apply.proofs.finished_seen.Statement.{statement}
 use Rattle.coord_apply.proofs.finished_seen.Tie as tie

@@ -1,5 +1,5 @@
-use Rattle.coord_apply.proofs.Laws.OneBlockLaws.{few-targets, target-row-by}
-use Rattle.coord_apply.proofs.Laws.ActLaws.{given-letter, end-by}
+use Rattle.coord_apply.proofs.Laws.NoticeLaws.{few-targets, target-row-by}
+use Rattle.coord_apply.proofs.Laws.ActLaws.{decision-blocks, given-letter, end-by}
 use mathlib.Core.Path.{refl, _∙_}
 use borrow.Author.Needs.{needs}
 use Rattle.coord_apply.proofs.give.Statement.{statement}
@@ -12,7 +12,10 @@ target-row-requires : tie.Need-target-row-requires
 target-row-requires c κs = let p = c .before .before .before .before .pre in ((p .range .n-high, few-targets _ _ _ _ _ (p .range) (c .target-count .ensures)), p .first-low)
 
 take-given-requires : tie.Need-take-given-requires
-take-given-requires c κs = (c .before .before .before .before .before .before .pre, target-row-by _ _ _ _ _ _ (c .before .target-row .ensures) (c .before .before .target-count .ensures))
+take-given-requires c κs = (
+  decision-blocks _ _ _ _ _ _ (c .before .before .before .before .before .before .pre),
+  target-row-by _ _ _ _ _ _ (c .before .target-row .ensures) (c .before .before .target-count .ensures),
+)
 
 read-letter-requires : tie.Need-read-letter-requires
 read-letter-requires c κs = search needs

@@ -1,4 +1,4 @@
-use Rattle.coord_apply.proofs.Laws.OneBlockLaws.{names-one, names-no-block}
+use Rattle.coord_apply.proofs.Laws.NoticeLaws.{names-one, names-no-block}
 use borrow.Author.Needs.{needs}
 use Rattle.coord_apply.proofs.named_block.Statement.{statement}
 use Rattle.coord_apply.proofs.named_block.Tie as tie

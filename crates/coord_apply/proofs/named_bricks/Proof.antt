@@ -1,5 +1,5 @@
 use Rattle.coord_record.specs.Records.{noBricks}
-use Rattle.coord_apply.proofs.Laws.OneBlockLaws.{named-read, named-write}
+use Rattle.coord_apply.proofs.Laws.NoticeLaws.{named-read, named-write}
 use borrow.Author.Needs.{needs}
 use Rattle.coord_apply.proofs.named_bricks.Statement.{statement}
 use Rattle.coord_apply.proofs.named_bricks.Tie as tie

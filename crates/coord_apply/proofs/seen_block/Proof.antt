@@ -1,4 +1,4 @@
-use Rattle.coord_apply.proofs.Laws.OneBlockLaws.{seen-block, seen-stripe}
+use Rattle.coord_apply.proofs.Laws.NoticeLaws.{seen-block, seen-stripe}
 use borrow.Author.Needs.{needs}
 use Rattle.coord_apply.proofs.seen_block.Statement.{statement}
 use Rattle.coord_apply.proofs.seen_block.Tie as tie

@@ -6,7 +6,7 @@ use Prim.Native.Nat.{ℕ, zero, suc, _<_}
 use native.Mathlib.Nat.{le-refl}
 use native.Mathlib.Omega.{arith}
 use lib.ListN.{length, getD}
-use Rattle.coord_apply.specs.Acts.{stripeFrom, agreeing}
+use Rattle.coord_blocks.specs.Blocks.{stripeFrom, agreeing}
 use Rattle.erasure.specs.Code.{codedOf, decodedOf, agree, blockOf, blocksOf, Stripe, Bricks}
 use Rattle.erasure.proofs.Laws.CodeTheoremLaws.{decode-after-encode, coded-blocks-agree}
 use Rattle.byte_lists.specs.Lists.{stacked}

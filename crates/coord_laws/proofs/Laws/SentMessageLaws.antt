@@ -6,21 +6,22 @@ use Prim.Native.Nat.{ℕ, _^_, _≤_, _<_}
 use native.Mathlib.Omega.{arith}
 use lib.Dec.{eqb, leb, ltb}
 use borrow.Author.Tests.{le-leb, lt-ltb, leb-true, ltb-true, eqb-true}
-use Rattle.coord_apply.specs.Acts.{roundMessage, trimMessage}
-use Rattle.coord_laws.proofs.Laws.OpCaseLaws.{Fit, reading, looking, restoring, ordering, storing, block-ordering, modifying, fit, in-block-order, in-modify}
+use Rattle.coord_apply.specs.Acts.{roundMessage, clearMessage}
+use Rattle.coord_laws.proofs.Laws.OpCaseLaws.{Fit, reading, looking, restoring, ordering, storing, block-ordering, modifying, fit, in-block-order, in-modify, phase-runs}
+use Rattle.coord_laws.proofs.Laws.SoundnessLaws.{lowers-valid, recovers-valid}
 use Rattle.coord_laws.proofs.Laws.TallyLaws.{highest-right}
 use Rattle.coord_laws.specs.Soundness.{Good, Full}
-use Rattle.coord_decide.specs.Decisions.{Modifies}
+use Rattle.coord_decide.specs.Decisions.{Modifies, Recovers, Lowers}
 use Rattle.coord_record.specs.Sound.{maxRight, opRight, timeRight}
 use Rattle.coord_record.proofs.Laws.SoundPartLaws.{round-high}
 use Rattle.coord_record.specs.declared.Coordinator.{Coordinator}
 use Rattle.coord_record.specs.declared.Op.{Op}
-use Rattle.message.specs.Messages.{roundRight, foundRight, targetsRight, kindRight, messageRefusal, namesBlock, messageBlockRefusal}
+use Rattle.message.specs.Messages.{roundRight, foundRight, targetsRight, kindRight, messageRefusal, namesBlock, messageBlockRefusal, isSilent}
 use Rattle.settings.specs.Ranges.{maxBricks, dataBlockRefusal}
 use Rattle.byte_lists.proofs.Laws.BoolLaws.{and-left, and-right}
 use Rattle.settings.specs.Times.{maxCount, noUpperEnd, timeOf, validTime, coordinatorCount, lastCoordinator}
 use Rattle.settings.specs.declared.Clock.{Clock}
-use Rattle.message.specs.Kinds.{lastRound, readKind, orderReadKind, orderBlockKind, modifyKind, trimKind, firstRound, secondRound}
+use Rattle.message.specs.Kinds.{lastRound, readKind, orderReadKind, orderBlockKind, modifyKind, trimKind, dropKind, firstRound, secondRound}
 use Rattle.coord_record.specs.Records.{idleKind, writingBlockKind, onBlock, targetCount}
 
 -- what a running operation that is right has
@@ -81,11 +82,11 @@ message-passes n m size stripes c old targets g k t o =
   where
     go : RunningOp (c .op) → (a b d : Bool) → eqb (c .op .phase) orderReadKind ≡ a → eqb (c .op .phase) readKind ≡ b → eqb (c .op .phase) modifyKind ≡ d
         → _≡_ {A = ℕ}
-        (cond (cond a (leb (c .op .max) noUpperEnd) (cond b (targetsRight n m targets) (cond d (foundRight old) (leb readKind (c .op .phase) && leb (c .op .phase) trimKind)))) 0 10) 0
+        (cond (cond a (leb (c .op .max) noUpperEnd) (cond b (targetsRight n m targets) (cond d (foundRight old) (leb readKind (c .op .phase) && leb (c .op .phase) dropKind)))) 0 10) 0
     go r true b d ea eb ed = rw (le-leb (c .op .max) noUpperEnd (r .max-low (eqb-true (c .op .phase) orderReadKind ea)))
     go r false true d ea eb ed = rw (t (eqb-true (c .op .phase) readKind eb))
     go r false false true ea eb ed = rw (o (eqb-true (c .op .phase) modifyKind ed))
-    go r false false false ea eb ed = rw (le-leb readKind (c .op .phase) (r .phase-low), le-leb (c .op .phase) trimKind (let q = r .phase-high in omega arith))
+    go r false false false ea eb ed = rw (le-leb readKind (c .op .phase) (r .phase-low), le-leb (c .op .phase) dropKind (let q = r .phase-high in omega arith))
 
 -- AND REFUSAL 14: a round that names a block is one of a block write, on one of m.
 block-named : (n m size stripes : ℕ) (c : Coordinator) → Good n m size stripes c → namesBlock (c .op .phase) ≡ true → c .op .first < m
@@ -110,16 +111,45 @@ pub old-right : (n m size stripes : ℕ) (c : Coordinator) (time : ℕ) → n �
 old-right n m size stripes c time few f s =
     ap foundRight (s .time-is) ∙ highest-right n (targetCount m (c .op .kind)) (c .op .phase) (c .op .first) (c .tally) (c .tally .counted) few (f .tally-right)
 
+-- Trim and Drop of a valid time, with the number of a round of a right operation that runs, pass both.
+clear-passes : (n m kind time : ℕ) (op : Op) → isSilent kind ≡ true → validTime time ≡ true → opRight op ≡ true → (op .kind ≡ idleKind → ⊥)
+    → (messageRefusal n m (clearMessage kind op time) ≡ 0) × (messageBlockRefusal m (clearMessage kind op time) ≡ 0)
+unfolding messageRefusal messageBlockRefusal namesBlock clearMessage roundRight kindRight isSilent
+clear-passes n m kind time op s v o k = go (eqb kind trimKind) refl s
+  where
+    r : RunningOp op
+    r = running op o k
+
+    go : (b : Bool) → eqb kind trimKind ≡ b → b || eqb kind dropKind ≡ true
+        → (messageRefusal n m (clearMessage kind op time) ≡ 0) × (messageBlockRefusal m (clearMessage kind op time) ≡ 0)
+    go true e q = (rw (eqb-true kind trimKind e, v, le-leb firstRound (op .round) (r .round-low), le-leb (op .round) lastRound (round-high op o)), rw (eqb-true kind trimKind e))
+    go false e q = (rw (eqb-true kind dropKind q, v, le-leb firstRound (op .round) (r .round-low), le-leb (op .round) lastRound (round-high op o)), rw (eqb-true kind dropKind q))
+
+silent-trim : isSilent trimKind ≡ true
+unfolding isSilent
+silent-trim = refl
+
+silent-drop : isSilent dropKind ≡ true
+unfolding isSilent
+silent-drop = refl
+
 -- The Trim that an ended operation sends passes both.
 pub trim-passes : (n m size stripes : ℕ) (c : Coordinator) → Good n m size stripes c → (c .op .kind ≡ idleKind → ⊥)
-    → (messageRefusal n m (trimMessage (c .op)) ≡ 0) × (messageBlockRefusal m (trimMessage (c .op)) ≡ 0)
-unfolding messageRefusal messageBlockRefusal namesBlock trimMessage roundRight kindRight
+    → (messageRefusal n m (clearMessage trimKind (c .op) (c .op .time)) ≡ 0) × (messageBlockRefusal m (clearMessage trimKind (c .op) (c .op .time)) ≡ 0)
 trim-passes n m size stripes c g k =
-    let r = running (c .op) (g .parts .op-right) k in (
-      rw (
-        time-valid (c .op .kind) (c .op .time) (c .clock) (g .parts .time-right) k (g .parts .number-low) (g .parts .last-low),
-        le-leb firstRound (c .op .round) (r .round-low),
-        le-leb (c .op .round) lastRound (round-high (c .op) (g .parts .op-right)),
-      ),
-      refl,
-    )
+    clear-passes n m trimKind (c .op .time) (c .op) silent-trim
+    (time-valid (c .op .kind) (c .op .time) (c .clock) (g .parts .time-right) k (g .parts .number-low) (g .parts .last-low)) (g .parts .op-right) k
+
+-- E6: So does the Drop of a time that a recovery round found on too few,
+pub drop-passes : (n m size stripes : ℕ) (c : Coordinator) (time : ℕ) → n ≤ maxBricks → Full n m size stripes c → Lowers n m (c .op) (c .tally) time
+    → (messageRefusal n m (clearMessage dropKind (c .op) time) ≡ 0) × (messageBlockRefusal m (clearMessage dropKind (c .op) time) ≡ 0)
+drop-passes n m size stripes c time few f s =
+    clear-passes n m dropKind time (c .op) silent-drop (lowers-valid n m (targetCount m (c .op .kind)) (c .op) (c .tally) time few (f .tally-right) s) (f .op-right)
+    (phase-runs (c .op) (f .op-right) (omega (arith, s .phase-is)))
+
+-- and the early Trim of a time that all of a quorum hold.
+pub early-trim-passes : (n m size stripes : ℕ) (c : Coordinator) (time : ℕ) → n ≤ maxBricks → Full n m size stripes c → Recovers n m (c .op) (c .tally) time → (time ≡ 0 → ⊥)
+    → (messageRefusal n m (clearMessage trimKind (c .op) time) ≡ 0) × (messageBlockRefusal m (clearMessage trimKind (c .op) time) ≡ 0)
+early-trim-passes n m size stripes c time few f s h =
+    clear-passes n m trimKind time (c .op) silent-trim (recovers-valid n m (targetCount m (c .op .kind)) (c .op) (c .tally) time few (f .tally-right) s h) (f .op-right)
+    (phase-runs (c .op) (f .op-right) (omega (arith, s .phase-is)))

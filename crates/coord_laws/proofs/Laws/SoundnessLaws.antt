@@ -9,7 +9,7 @@ use lib.Dec.{eqb, leb, ltb}
 use lib.ListN.{length, getD, take, replicate, length-take, List·getD-eq-default}
 use borrow.Author.Tests.{eq-eqb, ne-eqb, le-leb, lt-ltb, le-ltb, eqb-false, leb-true, ltb-true, ltb-false}
 use Rattle.coord_apply.proofs.Laws.ActLaws.{recover-either}
-use Rattle.coord_apply.specs.Acts.{nextOp, opened, nextRound, modifying, ending, namedBricks, acted, withTally, counting, waitingOr, firstOp, starting}
+use Rattle.coord_apply.specs.Acts.{nextOp, opened, sendingFirst, nextRound, modifying, ending, namedBricks, acted, withTally, counting, waitingOr, firstOp, starting}
 use Rattle.coord_apply.specs.Answers.{Buffered, Went, Step, refused, went, afterChecks, nothingSeen, cutSeen}
 use Rattle.coord_refusals.specs.Checks.{recordChecks, stripeChecks, writeChecks, readChecks, startChecks, writeRefusal, readRefusal, writeBlockRefusal, readBlockRefusal, takeRefusal, crashRefusal}
 use Rattle.coord_refusals.proofs.Laws.RefusedLaws.{record-passes, stripe-passes}
@@ -182,9 +182,15 @@ named-right n m op row e = go (isReading (op .kind))
     go false = no-bricks-right n
 
 -- a max that is a time found is valid
-lowers-valid : (n m k : ℕ) (op : Op) (t : Tally) (max : ℕ) → n ≤ maxBricks → tallyRight n k (op .phase) (op .first) t ≡ true → Lowers n m op t max → validTime max ≡ true
+pub lowers-valid : (n m k : ℕ) (op : Op) (t : Tally) (max : ℕ) → n ≤ maxBricks → tallyRight n k (op .phase) (op .first) t ≡ true → Lowers n m op t max → validTime max ≡ true
 unfolding found-time
 lowers-valid n m k op t max few e w = ap validTime (w .time-is) ∙ highest-valid n k (op .phase) (op .first) t few e (λ q. w .not-first (w .time-is ∙ q))
+
+-- and so is a time recovered, other than 0
+pub recovers-valid : (n m k : ℕ) (op : Op) (t : Tally) (time : ℕ) → n ≤ maxBricks → tallyRight n k (op .phase) (op .first) t ≡ true → Recovers n m op t time → (time ≡ 0 → ⊥)
+    → validTime time ≡ true
+unfolding found-time
+recovers-valid n m k op t time few e s h = ap validTime (s .time-is) ∙ highest-valid n k (op .phase) (op .first) t few e (λ q. h (s .time-is ∙ q))
 
 recovered-good : (n m size stripes : ℕ) (c : Coordinator) (time : ℕ) → CodeRange n m size → Full n m size stripes c → Recovers n m (c .op) (c .tally) time
     → Good n m size stripes (opened c writeKind 0 (namedBricks (c .op) (picked (c .tally .held) (c .tally .found) time n m)))
@@ -198,7 +204,7 @@ recovered-good n m size stripes c time r f s =
 -- What a decision leaves is good.
 pub acted-good : (n m size stripes : ℕ) (h : Buffered) → CodeRange n m size → Full n m size stripes (h .state)
     → Good n m size stripes (acted n m size h (decided n m (h .state .op) (h .state .tally)) .next .state)
-unfolding acted ending nextRound modifying DecisionSays
+unfolding acted ending sendingFirst nextRound modifying DecisionSays
 acted-good n m size stripes h r f = go (decided n m (h .state .op) (h .state .tally)) (decided-says n m (h .state .op) (h .state .tally))
   where
     idle : Good n m size stripes (idleWith (h .state .geometry) (h .state .clock))

@@ -1,15 +1,17 @@
 -- A coordinator's operation stays on its stripe (E1): what a reply, a crash and a start leave, send and show.
 use mathlib.Core.Path.{_≡_, refl, sym, subst}
 use mathlib.Core.Bool.{Bool, true, false, cond}
-use mathlib.Core.List.{List, [], _∷_, List·Memᴰ, List·Memᴰ·not-nil, List·Memᴰ·eq-of-singleton}
-use mathlib.Core.Logic.{_⊎_, inl, inr}
+use mathlib.Core.List.{List, [], _∷_, List·Memᴰ, List·Memᴰ·not-nil, List·Memᴰ·eq-of-singleton, List·Memᴰ·append-cases}
+use mathlib.Core.Logic.{_⊎_, inl, inr, ⊎-elim}
 use Prim.Native.Nat.{ℕ, _<_}
 use native.Mathlib.Omega.{arith}
 use lib.Dec.{eqb, ltb}
 use lib.ListN.{length}
 use borrow.Author.Tests.{eqb-true}
 use Rattle.coord_apply.proofs.Laws.ActLaws.{recover-either}
-use Rattle.coord_apply.specs.Acts.{finishedSeen, roundMessage, trimMessage, nextOp, opened, nextRound, modifying, ending, acted, withTally, counting, waitingOr, firstOp, starting}
+use Rattle.coord_apply.proofs.Laws.FirstLaws.{drops-either, trims-either}
+use Rattle.coord_apply.specs.Acts.{finishedSeen, roundMessage, clearMessage, clearing, dropsFirst, trimsFirst, sendingFirst, nextOp, opened}
+use Rattle.coord_apply.specs.Acts.{nextRound, modifying, ending, acted, withTally, counting, waitingOr, firstOp, starting}
 use Rattle.coord_apply.specs.Answers.{Buffered, Broadcast, Went, went, nothingSeen, beganSeen, okSeen, readSeen, cutSeen}
 use Rattle.coord_decide.specs.Deciding.{decided}
 use Rattle.coord_decide.specs.declared.Decision.{Decision}
@@ -20,6 +22,7 @@ use Rattle.coord_laws.proofs.Laws.StepRunLaws.{took}
 use Rattle.coord_record.specs.Records.{noOp, noBricks, idleWith, idleKind, readingKind, writingKind, readingBlockKind, writingBlockKind, isReading}
 use Rattle.coord_record.specs.declared.Coordinator.{Coordinator}
 use Rattle.coord_record.specs.declared.Op.{Op}
+use Rattle.coord_record.specs.declared.Tally.{Tally}
 use Rattle.coord_refusals.proofs.Laws.RefusedLaws.{record-passes, stripe-passes}
 use Rattle.coord_refusals.specs.Checks.{stripeChecks, writeChecks, readChecks, startChecks, writeRefusal, readRefusal, writeBlockRefusal, readBlockRefusal, crashRefusal}
 use Rattle.coord_tally.specs.Counting.{targetFlags}
@@ -27,7 +30,7 @@ use Rattle.coordinator.specs.Routines.{drawnThen, writeStep, readStep, writeBlo
 use Rattle.coordinator.proofs.Laws.RoutineLaws.{write-block-passed, read-block-passed}
 use Rattle.erasure.specs.Code.{blockOf, withBlock}
 use Rattle.message.specs.Flags.{members}
-use Rattle.message.specs.Kinds.{readKind, orderKind, orderBlockKind, modifyKind, blockTargets}
+use Rattle.message.specs.Kinds.{readKind, orderKind, orderBlockKind, modifyKind, trimKind, dropKind, blockTargets}
 use Rattle.message.specs.declared.Reply.{Reply}
 use Rattle.settings.proofs.Laws.RefusalLaws.{passed-first, passed-rest, tested}
 use Rattle.settings.proofs.Laws.TimeLaws.{gave}
@@ -105,6 +108,34 @@ modifies size h time =
       no-start = λ e. omega (arith, e);
     }
 
+-- E6: what goes out ahead of a round is of the stripe
+of-stripe : (s : ℕ) → List Broadcast → Type 0
+of-stripe s l = (z : Broadcast) → List·Memᴰ z l → z .message .stripe ≡ s
+
+clears : (op : Op) (kind time : ℕ) → of-stripe (op .stripe) (clearing kind op time ∷ [])
+unfolding of-stripe clearing clearMessage
+clears op kind time = one-sent (op .stripe) (clearing kind op time) refl
+
+drops : (op : Op) (max : ℕ) → of-stripe (op .stripe) (dropsFirst op max)
+unfolding of-stripe
+drops op max = drops-either op max (of-stripe (op .stripe)) (λ _. none-sent (op .stripe)) (λ _. clears op dropKind max)
+
+trims : (n m : ℕ) (op : Op) (t : Tally) (time : ℕ) → of-stripe (op .stripe) (trimsFirst n m op t time)
+unfolding of-stripe
+trims n m op t time = trims-either n m op t time (of-stripe (op .stripe)) (λ _. none-sent (op .stripe)) (λ _. clears op trimKind time)
+
+sends-first : (h : Buffered) (first : List Broadcast) (w : Went) → of-stripe (h .state .op .stripe) first → KeepsStripe h w → KeepsStripe h (sendingFirst first w)
+unfolding of-stripe sendingFirst
+sends-first h first w f k =
+    record {
+      same-clock = k .same-clock;
+      same-geometry = k .same-geometry;
+      still = k .still;
+      sends = λ z u. ⊎-elim (f z) (k .sends z) (List·Memᴰ·append-cases first u);
+      shows = k .shows;
+      no-start = k .no-start;
+    }
+
 -- a finished operation is told as such
 finished-told : (op : Op) → finishedSeen op ≡ beganSeen → ⊥
 unfolding finishedSeen
@@ -115,16 +146,17 @@ finished-told op = go (isReading (op .kind))
     go false e = omega (arith, e)
 
 acted-keeps : (n m size : ℕ) (h : Buffered) (d : Decision) → KeepsStripe h (acted n m size h d)
-unfolding acted trimMessage
+unfolding acted of-stripe
 acted-keeps n m size h Abort = ends n h _ _ [] _ (none-sent (h .state .op .stripe)) (λ e. omega (arith, e))
 acted-keeps n m size h Give = ends n h _ _ [] _ (none-sent (h .state .op .stripe)) (λ e. omega (arith, e))
-acted-keeps n m size h (Look max) = opens h _ _ _ _ _
+acted-keeps n m size h (Look max) = sends-first h _ _ (drops (h .state .op) max) (opens h _ _ _ _ _)
 acted-keeps n m size h Store = opens h _ _ _ _ _
 acted-keeps n m size h (Modify time) = modifies size h time
 acted-keeps n m size h (Recover time) =
-    recover-either n m size h time (KeepsStripe h) (opens h _ _ _ _ _) (ends n h _ _ [] _ (none-sent (h .state .op .stripe)) (λ e. omega (arith, e)))
+    recover-either n m size h time (KeepsStripe h) (sends-first h _ _ (trims n m (h .state .op) (h .state .tally) time) (opens h _ _ _ _ _))
+    (ends n h _ _ [] _ (none-sent (h .state .op .stripe)) (λ e. omega (arith, e)))
 acted-keeps n m size h Finish =
-    ends n h _ _ _ _ (one-sent (h .state .op .stripe) (record { message = trimMessage (h .state .op); blocks = []; old = [] }) refl) (finished-told (h .state .op))
+    ends n h _ _ _ _ (clears (h .state .op) trimKind (h .state .op .time)) (finished-told (h .state .op))
 
 waiting-keeps : (n m size : ℕ) (h : Buffered) → KeepsStripe h (waitingOr n m size h)
 unfolding waitingOr

@@ -11,7 +11,8 @@ use Rattle.coord_record.specs.Records.{idleWith, nothingCounted}
 use Rattle.coord_decide.specs.Deciding.{answers, tallied, apart, decidedRead, decidedBlockOrder, decidedAt, decidedRecovery, decided}
 use Rattle.coord_decide.specs.declared.Decision.{Decision}
 use Rattle.coord_decide.specs.declared.Decision.the-variants.{Abort, Give, Look, Store, Modify, Recover, Finish}
-use Rattle.coord_apply.specs.Acts.{agreeing, acted, ending, opened, nextRound, modifying, storing, aborting, giversAt, withTally, counting, waitingOr}
+use Rattle.coord_blocks.specs.Blocks.{agreeing}
+use Rattle.coord_apply.specs.Acts.{acted, ending, opened, trimsFirst, allHold, sendingFirst, nextRound, modifying, storing, aborting, giversAt, withTally, counting, waitingOr}
 use Rattle.coord_apply.specs.Answers.{Buffered, nothingSeen}
 use Rattle.coord_laws.specs.LetterTheorem.{unsaidTally, unsaid, unsaidReply, unlettered, SameRepliesCount, LettersChangeNothingElse}
 
@@ -21,7 +22,7 @@ same-replies-count n m op t r = refl
 
 -- what a decision does
 acted-unlettered : (n m size : ℕ) (h : Buffered) (d : Decision) → unlettered (acted n m size h d) ≡ unlettered (acted n m size (unsaid h) d)
-unfolding unlettered unsaid unsaidTally withTally acted ending opened nextRound modifying idleWith nothingCounted nothingSeen
+unfolding unlettered unsaid unsaidTally withTally acted ending opened trimsFirst allHold sendingFirst nextRound modifying idleWith nothingCounted nothingSeen
 acted-unlettered n m size h Abort = refl
 acted-unlettered n m size h Give = refl
 acted-unlettered n m size h (Look max) = refl

@@ -11,7 +11,7 @@ use borrow.Author.Tests.{eq-eqb, ne-eqb, lt-leb, lt-ltb, le-ltb, eqb-true, leb-f
 use Rattle.coord_apply.specs.Acts.{buffered}
 use Rattle.coord_apply.specs.Workers.{endAnswer, DecisionReady, Acted}
 use Rattle.coord_apply.proofs.Laws.ActLaws.{recover-either}
-use Rattle.coord_apply.specs.Acts.{withTally, counting, waitingOr, acted, ending, nextRound, modifying, roundMessage, firstOp, starting}
+use Rattle.coord_apply.specs.Acts.{withTally, counting, waitingOr, acted, ending, sendingFirst, nextRound, modifying, roundMessage, firstOp, starting}
 use Rattle.coord_apply.specs.Answers.{Buffered, Went, Step, refused, went, afterChecks, nothingSeen, noMessage, cutSeen, sentCount, sentMessage, sentBlocks, answerOf, blocksAfter, letterOf}
 use Rattle.coord_letters.specs.Letters.{letterC}
 use Rattle.coord_apply.specs.Answers.{stripeAfter, codedAfter, Returned, returned, returnedBy}
@@ -110,7 +110,7 @@ place-fits n m size stripes c r block blocks stripe coded t =
 
 -- no decision touches the reply blocks
 pub acted-blocks : (n m size : ℕ) (h : Buffered) (d : Decision) → acted n m size h d .next .blocks ≡ h .blocks
-unfolding acted ending nextRound modifying
+unfolding acted ending sendingFirst nextRound modifying
 acted-blocks n m size h Abort = refl
 acted-blocks n m size h Give = refl
 acted-blocks n m size h (Look max) = refl

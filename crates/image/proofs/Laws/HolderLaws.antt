@@ -71,11 +71,19 @@ module _ (s : Settings) (brick : ℕ) (l : List ℕ) (x : Brick) (o : ImageOpene
   at i h = ap (λ (e : Entry). placeIn (e .holding)) (log-at x i blank h few)
 
   -- an entry with a block
-  here : (i : ℕ) → i < entryCount x → markAt x i ≡ false → holderOf (workingLog x) i ≡ i + 1
+  pub holder-of-held : (i : ℕ) → i < entryCount x → markAt x i ≡ false → holderOf (workingLog x) i ≡ i + 1
   unfolding placeIn holdingFor
-  here i h e =
+  holder-of-held i h e =
       let p : placeIn (getD (workingLog x) i blank .holding) ≡ i + 1 = at i h ∙ rw e refl in
       own-place (workingLog x) i (λ z. omega (arith, p, z)) ∙ p
+
+  -- a mark means what the entry below it means
+  pub holder-of-mark : (i : ℕ) → suc i < entryCount x → markAt x (suc i) ≡ true → holderOf (workingLog x) (suc i) ≡ holderOf (workingLog x) i
+  unfolding placeIn holdingFor
+  holder-of-mark i h e =
+      let m : suc i - 1 ≡ i = omega arith in
+      let p : placeIn (getD (workingLog x) (suc i) blank .holding) ≡ 0 = at (suc i) h ∙ rw e refl in
+      holder-down (workingLog x) (suc i) (omega arith) p ∙ ap (holderOf (workingLog x)) m
 
   means-here : (i : ℕ) → i < entryCount x → markAt x i ≡ false → heldIn (s .size) (imageBlockAt l (i + 1)) ≡ meansAt x i
   means-here i h e =
@@ -87,7 +95,7 @@ module _ (s : Settings) (brick : ℕ) (l : List ℕ) (x : Brick) (o : ImageOpene
 
   meant-here : (i : ℕ) → i < entryCount x → markAt x i ≡ false → Meant s l x i
   meant-here i h e =
-      let p = here i h e in
+      let p = holder-of-held i h e in
       record {
         low = omega (arith, p);
         high = omega (arith, p);
@@ -96,7 +104,6 @@ module _ (s : Settings) (brick : ℕ) (l : List ℕ) (x : Brick) (o : ImageOpene
       }
 
   pub meant : (i : ℕ) → i < entryCount x → Meant s l x i
-  unfolding placeIn holdingFor
   meant zero h = go (markAt x zero) refl
     where
       go : (b : Bool) → markAt x zero ≡ b → Meant s l x zero
@@ -108,9 +115,7 @@ module _ (s : Settings) (brick : ℕ) (l : List ℕ) (x : Brick) (o : ImageOpene
       go false e ih = meant-here (suc i) h e
       go true e ih =
           let m : suc i - 1 ≡ i = omega arith in
-          let p : placeIn (getD (workingLog x) (suc i) blank .holding) ≡ 0 = at (suc i) h ∙ rw e refl in
-          let d : holderOf (workingLog x) (suc i) ≡ holderOf (workingLog x) i =
-          holder-down (workingLog x) (suc i) (omega arith) p ∙ ap (holderOf (workingLog x)) m in
+          let d = holder-of-mark i h e in
           record {
             low = omega (arith, d, ih .low);
             high = omega (arith, d, ih .high);

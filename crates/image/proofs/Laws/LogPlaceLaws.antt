@@ -47,6 +47,12 @@ rises-to s x r i j h k =
     let m : i + (j - i) ≡ j = omega arith in
     subst (λ (n : ℕ). timeAt x i ≤ timeAt x n) m (rises-add s x r i (j - i) (omega arith))
 
+pub rises-above : (s : Settings) (x : Brick) → Sound s x → (i j : ℕ) → i < j → j < entryCount x → timeAt x i < timeAt x j
+rises-above s x r i j h c =
+    let a = rises-next s x r i (omega arith) in
+    let b = rises-to s x r (suc i) j (omega arith) c in
+    omega arith
+
 -- no entry is above the newest
 pub at-most-newest : (s : Settings) (x : Brick) → Sound s x → (i : ℕ) → i < entryCount x → timeAt x i ≤ newest x
 at-most-newest s x r i h =

@@ -153,88 +153,98 @@ clearing-more l from i image b after h eb ea r =
 pub cleared-all : (l : List ℕ) (from to i : ℕ) (image : List ℕ) → i ≡ to → Clearing l from i image → image ≡ cleared from (to - from) l
 cleared-all l from to i image e r = r .is ∙ ap (λ (k : ℕ). cleared from (k - from) l) e
 
--- the entries from number d on at the front
-unfoldable pub shiftedOf : (ℕ → List ℕ) → ℕ → ℕ → ℕ → List ℕ
-shiftedOf g d kept k = cond (leb 1 k && leb k kept) (g (k + d)) (g k)
+-- the entries above place `from` moved down by d
+unfoldable pub shiftedOf : (ℕ → List ℕ) → (from d kept : ℕ) → ℕ → List ℕ
+shiftedOf g from d kept k = cond (leb (from + 1) k && leb k (from + kept)) (g (k + d)) (g k)
 
-none-shifted : (g : ℕ → List ℕ) (d k : ℕ) → shiftedOf g d 0 k ≡ g k
+none-shifted : (g : ℕ → List ℕ) (from d k : ℕ) → shiftedOf g from d 0 k ≡ g k
 unfolding shiftedOf
-none-shifted g d zero = refl
-none-shifted g d (suc k) = rw (lt-leb (suc k) 0 (omega arith)) (go (leb 1 (suc k)))
+none-shifted g from d k = go (leb (from + 1) k) refl
   where
-    go : (b : Bool) → cond (b && false) (g (suc k + d)) (g (suc k)) ≡ g (suc k)
-    go true = refl
-    go false = refl
+    go : (b : Bool) → leb (from + 1) k ≡ b → cond (leb (from + 1) k && leb k (from + 0)) (g (k + d)) (g k) ≡ g k
+    go true e = rw (e, lt-leb k (from + 0) (omega (arith, leb-true (from + 1) k e))) refl
+    go false e = rw e refl
 
-one-shifted : (g : ℕ → List ℕ) (d i k : ℕ) → placed (shiftedOf g d i) (i + 1) (g (i + 1 + d)) k ≡ shiftedOf g d (i + 1) k
+one-shifted : (g : ℕ → List ℕ) (from d i k : ℕ) → placed (shiftedOf g from d i) (from + i + 1) (g (from + i + 1 + d)) k ≡ shiftedOf g from d (suc i) k
 unfolding placed shiftedOf
-one-shifted g d i k = go (ℕ-discrete k (i + 1))
+one-shifted g from d i k = go (ℕ-discrete k (from + i + 1))
   where
-    go : Dec (k ≡ i + 1) → cond (eqb k (i + 1)) (g (i + 1 + d)) (cond (leb 1 k && leb k i) (g (k + d)) (g k)) ≡ cond (leb 1 k && leb k (i + 1)) (g (k + d)) (g k)
-    go (yes q) = rw (eq-eqb k (i + 1) q, le-leb 1 k (omega (arith, q)), le-leb k (i + 1) (omega (arith, q))) (ap (λ (j : ℕ). g (j + d)) (sym q))
-    go (no q) = rw (ne-eqb k (i + 1) q) (ap (λ (b : Bool). cond (leb 1 k && b) (g (k + d)) (g k)) (same (leb k i) refl))
+    go : Dec (k ≡ from + i + 1)
+        → cond (eqb k (from + i + 1)) (g (from + i + 1 + d)) (cond (leb (from + 1) k && leb k (from + i)) (g (k + d)) (g k))
+        ≡ cond (leb (from + 1) k && leb k (from + suc i)) (g (k + d)) (g k)
+    go (yes q) =
+        rw (eq-eqb k (from + i + 1) q, le-leb (from + 1) k (omega (arith, q)), le-leb k (from + suc i) (omega (arith, q))) (ap (λ (j : ℕ). g (j + d)) (sym q))
+    go (no q) = rw (ne-eqb k (from + i + 1) q) (ap (λ (b : Bool). cond (leb (from + 1) k && b) (g (k + d)) (g k)) (same (leb k (from + i)) refl))
       where
-        same : (b : Bool) → leb k i ≡ b → leb k i ≡ leb k (i + 1)
-        same true e = e ∙ sym (le-leb k (i + 1) (omega (arith, leb-true k i e)))
-        same false e = e ∙ sym (lt-leb k (i + 1) (next (leb-false k i e)))
+        same : (b : Bool) → leb k (from + i) ≡ b → leb k (from + i) ≡ leb k (from + suc i)
+        same true e = e ∙ sym (le-leb k (from + suc i) (omega (arith, leb-true k (from + i) e)))
+        same false e = e ∙ sym (lt-leb k (from + suc i) (next (leb-false k (from + i) e)))
           where
-            next : i < k → i + 1 < k
+            next : from + i < k → from + suc i < k
             next w = omega (arith, q, w)
 
 -- shifting is, block by block, what it says
-blocks-shifted : (g : ℕ → List ℕ) (n d m : ℕ) (l : List ℕ) → d + m < n → Blocks g n l → Blocks (shiftedOf g d m) n (shifted d m l)
+blocks-shifted : (g : ℕ → List ℕ) (n from d m : ℕ) (l : List ℕ) → from + d + m < n → Blocks g n l → Blocks (shiftedOf g from d m) n (shifted from d m l)
 unfolding shifted
-blocks-shifted g n d zero l h b = blocks-ext g (shiftedOf g d 0) n l (λ k c. sym (none-shifted g d k)) b
-blocks-shifted g n d (suc m) l h b =
-    let e : d + m + 1 ≡ m + 1 + d = omega arith in
-    let v : imageBlockAt l (d + m + 1) ≡ g (m + 1 + d) = b .at (d + m + 1) (omega arith) ∙ ap g e in
-    blocks-ext (placed (shiftedOf g d m) (m + 1) (imageBlockAt l (d + m + 1))) (shiftedOf g d (suc m)) n (put (blockBytes * (m + 1)) (imageBlockAt l (d + m + 1)) (shifted d m l))
-    (λ k c. ap (λ (y : List ℕ). placed (shiftedOf g d m) (m + 1) y k) v ∙ one-shifted g d m k ∙ ap (λ (j : ℕ). shiftedOf g d j k) (add-one m))
-    (blocks-put (shiftedOf g d m) n (m + 1) (imageBlockAt l (d + m + 1)) (shifted d m l) (omega arith) (block-length l n (d + m + 1) (b .long) (omega arith))
-    (blocks-shifted g n d m l (omega arith) b))
+blocks-shifted g n from d zero l h b = blocks-ext g (shiftedOf g from d 0) n l (λ k c. sym (none-shifted g from d k)) b
+blocks-shifted g n from d (suc m) l h b =
+    let e : from + d + m + 1 ≡ from + m + 1 + d = omega arith in
+    let v : imageBlockAt l (from + d + m + 1) ≡ g (from + m + 1 + d) = b .at (from + d + m + 1) (omega arith) ∙ ap g e in
+    blocks-ext (placed (shiftedOf g from d m) (from + m + 1) (imageBlockAt l (from + d + m + 1))) (shiftedOf g from d (suc m)) n
+    (put (blockBytes * (from + m + 1)) (imageBlockAt l (from + d + m + 1)) (shifted from d m l))
+    (λ k c. ap (λ (y : List ℕ). placed (shiftedOf g from d m) (from + m + 1) y k) v ∙ one-shifted g from d m k)
+    (blocks-put (shiftedOf g from d m) n (from + m + 1) (imageBlockAt l (from + d + m + 1)) (shifted from d m l) (omega arith)
+    (block-length l n (from + d + m + 1) (b .long) (omega arith))
+    (blocks-shifted g n from d m l (omega arith) b))
 
-pub shifted-blocks : (g : ℕ → List ℕ) (n d kept : ℕ) (l after : List ℕ) → d + kept < n → after ≡ shifted d kept l → Blocks g n l → Blocks (shiftedOf g d kept) n after
-shifted-blocks g n d kept l after h e b = subst (λ (x : List ℕ). Blocks (shiftedOf g d kept) n x) (sym e) (blocks-shifted g n d kept l h b)
+pub shifted-blocks : (g : ℕ → List ℕ) (n from d kept : ℕ) (l after : List ℕ) → from + d + kept < n → after ≡ shifted from d kept l → Blocks g n l
+    → Blocks (shiftedOf g from d kept) n after
+shifted-blocks g n from d kept l after h e b =
+    subst (λ (x : List ℕ). Blocks (shiftedOf g from d kept) n x) (sym e) (blocks-shifted g n from d kept l h b)
 
-shifted-long : (d k : ℕ) (l : List ℕ) → blockBytes * (d + k + 1) ≤ length l → length (shifted d k l) ≡ length l
+shifted-long : (from d k : ℕ) (l : List ℕ) → blockBytes * (from + d + k + 1) ≤ length l → length (shifted from d k l) ≡ length l
 unfolding shifted
-shifted-long d zero l h = refl
-shifted-long d (suc k) l h =
-    let ih = shifted-long d k l (omega arith) in
-    put-length (blockBytes * (k + 1)) (imageBlockAt l (d + k + 1)) (shifted d k l) (omega (arith, block-long l (d + k + 1) (omega arith))) ∙ ih
+shifted-long from d zero l h = refl
+shifted-long from d (suc k) l h =
+    let ih = shifted-long from d k l (omega arith) in
+    put-length (blockBytes * (from + k + 1)) (imageBlockAt l (from + d + k + 1)) (shifted from d k l)
+    (omega (arith, block-long l (from + d + k + 1) (omega arith)))
+    ∙ ih
 
 -- what is not moved yet is as it was
-shifted-later : (d k j : ℕ) (l : List ℕ) → blockBytes * (d + k + 1) ≤ length l → k < j → imageBlockAt (shifted d k l) j ≡ imageBlockAt l j
+shifted-later : (from d k j : ℕ) (l : List ℕ) → blockBytes * (from + d + k + 1) ≤ length l → from + k < j
+    → imageBlockAt (shifted from d k l) j ≡ imageBlockAt l j
 unfolding shifted imageBlockAt
-shifted-later d zero j l h c = refl
-shifted-later d (suc k) j l h c =
-    put-behind (blockBytes * (k + 1)) (blockBytes * j) blockBytes (imageBlockAt l (d + k + 1)) (shifted d k l)
-    (omega (arith, block-long l (d + k + 1) (omega arith))) (omega (arith, shifted-long d k l (omega arith)))
-    ∙ shifted-later d k j l (omega arith) (omega arith)
+shifted-later from d zero j l h c = refl
+shifted-later from d (suc k) j l h c =
+    put-behind (blockBytes * (from + k + 1)) (blockBytes * j) blockBytes (imageBlockAt l (from + d + k + 1)) (shifted from d k l)
+    (omega (arith, block-long l (from + d + k + 1) (omega arith))) (omega (arith, shifted-long from d k l (omega arith)))
+    ∙ shifted-later from d k j l (omega arith) (omega arith)
 
 -- a loop that shifts has moved i blocks
-pub record Shifting (l : List ℕ) (d i : ℕ) (image : List ℕ) : Type 0 where
+pub record Shifting (l : List ℕ) (from d i : ℕ) (image : List ℕ) : Type 0 where
   pub long : length image ≡ length l
-  pub is : image ≡ shifted d i l
+  pub is : image ≡ shifted from d i l
 
-pub shifting-none : (l : List ℕ) (d : ℕ) → Shifting l d 0 l
+pub shifting-none : (l : List ℕ) (from d : ℕ) → Shifting l from d 0 l
 unfolding shifted
-shifting-none l d = record { long = refl; is = refl }
+shifting-none l from d = record { long = refl; is = refl }
 
-pub shifting-more : (l : List ℕ) (d i : ℕ) (image b after : List ℕ) → blockBytes * (d + i + 1 + 1) ≤ length l → b ≡ imageBlockAt image (d + i + 1) → after ≡ put (blockBytes * (i + 1)) b image
-    → Shifting l d i image → Shifting l d (i + 1) after
+pub shifting-more : (l : List ℕ) (from d i : ℕ) (image b after : List ℕ) → blockBytes * (from + d + i + 1 + 1) ≤ length l
+    → b ≡ imageBlockAt image (from + d + i + 1) → after ≡ put (blockBytes * (from + i + 1)) b image
+    → Shifting l from d i image → Shifting l from d (i + 1) after
 unfolding shifted
-shifting-more l d i image b after h eb ea r =
-    let v : b ≡ imageBlockAt l (d + i + 1) =
-    eb ∙ ap (λ (x : List ℕ). imageBlockAt x (d + i + 1)) (r .is) ∙ shifted-later d i (d + i + 1) l (omega arith) (omega arith) in
-    let nb : length b ≡ blockBytes = ap length v ∙ block-long l (d + i + 1) (omega arith) in
+shifting-more l from d i image b after h eb ea r =
+    let v : b ≡ imageBlockAt l (from + d + i + 1) =
+    eb ∙ ap (λ (x : List ℕ). imageBlockAt x (from + d + i + 1)) (r .is) ∙ shifted-later from d i (from + d + i + 1) l (omega arith) (omega arith) in
+    let nb : length b ≡ blockBytes = ap length v ∙ block-long l (from + d + i + 1) (omega arith) in
     record {
-      long = ap length ea ∙ put-length (blockBytes * (i + 1)) b image (omega (arith, r .long, nb)) ∙ r .long;
-      is = ea ∙ ap₂ (λ (x y : List ℕ). put (blockBytes * (i + 1)) x y) v (r .is) ∙ ap (λ (k : ℕ). shifted d k l) (sym (add-one i));
+      long = ap length ea ∙ put-length (blockBytes * (from + i + 1)) b image (omega (arith, r .long, nb)) ∙ r .long;
+      is = ea ∙ ap₂ (λ (x y : List ℕ). put (blockBytes * (from + i + 1)) x y) v (r .is) ∙ ap (λ (k : ℕ). shifted from d k l) (sym (add-one i));
     }
 
-pub shifted-all : (l : List ℕ) (d kept i : ℕ) (image : List ℕ) → i ≡ kept → Shifting l d i image → image ≡ shifted d kept l
-shifted-all l d kept i image e r = r .is ∙ ap (λ (k : ℕ). shifted d k l) e
+pub shifted-all : (l : List ℕ) (from d kept i : ℕ) (image : List ℕ) → i ≡ kept → Shifting l from d i image → image ≡ shifted from d kept l
+shifted-all l from d kept i image e r = r .is ∙ ap (λ (k : ℕ). shifted from d k l) e
 
 -- a block that was built is what is placed
 pub put-as : (at : ℕ) (b c l after : List ℕ) → after ≡ put at b l → b ≡ c → after ≡ put at c l

@@ -1,4 +1,5 @@
 use Rattle.image_write.proofs.Laws.HoldLaws.{held-here, held-there}
+use native.Mathlib.Omega.{arith}
 use borrow.Author.Needs.{needs}
 use Rattle.image_write.proofs.hold_own.Statement.{statement}
 use Rattle.image_write.proofs.hold_own.Tie as tie
@@ -7,10 +8,10 @@ returns : tie.Need-returns
 returns c = held-here _ _ _ _ _ (c .if1 .taken)
 
 mul-from : tie.Need-mul-from
-mul-from c = search needs
+mul-from c = let b = c .before .before .pre .1 (c .if1 .left) in omega (arith, b .1)
 
 add-e : tie.Need-add-e
-add-e c = search needs
+add-e c = let b = c .before .before .pre .1 (c .if1 .left) in omega (arith, b .1)
 
 sub-copied : tie.Need-sub-copied
 sub-copied c = search needs
@@ -19,7 +20,7 @@ part-copied-start : tie.Need-part-copied-start
 part-copied-start c = search needs
 
 part-copied-end : tie.Need-part-copied-end
-part-copied-end c = search needs
+part-copied-end c = let e = c .before in let b = e .before .before .pre .1 (e .if1 .left) in omega (arith, b .1)
 
 copied-requires : tie.Need-copied-requires
 copied-requires c κs = search needs
@@ -28,7 +29,7 @@ add-end : tie.Need-add-end
 add-end c = search needs
 
 mul-write-entry : tie.Need-mul-write-entry
-mul-write-entry c = search needs
+mul-write-entry c = let e = c .before .before .before .before in let b = e .before .before .pre .1 (e .if1 .left) in omega (arith, b .0)
 
 sub-write-entry : tie.Need-sub-write-entry
 sub-write-entry c = search needs
@@ -40,7 +41,10 @@ part-write-entry-end : tie.Need-part-write-entry-end
 part-write-entry-end c = search needs
 
 write-entry-requires : tie.Need-write-entry-requires
-write-entry-requires c κs = search needs
+write-entry-requires c κs =
+    let e = c .before .before .before .before .before .before in
+    let b = e .before .before .pre .1 (e .if1 .left) in
+    (omega (arith, b .0), search needs)
 
 same-length : tie.Need-same-length
 same-length c = search needs

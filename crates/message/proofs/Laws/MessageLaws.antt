@@ -1,18 +1,20 @@
 -- The ways through the refusals of messages and replies.
 use mathlib.Core.Path.{_≡_, refl, sym, _∙_}
-use mathlib.Core.Bool.{Bool, true, false, not, _&&_}
+use mathlib.Core.Bool.{Bool, true, false, not, _&&_, true≢false}
 use mathlib.Core.List.{List, [], _∷_}
 use Prim.Native.Nat.{ℕ, _≤_, _<_}
+use native.Mathlib.Omega.{arith}
+use native.Mathlib.Decide.{ℕ-discrete}
 use lib.Dec.{eqb}
 use borrow.Author.Tests.{lt-ltb, le-ltb, le-leb, lt-leb, eq-eqb, ne-eqb}
 use Rattle.message.specs.Messages.{roundRight, kindRight, messageRefusal, foundRight, targetsRight, namesBlock, messageBlockRefusal, replyRight, replyRefusal}
-use Rattle.message.specs.Messages.{storesEntry, compares, comparisonRight}
+use Rattle.message.specs.Messages.{isSilent, storesEntry, compares, comparisonRight}
 use Rattle.message.specs.Flags.{brickSet}
 use Rattle.settings.specs.Ranges.{dataBlockRefusal}
 use Rattle.message.specs.declared.Message.{Message}
 use Rattle.message.specs.declared.Reply.{Reply}
 use Rattle.settings.specs.Refusal.{passed, badNumber, badMessage, firstRefusal, refuseUnless}
-use Rattle.message.specs.Kinds.{readKind, writeKind, modifyKind, blockTargets, noComparison, newerTime, promiseAhead, fullLog}
+use Rattle.message.specs.Kinds.{readKind, writeKind, modifyKind, trimKind, dropKind, blockTargets, noComparison, newerTime, promiseAhead, fullLog}
 use Rattle.settings.specs.Times.{validTime}
 
 -- a reply of a known kind: its time, round, found time and comparison are left
@@ -142,3 +144,32 @@ block-named m msg a v e t f = f ∙ rw (← e, t)
 pub block-unnamed : (m : ℕ) (msg : Message) (a : Bool) → a ≡ namesBlock (msg .kind) → a ≡ false → passed ≡ messageBlockRefusal m msg
 unfolding messageBlockRefusal
 block-unnamed m msg a e t = rw (← e, t)
+
+-- Trim and Drop have no reply; every kind below them has one.
+pub silent-trim : (kind : ℕ) → kind ≡ trimKind → isSilent kind ≡ true
+unfolding isSilent
+silent-trim kind e = rw (eq-eqb kind trimKind e) refl
+
+pub silent-drop : (kind : ℕ) → kind ≡ dropKind → isSilent kind ≡ true
+unfolding isSilent
+silent-drop kind e = rw (ne-eqb kind trimKind (λ q. omega (arith, e, q)), eq-eqb kind dropKind e) refl
+
+pub not-silent : (kind : ℕ) → kind < trimKind → isSilent kind ≡ false
+unfolding isSilent
+not-silent kind h = rw (ne-eqb kind trimKind (λ q. omega (arith, h, q)), ne-eqb kind dropKind (λ q. omega (arith, h, q))) refl
+
+pub no-trim : (kind : ℕ) → isSilent kind ≡ false → kind ≡ trimKind → ⊥
+no-trim kind e q = true≢false (sym (silent-trim kind q) ∙ e)
+
+pub no-drop : (kind : ℕ) → isSilent kind ≡ false → kind ≡ dropKind → ⊥
+no-drop kind e q = true≢false (sym (silent-drop kind q) ∙ e)
+
+-- a claim about silent kinds is shown for the two
+pub by-silent : (P : Type 0) (kind : ℕ) → isSilent kind ≡ true → (kind ≡ trimKind → P) → (kind ≡ dropKind → P) → P
+unfolding isSilent
+by-silent P kind e t d = go (ℕ-discrete kind trimKind) (ℕ-discrete kind dropKind)
+  where
+    go : Dec (kind ≡ trimKind) → Dec (kind ≡ dropKind) → P
+    go (yes a) b = t a
+    go (no a) (yes b) = d b
+    go (no a) (no b) = absurd (true≢false (sym e ∙ rw (ne-eqb kind trimKind a, ne-eqb kind dropKind b) refl))

@@ -17,14 +17,15 @@ use Rattle.coord_decide.specs.Deciding.{decided}
 use Rattle.coord_decide.specs.Decisions.{DecisionSays, Recovers, AllYes, found-time, holders}
 use Rattle.coord_decide.proofs.Laws.SaysLaws.{says-of}
 use Rattle.coord_decide.specs.declared.Decision.the-variants.{Recover}
-use Rattle.coord_apply.specs.Acts.{agreeing, giversAt, storing, acted, withTally, counting, waitingOr}
+use Rattle.coord_blocks.specs.Blocks.{agreeing}
+use Rattle.coord_apply.specs.Acts.{giversAt, storing, acted, withTally, counting, waitingOr}
 use Rattle.coord_apply.specs.Answers.{Buffered, Went, went, nothingSeen, afterChecks}
 use Rattle.coord_apply.proofs.Laws.ActLaws.{recover-agreed}
 use Rattle.coordinator.specs.Routines.{takeStep}
 use Rattle.coord_laws.proofs.Laws.StepRunLaws.{ReplyTaken, took}
 use Rattle.coord_laws.proofs.Laws.StripeLaws.{taken-stripe, taken-runs}
 use Rattle.order.specs.Claim.{_∈_}
-use Rattle.register.specs.Recoveries.{addressee, countedAt, RecoversBy, NoRecoveryDisagrees}
+use Rattle.register.specs.Recoveries.{addressee, countedAt, QthReply, RecoversBy, NoRecoveryDisagrees}
 use Rattle.register.specs.Runs.{reply, Moved, run}
 use Rattle.register.proofs.Laws.Invariant.{Hist, CoordinatorInv, itemOn, view, Inv}
 use Rattle.register.proofs.Laws.CountedLaws.{counting-keeps}
@@ -32,34 +33,31 @@ use Rattle.register.proofs.Laws.RecoverLaws.{topOf, agrees}
 use Rattle.register.proofs.Laws.StripeViewLaws.{in-items, viewed-here}
 use Rattle.register.proofs.Laws.TheoremProof.{run-holds}
 
-module _ (s : Settings) (g : SettingsRange s) (r : Moved s) (a : Reply) (block : List ℕ) (time : ℕ) (x : RecoversBy s (r .world) a block time) where
-  k : Buffered
+-- the q-th reply of a round
+module _ (s : Settings) (g : SettingsRange s) (r : Moved s) (a : Reply) (block : List ℕ) (x : QthReply s (r .world) a block) where
+  abbrev k : Buffered
   k = addressee (r .world) a
 
-  after : Buffered
-  after = counting (s .size) k a block
+  abbrev after : Buffered
+  after = countedAt s (r .world) a block
 
-  w : Went
+  pub w : Went
   w = waitingOr (s .n) (s .m) (s .size) after
 
   steps : takeStep (s .n) (s .m) (s .size) (s .stripes) k a block (s .n * s .size) ≡ went w
-  unfolding takeStep afterChecks k after w
+  unfolding takeStep afterChecks w
   steps = ap (λ (number : ℕ). afterChecks number (went (waitingOr (s .n) (s .m) (s .size) (counting (s .size) (addressee (r .world) a) a block)))) (x .taken)
 
-  t : ReplyTaken (s .n) (s .m) (s .size) (s .stripes) k a block (s .n * s .size) w
+  pub t : ReplyTaken (s .n) (s .m) (s .size) (s .stripes) k a block (s .n * s .size) w
   t = took (s .n) (s .m) (s .size) (s .stripes) k a block (s .n * s .size) w steps
 
-  busy : k .state .op .kind ≡ idleKind → ⊥
+  pub busy : k .state .op .kind ≡ idleKind → ⊥
   busy = taken-runs (s .n) (s .m) (s .size) (s .stripes) k a block (s .n * s .size) w steps
-
-  says : Recovers (s .n) (s .m) (after .state .op) (after .state .tally) time
-  unfolding DecisionSays after k
-  says = says-of (s .n) (s .m) (countedAt s (r .world) a block .state .op) (countedAt s (r .world) a block .state .tally) (Recover time) (sym (x .decides))
 
   -- on the stripe that it runs on
   module _ (h : Hist s) (i : Inv s g (k .state .op .stripe) h r) where
     holds : CoordinatorInv s g h (view (k .state .op .stripe) r .sent) (coordinatorOf (a .time)) k
-    unfolding view k
+    unfolding view
     holds = subst (CoordinatorInv s g h (view (k .state .op .stripe) r .sent) (coordinatorOf (a .time))) (viewed-here (k .state .op .stripe) k busy refl) (i .coordinators (coordinatorOf (a .time)))
 
     was : reply a block ∈ view (k .state .op .stripe) r .sent
@@ -68,30 +66,46 @@ module _ (s : Settings) (g : SettingsRange s) (r : Moved s) (a : Reply) (block :
         in-items (k .state .op .stripe) (r .world .sent) (reply a block) (x .was-sent)
         (eq-eqb (a .stripe) (k .state .op .stripe) (taken-stripe (s .n) (s .m) (s .size) (s .stripes) k a block (s .n * s .size) w steps))
 
-    top-agrees : agreeing (s .m) (s .size) (giversAt (s .n) after (topOf s after)) (after .blocks) ≡ true
-    unfolding AllYes holders found-time after counting withTally k
+    -- what holds of its coordinator once it is counted
+    pub counted-holds : CoordinatorInv s g h (view (k .state .op .stripe) r .sent) (coordinatorOf (a .time)) after
+    counted-holds = counting-keeps s g h (view (k .state .op .stripe) r .sent) (coordinatorOf (a .time)) k a block (s .n * s .size) w holds t was
+
+-- A RECOVERY IS DECIDED
+module _ (s : Settings) (g : SettingsRange s) (r : Moved s) (a : Reply) (block : List ℕ) (time : ℕ) (x : RecoversBy s (r .world) a block time) where
+  abbrev own : Buffered
+  own = addressee (r .world) a
+
+  abbrev later : Buffered
+  later = countedAt s (r .world) a block
+
+  says : Recovers (s .n) (s .m) (later .state .op) (later .state .tally) time
+  unfolding DecisionSays
+  says = says-of (s .n) (s .m) (countedAt s (r .world) a block .state .op) (countedAt s (r .world) a block .state .tally) (Recover time) (sym (x .decides))
+
+  module _ (h : Hist s) (i : Inv s g (own .state .op .stripe) h r) where
+    top-agrees : agreeing (s .m) (s .size) (giversAt (s .n) later (topOf s later)) (later .blocks) ≡ true
+    unfolding AllYes holders found-time counting withTally
     top-agrees =
-        agrees s g h (view (k .state .op .stripe) r .sent) (coordinatorOf (a .time)) after (i .valid)
-        (counting-keeps s g h (view (k .state .op .stripe) r .sent) (coordinatorOf (a .time)) k a block (s .n * s .size) w holds t was) (i .items) busy
-        (says .phase-is) (says .all-yes) (x .is-qth)
-        (subst (λ (u : ℕ). s .m ≤ count (atTimes (after .state .tally .held) (after .state .tally .found) u) (s .n)) (says .time-is) (says .enough))
+        agrees s g h (view (own .state .op .stripe) r .sent) (coordinatorOf (a .time)) later (i .valid)
+        (counted-holds s g r a block (x .qth) h i) (i .items) (busy s g r a block (x .qth))
+        (says .phase-is) (says .all-yes) (x .qth .is-qth)
+        (subst (λ (u : ℕ). s .m ≤ count (atTimes (later .state .tally .held) (later .state .tally .found) u) (s .n)) (says .time-is) (says .enough))
 
-    agreed : agreeing (s .m) (s .size) (giversAt (s .n) after time) (after .blocks) ≡ true
+    agreed : agreeing (s .m) (s .size) (giversAt (s .n) later time) (later .blocks) ≡ true
     unfolding found-time
-    agreed = subst (λ (u : ℕ). agreeing (s .m) (s .size) (giversAt (s .n) after u) (after .blocks) ≡ true) (sym (says .time-is)) top-agrees
+    agreed = subst (λ (u : ℕ). agreeing (s .m) (s .size) (giversAt (s .n) later u) (later .blocks) ≡ true) (sym (says .time-is)) top-agrees
 
-    stores : waitingOr (s .n) (s .m) (s .size) after ≡ storing (s .n) (s .m) (s .size) after time
-    unfolding waitingOr after k
+    stores : waitingOr (s .n) (s .m) (s .size) later ≡ storing (s .n) (s .m) (s .size) later time
+    unfolding waitingOr
     stores =
-        ap (λ (b : Bool). cond b (record { next = after; sent = []; seen = nothingSeen }) (acted (s .n) (s .m) (s .size) after (decided (s .n) (s .m) (after .state .op) (after .state .tally))))
-        (le-ltb (members (after .state .tally .counted) (s .n)) (quorum (s .n) (s .m)) (x .is-qth))
-        ∙ ap (acted (s .n) (s .m) (s .size) after) (x .decides)
-        ∙ recover-agreed (s .n) (s .m) (s .size) after time agreed
+        ap (λ (b : Bool). cond b (record { next = later; sent = []; seen = nothingSeen }) (acted (s .n) (s .m) (s .size) later (decided (s .n) (s .m) (later .state .op) (later .state .tally))))
+        (le-ltb (members (later .state .tally .counted) (s .n)) (quorum (s .n) (s .m)) (x .qth .is-qth))
+        ∙ ap (acted (s .n) (s .m) (s .size) later) (x .decides)
+        ∙ recover-agreed (s .n) (s .m) (s .size) later time agreed
 
 pub no-recovery-disagrees : NoRecoveryDisagrees
-unfolding k after
 no-recovery-disagrees s e events a block time x =
     let g = range-of s e in
     let r = run s events in
-    let i = run-holds s g (k s g r a block time x .state .op .stripe) (t s g r a block time x .takes .parts .stripe-low) events in
+    let i = run-holds s g (addressee (r .world) a .state .op .stripe) (t s g r a block (x .qth) .takes .parts .stripe-low) events in
     (agreed s g r a block time x (i .0) (i .1), stores s g r a block time x (i .0) (i .1))

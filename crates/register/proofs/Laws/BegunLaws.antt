@@ -14,7 +14,8 @@ use Rattle.erasure.specs.Code.{blockOf, withBlock, Stripe}
 use Rattle.erasure.proofs.Laws.BlockOfLaws.{block-within, block-with, with-block-stripe}
 use Rattle.coord_record.specs.Records.{readingKind, writingKind, readingBlockKind, writingBlockKind, isReading, onBlock}
 use Rattle.coord_laws.specs.OpCases.{canRecover}
-use Rattle.coord_apply.specs.Acts.{seenBlock, noticeOf, storedStripe}
+use Rattle.coord_blocks.specs.Blocks.{storedStripe}
+use Rattle.coord_apply.specs.Acts.{seenBlock, noticeOf}
 use Rattle.coord_apply.specs.Answers.{Buffered}
 use Rattle.order.specs.Claim.{Result, read, write, readBlock, writeBlock, ok, bytes, changed, given}
 use Rattle.order.specs.Facts.{began}

@@ -5,7 +5,7 @@ use mathlib.Core.Bool.{Bool, true, false, cond}
 use mathlib.Core.List.{List, [], _∷_, append-nil}
 use Prim.Native.Nat.{ℕ, zero, suc, _+_, _-_, _≤_, _<_}
 use native.Mathlib.Omega.{arith}
-use native.Mathlib.Decide.{decLt}
+use native.Mathlib.Decide.{ℕ-discrete, decLt}
 use lib.Dec.{ltb}
 use borrow.Author.Tests.{ltb-true, ltb-false, leb-true}
 use Rattle.settings.specs.Ranges.{SettingsRange}
@@ -13,17 +13,19 @@ use Rattle.settings.specs.declared.Settings.{Settings}
 use Rattle.image.proofs.Laws.LogPlaceLaws.{newest-at}
 use Rattle.image_write.proofs.Laws.ImageStepLaws.{promised-promise, promised-count, promised-time, promised-means, appended-promise}
 use Rattle.image_write.proofs.Laws.ImageStepLaws.{appended-count, appended-time-old, appended-means-old, appended-time-new, appended-means-new}
+use Rattle.brick_log.proofs.Laws.DropLaws.{drop-promise, drop-keeps, drop-from}
 use Rattle.brick_log.proofs.Laws.TrimLaws.{Trims, trim-places}
 use Rattle.brick.proofs.Laws.BrickLaws.{by-place, order-not-below, write-ordered}
 use Rattle.image.specs.Brick.{Brick, LogEntry, entryCount, timeAt, meansAt, newest}
 use Rattle.image.specs.Brick.{Sound}
 use Rattle.image_write.specs.Saving
 use Rattle.brick_answer.specs.Comparisons.{notBelowPromise}
-use Rattle.brick_log.specs.BrickRules.{readYes, orderYes, writeYes, trimmedTo, under}
+use Rattle.brick_log.specs.BrickRules.{readYes, orderYes, writeYes, trimmedTo, droppedFrom, under}
 use Rattle.order.specs.Facts.{Fact, promised, stored, showed, seen, shows}
 use Rattle.order.specs.Places.{Suf, whole, above, In}
 use Rattle.order.proofs.Laws.PlaceLaws.{in-top}
-use Rattle.order.specs.Valid.{Began, Launched, Committed, Gone, OkPromised, OkStored, OkShowed, Ok, Valid, next}
+use Rattle.order.specs.Valid.{Began, Launched, Committed, Passed, Gone, OkPromised, OkStored, OkShowed, Ok, Valid, next}
+use Rattle.order.proofs.Laws.FactLaws.{passed-up}
 use Rattle.order.proofs.Laws.GoneLaws.{gone-up}
 use Rattle.coord_apply.specs.Answers.{Buffered}
 use Rattle.register.specs.Runs.{plain, Item}
@@ -88,8 +90,13 @@ module _ {s : Settings} {g : SettingsRange s} {b : ℕ} {h : Hist s} {x : Brick}
             let w = i .entries j (omega (arith, l, promised-count x t)) in
             carried (promised-time x t j) (promised-means x t j) (stands-up (above whole) (w .0), means-up (above whole) (w .1));
         kept = λ u w. keep u (i .kept u (before u w));
+        kept-zero = fresh (i .kept-zero);
       }
     where
+      fresh : LogHas x 0 ⊎ Passed (quorums s g) h 0 → LogHas (Saving.withPromise x t) 0 ⊎ Passed (quorums s g) (promised b t ∷ h) 0
+      fresh (inl (j, l, q)) = inl (j, omega (arith, l, promised-count x t), promised-time x t j ∙ q)
+      fresh (inr w) = inr (passed-up (quorums s g) (above whole) w)
+
       bound : (u : ℕ) → (_≡_ {A = Fact (plain s)} (promised b u) (promised b t)) ⊎ In (promised b u) h → u ≤ t
       bound u (inl q) = let z : u ≡ t = cc in omega arith
       bound u (inr p) = let w = i .bounded u p in omega (arith, order-not-below x t e)
@@ -117,8 +124,13 @@ module _ {s : Settings} {g : SettingsRange s} {b : ℕ} {h : Hist s} {x : Brick}
         bounded = λ u p. subst (λ (k : ℕ). u ≤ k) (sym (appended-promise x e)) (bound u (in-cons p));
         entries = λ j l. entry j (omega (arith, l, appended-count x e));
         kept = λ u w. stood u w;
+        kept-zero = fresh (i .kept-zero);
       }
     where
+      fresh : LogHas x 0 ⊎ Passed (quorums s g) h 0 → LogHas (Saving.appended x e) 0 ⊎ Passed (quorums s g) (stored b (e .time) ∷ h) 0
+      fresh (inl (j, l, q)) = inl (j, omega (arith, l, appended-count x e), appended-time-old x e j l ∙ q)
+      fresh (inr w) = inr (passed-up (quorums s g) (above whole) w)
+
       later : Hist s
       later = stored b (e .time) ∷ h
 
@@ -171,17 +183,55 @@ module _ {s : Settings} {g : SettingsRange s} {b : ℕ} {h : Hist s} {x : Brick}
             bounded = λ u p. subst (λ (k : ℕ). u ≤ k) (sym (z .promise-is)) (i .bounded u p);
             entries = λ j l. carried (z .times j) (z .means j) (i .entries (d + j) (omega (arith, l, z .count)));
             kept = λ u w. keep u (i .kept u w);
+            kept-zero = fresh (i .kept-zero);
           }
         where
-          keep : (u : ℕ) → LogHas x u ⊎ Gone (quorums s g) h u → LogHas (trimmedTo x t) u ⊎ Gone (quorums s g) h u
-          keep u (inr w) = inr w
-          keep u (inl (j, l, q)) = by (decLt j d)
+          -- an entry stays, or was under the committed time
+          stays : (u : ℕ) → LogHas x u → LogHas (trimmedTo x t) u ⊎ Passed (quorums s g) h u
+          stays u (j, l, q) = by (decLt j d)
             where
-              by : Dec (j < d) → LogHas (trimmedTo x t) u ⊎ Gone (quorums s g) h u
-              by (yes a) = inr (inl (t, omega (arith, z .cut .before j a), c))
+              by : Dec (j < d) → LogHas (trimmedTo x t) u ⊎ Passed (quorums s g) h u
+              by (yes a) = inr (t, omega (arith, z .cut .before j a), c)
               by (no a) =
                   let m : d + (j - d) ≡ j = omega arith in
                   inl (j - d, omega (arith, z .count, l), z .times (j - d) ∙ ap (timeAt x) m ∙ q)
+
+          keep : (u : ℕ) → LogHas x u ⊎ Gone (quorums s g) h u → LogHas (trimmedTo x t) u ⊎ Gone (quorums s g) h u
+          keep u (inr w) = inr w
+          keep u (inl w) = or (stays u w)
+            where
+              or : LogHas (trimmedTo x t) u ⊎ Passed (quorums s g) h u → LogHas (trimmedTo x t) u ⊎ Gone (quorums s g) h u
+              or (inl p) = inl p
+              or (inr p) = inr (inl p)
+
+          fresh : LogHas x 0 ⊎ Passed (quorums s g) h 0 → LogHas (trimmedTo x t) 0 ⊎ Passed (quorums s g) h 0
+          fresh (inl w) = stays 0 w
+          fresh (inr w) = inr w
+
+  -- a Drop of a time that is gone drops only that
+  pub brick-dropped : (t : ℕ) → 0 < t → Gone (quorums s g) h t → BrickInv s g h b (droppedFrom x t)
+  brick-dropped t pos gone =
+      record {
+        bounded = λ u p. subst (λ (k : ℕ). u ≤ k) (sym (drop-promise x t)) (i .bounded u p);
+        entries = λ j l. let w = drop-from x t j l in carried (w .2) (w .3) (i .entries (w .0) (w .1));
+        kept = λ u w. keep u (i .kept u w);
+        kept-zero = fresh (i .kept-zero);
+      }
+    where
+      stays : (u : ℕ) → (u ≡ t → ⊥) → LogHas x u → LogHas (droppedFrom x t) u
+      stays u n (j, l, q) = let w = drop-keeps x t j l (λ e. n (sym q ∙ e)) in (w .0, w .1, w .2 ∙ q)
+
+      keep : (u : ℕ) → LogHas x u ⊎ Gone (quorums s g) h u → LogHas (droppedFrom x t) u ⊎ Gone (quorums s g) h u
+      keep u (inr w) = inr w
+      keep u (inl w) = by (ℕ-discrete u t)
+        where
+          by : Dec (u ≡ t) → LogHas (droppedFrom x t) u ⊎ Gone (quorums s g) h u
+          by (yes e) = inr (subst (Gone (quorums s g) h) (sym e) gone)
+          by (no n) = inl (stays u n w)
+
+      fresh : LogHas x 0 ⊎ Passed (quorums s g) h 0 → LogHas (droppedFrom x t) 0 ⊎ Passed (quorums s g) h 0
+      fresh (inl w) = inl (stays 0 (λ e. omega (arith, e)) w)
+      fresh (inr w) = inr w
 
 -- What the lookup finds: nothing under max, or the highest under max.
 pub data Found (x : Brick) (max n : ℕ) : ℕ → Type 0 where

@@ -9,7 +9,7 @@ use borrow.Author.Tests.{eqb-true, eqb-false, eq-eqb, ne-eqb}
 use Rattle.settings.specs.Ranges.{SettingsRange}
 use Rattle.settings.specs.Refusal.{passed}
 use Rattle.settings.specs.declared.Settings.{Settings}
-use Rattle.message.specs.Kinds.{trimKind}
+use Rattle.message.specs.Messages.{isSilent}
 use Rattle.message.specs.declared.Message.{Message}
 use Rattle.image.specs.Brick.{Brick}
 use Rattle.image.specs.Image.{imageSize}
@@ -24,6 +24,7 @@ use Rattle.volume.specs.Rows.{rowSize, imageAt, withImage, inRow, rowRefusal, r
 use Rattle.volume.proofs.Laws.RowLaws.{image-here}
 use Rattle.volume.proofs.Laws.RowTheoremLaws.{other-stripes-stay}
 use Rattle.order.specs.Claim.{_∈_}
+use Rattle.order.specs.Places.{whole}
 use Rattle.register.specs.Runs.{Item, message, Moved, unmoved, joined, putAt, repliedWith, received, arriving}
 use Rattle.register.proofs.Laws.BrickEvent.{brickView, message-received}
 use Rattle.register.proofs.Laws.Invariant.{Hist, Goes, itemOn, itemsOn, viewed, view, Inv}
@@ -41,7 +42,7 @@ module _ (s : Settings) (b : ℕ) (msg : Message) (j : ℕ) where
 
   given-on : (x : Brick) → Stays (givenBy s b x msg)
   unfolding givenBy Stays repliedWith
-  given-on x = go (eqb (msg .kind) trimKind)
+  given-on x = go (isSilent (msg .kind))
     where
       go : (a : Bool) (out : List ℕ) (i : Item) → i ∈ repliedWith (cond a Silent (Answered (replyTo s b x msg))) out → itemOn j i ≡ eqb (msg .stripe) j
       go true out i m = absurd (List·Memᴰ·not-nil m)
@@ -116,13 +117,13 @@ module _ (s : Settings) (k : ℕ) (r : Moved s) (b : ℕ) where
 
   module _ (g : SettingsRange s) (h : Hist s) (i : Inv s g k h r) where
     stays-so : (o : Outcome) → imageAt s k (o .image) ≡ imageAt s k (r .world .images b) → itemsOn k (repliedWith (o .given) (o .out)) ≡ []
-        → Goes s g (view k (joined s r (received s (r .world) b o)))
+        → Goes s g h (view k (joined s r (received s (r .world) b o)))
     unfolding view
-    stays-so o e q = subst (Goes s g) (sym (view-received o (imageAt s k (r .world .images b)) [] e q ∙ view-kept)) (h, i)
+    stays-so o e q = subst (Goes s g h) (sym (view-received o (imageAt s k (r .world .images b)) [] e q ∙ view-kept)) (h, whole, i)
 
     -- A message reaches its brick, on whatever stripe.
     pub message-arrives : (msg : Message) (block old : List ℕ) → message b msg block old ∈ r .world .sent
-        → Goes s g (view k (joined s r (arriving s (r .world) (message b msg block old))))
+        → Goes s g h (view k (joined s r (arriving s (r .world) (message b msg block old))))
     unfolding arriving rowOutcome rowRefusal rowSize inRow refusedWith repliedWith itemsOn itemOn view
     message-arrives msg block old was = up (r .world .up b)
       where
@@ -135,13 +136,13 @@ module _ (s : Settings) (k : ℕ) (r : Moved s) (b : ℕ) where
         o : Outcome
         o = rowOutcome s b row msg block old out
 
-        elsewhere : (msg .stripe ≡ k → ⊥) → Goes s g (view k (joined s r (received s (r .world) b o)))
+        elsewhere : (msg .stripe ≡ k → ⊥) → Goes s g h (view k (joined s r (received s (r .world) b o)))
         elsewhere n =
             stays-so o (other-stripes-stay s b row msg block old out k (λ z. n (sym z)))
             (items-none k (repliedWith (o .given) (o .out))
             (λ z m. replies-on s b msg k (o .given) (o .out) (row-on s b msg k row block old out) z m ∙ ne-eqb (msg .stripe) k n))
 
-        here : msg .stripe ≡ k → Goes s g (view k (joined s r (received s (r .world) b o)))
+        here : msg .stripe ≡ k → Goes s g h (view k (joined s r (received s (r .world) b o)))
         here e = dec (eqb number passed) refl
           where
             number : ℕ
@@ -151,7 +152,7 @@ module _ (s : Settings) (k : ℕ) (r : Moved s) (b : ℕ) where
             own : Outcome
             own = outcome s b (imageAt s k row) msg block old out
 
-            moved : (length (own .image) ≡ imageSize s) × Goes s g (brickView s (view k r) b (own .image) (repliedWith (own .given) (own .out)))
+            moved : (length (own .image) ≡ imageSize s) × Goes s g h (brickView s (view k r) b (own .image) (repliedWith (own .given) (own .out)))
             moved = message-received s g h (view k r) i b msg block old (in-items k (r .world .sent) (message b msg block old) was (eq-eqb (msg .stripe) k e))
 
             -- the outcome at the stripe's number in the row
@@ -159,12 +160,12 @@ module _ (s : Settings) (k : ℕ) (r : Moved s) (b : ℕ) where
             at j = outcome s b (imageAt s j row) msg block old out
 
             dec : (a : Bool) → eqb number passed ≡ a
-                → Goes s g
+                → Goes s g h
                 (view k (joined s r (received s (r .world) b (cond a (inRow s (msg .stripe) row (outcome s b (imageAt s (msg .stripe) row) msg block old out)) (refusedWith number row out)))))
             dec true q =
                 let f = fronted s (s .stripes) b (length row) msg (beside block old out) number refl (eqb-true number passed q) in
                 let low : k < s .stripes = subst (λ (j : ℕ). j < s .stripes) e (f .stripe-low) in
-                subst (Goes s g)
+                subst (Goes s g h)
                 (sym
                 (view-received (inRow s (msg .stripe) row (at (msg .stripe))) (own .image) (repliedWith (own .given) (own .out))
                 (ap (λ (j : ℕ). imageAt s k (withImage s j (at j .image) row)) e ∙ image-here s k (own .image) row (moved .0) (f .lent-is) low)
@@ -174,10 +175,10 @@ module _ (s : Settings) (k : ℕ) (r : Moved s) (b : ℕ) where
                 (moved .1)
             dec false q = stays-so (refusedWith number row out) refl refl
 
-        on : (a : Bool) → eqb (msg .stripe) k ≡ a → Goes s g (view k (joined s r (received s (r .world) b o)))
+        on : (a : Bool) → eqb (msg .stripe) k ≡ a → Goes s g h (view k (joined s r (received s (r .world) b o)))
         on true e = here (eqb-true (msg .stripe) k e)
         on false e = elsewhere (eqb-false (msg .stripe) k e)
 
-        up : (a : Bool) → Goes s g (view k (joined s r (cond a (received s (r .world) b o) (unmoved s (r .world)))))
+        up : (a : Bool) → Goes s g h (view k (joined s r (cond a (received s (r .world) b o) (unmoved s (r .world)))))
         up true = on (eqb (msg .stripe) k) refl
         up false = goes-unmoved s g k h r i

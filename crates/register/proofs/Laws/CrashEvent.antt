@@ -79,7 +79,7 @@ crash-turned s g h sent c k v i left = busy (eqb (k .state .op .kind) idleKind) 
         let w = i .runs n in
         ends s g h sent c k i v cut (k .stripe) [] cutSeen noBricks (w .own)
         (record { known = known-begun w; running = w .unended; answer = tt }) (unfold ending seenOf shows endingOf in refl)
-        (λ z m. absurd (unfold broadcasts in List·Memᴰ·not-nil m)) (λ b msg block old m. absurd (unfold broadcasts in List·Memᴰ·not-nil m))
+        (λ z m. absurd (unfold broadcasts in List·Memᴰ·not-nil m)) (λ b msg block old m _. unfold broadcasts in List·Memᴰ·not-nil m)
 
     busy : (a : Bool) → eqb (k .state .op .kind) idleKind ≡ a
         → TurnedRound s g h sent c

@@ -7,11 +7,11 @@ use Prim.Native.Nat.{ℕ, _+_, _≤_, _<_}
 use native.Mathlib.Omega.{arith}
 use lib.Dec.{T, leb}
 use borrow.Author.Tests.{ltb-true}
-use Rattle.message.specs.Kinds.{readKind, orderKind, orderReadKind, writeKind, modifyKind, firstRound, thirdRound}
+use Rattle.message.specs.Kinds.{readKind, orderKind, orderReadKind, writeKind, modifyKind, trimKind, firstRound, thirdRound}
 use Rattle.settings.specs.Ranges.{quorum}
 use Rattle.settings.specs.Ranges.{SettingsRange}
 use Rattle.byte_lists.proofs.Laws.BoolLaws.{and-right}
-use Rattle.settings.specs.Times.{noUpperEnd, validTime, timeOf, coordinatorOf}
+use Rattle.settings.specs.Times.{noUpperEnd, validTime, timeOf}
 use Rattle.settings.specs.declared.Settings.{Settings}
 use Rattle.message.specs.Flags.{member, members}
 use Rattle.message.specs.declared.Message.{Message}
@@ -22,7 +22,7 @@ use Rattle.byte_lists.proofs.Laws.EachLaws.{some-at}
 use Rattle.coord_record.specs.Records.{noBricks, idleKind, readingKind, writingKind, writingBlockKind, isReading, onBlock}
 use Rattle.coord_record.specs.SoundParts.{SoundParts}
 use Rattle.coord_tally.specs.Counting.{saidNo}
-use Rattle.coord_apply.specs.Acts.{roundMessage, trimMessage, nextOp, opened, nextRound, ending, finishedSeen}
+use Rattle.coord_apply.specs.Acts.{roundMessage, clearMessage, clearing, nextOp, opened, nextRound, ending, finishedSeen}
 use Rattle.coord_apply.specs.Answers.{Buffered, Broadcast, readSeen, abortedSeen}
 use Rattle.order.specs.Claim.{write, ok, changed, Ending, Seen, _∈_}
 use Rattle.order.specs.Facts.{Source, itself, End, written, recovered, aborted, Fact, began, promised, launched, stored, ended, shows, endingOf}
@@ -30,12 +30,12 @@ use Rattle.order.specs.Places.{whole, above, In}
 use Rattle.order.proofs.Laws.PlaceLaws.{in-above, in-top}
 use Rattle.order.specs.Quorums.{Many}
 use Rattle.order.specs.Valid.{Began, Val, sets, OkLaunched, Valid}
-use Rattle.order.proofs.Laws.FactLaws.{committed-up}
+use Rattle.order.proofs.Laws.FactLaws.{ok-at, committed-up}
 use Rattle.register.specs.Runs.{plain, Item, message, reply, begunKind, seenOf, blockFor, oldFor, broadcasts}
 use Rattle.register.proofs.Laws.BegunLaws.{read-keeps, read-gives, write-says, same-begun, known-begun, writes-begun}
 use Rattle.register.proofs.Laws.Invariant.{quorums, Hist, Piece, MessageInv, ReplyInv, ItemInv, Running, CoordinatorInv}
 use Rattle.register.proofs.Laws.UpLaws.{in-cons}
-use Rattle.register.proofs.Laws.TurnLaws.{time-of, turns-launched, in-broadcast, TurnedRound}
+use Rattle.register.proofs.Laws.TurnLaws.{kind-of, turns-launched, in-broadcast, TurnedRound}
 use Rattle.register.proofs.Laws.RoundLaws.{ends, opens}
 use Rattle.coord_laws.proofs.Laws.OpCaseLaws.{Fit, fit}
 use Rattle.coord_laws.proofs.Laws.SentMessageLaws.{time-valid}
@@ -102,7 +102,7 @@ module _ (s : Settings) (g : SettingsRange s) (h : Hist s) (sent : List Item) (c
   does-abort =
       ends s g h sent c k i v aborted (k .stripe) [] abortedSeen noBricks (now .own)
       (record { known = known-begun now; running = now .unended; answer = tt }) (unfold ending seenOf shows endingOf in refl)
-      (λ z m. absurd (unfold broadcasts in List·Memᴰ·not-nil m)) (λ b msg block old m. absurd (unfold broadcasts in List·Memᴰ·not-nil m))
+      (λ z m. absurd (unfold broadcasts in List·Memᴰ·not-nil m)) (λ b msg block old m _. unfold broadcasts in List·Memᴰ·not-nil m)
 
   -- a Write round is sent
   pub launches : (source : Source) (bricks stripe : List ℕ) → OkLaunched (quorums s g) h (k .state .op .time) source
@@ -151,6 +151,7 @@ module _ (s : Settings) (g : SettingsRange s) (h : Hist s) (sent : List Item) (c
             stores = λ e. ((source, in-top), record { full = stripe; value = value; proper = proper; coded = refl });
             modifies = λ e. absurd (omega (arith, e));
             trims = λ e. absurd (omega (arith, e));
+            drops = λ e. absurd (omega (arith, e));
           })
 
   -- the Write round of a write
@@ -194,7 +195,7 @@ module _ (s : Settings) (g : SettingsRange s) (h : Hist s) (sent : List Item) (c
           said (inr p) = reply-at b m .modifies (said-yes yeses b m) (now .counts b m .kind-is ∙ p)
 
   abbrev trimming : Broadcast
-  trimming = record { message = trimMessage (k .state .op); blocks = []; old = [] }
+  trimming = clearing trimKind (k .state .op) (k .state .op .time)
 
   trims : Many (s .n) (quorum (s .n) (s .m)) (λ b. In (stored b (k .state .op .time)) h) → (e : End (plain s)) (z : Item)
       → z ∈ broadcasts s (trimming ∷ []) → ItemInv s g (ended (k .state .op .time) e ∷ h) (sent ++ broadcasts s (trimming ∷ [])) z
@@ -203,22 +204,23 @@ module _ (s : Settings) (g : SettingsRange s) (h : Hist s) (sent : List Item) (c
       subst (ItemInv s g (ended (k .state .op .time) e ∷ h) (sent ++ broadcasts s (trimming ∷ []))) (sym (w .2)) (one (w .0) (w .1))
     where
       one : (b : ℕ) → b < s .n
-          → MessageInv s g (ended (k .state .op .time) e ∷ h) b (trimMessage (k .state .op)) (blockFor s trimming b) (oldFor s trimming)
+          → MessageInv s g (ended (k .state .op .time) e ∷ h) b (trimming .message) (blockFor s trimming b) (oldFor s trimming)
       one b l =
-          unfold trimMessage in
+          unfold clearing clearMessage in
           (record {
             brick-low = l;
             asks = λ q. absurd (omega (arith, q));
             stores = λ q. absurd (omega (arith, q));
             modifies = λ q. absurd (omega (arith, q));
-            trims = λ q. committed-up (quorums s g) (above whole) (inr many);
+            trims = λ q. (ok-at (known-begun now .1 .1) v .positive, committed-up (quorums s g) (above whole) (inr many));
+            drops = λ q. absurd (omega (arith, q));
           })
 
-  owns : (b : ℕ) (msg : Message) (block old : List ℕ) → message b msg block old ∈ broadcasts s (trimming ∷ []) → coordinatorOf (msg .time) ≡ c
-  owns b msg block old m =
+  no-look : (b : ℕ) (msg : Message) (block old : List ℕ) → message b msg block old ∈ broadcasts s (trimming ∷ []) → msg .kind ≡ orderReadKind → ⊥
+  no-look b msg block old m q =
       let w = in-broadcast s trimming (message b msg block old) m in
-      let e : msg .time ≡ k .state .op .time = unfold time-of trimMessage in ap time-of (w .2) in
-      ap coordinatorOf e ∙ now .own
+      let e : msg .kind ≡ trimKind = unfold kind-of clearing clearMessage in ap kind-of (w .2) in
+      omega (arith, e, q)
 
   -- the Write or Modify round is finished: a write is ok, a read gives its stripe or its block
   pub does-finish : (k .state .op .phase ≡ writeKind) ⊎ ((k .state .op .phase ≡ modifyKind) × (isReading (k .state .op .kind) ≡ false))
@@ -253,7 +255,7 @@ module _ (s : Settings) (g : SettingsRange s) (h : Hist s) (sent : List Item) (c
           })
           (unfold ending seenOf shows endingOf finishedSeen in
           rw q (ap (λ (a : plain s .Given). Seen.ended (k .state .op .time) (Ending.finished a) ∷ []) (read-gives s k q readSeen _ (k .state .bricks) (k .stripe))))
-          (trims many (recovered gave)) owns
+          (trims many (recovered gave)) no-look
 
       go : (a : Bool) → isReading (k .state .op .kind) ≡ a
           → (k .state .op .phase ≡ writeKind) ⊎ ((k .state .op .phase ≡ modifyKind) × (isReading (k .state .op .kind) ≡ false))
@@ -268,4 +270,4 @@ module _ (s : Settings) (g : SettingsRange s) (h : Hist s) (sent : List Item) (c
             answer = (inr many, record { kind = begunKind s k; asked = now .begun; blind = λ z. write-says s k q z });
           })
           (unfold ending seenOf shows endingOf finishedSeen in rw q refl)
-          (trims many (written ok)) owns
+          (trims many (written ok)) no-look

@@ -6,7 +6,7 @@ use Prim.Native.Nat.{ℕ, zero, suc, _*_, _≤_}
 use native.Mathlib.Omega.{arith}
 use lib.Dec.{leb, ltb, eqb}
 use lib.ListN.{length, take}
-use borrow.Author.Tests.{eqb-true, eq-eqb}
+use borrow.Author.Tests.{eqb-true, eq-eqb, ne-eqb}
 use Rattle.settings.specs.Ranges.{quorum}
 use Rattle.settings.specs.Times.{drawOf}
 use Rattle.settings.specs.declared.Clock.{Clock}
@@ -14,7 +14,7 @@ use Rattle.settings.specs.declared.Draw.{Draw}
 use Rattle.settings.specs.declared.Draw.the-variants.{Drawn, Refused}
 use Rattle.settings.specs.declared.Settings.{Settings}
 use Rattle.message.specs.Flags.{members}
-use Rattle.message.specs.Kinds.{writeKind, modifyKind}
+use Rattle.message.specs.Kinds.{orderReadKind, writeKind, modifyKind, trimKind, dropKind}
 use Rattle.message.specs.Messages.{namesBlock}
 use Rattle.message.specs.declared.Reply.{Reply}
 use Rattle.coord_record.specs.Records.{idleKind, noBricks}
@@ -22,7 +22,9 @@ use Rattle.coord_decide.specs.Deciding.{decided}
 use Rattle.coord_decide.specs.declared.Decision.{Decision}
 use Rattle.coord_decide.specs.declared.Decision.the-variants.{Abort, Give, Look, Store, Modify, Recover, Finish}
 use Rattle.coord_apply.proofs.Laws.ActLaws.{recover-either}
-use Rattle.coord_apply.specs.Acts.{buffered, roundMessage, trimMessage, nextOp, opened, nextRound, modifying, ending, acted, counting, waitingOr, firstOp}
+use Rattle.coord_apply.proofs.Laws.FirstLaws.{drops-either, trims-either}
+use Rattle.coord_apply.specs.Acts.{buffered, roundMessage, clearMessage, clearing, dropsFirst, trimsFirst, sendingFirst, nextOp, opened, nextRound}
+use Rattle.coord_apply.specs.Acts.{modifying, ending, acted, counting, waitingOr, firstOp}
 use Rattle.coord_apply.specs.Acts.{starting}
 use Rattle.coord_apply.specs.Answers.{Buffered, Broadcast, Went, Step, refused, went, afterChecks, nothingSeen, cutSeen, mostBroadcasts, sentCount, sentMessage, sentBlocks, answerOf}
 use Rattle.coord_apply.specs.Answers.{blocksAfter, stripeAfter, codedAfter, returned, returnedBy}
@@ -32,7 +34,7 @@ use Rattle.coord_record.specs.declared.Coordinator.{Coordinator}
 use Rattle.coord_record.specs.declared.Op.{Op}
 use Rattle.coordinator.specs.Routines.{takeStep, crashStep, crashed, drawnThen, writeStep, readStep, writeBlockStep, readBlockStep}
 use Rattle.order.specs.Claim.{Seen}
-use Rattle.register.specs.Runs.{plain, Item, message, World, untouched, lost, Moved, unmoved, putAt, onStripe, seenOf, blockFor, oldFor, toAll, broadcasts}
+use Rattle.register.specs.Runs.{plain, Item, World, untouched, lost, Moved, unmoved, putAt, onStripe, seenOf, blockFor, oldFor, toAll, broadcasts}
 use Rattle.register.specs.Runs.{coordinated, buffersFit, leaving, leftBy}
 use Rattle.register.specs.Driver.{withBlocks, listed, driven, InBuffers, AtMostTwo, none, one, two, Short, refuses, sends}
 
@@ -169,21 +171,56 @@ unfolding starting roundMessage
 started-short size h clock op stripe targets n = one _ (no-modify size _ _ n)
 
 module _ (n m size : ℕ) (k : Buffered) where
+  -- one round is sent, and it is no Modify
+  record OneRound (w : Went) : Type 0 where
+    round : Broadcast
+    is : w .sent ≡ round ∷ []
+    fits : InBuffers size (w .next) round
+
   round-short : (phase max : ℕ) (bricks stripe coded : List ℕ) → (phase ≡ modifyKind → ⊥)
       → AtMostTwo size (nextRound k phase max bricks stripe coded .next) (nextRound k phase max bricks stripe coded .sent)
   unfolding nextRound roundMessage nextOp
   round-short phase max bricks stripe coded n = one _ (no-modify size _ _ n)
 
+  one-round : (phase max : ℕ) (bricks stripe coded : List ℕ) → (phase ≡ modifyKind → ⊥) → OneRound (nextRound k phase max bricks stripe coded)
+  unfolding nextRound roundMessage nextOp
+  one-round phase max bricks stripe coded n = record { round = _; is = refl; fits = no-modify size _ _ n }
+
+  -- what has no reply goes ahead of a round: two at most
+  clear-short : (kind time : ℕ) (w : Went) → (kind ≡ modifyKind → ⊥) → (kind ≡ writeKind → ⊥) → OneRound w
+      → AtMostTwo size (w .next) (clearing kind (k .state .op) time ∷ w .sent)
+  unfolding clearing clearMessage
+  clear-short kind time w n e o =
+      subst (λ (l : List Broadcast). AtMostTwo size (w .next) (clearing kind (k .state .op) time ∷ l)) (sym (o .is))
+      (two (clearing kind (k .state .op) time) (o .round) (no-modify size (w .next) (clearing kind (k .state .op) time) n) (o .fits) (ne-eqb kind writeKind e))
+
+  alone : (w : Went) → OneRound w → AtMostTwo size (w .next) (w .sent)
+  alone w o = subst (AtMostTwo size (w .next)) (sym (o .is)) (one _ (o .fits))
+
+  drops-short : (max : ℕ) (w : Went) → OneRound w
+      → AtMostTwo size (sendingFirst (dropsFirst (k .state .op) max) w .next) (sendingFirst (dropsFirst (k .state .op) max) w .sent)
+  unfolding sendingFirst
+  drops-short max w o =
+      drops-either (k .state .op) max (λ (first : List Broadcast). AtMostTwo size (w .next) (first ++ w .sent)) (λ _. alone w o)
+      (λ _. clear-short dropKind max w (λ e. omega (arith, e)) (λ e. omega (arith, e)) o)
+
+  trims-short : (time : ℕ) (w : Went) → OneRound w
+      → AtMostTwo size (sendingFirst (trimsFirst n m (k .state .op) (k .state .tally) time) w .next) (sendingFirst (trimsFirst n m (k .state .op) (k .state .tally) time) w .sent)
+  unfolding sendingFirst
+  trims-short time w o =
+      trims-either n m (k .state .op) (k .state .tally) time (λ (first : List Broadcast). AtMostTwo size (w .next) (first ++ w .sent)) (λ _. alone w o)
+      (λ _. clear-short trimKind time w (λ e. omega (arith, e)) (λ e. omega (arith, e)) o)
+
   acted-short : (d : Decision) → AtMostTwo size (acted n m size k d .next) (acted n m size k d .sent)
-  unfolding acted ending modifying roundMessage nextOp opened namesBlock trimMessage
+  unfolding acted ending modifying roundMessage nextOp opened namesBlock clearing clearMessage
   acted-short Abort = none
   acted-short Give = none
-  acted-short (Look max) = round-short _ _ _ _ _ (λ e. omega (arith, e))
+  acted-short (Look max) = drops-short max (nextRound k orderReadKind max noBricks (k .stripe) []) (one-round _ _ _ _ _ (λ e. omega (arith, e)))
   acted-short Store = round-short _ _ _ _ _ (λ e. omega (arith, e))
   acted-short (Modify time) = one _ (record { new-is = λ e. refl; old-is = λ e. refl })
   acted-short (Recover t) =
-      recover-either n m size k t (λ (w : Went). AtMostTwo size (w .next) (w .sent)) (round-short _ _ _ _ _ (λ e. omega (arith, e))) none
-  acted-short Finish = one _ (no-modify size _ (record { message = trimMessage (k .state .op); blocks = []; old = [] }) (λ e. omega (arith, e)))
+      recover-either n m size k t (λ (w : Went). AtMostTwo size (w .next) (w .sent)) (trims-short t _ (one-round _ _ _ _ _ (λ e. omega (arith, e)))) none
+  acted-short Finish = one _ (no-modify size _ (clearing trimKind (k .state .op) (k .state .op .time)) (λ e. omega (arith, e)))
 
   waiting-short : AtMostTwo size (waitingOr n m size k .next) (waitingOr n m size k .sent)
   unfolding waitingOr

@@ -26,7 +26,7 @@ use Rattle.coord_letters.specs.Letters.{noLetter, letterF, letterH, letterL, le
 use Rattle.coord_decide.specs.Deciding.{decided}
 use Rattle.coord_decide.specs.declared.Decision.{Decision}
 use Rattle.coord_decide.specs.declared.Decision.the-variants.{Abort, Give, Look, Store, Modify, Recover, Finish}
-use Rattle.coord_apply.specs.Acts.{acted, ending, nextRound, modifying, finishedSeen, counting, waitingOr, starting}
+use Rattle.coord_apply.specs.Acts.{acted, ending, sendingFirst, nextRound, modifying, finishedSeen, counting, waitingOr, starting}
 use Rattle.coord_apply.specs.Answers.{Buffered, Went, Step, refused, went, nothingSeen, okSeen, readSeen, abortedSeen, cutSeen, letterOf}
 use Rattle.coord_apply.specs.declared.Notice.{Notice}
 use Rattle.coord_apply.proofs.Laws.ActLaws.{recover-either}
@@ -136,7 +136,7 @@ module _ (n m size : ℕ) (h : Buffered) where
       go false = omega arith
 
   acted-lettered : (d : Decision) → Lettered (acted n m size h d .seen)
-  unfolding acted nextRound modifying
+  unfolding acted sendingFirst nextRound modifying
   acted-lettered Abort = ending-lettered _ _ abortedSeen noBricks (omega arith)
   acted-lettered Give = ending-lettered _ _ readSeen _ (omega arith)
   acted-lettered (Look max) = nothing-lettered

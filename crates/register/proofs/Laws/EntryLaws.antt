@@ -35,10 +35,10 @@ module _ (s : Settings) (e : inRange s ≡ true) (events : List Event) (stripe :
         let q : Opens (w .state) ≡ Opens x = sym (ap (parse s b) (w .saved) ∙ parse-image s b (w .state) e l (w .sound)) ∙ o in
         cc
 
-    sound : Sound s x
+    pub sound : Sound s x
     sound = subst (Sound s) same (i .bricks b l .sound)
 
-    keeps : BrickInv s (range-of s e) h b x
+    pub keeps : BrickInv s (range-of s e) h b x
     keeps = subst (BrickInv s (range-of s e) h b) same (i .bricks b l .keeps)
 
 pub entries-mean-one-stripe : EntriesMeanOneStripe

@@ -91,6 +91,7 @@ module _ (s : Settings) (g : SettingsRange s) where
             let z : j ≡ 0 = omega (arith, k, fresh-count s) in
             carried (ap (timeAt (freshBrick s)) z ∙ fresh-time s) (ap (meansAt (freshBrick s)) z ∙ fresh-means s) (inl refl, fresh-zero b l);
         kept = λ u w. keep u w;
+        kept-zero = inl (0, omega (arith, fresh-count s), fresh-time s);
       }
     where
       keep : (u : ℕ) → Stands {P = plain s} [] b u → LogHas (freshBrick s) u ⊎ Gone (quorums s g) {P = plain s} [] u
@@ -115,4 +116,5 @@ module _ (s : Settings) (g : SettingsRange s) where
         bricks = λ b l. record { state = freshBrick s; saved = fresh-row-at s g b k low; sound = fresh-sound s (in-range s g); keeps = fresh-brick b l };
         items = λ i m. absurd (List·Memᴰ·not-nil m);
         coordinators = fresh-coordinator k;
+        told = λ b t m. absurd (in-none m);
       }

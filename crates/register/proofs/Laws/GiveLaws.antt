@@ -21,7 +21,8 @@ use Rattle.byte_lists.specs.Each.{some}
 use Rattle.byte_lists.proofs.Laws.EachLaws.{some-at}
 use Rattle.coord_record.specs.CountedRules.{stepsAbove, isTarget, blockRight}
 use Rattle.coord_tally.specs.Counting.{saidNo, highest, otherTime, missing, targetRow}
-use Rattle.coord_apply.specs.Acts.{stripeFrom, givenStripe, noticeOf, ending}
+use Rattle.coord_blocks.specs.Blocks.{stripeFrom, givenStripe}
+use Rattle.coord_apply.specs.Acts.{noticeOf, ending}
 use Rattle.coord_apply.specs.Answers.{Buffered, readSeen, letterOf}
 use Rattle.order.specs.Claim.{Result, given, Ending, Seen, _∈_}
 use Rattle.order.specs.Facts.{one-round, showed, shows, endingOf}
@@ -207,7 +208,7 @@ module _ (s : Settings) (g : SettingsRange s) (h : Hist s) (sent : List Item) (c
           );
         })
         (unfold ending seenOf shows endingOf in ap (λ (a : plain s .Given). Seen.ended (k .state .op .time) (Ending.finished a) ∷ []) (d .2))
-        (λ z m. absurd (unfold broadcasts in List·Memᴰ·not-nil m)) (λ b msg block old m. absurd (unfold broadcasts in List·Memᴰ·not-nil m))
+        (λ z m. absurd (unfold broadcasts in List·Memᴰ·not-nil m)) (λ b msg block old m _. unfold broadcasts in List·Memᴰ·not-nil m)
       where
         d : Shows
         d = go (read-cases (k .state .op .kind) e)

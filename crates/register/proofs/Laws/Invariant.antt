@@ -12,7 +12,8 @@ use Rattle.settings.proofs.Laws.QuorumLaws.{quorum-twice}
 use Rattle.settings.specs.Times.{timeOf, coordinatorOf}
 use Rattle.settings.specs.declared.Settings.{Settings}
 use Rattle.message.specs.Flags.{member}
-use Rattle.message.specs.Kinds.{readKind, orderKind, orderReadKind, orderBlockKind, writeKind, modifyKind, trimKind, thirdRound}
+use Rattle.message.specs.Kinds.{readKind, orderKind, orderReadKind, orderBlockKind, writeKind, modifyKind, trimKind, dropKind, thirdRound}
+use Rattle.message.specs.Messages.{storesEntry}
 use Rattle.message.specs.declared.Message.{Message}
 use Rattle.message.specs.declared.Reply.{Reply}
 use Rattle.image.specs.Brick.{Brick, entryCount, timeAt, meansAt, Sound}
@@ -25,9 +26,9 @@ use Rattle.coord_laws.specs.Soundness.{Sized}
 use Rattle.volume.specs.Rows.{imageAt}
 use Rattle.order.specs.Claim.{Plain, Seen, _∈_}
 use Rattle.order.specs.Facts.{began, promised, stored, showed, History, seen}
-use Rattle.order.specs.Places.{In}
+use Rattle.order.specs.Places.{Suf, In}
 use Rattle.order.specs.Quorums.{Quorums}
-use Rattle.order.specs.Valid.{Began, Launched, Ended, PromisedUpTo, Val, Committed, Gone, Valid}
+use Rattle.order.specs.Valid.{Began, Launched, Ended, PromisedUpTo, Val, Committed, Passed, Gone, Valid}
 use Rattle.register.specs.Runs.{plain, Item, message, reply, Moved, begunKind}
 
 -- The quorums of a setting.
@@ -67,6 +68,8 @@ pub record BrickInv (s : Settings) (g : SettingsRange s) (h : Hist s) (b : ℕ) 
   pub entries : (j : ℕ) → j < entryCount x → Stands h b (timeAt x j) × Means s h (timeAt x j) b (meansAt x j)
   -- what it stored is at some place of its log, or gone
   pub kept : (u : ℕ) → Stands h b u → LogHas x u ⊎ Gone (quorums s g) h u
+  -- the fresh entry is there until a later time is committed
+  pub kept-zero : LogHas x 0 ⊎ Passed (quorums s g) h 0
 
 -- a block that block j of a stripe may become
 pub record Piece (s : Settings) (j : ℕ) (block : List ℕ) : Type 0 where
@@ -90,7 +93,8 @@ pub record MessageInv (s : Settings) (g : SettingsRange s) (h : Hist s) (b : ℕ
   pub asks : msg .kind ≤ orderBlockKind → Began h (msg .time)
   pub stores : msg .kind ≡ writeKind → Launched h (msg .time) × Means s h (msg .time) b block
   pub modifies : msg .kind ≡ modifyKind → Modifies s h msg block old
-  pub trims : msg .kind ≡ trimKind → Committed (quorums s g) h (msg .time)
+  pub trims : msg .kind ≡ trimKind → (0 < msg .time) × Committed (quorums s g) h (msg .time)
+  pub drops : msg .kind ≡ dropKind → (0 < msg .time) × Gone (quorums s g) h (msg .time)
 
 -- What a yes to Order-and-read says of all that the brick stored: for the max of some such message of that time and round that was sent.
 pub record Looked (s : Settings) (g : SettingsRange s) (h : Hist s) (sent : List Item) (r : Reply) : Type 0 where
@@ -217,6 +221,16 @@ pub record View (s : Settings) : Type 0 where
   pub sent : List Item
   pub seen : List (Seen (plain s))
 
+-- Brick b said yes to a Write or Modify of time t: its reply stands among what was sent.
+pub record ToldStored (sent : List Item) (b t : ℕ) : Type 0 where
+  pub from : Reply
+  pub block : List ℕ
+  pub was-sent : reply from block ∈ sent
+  pub brick-is : from .brick ≡ b
+  pub time-is : from .time ≡ t
+  pub yes-is : from .yes ≡ true
+  pub kind-is : storesEntry (from .kind) ≡ true
+
 -- What holds of a view, with the history of the stripe so far.
 pub record ViewInv (s : Settings) (g : SettingsRange s) (h : Hist s) (v : View s) : Type 0 where
   pub valid : Valid (quorums s g) h
@@ -224,10 +238,11 @@ pub record ViewInv (s : Settings) (g : SettingsRange s) (h : Hist s) (v : View s
   pub bricks : (b : ℕ) → b < s .n → ImageInv s g h b (v .images b)
   pub items : (i : Item) → i ∈ v .sent → ItemInv s g h (v .sent) i
   pub coordinators : (c : ℕ) → CoordinatorInv s g h (v .sent) c (v .coordinators c)
+  pub told : (b t : ℕ) → In (stored b t) h → ToldStored (v .sent) b t
 
--- the same after some event, with a longer history
-abbrev pub Goes : (s : Settings) (g : SettingsRange s) → View s → Type 0
-Goes s g v = (h : Hist s) × ViewInv s g h v
+-- the same after some event, with a history that goes on from this one
+abbrev pub Goes : (s : Settings) (g : SettingsRange s) → Hist s → View s → Type 0
+Goes s g h v = (h′ : Hist s) × Suf h h′ × ViewInv s g h′ v
 
 -- an item of this stripe
 unfoldable pub itemOn : ℕ → Item → Bool

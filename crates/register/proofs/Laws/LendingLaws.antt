@@ -12,7 +12,8 @@ use Rattle.settings.proofs.Laws.RefusalLaws.{passed-rest}
 use Rattle.settings.specs.Refusal.{passed}
 use Rattle.settings.specs.Times.{lastCoordinator}
 use Rattle.settings.specs.declared.Settings.{Settings}
-use Rattle.message.specs.Kinds.{writeKind, modifyKind, readKind, trimKind}
+use Rattle.message.specs.Kinds.{writeKind, modifyKind, readKind, trimKind, dropKind}
+use Rattle.message.specs.Messages.{isSilent}
 use Rattle.message.specs.declared.Message.{Message}
 use Rattle.message.specs.declared.Reply.{Reply}
 use Rattle.image.specs.Brick.{Brick}
@@ -22,7 +23,7 @@ use Rattle.brick.specs.Receive
 use Rattle.brick.specs.Receive.{Outcome, beside, outcome, receiveRefusal, refusedWith, givenBy}
 use Rattle.brick.specs.declared.Given.the-variants.{Answered, Silent}
 use Rattle.volume.specs.Rows.{imageAt, withImage, inRow, rowRefusal, rowOutcome}
-use Rattle.brick_log.specs.BrickRules.{placeFor, replyTo, trimmedTo, writtenIfYes, modifiedIfYes, orderedIfYes, brickAfter, blockAfter}
+use Rattle.brick_log.specs.BrickRules.{placeFor, replyTo, trimmedTo, droppedFrom, writtenIfYes, modifiedIfYes, orderedIfYes, brickAfter, blockAfter}
 use Rattle.coord_record.specs.Records.{idleKind, noBricks, geometryOf, idleWith}
 use Rattle.coord_record.specs.declared.Geometry.{Geometry}
 use Rattle.coord_record.proofs.Laws.SoundPartLaws.{sound-parts}
@@ -54,18 +55,19 @@ module _ (s : Settings) (b : ℕ) (msg : Message) (block block′ old old′ : L
   -- a brick keeps the block of a Write and what Modify makes of both, alone
   brick-same : (x : Brick) → brickAfter s b x msg block old ≡ brickAfter s b x msg block′ old′
   unfolding brickAfter
-  brick-same x = go (eqb (msg .kind) trimKind) (eqb (msg .kind) writeKind) (eqb (msg .kind) modifyKind) refl refl
+  brick-same x = go (eqb (msg .kind) trimKind) (eqb (msg .kind) dropKind) (eqb (msg .kind) writeKind) (eqb (msg .kind) modifyKind) refl refl
     where
       rest : Brick
       rest = cond (eqb (msg .kind) readKind) x (orderedIfYes x (msg .time))
 
-      go : (a c d : Bool) → eqb (msg .kind) writeKind ≡ c → eqb (msg .kind) modifyKind ≡ d
-          → cond a (trimmedTo x (msg .time)) (cond c (writtenIfYes s x (msg .time) block) (cond d (modifiedIfYes s b x msg block old) rest))
-          ≡ cond a (trimmedTo x (msg .time)) (cond c (writtenIfYes s x (msg .time) block′) (cond d (modifiedIfYes s b x msg block′ old′) rest))
-      go true c d ec ed = refl
-      go false true d ec ed = ap (writtenIfYes s x (msg .time)) (write (eqb-true (msg .kind) writeKind ec))
-      go false false true ec ed = let q = modify (eqb-true (msg .kind) modifyKind ed) in ap₂ (modifiedIfYes s b x msg) (q .0) (q .1)
-      go false false false ec ed = refl
+      go : (a f c d : Bool) → eqb (msg .kind) writeKind ≡ c → eqb (msg .kind) modifyKind ≡ d
+          → cond a (trimmedTo x (msg .time)) (cond f (droppedFrom x (msg .time)) (cond c (writtenIfYes s x (msg .time) block) (cond d (modifiedIfYes s b x msg block old) rest)))
+          ≡ cond a (trimmedTo x (msg .time)) (cond f (droppedFrom x (msg .time)) (cond c (writtenIfYes s x (msg .time) block′) (cond d (modifiedIfYes s b x msg block′ old′) rest)))
+      go true f c d ec ed = refl
+      go false true c d ec ed = refl
+      go false false true d ec ed = ap (writtenIfYes s x (msg .time)) (write (eqb-true (msg .kind) writeKind ec))
+      go false false false true ec ed = let q = modify (eqb-true (msg .kind) modifyKind ed) in ap₂ (modifiedIfYes s b x msg) (q .0) (q .1)
+      go false false false false ec ed = refl
 
   opened-same : (image out out′ : List ℕ) (p : Parsed)
       → SameAnswer (Receive.accepted s b msg block old image out p) (Receive.accepted s b msg block′ old′ image out′ p)
@@ -76,7 +78,7 @@ module _ (s : Settings) (b : ℕ) (msg : Message) (block block′ old old′ : L
         given-is = refl;
         image-is = ap (imageOf s b) (brick-same x);
         block-is = λ h. unfold givenBy replyTo blockAfter in
-            held-out (eqb (msg .kind) trimKind) (eqb (placeFor b x msg) 0) (replyTo s b x msg) out out′ _ refl h;
+            held-out (isSilent (msg .kind)) (eqb (placeFor b x msg) 0) (replyTo s b x msg) out out′ _ refl h;
       }
 
   module _ (out out′ : List ℕ) (eb : length block ≡ length block′) (eold : length old ≡ length old′) (eo : length out ≡ length out′) where
@@ -147,7 +149,7 @@ unfolding Receive.accepted refusedWith repliedWith
 opened-held s b image msg block old (Refuses number) = refl
 opened-held s b image msg block old (Opens x) =
     unfold givenBy replyTo blockAfter in
-    zeros-there s (eqb (msg .kind) trimKind) (eqb (placeFor b x msg) 0) (replyTo s b x msg) _ refl
+    zeros-there s (isSilent (msg .kind)) (eqb (placeFor b x msg) 0) (replyTo s b x msg) _ refl
 
 image-held : (s : Settings) (b : ℕ) (image : List ℕ) (msg : Message) (block old : List ℕ)
     → let o = outcome s b image msg block old (replicate (s .size) 0) in

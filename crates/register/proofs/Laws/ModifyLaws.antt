@@ -211,4 +211,5 @@ module _ (s : Settings) (g : SettingsRange s) (h : Hist s) (sent : List Item) (c
               after = onto in-top (in-above (r .begun)) (val-up (above whole) (lent .value)) effect;
             };
             trims = λ e. absurd (omega (arith, e));
+            drops = λ e. absurd (omega (arith, e));
           })

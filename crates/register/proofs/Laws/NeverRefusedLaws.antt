@@ -36,9 +36,10 @@ use Rattle.coord_decide.specs.Deciding.{decided}
 use Rattle.coord_decide.specs.declared.Decision.{Decision}
 use Rattle.coord_decide.specs.declared.Decision.the-variants.{Abort, Give, Look, Store, Modify, Recover, Finish}
 use Rattle.coord_apply.proofs.Laws.ActLaws.{recover-either}
-use Rattle.coord_apply.specs.Acts.{stripeFrom, nextOp, opened, nextRound, modifying, ending, givenStripe, storedStripe, acted}
+use Rattle.coord_blocks.specs.Blocks.{stripeFrom, givenStripe, storedStripe}
+use Rattle.coord_apply.specs.Acts.{sendingFirst, nextOp, opened, nextRound, modifying, ending, acted}
 use Rattle.coord_apply.specs.Acts.{withTally, counting, waitingOr, firstOp, starting}
-use Rattle.coord_apply.proofs.Laws.OneBlockLaws.{write-within}
+use Rattle.coord_blocks.proofs.Laws.OneBlockLaws.{write-within}
 use Rattle.coord_apply.specs.Answers.{Buffered, Went, Step, refused, went, afterChecks, nothingSeen, cutSeen, answerOf}
 use Rattle.coord_refusals.specs.Checks.{recordChecks, startChecks, writeRefusal, readRefusal, writeBlockRefusal, readBlockRefusal, crashRefusal}
 use Rattle.coordinator.specs.Routines.{takeStep, crashed, crashStep, drawnThen, writeStep, readStep, writeBlockStep, readBlockStep}
@@ -120,7 +121,7 @@ stored-long s op stripe decoded low es ed = go (eqb (op .kind) writingBlockKind)
 
 module _ (s : Settings) (k : Buffered) (few : s .m ≤ s .n) (low : OneOfThem s (k .state .op)) (l : Long s k) where
   acted-long : (d : Decision) → Long s (acted (s .n) (s .m) (s .size) k d .next)
-  unfolding acted ending nextRound modifying
+  unfolding acted ending sendingFirst nextRound modifying
   acted-long Abort = l
   acted-long Give = (l .0, given-long s (k .state .op) (k .blocks) (k .stripe) few low (l .0) (l .1))
   acted-long (Look max) = l
@@ -154,7 +155,7 @@ counting-long s k r block coded w t = (go (r .held) refl, t .takes .stripe-lengt
 
 -- what a decision leaves where an operation ran
 acted-rests : (n m size : ℕ) (k : Buffered) → (k .state .op .kind ≡ idleKind → ⊥) → (d : Decision) → Rests (acted n m size k d .next .state)
-unfolding acted ending nextRound modifying opened nextOp idleWith
+unfolding acted ending sendingFirst nextRound modifying opened nextOp idleWith
 acted-rests n m size k h Abort = λ e. refl
 acted-rests n m size k h Give = λ e. refl
 acted-rests n m size k h (Look max) = λ e. absurd (h e)

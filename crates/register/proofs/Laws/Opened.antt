@@ -17,7 +17,7 @@ unfolding Rattle.message.specs.Flags.member Rattle.message.specs.Flags.members
     Rattle.message.specs.Flags.brickSet Rattle.message.specs.Messages.roundRight Rattle.message.specs.Messages.kindRight
     Rattle.message.specs.Messages.targetsRight Rattle.message.specs.Messages.namesBlock Rattle.message.specs.Messages.messageBlockRefusal
     Rattle.message.specs.Messages.messageRefusal Rattle.message.specs.Messages.foundRight Rattle.message.specs.Messages.replyRight
-    Rattle.message.specs.Messages.storesEntry Rattle.message.specs.Messages.compares Rattle.message.specs.Messages.comparisonRight
+    Rattle.message.specs.Messages.isSilent Rattle.message.specs.Messages.storesEntry Rattle.message.specs.Messages.compares Rattle.message.specs.Messages.comparisonRight
     Rattle.message.specs.Messages.replyRefusal
 message-open = tt
 
@@ -52,7 +52,7 @@ image-open = tt
 unfoldable pub saving-open : Unit {0}
 unfolding Rattle.image_write.specs.Saving.freshAfter Rattle.image_write.specs.Saving.withPromise Rattle.image_write.specs.Saving.appended
     Rattle.image_write.specs.Saving.blockEntry Rattle.image_write.specs.Saving.markEntry Rattle.image_write.specs.Saving.lowestHeld
-    Rattle.image_write.specs.Workers.without
+    Rattle.image_write.specs.Workers.heldIf Rattle.image_write.specs.Workers.removed
 saving-open = tt
 
 unfoldable pub brick-open : Unit {0}
@@ -65,7 +65,7 @@ unfolding Rattle.brick.specs.Receive.besideRight Rattle.brick.specs.Receive.fr
     Rattle.brick_log.specs.BrickRules.readYes Rattle.brick_log.specs.BrickRules.orderYes Rattle.brick_log.specs.BrickRules.writeYes
     Rattle.brick_log.specs.BrickRules.modifyYes Rattle.brick_log.specs.BrickRules.newestBlock Rattle.brick_log.specs.BrickRules.modifiedEntry
     Rattle.brick_log.specs.BrickRules.modifiedIfYes Rattle.brick_log.specs.BrickRules.orderedIfYes Rattle.brick_log.specs.BrickRules.writtenIfYes
-    Rattle.brick_log.specs.BrickRules.trimmed
+    Rattle.brick_log.specs.BrickRules.trimmed Rattle.brick_log.specs.BrickRules.dropped Rattle.brick_log.specs.BrickRules.droppedFrom
     Rattle.brick_log.specs.BrickRules.trimmedTo Rattle.brick_log.specs.BrickRules.under Rattle.brick_log.specs.BrickRules.lookup
     Rattle.brick_log.specs.BrickRules.placeFor Rattle.brick_log.specs.BrickRules.timeFor Rattle.brick_log.specs.BrickRules.foundFor
     Rattle.brick_log.specs.BrickRules.yesTo Rattle.brick_log.specs.BrickRules.comparisonTo Rattle.brick_log.specs.BrickRules.replyTo Rattle.brick_log.specs.BrickRules.brickAfter
@@ -133,11 +133,12 @@ coord-rounds-open = tt
 
 unfoldable pub coord-acts-open : Unit {0}
 unfolding Rattle.coord_letters.specs.Letters.readLetter Rattle.coord_letters.specs.Letters.saidOther Rattle.coord_letters.specs.Letters.abortLetter
-    Rattle.coord_apply.specs.Answers.letterOf Rattle.coord_apply.specs.Acts.agreeing Rattle.coord_apply.specs.Acts.stripeFrom Rattle.coord_apply.specs.Acts.roundMessage
-    Rattle.coord_apply.specs.Acts.trimMessage Rattle.coord_apply.specs.Acts.nextOp Rattle.coord_apply.specs.Acts.opened
+    Rattle.coord_apply.specs.Answers.letterOf Rattle.coord_blocks.specs.Blocks.agreeing Rattle.coord_blocks.specs.Blocks.stripeFrom Rattle.coord_apply.specs.Acts.roundMessage
+    Rattle.coord_apply.specs.Acts.clearMessage Rattle.coord_apply.specs.Acts.clearing Rattle.coord_apply.specs.Acts.allHold Rattle.coord_apply.specs.Acts.dropsFirst
+    Rattle.coord_apply.specs.Acts.trimsFirst Rattle.coord_apply.specs.Acts.sendingFirst Rattle.coord_apply.specs.Acts.nextOp Rattle.coord_apply.specs.Acts.opened
     Rattle.coord_apply.specs.Acts.nextRound Rattle.coord_apply.specs.Acts.ending Rattle.coord_apply.specs.Acts.finishedSeen
-    Rattle.coord_apply.specs.Acts.modifying Rattle.coord_apply.specs.Acts.seenBlock Rattle.coord_apply.specs.Acts.givenStripe
-    Rattle.coord_apply.specs.Acts.storedStripe Rattle.coord_apply.specs.Acts.namedBricks
+    Rattle.coord_apply.specs.Acts.modifying Rattle.coord_apply.specs.Acts.seenBlock Rattle.coord_blocks.specs.Blocks.givenStripe
+    Rattle.coord_blocks.specs.Blocks.storedStripe Rattle.coord_apply.specs.Acts.namedBricks
     Rattle.coord_apply.specs.Acts.acted Rattle.coord_apply.specs.Acts.withTally
     Rattle.coord_apply.specs.Acts.counting Rattle.coord_apply.specs.Acts.waitingOr Rattle.coord_apply.specs.Acts.firstOp
     Rattle.coord_apply.specs.Acts.starting Rattle.coord_apply.specs.Answers.afterChecks Rattle.coord_apply.specs.Answers.nothingSeen

@@ -10,14 +10,15 @@ use lib.Dec.{leb, eqb}
 use lib.ListN.{length}
 use borrow.Author.Tests.{leb-true, leb-false, eq-eqb, ne-eqb}
 use Rattle.byte_lists.proofs.Laws.BoolLaws.{and-left, and-right}
-use Rattle.message.specs.Kinds.{readKind, orderKind, orderReadKind, orderBlockKind, writeKind, modifyKind, trimKind}
+use Rattle.message.specs.Kinds.{readKind, orderKind, orderReadKind, orderBlockKind, writeKind, modifyKind, trimKind, dropKind}
+use Rattle.message.proofs.Laws.MessageLaws.{not-silent, silent-trim, silent-drop}
 use Rattle.settings.specs.Ranges.{SettingsRange}
 use Rattle.settings.specs.Refusal.{passed}
 use Rattle.settings.specs.Times.{validTime}
 use Rattle.settings.specs.declared.Settings.{Settings}
 use Rattle.settings.proofs.Laws.RefusalLaws.{tested}
 use Rattle.message.specs.Flags.{member}
-use Rattle.message.specs.Messages.{roundRight, kindRight, messageRefusal}
+use Rattle.message.specs.Messages.{roundRight, kindRight, messageRefusal, isSilent, storesEntry}
 use Rattle.message.specs.declared.Message.{Message}
 use Rattle.message.specs.declared.Reply.{Reply}
 use Rattle.image.specs.Brick.{Brick, LogEntry, entryCount, timeAt, meansAt, newest}
@@ -41,8 +42,8 @@ use Rattle.register.proofs.Laws.Invariant.{quorums, Hist, Means, Stands
 use Rattle.register.proofs.Laws.UpLaws.{Within, in-cons, means-up, stands-up, brick-up}
 use Rattle.image.proofs.Laws.LogPlaceLaws.{rises-to, at-most-newest}
 use Rattle.register.proofs.Laws.BrickLogLaws.{Grows, grows-not, grows-promised, grows-stored, grows-showed, carried, ok-promised, brick-promised}
-use Rattle.register.proofs.Laws.BrickLogLaws.{ok-stored, brick-stored, ok-showed, newest-there, brick-trimmed, Found, none, entry, found-under}
-use Rattle.brick_log.proofs.Laws.AnsweredLaws.{after-trim, after-read, yes-read, yes-write, yes-modify, yes-order, no-changes-nothing, write-appends}
+use Rattle.register.proofs.Laws.BrickLogLaws.{ok-stored, brick-stored, ok-showed, newest-there, brick-trimmed, brick-dropped, Found, none, entry, found-under}
+use Rattle.brick_log.proofs.Laws.AnsweredLaws.{after-trim, after-drop, after-read, yes-read, yes-write, yes-modify, yes-order, no-changes-nothing, write-appends}
 use Rattle.brick_log.proofs.Laws.AnsweredLaws.{modify-appends, order-promises, modify-written}
 use Rattle.brick.proofs.Laws.BrickLaws.{order-above}
 use Rattle.brick.proofs.Laws.BrickLaws.{modified-of-block, modified-of-data, modified-of-parity, modified-time, after-sound, message-time}
@@ -51,7 +52,7 @@ use Rattle.brick.proofs.Laws.BrickLaws.{modified-of-block, modified-of-data, mo
 pub record Sensible (msg : Message) : Type 0 where
   pub time-valid : validTime (msg .time) ≡ true
   pub kind-low : readKind ≤ msg .kind
-  pub kind-high : msg .kind ≤ trimKind
+  pub kind-high : msg .kind ≤ dropKind
 
 pub sensible : (n m : ℕ) (msg : Message) → messageRefusal n m msg ≡ passed → Sensible msg
 unfolding messageRefusal kindRight
@@ -61,14 +62,21 @@ sensible n m msg e = let w = kinds (ℕ-discrete (msg .kind) orderReadKind) (ℕ
     right : kindRight n m msg ≡ true
     right = and-right (validTime (msg .time) && roundRight (msg .round)) _ (tested _ _ e)
 
-    kinds : Dec (msg .kind ≡ orderReadKind) → Dec (msg .kind ≡ readKind) → Dec (msg .kind ≡ modifyKind) → (readKind ≤ msg .kind) × (msg .kind ≤ trimKind)
+    kinds : Dec (msg .kind ≡ orderReadKind) → Dec (msg .kind ≡ readKind) → Dec (msg .kind ≡ modifyKind) → (readKind ≤ msg .kind) × (msg .kind ≤ dropKind)
     kinds (yes a) b c = (omega arith, omega arith)
     kinds (no a) (yes b) c = (omega arith, omega arith)
     kinds (no a) (no b) (yes c) = (omega arith, omega arith)
     kinds (no a) (no b) (no c) =
-        let w : leb readKind (msg .kind) && leb (msg .kind) trimKind ≡ true =
+        let w : leb readKind (msg .kind) && leb (msg .kind) dropKind ≡ true =
         rw (ne-eqb (msg .kind) orderReadKind a, ne-eqb (msg .kind) readKind b, ne-eqb (msg .kind) modifyKind c) at right in
-        (leb-true readKind (msg .kind) (and-left _ _ w), leb-true (msg .kind) trimKind (and-right (leb readKind (msg .kind)) _ w))
+        (leb-true readKind (msg .kind) (and-left _ _ w), leb-true (msg .kind) dropKind (and-right (leb readKind (msg .kind)) _ w))
+
+-- The message is a Write or Modify of time t to brick b′, and the answer is yes.
+pub record Stores (s : Settings) (b : ℕ) (x : Brick) (msg : Message) (b′ t : ℕ) : Type 0 where
+  pub brick-is : b ≡ b′
+  pub time-is : msg .time ≡ t
+  pub kind-is : storesEntry (msg .kind) ≡ true
+  pub yes-is : yesTo s x msg ≡ true
 
 -- What a message leaves.
 pub record Received (s : Settings) (g : SettingsRange s) (h : Hist s) (sent : List Item) (b : ℕ) (x : Brick) (msg : Message) (block old out : List ℕ) : Type 0 where
@@ -76,7 +84,9 @@ pub record Received (s : Settings) (g : SettingsRange s) (h : Hist s) (sent : Li
   pub grows : Grows s g b h later
   pub sound : Sound s (brickAfter s b x msg block old)
   pub keeps : BrickInv s g later b (brickAfter s b x msg block old)
-  pub answers : (msg .kind ≡ trimKind → ⊥) → (new : List Item) → Within sent new
+  -- a store more is that of a yes to this message
+  pub stores : (b′ t : ℕ) → In (stored b′ t) later → In (stored b′ t) h ⊎ Stores s b x msg b′ t
+  pub answers : isSilent (msg .kind) ≡ false → (new : List Item) → Within sent new
       → ReplyInv s g later new (replyTo s b x msg) (blockAfter x (placeFor b x msg) out)
 
 -- replies: a no, and a yes of each kind
@@ -205,7 +215,7 @@ module _ {s : Settings} {g : SettingsRange s} {h : Hist s} (sent : List Item) {b
   sound-after = after-sound s b x msg block old r (ok .time-valid) size
 
   -- a no changes nothing
-  no-received : (msg .kind ≡ trimKind → ⊥) → yesTo s x msg ≡ false → After
+  no-received : isSilent (msg .kind) ≡ false → yesTo s x msg ≡ false → After
   unfolding replyTo
   no-received n e =
       record {
@@ -213,6 +223,7 @@ module _ {s : Settings} {g : SettingsRange s} {h : Hist s} (sent : List Item) {b
         grows = grows-not s g b h v;
         sound = sound-after;
         keeps = subst (BrickInv s g h b) (sym (no-changes-nothing s b x msg block old n e)) i;
+        stores = λ b′ t m. inl m;
         answers = λ q new w. reply-no s g h new (replyTo s b x msg) shown (z .brick-low) e;
       }
 
@@ -246,8 +257,12 @@ module _ {s : Settings} {g : SettingsRange s} {h : Hist s} (sent : List Item) {b
       later : Hist s
       later = showed b (msg .time) (newest x) ∷ h
 
+      shown-only : (b′ t : ℕ) → (_≡_ {A = Fact (plain s)} (stored b′ t) (showed b (msg .time) (newest x))) ⊎ In (stored b′ t) h → In (stored b′ t) h
+      shown-only b′ t (inl q) = let w : _≡_ {A = ℕ} 0 1 = cc in absurd (omega arith)
+      shown-only b′ t (inr m) = m
+
       go : (y : Bool) → readYes x ≡ y → After
-      go false y = no-received (λ q. omega (arith, e, q)) (yes-is ∙ y)
+      go false y = no-received (not-silent (msg .kind) (omega arith)) (yes-is ∙ y)
       go true y =
           let gr = grows-showed s g b h v (msg .time) (newest x) (ok-showed i r (msg .time) (z .asks (omega arith)) y) in
           record {
@@ -255,6 +270,7 @@ module _ {s : Settings} {g : SettingsRange s} {h : Hist s} (sent : List Item) {b
             grows = gr;
             sound = sound-after;
             keeps = subst (BrickInv s g later b) (sym (after-read s b x msg block old e)) (brick-up (gr .valid) (λ a. a) i);
+            stores = λ b′ t m. inl (shown-only b′ t (in-cons m));
             answers = λ n new w.
                 reply-read s g later new (replyTo s b x msg) shown (z .brick-low) e
                 (subst (λ (c : ℕ). In (showed b (msg .time) c) later) (sym found-is) in-top)
@@ -292,16 +308,21 @@ module _ {s : Settings} {g : SettingsRange s} {h : Hist s} (sent : List Item) {b
       yes-is : yesTo s x msg ≡ orderYes x (msg .time)
       yes-is = yes-order s x msg (λ q. omega (arith, q)) (λ q. omega (arith, q)) (λ q. omega (arith, q))
 
+      promised-only : (b′ t : ℕ) → (_≡_ {A = Fact (plain s)} (stored b′ t) (promised b (msg .time))) ⊎ In (stored b′ t) h → In (stored b′ t) h
+      promised-only b′ t (inl q) = let w : _≡_ {A = ℕ} 0 1 = cc in absurd (omega arith)
+      promised-only b′ t (inr m) = m
+
       go : (y : Bool) → orderYes x (msg .time) ≡ y → After
-      go false y = no-received (λ q. omega (arith, high, q)) (yes-is ∙ y)
+      go false y = no-received (not-silent (msg .kind) (omega arith)) (yes-is ∙ y)
       go true y =
-          let q = order-promises s b x msg block old (λ q. omega (arith, q)) (λ q. omega (arith, q)) (λ q. omega (arith, q)) (λ q. omega (arith, q)) (yes-is ∙ y) in
+          let q = order-promises s b x msg block old (not-silent (msg .kind) (omega arith)) (λ q. omega (arith, q)) (λ q. omega (arith, q)) (λ q. omega (arith, q)) (yes-is ∙ y) in
           let gr = grows-promised s g b h v (msg .time) (ok-promised i r (msg .time) (z .asks (omega arith)) y) in
           record {
             later = promising;
             grows = gr;
             sound = sound-after;
             keeps = subst (BrickInv s g promising b) (sym q) (brick-promised i r (msg .time) (gr .valid) y);
+            stores = λ b′ t m. inl (promised-only b′ t (in-cons m));
             answers = λ n new w. answer y (gr .valid) new w;
           }
 
@@ -418,18 +439,28 @@ module _ {s : Settings} {g : SettingsRange s} {h : Hist s} (sent : List Item) {b
 
   -- Write and Modify: a yes appends an entry of the message's time that means what this stands for
   store-received : (msg .kind ≡ writeKind) ⊎ (msg .kind ≡ modifyKind) → (e : LogEntry) → e .time ≡ msg .time
-      → Launched h (msg .time) → writeYes s x (msg .time) ≡ true → Means s h (msg .time) b (e .block)
+      → Launched h (msg .time) → writeYes s x (msg .time) ≡ true → yesTo s x msg ≡ true → Means s h (msg .time) b (e .block)
       → brickAfter s b x msg block old ≡ Saving.appended x e → After
   unfolding replyTo
-  store-received kind e time sent-out y means after =
+  store-received kind e time sent-out y said means after =
       record {
         later = stored b (msg .time) ∷ h;
         grows = grows-stored s g b h v (msg .time) (ok-stored i r (msg .time) sent-out y);
         sound = sound-after;
         keeps = subst (BrickInv s g (stored b (msg .time) ∷ h) b) (sym after) kept;
+        stores = λ b′ t m. one-more b′ t (in-cons m);
         answers = λ n new w. reply-store s g (stored b (msg .time) ∷ h) new (replyTo s b x msg) shown (z .brick-low) (high kind) in-top;
       }
     where
+      storing : (msg .kind ≡ writeKind) ⊎ (msg .kind ≡ modifyKind) → storesEntry (msg .kind) ≡ true
+      storing (inl q) = ap storesEntry q ∙ unfold storesEntry in refl
+      storing (inr q) = ap storesEntry q ∙ unfold storesEntry in refl
+
+      one-more : (b′ t : ℕ) → (_≡_ {A = Fact (plain s)} (stored b′ t) (stored b (msg .time))) ⊎ In (stored b′ t) h
+          → In (stored b′ t) h ⊎ Stores s b x msg b′ t
+      one-more b′ t (inl q) = inr (record { brick-is = cc; time-is = cc; kind-is = storing kind; yes-is = said })
+      one-more b′ t (inr m) = inl m
+
       high : (msg .kind ≡ writeKind) ⊎ (msg .kind ≡ modifyKind) → writeKind ≤ msg .kind
       high (inl q) = omega arith
       high (inr q) = omega arith
@@ -450,10 +481,10 @@ module _ {s : Settings} {g : SettingsRange s} {h : Hist s} (sent : List Item) {b
       yes-is = yes-write s x msg e
 
       go : (y : Bool) → writeYes s x (msg .time) ≡ y → After
-      go false y = no-received (λ q. omega (arith, e, q)) (yes-is ∙ y)
+      go false y = no-received (not-silent (msg .kind) (omega arith)) (yes-is ∙ y)
       go true y =
           let c = z .stores e in
-          store-received (inl e) (Saving.blockEntry (msg .time) block) refl (c .0) y (c .1) (write-appends s b x msg block old e (yes-is ∙ y))
+          store-received (inl e) (Saving.blockEntry (msg .time) block) refl (c .0) y (yes-is ∙ y) (c .1) (write-appends s b x msg block old e (yes-is ∙ y))
 
   -- Modify: its entry is the coded block of the stripe with the new block
   modified-means : Modifies s h msg block old → newest x ≡ msg .old → Means s h (msg .time) b (modifiedEntry s b x msg block old .block)
@@ -494,11 +525,11 @@ module _ {s : Settings} {g : SettingsRange s} {h : Hist s} (sent : List Item) {b
       yes-is = yes-modify s x msg e
 
       go : (y : Bool) → modifyYes s x (msg .time) (msg .old) ≡ y → After
-      go false y = no-received (λ q. omega (arith, e, q)) (yes-is ∙ y)
+      go false y = no-received (not-silent (msg .kind) (omega arith)) (yes-is ∙ y)
       go true y =
           let w = z .modifies e in
           let c = modify-written s x (msg .time) (msg .old) y in
-          store-received (inr e) (modifiedEntry s b x msg block old) (modified-time s b x msg block old) (w .sent) (c .1)
+          store-received (inr e) (modifiedEntry s b x msg block old) (modified-time s b x msg block old) (w .sent) (c .1) (yes-is ∙ y)
           (modified-means w (c .0)) (modify-appends s b x msg block old e (yes-is ∙ y))
 
   -- Trim
@@ -508,8 +539,22 @@ module _ {s : Settings} {g : SettingsRange s} {h : Hist s} (sent : List Item) {b
         later = h;
         grows = grows-not s g b h v;
         sound = sound-after;
-        keeps = subst (BrickInv s g h b) (sym (after-trim s b x msg block old e)) (brick-trimmed i r (msg .time) (z .trims e));
-        answers = λ n new w. absurd (n e);
+        keeps = subst (BrickInv s g h b) (sym (after-trim s b x msg block old e)) (brick-trimmed i r (msg .time) (z .trims e .1));
+        stores = λ b′ t m. inl m;
+        answers = λ n new w. absurd (true≢false (sym (silent-trim (msg .kind) e) ∙ n));
+      }
+
+  -- Drop
+  drop-received : msg .kind ≡ dropKind → After
+  drop-received e =
+      let w = z .drops e in
+      record {
+        later = h;
+        grows = grows-not s g b h v;
+        sound = sound-after;
+        keeps = subst (BrickInv s g h b) (sym (after-drop s b x msg block old e)) (brick-dropped i r (msg .time) (w .0) (w .1));
+        stores = λ b′ t m. inl m;
+        answers = λ n new w. absurd (true≢false (sym (silent-drop (msg .kind) e) ∙ n));
       }
 
   -- any message
@@ -521,7 +566,11 @@ module _ {s : Settings} {g : SettingsRange s} {h : Hist s} (sent : List Item) {b
       second l (yes e) c d = block-received e
       second l (no b) (yes e) d = write-received e
       second l (no b) (no c) (yes e) = modify-received e
-      second l (no b) (no c) (no d) = trim-received (omega (arith, ok .kind-high))
+      second l (no b) (no c) (no d) = third (ℕ-discrete (msg .kind) trimKind)
+        where
+          third : Dec (msg .kind ≡ trimKind) → After
+          third (yes e) = trim-received e
+          third (no f) = drop-received (omega (arith, ok .kind-high))
 
       first : Dec (msg .kind ≡ readKind) → Dec (msg .kind ≡ orderKind) → Dec (msg .kind ≡ orderReadKind) → After
       first (yes e) c d = read-received e

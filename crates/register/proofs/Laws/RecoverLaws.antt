@@ -9,7 +9,7 @@ use native.Mathlib.Decide.{decLt, ℕ-discrete}
 use lib.Dec.{T, eqb}
 use lib.ListN.{length, getD}
 use borrow.Author.Tests.{eqb-true, eq-eqb}
-use Rattle.message.specs.Kinds.{orderReadKind, writeKind, modifyKind}
+use Rattle.message.specs.Kinds.{orderReadKind, writeKind, modifyKind, trimKind, dropKind}
 use Rattle.settings.specs.Count.{count}
 use Rattle.settings.specs.Ranges.{quorum}
 use Rattle.settings.specs.Ranges.{SettingsRange}
@@ -22,10 +22,12 @@ use Rattle.byte_lists.specs.Each.{some}
 use Rattle.coord_record.specs.Records.{noBricks, idleKind}
 use Rattle.coord_laws.specs.OpCases.{canRecover}
 use Rattle.coord_tally.specs.Counting.{saidNo, highest, atTime, atTimes}
-use Rattle.coord_apply.specs.Acts.{stripeFrom, agreeing, roundMessage, nextOp, opened, nextRound, storedStripe, namedBricks, giversAt, pickedAt, recoveredStripe, storing, acted}
+use Rattle.coord_blocks.specs.Blocks.{stripeFrom, agreeing, storedStripe}
+use Rattle.coord_apply.specs.Acts.{roundMessage, clearMessage, clearing, dropsFirst, sendingFirst, nextOp, opened, nextRound, namedBricks, giversAt, pickedAt, recoveredStripe, storing, acted}
 use Rattle.coord_apply.proofs.Laws.ActLaws.{recover-agreed}
+use Rattle.coord_apply.proofs.Laws.FirstLaws.{TrimsEarly, drops-either, trims-either}
 use Rattle.coord_decide.specs.declared.Decision.the-variants.{Recover}
-use Rattle.coord_apply.specs.Answers.{Buffered}
+use Rattle.coord_apply.specs.Answers.{Buffered, Went}
 use Rattle.coord_tally.proofs.Laws.RowSets.{passing-holds}
 use Rattle.coord_laws.proofs.Laws.CodedBlockLaws.{stripe-read, blocks-agree}
 use Rattle.order.specs.Claim.{_∈_}
@@ -33,14 +35,14 @@ use Rattle.order.specs.Facts.{over, promised, stored}
 use Rattle.order.specs.Places.{whole, above, In}
 use Rattle.order.proofs.Laws.PlaceLaws.{suf-below, in-suf, in-above, in-top}
 use Rattle.order.specs.Quorums.{Many}
-use Rattle.order.specs.Valid.{Launched, Val, onto, Gone, Valid}
-use Rattle.order.proofs.Laws.FactLaws.{ok-at}
-use Rattle.order.proofs.Laws.GoneLaws.{round-gone}
+use Rattle.order.specs.Valid.{Began, Launched, Val, onto, Committed, Gone, Valid}
+use Rattle.order.proofs.Laws.FactLaws.{ok-at, committed-up}
+use Rattle.order.proofs.Laws.GoneLaws.{gone-up, round-gone}
 use Rattle.order.proofs.Laws.ValueLaws.{val-up, one-value}
-use Rattle.register.specs.Runs.{Item}
+use Rattle.register.specs.Runs.{Item, blockFor, oldFor}
 use Rattle.register.proofs.Laws.BegunLaws.{same-begun, known-begun, stored-effect, stored-proper, piece-stored, begun-stored}
-use Rattle.register.proofs.Laws.Invariant.{quorums, Hist, Means, Stands, Piece, ItemInv, CountedInv, Looked, Running, CoordinatorInv}
-use Rattle.register.proofs.Laws.TurnLaws.{turns-not, TurnedRound}
+use Rattle.register.proofs.Laws.Invariant.{quorums, Hist, Means, Stands, Piece, MessageInv, ItemInv, CountedInv, Looked, Running, CoordinatorInv}
+use Rattle.register.proofs.Laws.TurnLaws.{turns-not, TurnedRound, turned-first}
 use Rattle.register.proofs.Laws.RoundLaws.{opens}
 use Rattle.register.proofs.Laws.DecodeLaws.{giver-bricks}
 use Rattle.register.proofs.Laws.DecideLaws.{true-T, T-true, now, reply-at, said-yes, quorum-of, launches}
@@ -57,6 +59,17 @@ highest-most flags found (suc n) b l e = go (member flags n) refl (ℕ-discrete 
     go true q (no z) ih = let w = ih (omega arith) e in omega arith
     go false q (yes z) ih = let w : false ≡ true = sym q ∙ sym (ap (member flags) z) ∙ e in let u : _≡_ {A = ℕ} 0 1 = cc in absurd (omega arith)
     go false q (no z) ih = ih (omega arith) e
+
+-- all times found are under t
+highest-under : (flags found : List ℕ) (n t : ℕ) → 0 < t → ((b : ℕ) → b < n → member flags b ≡ true → getD found b 0 < t) → highest flags found n < t
+unfolding highest
+highest-under flags found zero t l f = l
+highest-under flags found (suc n) t l f = go (member flags n) refl (highest-under flags found n t l (λ b w e. f b (omega (arith, w)) e))
+  where
+    go : (a : Bool) → member flags n ≡ a → highest flags found n < t
+        → cond a (max (highest flags found n) (getD found n 0)) (highest flags found n) < t
+    go true q ih = let w = f n (omega arith) q in omega arith
+    go false q ih = ih
 
 pub count-none : (n : ℕ) → count (λ (b : ℕ). false) n ≡ 0
 unfolding count
@@ -98,10 +111,10 @@ topOf s k = highest (k .state .tally .held) (k .state .tally .found) (s .n)
 module _ (s : Settings) (g : SettingsRange s) (h : Hist s) (sent : List Item) (c : ℕ) (k : Buffered) (v : Valid (quorums s g) h)
     (i : CoordinatorInv s g h sent c k) (items : (z : Item) → z ∈ sent → ItemInv s g h sent z) (n : k .state .op .kind ≡ idleKind → ⊥) where
   -- a round of Order-and-read with a bound from which on all is gone
-  pub does-look : (bound : ℕ) → (k .state .op .phase ≡ writeKind → ⊥) → (k .state .op .phase ≡ modifyKind → ⊥) → ((u : ℕ) → bound ≤ u → u < k .state .op .time → Gone (quorums s g) h u)
+  does-round : (bound : ℕ) → (k .state .op .phase ≡ writeKind → ⊥) → (k .state .op .phase ≡ modifyKind → ⊥) → ((u : ℕ) → bound ≤ u → u < k .state .op .time → Gone (quorums s g) h u)
       → TurnedRound s g h sent c (nextRound k orderReadKind bound noBricks (k .stripe) [])
   unfolding nextRound
-  does-look bound phase other gone =
+  does-round bound phase other gone =
       let r = now s g h sent c k v i items n in
       opens s g h sent c k i n h orderReadKind bound 0 noBricks (k .stripe) [] []
       (turns-not s g c h v [] refl)
@@ -122,7 +135,35 @@ module _ (s : Settings) (g : SettingsRange s) (h : Hist s) (sent : List Item) (c
         stores = λ e. absurd (omega (arith, e));
         modifies = λ e. absurd (omega (arith, e));
         trims = λ e. absurd (omega (arith, e));
+        drops = λ e. absurd (omega (arith, e));
       }))
+
+  -- after the Drop of the bound, if a recovery round found it
+  pub does-look : (bound : ℕ) → (k .state .op .phase ≡ writeKind → ⊥) → (k .state .op .phase ≡ modifyKind → ⊥) → ((u : ℕ) → bound ≤ u → u < k .state .op .time → Gone (quorums s g) h u)
+      → (k .state .op .phase ≡ orderReadKind → (0 < bound) × Gone (quorums s g) h bound)
+      → TurnedRound s g h sent c (sendingFirst (dropsFirst (k .state .op) bound) (nextRound k orderReadKind bound noBricks (k .stripe) []))
+  unfolding sendingFirst nextRound
+  does-look bound phase other gone dropped =
+      drops-either (k .state .op) bound
+      (λ first. TurnedRound s g h sent c (sendingFirst first (nextRound k orderReadKind bound noBricks (k .stripe) [])))
+      (λ _. does-round bound phase other gone)
+      (λ e. turned-first s g h sent c _ (clearing dropKind (k .state .op) bound) (λ q. unfold clearing clearMessage in omega (arith, q)) (does-round bound phase other gone) (drop e))
+    where
+      drop : k .state .op .phase ≡ orderReadKind → (b : ℕ) → b < s .n
+          → MessageInv s g (does-round bound phase other gone .later) b (clearing dropKind (k .state .op) bound .message)
+          (blockFor s (clearing dropKind (k .state .op) bound) b) (oldFor s (clearing dropKind (k .state .op) bound))
+      drop e b l =
+          let t = does-round bound phase other gone .turns in
+          let w = dropped e in
+          unfold clearing clearMessage in
+          (record {
+            brick-low = l;
+            asks = λ q. absurd (omega (arith, q));
+            stores = λ q. absurd (omega (arith, q));
+            modifies = λ q. absurd (omega (arith, q));
+            trims = λ q. absurd (omega (arith, q));
+            drops = λ q. (w .0, gone-up (t .valid) (t .longer) (w .1));
+          })
 
   module _ (phase : k .state .op .phase ≡ orderReadKind) (yeses : some (saidNo (k .state .tally .counted) (k .state .tally .granted)) (s .n) ≡ false)
       (enough : quorum (s .n) (s .m) ≤ members (k .state .tally .counted) (s .n)) where
@@ -198,6 +239,24 @@ module _ (s : Settings) (g : SettingsRange s) (h : Hist s) (sent : List Item) (c
         true-T (eqb (getD (k .state .tally .held) b 0) 1 && eqb (getD (k .state .tally .found) b 0) (highest (k .state .tally .held) (k .state .tally .found) (s .n)))
         (rw (e, eq-eqb (getD (k .state .tally .found) b 0) (highest (k .state .tally .held) (k .state .tally .found) (s .n)) z) refl))
 
+    -- every time found is below the operation's, and so is the highest
+    top-below : topOf s k < k .state .op .time
+    top-below = highest-under (k .state .tally .held) (k .state .tally .found) (s .n) (k .state .op .time) (ok-at (began .1 .1) v .positive) below
+      where
+        began : Began h (k .state .op .time)
+        began = known-begun (now s g h sent c k v i items n)
+
+        below : (b : ℕ) → b < s .n → member (k .state .tally .held) b ≡ true → getD (k .state .tally .found) b 0 < k .state .op .time
+        below b l held =
+            let m = now s g h sent c k v i items n .holds b held in
+            let x = counts-at b m in
+            let w = reply-at s g h sent c k v i items n b m .finds (said-yes s g h sent c k v i items n yeses b m) (x .kind-is ∙ phase) (x .held-is ∙ held) in
+            omega (arith, w .0, x .found-is, x .time-is)
+
+    -- so the highest is gone, if it is on fewer than m
+    pub gone-top : count (atTimes (k .state .tally .held) (k .state .tally .found) (topOf s k)) (s .n) < s .m → Gone (quorums s g) h (topOf s k)
+    gone-top few = gone-from few (topOf s k) (omega arith) top-below
+
     -- what a brick that gave the highest time gave
     gave : (b : ℕ) → atTimes (k .state .tally .held) (k .state .tally .found) (topOf s k) b ≡ true
         → (topOf s k < k .state .op .time) × Stands h b (topOf s k) × Means s h (topOf s k) b (blockOf (s .size) (k .blocks) b)
@@ -236,8 +295,13 @@ module _ (s : Settings) (g : SettingsRange s) (h : Hist s) (sent : List Item) (c
       pub agrees : agreeing (s .m) (s .size) (giversAt (s .n) k (topOf s k)) (k .blocks) ≡ true
       agrees = decoded .agreed
 
+      abbrev round : Went
+      round =
+          nextRound k writeKind 0 (namedBricks (k .state .op) (pickedAt (s .n) (s .m) k (topOf s k))) (recoveredStripe (s .n) (s .m) (s .size) k (topOf s k))
+          (codedOf (s .n) (s .m) (s .size) (recoveredStripe (s .n) (s .m) (s .size) k (topOf s k)))
+
       -- the Write round of a recovered stripe, or of one with its block replaced
-      does-store-recovered : canRecover (k .state .op .kind) ≡ true → TurnedRound s g h sent c (storing (s .n) (s .m) (s .size) k (topOf s k))
+      does-store-recovered : canRecover (k .state .op .kind) ≡ true → TurnedRound s g h sent c round
       does-store-recovered kind =
           launches s g h sent c k v i items n (over (topOf s k)) (namedBricks (k .state .op) (pickedAt (s .n) (s .m) k (topOf s k))) stored-stripe
           (record {
@@ -270,6 +334,42 @@ module _ (s : Settings) (g : SettingsRange s) (h : Hist s) (sent : List Item) (c
           launched-or-zero (inl e) = inl e
           launched-or-zero (inr w) = let o = ok-at (w .1) v .known in inr (o .0, in-suf (suf-below (w .1)) (o .1))
 
+      -- a time that q replies hold is committed
+      all-stored : TrimsEarly (s .n) (s .m) (k .state .tally) (topOf s k) → Committed (quorums s g) h (topOf s k)
+      all-stored e =
+          inr
+          (record {
+            set = atTimes (k .state .tally .held) (k .state .tally .found) (topOf s k);
+            enough = e .all-hold;
+            each = λ b l t. stood (gave b (T-true (atTimes (k .state .tally .held) (k .state .tally .found) (topOf s k) b) t) .1);
+          })
+        where
+          stood : {b : ℕ} → Stands h b (topOf s k) → In (stored b (topOf s k)) h
+          stood (inl z) = absurd (e .not-first z)
+          stood (inr w) = w
+
+      -- after the early Trim, if all q hold the time
+      does-store-first : canRecover (k .state .op .kind) ≡ true → TurnedRound s g h sent c (storing (s .n) (s .m) (s .size) k (topOf s k))
+      unfolding sendingFirst nextRound
+      does-store-first kind =
+          trims-either (s .n) (s .m) (k .state .op) (k .state .tally) (topOf s k) (λ first. TurnedRound s g h sent c (sendingFirst first round))
+          (λ _. does-store-recovered kind)
+          (λ e. turned-first s g h sent c round (clearing trimKind (k .state .op) (topOf s k)) (λ q. unfold clearing clearMessage in omega (arith, q)) (does-store-recovered kind) (trim e))
+        where
+          trim : TrimsEarly (s .n) (s .m) (k .state .tally) (topOf s k) → (b : ℕ) → b < s .n
+              → MessageInv s g (does-store-recovered kind .later) b (clearing trimKind (k .state .op) (topOf s k) .message)
+              (blockFor s (clearing trimKind (k .state .op) (topOf s k)) b) (oldFor s (clearing trimKind (k .state .op) (topOf s k)))
+          trim e b l =
+              unfold clearing clearMessage in
+              (record {
+                brick-low = l;
+                asks = λ q. absurd (omega (arith, q));
+                stores = λ q. absurd (omega (arith, q));
+                modifies = λ q. absurd (omega (arith, q));
+                trims = λ q. (omega (arith, e .not-first), committed-up (quorums s g) (does-store-recovered kind .turns .longer) (all-stored e));
+                drops = λ q. absurd (omega (arith, q));
+              })
+
       pub does-recover : canRecover (k .state .op .kind) ≡ true → TurnedRound s g h sent c (acted (s .n) (s .m) (s .size) k (Recover (topOf s k)))
       does-recover kind =
-          subst (TurnedRound s g h sent c) (sym (recover-agreed (s .n) (s .m) (s .size) k (topOf s k) agrees)) (does-store-recovered kind)
+          subst (TurnedRound s g h sent c) (sym (recover-agreed (s .n) (s .m) (s .size) k (topOf s k) agrees)) (does-store-first kind)

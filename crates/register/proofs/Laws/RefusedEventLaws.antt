@@ -9,7 +9,7 @@ use lib.ListN.{replicate}
 use Rattle.settings.specs.Refusal.{passed, refuseUnless, badNumber, badLine}
 use Rattle.settings.specs.declared.Settings.{Settings}
 use Rattle.byte_lists.specs.Little.{areBytes}
-use Rattle.message.specs.Kinds.{trimKind}
+use Rattle.message.specs.Messages.{isSilent}
 use Rattle.message.specs.declared.Message.{Message}
 use Rattle.image.specs.Parse.{Parsed, Opens, Refuses, parse}
 use Rattle.brick.specs.Receive
@@ -33,7 +33,7 @@ opened-kept : (s : Settings) (b : ℕ) (msg : Message) (block old bytes out : Li
     → givenNumber (Receive.accepted s b msg block old bytes out p .given) ≢ passed → Kept bytes (Receive.accepted s b msg block old bytes out p)
 unfolding Receive.accepted refusedWith givenBy givenNumber repliedWith
 opened-kept s b msg block old bytes out (Refuses number) n = record { image-is = refl; no-reply = λ _. refl }
-opened-kept s b msg block old bytes out (Opens x) n = absurd (n (go (eqb (msg .kind) trimKind)))
+opened-kept s b msg block old bytes out (Opens x) n = absurd (n (go (isSilent (msg .kind))))
   where
     go : (a : Bool) → givenNumber (cond a Silent (Answered (replyTo s b x msg))) ≡ passed
     go true = refl

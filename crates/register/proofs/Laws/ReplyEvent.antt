@@ -7,7 +7,7 @@ use Prim.Native.Nat.{ℕ, _*_, _≤_, _<_}
 use native.Mathlib.Omega.{arith}
 use lib.Dec.{leb, ltb, eqb}
 use lib.ListN.{length}
-use borrow.Author.Tests.{leb-true, leb-false, ltb-false, ne-eqb}
+use borrow.Author.Tests.{leb-true, leb-false, ltb-false, eqb-false, ne-eqb}
 use Rattle.coord_record.specs.Records.{idleKind, readingKind, readingBlockKind, isReading, onBlock, targetCount}
 use Rattle.message.specs.Kinds.{readKind, lastRound}
 use Rattle.settings.specs.Count.{count}
@@ -38,7 +38,7 @@ use Rattle.register.proofs.Laws.GiveLaws.{does-give}
 use Rattle.register.proofs.Laws.ModifyLaws.{does-modify}
 use Rattle.register.proofs.Laws.DecisionLaws.{decided-reading, decided-ordering, decided-block-ordering, decided-looking, decided-storing}
 use Rattle.register.proofs.Laws.DecideLaws.{sound-op, does-abort, does-store, does-finish}
-use Rattle.register.proofs.Laws.RecoverLaws.{topOf, does-look, gone-from, does-recover}
+use Rattle.register.proofs.Laws.RecoverLaws.{topOf, does-look, gone-from, gone-top, does-recover}
 
 module _ (s : Settings) (g : SettingsRange s) (h : Hist s) (sent : List Item) (c : ℕ) (k : Buffered) (v : Valid (quorums s g) h)
     (i : CoordinatorInv s g h sent c k) (items : (z : Item) → z ∈ sent → ItemInv s g h sent z) (n : k .state .op .kind ≡ idleKind → ⊥)
@@ -58,7 +58,7 @@ module _ (s : Settings) (g : SettingsRange s) (h : Hist s) (sent : List Item) (c
       (some (missing (s .n) (targetCount (s .m) (k .state .op .kind)) (k .state .op .first) (k .state .tally .counted)) (s .n)) refl refl refl)
     where
       look : TurnedRound s g h sent c (acted (s .n) (s .m) (s .size) k (Look noUpperEnd))
-      look = does-look s g h sent c k v i items n noUpperEnd (λ e. omega (arith, e)) (λ e. omega (arith, e)) (λ u l m. absurd (omega arith))
+      look = does-look s g h sent c k v i items n noUpperEnd (λ e. omega (arith, e)) (λ e. omega (arith, e)) (λ u l m. absurd (omega arith)) (λ e. absurd (omega (arith, e, phase)))
 
       go : (x y z : Bool)
           → some (saidNo (k .state .tally .counted) (k .state .tally .granted)) (s .n) ≡ x
@@ -72,7 +72,7 @@ module _ (s : Settings) (g : SettingsRange s) (h : Hist s) (sent : List Item) (c
   does-decide (looking kind phase _ _) high =
       subst turned (sym (decided-looking (s .n) (s .m) (k .state .op) (k .state .tally) phase))
       (go (some (saidNo (k .state .tally .counted) (k .state .tally .granted)) (s .n)) (eqb (members (k .state .tally .held) (s .n)) 0)
-      (leb (s .m) (count (atTimes (k .state .tally .held) (k .state .tally .found) (topOf s k)) (s .n))) (eqb (topOf s k) 0) (ltb (k .state .op .round) lastRound) refl refl)
+      (leb (s .m) (count (atTimes (k .state .tally .held) (k .state .tally .found) (topOf s k)) (s .n))) (eqb (topOf s k) 0) (ltb (k .state .op .round) lastRound) refl refl refl)
     where
       abort : TurnedRound s g h sent c (acted (s .n) (s .m) (s .size) k Abort)
       abort = does-abort s g h sent c k v i items n
@@ -80,22 +80,27 @@ module _ (s : Settings) (g : SettingsRange s) (h : Hist s) (sent : List Item) (c
       go : (x w y z f : Bool)
           → some (saidNo (k .state .tally .counted) (k .state .tally .granted)) (s .n) ≡ x
           → leb (s .m) (count (atTimes (k .state .tally .held) (k .state .tally .found) (topOf s k)) (s .n)) ≡ y
+          → eqb (topOf s k) 0 ≡ z
           → TurnedRound s g h sent c
           (acted (s .n) (s .m) (s .size) k
           (cond x Abort
           (cond w Abort (cond y (cond f (Recover (topOf s k)) Abort) (cond z Abort (cond f (Look (topOf s k)) Abort))))))
-      go true w y z f ex ey = abort
-      go false true y z f ex ey = abort
-      go false false true z false ex ey = abort
-      go false false true z true ex ey =
+      go true w y z f ex ey ez = abort
+      go false true y z f ex ey ez = abort
+      go false false true z false ex ey ez = abort
+      go false false true z true ex ey ez =
           does-recover s g h sent c k v i items n phase ex enough
           (leb-true (s .m) (count (atTimes (k .state .tally .held) (k .state .tally .found) (topOf s k)) (s .n)) ey) kind
-      go false false false true f ex ey = abort
-      go false false false false false ex ey = abort
-      go false false false false true ex ey =
+      go false false false true f ex ey ez = abort
+      go false false false false false ex ey ez = abort
+      go false false false false true ex ey ez =
           does-look s g h sent c k v i items n (topOf s k) (λ e. omega (arith, e)) (λ e. omega (arith, e))
           (gone-from s g h sent c k v i items n phase ex enough
-          (leb-false (s .m) (count (atTimes (k .state .tally .held) (k .state .tally .found) (topOf s k)) (s .n)) ey))
+          few)
+          (λ _. (let z = eqb-false (topOf s k) 0 ez in omega (arith, z), gone-top s g h sent c k v i items n phase ex enough few))
+        where
+          few : count (atTimes (k .state .tally .held) (k .state .tally .found) (topOf s k)) (s .n) < s .m
+          few = leb-false (s .m) (count (atTimes (k .state .tally .held) (k .state .tally .found) (topOf s k)) (s .n)) ey
   does-decide (restoring kind phase _) high =
       subst turned (sym (decided-storing (s .n) (s .m) (k .state .op) (k .state .tally) (omega arith)))
       (go (some (saidNo (k .state .tally .counted) (k .state .tally .granted)) (s .n)) refl)
@@ -127,7 +132,7 @@ module _ (s : Settings) (g : SettingsRange s) (h : Hist s) (sent : List Item) (c
       (some (missing (s .n) (targetCount (s .m) (k .state .op .kind)) (k .state .op .first) (k .state .tally .counted)) (s .n)) refl refl refl)
     where
       look : TurnedRound s g h sent c (acted (s .n) (s .m) (s .size) k (Look noUpperEnd))
-      look = does-look s g h sent c k v i items n noUpperEnd (λ e. omega (arith, e)) (λ e. omega (arith, e)) (λ u l m. absurd (omega arith))
+      look = does-look s g h sent c k v i items n noUpperEnd (λ e. omega (arith, e)) (λ e. omega (arith, e)) (λ u l m. absurd (omega arith)) (λ e. absurd (omega (arith, e, phase)))
 
       go : (x y z : Bool)
           → some (saidNo (k .state .tally .counted) (k .state .tally .granted)) (s .n) ≡ x

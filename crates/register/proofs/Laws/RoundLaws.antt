@@ -50,7 +50,7 @@ module _ (s : Settings) (g : SettingsRange s) (h : Hist s) (sent : List Item) (c
         turns = turns-not s g c h v [] refl;
         keeps = subst (λ (z : List Item). CoordinatorInv s g h z c k) (sym (append-nil sent)) i;
         items = λ z m. absurd (List·Memᴰ·not-nil m);
-        own = λ b msg block old m. absurd (List·Memᴰ·not-nil m);
+        own = λ b msg block old m _. absurd (List·Memᴰ·not-nil m);
       }
 
   -- the operation ends and its coordinator is idle
@@ -59,7 +59,7 @@ module _ (s : Settings) (g : SettingsRange s) (h : Hist s) (sent : List Item) (c
       → OkEnded (quorums s g) h (k .state .op .time) e
       → seenOf s (ending (s .n) k stripe more what bricks .seen) (ending (s .n) k stripe more what bricks .next) ≡ shows {P = plain s} (ended (k .state .op .time) e)
       → ((z : Item) → z ∈ broadcasts s more → ItemInv s g (ended (k .state .op .time) e ∷ h) (sent ++ broadcasts s more) z)
-      → ((b : ℕ) (msg : Message) (block old : List ℕ) → message b msg block old ∈ broadcasts s more → coordinatorOf (msg .time) ≡ c)
+      → ((b : ℕ) (msg : Message) (block old : List ℕ) → message b msg block old ∈ broadcasts s more → msg .kind ≡ orderReadKind → ⊥)
       → TurnedRound s g h sent c (ending (s .n) k stripe more what bricks)
   unfolding ending idleWith noOp
   ends v e stripe more what bricks own o shown items owns =
@@ -74,7 +74,7 @@ module _ (s : Settings) (g : SettingsRange s) (h : Hist s) (sent : List Item) (c
           runs = λ n. absurd (n refl);
         };
         items = items;
-        own = owns;
+        own = λ b msg block o m e. absurd (owns b msg block o m e);
       }
     where
       old : (u : ℕ) (a : plain s .Kind) → (_≡_ {A = Fact (plain s)} (began u a) (ended (k .state .op .time) e)) ⊎ In (began u a) h → Began h u
@@ -107,7 +107,7 @@ module _ (s : Settings) (g : SettingsRange s) (h : Hist s) (sent : List Item) (c
         keeps = record { number = i .number; used = λ u w m. i .used u (same u w) m; sized = none-sized; idle-is = λ e. absurd (n e); runs = λ _. running };
         items = λ z m. let w = in-broadcast s sending z m in
             subst (ItemInv s g h′ (sent ++ broadcasts s (sending ∷ []))) (sym (w .2)) (messages (w .0) (w .1));
-        own = λ b msg block o m. let w = in-broadcast s sending (message b msg block o) m in
+        own = λ b msg block o m _. let w = in-broadcast s sending (message b msg block o) m in
             let e : msg .time ≡ k .state .op .time = unfold time-of in ap time-of (w .2) in ap coordinatorOf e ∙ r .own;
       }
     where

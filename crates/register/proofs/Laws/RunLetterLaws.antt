@@ -1,8 +1,8 @@
 -- What a letter tells of the replies that an operation met.
 use mathlib.Core.Path.{_≡_, refl, sym, ap, subst, _∙_}
-use mathlib.Core.Logic.{_≢_, _⊎_, inl, inr}
+use mathlib.Core.Logic.{_≢_, inl, inr}
 use mathlib.Core.Bool.{Bool, true, false, cond, not, _&&_, true≢false}
-use mathlib.Core.List.{List, [], _∷_, List·Memᴰ·head, List·Memᴰ·tail, List·Memᴰ·not-nil, List·Memᴰ·cases-cons}
+use mathlib.Core.List.{List, []}
 use Prim.Native.Nat.{ℕ, _*_, _≤_, _<_}
 use native.Mathlib.Decide.{ℕ-discrete}
 use native.Mathlib.Omega.{arith}
@@ -35,7 +35,7 @@ use Rattle.coord_decide.specs.Decisions.{AllYes, found-time, holders, Aborts, t
 use Rattle.coord_decide.proofs.Laws.SaysLaws.{decided-says}
 use Rattle.coord_decide.specs.declared.Decision.{Decision}
 use Rattle.coord_decide.specs.declared.Decision.the-variants.{Abort, Give, Look, Store, Modify, Recover, Finish}
-use Rattle.coord_apply.specs.Acts.{acted, ending, nextRound, modifying, counting, withTally, waitingOr}
+use Rattle.coord_apply.specs.Acts.{acted, ending, sendingFirst, nextRound, modifying, counting, withTally, waitingOr}
 use Rattle.coord_apply.specs.Answers.{Buffered, Went, went, nothingSeen}
 use Rattle.coord_apply.specs.Workers.{finishedLetter}
 use Rattle.coord_apply.proofs.Laws.ActLaws.{aborted-letter, given-letter, finished-letter, finished-read-letter, finished-write-letter}
@@ -55,23 +55,8 @@ use Rattle.register.proofs.Laws.CountedLaws.{counting-keeps}
 use Rattle.register.proofs.Laws.DecideLaws.{true-T, T-true}
 use Rattle.register.proofs.Laws.Invariant.{Hist, Running, CoordinatorInv, itemOn, itemsOn, view, Inv}
 use Rattle.register.proofs.Laws.RecoverLaws.{highest-most}
-use Rattle.register.proofs.Laws.StripeViewLaws.{in-items, viewed-here}
+use Rattle.register.proofs.Laws.StripeViewLaws.{in-items, of-items, viewed-here}
 use Rattle.register.proofs.Laws.TheoremProof.{run-holds}
-
--- an item of a stripe was sent, and is of that stripe
-of-items : (k : ℕ) (l : List Item) (i : Item) → i ∈ itemsOn k l → (i ∈ l) × (itemOn k i ≡ true)
-unfolding itemsOn
-of-items k [] i m = absurd (List·Memᴰ·not-nil m)
-of-items k (j ∷ l) i m = go (itemOn k j) refl m (of-items k l i)
-  where
-    go : (x : Bool) → itemOn k j ≡ x → i ∈ cond x (j ∷ itemsOn k l) (itemsOn k l) → (i ∈ itemsOn k l → (i ∈ l) × (itemOn k i ≡ true))
-        → (i ∈ j ∷ l) × (itemOn k i ≡ true)
-    go true q m ih = first (List·Memᴰ·cases-cons m)
-      where
-        first : (i ≡ j) ⊎ (i ∈ itemsOn k l) → (i ∈ j ∷ l) × (itemOn k i ≡ true)
-        first (inl p) = (List·Memᴰ·head p, ap (itemOn k) p ∙ q)
-        first (inr p) = let w = ih p in (List·Memᴰ·tail (w .0), w .1)
-    go false q m ih = let w = ih m in (List·Memᴰ·tail (w .0), w .1)
 
 -- a test and the refusal of another
 and-not : (a b : Bool) → a ≡ true → a && not b ≡ false → b ≡ true
@@ -285,7 +270,7 @@ module _ (s : Settings) (g : SettingsRange s) (h : Hist s) (all : List Item) (c 
   -- WHAT THE DECISION SHOWS
   decides-letter : (d : Decision) → DecisionSays (s .n) (s .m) op t d → ((time : ℕ) → d ≡ Recover time → acted (s .n) (s .m) (s .size) k d .seen .letter ≡ noLetter)
       → acted (s .n) (s .m) (s .size) k d .seen .letter ≢ noLetter → Tells s all op met (acted (s .n) (s .m) (s .size) k d .seen .letter)
-  unfolding acted ending nextRound modifying DecisionSays nothingSeen met
+  unfolding acted ending sendingFirst nextRound modifying DecisionSays nothingSeen met
   decides-letter Abort x f n = subst (Tells s all op met) (aborted-letter (s .n) op t) (aborts-letter x)
   decides-letter Give x f n = subst (Tells s all op met) (given-letter (s .n) op t) (gives-letter x)
   decides-letter (Look max) x f n = absurd (n refl)
@@ -339,10 +324,10 @@ module _ (s : Settings) (e : inRange s ≡ true) (events : List Event) (a : Repl
   -- a recovery goes on to its store
   stores-on : quorum (s .n) (s .m) ≤ members (after .state .tally .counted) (s .n) → (time : ℕ) → decided (s .n) (s .m) (after .state .op) (after .state .tally) ≡ Recover time
       → waitingOr (s .n) (s .m) (s .size) after .seen .letter ≡ noLetter
-  unfolding nextRound nothingSeen takeStep
+  unfolding sendingFirst nextRound nothingSeen takeStep
   stores-on l time d =
       ap (λ (v : Went). v .seen .letter)
-      (no-recovery-disagrees s e events a block time (record { was-sent = was; taken = passes _ _ w steps .0; is-qth = l; decides = d }) .1)
+      (no-recovery-disagrees s e events a block time (record { qth = record { was-sent = was; taken = passes _ _ w steps .0; is-qth = l }; decides = d }) .1)
 
   -- what the q-th reply decides
   abbrev decision : Decision

@@ -87,7 +87,7 @@ module _ (s : Settings) (g : SettingsRange s) (h : Hist s) (sent : List Item) (c
           runs = λ n. running;
         };
         items = λ z m. let w = in-broadcast s sending z m in subst (ItemInv s g later (sent ++ broadcasts s (sending ∷ []))) (sym (w .2)) (asks (w .0) (w .1));
-        own = λ b msg block old m. let w = in-broadcast s sending (message b msg block old) m in
+        own = λ b msg block old m _. let w = in-broadcast s sending (message b msg block old) m in
             let e : msg .time ≡ t = unfold time-of in ap time-of (w .2) in ap coordinatorOf e ∙ own-time;
       }
     where
@@ -139,6 +139,7 @@ module _ (s : Settings) (g : SettingsRange s) (h : Hist s) (sent : List Item) (c
             stores = λ e. absurd (omega arith);
             modifies = λ e. absurd (omega arith);
             trims = λ e. absurd (omega arith);
+            drops = λ e. absurd (omega arith);
           }
 
       used : (u : ℕ) → coordinatorOf u ≡ c → (a : plain s .Kind) → (_≡_ {A = Fact (plain s)} (began u a) (began t action)) ⊎ In (began u a) h

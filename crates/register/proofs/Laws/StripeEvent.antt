@@ -38,7 +38,7 @@ module _ (s : Settings) (g : SettingsRange s) (k : ℕ) (h : Hist s) (r : Moved 
 
   -- what is left of the view after a step
   After : Step → Type 0
-  After p = Goes s g (view k (joined s r (coordinated s (r .world) c p)))
+  After p = Goes s g h (view k (joined s r (coordinated s (r .world) c p)))
 
   after-refused : (number : ℕ) → After (refused number)
   unfolding After coordinated
@@ -92,7 +92,7 @@ module _ (s : Settings) (g : SettingsRange s) (k : ℕ) (h : Hist s) (r : Moved 
 
   -- A reply reaches its coordinator.
   pub reply-goes : (a : Reply) (block : List ℕ) → reply a block ∈ r .world .sent
-      → Goes s g (view k (joined s r (coordinated s (r .world) c (takeStep (s .n) (s .m) (s .size) (s .stripes) (r .world .coordinators c) a block (s .n * s .size)))))
+      → Goes s g h (view k (joined s r (coordinated s (r .world) c (takeStep (s .n) (s .m) (s .size) (s .stripes) (r .world .coordinators c) a block (s .n * s .size)))))
   unfolding After raw
   reply-goes a block was =
       after-step (takeStep (s .n) (s .m) (s .size) (s .stripes) raw a block (s .n * s .size)) (λ w e. taken w e (ℕ-discrete (raw .state .op .stripe) k))
@@ -122,7 +122,7 @@ module _ (s : Settings) (g : SettingsRange s) (k : ℕ) (h : Hist s) (r : Moved 
   unfolding After raw
   starts number w on t = go (ℕ-discrete number k)
     where
-      go : Dec (number ≡ k) → Goes s g (view k (joined s r (coordinated s (r .world) c (went w))))
+      go : Dec (number ≡ k) → Goes s g h (view k (joined s r (coordinated s (r .world) c (went w))))
       go (yes e) =
           goes-here s k r c w g h i
           (record {
@@ -143,7 +143,7 @@ module _ (s : Settings) (g : SettingsRange s) (k : ℕ) (h : Hist s) (r : Moved 
           })
 
   pub write-goes : (number reading : ℕ) (content : List ℕ) → Bytes content
-      → Goes s g (view k (joined s r (coordinated s (r .world) c (writeStep (s .n) (s .m) (s .size) (s .stripes) (r .world .coordinators c) number reading content))))
+      → Goes s g h (view k (joined s r (coordinated s (r .world) c (writeStep (s .n) (s .m) (s .size) (s .stripes) (r .world .coordinators c) number reading content))))
   unfolding After raw
   write-goes number reading content small =
       after-step (writeStep (s .n) (s .m) (s .size) (s .stripes) raw number reading content)
@@ -151,7 +151,7 @@ module _ (s : Settings) (g : SettingsRange s) (k : ℕ) (h : Hist s) (r : Moved 
       (λ _. write-turned s g h (view k r .sent) c raw (i .valid) own-clock (i .items) number reading w content small e))
 
   pub read-goes : (number reading first : ℕ)
-      → Goes s g (view k (joined s r (coordinated s (r .world) c (readStep (s .n) (s .m) (s .size) (s .stripes) (r .world .coordinators c) number reading first))))
+      → Goes s g h (view k (joined s r (coordinated s (r .world) c (readStep (s .n) (s .m) (s .size) (s .stripes) (r .world .coordinators c) number reading first))))
   unfolding After raw
   read-goes number reading first =
       after-step (readStep (s .n) (s .m) (s .size) (s .stripes) raw number reading first)
@@ -159,7 +159,7 @@ module _ (s : Settings) (g : SettingsRange s) (k : ℕ) (h : Hist s) (r : Moved 
       (λ _. read-turned s g h (view k r .sent) c raw (i .valid) own-clock (i .items) number reading w first e))
 
   pub write-block-goes : (number reading block : ℕ) (content : List ℕ) → Bytes content
-      → Goes s g (view k (joined s r (coordinated s (r .world) c (writeBlockStep (s .n) (s .m) (s .size) (s .stripes) (r .world .coordinators c) number reading block content))))
+      → Goes s g h (view k (joined s r (coordinated s (r .world) c (writeBlockStep (s .n) (s .m) (s .size) (s .stripes) (r .world .coordinators c) number reading block content))))
   unfolding After raw
   write-block-goes number reading block content small =
       after-step (writeBlockStep (s .n) (s .m) (s .size) (s .stripes) raw number reading block content)
@@ -167,7 +167,7 @@ module _ (s : Settings) (g : SettingsRange s) (k : ℕ) (h : Hist s) (r : Moved 
       (λ _. write-block-turned s g h (view k r .sent) c raw (i .valid) own-clock (i .items) number reading w block content small e))
 
   pub read-block-goes : (number reading block : ℕ)
-      → Goes s g (view k (joined s r (coordinated s (r .world) c (readBlockStep (s .n) (s .m) (s .size) (s .stripes) (r .world .coordinators c) number reading block))))
+      → Goes s g h (view k (joined s r (coordinated s (r .world) c (readBlockStep (s .n) (s .m) (s .size) (s .stripes) (r .world .coordinators c) number reading block))))
   unfolding After raw
   read-block-goes number reading block =
       after-step (readBlockStep (s .n) (s .m) (s .size) (s .stripes) raw number reading block)
@@ -209,7 +209,7 @@ module _ (s : Settings) (g : SettingsRange s) (k : ℕ) (h : Hist s) (r : Moved 
     unfolding crashed
     idle-crash e = rw (eq-eqb (raw .state .op .kind) idleKind e) refl
 
-    pub crash-goes : Goes s g
+    pub crash-goes : Goes s g h
         (view k (joined s r (coordinated s (r .world) c (leftBy s left (crashStep (s .n) (s .m) (s .size) (s .stripes) (r .world .coordinators c))))))
     unfolding After raw leftBy
     crash-goes = go (crashStep (s .n) (s .m) (s .size) (s .stripes) raw) refl

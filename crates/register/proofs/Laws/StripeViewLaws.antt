@@ -19,6 +19,7 @@ use Rattle.settings.specs.declared.Clock.{Clock}
 use Rattle.volume.specs.Rows.{imageAt}
 use Rattle.coord_laws.proofs.Laws.SoundnessLaws.{none-sized}
 use Rattle.order.specs.Claim.{Seen, _∈_}
+use Rattle.order.specs.Places.{whole}
 use Rattle.register.specs.Runs.{plain, Item, Moved, unmoved, joined, putAt, onStripe, seenOf, toAll, broadcasts, coordinated}
 use Rattle.register.proofs.Laws.BrickEvent.{put-here, put-there}
 use Rattle.register.proofs.Laws.Invariant.{Hist, CoordinatorInv, View, ViewInv, Goes, itemOn, itemsOn, runsOn, viewed, view, Inv}
@@ -56,6 +57,21 @@ in-items k (j ∷ l) i m e = go (itemOn k j) refl (List·Memᴰ·cases-cons m) (
     go true q (inr p) ih = List·Memᴰ·tail (ih p e)
     go false q (inl p) ih = absurd (true≢false (sym e ∙ ap (itemOn k) p ∙ q))
     go false q (inr p) ih = ih p e
+
+-- an item of a stripe was sent, and is of that stripe
+pub of-items : (k : ℕ) (l : List Item) (i : Item) → i ∈ itemsOn k l → (i ∈ l) × (itemOn k i ≡ true)
+unfolding itemsOn
+of-items k [] i m = absurd (List·Memᴰ·not-nil m)
+of-items k (j ∷ l) i m = go (itemOn k j) refl m (of-items k l i)
+  where
+    go : (x : Bool) → itemOn k j ≡ x → i ∈ cond x (j ∷ itemsOn k l) (itemsOn k l) → (i ∈ itemsOn k l → (i ∈ l) × (itemOn k i ≡ true))
+        → (i ∈ j ∷ l) × (itemOn k i ≡ true)
+    go true q m ih = first (List·Memᴰ·cases-cons m)
+      where
+        first : (i ≡ j) ⊎ (i ∈ itemsOn k l) → (i ∈ j ∷ l) × (itemOn k i ≡ true)
+        first (inl p) = (List·Memᴰ·head p, ap (itemOn k) p ∙ q)
+        first (inr p) = let w = ih p in (List·Memᴰ·tail (w .0), w .1)
+    go false q m ih = let w = ih m in (List·Memᴰ·tail (w .0), w .1)
 
 -- what broadcasts of one stripe send is of that stripe
 pub broadcast-stripe : (s : Settings) (k : ℕ) (a : Bool) (l : List Broadcast) → ((z : Broadcast) → z ∈ l → eqb (z .message .stripe) k ≡ a)
@@ -233,12 +249,12 @@ module _ (s : Settings) (k : ℕ) (r : Moved s) (c : ℕ) (w : Went) where
 
   module _ (g : SettingsRange s) (h : Hist s) (i : Inv s g k h r) where
     -- what holds of stripe k goes on to hold
-    pub goes-here : Here → TurnedRound s g h (view k r .sent) c w → Goes s g (view k (joined s r (coordinated s (r .world) c (went w))))
-    goes-here e t = subst (Goes s g) (sym (view-here e)) (goes-turned s g h (view k r) i c w t)
+    pub goes-here : Here → TurnedRound s g h (view k r .sent) c w → Goes s g h (view k (joined s r (coordinated s (r .world) c (went w))))
+    goes-here e t = subst (Goes s g h) (sym (view-here e)) (goes-turned s g h (view k r) i c w t)
 
-    pub goes-there : There → Goes s g (view k (joined s r (coordinated s (r .world) c (went w))))
+    pub goes-there : There → Goes s g h (view k (joined s r (coordinated s (r .world) c (went w))))
     unfolding idleWith noOp tickedView timeOf
-    goes-there e = subst (Goes s g) (sym (view-there e)) (h, ticked)
+    goes-there e = subst (Goes s g h) (sym (view-there e)) (h, whole, ticked)
       where
         old : CoordinatorInv s g h (view k r .sent) c (view k r .coordinators c)
         old = i .coordinators c
@@ -279,6 +295,7 @@ module _ (s : Settings) (k : ℕ) (r : Moved s) (c : ℕ) (w : Went) where
               bricks = i .bricks;
               items = i .items;
               coordinators = λ c′. at c′ (eqb c′ c) refl;
+              told = i .told;
             }
 
 -- AN EVENT THAT CHANGES NOTHING
@@ -293,5 +310,5 @@ view-unmoved s k r =
       seen = append-nil (r .seen k) i;
     }
 
-pub goes-unmoved : (s : Settings) (g : SettingsRange s) (k : ℕ) (h : Hist s) (r : Moved s) → Inv s g k h r → Goes s g (view k (joined s r (unmoved s (r .world))))
-goes-unmoved s g k h r i = subst (Goes s g) (sym (view-unmoved s k r)) (h, i)
+pub goes-unmoved : (s : Settings) (g : SettingsRange s) (k : ℕ) (h : Hist s) (r : Moved s) → Inv s g k h r → Goes s g h (view k (joined s r (unmoved s (r .world))))
+goes-unmoved s g k h r i = subst (Goes s g h) (sym (view-unmoved s k r)) (h, whole, i)

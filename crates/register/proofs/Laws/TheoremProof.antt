@@ -13,6 +13,8 @@ use Rattle.byte_lists.proofs.Laws.LittleLaws.{are-bytes}
 use Rattle.coord_apply.specs.Answers.{Step}
 use Rattle.coordinator.specs.Routines.{writeStep, writeBlockStep}
 use Rattle.order.specs.Claim.{OneOrder, _∈_}
+use Rattle.order.specs.Places.{Suf, whole}
+use Rattle.order.proofs.Laws.PlaceLaws.{suf-trans}
 use Rattle.settings.specs.Times.{coordinatorOf}
 use Rattle.order.proofs.Laws.OneOrderTheorem.{one-order}
 use Rattle.register.specs.Runs.{plain, Item, message, reply, freshSet, Event, startWrite, startRead, startWriteBlock, startReadBlock, arrives, crashes, goesDown}
@@ -27,23 +29,23 @@ use Rattle.register.proofs.Laws.FreshRunLaws.{fresh-holds}
 
 module _ (s : Settings) (g : SettingsRange s) (k : ℕ) where
   -- an item among those sent arrives
-  item-arrives : (h : Hist s) (r : Moved s) → Inv s g k h r → (z : Item) → z ∈ r .world .sent → Goes s g (view k (joined s r (arriving s (r .world) z)))
+  item-arrives : (h : Hist s) (r : Moved s) → Inv s g k h r → (z : Item) → z ∈ r .world .sent → Goes s g h (view k (joined s r (arriving s (r .world) z)))
   item-arrives h r i (message b msg block old) m = message-arrives s k r b g h i msg block old m
   item-arrives h r i (reply a block) m = unfold arriving in reply-goes s g k h r i (coordinatorOf (a .time)) a block m
 
   place-arrives : (h : Hist s) (r : Moved s) → Inv s g k h r → (l : List Item) → ((z : Item) → z ∈ l → z ∈ r .world .sent) → (p : ℕ)
-      → Goes s g (view k (joined s r (arrivingAt s (r .world) l p)))
+      → Goes s g h (view k (joined s r (arrivingAt s (r .world) l p)))
   unfolding arrivingAt
   place-arrives h r i [] f p = goes-unmoved s g k h r i
   place-arrives h r i (z ∷ l) f zero = item-arrives h r i z (f z (List·Memᴰ·head refl))
   place-arrives h r i (z ∷ l) f (suc p) = place-arrives h r i l (λ y m. f y (List·Memᴰ·tail m)) p
 
-  stands : (h : Hist s) (r : Moved s) → Inv s g k h r → (b : ℕ) (how : Bool) → Goes s g (view k (joined s r (standing s (r .world) b how)))
+  stands : (h : Hist s) (r : Moved s) → Inv s g k h r → (b : ℕ) (how : Bool) → Goes s g h (view k (joined s r (standing s (r .world) b how)))
   unfolding standing view
   stands h r i b how = go (ltb b (s .n))
     where
       go : (a : Bool)
-          → Goes s g
+          → Goes s g h
           (view k
           (joined s r
           (cond a
@@ -54,28 +56,30 @@ module _ (s : Settings) (g : SettingsRange s) (k : ℕ) where
           (unmoved s (r .world)))))
       go true = (
         h,
+        whole,
         record {
           valid = i .valid;
           seen-is = i .seen-is ∙ sym (append-nil (r .seen k));
           bricks = i .bricks;
           items = i .items;
           coordinators = i .coordinators;
+          told = i .told;
         },
       )
       go false = goes-unmoved s g k h r i
 
   -- a start with bytes; with other numbers nothing is changed
   with-bytes : (h : Hist s) (r : Moved s) → Inv s g k h r → (c : ℕ) (content : List ℕ) (p : Step)
-      → (Bytes content → Goes s g (view k (joined s r (coordinated s (r .world) c p))))
-      → Goes s g (view k (joined s r (cond (areBytes content) (coordinated s (r .world) c p) (unmoved s (r .world)))))
+      → (Bytes content → Goes s g h (view k (joined s r (coordinated s (r .world) c p))))
+      → Goes s g h (view k (joined s r (cond (areBytes content) (coordinated s (r .world) c p) (unmoved s (r .world)))))
   with-bytes h r i c content p f = go (areBytes content) refl
     where
-      go : (b : Bool) → areBytes content ≡ b → Goes s g (view k (joined s r (cond b (coordinated s (r .world) c p) (unmoved s (r .world)))))
+      go : (b : Bool) → areBytes content ≡ b → Goes s g h (view k (joined s r (cond b (coordinated s (r .world) c p) (unmoved s (r .world)))))
       go true e = f (are-bytes content e)
       go false e = goes-unmoved s g k h r i
 
   -- what holds of stripe k goes on to hold after each event,
-  pub step-goes : (h : Hist s) (r : Moved s) → Inv s g k h r → (e : Event) → Goes s g (view k (joined s r (step s (r .world) e)))
+  pub step-goes : (h : Hist s) (r : Moved s) → Inv s g k h r → (e : Event) → Goes s g h (view k (joined s r (step s (r .world) e)))
   unfolding step
   step-goes h r i (startWrite c number reading content) =
       with-bytes h r i c content (writeStep (s .n) (s .m) (s .size) (s .stripes) (r .world .coordinators c) number reading content)
@@ -90,15 +94,18 @@ module _ (s : Settings) (g : SettingsRange s) (k : ℕ) where
   step-goes h r i (goesDown b) = stands h r i b false
   step-goes h r i (comesUp b) = stands h r i b true
 
-  -- so after all of them
-  from-holds : (r : Moved s) → (h : Hist s) × Inv s g k h r → (events : List Event) → (h : Hist s) × Inv s g k h (runFrom s r events)
+  -- so after all of them, with a history that goes on from that before them
+  pub from-holds : (h : Hist s) (r : Moved s) → Inv s g k h r → (events : List Event) → (h′ : Hist s) × Suf h h′ × Inv s g k h′ (runFrom s r events)
   unfolding runFrom nextMoved
-  from-holds r w [] = w
-  from-holds r w (e ∷ events) = from-holds (nextMoved s r e) (step-goes (w .0) r (w .1) e) events
+  from-holds h r i [] = (h, whole, i)
+  from-holds h r i (e ∷ events) =
+      let w = step-goes h r i e in
+      let z = from-holds (w .0) (nextMoved s r e) (w .2) events in
+      (z .0, suf-trans (w .1) (z .1), z .2)
 
   pub run-holds : k < s .stripes → (events : List Event) → (h : Hist s) × Inv s g k h (run s events)
   unfolding run
-  run-holds low events = from-holds (unmoved s (freshSet s)) ([], fresh-holds s g k low) events
+  run-holds low events = let z = from-holds [] (unmoved s (freshSet s)) (fresh-holds s g k low) events in (z .0, z .2)
 
 pub every-run-has-one-order : EveryRunHasOneOrder
 unfolding view

@@ -10,16 +10,18 @@ use borrow.Author.Tests.{eqb-true, eqb-false}
 use Rattle.settings.specs.Times.{coordinatorOf}
 use Rattle.settings.specs.Ranges.{SettingsRange}
 use Rattle.settings.specs.declared.Settings.{Settings}
+use Rattle.message.specs.Kinds.{orderReadKind}
 use Rattle.message.specs.declared.Message.{Message}
 use Rattle.image.specs.Brick.{Brick}
+use Rattle.coord_apply.specs.Acts.{sendingFirst}
 use Rattle.coord_apply.specs.Answers.{Buffered, Broadcast, Went}
 use Rattle.order.specs.Claim.{Seen, _∈_}
-use Rattle.order.specs.Facts.{Source, End, Fact, began, launched, ended, seen, shows}
-use Rattle.order.specs.Places.{Suf, whole, above}
+use Rattle.order.specs.Facts.{Source, End, Fact, began, launched, stored, ended, seen, shows}
+use Rattle.order.specs.Places.{Suf, whole, above, In}
 use Rattle.order.specs.Valid.{OkBegan, OkLaunched, OkEnded, Ok, Valid, next}
 use Rattle.register.specs.Runs.{plain, Item, message, reply, putAt, seenOf, blockFor, oldFor, toAll, broadcasts}
-use Rattle.register.proofs.Laws.Invariant.{quorums, Hist, BrickInv, ItemInv, CoordinatorInv, View, ViewInv}
-use Rattle.register.proofs.Laws.UpLaws.{within-more, item-up, AtBrick, AtCoordinator, brick-up, coordinator-up, QuietWorld, coordinator-sent}
+use Rattle.register.proofs.Laws.Invariant.{quorums, Hist, BrickInv, MessageInv, ItemInv, CoordinatorInv, View, ViewInv}
+use Rattle.register.proofs.Laws.UpLaws.{Within, in-cons, within-more, item-up, told-sent, AtBrick, AtCoordinator, brick-up, coordinator-up, QuietWorld, coordinator-sent}
 use Rattle.register.proofs.Laws.Invariant.{Goes}
 use Rattle.register.proofs.Laws.BrickEvent.{put-here, put-there}
 
@@ -43,6 +45,7 @@ pub record Turns (s : Settings) (g : SettingsRange s) (c : ℕ) (h h′ : Hist s
   pub seen-more : seen h′ ≡ seen h ++ shown
   pub bricks : (b : ℕ) (x : Brick) → BrickInv s g h b x → BrickInv s g h′ b x
   pub others : (c′ : ℕ) → (c′ ≡ c → ⊥) → (sent : List Item) (k : Buffered) → CoordinatorInv s g h sent c′ k → CoordinatorInv s g h′ sent c′ k
+  pub stores-none : (b t : ℕ) → In (stored b t) h′ → In (stored b t) h
 
 module _ (s : Settings) (g : SettingsRange s) (c : ℕ) (h : Hist s) (v : Valid (quorums s g) h) where
   pub turns-not : (shown : List (Seen (plain s))) → shown ≡ [] → Turns s g c h h shown
@@ -53,6 +56,7 @@ module _ (s : Settings) (g : SettingsRange s) (c : ℕ) (h : Hist s) (v : Valid 
         seen-more = sym (append-nil (seen h)) ∙ ap (λ (z : List (Seen (plain s))). seen h ++ z) (sym e);
         bricks = λ b x i. i;
         others = λ c′ n sent k i. i;
+        stores-none = λ b t i. i;
       }
 
   turns-by : (f : Fact (plain s)) → Ok (quorums s g) f h → ((b : ℕ) → AtBrick b f → ⊥) → ((c′ : ℕ) → AtCoordinator c′ f → c′ ≡ c)
@@ -65,7 +69,12 @@ module _ (s : Settings) (g : SettingsRange s) (c : ℕ) (h : Hist s) (v : Valid 
         seen-more = ap (λ (z : List (Seen (plain s))). seen h ++ z) (sym e);
         bricks = λ b x i. brick-up (next v o) (at b) i;
         others = λ c′ n sent k i. coordinator-up (next v o) (λ a. n (co c′ a)) i;
+        stores-none = λ b t i. none b t (in-cons i);
       }
+    where
+      none : (b t : ℕ) → (stored b t ≡ f) ⊎ In (stored b t) h → In (stored b t) h
+      none b t (inl q) = absurd (at b (subst (AtBrick b) q refl))
+      none b t (inr i) = i
 
   pub turns-began : (t : ℕ) (k : plain s .Kind) → OkBegan h t → coordinatorOf t ≡ c → (shown : List (Seen (plain s)))
       → shown ≡ Seen.began t k ∷ [] → Turns s g c h (began t k ∷ h) shown
@@ -118,7 +127,65 @@ pub record TurnedRound (s : Settings) (g : SettingsRange s) (h : Hist s) (sent :
   pub turns : Turns s g c h later (seenOf s (w .seen) (w .next))
   pub keeps : CoordinatorInv s g later (sent ++ broadcasts s (w .sent)) c (w .next)
   pub items : (i : Item) → i ∈ broadcasts s (w .sent) → ItemInv s g later (sent ++ broadcasts s (w .sent)) i
-  pub own : (b : ℕ) (msg : Message) (block old : List ℕ) → message b msg block old ∈ broadcasts s (w .sent) → coordinatorOf (msg .time) ≡ c
+  pub own : (b : ℕ) (msg : Message) (block old : List ℕ) → message b msg block old ∈ broadcasts s (w .sent) → msg .kind ≡ orderReadKind
+      → coordinatorOf (msg .time) ≡ c
+
+-- A broadcast that is no Order-and-read goes out ahead of what a step sends.
+pub turned-first : (s : Settings) (g : SettingsRange s) (h : Hist s) (sent : List Item) (c : ℕ) (w : Went) (z : Broadcast)
+    → (z .message .kind ≡ orderReadKind → ⊥) → (t : TurnedRound s g h sent c w)
+    → ((b : ℕ) → b < s .n → MessageInv s g (t .later) b (z .message) (blockFor s z b) (oldFor s z))
+    → TurnedRound s g h sent c (sendingFirst (z ∷ []) w)
+unfolding sendingFirst broadcasts
+turned-first s g h sent c w z other t new =
+    record {
+      later = t .later;
+      turns = t .turns;
+      keeps = coordinator-sent within quiet (t .keeps);
+      items = λ i m. item i (List·Memᴰ·append-cases first m);
+      own = λ b msg block old m e. owns b msg block old e (List·Memᴰ·append-cases first m);
+    }
+  where
+    first : List Item
+    first = toAll s z (s .n)
+
+    rest : List Item
+    rest = broadcasts s (w .sent)
+
+    within : Within (sent ++ rest) (sent ++ (first ++ rest))
+    within i m = go (List·Memᴰ·append-cases sent m)
+      where
+        go : (i ∈ sent) ⊎ (i ∈ rest) → i ∈ (sent ++ (first ++ rest))
+        go (inl p) = Memᴰ·append-left (first ++ rest) p
+        go (inr p) = Memᴰ·append-right sent (Memᴰ·append-right first p)
+
+    -- none of them is an Order-and-read
+    no-look : (b : ℕ) (msg : Message) (block old : List ℕ) → msg .kind ≡ orderReadKind → message b msg block old ∈ first → ⊥
+    no-look b msg block old e m =
+        let q = in-toAll s z (s .n) (message b msg block old) m in
+        let k : msg .kind ≡ z .message .kind = unfold kind-of in ap kind-of (q .2) in
+        other (sym k ∙ e)
+
+    quiet : QuietWorld c (sent ++ rest) (sent ++ (first ++ rest))
+    quiet b msg block old m e _ = go (List·Memᴰ·append-cases sent m)
+      where
+        later : (message b msg block old ∈ first) ⊎ (message b msg block old ∈ rest) → message b msg block old ∈ (sent ++ rest)
+        later (inl p) = absurd (no-look b msg block old e p)
+        later (inr p) = Memᴰ·append-right sent p
+
+        go : (message b msg block old ∈ sent) ⊎ (message b msg block old ∈ (first ++ rest)) → message b msg block old ∈ (sent ++ rest)
+        go (inl p) = Memᴰ·append-left rest p
+        go (inr p) = later (List·Memᴰ·append-cases first p)
+
+    item : (i : Item) → (i ∈ first) ⊎ (i ∈ rest) → ItemInv s g (t .later) (sent ++ (first ++ rest)) i
+    item i (inl p) =
+        let q = in-toAll s z (s .n) i p in
+        subst (ItemInv s g (t .later) (sent ++ (first ++ rest))) (sym (q .2)) (new (q .0) (q .1))
+    item i (inr p) = item-up s g (t .turns .valid) whole within i (t .items i p)
+
+    owns : (b : ℕ) (msg : Message) (block old : List ℕ) → msg .kind ≡ orderReadKind
+        → (message b msg block old ∈ first) ⊎ (message b msg block old ∈ rest) → coordinatorOf (msg .time) ≡ c
+    owns b msg block old e (inl p) = absurd (no-look b msg block old e p)
+    owns b msg block old e (inr p) = t .own b msg block old p e
 
 -- a view in which coordinator c went on
 abbrev pub turnedView : (s : Settings) → View s → ℕ → Went → View s
@@ -131,9 +198,10 @@ turnedView s v c w =
     }
 
 pub goes-turned : (s : Settings) (g : SettingsRange s) (h : Hist s) (v : View s) → ViewInv s g h v → (c : ℕ) (w : Went)
-    → TurnedRound s g h (v .sent) c w → Goes s g (turnedView s v c w)
+    → TurnedRound s g h (v .sent) c w → Goes s g h (turnedView s v c w)
 goes-turned s g h v i c w t = (
   t .later,
+  t .turns .longer,
   record {
     valid = t .turns .valid;
     seen-is = t .turns .seen-more ∙ ap (λ (z : List (Seen (plain s))). z ++ seenOf s (w .seen) (w .next)) (i .seen-is);
@@ -141,6 +209,7 @@ goes-turned s g h v i c w t = (
         record { state = x .state; saved = x .saved; sound = x .sound; keeps = t .turns .bricks b (x .state) (x .keeps) };
     items = λ k m. item k (List·Memᴰ·append-cases (v .sent) m);
     coordinators = λ c′. at c′ (eqb c′ c) refl;
+    told = λ b u m. told-sent (within-more (v .sent) new) (i .told b u (t .turns .stores-none b u m));
   },
 )
   where
@@ -156,7 +225,7 @@ goes-turned s g h v i c w t = (
       where
         go : (message b msg block old ∈ v .sent) ⊎ (message b msg block old ∈ new) → message b msg block old ∈ v .sent
         go (inl p) = p
-        go (inr p) = absurd (n (sym q ∙ t .own b msg block old p))
+        go (inr p) = absurd (n (sym q ∙ t .own b msg block old p e))
 
     at : (c′ : ℕ) (a : Bool) → eqb c′ c ≡ a → CoordinatorInv s g (t .later) (v .sent ++ new) c′ (putAt (v .coordinators) c (w .next) c′)
     at c′ true e =

@@ -16,14 +16,14 @@ use Rattle.order.specs.Claim.{Plain, _∈_}
 use Rattle.order.specs.Facts.{Fact, began, promised, launched, stored, showed, ended, History}
 use Rattle.order.specs.Places.{Suf, whole, above, In}
 use Rattle.order.proofs.Laws.PlaceLaws.{suf-cons, in-suf, in-above}
-use Rattle.order.specs.Valid.{Began, Gone, Valid}
-use Rattle.order.proofs.Laws.FactLaws.{committed-up}
+use Rattle.order.specs.Valid.{Began, Passed, Gone, Valid}
+use Rattle.order.proofs.Laws.FactLaws.{committed-up, passed-up}
 use Rattle.order.proofs.Laws.StoredLaws.{stored-before}
 use Rattle.order.proofs.Laws.GoneLaws.{gone-up}
 use Rattle.order.proofs.Laws.ValueLaws.{val-up}
 use Rattle.register.specs.Runs.{plain, Item, message, reply}
 use Rattle.register.proofs.Laws.Invariant.{quorums, Hist, Means, Stands, BrickInv, Modifies, MessageInv, Looked, Newest, ReplyInv, ItemInv, CountedInv, Lowered}
-use Rattle.register.proofs.Laws.Invariant.{Running, CoordinatorInv, LogHas}
+use Rattle.register.proofs.Laws.Invariant.{Running, CoordinatorInv, LogHas, ToldStored}
 
 -- all that stands in the one list stands in the other
 abbrev pub Within : List Item → List Item → Type 0
@@ -68,7 +68,8 @@ module _ {s : Settings} {g : SettingsRange s} {a h : Hist s} (v : Valid (quorums
         asks = λ l. let w = x .asks l in (w .0, in-suf q (w .1));
         stores = λ e. let w = x .stores e in ((w .0 .0, in-suf q (w .0 .1)), means-up q (w .1));
         modifies = λ e. modifies-up q (x .modifies e);
-        trims = λ e. committed-up (quorums s g) q (x .trims e);
+        trims = λ e. let w = x .trims e in (w .0, committed-up (quorums s g) q (w .1));
+        drops = λ e. let w = x .drops e in (w .0, gone-up v q (w .1));
       }
 
   looked-up : {old new : List Item} {r : Reply} → Within old new → In (promised (r .brick) (r .time)) a → Looked s g a old r → Looked s g h new r
@@ -157,8 +158,13 @@ module _ {s : Settings} {g : SettingsRange s} {h : Hist s} {f : Fact (plain s)} 
         bounded = λ t p. bound t (in-cons p);
         entries = λ j l. let w = i .entries j l in (stands-up (above whole) (w .0), means-up (above whole) (w .1));
         kept = λ u w. keep u (i .kept u (before u w));
+        kept-zero = fresh (i .kept-zero);
       }
     where
+      fresh : LogHas x 0 ⊎ Passed (quorums s g) h 0 → LogHas x 0 ⊎ Passed (quorums s g) (f ∷ h) 0
+      fresh (inl w) = inl w
+      fresh (inr w) = inr (passed-up (quorums s g) (above whole) w)
+
       bound : (t : ℕ) → (promised b t ≡ f) ⊎ In (promised b t) h → t ≤ x .promise
       bound t (inl e) = absurd (other (subst (AtBrick b) e refl))
       bound t (inr p) = i .bounded t p
@@ -243,6 +249,10 @@ counted-sent w x =
       block-is = x .block-is;
       right = x .right;
     }
+
+pub told-sent : {old new : List Item} {b t : ℕ} → Within old new → ToldStored old b t → ToldStored new b t
+told-sent w x =
+    record { from = x .from; block = x .block; was-sent = w _ (x .was-sent); brick-is = x .brick-is; time-is = x .time-is; yes-is = x .yes-is; kind-is = x .kind-is }
 
 pub lowered-sent : {old new : List Item} {time : ℕ} → Within old new → Lowered old time → Lowered new time
 lowered-sent w x =
