@@ -67,7 +67,8 @@ pub enum Outcome {
     /// A write that finished.
     Ok,
     /// A read that finished: the stripe or the block, and the bricks it names:
-    /// the m decoded from, or that of a block read in one round.
+    /// the m decoded from, or that of a block read in one round. After recovery
+    /// these are the first m by number that gave the chosen time (E7).
     Gave {
         data: Vec<u8>,
         bricks: Vec<u8>,
@@ -673,8 +674,8 @@ fn decide_recovery(shape: Shape, running: &mut Running) -> Decision {
     clear_then_next(drops, running.open_round(shape, ORDER_READ, highest))
 }
 
-/// The first m bricks by number, and the stripe that all blocks of the chosen
-/// time decode to; none if they disagree.
+/// The first m bricks by number (E7), and the stripe that all blocks of the
+/// chosen time decode to; none if they disagree.
 fn recover(shape: Shape, chosen: &[Reply]) -> Option<(Vec<u8>, Vec<u8>)> {
     let mut bricks: Vec<u8> = chosen.iter().map(|reply| reply.brick as u8).collect();
     bricks.sort_unstable();

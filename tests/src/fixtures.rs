@@ -73,14 +73,19 @@ pub fn take(record: &mut Record, reply: Reply) -> Step {
     take_reply(volume(), 1, record, &reply).unwrap()
 }
 
-/// Whether these replies of a recovery's round hold m or more blocks of the highest time among them.
-pub fn enough_blocks(m: u64, replies: &[Reply]) -> bool {
+/// The bricks that gave a block of the highest time in a recovery's round, in rising order.
+pub fn givers(replies: &[Reply]) -> Vec<u8> {
     let holding = || replies.iter().filter(|reply| reply.block.is_some());
     let highest = holding().map(|reply| reply.found).max();
-    holding()
-        .filter(|reply| Some(reply.found) == highest)
-        .count() as u64
-        >= m
+    let gave = holding().filter(|reply| Some(reply.found) == highest);
+    let mut givers: Vec<u8> = gave.map(|reply| reply.brick as u8).collect();
+    givers.sort_unstable();
+    givers
+}
+
+/// Whether these replies of a recovery's round hold m or more blocks of the highest time among them.
+pub fn enough_blocks(m: u64, replies: &[Reply]) -> bool {
+    givers(replies).len() as u64 >= m
 }
 
 /// Changes one byte of the reply's block, if it holds one: a brick that gives another block of the same time.

@@ -2,7 +2,7 @@
 
 use crate::brick::{self, clears, stores, Message, Reply, DROP, FULL, MODIFY, ORDER_BLOCK, ORDER_READ, READ, TRIM, WRITE};
 use crate::coordinator::{self, Ended, Kind, Outcome, Record, Step};
-use crate::fixtures::enough_blocks;
+use crate::fixtures::{enough_blocks, givers};
 use crate::order::{brute_order, by_stripe, has_order, End, Operation};
 use crate::proved::{self, answer, record};
 use crate::rng::Rng;
@@ -452,6 +452,8 @@ pub struct Noted {
     pub stored: usize,
     /// Whether a Modify went out.
     pub modified: bool,
+    /// The bricks that gave the highest time in the last round of recovery, in rising order.
+    pub givers: Vec<u8>,
     /// The letter of its end.
     pub letter: Option<char>,
 }
@@ -577,6 +579,9 @@ impl<R: Routines> World<R> {
         }
         let decided = !step.sent.is_empty() || step.ended.is_some();
         let counted = if decided { std::mem::take(&mut self.counted[c]) } else { Vec::new() };
+        if let (Some(k), true) = (last, counted.iter().any(|reply| reply.kind == ORDER_READ)) {
+            self.noted[k].givers = givers(&counted);
+        }
         let (n, before, after) = (self.n(), self.sent.len(), self.sent.len() + step.sent.len());
         assert!([0, n, 2 * n].contains(&step.sent.len()));
         self.fresh.extend(before..after);
@@ -616,15 +621,16 @@ impl<R: Routines> World<R> {
         char::from(LETTERS.as_bytes()[next])
     }
 
-    /// What a finished read gave has the right length, and it names m different bricks, or the one of a block read in one round.
+    /// What a finished read gave has the right length. In one round it names m different bricks, or the one of a block; after recovery the
+    /// first m by number that gave the chosen time (E7).
     fn check_named(&self, k: usize, data: &[u8], bricks: &[u8]) {
-        let shape = self.settings.shape;
-        match self.operations[k].block {
-            Some(block) => {
-                assert_eq!(data.len() as u64, shape.size);
-                assert!(if self.noted[k].round == 1 { bricks == [block as u8] } else { shape.is_brick_set(bricks) });
-            }
-            None => assert!(data.len() == shape.data_len() && shape.is_brick_set(bricks)),
+        let (shape, block) = (self.settings.shape, self.operations[k].block);
+        let givers = &self.noted[k].givers;
+        assert_eq!(data.len(), block.map_or(shape.data_len(), |_| shape.size as usize));
+        match block {
+            _ if self.noted[k].round > 1 => assert_eq!(*bricks, givers[..shape.m as usize]),
+            Some(block) => assert_eq!(*bricks, [block as u8]),
+            None => assert!(shape.is_brick_set(bricks)),
         }
     }
 
@@ -647,7 +653,7 @@ impl<R: Routines> World<R> {
                 assert!(idle);
                 let time = R::running(coordinator).expect("an operation runs");
                 self.operations.push(Operation { stripe, block: what.block(), write: what.bytes(), began: self.event, ended: None });
-                self.noted.push(Noted { coordinator: c, time, round: 1, stored: 0, modified: false, letter: None });
+                self.noted.push(Noted { coordinator: c, time, round: 1, stored: 0, modified: false, givers: Vec::new(), letter: None });
                 self.after(c, step);
             }
             Err(number) => assert_eq!((number, idle), (9, false)),

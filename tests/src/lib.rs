@@ -18,6 +18,7 @@ pub mod inplace_tables;
 pub mod order;
 #[allow(unsafe_code)]
 pub mod proved;
+pub mod recovery;
 pub mod rng;
 pub mod script;
 pub mod settings;

@@ -4,8 +4,10 @@ use jilbagum_tests::brick::*;
 use jilbagum_tests::code::encode;
 use jilbagum_tests::coordinator::*;
 use jilbagum_tests::fixtures::{fresh, may_say, reply, take, told, volume, STRIPE};
+use jilbagum_tests::recovery::{Recovery, OTHER_CHOICES};
 use jilbagum_tests::rng::Rng;
 use jilbagum_tests::settings::{Refusal, Volume, LAST_COUNT, NO_UPPER_END};
+use jilbagum_tests::tally::Tally;
 
 /// Coordinator 1 writing bytes 5, 9 at time 17.
 fn writing() -> Record {
@@ -346,6 +348,36 @@ fn recovery_names_the_first_m_bricks_by_number() {
     take_all(&mut record, replies.to_vec());
     let step = take_all(&mut record, yes_from(WRITE, 3, &[0, 1, 2]));
     assert_eq!(outcome(&step), ('H', stripe(&[5, 9], &[1, 2])));
+}
+
+/// E7: whichever q bricks of a small set are counted, in several orders of arrival, and whichever m
+/// or more of them gave the chosen time, a read recovered at the first time tried or at a lower one
+/// names the first m of these by number, whatever its first target.
+#[test]
+fn every_recovered_read_names_the_first_m() {
+    let mut rng = Rng::printed(7);
+    let mut tally = Tally::default();
+    for found in Recovery::of_small_sets(&mut rng) {
+        let volume = Volume {
+            shape: found.shape,
+            stripes: 3,
+        };
+        let mut named = found.givers.clone();
+        named.sort_unstable();
+        named.truncate(found.shape.m as usize);
+        for first in 0..found.shape.n {
+            let mut record = Record::fresh(volume, 1);
+            start_read(volume, 1, &mut record, STRIPE, 1, first).unwrap();
+            let step = found.play(&mut record);
+            let expected = (found.letter(), stripe(&found.data, &named));
+            assert_eq!(outcome(&step), expected, "first target {first}, {found:?}");
+            tally.add(format!("letter {}", found.letter()), 1);
+            found.count_choices(first, &named, &mut tally);
+        }
+    }
+    println!("{:?}", tally.0);
+    tally.expect(1000, &["letter H", "letter L"]);
+    tally.expect(1000, &OTHER_CHOICES);
 }
 
 #[test]

@@ -3,7 +3,10 @@
 use jilbagum_tests::brick::*;
 use jilbagum_tests::coordinator::*;
 use jilbagum_tests::fixtures::{fresh, may_say, reply, take, told, volume, STRIPE};
+use jilbagum_tests::recovery::{Recovery, OTHER_CHOICES};
+use jilbagum_tests::rng::Rng;
 use jilbagum_tests::settings::{Refusal, Volume, LAST_COUNT, NO_UPPER_END};
+use jilbagum_tests::tally::Tally;
 
 /// The block of all operations here, if not said otherwise.
 const BLOCK: u64 = 1;
@@ -455,6 +458,49 @@ fn a_block_read_recovers_otherwise_and_gives_its_block() {
         assert_eq!(outcome(&step, Kind::ReadBlock), ('H', gave(9, &[1, 2])));
         assert_eq!(step.sent, vec![message(TRIM, 3); 4]);
     }
+}
+
+/// E7: as of the stripe, for every block: the first m that gave the chosen time, whether brick j is
+/// among them or not.
+#[test]
+fn every_recovered_block_read_names_the_first_m() {
+    let mut rng = Rng::printed(8);
+    let mut tally = Tally::default();
+    for found in Recovery::of_small_sets(&mut rng) {
+        let volume = Volume {
+            shape: found.shape,
+            stripes: 3,
+        };
+        let mut named = found.givers.clone();
+        named.sort_unstable();
+        named.truncate(found.shape.m as usize);
+        for block in 0..found.shape.m {
+            let mut record = Record::fresh(volume, 1);
+            start_read_block(volume, 1, &mut record, STRIPE, 1, block).unwrap();
+            let ended = found.play(&mut record).ended.expect("the read ended");
+            let expected = Ended {
+                coordinator: 1,
+                kind: Kind::ReadBlock,
+                stripe: STRIPE,
+                block,
+                time: 17,
+                outcome: Outcome::Gave {
+                    data: found.shape.block(&found.data, block as usize).to_vec(),
+                    bricks: named.clone(),
+                },
+                letter: found.letter(),
+            };
+            assert_eq!(ended, expected, "{found:?}");
+            let own = named.contains(&(block as u8));
+            tally.add(format!("brick j named: {own}"), 1);
+            tally.add(format!("letter {}", found.letter()), 1);
+            found.count_choices(block, &named, &mut tally);
+        }
+    }
+    println!("{:?}", tally.0);
+    tally.expect(1000, &["letter H", "letter L"]);
+    tally.expect(1000, &["brick j named: true", "brick j named: false"]);
+    tally.expect(1000, &OTHER_CHOICES);
 }
 
 #[test]

@@ -9,6 +9,7 @@ use jilbagum_tests::proved::record::{
     BRICKS, COMPARISON, COUNTED, FIRST, FOUND, GRANTED, HELD, KIND, LAST, M, MAX, N, PHASE, ROUND, SIZE, STRIPE, STRIPES, TIME,
 };
 use jilbagum_tests::proved::{self, answer as at, record, Coordinator, Lent};
+use jilbagum_tests::recovery::{Recovery, OTHER_CHOICES};
 use jilbagum_tests::rng::Rng;
 use jilbagum_tests::settings::{quorum, Refusal, Settings, Shape, Volume, LAST_COUNT, NO_UPPER_END};
 use jilbagum_tests::image;
@@ -627,9 +628,10 @@ fn recovering(volume: Volume, kind: Kind, rng: &mut Rng, tally: &mut Tally) -> C
     c
 }
 
-/// A recovery's replies: those of the chosen time give blocks of one coded stripe, the last ones other bytes of a lower time. Each byte of
-/// each block of the chosen time is altered in turn. With m of them the stripe is another one; with more nothing is sent, the record is
-/// idle with its clock, the replies' blocks lie in their places, and stripe and coded blocks keep their bytes.
+/// A recovery's replies: those of the chosen time give blocks of one coded stripe, the others other bytes of a lower time. Each byte of
+/// each block of the chosen time is altered in turn, of the first m by number and of all beyond them. With m of them the stripe is another
+/// one; with more nothing is sent or named, the record is idle with its clock, the replies' blocks lie in their places, and stripe and
+/// coded blocks keep their bytes.
 #[test]
 fn a_recovery_whose_blocks_disagree_is_aborted() {
     let mut rng = Rng::printed(38);
@@ -645,16 +647,18 @@ fn a_recovery_whose_blocks_disagree_is_aborted() {
                 (begun.lent.numbers[ROUND], begun.lent.numbers[MAX]) = (7, 64);
             }
             let (round, number) = (begun.lent.numbers[ROUND], begun.lent.numbers[FIRST]);
+            // The first q are counted, the first of these give the chosen time.
+            let bricks = rng.shuffled(n as usize);
+            let mut givers = bricks[..count as usize].to_vec();
+            givers.sort_unstable();
             // Each byte of the blocks of the chosen time, and none; of long blocks some.
             let step = if length > 16 { 41 } else { 1 };
             for altered in (0..count as usize * length).step_by(step).map(Some).chain([None]) {
                 let mut c = begun.clone();
-                let bricks = rng.shuffled(n as usize);
-                // Which of the q replies hold the chosen time, so that the decisive one may or may not.
-                let places = rng.shuffled(q as usize);
                 let mut given = begun.blocks.clone();
-                for k in 0..q as usize {
-                    let (brick, place) = (bricks[k], places[k]);
+                // In any order, so that the decisive reply may hold the chosen time or not.
+                for place in rng.shuffled(q as usize) {
+                    let brick = bricks[place];
                     let chosen = (place as u64) < count;
                     let mut block = if chosen { shape.block(&coded, brick).to_vec() } else { rng.bytes(length) };
                     if let Some(at) = altered.filter(|at| at / length == place) {
@@ -671,6 +675,10 @@ fn a_recovery_whose_blocks_disagree_is_aborted() {
                     assert_eq!((c.lent.bytes[PHASE], c.lent.numbers[ROUND]), (WRITE, round + 1));
                     continue;
                 }
+                let altered = altered.map(|at| bricks[at / length]).unwrap();
+                let named = givers[..m as usize].contains(&altered);
+                tally.add(if named { "one of the first m altered" } else { "one beyond the first m altered" }, 1);
+                // Nothing is named.
                 let mut idle = Lent::fresh(Proved::four(volume), 3);
                 idle.numbers[LAST] = 5;
                 idle.shown[at::SEEN..=at::SEEN_KIND].copy_from_slice(&[proved::ABORTED, number_of(kind)]);
@@ -686,6 +694,7 @@ fn a_recovery_whose_blocks_disagree_is_aborted() {
     tally.expect(100, &["recovery aborted as blocks disagree", "block recovery aborted as blocks disagree"]);
     tally.expect(6, &["write round 3", "block write round 3"]);
     tally.expect(100, &["letter X", "block letter X"]);
+    tally.expect(100, &["one of the first m altered", "one beyond the first m altered"]);
 }
 
 /// A read of one round decodes from its targets and looks at nothing else: altered blocks of m targets give other bytes and no abort.
@@ -711,6 +720,95 @@ fn a_read_of_one_round_checks_nothing() {
         }
     }
     tally.expect(5, &["read in one round", "block read in one round"]);
+}
+
+/// A start of a read of the stripe, or of one block, at a clock's reading, with this first target.
+fn read_from(kind: Kind, stripe: u64, reading: u64, first: u64) -> Event {
+    match kind {
+        Kind::ReadBlock => Event::ReadBlock(stripe, reading, first),
+        _ => Event::Read(stripe, reading, first),
+    }
+}
+
+/// A coordinator whose read met all replies of a recovery, those after the q-th of a round too.
+fn recovered(volume: Volume, number: u64, begin: &Event, found: &Recovery, rng: &mut Rng, tally: &mut Tally) -> Coordinator {
+    let mut c = fresh(volume, number, rng);
+    compare(volume, &mut c, begin, tally);
+    let (stripe, time) = (c.lent.numbers[STRIPE], c.lent.numbers[TIME]);
+    for reply in found.replies(stripe, time).into_iter().flatten() {
+        compare(volume, &mut c, &Event::Reply(reply), tally);
+    }
+    assert_eq!((c.lent.running(), c.lent.shown[at::SEEN]), (false, proved::GAVE));
+    c
+}
+
+/// E7: a recovered read, of the stripe or of one block, names the first m by number of those counted in the round that decided which gave
+/// the highest time, and gives what was stored at that time; whatever the order of arrival, the first target, and the bricks that gave
+/// another time, gave it in an earlier round or came too late.
+#[test]
+fn recovered_reads_name_the_first_m() {
+    let mut rng = Rng::printed(46);
+    let mut tally = Tally::default();
+    for _ in 0..2000 {
+        let volume = some_volume(&mut rng);
+        let Shape { n, m, .. } = volume.shape;
+        let found = Recovery::some(volume.shape, &mut rng);
+        for (kind, of, targets) in [(Kind::Read, "", n), (Kind::ReadBlock, "block ", m)] {
+            let first = rng.below(targets);
+            let begin = read_from(kind, rng.below(volume.stripes), rng.below(99), first);
+            let c = recovered(volume, rng.below(16), &begin, &found, &mut rng, &mut tally);
+            let counted = &found.rounds[found.rounds.len() - 1][..quorum(n, m).unwrap() as usize];
+            let holding = || counted.iter().filter(|reply| reply.block.is_some());
+            let highest = holding().map(|reply| reply.found).max().unwrap();
+            let givers = holding().filter(|reply| reply.found == highest);
+            let mut named: Vec<u8> = givers.map(|reply| reply.brick as u8).collect();
+            named.sort_unstable();
+            tally.add("more than m givers", usize::from(named.len() as u64 > m));
+            named.truncate(m as usize);
+            assert_eq!(c.lent.shown_row(at::BRICKS), row(&named), "{begin:?} {found:?}");
+            assert_eq!((c.lent.shown[at::SEEN_KIND], c.lent.shown[at::LETTER]), (number_of(kind), found.letter() as u8));
+            // A block stands at its place in the stripe found.
+            assert!(c.stripe == found.data, "{begin:?} {found:?}");
+            tally.add(format!("{of}first m named, {}", found.letter()), 1);
+            found.count_choices(first, &named, &mut tally);
+        }
+    }
+    println!("{:?}", tally.0);
+    tally.expect(200, &OTHER_CHOICES);
+    tally.expect(200, &["more than m givers"]);
+    tally.expect(200, &["first m named, H", "first m named, L", "block first m named, H", "block first m named, L"]);
+}
+
+/// E7: the same replies, at the first time tried and at a lower one, met in other orders, by other coordinators, at other readings of their
+/// clocks and with other first targets, by reads of the stripe and of one block: the same bricks are named and the same stripe is found.
+#[test]
+fn same_replies_same_answer() {
+    let mut rng = Rng::printed(47);
+    let mut tally = Tally::default();
+    for _ in 0..1000 {
+        let volume = some_volume(&mut rng);
+        let Shape { n, m, .. } = volume.shape;
+        let found = Recovery::some(volume.shape, &mut rng);
+        let (number, reading, first) = (rng.below(16), rng.between(1, 99), rng.below(n));
+        let (mut answers, mut choices) = (Vec::new(), Vec::new());
+        for (k, kind) in (0..).zip([Kind::Read, Kind::Read, Kind::ReadBlock, Kind::ReadBlock]) {
+            let first = if kind == Kind::Read { (first + k) % n } else { (first + k) % m };
+            let begin = read_from(kind, rng.below(volume.stripes), reading + k, first);
+            let reordered = found.reordered(&mut rng);
+            let c = recovered(volume, (number + k) % 16, &begin, &reordered, &mut rng, &mut tally);
+            choices.push(reordered.other_choices(first));
+            answers.push((c.lent.shown_row(at::BRICKS), c.stripe));
+        }
+        assert!(answers.iter().all(|answer| *answer == answers[0]), "{answers:?} {found:?}");
+        tally.add(format!("same answer, {}", found.letter()), 1);
+        // Those by the first target and by the order of arrival would differ.
+        for k in 1..3 {
+            tally.add(OTHER_CHOICES[k], usize::from(choices.iter().any(|choice| choice[k] != choices[0][k])));
+        }
+    }
+    println!("{:?}", tally.0);
+    tally.expect(200, &["same answer, H", "same answer, L"]);
+    tally.expect(200, &OTHER_CHOICES[1..3]);
 }
 
 /// Every choice of what the q bricks of a recovery's round give (no block, or one of time 0, 16 or 40), in a first round, later ones and

@@ -272,12 +272,24 @@ fn needed(text: &str) -> BTreeSet<&str> {
     found
 }
 
+/// The names that an edit brings along: after `let`, and the first parameter of a function.
+fn brought(edit: &str) -> BTreeSet<&str> {
+    let mut found = BTreeSet::new();
+    for line in edit.lines().filter_map(|line| line.strip_prefix("new: ")) {
+        found.extend(line.split("let ").skip(1).filter_map(|rest| rest.split(' ').next()));
+        let parameters = line.split_once("fn ").and_then(|(_, rest)| rest.split_once('('));
+        found.extend(parameters.and_then(|(_, rest)| Some(rest.split_once(": ")?.0)));
+    }
+    found
+}
+
 /// A name that is missing would refuse an edit whatever the edit says: what it shows must be a fact that fails.
 #[test]
 fn every_edit_names_what_its_file_knows() {
     let mut wrong = Vec::new();
     for (krate, file) in all_edits() {
         let edit = read(&format!("crates/{krate}/must-fail/{file}"));
+        let own = brought(&edit);
         let (mut code, mut old) = (String::new(), "");
         for (key, text) in edit.lines().filter_map(|line| line.split_once(": ")) {
             match key {
@@ -289,7 +301,7 @@ fn every_edit_names_what_its_file_knows() {
                 "old" => old = text,
                 _ => {
                     let known = needed(old);
-                    let missing = needed(text).into_iter().filter(|name| !known.contains(name) && !holds(&code, name));
+                    let missing = needed(text).into_iter().filter(|name| !known.contains(name) && !own.contains(name) && !holds(&code, name));
                     wrong.extend(missing.map(|name| format!("{file} of {krate}: {name}")));
                 }
             }

@@ -10,7 +10,7 @@ use Rattle.coord_record.specs.Records.{isReading, onBlock, targetCount, idleWit
 use Rattle.coord_record.specs.declared.Coordinator.{Coordinator}
 use Rattle.coord_record.specs.declared.Op.{Op}
 use Rattle.coord_record.specs.declared.Tally.{Tally}
-use Rattle.coord_tally.specs.Counting.{atTimes, givers, picked, targetRow}
+use Rattle.coord_tally.specs.Counting.{atTimes, givers, firstGivers, picked, targetRow}
 use Rattle.coord_decide.specs.Deciding.{tallied, decided}
 use Rattle.coord_decide.specs.declared.Decision.{Decision}
 use Rattle.coord_decide.specs.declared.Decision.the-variants.{Abort, Give, Look, Store, Modify, Recover, Finish}
@@ -126,14 +126,16 @@ finishedSeen op = cond (isReading (op .kind)) readSeen okSeen
 unfoldable pub namedBricks : Op → List ℕ → List ℕ
 namedBricks op row = cond (isReading (op .kind)) row noBricks
 
--- E3: "Recovery hands on every block of the chosen time": the bricks that gave it, rising, and what a recovery from their blocks stores
+-- E3: "Recovery hands on every block of the chosen time": the bricks that gave it, rising
 abbrev pub giversAt : (n : ℕ) → Buffered → (time : ℕ) → List ℕ
 giversAt n h time = givers (h .state .tally .held) (h .state .tally .found) time n
 
+-- E7: "name, and decode from, the first m in brick number among those that gave the chosen time": what a recovery from their blocks stores,
 abbrev pub recoveredStripe : (n m size : ℕ) → Buffered → (time : ℕ) → List ℕ
-recoveredStripe n m size h time = storedStripe size (h .state .op) (h .stripe) (stripeFrom m size (giversAt n h time) (h .blocks))
+recoveredStripe n m size h time =
+    storedStripe size (h .state .op) (h .stripe) (stripeFrom m size (firstGivers (h .state .tally .held) (h .state .tally .found) time n m) (h .blocks))
 
--- the first m of them, which are named
+-- and the same bricks in a row, which a read names
 abbrev pub pickedAt : (n m : ℕ) → Buffered → (time : ℕ) → List ℕ
 pickedAt n m h time = picked (h .state .tally .held) (h .state .tally .found) time n m
 
@@ -162,7 +164,7 @@ acted n m size h (Look max) = sendingFirst (dropsFirst (h .state .op) max) (next
 acted n m size h Store = nextRound h writeKind 0 noBricks (h .stripe) (codedOf n m size (h .stripe))
 -- E2: "If all q times agree and brick j replied, Modify goes out"
 acted n m size h (Modify time) = modifying size h time
--- "decode and store". E3: "a disagreement ends it aborted"
+-- "decode and store". E3: "a disagreement ends it aborted"; E7: those beyond the first m are what the check takes
 acted n m size h (Recover time) =
     cond (agreeing m size (giversAt n h time) (h .blocks)) (storing n m size h time) (aborting n h)
 -- "After a finished Write round, Trim of the operation's time, with that round's number, is sent to all."

@@ -10,7 +10,7 @@ ghost use Rattle.coord_apply.specs.Workers.{DecisionReady, Acted, openAn
 ghost use Rattle.coord_apply.specs.Acts.{roundMessage, clearMessage, dropsFirst, trimsFirst, nextOp, finishedSeen};
 ghost use Rattle.coord_apply.specs.Acts.{seenBlock, noticeOf, namedBricks};
 ghost use Rattle.coord_blocks.specs.Blocks.{stripeFrom, agreeing, givenStripe, storedStripe};
-ghost use Rattle.coord_tally.specs.Counting.{givers, picked, targetRow, atTimes};
+ghost use Rattle.coord_tally.specs.Counting.{givers, firstGivers, picked, targetRow, atTimes};
 ghost use Rattle.coord_decide.specs.Deciding.{decided};
 ghost use Rattle.coord_decide.specs.declared.Decision.the-variants.{Recover};
 ghost use Rattle.coord_record.specs.Records.{targetCount, noBricks};
@@ -315,7 +315,8 @@ fn givers_count(n: usize, c: Coordinator, time: u64) -> usize
     coord_tally::count_at(held, found, time, n)
 }
 
-// Decodes from the blocks of all k bricks that gave this time. Whether they agree; if not, nothing is written.
+// Decodes from the blocks of the first m by number of the k bricks that gave this time, and checks the blocks of the others against them.
+// Whether all agree; if not, nothing is written.
 fn recover(
     n: usize,
     m: usize,
@@ -330,7 +331,7 @@ fn recover(
     requires { ⌜ (k ≡ count (atTimes (c .tally .held) (c .tally .found) time) n) × (m ≤ k) ⌝ }
     ensures { λ r. ⌜ r ≡ agreeing m size (givers (c .tally .held) (c .tally .found) time n) (now (blocks .entry)) ⌝ }
     ensures { λ r. ⌜ now (stripe .exit) ≡ cond r (storedStripe size (c .op) (now (stripe .entry))
-        (stripeFrom m size (givers (c .tally .held) (c .tally .found) time n) (now (blocks .entry)))) (now (stripe .entry)) ⌝ }
+        (stripeFrom m size (firstGivers (c .tally .held) (c .tally .found) time n m) (now (blocks .entry)))) (now (stripe .entry)) ⌝ }
 {
     let t = c.tally;
     let op = c.op;
@@ -340,7 +341,7 @@ fn recover(
     coord_blocks::decode_stored(m, size, op, k, row, blocks, stripe)
 }
 
-// The bricks that the recovery at this time names: the first m that gave it, by a read.
+// The bricks that the recovery at this time names: the first m by number that gave it, by a read.
 fn recovery_names(n: usize, m: usize, c: Coordinator, time: u64) -> [u8; MAX_BRICKS]
     requires { ⌜ n ≤ maxBricks ⌝ }
     ensures { λ r. ⌜ r ≡ namedBricks (c .op) (picked (c .tally .held) (c .tally .found) time n m) ⌝ }

@@ -2,3 +2,4 @@
 pub mod CountingLaws
 pub mod TargetRowLaws
 pub mod RowSets
+pub mod FirstMemberLaws

@@ -43,13 +43,22 @@ passing p (suc k) = passing p k ++ cond (p k) (k ∷ []) []
 unfoldable pub inRow : List ℕ → List ℕ
 inRow l = tabulate maxBricks (λ (i : ℕ). getD l i 0)
 
+-- E7: "the first m in brick number among those": the first m members of a set of bricks below n, rising
+-- (`FirstTheorem`: m different ones, every other one has a higher number than all of them, and no other list is so)
+abbrev pub firstMembers : (m : ℕ) → (ℕ → Bool) → (n : ℕ) → List ℕ
+firstMembers m p n = take m (passing p n)
+
 -- the bricks of a set that found a time, by number
 abbrev pub givers : (flags found : List ℕ) → (time n : ℕ) → List ℕ
 givers flags found time n = passing (atTimes flags found time) n
 
--- the first m of them, in a row of 16
-unfoldable pub picked : List ℕ → List ℕ → ℕ → ℕ → ℕ → List ℕ
-picked flags found time n m = inRow (take m (givers flags found time n))
+-- E7: "the first m in brick number among those that gave the chosen time"
+abbrev pub firstGivers : (flags found : List ℕ) → (time n m : ℕ) → List ℕ
+firstGivers flags found time n m = firstMembers m (atTimes flags found time) n
+
+-- the same in a row of 16
+unfoldable pub picked : (flags found : List ℕ) → (time n m : ℕ) → List ℕ
+picked flags found time n m = inRow (firstGivers flags found time n m)
 
 -- the brick that is i above the first, wrapping at n
 unfoldable pub upward : ℕ → ℕ → ℕ → ℕ

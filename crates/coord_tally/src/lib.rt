@@ -118,15 +118,15 @@ pub fn pick(
 {
     let mut row = [0u8; MAX_BRICKS];
     let mut k = 0;
-    let mut b = 0;
-    while b < n {
-        if at_time(flags[b], found[b], time) {
+    let mut brick = 0;
+    while brick < n {
+        if at_time(flags[brick], found[brick], time) {
             if k < m {
-                row[k] = b as u8;
+                row[k] = brick as u8;
                 k += 1;
             }
         }
-        b += 1;
+        brick += 1;
     }
     row
 }

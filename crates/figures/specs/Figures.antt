@@ -13,6 +13,7 @@ use Rattle.image.specs.Image.{imageOf}
 use Rattle.image.specs.Parse.{imageBlockAt}
 use Rattle.erasure.specs.Code.{codedOf, decodedOf}
 use Rattle.erasure.specs.Refusals.{decodeRefusal}
+use Rattle.coord_tally.specs.Counting.{firstGivers}
 use Rattle.gf256.specs.Product.{product}
 use Rattle.settings.specs.Ranges.{quorum, settingsRefusal}
 use Rattle.settings.specs.Refusal.{passed, badSetting, badReading, badStripe, badBrickSet, blocksDisagree}
@@ -116,6 +117,9 @@ figures =
     ∷ row (refusedBy (decodeRefusal 4 2 1 (2 ∷ 3 ∷ 0 ∷ []) (29 ∷ 17 ∷ 6 ∷ []) 2)) (refusal blocksDisagree)
     ∷ row (refusedBy (decodeRefusal 4 2 1 (2 ∷ []) (29 ∷ []) 2)) (refusal badBrickSet)
     ∷ row (refusedBy (decodeRefusal 4 2 1 (2 ∷ 3 ∷ 2 ∷ []) (29 ∷ 17 ∷ 29 ∷ []) 2)) (refusal badBrickSet)
+    -- E7, of five bricks that gave blocks of times 16, 32, 32, 16 and 32, with m 2: at 32 the first are 1 and 2, at 16 they are 0 and 3.
+    ∷ row (bytes (firstGivers (1 ∷ 1 ∷ 1 ∷ 1 ∷ 1 ∷ []) (16 ∷ 32 ∷ 32 ∷ 16 ∷ 32 ∷ []) 32 5 2)) (bytes (1 ∷ 2 ∷ []))
+    ∷ row (bytes (firstGivers (1 ∷ 1 ∷ 1 ∷ 1 ∷ 1 ∷ []) (16 ∷ 32 ∷ 32 ∷ 16 ∷ 32 ∷ []) 16 5 2)) (bytes (0 ∷ 3 ∷ []))
     ∷ []
 
 -- every row gives its figure

@@ -8,8 +8,10 @@ pub mod NeverRefusedLaws
 pub mod EntryLaws
 pub mod AgreementLaws
 pub mod SupersededLaws
+pub mod MetLaws
 pub mod RunLetterLaws
 pub mod EndLetterLaws
+pub mod NamedBrickLaws
 pub mod NumberedLaws
 pub mod VolumeLaws
 pub mod RefusedEventLaws

@@ -3,14 +3,15 @@
 -- The set and its runs; demand 3.
 pub mod Runs
 pub mod Theorem
--- What it means for a dealer; that nothing which is kept is ever refused; what the logs hold; that blocks of one time never disagree; that there
--- are 16 coordinators; that refused events change nothing.
+-- What it means for a dealer; that nothing which is kept is ever refused; what the logs hold; that blocks of one time never disagree; what is
+-- superseded; what a letter tells; which bricks a recovered read names; that there are 16 coordinators; that refused events change nothing.
 pub mod Corollaries
 pub mod NeverRefused
 pub mod Entries
 pub mod Recoveries
 pub mod Superseded
 pub mod RunLetters
+pub mod NamedBricks
 pub mod Numbered
 pub mod Volumes
 pub mod RefusedEvents

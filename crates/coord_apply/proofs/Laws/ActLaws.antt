@@ -12,7 +12,7 @@ use Rattle.coord_apply.specs.declared.Answer.{Answer}
 use Rattle.coord_letters.specs.Letters.{noLetter, letterS, letterC, readLetter, abortLetter}
 use Rattle.coord_record.specs.Records.{isReading, targetCount, noBricks}
 use Rattle.coord_record.specs.declared.Coordinator.{Coordinator}
-use Rattle.coord_tally.specs.Counting.{givers, picked, targetRow, atTimes}
+use Rattle.coord_tally.specs.Counting.{givers, firstGivers, picked, targetRow, atTimes}
 use Rattle.coord_record.specs.declared.Op.{Op}
 use Rattle.coord_record.specs.declared.Tally.{Tally}
 use Rattle.coord_decide.specs.Deciding.{decided}
@@ -26,11 +26,11 @@ use Rattle.message.specs.declared.Message.{Message}
 use Rattle.settings.specs.Ranges.{CodeRange}
 use Rattle.settings.specs.Count.{count}
 use lib.ListN.{length, take}
-use Rattle.coord_tally.proofs.Laws.RowSets.{givers-cut, giver-below, givers-differ}
+use Rattle.coord_tally.proofs.Laws.RowSets.{passing-long, passing-below, givers-cut, giver-below, givers-differ}
 use Rattle.settings.proofs.Laws.CountLaws.{count-at-most}
 use Rattle.coord_blocks.specs.Blocks.{stripeFrom, agreeing, givenStripe, storedStripe}
 use Rattle.coord_blocks.specs.Workers.{HandedOn, BlocksReady}
-use Rattle.coord_blocks.proofs.Laws.BufferLaws.{in-place}
+use Rattle.coord_blocks.proofs.Laws.BufferLaws.{in-place, first-decoded}
 use Rattle.coord_apply.proofs.Laws.FirstLaws.{drops-ahead, trims-ahead}
 use Rattle.coord_blocks.proofs.Laws.OneBlockLaws.{left-as-it-was}
 use Rattle.coord_apply.specs.Acts.{buffered}
@@ -115,7 +115,7 @@ module _ (n m size : ℕ) (c : Coordinator) (blocks stripe coded : List ℕ) whe
   -- a recovery whose blocks agree, by what the callees gave,
   pub acted-recover : (r : Answer) (time : ℕ) (b : Bool) (stripe′ coded′ : List ℕ)
       → b ≡ agreeing m size (givers (c .tally .held) (c .tally .found) time n) blocks → b ≡ true
-      → stripe′ ≡ cond b (storedStripe size (c .op) stripe (stripeFrom m size (givers (c .tally .held) (c .tally .found) time n) blocks)) stripe
+      → stripe′ ≡ cond b (storedStripe size (c .op) stripe (stripeFrom m size (firstGivers (c .tally .held) (c .tally .found) time n m) blocks)) stripe
       → coded′ ≡ codedOf n m size stripe′
       → r ≡ aheadAnswer (trimsFirst n m (c .op) (c .tally) time) (openAnswer c writeKind 0 0 (namedBricks (c .op) (picked (c .tally .held) (c .tally .found) time n m)))
       → Acted n m size (buffered c blocks stripe) (Recover time) coded r stripe′ coded′
@@ -124,7 +124,7 @@ module _ (n m size : ℕ) (c : Coordinator) (blocks stripe coded : List ℕ) whe
       let h = buffered c blocks stripe in
       let q = recover-agreed n m size h time (sym eb ∙ et) in
       let d = trims-ahead h writeKind 0 (namedBricks (c .op) (pickedAt n m h time)) (recoveredStripe n m size h time) (codedOf n m size (recoveredStripe n m size h time)) n m (c .tally) time in
-      let es′ = es ∙ ap (λ (a : Bool). cond a (storedStripe size (c .op) stripe (stripeFrom m size (givers (c .tally .held) (c .tally .found) time n) blocks)) stripe) et in
+      let es′ = es ∙ ap (λ (a : Bool). cond a (storedStripe size (c .op) stripe (stripeFrom m size (firstGivers (c .tally .held) (c .tally .found) time n m) blocks)) stripe) et in
       record {
         answer = e ∙ d .answer ∙ ap (λ (w : Went). answerOf c (went w)) (sym q);
         stripe-left = es′ ∙ ap (λ (w : Went). w .next .stripe) (sym q);
@@ -134,7 +134,7 @@ module _ (n m size : ℕ) (c : Coordinator) (blocks stripe coded : List ℕ) whe
   -- and one whose blocks disagree
   pub acted-disagreed : (r : Answer) (time : ℕ) (b : Bool) (stripe′ : List ℕ)
       → b ≡ agreeing m size (givers (c .tally .held) (c .tally .found) time n) blocks → b ≡ false
-      → stripe′ ≡ cond b (storedStripe size (c .op) stripe (stripeFrom m size (givers (c .tally .held) (c .tally .found) time n) blocks)) stripe
+      → stripe′ ≡ cond b (storedStripe size (c .op) stripe (stripeFrom m size (firstGivers (c .tally .held) (c .tally .found) time n m) blocks)) stripe
       → r ≡ endAnswer c abortedSeen (letterOf n (c .op) (c .tally) abortedSeen) noBricks 0 noMessage → Acted n m size (buffered c blocks stripe) (Recover time) coded r stripe′ coded
   unfolding ending answerOf sentCount sentMessage sentBlocks endAnswer buffered
   acted-disagreed r time b stripe′ eb et es e =
@@ -182,6 +182,13 @@ module _ (n m size time : ℕ) (held found row : List ℕ) (k : ℕ) (range : Co
     (er : row ≡ picked held found time n n) where
   pub givers-by : take k row ≡ givers held found time n
   givers-by = ap₂ (λ (j : ℕ) (l : List ℕ). take j l) ek er ∙ givers-cut held found time n (range .n-high)
+
+  -- and what is decoded from them is decoded from the first m
+  pub givers-first : (blocks : List ℕ) → m ≤ k → length blocks ≡ n * size → stripeFrom m size (take k row) blocks ≡ stripeFrom m size (firstGivers held found time n m) blocks
+  givers-first blocks enough e =
+      ap (λ (l : List ℕ). stripeFrom m size l blocks) givers-by
+      ∙ first-decoded n m size (givers held found time n) blocks (range .n-low) (range .size-low)
+      (let l = passing-long (atTimes held found time) n in omega (arith, l, ek, enough)) e (passing-below (atTimes held found time) n)
 
   pub givers-decode : (blocks : List ℕ) → m ≤ k → length blocks ≡ n * size → HandedOn m size k row blocks
   givers-decode blocks enough e =

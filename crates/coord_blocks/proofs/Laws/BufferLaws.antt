@@ -1,16 +1,21 @@
 -- Blocks in their places: put, cut out, gathered.
-use mathlib.Core.Path.{_≡_, sym, ap, subst, _∙_}
+use mathlib.Core.Path.{_≡_, refl, sym, ap, subst, _∙_}
 use mathlib.Core.Bool.{Bool, cond}
 use mathlib.Core.List.{List, _++_}
-use Prim.Native.Nat.{ℕ, _+_, _-_, _*_, _≤_, _<_}
-use native.Mathlib.Nat.{suc-mul, mul-le-mul-right}
-use lib.Seq.{take-at, length-take-le, getD-take}
+use Prim.Native.Nat.{ℕ, zero, suc, _+_, _-_, _*_, _≤_, _<_}
+use native.Mathlib.Decide.{decLt}
+use native.Mathlib.Nat.{suc-mul, mul-le-mul-right, le-refl}
+use lib.Seq.{take-at, take-all, take-append-le, take-take, length-take-le, getD-take}
 use Rattle.erasure.specs.Code.{decodedOf, agree, blocksOf, withBlock}
 use native.Mathlib.Omega.{arith}
-use lib.ListN.{length, getD, take, drop}
+use lib.ListN.{length, getD, take, drop, List·getD-eq-default}
 use borrow.Rule.Slice.PartMut.{putMid}
 use Rattle.byte_lists.specs.Lists.{put, stacked}
 use Rattle.byte_lists.proofs.Laws.PutLaws.{put-mid}
+use Rattle.byte_lists.proofs.Laws.TabulateLaws.{length-stacked}
+use Rattle.erasure.proofs.Laws.BlockOfLaws.{block-length}
+use Rattle.erasure.proofs.Laws.OnePolynomialLaws.{front-decoded}
+use Rattle.interpolate.specs.Values.{blocksAt}
 use Rattle.erasure.specs.Code.{blockOf}
 use Rattle.coord_blocks.specs.Blocks.{stripeFrom, agreeing}
 use Rattle.coord_blocks.specs.Workers.{InPlace, HandedOn}
@@ -82,6 +87,62 @@ room-enough m size a b = let h = mul-le-mul-right size a in omega (arith, h)
 pub in-place : (n m size : ℕ) (bricks blocks : List ℕ) → length blocks ≡ n * size → ((i : ℕ) → i < m → getD bricks i 0 < n) → InPlace m size bricks blocks
 in-place n m size bricks blocks e b =
     record { within = λ i h. (let q = mul-le-mul-right size (b i h) in let s = suc-mul (getD bricks i 0) size in omega arith) }
+
+-- rows of blocks that agree
+pub stacked-ext : (k : ℕ) (f g : ℕ → List ℕ) → ((i : ℕ) → i < k → f i ≡ g i) → stacked k f ≡ stacked k g
+unfolding stacked
+stacked-ext zero f g h = refl
+stacked-ext (suc k) f g h =
+    ap (λ (l : List ℕ). l ++ f k) (stacked-ext k f g (λ i u. h i (omega arith))) ∙ ap (λ (l : List ℕ). stacked k g ++ l) (h k (le-refl _))
+
+-- the first m of k blocks in a row
+front-stacked : (m k size : ℕ) (f : ℕ → List ℕ) → ((i : ℕ) → length (f i) ≡ size) → m ≤ k → take (m * size) (stacked k f) ≡ stacked m f
+front-stacked m zero size f e h =
+    let z : m ≡ 0 = omega (arith, h) in
+    take-all (m * size) (stacked 0 f) (let l = length-stacked 0 size f e in omega (arith, l)) ∙ ap (λ (j : ℕ). stacked j f) (sym z)
+front-stacked m (suc k) size f e h = go (decLt k m) (front-stacked m k size f e)
+  where
+    go : Dec (k < m) → (m ≤ k → take (m * size) (stacked k f) ≡ stacked m f) → take (m * size) (stacked (suc k) f) ≡ stacked m f
+    go (yes l) ih =
+        let z : m ≡ suc k = omega (arith, l, h) in
+        let c = ap (λ (j : ℕ). j * size) z in
+        take-all (m * size) (stacked (suc k) f) (let w = length-stacked (suc k) size f e in omega (arith, w, c)) ∙ ap (λ (j : ℕ). stacked j f) (sym z)
+    go (no l) ih =
+        unfold stacked in
+        (take-append-le (m * size) (stacked k f) (f k)
+        (let w = length-stacked k size f e in let c = mul-le-mul-right size (let u : m ≤ k = omega (arith, l) in u) in omega (arith, w, c))
+        ∙ ih (omega (arith, l)))
+
+-- What is decoded from a list of bricks is decoded from its first m.
+pub first-decoded : (n m size : ℕ) (bricks blocks : List ℕ) → 0 < n → 0 < size → m ≤ length bricks → length blocks ≡ n * size
+    → ((i : ℕ) → i < length bricks → getD bricks i 0 < n) → stripeFrom m size bricks blocks ≡ stripeFrom m size (take m bricks) blocks
+unfolding stripeFrom decodedOf blocksOf
+first-decoded n m size bricks blocks some pos enough e below =
+    sym (unfold decodedOf in front-decoded m size bricks (blocksOf size blocks bricks) enough pos)
+    ∙ ap (λ (l : List ℕ). blocksAt (take m bricks) size l m) (front-stacked m (length bricks) size f sized enough ∙ same)
+    ∙ ap (λ (l : List ℕ). blocksAt l size (blocksOf size blocks (take m bricks)) m) (sym (take-take m m bricks (le-refl _)))
+  where
+    f : ℕ → List ℕ
+    f i = blockOf size blocks (getD bricks i 0)
+
+    low : (i : ℕ) → Dec (i < length bricks) → getD bricks i 0 < n
+    low i (yes h) = below i h
+    low i (no h) = let z = List·getD-eq-default bricks 0 {n = i} (omega (arith, h)) in omega (arith, z, some)
+
+    sized : (i : ℕ) → length (f i) ≡ size
+    sized i =
+        let l = low i (decLt i (length bricks)) in
+        let q = mul-le-mul-right size l in
+        let r = suc-mul (getD bricks i 0) size in
+        block-length size blocks (getD bricks i 0) (omega (arith, e, q, r))
+
+    long : length (take m bricks) ≡ m
+    long = length-take-le m bricks enough
+
+    same : stacked m f ≡ blocksOf size blocks (take m bricks)
+    same =
+        stacked-ext m f (λ (i : ℕ). blockOf size blocks (getD (take m bricks) i 0)) (λ i h. ap (blockOf size blocks) (sym (getD-take m bricks i 0 h)))
+        ∙ ap (λ (j : ℕ). stacked j (λ (i : ℕ). blockOf size blocks (getD (take m bricks) i 0))) (sym long)
 
 -- the targets can be decoded from
 pub target-decodes : (n m size first : ℕ) (row blocks : List ℕ) → CodeRange n m size → first < n → length blocks ≡ n * size → row ≡ targetRow n m first

@@ -10,7 +10,6 @@ use borrow.Author.Tests.{eq-eqb, ne-eqb}
 use borrow.Rule.Slice.PartMut.{putMid}
 use Rattle.byte_lists.specs.Lists.{put}
 use Rattle.byte_lists.proofs.Laws.PutLaws.{put-in}
-use Rattle.byte_lists.proofs.Laws.StackLaws.{part-length}
 use Rattle.coord_blocks.proofs.Laws.BufferLaws.{place-is}
 use Rattle.coord_blocks.specs.Blocks.{stripeFrom, agreeing, givenStripe, storedStripe}
 use Rattle.coord_blocks.specs.Workers.{BlocksReady}
@@ -18,6 +17,7 @@ use Rattle.coord_record.specs.Records.{writingBlockKind, onBlock, targetCount}
 use Rattle.coord_record.proofs.Laws.OpRuleLaws.{targets-all}
 use Rattle.coord_record.specs.declared.Op.{Op}
 use Rattle.coord_tally.specs.Counting.{targetRow}
+use Rattle.erasure.proofs.Laws.BlockOfLaws.{block-length}
 use Rattle.erasure.specs.Code.{blockOf, withBlock}
 
 -- an operation on one block, and one on the stripe
@@ -62,9 +62,9 @@ pub stored-whole : (size : ℕ) (op : Op) (b : Bool) (stripe decoded stripe′ :
 unfolding storedStripe
 stored-whole size op b stripe decoded stripe′ k q = rw (ne-eqb (op .kind) writingBlockKind k) q
 
-pub stored-by : (m size : ℕ) (op : Op) (b : Bool) (row row′ blocks stripe s : List ℕ) → s ≡ cond b (storedStripe size op stripe (stripeFrom m size row blocks)) stripe
-    → row ≡ row′ → s ≡ cond b (storedStripe size op stripe (stripeFrom m size row′ blocks)) stripe
-stored-by m size op b row row′ blocks stripe s e er = e ∙ ap (λ (l : List ℕ). cond b (storedStripe size op stripe (stripeFrom m size l blocks)) stripe) er
+pub stored-by : (size : ℕ) (op : Op) (b : Bool) (decoded decoded′ stripe s : List ℕ) → s ≡ cond b (storedStripe size op stripe decoded) stripe → decoded ≡ decoded′
+    → s ≡ cond b (storedStripe size op stripe decoded′) stripe
+stored-by size op b decoded decoded′ stripe s e q = e ∙ ap (λ (l : List ℕ). cond b (storedStripe size op stripe l) stripe) q
 
 pub agreeing-by : (m size : ℕ) (b : Bool) (row row′ blocks : List ℕ) → b ≡ agreeing m size row blocks → row ≡ row′ → b ≡ agreeing m size row′ blocks
 agreeing-by m size b row row′ blocks e er = e ∙ ap (λ (l : List ℕ). agreeing m size l blocks) er
@@ -74,13 +74,10 @@ cut-block : (size j : ℕ) (l : List ℕ) → take (j * size + size - j * size) 
 unfolding blockOf
 cut-block size j l = ap (λ (k : ℕ). take k (drop (j * size) l)) (let s : j * size + size - j * size ≡ size = omega arith in s)
 
-cut-length : (size j : ℕ) (l : List ℕ) → j * size + size ≤ length l → length (blockOf size l j) ≡ size
-cut-length size j l h = ap length (sym (cut-block size j l)) ∙ part-length size l (j * size) h
-
 -- copied from one row of blocks to another
 pub copied-block : (size j : ℕ) (from to ys : List ℕ) → j * size + size ≤ length from → ys ≡ take (j * size + size - j * size) (drop (j * size) from)
     → putMid (j * size) (j * size + size - j * size) to ys ≡ withBlock size to j (blockOf size from j)
-copied-block size j from to ys h e = place-is size j (j * size) (blockOf size from j) to ys (cut-length size j from h) refl (e ∙ cut-block size j from)
+copied-block size j from to ys h e = place-is size j (j * size) (blockOf size from j) to ys (block-length size from j h) refl (e ∙ cut-block size j from)
 
 -- kept aside while the stripe is decoded, and put back
 pub put-back : (size j : ℕ) (b : Bool) (decoded stripe aside aside′ stripe′ stripe″ : List ℕ) → j * size + size ≤ length stripe
@@ -89,7 +86,7 @@ pub put-back : (size j : ℕ) (b : Bool) (decoded stripe aside aside′ stripe�
 unfolding withBlock
 put-back size j b decoded stripe aside aside′ stripe′ stripe″ h ea eb es e =
     let kept = ap (take size) (ea ∙ ap (λ (l : List ℕ). put 0 l aside) (cut-block size j stripe))
-    ∙ put-in 0 size (blockOf size stripe j) aside (cut-length size j stripe h) (omega arith) in
+    ∙ put-in 0 size (blockOf size stripe j) aside (block-length size stripe j h) (omega arith) in
     e ∙ ap (λ (l : List ℕ). put (j * size) l stripe′) kept
     ∙ ap (put (j * size) (blockOf size stripe j)) (es ∙ ap (λ (a : Bool). cond a decoded stripe) eb)
 

@@ -16,6 +16,7 @@ use Rattle.coord_record.specs.Sound.{maxRight, opRight, timeRight}
 use Rattle.coord_record.proofs.Laws.SoundPartLaws.{round-high}
 use Rattle.coord_record.specs.declared.Coordinator.{Coordinator}
 use Rattle.coord_record.specs.declared.Op.{Op}
+use Rattle.message.proofs.Laws.MessageLaws.{silent-trim, silent-drop}
 use Rattle.message.specs.Messages.{roundRight, foundRight, targetsRight, kindRight, messageRefusal, namesBlock, messageBlockRefusal, isSilent}
 use Rattle.settings.specs.Ranges.{maxBricks, dataBlockRefusal}
 use Rattle.byte_lists.proofs.Laws.BoolLaws.{and-left, and-right}
@@ -125,31 +126,23 @@ clear-passes n m kind time op s v o k = go (eqb kind trimKind) refl s
     go true e q = (rw (eqb-true kind trimKind e, v, le-leb firstRound (op .round) (r .round-low), le-leb (op .round) lastRound (round-high op o)), rw (eqb-true kind trimKind e))
     go false e q = (rw (eqb-true kind dropKind q, v, le-leb firstRound (op .round) (r .round-low), le-leb (op .round) lastRound (round-high op o)), rw (eqb-true kind dropKind q))
 
-silent-trim : isSilent trimKind ≡ true
-unfolding isSilent
-silent-trim = refl
-
-silent-drop : isSilent dropKind ≡ true
-unfolding isSilent
-silent-drop = refl
-
 -- The Trim that an ended operation sends passes both.
 pub trim-passes : (n m size stripes : ℕ) (c : Coordinator) → Good n m size stripes c → (c .op .kind ≡ idleKind → ⊥)
     → (messageRefusal n m (clearMessage trimKind (c .op) (c .op .time)) ≡ 0) × (messageBlockRefusal m (clearMessage trimKind (c .op) (c .op .time)) ≡ 0)
 trim-passes n m size stripes c g k =
-    clear-passes n m trimKind (c .op .time) (c .op) silent-trim
+    clear-passes n m trimKind (c .op .time) (c .op) (silent-trim trimKind refl)
     (time-valid (c .op .kind) (c .op .time) (c .clock) (g .parts .time-right) k (g .parts .number-low) (g .parts .last-low)) (g .parts .op-right) k
 
 -- E6: So does the Drop of a time that a recovery round found on too few,
 pub drop-passes : (n m size stripes : ℕ) (c : Coordinator) (time : ℕ) → n ≤ maxBricks → Full n m size stripes c → Lowers n m (c .op) (c .tally) time
     → (messageRefusal n m (clearMessage dropKind (c .op) time) ≡ 0) × (messageBlockRefusal m (clearMessage dropKind (c .op) time) ≡ 0)
 drop-passes n m size stripes c time few f s =
-    clear-passes n m dropKind time (c .op) silent-drop (lowers-valid n m (targetCount m (c .op .kind)) (c .op) (c .tally) time few (f .tally-right) s) (f .op-right)
+    clear-passes n m dropKind time (c .op) (silent-drop dropKind refl) (lowers-valid n m (targetCount m (c .op .kind)) (c .op) (c .tally) time few (f .tally-right) s) (f .op-right)
     (phase-runs (c .op) (f .op-right) (omega (arith, s .phase-is)))
 
 -- and the early Trim of a time that all of a quorum hold.
 pub early-trim-passes : (n m size stripes : ℕ) (c : Coordinator) (time : ℕ) → n ≤ maxBricks → Full n m size stripes c → Recovers n m (c .op) (c .tally) time → (time ≡ 0 → ⊥)
     → (messageRefusal n m (clearMessage trimKind (c .op) time) ≡ 0) × (messageBlockRefusal m (clearMessage trimKind (c .op) time) ≡ 0)
 early-trim-passes n m size stripes c time few f s h =
-    clear-passes n m trimKind time (c .op) silent-trim (recovers-valid n m (targetCount m (c .op .kind)) (c .op) (c .tally) time few (f .tally-right) s h) (f .op-right)
+    clear-passes n m trimKind time (c .op) (silent-trim trimKind refl) (recovers-valid n m (targetCount m (c .op .kind)) (c .op) (c .tally) time few (f .tally-right) s h) (f .op-right)
     (phase-runs (c .op) (f .op-right) (omega (arith, s .phase-is)))

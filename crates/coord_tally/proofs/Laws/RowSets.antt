@@ -1,4 +1,4 @@
--- The bricks of a row are different, below n, and what they should be: the targets, or the first m that gave the chosen time.
+-- The bricks of a row are different, below n, and what they should be: the targets, or those that gave the chosen time.
 use mathlib.Core.Path.{_≡_, refl, sym, ap, _∙_, subst}
 use mathlib.Core.Bool.{Bool, true, false, cond}
 use mathlib.Core.List.{List, [], _∷_, _++_, append-nil}
@@ -19,7 +19,7 @@ use Rattle.settings.proofs.Laws.CountLaws.{count-at-most}
 use Rattle.settings.specs.Ranges.{maxBricks}
 
 -- one more brick: as it was below, the brick itself at the end
-more-below : (l : List ℕ) (k i : ℕ) → i < length l → getD (l ++ (k ∷ [])) i 0 ≡ getD l i 0
+pub more-below : (l : List ℕ) (k i : ℕ) → i < length l → getD (l ++ (k ∷ [])) i 0 ≡ getD l i 0
 more-below l k i h = List·getD-append l (k ∷ []) 0 i h
 
 more-at : (l : List ℕ) (k i : ℕ) → (i < length l → ⊥) → i < length (l ++ (k ∷ [])) → getD (l ++ (k ∷ [])) i 0 ≡ k
@@ -66,13 +66,18 @@ passing-rises p (suc k) i j l h = go (p k) h (decLt j (length (passing p k))) (p
         let e = append-nil (passing p k) in
         subst (λ (l : List ℕ). getD l i 0 < getD l j 0) (sym e) (ih (subst (λ (l : List ℕ). j < length l) e u))
 
-pub passing-differ : (p : ℕ → Bool) (k i j : ℕ) → i < length (passing p k) → j < length (passing p k) → getD (passing p k) i 0 ≡ getD (passing p k) j 0 → i ≡ j
-passing-differ p k i j u w q = go (decLt i j) (decLt j i)
+-- entries that rise are different
+pub rising-differ : (l : List ℕ) (m : ℕ) → ((i j : ℕ) → i < j → j < m → getD l i 0 < getD l j 0)
+    → (i j : ℕ) → i < m → j < m → getD l i 0 ≡ getD l j 0 → i ≡ j
+rising-differ l m rises i j u w q = go (decLt i j) (decLt j i)
   where
     go : Dec (i < j) → Dec (j < i) → i ≡ j
-    go (yes a) d = absurd (let r = passing-rises p k i j a w in omega arith)
-    go (no a) (yes b) = absurd (let r = passing-rises p k j i b u in omega arith)
-    go (no a) (no b) = omega arith
+    go (yes a) d = absurd (let r = rises i j a w in omega (arith, r, q))
+    go (no a) (yes b) = absurd (let r = rises j i b u in omega (arith, r, q))
+    go (no a) (no b) = omega (arith, a, b)
+
+pub passing-differ : (p : ℕ → Bool) (k i j : ℕ) → i < length (passing p k) → j < length (passing p k) → getD (passing p k) i 0 ≡ getD (passing p k) j 0 → i ≡ j
+passing-differ p k = rising-differ (passing p k) (length (passing p k)) (passing-rises p k)
 
 -- each of them passes
 pub passing-holds : (p : ℕ → Bool) (k i : ℕ) → i < length (passing p k) → p (getD (passing p k) i 0) ≡ true
@@ -105,20 +110,11 @@ module _ (flags found : List ℕ) (time n m : ℕ) (enough : m ≤ count (atTime
       getD-tabulate maxBricks (λ (k : ℕ). getD (take m (passing (atTimes flags found time) n)) k 0) i (omega arith)
       ∙ getD-take m (passing (atTimes flags found time) n) i 0 h
 
-  pub picked-long : length (picked flags found time n m) ≡ maxBricks
-  unfolding picked inRow
-  picked-long = length-tabulate maxBricks (λ (k : ℕ). getD (take m (passing (atTimes flags found time) n)) k 0)
-
   pub picked-below : (i : ℕ) → i < m → getD (picked flags found time n m) i 0 < n
   picked-below i h =
       let e = picked-at i h in
       let l = passing-long (atTimes flags found time) n in
       let b = passing-below (atTimes flags found time) n i (omega arith) in omega arith
-
-  pub picked-gave : (i : ℕ) → i < m → atTimes flags found time (getD (picked flags found time n m) i 0) ≡ true
-  picked-gave i h =
-      ap (atTimes flags found time) (picked-at i h)
-      ∙ passing-holds (atTimes flags found time) n i (let l = passing-long (atTimes flags found time) n in omega arith)
 
   pub picked-rises : (i j : ℕ) → i < j → j < m → getD (picked flags found time n m) i 0 < getD (picked flags found time n m) j 0
   picked-rises i j l h =
@@ -126,12 +122,6 @@ module _ (flags found : List ℕ) (time n m : ℕ) (enough : m ≤ count (atTime
       let f = picked-at j h in
       let z = passing-long (atTimes flags found time) n in
       let b = passing-rises (atTimes flags found time) n i j l (omega arith) in omega arith
-
-  pub picked-set : PointSet (take m (picked flags found time n m))
-  picked-set =
-      let z = passing-long (atTimes flags found time) n in
-      row-set m (picked flags found time n m) picked-long few
-      (λ i j u w q. passing-differ (atTimes flags found time) n i j (omega arith) (omega arith) (sym (picked-at i u) ∙ q ∙ picked-at j w))
 
 -- all that pass, in a row
 module _ (flags found : List ℕ) (time n : ℕ) (few : n ≤ maxBricks) where

@@ -11,11 +11,11 @@ use Rattle.coord_tally.proofs.pick.Tie as tie
 use Rattle.settings.specs.Ranges.{maxBricks}
 
 abbrev Inv-loop : tie.InvT-loop
-Inv-loop time n m flags found row₀ k₀ b₀ row k b =
-    Picks (atTimes flags found time) m b row k × (b ≤ n) × (k ≤ b) × (length row ≡ maxBricks)
+Inv-loop time n m flags found row₀ k₀ brick₀ row k brick =
+    Picks (atTimes flags found time) m brick row k × (brick ≤ n) × (k ≤ brick) × (length row ≡ maxBricks)
 
 abbrev μ-loop : tie.MeasureT-loop
-μ-loop time n m flags found row₀ k₀ b₀ row k b = n - b
+μ-loop time n m flags found row₀ k₀ brick₀ row k brick = n - brick
 
 loop-holds : tie.Need-loop-holds Inv-loop μ-loop
 loop-holds c = (picks-none _ _, omega arith, omega arith, refl)
@@ -41,8 +41,8 @@ array-write-row c = omega arith
 add-k : tie.Need-add-k Inv-loop μ-loop
 add-k c = omega arith
 
-add-b : tie.Need-add-b Inv-loop μ-loop
-add-b c = omega arith
+add-brick : tie.Need-add-brick Inv-loop μ-loop
+add-brick c = omega arith
 
 loop-less : tie.Need-loop-less Inv-loop μ-loop
 loop-less c = omega arith
@@ -57,7 +57,7 @@ loop-again c =
       picks-same _ _ _ _ _ _ _ (picks-more _ _ _ _ _ _ (l .inv .0) e (w .0 .taken) (w .1 .taken) (omega arith)) (w .2) (w .3),
       omega arith,
       omega (arith, w .3),
-      ap length (w .2) ∙ length-set (l .row) (l .k) (l .b) ∙ l .inv .3,
+      ap length (w .2) ∙ length-set (l .row) (l .k) (l .brick) ∙ l .inv .3,
     ))
     (λ v. ⊎-elim
     (λ w. (picks-same _ _ _ _ _ _ _ (picks-full _ _ _ _ _ _ (l .inv .0) e (w .0 .taken) (w .1 .left)) (w .2) (w .3), omega arith, omega (arith, w .3), ap length (w .2) ∙ l .inv .3))
@@ -82,7 +82,7 @@ pick-spec =
     cast-row
     array-write-row
     add-k
-    add-b
+    add-brick
     loop-less
     loop-again
     returns)

@@ -68,5 +68,6 @@ unfolding settings-open little-open block-open image-open gf256-open poly-open i
     Rattle.volume.specs.ClientPlaces.clientRefusal Rattle.volume.specs.ClientPlaces.placeRefusal Rattle.volume.specs.ClientPlaces.placeOf
     Rattle.byte_lists.specs.Each.each Rattle.erasure.specs.Refusals.allBelow Rattle.erasure.specs.Refusals.stands
     Rattle.erasure.specs.Refusals.allDifferent Rattle.erasure.specs.Refusals.listRefusal Rattle.erasure.specs.Refusals.decodeRefusal
+    Rattle.coord_tally.specs.Counting.atTime Rattle.coord_tally.specs.Counting.atTimes Rattle.coord_tally.specs.Counting.passing
     drawn drawFor placed refusedBy refusalFor placeIn4 checkAt freshImage figures sort content alike agree
 figures-hold = held figures refl

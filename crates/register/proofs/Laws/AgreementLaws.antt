@@ -27,9 +27,9 @@ use Rattle.coord_laws.proofs.Laws.StripeLaws.{taken-stripe, taken-runs}
 use Rattle.order.specs.Claim.{_∈_}
 use Rattle.register.specs.Recoveries.{addressee, countedAt, QthReply, RecoversBy, NoRecoveryDisagrees}
 use Rattle.register.specs.Runs.{reply, Moved, run}
-use Rattle.register.proofs.Laws.Invariant.{Hist, CoordinatorInv, itemOn, view, Inv}
+use Rattle.register.proofs.Laws.Invariant.{Hist, topOf, CoordinatorInv, itemOn, view, Inv}
 use Rattle.register.proofs.Laws.CountedLaws.{counting-keeps}
-use Rattle.register.proofs.Laws.RecoverLaws.{topOf, agrees}
+use Rattle.register.proofs.Laws.RecoverLaws.{agrees}
 use Rattle.register.proofs.Laws.StripeViewLaws.{in-items, viewed-here}
 use Rattle.register.proofs.Laws.TheoremProof.{run-holds}
 

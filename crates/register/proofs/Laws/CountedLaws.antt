@@ -3,7 +3,7 @@ use mathlib.Core.Path.{_≡_, refl, sym, ap, subst, _∙_}
 use mathlib.Core.Logic.{_≢_}
 use mathlib.Core.Bool.{Bool, true, false, cond}
 use mathlib.Core.List.{List}
-use Prim.Native.Nat.{ℕ, _<_}
+use Prim.Native.Nat.{ℕ, _≤_, _<_}
 use native.Mathlib.Omega.{arith}
 use native.Mathlib.Decide.{ℕ-discrete}
 use lib.Dec.{eqb}
@@ -11,9 +11,9 @@ use lib.ListN.{length, set}
 use lib.Seq.{getD-set-same, getD-set-other}
 use Rattle.settings.specs.Count.{one-if}
 use Rattle.settings.proofs.Laws.CountLaws.{one-is}
-use Rattle.settings.specs.Ranges.{SettingsRange, maxBricks}
+use Rattle.settings.specs.Ranges.{SettingsRange, maxBricks, quorum}
 use Rattle.settings.specs.declared.Settings.{Settings}
-use Rattle.message.specs.Flags.{member}
+use Rattle.message.specs.Flags.{member, members}
 use Rattle.message.specs.declared.Reply.{Reply}
 use Rattle.coord_decide.specs.Deciding.{tallied}
 use Rattle.erasure.specs.Code.{blockOf, withBlock}
@@ -24,7 +24,7 @@ use Rattle.coord_apply.specs.Answers.{Buffered, Went}
 use Rattle.coordinator.proofs.Laws.RoutineLaws.{place-fits}
 use Rattle.erasure.proofs.Laws.BlockOfLaws.{block-with, block-beside}
 use Rattle.coord_laws.proofs.Laws.StepRunLaws.{ReplyTaken}
-use Rattle.coord_laws.proofs.Laws.TallyLaws.{tallied-sized}
+use Rattle.coord_laws.proofs.Laws.TallyLaws.{tallied-sized, counted-more}
 use Rattle.order.specs.Claim.{_∈_}
 use Rattle.order.specs.Facts.{began}
 use Rattle.order.specs.Places.{In}
@@ -40,6 +40,16 @@ member-same l b y h = ap (λ (z : ℕ). eqb z 1) (getD-set-same l b (one-if y) 0
 pub member-other : (l : List ℕ) (b j v : ℕ) → j ≢ b → member (set l b v) j ≡ member l j
 unfolding member
 member-other l b j v n = ap (λ (z : ℕ). eqb z 1) (getD-set-other l b j v 0 n)
+
+-- The q-th reply decides: no more are counted.
+pub qth-exactly : (s : Settings) (k : Buffered) (r : Reply) (block : List ℕ) (coded : ℕ) (w : Went) → ReplyTaken (s .n) (s .m) (s .size) (s .stripes) k r block coded w
+    → quorum (s .n) (s .m) ≤ members (counting (s .size) k r block .state .tally .counted) (s .n)
+    → members (counting (s .size) k r block .state .tally .counted) (s .n) ≡ quorum (s .n) (s .m)
+unfolding counting withTally tallied
+qth-exactly s k r block coded w t l =
+    let few = t .takes .parts .few-counted in
+    let more = counted-more (k .state .tally .counted) (r .brick) 1 (s .n) in
+    omega (arith, l, few, more)
 
 -- A reply that is not refused is counted.
 pub counting-keeps : (s : Settings) (g : SettingsRange s) (h : Hist s) (sent : List Item) (c : ℕ) (k : Buffered) (r : Reply) (block : List ℕ) (coded : ℕ) (w : Went)
@@ -147,6 +157,7 @@ counting-keeps s g h sent c k r block coded w i t was =
           asked = x .asked;
           looked-lower = x .looked-lower;
           stored-lower = x .stored-lower;
+          recovered = x .recovered;
           cleared = x .cleared;
           storing = x .storing;
           modifying = x .modifying;

@@ -12,7 +12,8 @@ use Rattle.settings.specs.Ranges.{maxBricks}
 use Rattle.settings.specs.Count.{count}
 use Rattle.coord_record.specs.CountedRules.{stepsAbove, isTarget}
 use Rattle.coord_tally.specs.Counting.{upward, targetRow, atTimes, givers}
-use Rattle.coord_tally.proofs.Laws.RowSets.{target-at, target-long, target-below, target-set, passing-long, passing-below, passing-differ}
+use Rattle.coord_tally.specs.FirstTheorem.{FirstOf}
+use Rattle.coord_tally.proofs.Laws.RowSets.{target-at, target-long, target-below, target-set, passing-long, passing-below, rising-differ, passing-differ}
 use Rattle.erasure.specs.Code.{Bricks}
 
 -- the targets of a read
@@ -48,6 +49,18 @@ module _ (n m first : ℕ) (high : n ≤ maxBricks) (fit : m ≤ n) (low : first
       go l false e =
           let h = ltb-false (first + i) n e in
           rw (lt-leb first (first + i - n) (omega arith), lt-ltb (n - first + (first + i - n)) m (omega arith)) refl
+
+-- the first m of a set of bricks below n
+pub first-bricks : {P : ℕ → Type 0} {l : List ℕ} (n m : ℕ) → n ≤ maxBricks → 0 < n → m ≤ n → ((b : ℕ) → P b → b < n) → FirstOf P m l → Bricks n m l
+first-bricks {P} {l} n m high pos fit low f =
+    record {
+      some = pos;
+      few = high;
+      low = fit;
+      enough = omega (arith, f .as-many);
+      differ = λ i j u w q. rising-differ l m (f .rising) i j (omega (arith, u, f .as-many)) (omega (arith, w, f .as-many)) q;
+      below = λ i h. low (getD l i 0) (f .of-the-set i (omega (arith, h, f .as-many)));
+    }
 
 -- the bricks that gave a time, where there are m or more
 pub giver-bricks : (held found : List ℕ) (time n m : ℕ) → n ≤ maxBricks → 0 < n → m ≤ n → m ≤ count (atTimes held found time) n → Bricks n m (givers held found time n)

@@ -177,11 +177,6 @@ module _ (n m size : ℕ) (k : Buffered) where
     is : w .sent ≡ round ∷ []
     fits : InBuffers size (w .next) round
 
-  round-short : (phase max : ℕ) (bricks stripe coded : List ℕ) → (phase ≡ modifyKind → ⊥)
-      → AtMostTwo size (nextRound k phase max bricks stripe coded .next) (nextRound k phase max bricks stripe coded .sent)
-  unfolding nextRound roundMessage nextOp
-  round-short phase max bricks stripe coded n = one _ (no-modify size _ _ n)
-
   one-round : (phase max : ℕ) (bricks stripe coded : List ℕ) → (phase ≡ modifyKind → ⊥) → OneRound (nextRound k phase max bricks stripe coded)
   unfolding nextRound roundMessage nextOp
   one-round phase max bricks stripe coded n = record { round = _; is = refl; fits = no-modify size _ _ n }
@@ -216,7 +211,7 @@ module _ (n m size : ℕ) (k : Buffered) where
   acted-short Abort = none
   acted-short Give = none
   acted-short (Look max) = drops-short max (nextRound k orderReadKind max noBricks (k .stripe) []) (one-round _ _ _ _ _ (λ e. omega (arith, e)))
-  acted-short Store = round-short _ _ _ _ _ (λ e. omega (arith, e))
+  acted-short Store = alone _ (one-round _ _ _ _ _ (λ e. omega (arith, e)))
   acted-short (Modify time) = one _ (record { new-is = λ e. refl; old-is = λ e. refl })
   acted-short (Recover t) =
       recover-either n m size k t (λ (w : Went). AtMostTwo size (w .next) (w .sent)) (trims-short t _ (one-round _ _ _ _ _ (λ e. omega (arith, e)))) none

@@ -30,7 +30,7 @@ use Rattle.coord_record.specs.declared.Tally.{Tally}
 use Rattle.coord_tally.specs.Counting.{saidNo, otherTime, missing, highest, atTime, atTimes}
 use Rattle.coord_letters.specs.Letters.{noLetter, letterO, letterG, letterW, letterX, readLetter, saidOther, abortLetter}
 use Rattle.coord_letters.proofs.Laws.LetterLaws.{letter-f, letter-h, letter-l, letter-x}
-use Rattle.coord_decide.specs.Deciding.{tallied, decided}
+use Rattle.coord_decide.specs.Deciding.{decided}
 use Rattle.coord_decide.specs.Decisions.{AllYes, found-time, holders, Aborts, told-no, none-held, zero-on-few, rounds-spent, DecidesGive, Finishes, DecisionSays}
 use Rattle.coord_decide.proofs.Laws.SaysLaws.{decided-says}
 use Rattle.coord_decide.specs.declared.Decision.{Decision}
@@ -40,28 +40,23 @@ use Rattle.coord_apply.specs.Answers.{Buffered, Went, went, nothingSeen}
 use Rattle.coord_apply.specs.Workers.{finishedLetter}
 use Rattle.coord_apply.proofs.Laws.ActLaws.{aborted-letter, given-letter, finished-letter, finished-read-letter, finished-write-letter}
 use Rattle.coordinator.specs.Routines.{takeStep}
-use Rattle.coord_laws.proofs.Laws.OpCaseLaws.{clash, in-read, Fit, reading, looking, restoring, ordering, storing as write-storing, block-ordering, modifying as modify-sent, fit}
+use Rattle.coord_laws.proofs.Laws.OpCaseLaws.{in-read, Fit, reading, looking, restoring, ordering, storing as write-storing, block-ordering, modifying as modify-sent, fit}
 use Rattle.coord_laws.proofs.Laws.SoundnessLaws.{passes}
 use Rattle.coord_laws.proofs.Laws.StepRunLaws.{ReplyTaken, took}
 use Rattle.coord_laws.proofs.Laws.StripeLaws.{taken-stripe, taken-runs}
-use Rattle.coord_laws.proofs.Laws.TallyLaws.{counted-more}
 use Rattle.order.specs.Claim.{_∈_}
 use Rattle.register.specs.RunLetters.{Met, AllSaidYes, SaidNo, Tells, read-at-once, first-time, lower-time, written, order-told-no, full-logs, other-no, nothing-found}
 use Rattle.register.specs.RunLetters.{LettersTellTheReplies}
 use Rattle.register.specs.Recoveries.{addressee}
 use Rattle.register.specs.Runs.{Item, message, reply, Event, run}
 use Rattle.register.proofs.Laws.AgreementLaws.{no-recovery-disagrees}
-use Rattle.register.proofs.Laws.CountedLaws.{counting-keeps}
+use Rattle.register.proofs.Laws.CountedLaws.{qth-exactly, counting-keeps}
 use Rattle.register.proofs.Laws.DecideLaws.{true-T, T-true}
 use Rattle.register.proofs.Laws.Invariant.{Hist, Running, CoordinatorInv, itemOn, itemsOn, view, Inv}
+use Rattle.register.proofs.Laws.MetLaws.{and-not, met-by, met-yes}
 use Rattle.register.proofs.Laws.RecoverLaws.{highest-most}
 use Rattle.register.proofs.Laws.StripeViewLaws.{in-items, of-items, viewed-here}
 use Rattle.register.proofs.Laws.TheoremProof.{run-holds}
-
--- a test and the refusal of another
-and-not : (a b : Bool) → a ≡ true → a && not b ≡ false → b ≡ true
-and-not a true e q = refl
-and-not a false e q = clash (sym (rw e at q))
 
 -- A coordinator that has counted its q-th reply, on the stripe that it runs on: `all` is what was sent, on any stripe.
 module _ (s : Settings) (g : SettingsRange s) (h : Hist s) (all : List Item) (c : ℕ) (k : Buffered)
@@ -78,49 +73,26 @@ module _ (s : Settings) (g : SettingsRange s) (h : Hist s) (all : List Item) (c 
   now = i .runs runs
 
   met : Met s all (k .state .op)
-  unfolding itemOn
-  met =
-      record {
-        bricks = k .state .tally .counted;
-        a-quorum = full;
-        reply-of = λ b e. now .counts b e .from;
-        sent-to = λ b e. (
-            let x = now .counts b e in
-            let w = of-items (k .state .op .stripe) all (reply (x .from) (x .block)) (x .was-sent) in
-            record {
-              block = x .block;
-              was-sent = w .0;
-              low = x .low;
-              brick-is = x .brick-is;
-              kind-is = x .kind-is;
-              stripe-is = eqb-true (x .from .stripe) (k .state .op .stripe) (w .1);
-              time-is = x .time-is;
-              round-is = x .round-is;
-            }
-            );
-      }
+  met = met-by s all (k .state .op) k refl refl refl (now .counts) full
 
   -- what is counted is what was said
   all-yes : AllYes (s .n) t → AllSaidYes met
-  unfolding AllYes saidNo met
-  all-yes y b e =
-      now .counts b e .yes-is
-      ∙ and-not (member (k .state .tally .counted) b) (member (k .state .tally .granted) b) e
-      (some-at (saidNo (k .state .tally .counted) (k .state .tally .granted)) (s .n) b y (now .counts b e .low))
+  unfolding AllYes met
+  all-yes y = met-yes s all (k .state .op) k refl refl refl (now .counts) full y
 
   no-from : (b : ℕ) → saidNo (t .counted) (t .granted) b ≡ true → SaidNo met b
-  unfolding saidNo met
+  unfolding saidNo met met-by
   no-from b q =
       let e = and-left (member (k .state .tally .counted) b) (not (member (k .state .tally .granted) b)) q in
       (e, now .counts b e .yes-is ∙ not-true (member (k .state .tally .granted) b) (and-right (member (k .state .tally .counted) b) (not (member (k .state .tally .granted) b)) q))
 
   no-counted : (b : ℕ) → SaidNo met b → saidNo (t .counted) (t .granted) b ≡ true
-  unfolding saidNo met
+  unfolding saidNo met met-by
   no-counted b n = rw (n .0, sym (now .counts b (n .0) .yes-is) ∙ n .1) refl
 
   -- a no that was not that of a full log, and where there is none
   other-from : (b : ℕ) → saidOther (t .counted) (t .granted) (t .said) b ≡ true → (n : SaidNo met b) × (met .reply-of b (n .0) .comparison ≢ fullLog)
-  unfolding saidOther met
+  unfolding saidOther met met-by
   other-from b q =
       let said = no-from b (and-left (saidNo (t .counted) (t .granted) b) (not (eqb (getD (t .said) b 0) fullLog)) q) in (
         said,
@@ -129,7 +101,7 @@ module _ (s : Settings) (g : SettingsRange s) (h : Hist s) (all : List Item) (c 
       )
 
   full-from : some (saidOther (t .counted) (t .granted) (t .said)) (s .n) ≡ false → (b : ℕ) (n : SaidNo met b) → met .reply-of b (n .0) .comparison ≡ fullLog
-  unfolding saidOther met
+  unfolding saidOther met met-by
   full-from e b said =
       now .counts b (said .0) .said-is
       ∙ eqb-true (getD (t .said) b 0) fullLog
@@ -181,7 +153,7 @@ module _ (s : Settings) (g : SettingsRange s) (h : Hist s) (all : List Item) (c 
           true-T (eqb (getD (t .held) b 0) 1 && eqb (getD (t .found) b 0) 0) (rw (e, eq-eqb (getD (t .found) b 0) 0 (omega (arith, u, z))) refl)
 
   aborts-letter : Aborts (s .n) (s .m) op t → Tells s all op met (abortLetter (s .n) op t)
-  unfolding met
+  unfolding met met-by
   aborts-letter (told-no p e) = refused-letter p e
   aborts-letter (none-held p y z) =
       subst (Tells s all op met) (spent-letter y)
@@ -194,7 +166,7 @@ module _ (s : Settings) (g : SettingsRange s) (h : Hist s) (all : List Item) (c 
 
   -- A READ OF ONE ROUND
   gives-letter : DecidesGive (s .n) (s .m) op t → Tells s all op met (readLetter op)
-  unfolding met
+  unfolding met met-by
   gives-letter d =
       subst (Tells s all op met) (letter-f op (d .phase-is))
       (read-at-once (in-read op right (d .phase-is) .kind-is) (d .phase-is) (all-yes (d .all-yes)) (highest (k .state .tally .counted) (k .state .tally .found) (s .n)) times targets)
@@ -216,7 +188,7 @@ module _ (s : Settings) (g : SettingsRange s) (h : Hist s) (all : List Item) (c 
 
   -- A FINISHED STORE
   read-stored : isReading (op .kind) ≡ true → op .phase ≡ writeKind → thirdRound ≤ op .round → AllYes (s .n) t → Tells s all op met (readLetter op)
-  unfolding met
+  unfolding met met-by
   read-stored q p l y = go (ℕ-discrete (op .round) thirdRound)
     where
       not-read : op .phase ≡ readKind → ⊥
@@ -243,7 +215,7 @@ module _ (s : Settings) (g : SettingsRange s) (h : Hist s) (all : List Item) (c 
           (unfold itemOn in eqb-true (x .asked .stripe) (k .state .op .stripe) (w .1)) (x .time-is) (x .late))
 
   finishes-letter : Finishes (s .n) (s .m) op t → Tells s all op met (finishedLetter op)
-  unfolding met
+  unfolding met met-by
   finishes-letter f = go fits
     where
       wrote : isReading (k .state .op .kind) ≡ false → storesEntry (k .state .op .phase) ≡ true → Tells s all (k .state .op) met (finishedLetter (k .state .op))
@@ -270,7 +242,7 @@ module _ (s : Settings) (g : SettingsRange s) (h : Hist s) (all : List Item) (c 
   -- WHAT THE DECISION SHOWS
   decides-letter : (d : Decision) → DecisionSays (s .n) (s .m) op t d → ((time : ℕ) → d ≡ Recover time → acted (s .n) (s .m) (s .size) k d .seen .letter ≡ noLetter)
       → acted (s .n) (s .m) (s .size) k d .seen .letter ≢ noLetter → Tells s all op met (acted (s .n) (s .m) (s .size) k d .seen .letter)
-  unfolding acted ending sendingFirst nextRound modifying DecisionSays nothingSeen met
+  unfolding acted ending sendingFirst nextRound modifying DecisionSays nothingSeen met met-by
   decides-letter Abort x f n = subst (Tells s all op met) (aborted-letter (s .n) op t) (aborts-letter x)
   decides-letter Give x f n = subst (Tells s all op met) (given-letter (s .n) op t) (gives-letter x)
   decides-letter (Look max) x f n = absurd (n refl)
@@ -282,22 +254,22 @@ module _ (s : Settings) (g : SettingsRange s) (h : Hist s) (all : List Item) (c 
 -- A reply that ends an operation of a run.
 module _ (s : Settings) (e : inRange s ≡ true) (events : List Event) (a : Reply) (block : List ℕ) (w : Went) (was : reply a block ∈ run s events .world .sent)
     (steps : takeStep (s .n) (s .m) (s .size) (s .stripes) (addressee (run s events .world) a) a block (s .n * s .size) ≡ went w) where
-  g : SettingsRange s
+  pub g : SettingsRange s
   g = range-of s e
 
-  abbrev k : Buffered
+  abbrev pub k : Buffered
   k = addressee (run s events .world) a
 
-  abbrev after : Buffered
+  abbrev pub after : Buffered
   after = counting (s .size) k a block
 
-  taken : ReplyTaken (s .n) (s .m) (s .size) (s .stripes) k a block (s .n * s .size) w
+  pub taken : ReplyTaken (s .n) (s .m) (s .size) (s .stripes) k a block (s .n * s .size) w
   taken = took (s .n) (s .m) (s .size) (s .stripes) k a block (s .n * s .size) w steps
 
-  busy : k .state .op .kind ≡ idleKind → ⊥
+  pub busy : k .state .op .kind ≡ idleKind → ⊥
   busy = taken-runs (s .n) (s .m) (s .size) (s .stripes) k a block (s .n * s .size) w steps
 
-  held-by : (h : Hist s) × Inv s g (k .state .op .stripe) h (run s events)
+  pub held-by : (h : Hist s) × Inv s g (k .state .op .stripe) h (run s events)
   held-by = run-holds s g (k .state .op .stripe) (taken .takes .parts .stripe-low) events
 
   before : CoordinatorInv s g (held-by .0) (itemsOn (k .state .op .stripe) (run s events .world .sent)) (coordinatorOf (a .time)) k
@@ -306,23 +278,15 @@ module _ (s : Settings) (e : inRange s ≡ true) (events : List Event) (a : Repl
       subst (CoordinatorInv s g (held-by .0) (itemsOn (k .state .op .stripe) (run s events .world .sent)) (coordinatorOf (a .time)))
       (viewed-here (k .state .op .stripe) k busy refl) (held-by .1 .coordinators (coordinatorOf (a .time)))
 
-  counted : CoordinatorInv s g (held-by .0) (itemsOn (k .state .op .stripe) (run s events .world .sent)) (coordinatorOf (a .time)) after
+  pub counted : CoordinatorInv s g (held-by .0) (itemsOn (k .state .op .stripe) (run s events .world .sent)) (coordinatorOf (a .time)) after
   unfolding itemOn
   counted =
       counting-keeps s g (held-by .0) _ (coordinatorOf (a .time)) k a block (s .n * s .size) w before taken
       (in-items (k .state .op .stripe) (run s events .world .sent) (reply a block) was
       (eq-eqb (a .stripe) (k .state .op .stripe) (taken-stripe (s .n) (s .m) (s .size) (s .stripes) k a block (s .n * s .size) w steps)))
 
-  -- the q-th reply decides: no more are counted
-  exactly : quorum (s .n) (s .m) ≤ members (after .state .tally .counted) (s .n) → members (after .state .tally .counted) (s .n) ≡ quorum (s .n) (s .m)
-  unfolding counting withTally tallied
-  exactly l =
-      let few = taken .takes .parts .few-counted in
-      let more = counted-more (k .state .tally .counted) (a .brick) 1 (s .n) in
-      omega (arith, l, few, more)
-
   -- a recovery goes on to its store
-  stores-on : quorum (s .n) (s .m) ≤ members (after .state .tally .counted) (s .n) → (time : ℕ) → decided (s .n) (s .m) (after .state .op) (after .state .tally) ≡ Recover time
+  pub stores-on : quorum (s .n) (s .m) ≤ members (after .state .tally .counted) (s .n) → (time : ℕ) → decided (s .n) (s .m) (after .state .op) (after .state .tally) ≡ Recover time
       → waitingOr (s .n) (s .m) (s .size) after .seen .letter ≡ noLetter
   unfolding sendingFirst nextRound nothingSeen takeStep
   stores-on l time d =
@@ -330,10 +294,10 @@ module _ (s : Settings) (e : inRange s ≡ true) (events : List Event) (a : Repl
       (no-recovery-disagrees s e events a block time (record { qth = record { was-sent = was; taken = passes _ _ w steps .0; is-qth = l }; decides = d }) .1)
 
   -- what the q-th reply decides
-  abbrev decision : Decision
+  abbrev pub decision : Decision
   decision = decided (s .n) (s .m) (after .state .op) (after .state .tally)
 
-  acts : ltb (members (after .state .tally .counted) (s .n)) (quorum (s .n) (s .m)) ≡ false
+  pub acts : ltb (members (after .state .tally .counted) (s .n)) (quorum (s .n) (s .m)) ≡ false
       → waitingOr (s .n) (s .m) (s .size) after ≡ acted (s .n) (s .m) (s .size) after decision
   unfolding waitingOr
   acts q = rw q refl
@@ -348,12 +312,12 @@ module _ (s : Settings) (e : inRange s ≡ true) (events : List Event) (a : Repl
   qth l f n =
       let o = taken .takes .parts .op-right in
       let fits = fit (k .state .op) o (λ _ z. omega (arith, taken .answer .of-phase, taken .reply .kind-low, z)) in (
-        met s g (held-by .0) (run s events .world .sent) (coordinatorOf (a .time)) after counted busy o fits (exactly l),
-        decides-letter s g (held-by .0) (run s events .world .sent) (coordinatorOf (a .time)) after counted busy o fits (exactly l) decision
+        met s g (held-by .0) (run s events .world .sent) (coordinatorOf (a .time)) after counted busy o fits (qth-exactly s k a block (s .n * s .size) w taken l),
+        decides-letter s g (held-by .0) (run s events .world .sent) (coordinatorOf (a .time)) after counted busy o fits (qth-exactly s k a block (s .n * s .size) w taken l) decision
             (decided-says (s .n) (s .m) (after .state .op) (after .state .tally)) f n,
       )
 
-  waited : ltb (members (after .state .tally .counted) (s .n)) (quorum (s .n) (s .m)) ≡ true → waitingOr (s .n) (s .m) (s .size) after .seen .letter ≡ noLetter
+  pub waited : ltb (members (after .state .tally .counted) (s .n)) (quorum (s .n) (s .m)) ≡ true → waitingOr (s .n) (s .m) (s .size) after .seen .letter ≡ noLetter
   unfolding waitingOr nothingSeen
   waited q = rw q refl
 

@@ -188,6 +188,7 @@ module _ (s : Settings) (g : SettingsRange s) (h : Hist s) (sent : List Item) (c
             asked = asked;
             looked-lower = λ e l. absurd (other e);
             stored-lower = λ e l. absurd (omega (arith, l));
+            recovered = λ e q. absurd (omega arith);
             cleared = λ e. absurd (other e);
             storing = λ e. absurd (omega arith);
             modifying = λ e. absurd (omega arith);

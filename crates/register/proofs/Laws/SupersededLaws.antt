@@ -35,8 +35,8 @@ use Rattle.register.proofs.Laws.AgreeLaws.{run-from-both}
 use Rattle.register.proofs.Laws.BrickEvent.{stores-which}
 use Rattle.register.proofs.Laws.AgreementLaws.{t, busy, counted-holds}
 use Rattle.register.proofs.Laws.EntryLaws.{sound, keeps}
-use Rattle.register.proofs.Laws.Invariant.{quorums, Hist, LogHas, BrickInv, MessageInv, ReplyInv, itemOn, view, Inv}
-use Rattle.register.proofs.Laws.RecoverLaws.{topOf, gone-top}
+use Rattle.register.proofs.Laws.Invariant.{quorums, Hist, LogHas, BrickInv, MessageInv, ReplyInv, topOf, itemOn, view, Inv}
+use Rattle.register.proofs.Laws.RecoverLaws.{gone-top}
 use Rattle.register.proofs.Laws.StripeViewLaws.{in-items, of-items}
 use Rattle.register.proofs.Laws.TheoremProof.{from-holds, run-holds}
 
