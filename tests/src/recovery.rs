@@ -5,7 +5,7 @@ use crate::code;
 use crate::coordinator::{take_reply, Record, Step};
 use crate::fixtures::reply;
 use crate::rng::Rng;
-use crate::settings::{quorum, Shape};
+use crate::settings::{quorum, Shape, Volume};
 use crate::tally::Tally;
 
 /// A recovery that finds a stripe.
@@ -134,6 +134,22 @@ impl Recovery {
             round[..self.q].clone_from_slice(&counted);
         }
         other
+    }
+
+    /// A volume of three stripes in which it happens.
+    pub fn volume(&self) -> Volume {
+        Volume {
+            shape: self.shape,
+            stripes: 3,
+        }
+    }
+
+    /// The bricks that a read names: the first m of the givers by number.
+    pub fn named(&self) -> Vec<u8> {
+        let mut named = self.givers.clone();
+        named.sort_unstable();
+        named.truncate(self.shape.m as usize);
+        named
     }
 
     /// The letter of a read that ends by it.

@@ -467,13 +467,7 @@ fn every_recovered_block_read_names_the_first_m() {
     let mut rng = Rng::printed(8);
     let mut tally = Tally::default();
     for found in Recovery::of_small_sets(&mut rng) {
-        let volume = Volume {
-            shape: found.shape,
-            stripes: 3,
-        };
-        let mut named = found.givers.clone();
-        named.sort_unstable();
-        named.truncate(found.shape.m as usize);
+        let (volume, named) = (found.volume(), found.named());
         for block in 0..found.shape.m {
             let mut record = Record::fresh(volume, 1);
             start_read_block(volume, 1, &mut record, STRIPE, 1, block).unwrap();
