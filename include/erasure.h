@@ -1,13 +1,18 @@
 /* The erasure code: a stripe of m data blocks into n coded blocks, one a brick, and back from the blocks of any m or more bricks.
-   Link with liberasure.a (`rt staticlib erasure` writes it to target/staticlib).
+   Link with liberasure.a (`rt staticlib erasure` writes it to target/staticlib), for x86-64 only: System V calls, with SSE2. It calls memset,
+   and nothing else outside.
 
    What the caller owes, and nobody checks:
-   - each pointer is valid for its length: the bytes behind `const` may be read, the others read and written, during the call;
+   - each pointer is valid for its length: the bytes behind `const` may be read, the others read and written, during the call. They need no
+     alignment. With length 0 it may be NULL: the call is then refused, whatever else it is given, and nothing behind it is touched;
    - what is written overlaps nothing else that is lent: coded not data; data not bricks or blocks;
    - no other thread writes to what is lent, or reads what is written, during the call;
    - bricks and blocks belong together: block k of `blocks` is what brick bricks[k] holds of one and the same stripe. m blocks of two
-     stripes decode to bytes of neither; of more than m blocks it is checked that some one stripe has them all (15).
-   Nothing is kept between calls, and nothing is allocated.
+     stripes are accepted, and decode to bytes that may be of neither; of more than m blocks it is checked that some one stripe has them all
+     (15).
+   Nothing is kept between calls, and nothing is allocated. 2,048 bytes of stack are enough; this is measured, and not proved: with release
+   1.7.1 on x86-64, at size 256 and every n and m, stripe_encode took 1,000 bytes and stripe_decode 1,896, from the return address down, glibc's
+   memset included. (Where a dynamic linker looks memset up only when it is first called, that one call takes the linker's stack besides.)
 
    What is returned: 0, done; or a refusal, the lowest that applies, and then no byte is changed:
    1  a setting is out of its range: n 1 to 16, m 1 to n, size (bytes in a block) 1 to 256;
@@ -17,7 +22,8 @@
    4  the list has fewer than m bricks, or a brick twice (decoding only);
    15  the blocks disagree: no stripe has them all (decoding only, and only where the list has more than m bricks).
    A list is of m to n different bricks. The data come from the first m of it; the blocks of the others are what is checked: with k bricks
-   in the list, up to k - m altered blocks are always noticed.
+   in the list, up to k - m altered blocks, whichever they are, are always noticed (AlteredBlocksAreNoticed in
+   crates/erasure/specs/CodeTheorems.antt, proved).
 
    Example (compiled and run by tests/tests/header.rs):
 

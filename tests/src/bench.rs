@@ -1,6 +1,6 @@
 //! The bench: plays a script of one set and prints what ended or was refused.
 
-use crate::brick::{self, clears, Message, Reply, DROP, TRIM};
+use crate::brick::{self, Message, Reply, DROP, TRIM};
 use crate::coordinator::{self, Ended, Outcome, Record, Step};
 use crate::image;
 use crate::settings::{coordinator_of, Refusal, Settings};
@@ -122,6 +122,13 @@ impl Bench {
     /// The number of the last message sent.
     pub fn sent(&self) -> usize {
         self.set.as_ref().map_or(0, |set| set.sent.len())
+    }
+
+    /// Damages a brick's image, which no line does.
+    pub fn damage(&mut self, brick: usize) {
+        if let Some(set) = &mut self.set {
+            set.images[brick][0] ^= 1;
+        }
     }
 
     /// How many rounds of a kind were sent, Trims and Drops too.
@@ -382,13 +389,15 @@ impl Set {
         if !self.up[brick] {
             return Ok(());
         }
-        if !clears(message.kind) && !self.fits(1) {
+        // Refused "before anything changes": the brick works on a copy, which counts if its reply may be sent.
+        let mut image = self.images[brick].clone();
+        let reply = brick::take(self.settings, brick as u64, &mut image, message)?;
+        if !self.fits(reply.iter().count()) {
             return Err(12);
         }
-        let image = &mut self.images[brick];
-        let before = image::times(image).len();
-        let reply = brick::take(self.settings, brick as u64, image, message)?;
-        let after = image::times(image).len();
+        let before = image::times(&self.images[brick]).len();
+        let after = image::times(&image).len();
+        self.images[brick] = image;
         if message.kind == DROP {
             self.cleared.drops += 1;
             self.cleared.dropped += before - after;

@@ -213,6 +213,18 @@ fn no_message_past_127() {
     assert_eq!(bench.line(b"crash 0"), b"0 write 16 C cut\n");
 }
 
+/// A message that the brick refuses sends nothing, so at the limit too it has the brick's number.
+/// No script comes to this: in a run no image is damaged.
+#[test]
+fn the_brick_refuses_before_the_limit_does() {
+    let mut bench = pumped("set 2 1 1 2; write 0 1 0a", 127);
+    assert_eq!(bench.line(b"carry 1 2"), b"refused 12\nrefused 12\n");
+    bench.damage(0);
+    assert_eq!(bench.line(b"carry 1 2"), b"refused 5\nrefused 12\n");
+    assert_eq!(bench.line(b"down 0"), b"");
+    assert_eq!(bench.line(b"carry 1"), b"", "lost");
+}
+
 /// A script, then message 1 again until so many are sent.
 fn pumped(script: &str, sent: usize) -> Bench {
     let mut bench = Bench::default();

@@ -1,6 +1,6 @@
 //! The panel's times in the documents are those that the proved brick shows.
 
-use jilbagum_tests::brick::{ORDER, TRIM, WRITE};
+use jilbagum_tests::brick::{clears, DROP, MODIFY, ORDER, TRIM, WRITE};
 use jilbagum_tests::harness::{Faults, Proved, Start, World};
 use jilbagum_tests::order::End;
 use jilbagum_tests::proved;
@@ -31,16 +31,23 @@ fn panel(five: proved::Five, brick: usize, image: &[u8]) -> Result<[u64; 2], u32
 
 const FIVE: proved::Five = (3, 1, 1, 4, 1);
 
-/// A brick that took these messages of kind and time.
-fn after(brick: usize, messages: &[(u8, u64)]) -> Vec<u8> {
-    let mut image = vec![0; 512 * (FIVE.3 + 1)];
-    assert_eq!(proved::fresh(FIVE, brick, &mut image), 0);
+/// With two data bricks: brick 1 has a mark where block 0 alone is written.
+const TWO_DATA: proved::Five = (3, 2, 1, 4, 1);
+
+/// A brick that took these messages of kind and time; of Modify, block 0 over time 0.
+fn after_in(five: proved::Five, brick: usize, messages: &[(u8, u64)]) -> Vec<u8> {
+    let mut image = vec![0; 512 * (five.3 + 1)];
+    assert_eq!(proved::fresh(five, brick, &mut image), 0);
     for &(kind, time) in messages {
         let asked = proved::asked(u64::from(kind), time, 1, 0, 0, [0; 16]);
-        let number = proved::receive(FIVE, brick, &mut image, &asked, (&[10], &[0]), &mut [0], &mut [0; 9]);
-        assert_eq!(number, if kind == TRIM { proved::SILENCE } else { 0 });
+        let number = proved::receive(five, brick, &mut image, &asked, (&[10], &[0]), &mut [0], &mut [0; 9]);
+        assert_eq!(number, if clears(kind) { proved::SILENCE } else { 0 });
     }
     image
+}
+
+fn after(brick: usize, messages: &[(u8, u64)]) -> Vec<u8> {
+    after_in(FIVE, brick, messages)
 }
 
 /// The situations, in words, and what the panel shows then.
@@ -49,6 +56,10 @@ fn situations() -> Vec<(&'static str, Result<[u64; 2], u32>)> {
     let mut damaged = whole.clone();
     damaged[512 + 16] ^= 1;
     let (n, m, size, capacity, stripes) = FIVE;
+    let marked = after_in(TWO_DATA, 1, &[(ORDER, 16), (MODIFY, 16)]);
+    let mut newest = [77; 2];
+    assert_eq!(proved::entry(TWO_DATA, 1, &marked, 1, &mut newest), 0);
+    assert_eq!(newest, [16, 0], "an entry of time 16 without a block");
     vec![
         ("fresh", panel(FIVE, 0, &after(0, &[]))),
         ("store 16 ordered and stored", panel(FIVE, 0, &whole)),
@@ -56,6 +67,8 @@ fn situations() -> Vec<(&'static str, Result<[u64; 2], u32>)> {
         ("store 16 stored, its Order lost", panel(FIVE, 0, &after(0, &[(WRITE, 16)]))),
         ("store 16 ordered, not stored", panel(FIVE, 1, &after(1, &[(ORDER, 16)]))),
         ("store 16 stored, store 33 ordered, not stored", panel(FIVE, 1, &after(1, &[(ORDER, 16), (WRITE, 16), (ORDER, 33)]))),
+        ("stores 16 and 33 stored, the Order of 33 lost, 33 dropped", panel(FIVE, 0, &after(0, &[(ORDER, 16), (WRITE, 16), (WRITE, 33), (DROP, 33)]))),
+        ("m 2, block 0 written by store 16: a mark on brick 1", panel(TWO_DATA, 1, &marked)),
         ("two bricks, stores 16 and 33: one has both", panel(FIVE, 0, &after(0, &[(WRITE, 16), (ORDER, 33), (WRITE, 33)]))),
         ("the other missed store 33", panel(FIVE, 1, &after(1, &[(WRITE, 16)]))),
         ("a byte of a block changed", panel(FIVE, 0, &damaged)),

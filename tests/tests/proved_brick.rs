@@ -199,6 +199,44 @@ fn random_message(rng: &mut Rng, (n, m, size, _, stripes): proved::Five, times: 
     }
 }
 
+/// The paper's own figures: the checks of a fresh head and of its entry.
+#[test]
+fn checks_of_a_fresh_brick() {
+    let bytes = fresh((3, 1, 1, 4, 1), 0);
+    assert_eq!([&bytes[..2], &bytes[512..514]], [[55, 0], [14, 0]]);
+}
+
+/// A Modify of block 1 at each brick of a set of four with m 2: brick 1 stores the new block, brick 0 a mark, bricks 2 and 3 their blocks recoded.
+/// Then a Trim under three marks of brick 0: the lowest that it keeps becomes its block, the others stay.
+#[test]
+fn a_modify_at_every_brick_and_a_trim_under_marks() {
+    let five = (4, 2, 1, 4, 1);
+    // The kind and the first block byte of each entry.
+    let slots = |bytes: &[u8]| {
+        let entries = bytes[512..].chunks(512).take(usize::from(bytes[10]));
+        entries.map(|entry| (entry[2], entry[16])).collect::<Vec<_>>()
+    };
+    let modify = |time, old_time, old_byte, byte| {
+        let blocks = brick::Message { block: vec![byte], old_block: vec![old_byte], ..brick::Message::plain(brick::MODIFY, time, 2) };
+        Numbers::of(&brick::Message { number: 1, old_time, ..blocks })
+    };
+    let stored = [(3, 0), (2, 7), (2, 1), (2, 3)];
+    for (number, (byte, slot)) in [5, 9, 29, 17].into_iter().zip(stored).enumerate() {
+        let state = image::State { promise: 0, log: vec![image::Entry { time: 16, block: Some(vec![byte]) }] };
+        let mut bytes = image::write(settings(five), number as u64, &state).unwrap();
+        assert_eq!(compare(five, number, &mut bytes, &modify(32, 16, 9, 7)), 0);
+        assert_eq!(slots(&bytes), [(2, byte), slot]);
+        if number == 0 {
+            assert_eq!(compare(five, 0, &mut bytes, &modify(48, 32, 7, 8)), 0);
+            assert_eq!(compare(five, 0, &mut bytes, &modify(64, 48, 8, 9)), 0);
+            assert_eq!(slots(&bytes), [(2, 5), (3, 0), (3, 0), (3, 0)]);
+            let trim = Numbers::of(&brick::Message::plain(brick::TRIM, 32, 3));
+            assert_eq!(compare(five, 0, &mut bytes, &trim), proved::SILENCE);
+            assert_eq!(slots(&bytes), [(2, 5), (3, 0), (3, 0)]);
+        }
+    }
+}
+
 #[test]
 fn long_runs_of_messages() {
     let mut rng = Rng::printed(21);

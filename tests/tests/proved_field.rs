@@ -115,3 +115,19 @@ fn a_draw_into_a_buffer_of_another_length_is_refused() {
         assert_eq!(out, vec![7; length]);
     }
 }
+
+/// The paper's own figures of quorums, products, draws and ranges.
+#[test]
+fn the_papers_figures() {
+    for (n, m, q) in [(1, 1, 1), (3, 1, 2), (4, 3, 4), (5, 3, 4), (7, 5, 6), (16, 1, 9)] {
+        assert_eq!(proved::quorum(n, m), q, "n {n} m {m}");
+    }
+    assert_eq!([proved::mul(2, 128), proved::mul(2, 142), proved::mul(3, 3)], [29, 1, 5]);
+    let draw = |coordinator, last, reading| {
+        let mut out = [0; 2];
+        (proved::draw(coordinator, last, reading, &mut out), out)
+    };
+    assert_eq!([draw(0, 5, 3), draw(2, 0, 0)], [(0, [96, 6]), (0, [18, 1])]);
+    assert_eq!([16, 17].map(|n| proved::settings((n, 1, 1, 2, 1))), [0, 1]);
+    assert_eq!([(1 << 40) - 1, 1 << 40].map(|reading| draw(0, 0, reading).0), [0, 7]);
+}

@@ -1,14 +1,18 @@
 -- A carried message at its brick: what it needs of the bench, and what the brick's answer does to what was sent and printed.
 use mathlib.Core.Path.{_≡_}
-use mathlib.Core.Bool.{Bool, true, _||_}
+use mathlib.Core.Bool.{Bool, true, cond, _||_}
 use mathlib.Core.List.{List, [], _++_}
-use Prim.Native.Nat.{ℕ, _+_, _≤_, _<_}
-use lib.Dec.{ltb}
-use lib.ListN.{length}
+use Prim.Native.Nat.{ℕ, _+_, _*_, _≤_, _<_}
+use lib.Dec.{eqb, ltb}
+use lib.ListN.{length, take, drop}
+use Rattle.settings.specs.Refusal.{passed, badLine}
+use Rattle.settings.specs.declared.Settings.{Settings}
 use Rattle.message.specs.Messages.{isSilent}
 use Rattle.message.specs.declared.Message.{Message}
+use Rattle.brick.specs.Receive.{Beside}
 use Rattle.brick.specs.declared.Given.{Given}
 use Rattle.brick.specs.declared.Given.the-variants.{Answered, Silent, Refused}
+use Rattle.volume.specs.Rows.{rowSize}
 use Rattle.register.specs.Runs.{message, repliedWith}
 use Rattle.bench_state.specs.State.{upOf, worldOf}
 use Rattle.bench_state.specs.Workers.{Fits}
@@ -18,7 +22,7 @@ use Rattle.bench_print.specs.Printing.{refusedText, printedInto}
 use Rattle.bench_rules.specs.Play.{}
 use Rattle.bench_rules.specs.Turning.{lent, worldIn}
 use Rattle.bench_rules.specs.declared.After.{After}
-use Rattle.bench_limits.specs.Limits.{lastMessage, imagesLength, numbersLength, bytesLength, lineRoom}
+use Rattle.bench_limits.specs.Limits.{lastMessage, imageRoom, imagesLength, numbersLength, bytesLength, lineRoom}
 
 -- a set that is played, without what the coordinators keep, for which a message has no use
 pub record Lends (b : Bench) (images numbers bytes : List ℕ) : Type 0 where
@@ -31,6 +35,18 @@ pub record Lends (b : Bench) (images numbers bytes : List ℕ) : Type 0 where
 -- every message but a Trim or a Drop sends a reply, and that may be no message past 127
 unfoldable pub maySend : ℕ → ℕ → Bool
 maySend kind sent = isSilent kind || ltb sent lastMessage
+
+-- the images of a brick, in the buffer of all bricks
+unfoldable pub imageIn : Settings → ℕ → List ℕ → List ℕ
+imageIn s brick images = take (rowSize s) (drop (brick * imageRoom) images)
+
+-- what is lent beside a message has the block size
+abbrev pub ofTheSize : Settings → Beside
+ofTheSize s = record { block = s .size; old = s .size; out = s .size }
+
+-- what a message is refused with whose reply may no longer be sent: the brick's own number, or 12 where the brick refuses nothing
+unfoldable pub pastLimit : ℕ → ℕ
+pastLimit number = cond (eqb number passed) badLine number
 
 -- item k is a message to a brick of the set that is up, and its reply may be sent
 pub record Reaching (b : Bench) (numbers bytes : List ℕ) (k brick : ℕ) (msg : Message) : Type 0 where

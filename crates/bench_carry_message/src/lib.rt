@@ -10,7 +10,10 @@ ghost use Rattle.bench_rules.specs.Play.{carries};
 ghost use Rattle.bench_rules.specs.Turning.{lent, worldIn};
 ghost use Rattle.bench_rules.specs.Workers.{Turned};
 ghost use Rattle.bench_carry_message.specs.Workers.{Lends, Reaching, Settled, maySend, sentAfterMessage};
-ghost use Rattle.bench_limits.specs.Limits.{benchSize, lastMessage, numbersLength, bytesLength, lineRoom};
+ghost use Rattle.bench_carry_message.specs.Workers.{imageIn, ofTheSize, pastLimit};
+ghost use Rattle.bench_limits.specs.Limits.{benchSize, lastMessage, imagesLength, numbersLength, bytesLength, lineRoom};
+ghost use Rattle.bench_state.specs.Workers.{Fits};
+ghost use Rattle.brick.specs.Receive.{receiveRefusal};
 use bench_limits::BLOCK_PLACE;
 use bench_limits::IMAGE_ROOM;
 use bench_limits::LAST_MESSAGE;
@@ -24,6 +27,8 @@ use bench_state::Bench;
 use brick::Given;
 use message::Message;
 use message::is_silent;
+use settings::PASSED;
+use settings::Settings;
 
 // What a brick gave: a reply is sent.
 fn settle(
@@ -103,6 +108,37 @@ fn may_send(kind: u8, sent: usize) -> bool
     sent < LAST_MESSAGE
 }
 
+// Why the brick refuses a message at its image, 0 for none; the image is only looked at.
+fn refusal_at(s: Settings, brick: usize, image: &[u8], msg: Message) -> u32
+    ensures { λ r. ⌜ r ≡ receiveRefusal s brick (now (image .entry)) msg (ofTheSize s) ⌝ }
+{
+    let bad = brick::front_refusal(s, 1, brick, image.len(), msg, s.size, s.size, s.size);
+    if bad != PASSED {
+        return bad;
+    }
+    let o = image::open(s, brick, image);
+    let answer = o.answer;
+    let damaged = image::number_of(answer);
+    if damaged != PASSED {
+        return damaged;
+    }
+    msg.refusal(s.n, s.m)
+}
+
+// What a message is refused with whose reply may no longer be sent: the brick's number, if the brick refuses it, else 12.
+fn past_limit(s: Settings, brick: usize, images: &[u8], msg: Message) -> u32
+    requires { ⌜ Fits s × (brick < s .n) × (length (now images) ≡ imagesLength) ⌝ }
+    ensures { λ r. ⌜ r ≡ pastLimit (receiveRefusal s brick (imageIn s brick (now (images .entry))) msg (ofTheSize s)) ⌝ }
+{
+    let start = brick * IMAGE_ROOM;
+    let end = start + image_block::BLOCK_BYTES * (s.capacity + 1);
+    let number = refusal_at(s, brick, &images[start..end], msg);
+    if number != PASSED {
+        return number;
+    }
+    settings::BAD_LINE
+}
+
 // A carried message.
 pub fn carry_message(
     b: Bench,
@@ -133,7 +169,8 @@ pub fn carry_message(
     }
     let msg = bench_sent::message_at(numbers, bytes, k);
     if may_send(msg.kind, b.sent) {} else {
-        return refuse(b, settings::BAD_LINE, at, out);
+        let number = past_limit(s, brick, images, msg);
+        return refuse(b, number, at, out);
     }
     let mut block = [0u8; SIZE];
     let size = s.size;

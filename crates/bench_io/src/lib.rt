@@ -2,11 +2,11 @@
 // writes out what the line prints. All that it does with a line is `bench_player`'s, and with a chunk `bench_lines`'s.
 ghost use mathlib.Core.Path.{_≡_};
 ghost use mathlib.Core.Bool.{cond};
-ghost use Prim.Native.Nat.{_≤_, _<_};
+ghost use Prim.Native.Nat.{_-_, _≤_};
 ghost use lib.Dec.{eqb};
 ghost use lib.ListN.{length};
-ghost use Rattle.bench_io.specs.Workers.{goesOn, atEnd, cannotRead, cannotWrite, failedStatus, leftWith};
-ghost use Rattle.bench_io.specs.Workers.{HeldPlayed, ChunkPlayed, PlayedLast, TurnMade, Ran};
+ghost use Rattle.bench_io.specs.Workers.{goesOn, atEnd, writeStatus, readStatus, leftWith};
+ghost use Rattle.bench_io.specs.Workers.{Interrupts, HeldPlayed, ChunkPlayed, PlayedLast, TurnMade, Ran, RunLeft};
 ghost use Rattle.bench_limits.specs.Limits.{keptLength, imagesLength, numbersLength, bytesLength};
 ghost use Rattle.bench_rules.specs.Turning.{lent};
 use bench_limits::BYTES_LENGTH;
@@ -63,7 +63,7 @@ fn new_bytes() -> [u8; BYTES_LENGTH]
 
 // How the program stands after a text was written, or was not.
 fn after_writing(written: bool) -> u32
-    ensures { λ r. ⌜ r ≡ cond written goesOn cannotWrite ⌝ }
+    ensures { λ r. ⌜ r ≡ writeStatus written ⌝ }
 {
     if written {
         return GOES_ON;
@@ -189,9 +189,19 @@ fn at_the_end(status: u32) -> u32
     status
 }
 
-// How the program stands after a call of `read`. One that a signal interrupts before it moves a byte is made again.
-fn after_reading(got: isize) -> u32
-    ensures { λ r. ⌜ r ≤ cannotRead ⌝ }
+// Whether errno says that a signal interrupted the call.
+fn is_interrupt(error: i32) -> bool
+    ensures { λ r. ⌜ Interrupts error r ⌝ }
+{
+    if error == libc::EINTR {
+        return true;
+    }
+    false
+}
+
+// How the program stands after a call of `read` that answered so. One that a signal interrupts before it moves a byte is made again.
+fn after_reading(got: isize, interrupted: bool) -> u32
+    ensures { λ r. ⌜ r ≡ readStatus got interrupted ⌝ }
 {
     if 0 < got {
         return GOES_ON;
@@ -199,16 +209,18 @@ fn after_reading(got: isize) -> u32
     if got == 0 {
         return ENDED;
     }
-    if os::errno() == libc::EINTR {
+    if interrupted {
         return GOES_ON;
     }
     CANNOT_READ
 }
 
-// One call of `read`, and what came played: the lines that end in it, or at the end of the input the last one.
+// What a call of `read` answered and left in the chunk, played: the lines that end in it, or at the end of the input the last one.
 fn turn(
     p: Pass,
-    chunk: &mut [u8],
+    got: isize,
+    interrupted: bool,
+    chunk: &[u8],
     line: &mut [u8],
     images: &mut [u8],
     kept: &mut [u8],
@@ -220,10 +232,9 @@ fn turn(
     ensures { λ r. ⌜ (
         let l = lent (now (images .entry)) (now (kept .entry)) (now (numbers .entry)) (now (bytes .entry)) in
         let l′ = lent (now (images .exit)) (now (kept .exit)) (now (numbers .exit)) (now (bytes .exit)) in
-        TurnMade (now (line .entry)) (p .held) (p .bench) l (now (out .entry)) r (now (chunk .exit)) (now (line .exit)) l′ (now (out .exit))) ⌝ }
+        TurnMade got interrupted (now (chunk .entry)) (now (line .entry)) p l (now (out .entry)) r (now (line .exit)) l′ (now (out .exit))) ⌝ }
 {
-    let got = libc::read(libc::STDIN_FILENO, chunk);
-    let status = after_reading(got);
+    let status = after_reading(got, interrupted);
     let n = io::count(got, chunk);
     let b = p.bench;
     let held = p.held;
@@ -253,7 +264,7 @@ fn turn(
 // How many turns may follow.
 fn turns_left(turns: u64, status: u32) -> u64
     requires { ⌜ 1 ≤ turns ⌝ }
-    ensures { λ r. ⌜ (r < turns) × ((status ≡ goesOn → ⊥) → r ≡ 0) ⌝ }
+    ensures { λ r. ⌜ r ≡ cond (eqb status goesOn) (turns - 1) 0 ⌝ }
 {
     if status == GOES_ON {
         return turns - 1;
@@ -284,7 +295,20 @@ fn play_all(
     };
     let mut turns = u64::MAX;
     while turns > 0 {
-        p = turn(p, chunk, line, images, kept, numbers, bytes, out);
+        let got = libc::read(libc::STDIN_FILENO, chunk);
+        let interrupted = is_interrupt(os::errno());
+        p = turn(
+            p,
+            got,
+            interrupted,
+            chunk,
+            line,
+            images,
+            kept,
+            numbers,
+            bytes,
+            out,
+        );
         turns = turns_left(turns, p.status);
     }
     p.status
@@ -311,7 +335,7 @@ fn leave(status: u32) -> u32
 // The whole program: 0, or 1 where reading or writing failed.
 #[no_mangle]
 pub extern "C" fn bench_run() -> u32
-    ensures { λ r. ⌜ r ≤ failedStatus ⌝ }
+    ensures { λ r. ⌜ RunLeft r ⌝ }
 {
     let mut images = new_images();
     let mut kept = new_kept();

@@ -11,8 +11,7 @@ use Rattle.bench_player.specs.Lining.{stageOf, refusalOf}
 use Rattle.bench_player.specs.Calls.{Calls}
 use Rattle.bench_parse.specs.Lines.{heldLength}
 use Rattle.bench_lines.specs.Cutting.{lines, HandedOn}
-use Rattle.bench_io.specs.Workers.{atEnd, Ran}
-use Rattle.bench_limits.specs.Limits.{keptLength, imagesLength, numbersLength, bytesLength, textLength}
+use Rattle.bench_io.specs.Workers.{RunLeft}
 use Rattle.bench_order.specs.Script.{script}
 
 -- From a bench without a set that is not refused, on the lines of an input: the script's stage, with the script's events, and its text.
@@ -30,11 +29,10 @@ CutCallsAreTheScript =
     → HandedOn line 0 chunks handed → refusalOf b l out ≡ 0 → stageOf b l [] ≡ waiting → Calls b l out handed text b′ l′ out′
     → (stageOf b′ l′ (eventsOf (script (flatten chunks) .stage)) ≡ script (flatten chunks) .stage) × (text ≡ script (flatten chunks) .printed)
 
--- The same of the program: where it stands at the end of the input (`bench_io::play_all`, lent buffers of the right lengths), it has played the
--- script of the chunks that came, and this is the text that it handed to `write`.
+-- The same of the program, `bench_io::bench_run`: where it leaves with 0, its turns have played the script of the bytes that came with them, one
+-- turn after the other, and this is the text that they handed to `write`.
 abbrev pub ProgramPlaysTheScript : Type 0
 ProgramPlaysTheScript =
-    (line : List ℕ) (l l′ : Lent) (out out′ : List ℕ) → length line ≡ heldLength → length (l .images) ≡ imagesLength → length (l .kept) ≡ keptLength
-    → length (l .numbers) ≡ numbersLength → length (l .bytes) ≡ bytesLength → length out ≡ textLength → (r : Ran line l out atEnd l′ out′)
-    → (chunks : List (List ℕ)) × (stageOf (r .last) l′ (eventsOf (script (flatten chunks) .stage)) ≡ script (flatten chunks) .stage)
-    × (r .text ≡ script (flatten chunks) .printed)
+    (r : RunLeft 0)
+    → (stageOf (r .ran .last .bench) (r .l′) (eventsOf (script (flatten (r .ran .chunks)) .stage)) ≡ script (flatten (r .ran .chunks)) .stage)
+    × (r .ran .text ≡ script (flatten (r .ran .chunks)) .printed)

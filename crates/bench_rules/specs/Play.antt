@@ -1,12 +1,11 @@
 -- Document 01, "The bench": what a line does to the set, and what it prints. A line's events are played by the runs' own `step`.
-use mathlib.Core.Bool.{Bool, cond, _||_}
+use mathlib.Core.Bool.{Bool, cond}
 use mathlib.Core.List.{List, [], _∷_, _++_}
 use Prim.Native.Nat.{ℕ, zero, suc, _*_}
 use lib.Dec.{leb, ltb}
 use lib.ListN.{length, replicate}
 use Rattle.settings.specs.Refusal.{badSetting, badNumber, badLine}
 use Rattle.settings.specs.declared.Settings.{Settings}
-use Rattle.message.specs.Messages.{isSilent}
 use Rattle.message.specs.declared.Message.{Message}
 use Rattle.volume.specs.Rows.{rowOutcome}
 use Rattle.brick.specs.declared.Given.{Given}
@@ -78,18 +77,16 @@ crashesAt s w c = atCoordinator w c (acts s w (crashes c untouched) c (crashStep
 unfoldable pub switches : Settings → World → ℕ → Event → Played
 switches s w b e = cond (ltb b (s .n)) (happens s w e []) (refuses w badNumber)
 
--- what the brick gave: a reply, silence after a Trim or a Drop, or a refusal
+-- What the brick gave: a reply, silence after a Trim or a Drop, or a refusal. "A line, or one carried number, that would send past message 127 is
+-- refused before anything changes": so is a reply that would be one past it. What the brick refuses sends nothing and has the brick's number.
 unfoldable pub delivered : Settings → World → ℕ → Given → Played
-delivered s w k (Answered r) = happens s w (arrives k) []
+delivered s w k (Answered r) = cond (ltb (length (w .sent)) lastMessage) (happens s w (arrives k) []) (refuses w badLine)
 delivered s w k Silent = happens s w (arrives k) []
 delivered s w k (Refused number) = refuses w number
 
--- a message at its brick, which is up: every message but a Trim or a Drop sends a reply, and that may be one past message 127
+-- a message at its brick, which is up
 unfoldable pub reaches : Settings → World → ℕ → ℕ → Message → (block old : List ℕ) → Played
-reaches s w k b msg block old =
-    cond (isSilent (msg .kind) || ltb (length (w .sent)) lastMessage)
-    (delivered s w k (rowOutcome s b (w .images b) msg block old (replicate (s .size) 0) .given))
-    (refuses w badLine)
+reaches s w k b msg block old = delivered s w k (rowOutcome s b (w .images b) msg block old (replicate (s .size) 0) .given)
 
 -- "Any sent message may be carried again; carried to a down brick it is lost." A reply goes to the coordinator in its time.
 unfoldable pub carries : Settings → World → ℕ → Item → Played

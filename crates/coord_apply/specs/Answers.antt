@@ -1,11 +1,11 @@
 -- What one event at a coordinator gives: a refusal, or the later coordinator, a list of broadcasts to all n bricks, and what is seen.
-use mathlib.Core.Bool.{cond}
+use mathlib.Core.Bool.{cond, _&&_}
 use mathlib.Core.List.{List, [], _∷_}
 use Prim.Native.Nat.{ℕ, zero, suc}
 use lib.Dec.{eqb, leb}
-use lib.ListN.{length}
-use Rattle.coord_record.specs.Records.{idleKind, noBricks}
-use Rattle.coord_letters.specs.Letters.{noLetter, letterS, letterC, readLetter, abortLetter}
+use lib.ListN.{length, take}
+use Rattle.coord_record.specs.Records.{idleKind, onBlock, noBricks}
+use Rattle.coord_letters.specs.Letters.{noLetter, letterF, letterS, letterC, readLetter, abortLetter}
 use Rattle.coord_record.specs.declared.Coordinator.{Coordinator}
 use Rattle.coord_record.specs.declared.Op.{Op}
 use Rattle.coord_record.specs.declared.Tally.{Tally}
@@ -70,6 +70,16 @@ letterOf n op t what =
 
 unfoldable pub nothingSeen : Notice
 nothingSeen = record { what = noneSeen; kind = idleKind; stripe = 0; time = 0; block = 0; bricks = noBricks; letter = noLetter }
+
+-- How many bricks a notice names, by its own fields and m: none unless it tells what was read. Document 01: "A finished read names the m bricks
+-- decoded from"; E2: reading block j in one round "has brick j as its only target, and names it alone". The row of 16 alone does not tell it:
+-- it is 0 past them, and 0 is a brick.
+unfoldable pub howManyNamed : (m : ℕ) → Notice → ℕ
+howManyNamed m e = cond (eqb (e .what) readSeen) (cond (eqb (e .letter) letterF && onBlock (e .kind)) 1 m) 0
+
+-- and which: as many from the front of its row
+unfoldable pub namedIn : (m : ℕ) → Notice → List ℕ
+namedIn m e = take (howManyNamed m e) (e .bricks)
 
 unfoldable pub noMessage : Message
 noMessage = record { kind = 0; stripe = 0; time = 0; round = 0; max = 0; old = 0; block = 0; targets = noBricks }

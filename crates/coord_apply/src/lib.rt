@@ -44,7 +44,8 @@ pub const CUT: u8 = 5;
 pub const MOST_BROADCASTS: usize = 2;
 
 // what: one of these, of the operation of this kind, stripe and time. block: the number of the block that it is on, 0 where it is on the
-// stripe. bricks: the bricks that a finished read decoded from, or the one that gave the block. letter: which rule ended it, of those in
+// stripe. bricks: the bricks that a finished read decoded from, or the one that gave the block, from the front of the row, and 0 past them; how
+// many they are follows from what, letter, kind and m, as `Answers.howManyNamed` says. letter: which rule ended it, of those in
 // `coord_letters`; none where nothing ended.
 pub struct Notice {
     pub what: u8,

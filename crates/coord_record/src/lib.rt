@@ -1,6 +1,6 @@
 // The record of a coordinator (document 01, "What a coordinator does"), by value in small parts, and which records are sound (refusal 6).
 // The blocks of the replies and the stripe are lent beside it.
-// inner: call `coordinator::start_read`
+// inner: call `coordinator::start_read`; from outside only `idle_with`
 ghost use mathlib.Core.Path.{_≡_};
 ghost use Prim.Native.Nat.{_≤_, _<_};
 ghost use Rattle.coord_record.specs.Records.{isReading, onBlock, targetCount, noOp, nothingCounted, idleWith};
@@ -124,7 +124,8 @@ pub fn nothing_counted() -> Tally
     }
 }
 
-// An idle coordinator for these settings, with a clock.
+// An idle coordinator for these settings, with a clock: what firmware starts from, and goes on from after a power failure. It refuses
+// nothing: a record with a setting, a number or a count outside its range is refused by every routine that takes it.
 pub fn idle_with(geometry: Geometry, clock: Clock) -> Coordinator
     ensures { λ r. ⌜ r ≡ idleWith geometry clock ⌝ }
 {

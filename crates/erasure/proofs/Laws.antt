@@ -6,5 +6,6 @@ pub mod PassedLaws
 pub mod CodeRefusalLaws
 pub mod CodedByteLaws
 pub mod BlockOfLaws
+pub mod AlteredLaws
 pub mod RecodingLaws
 pub mod WeightFactorLaws

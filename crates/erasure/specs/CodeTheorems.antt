@@ -1,11 +1,13 @@
 -- Document 01, "Settings and the code": "For each byte position, the m data bytes are the values, at points 0 to m−1, of exactly one
 -- polynomial of degree below m. Coded block j holds its value at point j. Decoding from m different bricks gives the data back."
--- Proved in `proofs/Laws/CodeTheoremLaws`, of agreement in `OnePolynomialLaws` there, and of one block's change in `RecodingLaws`.
-use mathlib.Core.Bool.{true}
+-- Proved in `proofs/Laws/CodeTheoremLaws`, of agreement in `OnePolynomialLaws` there, of altered blocks in `AlteredLaws`, and of one block's
+-- change in `RecodingLaws`.
+use mathlib.Core.Bool.{true, false, not}
 use mathlib.Core.Path.{_≡_}
 use mathlib.Core.List.{List}
-use Prim.Native.Nat.{ℕ, _*_, _<_}
+use Prim.Native.Nat.{ℕ, _-_, _*_, _≤_, _<_}
 use lib.ListN.{length, getD}
+use Rattle.byte_lists.specs.Lists.{same}
 use Rattle.erasure.specs.Code.{codedOf, decodedOf, agree, PassesThrough, OnOnePolynomial, blockOf, blocksOf, bricksAt, withBlock, Stripe, Bricks}
 use Rattle.erasure.specs.Recoding.{recodedBlock}
 use Rattle.erasure.specs.Refusals.{encodeRefusal, listRefusal, decodeRefusal, encodedBuffer, decodedBuffer}
@@ -13,8 +15,9 @@ use Rattle.gf256.specs.Product.{plus, product}
 use Rattle.interpolate.specs.Bytes.{Byte, byte, byteField}
 use Rattle.interpolate.specs.Values.{byteAt}
 use Rattle.poly.specs.Polynomial.{eval}
+use Rattle.settings.specs.Count.{count}
 use Rattle.settings.specs.Ranges.{CodeRange}
-use Rattle.settings.specs.Refusal.{passed}
+use Rattle.settings.specs.Refusal.{passed, blocksDisagree}
 
 -- A polynomial of degree below m, by its m coefficients c, whose value at point i is byte p of data block i, for each i below m.
 pub record DataPolynomial (m size : ℕ) (stripe : List ℕ) (p : ℕ) (c : List Byte) : Type 0 where
@@ -74,6 +77,23 @@ DecodedIsEncoded =
     → blocks ≡ blocksOf size coded′ bricks
     → listRefusal n m size bricks (length blocks) (length out) ≡ passed → out′ ≡ decodedBuffer n m size bricks blocks out
     → (decodeRefusal n m size bricks blocks (length out) ≡ passed) × (out′ ≡ stripe)
+
+-- how many of the blocks given for the bricks of a list, in their order, are not the coded block of the stripe at their brick
+unfoldable pub altered : (n m size : ℕ) → (stripe bricks blocks : List ℕ) → ℕ
+altered n m size stripe bricks blocks =
+    count (λ (i : ℕ). not (same (blockOf size blocks i) (blockOf size (codedOf n m size stripe) (getD bricks i 0)))) (length bricks)
+
+-- Of k blocks, up to k − m altered ones are always noticed: where settings, list and lengths are right, and at least one and at most k − m of
+-- the k given blocks are not those of a stripe, they disagree, whichever they are and whatever they hold; `stripe_decode` refuses them as 15
+-- and leaves its buffer.
+abbrev pub AlteredBlocksAreNoticed : Type 0
+AlteredBlocksAreNoticed =
+    (n m size : ℕ) (stripe bricks blocks out : List ℕ) → Stripe m size stripe → ((i : ℕ) → getD blocks i 0 < 256)
+    → listRefusal n m size bricks (length blocks) (length out) ≡ passed
+    → 0 < altered n m size stripe bricks blocks → altered n m size stripe bricks blocks ≤ length bricks - m
+    → (agree m size bricks blocks ≡ false)
+    × (decodeRefusal n m size bricks blocks (length out) ≡ blocksDisagree)
+    × (decodedBuffer n m size bricks blocks out ≡ out)
 
 -- A stripe that is the sum of another and of c times a third has the codes' sum likewise. (Recoding a block after one data block
 -- changed is this at each byte position: the third is the unit stripe, c the change.)

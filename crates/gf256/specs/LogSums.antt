@@ -27,7 +27,7 @@ held bits sum = sum % 2 ^ bits
 unfoldable pub productIn : ℕ → List ℕ → List ℕ → ℕ → ℕ → ℕ
 productIn bits powers logs a b = cond (eqb a 0) 0 (cond (eqb b 0) 0 (getD powers (folded (held bits (logSum logs a b))) 0))
 
--- "hold it in 16 bits"
+-- "hold it in 16 bits": the product in so many is what `mul_by` says that it gives
 abbrev pub sumBits : ℕ
 sumBits = 16
 

@@ -5,7 +5,7 @@ ghost use Prim.Native.Nat.{_≤_};
 ghost use lib.ListN.{getD};
 ghost use Rattle.gf256.specs.Product.{product, inverse, quotient};
 ghost use Rattle.gf256.specs.Tables.{IsPowers, IsLogs};
-ghost use Rattle.gf256.specs.LogSums.{logSum, maxLogSum, folded};
+ghost use Rattle.gf256.specs.LogSums.{logSum, maxLogSum, folded, productIn, sumBits};
 
 // The bytes, and the powers of 2 among them: all but 0.
 pub const BYTE_COUNT: usize = 256;
@@ -568,11 +568,12 @@ fn power_at(powers: &[u8; POWER_COUNT], sum: u16) -> u8
     powers[sum as usize - POWER_COUNT]
 }
 
-// The product by lent tables: two loads, a sum, a load.
+// The product by lent tables: two loads, a sum in 16 bits, a load.
 pub fn mul_by(powers: &[u8; POWER_COUNT], logs: &[u8; BYTE_COUNT], a: u8, b: u8) -> u8
     requires { ⌜ IsPowers (now powers) ⌝ }
     requires { ⌜ IsLogs (now logs) ⌝ }
     ensures { λ r. ⌜ r ≡ product a b ⌝ }
+    ensures { λ r. ⌜ r ≡ productIn sumBits (now (powers .entry)) (now (logs .entry)) a b ⌝ }
 {
     if a == 0 {
         return 0;

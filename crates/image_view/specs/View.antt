@@ -23,6 +23,11 @@ unfoldable pub countOf : Parsed → Counted
 countOf (Opens x) = Entries (entryCount x)
 countOf (Refuses number) = Counted.Refused number
 
+-- the paper's number for each answer to "the count": 0 where there are entries, else the image's refusal
+unfoldable pub countedNumber : Counted → ℕ
+countedNumber (Entries count) = passed
+countedNumber (Counted.Refused number) = number
+
 -- "the entry at a place": its time, and the place of its held block, or that it is a mark; or 3 for "a view's place not below its count"
 unfoldable pub foundOf : Parsed → ℕ → Found
 foundOf (Opens x) place =

@@ -2,8 +2,8 @@
 // The functions over the struct are thin: each takes it apart or makes it, and calls a covered function on the slice and plain values.
 ghost use mathlib.Core.Path.{_≡_};
 ghost use Prim.Native.Nat.{ℕ};
-ghost use Rattle.image.specs.Parse.{parse};
-ghost use Rattle.image_view.specs.View.{countOf, foundAt, foundBy, foundIn, foundOf, viewOf};
+ghost use Rattle.image.specs.Parse.{parse, openRefusal};
+ghost use Rattle.image_view.specs.View.{countOf, countedNumber, foundAt, foundBy, foundIn, foundOf, viewOf};
 use byte_lists::read8;
 use image::Entry;
 use image::Holding;
@@ -85,10 +85,12 @@ fn entry_by(image: &[u8], counted: Counted, place: usize) -> Found
     }
 }
 
-// Opens a lent image as a view. Its count and its entries are those of the brick that the image holds; of a refused image both give the number.
+// Opens a lent image as a view. Its count and its entries are those of the brick that the image holds; of a refused image both give the
+// number: 1, 2, 3, 5 or 6, as `image::open`.
 pub fn open_view<'a>(s: Settings, brick: usize, image: &'a [u8]) -> View<'a>
     ensures { λ r. ⌜
-        (r ≡ viewOf s brick (image .entry)) × ((place : ℕ) → foundIn r place ≡ foundOf (parse s brick (now (image .entry))) place) ⌝ }
+        (r ≡ viewOf s brick (image .entry)) × ((place : ℕ) → foundIn r place ≡ foundOf (parse s brick (now (image .entry))) place)
+        × (countedNumber (r .counted) ≡ openRefusal s brick (now (image .entry))) ⌝ }
 {
     let counted = count_in(s, brick, image);
     View { image, counted }

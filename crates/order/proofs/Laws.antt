@@ -6,6 +6,7 @@ pub mod OrderUseLaws
 pub mod LastSetLaws
 pub mod StripeUseLaws
 pub mod BlockUseLaws
+pub mod OrderCutLaws
 -- Definitions for proofs: tests on histories that compute, and the order of a history.
 pub mod Tests
 pub mod Order

@@ -1,26 +1,35 @@
 -- The laws of `register`, for its own proofs and those of the crates above. No contract cites them.
 
--- Demand 3; what it means for a dealer; nothing that is kept is ever refused; the coordinators are 16; refused events change nothing.
+-- Demand 3; what it means for a dealer; nothing that is kept is ever refused; the coordinators are 16; refused events change nothing; when
+-- a log has a free entry; what a start shows.
 pub mod TheoremProof
 pub mod CorollaryLaws
 pub mod BlockCorollaryLaws
 pub mod NeverRefusedLaws
+pub mod SentFitLaws
+pub mod AcceptedLaws
 pub mod EntryLaws
 pub mod AgreementLaws
 pub mod SupersededLaws
 pub mod MetLaws
 pub mod RunLetterLaws
 pub mod EndLetterLaws
+pub mod CoordinatorEventLaws
+pub mod RecoveryLaws
 pub mod NamedBrickLaws
 pub mod NumberedLaws
 pub mod VolumeLaws
 pub mod RefusedEventLaws
+pub mod FreeEntryLaws
+pub mod BeginningLaws
 -- What a driver makes of the routines' answers; what may be lent, and what a crash leaves.
 pub mod DriverLaws
 pub mod IdleRecordLaws
 pub mod LendingLaws
--- Whoever calls the routines has made a run: the events so far, what is sent beside messages, the start, the calls.
+-- Whoever calls the routines has made a run: the events so far, coordinators that have begun nothing, what is sent beside messages, the start,
+-- the calls.
 pub mod AgreeLaws
+pub mod FirstDrawLaws
 pub mod BesideLaws
 pub mod CallStartLaws
 pub mod CallLoopLaws

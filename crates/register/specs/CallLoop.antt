@@ -29,14 +29,23 @@ pub record BufferLengths (s : Settings) (blocks stripe : List ℕ) : Type 0 wher
   pub blocks-long : length blocks ≡ s .n * s .size
   pub stripe-long : length stripe ≡ s .m * s .size
 
+-- coordinator c of a set, idle, with this last count and these buffers
+abbrev pub idleAt : (s : Settings) → (c last : ℕ) → (blocks stripe : List ℕ) → Buffered
+idleAt s c last blocks stripe =
+    record { state = idleWith (geometryOf s) (record { coordinator = c; last = last }); blocks = blocks; stripe = stripe }
+
 -- How it starts, by what `volume::write_fresh` (not refused, whatever lay in the rows) and `coord_record::idle_with` give: "fresh
--- images, all bricks up, 16 idle coordinators with last count 0, nothing sent".
+-- images, all bricks up, 16 idle coordinators .., nothing sent".
+-- Document 01 has them "with last count 0". Here each has any last count, as a coordinator has that served other bricks before, or these
+-- before they were written afresh.
+-- What stays a duty: nothing that was sent in an earlier life of the bricks is delivered once `write_fresh` has begun.
 pub record Started (s : Settings) (w : World) : Type 0 where
   pub before : ℕ → List ℕ
   pub not-refused : (b : ℕ) → b < s .n → rowLendingRefusal s b (length (before b)) ≡ passed
   pub images-are : (b : ℕ) → b < s .n → w .images b ≡ freshRowAfter s b (before b)
   pub all-up : (b : ℕ) → b < s .n → w .up b ≡ true
-  pub all-idle : (c : ℕ) → c ≤ lastCoordinator → w .coordinators c .state ≡ idleWith (geometryOf s) (record { coordinator = c; last = 0 })
+  pub last : ℕ → ℕ
+  pub all-idle : (c : ℕ) → c ≤ lastCoordinator → w .coordinators c .state ≡ idleWith (geometryOf s) (record { coordinator = c; last = last c })
   pub all-fit : (c : ℕ) → c ≤ lastCoordinator → BufferLengths s (w .coordinators c .blocks) (w .coordinators c .stripe)
   pub none-sent : w .sent ≡ []
 
@@ -82,8 +91,10 @@ pub record LentWith (msg : Message) (block old lent lentOld : List ℕ) : Type 0
   pub write : msg .kind ≡ writeKind → lent ≡ block
   pub modify : msg .kind ≡ modifyKind → (lent ≡ block) × (lentOld ≡ old)
 
--- What calls may have led to: a world, and what was seen so far. Refused calls are among them, and their contracts say that nothing changed.
--- What was sent may be carried any number of times, in any order, or never.
+-- What calls may have led to: a world, and what was seen so far. A call is made with the set's settings, at a coordinator with its own record
+-- and buffers, or at the brick that a message was sent to with that brick's row or image. Among such calls those that are refused are here too,
+-- and their contracts say that nothing changed; a call with other settings, at another brick or with other buffers is not here.
+-- What was sent may be carried any number of times, in any order, or never; what was not sent since the start is not carried.
 pub data RoutineCalls (s : Settings) : Moved s → Type 0 where
   begin : (w : World) → Started s w → RoutineCalls s (unmoved s w)
   -- `coordinator::start_write`; no start sends blocks
@@ -142,14 +153,21 @@ pub data RoutineCalls (s : Settings) : Moved s → Type 0 where
       → (blocks stripe : List ℕ) → BufferLengths s blocks stripe
       → RoutineCalls s (joined s r (failed s (r .world) c blocks stripe))
 
--- the same images and bricks up, below n, the same 16 coordinators, and the same sent
+-- A coordinator of the calls beside the same one of a run: they are equal; or it has begun nothing yet, and they differ in the last count
+-- alone, which is 0 in the run.
+pub data Alike (s : Settings) (c : ℕ) (k j : Buffered) : Type 0 where
+  equal : k ≡ j → Alike s c k j
+  begun-nothing : (last : ℕ) (blocks stripe : List ℕ) → k ≡ idleAt s c last blocks stripe → j ≡ idleAt s c 0 blocks stripe → Alike s c k j
+
+-- the same images and bricks up, below n, the same 16 coordinators, up to the counts of those that have begun nothing, and the same sent
 pub record Agrees (s : Settings) (w v : World) : Type 0 where
   pub same-image : (b : ℕ) → b < s .n → w .images b ≡ v .images b
   pub same-up : (b : ℕ) → b < s .n → w .up b ≡ v .up b
-  pub same-coordinator : (c : ℕ) → c ≤ lastCoordinator → w .coordinators c ≡ v .coordinators c
+  pub same-coordinator : (c : ℕ) → c ≤ lastCoordinator → Alike s c (w .coordinators c) (v .coordinators c)
   pub same-sent : w .sent ≡ v .sent
 
--- Whoever makes such calls has made a run of some events: what is seen is what is seen of that run, and the world is the run's.
+-- Whoever makes such calls has made a run of some events, from last counts of 0 on: what is seen is what is seen of that run, and the world
+-- agrees with the run's.
 abbrev pub WhoeverCallsMakesARun : Type 0
 WhoeverCallsMakesARun =
     (s : Settings) → inRange s ≡ true → (r : Moved s) → RoutineCalls s r

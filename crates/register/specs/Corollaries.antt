@@ -7,15 +7,52 @@ use Prim.Native.Nat.{ℕ, _≤_, _<_}
 use lib.ListN.{length, replicate}
 use Rattle.settings.specs.Ranges.{inRange}
 use Rattle.settings.specs.declared.Settings.{Settings}
-use Rattle.order.specs.Claim.{write, ok, bytes, finished, Seen, _∈_, Before}
+use Rattle.order.specs.Claim.{Action, write, Result, ok, bytes, given, finished, Seen, Operation, _∈_, Before}
 use Rattle.order.specs.OrderUse.{EndedBefore, BeganBefore, ReadGave, OnlyWriteOf, WriteWithin, NoBlockWrites, IsWrite}
-use Rattle.order.specs.OrderUse.{BlockGave, BlockWritten, OnlyBlockWriteOf, BlockWriteWithin}
-use Rattle.register.specs.Runs.{zeroStripe, World, Event, step, run}
+use Rattle.order.specs.OrderUse.{BlockGave, BlockWritten, OnlyBlockWriteOf, BlockWriteWithin, OperationGave, CutAtTwo, AfterOneList}
+use Rattle.register.specs.Runs.{zeroStripe, stripeBlocks, plain, World, Event, step, run}
+
+-- ANY TWO, whatever else is read and written of the stripe. The printed line, "a write cut short is there from the next read on or stays away
+-- for good", of any two finished operations, each on the stripe or on one block, of which t ended before u began. There are two lists of
+-- operations that began: t gave what the plain stripe gives after the first, u what it gives after the first, t and the second (a read changes
+-- nothing); what ended before t began, by ok, abort or cut, stands in the first list or in neither; what stands in the second neither ended
+-- before t began nor began after u ended.
+abbrev pub OrderCutAtTwo : Type 0
+OrderCutAtTwo =
+    (s : Settings) → inRange s ≡ true → (events : List Event) (stripe : ℕ) → stripe < s .stripes
+    → (t u : ℕ) (x y : Action (stripeBlocks s)) (a b : Result (List ℕ) (List ℕ))
+    → let l = run s events .seen stripe in OperationGave l t x a → OperationGave l u y b → EndedBefore l t u
+    → CutAtTwo l t x a u y b
+
+-- Two finished reads, each of the stripe or of one block, also two beside each other, gave what the plain stripe gives after one list of
+-- operations that began, if every write of the run, of the stripe or of one block, had ended before both began, by ok, abort or cut, or began
+-- after both had ended. (A write among the two would itself have to end before it began.)
+abbrev pub ReadsSeeOneStripe : Type 0
+ReadsSeeOneStripe =
+    (s : Settings) → inRange s ≡ true → (events : List Event) (stripe : ℕ) → stripe < s .stripes
+    → (t u : ℕ) (x y : Action (stripeBlocks s)) (a b : Result (List ℕ) (List ℕ))
+    → let l = run s events .seen stripe in OperationGave l t x a → OperationGave l u y b
+    → ((w : ℕ) → IsWrite l w → (EndedBefore l w t × EndedBefore l w u) ⊎ (EndedBefore l t w × EndedBefore l u w))
+    → AfterOneList l t x a u y b
+
+-- So a write of the stripe is there whole or away, also for reads of different blocks. Write w of v ended before both reads began, by ok, abort
+-- or cut, and every other write of the run had ended before all three began, or began after both reads had ended: then both gave what they
+-- read of v, or both gave what the plain stripe gives after one list of operations in which w does not stand. (Let m be 2 and w, of A and B,
+-- neither of them zeros, the only write: it is excluded that a read of block 0 gives A and a later one of block 1 gives zeros.)
+abbrev pub StripeWriteIsThereOrAway : Type 0
+StripeWriteIsThereOrAway =
+    (s : Settings) → inRange s ≡ true → (events : List Event) (stripe : ℕ) → stripe < s .stripes
+    → (w t u : ℕ) (v : List ℕ) (x y : Action (stripeBlocks s)) (a b : Result (List ℕ) (List ℕ))
+    → let l = run s events .seen stripe in Seen.began w (write v) ∈ l → EndedBefore l w t → EndedBefore l w u → OperationGave l t x a → OperationGave l u y b
+    → ((i : ℕ) → IsWrite l i → i ≢ w
+    → (EndedBefore l i w × EndedBefore l i t × EndedBefore l i u) ⊎ (EndedBefore l t i × EndedBefore l u i))
+    → ((a ≡ given x v) × (b ≡ given y v))
+    ⊎ ((c : AfterOneList l t x a u y b) × ((o : Operation (plain s)) → o ∈ c .list → o .time ≢ w))
 
 -- WHOLE STRIPES. A write of one block leaves a stripe that no one wrote whole, so the first three ask that none began on that stripe.
 
 -- The printed line, in two statements. Write w of v ended, by ok, abort or cut, before read t began, and t ended before read u began.
--- It stays away for good: if t gave other bytes, then u gave other bytes.
+-- It stays away for good: if no other write is of v and t gave other bytes, then u gave other bytes.
 abbrev pub WriteStaysAway : Type 0
 WriteStaysAway =
     (s : Settings) → inRange s ≡ true → (events : List Event) (stripe : ℕ) → stripe < s .stripes → (w t u : ℕ) (v a b : List ℕ)
@@ -61,7 +98,7 @@ WhatWasStoredIsThere =
 -- of the stripe gives it too. Proved in `proofs/Laws/BlockCorollaryLaws`.
 
 -- The printed line of one block, in two statements. Write w of v as block j ended, by ok, abort or cut, before read t of it began, and t ended
--- before read u of it began. It stays away for good: if t gave other bytes, then u gave other bytes.
+-- before read u of it began. It stays away for good: if no other write writes v there and t gave other bytes, then u gave other bytes.
 abbrev pub BlockWriteStaysAway : Type 0
 BlockWriteStaysAway =
     (s : Settings) → inRange s ≡ true → (events : List Event) (stripe : ℕ) → stripe < s .stripes → (j w t u : ℕ) (v a b : List ℕ)

@@ -1,11 +1,12 @@
--- Document 02, E5: "On the panel I'd like a letter after the time." The letter that an event of a run shows, and what it tells of the replies that
--- were sent to the operation. Proved in `proofs/Laws/RunLetterLaws` and `proofs/Laws/EndLetterLaws`.
+-- Document 02, E5: "On the panel I'd like a letter after the time." The letter that an event of a run shows, and what the letter of an end by a
+-- reply tells of the replies counted. Proved in `proofs/Laws/RunLetterLaws` and `proofs/Laws/EndLetterLaws`.
 use mathlib.Core.Path.{_≡_}
 use mathlib.Core.Logic.{_≢_, _⊎_}
 use mathlib.Core.Bool.{Bool, true, false, cond, _||_}
 use mathlib.Core.List.{List, [], _∷_}
 use Prim.Native.Nat.{ℕ, zero, suc, _*_, _≤_, _<_}
 use lib.Dec.{eqb}
+use lib.ListN.{getD}
 use Rattle.settings.specs.Ranges.{inRange, quorum}
 use Rattle.settings.specs.Times.{coordinatorOf}
 use Rattle.settings.specs.declared.Settings.{Settings}
@@ -16,13 +17,13 @@ use Rattle.message.specs.declared.Message.{Message}
 use Rattle.message.specs.declared.Reply.{Reply}
 use Rattle.coord_record.specs.CountedRules.{isTarget}
 use Rattle.coord_record.specs.Records.{isReading, targetCount}
-use Rattle.coord_record.specs.declared.Op.{Op}
 use Rattle.coord_letters.specs.Letters.{noLetter, letterF, letterH, letterL, letterS, letterO, letterG, letterW, letterX, letterC}
-use Rattle.coord_apply.specs.Answers.{Went, Step, refused, went}
+use Rattle.erasure.specs.Code.{blockOf}
+use Rattle.coord_apply.specs.Answers.{Buffered, Went, Step, refused, went}
 use Rattle.byte_lists.specs.Little.{areBytes}
 use Rattle.coordinator.specs.Routines.{takeStep, crashStep, writeStep, readStep, writeBlockStep, readBlockStep}
 use Rattle.order.specs.Claim.{_∈_, ok, bytes, Result, Ending, finished, aborted, cut, Seen}
-use Rattle.register.specs.Recoveries.{addressee}
+use Rattle.register.specs.Recoveries.{addressee, countedAt}
 use Rattle.register.specs.Runs.{plain, Item, message, reply, World, Event, startWrite, startRead, startWriteBlock, startReadBlock, arrives, crashes}
 use Rattle.register.specs.Runs.{goesDown, comesUp, step, run}
 
@@ -77,76 +78,86 @@ NoLetterWithoutAnEnd =
     (s : Settings) (w : World) (e : Event) → letterAt s w e ≢ noLetter
     → (stripe time : ℕ) × (how : Ending (plain s)) × (step s w e .seen stripe ≡ Seen.ended time how ∷ [])
 
--- WHAT A LETTER TELLS. A reply of brick b that was sent to this round of an operation:
-pub record SentTo (s : Settings) (sent : List Item) (op : Op) (b : ℕ) (r : Reply) : Type 0 where
-  pub block : List ℕ
-  pub was-sent : reply r block ∈ sent
-  pub low : b < s .n
-  pub brick-is : r .brick ≡ b
-  pub kind-is : r .kind ≡ op .phase
-  pub stripe-is : r .stripe ≡ op .stripe
-  pub time-is : r .time ≡ op .time
-  pub round-is : r .round ≡ op .round
+-- WHAT A LETTER TELLS. It speaks of a coordinator k that has counted the reply which ends the operation. Brick b is counted:
+abbrev pub Counted : Buffered → ℕ → Type 0
+Counted k b = member (k .state .tally .counted) b ≡ true
 
--- the round that ended it met q replies, of different bricks, each sent to it
-pub record Met (s : Settings) (sent : List Item) (op : Op) : Type 0 where
-  pub bricks : List ℕ
-  pub a-quorum : members bricks (s .n) ≡ quorum (s .n) (s .m)
-  pub reply-of : (b : ℕ) → member bricks b ≡ true → Reply
-  pub sent-to : (b : ℕ) (e : member bricks b ≡ true) → SentTo s sent op b (reply-of b e)
+-- the reply of brick b as the coordinator keeps it: one to the open round, with what the tally has of the brick
+abbrev pub keptReply : Buffered → ℕ → Reply
+keptReply k b =
+    record {
+      kind = k .state .op .phase;
+      brick = b;
+      stripe = k .state .op .stripe;
+      time = k .state .op .time;
+      round = k .state .op .round;
+      yes = member (k .state .tally .granted) b;
+      found = getD (k .state .tally .found) b 0;
+      held = member (k .state .tally .held) b;
+      comparison = getD (k .state .tally .said) b 0;
+    }
 
-module _ {s : Settings} {sent : List Item} {op : Op} where
-  -- all of them said yes
-  abbrev pub AllSaidYes : Met s sent op → Type 0
-  AllSaidYes r = (b : ℕ) (e : member (r .bricks) b ≡ true) → r .reply-of b e .yes ≡ true
+-- The round met q replies: q bricks are counted; of each of them the reply that is kept was sent, and where it holds a block, the block sent with
+-- it is the one in the coordinator's buffer.
+pub record Met (s : Settings) (sent : List Item) (k : Buffered) : Type 0 where
+  pub a-quorum : members (k .state .tally .counted) (s .n) ≡ quorum (s .n) (s .m)
+  pub low : (b : ℕ) → Counted k b → b < s .n
+  pub block : (b : ℕ) → Counted k b → List ℕ
+  pub was-sent : (b : ℕ) (e : Counted k b) → reply (keptReply k b) (block b e) ∈ sent
+  pub block-kept : (b : ℕ) (e : Counted k b) → keptReply k b .held ≡ true → blockOf (s .size) (k .blocks) b ≡ block b e
 
-  -- brick b said no
-  abbrev pub SaidNo : Met s sent op → ℕ → Type 0
-  SaidNo r b = (e : member (r .bricks) b ≡ true) × (r .reply-of b e .yes ≡ false)
+-- all of them said yes
+abbrev pub AllSaidYes : Buffered → Type 0
+AllSaidYes k = (b : ℕ) → Counted k b → keptReply k b .yes ≡ true
 
-  -- "no block found"
-  abbrev pub NoBlock : Met s sent op → Type 0
-  NoBlock r = (b : ℕ) (e : member (r .bricks) b ≡ true) → r .reply-of b e .held ≡ false
+-- brick b said no
+abbrev pub SaidNo : Buffered → ℕ → Type 0
+SaidNo k b = Counted k b × (keptReply k b .yes ≡ false)
 
-  -- "time 0 on too few": every block is of time 0, and fewer than m bricks gave one
-  abbrev pub ZeroOnFew : Met s sent op → Type 0
-  ZeroOnFew r =
-      (givers : List ℕ) × ((b : ℕ) (e : member (r .bricks) b ≡ true) → r .reply-of b e .held ≡ member givers b) × (members givers (s .n) < s .m)
-      × ((b : ℕ) (e : member (r .bricks) b ≡ true) → r .reply-of b e .held ≡ true → r .reply-of b e .found ≡ 0)
+-- "no block found"
+abbrev pub NoBlock : Buffered → Type 0
+NoBlock k = (b : ℕ) → Counted k b → keptReply k b .held ≡ false
 
--- What a letter tells of the round that ended an operation.
-pub data Tells (s : Settings) (sent : List Item) (op : Op) (r : Met s sent op) : ℕ → Type 0 where
+-- "time 0 on too few": every block is of time 0, and fewer than m bricks gave one
+abbrev pub ZeroOnFew : Settings → Buffered → Type 0
+ZeroOnFew s k =
+    (members (k .state .tally .held) (s .n) < s .m) × ((b : ℕ) → Counted k b → keptReply k b .held ≡ true → keptReply k b .found ≡ 0)
+
+-- What a letter tells of the replies counted in the round that ended an operation.
+pub data Tells (s : Settings) (sent : List Item) (k : Buffered) : ℕ → Type 0 where
   -- "F: read in one round": all said yes with one newest time, and every target is among them
-  read-at-once : isReading (op .kind) ≡ true → op .phase ≡ readKind → AllSaidYes r
-      → (newest : ℕ) → ((b : ℕ) (e : member (r .bricks) b ≡ true) → r .reply-of b e .found ≡ newest)
-      → ((b : ℕ) → b < s .n → isTarget (s .n) (targetCount (s .m) (op .kind)) (op .first) b ≡ true → member (r .bricks) b ≡ true)
-      → Tells s sent op r letterF
+  read-at-once : isReading (k .state .op .kind) ≡ true → k .state .op .phase ≡ readKind → AllSaidYes k
+      → (newest : ℕ) → ((b : ℕ) → Counted k b → keptReply k b .found ≡ newest)
+      → ((b : ℕ) → b < s .n → isTarget (s .n) (targetCount (s .m) (k .state .op .kind)) (k .state .op .first) b ≡ true → Counted k b)
+      → Tells s sent k letterF
   -- "H: a read recovered at the first time tried": all said yes to its store, and it never sent an Order-and-read after the second round
-  first-time : isReading (op .kind) ≡ true → op .phase ≡ writeKind → AllSaidYes r → op .round ≡ thirdRound
-      → ((b : ℕ) (msg : Message) (block old : List ℕ) → message b msg block old ∈ sent → msg .kind ≡ orderReadKind → msg .stripe ≡ op .stripe
-      → msg .time ≡ op .time → msg .round ≤ secondRound)
-      → Tells s sent op r letterH
+  first-time : isReading (k .state .op .kind) ≡ true → k .state .op .phase ≡ writeKind → AllSaidYes k → k .state .op .round ≡ thirdRound
+      → ((b : ℕ) (msg : Message) (block old : List ℕ) → message b msg block old ∈ sent → msg .kind ≡ orderReadKind
+      → msg .stripe ≡ k .state .op .stripe → msg .time ≡ k .state .op .time → msg .round ≤ secondRound)
+      → Tells s sent k letterH
   -- "L: a read recovered at a lower time": all said yes to its store, and it had sent an Order-and-read after the second round
-  lower-time : isReading (op .kind) ≡ true → op .phase ≡ writeKind → AllSaidYes r → thirdRound < op .round
-      → (b : ℕ) (msg : Message) (block old : List ℕ) → message b msg block old ∈ sent → msg .kind ≡ orderReadKind → msg .stripe ≡ op .stripe
-      → msg .time ≡ op .time → thirdRound ≤ msg .round
-      → Tells s sent op r letterL
+  lower-time : isReading (k .state .op .kind) ≡ true → k .state .op .phase ≡ writeKind → AllSaidYes k → thirdRound < k .state .op .round
+      → (b : ℕ) (msg : Message) (block old : List ℕ) → message b msg block old ∈ sent → msg .kind ≡ orderReadKind
+      → msg .stripe ≡ k .state .op .stripe → msg .time ≡ k .state .op .time → thirdRound ≤ msg .round
+      → Tells s sent k letterL
   -- "S: written, stripe or block": all said yes to Write or Modify
-  written : isReading (op .kind) ≡ false → storesEntry (op .phase) ≡ true → AllSaidYes r → Tells s sent op r letterS
+  written : isReading (k .state .op .kind) ≡ false → storesEntry (k .state .op .phase) ≡ true → AllSaidYes k → Tells s sent k letterS
   -- "O: an Order or Order-and-read was told no"
-  order-told-no : storesEntry (op .phase) ≡ false → op .phase ≢ readKind → (b : ℕ) → SaidNo r b → Tells s sent op r letterO
+  order-told-no : storesEntry (k .state .op .phase) ≡ false → k .state .op .phase ≢ readKind → (b : ℕ) → SaidNo k b → Tells s sent k letterO
   -- "G: every no to a Write or Modify came from a full log alone", and there was one
-  full-logs : storesEntry (op .phase) ≡ true → (b : ℕ) → SaidNo r b
-      → ((b : ℕ) (n : SaidNo r b) → r .reply-of b (n .0) .comparison ≡ fullLog) → Tells s sent op r letterG
+  full-logs : storesEntry (k .state .op .phase) ≡ true → (b : ℕ) → SaidNo k b → ((b : ℕ) → SaidNo k b → keptReply k b .comparison ≡ fullLog)
+      → Tells s sent k letterG
   -- "W: any other no there"
-  other-no : storesEntry (op .phase) ≡ true → (b : ℕ) (n : SaidNo r b) → r .reply-of b (n .0) .comparison ≢ fullLog → Tells s sent op r letterW
+  other-no : storesEntry (k .state .op .phase) ≡ true → (b : ℕ) → SaidNo k b → keptReply k b .comparison ≢ fullLog → Tells s sent k letterW
   -- "X: all said yes, but no block found, time 0 on too few, rounds spent" (E3: blocks of a run never disagree)
-  nothing-found : op .phase ≡ orderReadKind → AllSaidYes r → NoBlock r ⊎ (ZeroOnFew r ⊎ (lastRound ≤ op .round)) → Tells s sent op r letterX
+  nothing-found : k .state .op .phase ≡ orderReadKind → AllSaidYes k → NoBlock k ⊎ (ZeroOnFew s k ⊎ (lastRound ≤ k .state .op .round))
+      → Tells s sent k letterX
 
--- In a run from fresh, a reply that ends an operation shows a letter that tells what q replies, all sent to that operation, said.
+-- In a run from fresh, a reply that ends an operation shows a letter that tells what q replies said: those that its coordinator has counted, this
+-- one among them, each sent to the operation's round.
 abbrev pub LettersTellTheReplies : Type 0
 LettersTellTheReplies =
     (s : Settings) → inRange s ≡ true → (events : List Event) (a : Reply) (block : List ℕ) (g : Went)
-    → let w = run s events .world in let op = addressee w a .state .op in
+    → let w = run s events .world in let k = countedAt s w a block in
     reply a block ∈ w .sent → takeStep (s .n) (s .m) (s .size) (s .stripes) (addressee w a) a block (s .n * s .size) ≡ went g → g .seen .letter ≢ noLetter
-    → (r : Met s (w .sent) op) × Tells s (w .sent) op r (g .seen .letter)
+    → Met s (w .sent) k × Tells s (w .sent) k (g .seen .letter)

@@ -95,8 +95,8 @@ HighestStays =
     → (b : ℕ) → b < s .n → (time ≡ 0) ⊎ SaidStored (run s events .world .sent) stripe b time
     → (x : Brick) → HasState s (run s events .world) stripe b x → HasTime x time
 
--- "A Trim or Drop of a run never removes the highest time that q bricks stored": where a brick has it, it still does after each of them that was
--- sent to it, whenever that arrives.
+-- No Trim or Drop of a run removes the highest time that q bricks stored: where a brick has it, it still does after each of them that was sent to
+-- it, whenever that arrives.
 abbrev pub ClearingKeepsTheHighest : Type 0
 ClearingKeepsTheHighest =
     (s : Settings) → inRange s ≡ true → (events : List Event) (stripe : ℕ) → stripe < s .stripes

@@ -3,13 +3,13 @@
 use mathlib.Core.Path.{_≡_}
 use mathlib.Core.Logic.{_≢_}
 use mathlib.Core.Bool.{Bool, true, false}
-use mathlib.Core.List.{List, [], _∷_}
-use Prim.Native.Nat.{ℕ, zero, suc, _≤_}
+use mathlib.Core.List.{List, [], _∷_, _++_}
+use Prim.Native.Nat.{ℕ, zero, suc, _≤_, _<_}
 use lib.Dec.{eqb}
 use lib.ListN.{length}
 use Rattle.settings.specs.Ranges.{inRange}
 use Rattle.settings.specs.Refusal.{passed, firstRefusal, busy}
-use Rattle.settings.specs.Times.{drawRefusal}
+use Rattle.settings.specs.Times.{drawRefusal, coordinatorOf}
 use Rattle.settings.specs.declared.Settings.{Settings}
 use Rattle.coord_record.specs.Records.{idleKind}
 use Rattle.byte_lists.specs.Little.{areBytes}
@@ -44,17 +44,47 @@ StripesApart =
     (s : Settings) (w : World) (e : Event) (stripe b : ℕ) → changesImage w e stripe ≡ false
     → imageAt s stripe (step s w e .world .images b) ≡ imageAt s stripe (w .images b)
 
+-- the stripe that an item names
+unfoldable pub itemStripe : Item → ℕ
+itemStripe (message b msg block old) = msg .stripe
+itemStripe (reply r block) = r .stripe
+
+-- the stripe of what arrives: a message's own, and of a reply that of the operation that runs at its coordinator
+unfoldable pub arrivalStripe : World → List Item → (place : ℕ) → ℕ
+arrivalStripe w [] place = 0
+arrivalStripe w (message b msg block old ∷ is) zero = msg .stripe
+arrivalStripe w (reply r block ∷ is) zero = w .coordinators (coordinatorOf (r .time)) .state .op .stripe
+arrivalStripe w (i ∷ is) (suc place) = arrivalStripe w is place
+
+-- the item names the stripe of the operation that starts or of what arrives; at the other events nothing is sent
+unfoldable pub sentAt : World → Event → Item → Bool
+sentAt w (startWrite c stripe reading content) i = eqb (itemStripe i) stripe
+sentAt w (startRead c stripe reading first) i = eqb (itemStripe i) stripe
+sentAt w (startWriteBlock c stripe reading block content) i = eqb (itemStripe i) stripe
+sentAt w (startReadBlock c stripe reading block) i = eqb (itemStripe i) stripe
+sentAt w (arrives place) i = eqb (itemStripe i) (arrivalStripe w (w .sent) place)
+sentAt w (crashes c left) i = false
+sentAt w (goesDown b) i = false
+sentAt w (comesUp b) i = false
+
+-- "Messages and replies gain a stripe number": all that an event sends names the stripe of the operation that sent it, and a brick's reply that of
+-- the message.
+abbrev pub SentOnItsStripe : Type 0
+SentOnItsStripe =
+    (s : Settings) (w : World) (e : Event)
+    → (new : List Item) × (step s w e .world .sent ≡ w .sent ++ new) × ((i : Item) → i ∈ new → sentAt w e i ≡ true)
+
 -- Nothing is seen of a stripe that the volume does not have: all operations are among those that the stripes below S order.
 abbrev pub NothingSeenPastTheStripes : Type 0
 NothingSeenPastTheStripes = (s : Settings) (events : List Event) (stripe : ℕ) → s .stripes ≤ stripe → run s events .seen stripe ≡ []
 
--- "A coordinator uses one clock for all stripes": when an operation begins, on whatever stripe, its time is that of no operation before, on
--- whatever stripe.
+-- "A coordinator uses one clock for all stripes": when an operation begins, on whatever stripe, its time is above those of all operations that its
+-- coordinator began before, on whatever stripe and crashes or not, and is that of no operation before.
 abbrev pub OneClock : Type 0
 OneClock =
     (s : Settings) → inRange s ≡ true → (events : List Event) (e : Event) (j t : ℕ) (x : plain s .Kind)
     → Seen.began t x ∈ step s (run s events .world) e .seen j
-    → (k : ℕ) (y : plain s .Kind) → Seen.began t y ∈ run s events .seen k → ⊥
+    → (k u : ℕ) (y : plain s .Kind) → Seen.began u y ∈ run s events .seen k → (coordinatorOf u ≡ coordinatorOf t → u < t) × (u ≢ t)
 
 -- the numbers below 9 with which a start on a stripe is refused, 0 for none: at coordinator c with this reading
 module _ (s : Settings) (w : World) (c stripe reading : ℕ) where

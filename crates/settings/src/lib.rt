@@ -108,7 +108,8 @@ pub fn stripe_count_refusal(stripes: usize) -> u32
     PASSED
 }
 
-// 13 for a stripe that the volume does not have, else 0.
+// 13 for a stripe that the volume does not have, else 0. inner: a stripe count out of range is refused before
+// (`Settings::refusal`, `stripe_count_refusal`).
 pub fn stripe_refusal(stripes: usize, stripe: usize) -> u32
     ensures { λ r. ⌜ r ≡ stripeRefusal stripes stripe ⌝ }
 {
@@ -118,7 +119,8 @@ pub fn stripe_refusal(stripes: usize, stripe: usize) -> u32
     PASSED
 }
 
-// 14 for a data block that a stripe does not have, else 0.
+// 14 for a data block that a stripe does not have, else 0. inner: an m out of range is refused before
+// (`Settings::refusal`, `code_refusal`).
 pub fn data_block_refusal(m: usize, block: usize) -> u32
     ensures { λ r. ⌜ r ≡ dataBlockRefusal m block ⌝ }
 {

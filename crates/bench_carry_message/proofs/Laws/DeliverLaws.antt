@@ -10,8 +10,9 @@ use borrow.Author.Tests.{eq-eqb, ne-eqb, lt-ltb, le-ltb}
 use borrow.Rule.Slice.PartMut.{putMid, put-same}
 use Rattle.settings.specs.declared.Settings.{Settings}
 use Rattle.message.specs.declared.Message.{Message}
+use Rattle.message.specs.declared.Reply.{Reply}
 use Rattle.image.specs.Image.{imageSize}
-use Rattle.brick.specs.Receive.{Outcome, outcomeWith}
+use Rattle.brick.specs.Receive.{Outcome, outcomeWith, receiveRefusal}
 use Rattle.volume.specs.Rows.{rowSize, rowOutcome}
 use Rattle.brick.proofs.Laws.OutcomeLaws.{outcome-given, outcome-image, outcome-out}
 use Rattle.brick.specs.declared.Given.{Given}
@@ -34,11 +35,12 @@ use Rattle.bench_rules.specs.Turning.{Lent, lent, worldIn}
 use Rattle.bench_rules.specs.Workers.{Turned}
 use Rattle.bench_rules.proofs.Laws.TurningLaws.{turned-nothing, one-event}
 use Rattle.bench_rules.specs.declared.After.{After}
-use Rattle.bench_carry_message.proofs.Laws.ReplyKeptLaws.{refusal-keeps, room}
-use Rattle.bench_carry_message.specs.Workers.{Lends, Reaching, Settled, maySend, sentAfterMessage, toldOf}
+use Rattle.bench_carry_message.proofs.Laws.ReplyKeptLaws.{refusal-keeps, room, room-answered}
+use Rattle.bench_carry_message.proofs.Laws.PastLimitLaws.{answer-sent, silence, refusal, past-the-limit}
+use Rattle.bench_carry_message.specs.Workers.{Lends, Reaching, Settled, maySend, imageIn, ofTheSize, pastLimit, sentAfterMessage, toldOf}
 use Rattle.bench_limits.specs.Limits.{lastMessage, upFlag, imageRoom, rowBytes, blockPlace, oldBlockPlace}
 use Rattle.image_block.specs.Block.{blockBytes}
-use Rattle.settings.specs.Refusal.{badNumber, badLine}
+use Rattle.settings.specs.Refusal.{badNumber}
 
 -- the ways of `carries` for a message
 module _ (s : Settings) (w : World) (k brick : ℕ) (msg : Message) (block old : List ℕ) where
@@ -50,14 +52,15 @@ module _ (s : Settings) (w : World) (k brick : ℕ) (msg : Message) (block old :
   unfolding carries
   down h u = rw (lt-ltb brick (s .n) h, u) refl
 
-  many : brick < s .n → w .up brick ≡ true → maySend (msg .kind) (length (w .sent)) ≡ false → carries s w k (message brick msg block old) ≡ refuses w badLine
-  unfolding carries reaches maySend
-  many h u m = rw (lt-ltb brick (s .n) h, u, m) refl
+  many : brick < s .n → w .up brick ≡ true → maySend (msg .kind) (length (w .sent)) ≡ false → s .stripes ≡ 1 → length block ≡ s .size → length old ≡ s .size
+      → carries s w k (message brick msg block old) ≡ refuses w (pastLimit (receiveRefusal s brick (w .images brick) msg (ofTheSize s)))
+  unfolding carries reaches
+  many h u m one eb eo = rw (lt-ltb brick (s .n) h, u) (past-the-limit s w k brick (w .images brick) msg block old one eb eo m)
 
-  reached : brick < s .n → w .up brick ≡ true → maySend (msg .kind) (length (w .sent)) ≡ true
+  reached : brick < s .n → w .up brick ≡ true
       → carries s w k (message brick msg block old) ≡ delivered s w k (rowOutcome s brick (w .images brick) msg block old (replicate (s .size) 0) .given)
-  unfolding carries reaches maySend
-  reached h u m = rw (lt-ltb brick (s .n) h, u, m) refl
+  unfolding carries reaches
+  reached h u = rw (lt-ltb brick (s .n) h, u) refl
 
   -- the event itself
   arriving-up : w .up brick ≡ true
@@ -148,7 +151,6 @@ module _ (b : Bench) (k brick : ℕ) (msg : Message) (images numbers bytes : Lis
     carries-is =
         ap (carries s w k) (q .item-is)
         ∙ reached s w k brick msg (sentBlockAt (s .size) bytes k) (oldBlockAt (s .size) bytes k) (q .there) (world-up b images kept numbers bytes brick true (q .is-up))
-        (ap (maySend (msg .kind)) (sent-length b images kept numbers bytes) ∙ q .may-send)
         ∙ ap (λ (v : Outcome). delivered s w k (v .given)) outcome-at
 
     module _ (new block numbers′ bytes′ : List ℕ) (at : ℕ) (out out′ : List ℕ) (r : After) (ei : new ≡ o .image) (eo : block ≡ o .out) (long : length new ≡ rowSize s) where
@@ -208,17 +210,29 @@ module _ (b : Bench) (k brick : ℕ) (msg : Message) (images numbers bytes : Lis
 
       delivered-by : (g : Given) → g ≡ o .given → Settled b g block numbers bytes at out r numbers′ bytes′ out′
           → Turned b (lent images kept numbers bytes) at out (carries s w k (itemAt (s .size) numbers bytes k)) r (lent (put (brick * imageRoom) new images) kept numbers′ bytes′) out′
-      unfolding delivered toldOf
+      unfolding toldOf
       delivered-by g e d =
           subst (λ (p : Played). Turned b (lent images kept numbers bytes) at out p r (lent (put (brick * imageRoom) new images) kept numbers′ bytes′) out′)
           (ap (delivered s w k) e ∙ sym carries-is)
           (by g e d)
         where
+          has-room : (a : Reply) → Answered a ≡ o .given → length (w .sent) < lastMessage
+          has-room a e =
+              let h = room-answered (b .sent) (Answered a) a refl
+              (room s brick image msg (sentBlockAt (s .size) bytes k) (oldBlockAt (s .size) bytes k) (replicate (s .size) 0) (b .sent) (Answered a) (l .few) (q .may-send) e) in
+              omega (arith, h, sent-length b images kept numbers bytes)
+
           by : (g : Given) → g ≡ o .given → Settled b g block numbers bytes at out r numbers′ bytes′ out′
               → Turned b (lent images kept numbers bytes) at out (delivered s w k g) r (lent (put (brick * imageRoom) new images) kept numbers′ bytes′) out′
-          by (Answered a) e d = happened (Answered a) e refl d
-          by Silent e d = happened Silent e refl d
-          by (Refused n) e d = refused-there n e d
+          by (Answered a) e d =
+              subst (λ (p : Played). Turned b (lent images kept numbers bytes) at out p r (lent (put (brick * imageRoom) new images) kept numbers′ bytes′) out′)
+              (sym (answer-sent s w k a (has-room a e))) (happened (Answered a) e refl d)
+          by Silent e d =
+              subst (λ (p : Played). Turned b (lent images kept numbers bytes) at out p r (lent (put (brick * imageRoom) new images) kept numbers′ bytes′) out′)
+              (sym (silence s w k)) (happened Silent e refl d)
+          by (Refused n) e d =
+              subst (λ (p : Played). Turned b (lent images kept numbers bytes) at out p r (lent (put (brick * imageRoom) new images) kept numbers′ bytes′) out′)
+              (sym (refusal s w k n)) (refused-there n e d)
 
   -- the parts as the code cuts them
   abbrev pub codeImage : List ℕ
@@ -270,6 +284,20 @@ module _ (b : Bench) (k brick : ℕ) (msg : Message) (images numbers bytes : Lis
   deliver-room row given old zeros g new block e =
       room s brick row msg given old zeros (b .sent) g (l .few) (q .may-send) (outcome-given g new block (rowOutcome s brick row msg given old zeros) e)
 
+-- the blocks of a sent row have the block size
+module _ (b : Bench) (k : ℕ) (images numbers bytes : List ℕ) (l : Lends b images numbers bytes) (i : k < b .sent) where
+  sent-block-long : length (sentBlockAt (b .settings .size) bytes k) ≡ b .settings .size
+  unfolding sentBlockAt
+  sent-block-long =
+      length-take-le (b .settings .size) (drop (k * rowBytes + blockPlace) bytes)
+      (let d = length-drop (k * rowBytes + blockPlace) bytes in omega (arith, d, i, l .few, l .bytes-long, l .fits .size-fits))
+
+  old-block-long : length (oldBlockAt (b .settings .size) bytes k) ≡ b .settings .size
+  unfolding oldBlockAt
+  old-block-long =
+      length-take-le (b .settings .size) (drop (k * rowBytes + oldBlockPlace) bytes)
+      (let d = length-drop (k * rowBytes + oldBlockPlace) bytes in omega (arith, d, i, l .few, l .bytes-long, l .fits .size-fits))
+
 -- the ways in which it does not come to that
 module _ (b : Bench) (k brick : ℕ) (images numbers bytes : List ℕ) (m : isReply numbers k ≡ false) (eb : brick ≡ numberAt numbers k 1) where
   pub item-here : (msg : Message) → msg ≡ messageAt numbers bytes k
@@ -293,13 +321,20 @@ module _ (b : Bench) (k brick : ℕ) (images numbers bytes : List ℕ) (m : isRe
         ∙ no-brick (b .settings) (worldIn b (lent images kept numbers bytes)) k brick (messageAt numbers bytes k) (sentBlockAt (b .settings .size) bytes k) (oldBlockAt (b .settings .size) bytes k) h)
         (t (lent images kept numbers bytes))
 
-    pub carried-past : (msg : Message) → msg ≡ messageAt numbers bytes k → brick < b .settings .n → upOf (b .up) brick ≡ true → maySend (msg .kind) (b .sent) ≡ false
-        → ((l : Lent) → Turned b l at out (refuses (worldIn b l) badLine) r l out′) → Carried
-    carried-past msg em h u c t =
-        by-way (refuses (worldIn b (lent images kept numbers bytes)) badLine)
+    pub carried-past : (msg : Message) (number : ℕ) → msg ≡ messageAt numbers bytes k → Lends b images numbers bytes → k < b .sent → brick < b .settings .n
+        → upOf (b .up) brick ≡ true → maySend (msg .kind) (b .sent) ≡ false
+        → number ≡ pastLimit (receiveRefusal (b .settings) brick (imageIn (b .settings) brick images) msg (ofTheSize (b .settings)))
+        → ((l : Lent) → Turned b l at out (refuses (worldIn b l) number) r l out′) → Carried
+    unfolding imageIn
+    carried-past msg number em l i h u c e t =
+        by-way (refuses (worldIn b (lent images kept numbers bytes)) number)
         (ap (carries (b .settings) (worldIn b (lent images kept numbers bytes)) k) (item-here msg em)
         ∙ many (b .settings) (worldIn b (lent images kept numbers bytes)) k brick msg (sentBlockAt (b .settings .size) bytes k) (oldBlockAt (b .settings .size) bytes k) h
-        (world-up b images kept numbers bytes brick true u) (ap (maySend (msg .kind)) (sent-length b images kept numbers bytes) ∙ c))
+        (world-up b images kept numbers bytes brick true u) (ap (maySend (msg .kind)) (sent-length b images kept numbers bytes) ∙ c) (l .fits .small .one-stripe)
+        (sent-block-long b k images numbers bytes l i) (old-block-long b k images numbers bytes l i)
+        ∙ ap (λ (x : List ℕ). refuses (worldIn b (lent images kept numbers bytes)) (pastLimit (receiveRefusal (b .settings) brick x msg (ofTheSize (b .settings)))))
+        (world-image b images kept numbers bytes brick h)
+        ∙ ap (refuses (worldIn b (lent images kept numbers bytes))) (sym e))
         (t (lent images kept numbers bytes))
 
   pub carried-lost : (kept : List ℕ) (at : ℕ) (out : List ℕ) → brick < b .settings .n → upOf (b .up) brick ≡ false → b .sent ≤ lastMessage

@@ -55,8 +55,13 @@ message-at-requires c κs = search needs
 may-send-requires : tie.Need-may-send-requires
 may-send-requires c κs = search needs
 
+past-limit-requires : tie.Need-past-limit-requires
+past-limit-requires c κs = let s = c .before .before .before .before .before .before .before .before .before .before .before .before .before .before .before .before
+    .before in (s .pre .0 .0 .fits, c .before .before .before .before .before .before .before .before .if1 .left, s .pre .0 .0 .images-long)
+
 refuse-requires-2 : tie.Need-refuse-requires-2
-refuse-requires-2 c κs = search needs
+refuse-requires-2 c κs = let s = c .before .before .before .before .before .before .before .before .before .before .before .before .before .before .before .before .before .before
+    .before in (s .pre .0 .0 .few, s .pre .1 .1)
 
 same-length-4 : tie.Need-same-length-4
 same-length-4 c = search needs
@@ -67,24 +72,30 @@ same-length-5 c = search needs
 same-length-6 : tie.Need-same-length-6
 same-length-6 c = search needs
 
+same-length-7 : tie.Need-same-length-7
+same-length-7 c = search needs
+
 returns-3 : tie.Need-returns-3
 returns-3 c =
     λ kept.
-    let s = c .before .before .before .before .before .before .before .before .before .before .before .before .before .before .before .before .before .before .before .before in
+    let s = c .before .before .before .before .before .before .before .before .before .before .before .before .before .before .before .before .before .before .before .before
+    .before .before in
     carried-past (s .args .b) (s .args .k) _ (s .args .images .now) (s .args .numbers .now) (s .args .bytes .now) (s .pre .1 .0)
-    (c .before .before .before .before .before .before .before .before .before .before .before .before .before .brick-at .ensures)
-    kept (s .args .at) (s .args .out .now) _ _ _ (c .before .before .before .before .before .before .message-at .ensures)
-    (c .before .before .before .before .before .before .before .before .before .before .before .if1 .left)
-    (flag-up (s .args .b .up) _ _ (up-low (c .before .before .before .before .before .before .before .before .before .before .before))
-    (c .before .before .before .before .before .before .before .before .before .if2 .left))
-    (sym (c .before .before .before .before .before .may-send .ensures) ∙ c .before .before .before .before .if3 .left) (c .before .before .refuse2 .ensures)
+    (c .before .before .before .before .before .before .before .before .before .before .before .before .before .before .before .brick-at .ensures)
+    kept (s .args .at) (s .args .out .now) _ _ _ _ (c .before .before .before .before .before .before .before .before .message-at .ensures) (s .pre .0 .0) (s .pre .0 .1)
+    (c .before .before .before .before .before .before .before .before .before .before .before .before .before .if1 .left)
+    (flag-up (s .args .b .up) _ _ (up-low (c .before .before .before .before .before .before .before .before .before .before .before .before .before))
+    (c .before .before .before .before .before .before .before .before .before .before .before .if2 .left))
+    (sym (c .before .before .before .before .before .before .before .may-send .ensures) ∙ c .before .before .before .before .before .before .if3 .left) (c .before .before .before
+    .before .past-limit .ensures) (c .before .before .refuse2 .ensures)
 
 array-borrow-prefix-block : tie.Need-array-borrow-prefix-block
 array-borrow-prefix-block c = search needs
 
 slice-aggregate-deliver-with : tie.Need-slice-aggregate-deliver-with
 slice-aggregate-deliver-with c =
-    sym (zeros-cut-long _ (c .before .before .before .before .before .before .before .before .before .before .before .before .before .before .before .before .before .pre .0 .0 .fits .size-fits))
+    sym (zeros-cut-long _ (c .before .before .before .before .before .before .before .before .before .before .before .before .before .before .before .before
+    .before .pre .0 .0 .fits .size-fits))
 
 deliver-with-requires : tie.Need-deliver-with-requires
 deliver-with-requires c κs =
@@ -106,9 +117,6 @@ deliver-with-requires c κs =
       (zeros-cut (s .args .b .settings .size) (s .pre .0 .0 .fits .size-fits), s .pre .1 .1),
     )
 
-same-length-7 : tie.Need-same-length-7
-same-length-7 c = search needs
-
 same-length-8 : tie.Need-same-length-8
 same-length-8 c = search needs
 
@@ -117,6 +125,9 @@ same-length-9 c = search needs
 
 same-length-10 : tie.Need-same-length-10
 same-length-10 c = search needs
+
+same-length-11 : tie.Need-same-length-11
+same-length-11 c = search needs
 
 returns-4 : tie.Need-returns-4
 returns-4 c = search needs
@@ -135,16 +146,18 @@ carry-message-spec =
     returns-2
     message-at-requires
     may-send-requires
+    past-limit-requires
     refuse-requires-2
     same-length-4
     same-length-5
     same-length-6
+    same-length-7
     returns-3
     array-borrow-prefix-block
     slice-aggregate-deliver-with
     deliver-with-requires
-    same-length-7
     same-length-8
     same-length-9
     same-length-10
+    same-length-11
     returns-4)

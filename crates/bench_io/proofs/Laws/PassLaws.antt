@@ -1,12 +1,12 @@
 -- One line after the other of a chunk.
-use mathlib.Core.Path.{_≡_, refl, sym, subst, _∙_}
+use mathlib.Core.Path.{_≡_, refl, sym, subst}
 use mathlib.Core.Logic.{_≢_}
 use mathlib.Core.Bool.{Bool, true, false, cond, true≢false}
 use mathlib.Core.List.{List, [], _∷_, _++_, append-assoc}
 use Prim.Native.Nat.{ℕ, _≤_}
 use native.Mathlib.Omega.{arith}
 use lib.Dec.{eqb, ltb}
-use borrow.Author.Tests.{ne-eqb, eqb-false}
+use borrow.Author.Tests.{ne-eqb}
 use lib.ListN.{length, take, drop}
 use Rattle.bench_lines.specs.Cutting.{CutOff, Cuts, none, part, whole, lastLine}
 use Rattle.bench_lines.specs.declared.Cut.{Cut}
@@ -17,38 +17,46 @@ use Rattle.bench_player.specs.Lining.{Called}
 use Rattle.bench_player.specs.declared.LinePlayed.{LinePlayed}
 use Rattle.bench_rules.specs.Turning.{Lent}
 use Rattle.bench_state.specs.declared.Bench.{Bench}
-use Rattle.bench_io.specs.Workers.{goesOn, atEnd, cannotWrite, failedStatus, leftWith, HeldPlayed, ChunkPlayed, PlayedLast}
+use Rattle.bench_io.specs.Workers.{goesOn, atEnd, cannotWrite, failedStatus, leftWith, writeStatus, HeldPlayed, ChunkPlayed, PlayedLast}
 use Rattle.bench_io.specs.declared.Pass.{Pass}
 
 -- bytes that are no line yet, and a line
-pub plays-not : (ended : Bool) (held : ℕ) (line : List ℕ) (b : Bench) (l : Lent) (out : List ℕ) (status : ℕ) → status ≢ atEnd → ended ≡ false
-    → HeldPlayed ended held line b l out (record { bench = b; held = held; status = status }) l out
-plays-not true held line b l out status n e = absurd (true≢false e)
-plays-not false held line b l out status n e = record { text = []; calls = calls.none b l out; held-is = refl; not-ended = n }
+pub plays-not : (ended : Bool) (held : ℕ) (line : List ℕ) (b : Bench) (l : Lent) (out : List ℕ) → ended ≡ false
+    → HeldPlayed ended held line b l out (record { bench = b; held = held; status = goesOn }) l out
+unfolding writeStatus
+plays-not true held line b l out e = absurd (true≢false e)
+plays-not false held line b l out e = record { text = []; calls = calls.none b l out; held-is = refl; written = true; status-is = refl }
 
-pub plays-line : (ended : Bool) (held : ℕ) (line : List ℕ) (b : Bench) (l : Lent) (out : List ℕ) (o : LinePlayed) (l′ : Lent) (out′ : List ℕ) (status : ℕ)
-    → status ≢ atEnd → ended ≡ true → Called b l (take held line) out o l′ out′
+pub plays-line : (ended : Bool) (held : ℕ) (line : List ℕ) (b : Bench) (l : Lent) (out : List ℕ) (o : LinePlayed) (l′ : Lent) (out′ : List ℕ) (written : Bool) (status : ℕ)
+    → status ≡ writeStatus written → ended ≡ true → Called b l (take held line) out o l′ out′
     → HeldPlayed ended held line b l out (record { bench = o .bench; held = 0; status = status }) l′ out′
-plays-line true held line b l out o l′ out′ status n e c =
-    record { text = take (o .used) out′ ++ []; calls = calls.call o l′ out′ c (calls.none (o .bench) l′ out′); held-is = refl; not-ended = n }
-plays-line false held line b l out o l′ out′ status n e c = absurd (true≢false (sym e))
+plays-line true held line b l out o l′ out′ written status s e c =
+    record { text = take (o .used) out′ ++ []; calls = calls.call o l′ out′ c (calls.none (o .bench) l′ out′); held-is = refl; written = written; status-is = s }
+plays-line false held line b l out o l′ out′ written status s e c = absurd (true≢false (sym e))
 
-pub written-not-ended : (written : Bool) (status : ℕ) → status ≡ cond written goesOn cannotWrite → status ≢ atEnd
+-- after writing the program is not at the end of the input
+pub written-not-ended : (written : Bool) (status : ℕ) → status ≡ writeStatus written → status ≢ atEnd
+unfolding writeStatus
 written-not-ended true status e q = omega (arith, e, q)
 written-not-ended false status e q = omega (arith, e, q)
 
--- after the last line the program does not go on
-pub ended-not-on : (status ended : ℕ) → ended ≡ cond (eqb status goesOn) atEnd status → ended ≢ goesOn
-ended-not-on status ended e q = go (eqb status goesOn) refl e
-  where
-    go : (a : Bool) → eqb status goesOn ≡ a → ended ≡ cond a atEnd status → ⊥
-    go true h f = omega (arith, f, q)
-    go false h f = eqb-false status goesOn h (sym f ∙ q)
+-- after the last line: the end of the input, unless writing failed
+ended-is : (written : Bool) (status end : ℕ) → status ≡ writeStatus written → end ≡ cond (eqb status goesOn) atEnd status → end ≡ cond written atEnd cannotWrite
+unfolding writeStatus
+ended-is true status end e f = rw e at f
+ended-is false status end e f = rw e at f
+
+-- and the program does not go on
+pub last-not-on : (written : Bool) (status : ℕ) → status ≡ cond written atEnd cannotWrite → status ≢ goesOn
+last-not-on true status e q = omega (arith, e, q)
+last-not-on false status e q = omega (arith, e, q)
 
 pub last-played : (held : ℕ) (line : List ℕ) (b : Bench) (l : Lent) (out : List ℕ) (p : Pass) (l′ : Lent) (out′ : List ℕ) (status : ℕ)
-    → status ≢ goesOn → HeldPlayed (ltb 0 held) held line b l out p l′ out′ → PlayedLast line held b l out (record { bench = p .bench; held = 0; status = status }) l′ out′
+    → status ≡ cond (eqb (p .status) goesOn) atEnd (p .status) → HeldPlayed (ltb 0 held) held line b l out p l′ out′
+    → PlayedLast line held b l out (record { bench = p .bench; held = 0; status = status }) l′ out′
 unfolding lastLine
-last-played held line b l out p l′ out′ status n q = record { text = q .text; calls = q .calls; held-is = refl; not-on = n }
+last-played held line b l out p l′ out′ status n q =
+    record { text = q .text; calls = q .calls; held-is = refl; written = q .written; status-is = ended-is (q .written) (p .status) status (q .status-is) n }
 
 -- calls after calls
 pub calls-both : {b b′ b″ : Bench} {l l′ l″ : Lent} {out out′ out″ text more : List ℕ} {ls ks : List (List ℕ)} → Calls b l out ls text b′ l′ out′
@@ -77,11 +85,14 @@ pub record Passing
   pub cut : Cuts chunk old held₀ 0 handed line held at
   pub calls : Calls b₀ l₀ out₀ handed text b l out
   pub within : held ≤ length line
-  pub not-ended : status ≢ atEnd
+  pub written : Bool
+  pub status-is : status ≡ writeStatus written
 
 pub passing-none : (chunk line : List ℕ) (held : ℕ) (b : Bench) (l : Lent) (out : List ℕ) → held ≤ length line
     → Passing chunk line held b l out line held 0 b l out goesOn
-passing-none chunk line held b l out h = record { handed = []; text = []; cut = none line held 0; calls = calls.none b l out; within = h; not-ended = λ e. omega (arith, e) }
+unfolding writeStatus
+passing-none chunk line held b l out h =
+    record { handed = []; text = []; cut = none line held 0; calls = calls.none b l out; within = h; written = true; status-is = refl }
 
 fewer : (w : Bool) (k n : ℕ) → k ≤ n → cond w 0 k ≤ n
 fewer true k n h = omega arith
@@ -100,13 +111,24 @@ module _ (chunk old : List ℕ) (held₀ : ℕ) (b₀ : Bench) (l₀ : Lent) (ou
         cut = cuts-both (s .cut) (subst (λ (j : ℕ). Cuts chunk line held at (cond (c .whole) (take (c .held) line′ ∷ []) []) line′ j (c .next)) (sym (q .held-is)) one);
         calls = calls-both (s .calls) (q .calls);
         within = subst (λ (j : ℕ). j ≤ length line′) (sym (q .held-is)) few;
-        not-ended = q .not-ended;
+        written = q .written;
+        status-is = q .status-is;
       }
 
   module _ (p : Pass) (line : List ℕ) (at : ℕ) (l : Lent) (out : List ℕ) (s : Passing chunk old held₀ b₀ l₀ out₀ line (p .held) at (p .bench) l out (p .status)) where
     passed-if : (p .status ≡ goesOn → length chunk ≤ at) → ChunkPlayed chunk old held₀ b₀ l₀ out₀ p line l out
     passed-if e =
-        record { handed = s .handed; text = s .text; at = at; cut = s .cut; calls = s .calls; to-the-end = e; not-ended = s .not-ended; within = s .within }
+        record {
+          handed = s .handed;
+          text = s .text;
+          at = at;
+          cut = s .cut;
+          calls = s .calls;
+          to-the-end = e;
+          written = s .written;
+          status-is = s .status-is;
+          within = s .within;
+        }
 
     pub passed-stopped : (p .status ≡ 0 → ⊥) → ChunkPlayed chunk old held₀ b₀ l₀ out₀ p line l out
     passed-stopped n = passed-if (λ e. absurd (n e))
@@ -130,10 +152,11 @@ pub left-failed : (status : ℕ) → (status ≡ atEnd → ⊥) → failedStatus
 unfolding leftWith
 left-failed status h = rw (ne-eqb status atEnd h)
 
-pub left-low : (status left : ℕ) → left ≡ leftWith status → left ≤ failedStatus
-unfolding leftWith
-left-low status left e = subst (λ (x : ℕ). x ≤ failedStatus) (sym e) (low (eqb status atEnd))
-  where
-    low : (a : Bool) → cond a 0 failedStatus ≤ failedStatus
-    low true = omega arith
-    low false = omega arith
+-- after a text: it was written, or it was not
+pub wrote : (written : Bool) → written ≡ true → goesOn ≡ writeStatus written
+unfolding writeStatus
+wrote written e = rw e
+
+pub wrote-not : (written : Bool) → written ≡ false → cannotWrite ≡ writeStatus written
+unfolding writeStatus
+wrote-not written e = rw e

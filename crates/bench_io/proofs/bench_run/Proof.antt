@@ -1,5 +1,5 @@
 use borrow.Author.Needs.{needs}
-use Rattle.bench_io.proofs.Laws.PassLaws.{left-low}
+use Rattle.bench_io.proofs.Laws.ProgramLaws.{run-left}
 use Rattle.bench_io.proofs.bench_run.Statement.{statement}
 use Rattle.bench_io.proofs.bench_run.Tie as tie
 
@@ -52,7 +52,16 @@ leave-requires : tie.Need-leave-requires
 leave-requires c κs = search needs
 
 returns : tie.Need-returns
-returns c = left-low _ _ (c .leave .ensures)
+returns c =
+    run-left _ _ _ _ _ _ _ (c .before .before .before .before .before .before .before .before .play-all .ensures) (c .leave .ensures) (c .before .before .before .before .before
+    .before .before .before .before .before .before .before .before .before .before .before .before .before .new-line .ensures)
+    (c .before .before .before .before .before .before .before .before .before .before .before .before .before .before .before .before .before .before .before .before .before
+    .before .new-images .ensures) (c .before .before .before .before .before .before .before .before .before .before .before .before .before .before .before .before .before
+    .before .before .before .before .new-kept .ensures) (c .before .before .before .before .before .before .before .before .before .before .before .before .before .before .before
+    .before .before .before .before .before .new-numbers .ensures)
+    (c .before .before .before .before .before .before .before .before .before .before .before .before .before .before .before .before .before .before
+    .before .new-bytes .ensures) (c .before .before .before .before .before .before .before .before .before .before .before .before .before .before .before .before
+    .before .large-buffer .ensures)
 
 pub bench-run-spec : {M : Type 1} → statement M
 bench-run-spec =

@@ -3,12 +3,12 @@ use mathlib.Core.Path.{sym}
 use native.Mathlib.Omega.{arith}
 use lib.Seq.{length-take-le}
 use borrow.Author.Needs.{needs}
-use Rattle.bench_io.proofs.Laws.PassLaws.{plays-not, plays-line, written-not-ended}
+use Rattle.bench_io.proofs.Laws.PassLaws.{plays-not, plays-line}
 use Rattle.bench_io.proofs.play.Statement.{statement}
 use Rattle.bench_io.proofs.play.Tie as tie
 
 returns : tie.Need-returns
-returns c = plays-not _ _ _ _ _ _ _ (λ e. omega (arith, e)) (c .if1 .left)
+returns c = plays-not _ _ _ _ _ _ (c .if1 .left)
 
 slice-aggregate-play-line : tie.Need-slice-aggregate-play-line
 slice-aggregate-play-line c = let s = c .before .before .before .before .before .before .before .before in sym (length-take-le _ (s .args .line .now) (s .pre))
@@ -49,7 +49,7 @@ same-length-5 c = search needs
 
 returns-2 : tie.Need-returns-2
 returns-2 c =
-    plays-line _ _ _ _ _ _ _ _ _ _ (written-not-ended (c .before .before .write-all .result) _ (c .after-writing .ensures))
+    plays-line _ _ _ _ _ _ _ _ _ (c .before .before .write-all .result) _ (c .after-writing .ensures)
     (c .before .before .before .before .before .before .before .before .before .before .before .before .before .before .before .before .before
     .before .before .before .before .if1 .taken) (c .before .before .before .before .before .before .before .before .before .before .before .before .before .before .play-line .ensures)
 

@@ -1,11 +1,8 @@
 use mathlib.Core.Path.{refl}
 use borrow.Author.Needs.{needs}
-use Rattle.bench_io.specs.Workers.{came, ended, failed}
+use Rattle.bench_io.proofs.Laws.ReadLaws.{turn-came, turn-ended, turn-failed}
 use Rattle.bench_io.proofs.turn.Statement.{statement}
 use Rattle.bench_io.proofs.turn.Tie as tie
-
-read-requires : tie.Need-read-requires
-read-requires c κs = search needs
 
 after-reading-requires : tie.Need-after-reading-requires
 after-reading-requires c κs = search needs
@@ -34,20 +31,17 @@ same-length-5 c = search needs
 same-length-6 : tie.Need-same-length-6
 same-length-6 c = search needs
 
-same-length-7 : tie.Need-same-length-7
-same-length-7 c = search needs
-
 returns : tie.Need-returns
-returns c = ended (c .before .before .before .before .before .before .before .before .before .before .play-last .ensures)
-
-same-length-8 : tie.Need-same-length-8
-same-length-8 c = search needs
+returns c =
+    turn-ended _ _ _ _ _ _ _ _ (c .before .before .before .before .before .before .before .before .before .before .before .before .before .before .before .before .before .before
+    .before .before .before .before .before .before .before .before .before .before .fits .got) _ (c .before .before .before .before .before .before .before .before .before
+    .before .before .before .before .before .before .before .before .before .before .before .after-reading .ensures) _ _ (c .before .before .before .before .before .before
+    .before .before .before .before .before .before .before .before .before .before .before .if1 .taken)
+    (c .before .before .before .before .before .before .before .before .before .before .play-last .ensures)
 
 returns-2 : tie.Need-returns-2
-returns-2 c = failed (c .if2 .taken) refl
-
-slice-reshare-prefix-play-chunk : tie.Need-slice-reshare-prefix-play-chunk
-slice-reshare-prefix-play-chunk c = search needs
+returns-2 c = turn-failed _ _ _ _ _ _ _ _ (c .before .before .before .before .before .before .before .before .before .before .before .before .fits .got) _ (c .before .before
+    .before .before .after-reading .ensures) (c .if2 .taken) refl refl
 
 slice-aggregate-play-chunk : tie.Need-slice-aggregate-play-chunk
 slice-aggregate-play-chunk c = search needs
@@ -55,9 +49,14 @@ slice-aggregate-play-chunk c = search needs
 play-chunk-requires : tie.Need-play-chunk-requires
 play-chunk-requires c κs = search needs
 
+same-length-7 : tie.Need-same-length-7
+same-length-7 c = search needs
+
+same-length-8 : tie.Need-same-length-8
+same-length-8 c = search needs
+
 same-length-9 : tie.Need-same-length-9
-same-length-9 c = c .before .before .before .before .before .before .before .before .before .before .before .before .before .before .before .before .before .before .before .before .before
-    .before .before .before .before .before .before .before .read .kept .1 .0
+same-length-9 c = search needs
 
 same-length-10 : tie.Need-same-length-10
 same-length-10 c = search needs
@@ -68,26 +67,21 @@ same-length-11 c = search needs
 same-length-12 : tie.Need-same-length-12
 same-length-12 c = search needs
 
-same-length-13 : tie.Need-same-length-13
-same-length-13 c = search needs
-
-same-length-14 : tie.Need-same-length-14
-same-length-14 c = search needs
-
-same-length-15 : tie.Need-same-length-15
-same-length-15 c = search needs
-
 returns-3 : tie.Need-returns-3
 returns-3 c =
-    came (c .before .before .before .before .before .before .before .before .before .before .before .before .before .before .before .before .before .before .before .before
-    .before .before .before .count .result)
-    (c .before .before .before .before .before .before .before .before .before .before .before .before .play-chunk .ensures)
+    turn-came _ _ _ _ _ _ _ _ (c .before .before .before .before .before .before .before .before .before .before .before .before .before .before .before .before .before .before
+    .before .before .before .before .before .before .before .before .before .before .before .before .before .before .fits .got) _ (c .before .before .before .before .before
+    .before .before .before .before .before .before .before .before .before .before .before .before .before .before .before .before .before .before
+    .before .after-reading .ensures) _ _ _ _ (c .before .before .before .before .before .before .before .before .before .before .before .before .before .before .before .before
+    .before .before .before .before .before .if1 .left)
+    (c .before .before .before .before .before .before .before .before .before .before .before .before .before .before .before .before .before .before .before
+    .before .if2 .left) (c .before .before .before .before .before .before .before .before .before .before .before .before .before .before .before .before .before .before .before
+    .before .before .before .before .count .ensures .1) (c .before .before .before .before .before .before .before .before .before .before .before .before .play-chunk .ensures)
 
 pub turn-spec : {M : Type 1} → statement M
 turn-spec =
     tie.close
     (tie.spec
-    read-requires
     after-reading-requires
     count-requires
     play-last-requires
@@ -97,18 +91,14 @@ turn-spec =
     same-length-4
     same-length-5
     same-length-6
-    same-length-7
     returns
-    same-length-8
     returns-2
-    slice-reshare-prefix-play-chunk
     slice-aggregate-play-chunk
     play-chunk-requires
+    same-length-7
+    same-length-8
     same-length-9
     same-length-10
     same-length-11
     same-length-12
-    same-length-13
-    same-length-14
-    same-length-15
     returns-3)

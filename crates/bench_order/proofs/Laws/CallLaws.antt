@@ -1,10 +1,12 @@
 -- Calls one after the other are the script.
 use mathlib.Core.Path.{_≡_, refl, ap, ap₂, subst, _∙_}
+use mathlib.Core.Bool.{Bool, true, false, cond}
 use mathlib.Core.List.{List, [], _∷_, _++_, map, flatten}
 use Prim.Native.Nat.{ℕ, _+_}
 use native.Mathlib.Omega.{arith}
 use lib.ListN.{length, take}
-use borrow.Author.Tests.{eq-eqb}
+use lib.Dec.{eqb}
+use borrow.Author.Tests.{eq-eqb, eqb-true}
 use Rattle.bench_parse.specs.Lines.{reads}
 use Rattle.bench_print.proofs.Laws.WrittenLaws.{written-front}
 use Rattle.bench_rules.specs.Play.{Stage, waiting, eventsOf, Turn, turn}
@@ -21,6 +23,8 @@ use Rattle.bench_limits.specs.Limits.{keptLength, imagesLength, numbersLength, 
 use Rattle.bench_lines.specs.Cutting.{lines}
 use Rattle.bench_lines.proofs.Laws.CuttingLaws.{cutting-gives-the-lines}
 use Rattle.bench_player.proofs.Laws.HeldLaws.{reads-held}
+use Rattle.bench_io.specs.Workers.{atEnd, failedStatus, leftWith}
+use Rattle.bench_io.proofs.Laws.ProgramLaws.{all-played}
 use Rattle.bench_order.specs.CallsTheorem.{CallsAreTheScript, CutCallsAreTheScript, ProgramPlaysTheScript}
 
 -- one call is one turn, and prints its text
@@ -94,10 +98,18 @@ not-refused : (b : Bench) (l : Lent) (out : List ℕ) → length (l .images) ≡
     → benchRefused b imagesLength keptLength numbersLength bytesLength textLength ≡ 0 → refusalOf b l out ≡ 0
 not-refused b l out i k n y o e = rw (i, k, n, y, o) e
 
+-- who leaves with 0 stands at the end of the input
+at-the-end : (status : ℕ) → 0 ≡ leftWith status → status ≡ atEnd
+unfolding leftWith
+at-the-end status e = go (eqb status atEnd) refl e
+  where
+    go : (a : Bool) → eqb status atEnd ≡ a → 0 ≡ cond a 0 failedStatus → status ≡ atEnd
+    go true h f = eqb-true status atEnd h
+    go false h f = absurd (omega (arith, f))
+
 pub program-plays-the-script : ProgramPlaysTheScript
-program-plays-the-script line l l′ out out′ long i k n y o r =
-    let all = r .all-lines refl in
-    let played =
-    cut-calls-are-the-script line (all .0) (r .handed) (r .first) (r .last) l l′ out out′ (r .text) long (all .1)
-    (not-refused (r .first) l out i k n y o (r .right)) (r .no-set l []) (r .calls) in
-    (all .0, played .0, played .1)
+program-plays-the-script r =
+    let c = r .ran in
+    let all = all-played c (at-the-end (r .status) (r .left-is)) in
+    cut-calls-are-the-script (r .line) (c .chunks) (all .handed) (c .first) (c .last .bench) (r .l) (r .l′) (r .out) (r .out′) (c .text) (r .line-long) (all .all-lines)
+    (not-refused (c .first) (r .l) (r .out) (r .images-long) (r .kept-long) (r .numbers-long) (r .bytes-long) (r .out-long) (c .right)) (c .no-set (r .l) []) (all .calls)

@@ -1,21 +1,18 @@
 -- Every line, part by part.
 use mathlib.Core.Path.{_≡_, refl, sym, ap, ap₂, subst, _∙_}
-use mathlib.Core.Bool.{Bool, true, false, cond, _||_}
+use mathlib.Core.Bool.{Bool, true, false, cond}
 use mathlib.Core.List.{List, [], _∷_, _++_, append-nil}
 use Prim.Native.Nat.{ℕ, zero, suc, _*_, _≤_, _<_}
 use native.Mathlib.Omega.{arith}
-use lib.Dec.{eqb, leb, ltb}
+use lib.Dec.{leb, ltb}
 use lib.ListN.{length, length-append, replicate}
 use borrow.Author.Tests.{leb-true, ltb-true}
 use Rattle.settings.specs.Refusal.{badNumber, badLine}
 use Rattle.settings.specs.declared.Settings.{Settings}
-use Rattle.message.specs.Messages.{isSilent}
 use Rattle.message.specs.declared.Message.{Message}
 use Rattle.message.specs.declared.Reply.{Reply}
-use Rattle.image.specs.Parse.{Parsed, Opens, Refuses, parse}
-use Rattle.brick.specs.Receive.{beside, Outcome, receiveRefusal, refusedWith, givenBy, accepted, outcome}
-use Rattle.brick_log.specs.BrickRules.{replyTo}
-use Rattle.volume.specs.Rows.{imageAt, inRow, rowRefusal, rowOutcome}
+use Rattle.brick.specs.Receive.{Outcome}
+use Rattle.volume.specs.Rows.{rowOutcome}
 use Rattle.brick.specs.declared.Given.{Given}
 use Rattle.brick.specs.declared.Given.the-variants.{Answered, Silent, Refused}
 use Rattle.coord_apply.specs.Answers.{Step, refused, went, Went}
@@ -42,56 +39,6 @@ use Rattle.bench_order.proofs.Laws.Parts.{FewSent, Ran, Does, refusing,
 use Rattle.bench_order.proofs.Laws.PrintedLaws.{Agrees, printed-is-seen, end-ran, take-agrees, crash-agrees, write-agrees, read-agrees}
 use Rattle.bench_limits.specs.Limits.{benchStripes, benchStripe, benchCoordinators, lastMessage}
 use Rattle.settings.specs.Times.{coordinatorOf}
-
--- "Trim t: no reply"; "a Drop has no reply"
-refused-not-answered : (number : ℕ) (bytes out : List ℕ) (r : Reply) → refusedWith number bytes out .given ≡ Answered r → ⊥
-unfolding refusedWith
-refused-not-answered number bytes out r e = let z : _≡_ {A = ℕ} 0 1 = cc in omega arith
-
-silent-not-answered : (b : Bool) (a : Given) (r : Reply) → b ≡ true → cond b Silent a ≡ Answered r → ⊥
-silent-not-answered true a r q e = let z : _≡_ {A = ℕ} 0 1 = cc in omega arith
-silent-not-answered false a r q e = let z : _≡_ {A = ℕ} 0 1 = cc in omega arith
-
-acted-not-answered : (s : Settings) (brick : ℕ) (msg : Message) (block old bytes out : List ℕ) (p : Parsed) → isSilent (msg .kind) ≡ true → (r : Reply)
-    → accepted s brick msg block old bytes out p .given ≡ Answered r → ⊥
-unfolding accepted givenBy
-acted-not-answered s brick msg block old bytes out (Opens x) k r e =
-    silent-not-answered (isSilent (msg .kind)) (Answered (replyTo s brick x msg)) r k e
-acted-not-answered s brick msg block old bytes out (Refuses number) k r e = refused-not-answered number bytes out r e
-
-image-not-answered : (s : Settings) (brick : ℕ) (bytes : List ℕ) (msg : Message) (block old out : List ℕ) → isSilent (msg .kind) ≡ true → (r : Reply)
-    → outcome s brick bytes msg block old out .given ≡ Answered r → ⊥
-unfolding outcome
-image-not-answered s brick bytes msg block old out k r e = go (eqb (receiveRefusal s brick bytes msg (beside block old out)) 0) e
-  where
-    go : (b : Bool)
-        → cond b (accepted s brick msg block old bytes out (parse s brick bytes))
-        (refusedWith (receiveRefusal s brick bytes msg (beside block old out)) bytes out) .given
-        ≡ Answered r
-        → ⊥
-    go true h = acted-not-answered s brick msg block old bytes out (parse s brick bytes) k r h
-    go false h = refused-not-answered _ bytes out r h
-
-row-not-answered : (s : Settings) (brick : ℕ) (row : List ℕ) (msg : Message) (block old out : List ℕ) → isSilent (msg .kind) ≡ true → (r : Reply)
-    → rowOutcome s brick row msg block old out .given ≡ Answered r → ⊥
-unfolding rowOutcome inRow
-row-not-answered s brick row msg block old out k r e = go (eqb (rowRefusal s brick row msg (beside block old out)) 0) e
-  where
-    go : (b : Bool)
-        → cond b (inRow s (msg .stripe) row (outcome s brick (imageAt s (msg .stripe) row) msg block old out))
-        (refusedWith (rowRefusal s brick row msg (beside block old out)) row out) .given
-        ≡ Answered r
-        → ⊥
-    go true h = image-not-answered s brick (imageAt s (msg .stripe) row) msg block old out k r h
-    go false h = refused-not-answered _ row out r h
-
--- so a message that sends a reply had room for it
-room : (msg : Message) (sent : ℕ) → isSilent (msg .kind) || ltb sent lastMessage ≡ true → (isSilent (msg .kind) ≡ true → ⊥) → sent < lastMessage
-room msg sent e n = go (isSilent (msg .kind)) refl e
-  where
-    go : (b : Bool) → isSilent (msg .kind) ≡ b → b || ltb sent lastMessage ≡ true → sent < lastMessage
-    go true q h = absurd (n q)
-    go false q h = ltb-true sent lastMessage h
 
 -- a write whose digits are not counted right never starts
 unless-went : (ok : Bool) (st : Step) (g : Went) → unlessShort ok st ≡ went g → st ≡ went g
@@ -204,27 +151,27 @@ module _ (s : Settings) (w : World) (one-stripe : s .stripes ≡ benchStripes) (
       go Silent q h = rw (append-nil (w .sent)) h
       go (Refused number) q h = rw (append-nil (w .sent)) h
 
-  delivered-does : (k : ℕ) → Quiet (step s w (arrives k)) → (a : Given) → Does s w (delivered s w k a)
+  -- a reply has room, else the message is refused
+  delivered-does : (k b : ℕ) (o : Outcome) → step s w (arrives k) ≡ received s w b o → Does s w (delivered s w k (o .given))
   unfolding delivered startsOnBlock
-  delivered-does k q (Answered r) = quiet (arrives k) refl q
-  delivered-does k q Silent = quiet (arrives k) refl q
-  delivered-does k q (Refused number) = refusing number
+  delivered-does k b o e = go (o .given) refl
+    where
+      quietly : ((r : Reply) → o .given ≡ Answered r → length (w .sent) < lastMessage) → Quiet (step s w (arrives k))
+      quietly f = rw e (received-quiet b o f)
+
+      answered : (t : Bool) → ltb (length (w .sent)) lastMessage ≡ t → Does s w (cond t (happens s w (arrives k) []) (refuses w badLine))
+      answered true h = quiet (arrives k) refl (quietly (λ r q. ltb-true (length (w .sent)) lastMessage h))
+      answered false h = refusing badLine
+
+      go : (a : Given) → o .given ≡ a → Does s w (delivered s w k a)
+      go (Answered r) q = answered (ltb (length (w .sent)) lastMessage) refl
+      go Silent q = quiet (arrives k) refl (quietly (λ r p. (let z : _≡_ {A = ℕ} 0 1 = cc in absurd (omega arith))))
+      go (Refused number) q = refusing number
 
   reaches-does : (k b : ℕ) (msg : Message) (block old : List ℕ)
       → step s w (arrives k) ≡ received s w b (rowOutcome s b (w .images b) msg block old (replicate (s .size) 0)) → Does s w (reaches s w k b msg block old)
   unfolding reaches
-  reaches-does k b msg block old e = go (isSilent (msg .kind) || ltb (length (w .sent)) lastMessage) refl
-    where
-      quietly : isSilent (msg .kind) || ltb (length (w .sent)) lastMessage ≡ true → Quiet (step s w (arrives k))
-      quietly q =
-          rw e
-          (received-quiet b (rowOutcome s b (w .images b) msg block old (replicate (s .size) 0))
-          (λ r h. room msg (length (w .sent)) q (λ z. row-not-answered s b (w .images b) msg block old (replicate (s .size) 0) z r h)))
-
-      go : (t : Bool) → isSilent (msg .kind) || ltb (length (w .sent)) lastMessage ≡ t
-          → Does s w (cond t (delivered s w k (rowOutcome s b (w .images b) msg block old (replicate (s .size) 0) .given)) (refuses w badLine))
-      go true q = delivered-does k (quietly q) (rowOutcome s b (w .images b) msg block old (replicate (s .size) 0) .given)
-      go false q = refusing badLine
+  reaches-does k b msg block old e = delivered-does k b (rowOutcome s b (w .images b) msg block old (replicate (s .size) 0)) e
 
   -- an item, carried as item k of all
   carries-does : (k : ℕ) (i : Item) → step s w (arrives k) ≡ arriving s w i → letterAt s w (arrives k) ≡ arrivingLetter s w i → Does s w (carries s w k i)

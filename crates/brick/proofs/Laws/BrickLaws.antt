@@ -8,7 +8,7 @@ use native.Mathlib.Decide.{ℕ-discrete, decLt}
 use lib.Arith.{lt-of-le-ne}
 use lib.Dec.{eqb, ltb}
 use lib.ListN.{length}
-use borrow.Author.Tests.{ltb-true, ltb-false, lt-ltb, le-ltb, leb-true, eq-eqb, ne-eqb}
+use borrow.Author.Tests.{ltb-true, ltb-false, lt-ltb, le-ltb, leb-true, eqb-true, eq-eqb, ne-eqb}
 use Rattle.byte_lists.proofs.Laws.BoolLaws.{and-left, and-right}
 use Rattle.erasure.specs.Recoding.{recodedBlock}
 use Rattle.settings.specs.Times.{validTime}
@@ -16,7 +16,7 @@ use Rattle.settings.specs.declared.Settings.{Settings}
 use Rattle.message.specs.declared.Message.{Message}
 use Rattle.image.specs.Brick.{Brick, LogEntry, entryCount, timeAt, meansAt, markAt, newest, savedTime}
 use Rattle.image.specs.Image.{imageOf}
-use Rattle.image.specs.Parse.{Opens, parse}
+use Rattle.image.specs.Parse.{Parsed, Opens, parse}
 use Rattle.image.proofs.Laws.ParseLaws.{opened, parse-image}
 use Rattle.image.specs.Brick.{Sound}
 use Rattle.image_write.specs.Saving.{withPromise, appended, blockEntry, markEntry}
@@ -33,7 +33,9 @@ use Rattle.brick_log.proofs.Laws.AnsweredLaws.{after-trim, after-drop, after-wr
 use Rattle.brick_log.proofs.Laws.DropLaws.{drop-promise, drop-not-empty, dropped-sound}
 use Rattle.brick_log.proofs.Laws.LogChangeLaws.{modified-sized}
 use Rattle.brick_log.proofs.Laws.TrimLaws.{trim-not-empty, trim-keeps-newest, trimmed-sound}
-use Rattle.brick.specs.Receive.{Highest}
+use Rattle.brick.specs.AgainTheorem.{OpensAgain}
+use Rattle.brick.specs.Receive.{Highest, beside, receiveRefusal, refusedWith, accepted, outcome}
+use Rattle.brick.proofs.Laws.OutcomeLaws.{passes}
 use Rattle.message.specs.Kinds.{readKind, trimKind, dropKind, writeKind, modifyKind}
 use Rattle.settings.specs.Refusal.{badMessage, passed}
 
@@ -315,11 +317,30 @@ message-time n m msg e = go (validTime (msg .time)) refl
         refused : validTime (msg .time) ≡ false → refuseUnless (validTime (msg .time) && roundRight (msg .round) && kindRight n m msg) badMessage ≡ badMessage
         refused w = rw w refl
 
--- An image that opened opens again after any message, as the brick after it.
-pub opens-again : (s : Settings) (brick : ℕ) (bytes : List ℕ) (x : Brick) (msg : Message) (block old : List ℕ) → parse s brick bytes ≡ Opens x
+-- The image of the brick after a message opens.
+pub after-opens : (s : Settings) (brick : ℕ) (bytes : List ℕ) (x : Brick) (msg : Message) (block old : List ℕ) → parse s brick bytes ≡ Opens x
     → messageRefusal (s .n) (s .m) msg ≡ passed → length block ≡ s .size
     → parse s brick (imageOf s brick (brickAfter s brick x msg block old)) ≡ Opens (brickAfter s brick x msg block old)
-opens-again s brick bytes x msg block old e m size =
+after-opens s brick bytes x msg block old e m size =
     let o = opened s brick bytes x e in
     parse-image s brick (brickAfter s brick x msg block old) (o .in-range) (o .brick-low)
     (after-sound s brick x msg block old (o .keeps) (message-time (s .n) (s .m) msg m) size)
+
+-- The statement of `specs/AgainTheorem`.
+pub opens-again : OpensAgain
+unfolding outcome accepted refusedWith
+opens-again s brick bytes x msg block old out e = go (eqb number passed) refl
+  where
+    number : ℕ
+    number = receiveRefusal s brick bytes msg (beside block old out)
+
+    left : Parsed → List ℕ
+    left p = accepted s brick msg block old bytes out p .image
+
+    go : (b : Bool) → eqb number passed ≡ b
+        → parse s brick (cond b (accepted s brick msg block old bytes out (parse s brick bytes)) (refusedWith number bytes out) .image)
+        ≡ Opens (cond b (brickAfter s brick x msg block old) x)
+    go true q =
+        let p = passes s brick bytes msg (beside block old out) (eqb-true number passed q) in
+        ap (λ (v : Parsed). parse s brick (left v)) e ∙ after-opens s brick bytes x msg block old e (p .message) (p .front .block-is)
+    go false q = e

@@ -1,12 +1,17 @@
 -- What a no said makes no difference but to the letter.
 use mathlib.Core.Path.{_≡_, refl, sym, ap, ap₂, _∙_}
 use mathlib.Core.Bool.{Bool, true, false, cond}
-use mathlib.Core.List.{List, []}
+use mathlib.Core.List.{List, [], _∷_}
 use Prim.Native.Nat.{ℕ}
-use lib.Dec.{ltb}
-use Rattle.settings.specs.Ranges.{quorum}
+use lib.Dec.{leb, ltb}
+use lib.ListN.{length}
+use Rattle.settings.specs.Ranges.{quorum, codeRefusal, stripeCountRefusal, stripeRefusal}
+use Rattle.settings.specs.Refusal.{firstRefusal, refuseUnless, badLength, badNumber, badRecord, badMessage, strayReply}
+use Rattle.settings.specs.Times.{lastCoordinator}
 use Rattle.message.specs.Flags.{members}
+use Rattle.message.specs.Messages.{replyRight, replyRefusal}
 use Rattle.message.specs.declared.Reply.{Reply}
+use Rattle.coord_record.specs.Sound.{soundRecord}
 use Rattle.coord_record.specs.Records.{idleWith, nothingCounted}
 use Rattle.coord_decide.specs.Deciding.{answers, tallied, apart, decidedRead, decidedBlockOrder, decidedAt, decidedRecovery, decided}
 use Rattle.coord_decide.specs.declared.Decision.{Decision}
@@ -14,11 +19,38 @@ use Rattle.coord_decide.specs.declared.Decision.the-variants.{Abort, Give, Look
 use Rattle.coord_blocks.specs.Blocks.{agreeing}
 use Rattle.coord_apply.specs.Acts.{acted, ending, opened, trimsFirst, allHold, sendingFirst, nextRound, modifying, storing, aborting, giversAt, withTally, counting, waitingOr}
 use Rattle.coord_apply.specs.Answers.{Buffered, nothingSeen}
+use Rattle.coord_refusals.specs.Checks.{stripeChecks, lengthsRight, strayChecks, takeRefusal}
+use Rattle.coord_laws.proofs.Laws.StepRunLaws.{took}
 use Rattle.coord_laws.specs.LetterTheorem.{unsaidTally, unsaid, unsaidReply, unlettered, SameRepliesCount, LettersChangeNothingElse}
 
+-- the checks of a reply, by the outcomes of the two that look at what a no said
+checkedWith : (n m size stripes : ℕ) (block coded : ℕ) → Buffered → Reply → (sound right : Bool) → ℕ
+checkedWith n m size stripes block coded k q sound right =
+    firstRefusal
+    (codeRefusal n m size
+    ∷ stripeCountRefusal stripes
+    ∷ refuseUnless (lengthsRight n m size (q .held) block (length (k .blocks)) (length (k .stripe)) coded) badLength
+    ∷ refuseUnless (ltb (q .brick) n) badNumber
+    ∷ refuseUnless (leb (k .state .clock .coordinator) lastCoordinator) badNumber
+    ∷ stripeRefusal stripes (q .stripe)
+    ∷ refuseUnless sound badRecord
+    ∷ firstRefusal (refuseUnless (ltb (q .brick) n) badNumber ∷ refuseUnless right badMessage ∷ [])
+    ∷ refuseUnless (answers n m (k .state .op) (k .state .tally) q) strayReply
+    ∷ [])
+
+taken-unsaid : (n m size stripes : ℕ) (h : Buffered) (r : Reply) (block : List ℕ) (coded : ℕ)
+    → takeRefusal n m size stripes (h .state) r (length block) (length (h .blocks)) (length (h .stripe)) coded
+    ≡ checkedWith n m size stripes (length block) coded (unsaid h) (unsaidReply r) (soundRecord n m size stripes (h .state)) (replyRight r)
+unfolding checkedWith takeRefusal strayChecks stripeChecks replyRefusal answers unsaid withTally unsaidTally unsaidReply
+taken-unsaid n m size stripes h r block coded = refl
+
 pub same-replies-count : SameRepliesCount
-unfolding answers unsaidTally unsaidReply
-same-replies-count n m op t r = refl
+same-replies-count n m size stripes h h′ r r′ block coded a =
+    let f = checkedWith n m size stripes (length block) coded in
+    taken-unsaid n m size stripes h r block coded
+    ∙ ap₂ (λ (k : Buffered) (q : Reply). f k q (soundRecord n m size stripes (h .state)) (replyRight r)) (a .same-coordinator) (a .same-reply)
+    ∙ ap₂ (f (unsaid h′) (unsaidReply r′)) (a .alike-sound) (a .alike-right)
+    ∙ sym (taken-unsaid n m size stripes h′ r′ block coded)
 
 -- what a decision does
 acted-unlettered : (n m size : ℕ) (h : Buffered) (d : Decision) → unlettered (acted n m size h d) ≡ unlettered (acted n m size (unsaid h) d)
@@ -61,9 +93,10 @@ waiting-unlettered n m size k k′ true d e = ap (λ (x : Buffered). record { ne
 waiting-unlettered n m size k k′ false d e =
     acted-unlettered n m size k d ∙ ap (λ (x : Buffered). unlettered (acted n m size x d)) e ∙ sym (acted-unlettered n m size k′ d)
 
-pub letters-change-nothing-else : LettersChangeNothingElse
+counted-unlettered : (n m size : ℕ) (h : Buffered) (r : Reply) (block : List ℕ)
+    → unlettered (waitingOr n m size (counting size h r block)) ≡ unlettered (waitingOr n m size (counting size (unsaid h) (unsaidReply r) block))
 unfolding waitingOr
-letters-change-nothing-else n m size h r block =
+counted-unlettered n m size h r block =
     waiting-unlettered n m size k k′ (ltb (members (k .state .tally .counted) n) (quorum n m)) (decided n m (k .state .op) (k .state .tally)) (counting-unsaid size h r block) ∙ rest
   where
     k : Buffered
@@ -78,3 +111,11 @@ letters-change-nothing-else n m size h r block =
         (acted n m size k′ (decided n m (k′ .state .op) (k′ .state .tally))))
     rest = ap₂ (λ (b : Bool) (d : Decision). unlettered (cond b (record { next = k′; sent = []; seen = nothingSeen }) (acted n m size k′ d)))
         (same-count n m size h r block) (same-decision n m size h r block)
+
+pub letters-change-nothing-else : LettersChangeNothingElse
+letters-change-nothing-else n m size stripes h h′ r r′ block coded w w′ eh er e e′ =
+    ap unlettered (sym (took n m size stripes h r block coded w e .is))
+    ∙ counted-unlettered n m size h r block
+    ∙ ap₂ (λ (k : Buffered) (q : Reply). unlettered (waitingOr n m size (counting size k q block))) eh er
+    ∙ sym (counted-unlettered n m size h′ r′ block)
+    ∙ ap unlettered (took n m size stripes h′ r′ block coded w′ e′ .is)

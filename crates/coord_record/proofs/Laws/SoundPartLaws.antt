@@ -1,5 +1,5 @@
 -- Laws of `specs/SoundParts`.
-use mathlib.Core.Path.{_≡_, refl, _∙_}
+use mathlib.Core.Path.{_≡_, refl, ap₂, _∙_}
 use mathlib.Core.Bool.{Bool, true, false, cond, not, _&&_, _||_}
 use Prim.Native.Nat.{ℕ, _≤_, _<_}
 use native.Mathlib.Omega.{arith}
@@ -9,6 +9,7 @@ use Rattle.coord_record.specs.CountedRules.{tallyRight, bricksRight}
 use Rattle.coord_record.specs.Sound.{maxRight, storedRight, recoveryRight, openingRight, readRight, writeRight, blockWriteRight, unsetOp, opRight, blockLow}
 use Rattle.coord_record.specs.Sound.{timeRight, namedCount, filledRight, sameGeometry, rulesKept, soundRecord}
 use Rattle.coord_record.specs.declared.Coordinator.{Coordinator}
+use Rattle.coord_record.specs.declared.Geometry.{Geometry}
 use Rattle.coord_record.specs.declared.Op.{Op}
 use Rattle.message.specs.Flags.{members}
 use Rattle.byte_lists.proofs.Laws.BoolLaws.{and-left, and-right}
@@ -81,6 +82,19 @@ sound-parts n m size stripes c e =
           tally-right = ew ∙ and-right r w (and-left (r && w) s filled);
           few-counted = ltb-true (members (c .tally .counted) n) (quorum n m) (es ∙ and-right (r && w) s filled);
         }
+
+-- the settings that a sound record names
+pub made-for : (n m size stripes : ℕ) (g : Geometry) → sameGeometry n m size stripes g ≡ true → g ≡ record { n = n; m = m; size = size; stripes = stripes }
+unfolding sameGeometry
+made-for n m size stripes g e =
+    let three = and-left (eqb (g .n) n && eqb (g .m) m && eqb (g .size) size) (eqb (g .stripes) stripes) e in
+    let two = and-left (eqb (g .n) n && eqb (g .m) m) (eqb (g .size) size) three in
+    let a = eqb-true (g .n) n (and-left (eqb (g .n) n) (eqb (g .m) m) two) in
+    let b = eqb-true (g .m) m (and-right (eqb (g .n) n) (eqb (g .m) m) two) in
+    let d = eqb-true (g .size) size (and-right (eqb (g .n) n && eqb (g .m) m) (eqb (g .size) size) three) in
+    let f = eqb-true (g .stripes) stripes (and-right (eqb (g .n) n && eqb (g .m) m && eqb (g .size) size) (eqb (g .stripes) stripes) e) in
+    ap₂ (λ (x y : ℕ). record { n = x; m = y; size = g .size; stripes = g .stripes }) a b
+    ∙ ap₂ (λ (x y : ℕ). record { n = n; m = m; size = x; stripes = y }) d f
 
 -- no round is above the last
 opening-high : (op : Op) → openingRight op ≡ true → op .round ≤ lastRound

@@ -144,11 +144,11 @@ decoded-on-the-polynomial n m size bricks blocks b p hp c h j hj =
 
 -- Some of the list, by their places.
 module _ (size : ℕ) (bricks blocks places : List ℕ) (within : (i : ℕ) → i < length places → getD places i 0 < length bricks) where
-  bricks-at-length : length (bricksAt bricks places) ≡ length places
+  pub bricks-at-length : length (bricksAt bricks places) ≡ length places
   unfolding bricksAt
   bricks-at-length = length-tabulate (length places) (λ (i : ℕ). getD bricks (getD places i 0) 0)
 
-  brick-at : (i : ℕ) → i < length places → getD (bricksAt bricks places) i 0 ≡ getD bricks (getD places i 0) 0
+  pub brick-at : (i : ℕ) → i < length places → getD (bricksAt bricks places) i 0 ≡ getD bricks (getD places i 0) 0
   unfolding bricksAt
   brick-at i h = getD-tabulate (length places) (λ (i : ℕ). getD bricks (getD places i 0) 0) i h
 
@@ -168,7 +168,7 @@ module _ (size : ℕ) (bricks blocks places : List ℕ) (within : (i : ℕ) → 
       by (yes h) = within i h
       by (no h) = subst (λ (x : ℕ). x < length bricks) (sym (List·getD-eq-default places 0 {n = i} (omega arith))) some
 
-  byte-of-place : length blocks ≡ length bricks * size → 0 < length bricks → (i p : ℕ) → i < length places → p < size
+  pub byte-of-place : length blocks ≡ length bricks * size → 0 < length bricks → (i p : ℕ) → i < length places → p < size
       → byteAt size (blocksOf size blocks places) i p ≡ byteAt size blocks (getD places i 0) p
   unfolding blocksOf
   byte-of-place long some i p hi hp =
@@ -177,7 +177,7 @@ module _ (size : ℕ) (bricks blocks places : List ℕ) (within : (i : ℕ) → 
       ∙ block-byte size blocks (getD places i 0) p hp
 
   -- they lie on the polynomial of all
-  places-through : length blocks ≡ length bricks * size → 0 < length bricks → (m p : ℕ) → p < size → (c : List Byte)
+  pub places-through : length blocks ≡ length bricks * size → 0 < length bricks → (m p : ℕ) → p < size → (c : List Byte)
       → PassesThrough m size bricks blocks p c → PassesThrough m size (bricksAt bricks places) (blocksOf size blocks places) p c
   places-through long some m p hp c h = record { degree = h .degree; at = λ i u. at i (let l = bricks-at-length in omega arith) }
     where
@@ -186,6 +186,21 @@ module _ (size : ℕ) (bricks blocks places : List ℕ) (within : (i : ℕ) → 
       at i u =
           ap (λ (x : ℕ). eval byteField c (byte x) .0) (brick-at i u) ∙ h .at (getD places i 0) (within i u)
           ∙ sym (byte-of-place long some i p u hp)
+
+  -- m different places of different bricks: what they say at any point is the value there of a polynomial through them
+  pub value-at-places : (m : ℕ) → m ≤ maxBricks → length places ≡ m → Differ bricks → ((i : ℕ) → getD bricks i 0 < 256)
+      → ((i j : ℕ) → i < m → j < m → getD places i 0 ≡ getD places j 0 → i ≡ j)
+      → (p : ℕ) (c : List Byte) → PassesThrough m size (bricksAt bricks places) (blocksOf size blocks places) p c
+      → (x : ℕ) → valueAt (take m (bricksAt bricks places)) size (blocksOf size blocks places) x p ≡ eval byteField c (byte x) .0
+  value-at-places m few count differ small apart =
+      value-on m size (bricksAt bricks places) (blocksOf size blocks places) few (omega (arith, bricks-at-length, count)) here (brick-at-small small)
+    where
+      here : Differ (bricksAt bricks places)
+      here i j hi hj q =
+          let hi′ : i < length places = omega (arith, bricks-at-length, hi) in
+          let hj′ : j < length places = omega (arith, bricks-at-length, hj) in
+          apart i j (omega arith) (omega arith)
+          (differ (getD places i 0) (getD places j 0) (within i hi′) (within j hj′) (sym (brick-at i hi′) ∙ q ∙ brick-at j hj′))
 
 pub any-m-of-the-list : AnyMOfTheList
 unfolding decodedOf
@@ -197,23 +212,11 @@ any-m-of-the-list n m size bricks blocks b pos long-blocks bytes e places count 
     let o = agree-through m size bricks blocks (m-few n m bricks b) (b .enough) (b .differ) (bricks-small n m bricks b) bytes e p hp in
     decoded-on m size bricks blocks (m-few n m bricks b) (b .enough) (b .differ) (bricks-small n m bricks b) p hp (o .0) (o .1) x hx
     ∙ sym
-    (value-on m size (bricksAt bricks places) (blocksOf size blocks places) (m-few n m bricks b) (omega (arith, long, count)) differ
-    (brick-at-small size bricks blocks places below (bricks-small n m bricks b)) p (o .0)
+    (value-at-places size bricks blocks places below m (m-few n m bricks b) count (b .differ) (bricks-small n m bricks b) apart p (o .0)
     (places-through size bricks blocks places below long-blocks (omega (arith, b .enough, hx)) m p hp (o .0) (o .1)) x)))
   where
     below : (i : ℕ) → i < length places → getD places i 0 < length bricks
     below i h = within i (omega arith)
-
-    long : length (bricksAt bricks places) ≡ length places
-    long = bricks-at-length size bricks blocks places below
-
-    differ : Differ (bricksAt bricks places)
-    differ i j hi hj q =
-        let hi′ : i < length places = omega (arith, long, hi) in
-        let hj′ : j < length places = omega (arith, long, hj) in
-        apart i j (omega arith) (omega arith)
-        (b .differ (getD places i 0) (getD places j 0) (below i hi′) (below j hj′)
-        (sym (brick-at size bricks blocks places below i hi′) ∙ q ∙ brick-at size bricks blocks places below j hj′))
 
 -- a list of exactly m is its own first m
 pub decoded-all : (m size : ℕ) (bricks blocks : List ℕ) → length bricks ≡ m → blocksAt bricks size blocks m ≡ decodedOf m size bricks blocks

@@ -11,7 +11,7 @@ mul-by-requires c κs = search needs
 
 returns : tie.Need-returns
 unfolding twice plus
-returns c = c .mul-by .ensures ∙ product-twice _ 1 (c .before .fits .a .fits) (omega arith) ∙ ap twice (product-one _)
+returns c = c .mul-by .ensures .0 ∙ product-twice _ 1 (c .before .fits .a .fits) (omega arith) ∙ ap twice (product-one _)
 
 pub double-spec : {M : Type 1} → statement M
 double-spec = tie.close (tie.spec mul-by-requires returns)

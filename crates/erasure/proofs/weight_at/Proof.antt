@@ -51,7 +51,7 @@ loop-again c =
     let h = c .before .loop-test .taken in (
       ⊎-elim
           (λ w. weight-taken (l .k) (s .args .brick) (s .args .j) (l .w) _ _ _ (omega (arith, r .n-high, r .m-high, h)) (omega (arith, r .n-high, r .brick-below))
-          (omega (arith, r .n-high, r .m-high, r .block-below)) (l .inv .0) (w .0 .taken) (w .1 .ensures) (w .2 .ensures) (w .4 ∙ w .3 .ensures))
+          (omega (arith, r .n-high, r .m-high, r .block-below)) (l .inv .0) (w .0 .taken) (w .1 .ensures) (w .2 .ensures .0) (w .4 ∙ w .3 .ensures .0))
           (λ w. w .1 ∙ weight-left (l .k) (s .args .brick) (s .args .j) (l .w) (l .inv .0) (w .0 .left))
           (c .if1 .came),
       omega arith,

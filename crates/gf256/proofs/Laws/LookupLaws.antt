@@ -2,13 +2,14 @@
 use mathlib.Core.Path.{_≡_, refl, sym, ap, ap₂, _∙_}
 use mathlib.Core.Bool.{Bool, true, false, cond}
 use mathlib.Core.List.{List}
-use Prim.Native.Nat.{ℕ, zero, suc, _+_, _-_, _≤_, _<_}
+use Prim.Native.Nat.{ℕ, zero, suc, _+_, _-_, _%_, _^_, _≤_, _<_}
+use native.Mathlib.Nat.{mod-eq-of-lt}
 use native.Mathlib.Omega.{arith}
 use lib.Dec.{ltb}
-use borrow.Author.Tests.{ltb-true, ltb-false, lt-ltb, le-ltb}
+use borrow.Author.Tests.{ltb-true, ltb-false, lt-ltb, le-ltb, eq-eqb, ne-eqb}
 use lib.ListN.{getD}
 use Rattle.gf256.specs.Product.{product, power, powerCount, inverse, quotient}
-use Rattle.gf256.specs.LogSums.{logSum, maxLogSum, folded}
+use Rattle.gf256.specs.LogSums.{logSum, maxLogSum, folded, held, productIn, sumBits}
 use Rattle.gf256.proofs.Laws.ProductLaws.{product-zero, zero-product}
 use Rattle.gf256.proofs.Laws.TableLaws.{power-byte, power-add, power-cycle}
 use Rattle.gf256.specs.Tables.{IsPowers, IsLogs}
@@ -79,6 +80,27 @@ module _ (l : List ℕ) (hl : IsLogs l) (a : ℕ) (na : a ≡ 0 → ⊥) (la : a
   inverse-is =
       inverse-unique a (inverse a) (power (powerCount - getD l a 0)) la (inverse-byte a) (power-byte (powerCount - getD l a 0)) (product-inverse a (omega arith) la)
       (ap (λ (x : ℕ). product x (power (powerCount - getD l a 0))) log-power ∙ power-inverse (getD l a 0) (let h = log-below l hl a la in omega arith))
+
+-- the ways of a product whose sum is held in so many bits
+module _ (bits : ℕ) (p l : List ℕ) (a b : ℕ) where
+  pub held-left : a ≡ 0 → 0 ≡ productIn bits p l a b
+  unfolding productIn
+  held-left e = rw (eq-eqb a 0 e)
+
+  pub held-right : (a ≡ 0 → ⊥) → b ≡ 0 → 0 ≡ productIn bits p l a b
+  unfolding productIn
+  held-right na e = rw (ne-eqb a 0 na, eq-eqb b 0 e)
+
+  pub held-both : (sum r : ℕ) → (a ≡ 0 → ⊥) → (b ≡ 0 → ⊥) → sum ≡ logSum l a b → sum < 2 ^ bits → r ≡ getD p (folded sum) 0 → r ≡ productIn bits p l a b
+  unfolding productIn held
+  held-both sum r na nb s h e =
+      let whole : logSum l a b % 2 ^ bits ≡ sum = ap (λ (k : ℕ). k % 2 ^ bits) (sym s) ∙ mod-eq-of-lt h in
+      e ∙ rw (ne-eqb a 0 na, ne-eqb b 0 nb, whole) refl
+
+-- 16 bits hold every sum
+pub held-sum : (p l : List ℕ) (a b sum r : ℕ) → (a ≡ 0 → ⊥) → (b ≡ 0 → ⊥) → sum ≡ logSum l a b → sum ≤ maxLogSum → r ≡ getD p (folded sum) 0
+    → r ≡ productIn sumBits p l a b
+held-sum p l a b sum r na nb s h e = held-both sumBits p l a b sum r na nb s (omega (arith, h)) e
 
 -- both tables: the power at a folded sum
 module _ (p l : List ℕ) (hp : IsPowers p) (hl : IsLogs l) (a : ℕ) (na : a ≡ 0 → ⊥) (la : a < 256) where

@@ -2,17 +2,16 @@
 use mathlib.Core.Path.{_≡_, refl, sym, ap, _∙_}
 use mathlib.Core.List.{List}
 use Prim.Native.Nat.{ℕ, zero, suc, _+_, _%_, _^_, _<_}
-use native.Mathlib.Nat.{mod-lt, mod-eq-of-lt}
+use native.Mathlib.Nat.{mod-lt}
 use native.Mathlib.Decide.{ℕ-discrete}
 use native.Mathlib.Omega.{arith}
-use borrow.Author.Tests.{ne-eqb}
 use lib.ListN.{getD}
 use lib.Seq.{ext-getD}
 use Rattle.gf256.specs.Product.{product, power, byteCount, powerCount}
 use Rattle.gf256.specs.Tables.{IsPowers, IsLogs}
-use Rattle.gf256.specs.LogSums.{logSum, maxLogSum, held, productIn, sumBits, wordBits}
+use Rattle.gf256.specs.LogSums.{logSum, maxLogSum, productIn, sumBits, wordBits}
 use Rattle.gf256.specs.TableTheorems.{OnePowersTable, OneLogsTable, ProductsByTables, SumsAtMost508, ProductsAsBefore}
-use Rattle.gf256.proofs.Laws.LookupLaws.{left-zero, right-zero, by-logs, sum-at-most, product-at}
+use Rattle.gf256.proofs.Laws.LookupLaws.{left-zero, right-zero, by-logs, sum-at-most, product-at, held-left, held-right, held-both}
 use Rattle.gf256.proofs.Laws.TableLaws.{allPowers, placeOf, power-mod, power-place}
 
 pub one-powers-table : OnePowersTable
@@ -45,13 +44,13 @@ sums-at-most-508 = sum-at-most
 -- a register that holds 508 holds every sum
 product-in : (bits : ℕ) → maxLogSum < 2 ^ bits → (powers logs : List ℕ) → IsPowers powers → IsLogs logs → (a b : ℕ) → a < byteCount → b < byteCount
     → productIn bits powers logs a b ≡ product a b
-unfolding productIn held
-product-in bits h powers logs hp hl zero b la lb = left-zero zero b refl
-product-in bits h powers logs hp hl (suc a) zero la lb = rw (ne-eqb (suc a) 0 (λ z. omega arith)) (right-zero (suc a) zero refl)
+product-in bits h powers logs hp hl zero b la lb = sym (held-left bits powers logs zero b refl) ∙ left-zero zero b refl
+product-in bits h powers logs hp hl (suc a) zero la lb =
+    sym (held-right bits powers logs (suc a) zero (λ z. omega arith) refl) ∙ right-zero (suc a) zero refl
 product-in bits h powers logs hp hl (suc a) (suc b) la lb =
-    let whole : logSum logs (suc a) (suc b) % 2 ^ bits ≡ logSum logs (suc a) (suc b) = mod-eq-of-lt (let s = sum-at-most logs hl (suc a) (suc b) la lb in omega arith) in
-    rw (ne-eqb (suc a) 0 (λ z. omega arith), ne-eqb (suc b) 0 (λ z. omega arith), whole)
-    (product-at powers logs hp hl (suc a) (λ z. omega arith) la (suc b) _ _ (λ z. omega arith) lb refl refl)
+    let low = sum-at-most logs hl (suc a) (suc b) la lb in
+    sym (held-both bits powers logs (suc a) (suc b) _ _ (λ z. omega arith) (λ z. omega arith) refl (omega (arith, low, h)) refl)
+    ∙ product-at powers logs hp hl (suc a) (λ z. omega arith) la (suc b) _ _ (λ z. omega arith) lb refl refl
 
 pub products-as-before : ProductsAsBefore
 products-as-before powers logs hp hl a b la lb =

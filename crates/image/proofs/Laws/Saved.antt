@@ -1,10 +1,10 @@
--- The promises of the saved brick, in one place: there and back, one changed byte, and a fresh image.
+-- The statements of `specs/SavedTheorem`: there and back, one changed byte, and a fresh image.
 use mathlib.Core.Path.{_≡_, refl, sym, ap, _∙_}
 use mathlib.Core.Bool.{true, false, true≢false}
 use mathlib.Core.List.{List, [], _∷_}
 use Prim.Native.Nat.{ℕ, zero, suc, _+_, _*_, _/_, _%_, _<_}
 use native.Mathlib.Omega.{arith}
-use lib.ListN.{length, take, drop, getD, set, length-set}
+use lib.ListN.{take, drop, getD, set, length-set}
 use lib.Seq.{drop-set-add, take-set-lt, getD-take, getD-drop}
 use Rattle.settings.specs.Ranges.{inRange}
 use Rattle.settings.specs.Refusal.{badCheck}
@@ -13,23 +13,21 @@ use Rattle.byte_lists.specs.Little.{Bytes}
 use Rattle.image_block.specs.Block.{checked}
 use Rattle.byte_lists.proofs.Laws.ZeroLaws.{zeros-length}
 use Rattle.image_block.proofs.Laws.ChangeLaws.{change-unchecked}
-use Rattle.image.specs.Brick.{Brick, entryCount, timeAt, meansAt, markAt, freshBrick, savedTime, risesAt, soundBrick}
+use Rattle.image.specs.Brick.{entryCount, timeAt, meansAt, markAt, freshBrick, savedTime, risesAt}
 use Rattle.byte_lists.proofs.Laws.EachLaws.{each-at, each-not}
-use Rattle.image.specs.Image.{imageOf, imageSize}
+use Rattle.image.specs.Image.{imageSize}
 use Rattle.image.proofs.Laws.ImageLaws.{block-length}
-use Rattle.image.specs.Parse.{imageBlockAt, checkedAt, Opens, Refuses, parse}
+use Rattle.image.specs.Parse.{imageBlockAt, checkedAt}
+use Rattle.image.specs.SavedTheorem.{SavedOpens, FreshOpens, OpenedSaves, OneByteChanged}
 use Rattle.image.proofs.Laws.ParseLaws.{opened, parse-image, parse-refuses, refusal-5, range-of}
 use Rattle.image.specs.Brick.{Sound}
 use Rattle.image.proofs.Laws.ImageSoundLaws.{soundness}
 use Rattle.image_block.specs.Block.{blockBytes}
 
--- What was saved opens as it was.
-pub saved-opens : (s : Settings) (brick : ℕ) (x : Brick) → inRange s ≡ true → brick < s .n → soundBrick s x ≡ true
-    → parse s brick (imageOf s brick x) ≡ Opens x
+pub saved-opens : SavedOpens
 saved-opens s brick x a b r = parse-image s brick x a b (soundness s x r)
 
--- What opens was saved: the same brick, saved again, is the same bytes.
-pub opened-saves : (s : Settings) (brick : ℕ) (bytes : List ℕ) (x : Brick) → parse s brick bytes ≡ Opens x → imageOf s brick x ≡ bytes
+pub opened-saves : OpenedSaves
 opened-saves s brick bytes x e = sym (opened s brick bytes x e .is-image)
 
 bytes-take : (n : ℕ) (l : List ℕ) → Bytes l → Bytes (take n l)
@@ -56,9 +54,7 @@ block-bytes : (l : List ℕ) (j : ℕ) → Bytes l → Bytes (imageBlockAt l j)
 unfolding imageBlockAt
 block-bytes l j b = bytes-take blockBytes (drop (blockBytes * j) l) (bytes-drop (blockBytes * j) l b)
 
--- "A one-byte change in any block is refused", and by the number of a check that fails.
-pub one-byte-changed : (s : Settings) (brick : ℕ) (bytes : List ℕ) (x : Brick) (i v : ℕ) → parse s brick bytes ≡ Opens x → Bytes bytes
-    → i < length bytes → v < 256 → (v ≡ getD bytes i 0 → ⊥) → parse s brick (set bytes i v) ≡ Refuses badCheck
+pub one-byte-changed : OneByteChanged
 unfolding imageSize checkedAt
 one-byte-changed s brick bytes x i v e b h hv ne =
     let o = opened s brick bytes x e in
@@ -97,6 +93,5 @@ fresh-sound s a =
     first zero h = record { saved = refl; rises = refl; sized = zeros-length (s .size); marked = λ e. absurd (true≢false (sym e)) }
     first (suc i) h = absurd (omega arith)
 
--- A fresh image opens.
-pub fresh-opens : (s : Settings) (brick : ℕ) → inRange s ≡ true → brick < s .n → parse s brick (imageOf s brick (freshBrick s)) ≡ Opens (freshBrick s)
+pub fresh-opens : FreshOpens
 fresh-opens s brick a b = parse-image s brick (freshBrick s) a b (fresh-sound s a)

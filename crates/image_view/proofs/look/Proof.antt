@@ -43,8 +43,8 @@ use denote.Triple.Clauses.{ensured, lasts}
 use Rattle.settings.specs.declared.Settings.{Settings}
 use Rattle.settings.proofs.Settings as P
 use Rattle.settings.proofs.Settings.Laws as P′
-use Rattle.image.specs.Parse.{parse}
-use Rattle.image_view.specs.View.{foundIn, foundOf, viewOf}
+use Rattle.image.specs.Parse.{parse, openRefusal}
+use Rattle.image_view.specs.View.{countedNumber, foundIn, foundOf, viewOf}
 use Rattle.image_view.specs.declared.View.{View}
 use Rattle.image_view.specs.declared.Found.{Found}
 use Rattle.image_view.proofs.View as T
@@ -109,7 +109,8 @@ module _ {M : Type 1} (𝓤 : URA M) (H : Heap 𝓤) (A : Atoms 𝓤) (W : Given
   to-new = (((κ, tt), (q, tt), tt, (d, (n, (s, tt))), (dv ∷ [], (vint w64 n ∷ [], (v ∷ [], tt)))), tt)
 
   abbrev Said : View → Type 0
-  Said r = (r ≡ viewOf d n s) × ((place : ℕ) → foundIn r place ≡ foundOf (parse d n (now s)) place)
+  Said r =
+      (r ≡ viewOf d n s) × ((place : ℕ) → foundIn r place ≡ foundOf (parse d n (now s)) place) × (countedNumber (r .counted) ≡ openRefusal d n (now s))
 
   goes-new : ent 𝓤 (onEntry 𝓤 H A first.signature (κ, tt) (q, tt) (d, (n, (s, (i, tt)))) at) (sep 𝓤 (New 𝓤 H A mem run .pre to-new) (sem 𝓤 H A Own))
   goes-new =

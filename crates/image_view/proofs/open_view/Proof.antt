@@ -46,11 +46,12 @@ use denote.Triple.Clauses.{ensured, lasts}
 use Rattle.settings.specs.declared.Settings.{Settings}
 use Rattle.settings.proofs.Settings as P
 use Rattle.settings.proofs.Settings.Laws as P′
-use Rattle.image.specs.Parse.{parse}
-use Rattle.image_view.specs.View.{countOf, foundIn, foundOf, viewOf}
+use Rattle.image.specs.Parse.{parse, openRefusal}
+use Rattle.image_view.specs.View.{countOf, countedNumber, foundIn, foundOf, viewOf}
 use Rattle.image_view.specs.declared.Counted.{Counted}
 use Rattle.image_view.specs.declared.View.{View}
 use Rattle.image_view.proofs.Laws.ViewLaws.{view-entry}
+use Rattle.image_view.proofs.Laws.FoundNumberLaws.{counted-number}
 use Rattle.image_view.proofs.Counted as N
 use Rattle.image_view.proofs.Counted.Laws as N′
 use Rattle.image_view.proofs.View as T
@@ -125,11 +126,14 @@ module _ {M : Type 1} (𝓤 : URA M) (H : Heap 𝓤) (A : Atoms 𝓤) (W : Given
   entries : (c : Counted) → c ≡ countOf (parse d n (now s)) → (place : ℕ) → foundIn (made c) place ≡ foundOf (parse d n (now s)) place
   entries c e place = ap (λ (w : View). foundIn w place) (is-view c e) ∙ view-entry d n s place
 
+  numbered : (c : Counted) → c ≡ countOf (parse d n (now s)) → countedNumber c ≡ openRefusal d n (now s)
+  numbered c e = ap countedNumber e ∙ counted-number d n (now s)
+
   exits : (c : Counted) (w : Val) → c ≡ countOf (parse d n (now s)) → ent 𝓤 (⋆ 𝓤 H A (‵ (N.the-row .own c (w ∷ [])) ∷ (‵ (flft κ q) ⊛ ‵ ftrue) ∷ ‵ Own ∷ [])) (Post (mach w))
   exits c w e =
       qed W (‵ (N.the-row .own c (w ∷ [])) ∷ (‵ (flft κ q) ⊛ ‵ ftrue) ∷ ‵ Own ∷ []) ∵
       suffices ! _ (ends-at 𝓤 H A new.ended stayed (new.clauses 𝓤 H A mem run) W (((κ, tt), (q, tt), tt, (d, (n, (s, tt))), at), tt) (mach w) (made c) (tt, (tt, (tt, tt))) (tt, (tt, (tt, tt)))) $
-      says ! (is-view c e, entries c e) $
+      says ! (is-view c e, entries c e, numbered c e) $
       move ! (1 ∷ []) $ frame ! $ move ! (1 ∷ []) $ use1 W (‵ Own ⊛ ‵ Own) (shr-slice-copy 𝓤 H A W (named 0) κ u8 .twice s (v ∷ [])) $ split ! $
       nothing ! $ move ! (1 ∷ 0 ∷ []) $ fjoin ! $ owned ! usize (Is usize) (uint-makes 𝓤 H A W w64) n _ (refl, okn) $ fjoin ! $
       owned ! P.the-row (Is P.the-row) (LL.makes P.the-type P′.the-plain 𝓤 H A) d _ isd $ fjoin ! $ frame ! $

@@ -35,18 +35,19 @@ add-multiples-requires c κs =
     let w = s .fits .w0 .fits in (
       s .pre .1 .1,
       (
-        doubles 1 2 _ _ _ refl (omega arith) w (sym (product-one _)) (c .before .before .before .before .before .before .before .mul-by .ensures),
+        doubles 1 2 _ _ _ refl (omega arith) w (sym (product-one _)) (c .before .before .before .before .before .before .before .mul-by .ensures .0),
         (
-          doubles 2 4 _ _ _ refl (omega arith) w (c .before .before .before .before .before .before .before .mul-by .ensures) (c .before .before .before .before .before .before .mul-by2 .ensures),
+          doubles 2 4 _ _ _ refl (omega arith) w (c .before .before .before .before .before .before .before .mul-by .ensures .0)
+              (c .before .before .before .before .before .before .mul-by2 .ensures .0),
           (
-            doubles 4 8 _ _ _ refl (omega arith) w (c .before .before .before .before .before .before .mul-by2 .ensures) (c .before .before .before .before .before .mul-by3 .ensures),
+            doubles 4 8 _ _ _ refl (omega arith) w (c .before .before .before .before .before .before .mul-by2 .ensures .0) (c .before .before .before .before .before .mul-by3 .ensures .0),
             (
-              doubles 8 16 _ _ _ refl (omega arith) w (c .before .before .before .before .before .mul-by3 .ensures) (c .before .before .before .before .mul-by4 .ensures),
+              doubles 8 16 _ _ _ refl (omega arith) w (c .before .before .before .before .before .mul-by3 .ensures .0) (c .before .before .before .before .mul-by4 .ensures .0),
               (
-                doubles 16 32 _ _ _ refl (omega arith) w (c .before .before .before .before .mul-by4 .ensures) (c .before .before .before .mul-by5 .ensures),
+                doubles 16 32 _ _ _ refl (omega arith) w (c .before .before .before .before .mul-by4 .ensures .0) (c .before .before .before .mul-by5 .ensures .0),
                 (
-                  doubles 32 64 _ _ _ refl (omega arith) w (c .before .before .before .mul-by5 .ensures) (c .before .before .mul-by6 .ensures),
-                  doubles 64 128 _ _ _ refl (omega arith) w (c .before .before .mul-by6 .ensures) (c .before .mul-by7 .ensures),
+                  doubles 32 64 _ _ _ refl (omega arith) w (c .before .before .before .mul-by5 .ensures .0) (c .before .before .mul-by6 .ensures .0),
+                  doubles 64 128 _ _ _ refl (omega arith) w (c .before .before .mul-by6 .ensures .0) (c .before .mul-by7 .ensures .0),
                 ),
               ),
             ),

@@ -41,7 +41,8 @@ loop-again : tie.Need-loop-again Inv-loop μ-loop
 loop-again c =
     let s = c .before .before .before .before .before .before .before in
     let l = c .before .before .before .loop in
-    (numerator-more _ (λ k. c .before .before .before .before .before .before .shared-slice-known .given k .fits) (s .args .x) _ _ _ (s .fits .x .fits) (l .inv .0) (c .mul-by .ensures), omega arith)
+    let f = c .before .before .before .before .before .before .shared-slice-known in
+    (numerator-more _ (λ k. f .given k .fits) (s .args .x) _ _ _ (s .fits .x .fits) (l .inv .0) (c .mul-by .ensures .0), omega arith)
 
 returns-2 : tie.Need-returns-2 Inv-loop μ-loop
 returns-2 c = numerator-all _ _ _ _ (c .before .loop .inv .0) (c .loop-test .left) (c .before .loop .inv .1)

@@ -47,7 +47,7 @@ loop-again c =
     let s = c .before .before .before .before .before .before in (
       ⊎-elim
           (λ w. difference-taken _ (λ k. c .before .before .before .before .before .shared-slice-known .given k .fits) (s .args .k) (l .i) _ _ _ _ (s .pre .1 .1 .1) (l .inv .0)
-          (c .before .loop-test .taken) (s .pre .1 .1 .0 .1) (w .0 .taken) (w .3 .ensures) (w .4))
+          (c .before .loop-test .taken) (s .pre .1 .1 .0 .1) (w .0 .taken) (w .3 .ensures .0) (w .4))
           (λ w. difference-left _ (λ k. c .before .before .before .before .before .shared-slice-known .given k .fits) (s .args .k) (l .i) _ _ _ (s .pre .1 .1 .1) (l .inv .0)
           (c .before .loop-test .taken) (w .0 .left) (w .1))
           (c .if1 .came),

@@ -23,7 +23,7 @@ returns c =
     let s = c .before .before .before .before .before .before .before in
     weight-by-parts (s .args .points .now) (λ k. c .before .before .before .before .before .before .shared-slice-known .given k .fits)
     (s .args .powers .now) (s .args .logs .now) (s .args .shares .now) (s .args .top) (s .args .x) (s .args .i) _ _ _ (s .pre .0) (s .fits .x .fits)
-    (s .pre .1 .0) (s .pre .1 .1 .0) (s .pre .1 .1 .1) (c .before .before .before .inv-by .ensures) (c .before .mul-by .ensures) (c .mul-by2 .ensures)
+    (s .pre .1 .0) (s .pre .1 .1 .0) (s .pre .1 .1 .1) (c .before .before .before .inv-by .ensures) (c .before .mul-by .ensures .0) (c .mul-by2 .ensures .0)
 
 pub weight-of-spec : {M : Type 1} → statement M
 weight-of-spec =

@@ -21,7 +21,7 @@ module _ {S B : Type 0} {blocks : Blocks S B} {z : S} {l : List (Seen (stripe bl
   leaves-or-writes none w (writeBlock j c) b = absurd (none w j c b)
 
   -- in any case it leaves the stripe, or is a write
-  leaves-or-is-write : (w : ℕ) (k : Action blocks) → Seen.began w k ∈ l
+  pub leaves-or-is-write : (w : ℕ) (k : Action blocks) → Seen.began w k ∈ l
       → ((s : S) → Unit {0} → changed k s ≡ s) ⊎ ((s : S) → Unit {0} → IsWrite l w)
   unfolding changed
   leaves-or-is-write w read b = inl (λ s f. refl)

@@ -44,7 +44,7 @@ module _ (s : Settings) (g : SettingsRange s) (r : Moved s) (a : Reply) (block :
   pub w : Went
   w = waitingOr (s .n) (s .m) (s .size) after
 
-  steps : takeStep (s .n) (s .m) (s .size) (s .stripes) k a block (s .n * s .size) ≡ went w
+  pub steps : takeStep (s .n) (s .m) (s .size) (s .stripes) k a block (s .n * s .size) ≡ went w
   unfolding takeStep afterChecks w
   steps = ap (λ (number : ℕ). afterChecks number (went (waitingOr (s .n) (s .m) (s .size) (counting (s .size) (addressee (r .world) a) a block)))) (x .taken)
 

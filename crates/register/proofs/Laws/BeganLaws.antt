@@ -5,7 +5,7 @@ use mathlib.Core.Bool.{Bool, true, false, cond}
 use mathlib.Core.List.{List, [], _∷_, List·Memᴰ·not-nil, List·Memᴰ·eq-of-singleton, List·Memᴰ·append-cases}
 use Prim.Native.Nat.{ℕ, zero, suc, _*_, _<_}
 use native.Mathlib.Omega.{arith}
-use lib.Dec.{eqb, ltb}
+use lib.Dec.{eqb, leb, ltb}
 use lib.ListN.{length}
 use borrow.Author.Tests.{eqb-true}
 use Rattle.settings.specs.Times.{coordinatorOf, drawOf}
@@ -13,12 +13,13 @@ use Rattle.settings.specs.declared.Clock.{Clock}
 use Rattle.settings.specs.declared.Settings.{Settings}
 use Rattle.byte_lists.specs.Little.{areBytes}
 use Rattle.message.specs.Kinds.{readKind, orderKind, orderBlockKind}
-use Rattle.coord_record.specs.Records.{readingKind, writingKind, readingBlockKind, writingBlockKind, noBricks}
+use Rattle.coord_record.specs.Records.{idleKind, readingKind, writingKind, readingBlockKind, writingBlockKind, noBricks}
 use Rattle.coord_record.specs.declared.Op.{Op}
-use Rattle.coord_apply.specs.Acts.{firstOp, starting}
-use Rattle.coord_apply.specs.Answers.{Buffered, Went, Step, refused, went, afterChecks, beganSeen, okSeen, readSeen, abortedSeen, cutSeen}
+use Rattle.coord_apply.specs.Acts.{ending, firstOp, starting}
+use Rattle.coord_apply.specs.Answers.{Buffered, Went, Step, refused, went, afterChecks, nothingSeen, beganSeen, okSeen, readSeen, abortedSeen, cutSeen}
 use Rattle.coord_apply.specs.declared.Notice.{Notice}
-use Rattle.coordinator.specs.Routines.{drawnThen, crashStep, writeStep, readStep, writeBlockStep, readBlockStep}
+use Rattle.coord_refusals.specs.Checks.{crashRefusal}
+use Rattle.coordinator.specs.Routines.{drawnThen, crashed, crashStep, writeStep, readStep, writeBlockStep, readBlockStep}
 use Rattle.erasure.proofs.Laws.BlockOfLaws.{block-within, block-with}
 use Rattle.coord_laws.proofs.Laws.SoundnessLaws.{passes, same-went, drawn-went}
 use Rattle.coord_laws.proofs.Laws.StripeLaws.{take-keeps-stripe, crash-keeps-stripe}
@@ -66,6 +67,22 @@ shown-told s g j t x = go (eqb j (g .seen .stripe))
         → (g .seen .what ≡ beganSeen) × (g .seen .time ≡ t) × (begunKind s (g .next) ≡ x)
     go true m = began-told s (g .seen) (g .next) t x m
     go false m = absurd (List·Memᴰ·not-nil m)
+
+-- nothing is sent at a crash
+pub crash-sends-none : (s : Settings) (h : Buffered) (left : Left) (w : Went)
+    → leftBy s left (crashStep (s .n) (s .m) (s .size) (s .stripes) h) ≡ went w → w .sent ≡ []
+unfolding crashStep afterChecks crashed leftBy ending
+crash-sends-none s h left w = go (leb (crashRefusal (s .n) (s .m) (s .size) (s .stripes) (h .state)) 0) (eqb (h .state .op .kind) idleKind)
+  where
+    go : (a b : Bool)
+        → leftBy s left
+        (cond a (went (cond b (record { next = h; sent = []; seen = nothingSeen }) (ending (s .n) h (h .stripe) [] cutSeen noBricks)))
+        (refused (crashRefusal (s .n) (s .m) (s .size) (s .stripes) (h .state))))
+        ≡ went w
+        → w .sent ≡ []
+    go true true e = sym (ap (λ (z : Went). z .sent) (same-went _ w e))
+    go true false e = sym (ap (λ (z : Went). z .sent) (same-went _ w e))
+    go false b e = absurd (let z : _≡_ {A = ℕ} 0 1 = cc in omega arith)
 
 -- nothing begins at a crash
 pub crash-begins-none : (s : Settings) (h : Buffered) (left : Left) (w : Went)

@@ -77,6 +77,11 @@ module _ (s : Settings) (b : ℕ) (msg : Message) (j : ℕ) where
   unfolding Stays
   replies-on given out f i m = f out i m
 
+  pub row-replies-on : (row block old out : List ℕ) (i : Item)
+      → let o = rowOutcome s b row msg block old out in i ∈ repliedWith (o .given) (o .out) → itemOn j i ≡ eqb (msg .stripe) j
+  row-replies-on row block old out i m =
+      let o = rowOutcome s b row msg block old out in replies-on (o .given) (o .out) (row-on row block old out) i m
+
 module _ (s : Settings) (k : ℕ) (r : Moved s) (b : ℕ) where
   -- what an outcome changes in the view
   view-received : (o : Outcome) (image : List ℕ) (replies : List Item) → imageAt s k (o .image) ≡ image
@@ -140,7 +145,7 @@ module _ (s : Settings) (k : ℕ) (r : Moved s) (b : ℕ) where
         elsewhere n =
             stays-so o (other-stripes-stay s b row msg block old out k (λ z. n (sym z)))
             (items-none k (repliedWith (o .given) (o .out))
-            (λ z m. replies-on s b msg k (o .given) (o .out) (row-on s b msg k row block old out) z m ∙ ne-eqb (msg .stripe) k n))
+            (λ z m. row-replies-on s b msg k row block old out z m ∙ ne-eqb (msg .stripe) k n))
 
         here : msg .stripe ≡ k → Goes s g h (view k (joined s r (received s (r .world) b o)))
         here e = dec (eqb number passed) refl

@@ -24,22 +24,23 @@ use Rattle.brick.proofs.Laws.GivenNumberLaws.{outcome-number}
 use Rattle.volume.proofs.Laws.RowLaws.{image-back}
 use Rattle.volume.specs.Rows.{rowSize, imageAt, withImage, inRow, rowRefusal, rowOutcome}
 use Rattle.coord_apply.specs.Acts.{buffered}
-use Rattle.coord_apply.specs.Answers.{Buffered, Step, refused, went, returned, returnedBy}
+use Rattle.coord_apply.specs.Answers.{Buffered, Went, Step, refused, went, returned, returnedBy}
 use Rattle.coord_apply.specs.declared.Answer.{Answer}
 use Rattle.coordinator.specs.Routines.{takeStep, crashStep, writeStep, readStep, writeBlockStep, readBlockStep}
 use Rattle.coord_laws.proofs.Laws.StepRunLaws.{took}
-use Rattle.order.specs.Claim.{_∈_}
-use Rattle.register.specs.Runs.{Item, message, reply, World, Event, startWrite, startRead, startWriteBlock, startReadBlock, arrives}
+use Rattle.order.specs.Claim.{_∈_, Seen}
+use Rattle.register.specs.Runs.{plain, Item, message, reply, World, Event, startWrite, startRead, startWriteBlock, startReadBlock, arrives}
 use Rattle.register.specs.Runs.{crashes, goesDown, comesUp, untouched, lost, Moved, unmoved, joined}
-use Rattle.register.specs.Runs.{coordinated, repliedWith, received, arriving, arrivingAt, standing, step, run, putAt, onStripe, broadcasts}
-use Rattle.register.specs.Driver.{driven, Short, holds, heldBlock, failed, cutOf, backWith}
+use Rattle.register.specs.Runs.{coordinated, repliedWith, received, arriving, arrivingAt, standing, step, run, putAt, broadcasts}
+use Rattle.register.specs.Driver.{driven, Short, holds, heldBlock, failed}
 use Rattle.register.specs.Lending.{SameAnswer}
 use Rattle.register.specs.CallLoop.{BufferLengths, RoutineCalls, LentWith, begin, start-write, start-read, start-write-block, start-read-block, take-reply, crash}
 use Rattle.register.specs.CallLoop.{receive, receive-image, goes-down, comes-up, power-fails, WriteEnsures, ReadEnsures, WriteBlockEnsures}
-use Rattle.register.specs.CallLoop.{ReadBlockEnsures, TakeEnsures, CrashEnsures, Agrees, WhoeverCallsMakesARun, WhoeverCallsHasOneOrder}
+use Rattle.register.specs.CallLoop.{ReadBlockEnsures, TakeEnsures, CrashEnsures, Alike, equal, begun-nothing, Agrees, WhoeverCallsMakesARun, WhoeverCallsHasOneOrder}
 use Rattle.register.proofs.Laws.AgreeLaws.{Same, Made, made-has-one-order, made-more, made-still, driven-is}
 use Rattle.register.proofs.Laws.BesideLaws.{SentRight, Proper, calls-proper}
 use Rattle.register.proofs.Laws.CallStartLaws.{crash-fails, start-made}
+use Rattle.register.proofs.Laws.FirstDrawLaws.{write-alike, read-alike, write-block-alike, read-block-alike, take-alike, idle-crash, back-alike}
 use Rattle.register.proofs.Laws.DriverLaws.{left-untouched, write-short, read-short, write-block-short, read-block-short, crash-short, take-short}
 use Rattle.register.proofs.Laws.LendingLaws.{lent-bytes-make-no-difference, unheld-blocks-make-no-difference, zeros-held}
 use Rattle.register.proofs.Laws.RefusedEventLaws.{refused-kept, row-refused-kept, kept-unmoved}
@@ -60,15 +61,15 @@ row-passed s b row msg block old out e = fronted s (s .stripes) b (length row) m
     go true q h = eqb-true number passed q
     go false q h = h
 
--- two functions with another value at one place
-put-agrees : {A : Type 0} {P : ℕ → Type 0} (f g : ℕ → A) (k : ℕ) (a b : A) → a ≡ b → ((j : ℕ) → P j → f j ≡ g j)
-    → (j : ℕ) → P j → putAt f k a j ≡ putAt g k b j
+-- two functions with other values at one place, alike there and elsewhere
+put-agrees : {A : Type 0} {P : ℕ → Type 0} (R : ℕ → A → A → Type 0) (f g : ℕ → A) (k : ℕ) (a b : A) → R k a b → ((j : ℕ) → P j → R j (f j) (g j))
+    → (j : ℕ) → P j → R j (putAt f k a j) (putAt g k b j)
 unfolding putAt
-put-agrees f g k a b e same j p = go (eqb j k)
+put-agrees R f g k a b e same j p = go (eqb j k) refl
   where
-    go : (t : Bool) → cond t a (f j) ≡ cond t b (g j)
-    go true = e
-    go false = same j p
+    go : (t : Bool) → eqb j k ≡ t → R j (cond t a (f j)) (cond t b (g j))
+    go true q = subst (λ (i : ℕ). R i a b) (sym (eqb-true j k q)) e
+    go false q = same j p
 
 module _ (s : Settings) where
   module _ (w v : World) (a : Agrees s w v) where
@@ -81,16 +82,10 @@ module _ (s : Settings) where
           agrees = record {
             same-image = a .same-image;
             same-up = a .same-up;
-            same-coordinator = put-agrees (w .coordinators) (v .coordinators) c (g .next) (g .next) refl (a .same-coordinator);
+            same-coordinator = put-agrees (Alike s) (w .coordinators) (v .coordinators) c (g .next) (g .next) (equal refl) (a .same-coordinator);
             same-sent = ap (λ (l : List Item). l ++ broadcasts s (g .sent)) (a .same-sent);
           };
         }
-
-    -- the same routine at the same coordinator
-    routine-same : (c : ℕ) → c ≤ lastCoordinator → (q : Buffered → Step) → Same s (coordinated s w c (q (w .coordinators c))) (coordinated s v c (q (v .coordinators c)))
-    routine-same c l q =
-        subst (λ (k : Buffered). Same s (coordinated s w c (q (w .coordinators c))) (coordinated s v c (q k))) (a .same-coordinator c l)
-        (coordinated-same c (q (w .coordinators c)))
 
     received-same : (b : ℕ) (o o′ : Outcome) → o .image ≡ o′ .image → repliedWith (o .given) (o .out) ≡ repliedWith (o′ .given) (o′ .out)
         → Same s (received s w b o) (received s v b o′)
@@ -99,7 +94,7 @@ module _ (s : Settings) where
         record {
           same-seen = λ k. refl;
           agrees = record {
-            same-image = put-agrees (w .images) (v .images) b (o .image) (o′ .image) ei (a .same-image);
+            same-image = put-agrees (λ _ (x y : List ℕ). x ≡ y) (w .images) (v .images) b (o .image) (o′ .image) ei (a .same-image);
             same-up = a .same-up;
             same-coordinator = a .same-coordinator;
             same-sent = ap₂ (λ (l k : List Item). l ++ k) (a .same-sent) er;
@@ -119,7 +114,7 @@ module _ (s : Settings) where
               same-seen = λ k. refl;
               agrees = record {
                 same-image = a .same-image;
-                same-up = put-agrees (w .up) (v .up) b how how refl (a .same-up);
+                same-up = put-agrees (λ _ (x y : Bool). x ≡ y) (w .up) (v .up) b how how refl (a .same-up);
                 same-coordinator = a .same-coordinator;
                 same-sent = a .same-sent;
               };
@@ -129,14 +124,13 @@ module _ (s : Settings) where
     failed-same : (c : ℕ) → c ≤ lastCoordinator → (blocks stripe : List ℕ) → Same s (failed s w c blocks stripe) (failed s v c blocks stripe)
     unfolding failed
     failed-same c l blocks stripe =
+        let x = back-alike s c (w .coordinators c) (v .coordinators c) blocks stripe (a .same-coordinator c l) in
         record {
-          same-seen = λ j. ap (λ (k : Buffered). onStripe (k .state .op .stripe) (cutOf s (k .state .op)) j) (a .same-coordinator c l);
+          same-seen = λ j. ap (λ (f : ℕ → List (Seen (plain s))). f j) (x .0);
           agrees = record {
             same-image = a .same-image;
             same-up = a .same-up;
-            same-coordinator =
-                put-agrees (w .coordinators) (v .coordinators) c _ _
-                (ap (λ (k : Buffered). backWith s c (k .state) blocks stripe) (a .same-coordinator c l)) (a .same-coordinator);
+            same-coordinator = put-agrees (Alike s) (w .coordinators) (v .coordinators) c _ _ (x .1) (a .same-coordinator);
             same-sent = a .same-sent;
           };
         }
@@ -168,31 +162,48 @@ module _ (s : Settings) where
     agree : Agrees s w v
     agree = made .2
 
-    -- a routine of a coordinator is called
-    routine-made : (e : Event) (c : ℕ) → c ≤ lastCoordinator → (q : Buffered → Step) → ((k : Buffered) → Short (s .size) (q k))
-        → step s v e ≡ coordinated s v c (q (v .coordinators c))
-        → (a : Answer) (blocks′ stripe′ coded coded′ : List ℕ) → returned a blocks′ stripe′ coded′ ≡ returnedBy (w .coordinators c) coded (q (w .coordinators c))
+    -- a routine of a coordinator is called: refused, it is no event; else some event does the same
+    routine-made : (c : ℕ) (p : Step) → Short (s .size) p → ((g : Went) → p ≡ went g → (e : Event) × (step s v e ≡ coordinated s v c (went g)))
+        → (a : Answer) (blocks′ stripe′ coded coded′ : List ℕ) → returned a blocks′ stripe′ coded′ ≡ returnedBy (w .coordinators c) coded p
         → Made s (joined s r (driven s w c a blocks′ stripe′ coded′))
-    routine-made e c l q short is a blocks′ stripe′ coded coded′ f =
-        made-more s r made e (driven s w c a blocks′ stripe′ coded′)
-        (subst (λ (x : Moved s). Same s x (step s v e)) (sym (driven-is s w c (q (w .coordinators c)) a blocks′ stripe′ coded coded′ (short (w .coordinators c)) f))
-        (subst (λ (x : Moved s). Same s (coordinated s w c (q (w .coordinators c))) x) (sym is) (routine-same w v agree c l q)))
+    unfolding coordinated
+    routine-made c p short goes a blocks′ stripe′ coded coded′ f = go p refl
+      where
+        m : Moved s
+        m = driven s w c a blocks′ stripe′ coded′
+
+        is : m ≡ coordinated s w c p
+        is = driven-is s w c p a blocks′ stripe′ coded coded′ short f
+
+        go : (q : Step) → p ≡ q → Made s (joined s r m)
+        go (refused number) e = made-still s r made m (is ∙ ap (coordinated s w c) e)
+        go (went g) e =
+            let x = goes g e in
+            made-more s r made (x .0) m
+            (subst (λ (y : Moved s). Same s y (step s v (x .0))) (sym (is ∙ ap (coordinated s w c) e))
+            (subst (λ (y : Moved s). Same s (coordinated s w c (went g)) y) (sym (x .1)) (coordinated-same w v agree c (went g))))
 
     write-made : (c : ℕ) → c ≤ lastCoordinator → (number reading : ℕ) (content : List ℕ) → Bytes content
         → (a : Answer) (stripe : List ℕ) → WriteEnsures s (w .coordinators c) a number reading content stripe
         → Made s (joined s r (driven s w c a (w .coordinators c .blocks) stripe []))
     unfolding step buffered
     write-made c l number reading content small a stripe f =
-        routine-made (startWrite c number reading content) c l (λ (k : Buffered). writeStep (s .n) (s .m) (s .size) (s .stripes) k number reading content)
-        (λ k. write-short (s .n) (s .m) (s .size) (s .stripes) k number reading content) (rw (bytes-pass content small) refl)
+        routine-made c (writeStep (s .n) (s .m) (s .size) (s .stripes) (w .coordinators c) number reading content)
+        (write-short (s .n) (s .m) (s .size) (s .stripes) (w .coordinators c) number reading content)
+        (λ g e.
+        let x = write-alike s c (w .coordinators c) (v .coordinators c) (agree .same-coordinator c l) number reading content g e in
+        (startWrite c number (x .0) content, rw (bytes-pass content small) (ap (coordinated s v c) (x .1))))
         a (w .coordinators c .blocks) stripe [] [] (f (w .coordinators c .blocks) [])
 
     read-made : (c : ℕ) → c ≤ lastCoordinator → (number reading first : ℕ) (a : Answer) → ReadEnsures s (w .coordinators c) a number reading first
         → Made s (joined s r (driven s w c a (w .coordinators c .blocks) (w .coordinators c .stripe) []))
     unfolding step buffered
     read-made c l number reading first a f =
-        routine-made (startRead c number reading first) c l (λ (k : Buffered). readStep (s .n) (s .m) (s .size) (s .stripes) k number reading first)
-        (λ k. read-short (s .n) (s .m) (s .size) (s .stripes) k number reading first) refl
+        routine-made c (readStep (s .n) (s .m) (s .size) (s .stripes) (w .coordinators c) number reading first)
+        (read-short (s .n) (s .m) (s .size) (s .stripes) (w .coordinators c) number reading first)
+        (λ g e.
+        let x = read-alike s c (w .coordinators c) (v .coordinators c) (agree .same-coordinator c l) number reading first g e in
+        (startRead c number (x .0) first, ap (coordinated s v c) (x .1)))
         a (w .coordinators c .blocks) (w .coordinators c .stripe) [] [] (f (w .coordinators c .blocks) (w .coordinators c .stripe) [])
 
     write-block-made : (c : ℕ) → c ≤ lastCoordinator → (number reading block : ℕ) (content : List ℕ) → Bytes content
@@ -200,26 +211,47 @@ module _ (s : Settings) where
         → Made s (joined s r (driven s w c a (w .coordinators c .blocks) stripe []))
     unfolding step buffered
     write-block-made c l number reading block content small a stripe f =
-        routine-made (startWriteBlock c number reading block content) c l
-        (λ (k : Buffered). writeBlockStep (s .n) (s .m) (s .size) (s .stripes) k number reading block content)
-        (λ k. write-block-short (s .n) (s .m) (s .size) (s .stripes) k number reading block content) (rw (bytes-pass content small) refl)
+        routine-made c (writeBlockStep (s .n) (s .m) (s .size) (s .stripes) (w .coordinators c) number reading block content)
+        (write-block-short (s .n) (s .m) (s .size) (s .stripes) (w .coordinators c) number reading block content)
+        (λ g e.
+        let x = write-block-alike s c (w .coordinators c) (v .coordinators c) (agree .same-coordinator c l) number reading block content g e in
+        (startWriteBlock c number (x .0) block content, rw (bytes-pass content small) (ap (coordinated s v c) (x .1))))
         a (w .coordinators c .blocks) stripe [] [] (f (w .coordinators c .blocks) [])
 
     read-block-made : (c : ℕ) → c ≤ lastCoordinator → (number reading block : ℕ) (a : Answer) → ReadBlockEnsures s (w .coordinators c) a number reading block
         → Made s (joined s r (driven s w c a (w .coordinators c .blocks) (w .coordinators c .stripe) []))
     unfolding step buffered
     read-block-made c l number reading block a f =
-        routine-made (startReadBlock c number reading block) c l (λ (k : Buffered). readBlockStep (s .n) (s .m) (s .size) (s .stripes) k number reading block)
-        (λ k. read-block-short (s .n) (s .m) (s .size) (s .stripes) k number reading block) refl
+        routine-made c (readBlockStep (s .n) (s .m) (s .size) (s .stripes) (w .coordinators c) number reading block)
+        (read-block-short (s .n) (s .m) (s .size) (s .stripes) (w .coordinators c) number reading block)
+        (λ g e.
+        let x = read-block-alike s c (w .coordinators c) (v .coordinators c) (agree .same-coordinator c l) number reading block g e in
+        (startReadBlock c number (x .0) block, ap (coordinated s v c) (x .1)))
         a (w .coordinators c .blocks) (w .coordinators c .stripe) [] [] (f (w .coordinators c .blocks) (w .coordinators c .stripe) [])
 
+    -- a crash: where nothing was begun, it is no event
     crash-made : (c : ℕ) → c ≤ lastCoordinator → (a : Answer) → CrashEnsures s (w .coordinators c) a
         → Made s (joined s r (driven s w c a (w .coordinators c .blocks) (w .coordinators c .stripe) []))
     unfolding step buffered
-    crash-made c l a f =
-        routine-made (crashes c untouched) c l (crashStep (s .n) (s .m) (s .size) (s .stripes)) (λ k. crash-short (s .n) (s .m) (s .size) (s .stripes) k)
-        (ap (coordinated s v c) (left-untouched s (crashStep (s .n) (s .m) (s .size) (s .stripes) (v .coordinators c))))
-        a (w .coordinators c .blocks) (w .coordinators c .stripe) [] [] (f (w .coordinators c .blocks) (w .coordinators c .stripe) [])
+    crash-made c l a f = go (agree .same-coordinator c l)
+      where
+        p : Buffered → Step
+        p k = crashStep (s .n) (s .m) (s .size) (s .stripes) k
+
+        short : Short (s .size) (p (w .coordinators c))
+        short = crash-short (s .n) (s .m) (s .size) (s .stripes) (w .coordinators c)
+
+        back : returned a (w .coordinators c .blocks) (w .coordinators c .stripe) [] ≡ returnedBy (w .coordinators c) [] (p (w .coordinators c))
+        back = f (w .coordinators c .blocks) (w .coordinators c .stripe) []
+
+        go : Alike s c (w .coordinators c) (v .coordinators c) → Made s (joined s r (driven s w c a (w .coordinators c .blocks) (w .coordinators c .stripe) []))
+        go (equal q) =
+            routine-made c (p (w .coordinators c)) short
+            (λ g e. (crashes c untouched, ap (coordinated s v c) (left-untouched s (p (v .coordinators c)) ∙ ap p (sym q) ∙ e)))
+            a (w .coordinators c .blocks) (w .coordinators c .stripe) [] [] back
+        go (begun-nothing last blocks stripe q _) =
+            made-still s r made (driven s w c a (w .coordinators c .blocks) (w .coordinators c .stripe) [])
+            (driven-is s w c (p (w .coordinators c)) a (w .coordinators c .blocks) (w .coordinators c .stripe) [] [] short back ∙ idle-crash s w c last blocks stripe q)
 
     -- a reply is handed on: with a buffer to send from of the right length, as in the run; with another it is refused
     take-made : (x : Reply) (block : List ℕ) → reply x block ∈ w .sent → (lent : List ℕ) → (x .held ≡ true → lent ≡ block)
@@ -227,7 +259,20 @@ module _ (s : Settings) where
         → TakeEnsures s (w .coordinators (coordinatorOf (x .time))) a x lent coded blocks′ stripe′ coded′
         → Made s (joined s r (driven s w (coordinatorOf (x .time)) a blocks′ stripe′ coded′))
     unfolding step arriving buffered
-    take-made x block was lent same coded a blocks′ stripe′ coded′ f = go (eqb (length coded) (s .n * s .size)) refl
+    take-made x block was lent same coded a blocks′ stripe′ coded′ f =
+        routine-made c (taking lent (length coded) (w .coordinators c))
+        (take-short (s .n) (s .m) (s .size) (s .stripes) (w .coordinators c) x lent (length coded))
+        (λ g e.
+        let long = took (s .n) (s .m) (s .size) (s .stripes) (w .coordinators c) x lent (length coded) g e .takes .coded-length in (
+          place .0,
+          place .1
+              ∙ ap (coordinated s v c)
+              (take-alike s c (w .coordinators c) (v .coordinators c) (agree .same-coordinator c low) x block (s .n * s .size) g
+              (ap (λ (long : ℕ). taking block long (w .coordinators c)) (sym long)
+              ∙ sym (unheld-blocks-make-no-difference (s .n) (s .m) (s .size) (s .stripes) (w .coordinators c) x lent block (length coded) same)
+              ∙ e)),
+        ))
+        a blocks′ stripe′ coded coded′ f
       where
         c : ℕ
         c = coordinatorOf (x .time)
@@ -235,33 +280,11 @@ module _ (s : Settings) where
         taking : List ℕ → ℕ → Buffered → Step
         taking beside long k = takeStep (s .n) (s .m) (s .size) (s .stripes) k x beside long
 
-        p : Step
-        p = taking lent (length coded) (w .coordinators c)
-
-        -- a reply that is not refused had the right length
-        not-taken : (length coded ≡ s .n * s .size → ⊥) → (q : Step) → p ≡ q → coordinated s w c q ≡ unmoved s w
-        not-taken n (refused number) e = unfold coordinated in refl
-        not-taken n (went g) e =
-            absurd (n (took (s .n) (s .m) (s .size) (s .stripes) (w .coordinators c) x lent (length coded) g e .takes .coded-length))
-
         low : c ≤ lastCoordinator
         low = let h : x .time % coordinatorCount < coordinatorCount = mod-lt (x .time) (omega arith) in omega (arith, h)
 
-        there : reply x block ∈ v .sent
-        there = subst (λ (l : List Item). reply x block ∈ l) (agree .same-sent) was
-
-        go : (t : Bool) → eqb (length coded) (s .n * s .size) ≡ t → Made s (joined s r (driven s w c a blocks′ stripe′ coded′))
-        go true e =
-            let place = place-of v there in
-            routine-made (arrives (place .0)) c low (taking block (s .n * s .size)) (λ k. take-short (s .n) (s .m) (s .size) (s .stripes) k x block (s .n * s .size))
-            (place .1) a blocks′ stripe′ coded coded′
-            (f ∙ ap (returnedBy (w .coordinators c) coded)
-            (unheld-blocks-make-no-difference (s .n) (s .m) (s .size) (s .stripes) (w .coordinators c) x lent block (length coded) same
-            ∙ ap (λ (long : ℕ). taking block long (w .coordinators c)) (eqb-true (length coded) (s .n * s .size) e)))
-        go false e =
-            made-still s r made (driven s w c a blocks′ stripe′ coded′)
-            (driven-is s w c p a blocks′ stripe′ coded coded′ (take-short (s .n) (s .m) (s .size) (s .stripes) (w .coordinators c) x lent (length coded)) f
-            ∙ not-taken (eqb-false (length coded) (s .n * s .size) e) p refl)
+        place : (e : Event) × (step s v e ≡ coordinated s v c (taking block (s .n * s .size) (v .coordinators c)))
+        place = let p = place-of v (subst (λ (l : List Item). reply x block ∈ l) (agree .same-sent) was) in (arrives (p .0), p .1)
 
     fails-made : (c : ℕ) → c ≤ lastCoordinator → (blocks stripe : List ℕ) → BufferLengths s blocks stripe → Made s (joined s r (failed s w c blocks stripe))
     fails-made c l blocks stripe f =

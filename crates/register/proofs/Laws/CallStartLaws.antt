@@ -21,7 +21,7 @@ use Rattle.register.specs.Runs.{plain, Item, World, freshSet, idle, Even
 use Rattle.register.specs.Runs.{Moved, unmoved, joined, putAt, onStripe, seenOf, broadcasts, coordinated}
 use Rattle.register.specs.Runs.{leftBy, step, runFrom, run}
 use Rattle.register.specs.Driver.{cutOf, backWith, failed}
-use Rattle.register.specs.CallLoop.{BufferLengths, Started}
+use Rattle.register.specs.CallLoop.{BufferLengths, Started, Alike, begun-nothing}
 use Rattle.register.proofs.Laws.AgreeLaws.{run-more, Made}
 use Rattle.register.proofs.Laws.DriverLaws.{seen-nowhere, left-lost}
 use Rattle.register.proofs.Laws.LendingLaws.{crash-goes-on, crash-leaves}
@@ -82,7 +82,7 @@ module _ (s : Settings) where
       is-up : (b : ℕ) → m .world .up b ≡ true
       nothing-sent : m .world .sent ≡ []
       is-idle : (c : ℕ) → m .world .coordinators c .state ≡ idleWith (geometryOf s) (record { coordinator = c; last = 0 })
-      lent-is : (c : ℕ) → c < k → w .coordinators c ≡ m .world .coordinators c
+      lent-is : (c : ℕ) → c < k → Alike s c (w .coordinators c) (m .world .coordinators c)
 
     lent-more : (k : ℕ) (m : Moved s) → k ≤ lastCoordinator → LentUpTo k m
         → LentUpTo (suc k) (joined s m (failed s (m .world) k (w .coordinators k .blocks) (w .coordinators k .stripe)))
@@ -99,20 +99,26 @@ module _ (s : Settings) where
           lent-is = λ c low. lent-at c low (eqb c k) refl;
         }
       where
+        lentWith : Coordinator → Buffered
+        lentWith y = record { state = y; blocks = w .coordinators k .blocks; stripe = w .coordinators k .stripe }
+
         x : Buffered
         x = backWith s k (m .world .coordinators k .state) (w .coordinators k .blocks) (w .coordinators k .stripe)
 
         counts : x .state ≡ idleWith (geometryOf s) (record { coordinator = k; last = 0 })
         counts = ap (λ (y : Coordinator). backWith s k y (w .coordinators k .blocks) (w .coordinators k .stripe) .state) (i .is-idle k)
 
+        with-state : {y z : Coordinator} → y ≡ z → lentWith y ≡ lentWith z
+        with-state e = ap lentWith e
+
         idle-at : (c : ℕ) (t : Bool) → eqb c k ≡ t → cond t x (m .world .coordinators c) .state ≡ idleWith (geometryOf s) (record { coordinator = c; last = 0 })
         idle-at c true e = counts ∙ ap (λ (j : ℕ). idleWith (geometryOf s) (record { coordinator = j; last = 0 })) (sym (eqb-true c k e))
         idle-at c false e = i .is-idle c
 
-        lent-at : (c : ℕ) → c < suc k → (t : Bool) → eqb c k ≡ t → w .coordinators c ≡ cond t x (m .world .coordinators c)
+        lent-at : (c : ℕ) → c < suc k → (t : Bool) → eqb c k ≡ t → Alike s c (w .coordinators c) (cond t x (m .world .coordinators c))
         lent-at c low true e =
-            ap (w .coordinators) (eqb-true c k e)
-            ∙ ap (λ (y : Coordinator). record { state = y; blocks = w .coordinators k .blocks; stripe = w .coordinators k .stripe }) (h .all-idle k l ∙ sym counts)
+            subst (λ (j : ℕ). Alike s j (w .coordinators j) x) (sym (eqb-true c k e))
+            (begun-nothing (h .last k) (w .coordinators k .blocks) (w .coordinators k .stripe) (with-state (h .all-idle k l)) (with-state counts))
         lent-at c low false e = let n = eqb-false c k e in i .lent-is c (omega (arith, low, n))
 
     lent-all : (k : ℕ) → k ≤ coordinatorCount → LentUpTo k (run s (lends w k))

@@ -16,12 +16,24 @@ use Rattle.coord_apply.specs.declared.Notice.{Notice}
 use Rattle.register.specs.Runs.{plain, Item, message, reply, World, Event, startWrite, startRead, startWriteBlock, startReadBlock, arrives}
 use Rattle.register.specs.Runs.{crashes, goesDown, comesUp, Moved, unmoved, onStripe, seenOf, coordinated, received, arriving, arrivingAt, standing, step}
 use Rattle.order.specs.Claim.{Seen}
+use Rattle.order.proofs.Laws.OrderCutLaws.{cut-at-two, after-one-list, there-or-away-for-both}
 use Rattle.order.proofs.Laws.StripeUseLaws.{whole-zeros-or-written, whole-stays-away, whole-until-another, whole-reads-agree, whole-written-is-read}
+use Rattle.register.specs.Corollaries.{OrderCutAtTwo, ReadsSeeOneStripe, StripeWriteIsThereOrAway}
 use Rattle.register.specs.Corollaries.{WriteStaysAway, WriteIsThereUntilAnother, ReadGivesOneWrite}
 use Rattle.register.specs.Corollaries.{CutWriteIsThereOrAway, WhatWasStoredIsThere, OneThingSeen, SeenOnOneStripe}
 use Rattle.register.proofs.Laws.BrickEvent.{either}
 use Rattle.register.proofs.Laws.DriverLaws.{seen-nowhere}
 use Rattle.register.proofs.Laws.TheoremProof.{every-run-has-one-order}
+
+pub order-cut-at-two : OrderCutAtTwo
+order-cut-at-two s e events stripe l t u x y a b v k = cut-at-two (every-run-has-one-order s e events stripe l) v k
+
+pub reads-see-one-stripe : ReadsSeeOneStripe
+reads-see-one-stripe s e events stripe l t u x y a b v k = after-one-list (every-run-has-one-order s e events stripe l) v k
+
+pub stripe-write-is-there-or-away : StripeWriteIsThereOrAway
+stripe-write-is-there-or-away s e events stripe l w t u c x y a b m f g v k =
+    there-or-away-for-both (every-run-has-one-order s e events stripe l) v k w c m f g
 
 pub write-stays-away : WriteStaysAway
 write-stays-away s e events stripe l w t u v a b none = whole-stays-away (every-run-has-one-order s e events stripe l) none w t u v a b

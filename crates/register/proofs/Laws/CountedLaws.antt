@@ -157,7 +157,6 @@ counting-keeps s g h sent c k r block coded w i t was =
           asked = x .asked;
           looked-lower = x .looked-lower;
           stored-lower = x .stored-lower;
-          recovered = x .recovered;
           cleared = x .cleared;
           storing = x .storing;
           modifying = x .modifying;

@@ -48,6 +48,16 @@ left-by s (lost blocks stripe) k P p f = go (buffersFit s blocks stripe) refl
     go true e = let w = long s blocks stripe e in f blocks stripe (w .0) (w .1)
     go false e = p
 
+-- its coordinator is idle afterwards
+pub crashed-idle : (n : ℕ) (k : Buffered) → crashed n k .next .state .op .kind ≡ idleKind
+unfolding crashed ending idleWith noOp
+crashed-idle n k = go (eqb (k .state .op .kind) idleKind) refl
+  where
+    go : (a : Bool) → eqb (k .state .op .kind) idleKind ≡ a
+        → cond a (record { next = k; sent = []; seen = nothingSeen }) (ending n k (k .stripe) [] cutSeen noBricks) .next .state .op .kind ≡ idleKind
+    go true e = eqb-true (k .state .op .kind) idleKind e
+    go false e = refl
+
 -- nothing is asked of an idle coordinator's buffers
 left-turned : (s : Settings) (g : SettingsRange s) (h : Hist s) (sent : List Item) (c : ℕ) (left : Left) (w : Went)
     → w .next .state .op .kind ≡ idleKind → ((a b : Buffered) → seenOf s (w .seen) a ≡ seenOf s (w .seen) b) → TurnedRound s g h sent c w

@@ -33,7 +33,7 @@ use Rattle.order.specs.Valid.{Began, Val, sets, OkLaunched, Valid}
 use Rattle.order.proofs.Laws.FactLaws.{ok-at, committed-up}
 use Rattle.register.specs.Runs.{plain, Item, message, reply, begunKind, seenOf, blockFor, oldFor, broadcasts}
 use Rattle.register.proofs.Laws.BegunLaws.{read-keeps, read-gives, write-says, same-begun, known-begun, writes-begun}
-use Rattle.register.proofs.Laws.Invariant.{quorums, Hist, Piece, MessageInv, ReplyInv, ItemInv, ReadFrom, Running, CoordinatorInv}
+use Rattle.register.proofs.Laws.Invariant.{quorums, Hist, Piece, MessageInv, ReplyInv, ItemInv, Running, CoordinatorInv}
 use Rattle.register.proofs.Laws.UpLaws.{in-cons}
 use Rattle.register.proofs.Laws.TurnLaws.{kind-of, turns-launched, in-broadcast, TurnedRound}
 use Rattle.register.proofs.Laws.RoundLaws.{ends, opens}
@@ -110,11 +110,10 @@ module _ (s : Settings) (g : SettingsRange s) (h : Hist s) (sent : List Item) (c
       → Stripe (s .m) (s .size) stripe
       → (k .state .op .kind ≡ writingBlockKind → Piece s (k .state .op .first) (blockOf (s .size) stripe (k .state .op .first)))
       → (thirdRound ≤ k .state .op .round → k .state .op .phase ≡ orderReadKind)
-      → (isReading (k .state .op .kind) ≡ true → ReadFrom s sent (nextOp (k .state .op) writeKind 0) bricks stripe)
       → begunKind s (nextRound k writeKind 0 bricks stripe (codedOf (s .n) (s .m) (s .size) stripe) .next) ≡ begunKind s k
       → TurnedRound s g h sent c (nextRound k writeKind 0 bricks stripe (codedOf (s .n) (s .m) (s .size) stripe))
   unfolding nextRound
-  launches source bricks stripe o value proper piece recovered-from read kept =
+  launches source bricks stripe o value proper piece recovered-from kept =
       opens s g h sent c k i n later writeKind 0 0 bricks stripe (codedOf (s .n) (s .m) (s .size) stripe) []
       (turns-launched s g c h v (k .state .op .time) source o (now .own) [] refl)
       (λ u w. old u (w .0) (in-cons (w .1)))
@@ -124,7 +123,6 @@ module _ (s : Settings) (g : SettingsRange s) (h : Hist s) (sent : List Item) (c
       (λ e. proper)
       piece
       (λ e. recovered-from)
-      (λ e. read)
       (λ e. absurd (omega (arith, e)))
       (λ e. ((source, in-top), value, proper))
       (λ e. absurd (omega (arith, e)))
@@ -173,7 +171,6 @@ module _ (s : Settings) (g : SettingsRange s) (h : Hist s) (sent : List Item) (c
         source = (write (k .stripe), k .stripe, w, λ z. refl);
       })
       (sets in-top (in-above w) (λ z. refl)) (now .proper kind) (now .piece) (λ l. absurd (omega (arith, l, round)))
-      (λ q. absurd (true≢false (sym q ∙ (unfold isReading in rw kind refl))))
       (unfold nextRound opened nextOp in same-begun s _ k refl refl refl)
     where
       ordered : (b : ℕ) → member (k .state .tally .counted) b ≡ true → In (promised b (k .state .op .time)) h

@@ -63,7 +63,7 @@ zero-block s g b l =
         let q = suc-mul b (s .size) in
         omega arith)
 
-zero-stripe : (s : Settings) (g : SettingsRange s) → Stripe (s .m) (s .size) (replicate (s .m * s .size) 0)
+pub zero-stripe : (s : Settings) (g : SettingsRange s) → Stripe (s .m) (s .size) (replicate (s .m * s .size) 0)
 zero-stripe s g =
     record {
       pos = g .code .size-low;

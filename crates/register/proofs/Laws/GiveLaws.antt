@@ -61,6 +61,13 @@ pub first-target : (n first : ℕ) → isTarget n blockTargets first first ≡ t
 unfolding isTarget stepsAbove
 first-target n first = rw (le-leb first first (omega arith)) (lt-ltb (first - first) blockTargets (omega arith))
 
+-- a target's yes to a Read holds a block
+pub target-holds : (phase : ℕ) (target granted held : Bool) (found : ℕ) → phase ≡ readKind → target ≡ true → granted ≡ true
+    → blockRight phase target granted held found ≡ true → held ≡ true
+target-holds phase target granted held found p t y q =
+    let z : blockRight phase target granted held found ≡ held = unfold blockRight in rw (eq-eqb phase readKind p, y, t) refl in
+    sym z ∙ q
+
 -- a coded block is of its size
 pub coded-sized : (s : Settings) (g : SettingsRange s) (full : List ℕ) (b : ℕ) → Stripe (s .m) (s .size) full → b < s .m
     → length (blockOf (s .size) full b) ≡ s .size
@@ -122,16 +129,11 @@ module _ (s : Settings) (g : SettingsRange s) (h : Hist s) (sent : List Item) (c
         let m = target-counted b l e in
         let x = now s g h sent c k v i items n .counts b m in
         let y = said-yes s g h sent c k v i items n yeses b m in
-        let held = holds (k .state .op .phase) (isTarget (s .n) asked (k .state .op .first) b) (x .from .yes) (x .from .held) (x .from .found) phase e y (x .right) in
+        let held = target-holds (k .state .op .phase) (isTarget (s .n) asked (k .state .op .first) b) (x .from .yes) (x .from .held) (x .from .found) phase e y (x .right) in
         let w = reply-at s g h sent c k v i items n b m .shows y (x .kind-is ∙ phase) held in
         subst (λ (u : ℕ). Means s h u b (blockOf (s .size) (k .blocks) b)) (found-newest b m)
         (subst (λ (z : ℕ). Means s h (x .from .found) z (blockOf (s .size) (k .blocks) b)) (x .brick-is)
         (subst (λ (z : List ℕ). Means s h (x .from .found) (x .from .brick) z) (sym (x .block-is held)) w))
-      where
-        holds : (ph : ℕ) (target granted held : Bool) (f : ℕ) → ph ≡ readKind → target ≡ true → granted ≡ true → blockRight ph target granted held f ≡ true → held ≡ true
-        holds ph target granted held f p t y q =
-            let z : blockRight ph target granted held f ≡ held = unfold blockRight in rw (eq-eqb ph readKind p, y, t) refl in
-            sym z ∙ q
 
     -- the stripe that the newest time stands for, and that what is given is what the read gives of it
     Shows : Type 0

@@ -14,30 +14,18 @@ use Rattle.settings.specs.Ranges.{maxBricks}
 use Rattle.message.specs.Kinds.{noComparison}
 use Rattle.coord_record.specs.Records.{idleKind, isReading, targetCount, noOp, noBricks, nothingCounted, idleWith}
 use Rattle.coord_record.specs.CountedRules.{countedRight, entryRight, saidRight, tallyRight, brickRight, bricksRight}
-use Rattle.coord_record.specs.Sound.{sameGeometry, opRight, unsetOp, namedCount}
+use Rattle.coord_record.specs.Sound.{opRight, unsetOp, namedCount}
 use Rattle.coord_record.specs.SoundParts.{SoundParts}
 use Rattle.coord_record.specs.declared.Coordinator.{Coordinator}
 use Rattle.coord_record.specs.declared.Geometry.{Geometry}
 use Rattle.coord_record.specs.declared.Op.{Op}
 use Rattle.coord_record.specs.declared.Tally.{Tally}
 use Rattle.coord_record.proofs.Laws.RecordSoundLaws.{time-idle}
+use Rattle.coord_record.proofs.Laws.SoundPartLaws.{made-for}
 use Rattle.coord_laws.specs.Soundness.{Sized}
 use Rattle.coord_laws.proofs.Laws.OpCaseLaws.{clash}
 use Rattle.coord_laws.proofs.Laws.TallyLaws.{zeros-at, entry-kept, said-kept}
 use Rattle.register.specs.Lending.{SixteenPlaces}
-
--- the settings that a sound record names
-pub made-for : (n m size stripes : ℕ) (g : Geometry) → sameGeometry n m size stripes g ≡ true → g ≡ record { n = n; m = m; size = size; stripes = stripes }
-unfolding sameGeometry
-made-for n m size stripes g e =
-    let three = and-left (eqb (g .n) n && eqb (g .m) m && eqb (g .size) size) (eqb (g .stripes) stripes) e in
-    let two = and-left (eqb (g .n) n && eqb (g .m) m) (eqb (g .size) size) three in
-    let a = eqb-true (g .n) n (and-left (eqb (g .n) n) (eqb (g .m) m) two) in
-    let b = eqb-true (g .m) m (and-right (eqb (g .n) n) (eqb (g .m) m) two) in
-    let d = eqb-true (g .size) size (and-right (eqb (g .n) n && eqb (g .m) m) (eqb (g .size) size) three) in
-    let f = eqb-true (g .stripes) stripes (and-right (eqb (g .n) n && eqb (g .m) m && eqb (g .size) size) (eqb (g .stripes) stripes) e) in
-    ap₂ (λ (x y : ℕ). record { n = x; m = y; size = g .size; stripes = g .stripes }) a b
-    ∙ ap₂ (λ (x y : ℕ). record { n = n; m = m; size = x; stripes = y }) d f
 
 -- a list of zeros
 all-zeros : (k : ℕ) (l : List ℕ) → length l ≡ k → ((i : ℕ) → i < k → getD l i 0 ≡ 0) → l ≡ replicate k 0

@@ -2,18 +2,17 @@
 -- coordinator.
 use mathlib.Core.Path.{_≡_}
 use mathlib.Core.Logic.{_⊎_}
-use mathlib.Core.Bool.{Bool, true, false, cond, not, _&&_}
+use mathlib.Core.Bool.{Bool, true, cond, not, _&&_}
 use mathlib.Core.List.{List, [], _∷_}
-use Prim.Native.Nat.{ℕ, _+_, _≤_, _<_}
+use Prim.Native.Nat.{ℕ, _≤_, _<_}
 use lib.Dec.{eqb}
 use lib.ListN.{length, getD}
-use Rattle.settings.specs.Count.{count}
 use Rattle.settings.specs.Ranges.{quorum, SettingsRange}
 use Rattle.settings.proofs.Laws.QuorumLaws.{quorum-twice}
 use Rattle.settings.specs.Times.{timeOf, coordinatorOf}
 use Rattle.settings.specs.declared.Settings.{Settings}
 use Rattle.byte_lists.specs.Each.{some}
-use Rattle.message.specs.Flags.{member, members}
+use Rattle.message.specs.Flags.{member}
 use Rattle.message.specs.Kinds.{readKind, orderKind, orderReadKind, orderBlockKind, writeKind, modifyKind, trimKind, dropKind, thirdRound}
 use Rattle.message.specs.Messages.{storesEntry}
 use Rattle.message.specs.declared.Message.{Message}
@@ -21,11 +20,9 @@ use Rattle.message.specs.declared.Reply.{Reply}
 use Rattle.image.specs.Brick.{Brick, entryCount, timeAt, meansAt, Sound}
 use Rattle.image.specs.Image.{imageOf}
 use Rattle.erasure.specs.Code.{codedOf, blockOf, withBlock, Stripe}
-use Rattle.coord_record.specs.Records.{idleKind, writingKind, writingBlockKind, isReading, targetCount, idleWith}
+use Rattle.coord_record.specs.Records.{idleKind, writingKind, writingBlockKind, targetCount, idleWith}
 use Rattle.coord_record.specs.CountedRules.{isTarget, blockRight}
-use Rattle.coord_record.specs.declared.Op.{Op}
-use Rattle.coord_tally.specs.Counting.{saidNo, highest, atTimes, firstGivers, picked}
-use Rattle.coord_blocks.specs.Blocks.{stripeFrom}
+use Rattle.coord_tally.specs.Counting.{highest}
 use Rattle.coord_apply.specs.Answers.{Buffered}
 use Rattle.coord_laws.specs.Soundness.{Sized}
 use Rattle.volume.specs.Rows.{imageAt}
@@ -178,24 +175,6 @@ pub record Lowered (sent : List Item) (time : ℕ) : Type 0 where
 abbrev pub topOf : Settings → Buffered → ℕ
 topOf s k = highest (k .state .tally .held) (k .state .tally .found) (s .n)
 
--- A read in its store: `was` is its coordinator with the q-th reply of the recovery round counted. The bricks named, the stripe and what every
--- block of the highest time is come from that.
-pub record ReadFrom (s : Settings) (sent : List Item) (op : Op) (row stripe : List ℕ) : Type 0 where
-  pub was : Buffered
-  pub phase-is : was .state .op .phase ≡ orderReadKind
-  pub time-is : was .state .op .time ≡ op .time
-  pub round-is : op .round ≡ was .state .op .round + 1
-  pub counts : (b : ℕ) → member (was .state .tally .counted) b ≡ true → CountedInv s sent was b
-  pub holds : (b : ℕ) → member (was .state .tally .held) b ≡ true → member (was .state .tally .counted) b ≡ true
-  pub full : members (was .state .tally .counted) (s .n) ≡ quorum (s .n) (s .m)
-  pub yeses : some (saidNo (was .state .tally .counted) (was .state .tally .granted)) (s .n) ≡ false
-  pub many : s .m ≤ count (atTimes (was .state .tally .held) (was .state .tally .found) (topOf s was)) (s .n)
-  pub row-is : row ≡ picked (was .state .tally .held) (was .state .tally .found) (topOf s was) (s .n) (s .m)
-  pub decoded : stripe
-      ≡ stripeFrom (s .m) (s .size) (firstGivers (was .state .tally .held) (was .state .tally .found) (topOf s was) (s .n) (s .m)) (was .blocks)
-  pub coded : (b : ℕ) → atTimes (was .state .tally .held) (was .state .tally .found) (topOf s was) b ≡ true
-      → blockOf (s .size) (was .blocks) b ≡ blockOf (s .size) (codedOf (s .n) (s .m) (s .size) stripe) b
-
 -- The running operation of coordinator c.
 pub record Running (s : Settings) (g : SettingsRange s) (h : Hist s) (sent : List Item) (c : ℕ) (k : Buffered) : Type 0 where
   pub own : coordinatorOf (k .state .op .time) ≡ c
@@ -211,8 +190,6 @@ pub record Running (s : Settings) (g : SettingsRange s) (h : Hist s) (sent : Lis
   -- a recovery past its first round has tried a lower time, and so has a store after that
   pub looked-lower : k .state .op .phase ≡ orderReadKind → thirdRound ≤ k .state .op .round → Lowered sent (k .state .op .time)
   pub stored-lower : k .state .op .phase ≡ writeKind → thirdRound < k .state .op .round → Lowered sent (k .state .op .time)
-  -- a read in its store has what its recovery round gave
-  pub recovered : k .state .op .phase ≡ writeKind → isReading (k .state .op .kind) ≡ true → ReadFrom s sent (k .state .op) (k .state .bricks) (k .stripe)
   -- in a recovery, every time from its bound on is gone
   pub cleared : k .state .op .phase ≡ orderReadKind → (u : ℕ) → k .state .op .max ≤ u → u < k .state .op .time → Gone (quorums s g) h u
   -- in a Write round, what is stored is what the operation's time stands for

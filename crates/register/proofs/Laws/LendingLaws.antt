@@ -38,7 +38,8 @@ use Rattle.coordinator.specs.Routines.{takeStep, crashed, crashStep}
 use Rattle.register.specs.Runs.{Event, repliedWith, run}
 use Rattle.register.specs.Driver.{holds, heldBlock}
 use Rattle.register.specs.Lending.{SameAnswer, LentBytesMakeNoDifference, UnheldBlocksMakeNoDifference, CrashIsIdleWith, AcceptedCrashIsIdleWith}
-use Rattle.register.proofs.Laws.IdleRecordLaws.{made-for, idle-record}
+use Rattle.coord_record.proofs.Laws.SoundPartLaws.{made-for}
+use Rattle.register.proofs.Laws.IdleRecordLaws.{idle-record}
 use Rattle.register.proofs.Laws.NeverRefusedLaws.{Rests, run-known, crashes-accepted}
 
 -- the reply's buffer is written where a block is held

@@ -156,7 +156,6 @@ module _ (s : Settings) (g : SettingsRange s) (h : Hist s) (sent : List Item) (c
       (λ e. absurd (omega (arith, e)))
       (λ e. absurd (omega (arith, e)))
       (λ e. absurd (omega (arith, e)))
-      (λ e. absurd (omega (arith, e)))
       (λ e. (over newest, in-top))
       messages
     where

@@ -21,6 +21,7 @@ use Rattle.message.specs.declared.Reply.{Reply}
 use Rattle.interpolate.proofs.Laws.BlockLaws.{length-blocksAt}
 use Rattle.erasure.specs.Code.{decodedOf, blockOf, blocksOf, withBlock}
 use Rattle.erasure.proofs.Laws.BlockOfLaws.{block-within, block-length, with-block-length}
+use Rattle.image.proofs.Laws.LogPlaceLaws.{lowest-held}
 use Rattle.image.specs.Parse.{parse}
 use Rattle.image.proofs.Laws.ParseLaws.{parse-image, range-of}
 use Rattle.volume.specs.Rows.{rowSize, rowOutcome}
@@ -143,7 +144,7 @@ module _ (s : Settings) (k : Buffered) (few : s .m ≤ s .n) (low : OneOfThem s 
       go false = acted-long (decided (s .n) (s .m) (k .state .op) (k .state .tally))
 
 -- a reply's block in its place
-counting-long : (s : Settings) (k : Buffered) (r : Reply) (block : List ℕ) (coded : ℕ) (w : Went) → ReplyTaken (s .n) (s .m) (s .size) (s .stripes) k r block coded w
+pub counting-long : (s : Settings) (k : Buffered) (r : Reply) (block : List ℕ) (coded : ℕ) (w : Went) → ReplyTaken (s .n) (s .m) (s .size) (s .stripes) k r block coded w
     → Long s (counting (s .size) k r block)
 unfolding counting
 counting-long s k r block coded w t = (go (r .held) refl, t .takes .stripe-length)
@@ -329,7 +330,7 @@ module _ (s : Settings) where
     unfolding standing unmoved
     stand-known b how = either (λ (m : Moved s). AllKnown s (m .world)) (ltb b (s .n)) _ _ f f
 
-    step-known : (e : Event) → AllKnown s (step s w e .world)
+    pub step-known : (e : Event) → AllKnown s (step s w e .world)
     unfolding step unmoved
     step-known (startWrite c number reading content) =
         either (λ (m : Moved s). AllKnown s (m .world)) (areBytes content) _ _
@@ -372,14 +373,14 @@ run-known s e =
 pub records-open : RecordsOpen
 records-open s e events c l = fine s c (run s events .world .coordinators c) (run-known s e events c l)
 
-code-accepted : (s : Settings) → inRange s ≡ true → codeRefusal (s .n) (s .m) (s .size) ≡ passed
+pub code-accepted : (s : Settings) → inRange s ≡ true → codeRefusal (s .n) (s .m) (s .size) ≡ passed
 unfolding codeRefusal inRange
 code-accepted s e =
     rw
     (and-left (bricksInRange (s .n) (s .m) && sizeInRange (s .size)) (capacityInRange (s .capacity))
     (and-left (bricksInRange (s .n) (s .m) && sizeInRange (s .size) && capacityInRange (s .capacity)) (stripesInRange (s .stripes)) e)) refl
 
-stripes-accepted : (s : Settings) → inRange s ≡ true → stripeCountRefusal (s .stripes) ≡ passed
+pub stripes-accepted : (s : Settings) → inRange s ≡ true → stripeCountRefusal (s .stripes) ≡ passed
 unfolding stripeCountRefusal inRange
 stripes-accepted s e =
     rw (and-right (bricksInRange (s .n) (s .m) && sizeInRange (s .size) && capacityInRange (s .capacity)) (stripesInRange (s .stripes)) e) refl
@@ -398,7 +399,7 @@ pub images-open : ImagesOpen
 unfolding view
 images-open s e events stripe b h l =
     let w = run-holds s (range-of s e) stripe h events .1 .bricks b l in
-    (w .state, ap (parse s b) (w .saved) ∙ parse-image s b (w .state) e l (w .sound))
+    (w .state, ap (parse s b) (w .saved) ∙ parse-image s b (w .state) e l (w .sound), lowest-held s (w .state) (w .sound))
 
 -- the row of each brick
 abbrev RowsRight : (s : Settings) → World → Type 0

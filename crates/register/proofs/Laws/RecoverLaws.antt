@@ -1,14 +1,14 @@
 -- The q-th reply decides: another round of recovery, or the Write round of a recovered stripe.
 use mathlib.Core.Path.{_≡_, refl, sym, ap, subst, _∙_}
 use mathlib.Core.Logic.{_⊎_, inl, inr}
-use mathlib.Core.Bool.{Bool, true, false, cond, true≢false, _&&_}
+use mathlib.Core.Bool.{Bool, true, false, cond, _&&_}
 use mathlib.Core.List.{List, []}
 use Prim.Native.Nat.{ℕ, zero, suc, _≤_, _<_, max}
 use native.Mathlib.Omega.{arith}
 use native.Mathlib.Decide.{decLt, ℕ-discrete}
 use lib.Dec.{T, eqb}
 use lib.ListN.{length, getD}
-use borrow.Author.Tests.{eqb-true, eq-eqb, ne-eqb}
+use borrow.Author.Tests.{eqb-true, eq-eqb}
 use Rattle.message.specs.Kinds.{orderReadKind, writeKind, modifyKind, trimKind, dropKind}
 use Rattle.settings.specs.Count.{count}
 use Rattle.settings.specs.Ranges.{quorum}
@@ -19,7 +19,7 @@ use Rattle.message.specs.Flags.{member, members}
 use Rattle.erasure.specs.Code.{codedOf}
 use Rattle.erasure.specs.Code.{blockOf, Stripe, Bricks}
 use Rattle.byte_lists.specs.Each.{some}
-use Rattle.coord_record.specs.Records.{noBricks, idleKind, writingBlockKind, isReading}
+use Rattle.coord_record.specs.Records.{noBricks, idleKind}
 use Rattle.coord_laws.specs.OpCases.{canRecover}
 use Rattle.coord_tally.specs.Counting.{saidNo, highest, atTime, atTimes, firstGivers}
 use Rattle.coord_tally.specs.FirstTheorem.{FirstOf, Passing}
@@ -43,7 +43,7 @@ use Rattle.order.proofs.Laws.GoneLaws.{gone-up, round-gone}
 use Rattle.order.proofs.Laws.ValueLaws.{val-up, one-value}
 use Rattle.register.specs.Runs.{Item, blockFor, oldFor}
 use Rattle.register.proofs.Laws.BegunLaws.{same-begun, known-begun, stored-effect, stored-proper, piece-stored, begun-stored}
-use Rattle.register.proofs.Laws.Invariant.{quorums, Hist, Means, Stands, Piece, MessageInv, ItemInv, CountedInv, Looked, topOf, ReadFrom, Running, CoordinatorInv}
+use Rattle.register.proofs.Laws.Invariant.{quorums, Hist, Means, Stands, Piece, MessageInv, ItemInv, CountedInv, Looked, topOf, Running, CoordinatorInv}
 use Rattle.register.proofs.Laws.TurnLaws.{turns-not, TurnedRound, turned-first}
 use Rattle.register.proofs.Laws.RoundLaws.{opens}
 use Rattle.register.proofs.Laws.DecodeLaws.{first-bricks, giver-bricks}
@@ -122,7 +122,6 @@ module _ (s : Settings) (g : SettingsRange s) (h : Hist s) (sent : List Item) (c
       (unfold opened nextOp in same-begun s _ k refl refl refl)
       (r .proper)
       (r .piece)
-      (λ e. absurd (omega (arith, e)))
       (λ e. absurd (omega (arith, e)))
       (λ e u l m. gone u l m)
       (λ e. absurd (omega (arith, e)))
@@ -304,35 +303,12 @@ module _ (s : Settings) (g : SettingsRange s) (h : Hist s) (sent : List Item) (c
           (first-bricks (s .n) (s .m) (g .code .n-high) (omega (arith, g .code .n-low)) (g .code .m-high) (λ b w. w .0) chosen-first)
           (λ j l. gave (getD chosen j 0) (chosen-first .of-the-set j (omega (arith, l, chosen-first .as-many)) .1) .2)
 
-      -- what a read stores is what was decoded
-      stored-read : isReading (k .state .op .kind) ≡ true
-          → recoveredStripe (s .n) (s .m) (s .size) k (topOf s k) ≡ stripeFrom (s .m) (s .size) chosen (k .blocks)
-      unfolding storedStripe
-      stored-read q = rw (ne-eqb (k .state .op .kind) writingBlockKind (λ z. true≢false (sym q ∙ (unfold isReading in rw z refl)))) refl
-
-      read-from : members (k .state .tally .counted) (s .n) ≡ quorum (s .n) (s .m) → isReading (k .state .op .kind) ≡ true
-          → ReadFrom s sent (nextOp (k .state .op) writeKind 0) (namedBricks (k .state .op) (pickedAt (s .n) (s .m) k (topOf s k))) (recoveredStripe (s .n) (s .m) (s .size) k (topOf s k))
-      unfolding nextOp namedBricks
-      read-from full q =
-          record {
-            was = k;
-            phase-is = phase;
-            time-is = refl;
-            round-is = refl;
-            counts = counts-at;
-            holds = now s g h sent c k v i items n .holds;
-            full = full;
-            yeses = yeses;
-            many = many;
-            row-is = rw q refl;
-            decoded = stored-read q;
-            coded = λ b e. (
-                let w = gave b e .2 in
-                w .coded
-                ∙ ap (λ (x : List ℕ). blockOf (s .size) (codedOf (s .n) (s .m) (s .size) x) b)
-                (one-value v (w .value) (decoded .value) refl ∙ sym (stored-read q ∙ decoded .gives))
-                );
-          }
+      -- every block of the highest time is the coded block of what was decoded
+      pub top-coded : (b : ℕ) → atTimes (k .state .tally .held) (k .state .tally .found) (topOf s k) b ≡ true
+          → blockOf (s .size) (k .blocks) b ≡ blockOf (s .size) (codedOf (s .n) (s .m) (s .size) (stripeFrom (s .m) (s .size) chosen (k .blocks))) b
+      top-coded b e =
+          let w = gave b e .2 in
+          w .coded ∙ ap (λ (x : List ℕ). blockOf (s .size) (codedOf (s .n) (s .m) (s .size) x) b) (one-value v (w .value) (decoded .value) refl ∙ sym (decoded .gives))
 
       abbrev round : Went
       round =
@@ -340,8 +316,8 @@ module _ (s : Settings) (g : SettingsRange s) (h : Hist s) (sent : List Item) (c
           (codedOf (s .n) (s .m) (s .size) (recoveredStripe (s .n) (s .m) (s .size) k (topOf s k)))
 
       -- the Write round of a recovered stripe, or of one with its block replaced
-      does-store-recovered : members (k .state .tally .counted) (s .n) ≡ quorum (s .n) (s .m) → canRecover (k .state .op .kind) ≡ true → TurnedRound s g h sent c round
-      does-store-recovered full kind =
+      does-store-recovered : canRecover (k .state .op .kind) ≡ true → TurnedRound s g h sent c round
+      does-store-recovered kind =
           launches s g h sent c k v i items n (over (topOf s k)) (namedBricks (k .state .op) (pickedAt (s .n) (s .m) k (topOf s k))) stored-stripe
           (record {
             known = known-begun r;
@@ -355,7 +331,6 @@ module _ (s : Settings) (g : SettingsRange s) (h : Hist s) (sent : List Item) (c
           (λ q. subst (λ (z : List ℕ). Piece s (k .state .op .first) (blockOf (s .size) z (k .state .op .first))) (sym stored-is)
           (piece-stored s k (decoded .full) (decoded .proper) (r .piece) q))
           (λ l. phase)
-          (read-from full)
           (unfold nextRound opened nextOp in begun-stored s k (decoded .full) (decoded .proper) (r .piece) kind _ refl refl stored-is)
         where
           stored-stripe : List ℕ
@@ -389,16 +364,16 @@ module _ (s : Settings) (g : SettingsRange s) (h : Hist s) (sent : List Item) (c
           stood (inr w) = w
 
       -- after the early Trim, if all q hold the time
-      does-store-first : members (k .state .tally .counted) (s .n) ≡ quorum (s .n) (s .m) → canRecover (k .state .op .kind) ≡ true
+      does-store-first : canRecover (k .state .op .kind) ≡ true
           → TurnedRound s g h sent c (storing (s .n) (s .m) (s .size) k (topOf s k))
       unfolding sendingFirst nextRound
-      does-store-first full kind =
+      does-store-first kind =
           trims-either (s .n) (s .m) (k .state .op) (k .state .tally) (topOf s k) (λ first. TurnedRound s g h sent c (sendingFirst first round))
-          (λ _. does-store-recovered full kind)
-          (λ e. turned-first s g h sent c round (clearing trimKind (k .state .op) (topOf s k)) (λ q. unfold clearing clearMessage in omega (arith, q)) (does-store-recovered full kind) (trim e))
+          (λ _. does-store-recovered kind)
+          (λ e. turned-first s g h sent c round (clearing trimKind (k .state .op) (topOf s k)) (λ q. unfold clearing clearMessage in omega (arith, q)) (does-store-recovered kind) (trim e))
         where
           trim : TrimsEarly (s .n) (s .m) (k .state .tally) (topOf s k) → (b : ℕ) → b < s .n
-              → MessageInv s g (does-store-recovered full kind .later) b (clearing trimKind (k .state .op) (topOf s k) .message)
+              → MessageInv s g (does-store-recovered kind .later) b (clearing trimKind (k .state .op) (topOf s k) .message)
               (blockFor s (clearing trimKind (k .state .op) (topOf s k)) b) (oldFor s (clearing trimKind (k .state .op) (topOf s k)))
           trim e b l =
               unfold clearing clearMessage in
@@ -407,11 +382,11 @@ module _ (s : Settings) (g : SettingsRange s) (h : Hist s) (sent : List Item) (c
                 asks = λ q. absurd (omega (arith, q));
                 stores = λ q. absurd (omega (arith, q));
                 modifies = λ q. absurd (omega (arith, q));
-                trims = λ q. (omega (arith, e .not-first), committed-up (quorums s g) (does-store-recovered full kind .turns .longer) (all-stored e));
+                trims = λ q. (omega (arith, e .not-first), committed-up (quorums s g) (does-store-recovered kind .turns .longer) (all-stored e));
                 drops = λ q. absurd (omega (arith, q));
               })
 
-      pub does-recover : members (k .state .tally .counted) (s .n) ≡ quorum (s .n) (s .m) → canRecover (k .state .op .kind) ≡ true
+      pub does-recover : canRecover (k .state .op .kind) ≡ true
           → TurnedRound s g h sent c (acted (s .n) (s .m) (s .size) k (Recover (topOf s k)))
-      does-recover full kind =
-          subst (TurnedRound s g h sent c) (sym (recover-agreed (s .n) (s .m) (s .size) k (topOf s k) agrees)) (does-store-first full kind)
+      does-recover kind =
+          subst (TurnedRound s g h sent c) (sym (recover-agreed (s .n) (s .m) (s .size) k (topOf s k) agrees)) (does-store-first kind)

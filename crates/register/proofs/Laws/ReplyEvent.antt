@@ -33,7 +33,7 @@ use Rattle.register.specs.Runs.{Item, reply}
 use Rattle.register.proofs.Laws.Invariant.{quorums, Hist, ItemInv, topOf, CoordinatorInv}
 use Rattle.register.proofs.Laws.TurnLaws.{TurnedRound}
 use Rattle.register.proofs.Laws.RoundLaws.{stays}
-use Rattle.register.proofs.Laws.CountedLaws.{qth-exactly, counting-keeps}
+use Rattle.register.proofs.Laws.CountedLaws.{counting-keeps}
 use Rattle.register.proofs.Laws.GiveLaws.{does-give}
 use Rattle.register.proofs.Laws.ModifyLaws.{does-modify}
 use Rattle.register.proofs.Laws.DecisionLaws.{decided-reading, decided-ordering, decided-block-ordering, decided-looking, decided-storing}
@@ -43,10 +43,7 @@ use Rattle.register.proofs.Laws.RecoverLaws.{does-look, gone-from, gone
 module _ (s : Settings) (g : SettingsRange s) (h : Hist s) (sent : List Item) (c : ℕ) (k : Buffered) (v : Valid (quorums s g) h)
     (i : CoordinatorInv s g h sent c k) (items : (z : Item) → z ∈ sent → ItemInv s g h sent z) (n : k .state .op .kind ≡ idleKind → ⊥)
     (low : k .state .op .first < s .n) (block-low : onBlock (k .state .op .kind) ≡ true → k .state .op .first < s .m)
-    (long : length (k .stripe) ≡ s .m * s .size) (full : members (k .state .tally .counted) (s .n) ≡ quorum (s .n) (s .m)) where
-  enough : quorum (s .n) (s .m) ≤ members (k .state .tally .counted) (s .n)
-  enough = omega (arith, full)
-
+    (long : length (k .stripe) ≡ s .m * s .size) (enough : quorum (s .n) (s .m) ≤ members (k .state .tally .counted) (s .n)) where
   turned : Decision → Type 0
   turned d = TurnedRound s g h sent c (acted (s .n) (s .m) (s .size) k d)
 
@@ -93,7 +90,7 @@ module _ (s : Settings) (g : SettingsRange s) (h : Hist s) (sent : List Item) (c
       go false false true z false ex ey ez = abort
       go false false true z true ex ey ez =
           does-recover s g h sent c k v i items n phase ex enough
-          (leb-true (s .m) (count (atTimes (k .state .tally .held) (k .state .tally .found) (topOf s k)) (s .n)) ey) full kind
+          (leb-true (s .m) (count (atTimes (k .state .tally .held) (k .state .tally .found) (topOf s k)) (s .n)) ey) kind
       go false false false true f ex ey ez = abort
       go false false false false false ex ey ez = abort
       go false false false false true ex ey ez =
@@ -183,8 +180,7 @@ reply-turned s g h sent c k v i items a block was w e =
         let f = o .fits p in
         unfold counting withTally in
         (does-decide s g h sent c after v (counting-keeps s g h sent c k a block (s .n * s .size) w i t was) items
-        (busy f) (o .first-low) (o .block-low) (t .takes .stripe-length)
-        (qth-exactly s k a block (s .n * s .size) w t (ltb-false (members (after .state .tally .counted) (s .n)) (quorum (s .n) (s .m)) e)) f
+        (busy f) (o .first-low) (o .block-low) (t .takes .stripe-length) (ltb-false (members (after .state .tally .counted) (s .n)) (quorum (s .n) (s .m)) e) f
         (o .time-high (kind-low f)))
       where
         runs : Fit (k .state .op) → k .state .op .kind ≡ idleKind → ⊥

@@ -4,7 +4,7 @@ use mathlib.Core.Logic.{_⊎_, inl, inr}
 use mathlib.Core.List.{List, [], _∷_, _++_, append-nil, List·Memᴰ·not-nil, List·Memᴰ·append-cases, Memᴰ·append-right}
 use Prim.Native.Nat.{ℕ, _+_, _≤_, _<_}
 use native.Mathlib.Omega.{arith}
-use mathlib.Core.Bool.{true, cond}
+use mathlib.Core.Bool.{cond}
 use Rattle.message.specs.Kinds.{orderReadKind, writeKind, modifyKind, thirdRound}
 use Rattle.message.specs.Messages.{namesBlock}
 use Rattle.settings.specs.Times.{coordinatorOf}
@@ -12,7 +12,7 @@ use Rattle.settings.specs.Ranges.{SettingsRange}
 use Rattle.settings.specs.declared.Settings.{Settings}
 use Rattle.message.specs.declared.Message.{Message}
 use Rattle.erasure.specs.Code.{blockOf, Stripe}
-use Rattle.coord_record.specs.Records.{nothingCounted, noBricks, noOp, idleWith, idleKind, writingKind, writingBlockKind, isReading}
+use Rattle.coord_record.specs.Records.{nothingCounted, noBricks, noOp, idleWith, idleKind, writingKind, writingBlockKind}
 use Rattle.coord_apply.specs.Acts.{roundMessage, nextOp, opened, ending}
 use Rattle.coord_apply.specs.Answers.{Buffered, Broadcast, Went, nothingSeen}
 use Rattle.coord_laws.proofs.Laws.SoundnessLaws.{none-sized}
@@ -22,8 +22,8 @@ use Rattle.order.specs.Places.{In}
 use Rattle.order.proofs.Laws.PlaceLaws.{in-suf}
 use Rattle.order.specs.Valid.{Began, Launched, Ended, Val, Gone, OkEnded, Valid}
 use Rattle.register.specs.Runs.{plain, Item, message, reply, begunKind, seenOf, blockFor, oldFor, broadcasts}
-use Rattle.register.proofs.Laws.Invariant.{quorums, Hist, Piece, MessageInv, ItemInv, Asked, Lowered, ReadFrom, Running, CoordinatorInv}
-use Rattle.register.proofs.Laws.UpLaws.{in-cons, within-more, lowered-sent, read-sent}
+use Rattle.register.proofs.Laws.Invariant.{quorums, Hist, Piece, MessageInv, ItemInv, Asked, Lowered, Running, CoordinatorInv}
+use Rattle.register.proofs.Laws.UpLaws.{in-cons, within-more, lowered-sent}
 use Rattle.register.proofs.Laws.TurnLaws.{time-of, kind-of, round-of, Turns, turns-not, turns-ended, in-broadcast, some-broadcast, TurnedRound}
 use Rattle.register.proofs.Laws.StartEvent.{none-member}
 
@@ -91,7 +91,6 @@ module _ (s : Settings) (g : SettingsRange s) (h : Hist s) (sent : List Item) (c
       → (k .state .op .kind ≡ writingKind → Stripe (s .m) (s .size) stripe)
       → (k .state .op .kind ≡ writingBlockKind → Piece s (k .state .op .first) (blockOf (s .size) stripe (k .state .op .first)))
       → (phase ≡ writeKind → thirdRound ≤ k .state .op .round → k .state .op .phase ≡ orderReadKind)
-      → (phase ≡ writeKind → isReading (k .state .op .kind) ≡ true → ReadFrom s sent (nextOp (k .state .op) phase max) bricks stripe)
       → (phase ≡ orderReadKind → (u : ℕ) → max ≤ u → u < k .state .op .time → Gone (quorums s g) h′ u)
       → (phase ≡ writeKind → Launched h′ (k .state .op .time) × Val h′ (k .state .op .time) stripe × Stripe (s .m) (s .size) stripe)
       → (phase ≡ modifyKind → Launched h′ (k .state .op .time))
@@ -101,7 +100,7 @@ module _ (s : Settings) (g : SettingsRange s) (h : Hist s) (sent : List Item) (c
       (oldFor s (record { message = roundMessage (nextOp (k .state .op) phase max) time noBricks; blocks = coded; old = old })))
       → TurnedRound s g h sent c (roundWent k phase max time bricks stripe coded old)
   unfolding opened seenOf nothingSeen nothingCounted nextOp roundMessage
-  opens n h′ phase max time bricks stripe coded old turns same unended unsent kept proper piece stored recovered cleared storing modifying messages =
+  opens n h′ phase max time bricks stripe coded old turns same unended unsent kept proper piece stored cleared storing modifying messages =
       record {
         later = h′;
         turns = turns;
@@ -186,7 +185,6 @@ module _ (s : Settings) (g : SettingsRange s) (h : Hist s) (sent : List Item) (c
             asked = asked;
             looked-lower = looked-lower;
             stored-lower = stored-lower;
-            recovered = λ e q. read-sent (within-more sent (broadcasts s (sending ∷ []))) (recovered e q);
             cleared = cleared;
             storing = storing;
             modifying = modifying;

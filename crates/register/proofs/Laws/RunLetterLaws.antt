@@ -22,12 +22,11 @@ use Rattle.message.specs.Kinds.{readKind, orderReadKind, writeKind, secondRound
 use Rattle.message.specs.Messages.{storesEntry}
 use Rattle.message.specs.declared.Message.{Message}
 use Rattle.message.specs.declared.Reply.{Reply}
-use Rattle.coord_record.specs.CountedRules.{isTarget}
-use Rattle.coord_record.specs.Records.{idleKind, isReading, targetCount}
+use Rattle.coord_record.specs.Records.{idleKind, isReading}
 use Rattle.coord_record.specs.Sound.{opRight}
 use Rattle.coord_record.specs.declared.Op.{Op}
 use Rattle.coord_record.specs.declared.Tally.{Tally}
-use Rattle.coord_tally.specs.Counting.{saidNo, otherTime, missing, highest, atTime, atTimes}
+use Rattle.coord_tally.specs.Counting.{saidNo, highest, atTime, atTimes}
 use Rattle.coord_letters.specs.Letters.{noLetter, letterO, letterG, letterW, letterX, readLetter, saidOther, abortLetter}
 use Rattle.coord_letters.proofs.Laws.LetterLaws.{letter-f, letter-h, letter-l, letter-x}
 use Rattle.coord_decide.specs.Deciding.{decided}
@@ -45,7 +44,7 @@ use Rattle.coord_laws.proofs.Laws.SoundnessLaws.{passes}
 use Rattle.coord_laws.proofs.Laws.StepRunLaws.{ReplyTaken, took}
 use Rattle.coord_laws.proofs.Laws.StripeLaws.{taken-stripe, taken-runs}
 use Rattle.order.specs.Claim.{_∈_}
-use Rattle.register.specs.RunLetters.{Met, AllSaidYes, SaidNo, Tells, read-at-once, first-time, lower-time, written, order-told-no, full-logs, other-no, nothing-found}
+use Rattle.register.specs.RunLetters.{Counted, keptReply, Met, AllSaidYes, SaidNo, Tells, read-at-once, first-time, lower-time, written, order-told-no, full-logs, other-no, nothing-found}
 use Rattle.register.specs.RunLetters.{LettersTellTheReplies}
 use Rattle.register.specs.Recoveries.{addressee}
 use Rattle.register.specs.Runs.{Item, message, reply, Event, run}
@@ -53,7 +52,7 @@ use Rattle.register.proofs.Laws.AgreementLaws.{no-recovery-disagrees}
 use Rattle.register.proofs.Laws.CountedLaws.{qth-exactly, counting-keeps}
 use Rattle.register.proofs.Laws.DecideLaws.{true-T, T-true}
 use Rattle.register.proofs.Laws.Invariant.{Hist, Running, CoordinatorInv, itemOn, itemsOn, view, Inv}
-use Rattle.register.proofs.Laws.MetLaws.{and-not, met-by, met-yes}
+use Rattle.register.proofs.Laws.MetLaws.{and-not, met-by, met-yes, one-newest, targets-counted}
 use Rattle.register.proofs.Laws.RecoverLaws.{highest-most}
 use Rattle.register.proofs.Laws.StripeViewLaws.{in-items, of-items, viewed-here}
 use Rattle.register.proofs.Laws.TheoremProof.{run-holds}
@@ -61,8 +60,7 @@ use Rattle.register.proofs.Laws.TheoremProof.{run-holds}
 -- A coordinator that has counted its q-th reply, on the stripe that it runs on: `all` is what was sent, on any stripe.
 module _ (s : Settings) (g : SettingsRange s) (h : Hist s) (all : List Item) (c : ℕ) (k : Buffered)
     (i : CoordinatorInv s g h (itemsOn (k .state .op .stripe) all) c k) (runs : k .state .op .kind ≡ idleKind → ⊥)
-    (right : opRight (k .state .op) ≡ true) (fits : Fit (k .state .op))
-    (full : members (k .state .tally .counted) (s .n) ≡ quorum (s .n) (s .m)) where
+    (right : opRight (k .state .op) ≡ true) (fits : Fit (k .state .op)) where
   abbrev op : Op
   op = k .state .op
 
@@ -72,44 +70,40 @@ module _ (s : Settings) (g : SettingsRange s) (h : Hist s) (all : List Item) (c 
   now : Running s g h (itemsOn (k .state .op .stripe) all) c k
   now = i .runs runs
 
-  met : Met s all (k .state .op)
-  met = met-by s all (k .state .op) k refl refl refl (now .counts) full
+  low : (b : ℕ) → Counted k b → b < s .n
+  low b e = now .counts b e .low
 
   -- what is counted is what was said
-  all-yes : AllYes (s .n) t → AllSaidYes met
-  unfolding AllYes met
-  all-yes y = met-yes s all (k .state .op) k refl refl refl (now .counts) full y
+  all-yes : AllYes (s .n) t → AllSaidYes k
+  unfolding AllYes
+  all-yes y = met-yes s k low y
 
-  no-from : (b : ℕ) → saidNo (t .counted) (t .granted) b ≡ true → SaidNo met b
-  unfolding saidNo met met-by
+  no-from : (b : ℕ) → saidNo (t .counted) (t .granted) b ≡ true → SaidNo k b
+  unfolding saidNo
   no-from b q =
-      let e = and-left (member (k .state .tally .counted) b) (not (member (k .state .tally .granted) b)) q in
-      (e, now .counts b e .yes-is ∙ not-true (member (k .state .tally .granted) b) (and-right (member (k .state .tally .counted) b) (not (member (k .state .tally .granted) b)) q))
+      (and-left (member (t .counted) b) (not (member (t .granted) b)) q, not-true (member (t .granted) b) (and-right (member (t .counted) b) (not (member (t .granted) b)) q))
 
-  no-counted : (b : ℕ) → SaidNo met b → saidNo (t .counted) (t .granted) b ≡ true
-  unfolding saidNo met met-by
-  no-counted b n = rw (n .0, sym (now .counts b (n .0) .yes-is) ∙ n .1) refl
+  no-counted : (b : ℕ) → SaidNo k b → saidNo (t .counted) (t .granted) b ≡ true
+  unfolding saidNo
+  no-counted b n = rw (n .0, n .1) refl
 
   -- a no that was not that of a full log, and where there is none
-  other-from : (b : ℕ) → saidOther (t .counted) (t .granted) (t .said) b ≡ true → (n : SaidNo met b) × (met .reply-of b (n .0) .comparison ≢ fullLog)
-  unfolding saidOther met met-by
-  other-from b q =
-      let said = no-from b (and-left (saidNo (t .counted) (t .granted) b) (not (eqb (getD (t .said) b 0) fullLog)) q) in (
-        said,
-        λ z. true≢false (sym (and-right (saidNo (t .counted) (t .granted) b) (not (eqb (getD (t .said) b 0) fullLog)) q)
-            ∙ ap not (eq-eqb (getD (t .said) b 0) fullLog (sym (now .counts b (said .0) .said-is) ∙ z))),
-      )
+  other-from : (b : ℕ) → saidOther (t .counted) (t .granted) (t .said) b ≡ true → SaidNo k b × (keptReply k b .comparison ≢ fullLog)
+  unfolding saidOther
+  other-from b q = (
+    no-from b (and-left (saidNo (t .counted) (t .granted) b) (not (eqb (getD (t .said) b 0) fullLog)) q),
+    λ z. true≢false (sym (and-right (saidNo (t .counted) (t .granted) b) (not (eqb (getD (t .said) b 0) fullLog)) q) ∙ ap not (eq-eqb (getD (t .said) b 0) fullLog z)),
+  )
 
-  full-from : some (saidOther (t .counted) (t .granted) (t .said)) (s .n) ≡ false → (b : ℕ) (n : SaidNo met b) → met .reply-of b (n .0) .comparison ≡ fullLog
-  unfolding saidOther met met-by
+  full-from : some (saidOther (t .counted) (t .granted) (t .said)) (s .n) ≡ false → (b : ℕ) → SaidNo k b → keptReply k b .comparison ≡ fullLog
+  unfolding saidOther
   full-from e b said =
-      now .counts b (said .0) .said-is
-      ∙ eqb-true (getD (t .said) b 0) fullLog
+      eqb-true (getD (t .said) b 0) fullLog
       (and-not (saidNo (t .counted) (t .granted) b) (eqb (getD (t .said) b 0) fullLog) (no-counted b said)
-      (some-at (saidOther (t .counted) (t .granted) (t .said)) (s .n) b e (now .counts b (said .0) .low)))
+      (some-at (saidOther (t .counted) (t .granted) (t .said)) (s .n) b e (low b (said .0))))
 
   -- ABORTED. A counted brick said no:
-  refused-letter : (op .phase ≡ readKind → ⊥) → some (saidNo (t .counted) (t .granted)) (s .n) ≡ true → Tells s all op met (abortLetter (s .n) op t)
+  refused-letter : (op .phase ≡ readKind → ⊥) → some (saidNo (t .counted) (t .granted)) (s .n) ≡ true → Tells s all k (abortLetter (s .n) op t)
   unfolding abortLetter
   refused-letter p e = rw e (go (storesEntry (op .phase)) refl (some (saidOther (t .counted) (t .granted) (t .said)) (s .n)) refl)
     where
@@ -117,7 +111,7 @@ module _ (s : Settings) (g : SettingsRange s) (h : Hist s) (all : List Item) (c 
       told = some-witness (saidNo (t .counted) (t .granted)) (s .n) e
 
       go : (x : Bool) → storesEntry (op .phase) ≡ x → (y : Bool) → some (saidOther (t .counted) (t .granted) (t .said)) (s .n) ≡ y
-          → Tells s all op met (cond x (cond y letterW letterG) letterO)
+          → Tells s all k (cond x (cond y letterW letterG) letterO)
       go false ex y ey = order-told-no ex p (told .0) (no-from (told .0) (told .2))
       go true ex true ey =
           let w = some-witness (saidOther (t .counted) (t .granted) (t .said)) (s .n) ey in
@@ -131,15 +125,11 @@ module _ (s : Settings) (g : SettingsRange s) (h : Hist s) (all : List Item) (c 
   spent-letter y = letter-x (s .n) op t _ refl y
 
   -- the blocks that were given
-  held-is : (b : ℕ) (e : member (t .counted) b ≡ true) → now .counts b e .from .held ≡ member (t .held) b
-  held-is b e = now .counts b e .held-is
-
-  found-low : (b : ℕ) (e : member (t .counted) b ≡ true) → found-time (s .n) t ≡ 0 → now .counts b e .from .held ≡ true → now .counts b e .from .found ≡ 0
+  found-low : (b : ℕ) → Counted k b → found-time (s .n) t ≡ 0 → keptReply k b .held ≡ true → keptReply k b .found ≡ 0
   unfolding found-time
   found-low b e z q =
-      let x = now .counts b e in
-      let l = highest-most (t .held) (t .found) (s .n) b (x .low) (sym (x .held-is) ∙ q) in
-      omega (arith, l, z, x .found-is)
+      let l = highest-most (t .held) (t .found) (s .n) b (low b e) q in
+      omega (arith, l, z)
 
   few-held : found-time (s .n) t ≡ 0 → holders (s .n) t 0 < s .m → members (t .held) (s .n) < s .m
   unfolding holders members atTimes atTime found-time member
@@ -152,43 +142,23 @@ module _ (s : Settings) (g : SettingsRange s) (h : Hist s) (all : List Item) (c 
           let u = highest-most (t .held) (t .found) (s .n) b l (unfold member in e) in
           true-T (eqb (getD (t .held) b 0) 1 && eqb (getD (t .found) b 0) 0) (rw (e, eq-eqb (getD (t .found) b 0) 0 (omega (arith, u, z))) refl)
 
-  aborts-letter : Aborts (s .n) (s .m) op t → Tells s all op met (abortLetter (s .n) op t)
-  unfolding met met-by
+  aborts-letter : Aborts (s .n) (s .m) op t → Tells s all k (abortLetter (s .n) op t)
   aborts-letter (told-no p e) = refused-letter p e
   aborts-letter (none-held p y z) =
-      subst (Tells s all op met) (spent-letter y)
-      (nothing-found p (all-yes y)
-      (inl (λ b e. held-is b e ∙ unfold members in count-none (member (k .state .tally .held)) (s .n) b z (now .counts b e .low))))
+      subst (Tells s all k) (spent-letter y)
+      (nothing-found p (all-yes y) (inl (λ b e. unfold members in count-none (member (t .held)) (s .n) b z (low b e))))
   aborts-letter (zero-on-few p y z f) =
-      subst (Tells s all op met) (spent-letter y)
-      (nothing-found p (all-yes y) (inr (inl (k .state .tally .held, held-is, few-held z f, λ b e q. found-low b e z q))))
-  aborts-letter (rounds-spent p y l) = subst (Tells s all op met) (spent-letter y) (nothing-found p (all-yes y) (inr (inr l)))
+      subst (Tells s all k) (spent-letter y) (nothing-found p (all-yes y) (inr (inl (few-held z f, λ b e q. found-low b e z q))))
+  aborts-letter (rounds-spent p y l) = subst (Tells s all k) (spent-letter y) (nothing-found p (all-yes y) (inr (inr l)))
 
   -- A READ OF ONE ROUND
-  gives-letter : DecidesGive (s .n) (s .m) op t → Tells s all op met (readLetter op)
-  unfolding met met-by
+  gives-letter : DecidesGive (s .n) (s .m) op t → Tells s all k (readLetter op)
   gives-letter d =
-      subst (Tells s all op met) (letter-f op (d .phase-is))
-      (read-at-once (in-read op right (d .phase-is) .kind-is) (d .phase-is) (all-yes (d .all-yes)) (highest (k .state .tally .counted) (k .state .tally .found) (s .n)) times targets)
-    where
-      times : (b : ℕ) (e : member (k .state .tally .counted) b ≡ true) → now .counts b e .from .found ≡ highest (k .state .tally .counted) (k .state .tally .found) (s .n)
-      times b e =
-          now .counts b e .found-is
-          ∙ eqb-true (getD (k .state .tally .found) b 0) (highest (k .state .tally .counted) (k .state .tally .found) (s .n))
-          (and-not (member (k .state .tally .counted) b) _ e
-          (unfold otherTime in
-          some-at (otherTime (k .state .tally .counted) (k .state .tally .found) (highest (k .state .tally .counted) (k .state .tally .found) (s .n))) (s .n) b (d .one-time)
-          (now .counts b e .low)))
-
-      targets : (b : ℕ) → b < s .n → isTarget (s .n) (targetCount (s .m) (k .state .op .kind)) (k .state .op .first) b ≡ true → member (k .state .tally .counted) b ≡ true
-      targets b l q =
-          and-not (isTarget (s .n) (targetCount (s .m) (k .state .op .kind)) (k .state .op .first) b) (member (k .state .tally .counted) b) q
-          (unfold missing in
-          some-at (missing (s .n) (targetCount (s .m) (k .state .op .kind)) (k .state .op .first) (k .state .tally .counted)) (s .n) b (d .targets-in) l)
+      subst (Tells s all k) (letter-f op (d .phase-is))
+      (read-at-once (in-read op right (d .phase-is) .kind-is) (d .phase-is) (all-yes (d .all-yes)) (highest (t .counted) (t .found) (s .n)) (one-newest s k low d) (targets-counted s k d))
 
   -- A FINISHED STORE
-  read-stored : isReading (op .kind) ≡ true → op .phase ≡ writeKind → thirdRound ≤ op .round → AllYes (s .n) t → Tells s all op met (readLetter op)
-  unfolding met met-by
+  read-stored : isReading (op .kind) ≡ true → op .phase ≡ writeKind → thirdRound ≤ op .round → AllYes (s .n) t → Tells s all k (readLetter op)
   read-stored q p l y = go (ℕ-discrete (op .round) thirdRound)
     where
       not-read : op .phase ≡ readKind → ⊥
@@ -204,33 +174,32 @@ module _ (s : Settings) (g : SettingsRange s) (h : Hist s) (all : List Item) (c 
           below u f (yes d) = let z = f d .0 in absurd (omega (arith, z, p))
           below u f (no d) = omega (arith, u, d, e)
 
-      go : Dec (op .round ≡ thirdRound) → Tells s all op met (readLetter op)
-      go (yes e) = subst (Tells s all op met) (letter-h op not-read e) (first-time q p (all-yes y) e (asked e))
+      go : Dec (op .round ≡ thirdRound) → Tells s all k (readLetter op)
+      go (yes e) = subst (Tells s all k) (letter-h op not-read e) (first-time q p (all-yes y) e (asked e))
       go (no e) =
           let late : thirdRound < op .round = omega (arith, l, e) in
           let x = now .stored-lower p late in
           let w = of-items (k .state .op .stripe) all (message (x .brick) (x .asked) (x .block) (x .old)) (x .was-sent) in
-          subst (Tells s all op met) (letter-l op not-read e)
+          subst (Tells s all k) (letter-l op not-read e)
           (lower-time q p (all-yes y) late (x .brick) (x .asked) (x .block) (x .old) (w .0) (x .kind-is)
           (unfold itemOn in eqb-true (x .asked .stripe) (k .state .op .stripe) (w .1)) (x .time-is) (x .late))
 
-  finishes-letter : Finishes (s .n) (s .m) op t → Tells s all op met (finishedLetter op)
-  unfolding met met-by
+  finishes-letter : Finishes (s .n) (s .m) op t → Tells s all k (finishedLetter op)
   finishes-letter f = go fits
     where
-      wrote : isReading (k .state .op .kind) ≡ false → storesEntry (k .state .op .phase) ≡ true → Tells s all (k .state .op) met (finishedLetter (k .state .op))
-      wrote q e = subst (Tells s all (k .state .op) met) (finished-write-letter (k .state .op) _ refl q) (written q e (all-yes (f .all-yes)))
+      wrote : isReading (k .state .op .kind) ≡ false → storesEntry (k .state .op .phase) ≡ true → Tells s all k (finishedLetter (k .state .op))
+      wrote q e = subst (Tells s all k) (finished-write-letter (k .state .op) _ refl q) (written q e (all-yes (f .all-yes)))
 
       stores-write : k .state .op .phase ≡ writeKind → storesEntry (k .state .op .phase) ≡ true
       stores-write p = unfold storesEntry in rw p refl
 
       either : (b : Bool) → isReading (k .state .op .kind) ≡ b → k .state .op .phase ≡ writeKind → thirdRound ≤ k .state .op .round
-          → Tells s all (k .state .op) met (finishedLetter (k .state .op))
+          → Tells s all k (finishedLetter (k .state .op))
       either true q p l =
-          subst (Tells s all (k .state .op) met) (finished-read-letter (k .state .op) _ (readLetter (k .state .op)) refl q refl) (read-stored q p l (f .all-yes))
+          subst (Tells s all k) (finished-read-letter (k .state .op) _ (readLetter (k .state .op)) refl q refl) (read-stored q p l (f .all-yes))
       either false q p l = wrote q (stores-write p)
 
-      go : Fit (k .state .op) → Tells s all (k .state .op) met (finishedLetter (k .state .op))
+      go : Fit (k .state .op) → Tells s all k (finishedLetter (k .state .op))
       go (reading q p _) = absurd (f .not-read p)
       go (looking q p _ _) = absurd (f .not-recovery p)
       go (restoring q p l) = either (isReading (k .state .op .kind)) refl p l
@@ -241,20 +210,20 @@ module _ (s : Settings) (g : SettingsRange s) (h : Hist s) (all : List Item) (c 
 
   -- WHAT THE DECISION SHOWS
   decides-letter : (d : Decision) → DecisionSays (s .n) (s .m) op t d → ((time : ℕ) → d ≡ Recover time → acted (s .n) (s .m) (s .size) k d .seen .letter ≡ noLetter)
-      → acted (s .n) (s .m) (s .size) k d .seen .letter ≢ noLetter → Tells s all op met (acted (s .n) (s .m) (s .size) k d .seen .letter)
-  unfolding acted ending sendingFirst nextRound modifying DecisionSays nothingSeen met met-by
-  decides-letter Abort x f n = subst (Tells s all op met) (aborted-letter (s .n) op t) (aborts-letter x)
-  decides-letter Give x f n = subst (Tells s all op met) (given-letter (s .n) op t) (gives-letter x)
+      → acted (s .n) (s .m) (s .size) k d .seen .letter ≢ noLetter → Tells s all k (acted (s .n) (s .m) (s .size) k d .seen .letter)
+  unfolding acted ending sendingFirst nextRound modifying DecisionSays nothingSeen
+  decides-letter Abort x f n = subst (Tells s all k) (aborted-letter (s .n) op t) (aborts-letter x)
+  decides-letter Give x f n = subst (Tells s all k) (given-letter (s .n) op t) (gives-letter x)
   decides-letter (Look max) x f n = absurd (n refl)
   decides-letter Store x f n = absurd (n refl)
   decides-letter (Modify time) x f n = absurd (n refl)
   decides-letter (Recover time) x f n = absurd (n (f time refl))
-  decides-letter Finish x f n = subst (Tells s all op met) (finished-letter (s .n) op t) (finishes-letter x)
+  decides-letter Finish x f n = subst (Tells s all k) (finished-letter (s .n) op t) (finishes-letter x)
 
 -- A reply that ends an operation of a run.
 module _ (s : Settings) (e : inRange s ≡ true) (events : List Event) (a : Reply) (block : List ℕ) (w : Went) (was : reply a block ∈ run s events .world .sent)
     (steps : takeStep (s .n) (s .m) (s .size) (s .stripes) (addressee (run s events .world) a) a block (s .n * s .size) ≡ went w) where
-  pub g : SettingsRange s
+  abbrev pub g : SettingsRange s
   g = range-of s e
 
   abbrev pub k : Buffered
@@ -302,20 +271,30 @@ module _ (s : Settings) (e : inRange s ≡ true) (events : List Event) (a : Repl
   unfolding waitingOr
   acts q = rw q refl
 
+  abbrev all : List Item
+  all = run s events .world .sent
+
+  -- the kind, phase and round of the operation go together
+  pub fits : Fit (k .state .op)
+  fits = fit (k .state .op) (taken .takes .parts .op-right) (λ _ z. omega (arith, taken .answer .of-phase, taken .reply .kind-low, z))
+
   abbrev Told : ℕ → Type 0
-  Told letter = (r : Met s (run s events .world .sent) (k .state .op)) × Tells s (run s events .world .sent) (k .state .op) r letter
+  Told letter = Met s all after × Tells s all after letter
+
+  -- what the round met, once a quorum is counted
+  pub met-now : quorum (s .n) (s .m) ≤ members (after .state .tally .counted) (s .n) → Met s all after
+  unfolding counting withTally
+  met-now l = met-by s all after (counted .runs busy .counts) (qth-exactly s k a block (s .n * s .size) w taken l)
 
   qth : quorum (s .n) (s .m) ≤ members (after .state .tally .counted) (s .n)
       → ((time : ℕ) → decision ≡ Recover time → acted (s .n) (s .m) (s .size) after decision .seen .letter ≡ noLetter)
       → acted (s .n) (s .m) (s .size) after decision .seen .letter ≢ noLetter → Told (acted (s .n) (s .m) (s .size) after decision .seen .letter)
   unfolding counting withTally
-  qth l f n =
-      let o = taken .takes .parts .op-right in
-      let fits = fit (k .state .op) o (λ _ z. omega (arith, taken .answer .of-phase, taken .reply .kind-low, z)) in (
-        met s g (held-by .0) (run s events .world .sent) (coordinatorOf (a .time)) after counted busy o fits (qth-exactly s k a block (s .n * s .size) w taken l),
-        decides-letter s g (held-by .0) (run s events .world .sent) (coordinatorOf (a .time)) after counted busy o fits (qth-exactly s k a block (s .n * s .size) w taken l) decision
-            (decided-says (s .n) (s .m) (after .state .op) (after .state .tally)) f n,
-      )
+  qth l f n = (
+    met-now l,
+    decides-letter s g (held-by .0) all (coordinatorOf (a .time)) after counted busy (taken .takes .parts .op-right) fits decision
+        (decided-says (s .n) (s .m) (after .state .op) (after .state .tally)) f n,
+  )
 
   pub waited : ltb (members (after .state .tally .counted) (s .n)) (quorum (s .n) (s .m)) ≡ true → waitingOr (s .n) (s .m) (s .size) after .seen .letter ≡ noLetter
   unfolding waitingOr nothingSeen

@@ -57,14 +57,19 @@ module _ (s : Settings) (g : SettingsRange s) (h : Hist s) (sent : List Item) (c
   own-time : coordinatorOf t ≡ c
   own-time = drawn-own (k .state .clock) reading t clock d ∙ i .number
 
-  -- the time is new
-  pub new-time : Began h t → ⊥
-  new-time w =
-      let a = i .used t w own-time in
+  -- the time is above those that the coordinator used,
+  pub higher-time : (u : ℕ) → Began h u → coordinatorOf u ≡ coordinatorOf t → u < t
+  unfolding timeOf
+  higher-time u w e =
+      let a = i .used u w (e ∙ own-time) in
       let b = drawn-above (k .state .clock) reading t clock d in
       let n = i .number in
-      let e = gave (k .state .clock) reading t clock d .drew .coordinator-high in
-      unfold timeOf in omega (arith, a, b, n, e)
+      let l = gave (k .state .clock) reading t clock d .drew .coordinator-high in
+      omega (arith, a, b, n, l)
+
+  -- so it is new
+  new-time : Began h t → ⊥
+  new-time w = omega (arith, higher-time t w refl)
 
   time-low : 0 < t
   time-low = let b = drawn-above (k .state .clock) reading t clock d in omega arith
@@ -188,7 +193,6 @@ module _ (s : Settings) (g : SettingsRange s) (h : Hist s) (sent : List Item) (c
             asked = asked;
             looked-lower = λ e l. absurd (other e);
             stored-lower = λ e l. absurd (omega (arith, l));
-            recovered = λ e q. absurd (omega arith);
             cleared = λ e. absurd (other e);
             storing = λ e. absurd (omega arith);
             modifying = λ e. absurd (omega arith);

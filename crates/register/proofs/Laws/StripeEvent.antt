@@ -1,23 +1,20 @@
 -- An event at a coordinator, on whatever stripe: what holds of stripe k goes on to hold.
 use mathlib.Core.Path.{_≡_, refl, sym, ap, subst, _∙_}
 use mathlib.Core.Logic.{_⊎_, inl, inr}
-use mathlib.Core.Bool.{Bool, true, false, cond}
 use mathlib.Core.List.{List, [], List·Memᴰ·not-nil}
 use Prim.Native.Nat.{ℕ, _*_, _≤_}
 use native.Mathlib.Omega.{arith}
 use native.Mathlib.Decide.{ℕ-discrete}
-use lib.Dec.{eqb}
-use borrow.Author.Tests.{eqb-true, eq-eqb}
+use borrow.Author.Tests.{eq-eqb}
 use Rattle.settings.specs.Ranges.{SettingsRange}
 use Rattle.settings.specs.Times.{timeOf}
 use Rattle.settings.specs.declared.Clock.{Clock}
 use Rattle.settings.specs.declared.Settings.{Settings}
 use Rattle.byte_lists.specs.Little.{Bytes}
 use Rattle.message.specs.declared.Reply.{Reply}
-use Rattle.coord_record.specs.Records.{idleKind, idleWith, noOp, noBricks}
+use Rattle.coord_record.specs.Records.{idleKind}
 use Rattle.coord_record.specs.declared.Coordinator.{Coordinator}
-use Rattle.coord_apply.specs.Answers.{Buffered, Broadcast, Went, Step, refused, went, nothingSeen, cutSeen}
-use Rattle.coord_apply.specs.Acts.{ending}
+use Rattle.coord_apply.specs.Answers.{Buffered, Broadcast, Went, Step, refused, went, nothingSeen}
 use Rattle.coord_laws.proofs.Laws.SoundnessLaws.{passes, same-went}
 use Rattle.coord_refusals.specs.Checks.{crashRefusal}
 use Rattle.coordinator.specs.Routines.{takeStep, crashed, crashStep, writeStep, readStep, writeBlockStep, readBlockStep}
@@ -29,7 +26,7 @@ use Rattle.register.proofs.Laws.Invariant.{Hist, ClockInv, CoordinatorI
 use Rattle.register.proofs.Laws.TurnLaws.{TurnedRound}
 use Rattle.register.proofs.Laws.StripeViewLaws.{in-items, viewed-clock, viewed-here, viewed-same, goes-here, goes-there, goes-unmoved}
 use Rattle.register.proofs.Laws.StartEvent.{write-turned, read-turned, write-block-turned, read-block-turned}
-use Rattle.register.proofs.Laws.CrashEvent.{left-by, crash-turned}
+use Rattle.register.proofs.Laws.CrashEvent.{left-by, crashed-idle, crash-turned}
 use Rattle.register.proofs.Laws.ReplyEvent.{reply-turned}
 
 module _ (s : Settings) (g : SettingsRange s) (k : ℕ) (h : Hist s) (r : Moved s) (i : Inv s g k h r) (c : ℕ) where
@@ -195,16 +192,6 @@ module _ (s : Settings) (g : SettingsRange s) (k : ℕ) (h : Hist s) (r : Moved 
           no-start = keeps .no-start;
         }
 
-    -- it is idle afterwards
-    crashed-idle : crashed (s .n) raw .next .state .op .kind ≡ idleKind
-    unfolding crashed ending idleWith noOp
-    crashed-idle = go (eqb (raw .state .op .kind) idleKind) refl
-      where
-        go : (a : Bool) → eqb (raw .state .op .kind) idleKind ≡ a
-            → cond a (record { next = raw; sent = []; seen = nothingSeen }) (ending (s .n) raw (raw .stripe) [] cutSeen noBricks) .next .state .op .kind ≡ idleKind
-        go true e = eqb-true (raw .state .op .kind) idleKind e
-        go false e = refl
-
     idle-crash : raw .state .op .kind ≡ idleKind → crashed (s .n) raw ≡ record { next = raw; sent = []; seen = nothingSeen }
     unfolding crashed
     idle-crash e = rw (eq-eqb (raw .state .op .kind) idleKind e) refl
@@ -223,7 +210,7 @@ module _ (s : Settings) (g : SettingsRange s) (k : ℕ) (h : Hist s) (r : Moved 
         falls w keeps q (no n) (no m) = there (left-went w) keeps m
         -- at an idle coordinator nothing is sent or shown
         falls w keeps q (yes e) d =
-            let idle = crashed-idle in
+            let idle = crashed-idle (s .n) raw in
             let still = sym q ∙ idle-crash e in
             let none : left-went w .sent ≡ [] = ap (λ (x : Went). x .sent) still in
             let nothing : left-went w .seen ≡ nothingSeen = ap (λ (x : Went). x .seen) still in

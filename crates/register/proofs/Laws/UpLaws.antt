@@ -11,7 +11,6 @@ use Rattle.message.specs.Kinds.{orderReadKind, writeKind, modifyKind}
 use Rattle.message.specs.declared.Message.{Message}
 use Rattle.message.specs.declared.Reply.{Reply}
 use Rattle.image.specs.Brick.{Brick}
-use Rattle.coord_record.specs.declared.Op.{Op}
 use Rattle.coord_apply.specs.Answers.{Buffered}
 use Rattle.order.specs.Claim.{Plain, _∈_}
 use Rattle.order.specs.Facts.{Fact, began, promised, launched, stored, showed, ended, History}
@@ -24,7 +23,7 @@ use Rattle.order.proofs.Laws.GoneLaws.{gone-up}
 use Rattle.order.proofs.Laws.ValueLaws.{val-up}
 use Rattle.register.specs.Runs.{plain, Item, message, reply}
 use Rattle.register.proofs.Laws.Invariant.{quorums, Hist, Means, Stands, BrickInv, Modifies, MessageInv, Looked, Newest, ReplyInv, ItemInv, CountedInv, Lowered}
-use Rattle.register.proofs.Laws.Invariant.{ReadFrom, Running, CoordinatorInv, LogHas, ToldStored}
+use Rattle.register.proofs.Laws.Invariant.{Running, CoordinatorInv, LogHas, ToldStored}
 
 -- all that stands in the one list stands in the other
 abbrev pub Within : List Item → List Item → Type 0
@@ -197,7 +196,6 @@ module _ {s : Settings} {g : SettingsRange s} {h : Hist s} {f : Fact (plain s)} 
         asked = i .asked;
         looked-lower = i .looked-lower;
         stored-lower = i .stored-lower;
-        recovered = i .recovered;
         cleared = λ p u l m. gone-up v (above whole) (i .cleared p u l m);
         storing = λ p. let w = i .storing p in ((w .0 .0, in-above (w .0 .1)), val-up (above whole) (w .1), w .2);
         modifying = λ p. let w = i .modifying p in (w .0, in-above (w .1));
@@ -260,23 +258,6 @@ pub lowered-sent : {old new : List Item} {time : ℕ} → Within old new → Low
 lowered-sent w x =
     record { brick = x .brick; asked = x .asked; block = x .block; old = x .old; was-sent = w _ (x .was-sent); kind-is = x .kind-is; time-is = x .time-is; late = x .late }
 
-pub read-sent : {s : Settings} {old new : List Item} {op : Op} {row stripe : List ℕ} → Within old new → ReadFrom s old op row stripe → ReadFrom s new op row stripe
-read-sent w x =
-    record {
-      was = x .was;
-      phase-is = x .phase-is;
-      time-is = x .time-is;
-      round-is = x .round-is;
-      counts = λ b m. counted-sent w (x .counts b m);
-      holds = x .holds;
-      full = x .full;
-      yeses = x .yeses;
-      many = x .many;
-      row-is = x .row-is;
-      decoded = x .decoded;
-      coded = x .coded;
-    }
-
 pub coordinator-sent : {s : Settings} {g : SettingsRange s} {h : Hist s} {old new : List Item} {c : ℕ} {k : Buffered} → Within old new → QuietWorld c old new
     → CoordinatorInv s g h old c k → CoordinatorInv s g h new c k
 coordinator-sent {s} {g} {h} {old} {new} {c} {k} w quiet i = record { number = i .number; used = i .used; sized = i .sized; idle-is = i .idle-is; runs = λ n. go (i .runs n) }
@@ -295,7 +276,6 @@ coordinator-sent {s} {g} {h} {old} {new} {c} {k} w quiet i = record { number = i
           asked = λ b msg block before m e t. r .asked b msg block before (quiet b msg block before m e (ap coordinatorOf t ∙ r .own)) e t;
           looked-lower = λ p l. lowered-sent w (r .looked-lower p l);
           stored-lower = λ p l. lowered-sent w (r .stored-lower p l);
-          recovered = λ p q. read-sent w (r .recovered p q);
           cleared = r .cleared;
           storing = r .storing;
           modifying = r .modifying;

@@ -2,12 +2,12 @@
 use mathlib.Core.Path.{_≡_, refl, sym, ap, subst, _∙_}
 use mathlib.Core.Bool.{Bool, true, false, cond}
 use mathlib.Core.Logic.{_≢_, _⊎_, inl, inr}
-use mathlib.Core.List.{List, [], _∷_, _++_, List·Memᴰ·not-nil}
+use mathlib.Core.List.{List, [], _∷_, _++_, append-nil, List·Memᴰ·not-nil}
 use Prim.Native.Nat.{ℕ, zero, suc, _*_, _≤_, _<_}
 use native.Mathlib.Omega.{arith}
 use lib.Dec.{eqb, ltb}
 use lib.ListN.{length, replicate}
-use borrow.Author.Tests.{eqb-true, eqb-false, ne-eqb, ltb-true, ltb-false}
+use borrow.Author.Tests.{eqb-true, eqb-false, eq-eqb, ne-eqb, ltb-true, ltb-false}
 use Rattle.settings.specs.Refusal.{passed, refuseUnless, firstRefusal, busy}
 use Rattle.settings.proofs.Laws.RefusalLaws.{first-pass, first-alone, passed-first, passed-rest}
 use Rattle.coord_record.specs.declared.Coordinator.{Coordinator}
@@ -17,11 +17,13 @@ use Rattle.settings.specs.declared.Clock.{Clock}
 use Rattle.settings.specs.declared.Settings.{Settings}
 use Rattle.byte_lists.specs.Little.{areBytes}
 use Rattle.message.specs.Kinds.{readKind, orderKind, orderBlockKind}
+use Rattle.message.specs.declared.Message.{Message}
+use Rattle.brick.specs.Receive.{Outcome}
 use Rattle.image.proofs.Laws.ParseLaws.{range-of}
 use Rattle.coord_record.specs.Records.{idleKind, readingKind, writingKind, readingBlockKind, writingBlockKind, noBricks}
 use Rattle.coord_record.specs.declared.Op.{Op}
 use Rattle.coord_apply.specs.Acts.{firstOp, starting}
-use Rattle.coord_apply.specs.Answers.{Buffered, Went, Step, refused, went, afterChecks, answerOf, nothingSeen, beganSeen}
+use Rattle.coord_apply.specs.Answers.{Buffered, Broadcast, Went, Step, refused, went, afterChecks, answerOf, nothingSeen, beganSeen}
 use Rattle.coord_apply.specs.declared.Notice.{Notice}
 use Rattle.coord_refusals.specs.Checks.{stripeChecks, writeChecks, readChecks, blockChecks, writeBlockChecks, readBlockChecks, startChecks}
 use Rattle.coord_refusals.specs.Checks.{writeRefusal, readRefusal, writeBlockRefusal, readBlockRefusal, crashRefusal}
@@ -40,16 +42,17 @@ use Rattle.order.specs.Valid.{Began}
 use Rattle.order.proofs.Laws.SeenLaws.{seen-began-in}
 use Rattle.register.specs.Runs.{plain, Item, message, reply, World, Event, startWrite, startRead, startWriteBlock, startReadBlock, arrives}
 use Rattle.register.specs.Runs.{crashes, goesDown, comesUp, Left, Moved, unmoved, freshSet}
-use Rattle.register.specs.Runs.{putAt, onStripe, seenOf, coordinated, received, arriving, arrivingAt, standing, leaving, leftBy, step, nextMoved, runFrom, run}
-use Rattle.register.specs.Volumes.{messageOn, changesImage, StripesApart, NothingSeenPastTheStripes, OneClock, writeBelowBusy, readBelowBusy}
+use Rattle.register.specs.Runs.{putAt, onStripe, seenOf, broadcasts, repliedWith, coordinated, received, arriving, arrivingAt, standing, leaving, leftBy, step, nextMoved, runFrom, run}
+use Rattle.register.specs.Volumes.{messageOn, changesImage, StripesApart, itemStripe, arrivalStripe, sentAt, SentOnItsStripe, NothingSeenPastTheStripes, OneClock, writeBelowBusy, readBelowBusy}
 use Rattle.register.specs.Volumes.{writeBlockBelowBusy, readBlockBelowBusy, OneOperationAtATime}
 use Rattle.register.specs.RefusedEvents.{eventNumber}
-use Rattle.register.proofs.Laws.BeganLaws.{shown-told, crash-begins-none}
+use Rattle.register.proofs.Laws.BeganLaws.{shown-told, crash-begins-none, crash-sends-none}
 use Rattle.register.proofs.Laws.BrickEvent.{either}
-use Rattle.register.proofs.Laws.Invariant.{Hist, view, Inv}
-use Rattle.register.proofs.Laws.StartEvent.{new-time}
+use Rattle.register.proofs.Laws.BrickViewLaws.{row-replies-on}
+use Rattle.register.proofs.Laws.Invariant.{Hist, itemOn, view, Inv}
+use Rattle.register.proofs.Laws.StartEvent.{higher-time}
 use Rattle.register.proofs.Laws.StripeEvent.{own-clock}
-use Rattle.register.proofs.Laws.StripeViewLaws.{shown-there, shown-none, nothing-shown}
+use Rattle.register.proofs.Laws.StripeViewLaws.{broadcast-stripe, shown-there, shown-none, nothing-shown}
 use Rattle.register.proofs.Laws.TheoremProof.{run-holds}
 
 -- AN EVENT ON ONE STRIPE CHANGES NO BYTE OF ANOTHER'S IMAGES.
@@ -110,73 +113,164 @@ module _ (s : Settings) (w : World) (k b : ℕ) where
 pub stripes-apart : StripesApart
 stripes-apart s w e k b h = unfold Same in same-step s w k b e h
 
+-- WHAT AN EVENT SENDS NAMES ITS STRIPE.
+on-stripe : (k : ℕ) (i : Item) → itemOn k i ≡ true → eqb (itemStripe i) k ≡ true
+unfolding itemOn itemStripe
+on-stripe k (message b msg block old) e = e
+on-stripe k (reply r block) e = e
+
+module _ (s : Settings) (w : World) where
+  -- what is sent beside what was sent before is so
+  SentSo : (Item → Bool) → Moved s → Type 0
+  SentSo p m = (new : List Item) × (m .world .sent ≡ w .sent ++ new) × ((i : Item) → i ∈ new → p i ≡ true)
+
+  -- of stripe k
+  SentOn : ℕ → Moved s → Type 0
+  SentOn k m = SentSo (λ (i : Item). eqb (itemStripe i) k) m
+
+  none-sent : (p : Item → Bool) (m : Moved s) → m .world .sent ≡ w .sent → SentSo p m
+  unfolding SentSo
+  none-sent p m e = ([], e ∙ sym (append-nil (w .sent)), λ i n. absurd (List·Memᴰ·not-nil n))
+
+  sent-unmoved : (p : Item → Bool) → SentSo p (unmoved s w)
+  sent-unmoved p = none-sent p (unmoved s w) (unfold unmoved in refl)
+
+  sent-step : (k c : ℕ) (q : Step) → ((g : Went) → q ≡ went g → (z : Broadcast) → z ∈ g .sent → z .message .stripe ≡ k) → SentOn k (coordinated s w c q)
+  unfolding SentOn SentSo coordinated
+  sent-step k c (refused number) f = unfold SentSo in sent-unmoved (λ (i : Item). eqb (itemStripe i) k)
+  sent-step k c (went g) f = (
+    broadcasts s (g .sent),
+    refl,
+    λ i m. on-stripe k i (broadcast-stripe s k true (g .sent) (λ z n. eq-eqb (z .message .stripe) k (f g refl z n)) i m),
+  )
+
+  sent-message : (b : ℕ) (msg : Message) (block old : List ℕ) → SentOn (msg .stripe) (arriving s w (message b msg block old))
+  unfolding arriving SentOn
+  sent-message b msg block old =
+      either (SentOn (msg .stripe)) (w .up b) _ _ moved (sent-unmoved (λ (i : Item). eqb (itemStripe i) (msg .stripe)))
+    where
+      o : Outcome
+      o = rowOutcome s b (w .images b) msg block old (replicate (s .size) 0)
+
+      moved : SentOn (msg .stripe) (received s w b o)
+      moved = unfold SentOn SentSo received in (
+        repliedWith (o .given) (o .out),
+        refl,
+        λ i m.
+            on-stripe (msg .stripe) i
+            (row-replies-on s b msg (msg .stripe) (w .images b) block old (replicate (s .size) 0) i m ∙ eq-eqb (msg .stripe) (msg .stripe) refl),
+      )
+
+  sent-at : (l : List Item) (place : ℕ) → SentOn (arrivalStripe w l place) (arrivingAt s w l place)
+  unfolding arrivingAt arrivalStripe
+  sent-at [] place = unfold SentOn in sent-unmoved (λ (i : Item). eqb (itemStripe i) 0)
+  sent-at (message b msg block old ∷ l) zero = sent-message b msg block old
+  sent-at (reply r block ∷ l) zero =
+      unfold arriving in sent-step _ (coordinatorOf (r .time)) _ (λ g e. take-keeps-stripe _ _ _ _ _ _ _ _ g e .sends)
+  sent-at (message b msg block old ∷ l) (suc place) = sent-at l place
+  sent-at (reply r block ∷ l) (suc place) = sent-at l place
+
+  -- a crash sends nothing
+  crash-sends : (c : ℕ) (q : Step) → ((g : Went) → q ≡ went g → g .sent ≡ []) → coordinated s w c q .world .sent ≡ w .sent
+  unfolding coordinated unmoved broadcasts
+  crash-sends c (refused number) f = refl
+  crash-sends c (went g) f = ap (λ (l : List Broadcast). w .sent ++ broadcasts s l) (f g refl) ∙ append-nil (w .sent)
+
+  standing-sends-none : (b : ℕ) (how : Bool) → standing s w b how .world .sent ≡ w .sent
+  unfolding standing unmoved
+  standing-sends-none b how = either (λ (m : Moved s). m .world .sent ≡ w .sent) (ltb b (s .n)) _ _ refl refl
+
+  sent-start : (number c : ℕ) (q : Step) → ((g : Went) → q ≡ went g → StartsOn (s .stripes) number (w .coordinators c) g) → SentOn number (coordinated s w c q)
+  sent-start number c q f = sent-step number c q (λ g e. f g e .sends)
+
+  sent-event : (e : Event) → SentSo (sentAt w e) (step s w e)
+  unfolding step sentAt SentOn
+  sent-event (startWrite c number reading content) =
+      either (SentOn number) (areBytes content) _ _
+      (sent-start number c _ (write-starts (s .n) (s .m) (s .size) (s .stripes) (w .coordinators c) number reading content)) (sent-unmoved _)
+  sent-event (startRead c number reading first) =
+      sent-start number c _ (read-starts (s .n) (s .m) (s .size) (s .stripes) (w .coordinators c) number reading first)
+  sent-event (startWriteBlock c number reading block content) =
+      either (SentOn number) (areBytes content) _ _
+      (sent-start number c _ (write-block-starts (s .n) (s .m) (s .size) (s .stripes) (w .coordinators c) number reading block content)) (sent-unmoved _)
+  sent-event (startReadBlock c number reading block) =
+      sent-start number c _ (read-block-starts (s .n) (s .m) (s .size) (s .stripes) (w .coordinators c) number reading block)
+  sent-event (arrives place) = sent-at (w .sent) place
+  sent-event (crashes c left) = none-sent _ _ (crash-sends c _ (crash-sends-none s (w .coordinators c) left))
+  sent-event (goesDown b) = none-sent _ _ (standing-sends-none b false)
+  sent-event (comesUp b) = none-sent _ _ (standing-sends-none b true)
+
+pub sent-on-its-stripe : SentOnItsStripe
+sent-on-its-stripe s w e = unfold SentSo in sent-event s w e
+
 -- ONE CLOCK.
-module _ (s : Settings) (g : SettingsRange s) (k : ℕ) (h : Hist s) (r : Moved s) (i : Inv s g k h r) (j t : ℕ) (x : plain s .Kind) (used : Began h t) where
-  -- no operation of this time begins at an event
+module _ (s : Settings) (g : SettingsRange s) (k : ℕ) (h : Hist s) (r : Moved s) (i : Inv s g k h r) (j u : ℕ) (used : Began h u) where
+  -- what begins at an event has a higher time, if it is of the same coordinator
   New : Moved s → Type 0
-  New m = Seen.began t x ∈ m .seen j → ⊥
+  New m = (t : ℕ) (x : plain s .Kind) → Seen.began t x ∈ m .seen j → coordinatorOf u ≡ coordinatorOf t → u < t
 
   new-unmoved : New (unmoved s (r .world))
   unfolding New unmoved
-  new-unmoved m = List·Memᴰ·not-nil m
+  new-unmoved t x m = absurd (List·Memᴰ·not-nil m)
 
-  new-step : (c : ℕ) (p : Step) → ((w : Went) → p ≡ went w → w .seen .what ≡ beganSeen → w .seen .time ≡ t → ⊥) → New (coordinated s (r .world) c p)
+  new-step : (c : ℕ) (p : Step) → ((w : Went) → p ≡ went w → w .seen .what ≡ beganSeen → coordinatorOf u ≡ coordinatorOf (w .seen .time) → u < w .seen .time) → New (coordinated s (r .world) c p)
   unfolding New coordinated unmoved
-  new-step c (refused number) f m = List·Memᴰ·not-nil m
-  new-step c (went w) f m = let z = shown-told s w j t x m in f w refl (z .0) (z .1)
+  new-step c (refused number) f t x m = absurd (List·Memᴰ·not-nil m)
+  new-step c (went w) f t x m =
+      let z = shown-told s w j t x m in subst (λ (a : ℕ). coordinatorOf u ≡ coordinatorOf a → u < a) (z .1) (f w refl (z .0))
 
   module _ (c : ℕ) where
     raw : Buffered
     raw = r .world .coordinators c
 
-    -- a time that is drawn now was not used on stripe k
-    not-drawn : (reading u : ℕ) (next : Clock) → drawOf (raw .state .clock) reading ≡ Drawn u next → u ≡ t → ⊥
+    -- a time that is drawn now is above those used on stripe k
+    drawn-higher : (reading t : ℕ) (next : Clock) → drawOf (raw .state .clock) reading ≡ Drawn t next → coordinatorOf u ≡ coordinatorOf t → u < t
     unfolding raw
-    not-drawn reading u next d e =
-        new-time s g h (view k r .sent) c (r .world .coordinators c) (i .valid) (own-clock s g k h r i c) (i .items) reading u next d
-        (subst (Began h) (sym e) used)
+    drawn-higher reading t next d =
+        higher-time s g h (view k r .sent) c (r .world .coordinators c) (i .valid) (own-clock s g k h r i c) (i .items) reading t next d u used
 
     -- an operation that starts now has such a time
-    new-start : (number reading : ℕ) (op : ℕ → Op) (stripe targets : List ℕ) → ((u : ℕ) → op u .time ≡ u)
+    new-start : (number reading : ℕ) (op : ℕ → Op) (stripe targets : List ℕ) → ((t : ℕ) → op t .time ≡ t)
         → New
         (coordinated s (r .world) c
         (afterChecks number
         (drawnThen (drawOf (r .world .coordinators c .state .clock) reading)
         (λ time clock. starting (r .world .coordinators c) clock (op time) stripe targets))))
     unfolding raw starting
-    new-start number reading op stripe targets same = new-step c _ (λ w e _ q.
+    new-start number reading op stripe targets same = new-step c _ (λ w e _.
         let f : ℕ → Clock → Went = λ time clock. starting raw clock (op time) stripe targets in
         let p = passes number (drawnThen (drawOf (raw .state .clock) reading) f) w e in
         let d = drawn-went (drawOf (raw .state .clock) reading) f w (p .1) in
-        not-drawn reading (d .0) (d .1) (d .2) (sym (same (d .0)) ∙ ap (λ (z : Went). z .seen .time) (d .3) ∙ q))
+        subst (λ (a : ℕ). coordinatorOf u ≡ coordinatorOf a → u < a) (sym (same (d .0)) ∙ ap (λ (z : Went). z .seen .time) (d .3))
+        (drawn-higher reading (d .0) (d .1) (d .2)))
 
     new-write : (number reading : ℕ) (content : List ℕ)
         → New (coordinated s (r .world) c (writeStep (s .n) (s .m) (s .size) (s .stripes) (r .world .coordinators c) number reading content))
     unfolding writeStep firstOp
-    new-write number reading content = new-start _ reading (λ time. firstOp writingKind orderKind number time 0) content noBricks (λ u. refl)
+    new-write number reading content = new-start _ reading (λ time. firstOp writingKind orderKind number time 0) content noBricks (λ t. refl)
 
     new-read : (number reading first : ℕ)
         → New (coordinated s (r .world) c (readStep (s .n) (s .m) (s .size) (s .stripes) (r .world .coordinators c) number reading first))
     unfolding readStep firstOp
-    new-read number reading first = new-start _ reading (λ time. firstOp readingKind readKind number time first) _ _ (λ u. refl)
+    new-read number reading first = new-start _ reading (λ time. firstOp readingKind readKind number time first) _ _ (λ t. refl)
 
     new-write-block : (number reading block : ℕ) (content : List ℕ)
         → New (coordinated s (r .world) c (writeBlockStep (s .n) (s .m) (s .size) (s .stripes) (r .world .coordinators c) number reading block content))
     unfolding writeBlockStep firstOp
-    new-write-block number reading block content = new-start _ reading (λ time. firstOp writingBlockKind orderBlockKind number time block) _ _ (λ u. refl)
+    new-write-block number reading block content = new-start _ reading (λ time. firstOp writingBlockKind orderBlockKind number time block) _ _ (λ t. refl)
 
     new-read-block : (number reading block : ℕ)
         → New (coordinated s (r .world) c (readBlockStep (s .n) (s .m) (s .size) (s .stripes) (r .world .coordinators c) number reading block))
     unfolding readBlockStep firstOp
-    new-read-block number reading block = new-start _ reading (λ time. firstOp readingBlockKind readKind number time block) _ _ (λ u. refl)
+    new-read-block number reading block = new-start _ reading (λ time. firstOp readingBlockKind readKind number time block) _ _ (λ t. refl)
 
     new-crash : (left : Left) → New (coordinated s (r .world) c (leftBy s left (crashStep (s .n) (s .m) (s .size) (s .stripes) (r .world .coordinators c))))
-    new-crash left = new-step c _ (λ w e q _. crash-begins-none s (r .world .coordinators c) left w e q)
+    new-crash left = new-step c _ (λ w e q. absurd (crash-begins-none s (r .world .coordinators c) left w e q))
 
   new-reply : (i : Item) → New (arriving s (r .world) i)
   unfolding arriving
-  new-reply (message b msg block old) = either New (r .world .up b) _ _ (unfold New received in λ m. List·Memᴰ·not-nil m) new-unmoved
-  new-reply (reply a block) = new-step (coordinatorOf (a .time)) _ (λ w e q _. take-keeps-stripe _ _ _ _ _ _ _ _ w e .no-start q)
+  new-reply (message b msg block old) = either New (r .world .up b) _ _ (unfold New received in λ t x m. absurd (List·Memᴰ·not-nil m)) new-unmoved
+  new-reply (reply a block) = new-step (coordinatorOf (a .time)) _ (λ w e q. absurd (take-keeps-stripe _ _ _ _ _ _ _ _ w e .no-start q))
 
   new-at : (l : List Item) (p : ℕ) → New (arrivingAt s (r .world) l p)
   unfolding arrivingAt
@@ -186,7 +280,7 @@ module _ (s : Settings) (g : SettingsRange s) (k : ℕ) (h : Hist s) (r : Moved 
 
   new-standing : (b : ℕ) (how : Bool) → New (standing s (r .world) b how)
   unfolding standing
-  new-standing b how = either New (ltb b (s .n)) _ _ (unfold New in λ m. List·Memᴰ·not-nil m) new-unmoved
+  new-standing b how = either New (ltb b (s .n)) _ _ (unfold New in λ t x m. absurd (List·Memᴰ·not-nil m)) new-unmoved
 
   new-event : (e : Event) → New (step s (r .world) e)
   unfolding step
@@ -306,16 +400,20 @@ nothing-seen-past-the-stripes s events k high = none-from s k high (unmoved s (f
 
 pub one-clock : OneClock
 unfolding view New
-one-clock s e events event j t x m k y n = go (ltb k (s .stripes)) refl
+one-clock s e events event j t x m k u y n = (above, λ q. omega (arith, above (ap coordinatorOf q), q))
   where
-    go : (b : Bool) → ltb k (s .stripes) ≡ b → ⊥
+    go : (b : Bool) → ltb k (s .stripes) ≡ b → coordinatorOf u ≡ coordinatorOf t → u < t
     go true q =
         let w = run-holds s (range-of s e) k (ltb-true k (s .stripes) q) events in
-        let b : Began (w .0) t = (y, seen-began-in (w .0) (subst (λ (l : List (Seen (plain s))). Seen.began t y ∈ l) (sym (w .1 .seen-is)) n)) in
-        new-event s (range-of s e) k (w .0) (run s events) (w .1) j t x b event m
+        let b : Began (w .0) u = (y, seen-began-in (w .0) (subst (λ (l : List (Seen (plain s))). Seen.began u y ∈ l) (sym (w .1 .seen-is)) n)) in
+        new-event s (range-of s e) k (w .0) (run s events) (w .1) j u b event t x m
     go false q =
-        List·Memᴰ·not-nil
-        (subst (λ (l : List (Seen (plain s))). Seen.began t y ∈ l) (nothing-seen-past-the-stripes s events k (ltb-false k (s .stripes) q)) n)
+        absurd
+        (List·Memᴰ·not-nil
+        (subst (λ (l : List (Seen (plain s))). Seen.began u y ∈ l) (nothing-seen-past-the-stripes s events k (ltb-false k (s .stripes) q)) n))
+
+    above : coordinatorOf u ≡ coordinatorOf t → u < t
+    above = go (ltb k (s .stripes)) refl
 
 -- ONE OPERATION AT A TIME
 last-check : (l : List ℕ) (d x : ℕ) → firstRefusal (l ++ d ∷ []) ≡ 0 → firstRefusal (l ++ d ∷ x ∷ []) ≡ x
