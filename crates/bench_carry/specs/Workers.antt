@@ -1,19 +1,19 @@
 -- The loop over the numbers of a carry line.
 use Rattle.std.specs.Prelude.{◌≡◌, List, [], ◌++◌, ℕ, ◌+◌, ◌*◌, ◌/◌, ◌≤◌, length}
-use Rattle.bench_parse.specs.Workers.{CarryRest, wordsFrom}
-use Rattle.bench_parse.specs.Lines.{numbersOf}
-use Rattle.bench_rules.specs.Play.{carriedAll}
-use Rattle.bench_rules.specs.Turning.{Lent, worldIn}
+use Rattle.bench_parse.specs.Workers.{CarryRest, words_from}
+use Rattle.bench_parse.specs.Lines.{numbers_of}
+use Rattle.bench_rules.specs.Play.{carried_all}
+use Rattle.bench_rules.specs.Turning.{Lent, world_in}
 use Rattle.bench_rules.specs.Workers.{BenchReady}
 use Rattle.bench_rules.specs.declared.After.{After}
-use Rattle.bench_print.specs.Printing.{printedInto}
+use Rattle.bench_print.specs.Printing.{printed_into}
 use Rattle.bench_state.specs.declared.Bench.{Bench}
 use Rattle.register.specs.Runs.{Event}
-use Rattle.bench_limits.specs.Limits.{lineRoom}
+use Rattle.bench_limits.specs.Limits.{line_room}
 
 -- a byte of a carry line prints so many at most: a number takes two bytes or more, and prints one line
-abbrev textAByte : ℕ
-textAByte = lineRoom / 2
+abbrev text_aByte : ℕ
+text_aByte = line_room / 2
 
 -- The loop over a line's numbers: text is what was printed so far, happened the events so far, and the rest of the numbers is still to be carried.
 -- Without an event so far every byte of the record and of the buffers is kept.
@@ -23,14 +23,14 @@ pub record Carrying (b : Bench) (l : Lent) (line : List ℕ) (first : ℕ) (out 
   pub ready : BenchReady r.bench l'
   pub settings-kept : r.bench.settings ≡ b.settings
   pub out-long : length out' ≡ length out
-  pub text-is : out' ≡ printedInto 0 text out
+  pub text-is : out' ≡ printed_into 0 text out
   pub used-is : r.used ≡ length text
-  pub room : r.used ≤ textAByte * place
+  pub room : r.used ≤ text_aByte * place
   pub rest : CarryRest line place
-  pub world-so : (carriedAll b.settings (worldIn b l) (numbersOf (wordsFrom line first))).world
-      ≡ (carriedAll b.settings (worldIn r.bench l') (numbersOf (wordsFrom line place))).world
-  pub printed-so : (carriedAll b.settings (worldIn b l) (numbersOf (wordsFrom line first))).printed
-      ≡ text ++ (carriedAll b.settings (worldIn r.bench l') (numbersOf (wordsFrom line place))).printed
-  pub events-so : (carriedAll b.settings (worldIn b l) (numbersOf (wordsFrom line first))).events
-      ≡ happened ++ (carriedAll b.settings (worldIn r.bench l') (numbersOf (wordsFrom line place))).events
+  pub world-so : (carried_all b.settings (world_in b l) (numbers_of (words_from line first))).world
+      ≡ (carried_all b.settings (world_in r.bench l') (numbers_of (words_from line place))).world
+  pub printed-so : (carried_all b.settings (world_in b l) (numbers_of (words_from line first))).printed
+      ≡ text ++ (carried_all b.settings (world_in r.bench l') (numbers_of (words_from line place))).printed
+  pub events-so : (carried_all b.settings (world_in b l) (numbers_of (words_from line first))).events
+      ≡ happened ++ (carried_all b.settings (world_in r.bench l') (numbers_of (words_from line place))).events
   pub no-event-keeps : happened ≡ [] → (r.bench ≡ b) × (l' ≡ l)

@@ -1,12 +1,12 @@
 // The numbers of a carry line, one after the other (document 01, "The bench").
 // inner: call `bench_player::play_line`
 ghost use Rattle.std.specs.Prelude.{◌≡◌, ◌+◌, ◌≤◌, length};
-ghost use Rattle.bench_parse.specs.Lines.{numbersOf};
-ghost use Rattle.bench_parse.specs.Workers.{wordsFrom, CarryFrom};
-ghost use Rattle.bench_rules.specs.Play.{carried, carriedAll};
-ghost use Rattle.bench_rules.specs.Turning.{lent, worldIn};
+ghost use Rattle.bench_parse.specs.Lines.{numbers_of};
+ghost use Rattle.bench_parse.specs.Workers.{words_from, CarryFrom};
+ghost use Rattle.bench_rules.specs.Play.{carried, carried_all};
+ghost use Rattle.bench_rules.specs.Turning.{lent, world_in};
 ghost use Rattle.bench_rules.specs.Workers.{BenchReady, Turned, Lined};
-ghost use Rattle.bench_limits.specs.Limits.{lineRoom, textLength};
+ghost use Rattle.bench_limits.specs.Limits.{line_room, text_length};
 
 use bench_rules::After;
 use bench_state::Bench;
@@ -23,10 +23,10 @@ fn carry_one(
     out: &mut [u8],
 ) -> After
     requires bench_ready { BenchReady b (lent images.old kept.old numbers.old bytes.old) }
-    requires line_room_in_bounds { at + lineRoom ≤ length out.old }
+    requires line_room_in_bounds { at + line_room ≤ length out.old }
     ensures { let l = lent images.old kept.old numbers.old bytes.old in
         let l' = lent images.new kept.new numbers.new bytes.new in
-        Turned b l at out.old (carried b.settings (worldIn b l) number) result l' out.new }
+        Turned b l at out.old (carried b.settings (world_in b l) number) result l' out.new }
 {
     if number == 0 {
         return bench_rules::refuse(b, settings::BAD_LINE, at, out);
@@ -54,10 +54,10 @@ pub fn carry_all(
     out: &mut [u8],
 ) -> After
     requires bench_ready { BenchReady b (lent images.old kept.old numbers.old bytes.old) }
-    requires carry_from { CarryFrom line.now first × (length out.old ≡ textLength) }
+    requires carry_from { CarryFrom line.now first × (length out.old ≡ text_length) }
     ensures { let l = lent images.old kept.old numbers.old bytes.old in
         let l' = lent images.new kept.new numbers.new bytes.new in
-        Lined b l out.old (carriedAll b.settings (worldIn b l) (numbersOf (wordsFrom line.now first))) result l' out.new }
+        Lined b l out.old (carried_all b.settings (world_in b l) (numbers_of (words_from line.now first))) result l' out.new }
 {
     let mut r = After { bench: b, used: 0 };
     let mut place = first;

@@ -1,15 +1,15 @@
 // A carried message at its brick (document 01, "The bench"): lost, refused, or received, and its reply sent.
 // inner: call `bench_player::play_line`
 ghost use Rattle.std.specs.Prelude.{◌≡◌, false, List, ℕ, ◌+◌, ◌≤◌, ◌<◌, length, replicate};
-ghost use Rattle.bench_sent.specs.Sent.{isReply, item_at};
+ghost use Rattle.bench_sent.specs.Sent.{is_reply, item_at};
 ghost use Rattle.bench_rules.specs.Play.{carries};
-ghost use Rattle.bench_rules.specs.Turning.{lent, worldIn};
+ghost use Rattle.bench_rules.specs.Turning.{lent, world_in};
 ghost use Rattle.bench_rules.specs.Workers.{Turned};
-ghost use Rattle.bench_carry_message.specs.Workers.{Lends, Reaching, Settled, maySend, sentAfterMessage};
-ghost use Rattle.bench_carry_message.specs.Workers.{imageIn, ofTheSize, pastLimit};
-ghost use Rattle.bench_limits.specs.Limits.{benchSize, lastMessage, imagesLength, numbersLength, bytesLength, lineRoom};
+ghost use Rattle.bench_carry_message.specs.Workers.{Lends, Reaching, Settled, may_send, sent_after_message};
+ghost use Rattle.bench_carry_message.specs.Workers.{image_in, of_the_size, past_limit};
+ghost use Rattle.bench_limits.specs.Limits.{bench_size, last_message, images_length, numbers_length, bytes_length, line_room};
 ghost use Rattle.bench_state.specs.Workers.{Fits};
-ghost use Rattle.brick.specs.Receive.{receiveRefusal};
+ghost use Rattle.brick.specs.Receive.{receive_refusal};
 
 use bench_limits::{BLOCK_PLACE, IMAGE_ROOM, LAST_MESSAGE, OLD_BLOCK_PLACE, ROW_BYTES, SIZE, UP};
 use bench_rules::{After, refuse};
@@ -28,8 +28,8 @@ fn settle(
     at: usize,
     out: &mut [u8],
 ) -> After
-    requires g_bound { (sentAfterMessage b.sent g ≤ lastMessage) × (length block.now ≡ b.settings.size) × (b.settings.size ≤ benchSize) }
-    requires numbers_len { (length numbers.old ≡ numbersLength) × (length bytes.old ≡ bytesLength) × (at + lineRoom ≤ length out.old) }
+    requires g_bound { (sent_after_message b.sent g ≤ last_message) × (length block.now ≡ b.settings.size) × (b.settings.size ≤ bench_size) }
+    requires numbers_len { (length numbers.old ≡ numbers_length) × (length bytes.old ≡ bytes_length) × (at + line_room ≤ length out.old) }
     ensures { Settled b g block.now numbers.old bytes.old at out.old result
         numbers.new bytes.new out.new }
 {
@@ -58,12 +58,12 @@ fn deliver_with(
     out: &mut [u8],
 ) -> After
     requires lends { Lends b images.old numbers.old bytes.old × Reaching b numbers.old bytes.old k brick msg }
-    requires block_value { (block.old ≡ replicate b.settings.size 0) × (at + lineRoom ≤ length out.old) }
+    requires block_value { (block.old ≡ replicate b.settings.size 0) × (at + line_room ≤ length out.old) }
     ensures { (kept : List ℕ) →
         let l = lent images.old kept numbers.old bytes.old in
         let l' = lent images.new kept numbers.new bytes.new in
         Turned b l at out.old
-        (carries b.settings (worldIn b l) k (item_at b.settings.size numbers.old bytes.old k))
+        (carries b.settings (world_in b l) k (item_at b.settings.size numbers.old bytes.old k))
         result l' out.new }
 {
     let s = b.settings;
@@ -87,7 +87,7 @@ fn deliver_with(
 
 // Whether a message may be carried: every one but a Trim or a Drop sends a reply.
 fn may_send(kind: u8, sent: usize) -> bool
-    ensures { result ≡ maySend kind sent }
+    ensures { result ≡ may_send kind sent }
 {
     if is_silent(kind) {
         return true;
@@ -97,7 +97,7 @@ fn may_send(kind: u8, sent: usize) -> bool
 
 // Why the brick refuses a message at its image, 0 for none; the image is only looked at.
 fn refusal_at(s: Settings, brick: usize, image: &[u8], msg: Message) -> u32
-    ensures { result ≡ receiveRefusal s brick image.now msg (ofTheSize s) }
+    ensures { result ≡ receive_refusal s brick image.now msg (of_the_size s) }
 {
     let bad = brick::front_refusal(s, 1, brick, image.len(), msg, s.size, s.size, s.size);
     if bad != PASSED {
@@ -114,8 +114,8 @@ fn refusal_at(s: Settings, brick: usize, image: &[u8], msg: Message) -> u32
 
 // What a message is refused with whose reply may no longer be sent: the brick's number, if the brick refuses it, else 12.
 fn past_limit(s: Settings, brick: usize, images: &[u8], msg: Message) -> u32
-    requires { Fits s × (brick < s.n) × (length images.now ≡ imagesLength) }
-    ensures { result ≡ pastLimit (receiveRefusal s brick (imageIn s brick images.now) msg (ofTheSize s)) }
+    requires { Fits s × (brick < s.n) × (length images.now ≡ images_length) }
+    ensures { result ≡ past_limit (receive_refusal s brick (image_in s brick images.now) msg (of_the_size s)) }
 {
     let start = brick * IMAGE_ROOM;
     let end = start + image_block::BLOCK_BYTES * (s.capacity + 1);
@@ -137,12 +137,12 @@ pub fn carry_message(
     out: &mut [u8],
 ) -> After
     requires lends { Lends b images.old numbers.old bytes.old × (k < b.sent) }
-    requires k_value { (isReply numbers.old k ≡ false) × (at + lineRoom ≤ length out.old) }
+    requires k_value { (is_reply numbers.old k ≡ false) × (at + line_room ≤ length out.old) }
     ensures { (kept : List ℕ) →
         let l = lent images.old kept numbers.old bytes.old in
         let l' = lent images.new kept numbers.new bytes.new in
         Turned b l at out.old
-        (carries b.settings (worldIn b l) k (item_at b.settings.size numbers.old bytes.old k))
+        (carries b.settings (world_in b l) k (item_at b.settings.size numbers.old bytes.old k))
         result l' out.new }
 {
     let s = b.settings;

@@ -4,11 +4,11 @@ ghost use Rattle.std.specs.Prelude.{◌≡◌, true, ◌+◌, ◌*◌, ◌%◌, 
 ghost use Rattle.bench_commit.specs.Workers.{BenchActed, Plays};
 ghost use Rattle.bench_commit.specs.Workers.{Seats, Copies};
 ghost use Rattle.bench_rules.specs.Play.{carries};
-ghost use Rattle.bench_sent.specs.Sent.{isReply, replyAt, sentBlockAt, item_at};
+ghost use Rattle.bench_sent.specs.Sent.{is_reply, reply_at, sent_block_at, item_at};
 ghost use Rattle.coord_apply.specs.Answers.{Buffered};
-ghost use Rattle.coordinator.specs.Routines.{takeStep};
+ghost use Rattle.coordinator.specs.Routines.{take_step};
 ghost use Rattle.register.specs.Runs.{World, arrives};
-ghost use Rattle.settings.specs.Times.{coordinatorOf};
+ghost use Rattle.settings.specs.Times.{coordinator_of};
 
 use bench_commit::commit;
 use bench_limits::{BLOCK_PLACE, ROW_BYTES, STRIPE_ROOM};
@@ -36,10 +36,10 @@ fn reply_with(
 ) -> After
     requires seats { Seats b c kept.old numbers.old bytes.old at out.old }
     requires copies { Copies b.settings blocks.old stripe.old coded.old }
-    requires k_lt_sent { (k < b.sent) × (isReply numbers.old k ≡ true) × (reply ≡ replyAt numbers.old k) × (c ≡ coordinatorOf reply.time) }
+    requires k_lt_sent { (k < b.sent) × (is_reply numbers.old k ≡ true) × (reply ≡ reply_at numbers.old k) × (c ≡ coordinator_of reply.time) }
     ensures { let s = b.settings in
         BenchActed b c (arrives k)
-        (λ (h : Buffered). takeStep s.n s.m s.size s.stripes h reply (sentBlockAt s.size bytes.old k) (s.n * s.size))
+        (λ (h : Buffered). take_step s.n s.m s.size s.stripes h reply (sent_block_at s.size bytes.old k) (s.n * s.size))
         kept.old numbers.old bytes.old at out.old result
         kept.new numbers.new bytes.new out.new }
 {
@@ -76,7 +76,7 @@ pub fn carry_reply(
     out: &mut [u8],
 ) -> After
     requires seats { Seats b 0 kept.old numbers.old bytes.old at out.old }
-    requires k_lt_sent { (k < b.sent) × (isReply numbers.old k ≡ true) }
+    requires k_lt_sent { (k < b.sent) × (is_reply numbers.old k ≡ true) }
     ensures { let s = b.settings in
         Plays b (λ (w : World). carries s w k (item_at s.size numbers.old bytes.old k))
         kept.old numbers.old bytes.old at out.old result

@@ -1,10 +1,10 @@
 // What a coordinator's routine answered, on the bench: kept, sent and printed, where its messages stay within message 127 (document 01, "The bench").
 // inner: call `bench_player::play_line`
 ghost use Rattle.std.specs.Prelude.{◌≡◌, ◌+◌, ◌*◌, ◌≤◌, ◌<◌, length};
-ghost use Rattle.coord_apply.specs.Answers.{mostBroadcasts};
+ghost use Rattle.coord_apply.specs.Answers.{most_broadcasts};
 ghost use Rattle.bench_commit.specs.Workers.{Lists, Round, Seats, Copies, Answers};
-ghost use Rattle.bench_commit.specs.Workers.{sentAfterAnswer};
-ghost use Rattle.bench_limits.specs.Limits.{lastMessage, benchBricks, numbersLength, bytesLength};
+ghost use Rattle.bench_commit.specs.Workers.{sent_after_answer};
+ghost use Rattle.bench_limits.specs.Limits.{last_message, bench_bricks, numbers_length, bytes_length};
 ghost use Rattle.bench_state.specs.Workers.{Fits};
 
 use bench_limits::LAST_MESSAGE;
@@ -16,8 +16,8 @@ use settings::Settings;
 
 // How many messages are sent after so many broadcasts.
 fn sent_after(n: usize, sent: usize, broadcasts: usize) -> usize
-    requires { (broadcasts ≤ mostBroadcasts) × (sent + mostBroadcasts * n ≤ lastMessage + mostBroadcasts * benchBricks) }
-    ensures { result ≡ sentAfterAnswer n sent broadcasts }
+    requires { (broadcasts ≤ most_broadcasts) × (sent + most_broadcasts * n ≤ last_message + most_broadcasts * bench_bricks) }
+    ensures { result ≡ sent_after_answer n sent broadcasts }
 {
     sent + broadcasts * n
 }
@@ -35,8 +35,8 @@ fn send(
     numbers: &mut [u64],
     bytes: &mut [u8],
 )
-    requires fits { Fits s × Copies s blocks.now stripe.now coded.now × (sentAfterAnswer s.n sent broadcasts ≤ lastMessage) }
-    requires lists { Lists s.m broadcasts first second × (length numbers.old ≡ numbersLength) × (length bytes.old ≡ bytesLength) }
+    requires fits { Fits s × Copies s blocks.now stripe.now coded.now × (sent_after_answer s.n sent broadcasts ≤ last_message) }
+    requires lists { Lists s.m broadcasts first second × (length numbers.old ≡ numbers_length) × (length bytes.old ≡ bytes_length) }
     ensures { Round s sent broadcasts first second blocks.now stripe.now coded.now
         numbers.old bytes.old numbers.new bytes.new }
 {
@@ -79,7 +79,7 @@ fn keep_answer(
 ) -> After
     requires seats { Seats b c kept.old numbers.old bytes.old at out.old }
     requires copies { Copies b.settings blocks.now stripe.now coded.now }
-    requires refusal_value { (a.refusal ≡ 0) × (sent ≡ sentAfterAnswer b.settings.n b.sent a.sent) × (sent ≤ lastMessage) }
+    requires refusal_value { (a.refusal ≡ 0) × (sent ≡ sent_after_answer b.settings.n b.sent a.sent) × (sent ≤ last_message) }
     requires lists { Lists b.settings.m a.sent a.message a.second }
     ensures { Answers b c a blocks.now stripe.now coded.now
         kept.old numbers.old bytes.old at out.old result

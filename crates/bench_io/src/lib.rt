@@ -1,9 +1,9 @@
 // The program `bench` (document 01): reads standard input to its end, whatever it holds, cuts it into lines, plays each as it comes, and
 // writes out what the line prints. All that it does with a line is `bench_player`'s, and with a chunk `bench_lines`'s.
 ghost use Rattle.std.specs.Prelude.{◌≡◌, cond, ◌-◌, ◌≤◌, eqb, length};
-ghost use Rattle.bench_io.specs.Workers.{goesOn, atEnd, writeStatus, readStatus, leftWith};
+ghost use Rattle.bench_io.specs.Workers.{goes_on, at_end, write_status, read_status, left_with};
 ghost use Rattle.bench_io.specs.Workers.{Interrupts, HeldPlayed, ChunkPlayed, PlayedLast, TurnMade, Ran, RunLeft};
-ghost use Rattle.bench_limits.specs.Limits.{keptLength, imagesLength, numbersLength, bytesLength};
+ghost use Rattle.bench_limits.specs.Limits.{kept_length, images_length, numbers_length, bytes_length};
 ghost use Rattle.bench_rules.specs.Turning.{lent};
 
 use bench_limits::{BYTES_LENGTH, IMAGES_LENGTH, KEPT_LENGTH, NUMBERS_LENGTH};
@@ -33,32 +33,32 @@ struct Pass {
 
 // Buffers of zeros; only their lengths are told, which lending them needs.
 fn new_images() -> [u8; IMAGES_LENGTH]
-    ensures { imagesLength ≡ length result }
+    ensures { images_length ≡ length result }
 {
     [0; IMAGES_LENGTH]
 }
 
 fn new_kept() -> [u8; KEPT_LENGTH]
-    ensures { keptLength ≡ length result }
+    ensures { kept_length ≡ length result }
 {
     [0; KEPT_LENGTH]
 }
 
 fn new_numbers() -> [u64; NUMBERS_LENGTH]
-    ensures { numbersLength ≡ length result }
+    ensures { numbers_length ≡ length result }
 {
     [0; NUMBERS_LENGTH]
 }
 
 fn new_bytes() -> [u8; BYTES_LENGTH]
-    ensures { bytesLength ≡ length result }
+    ensures { bytes_length ≡ length result }
 {
     [0; BYTES_LENGTH]
 }
 
 // How the program stands after a text was written, or was not.
 fn after_writing(written: bool) -> u32
-    ensures { result ≡ writeStatus written }
+    ensures { result ≡ write_status written }
 {
     if written {
         return GOES_ON;
@@ -165,7 +165,7 @@ fn play_last(
 
 // How the program stands after the last line.
 fn at_the_end(status: u32) -> u32
-    ensures { result ≡ cond (eqb status goesOn) atEnd status }
+    ensures { result ≡ cond (eqb status goes_on) at_end status }
 {
     if status == GOES_ON {
         return ENDED;
@@ -185,7 +185,7 @@ fn is_interrupt(error: i32) -> bool
 
 // How the program stands after a call of `read` that answered so. One that a signal interrupts before it moves a byte is made again.
 fn after_reading(got: isize, interrupted: bool) -> u32
-    ensures { result ≡ readStatus got interrupted }
+    ensures { result ≡ read_status got interrupted }
 {
     if 0 < got {
         return GOES_ON;
@@ -247,7 +247,7 @@ fn turn(
 // How many turns may follow.
 fn turns_left(turns: u64, status: u32) -> u64
     requires { 1 ≤ turns }
-    ensures { result ≡ cond (eqb status goesOn) (turns - 1) 0 }
+    ensures { result ≡ cond (eqb status goes_on) (turns - 1) 0 }
 {
     if status == GOES_ON {
         return turns - 1;
@@ -298,7 +298,7 @@ fn play_all(
 
 // What the program leaves with; of what failed it says one line.
 fn leave(status: u32) -> u32
-    ensures { result ≡ leftWith status }
+    ensures { result ≡ left_with status }
 {
     if status == ENDED {
         return DONE;

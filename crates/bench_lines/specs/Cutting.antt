@@ -12,17 +12,17 @@ lines [] = []
 lines (x ∷ l) = cond (eqb x newline) ([] ∷ lines l) (longer x (lines l))
 
 -- the bytes before the first newline, or all of them
-unfoldable pub beforeNewline : List ℕ → List ℕ
-beforeNewline [] = []
-beforeNewline (x ∷ l) = cond (eqb x newline) [] (x ∷ beforeNewline l)
+unfoldable pub before_newline : List ℕ → List ℕ
+before_newline [] = []
+before_newline (x ∷ l) = cond (eqb x newline) [] (x ∷ before_newline l)
 
-unfoldable pub hasNewline : List ℕ → Bool
-hasNewline [] = false
-hasNewline (x ∷ l) = eqb x newline || hasNewline l
+unfoldable pub has_newline : List ℕ → Bool
+has_newline [] = false
+has_newline (x ∷ l) = eqb x newline || has_newline l
 
 -- how many bytes are done with: those before the newline, and the newline
-unfoldable pub doneWith : List ℕ → ℕ
-doneWith l = length (beforeNewline l) + cond (hasNewline l) 1 0
+unfoldable pub done_with : List ℕ → ℕ
+done_with l = length (before_newline l) + cond (has_newline l) 1 0
 
 -- what a line of so much room, of which some is taken, takes of these bytes
 abbrev pub fitting : ℕ → ℕ → List ℕ → List ℕ
@@ -31,10 +31,10 @@ fitting room held bytes = take (room - held) bytes
 -- One call of `cut_line`, for the rest of a chunk from a place on and a line of which some bytes are held: where the chunk goes on, how many
 -- bytes of the line are held then, whether a newline ended it, and the line's buffer.
 pub record CutOff (rest : List ℕ) (from : ℕ) (line : List ℕ) (held : ℕ) (r : Cut) (line' : List ℕ) : Type 0 where
-  pub next-is : r.next ≡ from + doneWith rest
-  pub held-is : r.held ≡ held + length (fitting (length line) held (beforeNewline rest))
-  pub whole_is : r.whole ≡ hasNewline rest
-  pub line-is : line' ≡ put held (fitting (length line) held (beforeNewline rest)) line
+  pub next-is : r.next ≡ from + done_with rest
+  pub held-is : r.held ≡ held + length (fitting (length line) held (before_newline rest))
+  pub whole_is : r.whole ≡ has_newline rest
+  pub line-is : line' ≡ put held (fitting (length line) held (before_newline rest)) line
 
 -- Calls for one chunk, from a line's buffer, the bytes held of it and a place in the chunk to others, and the lines handed on: of each line that
 -- a newline ended the bytes that are held. The next line starts with none.
@@ -48,12 +48,12 @@ pub data Cuts (chunk : List ℕ) : List ℕ → ℕ → ℕ → List (List ℕ) 
       → Cuts chunk line held at (take r.held line' ∷ handed) line'' held'' at''
 
 -- at the end of the input: bytes that are held are a last line
-unfoldable pub lastLine : List ℕ → ℕ → List (List ℕ)
-lastLine line held = cond (ltb 0 held) (take held line ∷ []) []
+unfoldable pub last_line : List ℕ → ℕ → List (List ℕ)
+last_line line held = cond (ltb 0 held) (take held line ∷ []) []
 
 -- The chunks of an input, one after the other, each from its start to its end; and all that is handed on.
 pub data HandedOn : List ℕ → ℕ → List (List ℕ) → List (List ℕ) → Type 0 where
-  ended : (line : List ℕ) (held : ℕ) → HandedOn line held [] (lastLine line held)
+  ended : (line : List ℕ) (held : ℕ) → HandedOn line held [] (last_line line held)
   chunk : {line line' : List ℕ} {held held' at : ℕ} {bytes : List ℕ} {chunks first rest : List (List ℕ)}
       → Cuts bytes line held 0 first line' held' at → length bytes ≤ at → HandedOn line' held' chunks rest
       → HandedOn line held (bytes ∷ chunks) (first ++ rest)

@@ -3,7 +3,7 @@
 ghost use Rattle.std.specs.Prelude.{◌≡◌, length, drop};
 ghost use Rattle.bench_lines.specs.Cutting.{CutOff};
 ghost use Rattle.bench_lines.specs.Workers.{Kept};
-ghost use Rattle.bench_parse.specs.Lines.{heldLength};
+ghost use Rattle.bench_parse.specs.Lines.{held_length};
 
 // Room for as many bytes of a line as are enough to tell that it is too long.
 const LINE_LENGTH: usize = bench_parse::HELD_LENGTH;
@@ -20,7 +20,7 @@ pub struct Cut {
 
 // A line's buffer, of zeros; only its length is told.
 pub fn new_line() -> [u8; LINE_LENGTH]
-    ensures { heldLength ≡ length result }
+    ensures { held_length ≡ length result }
 {
     [0; LINE_LENGTH]
 }

@@ -2,7 +2,7 @@
 use Rattle.std.specs.Prelude.{◌≡◌, List, ℕ, ◌≤◌, length}
 use Rattle.settings.specs.declared.Settings.{Settings}
 use Rattle.register.specs.Runs.{World, Event}
-use Rattle.bench_limits.specs.Limits.{lastMessage}
+use Rattle.bench_limits.specs.Limits.{last_message}
 use Rattle.bench_rules.specs.Play.{playing}
 use Rattle.bench_order.specs.Script.{script}
 
@@ -10,4 +10,4 @@ use Rattle.bench_order.specs.Script.{script}
 abbrev pub NeverPastMessage127 : Type 0
 NeverPastMessage127 =
     (input : List ℕ) (s : Settings) (w : World) (events : List Event) → (script input).stage ≡ playing s w events
-    → length w.sent ≤ lastMessage
+    → length w.sent ≤ last_message

@@ -13,10 +13,10 @@ unfoldable pub follows : Turn → Turn → Turn
 follows t u = record { stage = u.stage; events = t.events ++ u.events; printed = t.printed ++ u.printed }
 
 -- each line as it reads, refused ones too: the bench "plays on"
-unfoldable pub playsLines : Stage → List (List ℕ) → Turn
-playsLines stage [] = stays stage
-playsLines stage (l ∷ ls) = follows (turn stage (reads l)) (playsLines (turn stage (reads l)).stage ls)
+unfoldable pub plays_lines : Stage → List (List ℕ) → Turn
+plays_lines stage [] = stays stage
+plays_lines stage (l ∷ ls) = follows (turn stage (reads l)) (plays_lines (turn stage (reads l)).stage ls)
 
 -- the whole input, from the bench without a set
 unfoldable pub script : List ℕ → Turn
-script input = playsLines waiting (lines input)
+script input = plays_lines waiting (lines input)

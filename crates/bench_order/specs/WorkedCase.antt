@@ -2,8 +2,8 @@
 use Rattle.std.specs.Prelude.{List, [], ◌∷◌, ◌++◌, ℕ}
 
 -- the lines, each with its newline
-unfoldable pub worked-input : List ℕ
-worked-input =
+unfoldable pub worked_input : List ℕ
+worked_input =
     -- set 3 1 1 4
     (115 ∷ 101 ∷ 116 ∷ 32 ∷ 51 ∷ 32 ∷ 49 ∷ 32 ∷ 49 ∷ 32 ∷ 52 ∷ 10 ∷ [])
     ++
@@ -37,8 +37,8 @@ worked-input =
     ∷ 56 ∷ 32 ∷ 52 ∷ 49 ∷ 32 ∷ 51 ∷ 57 ∷ 32 ∷ 52 ∷ 50 ∷ 10 ∷ [])
 
 -- what is printed
-unfoldable pub worked-output : List ℕ
-worked-output =
+unfoldable pub worked_output : List ℕ
+worked_output =
     -- 0 write 16 C cut
     (48 ∷ 32 ∷ 119 ∷ 114 ∷ 105 ∷ 116 ∷ 101 ∷ 32 ∷ 49 ∷ 54 ∷ 32 ∷ 67 ∷ 32 ∷ 99 ∷ 117 ∷ 116 ∷ 10 ∷ [])
     ++

@@ -1,12 +1,12 @@
 // How a line of the bench reads (document 01, "The bench"): from the bytes of a line to what it says.
 // inner: call `bench_player::play_line`
 ghost use Rattle.std.specs.Prelude.{◌≡◌, true, ◌&&◌, leb, ◌+◌, ◌*◌, ◌≤◌, ◌<◌, length, drop};
-ghost use Rattle.bench_parse.specs.Lines.{every, numberWord, isHex, hexValue, bytes_of, crashLine, downLine, upLine, setOf, writeOf, read_of, carryOf};
+ghost use Rattle.bench_parse.specs.Lines.{every, number_word, is_hex, hex_value, bytes_of, crash_line, down_line, up_line, set_of, write_of, read_of, carry_of};
 ghost use Rattle.bench_parse.specs.Lines.{one_of, reads};
 ghost use Rattle.byte_lists.specs.Lists.{same};
-ghost use Rattle.bench_parse.specs.Workers.{wordsFrom, line_of, CarryFrom, LineSound, NumberAt};
-ghost use Rattle.bench_parse.specs.Workers.{carryCommand, afterCarry};
-ghost use Rattle.bench_parse.specs.Workers.{ReadAs, wordLength, NumeralOf, NumberFrom, AloneOf, HexesFrom, commandNumber, byNumber, Place};
+ghost use Rattle.bench_parse.specs.Workers.{words_from, line_of, CarryFrom, LineSound, NumberAt};
+ghost use Rattle.bench_parse.specs.Workers.{carry_command, after_carry};
+ghost use Rattle.bench_parse.specs.Workers.{ReadAs, word_length, NumeralOf, NumberFrom, AloneOf, HexesFrom, command_number, by_number, Place};
 
 // "a line has up to 1,000 bytes"
 pub const LONGEST: usize = 1000;
@@ -74,7 +74,7 @@ struct Piece {
 // The place of the next space, or the line's end.
 fn word_end(line: &[u8], at: usize) -> usize
     requires { at ≤ length line.now }
-    ensures { result ≡ at + wordLength (drop at line.now) }
+    ensures { result ≡ at + word_length (drop at line.now) }
 {
     let mut e = at;
     while e < line.len() {
@@ -168,7 +168,7 @@ fn number_from(line: &[u8], at: usize) -> Piece
 // The number at a place of a line where no other word follows.
 fn alone(line: &[u8], at: usize) -> Numeral
     requires { Place line.now at }
-    ensures { AloneOf (wordsFrom line.now at) result }
+    ensures { AloneOf (words_from line.now at) result }
 {
     let p = number_from(line, at);
     if p.good {} else {
@@ -192,7 +192,7 @@ fn alone(line: &[u8], at: usize) -> Numeral
 // Whether all words from a place on are numbers.
 fn all_numbers(line: &[u8], at: usize) -> bool
     requires { Place line.now at }
-    ensures { result ≡ every numberWord (wordsFrom line.now at) }
+    ensures { result ≡ every number_word (words_from line.now at) }
 {
     let mut k = at;
     while k <= line.len() {
@@ -226,7 +226,7 @@ fn within(x: u8, low: u8, high: u8) -> bool
 
 // Whether a byte is a hex digit.
 fn is_hex(x: u8) -> bool
-    ensures { result ≡ isHex x }
+    ensures { result ≡ is_hex x }
 {
     if within(x, 48, 57) {
         return true;
@@ -257,7 +257,7 @@ fn hex_from(line: &[u8], at: usize) -> bool
 // `set n m size capacity`, from the first number on.
 fn set_from(line: &[u8], at: usize) -> Line
     requires { Place line.now at }
-    ensures { ReadAs result line.now (setOf (wordsFrom line.now at)) }
+    ensures { ReadAs result line.now (set_of (words_from line.now at)) }
 {
     let n = number_from(line, at);
     if n.good {} else {
@@ -281,7 +281,7 @@ fn set_from(line: &[u8], at: usize) -> Line
 // `write c clock hex`, from the first number on.
 fn write_from(line: &[u8], at: usize) -> Line
     requires { Place line.now at }
-    ensures { ReadAs result line.now (writeOf (wordsFrom line.now at)) }
+    ensures { ReadAs result line.now (write_of (words_from line.now at)) }
 {
     let c = number_from(line, at);
     if c.good {} else {
@@ -300,7 +300,7 @@ fn write_from(line: &[u8], at: usize) -> Line
 // `read c clock brick`, from the first number on.
 fn read_from(line: &[u8], at: usize) -> Line
     requires { Place line.now at }
-    ensures { ReadAs result line.now (read_of (wordsFrom line.now at)) }
+    ensures { ReadAs result line.now (read_of (words_from line.now at)) }
 {
     let c = number_from(line, at);
     if c.good {} else {
@@ -320,8 +320,8 @@ fn read_from(line: &[u8], at: usize) -> Line
 // `carry` and its numbers, from the first on.
 fn carry_from(line: &[u8], at: usize) -> Line
     requires place { Place line.now at }
-    requires after_carry_le_at { afterCarry ≤ at }
-    ensures { ReadAs result line.now (carryOf (wordsFrom line.now at)) }
+    requires after_carry_le_at { after_carry ≤ at }
+    ensures { ReadAs result line.now (carry_of (words_from line.now at)) }
 {
     if line.len() < at {
         return Line::Unread;
@@ -335,7 +335,7 @@ fn carry_from(line: &[u8], at: usize) -> Line
 // `crash c`, from the number on.
 fn crash_from(line: &[u8], at: usize) -> Line
     requires { Place line.now at }
-    ensures { ReadAs result line.now (one_of crashLine (wordsFrom line.now at)) }
+    ensures { ReadAs result line.now (one_of crash_line (words_from line.now at)) }
 {
     let c = alone(line, at);
     if c.good {} else {
@@ -347,7 +347,7 @@ fn crash_from(line: &[u8], at: usize) -> Line
 // `down b`, from the number on.
 fn down_from(line: &[u8], at: usize) -> Line
     requires { Place line.now at }
-    ensures { ReadAs result line.now (one_of downLine (wordsFrom line.now at)) }
+    ensures { ReadAs result line.now (one_of down_line (words_from line.now at)) }
 {
     let b = alone(line, at);
     if b.good {} else {
@@ -359,7 +359,7 @@ fn down_from(line: &[u8], at: usize) -> Line
 // `up b`, from the number on.
 fn up_from(line: &[u8], at: usize) -> Line
     requires { Place line.now at }
-    ensures { ReadAs result line.now (one_of upLine (wordsFrom line.now at)) }
+    ensures { ReadAs result line.now (one_of up_line (words_from line.now at)) }
 {
     let b = alone(line, at);
     if b.good {} else {
@@ -370,7 +370,7 @@ fn up_from(line: &[u8], at: usize) -> Line
 
 // The first word as a command.
 fn command_of(word: &[u8]) -> u32
-    ensures { result ≡ commandNumber word.now }
+    ensures { result ≡ command_number word.now }
 {
     if same_word(word, b"set") {
         return SET;
@@ -399,8 +399,8 @@ fn command_of(word: &[u8]) -> u32
 // A line from its second word on.
 fn read_rest(line: &[u8], at: usize, command: u32) -> Line
     requires place { Place line.now at }
-    requires after_carry_le_at { command ≡ carryCommand → afterCarry ≤ at }
-    ensures { ReadAs result line.now (byNumber command (wordsFrom line.now at)) }
+    requires after_carry_le_at { command ≡ carry_command → after_carry ≤ at }
+    ensures { ReadAs result line.now (by_number command (words_from line.now at)) }
 {
     if command == SET {
         return set_from(line, at);
@@ -441,7 +441,7 @@ pub fn read_line(line: &[u8]) -> Line
 
 // A hex digit's value; 0 for a byte that is none.
 fn hex_value(x: u8) -> u8
-    ensures { (result ≡ hexValue x) × (result < 16) }
+    ensures { (result ≡ hex_value x) × (result < 16) }
 {
     if within(x, 48, 57) {
         return x - 48;

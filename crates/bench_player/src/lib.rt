@@ -1,15 +1,15 @@
 // The bench's lines, played one at a time over the proved routines (document 01, "The bench"): `play_line` is what a user calls.
 ghost use Rattle.std.specs.Prelude.{◌≡◌, ◌||◌, List, ◌≤◌, eqb, length};
-ghost use Rattle.bench_player.specs.Lining.{stageOf, lentLengthsRight, benchRefused, Called};
+ghost use Rattle.bench_player.specs.Lining.{stage_of, lent_lengths_right, bench_refused, Called};
 ghost use Rattle.bench_player.specs.Workers.{First};
 ghost use Rattle.bench_parse.specs.Lines.{reads};
 ghost use Rattle.bench_parse.specs.Workers.{line_of, LineSound};
 ghost use Rattle.bench_rules.specs.Play.{plays, waiting};
-ghost use Rattle.bench_rules.specs.Turning.{Lent, lent, worldIn};
+ghost use Rattle.bench_rules.specs.Turning.{Lent, lent, world_in};
 ghost use Rattle.bench_rules.specs.Workers.{BenchReady, Lined};
-ghost use Rattle.bench_state.specs.State.{benchRange};
+ghost use Rattle.bench_state.specs.State.{bench_range};
 ghost use Rattle.register.specs.Runs.{Event};
-ghost use Rattle.bench_limits.specs.Limits.{lastMessage, keptLength, imagesLength, numbersLength, bytesLength, textLength};
+ghost use Rattle.bench_limits.specs.Limits.{last_message, kept_length, images_length, numbers_length, bytes_length, text_length};
 
 use bench_carry::carry_all;
 use bench_limits::{
@@ -32,8 +32,8 @@ fn play_first(
     out: &mut [u8],
 ) -> After
     requires line_value { (line_of l line.now ≡ reads line.now) × LineSound l line.now }
-    requires n_value { (b.settings.n ≡ 0) × (b.sent ≤ lastMessage) }
-    requires images_len { (length images.old ≡ imagesLength) × (length kept.old ≡ keptLength) × (length out.old ≡ textLength) }
+    requires n_value { (b.settings.n ≡ 0) × (b.sent ≤ last_message) }
+    requires images_len { (length images.old ≡ images_length) × (length kept.old ≡ kept_length) × (length out.old ≡ text_length) }
     ensures { First b images.old kept.old (reads line.now) out.old result
         images.new kept.new out.new }
 {
@@ -76,10 +76,10 @@ fn play_next(
 ) -> After
     requires line_value { (line_of l line.now ≡ reads line.now) × LineSound l line.now }
     requires bench_ready { BenchReady b (lent images.old kept.old numbers.old bytes.old) }
-    requires out_len { length out.old ≡ textLength }
+    requires out_len { length out.old ≡ text_length }
     ensures { let l = lent images.old kept.old numbers.old bytes.old in
         let l' = lent images.new kept.new numbers.new bytes.new in
-        Lined b l out.old (plays b.settings (worldIn b l) (reads line.now)) result l' out.new }
+        Lined b l out.old (plays b.settings (world_in b l) (reads line.now)) result l' out.new }
 {
     match l {
         Line::Set(_, _, _, _) => bench_rules::refuse(b, settings::BAD_LINE, 0, out),
@@ -107,7 +107,7 @@ pub struct LinePlayed {
 
 // Whether settings are those of no set, or within the bench's limits.
 fn settings_right(s: Settings) -> bool
-    ensures { result ≡ (eqb s.n 0 || benchRange s) }
+    ensures { result ≡ (eqb s.n 0 || bench_range s) }
 {
     if s.n == 0 {
         return true;
@@ -117,7 +117,7 @@ fn settings_right(s: Settings) -> bool
 
 // Whether the lent buffers have their lengths.
 fn lengths_right(images: usize, kept: usize, numbers: usize, bytes: usize, out: usize) -> bool
-    ensures { result ≡ lentLengthsRight images kept numbers bytes out }
+    ensures { result ≡ lent_lengths_right images kept numbers bytes out }
 {
     if images != IMAGES_LENGTH {
         return false;
@@ -146,7 +146,7 @@ fn bench_refused(
     bytes: usize,
     out: usize,
 ) -> u32
-    ensures { result ≡ benchRefused b images kept numbers bytes out }
+    ensures { result ≡ bench_refused b images kept numbers bytes out }
 {
     let s = b.settings;
     if settings_right(s) {} else {
@@ -163,8 +163,8 @@ fn bench_refused(
 
 // The bench before its first line: no set.
 pub fn no_set() -> Bench
-    ensures events_value { (l : Lent) (events : List Event) → stageOf result l events ≡ waiting }
-    ensures text_length_value { benchRefused result imagesLength keptLength numbersLength bytesLength textLength ≡ 0 }
+    ensures events_value { (l : Lent) (events : List Event) → stage_of result l events ≡ waiting }
+    ensures text_length_value { bench_refused result images_length kept_length numbers_length bytes_length text_length ≡ 0 }
 {
     let none = Settings {
         n: 0,

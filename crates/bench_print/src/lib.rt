@@ -1,10 +1,10 @@
 // What the bench prints (document 01, "The bench"): a line per ended operation and per refusal, written into a lent buffer from a place on.
 // inner: call `bench_player::play_line`
 ghost use Rattle.std.specs.Prelude.{◌≡◌, [], ◌∷◌, ◌++◌, ◌+◌, ◌≤◌, ◌<◌, length};
-ghost use Rattle.bench_print.specs.Printing.{space, newline, digit, decimal, hexDigit, hexText, refusedText, kindWord, end_word, lineText, endedText};
-ghost use Rattle.bench_print.specs.Printing.{printedInto};
-ghost use Rattle.bench_print.specs.Workers.{numberRoom, kindRoom, letterRoom, endRoom, endedRoom, PrintedAt};
-ghost use Rattle.bench_limits.specs.Limits.{stripeRoom, lineRoom};
+ghost use Rattle.bench_print.specs.Printing.{space, newline, digit, decimal, hex_digit, hex_text, refused_text, kind_word, end_word, line_text, ended_text};
+ghost use Rattle.bench_print.specs.Printing.{printed_into};
+ghost use Rattle.bench_print.specs.Workers.{number_room, kind_room, letter_room, end_room, ended_room, PrintedAt};
+ghost use Rattle.bench_limits.specs.Limits.{stripe_room, line_room};
 
 use coord_apply::{ABORTED, CUT, Notice, OK, STRIPE};
 use coord_record::READING;
@@ -54,7 +54,7 @@ fn put_number(k: u64, at: usize, out: &mut [u8]) -> usize
 // A digit of a byte.
 fn hex_digit(k: u8) -> u8
     requires { k < 16 }
-    ensures { result ≡ hexDigit k }
+    ensures { result ≡ hex_digit k }
 {
     if k < 10 {
         return 48 + k;
@@ -64,8 +64,8 @@ fn hex_digit(k: u8) -> u8
 
 // Bytes in hexadecimal.
 fn put_hex(bytes: &[u8], at: usize, out: &mut [u8]) -> usize
-    requires { at + length (hexText bytes.now) ≤ length out.old }
-    ensures { PrintedAt at (hexText bytes.now) out.old out.new result }
+    requires { at + length (hex_text bytes.now) ≤ length out.old }
+    ensures { PrintedAt at (hex_text bytes.now) out.old out.new result }
 {
     let mut i: usize = 0;
     let mut to = at;
@@ -80,10 +80,10 @@ fn put_hex(bytes: &[u8], at: usize, out: &mut [u8]) -> usize
 
 // The line of a refusal.
 pub fn put_refused(number: u32, at: usize, out: &mut [u8]) -> usize
-    requires { at + lineRoom ≤ length out.old }
-    ensures value { result ≡ at + length (refusedText number) }
-    ensures out_after { out.new ≡ printedInto at (refusedText number) out.old }
-    ensures upper_bound { result ≤ at + lineRoom }
+    requires { at + line_room ≤ length out.old }
+    ensures value { result ≡ at + length (refused_text number) }
+    ensures out_after { out.new ≡ printed_into at (refused_text number) out.old }
+    ensures upper_bound { result ≤ at + line_room }
 {
     let word = put_word(b"refused ", at, out);
     let to = put_number(number as u64, word, out);
@@ -92,9 +92,9 @@ pub fn put_refused(number: u32, at: usize, out: &mut [u8]) -> usize
 
 // A number and a space.
 fn put_spaced(k: u64, at: usize, out: &mut [u8]) -> usize
-    requires { at + numberRoom ≤ length out.old }
+    requires { at + number_room ≤ length out.old }
     ensures printed_at { PrintedAt at (decimal k ++ space ∷ []) out.old out.new result }
-    ensures upper_bound { result ≤ at + numberRoom }
+    ensures upper_bound { result ≤ at + number_room }
 {
     let to = put_number(k, at, out);
     put_byte(b' ', to, out)
@@ -102,9 +102,9 @@ fn put_spaced(k: u64, at: usize, out: &mut [u8]) -> usize
 
 // The kind of an operation and a space.
 fn put_kind(kind: u8, at: usize, out: &mut [u8]) -> usize
-    requires { at + kindRoom ≤ length out.old }
-    ensures printed_at { PrintedAt at (kindWord kind ++ space ∷ []) out.old out.new result }
-    ensures upper_bound { result ≤ at + kindRoom }
+    requires { at + kind_room ≤ length out.old }
+    ensures printed_at { PrintedAt at (kind_word kind ++ space ∷ []) out.old out.new result }
+    ensures upper_bound { result ≤ at + kind_room }
 {
     if kind == READING {
         return put_word(b"read ", at, out);
@@ -114,9 +114,9 @@ fn put_kind(kind: u8, at: usize, out: &mut [u8]) -> usize
 
 // A letter and a space.
 fn put_letter(letter: u8, at: usize, out: &mut [u8]) -> usize
-    requires { at + letterRoom ≤ length out.old }
+    requires { at + letter_room ≤ length out.old }
     ensures printed_at { PrintedAt at (letter ∷ space ∷ []) out.old out.new result }
-    ensures upper_bound { result ≤ at + letterRoom }
+    ensures upper_bound { result ≤ at + letter_room }
 {
     let to = put_byte(letter, at, out);
     put_byte(b' ', to, out)
@@ -124,9 +124,9 @@ fn put_letter(letter: u8, at: usize, out: &mut [u8]) -> usize
 
 // How an operation ended, and the end of the line.
 fn put_end(what: u8, stripe: &[u8], at: usize, out: &mut [u8]) -> usize
-    requires { (at + endRoom ≤ length out.old) × (length stripe.now ≤ stripeRoom) }
+    requires { (at + end_room ≤ length out.old) × (length stripe.now ≤ stripe_room) }
     ensures printed_at { PrintedAt at (end_word what stripe.now ++ newline ∷ []) out.old out.new result }
-    ensures upper_bound { result ≤ at + endRoom }
+    ensures upper_bound { result ≤ at + end_room }
 {
     if what == OK {
         return put_word(b"ok\n", at, out);
@@ -152,9 +152,9 @@ fn put_line(
     at: usize,
     out: &mut [u8],
 ) -> usize
-    requires { (at + lineRoom ≤ length out.old) × (length stripe.now ≤ stripeRoom) }
-    ensures printed_at { PrintedAt at (lineText c kind time letter what stripe.now) out.old out.new result }
-    ensures upper_bound { result ≤ at + endedRoom }
+    requires { (at + line_room ≤ length out.old) × (length stripe.now ≤ stripe_room) }
+    ensures printed_at { PrintedAt at (line_text c kind time letter what stripe.now) out.old out.new result }
+    ensures upper_bound { result ≤ at + ended_room }
 {
     let first = put_spaced(c as u64, at, out);
     let second = put_kind(kind, first, out);
@@ -165,10 +165,10 @@ fn put_line(
 
 // What is printed of what is seen at the coordinator c: nothing, or the line of the operation that ended.
 pub fn put_ended(c: usize, seen: Notice, stripe: &[u8], at: usize, out: &mut [u8]) -> usize
-    requires { (at + lineRoom ≤ length out.old) × (length stripe.now ≤ stripeRoom) }
-    ensures value { result ≡ at + length (endedText c seen stripe.now) }
-    ensures out_after { out.new ≡ printedInto at (endedText c seen stripe.now) out.old }
-    ensures upper_bound { result ≤ at + lineRoom }
+    requires { (at + line_room ≤ length out.old) × (length stripe.now ≤ stripe_room) }
+    ensures value { result ≡ at + length (ended_text c seen stripe.now) }
+    ensures out_after { out.new ≡ printed_into at (ended_text c seen stripe.now) out.old }
+    ensures upper_bound { result ≤ at + line_room }
 {
     let what = seen.what;
     if what < OK {

@@ -2,7 +2,7 @@
 use Rattle.std.specs.Prelude.{List, ℕ}
 use Rattle.register.specs.Runs.{World}
 use Rattle.bench_sent.specs.Sent.{items_of}
-use Rattle.bench_state.specs.State.{worldOf}
+use Rattle.bench_state.specs.State.{world_of}
 use Rattle.bench_state.specs.declared.Bench.{Bench}
 
 -- What the bench keeps in lent buffers: the images, what the coordinators keep, and the rows of what was sent.
@@ -16,5 +16,5 @@ abbrev pub lent : List ℕ → List ℕ → List ℕ → List ℕ → Lent
 lent images kept numbers bytes = record { images = images; kept = kept; numbers = numbers; bytes = bytes }
 
 -- the world that the record and the buffers stand for
-unfoldable pub worldIn : Bench → Lent → World
-worldIn b l = worldOf b l.images l.kept (items_of b.settings.size l.numbers l.bytes b.sent)
+unfoldable pub world_in : Bench → Lent → World
+world_in b l = world_of b l.images l.kept (items_of b.settings.size l.numbers l.bytes b.sent)

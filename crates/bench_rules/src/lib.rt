@@ -2,9 +2,9 @@
 // inner: call `bench_player::play_line`
 ghost use Rattle.std.specs.Prelude.{◌+◌, ◌≤◌, length};
 ghost use Rattle.bench_rules.specs.Play.{refuses};
-ghost use Rattle.bench_rules.specs.Turning.{Lent, worldIn};
+ghost use Rattle.bench_rules.specs.Turning.{Lent, world_in};
 ghost use Rattle.bench_rules.specs.Workers.{Turned};
-ghost use Rattle.bench_limits.specs.Limits.{lastMessage, lineRoom};
+ghost use Rattle.bench_limits.specs.Limits.{last_message, line_room};
 
 use bench_state::Bench;
 
@@ -17,8 +17,8 @@ pub struct After {
 
 // One refusal, printed.
 pub fn refuse(b: Bench, number: u32, at: usize, out: &mut [u8]) -> After
-    requires { (b.sent ≤ lastMessage) × (at + lineRoom ≤ length out.old) }
-    ensures { (l : Lent) → Turned b l at out.old (refuses (worldIn b l) number) result l out.new }
+    requires { (b.sent ≤ last_message) × (at + line_room ≤ length out.old) }
+    ensures { (l : Lent) → Turned b l at out.old (refuses (world_in b l) number) result l out.new }
 {
     let used = bench_print::put_refused(number, at, out);
     After { bench: b, used }

@@ -3,11 +3,11 @@
 ghost use Rattle.std.specs.Prelude.{◌≡◌, ◌+◌, ◌*◌, ◌%◌, ◌≤◌, ◌<◌, length};
 ghost use Rattle.byte_lists.specs.Lists.{put};
 ghost use Rattle.register.specs.Runs.{message, reply};
-ghost use Rattle.settings.specs.Count.{one-if};
-ghost use Rattle.bench_sent.specs.Sent.{number_at, isReply, flagsAt, messageAt, replyAt};
-ghost use Rattle.bench_sent.specs.Workers.{Added, Coded, Sends, messageRow, replyRow, numbersWith, bytesWith, oldWith, noFlags};
+ghost use Rattle.settings.specs.Count.{one_if};
+ghost use Rattle.bench_sent.specs.Sent.{number_at, is_reply, flags_at, message_at, reply_at};
+ghost use Rattle.bench_sent.specs.Workers.{Added, Coded, Sends, message_row, reply_row, numbers_with, bytes_with, old_with, no_flags};
 ghost use Rattle.bench_sent.specs.Workers.{One};
-ghost use Rattle.bench_limits.specs.Limits.{benchSize, rowNumbers, rowBytes, brickPlace, kindPlace, stripePlace, dataBlockPlace, comparisonPlace};
+ghost use Rattle.bench_limits.specs.Limits.{bench_size, row_numbers, row_bytes, brick_place, kind_place, stripe_place, data_block_place, comparison_place};
 
 use bench_limits::{
     BLOCK_PLACE, BRICK_PLACE, COMPARISON_PLACE, DATA_BLOCK_PLACE, FLAGS, FOUND_PLACE, HELD_PLACE,
@@ -31,8 +31,8 @@ fn store_row(numbers: &mut [u64], at: usize, row: &[u64])
 
 // A row's flags, and its block behind them.
 fn store_bytes(k: usize, flags: [u8; FLAGS], block: &[u8], bytes: &mut [u8])
-    requires { (length block.now ≤ benchSize) × (k * rowBytes + rowBytes ≤ length bytes.old) }
-    ensures { bytes.new ≡ bytesWith k flags block.now bytes.old }
+    requires { (length block.now ≤ bench_size) × (k * row_bytes + row_bytes ≤ length bytes.old) }
+    ensures { bytes.new ≡ bytes_with k flags block.now bytes.old }
 {
     let at = k * ROW_BYTES;
     let from = at + BLOCK_PLACE;
@@ -42,7 +42,7 @@ fn store_bytes(k: usize, flags: [u8; FLAGS], block: &[u8], bytes: &mut [u8])
 
 // 1 for true, 0 for false.
 fn flag(b: bool) -> u64
-    ensures { result ≡ one-if b }
+    ensures { result ≡ one_if b }
 {
     if b {
         return 1;
@@ -60,10 +60,10 @@ pub fn put_message(
     numbers: &mut [u64],
     bytes: &mut [u8],
 )
-    requires block_len_bound { (length block.now ≤ benchSize) × (k * rowNumbers + rowNumbers ≤ length numbers.old) × (k * rowBytes + rowBytes ≤ length bytes.old) }
+    requires block_len_bound { (length block.now ≤ bench_size) × (k * row_numbers + row_numbers ≤ length numbers.old) × (k * row_bytes + row_bytes ≤ length bytes.old) }
     requires len { length old.now ≡ length block.now }
-    ensures numbers_after { numbers.new ≡ numbersWith k (messageRow brick msg) numbers.old }
-    ensures bytes_after { bytes.new ≡ oldWith k old.now (bytesWith k msg.targets block.now bytes.old) }
+    ensures numbers_after { numbers.new ≡ numbers_with k (message_row brick msg) numbers.old }
+    ensures bytes_after { bytes.new ≡ old_with k old.now (bytes_with k msg.targets block.now bytes.old) }
     ensures added { Added k block.now numbers.old bytes.old
         numbers.new bytes.new (message brick msg block.now old.now) }
 {
@@ -97,9 +97,9 @@ pub fn put_message(
 
 // A reply, kept in row k.
 pub fn put_reply(k: usize, r: Reply, block: &[u8], numbers: &mut [u64], bytes: &mut [u8])
-    requires { (length block.now ≤ benchSize) × (k * rowNumbers + rowNumbers ≤ length numbers.old) × (k * rowBytes + rowBytes ≤ length bytes.old) }
-    ensures numbers_after { numbers.new ≡ numbersWith k (replyRow r) numbers.old }
-    ensures bytes_after { bytes.new ≡ bytesWith k noFlags block.now bytes.old }
+    requires { (length block.now ≤ bench_size) × (k * row_numbers + row_numbers ≤ length numbers.old) × (k * row_bytes + row_bytes ≤ length bytes.old) }
+    ensures numbers_after { numbers.new ≡ numbers_with k (reply_row r) numbers.old }
+    ensures bytes_after { bytes.new ≡ bytes_with k no_flags block.now bytes.old }
     ensures added { Added k block.now numbers.old bytes.old
         numbers.new bytes.new (reply r block.now) }
 {
@@ -120,7 +120,7 @@ pub fn put_reply(k: usize, r: Reply, block: &[u8], numbers: &mut [u64], bytes: &
 
 // One number of row k.
 fn number_at(numbers: &[u64], k: usize, i: usize) -> u64
-    requires { (i < rowNumbers) × (k * rowNumbers + rowNumbers ≤ length numbers.now) }
+    requires { (i < row_numbers) × (k * row_numbers + row_numbers ≤ length numbers.now) }
     ensures { result ≡ number_at numbers.now k i }
 {
     numbers[k * ROW_NUMBERS + i]
@@ -128,40 +128,40 @@ fn number_at(numbers: &[u64], k: usize, i: usize) -> u64
 
 // Whether row k is a reply.
 pub fn is_reply(numbers: &[u64], k: usize) -> bool
-    requires { k * rowNumbers + rowNumbers ≤ length numbers.now }
-    ensures { result ≡ isReply numbers.now k }
+    requires { k * row_numbers + row_numbers ≤ length numbers.now }
+    ensures { result ≡ is_reply numbers.now k }
 {
     number_at(numbers, k, TAG_PLACE) != MESSAGE_TAG
 }
 
 // The brick that a message goes to.
 pub fn brick_at(numbers: &[u64], k: usize) -> usize
-    requires { k * rowNumbers + rowNumbers ≤ length numbers.now }
-    ensures { result ≡ number_at numbers.now k brickPlace }
+    requires { k * row_numbers + row_numbers ≤ length numbers.now }
+    ensures { result ≡ number_at numbers.now k brick_place }
 {
     number_at(numbers, k, BRICK_PLACE) as usize
 }
 
 // The stripe of row k.
 fn stripe_at(numbers: &[u64], k: usize) -> usize
-    requires { k * rowNumbers + rowNumbers ≤ length numbers.now }
-    ensures { result ≡ number_at numbers.now k stripePlace }
+    requires { k * row_numbers + row_numbers ≤ length numbers.now }
+    ensures { result ≡ number_at numbers.now k stripe_place }
 {
     number_at(numbers, k, STRIPE_PLACE) as usize
 }
 
 // The data block that a message names.
 fn data_block_at(numbers: &[u64], k: usize) -> usize
-    requires { k * rowNumbers + rowNumbers ≤ length numbers.now }
-    ensures { result ≡ number_at numbers.now k dataBlockPlace }
+    requires { k * row_numbers + row_numbers ≤ length numbers.now }
+    ensures { result ≡ number_at numbers.now k data_block_place }
 {
     number_at(numbers, k, DATA_BLOCK_PLACE) as usize
 }
 
 // The kind of row k.
 fn kind_at(numbers: &[u64], k: usize) -> u8
-    requires { k * rowNumbers + rowNumbers ≤ length numbers.now }
-    ensures { result ≡ number_at numbers.now k kindPlace % 256 }
+    requires { k * row_numbers + row_numbers ≤ length numbers.now }
+    ensures { result ≡ number_at numbers.now k kind_place % 256 }
 {
     let kind = number_at(numbers, k, KIND_PLACE);
     (kind % 256) as u8
@@ -169,8 +169,8 @@ fn kind_at(numbers: &[u64], k: usize) -> u8
 
 // The comparison of row k, a reply.
 fn comparison_at(numbers: &[u64], k: usize) -> u8
-    requires { k * rowNumbers + rowNumbers ≤ length numbers.now }
-    ensures { result ≡ number_at numbers.now k comparisonPlace % 256 }
+    requires { k * row_numbers + row_numbers ≤ length numbers.now }
+    ensures { result ≡ number_at numbers.now k comparison_place % 256 }
 {
     let comparison = number_at(numbers, k, COMPARISON_PLACE);
     (comparison % 256) as u8
@@ -178,8 +178,8 @@ fn comparison_at(numbers: &[u64], k: usize) -> u8
 
 // The target flags of row k.
 fn flags_at(bytes: &[u8], k: usize) -> [u8; FLAGS]
-    requires { k * rowBytes + rowBytes ≤ length bytes.now }
-    ensures { result ≡ flagsAt bytes.now k }
+    requires { k * row_bytes + row_bytes ≤ length bytes.now }
+    ensures { result ≡ flags_at bytes.now k }
 {
     let at = k * ROW_BYTES;
     let end = at + FLAGS;
@@ -190,8 +190,8 @@ fn flags_at(bytes: &[u8], k: usize) -> [u8; FLAGS]
 
 // The message of row k.
 pub fn message_at(numbers: &[u64], bytes: &[u8], k: usize) -> Message
-    requires { (k * rowNumbers + rowNumbers ≤ length numbers.now) × (k * rowBytes + rowBytes ≤ length bytes.now) }
-    ensures { result ≡ messageAt numbers.now bytes.now k }
+    requires { (k * row_numbers + row_numbers ≤ length numbers.now) × (k * row_bytes + row_bytes ≤ length bytes.now) }
+    ensures { result ≡ message_at numbers.now bytes.now k }
 {
     let kind = kind_at(numbers, k);
     let stripe = stripe_at(numbers, k);
@@ -215,8 +215,8 @@ pub fn message_at(numbers: &[u64], bytes: &[u8], k: usize) -> Message
 
 // The reply of row k.
 pub fn reply_at(numbers: &[u64], k: usize) -> Reply
-    requires { k * rowNumbers + rowNumbers ≤ length numbers.now }
-    ensures { result ≡ replyAt numbers.now k }
+    requires { k * row_numbers + row_numbers ≤ length numbers.now }
+    ensures { result ≡ reply_at numbers.now k }
 {
     let kind = kind_at(numbers, k);
     let brick = brick_at(numbers, k);
@@ -253,7 +253,7 @@ fn send_one(
     numbers: &mut [u64],
     bytes: &mut [u8],
 )
-    requires size_le_bench_size { (size ≤ benchSize) × (at * rowNumbers + rowNumbers ≤ length numbers.old) × (at * rowBytes + rowBytes ≤ length bytes.old) }
+    requires size_le_bench_size { (size ≤ bench_size) × (at * row_numbers + row_numbers ≤ length numbers.old) × (at * row_bytes + row_bytes ≤ length bytes.old) }
     requires coded { Coded (j + 1) size msg blocks.now stripe.now coded.now }
     ensures { One at j size msg blocks.now stripe.now coded.now numbers.old bytes.old
         numbers.new bytes.new }
@@ -303,7 +303,7 @@ pub fn send_all(
     numbers: &mut [u64],
     bytes: &mut [u8],
 )
-    requires size_le_bench_size { (size ≤ benchSize) × ((k + n) * rowNumbers ≤ length numbers.old) × ((k + n) * rowBytes ≤ length bytes.old) }
+    requires size_le_bench_size { (size ≤ bench_size) × ((k + n) * row_numbers ≤ length numbers.old) × ((k + n) * row_bytes ≤ length bytes.old) }
     requires coded { Coded n size msg blocks.now stripe.now coded.now }
     ensures sends { Sends k n size msg blocks.now stripe.now coded.now numbers.old bytes.old
         numbers.new bytes.new }

@@ -6,11 +6,11 @@ ghost use Rattle.bench_commit.specs.Workers.{BenchActed, Plays};
 ghost use Rattle.bench_commit.specs.Workers.{Seats, Copies};
 ghost use Rattle.bench_parse.specs.Lines.{bytes_of};
 ghost use Rattle.bench_rules.specs.Content.{counted, content as content-of};
-ghost use Rattle.bench_rules.specs.Play.{unlessShort, writes, starts, crashesAt};
+ghost use Rattle.bench_rules.specs.Play.{unless_short, writes, starts, crashes_at};
 ghost use Rattle.coord_apply.specs.Answers.{Buffered};
-ghost use Rattle.coordinator.specs.Routines.{crashStep, writeStep, read_step};
-ghost use Rattle.register.specs.Runs.{World, startWrite, startRead, untouched, crashes};
-ghost use Rattle.bench_limits.specs.Limits.{benchStripe, stripeRoom};
+ghost use Rattle.coordinator.specs.Routines.{crash_step, write_step, read_step};
+ghost use Rattle.register.specs.Runs.{World, start_write, start_read, untouched, crashes};
+ghost use Rattle.bench_limits.specs.Limits.{bench_stripe, stripe_room};
 
 use bench_commit::commit;
 use bench_limits::{BENCH_STRIPE, STRIPE_ROOM};
@@ -36,8 +36,8 @@ fn read_with(
     requires seats { Seats b c kept.old numbers.old bytes.old 0 out.old }
     requires copies { Copies b.settings blocks.old stripe.old blocks.old }
     ensures { let s = b.settings in
-        BenchActed b c (startRead c benchStripe clock brick)
-        (λ (h : Buffered). read_step s.n s.m s.size s.stripes h benchStripe clock brick)
+        BenchActed b c (start_read c bench_stripe clock brick)
+        (λ (h : Buffered). read_step s.n s.m s.size s.stripes h bench_stripe clock brick)
         kept.old numbers.old bytes.old 0 out.old result
         kept.new numbers.new bytes.new out.new }
 {
@@ -65,7 +65,7 @@ fn crash_with(
     requires copies { Copies b.settings blocks.old stripe.old blocks.old }
     ensures { let s = b.settings in
         BenchActed b c (crashes c untouched)
-        (λ (h : Buffered). crashStep s.n s.m s.size s.stripes h)
+        (λ (h : Buffered). crash_step s.n s.m s.size s.stripes h)
         kept.old numbers.old bytes.old 0 out.old result
         kept.new numbers.new bytes.new out.new }
 {
@@ -90,7 +90,7 @@ fn is_short(refusal: u32, right: bool) -> bool
 
 // The bytes of a write from its hex digits, and whether there are two for each; else the buffer is kept.
 fn read_content(line: &[u8], hex: usize, content: &mut [u8]) -> bool
-    requires { (hex ≤ length line.now) × (length content.old ≤ stripeRoom) }
+    requires { (hex ≤ length line.now) × (length content.old ≤ stripe_room) }
     ensures value { result ≡ eqb (length (drop hex line.now)) (2 * length content.old) }
     ensures content_after { content.new ≡ cond result (bytes_of (drop hex line.now)) content.old }
 {
@@ -122,8 +122,8 @@ fn write_with(
     ensures { let s = b.settings in
         let digits = drop hex line.now in
         BenchActed b c
-        (startWrite c benchStripe clock (content-of s digits))
-        (λ (h : Buffered). unlessShort (counted s digits) (writeStep s.n s.m s.size s.stripes h benchStripe clock (content-of s digits)))
+        (start_write c bench_stripe clock (content-of s digits))
+        (λ (h : Buffered). unless_short (counted s digits) (write_step s.n s.m s.size s.stripes h bench_stripe clock (content-of s digits)))
         kept.old numbers.old bytes.old 0 out.old result
         kept.new numbers.new bytes.new out.new }
 {
@@ -202,7 +202,7 @@ pub fn crash_at(
 ) -> After
     requires { Seats b 0 kept.old numbers.old bytes.old 0 out.old }
     ensures { let s = b.settings in
-        Plays b (λ (w : World). crashesAt s w c)
+        Plays b (λ (w : World). crashes_at s w c)
         kept.old numbers.old bytes.old 0 out.old result
         kept.new numbers.new bytes.new out.new }
 {

@@ -2,13 +2,13 @@
 // in lent buffers.
 // inner: call `bench_player::play_line`
 ghost use Rattle.std.specs.Prelude.{◌≡◌, true, [], ◌+◌, ◌*◌, ◌≤◌, ◌<◌, length, get_or, take, drop};
-ghost use Rattle.bench_state.specs.State.{idleAt, worldOf};
-ghost use Rattle.bench_state.specs.Workers.{freshBench, withCoordinator, withSent, withUp, keptWith, benchRefusal};
+ghost use Rattle.bench_state.specs.State.{idle_at, world_of};
+ghost use Rattle.bench_state.specs.Workers.{fresh_bench, with_coordinator, with_sent, with_up, kept_with, bench_refusal};
 ghost use Rattle.bench_state.specs.Workers.{Small};
 ghost use Rattle.bench_state.specs.Workers.{Begun};
-ghost use Rattle.register.specs.Runs.{freshSet};
+ghost use Rattle.register.specs.Runs.{fresh_set};
 ghost use Rattle.settings.specs.Ranges.{in_range};
-ghost use Rattle.bench_limits.specs.Limits.{benchBricks, benchCoordinators, stripeRoom, keptRoom, keptLength, imagesLength};
+ghost use Rattle.bench_limits.specs.Limits.{bench_bricks, bench_coordinators, stripe_room, kept_room, kept_length, images_length};
 
 use bench_limits::{
     BENCH_STRIPES, BRICKS, CAPACITY, COORDINATORS, IMAGE_ROOM, KEPT_ROOM, SIZE, STRIPE_ROOM, UP,
@@ -27,7 +27,7 @@ pub struct Bench {
 
 // 1 where a setting is outside its range or the bench's limits, else 0.
 pub fn bench_refusal(s: Settings) -> u32
-    ensures { result ≡ benchRefusal s }
+    ensures { result ≡ bench_refusal s }
 {
     let bad = s.refusal();
     if bad != 0 {
@@ -50,7 +50,7 @@ pub fn bench_refusal(s: Settings) -> u32
 
 // An idle coordinator of a set that drew no time yet.
 fn new_coordinator(s: Settings, c: u64) -> Coordinator
-    ensures { result ≡ idleAt s c }
+    ensures { result ≡ idle_at s c }
 {
     let geometry = Geometry {
         n: s.n,
@@ -67,7 +67,7 @@ fn new_coordinator(s: Settings, c: u64) -> Coordinator
 
 // The record of a set that begins.
 pub fn new_bench(s: Settings) -> Bench
-    ensures { result ≡ freshBench s }
+    ensures { result ≡ fresh_bench s }
 {
     let a = new_coordinator(s, 0);
     let b = new_coordinator(s, 1);
@@ -83,9 +83,9 @@ pub fn new_bench(s: Settings) -> Bench
 
 // The record with another coordinator and number of messages.
 pub fn with_coordinator(b: Bench, c: usize, next: Coordinator, sent: usize) -> Bench
-    requires { c < benchCoordinators }
-    ensures value { result ≡ withCoordinator b c next sent }
-    ensures coordinators_len { length b.coordinators ≡ benchCoordinators }
+    requires { c < bench_coordinators }
+    ensures value { result ≡ with_coordinator b c next sent }
+    ensures coordinators_len { length b.coordinators ≡ bench_coordinators }
 {
     let mut all = b.coordinators;
     all[c] = next;
@@ -101,7 +101,7 @@ pub fn with_coordinator(b: Bench, c: usize, next: Coordinator, sent: usize) -> B
 
 // The record with another number of messages.
 pub fn with_sent(b: Bench, sent: usize) -> Bench
-    ensures { result ≡ withSent b sent }
+    ensures { result ≡ with_sent b sent }
 {
     let all = b.coordinators;
     let up = b.up;
@@ -116,9 +116,9 @@ pub fn with_sent(b: Bench, sent: usize) -> Bench
 
 // The record with a brick UP or DOWN.
 pub fn with_up(b: Bench, brick: usize, flag: u8) -> Bench
-    requires { brick < benchBricks }
-    ensures value { result ≡ withUp b brick flag }
-    ensures up_len { length b.up ≡ benchBricks }
+    requires { brick < bench_bricks }
+    ensures value { result ≡ with_up b brick flag }
+    ensures up_len { length b.up ≡ bench_bricks }
 {
     let mut up = b.up;
     up[brick] = flag;
@@ -134,9 +134,9 @@ pub fn with_up(b: Bench, brick: usize, flag: u8) -> Bench
 
 // A coordinator's record.
 pub fn coordinator_at(b: Bench, c: usize) -> Coordinator
-    requires { c < benchCoordinators }
-    ensures value { result ≡ get_or b.coordinators c (idleAt b.settings c) }
-    ensures coordinators_len { length b.coordinators ≡ benchCoordinators }
+    requires { c < bench_coordinators }
+    ensures value { result ≡ get_or b.coordinators c (idle_at b.settings c) }
+    ensures coordinators_len { length b.coordinators ≡ bench_coordinators }
 {
     let all = b.coordinators;
     all[c]
@@ -144,10 +144,10 @@ pub fn coordinator_at(b: Bench, c: usize) -> Coordinator
 
 // What a coordinator keeps, copied out.
 pub fn fetch(c: usize, kept: &[u8], blocks: &mut [u8], stripe: &mut [u8])
-    requires c_lt_bench_coordinators { (c < benchCoordinators) × (length kept.now ≡ keptLength) }
-    requires blocks_len_bound { (length blocks.old ≤ stripeRoom) × (length stripe.old ≤ stripeRoom) }
-    ensures blocks_after { blocks.new ≡ take (length blocks.old) (drop (c * keptRoom) kept.now) }
-    ensures stripe_after { stripe.new ≡ take (length stripe.old) (drop (c * keptRoom + stripeRoom) kept.now) }
+    requires c_lt_bench_coordinators { (c < bench_coordinators) × (length kept.now ≡ kept_length) }
+    requires blocks_len_bound { (length blocks.old ≤ stripe_room) × (length stripe.old ≤ stripe_room) }
+    ensures blocks_after { blocks.new ≡ take (length blocks.old) (drop (c * kept_room) kept.now) }
+    ensures stripe_after { stripe.new ≡ take (length stripe.old) (drop (c * kept_room + stripe_room) kept.now) }
 {
     let at = c * KEPT_ROOM;
     let end = at + blocks.len();
@@ -159,9 +159,9 @@ pub fn fetch(c: usize, kept: &[u8], blocks: &mut [u8], stripe: &mut [u8])
 
 // What a coordinator keeps, stored.
 pub fn keep(c: usize, blocks: &[u8], stripe: &[u8], kept: &mut [u8])
-    requires c_lt_bench_coordinators { (c < benchCoordinators) × (length kept.old ≡ keptLength) }
-    requires blocks_len_bound { (length blocks.now ≤ stripeRoom) × (length stripe.now ≤ stripeRoom) }
-    ensures { kept.new ≡ keptWith c blocks.now stripe.now kept.old }
+    requires c_lt_bench_coordinators { (c < bench_coordinators) × (length kept.old ≡ kept_length) }
+    requires blocks_len_bound { (length blocks.now ≤ stripe_room) × (length stripe.now ≤ stripe_room) }
+    ensures { kept.new ≡ kept_with c blocks.now stripe.now kept.old }
 {
     let at = c * KEPT_ROOM;
     let end = at + blocks.len();
@@ -174,7 +174,7 @@ pub fn keep(c: usize, blocks: &[u8], stripe: &[u8], kept: &mut [u8])
 // A fresh row for each brick, which is one image.
 fn fresh_images(s: Settings, images: &mut [u8])
     requires s_value { (in_range s ≡ true) × Small s }
-    requires images_len { length images.old ≡ imagesLength }
+    requires images_len { length images.old ≡ images_length }
     ensures { Begun s images.new s.n }
 {
     let mut b = 0;
@@ -189,8 +189,8 @@ fn fresh_images(s: Settings, images: &mut [u8])
 // A set begins.
 pub fn set_up(s: Settings, images: &mut [u8], kept: &mut [u8]) -> Bench
     requires s_value { (in_range s ≡ true) × Small s }
-    requires images_len { (length images.old ≡ imagesLength) × (length kept.old ≡ keptLength) }
-    ensures { (result ≡ freshBench s) × (worldOf result images.new kept.new [] ≡ freshSet s) }
+    requires images_len { (length images.old ≡ images_length) × (length kept.old ≡ kept_length) }
+    ensures { (result ≡ fresh_bench s) × (world_of result images.new kept.new [] ≡ fresh_set s) }
 {
     fresh_images(s, images);
     byte_lists::clear(kept);

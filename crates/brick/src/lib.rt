@@ -1,9 +1,9 @@
 // One message at one brick (document 01, "What a brick does"), at its image of one stripe.
 ghost use Rattle.std.specs.Prelude.{◌≡◌, length, ◌≤◌, ◌<◌};
-ghost use Rattle.image.specs.Parse.{Opens, brickIn};
-ghost use Rattle.brick.specs.Receive.{besideRight, frontRefusal, outcomeWith, accepted, outcome};
-ghost use Rattle.message.specs.Kinds.{modifyKind};
-ghost use Rattle.settings.specs.Ranges.{maxStripes};
+ghost use Rattle.image.specs.Parse.{Opens, brick_in};
+ghost use Rattle.brick.specs.Receive.{beside_right, front_refusal, outcome_with, accepted, outcome};
+ghost use Rattle.message.specs.Kinds.{modify_kind};
+ghost use Rattle.settings.specs.Ranges.{max_stripes};
 ghost use Rattle.brick_log.specs.Workers.{LogReady, Ahead};
 
 use brick_answer::comparison_of;
@@ -34,11 +34,11 @@ fn act(
     out: &mut [u8],
 ) -> Given
     requires log_ready { LogReady s brick image.old k }
-    requires ahead { Ahead brick (brickIn s image.old) k msg p }
+    requires ahead { Ahead brick (brick_in s image.old) k msg p }
     requires block_len { (length block.now ≡ s.size) × (length old.now ≡ s.size) × (length out.old ≡ s.size) }
-    requires block_lt_m { msg.kind ≡ modifyKind → msg.block < s.m }
-    ensures { outcomeWith result image.new out.new
-        ≡ accepted s brick msg block.now old.now image.old out.old (Opens (brickIn s image.old)) }
+    requires block_lt_m { msg.kind ≡ modify_kind → msg.block < s.m }
+    ensures { outcome_with result image.new out.new
+        ≡ accepted s brick msg block.now old.now image.old out.old (Opens (brick_in s image.old)) }
 {
     if is_silent(msg.kind) {
         remove(s, brick, image, k, p);
@@ -63,7 +63,7 @@ fn act(
 
 // Whether what is lent beside a message has the block size: its block, the old block that goes with Modify, the reply's buffer.
 fn beside_right(s: Settings, block: usize, old: usize, out: usize) -> bool
-    ensures { result ≡ besideRight s (record { block = block; old = old; out = out }) }
+    ensures { result ≡ beside_right s (record { block = block; old = old; out = out }) }
 {
     if block != s.size {
         return false;
@@ -86,8 +86,8 @@ pub fn front_refusal(
     old: usize,
     out: usize,
 ) -> u32
-    requires { images ≤ maxStripes }
-    ensures { result ≡ frontRefusal s images brick lent msg (record { block = block; old = old; out = out }) }
+    requires { images ≤ max_stripes }
+    ensures { result ≡ front_refusal s images brick lent msg (record { block = block; old = old; out = out }) }
 {
     let bad = s.refusal();
     if bad != PASSED {
@@ -120,7 +120,7 @@ pub fn receive(
     old: &[u8],
     out: &mut [u8],
 ) -> Given
-    ensures { outcomeWith result image.new out.new
+    ensures { outcome_with result image.new out.new
         ≡ outcome s brick image.old msg block.now old.now out.old }
 {
     let bad = front_refusal(

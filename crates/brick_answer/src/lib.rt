@@ -1,13 +1,13 @@
 // What a brick answers a message, by three comparisons (document 01, "What a brick does").
 // inner: call `brick::receive`
 ghost use Rattle.std.specs.Prelude.{◌≡◌};
-ghost use Rattle.brick_answer.specs.Comparisons.{newerSaysNo, promiseSaysNo, fullSaysNo, firstNo};
+ghost use Rattle.brick_answer.specs.Comparisons.{newer_says_no, promise_says_no, full_says_no, first_no};
 
 use message::{FULL_LOG, MODIFY, Message, NEWER_TIME, NO_COMPARISON, PROMISE_AHEAD, READ};
 
 // Whether the newest time says no.
 fn newer_says_no(newest: u64, msg: Message) -> bool
-    ensures { result ≡ newerSaysNo newest msg }
+    ensures { result ≡ newer_says_no newest msg }
 {
     if msg.kind == READ {
         return false;
@@ -23,7 +23,7 @@ fn newer_says_no(newest: u64, msg: Message) -> bool
 
 // Whether the promise says no.
 fn promise_says_no(newest: u64, promise: u64, msg: Message) -> bool
-    ensures { result ≡ promiseSaysNo newest promise msg }
+    ensures { result ≡ promise_says_no newest promise msg }
 {
     if msg.kind == READ {
         return newest < promise;
@@ -33,7 +33,7 @@ fn promise_says_no(newest: u64, promise: u64, msg: Message) -> bool
 
 // Whether a full log says no.
 fn full_says_no(capacity: usize, count: usize, msg: Message) -> bool
-    ensures { result ≡ fullSaysNo capacity count msg }
+    ensures { result ≡ full_says_no capacity count msg }
 {
     if message::stores_entry(msg.kind) {
         return capacity <= count;
@@ -43,7 +43,7 @@ fn full_says_no(capacity: usize, count: usize, msg: Message) -> bool
 
 // The comparison that says no, newer time first, then promise, then full log; none with a yes.
 pub fn comparison_of(capacity: usize, count: usize, newest: u64, promise: u64, msg: Message) -> u8
-    ensures { result ≡ firstNo capacity count newest promise msg }
+    ensures { result ≡ first_no capacity count newest promise msg }
 {
     if newer_says_no(newest, msg) {
         return NEWER_TIME;

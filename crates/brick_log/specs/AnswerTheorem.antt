@@ -2,23 +2,23 @@
 -- comparison is one that refusal 10 lets pass. Proved in `proofs/Laws/AnsweredLaws`.
 use Rattle.std.specs.Prelude.{◌≡◌, Bool, true, cond, eqb}
 use Rattle.settings.specs.declared.Settings.{Settings}
-use Rattle.message.specs.Kinds.{readKind, writeKind, modifyKind}
-use Rattle.message.specs.Messages.{comparisonRight}
+use Rattle.message.specs.Kinds.{read_kind, write_kind, modify_kind}
+use Rattle.message.specs.Messages.{comparison_right}
 use Rattle.message.specs.declared.Message.{Message}
 use Rattle.image.specs.Brick.{Brick}
-use Rattle.brick_log.specs.BrickRules.{readYes, orderYes, writeYes, modifyYes, yesTo, comparisonTo}
+use Rattle.brick_log.specs.BrickRules.{read_yes, order_yes, write_yes, modify_yes, yes_to, comparison_to}
 
 -- a yes to Read, to Write, to Modify, and to an Order of any kind
-unfoldable pub yesByKind : Settings → Brick → Message → Bool
-yesByKind s x msg =
-    cond (eqb msg.kind readKind) (readYes x)
-    (cond (eqb msg.kind writeKind) (writeYes s x msg.time)
-    (cond (eqb msg.kind modifyKind) (modifyYes s x msg.time msg.old) (orderYes x msg.time)))
+unfoldable pub yes_by_kind : Settings → Brick → Message → Bool
+yes_by_kind s x msg =
+    cond (eqb msg.kind read_kind) (read_yes x)
+    (cond (eqb msg.kind write_kind) (write_yes s x msg.time)
+    (cond (eqb msg.kind modify_kind) (modify_yes s x msg.time msg.old) (order_yes x msg.time)))
 
 -- None of the three comparisons says no exactly where that kind's own sentence says yes.
 abbrev pub AnswersAsBefore : Type 0
-AnswersAsBefore = (s : Settings) (x : Brick) (msg : Message) → yesTo s x msg ≡ yesByKind s x msg
+AnswersAsBefore = (s : Settings) (x : Brick) (msg : Message) → yes_to s x msg ≡ yes_by_kind s x msg
 
 -- What a brick names is never refused as 10: none on a yes, and on a no one that the message's kind allows.
 abbrev pub ComparisonIsAllowed : Type 0
-ComparisonIsAllowed = (s : Settings) (x : Brick) (msg : Message) → comparisonRight msg.kind (yesTo s x msg) (comparisonTo s x msg) ≡ true
+ComparisonIsAllowed = (s : Settings) (x : Brick) (msg : Message) → comparison_right msg.kind (yes_to s x msg) (comparison_to s x msg) ≡ true

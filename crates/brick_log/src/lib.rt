@@ -2,19 +2,19 @@
 // inner: call `brick::receive`
 ghost use Rattle.std.specs.Prelude.{◌≡◌, ◌&&◌, ◌≤◌, ◌<◌, ◌+◌, ◌*◌, leb, ltb, length, false};
 ghost use Rattle.message.specs.Flags.{member};
-ghost use Rattle.brick_log.specs.Workers.{cutFor, underIn, timeIn, underFor, lookedIn, plan_of, removePlan, trimPlan, drop_at, dropPlan, planIn};
-ghost use Rattle.brick_log.specs.Workers.{read_place, blockPlan, planFor, LogReady, gaveOf, LookedLow, RemoveReady, removedBy};
+ghost use Rattle.brick_log.specs.Workers.{cut_for, under_in, time_in, under_for, looked_in, plan_of, remove_plan, trim_plan, drop_at, drop_plan, plan_in};
+ghost use Rattle.brick_log.specs.Workers.{read_place, block_plan, plan_for, LogReady, gave_of, LookedLow, RemoveReady, removed_by};
 ghost use Rattle.image.specs.Image.{image_of};
-ghost use Rattle.image.specs.Parse.{brickIn};
+ghost use Rattle.image.specs.Parse.{brick_in};
 ghost use Rattle.image_write.specs.Workers.{slot_of};
-ghost use Rattle.image_write.specs.Saving.{withPromise, appended, blockEntry};
-ghost use Rattle.brick_log.specs.BrickRules.{newestBlock, modifiedEntry, comparisonTo, brickAfter};
+ghost use Rattle.image_write.specs.Saving.{with_promise, appended, block_entry};
+ghost use Rattle.brick_log.specs.BrickRules.{newest_block, modified_entry, comparison_to, brick_after};
 ghost use Rattle.byte_lists.specs.Lists.{put};
-ghost use Rattle.erasure.specs.Recoding.{recodedBlock};
-ghost use Rattle.image_block.specs.Block.{blockBytes, entryBlock};
-ghost use Rattle.message.specs.Kinds.{modifyKind};
-ghost use Rattle.message.specs.Messages.{isSilent};
-ghost use Rattle.settings.specs.Ranges.{maxBricks, maxCapacity, maxSize};
+ghost use Rattle.erasure.specs.Recoding.{recoded_block};
+ghost use Rattle.image_block.specs.Block.{block_bytes, entry_block};
+ghost use Rattle.message.specs.Kinds.{modify_kind};
+ghost use Rattle.message.specs.Messages.{is_silent};
+ghost use Rattle.settings.specs.Ranges.{max_bricks, max_capacity, max_size};
 
 use byte_lists::store;
 use erasure::recode_into;
@@ -65,8 +65,8 @@ pub fn order_yes(newest: u64, promise: u64, time: u64) -> bool
 
 // How many entries a Trim drops: those under its time, other than the newest.
 fn cut_for(log: [Entry; MAX_CAPACITY], count: usize, time: u64) -> usize
-    requires { (1 ≤ count) × (count ≤ maxCapacity) }
-    ensures { result ≡ cutFor log count time }
+    requires { (1 ≤ count) × (count ≤ max_capacity) }
+    ensures { result ≡ cut_for log count time }
 {
     let last = count - 1;
     let mut d: usize = 0;
@@ -82,8 +82,8 @@ fn cut_for(log: [Entry; MAX_CAPACITY], count: usize, time: u64) -> usize
 
 // The highest entry under max.
 fn look_under(log: [Entry; MAX_CAPACITY], count: usize, max: u64) -> Looked
-    requires { count ≤ maxCapacity }
-    ensures { result ≡ lookedIn (underIn log max count) }
+    requires { count ≤ max_capacity }
+    ensures { result ≡ looked_in (under_in log max count) }
 {
     let mut n = count;
     while 0 < n {
@@ -99,8 +99,8 @@ fn look_under(log: [Entry; MAX_CAPACITY], count: usize, max: u64) -> Looked
 
 // The entry of that time.
 fn find_time(log: [Entry; MAX_CAPACITY], count: usize, time: u64) -> Looked
-    requires { count ≤ maxCapacity }
-    ensures { result ≡ lookedIn (timeIn log time count) }
+    requires { count ≤ max_capacity }
+    ensures { result ≡ looked_in (time_in log time count) }
 {
     let mut n = count;
     while 0 < n {
@@ -130,7 +130,7 @@ fn reply_plan(place: usize, found: u64) -> Plan
 
 // What goes from the log.
 fn remove_plan(from: usize, cut: usize, holder: usize, lowest: u64) -> Plan
-    ensures { result ≡ removePlan from cut holder lowest }
+    ensures { result ≡ remove_plan from cut holder lowest }
 {
     Plan {
         place: 0,
@@ -145,7 +145,7 @@ fn remove_plan(from: usize, cut: usize, holder: usize, lowest: u64) -> Plan
 // The block and the time of the entry that a lookup gave, 0 for none.
 fn entry_plan(log: [Entry; MAX_CAPACITY], found: Looked) -> Plan
     requires { LookedLow found }
-    ensures { result ≡ planIn log found }
+    ensures { result ≡ plan_in log found }
 {
     let Looked::Under(i) = found else {
         return reply_plan(0, 0);
@@ -156,8 +156,8 @@ fn entry_plan(log: [Entry; MAX_CAPACITY], found: Looked) -> Plan
 
 // What a Trim drops, and of the lowest entry that it keeps where its block stands and its time.
 fn trim_plan(log: [Entry; MAX_CAPACITY], count: usize, time: u64) -> Plan
-    requires { (1 ≤ count) × (count ≤ maxCapacity) }
-    ensures { result ≡ trimPlan log (cutFor log count time) }
+    requires { (1 ≤ count) × (count ≤ max_capacity) }
+    ensures { result ≡ trim_plan log (cut_for log count time) }
 {
     let d = cut_for(log, count, time);
     let e = log[d];
@@ -166,7 +166,7 @@ fn trim_plan(log: [Entry; MAX_CAPACITY], count: usize, time: u64) -> Plan
 
 // A Drop of entry i: the entry right above it becomes its block, if it is a mark that means the block that goes.
 fn drop_at(log: [Entry; MAX_CAPACITY], count: usize, i: usize) -> Plan
-    requires { (i < count) × (count ≤ maxCapacity) }
+    requires { (i < count) × (count ≤ max_capacity) }
     ensures { result ≡ drop_at log count i }
 {
     let above = i + 1;
@@ -182,8 +182,8 @@ fn drop_at(log: [Entry; MAX_CAPACITY], count: usize, i: usize) -> Plan
 
 // What a Drop takes out: the entry of its time, unless it is the only one.
 fn drop_plan(log: [Entry; MAX_CAPACITY], count: usize, time: u64) -> Plan
-    requires { count ≤ maxCapacity }
-    ensures { result ≡ dropPlan log count time }
+    requires { count ≤ max_capacity }
+    ensures { result ≡ drop_plan log count time }
 {
     if count == 1 {
         return reply_plan(0, 0);
@@ -196,7 +196,7 @@ fn drop_plan(log: [Entry; MAX_CAPACITY], count: usize, time: u64) -> Plan
 
 // Whether a brick is a target.
 fn is_target(targets: [u8; MAX_BRICKS], brick: usize) -> bool
-    requires { brick < maxBricks }
+    requires { brick < max_bricks }
     ensures { result ≡ member targets brick }
 {
     targets[brick] == 1
@@ -204,7 +204,7 @@ fn is_target(targets: [u8; MAX_BRICKS], brick: usize) -> bool
 
 // The newest block, where Read is granted and the brick is a target; else 0.
 fn read_place(k: Known, targets: [u8; MAX_BRICKS], brick: usize) -> usize
-    requires { brick < maxBricks }
+    requires { brick < max_bricks }
     ensures { result ≡ read_place k targets brick }
 {
     if k.newest < k.promise {
@@ -218,8 +218,8 @@ fn read_place(k: Known, targets: [u8; MAX_BRICKS], brick: usize) -> usize
 
 // What Order-and-read gives: the highest entry under max.
 fn look_plan(log: [Entry; MAX_CAPACITY], k: Known, msg: Message) -> Plan
-    requires { k.count ≤ maxCapacity }
-    ensures { result ≡ planIn log (lookedIn (underFor log k msg)) }
+    requires { k.count ≤ max_capacity }
+    ensures { result ≡ plan_in log (looked_in (under_for log k msg)) }
 {
     if order_yes(k.newest, k.promise, msg.time) {} else {
         return reply_plan(0, 0);
@@ -230,7 +230,7 @@ fn look_plan(log: [Entry; MAX_CAPACITY], k: Known, msg: Message) -> Plan
 
 // What the first round of a block write gives: the newest time, and brick j its block.
 fn block_plan(k: Known, msg: Message, brick: usize) -> Plan
-    ensures { result ≡ blockPlan k msg brick }
+    ensures { result ≡ block_plan k msg brick }
 {
     if order_yes(k.newest, k.promise, msg.time) {} else {
         return reply_plan(0, 0);
@@ -243,9 +243,9 @@ fn block_plan(k: Known, msg: Message, brick: usize) -> Plan
 
 // What a message asks for.
 pub fn plan_for(log: [Entry; MAX_CAPACITY], k: Known, msg: Message, brick: usize) -> Plan
-    requires le_count { (1 ≤ k.count) × (k.count ≤ maxCapacity) }
-    requires brick_lt_max_bricks { brick < maxBricks }
-    ensures { result ≡ planFor log k msg brick }
+    requires le_count { (1 ≤ k.count) × (k.count ≤ max_capacity) }
+    requires brick_lt_max_bricks { brick < max_bricks }
+    ensures { result ≡ plan_for log k msg brick }
 {
     let kind = msg.kind;
     if kind == TRIM {
@@ -271,7 +271,7 @@ pub fn plan_for(log: [Entry; MAX_CAPACITY], k: Known, msg: Message, brick: usize
 // The head with another promise.
 fn order(s: Settings, brick: usize, image: &mut [u8], k: Known, time: u64)
     requires { LogReady s brick image.old k }
-    ensures { image.new ≡ image_of s brick (withPromise (brickIn s image.old) time) }
+    ensures { image.new ≡ image_of s brick (with_promise (brick_in s image.old) time) }
 {
     write_head(s, brick, image, k.count, time);
 }
@@ -280,7 +280,7 @@ fn order(s: Settings, brick: usize, image: &mut [u8], k: Known, time: u64)
 fn write(s: Settings, brick: usize, image: &mut [u8], k: Known, time: u64, block: &[u8])
     requires log_ready { LogReady s brick image.old k }
     requires block_len { (length block.now ≡ s.size) × (k.count < s.capacity) }
-    ensures { image.new ≡ image_of s brick (appended (brickIn s image.old) (blockEntry time block.now)) }
+    ensures { image.new ≡ image_of s brick (appended (brick_in s image.old) (block_entry time block.now)) }
 {
     let n = k.count + 1;
     write_entry(image, BLOCK_BYTES * n, time, block);
@@ -301,9 +301,9 @@ fn write_recoded_in(
     requires log_ready { LogReady s brick image.old k }
     requires block_len { (length block.now ≡ s.size) × (length old.now ≡ s.size) × (length work.old ≡ s.size) }
     requires block_lt_m { (msg.block < s.m) × (k.count < s.capacity) }
-    ensures { image.new ≡ put (blockBytes * (k.count + 1))
-        (entryBlock msg.time
-        (recodedBlock s.n s.m brick msg.block (newestBlock (brickIn s image.old)) old.now block.now))
+    ensures { image.new ≡ put (block_bytes * (k.count + 1))
+        (entry_block msg.time
+        (recoded_block s.n s.m brick msg.block (newest_block (brick_in s image.old)) old.now block.now))
         image.old }
 {
     let from = BLOCK_BYTES * k.holder + ENTRY_HELD;
@@ -335,9 +335,9 @@ fn write_recoded_by(
     requires log_ready { LogReady s brick image.old k }
     requires block_len { (length block.now ≡ s.size) × (length old.now ≡ s.size) × (s.size ≤ length work.old) }
     requires block_lt_m { (msg.block < s.m) × (k.count < s.capacity) }
-    ensures { image.new ≡ put (blockBytes * (k.count + 1))
-        (entryBlock msg.time
-        (recodedBlock s.n s.m brick msg.block (newestBlock (brickIn s image.old)) old.now block.now))
+    ensures { image.new ≡ put (block_bytes * (k.count + 1))
+        (entry_block msg.time
+        (recoded_block s.n s.m brick msg.block (newest_block (brick_in s image.old)) old.now block.now))
         image.old }
 {
     let size = s.size;
@@ -357,9 +357,9 @@ fn write_recoded(
     requires log_ready { LogReady s brick image.old k }
     requires block_len { (length block.now ≡ s.size) × (length old.now ≡ s.size) }
     requires block_lt_m { (msg.block < s.m) × (k.count < s.capacity) }
-    ensures { image.new ≡ put (blockBytes * (k.count + 1))
-        (entryBlock msg.time
-        (recodedBlock s.n s.m brick msg.block (newestBlock (brickIn s image.old)) old.now block.now))
+    ensures { image.new ≡ put (block_bytes * (k.count + 1))
+        (entry_block msg.time
+        (recoded_block s.n s.m brick msg.block (newest_block (brick_in s image.old)) old.now block.now))
         image.old }
 {
     let mut b = [0u8; MAX_SIZE];
@@ -379,8 +379,8 @@ fn write_modified(
     requires log_ready { LogReady s brick image.old k }
     requires block_len { (length block.now ≡ s.size) × (length old.now ≡ s.size) }
     requires block_lt_m { (msg.block < s.m) × (k.count < s.capacity) }
-    ensures { image.new ≡ put (blockBytes * (k.count + 1))
-        (slot_of s.size (modifiedEntry s brick (brickIn s image.old) msg block.now old.now))
+    ensures { image.new ≡ put (block_bytes * (k.count + 1))
+        (slot_of s.size (modified_entry s brick (brick_in s image.old) msg block.now old.now))
         image.old }
 {
     let at = BLOCK_BYTES * (k.count + 1);
@@ -409,8 +409,8 @@ fn modify(
     requires block_len { (length block.now ≡ s.size) × (length old.now ≡ s.size) }
     requires block_lt_m { (msg.block < s.m) × (k.count < s.capacity) }
     ensures { image.new
-        ≡ image_of s brick (appended (brickIn s image.old)
-        (modifiedEntry s brick (brickIn s image.old) msg block.now old.now)) }
+        ≡ image_of s brick (appended (brick_in s image.old)
+        (modified_entry s brick (brick_in s image.old) msg block.now old.now)) }
 {
     write_modified(s, brick, image, k, msg, block, old);
     write_head(s, brick, image, k.count + 1, k.promise);
@@ -420,8 +420,8 @@ fn modify(
 // the image holds it.
 pub fn remove(s: Settings, brick: usize, image: &mut [u8], k: Known, p: Plan)
     requires log_ready { LogReady s brick image.old k }
-    requires remove_ready { RemoveReady (brickIn s image.old) k p }
-    ensures { image.new ≡ image_of s brick (removedBy (brickIn s image.old) p) }
+    requires remove_ready { RemoveReady (brick_in s image.old) k p }
+    ensures { image.new ≡ image_of s brick (removed_by (brick_in s image.old) p) }
 {
     if p.cut == 0 {
         return;
@@ -437,8 +437,8 @@ pub fn remove(s: Settings, brick: usize, image: &mut [u8], k: Known, p: Plan)
 
 // A block of the image copied into the reply's buffer.
 pub fn give(image: &[u8], size: usize, place: usize, out: &mut [u8])
-    requires { (length out.old ≡ size) × (size ≤ maxSize) × (blockBytes * (place + 1) ≤ length image.now) }
-    ensures { out.new ≡ gaveOf image.now size place out.old }
+    requires { (length out.old ≡ size) × (size ≤ max_size) × (block_bytes * (place + 1) ≤ length image.now) }
+    ensures { out.new ≡ gave_of image.now size place out.old }
 {
     if place == 0 {
         return;
@@ -461,9 +461,9 @@ pub fn change(
 )
     requires log_ready { LogReady s brick image.old k }
     requires block_len { (length block.now ≡ s.size) × (length old.now ≡ s.size) }
-    requires kind_value { (isSilent msg.kind ≡ false) × (msg.kind ≡ modifyKind → msg.block < s.m) × (said ≡ comparisonTo s (brickIn s image.old) msg) }
+    requires kind_value { (is_silent msg.kind ≡ false) × (msg.kind ≡ modify_kind → msg.block < s.m) × (said ≡ comparison_to s (brick_in s image.old) msg) }
     ensures { image.new
-        ≡ image_of s brick (brickAfter s brick (brickIn s image.old) msg block.now old.now) }
+        ≡ image_of s brick (brick_after s brick (brick_in s image.old) msg block.now old.now) }
 {
     if said != NO_COMPARISON {
         return;

@@ -3,21 +3,21 @@
 // inner: call `coordinator::take_reply`
 ghost use Rattle.std.specs.Prelude.{cond, ◌≡◌, ◌*◌, ◌≤◌, length};
 ghost use Rattle.coord_apply.specs.Acts.{buffered};
-ghost use Rattle.coord_apply.specs.Workers.{DecisionReady, Acted, openAnswer, precededAnswer, aheadAnswer, endAnswer, finishedLetter};
-ghost use Rattle.coord_apply.specs.Acts.{roundMessage, clearMessage, dropsFirst, trimsFirst, nextOp, finishedSeen};
-ghost use Rattle.coord_apply.specs.Acts.{seenBlock, noticeOf, namedBricks};
-ghost use Rattle.coord_blocks.specs.Blocks.{stripeFrom, agreeing, givenStripe, storedStripe};
-ghost use Rattle.coord_tally.specs.Counting.{givers, firstGivers, picked, targetRow, atTimes};
+ghost use Rattle.coord_apply.specs.Workers.{DecisionReady, Acted, open_answer, preceded_answer, ahead_answer, end_answer, finished_letter};
+ghost use Rattle.coord_apply.specs.Acts.{round_message, clear_message, drops_first, trims_first, next_op, finished_seen};
+ghost use Rattle.coord_apply.specs.Acts.{seen_block, notice_of, named_bricks};
+ghost use Rattle.coord_blocks.specs.Blocks.{stripe_from, agreeing, given_stripe, stored_stripe};
+ghost use Rattle.coord_tally.specs.Counting.{givers, first_givers, picked, target_row, at_times};
 ghost use Rattle.coord_decide.specs.Deciding.{decided};
 ghost use Rattle.coord_decide.specs.declared.Decision.TheVariants.{Recover};
-ghost use Rattle.coord_record.specs.Records.{targetCount, noBricks};
-ghost use Rattle.erasure.specs.Code.{codedOf};
-ghost use Rattle.message.specs.Kinds.{orderReadKind, writeKind, trimKind, lastRound};
-ghost use Rattle.message.specs.Messages.{namesBlock};
+ghost use Rattle.coord_record.specs.Records.{target_count, no_bricks};
+ghost use Rattle.erasure.specs.Code.{coded_of};
+ghost use Rattle.message.specs.Kinds.{order_read_kind, write_kind, trim_kind, last_round};
+ghost use Rattle.message.specs.Messages.{names_block};
 ghost use Rattle.settings.specs.Count.{count};
-ghost use Rattle.coord_apply.specs.Answers.{nothingSeen, noMessage, readSeen, abortedSeen, letterOf};
+ghost use Rattle.coord_apply.specs.Answers.{nothing_seen, no_message, read_seen, aborted_seen, letter_of};
 ghost use Rattle.erasure.specs.Workers.{Encodes};
-ghost use Rattle.settings.specs.Ranges.{maxBricks};
+ghost use Rattle.settings.specs.Ranges.{max_bricks};
 
 use coord_decide::Decision;
 use coord_record::{Coordinator, Op};
@@ -42,7 +42,7 @@ pub const MOST_BROADCASTS: usize = 2;
 
 // what: one of these, of the operation of this kind, stripe and time. block: the number of the block that it is on, 0 where it is on the
 // stripe. bricks: the bricks that a finished read decoded from, or the one that gave the block, from the front of the row, and 0 past them; how
-// many they are follows from what, letter, kind and m, as `Answers.howManyNamed` says. letter: which rule ended it, of those in
+// many they are follows from what, letter, kind and m, as `Answers.how_many_named` says. letter: which rule ended it, of those in
 // `coord_letters`; none where nothing ended.
 #[derive(Drop)]
 pub struct Notice {
@@ -70,7 +70,7 @@ pub struct Answer {
 
 // Nothing is seen.
 pub fn nothing_seen() -> Notice
-    ensures { result ≡ nothingSeen }
+    ensures { result ≡ nothing_seen }
 {
     Notice {
         what: NOTHING,
@@ -85,7 +85,7 @@ pub fn nothing_seen() -> Notice
 
 // No message.
 pub fn no_message() -> Message
-    ensures { result ≡ noMessage }
+    ensures { result ≡ no_message }
 {
     Message {
         kind: 0,
@@ -101,7 +101,7 @@ pub fn no_message() -> Message
 
 // The block that a round's message names, 0 where it names none.
 fn named_block(op: Op) -> usize
-    ensures { result ≡ cond (namesBlock op.phase) op.first 0 }
+    ensures { result ≡ cond (names_block op.phase) op.first 0 }
 {
     if message::names_block(op.phase) {
         return op.first;
@@ -111,7 +111,7 @@ fn named_block(op: Op) -> usize
 
 // The message of a round, to all bricks, about the operation's stripe; old: Modify's old time, else 0.
 pub fn round_message(op: Op, old: u64, targets: [u8; MAX_BRICKS]) -> Message
-    ensures { result ≡ roundMessage op old targets }
+    ensures { result ≡ round_message op old targets }
 {
     Message {
         kind: op.phase,
@@ -127,7 +127,7 @@ pub fn round_message(op: Op, old: u64, targets: [u8; MAX_BRICKS]) -> Message
 
 // Trim or Drop of a time on an operation's stripe, with the number of its round that ended.
 fn clear_message(kind: u8, ended: Op, time: u64) -> Message
-    ensures { result ≡ clearMessage kind ended time }
+    ensures { result ≡ clear_message kind ended time }
 {
     Message {
         kind,
@@ -143,8 +143,8 @@ fn clear_message(kind: u8, ended: Op, time: u64) -> Message
 
 // The next round of an operation.
 fn next_op(op: Op, phase: u8, max: u64) -> Op
-    requires { op.round ≤ lastRound }
-    ensures { result ≡ nextOp op phase max }
+    requires { op.round ≤ last_round }
+    ensures { result ≡ next_op op phase max }
 {
     Op {
         kind: op.kind,
@@ -159,8 +159,8 @@ fn next_op(op: Op, phase: u8, max: u64) -> Op
 
 // The answer that opens the next round; old: Modify's old time, else 0.
 fn open(c: Coordinator, phase: u8, max: u64, old: u64, bricks: [u8; MAX_BRICKS]) -> Answer
-    requires { c.op.round ≤ lastRound }
-    ensures { result ≡ openAnswer c phase max old bricks }
+    requires { c.op.round ≤ last_round }
+    ensures { result ≡ open_answer c phase max old bricks }
 {
     let before = c.op;
     let op = next_op(before, phase, max);
@@ -189,7 +189,7 @@ fn open(c: Coordinator, phase: u8, max: u64, old: u64, bricks: [u8; MAX_BRICKS])
 
 // An answer that has one message, with one ahead of it.
 fn preceded(first: Message, a: Answer) -> Answer
-    ensures { result ≡ precededAnswer first a }
+    ensures { result ≡ preceded_answer first a }
 {
     let next = a.next;
     let after = a.message;
@@ -206,8 +206,8 @@ fn preceded(first: Message, a: Answer) -> Answer
 
 // The next recovery round, below this max: after Drop of it where the round before was one too, which found it.
 fn look(c: Coordinator, max: u64) -> Answer
-    requires { c.op.round ≤ lastRound }
-    ensures { result ≡ aheadAnswer (dropsFirst c.op max) (openAnswer c orderReadKind max 0 noBricks) }
+    requires { c.op.round ≤ last_round }
+    ensures { result ≡ ahead_answer (drops_first c.op max) (open_answer c order_read_kind max 0 no_bricks) }
 {
     let op = c.op;
     let a = open(c, message::ORDER_READ, max, 0, [0u8; MAX_BRICKS]);
@@ -219,7 +219,7 @@ fn look(c: Coordinator, max: u64) -> Answer
 
 // The block that an operation is seen to be on, 0 for one on the stripe.
 fn seen_block(op: Op) -> usize
-    ensures { result ≡ seenBlock op }
+    ensures { result ≡ seen_block op }
 {
     if coord_record::on_block(op.kind) {
         return op.first;
@@ -229,7 +229,7 @@ fn seen_block(op: Op) -> usize
 
 // What is seen of an operation.
 pub fn notice_of(op: Op, what: u8, letter: u8, bricks: [u8; MAX_BRICKS]) -> Notice
-    ensures { result ≡ noticeOf op what letter bricks }
+    ensures { result ≡ notice_of op what letter bricks }
 {
     Notice {
         what,
@@ -251,7 +251,7 @@ pub fn end(
     sent: usize,
     message: Message,
 ) -> Answer
-    ensures { result ≡ endAnswer c what letter bricks sent message }
+    ensures { result ≡ end_answer c what letter bricks sent message }
 {
     let geometry = c.geometry;
     let clock = c.clock;
@@ -271,8 +271,8 @@ pub fn end(
 
 // The answer that ends the operation aborted.
 fn abort(n: usize, c: Coordinator) -> Answer
-    requires { n ≤ maxBricks }
-    ensures { result ≡ endAnswer c abortedSeen (letterOf n c.op c.tally abortedSeen) noBricks 0 noMessage }
+    requires { n ≤ max_bricks }
+    ensures { result ≡ end_answer c aborted_seen (letter_of n c.op c.tally aborted_seen) no_bricks 0 no_message }
 {
     let op = c.op;
     let tally = c.tally;
@@ -283,9 +283,9 @@ fn abort(n: usize, c: Coordinator) -> Answer
 // Gives what the targets gave, and names them.
 fn give(n: usize, m: usize, size: usize, c: Coordinator, blocks: &[u8], stripe: &mut [u8]) -> Answer
     requires { DecisionReady n m size c (length blocks.now) (length stripe.old) }
-    ensures value { result ≡ endAnswer c readSeen (letterOf n c.op c.tally readSeen)
-        (targetRow n (targetCount m c.op.kind) c.op.first) 0 noMessage }
-    ensures stripe_after { stripe.new ≡ givenStripe n m size c.op blocks.now stripe.old }
+    ensures value { result ≡ end_answer c read_seen (letter_of n c.op c.tally read_seen)
+        (target_row n (target_count m c.op.kind) c.op.first) 0 no_message }
+    ensures stripe_after { stripe.new ≡ given_stripe n m size c.op blocks.now stripe.old }
 {
     let op = c.op;
     let row = coord_tally::target_row(n, coord_record::target_count(m, op.kind), op.first);
@@ -296,7 +296,7 @@ fn give(n: usize, m: usize, size: usize, c: Coordinator, blocks: &[u8], stripe: 
 
 // The bricks that a recovery names: those decoded from, by a read.
 fn named_bricks(op: Op, row: [u8; MAX_BRICKS]) -> [u8; MAX_BRICKS]
-    ensures { result ≡ namedBricks op row }
+    ensures { result ≡ named_bricks op row }
 {
     if coord_record::is_reading(op.kind) {
         return row;
@@ -306,8 +306,8 @@ fn named_bricks(op: Op, row: [u8; MAX_BRICKS]) -> [u8; MAX_BRICKS]
 
 // How many bricks gave a block of this time.
 fn givers_count(n: usize, c: Coordinator, time: u64) -> usize
-    requires { n ≤ maxBricks }
-    ensures { result ≡ count (atTimes c.tally.held c.tally.found time) n }
+    requires { n ≤ max_bricks }
+    ensures { result ≡ count (at_times c.tally.held c.tally.found time) n }
 {
     let t = c.tally;
     let held = t.held;
@@ -328,10 +328,10 @@ fn recover(
     stripe: &mut [u8],
 ) -> bool
     requires decision_ready { DecisionReady n m size c (length blocks.now) (length stripe.old) }
-    requires k_value { (k ≡ count (atTimes c.tally.held c.tally.found time) n) × (m ≤ k) }
+    requires k_value { (k ≡ count (at_times c.tally.held c.tally.found time) n) × (m ≤ k) }
     ensures value { result ≡ agreeing m size (givers c.tally.held c.tally.found time n) blocks.now }
-    ensures stripe_after { stripe.new ≡ cond result (storedStripe size c.op stripe.old
-        (stripeFrom m size (firstGivers c.tally.held c.tally.found time n m) blocks.now)) stripe.old }
+    ensures stripe_after { stripe.new ≡ cond result (stored_stripe size c.op stripe.old
+        (stripe_from m size (first_givers c.tally.held c.tally.found time n m) blocks.now)) stripe.old }
 {
     let t = c.tally;
     let op = c.op;
@@ -343,8 +343,8 @@ fn recover(
 
 // The bricks that the recovery at this time names: the first m by number that gave it, by a read.
 fn recovery_names(n: usize, m: usize, c: Coordinator, time: u64) -> [u8; MAX_BRICKS]
-    requires { n ≤ maxBricks }
-    ensures { result ≡ namedBricks c.op (picked c.tally.held c.tally.found time n m) }
+    requires { n ≤ max_bricks }
+    ensures { result ≡ named_bricks c.op (picked c.tally.held c.tally.found time n m) }
 {
     let t = c.tally;
     let op = c.op;
@@ -364,9 +364,9 @@ fn store(
     coded: &mut [u8],
 ) -> Answer
     requires encodes { Encodes n m size (length stripe.now) (length coded.old) }
-    requires round_le_last_round { c.op.round ≤ lastRound }
-    ensures value { result ≡ openAnswer c writeKind 0 0 row }
-    ensures coded_after { coded.new ≡ codedOf n m size stripe.now }
+    requires round_le_last_round { c.op.round ≤ last_round }
+    ensures value { result ≡ open_answer c write_kind 0 0 row }
+    ensures coded_after { coded.new ≡ coded_of n m size stripe.now }
 {
     erasure::encode_into(n, m, size, stripe, coded);
     open(c, message::WRITE, 0, 0, row)
@@ -374,8 +374,8 @@ fn store(
 
 // Trim of the time that a recovery chose, which k bricks gave, ahead of its store: where all of a quorum gave it and it is not 0.
 fn trim_first(n: usize, m: usize, c: Coordinator, time: u64, k: usize, a: Answer) -> Answer
-    requires { k ≡ count (atTimes c.tally.held c.tally.found time) n }
-    ensures { result ≡ aheadAnswer (trimsFirst n m c.op c.tally time) a }
+    requires { k ≡ count (at_times c.tally.held c.tally.found time) n }
+    ensures { result ≡ ahead_answer (trims_first n m c.op c.tally time) a }
 {
     let op = c.op;
     let quorum = settings::quorum_of(n, m);
@@ -400,10 +400,10 @@ fn store_found(
     coded: &mut [u8],
 ) -> Answer
     requires encodes { Encodes n m size (length stripe.now) (length coded.old) }
-    requires round_le_last_round { (c.op.round ≤ lastRound) × (k ≡ count (atTimes c.tally.held c.tally.found time) n) }
-    ensures value { result ≡ aheadAnswer (trimsFirst n m c.op c.tally time)
-        (openAnswer c writeKind 0 0 (namedBricks c.op (picked c.tally.held c.tally.found time n m))) }
-    ensures coded_after { coded.new ≡ codedOf n m size stripe.now }
+    requires round_le_last_round { (c.op.round ≤ last_round) × (k ≡ count (at_times c.tally.held c.tally.found time) n) }
+    ensures value { result ≡ ahead_answer (trims_first n m c.op c.tally time)
+        (open_answer c write_kind 0 0 (named_bricks c.op (picked c.tally.held c.tally.found time n m))) }
+    ensures coded_after { coded.new ≡ coded_of n m size stripe.now }
 {
     let a = store(n, m, size, c, recovery_names(n, m, c, time), stripe, coded);
     trim_first(n, m, c, time, k, a)
@@ -421,7 +421,7 @@ fn recover_and_store(
     coded: &mut [u8],
 ) -> Answer
     requires decision_ready { DecisionReady n m size c (length blocks.now) (length stripe.old) }
-    requires coded_len { (length coded.old ≡ n * size) × (m ≤ count (atTimes c.tally.held c.tally.found time) n) }
+    requires coded_len { (length coded.old ≡ n * size) × (m ≤ count (at_times c.tally.held c.tally.found time) n) }
     ensures { Acted n m size (buffered c blocks.now stripe.old) (Recover time) coded.old
         result stripe.new coded.new }
 {
@@ -434,7 +434,7 @@ fn recover_and_store(
 
 // How a finished Write or Modify round is seen.
 fn finished_seen(op: Op) -> u8
-    ensures { result ≡ finishedSeen op }
+    ensures { result ≡ finished_seen op }
 {
     if coord_record::is_reading(op.kind) {
         return STRIPE;
@@ -444,7 +444,7 @@ fn finished_seen(op: Op) -> u8
 
 // The letter of a finished Write or Modify round.
 fn finished_letter(op: Op) -> u8
-    ensures { result ≡ finishedLetter op }
+    ensures { result ≡ finished_letter op }
 {
     if coord_record::is_reading(op.kind) {
         return coord_letters::read_letter(op);
@@ -454,8 +454,8 @@ fn finished_letter(op: Op) -> u8
 
 // Answers, and sends Trim.
 fn finish(c: Coordinator) -> Answer
-    ensures { result ≡ endAnswer c (finishedSeen c.op) (finishedLetter c.op) c.bricks 1
-        (clearMessage trimKind c.op c.op.time) }
+    ensures { result ≡ end_answer c (finished_seen c.op) (finished_letter c.op) c.bricks 1
+        (clear_message trim_kind c.op c.op.time) }
 {
     let op = c.op;
     let bricks = c.bricks;

@@ -2,13 +2,13 @@
 // blocks are gathered, decoded and checked; an operation on one block takes that block alone, or keeps it while the others are decoded.
 // inner: call `coordinator::take_reply`
 ghost use Rattle.std.specs.Prelude.{cond, true, ◌≡◌, ◌+◌, ◌*◌, ◌≤◌, ◌<◌, length, take};
-ghost use Rattle.coord_blocks.specs.Blocks.{stripeFrom, agreeing, givenStripe, storedStripe};
+ghost use Rattle.coord_blocks.specs.Blocks.{stripe_from, agreeing, given_stripe, stored_stripe};
 ghost use Rattle.coord_blocks.specs.Workers.{InPlace, HandedOn, BlocksReady};
-ghost use Rattle.coord_record.specs.Records.{onBlock, targetCount};
-ghost use Rattle.coord_tally.specs.Counting.{targetRow};
-ghost use Rattle.erasure.specs.Code.{block_of, blocksOf, withBlock};
+ghost use Rattle.coord_record.specs.Records.{on_block, target_count};
+ghost use Rattle.coord_tally.specs.Counting.{target_row};
+ghost use Rattle.erasure.specs.Code.{block_of, blocks_of, with_block};
 ghost use Rattle.interpolate.specs.Values.{PointSet};
-ghost use Rattle.settings.specs.Ranges.{maxBricks, maxSize};
+ghost use Rattle.settings.specs.Ranges.{max_bricks, max_size};
 
 use coord_record::Op;
 use settings::MAX_BRICKS;
@@ -16,7 +16,7 @@ use settings::MAX_BRICKS;
 // A reply's block in its place.
 pub fn place(size: usize, b: usize, block: &[u8], blocks: &mut [u8])
     requires { (length block.now ≡ size) × (b * size + size ≤ length blocks.old) }
-    ensures { blocks.new ≡ withBlock size blocks.old b block.now }
+    ensures { blocks.new ≡ with_block size blocks.old b block.now }
 {
     let at = b * size;
     let end = at + size;
@@ -25,9 +25,9 @@ pub fn place(size: usize, b: usize, block: &[u8], blocks: &mut [u8])
 
 // The blocks of the first k bricks of a row, one after the other.
 fn gather(k: usize, size: usize, bricks: [u8; MAX_BRICKS], blocks: &[u8], out: &mut [u8])
-    requires k_le_max_bricks { (k ≤ maxBricks) × (length out.old ≡ k * size) }
+    requires k_le_max_bricks { (k ≤ max_bricks) × (length out.old ≡ k * size) }
     requires in_place { InPlace k size bricks blocks.now }
-    ensures { out.new ≡ blocksOf size blocks.now (take k bricks) }
+    ensures { out.new ≡ blocks_of size blocks.now (take k bricks) }
 {
     let mut i = 0;
     let mut at = 0;
@@ -50,11 +50,11 @@ fn decode_by(
     work: &mut [u8],
     stripe: &mut [u8],
 )
-    requires m_le_max_bricks { (m ≤ maxBricks) × (m * size ≤ length work.old) }
+    requires m_le_max_bricks { (m ≤ max_bricks) × (m * size ≤ length work.old) }
     requires stripe_len { length stripe.old ≡ m * size }
     requires point_set { PointSet (take m bricks) }
     requires in_place { InPlace m size bricks blocks.now }
-    ensures { stripe.new ≡ stripeFrom m size (take m bricks) blocks.now }
+    ensures { stripe.new ≡ stripe_from m size (take m bricks) blocks.now }
 {
     let end = m * size;
     gather(m, size, bricks, blocks, &mut work[..end]);
@@ -66,11 +66,11 @@ const WORK: usize = 4096;
 
 // The same, with a buffer of its own.
 fn decode_from(m: usize, size: usize, bricks: [u8; MAX_BRICKS], blocks: &[u8], stripe: &mut [u8])
-    requires m_le_max_bricks { (m ≤ maxBricks) × (size ≤ maxSize) }
+    requires m_le_max_bricks { (m ≤ max_bricks) × (size ≤ max_size) }
     requires stripe_len { length stripe.old ≡ m * size }
     requires point_set { PointSet (take m bricks) }
     requires in_place { InPlace m size bricks blocks.now }
-    ensures { stripe.new ≡ stripeFrom m size (take m bricks) blocks.now }
+    ensures { stripe.new ≡ stripe_from m size (take m bricks) blocks.now }
 {
     let mut work = [0u8; WORK];
     decode_by(m, size, bricks, blocks, &mut work, stripe)
@@ -90,7 +90,7 @@ fn check_by(
     requires handed_on { HandedOn m size k bricks blocks.now }
     requires stripe_len { (length stripe.old ≡ m * size) × (k * size ≤ length work.old) }
     ensures value { result ≡ agreeing m size (take k bricks) blocks.now }
-    ensures stripe_after { stripe.new ≡ cond result (stripeFrom m size (take k bricks) blocks.now) stripe.old }
+    ensures stripe_after { stripe.new ≡ cond result (stripe_from m size (take k bricks) blocks.now) stripe.old }
 {
     let end = k * size;
     gather(k, size, bricks, blocks, &mut work[..end]);
@@ -109,7 +109,7 @@ fn check_from(
     requires handed_on { HandedOn m size k bricks blocks.now }
     requires stripe_len { length stripe.old ≡ m * size }
     ensures value { result ≡ agreeing m size (take k bricks) blocks.now }
-    ensures stripe_after { stripe.new ≡ cond result (stripeFrom m size (take k bricks) blocks.now) stripe.old }
+    ensures stripe_after { stripe.new ≡ cond result (stripe_from m size (take k bricks) blocks.now) stripe.old }
 {
     let mut work = [0u8; WORK];
     check_by(m, size, k, bricks, blocks, &mut work, stripe)
@@ -118,7 +118,7 @@ fn check_from(
 // Block j of one row of blocks in its place in another.
 fn copy_block(size: usize, j: usize, from: &[u8], to: &mut [u8])
     requires { (j * size + size ≤ length from.now) × (j * size + size ≤ length to.old) }
-    ensures { to.new ≡ withBlock size to.old j (block_of size from.now j) }
+    ensures { to.new ≡ with_block size to.old j (block_of size from.now j) }
 {
     let at = j * size;
     let end = at + size;
@@ -136,8 +136,8 @@ pub fn take_given(
     stripe: &mut [u8],
 )
     requires blocks_ready { BlocksReady n m size op (length blocks.now) (length stripe.old) }
-    requires row_value { row ≡ targetRow n (targetCount m op.kind) op.first }
-    ensures { stripe.new ≡ givenStripe n m size op blocks.now stripe.old }
+    requires row_value { row ≡ target_row n (target_count m op.kind) op.first }
+    ensures { stripe.new ≡ given_stripe n m size op blocks.now stripe.old }
 {
     if coord_record::on_block(op.kind) {
         copy_block(size, op.first, blocks, stripe)
@@ -160,7 +160,7 @@ fn check_around(
     requires handed_on { HandedOn m size k row blocks.now }
     requires size_in_bounds { (j * size + size ≤ length stripe.old) × (length stripe.old ≡ m * size) × (size ≤ length aside.old) }
     ensures value { result ≡ agreeing m size (take k row) blocks.now }
-    ensures stripe_after { stripe.new ≡ cond result (withBlock size (stripeFrom m size (take k row) blocks.now) j
+    ensures stripe_after { stripe.new ≡ cond result (with_block size (stripe_from m size (take k row) blocks.now) j
         (block_of size stripe.old j)) stripe.old }
 {
     let at = j * size;
@@ -185,9 +185,9 @@ pub fn decode_stored(
     stripe: &mut [u8],
 ) -> bool
     requires handed_on { HandedOn m size k row blocks.now }
-    requires first_lt_m { (onBlock op.kind ≡ true → op.first < m) × (length stripe.old ≡ m * size) }
+    requires first_lt_m { (on_block op.kind ≡ true → op.first < m) × (length stripe.old ≡ m * size) }
     ensures value { result ≡ agreeing m size (take k row) blocks.now }
-    ensures stripe_after { stripe.new ≡ cond result (storedStripe size op stripe.old (stripeFrom m size (take k row) blocks.now))
+    ensures stripe_after { stripe.new ≡ cond result (stored_stripe size op stripe.old (stripe_from m size (take k row) blocks.now))
         stripe.old }
 {
     if op.kind == coord_record::WRITING_BLOCK {

@@ -1,10 +1,10 @@
 // The rounds of a coordinator (document 01, "What a coordinator does"): which replies count, and what the q-th decides.
 // inner: call `coordinator::take_reply`
 ghost use Rattle.std.specs.Prelude.{◌≡◌, ◌≤◌, ◌<◌};
-ghost use Rattle.coord_decide.specs.Deciding.{answers, tallied, apart, decidedRead, decidedBlockOrder, decidedAt, decided};
+ghost use Rattle.coord_decide.specs.Deciding.{answers, tallied, apart, decided_read, decided_block_order, decided_at, decided};
 ghost use Rattle.coord_tally.specs.Counting.{highest};
-ghost use Rattle.settings.specs.Count.{one-if};
-ghost use Rattle.settings.specs.Ranges.{maxBricks};
+ghost use Rattle.settings.specs.Count.{one_if};
+ghost use Rattle.settings.specs.Ranges.{max_bricks};
 
 use coord_record::{Op, Tally};
 use coord_tally::{any_missing, any_no, any_other, count_at, highest_of};
@@ -31,7 +31,7 @@ pub enum Decision {
 
 // 1 for true.
 fn flag_of(x: bool) -> u8
-    ensures { result ≡ one-if x }
+    ensures { result ≡ one_if x }
 {
     if x {
         return 1;
@@ -41,7 +41,7 @@ fn flag_of(x: bool) -> u8
 
 // The tally with a reply counted.
 pub fn tally_with(t: Tally, reply: Reply) -> Tally
-    requires { reply.brick < maxBricks }
+    requires { reply.brick < max_bricks }
     ensures { result ≡ tallied t reply }
 {
     let b = reply.brick;
@@ -67,7 +67,7 @@ pub fn tally_with(t: Tally, reply: Reply) -> Tally
 // Whether a reply is of the running operation, its stripe and round, of a brick not counted, with a block by the round's rules.
 pub fn reply_answers(n: usize, m: usize, op: Op, t: Tally, reply: Reply) -> bool
     requires first_le_n { op.first ≤ n }
-    requires brick_lt_max_bricks { reply.brick < maxBricks }
+    requires brick_lt_max_bricks { reply.brick < max_bricks }
     ensures { result ≡ answers n m op t reply }
 {
     let b = reply.brick;
@@ -97,7 +97,7 @@ const FIRST_MAX: u64 = settings::NO_UPPER_END;
 
 // Whether the counted replies differ in their newest times, or one of the targets is not among them.
 fn times_apart(n: usize, targets: usize, op: Op, t: Tally, newest: u64) -> bool
-    requires n_le_max_bricks { n ≤ maxBricks }
+    requires n_le_max_bricks { n ≤ max_bricks }
     requires first_lt_n { op.first < n }
     requires newest_value { newest ≡ highest t.counted t.found n }
     ensures { result ≡ apart n targets op t }
@@ -112,9 +112,9 @@ fn times_apart(n: usize, targets: usize, op: Op, t: Tally, newest: u64) -> bool
 
 // What the q-th reply of a Read round decides: a no does not abort it, the read recovers.
 fn decide_read(n: usize, m: usize, op: Op, t: Tally) -> Decision
-    requires n_le_max_bricks { n ≤ maxBricks }
+    requires n_le_max_bricks { n ≤ max_bricks }
     requires first_lt_n { op.first < n }
-    ensures { result ≡ decidedRead n m op t }
+    ensures { result ≡ decided_read n m op t }
 {
     let counted = t.counted;
     let granted = t.granted;
@@ -131,9 +131,9 @@ fn decide_read(n: usize, m: usize, op: Op, t: Tally) -> Decision
 
 // What the q-th reply of a block write's first round decides, where none said no.
 fn decide_block_order(n: usize, m: usize, op: Op, t: Tally) -> Decision
-    requires n_le_max_bricks { n ≤ maxBricks }
+    requires n_le_max_bricks { n ≤ max_bricks }
     requires first_lt_n { op.first < n }
-    ensures { result ≡ decidedBlockOrder n m op t }
+    ensures { result ≡ decided_block_order n m op t }
 {
     let counted = t.counted;
     let found = t.found;
@@ -146,8 +146,8 @@ fn decide_block_order(n: usize, m: usize, op: Op, t: Tally) -> Decision
 
 // What the q-th reply of an Order-and-read round decides, where a block is held and this is the highest time found.
 fn decide_at(n: usize, m: usize, round: u64, t: Tally, time: u64) -> Decision
-    requires { n ≤ maxBricks }
-    ensures { result ≡ decidedAt n m round t time }
+    requires { n ≤ max_bricks }
+    ensures { result ≡ decided_at n m round t time }
 {
     let held = t.held;
     let found = t.found;
@@ -168,7 +168,7 @@ fn decide_at(n: usize, m: usize, round: u64, t: Tally, time: u64) -> Decision
 
 // What the q-th reply of a round decides.
 pub fn decide(n: usize, m: usize, op: Op, t: Tally) -> Decision
-    requires n_le_max_bricks { n ≤ maxBricks }
+    requires n_le_max_bricks { n ≤ max_bricks }
     requires first_lt_n { op.first < n }
     ensures { result ≡ decided n m op t }
 {

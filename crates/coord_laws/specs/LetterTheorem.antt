@@ -1,27 +1,27 @@
 -- Document 02, E5: the letters change nothing else. What a no said, in a reply or kept in a tally, makes no difference to which replies count, to
 -- the record otherwise, to what is sent, to the buffers and to how an operation ends. Proved in `proofs/Laws/UnletteredLaws`.
 use Rattle.std.specs.Prelude.{◌≡◌, List, ℕ, length, replicate}
-use Rattle.settings.specs.Ranges.{maxBricks}
-use Rattle.message.specs.Kinds.{noComparison}
-use Rattle.message.specs.Messages.{replyRight}
+use Rattle.settings.specs.Ranges.{max_bricks}
+use Rattle.message.specs.Kinds.{no_comparison}
+use Rattle.message.specs.Messages.{reply_right}
 use Rattle.message.specs.declared.Reply.{Reply}
-use Rattle.coord_letters.specs.Letters.{noLetter}
-use Rattle.coord_record.specs.Sound.{soundRecord}
+use Rattle.coord_letters.specs.Letters.{no_letter}
+use Rattle.coord_record.specs.Sound.{sound_record}
 use Rattle.coord_record.specs.declared.Tally.{Tally}
-use Rattle.coord_apply.specs.Acts.{withTally}
+use Rattle.coord_apply.specs.Acts.{with_tally}
 use Rattle.coord_apply.specs.Answers.{Buffered, Went, went}
-use Rattle.coord_refusals.specs.Checks.{takeRefusal}
-use Rattle.coordinator.specs.Routines.{takeStep}
+use Rattle.coord_refusals.specs.Checks.{take_refusal}
+use Rattle.coordinator.specs.Routines.{take_step}
 
 -- a tally, a coordinator and a reply without what a no said
-unfoldable pub unsaidTally : Tally → Tally
-unsaidTally t = record { counted = t.counted; granted = t.granted; held = t.held; found = t.found; said = replicate maxBricks noComparison }
+unfoldable pub unsaid_tally : Tally → Tally
+unsaid_tally t = record { counted = t.counted; granted = t.granted; held = t.held; found = t.found; said = replicate max_bricks no_comparison }
 
 unfoldable pub unsaid : Buffered → Buffered
-unsaid h = record { state = withTally h.state (unsaidTally h.state.tally); blocks = h.blocks; stripe = h.stripe }
+unsaid h = record { state = with_tally h.state (unsaid_tally h.state.tally); blocks = h.blocks; stripe = h.stripe }
 
-unfoldable pub unsaidReply : Reply → Reply
-unsaidReply r =
+unfoldable pub unsaid_reply : Reply → Reply
+unsaid_reply r =
     record {
       kind = r.kind;
       brick = r.brick;
@@ -31,7 +31,7 @@ unsaidReply r =
       yes = r.yes;
       found = r.found;
       held = r.held;
-      comparison = noComparison;
+      comparison = no_comparison;
     }
 
 -- what a step gives, without what a no said and without its letter
@@ -47,7 +47,7 @@ unlettered w =
         time = w.seen.time;
         block = w.seen.block;
         bricks = w.seen.bricks;
-        letter = noLetter;
+        letter = no_letter;
       };
     }
 
@@ -55,21 +55,21 @@ unlettered w =
 -- neither is.
 pub record AlikeButForNos (n m size stripes : ℕ) (h h' : Buffered) (r r' : Reply) : Type 0 where
   pub same-coordinator : unsaid h ≡ unsaid h'
-  pub same-reply : unsaidReply r ≡ unsaidReply r'
-  pub alike-sound : soundRecord n m size stripes h.state ≡ soundRecord n m size stripes h'.state
-  pub alike_right : replyRight r ≡ replyRight r'
+  pub same-reply : unsaid_reply r ≡ unsaid_reply r'
+  pub alike-sound : sound_record n m size stripes h.state ≡ sound_record n m size stripes h'.state
+  pub alike_right : reply_right r ≡ reply_right r'
 
 -- Which replies count does not depend on it: both count, or both are refused, by the same number;
 abbrev pub SameRepliesCount : Type 0
 SameRepliesCount =
     (n m size stripes : ℕ) (h h' : Buffered) (r r' : Reply) (block : List ℕ) (coded : ℕ) → AlikeButForNos n m size stripes h h' r r'
-    → takeRefusal n m size stripes h.state r (length block) (length h.blocks) (length h.stripe) coded
-    ≡ takeRefusal n m size stripes h'.state r' (length block) (length h'.blocks) (length h'.stripe) coded
+    → take_refusal n m size stripes h.state r (length block) (length h.blocks) (length h.stripe) coded
+    ≡ take_refusal n m size stripes h'.state r' (length block) (length h'.blocks) (length h'.stripe) coded
 
 -- nor does anything that a reply does where it is accepted, but what is kept of a no and the letter.
 abbrev pub LettersChangeNothingElse : Type 0
 LettersChangeNothingElse =
     (n m size stripes : ℕ) (h h' : Buffered) (r r' : Reply) (block : List ℕ) (coded : ℕ) (w w' : Went)
-    → unsaid h ≡ unsaid h' → unsaidReply r ≡ unsaidReply r'
-    → takeStep n m size stripes h r block coded ≡ went w → takeStep n m size stripes h' r' block coded ≡ went w'
+    → unsaid h ≡ unsaid h' → unsaid_reply r ≡ unsaid_reply r'
+    → take_step n m size stripes h r block coded ≡ went w → take_step n m size stripes h' r' block coded ≡ went w'
     → unlettered w ≡ unlettered w'

@@ -2,9 +2,9 @@
 // inner: call `coordinator::take_reply`
 ghost use Rattle.std.specs.Prelude.{not, ◌&&◌, ◌≡◌, ◌≤◌, eqb};
 ghost use Rattle.byte_lists.specs.Each.{some};
-ghost use Rattle.coord_letters.specs.Letters.{readLetter, saidOther, abortLetter};
-ghost use Rattle.message.specs.Kinds.{fullLog};
-ghost use Rattle.settings.specs.Ranges.{maxBricks};
+ghost use Rattle.coord_letters.specs.Letters.{read_letter, said_other, abort_letter};
+ghost use Rattle.message.specs.Kinds.{full_log};
+ghost use Rattle.settings.specs.Ranges.{max_bricks};
 
 use coord_record::{Op, Tally};
 use settings::MAX_BRICKS;
@@ -40,7 +40,7 @@ pub const C: u8 = b'C';
 
 // The letter of a read that gave an answer.
 pub fn read_letter(op: Op) -> u8
-    ensures { result ≡ readLetter op }
+    ensures { result ≡ read_letter op }
 {
     if op.phase == message::READ {
         return F;
@@ -53,7 +53,7 @@ pub fn read_letter(op: Op) -> u8
 
 // Whether a brick is counted and said no by another comparison than that of a full log.
 fn other_no(counted: u8, granted: u8, said: u8) -> bool
-    ensures { result ≡ (eqb counted 1 && not (eqb granted 1)) && not (eqb said fullLog) }
+    ensures { result ≡ (eqb counted 1 && not (eqb granted 1)) && not (eqb said full_log) }
 {
     if counted == 1 {
         if granted == 1 {
@@ -71,8 +71,8 @@ fn any_other_no(
     said: [u8; MAX_BRICKS],
     n: usize,
 ) -> bool
-    requires { n ≤ maxBricks }
-    ensures { result ≡ some (saidOther counted granted said) n }
+    requires { n ≤ max_bricks }
+    ensures { result ≡ some (said_other counted granted said) n }
 {
     let mut b = 0;
     while b < n {
@@ -86,8 +86,8 @@ fn any_other_no(
 
 // The letter of an abort.
 pub fn abort_letter(n: usize, op: Op, t: Tally) -> u8
-    requires { n ≤ maxBricks }
-    ensures { result ≡ abortLetter n op t }
+    requires { n ≤ max_bricks }
+    ensures { result ≡ abort_letter n op t }
 {
     let counted = t.counted;
     let granted = t.granted;

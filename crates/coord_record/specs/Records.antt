@@ -4,63 +4,63 @@ use Rattle.coord_record.specs.declared.Coordinator.{Coordinator}
 use Rattle.coord_record.specs.declared.Geometry.{Geometry}
 use Rattle.coord_record.specs.declared.Op.{Op}
 use Rattle.coord_record.specs.declared.Tally.{Tally}
-use Rattle.message.specs.Kinds.{blockTargets, noComparison}
+use Rattle.message.specs.Kinds.{block_targets, no_comparison}
 use Rattle.settings.specs.declared.Clock.{Clock}
 use Rattle.settings.specs.declared.Settings.{Settings}
-use Rattle.settings.specs.Ranges.{maxBricks}
+use Rattle.settings.specs.Ranges.{max_bricks}
 
 -- what runs: nothing, a read, a write; E2: a read and a write of one block
-abbrev pub idleKind : ℕ
-idleKind = 0
+abbrev pub idle_kind : ℕ
+idle_kind = 0
 
-abbrev pub readingKind : ℕ
-readingKind = 1
+abbrev pub reading_kind : ℕ
+reading_kind = 1
 
-abbrev pub writingKind : ℕ
-writingKind = 2
+abbrev pub writing_kind : ℕ
+writing_kind = 2
 
-abbrev pub readingBlockKind : ℕ
-readingBlockKind = 3
+abbrev pub reading_block_kind : ℕ
+reading_block_kind = 3
 
-abbrev pub writingBlockKind : ℕ
-writingBlockKind = 4
+abbrev pub writing_block_kind : ℕ
+writing_block_kind = 4
 
 -- a read, of the stripe or of one block
-unfoldable pub isReading : ℕ → Bool
-isReading kind = eqb kind readingKind || eqb kind readingBlockKind
+unfoldable pub is_reading : ℕ → Bool
+is_reading kind = eqb kind reading_kind || eqb kind reading_block_kind
 
 -- an operation on one block: its `first` is that block's number, which is its brick's
-unfoldable pub onBlock : ℕ → Bool
-onBlock kind = eqb kind readingBlockKind || eqb kind writingBlockKind
+unfoldable pub on_block : ℕ → Bool
+on_block kind = eqb kind reading_block_kind || eqb kind writing_block_kind
 
 -- how many bricks, counted upward from the first, are asked for their block in the first round: "m bricks counted upward from a given one";
 -- E2: "Reading block j has brick j as its only target", "every brick gives its newest time and brick j its block"
-unfoldable pub targetCount : (m kind : ℕ) → ℕ
-targetCount m kind = cond (onBlock kind) blockTargets m
+unfoldable pub target_count : (m kind : ℕ) → ℕ
+target_count m kind = cond (on_block kind) block_targets m
 
 -- no operation
-unfoldable pub noOp : Op
-noOp = record { kind = idleKind; phase = 0; stripe = 0; time = 0; round = 0; max = 0; first = 0 }
+unfoldable pub no_op : Op
+no_op = record { kind = idle_kind; phase = 0; stripe = 0; time = 0; round = 0; max = 0; first = 0 }
 
 -- no brick named
-unfoldable pub noBricks : List ℕ
-noBricks = replicate maxBricks 0
+unfoldable pub no_bricks : List ℕ
+no_bricks = replicate max_bricks 0
 
 -- an open round before its first reply
-unfoldable pub nothingCounted : Tally
-nothingCounted =
+unfoldable pub nothing_counted : Tally
+nothing_counted =
     record {
-      counted = replicate maxBricks 0;
-      granted = replicate maxBricks 0;
-      held = replicate maxBricks 0;
-      found = replicate maxBricks 0;
-      said = replicate maxBricks noComparison;
+      counted = replicate max_bricks 0;
+      granted = replicate max_bricks 0;
+      held = replicate max_bricks 0;
+      found = replicate max_bricks 0;
+      said = replicate max_bricks no_comparison;
     }
 
 -- the settings of a volume's coordinators
-unfoldable pub geometryOf : Settings → Geometry
-geometryOf s = record { n = s.n; m = s.m; size = s.size; stripes = s.stripes }
+unfoldable pub geometry_of : Settings → Geometry
+geometry_of s = record { n = s.n; m = s.m; size = s.size; stripes = s.stripes }
 
 -- "A crash makes the coordinator idle and keeps its count."
-unfoldable pub idleWith : Geometry → Clock → Coordinator
-idleWith geometry clock = record { geometry = geometry; clock = clock; op = noOp; tally = nothingCounted; bricks = noBricks }
+unfoldable pub idle_with : Geometry → Clock → Coordinator
+idle_with geometry clock = record { geometry = geometry; clock = clock; op = no_op; tally = nothing_counted; bricks = no_bricks }

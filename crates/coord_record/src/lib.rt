@@ -2,15 +2,15 @@
 // The blocks of the replies and the stripe are lent beside it.
 // inner: call `coordinator::start_read`; from outside only `idle_with`
 ghost use Rattle.std.specs.Prelude.{◌≡◌, ◌≤◌, ◌<◌};
-ghost use Rattle.coord_record.specs.Records.{isReading, onBlock, targetCount, noOp, nothingCounted, idleWith};
-ghost use Rattle.coord_record.specs.CountedRules.{isTarget, blockRight, countedRight, entryRight, saidRight, tallyRight};
-ghost use Rattle.coord_record.specs.CountedRules.{brickRight, bricksRight};
-ghost use Rattle.message.specs.Messages.{foundRight};
-ghost use Rattle.coord_record.specs.Sound.{maxRight, storedRight, recoveryRight, openingRight, readRight, writeRight, blockWriteRight, unsetOp};
-ghost use Rattle.coord_record.specs.Sound.{opRight, blockLow, timeRight, namedCount, filledRight};
-ghost use Rattle.coord_record.specs.Sound.{sameGeometry, rulesKept, soundRecord};
-ghost use Rattle.settings.specs.Times.{maxCount, lastCoordinator};
-ghost use Rattle.settings.specs.Ranges.{maxBricks};
+ghost use Rattle.coord_record.specs.Records.{is_reading, on_block, target_count, no_op, nothing_counted, idle_with};
+ghost use Rattle.coord_record.specs.CountedRules.{is_target, block_right, counted_right, entry_right, said_right, tally_right};
+ghost use Rattle.coord_record.specs.CountedRules.{brick_right, bricks_right};
+ghost use Rattle.message.specs.Messages.{found_right};
+ghost use Rattle.coord_record.specs.Sound.{max_right, stored_right, recovery_right, opening_right, read_right, write_right, block_write_right, unset_op};
+ghost use Rattle.coord_record.specs.Sound.{op_right, block_low, time_right, named_count, filled_right};
+ghost use Rattle.coord_record.specs.Sound.{same_geometry, rules_kept, sound_record};
+ghost use Rattle.settings.specs.Times.{max_count, last_coordinator};
+ghost use Rattle.settings.specs.Ranges.{max_bricks};
 
 use message::{MODIFY, ORDER, ORDER_BLOCK, ORDER_READ, READ, WRITE};
 use settings::{Clock, MAX_BRICKS};
@@ -72,21 +72,21 @@ pub struct Coordinator {
 
 // Whether a kind is that of a read, of the stripe or of one block.
 pub fn is_reading(kind: u8) -> bool
-    ensures { result ≡ isReading kind }
+    ensures { result ≡ is_reading kind }
 {
     kind == READING || kind == READING_BLOCK
 }
 
 // Whether a kind is that of an operation on one block.
 pub fn on_block(kind: u8) -> bool
-    ensures { result ≡ onBlock kind }
+    ensures { result ≡ on_block kind }
 {
     kind == READING_BLOCK || kind == WRITING_BLOCK
 }
 
 // How many bricks, counted upward from the first, are asked for their block in the first round.
 pub fn target_count(m: usize, kind: u8) -> usize
-    ensures { result ≡ targetCount m kind }
+    ensures { result ≡ target_count m kind }
 {
     if on_block(kind) {
         return message::BLOCK_TARGETS;
@@ -96,7 +96,7 @@ pub fn target_count(m: usize, kind: u8) -> usize
 
 // No operation.
 pub fn no_op() -> Op
-    ensures { result ≡ noOp }
+    ensures { result ≡ no_op }
 {
     Op {
         kind: IDLE,
@@ -111,7 +111,7 @@ pub fn no_op() -> Op
 
 // No reply counted.
 pub fn nothing_counted() -> Tally
-    ensures { result ≡ nothingCounted }
+    ensures { result ≡ nothing_counted }
 {
     Tally {
         counted: [0u8; MAX_BRICKS],
@@ -125,7 +125,7 @@ pub fn nothing_counted() -> Tally
 // An idle coordinator for these settings, with a clock: what firmware starts from, and goes on from after a power failure. It refuses
 // nothing: a record with a setting, a number or a count outside its range is refused by every routine that takes it.
 pub fn idle_with(geometry: Geometry, clock: Clock) -> Coordinator
-    ensures { result ≡ idleWith geometry clock }
+    ensures { result ≡ idle_with geometry clock }
 {
     let op = no_op();
     let tally = nothing_counted();
@@ -141,7 +141,7 @@ pub fn idle_with(geometry: Geometry, clock: Clock) -> Coordinator
 // Whether a brick is among the m counted upward from the first, wrapping at n.
 pub fn is_target(n: usize, m: usize, first: usize, b: usize) -> bool
     requires { first ≤ n }
-    ensures { result ≡ isTarget n m first b }
+    ensures { result ≡ is_target n m first b }
 {
     if first <= b {
         return b - first < m;
@@ -151,7 +151,7 @@ pub fn is_target(n: usize, m: usize, first: usize, b: usize) -> bool
 
 // Whether a reply has a block, and a time, as the rules of its round have them.
 pub fn block_right(phase: u8, target: bool, granted: bool, held: bool, found: u64) -> bool
-    ensures { result ≡ blockRight phase target granted held found }
+    ensures { result ≡ block_right phase target granted held found }
 {
     if phase == READ {
         if granted {
@@ -185,7 +185,7 @@ pub fn block_right(phase: u8, target: bool, granted: bool, held: bool, found: u6
 
 // Whether a reply may have found a time: 0 or a valid one.
 fn found_right(t: u64) -> bool
-    ensures { result ≡ foundRight t }
+    ensures { result ≡ found_right t }
 {
     if t == 0 {
         return true;
@@ -205,7 +205,7 @@ fn counted_right(
     found: u64,
 ) -> bool
     requires { first ≤ n }
-    ensures { result ≡ countedRight n m phase first b granted held found }
+    ensures { result ≡ counted_right n m phase first b granted held found }
 {
     if phase <= 0 {
         return false;
@@ -239,7 +239,7 @@ fn entry_right(
     found: u64,
 ) -> bool
     requires { first ≤ n }
-    ensures { result ≡ entryRight n m phase first b counted granted held found }
+    ensures { result ≡ entry_right n m phase first b counted granted held found }
 {
     if counted == 0 {
         if granted != 0 {
@@ -258,7 +258,7 @@ fn entry_right(
 
 // Whether what is kept of a brick's no is right.
 fn said_right(phase: u8, counted: u8, granted: u8, said: u8) -> bool
-    ensures { result ≡ saidRight phase counted granted said }
+    ensures { result ≡ said_right phase counted granted said }
 {
     if counted == 0 {
         return said == message::NO_COMPARISON;
@@ -269,7 +269,7 @@ fn said_right(phase: u8, counted: u8, granted: u8, said: u8) -> bool
 // Whether what is kept of each brick is right.
 fn tally_right(n: usize, m: usize, phase: u8, first: usize, t: Tally) -> bool
     requires { first ≤ n }
-    ensures { result ≡ tallyRight n m phase first t }
+    ensures { result ≡ tally_right n m phase first t }
 {
     let counted = t.counted;
     let granted = t.granted;
@@ -294,7 +294,7 @@ fn tally_right(n: usize, m: usize, phase: u8, first: usize, t: Tally) -> bool
 
 // Whether a place of a list of k bricks in rising order is right.
 fn brick_right(n: usize, k: usize, i: usize, before: u8, here: u8) -> bool
-    ensures { result ≡ brickRight n k i before here }
+    ensures { result ≡ brick_right n k i before here }
 {
     if i < k {
         if n <= here as usize {
@@ -310,7 +310,7 @@ fn brick_right(n: usize, k: usize, i: usize, before: u8, here: u8) -> bool
 
 // Whether a list of k bricks is in rising order, and 0 past them.
 fn bricks_right(n: usize, k: usize, bricks: [u8; MAX_BRICKS]) -> bool
-    ensures { result ≡ bricksRight n k bricks }
+    ensures { result ≡ bricks_right n k bricks }
 {
     let mut before = bricks[0];
     let mut i = 0;
@@ -328,7 +328,7 @@ fn bricks_right(n: usize, k: usize, bricks: [u8; MAX_BRICKS]) -> bool
 
 // Whether max is that of an Order-and-read round.
 fn max_right(round: u64, max: u64) -> bool
-    ensures { result ≡ maxRight round max }
+    ensures { result ≡ max_right round max }
 {
     if round == message::SECOND_ROUND {
         return max == settings::NO_UPPER_END;
@@ -338,7 +338,7 @@ fn max_right(round: u64, max: u64) -> bool
 
 // Whether round and max are those of an operation's first round.
 fn opening_right(op: Op) -> bool
-    ensures { result ≡ openingRight op }
+    ensures { result ≡ opening_right op }
 {
     if op.round == message::FIRST_ROUND {
         return op.max == 0;
@@ -348,7 +348,7 @@ fn opening_right(op: Op) -> bool
 
 // Whether round and max are those of a read's phase.
 fn read_right(op: Op) -> bool
-    ensures { result ≡ readRight op }
+    ensures { result ≡ read_right op }
 {
     if op.phase == READ {
         return opening_right(op);
@@ -358,7 +358,7 @@ fn read_right(op: Op) -> bool
 
 // Whether round and max are those of a block write's phase.
 fn block_write_right(op: Op) -> bool
-    ensures { result ≡ blockWriteRight op }
+    ensures { result ≡ block_write_right op }
 {
     if op.phase == ORDER_BLOCK {
         return opening_right(op);
@@ -374,7 +374,7 @@ fn block_write_right(op: Op) -> bool
 
 // Whether round and max are those of a recovery's phase.
 fn recovery_right(op: Op) -> bool
-    ensures { result ≡ recoveryRight op }
+    ensures { result ≡ recovery_right op }
 {
     if op.phase == ORDER_READ {
         if op.round < message::SECOND_ROUND {
@@ -390,7 +390,7 @@ fn recovery_right(op: Op) -> bool
 
 // The same of its Write round.
 fn stored_right(op: Op) -> bool
-    ensures { result ≡ storedRight op }
+    ensures { result ≡ stored_right op }
 {
     if op.phase != WRITE {
         return false;
@@ -406,7 +406,7 @@ fn stored_right(op: Op) -> bool
 
 // Whether round, max and first are those of a write's phase.
 fn write_right(op: Op) -> bool
-    ensures { result ≡ writeRight op }
+    ensures { result ≡ write_right op }
 {
     if op.first != 0 {
         return false;
@@ -425,7 +425,7 @@ fn write_right(op: Op) -> bool
 
 // Whether no field is set.
 fn unset(op: Op) -> bool
-    ensures { result ≡ unsetOp op }
+    ensures { result ≡ unset_op op }
 {
     if op.phase != 0 {
         return false;
@@ -444,7 +444,7 @@ fn unset(op: Op) -> bool
 
 // Whether phase, round, max and first fit the kind of operation.
 fn op_right(op: Op) -> bool
-    ensures { result ≡ opRight op }
+    ensures { result ≡ op_right op }
 {
     if op.kind == IDLE {
         return unset(op);
@@ -463,7 +463,7 @@ fn op_right(op: Op) -> bool
 
 // Whether an operation on one block is on one of m.
 fn block_low(m: usize, op: Op) -> bool
-    ensures { result ≡ blockLow m op }
+    ensures { result ≡ block_low m op }
 {
     if on_block(op.kind) {
         return op.first < m;
@@ -473,9 +473,9 @@ fn block_low(m: usize, op: Op) -> bool
 
 // Whether the operation's time is the one drawn last.
 fn time_right(kind: u8, time: u64, clock: Clock) -> bool
-    requires last_le_max_count { clock.last ≤ maxCount }
-    requires coordinator_le_last_coordinator { clock.coordinator ≤ lastCoordinator }
-    ensures { result ≡ timeRight kind time clock }
+    requires last_le_max_count { clock.last ≤ max_count }
+    requires coordinator_le_last_coordinator { clock.coordinator ≤ last_coordinator }
+    ensures { result ≡ time_right kind time clock }
 {
     if kind == IDLE {
         return time == 0;
@@ -488,7 +488,7 @@ fn time_right(kind: u8, time: u64, clock: Clock) -> bool
 
 // How many bricks are named.
 fn named_count(m: usize, op: Op) -> usize
-    ensures { result ≡ namedCount m op }
+    ensures { result ≡ named_count m op }
 {
     if is_reading(op.kind) {
         if op.phase == WRITE {
@@ -501,7 +501,7 @@ fn named_count(m: usize, op: Op) -> usize
 impl Geometry {
     // Whether these are the settings given.
     fn same(self, n: usize, m: usize, size: usize, stripes: usize) -> bool
-        ensures { result ≡ sameGeometry n m size stripes self }
+        ensures { result ≡ same_geometry n m size stripes self }
     {
         if self.n != n {
             return false;
@@ -519,9 +519,9 @@ impl Geometry {
 impl Coordinator {
     // Whether the bricks named and the tally keep their rules.
     fn filled_right(self, n: usize, m: usize) -> bool
-        requires n_le_max_bricks { n ≤ maxBricks }
+        requires n_le_max_bricks { n ≤ max_bricks }
         requires first_lt_n { self.op.first < n }
-        ensures { result ≡ filledRight n m self }
+        ensures { result ≡ filled_right n m self }
     {
         let op = self.op;
         let tally = self.tally;
@@ -537,8 +537,8 @@ impl Coordinator {
 
     // Whether the record is for these settings and keeps every rule. n is at most 16.
     pub fn sound(self, n: usize, m: usize, size: usize, stripes: usize) -> bool
-        requires { n ≤ maxBricks }
-        ensures { result ≡ soundRecord n m size stripes self }
+        requires { n ≤ max_bricks }
+        ensures { result ≡ sound_record n m size stripes self }
     {
         let geometry = self.geometry;
         if geometry.same(n, m, size, stripes) {
@@ -549,8 +549,8 @@ impl Coordinator {
 
     // Whether the record keeps every rule but that of the settings.
     fn rules_kept(self, n: usize, m: usize, stripes: usize) -> bool
-        requires { n ≤ maxBricks }
-        ensures { result ≡ rulesKept n m stripes self }
+        requires { n ≤ max_bricks }
+        ensures { result ≡ rules_kept n m stripes self }
     {
         let clock = self.clock;
         let op = self.op;

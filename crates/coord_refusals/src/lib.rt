@@ -1,10 +1,10 @@
 // What a coordinator's routines refuse, before anything changes (document 01, "Refused by number, lowest first").
 // inner: call `coordinator::take_reply`
 ghost use Rattle.std.specs.Prelude.{◌≡◌, true, [], ◌∷◌, ◌*◌, ◌≤◌, ◌<◌};
-ghost use Rattle.coord_refusals.specs.Checks.{recordChecks, stripeChecks, writeChecks, readChecks, lengthsRight, strayChecks, takeRefusal, crashRefusal};
-ghost use Rattle.coord_refusals.specs.Checks.{blockChecks, readBlockChecks, writeBlockChecks};
-ghost use Rattle.settings.specs.Ranges.{CodeRange, maxBricks, codeRefusal, stripeCountRefusal};
-ghost use Rattle.settings.specs.Refusal.{firstRefusal};
+ghost use Rattle.coord_refusals.specs.Checks.{record_checks, stripe_checks, write_checks, read_checks, lengths_right, stray_checks, take_refusal, crash_refusal};
+ghost use Rattle.coord_refusals.specs.Checks.{block_checks, read_block_checks, write_block_checks};
+ghost use Rattle.settings.specs.Ranges.{CodeRange, max_bricks, code_refusal, stripe_count_refusal};
+ghost use Rattle.settings.specs.Refusal.{first_refusal};
 
 use coord_record::Coordinator;
 use message::Reply;
@@ -12,7 +12,7 @@ use settings::{BAD_LENGTH, BAD_NUMBER, BAD_RECORD, STRAY_REPLY};
 
 // 1 where n, m, the block size or the stripe count is outside its range, else 0.
 fn volume_refusal(n: usize, m: usize, size: usize, stripes: usize) -> u32
-    ensures { result ≡ firstRefusal (codeRefusal n m size ∷ stripeCountRefusal stripes ∷ []) }
+    ensures { result ≡ first_refusal (code_refusal n m size ∷ stripe_count_refusal stripes ∷ []) }
 {
     let bad = settings::code_refusal(n, m, size);
     if bad != 0 {
@@ -23,8 +23,8 @@ fn volume_refusal(n: usize, m: usize, size: usize, stripes: usize) -> u32
 
 // 3 for a coordinator number above 15, 6 for a record that is not sound, else 0.
 fn record_refusal(n: usize, m: usize, size: usize, stripes: usize, c: Coordinator) -> u32
-    requires { n ≤ maxBricks }
-    ensures { result ≡ firstRefusal (recordChecks n m size stripes c []) }
+    requires { n ≤ max_bricks }
+    ensures { result ≡ first_refusal (record_checks n m size stripes c []) }
 {
     let clock = c.clock;
     if settings::LAST_COORDINATOR < clock.coordinator {
@@ -45,8 +45,8 @@ fn stripe_refusal(
     c: Coordinator,
     stripe_number: usize,
 ) -> u32
-    requires { n ≤ maxBricks }
-    ensures { result ≡ firstRefusal (stripeChecks n m size stripes c stripe_number []) }
+    requires { n ≤ max_bricks }
+    ensures { result ≡ first_refusal (stripe_checks n m size stripes c stripe_number []) }
 {
     let clock = c.clock;
     if settings::LAST_COORDINATOR < clock.coordinator {
@@ -73,7 +73,7 @@ pub fn write_refusal(
     bytes: usize,
     stripe: usize,
 ) -> u32
-    ensures { result ≡ firstRefusal (writeChecks n m size stripes c stripe_number bytes stripe []) }
+    ensures { result ≡ first_refusal (write_checks n m size stripes c stripe_number bytes stripe []) }
 {
     let bad = volume_refusal(n, m, size, stripes);
     if bad != 0 {
@@ -98,7 +98,7 @@ pub fn read_refusal(
     stripe_number: usize,
     first: usize,
 ) -> u32
-    ensures { result ≡ firstRefusal (readChecks n m size stripes c stripe_number first []) }
+    ensures { result ≡ first_refusal (read_checks n m size stripes c stripe_number first []) }
 {
     let bad = volume_refusal(n, m, size, stripes);
     if bad != 0 {
@@ -121,8 +121,8 @@ fn block_refusal(
     stripe_number: usize,
     block: usize,
 ) -> u32
-    requires { n ≤ maxBricks }
-    ensures { result ≡ firstRefusal (blockChecks n m size stripes c stripe_number block []) }
+    requires { n ≤ max_bricks }
+    ensures { result ≡ first_refusal (block_checks n m size stripes c stripe_number block []) }
 {
     let clock = c.clock;
     if settings::LAST_COORDINATOR < clock.coordinator {
@@ -152,7 +152,7 @@ pub fn read_block_refusal(
     stripe_number: usize,
     block: usize,
 ) -> u32
-    ensures { result ≡ firstRefusal (readBlockChecks n m size stripes c stripe_number block []) }
+    ensures { result ≡ first_refusal (read_block_checks n m size stripes c stripe_number block []) }
 {
     let bad = volume_refusal(n, m, size, stripes);
     if bad != 0 {
@@ -173,7 +173,7 @@ pub fn write_block_refusal(
     bytes: usize,
     stripe: usize,
 ) -> u32
-    ensures { result ≡ firstRefusal (writeBlockChecks n m size stripes c stripe_number block bytes stripe []) }
+    ensures { result ≡ first_refusal (write_block_checks n m size stripes c stripe_number block bytes stripe []) }
 {
     let bad = volume_refusal(n, m, size, stripes);
     if bad != 0 {
@@ -200,7 +200,7 @@ fn lengths_right(
     coded: usize,
 ) -> bool
     requires { CodeRange n m size }
-    ensures { result ≡ lengthsRight n m size held block blocks stripe coded }
+    ensures { result ≡ lengths_right n m size held block blocks stripe coded }
 {
     if blocks != n * size {
         return false;
@@ -230,7 +230,7 @@ pub fn take_refusal(
     stripe: usize,
     coded: usize,
 ) -> u32
-    ensures { result ≡ takeRefusal n m size stripes c reply block blocks stripe coded }
+    ensures { result ≡ take_refusal n m size stripes c reply block blocks stripe coded }
 {
     let bad = volume_refusal(n, m, size, stripes);
     if bad != 0 {
@@ -254,9 +254,9 @@ fn stray_refusal(
     c: Coordinator,
     reply: Reply,
 ) -> u32
-    requires n_le_max_bricks { n ≤ maxBricks }
+    requires n_le_max_bricks { n ≤ max_bricks }
     requires brick_lt_n { reply.brick < n }
-    ensures { result ≡ firstRefusal (strayChecks n m size stripes c reply) }
+    ensures { result ≡ first_refusal (stray_checks n m size stripes c reply) }
 {
     let broken = stripe_refusal(n, m, size, stripes, c, reply.stripe);
     if broken != 0 {
@@ -276,7 +276,7 @@ fn stray_refusal(
 
 // The refusal of a crash, 0 for none.
 pub fn crash_refusal(n: usize, m: usize, size: usize, stripes: usize, c: Coordinator) -> u32
-    ensures { result ≡ crashRefusal n m size stripes c }
+    ensures { result ≡ crash_refusal n m size stripes c }
 {
     let bad = volume_refusal(n, m, size, stripes);
     if bad != 0 {

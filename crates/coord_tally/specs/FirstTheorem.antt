@@ -1,8 +1,8 @@
--- Document 02, E7: "the first m in brick number among those". What this says of any set of bricks, that `firstMembers` is it, and that nothing
+-- Document 02, E7: "the first m in brick number among those". What this says of any set of bricks, that `first_members` is it, and that nothing
 -- else is. Proved in `proofs/Laws/FirstMemberLaws`.
 use Rattle.std.specs.Prelude.{◌≡◌, ◌≢◌, Bool, true, List, ℕ, ◌≤◌, ◌<◌, length, get_or}
 use Rattle.settings.specs.Count.{count}
-use Rattle.coord_tally.specs.Counting.{firstMembers}
+use Rattle.coord_tally.specs.Counting.{first_members}
 
 -- A list is the first m of a set of bricks: m of the set, rising, so that they are different; and every other brick of the set has a higher
 -- number than all of them.
@@ -18,7 +18,7 @@ Passing p n b = (b < n) × (p b ≡ true)
 
 -- The definition is it, where there are as many.
 abbrev pub FirstMembersAreFirst : Type 0
-FirstMembersAreFirst = (p : ℕ → Bool) (n m : ℕ) → m ≤ count p n → FirstOf (Passing p n) m (firstMembers m p n)
+FirstMembersAreFirst = (p : ℕ → Bool) (n m : ℕ) → m ≤ count p n → FirstOf (Passing p n) m (first_members m p n)
 
 -- And it is the only one: the first m of a set, however it is described, are one list.
 abbrev pub FirstIsOne : Type 1

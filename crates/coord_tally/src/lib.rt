@@ -2,16 +2,16 @@
 // inner: call `coordinator::take_reply`
 ghost use Rattle.std.specs.Prelude.{◌≡◌, true, ◌≤◌, ◌<◌};
 ghost use Rattle.byte_lists.specs.Each.{some};
-ghost use Rattle.coord_tally.specs.Counting.{saidNo, otherTime, missing, highest, atTime, atTimes, picked, upward, targetRow, targetFlag, targetFlags};
+ghost use Rattle.coord_tally.specs.Counting.{said_no, other_time, missing, highest, at_time, at_times, picked, upward, target_row, target_flag, target_flags};
 ghost use Rattle.settings.specs.Count.{count};
-ghost use Rattle.settings.specs.Ranges.{maxBricks};
+ghost use Rattle.settings.specs.Ranges.{max_bricks};
 
 use settings::MAX_BRICKS;
 
 // Whether a counted reply below n says no.
 pub fn any_no(counted: [u8; MAX_BRICKS], granted: [u8; MAX_BRICKS], n: usize) -> bool
-    requires { n ≤ maxBricks }
-    ensures { result ≡ some (saidNo counted granted) n }
+    requires { n ≤ max_bricks }
+    ensures { result ≡ some (said_no counted granted) n }
 {
     let mut b = 0;
     while b < n {
@@ -27,7 +27,7 @@ pub fn any_no(counted: [u8; MAX_BRICKS], granted: [u8; MAX_BRICKS], n: usize) ->
 
 // The highest time found among the bricks of a set; 0 if there is none.
 pub fn highest_of(flags: [u8; MAX_BRICKS], found: [u64; MAX_BRICKS], n: usize) -> u64
-    requires { n ≤ maxBricks }
+    requires { n ≤ max_bricks }
     ensures { result ≡ highest flags found n }
 {
     let mut h = 0;
@@ -45,7 +45,7 @@ pub fn highest_of(flags: [u8; MAX_BRICKS], found: [u64; MAX_BRICKS], n: usize) -
 
 // Whether a brick is in a set and found this time.
 fn at_time(flag: u8, found: u64, time: u64) -> bool
-    ensures { result ≡ atTime flag found time }
+    ensures { result ≡ at_time flag found time }
 {
     if flag == 1 {
         return found == time;
@@ -55,8 +55,8 @@ fn at_time(flag: u8, found: u64, time: u64) -> bool
 
 // Whether a counted reply found another time.
 pub fn any_other(counted: [u8; MAX_BRICKS], found: [u64; MAX_BRICKS], time: u64, n: usize) -> bool
-    requires { n ≤ maxBricks }
-    ensures { result ≡ some (otherTime counted found time) n }
+    requires { n ≤ max_bricks }
+    ensures { result ≡ some (other_time counted found time) n }
 {
     let mut b = 0;
     while b < n {
@@ -72,7 +72,7 @@ pub fn any_other(counted: [u8; MAX_BRICKS], found: [u64; MAX_BRICKS], time: u64,
 
 // Whether a target is not counted.
 pub fn any_missing(n: usize, m: usize, first: usize, counted: [u8; MAX_BRICKS]) -> bool
-    requires n_le_max_bricks { n ≤ maxBricks }
+    requires n_le_max_bricks { n ≤ max_bricks }
     requires first_lt_n { first < n }
     ensures { result ≡ some (missing n m first counted) n }
 {
@@ -90,8 +90,8 @@ pub fn any_missing(n: usize, m: usize, first: usize, counted: [u8; MAX_BRICKS]) 
 
 // How many bricks of a set found this time.
 pub fn count_at(flags: [u8; MAX_BRICKS], found: [u64; MAX_BRICKS], time: u64, n: usize) -> usize
-    requires { n ≤ maxBricks }
-    ensures { result ≡ count (atTimes flags found time) n }
+    requires { n ≤ max_bricks }
+    ensures { result ≡ count (at_times flags found time) n }
 {
     let mut sum = 0;
     let mut b = 0;
@@ -112,7 +112,7 @@ pub fn pick(
     n: usize,
     m: usize,
 ) -> [u8; MAX_BRICKS]
-    requires { n ≤ maxBricks }
+    requires { n ≤ max_bricks }
     ensures { result ≡ picked flags found time n m }
 {
     let mut row = [0u8; MAX_BRICKS];
@@ -132,7 +132,7 @@ pub fn pick(
 
 // The brick that is i above the first, wrapping at n.
 fn upward_of(n: usize, first: usize, i: usize) -> u8
-    requires n_le_max_bricks { n ≤ maxBricks }
+    requires n_le_max_bricks { n ≤ max_bricks }
     requires first_lt_n { (first < n) × (i < n) }
     ensures { result ≡ upward n first i }
 {
@@ -145,9 +145,9 @@ fn upward_of(n: usize, first: usize, i: usize) -> u8
 
 // The targets of a read, in their order, then 0.
 pub fn target_row(n: usize, m: usize, first: usize) -> [u8; MAX_BRICKS]
-    requires n_le_max_bricks { (n ≤ maxBricks) × (m ≤ n) }
+    requires n_le_max_bricks { (n ≤ max_bricks) × (m ≤ n) }
     requires first_lt_n { first < n }
-    ensures { result ≡ targetRow n m first }
+    ensures { result ≡ target_row n m first }
 {
     let mut row = [0u8; MAX_BRICKS];
     let mut i = 0;
@@ -161,7 +161,7 @@ pub fn target_row(n: usize, m: usize, first: usize) -> [u8; MAX_BRICKS]
 // 1 for a target, else 0.
 fn target_flag(n: usize, m: usize, first: usize, b: usize) -> u8
     requires { first < n }
-    ensures { result ≡ targetFlag n m first b }
+    ensures { result ≡ target_flag n m first b }
 {
     if b < n {
         if coord_record::is_target(n, m, first, b) {
@@ -175,7 +175,7 @@ fn target_flag(n: usize, m: usize, first: usize, b: usize) -> u8
 // The targets of a read as a set.
 pub fn target_flags(n: usize, m: usize, first: usize) -> [u8; MAX_BRICKS]
     requires { first < n }
-    ensures { result ≡ targetFlags n m first }
+    ensures { result ≡ target_flags n m first }
 {
     let mut flags = [0u8; MAX_BRICKS];
     let mut b = 0;

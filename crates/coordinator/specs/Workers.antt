@@ -1,36 +1,36 @@
 -- What the inner workers of this crate ask and give.
 use Rattle.std.specs.Prelude.{cond, true, List, ℕ, ◌+◌, ◌*◌, ◌≤◌, ◌≡◌}
-use Rattle.coord_apply.specs.Acts.{roundMessage, noticeOf}
-use Rattle.coord_apply.specs.Answers.{nothingSeen, noMessage, beganSeen}
-use Rattle.coord_letters.specs.Letters.{noLetter}
-use Rattle.coord_record.specs.Records.{noBricks, nothingCounted}
+use Rattle.coord_apply.specs.Acts.{round_message, notice_of}
+use Rattle.coord_apply.specs.Answers.{nothing_seen, no_message, began_seen}
+use Rattle.coord_letters.specs.Letters.{no_letter}
+use Rattle.coord_record.specs.Records.{no_bricks, nothing_counted}
 use Rattle.message.specs.declared.Reply.{Reply}
 use Rattle.settings.specs.declared.Clock.{Clock}
 use Rattle.coord_apply.specs.declared.Answer.{Answer}
 use Rattle.coord_record.specs.declared.Coordinator.{Coordinator}
 use Rattle.coord_record.specs.declared.Geometry.{Geometry}
 use Rattle.coord_record.specs.declared.Op.{Op}
-use Rattle.erasure.specs.Code.{withBlock}
+use Rattle.erasure.specs.Code.{with_block}
 
 -- nothing sent and nothing seen
-unfoldable pub keptAnswer : Coordinator → Answer
-keptAnswer c = record { refusal = 0; next = c; sent = 0; message = noMessage; second = noMessage; seen = nothingSeen }
+unfoldable pub kept_answer : Coordinator → Answer
+kept_answer c = record { refusal = 0; next = c; sent = 0; message = no_message; second = no_message; seen = nothing_seen }
 
 -- an operation begins
-unfoldable pub startAnswer : Geometry → Clock → Op → List ℕ → Answer
-startAnswer geometry clock op targets =
+unfoldable pub start_answer : Geometry → Clock → Op → List ℕ → Answer
+start_answer geometry clock op targets =
     record {
       refusal = 0;
-      next = record { geometry = geometry; clock = clock; op = op; tally = nothingCounted; bricks = noBricks };
+      next = record { geometry = geometry; clock = clock; op = op; tally = nothing_counted; bricks = no_bricks };
       sent = 1;
-      message = roundMessage op 0 targets;
-      second = noMessage;
-      seen = noticeOf op beganSeen noLetter noBricks;
+      message = round_message op 0 targets;
+      second = no_message;
+      seen = notice_of op began_seen no_letter no_bricks;
     }
 
 -- the reply blocks with a reply's own
-unfoldable pub keptBlocks : ℕ → Reply → List ℕ → List ℕ → List ℕ
-keptBlocks size r block blocks = cond r.held (withBlock size blocks r.brick block) blocks
+unfoldable pub kept_blocks : ℕ → Reply → List ℕ → List ℕ → List ℕ
+kept_blocks size r block blocks = cond r.held (with_block size blocks r.brick block) blocks
 
 -- the same, as the code that keeps it asks
 pub record KeepsReply (size : ℕ) (r : Reply) (block blocks : ℕ) : Type 0 where

@@ -1,10 +1,10 @@
 // The coordinator (document 01, "What a coordinator does"): start a write or a read, of a stripe or of one block, take a reply, crash. Each gives
 // one refusal, lowest number first, and changes nothing; or the record that follows, the broadcasts to all n bricks, and what is seen.
 ghost use Rattle.std.specs.Prelude.{◌≡◌, List, ℕ, ◌<◌, length};
-ghost use Rattle.coord_apply.specs.Acts.{withTally, firstOp};
+ghost use Rattle.coord_apply.specs.Acts.{with_tally, first_op};
 ghost use Rattle.coord_apply.specs.Answers.{refused, answer_of, returned};
-ghost use Rattle.coordinator.specs.Routines.{writeCall, readCall, writeBlockCall, readBlockCall, takeCall, crashCall};
-ghost use Rattle.coordinator.specs.Workers.{keptAnswer, startAnswer, keptBlocks, KeepsReply};
+ghost use Rattle.coordinator.specs.Routines.{write_call, read_call, write_block_call, read_block_call, take_call, crash_call};
+ghost use Rattle.coordinator.specs.Workers.{kept_answer, start_answer, kept_blocks, KeepsReply};
 
 use coord_apply::{Answer, BEGAN, CUT};
 use coord_record::{
@@ -36,7 +36,7 @@ fn refuse(c: Coordinator, number: u32) -> Answer
 
 // Nothing sent and nothing seen.
 fn kept(c: Coordinator) -> Answer
-    ensures { result ≡ keptAnswer c }
+    ensures { result ≡ kept_answer c }
 {
     let message = coord_apply::no_message();
     let second = coord_apply::no_message();
@@ -53,7 +53,7 @@ fn kept(c: Coordinator) -> Answer
 
 // The first round of an operation on a stripe.
 fn first_op(kind: u8, phase: u8, stripe: usize, time: u64, first: usize) -> Op
-    ensures { result ≡ firstOp kind phase stripe time first }
+    ensures { result ≡ first_op kind phase stripe time first }
 {
     Op {
         kind,
@@ -68,7 +68,7 @@ fn first_op(kind: u8, phase: u8, stripe: usize, time: u64, first: usize) -> Op
 
 // An operation begins: its first round is sent.
 fn begin(geometry: Geometry, clock: Clock, op: Op, targets: [u8; MAX_BRICKS]) -> Answer
-    ensures { result ≡ startAnswer geometry clock op targets }
+    ensures { result ≡ start_answer geometry clock op targets }
 {
     let tally = coord_record::nothing_counted();
     let next = Coordinator {
@@ -94,7 +94,7 @@ fn begin(geometry: Geometry, clock: Clock, op: Op, targets: [u8; MAX_BRICKS]) ->
 // A reply's block in its place, if it holds one.
 fn keep(size: usize, reply: Reply, block: &[u8], blocks: &mut [u8])
     requires { KeepsReply size reply (length block.now) (length blocks.old) }
-    ensures { blocks.new ≡ keptBlocks size reply block.now blocks.old }
+    ensures { blocks.new ≡ kept_blocks size reply block.now blocks.old }
 {
     if reply.held {
         coord_blocks::place(size, reply.brick, block, blocks)
@@ -103,7 +103,7 @@ fn keep(size: usize, reply: Reply, block: &[u8], blocks: &mut [u8])
 
 // A record with another tally.
 fn with_tally(c: Coordinator, tally: Tally) -> Coordinator
-    ensures { result ≡ withTally c tally }
+    ensures { result ≡ with_tally c tally }
 {
     let geometry = c.geometry;
     let clock = c.clock;
@@ -132,7 +132,7 @@ pub fn start_write(
     stripe: &mut [u8],
 ) -> Answer
     ensures { (blocks coded : List ℕ) → returned result blocks stripe.new coded
-        ≡ writeCall n m size stripes c blocks stripe.old coded stripe_number reading bytes.now }
+        ≡ write_call n m size stripes c blocks stripe.old coded stripe_number reading bytes.now }
 {
     let bad = write_refusal(
         n,
@@ -175,7 +175,7 @@ pub fn start_read(
     first: usize,
 ) -> Answer
     ensures { (blocks stripe coded : List ℕ) → returned result blocks stripe coded
-        ≡ readCall n m size stripes c blocks stripe coded stripe_number reading first }
+        ≡ read_call n m size stripes c blocks stripe coded stripe_number reading first }
 {
     let bad = read_refusal(n, m, size, stripes, c, stripe_number, first);
     if bad != 0 {
@@ -212,7 +212,7 @@ pub fn start_write_block(
     stripe: &mut [u8],
 ) -> Answer
     ensures { (blocks coded : List ℕ) → returned result blocks stripe.new coded
-        ≡ writeBlockCall n m size stripes c blocks stripe.old coded stripe_number reading block bytes.now }
+        ≡ write_block_call n m size stripes c blocks stripe.old coded stripe_number reading block bytes.now }
 {
     let bad = write_block_refusal(
         n,
@@ -256,7 +256,7 @@ pub fn start_read_block(
     block: usize,
 ) -> Answer
     ensures { (blocks stripe coded : List ℕ) → returned result blocks stripe coded
-        ≡ readBlockCall n m size stripes c blocks stripe coded stripe_number reading block }
+        ≡ read_block_call n m size stripes c blocks stripe coded stripe_number reading block }
 {
     let bad = read_block_refusal(n, m, size, stripes, c, stripe_number, block);
     if bad != 0 {
@@ -279,7 +279,7 @@ pub fn start_read_block(
 
 // A crash: the coordinator is idle and keeps its count. Refused: 1 settings, 3 the coordinator's number, 6 the record.
 pub fn crash(n: usize, m: usize, size: usize, stripes: usize, c: Coordinator) -> Answer
-    ensures { (blocks stripe coded : List ℕ) → returned result blocks stripe coded ≡ crashCall n m size stripes c blocks stripe coded }
+    ensures { (blocks stripe coded : List ℕ) → returned result blocks stripe coded ≡ crash_call n m size stripes c blocks stripe coded }
 {
     let bad = crash_refusal(n, m, size, stripes, c);
     if bad != 0 {
@@ -315,7 +315,7 @@ pub fn take_reply(
     coded: &mut [u8],
 ) -> Answer
     ensures { returned result blocks.new stripe.new coded.new
-        ≡ takeCall n m size stripes c blocks.old stripe.old coded.old reply block.now }
+        ≡ take_call n m size stripes c blocks.old stripe.old coded.old reply block.now }
 {
     let bad = take_refusal(
         n,

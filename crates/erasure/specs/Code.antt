@@ -3,23 +3,23 @@
 use Rattle.std.specs.Prelude.{Bool, List, ℕ, ◌+◌, ◌-◌, ◌*◌, ◌≤◌, ◌<◌, ◌≡◌, length, get_or, take, drop}
 use Rattle.byte_lists.specs.Each.{each}
 use Rattle.byte_lists.specs.Lists.{tabulate, stacked, put, same}
-use Rattle.interpolate.specs.Bytes.{Byte, byte, byteField}
-use Rattle.interpolate.specs.Values.{byte_at, block_at, blocksAt}
+use Rattle.interpolate.specs.Bytes.{Byte, byte, byte_field}
+use Rattle.interpolate.specs.Values.{byte_at, block_at, blocks_at}
 use Rattle.poly.specs.Polynomial.{eval}
-use Rattle.settings.specs.Ranges.{maxBricks}
+use Rattle.settings.specs.Ranges.{max_bricks}
 
 -- points 0 to m − 1
-unfoldable pub firstPoints : ℕ → List ℕ
-firstPoints m = tabulate m (λ (i : ℕ). i)
+unfoldable pub first_points : ℕ → List ℕ
+first_points m = tabulate m (λ (i : ℕ). i)
 
 -- the n coded blocks of m data blocks: their values at points 0 to n − 1
-unfoldable pub codedOf : ℕ → ℕ → ℕ → List ℕ → List ℕ
-codedOf n m size stripe = blocksAt (firstPoints m) size stripe n
+unfoldable pub coded_of : ℕ → ℕ → ℕ → List ℕ → List ℕ
+coded_of n m size stripe = blocks_at (first_points m) size stripe n
 
 -- the m data blocks from the blocks of m or more bricks, in the bricks' order: the values at points 0 to m − 1 of the polynomials through
 -- the first m
-unfoldable pub decodedOf : ℕ → ℕ → List ℕ → List ℕ → List ℕ
-decodedOf m size bricks blocks = blocksAt (take m bricks) size blocks m
+unfoldable pub decoded_of : ℕ → ℕ → List ℕ → List ℕ → List ℕ
+decoded_of m size bricks blocks = blocks_at (take m bricks) size blocks m
 
 -- block j of a row of blocks
 unfoldable pub block_of : ℕ → List ℕ → ℕ → List ℕ
@@ -35,23 +35,23 @@ agree m size bricks blocks =
 -- at each brick of the list it has the byte that this brick gave.
 pub record PassesThrough (m size : ℕ) (bricks blocks : List ℕ) (p : ℕ) (c : List Byte) : Type 0 where
   pub degree : length c ≡ m
-  pub at : (i : ℕ) → i < length bricks → (eval byteField c (byte (get_or bricks i 0))).0 ≡ byte_at size blocks i p
+  pub at : (i : ℕ) → i < length bricks → (eval byte_field c (byte (get_or bricks i 0))).0 ≡ byte_at size blocks i p
 
 -- There is such a polynomial at every byte position.
 abbrev pub OnOnePolynomial : (m size : ℕ) → (bricks blocks : List ℕ) → Type 0
 OnOnePolynomial m size bricks blocks = (p : ℕ) → p < size → (c : List Byte) × PassesThrough m size bricks blocks p c
 
 -- E2: "a write of block j sets that block alone": the stripe with block j replaced
-unfoldable pub withBlock : (size : ℕ) → (stripe : List ℕ) → (j : ℕ) → (block : List ℕ) → List ℕ
-withBlock size stripe j block = put (j * size) block stripe
+unfoldable pub with_block : (size : ℕ) → (stripe : List ℕ) → (j : ℕ) → (block : List ℕ) → List ℕ
+with_block size stripe j block = put (j * size) block stripe
 
 -- the blocks of the given bricks, in their order: what is handed to decoding
-unfoldable pub blocksOf : ℕ → List ℕ → List ℕ → List ℕ
-blocksOf size coded bricks = stacked (length bricks) (λ (i : ℕ). block_of size coded (get_or bricks i 0))
+unfoldable pub blocks_of : ℕ → List ℕ → List ℕ → List ℕ
+blocks_of size coded bricks = stacked (length bricks) (λ (i : ℕ). block_of size coded (get_or bricks i 0))
 
 -- the bricks at these places of a list
-unfoldable pub bricksAt : (bricks places : List ℕ) → List ℕ
-bricksAt bricks places = tabulate (length places) (λ (i : ℕ). get_or bricks (get_or places i 0) 0)
+unfoldable pub bricks_at : (bricks places : List ℕ) → List ℕ
+bricks_at bricks places = tabulate (length places) (λ (i : ℕ). get_or bricks (get_or places i 0) 0)
 
 -- a stripe of m blocks of bytes
 pub record Stripe (m size : ℕ) (stripe : List ℕ) : Type 0 where
@@ -62,7 +62,7 @@ pub record Stripe (m size : ℕ) (stripe : List ℕ) : Type 0 where
 -- m or more different bricks of n
 pub record Bricks (n m : ℕ) (bricks : List ℕ) : Type 0 where
   pub some : 0 < n
-  pub few : n ≤ maxBricks
+  pub few : n ≤ max_bricks
   pub low : m ≤ n
   pub enough : m ≤ length bricks
   pub differ : (i j : ℕ) → i < length bricks → j < length bricks → get_or bricks i 0 ≡ get_or bricks j 0 → i ≡ j

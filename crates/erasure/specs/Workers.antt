@@ -1,6 +1,6 @@
 -- What the inner workers of this crate ask and give.
 use Rattle.std.specs.Prelude.{List, ℕ, ◌*◌, ◌≤◌, ◌<◌, length, get_or, ◌≡◌}
-use Rattle.settings.specs.Ranges.{CodeRange, maxBricks, maxSize}
+use Rattle.settings.specs.Ranges.{CodeRange, max_bricks, max_size}
 
 -- an encoding that is not refused
 pub record Encodes (n m size stripe coded : ℕ) : Type 0 where
@@ -10,9 +10,9 @@ pub record Encodes (n m size stripe coded : ℕ) : Type 0 where
 
 -- a decoding whose list and lengths are not refused: m or more different bricks, a block for each
 pub record Decodes (m size : ℕ) (bricks : List ℕ) (blocks stripe : ℕ) : Type 0 where
-  pub m-high : m ≤ maxBricks
+  pub m-high : m ≤ max_bricks
   pub size_low : 0 < size
-  pub size-high : size ≤ maxSize
+  pub size-high : size ≤ max_size
   pub enough : m ≤ length bricks
   pub differ : (i j : ℕ) → i < length bricks → j < length bricks → get_or bricks i 0 ≡ get_or bricks j 0 → i ≡ j
   pub blocks-length : blocks ≡ length bricks * size
@@ -20,7 +20,7 @@ pub record Decodes (m size : ℕ) (bricks : List ℕ) (blocks stripe : ℕ) : Ty
 
 -- a brick of n and a data block of m
 pub record RecodeRange (n m brick j : ℕ) : Type 0 where
-  pub n-high : n ≤ maxBricks
+  pub n-high : n ≤ max_bricks
   pub m-high : m ≤ n
   pub brick-below : brick < n
   pub block-below : j < m

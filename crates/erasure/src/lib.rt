@@ -1,14 +1,14 @@
 // The erasure code (document 01, "Settings and the code"): encode and decode, and their C entry points.
 ghost use Rattle.std.specs.Prelude.{◌≡◌, true, cond, [], ◌∷◌, ◌*◌, length};
-ghost use Rattle.erasure.specs.Code.{codedOf, decodedOf, agree};
-ghost use Rattle.erasure.specs.Refusals.{all_below, allDifferent, numberRefusal, setRefusal, encodeRefusal, listRefusal, decodeRefusal};
-ghost use Rattle.erasure.specs.Refusals.{encodedBuffer, decodedBuffer, DecodedByPolynomials};
-ghost use Rattle.erasure.specs.Recoding.{weightAt, withChange, recodedBlock};
+ghost use Rattle.erasure.specs.Code.{coded_of, decoded_of, agree};
+ghost use Rattle.erasure.specs.Refusals.{all_below, all_different, number_refusal, set_refusal, encode_refusal, list_refusal, decode_refusal};
+ghost use Rattle.erasure.specs.Refusals.{encoded_buffer, decoded_buffer, DecodedByPolynomials};
+ghost use Rattle.erasure.specs.Recoding.{weight_at, with_change, recoded_block};
 ghost use Rattle.erasure.specs.Workers.{Encodes, Decodes, RecodeRange, OneLength};
 ghost use Rattle.gf256.specs.Product.{twice};
 ghost use Rattle.gf256.specs.Tables.{IsPowers, IsLogs};
 ghost use Rattle.interpolate.specs.Values.{PointSet};
-ghost use Rattle.settings.specs.Refusal.{firstRefusal};
+ghost use Rattle.settings.specs.Refusal.{first_refusal};
 
 // Whether every brick of a list is below n.
 pub fn all_below(bricks: &[u8], n: usize) -> bool
@@ -26,7 +26,7 @@ pub fn all_below(bricks: &[u8], n: usize) -> bool
 
 // Whether no brick of a list stands twice.
 pub fn all_different(bricks: &[u8]) -> bool
-    ensures { result ≡ allDifferent bricks.now }
+    ensures { result ≡ all_different bricks.now }
 {
     let mut t = bricks;
     while 0 < t.len() {
@@ -41,7 +41,7 @@ pub fn all_different(bricks: &[u8]) -> bool
 
 // 3 where a brick of a list is not below n, else 0.
 fn number_refusal(n: usize, bricks: &[u8]) -> u32
-    ensures { result ≡ numberRefusal n bricks.now }
+    ensures { result ≡ number_refusal n bricks.now }
 {
     if all_below(bricks, n) {
         return settings::PASSED;
@@ -51,7 +51,7 @@ fn number_refusal(n: usize, bricks: &[u8]) -> u32
 
 // 4 where a list has fewer than m bricks or a repeat, else 0.
 fn set_refusal(m: usize, bricks: &[u8]) -> u32
-    ensures { result ≡ setRefusal m bricks.now }
+    ensures { result ≡ set_refusal m bricks.now }
 {
     if bricks.len() < m {
         return settings::BAD_BRICK_SET;
@@ -64,7 +64,7 @@ fn set_refusal(m: usize, bricks: &[u8]) -> u32
 
 // The first of two refusals, 0 for none.
 fn first_of(first: u32, second: u32) -> u32
-    ensures { result ≡ firstRefusal (first ∷ second ∷ []) }
+    ensures { result ≡ first_refusal (first ∷ second ∷ []) }
 {
     if first != settings::PASSED {
         return first;
@@ -74,7 +74,7 @@ fn first_of(first: u32, second: u32) -> u32
 
 // The refusal of encoding, 0 for none: stripe and coded are the buffers' lengths.
 pub fn encode_refusal(n: usize, m: usize, size: usize, stripe: usize, coded: usize) -> u32
-    ensures { result ≡ encodeRefusal n m size stripe coded }
+    ensures { result ≡ encode_refusal n m size stripe coded }
 {
     let bad = settings::code_refusal(n, m, size);
     if bad != settings::PASSED {
@@ -91,7 +91,7 @@ pub fn encode_refusal(n: usize, m: usize, size: usize, stripe: usize, coded: usi
 
 // The refusal of a decoding by its settings, list and lengths, 0 for none: blocks and stripe are the buffers' lengths.
 fn list_refusal(n: usize, m: usize, size: usize, bricks: &[u8], blocks: usize, stripe: usize) -> u32
-    ensures { result ≡ listRefusal n m size bricks.now blocks stripe }
+    ensures { result ≡ list_refusal n m size bricks.now blocks stripe }
 {
     let bad = settings::code_refusal(n, m, size);
     if bad != settings::PASSED {
@@ -114,7 +114,7 @@ fn list_refusal(n: usize, m: usize, size: usize, bricks: &[u8], blocks: usize, s
 // The n coded blocks of m data blocks.
 pub fn encode_into(n: usize, m: usize, size: usize, stripe: &[u8], coded: &mut [u8])
     requires { Encodes n m size (length stripe.now) (length coded.old) }
-    ensures { coded.new ≡ codedOf n m size stripe.now }
+    ensures { coded.new ≡ coded_of n m size stripe.now }
 {
     let points = [0u8, 1, 2, 3, 4, 5, 6, 7, 8, 9, 10, 11, 12, 13, 14, 15];
     interpolate::interpolate(&points[..m], size, stripe, n, coded)
@@ -125,7 +125,7 @@ pub fn decode_into(m: usize, size: usize, bricks: &[u8], blocks: &[u8], stripe: 
     requires point_set { PointSet bricks.now }
     requires bricks_len { length bricks.now ≡ m }
     requires blocks_len { (length blocks.now ≡ m * size) × (length stripe.old ≡ m * size) }
-    ensures { stripe.new ≡ decodedOf m size bricks.now blocks.now }
+    ensures { stripe.new ≡ decoded_of m size bricks.now blocks.now }
 {
     interpolate::interpolate(bricks, size, blocks, m, stripe)
 }
@@ -140,7 +140,7 @@ pub fn decode_checked(
 ) -> bool
     requires { Decodes m size bricks.now (length blocks.now) (length stripe.old) }
     ensures value { result ≡ agree m size bricks.now blocks.now }
-    ensures stripe_after { stripe.new ≡ cond result (decodedOf m size bricks.now blocks.now) stripe.old }
+    ensures stripe_after { stripe.new ≡ cond result (decoded_of m size bricks.now blocks.now) stripe.old }
 {
     let own = m * size;
     interpolate::interpolate_checked(
@@ -166,7 +166,7 @@ fn weight_at(
     requires powers { IsPowers powers.now }
     requires logs { IsLogs logs.now }
     requires recode_range { RecodeRange n m brick j }
-    ensures { result ≡ weightAt n m brick j }
+    ensures { result ≡ weight_at n m brick j }
 {
     let mut w = 1u8;
     let mut k = 0;
@@ -213,7 +213,7 @@ fn add_change_multiples(
     requires w5_value { w5 ≡ twice w4 }
     requires w6_value { w6 ≡ twice w5 }
     requires w7_value { w7 ≡ twice w6 }
-    ensures { out.new ≡ withChange w0 own.now old.now new.now }
+    ensures { out.new ≡ with_change w0 own.now old.now new.now }
 {
     let mut i = 0;
     while i < out.len() {
@@ -235,7 +235,7 @@ fn add_change(
     requires powers { IsPowers powers.now }
     requires logs { IsLogs logs.now }
     requires one_length { OneLength (length own.now) (length old.now) (length new.now) (length out.old) }
-    ensures { out.new ≡ withChange w0 own.now old.now new.now }
+    ensures { out.new ≡ with_change w0 own.now old.now new.now }
 {
     let w1 = double(powers, logs, w0);
     let w2 = double(powers, logs, w1);
@@ -260,7 +260,7 @@ pub fn recode_into(
 )
     requires recode_range { RecodeRange n m brick j }
     requires one_length { OneLength (length own.now) (length old.now) (length new.now) (length out.old) }
-    ensures { out.new ≡ recodedBlock n m brick j own.now old.now new.now }
+    ensures { out.new ≡ recoded_block n m brick j own.now old.now new.now }
 {
     let powers = gf256::powers();
     let logs = gf256::logs();
@@ -277,8 +277,8 @@ pub extern "C" fn stripe_encode(
     data: &[u8],
     coded: &mut [u8],
 ) -> u32
-    ensures value { result ≡ encodeRefusal n m size (length «data».now) (length coded.old) }
-    ensures coded_after { coded.new ≡ encodedBuffer n m size «data».now coded.old }
+    ensures value { result ≡ encode_refusal n m size (length «data».now) (length coded.old) }
+    ensures coded_after { coded.new ≡ encoded_buffer n m size «data».now coded.old }
 {
     let number = encode_refusal(n, m, size, data.len(), coded.len());
     if number != settings::PASSED {
@@ -298,8 +298,8 @@ pub extern "C" fn stripe_decode(
     blocks: &[u8],
     data: &mut [u8],
 ) -> u32
-    ensures value { result ≡ decodeRefusal n m size bricks.now blocks.now (length «data».old) }
-    ensures data_after { «data».new ≡ decodedBuffer n m size bricks.now blocks.now «data».old }
+    ensures value { result ≡ decode_refusal n m size bricks.now blocks.now (length «data».old) }
+    ensures data_after { «data».new ≡ decoded_buffer n m size bricks.now blocks.now «data».old }
     ensures decoded_by_polynomials { DecodedByPolynomials n m size bricks.now blocks.now «data».old result «data».new }
 {
     let reason = list_refusal(n, m, size, bricks, blocks.len(), data.len());

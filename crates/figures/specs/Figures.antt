@@ -2,17 +2,17 @@
 -- A row is what a definition gives and what the paper says it gives. Proved in `proofs/Laws/FigureLaws`.
 use Rattle.std.specs.Prelude.{◌≡◌, cond, List, [], ◌∷◌, ℕ, ◌*◌, ◌^◌, ◌-◌, eqb, take}
 use Rattle.byte_lists.specs.Little
-use Rattle.image_block.specs.Block.{checkBytes}
-use Rattle.image.specs.Brick.{freshBrick}
+use Rattle.image_block.specs.Block.{check_bytes}
+use Rattle.image.specs.Brick.{fresh_brick}
 use Rattle.image.specs.Image.{image_of}
-use Rattle.image.specs.Parse.{imageBlockAt}
-use Rattle.erasure.specs.Code.{codedOf, decodedOf}
-use Rattle.erasure.specs.Refusals.{decodeRefusal}
-use Rattle.coord_tally.specs.Counting.{firstGivers}
+use Rattle.image.specs.Parse.{image_block_at}
+use Rattle.erasure.specs.Code.{coded_of, decoded_of}
+use Rattle.erasure.specs.Refusals.{decode_refusal}
+use Rattle.coord_tally.specs.Counting.{first_givers}
 use Rattle.gf256.specs.Product.{product}
-use Rattle.settings.specs.Ranges.{quorum, settingsRefusal}
-use Rattle.settings.specs.Refusal.{passed, badSetting, badReading, badStripe, badBrickSet, blocksDisagree}
-use Rattle.settings.specs.Times.{drawOf}
+use Rattle.settings.specs.Ranges.{quorum, settings_refusal}
+use Rattle.settings.specs.Refusal.{passed, bad_setting, bad_reading, bad_stripe, bad_brick_set, blocks_disagree}
+use Rattle.settings.specs.Times.{draw_of}
 use Rattle.volume.specs.ClientPlaces.{place_of}
 use Rattle.volume.specs.declared.Placed.{Placed}
 use Rattle.volume.specs.declared.Placed.TheVariants.{At}
@@ -42,8 +42,8 @@ drawn (Drawn t next) = time t
 drawn (Refused k) = refusal k
 
 -- the draw of coordinator c with this last count and reading
-unfoldable pub drawFor : ℕ → ℕ → ℕ → Figure
-drawFor coordinator last reading = drawn (drawOf (record { coordinator = coordinator; last = last }) reading)
+unfoldable pub draw_for : ℕ → ℕ → ℕ → Figure
+draw_for coordinator last reading = drawn (draw_of (record { coordinator = coordinator; last = last }) reading)
 
 -- the place of a client block, a stripe and a data block, or its refusal
 unfoldable pub placed : Placed → Figure
@@ -51,27 +51,27 @@ placed (At stripe block) = bytes (stripe ∷ block ∷ [])
 placed (Placed.Refused k) = refusal k
 
 -- a refusal's number, 0 for none
-unfoldable pub refusedBy : ℕ → Figure
-refusedBy k = cond (eqb k passed) passes (refusal k)
+unfoldable pub refused_by : ℕ → Figure
+refused_by k = cond (eqb k passed) passes (refusal k)
 
 -- the refusal of settings n, m, size, capacity and stripe count
-unfoldable pub refusalFor : ℕ → ℕ → ℕ → ℕ → ℕ → Figure
-refusalFor n m size capacity stripes =
-    refusedBy (settingsRefusal (record { n = n; m = m; size = size; capacity = capacity; stripes = stripes }))
+unfoldable pub refusal_for : ℕ → ℕ → ℕ → ℕ → ℕ → Figure
+refusal_for n m size capacity stripes =
+    refused_by (settings_refusal (record { n = n; m = m; size = size; capacity = capacity; stripes = stripes }))
 
 -- the place of a client block in a volume of 4 stripes of 2 data blocks
-unfoldable pub placeIn4 : ℕ → Figure
-placeIn4 v = placed (place_of (record { n = 3; m = 2; size = 1; capacity = 2; stripes = 4 }) v)
+unfoldable pub place_in4 : ℕ → Figure
+place_in4 v = placed (place_of (record { n = 3; m = 2; size = 1; capacity = 2; stripes = 4 }) v)
 
 -- "Bytes 0–1 hold the check": as it stands in block k of an image
-unfoldable pub checkAt : List ℕ → ℕ → ℕ
-checkAt image k = Little.number (take checkBytes (imageBlockAt image k))
+unfoldable pub check_at : List ℕ → ℕ → ℕ
+check_at image k = Little.number (take check_bytes (image_block_at image k))
 
 -- the fresh image "for n 3, m 1, brick 0, capacity 4, size 1"
-unfoldable pub freshImage : List ℕ
-freshImage =
+unfoldable pub fresh_image : List ℕ
+fresh_image =
     let s : Settings = record { n = 3; m = 1; size = 1; capacity = 4; stripes = 1 } in
-    image_of s 0 (freshBrick s)
+    image_of s 0 (fresh_brick s)
 
 unfoldable pub figures : List Row
 figures =
@@ -87,34 +87,34 @@ figures =
     ∷ row (number (product 2 142)) (number 1)
     ∷ row (number (product 3 3)) (number 5)
     -- m 2, n 4: data 5, 9 gives parity 29, 17; blocks 2 and 3 give 5, 9.
-    ∷ row (bytes (codedOf 4 2 1 (5 ∷ 9 ∷ []))) (bytes (5 ∷ 9 ∷ 29 ∷ 17 ∷ []))
-    ∷ row (bytes (decodedOf 2 1 (2 ∷ 3 ∷ []) (29 ∷ 17 ∷ []))) (bytes (5 ∷ 9 ∷ []))
+    ∷ row (bytes (coded_of 4 2 1 (5 ∷ 9 ∷ []))) (bytes (5 ∷ 9 ∷ 29 ∷ 17 ∷ []))
+    ∷ row (bytes (decoded_of 2 1 (2 ∷ 3 ∷ []) (29 ∷ 17 ∷ []))) (bytes (5 ∷ 9 ∷ []))
     -- Check of the fresh head for n 3, m 1, brick 0, capacity 4, size 1: 55; of its entry: 14.
-    ∷ row (number (checkAt freshImage 0)) (number 55)
-    ∷ row (number (checkAt freshImage 1)) (number 14)
+    ∷ row (number (check_at fresh_image 0)) (number 55)
+    ∷ row (number (check_at fresh_image 1)) (number 14)
     -- Last 5, reading 3, coordinator 0: time 96. Last 0, reading 0, coordinator 2: 18.
-    ∷ row (drawFor 0 5 3) (time 96)
-    ∷ row (drawFor 2 0 0) (time 18)
+    ∷ row (draw_for 0 5 3) (time 96)
+    ∷ row (draw_for 2 0 0) (time 18)
     -- n 16 passes, 17 is refusal 1; reading 2^40−1 passes, 2^40 is refusal 7.
-    ∷ row (refusalFor 16 1 1 2 1) passes
-    ∷ row (refusalFor 17 1 1 2 1) (refusal badSetting)
-    ∷ row (drawFor 0 0 (2 ^ 40 - 1)) (time ((2 ^ 40 - 1) * 16))
-    ∷ row (drawFor 0 0 (2 ^ 40)) (refusal badReading)
+    ∷ row (refusal_for 16 1 1 2 1) passes
+    ∷ row (refusal_for 17 1 1 2 1) (refusal bad_setting)
+    ∷ row (draw_for 0 0 (2 ^ 40 - 1)) (time ((2 ^ 40 - 1) * 16))
+    ∷ row (draw_for 0 0 (2 ^ 40)) (refusal bad_reading)
     -- E1: 64 stripes pass, 65 are refusal 1; of 4 stripes of 2 data blocks client block 6 is data block 1 of stripe 2, and 8 is refusal 13.
-    ∷ row (refusalFor 16 1 1 2 64) passes
-    ∷ row (refusalFor 16 1 1 2 65) (refusal badSetting)
-    ∷ row (placeIn4 6) (bytes (2 ∷ 1 ∷ []))
-    ∷ row (placeIn4 8) (refusal badStripe)
+    ∷ row (refusal_for 16 1 1 2 64) passes
+    ∷ row (refusal_for 16 1 1 2 65) (refusal bad_setting)
+    ∷ row (place_in4 6) (bytes (2 ∷ 1 ∷ []))
+    ∷ row (place_in4 8) (refusal bad_stripe)
     -- E3, with the blocks above: those of bricks 2, 3 and 0 agree and give 5, 9; with 6 for the block of brick 0 they are refusal 15; brick 2
     -- alone, or twice, is refusal 4.
-    ∷ row (refusedBy (decodeRefusal 4 2 1 (2 ∷ 3 ∷ 0 ∷ []) (29 ∷ 17 ∷ 5 ∷ []) 2)) passes
-    ∷ row (bytes (decodedOf 2 1 (2 ∷ 3 ∷ 0 ∷ []) (29 ∷ 17 ∷ 5 ∷ []))) (bytes (5 ∷ 9 ∷ []))
-    ∷ row (refusedBy (decodeRefusal 4 2 1 (2 ∷ 3 ∷ 0 ∷ []) (29 ∷ 17 ∷ 6 ∷ []) 2)) (refusal blocksDisagree)
-    ∷ row (refusedBy (decodeRefusal 4 2 1 (2 ∷ []) (29 ∷ []) 2)) (refusal badBrickSet)
-    ∷ row (refusedBy (decodeRefusal 4 2 1 (2 ∷ 3 ∷ 2 ∷ []) (29 ∷ 17 ∷ 29 ∷ []) 2)) (refusal badBrickSet)
+    ∷ row (refused_by (decode_refusal 4 2 1 (2 ∷ 3 ∷ 0 ∷ []) (29 ∷ 17 ∷ 5 ∷ []) 2)) passes
+    ∷ row (bytes (decoded_of 2 1 (2 ∷ 3 ∷ 0 ∷ []) (29 ∷ 17 ∷ 5 ∷ []))) (bytes (5 ∷ 9 ∷ []))
+    ∷ row (refused_by (decode_refusal 4 2 1 (2 ∷ 3 ∷ 0 ∷ []) (29 ∷ 17 ∷ 6 ∷ []) 2)) (refusal blocks_disagree)
+    ∷ row (refused_by (decode_refusal 4 2 1 (2 ∷ []) (29 ∷ []) 2)) (refusal bad_brick_set)
+    ∷ row (refused_by (decode_refusal 4 2 1 (2 ∷ 3 ∷ 2 ∷ []) (29 ∷ 17 ∷ 29 ∷ []) 2)) (refusal bad_brick_set)
     -- E7, of five bricks that gave blocks of times 16, 32, 32, 16 and 32, with m 2: at 32 the first are 1 and 2, at 16 they are 0 and 3.
-    ∷ row (bytes (firstGivers (1 ∷ 1 ∷ 1 ∷ 1 ∷ 1 ∷ []) (16 ∷ 32 ∷ 32 ∷ 16 ∷ 32 ∷ []) 32 5 2)) (bytes (1 ∷ 2 ∷ []))
-    ∷ row (bytes (firstGivers (1 ∷ 1 ∷ 1 ∷ 1 ∷ 1 ∷ []) (16 ∷ 32 ∷ 32 ∷ 16 ∷ 32 ∷ []) 16 5 2)) (bytes (0 ∷ 3 ∷ []))
+    ∷ row (bytes (first_givers (1 ∷ 1 ∷ 1 ∷ 1 ∷ 1 ∷ []) (16 ∷ 32 ∷ 32 ∷ 16 ∷ 32 ∷ []) 32 5 2)) (bytes (1 ∷ 2 ∷ []))
+    ∷ row (bytes (first_givers (1 ∷ 1 ∷ 1 ∷ 1 ∷ 1 ∷ []) (16 ∷ 32 ∷ 32 ∷ 16 ∷ 32 ∷ []) 16 5 2)) (bytes (0 ∷ 3 ∷ []))
     ∷ []
 
 -- every row gives its figure

@@ -16,13 +16,13 @@ unfoldable pub twice : ℕ → ℕ
 twice a = plus (a * 2) (a / 128 * polynomial)
 
 -- shift and add over k bits of b, lowest first
-unfoldable pub shiftAdd : ℕ → ℕ → ℕ → ℕ
-shiftAdd zero a b = 0
-shiftAdd (suc k) a b = plus (b % 2 * a) (shiftAdd k (twice a) (b / 2))
+unfoldable pub shift_add : ℕ → ℕ → ℕ → ℕ
+shift_add zero a b = 0
+shift_add (suc k) a b = plus (b % 2 * a) (shift_add k (twice a) (b / 2))
 
 -- multiplication of two bytes
 unfoldable pub product : ℕ → ℕ → ℕ
-product a b = shiftAdd 8 a b
+product a b = shift_add 8 a b
 
 -- 2 to the k: k times doubled
 unfoldable pub doubled : ℕ → ℕ → ℕ
@@ -36,17 +36,17 @@ power k = doubled k 1
 abbrev pub byte_count : ℕ
 byte_count = 256
 
-abbrev pub powerCount : ℕ
-powerCount = 255
+abbrev pub power_count : ℕ
+power_count = 255
 
 -- the byte below k whose product with a is 1, 0 where there is none
-unfoldable pub inverseBelow : ℕ → ℕ → ℕ
-inverseBelow zero a = 0
-inverseBelow (suc k) a = cond (eqb (product a k) 1) k (inverseBelow k a)
+unfoldable pub inverse_below : ℕ → ℕ → ℕ
+inverse_below zero a = 0
+inverse_below (suc k) a = cond (eqb (product a k) 1) k (inverse_below k a)
 
 -- the inverse of a: the byte whose product with a is 1; 0 for 0
 unfoldable pub inverse : ℕ → ℕ
-inverse a = inverseBelow byte_count a
+inverse a = inverse_below byte_count a
 
 -- division: by 0 it gives 0
 unfoldable pub quotient : ℕ → ℕ → ℕ

@@ -3,7 +3,7 @@
 ghost use Rattle.std.specs.Prelude.{◌≡◌, ◌≤◌, get_or};
 ghost use Rattle.gf256.specs.Product.{product, inverse, quotient};
 ghost use Rattle.gf256.specs.Tables.{IsPowers, IsLogs};
-ghost use Rattle.gf256.specs.LogSums.{logSum, maxLogSum, folded, productIn, sumBits};
+ghost use Rattle.gf256.specs.LogSums.{log_sum, max_log_sum, folded, product_in, sum_bits};
 
 // The bytes, and the powers of 2 among them: all but 0.
 pub const BYTE_COUNT: usize = 256;
@@ -65,15 +65,15 @@ pub fn logs() -> [u8; BYTE_COUNT]
 // The sum of two bytes' logarithms, in 16 bits.
 fn log_sum(logs: &[u8; BYTE_COUNT], a: u8, b: u8) -> u16
     requires { IsLogs logs.now }
-    ensures value { result ≡ logSum logs.now a b }
-    ensures upper_bound { result ≤ maxLogSum }
+    ensures value { result ≡ log_sum logs.now a b }
+    ensures upper_bound { result ≤ max_log_sum }
 {
     logs[a as usize] as u16 + logs[b as usize] as u16
 }
 
 // The power at a sum of two logarithms: from 255 on that at 255 less.
 fn power_at(powers: &[u8; POWER_COUNT], sum: u16) -> u8
-    requires { sum ≤ maxLogSum }
+    requires { sum ≤ max_log_sum }
     ensures { result ≡ get_or powers.now (folded sum) 0 }
 {
     if sum < CYCLE {
@@ -87,7 +87,7 @@ pub fn mul_by(powers: &[u8; POWER_COUNT], logs: &[u8; BYTE_COUNT], a: u8, b: u8)
     requires powers { IsPowers powers.now }
     requires logs { IsLogs logs.now }
     ensures value { result ≡ product a b }
-    ensures value_2 { result ≡ productIn sumBits powers.now logs.now a b }
+    ensures value_2 { result ≡ product_in sum_bits powers.now logs.now a b }
 {
     if a == 0 {
         return 0;

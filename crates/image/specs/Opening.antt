@@ -1,10 +1,10 @@
 -- The answer of an opening, in the code's own records, and the tests that the code makes on single blocks.
 use Rattle.std.specs.Prelude.{Bool, cond, get_or, List, [], ◌∷◌, ◌++◌, ℕ, zero, suc, ◌+◌, ltb, eqb}
 use Rattle.settings.specs.Ranges.{in_range}
-use Rattle.settings.specs.Refusal.{refuseUnless, firstRefusal, badSetting, badLength, badNumber}
+use Rattle.settings.specs.Refusal.{refuse_unless, first_refusal, bad_setting, bad_length, bad_number}
 use Rattle.settings.specs.declared.Settings.{Settings}
-use Rattle.image.specs.Brick.{Brick, entryCount, timeAt, markAt, newest}
-use Rattle.image.specs.Image.{imageSize}
+use Rattle.image.specs.Brick.{Brick, entry_count, time_at, mark_at, newest}
+use Rattle.image.specs.Image.{image_size}
 use Rattle.image.specs.Parse.{Parsed, Opens, Refuses}
 use Rattle.image.specs.declared.Entry.{Entry}
 use Rattle.image.specs.declared.Holding.{Holding}
@@ -16,7 +16,7 @@ use Rattle.image.specs.declared.Shown.TheVariants.{Values}
 use Rattle.image.specs.declared.Opening.{Opening}
 use Rattle.settings.specs.Refusal.{passed}
 use Rattle.image.specs.declared.Shown.TheVariants.{Refused}
-use Rattle.settings.specs.Ranges.{maxCapacity}
+use Rattle.settings.specs.Ranges.{max_capacity}
 
 -- n values in a row
 unfoldable pub row_of : (ℕ → Entry) → ℕ → List Entry
@@ -29,14 +29,14 @@ blank = record { time = 0; holding = Held 0 }
 
 -- "an entry names either a held block's place": entry i of a log has its block in block i + 1 of the image; "or, later, another case":
 -- a mark (E2)
-unfoldable pub holdingFor : Bool → ℕ → Holding
-holdingFor mark i = cond mark Same (Held (i + 1))
+unfoldable pub holding_for : Bool → ℕ → Holding
+holding_for mark i = cond mark Same (Held (i + 1))
 
-unfoldable pub entryFor : (time : ℕ) → Bool → (i n : ℕ) → Entry
-entryFor time mark i n = cond (ltb i n) (record { time = time; holding = holdingFor mark i }) blank
+unfoldable pub entry_for : (time : ℕ) → Bool → (i n : ℕ) → Entry
+entry_for time mark i n = cond (ltb i n) (record { time = time; holding = holding_for mark i }) blank
 
 unfoldable pub entry_of : Brick → ℕ → Entry
-entry_of x i = entryFor (timeAt x i) (markAt x i) i (entryCount x)
+entry_of x i = entry_for (time_at x i) (mark_at x i) i (entry_count x)
 
 -- the place that an entry of the working log names, 0 for a mark
 unfoldable pub place_in : Holding → ℕ
@@ -44,43 +44,43 @@ place_in (Held place) = place
 place_in Same = 0
 
 -- the block of the image that entry i of a working log means: its own, or of a mark that of the entry below it
-unfoldable pub holderOf : List Entry → ℕ → ℕ
-holderOf log zero = place_in (get_or log 0 blank).holding
-holderOf log (suc i) =
-    cond (eqb (place_in (get_or log (suc i) blank).holding) 0) (holderOf log i) (place_in (get_or log (suc i) blank).holding)
+unfoldable pub holder_of : List Entry → ℕ → ℕ
+holder_of log zero = place_in (get_or log 0 blank).holding
+holder_of log (suc i) =
+    cond (eqb (place_in (get_or log (suc i) blank).holding) 0) (holder_of log i) (place_in (get_or log (suc i) blank).holding)
 
 -- the working log: the brick's entries, then blanks
-unfoldable pub workingLog : Brick → List Entry
-workingLog x = row_of (entry_of x) maxCapacity
+unfoldable pub working_log : Brick → List Entry
+working_log x = row_of (entry_of x) max_capacity
 
-unfoldable pub noBlank : ℕ → Entry
-noBlank i = blank
+unfoldable pub no_blank : ℕ → Entry
+no_blank i = blank
 
 -- what the code answers: the count and the promise, and the working log; or the number of the refusal, and blanks
 unfoldable pub opening : Parsed → Opening
-opening (Opens x) = record { answer = Opened (record { count = entryCount x; promise = x.promise }); log = workingLog x }
-opening (Refuses k) = record { answer = Refused k; log = row_of noBlank maxCapacity }
+opening (Opens x) = record { answer = Opened (record { count = entry_count x; promise = x.promise }); log = working_log x }
+opening (Refuses k) = record { answer = Refused k; log = row_of no_blank max_capacity }
 
 -- the number in an answer, 0 in one that opened
-unfoldable pub answerNumber : ImageAnswer → ℕ
-answerNumber (Opened head) = 0
-answerNumber (Refused k) = k
+unfoldable pub answer_number : ImageAnswer → ℕ
+answer_number (Opened head) = 0
+answer_number (Refused k) = k
 
 -- the service panel: the promise and the newest time, or the refusal
-unfoldable pub panelOf : Parsed → Shown
-panelOf (Opens x) = Values (record { promise = x.promise; newest = newest x })
-panelOf (Refuses k) = Shown.Refused k
+unfoldable pub panel_of : Parsed → Shown
+panel_of (Opens x) = Values (record { promise = x.promise; newest = newest x })
+panel_of (Refuses k) = Shown.Refused k
 
 -- the first refusals of whatever is lent an image: 1 a setting, 2 the length, 3 the brick's number
-unfoldable pub lendingRefusal : Settings → ℕ → ℕ → ℕ
-lendingRefusal s brick len =
-    firstRefusal
-    (refuseUnless (in_range s) badSetting
-    ∷ refuseUnless (eqb len (imageSize s)) badLength
-    ∷ refuseUnless (ltb brick s.n) badNumber
+unfoldable pub lending_refusal : Settings → ℕ → ℕ → ℕ
+lending_refusal s brick len =
+    first_refusal
+    (refuse_unless (in_range s) bad_setting
+    ∷ refuse_unless (eqb len (image_size s)) bad_length
+    ∷ refuse_unless (ltb brick s.n) bad_number
     ∷ [])
 
 -- the panel's number: 0 where it shows two times
-unfoldable pub shownNumber : Shown → ℕ
-shownNumber (Values panel) = passed
-shownNumber (Refused number) = number
+unfoldable pub shown_number : Shown → ℕ
+shown_number (Values panel) = passed
+shown_number (Refused number) = number

@@ -2,31 +2,31 @@
 use Rattle.std.specs.Prelude.{Bool, cond, not, ◌&&◌, ◌||◌, true, List, ◌++◌, ℕ, ◌+◌, ◌≤◌, ◌-◌, ltb, eqb, drop, replicate, ◌≡◌, ◌<◌, length}
 use Rattle.settings.specs.Ranges.{in_range}
 use Rattle.settings.specs.declared.Settings.{Settings}
-use Rattle.image_block.specs.Block.{headBody, entryBody, markBody, unusedBody}
+use Rattle.image_block.specs.Block.{head_body, entry_body, mark_body, unused_body}
 use Rattle.byte_lists.specs.Lists.{same}
-use Rattle.image.specs.Brick.{Brick, entryCount, savedTime, countSound}
-use Rattle.image.specs.Image.{imageSize}
-use Rattle.image.specs.Parse.{heldIn, markIn, Opens, parse, imageBlockAt, checkedAt, timeIn}
+use Rattle.image.specs.Brick.{Brick, entry_count, saved_time, count_sound}
+use Rattle.image.specs.Image.{image_size}
+use Rattle.image.specs.Parse.{held_in, mark_in, Opens, parse, image_block_at, checked_at, time_in}
 use Rattle.image.specs.declared.Entry.{Entry}
 use Rattle.image.specs.declared.Opening.{Opening}
 use Rattle.image.specs.declared.Head.{Head}
 use Rattle.byte_lists.specs.Each.{each}
-use Rattle.image.specs.Opening.{row_of, blank, entryFor, workingLog}
+use Rattle.image.specs.Opening.{row_of, blank, entry_for, working_log}
 use Rattle.settings.specs.Ranges.{SettingsRange}
 use Rattle.image.specs.Brick.{Sound}
 use Rattle.image.specs.Image.{image_of}
-use Rattle.image.specs.Parse.{brickIn}
-use Rattle.image_block.specs.Block.{checkBytes}
-use Rattle.settings.specs.Ranges.{maxCapacity}
+use Rattle.image.specs.Parse.{brick_in}
+use Rattle.image_block.specs.Block.{check_bytes}
+use Rattle.settings.specs.Ranges.{max_capacity}
 
 -- what an image that opens satisfies
 pub record ImageOpened (s : Settings) (brick : ℕ) (l : List ℕ) (x : Brick) : Type 0 where
   pub in-range : in_range s ≡ true
   pub range : SettingsRange s
-  pub long : length l ≡ imageSize s
+  pub long : length l ≡ image_size s
   pub brick-low : brick < s.n
-  pub checks : each (checkedAt l) (s.capacity + 1) ≡ true
-  pub is_read : x ≡ brickIn s l
+  pub checks : each (checked_at l) (s.capacity + 1) ≡ true
+  pub is_read : x ≡ brick_in s l
   pub keeps : Sound s x
   pub is-image : l ≡ image_of s brick x
 
@@ -35,49 +35,49 @@ unfoldable pub rises : ℕ → ℕ → ℕ → Bool
 rises i last time = eqb i 0 || ltb last time
 
 -- the head, from its kind on, with that count and that promise
-unfoldable pub headFits : Settings → ℕ → List ℕ → ℕ → ℕ → Bool
-headFits s brick t n promise = countSound s n && savedTime promise && same (drop checkBytes t) (headBody s brick n promise)
+unfoldable pub head_fits : Settings → ℕ → List ℕ → ℕ → ℕ → Bool
+head_fits s brick t n promise = count_sound s n && saved_time promise && same (drop check_bytes t) (head_body s brick n promise)
 
 -- a block of the log from its kind on, as its kind, time and bytes say: a mark, or an entry
-unfoldable pub formBody : ℕ → List ℕ → ℕ → List ℕ
-formBody size t time = cond (markIn t) (markBody time size) (entryBody time (heldIn size t))
+unfoldable pub form_body : ℕ → List ℕ → ℕ → List ℕ
+form_body size t time = cond (mark_in t) (mark_body time size) (entry_body time (held_in size t))
 
 -- the lowest is no mark
-unfoldable pub formLow : List ℕ → ℕ → Bool
-formLow t i = not (markIn t) || ltb 0 i
+unfoldable pub form_low : List ℕ → ℕ → Bool
+form_low t i = not (mark_in t) || ltb 0 i
 
 -- the block of entry i of n, from its kind on: an entry or a mark, or unused
-unfoldable pub slotFits : ℕ → List ℕ → ℕ → ℕ → ℕ → ℕ → Bool
-slotFits size t time i n last =
-    cond (ltb i n) (savedTime time && rises i last time && formLow t i && same (drop checkBytes t) (formBody size t time))
-    (same (drop checkBytes t) unusedBody)
+unfoldable pub slot_fits : ℕ → List ℕ → ℕ → ℕ → ℕ → ℕ → Bool
+slot_fits size t time i n last =
+    cond (ltb i n) (saved_time time && rises i last time && form_low t i && same (drop check_bytes t) (form_body size t time))
+    (same (drop check_bytes t) unused_body)
 
 -- an answer that opened: the brick, and all that is known of it
 pub record Hub (s : Settings) (brick : ℕ) (l : List ℕ) (o : Opening) (h : Head) : Type 0 where
   pub x : Brick
   pub is : parse s brick l ≡ Opens x
   pub saved : ImageOpened s brick l x
-  pub counts : h.count ≡ entryCount x
+  pub counts : h.count ≡ entry_count x
   pub promises : h.promise ≡ x.promise
-  pub logs : o.log ≡ workingLog x
+  pub logs : o.log ≡ working_log x
   pub low : 1 ≤ h.count
   pub high : h.count ≤ s.capacity
-  pub most : h.count ≤ maxCapacity
+  pub most : h.count ≤ max_capacity
 
 -- the check of the block of entry i
-unfoldable pub checkAfter : List ℕ → ℕ → Bool
-checkAfter l i = checkedAt l (i + 1)
+unfoldable pub check_after : List ℕ → ℕ → Bool
+check_after l i = checked_at l (i + 1)
 
 -- whether the block of entry i is as it should be
 unfoldable pub slot_at : ℕ → List ℕ → ℕ → ℕ → Bool
-slot_at size l n i = slotFits size (imageBlockAt l (i + 1)) (timeIn (imageBlockAt l (i + 1))) i n (timeIn (imageBlockAt l i))
+slot_at size l n i = slot_fits size (image_block_at l (i + 1)) (time_in (image_block_at l (i + 1))) i n (time_in (image_block_at l i))
 
 -- the working log's entry i
 unfoldable pub entry_at : List ℕ → ℕ → ℕ → Entry
-entry_at l n i = entryFor (timeIn (imageBlockAt l (i + 1))) (markIn (imageBlockAt l (i + 1))) i n
+entry_at l n i = entry_for (time_in (image_block_at l (i + 1))) (mark_in (image_block_at l (i + 1))) i n
 
 -- what the loop gives
 pub record Scanned (size cap : ℕ) (l : List ℕ) (n : ℕ) (checks fits : Bool) (log : List Entry) : Type 0 where
-  pub all-checked : checks ≡ each (checkAfter l) cap
+  pub all-checked : checks ≡ each (check_after l) cap
   pub all_fit : checks ≡ true → fits ≡ each (slot_at size l n) cap
-  pub the-log : checks ≡ true → log ≡ row_of (entry_at l n) cap ++ replicate (maxCapacity - cap) blank
+  pub the-log : checks ≡ true → log ≡ row_of (entry_at l n) cap ++ replicate (max_capacity - cap) blank

@@ -1,16 +1,16 @@
 // The saved brick (document 01, "The saved brick").
 ghost use Rattle.std.specs.Prelude.{◌≡◌, ◌&&◌, ◌+◌, ◌*◌, ◌≤◌, ◌<◌, length, drop};
 ghost use Rattle.settings.specs.Ranges.{SettingsRange};
-ghost use Rattle.image_block.specs.Block.{unusedBody, entryBody, markBody};
+ghost use Rattle.image_block.specs.Block.{unused_body, entry_body, mark_body};
 ghost use Rattle.byte_lists.specs.Lists.{same};
-ghost use Rattle.image.specs.Brick.{savedTime};
-ghost use Rattle.image.specs.Image.{imageSize};
-ghost use Rattle.image.specs.Parse.{heldIn, markIn, parse, Refuses};
-ghost use Rattle.image.specs.Opening.{answerNumber, entryFor, holdingFor, holderOf, opening, panelOf, place_in, lendingRefusal};
-ghost use Rattle.image.specs.Workers.{rises, headFits, slotFits, formLow, formBody};
+ghost use Rattle.image.specs.Brick.{saved_time};
+ghost use Rattle.image.specs.Image.{image_size};
+ghost use Rattle.image.specs.Parse.{held_in, mark_in, parse, Refuses};
+ghost use Rattle.image.specs.Opening.{answer_number, entry_for, holding_for, holder_of, opening, panel_of, place_in, lending_refusal};
+ghost use Rattle.image.specs.Workers.{rises, head_fits, slot_fits, form_low, form_body};
 ghost use Rattle.image.specs.Workers.{Scanned};
-ghost use Rattle.image_block.specs.Block.{blockBytes, checkBytes};
-ghost use Rattle.settings.specs.Ranges.{maxCapacity, maxSize};
+ghost use Rattle.image_block.specs.Block.{block_bytes, check_bytes};
+ghost use Rattle.settings.specs.Ranges.{max_capacity, max_size};
 
 use byte_lists::{read2, read8};
 use image_block::{
@@ -78,8 +78,8 @@ pub fn place_of(h: Holding) -> usize
 
 // The block of the image that an entry of the working log means: its own, or of a mark that of the entry below it.
 pub fn holder_of(log: [Entry; MAX_CAPACITY], i: usize) -> usize
-    requires { i < maxCapacity }
-    ensures { result ≡ holderOf log i }
+    requires { i < max_capacity }
+    ensures { result ≡ holder_of log i }
 {
     let mut k = i;
     while 0 < k {
@@ -98,7 +98,7 @@ pub fn holder_of(log: [Entry; MAX_CAPACITY], i: usize) -> usize
 
 // Whether a number is 0 or a valid time.
 fn saved_time(t: u64) -> bool
-    ensures { result ≡ savedTime t }
+    ensures { result ≡ saved_time t }
 {
     if t == 0 {
         return true;
@@ -118,8 +118,8 @@ fn rising(i: usize, last: u64, time: u64) -> bool
 
 // What entry i names.
 fn holding_for(mark: bool, i: usize) -> Holding
-    requires { i < maxCapacity }
-    ensures { result ≡ holdingFor mark i }
+    requires { i < max_capacity }
+    ensures { result ≡ holding_for mark i }
 {
     if mark {
         return Holding::Same;
@@ -129,8 +129,8 @@ fn holding_for(mark: bool, i: usize) -> Holding
 
 // An entry of the working log: entry i of `count`, or a blank.
 fn entry_for(time: u64, mark: bool, i: usize, count: usize) -> Entry
-    requires { i < maxCapacity }
-    ensures { result ≡ entryFor time mark i count }
+    requires { i < max_capacity }
+    ensures { result ≡ entry_for time mark i count }
 {
     if i < count {
         let holding = holding_for(mark, i);
@@ -156,8 +156,8 @@ fn both(a: bool, b: bool) -> bool
 
 // Whether a block is unused, from its kind on.
 fn unused_fits(t: &[u8]) -> bool
-    requires { length t.now ≡ blockBytes }
-    ensures { result ≡ same (drop checkBytes t.now) unusedBody }
+    requires { length t.now ≡ block_bytes }
+    ensures { result ≡ same (drop check_bytes t.now) unused_body }
 {
     let b = [0u8; BLOCK_BYTES];
     same_body(t, &b)
@@ -165,8 +165,8 @@ fn unused_fits(t: &[u8]) -> bool
 
 // Whether a block is, from its kind on, the entry of that time with the bytes that stand there.
 fn entry_fits(size: usize, t: &[u8], time: u64) -> bool
-    requires { (size ≤ maxSize) × (length t.now ≡ blockBytes) }
-    ensures { result ≡ same (drop checkBytes t.now) (entryBody time (heldIn size t.now)) }
+    requires { (size ≤ max_size) × (length t.now ≡ block_bytes) }
+    ensures { result ≡ same (drop check_bytes t.now) (entry_body time (held_in size t.now)) }
 {
     let e = ENTRY_HELD + size;
     let b = entry_fields(time, &t[ENTRY_HELD..e]);
@@ -175,8 +175,8 @@ fn entry_fits(size: usize, t: &[u8], time: u64) -> bool
 
 // Whether a block is, from its kind on, the mark of that time.
 fn mark_fits(size: usize, t: &[u8], time: u64) -> bool
-    requires { length t.now ≡ blockBytes }
-    ensures { result ≡ same (drop checkBytes t.now) (markBody time size) }
+    requires { length t.now ≡ block_bytes }
+    ensures { result ≡ same (drop check_bytes t.now) (mark_body time size) }
 {
     let b = mark_fields(time, size);
     same_body(t, &b)
@@ -184,16 +184,16 @@ fn mark_fits(size: usize, t: &[u8], time: u64) -> bool
 
 // Whether a block of the log says that it is a mark.
 pub fn is_mark(t: &[u8]) -> bool
-    requires { length t.now ≡ blockBytes }
-    ensures { result ≡ markIn t.now }
+    requires { length t.now ≡ block_bytes }
+    ensures { result ≡ mark_in t.now }
 {
     t[KIND] == MARK_KIND
 }
 
 // Whether a block of the log is as its kind says; the lowest is no mark.
 fn form_fits(size: usize, t: &[u8], time: u64, i: usize) -> bool
-    requires { (size ≤ maxSize) × (length t.now ≡ blockBytes) }
-    ensures { result ≡ formLow t.now i && same (drop checkBytes t.now) (formBody size t.now time) }
+    requires { (size ≤ max_size) × (length t.now ≡ block_bytes) }
+    ensures { result ≡ form_low t.now i && same (drop check_bytes t.now) (form_body size t.now time) }
 {
     if is_mark(t) {} else {
         return entry_fits(size, t, time);
@@ -206,8 +206,8 @@ fn form_fits(size: usize, t: &[u8], time: u64, i: usize) -> bool
 
 // Whether the block of entry i, or the unused block in its place, is as it should be.
 fn slot_fits(size: usize, t: &[u8], time: u64, i: usize, count: usize, last: u64) -> bool
-    requires { (size ≤ maxSize) × (length t.now ≡ blockBytes) }
-    ensures { result ≡ slotFits size t.now time i count last }
+    requires { (size ≤ max_size) × (length t.now ≡ block_bytes) }
+    ensures { result ≡ slot_fits size t.now time i count last }
 {
     if count <= i {
         return unused_fits(t);
@@ -225,8 +225,8 @@ fn slot_fits(size: usize, t: &[u8], time: u64, i: usize, count: usize, last: u64
 fn head_fits(s: Settings, brick: usize, t: &[u8], count: usize, promise: u64) -> bool
     requires settings_range { SettingsRange s }
     requires brick_lt_n { brick < s.n }
-    requires t_len { length t.now ≡ blockBytes }
-    ensures { result ≡ headFits s brick t.now count promise }
+    requires t_len { length t.now ≡ block_bytes }
+    ensures { result ≡ head_fits s brick t.now count promise }
 {
     if count < 1 {
         return false;
@@ -243,7 +243,7 @@ fn head_fits(s: Settings, brick: usize, t: &[u8], count: usize, promise: u64) ->
 
 // 1, 2 or 3, or 0 for none of them.
 pub fn lending_refusal(s: Settings, brick: usize, len: usize) -> u32
-    ensures { result ≡ lendingRefusal s brick len }
+    ensures { result ≡ lending_refusal s brick len }
 {
     let bad = s.refusal();
     if bad != PASSED {
@@ -261,7 +261,7 @@ pub fn lending_refusal(s: Settings, brick: usize, len: usize) -> u32
 // The blocks after the head, each read once, against a count.
 fn read_blocks(s: Settings, image: &[u8], count: usize) -> Scan
     requires settings_range { SettingsRange s }
-    requires image_len { length image.now ≡ imageSize s }
+    requires image_len { length image.now ≡ image_size s }
     ensures { Scanned s.size s.capacity image.now count result.checks result.fits result.log }
 {
     let size = s.size;
@@ -345,7 +345,7 @@ pub fn open(s: Settings, brick: usize, image: &[u8]) -> Opening
 
 // The number of a refused answer, 0 for an opened one.
 pub fn number_of(a: ImageAnswer) -> u32
-    ensures { result ≡ answerNumber a }
+    ensures { result ≡ answer_number a }
 {
     match a {
         ImageAnswer::Opened(_) => 0,
@@ -368,7 +368,7 @@ pub enum Shown {
 
 // A brick's promise and its newest time, from its image.
 pub fn show(s: Settings, brick: usize, image: &[u8]) -> Shown
-    ensures { result ≡ panelOf (parse s brick image.now) }
+    ensures { result ≡ panel_of (parse s brick image.now) }
 {
     let o = open(s, brick, image);
     let answer = o.answer;

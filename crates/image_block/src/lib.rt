@@ -1,11 +1,11 @@
 // The 512-byte block of a saved brick (document 01, "The saved brick").
 // inner: call `image::open`
 ghost use Rattle.std.specs.Prelude.{◌≡◌, ◌++◌, ◌+◌, ◌-◌, ◌≤◌, ◌<◌, length, drop};
-ghost use Rattle.settings.specs.Ranges.{SettingsRange, maxSize};
-ghost use Rattle.image_block.specs.Block.{blockBytes, checkBytes, heldFrom};
-ghost use Rattle.image_block.specs.Block.{weighted, checkOf, checked, sealed, headBody, headBlock, slotBody, entryBody, entryBlock};
-ghost use Rattle.image_block.specs.Block.{markBody, markBlock, unusedBlock};
-ghost use Rattle.image_block.specs.Workers.{unchecked, total, sumRowBytes, plainMost, risingMost, rowMost, pastMost};
+ghost use Rattle.settings.specs.Ranges.{SettingsRange, max_size};
+ghost use Rattle.image_block.specs.Block.{block_bytes, check_bytes, held_from};
+ghost use Rattle.image_block.specs.Block.{weighted, check_of, checked, sealed, head_body, head_block, slot_body, entry_body, entry_block};
+ghost use Rattle.image_block.specs.Block.{mark_body, mark_block, unused_block};
+ghost use Rattle.image_block.specs.Workers.{unchecked, total, sum_row_bytes, plain_most, rising_most, row_most, past_most};
 ghost use Rattle.byte_lists.specs.Lists.{zeros, same};
 
 use byte_lists::{byte, read2};
@@ -59,8 +59,8 @@ const FIRST_WEIGHTS: u32 = 62;
 
 // The sum of the bytes of a row.
 fn plain_sum(t: &[u8]) -> u32
-    requires { length t.now ≡ sumRowBytes }
-    ensures { (result ≡ total t.now) × (result ≤ plainMost) }
+    requires { length t.now ≡ sum_row_bytes }
+    ensures { (result ≡ total t.now) × (result ≤ plain_most) }
 {
     let mut part: u32 = 0;
     let mut i: usize = 0;
@@ -73,8 +73,8 @@ fn plain_sum(t: &[u8]) -> u32
 
 // The sum of the bytes of a row, the first one once, the next one twice, and so on.
 fn rising_sum(b: &[u8]) -> u32
-    requires { length b.now ≤ sumRowBytes }
-    ensures { (result ≡ weighted 1 b.now) × (result ≤ risingMost) }
+    requires { length b.now ≤ sum_row_bytes }
+    ensures { (result ≡ weighted 1 b.now) × (result ≤ rising_most) }
 {
     let mut rise: u32 = 0;
     let mut weight: u32 = 1;
@@ -89,17 +89,17 @@ fn rising_sum(b: &[u8]) -> u32
 
 // The part of a row in the check, where its first byte counts once more than `past` times.
 fn row_sum(t: &[u8], past: u32) -> u32
-    requires t_len { length t.now ≡ sumRowBytes }
-    requires past_le_past_most { past ≤ pastMost }
-    ensures { (result ≡ weighted (past + 1) t.now) × (result ≤ rowMost) }
+    requires t_len { length t.now ≡ sum_row_bytes }
+    requires past_le_past_most { past ≤ past_most }
+    ensures { (result ≡ weighted (past + 1) t.now) × (result ≤ row_most) }
 {
     rising_sum(t) + past * plain_sum(t)
 }
 
 // The check of a block: of its bytes after it. In rows of 64 bytes, whose weights the compiler knows.
 pub fn check_of(b: &[u8]) -> u32
-    requires { length b.now ≡ blockBytes }
-    ensures { result ≡ checkOf (drop checkBytes b.now) }
+    requires { length b.now ≡ block_bytes }
+    ensures { result ≡ check_of (drop check_bytes b.now) }
 {
     let mut sum: u32 = 1;
     sum += rising_sum(&b[CHECK_BYTES..ROW_BYTES]);
@@ -117,7 +117,7 @@ pub fn check_of(b: &[u8]) -> u32
 
 // Whether a block's check holds.
 pub fn check_holds(b: &[u8]) -> bool
-    requires { length b.now ≡ blockBytes }
+    requires { length b.now ≡ block_bytes }
     ensures { result ≡ checked b.now }
 {
     let found = read2(b, 0);
@@ -127,7 +127,7 @@ pub fn check_holds(b: &[u8]) -> bool
 
 // A block with its check placed in front.
 pub fn seal(b: [u8; BLOCK_BYTES]) -> [u8; BLOCK_BYTES]
-    ensures { result ≡ sealed (drop checkBytes b) }
+    ensures { result ≡ sealed (drop check_bytes b) }
 {
     let mut s = b;
     let check = check_of(&s) as u64;
@@ -140,7 +140,7 @@ pub fn seal(b: [u8; BLOCK_BYTES]) -> [u8; BLOCK_BYTES]
 pub fn head_fields(s: Settings, brick: usize, count: usize, promise: u64) -> [u8; BLOCK_BYTES]
     requires settings_range { SettingsRange s }
     requires brick_lt_n { brick < s.n }
-    ensures { result ≡ unchecked (headBody s brick count promise) }
+    ensures { result ≡ unchecked (head_body s brick count promise) }
 {
     let mut b = [0u8; BLOCK_BYTES];
     b[KIND] = HEAD_KIND;
@@ -167,15 +167,15 @@ pub fn head_fields(s: Settings, brick: usize, count: usize, promise: u64) -> [u8
 pub fn head(s: Settings, brick: usize, count: usize, promise: u64) -> [u8; BLOCK_BYTES]
     requires settings_range { SettingsRange s }
     requires brick_lt_n { brick < s.n }
-    ensures { result ≡ headBlock s brick count promise }
+    ensures { result ≡ head_block s brick count promise }
 {
     seal(head_fields(s, brick, count, promise))
 }
 
 // Zeros, with a block where that of an entry stands.
 fn held(block: &[u8]) -> [u8; BLOCK_BYTES]
-    requires { length block.now ≤ maxSize }
-    ensures { result ≡ zeros heldFrom ++ block.now ++ zeros (blockBytes - heldFrom - length block.now) }
+    requires { length block.now ≤ max_size }
+    ensures { result ≡ zeros held_from ++ block.now ++ zeros (block_bytes - held_from - length block.now) }
 {
     let mut b = [0u8; BLOCK_BYTES];
     let mut i: usize = 0;
@@ -188,8 +188,8 @@ fn held(block: &[u8]) -> [u8; BLOCK_BYTES]
 
 // A block of the log without its check: an entry, or a mark.
 fn slot_fields(kind: u8, time: u64, size: usize, block: &[u8]) -> [u8; BLOCK_BYTES]
-    requires { length block.now ≤ maxSize }
-    ensures { result ≡ unchecked (slotBody kind time size block.now) }
+    requires { length block.now ≤ max_size }
+    ensures { result ≡ unchecked (slot_body kind time size block.now) }
 {
     let mut b = held(block);
     b[KIND] = kind;
@@ -208,23 +208,23 @@ fn slot_fields(kind: u8, time: u64, size: usize, block: &[u8]) -> [u8; BLOCK_BYT
 
 // An entry without its check.
 pub fn entry_fields(time: u64, block: &[u8]) -> [u8; BLOCK_BYTES]
-    requires { length block.now ≤ maxSize }
-    ensures { result ≡ unchecked (entryBody time block.now) }
+    requires { length block.now ≤ max_size }
+    ensures { result ≡ unchecked (entry_body time block.now) }
 {
     slot_fields(ENTRY_KIND, time, block.len(), block)
 }
 
 // An entry with its check.
 pub fn entry(time: u64, block: &[u8]) -> [u8; BLOCK_BYTES]
-    requires { length block.now ≤ maxSize }
-    ensures { result ≡ entryBlock time block.now }
+    requires { length block.now ≤ max_size }
+    ensures { result ≡ entry_block time block.now }
 {
     seal(entry_fields(time, block))
 }
 
 // A mark without its check.
 pub fn mark_fields(time: u64, size: usize) -> [u8; BLOCK_BYTES]
-    ensures { result ≡ unchecked (markBody time size) }
+    ensures { result ≡ unchecked (mark_body time size) }
 {
     let none = [0u8; 1];
     slot_fields(MARK_KIND, time, size, &none[..0])
@@ -232,14 +232,14 @@ pub fn mark_fields(time: u64, size: usize) -> [u8; BLOCK_BYTES]
 
 // A mark with its check.
 pub fn mark(time: u64, size: usize) -> [u8; BLOCK_BYTES]
-    ensures { result ≡ markBlock time size }
+    ensures { result ≡ mark_block time size }
 {
     seal(mark_fields(time, size))
 }
 
 // An unused block: 510 zeros, and the check of 1 placed in front.
 pub fn unused() -> [u8; BLOCK_BYTES]
-    ensures { result ≡ unusedBlock }
+    ensures { result ≡ unused_block }
 {
     let mut b = [0u8; BLOCK_BYTES];
     b[0] = 1;
@@ -248,9 +248,9 @@ pub fn unused() -> [u8; BLOCK_BYTES]
 
 // Whether two blocks are the same but for their checks.
 pub fn same_body(a: &[u8], b: &[u8]) -> bool
-    requires a_len { length a.now ≡ blockBytes }
-    requires b_len { length b.now ≡ blockBytes }
-    ensures { result ≡ same (drop checkBytes a.now) (drop checkBytes b.now) }
+    requires a_len { length a.now ≡ block_bytes }
+    requires b_len { length b.now ≡ block_bytes }
+    ensures { result ≡ same (drop check_bytes a.now) (drop check_bytes b.now) }
 {
     byte_lists::same_bytes(&a[CHECK_BYTES..], &b[CHECK_BYTES..])
 }

@@ -1,34 +1,34 @@
 -- Document 01: "A saved brick may be opened as a view, .., giving the count and the entry at a place."
 use Rattle.std.specs.Prelude.{cond, List, ℕ, ◌+◌, ◌/◌, leb, length}
 use Rattle.std.specs.Borrow.{Bor}
-use Rattle.settings.specs.Refusal.{badLength, badNumber}
+use Rattle.settings.specs.Refusal.{bad_length, bad_number}
 use Rattle.settings.specs.declared.Settings.{Settings}
-use Rattle.image.specs.Brick.{entryCount, timeAt, markAt}
-use Rattle.image.specs.Parse.{Parsed, Opens, Refuses, parse, imageBlockAt, timeIn, markIn}
-use Rattle.image.specs.Opening.{holdingFor}
+use Rattle.image.specs.Brick.{entry_count, time_at, mark_at}
+use Rattle.image.specs.Parse.{Parsed, Opens, Refuses, parse, image_block_at, time_in, mark_in}
+use Rattle.image.specs.Opening.{holding_for}
 use Rattle.image_view.specs.declared.Counted.{Counted}
 use Rattle.image_view.specs.declared.Counted.TheVariants.{Entries}
 use Rattle.image_view.specs.declared.Found.{Found}
 use Rattle.image_view.specs.declared.Found.TheVariants.{At, Refused}
 use Rattle.image_view.specs.declared.View.{View}
 use Rattle.settings.specs.Refusal.{passed}
-use Rattle.image_block.specs.Block.{blockBytes}
+use Rattle.image_block.specs.Block.{block_bytes}
 
 -- "the count": how many entries the brick has, or why the image is refused
 unfoldable pub count_of : Parsed → Counted
-count_of (Opens x) = Entries (entryCount x)
+count_of (Opens x) = Entries (entry_count x)
 count_of (Refuses number) = Counted.Refused number
 
 -- the paper's number for each answer to "the count": 0 where there are entries, else the image's refusal
-unfoldable pub countedNumber : Counted → ℕ
-countedNumber (Entries count) = passed
-countedNumber (Counted.Refused number) = number
+unfoldable pub counted_number : Counted → ℕ
+counted_number (Entries count) = passed
+counted_number (Counted.Refused number) = number
 
 -- "the entry at a place": its time, and the place of its held block, or that it is a mark; or 3 for "a view's place not below its count"
-unfoldable pub foundOf : Parsed → ℕ → Found
-foundOf (Opens x) place =
-    cond (leb (entryCount x) place) (Refused badNumber) (At (record { time = timeAt x place; holding = holdingFor (markAt x place) place }))
-foundOf (Refuses k) place = Refused k
+unfoldable pub found_of : Parsed → ℕ → Found
+found_of (Opens x) place =
+    cond (leb (entry_count x) place) (Refused bad_number) (At (record { time = time_at x place; holding = holding_for (mark_at x place) place }))
+found_of (Refuses k) place = Refused k
 
 -- the view of a lent image: "a record holding a reference to the lent image", and the count
 abbrev pub view_of : Settings → ℕ → Bor (List ℕ) → View
@@ -37,25 +37,25 @@ view_of s brick image = record { image = image; counted = count_of (parse s bric
 -- the entry at a place, read from bytes that have n entries; 2 where they are too short for that
 unfoldable pub found_at : List ℕ → ℕ → ℕ → Found
 found_at l n place =
-    cond (leb (length l / blockBytes) n) (Refused badLength)
-    (cond (leb n place) (Refused badNumber)
-    (At (record { time = timeIn (imageBlockAt l (place + 1)); holding = holdingFor (markIn (imageBlockAt l (place + 1))) place })))
+    cond (leb (length l / block_bytes) n) (Refused bad_length)
+    (cond (leb n place) (Refused bad_number)
+    (At (record { time = time_in (image_block_at l (place + 1)); holding = holding_for (mark_in (image_block_at l (place + 1))) place })))
 
 -- the same by what opening gave
-unfoldable pub foundBy : List ℕ → Counted → ℕ → Found
-foundBy l (Entries n) place = found_at l n place
-foundBy l (Counted.Refused number) place = Refused number
+unfoldable pub found_by : List ℕ → Counted → ℕ → Found
+found_by l (Entries n) place = found_at l n place
+found_by l (Counted.Refused number) place = Refused number
 
 -- the entry at a place of a view
-abbrev pub foundIn : View → ℕ → Found
-foundIn v place = foundBy v.image.now v.counted place
+abbrev pub found_in : View → ℕ → Found
+found_in v place = found_by v.image.now v.counted place
 
 -- 0 where there is an entry
-unfoldable pub foundNumber : Found → ℕ
-foundNumber (At entry) = passed
-foundNumber (Refused number) = number
+unfoldable pub found_number : Found → ℕ
+found_number (At entry) = passed
+found_number (Refused number) = number
 
 -- the image's refusal; of one that opens, 3 for "a view's place not below its count"
-unfoldable pub placeNumber : Parsed → ℕ → ℕ
-placeNumber (Opens x) place = cond (leb (entryCount x) place) badNumber passed
-placeNumber (Refuses number) place = number
+unfoldable pub place_number : Parsed → ℕ → ℕ
+place_number (Opens x) place = cond (leb (entry_count x) place) bad_number passed
+place_number (Refuses number) place = number

@@ -1,8 +1,8 @@
 // The view of a saved brick (document 01, "The saved brick": "a record holding a reference to the lent image, giving the count and the entry at a place").
 // The functions over the struct are thin: each takes it apart or makes it, and calls a covered function on the slice and plain values.
 ghost use Rattle.std.specs.Prelude.{◌≡◌, ℕ};
-ghost use Rattle.image.specs.Parse.{parse, openRefusal};
-ghost use Rattle.image_view.specs.View.{count_of, countedNumber, found_at, foundBy, foundIn, foundOf, view_of};
+ghost use Rattle.image.specs.Parse.{parse, open_refusal};
+ghost use Rattle.image_view.specs.View.{count_of, counted_number, found_at, found_by, found_in, found_of, view_of};
 
 use byte_lists::read8;
 use image::{Entry, Holding, ImageAnswer, is_mark, number_of, open};
@@ -72,7 +72,7 @@ fn entry_at(image: &[u8], count: usize, place: usize) -> Found
 
 // The same by what opening gave.
 fn entry_by(image: &[u8], counted: Counted, place: usize) -> Found
-    ensures { result ≡ foundBy image.now counted place }
+    ensures { result ≡ found_by image.now counted place }
 {
     match counted {
         Counted::Entries(count) => entry_at(image, count, place),
@@ -83,8 +83,8 @@ fn entry_by(image: &[u8], counted: Counted, place: usize) -> Found
 // Opens a lent image as a view. Its count and its entries are those of the brick that the image holds; of a refused image both give the
 // number: 1, 2, 3, 5 or 6, as `image::open`.
 pub fn open_view<'a>(s: Settings, brick: usize, image: &'a [u8]) -> View<'a>
-    ensures { (result ≡ view_of s brick image.entry) × ((place : ℕ) → foundIn result place ≡ foundOf (parse s brick image.now) place)
-        × (countedNumber result.counted ≡ openRefusal s brick image.now) }
+    ensures { (result ≡ view_of s brick image.entry) × ((place : ℕ) → found_in result place ≡ found_of (parse s brick image.now) place)
+        × (counted_number result.counted ≡ open_refusal s brick image.now) }
 {
     let counted = count_in(s, brick, image);
     View { image, counted }
@@ -99,14 +99,14 @@ pub fn count<'a>(v: View<'a>) -> Counted
 
 // The entry at a place of the view, or 3 for a place not below the count, or why its image was refused.
 pub fn entry<'a>(v: View<'a>, place: usize) -> Found
-    ensures { result ≡ foundIn v.entry place }
+    ensures { result ≡ found_in v.entry place }
 {
     entry_by(v.image, v.counted, place)
 }
 
 // The entry at a place of a saved brick. Its parameters are plain, so whoever calls it needs no walk.
 pub fn look(s: Settings, brick: usize, image: &[u8], place: usize) -> Found
-    ensures { result ≡ foundOf (parse s brick image.now) place }
+    ensures { result ≡ found_of (parse s brick image.now) place }
 {
     entry(open_view(s, brick, image), place)
 }

@@ -1,15 +1,15 @@
 // Changing a saved brick where it is lent: a fresh one, its head, an entry more, entries less.
 ghost use Rattle.std.specs.Prelude.{◌≡◌, ◌+◌, ◌-◌, ◌*◌, ◌≤◌, ◌<◌, length};
 ghost use Rattle.settings.specs.Ranges.{SettingsRange};
-ghost use Rattle.image_block.specs.Block.{headBlock, entryBlock, markBlock};
+ghost use Rattle.image_block.specs.Block.{head_block, entry_block, mark_block};
 ghost use Rattle.byte_lists.specs.Lists.{put, zeros};
-ghost use Rattle.image.specs.Image.{imageSize, image_of};
-ghost use Rattle.image.specs.Brick.{freshBrick};
-ghost use Rattle.image.specs.Opening.{lendingRefusal};
-ghost use Rattle.image_write.specs.Saving.{freshAfter};
-ghost use Rattle.image_write.specs.Workers.{cleared, shifted, heldOwn};
-ghost use Rattle.image_block.specs.Block.{blockBytes};
-ghost use Rattle.settings.specs.Ranges.{maxSize};
+ghost use Rattle.image.specs.Image.{image_size, image_of};
+ghost use Rattle.image.specs.Brick.{fresh_brick};
+ghost use Rattle.image.specs.Opening.{lending_refusal};
+ghost use Rattle.image_write.specs.Saving.{fresh_after};
+ghost use Rattle.image_write.specs.Workers.{cleared, shifted, held_own};
+ghost use Rattle.image_block.specs.Block.{block_bytes};
+ghost use Rattle.settings.specs.Ranges.{max_size};
 
 use byte_lists::store;
 use image::lending_refusal;
@@ -20,8 +20,8 @@ use settings::{MAX_SIZE, PASSED, Settings};
 pub fn write_head(s: Settings, brick: usize, image: &mut [u8], count: usize, promise: u64)
     requires settings_range { SettingsRange s }
     requires brick_lt_n { brick < s.n }
-    requires image_len { length image.old ≡ imageSize s }
-    ensures { image.new ≡ put 0 (headBlock s brick count promise) image.old }
+    requires image_len { length image.old ≡ image_size s }
+    ensures { image.new ≡ put 0 (head_block s brick count promise) image.old }
 {
     let b = head(s, brick, count, promise);
     store(image, 0, &b);
@@ -29,8 +29,8 @@ pub fn write_head(s: Settings, brick: usize, image: &mut [u8], count: usize, pro
 
 // An entry, written from a place on: 512 bytes.
 pub fn write_entry(image: &mut [u8], at: usize, time: u64, block: &[u8])
-    requires { (at + blockBytes ≤ length image.old) × (length block.now ≤ maxSize) }
-    ensures { image.new ≡ put at (entryBlock time block.now) image.old }
+    requires { (at + block_bytes ≤ length image.old) × (length block.now ≤ max_size) }
+    ensures { image.new ≡ put at (entry_block time block.now) image.old }
 {
     let b = entry(time, block);
     store(image, at, &b);
@@ -38,8 +38,8 @@ pub fn write_entry(image: &mut [u8], at: usize, time: u64, block: &[u8])
 
 // A mark, written from a place on: 512 bytes.
 pub fn write_mark(image: &mut [u8], at: usize, time: u64, size: usize)
-    requires { at + blockBytes ≤ length image.old }
-    ensures { image.new ≡ put at (markBlock time size) image.old }
+    requires { at + block_bytes ≤ length image.old }
+    ensures { image.new ≡ put at (mark_block time size) image.old }
 {
     let b = mark(time, size);
     store(image, at, &b);
@@ -47,7 +47,7 @@ pub fn write_mark(image: &mut [u8], at: usize, time: u64, size: usize)
 
 // The blocks from one number up to another, made unused.
 pub fn clear_blocks(image: &mut [u8], from: usize, to: usize)
-    requires { (from ≤ to) × (blockBytes * to ≤ length image.old) }
+    requires { (from ≤ to) × (block_bytes * to ≤ length image.old) }
     ensures { image.new ≡ cleared from (to - from) image.old }
 {
     let b = unused();
@@ -60,7 +60,7 @@ pub fn clear_blocks(image: &mut [u8], from: usize, to: usize)
 
 // A copy of a block.
 fn copied(part: &[u8]) -> [u8; BLOCK_BYTES]
-    requires { length part.now ≡ blockBytes }
+    requires { length part.now ≡ block_bytes }
     ensures { result ≡ part.now }
 {
     let mut b = [0u8; BLOCK_BYTES];
@@ -74,9 +74,9 @@ fn copied(part: &[u8]) -> [u8; BLOCK_BYTES]
 
 // An entry's block, which stands in another block of the image, written into the entry's own; nothing to do where it stands there.
 pub fn hold_own(image: &mut [u8], size: usize, own: usize, holder: usize, time: u64)
-    requires size_le_max_size { size ≤ maxSize }
-    requires own_in_bounds { (holder ≡ own → ⊥) → (blockBytes * (own + 1) ≤ length image.old) × (blockBytes * (holder + 1) ≤ length image.old) }
-    ensures { image.new ≡ heldOwn size own holder time image.old }
+    requires size_le_max_size { size ≤ max_size }
+    requires own_in_bounds { (holder ≡ own → ⊥) → (block_bytes * (own + 1) ≤ length image.old) × (block_bytes * (holder + 1) ≤ length image.old) }
+    ensures { image.new ≡ held_own size own holder time image.old }
 {
     if holder == own {
         return;
@@ -90,7 +90,7 @@ pub fn hold_own(image: &mut [u8], size: usize, own: usize, holder: usize, time: 
 
 // The `kept` entries above the d that go from place `from` on, moved down to it.
 pub fn shift_blocks(image: &mut [u8], from: usize, d: usize, kept: usize)
-    requires { blockBytes * (from + d + kept + 1) ≤ length image.old }
+    requires { block_bytes * (from + d + kept + 1) ≤ length image.old }
     ensures { image.new ≡ shifted from d kept image.old }
 {
     let mut k: usize = 0;
@@ -105,8 +105,8 @@ pub fn shift_blocks(image: &mut [u8], from: usize, d: usize, kept: usize)
 
 // The first entry of a fresh brick: time 0, a zero block.
 fn write_zero_entry(image: &mut [u8], size: usize)
-    requires { (2 * blockBytes ≤ length image.old) × (size ≤ maxSize) }
-    ensures { image.new ≡ put blockBytes (entryBlock 0 (zeros size)) image.old }
+    requires { (2 * block_bytes ≤ length image.old) × (size ≤ max_size) }
+    ensures { image.new ≡ put block_bytes (entry_block 0 (zeros size)) image.old }
 {
     let zero = [0u8; MAX_SIZE];
     write_entry(image, BLOCK_BYTES, 0, &zero[..size]);
@@ -116,8 +116,8 @@ fn write_zero_entry(image: &mut [u8], size: usize)
 fn fill_fresh(s: Settings, brick: usize, image: &mut [u8])
     requires settings_range { SettingsRange s }
     requires brick_lt_n { brick < s.n }
-    requires image_len { length image.old ≡ imageSize s }
-    ensures { image.new ≡ image_of s brick (freshBrick s) }
+    requires image_len { length image.old ≡ image_size s }
+    ensures { image.new ≡ image_of s brick (fresh_brick s) }
 {
     write_head(s, brick, image, 1, 0);
     write_zero_entry(image, s.size);
@@ -126,8 +126,8 @@ fn fill_fresh(s: Settings, brick: usize, image: &mut [u8])
 
 // Writes a fresh brick into the lent image, or gives the refusal.
 pub fn write_fresh(s: Settings, brick: usize, image: &mut [u8]) -> u32
-    ensures value { result ≡ lendingRefusal s brick (length image.old) }
-    ensures image_after { image.new ≡ freshAfter s brick image.old }
+    ensures value { result ≡ lending_refusal s brick (length image.old) }
+    ensures image_after { image.new ≡ fresh_after s brick image.old }
 {
     let bad = lending_refusal(s, brick, image.len());
     if bad != PASSED {

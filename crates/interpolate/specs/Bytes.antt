@@ -13,8 +13,8 @@ abbrev pub byte : ℕ → Byte
 byte n = (n % 256, lt→ltb (n % 256) 256 (mod-lt n (omega arith)))
 
 -- The field of document 01: each byte is its own negative.
-abbrev pub byteField : Field
-byteField = record {
+abbrev pub byte_field : Field
+byte_field = record {
   carrier = Byte;
   zero = byte 0;
   one = byte 1;

@@ -3,14 +3,14 @@ use Rattle.std.specs.Prelude.{cond, List, [], ◌∷◌, ◌≡◌, ℕ, suc, �
 use Rattle.byte_lists.specs.Lists.{tabulate}
 use Rattle.gf256.specs.Product.{plus, product, inverse}
 use Rattle.gf256.specs.Tables.{IsPowers, IsLogs}
-use Rattle.interpolate.specs.Bytes.{Byte, byte, byteField}
+use Rattle.interpolate.specs.Bytes.{Byte, byte, byte_field}
 use Rattle.interpolate.specs.Values.{PointSet}
-use Rattle.poly.specs.Polynomial.{rootsTo, othersTo, basis}
+use Rattle.poly.specs.Polynomial.{roots_to, others_to, basis}
 
 -- the place of the first x in a list, its length if there is none
-unfoldable pub firstPlace : List ℕ → ℕ → ℕ
-firstPlace [] x = 0
-firstPlace (b ∷ bs) x = cond (eqb b x) 0 (suc (firstPlace bs x))
+unfoldable pub first_place : List ℕ → ℕ → ℕ
+first_place [] x = 0
+first_place (b ∷ bs) x = cond (eqb b x) 0 (suc (first_place bs x))
 
 -- a block and another one times w, added byte by byte
 unfoldable pub scaled : ℕ → List ℕ → List ℕ → List ℕ
@@ -22,15 +22,15 @@ points_of points k = byte (get_or points k 0)
 
 -- the product of x − b over the first k points b
 unfoldable pub numerator : List ℕ → ℕ → ℕ → ℕ
-numerator points x k = (rootsTo byteField k (points_of points) (byte x)).0
+numerator points x k = (roots_to byte_field k (points_of points) (byte x)).0
 
 -- the product of b − c over the first k points c but b, which is point i
 unfoldable pub denominator : List ℕ → ℕ → ℕ → ℕ
-denominator points i k = (othersTo byteField k (points_of points) i (points_of points i)).0
+denominator points i k = (others_to byte_field k (points_of points) i (points_of points i)).0
 
 -- Lagrange's weight of point i at x
 unfoldable pub weight : List ℕ → ℕ → ℕ → ℕ
-weight points i x = (basis byteField (length points) (points_of points) i (byte x)).0
+weight points i x = (basis byte_field (length points) (points_of points) i (byte x)).0
 
 -- for each point, the product of its differences to the first k points but itself
 pub record Differences (points : List ℕ) (k : ℕ) (products : List ℕ) : Type 0 where

@@ -5,14 +5,14 @@
 ghost use Rattle.std.specs.Prelude.{cond, ◌≡◌, ℕ, ◌+◌, ◌*◌, ◌<◌, ◌≤◌, length, get_or};
 ghost use Rattle.gf256.specs.Product.{product, inverse, twice};
 ghost use Rattle.gf256.specs.Tables.{IsPowers, IsLogs};
-ghost use Rattle.settings.specs.Ranges.{maxBricks, maxSize};
-ghost use Rattle.interpolate.specs.Workers.{firstPlace, scaled, weight, numerator, Differences, Shares, Weights, PointsReady, Apart};
-ghost use Rattle.interpolate.specs.Values.{PointSet, block_at, blocksAt, blocksFit};
+ghost use Rattle.settings.specs.Ranges.{max_bricks, max_size};
+ghost use Rattle.interpolate.specs.Workers.{first_place, scaled, weight, numerator, Differences, Shares, Weights, PointsReady, Apart};
+ghost use Rattle.interpolate.specs.Values.{PointSet, block_at, blocks_at, blocks_fit};
 ghost use Rattle.byte_lists.specs.Lists.{same};
 
 // Where x first stands in a list; the list's length if nowhere.
 pub fn position(list: &[u8], x: u8) -> usize
-    ensures { result ≡ firstPlace list.now x }
+    ensures { result ≡ first_place list.now x }
 {
     let mut i = 0;
     while i < list.len() {
@@ -285,8 +285,8 @@ fn row(
 pub fn interpolate(points: &[u8], size: usize, blocks: &[u8], count: usize, out: &mut [u8])
     requires point_set { PointSet points.now }
     requires blocks_len { length blocks.now ≡ length points.now * size }
-    requires out_len { (length out.old ≡ count * size) × (count ≤ maxBricks) }
-    ensures { out.new ≡ blocksAt points.now size blocks.now count }
+    requires out_len { (length out.old ≡ count * size) × (count ≤ max_bricks) }
+    ensures { out.new ≡ blocks_at points.now size blocks.now count }
 {
     let powers = gf256::powers();
     let logs = gf256::logs();
@@ -345,7 +345,7 @@ fn all_fit(
     requires apart { Apart points.now further.now }
     requires blocks_len { length blocks.now ≡ length points.now * length made.old }
     requires given_len { length given.now ≡ length further.now * length made.old }
-    ensures { result ≡ blocksFit points.now (length made.old) blocks.now further.now given.now }
+    ensures { result ≡ blocks_fit points.now (length made.old) blocks.now further.now given.now }
 {
     let size = made.len();
     let mut f = 0;
@@ -374,9 +374,9 @@ fn all_fit(
 fn further_fit(points: &[u8], size: usize, blocks: &[u8], further: &[u8], given: &[u8]) -> bool
     requires point_set { PointSet points.now }
     requires apart { Apart points.now further.now }
-    requires blocks_len { (length blocks.now ≡ length points.now * size) × (size ≤ maxSize) }
+    requires blocks_len { (length blocks.now ≡ length points.now * size) × (size ≤ max_size) }
     requires given_len { length given.now ≡ length further.now * size }
-    ensures { result ≡ blocksFit points.now size blocks.now further.now given.now }
+    ensures { result ≡ blocks_fit points.now size blocks.now further.now given.now }
 {
     if further.len() == 0 {
         return true;
@@ -411,11 +411,11 @@ pub fn interpolate_checked(
 ) -> bool
     requires point_set { PointSet points.now }
     requires apart { Apart points.now further.now }
-    requires blocks_len { (length blocks.now ≡ length points.now * size) × (size ≤ maxSize) }
+    requires blocks_len { (length blocks.now ≡ length points.now * size) × (size ≤ max_size) }
     requires given_len { length given.now ≡ length further.now * size }
-    requires out_len { (length out.old ≡ count * size) × (count ≤ maxBricks) }
-    ensures value { result ≡ blocksFit points.now size blocks.now further.now given.now }
-    ensures out_after { out.new ≡ cond result (blocksAt points.now size blocks.now count) out.old }
+    requires out_len { (length out.old ≡ count * size) × (count ≤ max_bricks) }
+    ensures value { result ≡ blocks_fit points.now size blocks.now further.now given.now }
+    ensures out_after { out.new ≡ cond result (blocks_at points.now size blocks.now count) out.old }
 {
     if further_fit(points, size, blocks, further, given) {
         interpolate(points, size, blocks, count, out);

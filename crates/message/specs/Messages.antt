@@ -3,72 +3,72 @@
 -- E2: "Refusal 10 allows a block read's single target, and 0 as Modify's old time." A field that a kind has no use for is not looked at.
 -- The stripe is refusal 13 and the number of a data block 14, both tested before.
 use Rattle.std.specs.Prelude.{Bool, true, cond, not, ◌&&◌, ◌||◌, List, [], ◌∷◌, ℕ, eqb, leb, ltb}
-use Rattle.message.specs.Flags.{brickSet}
-use Rattle.message.specs.Kinds.{readKind, orderReadKind, orderBlockKind, writeKind, modifyKind, trimKind, dropKind, blockTargets, lastRound, firstRound}
-use Rattle.message.specs.Kinds.{noComparison, newerTime, promiseAhead, fullLog}
+use Rattle.message.specs.Flags.{brick_set}
+use Rattle.message.specs.Kinds.{read_kind, order_read_kind, order_block_kind, write_kind, modify_kind, trim_kind, drop_kind, block_targets, last_round, first_round}
+use Rattle.message.specs.Kinds.{no_comparison, newer_time, promise_ahead, full_log}
 use Rattle.message.specs.declared.Message.{Message}
 use Rattle.message.specs.declared.Reply.{Reply}
-use Rattle.settings.specs.Refusal.{passed, refuseUnless, firstRefusal, badNumber, badMessage}
-use Rattle.settings.specs.Ranges.{dataBlockRefusal}
-use Rattle.settings.specs.Times.{validTime, noUpperEnd}
+use Rattle.settings.specs.Refusal.{passed, refuse_unless, first_refusal, bad_number, bad_message}
+use Rattle.settings.specs.Ranges.{data_block_refusal}
+use Rattle.settings.specs.Times.{valid_time, no_upper_end}
 
-unfoldable pub roundRight : ℕ → Bool
-roundRight round = leb firstRound round && leb round lastRound
+unfoldable pub round_right : ℕ → Bool
+round_right round = leb first_round round && leb round last_round
 
 -- the newest or entry time in a reply, and Modify's old time
-unfoldable pub foundRight : ℕ → Bool
-foundRight t = eqb t 0 || validTime t
+unfoldable pub found_right : ℕ → Bool
+found_right t = eqb t 0 || valid_time t
 
 -- Read's targets: m different bricks, or one data brick
-unfoldable pub targetsRight : ℕ → ℕ → List ℕ → Bool
-targetsRight n m targets = brickSet targets n m || brickSet targets m blockTargets
+unfoldable pub targets_right : ℕ → ℕ → List ℕ → Bool
+targets_right n m targets = brick_set targets n m || brick_set targets m block_targets
 
 -- the rules that a kind adds: Order-and-read has a max, Read has targets, Modify has an old time
-unfoldable pub kindRight : ℕ → ℕ → Message → Bool
-kindRight n m msg =
-    cond (eqb msg.kind orderReadKind) (leb msg.max noUpperEnd)
-    (cond (eqb msg.kind readKind) (targetsRight n m msg.targets)
-    (cond (eqb msg.kind modifyKind) (foundRight msg.old) (leb readKind msg.kind && leb msg.kind dropKind)))
+unfoldable pub kind_right : ℕ → ℕ → Message → Bool
+kind_right n m msg =
+    cond (eqb msg.kind order_read_kind) (leb msg.max no_upper_end)
+    (cond (eqb msg.kind read_kind) (targets_right n m msg.targets)
+    (cond (eqb msg.kind modify_kind) (found_right msg.old) (leb read_kind msg.kind && leb msg.kind drop_kind)))
 
-unfoldable pub messageRefusal : ℕ → ℕ → Message → ℕ
-messageRefusal n m msg = refuseUnless (validTime msg.time && roundRight msg.round && kindRight n m msg) badMessage
+unfoldable pub message_refusal : ℕ → ℕ → Message → ℕ
+message_refusal n m msg = refuse_unless (valid_time msg.time && round_right msg.round && kind_right n m msg) bad_message
 
 -- E2: these two name a data block
-unfoldable pub namesBlock : ℕ → Bool
-namesBlock kind = eqb kind orderBlockKind || eqb kind modifyKind
+unfoldable pub names_block : ℕ → Bool
+names_block kind = eqb kind order_block_kind || eqb kind modify_kind
 
 -- refusal 14 of a message, where it names a data block
-unfoldable pub messageBlockRefusal : (m : ℕ) → Message → ℕ
-messageBlockRefusal m msg = cond (namesBlock msg.kind) (dataBlockRefusal m msg.block) passed
+unfoldable pub message_block_refusal : (m : ℕ) → Message → ℕ
+message_block_refusal m msg = cond (names_block msg.kind) (data_block_refusal m msg.block) passed
 
 -- "Trim t: no reply"; E6: "a Drop has no reply"
-unfoldable pub isSilent : ℕ → Bool
-isSilent kind = eqb kind trimKind || eqb kind dropKind
+unfoldable pub is_silent : ℕ → Bool
+is_silent kind = eqb kind trim_kind || eqb kind drop_kind
 
 -- these two store an entry, and so need a free one
-unfoldable pub storesEntry : ℕ → Bool
-storesEntry kind = eqb kind writeKind || eqb kind modifyKind
+unfoldable pub stores_entry : ℕ → Bool
+stores_entry kind = eqb kind write_kind || eqb kind modify_kind
 
 -- E5: the comparisons that an answer of a kind makes: every one with the promise, each but Read's with the newest time, and of what stores an
 -- entry with a full log
 unfoldable pub compares : (kind comparison : ℕ) → Bool
 compares kind comparison =
-    cond (eqb comparison newerTime) (not (eqb kind readKind))
-    (cond (eqb comparison promiseAhead) true (eqb comparison fullLog && storesEntry kind))
+    cond (eqb comparison newer_time) (not (eqb kind read_kind))
+    (cond (eqb comparison promise_ahead) true (eqb comparison full_log && stores_entry kind))
 
 -- E5: "One missing on a no, or one that the reply's kind or answer doesn't allow, is refusal 10."
-unfoldable pub comparisonRight : (kind : ℕ) → (granted : Bool) → (comparison : ℕ) → Bool
-comparisonRight kind granted comparison = cond granted (eqb comparison noComparison) (compares kind comparison)
+unfoldable pub comparison_right : (kind : ℕ) → (granted : Bool) → (comparison : ℕ) → Bool
+comparison_right kind granted comparison = cond granted (eqb comparison no_comparison) (compares kind comparison)
 
 -- a reply's own fields; its brick is refusal 3
-unfoldable pub replyRight : Reply → Bool
-replyRight r =
-    leb readKind r.kind && leb r.kind modifyKind && validTime r.time && roundRight r.round && foundRight r.found
-    && comparisonRight r.kind r.yes r.comparison
+unfoldable pub reply_right : Reply → Bool
+reply_right r =
+    leb read_kind r.kind && leb r.kind modify_kind && valid_time r.time && round_right r.round && found_right r.found
+    && comparison_right r.kind r.yes r.comparison
 
-unfoldable pub replyRefusal : ℕ → Reply → ℕ
-replyRefusal n r =
-    firstRefusal
-    (refuseUnless (ltb r.brick n) badNumber
-    ∷ refuseUnless (replyRight r) badMessage
+unfoldable pub reply_refusal : ℕ → Reply → ℕ
+reply_refusal n r =
+    first_refusal
+    (refuse_unless (ltb r.brick n) bad_number
+    ∷ refuse_unless (reply_right r) bad_message
     ∷ [])

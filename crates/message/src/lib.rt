@@ -2,12 +2,12 @@
 // so that an unknown kind can be refused. A block goes beside them in a slice.
 // inner: call `volume::receive`
 ghost use Rattle.std.specs.Prelude.{◌≡◌, ◌≤◌, ltb};
-ghost use Rattle.settings.specs.Count.{one-if};
-ghost use Rattle.settings.specs.Ranges.{maxBricks};
-ghost use Rattle.message.specs.Flags.{members, flagsWithin, brickSet};
-ghost use Rattle.message.specs.Messages.{roundRight, foundRight, targetsRight, kindRight, messageRefusal};
-ghost use Rattle.message.specs.Messages.{namesBlock, messageBlockRefusal, replyRight, replyRefusal};
-ghost use Rattle.message.specs.Messages.{isSilent, storesEntry, compares, comparisonRight};
+ghost use Rattle.settings.specs.Count.{one_if};
+ghost use Rattle.settings.specs.Ranges.{max_bricks};
+ghost use Rattle.message.specs.Flags.{members, flags_within, brick_set};
+ghost use Rattle.message.specs.Messages.{round_right, found_right, targets_right, kind_right, message_refusal};
+ghost use Rattle.message.specs.Messages.{names_block, message_block_refusal, reply_right, reply_refusal};
+ghost use Rattle.message.specs.Messages.{is_silent, stores_entry, compares, comparison_right};
 
 pub const READ: u8 = 1;
 
@@ -78,7 +78,7 @@ pub struct Reply {
 
 // How many bricks below n are in a set.
 pub fn members_of(flags: [u8; settings::MAX_BRICKS], n: usize) -> usize
-    requires { n ≤ maxBricks }
+    requires { n ≤ max_bricks }
     ensures { result ≡ members flags n }
 {
     let mut sum = 0;
@@ -94,7 +94,7 @@ pub fn members_of(flags: [u8; settings::MAX_BRICKS], n: usize) -> usize
 
 // 1 for a brick below n, else 0.
 fn most(i: usize, n: usize) -> u8
-    ensures { result ≡ one-if (ltb i n) }
+    ensures { result ≡ one_if (ltb i n) }
 {
     if i < n {
         return 1;
@@ -104,7 +104,7 @@ fn most(i: usize, n: usize) -> u8
 
 // Whether the flags are 0 or 1, and 0 for what is no brick below n.
 pub fn flags_within(flags: [u8; settings::MAX_BRICKS], n: usize) -> bool
-    ensures { result ≡ flagsWithin flags n maxBricks }
+    ensures { result ≡ flags_within flags n max_bricks }
 {
     let mut i = 0;
     while i < settings::MAX_BRICKS {
@@ -118,15 +118,15 @@ pub fn flags_within(flags: [u8; settings::MAX_BRICKS], n: usize) -> bool
 
 // Whether a round's number is 1 to the last.
 pub fn round_right(round: u64) -> bool
-    ensures { result ≡ roundRight round }
+    ensures { result ≡ round_right round }
 {
     FIRST_ROUND <= round && round <= LAST_ROUND
 }
 
 // Whether the flags are those of m bricks below n.
 pub fn brick_set(flags: [u8; settings::MAX_BRICKS], n: usize, m: usize) -> bool
-    requires { n ≤ maxBricks }
-    ensures { result ≡ brickSet flags n m }
+    requires { n ≤ max_bricks }
+    ensures { result ≡ brick_set flags n m }
 {
     if flags_within(flags, n) {
         return members_of(flags, n) == m;
@@ -136,8 +136,8 @@ pub fn brick_set(flags: [u8; settings::MAX_BRICKS], n: usize, m: usize) -> bool
 
 // Whether the flags are those of m bricks below n, or of one brick below m.
 fn targets_right(targets: [u8; settings::MAX_BRICKS], n: usize, m: usize) -> bool
-    requires { (n ≤ maxBricks) × (m ≤ maxBricks) }
-    ensures { result ≡ targetsRight n m targets }
+    requires { (n ≤ max_bricks) × (m ≤ max_bricks) }
+    ensures { result ≡ targets_right n m targets }
 {
     if brick_set(targets, n, m) {
         return true;
@@ -147,7 +147,7 @@ fn targets_right(targets: [u8; settings::MAX_BRICKS], n: usize, m: usize) -> boo
 
 // Whether a number is 0 or a valid time.
 fn found_right(t: u64) -> bool
-    ensures { result ≡ foundRight t }
+    ensures { result ≡ found_right t }
 {
     if t == 0 {
         return true;
@@ -157,7 +157,7 @@ fn found_right(t: u64) -> bool
 
 // Whether messages of a kind name a data block.
 pub fn names_block(kind: u8) -> bool
-    ensures { result ≡ namesBlock kind }
+    ensures { result ≡ names_block kind }
 {
     if kind == ORDER_BLOCK {
         return true;
@@ -167,7 +167,7 @@ pub fn names_block(kind: u8) -> bool
 
 // Whether messages of a kind have no reply.
 pub fn is_silent(kind: u8) -> bool
-    ensures { result ≡ isSilent kind }
+    ensures { result ≡ is_silent kind }
 {
     if kind == TRIM {
         return true;
@@ -177,7 +177,7 @@ pub fn is_silent(kind: u8) -> bool
 
 // Whether messages of a kind store an entry.
 pub fn stores_entry(kind: u8) -> bool
-    ensures { result ≡ storesEntry kind }
+    ensures { result ≡ stores_entry kind }
 {
     if kind == WRITE {
         return true;
@@ -203,7 +203,7 @@ fn makes_comparison(kind: u8, comparison: u8) -> bool
 
 // Whether a reply of a kind has the comparison that its answer allows: none on a yes, one that the kind makes on a no.
 pub fn comparison_right(kind: u8, granted: bool, comparison: u8) -> bool
-    ensures { result ≡ comparisonRight kind granted comparison }
+    ensures { result ≡ comparison_right kind granted comparison }
 {
     if granted {
         return comparison == NO_COMPARISON;
@@ -214,8 +214,8 @@ pub fn comparison_right(kind: u8, granted: bool, comparison: u8) -> bool
 impl Message {
     // The rules that a kind adds.
     fn kind_right(self, n: usize, m: usize) -> bool
-        requires { (n ≤ maxBricks) × (m ≤ maxBricks) }
-        ensures { result ≡ kindRight n m self }
+        requires { (n ≤ max_bricks) × (m ≤ max_bricks) }
+        ensures { result ≡ kind_right n m self }
     {
         if self.kind == ORDER_READ {
             return self.max <= settings::NO_UPPER_END;
@@ -232,7 +232,7 @@ impl Message {
 
     // 14 where it names a data block that a stripe does not have, else 0.
     pub fn block_refusal(self, m: usize) -> u32
-        ensures { result ≡ messageBlockRefusal m self }
+        ensures { result ≡ message_block_refusal m self }
     {
         if names_block(self.kind) {
             return settings::data_block_refusal(m, self.block);
@@ -242,8 +242,8 @@ impl Message {
 
     // 10 for a message that no coordinator sends, else 0.
     pub fn refusal(self, n: usize, m: usize) -> u32
-        requires { (n ≤ maxBricks) × (m ≤ maxBricks) }
-        ensures { result ≡ messageRefusal n m self }
+        requires { (n ≤ max_bricks) × (m ≤ max_bricks) }
+        ensures { result ≡ message_refusal n m self }
     {
         if settings::is_time(self.time) {
             if round_right(self.round) {
@@ -259,7 +259,7 @@ impl Message {
 impl Reply {
     // Whether the fields are such as a brick gives.
     fn right(self) -> bool
-        ensures { result ≡ replyRight self }
+        ensures { result ≡ reply_right self }
     {
         if self.kind < READ {
             return false;
@@ -279,7 +279,7 @@ impl Reply {
 
     // 3 for a brick not below n, 10 for a reply that no brick gives, else 0.
     pub fn refusal(self, n: usize) -> u32
-        ensures { result ≡ replyRefusal n self }
+        ensures { result ≡ reply_refusal n self }
     {
         if n <= self.brick {
             return settings::BAD_NUMBER;

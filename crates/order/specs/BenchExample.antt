@@ -36,20 +36,20 @@ abbrev pub first_read : History one_byte
 first_read = ended 33 (recovered (bytes nought)) ∷ stored 2 33 ∷ stored 1 33 ∷ reading
 
 -- "up 0; read 1 3 0; carry 28 31 29 32 33 36 34 37": brick 0 shows 16 and brick 1 shows 33; 33 is the higher
-abbrev pub reading-again : History one_byte
-reading-again = launched 49 (over 33) ∷ promised 1 49 ∷ promised 0 49 ∷ showed 1 49 33 ∷ showed 0 49 16 ∷ began 49 read ∷ first_read
+abbrev pub reading_again : History one_byte
+reading_again = launched 49 (over 33) ∷ promised 1 49 ∷ promised 0 49 ∷ showed 1 49 33 ∷ showed 0 49 16 ∷ began 49 read ∷ first_read
 
 -- "carry 38 41 39 42"
-abbrev pub bench-history : History one_byte
-bench-history = ended 49 (recovered (bytes nought)) ∷ stored 1 49 ∷ stored 0 49 ∷ reading-again
+abbrev pub bench_history : History one_byte
+bench_history = ended 49 (recovered (bytes nought)) ∷ stored 1 49 ∷ stored 0 49 ∷ reading_again
 
 abbrev pub BenchIsValid : Type 0
-BenchIsValid = Valid three bench-history
+BenchIsValid = Valid three bench_history
 
 -- What is seen of it: the bench prints these ends.
 abbrev pub BenchIsSeen : Type 0
 BenchIsSeen =
-    seen bench-history
+    seen bench_history
     ≡ Seen.began 16 (write ten) ∷ Seen.ended 16 Ending.cut
     ∷ Seen.began 33 read ∷ Seen.ended 33 (finished (bytes nought))
     ∷ Seen.began 49 read ∷ Seen.ended 49 (finished (bytes nought)) ∷ []
@@ -57,4 +57,4 @@ BenchIsSeen =
 -- The order: the write is nowhere, the two reads stand in turn.
 abbrev pub BenchHasOneOrder : Type 0
 BenchHasOneOrder =
-    (o : OneOrder one_byte (seen bench-history)) × (o.order ≡ record { time = 33; kind = read } ∷ record { time = 49; kind = read } ∷ [])
+    (o : OneOrder one_byte (seen bench_history)) × (o.order ≡ record { time = 33; kind = read } ∷ record { time = 49; kind = read } ∷ [])

@@ -22,8 +22,8 @@ pub record Blocks (S B : Type 0) : Type 0 where
 pub data Action {S B : Type 0} (blocks : Blocks S B) : Type 0 where
   read : Action blocks
   write : S → Action blocks
-  readBlock : ℕ → Action blocks
-  writeBlock : ℕ → B → Action blocks
+  read_block : ℕ → Action blocks
+  write_block : ℕ → B → Action blocks
 
 -- and what they give: ok, the bytes that were read, or the block.
 pub data Result (S B : Type 0) : Type 0 where
@@ -36,14 +36,14 @@ pub data Result (S B : Type 0) : Type 0 where
 unfoldable pub changed : {S B : Type 0} {blocks : Blocks S B} → Action blocks → S → S
 changed read s = s
 changed (write v) s = v
-changed (readBlock j) s = s
-changed {S} {B} {blocks} (writeBlock j b) s = blocks.set j b s
+changed (read_block j) s = s
+changed {S} {B} {blocks} (write_block j b) s = blocks.set j b s
 
 unfoldable pub given : {S B : Type 0} {blocks : Blocks S B} → Action blocks → S → Result S B
 given read s = bytes s
 given (write v) s = ok
-given {S} {B} {blocks} (readBlock j) s = block (blocks.at j s)
-given (writeBlock j b) s = ok
+given {S} {B} {blocks} (read_block j) s = block (blocks.at j s)
+given (write_block j b) s = ok
 
 -- The plain stripe of document 01 with the operations of E2, by its blocks and its zeros.
 abbrev pub stripe : {S B : Type 0} → Blocks S B → S → Plain

@@ -13,7 +13,7 @@ pub data Source : Type 0 where
 pub data End (P : Plain) : Type 0 where
   written : P.Given → End P
   recovered : P.Given → End P
-  one-round : ℕ → P.Given → End P
+  one_round : ℕ → P.Given → End P
   aborted : End P
   cut : End P
 
@@ -35,12 +35,12 @@ abbrev pub History : Plain → Type 0
 History P = List (Fact P)
 
 -- What is seen of a history: beginnings and ends, in the order of the events.
-unfoldable pub endingOf : {P : Plain} → End P → Ending P
-endingOf (written g) = Ending.finished g
-endingOf (recovered g) = Ending.finished g
-endingOf (one-round c g) = Ending.finished g
-endingOf aborted = Ending.aborted
-endingOf cut = Ending.cut
+unfoldable pub ending_of : {P : Plain} → End P → Ending P
+ending_of (written g) = Ending.finished g
+ending_of (recovered g) = Ending.finished g
+ending_of (one_round c g) = Ending.finished g
+ending_of aborted = Ending.aborted
+ending_of cut = Ending.cut
 
 unfoldable pub shows : {P : Plain} → Fact P → List (Seen P)
 shows (began t k) = Seen.began t k ∷ []
@@ -48,7 +48,7 @@ shows (promised b t) = []
 shows (launched t s) = []
 shows (stored b t) = []
 shows (showed b t c) = []
-shows (ended t e) = Seen.ended t (endingOf e) ∷ []
+shows (ended t e) = Seen.ended t (ending_of e) ∷ []
 
 unfoldable pub seen : {P : Plain} → History P → List (Seen P)
 seen [] = []

@@ -1,6 +1,6 @@
 -- What one order means for those who read and write: the words for it, of any list of what is seen.
 use Rattle.std.specs.Prelude.{◌≡◌, ◌⊎◌, List, ◌∷◌, ◌++◌, ℕ}
-use Rattle.order.specs.Claim.{Plain, Blocks, Result, write, readBlock, writeBlock, bytes, stripe, Ending, finished, Seen, Operation, ◌∈◌, Before}
+use Rattle.order.specs.Claim.{Plain, Blocks, Result, write, read_block, write_block, bytes, stripe, Ending, finished, Seen, Operation, ◌∈◌, Before}
 use Rattle.order.specs.Claim.{Once, fed}
 
 -- Operation t ended, by answer, abort or cut, before operation u began.
@@ -77,22 +77,22 @@ module _ {S B : Type 0} {blocks : Blocks S B} {z : S} (l : List (Seen (stripe bl
 
   -- No write of one block began.
   abbrev pub NoBlockWrites : Type 0
-  NoBlockWrites = (w j : ℕ) (b : B) → ¬ (Seen.began w (writeBlock j b) ∈ l)
+  NoBlockWrites = (w j : ℕ) (b : B) → ¬ (Seen.began w (write_block j b) ∈ l)
 
 -- Operation w is a write, of the stripe or of one block.
 pub data IsWrite {S B : Type 0} {blocks : Blocks S B} {z : S} (l : List (Seen (stripe blocks z))) (w : ℕ) : Type 0 where
-  of-stripe : {v : S} → Seen.began w (write v) ∈ l → IsWrite l w
-  of-block : {j : ℕ} {b : B} → Seen.began w (writeBlock j b) ∈ l → IsWrite l w
+  of_stripe : {v : S} → Seen.began w (write v) ∈ l → IsWrite l w
+  of_block : {j : ℕ} {b : B} → Seen.began w (write_block j b) ∈ l → IsWrite l w
 
 -- Read t, of the stripe or of block j alone, finished and gave a as block j.
 pub data BlockGave {S B : Type 0} {blocks : Blocks S B} {z : S} (l : List (Seen (stripe blocks z))) (j t : ℕ) (a : B) : Type 0 where
-  in-stripe : {v : S} → Seen.ended t (finished (bytes v)) ∈ l → blocks.at j v ≡ a → BlockGave l j t a
-  alone : Seen.began t (readBlock j) ∈ l → Seen.ended t (finished (Result.block a)) ∈ l → BlockGave l j t a
+  in_stripe : {v : S} → Seen.ended t (finished (bytes v)) ∈ l → blocks.at j v ≡ a → BlockGave l j t a
+  alone : Seen.began t (read_block j) ∈ l → Seen.ended t (finished (Result.block a)) ∈ l → BlockGave l j t a
 
 -- Operation w, a write of the stripe or of block j alone, writes a as block j.
 pub data BlockWritten {S B : Type 0} {blocks : Blocks S B} {z : S} (l : List (Seen (stripe blocks z))) (j w : ℕ) (a : B) : Type 0 where
-  in-stripe : {v : S} → Seen.began w (write v) ∈ l → blocks.at j v ≡ a → BlockWritten l j w a
-  alone : Seen.began w (writeBlock j a) ∈ l → BlockWritten l j w a
+  in_stripe : {v : S} → Seen.began w (write v) ∈ l → blocks.at j v ≡ a → BlockWritten l j w a
+  alone : Seen.began w (write_block j a) ∈ l → BlockWritten l j w a
 
 module _ {S B : Type 0} {blocks : Blocks S B} {z : S} (l : List (Seen (stripe blocks z))) (j : ℕ) where
   -- Operation w writes a as block j, and no other operation writes this there.

@@ -7,17 +7,17 @@ use Rattle.order.specs.Valid.{Valid}
 use Rattle.order.specs.BenchExample.{three, one_byte, ten, cut_short}
 
 -- as in the bench case the write of 16 is cut short with brick 0 alone having stored it; here brick 0 is up at the read
-abbrev pub rolled-forward : History one_byte
-rolled-forward =
+abbrev pub rolled_forward : History one_byte
+rolled_forward =
     ended 33 (recovered (bytes ten)) ∷ stored 1 33 ∷ stored 0 33
     ∷ launched 33 (over 16) ∷ promised 1 33 ∷ promised 0 33
     ∷ showed 0 33 16 ∷ began 33 read ∷ cut_short
 
 abbrev pub RolledForwardIsValid : Type 0
-RolledForwardIsValid = Valid three rolled-forward
+RolledForwardIsValid = Valid three rolled_forward
 
 -- The order: the write, then the read.
 abbrev pub RolledForwardHasOneOrder : Type 0
 RolledForwardHasOneOrder =
-    (o : OneOrder one_byte (seen rolled-forward))
+    (o : OneOrder one_byte (seen rolled_forward))
     × (o.order ≡ record { time = 16; kind = write ten } ∷ record { time = 33; kind = read } ∷ [])

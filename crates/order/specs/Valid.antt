@@ -11,7 +11,7 @@ use Rattle.order.specs.Facts.{
   End,
   written,
   recovered,
-  one-round,
+  one_round,
   aborted,
   cut,
   Fact,
@@ -161,7 +161,7 @@ abbrev pub HasAnswered : (S : Quorums) {P : Plain} (h : History P) → ℕ → E
 HasAnswered S h t (written g) = Committed S h t × Says h t g
 HasAnswered S h t (recovered g) = Committed S h t × Gives h t t g
 -- in one round: nothing was sent to be stored, and a quorum showed c
-HasAnswered S h t (one-round c g) = (¬ Launched h t) × Many S.n S.q (λ b. In (showed b t c) h) × Gives h t c g
+HasAnswered S h t (one_round c g) = (¬ Launched h t) × Many S.n S.q (λ b. In (showed b t c) h) × Gives h t c g
 -- an abort or a crash requires nothing more
 HasAnswered S h t aborted = Unit {0}
 HasAnswered S h t cut = Unit {0}

@@ -34,23 +34,23 @@ module _ (F : Field) where
   factor pts i k x = mul (sub x (pts k)) (inv (sub (pts i) (pts k)))
 
   -- The product of these factors for each number below k but i.
-  unfoldable pub basisTo : ℕ → (ℕ → carrier) → ℕ → carrier → carrier
-  basisTo ℕ.zero pts i x = one
-  basisTo (suc k) pts i x = pick (eqb k i) (basisTo k pts i x) (mul (basisTo k pts i x) (factor pts i k x))
+  unfoldable pub basis_to : ℕ → (ℕ → carrier) → ℕ → carrier → carrier
+  basis_to ℕ.zero pts i x = one
+  basis_to (suc k) pts i x = pick (eqb k i) (basis_to k pts i x) (mul (basis_to k pts i x) (factor pts i k x))
 
   -- The product of x − pts j for each number j below k.
-  unfoldable pub rootsTo : ℕ → (ℕ → carrier) → carrier → carrier
-  rootsTo ℕ.zero pts x = one
-  rootsTo (suc k) pts x = mul (rootsTo k pts x) (sub x (pts k))
+  unfoldable pub roots_to : ℕ → (ℕ → carrier) → carrier → carrier
+  roots_to ℕ.zero pts x = one
+  roots_to (suc k) pts x = mul (roots_to k pts x) (sub x (pts k))
 
   -- The same for each number below k but i.
-  unfoldable pub othersTo : ℕ → (ℕ → carrier) → ℕ → carrier → carrier
-  othersTo ℕ.zero pts i x = one
-  othersTo (suc k) pts i x = pick (eqb k i) (othersTo k pts i x) (mul (othersTo k pts i x) (sub x (pts k)))
+  unfoldable pub others_to : ℕ → (ℕ → carrier) → ℕ → carrier → carrier
+  others_to ℕ.zero pts i x = one
+  others_to (suc k) pts i x = pick (eqb k i) (others_to k pts i x) (mul (others_to k pts i x) (sub x (pts k)))
 
   -- Lagrange's basis polynomial number i of m points, at x: 1 at point i, and 0 at the others.
   unfoldable pub basis : ℕ → (ℕ → carrier) → ℕ → carrier → carrier
-  basis m pts i x = basisTo m pts i x
+  basis m pts i x = basis_to m pts i x
 
   -- Lagrange's value at x of the polynomial that has the value vals i at pts i, for each i below m.
   unfoldable pub interpolated : ℕ → (ℕ → carrier) → (ℕ → carrier) → carrier → carrier

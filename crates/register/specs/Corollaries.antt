@@ -5,7 +5,7 @@ use Rattle.settings.specs.declared.Settings.{Settings}
 use Rattle.order.specs.Claim.{Action, write, Result, ok, bytes, given, finished, Seen, Operation, ◌∈◌, Before}
 use Rattle.order.specs.OrderUse.{EndedBefore, BeganBefore, ReadGave, OnlyWriteOf, WriteWithin, NoBlockWrites, IsWrite}
 use Rattle.order.specs.OrderUse.{BlockGave, BlockWritten, OnlyBlockWriteOf, BlockWriteWithin, OperationGave, CutAtTwo, AfterOneList}
-use Rattle.register.specs.Runs.{zeroStripe, stripeBlocks, plain, World, Event, step, run}
+use Rattle.register.specs.Runs.{zero_stripe, stripe_blocks, plain, World, Event, step, run}
 
 -- ANY TWO, whatever else is read and written of the stripe. The printed line, "a write cut short is there from the next read on or stays away
 -- for good", of any two finished operations, each on the stripe or on one block, of which t ended before u began. There are two lists of
@@ -15,7 +15,7 @@ use Rattle.register.specs.Runs.{zeroStripe, stripeBlocks, plain, World, Event, s
 abbrev pub OrderCutAtTwo : Type 0
 OrderCutAtTwo =
     (s : Settings) → in_range s ≡ true → (events : List Event) (stripe : ℕ) → stripe < s.stripes
-    → (t u : ℕ) (x y : Action (stripeBlocks s)) (a b : Result (List ℕ) (List ℕ))
+    → (t u : ℕ) (x y : Action (stripe_blocks s)) (a b : Result (List ℕ) (List ℕ))
     → let l = (run s events).seen stripe in OperationGave l t x a → OperationGave l u y b → EndedBefore l t u
     → CutAtTwo l t x a u y b
 
@@ -25,7 +25,7 @@ OrderCutAtTwo =
 abbrev pub ReadsSeeOneStripe : Type 0
 ReadsSeeOneStripe =
     (s : Settings) → in_range s ≡ true → (events : List Event) (stripe : ℕ) → stripe < s.stripes
-    → (t u : ℕ) (x y : Action (stripeBlocks s)) (a b : Result (List ℕ) (List ℕ))
+    → (t u : ℕ) (x y : Action (stripe_blocks s)) (a b : Result (List ℕ) (List ℕ))
     → let l = (run s events).seen stripe in OperationGave l t x a → OperationGave l u y b
     → ((w : ℕ) → IsWrite l w → (EndedBefore l w t × EndedBefore l w u) ⊎ (EndedBefore l t w × EndedBefore l u w))
     → AfterOneList l t x a u y b
@@ -37,7 +37,7 @@ ReadsSeeOneStripe =
 abbrev pub StripeWriteIsThereOrAway : Type 0
 StripeWriteIsThereOrAway =
     (s : Settings) → in_range s ≡ true → (events : List Event) (stripe : ℕ) → stripe < s.stripes
-    → (w t u : ℕ) (v : List ℕ) (x y : Action (stripeBlocks s)) (a b : Result (List ℕ) (List ℕ))
+    → (w t u : ℕ) (v : List ℕ) (x y : Action (stripe_blocks s)) (a b : Result (List ℕ) (List ℕ))
     → let l = (run s events).seen stripe in Seen.began w (write v) ∈ l → EndedBefore l w t → EndedBefore l w u → OperationGave l t x a → OperationGave l u y b
     → ((i : ℕ) → IsWrite l i → i ≢ w
     → (EndedBefore l i w × EndedBefore l i t × EndedBefore l i u) ⊎ (EndedBefore l t i × EndedBefore l u i))
@@ -69,7 +69,7 @@ abbrev pub ReadGivesOneWrite : Type 0
 ReadGivesOneWrite =
     (s : Settings) → in_range s ≡ true → (events : List Event) (stripe : ℕ) → stripe < s.stripes → (t : ℕ) (a : List ℕ)
     → let l = (run s events).seen stripe in NoBlockWrites l → ReadGave l t a
-    → (a ≡ zeroStripe s) ⊎ ((x : ℕ) × Before (Seen.began x (write a)) (Seen.ended t (finished (bytes a))) l)
+    → (a ≡ zero_stripe s) ⊎ ((x : ℕ) × Before (Seen.began x (write a)) (Seen.ended t (finished (bytes a))) l)
 
 -- Two finished reads, also two beside each other, gave the same bytes if every write of the run, of the stripe or of one block, had ended
 -- before both began, by ok, abort or cut, or began after both had ended. (So a write cut short is there for both, or for neither.)

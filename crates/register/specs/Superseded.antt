@@ -5,19 +5,19 @@ use Rattle.byte_lists.specs.Each.{some}
 use Rattle.settings.specs.Count.{count}
 use Rattle.settings.specs.Ranges.{in_range, quorum}
 use Rattle.settings.specs.declared.Settings.{Settings}
-use Rattle.message.specs.Kinds.{orderReadKind, trimKind, dropKind}
-use Rattle.message.specs.Messages.{isSilent, storesEntry}
+use Rattle.message.specs.Kinds.{order_read_kind, trim_kind, drop_kind}
+use Rattle.message.specs.Messages.{is_silent, stores_entry}
 use Rattle.message.specs.declared.Message.{Message}
 use Rattle.message.specs.declared.Reply.{Reply}
-use Rattle.image.specs.Brick.{Brick, entryCount, timeAt}
-use Rattle.brick_log.specs.BrickRules.{brickAfter}
+use Rattle.image.specs.Brick.{Brick, entry_count, time_at}
+use Rattle.brick_log.specs.BrickRules.{brick_after}
 use Rattle.coord_record.specs.declared.Tally.{Tally}
-use Rattle.coord_tally.specs.Counting.{saidNo, highest, atTimes}
+use Rattle.coord_tally.specs.Counting.{said_no, highest, at_times}
 use Rattle.order.specs.Claim.{◌∈◌}
 use Rattle.order.specs.Quorums.{Many}
 use Rattle.register.specs.Runs.{Item, message, reply, World, Event, run}
 use Rattle.register.specs.Entries.{HasState}
-use Rattle.register.specs.Recoveries.{addressee, countedAt, QthReply}
+use Rattle.register.specs.Recoveries.{addressee, counted_at, QthReply}
 
 -- brick b said yes to a Write or Modify of this time on a stripe
 pub record SaidStored (sent : List Item) (stripe b time : ℕ) : Type 0 where
@@ -27,7 +27,7 @@ pub record SaidStored (sent : List Item) (stripe b time : ℕ) : Type 0 where
   pub of-stripe : answer.stripe ≡ stripe
   pub of-brick : answer.brick ≡ b
   pub of-time : answer.time ≡ time
-  pub stores : storesEntry answer.kind ≡ true
+  pub stores : stores_entry answer.kind ≡ true
   pub said-yes : answer.yes ≡ true
 
 -- "q bricks have stored" it
@@ -41,18 +41,18 @@ Superseded s events stripe time =
     ⊎ ((t : ℕ) × (time < t) × QuorumStored s (run s events).world.sent stripe t)
 
 -- what is counted of a round, once this reply is
-abbrev pub talliedAt : Settings → World → Reply → List ℕ → Tally
-talliedAt s w a block = (countedAt s w a block).state.tally
+abbrev pub tallied_at : Settings → World → Reply → List ℕ → Tally
+tallied_at s w a block = (counted_at s w a block).state.tally
 
 -- A reply is taken as the q-th of an Order-and-read round, all q say yes, and the highest time among those that hold a block, other than 0, is on
 -- fewer than m of them.
 pub record FoundOnFew (s : Settings) (w : World) (a : Reply) (block : List ℕ) (time : ℕ) : Type 0 where
   pub qth : QthReply s w a block
-  pub recovers : (countedAt s w a block).state.op.phase ≡ orderReadKind
-  pub all_yes : some (saidNo (talliedAt s w a block).counted (talliedAt s w a block).granted) s.n ≡ false
-  pub is-highest : time ≡ highest (talliedAt s w a block).held (talliedAt s w a block).found s.n
+  pub recovers : (counted_at s w a block).state.op.phase ≡ order_read_kind
+  pub all_yes : some (said_no (tallied_at s w a block).counted (tallied_at s w a block).granted) s.n ≡ false
+  pub is-highest : time ≡ highest (tallied_at s w a block).held (tallied_at s w a block).found s.n
   pub not-zero : time ≡ 0 → ⊥
-  pub on-few : count (atTimes (talliedAt s w a block).held (talliedAt s w a block).found time) s.n < s.m
+  pub on-few : count (at_times (tallied_at s w a block).held (tallied_at s w a block).found time) s.n < s.m
 
 -- "If a recovery round with q yes replies finds its highest time, other than 0, on fewer than m of them, that time is superseded".
 abbrev pub RecoveryRoundsSupersede : Type 0
@@ -64,14 +64,14 @@ RecoveryRoundsSupersede =
 abbrev pub DroppedTimesAreSuperseded : Type 0
 DroppedTimesAreSuperseded =
     (s : Settings) → in_range s ≡ true → (events : List Event) (stripe : ℕ) → stripe < s.stripes
-    → (b : ℕ) (msg : Message) (block old : List ℕ) → message b msg block old ∈ (run s events).world.sent → msg.stripe ≡ stripe → msg.kind ≡ dropKind
+    → (b : ℕ) (msg : Message) (block old : List ℕ) → message b msg block old ∈ (run s events).world.sent → msg.stripe ≡ stripe → msg.kind ≡ drop_kind
     → Superseded s events stripe msg.time
 
 -- And every Trim that was sent, early or not, is of a time that q bricks have stored.
 abbrev pub TrimmedTimesAreStored : Type 0
 TrimmedTimesAreStored =
     (s : Settings) → in_range s ≡ true → (events : List Event) (stripe : ℕ) → stripe < s.stripes
-    → (b : ℕ) (msg : Message) (block old : List ℕ) → message b msg block old ∈ (run s events).world.sent → msg.stripe ≡ stripe → msg.kind ≡ trimKind
+    → (b : ℕ) (msg : Message) (block old : List ℕ) → message b msg block old ∈ (run s events).world.sent → msg.stripe ≡ stripe → msg.kind ≡ trim_kind
     → QuorumStored s (run s events).world.sent stripe msg.time
 
 -- the highest time that q bricks have stored; 0, which a fresh brick has, where there is none
@@ -81,7 +81,7 @@ pub record HighestStored (s : Settings) (sent : List Item) (stripe time : ℕ) :
 
 -- a log has an entry of this time
 abbrev pub HasTime : Brick → ℕ → Type 0
-HasTime x time = (i : ℕ) × (i < entryCount x) × (timeAt x i ≡ time)
+HasTime x time = (i : ℕ) × (i < entry_count x) × (time_at x i ≡ time)
 
 -- Whatever was cleared, a brick that has stored the highest time that q bricks stored has it in its log.
 abbrev pub HighestStays : Type 0
@@ -97,5 +97,5 @@ abbrev pub ClearingKeepsTheHighest : Type 0
 ClearingKeepsTheHighest =
     (s : Settings) → in_range s ≡ true → (events : List Event) (stripe : ℕ) → stripe < s.stripes
     → (time : ℕ) → HighestStored s (run s events).world.sent stripe time
-    → (b : ℕ) (msg : Message) (block old : List ℕ) → message b msg block old ∈ (run s events).world.sent → msg.stripe ≡ stripe → isSilent msg.kind ≡ true
-    → (x : Brick) → HasState s (run s events).world stripe b x → HasTime x time → HasTime (brickAfter s b x msg block old) time
+    → (b : ℕ) (msg : Message) (block old : List ℕ) → message b msg block old ∈ (run s events).world.sent → msg.stripe ≡ stripe → is_silent msg.kind ≡ true
+    → (x : Brick) → HasState s (run s events).world stripe b x → HasTime x time → HasTime (brick_after s b x msg block old) time

@@ -1,6 +1,6 @@
 -- The times that one clock gives for a row of readings, each clock following from the draw before.
 use Rattle.std.specs.Prelude.{List, [], ◌∷◌, ℕ, ◌<◌}
-use Rattle.settings.specs.Times.{drawOf}
+use Rattle.settings.specs.Times.{draw_of}
 use Rattle.settings.specs.declared.Clock.{Clock}
 use Rattle.settings.specs.declared.Draw.{Draw}
 use Rattle.settings.specs.declared.Draw.TheVariants.{Drawn, Refused}
@@ -12,7 +12,7 @@ following (Refused number) c rest = rest c
 
 unfoldable pub draws : Clock → List ℕ → List ℕ
 draws c [] = []
-draws c (reading ∷ readings) = following (drawOf c reading) c (λ (d : Clock). draws d readings)
+draws c (reading ∷ readings) = following (draw_of c reading) c (λ (d : Clock). draws d readings)
 
 -- each is above the one before it, and the first above b
 unfoldable pub RisingDraws : ℕ → List ℕ → Type 0

@@ -1,60 +1,60 @@
 -- Document 01, "Times".
 use Rattle.std.specs.Prelude.{Bool, cond, ◌&&◌, ℕ, ◌%◌, ◌+◌, ◌-◌, ◌*◌, ◌^◌, max, ◌≤◌, ◌<◌, leb, ltb, ◌≡◌}
-use Rattle.settings.specs.Refusal.{passed, badNumber, badRecord, badReading, clockSpent}
+use Rattle.settings.specs.Refusal.{passed, bad_number, bad_record, bad_reading, clock_spent}
 use Rattle.settings.specs.declared.Clock.{Clock}
 use Rattle.settings.specs.declared.Draw.{Draw}
 use Rattle.settings.specs.declared.Draw.TheVariants.{Drawn, Refused}
 
 -- "count 1 to 2^40−1"
-unfoldable pub maxCount : ℕ
-maxCount = 2 ^ 40 - 1
+unfoldable pub max_count : ℕ
+max_count = 2 ^ 40 - 1
 
 -- "'no upper end' is 2^44"
-unfoldable pub noUpperEnd : ℕ
-noUpperEnd = 2 ^ 44
+unfoldable pub no_upper_end : ℕ
+no_upper_end = 2 ^ 44
 
 -- "coordinator number (0 to 15)"
-abbrev pub coordinatorCount : ℕ
-coordinatorCount = 16
+abbrev pub coordinator_count : ℕ
+coordinator_count = 16
 
-abbrev pub lastCoordinator : ℕ
-lastCoordinator = coordinatorCount - 1
+abbrev pub last_coordinator : ℕ
+last_coordinator = coordinator_count - 1
 
 -- whose time it is
-abbrev pub coordinatorOf : ℕ → ℕ
-coordinatorOf t = t % coordinatorCount
+abbrev pub coordinator_of : ℕ → ℕ
+coordinator_of t = t % coordinator_count
 
 -- "A time is count × 16 + coordinator number (0 to 15)"
-unfoldable pub timeOf : ℕ → ℕ → ℕ
-timeOf count coordinator = count * coordinatorCount + coordinator
+unfoldable pub time_of : ℕ → ℕ → ℕ
+time_of count coordinator = count * coordinator_count + coordinator
 
 -- A valid time: its count is at least 1 and at most 2^40−1. Time 0, "before all others", is not among them.
-unfoldable pub validTime : ℕ → Bool
-validTime t = leb (timeOf 1 0) t && ltb t noUpperEnd
+unfoldable pub valid_time : ℕ → Bool
+valid_time t = leb (time_of 1 0) t && ltb t no_upper_end
 
 -- "A clock reading gives count = the larger of the reading and last count + 1"
-unfoldable pub nextCount : ℕ → ℕ → ℕ
-nextCount last reading = max reading (last + 1)
+unfoldable pub next_count : ℕ → ℕ → ℕ
+next_count last reading = max reading (last + 1)
 
 -- Why a clock gives no time, lowest number first: 3 a coordinator number above 15, 6 a last count that no clock has,
 -- 7 a reading above 2^40−1, 8 a last count of 2^40−1.
-unfoldable pub drawRefusal : Clock → ℕ → ℕ
-drawRefusal c reading =
-    cond (ltb lastCoordinator c.coordinator) badNumber
-    (cond (ltb maxCount c.last) badRecord
-    (cond (ltb maxCount reading) badReading
-    (cond (leb maxCount c.last) clockSpent passed)))
+unfoldable pub draw_refusal : Clock → ℕ → ℕ
+draw_refusal c reading =
+    cond (ltb last_coordinator c.coordinator) bad_number
+    (cond (ltb max_count c.last) bad_record
+    (cond (ltb max_count reading) bad_reading
+    (cond (leb max_count c.last) clock_spent passed)))
 
 -- The clock after a reading that is not refused: its last count is the count drawn.
 unfoldable pub advanced : Clock → ℕ → Clock
-advanced c reading = record { coordinator = c.coordinator; last = nextCount c.last reading }
+advanced c reading = record { coordinator = c.coordinator; last = next_count c.last reading }
 
 -- "The clock gives a time together with the clock that follows it."
-unfoldable pub drawOf : Clock → ℕ → Draw
-drawOf c reading =
-    cond (leb (drawRefusal c reading) passed)
-    (Drawn (timeOf (nextCount c.last reading) c.coordinator) (advanced c reading))
-    (Refused (drawRefusal c reading))
+unfoldable pub draw_of : Clock → ℕ → Draw
+draw_of c reading =
+    cond (leb (draw_refusal c reading) passed)
+    (Drawn (time_of (next_count c.last reading) c.coordinator) (advanced c reading))
+    (Refused (draw_refusal c reading))
 
 -- The paper's number for each answer of a clock: 0 for a time, else the refusal's.
 unfoldable pub number_of : Draw → ℕ
@@ -63,13 +63,13 @@ number_of (Refused number) = number
 
 -- what a clock and a reading that are not refused satisfy
 pub record Draws (c : Clock) (reading : ℕ) : Type 0 where
-  pub coordinator-high : c.coordinator ≤ lastCoordinator
-  pub last-high : c.last < maxCount
-  pub reading-high : reading ≤ maxCount
+  pub coordinator-high : c.coordinator ≤ last_coordinator
+  pub last-high : c.last < max_count
+  pub reading-high : reading ≤ max_count
 
 -- What a draw gave: the time of the count, and a clock of the same coordinator whose last count is that count, above the old one.
 pub record Gave (c : Clock) (reading t : ℕ) (next : Clock) : Type 0 where
   pub drew : Draws c reading
-  pub time : t ≡ timeOf next.last c.coordinator
+  pub time : t ≡ time_of next.last c.coordinator
   pub same : next.coordinator ≡ c.coordinator
-  pub count : next.last ≡ nextCount c.last reading
+  pub count : next.last ≡ next_count c.last reading

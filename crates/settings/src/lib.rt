@@ -1,7 +1,7 @@
 // The settings of a set, the quorum, and times (document 01, "Settings and the code", "Times"); the stripes of a volume (E1).
 ghost use Rattle.std.specs.Prelude.{◌≡◌};
-ghost use Rattle.settings.specs.Ranges.{settingsRefusal, codeRefusal, stripeCountRefusal, stripeRefusal, dataBlockRefusal, quorum};
-ghost use Rattle.settings.specs.Times.{drawOf, drawRefusal, number_of, validTime};
+ghost use Rattle.settings.specs.Ranges.{settings_refusal, code_refusal, stripe_count_refusal, stripe_refusal, data_block_refusal, quorum};
+ghost use Rattle.settings.specs.Times.{draw_of, draw_refusal, number_of, valid_time};
 
 // "n is 1 to 16": so a set of bricks has 16 places.
 pub const MAX_BRICKS: usize = 16;
@@ -73,7 +73,7 @@ pub struct Settings {
 
 // 1 where n, m or the block size is outside its range, else 0.
 pub fn code_refusal(n: usize, m: usize, size: usize) -> u32
-    ensures { result ≡ codeRefusal n m size }
+    ensures { result ≡ code_refusal n m size }
 {
     if n < 1 {
         return BAD_SETTING;
@@ -98,7 +98,7 @@ pub fn code_refusal(n: usize, m: usize, size: usize) -> u32
 
 // 1 where a volume has no such number of stripes, else 0.
 pub fn stripe_count_refusal(stripes: usize) -> u32
-    ensures { result ≡ stripeCountRefusal stripes }
+    ensures { result ≡ stripe_count_refusal stripes }
 {
     if stripes < 1 {
         return BAD_SETTING;
@@ -112,7 +112,7 @@ pub fn stripe_count_refusal(stripes: usize) -> u32
 // 13 for a stripe that the volume does not have, else 0. inner: a stripe count out of range is refused before
 // (`Settings::refusal`, `stripe_count_refusal`).
 pub fn stripe_refusal(stripes: usize, stripe: usize) -> u32
-    ensures { result ≡ stripeRefusal stripes stripe }
+    ensures { result ≡ stripe_refusal stripes stripe }
 {
     if stripes <= stripe {
         return BAD_STRIPE;
@@ -123,7 +123,7 @@ pub fn stripe_refusal(stripes: usize, stripe: usize) -> u32
 // 14 for a data block that a stripe does not have, else 0. inner: an m out of range is refused before
 // (`Settings::refusal`, `code_refusal`).
 pub fn data_block_refusal(m: usize, block: usize) -> u32
-    ensures { result ≡ dataBlockRefusal m block }
+    ensures { result ≡ data_block_refusal m block }
 {
     if m <= block {
         return BAD_BLOCK;
@@ -134,7 +134,7 @@ pub fn data_block_refusal(m: usize, block: usize) -> u32
 impl Settings {
     // 1 where a setting is outside its range, else 0.
     pub fn refusal(self) -> u32
-        ensures { result ≡ settingsRefusal self }
+        ensures { result ≡ settings_refusal self }
     {
         let bad = code_refusal(self.n, self.m, self.size);
         if bad != PASSED {
@@ -177,7 +177,7 @@ pub enum Draw {
 impl Clock {
     // The number of the refusal, 0 for none.
     pub fn refusal(self, reading: u64) -> u32
-        ensures { result ≡ drawRefusal self reading }
+        ensures { result ≡ draw_refusal self reading }
     {
         if LAST_COORDINATOR < self.coordinator {
             return BAD_NUMBER;
@@ -196,7 +196,7 @@ impl Clock {
 
     // The time of a reading, with the clock that follows.
     pub fn draw(self, reading: u64) -> Draw
-        ensures { result ≡ drawOf self reading }
+        ensures { result ≡ draw_of self reading }
     {
         let bad = self.refusal(reading);
         if bad != PASSED {
@@ -228,7 +228,7 @@ impl Draw {
 
 // Whether a number is a valid time.
 pub fn is_time(t: u64) -> bool
-    ensures { result ≡ validTime t }
+    ensures { result ≡ valid_time t }
 {
     COORDINATOR_COUNT <= t && t < NO_UPPER_END
 }

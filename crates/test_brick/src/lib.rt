@@ -2,11 +2,11 @@
 // one stripe, volume_.. with the images of all stripes in one row. Every routine refuses the lowest number first: 1, then 2 for a buffer of
 // the boundary itself, then what the brick refuses.
 ghost use Rattle.std.specs.Prelude.{◌≡◌, ◌+◌, ◌≤◌, length};
-ghost use Rattle.test_brick.specs.BrickBoundary.{messageLength, replyLength, ownRefusal, freshWith, freshAt, freshRowAt, panelAt, entryPairAt};
-ghost use Rattle.test_brick.specs.BrickBoundary.{asByte, asBytes, messageOf, numbersRight, replyNumbers, answerCode, givenBuffer};
-ghost use Rattle.test_brick.specs.BrickBoundary.{receiptWith, receivedAt, rowReceivedAt};
-ghost use Rattle.volume.specs.ClientPlaces.{settingsWith};
-ghost use Rattle.settings.specs.Count.{one-if};
+ghost use Rattle.test_brick.specs.BrickBoundary.{message_length, reply_length, own_refusal, fresh_with, fresh_at, fresh_row_at, panel_at, entry_pair_at};
+ghost use Rattle.test_brick.specs.BrickBoundary.{as_byte, as_bytes, message_of, numbers_right, reply_numbers, answer_code, given_buffer};
+ghost use Rattle.test_brick.specs.BrickBoundary.{receipt_with, received_at, row_received_at};
+ghost use Rattle.volume.specs.ClientPlaces.{settings_with};
+ghost use Rattle.settings.specs.Count.{one_if};
 
 use brick::Given;
 use image::{Shown, place_of};
@@ -47,7 +47,7 @@ const SILENCE: u32 = 100;
 
 // 0 or 1.
 fn flag(b: bool) -> u64
-    ensures { result ≡ one-if b }
+    ensures { result ≡ one_if b }
 {
     if b {
         return 1;
@@ -57,7 +57,7 @@ fn flag(b: bool) -> u64
 
 // 1 for a setting outside its range, then 2 for a buffer of the boundary itself, else 0.
 fn own_refusal(s: Settings, right: bool) -> u32
-    ensures { result ≡ ownRefusal s right }
+    ensures { result ≡ own_refusal s right }
 {
     let bad = s.refusal();
     if bad != PASSED {
@@ -80,7 +80,7 @@ pub extern "C" fn brick_fresh(
     brick: usize,
     image: &mut [u8],
 ) -> u32
-    ensures { freshWith result image.new ≡ freshAt (settingsWith n m size capacity stripes) brick image.old }
+    ensures { fresh_with result image.new ≡ fresh_at (settings_with n m size capacity stripes) brick image.old }
 {
     let s = Settings {
         n,
@@ -103,7 +103,7 @@ pub extern "C" fn volume_fresh(
     brick: usize,
     images: &mut [u8],
 ) -> u32
-    ensures { freshWith result images.new ≡ freshRowAt (settingsWith n m size capacity stripes) brick images.old }
+    ensures { fresh_with result images.new ≡ fresh_row_at (settings_with n m size capacity stripes) brick images.old }
 {
     let s = Settings {
         n,
@@ -128,7 +128,7 @@ pub extern "C" fn brick_panel(
     times: &mut [u64],
 ) -> u32
     ensures { record { number = result; pair = times.new }
-        ≡ panelAt (settingsWith n m size capacity stripes) brick image.now times.old }
+        ≡ panel_at (settings_with n m size capacity stripes) brick image.now times.old }
 {
     let s = Settings {
         n,
@@ -166,7 +166,7 @@ pub extern "C" fn brick_entry(
     found: &mut [u64],
 ) -> u32
     ensures { record { number = result; pair = found.new }
-        ≡ entryPairAt (settingsWith n m size capacity stripes) brick image.now place found.old }
+        ≡ entry_pair_at (settings_with n m size capacity stripes) brick image.now place found.old }
 {
     let s = Settings {
         n,
@@ -194,8 +194,8 @@ pub extern "C" fn brick_entry(
 
 // A reply into a buffer of nine numbers.
 fn put_reply(r: Reply, reply: &mut [u64])
-    requires { length reply.old ≡ replyLength }
-    ensures { reply.new ≡ replyNumbers r }
+    requires { length reply.old ≡ reply_length }
+    ensures { reply.new ≡ reply_numbers r }
 {
     reply[0] = r.kind as u64;
     reply[1] = r.brick as u64;
@@ -210,9 +210,9 @@ fn put_reply(r: Reply, reply: &mut [u64])
 
 // What a brick gave, into the reply's buffer: 0 a reply, or silence, or the refusal.
 fn put_given(g: Given, reply: &mut [u64]) -> u32
-    requires { length reply.old ≡ replyLength }
-    ensures value { result ≡ answerCode g }
-    ensures reply_after { reply.new ≡ givenBuffer g reply.old }
+    requires { length reply.old ≡ reply_length }
+    ensures value { result ≡ answer_code g }
+    ensures reply_after { reply.new ≡ given_buffer g reply.old }
 {
     match g {
         Given::Answered(r) => {
@@ -226,7 +226,7 @@ fn put_given(g: Given, reply: &mut [u64]) -> u32
 
 // A number as a byte; one that no byte holds as the last byte.
 fn as_byte(k: u64) -> u8
-    ensures { result ≡ asByte k }
+    ensures { result ≡ as_byte k }
 {
     if k <= LAST_BYTE {
         return k as u8;
@@ -237,7 +237,7 @@ fn as_byte(k: u64) -> u8
 // Numbers of a list, from a place on, as bytes.
 fn as_bytes(l: &[u64], at: usize, out: &mut [u8])
     requires { at + length out.old ≤ length l.now }
-    ensures { out.new ≡ asBytes at (length out.old) l.now }
+    ensures { out.new ≡ as_bytes at (length out.old) l.now }
 {
     let mut i = 0;
     while i < out.len() {
@@ -248,8 +248,8 @@ fn as_bytes(l: &[u64], at: usize, out: &mut [u8])
 
 // The message of 23 numbers.
 fn message_of(asked: &[u64]) -> Message
-    requires { length asked.now ≡ messageLength }
-    ensures { result ≡ messageOf asked.now }
+    requires { length asked.now ≡ message_length }
+    ensures { result ≡ message_of asked.now }
 {
     let kind = as_byte(asked[KIND]);
     let mut targets = [0u8; MAX_BRICKS];
@@ -268,7 +268,7 @@ fn message_of(asked: &[u64]) -> Message
 
 // Whether a message's numbers and a reply's have their lengths.
 fn numbers_right(asked: usize, reply: usize) -> bool
-    ensures { result ≡ numbersRight asked reply }
+    ensures { result ≡ numbers_right asked reply }
 {
     if asked != MESSAGE_LENGTH {
         return false;
@@ -293,8 +293,8 @@ pub extern "C" fn brick_receive(
     out: &mut [u8],
     reply: &mut [u64],
 ) -> u32
-    ensures { receiptWith result image.new out.new reply.new
-        ≡ receivedAt (settingsWith n m size capacity stripes) brick asked.now block.now old.now
+    ensures { receipt_with result image.new out.new reply.new
+        ≡ received_at (settings_with n m size capacity stripes) brick asked.now block.now old.now
         image.old out.old reply.old }
 {
     let s = Settings {
@@ -329,8 +329,8 @@ pub extern "C" fn volume_receive(
     out: &mut [u8],
     reply: &mut [u64],
 ) -> u32
-    ensures { receiptWith result images.new out.new reply.new
-        ≡ rowReceivedAt (settingsWith n m size capacity stripes) brick asked.now block.now old.now
+    ensures { receipt_with result images.new out.new reply.new
+        ≡ row_received_at (settings_with n m size capacity stripes) brick asked.now block.now old.now
         images.old out.old reply.old }
 {
     let s = Settings {

@@ -2,11 +2,11 @@
 // lent four buffers: the record's 27 numbers and 82 bytes, and the answer's 16 numbers and 53 bytes. A refusal leaves them as they were;
 // the lowest number comes first: 1, then 2 for one of these buffers, then what the coordinator refuses.
 ghost use Rattle.std.specs.Prelude.{◌≡◌, [], ◌+◌, ◌≤◌, length};
-ghost use Rattle.settings.specs.Ranges.{maxBricks};
-ghost use Rattle.test_coordinator.specs.CoordinatorBoundary.{recordNumbersLength, recordBytesLength, answerNumbersLength, answerBytesLength};
-ghost use Rattle.test_coordinator.specs.CoordinatorBoundary.{recordFor, recordNumbers, recordBytes, answerNumbers, answerBytes};
-ghost use Rattle.test_coordinator.specs.CoordinatorBoundary.{lentLengths, lentRefusal, rows, laidOut, atBoundary, rowPut, replyFor};
-ghost use Rattle.test_coordinator.specs.CoordinatorBoundary.{wrote, looked, wroteBlock, lookedBlock, took, fell};
+ghost use Rattle.settings.specs.Ranges.{max_bricks};
+ghost use Rattle.test_coordinator.specs.CoordinatorBoundary.{record_numbers_length, record_bytes_length, answer_numbers_length, answer_bytes_length};
+ghost use Rattle.test_coordinator.specs.CoordinatorBoundary.{record_for, record_numbers, record_bytes, answer_numbers, answer_bytes};
+ghost use Rattle.test_coordinator.specs.CoordinatorBoundary.{lent_lengths, lent_refusal, rows, laid_out, at_boundary, row_put, reply_for};
+ghost use Rattle.test_coordinator.specs.CoordinatorBoundary.{wrote, looked, wrote_block, looked_block, took, fell};
 
 use coord_apply::Answer;
 use coord_record::{Coordinator, Geometry, Op, Tally};
@@ -115,7 +115,7 @@ const SEEN_LETTER: usize = 52;
 
 // Whether the four buffers have their lengths.
 fn lent_right(numbers: usize, bytes: usize, sent: usize, shown: usize) -> bool
-    ensures { result ≡ lentLengths numbers bytes sent shown }
+    ensures { result ≡ lent_lengths numbers bytes sent shown }
 {
     if numbers != RECORD_NUMBERS {
         return false;
@@ -140,7 +140,7 @@ fn lent_refusal(
     sent: usize,
     shown: usize,
 ) -> u32
-    ensures { result ≡ lentRefusal n m size stripes numbers bytes sent shown }
+    ensures { result ≡ lent_refusal n m size stripes numbers bytes sent shown }
 {
     let bad = settings::code_refusal(n, m, size);
     if bad != settings::PASSED {
@@ -158,7 +158,7 @@ fn lent_refusal(
 
 // Sixteen bytes from a slice of sixteen.
 fn row_of(t: &[u8]) -> [u8; MAX_BRICKS]
-    requires { length t.now ≡ maxBricks }
+    requires { length t.now ≡ max_bricks }
     ensures { result ≡ t.now }
 {
     [
@@ -169,7 +169,7 @@ fn row_of(t: &[u8]) -> [u8; MAX_BRICKS]
 
 // Sixteen times from a slice of sixteen.
 fn times_of(t: &[u64]) -> [u64; MAX_BRICKS]
-    requires { length t.now ≡ maxBricks }
+    requires { length t.now ≡ max_bricks }
     ensures { result ≡ t.now }
 {
     [
@@ -180,9 +180,9 @@ fn times_of(t: &[u64]) -> [u64; MAX_BRICKS]
 
 // The record of its numbers and bytes.
 fn record_of(numbers: &[u64], bytes: &[u8]) -> Coordinator
-    requires numbers_len { length numbers.now ≡ recordNumbersLength }
-    requires bytes_len { length bytes.now ≡ recordBytesLength }
-    ensures { result ≡ recordFor numbers.now bytes.now }
+    requires numbers_len { length numbers.now ≡ record_numbers_length }
+    requires bytes_len { length bytes.now ≡ record_bytes_length }
+    ensures { result ≡ record_for numbers.now bytes.now }
 {
     let geometry = Geometry {
         n: numbers[RECORD_N] as usize,
@@ -239,9 +239,9 @@ fn copy_times(from: &[u64], to: &mut [u64])
 
 // Sixteen bytes in their place.
 fn put_row(row: [u8; MAX_BRICKS], at: usize, out: &mut [u8])
-    requires { at + maxBricks ≤ length out.old }
-    ensures out_after { out.new ≡ rowPut at row out.old }
-    ensures row_len { length row ≡ maxBricks }
+    requires { at + max_bricks ≤ length out.old }
+    ensures out_after { out.new ≡ row_put at row out.old }
+    ensures row_len { length row ≡ max_bricks }
 {
     let end = at + MAX_BRICKS;
     byte_lists::copy(&row, &mut out[at..end])
@@ -249,9 +249,9 @@ fn put_row(row: [u8; MAX_BRICKS], at: usize, out: &mut [u8])
 
 // Sixteen times in their place.
 fn put_times(row: [u64; MAX_BRICKS], at: usize, out: &mut [u64])
-    requires { at + maxBricks ≤ length out.old }
-    ensures out_after { out.new ≡ rowPut at row out.old }
-    ensures row_len { length row ≡ maxBricks }
+    requires { at + max_bricks ≤ length out.old }
+    ensures out_after { out.new ≡ row_put at row out.old }
+    ensures row_len { length row ≡ max_bricks }
 {
     let end = at + MAX_BRICKS;
     copy_times(&row, &mut out[at..end])
@@ -259,8 +259,8 @@ fn put_times(row: [u64; MAX_BRICKS], at: usize, out: &mut [u64])
 
 // The numbers of a record.
 fn put_numbers(c: Coordinator, out: &mut [u64])
-    requires { length out.old ≡ recordNumbersLength }
-    ensures { out.new ≡ recordNumbers c }
+    requires { length out.old ≡ record_numbers_length }
+    ensures { out.new ≡ record_numbers c }
 {
     let geometry = c.geometry;
     let clock = c.clock;
@@ -283,8 +283,8 @@ fn put_numbers(c: Coordinator, out: &mut [u64])
 
 // The bytes of a record.
 fn put_bytes(c: Coordinator, out: &mut [u8])
-    requires { length out.old ≡ recordBytesLength }
-    ensures { out.new ≡ recordBytes c }
+    requires { length out.old ≡ record_bytes_length }
+    ensures { out.new ≡ record_bytes c }
 {
     let op = c.op;
     let tally = c.tally;
@@ -304,8 +304,8 @@ fn put_bytes(c: Coordinator, out: &mut [u8])
 
 // The numbers of an answer.
 fn put_sent(a: Answer, out: &mut [u64])
-    requires { length out.old ≡ answerNumbersLength }
-    ensures { out.new ≡ answerNumbers a }
+    requires { length out.old ≡ answer_numbers_length }
+    ensures { out.new ≡ answer_numbers a }
 {
     let message = a.message;
     let second = a.second;
@@ -330,8 +330,8 @@ fn put_sent(a: Answer, out: &mut [u64])
 
 // The bytes of an answer.
 fn put_shown(a: Answer, out: &mut [u8])
-    requires { length out.old ≡ answerBytesLength }
-    ensures { out.new ≡ answerBytes a }
+    requires { length out.old ≡ answer_bytes_length }
+    ensures { out.new ≡ answer_bytes a }
 {
     let message = a.message;
     let second = a.second;
@@ -357,13 +357,13 @@ fn put_answer(
     sent: &mut [u64],
     shown: &mut [u8],
 ) -> u32
-    requires numbers_len { length numbers.old ≡ recordNumbersLength }
-    requires bytes_len { length bytes.old ≡ recordBytesLength }
-    requires sent_len { length sent.old ≡ answerNumbersLength }
-    requires shown_len { length shown.old ≡ answerBytesLength }
+    requires numbers_len { length numbers.old ≡ record_numbers_length }
+    requires bytes_len { length bytes.old ≡ record_bytes_length }
+    requires sent_len { length sent.old ≡ answer_numbers_length }
+    requires shown_len { length shown.old ≡ answer_bytes_length }
     ensures value { result ≡ a.refusal }
     ensures shown_after { rows numbers.new bytes.new sent.new shown.new
-        ≡ laidOut (rows numbers.old bytes.old sent.old shown.old) a }
+        ≡ laid_out (rows numbers.old bytes.old sent.old shown.old) a }
 {
     if a.refusal != settings::PASSED {
         return a.refusal;
@@ -392,7 +392,7 @@ pub extern "C" fn coord_start_write(
     given: &[u8],
     stripe: &mut [u8],
 ) -> u32
-    ensures { atBoundary result (rows numbers.new bytes.new sent.new shown.new)
+    ensures { at_boundary result (rows numbers.new bytes.new sent.new shown.new)
         [] stripe.new []
         ≡ wrote n m size stripes (rows numbers.old bytes.old sent.old shown.old)
         stripe_number reading given.now stripe.old }
@@ -440,7 +440,7 @@ pub extern "C" fn coord_start_read(
     reading: u64,
     first: usize,
 ) -> u32
-    ensures { atBoundary result (rows numbers.new bytes.new sent.new shown.new) [] [] []
+    ensures { at_boundary result (rows numbers.new bytes.new sent.new shown.new) [] [] []
         ≡ looked n m size stripes (rows numbers.old bytes.old sent.old shown.old)
         stripe_number reading first }
 {
@@ -479,9 +479,9 @@ pub extern "C" fn coord_start_write_block(
     given: &[u8],
     stripe: &mut [u8],
 ) -> u32
-    ensures { atBoundary result (rows numbers.new bytes.new sent.new shown.new)
+    ensures { at_boundary result (rows numbers.new bytes.new sent.new shown.new)
         [] stripe.new []
-        ≡ wroteBlock n m size stripes (rows numbers.old bytes.old sent.old shown.old)
+        ≡ wrote_block n m size stripes (rows numbers.old bytes.old sent.old shown.old)
         stripe_number reading block given.now stripe.old }
 {
     let refusal = lent_refusal(
@@ -528,8 +528,8 @@ pub extern "C" fn coord_start_read_block(
     reading: u64,
     block: usize,
 ) -> u32
-    ensures { atBoundary result (rows numbers.new bytes.new sent.new shown.new) [] [] []
-        ≡ lookedBlock n m size stripes (rows numbers.old bytes.old sent.old shown.old)
+    ensures { at_boundary result (rows numbers.new bytes.new sent.new shown.new) [] [] []
+        ≡ looked_block n m size stripes (rows numbers.old bytes.old sent.old shown.old)
         stripe_number reading block }
 {
     let refusal = lent_refusal(
@@ -575,10 +575,10 @@ pub extern "C" fn coord_take_reply(
     stripe: &mut [u8],
     coded: &mut [u8],
 ) -> u32
-    ensures { atBoundary result (rows numbers.new bytes.new sent.new shown.new)
+    ensures { at_boundary result (rows numbers.new bytes.new sent.new shown.new)
         blocks.new stripe.new coded.new
         ≡ took n m size stripes (rows numbers.old bytes.old sent.old shown.old)
-        (replyFor kind brick stripe_number time round yes found has comparison) block.now
+        (reply_for kind brick stripe_number time round yes found has comparison) block.now
         blocks.old stripe.old coded.old }
 {
     let refusal = lent_refusal(
@@ -622,7 +622,7 @@ pub extern "C" fn coord_crash(
     sent: &mut [u64],
     shown: &mut [u8],
 ) -> u32
-    ensures { atBoundary result (rows numbers.new bytes.new sent.new shown.new) [] [] []
+    ensures { at_boundary result (rows numbers.new bytes.new sent.new shown.new) [] [] []
         ≡ fell n m size stripes (rows numbers.old bytes.old sent.old shown.old) }
 {
     let refusal = lent_refusal(

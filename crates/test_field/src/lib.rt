@@ -2,9 +2,9 @@
 // inner: call `erasure::stripe_encode`
 ghost use Rattle.std.specs.Prelude.{◌≡◌};
 ghost use Rattle.gf256.specs.Product.{product, inverse, quotient};
-ghost use Rattle.test_field.specs.FieldBoundary.{powerOrZero, IsLog, settingsNumber, drawAt};
+ghost use Rattle.test_field.specs.FieldBoundary.{power_or_zero, IsLog, settings_number, draw_at};
 ghost use Rattle.settings.specs.Ranges.{quorum};
-ghost use Rattle.settings.specs.Times.{validTime};
+ghost use Rattle.settings.specs.Times.{valid_time};
 
 use settings::{Clock, Draw, Settings};
 
@@ -38,7 +38,7 @@ pub extern "C" fn probe_div(a: u8, b: u8) -> u8
 // 2 to the k by the table, 0 past it.
 #[unsafe(no_mangle)]
 pub extern "C" fn probe_power(k: usize) -> u8
-    ensures { result ≡ powerOrZero k }
+    ensures { result ≡ power_or_zero k }
 {
     let table = gf256::powers();
     if k < gf256::POWER_COUNT {
@@ -70,7 +70,7 @@ pub extern "C" fn probe_quorum(n: usize, m: usize) -> usize
 // Whether a number is a valid time.
 #[unsafe(no_mangle)]
 pub extern "C" fn probe_time(t: u64) -> bool
-    ensures { result ≡ validTime t }
+    ensures { result ≡ valid_time t }
 {
     settings::is_time(t)
 }
@@ -84,7 +84,7 @@ pub extern "C" fn probe_settings(
     capacity: usize,
     stripes: usize,
 ) -> u32
-    ensures { result ≡ settingsNumber n m size capacity stripes }
+    ensures { result ≡ settings_number n m size capacity stripes }
 {
     let s = Settings {
         n,
@@ -99,7 +99,7 @@ pub extern "C" fn probe_settings(
 // A clock's draw: the time and the next clock's last count go into a buffer of two numbers.
 #[unsafe(no_mangle)]
 pub extern "C" fn probe_draw(coordinator: u64, last: u64, reading: u64, out: &mut [u64]) -> u32
-    ensures { record { number = result; drawn = out.new } ≡ drawAt coordinator last reading out.old }
+    ensures { record { number = result; drawn = out.new } ≡ draw_at coordinator last reading out.old }
 {
     if out.len() != DRAWN_NUMBERS {
         return settings::BAD_LENGTH;

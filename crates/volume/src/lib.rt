@@ -1,12 +1,12 @@
 // A volume over many stripes (document 02, E1): where a client block lies, and a brick with the images of all its stripes, lent in one row.
 ghost use Rattle.std.specs.Prelude.{◌≡◌, ◌<◌, length};
 ghost use Rattle.settings.specs.Ranges.{SettingsRange};
-ghost use Rattle.image.specs.Brick.{freshBrick};
+ghost use Rattle.image.specs.Brick.{fresh_brick};
 ghost use Rattle.image.specs.Image.{image_of};
 ghost use Rattle.byte_lists.specs.Lists.{stacked};
-ghost use Rattle.brick.specs.Receive.{outcomeWith};
-ghost use Rattle.volume.specs.ClientPlaces.{settingsWith, place_of, placeWith, placeGiven};
-ghost use Rattle.volume.specs.Rows.{rowSize, rowLendingRefusal, freshRowAfter, rowOutcome};
+ghost use Rattle.brick.specs.Receive.{outcome_with};
+ghost use Rattle.volume.specs.ClientPlaces.{settings_with, place_of, place_with, place_given};
+ghost use Rattle.volume.specs.Rows.{row_size, row_lending_refusal, fresh_row_after, row_outcome};
 
 use brick::Given;
 use image_block::BLOCK_BYTES;
@@ -51,7 +51,7 @@ pub extern "C" fn volume_place(
     block: usize,
     place: &mut [usize],
 ) -> u32
-    ensures { placeWith result place.new ≡ placeGiven (settingsWith n m size capacity stripes) block place.old }
+    ensures { place_with result place.new ≡ place_given (settings_with n m size capacity stripes) block place.old }
 {
     let s = Settings {
         n,
@@ -80,7 +80,7 @@ pub extern "C" fn volume_place(
 
 // The refusal of a row of images for a fresh brick, 0 for none: 1 a setting, 2 the row's length, 3 the brick.
 fn row_refusal(s: Settings, brick: usize, len: usize) -> u32
-    ensures { result ≡ rowLendingRefusal s brick len }
+    ensures { result ≡ row_lending_refusal s brick len }
 {
     let bad = s.refusal();
     if bad != PASSED {
@@ -99,8 +99,8 @@ fn row_refusal(s: Settings, brick: usize, len: usize) -> u32
 fn fill_row(s: Settings, brick: usize, images: &mut [u8])
     requires settings_range { SettingsRange s }
     requires brick_lt_n { brick < s.n }
-    requires images_len { length images.old ≡ rowSize s }
-    ensures { images.new ≡ stacked s.stripes (λ _. image_of s brick (freshBrick s)) }
+    requires images_len { length images.old ≡ row_size s }
+    ensures { images.new ≡ stacked s.stripes (λ _. image_of s brick (fresh_brick s)) }
 {
     let room = BLOCK_BYTES * (s.capacity + 1);
     let stripes = s.stripes;
@@ -116,8 +116,8 @@ fn fill_row(s: Settings, brick: usize, images: &mut [u8])
 
 // Writes a fresh brick into a lent row: an image for each stripe. Refused: 1 a setting, 2 the row's length, 3 the brick.
 pub fn write_fresh(s: Settings, brick: usize, images: &mut [u8]) -> u32
-    ensures value { result ≡ rowLendingRefusal s brick (length images.old) }
-    ensures images_after { images.new ≡ freshRowAfter s brick images.old }
+    ensures value { result ≡ row_lending_refusal s brick (length images.old) }
+    ensures images_after { images.new ≡ fresh_row_after s brick images.old }
 {
     let bad = row_refusal(s, brick, images.len());
     if bad != PASSED {
@@ -139,8 +139,8 @@ pub fn receive(
     old: &[u8],
     out: &mut [u8],
 ) -> Given
-    ensures { outcomeWith result images.new out.new
-        ≡ rowOutcome s brick images.old msg block.now old.now out.old }
+    ensures { outcome_with result images.new out.new
+        ≡ row_outcome s brick images.old msg block.now old.now out.old }
 {
     let bad = s.refusal();
     if bad != PASSED {

@@ -4,7 +4,7 @@ use native.Mathlib.Omega.{arith}
 use lib.ListN.{length}
 use Rattle.bench_rules.specs.Turning.{lent}
 use Rattle.bench_carry.specs.Workers.{Carrying}
-use Rattle.bench_carry.proofs.Laws.CarryLaws.{carrying-first, carrying-next, carrying-done}
+use Rattle.bench_carry.proofs.Laws.CarryLaws.{carrying_first, carrying_next, carrying_done}
 use Rattle.bench_carry.proofs.carry_all.Statement.{statement}
 use Rattle.bench_carry.proofs.carry_all.Tie as tie
 
@@ -18,7 +18,7 @@ decreases-loop line first images₀ kept₀ numbers₀ bytes₀ out₀ r₀ plac
 
 loop-holds : tie.Need-loop-init invariant-loop decreases-loop
 loop-holds c = let s = c.before.before.before.before.before.before in
-    carrying-first s.args.b (lent s.args.images.now s.args.kept.now s.args.numbers.now s.args.bytes.now) s.args.line.now s.args.first s.args.out.now s.requires.0
+    carrying_first s.args.b (lent s.args.images.now s.args.kept.now s.args.numbers.now s.args.bytes.now) s.args.line.now s.args.first s.args.out.now s.requires.0
     s.requires.1.0
 
 number-at-requires : tie.Need-number-at-requires invariant-loop decreases-loop
@@ -53,7 +53,7 @@ loop-again c =
     let s = c.before.before.before.before.before.before.before.before.before.before.before.before.before.before.before.before.before.before.before.before.before.before.before.before.before.before.before in
     let v = c.before.before.before.before.before.before.before.before.before.before.before.before.before.before.before.before.before.before.before.before.loop in
     let k = c.before.before.before.before.before.before.before.before.before.before.before.carry-one.auto in
-    carrying-next s.args.b (lent s.args.images.now s.args.kept.now s.args.numbers.now s.args.bytes.now) s.args.line.now s.args.first s.args.out.now v.place
+    carrying_next s.args.b (lent s.args.images.now s.args.kept.now s.args.numbers.now s.args.bytes.now) s.args.line.now s.args.first s.args.out.now v.place
     v.r _ (lent v.images v.auto v.numbers v.bytes) _ v.out _ _
     c.before.before.before.before.before.before.before.before.before.before.before.before.before.before.before.before.before.before.before.loop-test.true s.pre.1.1
     v.invariant c.before.before.before.before.before.before.before.before.before.before.before.before.before.before.before.before.before.before.number_at.ensures
@@ -79,7 +79,7 @@ returns : tie.Need-returns invariant-loop decreases-loop
 returns c =
     let s = c.before.before.before.before.before.before.before.before in
     let v = c.before.loop in
-    carrying-done s.args.b (lent s.args.images.now s.args.kept.now s.args.numbers.now s.args.bytes.now) s.args.line.now s.args.first s.args.out.now v.place
+    carrying_done s.args.b (lent s.args.images.now s.args.kept.now s.args.numbers.now s.args.bytes.now) s.args.line.now s.args.first s.args.out.now v.place
     v.r (lent v.images v.auto v.numbers v.bytes) v.out
     c.loop-test.false s.requires.1.0.short v.invariant
 

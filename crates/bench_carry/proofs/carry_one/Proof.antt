@@ -1,8 +1,8 @@
 use mathlib.Core.Path.{refl, sym, ◌∙◌}
 use native.Mathlib.Omega.{arith}
-use Rattle.bench_carry_message.proofs.Laws.ReachingLaws.{ready-lends}
+use Rattle.bench_carry_message.proofs.Laws.ReachingLaws.{ready_lends}
 use Rattle.bench_rules.specs.Turning.{lent}
-use Rattle.bench_carry.proofs.Laws.CarryLaws.{carried-zero, carried-past, carried-item, ready-seats}
+use Rattle.bench_carry.proofs.Laws.CarryLaws.{carried_zero, carried_past, carried_item, ready_seats}
 use borrow.Author.Rules.{rules}
 use Rattle.bench_carry.proofs.carry_one.Statement.{statement}
 use Rattle.bench_carry.proofs.carry_one.Tie as tie
@@ -16,7 +16,7 @@ same_length c = search rules
 returns : tie.Need-returns
 returns c =
     let s = c.before.before.before.before.before.before.before.before.before.before in
-    carried-zero s.args.b (lent s.args.images.now s.args.kept.now s.args.numbers.now s.args.bytes.now) s.args.at s.args.out.now _
+    carried_zero s.args.b (lent s.args.images.now s.args.kept.now s.args.numbers.now s.args.bytes.now) s.args.at s.args.out.now _
     (lent s.args.images.now s.args.kept.now s.args.numbers.now s.args.bytes.now) _ s.args.number c.before.before.before.before.if1.true
     (c.before.before.refuse.ensures (lent s.args.images.now s.args.kept.now s.args.numbers.now s.args.bytes.now))
 
@@ -29,7 +29,7 @@ same-length-2 c = search rules
 returns-2 : tie.Need-returns-2
 returns-2 c =
     let s = c.before.before.before.before.before.before.before.before.before.before.before.before in
-    carried-past s.args.b (lent s.args.images.now s.args.kept.now s.args.numbers.now s.args.bytes.now) s.args.at s.args.out.now _
+    carried_past s.args.b (lent s.args.images.now s.args.kept.now s.args.numbers.now s.args.bytes.now) s.args.at s.args.out.now _
     (lent s.args.images.now s.args.kept.now s.args.numbers.now s.args.bytes.now) _ s.args.number c.before.before.before.before.if2.true
     (c.before.before.refuse2.ensures (lent s.args.images.now s.args.kept.now s.args.numbers.now s.args.bytes.now))
 
@@ -42,7 +42,7 @@ is-reply-requires c κs = search rules
 carry-reply-requires : tie.Need-carry-reply-requires
 carry-reply-requires c κs =
     let s = c.before.before.before.before.before.before.before.before.before.before.before.before.before.before.before in (
-      ready-seats s.args.b (lent s.args.images.now s.args.kept.now s.args.numbers.now s.args.bytes.now) s.args.at s.args.out.now s.requires.0 s.requires.1,
+      ready_seats s.args.b (lent s.args.images.now s.args.kept.now s.args.numbers.now s.args.bytes.now) s.args.at s.args.out.now s.requires.0 s.requires.1,
       (
         omega (arith, c.before.before.before.before.before.before.before.before.before.if1.false, c.before.before.before.before.before.before.before.if2.false),
         sym
@@ -65,7 +65,7 @@ same-length-6 c = search rules
 returns-3 : tie.Need-returns-3
 returns-3 c =
     let s = c.before.before.before.before.before.before.before.before.before.before.before.before.before.before.before.before.before.before.before.before.before.before.before.before in
-    carried-item s.args.b (lent s.args.images.now s.args.kept.now s.args.numbers.now s.args.bytes.now) s.args.at s.args.out.now _ _ _ s.args.number _
+    carried_item s.args.b (lent s.args.images.now s.args.kept.now s.args.numbers.now s.args.bytes.now) s.args.at s.args.out.now _ _ _ s.args.number _
     c.before.before.before.before.before.before.before.before.before.before.before.before.before.before.before.before.before.before.if1.false
     c.before.before.before.before.before.before.before.before.before.before.before.before.before.before.before.before.if2.false refl
     (c.before.before.before.before.before.before.before.before.carry-reply.ensures.turned s.args.images.now)
@@ -74,7 +74,7 @@ carry-message-requires : tie.Need-carry-message-requires
 carry-message-requires c κs =
     let s = c.before.before.before.before.before.before.before.before.before.before.before.before.before.before.before in (
       (
-        ready-lends s.args.b (lent s.args.images.now s.args.kept.now s.args.numbers.now s.args.bytes.now) s.requires.0,
+        ready_lends s.args.b (lent s.args.images.now s.args.kept.now s.args.numbers.now s.args.bytes.now) s.requires.0,
         omega
             (arith, c.before.before.before.before.before.before.before.before.before.if1.false, c.before.before.before.before.before.before.before.if2.false),
       ),
@@ -96,7 +96,7 @@ same-length-10 c = search rules
 returns-4 : tie.Need-returns-4
 returns-4 c =
     let s = c.before.before.before.before.before.before.before.before.before.before.before.before.before.before.before.before.before.before.before.before.before.before.before.before in
-    carried-item s.args.b (lent s.args.images.now s.args.kept.now s.args.numbers.now s.args.bytes.now) s.args.at s.args.out.now _ _ _ s.args.number _
+    carried_item s.args.b (lent s.args.images.now s.args.kept.now s.args.numbers.now s.args.bytes.now) s.args.at s.args.out.now _ _ _ s.args.number _
     c.before.before.before.before.before.before.before.before.before.before.before.before.before.before.before.before.before.before.if1.false
     c.before.before.before.before.before.before.before.before.before.before.before.before.before.before.before.before.if2.false refl
     (c.before.before.before.before.before.before.before.before.carry-message.ensures s.args.kept.now)

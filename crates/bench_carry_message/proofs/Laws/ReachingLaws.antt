@@ -5,6 +5,6 @@ use Rattle.bench_rules.specs.Workers.{BenchReady}
 use Rattle.bench_carry_message.specs.Workers.{Lends}
 
 -- a set that is ready lends what a message needs
-pub ready-lends : (b : Bench) (l : Lent) → BenchReady b l → Lends b l.images l.numbers l.bytes
-ready-lends b l r =
+pub ready_lends : (b : Bench) (l : Lent) → BenchReady b l → Lends b l.images l.numbers l.bytes
+ready_lends b l r =
     record { fits = r.fits; few = r.few; images-long = r.images-long; numbers-long = r.numbers-long; bytes-long = r.bytes-long }

@@ -2,15 +2,15 @@ use native.Mathlib.Omega.{arith}
 use Prim.Native.Nat.{◌<◌}
 use lib.ListN.{length}
 use mathlib.Core.Path.{◌≡◌, sym, ◌∙◌}
-use Rattle.bench_sent.proofs.Laws.SendLaws.{zeros-cut, zeros-cut-long}
-use Rattle.bench_carry_message.proofs.Laws.DeliverLaws.{carried-nowhere, carried-lost, carried-past, item-here, flag_up, flag-down}
+use Rattle.bench_sent.proofs.Laws.SendLaws.{zeros_cut, zeros_cut_long}
+use Rattle.bench_carry_message.proofs.Laws.DeliverLaws.{carried_nowhere, carried_lost, carried_past, item_here, flag_up, flag_down}
 use borrow.Author.Rules.{rules}
 use Rattle.bench_carry_message.proofs.carry_message.Statement.{statement}
 use Rattle.bench_carry_message.proofs.carry_message.Tie as tie
-use Rattle.bench_limits.specs.Limits.{benchBricks}
+use Rattle.bench_limits.specs.Limits.{bench_bricks}
 
 -- there is a flag for each brick of the set
-up-there : (s : tie.Start) → length s.args.b.up ≡ benchBricks
+up-there : (s : tie.Start) → length s.args.b.up ≡ bench_bricks
 up-there s = search rules
 
 up-low : (c : tie.Else1) → c.before.before.brick-at.result < length c.before.before.before.before.before.before.before.before.before.args.b.up
@@ -32,7 +32,7 @@ returns : tie.Need-returns
 returns c =
     λ kept.
     let s = c.before.before.before.before.before.before.before.before.before.before.before.before.before in
-    carried-nowhere s.args.b s.args.k _ s.args.images.now s.args.numbers.now s.args.bytes.now s.requires.1.0
+    carried_nowhere s.args.b s.args.k _ s.args.images.now s.args.numbers.now s.args.bytes.now s.requires.1.0
     c.before.before.before.before.before.before.brick-at.ensures
     kept s.args.at s.args.out.now _ _ c.before.before.before.before.if1.true c.before.before.refuse.ensures
 
@@ -46,8 +46,8 @@ returns-2 : tie.Need-returns-2
 returns-2 c =
     λ kept.
     let s = c.before.before.before.before.before.before.before.before.before.before.before in
-    carried-lost s.args.b s.args.k _ s.args.images.now s.args.numbers.now s.args.bytes.now s.requires.1.0 c.before.before.before.before.brick-at.ensures
-    kept s.args.at s.args.out.now c.before.before.if1.false (flag-down s.args.b.up _ _ (up-low c.before.before) c.if2.true) s.requires.0.0.few
+    carried_lost s.args.b s.args.k _ s.args.images.now s.args.numbers.now s.args.bytes.now s.requires.1.0 c.before.before.before.before.brick-at.ensures
+    kept s.args.at s.args.out.now c.before.before.if1.false (flag_down s.args.b.up _ _ (up-low c.before.before) c.if2.true) s.requires.0.0.few
 
 message-at-requires : tie.Need-message-at-requires
 message-at-requires c κs = search rules
@@ -77,7 +77,7 @@ returns-3 : tie.Need-returns-3
 returns-3 c =
     λ kept.
     let s = c.before.before.before.before.before.before.before.before.before.before.before.before.before.before.before.before.before.before.before.before.before.before in
-    carried-past s.args.b s.args.k _ s.args.images.now s.args.numbers.now s.args.bytes.now s.pre.1.0
+    carried_past s.args.b s.args.k _ s.args.images.now s.args.numbers.now s.args.bytes.now s.pre.1.0
     c.before.before.before.before.before.before.before.before.before.before.before.before.before.before.before.brick-at.ensures
     kept s.args.at s.args.out.now _ _ _ _ c.before.before.before.before.before.before.before.before.message-at.ensures s.pre.0.0 s.pre.0.1
     c.before.before.before.before.before.before.before.before.before.before.before.before.before.if1.false
@@ -90,7 +90,7 @@ array-borrow-prefix-block c = search rules
 
 slice-aggregate-deliver-with : tie.Need-slice-aggregate-deliver-with
 slice-aggregate-deliver-with c =
-    sym (zeros-cut-long _ c.before.before.before.before.before.before.before.before.before.before.before.before.before.before.before.before.before.requires.0.0.fits.size_fits)
+    sym (zeros_cut_long _ c.before.before.before.before.before.before.before.before.before.before.before.before.before.before.before.before.before.requires.0.0.fits.size_fits)
 
 deliver-with-requires : tie.Need-deliver-with-requires
 deliver-with-requires c κs =
@@ -101,7 +101,7 @@ deliver-with-requires c κs =
         record {
           sent-before = s.requires.0.1;
           there = there;
-          item-is = item-here s.args.b s.args.k _ s.args.images.now s.args.numbers.now s.args.bytes.now s.requires.1.0
+          item-is = item_here s.args.b s.args.k _ s.args.images.now s.args.numbers.now s.args.bytes.now s.requires.1.0
               c.before.before.before.before.before.before.before.before.before.before.before.before.before.before.brick-at.ensures _
               c.before.before.before.before.before.before.before.message-at.ensures;
           is_up = flag_up s.args.b.up _ _ (up-low c.before.before.before.before.before.before.before.before.before.before.before.before)
@@ -109,7 +109,7 @@ deliver-with-requires c κs =
           may-send = sym c.before.before.before.before.before.before.may-send.ensures ∙ c.before.before.before.before.before.if3.true;
         },
       ),
-      (zeros-cut s.args.b.settings.size s.requires.0.0.fits.size_fits, s.requires.1.1),
+      (zeros_cut s.args.b.settings.size s.requires.0.0.fits.size_fits, s.requires.1.1),
     )
 
 same-length-8 : tie.Need-same-length-8

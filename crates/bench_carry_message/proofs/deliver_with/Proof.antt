@@ -1,6 +1,6 @@
 use lib.ListN.{length, length-replicate}
 use mathlib.Core.Path.{ap, ◌∙◌}
-use Rattle.bench_carry_message.proofs.Laws.DeliverLaws.{deliver-room, deliver-settled}
+use Rattle.bench_carry_message.proofs.Laws.DeliverLaws.{deliver_room, deliver_settled}
 use borrow.Author.Rules.{rules}
 use Rattle.bench_carry_message.proofs.deliver_with.Statement.{statement}
 use Rattle.bench_carry_message.proofs.deliver_with.Tie as tie
@@ -71,7 +71,7 @@ settle-requires c κs =
     let e = c.before.before.before.before.before.before.before.before.receive in
     let z = s.requires.0.0 in (
       (
-        deliver-room s.args.b s.args.k s.args.brick s.args.msg s.args.images.now s.args.numbers.now s.args.bytes.now z s.requires.0.1 _ _ _ _ _ _ _
+        deliver_room s.args.b s.args.k s.args.brick s.args.msg s.args.images.now s.args.numbers.now s.args.bytes.now z s.requires.0.1 _ _ _ _ _ _ _
             e.ensures,
         e.auto.1.1.1.1.1.1.0 ∙ ap length s.requires.1.0 ∙ length-replicate s.args.b.settings.size 0,
         z.fits.size_fits,
@@ -98,7 +98,7 @@ returns : tie.Need-returns
 returns c =
     let s = c.before.before.before.before.before.before.before.before.before.before.before.before.before.before.before.before.before.before.before.before.before.before.before.before.before.before.before.before.before.before in
     let e = c.before.before.before.before.before.before.before.before.before.before.before.before.before.before.before.receive in
-    deliver-settled s.args.b s.args.k s.args.brick s.args.msg s.args.images.now s.args.numbers.now s.args.bytes.now s.pre.0.0 s.pre.0.1
+    deliver_settled s.args.b s.args.k s.args.brick s.args.msg s.args.images.now s.args.numbers.now s.args.bytes.now s.pre.0.0 s.pre.0.1
     _ _ s.args.block.now _ _ s.args.at s.args.out.now _ _ _ s.pre.1.0 e.ensures e.auto.1.1.0
     c.before.before.before.before.before.before.settle.ensures
 

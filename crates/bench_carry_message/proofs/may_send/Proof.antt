@@ -1,4 +1,4 @@
-use Rattle.bench_carry_message.proofs.Laws.ReplyKeptLaws.{may-silent, may-other}
+use Rattle.bench_carry_message.proofs.Laws.ReplyKeptLaws.{may_silent, may_other}
 use borrow.Author.Rules.{rules}
 use Rattle.bench_carry_message.proofs.may_send.Statement.{statement}
 use Rattle.bench_carry_message.proofs.may_send.Tie as tie
@@ -7,10 +7,10 @@ is-silent-requires : tie.Need-is-silent-requires
 is-silent-requires c κs = search rules
 
 returns : tie.Need-returns
-returns c = search (rules, may-silent)
+returns c = search (rules, may_silent)
 
 returns-2 : tie.Need-returns-2
-returns-2 c = search (rules, may-other)
+returns-2 c = search (rules, may_other)
 
 pub may-send-spec : {M : Type 1} → statement M
 may-send-spec = tie.close (tie.spec is-silent-requires returns returns-2)

@@ -1,4 +1,4 @@
-use Rattle.bench_carry_message.proofs.Laws.PastLimitLaws.{past-brick, past-line}
+use Rattle.bench_carry_message.proofs.Laws.PastLimitLaws.{past_brick, past_line}
 use borrow.Author.Rules.{rules}
 use Rattle.bench_carry_message.proofs.past_limit.Statement.{statement}
 use Rattle.bench_carry_message.proofs.past_limit.Tie as tie
@@ -28,10 +28,10 @@ refusal-at-requires : tie.Need-refusal-at-requires
 refusal-at-requires c κs = search rules
 
 returns : tie.Need-returns
-returns c = past-brick _ _ _ _ _ c.before.before.before.before.before.requires.0 c.before.refusal-at.ensures c.if1.true
+returns c = past_brick _ _ _ _ _ c.before.before.before.before.before.requires.0 c.before.refusal-at.ensures c.if1.true
 
 returns-2 : tie.Need-returns-2
-returns-2 c = past-line _ _ _ _ _ c.before.before.before.before.before.requires.0 c.before.refusal-at.ensures c.if1.false
+returns-2 c = past_line _ _ _ _ _ c.before.before.before.before.before.requires.0 c.before.refusal-at.ensures c.if1.false
 
 pub past-limit-spec : {M : Type 1} → statement M
 past-limit-spec =

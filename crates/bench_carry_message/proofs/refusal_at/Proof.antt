@@ -1,6 +1,6 @@
 use native.Mathlib.Omega.{arith}
 use Rattle.brick.proofs.Laws.OutcomeLaws.{fronted}
-use Rattle.bench_carry_message.proofs.Laws.PastLimitLaws.{refused-front, refused-image, refused-message, damaged-is}
+use Rattle.bench_carry_message.proofs.Laws.PastLimitLaws.{refused_front, refused_image, refused_message, damaged_is}
 use borrow.Author.Rules.{rules}
 use Rattle.bench_carry_message.proofs.refusal_at.Statement.{statement}
 use Rattle.bench_carry_message.proofs.refusal_at.Tie as tie
@@ -9,7 +9,7 @@ front-refusal-requires : tie.Need-front-refusal-requires
 front-refusal-requires c κs = search rules
 
 returns : tie.Need-returns
-returns c = refused-front _ _ _ _ _ _ c.before.front-refusal.ensures c.if1.true
+returns c = refused_front _ _ _ _ _ _ c.before.front-refusal.ensures c.if1.true
 
 open-requires : tie.Need-open-requires
 open-requires c κs = search rules
@@ -19,8 +19,8 @@ number-of-requires c κs = search rules
 
 returns-2 : tie.Need-returns-2
 returns-2 c =
-    refused-image _ _ _ _ _ _ c.before.before.before.before.front-refusal.ensures c.before.before.before.if1.false _
-    (damaged-is _ _ _ _ _ c.before.before.«open».ensures c.before.number_of_lem.ensures) c.if2.true
+    refused_image _ _ _ _ _ _ c.before.before.before.before.front-refusal.ensures c.before.before.before.if1.false _
+    (damaged_is _ _ _ _ _ c.before.before.«open».ensures c.before.number_of_lem.ensures) c.if2.true
 
 refusal-requires : tie.Need-refusal-requires
 refusal-requires c κs =
@@ -29,8 +29,8 @@ refusal-requires c κs =
 
 returns-3 : tie.Need-returns-3
 returns-3 c =
-    refused-message _ _ _ _ _ _ c.before.before.before.before.before.front-refusal.ensures c.before.before.before.before.if1.false _
-    (damaged-is _ _ _ _ _ c.before.before.before.«open».ensures c.before.before.number_of_lem.ensures) c.before.if2.false _ c.refusal.ensures
+    refused_message _ _ _ _ _ _ c.before.before.before.before.before.front-refusal.ensures c.before.before.before.before.if1.false _
+    (damaged_is _ _ _ _ _ c.before.before.before.«open».ensures c.before.before.number_of_lem.ensures) c.before.if2.false _ c.refusal.ensures
 
 pub refusal-at-spec : {M : Type 1} → statement M
 refusal-at-spec =

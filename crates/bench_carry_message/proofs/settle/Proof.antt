@@ -1,5 +1,5 @@
 use native.Mathlib.Omega.{arith}
-use Rattle.bench_carry_message.proofs.Laws.ReplyKeptLaws.{room-answered, room-any, settled-answered, settled-silent, settled-refused}
+use Rattle.bench_carry_message.proofs.Laws.ReplyKeptLaws.{room_answered, room_any, settled_answered, settled_silent, settled_refused}
 use borrow.Author.Rules.{rules}
 use Rattle.bench_carry_message.proofs.settle.Statement.{statement}
 use Rattle.bench_carry_message.proofs.settle.Tie as tie
@@ -10,13 +10,13 @@ enum-known-g c = search rules
 put-reply-requires : tie.Need-put-reply-requires
 put-reply-requires c κs =
     let s = c.before.before.before.before.before.before.before.before.before in
-    let h = room-answered s.args.b.sent s.args.g _ c.before.before.before.g.given.1 s.requires.0.0 in
+    let h = room_answered s.args.b.sent s.args.g _ c.before.before.before.g.given.1 s.requires.0.0 in
     (omega (arith, s.requires.0.1, s.requires.0.2), omega (arith, h, s.requires.1.0), omega (arith, h, s.requires.1.1))
 
 add-with-sent : tie.Need-overflow-add-with-sent
 add-with-sent c =
     let s = c.before.before.before.before.before.before.before.before.before.before.before.before.before.before.before in
-    let h = room-answered s.args.b.sent s.args.g _ c.before.before.before.before.before.before.before.before.before.g.given.1 s.requires.0.0 in
+    let h = room_answered s.args.b.sent s.args.g _ c.before.before.before.before.before.before.before.before.before.g.given.1 s.requires.0.0 in
     record { fits = omega (arith, h) }
 
 with-sent-requires : tie.Need-with-sent-requires
@@ -29,7 +29,7 @@ enum-known-g-2 : tie.Need-enum-known-g-2
 enum-known-g-2 c = search rules
 
 refuse-requires : tie.Need-refuse-requires
-refuse-requires c κs = search (rules, room-any)
+refuse-requires c κs = search (rules, room_any)
 
 same_length : tie.Need-same-length
 same_length c = search rules
@@ -40,22 +40,22 @@ same-length-2 c = search rules
 returns : tie.Need-returns
 returns c =
     let s = c.before.before.before.before.before.before.before.before.before.before.before.before.before.before.before.before in
-    settled-answered s.args.b s.args.block.now s.args.numbers.now s.args.bytes.now s.args.at s.args.out.now s.args.g _ _ _ _
+    settled_answered s.args.b s.args.block.now s.args.numbers.now s.args.bytes.now s.args.at s.args.out.now s.args.g _ _ _ _
     c.before.before.before.before.before.before.before.before.before.before.g.given.1 s.requires.0.1
-    (room-answered s.args.b.sent s.args.g _ c.before.before.before.before.before.before.before.before.before.before.g.given.1 s.requires.0.0) c.with-sent.ensures
+    (room_answered s.args.b.sent s.args.g _ c.before.before.before.before.before.before.before.before.before.before.g.given.1 s.requires.0.0) c.with-sent.ensures
     c.before.before.before.before.before.before.put-reply.ensures.1.1
 
 returns-2 : tie.Need-returns-2
 returns-2 c =
     let s = c.before.before.before.before.before.before in
-    settled-silent s.args.b s.args.block.now s.args.numbers.now s.args.bytes.now s.args.at s.args.out.now s.args.g
-    c.enum_told.given.1 (room-any s.args.b.sent s.args.g s.requires.0.0)
+    settled_silent s.args.b s.args.block.now s.args.numbers.now s.args.bytes.now s.args.at s.args.out.now s.args.g
+    c.enum_told.given.1 (room_any s.args.b.sent s.args.g s.requires.0.0)
 
 same-length-3 : tie.Need-same-length-3
 same-length-3 c = search rules
 
 returns-3 : tie.Need-returns-3
-returns-3 c = settled-refused _ _ _ _ _ _ _ _ _ _ (search rules) c.before.before.refuse.ensures
+returns-3 c = settled_refused _ _ _ _ _ _ _ _ _ _ (search rules) c.before.before.refuse.ensures
 
 pub settle-spec : {M : Type 1} → statement M
 settle-spec =

@@ -1,6 +1,6 @@
 use mathlib.Core.Path.{refl, sym}
-use Rattle.bench_commit.proofs.Laws.ActedLaws.{reply-past, reply-here}
-use Rattle.bench_commit.proofs.Laws.CommitLaws.{seat-at, front_long}
+use Rattle.bench_commit.proofs.Laws.ActedLaws.{reply_past, reply_here}
+use Rattle.bench_commit.proofs.Laws.CommitLaws.{seat_at, front_long}
 use borrow.Author.Rules.{rules}
 use Rattle.bench_carry_reply.proofs.carry_reply.Statement.{statement}
 use Rattle.bench_carry_reply.proofs.carry_reply.Tie as tie
@@ -20,7 +20,7 @@ same-length-2 c = search rules
 returns : tie.Need-returns
 returns c =
     let s = c.before.before.before.before.before.before.before.before.before.before.before.before in
-    reply-past s.args.b s.args.k s.args.kept.now s.args.numbers.now s.args.bytes.now s.args.at s.args.out.now _ _ s.requires.1.1
+    reply_past s.args.b s.args.k s.args.kept.now s.args.numbers.now s.args.bytes.now s.args.at s.args.out.now _ _ s.requires.1.1
     c.before.before.before.before.before.before.reply-at.ensures _ c.before.before.before.before.if1.true c.before.before.refuse.ensures
 
 mul-data : tie.Need-overflow-mul-data
@@ -51,7 +51,7 @@ reply-with-requires : tie.Need-reply-with-requires
 reply-with-requires c κs =
     let s = c.before.before.before.before.before.before.before.before.before.before.before.before.before.before.before.before.before.before in
     let long = sym (front_long _ s.requires.0.fits.small.blocks-fit) in (
-      seat-at s.args.b 0 _ s.args.kept.now s.args.numbers.now s.args.bytes.now s.args.at s.args.out.now s.requires.0
+      seat_at s.args.b 0 _ s.args.kept.now s.args.numbers.now s.args.bytes.now s.args.at s.args.out.now s.requires.0
           c.before.before.before.before.before.before.before.before.before.before.if1.false,
       (
         record { blocks-long = long; stripe-long = sym (front_long _ s.requires.0.fits.small.stripe-fits); coded-long = long },
@@ -74,7 +74,7 @@ same-length-6 c = search rules
 returns-2 : tie.Need-returns-2
 returns-2 c =
     let s = c.before.before.before.before.before.before.before.before.before.before.before.before.before.before.before.before.before.before.before.before.before.before.before.before.before.before.before.before.before.before in
-    reply-here s.args.b s.args.k s.args.kept.now s.args.numbers.now s.args.bytes.now s.args.at s.args.out.now _ _ s.pre.1.1
+    reply_here s.args.b s.args.k s.args.kept.now s.args.numbers.now s.args.bytes.now s.args.at s.args.out.now _ _ s.pre.1.1
     c.before.before.before.before.before.before.before.before.before.before.before.before.before.before.before.before.before.before.before.before.before.before.before.before.reply-at.ensures _ _ _ _
     c.before.before.before.before.before.before.before.before.before.before.before.before.before.before.before.before.before.before.before.before.before.before.if1.false
     c.before.before.before.before.before.before.before.before.before.before.before.reply-with.ensures

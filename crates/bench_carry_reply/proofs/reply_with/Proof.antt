@@ -2,13 +2,13 @@ use mathlib.Core.Path.{refl, ap, ◌∙◌}
 use Prim.Native.Nat.{ℕ, ◌+◌, ◌*◌}
 use native.Mathlib.Omega.{arith}
 use lib.ListN.{take, drop}
-use Rattle.bench_commit.proofs.Laws.ListsLaws.{take-lists}
-use Rattle.bench_sent.proofs.Laws.SentRowLaws.{block-cut}
-use Rattle.bench_commit.proofs.Laws.ActedLaws.{acted-row}
+use Rattle.bench_commit.proofs.Laws.ListsLaws.{take_lists}
+use Rattle.bench_sent.proofs.Laws.SentRowLaws.{block_cut}
+use Rattle.bench_commit.proofs.Laws.ActedLaws.{acted_row}
 use borrow.Author.Rules.{rules}
 use Rattle.bench_carry_reply.proofs.reply_with.Statement.{statement}
 use Rattle.bench_carry_reply.proofs.reply_with.Tie as tie
-use Rattle.bench_limits.specs.Limits.{stripeRoom, keptRoom, rowBytes, blockPlace}
+use Rattle.bench_limits.specs.Limits.{stripe_room, kept_room, row_bytes, block_place}
 
 fetch-requires : tie.Need-fetch-requires
 fetch-requires c κs = search rules
@@ -53,7 +53,7 @@ commit-requires c κs =
           stripe-long = t.1.1.1.1.1.1.1.1.0 ∙ f.1.1.1.0 ∙ s.pre.1.0.stripe-long;
           coded-long = t.1.1.1.1.1.1.1.1.1.0 ∙ s.pre.1.0.coded-long;
         },
-        take-lists _ _ _ _ _ _ _ _ _ _ _ _ _ _ c.before.before.before.before.before.before.before.before.before.before.before.before.before.take-reply.ensures,
+        take_lists _ _ _ _ _ _ _ _ _ _ _ _ _ _ c.before.before.before.before.before.before.before.before.before.before.before.before.before.take-reply.ensures,
       ),
     )
 
@@ -86,14 +86,14 @@ returns c =
     let k = s.args.kept.now in
     let z = s.args.b.settings.size in
     let e = c.before.before.before.before.before.before.before.before.before.before.before.before.before.before.before.before.before.before.before.before.before.before.take-reply.ensures in
-    acted-row s.args.b s.args.c k s.args.numbers.now s.args.bytes.now s.args.at s.args.out.now _ _ _ _ _ _ _ _ s.pre.0.low
+    acted_row s.args.b s.args.c k s.args.numbers.now s.args.bytes.now s.args.at s.args.out.now _ _ _ _ _ _ _ _ s.pre.0.low
     c.before.before.before.before.before.before.before.before.before.before.before.before.before.before.before.before.before.before.before.before.before.before.before.before.before.before.before.before.before.coordinator-at.ensures.0
     (c.before.before.before.before.before.before.before.before.before.before.before.before.before.before.before.before.before.before.before.before.before.before.before.before.before.before.before.before.before.before.before.before.before.before.before.fetch.ensures.0
-    ∙ ap (λ (j : ℕ). take j (drop (s.args.c * keptRoom) k)) s.pre.1.0.blocks-long)
+    ∙ ap (λ (j : ℕ). take j (drop (s.args.c * kept_room) k)) s.pre.1.0.blocks-long)
     (c.before.before.before.before.before.before.before.before.before.before.before.before.before.before.before.before.before.before.before.before.before.before.before.before.before.before.before.before.before.before.before.before.before.before.before.fetch.ensures.1
-    ∙ ap (λ (j : ℕ). take j (drop (s.args.c * keptRoom + stripeRoom) k)) s.pre.1.0.stripe-long)
+    ∙ ap (λ (j : ℕ). take j (drop (s.args.c * kept_room + stripe_room) k)) s.pre.1.0.stripe-long)
     s.args.k s.args.reply _ _ s.args.coded.now _ _ _ s.pre.1.1.0 s.pre.1.1.1 s.pre.1.1.2
-    (block-cut z s.args.k (s.args.k * rowBytes + blockPlace) (s.args.k * rowBytes + blockPlace + z) s.args.bytes.now refl refl)
+    (block_cut z s.args.k (s.args.k * row_bytes + block_place) (s.args.k * row_bytes + block_place + z) s.args.bytes.now refl refl)
     s.pre.1.1.3 s.pre.1.0.coded-long e c.before.before.before.before.before.before.before.before.commit.ensures
 
 pub reply-with-spec : {M : Type 1} → statement M

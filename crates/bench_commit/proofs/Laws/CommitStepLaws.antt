@@ -6,15 +6,15 @@ use Prim.Native.Nat.{ℕ}
 use native.Mathlib.Omega.{arith}
 use lib.Dec.{eqb, leb}
 use borrow.Author.Tests.{leb-false}
-use Rattle.settings.specs.Times.{drawRefusal, drawOf, timeOf, nextCount, advanced}
+use Rattle.settings.specs.Times.{draw_refusal, draw_of, time_of, next_count, advanced}
 use Rattle.settings.specs.declared.Clock.{Clock}
 use Rattle.settings.specs.declared.Draw.{Draw}
 use Rattle.settings.specs.declared.Draw.TheVariants.{Drawn, Refused}
 use Rattle.message.specs.declared.Reply.{Reply}
-use Rattle.coord_apply.specs.Acts.{ending, starting, roundMessage, firstOp}
-use Rattle.coord_apply.specs.Answers.{Buffered, Went, Step, refused, went, afterChecks, nothingSeen, cutSeen, blocksAfter, stripeAfter, codedAfter, sentBlocks}
-use Rattle.coord_record.specs.Records.{idleKind, noBricks}
-use Rattle.coordinator.specs.Routines.{takeStep, crashed, crashStep, drawnThen, writeStep, read_step}
+use Rattle.coord_apply.specs.Acts.{ending, starting, round_message, first_op}
+use Rattle.coord_apply.specs.Answers.{Buffered, Went, Step, refused, went, after_checks, nothing_seen, cut_seen, blocks_after, stripe_after, coded_after, sent_blocks}
+use Rattle.coord_record.specs.Records.{idle_kind, no_bricks}
+use Rattle.coordinator.specs.Routines.{take_step, crashed, crash_step, drawn_then, write_step, read_step}
 use Rattle.bench_commit.proofs.Laws.CommitLaws.{Numbered}
 
 -- a property of what was done, or of nothing where it was refused
@@ -22,107 +22,107 @@ abbrev pub Went-so : (Went → Type 0) → Step → Type 0
 Went-so P (refused number) = Unit {0}
 Went-so P (went g) = P g
 
-pub so-checked : (P : Went → Type 0) (k : ℕ) (p : Step) → Went-so P p → Went-so P (afterChecks k p)
-unfolding afterChecks
-so-checked P k p h = go (leb k 0)
+pub so_checked : (P : Went → Type 0) (k : ℕ) (p : Step) → Went-so P p → Went-so P (after_checks k p)
+unfolding after_checks
+so_checked P k p h = go (leb k 0)
   where
     go : (b : Bool) → Went-so P (cond b p (refused k))
     go true = h
     go false = tt
 
-pub so-drawn : (P : Went → Type 0) (d : Draw) (f : ℕ → Clock → Went) → ((t : ℕ) (c : Clock) → P (f t c)) → Went-so P (drawnThen d f)
-unfolding drawnThen
-so-drawn P (Drawn t c) f h = h t c
-so-drawn P (Refused k) f h = tt
+pub so_drawn : (P : Went → Type 0) (d : Draw) (f : ℕ → Clock → Went) → ((t : ℕ) (c : Clock) → P (f t c)) → Went-so P (drawn_then d f)
+unfolding drawn_then
+so_drawn P (Drawn t c) f h = h t c
+so_drawn P (Refused k) f h = tt
 
-blocks-of : (h : Buffered) (p : Step) → Went-so (λ (g : Went). g.next.blocks ≡ h.blocks) p → blocksAfter h p ≡ h.blocks
-unfolding blocksAfter
-blocks-of h (refused k) e = refl
-blocks-of h (went g) e = e
+blocks_of_lem : (h : Buffered) (p : Step) → Went-so (λ (g : Went). g.next.blocks ≡ h.blocks) p → blocks_after h p ≡ h.blocks
+unfolding blocks_after
+blocks_of_lem h (refused k) e = refl
+blocks_of_lem h (went g) e = e
 
-stripe-of : (h : Buffered) (p : Step) → Went-so (λ (g : Went). g.next.stripe ≡ h.stripe) p → stripeAfter h p ≡ h.stripe
-unfolding stripeAfter
-stripe-of h (refused k) e = refl
-stripe-of h (went g) e = e
+stripe_of_lem : (h : Buffered) (p : Step) → Went-so (λ (g : Went). g.next.stripe ≡ h.stripe) p → stripe_after h p ≡ h.stripe
+unfolding stripe_after
+stripe_of_lem h (refused k) e = refl
+stripe_of_lem h (went g) e = e
 
-coded-of : (old : List ℕ) (p : Step) → Went-so (λ (g : Went). sentBlocks g.sent old ≡ old) p → codedAfter old p ≡ old
-unfolding codedAfter
-coded-of old (refused k) e = refl
-coded-of old (went g) e = e
+coded_of_lem : (old : List ℕ) (p : Step) → Went-so (λ (g : Went). sent_blocks g.sent old ≡ old) p → coded_after old p ≡ old
+unfolding coded_after
+coded_of_lem old (refused k) e = refl
+coded_of_lem old (went g) e = e
 
 -- refusals have numbers
-numbered-checked : (k : ℕ) (p : Step) → Numbered p → Numbered (afterChecks k p)
-unfolding afterChecks
-numbered-checked k p h = go (leb k 0) refl
+numbered_checked : (k : ℕ) (p : Step) → Numbered p → Numbered (after_checks k p)
+unfolding after_checks
+numbered_checked k p h = go (leb k 0) refl
   where
     go : (b : Bool) → leb k 0 ≡ b → Numbered (cond b p (refused k))
     go true e = h
     go false e = λ z. (let l = leb-false k 0 e in absurd (omega arith))
 
-numbered-drawn : (c : Clock) (reading : ℕ) (f : ℕ → Clock → Went) → Numbered (drawnThen (drawOf c reading) f)
-unfolding drawnThen drawOf
-numbered-drawn c reading f = go (leb (drawRefusal c reading) 0) refl
+numbered_drawn : (c : Clock) (reading : ℕ) (f : ℕ → Clock → Went) → Numbered (drawn_then (draw_of c reading) f)
+unfolding drawn_then draw_of
+numbered_drawn c reading f = go (leb (draw_refusal c reading) 0) refl
   where
-    go : (b : Bool) → leb (drawRefusal c reading) 0 ≡ b
-        → Numbered (drawnThen (cond b (Drawn (timeOf (nextCount c.last reading) c.coordinator) (advanced c reading)) (Refused (drawRefusal c reading))) f)
+    go : (b : Bool) → leb (draw_refusal c reading) 0 ≡ b
+        → Numbered (drawn_then (cond b (Drawn (time_of (next_count c.last reading) c.coordinator) (advanced c reading)) (Refused (draw_refusal c reading))) f)
     go true e = tt
-    go false e = λ z. (let l = leb-false (drawRefusal c reading) 0 e in absurd (omega arith))
+    go false e = λ z. (let l = leb-false (draw_refusal c reading) 0 e in absurd (omega arith))
 
 module _ (n m size stripes : ℕ) (h : Buffered) where
   module _ (number reading : ℕ) (bytes : List ℕ) where
-    pub write-numbered : Numbered (writeStep n m size stripes h number reading bytes)
-    unfolding writeStep
-    write-numbered = numbered-checked _ _ (numbered-drawn h.state.clock reading _)
+    pub write_numbered : Numbered (write_step n m size stripes h number reading bytes)
+    unfolding write_step
+    write_numbered = numbered_checked _ _ (numbered_drawn h.state.clock reading _)
 
-    pub write-blocks : blocksAfter h (writeStep n m size stripes h number reading bytes) ≡ h.blocks
-    unfolding writeStep starting
-    write-blocks = blocks-of h _ (so-checked _ _ _ (so-drawn _ (drawOf h.state.clock reading) _ (λ t c. refl)))
+    pub write_blocks : blocks_after h (write_step n m size stripes h number reading bytes) ≡ h.blocks
+    unfolding write_step starting
+    write_blocks = blocks_of_lem h _ (so_checked _ _ _ (so_drawn _ (draw_of h.state.clock reading) _ (λ t c. refl)))
 
-    pub write-coded : (old : List ℕ) → codedAfter old (writeStep n m size stripes h number reading bytes) ≡ old
-    unfolding writeStep starting sentBlocks roundMessage firstOp
-    write-coded old = coded-of old _ (so-checked _ _ _ (so-drawn _ (drawOf h.state.clock reading) _ (λ t c. refl)))
+    pub write_coded : (old : List ℕ) → coded_after old (write_step n m size stripes h number reading bytes) ≡ old
+    unfolding write_step starting sent_blocks round_message first_op
+    write_coded old = coded_of_lem old _ (so_checked _ _ _ (so_drawn _ (draw_of h.state.clock reading) _ (λ t c. refl)))
 
   module _ (number reading first : ℕ) where
-    pub read-numbered : Numbered (read_step n m size stripes h number reading first)
+    pub read_numbered : Numbered (read_step n m size stripes h number reading first)
     unfolding read_step
-    read-numbered = numbered-checked _ _ (numbered-drawn h.state.clock reading _)
+    read_numbered = numbered_checked _ _ (numbered_drawn h.state.clock reading _)
 
-    pub read-blocks : blocksAfter h (read_step n m size stripes h number reading first) ≡ h.blocks
+    pub read_blocks : blocks_after h (read_step n m size stripes h number reading first) ≡ h.blocks
     unfolding read_step starting
-    read-blocks = blocks-of h _ (so-checked _ _ _ (so-drawn _ (drawOf h.state.clock reading) _ (λ t c. refl)))
+    read_blocks = blocks_of_lem h _ (so_checked _ _ _ (so_drawn _ (draw_of h.state.clock reading) _ (λ t c. refl)))
 
-    pub read-stripe : stripeAfter h (read_step n m size stripes h number reading first) ≡ h.stripe
+    pub read_stripe : stripe_after h (read_step n m size stripes h number reading first) ≡ h.stripe
     unfolding read_step starting
-    read-stripe = stripe-of h _ (so-checked _ _ _ (so-drawn _ (drawOf h.state.clock reading) _ (λ t c. refl)))
+    read_stripe = stripe_of_lem h _ (so_checked _ _ _ (so_drawn _ (draw_of h.state.clock reading) _ (λ t c. refl)))
 
-    pub read-coded : (old : List ℕ) → codedAfter old (read_step n m size stripes h number reading first) ≡ old
-    unfolding read_step starting sentBlocks roundMessage firstOp
-    read-coded old = coded-of old _ (so-checked _ _ _ (so-drawn _ (drawOf h.state.clock reading) _ (λ t c. refl)))
+    pub read_coded : (old : List ℕ) → coded_after old (read_step n m size stripes h number reading first) ≡ old
+    unfolding read_step starting sent_blocks round_message first_op
+    read_coded old = coded_of_lem old _ (so_checked _ _ _ (so_drawn _ (draw_of h.state.clock reading) _ (λ t c. refl)))
 
-  pub crash-so : (P : Went → Type 0) → P (record { next = h; sent = []; seen = nothingSeen }) → P (ending n h h.stripe [] cutSeen noBricks) → Went-so P (crashStep n m size stripes h)
-  unfolding crashStep crashed
-  crash-so P a b = so-checked P _ (went (crashed n h)) (go (eqb h.state.op.kind idleKind))
+  pub crash_so : (P : Went → Type 0) → P (record { next = h; sent = []; seen = nothing_seen }) → P (ending n h h.stripe [] cut_seen no_bricks) → Went-so P (crash_step n m size stripes h)
+  unfolding crash_step crashed
+  crash_so P a b = so_checked P _ (went (crashed n h)) (go (eqb h.state.op.kind idle_kind))
     where
-      go : (t : Bool) → P (cond t (record { next = h; sent = []; seen = nothingSeen }) (ending n h h.stripe [] cutSeen noBricks))
+      go : (t : Bool) → P (cond t (record { next = h; sent = []; seen = nothing_seen }) (ending n h h.stripe [] cut_seen no_bricks))
       go true = a
       go false = b
 
-  pub crash-numbered : Numbered (crashStep n m size stripes h)
-  unfolding crashStep
-  crash-numbered = numbered-checked _ (went (crashed n h)) tt
+  pub crash_numbered : Numbered (crash_step n m size stripes h)
+  unfolding crash_step
+  crash_numbered = numbered_checked _ (went (crashed n h)) tt
 
-  pub crash-blocks : blocksAfter h (crashStep n m size stripes h) ≡ h.blocks
+  pub crash_blocks : blocks_after h (crash_step n m size stripes h) ≡ h.blocks
   unfolding ending
-  crash-blocks = blocks-of h _ (crash-so _ refl refl)
+  crash_blocks = blocks_of_lem h _ (crash_so _ refl refl)
 
-  pub crash-stripe : stripeAfter h (crashStep n m size stripes h) ≡ h.stripe
+  pub crash_stripe : stripe_after h (crash_step n m size stripes h) ≡ h.stripe
   unfolding ending
-  crash-stripe = stripe-of h _ (crash-so _ refl refl)
+  crash_stripe = stripe_of_lem h _ (crash_so _ refl refl)
 
-  pub crash-coded : (old : List ℕ) → codedAfter old (crashStep n m size stripes h) ≡ old
-  unfolding ending sentBlocks
-  crash-coded old = coded-of old _ (crash-so _ refl refl)
+  pub crash_coded : (old : List ℕ) → coded_after old (crash_step n m size stripes h) ≡ old
+  unfolding ending sent_blocks
+  crash_coded old = coded_of_lem old _ (crash_so _ refl refl)
 
-  pub take-numbered : (r : Reply) (block : List ℕ) (coded : ℕ) → Numbered (takeStep n m size stripes h r block coded)
-  unfolding takeStep
-  take-numbered r block coded = numbered-checked _ _ tt
+  pub take_numbered : (r : Reply) (block : List ℕ) (coded : ℕ) → Numbered (take_step n m size stripes h r block coded)
+  unfolding take_step
+  take_numbered r block coded = numbered_checked _ _ tt

@@ -1,5 +1,5 @@
 use native.Mathlib.Omega.{arith}
-use Rattle.bench_commit.proofs.Laws.CommitLaws.{answers-refused, answers-past}
+use Rattle.bench_commit.proofs.Laws.CommitLaws.{answers_refused, answers_past}
 use borrow.Author.Rules.{rules}
 use Rattle.bench_commit.proofs.commit.Statement.{statement}
 use Rattle.bench_commit.proofs.commit.Tie as tie
@@ -11,7 +11,7 @@ same_length : tie.Need-same-length
 same_length c = search rules
 
 returns : tie.Need-returns
-returns c = answers-refused _ _ _ _ _ _ _ _ _ _ _ (search rules) _ _ (search rules) c.before.before.refuse.ensures
+returns c = answers_refused _ _ _ _ _ _ _ _ _ _ _ (search rules) _ _ (search rules) c.before.before.refuse.ensures
 
 sent-after-requires : tie.Need-sent-after-requires
 sent-after-requires c κs = let p = c.before.before.before.before.before.before.before.before.before.before.requires.0 in
@@ -26,7 +26,7 @@ same-length-2 c = search rules
 returns-2 : tie.Need-returns-2
 returns-2 c =
     let s = c.before.before.before.before.before.before.before.before.before.before.before.before.before.before.before.before in
-    answers-past s.args.b s.args.c s.args.a s.args.blocks.now s.args.stripe.now s.args.coded.now s.args.kept.now s.args.numbers.now
+    answers_past s.args.b s.args.c s.args.a s.args.blocks.now s.args.stripe.now s.args.coded.now s.args.kept.now s.args.numbers.now
     s.args.bytes.now s.args.at s.args.out.now s.requires.0 _ _ _ s.requires.1.1.few c.before.before.before.before.before.before.before.if1.false
     c.before.before.before.before.before.sent-after.ensures (omega (arith, c.before.before.before.before.if2.true)) c.before.before.refuse2.ensures
 

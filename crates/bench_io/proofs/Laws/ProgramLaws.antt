@@ -9,22 +9,22 @@ use lib.IntN.{ℤ}
 use lib.ListN.{length, take, length-append}
 use borrow.Author.Tests.{eqb-true, ne_eqb}
 use Rattle.libc.specs.Io.{Moved}
-use Rattle.bench_parse.specs.Lines.{heldLength}
+use Rattle.bench_parse.specs.Lines.{held_length}
 use Rattle.bench_lines.specs.Cutting as cutting
-use Rattle.bench_lines.specs.Cutting.{Cuts, lastLine, HandedOn, chunk}
-use Rattle.bench_limits.specs.Limits.{keptLength, imagesLength, numbersLength, bytesLength, textLength}
+use Rattle.bench_lines.specs.Cutting.{Cuts, last_line, HandedOn, chunk}
+use Rattle.bench_limits.specs.Limits.{kept_length, images_length, numbers_length, bytes_length, text_length}
 use Rattle.bench_player.specs.Calls as calls
 use Rattle.bench_player.specs.Calls.{Calls}
-use Rattle.bench_player.specs.Lining.{stageOf, benchRefused}
+use Rattle.bench_player.specs.Lining.{stage_of, bench_refused}
 use Rattle.bench_rules.specs.Play.{waiting}
 use Rattle.bench_rules.specs.Turning.{Lent}
 use Rattle.bench_state.specs.declared.Bench.{Bench}
 use Rattle.register.specs.Runs.{Event}
 use Rattle.bench_io.specs.Workers as workers
-use Rattle.bench_io.specs.Workers.{goesOn, atEnd, arrived, mostTurns, leftWith, TurnMade, text_of, Turns, Ran, RunLeft}
+use Rattle.bench_io.specs.Workers.{goes_on, at_end, arrived, most_turns, left_with, TurnMade, text_of, Turns, Ran, RunLeft}
 use Rattle.bench_io.specs.declared.Pass.{Pass}
-use Rattle.bench_io.proofs.Laws.PassLaws.{calls-both, written-not-ended, last-not-on}
-use Rattle.bench_io.proofs.Laws.ReadLaws.{none-arrived}
+use Rattle.bench_io.proofs.Laws.PassLaws.{calls_both, written_not_ended, last_not_on}
+use Rattle.bench_io.proofs.Laws.ReadLaws.{none_arrived}
 
 -- Whole chunks, one after the other, each cut from its start to its end: what is handed on so far.
 data ChunksCut : List ℕ → ℕ → List (List ℕ) → List (List ℕ) → List ℕ → ℕ → Type 0 where
@@ -34,52 +34,52 @@ data ChunksCut : List ℕ → ℕ → List (List ℕ) → List (List ℕ) → Li
       → ChunksCut line held (bytes ∷ chunks) (first ++ rest) line'' held''
 
 -- one chunk more
-through-more : {a b b' bytes : List ℕ} {h k k' at : ℕ} {cs hs first : List (List ℕ)} → ChunksCut a h cs hs b k → Cuts bytes b k 0 first b' k' at
+through_more : {a b b' bytes : List ℕ} {h k k' at : ℕ} {cs hs first : List (List ℕ)} → ChunksCut a h cs hs b k → Cuts bytes b k 0 first b' k' at
     → length bytes ≤ at → ChunksCut a h (cs ++ bytes ∷ []) (hs ++ first) b' k'
-through-more {b' = b'} {bytes = bytes} {k' = k'} {first = first} (none line held) c e =
+through_more {b' = b'} {bytes = bytes} {k' = k'} {first = first} (none line held) c e =
     subst (λ (t : List (List ℕ)). ChunksCut line held (bytes ∷ []) t b' k') (append-nil first) (one c e (none b' k'))
-through-more {a = a} {b' = b'} {bytes = new} {h = h} {k' = k'} {first = new-lines} (one {bytes = bytes} {chunks = chunks} {first = first} {rest = rest} c₁ e₁ t) c e =
+through_more {a = a} {b' = b'} {bytes = new} {h = h} {k' = k'} {first = new-lines} (one {bytes = bytes} {chunks = chunks} {first = first} {rest = rest} c₁ e₁ t) c e =
     subst (λ (u : List (List ℕ)). ChunksCut a h (bytes ∷ (chunks ++ new ∷ [])) u b' k') (sym (append_assoc first rest new-lines))
-    (one c₁ e₁ (through-more t c e))
+    (one c₁ e₁ (through_more t c e))
 
 -- and the end of the input, with which no byte came
-through-ended : {a b last : List ℕ} {h k : ℕ} {cs hs : List (List ℕ)} → last ≡ [] → ChunksCut a h cs hs b k → HandedOn a h (cs ++ last ∷ []) (hs ++ lastLine b k)
-through-ended {last = last} e (none line held) =
-    subst (λ (t : List ℕ). HandedOn line held (t ∷ []) (lastLine line held)) (sym e)
+through_ended : {a b last : List ℕ} {h k : ℕ} {cs hs : List (List ℕ)} → last ≡ [] → ChunksCut a h cs hs b k → HandedOn a h (cs ++ last ∷ []) (hs ++ last_line b k)
+through_ended {last = last} e (none line held) =
+    subst (λ (t : List ℕ). HandedOn line held (t ∷ []) (last_line line held)) (sym e)
     (chunk (cutting.none line held 0) (omega arith) (cutting.ended line held))
-through-ended {a = a} {b = b} {last = last} {h = h} {k = k} e (one {bytes = bytes} {chunks = chunks} {first = first} {rest = rest} c d t) =
-    subst (λ (u : List (List ℕ)). HandedOn a h (bytes ∷ (chunks ++ last ∷ [])) u) (sym (append_assoc first rest (lastLine b k))) (chunk c d (through-ended e t))
+through_ended {a = a} {b = b} {last = last} {h = h} {k = k} e (one {bytes = bytes} {chunks = chunks} {first = first} {rest = rest} c d t) =
+    subst (λ (u : List (List ℕ)). HandedOn a h (bytes ∷ (chunks ++ last ∷ [])) u) (sym (append_assoc first rest (last_line b k))) (chunk c d (through_ended e t))
 
 -- What a chain of turns has played: while the program goes on, the lines of the chunks so far; at the end of the input those of all that came.
 record TurnsLed (p₀ : Pass) (line₀ : List ℕ) (l₀ : Lent) (out₀ : List ℕ) (chunks : List (List ℕ)) (text : List ℕ) (p : Pass) (line : List ℕ) (l : Lent) (out : List ℕ) : Type 0 where
   pub handed : List (List ℕ)
   pub calls : Calls p₀.bench l₀ out₀ handed text p.bench l out
-  pub so_far : p.status ≡ goesOn → ChunksCut line₀ p₀.held chunks handed line p.held
-  pub all_lines : p.status ≡ atEnd → HandedOn line₀ p₀.held chunks handed
+  pub so_far : p.status ≡ goes_on → ChunksCut line₀ p₀.held chunks handed line p.held
+  pub all_lines : p.status ≡ at_end → HandedOn line₀ p₀.held chunks handed
 
-module _ (p₀ : Pass) (line₀ : List ℕ) (l₀ : Lent) (out₀ : List ℕ) (starts : p₀.status ≡ goesOn) where
-  led-none : TurnsLed p₀ line₀ l₀ out₀ [] [] p₀ line₀ l₀ out₀
-  led-none = record { handed = []; calls = calls.none p₀.bench l₀ out₀; so_far = λ e. none line₀ p₀.held; all_lines = λ e. absurd (omega (arith, starts, e)) }
+module _ (p₀ : Pass) (line₀ : List ℕ) (l₀ : Lent) (out₀ : List ℕ) (starts : p₀.status ≡ goes_on) where
+  led_none : TurnsLed p₀ line₀ l₀ out₀ [] [] p₀ line₀ l₀ out₀
+  led_none = record { handed = []; calls = calls.none p₀.bench l₀ out₀; so_far = λ e. none line₀ p₀.held; all_lines = λ e. absurd (omega (arith, starts, e)) }
 
-  led-more : {chunks : List (List ℕ)} {text line line' out out' : List ℕ} {p r : Pass} {l l' : Lent} (got : ℤ) (interrupted : Bool) (bytes : List ℕ)
-      → TurnsLed p₀ line₀ l₀ out₀ chunks text p line l out → p.status ≡ goesOn → (t : TurnMade got interrupted bytes line p l out r line' l' out')
+  led_more : {chunks : List (List ℕ)} {text line line' out out' : List ℕ} {p r : Pass} {l l' : Lent} (got : ℤ) (interrupted : Bool) (bytes : List ℕ)
+      → TurnsLed p₀ line₀ l₀ out₀ chunks text p line l out → p.status ≡ goes_on → (t : TurnMade got interrupted bytes line p l out r line' l' out')
       → TurnsLed p₀ line₀ l₀ out₀ (chunks ++ take (arrived got) bytes ∷ []) (text ++ text_of t) r line' l' out'
   unfolding text_of
-  led-more got interrupted bytes s on (workers.came e q) =
+  led_more got interrupted bytes s on (workers.came e q) =
       record {
         handed = s.handed ++ q.handed;
-        calls = calls-both s.calls q.calls;
-        so_far = λ g. through-more (s.so_far on) q.cut (q.to_the_end g);
-        all_lines = λ g. absurd (written-not-ended q.written _ q.status-is g);
+        calls = calls_both s.calls q.calls;
+        so_far = λ g. through_more (s.so_far on) q.cut (q.to_the_end g);
+        all_lines = λ g. absurd (written_not_ended q.written _ q.status-is g);
       }
-  led-more {line = line} {p = p} got interrupted bytes s on (workers.ended e q) =
+  led_more {line = line} {p = p} got interrupted bytes s on (workers.ended e q) =
       record {
-        handed = s.handed ++ lastLine line p.held;
-        calls = calls-both s.calls q.calls;
-        so_far = λ g. absurd (last-not-on q.written _ q.status-is g);
-        all_lines = λ g. through-ended (ap (λ (j : ℕ). take j bytes) (none-arrived got interrupted e)) (s.so_far on);
+        handed = s.handed ++ last_line line p.held;
+        calls = calls_both s.calls q.calls;
+        so_far = λ g. absurd (last_not_on q.written _ q.status-is g);
+        all_lines = λ g. through_ended (ap (λ (j : ℕ). take j bytes) (none_arrived got interrupted e)) (s.so_far on);
       }
-  led-more {text = text} {out = out} {p = p} {r = r} {l = l} got interrupted bytes s on (workers.failed e f b) =
+  led_more {text = text} {out = out} {p = p} {r = r} {l = l} got interrupted bytes s on (workers.failed e f b) =
       record {
         handed = s.handed;
         calls =
@@ -89,10 +89,10 @@ module _ (p₀ : Pass) (line₀ : List ℕ) (l₀ : Lent) (out₀ : List ℕ) (s
         all_lines = λ g. absurd (omega (arith, f, g));
       }
 
-  turns-led : {chunks : List (List ℕ)} {text line out : List ℕ} {p : Pass} {l : Lent} → Turns p₀ line₀ l₀ out₀ chunks text p line l out
+  turns_led : {chunks : List (List ℕ)} {text line out : List ℕ} {p : Pass} {l : Lent} → Turns p₀ line₀ l₀ out₀ chunks text p line l out
       → TurnsLed p₀ line₀ l₀ out₀ chunks text p line l out
-  turns-led workers.none = led-none
-  turns-led (workers.next got interrupted bytes ts on moved t) = led-more got interrupted bytes (turns-led ts) on t
+  turns_led workers.none = led_none
+  turns_led (workers.next got interrupted bytes ts on moved t) = led_more got interrupted bytes (turns_led ts) on t
 
 -- A program that stands at the end of the input has played the lines of all bytes that came.
 pub record AllPlayed {line : List ℕ} {l : Lent} {out : List ℕ} {status : ℕ} {l' : Lent} {out' : List ℕ} (r : Ran line l out status l' out') : Type 0 where
@@ -100,75 +100,75 @@ pub record AllPlayed {line : List ℕ} {l : Lent} {out : List ℕ} {status : ℕ
   pub calls : Calls r.first l out handed r.text r.last.bench l' out'
   pub all_lines : HandedOn line 0 r.chunks handed
 
-pub all-played : {line : List ℕ} {l : Lent} {out : List ℕ} {status : ℕ} {l' : Lent} {out' : List ℕ} (r : Ran line l out status l' out') → status ≡ atEnd → AllPlayed r
-all-played {line} {l} {out} r e =
-    let led = turns-led (record { bench = r.first; held = 0; status = goesOn }) line l out refl r.turns in
+pub all_played : {line : List ℕ} {l : Lent} {out : List ℕ} {status : ℕ} {l' : Lent} {out' : List ℕ} (r : Ran line l out status l' out') → status ≡ at_end → AllPlayed r
+all_played {line} {l} {out} r e =
+    let led = turns_led (record { bench = r.first; held = 0; status = goes_on }) line l out refl r.turns in
     record { handed = led.handed; calls = led.calls; all_lines = led.all_lines (r.status-is ∙ e) }
 
 -- The program so far. As long as turns are left it goes on.
 pub record Running (line₀ : List ℕ) (l₀ : Lent) (out₀ : List ℕ) (first : Bench) (line : List ℕ) (p : Pass) (l : Lent) (out : List ℕ) (left : ℕ) : Type 0 where
   pub chunks : List (List ℕ)
   pub text : List ℕ
-  pub turns : Turns (record { bench = first; held = 0; status = goesOn }) line₀ l₀ out₀ chunks text p line l out
-  pub on : 0 < left → p.status ≡ goesOn
-  pub within : p.status ≡ goesOn → p.held ≤ length line
-  pub count : p.status ≡ goesOn → length chunks + left ≡ mostTurns
+  pub turns : Turns (record { bench = first; held = 0; status = goes_on }) line₀ l₀ out₀ chunks text p line l out
+  pub on : 0 < left → p.status ≡ goes_on
+  pub within : p.status ≡ goes_on → p.held ≤ length line
+  pub count : p.status ≡ goes_on → length chunks + left ≡ most_turns
 
 pub running_none : (line : List ℕ) (l : Lent) (out : List ℕ) (first : Bench)
-    → Running line l out first line (record { bench = first; held = 0; status = goesOn }) l out mostTurns
+    → Running line l out first line (record { bench = first; held = 0; status = goes_on }) l out most_turns
 running_none line l out first =
     record { chunks = []; text = []; turns = workers.none; on = λ h. refl; within = λ e. omega arith; count = λ e. refl }
 
 -- how many turns are left
-left-some : (turns left status : ℕ) → left ≡ cond (eqb status goesOn) (turns - 1) 0 → 0 < left → status ≡ goesOn
-left-some turns left status e h = go (eqb status goesOn) refl e
+left_some : (turns left status : ℕ) → left ≡ cond (eqb status goes_on) (turns - 1) 0 → 0 < left → status ≡ goes_on
+left_some turns left status e h = go (eqb status goes_on) refl e
   where
-    go : (a : Bool) → eqb status goesOn ≡ a → left ≡ cond a (turns - 1) 0 → status ≡ goesOn
-    go true t f = eqb-true status goesOn t
+    go : (a : Bool) → eqb status goes_on ≡ a → left ≡ cond a (turns - 1) 0 → status ≡ goes_on
+    go true t f = eqb-true status goes_on t
     go false t f = absurd (omega (arith, f, h))
 
-left-one-less : (turns left status : ℕ) → left ≡ cond (eqb status goesOn) (turns - 1) 0 → status ≡ goesOn → left ≡ turns - 1
-left-one-less turns left status e s = rw s at e
+left_one_less : (turns left status : ℕ) → left ≡ cond (eqb status goes_on) (turns - 1) 0 → status ≡ goes_on → left ≡ turns - 1
+left_one_less turns left status e s = rw s at e
 
-pub left_less : (turns left status : ℕ) → left ≡ cond (eqb status goesOn) (turns - 1) 0 → 0 < turns → left < turns
-left_less turns left status e h = go (eqb status goesOn) e
+pub left_less : (turns left status : ℕ) → left ≡ cond (eqb status goes_on) (turns - 1) 0 → 0 < turns → left < turns
+left_less turns left status e h = go (eqb status goes_on) e
   where
     go : (a : Bool) → left ≡ cond a (turns - 1) 0 → left < turns
     go true f = omega (arith, f, h)
     go false f = omega (arith, f, h)
 
-pub left-going : (turns status : ℕ) → status ≡ goesOn → turns - 1 ≡ cond (eqb status goesOn) (turns - 1) 0
-left-going turns status e = rw e
+pub left_going : (turns status : ℕ) → status ≡ goes_on → turns - 1 ≡ cond (eqb status goes_on) (turns - 1) 0
+left_going turns status e = rw e
 
-pub left-none : (turns status : ℕ) → (status ≡ goesOn → ⊥) → 0 ≡ cond (eqb status goesOn) (turns - 1) 0
-left-none turns status h = rw (ne_eqb status goesOn h)
+pub left_none : (turns status : ℕ) → (status ≡ goes_on → ⊥) → 0 ≡ cond (eqb status goes_on) (turns - 1) 0
+left_none turns status h = rw (ne_eqb status goes_on h)
 
 -- where a turn goes on, the held bytes are in the line
-turn-within : {got : ℤ} {interrupted : Bool} {bytes line out line' out' : List ℕ} {p r : Pass} {l l' : Lent}
-    → TurnMade got interrupted bytes line p l out r line' l' out' → r.status ≡ goesOn → r.held ≤ length line'
-turn-within (workers.came e q) g = q.within
-turn-within (workers.ended e q) g = absurd (last-not-on q.written _ q.status-is g)
-turn-within (workers.failed e f b) g = absurd (omega (arith, f, g))
+turn_within : {got : ℤ} {interrupted : Bool} {bytes line out line' out' : List ℕ} {p r : Pass} {l l' : Lent}
+    → TurnMade got interrupted bytes line p l out r line' l' out' → r.status ≡ goes_on → r.held ≤ length line'
+turn_within (workers.came e q) g = q.within
+turn_within (workers.ended e q) g = absurd (last_not_on q.written _ q.status-is g)
+turn_within (workers.failed e f b) g = absurd (omega (arith, f, g))
 
 module _ (line₀ : List ℕ) (l₀ : Lent) (out₀ : List ℕ) (first : Bench) where
   pub running_more : (line : List ℕ) (p : Pass) (l : Lent) (out : List ℕ) (turns : ℕ) (answer got : ℤ) (interrupted : Bool) (most : ℕ) (bytes : List ℕ)
       (r : Pass) (line' : List ℕ) (l' : Lent) (out' : List ℕ) (left : ℕ)
       → Running line₀ l₀ out₀ first line p l out turns → 0 < turns → Moved most answer → got ≡ answer → length bytes ≡ most → TurnMade got interrupted bytes line p l out r line' l' out'
-      → left ≡ cond (eqb r.status goesOn) (turns - 1) 0 → Running line₀ l₀ out₀ first line' r l' out' left
+      → left ≡ cond (eqb r.status goes_on) (turns - 1) 0 → Running line₀ l₀ out₀ first line' r l' out' left
   running_more line p l out turns answer got interrupted most bytes r line' l' out' left s h m a k t f =
       record {
         chunks = s.chunks ++ take (arrived got) bytes ∷ [];
         text = s.text ++ text_of t;
         turns = workers.next got interrupted bytes s.turns (s.on h) (subst (λ (j : ℕ). Moved j got) (sym k) (subst (Moved most) (sym a) m)) t;
-        on = left-some turns left r.status f;
-        within = turn-within t;
-        count = λ e. omega (arith, s.count (s.on h), h, left-one-less turns left r.status f e, length-append s.chunks (take (arrived got) bytes ∷ []));
+        on = left_some turns left r.status f;
+        within = turn_within t;
+        count = λ e. omega (arith, s.count (s.on h), h, left_one_less turns left r.status f e, length-append s.chunks (take (arrived got) bytes ∷ []));
       }
 
-  pub running-ran : (line : List ℕ) (p : Pass) (l : Lent) (out : List ℕ) (left : ℕ) → ((k : Lent) (events : List Event) → stageOf first k events ≡ waiting)
-      → benchRefused first imagesLength keptLength numbersLength bytesLength textLength ≡ 0
+  pub running_ran : (line : List ℕ) (p : Pass) (l : Lent) (out : List ℕ) (left : ℕ) → ((k : Lent) (events : List Event) → stage_of first k events ≡ waiting)
+      → bench_refused first images_length kept_length numbers_length bytes_length text_length ≡ 0
       → Running line₀ l₀ out₀ first line p l out left → left ≤ 0 → Ran line₀ l₀ out₀ p.status l out
-  running-ran line p l out left w a s z =
+  running_ran line p l out left w a s z =
       record {
         first = first;
         no-set = w;
@@ -183,10 +183,10 @@ module _ (line₀ : List ℕ) (l₀ : Lent) (out₀ : List ℕ) (first : Bench) 
       }
 
 -- the program's own buffers have the right lengths
-pub run-left : (line : List ℕ) (l : Lent) (out : List ℕ) (status : ℕ) (l' : Lent) (out' : List ℕ) (left : ℕ) → Ran line l out status l' out' → left ≡ leftWith status
-    → heldLength ≡ length line → imagesLength ≡ length l.images → keptLength ≡ length l.kept → numbersLength ≡ length l.numbers
-    → bytesLength ≡ length l.bytes → textLength ≡ length out → RunLeft left
-run-left line l out status l' out' left r e h i k n y o =
+pub run_left : (line : List ℕ) (l : Lent) (out : List ℕ) (status : ℕ) (l' : Lent) (out' : List ℕ) (left : ℕ) → Ran line l out status l' out' → left ≡ left_with status
+    → held_length ≡ length line → images_length ≡ length l.images → kept_length ≡ length l.kept → numbers_length ≡ length l.numbers
+    → bytes_length ≡ length l.bytes → text_length ≡ length out → RunLeft left
+run_left line l out status l' out' left r e h i k n y o =
     record {
       line = line;
       l = l;

@@ -14,58 +14,58 @@ use mir.Val.{SFits, to_z, of_z}
 use mir.Facts.{to_z-of_z}
 use Rattle.io.specs.Counts.{clamp_len}
 use Rattle.bench_rules.specs.Turning.{Lent}
-use Rattle.bench_io.specs.Workers.{goesOn, atEnd, cannotRead, readStatus, arrived, Interrupts, ChunkPlayed, PlayedLast, TurnMade, came, ended, failed}
+use Rattle.bench_io.specs.Workers.{goes_on, at_end, cannot_read, read_status, arrived, Interrupts, ChunkPlayed, PlayedLast, TurnMade, came, ended, failed}
 use Rattle.bench_io.specs.declared.Pass.{Pass}
 
 -- The tests of the code: a signed local holds bits, and the number read back from them is the number.
 module _ (got : ℤ) (interrupted : Bool) (fits : SFits w64 got) where
-  pub read_some : lt_z (pos 0) (to_z w64 (of_z w64 got)) ≡ true → goesOn ≡ readStatus got interrupted
-  unfolding readStatus
+  pub read_some : lt_z (pos 0) (to_z w64 (of_z w64 got)) ≡ true → goes_on ≡ read_status got interrupted
+  unfolding read_status
   read_some e = go got (subst (λ (z : ℤ). lt_z (pos 0) z ≡ true) (to_z-of_z fits) e)
     where
-      go : (z : ℤ) → lt_z (pos 0) z ≡ true → goesOn ≡ readStatus z interrupted
+      go : (z : ℤ) → lt_z (pos 0) z ≡ true → goes_on ≡ read_status z interrupted
       go (pos zero) t = absurd (true≢false (sym t))
       go (pos (suc k)) t = refl
       go (negsuc k) t = absurd (true≢false (sym t))
 
-  pub read_none : of_z w64 got ≡ 0 → atEnd ≡ readStatus got interrupted
-  unfolding readStatus
-  read_none e = subst (λ (z : ℤ). atEnd ≡ readStatus z interrupted) (ap (to_z w64) (sym e) ∙ to_z-of_z fits) refl
+  pub read_none : of_z w64 got ≡ 0 → at_end ≡ read_status got interrupted
+  unfolding read_status
+  read_none e = subst (λ (z : ℤ). at_end ≡ read_status z interrupted) (ap (to_z w64) (sym e) ∙ to_z-of_z fits) refl
 
   module _ (n : lt_z (pos 0) (to_z w64 (of_z w64 got)) ≡ false) (o : of_z w64 got ≡ 0 → ⊥) where
-    negative : cond interrupted goesOn cannotRead ≡ readStatus got interrupted
-    unfolding readStatus
+    negative : cond interrupted goes_on cannot_read ≡ read_status got interrupted
+    unfolding read_status
     negative = go got (subst (λ (z : ℤ). lt_z (pos 0) z ≡ false) (to_z-of_z fits) n) o
       where
-        go : (z : ℤ) → lt_z (pos 0) z ≡ false → (of_z w64 z ≡ 0 → ⊥) → cond interrupted goesOn cannotRead ≡ readStatus z interrupted
+        go : (z : ℤ) → lt_z (pos 0) z ≡ false → (of_z w64 z ≡ 0 → ⊥) → cond interrupted goes_on cannot_read ≡ read_status z interrupted
         go (pos zero) t u = absurd (u refl)
         go (pos (suc k)) t u = let h = ltb-false 0 (suc k) t in absurd (omega (arith, h))
         go (negsuc k) t u = refl
 
-    pub read_again : interrupted ≡ true → goesOn ≡ readStatus got interrupted
-    read_again e = ap (λ (i : Bool). cond i goesOn cannotRead) (sym e) ∙ negative
+    pub read_again : interrupted ≡ true → goes_on ≡ read_status got interrupted
+    read_again e = ap (λ (i : Bool). cond i goes_on cannot_read) (sym e) ∙ negative
 
-    pub read-failed : interrupted ≡ false → cannotRead ≡ readStatus got interrupted
-    read-failed e = ap (λ (i : Bool). cond i goesOn cannotRead) (sym e) ∙ negative
+    pub read_failed : interrupted ≡ false → cannot_read ≡ read_status got interrupted
+    read_failed e = ap (λ (i : Bool). cond i goes_on cannot_read) (sym e) ∙ negative
 
 -- errno's number, as the code tests it
 module _ (error : ℤ) (fits : SFits w32 error) where
   pub interrupts : of_z w32 error ≡ 4 → Interrupts error true
   interrupts e = record { only = λ t. sym (ap (to_z w32) (sym e) ∙ to_z-of_z fits); always = λ t. refl }
 
-  pub interrupts-not : (of_z w32 error ≡ 4 → ⊥) → Interrupts error false
-  interrupts-not h = record { only = λ t. absurd (true≢false (sym t)); always = λ t. absurd (h (ap (of_z w32) t)) }
+  pub interrupts_not : (of_z w32 error ≡ 4 → ⊥) → Interrupts error false
+  interrupts_not h = record { only = λ t. absurd (true≢false (sym t)); always = λ t. absurd (h (ap (of_z w32) t)) }
 
 -- at the end of the input no byte came
-pub none-arrived : (got : ℤ) (interrupted : Bool) → readStatus got interrupted ≡ atEnd → arrived got ≡ 0
-unfolding readStatus arrived
-none-arrived (pos zero) interrupted e = refl
-none-arrived (pos (suc k)) interrupted e = absurd (omega (arith, e))
-none-arrived (negsuc k) interrupted e = refl
+pub none_arrived : (got : ℤ) (interrupted : Bool) → read_status got interrupted ≡ at_end → arrived got ≡ 0
+unfolding read_status arrived
+none_arrived (pos zero) interrupted e = refl
+none_arrived (pos (suc k)) interrupted e = absurd (omega (arith, e))
+none_arrived (negsuc k) interrupted e = refl
 
 -- there is no third way not to go on
-goes : (got : ℤ) (interrupted : Bool) → (readStatus got interrupted ≡ atEnd → ⊥) → (readStatus got interrupted ≡ cannotRead → ⊥) → readStatus got interrupted ≡ goesOn
-unfolding readStatus
+goes : (got : ℤ) (interrupted : Bool) → (read_status got interrupted ≡ at_end → ⊥) → (read_status got interrupted ≡ cannot_read → ⊥) → read_status got interrupted ≡ goes_on
+unfolding read_status
 goes (pos zero) interrupted a b = absurd (a refl)
 goes (pos (suc k)) interrupted a b = refl
 goes (negsuc k) true a b = refl
@@ -77,26 +77,26 @@ take_min zero l = rw (zero-min (length l))
 take_min (suc k) [] = rw (min-zero (suc k))
 take_min (suc k) (x ∷ l) = rw (suc-min-suc k (length l)) (ap (λ (t : List ℕ). x ∷ t) (take_min k l))
 
-counted-chunk : (got : ℤ) (chunk : List ℕ) → take (clamp_len got (length chunk)) chunk ≡ take (arrived got) chunk
+counted_chunk : (got : ℤ) (chunk : List ℕ) → take (clamp_len got (length chunk)) chunk ≡ take (arrived got) chunk
 unfolding arrived
-counted-chunk (pos k) chunk = take_min k chunk
-counted-chunk (negsuc k) chunk = refl
+counted_chunk (pos k) chunk = take_min k chunk
+counted_chunk (negsuc k) chunk = refl
 
 module _ (got : ℤ) (interrupted : Bool) (chunk line : List ℕ) (p : Pass) (l : Lent) (out : List ℕ) (r : Pass) (fits : SFits w64 got) (status : ℕ)
-    (passed : status ≡ readStatus (to_z w64 (of_z w64 got)) interrupted) where
-  e : status ≡ readStatus got interrupted
-  e = passed ∙ ap (λ (z : ℤ). readStatus z interrupted) (to_z-of_z fits)
+    (passed : status ≡ read_status (to_z w64 (of_z w64 got)) interrupted) where
+  e : status ≡ read_status got interrupted
+  e = passed ∙ ap (λ (z : ℤ). read_status z interrupted) (to_z-of_z fits)
 
-  pub turn-came : (n : ℕ) (line' : List ℕ) (l' : Lent) (out' : List ℕ) → (status ≡ atEnd → ⊥) → (status ≡ cannotRead → ⊥) → n ≡ clamp_len (to_z w64 (of_z w64 got)) (length chunk)
+  pub turn_came : (n : ℕ) (line' : List ℕ) (l' : Lent) (out' : List ℕ) → (status ≡ at_end → ⊥) → (status ≡ cannot_read → ⊥) → n ≡ clamp_len (to_z w64 (of_z w64 got)) (length chunk)
       → ChunkPlayed (take n chunk) line p.held p.bench l out r line' l' out' → TurnMade got interrupted chunk line p l out r line' l' out'
-  turn-came n line' l' out' a b c q =
+  turn_came n line' l' out' a b c q =
       came (goes got interrupted (λ x. a (e ∙ x)) (λ x. b (e ∙ x)))
       (subst (λ (t : List ℕ). ChunkPlayed t line p.held p.bench l out r line' l' out')
-      (ap (λ (j : ℕ). take j chunk) c ∙ ap (λ (z : ℤ). take (clamp_len z (length chunk)) chunk) (to_z-of_z fits) ∙ counted-chunk got chunk) q)
+      (ap (λ (j : ℕ). take j chunk) c ∙ ap (λ (z : ℤ). take (clamp_len z (length chunk)) chunk) (to_z-of_z fits) ∙ counted_chunk got chunk) q)
 
-  pub turn-ended : (l' : Lent) (out' : List ℕ) → status ≡ atEnd → PlayedLast line p.held p.bench l out r l' out'
+  pub turn_ended : (l' : Lent) (out' : List ℕ) → status ≡ at_end → PlayedLast line p.held p.bench l out r l' out'
       → TurnMade got interrupted chunk line p l out r line l' out'
-  turn-ended l' out' a q = ended (sym e ∙ a) q
+  turn_ended l' out' a q = ended (sym e ∙ a) q
 
-  pub turn-failed : status ≡ cannotRead → r.status ≡ status → r.bench ≡ p.bench → TurnMade got interrupted chunk line p l out r line l out
-  turn-failed a s b = failed (sym e ∙ a) (s ∙ a) b
+  pub turn_failed : status ≡ cannot_read → r.status ≡ status → r.bench ≡ p.bench → TurnMade got interrupted chunk line p l out r line l out
+  turn_failed a s b = failed (sym e ∙ a) (s ∙ a) b

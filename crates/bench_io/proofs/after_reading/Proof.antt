@@ -1,5 +1,5 @@
 use native.Mathlib.Omega.{arith}
-use Rattle.bench_io.proofs.Laws.ReadLaws.{read_some, read_none, read_again, read-failed}
+use Rattle.bench_io.proofs.Laws.ReadLaws.{read_some, read_none, read_again, read_failed}
 use Rattle.bench_io.proofs.after_reading.Statement.{statement}
 use Rattle.bench_io.proofs.after_reading.Tie as tie
 
@@ -13,7 +13,7 @@ returns-3 : tie.Need-returns-3
 returns-3 c = read_again _ _ c.before.before.before.ranges.got c.before.before.if1.false c.before.if2.false c.if3.true
 
 returns-4 : tie.Need-returns-4
-returns-4 c = read-failed _ _ c.before.before.before.ranges.got c.before.before.if1.false c.before.if2.false c.if3.false
+returns-4 c = read_failed _ _ c.before.before.before.ranges.got c.before.before.if1.false c.before.if2.false c.if3.false
 
 pub after-reading-spec : {M : Type 1} → statement M
 after-reading-spec = tie.close (tie.spec returns returns-2 returns-3 returns-4)

@@ -1,5 +1,5 @@
 use borrow.Author.Rules.{rules}
-use Rattle.bench_io.proofs.Laws.ProgramLaws.{run-left}
+use Rattle.bench_io.proofs.Laws.ProgramLaws.{run_left}
 use Rattle.bench_io.proofs.bench_run.Statement.{statement}
 use Rattle.bench_io.proofs.bench_run.Tie as tie
 
@@ -53,7 +53,7 @@ leave-requires c κs = search rules
 
 returns : tie.Need-returns
 returns c =
-    run-left _ _ _ _ _ _ _ c.before.before.before.before.before.before.before.before.play-all.ensures c.leave.ensures c.before.before.before.before.before.before.before.before.before.before.before.before.before.before.before.before.before.before.new_line.ensures
+    run_left _ _ _ _ _ _ _ c.before.before.before.before.before.before.before.before.play-all.ensures c.leave.ensures c.before.before.before.before.before.before.before.before.before.before.before.before.before.before.before.before.before.before.new_line.ensures
     c.before.before.before.before.before.before.before.before.before.before.before.before.before.before.before.before.before.before.before.before.before.before.new-images.ensures c.before.before.before.before.before.before.before.before.before.before.before.before.before.before.before.before.before.before.before.before.before.new-kept.ensures c.before.before.before.before.before.before.before.before.before.before.before.before.before.before.before.before.before.before.before.before.new-numbers.ensures
     c.before.before.before.before.before.before.before.before.before.before.before.before.before.before.before.before.before.before.before.new-bytes.ensures c.before.before.before.before.before.before.before.before.before.before.before.before.before.before.before.before.before.large-buffer.ensures
 

@@ -3,12 +3,12 @@ use mathlib.Core.Path.{sym}
 use native.Mathlib.Omega.{arith}
 use lib.Seq.{length-take-le}
 use borrow.Author.Rules.{rules}
-use Rattle.bench_io.proofs.Laws.PassLaws.{plays-not, plays-line}
+use Rattle.bench_io.proofs.Laws.PassLaws.{plays_not, plays_line}
 use Rattle.bench_io.proofs.play.Statement.{statement}
 use Rattle.bench_io.proofs.play.Tie as tie
 
 returns : tie.Need-returns
-returns c = plays-not _ _ _ _ _ _ c.if1.false
+returns c = plays_not _ _ _ _ _ _ c.if1.false
 
 slice-aggregate-play-line : tie.Need-slice-aggregate-play-line
 slice-aggregate-play-line c = let s = c.before.before.before.before.before.before.before.before in sym (length-take-le _ s.args.line.now s.requires)
@@ -49,7 +49,7 @@ same-length-5 c = search rules
 
 returns-2 : tie.Need-returns-2
 returns-2 c =
-    plays-line _ _ _ _ _ _ _ _ _ c.before.before.write-all.result _ c.after-writing.ensures
+    plays_line _ _ _ _ _ _ _ _ _ c.before.before.write-all.result _ c.after-writing.ensures
     c.before.before.before.before.before.before.before.before.before.before.before.before.before.before.before.before.before.before.before.before.before.if1.true c.before.before.before.before.before.before.before.before.before.before.before.before.before.before.play-line.ensures
 
 pub play-spec : {M : Type 1} → statement M

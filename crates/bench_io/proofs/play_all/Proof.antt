@@ -4,7 +4,7 @@ use lib.ListN.{length}
 use mir.Facts.{to_z-of_z}
 use mir.Syntax.{w64}
 use Rattle.bench_rules.specs.Turning.{lent}
-use Rattle.bench_io.proofs.Laws.ProgramLaws.{Running, running_none, running_more, running-ran, left_less}
+use Rattle.bench_io.proofs.Laws.ProgramLaws.{Running, running_none, running_more, running_ran, left_less}
 use Rattle.bench_io.proofs.play_all.Statement.{statement}
 use Rattle.bench_io.proofs.play_all.Tie as tie
 
@@ -84,7 +84,7 @@ same-length-7 : tie.Need-same-length-7 invariant-loop decreases-loop
 same-length-7 c = c.before.loop.invariant.7
 
 returns : tie.Need-returns invariant-loop decreases-loop
-returns c = running-ran _ _ _ _ _ _ _ _ _ c.before.before.no-set.ensures.0 c.before.before.no-set.ensures.1 c.before.loop.invariant.0 c.loop-test.false
+returns c = running_ran _ _ _ _ _ _ _ _ _ c.before.before.no-set.ensures.0 c.before.before.no-set.ensures.1 c.before.loop.invariant.0 c.loop-test.false
 
 pub play-all-spec : {M : Type 1} → statement M
 play-all-spec =

@@ -3,9 +3,9 @@ use Prim.Native.Nat.{◌-◌}
 use native.Mathlib.Omega.{arith}
 use lib.ListN.{length}
 use borrow.Author.Rules.{rules}
-use Rattle.bench_lines.proofs.Laws.CutLaws.{cut-within, cut-moves}
+use Rattle.bench_lines.proofs.Laws.CutLaws.{cut_within, cut_moves}
 use Rattle.bench_rules.specs.Turning.{lent}
-use Rattle.bench_io.proofs.Laws.PassLaws.{Passing, passing-none, passing-more, passed-stopped, passed-all}
+use Rattle.bench_io.proofs.Laws.PassLaws.{Passing, passing_none, passing_more, passed_stopped, passed_all}
 use Rattle.bench_io.proofs.play_chunk.Statement.{statement}
 use Rattle.bench_io.proofs.play_chunk.Tie as tie
 
@@ -19,13 +19,13 @@ abbrev decreases-loop : tie.decreases-loop
 decreases-loop held chunk line₀ images₀ kept₀ numbers₀ bytes₀ out₀ p₀ at₀ line images kept numbers bytes out p at = length chunk - at
 
 loop-holds : tie.Need-loop-init invariant-loop decreases-loop
-loop-holds c = (passing-none _ _ _ _ _ _ c.before.before.before.before.before.before.before.requires, refl, refl, refl, refl, refl, refl)
+loop-holds c = (passing_none _ _ _ _ _ _ c.before.before.before.before.before.before.before.requires, refl, refl, refl, refl, refl, refl)
 
 cut-line-requires : tie.Need-cut-line-requires invariant-loop decreases-loop
 cut-line-requires c κs = search rules
 
 play-requires : tie.Need-play-requires invariant-loop decreases-loop
-play-requires c κs = cut-within _ _ _ _ _ _ c.before.before.before.before.before.before.before.before.before.before.before.before.loop.invariant.0.within c.before.before.before.before.before.before.before.before.before.cut-Line.ensures
+play-requires c κs = cut_within _ _ _ _ _ _ c.before.before.before.before.before.before.before.before.before.before.before.before.loop.invariant.0.within c.before.before.before.before.before.before.before.before.before.cut-Line.ensures
 
 same_length : tie.Need-same-length invariant-loop decreases-loop
 same_length c = c.before.before.before.before.before.before.before.before.before.before.before.before.before.before.before.before.before.before.before.before.before.before.cut-Line.auto.1.1.0 ∙ c.before.before.before.before.before.before.before.before.before.before.before.before.before.before.before.before.before.before.before.before.before.before.before.before.before.loop.invariant.1
@@ -47,8 +47,8 @@ same-length-6 c = c.before.before.before.before.before.before.before.before.befo
 
 returns : tie.Need-returns invariant-loop decreases-loop
 returns c =
-    passed-stopped _ _ _ _ _ _ _ _ _ _ _
-    (passing-more _ _ _ _ _ _ _ _ _ _ _ _ _ _ _ _ _ _ c.before.before.before.before.before.before.before.before.before.before.before.before.before.before.before.before.before.before.before.before.before.before.before.before.before.loop.invariant.0
+    passed_stopped _ _ _ _ _ _ _ _ _ _ _
+    (passing_more _ _ _ _ _ _ _ _ _ _ _ _ _ _ _ _ _ _ c.before.before.before.before.before.before.before.before.before.before.before.before.before.before.before.before.before.before.before.before.before.before.before.before.before.loop.invariant.0
     c.before.before.before.before.before.before.before.before.before.before.before.before.before.before.before.before.before.before.before.before.before.before.cut-Line.ensures c.before.before.before.before.before.before.before.before.before.before.before.before.play.ensures)
     c.if1.true
 
@@ -58,7 +58,7 @@ loop-less c =
     omega (
       arith,
       t,
-      cut-moves _ _ _ _ _ _ t c.before.before.before.before.before.before.before.before.before.before.before.before.before.before.before.before.before.before.before.before.before.before.cut-Line.ensures,
+      cut_moves _ _ _ _ _ _ t c.before.before.before.before.before.before.before.before.before.before.before.before.before.before.before.before.before.before.before.before.before.before.cut-Line.ensures,
     )
 
 loop-again : tie.Need-loop-preserved invariant-loop decreases-loop
@@ -66,7 +66,7 @@ loop-again c =
     let v = c.before.before.before.before.before.before.before.before.before.before.before.before.before.before.before.before.before.before.before.before.before.before.before.before.before.loop.invariant in
     let k = c.before.before.before.before.before.before.before.before.before.before.before.before.before.before.before.before.before.before.before.before.before.before.cut-Line in
     let p = c.before.before.before.before.before.before.before.before.before.before.before.before.play in (
-      passing-more _ _ _ _ _ _ _ _ _ _ _ _ _ _ _ _ _ _ v.0 k.ensures p.ensures,
+      passing_more _ _ _ _ _ _ _ _ _ _ _ _ _ _ _ _ _ _ v.0 k.ensures p.ensures,
       k.kept.1.1.0 ∙ v.1,
       p.auto.1.1.1.1.0 ∙ v.2,
       p.auto.1.1.1.1.1.0 ∙ v.3,
@@ -94,7 +94,7 @@ same-length-12 : tie.Need-same-length-12 invariant-loop decreases-loop
 same-length-12 c = c.before.loop.invariant.6
 
 returns-2 : tie.Need-returns-2 invariant-loop decreases-loop
-returns-2 c = passed-all _ _ _ _ _ _ _ _ _ _ _ c.before.loop.invariant.0 c.loop-test.false
+returns-2 c = passed_all _ _ _ _ _ _ _ _ _ _ _ c.before.loop.invariant.0 c.loop-test.false
 
 pub play-chunk-spec : {M : Type 1} → statement M
 play-chunk-spec =

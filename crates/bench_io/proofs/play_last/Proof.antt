@@ -1,5 +1,5 @@
 use borrow.Author.Rules.{rules}
-use Rattle.bench_io.proofs.Laws.PassLaws.{last-played}
+use Rattle.bench_io.proofs.Laws.PassLaws.{last_played}
 use Rattle.bench_io.proofs.play_last.Statement.{statement}
 use Rattle.bench_io.proofs.play_last.Tie as tie
 
@@ -25,7 +25,7 @@ same-length-5 : tie.Need-same-length-5
 same-length-5 c = search rules
 
 returns : tie.Need-returns
-returns c = last-played _ _ _ _ _ _ _ _ _ c.at-the-end.ensures c.before.before.before.before.before.before.before.before.before.before.before.before.play.ensures
+returns c = last_played _ _ _ _ _ _ _ _ _ c.at-the-end.ensures c.before.before.before.before.before.before.before.before.before.before.before.before.play.ensures
 
 pub play-last-spec : {M : Type 1} → statement M
 play-last-spec =

@@ -1,6 +1,6 @@
 use mathlib.Core.Path.{refl}
 use borrow.Author.Rules.{rules}
-use Rattle.bench_io.proofs.Laws.ReadLaws.{turn-came, turn-ended, turn-failed}
+use Rattle.bench_io.proofs.Laws.ReadLaws.{turn_came, turn_ended, turn_failed}
 use Rattle.bench_io.proofs.turn.Statement.{statement}
 use Rattle.bench_io.proofs.turn.Tie as tie
 
@@ -33,11 +33,11 @@ same-length-6 c = search rules
 
 returns : tie.Need-returns
 returns c =
-    turn-ended _ _ _ _ _ _ _ _ c.before.before.before.before.before.before.before.before.before.before.before.before.before.before.before.before.before.before.before.before.before.before.before.before.before.before.before.before.ranges.got _ c.before.before.before.before.before.before.before.before.before.before.before.before.before.before.before.before.before.before.before.before.after-reading.ensures _ _ c.before.before.before.before.before.before.before.before.before.before.before.before.before.before.before.before.before.if1.true
+    turn_ended _ _ _ _ _ _ _ _ c.before.before.before.before.before.before.before.before.before.before.before.before.before.before.before.before.before.before.before.before.before.before.before.before.before.before.before.before.ranges.got _ c.before.before.before.before.before.before.before.before.before.before.before.before.before.before.before.before.before.before.before.before.after-reading.ensures _ _ c.before.before.before.before.before.before.before.before.before.before.before.before.before.before.before.before.before.if1.true
     c.before.before.before.before.before.before.before.before.before.before.play-last.ensures
 
 returns-2 : tie.Need-returns-2
-returns-2 c = turn-failed _ _ _ _ _ _ _ _ c.before.before.before.before.before.before.before.before.before.before.before.before.ranges.got _ c.before.before.before.before.after-reading.ensures c.if2.true refl refl
+returns-2 c = turn_failed _ _ _ _ _ _ _ _ c.before.before.before.before.before.before.before.before.before.before.before.before.ranges.got _ c.before.before.before.before.after-reading.ensures c.if2.true refl refl
 
 slice-aggregate-play-chunk : tie.Need-slice-aggregate-play-chunk
 slice-aggregate-play-chunk c = search rules
@@ -65,7 +65,7 @@ same-length-12 c = search rules
 
 returns-3 : tie.Need-returns-3
 returns-3 c =
-    turn-came _ _ _ _ _ _ _ _ c.before.before.before.before.before.before.before.before.before.before.before.before.before.before.before.before.before.before.before.before.before.before.before.before.before.before.before.before.before.before.before.before.ranges.got _ c.before.before.before.before.before.before.before.before.before.before.before.before.before.before.before.before.before.before.before.before.before.before.before.before.after-reading.ensures _ _ _ _ c.before.before.before.before.before.before.before.before.before.before.before.before.before.before.before.before.before.before.before.before.before.if1.false
+    turn_came _ _ _ _ _ _ _ _ c.before.before.before.before.before.before.before.before.before.before.before.before.before.before.before.before.before.before.before.before.before.before.before.before.before.before.before.before.before.before.before.before.ranges.got _ c.before.before.before.before.before.before.before.before.before.before.before.before.before.before.before.before.before.before.before.before.before.before.before.before.after-reading.ensures _ _ _ _ c.before.before.before.before.before.before.before.before.before.before.before.before.before.before.before.before.before.before.before.before.before.if1.false
     c.before.before.before.before.before.before.before.before.before.before.before.before.before.before.before.before.before.before.before.before.if2.false c.before.before.before.before.before.before.before.before.before.before.before.before.before.before.before.before.before.before.before.before.before.before.before.count.ensures.1 c.before.before.before.before.before.before.before.before.before.before.before.before.play-chunk.ensures
 
 pub turn_spec : {M : Type 1} → statement M

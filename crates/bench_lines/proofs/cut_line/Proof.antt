@@ -2,7 +2,7 @@ use native.Mathlib.Omega.{arith}
 use Prim.Native.Nat.{◌-◌}
 use lib.ListN.{length}
 use borrow.Author.Rules.{rules}
-use Rattle.bench_lines.proofs.Laws.CutLaws.{Still, still-all, still-more, cut-newline, cut-end}
+use Rattle.bench_lines.proofs.Laws.CutLaws.{Still, still_all, still_more, cut_newline, cut_end}
 use Rattle.bench_lines.proofs.cut_line.Statement.{statement}
 use Rattle.bench_lines.proofs.cut_line.Tie as tie
 
@@ -13,7 +13,7 @@ abbrev decreases-loop : tie.decreases-loop
 decreases-loop chunk from line₀ held at₀ kept₀ line at kept = length chunk - at
 
 loop-holds : tie.Need-loop-init invariant-loop decreases-loop
-loop-holds c = still-all _ _ _ _
+loop-holds c = still_all _ _ _ _
 
 shared-slice-read-byte : tie.Need-shared-slice-read-byte invariant-loop decreases-loop
 shared-slice-read-byte c = search rules
@@ -27,7 +27,7 @@ same_length c = c.before.before.before.loop.invariant.size
 returns : tie.Need-returns invariant-loop decreases-loop
 returns c =
     let v = c.before.before.before.loop in
-    v.invariant.gives _ _ (cut-newline _ v.line v.at v.auto c.before.before.loop-test.true c.if1.true)
+    v.invariant.gives _ _ (cut_newline _ v.line v.at v.auto c.before.before.loop-test.true c.if1.true)
 
 keep-byte-requires : tie.Need-keep-byte-requires invariant-loop decreases-loop
 keep-byte-requires c κs = search rules
@@ -41,14 +41,14 @@ loop-less c = omega (arith, c.before.before.before.before.before.before.loop-tes
 loop-again : tie.Need-loop-preserved invariant-loop decreases-loop
 loop-again c =
     let v = c.before.before.before.before.before.before.before.loop in
-    still-more _ _ _ _ v.line _ v.at v.auto _ c.before.before.before.before.before.before.loop-test.true c.before.before.before.before.if1.false
+    still_more _ _ _ _ v.line _ v.at v.auto _ c.before.before.before.before.before.before.loop-test.true c.before.before.before.before.if1.false
     c.before.before.keep-byte.ensures v.invariant
 
 same-length-2 : tie.Need-same-length-2 invariant-loop decreases-loop
 same-length-2 c = c.before.loop.invariant.size
 
 returns-2 : tie.Need-returns-2 invariant-loop decreases-loop
-returns-2 c = let v = c.before.loop in v.invariant.gives _ _ (cut-end _ v.line v.at v.auto c.loop-test.false)
+returns-2 c = let v = c.before.loop in v.invariant.gives _ _ (cut_end _ v.line v.at v.auto c.loop-test.false)
 
 pub cut-line-spec : {M : Type 1} → statement M
 cut-line-spec =

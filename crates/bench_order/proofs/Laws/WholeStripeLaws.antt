@@ -6,41 +6,41 @@ use Prim.Native.Nat.{ℕ, zero, suc, ◌*◌}
 use native.Mathlib.Omega.{arith}
 use lib.Dec.{eqb, ltb}
 use Rattle.settings.specs.Ranges.{quorum}
-use Rattle.settings.specs.Times.{coordinatorOf}
+use Rattle.settings.specs.Times.{coordinator_of}
 use Rattle.settings.specs.declared.Settings.{Settings}
 use Rattle.byte_lists.specs.Little.{are_bytes}
 use Rattle.byte_lists.proofs.Laws.BoolLaws.{and_left, and_right}
 use Rattle.message.specs.Flags.{members}
 use Rattle.message.specs.declared.Reply.{Reply}
-use Rattle.coord_record.specs.Records.{idleKind, noBricks, noOp, onBlock, idleWith}
+use Rattle.coord_record.specs.Records.{idle_kind, no_bricks, no_op, on_block, idle_with}
 use Rattle.coord_decide.specs.Deciding.{decided}
 use Rattle.coord_decide.specs.declared.Decision.{Decision}
 use Rattle.coord_decide.specs.declared.Decision.TheVariants.{Abort, Give, Look, Store, Modify, Recover, Finish}
-use Rattle.coord_apply.proofs.Laws.ActLaws.{recover-either}
-use Rattle.coord_apply.specs.Acts.{sendingFirst, nextOp, opened, nextRound, modifying, ending, acted, counting, withTally, waitingOr}
-use Rattle.coord_apply.specs.Answers.{Buffered, Went, Step, refused, went, nothingSeen, cutSeen}
-use Rattle.coordinator.specs.Routines.{takeStep, crashed, crashStep}
+use Rattle.coord_apply.proofs.Laws.ActLaws.{recover_either}
+use Rattle.coord_apply.specs.Acts.{sending_first, next_op, opened, next_round, modifying, ending, acted, counting, with_tally, waiting_or}
+use Rattle.coord_apply.specs.Answers.{Buffered, Went, Step, refused, went, nothing_seen, cut_seen}
+use Rattle.coordinator.specs.Routines.{take_step, crashed, crash_step}
 use Rattle.coord_laws.proofs.Laws.OpCaseLaws.{clash}
-use Rattle.coord_laws.proofs.Laws.SoundnessLaws.{passes, same-went}
-use Rattle.coord_laws.proofs.Laws.StepRunLaws.{took, write-begins, read-begins}
-use Rattle.register.specs.Runs.{Item, message, reply, World, Left, untouched, lost, Event, startWrite, startRead, startWriteBlock, startReadBlock, arrives, crashes}
-use Rattle.register.specs.Runs.{goesDown, comesUp, idle, freshSet, Moved, unmoved, put_at, coordinated, received, arriving, arrivingAt, standing, buffersFit, leaving}
-use Rattle.register.specs.Runs.{leftBy, step}
+use Rattle.coord_laws.proofs.Laws.SoundnessLaws.{passes, same_went}
+use Rattle.coord_laws.proofs.Laws.StepRunLaws.{took, write_begins, read_begins}
+use Rattle.register.specs.Runs.{Item, message, reply, World, Left, untouched, lost, Event, start_write, start_read, start_write_block, start_read_block, arrives, crashes}
+use Rattle.register.specs.Runs.{goes_down, comes_up, idle, fresh_set, Moved, unmoved, put_at, coordinated, received, arriving, arriving_at, standing, buffers_fit, leaving}
+use Rattle.register.specs.Runs.{left_by, step}
 use Rattle.bench_rules.specs.Play.{Played, refuses, passes as passing-by, happens, and_then}
 use Rattle.bench_order.specs.Report.{Part}
-use Rattle.bench_order.specs.ScriptTheorem.{startsOnBlock, onWholeStripes}
+use Rattle.bench_order.specs.ScriptTheorem.{starts_on_block, on_whole_stripes}
 use Rattle.bench_order.proofs.Laws.Parts.{Does, refusing, passing, happening, Parts, none, one, both}
 
 -- a coordinator that runs no operation on one block; and all of them
 abbrev pub Whole : Buffered → Type 0
-Whole k = onBlock k.state.op.kind ≡ false
+Whole k = on_block k.state.op.kind ≡ false
 
 abbrev pub WholeStripes : World → Type 0
 WholeStripes w = (c : ℕ) → Whole (w.coordinators c)
 
-pub fresh-whole : (s : Settings) → WholeStripes (freshSet s)
-unfolding freshSet idle idleWith noOp onBlock
-fresh-whole s c = refl
+pub fresh_whole : (s : Settings) → WholeStripes (fresh_set s)
+unfolding fresh_set idle idle_with no_op on_block
+fresh_whole s c = refl
 
 put_whole : (f : ℕ → Buffered) (c : ℕ) (k : Buffered) → ((j : ℕ) → Whole (f j)) → Whole k → (j : ℕ) → Whole (put_at f c k j)
 unfolding put_at
@@ -52,96 +52,96 @@ put_whole f c k h q j = go (eqb j c)
 
 -- a reply,
 module _ (n m size : ℕ) (h : Buffered) (q : Whole h) where
-  acted-whole : (d : Decision) → Whole (acted n m size h d).next
-  unfolding acted ending sendingFirst nextRound modifying opened nextOp idleWith noOp onBlock
-  acted-whole Abort = refl
-  acted-whole Give = refl
-  acted-whole (Look max) = q
-  acted-whole Store = q
-  acted-whole (Modify time) = q
-  acted-whole (Recover time) = recover-either n m size h time (λ (w : Went). Whole w.next) q refl
-  acted-whole Finish = refl
+  acted_whole : (d : Decision) → Whole (acted n m size h d).next
+  unfolding acted ending sending_first next_round modifying opened next_op idle_with no_op on_block
+  acted_whole Abort = refl
+  acted_whole Give = refl
+  acted_whole (Look max) = q
+  acted_whole Store = q
+  acted_whole (Modify time) = q
+  acted_whole (Recover time) = recover_either n m size h time (λ (w : Went). Whole w.next) q refl
+  acted_whole Finish = refl
 
-  waiting-whole : Whole (waitingOr n m size h).next
-  unfolding waitingOr
-  waiting-whole = go (ltb (members h.state.tally.counted n) (quorum n m))
+  waiting_whole : Whole (waiting_or n m size h).next
+  unfolding waiting_or
+  waiting_whole = go (ltb (members h.state.tally.counted n) (quorum n m))
     where
-      go : (b : Bool) → Whole (cond b (record { next = h; sent = []; seen = nothingSeen }) (acted n m size h (decided n m h.state.op h.state.tally))).next
+      go : (b : Bool) → Whole (cond b (record { next = h; sent = []; seen = nothing_seen }) (acted n m size h (decided n m h.state.op h.state.tally))).next
       go true = q
-      go false = acted-whole (decided n m h.state.op h.state.tally)
+      go false = acted_whole (decided n m h.state.op h.state.tally)
 
 module _ (n m size stripes : ℕ) (h : Buffered) (q : Whole h) where
-  take_whole : (r : Reply) (block : List ℕ) (coded : ℕ) (g : Went) → takeStep n m size stripes h r block coded ≡ went g → Whole g.next
-  unfolding counting withTally
+  take_whole : (r : Reply) (block : List ℕ) (coded : ℕ) (g : Went) → take_step n m size stripes h r block coded ≡ went g → Whole g.next
+  unfolding counting with_tally
   take_whole r block coded g e =
-      subst (λ (v : Went). Whole v.next) (took n m size stripes h r block coded g e).is (waiting-whole n m size (counting size h r block) q)
+      subst (λ (v : Went). Whole v.next) (took n m size stripes h r block coded g e).is (waiting_whole n m size (counting size h r block) q)
 
   -- a crash,
-  crash-whole : (g : Went) → crashStep n m size stripes h ≡ went g → Whole g.next
-  unfolding crashStep crashed ending idleWith noOp onBlock
-  crash-whole g e = subst (λ (v : Went). Whole v.next) (same-went (crashed n h) g (passes _ (went (crashed n h)) g e).1) (go (eqb h.state.op.kind idleKind))
+  crash_whole : (g : Went) → crash_step n m size stripes h ≡ went g → Whole g.next
+  unfolding crash_step crashed ending idle_with no_op on_block
+  crash_whole g e = subst (λ (v : Went). Whole v.next) (same_went (crashed n h) g (passes _ (went (crashed n h)) g e).1) (go (eqb h.state.op.kind idle_kind))
     where
-      go : (b : Bool) → Whole (cond b (record { next = h; sent = []; seen = nothingSeen }) (ending n h h.stripe [] cutSeen noBricks)).next
+      go : (b : Bool) → Whole (cond b (record { next = h; sent = []; seen = nothing_seen }) (ending n h h.stripe [] cut_seen no_bricks)).next
       go true = q
       go false = refl
 
 -- whatever it leaves in the buffers
-left-whole : (s : Settings) (left : Left) (p : Step) (g : Went) → leftBy s left p ≡ went g → ((v : Went) → p ≡ went v → Whole v.next) → Whole g.next
-unfolding leftBy leaving
-left-whole s left (refused k) g e f = absurd (let z : ◌≡◌ {A = ℕ} 0 1 = cc in omega arith)
-left-whole s untouched (went v) g e f = subst (λ (x : Went). Whole x.next) (same-went _ g e) (f v refl)
-left-whole s (lost blocks stripe) (went v) g e f = subst (λ (x : Went). Whole x.next) (same-went _ g e) (go (buffersFit s blocks stripe))
+left_whole : (s : Settings) (left : Left) (p : Step) (g : Went) → left_by s left p ≡ went g → ((v : Went) → p ≡ went v → Whole v.next) → Whole g.next
+unfolding left_by leaving
+left_whole s left (refused k) g e f = absurd (let z : ◌≡◌ {A = ℕ} 0 1 = cc in omega arith)
+left_whole s untouched (went v) g e f = subst (λ (x : Went). Whole x.next) (same_went _ g e) (f v refl)
+left_whole s (lost blocks stripe) (went v) g e f = subst (λ (x : Went). Whole x.next) (same_went _ g e) (go (buffers_fit s blocks stripe))
   where
     go : (b : Bool) → Whole (cond b (record { state = v.next.state; blocks = blocks; stripe = stripe }) v.next)
     go true = f v refl
     go false = f v refl
 
 module _ (s : Settings) (w : World) (h : WholeStripes w) where
-  coordinated-whole : (c : ℕ) (p : Step) → ((g : Went) → p ≡ went g → Whole g.next) → WholeStripes (coordinated s w c p).world
+  coordinated_whole : (c : ℕ) (p : Step) → ((g : Went) → p ≡ went g → Whole g.next) → WholeStripes (coordinated s w c p).world
   unfolding coordinated unmoved
-  coordinated-whole c (refused k) f = h
-  coordinated-whole c (went g) f = put_whole w.coordinators c g.next h (f g refl)
+  coordinated_whole c (refused k) f = h
+  coordinated_whole c (went g) f = put_whole w.coordinators c g.next h (f g refl)
 
-  either-whole : (b : Bool) (x y : Moved s) → WholeStripes x.world → WholeStripes y.world → WholeStripes (cond b x y).world
-  either-whole true x y p q = p
-  either-whole false x y p q = q
+  either_whole : (b : Bool) (x y : Moved s) → WholeStripes x.world → WholeStripes y.world → WholeStripes (cond b x y).world
+  either_whole true x y p q = p
+  either_whole false x y p q = q
 
-  arriving-whole : (i : Item) → WholeStripes (arriving s w i).world
+  arriving_whole : (i : Item) → WholeStripes (arriving s w i).world
   unfolding arriving received unmoved
-  arriving-whole (message b msg block old) = either-whole (w.up b) _ _ h h
-  arriving-whole (reply r block) =
-      coordinated-whole (coordinatorOf r.time) _
-      (λ g e. take_whole s.n s.m s.size s.stripes (w.coordinators (coordinatorOf r.time)) (h (coordinatorOf r.time)) r block (s.n * s.size) g e)
+  arriving_whole (message b msg block old) = either_whole (w.up b) _ _ h h
+  arriving_whole (reply r block) =
+      coordinated_whole (coordinator_of r.time) _
+      (λ g e. take_whole s.n s.m s.size s.stripes (w.coordinators (coordinator_of r.time)) (h (coordinator_of r.time)) r block (s.n * s.size) g e)
 
-  arriving-at-whole : (l : List Item) (k : ℕ) → WholeStripes (arrivingAt s w l k).world
-  unfolding arrivingAt unmoved
-  arriving-at-whole [] k = h
-  arriving-at-whole (i ∷ l) zero = arriving-whole i
-  arriving-at-whole (i ∷ l) (suc k) = arriving-at-whole l k
+  arriving_at_whole : (l : List Item) (k : ℕ) → WholeStripes (arriving_at s w l k).world
+  unfolding arriving_at unmoved
+  arriving_at_whole [] k = h
+  arriving_at_whole (i ∷ l) zero = arriving_whole i
+  arriving_at_whole (i ∷ l) (suc k) = arriving_at_whole l k
 
   -- the start of a write and of a read: any event that starts none on one block
-  pub step-whole : (e : Event) → startsOnBlock e ≡ false → WholeStripes (step s w e).world
-  unfolding step startsOnBlock standing unmoved onBlock
-  step-whole (startWrite c stripe reading content) q =
-      either-whole (are_bytes content) _ _
-      (coordinated-whole c _ (λ g e. rw (write-begins s.n s.m s.size s.stripes (w.coordinators c) stripe reading content g e).0.kind-is refl)) h
-  step-whole (startRead c stripe reading first) q =
-      coordinated-whole c _ (λ g e. rw (read-begins s.n s.m s.size s.stripes (w.coordinators c) stripe reading first g e).0.kind-is refl)
-  step-whole (startWriteBlock c stripe reading block content) q = clash (sym q)
-  step-whole (startReadBlock c stripe reading block) q = clash (sym q)
-  step-whole (arrives k) q = arriving-at-whole w.sent k
-  step-whole (crashes c left) q =
-      coordinated-whole c _
-      (λ g e. left-whole s left _ g e (λ v d. crash-whole s.n s.m s.size s.stripes (w.coordinators c) (h c) v d))
-  step-whole (goesDown b) q = either-whole (ltb b s.n) _ _ h h
-  step-whole (comesUp b) q = either-whole (ltb b s.n) _ _ h h
+  pub step_whole : (e : Event) → starts_on_block e ≡ false → WholeStripes (step s w e).world
+  unfolding step starts_on_block standing unmoved on_block
+  step_whole (start_write c stripe reading content) q =
+      either_whole (are_bytes content) _ _
+      (coordinated_whole c _ (λ g e. rw (write_begins s.n s.m s.size s.stripes (w.coordinators c) stripe reading content g e).0.kind-is refl)) h
+  step_whole (start_read c stripe reading first) q =
+      coordinated_whole c _ (λ g e. rw (read_begins s.n s.m s.size s.stripes (w.coordinators c) stripe reading first g e).0.kind-is refl)
+  step_whole (start_write_block c stripe reading block content) q = clash (sym q)
+  step_whole (start_read_block c stripe reading block) q = clash (sym q)
+  step_whole (arrives k) q = arriving_at_whole w.sent k
+  step_whole (crashes c left) q =
+      coordinated_whole c _
+      (λ g e. left_whole s left _ g e (λ v d. crash_whole s.n s.m s.size s.stripes (w.coordinators c) (h c) v d))
+  step_whole (goes_down b) q = either_whole (ltb b s.n) _ _ h h
+  step_whole (comes_up b) q = either_whole (ltb b s.n) _ _ h h
 
 -- a part of a line, and all of them
 pub does_whole : (s : Settings) (w : World) (p : Played) → Does s w p → WholeStripes w → WholeStripes p.world
 unfolding refuses passing-by happens
 does_whole s w p (refusing number) h = h
 does_whole s w p passing h = h
-does_whole s w p (happening e c kind b f o z) h = step-whole s w h e b
+does_whole s w p (happening e c kind b f o z) h = step_whole s w h e b
 
 pub parts_whole : (s : Settings) (w : World) (ps : List Part) (p : Played) → Parts s w ps p → WholeStripes w → WholeStripes p.world
 unfolding passing-by and_then
@@ -150,20 +150,20 @@ parts_whole s w ps p (one _ part d) h = does_whole s w p d h
 parts_whole s w ps p (both _ xs ys q r a b) h = parts_whole s q.world ys r b (parts_whole s w xs q a h)
 
 -- and none of its events starts an operation on one block
-pub whole-both : (es fs : List Event) → onWholeStripes es ≡ true → onWholeStripes fs ≡ true → onWholeStripes (es ++ fs) ≡ true
-unfolding onWholeStripes
-whole-both [] fs p q = q
-whole-both (e ∷ es) fs p q =
-    rw (and_left (not (startsOnBlock e)) (onWholeStripes es) p) (whole-both es fs (and_right (not (startsOnBlock e)) (onWholeStripes es) p) q)
+pub whole_both : (es fs : List Event) → on_whole_stripes es ≡ true → on_whole_stripes fs ≡ true → on_whole_stripes (es ++ fs) ≡ true
+unfolding on_whole_stripes
+whole_both [] fs p q = q
+whole_both (e ∷ es) fs p q =
+    rw (and_left (not (starts_on_block e)) (on_whole_stripes es) p) (whole_both es fs (and_right (not (starts_on_block e)) (on_whole_stripes es) p) q)
 
-does-starts : (s : Settings) (w : World) (p : Played) → Does s w p → onWholeStripes p.events ≡ true
-unfolding refuses passing-by happens onWholeStripes
-does-starts s w p (refusing number) = refl
-does-starts s w p passing = refl
-does-starts s w p (happening e c kind b f o z) = rw b refl
+does_starts : (s : Settings) (w : World) (p : Played) → Does s w p → on_whole_stripes p.events ≡ true
+unfolding refuses passing-by happens on_whole_stripes
+does_starts s w p (refusing number) = refl
+does_starts s w p passing = refl
+does_starts s w p (happening e c kind b f o z) = rw b refl
 
-pub parts-start : (s : Settings) (w : World) (ps : List Part) (p : Played) → Parts s w ps p → onWholeStripes p.events ≡ true
-unfolding passing-by and_then onWholeStripes
-parts-start s w ps p (none _) = refl
-parts-start s w ps p (one _ part d) = does-starts s w p d
-parts-start s w ps p (both _ xs ys q r a b) = whole-both q.events r.events (parts-start s w xs q a) (parts-start s q.world ys r b)
+pub parts_start : (s : Settings) (w : World) (ps : List Part) (p : Played) → Parts s w ps p → on_whole_stripes p.events ≡ true
+unfolding passing-by and_then on_whole_stripes
+parts_start s w ps p (none _) = refl
+parts_start s w ps p (one _ part d) = does_starts s w p d
+parts_start s w ps p (both _ xs ys q r a b) = whole_both q.events r.events (parts_start s w xs q a) (parts_start s q.world ys r b)

@@ -1,52 +1,52 @@
 -- Document 01's case: every definition opened, and computed.
 use mathlib.Core.Path.{refl}
-use Rattle.register.proofs.Laws.Opened.{all-open}
+use Rattle.register.proofs.Laws.Opened.{all_open}
 use Rattle.bench_order.specs.CaseTheorem.{WorkedCasePrintsAsGiven}
-use Rattle.bench_order.specs.WorkedCase.{worked-input, worked-output}
-use Rattle.bench_parse.specs.Lines.{every, longer, words, isDigit, numberWord, valueAfter, value_of, numbersOf, isLower, isUpper, isHex, hexValue, hexWord, bytes_of, areNumbers, number_in, setOf}
-use Rattle.bench_parse.specs.Lines.{writeWords, writeOf, read_of, carryOf, one_of, setText, writeText, readText, carryText, crashText, downText, upText, commandOf, readsWords, reads}
-use Rattle.bench_print.specs.Printing.{refusedWord, readWord, writeWord, okWord, abortWord, cutWord, digitsFrom, decimal, hexDigit, hexText, refusedText, kindWord, end_word, lineText, isEnd, endedText}
+use Rattle.bench_order.specs.WorkedCase.{worked_input, worked_output}
+use Rattle.bench_parse.specs.Lines.{every, longer, words, is_digit, number_word, value_after, value_of, numbers_of, is_lower, is_upper, is_hex, hex_value, hex_word, bytes_of, are_numbers, number_in, set_of}
+use Rattle.bench_parse.specs.Lines.{write_words, write_of, read_of, carry_of, one_of, set_text, write_text, read_text, carry_text, crash_text, down_text, up_text, command_of, reads_words, reads}
+use Rattle.bench_print.specs.Printing.{refused_word, read_word, write_word, ok_word, abort_word, cut_word, digits_from, decimal, hex_digit, hex_text, refused_text, kind_word, end_word, line_text, is_end, ended_text}
 use Rattle.byte_lists.specs.Lists.{same}
-use Rattle.bench_state.specs.State.{benchLimits, benchRange}
+use Rattle.bench_state.specs.State.{bench_limits, bench_range}
 use Rattle.bench_rules.specs.Content.{counted, content}
-use Rattle.bench_rules.specs.Play.{refuses, passes, happens, acts, atCoordinator, unlessShort, writes, starts, crashesAt, switches, delivered, reaches, carries, carriesAt, carried, and_then}
-use Rattle.bench_rules.specs.Play.{carriedAll, plays, waits, begins, first, turn}
+use Rattle.bench_rules.specs.Play.{refuses, passes, happens, acts, at_coordinator, unless_short, writes, starts, crashes_at, switches, delivered, reaches, carries, carries_at, carried, and_then}
+use Rattle.bench_rules.specs.Play.{carried_all, plays, waits, begins, first, turn}
 use Rattle.bench_lines.specs.Cutting.{lines}
-use Rattle.bench_order.specs.Script.{stays, follows, playsLines, script}
+use Rattle.bench_order.specs.Script.{stays, follows, plays_lines, script}
 
 -- the definitions of the bench, opened
-unfoldable bench-words-open : Unit {0}
-unfolding every longer words isDigit numberWord valueAfter value_of numbersOf isLower isUpper isHex hexValue hexWord bytes_of
-bench-words-open = tt
+unfoldable bench_words_open : Unit {0}
+unfolding every longer words is_digit number_word value_after value_of numbers_of is_lower is_upper is_hex hex_value hex_word bytes_of
+bench_words_open = tt
 
-unfoldable bench-line-open : Unit {0}
-unfolding areNumbers number_in setOf writeWords writeOf read_of carryOf one_of setText writeText readText carryText crashText downText upText same commandOf readsWords reads
-bench-line-open = tt
+unfoldable bench_line_open : Unit {0}
+unfolding are_numbers number_in set_of write_words write_of read_of carry_of one_of set_text write_text read_text carry_text crash_text down_text up_text same command_of reads_words reads
+bench_line_open = tt
 
-unfoldable bench-print-open : Unit {0}
-unfolding refusedWord readWord writeWord okWord abortWord cutWord digitsFrom decimal hexDigit hexText refusedText kindWord end_word lineText isEnd endedText
-bench-print-open = tt
+unfoldable bench_print_open : Unit {0}
+unfolding refused_word read_word write_word ok_word abort_word cut_word digits_from decimal hex_digit hex_text refused_text kind_word end_word line_text is_end ended_text
+bench_print_open = tt
 
-unfoldable bench-state-open : Unit {0}
-unfolding benchLimits benchRange
-bench-state-open = tt
+unfoldable bench_state_open : Unit {0}
+unfolding bench_limits bench_range
+bench_state_open = tt
 
-unfoldable bench-play-open : Unit {0}
-unfolding counted content refuses passes happens acts atCoordinator unlessShort writes starts crashesAt switches delivered reaches carries carriesAt carried and_then carriedAll plays waits
-bench-play-open = tt
+unfoldable bench_play_open : Unit {0}
+unfolding counted content refuses passes happens acts at_coordinator unless_short writes starts crashes_at switches delivered reaches carries carries_at carried and_then carried_all plays waits
+bench_play_open = tt
 
-unfoldable bench-play-more-open : Unit {0}
+unfoldable bench_play_more_open : Unit {0}
 unfolding begins first turn
-bench-play-more-open = tt
+bench_play_more_open = tt
 
-unfoldable bench-order-open : Unit {0}
-unfolding lines stays follows playsLines script
-bench-order-open = tt
+unfoldable bench_order_open : Unit {0}
+unfolding lines stays follows plays_lines script
+bench_order_open = tt
 
-unfoldable bench-open : Unit {0}
-unfolding all-open bench-words-open bench-line-open bench-print-open bench-state-open bench-play-open bench-play-more-open bench-order-open
-bench-open = tt
+unfoldable bench_open : Unit {0}
+unfolding all_open bench_words_open bench_line_open bench_print_open bench_state_open bench_play_open bench_play_more_open bench_order_open
+bench_open = tt
 
-pub worked-case : WorkedCasePrintsAsGiven
-unfolding bench-open worked-input worked-output
-worked-case = refl
+pub worked_case : WorkedCasePrintsAsGiven
+unfolding bench_open worked_input worked_output
+worked_case = refl

@@ -4,9 +4,9 @@ use mathlib.Core.List.{List, [], ◌∷◌}
 use Prim.Native.Nat.{ℕ, ◌+◌, ◌≤◌, ◌<◌}
 use native.Mathlib.Omega.{arith}
 use lib.ListN.{length, drop}
-use Rattle.bench_parse.specs.Lines.{numbersOf, setLine, writeLine, readLine, carryLine, crashLine, downLine, upLine, noLine, reads}
-use Rattle.bench_parse.specs.Workers.{wordsFrom, line_of, CarryFrom, HexFrom, LineSound, NumberAt}
-use Rattle.bench_parse.proofs.Laws.WordLaws.{from-here, from-none}
+use Rattle.bench_parse.specs.Lines.{numbers_of, set_line, write_line, read_line, carry_line, crash_line, down_line, up_line, no_line, reads}
+use Rattle.bench_parse.specs.Workers.{words_from, line_of, CarryFrom, HexFrom, LineSound, NumberAt}
+use Rattle.bench_parse.proofs.Laws.WordLaws.{from_here, from_none}
 use Rattle.bench_parse.specs.declared.Line as code
 use Rattle.bench_parse.specs.declared.Line.TheVariants.{Set, Write, Read, Carry, Crash, Down, Up, Unread}
 use Rattle.bench_parse.specs.declared.Number.{Number}
@@ -14,59 +14,59 @@ use Rattle.bench_parse.specs.Workers.{CarryRest}
 
 -- What the line says, by the answer r.
 module _ (r : code.Line) (l : List ℕ) (m : line_of r l ≡ reads l) where
-  pub said-set : (n m' size capacity : ℕ) → r ≡ Set n m' size capacity → reads l ≡ setLine n m' size capacity
+  pub said_set : (n m' size capacity : ℕ) → r ≡ Set n m' size capacity → reads l ≡ set_line n m' size capacity
   unfolding line_of
-  said-set n m' size capacity e = sym m ∙ ap (λ (x : code.Line). line_of x l) e
+  said_set n m' size capacity e = sym m ∙ ap (λ (x : code.Line). line_of x l) e
 
-  pub said-write : (c clock at : ℕ) → r ≡ Write c clock at → reads l ≡ writeLine c clock (drop at l)
+  pub said_write : (c clock at : ℕ) → r ≡ Write c clock at → reads l ≡ write_line c clock (drop at l)
   unfolding line_of
-  said-write c clock at e = sym m ∙ ap (λ (x : code.Line). line_of x l) e
+  said_write c clock at e = sym m ∙ ap (λ (x : code.Line). line_of x l) e
 
-  pub said_read : (c clock brick : ℕ) → r ≡ Read c clock brick → reads l ≡ readLine c clock brick
+  pub said_read : (c clock brick : ℕ) → r ≡ Read c clock brick → reads l ≡ read_line c clock brick
   unfolding line_of
   said_read c clock brick e = sym m ∙ ap (λ (x : code.Line). line_of x l) e
 
-  pub said-carry : (at : ℕ) → r ≡ Carry at → LineSound r l → reads l ≡ carryLine (numbersOf (wordsFrom l at))
+  pub said_carry : (at : ℕ) → r ≡ Carry at → LineSound r l → reads l ≡ carry_line (numbers_of (words_from l at))
   unfolding line_of LineSound
-  said-carry at e s =
+  said_carry at e s =
       let c : CarryFrom l at = subst (λ (x : code.Line). LineSound x l) e s in
-      sym m ∙ ap (λ (x : code.Line). line_of x l) e ∙ ap (λ (ws : List (List ℕ)). carryLine (numbersOf ws)) (sym (from-here l at c.within))
+      sym m ∙ ap (λ (x : code.Line). line_of x l) e ∙ ap (λ (ws : List (List ℕ)). carry_line (numbers_of ws)) (sym (from_here l at c.within))
 
-  pub said-crash : (c : ℕ) → r ≡ Crash c → reads l ≡ crashLine c
+  pub said_crash : (c : ℕ) → r ≡ Crash c → reads l ≡ crash_line c
   unfolding line_of
-  said-crash c e = sym m ∙ ap (λ (x : code.Line). line_of x l) e
+  said_crash c e = sym m ∙ ap (λ (x : code.Line). line_of x l) e
 
-  pub said-down : (b : ℕ) → r ≡ Down b → reads l ≡ downLine b
+  pub said_down : (b : ℕ) → r ≡ Down b → reads l ≡ down_line b
   unfolding line_of
-  said-down b e = sym m ∙ ap (λ (x : code.Line). line_of x l) e
+  said_down b e = sym m ∙ ap (λ (x : code.Line). line_of x l) e
 
-  pub said-up : (b : ℕ) → r ≡ Up b → reads l ≡ upLine b
+  pub said_up : (b : ℕ) → r ≡ Up b → reads l ≡ up_line b
   unfolding line_of
-  said-up b e = sym m ∙ ap (λ (x : code.Line). line_of x l) e
+  said_up b e = sym m ∙ ap (λ (x : code.Line). line_of x l) e
 
-  pub said-nothing : r ≡ Unread → reads l ≡ noLine
+  pub said_nothing : r ≡ Unread → reads l ≡ no_line
   unfolding line_of
-  said-nothing e = sym m ∙ ap (λ (x : code.Line). line_of x l) e
+  said_nothing e = sym m ∙ ap (λ (x : code.Line). line_of x l) e
 
 -- the places that an answer names
-pub hex-place : (r : code.Line) (l : List ℕ) (c clock at : ℕ) → r ≡ Write c clock at → LineSound r l → HexFrom l at
+pub hex_place : (r : code.Line) (l : List ℕ) (c clock at : ℕ) → r ≡ Write c clock at → LineSound r l → HexFrom l at
 unfolding LineSound
-hex-place r l c clock at e s = subst (λ (x : code.Line). LineSound x l) e s
+hex_place r l c clock at e s = subst (λ (x : code.Line). LineSound x l) e s
 
-pub number-place : (r : code.Line) (l : List ℕ) (at : ℕ) → r ≡ Carry at → LineSound r l → CarryFrom l at
+pub number_place : (r : code.Line) (l : List ℕ) (at : ℕ) → r ≡ Carry at → LineSound r l → CarryFrom l at
 unfolding LineSound
-number-place r l at e s = subst (λ (x : code.Line). LineSound x l) e s
+number_place r l at e s = subst (λ (x : code.Line). LineSound x l) e s
 
-pub rest-first : (l : List ℕ) (at : ℕ) → CarryFrom l at → CarryRest l at
-rest-first l at c = record { high = omega (arith, c.within); begins = λ h. c }
+pub rest_first : (l : List ℕ) (at : ℕ) → CarryFrom l at → CarryRest l at
+rest_first l at c = record { high = omega (arith, c.within); begins = λ h. c }
 
-pub rest-next : (l : List ℕ) (at : ℕ) (k : Number) → NumberAt l at k → CarryRest l (k.end + 1)
-rest-next l at k n = record { high = omega (arith, n.ends); begins = λ h. n.later (omega arith) }
+pub rest_next : (l : List ℕ) (at : ℕ) (k : Number) → NumberAt l at k → CarryRest l (k.end + 1)
+rest_next l at k n = record { high = omega (arith, n.ends); begins = λ h. n.later (omega arith) }
 
-pub rest-splits : (l : List ℕ) (at : ℕ) (k : Number) → at ≤ length l → NumberAt l at k
-    → numbersOf (wordsFrom l at) ≡ k.value ∷ numbersOf (wordsFrom l (k.end + 1))
-rest-splits l at k h n = ap numbersOf (from-here l at h) ∙ n.splits
+pub rest_splits : (l : List ℕ) (at : ℕ) (k : Number) → at ≤ length l → NumberAt l at k
+    → numbers_of (words_from l at) ≡ k.value ∷ numbers_of (words_from l (k.end + 1))
+rest_splits l at k h n = ap numbers_of (from_here l at h) ∙ n.splits
 
-pub rest-none : (l : List ℕ) (at : ℕ) → length l < at → numbersOf (wordsFrom l at) ≡ []
-unfolding numbersOf
-rest-none l at h = ap numbersOf (from-none l at h)
+pub rest_none : (l : List ℕ) (at : ℕ) → length l < at → numbers_of (words_from l at) ≡ []
+unfolding numbers_of
+rest_none l at h = ap numbers_of (from_none l at h)

@@ -2,83 +2,83 @@
 use mathlib.Core.Path.{◌≡◌, refl}
 use mathlib.Core.List.{[], ◌∷◌}
 use lib.ListN.{replicate}
-use Rattle.bench_parse.specs.Lines.{every, longer, words, isDigit, numberWord, valueAfter, value_of, numbersOf, isLower}
-use Rattle.bench_parse.specs.Lines.{isUpper, isHex, hexValue, hexWord, bytes_of, setLine, writeLine, readLine, carryLine}
-use Rattle.bench_parse.specs.Lines.{crashLine, downLine, upLine, noLine, areNumbers, number_in, setOf, writeWords, writeOf}
-use Rattle.bench_parse.specs.Lines.{read_of, carryOf, one_of, setText, writeText, readText, carryText, crashText, downText}
-use Rattle.bench_parse.specs.Lines.{upText, commandOf, readsWords, reads}
+use Rattle.bench_parse.specs.Lines.{every, longer, words, is_digit, number_word, value_after, value_of, numbers_of, is_lower}
+use Rattle.bench_parse.specs.Lines.{is_upper, is_hex, hex_value, hex_word, bytes_of, set_line, write_line, read_line, carry_line}
+use Rattle.bench_parse.specs.Lines.{crash_line, down_line, up_line, no_line, are_numbers, number_in, set_of, write_words, write_of}
+use Rattle.bench_parse.specs.Lines.{read_of, carry_of, one_of, set_text, write_text, read_text, carry_text, crash_text, down_text}
+use Rattle.bench_parse.specs.Lines.{up_text, command_of, reads_words, reads}
 use Rattle.byte_lists.specs.Lists.{same}
 
 -- every definition, opened
 unfoldable opened : Unit {0}
 unfolding
-    every longer words isDigit numberWord valueAfter value_of numbersOf isLower isUpper isHex hexValue hexWord bytes_of areNumbers number_in setOf writeWords writeOf
-    read_of carryOf one_of setText writeText readText carryText crashText downText upText same commandOf readsWords reads
+    every longer words is_digit number_word value_after value_of numbers_of is_lower is_upper is_hex hex_value hex_word bytes_of are_numbers number_in set_of write_words write_of
+    read_of carry_of one_of set_text write_text read_text carry_text crash_text down_text up_text same command_of reads_words reads
 opened = tt
 
 -- "set 3 1 1 4"
-a-set : reads (115 ∷ 101 ∷ 116 ∷ 32 ∷ 51 ∷ 32 ∷ 49 ∷ 32 ∷ 49 ∷ 32 ∷ 52 ∷ []) ≡ setLine 3 1 1 4
+a_set : reads (115 ∷ 101 ∷ 116 ∷ 32 ∷ 51 ∷ 32 ∷ 49 ∷ 32 ∷ 49 ∷ 32 ∷ 52 ∷ []) ≡ set_line 3 1 1 4
 unfolding opened
-a-set = refl
+a_set = refl
 
 -- "write 1 07 aF"
-a_write : reads (119 ∷ 114 ∷ 105 ∷ 116 ∷ 101 ∷ 32 ∷ 49 ∷ 32 ∷ 48 ∷ 55 ∷ 32 ∷ 97 ∷ 70 ∷ []) ≡ writeLine 1 7 (97 ∷ 70 ∷ [])
+a_write : reads (119 ∷ 114 ∷ 105 ∷ 116 ∷ 101 ∷ 32 ∷ 49 ∷ 32 ∷ 48 ∷ 55 ∷ 32 ∷ 97 ∷ 70 ∷ []) ≡ write_line 1 7 (97 ∷ 70 ∷ [])
 unfolding opened
 a_write = refl
 
-its-bytes : bytes_of (97 ∷ 70 ∷ []) ≡ 175 ∷ []
+its_bytes : bytes_of (97 ∷ 70 ∷ []) ≡ 175 ∷ []
 unfolding opened
-its-bytes = refl
+its_bytes = refl
 
 -- "read 0 10 2"
-a_read : reads (114 ∷ 101 ∷ 97 ∷ 100 ∷ 32 ∷ 48 ∷ 32 ∷ 49 ∷ 48 ∷ 32 ∷ 50 ∷ []) ≡ readLine 0 10 2
+a_read : reads (114 ∷ 101 ∷ 97 ∷ 100 ∷ 32 ∷ 48 ∷ 32 ∷ 49 ∷ 48 ∷ 32 ∷ 50 ∷ []) ≡ read_line 0 10 2
 unfolding opened
 a_read = refl
 
 -- "carry 12 3"
-a-carry : reads (99 ∷ 97 ∷ 114 ∷ 114 ∷ 121 ∷ 32 ∷ 49 ∷ 50 ∷ 32 ∷ 51 ∷ []) ≡ carryLine (12 ∷ 3 ∷ [])
+a_carry : reads (99 ∷ 97 ∷ 114 ∷ 114 ∷ 121 ∷ 32 ∷ 49 ∷ 50 ∷ 32 ∷ 51 ∷ []) ≡ carry_line (12 ∷ 3 ∷ [])
 unfolding opened
-a-carry = refl
+a_carry = refl
 
 -- "crash 3", "down 0", "up 1"
-a-crash : reads (99 ∷ 114 ∷ 97 ∷ 115 ∷ 104 ∷ 32 ∷ 51 ∷ []) ≡ crashLine 3
+a_crash : reads (99 ∷ 114 ∷ 97 ∷ 115 ∷ 104 ∷ 32 ∷ 51 ∷ []) ≡ crash_line 3
 unfolding opened
-a-crash = refl
+a_crash = refl
 
-a-down : reads (100 ∷ 111 ∷ 119 ∷ 110 ∷ 32 ∷ 48 ∷ []) ≡ downLine 0
+a_down : reads (100 ∷ 111 ∷ 119 ∷ 110 ∷ 32 ∷ 48 ∷ []) ≡ down_line 0
 unfolding opened
-a-down = refl
+a_down = refl
 
-an-up : reads (117 ∷ 112 ∷ 32 ∷ 49 ∷ []) ≡ upLine 1
+an_up : reads (117 ∷ 112 ∷ 32 ∷ 49 ∷ []) ≡ up_line 1
 unfolding opened
-an-up = refl
+an_up = refl
 
 -- a blank line; "carry" alone; "up  1" with two spaces; "up 1 " with a space at the end; "Up 1"
-no-blank : reads [] ≡ noLine
+no_blank_lem : reads [] ≡ no_line
 unfolding opened
-no-blank = refl
+no_blank_lem = refl
 
-no_number : reads (99 ∷ 97 ∷ 114 ∷ 114 ∷ 121 ∷ []) ≡ noLine
+no_number : reads (99 ∷ 97 ∷ 114 ∷ 114 ∷ 121 ∷ []) ≡ no_line
 unfolding opened
 no_number = refl
 
-no-two-spaces : reads (117 ∷ 112 ∷ 32 ∷ 32 ∷ 49 ∷ []) ≡ noLine
+no_two_spaces : reads (117 ∷ 112 ∷ 32 ∷ 32 ∷ 49 ∷ []) ≡ no_line
 unfolding opened
-no-two-spaces = refl
+no_two_spaces = refl
 
-no-space-at-the-end : reads (117 ∷ 112 ∷ 32 ∷ 49 ∷ 32 ∷ []) ≡ noLine
+no_space_at_the_end : reads (117 ∷ 112 ∷ 32 ∷ 49 ∷ 32 ∷ []) ≡ no_line
 unfolding opened
-no-space-at-the-end = refl
+no_space_at_the_end = refl
 
-no-upper-case : reads (85 ∷ 112 ∷ 32 ∷ 49 ∷ []) ≡ noLine
+no_upper_case : reads (85 ∷ 112 ∷ 32 ∷ 49 ∷ []) ≡ no_line
 unfolding opened
-no-upper-case = refl
+no_upper_case = refl
 
 -- 19 digits, and 20
-nineteen : reads (117 ∷ 112 ∷ 32 ∷ replicate 19 57) ≡ upLine 9999999999999999999
+nineteen : reads (117 ∷ 112 ∷ 32 ∷ replicate 19 57) ≡ up_line 9999999999999999999
 unfolding opened
 nineteen = refl
 
-twenty : reads (117 ∷ 112 ∷ 32 ∷ replicate 20 48) ≡ noLine
+twenty : reads (117 ∷ 112 ∷ 32 ∷ replicate 20 48) ≡ no_line
 unfolding opened
 twenty = refl

@@ -12,96 +12,96 @@ use lib.Seq.{drop-cons}
 use borrow.Author.Tests.{eq-eqb, ne_eqb, lt-leb, le-leb}
 use Rattle.bench_parse.specs.Lines.{space, longer, words}
 use Rattle.byte_lists.specs.Lists.{same}
-use Rattle.bench_parse.specs.Workers.{wordsFrom}
-use Rattle.bench_parse.specs.Workers.{wordLength}
+use Rattle.bench_parse.specs.Workers.{words_from}
+use Rattle.bench_parse.specs.Workers.{word_length}
 
-pub from-here : (l : List ℕ) (at : ℕ) → at ≤ length l → wordsFrom l at ≡ words (drop at l)
-unfolding wordsFrom
-from-here l at h = rw (le-leb at (length l) h)
+pub from_here : (l : List ℕ) (at : ℕ) → at ≤ length l → words_from l at ≡ words (drop at l)
+unfolding words_from
+from_here l at h = rw (le-leb at (length l) h)
 
-pub from-none : (l : List ℕ) (at : ℕ) → length l < at → wordsFrom l at ≡ []
-unfolding wordsFrom
-from-none l at h = rw (lt-leb at (length l) h)
+pub from_none : (l : List ℕ) (at : ℕ) → length l < at → words_from l at ≡ []
+unfolding words_from
+from_none l at h = rw (lt-leb at (length l) h)
 
 -- the length of a word, one byte at a time
-pub length-space : (l : List ℕ) (e : ℕ) → e < length l → get_or l e 0 ≡ space → wordLength (drop e l) ≡ 0
-unfolding wordLength
-length-space l e h x = rw (drop-cons l e 0 h, eq-eqb (get_or l e 0) space x)
+pub length_space : (l : List ℕ) (e : ℕ) → e < length l → get_or l e 0 ≡ space → word_length (drop e l) ≡ 0
+unfolding word_length
+length_space l e h x = rw (drop-cons l e 0 h, eq-eqb (get_or l e 0) space x)
 
-pub length_more : (l : List ℕ) (e : ℕ) → e < length l → (get_or l e 0 ≡ space → ⊥) → wordLength (drop e l) ≡ 1 + wordLength (drop (e + 1) l)
-unfolding wordLength
+pub length_more : (l : List ℕ) (e : ℕ) → e < length l → (get_or l e 0 ≡ space → ⊥) → word_length (drop e l) ≡ 1 + word_length (drop (e + 1) l)
+unfolding word_length
 length_more l e h x = rw (drop-cons l e 0 h, ne_eqb (get_or l e 0) space x, add-one e) (omega arith)
 
-pub length-end : (l : List ℕ) (e : ℕ) → length l ≤ e → wordLength (drop e l) ≡ 0
-unfolding wordLength
-length-end l e h = ap wordLength (drop_of_length-le l h)
+pub length_end : (l : List ℕ) (e : ℕ) → length l ≤ e → word_length (drop e l) ≡ 0
+unfolding word_length
+length_end l e h = ap word_length (drop_of_length-le l h)
 
-pub length-within : (t : List ℕ) → wordLength t ≤ length t
-unfolding wordLength
-length-within [] = omega arith
-length-within (x ∷ t) = go (eqb x space) (length-within t)
+pub length_within : (t : List ℕ) → word_length t ≤ length t
+unfolding word_length
+length_within [] = omega arith
+length_within (x ∷ t) = go (eqb x space) (length_within t)
   where
-    go : (b : Bool) → wordLength t ≤ length t → cond b 0 (suc (wordLength t)) ≤ suc (length t)
+    go : (b : Bool) → word_length t ≤ length t → cond b 0 (suc (word_length t)) ≤ suc (length t)
     go true h = omega arith
     go false h = omega arith
 
-from_cons : (x : ℕ) (t : List ℕ) (k : ℕ) → wordsFrom (x ∷ t) (suc k) ≡ wordsFrom t k
-unfolding wordsFrom
+from_cons : (x : ℕ) (t : List ℕ) (k : ℕ) → words_from (x ∷ t) (suc k) ≡ words_from t k
+unfolding words_from
 from_cons x t k = rw (leb-suc-suc k (length t))
 
 -- the first word, and the words after it
-pub words-split : (t : List ℕ) → words t ≡ take (wordLength t) t ∷ wordsFrom t (wordLength t + 1)
-unfolding words wordLength longer
-words-split [] = ap (λ (ws : List (List ℕ)). [] ∷ ws) (sym (from-none [] 1 (omega arith)))
-words-split (x ∷ t) = go (eqb x space) (words-split t)
+pub words_split : (t : List ℕ) → words t ≡ take (word_length t) t ∷ words_from t (word_length t + 1)
+unfolding words word_length longer
+words_split [] = ap (λ (ws : List (List ℕ)). [] ∷ ws) (sym (from_none [] 1 (omega arith)))
+words_split (x ∷ t) = go (eqb x space) (words_split t)
   where
-    go : (b : Bool) → words t ≡ take (wordLength t) t ∷ wordsFrom t (wordLength t + 1)
+    go : (b : Bool) → words t ≡ take (word_length t) t ∷ words_from t (word_length t + 1)
         → cond b ([] ∷ words t) (longer x (words t))
-        ≡ take (cond b 0 (suc (wordLength t))) (x ∷ t) ∷ wordsFrom (x ∷ t) (cond b 0 (suc (wordLength t)) + 1)
-    go true ih = ap (λ (ws : List (List ℕ)). [] ∷ ws) (sym (from-here (x ∷ t) 1 (omega arith)))
+        ≡ take (cond b 0 (suc (word_length t))) (x ∷ t) ∷ words_from (x ∷ t) (cond b 0 (suc (word_length t)) + 1)
+    go true ih = ap (λ (ws : List (List ℕ)). [] ∷ ws) (sym (from_here (x ∷ t) 1 (omega arith)))
     go false ih =
-        let e : suc (wordLength t) + 1 ≡ suc (wordLength t + 1) = omega arith in
+        let e : suc (word_length t) + 1 ≡ suc (word_length t + 1) = omega arith in
         ap (longer x) ih
-        ∙ ap (λ (ws : List (List ℕ)). (x ∷ take (wordLength t) t) ∷ ws)
-        (sym (from_cons x t (wordLength t + 1)) ∙ ap (wordsFrom (x ∷ t)) (sym e))
+        ∙ ap (λ (ws : List (List ℕ)). (x ∷ take (word_length t) t) ∷ ws)
+        (sym (from_cons x t (word_length t + 1)) ∙ ap (words_from (x ∷ t)) (sym e))
 
-pub from-drop : (l : List ℕ) (at k : ℕ) → at ≤ length l → wordsFrom (drop at l) k ≡ wordsFrom l (at + k)
-from-drop l zero k h = ap (wordsFrom l) (let e : k ≡ 0 + k = omega arith in e)
-from-drop [] (suc at) k h = absurd (not-suc-le-zero h)
-from-drop (x ∷ l) (suc at) k h =
-    from-drop l at k (omega arith) ∙ sym (from_cons x l (at + k)) ∙ ap (wordsFrom (x ∷ l)) (let e : suc (at + k) ≡ suc at + k = omega arith in e)
+pub from_drop : (l : List ℕ) (at k : ℕ) → at ≤ length l → words_from (drop at l) k ≡ words_from l (at + k)
+from_drop l zero k h = ap (words_from l) (let e : k ≡ 0 + k = omega arith in e)
+from_drop [] (suc at) k h = absurd (not-suc-le-zero h)
+from_drop (x ∷ l) (suc at) k h =
+    from_drop l at k (omega arith) ∙ sym (from_cons x l (at + k)) ∙ ap (words_from (x ∷ l)) (let e : suc (at + k) ≡ suc at + k = omega arith in e)
 
 -- the word at a place, by the place of its end
-module _ (l : List ℕ) (at e : ℕ) (h : at ≤ length l) (f : e ≡ at + wordLength (drop at l)) where
-  pub end-within : e ≤ length l
-  end-within = let w = length-within (drop at l) in let d = length-drop at l in omega arith
+module _ (l : List ℕ) (at e : ℕ) (h : at ≤ length l) (f : e ≡ at + word_length (drop at l)) where
+  pub end_within : e ≤ length l
+  end_within = let w = length_within (drop at l) in let d = length-drop at l in omega arith
 
-  pub split-at-end : words (drop at l) ≡ take (e - at) (drop at l) ∷ wordsFrom l (e + 1)
-  split-at-end =
-      let n : wordLength (drop at l) ≡ e - at = omega arith in
-      let m : at + (wordLength (drop at l) + 1) ≡ e + 1 = omega arith in
-      words-split (drop at l)
+  pub split_at_end : words (drop at l) ≡ take (e - at) (drop at l) ∷ words_from l (e + 1)
+  split_at_end =
+      let n : word_length (drop at l) ≡ e - at = omega arith in
+      let m : at + (word_length (drop at l) + 1) ≡ e + 1 = omega arith in
+      words_split (drop at l)
       ∙ ap₂ (λ (k : ℕ) (ws : List (List ℕ)). take k (drop at l) ∷ ws) n
-      (from-drop l at (wordLength (drop at l) + 1) h ∙ ap (wordsFrom l) m)
+      (from_drop l at (word_length (drop at l) + 1) h ∙ ap (words_from l) m)
 
 -- The search for a word's end.
 pub record WordSo (l : List ℕ) (at e : ℕ) : Type 0 where
   pub low : at ≤ e
   pub high : e ≤ length l
-  pub so_far : at + wordLength (drop at l) ≡ e + wordLength (drop e l)
+  pub so_far : at + word_length (drop at l) ≡ e + word_length (drop e l)
 
-pub word-start : (l : List ℕ) (at : ℕ) → at ≤ length l → WordSo l at at
-word-start l at h = record { low = omega arith; high = h; so_far = refl }
+pub word_start : (l : List ℕ) (at : ℕ) → at ≤ length l → WordSo l at at
+word_start l at h = record { low = omega arith; high = h; so_far = refl }
 
-pub word-space : (l : List ℕ) (at e : ℕ) → WordSo l at e → e < length l → get_or l e 0 ≡ space → e ≡ at + wordLength (drop at l)
-word-space l at e s h x = let z = length-space l e h x in let f = s.so_far in omega arith
+pub word_space : (l : List ℕ) (at e : ℕ) → WordSo l at e → e < length l → get_or l e 0 ≡ space → e ≡ at + word_length (drop at l)
+word_space l at e s h x = let z = length_space l e h x in let f = s.so_far in omega arith
 
 pub word_more : (l : List ℕ) (at e : ℕ) → WordSo l at e → e < length l → (get_or l e 0 ≡ space → ⊥) → WordSo l at (e + 1)
 word_more l at e s h x =
     record { low = omega (arith, s.low); high = omega arith; so_far = let z = length_more l e h x in let f = s.so_far in omega arith }
 
-pub word-stop : (l : List ℕ) (at e : ℕ) → WordSo l at e → length l ≤ e → e ≡ at + wordLength (drop at l)
-word-stop l at e s h = let z = length-end l e h in let f = s.so_far in omega arith
+pub word_stop : (l : List ℕ) (at e : ℕ) → WordSo l at e → length l ≤ e → e ≡ at + word_length (drop at l)
+word_stop l at e s h = let z = length_end l e h in let f = s.so_far in omega arith
 
 -- Two words, a byte at a time.
 pub record SameSo (a b : List ℕ) (i : ℕ) : Type 0 where
@@ -109,12 +109,12 @@ pub record SameSo (a b : List ℕ) (i : ℕ) : Type 0 where
   pub low : i ≤ length a
   pub so_far : same (drop i a) (drop i b) ≡ same a b
 
-pub same-lengths : (a b : List ℕ) → (length a ≡ length b → ⊥) → false ≡ same a b
+pub same_lengths : (a b : List ℕ) → (length a ≡ length b → ⊥) → false ≡ same a b
 unfolding same
-same-lengths [] [] h = absurd (h refl)
-same-lengths [] (y ∷ b) h = refl
-same-lengths (x ∷ a) [] h = refl
-same-lengths (x ∷ a) (y ∷ b) h = sym (ap (λ (t : Bool). eqb x y && t) (sym (same-lengths a b (λ e. h (ap suc e)))) ∙ and-false (eqb x y))
+same_lengths [] [] h = absurd (h refl)
+same_lengths [] (y ∷ b) h = refl
+same_lengths (x ∷ a) [] h = refl
+same_lengths (x ∷ a) (y ∷ b) h = sym (ap (λ (t : Bool). eqb x y && t) (sym (same_lengths a b (λ e. h (ap suc e)))) ∙ and-false (eqb x y))
 
 pub same_start : (a b : List ℕ) → length a ≡ length b → SameSo a b 0
 same_start a b e = record { size = e; low = omega arith; so_far = refl }
@@ -125,8 +125,8 @@ same_step a b i s h =
     let k : i < length b = omega (arith, s.size) in
     sym s.so_far ∙ rw (drop-cons a i 0 h, drop-cons b i 0 k, add-one i)
 
-pub same-differ : (a b : List ℕ) (i : ℕ) → SameSo a b i → i < length a → (get_or a i 0 ≡ get_or b i 0 → ⊥) → false ≡ same a b
-same-differ a b i s h n =
+pub same_differ : (a b : List ℕ) (i : ℕ) → SameSo a b i → i < length a → (get_or a i 0 ≡ get_or b i 0 → ⊥) → false ≡ same a b
+same_differ a b i s h n =
     sym (same_step a b i s h ∙ ap (λ (t : Bool). t && same (drop (i + 1) a) (drop (i + 1) b)) (ne_eqb (get_or a i 0) (get_or b i 0) n))
 
 pub same_more : (a b : List ℕ) (i : ℕ) → SameSo a b i → i < length a → get_or a i 0 ≡ get_or b i 0 → SameSo a b (i + 1)

@@ -2,7 +2,7 @@ use borrow.Author.Rules.{rules}
 use native.Mathlib.Omega.{arith}
 use lib.ListN.{length}
 use Prim.Native.Nat.{◌+◌, ◌-◌}
-use Rattle.bench_parse.proofs.Laws.NumeralLaws.{NumbersSo, numbers-start, numbers-not, numbers_more, numbers-stop}
+use Rattle.bench_parse.proofs.Laws.NumeralLaws.{NumbersSo, numbers_start, numbers_not, numbers_more, numbers_stop}
 use Rattle.bench_parse.proofs.all_numbers.Statement.{statement}
 use Rattle.bench_parse.proofs.all_numbers.Tie as tie
 
@@ -13,13 +13,13 @@ abbrev decreases-loop : tie.decreases-loop
 decreases-loop line at k₀ k = length line + 1 - k
 
 loop-holds : tie.Need-loop-init invariant-loop decreases-loop
-loop-holds c = search (rules, numbers-start)
+loop-holds c = search (rules, numbers_start)
 
 number-from-requires : tie.Need-number-from-requires invariant-loop decreases-loop
 number-from-requires c κs = search rules
 
 returns : tie.Need-returns invariant-loop decreases-loop
-returns c = search (rules, numbers-not)
+returns c = search (rules, numbers_not)
 
 loop-less : tie.Need-loop-smaller invariant-loop decreases-loop
 loop-less c = omega (arith, c.before.number-from.ensures.low c.if1.true)
@@ -28,7 +28,7 @@ loop-again : tie.Need-loop-preserved invariant-loop decreases-loop
 loop-again c = search (rules, numbers_more)
 
 returns-2 : tie.Need-returns-2 invariant-loop decreases-loop
-returns-2 c = search (rules, numbers-stop)
+returns-2 c = search (rules, numbers_stop)
 
 pub all-numbers-spec : {M : Type 1} → statement M
 all-numbers-spec =

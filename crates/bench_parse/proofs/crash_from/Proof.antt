@@ -1,5 +1,5 @@
 use borrow.Author.Rules.{rules}
-use Rattle.bench_parse.proofs.Laws.ReadLineLaws.{one-not, crash-is}
+use Rattle.bench_parse.proofs.Laws.ReadLineLaws.{one_not, crash_is}
 use Rattle.bench_parse.proofs.crash_from.Statement.{statement}
 use Rattle.bench_parse.proofs.crash_from.Tie as tie
 
@@ -7,10 +7,10 @@ alone-requires : tie.Need-alone-requires
 alone-requires c κs = search rules
 
 returns : tie.Need-returns
-returns c = search (rules, one-not)
+returns c = search (rules, one_not)
 
 returns-2 : tie.Need-returns-2
-returns-2 c = search (rules, crash-is)
+returns-2 c = search (rules, crash_is)
 
 pub crash-from-spec : {M : Type 1} → statement M
 crash-from-spec = tie.close (tie.spec alone-requires returns returns-2)

@@ -2,7 +2,7 @@ use borrow.Author.Rules.{rules}
 use native.Mathlib.Omega.{arith}
 use lib.ListN.{length}
 use Prim.Native.Nat.{◌-◌}
-use Rattle.bench_parse.proofs.Laws.HexLaws.{HexDone, hex-none, hex-more, hex-all}
+use Rattle.bench_parse.proofs.Laws.HexLaws.{HexDone, hex_none, hex_more, hex_all}
 use Rattle.bench_parse.proofs.hex_bytes.Statement.{statement}
 use Rattle.bench_parse.proofs.hex_bytes.Tie as tie
 
@@ -13,7 +13,7 @@ abbrev decreases-loop : tie.decreases-loop
 decreases-loop line at out₀ i₀ k₀ out i k = length out₀ - i
 
 loop-holds : tie.Need-loop-init invariant-loop decreases-loop
-loop-holds c = search (rules, hex-none)
+loop-holds c = search (rules, hex_none)
 
 shared-slice-read-hex-value : tie.Need-shared-slice-read-hex-value invariant-loop decreases-loop
 shared-slice-read-hex-value c = omega arith
@@ -49,13 +49,13 @@ loop-less : tie.Need-loop-smaller invariant-loop decreases-loop
 loop-less c = omega arith
 
 loop-again : tie.Need-loop-preserved invariant-loop decreases-loop
-loop-again c = search (rules, hex-more)
+loop-again c = search (rules, hex_more)
 
 same_length : tie.Need-same-length invariant-loop decreases-loop
 same_length c = c.before.loop.invariant.size
 
 returns : tie.Need-returns invariant-loop decreases-loop
-returns c = search (rules, hex-all)
+returns c = search (rules, hex_all)
 
 pub hex-bytes-spec : {M : Type 1} → statement M
 hex-bytes-spec =

@@ -2,7 +2,7 @@ use borrow.Author.Rules.{rules}
 use native.Mathlib.Omega.{arith}
 use lib.ListN.{length}
 use Prim.Native.Nat.{◌-◌}
-use Rattle.bench_parse.proofs.Laws.HexLaws.{HexSo, hexes-none, hexes-start, hexes-not, hexes-more, hexes-stop}
+use Rattle.bench_parse.proofs.Laws.HexLaws.{HexSo, hexes_none, hexes_start, hexes_not, hexes_more, hexes_stop}
 use Rattle.bench_parse.proofs.hex_from.Statement.{statement}
 use Rattle.bench_parse.proofs.hex_from.Tie as tie
 
@@ -13,10 +13,10 @@ abbrev decreases-loop : tie.decreases-loop
 decreases-loop line at i₀ i = length line - i
 
 returns : tie.Need-returns invariant-loop decreases-loop
-returns c = search (rules, hexes-none)
+returns c = search (rules, hexes_none)
 
 loop-holds : tie.Need-loop-init invariant-loop decreases-loop
-loop-holds c = search (rules, hexes-start)
+loop-holds c = search (rules, hexes_start)
 
 shared-slice-read-is-hex : tie.Need-shared-slice-read-is-hex invariant-loop decreases-loop
 shared-slice-read-is-hex c = omega arith
@@ -25,7 +25,7 @@ is-hex-requires : tie.Need-is-hex-requires invariant-loop decreases-loop
 is-hex-requires c κs = search rules
 
 returns-2 : tie.Need-returns-2 invariant-loop decreases-loop
-returns-2 c = search (rules, hexes-not)
+returns-2 c = search (rules, hexes_not)
 
 add-i : tie.Need-overflow-add-i invariant-loop decreases-loop
 add-i c = omega arith
@@ -34,10 +34,10 @@ loop-less : tie.Need-loop-smaller invariant-loop decreases-loop
 loop-less c = omega arith
 
 loop-again : tie.Need-loop-preserved invariant-loop decreases-loop
-loop-again c = search (rules, hexes-more)
+loop-again c = search (rules, hexes_more)
 
 returns-3 : tie.Need-returns-3 invariant-loop decreases-loop
-returns-3 c = search (rules, hexes-stop)
+returns-3 c = search (rules, hexes_stop)
 
 pub hex-from-spec : {M : Type 1} → statement M
 hex-from-spec =

@@ -1,6 +1,6 @@
 use borrow.Author.Rules.{rules}
 use native.Mathlib.Omega.{arith}
-use Rattle.bench_parse.proofs.Laws.HexLaws.{bounds, value-digit, value-lower, value-upper, value_none}
+use Rattle.bench_parse.proofs.Laws.HexLaws.{bounds, value_digit, value_lower, value_upper, value_none}
 use Rattle.bench_parse.proofs.hex_value.Statement.{statement}
 use Rattle.bench_parse.proofs.hex_value.Tie as tie
 
@@ -11,7 +11,7 @@ sub-result : tie.Need-overflow-sub-result
 sub-result c = omega (arith, bounds 48 57 c.before.before.args.x _ c.before.within.ensures c.if1.true)
 
 returns : tie.Need-returns
-returns c = omega (arith, value-digit c.before.before.args.x _ c.before.within.ensures c.if1.true)
+returns c = omega (arith, value_digit c.before.before.args.x _ c.before.within.ensures c.if1.true)
 
 within-requires-2 : tie.Need-within-requires-2
 within-requires-2 c κs = search rules
@@ -22,7 +22,7 @@ sub-result-2 c = omega (arith, bounds 97 102 c.before.before.before.before.args.
 returns-2 : tie.Need-returns-2
 returns-2 c =
     let q = c.before.before in
-    omega (arith, value-lower q.before.before.args.x _ _ q.before.within.ensures q.if1.false c.before.within2.ensures c.if2.true)
+    omega (arith, value_lower q.before.before.args.x _ _ q.before.within.ensures q.if1.false c.before.within2.ensures c.if2.true)
 
 within-requires-3 : tie.Need-within-requires-3
 within-requires-3 c κs = search rules
@@ -35,7 +35,7 @@ returns-3 c =
     let q = c.before.before in
     let e = q.before.within2.ensures in
     let d = q.before.before in
-    omega (arith, value-upper d.before.before.args.x _ _ _ d.before.within.ensures d.if1.false e q.if2.false c.before.within3.ensures c.if3.true)
+    omega (arith, value_upper d.before.before.args.x _ _ _ d.before.within.ensures d.if1.false e q.if2.false c.before.within3.ensures c.if3.true)
 
 returns-4 : tie.Need-returns-4
 returns-4 c = (search (rules, value_none), omega arith)

@@ -1,5 +1,5 @@
 use borrow.Author.Rules.{rules}
-use Rattle.bench_parse.proofs.Laws.HexLaws.{hex-digit, hex-lower, hex-upper}
+use Rattle.bench_parse.proofs.Laws.HexLaws.{hex_digit_lem, hex_lower, hex_upper}
 use Rattle.bench_parse.proofs.is_hex.Statement.{statement}
 use Rattle.bench_parse.proofs.is_hex.Tie as tie
 
@@ -7,19 +7,19 @@ within-requires : tie.Need-within-requires
 within-requires c κs = search rules
 
 returns : tie.Need-returns
-returns c = search (rules, hex-digit)
+returns c = search (rules, hex_digit_lem)
 
 within-requires-2 : tie.Need-within-requires-2
 within-requires-2 c κs = search rules
 
 returns-2 : tie.Need-returns-2
-returns-2 c = search (rules, hex-lower)
+returns-2 c = search (rules, hex_lower)
 
 within-requires-3 : tie.Need-within-requires-3
 within-requires-3 c κs = search rules
 
 returns-3 : tie.Need-returns-3
-returns-3 c = search (rules, hex-upper)
+returns-3 c = search (rules, hex_upper)
 
 pub is-hex-spec : {M : Type 1} → statement M
 is-hex-spec =

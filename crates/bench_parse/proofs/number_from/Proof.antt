@@ -1,12 +1,12 @@
 use borrow.Author.Rules.{rules}
 use native.Mathlib.Omega.{arith}
-use Rattle.bench_parse.proofs.Laws.NumeralLaws.{piece-none, piece-read}
-use Rattle.bench_parse.proofs.Laws.WordLaws.{end-within}
+use Rattle.bench_parse.proofs.Laws.NumeralLaws.{piece_none, piece_read}
+use Rattle.bench_parse.proofs.Laws.WordLaws.{end_within}
 use Rattle.bench_parse.proofs.number_from.Statement.{statement}
 use Rattle.bench_parse.proofs.number_from.Tie as tie
 
 returns : tie.Need-returns
-returns c = search (rules, piece-none)
+returns c = search (rules, piece_none)
 
 word-end-requires : tie.Need-word-end-requires
 word-end-requires c κs = search rules
@@ -18,16 +18,16 @@ part-word-number-start : tie.Need-slice-bounds-word-number-start
 part-word-number-start c = search rules
 
 part-word-number-end : tie.Need-slice-bounds-word-number-end
-part-word-number-end c = search (rules, end-within)
+part-word-number-end c = search (rules, end_within)
 
 word-number-requires : tie.Need-word-number-requires
 word-number-requires c κs = search rules
 
 add-t5 : tie.Need-overflow-add-t5
-add-t5 c = omega (arith, end-within _ _ _ c.before.before.before.if1.false c.before.before.word-end.ensures)
+add-t5 c = omega (arith, end_within _ _ _ c.before.before.before.if1.false c.before.before.word-end.ensures)
 
 returns-2 : tie.Need-returns-2
-returns-2 c = search (rules, piece-read)
+returns-2 c = search (rules, piece_read)
 
 pub number-from-spec : {M : Type 1} → statement M
 number-from-spec =

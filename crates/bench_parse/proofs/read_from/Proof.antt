@@ -1,5 +1,5 @@
 use borrow.Author.Rules.{rules}
-use Rattle.bench_parse.proofs.Laws.ReadLineLaws.{read-1, read-2, read-3, read_is}
+use Rattle.bench_parse.proofs.Laws.ReadLineLaws.{read_1, read_2, read_3, read_is}
 use Rattle.bench_parse.proofs.read_from.Statement.{statement}
 use Rattle.bench_parse.proofs.read_from.Tie as tie
 
@@ -7,19 +7,19 @@ number-from-requires : tie.Need-number-from-requires
 number-from-requires c κs = search rules
 
 returns : tie.Need-returns
-returns c = search (rules, read-1)
+returns c = search (rules, read_1)
 
 number-from-requires-2 : tie.Need-number-from-requires-2
 number-from-requires-2 c κs = search rules
 
 returns-2 : tie.Need-returns-2
-returns-2 c = search (rules, read-2)
+returns-2 c = search (rules, read_2)
 
 alone-requires : tie.Need-alone-requires
 alone-requires c κs = search rules
 
 returns-3 : tie.Need-returns-3
-returns-3 c = search (rules, read-3)
+returns-3 c = search (rules, read_3)
 
 returns-4 : tie.Need-returns-4
 returns-4 c = search (rules, read_is)

@@ -1,5 +1,5 @@
 use borrow.Author.Rules.{rules}
-use Rattle.bench_parse.proofs.Laws.ReadLineLaws.{by-1, by_2, by-3, by_4, by-5, by-6, by-7, by-none}
+use Rattle.bench_parse.proofs.Laws.ReadLineLaws.{by_1, by_2, by_3, by_4, by_5, by_6, by_7, by_none}
 use Rattle.bench_parse.proofs.read_rest.Statement.{statement}
 use Rattle.bench_parse.proofs.read_rest.Tie as tie
 
@@ -7,7 +7,7 @@ set-from-requires : tie.Need-set-from-requires
 set-from-requires c κs = search rules
 
 returns : tie.Need-returns
-returns c = search (rules, by-1)
+returns c = search (rules, by_1)
 
 write-from-requires : tie.Need-write-from-requires
 write-from-requires c κs = search rules
@@ -19,7 +19,7 @@ read-from-requires : tie.Need-read-from-requires
 read-from-requires c κs = search rules
 
 returns-3 : tie.Need-returns-3
-returns-3 c = search (rules, by-3)
+returns-3 c = search (rules, by_3)
 
 carry-from-requires : tie.Need-carry-from-requires
 carry-from-requires c κs =
@@ -33,22 +33,22 @@ crash-from-requires : tie.Need-crash-from-requires
 crash-from-requires c κs = search rules
 
 returns-5 : tie.Need-returns-5
-returns-5 c = search (rules, by-5)
+returns-5 c = search (rules, by_5)
 
 down-from-requires : tie.Need-down-from-requires
 down-from-requires c κs = search rules
 
 returns-6 : tie.Need-returns-6
-returns-6 c = search (rules, by-6)
+returns-6 c = search (rules, by_6)
 
 up-from-requires : tie.Need-up-from-requires
 up-from-requires c κs = search rules
 
 returns-7 : tie.Need-returns-7
-returns-7 c = search (rules, by-7)
+returns-7 c = search (rules, by_7)
 
 returns-8 : tie.Need-returns-8
-returns-8 c = search (rules, by-none)
+returns-8 c = search (rules, by_none)
 
 pub read-rest-spec : {M : Type 1} → statement M
 read-rest-spec =

@@ -2,7 +2,7 @@ use borrow.Author.Rules.{rules}
 use native.Mathlib.Omega.{arith}
 use lib.ListN.{length}
 use Prim.Native.Nat.{◌-◌}
-use Rattle.bench_parse.proofs.Laws.WordLaws.{SameSo, same-lengths, same_start, same-differ, same_more, same_stop}
+use Rattle.bench_parse.proofs.Laws.WordLaws.{SameSo, same_lengths, same_start, same_differ, same_more, same_stop}
 use Rattle.bench_parse.proofs.same_word.Statement.{statement}
 use Rattle.bench_parse.proofs.same_word.Tie as tie
 
@@ -13,7 +13,7 @@ abbrev decreases-loop : tie.decreases-loop
 decreases-loop a b i₀ i = length a - i
 
 returns : tie.Need-returns invariant-loop decreases-loop
-returns c = search (rules, same-lengths)
+returns c = search (rules, same_lengths)
 
 loop-holds : tie.Need-loop-init invariant-loop decreases-loop
 loop-holds c = search (rules, same_start)
@@ -25,7 +25,7 @@ shared-slice-read-if2-2 : tie.Need-shared-slice-read-if2-2 invariant-loop decrea
 shared-slice-read-if2-2 c = omega arith
 
 returns-2 : tie.Need-returns-2 invariant-loop decreases-loop
-returns-2 c = search (rules, same-differ)
+returns-2 c = search (rules, same_differ)
 
 add-i : tie.Need-overflow-add-i invariant-loop decreases-loop
 add-i c = omega arith

@@ -1,5 +1,5 @@
 use borrow.Author.Rules.{rules}
-use Rattle.bench_parse.proofs.Laws.ReadLineLaws.{set-1, set-2, set-3, set-4, set_is}
+use Rattle.bench_parse.proofs.Laws.ReadLineLaws.{set_1, set_2, set_3, set_4, set_is}
 use Rattle.bench_parse.proofs.set_from.Statement.{statement}
 use Rattle.bench_parse.proofs.set_from.Tie as tie
 
@@ -7,25 +7,25 @@ number-from-requires : tie.Need-number-from-requires
 number-from-requires c κs = search rules
 
 returns : tie.Need-returns
-returns c = search (rules, set-1)
+returns c = search (rules, set_1)
 
 number-from-requires-2 : tie.Need-number-from-requires-2
 number-from-requires-2 c κs = search rules
 
 returns-2 : tie.Need-returns-2
-returns-2 c = search (rules, set-2)
+returns-2 c = search (rules, set_2)
 
 number-from-requires-3 : tie.Need-number-from-requires-3
 number-from-requires-3 c κs = search rules
 
 returns-3 : tie.Need-returns-3
-returns-3 c = search (rules, set-3)
+returns-3 c = search (rules, set_3)
 
 alone-requires : tie.Need-alone-requires
 alone-requires c κs = search rules
 
 returns-4 : tie.Need-returns-4
-returns-4 c = search (rules, set-4)
+returns-4 c = search (rules, set_4)
 
 returns-5 : tie.Need-returns-5
 returns-5 c = search (rules, set_is)

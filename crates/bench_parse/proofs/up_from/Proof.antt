@@ -1,5 +1,5 @@
 use borrow.Author.Rules.{rules}
-use Rattle.bench_parse.proofs.Laws.ReadLineLaws.{one-not, up_is}
+use Rattle.bench_parse.proofs.Laws.ReadLineLaws.{one_not, up_is}
 use Rattle.bench_parse.proofs.up_from.Statement.{statement}
 use Rattle.bench_parse.proofs.up_from.Tie as tie
 
@@ -7,7 +7,7 @@ alone-requires : tie.Need-alone-requires
 alone-requires c κs = search rules
 
 returns : tie.Need-returns
-returns c = search (rules, one-not)
+returns c = search (rules, one_not)
 
 returns-2 : tie.Need-returns-2
 returns-2 c = search (rules, up_is)

@@ -2,7 +2,7 @@ use borrow.Author.Rules.{rules}
 use native.Mathlib.Omega.{arith}
 use lib.ListN.{length}
 use Prim.Native.Nat.{◌-◌}
-use Rattle.bench_parse.proofs.Laws.WordLaws.{WordSo, word-start, word-space, word_more, word-stop}
+use Rattle.bench_parse.proofs.Laws.WordLaws.{WordSo, word_start, word_space, word_more, word_stop}
 use Rattle.bench_parse.proofs.word_end.Statement.{statement}
 use Rattle.bench_parse.proofs.word_end.Tie as tie
 
@@ -13,13 +13,13 @@ abbrev decreases-loop : tie.decreases-loop
 decreases-loop line at e₀ e = length line - e
 
 loop-holds : tie.Need-loop-init invariant-loop decreases-loop
-loop-holds c = search (rules, word-start)
+loop-holds c = search (rules, word_start)
 
 shared-slice-read-if1 : tie.Need-shared-slice-read-if1 invariant-loop decreases-loop
 shared-slice-read-if1 c = omega arith
 
 returns : tie.Need-returns invariant-loop decreases-loop
-returns c = search (rules, word-space)
+returns c = search (rules, word_space)
 
 add-e : tie.Need-overflow-add-e invariant-loop decreases-loop
 add-e c = omega arith
@@ -31,7 +31,7 @@ loop-again : tie.Need-loop-preserved invariant-loop decreases-loop
 loop-again c = search (rules, word_more)
 
 returns-2 : tie.Need-returns-2 invariant-loop decreases-loop
-returns-2 c = search (rules, word-stop)
+returns-2 c = search (rules, word_stop)
 
 pub word-end-spec : {M : Type 1} → statement M
 word-end-spec =

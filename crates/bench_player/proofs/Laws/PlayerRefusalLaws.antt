@@ -8,146 +8,146 @@ use lib.Dec.{eqb, leb}
 use lib.ListN.{length}
 use borrow.Author.Tests.{eq-eqb, ne_eqb, le-leb, lt-leb, leb-true, eqb-true}
 use Rattle.byte_lists.proofs.Laws.BoolLaws.{and_left, and_right}
-use Rattle.settings.specs.Refusal.{refuseUnless, firstRefusal, badLength, badRecord, badSetting}
+use Rattle.settings.specs.Refusal.{refuse_unless, first_refusal, bad_length, bad_record, bad_setting}
 use Rattle.settings.specs.declared.Settings.{Settings}
 use Rattle.bench_parse.specs.Lines.{reads}
-use Rattle.bench_rules.specs.Play.{Stage, waiting, playing, eventsOf, turn, plays}
-use Rattle.bench_rules.specs.Turning.{Lent, lent, worldIn}
+use Rattle.bench_rules.specs.Play.{Stage, waiting, playing, events_of, turn, plays}
+use Rattle.bench_rules.specs.Turning.{Lent, lent, world_in}
 use Rattle.bench_rules.specs.Workers.{BenchReady, Lined}
 use Rattle.bench_rules.specs.declared.After.{After}
-use Rattle.bench_print.proofs.Laws.WrittenLaws.{written-nothing}
-use Rattle.bench_state.proofs.Laws.BenchRangeLaws.{bench-fits}
-use Rattle.bench_state.specs.State.{benchRange}
-use Rattle.bench_state.specs.Workers.{benchRefusal, freshBench}
+use Rattle.bench_print.proofs.Laws.WrittenLaws.{written_nothing}
+use Rattle.bench_state.proofs.Laws.BenchRangeLaws.{bench_fits}
+use Rattle.bench_state.specs.State.{bench_range}
+use Rattle.bench_state.specs.Workers.{bench_refusal, fresh_bench}
 use Rattle.bench_state.specs.declared.Bench.{Bench}
-use Rattle.bench_player.specs.Lining.{stageOf, lentLengthsRight, benchRefused, refusalOf, heard, Called}
+use Rattle.bench_player.specs.Lining.{stage_of, lent_lengths_right, bench_refused, refusal_of, heard, Called}
 use Rattle.register.specs.Runs.{Event}
 use Rattle.bench_player.specs.Workers.{Staged, First}
-use Rattle.bench_player.proofs.Laws.PlayerTurnLaws.{lined-staged}
-use Rattle.bench_limits.specs.Limits.{lastMessage, keptLength, imagesLength, numbersLength, bytesLength, textLength}
+use Rattle.bench_player.proofs.Laws.PlayerTurnLaws.{lined_staged}
+use Rattle.bench_limits.specs.Limits.{last_message, kept_length, images_length, numbers_length, bytes_length, text_length}
 
 -- settings of no set, or within the limits
-pub right-none : (s : Settings) → s.n ≡ 0 → true ≡ (eqb s.n 0 || benchRange s)
-right-none s e = rw (eq-eqb s.n 0 e) refl
+pub right_none : (s : Settings) → s.n ≡ 0 → true ≡ (eqb s.n 0 || bench_range s)
+right_none s e = rw (eq-eqb s.n 0 e) refl
 
-pub right-some : (s : Settings) (k : ℕ) → (s.n ≡ 0 → ⊥) → k ≡ benchRefusal s → eqb k 0 ≡ (eqb s.n 0 || benchRange s)
-unfolding benchRefusal
-right-some s k h e = rw (ne_eqb s.n 0 h, e) (go (benchRange s))
+pub right_some : (s : Settings) (k : ℕ) → (s.n ≡ 0 → ⊥) → k ≡ bench_refusal s → eqb k 0 ≡ (eqb s.n 0 || bench_range s)
+unfolding bench_refusal
+right_some s k h e = rw (ne_eqb s.n 0 h, e) (go (bench_range s))
   where
-    go : (x : Bool) → eqb (refuseUnless x badSetting) 0 ≡ x
+    go : (x : Bool) → eqb (refuse_unless x bad_setting) 0 ≡ x
     go true = refl
     go false = refl
 
 module _ (images kept numbers bytes out : ℕ) where
-  pub lengths-all : images ≡ imagesLength → kept ≡ keptLength → numbers ≡ numbersLength → bytes ≡ bytesLength → out ≡ textLength → true ≡ lentLengthsRight images kept numbers bytes out
-  unfolding lentLengthsRight
-  lengths-all a b c d e = rw (eq-eqb images imagesLength a, eq-eqb kept keptLength b, eq-eqb numbers numbersLength c, eq-eqb bytes bytesLength d, eq-eqb out textLength e) refl
+  pub lengths_all : images ≡ images_length → kept ≡ kept_length → numbers ≡ numbers_length → bytes ≡ bytes_length → out ≡ text_length → true ≡ lent_lengths_right images kept numbers bytes out
+  unfolding lent_lengths_right
+  lengths_all a b c d e = rw (eq-eqb images images_length a, eq-eqb kept kept_length b, eq-eqb numbers numbers_length c, eq-eqb bytes bytes_length d, eq-eqb out text_length e) refl
 
-  pub lengths-images : (images ≡ imagesLength → ⊥) → false ≡ lentLengthsRight images kept numbers bytes out
-  unfolding lentLengthsRight
-  lengths-images h = rw (ne_eqb images imagesLength h) refl
+  pub lengths_images : (images ≡ images_length → ⊥) → false ≡ lent_lengths_right images kept numbers bytes out
+  unfolding lent_lengths_right
+  lengths_images h = rw (ne_eqb images images_length h) refl
 
-  pub lengths-kept : images ≡ imagesLength → (kept ≡ keptLength → ⊥) → false ≡ lentLengthsRight images kept numbers bytes out
-  unfolding lentLengthsRight
-  lengths-kept a h = rw (eq-eqb images imagesLength a, ne_eqb kept keptLength h) refl
+  pub lengths_kept : images ≡ images_length → (kept ≡ kept_length → ⊥) → false ≡ lent_lengths_right images kept numbers bytes out
+  unfolding lent_lengths_right
+  lengths_kept a h = rw (eq-eqb images images_length a, ne_eqb kept kept_length h) refl
 
-  pub lengths-numbers : images ≡ imagesLength → kept ≡ keptLength → (numbers ≡ numbersLength → ⊥) → false ≡ lentLengthsRight images kept numbers bytes out
-  unfolding lentLengthsRight
-  lengths-numbers a b h = rw (eq-eqb images imagesLength a, eq-eqb kept keptLength b, ne_eqb numbers numbersLength h) refl
+  pub lengths_numbers : images ≡ images_length → kept ≡ kept_length → (numbers ≡ numbers_length → ⊥) → false ≡ lent_lengths_right images kept numbers bytes out
+  unfolding lent_lengths_right
+  lengths_numbers a b h = rw (eq-eqb images images_length a, eq-eqb kept kept_length b, ne_eqb numbers numbers_length h) refl
 
-  pub lengths-bytes : images ≡ imagesLength → kept ≡ keptLength → numbers ≡ numbersLength → (bytes ≡ bytesLength → ⊥) → false ≡ lentLengthsRight images kept numbers bytes out
-  unfolding lentLengthsRight
-  lengths-bytes a b c h = rw (eq-eqb images imagesLength a, eq-eqb kept keptLength b, eq-eqb numbers numbersLength c, ne_eqb bytes bytesLength h) refl
+  pub lengths_bytes : images ≡ images_length → kept ≡ kept_length → numbers ≡ numbers_length → (bytes ≡ bytes_length → ⊥) → false ≡ lent_lengths_right images kept numbers bytes out
+  unfolding lent_lengths_right
+  lengths_bytes a b c h = rw (eq-eqb images images_length a, eq-eqb kept kept_length b, eq-eqb numbers numbers_length c, ne_eqb bytes bytes_length h) refl
 
-  pub lengths-out : images ≡ imagesLength → kept ≡ keptLength → numbers ≡ numbersLength → bytes ≡ bytesLength → (out ≡ textLength → ⊥) → false ≡ lentLengthsRight images kept numbers bytes out
-  unfolding lentLengthsRight
-  lengths-out a b c d h = rw (eq-eqb images imagesLength a, eq-eqb kept keptLength b, eq-eqb numbers numbersLength c, eq-eqb bytes bytesLength d, ne_eqb out textLength h) refl
+  pub lengths_out : images ≡ images_length → kept ≡ kept_length → numbers ≡ numbers_length → bytes ≡ bytes_length → (out ≡ text_length → ⊥) → false ≡ lent_lengths_right images kept numbers bytes out
+  unfolding lent_lengths_right
+  lengths_out a b c d h = rw (eq-eqb images images_length a, eq-eqb kept kept_length b, eq-eqb numbers numbers_length c, eq-eqb bytes bytes_length d, ne_eqb out text_length h) refl
 
   module _ (b : Bench) where
-    pub refused-settings : (x : Bool) → x ≡ (eqb b.settings.n 0 || benchRange b.settings) → x ≡ false → badSetting ≡ benchRefused b images kept numbers bytes out
-    unfolding benchRefused firstRefusal
-    refused-settings x e h = rw (sym e ∙ h) refl
+    pub refused_settings : (x : Bool) → x ≡ (eqb b.settings.n 0 || bench_range b.settings) → x ≡ false → bad_setting ≡ bench_refused b images kept numbers bytes out
+    unfolding bench_refused first_refusal
+    refused_settings x e h = rw (sym e ∙ h) refl
 
-    pub refused-lengths : (x y : Bool) → x ≡ (eqb b.settings.n 0 || benchRange b.settings) → x ≡ true → y ≡ lentLengthsRight images kept numbers bytes out → y ≡ false
-        → badLength ≡ benchRefused b images kept numbers bytes out
-    unfolding benchRefused firstRefusal
-    refused-lengths x y e h f g = rw (sym e ∙ h, sym f ∙ g) refl
+    pub refused_lengths : (x y : Bool) → x ≡ (eqb b.settings.n 0 || bench_range b.settings) → x ≡ true → y ≡ lent_lengths_right images kept numbers bytes out → y ≡ false
+        → bad_length ≡ bench_refused b images kept numbers bytes out
+    unfolding bench_refused first_refusal
+    refused_lengths x y e h f g = rw (sym e ∙ h, sym f ∙ g) refl
 
-    pub refused-many : (x y : Bool) → x ≡ (eqb b.settings.n 0 || benchRange b.settings) → x ≡ true → y ≡ lentLengthsRight images kept numbers bytes out → y ≡ true
-        → lastMessage < b.sent → badRecord ≡ benchRefused b images kept numbers bytes out
-    unfolding benchRefused firstRefusal
-    refused-many x y e h f g l = rw (sym e ∙ h, sym f ∙ g, lt-leb b.sent lastMessage l) refl
+    pub refused_many : (x y : Bool) → x ≡ (eqb b.settings.n 0 || bench_range b.settings) → x ≡ true → y ≡ lent_lengths_right images kept numbers bytes out → y ≡ true
+        → last_message < b.sent → bad_record ≡ bench_refused b images kept numbers bytes out
+    unfolding bench_refused first_refusal
+    refused_many x y e h f g l = rw (sym e ∙ h, sym f ∙ g, lt-leb b.sent last_message l) refl
 
-    pub refused-not : (x y : Bool) → x ≡ (eqb b.settings.n 0 || benchRange b.settings) → x ≡ true → y ≡ lentLengthsRight images kept numbers bytes out → y ≡ true
-        → b.sent ≤ lastMessage → 0 ≡ benchRefused b images kept numbers bytes out
-    unfolding benchRefused firstRefusal
-    refused-not x y e h f g l = rw (sym e ∙ h, sym f ∙ g, le-leb b.sent lastMessage l) refl
+    pub refused_not : (x y : Bool) → x ≡ (eqb b.settings.n 0 || bench_range b.settings) → x ≡ true → y ≡ lent_lengths_right images kept numbers bytes out → y ≡ true
+        → b.sent ≤ last_message → 0 ≡ bench_refused b images kept numbers bytes out
+    unfolding bench_refused first_refusal
+    refused_not x y e h f g l = rw (sym e ∙ h, sym f ∙ g, le-leb b.sent last_message l) refl
 
     -- what is not refused
     pub record Accepted : Type 0 where
-      pub right : eqb b.settings.n 0 || benchRange b.settings ≡ true
-      pub images-long : images ≡ imagesLength
-      pub kept-long : kept ≡ keptLength
-      pub numbers-long : numbers ≡ numbersLength
-      pub bytes-long : bytes ≡ bytesLength
-      pub out-long : out ≡ textLength
-      pub few : b.sent ≤ lastMessage
+      pub right : eqb b.settings.n 0 || bench_range b.settings ≡ true
+      pub images-long : images ≡ images_length
+      pub kept-long : kept ≡ kept_length
+      pub numbers-long : numbers ≡ numbers_length
+      pub bytes-long : bytes ≡ bytes_length
+      pub out-long : out ≡ text_length
+      pub few : b.sent ≤ last_message
 
-    pub accepted : (k : ℕ) → k ≡ benchRefused b images kept numbers bytes out → k ≡ 0 → Accepted
-    unfolding benchRefused firstRefusal lentLengthsRight
+    pub accepted : (k : ℕ) → k ≡ bench_refused b images kept numbers bytes out → k ≡ 0 → Accepted
+    unfolding bench_refused first_refusal lent_lengths_right
     accepted k e z =
-        go (eqb b.settings.n 0 || benchRange b.settings) (eqb images imagesLength && eqb kept keptLength && eqb numbers numbersLength && eqb bytes bytesLength && eqb out textLength)
-        (leb b.sent lastMessage) refl refl refl
+        go (eqb b.settings.n 0 || bench_range b.settings) (eqb images images_length && eqb kept kept_length && eqb numbers numbers_length && eqb bytes bytes_length && eqb out text_length)
+        (leb b.sent last_message) refl refl refl
         (sym e ∙ z)
       where
-        go : (x y w : Bool) → eqb b.settings.n 0 || benchRange b.settings ≡ x
-            → eqb images imagesLength && eqb kept keptLength && eqb numbers numbersLength && eqb bytes bytesLength && eqb out textLength ≡ y → leb b.sent lastMessage ≡ w
-            → ◌≡◌ {A = ℕ} (firstRefusal (refuseUnless x badSetting ∷ refuseUnless y badLength ∷ refuseUnless w badRecord ∷ [])) 0 → Accepted
+        go : (x y w : Bool) → eqb b.settings.n 0 || bench_range b.settings ≡ x
+            → eqb images images_length && eqb kept kept_length && eqb numbers numbers_length && eqb bytes bytes_length && eqb out text_length ≡ y → leb b.sent last_message ≡ w
+            → ◌≡◌ {A = ℕ} (first_refusal (refuse_unless x bad_setting ∷ refuse_unless y bad_length ∷ refuse_unless w bad_record ∷ [])) 0 → Accepted
         go false y w ex ey ew q = absurd (omega arith)
         go true false w ex ey ew q = absurd (omega arith)
         go true true false ex ey ew q = absurd (omega arith)
         go true true true ex ey ew q =
-            let four = and_left (eqb images imagesLength && eqb kept keptLength && eqb numbers numbersLength && eqb bytes bytesLength) _ ey in
-            let three = and_left (eqb images imagesLength && eqb kept keptLength && eqb numbers numbersLength) _ four in
-            let two = and_left (eqb images imagesLength && eqb kept keptLength) _ three in
+            let four = and_left (eqb images images_length && eqb kept kept_length && eqb numbers numbers_length && eqb bytes bytes_length) _ ey in
+            let three = and_left (eqb images images_length && eqb kept kept_length && eqb numbers numbers_length) _ four in
+            let two = and_left (eqb images images_length && eqb kept kept_length) _ three in
             record {
               right = ex;
-              images-long = eqb-true images imagesLength (and_left (eqb images imagesLength) _ two);
-              kept-long = eqb-true kept keptLength (and_right (eqb images imagesLength) _ two);
-              numbers-long = eqb-true numbers numbersLength (and_right (eqb images imagesLength && eqb kept keptLength) _ three);
-              bytes-long = eqb-true bytes bytesLength (and_right (eqb images imagesLength && eqb kept keptLength && eqb numbers numbersLength) _ four);
-              out-long = eqb-true out textLength (and_right (eqb images imagesLength && eqb kept keptLength && eqb numbers numbersLength && eqb bytes bytesLength) _ ey);
-              few = leb-true b.sent lastMessage ew;
+              images-long = eqb-true images images_length (and_left (eqb images images_length) _ two);
+              kept-long = eqb-true kept kept_length (and_right (eqb images images_length) _ two);
+              numbers-long = eqb-true numbers numbers_length (and_right (eqb images images_length && eqb kept kept_length) _ three);
+              bytes-long = eqb-true bytes bytes_length (and_right (eqb images images_length && eqb kept kept_length && eqb numbers numbers_length) _ four);
+              out-long = eqb-true out text_length (and_right (eqb images images_length && eqb kept kept_length && eqb numbers numbers_length && eqb bytes bytes_length) _ ey);
+              few = leb-true b.sent last_message ew;
             }
 
 -- settings of a set are within the limits
-pub set-range : (s : Settings) → eqb s.n 0 || benchRange s ≡ true → (s.n ≡ 0 → ⊥) → benchRange s ≡ true
-set-range s e h = go (ne_eqb s.n 0 h) e
+pub set_range : (s : Settings) → eqb s.n 0 || bench_range s ≡ true → (s.n ≡ 0 → ⊥) → bench_range s ≡ true
+set_range s e h = go (ne_eqb s.n 0 h) e
   where
-    go : {x : Bool} → x ≡ false → x || benchRange s ≡ true → benchRange s ≡ true
-    go q d = subst (λ (y : Bool). y || benchRange s ≡ true) q d
+    go : {x : Bool} → x ≡ false → x || bench_range s ≡ true → bench_range s ≡ true
+    go q d = subst (λ (y : Bool). y || bench_range s ≡ true) q d
 
 -- a stage has its own events, or none
-stage-own : (b : Bench) (l : Lent) (events : List Event) → stageOf b l (eventsOf (stageOf b l events)) ≡ stageOf b l events
-unfolding stageOf eventsOf
-stage-own b l events = go (eqb b.settings.n 0)
+stage_own : (b : Bench) (l : Lent) (events : List Event) → stage_of b l (events_of (stage_of b l events)) ≡ stage_of b l events
+unfolding stage_of events_of
+stage_own b l events = go (eqb b.settings.n 0)
   where
-    go : (x : Bool) → cond x waiting (playing b.settings (worldIn b l) (eventsOf (cond x waiting (playing b.settings (worldIn b l) events))))
-        ≡ cond x waiting (playing b.settings (worldIn b l) events)
+    go : (x : Bool) → cond x waiting (playing b.settings (world_in b l) (events_of (cond x waiting (playing b.settings (world_in b l) events))))
+        ≡ cond x waiting (playing b.settings (world_in b l) events)
     go true = refl
     go false = refl
 
 module _ (b : Bench) (l : Lent) (line out : List ℕ) where
-  pub called-refused : (k : ℕ) → k ≡ refusalOf b l out → (k ≡ 0 → ⊥) → Called b l line out (record { refusal = k; bench = b; used = 0 }) l out
+  pub called_refused : (k : ℕ) → k ≡ refusal_of b l out → (k ≡ 0 → ⊥) → Called b l line out (record { refusal = k; bench = b; used = 0 }) l out
   unfolding heard
-  called-refused k e h =
+  called_refused k e h =
       record {
         refusal_is = e;
         plays-on = λ events.
             rw (ne_eqb k 0 h)
             (record {
-              stage_is = stage-own b l events;
-              text-is = sym (written-nothing 0 out);
+              stage_is = stage_own b l events;
+              text-is = sym (written_nothing 0 out);
               used-is = refl;
               within = omega arith;
             });
@@ -157,14 +157,14 @@ module _ (b : Bench) (l : Lent) (line out : List ℕ) where
       }
 
   -- from the stage that the record has
-  called-staged : (r : After) (l' : Lent) (out' : List ℕ) → refusalOf b l out ≡ 0
-      → ((events : List Event) → Staged b l (stageOf b l events) (turn (stageOf b l events) (reads line)) out r l' out')
+  called_staged : (r : After) (l' : Lent) (out' : List ℕ) → refusal_of b l out ≡ 0
+      → ((events : List Event) → Staged b l (stage_of b l events) (turn (stage_of b l events) (reads line)) out r l' out')
       → length l'.images ≡ length l.images → length l'.kept ≡ length l.kept → length l'.numbers ≡ length l.numbers
       → length l'.bytes ≡ length l.bytes → length out' ≡ length out
       → Called b l line out (record { refusal = 0; bench = r.bench; used = r.used }) l' out'
   unfolding heard
-  called-staged r l' out' z t ei ek en eb eo =
-      let a = accepted (length l.images) (length l.kept) (length l.numbers) (length l.bytes) (length out) b (refusalOf b l out) refl z in
+  called_staged r l' out' z t ei ek en eb eo =
+      let a = accepted (length l.images) (length l.kept) (length l.numbers) (length l.bytes) (length out) b (refusal_of b l out) refl z in
       record {
         refusal_is = sym z;
         plays-on = λ events.
@@ -178,50 +178,50 @@ module _ (b : Bench) (l : Lent) (line out : List ℕ) where
         refused-keeps = λ q. absurd (q refl);
         accepted-again = λ q.
             sym
-            (refused-not (length l'.images) (length l'.kept) (length l'.numbers) (length l'.bytes) (length out') r.bench
+            (refused_not (length l'.images) (length l'.kept) (length l'.numbers) (length l'.bytes) (length out') r.bench
             true true (sym (t []).right) refl
-            (lengths-all (length l'.images) (length l'.kept) (length l'.numbers) (length l'.bytes) (length out')
+            (lengths_all (length l'.images) (length l'.kept) (length l'.numbers) (length l'.bytes) (length out')
             (ei ∙ a.images-long) (ek ∙ a.kept-long) (en ∙ a.numbers-long) (eb ∙ a.bytes-long) (eo ∙ a.out-long))
             refl (t []).few);
       }
 
-  pub called-first : (k : ℕ) (r : After) (images' kept' out' : List ℕ) → k ≡ refusalOf b l out → k ≡ 0 → b.settings.n ≡ 0
+  pub called_first : (k : ℕ) (r : After) (images' kept' out' : List ℕ) → k ≡ refusal_of b l out → k ≡ 0 → b.settings.n ≡ 0
       → First b l.images l.kept (reads line) out r images' kept' out'
       → length images' ≡ length l.images → length kept' ≡ length l.kept → length out' ≡ length out
       → Called b l line out (record { refusal = 0; bench = r.bench; used = r.used }) (lent images' kept' l.numbers l.bytes) out'
-  unfolding stageOf turn
-  called-first k r images' kept' out' e z n f ei ek eo =
-      called-staged r (lent images' kept' l.numbers l.bytes) out' (sym e ∙ z)
+  unfolding stage_of turn
+  called_first k r images' kept' out' e z n f ei ek eo =
+      called_staged r (lent images' kept' l.numbers l.bytes) out' (sym e ∙ z)
       (λ events.
       subst (λ (x : Stage). Staged b l x (turn x (reads line)) out r (lent images' kept' l.numbers l.bytes) out')
-      (sym (ap (λ (x : Bool). cond x waiting (playing b.settings (worldIn b l) events)) (eq-eqb b.settings.n 0 n)))
+      (sym (ap (λ (x : Bool). cond x waiting (playing b.settings (world_in b l) events)) (eq-eqb b.settings.n 0 n)))
       (f.staged l.numbers l.bytes))
       ei ek refl refl eo
 
-  pub called-next : (k : ℕ) (r : After) (l' : Lent) (out' : List ℕ) → k ≡ refusalOf b l out → k ≡ 0 → (b.settings.n ≡ 0 → ⊥)
-      → Lined b l out (plays b.settings (worldIn b l) (reads line)) r l' out'
+  pub called_next : (k : ℕ) (r : After) (l' : Lent) (out' : List ℕ) → k ≡ refusal_of b l out → k ≡ 0 → (b.settings.n ≡ 0 → ⊥)
+      → Lined b l out (plays b.settings (world_in b l) (reads line)) r l' out'
       → length l'.images ≡ length l.images → length l'.kept ≡ length l.kept → length l'.numbers ≡ length l.numbers
       → length l'.bytes ≡ length l.bytes → length out' ≡ length out
       → Called b l line out (record { refusal = 0; bench = r.bench; used = r.used }) l' out'
-  unfolding stageOf
-  called-next k r l' out' e z n d ei ek en eb eo =
+  unfolding stage_of
+  called_next k r l' out' e z n d ei ek en eb eo =
       let a = accepted (length l.images) (length l.kept) (length l.numbers) (length l.bytes) (length out) b k e z in
-      let q = set-range b.settings a.right n in
-      called-staged r l' out' (sym e ∙ z)
+      let q = set_range b.settings a.right n in
+      called_staged r l' out' (sym e ∙ z)
       (λ events.
       subst (λ (x : Stage). Staged b l x (turn x (reads line)) out r l' out')
-      (sym (ap (λ (x : Bool). cond x waiting (playing b.settings (worldIn b l) events)) (ne_eqb b.settings.n 0 n)))
-      (lined-staged b l l' out out' r (reads line) events (bench-fits b.settings q) q d))
+      (sym (ap (λ (x : Bool). cond x waiting (playing b.settings (world_in b l) events)) (ne_eqb b.settings.n 0 n)))
+      (lined_staged b l l' out out' r (reads line) events (bench_fits b.settings q) q d))
       ei ek en eb eo
 
 -- a set that is played is ready
-pub accepted-ready : (b : Bench) (l : Lent) (out k : ℕ) → k ≡ benchRefused b (length l.images) (length l.kept) (length l.numbers) (length l.bytes) out
+pub accepted_ready : (b : Bench) (l : Lent) (out k : ℕ) → k ≡ bench_refused b (length l.images) (length l.kept) (length l.numbers) (length l.bytes) out
     → k ≡ 0
     → (b.settings.n ≡ 0 → ⊥) → BenchReady b l
-accepted-ready b l out k e z n =
+accepted_ready b l out k e z n =
     let a = accepted (length l.images) (length l.kept) (length l.numbers) (length l.bytes) out b k e z in
     record {
-      fits = bench-fits b.settings (set-range b.settings a.right n);
+      fits = bench_fits b.settings (set_range b.settings a.right n);
       few = a.few;
       images-long = a.images-long;
       kept-long = a.kept-long;
@@ -230,11 +230,11 @@ accepted-ready b l out k e z n =
     }
 
 -- before the first line
-pub none-waits : (b : Bench) (s : Settings) (l : Lent) (events : List Event) → b ≡ freshBench s → s.n ≡ 0 → stageOf b l events ≡ waiting
-unfolding stageOf freshBench
-none-waits b s l events e z =
-    ap (λ (x : Bench). cond (eqb x.settings.n 0) waiting (playing x.settings (worldIn x l) events)) e ∙ rw (eq-eqb s.n 0 z) refl
+pub none_waits : (b : Bench) (s : Settings) (l : Lent) (events : List Event) → b ≡ fresh_bench s → s.n ≡ 0 → stage_of b l events ≡ waiting
+unfolding stage_of fresh_bench
+none_waits b s l events e z =
+    ap (λ (x : Bench). cond (eqb x.settings.n 0) waiting (playing x.settings (world_in x l) events)) e ∙ rw (eq-eqb s.n 0 z) refl
 
-pub none-accepted : (b : Bench) (s : Settings) → b ≡ freshBench s → s.n ≡ 0 → benchRefused b imagesLength keptLength numbersLength bytesLength textLength ≡ 0
-unfolding benchRefused firstRefusal lentLengthsRight freshBench
-none-accepted b s e z = ap (λ (x : Bench). benchRefused x imagesLength keptLength numbersLength bytesLength textLength) e ∙ rw (eq-eqb s.n 0 z) refl
+pub none_accepted : (b : Bench) (s : Settings) → b ≡ fresh_bench s → s.n ≡ 0 → bench_refused b images_length kept_length numbers_length bytes_length text_length ≡ 0
+unfolding bench_refused first_refusal lent_lengths_right fresh_bench
+none_accepted b s e z = ap (λ (x : Bench). bench_refused x images_length kept_length numbers_length bytes_length text_length) e ∙ rw (eq-eqb s.n 0 z) refl

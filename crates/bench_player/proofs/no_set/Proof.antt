@@ -1,5 +1,5 @@
 use mathlib.Core.Path.{refl}
-use Rattle.bench_player.proofs.Laws.PlayerRefusalLaws.{none-waits, none-accepted}
+use Rattle.bench_player.proofs.Laws.PlayerRefusalLaws.{none_waits, none_accepted}
 use borrow.Author.Rules.{rules}
 use Rattle.bench_player.proofs.no_set.Statement.{statement}
 use Rattle.bench_player.proofs.no_set.Tie as tie
@@ -8,7 +8,7 @@ new-bench-requires : tie.Need-new-bench-requires
 new-bench-requires c κs = search rules
 
 returns : tie.Need-returns
-returns c = (λ l events. none-waits _ _ l events c.new-bench.ensures refl, none-accepted _ _ c.new-bench.ensures refl)
+returns c = (λ l events. none_waits _ _ l events c.new-bench.ensures refl, none_accepted _ _ c.new-bench.ensures refl)
 
 pub no-set-spec : {M : Type 1} → statement M
 no-set-spec = tie.close (tie.spec new-bench-requires returns)

@@ -1,8 +1,8 @@
 use native.Mathlib.Omega.{arith}
-use Rattle.bench_parse.proofs.Laws.CallerLaws.{said-set, said-write, said_read, said-carry, said-crash, said-down, said-up, said-nothing}
+use Rattle.bench_parse.proofs.Laws.CallerLaws.{said_set, said_write, said_read, said_carry, said_crash, said_down, said_up, said_nothing}
 use Rattle.bench_parse.specs.Lines.{reads}
-use Rattle.bench_state.proofs.Laws.BenchRangeLaws.{bench-passed}
-use Rattle.bench_player.proofs.Laws.PlayerTurnLaws.{first-bad, first-set, first-write, first_read, first-carry, first-crash, first-down, first-up, first-nothing}
+use Rattle.bench_state.proofs.Laws.BenchRangeLaws.{bench_passed}
+use Rattle.bench_player.proofs.Laws.PlayerTurnLaws.{first_bad, first_set, first_write, first_read, first_carry, first_crash, first_down, first_up, first_nothing}
 use borrow.Author.Rules.{rules}
 use Rattle.bench_player.proofs.play_first.Statement.{statement}
 use Rattle.bench_player.proofs.play_first.Tie as tie
@@ -21,12 +21,12 @@ same_length : tie.Need-same-length
 same_length c = search rules
 
 returns : tie.Need-returns
-returns c = search (rules, first-bad, said-set)
+returns c = search (rules, first_bad, said_set)
 
 set-up-requires : tie.Need-set-up-requires
 set-up-requires c κs =
     let s = c.before.before.before.before.before.before.before.before.before.before.before in
-    let f = bench-passed _ _ c.before.before.before.bench-refusal.ensures c.before.before.if1.false in
+    let f = bench_passed _ _ c.before.before.before.bench-refusal.ensures c.before.before.if1.false in
     ((f.in-range, f.small), (s.requires.1.1.0, s.requires.1.1.1))
 
 enum_told : tie.Need-enum-told
@@ -81,8 +81,8 @@ returns-2 : tie.Need-returns-2
 returns-2 c =
     let s = c.before.before.before.before.before.before.before.before.before.before.before.before.before.before.before.before in
     let u = c.before.before.before.before.set-up.ensures in
-    first-set _ _ _ _ s.args.b s.args.images.now s.args.kept.now _ s.args.out.now _ (reads s.args.line.now) _ _
-    (said-set s.args.l s.args.line.now s.requires.0.0 _ _ _ _ c.before.before.before.before.before.before.before.before.before.before.l.given.1)
+    first_set _ _ _ _ s.args.b s.args.images.now s.args.kept.now _ s.args.out.now _ (reads s.args.line.now) _ _
+    (said_set s.args.l s.args.line.now s.requires.0.0 _ _ _ _ c.before.before.before.before.before.before.before.before.before.before.l.given.1)
     c.before.before.before.before.before.before.before.before.bench-refusal.ensures c.before.before.before.before.before.before.before.if1.false u.0 u.1
 
 same-length-4 : tie.Need-same-length-4
@@ -91,8 +91,8 @@ same-length-4 c = search rules
 returns-3 : tie.Need-returns-3
 returns-3 c =
     let s = c.before.before.before.before.before.before.before.before.before.before in
-    first-write s.args.b s.args.out.now _ _ s.requires.1.0.0 (reads s.args.line.now) s.args.images.now s.args.kept.now c.before.before.refuse2.ensures _ _ _
-    (said-write s.args.l s.args.line.now s.requires.0.0 _ _ _ c.before.before.before.before.enum_told.given.1)
+    first_write s.args.b s.args.out.now _ _ s.requires.1.0.0 (reads s.args.line.now) s.args.images.now s.args.kept.now c.before.before.refuse2.ensures _ _ _
+    (said_write s.args.l s.args.line.now s.requires.0.0 _ _ _ c.before.before.before.before.enum_told.given.1)
 
 same-length-5 : tie.Need-same-length-5
 same-length-5 c = search rules
@@ -109,8 +109,8 @@ same-length-6 c = search rules
 returns-5 : tie.Need-returns-5
 returns-5 c =
     let s = c.before.before.before.before.before.before.before.before.before.before in
-    first-carry s.args.b s.args.out.now _ _ s.requires.1.0.0 (reads s.args.line.now) s.args.images.now s.args.kept.now c.before.before.refuse4.ensures _
-    (said-carry s.args.l s.args.line.now s.requires.0.0 _ c.before.before.before.before.enum-told3.given.1 s.requires.0.1)
+    first_carry s.args.b s.args.out.now _ _ s.requires.1.0.0 (reads s.args.line.now) s.args.images.now s.args.kept.now c.before.before.refuse4.ensures _
+    (said_carry s.args.l s.args.line.now s.requires.0.0 _ c.before.before.before.before.enum-told3.given.1 s.requires.0.1)
 
 same-length-7 : tie.Need-same-length-7
 same-length-7 c = search rules
@@ -118,8 +118,8 @@ same-length-7 c = search rules
 returns-6 : tie.Need-returns-6
 returns-6 c =
     let s = c.before.before.before.before.before.before.before.before.before.before in
-    first-crash s.args.b s.args.out.now _ _ s.requires.1.0.0 (reads s.args.line.now) s.args.images.now s.args.kept.now c.before.before.refuse5.ensures _
-    (said-crash s.args.l s.args.line.now s.requires.0.0 _ c.before.before.before.before.enum-told4.given.1)
+    first_crash s.args.b s.args.out.now _ _ s.requires.1.0.0 (reads s.args.line.now) s.args.images.now s.args.kept.now c.before.before.refuse5.ensures _
+    (said_crash s.args.l s.args.line.now s.requires.0.0 _ c.before.before.before.before.enum-told4.given.1)
 
 same-length-8 : tie.Need-same-length-8
 same-length-8 c = search rules
@@ -127,8 +127,8 @@ same-length-8 c = search rules
 returns-7 : tie.Need-returns-7
 returns-7 c =
     let s = c.before.before.before.before.before.before.before.before.before.before in
-    first-down s.args.b s.args.out.now _ _ s.requires.1.0.0 (reads s.args.line.now) s.args.images.now s.args.kept.now c.before.before.refuse6.ensures _
-    (said-down s.args.l s.args.line.now s.requires.0.0 _ c.before.before.before.before.enum-told5.given.1)
+    first_down s.args.b s.args.out.now _ _ s.requires.1.0.0 (reads s.args.line.now) s.args.images.now s.args.kept.now c.before.before.refuse6.ensures _
+    (said_down s.args.l s.args.line.now s.requires.0.0 _ c.before.before.before.before.enum-told5.given.1)
 
 same-length-9 : tie.Need-same-length-9
 same-length-9 c = search rules
@@ -136,8 +136,8 @@ same-length-9 c = search rules
 returns-8 : tie.Need-returns-8
 returns-8 c =
     let s = c.before.before.before.before.before.before.before.before.before.before in
-    first-up s.args.b s.args.out.now _ _ s.requires.1.0.0 (reads s.args.line.now) s.args.images.now s.args.kept.now c.before.before.refuse7.ensures _
-    (said-up s.args.l s.args.line.now s.requires.0.0 _ c.before.before.before.before.enum-told6.given.1)
+    first_up s.args.b s.args.out.now _ _ s.requires.1.0.0 (reads s.args.line.now) s.args.images.now s.args.kept.now c.before.before.refuse7.ensures _
+    (said_up s.args.l s.args.line.now s.requires.0.0 _ c.before.before.before.before.enum-told6.given.1)
 
 same-length-10 : tie.Need-same-length-10
 same-length-10 c = search rules
@@ -145,8 +145,8 @@ same-length-10 c = search rules
 returns-9 : tie.Need-returns-9
 returns-9 c =
     let s = c.before.before.before.before.before.before.before.before.before.before in
-    first-nothing s.args.b s.args.out.now _ _ s.requires.1.0.0 (reads s.args.line.now) s.args.images.now s.args.kept.now c.before.before.refuse8.ensures
-    (said-nothing s.args.l s.args.line.now s.requires.0.0 c.before.before.before.before.enum-told7.given.1)
+    first_nothing s.args.b s.args.out.now _ _ s.requires.1.0.0 (reads s.args.line.now) s.args.images.now s.args.kept.now c.before.before.refuse8.ensures
+    (said_nothing s.args.l s.args.line.now s.requires.0.0 c.before.before.before.before.enum-told7.given.1)
 
 pub play-first-spec : {M : Type 1} → statement M
 play-first-spec =

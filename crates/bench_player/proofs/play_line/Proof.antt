@@ -1,6 +1,6 @@
 use lib.ListN.{length}
 use Rattle.bench_rules.specs.Turning.{lent}
-use Rattle.bench_player.proofs.Laws.PlayerRefusalLaws.{called-refused, called-first, called-next, accepted, accepted-ready}
+use Rattle.bench_player.proofs.Laws.PlayerRefusalLaws.{called_refused, called_first, called_next, accepted, accepted_ready}
 use borrow.Author.Rules.{rules}
 use Rattle.bench_player.proofs.play_line.Statement.{statement}
 use Rattle.bench_player.proofs.play_line.Tie as tie
@@ -11,7 +11,7 @@ bench-refused-requires c κs = search rules
 returns : tie.Need-returns
 returns c =
     let s = c.before.before.before.before.before.before.before.before in
-    called-refused s.args.b (lent s.args.images.now s.args.kept.now s.args.numbers.now s.args.bytes.now) s.args.line.now s.args.out.now _
+    called_refused s.args.b (lent s.args.images.now s.args.kept.now s.args.numbers.now s.args.bytes.now) s.args.line.now s.args.out.now _
     c.before.bench-refused.ensures c.if1.true
 
 read-line-requires : tie.Need-read-line-requires
@@ -38,7 +38,7 @@ returns-2 : tie.Need-returns-2
 returns-2 c =
     let s = c.before.before.before.before.before.before.before.before.before.before.before.before.before.before.before.before.before.before.before.before.before.before.before in
     let k = c.before.before.before.before.before.before.before.play-first.auto in
-    called-first s.args.b (lent s.args.images.now s.args.kept.now s.args.numbers.now s.args.bytes.now) s.args.line.now s.args.out.now _
+    called_first s.args.b (lent s.args.images.now s.args.kept.now s.args.numbers.now s.args.bytes.now) s.args.line.now s.args.out.now _
     c.before.before.before.before.before.before.before.play-first.result _ _ _
     c.before.before.before.before.before.before.before.before.before.before.before.before.before.before.before.before.bench-refused.ensures
     c.before.before.before.before.before.before.before.before.before.before.before.before.before.before.before.if1.false
@@ -54,7 +54,7 @@ play-next-requires c κs =
     let e = c.before.before.before.before.before.before.before.before.read-line.ensures in (
       (e.0, e.1),
       (
-        accepted-ready s.args.b (lent s.args.images.now s.args.kept.now s.args.numbers.now s.args.bytes.now) (length s.args.out.now) _ b z
+        accepted_ready s.args.b (lent s.args.images.now s.args.kept.now s.args.numbers.now s.args.bytes.now) (length s.args.out.now) _ b z
             c.before.before.before.before.before.if2.false,
         a.out-long,
       ),
@@ -79,7 +79,7 @@ returns-3 : tie.Need-returns-3
 returns-3 c =
     let s = c.before.before.before.before.before.before.before.before.before.before.before.before.before.before.before.before.before.before.before.before.before.before.before.before.before.before.before.before.before in
     let k = c.before.before.before.before.before.before.before.before.before.before.before.play-next.auto in
-    called-next s.args.b (lent s.args.images.now s.args.kept.now s.args.numbers.now s.args.bytes.now) s.args.line.now s.args.out.now _
+    called_next s.args.b (lent s.args.images.now s.args.kept.now s.args.numbers.now s.args.bytes.now) s.args.line.now s.args.out.now _
     c.before.before.before.before.before.before.before.before.before.before.before.play-next.result _ _
     c.before.before.before.before.before.before.before.before.before.before.before.before.before.before.before.before.before.before.before.before.before.before.bench-refused.ensures
     c.before.before.before.before.before.before.before.before.before.before.before.before.before.before.before.before.before.before.before.before.before.if1.false

@@ -1,9 +1,9 @@
 use native.Mathlib.Omega.{arith}
-use Rattle.bench_parse.proofs.Laws.CallerLaws.{said-set, said-write, said_read, said-carry, said-crash, said-down, said-up, said-nothing, hex-place, number-place}
+use Rattle.bench_parse.proofs.Laws.CallerLaws.{said_set, said_write, said_read, said_carry, said_crash, said_down, said_up, said_nothing, hex_place, number_place}
 use Rattle.bench_parse.specs.Lines.{reads}
 use Rattle.bench_rules.specs.Turning.{lent}
-use Rattle.bench_carry.proofs.Laws.CarryLaws.{ready-seats}
-use Rattle.bench_player.proofs.Laws.PlayerTurnLaws.{line_set, line_write, line_read, line-carry, line-crash, line-down, line-up, line-nothing}
+use Rattle.bench_carry.proofs.Laws.CarryLaws.{ready_seats}
+use Rattle.bench_player.proofs.Laws.PlayerTurnLaws.{line_set, line_write, line_read, line_carry, line_crash, line_down, line_up, line_nothing}
 use borrow.Author.Rules.{rules}
 use Rattle.bench_player.proofs.play_next.Statement.{statement}
 use Rattle.bench_player.proofs.play_next.Tie as tie
@@ -21,8 +21,8 @@ enum-known-l c = search rules
 write-at-requires : tie.Need-write-at-requires
 write-at-requires c κs =
     let s = c.before.before.before.before.before.before.before.before.before.before.before.before.before in (
-      ready-seats s.args.b (lent s.args.images.now s.args.kept.now s.args.numbers.now s.args.bytes.now) 0 s.args.out.now s.requires.1.0 (omega (arith, s.requires.1.1)),
-      (hex-place s.args.l s.args.line.now _ _ _ c.before.before.before.before.before.l.given.1 s.requires.0.1).within,
+      ready_seats s.args.b (lent s.args.images.now s.args.kept.now s.args.numbers.now s.args.bytes.now) 0 s.args.out.now s.requires.1.0 (omega (arith, s.requires.1.1)),
+      (hex_place s.args.l s.args.line.now _ _ _ c.before.before.before.before.before.l.given.1 s.requires.0.1).within,
     )
 
 enum-known-l-2 : tie.Need-enum-known-l-2
@@ -30,7 +30,7 @@ enum-known-l-2 c = search rules
 
 read-at-requires : tie.Need-read-at-requires
 read-at-requires c κs = let s = c.before.before.before.before.before.before.before.before.before.before.before.before.before in
-    ready-seats s.args.b (lent s.args.images.now s.args.kept.now s.args.numbers.now s.args.bytes.now) 0 s.args.out.now s.requires.1.0 (omega (arith, s.requires.1.1))
+    ready_seats s.args.b (lent s.args.images.now s.args.kept.now s.args.numbers.now s.args.bytes.now) 0 s.args.out.now s.requires.1.0 (omega (arith, s.requires.1.1))
 
 enum-known-l-3 : tie.Need-enum-known-l-3
 enum-known-l-3 c = search rules
@@ -38,14 +38,14 @@ enum-known-l-3 c = search rules
 carry-all-requires : tie.Need-carry-all-requires
 carry-all-requires c κs =
     let s = c.before.before.before.before.before.before.before.before.before.before.before.before.before.before in
-    (s.requires.1.0, (number-place s.args.l s.args.line.now _ c.before.before.before.before.before.before.l3.given.1 s.requires.0.1, s.requires.1.1))
+    (s.requires.1.0, (number_place s.args.l s.args.line.now _ c.before.before.before.before.before.before.l3.given.1 s.requires.0.1, s.requires.1.1))
 
 enum-known-l-4 : tie.Need-enum-known-l-4
 enum-known-l-4 c = search rules
 
 crash-at-requires : tie.Need-crash-at-requires
 crash-at-requires c κs = let s = c.before.before.before.before.before.before.before.before.before.before.before.before.before in
-    ready-seats s.args.b (lent s.args.images.now s.args.kept.now s.args.numbers.now s.args.bytes.now) 0 s.args.out.now s.requires.1.0 (omega (arith, s.requires.1.1))
+    ready_seats s.args.b (lent s.args.images.now s.args.kept.now s.args.numbers.now s.args.bytes.now) 0 s.args.out.now s.requires.1.0 (omega (arith, s.requires.1.1))
 
 enum-known-l-5 : tie.Need-enum-known-l-5
 enum-known-l-5 c = search rules
@@ -72,7 +72,7 @@ returns : tie.Need-returns
 returns c =
     let s = c.before.before.before.before.before.before.before.before.before.before.before.before in
     line_set s.args.b (lent s.args.images.now s.args.kept.now s.args.numbers.now s.args.bytes.now) _ s.args.out.now _ _ (reads s.args.line.now) _ _ _ _
-    (said-set s.args.l s.args.line.now s.requires.0.0 _ _ _ _ c.before.before.before.before.enum_told.given.1)
+    (said_set s.args.l s.args.line.now s.requires.0.0 _ _ _ _ c.before.before.before.before.enum_told.given.1)
     (c.before.before.refuse.ensures (lent s.args.images.now s.args.kept.now s.args.numbers.now s.args.bytes.now))
 
 same-length-2 : tie.Need-same-length-2
@@ -91,7 +91,7 @@ returns-2 : tie.Need-returns-2
 returns-2 c =
     let s = c.before.before.before.before.before.before.before.before.before.before.before.before.before.before.before.before.before.before.before.before.before.before in
     line_write s.args.b (lent s.args.images.now s.args.kept.now s.args.numbers.now s.args.bytes.now) _ s.args.out.now _ _ (reads s.args.line.now) _ _ _
-    (said-write s.args.l s.args.line.now s.requires.0.0 _ _ _
+    (said_write s.args.l s.args.line.now s.requires.0.0 _ _ _
     c.before.before.before.before.before.before.before.before.before.before.before.before.before.before.l.given.1)
     (c.before.before.before.before.before.before.before.before.write-at.ensures.turned s.args.images.now)
 
@@ -133,8 +133,8 @@ same-length-14 c = search rules
 returns-4 : tie.Need-returns-4
 returns-4 c =
     let s = c.before.before.before.before.before.before.before.before.before.before.before.before.before.before.before.before.before.before.before.before.before.before.before.before.before in
-    line-carry s.args.b (lent s.args.images.now s.args.kept.now s.args.numbers.now s.args.bytes.now) _ s.args.out.now _ _ (reads s.args.line.now) _
-    (said-carry s.args.l s.args.line.now s.pre.0.0 _
+    line_carry s.args.b (lent s.args.images.now s.args.kept.now s.args.numbers.now s.args.bytes.now) _ s.args.out.now _ _ (reads s.args.line.now) _
+    (said_carry s.args.l s.args.line.now s.pre.0.0 _
     c.before.before.before.before.before.before.before.before.before.before.before.before.before.before.before.before.before.l3.given.1 s.pre.0.1)
     c.before.before.before.before.before.before.before.before.before.before.carry-all.ensures
 
@@ -153,8 +153,8 @@ same-length-18 c = search rules
 returns-5 : tie.Need-returns-5
 returns-5 c =
     let s = c.before.before.before.before.before.before.before.before.before.before.before.before.before.before.before.before.before.before.before.before.before.before in
-    line-crash s.args.b (lent s.args.images.now s.args.kept.now s.args.numbers.now s.args.bytes.now) _ s.args.out.now _ _ (reads s.args.line.now) _
-    (said-crash s.args.l s.args.line.now s.requires.0.0 _
+    line_crash s.args.b (lent s.args.images.now s.args.kept.now s.args.numbers.now s.args.bytes.now) _ s.args.out.now _ _ (reads s.args.line.now) _
+    (said_crash s.args.l s.args.line.now s.requires.0.0 _
     c.before.before.before.before.before.before.before.before.before.before.before.before.before.before.l4.given.1)
     (c.before.before.before.before.before.before.before.before.crash-at.ensures.turned s.args.images.now)
 
@@ -164,8 +164,8 @@ same-length-19 c = search rules
 returns-6 : tie.Need-returns-6
 returns-6 c =
     let s = c.before.before.before.before.before.before.before.before.before.before.before.before.before in
-    line-down s.args.b (lent s.args.images.now s.args.kept.now s.args.numbers.now s.args.bytes.now) _ s.args.out.now _ _ (reads s.args.line.now) _
-    (said-down s.args.l s.args.line.now s.requires.0.0 _ c.before.before.before.before.before.l5.given.1)
+    line_down s.args.b (lent s.args.images.now s.args.kept.now s.args.numbers.now s.args.bytes.now) _ s.args.out.now _ _ (reads s.args.line.now) _
+    (said_down s.args.l s.args.line.now s.requires.0.0 _ c.before.before.before.before.before.l5.given.1)
     (c.before.before.switch-at.ensures (lent s.args.images.now s.args.kept.now s.args.numbers.now s.args.bytes.now))
 
 same-length-20 : tie.Need-same-length-20
@@ -174,8 +174,8 @@ same-length-20 c = search rules
 returns-7 : tie.Need-returns-7
 returns-7 c =
     let s = c.before.before.before.before.before.before.before.before.before.before.before.before.before in
-    line-up s.args.b (lent s.args.images.now s.args.kept.now s.args.numbers.now s.args.bytes.now) _ s.args.out.now _ _ (reads s.args.line.now) _
-    (said-up s.args.l s.args.line.now s.requires.0.0 _ c.before.before.before.before.before.l6.given.1)
+    line_up s.args.b (lent s.args.images.now s.args.kept.now s.args.numbers.now s.args.bytes.now) _ s.args.out.now _ _ (reads s.args.line.now) _
+    (said_up s.args.l s.args.line.now s.requires.0.0 _ c.before.before.before.before.before.l6.given.1)
     (c.before.before.switch-at2.ensures (lent s.args.images.now s.args.kept.now s.args.numbers.now s.args.bytes.now))
 
 same-length-21 : tie.Need-same-length-21
@@ -184,8 +184,8 @@ same-length-21 c = search rules
 returns-8 : tie.Need-returns-8
 returns-8 c =
     let s = c.before.before.before.before.before.before.before.before.before.before.before.before in
-    line-nothing s.args.b (lent s.args.images.now s.args.kept.now s.args.numbers.now s.args.bytes.now) _ s.args.out.now _ _ (reads s.args.line.now)
-    (said-nothing s.args.l s.args.line.now s.requires.0.0 c.before.before.before.before.enum-told2.given.1)
+    line_nothing s.args.b (lent s.args.images.now s.args.kept.now s.args.numbers.now s.args.bytes.now) _ s.args.out.now _ _ (reads s.args.line.now)
+    (said_nothing s.args.l s.args.line.now s.requires.0.0 c.before.before.before.before.enum-told2.given.1)
     (c.before.before.refuse2.ensures (lent s.args.images.now s.args.kept.now s.args.numbers.now s.args.bytes.now))
 
 pub play-next-spec : {M : Type 1} → statement M

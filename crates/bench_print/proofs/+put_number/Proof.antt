@@ -2,7 +2,7 @@
 use Prim.Native.Nat.{ℕ, ◌<◌}
 use native.Mathlib.Omega.{arith}
 use borrow.Author.Rules.{rules}
-use Rattle.bench_print.proofs.Laws.TextLaws.{number-one, number_more, number-one-long, number-more-long}
+use Rattle.bench_print.proofs.Laws.TextLaws.{number_one, number_more, number_one_long, number_more_long}
 use borrow.Fn.Kinds.{In}
 use borrow.Fn.PlainCycle.{Measures, is, falls, and}
 use Rattle.bench_print.proofs.put_number.Reads as put-number
@@ -42,7 +42,7 @@ put-number-put-byte-requires : (t : ℕ) → put-number-lts.Need-put-byte-requir
   put-number-below t,
   put-number.Post,
 ) (put-number-at t) put-number.Post
-put-number-put-byte-requires t c κs = omega (arith, number-one-long c.before.before.before.before.args.k c.before.before.if1.true)
+put-number-put-byte-requires t c κs = omega (arith, number_one_long c.before.before.before.before.args.k c.before.before.if1.true)
 
 put-number-same-length : (t : ℕ) → put-number-lts.Need-same-length (
   digit-of-reads.Asked,
@@ -63,7 +63,7 @@ put-number-returns : (t : ℕ) → put-number-lts.Need-returns (
   put-number.Post,
 ) (put-number-at t) put-number.Post
 put-number-returns t c =
-    number-one _ _ _ _ _ _
+    number_one _ _ _ _ _ _
     c.before.before.before.before.before.if1.true
     c.before.before.before.before.digit-of.ensures
     c.before.before.put_byte.ensures
@@ -76,7 +76,7 @@ put-number-put-number-requires : (t : ℕ) → put-number-lts.Need-put-number-re
   put-number-below t,
   put-number.Post,
 ) (put-number-at t) put-number.Post
-put-number-put-number-requires t c κs = (omega arith, omega (arith, number-more-long c.before.before.before.args.k c.before.if1.false (omega arith)))
+put-number-put-number-requires t c κs = (omega arith, omega (arith, number_more_long c.before.before.before.args.k c.before.if1.false (omega arith)))
 
 put-number-digit-of-requires-2 : (t : ℕ) → put-number-lts.Need-digit-of-requires-2 (
   digit-of-reads.Asked,
@@ -99,7 +99,7 @@ put-number-put-byte-requires-2 : (t : ℕ) → put-number-lts.Need-put-byte-requ
 put-number-put-byte-requires-2 t c κs =
     omega (
       arith,
-      number-more-long
+      number_more_long
           c.before.before.before.before.before.before.before.before.args.k
           c.before.before.before.before.before.before.if1.false (omega arith),
     )

@@ -1,7 +1,7 @@
 use native.Mathlib.Omega.{arith}
 use borrow.Author.Rules.{rules}
 use borrow.Author.Tests.{lt-ltb, le-ltb}
-use Rattle.bench_print.specs.Printing.{hexDigit}
+use Rattle.bench_print.specs.Printing.{hex_digit}
 use Rattle.bench_print.proofs.hex_digit.Statement.{statement}
 use Rattle.bench_print.proofs.hex_digit.Tie as tie
 
@@ -9,14 +9,14 @@ add-result : tie.Need-overflow-add-result
 add-result c = search rules
 
 returns : tie.Need-returns
-unfolding hexDigit
+unfolding hex_digit
 returns c = rw (lt-ltb _ _ c.if1.true) (omega arith)
 
 add-result-2 : tie.Need-overflow-add-result-2
 add-result-2 c = search rules
 
 returns-2 : tie.Need-returns-2
-unfolding hexDigit
+unfolding hex_digit
 returns-2 c = rw (le-ltb _ _ c.if1.false) (omega arith)
 
 pub hex-digit-spec : {M : Type 1} → statement M

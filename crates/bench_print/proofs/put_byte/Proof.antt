@@ -1,5 +1,5 @@
 use borrow.Author.Rules.{rules}
-use Rattle.bench_print.proofs.Laws.WrittenLaws.{placed-byte}
+use Rattle.bench_print.proofs.Laws.WrittenLaws.{placed_byte}
 use Rattle.bench_print.proofs.put_byte.Statement.{statement}
 use Rattle.bench_print.proofs.put_byte.Tie as tie
 
@@ -13,7 +13,7 @@ same_length : tie.Need-same-length
 same_length c = search rules
 
 returns : tie.Need-returns
-returns c = placed-byte _ _ _ c.requires
+returns c = placed_byte _ _ _ c.requires
 
 pub put-byte-spec : {M : Type 1} → statement M
 put-byte-spec = tie.close (tie.spec slice-write-out add-result same_length returns)

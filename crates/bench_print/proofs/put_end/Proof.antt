@@ -1,7 +1,7 @@
 use native.Mathlib.Omega.{arith}
-use Rattle.bench_print.specs.Printing.{okWord, abortWord, cutWord}
-use Rattle.bench_print.proofs.Laws.TextLaws.{hex-length}
-use Rattle.bench_print.proofs.Laws.PrintedLineLaws.{end-ok, end_read, end-aborted, end-cut}
+use Rattle.bench_print.specs.Printing.{ok_word, abort_word, cut_word}
+use Rattle.bench_print.proofs.Laws.TextLaws.{hex_length}
+use Rattle.bench_print.proofs.Laws.PrintedLineLaws.{end_ok, end_read, end_aborted, end_cut}
 use borrow.Author.Rules.{rules}
 use Rattle.bench_print.proofs.put_end.Statement.{statement}
 use Rattle.bench_print.proofs.put_end.Tie as tie
@@ -16,14 +16,14 @@ same_length : tie.Need-same-length
 same_length c = search rules
 
 returns : tie.Need-returns
-unfolding okWord
-returns c = (end-ok _ _ _ _ _ _ c.before.before.before.before.before.if1.true c.before.before.put_word.ensures, omega arith)
+unfolding ok_word
+returns c = (end_ok _ _ _ _ _ _ c.before.before.before.before.before.if1.true c.before.before.put_word.ensures, omega arith)
 
 put-hex-requires : tie.Need-put-hex-requires
-put-hex-requires c κs = omega (arith, hex-length c.before.before.before.before.before.args.stripe.now)
+put-hex-requires c κs = omega (arith, hex_length c.before.before.before.before.before.args.stripe.now)
 
 put-byte-requires : tie.Need-put-byte-requires
-put-byte-requires c κs = omega (arith, hex-length c.before.before.before.before.before.before.before.before.before.args.stripe.now)
+put-byte-requires c κs = omega (arith, hex_length c.before.before.before.before.before.before.before.before.before.args.stripe.now)
 
 same-length-2 : tie.Need-same-length-2
 same-length-2 c = search rules
@@ -37,7 +37,7 @@ returns-2 c = (
       c.before.before.put_byte.ensures,
   omega (
     arith,
-    hex-length
+    hex_length
         c.before.before.before.before.before.before.before.before.before.before.before.before.args.stripe.now,
   ),
 )
@@ -52,9 +52,9 @@ same-length-3 : tie.Need-same-length-3
 same-length-3 c = search rules
 
 returns-3 : tie.Need-returns-3
-unfolding abortWord
+unfolding abort_word
 returns-3 c = (
-  end-aborted _ _ _ _ _ _
+  end_aborted _ _ _ _ _ _
       c.before.before.before.before.before.before.before.if1.false
       c.before.before.before.before.before.before.if2.false
       c.before.before.before.before.before.if3.true
@@ -72,9 +72,9 @@ same-length-4 : tie.Need-same-length-4
 same-length-4 c = search rules
 
 returns-4 : tie.Need-returns-4
-unfolding cutWord
+unfolding cut_word
 returns-4 c = (
-  end-cut _ _ _ _ _ _
+  end_cut _ _ _ _ _ _
       c.before.before.before.before.before.before.before.if1.false
       c.before.before.before.before.before.before.if2.false
       c.before.before.before.before.before.if3.false

@@ -1,6 +1,6 @@
 use native.Mathlib.Omega.{arith}
-use Rattle.bench_print.specs.Printing.{readWord, writeWord}
-use Rattle.bench_print.proofs.Laws.PrintedLineLaws.{kind-reading, kind-writing}
+use Rattle.bench_print.specs.Printing.{read_word, write_word}
+use Rattle.bench_print.proofs.Laws.PrintedLineLaws.{kind_reading, kind_writing}
 use borrow.Author.Rules.{rules}
 use Rattle.bench_print.proofs.put_kind.Statement.{statement}
 use Rattle.bench_print.proofs.put_kind.Tie as tie
@@ -15,8 +15,8 @@ same_length : tie.Need-same-length
 same_length c = search rules
 
 returns : tie.Need-returns
-unfolding readWord
-returns c = (kind-reading _ _ _ _ _ c.before.before.before.before.before.if1.true c.before.before.put_word.ensures, omega arith)
+unfolding read_word
+returns c = (kind_reading _ _ _ _ _ c.before.before.before.before.before.if1.true c.before.before.put_word.ensures, omega arith)
 
 slice-aggregate-put-word-2 : tie.Need-slice-aggregate-put-word-2
 slice-aggregate-put-word-2 c = search rules
@@ -28,8 +28,8 @@ same-length-2 : tie.Need-same-length-2
 same-length-2 c = search rules
 
 returns-2 : tie.Need-returns-2
-unfolding writeWord
-returns-2 c = (kind-writing _ _ _ _ _ c.before.before.before.before.before.if1.false c.before.before.put-word2.ensures, omega arith)
+unfolding write_word
+returns-2 c = (kind_writing _ _ _ _ _ c.before.before.before.before.before.if1.false c.before.before.put-word2.ensures, omega arith)
 
 pub put-kind-spec : {M : Type 1} → statement M
 put-kind-spec =

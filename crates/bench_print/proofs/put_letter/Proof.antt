@@ -1,5 +1,5 @@
 use native.Mathlib.Omega.{arith}
-use Rattle.bench_print.proofs.Laws.WrittenLaws.{placed-both}
+use Rattle.bench_print.proofs.Laws.WrittenLaws.{placed_both}
 use borrow.Author.Rules.{rules}
 use Rattle.bench_print.proofs.put_letter.Statement.{statement}
 use Rattle.bench_print.proofs.put_letter.Tie as tie
@@ -15,7 +15,7 @@ same_length c = search rules
 
 returns : tie.Need-returns
 returns c = (
-  placed-both _ _ _ _ _ _ _ _ (omega arith)
+  placed_both _ _ _ _ _ _ _ _ (omega arith)
       c.before.before.before.before.before.before.put_byte.ensures
       c.before.before.put-byte2.ensures,
   omega arith,

@@ -1,5 +1,5 @@
 use native.Mathlib.Omega.{arith}
-use Rattle.bench_print.proofs.Laws.PrintedLineLaws.{line-placed}
+use Rattle.bench_print.proofs.Laws.PrintedLineLaws.{line_placed}
 use borrow.Author.Rules.{rules}
 use Rattle.bench_print.proofs.put_line.Statement.{statement}
 use Rattle.bench_print.proofs.put_line.Tie as tie
@@ -24,7 +24,7 @@ same_length c = search rules
 
 returns : tie.Need-returns
 returns c = (
-  line-placed _ _ _ _ _ _ _ _ _ _ _ _ _ _ _ _ _ _ (omega arith)
+  line_placed _ _ _ _ _ _ _ _ _ _ _ _ _ _ _ _ _ _ (omega arith)
       c.before.before.before.before.before.before.before.before.before.before.before.before.before.before.before.before.before.before.put-spaced.ensures.0
       c.before.before.before.before.before.before.before.before.before.before.before.before.before.before.put-kind.ensures.0
       c.before.before.before.before.before.before.before.before.before.before.put-spaced2.ensures.0

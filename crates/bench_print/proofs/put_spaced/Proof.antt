@@ -1,27 +1,27 @@
 use native.Mathlib.Omega.{arith}
-use Rattle.bench_print.proofs.Laws.TextLaws.{decimal-short}
-use Rattle.bench_print.proofs.Laws.WrittenLaws.{placed-both}
+use Rattle.bench_print.proofs.Laws.TextLaws.{decimal_short}
+use Rattle.bench_print.proofs.Laws.WrittenLaws.{placed_both}
 use borrow.Author.Rules.{rules}
 use Rattle.bench_print.proofs.put_spaced.Statement.{statement}
 use Rattle.bench_print.proofs.put_spaced.Tie as tie
 
 put-number-requires : tie.Need-put-number-requires
-put-number-requires c κs = omega (arith, decimal-short c.before.before.args.k)
+put-number-requires c κs = omega (arith, decimal_short c.before.before.args.k)
 
 put-byte-requires : tie.Need-put-byte-requires
-put-byte-requires c κs = omega (arith, decimal-short c.before.before.before.before.before.before.args.k)
+put-byte-requires c κs = omega (arith, decimal_short c.before.before.before.before.before.before.args.k)
 
 same_length : tie.Need-same-length
 same_length c = search rules
 
 returns : tie.Need-returns
 returns c = (
-  placed-both _ _ _ _ _ _ _ _ (omega arith)
+  placed_both _ _ _ _ _ _ _ _ (omega arith)
       c.before.before.before.before.before.before.put-number.ensures
       c.before.before.put_byte.ensures,
   omega (
     arith,
-    decimal-short
+    decimal_short
         c.before.before.before.before.before.before.before.before.before.args.k,
   ),
 )

@@ -1,7 +1,7 @@
 use Prim.Native.Nat.{◌-◌}
 use native.Mathlib.Omega.{arith}
 use lib.ListN.{length}
-use Rattle.bench_print.proofs.Laws.WrittenLaws.{Wording, wording-none, wording-more, wording-all}
+use Rattle.bench_print.proofs.Laws.WrittenLaws.{Wording, wording_none, wording_more, wording_all}
 use Rattle.bench_print.proofs.put_word.Statement.{statement}
 use Rattle.bench_print.proofs.put_word.Tie as tie
 
@@ -12,7 +12,7 @@ abbrev decreases-loop : tie.decreases-loop
 decreases-loop word at out₀ i₀ out i = length word - i
 
 loop-holds : tie.Need-loop-init invariant-loop decreases-loop
-loop-holds c = wording-none _ _ _ c.requires
+loop-holds c = wording_none _ _ _ c.requires
 
 shared-slice-read-out : tie.Need-shared-slice-read-out invariant-loop decreases-loop
 shared-slice-read-out c = omega arith
@@ -30,7 +30,7 @@ loop-less : tie.Need-loop-smaller invariant-loop decreases-loop
 loop-less c = omega arith
 
 loop-again : tie.Need-loop-preserved invariant-loop decreases-loop
-loop-again c = wording-more _ _ _ _ _ c.before.loop-test.true c.before.before.loop.invariant
+loop-again c = wording_more _ _ _ _ _ c.before.loop-test.true c.before.before.loop.invariant
 
 add-result : tie.Need-overflow-add-result invariant-loop decreases-loop
 add-result c = omega arith
@@ -39,7 +39,7 @@ same_length : tie.Need-same-length invariant-loop decreases-loop
 same_length c = c.before.loop.invariant.same-long
 
 returns : tie.Need-returns invariant-loop decreases-loop
-returns c = wording-all _ _ _ _ _ c.loop-test.false c.before.loop.invariant
+returns c = wording_all _ _ _ _ _ c.loop-test.false c.before.loop.invariant
 
 pub put-word-spec : {M : Type 1} → statement M
 put-word-spec =

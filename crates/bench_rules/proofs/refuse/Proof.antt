@@ -1,4 +1,4 @@
-use Rattle.bench_rules.proofs.Laws.TurningLaws.{turned-refused}
+use Rattle.bench_rules.proofs.Laws.TurningLaws.{turned_refused}
 use borrow.Author.Rules.{rules}
 use Rattle.bench_rules.proofs.refuse.Statement.{statement}
 use Rattle.bench_rules.proofs.refuse.Tie as tie
@@ -14,7 +14,7 @@ returns c =
     λ l.
     let s = c.before.before.before.before.before in
     let e = c.before.before.Put-refused.ensures in
-    turned-refused s.args.b l s.args.at s.args.number _ _ _ s.requires.0 e.0 e.1.0 e.1.1
+    turned_refused s.args.b l s.args.at s.args.number _ _ _ s.requires.0 e.0 e.1.0 e.1.1
 
 pub refuse-spec : {M : Type 1} → statement M
 refuse-spec = tie.close (tie.spec put-refused-requires same_length returns)

@@ -8,27 +8,27 @@ use native.Mathlib.Numerals.{add-one}
 use lib.ListN.{length, take, drop, replicate}
 use borrow.Author.Tests.{eq-eqb, ne_eqb}
 use Rattle.byte_lists.specs.Lists.{zeros}
-use Rattle.byte_lists.proofs.Laws.ZeroLaws.{zeros-take, zeros-length}
+use Rattle.byte_lists.proofs.Laws.ZeroLaws.{zeros_take, zeros_length}
 use Rattle.erasure.specs.Code.{block_of}
 use Rattle.byte_lists.proofs.Laws.StackLaws.{part_length}
-use Rattle.message.specs.Kinds.{writeKind, modifyKind}
+use Rattle.message.specs.Kinds.{write_kind, modify_kind}
 use Rattle.message.specs.declared.Message.{Message}
 use Rattle.register.specs.Driver.{with_blocks}
-use Rattle.register.specs.Runs.{Item, message, blockFor, oldFor, toAll}
+use Rattle.register.specs.Runs.{Item, message, block_for, old_for, to_all}
 use Rattle.settings.specs.declared.Settings.{Settings}
 use Rattle.bench_sent.specs.Sent.{items_of}
 use Rattle.bench_sent.specs.Workers.{Coded, Added, Sends}
 use Rattle.bench_sent.specs.Workers.{One}
-use Rattle.bench_limits.specs.Limits.{benchSize}
+use Rattle.bench_limits.specs.Limits.{bench_size}
 
 -- a brick's block is within the buffer
-pub block_within : (n j size : ℕ) (msg : Message) (blocks stripe coded : List ℕ) → Coded n size msg blocks stripe coded → j < n → msg.kind ≡ writeKind
+pub block_within : (n j size : ℕ) (msg : Message) (blocks stripe coded : List ℕ) → Coded n size msg blocks stripe coded → j < n → msg.kind ≡ write_kind
     → j * size + size ≤ length coded
 block_within n j size msg blocks stripe coded c h e = let w = c.enough e in let q = mul-le-mul_right size h in let p = suc-mul j size in omega arith
 
-pub coded-fewer : (n j size : ℕ) (msg : Message) (blocks stripe coded : List ℕ) → Coded n size msg blocks stripe coded → j < n
+pub coded_fewer : (n j size : ℕ) (msg : Message) (blocks stripe coded : List ℕ) → Coded n size msg blocks stripe coded → j < n
     → Coded (j + 1) size msg blocks stripe coded
-coded-fewer n j size msg blocks stripe coded c h =
+coded_fewer n j size msg blocks stripe coded c h =
     record {
       enough = λ e. (let w = block_within n j size msg blocks stripe coded c h e in let p = suc-mul j size in let q = add-one j in
           subst (λ (x : ℕ). x * size ≤ length coded) (sym q) (omega arith));
@@ -37,18 +37,18 @@ coded-fewer n j size msg blocks stripe coded c h =
     }
 
 -- a block as code cuts it out of many
-cut-block : (size j : ℕ) (all block : List ℕ) → block ≡ take (j * size + size - j * size) (drop (j * size) all) → block ≡ block_of size all j
+cut_block : (size j : ℕ) (all block : List ℕ) → block ≡ take (j * size + size - j * size) (drop (j * size) all) → block ≡ block_of size all j
 unfolding block_of
-cut-block size j all block e = let cut : j * size + size - j * size ≡ size = omega arith in e ∙ ap (λ (x : ℕ). take x (drop (j * size) all)) cut
+cut_block size j all block e = let cut : j * size + size - j * size ≡ size = omega arith in e ∙ ap (λ (x : ℕ). take x (drop (j * size) all)) cut
 
 -- what stands in row at is what the driver sends to brick j
 module _ (at j size : ℕ) (msg : Message) (blocks stripe coded block old numbers bytes numbers' bytes' : List ℕ)
     (a : Added at block numbers bytes numbers' bytes' (message j msg block old)) where
-  one-by : length block ≡ size
-      → ((s : Settings) → s.size ≡ size → block ≡ blockFor s (with_blocks size msg blocks stripe coded) j)
-      → ((s : Settings) → s.size ≡ size → old ≡ oldFor s (with_blocks size msg blocks stripe coded))
+  one_by : length block ≡ size
+      → ((s : Settings) → s.size ≡ size → block ≡ block_for s (with_blocks size msg blocks stripe coded) j)
+      → ((s : Settings) → s.size ≡ size → old ≡ old_for s (with_blocks size msg blocks stripe coded))
       → One at j size msg blocks stripe coded numbers bytes numbers' bytes'
-  one-by l f g =
+  one_by l f g =
       record {
         items = λ s es. (
             a.items size l ∙ ap₂ (λ (b o : List ℕ). items_of size numbers bytes at ++ message j msg b o ∷ []) (f s es) (g s es)
@@ -56,41 +56,41 @@ module _ (at j size : ℕ) (msg : Message) (blocks stripe coded block old number
       }
 
   -- with a Write goes block j,
-  pub sent-write : msg.kind ≡ writeKind → j * size + size ≤ length coded
+  pub sent_write : msg.kind ≡ write_kind → j * size + size ≤ length coded
       → block ≡ take (j * size + size - j * size) (drop (j * size) coded) → old ≡ replicate size 0
       → One at j size msg blocks stripe coded numbers bytes numbers' bytes'
-  unfolding blockFor oldFor with_blocks
-  sent-write e h eb eo =
-      let own = cut-block size j coded block eb in
-      let w = eq-eqb msg.kind writeKind e in
-      let m = ne_eqb msg.kind modifyKind (λ q. omega arith) in
-      one-by (ap length eb ∙ part_length size coded (j * size) h) (λ s es. own ∙ rw (w, m, es)) (λ s es. eo ∙ rw (m, es))
+  unfolding block_for old_for with_blocks
+  sent_write e h eb eo =
+      let own = cut_block size j coded block eb in
+      let w = eq-eqb msg.kind write_kind e in
+      let m = ne_eqb msg.kind modify_kind (λ q. omega arith) in
+      one_by (ap length eb ∙ part_length size coded (j * size) h) (λ s es. own ∙ rw (w, m, es)) (λ s es. eo ∙ rw (m, es))
 
   -- with Modify the new and the old block,
-  pub sent-modify : msg.kind ≡ modifyKind → msg.block * size + size ≤ length stripe
+  pub sent_modify : msg.kind ≡ modify_kind → msg.block * size + size ≤ length stripe
       → block ≡ take (msg.block * size + size - msg.block * size) (drop (msg.block * size) stripe)
       → old ≡ take (msg.block * size + size - msg.block * size) (drop (msg.block * size) blocks)
       → One at j size msg blocks stripe coded numbers bytes numbers' bytes'
-  unfolding blockFor oldFor with_blocks
-  sent-modify e h eb eo =
-      let own = cut-block size msg.block stripe block eb in
-      let w = ne_eqb msg.kind writeKind (λ q. omega arith) in
-      let m = eq-eqb msg.kind modifyKind e in
-      one-by (ap length eb ∙ part_length size stripe (msg.block * size) h) (λ s es. own ∙ rw (w, m)) (λ s es. cut-block size msg.block blocks old eo ∙ rw m)
+  unfolding block_for old_for with_blocks
+  sent_modify e h eb eo =
+      let own = cut_block size msg.block stripe block eb in
+      let w = ne_eqb msg.kind write_kind (λ q. omega arith) in
+      let m = eq-eqb msg.kind modify_kind e in
+      one_by (ap length eb ∙ part_length size stripe (msg.block * size) h) (λ s es. own ∙ rw (w, m)) (λ s es. cut_block size msg.block blocks old eo ∙ rw m)
 
   -- and with any other zeros
-  pub sent-zeros : (msg.kind ≡ writeKind → ⊥) → (msg.kind ≡ modifyKind → ⊥) → block ≡ replicate size 0 → old ≡ replicate size 0
+  pub sent_zeros : (msg.kind ≡ write_kind → ⊥) → (msg.kind ≡ modify_kind → ⊥) → block ≡ replicate size 0 → old ≡ replicate size 0
       → One at j size msg blocks stripe coded numbers bytes numbers' bytes'
-  unfolding blockFor oldFor with_blocks zeros
-  sent-zeros e f eb eo =
-      let w = ne_eqb msg.kind writeKind e in
-      let m = ne_eqb msg.kind modifyKind f in
-      one-by (ap length eb ∙ zeros-length size) (λ s es. eb ∙ rw (w, m, es)) (λ s es. eo ∙ rw (m, es))
+  unfolding block_for old_for with_blocks zeros
+  sent_zeros e f eb eo =
+      let w = ne_eqb msg.kind write_kind e in
+      let m = ne_eqb msg.kind modify_kind f in
+      one_by (ap length eb ∙ zeros_length size) (λ s es. eb ∙ rw (w, m, es)) (λ s es. eo ∙ rw (m, es))
 
 -- none, and one more
 pub sends_none : (k size : ℕ) (msg : Message) (blocks stripe coded numbers bytes : List ℕ)
     → Sends k 0 size msg blocks stripe coded numbers bytes numbers bytes
-unfolding toAll
+unfolding to_all
 sends_none k size msg blocks stripe coded numbers bytes =
     record {
       items = λ s es. (
@@ -103,31 +103,31 @@ pub sends_more : (k j size : ℕ) (msg : Message) (blocks stripe coded numbers b
     → Sends k j size msg blocks stripe coded numbers bytes numbers' bytes'
     → One (k + j) j size msg blocks stripe coded numbers' bytes' numbers'' bytes''
     → Sends k (j + 1) size msg blocks stripe coded numbers bytes numbers'' bytes''
-unfolding toAll with_blocks
+unfolding to_all with_blocks
 sends_more k j size msg blocks stripe coded numbers bytes numbers' bytes' numbers'' bytes'' a o =
     record {
       items = λ s es. (
           let e : k + (j + 1) ≡ k + j + 1 = omega arith in
           let c = with_blocks size msg blocks stripe coded in
-          let i : Item = message j msg (blockFor s c j) (oldFor s c) in
+          let i : Item = message j msg (block_for s c j) (old_for s c) in
           ap (items_of size numbers'' bytes'') e ∙ o.items s es
           ∙ ap (λ (l : List Item). l ++ i ∷ []) (a.items s es)
-          ∙ append_assoc (items_of size numbers bytes k) (toAll s c j) (i ∷ [])
-          ∙ ap (λ (x : ℕ). items_of size numbers bytes k ++ toAll s c x) (sym (add-one j))
+          ∙ append_assoc (items_of size numbers bytes k) (to_all s c j) (i ∷ [])
+          ∙ ap (λ (x : ℕ). items_of size numbers bytes k ++ to_all s c x) (sym (add-one j))
           );
     }
 
-pub sends-all : (k n j size : ℕ) (msg : Message) (blocks stripe coded numbers bytes numbers' bytes' : List ℕ) → n ≤ j → j ≤ n
+pub sends_all : (k n j size : ℕ) (msg : Message) (blocks stripe coded numbers bytes numbers' bytes' : List ℕ) → n ≤ j → j ≤ n
     → Sends k j size msg blocks stripe coded numbers bytes numbers' bytes' → Sends k n size msg blocks stripe coded numbers bytes numbers' bytes'
-sends-all k n j size msg blocks stripe coded numbers bytes numbers' bytes' l h a =
+sends_all k n j size msg blocks stripe coded numbers bytes numbers' bytes' l h a =
     let e : j ≡ n = omega arith in
     subst (λ (x : ℕ). Sends k x size msg blocks stripe coded numbers bytes numbers' bytes') e a
 
 -- the zeros that stand for a block
-pub zeros-cut : (size : ℕ) → size ≤ benchSize → take {A = ℕ} size (replicate benchSize 0) ≡ replicate size 0
+pub zeros_cut : (size : ℕ) → size ≤ bench_size → take {A = ℕ} size (replicate bench_size 0) ≡ replicate size 0
 unfolding zeros
-zeros-cut size h = zeros-take benchSize size h
+zeros_cut size h = zeros_take bench_size size h
 
-pub zeros-cut-long : (size : ℕ) → size ≤ benchSize → length (take {A = ℕ} size (replicate benchSize 0)) ≡ size
+pub zeros_cut_long : (size : ℕ) → size ≤ bench_size → length (take {A = ℕ} size (replicate bench_size 0)) ≡ size
 unfolding zeros
-zeros-cut-long size h = ap length (zeros-cut size h) ∙ zeros-length size
+zeros_cut_long size h = ap length (zeros_cut size h) ∙ zeros_length size

@@ -1,5 +1,5 @@
 use borrow.Author.Rules.{rules}
-use Rattle.bench_sent.proofs.Laws.SentRowLaws.{flags-cut}
+use Rattle.bench_sent.proofs.Laws.SentRowLaws.{flags_cut}
 use Rattle.bench_sent.proofs.flags_at.Statement.{statement}
 use Rattle.bench_sent.proofs.flags_at.Tie as tie
 
@@ -25,7 +25,7 @@ copy-requires : tie.Need-copy-requires
 copy-requires c κs = search rules
 
 returns : tie.Need-returns
-returns c = search (rules, flags-cut)
+returns c = search (rules, flags_cut)
 
 pub flags-at-spec : {M : Type 1} → statement M
 flags-at-spec =

@@ -1,5 +1,5 @@
 use borrow.Author.Rules.{rules}
-use Rattle.bench_sent.proofs.Laws.SentRowLaws.{is-reply}
+use Rattle.bench_sent.proofs.Laws.SentRowLaws.{is_reply_lem}
 use Rattle.bench_sent.proofs.is_reply.Statement.{statement}
 use Rattle.bench_sent.proofs.is_reply.Tie as tie
 
@@ -7,7 +7,7 @@ number-at-requires : tie.Need-number-at-requires
 number-at-requires c κs = search rules
 
 returns : tie.Need-returns
-returns c = search (rules, is-reply)
+returns c = search (rules, is_reply_lem)
 
 pub is-reply-spec : {M : Type 1} → statement M
 is-reply-spec = tie.close (tie.spec number-at-requires returns)

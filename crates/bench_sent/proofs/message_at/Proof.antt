@@ -1,5 +1,5 @@
 use borrow.Author.Rules.{rules}
-use Rattle.bench_sent.proofs.Laws.SentRowLaws.{message-of}
+use Rattle.bench_sent.proofs.Laws.SentRowLaws.{message_of_lem}
 use Rattle.bench_sent.proofs.message_at.Statement.{statement}
 use Rattle.bench_sent.proofs.message_at.Tie as tie
 
@@ -28,7 +28,7 @@ flags-at-requires : tie.Need-flags-at-requires
 flags-at-requires c κs = search rules
 
 returns : tie.Need-returns
-returns c = search (rules, message-of)
+returns c = search (rules, message_of_lem)
 
 pub message-at-spec : {M : Type 1} → statement M
 message-at-spec =

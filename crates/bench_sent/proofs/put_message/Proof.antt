@@ -1,5 +1,5 @@
 use borrow.Author.Rules.{rules}
-use Rattle.bench_sent.proofs.Laws.SentRowLaws.{message-put}
+use Rattle.bench_sent.proofs.Laws.SentRowLaws.{message_put}
 use Rattle.bench_sent.proofs.put_message.Statement.{statement}
 use Rattle.bench_sent.proofs.put_message.Tie as tie
 
@@ -37,7 +37,7 @@ returns : tie.Need-returns
 returns c =
     let s = c.before.before.before.before.before.before.before.before.before.before.before.before.before.before.before.before.before.before.before in
     let w = c.before.before.before.before.before.before.before.before.before.before.before.before.before.before.wide.ensures in
-    message-put s.args.k s.args.brick _ s.args.msg s.args.block.now s.args.old.now s.args.numbers.now s.args.bytes.now _ _ _ w.0 w.1
+    message_put s.args.k s.args.brick _ s.args.msg s.args.block.now s.args.old.now s.args.numbers.now s.args.bytes.now _ _ _ w.0 w.1
     (search rules)
     s.requires.0.0 s.requires.0.1 s.requires.0.2 s.requires.1 c.before.before.before.before.before.before.before.before.before.before.store-row.ensures
     c.before.before.before.before.before.before.store_Bytes.ensures c.before.before.store.ensures

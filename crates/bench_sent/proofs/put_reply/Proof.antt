@@ -1,7 +1,7 @@
 use Rattle.byte_lists.specs.Lists.{zeros}
-use Rattle.bench_sent.specs.Workers.{noFlags}
+use Rattle.bench_sent.specs.Workers.{no_flags}
 use borrow.Author.Rules.{rules}
-use Rattle.bench_sent.proofs.Laws.SentRowLaws.{reply-put}
+use Rattle.bench_sent.proofs.Laws.SentRowLaws.{reply_put}
 use Rattle.bench_sent.proofs.put_reply.Statement.{statement}
 use Rattle.bench_sent.proofs.put_reply.Tie as tie
 
@@ -36,12 +36,12 @@ same-length-2 : tie.Need-same-length-2
 same-length-2 c = search rules
 
 returns : tie.Need-returns
-unfolding noFlags zeros
+unfolding no_flags zeros
 returns c =
     let s = c.before.before.before.before.before.before.before.before.before.before.before.before.before.before.before.before in
     let w = c.before.before.before.before.before.before.before.before.before.before.before.before.wide.ensures in
     let said = c.before.before.before.before.before.before.before.before.before.wide2.ensures in
-    reply-put s.args.k _ _ _ _ s.args.r s.args.block.now s.args.numbers.now s.args.bytes.now _ _ w.0 w.1
+    reply_put s.args.k _ _ _ _ s.args.r s.args.block.now s.args.numbers.now s.args.bytes.now _ _ w.0 w.1
     c.before.before.before.before.before.before.before.before.before.before.before.flag.ensures
     c.before.before.before.before.before.before.before.before.before.before.flag2.ensures said.0 said.1
     s.requires.0 s.requires.1 s.requires.2 c.before.before.before.before.before.before.store-row.ensures c.before.before.store_Bytes.ensures

@@ -1,5 +1,5 @@
 use borrow.Author.Rules.{rules}
-use Rattle.bench_sent.proofs.Laws.SentRowLaws.{reply-of}
+use Rattle.bench_sent.proofs.Laws.SentRowLaws.{reply_of}
 use Rattle.bench_sent.proofs.reply_at.Statement.{statement}
 use Rattle.bench_sent.proofs.reply_at.Tie as tie
 
@@ -31,7 +31,7 @@ comparison-at-requires : tie.Need-comparison-at-requires
 comparison-at-requires c κs = search rules
 
 returns : tie.Need-returns
-returns c = search (rules, reply-of)
+returns c = search (rules, reply_of)
 
 pub reply-at-spec : {M : Type 1} → statement M
 reply-at-spec =

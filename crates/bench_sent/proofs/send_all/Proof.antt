@@ -3,7 +3,7 @@ use mathlib.Core.Path.{◌≡◌, refl}
 use native.Mathlib.Omega.{arith}
 use lib.ListN.{length}
 use Rattle.bench_sent.specs.Workers.{Sends}
-use Rattle.bench_sent.proofs.Laws.SendLaws.{coded-fewer, sends_none, sends_more, sends-all}
+use Rattle.bench_sent.proofs.Laws.SendLaws.{coded_fewer, sends_none, sends_more, sends_all}
 use Rattle.bench_sent.proofs.send_all.Statement.{statement}
 use Rattle.bench_sent.proofs.send_all.Tie as tie
 
@@ -23,7 +23,7 @@ add-send-one c = omega arith
 send-one-requires : tie.Need-send-one-requires invariant-loop decreases-loop
 send-one-requires c κs =
     let s = c.before.before.before.before.before.before.before.before.before in
-    ((s.requires.0.0, omega arith, omega arith), coded-fewer s.args.n _ _ _ _ _ _ s.requires.1 c.before.before.loop-test.true)
+    ((s.requires.0.0, omega arith, omega arith), coded_fewer s.args.n _ _ _ _ _ _ s.requires.1 c.before.before.loop-test.true)
 
 add-j : tie.Need-overflow-add-j invariant-loop decreases-loop
 add-j c = omega arith
@@ -51,7 +51,7 @@ same-length-2 c = omega arith
 returns : tie.Need-returns invariant-loop decreases-loop
 returns c =
     let l = c.before.loop in
-    (sends-all _ c.before.before.before.before.before.before.before.args.n l.j _ _ _ _ _ _ _ _ _ c.loop-test.false l.invariant.1 l.invariant.0, (l.invariant.2, l.invariant.3))
+    (sends_all _ c.before.before.before.before.before.before.before.args.n l.j _ _ _ _ _ _ _ _ _ c.loop-test.false l.invariant.1 l.invariant.0, (l.invariant.2, l.invariant.3))
 
 pub send-all-spec : {M : Type 1} → statement M
 send-all-spec =

@@ -3,7 +3,7 @@ use mathlib.Core.Path.{refl, sym, ◌∙◌}
 use native.Mathlib.Omega.{arith}
 use lib.ListN.{length}
 use borrow.Author.Rules.{rules}
-use Rattle.bench_sent.proofs.Laws.SendLaws.{block_within, sent-write, sent-modify, sent-zeros, zeros-cut, zeros-cut-long}
+use Rattle.bench_sent.proofs.Laws.SendLaws.{block_within, sent_write, sent_modify, sent_zeros, zeros_cut, zeros_cut_long}
 use Rattle.bench_sent.proofs.send_one.Statement.{statement}
 use Rattle.bench_sent.proofs.send_one.Tie as tie
 
@@ -52,12 +52,12 @@ array-share-prefix-no-old : tie.Need-array-share-prefix-no-old
 array-share-prefix-no-old c = search rules
 
 slice-aggregate-put-message : tie.Need-slice-aggregate-put-message
-slice-aggregate-put-message c = sym (zeros-cut-long _ (write-start c.before.before).requires.0.0)
+slice-aggregate-put-message c = sym (zeros_cut_long _ (write-start c.before.before).requires.0.0)
 
 put-message-requires : tie.Need-put-message-requires
 put-message-requires c κs =
     let s = write-start c.before.before.before.before in
-    ((search rules, omega arith, omega arith), zeros-cut-long s.args.size s.pre.0.0 ∙ search rules)
+    ((search rules, omega arith, omega arith), zeros_cut_long s.args.size s.pre.0.0 ∙ search rules)
 
 same_length : tie.Need-same-length
 same_length c = search rules
@@ -69,9 +69,9 @@ returns : tie.Need-returns
 returns c =
     let t = c.before.before.before.before.before.before.before.before.before in
     let s = write-start t in
-    sent-write s.args.at s.args.j s.args.size s.args.msg s.args.blocks.now s.args.stripe.now s.args.coded.now _ _
+    sent_write s.args.at s.args.j s.args.size s.args.msg s.args.blocks.now s.args.stripe.now s.args.coded.now _ _
     s.args.numbers.now s.args.bytes.now _ _ c.before.before.before.before.put-message.ensures.1.1
-    t.if1.true (inside t) refl (zeros-cut s.args.size s.pre.0.0)
+    t.if1.true (inside t) refl (zeros_cut s.args.size s.pre.0.0)
 
 mul-start : tie.Need-overflow-mul-start
 mul-start c = record { fits = omega (arith, new-inside c.before) }
@@ -110,7 +110,7 @@ returns-2 : tie.Need-returns-2
 returns-2 c =
     let t = c.before.before.before.before.before.before.before.before.before.before in
     let s = modify-start t in
-    sent-modify s.args.at s.args.j s.args.size s.args.msg s.args.blocks.now s.args.stripe.now s.args.coded.now _ _
+    sent_modify s.args.at s.args.j s.args.size s.args.msg s.args.blocks.now s.args.stripe.now s.args.coded.now _ _
     s.args.numbers.now s.args.bytes.now _ _ c.before.before.before.before.put-message2.ensures.1.1
     t.if2.true (new-inside t) refl refl
 
@@ -118,18 +118,18 @@ array-share-prefix-none : tie.Need-array-share-prefix-none
 array-share-prefix-none c = search rules
 
 slice-aggregate-put-message-2 : tie.Need-slice-aggregate-put-message-2
-slice-aggregate-put-message-2 c = sym (zeros-cut-long _ (other-start c.before).requires.0.0)
+slice-aggregate-put-message-2 c = sym (zeros_cut_long _ (other-start c.before).requires.0.0)
 
 array-share-prefix-no-old-2 : tie.Need-array-share-prefix-no-old-2
 array-share-prefix-no-old-2 c = search rules
 
 slice-aggregate-put-message-3 : tie.Need-slice-aggregate-put-message-3
-slice-aggregate-put-message-3 c = sym (zeros-cut-long _ (other-start c.before.before).requires.0.0)
+slice-aggregate-put-message-3 c = sym (zeros_cut_long _ (other-start c.before.before).requires.0.0)
 
 put-message-requires-3 : tie.Need-put-message-requires-3
 put-message-requires-3 c κs =
     let s = other-start c.before.before.before.before in
-    let z = zeros-cut-long s.args.size s.pre.0.0 in
+    let z = zeros_cut_long s.args.size s.pre.0.0 in
     ((omega (arith, z), omega arith, omega arith), refl)
 
 same-length-5 : tie.Need-same-length-5
@@ -142,8 +142,8 @@ returns-3 : tie.Need-returns-3
 returns-3 c =
     let t = c.before.before.before.before.before.before.before.before.before in
     let s = other-start t in
-    let z = zeros-cut s.args.size s.pre.0.0 in
-    sent-zeros s.args.at s.args.j s.args.size s.args.msg s.args.blocks.now s.args.stripe.now s.args.coded.now _ _
+    let z = zeros_cut s.args.size s.pre.0.0 in
+    sent_zeros s.args.at s.args.j s.args.size s.args.msg s.args.blocks.now s.args.stripe.now s.args.coded.now _ _
     s.args.numbers.now s.args.bytes.now _ _ c.before.before.before.before.put-message3.ensures.1.1 t.before.before.if1.false t.if2.false z z
 
 pub send-one-spec : {M : Type 1} → statement M

@@ -1,5 +1,5 @@
 use borrow.Author.Rules.{rules}
-use Rattle.bench_sent.proofs.Laws.SentRowLaws.{bytes-stored}
+use Rattle.bench_sent.proofs.Laws.SentRowLaws.{bytes_stored}
 use Rattle.bench_sent.proofs.store_bytes.Statement.{statement}
 use Rattle.bench_sent.proofs.store_bytes.Tie as tie
 
@@ -22,7 +22,7 @@ same_length : tie.Need-same-length
 same_length c = search rules
 
 returns : tie.Need-returns
-returns c = search (rules, bytes-stored)
+returns c = search (rules, bytes_stored)
 
 pub store-bytes-spec : {M : Type 1} → statement M
 store-bytes-spec =

@@ -1,7 +1,7 @@
 use native.Mathlib.Omega.{arith}
 use mathlib.Core.Path.{sym}
-use Rattle.bench_commit.proofs.Laws.ActedLaws.{crash-past, crash-here}
-use Rattle.bench_commit.proofs.Laws.CommitLaws.{seat-at, front_long}
+use Rattle.bench_commit.proofs.Laws.ActedLaws.{crash_past, crash_here}
+use Rattle.bench_commit.proofs.Laws.CommitLaws.{seat_at, front_long}
 use borrow.Author.Rules.{rules}
 use Rattle.bench_start.proofs.crash_at.Statement.{statement}
 use Rattle.bench_start.proofs.crash_at.Tie as tie
@@ -15,7 +15,7 @@ same_length c = search rules
 returns : tie.Need-returns
 returns c =
     let s = c.before.before.before.before.before.before.before.before.before in
-    crash-past s.args.b s.args.c s.args.kept.now s.args.numbers.now s.args.bytes.now 0 s.args.out.now _ _ (omega (arith, c.before.before.before.before.if1.true))
+    crash_past s.args.b s.args.c s.args.kept.now s.args.numbers.now s.args.bytes.now 0 s.args.out.now _ _ (omega (arith, c.before.before.before.before.if1.true))
     c.before.before.refuse.ensures
 
 mul-data : tie.Need-overflow-mul-data
@@ -40,7 +40,7 @@ crash-with-requires : tie.Need-crash-with-requires
 crash-with-requires c κs =
     let s = c.before.before.before.before.before.before.before.before.before.before.before.before.before.before in
     let long = sym (front_long _ s.requires.fits.small.blocks-fit) in (
-      seat-at s.args.b 0 s.args.c s.args.kept.now s.args.numbers.now s.args.bytes.now 0 s.args.out.now s.requires
+      seat_at s.args.b 0 s.args.c s.args.kept.now s.args.numbers.now s.args.bytes.now 0 s.args.out.now s.requires
           c.before.before.before.before.before.before.before.before.before.if1.false,
       record { blocks-long = long; stripe-long = sym (front_long _ s.requires.fits.small.stripe-fits); coded-long = long },
     )
@@ -60,7 +60,7 @@ same-length-5 c = search rules
 returns-2 : tie.Need-returns-2
 returns-2 c =
     let s = c.before.before.before.before.before.before.before.before.before.before.before.before.before.before.before.before.before.before.before.before.before.before.before.before.before in
-    crash-here s.args.b s.args.c s.args.kept.now s.args.numbers.now s.args.bytes.now 0 s.args.out.now _ _ _ _ _
+    crash_here s.args.b s.args.c s.args.kept.now s.args.numbers.now s.args.bytes.now 0 s.args.out.now _ _ _ _ _
     c.before.before.before.before.before.before.before.before.before.before.before.before.before.before.before.before.before.before.before.before.if1.false
     c.before.before.before.before.before.before.before.before.before.before.crash-with.ensures
 

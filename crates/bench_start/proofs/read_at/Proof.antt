@@ -1,7 +1,7 @@
 use native.Mathlib.Omega.{arith}
 use mathlib.Core.Path.{sym}
 use Rattle.bench_commit.proofs.Laws.ActedLaws.{read_past, read_here}
-use Rattle.bench_commit.proofs.Laws.CommitLaws.{seat-at, front_long}
+use Rattle.bench_commit.proofs.Laws.CommitLaws.{seat_at, front_long}
 use borrow.Author.Rules.{rules}
 use Rattle.bench_start.proofs.read_at.Statement.{statement}
 use Rattle.bench_start.proofs.read_at.Tie as tie
@@ -40,7 +40,7 @@ read-with-requires : tie.Need-read-with-requires
 read-with-requires c κs =
     let s = c.before.before.before.before.before.before.before.before.before.before.before.before.before.before in
     let long = sym (front_long _ s.requires.fits.small.blocks-fit) in (
-      seat-at s.args.b 0 s.args.c s.args.kept.now s.args.numbers.now s.args.bytes.now 0 s.args.out.now s.requires
+      seat_at s.args.b 0 s.args.c s.args.kept.now s.args.numbers.now s.args.bytes.now 0 s.args.out.now s.requires
           c.before.before.before.before.before.before.before.before.before.if1.false,
       record { blocks-long = long; stripe-long = sym (front_long _ s.requires.fits.small.stripe-fits); coded-long = long },
     )

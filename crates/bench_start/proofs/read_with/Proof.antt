@@ -2,12 +2,12 @@ use mathlib.Core.Path.{ap, ◌∙◌}
 use Prim.Native.Nat.{ℕ, ◌+◌, ◌*◌}
 use mathlib.Core.List.{[]}
 use lib.ListN.{take, drop}
-use Rattle.bench_commit.proofs.Laws.ListsLaws.{read-lists}
-use Rattle.bench_commit.proofs.Laws.ActedLaws.{acted-read}
+use Rattle.bench_commit.proofs.Laws.ListsLaws.{read_lists}
+use Rattle.bench_commit.proofs.Laws.ActedLaws.{acted_read}
 use borrow.Author.Rules.{rules}
 use Rattle.bench_start.proofs.read_with.Statement.{statement}
 use Rattle.bench_start.proofs.read_with.Tie as tie
-use Rattle.bench_limits.specs.Limits.{stripeRoom, keptRoom}
+use Rattle.bench_limits.specs.Limits.{stripe_room, kept_room}
 
 fetch-requires : tie.Need-fetch-requires
 fetch-requires c κs = search rules
@@ -23,7 +23,7 @@ commit-requires c κs =
     let s = c.before.before.before.before.before.before.before.before.before.before.before.before.before.before.before.before.before.before.before.before.before.before.before in
     let f = c.before.before.before.before.before.before.before.before.before.before.before.before.before.fetch.auto in
     let long = f.1.1.0 ∙ s.requires.1.blocks-long in
-    let lists = read-lists _ _ _ _ _ _ _ _ _ _ _ _ _ _ _ (c.before.before.before.before.before.before.start-read.ensures [] [] []) in
+    let lists = read_lists _ _ _ _ _ _ _ _ _ _ _ _ _ _ _ (c.before.before.before.before.before.before.start-read.ensures [] [] []) in
     (s.requires.0, (record { blocks-long = long; stripe-long = f.1.1.1.0 ∙ s.requires.1.stripe-long; coded-long = long }, lists))
 
 same_length : tie.Need-same-length
@@ -48,10 +48,10 @@ returns : tie.Need-returns
 returns c =
     let s = c.before.before.before.before.before.before.before.before.before.before.before.before.before.before.before.before.before.before.before.before.before.before.before.before.before.before.before.before.before.before.before.before in
     let k = s.args.kept.now in
-    acted-read s.args.b s.args.c k s.args.numbers.now s.args.bytes.now 0 s.args.out.now _ _ _ _ _ _ _ _ s.pre.0.low
+    acted_read s.args.b s.args.c k s.args.numbers.now s.args.bytes.now 0 s.args.out.now _ _ _ _ _ _ _ _ s.pre.0.low
     c.before.before.before.before.before.before.before.before.before.before.before.before.before.before.before.before.coordinator-at.ensures.0
-    (c.before.before.before.before.before.before.before.before.before.before.before.before.before.before.before.before.before.before.before.before.before.before.fetch.ensures.0 ∙ ap (λ (j : ℕ). take j (drop (s.args.c * keptRoom) k)) s.pre.1.blocks-long)
-    (c.before.before.before.before.before.before.before.before.before.before.before.before.before.before.before.before.before.before.before.before.before.before.fetch.ensures.1 ∙ ap (λ (j : ℕ). take j (drop (s.args.c * keptRoom + stripeRoom) k)) s.pre.1.stripe-long)
+    (c.before.before.before.before.before.before.before.before.before.before.before.before.before.before.before.before.before.before.before.before.before.before.fetch.ensures.0 ∙ ap (λ (j : ℕ). take j (drop (s.args.c * kept_room) k)) s.pre.1.blocks-long)
+    (c.before.before.before.before.before.before.before.before.before.before.before.before.before.before.before.before.before.before.before.before.before.before.fetch.ensures.1 ∙ ap (λ (j : ℕ). take j (drop (s.args.c * kept_room + stripe_room) k)) s.pre.1.stripe-long)
     s.args.clock s.args.brick _ c.before.before.before.before.before.before.before.before.before.before.before.before.before.before.before.start-read.ensures
     c.before.before.before.before.before.before.before.before.commit.ensures
 

@@ -1,8 +1,8 @@
 use native.Mathlib.Omega.{arith}
 use mathlib.Core.Path.{sym}
 use lib.ListN.{drop}
-use Rattle.bench_commit.proofs.Laws.ActedLaws.{write-past, write-here}
-use Rattle.bench_commit.proofs.Laws.CommitLaws.{seat-at, front_long, front-zeros}
+use Rattle.bench_commit.proofs.Laws.ActedLaws.{write_past, write_here}
+use Rattle.bench_commit.proofs.Laws.CommitLaws.{seat_at, front_long, front_zeros}
 use borrow.Author.Rules.{rules}
 use Rattle.bench_start.proofs.write_at.Statement.{statement}
 use Rattle.bench_start.proofs.write_at.Tie as tie
@@ -16,7 +16,7 @@ same_length c = search rules
 returns : tie.Need-returns
 returns c =
     let s = c.before.before.before.before.before.before.before.before.before.before in
-    write-past s.args.b s.args.c s.args.kept.now s.args.numbers.now s.args.bytes.now 0 s.args.out.now _ s.args.clock (drop s.args.hex s.args.line.now) _
+    write_past s.args.b s.args.c s.args.kept.now s.args.numbers.now s.args.bytes.now 0 s.args.out.now _ s.args.clock (drop s.args.hex s.args.line.now) _
     (omega (arith, c.before.before.before.before.if1.true)) c.before.before.refuse.ensures
 
 mul-data : tie.Need-overflow-mul-data
@@ -47,11 +47,11 @@ write-with-requires : tie.Need-write-with-requires
 write-with-requires c κs =
     let s = c.before.before.before.before.before.before.before.before.before.before.before.before.before.before.before.before in
     let long = sym (front_long _ s.requires.0.fits.small.blocks-fit) in (
-      seat-at s.args.b 0 s.args.c s.args.kept.now s.args.numbers.now s.args.bytes.now 0 s.args.out.now s.requires.0
+      seat_at s.args.b 0 s.args.c s.args.kept.now s.args.numbers.now s.args.bytes.now 0 s.args.out.now s.requires.0
           c.before.before.before.before.before.before.before.before.before.before.if1.false,
       (
         record { blocks-long = long; stripe-long = sym (front_long _ s.requires.0.fits.small.stripe-fits); coded-long = long },
-        (s.requires.1, front-zeros _ s.requires.0.fits.small.stripe-fits),
+        (s.requires.1, front_zeros _ s.requires.0.fits.small.stripe-fits),
       ),
     )
 
@@ -70,7 +70,7 @@ same-length-5 c = search rules
 returns-2 : tie.Need-returns-2
 returns-2 c =
     let s = c.before.before.before.before.before.before.before.before.before.before.before.before.before.before.before.before.before.before.before.before.before.before.before.before.before.before.before.before in
-    write-here s.args.b s.args.c s.args.kept.now s.args.numbers.now s.args.bytes.now 0 s.args.out.now _ s.args.clock (drop s.args.hex s.args.line.now) _ _ _ _
+    write_here s.args.b s.args.c s.args.kept.now s.args.numbers.now s.args.bytes.now 0 s.args.out.now _ s.args.clock (drop s.args.hex s.args.line.now) _ _ _ _
     c.before.before.before.before.before.before.before.before.before.before.before.before.before.before.before.before.before.before.before.before.before.before.if1.false
     c.before.before.before.before.before.before.before.before.before.before.before.write-with.ensures
 

@@ -2,18 +2,18 @@ use mathlib.Core.Path.{sym, ap, subst, ◌∙◌}
 use Prim.Native.Nat.{ℕ, ◌+◌, ◌*◌, ◌≤◌}
 use mathlib.Core.List.{[]}
 use lib.ListN.{take, drop}
-use Rattle.bench_commit.proofs.Laws.ListsLaws.{write-lists}
-use Rattle.bench_commit.proofs.Laws.ActedLaws.{short_write, whole-write}
-use Rattle.bench_start.proofs.Laws.ShortLaws.{content-long, count-is, content-is}
+use Rattle.bench_commit.proofs.Laws.ListsLaws.{write_lists}
+use Rattle.bench_commit.proofs.Laws.ActedLaws.{short_write, whole_write}
+use Rattle.bench_start.proofs.Laws.ShortLaws.{content_long, count_is, content_is}
 use borrow.Author.Rules.{rules}
 use Rattle.bench_start.proofs.write_with.Statement.{statement}
 use Rattle.bench_start.proofs.write_with.Tie as tie
-use Rattle.bench_limits.specs.Limits.{stripeRoom, keptRoom}
+use Rattle.bench_limits.specs.Limits.{stripe_room, kept_room}
 
 read-content-requires : tie.Need-read-content-requires
 read-content-requires c κs =
     let s = c.before.before.before.before.before.before.before.before.before in
-    (s.requires.1.1.0, subst (λ (k : ℕ). k ≤ stripeRoom) (sym (content-long _ s.args.content.now s.requires.1.1.1)) s.requires.0.fits.small.stripe-fits)
+    (s.requires.1.1.0, subst (λ (k : ℕ). k ≤ stripe_room) (sym (content_long _ s.args.content.now s.requires.1.1.1)) s.requires.0.fits.small.stripe-fits)
 
 fetch-requires : tie.Need-fetch-requires
 fetch-requires c κs = search rules
@@ -56,11 +56,11 @@ returns c =
     short_write s.args.b s.args.c k s.args.numbers.now s.args.bytes.now 0 s.args.out.now _ k k k _ _ _ _ s.pre.0.low
     c.before.before.before.before.before.before.before.before.before.before.before.coordinator-at.ensures.0
     (c.before.before.before.before.before.before.before.before.before.before.before.before.before.before.before.before.before.fetch.ensures.0
-    ∙ ap (λ (j : ℕ). take j (drop (s.args.c * keptRoom) k)) s.pre.1.0.blocks-long)
+    ∙ ap (λ (j : ℕ). take j (drop (s.args.c * kept_room) k)) s.pre.1.0.blocks-long)
     (c.before.before.before.before.before.before.before.before.before.before.before.before.before.before.before.before.before.fetch.ensures.1
-    ∙ ap (λ (j : ℕ). take j (drop (s.args.c * keptRoom + stripeRoom) k)) s.pre.1.0.stripe-long)
-    s.args.clock digits _ _ _ _ (content-is x digits s.args.content.now _ _ s.pre.1.1.1 q.0 q.1)
-    (count-is x digits s.args.content.now s.args.content.now _ s.pre.1.1.1 q.0) c.before.before.before.before.before.before.before.before.start-write.ensures
+    ∙ ap (λ (j : ℕ). take j (drop (s.args.c * kept_room + stripe_room) k)) s.pre.1.0.stripe-long)
+    s.args.clock digits _ _ _ _ (content_is x digits s.args.content.now _ _ s.pre.1.1.1 q.0 q.1)
+    (count_is x digits s.args.content.now s.args.content.now _ s.pre.1.1.1 q.0) c.before.before.before.before.before.before.before.before.start-write.ensures
     (sym c.before.before.before.before.before.is-short.ensures ∙ c.before.before.before.before.if1.true) c.before.before.refuse.ensures
 
 commit-requires : tie.Need-commit-requires
@@ -76,7 +76,7 @@ commit-requires c κs =
               ∙ s.pre.1.0.stripe-long;
           coded-long = long;
         },
-        write-lists _ _ _ _ _ _ _ _ _ _ _ _ _ _ _
+        write_lists _ _ _ _ _ _ _ _ _ _ _ _ _ _ _
             (c.before.before.before.before.before.before.before.before.before.before.start-write.ensures [] []),
       ),
     )
@@ -110,12 +110,12 @@ returns-2 c =
     let x = s.args.b.settings in
     let digits = drop s.args.hex s.args.line.now in
     let q = c.before.before.before.before.before.before.before.before.before.before.before.before.before.before.before.before.before.before.before.before.before.before.before.before.before.before.before.before.before.before.before.before.before.before.read-content.ensures in
-    whole-write s.args.b s.args.c k s.args.numbers.now s.args.bytes.now 0 s.args.out.now _ _ _ _ _ _ _ _ s.pre.0.low
+    whole_write s.args.b s.args.c k s.args.numbers.now s.args.bytes.now 0 s.args.out.now _ _ _ _ _ _ _ _ s.pre.0.low
     c.before.before.before.before.before.before.before.before.before.before.before.before.before.before.before.before.before.before.before.before.before.before.coordinator-at.ensures.0
-    (c.before.before.before.before.before.before.before.before.before.before.before.before.before.before.before.before.before.before.before.before.before.before.before.before.before.before.before.before.fetch.ensures.0 ∙ ap (λ (j : ℕ). take j (drop (s.args.c * keptRoom) k)) s.pre.1.0.blocks-long)
-    (c.before.before.before.before.before.before.before.before.before.before.before.before.before.before.before.before.before.before.before.before.before.before.before.before.before.before.before.before.fetch.ensures.1 ∙ ap (λ (j : ℕ). take j (drop (s.args.c * keptRoom + stripeRoom) k)) s.pre.1.0.stripe-long)
-    s.args.clock digits _ _ _ _ (content-is x digits s.args.content.now _ _ s.pre.1.1.1 q.0 q.1)
-    (count-is x digits s.args.content.now s.args.content.now _ s.pre.1.1.1 q.0)
+    (c.before.before.before.before.before.before.before.before.before.before.before.before.before.before.before.before.before.before.before.before.before.before.before.before.before.before.before.before.fetch.ensures.0 ∙ ap (λ (j : ℕ). take j (drop (s.args.c * kept_room) k)) s.pre.1.0.blocks-long)
+    (c.before.before.before.before.before.before.before.before.before.before.before.before.before.before.before.before.before.before.before.before.before.before.before.before.before.before.before.before.fetch.ensures.1 ∙ ap (λ (j : ℕ). take j (drop (s.args.c * kept_room + stripe_room) k)) s.pre.1.0.stripe-long)
+    s.args.clock digits _ _ _ _ (content_is x digits s.args.content.now _ _ s.pre.1.1.1 q.0 q.1)
+    (count_is x digits s.args.content.now s.args.content.now _ s.pre.1.1.1 q.0)
     c.before.before.before.before.before.before.before.before.before.before.before.before.before.before.before.before.before.before.before.start-write.ensures
     (sym c.before.before.before.before.before.before.before.before.before.before.before.before.before.before.before.before.is-short.ensures
     ∙ c.before.before.before.before.before.before.before.before.before.before.before.before.before.before.before.if1.false)

@@ -6,55 +6,55 @@ use native.Mathlib.Omega.{arith}
 use native.Mathlib.Nat.{mul-le-mul}
 use lib.Dec.{eqb, leb}
 use borrow.Author.Tests.{leb-true, eqb-true}
-use Rattle.settings.specs.Ranges.{in_range, settingsRefusal}
-use Rattle.settings.proofs.Laws.RangeLaws.{settings-passed}
+use Rattle.settings.specs.Ranges.{in_range, settings_refusal}
+use Rattle.settings.proofs.Laws.RangeLaws.{settings_passed}
 use Rattle.byte_lists.proofs.Laws.BoolLaws.{and_left, and_right}
-use Rattle.settings.specs.Refusal.{refuseUnless, badSetting}
+use Rattle.settings.specs.Refusal.{refuse_unless, bad_setting}
 use Rattle.settings.specs.declared.Settings.{Settings}
 use Rattle.settings.proofs.Laws.RefusalLaws.{tested}
-use Rattle.image.specs.Image.{imageSize}
-use Rattle.volume.specs.Rows.{rowSize}
-use Rattle.bench_state.specs.State.{benchLimits, benchRange}
-use Rattle.bench_state.specs.Workers.{benchRefusal}
+use Rattle.image.specs.Image.{image_size}
+use Rattle.volume.specs.Rows.{row_size}
+use Rattle.bench_state.specs.State.{bench_limits, bench_range}
+use Rattle.bench_state.specs.Workers.{bench_refusal}
 use Rattle.bench_state.specs.Workers.{Fits}
-use Rattle.bench_limits.specs.Limits.{benchBricks, benchCapacity, benchSize, benchStripes}
+use Rattle.bench_limits.specs.Limits.{bench_bricks, bench_capacity, bench_size, bench_stripes}
 
-pub bench-bad : (s : Settings) (k : ℕ) → k ≡ settingsRefusal s → (k ≡ 0 → ⊥) → badSetting ≡ benchRefusal s
-unfolding settingsRefusal benchRefusal benchRange
-bench-bad s k e h = go (in_range s) (benchLimits s) e
+pub bench_bad : (s : Settings) (k : ℕ) → k ≡ settings_refusal s → (k ≡ 0 → ⊥) → bad_setting ≡ bench_refusal s
+unfolding settings_refusal bench_refusal bench_range
+bench_bad s k e h = go (in_range s) (bench_limits s) e
   where
-    go : (a b : Bool) → k ≡ refuseUnless a badSetting → badSetting ≡ refuseUnless (a && b) badSetting
+    go : (a b : Bool) → k ≡ refuse_unless a bad_setting → bad_setting ≡ refuse_unless (a && b) bad_setting
     go true b d = absurd (h d)
     go false b d = refl
 
-pub bench-rest : (s : Settings) (k v : ℕ) → k ≡ settingsRefusal s → k ≡ 0
-    → v ≡ refuseUnless (leb s.n benchBricks && leb s.size benchSize && leb s.capacity benchCapacity && eqb s.stripes benchStripes) badSetting
-    → v ≡ benchRefusal s
-unfolding settingsRefusal benchRefusal benchRange benchLimits
-bench-rest s k v e h r = r ∙ go (in_range s) (benchLimits s) e
+pub bench_rest : (s : Settings) (k v : ℕ) → k ≡ settings_refusal s → k ≡ 0
+    → v ≡ refuse_unless (leb s.n bench_bricks && leb s.size bench_size && leb s.capacity bench_capacity && eqb s.stripes bench_stripes) bad_setting
+    → v ≡ bench_refusal s
+unfolding settings_refusal bench_refusal bench_range bench_limits
+bench_rest s k v e h r = r ∙ go (in_range s) (bench_limits s) e
   where
-    go : (a b : Bool) → k ≡ refuseUnless a badSetting → refuseUnless b badSetting ≡ refuseUnless (a && b) badSetting
+    go : (a b : Bool) → k ≡ refuse_unless a bad_setting → refuse_unless b bad_setting ≡ refuse_unless (a && b) bad_setting
     go true b d = refl
     go false b d = absurd (omega arith)
 
 -- a row of the bench is one image
-pub row-of-one : (s : Settings) → s.stripes ≡ benchStripes → rowSize s ≡ imageSize s
-unfolding rowSize
-row-of-one s e = rw e (omega arith)
+pub row_of_one : (s : Settings) → s.stripes ≡ bench_stripes → row_size s ≡ image_size s
+unfolding row_size
+row_of_one s e = rw e (omega arith)
 
-pub bench-fits : (s : Settings) → benchRange s ≡ true → Fits s
-unfolding benchRange benchLimits settingsRefusal imageSize
-bench-fits s e =
+pub bench_fits : (s : Settings) → bench_range s ≡ true → Fits s
+unfolding bench_range bench_limits settings_refusal image_size
+bench_fits s e =
     let r = and_left (in_range s) _ e in
     let t = and_right (in_range s) _ e in
     let u = and_left _ _ t in
-    let n = leb-true s.n benchBricks (and_left _ _ (and_left _ _ u)) in
-    let z = leb-true s.size benchSize (and_right (leb s.n benchBricks) _ (and_left _ _ u)) in
-    let k = leb-true s.capacity benchCapacity (and_right (leb s.n benchBricks && leb s.size benchSize) _ u) in
-    let o = eqb-true s.stripes benchStripes (and_right (leb s.n benchBricks && leb s.size benchSize && leb s.capacity benchCapacity) _ t) in
-    let g = settings-passed s (ap (λ (b : Bool). refuseUnless b badSetting) r) in
-    let m : s.m ≤ benchBricks = (let h = g.code.m-high in omega arith) in
-    let i = row-of-one s o in
+    let n = leb-true s.n bench_bricks (and_left _ _ (and_left _ _ u)) in
+    let z = leb-true s.size bench_size (and_right (leb s.n bench_bricks) _ (and_left _ _ u)) in
+    let k = leb-true s.capacity bench_capacity (and_right (leb s.n bench_bricks && leb s.size bench_size) _ u) in
+    let o = eqb-true s.stripes bench_stripes (and_right (leb s.n bench_bricks && leb s.size bench_size && leb s.capacity bench_capacity) _ t) in
+    let g = settings_passed s (ap (λ (b : Bool). refuse_unless b bad_setting) r) in
+    let m : s.m ≤ bench_bricks = (let h = g.code.m-high in omega arith) in
+    let i = row_of_one s o in
     record {
       in-range = r;
       range = g;
@@ -70,6 +70,6 @@ bench-fits s e =
       size_fits = z;
     }
 
-pub bench-passed : (s : Settings) (k : ℕ) → k ≡ benchRefusal s → k ≡ 0 → Fits s
-unfolding benchRefusal
-bench-passed s k e z = bench-fits s (tested (benchRange s) _ (sym e ∙ z))
+pub bench_passed : (s : Settings) (k : ℕ) → k ≡ bench_refusal s → k ≡ 0 → Fits s
+unfolding bench_refusal
+bench_passed s k e z = bench_fits s (tested (bench_range s) _ (sym e ∙ z))

@@ -1,5 +1,5 @@
 use borrow.Author.Tests.{lt-leb, le-leb, eq-eqb, ne_eqb}
-use Rattle.bench_state.proofs.Laws.BenchRangeLaws.{bench-bad, bench-rest}
+use Rattle.bench_state.proofs.Laws.BenchRangeLaws.{bench_bad, bench_rest}
 use borrow.Author.Rules.{rules}
 use Rattle.bench_state.proofs.bench_refusal.Statement.{statement}
 use Rattle.bench_state.proofs.bench_refusal.Tie as tie
@@ -8,22 +8,22 @@ refusal-requires : tie.Need-refusal-requires
 refusal-requires c κs = search rules
 
 returns : tie.Need-returns
-returns c = search (rules, bench-bad)
+returns c = search (rules, bench_bad)
 
 returns-2 : tie.Need-returns-2
-returns-2 c = search (rules, bench-rest, lt-leb, le-leb)
+returns-2 c = search (rules, bench_rest, lt-leb, le-leb)
 
 returns-3 : tie.Need-returns-3
-returns-3 c = search (rules, bench-rest, lt-leb, le-leb)
+returns-3 c = search (rules, bench_rest, lt-leb, le-leb)
 
 returns-4 : tie.Need-returns-4
-returns-4 c = search (rules, bench-rest, lt-leb, le-leb)
+returns-4 c = search (rules, bench_rest, lt-leb, le-leb)
 
 returns-5 : tie.Need-returns-5
-returns-5 c = search (rules, bench-rest, lt-leb, le-leb, ne_eqb)
+returns-5 c = search (rules, bench_rest, lt-leb, le-leb, ne_eqb)
 
 returns-6 : tie.Need-returns-6
-returns-6 c = search (rules, bench-rest, lt-leb, le-leb, eq-eqb)
+returns-6 c = search (rules, bench_rest, lt-leb, le-leb, eq-eqb)
 
 pub bench-refusal-spec : {M : Type 1} → statement M
 bench-refusal-spec =

@@ -1,4 +1,4 @@
-use Rattle.bench_state.proofs.Laws.KeptPartLaws.{any-default, length-mapped}
+use Rattle.bench_state.proofs.Laws.KeptPartLaws.{any_default, length_mapped}
 use borrow.Author.Rules.{rules, below_length}
 use mathlib.Core.Path.{◌≡◌}
 use lib.ListN.{length}
@@ -6,10 +6,10 @@ use Rattle.bench_state.proofs.coordinator_at.Statement.{statement}
 use Rattle.bench_state.proofs.coordinator_at.Tie as tie
 use Rattle.bench_state.proofs.coordinator_at.Reads as reads
 use Rattle.bench_state.proofs.coordinator_at.Lts as lts
-use Rattle.bench_limits.specs.Limits.{benchCoordinators}
+use Rattle.bench_limits.specs.Limits.{bench_coordinators}
 
-all_there : (s : lts.Start reads.Pre reads.Post) → length s.args.b.coordinators ≡ benchCoordinators
-all_there s = search (rules, length-mapped)
+all_there : (s : lts.Start reads.Pre reads.Post) → length s.args.b.coordinators ≡ bench_coordinators
+all_there s = search (rules, length_mapped)
 
 mul-result : tie.Need-overflow-mul-result
 mul-result c = search rules
@@ -21,7 +21,7 @@ returns : tie.Need-returns
 returns c =
     let s = c.before.before in
     let long = all_there s in
-    (any-default s.args.b.coordinators s.args.c _ _ (below_length _ s.args.b.coordinators s.args.c benchCoordinators long s.requires), long)
+    (any_default s.args.b.coordinators s.args.c _ _ (below_length _ s.args.b.coordinators s.args.c bench_coordinators long s.requires), long)
 
 pub coordinator-at-spec : {M : Type 1} → statement M
 coordinator-at-spec = tie.close (tie.spec mul-result array-copy-out-result returns)

@@ -1,11 +1,11 @@
 use mathlib.Core.Path.{refl}
 use Prim.Native.Nat.{◌+◌, ◌*◌}
 use lib.ListN.{length}
-use Rattle.bench_state.proofs.Laws.KeptPartLaws.{part-copied}
+use Rattle.bench_state.proofs.Laws.KeptPartLaws.{part_copied}
 use borrow.Author.Rules.{rules}
 use Rattle.bench_state.proofs.fetch.Statement.{statement}
 use Rattle.bench_state.proofs.fetch.Tie as tie
-use Rattle.bench_limits.specs.Limits.{stripeRoom, keptRoom}
+use Rattle.bench_limits.specs.Limits.{stripe_room, kept_room}
 
 mul_at : tie.Need-overflow-mul-at
 mul_at c = search rules
@@ -52,9 +52,9 @@ same-length-2 c = search rules
 returns : tie.Need-returns
 returns c =
     let s = c.before.before.before.before.before.before.before.before.before.before.before.before.before in
-    let at = s.args.c * keptRoom in (
-      part-copied at (at + length s.args.blocks.now) (length s.args.blocks.now) s.args.kept.now _ c.before.before.before.before.before.before.before.copy.ensures refl,
-      part-copied (at + stripeRoom) (at + stripeRoom + length s.args.stripe.now) (length s.args.stripe.now) s.args.kept.now _ c.before.before.copy2.ensures refl,
+    let at = s.args.c * kept_room in (
+      part_copied at (at + length s.args.blocks.now) (length s.args.blocks.now) s.args.kept.now _ c.before.before.before.before.before.before.before.copy.ensures refl,
+      part_copied (at + stripe_room) (at + stripe_room + length s.args.stripe.now) (length s.args.stripe.now) s.args.kept.now _ c.before.before.copy2.ensures refl,
     )
 
 pub fetch_spec : {M : Type 1} → statement M

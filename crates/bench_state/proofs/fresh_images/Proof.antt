@@ -3,10 +3,10 @@ use Prim.Native.Nat.{◌-◌, ◌+◌, ◌*◌, ◌≤◌}
 use borrow.Author.Rules.{rules}
 use native.Mathlib.Omega.{arith}
 use Rattle.bench_state.specs.Workers.{Begun}
-use Rattle.bench_state.proofs.Laws.FillLaws.{begun-none, begun-stored}
+use Rattle.bench_state.proofs.Laws.FillLaws.{begun_none, begun_stored}
 use Rattle.bench_state.proofs.fresh_images.Statement.{statement}
 use Rattle.bench_state.proofs.fresh_images.Tie as tie
-use Rattle.image_block.specs.Block.{blockBytes}
+use Rattle.image_block.specs.Block.{block_bytes}
 
 abbrev invariant-loop : tie.invariant-loop
 invariant-loop s images₀ b₀ images b = Begun s images b × (b ≤ s.n)
@@ -15,7 +15,7 @@ abbrev decreases-loop : tie.decreases-loop
 decreases-loop s images₀ b₀ images b = s.n - b
 
 loop-holds : tie.Need-loop-init invariant-loop decreases-loop
-loop-holds c = (begun-none _ _ c.before.requires.1, omega arith)
+loop-holds c = (begun_none _ _ c.before.requires.1, omega arith)
 
 mul_at : tie.Need-overflow-mul-at invariant-loop decreases-loop
 mul_at c = omega arith
@@ -51,7 +51,7 @@ loop-again : tie.Need-loop-preserved invariant-loop decreases-loop
 loop-again c =
     let s = c.before.before.before.before.before.before.before.before.before in
     let p = c.before.before.before.before.before.before.before.loop in (
-      begun-stored s.args.s p.images _ p.b (blockBytes * (s.args.s.capacity + 1)) s.requires.0.1 s.requires.0.0 p.invariant.0 c.before.before.before.before.before.if1.true refl
+      begun_stored s.args.s p.images _ p.b (block_bytes * (s.args.s.capacity + 1)) s.requires.0.1 s.requires.0.0 p.invariant.0 c.before.before.before.before.before.if1.true refl
           c.before.before.write-fresh.auto.1.1.0 c.before.before.write-fresh.ensures.1,
       omega arith,
     )

@@ -1,12 +1,12 @@
 use native.Mathlib.Omega.{arith}
 use Prim.Native.Nat.{◌+◌, ◌*◌}
 use lib.ListN.{length}
-use Rattle.bench_state.proofs.Laws.KeptPartLaws.{two-put}
-use Rattle.bench_state.specs.Workers.{keptWith}
+use Rattle.bench_state.proofs.Laws.KeptPartLaws.{two_put}
+use Rattle.bench_state.specs.Workers.{kept_with}
 use borrow.Author.Rules.{rules}
 use Rattle.bench_state.proofs.keep.Statement.{statement}
 use Rattle.bench_state.proofs.keep.Tie as tie
-use Rattle.bench_limits.specs.Limits.{stripeRoom, keptRoom}
+use Rattle.bench_limits.specs.Limits.{stripe_room, kept_room}
 
 mul_at : tie.Need-overflow-mul-at
 mul_at c = search rules
@@ -48,13 +48,13 @@ same_length : tie.Need-same-length
 same_length c = search rules
 
 returns : tie.Need-returns
-unfolding keptWith
+unfolding kept_with
 returns c =
     let s = c.before.before.before.before.before.before.before.before.before.before.before in
-    let at = s.args.c * keptRoom in
+    let at = s.args.c * kept_room in
     let x = s.args.blocks.now in
     let y = s.args.stripe.now in
-    two-put at (at + length x) (at + stripeRoom) (at + stripeRoom + length y) x y s.args.kept.now _ _ c.before.before.before.before.before.before.copy.ensures
+    two_put at (at + length x) (at + stripe_room) (at + stripe_room + length y) x y s.args.kept.now _ _ c.before.before.before.before.before.before.copy.ensures
     c.before.before.copy2.ensures
     (omega arith) (omega arith) (omega arith) (omega arith)
 

@@ -1,4 +1,4 @@
-use Rattle.bench_state.specs.Workers.{freshBench}
+use Rattle.bench_state.specs.Workers.{fresh_bench}
 use borrow.Author.Rules.{rules}
 use Rattle.bench_state.proofs.new_bench.Statement.{statement}
 use Rattle.bench_state.proofs.new_bench.Tie as tie
@@ -16,7 +16,7 @@ new-coordinator-requires-4 : tie.Need-new-coordinator-requires-4
 new-coordinator-requires-4 c κs = search rules
 
 returns : tie.Need-returns
-unfolding freshBench
+unfolding fresh_bench
 returns c = cc
 
 pub new-bench-spec : {M : Type 1} → statement M

@@ -1,5 +1,5 @@
-use Rattle.coord_record.specs.Records.{geometryOf}
-use Rattle.bench_state.specs.State.{idleAt}
+use Rattle.coord_record.specs.Records.{geometry_of}
+use Rattle.bench_state.specs.State.{idle_at}
 use borrow.Author.Rules.{rules}
 use Rattle.bench_state.proofs.new_coordinator.Statement.{statement}
 use Rattle.bench_state.proofs.new_coordinator.Tie as tie
@@ -8,7 +8,7 @@ idle-with-requires : tie.Need-idle-with-requires
 idle-with-requires c κs = search rules
 
 returns : tie.Need-returns
-unfolding idleAt geometryOf
+unfolding idle_at geometry_of
 returns c = cc
 
 pub new-coordinator-spec : {M : Type 1} → statement M

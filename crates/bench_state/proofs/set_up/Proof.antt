@@ -1,5 +1,5 @@
 use lib.ListN.{length}
-use Rattle.bench_state.proofs.Laws.FillLaws.{set-begun}
+use Rattle.bench_state.proofs.Laws.FillLaws.{set_begun}
 use borrow.Author.Rules.{rules}
 use Rattle.bench_state.proofs.set_up.Statement.{statement}
 use Rattle.bench_state.proofs.set_up.Tie as tie
@@ -22,7 +22,7 @@ same-length-2 c = search rules
 returns : tie.Need-returns
 returns c =
     let s = c.before.before.before.before.before.before.before.before.before.before.before in
-    set-begun s.args.s _ _ _ (length s.args.kept.now) s.requires.0.1 c.new-bench.ensures c.before.before.before.before.before.before.before.fresh-images.ensures
+    set_begun s.args.s _ _ _ (length s.args.kept.now) s.requires.0.1 c.new-bench.ensures c.before.before.before.before.before.before.before.fresh-images.ensures
     c.before.before.before.clear.ensures s.requires.1.1
 
 pub set-up-spec : {M : Type 1} → statement M

@@ -1,5 +1,5 @@
-use Rattle.bench_state.proofs.Laws.KeptPartLaws.{length-mapped}
-use Rattle.bench_state.specs.Workers.{withCoordinator}
+use Rattle.bench_state.proofs.Laws.KeptPartLaws.{length_mapped}
+use Rattle.bench_state.specs.Workers.{with_coordinator}
 use borrow.Author.Rules.{rules}
 use Rattle.bench_state.proofs.with_coordinator.Statement.{statement}
 use Rattle.bench_state.proofs.with_coordinator.Tie as tie
@@ -11,8 +11,8 @@ array-set-from-all : tie.Need-array-set-from-all
 array-set-from-all c = search rules
 
 returns : tie.Need-returns
-unfolding withCoordinator
-returns c = (cc, search (rules, length-mapped))
+unfolding with_coordinator
+returns c = (cc, search (rules, length_mapped))
 
 pub with-coordinator-spec : {M : Type 1} → statement M
 with-coordinator-spec = tie.close (tie.spec mul-all array-set-from-all returns)

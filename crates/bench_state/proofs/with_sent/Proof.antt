@@ -1,9 +1,9 @@
-use Rattle.bench_state.specs.Workers.{withSent}
+use Rattle.bench_state.specs.Workers.{with_sent}
 use Rattle.bench_state.proofs.with_sent.Statement.{statement}
 use Rattle.bench_state.proofs.with_sent.Tie as tie
 
 returns : tie.Need-returns
-unfolding withSent
+unfolding with_sent
 returns c = cc
 
 pub with-sent-spec : {M : Type 1} → statement M

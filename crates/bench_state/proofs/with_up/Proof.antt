@@ -1,4 +1,4 @@
-use Rattle.bench_state.specs.Workers.{withUp}
+use Rattle.bench_state.specs.Workers.{with_up}
 use borrow.Author.Rules.{rules}
 use Rattle.bench_state.proofs.with_up.Statement.{statement}
 use Rattle.bench_state.proofs.with_up.Tie as tie
@@ -7,7 +7,7 @@ array-write-up : tie.Need-array-write-up
 array-write-up c = search rules
 
 returns : tie.Need-returns
-unfolding withUp
+unfolding with_up
 returns c = (cc, search rules)
 
 pub with-up-spec : {M : Type 1} → statement M

@@ -6,44 +6,44 @@ use Prim.Native.Nat.{ℕ}
 use lib.Dec.{eqb}
 use borrow.Author.Tests.{eqb-true}
 use Rattle.settings.specs.declared.Settings.{Settings}
-use Rattle.message.specs.Messages.{isSilent}
+use Rattle.message.specs.Messages.{is_silent}
 use Rattle.message.specs.declared.Message.{Message}
-use Rattle.image.specs.Parse.{Parsed, Opens, brickIn, parse}
-use Rattle.image.proofs.Laws.ParseLaws.{parse-opens}
+use Rattle.image.specs.Parse.{Parsed, Opens, brick_in, parse}
+use Rattle.image.proofs.Laws.ParseLaws.{parse_opens}
 use Rattle.image.specs.Brick.{Brick}
-use Rattle.brick_log.specs.BrickRules.{replyTo}
-use Rattle.brick.specs.Receive.{beside, receiveRefusal, refusedWith, givenBy, accepted, outcome}
-use Rattle.brick.specs.Receive.{givenNumber}
+use Rattle.brick_log.specs.BrickRules.{reply_to}
+use Rattle.brick.specs.Receive.{beside, receive_refusal, refused_with, given_by, accepted, outcome}
+use Rattle.brick.specs.Receive.{given_number}
 use Rattle.brick.specs.declared.Given.TheVariants.{Answered, Silent}
 use Rattle.brick.proofs.Laws.OutcomeLaws.{passes}
 
 -- what an image that opens gives has number 0
-acted-number : (s : Settings) (brick : ℕ) (msg : Message) (block old bytes out : List ℕ) (x : Brick)
-    → givenNumber (accepted s brick msg block old bytes out (Opens x)).given ≡ 0
-unfolding givenNumber accepted givenBy
-acted-number s brick msg block old bytes out x = go (isSilent msg.kind)
+acted_number : (s : Settings) (brick : ℕ) (msg : Message) (block old bytes out : List ℕ) (x : Brick)
+    → given_number (accepted s brick msg block old bytes out (Opens x)).given ≡ 0
+unfolding given_number accepted given_by
+acted_number s brick msg block old bytes out x = go (is_silent msg.kind)
   where
-    go : (b : Bool) → givenNumber (cond b Silent (Answered (replyTo s brick x msg))) ≡ 0
+    go : (b : Bool) → given_number (cond b Silent (Answered (reply_to s brick x msg))) ≡ 0
     go true = refl
     go false = refl
 
 -- The answer's number is the first refusal's.
-pub outcome-number : (s : Settings) (brick : ℕ) (bytes : List ℕ) (msg : Message) (block old out : List ℕ)
-    → givenNumber (outcome s brick bytes msg block old out).given ≡ receiveRefusal s brick bytes msg (beside block old out)
-unfolding outcome givenNumber refusedWith
-outcome-number s brick bytes msg block old out =
-    go (eqb (receiveRefusal s brick bytes msg (beside block old out)) 0) refl
+pub outcome_number : (s : Settings) (brick : ℕ) (bytes : List ℕ) (msg : Message) (block old out : List ℕ)
+    → given_number (outcome s brick bytes msg block old out).given ≡ receive_refusal s brick bytes msg (beside block old out)
+unfolding outcome given_number refused_with
+outcome_number s brick bytes msg block old out =
+    go (eqb (receive_refusal s brick bytes msg (beside block old out)) 0) refl
   where
-    go : (b : Bool) → eqb (receiveRefusal s brick bytes msg (beside block old out)) 0 ≡ b
-        → givenNumber
+    go : (b : Bool) → eqb (receive_refusal s brick bytes msg (beside block old out)) 0 ≡ b
+        → given_number
         (cond b (accepted s brick msg block old bytes out (parse s brick bytes))
-        (refusedWith (receiveRefusal s brick bytes msg (beside block old out)) bytes out)
+        (refused_with (receive_refusal s brick bytes msg (beside block old out)) bytes out)
         ).given
-        ≡ receiveRefusal s brick bytes msg (beside block old out)
+        ≡ receive_refusal s brick bytes msg (beside block old out)
     go true e =
-        let z = eqb-true (receiveRefusal s brick bytes msg (beside block old out)) 0 e in
-        ap (λ (p : Parsed). givenNumber (accepted s brick msg block old bytes out p).given)
-        (parse-opens s brick bytes (passes s brick bytes msg (beside block old out) z).opens)
-        ∙ acted-number s brick msg block old bytes out (brickIn s bytes)
+        let z = eqb-true (receive_refusal s brick bytes msg (beside block old out)) 0 e in
+        ap (λ (p : Parsed). given_number (accepted s brick msg block old bytes out p).given)
+        (parse_opens s brick bytes (passes s brick bytes msg (beside block old out) z).opens)
+        ∙ acted_number s brick msg block old bytes out (brick_in s bytes)
         ∙ sym z
     go false e = refl

@@ -1,7 +1,7 @@
 use mathlib.Core.Path.{sym, ◌∙◌}
 use native.Mathlib.Omega.{arith}
-use Rattle.image.specs.Image.{imageSize}
-use Rattle.brick.proofs.Laws.OutcomeLaws.{remove-ready, place-low, said-is, acts-silent, acts-reply}
+use Rattle.image.specs.Image.{image_size}
+use Rattle.brick.proofs.Laws.OutcomeLaws.{remove_ready, place_low, said_is, acts_silent, acts_reply}
 use borrow.Author.Rules.{rules}
 use Rattle.brick.proofs.act.Statement.{statement}
 use Rattle.brick.proofs.act.Tie as tie
@@ -12,7 +12,7 @@ is-silent-requires c κs = search rules
 remove-requires : tie.Need-remove-requires
 remove-requires c κs =
     let p = c.before.before.before.before.before.before.before.requires in
-    (p.0, remove-ready _ _ _ _ _ _ p.0 p.1.0 _ c.before.before.is-silent.ensures c.before.if1.true)
+    (p.0, remove_ready _ _ _ _ _ _ p.0 p.1.0 _ c.before.before.is-silent.ensures c.before.if1.true)
 
 same_length : tie.Need-same-length
 same_length c = search rules
@@ -21,14 +21,14 @@ returns : tie.Need-returns
 returns c =
     let told = c.before.before.before.before.before in
     let p = told.before.before.before.before.before.requires in
-    acts-silent _ _ _ _ _ _ p.0 p.1.0 _ _ _ _ _ told.is-silent.ensures c.before.before.before.before.if1.true c.before.before.remove.ensures
+    acts_silent _ _ _ _ _ _ p.0 p.1.0 _ _ _ _ _ told.is-silent.ensures c.before.before.before.before.if1.true c.before.before.remove.ensures
 
 give-requires : tie.Need-give-requires
-unfolding imageSize
+unfolding image_size
 give-requires c κs =
     let p = c.before.before.before.before.before.before.before.before.requires in
     let r = p.0 in
-    (p.1.1.0.2, r.saved.range.code.size-high, omega (arith, r.saved.long, r.high, place-low _ _ _ _ _ _ r p.1.0))
+    (p.1.1.0.2, r.saved.range.code.size-high, omega (arith, r.saved.long, r.high, place_low _ _ _ _ _ _ r p.1.0))
 
 comparison-of-requires : tie.Need-comparison-of-requires
 comparison-of-requires c κs = search rules
@@ -38,7 +38,7 @@ change-requires c κs =
     let p = c.before.before.before.before.before.before.before.before.before.before.before.before.before.requires in
     let speaks = sym c.before.before.before.before.before.before.before.before.is-silent.ensures ∙ c.before.before.before.before.before.before.before.if1.false in (
       p.0,
-      ((p.1.1.0.0, p.1.1.0.1), (speaks, p.1.1.1, said-is _ _ _ _ _ _ p.0 p.1.0 _ c.before.comparison-of.ensures)),
+      ((p.1.1.0.0, p.1.1.0.1), (speaks, p.1.1.1, said_is _ _ _ _ _ _ p.0 p.1.0 _ c.before.comparison-of.ensures)),
     )
 
 same-length-2 : tie.Need-same-length-2
@@ -51,7 +51,7 @@ returns-2 : tie.Need-returns-2
 returns-2 c =
     let told = c.before.before.before.before.before.before.before.before.before.before.before in
     let p = told.before.before.before.before.before.requires in
-    acts-reply _ _ _ _ _ _ p.0 p.1.0 _ _ _ _ _ _ _ told.is-silent.ensures c.before.before.before.before.before.before.before.before.before.before.if1.false
+    acts_reply _ _ _ _ _ _ p.0 p.1.0 _ _ _ _ _ _ _ told.is-silent.ensures c.before.before.before.before.before.before.before.before.before.before.if1.false
     c.before.before.before.before.comparison-of.ensures c.before.before.change.ensures c.before.before.before.before.before.before.before.give.ensures
 
 pub act-spec : {M : Type 1} → statement M

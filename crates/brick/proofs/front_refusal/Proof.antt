@@ -1,8 +1,8 @@
 use mathlib.Core.Path.{sym, ◌∙◌}
 use native.Mathlib.Omega.{arith}
 use Rattle.settings.specs.Ranges.{SettingsRange}
-use Rattle.settings.proofs.Laws.RangeLaws.{settings-passed}
-use Rattle.brick.proofs.Laws.OutcomeLaws.{front-setting, front-lent, front-beside, front-brick, front-stripe, front-block, images-small}
+use Rattle.settings.proofs.Laws.RangeLaws.{settings_passed}
+use Rattle.brick.proofs.Laws.OutcomeLaws.{front_setting, front_lent, front_beside, front_brick, front_stripe, front_block, images_small}
 use borrow.Author.Rules.{rules}
 use Rattle.brick.proofs.front_refusal.Statement.{statement}
 use Rattle.brick.proofs.front_refusal.Tie as tie
@@ -11,10 +11,10 @@ refusal-requires : tie.Need-refusal-requires
 refusal-requires c κs = search rules
 
 returns : tie.Need-returns
-returns c = search (rules, front-setting)
+returns c = search (rules, front_setting)
 
 range : (c : tie.After-struct-known) → SettingsRange c.before.before.before.args.s
-range c = settings-passed _ (sym c.before.before.refusal.ensures ∙ c.before.if1.false)
+range c = settings_passed _ (sym c.before.before.refusal.ensures ∙ c.before.if1.false)
 
 add-if2 : tie.Need-overflow-add-if2
 add-if2 c = omega (arith, range c)
@@ -23,31 +23,31 @@ mul-if2 : tie.Need-overflow-mul-if2
 mul-if2 c = omega (arith, range c)
 
 mul-if2-2 : tie.Need-overflow-mul-if2-2
-mul-if2-2 c = omega (arith, images-small _ _ c.before.before.before.requires (range c).capacity-high)
+mul-if2-2 c = omega (arith, images_small _ _ c.before.before.before.requires (range c).capacity-high)
 
 returns-2 : tie.Need-returns-2
-returns-2 c = search (rules, front-lent)
+returns-2 c = search (rules, front_lent)
 
 beside-right-requires : tie.Need-beside-right-requires
 beside-right-requires c κs = search rules
 
 returns-3 : tie.Need-returns-3
-returns-3 c = search (rules, front-beside)
+returns-3 c = search (rules, front_beside)
 
 returns-4 : tie.Need-returns-4
-returns-4 c = search (rules, front-brick)
+returns-4 c = search (rules, front_brick)
 
 stripe-refusal-requires : tie.Need-stripe-refusal-requires
 stripe-refusal-requires c κs = search rules
 
 returns-5 : tie.Need-returns-5
-returns-5 c = search (rules, front-stripe)
+returns-5 c = search (rules, front_stripe)
 
 block-refusal-requires : tie.Need-block-refusal-requires
 block-refusal-requires c κs = search rules
 
 returns-6 : tie.Need-returns-6
-returns-6 c = search (rules, front-block)
+returns-6 c = search (rules, front_block)
 
 pub front-refusal-spec : {M : Type 1} → statement M
 front-refusal-spec =

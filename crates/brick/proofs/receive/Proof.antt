@@ -1,7 +1,7 @@
 use native.Mathlib.Omega.{arith}
 use Rattle.image.specs.Workers.{Hub}
 use Rattle.image.proofs.Laws.HubLaws.{hub}
-use Rattle.brick.proofs.Laws.OutcomeLaws.{fronted, modify-names, ends-early, ends-unopened, ends-wrong, ends-acted, ready, ahead, log_is, hub-reads}
+use Rattle.brick.proofs.Laws.OutcomeLaws.{fronted, modify_names, ends_early, ends_unopened, ends_wrong, ends_acted, ready, ahead, log_is, hub_reads}
 use borrow.Author.Rules.{rules}
 use Rattle.brick.proofs.receive.Statement.{statement}
 use Rattle.brick.proofs.receive.Tie as tie
@@ -18,7 +18,7 @@ the-hub : (c : tie.After-answer)
 the-hub c = hub _ _ _ _ _ c.before.before.«open».ensures c.answer.given.1
 
 returns : tie.Need-returns
-returns c = ends-early _ _ _ _ _ _ _ _ c.before.front-refusal.ensures c.if1.true
+returns c = ends_early _ _ _ _ _ _ _ _ c.before.front-refusal.ensures c.if1.true
 
 open-requires : tie.Need-open-requires
 open-requires c κs = search rules
@@ -36,7 +36,7 @@ same_length : tie.Need-same-length
 same_length c = search rules
 
 returns-2 : tie.Need-returns-2
-returns-2 c = ends-unopened _ _ _ _ _ _ _ _ c.before.before.before.before.before.before.front-refusal.ensures c.before.before.before.before.before.if1.false _ _ _
+returns-2 c = ends_unopened _ _ _ _ _ _ _ _ c.before.before.before.before.before.before.front-refusal.ensures c.before.before.before.before.before.if1.false _ _ _
     c.before.before.before.«open».ensures c.before.enum_told.given.1 c.number_of_lem.ensures
 
 refusal-requires : tie.Need-refusal-requires
@@ -48,7 +48,7 @@ same-length-2 c = search rules
 returns-3 : tie.Need-returns-3
 returns-3 c =
     let front = c.before.before.before.before.before.before.before in
-    ends-wrong _ _ _ _ _ _ _ _ front.before.front-refusal.ensures front.if1.false _ (the-hub c.before.before.before).is _ c.before.refusal.ensures
+    ends_wrong _ _ _ _ _ _ _ _ front.before.front-refusal.ensures front.if1.false _ (the-hub c.before.before.before).is _ c.before.refusal.ensures
     (λ z. omega (arith, front.if1.false, c.if2.true, z))
 
 sub-last : tie.Need-overflow-sub-last
@@ -78,7 +78,7 @@ act-requires c κs =
     let r = ready _ _ _ _ _ _ u c.before.before.before.holder-of.ensures in
     let front = c.before.before.before.before.before.before.before.before.before.before.before.before.before.before.before in
     let b = fronted _ _ _ _ _ _ _ front.before.front-refusal.ensures front.if1.false in
-    (r, (ahead _ _ _ _ _ _ _ r (log_is _ _ _ _ _ u) c.before.before.plan-for.ensures, ((b.block-is, b.old-is, b.out-is), λ e. b.block-low (modify-names _ e))))
+    (r, (ahead _ _ _ _ _ _ _ r (log_is _ _ _ _ _ u) c.before.before.plan-for.ensures, ((b.block-is, b.old-is, b.out-is), λ e. b.block-low (modify_names _ e))))
 
 same-length-3 : tie.Need-same-length-3
 same-length-3 c = search rules
@@ -91,7 +91,7 @@ returns-4 c =
     let front = c.before.before.before.before.before.before.before.before.before.before.before.before.before.before.before.before.before.before.before.before in
     let right = c.before.before.before.before.before.before.before.before.before.before.before.before.before in
     let u = the-hub c.before.before.before.before.before.before.before.before.before.before.before.before.before.before.before.before in
-    ends-acted _ _ _ _ _ _ _ _ front.before.front-refusal.ensures front.if1.false _ (hub-reads _ _ _ _ _ u) _ right.before.refusal.ensures right.if2.false
+    ends_acted _ _ _ _ _ _ _ _ front.before.front-refusal.ensures front.if1.false _ (hub_reads _ _ _ _ _ u) _ right.before.refusal.ensures right.if2.false
     _ _ _ c.before.before.before.before.act.ensures
 
 pub receive-spec : {M : Type 1} → statement M

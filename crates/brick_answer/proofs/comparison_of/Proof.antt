@@ -1,4 +1,4 @@
-use Rattle.brick_answer.proofs.Laws.ComparisonLaws.{first-newer, first-promise, first-full, first-none}
+use Rattle.brick_answer.proofs.Laws.ComparisonLaws.{first_newer, first_promise, first_full, first_none}
 use borrow.Author.Rules.{rules}
 use Rattle.brick_answer.proofs.comparison_of.Statement.{statement}
 use Rattle.brick_answer.proofs.comparison_of.Tie as tie
@@ -7,22 +7,22 @@ newer-says-no-requires : tie.Need-newer-says-no-requires
 newer-says-no-requires c κs = search rules
 
 returns : tie.Need-returns
-returns c = search (rules, first-newer)
+returns c = search (rules, first_newer)
 
 promise-says-no-requires : tie.Need-promise-says-no-requires
 promise-says-no-requires c κs = search rules
 
 returns-2 : tie.Need-returns-2
-returns-2 c = search (rules, first-promise)
+returns-2 c = search (rules, first_promise)
 
 full-says-no-requires : tie.Need-full-says-no-requires
 full-says-no-requires c κs = search rules
 
 returns-3 : tie.Need-returns-3
-returns-3 c = search (rules, first-full)
+returns-3 c = search (rules, first_full)
 
 returns-4 : tie.Need-returns-4
-returns-4 c = search (rules, first-none)
+returns-4 c = search (rules, first_none)
 
 pub comparison-of-spec : {M : Type 1} → statement M
 comparison-of-spec =

@@ -1,4 +1,4 @@
-use Rattle.brick_answer.proofs.Laws.ComparisonLaws.{full-stores, full-else}
+use Rattle.brick_answer.proofs.Laws.ComparisonLaws.{full_stores, full_else}
 use borrow.Author.Rules.{rules}
 use Rattle.brick_answer.proofs.full_says_no.Statement.{statement}
 use Rattle.brick_answer.proofs.full_says_no.Tie as tie
@@ -7,10 +7,10 @@ stores-entry-requires : tie.Need-stores-entry-requires
 stores-entry-requires c κs = search rules
 
 returns : tie.Need-returns
-returns c = search (rules, full-stores)
+returns c = search (rules, full_stores)
 
 returns-2 : tie.Need-returns-2
-returns-2 c = search (rules, full-else)
+returns-2 c = search (rules, full_else)
 
 pub full-says-no-spec : {M : Type 1} → statement M
 full-says-no-spec = tie.close (tie.spec stores-entry-requires returns returns-2)

@@ -1,19 +1,19 @@
-use Rattle.brick_answer.proofs.Laws.ComparisonLaws.{newer-read, newer-other, newer-modify, newer-else}
+use Rattle.brick_answer.proofs.Laws.ComparisonLaws.{newer_read, newer_other, newer_modify, newer_else}
 use borrow.Author.Rules.{rules}
 use Rattle.brick_answer.proofs.newer_says_no.Statement.{statement}
 use Rattle.brick_answer.proofs.newer_says_no.Tie as tie
 
 returns : tie.Need-returns
-returns c = search (rules, newer-read)
+returns c = search (rules, newer_read)
 
 returns-2 : tie.Need-returns-2
-returns-2 c = search (rules, newer-other)
+returns-2 c = search (rules, newer_other)
 
 returns-3 : tie.Need-returns-3
-returns-3 c = search (rules, newer-modify)
+returns-3 c = search (rules, newer_modify)
 
 returns-4 : tie.Need-returns-4
-returns-4 c = search (rules, newer-else)
+returns-4 c = search (rules, newer_else)
 
 pub newer-says-no-spec : {M : Type 1} → statement M
 newer-says-no-spec = tie.close (tie.spec returns returns-2 returns-3 returns-4)

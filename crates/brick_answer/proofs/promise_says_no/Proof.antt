@@ -1,13 +1,13 @@
-use Rattle.brick_answer.proofs.Laws.ComparisonLaws.{promise-read, promise-else}
+use Rattle.brick_answer.proofs.Laws.ComparisonLaws.{promise_read, promise_else}
 use borrow.Author.Rules.{rules}
 use Rattle.brick_answer.proofs.promise_says_no.Statement.{statement}
 use Rattle.brick_answer.proofs.promise_says_no.Tie as tie
 
 returns : tie.Need-returns
-returns c = search (rules, promise-read)
+returns c = search (rules, promise_read)
 
 returns-2 : tie.Need-returns-2
-returns-2 c = search (rules, promise-else)
+returns-2 c = search (rules, promise_else)
 
 pub promise-says-no-spec : {M : Type 1} → statement M
 promise-says-no-spec = tie.close (tie.spec returns returns-2)

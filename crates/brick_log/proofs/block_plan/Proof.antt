@@ -1,4 +1,4 @@
-use Rattle.brick_log.proofs.Laws.LookLaws.{block_no, block-own, block-other}
+use Rattle.brick_log.proofs.Laws.LookLaws.{block_no, block_own, block_other}
 use borrow.Author.Rules.{rules}
 use Rattle.brick_log.proofs.block_plan.Statement.{statement}
 use Rattle.brick_log.proofs.block_plan.Tie as tie
@@ -16,13 +16,13 @@ reply-plan-requires-2 : tie.Need-reply-plan-requires-2
 reply-plan-requires-2 c κs = search rules
 
 returns-2 : tie.Need-returns-2
-returns-2 c = search (rules, block-own)
+returns-2 c = search (rules, block_own)
 
 reply-plan-requires-3 : tie.Need-reply-plan-requires-3
 reply-plan-requires-3 c κs = search rules
 
 returns-3 : tie.Need-returns-3
-returns-3 c = search (rules, block-other)
+returns-3 c = search (rules, block_other)
 
 pub block-plan-spec : {M : Type 1} → statement M
 block-plan-spec =

@@ -2,14 +2,14 @@ use Prim.Native.Nat.{◌-◌, ◌≤◌}
 use native.Mathlib.Omega.{arith}
 use borrow.Author.Rules.{rules}
 use mathlib.Core.Path.{◌≡◌}
-use Rattle.brick_log.proofs.Laws.LookLaws.{cut-start, cut-here, cut-next, cut-last}
-use Rattle.brick_log.specs.Workers.{logTime, cutFrom, cutFor}
+use Rattle.brick_log.proofs.Laws.LookLaws.{cut_start, cut_here, cut_next, cut_last}
+use Rattle.brick_log.specs.Workers.{log_time, cut_from, cut_for}
 use Rattle.brick_log.proofs.cut_for.Statement.{statement}
 use Rattle.brick_log.proofs.cut_for.Tie as tie
 use Rattle.image.specs.Opening.{blank}
 
 abbrev invariant-loop : tie.invariant-loop
-invariant-loop count time log last d₀ d = (d ≤ last) × (cutFrom (logTime log) time d (count - 1 - d) ≡ cutFor log count time)
+invariant-loop count time log last d₀ d = (d ≤ last) × (cut_from (log_time log) time d (count - 1 - d) ≡ cut_for log count time)
 
 abbrev decreases-loop : tie.decreases-loop
 decreases-loop count time log last d₀ d = last - d
@@ -18,7 +18,7 @@ sub-last : tie.Need-overflow-sub-last invariant-loop decreases-loop
 sub-last c = search rules
 
 loop-holds : tie.Need-loop-init invariant-loop decreases-loop
-loop-holds c = (omega arith, cut-start _ _ _)
+loop-holds c = (omega arith, cut_start _ _ _)
 
 mul-e : tie.Need-overflow-mul-e invariant-loop decreases-loop
 mul-e c = omega arith
@@ -28,7 +28,7 @@ array-copy-out-e c = omega arith
 
 returns : tie.Need-returns invariant-loop decreases-loop
 unfolding blank
-returns c = cut-here _ _ _ _ (omega arith) c.if1.true c.before.before.before.before.loop.invariant.1
+returns c = cut_here _ _ _ _ (omega arith) c.if1.true c.before.before.before.before.loop.invariant.1
 
 add-d : tie.Need-overflow-add-d invariant-loop decreases-loop
 add-d c = omega arith
@@ -38,10 +38,10 @@ loop-less c = omega arith
 
 loop-again : tie.Need-loop-preserved invariant-loop decreases-loop
 unfolding blank
-loop-again c = (omega arith, cut-next _ _ _ _ (omega arith) c.if1.false c.before.before.before.before.loop.invariant.1)
+loop-again c = (omega arith, cut_next _ _ _ _ (omega arith) c.if1.false c.before.before.before.before.loop.invariant.1)
 
 returns-2 : tie.Need-returns-2 invariant-loop decreases-loop
-returns-2 c = cut-last _ _ _ _ (omega arith) c.before.loop.invariant.1
+returns-2 c = cut_last _ _ _ _ (omega arith) c.before.loop.invariant.1
 
 pub cut-for-spec : {M : Type 1} → statement M
 cut-for-spec =

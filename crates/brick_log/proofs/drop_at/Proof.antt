@@ -1,6 +1,6 @@
 use mathlib.Core.Path.{refl}
 use Rattle.image.specs.Opening.{blank}
-use Rattle.brick_log.proofs.Laws.LookLaws.{drop-top, drop-free, drop-held}
+use Rattle.brick_log.proofs.Laws.LookLaws.{drop_top, drop_free, drop_held}
 use borrow.Author.Rules.{rules}
 use Rattle.brick_log.proofs.drop_at.Statement.{statement}
 use Rattle.brick_log.proofs.drop_at.Tie as tie
@@ -15,7 +15,7 @@ remove-plan-requires : tie.Need-remove-plan-requires
 remove-plan-requires c κs = search rules
 
 returns : tie.Need-returns
-returns c = drop-top _ _ _ _ _ refl c.before.if1.true c.remove-plan.ensures
+returns c = drop_top _ _ _ _ _ refl c.before.if1.true c.remove-plan.ensures
 
 holder-of-requires : tie.Need-holder-of-requires
 holder-of-requires c κs = search rules
@@ -28,7 +28,7 @@ remove-plan-requires-2 c κs = search rules
 
 returns-2 : tie.Need-returns-2
 returns-2 c =
-    drop-free _ _ _ _ _ _ refl c.before.before.before.if1.false c.before.before.holder-of.ensures c.before.if2.true c.remove-plan2.ensures
+    drop_free _ _ _ _ _ _ refl c.before.before.before.if1.false c.before.before.holder-of.ensures c.before.if2.true c.remove-plan2.ensures
 
 mul-e : tie.Need-overflow-mul-e
 mul-e c = search rules
@@ -42,7 +42,7 @@ remove-plan-requires-3 c κs = search rules
 returns-3 : tie.Need-returns-3
 unfolding blank
 returns-3 c =
-    drop-held _ _ _ _ _ _ refl c.before.before.before.before.if1.false c.before.before.before.holder-of.ensures c.before.before.if2.false
+    drop_held _ _ _ _ _ _ refl c.before.before.before.before.if1.false c.before.before.before.holder-of.ensures c.before.before.if2.false
     c.remove-plan3.ensures
 
 pub drop_at_spec : {M : Type 1} → statement M

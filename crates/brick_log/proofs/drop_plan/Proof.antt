@@ -1,5 +1,5 @@
 use native.Mathlib.Omega.{arith}
-use Rattle.brick_log.proofs.Laws.LookLaws.{looked-under, drop-only-one, drop-nowhere, drop-there}
+use Rattle.brick_log.proofs.Laws.LookLaws.{looked_under, drop_only_one, drop_nowhere, drop_there}
 use borrow.Author.Rules.{rules}
 use Rattle.brick_log.proofs.drop_plan.Statement.{statement}
 use Rattle.brick_log.proofs.drop_plan.Tie as tie
@@ -8,7 +8,7 @@ reply-plan-requires : tie.Need-reply-plan-requires
 reply-plan-requires c κs = search rules
 
 returns : tie.Need-returns
-returns c = drop-only-one _ _ _ _ (omega arith) c.reply-plan.ensures
+returns c = drop_only_one _ _ _ _ (omega arith) c.reply-plan.ensures
 
 find-time-requires : tie.Need-find-time-requires
 find-time-requires c κs = search rules
@@ -24,16 +24,16 @@ reply-plan-requires-2 c κs = search rules
 
 returns-2 : tie.Need-returns-2
 returns-2 c =
-    drop-nowhere _ _ _ _ _ c.before.before.before.before.if1.false c.before.before.before.find-time.ensures c.before.enum_told.given.1
+    drop_nowhere _ _ _ _ _ c.before.before.before.before.if1.false c.before.before.before.find-time.ensures c.before.enum_told.given.1
     c.reply-plan2.ensures
 
 drop-at-requires : tie.Need-drop-at-requires
 drop-at-requires c κs =
-    (looked-under _ _ _ _ c.before.before.before.find-time.ensures c.before.i.given.1, c.before.before.before.before.before.requires)
+    (looked_under _ _ _ _ c.before.before.before.find-time.ensures c.before.i.given.1, c.before.before.before.before.before.requires)
 
 returns-3 : tie.Need-returns-3
 returns-3 c =
-    drop-there _ _ _ _ _ _ c.before.before.before.before.before.if1.false c.before.before.before.before.find-time.ensures
+    drop_there _ _ _ _ _ _ c.before.before.before.before.before.if1.false c.before.before.before.before.find-time.ensures
     c.before.before.i.given.1 c.drop-at.ensures
 
 pub drop-plan-spec : {M : Type 1} → statement M

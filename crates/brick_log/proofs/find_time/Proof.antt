@@ -2,14 +2,14 @@ use mathlib.Core.Path.{◌≡◌, refl, sym, ◌∙◌}
 use Prim.Native.Nat.{◌-◌, ◌≤◌}
 use native.Mathlib.Omega.{arith}
 use borrow.Author.Tests.{eq-eqb, ne_eqb}
-use Rattle.brick_log.specs.Workers.{timeIn}
-use Rattle.brick_log.proofs.Laws.LookLaws.{last_found, last-down, last_none}
+use Rattle.brick_log.specs.Workers.{time_in}
+use Rattle.brick_log.proofs.Laws.LookLaws.{last_found, last_down, last_none}
 use Rattle.brick_log.proofs.find_time.Statement.{statement}
 use Rattle.brick_log.proofs.find_time.Tie as tie
 use Rattle.image.specs.Opening.{blank}
 
 abbrev invariant-loop : tie.invariant-loop
-invariant-loop count time log n₀ n = (n ≤ count) × (timeIn log time n ≡ timeIn log time count)
+invariant-loop count time log n₀ n = (n ≤ count) × (time_in log time n ≡ time_in log time count)
 
 abbrev decreases-loop : tie.decreases-loop
 decreases-loop count time log n₀ n = n
@@ -35,7 +35,7 @@ loop-less c = omega arith
 
 loop-again : tie.Need-loop-preserved invariant-loop decreases-loop
 unfolding blank
-loop-again c = (omega arith, sym (last-down _ _ (c.before.before.before.before.loop.n - 1) (omega arith) (ne_eqb _ _ c.if1.false)) ∙ c.before.before.before.before.loop.invariant.1)
+loop-again c = (omega arith, sym (last_down _ _ (c.before.before.before.before.loop.n - 1) (omega arith) (ne_eqb _ _ c.if1.false)) ∙ c.before.before.before.before.loop.invariant.1)
 
 returns-2 : tie.Need-returns-2 invariant-loop decreases-loop
 returns-2 c = last_none _ _ _ (omega arith) c.before.loop.invariant.1

@@ -1,12 +1,12 @@
 use mathlib.Core.Path.{refl}
 use native.Mathlib.Omega.{arith}
-use Rattle.brick_log.proofs.Laws.LookLaws.{gave-none, gave-block}
+use Rattle.brick_log.proofs.Laws.LookLaws.{gave_none, gave_block}
 use borrow.Author.Rules.{rules}
 use Rattle.brick_log.proofs.give.Statement.{statement}
 use Rattle.brick_log.proofs.give.Tie as tie
 
 returns : tie.Need-returns
-returns c = search (rules, gave-none)
+returns c = search (rules, gave_none)
 
 mul-a : tie.Need-overflow-mul-a
 mul-a c = search rules
@@ -33,7 +33,7 @@ same_length : tie.Need-same-length
 same_length c = search rules
 
 returns-2 : tie.Need-returns-2
-returns-2 c = gave-block _ _ _ _ _ _ c.before.before.before.before.before.if1.false c.before.before.before.before.before.before.before.before.requires.0 refl
+returns-2 c = gave_block _ _ _ _ _ _ c.before.before.before.before.before.if1.false c.before.before.before.before.before.before.before.before.requires.0 refl
     (omega (arith, c.before.before.before.before.before.before.before.before.requires)) c.before.before.store.ensures
 
 pub give_spec : {M : Type 1} → statement M

@@ -1,4 +1,4 @@
-use Rattle.brick_log.proofs.Laws.LookLaws.{looked-low, looks-yes, looks-no}
+use Rattle.brick_log.proofs.Laws.LookLaws.{looked_low, looks_yes, looks_no}
 use borrow.Author.Rules.{rules}
 use Rattle.brick_log.proofs.look_plan.Statement.{statement}
 use Rattle.brick_log.proofs.look_plan.Tie as tie
@@ -10,16 +10,16 @@ reply-plan-requires : tie.Need-reply-plan-requires
 reply-plan-requires c κs = search rules
 
 returns : tie.Need-returns
-returns c = search (rules, looks-no)
+returns c = search (rules, looks_no)
 
 look-under-requires : tie.Need-look-under-requires
 look-under-requires c κs = search rules
 
 entry-plan-requires : tie.Need-entry-plan-requires
-entry-plan-requires c κs = search (rules, looked-low)
+entry-plan-requires c κs = search (rules, looked_low)
 
 returns-2 : tie.Need-returns-2
-returns-2 c = search (rules, looks-yes)
+returns-2 c = search (rules, looks_yes)
 
 pub look-plan-spec : {M : Type 1} → statement M
 look-plan-spec =

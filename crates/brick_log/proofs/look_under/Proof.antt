@@ -2,14 +2,14 @@ use mathlib.Core.Path.{◌≡◌, refl, sym, ◌∙◌}
 use Prim.Native.Nat.{◌-◌, ◌≤◌}
 use native.Mathlib.Omega.{arith}
 use borrow.Author.Tests.{lt-ltb, le-ltb}
-use Rattle.brick_log.specs.Workers.{underIn}
-use Rattle.brick_log.proofs.Laws.LookLaws.{last_found, last-down, last_none}
+use Rattle.brick_log.specs.Workers.{under_in}
+use Rattle.brick_log.proofs.Laws.LookLaws.{last_found, last_down, last_none}
 use Rattle.brick_log.proofs.look_under.Statement.{statement}
 use Rattle.brick_log.proofs.look_under.Tie as tie
 use Rattle.image.specs.Opening.{blank}
 
 abbrev invariant-loop : tie.invariant-loop
-invariant-loop count max log n₀ n = (n ≤ count) × (underIn log max n ≡ underIn log max count)
+invariant-loop count max log n₀ n = (n ≤ count) × (under_in log max n ≡ under_in log max count)
 
 abbrev decreases-loop : tie.decreases-loop
 decreases-loop count max log n₀ n = n
@@ -35,7 +35,7 @@ loop-less c = omega arith
 
 loop-again : tie.Need-loop-preserved invariant-loop decreases-loop
 unfolding blank
-loop-again c = (omega arith, sym (last-down _ _ (c.before.before.before.before.loop.n - 1) (omega arith) (le-ltb _ _ c.if1.false)) ∙ c.before.before.before.before.loop.invariant.1)
+loop-again c = (omega arith, sym (last_down _ _ (c.before.before.before.before.loop.n - 1) (omega arith) (le-ltb _ _ c.if1.false)) ∙ c.before.before.before.before.loop.invariant.1)
 
 returns-2 : tie.Need-returns-2 invariant-loop decreases-loop
 returns-2 c = last_none _ _ _ (omega arith) c.before.loop.invariant.1

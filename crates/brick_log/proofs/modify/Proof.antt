@@ -1,5 +1,5 @@
 use mathlib.Core.Path.{refl}
-use Rattle.brick_log.proofs.Laws.LogChangeLaws.{modify-moved}
+use Rattle.brick_log.proofs.Laws.LogChangeLaws.{modify_moved}
 use borrow.Author.Rules.{rules}
 use Rattle.brick_log.proofs.modify.Statement.{statement}
 use Rattle.brick_log.proofs.modify.Tie as tie
@@ -19,7 +19,7 @@ same_length c = search rules
 returns : tie.Need-returns
 returns c =
     let p = c.before.before.before.before.before.before.before.before.before.before.before.before.requires in
-    modify-moved _ _ _ _ p.0 _ _ _ _ _ _ p.1.1.1 p.1.0.0 refl c.before.before.before.before.before.before.before.write-modified.ensures c.before.before.write-head.ensures
+    modify_moved _ _ _ _ p.0 _ _ _ _ _ _ p.1.1.1 p.1.0.0 refl c.before.before.before.before.before.before.before.write-modified.ensures c.before.before.write-head.ensures
 
 pub modify-spec : {M : Type 1} → statement M
 modify-spec =

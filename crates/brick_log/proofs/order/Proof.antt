@@ -1,4 +1,4 @@
-use Rattle.brick_log.proofs.Laws.LogChangeLaws.{order-moved}
+use Rattle.brick_log.proofs.Laws.LogChangeLaws.{order_moved}
 use borrow.Author.Rules.{rules}
 use Rattle.brick_log.proofs.order.Statement.{statement}
 use Rattle.brick_log.proofs.order.Tie as tie
@@ -10,7 +10,7 @@ same_length : tie.Need-same-length
 same_length c = search rules
 
 returns : tie.Need-returns
-returns c = order-moved _ _ _ _ c.before.before.before.before.before.requires _ _ c.before.before.write-head.ensures
+returns c = order_moved _ _ _ _ c.before.before.before.before.before.requires _ _ c.before.before.write-head.ensures
 
 pub order-spec : {M : Type 1} → statement M
 order-spec = tie.close (tie.spec write-head-requires same_length returns)

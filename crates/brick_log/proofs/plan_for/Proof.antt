@@ -1,4 +1,4 @@
-use Rattle.brick_log.proofs.Laws.LookLaws.{plans-trim, plans-drop, plans-read, plans-look, plans-block, plans-other}
+use Rattle.brick_log.proofs.Laws.LookLaws.{plans_trim, plans_drop, plans_read, plans_look, plans_block, plans_other}
 use borrow.Author.Rules.{rules}
 use Rattle.brick_log.proofs.plan_for.Statement.{statement}
 use Rattle.brick_log.proofs.plan_for.Tie as tie
@@ -7,13 +7,13 @@ trim-plan-requires : tie.Need-trim-plan-requires
 trim-plan-requires c κs = search rules
 
 returns : tie.Need-returns
-returns c = search (rules, plans-trim)
+returns c = search (rules, plans_trim)
 
 drop-plan-requires : tie.Need-drop-plan-requires
 drop-plan-requires c κs = search rules
 
 returns-2 : tie.Need-returns-2
-returns-2 c = search (rules, plans-drop)
+returns-2 c = search (rules, plans_drop)
 
 read-place-requires : tie.Need-read-place-requires
 read-place-requires c κs = search rules
@@ -22,25 +22,25 @@ reply-plan-requires : tie.Need-reply-plan-requires
 reply-plan-requires c κs = search rules
 
 returns-3 : tie.Need-returns-3
-returns-3 c = search (rules, plans-read)
+returns-3 c = search (rules, plans_read)
 
 look-plan-requires : tie.Need-look-plan-requires
 look-plan-requires c κs = search rules
 
 returns-4 : tie.Need-returns-4
-returns-4 c = search (rules, plans-look)
+returns-4 c = search (rules, plans_look)
 
 block-plan-requires : tie.Need-block-plan-requires
 block-plan-requires c κs = search rules
 
 returns-5 : tie.Need-returns-5
-returns-5 c = search (rules, plans-block)
+returns-5 c = search (rules, plans_block)
 
 reply-plan-requires-2 : tie.Need-reply-plan-requires-2
 reply-plan-requires-2 c κs = search rules
 
 returns-6 : tie.Need-returns-6
-returns-6 c = search (rules, plans-other)
+returns-6 c = search (rules, plans_other)
 
 pub plan-for-spec : {M : Type 1} → statement M
 plan-for-spec =

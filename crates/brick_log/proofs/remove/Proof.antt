@@ -1,12 +1,12 @@
 use native.Mathlib.Omega.{arith}
-use Rattle.image.specs.Image.{imageSize}
-use Rattle.brick_log.proofs.Laws.LogChangeLaws.{remove-none, remove_places, remove-moved}
+use Rattle.image.specs.Image.{image_size}
+use Rattle.brick_log.proofs.Laws.LogChangeLaws.{remove_none, remove_places, remove_moved}
 use borrow.Author.Rules.{rules}
 use Rattle.brick_log.proofs.remove.Statement.{statement}
 use Rattle.brick_log.proofs.remove.Tie as tie
 
 returns : tie.Need-returns
-returns c = remove-none _ _ _ _ c.before.before.before.requires.0 _ c.if1.true
+returns c = remove_none _ _ _ _ c.before.before.before.requires.0 _ c.if1.true
 
 add-above : tie.Need-overflow-add-above
 add-above c = search rules
@@ -23,7 +23,7 @@ sub-shift-blocks : tie.Need-overflow-sub-shift-blocks
 sub-shift-blocks c = search rules
 
 shift-blocks-requires : tie.Need-shift-blocks-requires
-unfolding imageSize
+unfolding image_size
 shift-blocks-requires c κs =
     let p = c.before.before.before.before.before.before.before.before.before.before.requires in
     omega (arith, p.0.saved.long, p.0.high, p.1.within, c.before.before.before.before.hold-own.auto)
@@ -38,7 +38,7 @@ add-clear-blocks-2 : tie.Need-overflow-add-clear-blocks-2
 add-clear-blocks-2 c = search rules
 
 clear-blocks-requires : tie.Need-clear-blocks-requires
-unfolding imageSize
+unfolding image_size
 clear-blocks-requires c κs =
     let p = c.before.before.before.before.before.before.before.before.before.before.before.before.before.before.before.before.before.requires in
     let held = c.before.before.before.before.before.before.before.before.before.before.before in
@@ -61,7 +61,7 @@ returns-2 c =
     let held = shifted.before.before.before.before.before in
     let some = held.before.before.before in
     let p = some.before.before.before.requires in
-    remove-moved _ _ _ _ p.0 _ _ _ _ _ p.1 some.if1.false held.hold-own.ensures shifted.shift-blocks.ensures cleared.clear-blocks.ensures
+    remove_moved _ _ _ _ p.0 _ _ _ _ _ p.1 some.if1.false held.hold-own.ensures shifted.shift-blocks.ensures cleared.clear-blocks.ensures
     c.before.before.write-head.ensures
 
 pub remove-spec : {M : Type 1} → statement M

@@ -1,10 +1,10 @@
 use mathlib.Core.Path.{refl}
-use Rattle.brick_log.specs.Workers.{removePlan}
+use Rattle.brick_log.specs.Workers.{remove_plan}
 use Rattle.brick_log.proofs.remove_plan.Statement.{statement}
 use Rattle.brick_log.proofs.remove_plan.Tie as tie
 
 returns : tie.Need-returns
-unfolding removePlan
+unfolding remove_plan
 returns c = refl
 
 pub remove-plan-spec : {M : Type 1} → statement M

@@ -1,6 +1,6 @@
 use native.Mathlib.Omega.{arith}
 use Rattle.image.specs.Opening.{blank}
-use Rattle.brick_log.proofs.Laws.LookLaws.{cut_low, trim-plan}
+use Rattle.brick_log.proofs.Laws.LookLaws.{cut_low, trim_plan_lem}
 use borrow.Author.Rules.{rules}
 use Rattle.brick_log.proofs.trim_plan.Statement.{statement}
 use Rattle.brick_log.proofs.trim_plan.Tie as tie
@@ -22,7 +22,7 @@ remove-plan-requires c κs = search rules
 
 returns : tie.Need-returns
 unfolding blank
-returns c = trim-plan _ _ _ _ _ _ c.before.before.before.cut-for.ensures c.before.holder-of.ensures c.remove-plan.ensures
+returns c = trim_plan_lem _ _ _ _ _ _ c.before.before.before.cut-for.ensures c.before.holder-of.ensures c.remove-plan.ensures
 
 pub trim-plan-spec : {M : Type 1} → statement M
 trim-plan-spec =

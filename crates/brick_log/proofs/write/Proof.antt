@@ -1,7 +1,7 @@
 use mathlib.Core.Path.{refl}
 use native.Mathlib.Omega.{arith}
-use Rattle.image.specs.Image.{imageSize}
-use Rattle.brick_log.proofs.Laws.LogChangeLaws.{write-moved}
+use Rattle.image.specs.Image.{image_size}
+use Rattle.brick_log.proofs.Laws.LogChangeLaws.{write_moved}
 use borrow.Author.Rules.{rules}
 use Rattle.brick_log.proofs.write.Statement.{statement}
 use Rattle.brick_log.proofs.write.Tie as tie
@@ -13,7 +13,7 @@ mul-write-entry : tie.Need-overflow-mul-write-entry
 mul-write-entry c = search rules
 
 write-entry-requires : tie.Need-write-entry-requires
-unfolding imageSize
+unfolding image_size
 write-entry-requires c κs =
     let p = c.before.before.before.before.requires in
     (omega (arith, p.0.saved.long, p.1.1), omega (arith, p.1.0, p.0.saved.range.code.size-high))
@@ -27,7 +27,7 @@ same_length c = search rules
 returns : tie.Need-returns
 returns c =
     let p = c.before.before.before.before.before.before.before.before.before.before.before.requires in
-    write-moved _ _ _ _ p.0 _ _ _ _ _ _ p.1.1 p.1.0 refl refl c.before.before.before.before.before.before.write-entry.ensures c.before.before.write-head.ensures
+    write_moved _ _ _ _ p.0 _ _ _ _ _ _ p.1.1 p.1.0 refl refl c.before.before.before.before.before.before.write-entry.ensures c.before.before.write-head.ensures
 
 pub write_spec : {M : Type 1} → statement M
 write_spec =

@@ -1,6 +1,6 @@
 use native.Mathlib.Omega.{arith}
-use Rattle.image.specs.Image.{imageSize}
-use Rattle.brick_log.proofs.Laws.LogChangeLaws.{modified-own, modified-mark, modified-parity}
+use Rattle.image.specs.Image.{image_size}
+use Rattle.brick_log.proofs.Laws.LogChangeLaws.{modified_own, modified_mark, modified_parity}
 use borrow.Author.Rules.{rules}
 use Rattle.brick_log.proofs.write_modified.Statement.{statement}
 use Rattle.brick_log.proofs.write_modified.Tie as tie
@@ -12,7 +12,7 @@ mul_at : tie.Need-overflow-mul-at
 mul_at c = search rules
 
 write-entry-requires : tie.Need-write-entry-requires
-unfolding imageSize
+unfolding image_size
 write-entry-requires c κs =
     let start = c.before.before.before.before.before.before.before in
     let r = start.requires.0 in
@@ -24,10 +24,10 @@ same_length c = search rules
 returns : tie.Need-returns
 returns c =
     let start = c.before.before.before.before.before.before.before.before.before.before in
-    modified-own _ _ _ _ start.requires.0 _ _ _ c.before.before.before.before.if1.true _ _ c.before.before.write-entry.ensures
+    modified_own _ _ _ _ start.requires.0 _ _ _ c.before.before.before.before.if1.true _ _ c.before.before.write-entry.ensures
 
 write-mark-requires : tie.Need-write-mark-requires
-unfolding imageSize
+unfolding image_size
 write-mark-requires c κs = let start = c.before.before.before.before.before.before.before.before.before in omega (arith, start.requires.0.saved.long, start.requires.1.1.1)
 
 same-length-2 : tie.Need-same-length-2
@@ -36,7 +36,7 @@ same-length-2 c = search rules
 returns-2 : tie.Need-returns-2
 returns-2 c =
     let start = c.before.before.before.before.before.before.before.before.before.before.before.before in
-    modified-mark _ _ _ _ start.requires.0 _ _ _ c.before.before.before.before.before.before.if1.false c.before.before.before.before.if2.true _ _
+    modified_mark _ _ _ _ start.requires.0 _ _ _ c.before.before.before.before.before.before.if1.false c.before.before.before.before.if2.true _ _
     c.before.before.write-mark.ensures
 
 write-recoded-requires : tie.Need-write-recoded-requires
@@ -48,7 +48,7 @@ same-length-3 c = search rules
 returns-3 : tie.Need-returns-3
 returns-3 c =
     let start = c.before.before.before.before.before.before.before.before.before.before.before.before in
-    modified-parity _ _ _ _ start.requires.0 _ _ _ c.before.before.before.before.before.before.if1.false c.before.before.before.before.if2.false _ _
+    modified_parity _ _ _ _ start.requires.0 _ _ _ c.before.before.before.before.before.before.if1.false c.before.before.before.before.if2.false _ _
     c.before.before.write-recoded.ensures
 
 pub write-modified-spec : {M : Type 1} → statement M

@@ -1,5 +1,5 @@
 use mathlib.Core.Path.{sym}
-use Rattle.brick_log.proofs.Laws.LogChangeLaws.{prefix-length}
+use Rattle.brick_log.proofs.Laws.LogChangeLaws.{prefix_length}
 use borrow.Author.Rules.{rules}
 use Rattle.brick_log.proofs.write_recoded_by.Statement.{statement}
 use Rattle.brick_log.proofs.write_recoded_by.Tie as tie
@@ -8,12 +8,12 @@ slice-relend-prefix-write-recoded-in : tie.Need-slice-relend-prefix-write-recode
 slice-relend-prefix-write-recoded-in c = search rules
 
 slice-aggregate-write-recoded-in : tie.Need-slice-aggregate-write-recoded-in
-slice-aggregate-write-recoded-in c = sym (prefix-length _ _ c.before.before.before.before.before.before.requires.1.0.2)
+slice-aggregate-write-recoded-in c = sym (prefix_length _ _ c.before.before.before.before.before.before.requires.1.0.2)
 
 write-recoded-in-requires : tie.Need-write-recoded-in-requires
 write-recoded-in-requires c κs =
     let start = c.before.before.before.before.before.before in
-    (start.requires.0, ((start.requires.1.0.0, start.requires.1.0.1, prefix-length _ _ start.requires.1.0.2), start.requires.1.1))
+    (start.requires.0, ((start.requires.1.0.0, start.requires.1.0.1, prefix_length _ _ start.requires.1.0.2), start.requires.1.1))
 
 same_length : tie.Need-same-length
 same_length c = search rules

@@ -1,7 +1,7 @@
 use mathlib.Core.Path.{refl}
 use native.Mathlib.Omega.{arith}
-use Rattle.image.specs.Image.{imageSize}
-use Rattle.brick_log.proofs.Laws.LogChangeLaws.{holder-high, recoded-written}
+use Rattle.image.specs.Image.{image_size}
+use Rattle.brick_log.proofs.Laws.LogChangeLaws.{holder_high, recoded_written}
 use borrow.Author.Rules.{rules}
 use Rattle.brick_log.proofs.write_recoded_in.Statement.{statement}
 use Rattle.brick_log.proofs.write_recoded_in.Tie as tie
@@ -9,17 +9,17 @@ use Rattle.brick_log.proofs.write_recoded_in.Tie as tie
 mul-from : tie.Need-overflow-mul-from
 mul-from c =
     let r = c.before.before.before.before.before.requires.0 in
-    omega (arith, holder-high _ _ _ _ r, r.high, r.most)
+    omega (arith, holder_high _ _ _ _ r, r.high, r.most)
 
 add-from : tie.Need-overflow-add-from
 add-from c =
     let r = c.before.before.before.before.before.requires.0 in
-    omega (arith, holder-high _ _ _ _ r, r.high, r.most)
+    omega (arith, holder_high _ _ _ _ r, r.high, r.most)
 
 add-e : tie.Need-overflow-add-e
 add-e c =
     let r = c.before.before.before.before.before.before.requires.0 in
-    omega (arith, holder-high _ _ _ _ r, r.high, r.most, r.saved.range.code.size-high)
+    omega (arith, holder_high _ _ _ _ r, r.high, r.most, r.saved.range.code.size-high)
 
 sub-recode-into : tie.Need-overflow-sub-recode-into
 sub-recode-into c = search rules
@@ -28,10 +28,10 @@ part-recode-into-start : tie.Need-slice-bounds-recode-into-start
 part-recode-into-start c = search rules
 
 part-recode-into-end : tie.Need-slice-bounds-recode-into-end
-unfolding imageSize
+unfolding image_size
 part-recode-into-end c =
     let r = c.before.before.before.before.before.before.before.requires.0 in
-    omega (arith, holder-high _ _ _ _ r, r.high, r.saved.long, r.saved.range.code.size-high)
+    omega (arith, holder_high _ _ _ _ r, r.high, r.saved.long, r.saved.range.code.size-high)
 
 recode-into-requires : tie.Need-recode-into-requires
 recode-into-requires c κs = search rules
@@ -43,7 +43,7 @@ mul-write-entry : tie.Need-overflow-mul-write-entry
 mul-write-entry c = search rules
 
 write-entry-requires : tie.Need-write-entry-requires
-unfolding imageSize
+unfolding image_size
 write-entry-requires c κs =
     let start = c.before.before.before.before.before.before.before.before.before.before.before.before.before.before.before in
     let coded = c.before.before.before.before.before in
@@ -62,7 +62,7 @@ returns : tie.Need-returns
 returns c =
     let start = c.before.before.before.before.before.before.before.before.before.before.before.before.before.before.before.before.before.before in
     let coded = c.before.before.before.before.before.before.before.before in
-    recoded-written _ _ _ _ start.requires.0 _ _ _ _ _ _ _ _ refl refl coded.recode-into.ensures c.before.before.write-entry.ensures
+    recoded_written _ _ _ _ start.requires.0 _ _ _ _ _ _ _ _ refl refl coded.recode-into.ensures c.before.before.write-entry.ensures
 
 pub write-recoded-in-spec : {M : Type 1} → statement M
 write-recoded-in-spec =

@@ -17,13 +17,13 @@ pub record Comparing (a b : List ℕ) (differ p : ℕ) : Type 0 where
   pub rest : differ ≡ 0 → same (drop p a) (drop p b) ≡ same a b
   pub found : (differ ≡ 0 → ⊥) → same a b ≡ false
 
-pub comparing-none : (a b : List ℕ) → Comparing a b 0 0
-comparing-none a b = record { high = omega arith; rest = λ z. refl; found = λ z. absurd (z refl) }
+pub comparing_none : (a b : List ℕ) → Comparing a b 0 0
+comparing_none a b = record { high = omega arith; rest = λ z. refl; found = λ z. absurd (z refl) }
 
 module _ (a b : List ℕ) (n : length a ≡ length b) where
-  same-on : (differ p : ℕ) → p < length b → get_or a p 0 ≡ get_or b p 0 → Comparing a b differ p → Comparing a b differ (p + 1)
+  same_on : (differ p : ℕ) → p < length b → get_or a p 0 ≡ get_or b p 0 → Comparing a b differ p → Comparing a b differ (p + 1)
   unfolding same
-  same-on differ p h e c =
+  same_on differ p h e c =
       record {
         high = omega arith;
         rest = λ z. rw add-one
@@ -35,22 +35,22 @@ module _ (a b : List ℕ) (n : length a ≡ length b) where
   unfolding same
   differs p h e = rw (drop-cons a p 0 (omega arith), drop-cons b p 0 (omega arith), ne_eqb (get_or a p 0) (get_or b p 0) e) refl
 
-  pub comparing-same : (differ now p : ℕ) → now ≡ differ → p < length b → get_or a p 0 ≡ get_or b p 0 → Comparing a b differ p → Comparing a b now (p + 1)
-  comparing-same differ now p k h e c = subst (λ (d : ℕ). Comparing a b d (p + 1)) (sym k) (same-on differ p h e c)
+  pub comparing_same : (differ now p : ℕ) → now ≡ differ → p < length b → get_or a p 0 ≡ get_or b p 0 → Comparing a b differ p → Comparing a b now (p + 1)
+  comparing_same differ now p k h e c = subst (λ (d : ℕ). Comparing a b d (p + 1)) (sym k) (same_on differ p h e c)
 
-  other-on : (differ p : ℕ) → p < length b → (get_or a p 0 ≡ get_or b p 0 → ⊥) → Comparing a b differ p → Comparing a b 1 (p + 1)
-  other-on differ p h e c = record { high = omega arith; rest = λ z. absurd (omega (arith, z)); found = λ z. go differ refl }
+  other_on : (differ p : ℕ) → p < length b → (get_or a p 0 ≡ get_or b p 0 → ⊥) → Comparing a b differ p → Comparing a b 1 (p + 1)
+  other_on differ p h e c = record { high = omega arith; rest = λ z. absurd (omega (arith, z)); found = λ z. go differ refl }
     where
       go : (k : ℕ) → differ ≡ k → same a b ≡ false
       go zero z = sym (c.rest z) ∙ differs p h e
       go (suc k) z = c.found (λ w. omega (arith, z, w))
 
-  pub comparing-other : (differ now p : ℕ) → now ≡ 1 → p < length b → (get_or a p 0 ≡ get_or b p 0 → ⊥) → Comparing a b differ p → Comparing a b now (p + 1)
-  comparing-other differ now p k h e c = subst (λ (d : ℕ). Comparing a b d (p + 1)) (sym k) (other-on differ p h e c)
+  pub comparing_other : (differ now p : ℕ) → now ≡ 1 → p < length b → (get_or a p 0 ≡ get_or b p 0 → ⊥) → Comparing a b differ p → Comparing a b now (p + 1)
+  comparing_other differ now p k h e c = subst (λ (d : ℕ). Comparing a b d (p + 1)) (sym k) (other_on differ p h e c)
 
-  pub comparing-all : (differ p : ℕ) → length b ≤ p → Comparing a b differ p → eqb differ 0 ≡ same a b
+  pub comparing_all : (differ p : ℕ) → length b ≤ p → Comparing a b differ p → eqb differ 0 ≡ same a b
   unfolding same
-  comparing-all differ p h c = go differ refl
+  comparing_all differ p h c = go differ refl
     where
       go : (k : ℕ) → differ ≡ k → eqb differ 0 ≡ same a b
       go zero z =

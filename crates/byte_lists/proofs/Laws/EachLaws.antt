@@ -21,10 +21,10 @@ unfolding each
 each_all p zero h = refl
 each_all p (suc k) h = rw (each_all p k (λ i l. h i (omega arith)), h k (le_refl _))
 
-pub each-ext : (p q : ℕ → Bool) (k : ℕ) → ((i : ℕ) → p i ≡ q i) → each p k ≡ each q k
+pub each_ext : (p q : ℕ → Bool) (k : ℕ) → ((i : ℕ) → p i ≡ q i) → each p k ≡ each q k
 unfolding each
-each-ext p q zero h = refl
-each-ext p q (suc k) h = rw (each-ext p q k h, h k)
+each_ext p q zero h = refl
+each_ext p q (suc k) h = rw (each_ext p q k h, h k)
 
 pub each_at : (p : ℕ → Bool) (k i : ℕ) → each p k ≡ true → i < k → p i ≡ true
 unfolding each
@@ -36,17 +36,17 @@ each_at p (suc k) i e h = go (each p k) (p k) refl refl e (eq-or-lt_of_le (le_of
     go true b ea eb ab (inr l) ih = ih ea l
     go false b ea eb ab w ih = let z : ◌≡◌ {A = ℕ} 0 1 = cc in absurd (omega arith)
 
-pub each-not : (p : ℕ → Bool) (k i : ℕ) → i < k → p i ≡ false → each p k ≡ false
-each-not p k i l e = go (each p k) refl
+pub each_not : (p : ℕ → Bool) (k i : ℕ) → i < k → p i ≡ false → each p k ≡ false
+each_not p k i l e = go (each p k) refl
   where
     go : (a : Bool) → each p k ≡ a → a ≡ false
     go true ea = sym (each_at p k i ea l) ∙ e
     go false ea = refl
 
-pub some-none : (p : ℕ → Bool) (k : ℕ) → ((i : ℕ) → i < k → p i ≡ false) → some p k ≡ false
+pub some_none : (p : ℕ → Bool) (k : ℕ) → ((i : ℕ) → i < k → p i ≡ false) → some p k ≡ false
 unfolding some
-some-none p zero h = refl
-some-none p (suc k) h = rw (some-none p k (λ i l. h i (omega arith)), h k (le_refl _))
+some_none p zero h = refl
+some_none p (suc k) h = rw (some_none p k (λ i l. h i (omega arith)), h k (le_refl _))
 
 pub some_at : (p : ℕ → Bool) (k i : ℕ) → some p k ≡ false → i < k → p i ≡ false
 unfolding some
@@ -58,18 +58,18 @@ some_at p (suc k) i e h = go (some p k) (p k) refl refl e (eq-or-lt_of_le (le_of
     go false b ea eb ab (inr l) ih = ih ea l
     go true b ea eb ab w ih = let z : ◌≡◌ {A = ℕ} 0 1 = cc in absurd (omega arith)
 
-pub some-found : (p : ℕ → Bool) (k i : ℕ) → i < k → p i ≡ true → some p k ≡ true
-some-found p k i l e = go (some p k) refl
+pub some_found : (p : ℕ → Bool) (k i : ℕ) → i < k → p i ≡ true → some p k ≡ true
+some_found p k i l e = go (some p k) refl
   where
     go : (a : Bool) → some p k ≡ a → a ≡ true
     go false ea = sym (some_at p k i ea l) ∙ e
     go true ea = refl
 
 -- a search that succeeds finds a number
-pub some-witness : (p : ℕ → Bool) (n : ℕ) → some p n ≡ true → (b : ℕ) × (b < n) × (p b ≡ true)
+pub some_witness : (p : ℕ → Bool) (n : ℕ) → some p n ≡ true → (b : ℕ) × (b < n) × (p b ≡ true)
 unfolding some
-some-witness p zero e = absurd (true≢false (sym e))
-some-witness p (suc n) e = go (p n) refl (some p n) refl e (some-witness p n)
+some_witness p zero e = absurd (true≢false (sym e))
+some_witness p (suc n) e = go (p n) refl (some p n) refl e (some_witness p n)
   where
     go : (x : Bool) → p n ≡ x → (y : Bool) → some p n ≡ y → y || x ≡ true → (some p n ≡ true → (b : ℕ) × (b < n) × (p b ≡ true))
         → (b : ℕ) × (b < suc n) × (p b ≡ true)

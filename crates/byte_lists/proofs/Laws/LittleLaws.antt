@@ -13,43 +13,43 @@ use lib.Seq.{drop-cons, take-add, drop-drop}
 use Rattle.byte_lists.specs.Little.{byte_of, little, number, Bytes, are_bytes, limit}
 use Rattle.byte_lists.proofs.Laws.BoolLaws.{and_left, and_right}
 
-pub little-length : (k n : ℕ) → length (little k n) ≡ k
+pub little_length : (k n : ℕ) → length (little k n) ≡ k
 unfolding little
-little-length zero n = refl
-little-length (suc k) n = ap suc (little-length k (n / 256))
+little_length zero n = refl
+little_length (suc k) n = ap suc (little_length k (n / 256))
 
 -- a number below the limit is what its bytes stand for
-pub number-little : (k n : ℕ) → n < limit k → number (little k n) ≡ n
+pub number_little : (k n : ℕ) → n < limit k → number (little k n) ≡ n
 unfolding little number limit byte_of
-number-little zero n h = omega arith
-number-little (suc k) n h =
-    let ih = number-little k (n / 256) (omega arith) in
+number_little zero n h = omega arith
+number_little (suc k) n h =
+    let ih = number_little k (n / 256) (omega arith) in
     omega arith
 
 -- bytes are those of the number that they stand for
-pub little-number : (bs : List ℕ) → Bytes bs → little (length bs) (number bs) ≡ bs
+pub little_number : (bs : List ℕ) → Bytes bs → little (length bs) (number bs) ≡ bs
 unfolding little number Bytes byte_of
-little-number [] h = refl
-little-number (b ∷ bs) h =
+little_number [] h = refl
+little_number (b ∷ bs) h =
     let h0 : b < 256 = h.0 in
     let e0 : (b + 256 * number bs) % 256 ≡ b = omega arith in
     let e1 : (b + 256 * number bs) / 256 ≡ number bs = omega arith in
-    ap₂ (λ (x : ℕ) (xs : List ℕ). x ∷ xs) e0 (ap (λ (x : ℕ). little (length bs) x) e1 ∙ little-number bs h.1)
+    ap₂ (λ (x : ℕ) (xs : List ℕ). x ∷ xs) e0 (ap (λ (x : ℕ). little (length bs) x) e1 ∙ little_number bs h.1)
 
 -- the limits of the widths that are used
-pub limit-2 : limit 2 ≡ 65536
+pub limit_2 : limit 2 ≡ 65536
 unfolding limit
-limit-2 = refl
+limit_2 = refl
 
-pub limit-8 : limit 8 ≡ 2 ^ 64
+pub limit_8 : limit 8 ≡ 2 ^ 64
 unfolding limit
-limit-8 = refl
+limit_8 = refl
 
 -- the ways of the readers
-pub number-2 : (l : List ℕ) (at low high : ℕ) → at + 2 ≤ length l → low ≡ get_or l at 0 → high ≡ get_or l (at + 1) 0
+pub number_2 : (l : List ℕ) (at low high : ℕ) → at + 2 ≤ length l → low ≡ get_or l at 0 → high ≡ get_or l (at + 1) 0
     → low + 256 * high ≡ number (take 2 (drop at l))
 unfolding number
-number-2 l at low high h e f =
+number_2 l at low high h e f =
     rw (drop-cons l at 0 (omega arith), drop-cons l (suc at) 0 (omega arith), e, f, add-one)
     (omega arith)
 
@@ -75,29 +75,29 @@ half l at k low high h e f =
     ∙ sym g
     ∙ ap number (sym t)
 
-pub number-4 : (l : List ℕ) (at low high : ℕ) → at + 4 ≤ length l
+pub number_4 : (l : List ℕ) (at low high : ℕ) → at + 4 ≤ length l
     → low ≡ number (take 2 (drop at l)) → high ≡ number (take 2 (drop (at + 2) l))
     → low + 65536 * high ≡ number (take 4 (drop at l))
 unfolding limit
-number-4 l at low high h e f = half l at 2 low high (omega arith) e f
+number_4 l at low high h e f = half l at 2 low high (omega arith) e f
 
-pub number-8 : (l : List ℕ) (at low high : ℕ) → at + 8 ≤ length l
+pub number_8 : (l : List ℕ) (at low high : ℕ) → at + 8 ≤ length l
     → low ≡ number (take 4 (drop at l)) → high ≡ number (take 4 (drop (at + 4) l))
     → low + 4294967296 * high ≡ number (take 8 (drop at l))
 unfolding limit
-number-8 l at low high h e f = half l at 4 low high (omega arith) e f
+number_8 l at low high h e f = half l at 4 low high (omega arith) e f
 
 -- the bytes of a number as a writer stores them
-pub little-2 : (n b0 b1 : ℕ) → b0 ≡ byte_of n → b1 ≡ byte_of (n / 256) → b0 ∷ b1 ∷ [] ≡ little 2 n
+pub little_2 : (n b0 b1 : ℕ) → b0 ≡ byte_of n → b1 ≡ byte_of (n / 256) → b0 ∷ b1 ∷ [] ≡ little 2 n
 unfolding little
-little-2 n b0 b1 e0 e1 = cc
+little_2 n b0 b1 e0 e1 = cc
 
-pub little-8 : (n b0 b1 b2 b3 b4 b5 b6 b7 : ℕ) → b0 ≡ byte_of n → b1 ≡ byte_of (n / 256) → b2 ≡ byte_of (n / 65536)
+pub little_8 : (n b0 b1 b2 b3 b4 b5 b6 b7 : ℕ) → b0 ≡ byte_of n → b1 ≡ byte_of (n / 256) → b2 ≡ byte_of (n / 65536)
     → b3 ≡ byte_of (n / 16777216) → b4 ≡ byte_of (n / 4294967296) → b5 ≡ byte_of (n / 1099511627776)
     → b6 ≡ byte_of (n / 281474976710656) → b7 ≡ byte_of (n / 72057594037927936)
     → b0 ∷ b1 ∷ b2 ∷ b3 ∷ b4 ∷ b5 ∷ b6 ∷ b7 ∷ [] ≡ little 8 n
 unfolding little
-little-8 n b0 b1 b2 b3 b4 b5 b6 b7 e0 e1 e2 e3 e4 e5 e6 e7 =
+little_8 n b0 b1 b2 b3 b4 b5 b6 b7 e0 e1 e2 e3 e4 e5 e6 e7 =
     let d2 : n / 65536 ≡ n / 256 / 256 = omega arith in
     let d3 : n / 16777216 ≡ n / 256 / 256 / 256 = omega arith in
     let d4 : n / 4294967296 ≡ n / 256 / 256 / 256 / 256 = omega arith in
@@ -107,24 +107,24 @@ little-8 n b0 b1 b2 b3 b4 b5 b6 b7 e0 e1 e2 e3 e4 e5 e6 e7 =
     cc
 
 -- the test for bytes says what it should
-pub are-bytes : (l : List ℕ) → are_bytes l ≡ true → Bytes l
+pub are_bytes_lem : (l : List ℕ) → are_bytes l ≡ true → Bytes l
 unfolding Bytes are_bytes
-are-bytes [] e = tt
-are-bytes (b ∷ l) e = (ltb-true b 256 (and_left (ltb b 256) (are_bytes l) e), are-bytes l (and_right (ltb b 256) (are_bytes l) e))
+are_bytes_lem [] e = tt
+are_bytes_lem (b ∷ l) e = (ltb-true b 256 (and_left (ltb b 256) (are_bytes l) e), are_bytes_lem l (and_right (ltb b 256) (are_bytes l) e))
 
-pub bytes-pass : (l : List ℕ) → Bytes l → are_bytes l ≡ true
+pub bytes_pass : (l : List ℕ) → Bytes l → are_bytes l ≡ true
 unfolding Bytes are_bytes
-bytes-pass [] h = refl
-bytes-pass (b ∷ l) h = rw (lt-ltb b 256 h.0, bytes-pass l h.1) refl
+bytes_pass [] h = refl
+bytes_pass (b ∷ l) h = rw (lt-ltb b 256 h.0, bytes_pass l h.1) refl
 
 -- a byte at each place
-pub byte-below : (l : List ℕ) → Bytes l → (i : ℕ) → get_or l i 0 < 256
+pub byte_below : (l : List ℕ) → Bytes l → (i : ℕ) → get_or l i 0 < 256
 unfolding Bytes
-byte-below [] b i = omega arith
-byte-below (x ∷ l) b zero = b.0
-byte-below (x ∷ l) b (suc i) = byte-below l b.1 i
+byte_below [] b i = omega arith
+byte_below (x ∷ l) b zero = b.0
+byte_below (x ∷ l) b (suc i) = byte_below l b.1 i
 
-pub zeros-bytes : (n : ℕ) → Bytes (replicate n 0)
+pub zeros_bytes : (n : ℕ) → Bytes (replicate n 0)
 unfolding Bytes
-zeros-bytes zero = tt
-zeros-bytes (suc n) = (omega arith, zeros-bytes n)
+zeros_bytes zero = tt
+zeros_bytes (suc n) = (omega arith, zeros_bytes n)

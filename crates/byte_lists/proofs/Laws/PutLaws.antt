@@ -14,15 +14,15 @@ unfolding put
 put_is at x l = append_assoc (take at l) x (drop (at + length x) l)
 
 -- as the code stores a part
-pub put-mid : (at end : ℕ) (l x : List ℕ) → at ≤ end → length x ≡ end - at → put_mid at (end - at) l x ≡ put at x l
-put-mid at end l x h e =
+pub put_mid_lem : (at end : ℕ) (l x : List ℕ) → at ≤ end → length x ≡ end - at → put_mid at (end - at) l x ≡ put at x l
+put_mid_lem at end l x h e =
     ap (λ (t : List ℕ). take at l ++ (x ++ t)) (Post-is at end l h)
     ∙ ap (λ (k : ℕ). take at l ++ (x ++ drop k l)) (let q : end ≡ at + length x = omega arith in q)
     ∙ sym (put_is at x l)
 
-pub put-length : (at : ℕ) (x l : List ℕ) → at + length x ≤ length l → length (put at x l) ≡ length l
+pub put_length : (at : ℕ) (x l : List ℕ) → at + length x ≤ length l → length (put at x l) ≡ length l
 unfolding put
-put-length at x l h = simp (length-append, length-take, length-drop) (omega arith)
+put_length at x l h = simp (length-append, length-take, length-drop) (omega arith)
 
 -- the part itself
 pub put_in : (at k : ℕ) (x l : List ℕ) → length x ≡ k → at ≤ length l → take k (drop at (put at x l)) ≡ x
@@ -39,24 +39,24 @@ put_first at n x l hn h =
     ∙ take-take n at l hn
 
 -- a part depends only on what stands before its end
-pub drop-take : (p n : ℕ) (l : List ℕ) → drop p (take (p + n) l) ≡ take n (drop p l)
-drop-take zero n l = let e : 0 + n ≡ n = omega arith in ap (λ (m : ℕ). take m l) e
-drop-take (suc p) n [] = ap (drop (suc p)) (take-nil (suc p + n)) ∙ sym (take-nil n)
-drop-take (suc p) n (x ∷ l) =
+pub drop_take : (p n : ℕ) (l : List ℕ) → drop p (take (p + n) l) ≡ take n (drop p l)
+drop_take zero n l = let e : 0 + n ≡ n = omega arith in ap (λ (m : ℕ). take m l) e
+drop_take (suc p) n [] = ap (drop (suc p)) (take-nil (suc p + n)) ∙ sym (take-nil n)
+drop_take (suc p) n (x ∷ l) =
     let e : suc p + n ≡ suc (p + n) = omega arith in
-    ap (λ (m : ℕ). drop (suc p) (take m (x ∷ l))) e ∙ drop-take p n l
+    ap (λ (m : ℕ). drop (suc p) (take m (x ∷ l))) e ∙ drop_take p n l
 
-pub cut-same : (p n e : ℕ) (l l' : List ℕ) → p + n ≤ e → take e l' ≡ take e l → take n (drop p l') ≡ take n (drop p l)
-cut-same p n e l l' h s =
+pub cut_same : (p n e : ℕ) (l l' : List ℕ) → p + n ≤ e → take e l' ≡ take e l → take n (drop p l') ≡ take n (drop p l)
+cut_same p n e l l' h s =
     let shorter : take (p + n) l' ≡ take (p + n) l = sym (take-take (p + n) e l' h) ∙ ap (take (p + n)) s ∙ take-take (p + n) e l h in
-    sym (drop-take p n l') ∙ ap (drop p) shorter ∙ drop-take p n l
+    sym (drop_take p n l') ∙ ap (drop p) shorter ∙ drop_take p n l
 
-pub put-before : (at b k : ℕ) (x l : List ℕ) → b + k ≤ at → at ≤ length l → take k (drop b (put at x l)) ≡ take k (drop b l)
-put-before at b k x l h f = cut-same b k at l (put at x l) h (put_first at at x l (omega arith) f)
+pub put_before : (at b k : ℕ) (x l : List ℕ) → b + k ≤ at → at ≤ length l → take k (drop b (put at x l)) ≡ take k (drop b l)
+put_before at b k x l h f = cut_same b k at l (put at x l) h (put_first at at x l (omega arith) f)
 
 -- what stands behind it
-pub put-behind : (at b k : ℕ) (x l : List ℕ) → at + length x ≤ b → at ≤ length l → take k (drop b (put at x l)) ≡ take k (drop b l)
-put-behind at b k x l h f =
+pub put_behind : (at b k : ℕ) (x l : List ℕ) → at + length x ≤ b → at ≤ length l → take k (drop b (put at x l)) ≡ take k (drop b l)
+put_behind at b k x l h f =
     let e : b ≡ at + length x + (b - (at + length x)) = omega arith in
     ap (λ (j : ℕ). take k (drop j (put at x l))) e
     ∙ ap (take k) (sym (drop-drop (b - (at + length x)) (at + length x) (put at x l)))
@@ -77,11 +77,11 @@ pub record Pasted (d s : List ℕ) (at i : ℕ) (l : List ℕ) : Type 0 where
   pub so_far : i ≤ length s
   pub left_by : l ≡ paste d at s i
 
-pub pasted-none : (d s : List ℕ) (at : ℕ) → at + length s ≤ length d → Pasted d s at 0 d
-pasted-none d s at h = record { within = h; so_far = omega arith; left_by = paste-zero d at s }
+pub pasted_none : (d s : List ℕ) (at : ℕ) → at + length s ≤ length d → Pasted d s at 0 d
+pasted_none d s at h = record { within = h; so_far = omega arith; left_by = paste-zero d at s }
 
-pub pasted-more : (d s l : List ℕ) (at i : ℕ) → i < length s → Pasted d s at i l → Pasted d s at (i + 1) (set l (at + i) (get_or s i 0))
-pasted-more d s l at i h p =
+pub pasted_more : (d s l : List ℕ) (at i : ℕ) → i < length s → Pasted d s at i l → Pasted d s at (i + 1) (set l (at + i) (get_or s i 0))
+pasted_more d s l at i h p =
     record {
       within = p.within;
       so_far = omega arith;
@@ -91,9 +91,9 @@ pasted-more d s l at i h p =
 pub pasted_length : (d s l : List ℕ) (at i : ℕ) → Pasted d s at i l → length l ≡ length d
 pasted_length d s l at i p = ap length p.left_by ∙ length-paste d at s i (omega (arith, p.within, p.so_far)) p.so_far
 
-pub pasted-all : (d s l : List ℕ) (at i : ℕ) → length s ≤ i → Pasted d s at i l → l ≡ put at s d
+pub pasted_all : (d s l : List ℕ) (at i : ℕ) → length s ≤ i → Pasted d s at i l → l ≡ put at s d
 unfolding put
-pasted-all d s l at i h p =
+pasted_all d s l at i h p =
     let e : i ≡ length s = omega (arith, p.so_far) in
     p.left_by ∙ rw (e, take-length s)
 

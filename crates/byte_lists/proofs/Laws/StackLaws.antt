@@ -10,7 +10,7 @@ use lib.ListN.{length, take, drop, length-append, length-drop}
 use lib.Seq.{length-take-le, take_all, take_at, drop_at, take-append-le, drop-append-le}
 use borrow.Rule.Slice.PartMut.{put_mid, post_of, same_len_mid}
 use Rattle.byte_lists.specs.Lists.{stacked}
-use Rattle.byte_lists.proofs.Laws.TabulateLaws.{length-stacked}
+use Rattle.byte_lists.proofs.Laws.TabulateLaws.{length_stacked}
 
 pub part_length : (size : ℕ) (blocks : List ℕ) (at : ℕ) → at + size ≤ length blocks → length (take (at + size - at) (drop at blocks)) ≡ size
 part_length size blocks at h =
@@ -22,21 +22,21 @@ pub record Stacked (f : ℕ → List ℕ) (size : ℕ) (old out : List ℕ) (x a
   pub place : at ≡ x * size
   pub size-kept : length out ≡ length old
 
-pub stacked-none : (f : ℕ → List ℕ) (size : ℕ) (old : List ℕ) → Stacked f size old old 0 0
+pub stacked_none : (f : ℕ → List ℕ) (size : ℕ) (old : List ℕ) → Stacked f size old old 0 0
 unfolding stacked
-stacked-none f size old = record { done = refl; place = sym (zero-mul size); size-kept = refl }
+stacked_none f size old = record { done = refl; place = sym (zero-mul size); size-kept = refl }
 
-pub stacked-all : (f : ℕ → List ℕ) (size : ℕ) (old out : List ℕ) (x at count : ℕ) → Stacked f size old out x at → count ≤ x → x ≤ count
+pub stacked_all : (f : ℕ → List ℕ) (size : ℕ) (old out : List ℕ) (x at count : ℕ) → Stacked f size old out x at → count ≤ x → x ≤ count
     → length old ≡ count * size → out ≡ stacked count f
-stacked-all f size old out x at count h a b e =
+stacked_all f size old out x at count h a b e =
     let same : x ≡ count = omega arith in
     let q = ap (λ (j : ℕ). j * size) same in
     sym (take_all at out (let k = h.size-kept in let p = h.place in omega arith)) ∙ h.done ∙ ap (λ (j : ℕ). stacked j f) same
 
-pub stacked-more : (f : ℕ → List ℕ) (size : ℕ) (old out ys : List ℕ) (x at : ℕ) → Stacked f size old out x at → at + size ≤ length out
+pub stacked_more : (f : ℕ → List ℕ) (size : ℕ) (old out ys : List ℕ) (x at : ℕ) → Stacked f size old out x at → at + size ≤ length out
     → length ys ≡ size → ys ≡ f x → Stacked f size old (put_mid at (at + size - at) out ys) (x + 1) (at + size)
 unfolding stacked
-stacked-more f size old out ys x at h u l e =
+stacked_more f size old out ys x at h u l e =
     let s : at + size - at ≡ size = omega arith in
     record {
       done =
@@ -50,13 +50,13 @@ stacked-more f size old out ys x at h u l e =
     }
 
 -- the list at a place of a row
-pub stacked-part : (n size : ℕ) (f : ℕ → List ℕ) (k : ℕ) → ((i : ℕ) → length (f i) ≡ size) → k < n → take size (drop (k * size) (stacked n f)) ≡ f k
+pub stacked_part : (n size : ℕ) (f : ℕ → List ℕ) (k : ℕ) → ((i : ℕ) → length (f i) ≡ size) → k < n → take size (drop (k * size) (stacked n f)) ≡ f k
 unfolding stacked
-stacked-part zero size f k e h = absurd (omega arith)
-stacked-part (suc n) size f k e h = go (eq-or-lt_of_le (let v : k ≤ n = omega arith in v)) (stacked-part n size f k e)
+stacked_part zero size f k e h = absurd (omega arith)
+stacked_part (suc n) size f k e h = go (eq-or-lt_of_le (let v : k ≤ n = omega arith in v)) (stacked_part n size f k e)
   where
     long : length (stacked n f) ≡ n * size
-    long = length-stacked n size f e
+    long = length_stacked n size f e
 
     go : (k ≡ n) ⊎ (k < n) → (k < n → take size (drop (k * size) (stacked n f)) ≡ f k) → take size (drop (k * size) (stacked n f ++ f n)) ≡ f k
     go (inl q) ih =

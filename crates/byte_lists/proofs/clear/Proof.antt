@@ -2,7 +2,7 @@ use native.Mathlib.Omega.{arith}
 use lib.ListN.{length}
 use mathlib.Core.Path.{refl, ◌∙◌}
 use Prim.Native.Nat.{ℕ, ◌-◌, ◌≤◌}
-use Rattle.byte_lists.proofs.Laws.TabulateLaws.{Filled, filled_none, filled_more, filled-all, zeros-are}
+use Rattle.byte_lists.proofs.Laws.TabulateLaws.{Filled, filled_none, filled_more, filled_all, zeros_are}
 use Rattle.byte_lists.proofs.clear.Statement.{statement}
 use Rattle.byte_lists.proofs.clear.Tie as tie
 
@@ -31,7 +31,7 @@ same_length : tie.Need-same-length invariant-loop decreases-loop
 same_length c = c.before.loop.invariant.0.size
 
 returns : tie.Need-returns invariant-loop decreases-loop
-returns c = filled-all _ _ _ _ c.before.loop.invariant.0 (omega arith) ∙ zeros-are _
+returns c = filled_all _ _ _ _ c.before.loop.invariant.0 (omega arith) ∙ zeros_are _
 
 pub clear_spec : {M : Type 1} → statement M
 clear_spec =

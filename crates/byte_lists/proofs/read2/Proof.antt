@@ -1,4 +1,4 @@
-use Rattle.byte_lists.proofs.Laws.LittleLaws.{number-2}
+use Rattle.byte_lists.proofs.Laws.LittleLaws.{number_2}
 use borrow.Author.Rules.{rules}
 use Rattle.byte_lists.proofs.read2.Statement.{statement}
 use Rattle.byte_lists.proofs.read2.Tie as tie
@@ -25,7 +25,7 @@ add-result : tie.Need-overflow-add-result
 add-result c = search rules
 
 returns : tie.Need-returns
-returns c = search (rules, number-2)
+returns c = search (rules, number_2)
 
 pub read2-spec : {M : Type 1} → statement M
 read2-spec =

@@ -1,4 +1,4 @@
-use Rattle.byte_lists.proofs.Laws.LittleLaws.{number-4}
+use Rattle.byte_lists.proofs.Laws.LittleLaws.{number_4}
 use borrow.Author.Rules.{rules}
 use Rattle.byte_lists.proofs.read4.Statement.{statement}
 use Rattle.byte_lists.proofs.read4.Tie as tie
@@ -19,7 +19,7 @@ add-result : tie.Need-overflow-add-result
 add-result c = search rules
 
 returns : tie.Need-returns
-returns c = search (rules, number-4)
+returns c = search (rules, number_4)
 
 pub read4-spec : {M : Type 1} → statement M
 read4-spec =

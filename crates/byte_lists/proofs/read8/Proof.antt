@@ -1,4 +1,4 @@
-use Rattle.byte_lists.proofs.Laws.LittleLaws.{number-8}
+use Rattle.byte_lists.proofs.Laws.LittleLaws.{number_8}
 use borrow.Author.Rules.{rules}
 use Rattle.byte_lists.proofs.read8.Statement.{statement}
 use Rattle.byte_lists.proofs.read8.Tie as tie
@@ -19,7 +19,7 @@ add-result : tie.Need-overflow-add-result
 add-result c = search rules
 
 returns : tie.Need-returns
-returns c = search (rules, number-8)
+returns c = search (rules, number_8)
 
 pub read8-spec : {M : Type 1} → statement M
 read8-spec =

@@ -2,7 +2,7 @@ use Prim.Native.Nat.{◌-◌}
 use native.Mathlib.Omega.{arith}
 use mathlib.Core.Logic.{⊎_elim}
 use lib.ListN.{length}
-use Rattle.byte_lists.proofs.Laws.CompareLaws.{Comparing, comparing-none, comparing-same, comparing-other, comparing-all}
+use Rattle.byte_lists.proofs.Laws.CompareLaws.{Comparing, comparing_none, comparing_same, comparing_other, comparing_all}
 use Rattle.byte_lists.proofs.same_bytes.Statement.{statement}
 use Rattle.byte_lists.proofs.same_bytes.Tie as tie
 
@@ -13,7 +13,7 @@ abbrev decreases-loop : tie.decreases-loop
 decreases-loop a b differ₀ p₀ differ p = length b - p
 
 loop-holds : tie.Need-loop-init invariant-loop decreases-loop
-loop-holds c = comparing-none _ _
+loop-holds c = comparing_none _ _
 
 shared-slice-read-if1 : tie.Need-shared-slice-read-if1 invariant-loop decreases-loop
 shared-slice-read-if1 c = omega arith
@@ -33,12 +33,12 @@ loop-again c =
     let n = s.before.requires in
     let h = c.before.before.before.loop-test.true in
     ⊎_elim
-    (λ w. comparing-other _ _ n _ _ _ w.1 h w.0.taken s.loop.invariant)
-    (λ w. comparing-same _ _ n _ _ _ w.1 h w.0.left s.loop.invariant)
+    (λ w. comparing_other _ _ n _ _ _ w.1 h w.0.taken s.loop.invariant)
+    (λ w. comparing_same _ _ n _ _ _ w.1 h w.0.left s.loop.invariant)
     c.if1.branch
 
 returns : tie.Need-returns invariant-loop decreases-loop
-returns c = comparing-all _ _ c.before.before.requires _ _ c.loop-test.false c.before.loop.invariant
+returns c = comparing_all _ _ c.before.before.requires _ _ c.loop-test.false c.before.loop.invariant
 
 pub same-bytes-spec : {M : Type 1} → statement M
 same-bytes-spec =

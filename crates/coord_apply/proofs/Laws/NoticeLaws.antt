@@ -4,59 +4,59 @@ use mathlib.Core.Bool.{Bool, true, false, cond}
 use mathlib.Core.List.{List}
 use Prim.Native.Nat.{ℕ, ◌≤◌}
 use native.Mathlib.Omega.{arith}
-use Rattle.coord_apply.specs.Acts.{seenBlock, finishedSeen, namedBricks}
-use Rattle.coord_apply.specs.Answers.{okSeen, readSeen}
-use Rattle.coord_record.specs.Records.{isReading, onBlock, targetCount, noBricks}
+use Rattle.coord_apply.specs.Acts.{seen_block, finished_seen, named_bricks}
+use Rattle.coord_apply.specs.Answers.{ok_seen, read_seen}
+use Rattle.coord_record.specs.Records.{is_reading, on_block, target_count, no_bricks}
 use Rattle.coord_record.specs.declared.Op.{Op}
-use Rattle.coord_tally.specs.Counting.{targetRow}
-use Rattle.message.specs.Kinds.{blockTargets}
-use Rattle.message.specs.Messages.{namesBlock}
+use Rattle.coord_tally.specs.Counting.{target_row}
+use Rattle.message.specs.Kinds.{block_targets}
+use Rattle.message.specs.Messages.{names_block}
 use Rattle.settings.specs.Ranges.{CodeRange}
 
 -- the block that a message names
-pub names-one : (op : Op) (b : Bool) → b ≡ namesBlock op.phase → b ≡ true → op.first ≡ cond (namesBlock op.phase) op.first 0
-names-one op b e z = rw (← e, z)
+pub names_one : (op : Op) (b : Bool) → b ≡ names_block op.phase → b ≡ true → op.first ≡ cond (names_block op.phase) op.first 0
+names_one op b e z = rw (← e, z)
 
-pub names-no-block : (op : Op) (b : Bool) → b ≡ namesBlock op.phase → b ≡ false → 0 ≡ cond (namesBlock op.phase) op.first 0
-names-no-block op b e z = rw (← e, z)
+pub names_no_block : (op : Op) (b : Bool) → b ≡ names_block op.phase → b ≡ false → 0 ≡ cond (names_block op.phase) op.first 0
+names_no_block op b e z = rw (← e, z)
 
 -- an operation on one block, and one on the stripe
-module _ (op : Op) (b : Bool) (e : b ≡ onBlock op.kind) where
-  pub seen-block : b ≡ true → op.first ≡ seenBlock op
-  unfolding seenBlock
-  seen-block z = rw (← e, z)
+module _ (op : Op) (b : Bool) (e : b ≡ on_block op.kind) where
+  pub seen_block_lem : b ≡ true → op.first ≡ seen_block op
+  unfolding seen_block
+  seen_block_lem z = rw (← e, z)
 
-  pub seen-stripe : b ≡ false → 0 ≡ seenBlock op
-  unfolding seenBlock
-  seen-stripe z = rw (← e, z)
+  pub seen_stripe : b ≡ false → 0 ≡ seen_block op
+  unfolding seen_block
+  seen_stripe z = rw (← e, z)
 
 -- a read, and a write
-module _ (op : Op) (r : Bool) (e : r ≡ isReading op.kind) where
-  pub finished-read : r ≡ true → readSeen ≡ finishedSeen op
-  unfolding finishedSeen
-  finished-read z = rw (← e, z)
+module _ (op : Op) (r : Bool) (e : r ≡ is_reading op.kind) where
+  pub finished_read : r ≡ true → read_seen ≡ finished_seen op
+  unfolding finished_seen
+  finished_read z = rw (← e, z)
 
-  pub finished-write : r ≡ false → okSeen ≡ finishedSeen op
-  unfolding finishedSeen
-  finished-write z = rw (← e, z)
+  pub finished_write : r ≡ false → ok_seen ≡ finished_seen op
+  unfolding finished_seen
+  finished_write z = rw (← e, z)
 
-  pub named-read : (row : List ℕ) → r ≡ true → row ≡ namedBricks op row
-  unfolding namedBricks
-  named-read row z = rw (← e, z)
+  pub named_read : (row : List ℕ) → r ≡ true → row ≡ named_bricks op row
+  unfolding named_bricks
+  named_read row z = rw (← e, z)
 
-  pub named-write : (row : List ℕ) → r ≡ false → noBricks ≡ namedBricks op row
-  unfolding namedBricks
-  named-write row z = rw (← e, z)
+  pub named_write : (row : List ℕ) → r ≡ false → no_bricks ≡ named_bricks op row
+  unfolding named_bricks
+  named_write row z = rw (← e, z)
 
 -- a row of targets has at most n
-pub few-targets : (n m size kind k : ℕ) → CodeRange n m size → k ≡ targetCount m kind → k ≤ n
-unfolding targetCount
-few-targets n m size kind k r e = go (onBlock kind) e
+pub few_targets : (n m size kind k : ℕ) → CodeRange n m size → k ≡ target_count m kind → k ≤ n
+unfolding target_count
+few_targets n m size kind k r e = go (on_block kind) e
   where
-    go : (b : Bool) → k ≡ cond b blockTargets m → k ≤ n
+    go : (b : Bool) → k ≡ cond b block_targets m → k ≤ n
     go true q = omega (arith, r.n-low)
     go false q = omega (arith, r.m-high)
 
 -- the row of targets that a read names
-pub target-row-by : (n m first kind k : ℕ) (row : List ℕ) → row ≡ targetRow n k first → k ≡ targetCount m kind → row ≡ targetRow n (targetCount m kind) first
-target-row-by n m first kind k row er e = er ∙ ap (λ (j : ℕ). targetRow n j first) e
+pub target_row_by : (n m first kind k : ℕ) (row : List ℕ) → row ≡ target_row n k first → k ≡ target_count m kind → row ≡ target_row n (target_count m kind) first
+target_row_by n m first kind k row er e = er ∙ ap (λ (j : ℕ). target_row n j first) e

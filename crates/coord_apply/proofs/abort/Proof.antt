@@ -1,6 +1,6 @@
 use mathlib.Core.Path.{refl, ◌∙◌}
-use Rattle.coord_record.specs.Records.{noBricks}
-use Rattle.coord_apply.proofs.Laws.ActLaws.{aborted-letter, end_by}
+use Rattle.coord_record.specs.Records.{no_bricks}
+use Rattle.coord_apply.proofs.Laws.ActLaws.{aborted_letter, end_by}
 use borrow.Author.Rules.{rules}
 use Rattle.coord_apply.proofs.abort.Statement.{statement}
 use Rattle.coord_apply.proofs.abort.Tie as tie
@@ -15,9 +15,9 @@ end-requires : tie.Need-end-requires
 end-requires c κs = search rules
 
 returns : tie.Need-returns
-unfolding noBricks
+unfolding no_bricks
 returns c =
-    end_by _ _ _ _ _ _ _ _ _ _ _ c.end.ensures refl (c.before.before.abort-letter.ensures ∙ aborted-letter _ _ _) refl c.before.no-message.ensures
+    end_by _ _ _ _ _ _ _ _ _ _ _ c.end.ensures refl (c.before.before.abort-letter.ensures ∙ aborted_letter _ _ _) refl c.before.no-message.ensures
 
 pub abort-spec : {M : Type 1} → statement M
 abort-spec = tie.close (tie.spec abort-letter-requires no-message-requires end-requires returns)

@@ -1,4 +1,4 @@
-use Rattle.coord_apply.specs.Workers.{endAnswer}
+use Rattle.coord_apply.specs.Workers.{end_answer}
 use borrow.Author.Rules.{rules}
 use Rattle.coord_apply.proofs.end.Statement.{statement}
 use Rattle.coord_apply.proofs.end.Tie as tie
@@ -13,7 +13,7 @@ notice-of-requires : tie.Need-notice-of-requires
 notice-of-requires c κs = search rules
 
 returns : tie.Need-returns
-unfolding endAnswer
+unfolding end_answer
 returns c = cc
 
 pub end-spec : {M : Type 1} → statement M

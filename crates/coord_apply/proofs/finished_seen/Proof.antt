@@ -1,4 +1,4 @@
-use Rattle.coord_apply.proofs.Laws.NoticeLaws.{finished-read, finished-write}
+use Rattle.coord_apply.proofs.Laws.NoticeLaws.{finished_read, finished_write}
 use borrow.Author.Rules.{rules}
 use Rattle.coord_apply.proofs.finished_seen.Statement.{statement}
 use Rattle.coord_apply.proofs.finished_seen.Tie as tie
@@ -7,10 +7,10 @@ is-reading-requires : tie.Need-is-reading-requires
 is-reading-requires c κs = search rules
 
 returns : tie.Need-returns
-returns c = search (rules, finished-read)
+returns c = search (rules, finished_read)
 
 returns-2 : tie.Need-returns-2
-returns-2 c = search (rules, finished-write)
+returns-2 c = search (rules, finished_write)
 
 pub finished-seen-spec : {M : Type 1} → statement M
 finished-seen-spec = tie.close (tie.spec is-reading-requires returns returns-2)

@@ -1,5 +1,5 @@
-use Rattle.coord_apply.proofs.Laws.NoticeLaws.{few-targets, target-row-by}
-use Rattle.coord_apply.proofs.Laws.ActLaws.{decision-blocks, given-letter, end_by}
+use Rattle.coord_apply.proofs.Laws.NoticeLaws.{few_targets, target_row_by}
+use Rattle.coord_apply.proofs.Laws.ActLaws.{decision_blocks, given_letter, end_by}
 use mathlib.Core.Path.{refl, ◌∙◌}
 use borrow.Author.Rules.{rules}
 use Rattle.coord_apply.proofs.give.Statement.{statement}
@@ -9,12 +9,12 @@ target-count-requires : tie.Need-target-count-requires
 target-count-requires c κs = search rules
 
 target-row-requires : tie.Need-target-row-requires
-target-row-requires c κs = let p = c.before.before.before.before.requires in ((p.range.n-high, few-targets _ _ _ _ _ p.range c.target-count.ensures), p.first-low)
+target-row-requires c κs = let p = c.before.before.before.before.requires in ((p.range.n-high, few_targets _ _ _ _ _ p.range c.target-count.ensures), p.first-low)
 
 take-given-requires : tie.Need-take-given-requires
 take-given-requires c κs = (
-  decision-blocks _ _ _ _ _ _ c.before.before.before.before.before.before.requires,
-  target-row-by _ _ _ _ _ _ c.before.target_row.ensures c.before.before.target-count.ensures,
+  decision_blocks _ _ _ _ _ _ c.before.before.before.before.before.before.requires,
+  target_row_by _ _ _ _ _ _ c.before.target_row.ensures c.before.before.target-count.ensures,
 )
 
 read-letter-requires : tie.Need-read-letter-requires
@@ -33,8 +33,8 @@ returns : tie.Need-returns
 returns c =
     let w = c.before.before.before.before.before.before.before.before in
     let r = c.before.before.before.before.before.before.before in (
-      end_by _ _ _ _ _ _ _ _ _ _ _ c.end.ensures refl (c.before.before.read-letter.ensures ∙ given-letter _ _ _)
-          (target-row-by _ _ _ _ _ _ r.target_row.ensures w.target-count.ensures) c.before.no-message.ensures,
+      end_by _ _ _ _ _ _ _ _ _ _ _ c.end.ensures refl (c.before.before.read-letter.ensures ∙ given_letter _ _ _)
+          (target_row_by _ _ _ _ _ _ r.target_row.ensures w.target-count.ensures) c.before.no-message.ensures,
       c.before.before.before.before.before.take-given.ensures,
     )
 

@@ -1,5 +1,5 @@
-use Rattle.coord_record.specs.Records.{noBricks}
-use Rattle.coord_apply.proofs.Laws.FirstLaws.{drop-answered, plain-answered}
+use Rattle.coord_record.specs.Records.{no_bricks}
+use Rattle.coord_apply.proofs.Laws.FirstLaws.{drop_answered, plain_answered}
 use borrow.Author.Rules.{rules}
 use Rattle.coord_apply.proofs.look.Statement.{statement}
 use Rattle.coord_apply.proofs.look.Tie as tie
@@ -14,14 +14,14 @@ preceded-requires : tie.Need-preceded-requires
 preceded-requires c κs = search rules
 
 returns : tie.Need-returns
-unfolding noBricks
+unfolding no_bricks
 returns c =
-    drop-answered _ _ _ _ c.before.before.before.before.«open».ensures _ _ c.before.before.if1.true c.before.clear-message.ensures
+    drop_answered _ _ _ _ c.before.before.before.before.«open».ensures _ _ c.before.before.if1.true c.before.clear-message.ensures
     c.preceded.ensures
 
 returns-2 : tie.Need-returns-2
-unfolding noBricks
-returns-2 c = plain-answered _ _ _ _ c.before.before.«open».ensures c.if1.false
+unfolding no_bricks
+returns-2 c = plain_answered _ _ _ _ c.before.before.«open».ensures c.if1.false
 
 pub look_spec : {M : Type 1} → statement M
 look_spec =

@@ -1,4 +1,4 @@
-use Rattle.coord_apply.proofs.Laws.NoticeLaws.{names-one, names-no-block}
+use Rattle.coord_apply.proofs.Laws.NoticeLaws.{names_one, names_no_block}
 use borrow.Author.Rules.{rules}
 use Rattle.coord_apply.proofs.named_block.Statement.{statement}
 use Rattle.coord_apply.proofs.named_block.Tie as tie
@@ -7,10 +7,10 @@ names-block-requires : tie.Need-names-block-requires
 names-block-requires c κs = search rules
 
 returns : tie.Need-returns
-returns c = search (rules, names-one)
+returns c = search (rules, names_one)
 
 returns-2 : tie.Need-returns-2
-returns-2 c = search (rules, names-no-block)
+returns-2 c = search (rules, names_no_block)
 
 pub named-block-spec : {M : Type 1} → statement M
 named-block-spec = tie.close (tie.spec names-block-requires returns returns-2)

@@ -1,5 +1,5 @@
-use Rattle.coord_record.specs.Records.{noBricks}
-use Rattle.coord_apply.proofs.Laws.NoticeLaws.{named-read, named-write}
+use Rattle.coord_record.specs.Records.{no_bricks}
+use Rattle.coord_apply.proofs.Laws.NoticeLaws.{named_read, named_write}
 use borrow.Author.Rules.{rules}
 use Rattle.coord_apply.proofs.named_bricks.Statement.{statement}
 use Rattle.coord_apply.proofs.named_bricks.Tie as tie
@@ -8,11 +8,11 @@ is-reading-requires : tie.Need-is-reading-requires
 is-reading-requires c κs = search rules
 
 returns : tie.Need-returns
-returns c = search (rules, named-read)
+returns c = search (rules, named_read)
 
 returns-2 : tie.Need-returns-2
-unfolding noBricks
-returns-2 c = search (rules, named-write)
+unfolding no_bricks
+returns-2 c = search (rules, named_write)
 
 pub named-bricks-spec : {M : Type 1} → statement M
 named-bricks-spec = tie.close (tie.spec is-reading-requires returns returns-2)

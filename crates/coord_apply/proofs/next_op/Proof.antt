@@ -1,5 +1,5 @@
 use mathlib.Core.Path.{refl}
-use Rattle.coord_apply.specs.Acts.{nextOp}
+use Rattle.coord_apply.specs.Acts.{next_op}
 use borrow.Author.Rules.{rules}
 use Rattle.coord_apply.proofs.next_op.Statement.{statement}
 use Rattle.coord_apply.proofs.next_op.Tie as tie
@@ -8,7 +8,7 @@ add-t4 : tie.Need-overflow-add-t4
 add-t4 c = search rules
 
 returns : tie.Need-returns
-unfolding nextOp
+unfolding next_op
 returns c = refl
 
 pub next-op-spec : {M : Type 1} → statement M

@@ -1,6 +1,6 @@
-use Rattle.coord_record.specs.Records.{noBricks}
+use Rattle.coord_record.specs.Records.{no_bricks}
 use Rattle.coord_apply.specs.Acts.{opened}
-use Rattle.coord_apply.specs.Workers.{openAnswer}
+use Rattle.coord_apply.specs.Workers.{open_answer}
 use borrow.Author.Rules.{rules}
 use Rattle.coord_apply.proofs.open.Statement.{statement}
 use Rattle.coord_apply.proofs.open.Tie as tie
@@ -21,7 +21,7 @@ nothing-seen-requires : tie.Need-nothing-seen-requires
 nothing-seen-requires c κs = search rules
 
 returns : tie.Need-returns
-unfolding openAnswer opened noBricks
+unfolding open_answer opened no_bricks
 returns c = cc
 
 pub open_spec : {M : Type 1} → statement M

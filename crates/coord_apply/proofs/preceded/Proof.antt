@@ -1,10 +1,10 @@
 use mathlib.Core.Path.{refl}
-use Rattle.coord_apply.specs.Workers.{precededAnswer}
+use Rattle.coord_apply.specs.Workers.{preceded_answer}
 use Rattle.coord_apply.proofs.preceded.Statement.{statement}
 use Rattle.coord_apply.proofs.preceded.Tie as tie
 
 returns : tie.Need-returns
-unfolding precededAnswer
+unfolding preceded_answer
 returns c = refl
 
 pub preceded-spec : {M : Type 1} → statement M

@@ -1,5 +1,5 @@
-use Rattle.coord_blocks.proofs.Laws.OneBlockLaws.{stored-by, agreeing-by}
-use Rattle.coord_apply.proofs.Laws.ActLaws.{givers-by, givers-first, givers-decode}
+use Rattle.coord_blocks.proofs.Laws.OneBlockLaws.{stored_by, agreeing_by}
+use Rattle.coord_apply.proofs.Laws.ActLaws.{givers_by, givers_first, givers_decode}
 use borrow.Author.Rules.{rules}
 use Rattle.coord_apply.proofs.recover.Statement.{statement}
 use Rattle.coord_apply.proofs.recover.Tie as tie
@@ -10,7 +10,7 @@ pick-requires c κs = search rules
 decode-stored-requires : tie.Need-decode-stored-requires
 decode-stored-requires c κs =
     let s = c.before.before.before.before.before.before.before.before in let p = s.requires.0 in
-    (givers-decode _ _ _ _ _ _ _ _ p.range s.requires.1.0 c.before.pick.ensures _ s.requires.1.1 p.blocks-length, (p.block-low, p.stripe-length))
+    (givers_decode _ _ _ _ _ _ _ _ p.range s.requires.1.0 c.before.pick.ensures _ s.requires.1.1 p.blocks-length, (p.block-low, p.stripe-length))
 
 same_length : tie.Need-same-length
 same_length c = search rules
@@ -21,9 +21,9 @@ returns c =
     let s = c.before.before.before.before.before.before.before.before.before.before.before in
     let p = s.requires.0 in
     let row = c.before.before.before.before.pick.ensures in
-    let all = givers-by _ _ _ _ _ _ _ _ p.range s.requires.1.0 row in
-    let first = givers-first _ _ _ _ _ _ _ _ p.range s.requires.1.0 row _ s.requires.1.1 p.blocks-length in
-    (agreeing-by _ _ d.result _ _ _ d.ensures.0 all, stored-by _ _ d.result _ _ _ _ d.ensures.1 first)
+    let all = givers_by _ _ _ _ _ _ _ _ p.range s.requires.1.0 row in
+    let first = givers_first _ _ _ _ _ _ _ _ p.range s.requires.1.0 row _ s.requires.1.1 p.blocks-length in
+    (agreeing_by _ _ d.result _ _ _ d.ensures.0 all, stored_by _ _ d.result _ _ _ _ d.ensures.1 first)
 
 pub recover-spec : {M : Type 1} → statement M
 recover-spec =

@@ -1,5 +1,5 @@
 use native.Mathlib.Omega.{arith}
-use Rattle.coord_apply.proofs.Laws.ActLaws.{acted-recover, acted-disagreed}
+use Rattle.coord_apply.proofs.Laws.ActLaws.{acted_recover, acted_disagreed}
 use borrow.Author.Rules.{rules}
 use Rattle.coord_apply.proofs.recover_and_store.Statement.{statement}
 use Rattle.coord_apply.proofs.recover_and_store.Tie as tie
@@ -26,7 +26,7 @@ returns : tie.Need-returns
 returns c =
     let r = c.before.before.before.before.before.before.before.before.recover in
     let s = c.before.before.Store-found in
-    acted-recover _ _ _ _ _ _ _ _ _ r.result _ _ r.ensures.0 c.before.before.before.before.before.if1.true r.ensures.1 s.ensures.1 s.ensures.0
+    acted_recover _ _ _ _ _ _ _ _ _ r.result _ _ r.ensures.0 c.before.before.before.before.before.if1.true r.ensures.1 s.ensures.1 s.ensures.0
 
 abort-requires : tie.Need-abort-requires
 abort-requires c κs = search rules
@@ -37,7 +37,7 @@ same-length-3 c = search rules
 returns-2 : tie.Need-returns-2
 returns-2 c =
     let r = c.before.before.before.before.recover in
-    acted-disagreed _ _ _ _ _ _ _ _ _ r.result _ r.ensures.0 c.before.if1.false r.ensures.1 c.abort.ensures
+    acted_disagreed _ _ _ _ _ _ _ _ _ r.result _ r.ensures.0 c.before.if1.false r.ensures.1 c.abort.ensures
 
 pub recover-and-store-spec : {M : Type 1} → statement M
 recover-and-store-spec =

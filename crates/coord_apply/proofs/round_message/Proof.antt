@@ -1,4 +1,4 @@
-use Rattle.coord_apply.specs.Acts.{roundMessage}
+use Rattle.coord_apply.specs.Acts.{round_message}
 use borrow.Author.Rules.{rules}
 use Rattle.coord_apply.proofs.round_message.Statement.{statement}
 use Rattle.coord_apply.proofs.round_message.Tie as tie
@@ -7,7 +7,7 @@ named-block-requires : tie.Need-named-block-requires
 named-block-requires c κs = search rules
 
 returns : tie.Need-returns
-unfolding roundMessage
+unfolding round_message
 returns c = cc
 
 pub round-message-spec : {M : Type 1} → statement M

@@ -1,4 +1,4 @@
-use Rattle.coord_apply.proofs.Laws.NoticeLaws.{seen-block, seen-stripe}
+use Rattle.coord_apply.proofs.Laws.NoticeLaws.{seen_block_lem, seen_stripe}
 use borrow.Author.Rules.{rules}
 use Rattle.coord_apply.proofs.seen_block.Statement.{statement}
 use Rattle.coord_apply.proofs.seen_block.Tie as tie
@@ -7,10 +7,10 @@ on-block-requires : tie.Need-on-block-requires
 on-block-requires c κs = search rules
 
 returns : tie.Need-returns
-returns c = search (rules, seen-block)
+returns c = search (rules, seen_block_lem)
 
 returns-2 : tie.Need-returns-2
-returns-2 c = search (rules, seen-stripe)
+returns-2 c = search (rules, seen_stripe)
 
 pub seen-block-spec : {M : Type 1} → statement M
 seen-block-spec = tie.close (tie.spec on-block-requires returns returns-2)

@@ -1,4 +1,4 @@
-use Rattle.coord_apply.proofs.Laws.FirstLaws.{found-answered}
+use Rattle.coord_apply.proofs.Laws.FirstLaws.{found_answered}
 use borrow.Author.Rules.{rules}
 use Rattle.coord_apply.proofs.store_found.Statement.{statement}
 use Rattle.coord_apply.proofs.store_found.Tie as tie
@@ -18,7 +18,7 @@ same_length c = search rules
 returns : tie.Need-returns
 returns c =
     let s = c.before.before.before.store in
-    (found-answered _ _ _ _ _ _ _ c.trim-first.ensures s.ensures.0 c.before.before.before.before.before.recovery-names.ensures, s.ensures.1)
+    (found_answered _ _ _ _ _ _ _ c.trim-first.ensures s.ensures.0 c.before.before.before.before.before.recovery-names.ensures, s.ensures.1)
 
 pub store-found-spec : {M : Type 1} → statement M
 store-found-spec =

@@ -1,4 +1,4 @@
-use Rattle.coord_blocks.proofs.Laws.OneBlockLaws.{put_back, left-as-it-was}
+use Rattle.coord_blocks.proofs.Laws.OneBlockLaws.{put_back, left_as_it_was}
 use lib.Seq.{length-take-le}
 use mathlib.Core.Path.{sym, ◌∙◌}
 use native.Mathlib.Omega.{arith}
@@ -69,7 +69,7 @@ same-length-4 c = search rules
 returns-2 : tie.Need-returns-2
 returns-2 c =
     let d = c.before.before.before.check-from in
-    (sym c.if1.false ∙ d.ensures.0, left-as-it-was d.result _ _ _ c.if1.false d.ensures.1)
+    (sym c.if1.false ∙ d.ensures.0, left_as_it_was d.result _ _ _ c.if1.false d.ensures.1)
 
 pub check-around-spec : {M : Type 1} → statement M
 check-around-spec =

@@ -3,7 +3,7 @@ use mathlib.Core.List.{◌++◌}
 use lib.Seq.{length-take-le}
 use mathlib.Core.Path.{◌≡◌, sym, ◌∙◌}
 use Prim.Native.Nat.{◌*◌}
-use Rattle.coord_blocks.proofs.Laws.BufferLaws.{front_long, handed-decodes, agreeing-is, checked-is}
+use Rattle.coord_blocks.proofs.Laws.BufferLaws.{front_long, handed_decodes, agreeing_is, checked_is}
 use borrow.Author.Rules.{rules}
 use Rattle.coord_blocks.proofs.check_by.Statement.{statement}
 use Rattle.coord_blocks.proofs.check_by.Tie as tie
@@ -52,7 +52,7 @@ decode-checked-requires : tie.Need-decode-checked-requires
 decode-checked-requires c κs =
     let g = c.before.before.before.before.before in
     let s = g.before.before.before.before.before in
-    handed-decodes _ _ _ _ _ s.args.t4 _ s.requires.0 (array-share-prefix-bricks c.before.before.before) (gathered-front g) s.requires.1.0
+    handed_decodes _ _ _ _ _ s.args.t4 _ s.requires.0 (array-share-prefix-bricks c.before.before.before) (gathered-front g) s.requires.1.0
 
 same_length : tie.Need-same-length
 same_length c = search rules
@@ -66,8 +66,8 @@ returns c =
     let s = g.before.before.before.before.before in
     let d = c.before.before.decode-checked in
     let rest = drop (s.args.k * s.args.size) s.args.work.now in (
-      agreeing-is s.args.m _ _ _ _ _ rest (gathered-length g) g.gather.ensures d.result d.ensures.0,
-      checked-is s.args.m _ _ _ _ _ rest (gathered-length g) g.gather.ensures d.result _ s.args.stripe.now d.ensures.1,
+      agreeing_is s.args.m _ _ _ _ _ rest (gathered-length g) g.gather.ensures d.result d.ensures.0,
+      checked_is s.args.m _ _ _ _ _ rest (gathered-length g) g.gather.ensures d.result _ s.args.stripe.now d.ensures.1,
     )
 
 pub check-by-spec : {M : Type 1} → statement M

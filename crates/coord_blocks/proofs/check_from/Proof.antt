@@ -1,4 +1,4 @@
-use Rattle.coord_blocks.proofs.Laws.BufferLaws.{room-enough}
+use Rattle.coord_blocks.proofs.Laws.BufferLaws.{room_enough}
 use borrow.Author.Rules.{rules}
 use Rattle.coord_blocks.proofs.check_from.Statement.{statement}
 use Rattle.coord_blocks.proofs.check_from.Tie as tie
@@ -7,7 +7,7 @@ slice-aggregate-check-by : tie.Need-slice-aggregate-check-by
 slice-aggregate-check-by c = search rules
 
 check-by-requires : tie.Need-check-by-requires
-check-by-requires c κs = let s = c.before.before.before.before in (s.requires.0, (s.requires.1, room-enough _ _ s.requires.0.few s.requires.0.size-high))
+check-by-requires c κs = let s = c.before.before.before.before in (s.requires.0, (s.requires.1, room_enough _ _ s.requires.0.few s.requires.0.size-high))
 
 same_length : tie.Need-same-length
 same_length c = search rules

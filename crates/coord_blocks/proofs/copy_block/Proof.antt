@@ -1,4 +1,4 @@
-use Rattle.coord_blocks.proofs.Laws.OneBlockLaws.{copied-block}
+use Rattle.coord_blocks.proofs.Laws.OneBlockLaws.{copied_block}
 use borrow.Author.Rules.{rules}
 use Rattle.coord_blocks.proofs.copy_block.Statement.{statement}
 use Rattle.coord_blocks.proofs.copy_block.Tie as tie
@@ -34,7 +34,7 @@ same_length : tie.Need-same-length
 same_length c = search rules
 
 returns : tie.Need-returns
-returns c = copied-block _ _ _ _ _ (search rules) c.before.before.copy.ensures
+returns c = copied_block _ _ _ _ _ (search rules) c.before.before.copy.ensures
 
 pub copy-block-spec : {M : Type 1} → statement M
 copy-block-spec =

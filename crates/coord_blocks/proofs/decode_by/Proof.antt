@@ -3,7 +3,7 @@ use mathlib.Core.List.{◌++◌}
 use lib.Seq.{length-take-le}
 use mathlib.Core.Path.{◌≡◌, sym, ◌∙◌}
 use Prim.Native.Nat.{◌*◌}
-use Rattle.coord_blocks.proofs.Laws.BufferLaws.{front_long, stripe-from-is}
+use Rattle.coord_blocks.proofs.Laws.BufferLaws.{front_long, stripe_from_is}
 use borrow.Author.Rules.{rules}
 use Rattle.coord_blocks.proofs.decode_by.Statement.{statement}
 use Rattle.coord_blocks.proofs.decode_by.Tie as tie
@@ -68,7 +68,7 @@ same-length-2 c = search rules
 returns : tie.Need-returns
 returns c =
     let g = c.before.before.before.before.before.before.before.before in
-    stripe-from-is _ _ _ _ _ _ _ (gathered-length g) g.gather.ensures _ c.before.before.decode-into.ensures
+    stripe_from_is _ _ _ _ _ _ _ (gathered-length g) g.gather.ensures _ c.before.before.decode-into.ensures
 
 pub decode-by-spec : {M : Type 1} → statement M
 decode-by-spec =

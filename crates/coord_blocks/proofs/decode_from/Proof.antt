@@ -1,4 +1,4 @@
-use Rattle.coord_blocks.proofs.Laws.BufferLaws.{room-enough}
+use Rattle.coord_blocks.proofs.Laws.BufferLaws.{room_enough}
 use borrow.Author.Rules.{rules}
 use Rattle.coord_blocks.proofs.decode_from.Statement.{statement}
 use Rattle.coord_blocks.proofs.decode_from.Tie as tie
@@ -7,7 +7,7 @@ slice-aggregate-decode-by : tie.Need-slice-aggregate-decode-by
 slice-aggregate-decode-by c = search rules
 
 decode-by-requires : tie.Need-decode-by-requires
-decode-by-requires c κs = let s = c.before.before.before.before in ((s.requires.0.0, room-enough _ _ s.requires.0.0 s.requires.0.1), s.requires.1)
+decode-by-requires c κs = let s = c.before.before.before.before in ((s.requires.0.0, room_enough _ _ s.requires.0.0 s.requires.0.1), s.requires.1)
 
 same_length : tie.Need-same-length
 same_length c = search rules

@@ -1,5 +1,5 @@
 use lib.ListN.{length}
-use Rattle.coord_blocks.proofs.Laws.OneBlockLaws.{write-within, stored-block, stored-whole}
+use Rattle.coord_blocks.proofs.Laws.OneBlockLaws.{write_within, stored_block, stored_whole}
 use borrow.Author.Rules.{rules}
 use Rattle.coord_blocks.proofs.decode_stored.Statement.{statement}
 use Rattle.coord_blocks.proofs.decode_stored.Tie as tie
@@ -10,7 +10,7 @@ slice-aggregate-check-around c = search rules
 check-around-requires : tie.Need-check-around-requires
 check-around-requires c κs =
     let s = c.before.before.before.before.before.before in let p = s.requires in
-    (p.0, (write-within s.args.m s.args.size (length s.args.stripe.now) s.args.op p.1.0 p.1.1 c.before.before.if1.true, p.1.1, p.0.size-high))
+    (p.0, (write_within s.args.m s.args.size (length s.args.stripe.now) s.args.op p.1.0 p.1.1 c.before.before.if1.true, p.1.1, p.0.size-high))
 
 same_length : tie.Need-same-length
 same_length c = search rules
@@ -18,7 +18,7 @@ same_length c = search rules
 returns : tie.Need-returns
 returns c =
     let d = c.before.before.before.check-around in
-    (d.ensures.0, stored-block _ _ d.result _ _ _ c.before.before.before.before.before.before.if1.true d.ensures.1)
+    (d.ensures.0, stored_block _ _ d.result _ _ _ c.before.before.before.before.before.before.if1.true d.ensures.1)
 
 check-from-requires : tie.Need-check-from-requires
 check-from-requires c κs = search rules
@@ -29,7 +29,7 @@ same-length-2 c = search rules
 returns-2 : tie.Need-returns-2
 returns-2 c =
     let d = c.before.before.check-from in
-    (d.ensures.0, stored-whole _ _ d.result _ _ _ c.before.before.before.before.if1.false d.ensures.1)
+    (d.ensures.0, stored_whole _ _ d.result _ _ _ c.before.before.before.before.if1.false d.ensures.1)
 
 pub decode-stored-spec : {M : Type 1} → statement M
 decode-stored-spec =

@@ -4,8 +4,8 @@ use lib.ListN.{get_or, length, take}
 use mathlib.Core.Path.{sym, ap, ◌∙◌}
 use Prim.Native.Nat.{ℕ, ◌+◌, ◌-◌, ◌*◌, ◌≤◌}
 use Rattle.erasure.specs.Code.{block_of}
-use Rattle.coord_blocks.proofs.Laws.BufferLaws.{block_here, block-cut, next-within, first-bricks}
-use Rattle.byte_lists.proofs.Laws.StackLaws.{Stacked, stacked-none, stacked-more, stacked-all, part_length}
+use Rattle.coord_blocks.proofs.Laws.BufferLaws.{block_here, block_cut, next_within, first_bricks}
+use Rattle.byte_lists.proofs.Laws.StackLaws.{Stacked, stacked_none, stacked_more, stacked_all, part_length}
 use Rattle.coord_blocks.proofs.gather.Statement.{statement}
 use Rattle.coord_blocks.proofs.gather.Tie as tie
 
@@ -17,7 +17,7 @@ abbrev decreases-loop : tie.decreases-loop
 decreases-loop k size blocks out₀ bricks i₀ at₀ out i at = k - i
 
 loop-holds : tie.Need-loop-init invariant-loop decreases-loop
-loop-holds c = (stacked-none _ _ _, omega arith)
+loop-holds c = (stacked_none _ _ _, omega arith)
 
 array-read-wide-index : tie.Need-array-read-wide-index invariant-loop decreases-loop
 array-read-wide-index c = omega arith
@@ -35,7 +35,7 @@ from-fits c =
 to-fits : (c : tie.In-loop invariant-loop decreases-loop) → c.before.loop.at + c.before.before.before.before.args.size ≤ length c.before.loop.out
 to-fits c =
     let s = c.before.before.before.before in
-    next-within s.args.k _ _ _ c.before.loop.out c.before.loop.invariant.0.place c.loop-test.true (c.before.loop.invariant.0.size-kept ∙ s.requires.0.1)
+    next_within s.args.k _ _ _ c.before.loop.out c.before.loop.invariant.0.place c.loop-test.true (c.before.loop.invariant.0.size-kept ∙ s.requires.0.1)
 
 mul-from : tie.Need-overflow-mul-from invariant-loop decreases-loop
 mul-from c = record { fits = omega (arith, from-fits c) }
@@ -79,9 +79,9 @@ loop-again c =
     let w = c.before.before.before.before.before in
     let l = w.before.before.loop in
     let s = w.before.before.before.before.before in (
-      stacked-more _ s.args.size _ _ _ _ _ l.invariant.0 (to-fits w.before)
+      stacked_more _ s.args.size _ _ _ _ _ l.invariant.0 (to-fits w.before)
           (ap length c.before.before.copy.ensures ∙ part_length _ _ _ (from-fits w))
-          (c.before.before.copy.ensures ∙ block-cut s.args.k _ l.i _ s.args.t3 _ w.before.loop-test.true w.wide-index.ensures.0),
+          (c.before.before.copy.ensures ∙ block_cut s.args.k _ l.i _ s.args.t3 _ w.before.loop-test.true w.wide-index.ensures.0),
       omega arith,
     )
 
@@ -91,7 +91,7 @@ same_length c = c.before.loop.invariant.0.size-kept
 returns : tie.Need-returns invariant-loop decreases-loop
 returns c =
     let s = c.before.before.before.before in
-    first-bricks _ _ _ _ _ (omega (arith, s.requires.0.0)) (stacked-all _ _ _ _ _ _ _ c.before.loop.invariant.0 c.loop-test.false c.before.loop.invariant.1 s.requires.0.1)
+    first_bricks _ _ _ _ _ (omega (arith, s.requires.0.0)) (stacked_all _ _ _ _ _ _ _ c.before.loop.invariant.0 c.loop-test.false c.before.loop.invariant.1 s.requires.0.1)
 
 pub gather-spec : {M : Type 1} → statement M
 gather-spec =

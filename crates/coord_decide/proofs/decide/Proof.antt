@@ -1,4 +1,4 @@
-use Rattle.coord_decide.proofs.Laws.DecidingLaws.{decide-first, decide-no, decide-ordered, decide-block-order, decide-empty, decide-found, decide-stored}
+use Rattle.coord_decide.proofs.Laws.DecidingLaws.{decide_first, decide_no, decide_ordered, decide_block_order, decide_empty, decide_found, decide_stored}
 use borrow.Author.Rules.{rules}
 use Rattle.coord_decide.proofs.decide.Statement.{statement}
 use Rattle.coord_decide.proofs.decide.Tie as tie
@@ -7,28 +7,28 @@ decide-read-requires : tie.Need-decide-read-requires
 decide-read-requires c κs = search rules
 
 returns : tie.Need-returns
-returns c = search (rules, decide-first)
+returns c = search (rules, decide_first)
 
 any-no-requires : tie.Need-any-no-requires
 any-no-requires c κs = search rules
 
 returns-2 : tie.Need-returns-2
-returns-2 c = search (rules, decide-no)
+returns-2 c = search (rules, decide_no)
 
 returns-3 : tie.Need-returns-3
-returns-3 c = search (rules, decide-ordered)
+returns-3 c = search (rules, decide_ordered)
 
 decide-block-order-requires : tie.Need-decide-block-order-requires
 decide-block-order-requires c κs = search rules
 
 returns-4 : tie.Need-returns-4
-returns-4 c = search (rules, decide-block-order)
+returns-4 c = search (rules, decide_block_order)
 
 members-of-requires : tie.Need-members-of-requires
 members-of-requires c κs = search rules
 
 returns-5 : tie.Need-returns-5
-returns-5 c = search (rules, decide-empty)
+returns-5 c = search (rules, decide_empty)
 
 highest-of-requires : tie.Need-highest-of-requires
 highest-of-requires c κs = search rules
@@ -37,10 +37,10 @@ decide-at-requires : tie.Need-decide-at-requires
 decide-at-requires c κs = search rules
 
 returns-6 : tie.Need-returns-6
-returns-6 c = search (rules, decide-found)
+returns-6 c = search (rules, decide_found)
 
 returns-7 : tie.Need-returns-7
-returns-7 c = search (rules, decide-stored)
+returns-7 c = search (rules, decide_stored)
 
 pub decide-spec : {M : Type 1} → statement M
 decide-spec =

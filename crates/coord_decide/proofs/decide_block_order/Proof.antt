@@ -1,5 +1,5 @@
-use Rattle.settings.specs.Times.{noUpperEnd}
-use Rattle.coord_decide.proofs.Laws.DecidingLaws.{order-apart, order-whole}
+use Rattle.settings.specs.Times.{no_upper_end}
+use Rattle.coord_decide.proofs.Laws.DecidingLaws.{order_apart, order_whole}
 use borrow.Author.Rules.{rules}
 use Rattle.coord_decide.proofs.decide_block_order.Statement.{statement}
 use Rattle.coord_decide.proofs.decide_block_order.Tie as tie
@@ -14,11 +14,11 @@ times-apart-requires : tie.Need-times-apart-requires
 times-apart-requires c κs = search rules
 
 returns : tie.Need-returns
-unfolding noUpperEnd
-returns c = search (rules, order-apart)
+unfolding no_upper_end
+returns c = search (rules, order_apart)
 
 returns-2 : tie.Need-returns-2
-returns-2 c = search (rules, order-whole)
+returns-2 c = search (rules, order_whole)
 
 pub decide-block-order-spec : {M : Type 1} → statement M
 decide-block-order-spec =

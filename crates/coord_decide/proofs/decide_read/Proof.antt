@@ -1,5 +1,5 @@
-use Rattle.settings.specs.Times.{noUpperEnd}
-use Rattle.coord_decide.proofs.Laws.DecidingLaws.{read-apart, read_whole, read_no}
+use Rattle.settings.specs.Times.{no_upper_end}
+use Rattle.coord_decide.proofs.Laws.DecidingLaws.{read_apart, read_whole, read_no}
 use borrow.Author.Rules.{rules}
 use Rattle.coord_decide.proofs.decide_read.Statement.{statement}
 use Rattle.coord_decide.proofs.decide_read.Tie as tie
@@ -14,8 +14,8 @@ times-apart-requires : tie.Need-times-apart-requires
 times-apart-requires c κs = search rules
 
 returns : tie.Need-returns
-unfolding noUpperEnd
-returns c = search (rules, read-apart)
+unfolding no_upper_end
+returns c = search (rules, read_apart)
 
 any-no-requires : tie.Need-any-no-requires
 any-no-requires c κs = search rules
@@ -24,7 +24,7 @@ returns-2 : tie.Need-returns-2
 returns-2 c = search (rules, read_whole)
 
 returns-3 : tie.Need-returns-3
-unfolding noUpperEnd
+unfolding no_upper_end
 returns-3 c = search (rules, read_no)
 
 pub decide-read-spec : {M : Type 1} → statement M

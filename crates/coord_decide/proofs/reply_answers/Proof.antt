@@ -1,26 +1,26 @@
-use Rattle.coord_decide.proofs.Laws.DecidingLaws.{other-kind, other-stripe, other-operation, other-round, counted-before, answers_by}
+use Rattle.coord_decide.proofs.Laws.DecidingLaws.{other_kind, other_stripe, other_operation, other_round, counted_before, answers_by}
 use native.Mathlib.Omega.{arith}
 use borrow.Author.Rules.{rules}
 use Rattle.coord_decide.proofs.reply_answers.Statement.{statement}
 use Rattle.coord_decide.proofs.reply_answers.Tie as tie
 
 returns : tie.Need-returns
-returns c = search (rules, other-kind)
+returns c = search (rules, other_kind)
 
 returns-2 : tie.Need-returns-2
-returns-2 c = other-stripe _ _ _ _ _ (search rules) (λ e. omega (arith, e, c.if2.true))
+returns-2 c = other_stripe _ _ _ _ _ (search rules) (λ e. omega (arith, e, c.if2.true))
 
 returns-3 : tie.Need-returns-3
-returns-3 c = search (rules, other-operation)
+returns-3 c = search (rules, other_operation)
 
 returns-4 : tie.Need-returns-4
-returns-4 c = search (rules, other-round)
+returns-4 c = search (rules, other_round)
 
 array-read-if5 : tie.Need-array-read-if5
 array-read-if5 c = search rules
 
 returns-5 : tie.Need-returns-5
-returns-5 c = search (rules, counted-before)
+returns-5 c = search (rules, counted_before)
 
 target-count-requires : tie.Need-target-count-requires
 target-count-requires c κs = search rules

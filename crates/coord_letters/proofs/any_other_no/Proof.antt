@@ -6,14 +6,14 @@ use mathlib.Core.Path.{◌≡◌}
 use mathlib.Core.Bool.{false}
 use Prim.Native.Nat.{ℕ, ◌-◌, ◌≤◌, ◌<◌}
 use Rattle.coord_tally.proofs.Laws.CountingLaws.{found_some, found_none}
-use Rattle.coord_letters.specs.Letters.{saidOther}
+use Rattle.coord_letters.specs.Letters.{said_other}
 use Rattle.coord_letters.proofs.Laws.LetterLaws.{other_at}
 use Rattle.coord_letters.proofs.any_other_no.Statement.{statement}
 use Rattle.coord_letters.proofs.any_other_no.Tie as tie
 
 abbrev invariant-loop : tie.invariant-loop
 invariant-loop n counted granted said b₀ b =
-    (b ≤ n) × ((i : ℕ) → i < b → saidOther counted granted said i ≡ false)
+    (b ≤ n) × ((i : ℕ) → i < b → said_other counted granted said i ≡ false)
 
 abbrev decreases-loop : tie.decreases-loop
 decreases-loop n counted granted said b₀ b = n - b

@@ -1,4 +1,4 @@
-use Rattle.coord_record.proofs.Laws.OpRuleLaws.{block-tested, block-none-on}
+use Rattle.coord_record.proofs.Laws.OpRuleLaws.{block_tested, block_none_on}
 use borrow.Author.Rules.{rules}
 use Rattle.coord_record.proofs.block_low.Statement.{statement}
 use Rattle.coord_record.proofs.block_low.Tie as tie
@@ -7,10 +7,10 @@ on-block-requires : tie.Need-on-block-requires
 on-block-requires c κs = search rules
 
 returns : tie.Need-returns
-returns c = search (rules, block-tested)
+returns c = search (rules, block_tested)
 
 returns-2 : tie.Need-returns-2
-returns-2 c = search (rules, block-none-on)
+returns-2 c = search (rules, block_none_on)
 
 pub block-low-spec : {M : Type 1} → statement M
 block-low-spec = tie.close (tie.spec on-block-requires returns returns-2)

@@ -1,34 +1,34 @@
-use Rattle.coord_record.proofs.Laws.RuleLaws.{block-target, block-no-target, block_no, block-asked, block-not-asked, block_refused, block-refused-none, block_held, block-present, block_none}
+use Rattle.coord_record.proofs.Laws.RuleLaws.{block_target, block_no_target, block_no, block_asked, block_not_asked, block_refused, block_refused_none, block_held, block_present, block_none}
 use borrow.Author.Rules.{rules}
 use Rattle.coord_record.proofs.block_right.Statement.{statement}
 use Rattle.coord_record.proofs.block_right.Tie as tie
 
 returns : tie.Need-returns
-returns c = search (rules, block-target)
+returns c = search (rules, block_target)
 
 returns-2 : tie.Need-returns-2
-returns-2 c = search (rules, block-no-target)
+returns-2 c = search (rules, block_no_target)
 
 returns-3 : tie.Need-returns-3
 returns-3 c = search (rules, block_no)
 
 returns-4 : tie.Need-returns-4
-returns-4 c = search (rules, block-asked)
+returns-4 c = search (rules, block_asked)
 
 returns-5 : tie.Need-returns-5
-returns-5 c = search (rules, block-not-asked)
+returns-5 c = search (rules, block_not_asked)
 
 returns-6 : tie.Need-returns-6
 returns-6 c = search (rules, block_refused)
 
 returns-7 : tie.Need-returns-7
-returns-7 c = search (rules, block-refused-none)
+returns-7 c = search (rules, block_refused_none)
 
 returns-8 : tie.Need-returns-8
 returns-8 c = search (rules, block_held)
 
 returns-9 : tie.Need-returns-9
-returns-9 c = search (rules, block-present)
+returns-9 c = search (rules, block_present)
 
 returns-10 : tie.Need-returns-10
 returns-10 c = search (rules, block_none)

@@ -1,4 +1,4 @@
-use Rattle.coord_record.specs.Sound.{blockWriteRight}
+use Rattle.coord_record.specs.Sound.{block_write_right}
 use borrow.Author.Tests.{eq-eqb, ne_eqb}
 use borrow.Author.Rules.{rules}
 use Rattle.coord_record.proofs.block_write_right.Statement.{statement}
@@ -8,22 +8,22 @@ opening-right-requires : tie.Need-opening-right-requires
 opening-right-requires c κs = search rules
 
 returns : tie.Need-returns
-unfolding blockWriteRight
+unfolding block_write_right
 returns c = search (rules, eq-eqb, ne_eqb)
 
 returns-2 : tie.Need-returns-2
-unfolding blockWriteRight
+unfolding block_write_right
 returns-2 c = search (rules, eq-eqb, ne_eqb)
 
 returns-3 : tie.Need-returns-3
-unfolding blockWriteRight
+unfolding block_write_right
 returns-3 c = search (rules, eq-eqb, ne_eqb)
 
 recovery-right-requires : tie.Need-recovery-right-requires
 recovery-right-requires c κs = search rules
 
 returns-4 : tie.Need-returns-4
-unfolding blockWriteRight
+unfolding block_write_right
 returns-4 c = search (rules, eq-eqb, ne_eqb)
 
 pub block-write-right-spec : {M : Type 1} → statement M

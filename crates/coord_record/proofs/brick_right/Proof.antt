@@ -1,23 +1,23 @@
-use Rattle.coord_record.specs.CountedRules.{brickRight}
+use Rattle.coord_record.specs.CountedRules.{brick_right}
 use borrow.Author.Rules.{rules}
 use borrow.Author.Tests.{lt-ltb, le-ltb, lt-leb, le-leb, eq-eqb, ne_eqb}
 use Rattle.coord_record.proofs.brick_right.Statement.{statement}
 use Rattle.coord_record.proofs.brick_right.Tie as tie
 
 returns : tie.Need-returns
-unfolding brickRight
+unfolding brick_right
 returns c = search (rules, lt-ltb, le-ltb, lt-leb, le-leb, eq-eqb, ne_eqb)
 
 returns-2 : tie.Need-returns-2
-unfolding brickRight
+unfolding brick_right
 returns-2 c = search (rules, lt-ltb, le-ltb, lt-leb, le-leb, eq-eqb, ne_eqb)
 
 returns-3 : tie.Need-returns-3
-unfolding brickRight
+unfolding brick_right
 returns-3 c = search (rules, lt-ltb, le-ltb, lt-leb, le-leb, eq-eqb, ne_eqb)
 
 returns-4 : tie.Need-returns-4
-unfolding brickRight
+unfolding brick_right
 returns-4 c = search (rules, lt-ltb, le-ltb, lt-leb, le-leb, eq-eqb, ne_eqb)
 
 pub brick-right-spec : {M : Type 1} → statement M

@@ -6,19 +6,19 @@ use lib.ListN.{get_or}
 use mathlib.Core.Path.{◌≡◌, refl, sym, ap}
 use mathlib.Core.Bool.{true}
 use Prim.Native.Nat.{ℕ, ◌+◌, ◌-◌, ◌≤◌, ◌<◌}
-use Rattle.coord_record.specs.CountedRules.{brickRight}
-use Rattle.coord_record.proofs.Laws.RuleLaws.{bricks-not, brick-here, bricks-all}
+use Rattle.coord_record.specs.CountedRules.{brick_right}
+use Rattle.coord_record.proofs.Laws.RuleLaws.{bricks_not, brick_here, bricks_all}
 use Rattle.coord_record.proofs.bricks_right.Statement.{statement}
 use Rattle.coord_record.proofs.bricks_right.Tie as tie
-use Rattle.settings.specs.Ranges.{maxBricks}
+use Rattle.settings.specs.Ranges.{max_bricks}
 
 abbrev invariant-loop : tie.invariant-loop
 invariant-loop n k bricks before₀ i₀ before i =
-    (i ≤ maxBricks) × (before ≡ get_or bricks (i - 1) 0)
-    × ((j : ℕ) → j < i → true ≡ brickRight n k j (get_or bricks (j - 1) 0) (get_or bricks j 0))
+    (i ≤ max_bricks) × (before ≡ get_or bricks (i - 1) 0)
+    × ((j : ℕ) → j < i → true ≡ brick_right n k j (get_or bricks (j - 1) 0) (get_or bricks j 0))
 
 abbrev decreases-loop : tie.decreases-loop
-decreases-loop n k bricks before₀ i₀ before i = maxBricks - i
+decreases-loop n k bricks before₀ i₀ before i = max_bricks - i
 
 array-read-before : tie.Need-array-read-before invariant-loop decreases-loop
 array-read-before c = omega arith
@@ -44,14 +44,14 @@ loop-again c =
     let e : l.i + 1 - 1 ≡ l.i = omega arith in (
       omega arith,
       ap (λ (j : ℕ). get_or c.before.before.before.before.args.t3 j 0) (sym e),
-      below_more _ _ l.invariant.2 (brick-here _ _ c.before.before.before.before.args.t3 _ _ _ l.invariant.1 c.before.brick-right.ensures c.if1.true),
+      below_more _ _ l.invariant.2 (brick_here _ _ c.before.before.before.before.args.t3 _ _ _ l.invariant.1 c.before.brick-right.ensures c.if1.true),
     )
 
 returns : tie.Need-returns invariant-loop decreases-loop
-returns c = bricks-not _ _ _ _ _ _ c.before.before.loop-test.true c.before.before.before.loop.invariant.1 c.before.brick-right.ensures c.if1.false
+returns c = bricks_not _ _ _ _ _ _ c.before.before.loop-test.true c.before.before.before.loop.invariant.1 c.before.brick-right.ensures c.if1.false
 
 returns-2 : tie.Need-returns-2 invariant-loop decreases-loop
-returns-2 c = bricks-all _ _ _ _ c.loop-test.false c.before.loop.invariant.2
+returns-2 c = bricks_all _ _ _ _ c.loop-test.false c.before.loop.invariant.2
 
 pub bricks-right-spec : {M : Type 1} → statement M
 bricks-right-spec =

@@ -1,30 +1,30 @@
-use Rattle.coord_record.specs.CountedRules.{entryRight}
+use Rattle.coord_record.specs.CountedRules.{entry_right}
 use borrow.Author.Tests.{eq-eqb, ne_eqb}
 use borrow.Author.Rules.{rules}
 use Rattle.coord_record.proofs.entry_right.Statement.{statement}
 use Rattle.coord_record.proofs.entry_right.Tie as tie
 
 returns : tie.Need-returns
-unfolding entryRight
+unfolding entry_right
 returns c = search (rules, eq-eqb, ne_eqb)
 
 returns-2 : tie.Need-returns-2
-unfolding entryRight
+unfolding entry_right
 returns-2 c = search (rules, eq-eqb, ne_eqb)
 
 returns-3 : tie.Need-returns-3
-unfolding entryRight
+unfolding entry_right
 returns-3 c = search (rules, eq-eqb, ne_eqb)
 
 returns-4 : tie.Need-returns-4
-unfolding entryRight
+unfolding entry_right
 returns-4 c = search (rules, eq-eqb, ne_eqb)
 
 counted-right-requires : tie.Need-counted-right-requires
 counted-right-requires c κs = search rules
 
 returns-5 : tie.Need-returns-5
-unfolding entryRight
+unfolding entry_right
 returns-5 c = search (rules, eq-eqb, ne_eqb)
 
 pub entry-right-spec : {M : Type 1} → statement M

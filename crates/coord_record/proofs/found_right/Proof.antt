@@ -1,17 +1,17 @@
-use Rattle.coord_record.proofs.Laws.RuleLaws.{found-zero}
-use Rattle.message.proofs.Laws.MessageLaws.{found-time}
+use Rattle.coord_record.proofs.Laws.RuleLaws.{found_zero}
+use Rattle.message.proofs.Laws.MessageLaws.{found_time}
 use borrow.Author.Rules.{rules}
 use Rattle.coord_record.proofs.found_right.Statement.{statement}
 use Rattle.coord_record.proofs.found_right.Tie as tie
 
 returns : tie.Need-returns
-returns c = search (rules, found-zero)
+returns c = search (rules, found_zero)
 
 is-time-requires : tie.Need-is-time-requires
 is-time-requires c κs = search rules
 
 returns-2 : tie.Need-returns-2
-returns-2 c = search (rules, found-time)
+returns-2 c = search (rules, found_time)
 
 pub found-right-spec : {M : Type 1} → statement M
 found-right-spec = tie.close (tie.spec returns is-time-requires returns-2)

@@ -1,4 +1,4 @@
-use Rattle.coord_record.specs.Records.{noOp, nothingCounted, idleWith, noBricks}
+use Rattle.coord_record.specs.Records.{no_op, nothing_counted, idle_with, no_bricks}
 use borrow.Author.Rules.{rules}
 use Rattle.coord_record.proofs.idle_with.Statement.{statement}
 use Rattle.coord_record.proofs.idle_with.Tie as tie
@@ -10,7 +10,7 @@ nothing-counted-requires : tie.Need-nothing-counted-requires
 nothing-counted-requires c κs = search rules
 
 returns : tie.Need-returns
-unfolding noOp nothingCounted idleWith noBricks
+unfolding no_op nothing_counted idle_with no_bricks
 returns c = cc
 
 pub idle-with-spec : {M : Type 1} → statement M

@@ -1,15 +1,15 @@
-use Rattle.coord_record.specs.Records.{isReading}
+use Rattle.coord_record.specs.Records.{is_reading}
 use borrow.Author.Tests.{eq-eqb, ne_eqb}
 use borrow.Author.Rules.{rules}
 use Rattle.coord_record.proofs.is_reading.Statement.{statement}
 use Rattle.coord_record.proofs.is_reading.Tie as tie
 
 returns : tie.Need-returns
-unfolding isReading
+unfolding is_reading
 returns c = search (rules, eq-eqb, ne_eqb)
 
 returns-2 : tie.Need-returns-2
-unfolding isReading
+unfolding is_reading
 returns-2 c = search (rules, eq-eqb, ne_eqb)
 
 pub is-reading-spec : {M : Type 1} → statement M

@@ -1,19 +1,19 @@
-use Rattle.settings.specs.Times.{noUpperEnd}
-use Rattle.coord_record.specs.Sound.{maxRight}
+use Rattle.settings.specs.Times.{no_upper_end}
+use Rattle.coord_record.specs.Sound.{max_right}
 use borrow.Author.Tests.{lt-ltb, le-ltb, lt-leb, le-leb, eq-eqb, ne_eqb}
 use borrow.Author.Rules.{rules}
 use Rattle.coord_record.proofs.max_right.Statement.{statement}
 use Rattle.coord_record.proofs.max_right.Tie as tie
 
 returns : tie.Need-returns
-unfolding maxRight noUpperEnd
+unfolding max_right no_upper_end
 returns c = search (rules, lt-ltb, le-ltb, lt-leb, le-leb, eq-eqb, ne_eqb)
 
 is-time-requires : tie.Need-is-time-requires
 is-time-requires c κs = search rules
 
 returns-2 : tie.Need-returns-2
-unfolding maxRight noUpperEnd
+unfolding max_right no_upper_end
 returns-2 c = search (rules, lt-ltb, le-ltb, lt-leb, le-leb, eq-eqb, ne_eqb)
 
 pub max-right-spec : {M : Type 1} → statement M

@@ -1,4 +1,4 @@
-use Rattle.coord_record.proofs.Laws.OpRuleLaws.{names-all, names-none-yet, names-none}
+use Rattle.coord_record.proofs.Laws.OpRuleLaws.{names_all, names_none_yet, names_none}
 use borrow.Author.Rules.{rules}
 use Rattle.coord_record.proofs.named_count.Statement.{statement}
 use Rattle.coord_record.proofs.named_count.Tie as tie
@@ -7,13 +7,13 @@ is-reading-requires : tie.Need-is-reading-requires
 is-reading-requires c κs = search rules
 
 returns : tie.Need-returns
-returns c = search (rules, names-all)
+returns c = search (rules, names_all)
 
 returns-2 : tie.Need-returns-2
-returns-2 c = search (rules, names-none-yet)
+returns-2 c = search (rules, names_none_yet)
 
 returns-3 : tie.Need-returns-3
-returns-3 c = search (rules, names-none)
+returns-3 c = search (rules, names_none)
 
 pub named-count-spec : {M : Type 1} → statement M
 named-count-spec = tie.close (tie.spec is-reading-requires returns returns-2 returns-3)

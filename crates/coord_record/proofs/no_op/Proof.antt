@@ -1,9 +1,9 @@
-use Rattle.coord_record.specs.Records.{noOp, nothingCounted, idleWith, noBricks}
+use Rattle.coord_record.specs.Records.{no_op, nothing_counted, idle_with, no_bricks}
 use Rattle.coord_record.proofs.no_op.Statement.{statement}
 use Rattle.coord_record.proofs.no_op.Tie as tie
 
 returns : tie.Need-returns
-unfolding noOp nothingCounted idleWith noBricks
+unfolding no_op nothing_counted idle_with no_bricks
 returns c = cc
 
 pub no-op-spec : {M : Type 1} → statement M

@@ -1,9 +1,9 @@
-use Rattle.coord_record.specs.Records.{noOp, nothingCounted, idleWith, noBricks}
+use Rattle.coord_record.specs.Records.{no_op, nothing_counted, idle_with, no_bricks}
 use Rattle.coord_record.proofs.nothing_counted.Statement.{statement}
 use Rattle.coord_record.proofs.nothing_counted.Tie as tie
 
 returns : tie.Need-returns
-unfolding noOp nothingCounted idleWith noBricks
+unfolding no_op nothing_counted idle_with no_bricks
 returns c = cc
 
 pub nothing-counted-spec : {M : Type 1} → statement M

@@ -1,5 +1,5 @@
-use Rattle.coord_record.specs.Sound.{opRight}
-use Rattle.coord_record.proofs.Laws.OpRuleLaws.{op-reads, op-writes, op-writes-block, op-unknown}
+use Rattle.coord_record.specs.Sound.{op_right}
+use Rattle.coord_record.proofs.Laws.OpRuleLaws.{op_reads, op_writes, op_writes_block, op_unknown}
 use borrow.Author.Tests.{eq-eqb}
 use borrow.Author.Rules.{rules}
 use Rattle.coord_record.proofs.op_right.Statement.{statement}
@@ -9,7 +9,7 @@ unset-requires : tie.Need-unset-requires
 unset-requires c κs = search rules
 
 returns : tie.Need-returns
-unfolding opRight
+unfolding op_right
 returns c = search (rules, eq-eqb)
 
 is-reading-requires : tie.Need-is-reading-requires
@@ -19,22 +19,22 @@ read-right-requires : tie.Need-read-right-requires
 read-right-requires c κs = search rules
 
 returns-2 : tie.Need-returns-2
-returns-2 c = search (rules, op-reads)
+returns-2 c = search (rules, op_reads)
 
 write-right-requires : tie.Need-write-right-requires
 write-right-requires c κs = search rules
 
 returns-3 : tie.Need-returns-3
-returns-3 c = search (rules, op-writes)
+returns-3 c = search (rules, op_writes)
 
 block-write-right-requires : tie.Need-block-write-right-requires
 block-write-right-requires c κs = search rules
 
 returns-4 : tie.Need-returns-4
-returns-4 c = search (rules, op-writes-block)
+returns-4 c = search (rules, op_writes_block)
 
 returns-5 : tie.Need-returns-5
-returns-5 c = search (rules, op-unknown)
+returns-5 c = search (rules, op_unknown)
 
 pub op-right-spec : {M : Type 1} → statement M
 op-right-spec =

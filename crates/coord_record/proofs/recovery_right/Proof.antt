@@ -1,29 +1,29 @@
-use Rattle.coord_record.specs.Sound.{recoveryRight}
+use Rattle.coord_record.specs.Sound.{recovery_right}
 use borrow.Author.Tests.{lt-ltb, le-ltb, lt-leb, le-leb, eq-eqb, ne_eqb}
 use borrow.Author.Rules.{rules}
 use Rattle.coord_record.proofs.recovery_right.Statement.{statement}
 use Rattle.coord_record.proofs.recovery_right.Tie as tie
 
 returns : tie.Need-returns
-unfolding recoveryRight
+unfolding recovery_right
 returns c = search (rules, lt-ltb, le-ltb, lt-leb, le-leb, eq-eqb, ne_eqb)
 
 returns-2 : tie.Need-returns-2
-unfolding recoveryRight
+unfolding recovery_right
 returns-2 c = search (rules, lt-ltb, le-ltb, lt-leb, le-leb, eq-eqb, ne_eqb)
 
 max-right-requires : tie.Need-max-right-requires
 max-right-requires c κs = search rules
 
 returns-3 : tie.Need-returns-3
-unfolding recoveryRight
+unfolding recovery_right
 returns-3 c = search (rules, lt-ltb, le-ltb, lt-leb, le-leb, eq-eqb, ne_eqb)
 
 stored-right-requires : tie.Need-stored-right-requires
 stored-right-requires c κs = search rules
 
 returns-4 : tie.Need-returns-4
-unfolding recoveryRight
+unfolding recovery_right
 returns-4 c = search (rules, lt-ltb, le-ltb, lt-leb, le-leb, eq-eqb, ne_eqb)
 
 pub recovery-right-spec : {M : Type 1} → statement M

@@ -1,16 +1,16 @@
-use Rattle.coord_record.proofs.Laws.RuleLaws.{said-none, said-counted}
+use Rattle.coord_record.proofs.Laws.RuleLaws.{said_none, said_counted}
 use borrow.Author.Rules.{rules}
 use Rattle.coord_record.proofs.said_right.Statement.{statement}
 use Rattle.coord_record.proofs.said_right.Tie as tie
 
 returns : tie.Need-returns
-returns c = search (rules, said-none)
+returns c = search (rules, said_none)
 
 comparison-right-requires : tie.Need-comparison-right-requires
 comparison-right-requires c κs = search rules
 
 returns-2 : tie.Need-returns-2
-returns-2 c = search (rules, said-counted)
+returns-2 c = search (rules, said_counted)
 
 pub said-right-spec : {M : Type 1} → statement M
 said-right-spec = tie.close (tie.spec returns comparison-right-requires returns-2)

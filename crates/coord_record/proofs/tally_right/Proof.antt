@@ -6,21 +6,21 @@ use lib.ListN.{get_or}
 use mathlib.Core.Path.{◌≡◌}
 use mathlib.Core.Bool.{true, ◌&&◌}
 use Prim.Native.Nat.{ℕ, ◌-◌, ◌≤◌, ◌<◌}
-use Rattle.coord_record.specs.CountedRules.{entryRight, saidRight}
-use Rattle.coord_record.proofs.Laws.RuleLaws.{tally-not, tally-unsaid, both-pass, tally-all}
+use Rattle.coord_record.specs.CountedRules.{entry_right, said_right}
+use Rattle.coord_record.proofs.Laws.RuleLaws.{tally_not, tally_unsaid, both_pass, tally_all}
 use Rattle.coord_record.proofs.tally_right.Statement.{statement}
 use Rattle.coord_record.proofs.tally_right.Tie as tie
-use Rattle.settings.specs.Ranges.{maxBricks}
+use Rattle.settings.specs.Ranges.{max_bricks}
 
 abbrev invariant-loop : tie.invariant-loop
 invariant-loop n m phase first counted granted held found said b₀ b =
-    (b ≤ maxBricks)
+    (b ≤ max_bricks)
     × ((k : ℕ) → k < b
-    → true ≡ entryRight n m phase first k (get_or counted k 0) (get_or granted k 0) (get_or held k 0) (get_or found k 0)
-    && saidRight phase (get_or counted k 0) (get_or granted k 0) (get_or said k 0))
+    → true ≡ entry_right n m phase first k (get_or counted k 0) (get_or granted k 0) (get_or held k 0) (get_or found k 0)
+    && said_right phase (get_or counted k 0) (get_or granted k 0) (get_or said k 0))
 
 abbrev decreases-loop : tie.decreases-loop
-decreases-loop n m phase first counted granted held found said b₀ b = maxBricks - b
+decreases-loop n m phase first counted granted held found said b₀ b = max_bricks - b
 
 loop-holds : tie.Need-loop-init invariant-loop decreases-loop
 loop-holds c = (omega arith, λ k h. absurd (not-suc-le-zero h))
@@ -44,7 +44,7 @@ entry-right-requires : tie.Need-entry-right-requires invariant-loop decreases-lo
 entry-right-requires c κs = search rules
 
 returns : tie.Need-returns invariant-loop decreases-loop
-returns c = tally-not _ _ _ _ _ _ _ c.before.before.loop-test.true c.before.entry-right.ensures c.if1.false
+returns c = tally_not _ _ _ _ _ _ _ c.before.before.loop-test.true c.before.entry-right.ensures c.if1.false
 
 array-read-said-right : tie.Need-array-read-said-right invariant-loop decreases-loop
 array-read-said-right c = search rules
@@ -70,17 +70,17 @@ loop-again c =
     let tested = c.before.before in (
       omega arith,
       below_more _ _ l.invariant.1
-          (both-pass _ _ _ _ tested.before.entry-right.ensures tested.if1.true c.before.said-right.ensures c.if2.true),
+          (both_pass _ _ _ _ tested.before.entry-right.ensures tested.if1.true c.before.said-right.ensures c.if2.true),
     )
 
 returns-2 : tie.Need-returns-2 invariant-loop decreases-loop
 returns-2 c =
     let tested = c.before.before in
-    tally-unsaid _ _ _ _ _ _ _ _ tested.before.before.loop-test.true tested.before.entry-right.ensures tested.if1.true
+    tally_unsaid _ _ _ _ _ _ _ _ tested.before.before.loop-test.true tested.before.entry-right.ensures tested.if1.true
     c.before.said-right.ensures c.if2.false
 
 returns-3 : tie.Need-returns-3 invariant-loop decreases-loop
-returns-3 c = tally-all _ _ _ _ _ _ c.loop-test.false c.before.loop.invariant.1
+returns-3 c = tally_all _ _ _ _ _ _ c.loop-test.false c.before.loop.invariant.1
 
 pub tally-right-spec : {M : Type 1} → statement M
 tally-right-spec =

@@ -1,27 +1,27 @@
-use Rattle.coord_record.specs.Sound.{writeRight}
+use Rattle.coord_record.specs.Sound.{write_right}
 use borrow.Author.Rules.{rules}
 use borrow.Author.Tests.{lt-ltb, le-ltb, lt-leb, le-leb, eq-eqb, ne_eqb}
 use Rattle.coord_record.proofs.write_right.Statement.{statement}
 use Rattle.coord_record.proofs.write_right.Tie as tie
 
 returns : tie.Need-returns
-unfolding writeRight
+unfolding write_right
 returns c = search (rules, lt-ltb, le-ltb, lt-leb, le-leb, eq-eqb, ne_eqb)
 
 returns-2 : tie.Need-returns-2
-unfolding writeRight
+unfolding write_right
 returns-2 c = search (rules, lt-ltb, le-ltb, lt-leb, le-leb, eq-eqb, ne_eqb)
 
 returns-3 : tie.Need-returns-3
-unfolding writeRight
+unfolding write_right
 returns-3 c = search (rules, lt-ltb, le-ltb, lt-leb, le-leb, eq-eqb, ne_eqb)
 
 returns-4 : tie.Need-returns-4
-unfolding writeRight
+unfolding write_right
 returns-4 c = search (rules, lt-ltb, le-ltb, lt-leb, le-leb, eq-eqb, ne_eqb)
 
 returns-5 : tie.Need-returns-5
-unfolding writeRight
+unfolding write_right
 returns-5 c = search (rules, lt-ltb, le-ltb, lt-leb, le-leb, eq-eqb, ne_eqb)
 
 pub write-right-spec : {M : Type 1} → statement M

@@ -1,31 +1,31 @@
-use Rattle.coord_refusals.proofs.Laws.RefusedLaws.{block-number, block-stripe, block-past, block-broken, block-zero}
+use Rattle.coord_refusals.proofs.Laws.RefusedLaws.{block_number, block_stripe, block_past, block_broken, block_zero}
 use borrow.Author.Rules.{rules}
 use Rattle.coord_refusals.proofs.block_refusal.Statement.{statement}
 use Rattle.coord_refusals.proofs.block_refusal.Tie as tie
 
 returns : tie.Need-returns
-returns c = search (rules, block-number)
+returns c = search (rules, block_number)
 
 stripe-refusal-requires : tie.Need-stripe-refusal-requires
 stripe-refusal-requires c κs = search rules
 
 returns-2 : tie.Need-returns-2
-returns-2 c = search (rules, block-stripe)
+returns-2 c = search (rules, block_stripe)
 
 data-block-refusal-requires : tie.Need-data-block-refusal-requires
 data-block-refusal-requires c κs = search rules
 
 returns-3 : tie.Need-returns-3
-returns-3 c = search (rules, block-past)
+returns-3 c = search (rules, block_past)
 
 sound-requires : tie.Need-sound-requires
 sound-requires c κs = search rules
 
 returns-4 : tie.Need-returns-4
-returns-4 c = search (rules, block-zero)
+returns-4 c = search (rules, block_zero)
 
 returns-5 : tie.Need-returns-5
-returns-5 c = search (rules, block-broken)
+returns-5 c = search (rules, block_broken)
 
 pub block-refusal-spec : {M : Type 1} → statement M
 block-refusal-spec =

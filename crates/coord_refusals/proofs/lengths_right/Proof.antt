@@ -1,29 +1,29 @@
-use Rattle.coord_refusals.proofs.Laws.RefusedLaws.{lengths-blocks, lengths-stripe, lengths-coded, lengths-held, lengths_none, lengths-fit}
+use Rattle.coord_refusals.proofs.Laws.RefusedLaws.{lengths_blocks, lengths_stripe, lengths_coded, lengths_held, lengths_none, lengths_fit}
 use native.Mathlib.Omega.{arith}
 use borrow.Author.Rules.{rules}
 use Rattle.coord_refusals.proofs.lengths_right.Statement.{statement}
 use Rattle.coord_refusals.proofs.lengths_right.Tie as tie
 
 mul-if1 : tie.Need-overflow-mul-if1
-mul-if1 c = omega (arith, lengths-fit _ _ _ c.requires)
+mul-if1 c = omega (arith, lengths_fit _ _ _ c.requires)
 
 returns : tie.Need-returns
-returns c = search (rules, lengths-blocks)
+returns c = search (rules, lengths_blocks)
 
 mul-if2 : tie.Need-overflow-mul-if2
-mul-if2 c = omega (arith, lengths-fit _ _ _ c.before.requires)
+mul-if2 c = omega (arith, lengths_fit _ _ _ c.before.requires)
 
 returns-2 : tie.Need-returns-2
-returns-2 c = search (rules, lengths-stripe)
+returns-2 c = search (rules, lengths_stripe)
 
 mul-if3 : tie.Need-overflow-mul-if3
 mul-if3 c = search rules
 
 returns-3 : tie.Need-returns-3
-returns-3 c = search (rules, lengths-coded)
+returns-3 c = search (rules, lengths_coded)
 
 returns-4 : tie.Need-returns-4
-returns-4 c = search (rules, lengths-held)
+returns-4 c = search (rules, lengths_held)
 
 returns-5 : tie.Need-returns-5
 returns-5 c = search (rules, lengths_none)

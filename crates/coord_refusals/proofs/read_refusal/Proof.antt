@@ -1,4 +1,4 @@
-use Rattle.coord_refusals.proofs.Laws.RefusedLaws.{read-settings, read_first, read-rest, few-bricks}
+use Rattle.coord_refusals.proofs.Laws.RefusedLaws.{read_settings, read_first, read_rest, few_bricks}
 use borrow.Author.Rules.{rules}
 use Rattle.coord_refusals.proofs.read_refusal.Statement.{statement}
 use Rattle.coord_refusals.proofs.read_refusal.Tie as tie
@@ -7,16 +7,16 @@ volume-refusal-requires : tie.Need-volume-refusal-requires
 volume-refusal-requires c κs = search rules
 
 returns : tie.Need-returns
-returns c = search (rules, read-settings)
+returns c = search (rules, read_settings)
 
 returns-2 : tie.Need-returns-2
 returns-2 c = search (rules, read_first)
 
 stripe-refusal-requires : tie.Need-stripe-refusal-requires
-stripe-refusal-requires c κs = few-bricks _ _ _ _ _ c.before.before.volume-refusal.ensures c.before.if1.false
+stripe-refusal-requires c κs = few_bricks _ _ _ _ _ c.before.before.volume-refusal.ensures c.before.if1.false
 
 returns-3 : tie.Need-returns-3
-returns-3 c = search (rules, read-rest)
+returns-3 c = search (rules, read_rest)
 
 pub read-refusal-spec : {M : Type 1} → statement M
 read-refusal-spec =

@@ -1,4 +1,4 @@
-use Rattle.coord_refusals.proofs.Laws.RefusedLaws.{stray-record, stray-wrong, stray-answers, stray-not, first-within}
+use Rattle.coord_refusals.proofs.Laws.RefusedLaws.{stray_record, stray_wrong, stray_answers, stray_not, first_within}
 use native.Mathlib.Omega.{arith}
 use borrow.Author.Rules.{rules}
 use Rattle.coord_refusals.proofs.stray_refusal.Statement.{statement}
@@ -8,22 +8,22 @@ stripe-refusal-requires : tie.Need-stripe-refusal-requires
 stripe-refusal-requires c κs = search rules
 
 returns : tie.Need-returns
-returns c = search (rules, stray-record)
+returns c = search (rules, stray_record)
 
 refusal-requires : tie.Need-refusal-requires
 refusal-requires c κs = search rules
 
 returns-2 : tie.Need-returns-2
-returns-2 c = search (rules, stray-wrong)
+returns-2 c = search (rules, stray_wrong)
 
 reply-answers-requires : tie.Need-reply-answers-requires
-reply-answers-requires c κs = (first-within _ _ _ _ _ _ _ c.before.before.before.before.before.stripe-refusal.ensures c.before.before.before.before.if1.false, omega arith)
+reply-answers-requires c κs = (first_within _ _ _ _ _ _ _ c.before.before.before.before.before.stripe-refusal.ensures c.before.before.before.before.if1.false, omega arith)
 
 returns-3 : tie.Need-returns-3
-returns-3 c = search (rules, stray-answers)
+returns-3 c = search (rules, stray_answers)
 
 returns-4 : tie.Need-returns-4
-returns-4 c = search (rules, stray-not)
+returns-4 c = search (rules, stray_not)
 
 pub stray-refusal-spec : {M : Type 1} → statement M
 stray-refusal-spec =

@@ -1,25 +1,25 @@
-use Rattle.coord_refusals.proofs.Laws.RefusedLaws.{stripe-number, stripe-outside, stripe-zero, stripe-broken}
+use Rattle.coord_refusals.proofs.Laws.RefusedLaws.{stripe_number, stripe_outside, stripe_zero, stripe_broken}
 use borrow.Author.Rules.{rules}
 use Rattle.coord_refusals.proofs.stripe_refusal.Statement.{statement}
 use Rattle.coord_refusals.proofs.stripe_refusal.Tie as tie
 
 returns : tie.Need-returns
-returns c = search (rules, stripe-number)
+returns c = search (rules, stripe_number)
 
 stripe-refusal-requires : tie.Need-stripe-refusal-requires
 stripe-refusal-requires c κs = search rules
 
 returns-2 : tie.Need-returns-2
-returns-2 c = search (rules, stripe-outside)
+returns-2 c = search (rules, stripe_outside)
 
 sound-requires : tie.Need-sound-requires
 sound-requires c κs = search rules
 
 returns-3 : tie.Need-returns-3
-returns-3 c = search (rules, stripe-zero)
+returns-3 c = search (rules, stripe_zero)
 
 returns-4 : tie.Need-returns-4
-returns-4 c = search (rules, stripe-broken)
+returns-4 c = search (rules, stripe_broken)
 
 pub stripe-refusal-spec : {M : Type 1} → statement M
 stripe-refusal-spec = tie.close (tie.spec returns stripe-refusal-requires returns-2 sound-requires returns-3 returns-4)

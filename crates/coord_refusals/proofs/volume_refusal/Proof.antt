@@ -1,4 +1,4 @@
-use Rattle.coord_refusals.proofs.Laws.RefusedLaws.{volume-code, volume-count}
+use Rattle.coord_refusals.proofs.Laws.RefusedLaws.{volume_code, volume_count}
 use borrow.Author.Rules.{rules}
 use Rattle.coord_refusals.proofs.volume_refusal.Statement.{statement}
 use Rattle.coord_refusals.proofs.volume_refusal.Tie as tie
@@ -7,13 +7,13 @@ code-refusal-requires : tie.Need-code-refusal-requires
 code-refusal-requires c κs = search rules
 
 returns : tie.Need-returns
-returns c = search (rules, volume-code)
+returns c = search (rules, volume_code)
 
 stripe-count-refusal-requires : tie.Need-stripe-count-refusal-requires
 stripe-count-refusal-requires c κs = search rules
 
 returns-2 : tie.Need-returns-2
-returns-2 c = search (rules, volume-count)
+returns-2 c = search (rules, volume_count)
 
 pub volume-refusal-spec : {M : Type 1} → statement M
 volume-refusal-spec =

@@ -10,41 +10,41 @@ use lib.Dec.{ltb}
 use lib.ListN.{length, get_or, take, set, replicate, length-append, length-take, length-set, get_or-replicate, get_or-append, get_or-eq_default}
 use lib.Seq.{take_all, take-append-le, get_or_at, get_or-set_same, get_or-set_other}
 use borrow.Author.Tests.{lt-ltb, le-ltb, ltb-true, ltb-false}
-use Rattle.coord_record.specs.CountedRules.{isTarget}
-use Rattle.coord_tally.specs.Counting.{passing, in_row, picked, atTimes, upward, targetRow, targetFlag, targetFlags}
+use Rattle.coord_record.specs.CountedRules.{is_target}
+use Rattle.coord_tally.specs.Counting.{passing, in_row, picked, at_times, upward, target_row, target_flag, target_flags}
 use Rattle.byte_lists.specs.Lists.{tabulate}
-use Rattle.byte_lists.proofs.Laws.TabulateLaws.{Filled, tabulate-by, length-tabulate, get_d_tabulate}
-use Rattle.settings.specs.Ranges.{maxBricks}
+use Rattle.byte_lists.proofs.Laws.TabulateLaws.{Filled, tabulate_by, length_tabulate, get_d_tabulate}
+use Rattle.settings.specs.Ranges.{max_bricks}
 
 -- the row so far: the first m of those that pass below b, and how many they are
 pub record Picks (p : ℕ → Bool) (m b : ℕ) (row : List ℕ) (k : ℕ) : Type 0 where
   pub row_is : row ≡ in_row (take m (passing p b))
   pub many : k ≡ length (take m (passing p b))
 
-passing-yes : (p : ℕ → Bool) (b : ℕ) → p b ≡ true → passing p (b + 1) ≡ passing p b ++ (b ∷ [])
+passing_yes : (p : ℕ → Bool) (b : ℕ) → p b ≡ true → passing p (b + 1) ≡ passing p b ++ (b ∷ [])
 unfolding passing
-passing-yes p b e = rw (add-one b, e)
+passing_yes p b e = rw (add-one b, e)
 
-passing-no : (p : ℕ → Bool) (b : ℕ) → p b ≡ false → passing p (b + 1) ≡ passing p b
+passing_no : (p : ℕ → Bool) (b : ℕ) → p b ≡ false → passing p (b + 1) ≡ passing p b
 unfolding passing
-passing-no p b e = rw (add-one b, e) (append-nil (passing p b))
+passing_no p b e = rw (add-one b, e) (append-nil (passing p b))
 
 take_none : (m : ℕ) → take {A = ℕ} m [] ≡ []
 take_none zero = refl
 take_none (suc m) = refl
 
-pub picks-none : (p : ℕ → Bool) (m : ℕ) → Picks p m 0 (replicate maxBricks 0) 0
+pub picks_none : (p : ℕ → Bool) (m : ℕ) → Picks p m 0 (replicate max_bricks 0) 0
 unfolding passing in_row tabulate
-picks-none p m = record { row_is = rw (take_none m); many = rw (take_none m) }
+picks_none p m = record { row_is = rw (take_none m); many = rw (take_none m) }
 
-pub picks-not : (p : ℕ → Bool) (m b : ℕ) (row : List ℕ) (k : ℕ) (t : Bool) → Picks p m b row k → t ≡ p b → t ≡ false → Picks p m (b + 1) row k
-picks-not p m b row k t h e z =
-    record { row_is = rw (passing-no p b (sym e ∙ z)) h.row_is; many = rw (passing-no p b (sym e ∙ z)) h.many }
+pub picks_not : (p : ℕ → Bool) (m b : ℕ) (row : List ℕ) (k : ℕ) (t : Bool) → Picks p m b row k → t ≡ p b → t ≡ false → Picks p m (b + 1) row k
+picks_not p m b row k t h e z =
+    record { row_is = rw (passing_no p b (sym e ∙ z)) h.row_is; many = rw (passing_no p b (sym e ∙ z)) h.many }
 
-pub picks-full : (p : ℕ → Bool) (m b : ℕ) (row : List ℕ) (k : ℕ) (t : Bool) → Picks p m b row k → t ≡ p b → t ≡ true → m ≤ k → Picks p m (b + 1) row k
-picks-full p m b row k t h e z l =
+pub picks_full : (p : ℕ → Bool) (m b : ℕ) (row : List ℕ) (k : ℕ) (t : Bool) → Picks p m b row k → t ≡ p b → t ≡ true → m ≤ k → Picks p m (b + 1) row k
+picks_full p m b row k t h e z l =
     let same : take m (passing p (b + 1)) ≡ take m (passing p b) =
-    ap (take m) (passing-yes p b (sym e ∙ z))
+    ap (take m) (passing_yes p b (sym e ∙ z))
     ∙ take-append-le m (passing p b) (b ∷ []) (let q = length-take m (passing p b) in omega (arith, h.many))
     in record { row_is = rw same h.row_is; many = rw same h.many }
 
@@ -58,21 +58,21 @@ beyond l b i h = go (dec_lt i (length l))
         let past : length l < i = omega arith in
         get_or-eq_default (l ++ (b ∷ [])) 0 (let e = length-append l (b ∷ []) in omega arith) ∙ sym (get_or-eq_default l 0 (omega arith))
 
-row_more : (l : List ℕ) (b : ℕ) → length l < maxBricks → set (in_row l) (length l) b ≡ in_row (l ++ (b ∷ []))
+row_more : (l : List ℕ) (b : ℕ) → length l < max_bricks → set (in_row l) (length l) b ≡ in_row (l ++ (b ∷ []))
 unfolding in_row
 row_more l b u =
-    tabulate-by maxBricks (λ (i : ℕ). get_or (l ++ (b ∷ [])) i 0) (set (tabulate maxBricks (λ (i : ℕ). get_or l i 0)) (length l) b)
-    (length-set (tabulate maxBricks (λ (i : ℕ). get_or l i 0)) (length l) b ∙ length-tabulate maxBricks (λ (i : ℕ). get_or l i 0)) (λ i w. go i w (ℕ_discrete i (length l)))
+    tabulate_by max_bricks (λ (i : ℕ). get_or (l ++ (b ∷ [])) i 0) (set (tabulate max_bricks (λ (i : ℕ). get_or l i 0)) (length l) b)
+    (length-set (tabulate max_bricks (λ (i : ℕ). get_or l i 0)) (length l) b ∙ length_tabulate max_bricks (λ (i : ℕ). get_or l i 0)) (λ i w. go i w (ℕ_discrete i (length l)))
   where
-    go : (i : ℕ) → i < maxBricks → Dec (i ≡ length l) → get_or (set (tabulate maxBricks (λ (i : ℕ). get_or l i 0)) (length l) b) i 0 ≡ get_or (l ++ (b ∷ [])) i 0
+    go : (i : ℕ) → i < max_bricks → Dec (i ≡ length l) → get_or (set (tabulate max_bricks (λ (i : ℕ). get_or l i 0)) (length l) b) i 0 ≡ get_or (l ++ (b ∷ [])) i 0
     go i w (yes e) =
-        ap (λ (j : ℕ). get_or (set (tabulate maxBricks (λ (i : ℕ). get_or l i 0)) (length l) b) j 0) e
-        ∙ get_or-set_same (tabulate maxBricks (λ (i : ℕ). get_or l i 0)) (length l) b 0 (let z = length-tabulate maxBricks (λ (i : ℕ). get_or l i 0) in omega arith)
+        ap (λ (j : ℕ). get_or (set (tabulate max_bricks (λ (i : ℕ). get_or l i 0)) (length l) b) j 0) e
+        ∙ get_or-set_same (tabulate max_bricks (λ (i : ℕ). get_or l i 0)) (length l) b 0 (let z = length_tabulate max_bricks (λ (i : ℕ). get_or l i 0) in omega arith)
         ∙ sym (get_or_at l b [] 0 i (sym e))
     go i w (no e) =
-        get_or-set_other (tabulate maxBricks (λ (i : ℕ). get_or l i 0)) (length l) i b 0 e ∙ get_d_tabulate maxBricks (λ (i : ℕ). get_or l i 0) i w ∙ sym (beyond l b i e)
+        get_or-set_other (tabulate max_bricks (λ (i : ℕ). get_or l i 0)) (length l) i b 0 e ∙ get_d_tabulate max_bricks (λ (i : ℕ). get_or l i 0) i w ∙ sym (beyond l b i e)
 
-pub picks_more : (p : ℕ → Bool) (m b : ℕ) (row : List ℕ) (k : ℕ) (t : Bool) → Picks p m b row k → t ≡ p b → t ≡ true → k < m → k < maxBricks
+pub picks_more : (p : ℕ → Bool) (m b : ℕ) (row : List ℕ) (k : ℕ) (t : Bool) → Picks p m b row k → t ≡ p b → t ≡ true → k < m → k < max_bricks
     → Picks p m (b + 1) (set row k b) (k + 1)
 picks_more p m b row k t h e z l s =
     let short : length (passing p b) < m = (let q = length-take m (passing p b) in omega (arith, h.many)) in
@@ -80,7 +80,7 @@ picks_more p m b row k t h e z l s =
     let len : k ≡ length (passing p b) = h.many ∙ ap length all in
     let sum : length (passing p b ++ (b ∷ [])) ≡ length (passing p b) + 1 = length-append (passing p b) (b ∷ []) in
     let more : take m (passing p (b + 1)) ≡ passing p b ++ (b ∷ []) =
-    ap (take m) (passing-yes p b (sym e ∙ z)) ∙ take_all m (passing p b ++ (b ∷ [])) (omega arith)
+    ap (take m) (passing_yes p b (sym e ∙ z)) ∙ take_all m (passing p b ++ (b ∷ [])) (omega arith)
     in
     let kept : row ≡ in_row (passing p b) = h.row_is ∙ ap in_row all in
     record {
@@ -88,45 +88,45 @@ picks_more p m b row k t h e z l s =
       many = rw more (omega arith);
     }
 
-pub picks-all : (flags found : List ℕ) (time n m b : ℕ) (row : List ℕ) (k : ℕ) → Picks (atTimes flags found time) m b row k → n ≤ b → b ≤ n
+pub picks_all : (flags found : List ℕ) (time n m b : ℕ) (row : List ℕ) (k : ℕ) → Picks (at_times flags found time) m b row k → n ≤ b → b ≤ n
     → row ≡ picked flags found time n m
 unfolding picked
-picks-all flags found time n m b row k h u v =
-    h.row_is ∙ ap (λ (j : ℕ). in_row (take m (passing (atTimes flags found time) j))) (let e : b ≡ n = omega arith in e)
+picks_all flags found time n m b row k h u v =
+    h.row_is ∙ ap (λ (j : ℕ). in_row (take m (passing (at_times flags found time) j))) (let e : b ≡ n = omega arith in e)
 
 -- the targets
-pub up-within : (n first i : ℕ) → first + i < n → first + i ≡ upward n first i
+pub up_within : (n first i : ℕ) → first + i < n → first + i ≡ upward n first i
 unfolding upward
-up-within n first i h = rw (lt-ltb (first + i) n h)
+up_within n first i h = rw (lt-ltb (first + i) n h)
 
-pub up-wrapped : (n first i : ℕ) → n ≤ first + i → first + i - n ≡ upward n first i
+pub up_wrapped : (n first i : ℕ) → n ≤ first + i → first + i - n ≡ upward n first i
 unfolding upward
-up-wrapped n first i h = rw (le-ltb (first + i) n h)
+up_wrapped n first i h = rw (le-ltb (first + i) n h)
 
-pub targets-all : (n m first i : ℕ) (row : List ℕ) → Filled (upward n first) (replicate maxBricks 0) row i → m ≤ i → i ≤ m → m ≤ maxBricks → row ≡ targetRow n m first
-unfolding targetRow
-targets-all n m first i row f u v w =
-    tabulate-by maxBricks (λ (i : ℕ). cond (ltb i m) (upward n first i) 0) row f.size (λ j l. go j l (ltb j m) refl)
+pub targets_all : (n m first i : ℕ) (row : List ℕ) → Filled (upward n first) (replicate max_bricks 0) row i → m ≤ i → i ≤ m → m ≤ max_bricks → row ≡ target_row n m first
+unfolding target_row
+targets_all n m first i row f u v w =
+    tabulate_by max_bricks (λ (i : ℕ). cond (ltb i m) (upward n first i) 0) row f.size (λ j l. go j l (ltb j m) refl)
   where
-    go : (j : ℕ) → j < maxBricks → (t : Bool) → ltb j m ≡ t → get_or row j 0 ≡ cond t (upward n first j) 0
+    go : (j : ℕ) → j < max_bricks → (t : Bool) → ltb j m ≡ t → get_or row j 0 ≡ cond t (upward n first j) 0
     go j l true e = f.done j (let q = ltb-true j m e in omega arith)
-    go j l false e = f.rest j (let q = ltb-false j m e in omega arith) ∙ get_or-replicate maxBricks j 0 0 l
+    go j l false e = f.rest j (let q = ltb-false j m e in omega arith) ∙ get_or-replicate max_bricks j 0 0 l
 
-pub flag-target : (n m first b : ℕ) (t : Bool) → b < n → t ≡ isTarget n m first b → t ≡ true → 1 ≡ targetFlag n m first b
-unfolding targetFlag
-flag-target n m first b t h e z = rw (lt-ltb b n h, ← e, z)
+pub flag_target : (n m first b : ℕ) (t : Bool) → b < n → t ≡ is_target n m first b → t ≡ true → 1 ≡ target_flag n m first b
+unfolding target_flag
+flag_target n m first b t h e z = rw (lt-ltb b n h, ← e, z)
 
-pub flag-none : (n m first b : ℕ) (t : Bool) → b < n → t ≡ isTarget n m first b → t ≡ false → 0 ≡ targetFlag n m first b
-unfolding targetFlag
-flag-none n m first b t h e z = rw (lt-ltb b n h, ← e, z)
+pub flag_none : (n m first b : ℕ) (t : Bool) → b < n → t ≡ is_target n m first b → t ≡ false → 0 ≡ target_flag n m first b
+unfolding target_flag
+flag_none n m first b t h e z = rw (lt-ltb b n h, ← e, z)
 
-pub flag-beyond : (n m first b : ℕ) → n ≤ b → 0 ≡ targetFlag n m first b
-unfolding targetFlag
-flag-beyond n m first b h = rw (le-ltb b n h)
+pub flag_beyond : (n m first b : ℕ) → n ≤ b → 0 ≡ target_flag n m first b
+unfolding target_flag
+flag_beyond n m first b h = rw (le-ltb b n h)
 
-pub flags-all : (n m first b : ℕ) (flags : List ℕ) → Filled (targetFlag n m first) (replicate maxBricks 0) flags b → maxBricks ≤ b → flags ≡ targetFlags n m first
-unfolding targetFlags
-flags-all n m first b flags f l = tabulate-by maxBricks (targetFlag n m first) flags f.size (λ i u. f.done i (omega arith))
+pub flags_all : (n m first b : ℕ) (flags : List ℕ) → Filled (target_flag n m first) (replicate max_bricks 0) flags b → max_bricks ≤ b → flags ≡ target_flags n m first
+unfolding target_flags
+flags_all n m first b flags f l = tabulate_by max_bricks (target_flag n m first) flags f.size (λ i u. f.done i (omega arith))
 
-pub picks-same : (p : ℕ → Bool) (m b : ℕ) (row row' : List ℕ) (k k' : ℕ) → Picks p m b row k → row' ≡ row → k' ≡ k → Picks p m b row' k'
-picks-same p m b row row' k k' h e f = record { row_is = e ∙ h.row_is; many = f ∙ h.many }
+pub picks_same : (p : ℕ → Bool) (m b : ℕ) (row row' : List ℕ) (k k' : ℕ) → Picks p m b row k → row' ≡ row → k' ≡ k → Picks p m b row' k'
+picks_same p m b row row' k k' h e f = record { row_is = e ∙ h.row_is; many = f ∙ h.many }

@@ -7,7 +7,7 @@ use mathlib.Core.Path.{◌≡◌}
 use mathlib.Core.Bool.{false}
 use Prim.Native.Nat.{ℕ, ◌-◌, ◌≤◌, ◌<◌}
 use Rattle.coord_tally.specs.Counting.{missing}
-use Rattle.coord_tally.proofs.Laws.CountingLaws.{is-missing, no_target, is-counted, found_some, found_none}
+use Rattle.coord_tally.proofs.Laws.CountingLaws.{is_missing, no_target, is_counted, found_some, found_none}
 use Rattle.coord_tally.proofs.any_missing.Statement.{statement}
 use Rattle.coord_tally.proofs.any_missing.Tie as tie
 
@@ -28,7 +28,7 @@ array-read-if2 : tie.Need-array-read-if2 invariant-loop decreases-loop
 array-read-if2 c = omega arith
 
 returns : tie.Need-returns invariant-loop decreases-loop
-returns c = found_some _ _ _ c.before.before.before.loop-test.true (is-missing _ _ _ _ _ _ c.before.before.is-target.ensures c.before.if1.true c.if2.true)
+returns c = found_some _ _ _ c.before.before.before.loop-test.true (is_missing _ _ _ _ _ _ c.before.before.is-target.ensures c.before.if1.true c.if2.true)
 
 add-b : tie.Need-overflow-add-b invariant-loop decreases-loop
 add-b c = omega arith
@@ -40,7 +40,7 @@ loop-again : tie.Need-loop-preserved invariant-loop decreases-loop
 loop-again c = (
   omega arith,
   below_more _ _ c.before.before.before.loop.invariant.1
-      (⊎_elim (λ w. is-counted _ _ _ _ _ w.1.left) (λ w. no_target _ _ _ _ _ _ c.before.is-target.ensures w.left) c.if1.branch),
+      (⊎_elim (λ w. is_counted _ _ _ _ _ w.1.left) (λ w. no_target _ _ _ _ _ _ c.before.is-target.ensures w.left) c.if1.branch),
 )
 
 returns-2 : tie.Need-returns-2 invariant-loop decreases-loop

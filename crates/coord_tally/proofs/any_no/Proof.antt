@@ -5,14 +5,14 @@ use mathlib.Core.Logic.{⊎_elim}
 use mathlib.Core.Path.{◌≡◌}
 use mathlib.Core.Bool.{false}
 use Prim.Native.Nat.{ℕ, ◌-◌, ◌≤◌, ◌<◌}
-use Rattle.coord_tally.specs.Counting.{saidNo}
-use Rattle.coord_tally.proofs.Laws.CountingLaws.{said-no, not-counted, said-yes, found_some, found_none}
+use Rattle.coord_tally.specs.Counting.{said_no}
+use Rattle.coord_tally.proofs.Laws.CountingLaws.{said_no_lem, not_counted, said_yes, found_some, found_none}
 use Rattle.coord_tally.proofs.any_no.Statement.{statement}
 use Rattle.coord_tally.proofs.any_no.Tie as tie
 
 abbrev invariant-loop : tie.invariant-loop
 invariant-loop n counted granted b₀ b =
-    (b ≤ n) × ((i : ℕ) → i < b → saidNo counted granted i ≡ false)
+    (b ≤ n) × ((i : ℕ) → i < b → said_no counted granted i ≡ false)
 
 abbrev decreases-loop : tie.decreases-loop
 decreases-loop n counted granted b₀ b = n - b
@@ -27,7 +27,7 @@ array-read-if2 : tie.Need-array-read-if2 invariant-loop decreases-loop
 array-read-if2 c = omega arith
 
 returns : tie.Need-returns invariant-loop decreases-loop
-returns c = found_some _ _ _ c.before.before.loop-test.true (said-no _ _ _ c.before.if1.true c.if2.true)
+returns c = found_some _ _ _ c.before.before.loop-test.true (said_no_lem _ _ _ c.before.if1.true c.if2.true)
 
 add-b : tie.Need-overflow-add-b invariant-loop decreases-loop
 add-b c = omega arith
@@ -36,7 +36,7 @@ loop-less : tie.Need-loop-smaller invariant-loop decreases-loop
 loop-less c = omega arith
 
 loop-again : tie.Need-loop-preserved invariant-loop decreases-loop
-loop-again c = (omega arith, below_more _ _ c.before.before.loop.invariant.1 (⊎_elim (λ w. said-yes _ _ _ w.1.left) (λ w. not-counted _ _ _ w.left) c.if1.branch))
+loop-again c = (omega arith, below_more _ _ c.before.before.loop.invariant.1 (⊎_elim (λ w. said_yes _ _ _ w.1.left) (λ w. not_counted _ _ _ w.left) c.if1.branch))
 
 returns-2 : tie.Need-returns-2 invariant-loop decreases-loop
 returns-2 c = found_none _ _ _ c.loop-test.false c.before.loop.invariant.1

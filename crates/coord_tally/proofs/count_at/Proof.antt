@@ -3,15 +3,15 @@ use native.Mathlib.Omega.{arith}
 use mathlib.Core.Logic.{⊎_elim}
 use mathlib.Core.Path.{◌≡◌, refl, ◌∙◌}
 use Prim.Native.Nat.{◌-◌, ◌≤◌}
-use Rattle.coord_tally.specs.Counting.{atTimes}
-use Rattle.coord_tally.proofs.Laws.CountingLaws.{count_yes, count_no, count-all}
+use Rattle.coord_tally.specs.Counting.{at_times}
+use Rattle.coord_tally.proofs.Laws.CountingLaws.{count_yes, count_no, count_all}
 use Rattle.settings.specs.Count.{count}
 use Rattle.coord_tally.proofs.count_at.Statement.{statement}
 use Rattle.coord_tally.proofs.count_at.Tie as tie
 
 abbrev invariant-loop : tie.invariant-loop
 invariant-loop time n flags found sum₀ b₀ sum b =
-    (sum ≡ count (atTimes flags found time) b) × (b ≤ n) × (sum ≤ b)
+    (sum ≡ count (at_times flags found time) b) × (b ≤ n) × (sum ≤ b)
 
 abbrev decreases-loop : tie.decreases-loop
 decreases-loop time n flags found sum₀ b₀ sum b = n - b
@@ -42,7 +42,7 @@ loop-less : tie.Need-loop-smaller invariant-loop decreases-loop
 loop-less c = omega arith
 
 loop-again : tie.Need-loop-preserved invariant-loop decreases-loop
-unfolding atTimes
+unfolding at_times
 loop-again c =
     let l = c.before.before.before.loop in
     ⊎_elim
@@ -51,7 +51,7 @@ loop-again c =
     c.if1.branch
 
 returns : tie.Need-returns invariant-loop decreases-loop
-returns c = count-all _ _ _ _ c.before.loop.invariant.0 c.loop-test.false c.before.loop.invariant.1
+returns c = count_all _ _ _ _ c.before.loop.invariant.0 c.loop-test.false c.before.loop.invariant.1
 
 pub count-at-spec : {M : Type 1} → statement M
 count-at-spec =

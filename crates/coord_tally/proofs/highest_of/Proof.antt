@@ -3,7 +3,7 @@ use mathlib.Core.Logic.{⊎_elim}
 use mathlib.Core.Path.{◌≡◌, refl, ◌∙◌}
 use Prim.Native.Nat.{◌-◌, ◌≤◌}
 use Rattle.coord_tally.specs.Counting.{highest}
-use Rattle.coord_tally.proofs.Laws.CountingLaws.{highest-out, highest-under, highest-over, highest-all}
+use Rattle.coord_tally.proofs.Laws.CountingLaws.{highest_out, highest_under, highest_over, highest_all}
 use Rattle.coord_tally.proofs.highest_of.Statement.{statement}
 use Rattle.coord_tally.proofs.highest_of.Tie as tie
 
@@ -43,15 +43,15 @@ loop-again : tie.Need-loop-preserved invariant-loop decreases-loop
 loop-again c =
     let l = c.before.before.loop in
     ⊎_elim
-    (λ w. (w.2 ∙ highest-over _ _ _ _ l.invariant.0 w.0.taken w.1.taken, omega arith))
+    (λ w. (w.2 ∙ highest_over _ _ _ _ l.invariant.0 w.0.taken w.1.taken, omega arith))
     (λ v. ⊎_elim
-    (λ w. (w.2 ∙ highest-under _ _ _ _ l.invariant.0 w.0.taken w.1.left, omega arith))
-    (λ w. (w.1 ∙ highest-out _ _ _ _ l.invariant.0 w.0.left, omega arith))
+    (λ w. (w.2 ∙ highest_under _ _ _ _ l.invariant.0 w.0.taken w.1.left, omega arith))
+    (λ w. (w.1 ∙ highest_out _ _ _ _ l.invariant.0 w.0.left, omega arith))
     v)
     c.if1.branch
 
 returns : tie.Need-returns invariant-loop decreases-loop
-returns c = highest-all _ _ _ _ _ c.before.loop.invariant.0 c.loop-test.false c.before.loop.invariant.1
+returns c = highest_all _ _ _ _ _ c.before.loop.invariant.0 c.loop-test.false c.before.loop.invariant.1
 
 pub highest-of-spec : {M : Type 1} → statement M
 highest-of-spec =

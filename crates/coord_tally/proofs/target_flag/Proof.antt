@@ -1,4 +1,4 @@
-use Rattle.coord_tally.proofs.Laws.TargetRowLaws.{flag-target, flag-none, flag-beyond}
+use Rattle.coord_tally.proofs.Laws.TargetRowLaws.{flag_target, flag_none, flag_beyond}
 use borrow.Author.Rules.{rules}
 use Rattle.coord_tally.proofs.target_flag.Statement.{statement}
 use Rattle.coord_tally.proofs.target_flag.Tie as tie
@@ -7,13 +7,13 @@ is-target-requires : tie.Need-is-target-requires
 is-target-requires c κs = search rules
 
 returns : tie.Need-returns
-returns c = search (rules, flag-target)
+returns c = search (rules, flag_target)
 
 returns-2 : tie.Need-returns-2
-returns-2 c = search (rules, flag-none)
+returns-2 c = search (rules, flag_none)
 
 returns-3 : tie.Need-returns-3
-returns-3 c = search (rules, flag-beyond)
+returns-3 c = search (rules, flag_beyond)
 
 pub target-flag-spec : {M : Type 1} → statement M
 target-flag-spec = tie.close (tie.spec is-target-requires returns returns-2 returns-3)

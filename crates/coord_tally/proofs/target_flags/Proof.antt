@@ -2,19 +2,19 @@ use borrow.Author.Rules.{rules}
 use native.Mathlib.Omega.{arith}
 use lib.ListN.{replicate}
 use Prim.Native.Nat.{◌-◌, ◌≤◌}
-use Rattle.coord_tally.specs.Counting.{targetFlag}
-use Rattle.coord_tally.proofs.Laws.TargetRowLaws.{flags-all}
+use Rattle.coord_tally.specs.Counting.{target_flag}
+use Rattle.coord_tally.proofs.Laws.TargetRowLaws.{flags_all}
 use Rattle.byte_lists.proofs.Laws.TabulateLaws.{Filled, filled_none, filled_more}
 use Rattle.coord_tally.proofs.target_flags.Statement.{statement}
 use Rattle.coord_tally.proofs.target_flags.Tie as tie
-use Rattle.settings.specs.Ranges.{maxBricks}
+use Rattle.settings.specs.Ranges.{max_bricks}
 
 abbrev invariant-loop : tie.invariant-loop
 invariant-loop n m first flags₀ b₀ flags b =
-    Filled (targetFlag n m first) (replicate maxBricks 0) flags b × (b ≤ maxBricks)
+    Filled (target_flag n m first) (replicate max_bricks 0) flags b × (b ≤ max_bricks)
 
 abbrev decreases-loop : tie.decreases-loop
-decreases-loop n m first flags₀ b₀ flags b = maxBricks - b
+decreases-loop n m first flags₀ b₀ flags b = max_bricks - b
 
 loop-holds : tie.Need-loop-init invariant-loop decreases-loop
 loop-holds c = (filled_none _ _, omega arith)
@@ -35,7 +35,7 @@ loop-again : tie.Need-loop-preserved invariant-loop decreases-loop
 loop-again c = (filled_more _ _ _ _ _ c.before.before.loop.invariant.0 (omega arith) c.target-flag.ensures, omega arith)
 
 returns : tie.Need-returns invariant-loop decreases-loop
-returns c = flags-all _ _ _ _ _ c.before.loop.invariant.0 c.loop-test.false
+returns c = flags_all _ _ _ _ _ c.before.loop.invariant.0 c.loop-test.false
 
 pub target-flags-spec : {M : Type 1} → statement M
 target-flags-spec =

@@ -3,15 +3,15 @@ use native.Mathlib.Omega.{arith}
 use lib.ListN.{replicate}
 use Prim.Native.Nat.{◌-◌, ◌≤◌}
 use Rattle.coord_tally.specs.Counting.{upward}
-use Rattle.coord_tally.proofs.Laws.TargetRowLaws.{targets-all}
+use Rattle.coord_tally.proofs.Laws.TargetRowLaws.{targets_all}
 use Rattle.byte_lists.proofs.Laws.TabulateLaws.{Filled, filled_none, filled_more}
 use Rattle.coord_tally.proofs.target_row.Statement.{statement}
 use Rattle.coord_tally.proofs.target_row.Tie as tie
-use Rattle.settings.specs.Ranges.{maxBricks}
+use Rattle.settings.specs.Ranges.{max_bricks}
 
 abbrev invariant-loop : tie.invariant-loop
 invariant-loop n m first row₀ i₀ row i =
-    Filled (upward n first) (replicate maxBricks 0) row i × (i ≤ m)
+    Filled (upward n first) (replicate max_bricks 0) row i × (i ≤ m)
 
 abbrev decreases-loop : tie.decreases-loop
 decreases-loop n m first row₀ i₀ row i = m - i
@@ -35,7 +35,7 @@ loop-again : tie.Need-loop-preserved invariant-loop decreases-loop
 loop-again c = (filled_more _ _ _ _ _ c.before.before.loop.invariant.0 (omega arith) c.upward-of.ensures, omega arith)
 
 returns : tie.Need-returns invariant-loop decreases-loop
-returns c = targets-all _ _ _ _ _ c.before.loop.invariant.0 c.loop-test.false c.before.loop.invariant.1 (omega arith)
+returns c = targets_all _ _ _ _ _ c.before.loop.invariant.0 c.loop-test.false c.before.loop.invariant.1 (omega arith)
 
 pub target-row-spec : {M : Type 1} → statement M
 target-row-spec =

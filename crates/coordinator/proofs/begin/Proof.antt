@@ -1,5 +1,5 @@
-use Rattle.coord_record.specs.Records.{noBricks}
-use Rattle.coordinator.specs.Workers.{startAnswer}
+use Rattle.coord_record.specs.Records.{no_bricks}
+use Rattle.coordinator.specs.Workers.{start_answer}
 use borrow.Author.Rules.{rules}
 use Rattle.coordinator.proofs.begin.Statement.{statement}
 use Rattle.coordinator.proofs.begin.Tie as tie
@@ -17,7 +17,7 @@ notice-of-requires : tie.Need-notice-of-requires
 notice-of-requires c κs = search rules
 
 returns : tie.Need-returns
-unfolding startAnswer noBricks
+unfolding start_answer no_bricks
 returns c = cc
 
 pub begin-spec : {M : Type 1} → statement M

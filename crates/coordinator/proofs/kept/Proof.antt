@@ -1,4 +1,4 @@
-use Rattle.coordinator.specs.Workers.{keptAnswer}
+use Rattle.coordinator.specs.Workers.{kept_answer}
 use borrow.Author.Rules.{rules}
 use Rattle.coordinator.proofs.kept.Statement.{statement}
 use Rattle.coordinator.proofs.kept.Tie as tie
@@ -13,7 +13,7 @@ nothing-seen-requires : tie.Need-nothing-seen-requires
 nothing-seen-requires c κs = search rules
 
 returns : tie.Need-returns
-unfolding keptAnswer
+unfolding kept_answer
 returns c = cc
 
 pub kept-spec : {M : Type 1} → statement M

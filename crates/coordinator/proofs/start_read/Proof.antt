@@ -1,5 +1,5 @@
 use mathlib.Core.Path.{refl, sym, ◌∙◌}
-use Rattle.coordinator.proofs.Laws.RoutineLaws.{read-call, start-refused, start-unread, start-running, start-begun, first_below, start-by}
+use Rattle.coordinator.proofs.Laws.RoutineLaws.{read_call_lem, start_refused, start_unread, start_running, start_begun, first_below, start_by}
 use borrow.Author.Rules.{rules}
 use Rattle.coordinator.proofs.start_read.Statement.{statement}
 use Rattle.coordinator.proofs.start_read.Tie as tie
@@ -12,8 +12,8 @@ refuse-requires c κs = search rules
 
 returns : tie.Need-returns
 returns c =
-    λ blocks stripe coded. read-call _ _ _ _ _ _ _ blocks stripe coded _ _
-    (start-refused _ _ _ _ _ _ _ blocks stripe coded _ _ _ c.before.before.read-refusal.ensures _ c.before.if1.true c.refuse.ensures)
+    λ blocks stripe coded. read_call_lem _ _ _ _ _ _ _ blocks stripe coded _ _
+    (start_refused _ _ _ _ _ _ _ blocks stripe coded _ _ _ c.before.before.read-refusal.ensures _ c.before.if1.true c.refuse.ensures)
 
 draw-requires : tie.Need-draw-requires
 draw-requires c κs = search rules
@@ -32,8 +32,8 @@ refuse-requires-2 c κs = search rules
 
 returns-2 : tie.Need-returns-2
 returns-2 c =
-    λ blocks stripe coded. read-call _ _ _ _ _ _ _ blocks stripe coded _ _
-    (start-unread _ _ _ _ _ _ _ blocks stripe coded _ _ _ c.before.before.before.before.before.before.before.read-refusal.ensures _ _ _ _
+    λ blocks stripe coded. read_call_lem _ _ _ _ _ _ _ blocks stripe coded _ _
+    (start_unread _ _ _ _ _ _ _ blocks stripe coded _ _ _ c.before.before.before.before.before.before.before.read-refusal.ensures _ _ _ _
     c.before.before.before.before.before.before.if1.false c.before.before.before.before.draw.ensures
     c.before.before.enum_told.given.1 c.before.number.ensures c.refuse2.ensures)
 
@@ -43,8 +43,8 @@ refuse-requires-3 c κs = search rules
 returns-3 : tie.Need-returns-3
 returns-3 c =
     let told = c.before.before.before.before in
-    λ blocks stripe coded. read-call _ _ _ _ _ _ _ blocks stripe coded _ _
-    (start-running _ _ _ _ _ _ _ blocks stripe coded _ _ _ told.before.before.before.before.before.before.read-refusal.ensures _ _ _
+    λ blocks stripe coded. read_call_lem _ _ _ _ _ _ _ blocks stripe coded _ _
+    (start_running _ _ _ _ _ _ _ blocks stripe coded _ _ _ told.before.before.before.before.before.before.read-refusal.ensures _ _ _
     told.before.before.before.before.before.if1.false (sym told.before.before.before.draw.ensures ∙ told.before.drew.given.1) c.before.if2.true
     c.refuse3.ensures)
 
@@ -60,13 +60,13 @@ begin-requires c κs = search rules
 
 returns-4 : tie.Need-returns-4
 returns-4 c =
-    λ blocks stripe coded. read-call _ _ _ _ _ _ _ blocks stripe coded _ _
-    (start-begun _ _ _ _ _ _ _ blocks stripe coded _ _ _
+    λ blocks stripe coded. read_call_lem _ _ _ _ _ _ _ blocks stripe coded _ _
+    (start_begun _ _ _ _ _ _ _ blocks stripe coded _ _ _
     c.before.before.before.before.before.before.before.before.before.before.before.before.before.read-refusal.ensures _ _ _ _ _
     c.before.before.before.before.before.before.before.before.before.before.before.before.if1.false
     (sym c.before.before.before.before.before.before.before.before.before.before.draw.ensures ∙ c.before.before.before.before.before.before.before.before.drew.given.1)
     c.before.before.before.before.if2.false refl c.before.target-flags.ensures refl
-    (start-by _ _ _ _ _ _ c.begin.ensures c.before.before.first-op.ensures))
+    (start_by _ _ _ _ _ _ c.begin.ensures c.before.before.first-op.ensures))
 
 pub start-read-spec : {M : Type 1} → statement M
 start-read-spec =

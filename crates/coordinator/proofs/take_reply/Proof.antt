@@ -1,6 +1,6 @@
 use lib.ListN.{length}
 use native.Mathlib.Omega.{arith}
-use Rattle.coordinator.proofs.Laws.RoutineLaws.{Takes, keeps, take-passed, ready-here, decided-here, took-refused, took-waiting, took-acted}
+use Rattle.coordinator.proofs.Laws.RoutineLaws.{Takes, keeps, take_passed, ready_here, decided_here, took_refused, took_waiting, took_acted}
 use borrow.Author.Rules.{rules}
 use Rattle.coordinator.proofs.take_reply.Statement.{statement}
 use Rattle.coordinator.proofs.take_reply.Tie as tie
@@ -11,7 +11,7 @@ passed : (c : tie.Else1) → Takes c.before.before.before.before.before.before.a
     c.before.before.before.before.before.before.args.c c.before.before.before.before.before.before.args.reply
     (length c.before.before.before.before.before.before.args.block.now) (length c.before.before.before.before.before.before.args.blocks.now)
     (length c.before.before.before.before.before.before.args.stripe.now) (length c.before.before.before.before.before.before.args.coded.now)
-passed c = take-passed _ _ _ _ _ _ _ _ _ _ _ c.before.take-refusal.ensures c.if1.false
+passed c = take_passed _ _ _ _ _ _ _ _ _ _ _ c.before.take-refusal.ensures c.if1.false
 
 take-refusal-requires : tie.Need-take-refusal-requires
 take-refusal-requires c κs = search rules
@@ -20,7 +20,7 @@ refuse-requires : tie.Need-refuse-requires
 refuse-requires c κs = search rules
 
 returns : tie.Need-returns
-returns c = took-refused _ _ _ _ _ _ c.before.before.before.before.before.before.before.args.block.now c.before.before.before.before.before.before.before.args.blocks.now
+returns c = took_refused _ _ _ _ _ _ c.before.before.before.before.before.before.before.args.block.now c.before.before.before.before.before.before.before.args.blocks.now
     c.before.before.before.before.before.before.before.args.stripe.now c.before.before.before.before.before.before.before.args.coded.now _ _
     c.before.before.take-refusal.ensures c.before.if1.true c.refuse.ensures
 
@@ -46,7 +46,7 @@ same_length : tie.Need-same-length
 same_length c = search rules
 
 returns-2 : tie.Need-returns-2
-returns-2 c = took-waiting _ _ _ _ _ _ c.before.before.before.before.before.before.before.before.before.before.before.before.before.before.before.before.before.before.args.block.now c.before.before.before.before.before.before.before.before.before.before.before.before.before.before.before.before.before.before.args.blocks.now
+returns-2 c = took_waiting _ _ _ _ _ _ c.before.before.before.before.before.before.before.before.before.before.before.before.before.before.before.before.before.before.args.block.now c.before.before.before.before.before.before.before.before.before.before.before.before.before.before.before.before.before.before.args.blocks.now
     c.before.before.before.before.before.before.before.before.before.before.before.before.before.before.before.before.before.before.args.stripe.now
     c.before.before.before.before.before.before.before.before.before.before.before.before.before.before.before.before.before.before.args.coded.now _
     c.before.before.before.before.before.before.before.before.before.before.before.before.before.take-refusal.ensures
@@ -63,7 +63,7 @@ decide-requires c κs = (
 
 act-requires : tie.Need-act-requires
 act-requires c κs = (
-  ready-here _ _ _ _ _ _
+  ready_here _ _ _ _ _ _
       c.before.before.before.before.before.before.before.before.before.before.before.before.before.before.before.before.before.before.before.before.before.before.args.block.now c.before.before.before.before.before.before.before.before.before.before.before.before.before.before.before.before.before.before.before.before.before.before.args.blocks.now c.before.before.before.before.before.before.before.before.before.before.before.before.before.before.before.before.before.before.before.before.before.before.args.stripe.now
       c.before.before.before.before.before.before.before.before.before.before.before.before.before.before.before.before.before.before.before.before.before.before.args.coded.now _ c.before.before.before.before.before.before.before.before.before.before.before.before.before.before.before.before.before.take-refusal.ensures
       c.before.before.before.before.before.before.before.before.before.before.before.before.before.before.before.before.if1.false _
@@ -74,7 +74,7 @@ act-requires c κs = (
       c.before.before.before.before.before.before.before.before.before.before.before.before.before.before.keep.auto.1.1.1.0,
   (
     (passed c.before.before.before.before.before.before.before.before.before.before.before.before.before.before.before.before).coded-length,
-    decided-here _ _ _ _ _ _
+    decided_here _ _ _ _ _ _
         c.before.before.before.before.before.before.before.before.before.before.before.before.before.before.before.before.before.before.before.before.before.before.args.block.now c.before.before.before.before.before.before.before.before.before.before.before.before.before.before.before.before.before.before.before.before.before.before.args.blocks.now c.before.before.before.before.before.before.before.before.before.before.before.before.before.before.before.before.before.before.before.before.before.before.args.stripe.now
         c.before.before.before.before.before.before.before.before.before.before.before.before.before.before.before.before.before.before.before.before.before.before.args.coded.now _ c.before.before.before.before.before.before.before.before.before.before.before.before.before.before.before.before.before.take-refusal.ensures
         c.before.before.before.before.before.before.before.before.before.before.before.before.before.before.before.before.if1.false _
@@ -95,7 +95,7 @@ same-length-4 : tie.Need-same-length-4
 same-length-4 c = search rules
 
 returns-3 : tie.Need-returns-3
-returns-3 c = took-acted _ _ _ _ _ _ c.before.before.before.before.before.before.before.before.before.before.before.before.before.before.before.before.before.before.before.before.before.before.before.before.before.before.before.args.block.now
+returns-3 c = took_acted _ _ _ _ _ _ c.before.before.before.before.before.before.before.before.before.before.before.before.before.before.before.before.before.before.before.before.before.before.before.before.before.before.before.args.block.now
     c.before.before.before.before.before.before.before.before.before.before.before.before.before.before.before.before.before.before.before.before.before.before.before.before.before.before.before.args.blocks.now
     c.before.before.before.before.before.before.before.before.before.before.before.before.before.before.before.before.before.before.before.before.before.before.before.before.before.before.before.args.stripe.now
     c.before.before.before.before.before.before.before.before.before.before.before.before.before.before.before.before.before.before.before.before.before.before.before.before.before.before.before.args.coded.now _

@@ -1,9 +1,9 @@
-use Rattle.coord_apply.specs.Acts.{withTally}
+use Rattle.coord_apply.specs.Acts.{with_tally}
 use Rattle.coordinator.proofs.with_tally.Statement.{statement}
 use Rattle.coordinator.proofs.with_tally.Tie as tie
 
 returns : tie.Need-returns
-unfolding withTally
+unfolding with_tally
 returns c = cc
 
 pub with-tally-spec : {M : Type 1} → statement M

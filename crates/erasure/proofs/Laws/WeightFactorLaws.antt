@@ -8,74 +8,74 @@ use lib.Dec.{eqb}
 use lib.ListN.{get_or}
 use borrow.Author.Tests.{eq-eqb, ne_eqb}
 use Rattle.byte_lists.proofs.Laws.TabulateLaws.{get_d_tabulate}
-use Rattle.erasure.specs.Code.{firstPoints}
-use Rattle.erasure.specs.Recoding.{unitStripe, weightAt}
-use Rattle.erasure.proofs.Laws.CodedByteLaws.{first-at}
-use Rattle.erasure.proofs.Laws.CodeTheoremLaws.{coded-value}
+use Rattle.erasure.specs.Code.{first_points}
+use Rattle.erasure.specs.Recoding.{unit_stripe, weight_at}
+use Rattle.erasure.proofs.Laws.CodedByteLaws.{first_at_lem}
+use Rattle.erasure.proofs.Laws.CodeTheoremLaws.{coded_value}
 use Rattle.gf256.specs.Product.{product, inverse}
-use Rattle.interpolate.specs.Bytes.{Byte, byte, byteField}
-use Rattle.interpolate.proofs.Laws.ByteLaws.{mul_is, inv-is, bytes-are-a-field}
-use Rattle.interpolate.proofs.Laws.WeightLaws.{difference-is}
+use Rattle.interpolate.specs.Bytes.{Byte, byte, byte_field}
+use Rattle.interpolate.proofs.Laws.ByteLaws.{mul_is, inv_is, bytes_are_a_field}
+use Rattle.interpolate.proofs.Laws.WeightLaws.{difference_is}
 use Rattle.interpolate.specs.Values.{byte_at}
 use Rattle.interpolate.specs.Workers.{points_of}
-use Rattle.poly.proofs.Laws.BasisLaws.{basisTo-skip, basisTo-step, basisTo-cong}
-use Rattle.poly.proofs.Laws.RingLaws.{mul-zero}
-use Rattle.poly.proofs.Laws.SumLaws.{sum-single}
-use Rattle.poly.specs.Polynomial.{sub, factor, basisTo, basis, interpolated}
-use Rattle.settings.specs.Count.{one-if}
+use Rattle.poly.proofs.Laws.BasisLaws.{basis_to_skip, basis_to_step, basis_to_cong}
+use Rattle.poly.proofs.Laws.RingLaws.{mul_zero}
+use Rattle.poly.proofs.Laws.SumLaws.{sum_single}
+use Rattle.poly.specs.Polynomial.{sub, factor, basis_to, basis, interpolated}
+use Rattle.settings.specs.Count.{one_if}
 
 -- the product of the factors of the first k data blocks but j
-unfoldable pub weightTo : (k brick j : ℕ) → ℕ
-weightTo k brick j = (basisTo byteField k (λ (i : ℕ). byte i) j (byte brick)).0
+unfoldable pub weight_to : (k brick j : ℕ) → ℕ
+weight_to k brick j = (basis_to byte_field k (λ (i : ℕ). byte i) j (byte brick)).0
 
-pub weight-none : (brick j : ℕ) → 1 ≡ weightTo 0 brick j
-unfolding weightTo basisTo
-weight-none brick j = refl
+pub weight_none : (brick j : ℕ) → 1 ≡ weight_to 0 brick j
+unfolding weight_to basis_to
+weight_none brick j = refl
 
 -- another factor
-pub weight-taken : (k brick j w below f r : ℕ) → k < 256 → brick < 256 → j < 256 → w ≡ weightTo k brick j → (k ≡ j → ⊥)
-    → below ≡ inverse (bit_xor j k) → f ≡ product (bit_xor brick k) below → r ≡ product w f → r ≡ weightTo (k + 1) brick j
-unfolding weightTo factor
-weight-taken k brick j w below f r hk hb hj ew apart ei ef er =
+pub weight_taken : (k brick j w below f r : ℕ) → k < 256 → brick < 256 → j < 256 → w ≡ weight_to k brick j → (k ≡ j → ⊥)
+    → below ≡ inverse (bit_xor j k) → f ≡ product (bit_xor brick k) below → r ≡ product w f → r ≡ weight_to (k + 1) brick j
+unfolding weight_to factor
+weight_taken k brick j w below f r hk hb hj ew apart ei ef er =
     er
     ∙ ap₂ product ew
     (ef
-    ∙ ap₂ product (sym (difference-is brick k hb hk)) (ei ∙ ap inverse (sym (difference-is j k hj hk)) ∙ sym (inv-is (sub byteField (byte j) (byte k))))
-    ∙ sym (mul_is (sub byteField (byte brick) (byte k)) (byteField.inv (sub byteField (byte j) (byte k)))))
-    ∙ sym (mul_is (basisTo byteField k (λ (i : ℕ). byte i) j (byte brick)) (factor byteField (λ (i : ℕ). byte i) j k (byte brick)))
-    ∙ ap (λ (b : Byte). b.0) (sym (basisTo-step byteField k (λ (i : ℕ). byte i) j (byte brick) apart))
-    ∙ ap (λ (l : ℕ). (basisTo byteField l (λ (i : ℕ). byte i) j (byte brick)).0) (sym (add-one k))
+    ∙ ap₂ product (sym (difference_is brick k hb hk)) (ei ∙ ap inverse (sym (difference_is j k hj hk)) ∙ sym (inv_is (sub byte_field (byte j) (byte k))))
+    ∙ sym (mul_is (sub byte_field (byte brick) (byte k)) (byte_field.inv (sub byte_field (byte j) (byte k)))))
+    ∙ sym (mul_is (basis_to byte_field k (λ (i : ℕ). byte i) j (byte brick)) (factor byte_field (λ (i : ℕ). byte i) j k (byte brick)))
+    ∙ ap (λ (b : Byte). b.0) (sym (basis_to_step byte_field k (λ (i : ℕ). byte i) j (byte brick) apart))
+    ∙ ap (λ (l : ℕ). (basis_to byte_field l (λ (i : ℕ). byte i) j (byte brick)).0) (sym (add-one k))
 
 -- none for j itself
-pub weight-left : (k brick j w : ℕ) → w ≡ weightTo k brick j → k ≡ j → w ≡ weightTo (k + 1) brick j
-unfolding weightTo
-weight-left k brick j w ew q =
-    ew ∙ ap (λ (b : Byte). b.0) (sym (basisTo-skip byteField k (λ (i : ℕ). byte i) j (byte brick) q))
-    ∙ ap (λ (l : ℕ). (basisTo byteField l (λ (i : ℕ). byte i) j (byte brick)).0) (sym (add-one k))
+pub weight_left : (k brick j w : ℕ) → w ≡ weight_to k brick j → k ≡ j → w ≡ weight_to (k + 1) brick j
+unfolding weight_to
+weight_left k brick j w ew q =
+    ew ∙ ap (λ (b : Byte). b.0) (sym (basis_to_skip byte_field k (λ (i : ℕ). byte i) j (byte brick) q))
+    ∙ ap (λ (l : ℕ). (basis_to byte_field l (λ (i : ℕ). byte i) j (byte brick)).0) (sym (add-one k))
 
 -- all factors: the coded value of the unit stripe
-pub weight-all : (n m brick j k w : ℕ) → brick < n → j < m → w ≡ weightTo k brick j → m ≤ k → k ≤ m → w ≡ weightAt n m brick j
-unfolding weightTo weightAt
-weight-all n m brick j k w hb hj ew a b =
+pub weight_all : (n m brick j k w : ℕ) → brick < n → j < m → w ≡ weight_to k brick j → m ≤ k → k ≤ m → w ≡ weight_at n m brick j
+unfolding weight_to weight_at
+weight_all n m brick j k w hb hj ew a b =
     ew
     ∙ ap (λ (x : Byte). x.0)
-    (ap (λ (l : ℕ). basisTo byteField l (λ (i : ℕ). byte i) j (byte brick)) (let e : k ≡ m = omega arith in e)
-    ∙ sym (basisTo-cong byteField m (points_of (firstPoints m)) (λ (i : ℕ). byte i) j (byte brick) (λ i h. ap byte (first-at m i h)) (ap byte (first-at m j hj)))
+    (ap (λ (l : ℕ). basis_to byte_field l (λ (i : ℕ). byte i) j (byte brick)) (let e : k ≡ m = omega arith in e)
+    ∙ sym (basis_to_cong byte_field m (points_of (first_points m)) (λ (i : ℕ). byte i) j (byte brick) (λ i h. ap byte (first_at_lem m i h)) (ap byte (first_at_lem m j hj)))
     ∙ sym single)
-    ∙ sym (coded-value n m 1 (unitStripe m j) brick 0 hb (omega arith))
+    ∙ sym (coded_value n m 1 (unit_stripe m j) brick 0 hb (omega arith))
   where
     base : ℕ → Byte
-    base i = basis byteField m (points_of (firstPoints m)) i (byte brick)
+    base i = basis byte_field m (points_of (first_points m)) i (byte brick)
 
-    unit : (i : ℕ) → i < m → byte_at 1 (unitStripe m j) i 0 ≡ one-if (eqb i j)
+    unit : (i : ℕ) → i < m → byte_at 1 (unit_stripe m j) i 0 ≡ one_if (eqb i j)
     unit i h =
-        unfold byte_at unitStripe in
-        ap (λ (x : ℕ). get_or (unitStripe m j) x 0) (let e : i * 1 + 0 ≡ i = omega arith in e) ∙ get_d_tabulate m (λ (i : ℕ). one-if (eqb i j)) i h
+        unfold byte_at unit_stripe in
+        ap (λ (x : ℕ). get_or (unit_stripe m j) x 0) (let e : i * 1 + 0 ≡ i = omega arith in e) ∙ get_d_tabulate m (λ (i : ℕ). one_if (eqb i j)) i h
 
-    single : interpolated byteField m (points_of (firstPoints m)) (λ (i : ℕ). byte (byte_at 1 (unitStripe m j) i 0)) (byte brick)
-        ≡ basisTo byteField m (points_of (firstPoints m)) j (byte brick)
+    single : interpolated byte_field m (points_of (first_points m)) (λ (i : ℕ). byte (byte_at 1 (unit_stripe m j) i 0)) (byte brick)
+        ≡ basis_to byte_field m (points_of (first_points m)) j (byte brick)
     single =
         unfold interpolated basis in
-        sum-single byteField bytes-are-a-field m (λ (i : ℕ). byteField.mul (base i) (byte (byte_at 1 (unitStripe m j) i 0))) j hj
-        (λ i h apart. ap (λ (x : ℕ). byteField.mul (base i) (byte x)) (unit i h ∙ ap one-if (ne_eqb i j apart)) ∙ mul-zero byteField bytes-are-a-field (base i))
-        ∙ ap (λ (x : ℕ). byteField.mul (base j) (byte x)) (unit j hj ∙ ap one-if (eq-eqb j j refl)) ∙ bytes-are-a-field.mul-one (base j)
+        sum_single byte_field bytes_are_a_field m (λ (i : ℕ). byte_field.mul (base i) (byte (byte_at 1 (unit_stripe m j) i 0))) j hj
+        (λ i h apart. ap (λ (x : ℕ). byte_field.mul (base i) (byte x)) (unit i h ∙ ap one_if (ne_eqb i j apart)) ∙ mul_zero byte_field bytes_are_a_field (base i))
+        ∙ ap (λ (x : ℕ). byte_field.mul (base j) (byte x)) (unit j hj ∙ ap one_if (eq-eqb j j refl)) ∙ bytes_are_a_field.mul-one (base j)

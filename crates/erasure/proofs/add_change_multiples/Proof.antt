@@ -4,7 +4,7 @@ use lib.ListN.{length, get_or}
 use mathlib.Core.Path.{ap}
 use Prim.Native.Nat.{ℕ, ◌-◌, ◌≤◌}
 use Rattle.byte_lists.proofs.Laws.TabulateLaws.{Filled, filled_none, filled_more}
-use Rattle.erasure.proofs.Laws.RecodingLaws.{change-filled}
+use Rattle.erasure.proofs.Laws.RecodingLaws.{change_filled}
 use Rattle.gf256.specs.Product.{plus, product}
 use Rattle.erasure.proofs.add_change_multiples.Statement.{statement}
 use Rattle.erasure.proofs.add_change_multiples.Tie as tie
@@ -53,7 +53,7 @@ same_length c = c.before.loop.invariant.0.size
 returns : tie.Need-returns invariant-loop decreases-loop
 returns c =
     let s = c.before.before.before.before.before.before in
-    change-filled s.args.w0 s.args.own.now s.args.old.now s.args.new.now _ _ c.before.loop.i c.before.loop.invariant.0 (omega arith) s.requires.0.out-length
+    change_filled s.args.w0 s.args.own.now s.args.old.now s.args.new.now _ _ c.before.loop.i c.before.loop.invariant.0 (omega arith) s.requires.0.out-length
 
 pub add-change-multiples-spec : {M : Type 1} → statement M
 add-change-multiples-spec =

@@ -3,7 +3,7 @@ use borrow.Author.Rules.{rules}
 use native.Mathlib.Omega.{arith}
 use mathlib.Core.Path.{◌≡◌, refl}
 use Rattle.erasure.specs.Refusals.{all_below}
-use Rattle.erasure.proofs.Laws.ListLaws.{below_rest, below-not, below_end}
+use Rattle.erasure.proofs.Laws.ListLaws.{below_rest, below_not, below_end}
 use Rattle.erasure.proofs.all_below.Statement.{statement}
 use Rattle.erasure.proofs.all_below.Tie as tie
 
@@ -23,7 +23,7 @@ cast-if1 : tie.Need-overflow-cast-if1 invariant-loop decreases-loop
 cast-if1 c = omega (arith, c.shared-slice-known.given 0)
 
 returns : tie.Need-returns invariant-loop decreases-loop
-returns c = below-not _ _ _ c.before.before.loop-test.true (omega (arith, c.if1.true)) c.before.before.before.loop.invariant
+returns c = below_not _ _ _ c.before.before.loop-test.true (omega (arith, c.if1.true)) c.before.before.before.loop.invariant
 
 sub-t : tie.Need-overflow-sub-t invariant-loop decreases-loop
 sub-t c = omega arith

@@ -2,13 +2,13 @@ use borrow.Author.Rules.{rules}
 use native.Mathlib.Omega.{arith}
 use lib.ListN.{length, length-take, length-drop}
 use mathlib.Core.Path.{◌≡◌, refl}
-use Rattle.erasure.specs.Refusals.{allDifferent}
-use Rattle.erasure.proofs.Laws.ListLaws.{different-rest, different-not, different-end}
+use Rattle.erasure.specs.Refusals.{all_different}
+use Rattle.erasure.proofs.Laws.ListLaws.{different_rest, different_not, different_end}
 use Rattle.erasure.proofs.all_different.Statement.{statement}
 use Rattle.erasure.proofs.all_different.Tie as tie
 
 abbrev invariant-loop : tie.invariant-loop
-invariant-loop bricks t₀ t = allDifferent t ≡ allDifferent bricks
+invariant-loop bricks t₀ t = all_different t ≡ all_different bricks
 
 abbrev decreases-loop : tie.decreases-loop
 decreases-loop bricks t₀ t = length t
@@ -32,16 +32,16 @@ position-requires : tie.Need-position-requires invariant-loop decreases-loop
 position-requires c κs = search rules
 
 returns : tie.Need-returns invariant-loop decreases-loop
-returns c = different-not _ _ _ c.before.before.before.before.loop-test.true c.before.position.ensures c.if1.true c.before.before.before.before.before.loop.invariant
+returns c = different_not _ _ _ c.before.before.before.before.loop-test.true c.before.position.ensures c.if1.true c.before.before.before.before.before.loop.invariant
 
 loop-less : tie.Need-loop-smaller invariant-loop decreases-loop
 loop-less c = simp (length-take, length-drop) (omega arith)
 
 loop-again : tie.Need-loop-preserved invariant-loop decreases-loop
-loop-again c = different-rest _ _ _ c.before.before.before.before.loop-test.true c.before.position.ensures c.if1.false c.before.before.before.before.before.loop.invariant
+loop-again c = different_rest _ _ _ c.before.before.before.before.loop-test.true c.before.position.ensures c.if1.false c.before.before.before.before.before.loop.invariant
 
 returns-2 : tie.Need-returns-2 invariant-loop decreases-loop
-returns-2 c = different-end _ _ c.loop-test.false c.before.loop.invariant
+returns-2 c = different_end _ _ c.loop-test.false c.before.loop.invariant
 
 pub all-different-spec : {M : Type 1} → statement M
 all-different-spec =

@@ -1,6 +1,6 @@
 use mathlib.Core.Path.{sym}
 use lib.Seq.{length-take-le}
-use Rattle.erasure.proofs.Laws.OnePolynomialLaws.{front-set, own-within, own-length, rest-length, cut_apart, cut-agree, cut-decoded}
+use Rattle.erasure.proofs.Laws.OnePolynomialLaws.{front_set, own_within, own_length, rest_length, cut_apart, cut_agree, cut_decoded}
 use borrow.Author.Rules.{rules}
 use Rattle.erasure.proofs.decode_checked.Statement.{statement}
 use Rattle.erasure.proofs.decode_checked.Tie as tie
@@ -16,7 +16,7 @@ slice-aggregate-interpolate-checked c =
 slice-aggregate-interpolate-checked-2 : tie.Need-slice-aggregate-interpolate-checked-2
 slice-aggregate-interpolate-checked-2 c =
     let s = c.before.before.before.before.before in
-    sym (length-take-le _ s.args.blocks.now (own-within _ _ _ s.args.blocks.now _ s.requires))
+    sym (length-take-le _ s.args.blocks.now (own_within _ _ _ s.args.blocks.now _ s.requires))
 
 sub-interpolate-checked : tie.Need-overflow-sub-interpolate-checked
 sub-interpolate-checked c = search rules
@@ -28,10 +28,10 @@ part-interpolate-checked-end : tie.Need-slice-bounds-interpolate-checked-end
 part-interpolate-checked-end c = search rules
 
 sub-interpolate-checked-2 : tie.Need-overflow-sub-interpolate-checked-2
-sub-interpolate-checked-2 c = let s = c.before.before.before.before.before.before in own-within _ _ _ s.args.blocks.now _ s.requires
+sub-interpolate-checked-2 c = let s = c.before.before.before.before.before.before in own_within _ _ _ s.args.blocks.now _ s.requires
 
 part-interpolate-checked-start-2 : tie.Need-slice-bounds-interpolate-checked-start-2
-part-interpolate-checked-start-2 c = let s = c.before.before.before.before.before.before in own-within _ _ _ s.args.blocks.now _ s.requires
+part-interpolate-checked-start-2 c = let s = c.before.before.before.before.before.before in own_within _ _ _ s.args.blocks.now _ s.requires
 
 part-interpolate-checked-end-2 : tie.Need-slice-bounds-interpolate-checked-end-2
 part-interpolate-checked-end-2 c = search rules
@@ -40,10 +40,10 @@ interpolate-checked-requires : tie.Need-interpolate-checked-requires
 interpolate-checked-requires c κs =
     let s = c.before.before.before.before.before.before.before.before in
     let d = s.requires in (
-      front-set _ _ d.m-high d.enough d.differ,
+      front_set _ _ d.m-high d.enough d.differ,
       (
         cut_apart _ _ _ s.args.blocks.now _ d,
-        ((own-length _ _ _ s.args.blocks.now _ d, d.size-high), (rest-length _ _ _ s.args.blocks.now _ d, (d.stripe-length, d.m-high))),
+        ((own_length _ _ _ s.args.blocks.now _ d, d.size-high), (rest_length _ _ _ s.args.blocks.now _ d, (d.stripe-length, d.m-high))),
       ),
     )
 
@@ -55,8 +55,8 @@ returns c =
     let s = c.before.before.before.before.before.before.before.before.before.before.before in
     let d = s.requires in
     let e = c.before.before.interpolate-checked.ensures in (
-      cut-agree _ _ _ s.args.blocks.now _ d _ e.0,
-      cut-decoded _ _ _ s.args.blocks.now _ d c.before.before.interpolate-checked.result s.args.stripe.now _ e.1,
+      cut_agree _ _ _ s.args.blocks.now _ d _ e.0,
+      cut_decoded _ _ _ s.args.blocks.now _ d c.before.before.interpolate-checked.result s.args.stripe.now _ e.1,
     )
 
 pub decode-checked-spec : {M : Type 1} → statement M

@@ -1,7 +1,7 @@
 use native.Mathlib.Omega.{arith}
 use mathlib.Core.Path.{sym, ap, ◌∙◌}
 use Prim.Native.Nat.{ℕ, ◌*◌}
-use Rattle.erasure.proofs.Laws.OnePolynomialLaws.{decoded-all}
+use Rattle.erasure.proofs.Laws.OnePolynomialLaws.{decoded_all}
 use borrow.Author.Rules.{rules}
 use Rattle.erasure.proofs.decode_into.Statement.{statement}
 use Rattle.erasure.proofs.decode_into.Tie as tie
@@ -18,7 +18,7 @@ returns : tie.Need-returns
 returns c =
     let s = c.before.before.before.before.before.before.before in
     c.before.before.interpolate.ensures
-    ∙ decoded-all s.args.m s.args.size s.args.bricks.now s.args.blocks.now s.requires.1.0
+    ∙ decoded_all s.args.m s.args.size s.args.bricks.now s.args.blocks.now s.requires.1.0
 
 pub decode-into-spec : {M : Type 1} → statement M
 decode-into-spec = tie.close (tie.spec interpolate-requires same_length returns)

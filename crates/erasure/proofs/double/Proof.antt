@@ -1,7 +1,7 @@
 use mathlib.Core.Path.{ap, ◌∙◌}
 use native.Mathlib.Omega.{arith}
 use Rattle.gf256.specs.Product.{twice, plus}
-use Rattle.gf256.proofs.Laws.ProductLaws.{product-one, product-twice}
+use Rattle.gf256.proofs.Laws.ProductLaws.{product_one, product_twice}
 use borrow.Author.Rules.{rules}
 use Rattle.erasure.proofs.double.Statement.{statement}
 use Rattle.erasure.proofs.double.Tie as tie
@@ -11,7 +11,7 @@ mul-by-requires c κs = search rules
 
 returns : tie.Need-returns
 unfolding twice plus
-returns c = c.mul-by.ensures.0 ∙ product-twice _ 1 c.before.ranges.a.fits (omega arith) ∙ ap twice (product-one _)
+returns c = c.mul-by.ensures.0 ∙ product_twice _ 1 c.before.ranges.a.fits (omega arith) ∙ ap twice (product_one _)
 
 pub double-spec : {M : Type 1} → statement M
 double-spec = tie.close (tie.spec mul-by-requires returns)

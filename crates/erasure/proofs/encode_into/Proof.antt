@@ -2,31 +2,31 @@ use native.Mathlib.Omega.{arith}
 use mathlib.Core.List.{List}
 use mathlib.Core.Path.{sym, ap, ◌∙◌}
 use Prim.Native.Nat.{ℕ, ◌*◌, ◌≤◌}
-use Rattle.erasure.specs.Code.{codedOf}
+use Rattle.erasure.specs.Code.{coded_of}
 use Rattle.erasure.specs.Workers.{Encodes}
-use Rattle.erasure.proofs.Laws.PassedLaws.{first-of-all-set, first-of-all-length, first-of-all}
-use Rattle.interpolate.specs.Values.{blocksAt}
-use Rattle.settings.specs.Ranges.{maxBricks}
+use Rattle.erasure.proofs.Laws.PassedLaws.{first_of_all_set, first_of_all_length, first_of_all}
+use Rattle.interpolate.specs.Values.{blocks_at}
+use Rattle.settings.specs.Ranges.{max_bricks}
 use borrow.Author.Rules.{rules}
 use Rattle.erasure.proofs.encode_into.Statement.{statement}
 use Rattle.erasure.proofs.encode_into.Tie as tie
 
-few : {n m size s k : ℕ} → Encodes n m size s k → m ≤ maxBricks
+few : {n m size s k : ℕ} → Encodes n m size s k → m ≤ max_bricks
 few e = omega (arith, e.range.m-high, e.range.n-high)
 
 array-share-prefix-points : tie.Need-array-share-prefix-points
 array-share-prefix-points c = search rules
 
 slice-aggregate-interpolate : tie.Need-slice-aggregate-interpolate
-slice-aggregate-interpolate c = sym (first-of-all-length c.before.before.before.args.m (few c.before.before.before.requires))
+slice-aggregate-interpolate c = sym (first_of_all_length c.before.before.before.args.m (few c.before.before.before.requires))
 
 interpolate-requires : tie.Need-interpolate-requires
 interpolate-requires c κs =
     let s = c.before.before.before.before in
     let e = s.requires in (
-      first-of-all-set s.args.m (few e),
+      first_of_all_set s.args.m (few e),
       (
-        e.stripe-length ∙ ap (λ (k : ℕ). k * s.args.size) (sym (first-of-all-length s.args.m (few e))),
+        e.stripe-length ∙ ap (λ (k : ℕ). k * s.args.size) (sym (first_of_all_length s.args.m (few e))),
         (e.coded-length, e.range.n-high),
       ),
     )
@@ -35,11 +35,11 @@ same_length : tie.Need-same-length
 same_length c = search rules
 
 returns : tie.Need-returns
-unfolding codedOf
+unfolding coded_of
 returns c =
     let a = c.before.before.before.before.before.before.before.args in
     c.before.before.interpolate.ensures
-    ∙ ap (λ (l : List ℕ). blocksAt l a.size a.stripe.now a.n) (first-of-all a.m (few c.before.before.before.before.before.before.before.requires))
+    ∙ ap (λ (l : List ℕ). blocks_at l a.size a.stripe.now a.n) (first_of_all a.m (few c.before.before.before.before.before.before.before.requires))
 
 pub encode-into-spec : {M : Type 1} → statement M
 encode-into-spec =

@@ -1,4 +1,4 @@
-use Rattle.erasure.proofs.Laws.CodeRefusalLaws.{number-refused, number-passes}
+use Rattle.erasure.proofs.Laws.CodeRefusalLaws.{number_refused, number_passes}
 use borrow.Author.Rules.{rules}
 use Rattle.erasure.proofs.number_refusal.Statement.{statement}
 use Rattle.erasure.proofs.number_refusal.Tie as tie
@@ -7,10 +7,10 @@ all-below-requires : tie.Need-all-below-requires
 all-below-requires c κs = search rules
 
 returns : tie.Need-returns
-returns c = search (rules, number-passes)
+returns c = search (rules, number_passes)
 
 returns-2 : tie.Need-returns-2
-returns-2 c = search (rules, number-refused)
+returns-2 c = search (rules, number_refused)
 
 pub number-refusal-spec : {M : Type 1} → statement M
 number-refusal-spec = tie.close (tie.spec all-below-requires returns returns-2)

@@ -1,5 +1,5 @@
 use borrow.Author.Rules.{rules}
-use Rattle.erasure.proofs.Laws.RecodingLaws.{recoded-by}
+use Rattle.erasure.proofs.Laws.RecodingLaws.{recoded_by}
 use Rattle.erasure.proofs.recode_into.Statement.{statement}
 use Rattle.erasure.proofs.recode_into.Tie as tie
 
@@ -20,7 +20,7 @@ same_length c = search rules
 
 returns : tie.Need-returns
 returns c =
-    recoded-by _ _ _ _ _ _ _ _ _ c.before.before.before.before.before.before.weight-at.ensures c.before.before.add-change.ensures
+    recoded_by _ _ _ _ _ _ _ _ _ c.before.before.before.before.before.before.weight-at.ensures c.before.before.add-change.ensures
 
 pub recode-into-spec : {M : Type 1} → statement M
 recode-into-spec =

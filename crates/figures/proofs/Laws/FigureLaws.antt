@@ -9,8 +9,8 @@ use borrow.Author.Tests.{eqb-true}
 use Rattle.byte_lists.specs.Lists.{same}
 use Rattle.byte_lists.proofs.Laws.BoolLaws.{and_left, and_right}
 use Rattle.byte_lists.proofs.Laws.SameLaws.{same_true}
-use Rattle.register.proofs.Laws.Opened.{settings-open, little-open, block-open, image-open, gf256-open, poly-open, interpolate-open, erasure-open}
-use Rattle.figures.specs.Figures.{Figure, number, bytes, time, passes, refusal, Row, drawn, drawFor, placed, refusedBy, refusalFor, placeIn4, checkAt, freshImage}
+use Rattle.register.proofs.Laws.Opened.{settings_open, little_open, block_open, image_open, gf256_open, poly_open, interpolate_open, erasure_open}
+use Rattle.figures.specs.Figures.{Figure, number, bytes, time, passes, refusal, Row, drawn, draw_for, placed, refused_by, refusal_for, place_in4, check_at, fresh_image}
 use Rattle.figures.specs.Figures.{figures, Hold, FiguresHold}
 
 -- a figure as its sort and its content, and read back
@@ -62,12 +62,12 @@ unfolding Hold agree
 held [] e = tt
 held (r ∷ rows) e = (alike_same r.given r.figure (and_left _ _ e), held rows (and_right (alike r.given r.figure) _ e))
 
-pub figures-hold : FiguresHold
-unfolding settings-open little-open block-open image-open gf256-open poly-open interpolate-open erasure-open
-    Rattle.volume.specs.ClientPlaces.stripeOf Rattle.volume.specs.ClientPlaces.dataBlockOf Rattle.volume.specs.ClientPlaces.clientBlocks
-    Rattle.volume.specs.ClientPlaces.clientRefusal Rattle.volume.specs.ClientPlaces.placeRefusal Rattle.volume.specs.ClientPlaces.place_of
+pub figures_hold : FiguresHold
+unfolding settings_open little_open block_open image_open gf256_open poly_open interpolate_open erasure_open
+    Rattle.volume.specs.ClientPlaces.stripe_of Rattle.volume.specs.ClientPlaces.data_block_of Rattle.volume.specs.ClientPlaces.client_blocks
+    Rattle.volume.specs.ClientPlaces.client_refusal Rattle.volume.specs.ClientPlaces.place_refusal Rattle.volume.specs.ClientPlaces.place_of
     Rattle.byte_lists.specs.Each.each Rattle.erasure.specs.Refusals.all_below Rattle.erasure.specs.Refusals.stands
-    Rattle.erasure.specs.Refusals.allDifferent Rattle.erasure.specs.Refusals.listRefusal Rattle.erasure.specs.Refusals.decodeRefusal
-    Rattle.coord_tally.specs.Counting.atTime Rattle.coord_tally.specs.Counting.atTimes Rattle.coord_tally.specs.Counting.passing
-    drawn drawFor placed refusedBy refusalFor placeIn4 checkAt freshImage figures sort content alike agree
-figures-hold = held figures refl
+    Rattle.erasure.specs.Refusals.all_different Rattle.erasure.specs.Refusals.list_refusal Rattle.erasure.specs.Refusals.decode_refusal
+    Rattle.coord_tally.specs.Counting.at_time Rattle.coord_tally.specs.Counting.at_times Rattle.coord_tally.specs.Counting.passing
+    drawn draw_for placed refused_by refusal_for place_in4 check_at fresh_image figures sort content alike agree
+figures_hold = held figures refl

@@ -1,26 +1,26 @@
 -- Laws of `specs/ShortLogs`.
 use mathlib.Core.Path.{refl}
-use Rattle.register.proofs.Laws.Opened.{all-open}
-use Rattle.register.specs.RunLetters.{stepLetter, arrivingLetter, arrivingLetterAt, letterAt}
-use Rattle.figures.specs.ShortLogs.{cutWrites, firstLook, secondLook, stores, schedule, seenEnding, DropsMakeRoom, WithoutDropsNothingIsStored}
-use Rattle.figures.specs.ShortLogs.{cutThenRead, moreTries, lettersFrom, OneCutFillsABrick, EachTryEndsG, AThirdEntryBearsOneCut}
+use Rattle.register.proofs.Laws.Opened.{all_open}
+use Rattle.register.specs.RunLetters.{step_letter, arriving_letter, arriving_letter_at, letter_at}
+use Rattle.figures.specs.ShortLogs.{cut_writes, first_look, second_look, stores, schedule, seen_ending, DropsMakeRoom, WithoutDropsNothingIsStored}
+use Rattle.figures.specs.ShortLogs.{cut_then_read, more_tries, letters_from, OneCutFillsABrick, EachTryEndsG, AThirdEntryBearsOneCut}
 
-pub drops-make-room : DropsMakeRoom
-unfolding all-open cutWrites firstLook secondLook stores schedule seenEnding
-drops-make-room = refl
+pub drops_make_room : DropsMakeRoom
+unfolding all_open cut_writes first_look second_look stores schedule seen_ending
+drops_make_room = refl
 
-pub without-drops-nothing-is-stored : WithoutDropsNothingIsStored
-unfolding all-open cutWrites firstLook secondLook stores schedule seenEnding
-without-drops-nothing-is-stored = refl
+pub without_drops_nothing_is_stored : WithoutDropsNothingIsStored
+unfolding all_open cut_writes first_look second_look stores schedule seen_ending
+without_drops_nothing_is_stored = refl
 
-pub one-cut-fills-a-brick : OneCutFillsABrick
-unfolding all-open cutThenRead moreTries
-one-cut-fills-a-brick = refl
+pub one_cut_fills_a_brick : OneCutFillsABrick
+unfolding all_open cut_then_read more_tries
+one_cut_fills_a_brick = refl
 
-pub each-try-ends-g : EachTryEndsG
-unfolding all-open cutThenRead moreTries lettersFrom letterAt arrivingLetterAt arrivingLetter stepLetter
-each-try-ends-g = refl
+pub each_try_ends_g : EachTryEndsG
+unfolding all_open cut_then_read more_tries letters_from letter_at arriving_letter_at arriving_letter step_letter
+each_try_ends_g = refl
 
-pub a-third-entry-bears-one-cut : AThirdEntryBearsOneCut
-unfolding all-open cutThenRead
-a-third-entry-bears-one-cut = refl
+pub a_third_entry_bears_one_cut : AThirdEntryBearsOneCut
+unfolding all_open cut_then_read
+a_third_entry_bears_one_cut = refl

@@ -2,8 +2,8 @@ use borrow.Author.Rules.{rules}
 use native.Mathlib.Omega.{arith}
 use Prim.Native.Nat.{◌<◌}
 use lib.ListN.{get_or}
-use Rattle.gf256.specs.Product.{powerCount}
-use Rattle.gf256.proofs.Laws.LookupLaws.{of_zero, log-below, inverse-at}
+use Rattle.gf256.specs.Product.{power_count}
+use Rattle.gf256.proofs.Laws.LookupLaws.{of_zero, log_below, inverse_at}
 use Rattle.gf256.proofs.inv_by.Statement.{statement}
 use Rattle.gf256.proofs.inv_by.Tie as tie
 
@@ -13,8 +13,8 @@ returns c = search (rules, of_zero)
 element-copy-out-power-at : tie.Need-element-copy-out-power-at
 element-copy-out-power-at c = search rules
 
-log-a : (s : tie.Start) → get_or s.args.logs.now s.args.a 0 < powerCount
-log-a s = log-below s.args.logs.now s.requires.1 s.args.a s.ranges.a.fits
+log-a : (s : tie.Start) → get_or s.args.logs.now s.args.a 0 < power_count
+log-a s = log_below s.args.logs.now s.requires.1 s.args.a s.ranges.a.fits
 
 cast-power-at : tie.Need-overflow-cast-power-at
 cast-power-at c = omega (arith, log-a c.before.before)
@@ -26,7 +26,7 @@ power-at-requires : tie.Need-power-at-requires
 power-at-requires c κs = omega arith
 
 returns-2 : tie.Need-returns-2
-returns-2 c = search (rules, inverse-at)
+returns-2 c = search (rules, inverse_at)
 
 pub inv-by-spec : {M : Type 1} → statement M
 inv-by-spec =

@@ -3,9 +3,9 @@ use borrow.Author.Rules.{rules}
 use native.Mathlib.Omega.{arith}
 use Prim.Native.Nat.{◌<◌}
 use lib.ListN.{get_or}
-use Rattle.gf256.specs.Product.{powerCount}
-use Rattle.gf256.specs.LogSums.{logSum}
-use Rattle.gf256.proofs.Laws.LookupLaws.{log-below, sum-at-most}
+use Rattle.gf256.specs.Product.{power_count}
+use Rattle.gf256.specs.LogSums.{log_sum}
+use Rattle.gf256.proofs.Laws.LookupLaws.{log_below, sum_at_most}
 use Rattle.gf256.proofs.log_sum.Statement.{statement}
 use Rattle.gf256.proofs.log_sum.Tie as tie
 
@@ -13,11 +13,11 @@ element-copy-out-result : tie.Need-element-copy-out-result
 element-copy-out-result c = search rules
 
 -- both logarithms are below 255
-log-a : (s : tie.Start) → get_or s.args.logs.now s.args.a 0 < powerCount
-log-a s = log-below s.args.logs.now s.requires s.args.a s.ranges.a.fits
+log-a : (s : tie.Start) → get_or s.args.logs.now s.args.a 0 < power_count
+log-a s = log_below s.args.logs.now s.requires s.args.a s.ranges.a.fits
 
-log-b : (s : tie.Start) → get_or s.args.logs.now s.args.b 0 < powerCount
-log-b s = log-below s.args.logs.now s.requires s.args.b s.ranges.b.fits
+log-b : (s : tie.Start) → get_or s.args.logs.now s.args.b 0 < power_count
+log-b s = log_below s.args.logs.now s.requires s.args.b s.ranges.b.fits
 
 cast-result : tie.Need-overflow-cast-result
 cast-result c = omega (arith, log-a c.before)
@@ -32,8 +32,8 @@ add-result : tie.Need-overflow-add-result
 add-result c = omega (arith, log-a c.before.before, log-b c.before.before)
 
 returns : tie.Need-returns
-unfolding logSum
-returns c = let s = c.before.before in (refl, sum-at-most s.args.logs.now s.requires s.args.a s.args.b s.ranges.a.fits s.ranges.b.fits)
+unfolding log_sum
+returns c = let s = c.before.before in (refl, sum_at_most s.args.logs.now s.requires s.args.a s.args.b s.ranges.a.fits s.ranges.b.fits)
 
 pub log-sum-spec : {M : Type 1} → statement M
 log-sum-spec = tie.close (tie.spec element-copy-out-result cast-result element-copy-out-result-2 cast-result-2 add-result returns)

@@ -1,14 +1,14 @@
 use mathlib.Core.Path.{refl}
 use Rattle.byte_lists.specs.Each.{each}
 use Rattle.gf256.specs.Product.{plus, twice}
-use Rattle.gf256.specs.Tables.{logsRight, indexRight, doublings}
-use Rattle.gf256.proofs.Laws.TableLaws.{logs-by-test}
+use Rattle.gf256.specs.Tables.{logs_right, index_right, doublings}
+use Rattle.gf256.proofs.Laws.TableLaws.{logs_by_test}
 use Rattle.gf256.proofs.logs.Statement.{statement}
 use Rattle.gf256.proofs.logs.Tie as tie
 
 returns : tie.Need-returns
-unfolding logsRight indexRight doublings each twice plus
-returns c = logs-by-test _ refl
+unfolding logs_right index_right doublings each twice plus
+returns c = logs_by_test _ refl
 
 pub logs-spec : {M : Type 1} → statement M
 logs-spec = tie.close (tie.spec returns)

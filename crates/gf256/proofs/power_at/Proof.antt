@@ -3,7 +3,7 @@ use borrow.Author.Rules.{rules}
 use native.Mathlib.Omega.{arith}
 use Prim.Native.Nat.{ℕ}
 use lib.ListN.{get_or}
-use Rattle.gf256.proofs.Laws.LookupLaws.{folded_low, folded-high}
+use Rattle.gf256.proofs.Laws.LookupLaws.{folded_low, folded_high}
 use Rattle.gf256.proofs.power_at.Statement.{statement}
 use Rattle.gf256.proofs.power_at.Tie as tie
 
@@ -20,7 +20,7 @@ element-copy-out-result-2 : tie.Need-element-copy-out-result-2
 element-copy-out-result-2 c = omega arith
 
 returns-2 : tie.Need-returns-2
-returns-2 c = let s = c.before.before in ap (λ (k : ℕ). get_or s.args.powers.now k 0) (folded-high s.args.sum _ (omega arith) (omega arith))
+returns-2 c = let s = c.before.before in ap (λ (k : ℕ). get_or s.args.powers.now k 0) (folded_high s.args.sum _ (omega arith) (omega arith))
 
 pub power-at-spec : {M : Type 1} → statement M
 power-at-spec = tie.close (tie.spec element-copy-out-result returns sub-result element-copy-out-result-2 returns-2)

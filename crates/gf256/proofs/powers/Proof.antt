@@ -1,13 +1,13 @@
 use mathlib.Core.Path.{refl}
 use Rattle.gf256.specs.Product.{plus, twice}
-use Rattle.gf256.specs.Tables.{powersRight, chained}
-use Rattle.gf256.proofs.Laws.TableLaws.{powers-by-test}
+use Rattle.gf256.specs.Tables.{powers_right, chained}
+use Rattle.gf256.proofs.Laws.TableLaws.{powers_by_test}
 use Rattle.gf256.proofs.powers.Statement.{statement}
 use Rattle.gf256.proofs.powers.Tie as tie
 
 returns : tie.Need-returns
-unfolding powersRight chained twice plus
-returns c = powers-by-test _ refl
+unfolding powers_right chained twice plus
+returns c = powers_by_test _ refl
 
 pub powers-spec : {M : Type 1} → statement M
 powers-spec = tie.close (tie.spec returns)

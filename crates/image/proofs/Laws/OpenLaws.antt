@@ -12,195 +12,195 @@ use native.Mathlib.Nat.{add-zero}
 use native.Mathlib.Decide.{dec_lt}
 use borrow.Author.Tests.{ltb-true, le-ltb, leb-true, eqb-true}
 use Rattle.settings.specs.Ranges.{in_range}
-use Rattle.settings.specs.Refusal.{refuseUnless, firstRefusal}
+use Rattle.settings.specs.Refusal.{refuse_unless, first_refusal}
 use Rattle.settings.specs.Ranges.{SettingsRange}
 use Rattle.byte_lists.proofs.Laws.BoolLaws.{and_left, and_right}
 use Rattle.settings.specs.declared.Settings.{Settings}
 use Rattle.image_block.specs.Block.{checked}
-use Rattle.image.specs.Brick.{entryCount, timeAt, markAt, countSound}
+use Rattle.image.specs.Brick.{entry_count, time_at, mark_at, count_sound}
 use Rattle.byte_lists.specs.Each.{each}
-use Rattle.byte_lists.proofs.Laws.EachLaws.{each_at, each_all, each-not}
-use Rattle.image.specs.Image.{imageSize}
-use Rattle.image.specs.Parse.{imageBlockAt, countIn, promiseIn, timeIn, markIn, brickIn, checkedAt, isImage, openRefusal, Refuses, parse}
-use Rattle.image.proofs.Laws.ParseLaws.{range-of, count-in, refusal-0, refusal-5, refusal-6, parse-opens, parse-refuses}
-use Rattle.image.specs.Opening.{row_of, blank, noBlank, entryFor, entry_of, workingLog, opening, lendingRefusal}
-use Rattle.image.specs.Workers.{headFits}
-use Rattle.image.specs.Workers.{checkAfter, slot_at, entry_at, Scanned}
-use Rattle.image.proofs.Laws.FieldTestLaws.{tests-image, time-in, mark-in}
+use Rattle.byte_lists.proofs.Laws.EachLaws.{each_at, each_all, each_not}
+use Rattle.image.specs.Image.{image_size}
+use Rattle.image.specs.Parse.{image_block_at, count_in, promise_in, time_in, mark_in, brick_in, checked_at, is_image, open_refusal, Refuses, parse}
+use Rattle.image.proofs.Laws.ParseLaws.{range_of, count_in_lem, refusal_0, refusal_5, refusal_6, parse_opens, parse_refuses}
+use Rattle.image.specs.Opening.{row_of, blank, no_blank, entry_for, entry_of, working_log, opening, lending_refusal}
+use Rattle.image.specs.Workers.{head_fits}
+use Rattle.image.specs.Workers.{check_after, slot_at, entry_at, Scanned}
+use Rattle.image.proofs.Laws.FieldTestLaws.{tests_image, time_in_lem, mark_in_lem}
 use Rattle.image.specs.declared.Entry.{Entry}
 use Rattle.image.specs.declared.Opening.{Opening}
 use Rattle.image.specs.declared.ImageAnswer.TheVariants.{Opened, Refused}
-use Rattle.settings.specs.Ranges.{maxCapacity}
-use Rattle.settings.specs.Refusal.{badCheck, badLength, badNumber, badRecord, badSetting}
+use Rattle.settings.specs.Ranges.{max_capacity}
+use Rattle.settings.specs.Refusal.{bad_check, bad_length, bad_number, bad_record, bad_setting}
 
 -- what passes the first refusals
 pub record LentImage (s : Settings) (brick len : ℕ) : Type 0 where
   pub in-range : in_range s ≡ true
   pub range : SettingsRange s
-  pub long : len ≡ imageSize s
+  pub long : len ≡ image_size s
   pub brick-low : brick < s.n
 
-pub lent : (s : Settings) (brick len k : ℕ) → k ≡ lendingRefusal s brick len → k ≡ 0 → LentImage s brick len
-unfolding lendingRefusal firstRefusal
-lent s brick len k e z = go (in_range s) (eqb len (imageSize s)) (ltb brick s.n) refl refl refl (sym e ∙ z)
+pub lent : (s : Settings) (brick len k : ℕ) → k ≡ lending_refusal s brick len → k ≡ 0 → LentImage s brick len
+unfolding lending_refusal first_refusal
+lent s brick len k e z = go (in_range s) (eqb len (image_size s)) (ltb brick s.n) refl refl refl (sym e ∙ z)
   where
-    go : (a b c : Bool) → in_range s ≡ a → eqb len (imageSize s) ≡ b → ltb brick s.n ≡ c
-        → ◌≡◌ {A = ℕ} (firstRefusal (refuseUnless a badSetting ∷ refuseUnless b badLength ∷ refuseUnless c badNumber ∷ [])) 0 → LentImage s brick len
+    go : (a b c : Bool) → in_range s ≡ a → eqb len (image_size s) ≡ b → ltb brick s.n ≡ c
+        → ◌≡◌ {A = ℕ} (first_refusal (refuse_unless a bad_setting ∷ refuse_unless b bad_length ∷ refuse_unless c bad_number ∷ [])) 0 → LentImage s brick len
     go false b c ea eb ec r = absurd (omega arith)
     go true false c ea eb ec r = absurd (omega arith)
     go true true false ea eb ec r = absurd (omega arith)
     go true true true ea eb ec r =
-        record { in-range = ea; range = range-of s ea; long = eqb-true len (imageSize s) eb; brick-low = ltb-true brick s.n ec }
+        record { in-range = ea; range = range_of s ea; long = eqb-true len (image_size s) eb; brick-low = ltb-true brick s.n ec }
 
-pub lending-parse : (s : Settings) (brick : ℕ) (l : List ℕ) (k : ℕ) → k ≡ lendingRefusal s brick (length l) → (k ≡ 0 → ⊥) → parse s brick l ≡ Refuses k
-unfolding lendingRefusal openRefusal firstRefusal
-lending-parse s brick l k e z = parse-refuses s brick l k (go (in_range s) (eqb (length l) (imageSize s)) (ltb brick s.n) e) z
+pub lending_parse : (s : Settings) (brick : ℕ) (l : List ℕ) (k : ℕ) → k ≡ lending_refusal s brick (length l) → (k ≡ 0 → ⊥) → parse s brick l ≡ Refuses k
+unfolding lending_refusal open_refusal first_refusal
+lending_parse s brick l k e z = parse_refuses s brick l k (go (in_range s) (eqb (length l) (image_size s)) (ltb brick s.n) e) z
   where
-    go : (a b c : Bool) → k ≡ firstRefusal (refuseUnless a badSetting ∷ refuseUnless b badLength ∷ refuseUnless c badNumber ∷ [])
-        → firstRefusal (refuseUnless a badSetting ∷ refuseUnless b badLength ∷ refuseUnless c badNumber ∷ refuseUnless (each (checkedAt l) (s.capacity + 1)) badCheck ∷ refuseUnless
-        (isImage s brick l) badRecord ∷ []) ≡ k
+    go : (a b c : Bool) → k ≡ first_refusal (refuse_unless a bad_setting ∷ refuse_unless b bad_length ∷ refuse_unless c bad_number ∷ [])
+        → first_refusal (refuse_unless a bad_setting ∷ refuse_unless b bad_length ∷ refuse_unless c bad_number ∷ refuse_unless (each (checked_at l) (s.capacity + 1)) bad_check ∷ refuse_unless
+        (is_image s brick l) bad_record ∷ []) ≡ k
     go false b c r = sym r
     go true false c r = sym r
     go true true false r = sym r
     go true true true r = absurd (z r)
 
-pub open-lending : (s : Settings) (brick : ℕ) (l : List ℕ) (k : ℕ) (r : Opening) → k ≡ lendingRefusal s brick (length l) → (k ≡ 0 → ⊥)
+pub open_lending : (s : Settings) (brick : ℕ) (l : List ℕ) (k : ℕ) (r : Opening) → k ≡ lending_refusal s brick (length l) → (k ≡ 0 → ⊥)
     → r ≡ opening (Refuses k) → r ≡ opening (parse s brick l)
-open-lending s brick l k r e z q = q ∙ ap opening (sym (lending-parse s brick l k e z))
+open_lending s brick l k r e z q = q ∙ ap opening (sym (lending_parse s brick l k e z))
 
 -- all checks: the head's and the others
-checks-all : (l : List ℕ) (n : ℕ) → checkedAt l 0 ≡ true → each (checkAfter l) n ≡ true → each (checkedAt l) (n + 1) ≡ true
-unfolding checkAfter
-checks-all l n h t = each_all (checkedAt l) (n + 1) each
+checks_all : (l : List ℕ) (n : ℕ) → checked_at l 0 ≡ true → each (check_after l) n ≡ true → each (checked_at l) (n + 1) ≡ true
+unfolding check_after
+checks_all l n h t = each_all (checked_at l) (n + 1) each
   where
-    each : (k : ℕ) → k < n + 1 → checkedAt l k ≡ true
+    each : (k : ℕ) → k < n + 1 → checked_at l k ≡ true
     each zero b = h
-    each (suc i) b = ap (λ (k : ℕ). checkedAt l k) (sym (add-one i)) ∙ each_at (checkAfter l) n i t (omega arith)
+    each (suc i) b = ap (λ (k : ℕ). checked_at l k) (sym (add-one i)) ∙ each_at (check_after l) n i t (omega arith)
 
-checks-fail : (l : List ℕ) (n : ℕ) → each (checkAfter l) n ≡ false → each (checkedAt l) (n + 1) ≡ false
-unfolding checkAfter
-checks-fail l n f = go (each (checkedAt l) (n + 1)) refl
+checks_fail : (l : List ℕ) (n : ℕ) → each (check_after l) n ≡ false → each (checked_at l) (n + 1) ≡ false
+unfolding check_after
+checks_fail l n f = go (each (checked_at l) (n + 1)) refl
   where
-    go : (b : Bool) → each (checkedAt l) (n + 1) ≡ b → each (checkedAt l) (n + 1) ≡ false
-    go true e = e ∙ sym (each_all (checkAfter l) n (λ i h. each_at (checkedAt l) (n + 1) (i + 1) e (omega (arith, h)))) ∙ f
+    go : (b : Bool) → each (checked_at l) (n + 1) ≡ b → each (checked_at l) (n + 1) ≡ false
+    go true e = e ∙ sym (each_all (check_after l) n (λ i h. each_at (checked_at l) (n + 1) (i + 1) e (omega (arith, h)))) ∙ f
     go false e = e
 
 -- the working log that the loop made
-row-ext : (f g : ℕ → Entry) (n : ℕ) → ((i : ℕ) → i < n → f i ≡ g i) → row_of f n ≡ row_of g n
+row_ext : (f g : ℕ → Entry) (n : ℕ) → ((i : ℕ) → i < n → f i ≡ g i) → row_of f n ≡ row_of g n
 unfolding row_of
-row-ext f g zero e = refl
-row-ext f g (suc n) e = ap₂ (λ (a : List Entry) (b : Entry). a ++ b ∷ []) (row-ext f g n (λ i h. e i (omega arith))) (e n (omega arith))
+row_ext f g zero e = refl
+row_ext f g (suc n) e = ap₂ (λ (a : List Entry) (b : Entry). a ++ b ∷ []) (row_ext f g n (λ i h. e i (omega arith))) (e n (omega arith))
 
-row-blank : (f : ℕ → Entry) (n j : ℕ) → ((i : ℕ) → n ≤ i → f i ≡ blank) → row_of f (n + j) ≡ row_of f n ++ replicate j blank
+row_blank : (f : ℕ → Entry) (n j : ℕ) → ((i : ℕ) → n ≤ i → f i ≡ blank) → row_of f (n + j) ≡ row_of f n ++ replicate j blank
 unfolding row_of
-row-blank f n zero e = ap (λ (k : ℕ). row_of f k) (add-zero n) ∙ sym (append-nil (row_of f n))
-row-blank f n (suc j) e =
+row_blank f n zero e = ap (λ (k : ℕ). row_of f k) (add-zero n) ∙ sym (append-nil (row_of f n))
+row_blank f n (suc j) e =
     let m : n + suc j ≡ suc n + j = omega arith in
     ap (λ (k : ℕ). row_of f k) m
-    ∙ row-blank f (suc n) j (λ i h. e i (omega (arith, h)))
+    ∙ row_blank f (suc n) j (λ i h. e i (omega (arith, h)))
     ∙ ap (λ (b : Entry). (row_of f n ++ b ∷ []) ++ replicate j blank) (e n (omega arith))
     ∙ append_snoc (row_of f n) blank (replicate j blank)
 
-entry_past : (time : ℕ) (mark : Bool) (i n : ℕ) → n ≤ i → entryFor time mark i n ≡ blank
-unfolding entryFor
+entry_past : (time : ℕ) (mark : Bool) (i n : ℕ) → n ≤ i → entry_for time mark i n ≡ blank
+unfolding entry_for
 entry_past time mark i n h = rw (le-ltb i n h) refl
 
-working : (s : Settings) (l : List ℕ) → s.capacity ≤ maxCapacity → countIn (imageBlockAt l 0) ≤ s.capacity
-    → row_of (entry_at l (countIn (imageBlockAt l 0))) s.capacity ++ replicate (maxCapacity - s.capacity) blank ≡ workingLog (brickIn s l)
-unfolding workingLog entry_at entry_of
+working : (s : Settings) (l : List ℕ) → s.capacity ≤ max_capacity → count_in (image_block_at l 0) ≤ s.capacity
+    → row_of (entry_at l (count_in (image_block_at l 0))) s.capacity ++ replicate (max_capacity - s.capacity) blank ≡ working_log (brick_in s l)
+unfolding working_log entry_at entry_of
 working s l c h =
-    let m : s.capacity + (maxCapacity - s.capacity) ≡ maxCapacity = omega arith in
-    ap (λ (a : List Entry). a ++ replicate (maxCapacity - s.capacity) blank) (row-ext (entry_at l (countIn (imageBlockAt l 0))) (entry_of (brickIn s l)) s.capacity (λ i b. each i))
-    ∙ sym (row-blank (entry_of (brickIn s l)) s.capacity (maxCapacity - s.capacity) past)
-    ∙ ap (λ (k : ℕ). row_of (entry_of (brickIn s l)) k) m
+    let m : s.capacity + (max_capacity - s.capacity) ≡ max_capacity = omega arith in
+    ap (λ (a : List Entry). a ++ replicate (max_capacity - s.capacity) blank) (row_ext (entry_at l (count_in (image_block_at l 0))) (entry_of (brick_in s l)) s.capacity (λ i b. each i))
+    ∙ sym (row_blank (entry_of (brick_in s l)) s.capacity (max_capacity - s.capacity) past)
+    ∙ ap (λ (k : ℕ). row_of (entry_of (brick_in s l)) k) m
   where
-    past : (i : ℕ) → s.capacity ≤ i → entryFor (timeAt (brickIn s l) i) (markAt (brickIn s l) i) i (entryCount (brickIn s l)) ≡ blank
-    past i b = entry_past _ _ i (entryCount (brickIn s l)) (omega (arith, b, count-in s l))
+    past : (i : ℕ) → s.capacity ≤ i → entry_for (time_at (brick_in s l) i) (mark_at (brick_in s l) i) i (entry_count (brick_in s l)) ≡ blank
+    past i b = entry_past _ _ i (entry_count (brick_in s l)) (omega (arith, b, count_in_lem s l))
 
-    each : (i : ℕ) → entryFor (timeIn (imageBlockAt l (i + 1))) (markIn (imageBlockAt l (i + 1))) i (countIn (imageBlockAt l 0))
-        ≡ entryFor (timeAt (brickIn s l) i) (markAt (brickIn s l) i) i (entryCount (brickIn s l))
-    each i = go (dec_lt i (countIn (imageBlockAt l 0)))
+    each : (i : ℕ) → entry_for (time_in (image_block_at l (i + 1))) (mark_in (image_block_at l (i + 1))) i (count_in (image_block_at l 0))
+        ≡ entry_for (time_at (brick_in s l) i) (mark_at (brick_in s l) i) i (entry_count (brick_in s l))
+    each i = go (dec_lt i (count_in (image_block_at l 0)))
       where
-        go : Dec (i < countIn (imageBlockAt l 0))
-            → entryFor (timeIn (imageBlockAt l (i + 1))) (markIn (imageBlockAt l (i + 1))) i (countIn (imageBlockAt l 0))
-            ≡ entryFor (timeAt (brickIn s l) i) (markAt (brickIn s l) i) i (entryCount (brickIn s l))
-        go (yes b) = rw (time-in s l i b, mark-in s l i b, count-in s l) refl
-        go (no b) = entry_past _ _ i _ (omega (arith, b)) ∙ sym (entry_past _ _ i (entryCount (brickIn s l)) (omega (arith, b, count-in s l)))
+        go : Dec (i < count_in (image_block_at l 0))
+            → entry_for (time_in (image_block_at l (i + 1))) (mark_in (image_block_at l (i + 1))) i (count_in (image_block_at l 0))
+            ≡ entry_for (time_at (brick_in s l) i) (mark_at (brick_in s l) i) i (entry_count (brick_in s l))
+        go (yes b) = rw (time_in_lem s l i b, mark_in_lem s l i b, count_in_lem s l) refl
+        go (no b) = entry_past _ _ i _ (omega (arith, b)) ∙ sym (entry_past _ _ i (entry_count (brick_in s l)) (omega (arith, b, count_in_lem s l)))
 
-head-count-high : (s : Settings) (brick : ℕ) (t : List ℕ) (n promise : ℕ) → headFits s brick t n promise ≡ true → n ≤ s.capacity
-unfolding headFits countSound
-head-count-high s brick t n promise e = leb-true n s.capacity (and_right (leb 1 n) _ (and_left _ _ (and_left _ _ e)))
+head_count_high : (s : Settings) (brick : ℕ) (t : List ℕ) (n promise : ℕ) → head_fits s brick t n promise ≡ true → n ≤ s.capacity
+unfolding head_fits count_sound
+head_count_high s brick t n promise e = leb-true n s.capacity (and_right (leb 1 n) _ (and_left _ _ (and_left _ _ e)))
 
 -- With t the head's block, holds what its check said, n and promise its fields, fits what its test said, and what the loop over the others gave:
-module _ (s : Settings) (brick : ℕ) (l t : List ℕ) (e : LentImage s brick (length l)) (first : t ≡ imageBlockAt l 0) (holds : Bool) (hold : holds ≡ checked t) where
+module _ (s : Settings) (brick : ℕ) (l t : List ℕ) (e : LentImage s brick (length l)) (first : t ≡ image_block_at l 0) (holds : Bool) (hold : holds ≡ checked t) where
   -- 5: the head's check fails,
-  pub open-unchecked : (r : Opening) → holds ≡ false → r ≡ opening (Refuses badCheck) → r ≡ opening (parse s brick l)
-  unfolding checkedAt
-  open-unchecked r f q =
-      q ∙ ap opening (sym (parse-refuses s brick l badCheck
-      (refusal-5 s brick l e.in-range e.long e.brick-low
-      (each-not (checkedAt l) (s.capacity + 1) 0 (omega arith) (sym (ap checked first) ∙ sym hold ∙ f)))
+  pub open_unchecked : (r : Opening) → holds ≡ false → r ≡ opening (Refuses bad_check) → r ≡ opening (parse s brick l)
+  unfolding checked_at
+  open_unchecked r f q =
+      q ∙ ap opening (sym (parse_refuses s brick l bad_check
+      (refusal_5 s brick l e.in-range e.long e.brick-low
+      (each_not (checked_at l) (s.capacity + 1) 0 (omega arith) (sym (ap checked first) ∙ sym hold ∙ f)))
       (λ z. omega (arith, z))))
 
-  module _ (held : holds ≡ true) (n promise : ℕ) (en : n ≡ countIn t) (ep : promise ≡ promiseIn t)
+  module _ (held : holds ≡ true) (n promise : ℕ) (en : n ≡ count_in t) (ep : promise ≡ promise_in t)
       (checks fits : Bool) (log : List Entry) (scan : Scanned s.size s.capacity l n checks fits log) where
     -- or another's
-    pub open-unchecked-later : (r : Opening) → checks ≡ false → r ≡ opening (Refuses badCheck) → r ≡ opening (parse s brick l)
-    open-unchecked-later r f q =
-        q ∙ ap opening (sym (parse-refuses s brick l badCheck
-        (refusal-5 s brick l e.in-range e.long e.brick-low (checks-fail l s.capacity (sym scan.all-checked ∙ f)))
+    pub open_unchecked_later : (r : Opening) → checks ≡ false → r ≡ opening (Refuses bad_check) → r ≡ opening (parse s brick l)
+    open_unchecked_later r f q =
+        q ∙ ap opening (sym (parse_refuses s brick l bad_check
+        (refusal_5 s brick l e.in-range e.long e.brick-low (checks_fail l s.capacity (sym scan.all-checked ∙ f)))
         (λ z. omega (arith, z))))
 
-    all-checks : checks ≡ true → each (checkedAt l) (s.capacity + 1) ≡ true
-    unfolding checkedAt
-    all-checks c = checks-all l s.capacity (sym (ap checked first) ∙ sym hold ∙ held) (sym scan.all-checked ∙ c)
+    all_checks : checks ≡ true → each (checked_at l) (s.capacity + 1) ≡ true
+    unfolding checked_at
+    all_checks c = checks_all l s.capacity (sym (ap checked first) ∙ sym hold ∙ held) (sym scan.all-checked ∙ c)
 
-    n-is : n ≡ countIn (imageBlockAt l 0)
-    n-is = en ∙ ap countIn first
+    n_is : n ≡ count_in (image_block_at l 0)
+    n_is = en ∙ ap count_in first
 
-    promise-is : promise ≡ promiseIn (imageBlockAt l 0)
-    promise-is = ep ∙ ap promiseIn first
+    promise_is : promise ≡ promise_in (image_block_at l 0)
+    promise_is = ep ∙ ap promise_in first
 
-    tested : (head : Bool) → head ≡ headFits s brick t n promise → checks ≡ true → head && fits ≡ isImage s brick l
+    tested : (head : Bool) → head ≡ head_fits s brick t n promise → checks ≡ true → head && fits ≡ is_image s brick l
     tested head eh c =
         ap₂ (λ (a b : Bool). a && b)
-        (eh ∙ ap (λ (b : List ℕ). headFits s brick b n promise) first
-        ∙ ap₂ (λ (a b : ℕ). headFits s brick (imageBlockAt l 0) a b) n-is promise-is)
-        (scan.all_fit c ∙ ap (λ (k : ℕ). each (slot_at s.size l k) s.capacity) n-is)
-        ∙ tests-image s brick l e.range e.long (all-checks c)
+        (eh ∙ ap (λ (b : List ℕ). head_fits s brick b n promise) first
+        ∙ ap₂ (λ (a b : ℕ). head_fits s brick (image_block_at l 0) a b) n_is promise_is)
+        (scan.all_fit c ∙ ap (λ (k : ℕ). each (slot_at s.size l k) s.capacity) n_is)
+        ∙ tests_image s brick l e.range e.long (all_checks c)
 
     -- 6: the head or another block is not as it should be
-    pub open-unfit : (r : Opening) (head : Bool) → head ≡ headFits s brick t n promise → checks ≡ true → head && fits ≡ false
-        → r ≡ opening (Refuses badRecord) → r ≡ opening (parse s brick l)
-    open-unfit r head eh c f q =
-        q ∙ ap opening (sym (parse-refuses s brick l badRecord
-        (refusal-6 s brick l e.in-range e.long e.brick-low (all-checks c) (sym (tested head eh c) ∙ f))
+    pub open_unfit : (r : Opening) (head : Bool) → head ≡ head_fits s brick t n promise → checks ≡ true → head && fits ≡ false
+        → r ≡ opening (Refuses bad_record) → r ≡ opening (parse s brick l)
+    open_unfit r head eh c f q =
+        q ∙ ap opening (sym (parse_refuses s brick l bad_record
+        (refusal_6 s brick l e.in-range e.long e.brick-low (all_checks c) (sym (tested head eh c) ∙ f))
         (λ z. omega (arith, z))))
 
     -- it opens
-    pub open_done : (head : Bool) → head ≡ headFits s brick t n promise → checks ≡ true → head && fits ≡ true
+    pub open_done : (head : Bool) → head ≡ head_fits s brick t n promise → checks ≡ true → head && fits ≡ true
         → record { answer = Opened (record { count = n; promise = promise }); log = log } ≡ opening (parse s brick l)
-    unfolding opening brickIn
+    unfolding opening brick_in
     open_done head eh c hf =
         let h = and_left head fits hf in
-        let few : countIn (imageBlockAt l 0) ≤ s.capacity =
-        omega (arith, n-is, head-count-high s brick t n promise (sym eh ∙ h)) in
-        let lg : log ≡ workingLog (brickIn s l) =
+        let few : count_in (image_block_at l 0) ≤ s.capacity =
+        omega (arith, n_is, head_count_high s brick t n promise (sym eh ∙ h)) in
+        let lg : log ≡ working_log (brick_in s l) =
         scan.the-log c
-        ∙ ap (λ (k : ℕ). row_of (entry_at l k) s.capacity ++ replicate (maxCapacity - s.capacity) blank) n-is
+        ∙ ap (λ (k : ℕ). row_of (entry_at l k) s.capacity ++ replicate (max_capacity - s.capacity) blank) n_is
         ∙ working s l e.range.capacity-high few in
-        let cn : n ≡ entryCount (brickIn s l) = n-is ∙ sym (count-in s l) in
-        made cn promise-is lg
-        ∙ ap opening (sym (parse-opens s brick l
-        (refusal-0 s brick l e.in-range e.long e.brick-low (all-checks c) (sym (tested head eh c) ∙ hf))))
+        let cn : n ≡ entry_count (brick_in s l) = n_is ∙ sym (count_in_lem s l) in
+        made cn promise_is lg
+        ∙ ap opening (sym (parse_opens s brick l
+        (refusal_0 s brick l e.in-range e.long e.brick-low (all_checks c) (sym (tested head eh c) ∙ hf))))
       where
-        made : n ≡ entryCount (brickIn s l) → promise ≡ promiseIn (imageBlockAt l 0) → log ≡ workingLog (brickIn s l)
+        made : n ≡ entry_count (brick_in s l) → promise ≡ promise_in (image_block_at l 0) → log ≡ working_log (brick_in s l)
             → ◌≡◌ {A = Opening} (record { answer = Opened (record { count = n; promise = promise }); log = log })
-            (record { answer = Opened (record { count = entryCount (brickIn s l); promise = promiseIn (imageBlockAt l 0) }); log = workingLog (brickIn s l) })
+            (record { answer = Opened (record { count = entry_count (brick_in s l); promise = promise_in (image_block_at l 0) }); log = working_log (brick_in s l) })
         made a b d = λ i. record { answer = Opened (record { count = a i; promise = b i }); log = d i }
 
 -- a refusal is made
-pub refused-made : (number : ℕ) (b : Entry) → b ≡ entryFor 0 false 0 0
-    → ◌≡◌ {A = Opening} (record { answer = Refused number; log = replicate maxCapacity b }) (opening (Refuses number))
-unfolding opening row_of noBlank entryFor
-refused-made number b e = λ i. record { answer = Refused number; log = replicate maxCapacity (e i) }
+pub refused_made : (number : ℕ) (b : Entry) → b ≡ entry_for 0 false 0 0
+    → ◌≡◌ {A = Opening} (record { answer = Refused number; log = replicate max_capacity b }) (opening (Refuses number))
+unfolding opening row_of no_blank entry_for
+refused_made number b e = λ i. record { answer = Refused number; log = replicate max_capacity (e i) }

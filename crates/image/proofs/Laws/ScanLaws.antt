@@ -9,88 +9,88 @@ use lib.ListN.{length, take, drop, set, replicate}
 use lib.Seq.{set_at}
 use Rattle.image_block.specs.Block.{checked}
 use Rattle.byte_lists.specs.Each.{each}
-use Rattle.byte_lists.proofs.Laws.EachLaws.{each_none, each_more, each-not}
-use Rattle.image.proofs.Laws.ImageLaws.{block-length}
-use Rattle.image.specs.Parse.{imageBlockAt, checkedAt, timeIn, markIn}
-use Rattle.image.specs.Opening.{row_of, blank, entryFor}
-use Rattle.image.specs.Workers.{rises, slotFits}
+use Rattle.byte_lists.proofs.Laws.EachLaws.{each_none, each_more, each_not}
+use Rattle.image.proofs.Laws.ImageLaws.{block_length}
+use Rattle.image.specs.Parse.{image_block_at, checked_at, time_in, mark_in}
+use Rattle.image.specs.Opening.{row_of, blank, entry_for}
+use Rattle.image.specs.Workers.{rises, slot_fits}
 use Rattle.image.specs.declared.Entry.{Entry}
-use Rattle.image.proofs.Laws.HubLaws.{row-length}
-use Rattle.image.specs.Workers.{checkAfter, slot_at, entry_at, Scanned}
-use Rattle.image_block.specs.Block.{blockBytes}
-use Rattle.settings.specs.Ranges.{maxCapacity}
+use Rattle.image.proofs.Laws.HubLaws.{row_length}
+use Rattle.image.specs.Workers.{check_after, slot_at, entry_at, Scanned}
+use Rattle.image_block.specs.Block.{block_bytes}
+use Rattle.settings.specs.Ranges.{max_capacity}
 
 -- what holds before block i + 1 is read
 pub record Scanning (size cap : ℕ) (l : List ℕ) (n : ℕ) (fits : Bool) (last i at : ℕ) (log : List Entry) : Type 0 where
   pub low : i ≤ cap
-  pub place : at ≡ blockBytes * (i + 1)
-  pub so-checked : each (checkAfter l) i ≡ true
+  pub place : at ≡ block_bytes * (i + 1)
+  pub so-checked : each (check_after l) i ≡ true
   pub so-fit : fits ≡ each (slot_at size l n) i
-  pub before : 0 < i → last ≡ timeIn (imageBlockAt l i)
-  pub logged : log ≡ row_of (entry_at l n) i ++ replicate (maxCapacity - i) blank
+  pub before : 0 < i → last ≡ time_in (image_block_at l i)
+  pub logged : log ≡ row_of (entry_at l n) i ++ replicate (max_capacity - i) blank
 
-pub scanning-none : (size cap : ℕ) (l : List ℕ) (n : ℕ) (b : Entry) (log : List Entry) → b ≡ entryFor 0 false 0 0 → log ≡ replicate maxCapacity b
-    → Scanning size cap l n true 0 0 blockBytes log
-unfolding row_of entryFor
-scanning-none size cap l n b log e k =
+pub scanning_none : (size cap : ℕ) (l : List ℕ) (n : ℕ) (b : Entry) (log : List Entry) → b ≡ entry_for 0 false 0 0 → log ≡ replicate max_capacity b
+    → Scanning size cap l n true 0 0 block_bytes log
+unfolding row_of entry_for
+scanning_none size cap l n b log e k =
     record {
       low = omega arith;
       place = refl;
-      so-checked = each_none (checkAfter l);
+      so-checked = each_none (check_after l);
       so-fit = sym (each_none (slot_at size l n));
       before = λ h. absurd (omega (arith, h));
-      logged = k ∙ ap (λ (x : Entry). replicate maxCapacity x) e;
+      logged = k ∙ ap (λ (x : Entry). replicate max_capacity x) e;
     }
 
 -- the part of the image that the loop reads
-pub part-is : (l : List ℕ) (at k : ℕ) → at ≡ blockBytes * k → take (at + blockBytes - at) (drop at l) ≡ imageBlockAt l k
-unfolding imageBlockAt
-part-is l at k e = let n : at + blockBytes - at ≡ blockBytes = omega arith in ap₂ (λ (a b : ℕ). take a (drop b l)) n e
+pub part_is : (l : List ℕ) (at k : ℕ) → at ≡ block_bytes * k → take (at + block_bytes - at) (drop at l) ≡ image_block_at l k
+unfolding image_block_at
+part_is l at k e = let n : at + block_bytes - at ≡ block_bytes = omega arith in ap₂ (λ (a b : ℕ). take a (drop b l)) n e
 
 -- one more entry of the log
-row_more : (f : ℕ → Entry) (i : ℕ) (log : List Entry) → i < maxCapacity → log ≡ row_of f i ++ replicate (maxCapacity - i) blank
-    → set log i (f i) ≡ row_of f (i + 1) ++ replicate (maxCapacity - (i + 1)) blank
+row_more : (f : ℕ → Entry) (i : ℕ) (log : List Entry) → i < max_capacity → log ≡ row_of f i ++ replicate (max_capacity - i) blank
+    → set log i (f i) ≡ row_of f (i + 1) ++ replicate (max_capacity - (i + 1)) blank
 unfolding row_of
 row_more f i log h e =
-    let n : maxCapacity - i ≡ suc (maxCapacity - (i + 1)) = omega arith in
+    let n : max_capacity - i ≡ suc (max_capacity - (i + 1)) = omega arith in
     ap (λ (x : List Entry). set x i (f i)) (e ∙ ap (λ (k : ℕ). row_of f i ++ replicate k blank) n)
-    ∙ set_at (row_of f i) blank (replicate (maxCapacity - (i + 1)) blank) (f i) i (row-length f i)
-    ∙ sym (append_assoc (row_of f i) (f i ∷ []) (replicate (maxCapacity - (i + 1)) blank))
-    ∙ ap (λ (k : ℕ). row_of f k ++ replicate (maxCapacity - (i + 1)) blank) (sym (add-one i))
+    ∙ set_at (row_of f i) blank (replicate (max_capacity - (i + 1)) blank) (f i) i (row_length f i)
+    ∙ sym (append_assoc (row_of f i) (f i ∷ []) (replicate (max_capacity - (i + 1)) blank))
+    ∙ ap (λ (k : ℕ). row_of f k ++ replicate (max_capacity - (i + 1)) blank) (sym (add-one i))
 
 -- the time before it, which the loop carries
-slot-last : (size : ℕ) (l : List ℕ) (n i last : ℕ) → (0 < i → last ≡ timeIn (imageBlockAt l i))
-    → slotFits size (imageBlockAt l (i + 1)) (timeIn (imageBlockAt l (i + 1))) i n last ≡ slot_at size l n i
-unfolding slot_at slotFits rises
-slot-last size l n zero last b = refl
-slot-last size l n (suc i) last b = ap (λ (x : ℕ). slotFits size (imageBlockAt l (suc i + 1)) (timeIn (imageBlockAt l (suc i + 1))) (suc i) n x) (b (omega arith))
+slot_last : (size : ℕ) (l : List ℕ) (n i last : ℕ) → (0 < i → last ≡ time_in (image_block_at l i))
+    → slot_fits size (image_block_at l (i + 1)) (time_in (image_block_at l (i + 1))) i n last ≡ slot_at size l n i
+unfolding slot_at slot_fits rises
+slot_last size l n zero last b = refl
+slot_last size l n (suc i) last b = ap (λ (x : ℕ). slot_fits size (image_block_at l (suc i + 1)) (time_in (image_block_at l (suc i + 1))) (suc i) n x) (b (omega arith))
 
-module _ (size cap : ℕ) (l : List ℕ) (n : ℕ) (fits : Bool) (last i at : ℕ) (log : List Entry) (most : cap ≤ maxCapacity) (h : i < cap)
+module _ (size cap : ℕ) (l : List ℕ) (n : ℕ) (fits : Bool) (last i at : ℕ) (log : List Entry) (most : cap ≤ max_capacity) (h : i < cap)
     (r : Scanning size cap l n fits last i at log) where
-  pub scanning-more : (t : List ℕ) (holds fit fits' mark : Bool) (time : ℕ) (entry : Entry) → t ≡ imageBlockAt l (i + 1) → holds ≡ checked t → holds ≡ true
-      → time ≡ timeIn t → fit ≡ slotFits size t time i n last → fits' ≡ fits && fit → mark ≡ markIn t → entry ≡ entryFor time mark i n
-      → Scanning size cap l n fits' time (i + 1) (at + blockBytes) (set log i entry)
-  unfolding checkAfter checkedAt entry_at
-  scanning-more t holds fit fits' mark time entry et eh h1 em ef eb ek ee =
-      let tm : time ≡ timeIn (imageBlockAt l (i + 1)) = em ∙ ap timeIn et in
+  pub scanning_more : (t : List ℕ) (holds fit fits' mark : Bool) (time : ℕ) (entry : Entry) → t ≡ image_block_at l (i + 1) → holds ≡ checked t → holds ≡ true
+      → time ≡ time_in t → fit ≡ slot_fits size t time i n last → fits' ≡ fits && fit → mark ≡ mark_in t → entry ≡ entry_for time mark i n
+      → Scanning size cap l n fits' time (i + 1) (at + block_bytes) (set log i entry)
+  unfolding check_after checked_at entry_at
+  scanning_more t holds fit fits' mark time entry et eh h1 em ef eb ek ee =
+      let tm : time ≡ time_in (image_block_at l (i + 1)) = em ∙ ap time_in et in
       let fit_is : fit ≡ slot_at size l n i =
-      ef ∙ ap₂ (λ (a : List ℕ) (b : ℕ). slotFits size a b i n last) et tm ∙ slot-last size l n i last r.before in
+      ef ∙ ap₂ (λ (a : List ℕ) (b : ℕ). slot_fits size a b i n last) et tm ∙ slot_last size l n i last r.before in
       record {
         low = omega arith;
         place = omega (arith, r.place);
-        so-checked = each_more (checkAfter l) i ∙ rw r.so-checked (sym (ap checked et) ∙ sym eh ∙ h1);
+        so-checked = each_more (check_after l) i ∙ rw r.so-checked (sym (ap checked et) ∙ sym eh ∙ h1);
         so-fit = eb ∙ ap₂ (λ (a b : Bool). a && b) r.so-fit fit_is ∙ sym (each_more (slot_at size l n) i);
         before = λ z. tm;
-        logged = ap (λ (x : Entry). set log i x) (ee ∙ ap₂ (λ (k : ℕ) (b : Bool). entryFor k b i n) tm (ek ∙ ap markIn et))
+        logged = ap (λ (x : Entry). set log i x) (ee ∙ ap₂ (λ (k : ℕ) (b : Bool). entry_for k b i n) tm (ek ∙ ap mark_in et))
             ∙ row_more (entry_at l n) i log (omega arith) r.logged;
       }
 
-  pub scan-unchecked : (t : List ℕ) (holds fits' : Bool) (log' : List Entry) → t ≡ imageBlockAt l (i + 1) → holds ≡ checked t → holds ≡ false
+  pub scan_unchecked : (t : List ℕ) (holds fits' : Bool) (log' : List Entry) → t ≡ image_block_at l (i + 1) → holds ≡ checked t → holds ≡ false
       → Scanned size cap l n false fits' log'
-  unfolding checkAfter checkedAt
-  scan-unchecked t holds fits' log' et eh h0 =
+  unfolding check_after checked_at
+  scan_unchecked t holds fits' log' et eh h0 =
       record {
-        all-checked = sym (each-not (checkAfter l) cap i h (sym (ap checked et) ∙ sym eh ∙ h0));
+        all-checked = sym (each_not (check_after l) cap i h (sym (ap checked et) ∙ sym eh ∙ h0));
         all_fit = λ z. absurd (clash z);
         the-log = λ z. absurd (clash z);
       }
@@ -98,15 +98,15 @@ module _ (size cap : ℕ) (l : List ℕ) (n : ℕ) (fits : Bool) (last i at : �
       clash : false ≡ true → ⊥
       clash z = let w : ◌≡◌ {A = ℕ} 0 1 = cc in omega arith
 
-pub scanned-all : (size cap : ℕ) (l : List ℕ) (n : ℕ) (fits : Bool) (last i at : ℕ) (log : List Entry) → cap ≤ i
+pub scanned_all : (size cap : ℕ) (l : List ℕ) (n : ℕ) (fits : Bool) (last i at : ℕ) (log : List Entry) → cap ≤ i
     → Scanning size cap l n fits last i at log → Scanned size cap l n true fits log
-scanned-all size cap l n fits last i at log h r =
+scanned_all size cap l n fits last i at log h r =
     let e : i ≡ cap = omega (arith, r.low) in
     record {
-      all-checked = sym (ap (λ (k : ℕ). each (checkAfter l) k) (sym e) ∙ r.so-checked);
+      all-checked = sym (ap (λ (k : ℕ). each (check_after l) k) (sym e) ∙ r.so-checked);
       all_fit = λ z. r.so-fit ∙ ap (λ (k : ℕ). each (slot_at size l n) k) e;
-      the-log = λ z. r.logged ∙ ap (λ (k : ℕ). row_of (entry_at l n) k ++ replicate (maxCapacity - k) blank) e;
+      the-log = λ z. r.logged ∙ ap (λ (k : ℕ). row_of (entry_at l n) k ++ replicate (max_capacity - k) blank) e;
     }
 
-pub part_length : (l : List ℕ) (at k n : ℕ) → length l ≡ blockBytes * n → at ≡ blockBytes * k → k < n → length (take (at + blockBytes - at) (drop at l)) ≡ blockBytes
-part_length l at k n h e b = ap length (part-is l at k e) ∙ block-length l n k h b
+pub part_length : (l : List ℕ) (at k n : ℕ) → length l ≡ block_bytes * n → at ≡ block_bytes * k → k < n → length (take (at + block_bytes - at) (drop at l)) ≡ block_bytes
+part_length l at k n h e b = ap length (part_is l at k e) ∙ block_length l n k h b

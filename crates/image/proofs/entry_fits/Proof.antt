@@ -1,4 +1,4 @@
-use Rattle.image.proofs.Laws.FitLaws.{entry-same}
+use Rattle.image.proofs.Laws.FitLaws.{entry_same}
 use borrow.Author.Rules.{rules}
 use Rattle.image.proofs.entry_fits.Statement.{statement}
 use Rattle.image.proofs.entry_fits.Tie as tie
@@ -25,7 +25,7 @@ same-body-requires : tie.Need-same-body-requires
 same-body-requires c κs = search rules
 
 returns : tie.Need-returns
-returns c = search (rules, entry-same)
+returns c = search (rules, entry_same)
 
 pub entry-fits-spec : {M : Type 1} → statement M
 entry-fits-spec =

@@ -1,6 +1,6 @@
 use borrow.Author.Tests.{le-ltb}
-use Rattle.image.specs.Opening.{entryFor, blank}
-use Rattle.image.proofs.Laws.HolderLaws.{entry-made}
+use Rattle.image.specs.Opening.{entry_for, blank}
+use Rattle.image.proofs.Laws.HolderLaws.{entry_made}
 use borrow.Author.Rules.{rules}
 use Rattle.image.proofs.entry_for.Statement.{statement}
 use Rattle.image.proofs.entry_for.Tie as tie
@@ -9,10 +9,10 @@ holding-for-requires : tie.Need-holding-for-requires
 holding-for-requires c κs = search rules
 
 returns : tie.Need-returns
-returns c = entry-made _ _ _ _ _ c.before.if1.true c.holding-for.ensures
+returns c = entry_made _ _ _ _ _ c.before.if1.true c.holding-for.ensures
 
 returns-2 : tie.Need-returns-2
-unfolding entryFor blank
+unfolding entry_for blank
 returns-2 c = search (rules, le-ltb)
 
 pub entry-for-spec : {M : Type 1} → statement M

@@ -1,4 +1,4 @@
-use Rattle.image.proofs.Laws.FitLaws.{form-entry, form-mark, form-lowest}
+use Rattle.image.proofs.Laws.FitLaws.{form_entry, form_mark, form_lowest}
 use borrow.Author.Rules.{rules}
 use Rattle.image.proofs.form_fits.Statement.{statement}
 use Rattle.image.proofs.form_fits.Tie as tie
@@ -10,16 +10,16 @@ entry-fits-requires : tie.Need-entry-fits-requires
 entry-fits-requires c κs = search rules
 
 returns : tie.Need-returns
-returns c = search (rules, form-entry)
+returns c = search (rules, form_entry)
 
 mark-fits-requires : tie.Need-mark-fits-requires
 mark-fits-requires c κs = search rules
 
 returns-2 : tie.Need-returns-2
-returns-2 c = search (rules, form-mark)
+returns-2 c = search (rules, form_mark)
 
 returns-3 : tie.Need-returns-3
-returns-3 c = search (rules, form-lowest)
+returns-3 c = search (rules, form_lowest)
 
 pub form-fits-spec : {M : Type 1} → statement M
 form-fits-spec =

@@ -1,4 +1,4 @@
-use Rattle.image.proofs.Laws.FitLaws.{head_few, head-many, head-time, head-rest}
+use Rattle.image.proofs.Laws.FitLaws.{head_few, head_many, head_time, head_rest}
 use borrow.Author.Rules.{rules}
 use Rattle.image.proofs.head_fits.Statement.{statement}
 use Rattle.image.proofs.head_fits.Tie as tie
@@ -7,13 +7,13 @@ returns : tie.Need-returns
 returns c = search (rules, head_few)
 
 returns-2 : tie.Need-returns-2
-returns-2 c = search (rules, head-many)
+returns-2 c = search (rules, head_many)
 
 saved-time-requires : tie.Need-saved-time-requires
 saved-time-requires c κs = search rules
 
 returns-3 : tie.Need-returns-3
-returns-3 c = search (rules, head-time)
+returns-3 c = search (rules, head_time)
 
 head-fields-requires : tie.Need-head-fields-requires
 head-fields-requires c κs = search rules
@@ -25,7 +25,7 @@ same-body-requires : tie.Need-same-body-requires
 same-body-requires c κs = search rules
 
 returns-4 : tie.Need-returns-4
-returns-4 c = search (rules, head-rest)
+returns-4 c = search (rules, head_rest)
 
 pub head-fits-spec : {M : Type 1} → statement M
 head-fits-spec =

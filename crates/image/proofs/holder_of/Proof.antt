@@ -2,14 +2,14 @@ use Prim.Native.Nat.{◌<◌}
 use mathlib.Core.Path.{◌≡◌, refl}
 use native.Mathlib.Omega.{arith}
 use borrow.Author.Rules.{rules}
-use Rattle.image.specs.Opening.{holderOf, blank}
-use Rattle.image.proofs.Laws.HolderLaws.{holder-here, holder-next, holder-lowest}
-use Rattle.settings.specs.Ranges.{maxCapacity}
+use Rattle.image.specs.Opening.{holder_of, blank}
+use Rattle.image.proofs.Laws.HolderLaws.{holder_here, holder_next, holder_lowest}
+use Rattle.settings.specs.Ranges.{max_capacity}
 use Rattle.image.proofs.holder_of.Statement.{statement}
 use Rattle.image.proofs.holder_of.Tie as tie
 
 abbrev invariant-loop : tie.invariant-loop
-invariant-loop i log k₀ k = (k < maxCapacity) × (holderOf log k ≡ holderOf log i)
+invariant-loop i log k₀ k = (k < max_capacity) × (holder_of log k ≡ holder_of log i)
 
 abbrev decreases-loop : tie.decreases-loop
 decreases-loop i log k₀ k = k
@@ -29,7 +29,7 @@ place-of-requires c κs = search rules
 returns : tie.Need-returns invariant-loop decreases-loop
 unfolding blank
 returns c =
-    holder-here _ _ _ _ c.before.place_of.ensures c.if1.true c.before.before.before.before.loop.invariant.1
+    holder_here _ _ _ _ c.before.place_of.ensures c.if1.true c.before.before.before.before.loop.invariant.1
 
 sub-k : tie.Need-overflow-sub-k invariant-loop decreases-loop
 sub-k c = omega arith
@@ -41,7 +41,7 @@ loop-again : tie.Need-loop-preserved invariant-loop decreases-loop
 unfolding blank
 loop-again c = (
   omega arith,
-  holder-next _ _ _ _ c.before.before.before.loop-test.true c.before.place_of.ensures c.if1.false
+  holder_next _ _ _ _ c.before.before.before.loop-test.true c.before.place_of.ensures c.if1.false
       c.before.before.before.before.loop.invariant.1,
 )
 
@@ -53,7 +53,7 @@ place-of-requires-2 c κs = search rules
 
 returns-2 : tie.Need-returns-2 invariant-loop decreases-loop
 unfolding blank
-returns-2 c = holder-lowest _ _ _ _ c.before.before.loop-test.false c.place-of2.ensures c.before.before.before.loop.invariant.1
+returns-2 c = holder_lowest _ _ _ _ c.before.before.loop-test.false c.place-of2.ensures c.before.before.before.loop.invariant.1
 
 pub holder-of-spec : {M : Type 1} → statement M
 holder-of-spec =

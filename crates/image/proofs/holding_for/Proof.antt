@@ -1,18 +1,18 @@
-use Rattle.image.specs.Opening.{holdingFor}
-use Rattle.image.proofs.Laws.HolderLaws.{held-own}
+use Rattle.image.specs.Opening.{holding_for}
+use Rattle.image.proofs.Laws.HolderLaws.{held_own_lem}
 use borrow.Author.Rules.{rules}
 use Rattle.image.proofs.holding_for.Statement.{statement}
 use Rattle.image.proofs.holding_for.Tie as tie
 
 returns : tie.Need-returns
-unfolding holdingFor
+unfolding holding_for
 returns c = search rules
 
 add-t4 : tie.Need-overflow-add-t4
 add-t4 c = search rules
 
 returns-2 : tie.Need-returns-2
-returns-2 c = held-own _ _ c.if1.false
+returns-2 c = held_own_lem _ _ c.if1.false
 
 pub holding-for-spec : {M : Type 1} → statement M
 holding-for-spec = tie.close (tie.spec returns add-t4 returns-2)

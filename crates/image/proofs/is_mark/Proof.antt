@@ -1,4 +1,4 @@
-use Rattle.image.specs.Parse.{markIn}
+use Rattle.image.specs.Parse.{mark_in}
 use borrow.Author.Rules.{rules}
 use Rattle.image.proofs.is_mark.Statement.{statement}
 use Rattle.image.proofs.is_mark.Tie as tie
@@ -7,7 +7,7 @@ shared-slice-read-result : tie.Need-shared-slice-read-result
 shared-slice-read-result c = search rules
 
 returns : tie.Need-returns
-unfolding markIn
+unfolding mark_in
 returns c = search rules
 
 pub is-mark-spec : {M : Type 1} → statement M

@@ -1,4 +1,4 @@
-use Rattle.image.proofs.Laws.FitLaws.{same-built}
+use Rattle.image.proofs.Laws.FitLaws.{same_built}
 use borrow.Author.Rules.{rules}
 use Rattle.image.proofs.mark_fits.Statement.{statement}
 use Rattle.image.proofs.mark_fits.Tie as tie
@@ -13,7 +13,7 @@ same-body-requires : tie.Need-same-body-requires
 same-body-requires c κs = search rules
 
 returns : tie.Need-returns
-returns c = search (rules, same-built)
+returns c = search (rules, same_built)
 
 pub mark-fits-spec : {M : Type 1} → statement M
 mark-fits-spec = tie.close (tie.spec mark-fields-requires slice-aggregate-same-body same-body-requires returns)

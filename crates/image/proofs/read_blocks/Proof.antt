@@ -1,17 +1,17 @@
 use Prim.Native.Nat.{◌+◌}
 use lib.ListN.{take, drop}
-use Rattle.image.specs.Parse.{imageBlockAt, timeIn}
+use Rattle.image.specs.Parse.{image_block_at, time_in}
 use Rattle.image.proofs.Laws.ScanLaws.{part_length}
 use mathlib.Core.Path.{◌≡◌, refl}
 use Prim.Native.Nat.{◌-◌}
 use native.Mathlib.Omega.{arith}
 use borrow.Author.Rules.{rules}
 use lib.ListN.{length}
-use Rattle.image.specs.Image.{imageSize}
-use Rattle.image.proofs.Laws.ScanLaws.{Scanning, scanning-none, scanning-more, scan-unchecked, scanned-all, part-is}
+use Rattle.image.specs.Image.{image_size}
+use Rattle.image.proofs.Laws.ScanLaws.{Scanning, scanning_none, scanning_more, scan_unchecked, scanned_all, part_is}
 use Rattle.image.proofs.read_blocks.Statement.{statement}
 use Rattle.image.proofs.read_blocks.Tie as tie
-use Rattle.image_block.specs.Block.{blockBytes}
+use Rattle.image_block.specs.Block.{block_bytes}
 
 abbrev invariant-loop : tie.invariant-loop
 invariant-loop image count size capacity log₀ fits₀ last₀ i₀ at₀ log fits last i at = Scanning size capacity image count fits last i at log
@@ -23,37 +23,37 @@ entry-for-requires : tie.Need-entry-for-requires invariant-loop decreases-loop
 entry-for-requires c κs = search rules
 
 loop-holds : tie.Need-loop-init invariant-loop decreases-loop
-loop-holds c = scanning-none _ _ _ _ _ _ c.entry-for.ensures refl
+loop-holds c = scanning_none _ _ _ _ _ _ c.entry-for.ensures refl
 
 add-e : tie.Need-overflow-add-e invariant-loop decreases-loop
-unfolding imageSize
+unfolding image_size
 add-e c = omega arith
 
 sub-t : tie.Need-overflow-sub-t invariant-loop decreases-loop
-unfolding imageSize
+unfolding image_size
 sub-t c = omega arith
 
 part-t-start : tie.Need-slice-bounds-t-start invariant-loop decreases-loop
-unfolding imageSize
+unfolding image_size
 part-t-start c = omega arith
 
 part-t-end : tie.Need-slice-bounds-t-end invariant-loop decreases-loop
-unfolding imageSize
+unfolding image_size
 part-t-end c = omega arith
 
 long : (c : tie.After-t invariant-loop decreases-loop)
-    → length (take (c.before.before.loop.at + blockBytes - c.before.before.loop.at)
-    (drop c.before.before.loop.at c.before.before.before.before.before.args.image.now)) ≡ blockBytes
-unfolding imageSize
+    → length (take (c.before.before.loop.at + block_bytes - c.before.before.loop.at)
+    (drop c.before.before.loop.at c.before.before.before.before.before.args.image.now)) ≡ block_bytes
+unfolding image_size
 long c =
     let start = c.before.before.before.before.before in
     part_length _ _ (c.before.before.loop.i + 1) (start.args.s.capacity + 1) start.requires.1 c.before.before.loop.invariant.place (omega arith)
 
 is-part : (c : tie.After-t invariant-loop decreases-loop)
-    → take (c.before.before.loop.at + blockBytes - c.before.before.loop.at)
+    → take (c.before.before.loop.at + block_bytes - c.before.before.loop.at)
     (drop c.before.before.loop.at c.before.before.before.before.before.args.image.now)
-    ≡ imageBlockAt c.before.before.before.before.before.args.image.now (c.before.before.loop.i + 1)
-is-part c = part-is _ _ _ c.before.before.loop.invariant.place
+    ≡ image_block_at c.before.before.before.before.before.args.image.now (c.before.before.loop.i + 1)
+is-part c = part_is _ _ _ c.before.before.loop.invariant.place
 
 check-holds-requires : tie.Need-check-holds-requires invariant-loop decreases-loop
 check-holds-requires c κs = long c
@@ -62,7 +62,7 @@ returns : tie.Need-returns invariant-loop decreases-loop
 returns c =
     let t = c.before.before in
     let start = t.before.before.before.before.before in
-    scan-unchecked _ _ _ _ _ _ _ _ _ start.requires.0.capacity-high t.before.loop-test.true t.before.before.loop.invariant _ _ _ _ (is-part t) c.before.check-holds.ensures c.if1.false
+    scan_unchecked _ _ _ _ _ _ _ _ _ start.requires.0.capacity-high t.before.loop-test.true t.before.before.loop.invariant _ _ _ _ (is-part t) c.before.check-holds.ensures c.if1.false
 
 read8-requires : tie.Need-read8-requires invariant-loop decreases-loop
 read8-requires c κs = omega (arith, long c.before.before)
@@ -92,18 +92,18 @@ loop-less : tie.Need-loop-smaller invariant-loop decreases-loop
 loop-less c = omega arith
 
 loop-again : tie.Need-loop-preserved invariant-loop decreases-loop
-unfolding timeIn
+unfolding time_in
 loop-again c =
     let marked = c.before in
     let joined = marked.before in
     let t = joined.before.before.before.before.before in
     let start = t.before.before.before.before.before in
-    scanning-more _ _ _ _ _ _ _ _ _ start.requires.0.capacity-high t.before.loop-test.true t.before.before.loop.invariant _ _ _ _ _ _ _ (is-part t)
+    scanning_more _ _ _ _ _ _ _ _ _ start.requires.0.capacity-high t.before.loop-test.true t.before.before.loop.invariant _ _ _ _ _ _ _ (is-part t)
     joined.before.before.before.before.check-holds.ensures joined.before.before.before.if1.true joined.before.before.read8.ensures
     joined.before.slot-fits.ensures joined.both.ensures marked.is-mark.ensures c.entry-for2.ensures
 
 returns-2 : tie.Need-returns-2 invariant-loop decreases-loop
-returns-2 c = scanned-all _ _ _ _ _ _ _ _ _ c.loop-test.false c.before.loop.invariant
+returns-2 c = scanned_all _ _ _ _ _ _ _ _ _ c.loop-test.false c.before.loop.invariant
 
 pub read-blocks-spec : {M : Type 1} → statement M
 read-blocks-spec =

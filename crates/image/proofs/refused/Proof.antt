@@ -1,4 +1,4 @@
-use Rattle.image.proofs.Laws.OpenLaws.{refused-made}
+use Rattle.image.proofs.Laws.OpenLaws.{refused_made}
 use borrow.Author.Rules.{rules}
 use Rattle.image.proofs.refused.Statement.{statement}
 use Rattle.image.proofs.refused.Tie as tie
@@ -7,7 +7,7 @@ entry-for-requires : tie.Need-entry-for-requires
 entry-for-requires c κs = search rules
 
 returns : tie.Need-returns
-returns c = refused-made _ _ c.entry-for.ensures
+returns c = refused_made _ _ c.entry-for.ensures
 
 pub refused-spec : {M : Type 1} → statement M
 refused-spec = tie.close (tie.spec entry-for-requires returns)

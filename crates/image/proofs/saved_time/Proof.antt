@@ -1,18 +1,18 @@
 use borrow.Author.Tests.{eq-eqb, ne_eqb}
-use Rattle.image.specs.Brick.{savedTime}
+use Rattle.image.specs.Brick.{saved_time}
 use borrow.Author.Rules.{rules}
 use Rattle.image.proofs.saved_time.Statement.{statement}
 use Rattle.image.proofs.saved_time.Tie as tie
 
 returns : tie.Need-returns
-unfolding savedTime
+unfolding saved_time
 returns c = search (rules, eq-eqb, ne_eqb)
 
 is-time-requires : tie.Need-is-time-requires
 is-time-requires c κs = search rules
 
 returns-2 : tie.Need-returns-2
-unfolding savedTime
+unfolding saved_time
 returns-2 c = search (rules, eq-eqb, ne_eqb)
 
 pub saved-time-spec : {M : Type 1} → statement M

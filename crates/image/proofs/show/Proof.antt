@@ -1,6 +1,6 @@
 use native.Mathlib.Omega.{arith}
 use Rattle.image.specs.Workers.{Hub}
-use Rattle.image.proofs.Laws.HubLaws.{hub, show-refused, show-values}
+use Rattle.image.proofs.Laws.HubLaws.{hub, show_refused, show_values}
 use borrow.Author.Rules.{rules}
 use Rattle.image.proofs.show.Statement.{statement}
 use Rattle.image.proofs.show.Tie as tie
@@ -22,7 +22,7 @@ the-hub : (c : tie.After-answer) → Hub c.before.before.before.before.args.s c.
 the-hub c = hub _ _ _ _ _ c.before.before.«open».ensures c.answer.given.1
 
 returns : tie.Need-returns
-returns c = show-refused _ _ _ _ c.before.before.before.«open».ensures c.before.enum_told.given.1 c.number_of_lem.ensures
+returns c = show_refused _ _ _ _ c.before.before.before.«open».ensures c.before.enum_told.given.1 c.number_of_lem.ensures
 
 sub-last : tie.Need-overflow-sub-last
 sub-last c = omega (arith, the-hub c.before.before.before)
@@ -34,7 +34,7 @@ array-copy-out-last : tie.Need-array-copy-out-last
 array-copy-out-last c = omega (arith, the-hub c.before.before.before)
 
 returns-2 : tie.Need-returns-2
-returns-2 c = show-values _ _ _ _ _ _ (the-hub c.before.before.before.before)
+returns-2 c = show_values _ _ _ _ _ _ (the-hub c.before.before.before.before)
 
 pub show-spec : {M : Type 1} → statement M
 show-spec =

@@ -1,4 +1,4 @@
-use Rattle.image.proofs.Laws.FitLaws.{slot-unused, slot-time, slot-rises, slot-entry}
+use Rattle.image.proofs.Laws.FitLaws.{slot_unused, slot_time, slot_rises, slot_entry}
 use borrow.Author.Rules.{rules}
 use Rattle.image.proofs.slot_fits.Statement.{statement}
 use Rattle.image.proofs.slot_fits.Tie as tie
@@ -7,25 +7,25 @@ unused-fits-requires : tie.Need-unused-fits-requires
 unused-fits-requires c κs = search rules
 
 returns : tie.Need-returns
-returns c = search (rules, slot-unused)
+returns c = search (rules, slot_unused)
 
 saved-time-requires : tie.Need-saved-time-requires
 saved-time-requires c κs = search rules
 
 returns-2 : tie.Need-returns-2
-returns-2 c = search (rules, slot-time)
+returns-2 c = search (rules, slot_time)
 
 rising-requires : tie.Need-rising-requires
 rising-requires c κs = search rules
 
 returns-3 : tie.Need-returns-3
-returns-3 c = search (rules, slot-rises)
+returns-3 c = search (rules, slot_rises)
 
 form-fits-requires : tie.Need-form-fits-requires
 form-fits-requires c κs = search rules
 
 returns-4 : tie.Need-returns-4
-returns-4 c = search (rules, slot-entry)
+returns-4 c = search (rules, slot_entry)
 
 pub slot-fits-spec : {M : Type 1} → statement M
 slot-fits-spec =

@@ -1,4 +1,4 @@
-use Rattle.image_block.specs.Block.{unusedBody}
+use Rattle.image_block.specs.Block.{unused_body}
 use Rattle.byte_lists.specs.Lists.{zeros}
 use borrow.Author.Rules.{rules}
 use Rattle.image.proofs.unused_fits.Statement.{statement}
@@ -11,7 +11,7 @@ same-body-requires : tie.Need-same-body-requires
 same-body-requires c κs = search rules
 
 returns : tie.Need-returns
-unfolding unusedBody zeros
+unfolding unused_body zeros
 returns c = c.same_body.ensures
 
 pub unused-fits-spec : {M : Type 1} → statement M

@@ -12,59 +12,59 @@ use native.Mathlib.Decide.{ℕ_discrete}
 use borrow.Author.Tests.{eq-eqb, ne_eqb}
 use Rattle.byte_lists.specs.Little.{little, number}
 use Rattle.byte_lists.specs.Little.{Bytes}
-use Rattle.byte_lists.proofs.Laws.LittleLaws.{little-length, little-number, number-little, limit-2}
-use Rattle.image_block.specs.Block.{blockBytes, checkBytes, checkModulus, weighted, checkOf, checked, sealed}
+use Rattle.byte_lists.proofs.Laws.LittleLaws.{little_length, little_number, number_little, limit_2}
+use Rattle.image_block.specs.Block.{block_bytes, check_bytes, check_modulus, weighted, check_of, checked, sealed}
 use Rattle.byte_lists.specs.Lists.{same}
 use Rattle.byte_lists.proofs.Laws.SameLaws.{same_true, same_of, same_refl, unsame}
 
-pub check-high : (body : List ℕ) → checkOf body < checkModulus
-unfolding checkOf
-check-high body = mod-lt (1 + weighted 1 body) (omega arith)
+pub check_high : (body : List ℕ) → check_of body < check_modulus
+unfolding check_of
+check_high body = mod-lt (1 + weighted 1 body) (omega arith)
 
 -- the reader's test of a check
-pub check-held : (l : List ℕ) (found check : ℕ) → length l ≡ blockBytes → ((i : ℕ) → get_or l i 0 < 256)
-    → found ≡ number (take checkBytes (drop 0 l)) → check ≡ checkOf (drop checkBytes l) → eqb found check ≡ checked l
+pub check_held : (l : List ℕ) (found check : ℕ) → length l ≡ block_bytes → ((i : ℕ) → get_or l i 0 < 256)
+    → found ≡ number (take check_bytes (drop 0 l)) → check ≡ check_of (drop check_bytes l) → eqb found check ≡ checked l
 unfolding checked number Bytes
-check-held [] found check n b e f = absurd (omega arith)
-check-held (x ∷ []) found check n b e f = absurd (omega arith)
-check-held (x ∷ y ∷ bs) found check n b e f = go (ℕ_discrete found check)
+check_held [] found check n b e f = absurd (omega arith)
+check_held (x ∷ []) found check n b e f = absurd (omega arith)
+check_held (x ∷ y ∷ bs) found check n b e f = go (ℕ_discrete found check)
   where
-    go : Dec (found ≡ check) → eqb found check ≡ same (x ∷ y ∷ []) (little checkBytes (checkOf bs))
+    go : Dec (found ≡ check) → eqb found check ≡ same (x ∷ y ∷ []) (little check_bytes (check_of bs))
     go (yes q) =
         eq-eqb found check q
-        ∙ sym (same_of (x ∷ y ∷ []) (little checkBytes (checkOf bs))
-        (sym (little-number (x ∷ y ∷ []) (two (b 0) (b 1))) ∙ ap (λ (k : ℕ). little checkBytes k) (sym e ∙ q ∙ f)))
+        ∙ sym (same_of (x ∷ y ∷ []) (little check_bytes (check_of bs))
+        (sym (little_number (x ∷ y ∷ []) (two (b 0) (b 1))) ∙ ap (λ (k : ℕ). little check_bytes k) (sym e ∙ q ∙ f)))
       where
         two : x < 256 → y < 256 → Bytes (x ∷ y ∷ [])
         two hx hy = (hx, (hy, tt))
-    go (no q) = ne_eqb found check q ∙ sym (unsame (x ∷ y ∷ []) (little checkBytes (checkOf bs)) (λ w. q (e ∙ ap number w ∙ back ∙ sym f)))
+    go (no q) = ne_eqb found check q ∙ sym (unsame (x ∷ y ∷ []) (little check_bytes (check_of bs)) (λ w. q (e ∙ ap number w ∙ back ∙ sym f)))
       where
-        back : number (little checkBytes (checkOf bs)) ≡ checkOf bs
-        back = number-little checkBytes (checkOf bs) (subst (λ (k : ℕ). checkOf bs < k) (sym limit-2) (omega (arith, check-high bs)))
+        back : number (little check_bytes (check_of bs)) ≡ check_of bs
+        back = number_little check_bytes (check_of bs) (subst (λ (k : ℕ). check_of bs < k) (sym limit_2) (omega (arith, check_high bs)))
 
 -- a block whose check holds is its body, sealed,
-pub checked-sealed : (b body : List ℕ) → length b ≡ blockBytes → checked b ≡ true → drop checkBytes b ≡ body → b ≡ sealed body
+pub checked_sealed : (b body : List ℕ) → length b ≡ block_bytes → checked b ≡ true → drop check_bytes b ≡ body → b ≡ sealed body
 unfolding checked sealed
-checked-sealed [] body n c e = absurd (omega arith)
-checked-sealed (x ∷ []) body n c e = absurd (omega arith)
-checked-sealed (x ∷ y ∷ bs) body n c e =
-    ap (λ (t : List ℕ). t ++ bs) (same_true (x ∷ y ∷ []) (little checkBytes (checkOf bs)) c) ∙ ap (λ (t : List ℕ). little checkBytes (checkOf t) ++ t) e
+checked_sealed [] body n c e = absurd (omega arith)
+checked_sealed (x ∷ []) body n c e = absurd (omega arith)
+checked_sealed (x ∷ y ∷ bs) body n c e =
+    ap (λ (t : List ℕ). t ++ bs) (same_true (x ∷ y ∷ []) (little check_bytes (check_of bs)) c) ∙ ap (λ (t : List ℕ). little check_bytes (check_of t) ++ t) e
 
 -- and a sealed body is a block whose check holds
-pub sealed-checked : (body : List ℕ) → checked (sealed body) ≡ true
+pub sealed_checked : (body : List ℕ) → checked (sealed body) ≡ true
 unfolding checked sealed
-sealed-checked body =
+sealed_checked body =
     rw (
-      take_at (little checkBytes (checkOf body)) body checkBytes (little-length checkBytes (checkOf body)),
-      drop_at (little checkBytes (checkOf body)) body checkBytes
-          (little-length checkBytes (checkOf body)),
+      take_at (little check_bytes (check_of body)) body check_bytes (little_length check_bytes (check_of body)),
+      drop_at (little check_bytes (check_of body)) body check_bytes
+          (little_length check_bytes (check_of body)),
     )
-    (same_refl (little checkBytes (checkOf body)))
+    (same_refl (little check_bytes (check_of body)))
 
-pub sealed-body : (body : List ℕ) → drop checkBytes (sealed body) ≡ body
+pub sealed_body : (body : List ℕ) → drop check_bytes (sealed body) ≡ body
 unfolding sealed
-sealed-body body = drop_at (little checkBytes (checkOf body)) body checkBytes (little-length checkBytes (checkOf body))
+sealed_body body = drop_at (little check_bytes (check_of body)) body check_bytes (little_length check_bytes (check_of body))
 
-pub sealed-length : (body : List ℕ) → length (sealed body) ≡ checkBytes + length body
+pub sealed_length : (body : List ℕ) → length (sealed body) ≡ check_bytes + length body
 unfolding sealed
-sealed-length body = length-append (little checkBytes (checkOf body)) body ∙ ap (λ (k : ℕ). k + length body) (little-length checkBytes (checkOf body))
+sealed_length body = length-append (little check_bytes (check_of body)) body ∙ ap (λ (k : ℕ). k + length body) (little_length check_bytes (check_of body))

@@ -1,9 +1,9 @@
 use Prim.Native.Nat.{◌+◌, ◌-◌, ◌≤◌}
 use native.Mathlib.Omega.{arith}
 use borrow.Author.Rules.{rules}
-use Rattle.image_block.specs.Block.{blockBytes}
-use Rattle.image_block.specs.Workers.{sumRowBytes}
-use Rattle.image_block.proofs.Laws.CheckRowLaws.{Rows, rows-first, first-length, row_within, row-length, rows_more, rows_all}
+use Rattle.image_block.specs.Block.{block_bytes}
+use Rattle.image_block.specs.Workers.{sum_row_bytes}
+use Rattle.image_block.proofs.Laws.CheckRowLaws.{Rows, rows_first, first_length, row_within, row_length, rows_more, rows_all}
 use Rattle.image_block.proofs.check_of.Statement.{statement}
 use Rattle.image_block.proofs.check_of.Tie as tie
 
@@ -11,7 +11,7 @@ abbrev invariant-loop : tie.invariant-loop
 invariant-loop b sum₀ past₀ at₀ sum past at = Rows b sum past at
 
 abbrev decreases-loop : tie.decreases-loop
-decreases-loop b sum₀ past₀ at₀ sum past at = blockBytes - at
+decreases-loop b sum₀ past₀ at₀ sum past at = block_bytes - at
 
 sub-rising-sum : tie.Need-overflow-sub-rising-sum invariant-loop decreases-loop
 sub-rising-sum c = search rules
@@ -23,15 +23,15 @@ part-rising-sum-end : tie.Need-slice-bounds-rising-sum-end invariant-loop decrea
 part-rising-sum-end c = search rules
 
 rising-sum-requires : tie.Need-rising-sum-requires invariant-loop decreases-loop
-rising-sum-requires c κs = first-length c.before.before.args.b.now c.before.before.requires
+rising-sum-requires c κs = first_length c.before.before.args.b.now c.before.before.requires
 
 add-sum : tie.Need-overflow-add-sum invariant-loop decreases-loop
 add-sum c = omega (arith, c.rising-sum.ensures.1)
 
 loop-holds : tie.Need-loop-init invariant-loop decreases-loop
-loop-holds c = rows-first _ _ c.rising-sum.ensures.0 c.rising-sum.ensures.1
+loop-holds c = rows_first _ _ c.rising-sum.ensures.0 c.rising-sum.ensures.1
 
-within : (c : tie.In-loop invariant-loop decreases-loop) → c.before.loop.at + sumRowBytes ≤ blockBytes
+within : (c : tie.In-loop invariant-loop decreases-loop) → c.before.loop.at + sum_row_bytes ≤ block_bytes
 within c = row_within _ _ _ _ c.loop-test.true c.before.loop.invariant
 
 add-e : tie.Need-overflow-add-e invariant-loop decreases-loop
@@ -47,7 +47,7 @@ part-t-end : tie.Need-slice-bounds-t-end invariant-loop decreases-loop
 part-t-end c = omega (arith, within c)
 
 row-sum-requires : tie.Need-row-sum-requires invariant-loop decreases-loop
-row-sum-requires c κs = (row-length _ _ c.before.before.before.before.before.before.requires (within c.before), omega (arith, within c.before, c.before.before.loop.invariant.weighs))
+row-sum-requires c κs = (row_length _ _ c.before.before.before.before.before.before.requires (within c.before), omega (arith, within c.before, c.before.before.loop.invariant.weighs))
 
 add-sum-2 : tie.Need-overflow-add-sum-2 invariant-loop decreases-loop
 add-sum-2 c = omega (arith, c.row-sum.ensures.1, c.before.before.before.loop.invariant.bound)

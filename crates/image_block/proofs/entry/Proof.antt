@@ -1,5 +1,5 @@
-use Rattle.image_block.specs.Block.{entryBlock}
-use Rattle.image_block.proofs.Laws.BlockStoreLaws.{sealed-of}
+use Rattle.image_block.specs.Block.{entry_block}
+use Rattle.image_block.proofs.Laws.BlockStoreLaws.{sealed_of}
 use borrow.Author.Rules.{rules}
 use Rattle.image_block.proofs.entry.Statement.{statement}
 use Rattle.image_block.proofs.entry.Tie as tie
@@ -11,8 +11,8 @@ seal-requires : tie.Need-seal-requires
 seal-requires c κs = search rules
 
 returns : tie.Need-returns
-unfolding entryBlock
-returns c = search (rules, sealed-of)
+unfolding entry_block
+returns c = search (rules, sealed_of)
 
 pub entry_spec : {M : Type 1} → statement M
 entry_spec = tie.close (tie.spec entry-fields-requires seal-requires returns)

@@ -1,4 +1,4 @@
-use Rattle.image_block.specs.Block.{entryBody}
+use Rattle.image_block.specs.Block.{entry_body}
 use borrow.Author.Rules.{rules}
 use Rattle.image_block.proofs.entry_fields.Statement.{statement}
 use Rattle.image_block.proofs.entry_fields.Tie as tie
@@ -7,7 +7,7 @@ slot-fields-requires : tie.Need-slot-fields-requires
 slot-fields-requires c κs = search rules
 
 returns : tie.Need-returns
-unfolding entryBody
+unfolding entry_body
 returns c = search rules
 
 pub entry-fields-spec : {M : Type 1} → statement M

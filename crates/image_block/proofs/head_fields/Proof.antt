@@ -1,5 +1,5 @@
 use Rattle.byte_lists.specs.Lists.{zeros}
-use Rattle.image_block.proofs.Laws.BlockStoreLaws.{head-stored}
+use Rattle.image_block.proofs.Laws.BlockStoreLaws.{head_stored}
 use borrow.Author.Rules.{rules}
 use Rattle.image_block.proofs.head_fields.Statement.{statement}
 use Rattle.image_block.proofs.head_fields.Tie as tie
@@ -132,7 +132,7 @@ array-write-b-17 c = search rules
 
 returns : tie.Need-returns
 unfolding zeros
-returns c = search (rules, head-stored)
+returns c = search (rules, head_stored)
 
 pub head-fields-spec : {M : Type 1} → statement M
 head-fields-spec =

@@ -1,7 +1,7 @@
-use Rattle.image_block.specs.Block.{blockBytes, heldFrom}
+use Rattle.image_block.specs.Block.{block_bytes, held_from}
 use Rattle.image_block.proofs.Laws.BlockStoreLaws.{held_all}
-use Rattle.byte_lists.proofs.Laws.PutLaws.{Pasted, pasted-none, pasted-more}
-use Rattle.byte_lists.proofs.Laws.ZeroLaws.{zeros-length}
+use Rattle.byte_lists.proofs.Laws.PutLaws.{Pasted, pasted_none, pasted_more}
+use Rattle.byte_lists.proofs.Laws.ZeroLaws.{zeros_length}
 use Prim.Native.Nat.{◌-◌}
 use native.Mathlib.Omega.{arith}
 use borrow.Author.Rules.{rules}
@@ -11,14 +11,14 @@ use Rattle.image_block.proofs.held.Statement.{statement}
 use Rattle.image_block.proofs.held.Tie as tie
 
 abbrev invariant-loop : tie.invariant-loop
-invariant-loop block b₀ i₀ b i = Pasted (zeros blockBytes) block heldFrom i b
+invariant-loop block b₀ i₀ b i = Pasted (zeros block_bytes) block held_from i b
 
 abbrev decreases-loop : tie.decreases-loop
 decreases-loop block b₀ i₀ b i = length block - i
 
 loop-holds : tie.Need-loop-init invariant-loop decreases-loop
 unfolding zeros
-loop-holds c = pasted-none (zeros blockBytes) _ heldFrom (omega (arith, zeros-length blockBytes))
+loop-holds c = pasted_none (zeros block_bytes) _ held_from (omega (arith, zeros_length block_bytes))
 
 shared-slice-read-b : tie.Need-shared-slice-read-b invariant-loop decreases-loop
 shared-slice-read-b c = omega arith
@@ -36,7 +36,7 @@ loop-less : tie.Need-loop-smaller invariant-loop decreases-loop
 loop-less c = omega arith
 
 loop-again : tie.Need-loop-preserved invariant-loop decreases-loop
-loop-again c = pasted-more _ _ _ _ _ c.before.loop-test.true c.before.before.loop.invariant
+loop-again c = pasted_more _ _ _ _ _ c.before.loop-test.true c.before.before.loop.invariant
 
 returns : tie.Need-returns invariant-loop decreases-loop
 returns c = held_all _ _ _ c.loop-test.false c.before.loop.invariant

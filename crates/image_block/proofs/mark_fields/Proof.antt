@@ -1,4 +1,4 @@
-use Rattle.image_block.specs.Block.{markBody}
+use Rattle.image_block.specs.Block.{mark_body}
 use borrow.Author.Rules.{rules}
 use Rattle.image_block.proofs.mark_fields.Statement.{statement}
 use Rattle.image_block.proofs.mark_fields.Tie as tie
@@ -13,7 +13,7 @@ slot-fields-requires : tie.Need-slot-fields-requires
 slot-fields-requires c κs = search rules
 
 returns : tie.Need-returns
-unfolding markBody
+unfolding mark_body
 returns c = search rules
 
 pub mark-fields-spec : {M : Type 1} → statement M

@@ -1,8 +1,8 @@
 use Prim.Native.Nat.{◌-◌, ◌*◌, ◌≤◌, ◌<◌}
 use lib.ListN.{length, get_or}
 use native.Mathlib.Omega.{arith}
-use Rattle.image_block.specs.Workers.{plainMost}
-use Rattle.image_block.proofs.Laws.CheckRowLaws.{Rising, rising_none, rising-more, rising-all, product_high}
+use Rattle.image_block.specs.Workers.{plain_most}
+use Rattle.image_block.proofs.Laws.CheckRowLaws.{Rising, rising_none, rising_more, rising_all, product_high}
 use Rattle.image_block.proofs.rising_sum.Statement.{statement}
 use Rattle.image_block.proofs.rising_sum.Tie as tie
 
@@ -22,7 +22,7 @@ byte : (c : tie.After-shared-slice-known invariant-loop decreases-loop) → get_
 byte c = omega (arith, c.shared-slice-known.given c.before.before.loop.p)
 
 high : (c : tie.After-shared-slice-known invariant-loop decreases-loop)
-    → c.before.before.loop.weight * get_or c.before.before.before.args.b.now c.before.before.loop.p 0 ≤ plainMost
+    → c.before.before.loop.weight * get_or c.before.before.before.args.b.now c.before.before.loop.p 0 ≤ plain_most
 high c = product_high _ _ (omega arith) (byte c)
 
 cast-rise : tie.Need-overflow-cast-rise invariant-loop decreases-loop
@@ -44,10 +44,10 @@ loop-less : tie.Need-loop-smaller invariant-loop decreases-loop
 loop-less c = omega arith
 
 loop-again : tie.Need-loop-preserved invariant-loop decreases-loop
-loop-again c = rising-more _ _ _ _ c.before.before.before.requires (byte c) c.before.loop-test.true c.before.before.loop.invariant
+loop-again c = rising_more _ _ _ _ c.before.before.before.requires (byte c) c.before.loop-test.true c.before.before.loop.invariant
 
 returns : tie.Need-returns invariant-loop decreases-loop
-returns c = rising-all _ _ _ _ c.before.before.requires c.loop-test.false c.before.loop.invariant
+returns c = rising_all _ _ _ _ c.before.before.requires c.loop-test.false c.before.loop.invariant
 
 pub rising-sum-spec : {M : Type 1} → statement M
 rising-sum-spec =

@@ -1,5 +1,5 @@
 use native.Mathlib.Omega.{arith}
-use Rattle.image_block.proofs.Laws.CheckRowLaws.{past-high, row-summed}
+use Rattle.image_block.proofs.Laws.CheckRowLaws.{past_high, row_summed}
 use borrow.Author.Rules.{rules}
 use Rattle.image_block.proofs.row_sum.Statement.{statement}
 use Rattle.image_block.proofs.row_sum.Tie as tie
@@ -11,13 +11,13 @@ plain-sum-requires : tie.Need-plain-sum-requires
 plain-sum-requires c κs = search rules
 
 mul-result : tie.Need-overflow-mul-result
-mul-result c = omega (arith, past-high _ _ c.before.before.before.requires.1 c.plain-sum.ensures.1)
+mul-result c = omega (arith, past_high _ _ c.before.before.before.requires.1 c.plain-sum.ensures.1)
 
 add-result : tie.Need-overflow-add-result
-add-result c = omega (arith, past-high _ _ c.before.before.before.requires.1 c.plain-sum.ensures.1)
+add-result c = omega (arith, past_high _ _ c.before.before.before.requires.1 c.plain-sum.ensures.1)
 
 returns : tie.Need-returns
-returns c = row-summed _ _ _ _ c.before.before.before.requires.1 c.before.rising-sum.ensures.0 c.before.rising-sum.ensures.1 c.plain-sum.ensures.0 c.plain-sum.ensures.1
+returns c = row_summed _ _ _ _ c.before.before.before.requires.1 c.before.rising-sum.ensures.0 c.before.rising-sum.ensures.1 c.plain-sum.ensures.0 c.plain-sum.ensures.1
 
 pub row-sum-spec : {M : Type 1} → statement M
 row-sum-spec =

@@ -6,7 +6,7 @@ use Prim.Native.Nat.{ℕ, ◌-◌}
 use lib.ListN.{length, take, drop, length-drop}
 use lib.Seq.{take_all}
 use Rattle.byte_lists.specs.Lists.{same}
-use Rattle.image_block.specs.Block.{checkBytes}
+use Rattle.image_block.specs.Block.{check_bytes}
 use Rattle.image_block.proofs.same_body.Statement.{statement}
 use Rattle.image_block.proofs.same_body.Tie as tie
 
@@ -32,8 +32,8 @@ same-bytes-requires : tie.Need-same-bytes-requires
 same-bytes-requires c κs = search rules
 
 -- what the code cuts off behind the check
-behind : (l : List ℕ) → take (length l - checkBytes) (drop checkBytes l) ≡ drop checkBytes l
-behind l = take_all (length l - checkBytes) (drop checkBytes l) (let d = length-drop checkBytes l in omega arith)
+behind : (l : List ℕ) → take (length l - check_bytes) (drop check_bytes l) ≡ drop check_bytes l
+behind l = take_all (length l - check_bytes) (drop check_bytes l) (let d = length-drop check_bytes l in omega arith)
 
 returns : tie.Need-returns
 returns c =

@@ -1,4 +1,4 @@
-use Rattle.image_block.proofs.Laws.BlockStoreLaws.{sealed-stored}
+use Rattle.image_block.proofs.Laws.BlockStoreLaws.{sealed_stored}
 use borrow.Author.Rules.{rules}
 use Rattle.image_block.proofs.seal.Statement.{statement}
 use Rattle.image_block.proofs.seal.Tie as tie
@@ -25,7 +25,7 @@ array-write-s-2 : tie.Need-array-write-s-2
 array-write-s-2 c = search rules
 
 returns : tie.Need-returns
-returns c = search (rules, sealed-stored)
+returns c = search (rules, sealed_stored)
 
 pub seal-spec : {M : Type 1} → statement M
 seal-spec =

@@ -1,4 +1,4 @@
-use Rattle.image_block.proofs.Laws.BlockStoreLaws.{slot-stored}
+use Rattle.image_block.proofs.Laws.BlockStoreLaws.{slot_stored}
 use borrow.Author.Rules.{rules}
 use Rattle.image_block.proofs.slot_fields.Statement.{statement}
 use Rattle.image_block.proofs.slot_fields.Tie as tie
@@ -105,7 +105,7 @@ returns c =
     let time-3 = time-4.before in
     let time-2 = time-3.before in
     let time-1 = time-2.before in
-    slot-stored _ _ _ _ _ _ _ _ _ _ _ _ _ _ _ time-1.before.held.ensures
+    slot_stored _ _ _ _ _ _ _ _ _ _ _ _ _ _ _ time-1.before.held.ensures
     time-1.byte.ensures time-2.byte2.ensures time-3.byte3.ensures time-4.byte4.ensures
     time-5.byte5.ensures time-6.byte6.ensures time-7.byte7.ensures time-8.byte8.ensures
     size-1.byte9.ensures size-2.byte10.ensures

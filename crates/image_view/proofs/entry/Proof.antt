@@ -43,7 +43,7 @@ use denote.Triple.Table.{entered, cited}
 use denote.Triple.Walked.{says, Stays, stay_none, walk_of, Goes-none, Walks, ends_at, walked, walk_Meets}
 use denote.Exit.{yes}
 use denote.Triple.Clauses.{ensured, lasts}
-use Rattle.image_view.specs.View.{foundIn}
+use Rattle.image_view.specs.View.{found_in}
 use Rattle.image_view.specs.declared.View.{View}
 use Rattle.image_view.specs.declared.Found.{Found}
 use Rattle.image_view.specs.contracts.Counted as N
@@ -88,7 +88,7 @@ module _ {M : Type 1} {𝓤 : Ura M} (𝓛 : Logic 𝓤) (mem : Memory → SProp
   cv = EL.val N.the_type N'.the_laws d.counted
 
   abbrev found : Found
-  found = foundIn d n
+  found = found_in d n
 
   abbrev Post : Val → SProp 𝓤
   Post = (walk_of 𝓛 next.ended stayed (next.clauses 𝓛 mem run)).post (((κ, tt), (q, tt), tt, (d, (n, tt)), (mach ∷ [], (vint w64 n ∷ [], tt))), tt)

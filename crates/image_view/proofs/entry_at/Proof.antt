@@ -1,16 +1,16 @@
 use mathlib.Core.Path.{refl}
-use Rattle.image.specs.Parse.{timeIn}
-use Rattle.image.proofs.Laws.ScanLaws.{part-is}
-use Rattle.image_view.proofs.Laws.ViewLaws.{at-short, at-past, at_mark, at_held}
+use Rattle.image.specs.Parse.{time_in}
+use Rattle.image.proofs.Laws.ScanLaws.{part_is}
+use Rattle.image_view.proofs.Laws.ViewLaws.{at_short, at_past, at_mark, at_held}
 use borrow.Author.Rules.{rules}
 use Rattle.image_view.proofs.entry_at.Statement.{statement}
 use Rattle.image_view.proofs.entry_at.Tie as tie
 
 returns : tie.Need-returns
-returns c = search (rules, at-short)
+returns c = search (rules, at_short)
 
 returns-2 : tie.Need-returns-2
-returns-2 c = search (rules, at-past)
+returns-2 c = search (rules, at_past)
 
 add_at : tie.Need-overflow-add-at
 add_at c = search rules
@@ -37,21 +37,21 @@ is-mark-requires : tie.Need-is-mark-requires
 is-mark-requires c κs = search rules
 
 returns-3 : tie.Need-returns-3
-unfolding timeIn
+unfolding time_in
 returns-3 c =
     let read = c.before.before in
     let below = read.before.before in
-    at_mark _ _ _ _ _ _ below.before.if1.false below.if2.false (part-is _ _ _ refl) read.read8.ensures c.before.is-mark.ensures c.if3.true
+    at_mark _ _ _ _ _ _ below.before.if1.false below.if2.false (part_is _ _ _ refl) read.read8.ensures c.before.is-mark.ensures c.if3.true
 
 add-t8 : tie.Need-overflow-add-t8
 add-t8 c = search rules
 
 returns-4 : tie.Need-returns-4
-unfolding timeIn
+unfolding time_in
 returns-4 c =
     let read = c.before.before in
     let below = read.before.before in
-    at_held _ _ _ _ _ _ below.before.if1.false below.if2.false (part-is _ _ _ refl) read.read8.ensures c.before.is-mark.ensures c.if3.false
+    at_held _ _ _ _ _ _ below.before.if1.false below.if2.false (part_is _ _ _ refl) read.read8.ensures c.before.is-mark.ensures c.if3.false
 
 pub entry-at-spec : {M : Type 1} → statement M
 entry-at-spec =

@@ -1,4 +1,4 @@
-use Rattle.image_view.proofs.Laws.ViewLaws.{by_entries, by-refused}
+use Rattle.image_view.proofs.Laws.ViewLaws.{by_entries, by_refused}
 use borrow.Author.Rules.{rules}
 use Rattle.image_view.proofs.entry_by.Statement.{statement}
 use Rattle.image_view.proofs.entry_by.Tie as tie
@@ -16,7 +16,7 @@ returns : tie.Need-returns
 returns c = search (rules, by_entries)
 
 returns-2 : tie.Need-returns-2
-returns-2 c = search (rules, by-refused)
+returns-2 c = search (rules, by_refused)
 
 pub entry-by-spec : {M : Type 1} → statement M
 entry-by-spec =

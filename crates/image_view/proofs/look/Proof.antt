@@ -43,8 +43,8 @@ use denote.Triple.Clauses.{ensured, lasts}
 use Rattle.settings.specs.declared.Settings.{Settings}
 use Rattle.settings.specs.contracts.Settings as P
 use Rattle.settings.proofs.Settings.TheLaws as P'
-use Rattle.image.specs.Parse.{parse, openRefusal}
-use Rattle.image_view.specs.View.{countedNumber, foundIn, foundOf, view_of}
+use Rattle.image.specs.Parse.{parse, open_refusal}
+use Rattle.image_view.specs.View.{counted_number, found_in, found_of, view_of}
 use Rattle.image_view.specs.declared.View.{View}
 use Rattle.image_view.specs.declared.Found.{Found}
 use Rattle.image_view.specs.contracts.View as T
@@ -91,7 +91,7 @@ module _ {M : Type 1} {𝓤 : Ura M} (𝓛 : Logic 𝓤) (mem : Memory → SProp
   v = slice_val s.ref_ptr (length s.now)
 
   abbrev found : Found
-  found = foundOf (parse d n s.now) i
+  found = found_of (parse d n s.now) i
 
   abbrev at : Vals first.signature (κ, tt)
   at = (dv ∷ [], (vint w64 n ∷ [], (v ∷ [], (vint w64 i ∷ [], tt))))
@@ -112,7 +112,7 @@ module _ {M : Type 1} {𝓤 : Ura M} (𝓛 : Logic 𝓤) (mem : Memory → SProp
 
   abbrev Said : View → Type 0
   Said r =
-      (r ≡ view_of d n s) × ((place : ℕ) → foundIn r place ≡ foundOf (parse d n s.now) place) × (countedNumber r.counted ≡ openRefusal d n s.now)
+      (r ≡ view_of d n s) × ((place : ℕ) → found_in r place ≡ found_of (parse d n s.now) place) × (counted_number r.counted ≡ open_refusal d n s.now)
 
   goes-new : ent 𝓤 (on_entry 𝓛 first.signature (κ, tt) (q, tt) (d, (n, (s, (i, tt)))) at) (sep 𝓤 ((New 𝓛 mem run).pre to-new) (sem 𝓛 Own))
   goes-new =
@@ -136,8 +136,8 @@ module _ {M : Type 1} {𝓤 : Ura M} (𝓛 : Logic 𝓤) (mem : Memory → SProp
   goes-next r u = qed 𝓛 (‵ ((B (κ, tt)).own r (u ∷ [])) ∷ (‵ (flft κ q) ⊛ ‵ ftrue) ∷ []) ∵ nothing ! $ owned ! usize (Is usize) (uint_Makes 𝓛 w64) i _ (refl, oki) $ fjoin ! $ move !
       (1 ∷ 0 ∷ []) $ fjoin ! $ move ! (1 ∷ 0 ∷ []) $ join ! $ frame ! $ done !
 
-  next-said : (r : View) (t : Found) → ent 𝓤 (ensured 𝓛 next.ended (next.clauses 𝓛 mem run) (κ, tt) (r, (i, tt)) tt t) (fact 𝓤 (t ≡ foundIn r i))
-  next-said r t = ex_e 𝓤 _ (λ ws. snd∗ 𝓤 (sem 𝓛 (lasts next.ended (κ, tt) (r, (i, tt)) ws)) (fact 𝓤 (t ≡ foundIn r i)))
+  next-said : (r : View) (t : Found) → ent 𝓤 (ensured 𝓛 next.ended (next.clauses 𝓛 mem run) (κ, tt) (r, (i, tt)) tt t) (fact 𝓤 (t ≡ found_in r i))
+  next-said r t = ex_e 𝓤 _ (λ ws. snd∗ 𝓤 (sem 𝓛 (lasts next.ended (κ, tt) (r, (i, tt)) ws)) (fact 𝓤 (t ≡ found_in r i)))
 
   exits : (t : Found) (u : Val) → t ≡ found → ent 𝓤 (⋆ 𝓛 (‵ ((S.the_row).own_val t (u ∷ [])) ∷ (‵ (flft κ q) ⊛ ‵ ftrue) ∷ ‵ Own ∷ [])) (Post u)
   exits t u e =
@@ -170,7 +170,7 @@ module _ {M : Type 1} {𝓤 : Ura M} (𝓛 : Logic 𝓤) (mem : Memory → SProp
         calls_at ! fm (Next 𝓛 mem run) known_next (to-next r u) (and_then ! (load ! (from ! (stop !)) (look ! 2 refl)) (and_then ! (load ! (from ! (stop !)) (look ! 4 refl)) (no_more !))) (λ u'.
         use1 𝓛 (later (some (λ (t : Found). ((‵ (flft κ q) ⊛ ‵ ftrue) ⊛ ‵ ((S.the_row).own_val t (u' ∷ []))) ⊛ raw
         (ensured 𝓛 next.ended (next.clauses 𝓛 mem run) (κ, tt) (r, (i, tt)) tt t)))) (id⊢ 𝓤 _) $ await ! tt $ pick ! (λ t.
-        split ! $ move ! (1 ∷ []) $ use1 𝓛 (raw (fact 𝓤 (t ≡ foundIn r i))) (next-said r t) $ heard ! (t ≡ foundIn r i)
+        split ! $ move ! (1 ∷ []) $ use1 𝓛 (raw (fact 𝓤 (t ≡ found_in r i))) (next-said r t) $ heard ! (t ≡ found_in r i)
         (λ e'. split ! $ move ! (1 ∷ []) $
         -- [the result; the token; what s owns; _5; …; _1; …; room for _0; …]
         peeks ! S.the_row (Is S.the_row) (shows 𝓛 S.the_row) t (u' ∷ []) (λ is'.

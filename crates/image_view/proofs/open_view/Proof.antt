@@ -46,12 +46,12 @@ use denote.Triple.Clauses.{ensured, lasts}
 use Rattle.settings.specs.declared.Settings.{Settings}
 use Rattle.settings.specs.contracts.Settings as P
 use Rattle.settings.proofs.Settings.TheLaws as P'
-use Rattle.image.specs.Parse.{parse, openRefusal}
-use Rattle.image_view.specs.View.{count_of, countedNumber, foundIn, foundOf, view_of}
+use Rattle.image.specs.Parse.{parse, open_refusal}
+use Rattle.image_view.specs.View.{count_of, counted_number, found_in, found_of, view_of}
 use Rattle.image_view.specs.declared.Counted.{Counted}
 use Rattle.image_view.specs.declared.View.{View}
-use Rattle.image_view.proofs.Laws.ViewLaws.{view-entry}
-use Rattle.image_view.proofs.Laws.FoundNumberLaws.{counted-number}
+use Rattle.image_view.proofs.Laws.ViewLaws.{view_entry}
+use Rattle.image_view.proofs.Laws.FoundNumberLaws.{counted_number_lem}
 use Rattle.image_view.specs.contracts.Counted as N
 use Rattle.image_view.proofs.Counted.TheLaws as N'
 use Rattle.image_view.specs.contracts.View as T
@@ -125,11 +125,11 @@ module _ {M : Type 1} {𝓤 : Ura M} (𝓛 : Logic 𝓤) (mem : Memory → SProp
   is_view : (c : Counted) → c ≡ count_of (parse d n s.now) → made c ≡ view_of d n s
   is_view c e = ap made e
 
-  entries : (c : Counted) → c ≡ count_of (parse d n s.now) → (place : ℕ) → foundIn (made c) place ≡ foundOf (parse d n s.now) place
-  entries c e place = ap (λ (w : View). foundIn w place) (is_view c e) ∙ view-entry d n s place
+  entries : (c : Counted) → c ≡ count_of (parse d n s.now) → (place : ℕ) → found_in (made c) place ≡ found_of (parse d n s.now) place
+  entries c e place = ap (λ (w : View). found_in w place) (is_view c e) ∙ view_entry d n s place
 
-  numbered : (c : Counted) → c ≡ count_of (parse d n s.now) → countedNumber c ≡ openRefusal d n s.now
-  numbered c e = ap countedNumber e ∙ counted-number d n s.now
+  numbered : (c : Counted) → c ≡ count_of (parse d n s.now) → counted_number c ≡ open_refusal d n s.now
+  numbered c e = ap counted_number e ∙ counted_number_lem d n s.now
 
   exits : (c : Counted) (w : Val) → c ≡ count_of (parse d n s.now) → ent 𝓤 (⋆ 𝓛 (‵ ((N.the_row).own_val c (w ∷ [])) ∷ (‵ (flft κ q) ⊛ ‵ ftrue) ∷ ‵ Own ∷ [])) (Post (mach w))
   exits c w e =

@@ -2,22 +2,22 @@ use Rattle.image_write.proofs.Laws.BlocksLaws.{copied_more}
 use Prim.Native.Nat.{◌-◌}
 use native.Mathlib.Omega.{arith}
 use Rattle.byte_lists.specs.Lists.{zeros}
-use Rattle.byte_lists.proofs.Laws.PutLaws.{Pasted, pasted-none}
-use Rattle.byte_lists.proofs.Laws.ZeroLaws.{zeros-length}
+use Rattle.byte_lists.proofs.Laws.PutLaws.{Pasted, pasted_none}
+use Rattle.byte_lists.proofs.Laws.ZeroLaws.{zeros_length}
 use Rattle.image_write.proofs.Laws.BlocksLaws.{copied_all}
 use Rattle.image_write.proofs.copied.Statement.{statement}
 use Rattle.image_write.proofs.copied.Tie as tie
-use Rattle.image_block.specs.Block.{blockBytes}
+use Rattle.image_block.specs.Block.{block_bytes}
 
 abbrev invariant-loop : tie.invariant-loop
-invariant-loop part b₀ i₀ b i = Pasted (zeros blockBytes) part 0 i b
+invariant-loop part b₀ i₀ b i = Pasted (zeros block_bytes) part 0 i b
 
 abbrev decreases-loop : tie.decreases-loop
-decreases-loop part b₀ i₀ b i = blockBytes - i
+decreases-loop part b₀ i₀ b i = block_bytes - i
 
 loop-holds : tie.Need-loop-init invariant-loop decreases-loop
 unfolding zeros
-loop-holds c = pasted-none (zeros blockBytes) _ 0 (omega (arith, zeros-length blockBytes))
+loop-holds c = pasted_none (zeros block_bytes) _ 0 (omega (arith, zeros_length block_bytes))
 
 shared-slice-read-b : tie.Need-shared-slice-read-b invariant-loop decreases-loop
 shared-slice-read-b c = omega arith

@@ -1,6 +1,6 @@
 use native.Mathlib.Omega.{arith}
-use Rattle.image.specs.Image.{imageSize}
-use Rattle.image_write.proofs.Laws.FreshImageLaws.{fresh-made}
+use Rattle.image.specs.Image.{image_size}
+use Rattle.image_write.proofs.Laws.FreshImageLaws.{fresh_made}
 use borrow.Author.Rules.{rules}
 use Rattle.image_write.proofs.fill_fresh.Statement.{statement}
 use Rattle.image_write.proofs.fill_fresh.Tie as tie
@@ -9,14 +9,14 @@ write-head-requires : tie.Need-write-head-requires
 write-head-requires c κs = search rules
 
 write-zero-entry-requires : tie.Need-write-zero-entry-requires
-unfolding imageSize
+unfolding image_size
 write-zero-entry-requires c κs = omega arith
 
 add-clear-blocks : tie.Need-overflow-add-clear-blocks
 add-clear-blocks c = search rules
 
 clear-blocks-requires : tie.Need-clear-blocks-requires
-unfolding imageSize
+unfolding image_size
 clear-blocks-requires c κs = omega arith
 
 same_length : tie.Need-same-length
@@ -27,7 +27,7 @@ returns c =
     let z = c.before.before.before.before.before.before.before in
     let h = z.before.before.before.before in
     let start = h.before.before.before in
-    fresh-made _ _ _ _ _ _ start.requires.0 start.requires.1.1 h.write-head.ensures z.write-zero-entry.ensures c.before.before.clear-blocks.ensures
+    fresh_made _ _ _ _ _ _ start.requires.0 start.requires.1.1 h.write-head.ensures z.write-zero-entry.ensures c.before.before.clear-blocks.ensures
 
 pub fill-fresh-spec : {M : Type 1} → statement M
 fill-fresh-spec =

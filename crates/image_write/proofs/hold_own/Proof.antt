@@ -1,11 +1,11 @@
-use Rattle.image_write.proofs.Laws.HoldLaws.{held-here, held-there}
+use Rattle.image_write.proofs.Laws.HoldLaws.{held_here, held_there}
 use native.Mathlib.Omega.{arith}
 use borrow.Author.Rules.{rules}
 use Rattle.image_write.proofs.hold_own.Statement.{statement}
 use Rattle.image_write.proofs.hold_own.Tie as tie
 
 returns : tie.Need-returns
-returns c = held-here _ _ _ _ _ c.if1.true
+returns c = held_here _ _ _ _ _ c.if1.true
 
 mul-from : tie.Need-overflow-mul-from
 mul-from c = let b = c.before.before.requires.1 c.if1.false in omega (arith, b.1)
@@ -53,7 +53,7 @@ returns-2 : tie.Need-returns-2
 returns-2 c =
     let written = c.before.before in
     let taken = written.before.before.before.before in
-    held-there _ _ _ _ _ _ _ taken.before.before.before.if1.false taken.copied.ensures written.write-entry.ensures
+    held_there _ _ _ _ _ _ _ taken.before.before.before.if1.false taken.copied.ensures written.write-entry.ensures
 
 pub hold-own-spec : {M : Type 1} → statement M
 hold-own-spec =

@@ -3,8 +3,8 @@ use Prim.Native.Nat.{◌-◌, ◌≤◌}
 use native.Mathlib.Omega.{arith}
 use borrow.Author.Rules.{rules}
 use lib.ListN.{length}
-use Rattle.image.proofs.Laws.ScanLaws.{part-is}
-use Rattle.image_write.proofs.Laws.BlocksLaws.{Shifting, shifting-none, shifting-more, shifted-all}
+use Rattle.image.proofs.Laws.ScanLaws.{part_is}
+use Rattle.image_write.proofs.Laws.BlocksLaws.{Shifting, shifting_none, shifting_more, shifted_all}
 use Rattle.image_write.proofs.shift_blocks.Statement.{statement}
 use Rattle.image_write.proofs.shift_blocks.Tie as tie
 
@@ -15,7 +15,7 @@ abbrev decreases-loop : tie.decreases-loop
 decreases-loop image₀ from d kept k₀ image k = kept - k
 
 loop-holds : tie.Need-loop-init invariant-loop decreases-loop
-loop-holds c = (omega arith, shifting-none _ _ _)
+loop-holds c = (omega arith, shifting_none _ _ _)
 
 add_start : tie.Need-overflow-add-start invariant-loop decreases-loop
 add_start c = omega arith
@@ -69,13 +69,13 @@ loop-again : tie.Need-loop-preserved invariant-loop decreases-loop
 loop-again c =
     let a = c.before.before.before.before.before in
     let t = a.before.before.before.before in
-    (omega arith, shifting-more _ _ _ _ _ _ _ (omega arith) (a.copied.ensures ∙ part-is _ _ _ refl) c.before.before.store.ensures t.loop.invariant.1)
+    (omega arith, shifting_more _ _ _ _ _ _ _ (omega arith) (a.copied.ensures ∙ part_is _ _ _ refl) c.before.before.store.ensures t.loop.invariant.1)
 
 same_length : tie.Need-same-length invariant-loop decreases-loop
 same_length c = c.before.loop.invariant.1.long
 
 returns : tie.Need-returns invariant-loop decreases-loop
-returns c = shifted-all _ _ _ _ _ _ (omega arith) c.before.loop.invariant.1
+returns c = shifted_all _ _ _ _ _ _ (omega arith) c.before.loop.invariant.1
 
 pub shift-blocks-spec : {M : Type 1} → statement M
 shift-blocks-spec =

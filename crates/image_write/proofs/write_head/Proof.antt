@@ -1,13 +1,13 @@
 use mathlib.Core.Path.{◌≡◌, ap, ◌∙◌}
 use native.Mathlib.Omega.{arith}
 use lib.ListN.{length}
-use Rattle.image_block.proofs.Laws.LayoutLaws.{head-length}
-use Rattle.image.specs.Image.{imageSize}
+use Rattle.image_block.proofs.Laws.LayoutLaws.{head_length}
+use Rattle.image.specs.Image.{image_size}
 use Rattle.image_write.proofs.Laws.BlocksLaws.{put_as}
 use borrow.Author.Rules.{rules}
 use Rattle.image_write.proofs.write_head.Statement.{statement}
 use Rattle.image_write.proofs.write_head.Tie as tie
-use Rattle.image_block.specs.Block.{blockBytes}
+use Rattle.image_block.specs.Block.{block_bytes}
 
 head-requires : tie.Need-head-requires
 head-requires c κs = search rules
@@ -16,9 +16,9 @@ slice-aggregate-store : tie.Need-slice-aggregate-store
 slice-aggregate-store c = search rules
 
 store-requires : tie.Need-store-requires
-unfolding imageSize
+unfolding image_size
 store-requires c κs =
-    let n : length c.before.before.head.result ≡ blockBytes = ap length c.before.before.head.ensures ∙ head-length _ _ _ _ in
+    let n : length c.before.before.head.result ≡ block_bytes = ap length c.before.before.head.ensures ∙ head_length _ _ _ _ in
     omega arith
 
 same_length : tie.Need-same-length

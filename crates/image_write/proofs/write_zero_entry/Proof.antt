@@ -2,30 +2,30 @@ use mathlib.Core.Path.{subst}
 use Prim.Native.Nat.{ℕ, ◌≤◌}
 use mathlib.Core.Path.{sym}
 use Rattle.byte_lists.specs.Lists.{zeros}
-use Rattle.image_write.proofs.Laws.BlocksLaws.{zero-entry, zero-length}
+use Rattle.image_write.proofs.Laws.BlocksLaws.{zero_entry, zero_length}
 use borrow.Author.Rules.{rules}
 use Rattle.image_write.proofs.write_zero_entry.Statement.{statement}
 use Rattle.image_write.proofs.write_zero_entry.Tie as tie
-use Rattle.image_block.specs.Block.{blockBytes}
-use Rattle.settings.specs.Ranges.{maxSize}
+use Rattle.image_block.specs.Block.{block_bytes}
+use Rattle.settings.specs.Ranges.{max_size}
 
 array-share-prefix-zero : tie.Need-array-share-prefix-zero
 array-share-prefix-zero c = search rules
 
 slice-aggregate-write-entry : tie.Need-slice-aggregate-write-entry
 unfolding zeros
-slice-aggregate-write-entry c = sym (zero-length _ c.before.before.before.requires.1)
+slice-aggregate-write-entry c = sym (zero_length _ c.before.before.before.requires.1)
 
 write-entry-requires : tie.Need-write-entry-requires
 unfolding zeros
-write-entry-requires c κs = (c.before.before.before.requires.0, subst (λ (k : ℕ). k ≤ maxSize) (sym (zero-length _ c.before.before.before.requires.1)) c.before.before.before.requires.1)
+write-entry-requires c κs = (c.before.before.before.requires.0, subst (λ (k : ℕ). k ≤ max_size) (sym (zero_length _ c.before.before.before.requires.1)) c.before.before.before.requires.1)
 
 same_length : tie.Need-same-length
 same_length c = search rules
 
 returns : tie.Need-returns
 unfolding zeros
-returns c = zero-entry blockBytes _ _ _ c.before.before.before.before.before.before.requires.1 c.before.before.write-entry.ensures
+returns c = zero_entry block_bytes _ _ _ c.before.before.before.before.before.before.requires.1 c.before.before.write-entry.ensures
 
 pub write-zero-entry-spec : {M : Type 1} → statement M
 write-zero-entry-spec =

@@ -3,26 +3,26 @@ use mathlib.Core.Path.{◌≡◌, refl, sym, ap, ap₂, ◌∙◌}
 use Prim.Native.Nat.{ℕ, zero, suc, ◌*◌, ◌/◌, ◌%◌, ◌<◌}
 use native.Mathlib.Nat.{zero-mul, one-mul, mod-lt}
 use native.Mathlib.Omega.{arith}
-use Rattle.gf256.specs.Product.{plus, twice, shiftAdd, product}
-use Rattle.gf256.proofs.Laws.XorLaws.{plus-zero}
-use Rattle.gf256.proofs.Laws.ProductLaws.{product-twice}
+use Rattle.gf256.specs.Product.{plus, twice, shift_add, product}
+use Rattle.gf256.proofs.Laws.XorLaws.{plus_zero}
+use Rattle.gf256.proofs.Laws.ProductLaws.{product_twice}
 
 -- a bit times a byte is a byte
-pub bit-fits : (y w : ℕ) → w < 256 → y % 2 * w < 256
-bit-fits y w h = go (y % 2) (mod-lt y (omega arith))
+pub bit_fits : (y w : ℕ) → w < 256 → y % 2 * w < 256
+bit_fits y w h = go (y % 2) (mod-lt y (omega arith))
   where
     go : (x : ℕ) → x < 2 → x * w < 256
     go zero l = rw (zero-mul w) (omega arith)
     go (suc zero) l = rw (one-mul w) h
     go (suc (suc x)) l = absurd (omega arith)
 
-last_bit : (w y : ℕ) → y % 2 * w ≡ shiftAdd 1 w y
-unfolding shiftAdd
-last_bit w y = sym (plus-zero (y % 2 * w))
+last_bit : (w y : ℕ) → y % 2 * w ≡ shift_add 1 w y
+unfolding shift_add
+last_bit w y = sym (plus_zero (y % 2 * w))
 
-more-bits : (k w w' y y' rest : ℕ) → w' ≡ twice w → y / 2 ≡ y' → rest ≡ shiftAdd k w' y' → plus (y % 2 * w) rest ≡ shiftAdd (suc k) w y
-unfolding shiftAdd
-more-bits k w w' y y' rest e f g = ap (λ (x : ℕ). plus (y % 2 * w) x) (g ∙ ap₂ (λ (a b : ℕ). shiftAdd k a b) e (sym f))
+more_bits : (k w w' y y' rest : ℕ) → w' ≡ twice w → y / 2 ≡ y' → rest ≡ shift_add k w' y' → plus (y % 2 * w) rest ≡ shift_add (suc k) w y
+unfolding shift_add
+more_bits k w w' y y' rest e f g = ap (λ (x : ℕ). plus (y % 2 * w) x) (g ∙ ap₂ (λ (a b : ℕ). shift_add k a b) e (sym f))
 
 pub by_bits : (w0 w1 w2 w3 w4 w5 w6 w7 x : ℕ)
     → w1 ≡ twice w0 → w2 ≡ twice w1 → w3 ≡ twice w2 → w4 ≡ twice w3 → w5 ≡ twice w4 → w6 ≡ twice w5 → w7 ≡ twice w6
@@ -30,15 +30,15 @@ pub by_bits : (w0 w1 w2 w3 w4 w5 w6 w7 x : ℕ)
     (plus (x / 16 % 2 * w4) (plus (x / 32 % 2 * w5) (plus (x / 64 % 2 * w6) (x / 128 % 2 * w7))))))) ≡ product w0 x
 unfolding product
 by_bits w0 w1 w2 w3 w4 w5 w6 w7 x e1 e2 e3 e4 e5 e6 e7 =
-    more-bits 7 w0 w1 x (x / 2) _ e1 refl
-    (more-bits 6 w1 w2 (x / 2) (x / 4) _ e2 (omega arith)
-    (more-bits 5 w2 w3 (x / 4) (x / 8) _ e3 (omega arith)
-    (more-bits 4 w3 w4 (x / 8) (x / 16) _ e4 (omega arith)
-    (more-bits 3 w4 w5 (x / 16) (x / 32) _ e5 (omega arith)
-    (more-bits 2 w5 w6 (x / 32) (x / 64) _ e6 (omega arith)
-    (more-bits 1 w6 w7 (x / 64) (x / 128) _ e7 (omega arith)
+    more_bits 7 w0 w1 x (x / 2) _ e1 refl
+    (more_bits 6 w1 w2 (x / 2) (x / 4) _ e2 (omega arith)
+    (more_bits 5 w2 w3 (x / 4) (x / 8) _ e3 (omega arith)
+    (more_bits 4 w3 w4 (x / 8) (x / 16) _ e4 (omega arith)
+    (more_bits 3 w4 w5 (x / 16) (x / 32) _ e5 (omega arith)
+    (more_bits 2 w5 w6 (x / 32) (x / 64) _ e6 (omega arith)
+    (more_bits 1 w6 w7 (x / 64) (x / 128) _ e7 (omega arith)
     (last_bit w7 (x / 128))))))))
 
 -- a product with the double of p is the double of that with p
 pub doubles : (p q a w r : ℕ) → twice p ≡ q → p < 256 → a < 256 → w ≡ product a p → r ≡ product a q → r ≡ twice w
-doubles p q a w r t hp ha e f = f ∙ ap (product a) (sym t) ∙ product-twice a p ha hp ∙ ap twice (sym e)
+doubles p q a w r t hp ha e f = f ∙ ap (product a) (sym t) ∙ product_twice a p ha hp ∙ ap twice (sym e)

@@ -6,7 +6,7 @@ use mathlib.Core.Path.{ap₂}
 use Prim.Native.Nat.{ℕ, ◌-◌, ◌≤◌}
 use Rattle.gf256.specs.Product.{plus, product}
 use Rattle.interpolate.specs.Workers.{scaled}
-use Rattle.byte_lists.proofs.Laws.TabulateLaws.{Filled, filled_none, filled_more, filled-all}
+use Rattle.byte_lists.proofs.Laws.TabulateLaws.{Filled, filled_none, filled_more, filled_all}
 use Rattle.interpolate.proofs.add_multiples.Statement.{statement}
 use Rattle.interpolate.proofs.add_multiples.Tie as tie
 
@@ -49,7 +49,7 @@ same_length c = c.before.loop.invariant.0.size
 
 returns : tie.Need-returns invariant-loop decreases-loop
 unfolding scaled
-returns c = filled-all _ _ _ _ c.before.loop.invariant.0 (omega arith)
+returns c = filled_all _ _ _ _ c.before.loop.invariant.0 (omega arith)
 
 pub add-multiples-spec : {M : Type 1} → statement M
 add-multiples-spec =

@@ -1,7 +1,7 @@
 use mathlib.Core.Path.{refl, sym}
 use native.Mathlib.Omega.{arith}
 use Rattle.gf256.specs.Product.{plus, twice}
-use Rattle.gf256.proofs.Laws.ProductLaws.{product-one}
+use Rattle.gf256.proofs.Laws.ProductLaws.{product_one}
 use Rattle.interpolate.proofs.Laws.BitLaws.{doubles}
 use borrow.Author.Rules.{rules}
 use Rattle.interpolate.proofs.add_scaled.Statement.{statement}
@@ -35,7 +35,7 @@ add-multiples-requires c κs =
     let w = s.ranges.w0.fits in (
       s.requires.1.1,
       (
-        doubles 1 2 _ _ _ refl (omega arith) w (sym (product-one _)) c.before.before.before.before.before.before.before.mul-by.ensures.0,
+        doubles 1 2 _ _ _ refl (omega arith) w (sym (product_one _)) c.before.before.before.before.before.before.before.mul-by.ensures.0,
         (
           doubles 2 4 _ _ _ refl (omega arith) w c.before.before.before.before.before.before.before.mul-by.ensures.0
               c.before.before.before.before.before.before.mul-by2.ensures.0,

@@ -3,7 +3,7 @@ use lib.ListN.{length}
 use mathlib.Core.Path.{◌≡◌, refl, sym, ap, ◌∙◌}
 use Prim.Native.Nat.{ℕ, ◌+◌, ◌-◌, ◌*◌, ◌≤◌}
 use Rattle.byte_lists.proofs.Laws.StackLaws.{part_length}
-use Rattle.interpolate.proofs.Laws.FurtherBlockLaws.{Fitting, fitting-none, fitting-within, fitting-more, fitting-not, fitting-all}
+use Rattle.interpolate.proofs.Laws.FurtherBlockLaws.{Fitting, fitting_none, fitting_within, fitting_more, fitting_not, fitting_all}
 use Rattle.interpolate.proofs.all_fit.Statement.{statement}
 use Rattle.interpolate.proofs.all_fit.Tie as tie
 
@@ -15,14 +15,14 @@ abbrev decreases-loop : tie.decreases-loop
 decreases-loop powers logs points shares blocks further given made₀ size f₀ from₀ made f from = length further - f
 
 loop-holds : tie.Need-loop-init invariant-loop decreases-loop
-loop-holds c = (fitting-none _ _ _ _ _, refl)
+loop-holds c = (fitting_none _ _ _ _ _, refl)
 
 -- the next block is within those given
 within : (c : tie.In-loop invariant-loop decreases-loop)
     → c.before.loop.from + length c.before.before.before.before.before.before.before.before.args.made.now
     ≤ length c.before.before.before.before.before.before.before.before.args.given.now
 within c =
-    fitting-within _ _ _ _ _ _ _ c.before.loop.invariant.0 (omega (arith, c.loop-test.true))
+    fitting_within _ _ _ _ _ _ _ c.before.loop.invariant.0 (omega (arith, c.loop-test.true))
     c.before.before.before.before.before.before.before.before.requires.1.1.1
 
 add-till : tie.Need-overflow-add-till invariant-loop decreases-loop
@@ -58,7 +58,7 @@ same_length c = c.before.before.before.fits2.auto.1.1.1.1.1.1.1.0 ∙ c.before.b
 returns : tie.Need-returns invariant-loop decreases-loop
 returns c =
     let l = c.before.before.before.before.before.before.before.before.loop in
-    fitting-not _ _ _ _ _ _ _ _ _ l.invariant.0 l.invariant.1 (omega (arith, c.before.before.before.before.before.before.before.loop-test.true))
+    fitting_not _ _ _ _ _ _ _ _ _ l.invariant.0 l.invariant.1 (omega (arith, c.before.before.before.before.before.before.before.loop-test.true))
     c.before.before.before.fits2.ensures c.if1.false
 
 add-f : tie.Need-overflow-add-f invariant-loop decreases-loop
@@ -70,7 +70,7 @@ loop-less c = omega arith
 loop-again : tie.Need-loop-preserved invariant-loop decreases-loop
 loop-again c =
     let l = c.before.before.before.before.before.before.before.before.loop in (
-      fitting-more _ _ _ _ _ _ _ _ _ l.invariant.0 l.invariant.1 (omega (arith, c.before.before.before.before.before.before.before.loop-test.true))
+      fitting_more _ _ _ _ _ _ _ _ _ l.invariant.0 l.invariant.1 (omega (arith, c.before.before.before.before.before.before.before.loop-test.true))
           c.before.before.before.fits2.ensures c.if1.true,
       c.before.before.before.fits2.auto.1.1.1.1.1.1.1.0 ∙ l.invariant.1,
     )
@@ -79,7 +79,7 @@ same-length-2 : tie.Need-same-length-2 invariant-loop decreases-loop
 same-length-2 c = c.before.loop.invariant.1
 
 returns-2 : tie.Need-returns-2 invariant-loop decreases-loop
-returns-2 c = fitting-all _ _ _ _ _ _ _ (omega (arith, c.loop-test.false)) c.before.loop.invariant.0
+returns-2 c = fitting_all _ _ _ _ _ _ _ (omega (arith, c.loop-test.false)) c.before.loop.invariant.0
 
 pub all-fit-spec : {M : Type 1} → statement M
 all-fit-spec =

@@ -1,11 +1,11 @@
-use Rattle.byte_lists.proofs.Laws.TabulateLaws.{zeros-are, length-tabulate}
+use Rattle.byte_lists.proofs.Laws.TabulateLaws.{zeros_are, length_tabulate}
 use borrow.Author.Rules.{rules}
 use native.Mathlib.Nat.{zero-mul, suc-mul, mul-le-mul_right}
 use native.Mathlib.Omega.{arith}
 use lib.ListN.{length}
 use mathlib.Core.Path.{◌≡◌, refl, sym, ap, ◌∙◌}
 use Prim.Native.Nat.{◌+◌, ◌*◌, ◌-◌, ◌≤◌}
-use Rattle.interpolate.proofs.Laws.WeightRowLaws.{partial, row-none, row_step, row-all}
+use Rattle.interpolate.proofs.Laws.WeightRowLaws.{partial, row_none, row_step, row_all}
 use Rattle.byte_lists.proofs.Laws.StackLaws.{part_length}
 use Rattle.byte_lists.specs.Lists.{tabulate}
 use Rattle.interpolate.proofs.combine.Statement.{statement}
@@ -28,7 +28,7 @@ clear-requires : tie.Need-clear-requires invariant-loop decreases-loop
 clear-requires c κs = search rules
 
 loop-holds : tie.Need-loop-init invariant-loop decreases-loop
-loop-holds c = (c.before.before.clear.ensures ∙ sym (zeros-are _) ∙ row-none _ _ _ _, sym (zero-mul _), omega arith)
+loop-holds c = (c.before.before.clear.ensures ∙ sym (zeros_are _) ∙ row_none _ _ _ _, sym (zero-mul _), omega arith)
 
 array-read-w : tie.Need-array-read-w invariant-loop decreases-loop
 array-read-w c = let s = c.before.before.before.before.before.before.before.before.before.before.before.before.before in omega (arith, c.loop-test.true, s.requires.0.set.few)
@@ -59,7 +59,7 @@ add-scaled-requires c κs =
     let s = c.before.before.before.before.before.before.before.before.before.before.before.before.before.before.before in
     let e = within c.before.before in
     let l = c.before.before.before.loop in
-    (s.requires.0.powers-right, (s.requires.0.logs-right, part_length (length s.args.out.now) s.args.blocks.now l.at e ∙ sym (ap length l.invariant.0 ∙ length-tabulate _ _)))
+    (s.requires.0.powers-right, (s.requires.0.logs-right, part_length (length s.args.out.now) s.args.blocks.now l.at e ∙ sym (ap length l.invariant.0 ∙ length_tabulate _ _)))
 
 add-j : tie.Need-overflow-add-j invariant-loop decreases-loop
 add-j c = omega arith
@@ -83,10 +83,10 @@ loop-again c =
     )
 
 same_length : tie.Need-same-length invariant-loop decreases-loop
-same_length c = ap length c.before.loop.invariant.0 ∙ length-tabulate _ _
+same_length c = ap length c.before.loop.invariant.0 ∙ length_tabulate _ _
 
 returns : tie.Need-returns invariant-loop decreases-loop
-returns c = row-all _ _ _ _ _ _ c.loop-test.false c.before.loop.invariant.2 c.before.loop.invariant.0
+returns c = row_all _ _ _ _ _ _ c.loop-test.false c.before.loop.invariant.2 c.before.loop.invariant.0
 
 pub combine-spec : {M : Type 1} → statement M
 combine-spec =

@@ -3,13 +3,13 @@ use mathlib.Core.Path.{refl, sym, ap, ◌∙◌}
 use Prim.Native.Nat.{ℕ, ◌*◌}
 use lib.ListN.{length}
 use lib.Seq.{length-take-le}
-use Rattle.interpolate.proofs.Laws.FurtherBlockLaws.{nothing-further, fit-told}
-use Rattle.interpolate.proofs.Laws.WeightLaws.{differences-none, points-ready}
+use Rattle.interpolate.proofs.Laws.FurtherBlockLaws.{nothing_further, fit_told}
+use Rattle.interpolate.proofs.Laws.WeightLaws.{differences_none, points_ready}
 use Rattle.interpolate.proofs.further_fit.Statement.{statement}
 use Rattle.interpolate.proofs.further_fit.Tie as tie
 
 returns : tie.Need-returns
-returns c = nothing-further _ _ _ _ _ c.if1.true
+returns c = nothing_further _ _ _ _ _ c.if1.true
 
 powers-requires : tie.Need-powers-requires
 powers-requires c κs = search rules
@@ -23,7 +23,7 @@ slice-aggregate-shares-of c = refl
 shares-of-requires : tie.Need-shares-of-requires
 shares-of-requires c κs =
     let few = c.before.before.before.before.before.before.before.before.before.before.requires.0.few in
-    (c.before.before.before.before.powers.ensures, (c.before.before.before.logs.ensures, (few, differences-none _ few)))
+    (c.before.before.before.before.powers.ensures, (c.before.before.before.logs.ensures, (few, differences_none _ few)))
 
 slice-aggregate-all-fit : tie.Need-slice-aggregate-all-fit
 slice-aggregate-all-fit c = search rules
@@ -42,7 +42,7 @@ all-fit-requires c κs =
     let d = c.before.before.before.before.before in
     let s = d.before.before.before.before.before.before.before.before.before.before.before in
     let long = sym (length-take-le _ _ s.requires.1.1.0.1) in (
-      points-ready _ _ _ _ d.before.before.before.before.before.powers.ensures d.before.before.before.before.logs.ensures s.requires.0
+      points_ready _ _ _ _ d.before.before.before.before.before.powers.ensures d.before.before.before.before.logs.ensures s.requires.0
           d.shares_of.auto.1.1.1.0 d.shares_of.ensures,
       (
         s.requires.1.0,
@@ -56,7 +56,7 @@ all-fit-requires c κs =
 returns-2 : tie.Need-returns-2
 returns-2 c =
     let s = c.before.before.before.before.before.before.before.before.before.before.before.before.before.before.before.before.before.before in
-    fit-told _ _ _ _ _ _ _ _ (length-take-le _ _ s.requires.1.1.0.1) c.before.all_fit.ensures refl
+    fit_told _ _ _ _ _ _ _ _ (length-take-le _ _ s.requires.1.1.0.1) c.before.all_fit.ensures refl
 
 pub further-fit-spec : {M : Type 1} → statement M
 further-fit-spec =

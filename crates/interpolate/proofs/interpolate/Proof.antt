@@ -4,9 +4,9 @@ use native.Mathlib.Omega.{arith}
 use lib.ListN.{length}
 use mathlib.Core.Path.{refl, sym, ap, ◌∙◌}
 use Prim.Native.Nat.{ℕ, ◌+◌, ◌-◌, ◌*◌, ◌≤◌}
-use Rattle.interpolate.proofs.Laws.WeightLaws.{differences-none, points-ready}
-use Rattle.byte_lists.proofs.Laws.StackLaws.{Stacked, stacked-none, stacked-more, stacked-all, part_length}
-use Rattle.interpolate.specs.Values.{block_at, blocksAt}
+use Rattle.interpolate.proofs.Laws.WeightLaws.{differences_none, points_ready}
+use Rattle.byte_lists.proofs.Laws.StackLaws.{Stacked, stacked_none, stacked_more, stacked_all, part_length}
+use Rattle.interpolate.specs.Values.{block_at, blocks_at}
 use Rattle.interpolate.proofs.interpolate.Statement.{statement}
 use Rattle.interpolate.proofs.interpolate.Tie as tie
 
@@ -29,10 +29,10 @@ slice-aggregate-shares-of c = refl
 shares-of-requires : tie.Need-shares-of-requires invariant-loop decreases-loop
 shares-of-requires c κs =
     let few = c.before.before.before.before.before.before.before.before.requires.0.few in
-    (c.before.before.before.before.powers.ensures, (c.before.before.before.logs.ensures, (few, differences-none _ few)))
+    (c.before.before.before.before.powers.ensures, (c.before.before.before.logs.ensures, (few, differences_none _ few)))
 
 loop-holds : tie.Need-loop-init invariant-loop decreases-loop
-loop-holds c = (stacked-none _ _ _, omega arith)
+loop-holds c = (stacked_none _ _ _, omega arith)
 
 -- the next block is within the output
 within : (c : tie.In-loop invariant-loop decreases-loop)
@@ -65,7 +65,7 @@ row-requires c κs =
     let s = c.before.before.before.before.before.before.before.before.before.before.before.before.before.before.before.before in
     let l = c.before.before.before.before.before.loop in
     let size = part_length s.args.size l.out l.at (within c.before.before.before.before) in (
-      points-ready _ _ _ _ c.before.before.before.before.before.before.before.before.before.before.before.before.powers.ensures
+      points_ready _ _ _ _ c.before.before.before.before.before.before.before.before.before.before.before.before.powers.ensures
           c.before.before.before.before.before.before.before.before.before.before.before.logs.ensures s.requires.0
           c.before.before.before.before.before.before.before.shares_of.auto.1.1.1.0 c.before.before.before.before.before.before.before.shares_of.ensures,
       s.requires.1.0 ∙ ap (λ (k : ℕ). length s.args.points.now * k) (sym size),
@@ -83,7 +83,7 @@ loop-again c =
     let l = c.before.before.before.before.before.before.before.before.loop in
     let w = within c.before.before.before.before.before.before.before in
     let size = part_length s.args.size l.out l.at w in (
-      stacked-more _ s.args.size _ _ _ _ _ l.invariant.0 w (c.before.before.row.auto.1.1.1.1.1.1.0 ∙ size)
+      stacked_more _ s.args.size _ _ _ _ _ l.invariant.0 w (c.before.before.row.auto.1.1.1.1.1.1.0 ∙ size)
           (c.before.before.row.ensures ∙ ap (λ (k : ℕ). block_at s.args.points.now k s.args.blocks.now l.x) size),
       omega arith,
     )
@@ -92,10 +92,10 @@ same_length : tie.Need-same-length invariant-loop decreases-loop
 same_length c = c.before.loop.invariant.0.size-kept
 
 returns : tie.Need-returns invariant-loop decreases-loop
-unfolding blocksAt
+unfolding blocks_at
 returns c =
     let s = c.before.before.before.before.before.before.before.before.before.before.before.before in
-    stacked-all _ _ _ _ _ _ _ c.before.loop.invariant.0 c.loop-test.false c.before.loop.invariant.1 s.requires.1.1.0
+    stacked_all _ _ _ _ _ _ _ c.before.loop.invariant.0 c.loop-test.false c.before.loop.invariant.1 s.requires.1.1.0
 
 pub interpolate-spec : {M : Type 1} → statement M
 interpolate-spec =

@@ -4,7 +4,7 @@ use lib.ListN.{length}
 use mathlib.Core.Path.{◌≡◌}
 use Prim.Native.Nat.{◌-◌, ◌≤◌}
 use Rattle.interpolate.specs.Workers.{numerator}
-use Rattle.interpolate.proofs.Laws.WeightLaws.{numerator-none, numerator-first, numerator-more, numerator-all}
+use Rattle.interpolate.proofs.Laws.WeightLaws.{numerator_none, numerator_first, numerator_more, numerator_all}
 use Rattle.interpolate.proofs.numerator_of.Statement.{statement}
 use Rattle.interpolate.proofs.numerator_of.Tie as tie
 
@@ -15,7 +15,7 @@ abbrev decreases-loop : tie.decreases-loop
 decreases-loop powers logs points x all₀ i₀ all i = length points - i
 
 returns : tie.Need-returns invariant-loop decreases-loop
-returns c = numerator-none _ _ c.if1.true
+returns c = numerator_none _ _ c.if1.true
 
 shared-slice-read-all : tie.Need-shared-slice-read-all invariant-loop decreases-loop
 shared-slice-read-all c = omega arith
@@ -23,7 +23,7 @@ shared-slice-read-all c = omega arith
 loop-holds : tie.Need-loop-init invariant-loop decreases-loop
 loop-holds c =
     let s = c.before.before.before in
-    (numerator-first _ (λ k. (c.before.before.shared-slice-known.given k).fits) s.args.x s.ranges.x.fits, omega arith)
+    (numerator_first _ (λ k. (c.before.before.shared-slice-known.given k).fits) s.args.x s.ranges.x.fits, omega arith)
 
 shared-slice-read-mul-by : tie.Need-shared-slice-read-mul-by invariant-loop decreases-loop
 shared-slice-read-mul-by c = omega arith
@@ -42,10 +42,10 @@ loop-again c =
     let s = c.before.before.before.before.before.before.before in
     let l = c.before.before.before.loop in
     let f = c.before.before.before.before.before.before.shared-slice-known in
-    (numerator-more _ (λ k. (f.given k).fits) s.args.x _ _ _ s.ranges.x.fits l.invariant.0 c.mul-by.ensures.0, omega arith)
+    (numerator_more _ (λ k. (f.given k).fits) s.args.x _ _ _ s.ranges.x.fits l.invariant.0 c.mul-by.ensures.0, omega arith)
 
 returns-2 : tie.Need-returns-2 invariant-loop decreases-loop
-returns-2 c = numerator-all _ _ _ _ c.before.loop.invariant.0 c.loop-test.false c.before.loop.invariant.1
+returns-2 c = numerator_all _ _ _ _ c.before.loop.invariant.0 c.loop-test.false c.before.loop.invariant.1
 
 pub numerator-of-spec : {M : Type 1} → statement M
 numerator-of-spec =

@@ -2,7 +2,7 @@ use native.Mathlib.Nat.{suc-mul, mul-le-mul_right}
 use native.Mathlib.Omega.{arith}
 use lib.ListN.{length}
 use Prim.Native.Nat.{◌+◌, ◌*◌, ◌≤◌}
-use Rattle.interpolate.proofs.Laws.WeightRowLaws.{row-found, row-not-found}
+use Rattle.interpolate.proofs.Laws.WeightRowLaws.{row_found, row_not_found}
 use borrow.Author.Rules.{rules}
 use Rattle.interpolate.proofs.row.Statement.{statement}
 use Rattle.interpolate.proofs.row.Tie as tie
@@ -46,7 +46,7 @@ returns : tie.Need-returns
 returns c =
     let s = c.before.before.before.before.before.before.before.before.before.before.before in
     let f = c.before.before.before.before.before in
-    row-found s.args.points.now (length s.args.out.now) s.args.blocks.now _ s.args.x f.before.position.result
+    row_found s.args.points.now (length s.args.out.now) s.args.blocks.now _ s.args.x f.before.position.result
     (λ k. (c.before.before.before.before.before.before.before.before.before.before.shared-slice-known.given k).fits)
     (λ k. (c.before.before.before.before.before.before.before.before.shared-slice-known3.given k).fits) s.requires.0.set
     f.before.position.ensures f.if1.true s.requires.1 c.before.before.copy.ensures
@@ -54,7 +54,7 @@ returns c =
 combine-requires : tie.Need-combine-requires
 combine-requires c κs =
     let s = c.before.before.before.before.before.before.before in
-    (s.requires.0, (row-not-found _ _ _ c.before.before.position.ensures c.before.if1.false, s.requires.1))
+    (s.requires.0, (row_not_found _ _ _ c.before.before.position.ensures c.before.if1.false, s.requires.1))
 
 same-length-2 : tie.Need-same-length-2
 same-length-2 c = search rules

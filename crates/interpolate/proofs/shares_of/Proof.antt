@@ -3,7 +3,7 @@ use lib.ListN.{length}
 use mathlib.Core.Path.{◌≡◌, refl, ◌∙◌}
 use Prim.Native.Nat.{◌-◌, ◌≤◌}
 use Rattle.interpolate.specs.Workers.{Differences}
-use Rattle.interpolate.proofs.Laws.WeightLaws.{shares-done}
+use Rattle.interpolate.proofs.Laws.WeightLaws.{shares_done}
 use Rattle.interpolate.proofs.shares_of.Statement.{statement}
 use Rattle.interpolate.proofs.shares_of.Tie as tie
 
@@ -44,7 +44,7 @@ same_length c = c.before.before.invert.auto.1.1.1.0 ∙ c.before.before.before.b
 returns : tie.Need-returns invariant-loop decreases-loop
 returns c =
     let l = c.before.before.before.before.before.loop in
-    shares-done _ _ _ _ l.invariant.0 c.before.before.before.before.loop-test.false l.invariant.1 c.before.before.invert.ensures
+    shares_done _ _ _ _ l.invariant.0 c.before.before.before.before.loop-test.false l.invariant.1 c.before.before.invert.ensures
 
 pub shares-of-spec : {M : Type 1} → statement M
 shares-of-spec =

@@ -6,7 +6,7 @@ use mathlib.Core.Logic.{⊎_elim}
 use Prim.Native.Nat.{ℕ, ◌+◌, ◌-◌, ◌≤◌}
 use Rattle.byte_lists.proofs.Laws.TabulateLaws.{Filled, filled_none}
 use Rattle.interpolate.specs.Workers.{denominator}
-use Rattle.interpolate.proofs.Laws.WeightLaws.{difference-taken, difference-left}
+use Rattle.interpolate.proofs.Laws.WeightLaws.{difference_taken, difference_left}
 use Rattle.interpolate.proofs.times_differences.Statement.{statement}
 use Rattle.interpolate.proofs.times_differences.Tie as tie
 
@@ -46,9 +46,9 @@ loop-again c =
     let l = c.before.before.loop in
     let s = c.before.before.before.before.before.before in (
       ⊎_elim
-          (λ w. difference-taken _ (λ k. (c.before.before.before.before.before.shared-slice-known.given k).fits) s.args.k l.i _ _ _ _ s.requires.1.1.1 l.invariant.0
+          (λ w. difference_taken _ (λ k. (c.before.before.before.before.before.shared-slice-known.given k).fits) s.args.k l.i _ _ _ _ s.requires.1.1.1 l.invariant.0
           c.before.loop-test.true s.requires.1.1.0.1 w.0.taken w.3.ensures.0 w.4)
-          (λ w. difference-left _ (λ k. (c.before.before.before.before.before.shared-slice-known.given k).fits) s.args.k l.i _ _ _ s.requires.1.1.1 l.invariant.0
+          (λ w. difference_left _ (λ k. (c.before.before.before.before.before.shared-slice-known.given k).fits) s.args.k l.i _ _ _ s.requires.1.1.1 l.invariant.0
           c.before.loop-test.true w.0.left w.1)
           c.if1.branch,
       omega arith,

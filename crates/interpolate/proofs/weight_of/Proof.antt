@@ -1,4 +1,4 @@
-use Rattle.interpolate.proofs.Laws.WeightLaws.{weight-by-parts}
+use Rattle.interpolate.proofs.Laws.WeightLaws.{weight_by_parts}
 use borrow.Author.Rules.{rules}
 use Rattle.interpolate.proofs.weight_of.Statement.{statement}
 use Rattle.interpolate.proofs.weight_of.Tie as tie
@@ -21,7 +21,7 @@ mul-by-requires-2 c κs = search rules
 returns : tie.Need-returns
 returns c =
     let s = c.before.before.before.before.before.before.before in
-    weight-by-parts s.args.points.now (λ k. (c.before.before.before.before.before.before.shared-slice-known.given k).fits)
+    weight_by_parts s.args.points.now (λ k. (c.before.before.before.before.before.before.shared-slice-known.given k).fits)
     s.args.powers.now s.args.logs.now s.args.shares.now s.args.top s.args.x s.args.i _ _ _ s.requires.0 s.ranges.x.fits
     s.requires.1.0 s.requires.1.1.0 s.requires.1.1.1 c.before.before.before.inv-by.ensures c.before.mul-by.ensures.0 c.mul-by2.ensures.0
 

@@ -1,4 +1,4 @@
-use Rattle.message.proofs.Laws.FlagLaws.{brick-set-is, brick-set-not}
+use Rattle.message.proofs.Laws.FlagLaws.{brick_set_is, brick_set_not}
 use borrow.Author.Rules.{rules}
 use Rattle.message.proofs.brick_set.Statement.{statement}
 use Rattle.message.proofs.brick_set.Tie as tie
@@ -10,10 +10,10 @@ members-of-requires : tie.Need-members-of-requires
 members-of-requires c κs = search rules
 
 returns : tie.Need-returns
-returns c = search (rules, brick-set-is)
+returns c = search (rules, brick_set_is)
 
 returns-2 : tie.Need-returns-2
-returns-2 c = search (rules, brick-set-not)
+returns-2 c = search (rules, brick_set_not)
 
 pub brick-set-spec : {M : Type 1} → statement M
 brick-set-spec = tie.close (tie.spec flags-within-requires members-of-requires returns returns-2)

@@ -1,22 +1,22 @@
-use Rattle.settings.specs.Ranges.{maxBricks}
+use Rattle.settings.specs.Ranges.{max_bricks}
 use borrow.Author.Rules.{rules}
 use native.Mathlib.Omega.{arith}
 use mathlib.Core.Path.{◌≡◌, refl, sym, ap, ◌∙◌}
 use Prim.Native.Nat.{◌-◌, ◌≤◌}
 use mathlib.Core.Bool.{true}
-use Rattle.message.specs.Flags.{flagsWithin}
-use Rattle.message.proofs.Laws.FlagLaws.{within_more, within-not}
+use Rattle.message.specs.Flags.{flags_within}
+use Rattle.message.proofs.Laws.FlagLaws.{within_more, within_not}
 use Rattle.message.proofs.flags_within.Statement.{statement}
 use Rattle.message.proofs.flags_within.Tie as tie
 
 abbrev invariant-loop : tie.invariant-loop
-invariant-loop n flags i₀ i = (flagsWithin flags n i ≡ true) × (i ≤ maxBricks)
+invariant-loop n flags i₀ i = (flags_within flags n i ≡ true) × (i ≤ max_bricks)
 
 abbrev decreases-loop : tie.decreases-loop
-decreases-loop n flags i₀ i = maxBricks - i
+decreases-loop n flags i₀ i = max_bricks - i
 
 loop-holds : tie.Need-loop-init invariant-loop decreases-loop
-unfolding flagsWithin
+unfolding flags_within
 loop-holds c = (refl, omega arith)
 
 most-requires : tie.Need-most-requires invariant-loop decreases-loop
@@ -28,7 +28,7 @@ array-read-if1 c = omega arith
 returns : tie.Need-returns invariant-loop decreases-loop
 returns c =
     let s = c.before.before.before.before.args in
-    within-not s.t1 s.n c.before.before.before.loop.i (omega arith) (omega (arith, c.before.most.ensures))
+    within_not s.t1 s.n c.before.before.before.loop.i (omega arith) (omega (arith, c.before.most.ensures))
 
 add-i : tie.Need-overflow-add-i invariant-loop decreases-loop
 add-i c = omega arith
@@ -40,7 +40,7 @@ loop-again : tie.Need-loop-preserved invariant-loop decreases-loop
 loop-again c = (within_more _ _ _ c.before.before.before.loop.invariant.0 (omega (arith, c.before.most.ensures)), omega arith)
 
 returns-2 : tie.Need-returns-2 invariant-loop decreases-loop
-returns-2 c = sym c.before.loop.invariant.0 ∙ ap (flagsWithin _ _) (omega arith)
+returns-2 c = sym c.before.loop.invariant.0 ∙ ap (flags_within _ _) (omega arith)
 
 pub flags-within-spec : {M : Type 1} → statement M
 flags-within-spec =

@@ -1,16 +1,16 @@
-use Rattle.message.proofs.Laws.MessageLaws.{found-zero, found-time}
+use Rattle.message.proofs.Laws.MessageLaws.{found_zero, found_time}
 use borrow.Author.Rules.{rules}
 use Rattle.message.proofs.found_right.Statement.{statement}
 use Rattle.message.proofs.found_right.Tie as tie
 
 returns : tie.Need-returns
-returns c = found-zero _ (search rules)
+returns c = found_zero _ (search rules)
 
 is-time-requires : tie.Need-is-time-requires
 is-time-requires c κs = search rules
 
 returns-2 : tie.Need-returns-2
-returns-2 c = search (rules, found-time)
+returns-2 c = search (rules, found_time)
 
 pub found-right-spec : {M : Type 1} → statement M
 found-right-spec = tie.close (tie.spec returns is-time-requires returns-2)

@@ -1,15 +1,15 @@
 use borrow.Author.Tests.{eq-eqb, ne_eqb}
-use Rattle.message.specs.Messages.{isSilent}
+use Rattle.message.specs.Messages.{is_silent}
 use borrow.Author.Rules.{rules}
 use Rattle.message.proofs.is_silent.Statement.{statement}
 use Rattle.message.proofs.is_silent.Tie as tie
 
 returns : tie.Need-returns
-unfolding isSilent
+unfolding is_silent
 returns c = search (rules, eq-eqb)
 
 returns-2 : tie.Need-returns-2
-unfolding isSilent
+unfolding is_silent
 returns-2 c = search (rules, ne_eqb)
 
 pub is-silent-spec : {M : Type 1} → statement M

@@ -1,22 +1,22 @@
-use Rattle.message.proofs.Laws.MessageLaws.{compares-newer, compares-promise, compares-full, compares-none}
+use Rattle.message.proofs.Laws.MessageLaws.{compares_newer, compares_promise, compares_full, compares_none}
 use borrow.Author.Rules.{rules}
 use Rattle.message.proofs.makes_comparison.Statement.{statement}
 use Rattle.message.proofs.makes_comparison.Tie as tie
 
 returns : tie.Need-returns
-returns c = search (rules, compares-newer)
+returns c = search (rules, compares_newer)
 
 returns-2 : tie.Need-returns-2
-returns-2 c = search (rules, compares-promise)
+returns-2 c = search (rules, compares_promise)
 
 stores-entry-requires : tie.Need-stores-entry-requires
 stores-entry-requires c κs = search rules
 
 returns-3 : tie.Need-returns-3
-returns-3 c = search (rules, compares-full)
+returns-3 c = search (rules, compares_full)
 
 returns-4 : tie.Need-returns-4
-returns-4 c = search (rules, compares-none)
+returns-4 c = search (rules, compares_none)
 
 pub makes-comparison-spec : {M : Type 1} → statement M
 makes-comparison-spec = tie.close (tie.spec returns returns-2 stores-entry-requires returns-3 returns-4)

@@ -4,7 +4,7 @@ use Prim.Native.Nat.{◌-◌, ◌≤◌}
 use mathlib.Core.Logic.{⊎_elim}
 use Rattle.message.specs.Flags.{members}
 use Rattle.settings.specs.Count.{count}
-use Rattle.message.proofs.Laws.FlagLaws.{members-yes, members-no, members-all}
+use Rattle.message.proofs.Laws.FlagLaws.{members_yes, members_no, members_all}
 use Rattle.message.proofs.members_of.Statement.{statement}
 use Rattle.message.proofs.members_of.Tie as tie
 
@@ -34,12 +34,12 @@ loop-again : tie.Need-loop-preserved invariant-loop decreases-loop
 loop-again c =
     let l = c.before.before.loop in
     ⊎_elim
-    (λ w. (w.1 ∙ members-yes _ _ _ l.invariant.0 w.0.taken, omega arith, omega (arith, w.1)))
-    (λ w. (w.1 ∙ members-no _ _ _ l.invariant.0 w.0.left, omega arith, omega (arith, w.1)))
+    (λ w. (w.1 ∙ members_yes _ _ _ l.invariant.0 w.0.taken, omega arith, omega (arith, w.1)))
+    (λ w. (w.1 ∙ members_no _ _ _ l.invariant.0 w.0.left, omega arith, omega (arith, w.1)))
     c.if1.branch
 
 returns : tie.Need-returns invariant-loop decreases-loop
-returns c = members-all _ _ _ _ c.before.loop.invariant.0 c.loop-test.false c.before.loop.invariant.1
+returns c = members_all _ _ _ _ c.before.loop.invariant.0 c.loop-test.false c.before.loop.invariant.1
 
 pub members-of-spec : {M : Type 1} → statement M
 members-of-spec =

@@ -1,4 +1,4 @@
-use Rattle.message.proofs.Laws.MessageLaws.{stores_write, stores-else}
+use Rattle.message.proofs.Laws.MessageLaws.{stores_write, stores_else}
 use borrow.Author.Rules.{rules}
 use Rattle.message.proofs.stores_entry.Statement.{statement}
 use Rattle.message.proofs.stores_entry.Tie as tie
@@ -7,7 +7,7 @@ returns : tie.Need-returns
 returns c = search (rules, stores_write)
 
 returns-2 : tie.Need-returns-2
-returns-2 c = search (rules, stores-else)
+returns-2 c = search (rules, stores_else)
 
 pub stores-entry-spec : {M : Type 1} → statement M
 stores-entry-spec = tie.close (tie.spec returns returns-2)

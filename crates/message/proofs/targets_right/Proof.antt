@@ -1,4 +1,4 @@
-use Rattle.message.proofs.Laws.MessageLaws.{targets-many, targets-one}
+use Rattle.message.proofs.Laws.MessageLaws.{targets_many, targets_one}
 use borrow.Author.Rules.{rules}
 use Rattle.message.proofs.targets_right.Statement.{statement}
 use Rattle.message.proofs.targets_right.Tie as tie
@@ -7,13 +7,13 @@ brick-set-requires : tie.Need-brick-set-requires
 brick-set-requires c κs = c.requires.0
 
 returns : tie.Need-returns
-returns c = search (rules, targets-many)
+returns c = search (rules, targets_many)
 
 brick-set-requires-2 : tie.Need-brick-set-requires-2
 brick-set-requires-2 c κs = search rules
 
 returns-2 : tie.Need-returns-2
-returns-2 c = search (rules, targets-one)
+returns-2 c = search (rules, targets_one)
 
 pub targets-right-spec : {M : Type 1} → statement M
 targets-right-spec = tie.close (tie.spec brick-set-requires returns brick-set-requires-2 returns-2)

@@ -2,39 +2,39 @@
 use mathlib.Core.Path.{refl}
 use mathlib.Core.List.{[]}
 use Rattle.order.specs.Claim.{stripe, read, write, changed, given, bytes}
-use Rattle.order.specs.Facts.{seen, shows, endingOf}
+use Rattle.order.specs.Facts.{seen, shows, ending_of}
 use Rattle.order.specs.Valid.{Valid, start, fresh, onto}
-use Rattle.order.proofs.Laws.OneOrderTheorem.{one-order, the-order}
-use Rattle.order.proofs.Laws.ExampleLaws.{began-ok, promised-ok, stored_ok, showed-ok, launched-ok, launched-over-ok, committed-ok}
-use Rattle.order.proofs.Laws.ExampleLaws.{ended-ok, at, ◌▷◌, tests, orders}
-use Rattle.order.specs.BenchExample.{three, nought, ten, cut_short, reading, first_read, reading-again, BenchIsValid, BenchIsSeen, BenchHasOneOrder}
+use Rattle.order.proofs.Laws.OneOrderTheorem.{one_order, the_order}
+use Rattle.order.proofs.Laws.ExampleLaws.{began_ok, promised_ok, stored_ok, showed_ok, launched_ok, launched_over_ok, committed_ok}
+use Rattle.order.proofs.Laws.ExampleLaws.{ended_ok, at, ◌▷◌, tests, orders}
+use Rattle.order.specs.BenchExample.{three, nought, ten, cut_short, reading, first_read, reading_again, BenchIsValid, BenchIsSeen, BenchHasOneOrder}
 
-pub cut-short-valid : Valid three cut_short
+pub cut_short_valid : Valid three cut_short
 unfolding tests changed given
-cut-short-valid = start
-    ▷ began-ok tt tt
-    ▷ promised-ok tt tt
-    ▷ promised-ok tt tt
-    ▷ launched-ok three tt tt tt tt (write ten) ten (_, at 2 _) (λ s. refl)
+cut_short_valid = start
+    ▷ began_ok tt tt
+    ▷ promised_ok tt tt
+    ▷ promised_ok tt tt
+    ▷ launched_ok three tt tt tt tt (write ten) ten (_, at 2 _) (λ s. refl)
     ▷ stored_ok tt tt
-    ▷ ended-ok three tt tt tt
+    ▷ ended_ok three tt tt tt
 
-pub reading-valid : Valid three reading
+pub reading_valid : Valid three reading
 unfolding tests changed given
-reading-valid = cut-short-valid
-    ▷ began-ok tt tt
-    ▷ showed-ok tt tt tt
-    ▷ promised-ok tt tt
-    ▷ promised-ok tt tt
-    ▷ launched-over-ok three tt tt tt tt tt tt tt
+reading_valid = cut_short_valid
+    ▷ began_ok tt tt
+    ▷ showed_ok tt tt tt
+    ▷ promised_ok tt tt
+    ▷ promised_ok tt tt
+    ▷ launched_over_ok three tt tt tt tt tt tt tt
 
-pub first-read-valid : Valid three first_read
+pub first_read_valid : Valid three first_read
 unfolding tests changed given
-first-read-valid = reading-valid
+first_read_valid = reading_valid
     ▷ stored_ok tt tt
     ▷ stored_ok tt tt
-    ▷ ended-ok three tt tt (
-      committed-ok three tt,
+    ▷ ended_ok three tt tt (
+      committed_ok three tt,
       record {
         kind = read;
         asked = (_, at 6 _);
@@ -45,23 +45,23 @@ first-read-valid = reading-valid
       },
     )
 
-pub reading-again-valid : Valid three reading-again
+pub reading_again_valid : Valid three reading_again
 unfolding tests changed given
-reading-again-valid = first-read-valid
-    ▷ began-ok tt tt
-    ▷ showed-ok tt tt tt
-    ▷ showed-ok tt tt tt
-    ▷ promised-ok tt tt
-    ▷ promised-ok tt tt
-    ▷ launched-over-ok three tt tt tt tt tt tt tt
+reading_again_valid = first_read_valid
+    ▷ began_ok tt tt
+    ▷ showed_ok tt tt tt
+    ▷ showed_ok tt tt tt
+    ▷ promised_ok tt tt
+    ▷ promised_ok tt tt
+    ▷ launched_over_ok three tt tt tt tt tt tt tt
 
-pub bench-is-valid : BenchIsValid
+pub bench_is_valid : BenchIsValid
 unfolding tests changed given
-bench-is-valid = reading-again-valid
+bench_is_valid = reading_again_valid
     ▷ stored_ok tt tt
     ▷ stored_ok tt tt
-    ▷ ended-ok three tt tt (
-      committed-ok three tt,
+    ▷ ended_ok three tt tt (
+      committed_ok three tt,
       record {
         kind = read;
         asked = (_, at 7 _);
@@ -72,10 +72,10 @@ bench-is-valid = reading-again-valid
       },
     )
 
-pub bench-is-seen : BenchIsSeen
-unfolding seen shows endingOf
-bench-is-seen = refl
+pub bench_is_seen : BenchIsSeen
+unfolding seen shows ending_of
+bench_is_seen = refl
 
-pub bench-has-one-order : BenchHasOneOrder
+pub bench_has_one_order : BenchHasOneOrder
 unfolding orders
-bench-has-one-order = (one-order bench-is-valid, the-order bench-is-valid)
+bench_has_one_order = (one_order bench_is_valid, the_order bench_is_valid)

@@ -46,7 +46,7 @@ after_first (x ∷ os) b r (Memᴰ.tail i) t k =
     after_first os b (subst (λ (z : one_byte.Kind). Right turned_up (changed z nought) os) q r.1) i t (λ o j. k o (Memᴰ.tail j))
 
 -- no order has both reads: 16 stands before the first or nowhere
-no-order : (os : List (Operation one_byte)) (a b : Operation one_byte) (s : List ℕ)
+no_order : (os : List (Operation one_byte)) (a b : Operation one_byte) (s : List ℕ)
     → Before a b os
     → a.time ≡ 33
     → b.time ≡ 49
@@ -56,7 +56,7 @@ no-order : (os : List (Operation one_byte)) (a b : Operation one_byte) (s : List
     → ((o : Operation one_byte) → o ∈ os → o.time ≡ 16 → Before o a os)
     → ⊥
 unfolding Right Once given changed
-no-order (x ∷ os) a b s (here e i) p q r u g f =
+no_order (x ∷ os) a b s (here e i) p q r u g f =
     let kx = read_of x (g x (Memᴰ.head refl)) (λ t. let z : ◌≡◌ {A = ℕ} 16 33 = cc in omega arith) in
     let at : ◌≡◌ {A = Seen one_byte} (Seen.ended x.time (finished (bytes nought))) (Seen.ended 33 (finished (bytes nought))) = cc in
     let c = r.0 (bytes nought) (Memᴰ.tail (Memᴰ.tail (Memᴰ.tail (Memᴰ.head at)))) in
@@ -71,19 +71,19 @@ no-order (x ∷ os) a b s (here e i) p q r u g f =
         second : {l : List (Operation one_byte)} → Before o a l → a ∈ l
         second (here _ n) = Memᴰ.tail n
         second (later n) = Memᴰ.tail (second n)
-no-order (x ∷ os) a b s (later m) p q r u g f =
-    no-order os a b (changed x.kind s) m p q r.1 u.1 (λ o j. g o (Memᴰ.tail j)) (λ o j t. down o j (f o (Memᴰ.tail j) t))
+no_order (x ∷ os) a b s (later m) p q r u g f =
+    no_order os a b (changed x.kind s) m p q r.1 u.1 (λ o j. g o (Memᴰ.tail j)) (λ o j t. down o j (f o (Memᴰ.tail j) t))
   where
     down : (o : Operation one_byte) → o ∈ os → Before o a (x ∷ os) → Before o a os
     down o j (here d n) = absurd (u.0 o j (cc))
     down o j (later n) = n
 
-pub turned-up-has-no-order : TurnedUpHasNoOrder
+pub turned_up_has_no_order : TurnedUpHasNoOrder
 unfolding Begun
-turned-up-has-no-order w =
+turned_up_has_no_order w =
     let a = w.all 33 (bytes nought) (Memᴰ.tail (Memᴰ.tail (Memᴰ.tail (Memᴰ.head refl)))) in
     let b = w.all 49 (bytes ten) (Memᴰ.tail (Memᴰ.tail (Memᴰ.tail (Memᴰ.tail (Memᴰ.tail (Memᴰ.head refl)))))) in
-    no-order w.order a.0 b.0 nought
+    no_order w.order a.0 b.0 nought
     (w.ahead a.0 b.0 (finished (bytes nought)) read a.2 b.2 (first a.0 b.0 a.1 b.1))
     a.1
     b.1

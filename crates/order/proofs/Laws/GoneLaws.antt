@@ -9,41 +9,41 @@ use lib.Dec.{T}
 use Rattle.settings.specs.Count.{count}
 use Rattle.order.specs.Claim.{Plain}
 use Rattle.order.specs.Places.{Suf, In}
-use Rattle.order.proofs.Laws.PlaceLaws.{in-suf}
+use Rattle.order.proofs.Laws.PlaceLaws.{in_suf}
 use Rattle.order.specs.Facts.{promised, stored, History}
 use Rattle.order.specs.Quorums.{Quorums, Many}
 use Rattle.order.specs.Valid.{Dead, Gone, Valid}
-use Rattle.order.proofs.Laws.TestLaws.{test, dec-stored}
-use Rattle.order.proofs.Laws.FactLaws.{passed-up}
-use Rattle.order.proofs.Laws.StoredLaws.{stored-before}
+use Rattle.order.proofs.Laws.TestLaws.{test, dec_stored}
+use Rattle.order.proofs.Laws.FactLaws.{passed_up}
+use Rattle.order.proofs.Laws.StoredLaws.{stored_before}
 
 -- what is dead stays dead, and what is gone stays gone
-pub dead-up : {S : Quorums} {P : Plain} {a h : History P} {u : ℕ} → Valid S h → Suf a h → Dead S a u → Dead S h u
-dead-up v s d =
+pub dead_up : {S : Quorums} {P : Plain} {a h : History P} {u : ℕ} → Valid S h → Suf a h → Dead S a u → Dead S h u
+dead_up v s d =
     record {
       bricks = d.bricks;
       quorum = d.quorum;
-      promise = λ b i t. let p = d.promise b i t in (p.0, p.1, in-suf s p.2);
+      promise = λ b i t. let p = d.promise b i t in (p.0, p.1, in_suf s p.2);
       few = record {
         set = d.few.set;
         small = d.few.small;
-        all = λ b i w. let p = d.promise b i w.0 in d.few.all b i (w.0, stored-before v s p.1 p.2 w.1);
+        all = λ b i w. let p = d.promise b i w.0 in d.few.all b i (w.0, stored_before v s p.1 p.2 w.1);
       };
     }
 
-pub gone-up : {S : Quorums} {P : Plain} {a h : History P} {u : ℕ} → Valid S h → Suf a h → Gone S a u → Gone S h u
-gone-up {S} v s (inl p) = inl (passed-up S s p)
-gone-up v s (inr d) = inr (dead-up v s d)
+pub gone_up : {S : Quorums} {P : Plain} {a h : History P} {u : ℕ} → Valid S h → Suf a h → Gone S a u → Gone S h u
+gone_up {S} v s (inl p) = inl (passed_up S s p)
+gone_up v s (inr d) = inr (dead_up v s d)
 
 -- A round of recovery: a quorum promised t, above u; each of these bricks that stored u holds it, or u is gone; fewer
 -- than m hold it. Then u is gone.
-pub round-gone : {S : Quorums} {P : Plain} {h : History P} {t u : ℕ}
+pub round_gone : {S : Quorums} {P : Plain} {h : History P} {t u : ℕ}
     → u < t
     → (r : Many S.n S.q (λ b. In (promised b t) h)) (holds : ℕ → Bool)
     → count holds S.n < S.m
     → ((b : ℕ) → b < S.n → T (r.set b) → In (stored b u) h → T (holds b) ⊎ Gone S h u)
     → Gone S h u
-round-gone {S} {P} {h} {t} {u} l r holds few each = all (look S.n (λ b i. i))
+round_gone {S} {P} {h} {t} {u} l r holds few each = all (look S.n (λ b i. i))
   where
     Kept : ℕ → Type 0
     Kept k = (b : ℕ) → b < k → T (r.set b) → In (stored b u) h → T (holds b)
@@ -66,7 +66,7 @@ round-gone {S} {P} {h} {t} {u} l r holds few each = all (look S.n (λ b i. i))
 
     next : (k : ℕ) → k < S.n → Gone S h u ⊎ Kept k → Gone S h u ⊎ Kept (suc k)
     next k i (inl g) = inl g
-    next k i (inr f) = brick k i f (test (r.set k)) (dec-stored h k u)
+    next k i (inr f) = brick k i f (test (r.set k)) (dec_stored h k u)
 
     look : (k : ℕ) → ((b : ℕ) → b < k → b < S.n) → Gone S h u ⊎ Kept k
     look zero i = inr (λ b j. absurd (omega arith))

@@ -11,7 +11,7 @@ use lib.ListN.{length}
 use Rattle.settings.specs.Count.{count}
 use Rattle.order.specs.Claim.{Plain, Operation}
 use Rattle.order.specs.Places.{In}
-use Rattle.order.specs.Facts.{Source, itself, over, written, recovered, one-round, aborted, cut, Fact, began, promised, launched}
+use Rattle.order.specs.Facts.{Source, itself, over, written, recovered, one_round, aborted, cut, Fact, began, promised, launched}
 use Rattle.order.specs.Facts.{stored, showed, ended, History}
 use Rattle.order.specs.Quorums.{Quorums}
 use Rattle.order.specs.Valid.{Committed}
@@ -83,17 +83,17 @@ only_if false l = []
 pub data Link : Type 0 where
   other : Link
   stops : Link
-  goes_on : ℕ → Link
+  goes_on_lem : ℕ → Link
 
 unfoldable pub linked : Bool → Source → Link
 linked true itself = stops
-linked true (over c) = goes_on c
+linked true (over c) = goes_on_lem c
 linked false s = other
 
 unfoldable pub follow : Link → (ℕ → List ℕ) → ℕ → List ℕ
 follow other below t = below t
 follow stops below t = t ∷ []
-follow (goes_on c) below t = t ∷ below c
+follow (goes_on_lem c) below t = t ∷ below c
 
 module _ {P : Plain} where
   unfoldable pub link : Fact P → ℕ → Link
@@ -118,8 +118,8 @@ module _ {P : Plain} where
   standing t p r (showed a u c) b = []
   standing t p r (ended u e) b = []
 
-  unfoldable pub at-rank : ℕ → ℕ → ℕ → History P → List (Entry P)
-  at-rank t p r h = each (standing t p r) h
+  unfoldable pub at_rank : ℕ → ℕ → ℕ → History P → List (Entry P)
+  at_rank t p r h = each (standing t p r) h
 
   module _ (S : Quorums) (h : History P) where
     unfoldable pub committed? : ℕ → Bool
@@ -129,12 +129,12 @@ module _ {P : Plain} where
     unfoldable pub placed : Fact P → History P → List (Entry P)
     placed (began t k) b = []
     placed (promised a t) b = []
-    placed (launched t s) b = only_if (committed? t) (each (λ u _. at-rank u u 0 h) (chain h t))
+    placed (launched t s) b = only_if (committed? t) (each (λ u _. at_rank u u 0 h) (chain h t))
     placed (stored a t) b = []
     placed (showed a t c) b = []
     placed (ended t (written v)) b = []
     placed (ended t (recovered v)) b = []
-    placed (ended t (one-round c v)) b = at-rank t c (suc (length b)) h
+    placed (ended t (one_round c v)) b = at_rank t c (suc (length b)) h
     placed (ended t aborted) b = []
     placed (ended t cut) b = []
 
@@ -142,5 +142,5 @@ module _ {P : Plain} where
     unfoldable pub entries : List (Entry P)
     entries = sort (each placed h)
 
-    unfoldable pub order-of : List (Operation P)
-    order-of = ops entries
+    unfoldable pub order_of : List (Operation P)
+    order_of = ops entries

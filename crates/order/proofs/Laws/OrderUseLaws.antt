@@ -28,29 +28,29 @@ placed {A} {a} {b} (x ∷ l) m n = go (Memᴰ.cases_cons m) (Memᴰ.cases_cons n
     go (inr p) (inl f) ih = second (here f p)
     go (inr p) (inr q) ih = up (ih p q)
 
-pub before-left : {A : Type 0} {a b : A} {l : List A} → Before a b l → a ∈ l
-before-left (here e m) = Memᴰ.head e
-before-left (later p) = Memᴰ.tail (before-left p)
+pub before_left : {A : Type 0} {a b : A} {l : List A} → Before a b l → a ∈ l
+before_left (here e m) = Memᴰ.head e
+before_left (later p) = Memᴰ.tail (before_left p)
 
-pub before-right : {A : Type 0} {a b : A} {l : List A} → Before a b l → b ∈ l
-before-right (here e m) = Memᴰ.tail m
-before-right (later p) = Memᴰ.tail (before-right p)
+pub before_right : {A : Type 0} {a b : A} {l : List A} → Before a b l → b ∈ l
+before_right (here e m) = Memᴰ.tail m
+before_right (later p) = Memᴰ.tail (before_right p)
 
 module _ {P : Plain} where
   -- an order goes one way, and has no operation twice
   pub one_way : {x y : Operation P} (os : List (Operation P)) → Once os → Before x y os → Before y x os → ⊥
   unfolding Once
-  one_way [] o p q = Memᴰ.not-nil (before-left p)
+  one_way [] o p q = Memᴰ.not-nil (before_left p)
   one_way (w ∷ os) o (here e m) (here f k) = o.0 _ m (ap (λ (a : Operation P). a.time) (sym f))
-  one_way (w ∷ os) o (here e m) (later q) = o.0 _ (before-right q) (ap (λ (a : Operation P). a.time) (sym e))
-  one_way (w ∷ os) o (later p) (here f k) = o.0 _ (before-right p) (ap (λ (a : Operation P). a.time) (sym f))
+  one_way (w ∷ os) o (here e m) (later q) = o.0 _ (before_right q) (ap (λ (a : Operation P). a.time) (sym e))
+  one_way (w ∷ os) o (later p) (here f k) = o.0 _ (before_right p) (ap (λ (a : Operation P). a.time) (sym f))
   one_way (w ∷ os) o (later p) (later q) = one_way os o.1 p q
 
-  pub other-time : {x y : Operation P} (os : List (Operation P)) → Once os → Before x y os → x.time ≢ y.time
+  pub other_time_lem : {x y : Operation P} (os : List (Operation P)) → Once os → Before x y os → x.time ≢ y.time
   unfolding Once
-  other-time [] o p q = absurd (Memᴰ.not-nil (before-left p))
-  other-time (w ∷ os) o (here e m) q = o.0 _ m (ap (λ (a : Operation P). a.time) (sym e) ∙ q)
-  other-time (w ∷ os) o (later p) q = other-time os o.1 p q
+  other_time_lem [] o p q = absurd (Memᴰ.not-nil (before_left p))
+  other_time_lem (w ∷ os) o (here e m) q = o.0 _ m (ap (λ (a : Operation P). a.time) (sym e) ∙ q)
+  other_time_lem (w ∷ os) o (later p) q = other_time_lem os o.1 p q
 
 module _ {P : Plain} {l : List (Seen P)} where
   -- what an operation that is this one gave
@@ -61,11 +61,11 @@ module _ {P : Plain} {l : List (Seen P)} where
       f a (subst (λ (y : Operation P). Seen.ended y.time (finished a) ∈ l) q m) ∙ ap (λ (y : Operation P). P.gives y.kind s) (sym q)
 
   -- what an operation of an order gave, some stripe gives
-  pub some-stripe : (os : List (Operation P)) (s : P.Stripe) (a : P.Given) (x : Operation P) → Right l s os → x ∈ os
+  pub some_stripe : (os : List (Operation P)) (s : P.Stripe) (a : P.Given) (x : Operation P) → Right l s os → x ∈ os
       → Seen.ended x.time (finished a) ∈ l → (v : P.Stripe) × (a ≡ P.gives x.kind v)
   unfolding Right
-  some-stripe [] s a x r m e = absurd (Memᴰ.not-nil m)
-  some-stripe (o ∷ os) s a x r m e = go (Memᴰ.cases_cons m) (λ p. some-stripe os (P.effect o.kind s) a x r.1 p e)
+  some_stripe [] s a x r m e = absurd (Memᴰ.not-nil m)
+  some_stripe (o ∷ os) s a x r m e = go (Memᴰ.cases_cons m) (λ p. some_stripe os (P.effect o.kind s) a x r.1 p e)
     where
       go : (x ≡ o) ⊎ (x ∈ os) → (x ∈ os → (v : P.Stripe) × (a ≡ P.gives x.kind v)) → (v : P.Stripe) × (a ≡ P.gives x.kind v)
       go (inl q) ih = (s, gave o x s a r.0 q e)
@@ -76,8 +76,8 @@ module _ {P : Plain} {l : List (Seen P)} (o : OneOrder P l) where
   ahead_of x y m n e = o.ahead x y e.0 e.1 m n e.2
 
   -- a time began with one kind
-  pub one-kind : (t : ℕ) (k k' : P.Kind) → Seen.began t k ∈ l → Seen.began t k' ∈ l → k ≡ k'
-  one-kind t k k' m n = go (placed l m n)
+  pub one_kind : (t : ℕ) (k k' : P.Kind) → Seen.began t k ∈ l → Seen.began t k' ∈ l → k ≡ k'
+  one_kind t k k' m n = go (placed l m n)
     where
       go : Placed (Seen.began t k) (Seen.began t k') l → k ≡ k'
       go (same e) = cc
@@ -91,24 +91,24 @@ module _ {P : Plain} {l : List (Seen P)} (o : OneOrder P l) where
     pub of-kind : op.kind ≡ k
     pub stands : op ∈ o.order
 
-  pub finished-at : (t : ℕ) (a : P.Given) (k : P.Kind) → Seen.ended t (finished a) ∈ l → Seen.began t k ∈ l → Finished t k
-  finished-at t a k m b =
+  pub finished_at : (t : ℕ) (a : P.Given) (k : P.Kind) → Seen.ended t (finished a) ∈ l → Seen.began t k ∈ l → Finished t k
+  finished_at t a k m b =
       let x = o.all t a m in
       record {
         op = x.0;
         of-time = x.1;
-        of-kind = one-kind t x.0.kind k (subst (λ (c : ℕ). Seen.began c x.0.kind ∈ l) x.1 (o.begun x.0 x.2)) b;
+        of-kind = one_kind t x.0.kind k (subst (λ (c : ℕ). Seen.began c x.0.kind ∈ l) x.1 (o.begun x.0 x.2)) b;
         stands = x.2;
       }
 
   -- a finished operation began, and gave what some stripe gives
-  pub finished-began : (t : ℕ) (a : P.Given) → Seen.ended t (finished a) ∈ l
+  pub finished_began : (t : ℕ) (a : P.Given) → Seen.ended t (finished a) ∈ l
       → (k : P.Kind) × (v : P.Stripe) × Seen.began t k ∈ l × (a ≡ P.gives k v)
-  finished-began t a m =
+  finished_began t a m =
       let x = o.all t a m in
-      let w = some-stripe o.order P.zeros a x.0 o.right x.2 (subst (λ (c : ℕ). Seen.ended c (finished a) ∈ l) (sym x.1) m) in
+      let w = some_stripe o.order P.zeros a x.0 o.right x.2 (subst (λ (c : ℕ). Seen.ended c (finished a) ∈ l) (sym x.1) m) in
       (x.0.kind, w.0, subst (λ (c : ℕ). Seen.began c x.0.kind ∈ l) x.1 (o.begun x.0 x.2), w.1)
 
   -- what stands behind another in the order did not end before that one began
-  pub not-ended : {x y : Operation P} → Before x y o.order → ¬ EndedBefore l y.time x.time
-  not-ended {x} {y} p e = one_way o.order o.once p (ahead_of y x (before-right p) (before-left p) e)
+  pub not_ended : {x y : Operation P} → Before x y o.order → ¬ EndedBefore l y.time x.time
+  not_ended {x} {y} p e = one_way o.order o.once p (ahead_of y x (before_right p) (before_left p) e)

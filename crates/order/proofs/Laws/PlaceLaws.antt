@@ -9,37 +9,37 @@ use lib.ListN.{length}
 use Rattle.order.specs.Places.{Suf, whole, above, In}
 
 module _ {A : Type 0} where
-  pub suf-trans : {a b c : List A} → Suf a b → Suf b c → Suf a c
-  suf-trans s whole = s
-  suf-trans s (above t) = above (suf-trans s t)
+  pub suf_trans : {a b c : List A} → Suf a b → Suf b c → Suf a c
+  suf_trans s whole = s
+  suf_trans s (above t) = above (suf_trans s t)
 
   -- what stands below a place stands in the history
-  pub suf-below : {f : A} {a h : List A} → Suf (f ∷ a) h → Suf a h
-  suf-below s = suf-trans (above whole) s
+  pub suf_below : {f : A} {a h : List A} → Suf (f ∷ a) h → Suf a h
+  suf_below s = suf_trans (above whole) s
 
-  pub in-suf : {f : A} {a h : List A} → Suf a h → In f a → In f h
-  in-suf s i = (i.0, suf-trans i.1 s)
+  pub in_suf : {f : A} {a h : List A} → Suf a h → In f a → In f h
+  in_suf s i = (i.0, suf_trans i.1 s)
 
-  pub in-above : {f g : A} {h : List A} → In f h → In f (g ∷ h)
-  in-above i = (i.0, above i.1)
+  pub in_above : {f g : A} {h : List A} → In f h → In f (g ∷ h)
+  in_above i = (i.0, above i.1)
 
   pub in_top : {f : A} {h : List A} → In f (f ∷ h)
   in_top {h} = (h, whole)
 
-  pub suf-length : {a h : List A} → Suf a h → length a ≤ length h
-  suf-length whole = le_refl _
-  suf-length (above s) = omega (arith, suf-length s)
+  pub suf_length : {a h : List A} → Suf a h → length a ≤ length h
+  suf_length whole = le_refl _
+  suf_length (above s) = omega (arith, suf_length s)
 
   -- the last step of a way up
-  pub suf-cons : {a h : List A} {g : A} → Suf a (g ∷ h) → (a ≡ g ∷ h) ⊎ Suf a h
-  suf-cons whole = inl refl
-  suf-cons (above s) = inr s
+  pub suf_cons : {a h : List A} {g : A} → Suf a (g ∷ h) → (a ≡ g ∷ h) ⊎ Suf a h
+  suf_cons whole = inl refl
+  suf_cons (above s) = inr s
 
   -- of two ends of one list one is an end of the other
-  pub suf-either : {a b h : List A} → Suf a h → Suf b h → Suf a b ⊎ Suf b a
-  suf-either whole t = inr t
-  suf-either (above s) whole = inl (above s)
-  suf-either (above s) (above t) = suf-either s t
+  pub suf_either : {a b h : List A} → Suf a h → Suf b h → Suf a b ⊎ Suf b a
+  suf_either whole t = inr t
+  suf_either (above s) whole = inl (above s)
+  suf_either (above s) (above t) = suf_either s t
 
 -- how two places of one history lie
 pub data Cmp {A : Type 0} (f : A) (a : List A) (g : A) (b : List A) : Type 0 where
@@ -48,7 +48,7 @@ pub data Cmp {A : Type 0} (f : A) (a : List A) (g : A) (b : List A) : Type 0 whe
   later : Suf (g ∷ b) a → Cmp f a g b
 
 pub cmp : {A : Type 0} {f g : A} {a b h : List A} → Suf (f ∷ a) h → Suf (g ∷ b) h → Cmp f a g b
-cmp {A} {f} {g} {a} {b} s t = go (suf-either s t)
+cmp {A} {f} {g} {a} {b} s t = go (suf_either s t)
   where
     up : (f ∷ a ≡ g ∷ b) ⊎ Suf (f ∷ a) b → Cmp f a g b
     up (inl e) = same e
@@ -59,5 +59,5 @@ cmp {A} {f} {g} {a} {b} s t = go (suf-either s t)
     down (inr r) = later r
 
     go : Suf (f ∷ a) (g ∷ b) ⊎ Suf (g ∷ b) (f ∷ a) → Cmp f a g b
-    go (inl r) = up (suf-cons r)
-    go (inr r) = down (suf-cons r)
+    go (inl r) = up (suf_cons r)
+    go (inr r) = down (suf_cons r)

@@ -3,24 +3,24 @@ use mathlib.Core.Path.{refl}
 use mathlib.Core.List.{[]}
 use Rattle.order.specs.Claim.{read, changed, given, bytes}
 use Rattle.order.specs.Valid.{sets, onto}
-use Rattle.order.proofs.Laws.OneOrderTheorem.{one-order, the-order}
-use Rattle.order.proofs.Laws.ExampleLaws.{began-ok, promised-ok, stored_ok, showed-ok, launched-over-ok, committed-ok, ended-ok, at, ◌▷◌, tests, orders}
+use Rattle.order.proofs.Laws.OneOrderTheorem.{one_order, the_order}
+use Rattle.order.proofs.Laws.ExampleLaws.{began_ok, promised_ok, stored_ok, showed_ok, launched_over_ok, committed_ok, ended_ok, at, ◌▷◌, tests, orders}
 use Rattle.order.specs.RolledForward.{RolledForwardIsValid, RolledForwardHasOneOrder}
 use Rattle.order.specs.BenchExample.{three, ten}
-use Rattle.order.proofs.Laws.BenchExampleLaws.{cut-short-valid}
+use Rattle.order.proofs.Laws.BenchExampleLaws.{cut_short_valid}
 
-pub rolled-forward-is-valid : RolledForwardIsValid
+pub rolled_forward_is_valid : RolledForwardIsValid
 unfolding tests changed given
-rolled-forward-is-valid = cut-short-valid
-    ▷ began-ok tt tt
-    ▷ showed-ok tt tt tt
-    ▷ promised-ok tt tt
-    ▷ promised-ok tt tt
-    ▷ launched-over-ok three tt tt tt tt tt tt tt
+rolled_forward_is_valid = cut_short_valid
+    ▷ began_ok tt tt
+    ▷ showed_ok tt tt tt
+    ▷ promised_ok tt tt
+    ▷ promised_ok tt tt
+    ▷ launched_over_ok three tt tt tt tt tt tt tt
     ▷ stored_ok tt tt
     ▷ stored_ok tt tt
-    ▷ ended-ok three tt tt (
-      committed-ok three tt,
+    ▷ ended_ok three tt tt (
+      committed_ok three tt,
       record {
         kind = read;
         asked = (_, at 6 _);
@@ -31,6 +31,6 @@ rolled-forward-is-valid = cut-short-valid
       },
     )
 
-pub rolled-forward-has-one-order : RolledForwardHasOneOrder
+pub rolled_forward_has_one_order : RolledForwardHasOneOrder
 unfolding orders
-rolled-forward-has-one-order = (one-order rolled-forward-is-valid, the-order rolled-forward-is-valid)
+rolled_forward_has_one_order = (one_order rolled_forward_is_valid, the_order rolled_forward_is_valid)

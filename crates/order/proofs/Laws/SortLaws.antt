@@ -22,28 +22,28 @@ each_in {A} g {y} (x ∷ l) i = go (Memᴰ.append_cases (g x l) i) (each_in g l)
     go (inl j) f = (x, l, whole, j)
     go (inr j) f = let w = f j in (w.0, w.1, above w.2, w.3)
 
-pub in-each : {A B : Type 0} (g : A → List A → List B) {y : B} {x : A} {b l : List A} → Suf (x ∷ b) l → y ∈ g x b → y ∈ each g l
+pub in_each : {A B : Type 0} (g : A → List A → List B) {y : B} {x : A} {b l : List A} → Suf (x ∷ b) l → y ∈ g x b → y ∈ each g l
 unfolding each
-in-each g {y} {x} {b} whole j = Memᴰ.append_left (each g b) j
-in-each g (above {f} {h} s) j = Memᴰ.append_right (g f h) (in-each g s j)
+in_each g {y} {x} {b} whole j = Memᴰ.append_left (each g b) j
+in_each g (above {f} {h} s) j = Memᴰ.append_right (g f h) (in_each g s j)
 
-pub in-suffix : {A : Type 0} {x : A} {l : List A} → x ∈ l → (b : List A) × Suf (x ∷ b) l
-in-suffix {A} {x} (Memᴰ.head {xs} e) = (xs, subst (λ (z : A). Suf (x ∷ xs) (z ∷ xs)) e whole)
-in-suffix (Memᴰ.tail i) = let w = in-suffix i in (w.0, above w.1)
+pub in_suffix : {A : Type 0} {x : A} {l : List A} → x ∈ l → (b : List A) × Suf (x ∷ b) l
+in_suffix {A} {x} (Memᴰ.head {xs} e) = (xs, subst (λ (z : A). Suf (x ∷ xs) (z ∷ xs)) e whole)
+in_suffix (Memᴰ.tail i) = let w = in_suffix i in (w.0, above w.1)
 
-pub suffix-in : {A : Type 0} {x : A} {b l : List A} → Suf (x ∷ b) l → x ∈ l
-suffix-in whole = Memᴰ.head refl
-suffix-in (above s) = Memᴰ.tail (suffix-in s)
+pub suffix_in : {A : Type 0} {x : A} {b l : List A} → Suf (x ∷ b) l → x ∈ l
+suffix_in whole = Memᴰ.head refl
+suffix_in (above s) = Memᴰ.tail (suffix_in s)
 
-pub only-if-in : {A : Type 0} {x : A} (b : Bool) (l : List A) → x ∈ only_if b l → T b × (x ∈ l)
+pub only_if_in : {A : Type 0} {x : A} (b : Bool) (l : List A) → x ∈ only_if b l → T b × (x ∈ l)
 unfolding only_if
-only-if-in true l i = (tt, i)
-only-if-in false l i = absurd (Memᴰ.not-nil i)
+only_if_in true l i = (tt, i)
+only_if_in false l i = absurd (Memᴰ.not-nil i)
 
-pub in-only-if : {A : Type 0} {x : A} (b : Bool) (l : List A) → T b → x ∈ l → x ∈ only_if b l
+pub in_only_if : {A : Type 0} {x : A} (b : Bool) (l : List A) → T b → x ∈ l → x ∈ only_if b l
 unfolding only_if
-in-only-if true l t i = i
-in-only-if false l t i = absurd t
+in_only_if true l t i = i
+in_only_if false l t i = absurd t
 
 module _ {P : Plain} where
   abbrev pub Sorted : List (Entry P) → Type 0
@@ -54,11 +54,11 @@ module _ {P : Plain} where
   lt_trans x y z p r = (omega arith, λ g. omega (arith, p.1 (omega arith), r.1 (omega arith)))
 
   -- what insertion gives is the entry or was there
-  insert-in : (x : Entry P) {z : Entry P} (l : List (Entry P)) → z ∈ insert x l → (z ≡ x) ⊎ (z ∈ l)
+  insert_in : (x : Entry P) {z : Entry P} (l : List (Entry P)) → z ∈ insert x l → (z ≡ x) ⊎ (z ∈ l)
   unfolding insert put
-  insert-in x [] (Memᴰ.head e) = inl e
-  insert-in x [] (Memᴰ.tail i) = absurd (Memᴰ.not-nil i)
-  insert-in x {z} (y ∷ l) i = go (compared x y) i (insert-in x l)
+  insert_in x [] (Memᴰ.head e) = inl e
+  insert_in x [] (Memᴰ.tail i) = absurd (Memᴰ.not-nil i)
+  insert_in x {z} (y ∷ l) i = go (compared x y) i (insert_in x l)
     where
       rest : (z ≡ x) ⊎ (z ∈ l) → (z ≡ x) ⊎ (z ∈ (y ∷ l))
       rest (inl e) = inl e
@@ -72,10 +72,10 @@ module _ {P : Plain} where
       go (more _) (Memᴰ.tail j) f = rest (f j)
 
   -- what was there stays
-  insert-keeps : (x : Entry P) {z : Entry P} (l : List (Entry P)) → z ∈ l → z ∈ insert x l
+  insert_keeps : (x : Entry P) {z : Entry P} (l : List (Entry P)) → z ∈ l → z ∈ insert x l
   unfolding insert put
-  insert-keeps x [] i = absurd (Memᴰ.not-nil i)
-  insert-keeps x {z} (y ∷ l) i = go (compared x y) i (insert-keeps x l)
+  insert_keeps x [] i = absurd (Memᴰ.not-nil i)
+  insert_keeps x {z} (y ∷ l) i = go (compared x y) i (insert_keeps x l)
     where
       go : (c : Tri x y) → z ∈ (y ∷ l) → (z ∈ l → z ∈ insert x l) → z ∈ put x y c l (insert x l)
       go (less _) j f = Memᴰ.tail j
@@ -84,20 +84,20 @@ module _ {P : Plain} where
       go (more _) (Memᴰ.tail j) f = Memᴰ.tail (f j)
 
   -- the entry is there, or one at its place and rank
-  insert-puts : (x : Entry P) (l : List (Entry P)) → (y : Entry P) × (y ∈ insert x l) × Level y x
+  insert_puts : (x : Entry P) (l : List (Entry P)) → (y : Entry P) × (y ∈ insert x l) × Level y x
   unfolding insert put
-  insert-puts x [] = (x, Memᴰ.head refl, (refl, refl))
-  insert-puts x (y ∷ l) = go (compared x y) (insert-puts x l)
+  insert_puts x [] = (x, Memᴰ.head refl, (refl, refl))
+  insert_puts x (y ∷ l) = go (compared x y) (insert_puts x l)
     where
       go : (c : Tri x y) → (z : Entry P) × (z ∈ insert x l) × Level z x → (z : Entry P) × (z ∈ put x y c l (insert x l)) × Level z x
       go (less _) w = (x, Memᴰ.head refl, (refl, refl))
       go (level e) w = (y, Memᴰ.head refl, (sym e.0, sym e.1))
       go (more _) w = (w.0, Memᴰ.tail w.1, w.2)
 
-  insert-sorted : (x : Entry P) (l : List (Entry P)) → Sorted l → Sorted (insert x l)
+  insert_sorted : (x : Entry P) (l : List (Entry P)) → Sorted l → Sorted (insert x l)
   unfolding insert put
-  insert-sorted x [] s = ((λ y i. absurd (Memᴰ.not-nil i)), tt)
-  insert-sorted x (y ∷ l) s = go (compared x y) (insert-sorted x l s.1)
+  insert_sorted x [] s = ((λ y i. absurd (Memᴰ.not-nil i)), tt)
+  insert_sorted x (y ∷ l) s = go (compared x y) (insert_sorted x l s.1)
     where
       first : Lt x y → (z : Entry P) → z ∈ (y ∷ l) → Lt x z
       first p z (Memᴰ.head e) = subst (λ (w : Entry P). Lt x w) (sym e) p
@@ -110,39 +110,39 @@ module _ {P : Plain} where
       go : (c : Tri x y) → Sorted (insert x l) → Sorted (put x y c l (insert x l))
       go (less p) t = (first p, s)
       go (level _) t = s
-      go (more p) t = ((λ z i. rest p z (insert-in x l i)), t)
+      go (more p) t = ((λ z i. rest p z (insert_in x l i)), t)
 
-  pub sort-in : {z : Entry P} (l : List (Entry P)) → z ∈ sort l → z ∈ l
+  pub sort_in : {z : Entry P} (l : List (Entry P)) → z ∈ sort l → z ∈ l
   unfolding sort
-  sort-in [] i = i
-  sort-in {z} (x ∷ l) i = go (insert-in x (sort l) i) (sort-in l)
+  sort_in [] i = i
+  sort_in {z} (x ∷ l) i = go (insert_in x (sort l) i) (sort_in l)
     where
       go : (z ≡ x) ⊎ (z ∈ sort l) → (z ∈ sort l → z ∈ l) → z ∈ (x ∷ l)
       go (inl e) f = Memᴰ.head e
       go (inr j) f = Memᴰ.tail (f j)
 
-  pub sort-has : {z : Entry P} (l : List (Entry P)) → z ∈ l → (y : Entry P) × (y ∈ sort l) × Level y z
+  pub sort_has : {z : Entry P} (l : List (Entry P)) → z ∈ l → (y : Entry P) × (y ∈ sort l) × Level y z
   unfolding sort
-  sort-has [] i = absurd (Memᴰ.not-nil i)
-  sort-has {z} (x ∷ l) (Memᴰ.head e) = subst (λ (w : Entry P). (y : Entry P) × (y ∈ insert x (sort l)) × Level y w) (sym e) (insert-puts x (sort l))
-  sort-has (x ∷ l) (Memᴰ.tail i) = let w = sort-has l i in (w.0, insert-keeps x (sort l) w.1, w.2)
+  sort_has [] i = absurd (Memᴰ.not-nil i)
+  sort_has {z} (x ∷ l) (Memᴰ.head e) = subst (λ (w : Entry P). (y : Entry P) × (y ∈ insert x (sort l)) × Level y w) (sym e) (insert_puts x (sort l))
+  sort_has (x ∷ l) (Memᴰ.tail i) = let w = sort_has l i in (w.0, insert_keeps x (sort l) w.1, w.2)
 
   pub sort_sorted : (l : List (Entry P)) → Sorted (sort l)
   unfolding sort
   sort_sorted [] = tt
-  sort_sorted (x ∷ l) = insert-sorted x (sort l) (sort_sorted l)
+  sort_sorted (x ∷ l) = insert_sorted x (sort l) (sort_sorted l)
 
   -- operations and entries
-  pub ops-in : {o : Operation P} (l : List (Entry P)) → o ∈ ops l → (x : Entry P) × (x ∈ l) × (o ≡ x.op)
+  pub ops_in : {o : Operation P} (l : List (Entry P)) → o ∈ ops l → (x : Entry P) × (x ∈ l) × (o ≡ x.op)
   unfolding ops
-  ops-in [] i = absurd (Memᴰ.not-nil i)
-  ops-in (x ∷ l) (Memᴰ.head e) = (x, Memᴰ.head refl, e)
-  ops-in (x ∷ l) (Memᴰ.tail i) = let w = ops-in l i in (w.0, Memᴰ.tail w.1, w.2)
+  ops_in [] i = absurd (Memᴰ.not-nil i)
+  ops_in (x ∷ l) (Memᴰ.head e) = (x, Memᴰ.head refl, e)
+  ops_in (x ∷ l) (Memᴰ.tail i) = let w = ops_in l i in (w.0, Memᴰ.tail w.1, w.2)
 
-  pub in-ops : {x : Entry P} {l : List (Entry P)} → x ∈ l → x.op ∈ ops l
+  pub in_ops : {x : Entry P} {l : List (Entry P)} → x ∈ l → x.op ∈ ops l
   unfolding ops
-  in-ops (Memᴰ.head e) = Memᴰ.head (ap (λ (w : Entry P). w.op) e)
-  in-ops (Memᴰ.tail i) = Memᴰ.tail (in-ops i)
+  in_ops (Memᴰ.head e) = Memᴰ.head (ap (λ (w : Entry P). w.op) e)
+  in_ops (Memᴰ.tail i) = Memᴰ.tail (in_ops i)
 
   -- in a sorted list the lesser of two entries stands before the other
   pub sorted_before : {x y : Entry P} (l : List (Entry P)) → Sorted l → x ∈ l → y ∈ l → Lt x y → Before x.op y.op (ops l)
@@ -152,7 +152,7 @@ module _ {P : Plain} where
       let q = subst (λ (w : Entry P). Lt w y) e p in
       let r = subst (λ (w : Entry P). Lt z w) d q in
       absurd (omega (arith, r.1 (omega arith)))
-  sorted_before {x} {y} (z ∷ l) s (Memᴰ.head e) (Memᴰ.tail j) p = here (ap (λ (w : Entry P). w.op) e) (in-ops j)
+  sorted_before {x} {y} (z ∷ l) s (Memᴰ.head e) (Memᴰ.tail j) p = here (ap (λ (w : Entry P). w.op) e) (in_ops j)
   sorted_before {x} {y} (z ∷ l) s (Memᴰ.tail i) (Memᴰ.head d) p =
       let q = s.0 x i in
       let r = subst (λ (w : Entry P). Lt x w) d p in

@@ -12,59 +12,59 @@ any p [] = false
 any p (x ∷ l) = p x || any p l
 
 module _ {P : Plain} where
-  unfoldable pub isBegan : ℕ → Fact P → Bool
-  isBegan u (began t k) = eqb t u
-  isBegan u (promised b t) = false
-  isBegan u (launched t s) = false
-  isBegan u (stored b t) = false
-  isBegan u (showed b t c) = false
-  isBegan u (ended t e) = false
+  unfoldable pub is_began : ℕ → Fact P → Bool
+  is_began u (began t k) = eqb t u
+  is_began u (promised b t) = false
+  is_began u (launched t s) = false
+  is_began u (stored b t) = false
+  is_began u (showed b t c) = false
+  is_began u (ended t e) = false
 
-  unfoldable pub isPromised : ℕ → ℕ → Fact P → Bool
-  isPromised a u (began t k) = false
-  isPromised a u (promised b t) = eqb b a && eqb t u
-  isPromised a u (launched t s) = false
-  isPromised a u (stored b t) = false
-  isPromised a u (showed b t c) = false
-  isPromised a u (ended t e) = false
+  unfoldable pub is_promised : ℕ → ℕ → Fact P → Bool
+  is_promised a u (began t k) = false
+  is_promised a u (promised b t) = eqb b a && eqb t u
+  is_promised a u (launched t s) = false
+  is_promised a u (stored b t) = false
+  is_promised a u (showed b t c) = false
+  is_promised a u (ended t e) = false
 
-  unfoldable pub isLaunched : ℕ → Fact P → Bool
-  isLaunched u (began t k) = false
-  isLaunched u (promised b t) = false
-  isLaunched u (launched t s) = eqb t u
-  isLaunched u (stored b t) = false
-  isLaunched u (showed b t c) = false
-  isLaunched u (ended t e) = false
+  unfoldable pub is_launched : ℕ → Fact P → Bool
+  is_launched u (began t k) = false
+  is_launched u (promised b t) = false
+  is_launched u (launched t s) = eqb t u
+  is_launched u (stored b t) = false
+  is_launched u (showed b t c) = false
+  is_launched u (ended t e) = false
 
-  unfoldable pub isStored : ℕ → ℕ → Fact P → Bool
-  isStored a u (began t k) = false
-  isStored a u (promised b t) = false
-  isStored a u (launched t s) = false
-  isStored a u (stored b t) = eqb b a && eqb t u
-  isStored a u (showed b t c) = false
-  isStored a u (ended t e) = false
+  unfoldable pub is_stored : ℕ → ℕ → Fact P → Bool
+  is_stored a u (began t k) = false
+  is_stored a u (promised b t) = false
+  is_stored a u (launched t s) = false
+  is_stored a u (stored b t) = eqb b a && eqb t u
+  is_stored a u (showed b t c) = false
+  is_stored a u (ended t e) = false
 
-  unfoldable pub isShowed : ℕ → ℕ → ℕ → Fact P → Bool
-  isShowed a u d (began t k) = false
-  isShowed a u d (promised b t) = false
-  isShowed a u d (launched t s) = false
-  isShowed a u d (stored b t) = false
-  isShowed a u d (showed b t c) = eqb b a && eqb t u && eqb c d
-  isShowed a u d (ended t e) = false
+  unfoldable pub is_showed : ℕ → ℕ → ℕ → Fact P → Bool
+  is_showed a u d (began t k) = false
+  is_showed a u d (promised b t) = false
+  is_showed a u d (launched t s) = false
+  is_showed a u d (stored b t) = false
+  is_showed a u d (showed b t c) = eqb b a && eqb t u && eqb c d
+  is_showed a u d (ended t e) = false
 
-  unfoldable pub isEnded : ℕ → Fact P → Bool
-  isEnded u (began t k) = false
-  isEnded u (promised b t) = false
-  isEnded u (launched t s) = false
-  isEnded u (stored b t) = false
-  isEnded u (showed b t c) = false
-  isEnded u (ended t e) = eqb t u
+  unfoldable pub is_ended : ℕ → Fact P → Bool
+  is_ended u (began t k) = false
+  is_ended u (promised b t) = false
+  is_ended u (launched t s) = false
+  is_ended u (stored b t) = false
+  is_ended u (showed b t c) = false
+  is_ended u (ended t e) = eqb t u
 
   unfoldable pub stored? : History P → ℕ → ℕ → Bool
-  stored? h u b = any (isStored b u) h
+  stored? h u b = any (is_stored b u) h
 
   unfoldable pub promised? : History P → ℕ → ℕ → Bool
-  promised? h u b = any (isPromised b u) h
+  promised? h u b = any (is_promised b u) h
 
   unfoldable pub showed? : History P → ℕ → ℕ → ℕ → Bool
-  showed? h u d b = any (isShowed b u d) h
+  showed? h u d b = any (is_showed b u d) h

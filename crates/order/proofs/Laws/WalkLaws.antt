@@ -9,17 +9,17 @@ use native.Mathlib.Decide.{dec_lt}
 use lib.ListN.{length}
 use Rattle.order.specs.Claim.{Plain, Seen, finished, ◌∈◌, Right}
 use Rattle.order.specs.Places.{In}
-use Rattle.order.proofs.Laws.PlaceLaws.{suf-below, in-suf}
+use Rattle.order.proofs.Laws.PlaceLaws.{suf_below, in_suf}
 use Rattle.order.specs.Facts.{Source, itself, over, began, launched, ended, History, seen}
 use Rattle.order.specs.Quorums.{Quorums}
 use Rattle.order.specs.Valid.{Launched, Valid, Val, sets, onto}
-use Rattle.order.proofs.Laws.FactLaws.{ok_at, one-kind}
-use Rattle.order.proofs.Laws.LiveLaws.{live-over}
-use Rattle.order.proofs.Laws.SeenLaws.{seen-ended}
+use Rattle.order.proofs.Laws.FactLaws.{ok_at, one_kind}
+use Rattle.order.proofs.Laws.LiveLaws.{live_over}
+use Rattle.order.proofs.Laws.SeenLaws.{seen_ended}
 use Rattle.order.proofs.Laws.Order.{Live, committed, under, Entry, Lt, ops}
 use Rattle.order.proofs.Laws.SortLaws.{Sorted}
 use Rattle.order.proofs.Laws.PlacedLaws.{entry, Placed, store, glance}
-use Rattle.order.proofs.Laws.ValueLaws.{showed-committed, given-at-store, given-in-one-round}
+use Rattle.order.proofs.Laws.ValueLaws.{showed_committed, given_at_store, given_in_one_round}
 
 -- the store of time u is still to come
 abbrev pub Coming : {P : Plain} → ℕ → List (Entry P) → Type 0
@@ -39,9 +39,9 @@ pub record Reached (S : Quorums) {P : Plain} (h : History P) (l : List (Entry P)
 
 module _ {S : Quorums} {P : Plain} {h : History P} (v : Valid S h) where
   -- what is live and below the next entry was fed
-  fed-below : {x : Entry P} {l : List (Entry P)} {c : ℕ} {s : P.Stripe} → Reached S h (x ∷ l) c s → (u : ℕ)
+  fed_below : {x : Entry P} {l : List (Entry P)} {c : ℕ} {s : P.Stripe} → Reached S h (x ∷ l) c s → (u : ℕ)
       → Live S h u → (u < x.place) ⊎ ((u ≤ x.place) × (0 < x.rank)) → u ≤ c
-  fed-below {x} {l} {c} {s} w u d low = go (dec_lt 0 u)
+  fed_below {x} {l} {c} {s} w u d low = go (dec_lt 0 u)
     where
       not-here : (u < x.place) ⊎ ((u ≤ x.place) × (0 < x.rank)) → x.place ≡ u → x.rank ≡ 0 → ⊥
       not-here (inl g) e f = omega arith
@@ -64,9 +64,9 @@ module _ {S : Quorums} {P : Plain} {h : History P} (v : Valid S h) where
       go (no a) = omega arith
 
   -- a store that is reached stands for its effect on what the plain stripe holds
-  store-value : {t : ℕ} {k : P.Kind} {l : List (Entry P)} {c : ℕ} {s : P.Stripe} → Reached S h (entry t 0 t k ∷ l) c s
+  store_value : {t : ℕ} {k : P.Kind} {l : List (Entry P)} {c : ℕ} {s : P.Stripe} → Reached S h (entry t 0 t k ∷ l) c s
       → Live S h t → Launched h t → In (began t k) h → Val h t (P.effect k s)
-  store-value {t} {k} {l} {c} {s} w d m b = go m.0 m.1
+  store_value {t} {k} {l} {c} {s} w d m b = go m.0 m.1
     where
       after : Dec (c < t) → c < t
       after (yes a) = a
@@ -78,11 +78,11 @@ module _ {S : Quorums} {P : Plain} {h : History P} (v : Valid S h) where
       go : (q : Source) → In (launched t q) h → Val h t (P.effect k s)
       go itself i =
           let f = (ok_at i.1 v).source in
-          let e = one-kind v b (in-suf (suf-below i.1) f.2) in
+          let e = one_kind v b (in_suf (suf_below i.1) f.2) in
           sets {v = P.effect k s} i b (λ z. let a = f.3 z in let a' = f.3 s in cc)
       go (over p) i =
-          let low = live-over v w.live d i.1 first in
-          let up = fed-below w p (under i d) (inl (ok_at i.1 v).source.below) in
+          let low = live_over v w.live d i.1 first in
+          let up = fed_below w p (under i d) (inl (ok_at i.1 v).source.below) in
           let e : c ≡ p = omega arith in
           onto i b (subst (λ (z : ℕ). Val h z s) e w.value) refl
 
@@ -92,8 +92,8 @@ module _ {S : Quorums} {P : Plain} {h : History P} (v : Valid S h) where
 
   feed : {x : Entry P} {l : List (Entry P)} {c : ℕ} {s : P.Stripe} → Placed S h x → Reached S h (x ∷ l) c s → Fed x l s
   feed {x} {l} {c} {s} (store {t} {k} d m b) w =
-      let val = store-value w d m b in (
-        (λ r i. given-at-store v m b val (seen-ended h i)),
+      let val = store_value w d m b in (
+        (λ r i. given_at_store v m b val (seen_ended h i)),
         t,
         record {
           placed = λ y i. w.placed y (Memᴰ.tail i);
@@ -116,13 +116,13 @@ module _ {S : Quorums} {P : Plain} {h : History P} (v : Valid S h) where
       let o = (ok_at q v).answer in
       let g = o.2 in
       let low = (w.ahead (entry p (suc (length b)) t k) (Memᴰ.head refl)).0 in
-      let up = fed-below w p (committed (showed-committed v (suf-below q) o.1)) (inr (omega arith, omega arith)) in
+      let up = fed_below w p (committed (showed_committed v (suf_below q) o.1)) (inr (omega arith, omega arith)) in
       let e : c ≡ p = omega arith in
       let val = subst (λ (z : ℕ). Val h z s) e w.value in
-      let f = one-kind v i (in-suf (suf-below q) g.asked) in
+      let f = one_kind v i (in_suf (suf_below q) g.asked) in
       let a = g.keeps s in
       let keeps : s ≡ P.effect k s = cc in (
-        (λ r j. given-in-one-round v q i val (seen-ended h j)),
+        (λ r j. given_in_one_round v q i val (seen_ended h j)),
         c,
         record {
           placed = λ z j. w.placed z (Memᴰ.tail j);
@@ -143,7 +143,7 @@ module _ {S : Quorums} {P : Plain} {h : History P} (v : Valid S h) where
       rest u (inr a) = coming u a.0 a.1 a.2 a.3
 
   -- every finished read gave what the plain stripe gives at its place
-  pub right-from : (l : List (Entry P)) {c : ℕ} {s : P.Stripe} → Reached S h l c s → Right (seen h) s (ops l)
+  pub right_from : (l : List (Entry P)) {c : ℕ} {s : P.Stripe} → Reached S h l c s → Right (seen h) s (ops l)
   unfolding ops Right
-  right-from [] w = tt
-  right-from (x ∷ l) w = let f = feed (w.placed x (Memᴰ.head refl)) w in (f.0, right-from l f.2)
+  right_from [] w = tt
+  right_from (x ∷ l) w = let f = feed (w.placed x (Memᴰ.head refl)) w in (f.0, right_from l f.2)

@@ -7,8 +7,8 @@ use native.Mathlib.Omega.{arith}
 use lib.ListN.{length, replicate}
 use Rattle.poly.specs.Field.{Field, IsField}
 use Rattle.poly.specs.Polynomial.{sub, eval}
-use Rattle.poly.proofs.Laws.RingLaws.{add_left_comm, mul_left_comm, mul-zero, zero-add, sub-mul, sub-eq, sub-of-eq, other-is-zero, neg-one-mul}
-use Rattle.poly.proofs.Laws.CoefficientLaws.{scale, plus, minus, eval-zeros}
+use Rattle.poly.proofs.Laws.RingLaws.{add_left_comm, mul_left_comm, mul_zero, zero_add, sub_mul, sub_eq, sub_of_eq, other_is_zero, neg_one_mul}
+use Rattle.poly.proofs.Laws.CoefficientLaws.{scale, plus, minus, eval_zeros}
 
 module _ (F : Field) where
   open F use {carrier}
@@ -20,10 +20,10 @@ module _ (F : Field) where
   suffixes a (c ∷ cs) = eval F (c ∷ cs) a ∷ suffixes a cs
 
   -- There are as many as p has coefficients.
-  pub length-suffixes : (a : carrier) (p : List carrier) → length (suffixes a p) ≡ length p
+  pub length_suffixes : (a : carrier) (p : List carrier) → length (suffixes a p) ≡ length p
   unfolding suffixes
-  length-suffixes a [] = refl
-  length-suffixes a (c ∷ cs) = ap suc (length-suffixes a cs)
+  length_suffixes a [] = refl
+  length_suffixes a (c ∷ cs) = ap suc (length_suffixes a cs)
 
 module _ (F : Field) (L : IsField F) where
   open F use {carrier, zero, add, mul}
@@ -33,7 +33,7 @@ module _ (F : Field) (L : IsField F) where
   pub division : (a c : carrier) (cs : List carrier) (x : carrier) →
       add (eval F (c ∷ cs) x) (mul a (eval F (suffixes F a cs) x)) ≡ add (eval F (c ∷ cs) a) (mul x (eval F (suffixes F a cs) x))
   unfolding eval suffixes
-  division a c [] x = simp (eval, mul-zero F L)
+  division a c [] x = simp (eval, mul_zero F L)
   division a c (d ∷ ds) x = step (eval F (d ∷ ds) x) (eval F (d ∷ ds) a) (eval F (suffixes F a ds) x) (division a d ds x)
     where
       step : (e r s : carrier) → add e (mul a s) ≡ add r (mul x s) →
@@ -41,35 +41,35 @@ module _ (F : Field) (L : IsField F) where
       step e r s h = sym (ap (λ v. add (add c (mul a r)) (mul x v)) (sym h) ∙ simp (distrib, add_assoc, add_left_comm F L, mul_left_comm F L))
 
   -- A root of c ∷ cs other than its root a is a root of the quotient.
-  pub root-of-quotient : (a c : carrier) (cs : List carrier) (x : carrier) →
+  pub root_of_quotient : (a c : carrier) (cs : List carrier) (x : carrier) →
       (x ≡ a → ⊥) → eval F (c ∷ cs) a ≡ zero → eval F (c ∷ cs) x ≡ zero → eval F (suffixes F a cs) x ≡ zero
-  root-of-quotient a c cs x n ra rx = other-is-zero F L (sub F x a) q (λ z. n (sub-eq F L x a z)) (sub-mul F L x a q ∙ sub-of-eq F L (mul x q) (mul a q) same)
+  root_of_quotient a c cs x n ra rx = other_is_zero F L (sub F x a) q (λ z. n (sub_eq F L x a z)) (sub_mul F L x a q ∙ sub_of_eq F L (mul x q) (mul a q) same)
     where
       q : carrier
       q = eval F (suffixes F a cs) x
 
       same : mul x q ≡ mul a q
-      same = cc (division a c cs x, zero-add F L (mul x q), zero-add F L (mul a q))
+      same = cc (division a c cs x, zero_add F L (mul x q), zero_add F L (mul a q))
 
   -- A polynomial with the root a whose other coefficients are zero is zero.
-  pub first-zero : (a c : carrier) (cs : List carrier) → cs ≡ replicate (length cs) zero → eval F (c ∷ cs) a ≡ zero →
+  pub first_zero : (a c : carrier) (cs : List carrier) → cs ≡ replicate (length cs) zero → eval F (c ∷ cs) a ≡ zero →
       c ∷ cs ≡ replicate (suc (length cs)) zero
   unfolding eval
-  first-zero a c cs z r = let h : c ≡ zero = cc (add-zero c, rest) in cc
+  first_zero a c cs z r = let h : c ≡ zero = cc (add-zero c, rest) in cc
     where
       rest : mul a (eval F cs a) ≡ zero
-      rest = ap (λ l. mul a (eval F l a)) z ∙ rw (eval-zeros F L) (mul-zero F L a)
+      rest = ap (λ l. mul a (eval F l a)) z ∙ rw (eval_zeros F L) (mul_zero F L a)
 
   -- If p and what is left of it after each coefficient have the root a, p is zero.
-  pub zero-suffixes : (a : carrier) (p : List carrier) → suffixes F a p ≡ replicate (length p) zero → p ≡ replicate (length p) zero
+  pub zero_suffixes : (a : carrier) (p : List carrier) → suffixes F a p ≡ replicate (length p) zero → p ≡ replicate (length p) zero
   unfolding suffixes
-  zero-suffixes a [] e = refl
-  zero-suffixes a (c ∷ cs) e = first-zero a c cs (zero-suffixes a cs (cc)) (cc)
+  zero_suffixes a [] e = refl
+  zero_suffixes a (c ∷ cs) e = first_zero a c cs (zero_suffixes a cs (cc)) (cc)
 
   -- A polynomial with the root a whose quotient is zero is zero.
-  pub zero-quotient : (a c : carrier) (cs : List carrier) → suffixes F a cs ≡ replicate (length (suffixes F a cs)) zero → eval F (c ∷ cs) a ≡ zero →
+  pub zero_quotient : (a c : carrier) (cs : List carrier) → suffixes F a cs ≡ replicate (length (suffixes F a cs)) zero → eval F (c ∷ cs) a ≡ zero →
       c ∷ cs ≡ replicate (suc (length cs)) zero
-  zero-quotient a c cs z r = first-zero a c cs (zero-suffixes a cs (rw (length-suffixes F a cs) at z)) r
+  zero_quotient a c cs z r = first_zero a c cs (zero_suffixes a cs (rw (length_suffixes F a cs) at z)) r
 
   -- Polynomials with the same number of coefficients whose difference is zero are equal.
   pub zero_minus : (p q : List carrier) → length p ≡ length q → minus F p q ≡ replicate (length (minus F p q)) zero → p ≡ q
@@ -77,4 +77,4 @@ module _ (F : Field) (L : IsField F) where
   zero_minus [] [] l e = refl
   zero_minus [] (b ∷ q) l e = absurd (omega arith)
   zero_minus (a ∷ p) [] l e = absurd (omega arith)
-  zero_minus (a ∷ p) (b ∷ q) l e = let t : p ≡ q = zero_minus p q (omega arith) (cc) in let h : a ≡ b = sub-eq F L a b (cc (neg-one-mul F L b)) in cc
+  zero_minus (a ∷ p) (b ∷ q) l e = let t : p ≡ q = zero_minus p q (omega arith) (cc) in let h : a ≡ b = sub_eq F L a b (cc (neg_one_mul F L b)) in cc

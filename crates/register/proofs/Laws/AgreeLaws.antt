@@ -5,27 +5,27 @@ use mathlib.Core.List.{List, [], ◌∷◌, ◌++◌, append-nil}
 use Prim.Native.Nat.{ℕ, ◌<◌}
 use Rattle.settings.specs.Ranges.{in_range}
 use Rattle.settings.specs.declared.Settings.{Settings}
-use Rattle.coord_apply.specs.Answers.{Step, Returned, returned, returnedBy}
+use Rattle.coord_apply.specs.Answers.{Step, Returned, returned, returned_by}
 use Rattle.coord_apply.specs.declared.Answer.{Answer}
 use Rattle.order.specs.Claim.{Seen, OneOrder}
-use Rattle.register.specs.Runs.{plain, World, freshSet, Event}
+use Rattle.register.specs.Runs.{plain, World, fresh_set, Event}
 use Rattle.register.specs.Runs.{Moved, unmoved, joined, coordinated}
-use Rattle.register.specs.Runs.{step, nextMoved, run_from, run}
+use Rattle.register.specs.Runs.{step, next_moved, run_from, run}
 use Rattle.register.specs.Driver.{driven, Short}
 use Rattle.register.specs.CallLoop.{Agrees}
-use Rattle.register.proofs.Laws.TheoremProof.{every-run-has-one-order}
-use Rattle.register.proofs.Laws.DriverLaws.{coordinated-is-driven}
+use Rattle.register.proofs.Laws.TheoremProof.{every_run_has_one_order}
+use Rattle.register.proofs.Laws.DriverLaws.{coordinated_is_driven}
 
 -- some events, then more
-pub run-from-both : (s : Settings) (r : Moved s) (es fs : List Event) → run_from s r (es ++ fs) ≡ run_from s (run_from s r es) fs
+pub run_from_both : (s : Settings) (r : Moved s) (es fs : List Event) → run_from s r (es ++ fs) ≡ run_from s (run_from s r es) fs
 unfolding run_from
-run-from-both s r [] fs = refl
-run-from-both s r (e ∷ es) fs = run-from-both s (nextMoved s r e) es fs
+run_from_both s r [] fs = refl
+run_from_both s r (e ∷ es) fs = run_from_both s (next_moved s r e) es fs
 
 -- one event more
 pub run_more : (s : Settings) (events : List Event) (e : Event) → run s (events ++ e ∷ []) ≡ joined s (run s events) (step s (run s events).world e)
-unfolding run run_from nextMoved
-run_more s events e = run-from-both s (unmoved s (freshSet s)) events (e ∷ [])
+unfolding run run_from next_moved
+run_more s events e = run_from_both s (unmoved s (fresh_set s)) events (e ∷ [])
 
 -- the same is seen, and the worlds agree
 pub record Same (s : Settings) (m m' : Moved s) : Type 0 where
@@ -37,8 +37,8 @@ abbrev pub Made : (s : Settings) → Moved s → Type 0
 Made s r = (events : List Event) × ((k : ℕ) → r.seen k ≡ (run s events).seen k) × Agrees s r.world (run s events).world
 
 -- and what is seen of a stripe has one order
-pub made-has-one-order : (s : Settings) → in_range s ≡ true → (r : Moved s) → Made s r → (stripe : ℕ) → stripe < s.stripes → OneOrder (plain s) (r.seen stripe)
-made-has-one-order s e r made stripe l = subst (OneOrder (plain s)) (sym (made.1 stripe)) (every-run-has-one-order s e made.0 stripe l)
+pub made_has_one_order : (s : Settings) → in_range s ≡ true → (r : Moved s) → Made s r → (stripe : ℕ) → stripe < s.stripes → OneOrder (plain s) (r.seen stripe)
+made_has_one_order s e r made stripe l = subst (OneOrder (plain s)) (sym (made.1 stripe)) (every_run_has_one_order s e made.0 stripe l)
 
 module _ (s : Settings) where
   pub made_more : (r : Moved s) (made : Made s r) (e : Event) (m : Moved s) → Same s m (step s (run s made.0).world e) → Made s (joined s r m)
@@ -49,17 +49,17 @@ module _ (s : Settings) where
   )
 
   -- where nothing changes no event is needed
-  pub made-still : (r : Moved s) (made : Made s r) (m : Moved s) → m ≡ unmoved s r.world → Made s (joined s r m)
+  pub made_still : (r : Moved s) (made : Made s r) (m : Moved s) → m ≡ unmoved s r.world → Made s (joined s r m)
   unfolding unmoved
-  made-still r made m e = (
+  made_still r made m e = (
     made.0,
     λ k. ap (λ (x : Moved s). r.seen k ++ x.seen k) e ∙ append-nil (r.seen k) ∙ made.1 k,
     subst (λ (x : Moved s). Agrees s x.world (run s made.0).world) (sym e) made.2,
   )
 
   -- what a driver makes of a routine's answer is the routine's step in the world
-  pub driven-is : (w : World) (c : ℕ) (p : Step) (a : Answer) (blocks' stripe' coded coded' : List ℕ) → Short s.size p
-      → returned a blocks' stripe' coded' ≡ returnedBy (w.coordinators c) coded p → driven s w c a blocks' stripe' coded' ≡ coordinated s w c p
-  unfolding returnedBy
-  driven-is w c p a blocks' stripe' coded coded' short e =
-      ap (λ (x : Returned). driven s w c x.answer x.blocks x.stripe x.coded) e ∙ sym (coordinated-is-driven s w c p coded short)
+  pub driven_is : (w : World) (c : ℕ) (p : Step) (a : Answer) (blocks' stripe' coded coded' : List ℕ) → Short s.size p
+      → returned a blocks' stripe' coded' ≡ returned_by (w.coordinators c) coded p → driven s w c a blocks' stripe' coded' ≡ coordinated s w c p
+  unfolding returned_by
+  driven_is w c p a blocks' stripe' coded coded' short e =
+      ap (λ (x : Returned). driven s w c x.answer x.blocks x.stripe x.coded) e ∙ sym (coordinated_is_driven s w c p coded short)

@@ -9,65 +9,65 @@ use native.Mathlib.Decide.{ℕ_discrete}
 use lib.Dec.{eqb}
 use lib.ListN.{length, set}
 use lib.Seq.{get_or-set_same, get_or-set_other}
-use Rattle.settings.specs.Count.{one-if}
-use Rattle.settings.proofs.Laws.CountLaws.{one-is}
-use Rattle.settings.specs.Ranges.{SettingsRange, maxBricks, quorum}
+use Rattle.settings.specs.Count.{one_if}
+use Rattle.settings.proofs.Laws.CountLaws.{one_is}
+use Rattle.settings.specs.Ranges.{SettingsRange, max_bricks, quorum}
 use Rattle.settings.specs.declared.Settings.{Settings}
 use Rattle.message.specs.Flags.{member, members}
 use Rattle.message.specs.declared.Reply.{Reply}
 use Rattle.coord_decide.specs.Deciding.{tallied}
-use Rattle.erasure.specs.Code.{block_of, withBlock}
-use Rattle.coord_record.specs.Records.{idleKind, noOp, idleWith}
+use Rattle.erasure.specs.Code.{block_of, with_block}
+use Rattle.coord_record.specs.Records.{idle_kind, no_op, idle_with}
 use Rattle.coord_record.specs.declared.Coordinator.{Coordinator}
-use Rattle.coord_apply.specs.Acts.{withTally, counting}
+use Rattle.coord_apply.specs.Acts.{with_tally, counting}
 use Rattle.coord_apply.specs.Answers.{Buffered, Went}
-use Rattle.coordinator.proofs.Laws.RoutineLaws.{place-fits}
-use Rattle.erasure.proofs.Laws.BlockOfLaws.{block_with, block-beside}
+use Rattle.coordinator.proofs.Laws.RoutineLaws.{place_fits}
+use Rattle.erasure.proofs.Laws.BlockOfLaws.{block_with, block_beside}
 use Rattle.coord_laws.proofs.Laws.StepRunLaws.{ReplyTaken}
-use Rattle.coord_laws.proofs.Laws.TallyLaws.{tallied-sized, counted-more}
+use Rattle.coord_laws.proofs.Laws.TallyLaws.{tallied_sized, counted_more}
 use Rattle.order.specs.Claim.{◌∈◌}
 use Rattle.order.specs.Facts.{began}
 use Rattle.order.specs.Places.{In}
 use Rattle.register.specs.Runs.{plain, Item, reply}
-use Rattle.register.proofs.Laws.BegunLaws.{same-begun}
+use Rattle.register.proofs.Laws.BegunLaws.{same_begun}
 use Rattle.register.proofs.Laws.Invariant.{Hist, CountedInv, Running, CoordinatorInv}
 
 -- flags after one is set
-pub member-same : (l : List ℕ) (b : ℕ) (y : Bool) → b < length l → member (set l b (one-if y)) b ≡ y
+pub member_same : (l : List ℕ) (b : ℕ) (y : Bool) → b < length l → member (set l b (one_if y)) b ≡ y
 unfolding member
-member-same l b y h = ap (λ (z : ℕ). eqb z 1) (get_or-set_same l b (one-if y) 0 h) ∙ one-is y
+member_same l b y h = ap (λ (z : ℕ). eqb z 1) (get_or-set_same l b (one_if y) 0 h) ∙ one_is y
 
-pub member-other : (l : List ℕ) (b j v : ℕ) → j ≢ b → member (set l b v) j ≡ member l j
+pub member_other : (l : List ℕ) (b j v : ℕ) → j ≢ b → member (set l b v) j ≡ member l j
 unfolding member
-member-other l b j v n = ap (λ (z : ℕ). eqb z 1) (get_or-set_other l b j v 0 n)
+member_other l b j v n = ap (λ (z : ℕ). eqb z 1) (get_or-set_other l b j v 0 n)
 
 -- The q-th reply decides: no more are counted.
-pub qth-exactly : (s : Settings) (k : Buffered) (r : Reply) (block : List ℕ) (coded : ℕ) (w : Went) → ReplyTaken s.n s.m s.size s.stripes k r block coded w
+pub qth_exactly : (s : Settings) (k : Buffered) (r : Reply) (block : List ℕ) (coded : ℕ) (w : Went) → ReplyTaken s.n s.m s.size s.stripes k r block coded w
     → quorum s.n s.m ≤ members (counting s.size k r block).state.tally.counted s.n
     → members (counting s.size k r block).state.tally.counted s.n ≡ quorum s.n s.m
-unfolding counting withTally tallied
-qth-exactly s k r block coded w t l =
+unfolding counting with_tally tallied
+qth_exactly s k r block coded w t l =
     let few = t.takes.parts.few-counted in
-    let more = counted-more k.state.tally.counted r.brick 1 s.n in
+    let more = counted_more k.state.tally.counted r.brick 1 s.n in
     omega (arith, l, few, more)
 
 -- A reply that is not refused is counted.
-pub counting-keeps : (s : Settings) (g : SettingsRange s) (h : Hist s) (sent : List Item) (c : ℕ) (k : Buffered) (r : Reply) (block : List ℕ) (coded : ℕ) (w : Went)
+pub counting_keeps : (s : Settings) (g : SettingsRange s) (h : Hist s) (sent : List Item) (c : ℕ) (k : Buffered) (r : Reply) (block : List ℕ) (coded : ℕ) (w : Went)
     → CoordinatorInv s g h sent c k → ReplyTaken s.n s.m s.size s.stripes k r block coded w → reply r block ∈ sent → CoordinatorInv s g h sent c (counting s.size k r block)
-unfolding counting withTally tallied
-counting-keeps s g h sent c k r block coded w i t was =
+unfolding counting with_tally tallied
+counting_keeps s g h sent c k r block coded w i t was =
     record {
       number = i.number;
       used = i.used;
-      sized = tallied-sized k.state.tally r i.sized;
+      sized = tallied_sized k.state.tally r i.sized;
       idle-is = λ e. absurd (open-round e);
       runs = λ n. running (i.runs n);
     }
   where
     -- a reply is counted in an open round alone
-    open-round : k.state.op.kind ≡ idleKind → ⊥
+    open-round : k.state.op.kind ≡ idle_kind → ⊥
     open-round e =
-        let z : k.state.op.phase ≡ 0 = unfold idleWith noOp in ap (λ (x : Coordinator). x.op.phase) (i.idle-is e) in
+        let z : k.state.op.phase ≡ 0 = unfold idle_with no_op in ap (λ (x : Coordinator). x.op.phase) (i.idle-is e) in
         omega (arith, z, t.reply.kind-low, t.answer.of-phase)
 
     counted : List ℕ
@@ -85,24 +85,24 @@ counting-keeps s g h sent c k r block coded w i t was =
     said : List ℕ
     said = k.state.tally.said
 
-    low : r.brick < maxBricks
+    low : r.brick < max_bricks
     low = let a = t.takes.brick-low in let b = g.code.n-high in omega arith
 
     blocks : List ℕ
-    blocks = cond r.held (withBlock s.size k.blocks r.brick block) k.blocks
+    blocks = cond r.held (with_block s.size k.blocks r.brick block) k.blocks
 
     after : Buffered
     after = counting s.size k r block
 
     -- the block of the brick that is counted, and those of the others
-    here : (a : Bool) → r.held ≡ a → a ≡ true → block_of s.size (cond a (withBlock s.size k.blocks r.brick block) k.blocks) r.brick ≡ block
-    here true e q = block_with s.size k.blocks r.brick block (t.takes.block-length e) (place-fits _ _ _ _ _ _ _ _ _ _ t.takes)
+    here : (a : Bool) → r.held ≡ a → a ≡ true → block_of s.size (cond a (with_block s.size k.blocks r.brick block) k.blocks) r.brick ≡ block
+    here true e q = block_with s.size k.blocks r.brick block (t.takes.block-length e) (place_fits _ _ _ _ _ _ _ _ _ _ t.takes)
     here false e q = let z : ◌≡◌ {A = ℕ} 0 1 = cc in absurd (omega arith)
 
     there : (a : Bool) → r.held ≡ a → (b : ℕ) → b ≢ r.brick
-        → block_of s.size (cond a (withBlock s.size k.blocks r.brick block) k.blocks) b ≡ block_of s.size k.blocks b
+        → block_of s.size (cond a (with_block s.size k.blocks r.brick block) k.blocks) b ≡ block_of s.size k.blocks b
     there true e b n =
-        block-beside s.size k.blocks r.brick block (t.takes.block-length e) (place-fits _ _ _ _ _ _ _ _ _ _ t.takes) b n
+        block_beside s.size k.blocks r.brick block (t.takes.block-length e) (place_fits _ _ _ _ _ _ _ _ _ _ t.takes) b n
     there false e b n = refl
 
     new : CountedInv s sent after r.brick
@@ -116,8 +116,8 @@ counting-keeps s g h sent c k r block coded w i t was =
           kind-is = t.answer.of-phase;
           time-is = t.answer.of-operation;
           round_is = t.answer.of-round;
-          yes-is = sym (member-same granted r.brick r.yes (let w = i.sized.granted-size in omega (arith, low)));
-          held-is = sym (member-same held r.brick r.held (let w = i.sized.held-size in omega (arith, low)));
+          yes-is = sym (member_same granted r.brick r.yes (let w = i.sized.granted-size in omega (arith, low)));
+          held-is = sym (member_same held r.brick r.held (let w = i.sized.held-size in omega (arith, low)));
           found-is = sym (get_or-set_same found r.brick r.found 0 (let w = i.sized.found-size in omega (arith, low)));
           said-is = sym (get_or-set_same said r.brick r.comparison 0 (let w = i.sized.said-size in omega (arith, low)));
           block-is = λ e. here r.held refl e;
@@ -135,8 +135,8 @@ counting-keeps s g h sent c k r block coded w i t was =
           kind-is = x.kind-is;
           time-is = x.time-is;
           round_is = x.round_is;
-          yes-is = x.yes-is ∙ sym (member-other granted r.brick b (one-if r.yes) n);
-          held-is = x.held-is ∙ sym (member-other held r.brick b (one-if r.held) n);
+          yes-is = x.yes-is ∙ sym (member_other granted r.brick b (one_if r.yes) n);
+          held-is = x.held-is ∙ sym (member_other held r.brick b (one_if r.held) n);
           found-is = x.found-is ∙ sym (get_or-set_other found r.brick b r.found 0 n);
           said-is = x.said-is ∙ sym (get_or-set_other said r.brick b r.comparison 0 n);
           block-is = λ e. there r.held refl b n ∙ x.block-is e;
@@ -147,7 +147,7 @@ counting-keeps s g h sent c k r block coded w i t was =
     running x =
         record {
           own = x.own;
-          begun = subst (λ (a : (plain s).Kind). In (began k.state.op.time a) h) (same-begun s k after refl refl refl) x.begun;
+          begun = subst (λ (a : (plain s).Kind). In (began k.state.op.time a) h) (same_begun s k after refl refl refl) x.begun;
           proper = x.proper;
           piece = x.piece;
           unended = x.unended;
@@ -164,11 +164,11 @@ counting-keeps s g h sent c k r block coded w i t was =
       where
         counts : (b : ℕ) → member (set counted r.brick 1) b ≡ true → Dec (b ≡ r.brick) → CountedInv s sent after b
         counts b m (yes e) = subst (CountedInv s sent after) (sym e) new
-        counts b m (no n) = old b n (x.counts b (sym (member-other counted r.brick b 1 n) ∙ m))
+        counts b m (no n) = old b n (x.counts b (sym (member_other counted r.brick b 1 n) ∙ m))
 
-        holds : (b : ℕ) → member (set held r.brick (one-if r.held)) b ≡ true → Dec (b ≡ r.brick) → member (set counted r.brick 1) b ≡ true
+        holds : (b : ℕ) → member (set held r.brick (one_if r.held)) b ≡ true → Dec (b ≡ r.brick) → member (set counted r.brick 1) b ≡ true
         holds b m (yes e) =
             subst (λ (z : ℕ). member (set counted r.brick 1) z ≡ true) (sym e)
-            (member-same counted r.brick true (let w = i.sized.counted-size in omega (arith, low)))
+            (member_same counted r.brick true (let w = i.sized.counted-size in omega (arith, low)))
         holds b m (no n) =
-            member-other counted r.brick b 1 n ∙ x.holds b (sym (member-other held r.brick b (one-if r.held) n) ∙ m)
+            member_other counted r.brick b 1 n ∙ x.holds b (sym (member_other held r.brick b (one_if r.held) n) ∙ m)

@@ -11,49 +11,49 @@ use lib.Seq.{ext_get_or, length-take-le, get_or-take, get_or-drop}
 use Rattle.settings.specs.Ranges.{SettingsRange}
 use Rattle.settings.specs.declared.Settings.{Settings}
 use Rattle.byte_lists.specs.Lists.{zeros}
-use Rattle.image.specs.Brick.{timeAt, meansAt, freshBrick}
-use Rattle.image.proofs.Laws.LogPlaceLaws.{fresh-count, fresh-time, fresh-means}
-use Rattle.image.proofs.Laws.Saved.{fresh-sound}
-use Rattle.erasure.specs.Code.{codedOf}
+use Rattle.image.specs.Brick.{time_at, means_at, fresh_brick}
+use Rattle.image.proofs.Laws.LogPlaceLaws.{fresh_count, fresh_time, fresh_means}
+use Rattle.image.proofs.Laws.Saved.{fresh_sound}
+use Rattle.erasure.specs.Code.{coded_of}
 use Rattle.erasure.specs.Code.{block_of, Stripe}
-use Rattle.erasure.proofs.Laws.CodeTheoremLaws.{coded-of-zeros}
-use Rattle.coord_record.specs.Records.{noOp, idleWith}
-use Rattle.coord_laws.proofs.Laws.SoundnessLaws.{none-sized}
+use Rattle.erasure.proofs.Laws.CodeTheoremLaws.{coded_of_zeros}
+use Rattle.coord_record.specs.Records.{no_op, idle_with}
+use Rattle.coord_laws.proofs.Laws.SoundnessLaws.{none_sized}
 use Rattle.order.specs.Claim.{Plain}
 use Rattle.order.specs.Facts.{Fact, seen}
 use Rattle.order.specs.Places.{Suf, In}
 use Rattle.order.specs.Valid.{start, Val, Gone}
-use Rattle.register.specs.Runs.{plain, zeroStripe, idle, unmoved, freshSet}
-use Rattle.register.proofs.Laws.Invariant.{quorums, Means, Stands, LogHas, BrickInv, CoordinatorInv, itemsOn, viewed, view, Inv}
-use Rattle.register.proofs.Laws.StripeViewLaws.{viewed-there}
-use Rattle.volume.proofs.Laws.RowLaws.{fresh-row-at}
-use Rattle.settings.proofs.Laws.RangeLaws.{in-range}
+use Rattle.register.specs.Runs.{plain, zero_stripe, idle, unmoved, fresh_set}
+use Rattle.register.proofs.Laws.Invariant.{quorums, Means, Stands, LogHas, BrickInv, CoordinatorInv, items_on, viewed, view, Inv}
+use Rattle.register.proofs.Laws.StripeViewLaws.{viewed_there}
+use Rattle.volume.proofs.Laws.RowLaws.{fresh_row_at_lem}
+use Rattle.settings.proofs.Laws.RangeLaws.{in_range_lem}
 use Rattle.register.proofs.Laws.BrickLogLaws.{carried}
-use Rattle.byte_lists.proofs.Laws.ZeroLaws.{zero-list}
-use Rattle.coord_laws.proofs.Laws.TallyLaws.{zeros-at}
+use Rattle.byte_lists.proofs.Laws.ZeroLaws.{zero_list}
+use Rattle.coord_laws.proofs.Laws.TallyLaws.{zeros_at}
 
 -- nothing stands in an empty history
-pub in-none : {P : Plain} {f : Fact P} → In f [] → ⊥
-in-none i = go i.1
+pub in_none : {P : Plain} {f : Fact P} → In f [] → ⊥
+in_none i = go i.1
   where
     go : {A : Type 0} {a : A} {l : List A} → Suf (a ∷ l) [] → ⊥
     go s = elim s [ ]
 
 -- a zero block is each coded block of the zero stripe
-zero-block : (s : Settings) (g : SettingsRange s) (b : ℕ) → b < s.n
-    → replicate s.size 0 ≡ block_of s.size (codedOf s.n s.m s.size (replicate (s.m * s.size) 0)) b
+zero_block : (s : Settings) (g : SettingsRange s) (b : ℕ) → b < s.n
+    → replicate s.size 0 ≡ block_of s.size (coded_of s.n s.m s.size (replicate (s.m * s.size) 0)) b
 unfolding block_of
-zero-block s g b l =
+zero_block s g b l =
     ext_get_or 0 (replicate s.size 0) (take s.size (drop (b * s.size) (replicate (s.n * s.size) 0)))
     (length-replicate s.size 0 ∙ sym long)
     (λ i h.
     let k = length-replicate {A = ℕ} s.size 0 in
-    zeros-at s.size i
+    zeros_at s.size i
     ∙ sym
     (get_or-take s.size (drop (b * s.size) (replicate (s.n * s.size) 0)) i 0 (omega arith)
-    ∙ get_or-drop (b * s.size) (replicate (s.n * s.size) 0) i 0 ∙ zeros-at (s.n * s.size) (b * s.size + i)))
+    ∙ get_or-drop (b * s.size) (replicate (s.n * s.size) 0) i 0 ∙ zeros_at (s.n * s.size) (b * s.size + i)))
     ∙ ap (λ (z : List ℕ). take s.size (drop (b * s.size) z))
-    (sym (coded-of-zeros s.n s.m s.size g.code.size_low))
+    (sym (coded_of_zeros s.n s.m s.size g.code.size_low))
   where
     long : length {A = ℕ} (take s.size (drop (b * s.size) (replicate (s.n * s.size) 0))) ≡ s.size
     long =
@@ -64,58 +64,58 @@ zero-block s g b l =
         let q = suc-mul b s.size in
         omega arith)
 
-pub zero-stripe : (s : Settings) (g : SettingsRange s) → Stripe s.m s.size (replicate (s.m * s.size) 0)
-zero-stripe s g =
+pub zero_stripe_lem : (s : Settings) (g : SettingsRange s) → Stripe s.m s.size (replicate (s.m * s.size) 0)
+zero_stripe_lem s g =
     record {
       pos = g.code.size_low;
       length-is = length-replicate (s.m * s.size) 0;
-      small = λ i. let z = zeros-at (s.m * s.size) i in omega arith;
+      small = λ i. let z = zeros_at (s.m * s.size) i in omega arith;
     }
 
 module _ (s : Settings) (g : SettingsRange s) where
   -- the zero block of brick b is that of the zero stripe
-  fresh-zero : (b : ℕ) → b < s.n → Means s [] 0 b (zeros s.size)
-  unfolding zeroStripe
-  fresh-zero b l =
+  fresh_zero : (b : ℕ) → b < s.n → Means s [] 0 b (zeros s.size)
+  unfolding zero_stripe
+  fresh_zero b l =
       record {
         full = replicate (s.m * s.size) 0;
         value = Val.fresh;
-        proper = zero-stripe s g;
-        coded = zero-list s.size ∙ zero-block s g b l;
+        proper = zero_stripe_lem s g;
+        coded = zero_list s.size ∙ zero_block s g b l;
       }
 
-  fresh-brick : (b : ℕ) → b < s.n → BrickInv s g [] b (freshBrick s)
-  fresh-brick b l =
+  fresh_brick_lem : (b : ℕ) → b < s.n → BrickInv s g [] b (fresh_brick s)
+  fresh_brick_lem b l =
       record {
-        bounded = λ t p. absurd (in-none p);
+        bounded = λ t p. absurd (in_none p);
         entries = λ j k.
-            let z : j ≡ 0 = omega (arith, k, fresh-count s) in
-            carried (ap (timeAt (freshBrick s)) z ∙ fresh-time s) (ap (meansAt (freshBrick s)) z ∙ fresh-means s) (inl refl, fresh-zero b l);
+            let z : j ≡ 0 = omega (arith, k, fresh_count s) in
+            carried (ap (time_at (fresh_brick s)) z ∙ fresh_time s) (ap (means_at (fresh_brick s)) z ∙ fresh_means s) (inl refl, fresh_zero b l);
         kept = λ u w. keep u w;
-        kept-zero = inl (0, omega (arith, fresh-count s), fresh-time s);
+        kept-zero = inl (0, omega (arith, fresh_count s), fresh_time s);
       }
     where
-      keep : (u : ℕ) → Stands {P = plain s} [] b u → LogHas (freshBrick s) u ⊎ Gone (quorums s g) {P = plain s} [] u
-      keep u (inl e) = inl (0, omega (arith, fresh-count s), fresh-time s ∙ sym e)
-      keep u (inr p) = absurd (in-none p)
+      keep : (u : ℕ) → Stands {P = plain s} [] b u → LogHas (fresh_brick s) u ⊎ Gone (quorums s g) {P = plain s} [] u
+      keep u (inl e) = inl (0, omega (arith, fresh_count s), fresh_time s ∙ sym e)
+      keep u (inr p) = absurd (in_none p)
 
-  fresh-coordinator : (k c : ℕ) → CoordinatorInv s g [] [] c (viewed k (idle s c))
-  fresh-coordinator k c = subst (CoordinatorInv s g [] [] c) (sym (viewed-there k (idle s c) (λ n _. n (unfold idle idleWith noOp in refl)))) fresh
+  fresh_coordinator : (k c : ℕ) → CoordinatorInv s g [] [] c (viewed k (idle s c))
+  fresh_coordinator k c = subst (CoordinatorInv s g [] [] c) (sym (viewed_there k (idle s c) (λ n _. n (unfold idle idle_with no_op in refl)))) fresh
     where
       fresh : CoordinatorInv s g [] [] c
-          (record { state = idleWith (idle s c).state.geometry (idle s c).state.clock; blocks = (idle s c).blocks; stripe = (idle s c).stripe })
+          (record { state = idle_with (idle s c).state.geometry (idle s c).state.clock; blocks = (idle s c).blocks; stripe = (idle s c).stripe })
       fresh =
-          unfold idle idleWith noOp in
-          record { number = refl; used = λ t w m. absurd (in-none w.1); sized = none-sized; idle-is = λ e. refl; runs = λ n. absurd (n refl) }
+          unfold idle idle_with no_op in
+          record { number = refl; used = λ t w m. absurd (in_none w.1); sized = none_sized; idle-is = λ e. refl; runs = λ n. absurd (n refl) }
 
-  pub fresh_holds : (k : ℕ) → k < s.stripes → Inv s g k [] (unmoved s (freshSet s))
-  unfolding unmoved freshSet seen view itemsOn
+  pub fresh_holds : (k : ℕ) → k < s.stripes → Inv s g k [] (unmoved s (fresh_set s))
+  unfolding unmoved fresh_set seen view items_on
   fresh_holds k low =
       record {
         valid = start;
         seen-is = refl;
-        bricks = λ b l. record { state = freshBrick s; saved = fresh-row-at s g b k low; sound = fresh-sound s (in-range s g); keeps = fresh-brick b l };
+        bricks = λ b l. record { state = fresh_brick s; saved = fresh_row_at_lem s g b k low; sound = fresh_sound s (in_range_lem s g); keeps = fresh_brick_lem b l };
         items = λ i m. absurd (Memᴰ.not-nil m);
-        coordinators = fresh-coordinator k;
-        told = λ b t m. absurd (in-none m);
+        coordinators = fresh_coordinator k;
+        told = λ b t m. absurd (in_none m);
       }

@@ -8,30 +8,30 @@ use Prim.Native.Nat.{ℕ, ◌≤◌, ◌<◌}
 use lib.Dec.{eqb}
 use lib.ListN.{length, get_or}
 use Rattle.settings.specs.Ranges.{quorum, SettingsRange}
-use Rattle.settings.proofs.Laws.QuorumLaws.{quorum-twice}
-use Rattle.settings.specs.Times.{timeOf, coordinatorOf}
+use Rattle.settings.proofs.Laws.QuorumLaws.{quorum_twice}
+use Rattle.settings.specs.Times.{time_of, coordinator_of}
 use Rattle.settings.specs.declared.Settings.{Settings}
 use Rattle.byte_lists.specs.Each.{some}
 use Rattle.message.specs.Flags.{member}
-use Rattle.message.specs.Kinds.{readKind, orderKind, orderReadKind, orderBlockKind, writeKind, modifyKind, trimKind, dropKind, thirdRound}
-use Rattle.message.specs.Messages.{storesEntry}
+use Rattle.message.specs.Kinds.{read_kind, order_kind, order_read_kind, order_block_kind, write_kind, modify_kind, trim_kind, drop_kind, third_round}
+use Rattle.message.specs.Messages.{stores_entry}
 use Rattle.message.specs.declared.Message.{Message}
 use Rattle.message.specs.declared.Reply.{Reply}
-use Rattle.image.specs.Brick.{Brick, entryCount, timeAt, meansAt, Sound}
+use Rattle.image.specs.Brick.{Brick, entry_count, time_at, means_at, Sound}
 use Rattle.image.specs.Image.{image_of}
-use Rattle.erasure.specs.Code.{codedOf, block_of, withBlock, Stripe}
-use Rattle.coord_record.specs.Records.{idleKind, writingKind, writingBlockKind, targetCount, idleWith}
-use Rattle.coord_record.specs.CountedRules.{isTarget, blockRight}
+use Rattle.erasure.specs.Code.{coded_of, block_of, with_block, Stripe}
+use Rattle.coord_record.specs.Records.{idle_kind, writing_kind, writing_block_kind, target_count, idle_with}
+use Rattle.coord_record.specs.CountedRules.{is_target, block_right}
 use Rattle.coord_tally.specs.Counting.{highest}
 use Rattle.coord_apply.specs.Answers.{Buffered}
 use Rattle.coord_laws.specs.Soundness.{Sized}
-use Rattle.volume.specs.Rows.{imageAt}
+use Rattle.volume.specs.Rows.{image_at}
 use Rattle.order.specs.Claim.{Plain, Seen, ◌∈◌}
 use Rattle.order.specs.Facts.{began, promised, stored, showed, History, seen}
 use Rattle.order.specs.Places.{Suf, In}
 use Rattle.order.specs.Quorums.{Quorums}
 use Rattle.order.specs.Valid.{Began, Launched, Ended, PromisedUpTo, Val, Committed, Passed, Gone, Valid}
-use Rattle.register.specs.Runs.{plain, Item, message, reply, Moved, begunKind}
+use Rattle.register.specs.Runs.{plain, Item, message, reply, Moved, begun_kind}
 
 -- The quorums of a setting.
 abbrev pub quorums : (s : Settings) → SettingsRange s → Quorums
@@ -40,7 +40,7 @@ quorums s g =
       n = s.n;
       m = s.m;
       q = quorum s.n s.m;
-      share = quorum-twice s.n s.m g.code.m-high;
+      share = quorum_twice s.n s.m g.code.m-high;
       some = g.code.m-low;
     }
 
@@ -52,7 +52,7 @@ pub record Means (s : Settings) (h : Hist s) (t b : ℕ) (block : List ℕ) : Ty
   pub full : List ℕ
   pub value : Val h t full
   pub proper : Stripe s.m s.size full
-  pub coded : block ≡ block_of s.size (codedOf s.n s.m s.size full) b
+  pub coded : block ≡ block_of s.size (coded_of s.n s.m s.size full) b
 
 -- A brick has time t by itself: t is 0, or the brick stored it.
 abbrev pub Stands : {P : Plain} → History P → ℕ → ℕ → Type 0
@@ -60,14 +60,14 @@ Stands h b t = (t ≡ 0) ⊎ In (stored b t) h
 
 -- a time stands at some place of the log
 abbrev pub LogHas : Brick → ℕ → Type 0
-LogHas x u = (j : ℕ) × (j < entryCount x) × (timeAt x j ≡ u)
+LogHas x u = (j : ℕ) × (j < entry_count x) × (time_at x j ≡ u)
 
 -- Brick b, in the state x.
 pub record BrickInv (s : Settings) (g : SettingsRange s) (h : Hist s) (b : ℕ) (x : Brick) : Type 0 where
   -- its promise bounds what it promised
   pub bounded : PromisedUpTo h b x.promise
   -- the time at each place is 0 or stored, and the place means what its time stands for
-  pub entries : (j : ℕ) → j < entryCount x → Stands h b (timeAt x j) × Means s h (timeAt x j) b (meansAt x j)
+  pub entries : (j : ℕ) → j < entry_count x → Stands h b (time_at x j) × Means s h (time_at x j) b (means_at x j)
   -- what it stored is at some place of its log, or gone
   pub kept : (u : ℕ) → Stands h b u → LogHas x u ⊎ Gone (quorums s g) h u
   -- the fresh entry is there until a later time is committed
@@ -87,16 +87,16 @@ pub record Modifies (s : Settings) (h : Hist s) (msg : Message) (new old : List 
   pub proper : Stripe s.m s.size full
   pub piece : Piece s msg.block new
   pub old-is : old ≡ block_of s.size full msg.block
-  pub after : Val h msg.time (withBlock s.size full msg.block new)
+  pub after : Val h msg.time (with_block s.size full msg.block new)
 
 -- A message to brick b.
 pub record MessageInv (s : Settings) (g : SettingsRange s) (h : Hist s) (b : ℕ) (msg : Message) (block old : List ℕ) : Type 0 where
   pub brick-low : b < s.n
-  pub asks : msg.kind ≤ orderBlockKind → Began h msg.time
-  pub stores : msg.kind ≡ writeKind → Launched h msg.time × Means s h msg.time b block
-  pub modifies : msg.kind ≡ modifyKind → Modifies s h msg block old
-  pub trims : msg.kind ≡ trimKind → (0 < msg.time) × Committed (quorums s g) h msg.time
-  pub drops : msg.kind ≡ dropKind → (0 < msg.time) × Gone (quorums s g) h msg.time
+  pub asks : msg.kind ≤ order_block_kind → Began h msg.time
+  pub stores : msg.kind ≡ write_kind → Launched h msg.time × Means s h msg.time b block
+  pub modifies : msg.kind ≡ modify_kind → Modifies s h msg block old
+  pub trims : msg.kind ≡ trim_kind → (0 < msg.time) × Committed (quorums s g) h msg.time
+  pub drops : msg.kind ≡ drop_kind → (0 < msg.time) × Gone (quorums s g) h msg.time
 
 -- What a yes to Order-and-read says of all that the brick stored: for the max of some such message of that time and round that was sent.
 pub record Looked (s : Settings) (g : SettingsRange s) (h : Hist s) (sent : List Item) (r : Reply) : Type 0 where
@@ -104,7 +104,7 @@ pub record Looked (s : Settings) (g : SettingsRange s) (h : Hist s) (sent : List
   pub with-block : List ℕ
   pub with-old : List ℕ
   pub was-sent : message r.brick asked with-block with-old ∈ sent
-  pub kind-is : asked.kind ≡ orderReadKind
+  pub kind-is : asked.kind ≡ order_read_kind
   pub time-is : asked.time ≡ r.time
   pub round_is : asked.round ≡ r.round
   pub nothing-else : (u : ℕ) → u < r.time → u < asked.max → Stands h r.brick u
@@ -119,18 +119,18 @@ pub record Newest (s : Settings) (g : SettingsRange s) (h : Hist s) (r : Reply) 
 -- A reply that says yes.
 pub record ReplyInv (s : Settings) (g : SettingsRange s) (h : Hist s) (sent : List Item) (r : Reply) (block : List ℕ) : Type 0 where
   pub brick-low : r.brick < s.n
-  pub orders : r.yes ≡ true → r.kind ≡ orderKind → In (promised r.brick r.time) h
-  pub writes : r.yes ≡ true → r.kind ≡ writeKind → In (stored r.brick r.time) h
-  pub modifies : r.yes ≡ true → r.kind ≡ modifyKind → In (stored r.brick r.time) h
-  pub reads : r.yes ≡ true → r.kind ≡ readKind → In (showed r.brick r.time r.found) h
-  pub shows : r.yes ≡ true → r.kind ≡ readKind → r.held ≡ true → Means s h r.found r.brick block
-  pub looks : r.yes ≡ true → r.kind ≡ orderReadKind → In (promised r.brick r.time) h
-  pub finds : r.yes ≡ true → r.kind ≡ orderReadKind → r.held ≡ true
+  pub orders : r.yes ≡ true → r.kind ≡ order_kind → In (promised r.brick r.time) h
+  pub writes : r.yes ≡ true → r.kind ≡ write_kind → In (stored r.brick r.time) h
+  pub modifies : r.yes ≡ true → r.kind ≡ modify_kind → In (stored r.brick r.time) h
+  pub reads : r.yes ≡ true → r.kind ≡ read_kind → In (showed r.brick r.time r.found) h
+  pub shows : r.yes ≡ true → r.kind ≡ read_kind → r.held ≡ true → Means s h r.found r.brick block
+  pub looks : r.yes ≡ true → r.kind ≡ order_read_kind → In (promised r.brick r.time) h
+  pub finds : r.yes ≡ true → r.kind ≡ order_read_kind → r.held ≡ true
       → (r.found < r.time) × Stands h r.brick r.found × Means s h r.found r.brick block
-  pub looked : r.yes ≡ true → r.kind ≡ orderReadKind → Looked s g h sent r
-  pub joins : r.yes ≡ true → r.kind ≡ orderBlockKind → In (promised r.brick r.time) h
-  pub newest : r.yes ≡ true → r.kind ≡ orderBlockKind → Newest s g h r
-  pub lends : r.yes ≡ true → r.kind ≡ orderBlockKind → r.held ≡ true → Means s h r.found r.brick block
+  pub looked : r.yes ≡ true → r.kind ≡ order_read_kind → Looked s g h sent r
+  pub joins : r.yes ≡ true → r.kind ≡ order_block_kind → In (promised r.brick r.time) h
+  pub newest : r.yes ≡ true → r.kind ≡ order_block_kind → Newest s g h r
+  pub lends : r.yes ≡ true → r.kind ≡ order_block_kind → r.held ≡ true → Means s h r.found r.brick block
 
 abbrev pub ItemInv : (s : Settings) (g : SettingsRange s) → Hist s → List Item → Item → Type 0
 ItemInv s g h sent (message b msg block old) = MessageInv s g h b msg block old
@@ -151,14 +151,14 @@ pub record CountedInv (s : Settings) (sent : List Item) (k : Buffered) (b : ℕ)
   pub found-is : from.found ≡ get_or k.state.tally.found b 0
   pub said-is : from.comparison ≡ get_or k.state.tally.said b 0
   pub block-is : from.held ≡ true → block_of s.size k.blocks b ≡ block
-  pub right : blockRight k.state.op.phase (isTarget s.n (targetCount s.m k.state.op.kind) k.state.op.first b)
+  pub right : block_right k.state.op.phase (is_target s.n (target_count s.m k.state.op.kind) k.state.op.first b)
       from.yes from.held from.found ≡ true
 
 -- What was sent asks of an operation: an Order-and-read of its time is of an earlier round, or of this one with this max.
 abbrev pub Asked : List Item → (time round phase max : ℕ) → Type 0
 Asked sent time round phase max =
-    (b : ℕ) (msg : Message) (block old : List ℕ) → message b msg block old ∈ sent → msg.kind ≡ orderReadKind → msg.time ≡ time
-    → (msg.round ≤ round) × (msg.round ≡ round → (phase ≡ orderReadKind) × (msg.max ≡ max))
+    (b : ℕ) (msg : Message) (block old : List ℕ) → message b msg block old ∈ sent → msg.kind ≡ order_read_kind → msg.time ≡ time
+    → (msg.round ≤ round) × (msg.round ≡ round → (phase ≡ order_read_kind) × (msg.max ≡ max))
 
 -- An Order-and-read of a round after the second was sent for the operation of this time: its recovery tried a lower time.
 pub record Lowered (sent : List Item) (time : ℕ) : Type 0 where
@@ -167,9 +167,9 @@ pub record Lowered (sent : List Item) (time : ℕ) : Type 0 where
   pub block : List ℕ
   pub old : List ℕ
   pub was-sent : message brick asked block old ∈ sent
-  pub kind-is : asked.kind ≡ orderReadKind
+  pub kind-is : asked.kind ≡ order_read_kind
   pub time-is : asked.time ≡ time
-  pub late : thirdRound ≤ asked.round
+  pub late : third_round ≤ asked.round
 
 -- the highest time among the replies that hold a block
 abbrev pub top_of : Settings → Buffered → ℕ
@@ -177,41 +177,41 @@ top_of s k = highest k.state.tally.held k.state.tally.found s.n
 
 -- The running operation of coordinator c.
 pub record Running (s : Settings) (g : SettingsRange s) (h : Hist s) (sent : List Item) (c : ℕ) (k : Buffered) : Type 0 where
-  pub own : coordinatorOf k.state.op.time ≡ c
+  pub own : coordinator_of k.state.op.time ≡ c
   -- it began as what the record and the stripe beside it say
-  pub begun : In (began k.state.op.time (begunKind s k)) h
-  pub proper : k.state.op.kind ≡ writingKind → Stripe s.m s.size k.stripe
-  pub piece : k.state.op.kind ≡ writingBlockKind → Piece s k.state.op.first (block_of s.size k.stripe k.state.op.first)
+  pub begun : In (began k.state.op.time (begun_kind s k)) h
+  pub proper : k.state.op.kind ≡ writing_kind → Stripe s.m s.size k.stripe
+  pub piece : k.state.op.kind ≡ writing_block_kind → Piece s k.state.op.first (block_of s.size k.stripe k.state.op.first)
   pub unended : ¬ Ended h k.state.op.time
-  pub unsent : (k.state.op.phase ≡ writeKind → ⊥) → (k.state.op.phase ≡ modifyKind → ⊥) → ¬ Launched h k.state.op.time
+  pub unsent : (k.state.op.phase ≡ write_kind → ⊥) → (k.state.op.phase ≡ modify_kind → ⊥) → ¬ Launched h k.state.op.time
   pub counts : (b : ℕ) → member k.state.tally.counted b ≡ true → CountedInv s sent k b
   pub holds : (b : ℕ) → member k.state.tally.held b ≡ true → member k.state.tally.counted b ≡ true
   pub asked : Asked sent k.state.op.time k.state.op.round k.state.op.phase k.state.op.max
   -- a recovery past its first round has tried a lower time, and so has a store after that
-  pub looked-lower : k.state.op.phase ≡ orderReadKind → thirdRound ≤ k.state.op.round → Lowered sent k.state.op.time
-  pub stored-lower : k.state.op.phase ≡ writeKind → thirdRound < k.state.op.round → Lowered sent k.state.op.time
+  pub looked-lower : k.state.op.phase ≡ order_read_kind → third_round ≤ k.state.op.round → Lowered sent k.state.op.time
+  pub stored-lower : k.state.op.phase ≡ write_kind → third_round < k.state.op.round → Lowered sent k.state.op.time
   -- in a recovery, every time from its bound on is gone
-  pub cleared : k.state.op.phase ≡ orderReadKind → (u : ℕ) → k.state.op.max ≤ u → u < k.state.op.time → Gone (quorums s g) h u
+  pub cleared : k.state.op.phase ≡ order_read_kind → (u : ℕ) → k.state.op.max ≤ u → u < k.state.op.time → Gone (quorums s g) h u
   -- in a Write round, what is stored is what the operation's time stands for
-  pub storing : k.state.op.phase ≡ writeKind
+  pub storing : k.state.op.phase ≡ write_kind
       → Launched h k.state.op.time × Val h k.state.op.time k.stripe × Stripe s.m s.size k.stripe
   -- in a Modify round it was sent
-  pub modifying : k.state.op.phase ≡ modifyKind → Launched h k.state.op.time
+  pub modifying : k.state.op.phase ≡ modify_kind → Launched h k.state.op.time
 
 -- The clock of coordinator c: the times it used are at most its last.
 pub record ClockInv (s : Settings) (h : Hist s) (c : ℕ) (k : Buffered) : Type 0 where
   pub number : k.state.clock.coordinator ≡ c
-  pub used : (t : ℕ) → Began h t → coordinatorOf t ≡ c → t ≤ timeOf k.state.clock.last c
+  pub used : (t : ℕ) → Began h t → coordinator_of t ≡ c → t ≤ time_of k.state.clock.last c
 
 -- Coordinator c with its buffers.
 pub record CoordinatorInv (s : Settings) (g : SettingsRange s) (h : Hist s) (sent : List Item) (c : ℕ) (k : Buffered) : Type 0 where
   pub number : k.state.clock.coordinator ≡ c
   -- the times it used are at most its last
-  pub used : (t : ℕ) → Began h t → coordinatorOf t ≡ c → t ≤ timeOf k.state.clock.last c
+  pub used : (t : ℕ) → Began h t → coordinator_of t ≡ c → t ≤ time_of k.state.clock.last c
   pub sized : Sized k.state.tally
   -- without an operation, the record is that of its clock alone
-  pub idle-is : k.state.op.kind ≡ idleKind → k.state ≡ idleWith k.state.geometry k.state.clock
-  pub runs : (k.state.op.kind ≡ idleKind → ⊥) → Running s g h sent c k
+  pub idle-is : k.state.op.kind ≡ idle_kind → k.state ≡ idle_with k.state.geometry k.state.clock
+  pub runs : (k.state.op.kind ≡ idle_kind → ⊥) → Running s g h sent c k
 
 -- The image of brick b is the saved form of a brick that keeps its rules.
 pub record ImageInv (s : Settings) (g : SettingsRange s) (h : Hist s) (b : ℕ) (image : List ℕ) : Type 0 where
@@ -235,7 +235,7 @@ pub record ToldStored (sent : List Item) (b t : ℕ) : Type 0 where
   pub brick-is : from.brick ≡ b
   pub time-is : from.time ≡ t
   pub yes-is : from.yes ≡ true
-  pub kind-is : storesEntry from.kind ≡ true
+  pub kind-is : stores_entry from.kind ≡ true
 
 -- What holds of a view, with the history of the stripe so far.
 pub record ViewInv (s : Settings) (g : SettingsRange s) (h : Hist s) (v : View s) : Type 0 where
@@ -251,29 +251,29 @@ abbrev pub Goes : (s : Settings) (g : SettingsRange s) → Hist s → View s →
 Goes s g h v = (h' : Hist s) × Suf h h' × ViewInv s g h' v
 
 -- an item of this stripe
-unfoldable pub itemOn : ℕ → Item → Bool
-itemOn k (message b msg block old) = eqb msg.stripe k
-itemOn k (reply r block) = eqb r.stripe k
+unfoldable pub item_on : ℕ → Item → Bool
+item_on k (message b msg block old) = eqb msg.stripe k
+item_on k (reply r block) = eqb r.stripe k
 
-unfoldable pub itemsOn : ℕ → List Item → List Item
-itemsOn k [] = []
-itemsOn k (i ∷ is) = cond (itemOn k i) (i ∷ itemsOn k is) (itemsOn k is)
+unfoldable pub items_on : ℕ → List Item → List Item
+items_on k [] = []
+items_on k (i ∷ is) = cond (item_on k i) (i ∷ items_on k is) (items_on k is)
 
 -- a coordinator runs an operation of this stripe
-unfoldable pub runsOn : ℕ → Buffered → Bool
-runsOn k h = not (eqb h.state.op.kind idleKind) && eqb h.state.op.stripe k
+unfoldable pub runs_on : ℕ → Buffered → Bool
+runs_on k h = not (eqb h.state.op.kind idle_kind) && eqb h.state.op.stripe k
 
 -- A coordinator that runs on another stripe counts as idle here: of it only the clock matters.
 unfoldable pub viewed : ℕ → Buffered → Buffered
-viewed k h = cond (runsOn k h) h (record { state = idleWith h.state.geometry h.state.clock; blocks = h.blocks; stripe = h.stripe })
+viewed k h = cond (runs_on k h) h (record { state = idle_with h.state.geometry h.state.clock; blocks = h.blocks; stripe = h.stripe })
 
 -- the world as stripe k sees it
 unfoldable pub view : {s : Settings} → ℕ → Moved s → View s
 view {s} k r =
     record {
-      images = λ (b : ℕ). imageAt s k (r.world.images b);
+      images = λ (b : ℕ). image_at s k (r.world.images b);
       coordinators = λ (c : ℕ). viewed k (r.world.coordinators c);
-      sent = itemsOn k r.world.sent;
+      sent = items_on k r.world.sent;
       seen = r.seen k;
     }
 

@@ -7,40 +7,40 @@ use native.Mathlib.Omega.{arith}
 use lib.Dec.{eqb, leb}
 use lib.ListN.{length, replicate}
 use borrow.Author.Tests.{eqb-true, leb-false}
-use Rattle.settings.specs.Ranges.{in_range, codeRefusal, stripeCountRefusal}
-use Rattle.settings.proofs.Laws.RefusalLaws.{passed-rest}
+use Rattle.settings.specs.Ranges.{in_range, code_refusal, stripe_count_refusal}
+use Rattle.settings.proofs.Laws.RefusalLaws.{passed_rest}
 use Rattle.settings.specs.Refusal.{passed}
-use Rattle.settings.specs.Times.{lastCoordinator}
+use Rattle.settings.specs.Times.{last_coordinator}
 use Rattle.settings.specs.declared.Settings.{Settings}
-use Rattle.message.specs.Kinds.{writeKind, modifyKind, readKind, trimKind, dropKind}
-use Rattle.message.specs.Messages.{isSilent}
+use Rattle.message.specs.Kinds.{write_kind, modify_kind, read_kind, trim_kind, drop_kind}
+use Rattle.message.specs.Messages.{is_silent}
 use Rattle.message.specs.declared.Message.{Message}
 use Rattle.message.specs.declared.Reply.{Reply}
 use Rattle.image.specs.Brick.{Brick}
 use Rattle.image.specs.Image.{image_of}
 use Rattle.image.specs.Parse.{Parsed, Opens, Refuses, parse}
 use Rattle.brick.specs.Receive
-use Rattle.brick.specs.Receive.{Outcome, beside, outcome, receiveRefusal, refusedWith, givenBy}
+use Rattle.brick.specs.Receive.{Outcome, beside, outcome, receive_refusal, refused_with, given_by}
 use Rattle.brick.specs.declared.Given.TheVariants.{Answered, Silent}
-use Rattle.volume.specs.Rows.{imageAt, withImage, in_row, rowRefusal, rowOutcome}
-use Rattle.brick_log.specs.BrickRules.{placeFor, replyTo, trimmedTo, droppedFrom, writtenIfYes, modifiedIfYes, orderedIfYes, brickAfter, blockAfter}
-use Rattle.coord_record.specs.Records.{idleKind, noBricks, geometryOf, idleWith}
+use Rattle.volume.specs.Rows.{image_at, with_image, in_row, row_refusal, row_outcome}
+use Rattle.brick_log.specs.BrickRules.{place_for, reply_to, trimmed_to, dropped_from, written_if_yes, modified_if_yes, ordered_if_yes, brick_after, block_after}
+use Rattle.coord_record.specs.Records.{idle_kind, no_bricks, geometry_of, idle_with}
 use Rattle.coord_record.specs.declared.Geometry.{Geometry}
-use Rattle.coord_record.proofs.Laws.SoundPartLaws.{sound-parts}
+use Rattle.coord_record.proofs.Laws.SoundPartLaws.{sound_parts}
 use Rattle.coord_record.specs.declared.Coordinator.{Coordinator}
 use Rattle.coord_apply.specs.Acts.{ending, counting}
-use Rattle.coord_apply.specs.Answers.{Buffered, Went, Step, went, refused, afterChecks, nothingSeen, cutSeen, answer_of}
-use Rattle.coord_refusals.specs.Checks.{lengthsRight, takeRefusal, crashRefusal}
+use Rattle.coord_apply.specs.Answers.{Buffered, Went, Step, went, refused, after_checks, nothing_seen, cut_seen, answer_of}
+use Rattle.coord_refusals.specs.Checks.{lengths_right, take_refusal, crash_refusal}
 use Rattle.coord_laws.proofs.Laws.OpCaseLaws.{clash}
 use Rattle.coord_laws.proofs.Laws.SoundnessLaws.{passes}
-use Rattle.coord_refusals.proofs.Laws.RefusedLaws.{record-passes}
-use Rattle.coordinator.specs.Routines.{takeStep, crashed, crashStep}
-use Rattle.register.specs.Runs.{Event, repliedWith, run}
-use Rattle.register.specs.Driver.{holds, heldBlock}
+use Rattle.coord_refusals.proofs.Laws.RefusedLaws.{record_passes}
+use Rattle.coordinator.specs.Routines.{take_step, crashed, crash_step}
+use Rattle.register.specs.Runs.{Event, replied_with, run}
+use Rattle.register.specs.Driver.{holds, held_block}
 use Rattle.register.specs.Lending.{SameAnswer, LentBytesMakeNoDifference, UnheldBlocksMakeNoDifference, CrashIsIdleWith, AcceptedCrashIsIdleWith}
-use Rattle.coord_record.proofs.Laws.SoundPartLaws.{made-for}
-use Rattle.register.proofs.Laws.IdleRecordLaws.{idle-record}
-use Rattle.register.proofs.Laws.NeverRefusedLaws.{Rests, run-known, crashes-accepted}
+use Rattle.coord_record.proofs.Laws.SoundPartLaws.{made_for}
+use Rattle.register.proofs.Laws.IdleRecordLaws.{idle_record}
+use Rattle.register.proofs.Laws.NeverRefusedLaws.{Rests, run_known, crashes_accepted}
 
 -- the reply's buffer is written where a block is held
 held_out : (a t : Bool) (r : Reply) (out out' means : List ℕ) → r.held ≡ not t → holds (cond a Silent (Answered r)) ≡ true
@@ -51,35 +51,35 @@ held_out false true r out out' means e h = clash (sym e ∙ h)
 held_out false false r out out' means e h = refl
 
 -- the blocks lent beside a message: the same where it is a Write or Modify
-module _ (s : Settings) (b : ℕ) (msg : Message) (block block' old old' : List ℕ) (write : msg.kind ≡ writeKind → block ≡ block')
-    (modify : msg.kind ≡ modifyKind → (block ≡ block') × (old ≡ old')) where
+module _ (s : Settings) (b : ℕ) (msg : Message) (block block' old old' : List ℕ) (write : msg.kind ≡ write_kind → block ≡ block')
+    (modify : msg.kind ≡ modify_kind → (block ≡ block') × (old ≡ old')) where
   -- a brick keeps the block of a Write and what Modify makes of both, alone
-  brick-same : (x : Brick) → brickAfter s b x msg block old ≡ brickAfter s b x msg block' old'
-  unfolding brickAfter
-  brick-same x = go (eqb msg.kind trimKind) (eqb msg.kind dropKind) (eqb msg.kind writeKind) (eqb msg.kind modifyKind) refl refl
+  brick_same : (x : Brick) → brick_after s b x msg block old ≡ brick_after s b x msg block' old'
+  unfolding brick_after
+  brick_same x = go (eqb msg.kind trim_kind) (eqb msg.kind drop_kind) (eqb msg.kind write_kind) (eqb msg.kind modify_kind) refl refl
     where
       rest : Brick
-      rest = cond (eqb msg.kind readKind) x (orderedIfYes x msg.time)
+      rest = cond (eqb msg.kind read_kind) x (ordered_if_yes x msg.time)
 
-      go : (a f c d : Bool) → eqb msg.kind writeKind ≡ c → eqb msg.kind modifyKind ≡ d
-          → cond a (trimmedTo x msg.time) (cond f (droppedFrom x msg.time) (cond c (writtenIfYes s x msg.time block) (cond d (modifiedIfYes s b x msg block old) rest)))
-          ≡ cond a (trimmedTo x msg.time) (cond f (droppedFrom x msg.time) (cond c (writtenIfYes s x msg.time block') (cond d (modifiedIfYes s b x msg block' old') rest)))
+      go : (a f c d : Bool) → eqb msg.kind write_kind ≡ c → eqb msg.kind modify_kind ≡ d
+          → cond a (trimmed_to x msg.time) (cond f (dropped_from x msg.time) (cond c (written_if_yes s x msg.time block) (cond d (modified_if_yes s b x msg block old) rest)))
+          ≡ cond a (trimmed_to x msg.time) (cond f (dropped_from x msg.time) (cond c (written_if_yes s x msg.time block') (cond d (modified_if_yes s b x msg block' old') rest)))
       go true f c d ec ed = refl
       go false true c d ec ed = refl
-      go false false true d ec ed = ap (writtenIfYes s x msg.time) (write (eqb-true msg.kind writeKind ec))
-      go false false false true ec ed = let q = modify (eqb-true msg.kind modifyKind ed) in ap₂ (modifiedIfYes s b x msg) q.0 q.1
+      go false false true d ec ed = ap (written_if_yes s x msg.time) (write (eqb-true msg.kind write_kind ec))
+      go false false false true ec ed = let q = modify (eqb-true msg.kind modify_kind ed) in ap₂ (modified_if_yes s b x msg) q.0 q.1
       go false false false false ec ed = refl
 
-  opened-same : (image out out' : List ℕ) (p : Parsed)
+  opened_same : (image out out' : List ℕ) (p : Parsed)
       → SameAnswer (Receive.accepted s b msg block old image out p) (Receive.accepted s b msg block' old' image out' p)
-  unfolding Receive.accepted refusedWith holds
-  opened-same image out out' (Refuses number) = record { given_is = refl; image-is = refl; block-is = λ h. clash h }
-  opened-same image out out' (Opens x) =
+  unfolding Receive.accepted refused_with holds
+  opened_same image out out' (Refuses number) = record { given_is = refl; image-is = refl; block-is = λ h. clash h }
+  opened_same image out out' (Opens x) =
       record {
         given_is = refl;
-        image-is = ap (image_of s b) (brick-same x);
-        block-is = λ h. unfold givenBy replyTo blockAfter in
-            held_out (isSilent msg.kind) (eqb (placeFor b x msg) 0) (replyTo s b x msg) out out' _ refl h;
+        image-is = ap (image_of s b) (brick_same x);
+        block-is = λ h. unfold given_by reply_to block_after in
+            held_out (is_silent msg.kind) (eqb (place_for b x msg) 0) (reply_to s b x msg) out out' _ refl h;
       }
 
   module _ (out out' : List ℕ) (eb : length block ≡ length block') (eold : length old ≡ length old') (eo : length out ≡ length out') where
@@ -89,164 +89,164 @@ module _ (s : Settings) (b : ℕ) (msg : Message) (block block' old old' : List 
 
     -- of one image
     image_lent : (image : List ℕ) → SameAnswer (outcome s b image msg block old out) (outcome s b image msg block' old' out')
-    unfolding outcome refusedWith holds
+    unfolding outcome refused_with holds
     image_lent image =
-        subst (λ (k : ℕ). SameAnswer (by number block old out) (by k block' old' out')) (ap (receiveRefusal s b image msg) same_beside)
+        subst (λ (k : ℕ). SameAnswer (by number block old out) (by k block' old' out')) (ap (receive_refusal s b image msg) same_beside)
         (go (eqb number passed))
       where
         number : ℕ
-        number = receiveRefusal s b image msg (beside block old out)
+        number = receive_refusal s b image msg (beside block old out)
 
         by : ℕ → (block old out : List ℕ) → Outcome
-        by k block old out = cond (eqb k passed) (Receive.accepted s b msg block old image out (parse s b image)) (refusedWith k image out)
+        by k block old out = cond (eqb k passed) (Receive.accepted s b msg block old image out (parse s b image)) (refused_with k image out)
 
         go : (a : Bool)
-            → SameAnswer (cond a (Receive.accepted s b msg block old image out (parse s b image)) (refusedWith number image out))
-            (cond a (Receive.accepted s b msg block' old' image out' (parse s b image)) (refusedWith number image out'))
-        go true = opened-same image out out' (parse s b image)
+            → SameAnswer (cond a (Receive.accepted s b msg block old image out (parse s b image)) (refused_with number image out))
+            (cond a (Receive.accepted s b msg block' old' image out' (parse s b image)) (refused_with number image out'))
+        go true = opened_same image out out' (parse s b image)
         go false = record { given_is = refl; image-is = refl; block-is = λ h. clash h }
 
     -- of a brick's images in their row
-    row-lent : (images : List ℕ) → SameAnswer (rowOutcome s b images msg block old out) (rowOutcome s b images msg block' old' out')
-    unfolding rowOutcome in_row refusedWith holds
-    row-lent images =
-        subst (λ (k : ℕ). SameAnswer (by number block old out) (by k block' old' out')) (ap (rowRefusal s b images msg) same_beside)
+    row_lent : (images : List ℕ) → SameAnswer (row_outcome s b images msg block old out) (row_outcome s b images msg block' old' out')
+    unfolding row_outcome in_row refused_with holds
+    row_lent images =
+        subst (λ (k : ℕ). SameAnswer (by number block old out) (by k block' old' out')) (ap (row_refusal s b images msg) same_beside)
         (go (eqb number passed))
       where
         number : ℕ
-        number = rowRefusal s b images msg (beside block old out)
+        number = row_refusal s b images msg (beside block old out)
 
         acted : (block old out : List ℕ) → Outcome
-        acted block old out = outcome s b (imageAt s msg.stripe images) msg block old out
+        acted block old out = outcome s b (image_at s msg.stripe images) msg block old out
 
         by : ℕ → (block old out : List ℕ) → Outcome
-        by k block old out = cond (eqb k passed) (in_row s msg.stripe images (acted block old out)) (refusedWith k images out)
+        by k block old out = cond (eqb k passed) (in_row s msg.stripe images (acted block old out)) (refused_with k images out)
 
         go : (a : Bool)
-            → SameAnswer (cond a (in_row s msg.stripe images (acted block old out)) (refusedWith number images out))
-            (cond a (in_row s msg.stripe images (acted block' old' out')) (refusedWith number images out'))
+            → SameAnswer (cond a (in_row s msg.stripe images (acted block old out)) (refused_with number images out))
+            (cond a (in_row s msg.stripe images (acted block' old' out')) (refused_with number images out'))
         go true =
-            let i = image_lent (imageAt s msg.stripe images) in
-            record { given_is = i.given_is; image-is = ap (λ (l : List ℕ). withImage s msg.stripe l images) i.image-is; block-is = i.block-is }
+            let i = image_lent (image_at s msg.stripe images) in
+            record { given_is = i.given_is; image-is = ap (λ (l : List ℕ). with_image s msg.stripe l images) i.image-is; block-is = i.block-is }
         go false = record { given_is = refl; image-is = refl; block-is = λ h. clash h }
 
-pub lent-bytes-make-no-difference : LentBytesMakeNoDifference
-lent-bytes-make-no-difference s b images msg block block' old old' out out' eb eold eo write modify =
-    row-lent s b msg block block' old old' write modify out out' eb eold eo images
+pub lent_bytes_make_no_difference : LentBytesMakeNoDifference
+lent_bytes_make_no_difference s b images msg block block' old old' out out' eb eold eo write modify =
+    row_lent s b msg block block' old old' write modify out out' eb eold eo images
 
 -- with zeros in the reply's buffer, the block that goes with a reply is what lies there
-zeros-there : (s : Settings) (a t : Bool) (r : Reply) (means : List ℕ) → r.held ≡ not t
-    → repliedWith (cond a Silent (Answered r)) (heldBlock s (cond a Silent (Answered r)) (cond t (replicate s.size 0) means))
-    ≡ repliedWith (cond a Silent (Answered r)) (cond t (replicate s.size 0) means)
-unfolding repliedWith heldBlock holds
-zeros-there s true t r means e = refl
-zeros-there s false true r means e = rw e refl
-zeros-there s false false r means e = rw e refl
+zeros_there : (s : Settings) (a t : Bool) (r : Reply) (means : List ℕ) → r.held ≡ not t
+    → replied_with (cond a Silent (Answered r)) (held_block s (cond a Silent (Answered r)) (cond t (replicate s.size 0) means))
+    ≡ replied_with (cond a Silent (Answered r)) (cond t (replicate s.size 0) means)
+unfolding replied_with held_block holds
+zeros_there s true t r means e = refl
+zeros_there s false true r means e = rw e refl
+zeros_there s false false r means e = rw e refl
 
-opened-held : (s : Settings) (b : ℕ) (image : List ℕ) (msg : Message) (block old : List ℕ) (p : Parsed)
+opened_held : (s : Settings) (b : ℕ) (image : List ℕ) (msg : Message) (block old : List ℕ) (p : Parsed)
     → let o = Receive.accepted s b msg block old image (replicate s.size 0) p in
-    repliedWith o.given (heldBlock s o.given o.out) ≡ repliedWith o.given o.out
-unfolding Receive.accepted refusedWith repliedWith
-opened-held s b image msg block old (Refuses number) = refl
-opened-held s b image msg block old (Opens x) =
-    unfold givenBy replyTo blockAfter in
-    zeros-there s (isSilent msg.kind) (eqb (placeFor b x msg) 0) (replyTo s b x msg) _ refl
+    replied_with o.given (held_block s o.given o.out) ≡ replied_with o.given o.out
+unfolding Receive.accepted refused_with replied_with
+opened_held s b image msg block old (Refuses number) = refl
+opened_held s b image msg block old (Opens x) =
+    unfold given_by reply_to block_after in
+    zeros_there s (is_silent msg.kind) (eqb (place_for b x msg) 0) (reply_to s b x msg) _ refl
 
-image-held : (s : Settings) (b : ℕ) (image : List ℕ) (msg : Message) (block old : List ℕ)
+image_held : (s : Settings) (b : ℕ) (image : List ℕ) (msg : Message) (block old : List ℕ)
     → let o = outcome s b image msg block old (replicate s.size 0) in
-    repliedWith o.given (heldBlock s o.given o.out) ≡ repliedWith o.given o.out
-unfolding outcome refusedWith repliedWith
-image-held s b image msg block old = go (eqb number passed)
+    replied_with o.given (held_block s o.given o.out) ≡ replied_with o.given o.out
+unfolding outcome refused_with replied_with
+image_held s b image msg block old = go (eqb number passed)
   where
     out : List ℕ
     out = replicate s.size 0
 
     number : ℕ
-    number = receiveRefusal s b image msg (beside block old out)
+    number = receive_refusal s b image msg (beside block old out)
 
     go : (a : Bool)
-        → let o = cond a (Receive.accepted s b msg block old image out (parse s b image)) (refusedWith number image out) in
-        repliedWith o.given (heldBlock s o.given o.out) ≡ repliedWith o.given o.out
-    go true = opened-held s b image msg block old (parse s b image)
+        → let o = cond a (Receive.accepted s b msg block old image out (parse s b image)) (refused_with number image out) in
+        replied_with o.given (held_block s o.given o.out) ≡ replied_with o.given o.out
+    go true = opened_held s b image msg block old (parse s b image)
     go false = refl
 
-pub zeros-held : (s : Settings) (b : ℕ) (images : List ℕ) (msg : Message) (block old : List ℕ)
-    → let o = rowOutcome s b images msg block old (replicate s.size 0) in
-    repliedWith o.given (heldBlock s o.given o.out) ≡ repliedWith o.given o.out
-unfolding rowOutcome in_row refusedWith repliedWith
-zeros-held s b images msg block old = go (eqb number passed)
+pub zeros_held : (s : Settings) (b : ℕ) (images : List ℕ) (msg : Message) (block old : List ℕ)
+    → let o = row_outcome s b images msg block old (replicate s.size 0) in
+    replied_with o.given (held_block s o.given o.out) ≡ replied_with o.given o.out
+unfolding row_outcome in_row refused_with replied_with
+zeros_held s b images msg block old = go (eqb number passed)
   where
     out : List ℕ
     out = replicate s.size 0
 
     number : ℕ
-    number = rowRefusal s b images msg (beside block old out)
+    number = row_refusal s b images msg (beside block old out)
 
     go : (a : Bool)
-        → let o = cond a (in_row s msg.stripe images (outcome s b (imageAt s msg.stripe images) msg block old out)) (refusedWith number images out) in
-        repliedWith o.given (heldBlock s o.given o.out) ≡ repliedWith o.given o.out
-    go true = image-held s b (imageAt s msg.stripe images) msg block old
+        → let o = cond a (in_row s msg.stripe images (outcome s b (image_at s msg.stripe images) msg block old out)) (refused_with number images out) in
+        replied_with o.given (held_block s o.given o.out) ≡ replied_with o.given o.out
+    go true = image_held s b (image_at s msg.stripe images) msg block old
     go false = refl
 
-pub unheld-blocks-make-no-difference : UnheldBlocksMakeNoDifference
-unfolding takeStep takeRefusal lengthsRight counting
-unheld-blocks-make-no-difference n m size stripes k r block block' coded same = go r.held refl
+pub unheld_blocks_make_no_difference : UnheldBlocksMakeNoDifference
+unfolding take_step take_refusal lengths_right counting
+unheld_blocks_make_no_difference n m size stripes k r block block' coded same = go r.held refl
   where
-    go : (a : Bool) → r.held ≡ a → takeStep n m size stripes k r block coded ≡ takeStep n m size stripes k r block' coded
-    go true e = ap (λ (z : List ℕ). takeStep n m size stripes k r z coded) (same e)
+    go : (a : Bool) → r.held ≡ a → take_step n m size stripes k r block coded ≡ take_step n m size stripes k r block' coded
+    go true e = ap (λ (z : List ℕ). take_step n m size stripes k r z coded) (same e)
     go false e = rw e refl
 
 -- checks that the answer does not show passed
-accepted-went : (c : Coordinator) (k : ℕ) (g : Went) → (answer_of c (afterChecks k (went g))).refusal ≡ passed → afterChecks k (went g) ≡ went g
-unfolding afterChecks answer_of
-accepted-went c k g = go (leb k 0) refl
+accepted_went : (c : Coordinator) (k : ℕ) (g : Went) → (answer_of c (after_checks k (went g))).refusal ≡ passed → after_checks k (went g) ≡ went g
+unfolding after_checks answer_of
+accepted_went c k g = go (leb k 0) refl
   where
     go : (a : Bool) → leb k 0 ≡ a → (answer_of c (cond a (went g) (refused k))).refusal ≡ passed → cond a (went g) (refused k) ≡ went g
     go true e q = refl
     go false e q = let z = leb-false k 0 e in absurd (omega (arith, z, q))
 
 -- a crash of a coordinator whose record, without an operation, is that of its clock alone
-crashed-idle : (n : ℕ) (k : Buffered) → Rests k.state → (crashed n k).next.state ≡ idleWith k.state.geometry k.state.clock
+crashed_idle : (n : ℕ) (k : Buffered) → Rests k.state → (crashed n k).next.state ≡ idle_with k.state.geometry k.state.clock
 unfolding crashed ending
-crashed-idle n k idle = go (eqb k.state.op.kind idleKind) refl
+crashed_idle n k idle = go (eqb k.state.op.kind idle_kind) refl
   where
-    go : (a : Bool) → eqb k.state.op.kind idleKind ≡ a
-        → (cond a (record { next = k; sent = []; seen = nothingSeen }) (ending n k k.stripe [] cutSeen noBricks)
-        ).next.state ≡ idleWith k.state.geometry k.state.clock
-    go true e = idle (eqb-true k.state.op.kind idleKind e)
+    go : (a : Bool) → eqb k.state.op.kind idle_kind ≡ a
+        → (cond a (record { next = k; sent = []; seen = nothing_seen }) (ending n k k.stripe [] cut_seen no_bricks)
+        ).next.state ≡ idle_with k.state.geometry k.state.clock
+    go true e = idle (eqb-true k.state.op.kind idle_kind e)
     go false e = refl
 
-module _ (s : Settings) (e : in_range s ≡ true) (events : List Event) (c : ℕ) (l : c ≤ lastCoordinator) where
+module _ (s : Settings) (e : in_range s ≡ true) (events : List Event) (c : ℕ) (l : c ≤ last_coordinator) where
   abbrev k : Buffered
   k = (run s events).world.coordinators c
 
   -- no crash of a run is refused
-  pub crash-goes-on : crashStep s.n s.m s.size s.stripes k ≡ went (crashed s.n k)
-  unfolding crashStep
-  crash-goes-on = accepted-went k.state (crashRefusal s.n s.m s.size s.stripes k.state) (crashed s.n k) (crashes-accepted s e events c l)
+  pub crash_goes_on : crash_step s.n s.m s.size s.stripes k ≡ went (crashed s.n k)
+  unfolding crash_step
+  crash_goes_on = accepted_went k.state (crash_refusal s.n s.m s.size s.stripes k.state) (crashed s.n k) (crashes_accepted s e events c l)
 
-  pub crash-leaves : (crashed s.n k).next.state ≡ idleWith (geometryOf s) (record { coordinator = c; last = k.state.clock.last })
-  unfolding geometryOf
-  crash-leaves =
-      let i = run-known s e events c l in
-      crashed-idle s.n k i.rests
-      ∙ ap₂ (λ (g : Geometry) (j : ℕ). idleWith g (record { coordinator = j; last = k.state.clock.last }))
-      (made-for s.n s.m s.size s.stripes k.state.geometry i.good.parts.made-for) i.number
+  pub crash_leaves : (crashed s.n k).next.state ≡ idle_with (geometry_of s) (record { coordinator = c; last = k.state.clock.last })
+  unfolding geometry_of
+  crash_leaves =
+      let i = run_known s e events c l in
+      crashed_idle s.n k i.rests
+      ∙ ap₂ (λ (g : Geometry) (j : ℕ). idle_with g (record { coordinator = j; last = k.state.clock.last }))
+      (made_for s.n s.m s.size s.stripes k.state.geometry i.good.parts.made-for) i.number
 
-pub crash-is-idle-with : CrashIsIdleWith
+pub crash_is_idle_with : CrashIsIdleWith
 unfolding answer_of
-crash-is-idle-with s e events c l =
-    ap (λ (p : Step). (answer_of ((run s events).world.coordinators c).state p).next) (crash-goes-on s e events c l) ∙ crash-leaves s e events c l
+crash_is_idle_with s e events c l =
+    ap (λ (p : Step). (answer_of ((run s events).world.coordinators c).state p).next) (crash_goes_on s e events c l) ∙ crash_leaves s e events c l
 
 -- what a crash that is not refused gives, of any record
-pub accepted-crash-is-idle-with : AcceptedCrashIsIdleWith
-unfolding crashStep answer_of crashRefusal
-accepted-crash-is-idle-with n m size stripes k z e =
-    let refusal = crashRefusal n m size stripes k.state in
-    let went_on = accepted-went k.state refusal (crashed n k) e in
-    let rest = passed-rest (stripeCountRefusal stripes) _ (passed-rest (codeRefusal n m size) _ (passes refusal (went (crashed n k)) (crashed n k) went_on).0) in
-    let sound = sound-parts n m size stripes k.state (record-passes n m size stripes k.state [] rest).0.is-sound in
-    let same = made-for n m size stripes k.state.geometry sound.made-for in
+pub accepted_crash_is_idle_with : AcceptedCrashIsIdleWith
+unfolding crash_step answer_of crash_refusal
+accepted_crash_is_idle_with n m size stripes k z e =
+    let refusal = crash_refusal n m size stripes k.state in
+    let went_on = accepted_went k.state refusal (crashed n k) e in
+    let rest = passed_rest (stripe_count_refusal stripes) _ (passed_rest (code_refusal n m size) _ (passes refusal (went (crashed n k)) (crashed n k) went_on).0) in
+    let sound = sound_parts n m size stripes k.state (record_passes n m size stripes k.state [] rest).0.is-sound in
+    let same = made_for n m size stripes k.state.geometry sound.made-for in
     ap (λ (p : Step). (answer_of k.state p).next) went_on
-    ∙ crashed-idle n k (λ i. idle-record n m size stripes k.state sound z i ∙ ap (λ (g : Geometry). idleWith g k.state.clock) (sym same))
-    ∙ ap (λ (g : Geometry). idleWith g k.state.clock) same
+    ∙ crashed_idle n k (λ i. idle_record n m size stripes k.state sound z i ∙ ap (λ (g : Geometry). idle_with g k.state.clock) (sym same))
+    ∙ ap (λ (g : Geometry). idle_with g k.state.clock) same

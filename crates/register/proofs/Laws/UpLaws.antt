@@ -5,10 +5,10 @@ use mathlib.Core.Bool.{true}
 use mathlib.Core.List.Memᴰ
 use mathlib.Core.List.{List, ◌∷◌, ◌++◌}
 use Prim.Native.Nat.{ℕ, ◌≤◌, ◌<◌}
-use Rattle.settings.specs.Times.{coordinatorOf}
+use Rattle.settings.specs.Times.{coordinator_of}
 use Rattle.settings.specs.Ranges.{SettingsRange}
 use Rattle.settings.specs.declared.Settings.{Settings}
-use Rattle.message.specs.Kinds.{orderReadKind, writeKind, modifyKind}
+use Rattle.message.specs.Kinds.{order_read_kind, write_kind, modify_kind}
 use Rattle.message.specs.declared.Message.{Message}
 use Rattle.message.specs.declared.Reply.{Reply}
 use Rattle.image.specs.Brick.{Brick}
@@ -16,12 +16,12 @@ use Rattle.coord_apply.specs.Answers.{Buffered}
 use Rattle.order.specs.Claim.{Plain, ◌∈◌}
 use Rattle.order.specs.Facts.{Fact, began, promised, launched, stored, showed, ended, History}
 use Rattle.order.specs.Places.{Suf, whole, above, In}
-use Rattle.order.proofs.Laws.PlaceLaws.{suf-cons, in-suf, in-above}
+use Rattle.order.proofs.Laws.PlaceLaws.{suf_cons, in_suf, in_above}
 use Rattle.order.specs.Valid.{Began, Passed, Gone, Valid}
-use Rattle.order.proofs.Laws.FactLaws.{committed-up, passed-up}
-use Rattle.order.proofs.Laws.StoredLaws.{stored-before}
-use Rattle.order.proofs.Laws.GoneLaws.{gone-up}
-use Rattle.order.proofs.Laws.ValueLaws.{val-up}
+use Rattle.order.proofs.Laws.FactLaws.{committed_up, passed_up}
+use Rattle.order.proofs.Laws.StoredLaws.{stored_before}
+use Rattle.order.proofs.Laws.GoneLaws.{gone_up}
+use Rattle.order.proofs.Laws.ValueLaws.{val_up}
 use Rattle.register.specs.Runs.{plain, Item, message, reply}
 use Rattle.register.proofs.Laws.Invariant.{quorums, Hist, Means, Stands, BrickInv, Modifies, MessageInv, Looked, Newest, ReplyInv, ItemInv, CountedInv, Lowered}
 use Rattle.register.proofs.Laws.Invariant.{Running, CoordinatorInv, LogHas, ToldStored}
@@ -34,8 +34,8 @@ pub within_more : (a b : List Item) → Within a (a ++ b)
 within_more a b i m = Memᴰ.append_left b m
 
 -- a fact of a longer history is its newest, or stood there before
-pub in-cons : {P : Plain} {f g : Fact P} {h : History P} → In f (g ∷ h) → (f ≡ g) ⊎ In f h
-in-cons {P} {f} {g} {h} i = go (suf-cons i.1)
+pub in_cons : {P : Plain} {f g : Fact P} {h : History P} → In f (g ∷ h) → (f ≡ g) ⊎ In f h
+in_cons {P} {f} {g} {h} i = go (suf_cons i.1)
   where
     go : (f ∷ i.0 ≡ g ∷ h) ⊎ Suf (f ∷ i.0) h → (f ≡ g) ⊎ In f h
     go (inl e) = inl (cc)
@@ -43,38 +43,38 @@ in-cons {P} {f} {g} {h} i = go (suf-cons i.1)
 
 pub stands_up : {P : Plain} {a h : History P} {b t : ℕ} → Suf a h → Stands a b t → Stands h b t
 stands_up q (inl e) = inl e
-stands_up q (inr i) = inr (in-suf q i)
+stands_up q (inr i) = inr (in_suf q i)
 
 module _ {s : Settings} where
-  pub means-up : {a h : Hist s} {t b : ℕ} {block : List ℕ} → Suf a h → Means s a t b block → Means s h t b block
-  means-up q x = record { full = x.full; value = val-up q x.value; proper = x.proper; coded = x.coded }
+  pub means_up : {a h : Hist s} {t b : ℕ} {block : List ℕ} → Suf a h → Means s a t b block → Means s h t b block
+  means_up q x = record { full = x.full; value = val_up q x.value; proper = x.proper; coded = x.coded }
 
-  modifies-up : {a h : Hist s} {msg : Message} {block old : List ℕ} → Suf a h → Modifies s a msg block old → Modifies s h msg block old
-  modifies-up q x =
+  modifies_up : {a h : Hist s} {msg : Message} {block old : List ℕ} → Suf a h → Modifies s a msg block old → Modifies s h msg block old
+  modifies_up q x =
       record {
-        sent = (x.sent.0, in-suf q x.sent.1);
+        sent = (x.sent.0, in_suf q x.sent.1);
         full = x.full;
-        value = val-up q x.value;
+        value = val_up q x.value;
         proper = x.proper;
         piece = x.piece;
         old-is = x.old-is;
-        after = val-up q x.after;
+        after = val_up q x.after;
       }
 
 module _ {s : Settings} {g : SettingsRange s} {a h : Hist s} (v : Valid (quorums s g) h) (q : Suf a h) where
-  pub message-up : {b : ℕ} {msg : Message} {block old : List ℕ} → MessageInv s g a b msg block old → MessageInv s g h b msg block old
-  message-up x =
+  pub message_up : {b : ℕ} {msg : Message} {block old : List ℕ} → MessageInv s g a b msg block old → MessageInv s g h b msg block old
+  message_up x =
       record {
         brick-low = x.brick-low;
-        asks = λ l. let w = x.asks l in (w.0, in-suf q w.1);
-        stores = λ e. let w = x.stores e in ((w.0.0, in-suf q w.0.1), means-up q w.1);
-        modifies = λ e. modifies-up q (x.modifies e);
-        trims = λ e. let w = x.trims e in (w.0, committed-up (quorums s g) q w.1);
-        drops = λ e. let w = x.drops e in (w.0, gone-up v q w.1);
+        asks = λ l. let w = x.asks l in (w.0, in_suf q w.1);
+        stores = λ e. let w = x.stores e in ((w.0.0, in_suf q w.0.1), means_up q w.1);
+        modifies = λ e. modifies_up q (x.modifies e);
+        trims = λ e. let w = x.trims e in (w.0, committed_up (quorums s g) q w.1);
+        drops = λ e. let w = x.drops e in (w.0, gone_up v q w.1);
       }
 
-  looked-up : {old new : List Item} {r : Reply} → Within old new → In (promised r.brick r.time) a → Looked s g a old r → Looked s g h new r
-  looked-up {old} {new} {r} w p x =
+  looked_up_lem : {old new : List Item} {r : Reply} → Within old new → In (promised r.brick r.time) a → Looked s g a old r → Looked s g h new r
+  looked_up_lem {old} {new} {r} w p x =
       record {
         asked = x.asked;
         with-block = x.with-block;
@@ -88,15 +88,15 @@ module _ {s : Settings} {g : SettingsRange s} {a h : Hist s} (v : Valid (quorums
     where
       before : (u : ℕ) → u < r.time → Stands h r.brick u → Stands a r.brick u
       before u l (inl e) = inl e
-      before u l (inr i) = inr (stored-before v q l p i)
+      before u l (inr i) = inr (stored_before v q l p i)
 
       go : (u : ℕ) → ((r.held ≡ true) × (u ≤ r.found)) ⊎ Gone (quorums s g) a u
           → ((r.held ≡ true) × (u ≤ r.found)) ⊎ Gone (quorums s g) h u
       go u (inl y) = inl y
-      go u (inr y) = inr (gone-up v q y)
+      go u (inr y) = inr (gone_up v q y)
 
-  newest-up : {r : Reply} → In (promised r.brick r.time) a → Newest s g a r → Newest s g h r
-  newest-up {r} p x =
+  newest_up : {r : Reply} → In (promised r.brick r.time) a → Newest s g a r → Newest s g h r
+  newest_up {r} p x =
       record {
         below = x.below;
         stands = stands_up q x.stands;
@@ -105,33 +105,33 @@ module _ {s : Settings} {g : SettingsRange s} {a h : Hist s} (v : Valid (quorums
     where
       before : (u : ℕ) → u < r.time → Stands h r.brick u → Stands a r.brick u
       before u l (inl e) = inl e
-      before u l (inr i) = inr (stored-before v q l p i)
+      before u l (inr i) = inr (stored_before v q l p i)
 
       go : (u : ℕ) → (u ≤ r.found) ⊎ Gone (quorums s g) a u → (u ≤ r.found) ⊎ Gone (quorums s g) h u
       go u (inl y) = inl y
-      go u (inr y) = inr (gone-up v q y)
+      go u (inr y) = inr (gone_up v q y)
 
-  pub reply-up : {old new : List Item} {r : Reply} {block : List ℕ} → Within old new → ReplyInv s g a old r block → ReplyInv s g h new r block
-  reply-up w x =
+  pub reply_up : {old new : List Item} {r : Reply} {block : List ℕ} → Within old new → ReplyInv s g a old r block → ReplyInv s g h new r block
+  reply_up w x =
       record {
         brick-low = x.brick-low;
-        orders = λ y k. in-suf q (x.orders y k);
-        writes = λ y k. in-suf q (x.writes y k);
-        modifies = λ y k. in-suf q (x.modifies y k);
-        reads = λ y k. in-suf q (x.reads y k);
-        shows = λ y k d. means-up q (x.shows y k d);
-        looks = λ y k. in-suf q (x.looks y k);
-        finds = λ y k d. let z = x.finds y k d in (z.0, stands_up q z.1, means-up q z.2);
-        looked = λ y k. looked-up w (x.looks y k) (x.looked y k);
-        joins = λ y k. in-suf q (x.joins y k);
-        newest = λ y k. newest-up (x.joins y k) (x.newest y k);
-        lends = λ y k d. means-up q (x.lends y k d);
+        orders = λ y k. in_suf q (x.orders y k);
+        writes = λ y k. in_suf q (x.writes y k);
+        modifies = λ y k. in_suf q (x.modifies y k);
+        reads = λ y k. in_suf q (x.reads y k);
+        shows = λ y k d. means_up q (x.shows y k d);
+        looks = λ y k. in_suf q (x.looks y k);
+        finds = λ y k d. let z = x.finds y k d in (z.0, stands_up q z.1, means_up q z.2);
+        looked = λ y k. looked_up_lem w (x.looks y k) (x.looked y k);
+        joins = λ y k. in_suf q (x.joins y k);
+        newest = λ y k. newest_up (x.joins y k) (x.newest y k);
+        lends = λ y k d. means_up q (x.lends y k d);
       }
 
-pub item-up : (s : Settings) (g : SettingsRange s) {a h : Hist s} {old new : List Item} → Valid (quorums s g) h → Suf a h → Within old new
+pub item_up : (s : Settings) (g : SettingsRange s) {a h : Hist s} {old new : List Item} → Valid (quorums s g) h → Suf a h → Within old new
     → (i : Item) → ItemInv s g a old i → ItemInv s g h new i
-item-up s g v q w (message b msg block old) x = message-up v q x
-item-up s g v q w (reply r block) x = reply-up v q w x
+item_up s g v q w (message b msg block old) x = message_up v q x
+item_up s g v q w (reply r block) x = reply_up v q w x
 
 -- The facts that concern what brick b promised and stored.
 abbrev pub AtBrick : {P : Plain} → ℕ → Fact P → Type 0
@@ -144,27 +144,27 @@ AtBrick b (ended t e) = ⊥
 
 -- The facts that concern the operations of coordinator c.
 abbrev pub AtCoordinator : {P : Plain} → ℕ → Fact P → Type 0
-AtCoordinator c (began t k) = coordinatorOf t ≡ c
+AtCoordinator c (began t k) = coordinator_of t ≡ c
 AtCoordinator c (promised b t) = ⊥
-AtCoordinator c (launched t s) = coordinatorOf t ≡ c
+AtCoordinator c (launched t s) = coordinator_of t ≡ c
 AtCoordinator c (stored b t) = ⊥
 AtCoordinator c (showed b t x) = ⊥
-AtCoordinator c (ended t e) = coordinatorOf t ≡ c
+AtCoordinator c (ended t e) = coordinator_of t ≡ c
 
 module _ {s : Settings} {g : SettingsRange s} {h : Hist s} {f : Fact (plain s)} (v : Valid (quorums s g) (f ∷ h)) where
   -- a brick after a fact that does not concern it
-  pub brick-up : {b : ℕ} {x : Brick} → (AtBrick b f → ⊥) → BrickInv s g h b x → BrickInv s g (f ∷ h) b x
-  brick-up {b} {x} other i =
+  pub brick_up : {b : ℕ} {x : Brick} → (AtBrick b f → ⊥) → BrickInv s g h b x → BrickInv s g (f ∷ h) b x
+  brick_up {b} {x} other i =
       record {
-        bounded = λ t p. bound t (in-cons p);
-        entries = λ j l. let w = i.entries j l in (stands_up (above whole) w.0, means-up (above whole) w.1);
+        bounded = λ t p. bound t (in_cons p);
+        entries = λ j l. let w = i.entries j l in (stands_up (above whole) w.0, means_up (above whole) w.1);
         kept = λ u w. keep u (i.kept u (before u w));
         kept-zero = fresh i.kept-zero;
       }
     where
       fresh : LogHas x 0 ⊎ Passed (quorums s g) h 0 → LogHas x 0 ⊎ Passed (quorums s g) (f ∷ h) 0
       fresh (inl w) = inl w
-      fresh (inr w) = inr (passed-up (quorums s g) (above whole) w)
+      fresh (inr w) = inr (passed_up (quorums s g) (above whole) w)
 
       bound : (t : ℕ) → (promised b t ≡ f) ⊎ In (promised b t) h → t ≤ x.promise
       bound t (inl e) = absurd (other (subst (AtBrick b) e refl))
@@ -176,64 +176,64 @@ module _ {s : Settings} {g : SettingsRange s} {h : Hist s} {f : Fact (plain s)} 
 
       before : (u : ℕ) → Stands (f ∷ h) b u → Stands h b u
       before u (inl e) = inl e
-      before u (inr p) = stood u (in-cons p)
+      before u (inr p) = stood u (in_cons p)
 
       keep : (u : ℕ) → LogHas x u ⊎ Gone (quorums s g) h u → LogHas x u ⊎ Gone (quorums s g) (f ∷ h) u
       keep u (inl w) = inl w
-      keep u (inr w) = inr (gone-up v (above whole) w)
+      keep u (inr w) = inr (gone_up v (above whole) w)
 
   -- a coordinator after a fact that does not concern it
-  running-up : {sent : List Item} {c : ℕ} {k : Buffered} → (AtCoordinator c f → ⊥) → Running s g h sent c k → Running s g (f ∷ h) sent c k
-  running-up {sent} {c} {k} other i =
+  running_up : {sent : List Item} {c : ℕ} {k : Buffered} → (AtCoordinator c f → ⊥) → Running s g h sent c k → Running s g (f ∷ h) sent c k
+  running_up {sent} {c} {k} other i =
       record {
         own = i.own;
-        begun = in-above i.begun;
+        begun = in_above i.begun;
         proper = i.proper;
         piece = i.piece;
-        unended = λ w. ended-not w.0 (in-cons w.1);
-        unsent = λ p o w. launched-not p o w.0 (in-cons w.1);
+        unended = λ w. ended-not w.0 (in_cons w.1);
+        unsent = λ p o w. launched-not p o w.0 (in_cons w.1);
         counts = i.counts;
         holds = i.holds;
         asked = i.asked;
         looked-lower = i.looked-lower;
         stored-lower = i.stored-lower;
-        cleared = λ p u l m. gone-up v (above whole) (i.cleared p u l m);
-        storing = λ p. let w = i.storing p in ((w.0.0, in-above w.0.1), val-up (above whole) w.1, w.2);
-        modifying = λ p. let w = i.modifying p in (w.0, in-above w.1);
+        cleared = λ p u l m. gone_up v (above whole) (i.cleared p u l m);
+        storing = λ p. let w = i.storing p in ((w.0.0, in_above w.0.1), val_up (above whole) w.1, w.2);
+        modifying = λ p. let w = i.modifying p in (w.0, in_above w.1);
       }
     where
       ended-not : (e : _) → (ended k.state.op.time e ≡ f) ⊎ In (ended k.state.op.time e) h → ⊥
       ended-not e (inl q) = other (subst (AtCoordinator c) q i.own)
       ended-not e (inr q) = i.unended (e, q)
 
-      launched-not : (k.state.op.phase ≡ writeKind → ⊥) → (k.state.op.phase ≡ modifyKind → ⊥) → (e : _)
+      launched-not : (k.state.op.phase ≡ write_kind → ⊥) → (k.state.op.phase ≡ modify_kind → ⊥) → (e : _)
           → (launched k.state.op.time e ≡ f) ⊎ In (launched k.state.op.time e) h → ⊥
       launched-not p o e (inl q) = other (subst (AtCoordinator c) q i.own)
       launched-not p o e (inr q) = i.unsent p o (e, q)
 
-  pub coordinator-up : {sent : List Item} {c : ℕ} {k : Buffered} → (AtCoordinator c f → ⊥) → CoordinatorInv s g h sent c k
+  pub coordinator_up : {sent : List Item} {c : ℕ} {k : Buffered} → (AtCoordinator c f → ⊥) → CoordinatorInv s g h sent c k
       → CoordinatorInv s g (f ∷ h) sent c k
-  coordinator-up {sent} {c} {k} other i =
+  coordinator_up {sent} {c} {k} other i =
       record {
         number = i.number;
-        used = λ t w m. i.used t (earlier t m w.0 (in-cons w.1)) m;
+        used = λ t w m. i.used t (earlier t m w.0 (in_cons w.1)) m;
         sized = i.sized;
         idle-is = i.idle-is;
-        runs = λ n. running-up other (i.runs n);
+        runs = λ n. running_up other (i.runs n);
       }
     where
-      earlier : (t : ℕ) → coordinatorOf t ≡ c → (o : _) → (began t o ≡ f) ⊎ In (began t o) h → Began h t
+      earlier : (t : ℕ) → coordinator_of t ≡ c → (o : _) → (began t o ≡ f) ⊎ In (began t o) h → Began h t
       earlier t m o (inl q) = absurd (other (subst (AtCoordinator c) q m))
       earlier t m o (inr q) = (o, q)
 
 -- what is sent anew is no Order-and-read of coordinator c
 abbrev pub QuietWorld : ℕ → List Item → List Item → Type 0
 QuietWorld c old new =
-    (b : ℕ) (msg : Message) (block before : List ℕ) → message b msg block before ∈ new → msg.kind ≡ orderReadKind → coordinatorOf msg.time ≡ c
+    (b : ℕ) (msg : Message) (block before : List ℕ) → message b msg block before ∈ new → msg.kind ≡ order_read_kind → coordinator_of msg.time ≡ c
     → message b msg block before ∈ old
 
-pub counted-sent : {s : Settings} {old new : List Item} {k : Buffered} {b : ℕ} → Within old new → CountedInv s old k b → CountedInv s new k b
-counted-sent w x =
+pub counted_sent : {s : Settings} {old new : List Item} {k : Buffered} {b : ℕ} → Within old new → CountedInv s old k b → CountedInv s new k b
+counted_sent w x =
     record {
       from = x.from;
       block = x.block;
@@ -251,17 +251,17 @@ counted-sent w x =
       right = x.right;
     }
 
-pub told-sent : {old new : List Item} {b t : ℕ} → Within old new → ToldStored old b t → ToldStored new b t
-told-sent w x =
+pub told_sent : {old new : List Item} {b t : ℕ} → Within old new → ToldStored old b t → ToldStored new b t
+told_sent w x =
     record { from = x.from; block = x.block; was-sent = w _ x.was-sent; brick-is = x.brick-is; time-is = x.time-is; yes-is = x.yes-is; kind-is = x.kind-is }
 
-pub lowered-sent : {old new : List Item} {time : ℕ} → Within old new → Lowered old time → Lowered new time
-lowered-sent w x =
+pub lowered_sent : {old new : List Item} {time : ℕ} → Within old new → Lowered old time → Lowered new time
+lowered_sent w x =
     record { brick = x.brick; asked = x.asked; block = x.block; old = x.old; was-sent = w _ x.was-sent; kind-is = x.kind-is; time-is = x.time-is; late = x.late }
 
-pub coordinator-sent : {s : Settings} {g : SettingsRange s} {h : Hist s} {old new : List Item} {c : ℕ} {k : Buffered} → Within old new → QuietWorld c old new
+pub coordinator_sent : {s : Settings} {g : SettingsRange s} {h : Hist s} {old new : List Item} {c : ℕ} {k : Buffered} → Within old new → QuietWorld c old new
     → CoordinatorInv s g h old c k → CoordinatorInv s g h new c k
-coordinator-sent {s} {g} {h} {old} {new} {c} {k} w quiet i = record { number = i.number; used = i.used; sized = i.sized; idle-is = i.idle-is; runs = λ n. go (i.runs n) }
+coordinator_sent {s} {g} {h} {old} {new} {c} {k} w quiet i = record { number = i.number; used = i.used; sized = i.sized; idle-is = i.idle-is; runs = λ n. go (i.runs n) }
   where
     go : Running s g h old c k → Running s g h new c k
     go r =
@@ -272,11 +272,11 @@ coordinator-sent {s} {g} {h} {old} {new} {c} {k} w quiet i = record { number = i
           piece = r.piece;
           unended = r.unended;
           unsent = r.unsent;
-          counts = λ b m. counted-sent w (r.counts b m);
+          counts = λ b m. counted_sent w (r.counts b m);
           holds = r.holds;
-          asked = λ b msg block before m e t. r.asked b msg block before (quiet b msg block before m e (ap coordinatorOf t ∙ r.own)) e t;
-          looked-lower = λ p l. lowered-sent w (r.looked-lower p l);
-          stored-lower = λ p l. lowered-sent w (r.stored-lower p l);
+          asked = λ b msg block before m e t. r.asked b msg block before (quiet b msg block before m e (ap coordinator_of t ∙ r.own)) e t;
+          looked-lower = λ p l. lowered_sent w (r.looked-lower p l);
+          stored-lower = λ p l. lowered_sent w (r.stored-lower p l);
           cleared = r.cleared;
           storing = r.storing;
           modifying = r.modifying;

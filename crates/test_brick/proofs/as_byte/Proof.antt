@@ -1,5 +1,5 @@
 use native.Mathlib.Omega.{arith}
-use Rattle.test_brick.proofs.Laws.BrickBoundaryLaws.{byte_small, byte-large}
+use Rattle.test_brick.proofs.Laws.BrickBoundaryLaws.{byte_small, byte_large}
 use borrow.Author.Rules.{rules}
 use Rattle.test_brick.proofs.as_byte.Statement.{statement}
 use Rattle.test_brick.proofs.as_byte.Tie as tie
@@ -14,7 +14,7 @@ cast-result-2 : tie.Need-overflow-cast-result-2
 cast-result-2 c = search rules
 
 returns-2 : tie.Need-returns-2
-returns-2 c = byte-large _ (omega arith)
+returns-2 c = byte_large _ (omega arith)
 
 pub as-byte-spec : {M : Type 1} → statement M
 as-byte-spec = tie.close (tie.spec cast-result returns cast-result-2 returns-2)

@@ -2,13 +2,13 @@ use borrow.Author.Rules.{rules}
 use native.Mathlib.Omega.{arith}
 use lib.ListN.{length, get_or}
 use Prim.Native.Nat.{ℕ, ◌+◌, ◌-◌, ◌≤◌}
-use Rattle.byte_lists.proofs.Laws.TabulateLaws.{Filled, filled_none, filled_more, filled-all}
-use Rattle.test_brick.specs.BrickBoundary.{asByte, asBytes}
+use Rattle.byte_lists.proofs.Laws.TabulateLaws.{Filled, filled_none, filled_more, filled_all}
+use Rattle.test_brick.specs.BrickBoundary.{as_byte, as_bytes}
 use Rattle.test_brick.proofs.as_bytes.Statement.{statement}
 use Rattle.test_brick.proofs.as_bytes.Tie as tie
 
 abbrev invariant-loop : tie.invariant-loop
-invariant-loop l at out₀ i₀ out i = Filled (λ (p : ℕ). asByte (get_or l (at + p) 0)) out₀ out i × (i ≤ length out₀)
+invariant-loop l at out₀ i₀ out i = Filled (λ (p : ℕ). as_byte (get_or l (at + p) 0)) out₀ out i × (i ≤ length out₀)
 
 abbrev decreases-loop : tie.decreases-loop
 decreases-loop l at out₀ i₀ out i = length out₀ - i
@@ -44,8 +44,8 @@ same_length : tie.Need-same-length invariant-loop decreases-loop
 same_length c = c.before.loop.invariant.0.size
 
 returns : tie.Need-returns invariant-loop decreases-loop
-unfolding asBytes
-returns c = filled-all _ _ _ _ c.before.loop.invariant.0 (omega arith)
+unfolding as_bytes
+returns c = filled_all _ _ _ _ c.before.loop.invariant.0 (omega arith)
 
 pub as-bytes-spec : {M : Type 1} → statement M
 as-bytes-spec =

@@ -1,8 +1,8 @@
 use mathlib.Core.Path.{◌≡◌}
 use native.Mathlib.Omega.{arith}
 use lib.ListN.{length, length-set}
-use Rattle.test_brick.specs.BrickBoundary.{pairLength}
-use Rattle.test_brick.proofs.Laws.BrickBoundaryLaws.{pair-long, entry_kept, entry-there, entry-refused}
+use Rattle.test_brick.specs.BrickBoundary.{pair_length}
+use Rattle.test_brick.proofs.Laws.BrickBoundaryLaws.{pair_long, entry_kept, entry_there, entry_refused}
 use borrow.Author.Rules.{rules}
 use Rattle.test_brick.proofs.brick_entry.Statement.{statement}
 use Rattle.test_brick.proofs.brick_entry.Tie as tie
@@ -23,8 +23,8 @@ place-of-requires : tie.Need-place-of-requires
 place-of-requires c κs = search rules
 
 -- where nothing is refused before, the buffer has two numbers
-long : (c : tie.Else1) → length c.before.before.before.before.args.found.now ≡ pairLength
-long c = pair-long _ c.before.before.before.before.args.found.now _ c.before.own-refusal.ensures c.if1.false
+long : (c : tie.Else1) → length c.before.before.before.before.args.found.now ≡ pair_length
+long c = pair_long _ c.before.before.before.before.args.found.now _ c.before.own-refusal.ensures c.if1.false
 
 slice-write-found : tie.Need-slice-write-found
 slice-write-found c = let l = long c.before.before.before.before.before in omega arith
@@ -41,13 +41,13 @@ same_length c = search rules
 returns-2 : tie.Need-returns-2
 returns-2 c =
     let whole = c.before.before.before.before.before in
-    entry-there _ _ _ whole.before.before.before.before.args.found.now _ whole.before.own-refusal.ensures _ _ _ _ whole.if1.false
+    entry_there _ _ _ whole.before.before.before.before.args.found.now _ whole.before.own-refusal.ensures _ _ _ _ whole.if1.false
     c.before.before.before.before.look.ensures c.before.before.seen.given.1 c.place_of.ensures
 
 returns-3 : tie.Need-returns-3
 returns-3 c =
     let whole = c.before.before.before.before in
-    entry-refused _ _ _ whole.before.before.before.before.args.found.now _ whole.before.own-refusal.ensures _ _ _ whole.if1.false
+    entry_refused _ _ _ whole.before.before.before.before.args.found.now _ whole.before.own-refusal.ensures _ _ _ whole.if1.false
     c.before.before.before.look.ensures c.before.seen2.given.1
 
 pub brick-entry-spec : {M : Type 1} → statement M

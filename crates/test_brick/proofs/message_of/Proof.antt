@@ -1,4 +1,4 @@
-use Rattle.test_brick.proofs.Laws.BrickBoundaryLaws.{message-is}
+use Rattle.test_brick.proofs.Laws.BrickBoundaryLaws.{message_is}
 use borrow.Author.Rules.{rules}
 use Rattle.test_brick.proofs.message_of.Statement.{statement}
 use Rattle.test_brick.proofs.message_of.Tie as tie
@@ -36,7 +36,7 @@ shared-slice-read-t20 c = search rules
 returns : tie.Need-returns
 returns c =
     let read = c.before.before.before.before.before.before.before in
-    message-is _ _ _ read.before.before.as_byte.ensures read.as_bytes.ensures
+    message_is _ _ _ read.before.before.as_byte.ensures read.as_bytes.ensures
 
 pub message-of-spec : {M : Type 1} → statement M
 message-of-spec =

@@ -1,4 +1,4 @@
-use Rattle.test_brick.proofs.Laws.BrickBoundaryLaws.{given-reply, given-silence, given-refusal}
+use Rattle.test_brick.proofs.Laws.BrickBoundaryLaws.{given_reply, given_silence, given_refusal}
 use borrow.Author.Rules.{rules}
 use Rattle.test_brick.proofs.put_given.Statement.{statement}
 use Rattle.test_brick.proofs.put_given.Tie as tie
@@ -19,13 +19,13 @@ same_length : tie.Need-same-length
 same_length c = search rules
 
 returns : tie.Need-returns
-returns c = given-reply _ _ _ _ c.before.before.before.before.before.g.given.1 c.before.before.put-reply.ensures
+returns c = given_reply _ _ _ _ c.before.before.before.before.before.g.given.1 c.before.before.put-reply.ensures
 
 returns-2 : tie.Need-returns-2
-returns-2 c = given-silence _ _ c.enum_told.given.1
+returns-2 c = given_silence _ _ c.enum_told.given.1
 
 returns-3 : tie.Need-returns-3
-returns-3 c = given-refusal _ _ _ c.before.g2.given.1
+returns-3 c = given_refusal _ _ _ c.before.g2.given.1
 
 pub put-given-spec : {M : Type 1} → statement M
 put-given-spec =

@@ -1,6 +1,6 @@
 use native.Mathlib.Omega.{arith}
 use lib.ListN.{length-set}
-use Rattle.test_brick.proofs.Laws.BrickBoundaryLaws.{reply-put}
+use Rattle.test_brick.proofs.Laws.BrickBoundaryLaws.{reply_put}
 use borrow.Author.Rules.{rules}
 use Rattle.test_brick.proofs.put_reply.Statement.{statement}
 use Rattle.test_brick.proofs.put_reply.Tie as tie
@@ -50,7 +50,7 @@ same_length c = search rules
 returns : tie.Need-returns
 returns c =
     let s = c.before.before.before.before.before in
-    reply-put s.args.reply.now s.args.r _ _ s.requires c.before.before.flag.ensures c.before.flag2.ensures
+    reply_put s.args.reply.now s.args.r _ _ s.requires c.before.before.flag.ensures c.before.flag2.ensures
 
 pub put-reply-spec : {M : Type 1} → statement M
 put-reply-spec =

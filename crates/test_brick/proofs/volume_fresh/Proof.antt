@@ -1,4 +1,4 @@
-use Rattle.test_brick.proofs.Laws.BrickBoundaryLaws.{fresh-is}
+use Rattle.test_brick.proofs.Laws.BrickBoundaryLaws.{fresh_is}
 use borrow.Author.Rules.{rules}
 use Rattle.test_brick.proofs.volume_fresh.Statement.{statement}
 use Rattle.test_brick.proofs.volume_fresh.Tie as tie
@@ -10,7 +10,7 @@ same_length : tie.Need-same-length
 same_length c = search rules
 
 returns : tie.Need-returns
-returns c = fresh-is _ _ _ _ c.before.before.write-fresh.ensures.0 c.before.before.write-fresh.ensures.1
+returns c = fresh_is _ _ _ _ c.before.before.write-fresh.ensures.0 c.before.before.write-fresh.ensures.1
 
 pub volume-fresh-spec : {M : Type 1} → statement M
 volume-fresh-spec = tie.close (tie.spec write-fresh-requires same_length returns)

@@ -2,8 +2,8 @@ use mathlib.Core.List.{[]}
 use mathlib.Core.Path.{ap, ◌∙◌}
 use lib.ListN.{length}
 use Rattle.coord_record.specs.declared.Coordinator.{Coordinator}
-use Rattle.coordinator.specs.Routines.{readCall}
-use Rattle.test_coordinator.proofs.Laws.CoordinatorBoundaryLaws.{Lengths, lengths, crossed-refused, crossed}
+use Rattle.coordinator.specs.Routines.{read_call}
+use Rattle.test_coordinator.proofs.Laws.CoordinatorBoundaryLaws.{Lengths, lengths, crossed_refused, crossed}
 use borrow.Author.Rules.{rules}
 use Rattle.test_coordinator.proofs.coord_start_read.Statement.{statement}
 use Rattle.test_coordinator.proofs.coord_start_read.Tie as tie
@@ -12,7 +12,7 @@ lent-refusal-requires : tie.Need-lent-refusal-requires
 lent-refusal-requires c κs = search rules
 
 returns : tie.Need-returns
-returns c = crossed-refused _ _ _ _ _ _ _ _ _ _ c.before.lent-refusal.ensures c.if1.true
+returns c = crossed_refused _ _ _ _ _ _ _ _ _ _ c.before.lent-refusal.ensures c.if1.true
 
 -- the four buffers have their lengths
 long : (c : tie.Else1) → Lengths (length c.before.before.before.before.before.before.args.numbers.now) (length c.before.before.before.before.before.before.args.bytes.now)
@@ -50,7 +50,7 @@ returns-2 c =
     let w = c.before.before.before.before.before.before.before.before.before.before.before.before.before.start-read.ensures [] [] [] in
     let p = c.before.before.before.before.before.before.before.before.put-answer.ensures in
     crossed _ _ _ _ _ _ _ _ _ _ _ _ _ _ _ _ whole.before.lent-refusal.ensures whole.if1.left
-    (w ∙ ap (λ (x : Coordinator). readCall s.n s.m s.size s.stripes x [] [] [] s.stripe-number s.reading s.first) q) p.0 p.1
+    (w ∙ ap (λ (x : Coordinator). read_call s.n s.m s.size s.stripes x [] [] [] s.stripe-number s.reading s.first) q) p.0 p.1
 
 pub coord-start-read-spec : {M : Type 1} → statement M
 coord-start-read-spec =

@@ -1,9 +1,9 @@
 use mathlib.Core.Path.{ap, ◌∙◌}
 use lib.ListN.{length}
 use Rattle.coord_record.specs.declared.Coordinator.{Coordinator}
-use Rattle.coordinator.specs.Routines.{takeCall}
-use Rattle.test_coordinator.specs.CoordinatorBoundary.{replyFor}
-use Rattle.test_coordinator.proofs.Laws.CoordinatorBoundaryLaws.{Lengths, lengths, crossed-refused, crossed}
+use Rattle.coordinator.specs.Routines.{take_call}
+use Rattle.test_coordinator.specs.CoordinatorBoundary.{reply_for}
+use Rattle.test_coordinator.proofs.Laws.CoordinatorBoundaryLaws.{Lengths, lengths, crossed_refused, crossed}
 use borrow.Author.Rules.{rules}
 use Rattle.test_coordinator.proofs.coord_take_reply.Statement.{statement}
 use Rattle.test_coordinator.proofs.coord_take_reply.Tie as tie
@@ -12,7 +12,7 @@ lent-refusal-requires : tie.Need-lent-refusal-requires
 lent-refusal-requires c κs = search rules
 
 returns : tie.Need-returns
-returns c = crossed-refused _ _ _ _ _ _ _ _ _ _ c.before.lent-refusal.ensures c.if1.true
+returns c = crossed_refused _ _ _ _ _ _ _ _ _ _ c.before.lent-refusal.ensures c.if1.true
 
 -- the four buffers have their lengths
 long : (c : tie.Else1) → Lengths (length c.before.before.before.before.before.before.before.before.before.before.args.numbers.now)
@@ -62,8 +62,8 @@ returns-2 c =
     let w = c.before.before.before.before.before.before.before.before.before.before.before.before.before.before.before.before.before.before.before.take-reply.ensures in
     let p = c.before.before.before.before.before.before.before.before.put-answer.ensures in
     crossed _ _ _ _ _ _ _ _ _ _ _ _ _ _ _ _ whole.before.lent-refusal.ensures whole.if1.left
-    (w ∙ ap (λ (x : Coordinator). takeCall s.n s.m s.size s.stripes x s.blocks.now s.stripe.now s.coded.now
-    (replyFor s.kind s.brick s.stripe-number s.time s.round s.yes s.found s.has s.comparison) s.block.now) q) p.0 p.1
+    (w ∙ ap (λ (x : Coordinator). take_call s.n s.m s.size s.stripes x s.blocks.now s.stripe.now s.coded.now
+    (reply_for s.kind s.brick s.stripe-number s.time s.round s.yes s.found s.has s.comparison) s.block.now) q) p.0 p.1
 
 pub coord-take-reply-spec : {M : Type 1} → statement M
 coord-take-reply-spec =

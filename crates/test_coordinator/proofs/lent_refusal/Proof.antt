@@ -1,4 +1,4 @@
-use Rattle.test_coordinator.proofs.Laws.CoordinatorBoundaryLaws.{lent-setting, lent-count, lent-passed, lent-short}
+use Rattle.test_coordinator.proofs.Laws.CoordinatorBoundaryLaws.{lent_setting, lent_count, lent_passed, lent_short}
 use borrow.Author.Rules.{rules}
 use Rattle.test_coordinator.proofs.lent_refusal.Statement.{statement}
 use Rattle.test_coordinator.proofs.lent_refusal.Tie as tie
@@ -7,22 +7,22 @@ code-refusal-requires : tie.Need-code-refusal-requires
 code-refusal-requires c κs = search rules
 
 returns : tie.Need-returns
-returns c = search (rules, lent-setting)
+returns c = search (rules, lent_setting)
 
 stripe-count-refusal-requires : tie.Need-stripe-count-refusal-requires
 stripe-count-refusal-requires c κs = search rules
 
 returns-2 : tie.Need-returns-2
-returns-2 c = search (rules, lent-count)
+returns-2 c = search (rules, lent_count)
 
 lent-right-requires : tie.Need-lent-right-requires
 lent-right-requires c κs = search rules
 
 returns-3 : tie.Need-returns-3
-returns-3 c = search (rules, lent-passed)
+returns-3 c = search (rules, lent_passed)
 
 returns-4 : tie.Need-returns-4
-returns-4 c = search (rules, lent-short)
+returns-4 c = search (rules, lent_short)
 
 pub lent-refusal-spec : {M : Type 1} → statement M
 lent-refusal-spec =

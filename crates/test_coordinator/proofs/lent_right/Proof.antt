@@ -1,19 +1,19 @@
 use borrow.Author.Rules.{rules}
-use Rattle.test_coordinator.proofs.Laws.CoordinatorBoundaryLaws.{lent-no-numbers, lent-no-bytes, lent-no-sent, lent-last}
+use Rattle.test_coordinator.proofs.Laws.CoordinatorBoundaryLaws.{lent_no_numbers, lent_no_bytes, lent_no_sent, lent_last}
 use Rattle.test_coordinator.proofs.lent_right.Statement.{statement}
 use Rattle.test_coordinator.proofs.lent_right.Tie as tie
 
 returns : tie.Need-returns
-returns c = search (rules, lent-no-numbers)
+returns c = search (rules, lent_no_numbers)
 
 returns-2 : tie.Need-returns-2
-returns-2 c = search (rules, lent-no-bytes)
+returns-2 c = search (rules, lent_no_bytes)
 
 returns-3 : tie.Need-returns-3
-returns-3 c = search (rules, lent-no-sent)
+returns-3 c = search (rules, lent_no_sent)
 
 returns-4 : tie.Need-returns-4
-returns-4 c = search (rules, lent-last)
+returns-4 c = search (rules, lent_last)
 
 pub lent-right-spec : {M : Type 1} → statement M
 lent-right-spec = tie.close (tie.spec returns returns-2 returns-3 returns-4)

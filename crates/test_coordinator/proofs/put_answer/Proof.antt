@@ -1,11 +1,11 @@
 use mathlib.Core.Path.{refl, sym}
-use Rattle.test_coordinator.proofs.Laws.CoordinatorBoundaryLaws.{laid-refused, laid-given}
+use Rattle.test_coordinator.proofs.Laws.CoordinatorBoundaryLaws.{laid_refused, laid_given}
 use borrow.Author.Rules.{rules}
 use Rattle.test_coordinator.proofs.put_answer.Statement.{statement}
 use Rattle.test_coordinator.proofs.put_answer.Tie as tie
 
 returns : tie.Need-returns
-returns c = (refl, laid-refused _ _ c.if1.true)
+returns c = (refl, laid_refused _ _ c.if1.true)
 
 put-numbers-requires : tie.Need-put-numbers-requires
 put-numbers-requires c κs = search rules
@@ -35,7 +35,7 @@ returns-2 : tie.Need-returns-2
 returns-2 c =
     let h = c.before.before.before.before.before.before.before.before.before.before.before.before.before.before.before.before.before.if1.false in (
       sym h,
-      laid-given _ _ _ _ _ _ h c.before.before.before.before.before.before.before.before.before.before.before.before.before.before.put-numbers.ensures
+      laid_given _ _ _ _ _ _ h c.before.before.before.before.before.before.before.before.before.before.before.before.before.before.put-numbers.ensures
           c.before.before.before.before.before.before.before.before.before.before.put-bytes.ensures
           c.before.before.before.before.before.before.put-sent.ensures c.before.before.put-shown.ensures,
     )

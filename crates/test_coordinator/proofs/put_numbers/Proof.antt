@@ -1,8 +1,8 @@
 use native.Mathlib.Omega.{arith}
 use lib.ListN.{length-set}
 use mathlib.Core.Path.{refl, ◌∙◌}
-use Rattle.test_coordinator.specs.CoordinatorBoundary.{recordNumbers}
-use Rattle.test_coordinator.proofs.Laws.CoordinatorBoundaryLaws.{numbers-are}
+use Rattle.test_coordinator.specs.CoordinatorBoundary.{record_numbers}
+use Rattle.test_coordinator.proofs.Laws.CoordinatorBoundaryLaws.{numbers_are}
 use borrow.Author.Rules.{rules}
 use Rattle.test_coordinator.proofs.put_numbers.Statement.{statement}
 use Rattle.test_coordinator.proofs.put_numbers.Tie as tie
@@ -47,10 +47,10 @@ same_length : tie.Need-same-length
 same_length c = c.before.before.put-times.auto.1.1.0 ∙ simp length-set refl
 
 returns : tie.Need-returns
-unfolding recordNumbers
+unfolding record_numbers
 returns c =
     let s = c.before.before.before.before.before.before.before.before.before.before in
-    numbers-are s.args.out.now s.args.c.clock.coordinator s.args.c.clock.last s.args.c.op.time s.args.c.op.round s.args.c.op.max s.args.c.op.first
+    numbers_are s.args.out.now s.args.c.clock.coordinator s.args.c.clock.last s.args.c.op.time s.args.c.op.round s.args.c.op.max s.args.c.op.first
     s.args.c.geometry.n s.args.c.geometry.m s.args.c.geometry.size s.args.c.geometry.stripes
     s.args.c.op.stripe s.args.c.tally.found _ s.requires c.before.before.put-times.ensures.0
 

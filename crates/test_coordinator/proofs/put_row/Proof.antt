@@ -1,5 +1,5 @@
 use mathlib.Core.Path.{refl}
-use Rattle.test_coordinator.proofs.Laws.CoordinatorBoundaryLaws.{row-put-is}
+use Rattle.test_coordinator.proofs.Laws.CoordinatorBoundaryLaws.{row_put_is}
 use borrow.Author.Rules.{rules}
 use Rattle.test_coordinator.proofs.put_row.Statement.{statement}
 use Rattle.test_coordinator.proofs.put_row.Tie as tie
@@ -26,7 +26,7 @@ same_length : tie.Need-same-length
 same_length c = search rules
 
 returns : tie.Need-returns
-returns c = (row-put-is _ _ _ _ _ refl c.before.before.copy.ensures, search rules)
+returns c = (row_put_is _ _ _ _ _ refl c.before.before.copy.ensures, search rules)
 
 pub put-row-spec : {M : Type 1} → statement M
 put-row-spec =

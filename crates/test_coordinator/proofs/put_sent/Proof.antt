@@ -1,8 +1,8 @@
 use native.Mathlib.Omega.{arith}
 use lib.ListN.{length-set}
 use mathlib.Core.Path.{refl}
-use Rattle.test_coordinator.specs.CoordinatorBoundary.{answerNumbers}
-use Rattle.test_coordinator.proofs.Laws.CoordinatorBoundaryLaws.{answer-stored}
+use Rattle.test_coordinator.specs.CoordinatorBoundary.{answer_numbers}
+use Rattle.test_coordinator.proofs.Laws.CoordinatorBoundaryLaws.{answer_stored}
 use borrow.Author.Rules.{rules}
 use Rattle.test_coordinator.proofs.put_sent.Statement.{statement}
 use Rattle.test_coordinator.proofs.put_sent.Tie as tie
@@ -59,8 +59,8 @@ same_length : tie.Need-same-length
 same_length c = simp length-set refl
 
 returns : tie.Need-returns
-unfolding answerNumbers
-returns c = answer-stored c.before.before.before.args.out.now _ _ _ _ _ _ _ _ _ _ _ _ _ _ _ _ c.before.before.before.requires
+unfolding answer_numbers
+returns c = answer_stored c.before.before.before.args.out.now _ _ _ _ _ _ _ _ _ _ _ _ _ _ _ _ c.before.before.before.requires
 
 pub put-sent-spec : {M : Type 1} → statement M
 put-sent-spec =

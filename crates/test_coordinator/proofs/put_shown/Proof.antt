@@ -1,8 +1,8 @@
 use native.Mathlib.Omega.{arith}
 use lib.ListN.{length, length-set}
 use mathlib.Core.Path.{◌≡◌, sym, ◌∙◌}
-use Rattle.test_coordinator.specs.CoordinatorBoundary.{answerBytesLength, answerBytes}
-use Rattle.test_coordinator.proofs.Laws.CoordinatorBoundaryLaws.{shown-are}
+use Rattle.test_coordinator.specs.CoordinatorBoundary.{answer_bytes_length, answer_bytes}
+use Rattle.test_coordinator.proofs.Laws.CoordinatorBoundaryLaws.{shown_are}
 use borrow.Author.Rules.{rules}
 use Rattle.test_coordinator.proofs.put_shown.Statement.{statement}
 use Rattle.test_coordinator.proofs.put_shown.Tie as tie
@@ -23,13 +23,13 @@ slice-write-out-5 : tie.Need-slice-write-out-5
 slice-write-out-5 c = simp length-set (omega arith)
 
 -- each row leaves the length
-long-1 : (c : tie.After-put-row) → length c.put-row.new.1.1.0 ≡ answerBytesLength
+long-1 : (c : tie.After-put-row) → length c.put-row.new.1.1.0 ≡ answer_bytes_length
 long-1 c = c.put-row.auto.1.1.0 ∙ simp length-set c.before.before.before.before.before.before.before.before.before.requires
 
-long-2 : (c : tie.After-put-row2) → length c.put-row2.new.1.1.0 ≡ answerBytesLength
+long-2 : (c : tie.After-put-row2) → length c.put-row2.new.1.1.0 ≡ answer_bytes_length
 long-2 c = c.put-row2.auto.1.1.0 ∙ long-1 c.before.before.before.before
 
-long-3 : (c : tie.After-put-row3) → length c.put-row3.new.1.1.0 ≡ answerBytesLength
+long-3 : (c : tie.After-put-row3) → length c.put-row3.new.1.1.0 ≡ answer_bytes_length
 long-3 c = c.put-row3.auto.1.1.0 ∙ long-2 c.before.before.before.before
 
 put-row-requires : tie.Need-put-row-requires
@@ -47,13 +47,13 @@ same_length c =
     ∙ sym c.before.before.before.before.before.before.before.before.before.before.before.before.before.before.before.before.before.before.before.requires
 
 returns : tie.Need-returns
-unfolding answerBytes
+unfolding answer_bytes
 returns c =
     let s = c.before.before.before.before.before.before.before.before.before.before.before.before.before.before.before.before.before.before.before in
     let w1 = c.before.before.before.before.before.before.before.before.before.before.put-row.ensures in
     let w2 = c.before.before.before.before.before.before.put-row2.ensures in
     let w3 = c.before.before.put-row3.ensures in
-    shown-are s.args.out.now s.args.a.message.kind s.args.a.seen.what s.args.a.seen.kind s.args.a.second.kind s.args.a.seen.letter
+    shown_are s.args.out.now s.args.a.message.kind s.args.a.seen.what s.args.a.seen.kind s.args.a.second.kind s.args.a.seen.letter
     s.args.a.message.targets s.args.a.seen.bricks s.args.a.second.targets _ _ _ s.requires w1.1 w2.1 w1.0 w2.0 w3.0
 
 pub put-shown-spec : {M : Type 1} → statement M

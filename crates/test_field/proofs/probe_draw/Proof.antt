@@ -1,12 +1,12 @@
-use Rattle.test_field.specs.FieldBoundary.{clockOf}
-use Rattle.test_field.proofs.Laws.FieldBoundaryLaws.{draw-short, draw-refused-at, draw-given-at}
+use Rattle.test_field.specs.FieldBoundary.{clock_of}
+use Rattle.test_field.proofs.Laws.FieldBoundaryLaws.{draw_short, draw_refused_at, draw_given_at}
 use borrow.Author.Rules.{rules}
 use native.Mathlib.Omega.{arith}
 use Rattle.test_field.proofs.probe_draw.Statement.{statement}
 use Rattle.test_field.proofs.probe_draw.Tie as tie
 
 returns : tie.Need-returns
-returns c = draw-short _ _ _ _ (λ e. omega (arith, c.if1.true, e))
+returns c = draw_short _ _ _ _ (λ e. omega (arith, c.if1.true, e))
 
 draw-requires : tie.Need-draw-requires
 draw-requires c κs = search rules
@@ -21,8 +21,8 @@ number-requires : tie.Need-number-requires
 number-requires c κs = search rules
 
 returns-2 : tie.Need-returns-2
-unfolding clockOf
-returns-2 c = search (rules, draw-refused-at)
+unfolding clock_of
+returns-2 c = search (rules, draw_refused_at)
 
 slice-write-out : tie.Need-slice-write-out
 slice-write-out c = search rules
@@ -34,8 +34,8 @@ same_length : tie.Need-same-length
 same_length c = search rules
 
 returns-3 : tie.Need-returns-3
-unfolding clockOf
-returns-3 c = search (rules, draw-given-at)
+unfolding clock_of
+returns-3 c = search (rules, draw_given_at)
 
 pub probe-draw-spec : {M : Type 1} → statement M
 probe-draw-spec =

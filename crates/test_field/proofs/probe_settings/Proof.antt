@@ -1,4 +1,4 @@
-use Rattle.test_field.specs.FieldBoundary.{settingsNumber}
+use Rattle.test_field.specs.FieldBoundary.{settings_number}
 use borrow.Author.Rules.{rules}
 use Rattle.test_field.proofs.probe_settings.Statement.{statement}
 use Rattle.test_field.proofs.probe_settings.Tie as tie
@@ -7,7 +7,7 @@ refusal-requires : tie.Need-refusal-requires
 refusal-requires c κs = search rules
 
 returns : tie.Need-returns
-unfolding settingsNumber
+unfolding settings_number
 returns c = c.refusal.ensures
 
 pub probe-settings-spec : {M : Type 1} → statement M

@@ -13,138 +13,138 @@ use Rattle.settings.specs.declared.Settings.{Settings}
 use Rattle.message.specs.declared.Message.{Message}
 use Rattle.byte_lists.specs.Lists.{put}
 use Rattle.byte_lists.proofs.Laws.PutLaws.{put_is}
-use Rattle.image.specs.Image.{imageSize}
-use Rattle.brick.specs.Receive.{Beside, beside, Outcome, outcomeWith, frontRefusal, refusedWith, outcome}
+use Rattle.image.specs.Image.{image_size}
+use Rattle.brick.specs.Receive.{Beside, beside, Outcome, outcome_with, front_refusal, refused_with, outcome}
 use Rattle.brick.specs.declared.Given.TheVariants.{Refused}
-use Rattle.brick.proofs.Laws.OutcomeLaws.{Fronted, fronted, ends-early}
-use Rattle.brick.proofs.Laws.OutcomeLengthLaws.{outcome-length}
-use Rattle.volume.specs.Rows.{rowSize, imageAt, withImage, in_row, rowRefusal, rowOutcome}
+use Rattle.brick.proofs.Laws.OutcomeLaws.{Fronted, fronted, ends_early}
+use Rattle.brick.proofs.Laws.OutcomeLengthLaws.{outcome_length}
+use Rattle.volume.specs.Rows.{row_size, image_at, with_image, in_row, row_refusal, row_outcome}
 use Rattle.volume.specs.RowTheorem.{OtherStripesStay, RowKeepsItsLength, DamagedOthersStopNothing, OneImageIsARowOfOne}
-use Rattle.volume.proofs.Laws.RowLaws.{image-at-length, with-length, image-here, image-there}
+use Rattle.volume.proofs.Laws.RowLaws.{image_at_length, with_length, image_here, image_there}
 
 -- the two ways of a message
 module _ (s : Settings) (brick : ℕ) (row : List ℕ) (msg : Message) (block old out : List ℕ) where
-  pub row-refused : (rowRefusal s brick row msg (beside block old out) ≡ passed → ⊥)
-      → rowOutcome s brick row msg block old out ≡ refusedWith (rowRefusal s brick row msg (beside block old out)) row out
-  unfolding rowOutcome
-  row-refused z = rw (ne_eqb (rowRefusal s brick row msg (beside block old out)) passed z) refl
+  pub row_refused : (row_refusal s brick row msg (beside block old out) ≡ passed → ⊥)
+      → row_outcome s brick row msg block old out ≡ refused_with (row_refusal s brick row msg (beside block old out)) row out
+  unfolding row_outcome
+  row_refused z = rw (ne_eqb (row_refusal s brick row msg (beside block old out)) passed z) refl
 
-  module _ (z : rowRefusal s brick row msg (beside block old out) ≡ passed) where
-    pub row-acted : rowOutcome s brick row msg block old out ≡ in_row s msg.stripe row (outcome s brick (imageAt s msg.stripe row) msg block old out)
-    unfolding rowOutcome
-    row-acted = rw z refl
+  module _ (z : row_refusal s brick row msg (beside block old out) ≡ passed) where
+    pub row_acted : row_outcome s brick row msg block old out ≡ in_row s msg.stripe row (outcome s brick (image_at s msg.stripe row) msg block old out)
+    unfolding row_outcome
+    row_acted = rw z refl
 
-    pub row-fronted : Fronted s s.stripes brick (length row) msg (beside block old out)
-    unfolding rowRefusal
-    row-fronted = fronted s s.stripes brick (length row) msg (beside block old out) _ refl z
+    pub row_fronted : Fronted s s.stripes brick (length row) msg (beside block old out)
+    unfolding row_refusal
+    row_fronted = fronted s s.stripes brick (length row) msg (beside block old out) _ refl z
 
-    pub row-long : length row ≡ rowSize s
-    unfolding rowSize
-    row-long = row-fronted.lent_is
+    pub row_long : length row ≡ row_size s
+    unfolding row_size
+    row_long = row_fronted.lent_is
 
     -- the later image of the message's stripe
-    pub later-long : length (outcome s brick (imageAt s msg.stripe row) msg block old out).image ≡ imageSize s
-    later-long =
-        outcome-length s brick (imageAt s msg.stripe row) msg block old out
-        ∙ image-at-length s msg.stripe row row-long row-fronted.stripe-low
+    pub later_long : length (outcome s brick (image_at s msg.stripe row) msg block old out).image ≡ image_size s
+    later_long =
+        outcome_length s brick (image_at s msg.stripe row) msg block old out
+        ∙ image_at_length s msg.stripe row row_long row_fronted.stripe-low
 
-    pub acted-here : imageAt s msg.stripe (rowOutcome s brick row msg block old out).image
-        ≡ (outcome s brick (imageAt s msg.stripe row) msg block old out).image
+    pub acted_here : image_at s msg.stripe (row_outcome s brick row msg block old out).image
+        ≡ (outcome s brick (image_at s msg.stripe row) msg block old out).image
     unfolding in_row
-    acted-here =
-        ap (λ (o : Outcome). imageAt s msg.stripe o.image) row-acted
-        ∙ image-here s msg.stripe _ row later-long row-long row-fronted.stripe-low
+    acted_here =
+        ap (λ (o : Outcome). image_at s msg.stripe o.image) row_acted
+        ∙ image_here s msg.stripe _ row later_long row_long row_fronted.stripe-low
 
-    acted-there : (j : ℕ) → (j ≡ msg.stripe → ⊥) → imageAt s j (rowOutcome s brick row msg block old out).image ≡ imageAt s j row
+    acted_there : (j : ℕ) → (j ≡ msg.stripe → ⊥) → image_at s j (row_outcome s brick row msg block old out).image ≡ image_at s j row
     unfolding in_row
-    acted-there j n =
-        ap (λ (o : Outcome). imageAt s j o.image) row-acted
-        ∙ image-there s msg.stripe _ row later-long row-long row-fronted.stripe-low j n
+    acted_there j n =
+        ap (λ (o : Outcome). image_at s j o.image) row_acted
+        ∙ image_there s msg.stripe _ row later_long row_long row_fronted.stripe-low j n
 
-    acted-length : length (rowOutcome s brick row msg block old out).image ≡ length row
+    acted_length : length (row_outcome s brick row msg block old out).image ≡ length row
     unfolding in_row
-    acted-length = ap (λ (o : Outcome). length o.image) row-acted ∙ with-length s msg.stripe _ row later-long row-long row-fronted.stripe-low
+    acted_length = ap (λ (o : Outcome). length o.image) row_acted ∙ with_length s msg.stripe _ row later_long row_long row_fronted.stripe-low
 
   -- refused or not
-  by_way : {P : Type 0} → (rowRefusal s brick row msg (beside block old out) ≡ passed → P)
-      → ((rowRefusal s brick row msg (beside block old out) ≡ passed → ⊥) → P) → P
-  by_way {P} f g = go (eqb (rowRefusal s brick row msg (beside block old out)) passed) refl
+  by_way : {P : Type 0} → (row_refusal s brick row msg (beside block old out) ≡ passed → P)
+      → ((row_refusal s brick row msg (beside block old out) ≡ passed → ⊥) → P) → P
+  by_way {P} f g = go (eqb (row_refusal s brick row msg (beside block old out)) passed) refl
     where
-      go : (b : Bool) → eqb (rowRefusal s brick row msg (beside block old out)) passed ≡ b → P
-      go true e = f (eqb-true (rowRefusal s brick row msg (beside block old out)) passed e)
-      go false e = g (eqb-false (rowRefusal s brick row msg (beside block old out)) passed e)
+      go : (b : Bool) → eqb (row_refusal s brick row msg (beside block old out)) passed ≡ b → P
+      go true e = f (eqb-true (row_refusal s brick row msg (beside block old out)) passed e)
+      go false e = g (eqb-false (row_refusal s brick row msg (beside block old out)) passed e)
 
-pub other-stripes-stay : OtherStripesStay
-unfolding refusedWith
-other-stripes-stay s brick row msg block old out j n =
-    by_way s brick row msg block old out (λ z. acted-there s brick row msg block old out z j n)
-    (λ z. ap (λ (o : Outcome). imageAt s j o.image) (row-refused s brick row msg block old out z))
+pub other_stripes_stay : OtherStripesStay
+unfolding refused_with
+other_stripes_stay s brick row msg block old out j n =
+    by_way s brick row msg block old out (λ z. acted_there s brick row msg block old out z j n)
+    (λ z. ap (λ (o : Outcome). image_at s j o.image) (row_refused s brick row msg block old out z))
 
-pub row-keeps-its-length : RowKeepsItsLength
-unfolding refusedWith
-row-keeps-its-length s brick row msg block old out =
-    by_way s brick row msg block old out (λ z. acted-length s brick row msg block old out z)
-    (λ z. ap (λ (o : Outcome). length o.image) (row-refused s brick row msg block old out z))
+pub row_keeps_its_length : RowKeepsItsLength
+unfolding refused_with
+row_keeps_its_length s brick row msg block old out =
+    by_way s brick row msg block old out (λ z. acted_length s brick row msg block old out z)
+    (λ z. ap (λ (o : Outcome). length o.image) (row_refused s brick row msg block old out z))
 
 -- the row is refused by its length alone
-same-refusal : (s : Settings) (brick : ℕ) (row row' : List ℕ) (msg : Message) (b : Beside) → length row ≡ length row'
-    → rowRefusal s brick row msg b ≡ rowRefusal s brick row' msg b
-unfolding rowRefusal
-same-refusal s brick row row' msg b e = ap (λ (k : ℕ). frontRefusal s s.stripes brick k msg b) e
+same_refusal : (s : Settings) (brick : ℕ) (row row' : List ℕ) (msg : Message) (b : Beside) → length row ≡ length row'
+    → row_refusal s brick row msg b ≡ row_refusal s brick row' msg b
+unfolding row_refusal
+same_refusal s brick row row' msg b e = ap (λ (k : ℕ). front_refusal s s.stripes brick k msg b) e
 
-pub damaged-others-stop-nothing : DamagedOthersStopNothing
-unfolding refusedWith in_row
-damaged-others-stop-nothing s brick row row' msg block old out e h =
+pub damaged_others_stop_nothing : DamagedOthersStopNothing
+unfolding refused_with in_row
+damaged_others_stop_nothing s brick row row' msg block old out e h =
     by_way s brick row msg block old out (λ z.
-    let p = row-acted s brick row msg block old out z in
-    let p' = row-acted s brick row' msg block old out (sym same ∙ z) in (
+    let p = row_acted s brick row msg block old out z in
+    let p' = row_acted s brick row' msg block old out (sym same ∙ z) in (
       ap (λ (o : Outcome). o.given) p ∙ ap (λ (o : Outcome). o.given) told ∙ sym (ap (λ (o : Outcome). o.given) p'),
       ap (λ (o : Outcome). o.out) p ∙ ap (λ (o : Outcome). o.out) told ∙ sym (ap (λ (o : Outcome). o.out) p'),
-      acted-here s brick row msg block old out z ∙ ap (λ (o : Outcome). o.image) told ∙ sym (acted-here s brick row' msg block old out (sym same ∙ z)),
+      acted_here s brick row msg block old out z ∙ ap (λ (o : Outcome). o.image) told ∙ sym (acted_here s brick row' msg block old out (sym same ∙ z)),
     )) (λ z.
-    let p = row-refused s brick row msg block old out z in
-    let p' = row-refused s brick row' msg block old out (λ q. z (same ∙ q)) in (
+    let p = row_refused s brick row msg block old out z in
+    let p' = row_refused s brick row' msg block old out (λ q. z (same ∙ q)) in (
       ap (λ (o : Outcome). o.given) p ∙ ap Refused same ∙ sym (ap (λ (o : Outcome). o.given) p'),
       ap (λ (o : Outcome). o.out) p ∙ sym (ap (λ (o : Outcome). o.out) p'),
-      ap (λ (o : Outcome). imageAt s msg.stripe o.image) p ∙ h ∙ sym (ap (λ (o : Outcome). imageAt s msg.stripe o.image) p'),
+      ap (λ (o : Outcome). image_at s msg.stripe o.image) p ∙ h ∙ sym (ap (λ (o : Outcome). image_at s msg.stripe o.image) p'),
     ))
   where
-    same : rowRefusal s brick row msg (beside block old out) ≡ rowRefusal s brick row' msg (beside block old out)
-    same = same-refusal s brick row row' msg (beside block old out) e
+    same : row_refusal s brick row msg (beside block old out) ≡ row_refusal s brick row' msg (beside block old out)
+    same = same_refusal s brick row row' msg (beside block old out) e
 
     -- what the image of the stripe makes of it
-    told : outcome s brick (imageAt s msg.stripe row) msg block old out ≡ outcome s brick (imageAt s msg.stripe row') msg block old out
+    told : outcome s brick (image_at s msg.stripe row) msg block old out ≡ outcome s brick (image_at s msg.stripe row') msg block old out
     told = ap (λ (l : List ℕ). outcome s brick l msg block old out) h
 
 -- a row of one image
-image-of-one : (s : Settings) (row : List ℕ) → length row ≡ imageSize s → imageAt s 0 row ≡ row
-unfolding imageAt
-image-of-one s row e = let z : 0 * imageSize s ≡ 0 = omega arith in ap (λ (k : ℕ). take (imageSize s) (drop k row)) z ∙ take_all (imageSize s) row (omega (arith, e))
+image_of_one : (s : Settings) (row : List ℕ) → length row ≡ image_size s → image_at s 0 row ≡ row
+unfolding image_at
+image_of_one s row e = let z : 0 * image_size s ≡ 0 = omega arith in ap (λ (k : ℕ). take (image_size s) (drop k row)) z ∙ take_all (image_size s) row (omega (arith, e))
 
-with-one : (s : Settings) (image row : List ℕ) → length image ≡ length row → withImage s 0 image row ≡ image
-unfolding withImage
-with-one s image row e =
-    let z : 0 * imageSize s ≡ 0 = omega arith in
+with_one : (s : Settings) (image row : List ℕ) → length image ≡ length row → with_image s 0 image row ≡ image
+unfolding with_image
+with_one s image row e =
+    let z : 0 * image_size s ≡ 0 = omega arith in
     ap (λ (k : ℕ). put k image row) z ∙ put_is 0 image row
     ∙ ap (λ (k : ℕ). image ++ drop k row) (let a : 0 + length image ≡ length row = omega (arith, e) in a)
     ∙ ap (λ (l : List ℕ). image ++ l) (drop-length row) ∙ append-nil image
 
-pub one-image-is-a-row-of-one : OneImageIsARowOfOne
-unfolding refusedWith in_row rowRefusal
-one-image-is-a-row-of-one s brick row msg block old out one = by_way s brick row msg block old out acted refused
+pub one_image_is_a_row_of_one : OneImageIsARowOfOne
+unfolding refused_with in_row row_refusal
+one_image_is_a_row_of_one s brick row msg block old out one = by_way s brick row msg block old out acted refused
   where
-    acted : rowRefusal s brick row msg (beside block old out) ≡ passed → rowOutcome s brick row msg block old out ≡ outcome s brick row msg block old out
+    acted : row_refusal s brick row msg (beside block old out) ≡ passed → row_outcome s brick row msg block old out ≡ outcome s brick row msg block old out
     acted z =
-        let f = row-fronted s brick row msg block old out z in
+        let f = row_fronted s brick row msg block old out z in
         let first : msg.stripe ≡ 0 = omega (arith, f.stripe-low, one) in
-        let long : length row ≡ imageSize s = f.lent_is ∙ ap (λ (k : ℕ). k * imageSize s) one ∙ (let a : 1 * imageSize s ≡ imageSize s = omega arith in a) in
-        row-acted s brick row msg block old out z
-        ∙ ap (λ (k : ℕ). in_row s k row (outcome s brick (imageAt s k row) msg block old out)) first
-        ∙ ap (λ (l : List ℕ). in_row s 0 row (outcome s brick l msg block old out)) (image-of-one s row long)
-        ∙ ap (λ (l : List ℕ). outcomeWith (outcome s brick row msg block old out).given l (outcome s brick row msg block old out).out)
-        (with-one s (outcome s brick row msg block old out).image row (outcome-length s brick row msg block old out))
+        let long : length row ≡ image_size s = f.lent_is ∙ ap (λ (k : ℕ). k * image_size s) one ∙ (let a : 1 * image_size s ≡ image_size s = omega arith in a) in
+        row_acted s brick row msg block old out z
+        ∙ ap (λ (k : ℕ). in_row s k row (outcome s brick (image_at s k row) msg block old out)) first
+        ∙ ap (λ (l : List ℕ). in_row s 0 row (outcome s brick l msg block old out)) (image_of_one s row long)
+        ∙ ap (λ (l : List ℕ). outcome_with (outcome s brick row msg block old out).given l (outcome s brick row msg block old out).out)
+        (with_one s (outcome s brick row msg block old out).image row (outcome_length s brick row msg block old out))
 
-    refused : (rowRefusal s brick row msg (beside block old out) ≡ passed → ⊥) → rowOutcome s brick row msg block old out ≡ outcome s brick row msg block old out
+    refused : (row_refusal s brick row msg (beside block old out) ≡ passed → ⊥) → row_outcome s brick row msg block old out ≡ outcome s brick row msg block old out
     refused z =
-        row-refused s brick row msg block old out z
-        ∙ ends-early s brick row msg block old out _ (ap (λ (k : ℕ). frontRefusal s k brick (length row) msg (beside block old out)) one) z
+        row_refused s brick row msg block old out z
+        ∙ ends_early s brick row msg block old out _ (ap (λ (k : ℕ). front_refusal s k brick (length row) msg (beside block old out)) one) z

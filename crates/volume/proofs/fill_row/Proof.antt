@@ -2,18 +2,18 @@ use mathlib.Core.Path.{◌≡◌, refl, ◌∙◌}
 use Prim.Native.Nat.{ℕ, ◌+◌, ◌-◌, ◌*◌, ◌≤◌}
 use native.Mathlib.Omega.{arith}
 use lib.ListN.{length}
-use Rattle.byte_lists.proofs.Laws.StackLaws.{Stacked, stacked-none, stacked-more, stacked-all, part_length}
-use Rattle.image_block.specs.Block.{blockBytes}
-use Rattle.image.specs.Brick.{freshBrick}
+use Rattle.byte_lists.proofs.Laws.StackLaws.{Stacked, stacked_none, stacked_more, stacked_all, part_length}
+use Rattle.image_block.specs.Block.{block_bytes}
+use Rattle.image.specs.Brick.{fresh_brick}
 use Rattle.image.specs.Image.{image_of}
-use Rattle.volume.proofs.Laws.RowCallLaws.{row_within, fresh-part, row-size}
+use Rattle.volume.proofs.Laws.RowCallLaws.{row_within, fresh_part, row_size_lem}
 use borrow.Author.Rules.{rules}
 use Rattle.volume.proofs.fill_row.Statement.{statement}
 use Rattle.volume.proofs.fill_row.Tie as tie
 
 abbrev invariant-loop : tie.invariant-loop
 invariant-loop s brick images₀ room stripes stripe₀ at₀ images stripe at =
-    Stacked (λ (k : ℕ). image_of s brick (freshBrick s)) room images₀ images stripe at × (stripe ≤ s.stripes) × (room ≡ blockBytes * (s.capacity + 1))
+    Stacked (λ (k : ℕ). image_of s brick (fresh_brick s)) room images₀ images stripe at × (stripe ≤ s.stripes) × (room ≡ block_bytes * (s.capacity + 1))
 
 abbrev decreases-loop : tie.decreases-loop
 decreases-loop s brick images₀ room stripes stripe₀ at₀ images stripe at = s.stripes - stripe
@@ -25,15 +25,15 @@ mul-room : tie.Need-overflow-mul-room invariant-loop decreases-loop
 mul-room c = omega (arith, c.before.before.requires.0)
 
 loop-holds : tie.Need-loop-init invariant-loop decreases-loop
-loop-holds c = (stacked-none _ _ _, omega arith, refl)
+loop-holds c = (stacked_none _ _ _, omega arith, refl)
 
 -- the next image has room in the row
-within : (c : tie.In-loop invariant-loop decreases-loop) → c.before.loop.at + blockBytes * (c.before.before.before.before.args.s.capacity + 1) ≤ length c.before.loop.images
+within : (c : tie.In-loop invariant-loop decreases-loop) → c.before.loop.at + block_bytes * (c.before.before.before.before.args.s.capacity + 1) ≤ length c.before.loop.images
 within c =
     let start = c.before.before.before.before in
     let i = c.before.loop.invariant in
     row_within start.args.s start.args.images.now c.before.loop.images c.before.loop.stripe c.before.loop.at
-    (blockBytes * (start.args.s.capacity + 1)) start.requires.1.1 i.0.size-kept i.0.place refl
+    (block_bytes * (start.args.s.capacity + 1)) start.requires.1.1 i.0.size-kept i.0.place refl
     (omega (arith, c.loop-test.true, start.requires.0.stripes-low))
 
 add-end : tie.Need-overflow-add-end invariant-loop decreases-loop
@@ -64,9 +64,9 @@ loop-again c =
     let start = c.before.before.before.before.before.before.before.before in
     let p = c.before.before.before.before.before.loop in
     let w = within c.before.before.before.before in
-    let long = part_length (blockBytes * (start.args.s.capacity + 1)) p.images p.at w in (
-      stacked-more _ _ _ _ _ _ _ p.invariant.0 w (c.before.before.write-fresh.auto.1.1.0 ∙ long)
-          (c.before.before.write-fresh.ensures.1 ∙ fresh-part _ _ _ start.requires.0 start.requires.1.0 long),
+    let long = part_length (block_bytes * (start.args.s.capacity + 1)) p.images p.at w in (
+      stacked_more _ _ _ _ _ _ _ p.invariant.0 w (c.before.before.write-fresh.auto.1.1.0 ∙ long)
+          (c.before.before.write-fresh.ensures.1 ∙ fresh_part _ _ _ start.requires.0 start.requires.1.0 long),
       omega (arith, c.before.before.before.before.loop-test.true, start.requires.0.stripes-low),
       refl,
     )
@@ -78,8 +78,8 @@ returns : tie.Need-returns invariant-loop decreases-loop
 returns c =
     let start = c.before.before.before.before in
     let i = c.before.loop.invariant in
-    stacked-all _ (blockBytes * (start.args.s.capacity + 1)) start.args.images.now _ _ _ _ i.0 (omega (arith, c.loop-test.false)) i.1
-    (row-size start.args.s start.args.images.now start.requires.1.1)
+    stacked_all _ (block_bytes * (start.args.s.capacity + 1)) start.args.images.now _ _ _ _ i.0 (omega (arith, c.loop-test.false)) i.1
+    (row_size_lem start.args.s start.args.images.now start.requires.1.1)
 
 pub fill-row-spec : {M : Type 1} → statement M
 fill-row-spec =

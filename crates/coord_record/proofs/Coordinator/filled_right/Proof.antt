@@ -1,4 +1,4 @@
-use Rattle.coord_record.proofs.Laws.RecordSoundLaws.{filled-bricks, filled-tally, filled-open}
+use Rattle.coord_record.proofs.Laws.RecordSoundLaws.{filled_bricks, filled_tally, filled_open}
 use borrow.Author.Rules.{rules}
 use Rattle.coord_record.proofs.Coordinator.filled_right.Statement.{statement}
 use Rattle.coord_record.proofs.Coordinator.filled_right.Tie as tie
@@ -22,13 +22,13 @@ quorum-of-requires : tie.Need-quorum-of-requires
 quorum-of-requires c κs = search rules
 
 returns : tie.Need-returns
-returns c = search (rules, filled-open)
+returns c = search (rules, filled_open)
 
 returns-2 : tie.Need-returns-2
-returns-2 c = search (rules, filled-tally)
+returns-2 c = search (rules, filled_tally)
 
 returns-3 : tie.Need-returns-3
-returns-3 c = search (rules, filled-bricks)
+returns-3 c = search (rules, filled_bricks)
 
 pub filled-right-spec : {M : Type 1} → statement M
 filled-right-spec =

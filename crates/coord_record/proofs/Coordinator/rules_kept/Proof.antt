@@ -1,53 +1,53 @@
-use Rattle.coord_record.proofs.Laws.RecordSoundLaws.{unsound-coordinator, unsound-last, unsound-first, unsound-stripe, unsound-block, unsound-op, unsound-time, sound-filled}
-use Rattle.settings.specs.Times.{maxCount}
+use Rattle.coord_record.proofs.Laws.RecordSoundLaws.{unsound_coordinator, unsound_last, unsound_first, unsound_stripe, unsound_block, unsound_op, unsound_time, sound_filled}
+use Rattle.settings.specs.Times.{max_count}
 use native.Mathlib.Omega.{arith}
 use borrow.Author.Rules.{rules}
 use Rattle.coord_record.proofs.Coordinator.rules_kept.Statement.{statement}
 use Rattle.coord_record.proofs.Coordinator.rules_kept.Tie as tie
 
 returns : tie.Need-returns
-returns c = search (rules, unsound-coordinator)
+returns c = search (rules, unsound_coordinator)
 
 returns-2 : tie.Need-returns-2
-unfolding maxCount
-returns-2 c = search (rules, unsound-last)
+unfolding max_count
+returns-2 c = search (rules, unsound_last)
 
 returns-3 : tie.Need-returns-3
-unfolding maxCount
-returns-3 c = search (rules, unsound-first)
+unfolding max_count
+returns-3 c = search (rules, unsound_first)
 
 returns-4 : tie.Need-returns-4
-unfolding maxCount
-returns-4 c = unsound-stripe _ _ _ _ (search rules) (search rules) (search rules) (omega (arith, c.if4.true))
+unfolding max_count
+returns-4 c = unsound_stripe _ _ _ _ (search rules) (search rules) (search rules) (omega (arith, c.if4.true))
 
 block-low-requires : tie.Need-block-low-requires
 block-low-requires c κs = search rules
 
 returns-5 : tie.Need-returns-5
-unfolding maxCount
-returns-5 c = search (rules, unsound-block)
+unfolding max_count
+returns-5 c = search (rules, unsound_block)
 
 op-right-requires : tie.Need-op-right-requires
 op-right-requires c κs = search rules
 
 time-right-requires : tie.Need-time-right-requires
-unfolding maxCount
+unfolding max_count
 time-right-requires c κs = search rules
 
 filled-right-requires : tie.Need-filled-right-requires
 filled-right-requires c κs = search rules
 
 returns-6 : tie.Need-returns-6
-unfolding maxCount
-returns-6 c = search (rules, sound-filled)
+unfolding max_count
+returns-6 c = search (rules, sound_filled)
 
 returns-7 : tie.Need-returns-7
-unfolding maxCount
-returns-7 c = search (rules, unsound-time)
+unfolding max_count
+returns-7 c = search (rules, unsound_time)
 
 returns-8 : tie.Need-returns-8
-unfolding maxCount
-returns-8 c = search (rules, unsound-op)
+unfolding max_count
+returns-8 c = search (rules, unsound_op)
 
 pub rules-kept-spec : {M : Type 1} → statement M
 rules-kept-spec =

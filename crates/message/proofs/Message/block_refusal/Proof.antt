@@ -1,4 +1,4 @@
-use Rattle.message.proofs.Laws.MessageLaws.{block-named, block-unnamed}
+use Rattle.message.proofs.Laws.MessageLaws.{block_named, block_unnamed}
 use borrow.Author.Rules.{rules}
 use Rattle.message.proofs.Message.block_refusal.Statement.{statement}
 use Rattle.message.proofs.Message.block_refusal.Tie as tie
@@ -10,10 +10,10 @@ data-block-refusal-requires : tie.Need-data-block-refusal-requires
 data-block-refusal-requires c κs = search rules
 
 returns : tie.Need-returns
-returns c = search (rules, block-named)
+returns c = search (rules, block_named)
 
 returns-2 : tie.Need-returns-2
-returns-2 c = search (rules, block-unnamed)
+returns-2 c = search (rules, block_unnamed)
 
 pub block-refusal-spec : {M : Type 1} → statement M
 block-refusal-spec = tie.close (tie.spec names-block-requires data-block-refusal-requires returns returns-2)

@@ -1,34 +1,34 @@
 use borrow.Author.Tests.{lt-leb, le-leb, eq-eqb, ne_eqb}
-use Rattle.message.specs.Messages.{kindRight}
-use Rattle.settings.specs.Times.{noUpperEnd}
+use Rattle.message.specs.Messages.{kind_right}
+use Rattle.settings.specs.Times.{no_upper_end}
 use borrow.Author.Rules.{rules}
 use Rattle.message.proofs.Message.kind_right.Statement.{statement}
 use Rattle.message.proofs.Message.kind_right.Tie as tie
 
 returns : tie.Need-returns
-unfolding kindRight noUpperEnd
+unfolding kind_right no_upper_end
 returns c = search (rules, eq-eqb, ne_eqb, lt-leb, le-leb)
 
 targets-right-requires : tie.Need-targets-right-requires
 targets-right-requires c κs = search rules
 
 returns-2 : tie.Need-returns-2
-unfolding kindRight noUpperEnd
+unfolding kind_right no_upper_end
 returns-2 c = search (rules, eq-eqb, ne_eqb, lt-leb, le-leb)
 
 found-right-requires : tie.Need-found-right-requires
 found-right-requires c κs = search rules
 
 returns-3 : tie.Need-returns-3
-unfolding kindRight noUpperEnd
+unfolding kind_right no_upper_end
 returns-3 c = search (rules, eq-eqb, ne_eqb, lt-leb, le-leb)
 
 returns-4 : tie.Need-returns-4
-unfolding kindRight noUpperEnd
+unfolding kind_right no_upper_end
 returns-4 c = search (rules, eq-eqb, ne_eqb, lt-leb, le-leb)
 
 returns-5 : tie.Need-returns-5
-unfolding kindRight noUpperEnd
+unfolding kind_right no_upper_end
 returns-5 c = search (rules, eq-eqb, ne_eqb, lt-leb, le-leb)
 
 pub kind-right-spec : {M : Type 1} → statement M

@@ -1,4 +1,4 @@
-use Rattle.message.proofs.Laws.MessageLaws.{message-passed, message-kind, message-round, message-time}
+use Rattle.message.proofs.Laws.MessageLaws.{message_passed, message_kind, message_round, message_time}
 use borrow.Author.Rules.{rules}
 use Rattle.message.proofs.Message.refusal.Statement.{statement}
 use Rattle.message.proofs.Message.refusal.Tie as tie
@@ -13,16 +13,16 @@ kind-right-requires : tie.Need-kind-right-requires
 kind-right-requires c κs = search rules
 
 returns : tie.Need-returns
-returns c = search (rules, message-passed)
+returns c = search (rules, message_passed)
 
 returns-2 : tie.Need-returns-2
-returns-2 c = search (rules, message-kind)
+returns-2 c = search (rules, message_kind)
 
 returns-3 : tie.Need-returns-3
-returns-3 c = search (rules, message-round)
+returns-3 c = search (rules, message_round)
 
 returns-4 : tie.Need-returns-4
-returns-4 c = search (rules, message-time)
+returns-4 c = search (rules, message_time)
 
 pub refusal-spec : {M : Type 1} → statement M
 refusal-spec =

@@ -1,27 +1,27 @@
 use borrow.Author.Rules.{rules}
 use borrow.Author.Tests.{lt-ltb, le-ltb, lt-leb, le-leb}
-use Rattle.settings.specs.Times.{drawRefusal, maxCount}
+use Rattle.settings.specs.Times.{draw_refusal, max_count}
 use Rattle.settings.proofs.Clock.refusal.Statement.{statement}
 use Rattle.settings.proofs.Clock.refusal.Tie as tie
 
 returns : tie.Need-returns
-unfolding drawRefusal maxCount
+unfolding draw_refusal max_count
 returns c = search (rules, lt-ltb, le-ltb, lt-leb, le-leb)
 
 returns-2 : tie.Need-returns-2
-unfolding drawRefusal maxCount
+unfolding draw_refusal max_count
 returns-2 c = search (rules, lt-ltb, le-ltb, lt-leb, le-leb)
 
 returns-3 : tie.Need-returns-3
-unfolding drawRefusal maxCount
+unfolding draw_refusal max_count
 returns-3 c = search (rules, lt-ltb, le-ltb, lt-leb, le-leb)
 
 returns-4 : tie.Need-returns-4
-unfolding drawRefusal maxCount
+unfolding draw_refusal max_count
 returns-4 c = search (rules, lt-ltb, le-ltb, lt-leb, le-leb)
 
 returns-5 : tie.Need-returns-5
-unfolding drawRefusal maxCount
+unfolding draw_refusal max_count
 returns-5 c = search (rules, lt-ltb, le-ltb, lt-leb, le-leb)
 
 pub refusal-spec : {M : Type 1} → statement M

@@ -1,7 +1,7 @@
 use borrow.Author.Rules.{rules}
 use borrow.Author.Tests.{lt-leb, le-leb}
-use Rattle.settings.specs.Ranges.{capacityInRange}
-use Rattle.settings.proofs.Laws.RangeLaws.{settings-code, settings-capacity, settings-stripes}
+use Rattle.settings.specs.Ranges.{capacity_in_range}
+use Rattle.settings.proofs.Laws.RangeLaws.{settings_code, settings_capacity, settings_stripes}
 use Rattle.settings.proofs.Settings.refusal.Statement.{statement}
 use Rattle.settings.proofs.Settings.refusal.Tie as tie
 
@@ -9,22 +9,22 @@ code-refusal-requires : tie.Need-code-refusal-requires
 code-refusal-requires c κs = search rules
 
 returns : tie.Need-returns
-returns c = search (rules, settings-code)
+returns c = search (rules, settings_code)
 
 returns-2 : tie.Need-returns-2
-unfolding capacityInRange
-returns-2 c = search (rules, settings-capacity, lt-leb, le-leb)
+unfolding capacity_in_range
+returns-2 c = search (rules, settings_capacity, lt-leb, le-leb)
 
 returns-3 : tie.Need-returns-3
-unfolding capacityInRange
-returns-3 c = search (rules, settings-capacity, lt-leb, le-leb)
+unfolding capacity_in_range
+returns-3 c = search (rules, settings_capacity, lt-leb, le-leb)
 
 stripe-count-refusal-requires : tie.Need-stripe-count-refusal-requires
 stripe-count-refusal-requires c κs = search rules
 
 returns-4 : tie.Need-returns-4
-unfolding capacityInRange
-returns-4 c = search (rules, settings-stripes, lt-leb, le-leb)
+unfolding capacity_in_range
+returns-4 c = search (rules, settings_stripes, lt-leb, le-leb)
 
 pub refusal-spec : {M : Type 1} → statement M
 refusal-spec = tie.close (tie.spec code-refusal-requires returns returns-2 returns-3 stripe-count-refusal-requires returns-4)
