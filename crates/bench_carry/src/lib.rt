@@ -1,5 +1,7 @@
 // The numbers of a carry line, one after the other (document 01, "The bench").
 // inner: call `bench_player::play_line`
+#![tactic(auto)]
+
 ghost use Rattle.std.specs.Prelude.{◌≡◌, ◌+◌, ◌≤◌, length};
 ghost use Rattle.bench_parse.specs.Lines.{numbers_of};
 ghost use Rattle.bench_parse.specs.Workers.{words_from, CarryFrom};

@@ -1,5 +1,7 @@
 // A carried message at its brick (document 01, "The bench"): lost, refused, or received, and its reply sent.
 // inner: call `bench_player::play_line`
+#![tactic(auto)]
+
 ghost use Rattle.std.specs.Prelude.{◌≡◌, false, List, ℕ, ◌+◌, ◌≤◌, ◌<◌, length, replicate};
 ghost use Rattle.bench_sent.specs.Sent.{is_reply, item_at};
 ghost use Rattle.bench_rules.specs.Play.{carries};

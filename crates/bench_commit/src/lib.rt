@@ -1,5 +1,7 @@
 // What a coordinator's routine answered, on the bench: kept, sent and printed, where its messages stay within message 127 (document 01, "The bench").
 // inner: call `bench_player::play_line`
+#![tactic(auto)]
+
 ghost use Rattle.std.specs.Prelude.{◌≡◌, ◌+◌, ◌*◌, ◌≤◌, ◌<◌, length};
 ghost use Rattle.coord_apply.specs.Answers.{most_broadcasts};
 ghost use Rattle.bench_commit.specs.Workers.{Lists, Round, Seats, Copies, Answers};

@@ -1,5 +1,7 @@
 // The program `bench` (document 01): reads standard input to its end, whatever it holds, cuts it into lines, plays each as it comes, and
 // writes out what the line prints. All that it does with a line is `bench_player`'s, and with a chunk `bench_lines`'s.
+#![tactic(auto)]
+
 ghost use Rattle.std.specs.Prelude.{◌≡◌, cond, ◌-◌, ◌≤◌, eqb, length};
 ghost use Rattle.bench_io.specs.Workers.{goes_on, at_end, write_status, read_status, left_with};
 ghost use Rattle.bench_io.specs.Workers.{Interrupts, HeldPlayed, ChunkPlayed, PlayedLast, TurnMade, Ran, RunLeft};
@@ -24,7 +26,7 @@ const DONE: u32 = 0;
 const FAILED: u32 = 1;
 
 // The bench after some lines, how many bytes of a further line are held, and how the program stands.
-#[derive(Drop)]
+#[derive(Clone, Copy)]
 struct Pass {
     bench: Bench,
     held: usize,

@@ -1,4 +1,5 @@
 // The bench's limits, and the layout of the buffers that it is lent (document 01, "The bench"): numbers only, no function.
+#![tactic(auto)]
 
 // "n at most 4, capacity at most 4, block size at most 8, coordinators 0 to 3"
 pub const BRICKS: usize = 4;

@@ -1,5 +1,7 @@
 // Cutting the input into lines, chunk by chunk (document 01, "The bench").
 // inner: call `bench_player::play_line`
+#![tactic(auto)]
+
 ghost use Rattle.std.specs.Prelude.{◌≡◌, length, drop};
 ghost use Rattle.bench_lines.specs.Cutting.{CutOff};
 ghost use Rattle.bench_lines.specs.Workers.{Kept};
@@ -11,7 +13,7 @@ const LINE_LENGTH: usize = bench_parse::HELD_LENGTH;
 const NEWLINE: u8 = 10;
 
 // Where the cutting stands: the next place in the chunk, how many bytes of the line are held, and whether a newline ended it.
-#[derive(Drop)]
+#[derive(Clone, Copy)]
 pub struct Cut {
     pub next: usize,
     pub held: usize,

@@ -1,5 +1,7 @@
 // How a line of the bench reads (document 01, "The bench"): from the bytes of a line to what it says.
 // inner: call `bench_player::play_line`
+#![tactic(auto)]
+
 ghost use Rattle.std.specs.Prelude.{◌≡◌, true, ◌&&◌, leb, ◌+◌, ◌*◌, ◌≤◌, ◌<◌, length, drop};
 ghost use Rattle.bench_parse.specs.Lines.{every, number_word, is_hex, hex_value, bytes_of, crash_line, down_line, up_line, set_of, write_of, read_of, carry_of};
 ghost use Rattle.bench_parse.specs.Lines.{one_of, reads};
@@ -37,7 +39,7 @@ const DOWN: u32 = 6;
 const UP: u32 = 7;
 
 // What a line says. The last number of Write and of Carry is the place in the line where the hex word, or the first number, begins.
-#[derive(Drop)]
+#[derive(Clone, Copy)]
 pub enum Line {
     Set(u64, u64, u64, u64),
     Write(u64, u64, usize),
@@ -50,21 +52,21 @@ pub enum Line {
 }
 
 // A number of a carry line, and the place behind it.
-#[derive(Drop)]
+#[derive(Clone, Copy)]
 pub struct Number {
     pub value: u64,
     pub end: usize,
 }
 
 // A word read as a number: whether it is one, and its value.
-#[derive(Drop)]
+#[derive(Clone, Copy)]
 struct Numeral {
     good: bool,
     value: u64,
 }
 
 // The same for the word at a place, with the place of the next word.
-#[derive(Drop)]
+#[derive(Clone, Copy)]
 struct Piece {
     good: bool,
     value: u64,

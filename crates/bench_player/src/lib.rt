@@ -1,4 +1,6 @@
 // The bench's lines, played one at a time over the proved routines (document 01, "The bench"): `play_line` is what a user calls.
+#![tactic(auto)]
+
 ghost use Rattle.std.specs.Prelude.{◌≡◌, ◌||◌, List, ◌≤◌, eqb, length};
 ghost use Rattle.bench_player.specs.Lining.{stage_of, lent_lengths_right, bench_refused, Called};
 ghost use Rattle.bench_player.specs.Workers.{First};
@@ -98,7 +100,7 @@ fn play_next(
 }
 
 // The bench after a whole line: a refusal's number, 0 for none, the record, and how many bytes are printed.
-#[derive(Drop)]
+#[derive(Clone, Copy)]
 pub struct LinePlayed {
     pub refusal: u32,
     pub bench: Bench,

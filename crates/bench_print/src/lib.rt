@@ -1,5 +1,7 @@
 // What the bench prints (document 01, "The bench"): a line per ended operation and per refusal, written into a lent buffer from a place on.
 // inner: call `bench_player::play_line`
+#![tactic(auto)]
+
 ghost use Rattle.std.specs.Prelude.{◌≡◌, [], ◌∷◌, ◌++◌, ◌+◌, ◌≤◌, ◌<◌, length};
 ghost use Rattle.bench_print.specs.Printing.{space, newline, digit, decimal, hex_digit, hex_text, refused_text, kind_word, end_word, line_text, ended_text};
 ghost use Rattle.bench_print.specs.Printing.{printed_into};

@@ -1,5 +1,7 @@
 // The rules of the bench's lines (document 01, "The bench") are definitions, in specs/Play. Here: what a part of a line answers, and one refusal.
 // inner: call `bench_player::play_line`
+#![tactic(auto)]
+
 ghost use Rattle.std.specs.Prelude.{◌+◌, ◌≤◌, length};
 ghost use Rattle.bench_rules.specs.Play.{refuses};
 ghost use Rattle.bench_rules.specs.Turning.{Lent, world_in};
@@ -9,7 +11,7 @@ ghost use Rattle.bench_limits.specs.Limits.{last_message, line_room};
 use bench_state::Bench;
 
 // The bench after a line or a part of one, and how many bytes of the printed text's buffer are used.
-#[derive(Drop)]
+#[derive(Clone, Copy)]
 pub struct After {
     pub bench: Bench,
     pub used: usize,

@@ -1,5 +1,7 @@
 // What the bench has sent, kept in lent buffers: item k has row k of the numbers and row k of the bytes, laid out as `bench_limits` says.
 // inner: call `bench_player::play_line`
+#![tactic(auto)]
+
 ghost use Rattle.std.specs.Prelude.{◌≡◌, ◌+◌, ◌*◌, ◌%◌, ◌≤◌, ◌<◌, length};
 ghost use Rattle.byte_lists.specs.Lists.{put};
 ghost use Rattle.register.specs.Runs.{message, reply};

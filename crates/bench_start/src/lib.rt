@@ -1,6 +1,8 @@
 // Starts and crashes at a coordinator of the bench (document 01, "The bench"): the proved routines work on copies of what the coordinator
 // keeps, and what they answer counts only where its messages stay within message 127.
 // inner: call `bench_player::play_line`
+#![tactic(auto)]
+
 ghost use Rattle.std.specs.Prelude.{◌≡◌, true, cond, not, ◌&&◌, ◌*◌, ◌≤◌, ◌<◌, eqb, length, drop, replicate};
 ghost use Rattle.bench_commit.specs.Workers.{BenchActed, Plays};
 ghost use Rattle.bench_commit.specs.Workers.{Seats, Copies};

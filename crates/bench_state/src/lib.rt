@@ -1,6 +1,8 @@
 // The bench's set between two lines (document 01, "The bench"): a record by value, with the bricks' images and what the coordinators keep
 // in lent buffers.
 // inner: call `bench_player::play_line`
+#![tactic(auto)]
+
 ghost use Rattle.std.specs.Prelude.{◌≡◌, true, [], ◌+◌, ◌*◌, ◌≤◌, ◌<◌, length, get_or, take, drop};
 ghost use Rattle.bench_state.specs.State.{idle_at, world_of};
 ghost use Rattle.bench_state.specs.Workers.{fresh_bench, with_coordinator, with_sent, with_up, kept_with, bench_refusal};
@@ -17,7 +19,7 @@ use coord_record::{Coordinator, Geometry};
 use settings::{Clock, Settings};
 
 // settings: n is 0 while no set is accepted. up: UP for a brick that is up. sent: how many messages were sent.
-#[derive(Drop)]
+#[derive(Clone, Copy)]
 pub struct Bench {
     pub settings: Settings,
     pub up: [u8; BRICKS],

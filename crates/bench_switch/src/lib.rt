@@ -1,5 +1,7 @@
 // A brick of the bench goes down or comes up (document 01, "The bench").
 // inner: call `bench_player::play_line`
+#![tactic(auto)]
+
 ghost use Rattle.std.specs.Prelude.{◌≡◌, cond, ◌≤◌, eqb, length};
 ghost use Rattle.bench_limits.specs.Limits.{last_message, up_flag, text_length};
 ghost use Rattle.bench_rules.specs.Play.{switches};

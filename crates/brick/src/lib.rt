@@ -1,4 +1,6 @@
 // One message at one brick (document 01, "What a brick does"), at its image of one stripe.
+#![tactic(auto)]
+
 ghost use Rattle.std.specs.Prelude.{◌≡◌, length, ◌≤◌, ◌<◌};
 ghost use Rattle.image.specs.Parse.{Opens, brick_in};
 ghost use Rattle.brick.specs.Receive.{beside_right, front_refusal, outcome_with, accepted, outcome};
@@ -14,7 +16,7 @@ use message::{Message, NO_COMPARISON, Reply, is_silent};
 use settings::{BAD_LENGTH, BAD_NUMBER, PASSED, Settings, stripe_refusal};
 
 // The answer to a message.
-#[derive(Drop)]
+#[derive(Clone, Copy)]
 pub enum Given {
     Answered(Reply),
     Silent,

@@ -1,5 +1,7 @@
 // What a brick answers a message, by three comparisons (document 01, "What a brick does").
 // inner: call `brick::receive`
+#![tactic(auto)]
+
 ghost use Rattle.std.specs.Prelude.{◌≡◌};
 ghost use Rattle.brick_answer.specs.Comparisons.{newer_says_no, promise_says_no, full_says_no, first_no};
 

@@ -1,5 +1,7 @@
 // What a message asks of a brick's log, and what it changes in the brick's image (document 01, "What a brick does").
 // inner: call `brick::receive`
+#![tactic(auto)]
+
 ghost use Rattle.std.specs.Prelude.{◌≡◌, ◌&&◌, ◌≤◌, ◌<◌, ◌+◌, ◌*◌, leb, ltb, length, false};
 ghost use Rattle.message.specs.Flags.{member};
 ghost use Rattle.brick_log.specs.Workers.{cut_for, under_in, time_in, under_for, looked_in, plan_of, remove_plan, trim_plan, drop_at, drop_plan, plan_in};
@@ -25,7 +27,7 @@ use message::{DROP, MODIFY, Message, NO_COMPARISON, ORDER_BLOCK, ORDER_READ, REA
 use settings::{MAX_BRICKS, MAX_CAPACITY, MAX_SIZE, Settings};
 
 // What is known of an opened brick: how many entries, its promise, its newest time, and the block of the image that the newest entry means.
-#[derive(Drop)]
+#[derive(Clone, Copy)]
 pub struct Known {
     pub count: usize,
     pub promise: u64,
@@ -34,7 +36,7 @@ pub struct Known {
 }
 
 // The answer of a lookup: the place of the entry that was found, or none.
-#[derive(Drop)]
+#[derive(Clone, Copy)]
 enum Looked {
     Under(usize),
     Nothing,
@@ -43,7 +45,7 @@ enum Looked {
 // What a message asks for, found in the working log: the block that goes with the reply, by its number in the image, 0 for none;
 // the time that the reply names; how many entries go, from which place of the log on, and of the entry right above them the block of the image
 // that holds it and its time.
-#[derive(Drop)]
+#[derive(Clone, Copy)]
 pub struct Plan {
     pub place: usize,
     pub found: u64,

@@ -1,5 +1,7 @@
 // Bytes and lists: a byte widened, little-endian numbers (document 01, "The saved brick"), bytes cleared, copied, compared and stored.
 // inner: call `image::open`
+#![tactic(auto)]
+
 ghost use Rattle.std.specs.Prelude.{◌≡◌, ◌+◌, ◌≤◌, ◌<◌, length, take, drop};
 ghost use Rattle.byte_lists.specs.Little.{number, byte_of};
 ghost use Rattle.byte_lists.specs.Lists.{put, zeros, same};

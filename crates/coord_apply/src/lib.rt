@@ -1,6 +1,8 @@
 // What a coordinator's decisions do (document 01, "What a coordinator does"). A routine gives one refusal, or the record that follows,
 // the broadcasts to all n bricks, and what is seen.
 // inner: call `coordinator::take_reply`
+#![tactic(auto)]
+
 ghost use Rattle.std.specs.Prelude.{cond, ◌≡◌, ◌*◌, ◌≤◌, length};
 ghost use Rattle.coord_apply.specs.Acts.{buffered};
 ghost use Rattle.coord_apply.specs.Workers.{DecisionReady, Acted, open_answer, preceded_answer, ahead_answer, end_answer, finished_letter};
@@ -44,7 +46,7 @@ pub const MOST_BROADCASTS: usize = 2;
 // stripe. bricks: the bricks that a finished read decoded from, or the one that gave the block, from the front of the row, and 0 past them; how
 // many they are follows from what, letter, kind and m, as `Answers.how_many_named` says. letter: which rule ended it, of those in
 // `coord_letters`; none where nothing ended.
-#[derive(Drop)]
+#[derive(Clone, Copy)]
 pub struct Notice {
     pub what: u8,
     pub kind: u8,
@@ -58,7 +60,7 @@ pub struct Notice {
 // refusal: 0, or the number alone. next: the record that follows. sent: how many broadcasts there are, two at most, each to all n bricks.
 // message, second: what is sent, in this order; the blocks of a Write round stand in the lent output buffer. With Modify of block j go block j
 // of the lent stripe, the new one, and block j of the lent reply blocks, the old one.
-#[derive(Drop)]
+#[derive(Clone, Copy)]
 pub struct Answer {
     pub refusal: u32,
     pub next: Coordinator,

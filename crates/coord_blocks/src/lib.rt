@@ -1,6 +1,8 @@
 // The blocks of a round's replies, and the stripe that they decode to (document 01, "What a coordinator does"): a block is put in its place;
 // blocks are gathered, decoded and checked; an operation on one block takes that block alone, or keeps it while the others are decoded.
 // inner: call `coordinator::take_reply`
+#![tactic(auto)]
+
 ghost use Rattle.std.specs.Prelude.{cond, true, ◌≡◌, ◌+◌, ◌*◌, ◌≤◌, ◌<◌, length, take};
 ghost use Rattle.coord_blocks.specs.Blocks.{stripe_from, agreeing, given_stripe, stored_stripe};
 ghost use Rattle.coord_blocks.specs.Workers.{InPlace, HandedOn, BlocksReady};

@@ -1,5 +1,7 @@
 // The rounds of a coordinator (document 01, "What a coordinator does"): which replies count, and what the q-th decides.
 // inner: call `coordinator::take_reply`
+#![tactic(auto)]
+
 ghost use Rattle.std.specs.Prelude.{◌≡◌, ◌≤◌, ◌<◌};
 ghost use Rattle.coord_decide.specs.Deciding.{answers, tallied, apart, decided_read, decided_block_order, decided_at, decided};
 ghost use Rattle.coord_tally.specs.Counting.{highest};
@@ -11,7 +13,7 @@ use coord_tally::{any_missing, any_no, any_other, count_at, highest_of};
 use message::{ORDER, ORDER_BLOCK, ORDER_READ, READ, Reply};
 
 // What the q-th reply of a round decides.
-#[derive(Drop)]
+#[derive(Clone, Copy)]
 pub enum Decision {
     // ended aborted
     Abort,

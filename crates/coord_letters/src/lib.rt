@@ -1,5 +1,7 @@
 // The letter after the time (document 02, E5): which rule ended an operation.
 // inner: call `coordinator::take_reply`
+#![tactic(auto)]
+
 ghost use Rattle.std.specs.Prelude.{not, ◌&&◌, ◌≡◌, ◌≤◌, eqb};
 ghost use Rattle.byte_lists.specs.Each.{some};
 ghost use Rattle.coord_letters.specs.Letters.{read_letter, said_other, abort_letter};

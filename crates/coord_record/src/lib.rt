@@ -1,6 +1,8 @@
 // The record of a coordinator (document 01, "What a coordinator does"), by value in small parts, and which records are sound (refusal 6).
 // The blocks of the replies and the stripe are lent beside it.
 // inner: call `coordinator::start_read`; from outside only `idle_with`
+#![tactic(auto)]
+
 ghost use Rattle.std.specs.Prelude.{◌≡◌, ◌≤◌, ◌<◌};
 ghost use Rattle.coord_record.specs.Records.{is_reading, on_block, target_count, no_op, nothing_counted, idle_with};
 ghost use Rattle.coord_record.specs.CountedRules.{is_target, block_right, counted_right, entry_right, said_right, tally_right};
@@ -29,7 +31,7 @@ pub const WRITING_BLOCK: u8 = 4;
 // The running operation. phase: the kind of the open round's messages. stripe: the number of the stripe that it is on. max: of an
 // Order-and-read round. first: the brick that a read's targets are counted upward from; of an operation on one block that block's number,
 // which is its brick's. A field without meaning is 0.
-#[derive(Drop)]
+#[derive(Clone, Copy)]
 pub struct Op {
     pub kind: u8,
     pub phase: u8,
@@ -42,7 +44,7 @@ pub struct Op {
 
 // The replies counted in the open round, an entry a brick, 0 where none is counted: counted, said yes, holds a block, the time found, the
 // comparison that said no.
-#[derive(Drop)]
+#[derive(Clone, Copy)]
 pub struct Tally {
     pub counted: [u8; MAX_BRICKS],
     pub granted: [u8; MAX_BRICKS],
@@ -52,7 +54,7 @@ pub struct Tally {
 }
 
 // The settings that a coordinator was made for.
-#[derive(Drop)]
+#[derive(Clone, Copy)]
 pub struct Geometry {
     pub n: usize,
     pub m: usize,
@@ -61,7 +63,7 @@ pub struct Geometry {
 }
 
 // bricks: the m bricks that a read in its Write round decoded from, rising; else 0.
-#[derive(Drop)]
+#[derive(Clone, Copy)]
 pub struct Coordinator {
     pub geometry: Geometry,
     pub clock: Clock,

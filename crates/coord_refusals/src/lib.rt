@@ -1,5 +1,7 @@
 // What a coordinator's routines refuse, before anything changes (document 01, "Refused by number, lowest first").
 // inner: call `coordinator::take_reply`
+#![tactic(auto)]
+
 ghost use Rattle.std.specs.Prelude.{◌≡◌, true, [], ◌∷◌, ◌*◌, ◌≤◌, ◌<◌};
 ghost use Rattle.coord_refusals.specs.Checks.{record_checks, stripe_checks, write_checks, read_checks, lengths_right, stray_checks, take_refusal, crash_refusal};
 ghost use Rattle.coord_refusals.specs.Checks.{block_checks, read_block_checks, write_block_checks};

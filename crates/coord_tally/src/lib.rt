@@ -1,5 +1,7 @@
 // What the counted replies of a round say, brick by brick, and rows of bricks (document 01, "What a coordinator does").
 // inner: call `coordinator::take_reply`
+#![tactic(auto)]
+
 ghost use Rattle.std.specs.Prelude.{◌≡◌, true, ◌≤◌, ◌<◌};
 ghost use Rattle.byte_lists.specs.Each.{some};
 ghost use Rattle.coord_tally.specs.Counting.{said_no, other_time, missing, highest, at_time, at_times, picked, upward, target_row, target_flag, target_flags};

@@ -1,5 +1,7 @@
 // The coordinator (document 01, "What a coordinator does"): start a write or a read, of a stripe or of one block, take a reply, crash. Each gives
 // one refusal, lowest number first, and changes nothing; or the record that follows, the broadcasts to all n bricks, and what is seen.
+#![tactic(auto)]
+
 ghost use Rattle.std.specs.Prelude.{◌≡◌, List, ℕ, ◌<◌, length};
 ghost use Rattle.coord_apply.specs.Acts.{with_tally, first_op};
 ghost use Rattle.coord_apply.specs.Answers.{refused, answer_of, returned};

@@ -1,4 +1,6 @@
 // The erasure code (document 01, "Settings and the code"): encode and decode, and their C entry points.
+#![tactic(auto)]
+
 ghost use Rattle.std.specs.Prelude.{◌≡◌, true, cond, [], ◌∷◌, ◌*◌, length};
 ghost use Rattle.erasure.specs.Code.{coded_of, decoded_of, agree};
 ghost use Rattle.erasure.specs.Refusals.{all_below, all_different, number_refusal, set_refusal, encode_refusal, list_refusal, decode_refusal};

@@ -1,5 +1,7 @@
 // The field of 256 elements with polynomial hexadecimal 11D (document 01, "Settings and the code"), by two constant tables.
 // inner: call `erasure::stripe_encode`
+#![tactic(auto)]
+
 ghost use Rattle.std.specs.Prelude.{◌≡◌, ◌≤◌, get_or};
 ghost use Rattle.gf256.specs.Product.{product, inverse, quotient};
 ghost use Rattle.gf256.specs.Tables.{IsPowers, IsLogs};

@@ -1,4 +1,6 @@
 // The saved brick (document 01, "The saved brick").
+#![tactic(auto)]
+
 ghost use Rattle.std.specs.Prelude.{◌≡◌, ◌&&◌, ◌+◌, ◌*◌, ◌≤◌, ◌<◌, length, drop};
 ghost use Rattle.settings.specs.Ranges.{SettingsRange};
 ghost use Rattle.image_block.specs.Block.{unused_body, entry_body, mark_body};
@@ -24,42 +26,42 @@ use settings::{
 
 // What an entry of the log names: the place of a held block, as its number among the blocks of the image; or it is a mark, and means the
 // block of the entry below it.
-#[derive(Drop)]
+#[derive(Clone, Copy)]
 pub enum Holding {
     Held(usize),
     Same,
 }
 
 // An entry of the working log.
-#[derive(Drop)]
+#[derive(Clone, Copy)]
 pub struct Entry {
     pub time: u64,
     pub holding: Holding,
 }
 
 // What the head says: how many entries, and the promise.
-#[derive(Drop)]
+#[derive(Clone, Copy)]
 pub struct Head {
     pub count: usize,
     pub promise: u64,
 }
 
 // The answer of an opening.
-#[derive(Drop)]
+#[derive(Clone, Copy)]
 pub enum ImageAnswer {
     Opened(Head),
     Refused(u32),
 }
 
 // An opened brick, with its working log beside the answer.
-#[derive(Drop)]
+#[derive(Clone, Copy)]
 pub struct Opening {
     pub answer: ImageAnswer,
     pub log: [Entry; MAX_CAPACITY],
 }
 
 // What reading the blocks after the head gives: whether their checks hold, whether they are as the head says, and the log.
-#[derive(Drop)]
+#[derive(Clone, Copy)]
 struct Scan {
     checks: bool,
     fits: bool,
@@ -354,13 +356,13 @@ pub fn number_of(a: ImageAnswer) -> u32
 }
 
 // What the service panel shows of a brick.
-#[derive(Drop)]
+#[derive(Clone, Copy)]
 pub struct Panel {
     pub promise: u64,
     pub newest: u64,
 }
 
-#[derive(Drop)]
+#[derive(Clone, Copy)]
 pub enum Shown {
     Values(Panel),
     Refused(u32),

@@ -1,5 +1,7 @@
 // The 512-byte block of a saved brick (document 01, "The saved brick").
 // inner: call `image::open`
+#![tactic(auto)]
+
 ghost use Rattle.std.specs.Prelude.{◌≡◌, ◌++◌, ◌+◌, ◌-◌, ◌≤◌, ◌<◌, length, drop};
 ghost use Rattle.settings.specs.Ranges.{SettingsRange, max_size};
 ghost use Rattle.image_block.specs.Block.{block_bytes, check_bytes, held_from};

@@ -1,5 +1,7 @@
 // The view of a saved brick (document 01, "The saved brick": "a record holding a reference to the lent image, giving the count and the entry at a place").
 // The functions over the struct are thin: each takes it apart or makes it, and calls a covered function on the slice and plain values.
+#![tactic(auto)]
+
 ghost use Rattle.std.specs.Prelude.{◌≡◌, ℕ};
 ghost use Rattle.image.specs.Parse.{parse, open_refusal};
 ghost use Rattle.image_view.specs.View.{count_of, counted_number, found_at, found_by, found_in, found_of, view_of};
@@ -10,21 +12,21 @@ use image_block::{BLOCK_BYTES, ENTRY_TIME};
 use settings::{BAD_LENGTH, BAD_NUMBER, Settings};
 
 // How many entries an image has, or the number of its refusal.
-#[derive(Drop)]
+#[derive(Clone, Copy)]
 pub enum Counted {
     Entries(usize),
     Refused(u32),
 }
 
 // A lent image, and what opening it gave. The fields are private: only `open_view` makes a view, of a checked image.
-#[derive(Drop)]
+#[derive(Clone, Copy)]
 pub struct View<'a> {
     image: &'a [u8],
     counted: Counted,
 }
 
 // An entry, or the number of the refusal.
-#[derive(Drop)]
+#[derive(Clone, Copy)]
 pub enum Found {
     At(Entry),
     Refused(u32),

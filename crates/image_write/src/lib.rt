@@ -1,4 +1,6 @@
 // Changing a saved brick where it is lent: a fresh one, its head, an entry more, entries less.
+#![tactic(auto)]
+
 ghost use Rattle.std.specs.Prelude.{◌≡◌, ◌+◌, ◌-◌, ◌*◌, ◌≤◌, ◌<◌, length};
 ghost use Rattle.settings.specs.Ranges.{SettingsRange};
 ghost use Rattle.image_block.specs.Block.{head_block, entry_block, mark_block};

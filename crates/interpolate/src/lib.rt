@@ -2,6 +2,8 @@
 // inner: call `erasure::stripe_encode`
 // The inner functions take the two tables of `gf256` as lent, since a constant array is built anew where it is named.
 // Every product and inverse of a weight, and every doubling of it, is `gf256`'s by these tables.
+#![tactic(auto)]
+
 ghost use Rattle.std.specs.Prelude.{cond, ◌≡◌, ℕ, ◌+◌, ◌*◌, ◌<◌, ◌≤◌, length, get_or};
 ghost use Rattle.gf256.specs.Product.{product, inverse, twice};
 ghost use Rattle.gf256.specs.Tables.{IsPowers, IsLogs};

@@ -1,6 +1,8 @@
 // Messages and replies (document 01, "What a brick does", "What a coordinator does"): structs by value with a number for their kind,
 // so that an unknown kind can be refused. A block goes beside them in a slice.
 // inner: call `volume::receive`
+#![tactic(auto)]
+
 ghost use Rattle.std.specs.Prelude.{◌≡◌, ◌≤◌, ltb};
 ghost use Rattle.settings.specs.Count.{one_if};
 ghost use Rattle.settings.specs.Ranges.{max_bricks};
@@ -49,7 +51,7 @@ pub const LAST_ROUND: u64 = 1000;
 
 // stripe: the number of the stripe that it is about. max: Order-and-read only. old: the old time, Modify only. block: the number of a data
 // block, the first round of a block write and Modify only. targets: Read only, a flag a brick.
-#[derive(Drop)]
+#[derive(Clone, Copy)]
 pub struct Message {
     pub kind: u8,
     pub stripe: usize,
@@ -63,7 +65,7 @@ pub struct Message {
 
 // stripe: that of the message. found: the newest time in a reply to Read or to the first round of a block write, the entry's time in one to
 // Order-and-read. held: a block goes with it. comparison: the one that said no.
-#[derive(Drop)]
+#[derive(Clone, Copy)]
 pub struct Reply {
     pub kind: u8,
     pub brick: usize,

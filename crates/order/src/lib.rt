@@ -1,1 +1,2 @@
 // No code: definitions and theorems about histories.
+#![tactic(auto)]

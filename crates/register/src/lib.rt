@@ -1,1 +1,2 @@
 // No code.
+#![tactic(auto)]

@@ -1,4 +1,6 @@
 // The settings of a set, the quorum, and times (document 01, "Settings and the code", "Times"); the stripes of a volume (E1).
+#![tactic(auto)]
+
 ghost use Rattle.std.specs.Prelude.{◌≡◌};
 ghost use Rattle.settings.specs.Ranges.{settings_refusal, code_refusal, stripe_count_refusal, stripe_refusal, data_block_refusal, quorum};
 ghost use Rattle.settings.specs.Times.{draw_of, draw_refusal, number_of, valid_time};
@@ -62,7 +64,7 @@ pub const MAX_COUNT: u64 = 1099511627775;
 pub const NO_UPPER_END: u64 = 17592186044416;
 
 // n bricks, m data blocks, bytes a block, entries a log, stripes of the volume.
-#[derive(Drop)]
+#[derive(Clone, Copy)]
 pub struct Settings {
     pub n: usize,
     pub m: usize,
@@ -161,14 +163,14 @@ pub fn quorum_of(n: usize, m: usize) -> usize
 }
 
 // A coordinator's clock: its number and the last count it gave.
-#[derive(Drop)]
+#[derive(Clone, Copy)]
 pub struct Clock {
     pub coordinator: u64,
     pub last: u64,
 }
 
 // What a clock gives: a time and the clock that follows it, or the number of the refusal.
-#[derive(Drop)]
+#[derive(Clone, Copy)]
 pub enum Draw {
     Drawn(u64, Clock),
     Refused(u32),

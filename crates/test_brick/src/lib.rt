@@ -1,6 +1,8 @@
 // The brick at a C boundary of numbers and slices, for the tests and benchmarks that compare it with other code: brick_.. with its image of
 // one stripe, volume_.. with the images of all stripes in one row. Every routine refuses the lowest number first: 1, then 2 for a buffer of
 // the boundary itself, then what the brick refuses.
+#![tactic(auto)]
+
 ghost use Rattle.std.specs.Prelude.{◌≡◌, ◌+◌, ◌≤◌, length};
 ghost use Rattle.test_brick.specs.BrickBoundary.{message_length, reply_length, own_refusal, fresh_with, fresh_at, fresh_row_at, panel_at, entry_pair_at};
 ghost use Rattle.test_brick.specs.BrickBoundary.{as_byte, as_bytes, message_of, numbers_right, reply_numbers, answer_code, given_buffer};

@@ -1,6 +1,8 @@
 // The coordinator at a C boundary of numbers and slices, for the tests and benchmarks that compare it with other code. Every routine is
 // lent four buffers: the record's 27 numbers and 82 bytes, and the answer's 16 numbers and 53 bytes. A refusal leaves them as they were;
 // the lowest number comes first: 1, then 2 for one of these buffers, then what the coordinator refuses.
+#![tactic(auto)]
+
 ghost use Rattle.std.specs.Prelude.{◌≡◌, [], ◌+◌, ◌≤◌, length};
 ghost use Rattle.settings.specs.Ranges.{max_bricks};
 ghost use Rattle.test_coordinator.specs.CoordinatorBoundary.{record_numbers_length, record_bytes_length, answer_numbers_length, answer_bytes_length};

@@ -1,5 +1,7 @@
 // The parts below the code at a C boundary of numbers and slices, for the tests that compare them with other code.
 // inner: call `erasure::stripe_encode`
+#![tactic(auto)]
+
 ghost use Rattle.std.specs.Prelude.{◌≡◌};
 ghost use Rattle.gf256.specs.Product.{product, inverse, quotient};
 ghost use Rattle.test_field.specs.FieldBoundary.{power_or_zero, IsLog, settings_number, draw_at};

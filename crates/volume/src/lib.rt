@@ -1,4 +1,6 @@
 // A volume over many stripes (document 02, E1): where a client block lies, and a brick with the images of all its stripes, lent in one row.
+#![tactic(auto)]
+
 ghost use Rattle.std.specs.Prelude.{◌≡◌, ◌<◌, length};
 ghost use Rattle.settings.specs.Ranges.{SettingsRange};
 ghost use Rattle.image.specs.Brick.{fresh_brick};
@@ -14,7 +16,7 @@ use message::Message;
 use settings::{BAD_LENGTH, BAD_NUMBER, BAD_STRIPE, PASSED, Settings};
 
 // Where a client block lies, a stripe and a data block; or the number of the refusal.
-#[derive(Drop)]
+#[derive(Clone, Copy)]
 pub enum Placed {
     At(usize, usize),
     Refused(u32),
