@@ -3,12 +3,12 @@ use borrow.Author.Rules.{rules}
 use Rattle.byte_lists.proofs.byte.Statement.{statement}
 use Rattle.byte_lists.proofs.byte.Tie as tie
 
-cast-result : tie.Need-overflow-cast-result
+cast-result : tie.Need-overflow_cast-result
 cast-result c = search rules
 
 returns : tie.Need-returns
 unfolding byte_of
 returns c = search rules
 
-pub byte-spec : {M : Type 1} → statement M
-byte-spec = tie.close (tie.spec cast-result returns)
+pub byte_spec : {M : Type 1} → statement M
+byte_spec = tie.close (tie.spec cast-result returns)

@@ -10,5 +10,5 @@ returns : tie.Need-returns
 unfolding logs_right index_right doublings each twice plus
 returns c = logs_by_test _ refl
 
-pub logs-spec : {M : Type 1} → statement M
-logs-spec = tie.close (tie.spec returns)
+pub logs_spec : {M : Type 1} → statement M
+logs_spec = tie.close (tie.spec returns)

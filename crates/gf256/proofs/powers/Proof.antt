@@ -9,5 +9,5 @@ returns : tie.Need-returns
 unfolding powers_right chained twice plus
 returns c = powers_by_test _ refl
 
-pub powers-spec : {M : Type 1} → statement M
-powers-spec = tie.close (tie.spec returns)
+pub powers_spec : {M : Type 1} → statement M
+powers_spec = tie.close (tie.spec returns)

@@ -4,13 +4,13 @@ use Rattle.settings.specs.Ranges.{stripe_refusal}
 use Rattle.settings.proofs.stripe_refusal.Statement.{statement}
 use Rattle.settings.proofs.stripe_refusal.Tie as tie
 
-returns : tie.Need-returns
+returns : tie.Need-returns-then-stripes-stripe
 unfolding stripe_refusal
 returns c = rw (le-ltb c.before.args.stripe c.before.args.stripes (omega arith))
 
-returns-2 : tie.Need-returns-2
+returns-2 : tie.Need-returns
 unfolding stripe_refusal
 returns-2 c = rw (lt-ltb c.before.args.stripe c.before.args.stripes (omega arith))
 
-pub stripe-refusal-spec : {M : Type 1} → statement M
-stripe-refusal-spec = tie.close (tie.spec returns returns-2)
+pub stripe_refusal_spec : {M : Type 1} → statement M
+stripe_refusal_spec = tie.close (tie.spec returns returns-2)
