@@ -70,7 +70,7 @@ sound_parts n m size stripes c e =
         let ranged = and_left (a && b && d && g) k placed in
         let low = and_left (a && b && d) g ranged in
         record {
-          made_for = and_left (same_geometry n m size stripes c.geometry) (rules_kept n m stripes c) e;
+          made-for = and_left (same_geometry n m size stripes c.geometry) (rules_kept n m stripes c) e;
           number-low = leb-true c.clock.coordinator last_coordinator (ea ∙ and_left a b (and_left (a && b) d low));
           last-low = leb-true c.clock.last max_count (eb ∙ and_right a b (and_left (a && b) d low));
           first-low = ltb-true c.op.first n (ed ∙ and_right (a && b) d low);

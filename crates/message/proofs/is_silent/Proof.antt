@@ -4,13 +4,13 @@ use borrow.Author.Rules.{rules}
 use Rattle.message.proofs.is_silent.Statement.{statement}
 use Rattle.message.proofs.is_silent.Tie as tie
 
-returns : tie.Need-returns
+returns : tie.Need-returns-then-kind-eq-TRIM
 unfolding is_silent
 returns c = search (rules, eq-eqb)
 
-returns-2 : tie.Need-returns-2
+returns-2 : tie.Need-returns
 unfolding is_silent
 returns-2 c = search (rules, ne_eqb)
 
-pub is-silent-spec : {M : Type 1} → statement M
-is-silent-spec = tie.close (tie.spec returns returns-2)
+pub is_silent_spec : {M : Type 1} → statement M
+is_silent_spec = tie.close (tie.spec returns returns-2)

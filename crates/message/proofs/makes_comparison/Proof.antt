@@ -3,20 +3,20 @@ use borrow.Author.Rules.{rules}
 use Rattle.message.proofs.makes_comparison.Statement.{statement}
 use Rattle.message.proofs.makes_comparison.Tie as tie
 
-returns : tie.Need-returns
+returns : tie.Need-returns-then-comparison-eq-NEWER_TIME
 returns c = search (rules, compares_newer)
 
-returns-2 : tie.Need-returns-2
+returns-2 : tie.Need-returns-then-comparison-eq-PROMISE_AHEAD
 returns-2 c = search (rules, compares_promise)
 
-stores-entry-requires : tie.Need-stores-entry-requires
+stores-entry-requires : tie.Need-stores_entry-requires
 stores-entry-requires c κs = search rules
 
-returns-3 : tie.Need-returns-3
+returns-3 : tie.Need-returns-then-comparison-eq-FULL_LOG
 returns-3 c = search (rules, compares_full)
 
-returns-4 : tie.Need-returns-4
+returns-4 : tie.Need-returns
 returns-4 c = search (rules, compares_none)
 
-pub makes-comparison-spec : {M : Type 1} → statement M
-makes-comparison-spec = tie.close (tie.spec returns returns-2 stores-entry-requires returns-3 returns-4)
+pub makes_comparison_spec : {M : Type 1} → statement M
+makes_comparison_spec = tie.close (tie.spec returns returns-2 stores-entry-requires returns-3 returns-4)

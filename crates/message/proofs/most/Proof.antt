@@ -3,11 +3,11 @@ use borrow.Author.Tests.{lt-ltb, le-ltb}
 use Rattle.message.proofs.most.Statement.{statement}
 use Rattle.message.proofs.most.Tie as tie
 
-returns : tie.Need-returns
+returns : tie.Need-returns-then-i-n
 returns c = search (rules, lt-ltb, le-ltb)
 
-returns-2 : tie.Need-returns-2
+returns-2 : tie.Need-returns
 returns-2 c = search (rules, lt-ltb, le-ltb)
 
-pub most-spec : {M : Type 1} → statement M
-most-spec = tie.close (tie.spec returns returns-2)
+pub most_spec : {M : Type 1} → statement M
+most_spec = tie.close (tie.spec returns returns-2)

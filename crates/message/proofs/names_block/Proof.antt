@@ -4,13 +4,13 @@ use borrow.Author.Rules.{rules}
 use Rattle.message.proofs.names_block.Statement.{statement}
 use Rattle.message.proofs.names_block.Tie as tie
 
-returns : tie.Need-returns
+returns : tie.Need-returns-then-kind-eq-ORDER_BLOCK
 unfolding names_block
 returns c = search (rules, eq-eqb)
 
-returns-2 : tie.Need-returns-2
+returns-2 : tie.Need-returns
 unfolding names_block
 returns-2 c = search (rules, ne_eqb)
 
-pub names-block-spec : {M : Type 1} → statement M
-names-block-spec = tie.close (tie.spec returns returns-2)
+pub names_block_spec : {M : Type 1} → statement M
+names_block_spec = tie.close (tie.spec returns returns-2)

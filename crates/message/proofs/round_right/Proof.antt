@@ -4,13 +4,13 @@ use Rattle.message.specs.Messages.{round_right}
 use Rattle.message.proofs.round_right.Statement.{statement}
 use Rattle.message.proofs.round_right.Tie as tie
 
-returns : tie.Need-returns
+returns : tie.Need-returns-then-round-ge-FIRST_ROUND
 unfolding round_right
 returns c = search (rules, lt-leb, le-leb)
 
-returns-2 : tie.Need-returns-2
+returns-2 : tie.Need-returns-else-round-ge-FIRST_ROUND
 unfolding round_right
 returns-2 c = search (rules, lt-leb, le-leb)
 
-pub round-right-spec : {M : Type 1} → statement M
-round-right-spec = tie.close (tie.spec returns returns-2)
+pub round_right_spec : {M : Type 1} → statement M
+round_right_spec = tie.close (tie.spec returns returns-2)

@@ -28,7 +28,7 @@ module _ {S B : Type 0} {blocks : Blocks S B} {z : S} {l : List (Seen (stripe bl
       ⊎ ((s : S) → apart.Fits s → BlockWritten l j w (blocks.at j (changed k s)))
   unfolding changed
   leaves_or_writes w read b = inl (λ s f. refl)
-  leaves_or_writes w (write v) b = inr (λ s f. BlockWritten.in-stripe b refl)
+  leaves_or_writes w (write v) b = inr (λ s f. BlockWritten.in_stripe b refl)
   leaves_or_writes w (read_block i) b = inl (λ s f. refl)
   leaves_or_writes w (write_block i c) b = go (eqb i j) refl
     where
@@ -65,7 +65,7 @@ module _ {S B : Type 0} {blocks : Blocks S B} {z : S} {l : List (Seen (stripe bl
   module _ (o : OneOrder (stripe blocks z) l) where
     reads : {t : ℕ} {a : B} → BlockGave l j t a → Reads block_j t a
     unfolding changed given
-    reads {t} {a} (BlockGave.in-stripe {v} m e) =
+    reads {t} {a} (BlockGave.in_stripe {v} m e) =
         record {
           kind = read;
           given = bytes v;
@@ -123,7 +123,7 @@ module _ {S B : Type 0} {blocks : Blocks S B} {z : S} {l : List (Seen (stripe bl
         → ((x : ℕ) (d : B) → BlockWritten l j x d → x ≢ w → EndedBefore l x w ⊎ EndedBefore l t x)
         → a ≡ v
     unfolding changed
-    block_written_is_read w t v a (BlockWritten.in-stripe {v = c} b q) m n e f =
+    block_written_is_read w t v a (BlockWritten.in_stripe {v = c} b q) m n e f =
         written_is_read block_j o w t (write c) ok v a (λ s i. q) b m (reads n) e f
     block_written_is_read w t v a (BlockWritten.alone b) m n e f =
         written_is_read block_j o w t (write_block j v) ok v a (λ s i. apart.there w j v b s i) b m (reads n) e f

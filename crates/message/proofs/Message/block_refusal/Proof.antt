@@ -3,17 +3,17 @@ use borrow.Author.Rules.{rules}
 use Rattle.message.proofs.Message.block_refusal.Statement.{statement}
 use Rattle.message.proofs.Message.block_refusal.Tie as tie
 
-names-block-requires : tie.Need-names-block-requires
+names-block-requires : tie.Need-names_block-requires
 names-block-requires c κs = search rules
 
-data-block-refusal-requires : tie.Need-data-block-refusal-requires
+data-block-refusal-requires : tie.Need-data_block_refusal-requires
 data-block-refusal-requires c κs = search rules
 
-returns : tie.Need-returns
+returns : tie.Need-returns-then-names_block
 returns c = search (rules, block_named)
 
-returns-2 : tie.Need-returns-2
+returns-2 : tie.Need-returns
 returns-2 c = search (rules, block_unnamed)
 
-pub block-refusal-spec : {M : Type 1} → statement M
-block-refusal-spec = tie.close (tie.spec names-block-requires data-block-refusal-requires returns returns-2)
+pub block_refusal_spec : {M : Type 1} → statement M
+block_refusal_spec = tie.close (tie.spec names-block-requires data-block-refusal-requires returns returns-2)
