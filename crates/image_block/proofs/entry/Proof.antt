@@ -4,7 +4,7 @@ use borrow.Author.Rules.{rules}
 use Rattle.image_block.proofs.entry.Statement.{statement}
 use Rattle.image_block.proofs.entry.Tie as tie
 
-entry-fields-requires : tie.Need-entry-fields-requires
+entry-fields-requires : tie.Need-entry_fields-requires
 entry-fields-requires c κs = search rules
 
 seal-requires : tie.Need-seal-requires

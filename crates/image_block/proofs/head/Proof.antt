@@ -4,7 +4,7 @@ use borrow.Author.Rules.{rules}
 use Rattle.image_block.proofs.head.Statement.{statement}
 use Rattle.image_block.proofs.head.Tie as tie
 
-head-fields-requires : tie.Need-head-fields-requires
+head-fields-requires : tie.Need-head_fields-requires
 head-fields-requires c κs = search rules
 
 seal-requires : tie.Need-seal-requires

@@ -10,36 +10,36 @@ use Rattle.byte_lists.specs.Lists.{zeros}
 use Rattle.image_block.proofs.held.Statement.{statement}
 use Rattle.image_block.proofs.held.Tie as tie
 
-abbrev invariant-loop : tie.invariant-loop
+abbrev invariant-loop : tie.invariant-loop-i
 invariant-loop block b₀ i₀ b i = Pasted (zeros block_bytes) block held_from i b
 
-abbrev decreases-loop : tie.decreases-loop
+abbrev decreases-loop : tie.decreases-loop-i
 decreases-loop block b₀ i₀ b i = length block - i
 
-loop-holds : tie.Need-loop-init invariant-loop decreases-loop
+loop-holds : tie.Need-loop-i-init invariant-loop decreases-loop
 unfolding zeros
 loop-holds c = pasted_none (zeros block_bytes) _ held_from (omega (arith, zeros_length block_bytes))
 
-shared-slice-read-b : tie.Need-shared-slice-read-b invariant-loop decreases-loop
+shared-slice-read-b : tie.Need-bounds-block-i invariant-loop decreases-loop
 shared-slice-read-b c = omega arith
 
-add-b : tie.Need-overflow-add-b invariant-loop decreases-loop
+add-b : tie.Need-overflow_add-b invariant-loop decreases-loop
 add-b c = omega arith
 
-array-write-b : tie.Need-array-write-b invariant-loop decreases-loop
+array-write-b : tie.Need-bounds-b-i invariant-loop decreases-loop
 array-write-b c = search rules
 
-add-i : tie.Need-overflow-add-i invariant-loop decreases-loop
+add-i : tie.Need-overflow_add-i invariant-loop decreases-loop
 add-i c = omega arith
 
-loop-less : tie.Need-loop-smaller invariant-loop decreases-loop
+loop-less : tie.Need-loop-i-smaller invariant-loop decreases-loop
 loop-less c = omega arith
 
-loop-again : tie.Need-loop-preserved invariant-loop decreases-loop
-loop-again c = pasted_more _ _ _ _ _ c.before.loop-test.true c.before.before.loop.invariant
+loop-again : tie.Need-loop-i-preserved invariant-loop decreases-loop
+loop-again c = pasted_more _ _ _ _ _ c.loop-i-test.true c.loop-i.invariant
 
 returns : tie.Need-returns invariant-loop decreases-loop
-returns c = held_all _ _ _ c.loop-test.false c.before.loop.invariant
+returns c = held_all _ _ _ c.loop-i-test.false c.loop-i.invariant
 
 pub held_spec : {M : Type 1} → statement M
 held_spec =

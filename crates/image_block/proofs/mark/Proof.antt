@@ -4,7 +4,7 @@ use borrow.Author.Rules.{rules}
 use Rattle.image_block.proofs.mark.Statement.{statement}
 use Rattle.image_block.proofs.mark.Tie as tie
 
-mark-fields-requires : tie.Need-mark-fields-requires
+mark-fields-requires : tie.Need-mark_fields-requires
 mark-fields-requires c κs = search rules
 
 seal-requires : tie.Need-seal-requires

@@ -4,21 +4,21 @@ use borrow.Author.Rules.{rules}
 use Rattle.image_block.proofs.row_sum.Statement.{statement}
 use Rattle.image_block.proofs.row_sum.Tie as tie
 
-rising-sum-requires : tie.Need-rising-sum-requires
+rising-sum-requires : tie.Need-rising_sum-requires
 rising-sum-requires c κs = search rules
 
-plain-sum-requires : tie.Need-plain-sum-requires
+plain-sum-requires : tie.Need-plain_sum-requires
 plain-sum-requires c κs = search rules
 
-mul-result : tie.Need-overflow-mul-result
-mul-result c = omega (arith, past_high _ _ c.before.before.before.requires.1 c.plain-sum.ensures.1)
+mul-result : tie.Need-overflow_mul-result
+mul-result c = omega (arith, past_high _ _ c.requires.1 c.plain_sum.ensures.1)
 
-add-result : tie.Need-overflow-add-result
-add-result c = omega (arith, past_high _ _ c.before.before.before.requires.1 c.plain-sum.ensures.1)
+add-result : tie.Need-overflow_add-result
+add-result c = omega (arith, past_high _ _ c.requires.1 c.plain_sum.ensures.1)
 
 returns : tie.Need-returns
-returns c = row_summed _ _ _ _ c.before.before.before.requires.1 c.before.rising-sum.ensures.0 c.before.rising-sum.ensures.1 c.plain-sum.ensures.0 c.plain-sum.ensures.1
+returns c = row_summed _ _ _ _ c.requires.1 c.rising_sum.ensures.0 c.rising_sum.ensures.1 c.plain_sum.ensures.0 c.plain_sum.ensures.1
 
-pub row-sum-spec : {M : Type 1} → statement M
-row-sum-spec =
+pub row_sum_spec : {M : Type 1} → statement M
+row_sum_spec =
     tie.close (tie.spec rising-sum-requires plain-sum-requires mul-result add-result returns)

@@ -10,25 +10,25 @@ use Rattle.image_block.specs.Block.{check_bytes}
 use Rattle.image_block.proofs.same_body.Statement.{statement}
 use Rattle.image_block.proofs.same_body.Tie as tie
 
-sub-same-bytes : tie.Need-overflow-sub-same-bytes
+sub-same-bytes : tie.Need-slice_bounds-same_bytes-count
 sub-same-bytes c = search rules
 
-part-same-bytes-start : tie.Need-slice-bounds-same-bytes-start
+part-same-bytes-start : tie.Need-slice_bounds-same_bytes-start
 part-same-bytes-start c = search rules
 
-part-same-bytes-end : tie.Need-slice-bounds-same-bytes-end
+part-same-bytes-end : tie.Need-slice_bounds-same_bytes-end
 part-same-bytes-end c = search rules
 
-sub-same-bytes-2 : tie.Need-overflow-sub-same-bytes-2
+sub-same-bytes-2 : tie.Need-slice_bounds-same_bytes-count-2
 sub-same-bytes-2 c = search rules
 
-part-same-bytes-start-2 : tie.Need-slice-bounds-same-bytes-start-2
+part-same-bytes-start-2 : tie.Need-slice_bounds-same_bytes-start-2
 part-same-bytes-start-2 c = search rules
 
-part-same-bytes-end-2 : tie.Need-slice-bounds-same-bytes-end-2
+part-same-bytes-end-2 : tie.Need-slice_bounds-same_bytes-end-2
 part-same-bytes-end-2 c = search rules
 
-same-bytes-requires : tie.Need-same-bytes-requires
+same-bytes-requires : tie.Need-same_bytes-requires
 same-bytes-requires c κs = search rules
 
 -- what the code cuts off behind the check
@@ -40,8 +40,8 @@ returns c =
     let s = c.before.before.before.before.before in
     c.same_bytes.ensures ∙ ap₂ same (behind s.args.a.now) (behind s.args.b.now)
 
-pub same-body-spec : {M : Type 1} → statement M
-same-body-spec =
+pub same_body_spec : {M : Type 1} → statement M
+same_body_spec =
     tie.close
     (tie.spec
     sub-same-bytes

@@ -5,7 +5,7 @@ use borrow.Author.Rules.{rules}
 use Rattle.image_block.proofs.unused.Statement.{statement}
 use Rattle.image_block.proofs.unused.Tie as tie
 
-array-write-b : tie.Need-array-write-b
+array-write-b : tie.Need-bounds-b-0
 array-write-b c = search rules
 
 returns : tie.Need-returns
