@@ -7,47 +7,47 @@ use borrow.Author.Rules.{rules}
 use Rattle.interpolate.proofs.add_scaled.Statement.{statement}
 use Rattle.interpolate.proofs.add_scaled.Tie as tie
 
-mul-by-requires : tie.Need-mul-by-requires
+mul-by-requires : tie.Need-mul_by-w1-requires
 mul-by-requires c κs = search rules
 
-mul-by-requires-2 : tie.Need-mul-by-requires-2
+mul-by-requires-2 : tie.Need-mul_by-w2-requires
 mul-by-requires-2 c κs = search rules
 
-mul-by-requires-3 : tie.Need-mul-by-requires-3
+mul-by-requires-3 : tie.Need-mul_by-w3-requires
 mul-by-requires-3 c κs = search rules
 
-mul-by-requires-4 : tie.Need-mul-by-requires-4
+mul-by-requires-4 : tie.Need-mul_by-w4-requires
 mul-by-requires-4 c κs = search rules
 
-mul-by-requires-5 : tie.Need-mul-by-requires-5
+mul-by-requires-5 : tie.Need-mul_by-w5-requires
 mul-by-requires-5 c κs = search rules
 
-mul-by-requires-6 : tie.Need-mul-by-requires-6
+mul-by-requires-6 : tie.Need-mul_by-w6-requires
 mul-by-requires-6 c κs = search rules
 
-mul-by-requires-7 : tie.Need-mul-by-requires-7
+mul-by-requires-7 : tie.Need-mul_by-w7-requires
 mul-by-requires-7 c κs = search rules
 
-add-multiples-requires : tie.Need-add-multiples-requires
+add-multiples-requires : tie.Need-add_multiples-requires
 unfolding twice plus
 add-multiples-requires c κs =
-    let s = c.before.before.before.before.before.before.before.before.before.before in
+    let s = c in
     let w = s.ranges.w0.fits in (
       s.requires.1.1,
       (
-        doubles 1 2 _ _ _ refl (omega arith) w (sym (product_one _)) c.before.before.before.before.before.before.before.mul-by.ensures.0,
+        doubles 1 2 _ _ _ refl (omega arith) w (sym (product_one _)) c.mul_by-w1.ensures.0,
         (
-          doubles 2 4 _ _ _ refl (omega arith) w c.before.before.before.before.before.before.before.mul-by.ensures.0
-              c.before.before.before.before.before.before.mul-by2.ensures.0,
+          doubles 2 4 _ _ _ refl (omega arith) w c.mul_by-w1.ensures.0
+              c.mul_by-w2.ensures.0,
           (
-            doubles 4 8 _ _ _ refl (omega arith) w c.before.before.before.before.before.before.mul-by2.ensures.0 c.before.before.before.before.before.mul-by3.ensures.0,
+            doubles 4 8 _ _ _ refl (omega arith) w c.mul_by-w2.ensures.0 c.mul_by-w3.ensures.0,
             (
-              doubles 8 16 _ _ _ refl (omega arith) w c.before.before.before.before.before.mul-by3.ensures.0 c.before.before.before.before.mul-by4.ensures.0,
+              doubles 8 16 _ _ _ refl (omega arith) w c.mul_by-w3.ensures.0 c.mul_by-w4.ensures.0,
               (
-                doubles 16 32 _ _ _ refl (omega arith) w c.before.before.before.before.mul-by4.ensures.0 c.before.before.before.mul-by5.ensures.0,
+                doubles 16 32 _ _ _ refl (omega arith) w c.mul_by-w4.ensures.0 c.mul_by-w5.ensures.0,
                 (
-                  doubles 32 64 _ _ _ refl (omega arith) w c.before.before.before.mul-by5.ensures.0 c.before.before.mul-by6.ensures.0,
-                  doubles 64 128 _ _ _ refl (omega arith) w c.before.before.mul-by6.ensures.0 c.before.mul-by7.ensures.0,
+                  doubles 32 64 _ _ _ refl (omega arith) w c.mul_by-w5.ensures.0 c.mul_by-w6.ensures.0,
+                  doubles 64 128 _ _ _ refl (omega arith) w c.mul_by-w6.ensures.0 c.mul_by-w7.ensures.0,
                 ),
               ),
             ),
@@ -56,14 +56,14 @@ add-multiples-requires c κs =
       ),
     )
 
-same_length : tie.Need-same-length
+same_length : tie.Need-shape_of-to
 same_length c = search rules
 
 returns : tie.Need-returns
 returns c = search rules
 
-pub add-scaled-spec : {M : Type 1} → statement M
-add-scaled-spec =
+pub add_scaled_spec : {M : Type 1} → statement M
+add_scaled_spec =
     tie.close
     (tie.spec
     mul-by-requires

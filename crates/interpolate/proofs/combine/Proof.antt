@@ -11,85 +11,85 @@ use Rattle.byte_lists.specs.Lists.{tabulate}
 use Rattle.interpolate.proofs.combine.Statement.{statement}
 use Rattle.interpolate.proofs.combine.Tie as tie
 
-abbrev invariant-loop : tie.invariant-loop
+abbrev invariant-loop : tie.invariant-loop-j
 invariant-loop powers logs points shares blocks x out₀ size weights j₀ at₀ out j at =
     (out ≡ tabulate size (partial points size blocks x j)) × (at ≡ j * size) × (j ≤ length points)
 
-abbrev decreases-loop : tie.decreases-loop
+abbrev decreases-loop : tie.decreases-loop-j
 decreases-loop powers logs points shares blocks x out₀ size weights j₀ at₀ out j at = length points - j
 
-slice-aggregate-weights-at : tie.Need-slice-aggregate-weights-at invariant-loop decreases-loop
+slice-aggregate-weights-at : tie.Need-slice_bounds-weights_at-end invariant-loop decreases-loop
 slice-aggregate-weights-at c = refl
 
-weights-at-requires : tie.Need-weights-at-requires invariant-loop decreases-loop
-weights-at-requires c κs = let s = c.before.before.before.before.before in (s.requires.0, (s.requires.1.0, s.requires.0.set.few))
+weights-at-requires : tie.Need-weights_at-requires invariant-loop decreases-loop
+weights-at-requires c κs = let s = c in (s.requires.0, (s.requires.1.0, s.requires.0.set.few))
 
 clear-requires : tie.Need-clear-requires invariant-loop decreases-loop
 clear-requires c κs = search rules
 
-loop-holds : tie.Need-loop-init invariant-loop decreases-loop
-loop-holds c = (c.before.before.clear.ensures ∙ sym (zeros_are _) ∙ row_none _ _ _ _, sym (zero-mul _), omega arith)
+loop-holds : tie.Need-loop-j-init invariant-loop decreases-loop
+loop-holds c = (c.clear.ensures ∙ sym (zeros_are _) ∙ row_none _ _ _ _, sym (zero-mul _), omega arith)
 
-array-read-w : tie.Need-array-read-w invariant-loop decreases-loop
-array-read-w c = let s = c.before.before.before.before.before.before.before.before.before.before.before.before.before in omega (arith, c.loop-test.true, s.requires.0.set.few)
+array-read-w : tie.Need-bounds-weights-j invariant-loop decreases-loop
+array-read-w c = let s = c in omega (arith, c.loop-j-test.true, s.requires.0.set.few)
 
 -- the next block is within the blocks
-within : (c : tie.In-loop invariant-loop decreases-loop)
-    → c.before.loop.at + length c.before.before.before.before.before.before.before.before.before.before.before.before.before.args.out.now
-    ≤ length c.before.before.before.before.before.before.before.before.before.before.before.before.before.args.blocks.now
+within : (c : tie.In-loop-j invariant-loop decreases-loop)
+    → c.loop-j.at + length c.args.out.now
+    ≤ length c.args.blocks.now
 within c =
-    let s = c.before.before.before.before.before.before.before.before.before.before.before.before.before in
-    let h = mul-le-mul_right (length s.args.out.now) c.loop-test.true in
-    omega (arith, h, suc-mul c.before.loop.j (length s.args.out.now), c.before.loop.invariant.1, s.requires.1.1)
+    let s = c in
+    let h = mul-le-mul_right (length s.args.out.now) c.loop-j-test.true in
+    omega (arith, h, suc-mul c.loop-j.j (length s.args.out.now), c.loop-j.invariant.1, s.requires.1.1)
 
-add-end : tie.Need-overflow-add-end invariant-loop decreases-loop
+add-end : tie.Need-overflow_add-end invariant-loop decreases-loop
 add-end c = omega (arith, within c)
 
-sub-add-scaled : tie.Need-overflow-sub-add-scaled invariant-loop decreases-loop
+sub-add-scaled : tie.Need-slice_bounds-add_scaled-count invariant-loop decreases-loop
 sub-add-scaled c = omega arith
 
-part-add-scaled-start : tie.Need-slice-bounds-add-scaled-start invariant-loop decreases-loop
+part-add-scaled-start : tie.Need-slice_bounds-add_scaled-start invariant-loop decreases-loop
 part-add-scaled-start c = omega arith
 
-part-add-scaled-end : tie.Need-slice-bounds-add-scaled-end invariant-loop decreases-loop
+part-add-scaled-end : tie.Need-slice_bounds-add_scaled-end invariant-loop decreases-loop
 part-add-scaled-end c = omega (arith, within c)
 
-add-scaled-requires : tie.Need-add-scaled-requires invariant-loop decreases-loop
+add-scaled-requires : tie.Need-add_scaled-requires invariant-loop decreases-loop
 add-scaled-requires c κs =
-    let s = c.before.before.before.before.before.before.before.before.before.before.before.before.before.before.before in
+    let s = c in
     let e = within c.before.before in
-    let l = c.before.before.before.loop in
+    let l = c.loop-j in
     (s.requires.0.powers-right, (s.requires.0.logs-right, part_length (length s.args.out.now) s.args.blocks.now l.at e ∙ sym (ap length l.invariant.0 ∙ length_tabulate _ _)))
 
-add-j : tie.Need-overflow-add-j invariant-loop decreases-loop
+add-j : tie.Need-overflow_add-j invariant-loop decreases-loop
 add-j c = omega arith
 
-loop-less : tie.Need-loop-smaller invariant-loop decreases-loop
+loop-less : tie.Need-loop-j-smaller invariant-loop decreases-loop
 loop-less c = omega arith
 
-loop-again : tie.Need-loop-preserved invariant-loop decreases-loop
+loop-again : tie.Need-loop-j-preserved invariant-loop decreases-loop
 loop-again c =
-    let s = c.before.before.before.before.before.before.before.before.before.before.before.before.before.before.before.before.before.before in
-    let l = c.before.before.before.before.before.before.loop in
-    let h = c.before.before.before.before.before.loop-test.true in
-    let w = c.before.before.before.before.before.before.before.before.before.before.before.before.weights-at.ensures.entry l.j h in
+    let s = c in
+    let l = c.loop-j in
+    let h = c.loop-j-test.true in
+    let w = c.weights_at.ensures.entry l.j h in
     let size = length s.args.out.now in (
       row_step s.args.points.now size s.args.blocks.now l.out _ s.args.x l.j l.at _
-          (λ k. (c.before.before.before.before.before.before.before.before.before.before.before.before.before.before.before.shared-slice-known3.given k).fits)
+          (λ k. (c.shared_slice_known-3-1.given k).fits)
           l.invariant.1 l.invariant.0
-          (sym w) c.before.before.add-scaled.ensures,
+          (sym w) c.add_scaled.ensures,
       omega (arith, l.invariant.1),
       omega arith,
     )
 
-same_length : tie.Need-same-length invariant-loop decreases-loop
-same_length c = ap length c.before.loop.invariant.0 ∙ length_tabulate _ _
+same_length : tie.Need-shape_of-out invariant-loop decreases-loop
+same_length c = ap length c.loop-j.invariant.0 ∙ length_tabulate _ _
 
 returns : tie.Need-returns invariant-loop decreases-loop
-returns c = row_all _ _ _ _ _ _ c.loop-test.false c.before.loop.invariant.2 c.before.loop.invariant.0
+returns c = row_all _ _ _ _ _ _ c.loop-j-test.false c.loop-j.invariant.2 c.loop-j.invariant.0
 
-pub combine-spec : {M : Type 1} → statement M
-combine-spec =
+pub combine_spec : {M : Type 1} → statement M
+combine_spec =
     tie.close
     (tie.spec
     invariant-loop

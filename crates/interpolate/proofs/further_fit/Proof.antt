@@ -8,42 +8,42 @@ use Rattle.interpolate.proofs.Laws.WeightLaws.{differences_none, points_ready}
 use Rattle.interpolate.proofs.further_fit.Statement.{statement}
 use Rattle.interpolate.proofs.further_fit.Tie as tie
 
-returns : tie.Need-returns
-returns c = nothing_further _ _ _ _ _ c.if1.true
+returns : tie.Need-returns-then-further-eq0
+returns c = nothing_further _ _ _ _ _ c.if-further-eq0.true
 
-powers-requires : tie.Need-powers-requires
+powers-requires : tie.Need-powers-powers-requires
 powers-requires c κs = search rules
 
-logs-requires : tie.Need-logs-requires
+logs-requires : tie.Need-logs-logs-requires
 logs-requires c κs = search rules
 
-slice-aggregate-shares-of : tie.Need-slice-aggregate-shares-of
+slice-aggregate-shares-of : tie.Need-slice_bounds-shares_of-end
 slice-aggregate-shares-of c = refl
 
-shares-of-requires : tie.Need-shares-of-requires
+shares-of-requires : tie.Need-shares_of-requires
 shares-of-requires c κs =
-    let few = c.before.before.before.before.before.before.before.before.before.before.requires.0.few in
-    (c.before.before.before.before.powers.ensures, (c.before.before.before.logs.ensures, (few, differences_none _ few)))
+    let few = c.requires.0.few in
+    (c.powers-powers.ensures, (c.logs-logs.ensures, (few, differences_none _ few)))
 
-slice-aggregate-all-fit : tie.Need-slice-aggregate-all-fit
+slice-aggregate-all-fit : tie.Need-slice_bounds-all_fit-end
 slice-aggregate-all-fit c = search rules
 
-array-borrow-prefix-made : tie.Need-array-borrow-prefix-made
+array-borrow-prefix-made : tie.Need-slice_bounds-made-end
 array-borrow-prefix-made c = search rules
 
-slice-aggregate-all-fit-2 : tie.Need-slice-aggregate-all-fit-2
+slice-aggregate-all-fit-2 : tie.Need-slice_bounds-all_fit-end-2
 slice-aggregate-all-fit-2 c =
-    let s = c.before.before.before.before.before.before.before.before.before.before.before.before.before.before.before.before in
+    let s = c in
     sym (length-take-le _ _ s.requires.1.1.0.1)
 
 -- d is where the shares are made, and s the start
-all-fit-requires : tie.Need-all-fit-requires
+all-fit-requires : tie.Need-all_fit-requires
 all-fit-requires c κs =
     let d = c.before.before.before.before.before in
     let s = d.before.before.before.before.before.before.before.before.before.before.before in
     let long = sym (length-take-le _ _ s.requires.1.1.0.1) in (
-      points_ready _ _ _ _ d.before.before.before.before.before.powers.ensures d.before.before.before.before.logs.ensures s.requires.0
-          d.shares_of.auto.1.1.1.0 d.shares_of.ensures,
+      points_ready _ _ _ _ d.powers-powers.ensures d.logs-logs.ensures s.requires.0
+          d.shares_of.auto.shares d.shares_of.ensures,
       (
         s.requires.1.0,
         (
@@ -53,13 +53,13 @@ all-fit-requires c κs =
       ),
     )
 
-returns-2 : tie.Need-returns-2
+returns-2 : tie.Need-returns
 returns-2 c =
-    let s = c.before.before.before.before.before.before.before.before.before.before.before.before.before.before.before.before.before.before in
-    fit_told _ _ _ _ _ _ _ _ (length-take-le _ _ s.requires.1.1.0.1) c.before.all_fit.ensures refl
+    let s = c in
+    fit_told _ _ _ _ _ _ _ _ (length-take-le _ _ s.requires.1.1.0.1) c.all_fit.ensures refl
 
-pub further-fit-spec : {M : Type 1} → statement M
-further-fit-spec =
+pub further_fit_spec : {M : Type 1} → statement M
+further_fit_spec =
     tie.close
     (tie.spec
     returns

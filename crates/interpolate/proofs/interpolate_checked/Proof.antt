@@ -3,25 +3,25 @@ use mathlib.Core.Path.{refl, sym, ◌∙◌}
 use Rattle.interpolate.proofs.interpolate_checked.Statement.{statement}
 use Rattle.interpolate.proofs.interpolate_checked.Tie as tie
 
-further-fit-requires : tie.Need-further-fit-requires
+further-fit-requires : tie.Need-further_fit-requires
 further-fit-requires c κs = search rules
 
 interpolate-requires : tie.Need-interpolate-requires
 interpolate-requires c κs = search rules
 
-same_length : tie.Need-same-length
+same_length : tie.Need-shape_of-out-then-further_fit
 same_length c = search rules
 
-returns : tie.Need-returns
+returns : tie.Need-returns-then-further_fit
 returns c =
-    let b = c.before.before.before.before in
-    (sym b.if1.true ∙ b.before.further-fit.ensures, c.before.before.interpolate.ensures)
+    let b = c in
+    (sym b.if-further_fit.true ∙ b.further_fit.ensures, c.interpolate.ensures)
 
-returns-2 : tie.Need-returns-2
-returns-2 c = (sym c.if1.false ∙ c.before.further-fit.ensures, refl)
+returns-2 : tie.Need-returns
+returns-2 c = (sym c.if-further_fit.false ∙ c.further_fit.ensures, refl)
 
-pub interpolate-checked-spec : {M : Type 1} → statement M
-interpolate-checked-spec =
+pub interpolate_checked_spec : {M : Type 1} → statement M
+interpolate_checked_spec =
     tie.close
     (tie.spec
     further-fit-requires

@@ -7,63 +7,63 @@ use borrow.Author.Rules.{rules}
 use Rattle.interpolate.proofs.row.Statement.{statement}
 use Rattle.interpolate.proofs.row.Tie as tie
 
-position-requires : tie.Need-position-requires
+position-requires : tie.Need-position-k-requires
 position-requires c κs = search rules
 
 -- the point's own block is within the blocks
-within : (c : tie.Then1)
-    → c.before.position.result * length c.before.before.before.before.before.before.args.out.now
-    + length c.before.before.before.before.before.before.args.out.now
-    ≤ length c.before.before.before.before.before.before.args.blocks.now
+within : (c : tie.Then-k-points)
+    → c.position-k.result * length c.args.out.now
+    + length c.args.out.now
+    ≤ length c.args.blocks.now
 within c =
-    let s = c.before.before.before.before.before.before in
+    let s = c in
     let size = length s.args.out.now in
-    let h = mul-le-mul_right size c.if1.true in
-    omega (arith, h, suc-mul c.before.position.result size, s.requires.1)
+    let h = mul-le-mul_right size c.if-k-points.true in
+    omega (arith, h, suc-mul c.position-k.result size, s.requires.1)
 
-mul_at : tie.Need-overflow-mul-at
+mul_at : tie.Need-overflow_mul-at
 mul_at c = omega (arith, within c)
 
-add-end : tie.Need-overflow-add-end
+add-end : tie.Need-overflow_add-end
 add-end c = omega (arith, within c)
 
-sub-copy : tie.Need-overflow-sub-copy
+sub-copy : tie.Need-slice_bounds-copy-count
 sub-copy c = search rules
 
-part-copy-start : tie.Need-slice-bounds-copy-start
+part-copy-start : tie.Need-slice_bounds-copy-start
 part-copy-start c = search rules
 
-part-copy-end : tie.Need-slice-bounds-copy-end
+part-copy-end : tie.Need-slice_bounds-copy-end
 part-copy-end c = omega (arith, within c)
 
 copy-requires : tie.Need-copy-requires
 copy-requires c κs = search rules
 
-same_length : tie.Need-same-length
+same_length : tie.Need-shape_of-out-then-k-points
 same_length c = search rules
 
-returns : tie.Need-returns
+returns : tie.Need-returns-then-k-points
 returns c =
-    let s = c.before.before.before.before.before.before.before.before.before.before.before in
-    let f = c.before.before.before.before.before in
-    row_found s.args.points.now (length s.args.out.now) s.args.blocks.now _ s.args.x f.before.position.result
-    (λ k. (c.before.before.before.before.before.before.before.before.before.before.shared-slice-known.given k).fits)
-    (λ k. (c.before.before.before.before.before.before.before.before.shared-slice-known3.given k).fits) s.requires.0.set
-    f.before.position.ensures f.if1.true s.requires.1 c.before.before.copy.ensures
+    let s = c in
+    let f = c in
+    row_found s.args.points.now (length s.args.out.now) s.args.blocks.now _ s.args.x f.position-k.result
+    (λ k. (c.shared_slice_known-1.given k).fits)
+    (λ k. (c.shared_slice_known-3-1.given k).fits) s.requires.0.set
+    f.position-k.ensures f.if-k-points.true s.requires.1 c.copy.ensures
 
 combine-requires : tie.Need-combine-requires
 combine-requires c κs =
-    let s = c.before.before.before.before.before.before.before in
-    (s.requires.0, (row_not_found _ _ _ c.before.before.position.ensures c.before.if1.false, s.requires.1))
+    let s = c in
+    (s.requires.0, (row_not_found _ _ _ c.position-k.ensures c.if-k-points.false, s.requires.1))
 
-same-length-2 : tie.Need-same-length-2
+same-length-2 : tie.Need-shape_of-out
 same-length-2 c = search rules
 
-returns-2 : tie.Need-returns-2
+returns-2 : tie.Need-returns
 returns-2 c = search rules
 
-pub row-spec : {M : Type 1} → statement M
-row-spec =
+pub row_spec : {M : Type 1} → statement M
+row_spec =
     tie.close
     (tie.spec
     position-requires

@@ -6,45 +6,45 @@ use Rattle.interpolate.specs.Workers.{weight}
 use Rattle.interpolate.proofs.weights_at.Statement.{statement}
 use Rattle.interpolate.proofs.weights_at.Tie as tie
 
-abbrev invariant-loop : tie.invariant-loop
+abbrev invariant-loop : tie.invariant-loop-j
 invariant-loop powers logs points shares x weights₀ top j₀ weights j = Filled (λ (i : ℕ). weight points i x) weights₀ weights j × (j ≤ length points)
 
-abbrev decreases-loop : tie.decreases-loop
+abbrev decreases-loop : tie.decreases-loop-j
 decreases-loop powers logs points shares x weights₀ top j₀ weights j = length points - j
 
-numerator-of-requires : tie.Need-numerator-of-requires invariant-loop decreases-loop
-numerator-of-requires c κs = let r = c.before.before.before.requires.0 in (r.powers-right, r.logs-right)
+numerator-of-requires : tie.Need-numerator_of-top-requires invariant-loop decreases-loop
+numerator-of-requires c κs = let r = c.requires.0 in (r.powers-right, r.logs-right)
 
-loop-holds : tie.Need-loop-init invariant-loop decreases-loop
+loop-holds : tie.Need-loop-j-init invariant-loop decreases-loop
 loop-holds c = (filled_none _ _, omega arith)
 
-weight-of-requires : tie.Need-weight-of-requires invariant-loop decreases-loop
+weight-of-requires : tie.Need-weight_of-requires invariant-loop decreases-loop
 weight-of-requires c κs =
-    let s = c.before.before.before.before.before.before in
-    (s.requires.0, (s.requires.1.0, (c.before.before.numerator-of.ensures, c.loop-test.true)))
+    let s = c in
+    (s.requires.0, (s.requires.1.0, (c.numerator_of-top.ensures, c.loop-j-test.true)))
 
-slice-write-weights : tie.Need-slice-write-weights invariant-loop decreases-loop
+slice-write-weights : tie.Need-bounds-weights-j invariant-loop decreases-loop
 slice-write-weights c = omega arith
 
-add-j : tie.Need-overflow-add-j invariant-loop decreases-loop
+add-j : tie.Need-overflow_add-j invariant-loop decreases-loop
 add-j c = omega arith
 
-loop-less : tie.Need-loop-smaller invariant-loop decreases-loop
+loop-less : tie.Need-loop-j-smaller invariant-loop decreases-loop
 loop-less c = omega arith
 
-loop-again : tie.Need-loop-preserved invariant-loop decreases-loop
+loop-again : tie.Need-loop-j-preserved invariant-loop decreases-loop
 loop-again c =
-    let l = c.before.before.loop in
-    (filled_more _ _ _ _ _ l.invariant.0 (omega arith) c.weight-of.ensures, omega arith)
+    let l = c.loop-j in
+    (filled_more _ _ _ _ _ l.invariant.0 (omega arith) c.weight_of.ensures, omega arith)
 
-same_length : tie.Need-same-length invariant-loop decreases-loop
-same_length c = c.before.loop.invariant.0.size
+same_length : tie.Need-shape_of-weights invariant-loop decreases-loop
+same_length c = c.loop-j.invariant.0.size
 
 returns : tie.Need-returns invariant-loop decreases-loop
-returns c = record { entry = λ i h. c.before.loop.invariant.0.done i (omega arith) }
+returns c = record { entry = λ i h. c.loop-j.invariant.0.done i (omega arith) }
 
-pub weights-at-spec : {M : Type 1} → statement M
-weights-at-spec =
+pub weights_at_spec : {M : Type 1} → statement M
+weights_at_spec =
     tie.close
     (tie.spec
     invariant-loop
