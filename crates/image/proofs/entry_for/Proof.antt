@@ -5,15 +5,15 @@ use borrow.Author.Rules.{rules}
 use Rattle.image.proofs.entry_for.Statement.{statement}
 use Rattle.image.proofs.entry_for.Tie as tie
 
-holding-for-requires : tie.Need-holding-for-requires
+holding-for-requires : tie.Need-holding_for-holding-requires
 holding-for-requires c κs = search rules
 
-returns : tie.Need-returns
-returns c = entry_made _ _ _ _ _ c.before.if1.true c.holding-for.ensures
+returns : tie.Need-returns-then-i-count
+returns c = entry_made _ _ _ _ _ c.if-i-count.true c.holding_for-holding.ensures
 
-returns-2 : tie.Need-returns-2
+returns-2 : tie.Need-returns
 unfolding entry_for blank
 returns-2 c = search (rules, le-ltb)
 
-pub entry-for-spec : {M : Type 1} → statement M
-entry-for-spec = tie.close (tie.spec holding-for-requires returns returns-2)
+pub entry_for_spec : {M : Type 1} → statement M
+entry_for_spec = tie.close (tie.spec holding-for-requires returns returns-2)

@@ -13,100 +13,100 @@ use Rattle.image.proofs.read_blocks.Statement.{statement}
 use Rattle.image.proofs.read_blocks.Tie as tie
 use Rattle.image_block.specs.Block.{block_bytes}
 
-abbrev invariant-loop : tie.invariant-loop
+abbrev invariant-loop : tie.invariant-loop-i
 invariant-loop image count size capacity log₀ fits₀ last₀ i₀ at₀ log fits last i at = Scanning size capacity image count fits last i at log
 
-abbrev decreases-loop : tie.decreases-loop
+abbrev decreases-loop : tie.decreases-loop-i
 decreases-loop image count size capacity log₀ fits₀ last₀ i₀ at₀ log fits last i at = capacity - i
 
-entry-for-requires : tie.Need-entry-for-requires invariant-loop decreases-loop
+entry-for-requires : tie.Need-entry_for-nothing-requires invariant-loop decreases-loop
 entry-for-requires c κs = search rules
 
-loop-holds : tie.Need-loop-init invariant-loop decreases-loop
-loop-holds c = scanning_none _ _ _ _ _ _ c.entry-for.ensures refl
+loop-holds : tie.Need-loop-i-init invariant-loop decreases-loop
+loop-holds c = scanning_none _ _ _ _ _ _ c.entry_for-nothing.ensures refl
 
-add-e : tie.Need-overflow-add-e invariant-loop decreases-loop
+add-e : tie.Need-overflow_add-e invariant-loop decreases-loop
 unfolding image_size
 add-e c = omega arith
 
-sub-t : tie.Need-overflow-sub-t invariant-loop decreases-loop
+sub-t : tie.Need-slice_bounds-t-count invariant-loop decreases-loop
 unfolding image_size
 sub-t c = omega arith
 
-part-t-start : tie.Need-slice-bounds-t-start invariant-loop decreases-loop
+part-t-start : tie.Need-slice_bounds-t-start invariant-loop decreases-loop
 unfolding image_size
 part-t-start c = omega arith
 
-part-t-end : tie.Need-slice-bounds-t-end invariant-loop decreases-loop
+part-t-end : tie.Need-slice_bounds-t-end invariant-loop decreases-loop
 unfolding image_size
 part-t-end c = omega arith
 
-long : (c : tie.After-t invariant-loop decreases-loop)
-    → length (take (c.before.before.loop.at + block_bytes - c.before.before.loop.at)
-    (drop c.before.before.loop.at c.before.before.before.before.before.args.image.now)) ≡ block_bytes
+long : (c : tie.After-t-1 invariant-loop decreases-loop)
+    → length (take (c.loop-i.at + block_bytes - c.loop-i.at)
+    (drop c.loop-i.at c.args.image.now)) ≡ block_bytes
 unfolding image_size
 long c =
-    let start = c.before.before.before.before.before in
-    part_length _ _ (c.before.before.loop.i + 1) (start.args.s.capacity + 1) start.requires.1 c.before.before.loop.invariant.place (omega arith)
+    let start = c in
+    part_length _ _ (c.loop-i.i + 1) (start.args.s.capacity + 1) start.requires.1 c.loop-i.invariant.place (omega arith)
 
-is-part : (c : tie.After-t invariant-loop decreases-loop)
-    → take (c.before.before.loop.at + block_bytes - c.before.before.loop.at)
-    (drop c.before.before.loop.at c.before.before.before.before.before.args.image.now)
-    ≡ image_block_at c.before.before.before.before.before.args.image.now (c.before.before.loop.i + 1)
-is-part c = part_is _ _ _ c.before.before.loop.invariant.place
+is-part : (c : tie.After-t-1 invariant-loop decreases-loop)
+    → take (c.loop-i.at + block_bytes - c.loop-i.at)
+    (drop c.loop-i.at c.args.image.now)
+    ≡ image_block_at c.args.image.now (c.loop-i.i + 1)
+is-part c = part_is _ _ _ c.loop-i.invariant.place
 
-check-holds-requires : tie.Need-check-holds-requires invariant-loop decreases-loop
+check-holds-requires : tie.Need-check_holds-requires invariant-loop decreases-loop
 check-holds-requires c κs = long c
 
-returns : tie.Need-returns invariant-loop decreases-loop
+returns : tie.Need-returns-else-check_holds invariant-loop decreases-loop
 returns c =
     let t = c.before.before in
-    let start = t.before.before.before.before.before in
-    scan_unchecked _ _ _ _ _ _ _ _ _ start.requires.0.capacity-high t.before.loop-test.true t.before.before.loop.invariant _ _ _ _ (is-part t) c.before.check-holds.ensures c.if1.false
+    let start = t in
+    scan_unchecked _ _ _ _ _ _ _ _ _ start.requires.0.capacity-high t.loop-i-test.true t.loop-i.invariant _ _ _ _ (is-part t) c.check_holds.ensures c.if-check_holds.false
 
-read8-requires : tie.Need-read8-requires invariant-loop decreases-loop
+read8-requires : tie.Need-read8-time-requires invariant-loop decreases-loop
 read8-requires c κs = omega (arith, long c.before.before)
 
-slot-fits-requires : tie.Need-slot-fits-requires invariant-loop decreases-loop
-slot-fits-requires c κs = (omega (arith, c.before.before.before.before.before.before.before.before.requires.0.code.size-high), long c.before.before.before)
+slot-fits-requires : tie.Need-slot_fits-fit-requires invariant-loop decreases-loop
+slot-fits-requires c κs = (omega (arith, c.requires.0.code.size-high), long c.before.before.before)
 
-both-requires : tie.Need-both-requires invariant-loop decreases-loop
+both-requires : tie.Need-both-fits-requires invariant-loop decreases-loop
 both-requires c κs = search rules
 
-is-mark-requires : tie.Need-is-mark-requires invariant-loop decreases-loop
+is-mark-requires : tie.Need-is_mark-mark-requires invariant-loop decreases-loop
 is-mark-requires c κs = long c.before.before.before.before.before
 
-entry-for-requires-2 : tie.Need-entry-for-requires-2 invariant-loop decreases-loop
+entry-for-requires-2 : tie.Need-entry_for-entry-requires invariant-loop decreases-loop
 entry-for-requires-2 c κs = search rules
 
-mul-log : tie.Need-overflow-mul-log invariant-loop decreases-loop
+mul-log : tie.Need-offset_bounds-log-i invariant-loop decreases-loop
 mul-log c = search rules
 
-array-set-from-log : tie.Need-array-set-from-log invariant-loop decreases-loop
+array-set-from-log : tie.Need-bounds-log-i invariant-loop decreases-loop
 array-set-from-log c = search rules
 
-add-i : tie.Need-overflow-add-i invariant-loop decreases-loop
+add-i : tie.Need-overflow_add-i invariant-loop decreases-loop
 add-i c = omega arith
 
-loop-less : tie.Need-loop-smaller invariant-loop decreases-loop
+loop-less : tie.Need-loop-i-smaller invariant-loop decreases-loop
 loop-less c = omega arith
 
-loop-again : tie.Need-loop-preserved invariant-loop decreases-loop
+loop-again : tie.Need-loop-i-preserved invariant-loop decreases-loop
 unfolding time_in
 loop-again c =
     let marked = c.before in
     let joined = marked.before in
     let t = joined.before.before.before.before.before in
-    let start = t.before.before.before.before.before in
-    scanning_more _ _ _ _ _ _ _ _ _ start.requires.0.capacity-high t.before.loop-test.true t.before.before.loop.invariant _ _ _ _ _ _ _ (is-part t)
-    joined.before.before.before.before.check-holds.ensures joined.before.before.before.if1.true joined.before.before.read8.ensures
-    joined.before.slot-fits.ensures joined.both.ensures marked.is-mark.ensures c.entry-for2.ensures
+    let start = t in
+    scanning_more _ _ _ _ _ _ _ _ _ start.requires.0.capacity-high t.loop-i-test.true t.loop-i.invariant _ _ _ _ _ _ _ (is-part t)
+    joined.check_holds.ensures joined.if-check_holds.true joined.read8-time.ensures
+    joined.slot_fits-fit.ensures joined.both-fits.ensures marked.is_mark-mark.ensures c.entry_for-entry.ensures
 
-returns-2 : tie.Need-returns-2 invariant-loop decreases-loop
-returns-2 c = scanned_all _ _ _ _ _ _ _ _ _ c.loop-test.false c.before.loop.invariant
+returns-2 : tie.Need-returns invariant-loop decreases-loop
+returns-2 c = scanned_all _ _ _ _ _ _ _ _ _ c.loop-i-test.false c.loop-i.invariant
 
-pub read-blocks-spec : {M : Type 1} → statement M
-read-blocks-spec =
+pub read_blocks_spec : {M : Type 1} → statement M
+read_blocks_spec =
     tie.close
     (tie.spec
     invariant-loop

@@ -4,13 +4,13 @@ use Rattle.image.specs.Workers.{rises}
 use Rattle.image.proofs.rising.Statement.{statement}
 use Rattle.image.proofs.rising.Tie as tie
 
-returns : tie.Need-returns
+returns : tie.Need-returns-then-i-eq0
 unfolding rises
 returns c = search (rules, eq-eqb, ne_eqb)
 
-returns-2 : tie.Need-returns-2
+returns-2 : tie.Need-returns
 unfolding rises
 returns-2 c = search (rules, eq-eqb, ne_eqb)
 
-pub rising-spec : {M : Type 1} → statement M
-rising-spec = tie.close (tie.spec returns returns-2)
+pub rising_spec : {M : Type 1} → statement M
+rising_spec = tie.close (tie.spec returns returns-2)
